@@ -1,4 +1,4 @@
-//! Why an emission call is refused.
+//! Why calls are refused.
 ghost use Rattle.std.specs.Prelude.{◌≡◌};
 ghost use Rattle.s390x_base.specs.Errors.{number_of_error};
 
@@ -39,3 +39,7 @@ impl EmitError {
         self as u8
     }
 }
+
+/// The error of a call that refuses for want of memory alone.
+#[derive(Clone, Copy, PartialEq, Eq, Debug)]
+pub struct NoMemory;

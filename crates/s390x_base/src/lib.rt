@@ -10,7 +10,7 @@ pub mod sets;
 pub mod trap;
 
 pub use cond::{Cond, FloatCC, IntCC};
-pub use error::EmitError;
+pub use error::{EmitError, NoMemory};
 pub use imms::{SImm20, UImm12, UImm16Shifted, UImm32Shifted};
 pub use ir::{
     Addend, CodeOffset, ConstantData, ExternalName, MachLabel, MachMemFlags, Reloc, VCodeConstant,

@@ -1,0 +1,3 @@
+pub mod Emission
+pub mod Memory
+pub mod State

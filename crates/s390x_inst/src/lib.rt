@@ -1,0 +1,23 @@
+//! Typed instructions of the s390x back end, their operators, operands and emission state.
+#![tactic(auto)]
+
+pub mod args;
+pub mod calls;
+pub mod function;
+pub mod inst;
+pub mod ops;
+pub mod state;
+pub mod vec_ops;
+
+pub use args::MemArg;
+pub use calls::{
+    ArgPair, CallArgPair, CallConv, CallInfo, CallInstDest, CallRetPair, RetLocation, RetPair,
+    ReturnCallInfo, SymbolReloc, TryCallHandler, TryCallInfo,
+};
+pub use function::{AllocatedFunction, Block};
+pub use inst::Inst;
+pub use ops::{ALUOp, CmpOp, RxSBGOp, ShiftOp, UnaryOp};
+pub use state::{
+    EmitInfo, EmitState, FrameLayout, IsaFlags, MachInstEmitState, REG_SAVE_AREA_SIZE,
+};
+pub use vec_ops::{VecBinaryOp, VecIntCmpOp, VecIntEltCmpOp, VecShiftOp, VecUnaryOp};
