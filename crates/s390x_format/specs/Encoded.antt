@@ -1,0 +1,20 @@
+-- A row of the table with values that it allows.
+use Rattle.std.specs.Prelude.{◌≡◌, ℕ, ◌<◌, true, List, length, get_or, slice_index}
+use Rattle.s390x_format.specs.declared.row.MachineRow.{MachineRow}
+use Rattle.s390x_format.specs.declared.kind.FormatKind.{FormatKind}
+use Rattle.s390x_format.specs.declared.decoder.Decoded.{Decoded}
+use Rattle.s390x_format.specs.Rows.{is_allowed}
+use Rattle.s390x_format.specs.Reading.{no_row}
+use Rattle.s390x_format.specs.View.{fields_of}
+
+-- the table has a row of the format with the opcode in the slots, which allows their values
+pub record IsEncoded (rows : List MachineRow) (kind : FormatKind) (slots : List ℕ) : Type 0 where
+  pub at : ℕ
+  pub in_table : at < length rows
+  pub format : (get_or rows at no_row).format ≡ kind
+  pub opcode : (get_or rows at no_row).opcode ≡ slice_index slots 0
+  pub allowed : is_allowed (get_or rows at no_row).allowed slots ≡ true
+
+-- the row and the fields
+abbrev pub decoded_of : FormatKind → List ℕ → Decoded
+decoded_of kind slots = record { row = record { format = kind; opcode = slice_index slots 0 }; fields = fields_of kind slots }
