@@ -73,7 +73,7 @@ abbrev pub tree_cause : (blocks n depth : ℕ) → Tree → Option EmitError
 tree_cause blocks n depth empty = None
 tree_cause blocks n depth (leaf i rest) = first (instruction_cause blocks depth i) (tree_cause blocks n depth rest)
 tree_cause blocks n depth (looped mask members rest) =
-    first (first (nesting_cause depth) (numbers_cause n 2)) (first (tree_cause blocks (n + 2) (depth + 1) members) (tree_cause blocks (n + 2 + draws members) depth rest))
+    first (first (first (nesting_cause depth) (numbers_cause n 2)) (tree_cause blocks (n + 2) (depth + 1) members)) (tree_cause blocks (n + 2 + draws members) depth rest)
 
 -- the first cause in the blocks
 abbrev pub blocks_cause : (blocks n : ℕ) → List Tree → Option EmitError

@@ -4,5 +4,6 @@ pub mod MachineInstruction
 pub mod Parts
 pub mod Ranges
 pub mod Rows
+pub mod Sizes
 pub mod Steps
 pub mod Tree
