@@ -2,4 +2,5 @@
 #![tactic(auto)]
 
 pub mod causes;
+pub mod check;
 

@@ -4,7 +4,7 @@ use Rattle.std.proofs.lemmas.List.{drop_all}
 use Rattle.s390x_steps.specs.Tree.{Tree, empty, leaf, looped, graft, row_tree, tree}
 use Rattle.s390x_steps.specs.Causes.{draws}
 use Rattle.s390x_steps.specs.Sizes.{tree_size}
-use Rattle.s390x_inst.specs.declared.inst.Inst.{Inst, Row_of-Inst, end_of-Inst, more_of-Inst, items-the_row-Inst, items_hidden-the_row-Inst-0}
+use Rattle.s390x_inst.specs.declared.inst.Inst.{Inst, Row_of-Inst, end_of-Inst, more_of-Inst, items-the_row-Inst, items_hidden-the_row-Inst-0, roll-out-Inst}
 use Rattle.s390x_inst.specs.declared.inst.Inst.TheVariants.{Loop'}
 use Rattle.s390x_inst.specs.declared.inst.Inst.TheBlock.{hidden-the_row-Inst-0}
 use Rattle.s390x_inst.specs.declared.inst.Inst.TheViews as V
@@ -35,3 +35,9 @@ graft_draws i rest = omega arith
 pub graft_size : (i : Inst) (rest : Tree) → tree_size (graft i rest) ≡ tree_size (graft i empty) + tree_size rest
 graft_size (Loop' mask body all) rest = omega arith
 graft_size i rest = omega arith
+
+-- an instruction that is no `Loop` is a leaf
+pub not_loop : (i : Inst) → ((m : ℕ) (v : Vec Inst Global) → i ≡ V.Loop m v → ⊥) → graft i empty ≡ leaf i empty
+unfolding V.roll-Inst denote.Hole.Carrier.roll V.out-Inst denote.Hole.Carrier.out
+not_loop (Loop' mask body all) h = absurd (h mask _ (sym (roll-out-Inst (Loop' mask body all))))
+not_loop i h = refl
