@@ -1,12 +1,13 @@
 -- What was encoded is fetched again: once, for every row of the table.
-use Rattle.std.proofs.Common.{◌≡◌, ℕ, zero, suc, ◌<◌, ◌≤◌, Bool, true, false, ◌==◌, if◌then◌else◌, List, [], ◌∷◌, ◌++◌, length, get_or, take, append-nil, subst, refl, sym, ap, ◌∙◌, arith}
+use Rattle.std.proofs.Common.{◌≡◌, ℕ, suc, ◌<◌, Bool, true, false, ◌==◌, if◌then◌else◌, List, [], ◌∷◌, ◌++◌, length, get_or, take, append-nil, subst, refl, sym, ap, ◌∙◌, arith}
 use Rattle.std.proofs.Math.Seq.{take-append_seam}
 use Rattle.s390x_format.specs.declared.row.MachineRow.{MachineRow}
 use Rattle.s390x_format.specs.declared.kind.FormatKind.{FormatKind}
 use Rattle.s390x_format.specs.declared.reading.Reading.{Reading}
 use Rattle.s390x_format.specs.Layout.{number, SlotsFit}
 use Rattle.s390x_format.specs.Formats.{layout_of, length_of}
-use Rattle.s390x_format.specs.Reading.{encode, IsReading}
+use Rattle.s390x_format.specs.Rows.{is_allowed}
+use Rattle.s390x_format.specs.Reading.{no_row, encode, IsReading}
 use Rattle.s390x_format.specs.Fetch.{IsFetch, machine_rows}
 use Rattle.s390x_format.specs.Encoded.{IsCode, IsEncoded, decoded_of}
 use Rattle.s390x_format.specs.Lookup.{row_for, IsListed}
