@@ -27,6 +27,20 @@ pub fn lower(n: u16) -> u8
     (n % 256) as u8
 }
 
+/// The high half.
+pub fn high_half(n: u32) -> u16
+    ensures { result ≡ n / 65536 }
+{
+    (n / 65536) as u16
+}
+
+/// The low half.
+pub fn low_half(n: u32) -> u16
+    ensures { result ≡ n % 65536 }
+{
+    (n % 65536) as u16
+}
+
 /// The code of two bytes.
 pub fn two(a: u8, b: u8) -> Code
     ensures { result ≡ a ∷ b ∷ [] }
