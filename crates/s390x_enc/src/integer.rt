@@ -19,6 +19,27 @@ use crate::bytes::{four, halves, high_half, low_half, lower, six, two, upper};
 use crate::operands::{first, general, second};
 use s390x_base::{Code, EmitError, Reg};
 
+/// E: `ab cd`.
+pub fn enc_e(opcode: u16) -> Result<Code, EmitError>
+    ensures { MatchResult result (λ code. IsCode FormatKind.E (slots opcode [] [] 0 0) code) (λ _. ⊥) }
+{
+    Ok(two(upper(opcode), lower(opcode)))
+}
+
+/// RI-A: `ab`, r1 c, i2.
+pub fn enc_ri_a(opcode: u16, r1: Reg, i2: u16) -> Result<Code, EmitError>
+    requires { opcode < 2 ^ 12 }
+    ensures { let ok = is_general r1 in MatchResult result (λ code. (ok ≡ true) × IsCode FormatKind.RiA (slots opcode (number_of r1 ∷ []) [] i2 0) code) (λ e. (e ≡ EmitError.BadRegister) × (ok ≡ false)) }
+{
+    let n1 = general(r1)?;
+    Ok(four(
+        (opcode / 16) as u8,
+        halves(n1, (opcode % 16) as u8),
+        upper(i2),
+        lower(i2),
+    ))
+}
+
 /// RI-B: `ab`, r1 c, h.
 pub fn enc_ri_b(opcode: u16, r1: Reg, ri2: i32) -> Result<Code, EmitError>
     requires opcode { opcode < 2 ^ 12 }
@@ -36,6 +57,98 @@ pub fn enc_ri_b(opcode: u16, r1: Reg, ri2: i32) -> Result<Code, EmitError>
         upper(bits),
         lower(bits),
     ))
+}
+
+/// RI-C: `ab`, m1 c, h.
+pub fn enc_ri_c(opcode: u16, m1: u8, ri2: i32) -> Result<Code, EmitError>
+    requires opcode { opcode < 2 ^ 12 }
+    requires m1 { m1 < 16 }
+    requires low { negsuc 65535 ≤ℤ ri2 }
+    requires high { ri2 ≤ℤ pos 65534 }
+    requires even { int_rem ri2 (pos 2) ≡ pos 0 }
+    ensures { MatchResult result (λ code. IsCode FormatKind.RiC (slots opcode [] (m1 ∷ []) (half_of w16 ri2) 0) code) (λ _. ⊥) }
+{
+    let half = (ri2 / 2) as i16;
+    let bits = half.cast_unsigned();
+    Ok(four(
+        (opcode / 16) as u8,
+        halves(m1, (opcode % 16) as u8),
+        upper(bits),
+        lower(bits),
+    ))
+}
+
+/// RIE-A: `ab`, r1 0, i2, m3 0, `cd`.
+pub fn enc_rie_a(opcode: u16, r1: Reg, i2: u16, m3: u8) -> Result<Code, EmitError>
+    requires { m3 < 16 }
+    ensures { let ok = is_general r1 in MatchResult result (λ code. (ok ≡ true) × IsCode FormatKind.RieA (slots opcode (number_of r1 ∷ []) (m3 ∷ []) i2 0) code) (λ e. (e ≡ EmitError.BadRegister) × (ok ≡ false)) }
+{
+    let n1 = general(r1)?;
+    Ok(six([
+        upper(opcode),
+        halves(n1, 0),
+        upper(i2),
+        lower(i2),
+        halves(m3, 0),
+        lower(opcode),
+    ]))
+}
+
+/// RIE-D: `ab`, r1 r3, i2, 00, `cd`.
+pub fn enc_rie_d(opcode: u16, r1: Reg, r3: Reg, i2: u16) -> Result<Code, EmitError>
+    ensures { let ok = is_general r1 && is_general r3 in MatchResult result (λ code. (ok ≡ true) × IsCode FormatKind.RieD (slots opcode (number_of r1 ∷ number_of r3 ∷ []) [] i2 0) code) (λ e. (e ≡ EmitError.BadRegister) × (ok ≡ false)) }
+{
+    let n1 = general(r1)?;
+    let n3 = general(r3)?;
+    Ok(six([
+        upper(opcode),
+        halves(n1, n3),
+        upper(i2),
+        lower(i2),
+        0,
+        lower(opcode),
+    ]))
+}
+
+/// RIE-F: `ab`, r1 r2, i3, i4, i5, `cd`.
+pub fn enc_rie_f(opcode: u16, r1: Reg, r2: Reg, i3: u8, i4: u8, i5: u8) -> Result<Code, EmitError>
+    ensures { let ok = is_general r1 && is_general r2 in MatchResult result (λ code. (ok ≡ true) × IsCode FormatKind.RieF (slots opcode (number_of r1 ∷ number_of r2 ∷ []) (i3 ∷ i4 ∷ i5 ∷ []) 0 0) code) (λ e. (e ≡ EmitError.BadRegister) × (ok ≡ false)) }
+{
+    let n1 = general(r1)?;
+    let n2 = general(r2)?;
+    Ok(six([upper(opcode), halves(n1, n2), i3, i4, i5, lower(opcode)]))
+}
+
+/// RIE-G: `ab`, r1 m3, i2, 00, `cd`.
+pub fn enc_rie_g(opcode: u16, r1: Reg, i2: u16, m3: u8) -> Result<Code, EmitError>
+    requires { m3 < 16 }
+    ensures { let ok = is_general r1 in MatchResult result (λ code. (ok ≡ true) × IsCode FormatKind.RieG (slots opcode (number_of r1 ∷ []) (m3 ∷ []) i2 0) code) (λ e. (e ≡ EmitError.BadRegister) × (ok ≡ false)) }
+{
+    let n1 = general(r1)?;
+    Ok(six([
+        upper(opcode),
+        halves(n1, m3),
+        upper(i2),
+        lower(i2),
+        0,
+        lower(opcode),
+    ]))
+}
+
+/// RIL-A: `ab`, r1 c, i2.
+pub fn enc_ril_a(opcode: u16, r1: Reg, i2: u32) -> Result<Code, EmitError>
+    requires { opcode < 2 ^ 12 }
+    ensures { let ok = is_general r1 in MatchResult result (λ code. (ok ≡ true) × IsCode FormatKind.RilA (slots opcode (number_of r1 ∷ []) [] i2 0) code) (λ e. (e ≡ EmitError.BadRegister) × (ok ≡ false)) }
+{
+    let n1 = general(r1)?;
+    Ok(six([
+        (opcode / 16) as u8,
+        halves(n1, (opcode % 16) as u8),
+        upper(high_half(i2)),
+        lower(high_half(i2)),
+        upper(low_half(i2)),
+        lower(low_half(i2)),
+    ]))
 }
 
 /// RIL-B: `ab`, r1 c, h.
@@ -102,4 +215,15 @@ pub fn enc_rrf_ab(opcode: u16, r1: Reg, r2: Reg, r3: Reg, m4: u8) -> Result<Code
     let n2 = general(r2)?;
     let n3 = general(r3)?;
     Ok(four(upper(opcode), lower(opcode), halves(n3, m4), halves(n1, n2)))
+}
+
+/// RRF-CDE: `ab cd`, m3 m4, r1 r2.
+pub fn enc_rrf_cde(opcode: u16, r1: Reg, r2: Reg, m3: u8, m4: u8) -> Result<Code, EmitError>
+    requires m3 { m3 < 16 }
+    requires m4 { m4 < 16 }
+    ensures { let ok = is_general r1 && is_general r2 in MatchResult result (λ code. (ok ≡ true) × IsCode FormatKind.RrfCde (slots opcode (number_of r1 ∷ number_of r2 ∷ []) (m3 ∷ m4 ∷ []) 0 0) code) (λ e. (e ≡ EmitError.BadRegister) × (ok ≡ false)) }
+{
+    let n1 = general(r1)?;
+    let n2 = general(r2)?;
+    Ok(four(upper(opcode), lower(opcode), halves(m3, m4), halves(n1, n2)))
 }

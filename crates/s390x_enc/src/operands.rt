@@ -106,6 +106,19 @@ pub fn second(opcode: u16, r: Reg) -> Result<u8, EmitError>
     }
 }
 
+/// The bits above the four low ones of the numbers of up to four vector registers, at 8, 4, 2, 1. 0
+/// stands where there is none.
+pub fn high_bits(n1: u8, n2: u8, n3: u8, n4: u8) -> u8
+    requires n1 { n1 < 2 ^ 5 }
+    requires n2 { n2 < 2 ^ 5 }
+    requires n3 { n3 < 2 ^ 5 }
+    requires n4 { n4 < 2 ^ 5 }
+    ensures value { result ≡ 8 * (n1 / 16) + 4 * (n2 / 16) + 2 * (n3 / 16) + n4 / 16 }
+    ensures below { result < 2 ^ 4 }
+{
+    8 * (n1 / 16) + 4 * (n2 / 16) + 2 * (n3 / 16) + n4 / 16
+}
+
 /// 1 where a register of 16 and above is given.
 fn high(r: Option<Reg>) -> u8
     requires { is_vector_or_none r ≡ true }
