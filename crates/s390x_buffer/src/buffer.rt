@@ -12,7 +12,7 @@ use crate::entries::{
 use crate::finish::{alignment_of, constants_fit, place_and_patch, place_try_sites, starts_of};
 use crate::label_use::LabelUse;
 use s390x_base::{
-    Addend, CodeOffset, ConstantData, EmitError, ExternalName, MachLabel, Reloc, TrapCode,
+    Addend, Code, CodeOffset, ConstantData, EmitError, ExternalName, MachLabel, Reloc, TrapCode,
     VCodeConstant,
 };
 use std::alloc::{AllocError, Global};
@@ -188,6 +188,14 @@ impl MachBuffer {
         ensures kept { Keeps self.old self.new }
     {
         self.put(&value.to_be_bytes())
+    }
+
+    /// Appends the code of an instruction. Refused by `LabelOutOfRange` where the length would reach 2^31.
+    pub fn put_code(&mut self, code: &Code) -> Result<(), EmitError>
+        ensures answer { MatchResult result (λ _. (put_cause self.old (length code.now) ≡ None) × (self.new ≡ record self.old { bytes = self.old.bytes ++ code.now })) (λ e. Blames (put_cause self.old (length code.now)) e × (self.new ≡ marked self.old)) }
+        ensures kept { Keeps self.old self.new }
+    {
+        self.put(code.bytes())
     }
 
     /// Records a trap at the current offset.

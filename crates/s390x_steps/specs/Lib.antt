@@ -1,0 +1,9 @@
+pub mod Causes
+pub mod Image
+pub mod MachineInstruction
+pub mod Parts
+pub mod Ranges
+pub mod Rows
+pub mod Sizes
+pub mod Steps
+pub mod Tree
