@@ -107,7 +107,7 @@ tree_grows (leaf i rest) s n after e =
     let n2 : n ≡ length s2.labels = omega (arith, g.labels) in
     let h = tree_grows rest s2 n after n2 in
     let r = grows_on s s2 (run s2 (pieces n after rest)) 0 (instruction_size i) (draws rest) (tree_size rest) g h in
-    let done : Grows s (run s2 (pieces n after rest)) (draws rest) (instruction_size i + tree_size rest) = record { labels = r.labels; kept = r.kept; bytes = r.bytes } in
+    let done : Grows s (run s2 (pieces n after rest)) (draws rest) (instruction_size i + tree_size rest) = record { labels = omega (arith, r.labels); kept = r.kept; bytes = omega (arith, r.bytes) } in
     subst (λ x. Grows s x (draws rest) (instruction_size i + tree_size rest)) (sym (run-append s1 (leaf_pieces after i) (pieces n after rest))) done
 tree_grows (looped mask members rest) s n after e =
     let n0 = length s.labels in
