@@ -123,7 +123,7 @@ pub record LoopPlaces (at : ℕ → ℕ) (k e : ℕ) (members rest : Tree) : Typ
   pub inner : Follows at (k + 1) (steps_of (k + 1) (k + 2 + step_count members) members)
   pub outer : Follows at (k + 2 + step_count members) (steps_of (k + 2 + step_count members) e rest)
 
-loop_places : (at : ℕ → ℕ) (k e mask : ℕ) (members rest : Tree) → Follows at k (steps_of k e (looped mask members rest)) → LoopPlaces at k e members rest
+pub loop_places : (at : ℕ → ℕ) (k e mask : ℕ) (members rest : Tree) → Follows at k (steps_of k e (looped mask members rest)) → LoopPlaces at k e members rest
 loop_places at k e mask members rest follow =
     let fb = steps_of (k + 1) (k + 2 + step_count members) members in
     let fr = steps_of (k + 2 + step_count members) e rest in

@@ -4,3 +4,6 @@ pub mod Patching
 pub mod Branches
 pub mod Binding
 pub mod Joining
+pub mod Starts
+pub mod Names
+pub mod Functions
