@@ -7,3 +7,4 @@ pub mod Joining
 pub mod Starts
 pub mod Names
 pub mod Functions
+pub mod Imaging
