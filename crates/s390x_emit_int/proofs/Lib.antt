@@ -8,3 +8,4 @@ pub mod Starts
 pub mod Names
 pub mod Functions
 pub mod Imaging
+pub mod Trees
