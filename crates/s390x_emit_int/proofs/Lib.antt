@@ -9,3 +9,4 @@ pub mod Names
 pub mod Functions
 pub mod Imaging
 pub mod Trees
+pub mod Answering

@@ -10,7 +10,10 @@ use Rattle.s390x_steps.specs.Causes.{draws}
 use Rattle.s390x_emit_int.specs.Pieces.{Piece, Step, Draw, Bind, Link, apply, run}
 use Rattle.s390x_emit_int.specs.Emission.{branch, leaf_pieces, pieces, own_pieces, back_pieces}
 use Rattle.s390x_emit_int.specs.Fit.{LeafFits, TreeFits}
-use Rattle.s390x_emit_int.proofs.Runs.{run-append, opened, opened_labels, body_run, loop_run, tree_grows}
+use Rattle.s390x_emit_int.specs.Room.{HasRoom}
+use Rattle.s390x_emit_int.proofs.Runs.{Grows, run-append, opened, opened_labels, body_run, loop_run, tree_grows}
+use Rattle.s390x_emit_int.proofs.Starts.{Same, same_run}
+use Rattle.std.proofs.Common.{◌≤◌}
 
 leaf_run : (i : Inst) (rest : Tree) (s : State) (n after : ℕ) → run s (pieces n after (leaf i rest)) ≡ run (run (apply s Step) (own_pieces n after (leaf i empty))) (pieces (n + draws (leaf i empty)) after rest)
 leaf_run i rest s n after =
@@ -85,3 +88,13 @@ loop_states s sa sb so sc sd se start end mask members est ea een eb eo ec ed ee
       free = ap (λ x. get_or x.labels end None) ee' ∙ ap (λ k. get_or (body_run s members).labels k None) end' ∙ end_free s members;
       after = λ sf ef. ef ∙ ap (λ x. apply x (Bind end)) ee' ∙ ap (λ k. apply (linked n) (Bind k)) end' ∙ sym (run-append (opened s) (pieces (n + 2) (n + 1) members) (back_pieces n mask));
     }
+
+-- after a member there is room
+pub more_room : (i : Inst) (s s1 s2 : State) (after : ℕ) → HasRoom s → s1 ≡ apply s Step → s2 ≡ run s1 (own_pieces (length s1.labels) after (graft i empty)) → HasRoom s2
+more_room i s s1 s2 after room e1 e2 =
+    let n = length s.labels in
+    let e2' : s2 ≡ run (apply s Step) (own_pieces n after (graft i empty)) = e2 ∙ ap (λ x. run x (own_pieces (length x.labels) after (graft i empty))) e1 in
+    let alone : s2 ≡ run s (pieces n after (graft i empty)) = e2' ∙ sym (graft_run i empty s n after) in
+    let g : Grows s (run s (pieces n after (graft i empty))) _ _ = tree_grows (graft i empty) s n after refl in
+    let same : Same s (run s (pieces n after (graft i empty))) = same_run (pieces n after (graft i empty)) s in
+    subst HasRoom (sym alone) (omega (arith, g.labels, same.block_count, ap length same.constants))

@@ -3,8 +3,5 @@
 
 pub mod causes;
 pub mod check;
-
 pub mod leaf;
-
-
-
+pub mod tree;
