@@ -7,8 +7,6 @@ mod finish;
 pub mod label_use;
 pub mod mach_inst_label_use;
 mod patch;
-#[cfg(test)]
-mod tests;
 
 pub use buffer::MachBuffer;
 pub use entries::{
