@@ -20,7 +20,12 @@ pub fn some_compare(comparison: Comparison, size: ElementSize, x: u128, y: u128)
 {
     let mut some = false;
     for i in 0..size.lane_count() {
-        some |= compare(comparison, size.bits(), element(size, x, i), element(size, y, i));
+        some |= compare(
+            comparison,
+            size.bits(),
+            element(size, x, i),
+            element(size, y, i),
+        );
     }
     some
 }
@@ -32,7 +37,12 @@ pub fn every_compare(comparison: Comparison, size: ElementSize, x: u128, y: u128
 {
     let mut every = true;
     for i in 0..size.lane_count() {
-        every &= compare(comparison, size.bits(), element(size, x, i), element(size, y, i));
+        every &= compare(
+            comparison,
+            size.bits(),
+            element(size, x, i),
+            element(size, y, i),
+        );
     }
     every
 }
@@ -70,12 +80,18 @@ pub fn code(operation: VectorOperation, first: u128, second: u128, third: u128) 
     ensures { result ≡ code_of operation first second third }
 {
     match operation {
-        VectorOperation::Compare { comparison, size, sets_code } => if sets_code {
+        VectorOperation::Compare {
+            comparison,
+            size,
+            sets_code,
+        } => if sets_code {
             Some(lanes_code(comparison, size, second, third))
         } else {
             None
         },
-        VectorOperation::CompareElement { sign, size } => Some(order_code(sign, size, first, second)),
+        VectorOperation::CompareElement { sign, size } => Some(order_code(
+            sign, size, first, second,
+        )),
         _ => None,
     }
 }

@@ -36,7 +36,14 @@ pub fn first_lane(half: Half, lanes: u32) -> u32
 }
 
 /// The product of two even or two odd lanes.
-pub fn multiply_pair(sign: Signedness, parity: Parity, size: ElementSize, x: u128, y: u128, i: u32) -> u128
+pub fn multiply_pair(
+    sign: Signedness,
+    parity: Parity,
+    size: ElementSize,
+    x: u128,
+    y: u128,
+    i: u32,
+) -> u128
     requires narrow { bits size ≤ 64 }
     requires inside { i < lane_count (wider size) }
     ensures value { result ≡ pair_product sign parity (bits size) x y i }
@@ -70,7 +77,11 @@ pub fn merge(half: Half, size: ElementSize, x: u128, y: u128, i: u32) -> u128
     ensures fits { result < 2 ^ bits size }
 {
     let k = i / 2 + first_lane(half, size.wider().lane_count());
-    if i % 2 == 0 { element(size, x, k) } else { element(size, y, k) }
+    if i % 2 == 0 {
+        element(size, x, k)
+    } else {
+        element(size, y, k)
+    }
 }
 
 /// A lane of a half, in twice its bits.
@@ -145,12 +156,23 @@ pub fn permute_doubleword(a: u32, b: u32, x: u128, y: u128, i: u32) -> u128
 }
 
 /// A lane, shifted by an amount modulo its width.
-pub fn shift_element(operator: ShiftOperator, size: ElementSize, amount: u32, x: u128, i: u32) -> u128
+pub fn shift_element(
+    operator: ShiftOperator,
+    size: ElementSize,
+    amount: u32,
+    x: u128,
+    i: u32,
+) -> u128
     requires { i < lane_count size }
     ensures value { result ≡ shifted_lane operator (bits size) amount x i }
     ensures fits { result < 2 ^ bits size }
 {
-    shift(operator, size.bits(), element(size, x, i), amount % size.bits())
+    shift(
+        operator,
+        size.bits(),
+        element(size, x, i),
+        amount % size.bits(),
+    )
 }
 
 /// The count of a shift by bytes.

@@ -50,9 +50,17 @@ pub fn quotient_signed(w: u32, x: u128, y: u128) -> u128
 {
     let quotient = absolute(w, x) / absolute(w, y);
     if x < sign_bit(w) {
-        if y < sign_bit(w) { quotient } else { negate(w, quotient) }
+        if y < sign_bit(w) {
+            quotient
+        } else {
+            negate(w, quotient)
+        }
     } else {
-        if y < sign_bit(w) { negate(w, quotient) } else { quotient }
+        if y < sign_bit(w) {
+            negate(w, quotient)
+        } else {
+            quotient
+        }
     }
 }
 
@@ -67,7 +75,11 @@ pub fn remainder_signed(w: u32, x: u128, y: u128) -> u128
     ensures fits { result < 2 ^ w }
 {
     let remainder = absolute(w, x) % absolute(w, y);
-    if x < sign_bit(w) { remainder } else { negate(w, remainder) }
+    if x < sign_bit(w) {
+        remainder
+    } else {
+        negate(w, remainder)
+    }
 }
 
 /// A quotient or a remainder; 0 where the divisor is.

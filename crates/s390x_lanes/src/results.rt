@@ -51,7 +51,14 @@ pub fn result_size(operation: VectorOperation) -> ElementSize
 }
 
 /// Lane `i` of the result.
-pub fn result_lane(operation: VectorOperation, first: u128, second: u128, third: u128, fourth: u128, i: u32) -> u128
+pub fn result_lane(
+    operation: VectorOperation,
+    first: u128,
+    second: u128,
+    third: u128,
+    fourth: u128,
+    i: u32,
+) -> u128
     requires is_operation { IsTrue (is_operation operation) }
     requires is_computed { IsTrue (is_computed operation) }
     requires inside { i < lane_count (result_size_of operation) }
@@ -59,19 +66,58 @@ pub fn result_lane(operation: VectorOperation, first: u128, second: u128, third:
     ensures fits { result < 2 ^ bits (result_size_of operation) }
 {
     match operation {
-        VectorOperation::Binary { operator, size } => binary(operator, size.bits(), element(size, second, i), element(size, third, i)),
-        VectorOperation::Compare { comparison, size, .. } => {
-            if compare(comparison, size.bits(), element(size, second, i), element(size, third, i)) {
+        VectorOperation::Binary { operator, size } => binary(
+            operator,
+            size.bits(),
+            element(size, second, i),
+            element(size, third, i),
+        ),
+        VectorOperation::Compare {
+            comparison,
+            size,
+            ..
+        } => {
+            if compare(
+                comparison,
+                size.bits(),
+                element(size, second, i),
+                element(size, third, i),
+            ) {
                 ones(size.bits())
             } else {
                 0
             }
         }
-        VectorOperation::MultiplyHigh { sign, size } => multiply_high(sign, size.bits(), element(size, second, i), element(size, third, i)),
-        VectorOperation::MultiplyPairs { sign, parity, size } => multiply_pair(sign, parity, size, second, third, i),
-        VectorOperation::Divide { division, sign, size } => divide(division, sign, size.bits(), element(size, second, i), element(size, third, i)),
-        VectorOperation::Unary { operator, size } => unary(operator, size.bits(), element(size, second, i)),
-        VectorOperation::ShiftElements { operator, size, amount } => shift_element(operator, size, amount, second, i),
+        VectorOperation::MultiplyHigh { sign, size } => multiply_high(
+            sign,
+            size.bits(),
+            element(size, second, i),
+            element(size, third, i),
+        ),
+        VectorOperation::MultiplyPairs { sign, parity, size } => multiply_pair(
+            sign, parity, size, second, third, i,
+        ),
+        VectorOperation::Divide {
+            division,
+            sign,
+            size,
+        } => divide(
+            division,
+            sign,
+            size.bits(),
+            element(size, second, i),
+            element(size, third, i),
+        ),
+        VectorOperation::Unary { operator, size } => unary(
+            operator,
+            size.bits(),
+            element(size, second, i),
+        ),
+        VectorOperation::ShiftElements {
+            operator,
+            size,
+            amount,
+        } => shift_element(operator, size, amount, second, i),
         VectorOperation::Pack { narrowing, size } => pack(narrowing, size, second, third, i),
         VectorOperation::Merge { half, size } => merge(half, size, second, third, i),
         VectorOperation::Unpack { sign, half, size } => unpack(sign, half, size, second, i),
@@ -81,8 +127,18 @@ pub fn result_lane(operation: VectorOperation, first: u128, second: u128, third:
         VectorOperation::Select => select(second, third, fourth),
         VectorOperation::Permute => permute(second, third, fourth, i),
         VectorOperation::PermuteDoublewords { a, b } => permute_doubleword(a, b, second, third, i),
-        VectorOperation::ShiftByBits { operator } => shift(operator, 128, second, (third % 8) as u32),
-        VectorOperation::ShiftByBytes { operator } => shift(operator, 128, second, 8 * byte_count(third)),
+        VectorOperation::ShiftByBits { operator } => shift(
+            operator,
+            128,
+            second,
+            (third % 8) as u32,
+        ),
+        VectorOperation::ShiftByBytes { operator } => shift(
+            operator,
+            128,
+            second,
+            8 * byte_count(third),
+        ),
         VectorOperation::Move => second,
         VectorOperation::InsertImmediate { size, value, index } => if i == index {
             immediate(size.bits(), value)
@@ -98,7 +154,13 @@ pub fn result_lane(operation: VectorOperation, first: u128, second: u128, third:
 }
 
 /// The whole result.
-pub fn result(operation: VectorOperation, first: u128, second: u128, third: u128, fourth: u128) -> u128
+pub fn result(
+    operation: VectorOperation,
+    first: u128,
+    second: u128,
+    third: u128,
+    fourth: u128,
+) -> u128
     requires is_operation { IsTrue (is_operation operation) }
     requires is_computed { IsTrue (is_computed operation) }
     ensures { result ≡ result_of operation first second third fourth }

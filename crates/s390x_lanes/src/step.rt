@@ -7,7 +7,7 @@ ghost use Rattle.s390x_lanes.specs.Opcodes.{row_in, operation_from, is_within, k
 ghost use Rattle.s390x_lanes.specs.Step.{MayEnd, StepEnds, ValueIsGiven, StopIsAllowed};
 
 use crate::ends::{code, divides_by_zero, division_overflows};
-use crate::opcodes::{OpcodeRow, RowKind, OPCODES};
+use crate::opcodes::{OPCODES, OpcodeRow, RowKind};
 use crate::operation::VectorOperation;
 use crate::results;
 use crate::size::ElementSize;
@@ -56,7 +56,11 @@ pub fn size_from(code: u8) -> ElementSize
 pub fn narrower_from(code: u8) -> ElementSize
     ensures { result ≡ narrower_of_code code }
 {
-    if code == 0 { ElementSize::Byte } else { size_from(code - 1) }
+    if code == 0 {
+        ElementSize::Byte
+    } else {
+        size_from(code - 1)
+    }
 }
 
 /// The operation of a row with masks `a`, `b`, `c` and an immediate.
@@ -64,30 +68,88 @@ pub fn operation_with(kind: RowKind, a: u8, b: u8, c: u8, imm: u16) -> VectorOpe
     ensures { result ≡ operation_from kind a b c imm }
 {
     match kind {
-        RowKind::Binary(operator) => VectorOperation::Binary { operator, size: size_from(a) },
-        RowKind::Whole(operator) => VectorOperation::Binary { operator, size: ElementSize::Quadword },
-        RowKind::Compare(comparison) => VectorOperation::Compare { comparison, size: size_from(a), sets_code: b == 1 },
-        RowKind::MultiplyHigh(sign) => VectorOperation::MultiplyHigh { sign, size: size_from(a) },
-        RowKind::MultiplyPairs(sign, parity) => VectorOperation::MultiplyPairs { sign, parity, size: size_from(a) },
-        RowKind::Divide(division, sign) => VectorOperation::Divide { division, sign, size: size_from(a) },
-        RowKind::Unary(operator) => VectorOperation::Unary { operator, size: size_from(a) },
-        RowKind::ShiftElements(operator) => VectorOperation::ShiftElements { operator, size: size_from(a), amount: imm as u32 },
-        RowKind::Pack(narrowing) => VectorOperation::Pack { narrowing, size: narrower_from(a) },
-        RowKind::Merge(half) => VectorOperation::Merge { half, size: size_from(a) },
-        RowKind::Unpack(sign, half) => VectorOperation::Unpack { sign, half, size: size_from(a) },
-        RowKind::Replicate => VectorOperation::Replicate { size: size_from(a), index: imm as u32 },
+        RowKind::Binary(operator) => VectorOperation::Binary {
+            operator,
+            size: size_from(a),
+        },
+        RowKind::Whole(operator) => VectorOperation::Binary {
+            operator,
+            size: ElementSize::Quadword,
+        },
+        RowKind::Compare(comparison) => VectorOperation::Compare {
+            comparison,
+            size: size_from(a),
+            sets_code: b == 1,
+        },
+        RowKind::MultiplyHigh(sign) => VectorOperation::MultiplyHigh {
+            sign,
+            size: size_from(a),
+        },
+        RowKind::MultiplyPairs(sign, parity) => VectorOperation::MultiplyPairs {
+            sign,
+            parity,
+            size: size_from(a),
+        },
+        RowKind::Divide(division, sign) => VectorOperation::Divide {
+            division,
+            sign,
+            size: size_from(a),
+        },
+        RowKind::Unary(operator) => VectorOperation::Unary {
+            operator,
+            size: size_from(a),
+        },
+        RowKind::ShiftElements(operator) => VectorOperation::ShiftElements {
+            operator,
+            size: size_from(a),
+            amount: imm as u32,
+        },
+        RowKind::Pack(narrowing) => VectorOperation::Pack {
+            narrowing,
+            size: narrower_from(a),
+        },
+        RowKind::Merge(half) => VectorOperation::Merge {
+            half,
+            size: size_from(a),
+        },
+        RowKind::Unpack(sign, half) => VectorOperation::Unpack {
+            sign,
+            half,
+            size: size_from(a),
+        },
+        RowKind::Replicate => VectorOperation::Replicate {
+            size: size_from(a),
+            index: imm as u32,
+        },
         RowKind::ByteMask => VectorOperation::ByteMask { mask: imm },
-        RowKind::BitMask => VectorOperation::BitMask { size: size_from(c), start: a as u32, end: b as u32 },
+        RowKind::BitMask => VectorOperation::BitMask {
+            size: size_from(c),
+            start: a as u32,
+            end: b as u32,
+        },
         RowKind::Select => VectorOperation::Select,
         RowKind::Permute => VectorOperation::Permute,
-        RowKind::PermuteDoublewords => VectorOperation::PermuteDoublewords { a: a as u32 / 4, b: a as u32 % 4 },
+        RowKind::PermuteDoublewords => VectorOperation::PermuteDoublewords {
+            a: a as u32 / 4,
+            b: a as u32 % 4,
+        },
         RowKind::ShiftByBits(operator) => VectorOperation::ShiftByBits { operator },
         RowKind::ShiftByBytes(operator) => VectorOperation::ShiftByBytes { operator },
         RowKind::Move => VectorOperation::Move,
-        RowKind::InsertImmediate(size) => VectorOperation::InsertImmediate { size, value: imm, index: a as u32 },
-        RowKind::ReplicateImmediate => VectorOperation::ReplicateImmediate { size: size_from(a), value: imm },
+        RowKind::InsertImmediate(size) => VectorOperation::InsertImmediate {
+            size,
+            value: imm,
+            index: a as u32,
+        },
+        RowKind::ReplicateImmediate => VectorOperation::ReplicateImmediate {
+            size: size_from(a),
+            value: imm,
+        },
         RowKind::BitPermute => VectorOperation::BitPermute,
-        RowKind::CompareElement(sign) => VectorOperation::CompareElement { sign, size: size_from(a) },
+        RowKind::CompareElement(sign) => VectorOperation::CompareElement {
+            sign,
+            size: size_from(a),
+        },
         RowKind::Blend => VectorOperation::Blend,
         RowKind::Evaluate => VectorOperation::Evaluate { table: a },
     }
@@ -103,7 +165,9 @@ pub fn has_operation(operation: VectorOperation) -> bool
         VectorOperation::Merge { size, .. } => size.bits() <= 64,
         VectorOperation::Unpack { size, .. } => size.bits() <= 64,
         VectorOperation::Replicate { size, index } => index < size.lane_count(),
-        VectorOperation::BitMask { size, start, end } => size.bits() <= 64 && start < size.bits() && end < size.bits(),
+        VectorOperation::BitMask { size, start, end } => size.bits() <= 64
+            && start < size.bits()
+            && end < size.bits(),
         VectorOperation::PermuteDoublewords { a, b } => a < 2 && b < 2,
         VectorOperation::InsertImmediate { size, index, .. } => index < size.lane_count(),
         _ => true,
@@ -115,7 +179,11 @@ pub fn checked(operation: VectorOperation) -> Option<VectorOperation>
     ensures value { result ≡ where_operation operation }
     ensures is_operation { MatchOption result (Unit {0}) (λ o. IsTrue (is_operation o)) }
 {
-    if has_operation(operation) { Some(operation) } else { None }
+    if has_operation(operation) {
+        Some(operation)
+    } else {
+        None
+    }
 }
 
 /// Whether a mask lies from the row's least to its greatest.
@@ -162,11 +230,20 @@ pub fn operation_at(row: Option<OpcodeRow>, masks: [u8; 3], imm: u16) -> Option<
 pub fn immediate_bits(imm: i64) -> Option<u16>
     ensures { result ≡ immediate_bits_of imm }
 {
-    if imm < 0 || imm > 65535 { None } else { Some(imm as u16) }
+    if imm < 0 || imm > 65535 {
+        None
+    } else {
+        Some(imm as u16)
+    }
 }
 
 /// The operation with an opcode, masks and an immediate.
-pub fn operation(rows: &[OpcodeRow], opcode: u16, masks: [u8; 3], imm: i64) -> Option<VectorOperation>
+pub fn operation(
+    rows: &[OpcodeRow],
+    opcode: u16,
+    masks: [u8; 3],
+    imm: i64,
+) -> Option<VectorOperation>
     ensures value { result ≡ operation_in rows.now opcode masks imm }
     ensures is_operation { MatchOption result (Unit {0}) (λ o. IsTrue (is_operation o)) }
 {

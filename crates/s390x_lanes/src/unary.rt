@@ -99,7 +99,11 @@ pub fn saturate_signed(w: u32, x: u128) -> u128
         if x < limit { x } else { limit - 1 }
     } else {
         let below = negate(2 * w, x);
-        if below <= limit { negate(w, below) } else { limit }
+        if below <= limit {
+            negate(w, below)
+        } else {
+            limit
+        }
     }
 }
 
