@@ -4,6 +4,7 @@
 mod binary;
 mod ends;
 mod lane;
+mod lookup;
 mod number;
 pub mod opcodes;
 pub mod operation;
