@@ -95,8 +95,8 @@ with_immediate row masks (Some k) = row_operation row masks k
 abbrev pub operation_in : List OpcodeRow → ℕ → List ℕ → ℤ → Option VectorOperation
 operation_in rows opcode masks imm = with_immediate (row_in rows opcode) masks (immediate_bits imm)
 
--- the operation with an opcode, masks and an immediate
-abbrev pub operation_of : ℕ → List ℕ → ℤ → Option VectorOperation
+-- the operation with an opcode, masks and an immediate; unfoldable, so that goals don't hold the table
+unfoldable pub operation_of : ℕ → List ℕ → ℤ → Option VectorOperation
 operation_of opcode masks imm = operation_in OPCODES opcode masks imm
 
 -- the stepper computes it: not Blend, Evaluate or a high product of 128-bit elements

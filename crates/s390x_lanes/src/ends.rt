@@ -14,7 +14,7 @@ use crate::products::overflows;
 use crate::size::ElementSize;
 
 /// Whether some lanes compare.
-#[tactic(auto, using(crate::proofs::Tests::some_none, crate::proofs::Tests::some_more))]
+#[tactic(auto, using(crate::proofs::LaneTests::some_none, crate::proofs::LaneTests::some_more))]
 pub(crate) fn some_compare(comparison: Comparison, size: ElementSize, x: u128, y: u128) -> bool
     ensures { result ≡ some_lane (lane_count size) (lane_compares comparison (bits size) x y) }
 {
@@ -31,7 +31,7 @@ pub(crate) fn some_compare(comparison: Comparison, size: ElementSize, x: u128, y
 }
 
 /// Whether all lanes compare.
-#[tactic(auto, using(crate::proofs::Tests::every_none, crate::proofs::Tests::every_more))]
+#[tactic(auto, using(crate::proofs::LaneTests::every_none, crate::proofs::LaneTests::every_more))]
 pub(crate) fn every_compare(comparison: Comparison, size: ElementSize, x: u128, y: u128) -> bool
     ensures { result ≡ every_lane (lane_count size) (lane_compares comparison (bits size) x y) }
 {
@@ -97,7 +97,7 @@ pub(crate) fn code(operation: VectorOperation, first: u128, second: u128, third:
 }
 
 /// Whether some lane is zero.
-#[tactic(auto, using(crate::proofs::Tests::some_none, crate::proofs::Tests::some_more))]
+#[tactic(auto, using(crate::proofs::LaneTests::some_none, crate::proofs::LaneTests::some_more))]
 pub(crate) fn some_zero(size: ElementSize, y: u128) -> bool
     ensures { result ≡ some_lane (lane_count size) (lane_is_zero (bits size) y) }
 {
@@ -109,7 +109,7 @@ pub(crate) fn some_zero(size: ElementSize, y: u128) -> bool
 }
 
 /// Whether some quotient doesn't fit.
-#[tactic(auto, using(crate::proofs::Tests::some_none, crate::proofs::Tests::some_more))]
+#[tactic(auto, using(crate::proofs::LaneTests::some_none, crate::proofs::LaneTests::some_more))]
 pub(crate) fn some_overflow(sign: Signedness, size: ElementSize, x: u128, y: u128) -> bool
     ensures { result ≡ some_lane (lane_count size) (lane_overflows sign (bits size) x y) }
 {

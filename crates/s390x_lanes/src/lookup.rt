@@ -3,9 +3,9 @@
 
 ghost use Rattle.std.specs.Prelude.{◌≡◌, ℕ, ◌+◌, ◌-◌, ◌*◌, ◌/◌, ◌%◌, ◌^◌, ◌<◌, ◌≤◌, IsTrue, MatchOption};
 ghost use Rattle.s390x_lanes.specs.Size.{size_of_code, narrower_of_code};
-ghost use Rattle.s390x_lanes.specs.Opcodes.{row_in, operation_from, is_within, kind_allows, is_operation, is_computed, where_operation, row_operation, immediate_bits as immediate_bits_of, operation_in};
+ghost use Rattle.s390x_lanes.specs.Opcodes.{row_in, operation_from, is_within, kind_allows, is_operation, is_computed, where_operation, row_operation, immediate_bits as immediate_bits_of, operation_in, operation_of};
 
-use crate::opcodes::{OpcodeRow, RowKind};
+use crate::opcodes::{OPCODES, OpcodeRow, RowKind};
 use crate::operation::VectorOperation;
 use crate::size::ElementSize;
 
@@ -166,8 +166,8 @@ fn immediate_bits(imm: i64) -> Option<u16>
     }
 }
 
-/// The operation with an opcode, masks and an immediate.
-pub(crate) fn operation(
+/// The operation with an opcode, masks and an immediate, by a table of opcodes.
+fn operation_in_rows(
     rows: &[OpcodeRow],
     opcode: u16,
     masks: [u8; 3],
@@ -180,6 +180,14 @@ pub(crate) fn operation(
         None => None,
         Some(k) => operation_at(find(rows, opcode), masks, k),
     }
+}
+
+/// The operation with an opcode, masks and an immediate.
+pub(crate) fn operation(opcode: u16, masks: [u8; 3], imm: i64) -> Option<VectorOperation>
+    ensures value { result ≡ operation_of opcode masks imm }
+    ensures is_operation { MatchOption result (Unit {0}) (λ o. IsTrue (is_operation o)) }
+{
+    operation_in_rows(&OPCODES, opcode, masks, imm)
 }
 
 /// Whether the result of an operation is computed.

@@ -64,7 +64,12 @@ pub(crate) fn compared_lane(
     ensures value { result ≡ (if compares comparison (bits size) (lane_of (bits size) x i) (lane_of (bits size) y i) then 2 ^ bits size - 1 else 0) }
     ensures fits { result < 2 ^ bits size }
 {
-    if compare(comparison, size.bits(), element(size, x, i), element(size, y, i)) {
+    if compare(
+        comparison,
+        size.bits(),
+        element(size, x, i),
+        element(size, y, i),
+    ) {
         ones(size.bits())
     } else {
         0
@@ -77,7 +82,11 @@ pub(crate) fn inserted_lane(size: ElementSize, value: u16, index: u32, x: u128, 
     ensures value { result ≡ (if i == index then immediate_of (bits size) value else lane_of (bits size) x i) }
     ensures fits { result < 2 ^ bits size }
 {
-    if i == index { immediate(size.bits(), value) } else { element(size, x, i) }
+    if i == index {
+        immediate(size.bits(), value)
+    } else {
+        element(size, x, i)
+    }
 }
 
 /// Lane `i` of the result.

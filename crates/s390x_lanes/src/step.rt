@@ -7,7 +7,6 @@ ghost use Rattle.s390x_lanes.specs.Step.{MayEnd, StepEnds, ValueIsGiven, StopIsA
 
 use crate::ends::{code, divides_by_zero, division_overflows};
 use crate::lookup::{computes, operation};
-use crate::opcodes::OPCODES;
 use crate::operation::VectorOperation;
 use crate::results;
 
@@ -79,5 +78,5 @@ pub fn lane_step(opcode: u16, masks: [u8; 3], imm: i64, regs: [u128; 4]) -> Lane
     ensures value { ValueIsGiven (computed_operation opcode masks imm) regs result }
     ensures divide { StopIsAllowed (computed_operation opcode masks imm) regs result }
 {
-    end_of(operation(&OPCODES, opcode, masks, imm), regs)
+    end_of(operation(opcode, masks, imm), regs)
 }
