@@ -512,8 +512,8 @@ fn is_alignment(align: u32) -> bool
     matches!(align, 1 | 2 | 4 | 8 | 16)
 }
 
-// Whether each constant's alignment is one of the allowed ones.
-fn all_aligned(constants: &[ConstantData]) -> bool
+/// Whether each constant's alignment is 1, 2, 4, 8 or 16.
+pub fn all_aligned(constants: &[ConstantData]) -> bool
     ensures { result ≡ all_aligned (map constant_of constants.now) }
 {
     for c in constants {

@@ -10,3 +10,5 @@ pub mod Functions
 pub mod Imaging
 pub mod Trees
 pub mod Answering
+pub mod Lengths
+pub mod FirstCauses

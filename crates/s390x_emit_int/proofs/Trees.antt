@@ -9,7 +9,7 @@ use Rattle.s390x_steps.specs.Tree.{Tree, empty, leaf, looped, graft, row_tree, t
 use Rattle.s390x_steps.specs.Causes.{draws}
 use Rattle.s390x_emit_int.specs.Pieces.{Piece, Step, Draw, Bind, Link, apply, run}
 use Rattle.s390x_emit_int.specs.Emission.{branch, leaf_pieces, pieces, own_pieces, back_pieces}
-use Rattle.s390x_emit_int.specs.Fit.{LeafFits, TreeFits}
+use Rattle.s390x_steps.specs.Ranges.{AllInRange}
 use Rattle.s390x_emit_int.specs.Room.{HasRoom}
 use Rattle.s390x_emit_int.proofs.Runs.{Grows, run-append, opened, opened_labels, body_run, loop_run, tree_grows}
 use Rattle.s390x_emit_int.proofs.Starts.{Same, same_run}
@@ -33,9 +33,9 @@ pub graft_run : (i : Inst) (rest : Tree) (s : State) (n after : ℕ) → run s (
 graft_run (Loop' mask body all) rest s n after = looped_run mask (row_tree all) rest s n after
 graft_run i rest s n after = leaf_run i rest s n after
 
-pub graft_fits : (i : Inst) (rest : Tree) → TreeFits (graft i empty) → TreeFits rest → TreeFits (graft i rest)
-graft_fits (Loop' mask body all) rest f r = (f.0, f.1, r)
-graft_fits i rest f r = (f.0, r)
+pub graft_ranges : (i : Inst) (rest : Tree) → AllInRange (graft i empty) → AllInRange rest → AllInRange (graft i rest)
+graft_ranges (Loop' mask body all) rest f r = (f.0, f.1, r)
+graft_ranges i rest f r = (f.0, r)
 
 cons_of : (is : List Inst) (k : ℕ) (i : Inst) → k < length is → i ≡ get_or is k i → drop k is ≡ i ∷ drop (k + 1) is
 cons_of is k i lt at =
@@ -52,9 +52,9 @@ more is k i s s1 s2 r after lt at e1 e2 h =
     let len : length s2.labels ≡ n + draws (graft i empty) = ap (λ x. length x.labels) alone ∙ (tree_grows (graft i empty) s n after refl).labels in
     ap (λ m. run s2 (pieces m after (tree rest))) len ∙ ap (λ x. run x (pieces (n + draws (graft i empty)) after (tree rest))) e2' ∙ sym (graft_run i (tree rest) s n after) ∙ ap (λ l. run s (pieces n after (tree l))) (sym (cons_of is k i lt at)) ∙ h
 
--- and its fields fit
-pub more_fits : (is : List Inst) (k : ℕ) (i : Inst) → k < length is → i ≡ get_or is k i → TreeFits (graft i empty) → TreeFits (tree (drop (k + 1) is)) → TreeFits (tree (drop k is))
-more_fits is k i lt at f rest = subst (λ l. TreeFits (tree l)) (sym (cons_of is k i lt at)) (graft_fits i (tree (drop (k + 1) is)) f rest)
+-- and its numbers are in range
+pub more_ranges : (is : List Inst) (k : ℕ) (i : Inst) → k < length is → i ≡ get_or is k i → AllInRange (graft i empty) → AllInRange (tree (drop (k + 1) is)) → AllInRange (tree (drop k is))
+more_ranges is k i lt at f rest = subst (λ l. AllInRange (tree l)) (sym (cons_of is k i lt at)) (graft_ranges i (tree (drop (k + 1) is)) f rest)
 
 opened_end : (s : State) → get_or (opened s).labels (length s.labels + 1) None ≡ None
 opened_end s =

@@ -6,7 +6,7 @@ ghost use Rattle.s390x_buffer.specs.Keeps.{Keeps};
 ghost use Rattle.s390x_steps.specs.Tree.{empty, looped, graft, tree};
 ghost use Rattle.s390x_emit_int.specs.Pieces.{run};
 ghost use Rattle.s390x_emit_int.specs.Emission.{pieces, own_pieces};
-ghost use Rattle.s390x_emit_int.specs.Fit.{TreeFits};
+ghost use Rattle.s390x_steps.specs.Ranges.{AllInRange};
 ghost use Rattle.s390x_emit_int.specs.Room.{HasRoom};
 
 use crate::leaf::{emit_leaf, put_branch};
@@ -16,10 +16,14 @@ use s390x_inst::Inst;
 
 /// Emits instructions in order, each with its step place; `after` is the label behind the innermost loop.
 #[cycle(members)]
-pub fn emit_members(sink: &mut MachBuffer, insts: &[Inst], after: MachLabel) -> Result<(), EmitError>
+pub fn emit_members(
+    sink: &mut MachBuffer,
+    insts: &[Inst],
+    after: MachLabel,
+) -> Result<(), EmitError>
     requires { HasRoom sink.old }
     ensures answer { OnOk result (sink.new ≡ run sink.old (pieces (length sink.old.labels) after.0 (tree insts.now))) }
-    ensures fits { OnOk result (TreeFits (tree insts.now)) }
+    ensures ranges { OnOk result (AllInRange (tree insts.now)) }
     ensures kept { Keeps sink.old sink.new }
 {
     for inst in insts {
@@ -34,7 +38,7 @@ pub fn emit_members(sink: &mut MachBuffer, insts: &[Inst], after: MachLabel) -> 
 pub fn emit_inst(sink: &mut MachBuffer, inst: &Inst, after: MachLabel) -> Result<(), EmitError>
     requires { HasRoom sink.old }
     ensures answer { OnOk result (sink.new ≡ run sink.old (own_pieces (length sink.old.labels) after.0 (graft inst.now empty))) }
-    ensures fits { OnOk result (TreeFits (graft inst.now empty)) }
+    ensures ranges { OnOk result (AllInRange (graft inst.now empty)) }
     ensures kept { Keeps sink.old sink.new }
 {
     match inst {
@@ -47,7 +51,7 @@ pub fn emit_inst(sink: &mut MachBuffer, inst: &Inst, after: MachLabel) -> Result
 fn emit_loop(sink: &mut MachBuffer, cond: Cond, body: &[Inst]) -> Result<(), EmitError>
     requires { HasRoom sink.old }
     ensures answer { OnOk result (sink.new ≡ run sink.old (own_pieces (length sink.old.labels) 0 (looped cond (tree body.now) empty))) }
-    ensures fits { OnOk result (TreeFits (looped cond (tree body.now) empty)) }
+    ensures ranges { OnOk result (AllInRange (looped cond (tree body.now) empty)) }
     ensures kept { Keeps sink.old sink.new }
 {
     let mask = cond.bits();

@@ -4,8 +4,8 @@ use Rattle.s390x_steps.specs.Tree.{Tree, empty, looped, graft, tree}
 use Rattle.s390x_steps.proofs.Trees.{graft_loop, not_loop}
 use Rattle.s390x_emit_int.specs.Pieces.{run, apply}
 use Rattle.s390x_emit_int.specs.Emission.{pieces, own_pieces}
-use Rattle.s390x_emit_int.specs.Fit.{TreeFits}
-use Rattle.s390x_emit_int.proofs.Trees.{more, more_fits, more_room, LoopStates, loop_states}
+use Rattle.s390x_steps.specs.Ranges.{AllInRange}
+use Rattle.s390x_emit_int.proofs.Trees.{more, more_ranges, more_room, LoopStates, loop_states}
 use Rattle.s390x_emit_int.proofs.Answering.{on_ok, on_both}
 use Rattle.s390x_emit_int.proofs.tree.+members.Goals as goal
 
@@ -14,20 +14,20 @@ emit_inst-returns-in-Loop-clause-answer t c =
     let g = graft_loop c.args.inst.now c.in-Loop.cond c.in-Loop.body c.deref.result.now empty c.in-Loop.is c.deref.ensures.value in
     on_ok c.emit_loop.result c.emit_loop.ensures.answer (λ e. e ∙ ap (λ x. run c.args.sink.now (own_pieces (length c.args.sink.now.labels) c.args.after.0 x)) (sym g))
 
-pub emit_inst-returns-in-Loop-clause-fits : goal.emit_inst-returns-in-Loop-clause-fits
-emit_inst-returns-in-Loop-clause-fits t c =
+pub emit_inst-returns-in-Loop-clause-ranges : goal.emit_inst-returns-in-Loop-clause-ranges
+emit_inst-returns-in-Loop-clause-ranges t c =
     let g = graft_loop c.args.inst.now c.in-Loop.cond c.in-Loop.body c.deref.result.now empty c.in-Loop.is c.deref.ensures.value in
-    on_ok c.emit_loop.result c.emit_loop.ensures.fits (λ f. subst TreeFits (sym g) f)
+    on_ok c.emit_loop.result c.emit_loop.ensures.ranges (λ f. subst AllInRange (sym g) f)
 
 pub emit_inst-returns-in_default-clause-answer : goal.emit_inst-returns-in_default-clause-answer
 emit_inst-returns-in_default-clause-answer t c =
     let g = not_loop c.args.inst.now c.in_default.not-Loop in
     on_ok c.emit_leaf.result c.emit_leaf.ensures.answer (λ e. e ∙ ap (λ x. run c.args.sink.now (own_pieces (length c.args.sink.now.labels) c.args.after.0 x)) (sym g))
 
-pub emit_inst-returns-in_default-clause-fits : goal.emit_inst-returns-in_default-clause-fits
-emit_inst-returns-in_default-clause-fits t c =
+pub emit_inst-returns-in_default-clause-ranges : goal.emit_inst-returns-in_default-clause-ranges
+emit_inst-returns-in_default-clause-ranges t c =
     let g = not_loop c.args.inst.now c.in_default.not-Loop in
-    on_ok c.emit_leaf.result c.emit_leaf.ensures.fits (λ f. subst TreeFits (sym g) (f, tt))
+    on_ok c.emit_leaf.result c.emit_leaf.ensures.range (λ f. subst AllInRange (sym g) (f, tt))
 
 pub emit_members-loop-inst-preserved : goal.emit_members-loop-inst-preserved
 emit_members-loop-inst-preserved t c =
@@ -35,7 +35,7 @@ emit_members-loop-inst-preserved t c =
       kept = keeps_on _ _ _ c.loop-inst.invariant.kept (keeps_on _ _ _ c.start_step.ensures.kept c.emit_inst.ensures.kept);
       room = more_room c.inst-item.result c.loop-inst.sink c.start_step.new.self c.emit_inst.new.sink c.args.after.0 c.loop-inst.invariant.room c.in_ok-start_step.ensures.answer.1 c.in_ok-emit_inst.ensures.answer;
       rest = more c.args.insts.now c.loop-inst.inst-index c.inst-item.result c.loop-inst.sink c.start_step.new.self c.emit_inst.new.sink _ c.args.after.0 (omega arith) c.inst-item.is c.in_ok-start_step.ensures.answer.1 c.in_ok-emit_inst.ensures.answer c.loop-inst.invariant.rest;
-      fits = λ f. c.loop-inst.invariant.fits (more_fits c.args.insts.now c.loop-inst.inst-index c.inst-item.result (omega arith) c.inst-item.is c.in_ok-emit_inst.ensures.fits f);
+      ranges = λ f. c.loop-inst.invariant.ranges (more_ranges c.args.insts.now c.loop-inst.inst-index c.inst-item.result (omega arith) c.inst-item.is c.in_ok-emit_inst.ensures.ranges f);
     }
 
 pub emit_members-returns-in_err-emit_inst-clause-kept : goal.emit_members-returns-in_err-emit_inst-clause-kept
