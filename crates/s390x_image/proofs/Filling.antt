@@ -1,0 +1,1 @@
+-- Filling fields one after another.

@@ -1,0 +1,4 @@
+pub mod Errors
+pub mod Symbols
+pub mod Fields
+pub mod Causes
