@@ -42,18 +42,22 @@ field_of S390xPCRel32Dbl target distance = half_field distance
 field_of S390xPLTRel32Dbl target distance = half_field distance
 field_of Abs8 target distance = target_field target
 
--- bytes with others in their place from an index on
-abbrev pub stored : List ℕ → ℕ → List ℕ → List ℕ
-stored bytes at field = take at bytes ++ (field ++ drop (at + length field) bytes)
-
--- bytes with a relocation's field filled
-abbrev pub fill : ℕ → ℕ → RelocEntry → List ℕ → List ℕ
-fill base symbol r bytes = stored bytes r.offset (field_of r.kind (target_of symbol r) (distance_of base symbol r))
-
 -- a symbol's address; 0 for one that has none, which linking refuses
 abbrev pub address_or_zero : Option ℕ → ℕ
 address_or_zero None = 0
 address_or_zero (Some address) = address
+
+-- the bytes that a relocation stores
+abbrev pub field : ℕ → Symbols → RelocEntry → List ℕ
+field base table r = let symbol = address_or_zero (address_of table r.name) in field_of r.kind (target_of symbol r) (distance_of base symbol r)
+
+-- bytes with others in their place from an index on
+abbrev pub stored : List ℕ → ℕ → List ℕ → List ℕ
+stored bytes at new = take at bytes ++ (new ++ drop (at + length new) bytes)
+
+-- bytes with a relocation's field filled
+abbrev pub fill : ℕ → ℕ → RelocEntry → List ℕ → List ℕ
+fill base symbol r bytes = stored bytes r.offset (field_of r.kind (target_of symbol r) (distance_of base symbol r))
 
 -- bytes with the relocations' fields filled, one after another
 abbrev pub filled : ℕ → Symbols → List RelocEntry → List ℕ → List ℕ

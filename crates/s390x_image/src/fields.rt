@@ -22,7 +22,7 @@ fn target(symbol: u64, reloc: RelocEntry) -> i128
 fn distance(base: u64, symbol: u64, reloc: RelocEntry) -> i128
     ensures { result ≡ distance_of base symbol reloc }
 {
-    i128::from(symbol) + i128::from(reloc.addend) - i128::from(base) - i128::from(reloc.offset)
+    target(symbol, reloc) - i128::from(base) - i128::from(reloc.offset)
 }
 
 /// A target as an address.

@@ -4,6 +4,7 @@
 pub mod error;
 mod fields;
 pub mod image;
+pub mod law;
 pub mod linking;
 pub mod symbols;
 
@@ -11,3 +12,6 @@ pub use error::LinkError;
 pub use image::Image;
 pub use linking::link;
 pub use symbols::SymbolTable;
+
+#[cfg(test)]
+mod tests;

@@ -36,6 +36,9 @@ pub fn link(
 ) -> Result<Image, LinkError>
     requires { All (LiesIn (length code.now.bytes.items)) code.now.relocs.items }
     ensures answer { MatchResult result (λ image. (link_cause code.now base symbols.now ≡ None) × (image.base ≡ base) × (image.bytes.items ≡ filled base symbols.now code.now.relocs.items code.now.bytes.items)) (λ e. (e ≡ LinkError.NoMemory) ⊎ (link_cause code.now base symbols.now ≡ Some e)) }
+    ensures size { IfOk result (λ image. length image.bytes.items ≡ length code.now.bytes.items) }
+    ensures others { IfOk result (λ image. (k : ℕ) → All (IsOutside k) code.now.relocs.items → slice_index image.bytes.items k ≡ slice_index code.now.bytes.items k) }
+    ensures unlinked { IfOk result (λ image. code.now.relocs.items ≡ [] → image.bytes.items ≡ code.now.bytes.items) }
 {
     check_base(base, code.alignment, code.bytes.len())?;
     let mut bytes = Vec::new(alloc);

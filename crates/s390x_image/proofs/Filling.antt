@@ -1,1 +1,0 @@
--- Filling fields one after another.
