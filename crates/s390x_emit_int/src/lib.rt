@@ -1,0 +1,5 @@
+//! Emission: from typed instructions to finished code.
+#![tactic(auto)]
+
+pub mod causes;
+
