@@ -1,8 +1,7 @@
 -- Data accesses: what an instruction reads or stores, when that faults, and what is stored. Each access is one step of the machine.
-use Rattle.std.specs.Prelude.{◌≡◌, ℕ, ◌%◌, Option, Some, None, Bool, true, false, ◌==◌, not, ◌&&◌, if◌then◌else◌}
+use Rattle.std.specs.Prelude.{ℕ, ◌%◌, Option, Some, None, Bool, true, false, ◌==◌, not, ◌&&◌, if◌then◌else◌}
 use Rattle.s390x_operations.specs.State.{Memory, number_at, reaches, CodeImage, overlaps, Deposit}
-use Rattle.s390x_operations.specs.Bits.{bytes}
-use Rattle.s390x_operations.specs.Values.{value, width_of}
+use Rattle.s390x_operations.specs.Values.{value}
 use Rattle.s390x_operations.specs.declared.size.Size.{Size}
 use Rattle.s390x_operations.specs.declared.operator.Operator.{Operator}
 use Rattle.s390x_operations.specs.declared.stop.StopKind.{StopKind}

@@ -1,12 +1,12 @@
 -- The operators on bits.
-use Rattle.std.specs.Prelude.{◌≡◌, ℕ, zero, suc, ◌+◌, ◌-◌, ◌*◌, ◌/◌, ◌%◌, ◌^◌, ◌≤◌, Bool, true, false, if◌then◌else◌, ◌==◌, nat_lt, nat_le, bit_and, bit_or, bit_xor, count_ones}
+use Rattle.std.specs.Prelude.{ℕ, zero, suc, ◌+◌, ◌-◌, ◌*◌, ◌/◌, ◌%◌, ◌^◌, ◌≤◌, if◌then◌else◌, ◌==◌, nat_lt, nat_le, bit_and, bit_or, bit_xor, count_ones}
 use Rattle.std.specs.Int.{int_shr, w32, w64, rotate_left, leading_zeros}
-use Rattle.s390x_operations.specs.Numbers.{whole, half, signed, fits, low}
+use Rattle.s390x_operations.specs.Numbers.{whole, signed, low}
 use Rattle.s390x_operations.specs.Signed.{code_s}
 use Rattle.s390x_operations.specs.declared.size.Size.{Size}
 use Rattle.s390x_operations.specs.declared.size.Size.TheVariants.{Word, Doubleword}
 use Rattle.s390x_operations.specs.declared.stop.ConditionCode.{ConditionCode}
-use Rattle.s390x_operations.specs.declared.stop.ConditionCode.TheVariants.{Code0, Code1, Code2, Code3}
+use Rattle.s390x_operations.specs.declared.stop.ConditionCode.TheVariants.{Code0, Code1}
 use Rattle.s390x_operations.specs.declared.operator.BitOperator.{BitOperator}
 use Rattle.s390x_operations.specs.declared.operator.BitOperator.TheVariants.{And, Or, Xor, NotAnd, NotOr, NotXor, AndNot, OrNot}
 use Rattle.s390x_lanes.specs.declared.operation.ShiftOperator.{ShiftOperator}

@@ -1,19 +1,17 @@
 -- What instructions do, as one relation from the values in an operation to the allowed outcomes.
 -- Both the machine's instructions and the typed ones are mapped to operations, so both have this meaning.
-use Rattle.std.specs.Prelude.{◌≡◌, ℕ, zero, suc, ◌+◌, ◌-◌, ◌*◌, ◌/◌, ◌%◌, ◌^◌, ◌<◌, ◌⊎◌, Bool, true, false, ◌==◌, if◌then◌else◌, bit_and, Option, Some, None, IsTrue, List, slice_index}
+use Rattle.std.specs.Prelude.{◌≡◌, ℕ, zero, suc, ◌+◌, ◌*◌, ◌/◌, ◌%◌, ◌^◌, ◌<◌, ◌⊎◌, Bool, true, false, ◌==◌, if◌then◌else◌, bit_and, Option, Some, None, IsTrue, List, slice_index}
 use Rattle.s390x_base.specs.Conditions.{selects}
 use Rattle.s390x_lanes.specs.Relation.{Gives, code_of as vector_code_of, divides_by_zero, division_overflows}
-use Rattle.s390x_lanes.specs.declared.operation.Signedness.{Signedness}
 use Rattle.s390x_operations.specs.Numbers.{whole, signed}
 use Rattle.s390x_operations.specs.Unsigned.{compared, wide_product, signed_division, unsigned_division}
 use Rattle.s390x_operations.specs.Bits.{bytes, leftmost}
-use Rattle.s390x_operations.specs.State.{Registers, Memory, Core, CodeImage, put, put_vector, coded, number_at, sum64, deposited}
+use Rattle.s390x_operations.specs.State.{Registers, Memory, Core, put, put_vector, coded, number_at, sum64, deposited}
 use Rattle.s390x_operations.specs.Values.{value, code_of_value, taken, width_of}
 use Rattle.s390x_operations.specs.Vectors.{layout_bytes, loaded, vector_stored}
-use Rattle.s390x_operations.specs.Access.{Access, Untouched, Reads, Stores, Locks, Change, Swaps, Operates, fault, deposit}
+use Rattle.s390x_operations.specs.Access.{Access, Untouched, Reads, Stores, Locks, Swaps, Operates, fault, deposit}
 use Rattle.s390x_operations.specs.declared.size.Size.{Size}
 use Rattle.s390x_operations.specs.declared.size.Size.TheVariants.{Word, Doubleword}
-use Rattle.s390x_operations.specs.declared.size.Width.{Width}
 use Rattle.s390x_operations.specs.declared.stop.ConditionCode.{ConditionCode}
 use Rattle.s390x_operations.specs.declared.stop.ConditionCode.TheVariants.{Code0, Code1, Code2, Code3}
 use Rattle.s390x_operations.specs.declared.stop.StopKind.{StopKind}
@@ -22,7 +20,7 @@ use Rattle.s390x_operations.specs.declared.operand.Source.{Source}
 use Rattle.s390x_operations.specs.declared.operand.Source.TheVariants.{Value, Memory as InMemory, AlignedMemory}
 use Rattle.s390x_operations.specs.declared.operand.Pair.{Pair}
 use Rattle.s390x_operations.specs.declared.effect.Effect.{Effect}
-use Rattle.s390x_operations.specs.declared.effect.Effect.TheVariants.{Nothing, Compute, Test, Compare, CompareAndTrap, MultiplyPair, DividePair, DivideLogicalPair, FindLeftmostOne, Store, LoadAndOperate, CompareAndSwap, LoadMultiple, StoreMultiple, PutAny, ComputeVector, PutVector, LoadVector, StoreVector}
+use Rattle.s390x_operations.specs.declared.effect.Effect.TheVariants.{Compute, Test, Compare, CompareAndTrap, MultiplyPair, DividePair, DivideLogicalPair, FindLeftmostOne, Store, LoadAndOperate, CompareAndSwap, LoadMultiple, StoreMultiple, PutAny, ComputeVector, PutVector, LoadVector, StoreVector}
 use Rattle.s390x_operations.specs.declared.effect.CodeRule.{CodeRule}
 use Rattle.s390x_operations.specs.declared.effect.CodeRule.TheVariants.{Kept, Set, Unstated}
 use Rattle.s390x_operations.specs.declared.effect.Operation.{Operation}

@@ -1,9 +1,9 @@
 -- The operators on numbers without signs, comparisons, and pairs.
-use Rattle.std.specs.Prelude.{◌≡◌, ℕ, ◌+◌, ◌-◌, ◌*◌, ◌/◌, ◌%◌, ◌<◌, Bool, true, false, if◌then◌else◌, ◌&&◌, ◌==◌, nat_lt, ℤ, pos, neg_ℤ, ◌*ℤ◌, int_lt, unsigned_abs, int_div, int_rem, Option, Some, None}
+use Rattle.std.specs.Prelude.{ℕ, ◌+◌, ◌-◌, ◌*◌, ◌/◌, ◌%◌, ◌<◌, if◌then◌else◌, ◌==◌, nat_lt, ℤ, pos, ◌*ℤ◌, int_lt, unsigned_abs, int_div, int_rem, Option, Some, None}
 use Rattle.std.specs.Int.{int_shr}
-use Rattle.s390x_operations.specs.Numbers.{whole, half, signed, fits, low}
+use Rattle.s390x_operations.specs.Numbers.{whole, signed, fits, low}
 use Rattle.s390x_operations.specs.declared.size.Size.{Size}
-use Rattle.s390x_operations.specs.declared.size.Size.TheVariants.{Word, Doubleword}
+use Rattle.s390x_operations.specs.declared.size.Size.TheVariants.{Doubleword}
 use Rattle.s390x_operations.specs.declared.stop.ConditionCode.{ConditionCode}
 use Rattle.s390x_operations.specs.declared.stop.ConditionCode.TheVariants.{Code0, Code1, Code2, Code3}
 use Rattle.s390x_operations.specs.declared.operator.LogicalOperator.{LogicalOperator}

@@ -1,5 +1,5 @@
 -- The values and condition codes of operators, and the values of operands.
-use Rattle.std.specs.Prelude.{◌≡◌, ℕ, zero, suc, ◌+◌, ◌-◌, ◌*◌, ◌/◌, ◌%◌, ◌^◌, ◌<◌, Bool, true, false, if◌then◌else◌, ◌==◌, count_ones}
+use Rattle.std.specs.Prelude.{ℕ, ◌%◌, Bool, if◌then◌else◌, count_ones}
 use Rattle.std.specs.Int.{w64, leading_zeros, trailing_zeros}
 use Rattle.s390x_operations.specs.Signed.{signed_value, signed_code}
 use Rattle.s390x_operations.specs.Unsigned.{logical_value, logical_code}

@@ -1,5 +1,5 @@
 -- Vector operands in memory (Principles of Operation, chapter 21, "Vector support instructions").
-use Rattle.std.specs.Prelude.{ℕ, ◌-◌, ◌*◌, ◌/◌, ◌==◌, if◌then◌else◌, Bool, true, false}
+use Rattle.std.specs.Prelude.{ℕ, ◌-◌, ◌/◌, ◌==◌, if◌then◌else◌, Bool, true, false}
 use Rattle.s390x_lanes.specs.Size.{bits, lane_count}
 use Rattle.s390x_lanes.specs.Lanes.{lane, from_lanes}
 use Rattle.s390x_lanes.specs.declared.size.ElementSize.{ElementSize}

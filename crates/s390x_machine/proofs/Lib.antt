@@ -1,0 +1,11 @@
+pub mod Addresses
+pub mod Decoding
+pub mod Fetching
+pub mod Frame
+pub mod Induction
+pub mod Simulation
+pub mod Standing
+pub mod Rows
+pub mod Branches
+pub mod Example
+pub mod Instructions

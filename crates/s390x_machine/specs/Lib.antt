@@ -1,0 +1,9 @@
+pub mod Example
+pub mod Fetch
+pub mod Forms
+pub mod Layout
+pub mod Machine
+pub mod Match
+pub mod Meanings
+pub mod Placed
+pub mod Typed
