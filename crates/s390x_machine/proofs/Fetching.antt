@@ -37,7 +37,7 @@ is_within_at image i lt =
     ap₂ (λ x y. x && y) (le-leb image.base (image.base + i) a) (lt-ltb (image.base + i) (image.base + length image.bytes) b)
 
 -- the bytes from a place on are those of a list
-bytes_are : (f : ℕ → ℕ) (a i : ℕ) (xs : List ℕ) → ((j : ℕ) → j < length xs → f (sum64 a (i + j)) ≡ get_or xs j 0) → bytes_from f a i (length xs) ≡ xs
+pub bytes_are : (f : ℕ → ℕ) (a i : ℕ) (xs : List ℕ) → ((j : ℕ) → j < length xs → f (sum64 a (i + j)) ≡ get_or xs j 0) → bytes_from f a i (length xs) ≡ xs
 bytes_are f a i [] h = refl
 bytes_are f a i (x ∷ xs) h =
     let e : i + 0 ≡ i = omega arith in

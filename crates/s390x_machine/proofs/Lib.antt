@@ -5,6 +5,8 @@ pub mod Frame
 pub mod Induction
 pub mod Simulation
 pub mod Standing
+pub mod Reaching
+pub mod Reading
 pub mod Rows
 pub mod Branches
 pub mod Example

@@ -3,6 +3,8 @@ use Rattle.std.specs.Prelude.{◌≡◌, ℕ, ◌%◌, IsTrue, List}
 use Rattle.s390x_format.specs.declared.decoder.Decoded.{Decoded}
 use Rattle.s390x_format.specs.Fetch.{IsFetch}
 use Rattle.s390x_format.specs.Rows.{fetch_length_of}
+pub use Rattle.s390x_machine.specs.declared.fetch.Fetched.{Fetched}
+pub use Rattle.s390x_machine.specs.declared.fetch.Fetched.TheVariants.{Misplaced, Missing, Unknown, Found}
 use Rattle.s390x_operations.specs.State.{Memory, bytes_at, reaches}
 
 -- how many bytes the first one tells
@@ -12,13 +14,6 @@ length_at m place = fetch_length_of (m.get place)
 -- the instruction's bytes
 abbrev pub instruction_bytes : Memory → ℕ → List ℕ
 instruction_bytes m place = bytes_at m.get place (length_at m place)
-
--- an odd place; a byte that isn't accessible; bytes of no machine row; or a row with its fields
-pub data Fetched : Type 0 where
-  Misplaced : Fetched
-  Missing : Fetched
-  Unknown : Fetched
-  Found : Decoded → Fetched
 
 -- the instruction's bytes are accessible, the first of them to begin with
 abbrev pub IsReached : Memory → ℕ → Type 0

@@ -6,4 +6,5 @@ pub mod Machine
 pub mod Match
 pub mod Meanings
 pub mod Placed
+pub mod State
 pub mod Typed

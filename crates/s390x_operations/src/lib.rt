@@ -4,6 +4,7 @@
 pub mod effect;
 pub mod operand;
 pub mod operator;
+pub mod signed;
 pub mod size;
 pub mod stop;
 
