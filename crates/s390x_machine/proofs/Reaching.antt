@@ -1,5 +1,5 @@
 -- Accessible bytes, one after another.
-use Rattle.std.proofs.Common.{◌≡◌, ℕ, zero, suc, ◌+◌, ◌<◌, Bool, true, false, ◌&&◌, IsTrue, inl, inr, refl, sym, ap, ◌∙◌, arith, add-one, subst, true≢false}
+use Rattle.std.proofs.Common.{◌≡◌, ℕ, zero, suc, ◌+◌, ◌<◌, Bool, true, ◌&&◌, IsTrue, inl, inr, refl, arith, add-one, subst}
 use Rattle.std.proofs.lemmas.Bool.{cases_lt, and_parts}
 use Rattle.s390x_operations.specs.State.{sum64, reaches}
 

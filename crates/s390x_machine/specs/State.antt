@@ -1,6 +1,6 @@
 -- A machine of the program as a state.
 use Rattle.std.specs.Prelude.{ℕ, Bool, slice_index}
-use Rattle.s390x_operations.specs.State.{Registers, Memory, Core, State}
+use Rattle.s390x_operations.specs.State.{Registers, Memory, State}
 use Rattle.s390x_operations.specs.Effects.{code_numbered}
 use Rattle.s390x_operations.specs.declared.stop.ConditionCode.TheVariants.{Code0}
 use Rattle.s390x_machine.specs.declared.machine.Machine.{Machine}

@@ -1,8 +1,7 @@
-use Rattle.std.proofs.Common.{rules, ◌≡◌, ◌<◌, ◌^◌, pos, neg_ℤ, ◌≤ℤ◌, ◌<ℤ◌, ℤ, ◌*ℤ◌, FitsSigned, arith, ap, ◌≤◌, lit<}
+use Rattle.std.proofs.Common.{◌^◌, pos, neg_ℤ, ◌≤ℤ◌, ◌<ℤ◌, ℤ, ◌*ℤ◌, FitsSigned, arith, ◌≤◌, lit<}
 use Rattle.std.specs.Prelude.{unsigned_abs}
 use Rattle.std.specs.Int.{w128}
 use Rattle.std.proofs.lemmas.Int.{ints, to_z-of_z, fits_signed_mul}
-use Rattle.s390x_operations.specs.Signed.{exact}
 use Rattle.s390x_operations.proofs.signed.exact.Goals as goal
 
 abs_bound : (z : ℤ) → neg_ℤ (pos (2 ^ 63)) ≤ℤ z → z <ℤ pos (2 ^ 63) → unsigned_abs z ≤ 2 ^ 63

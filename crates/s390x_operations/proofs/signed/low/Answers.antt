@@ -1,8 +1,7 @@
-use Rattle.std.proofs.Common.{rules, arith, FitsSigned, ap, ◌∙◌, ◌≡◌, ℤ, pos}
+use Rattle.std.proofs.Common.{rules, FitsSigned, ap, ◌∙◌}
 use Rattle.std.specs.Prelude.{unsigned_abs}
 use Rattle.std.specs.Int.{w128, int_rem_euclid}
-use Rattle.std.proofs.lemmas.Int.{ints, to_z-of_z}
-use Rattle.s390x_operations.specs.Numbers.{whole}
+use Rattle.std.proofs.lemmas.Int.{to_z-of_z}
 use Rattle.s390x_operations.proofs.signed.low.Goals as goal
 
 pub returns-clause-value : goal.returns-clause-value
