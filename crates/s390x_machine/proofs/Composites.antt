@@ -1,5 +1,5 @@
 -- Steps of several rows, and steps that end a run.
-use Rattle.std.proofs.Common.{◌≡◌, ℕ, suc, ◌≤◌, inl, inr, List, [], ◌∷◌, ◌++◌, length, Option, Some, None, Bool, true, false, cond, not, refl, sym, ap, ◌∙◌, subst, arith, length-append}
+use Rattle.std.proofs.Common.{◌≡◌, ℕ, suc, ◌≤◌, inl, inr, List, [], ◌∷◌, ◌++◌, length, Some, None, Bool, true, false, cond, not, refl, sym, ap, ◌∙◌, subst, arith, length-append}
 use Rattle.s390x_base.specs.declared.trap.TrapKind.{TrapKind}
 use Rattle.s390x_lanes.specs.declared.operation.Signedness.{Signedness}
 use Rattle.s390x_operations.specs.State.{Registers, Memory, Core, State, coded, put, Write, written, sum64, Lies, deposited}
@@ -9,7 +9,6 @@ use Rattle.s390x_operations.specs.Effects.{access, refused, MayRefuse, is_select
 use Rattle.s390x_operations.specs.declared.size.Size.{Size}
 use Rattle.s390x_operations.specs.declared.size.Width.{Width}
 use Rattle.s390x_operations.specs.declared.operand.Source.TheVariants.{Value}
-use Rattle.s390x_operations.specs.declared.operand.Operand.{Operand}
 use Rattle.s390x_operations.specs.declared.operator.Operator.{Operator}
 use Rattle.s390x_operations.specs.declared.effect.Effect.TheVariants.{Compute}
 use Rattle.s390x_operations.specs.declared.effect.CodeRule.TheVariants.{Kept}
@@ -18,10 +17,10 @@ use Rattle.s390x_operations.specs.declared.stop.StopKind.{StopKind}
 use Rattle.s390x_operations.specs.declared.stop.StopKind.TheVariants.{Operation as OperationStop}
 use Rattle.s390x_machine.specs.declared.meaning.Action.{Action}
 use Rattle.s390x_machine.specs.declared.meaning.Action.TheVariants.{Perform, Branch, BranchAndSave}
-use Rattle.s390x_machine.specs.Machine.{Event, Went, Stopped, Acts, MachineStep, Turn, before, Takes, Run, all_writes}
+use Rattle.s390x_machine.specs.Machine.{Event, Went, Stopped, Acts, MachineStep, Turn, before, Run, all_writes}
 use Rattle.s390x_machine.specs.Forms.{with_rule, PerformsWhere, TrapsAlways, TrapsWhere, Calls}
 use Rattle.s390x_machine.specs.Typed.{Trapped, Called, At, Ended, FormStep, WhereStep, TypedStep, form_at}
-use Rattle.s390x_machine.specs.Match.{start, code_at_place, Runs, StepRuns}
+use Rattle.s390x_machine.specs.Match.{code_at_place, Runs, StepRuns}
 use Rattle.s390x_machine.specs.Layout.{Layout, place, InStep}
 use Rattle.s390x_machine.proofs.Frame.{lies_written}
 use Rattle.s390x_machine.proofs.Simulation.{RowAt, mid, Inside, Simulates, at_start, peel, Turned, turned, further, resume, branch, done, ended, DoesAs, acts_as}

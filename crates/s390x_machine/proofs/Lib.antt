@@ -3,6 +3,7 @@ pub mod Composites
 pub mod Decoding
 pub mod Fetching
 pub mod Frame
+pub mod Functions
 pub mod Induction
 pub mod Simulation
 pub mod Standing

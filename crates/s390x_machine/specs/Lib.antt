@@ -1,6 +1,7 @@
 pub mod Example
 pub mod Fetch
 pub mod Forms
+pub mod Functions
 pub mod Layout
 pub mod Machine
 pub mod Match

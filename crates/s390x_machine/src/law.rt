@@ -1,11 +1,15 @@
 //! The laws of the typed steps and the machine.
-ghost use Rattle.std.specs.Prelude.{◌≡◌, ℕ, Some, slice_get};
+ghost use Rattle.std.specs.Prelude.{◌≡◌, ℕ, List, Option, Some, slice_get};
+ghost use Rattle.s390x_base.specs.declared.trap.TrapKind.{TrapKind};
+ghost use Rattle.s390x_steps.specs.Tree.{Tree};
+ghost use Rattle.s390x_operations.specs.declared.stop.StopKind.{StopKind};
+ghost use Rattle.s390x_machine.specs.Functions.{function_layout, StandsAsCode};
 ghost use Rattle.s390x_steps.specs.Steps.{Step};
 ghost use Rattle.s390x_machine.specs.Layout.{Layout};
 ghost use Rattle.s390x_machine.specs.Placed.{AllPlaced, IsBlock};
 ghost use Rattle.s390x_machine.specs.Match.{StepRuns, StepHolds, EveryRun, EveryBlockRun};
 ghost use Rattle.s390x_machine.specs.Fetch.{Fetched, Fetches};
-ghost use Rattle.s390x_operations.specs.State.{Memory};
+ghost use Rattle.s390x_operations.specs.State.{CodeImage, Memory};
 ghost use Rattle.s390x_machine.specs.Example.{LoopRuns};
 
 /// Wherever a step's bytes lie in an image at their place, every machine run from there is allowed by at most that step, or begins with a run of at most four turns that is that step.
@@ -16,6 +20,11 @@ pub fn each_step()
 /// The same with all that the step stores and every stop told.
 pub fn each_step_tells()
     ensures { (L : Layout) → AllPlaced L → (k : ℕ) (s : Step) → slice_get L.steps k ≡ Some s → StepRuns L k }
+{}
+
+/// Where an image begins with a function's code, and emission lets each step pass, the premises hold of the function's layout.
+pub fn code_is_placed()
+    ensures { (ts : List Tree) (image : CodeImage) (code_at : ℕ → StopKind → Option TrapKind) → StandsAsCode ts image code_at → AllPlaced (function_layout ts image code_at) }
 {}
 
 /// Every machine run from a step's place, in every state in which the image lies in memory and under every list of others' writes, is allowed by the typed steps.
