@@ -45,7 +45,7 @@ cut P k (x ∷ ss) (suc j) s e =
 
 -- ---- how many steps there are
 
-count_of : (k after : ℕ) (t : Tree) → length (steps_of k after t) ≡ step_count t
+pub count_of : (k after : ℕ) (t : Tree) → length (steps_of k after t) ≡ step_count t
 count_of k after empty = refl
 count_of k after (leaf i rest) = omega (arith, count_of (k + 1) after rest)
 count_of k after (looped mask members rest) =

@@ -1,4 +1,5 @@
 pub mod Addresses
+pub mod Checked
 pub mod Composites
 pub mod Decoding
 pub mod Fetching

@@ -1,12 +1,14 @@
 //! The laws of the typed steps and the machine.
-ghost use Rattle.std.specs.Prelude.{◌≡◌, ℕ, List, Option, Some, slice_get};
+ghost use Rattle.std.specs.Prelude.{◌≡◌, ℕ, List, length, Option, Some, None, slice_get};
 ghost use Rattle.s390x_base.specs.declared.trap.TrapKind.{TrapKind};
 ghost use Rattle.s390x_steps.specs.Tree.{Tree};
 ghost use Rattle.s390x_operations.specs.declared.stop.StopKind.{StopKind};
 ghost use Rattle.s390x_machine.specs.Functions.{function_layout, StandsAsCode};
-ghost use Rattle.s390x_steps.specs.Steps.{Step};
+ghost use Rattle.s390x_steps.specs.Causes.{blocks_cause};
+ghost use Rattle.s390x_steps.specs.Ranges.{BlocksInRange};
+ghost use Rattle.s390x_steps.specs.Steps.{Step, function_steps};
 ghost use Rattle.s390x_machine.specs.Layout.{Layout};
-ghost use Rattle.s390x_machine.specs.Placed.{AllPlaced, IsBlock};
+ghost use Rattle.s390x_machine.specs.Placed.{AllPlaced, IsBlock, IsFine};
 ghost use Rattle.s390x_machine.specs.Match.{StepRuns, StepHolds, EveryRun, EveryBlockRun};
 ghost use Rattle.s390x_machine.specs.Fetch.{Fetched, Fetches};
 ghost use Rattle.s390x_operations.specs.State.{CodeImage, Memory};
@@ -25,6 +27,11 @@ pub fn each_step_tells()
 /// Where an image begins with a function's code, and emission lets each step pass, the premises hold of the function's layout.
 pub fn code_is_placed()
     ensures { (ts : List Tree) (image : CodeImage) (code_at : ℕ → StopKind → Option TrapKind) → StandsAsCode ts image code_at → AllPlaced (function_layout ts image code_at) }
+{}
+
+/// Emission lets each step pass of a function that has no cause of refusal, with n labels in use.
+pub fn checked_steps_are_fine()
+    ensures { (ts : List Tree) (n : ℕ) (image : CodeImage) (code_at : ℕ → StopKind → Option TrapKind) → blocks_cause (length ts) n ts ≡ None → BlocksInRange ts → (k : ℕ) (s : Step) → slice_get (function_steps ts) k ≡ Some s → IsFine (function_layout ts image code_at) s }
 {}
 
 /// Every machine run from a step's place, in every state in which the image lies in memory and under every list of others' writes, is allowed by the typed steps.
