@@ -2,5 +2,5 @@ pub mod Powers
 pub mod Building
 pub mod Splitting
 pub mod Counting
-pub mod Tests
+pub mod LaneTests
 pub mod Signed

@@ -1,22 +1,22 @@
 -- What the bits that the code computes with say of the elements' numbers.
-use Rattle.std.proofs.Common.{◌≡◌, ℕ, zero, suc, ◌+◌, ◌-◌, ◌*◌, ◌/◌, ◌%◌, ◌^◌, ◌<◌, ◌≤◌, refl, sym, ap, ap₂, ◌∙◌, arith, ℤ, pos, negsuc, nat_lt, true, false, inl, inr, ◌==◌, ◌&&◌, if◌then◌else◌}
-use Rattle.std.specs.Prelude.{int_lt, ◌≤ℤ◌, ◌-ℤ◌}
-use Rattle.std.specs.Int.{int_max, int_min, int_div_euclid}
+use Rattle.std.proofs.Common.{◌≡◌, ℕ, zero, suc, ◌+◌, ◌-◌, ◌*◌, ◌/◌, ◌%◌, ◌^◌, ◌<◌, ◌≤◌, refl, sym, ap, ◌∙◌, arith, ℤ, pos, negsuc, nat_lt, inl, inr, ◌==◌, if◌then◌else◌}
+use Rattle.std.specs.Prelude.{◌≤ℤ◌}
+use Rattle.std.specs.Int.{int_div_euclid}
 use Rattle.std.specs.Int.RustNames.{int_div, int_rem, unsigned_abs}
 use lib.IntN.{◌*ℤ◌, ◌+ℤ◌, neg_ℤ}
-use Rattle.std.proofs.Math.Nat.{mul_comm, mul-add, add-mul-mod_self_right, div-le_self, div-one, mod-eq_of_lt, mod-le}
-use Rattle.std.proofs.Math.Pow.{mod-mod-pow, pow-add}
-use Rattle.std.proofs.lemmas.Nat.{pow_pos, shr_le, div_below, mod_below}
+use Rattle.std.proofs.Math.Nat.{mul_comm, mul-add, add-mul-mod_self_right, div-le_self, mod-eq_of_lt, mod-le}
+use Rattle.std.proofs.Math.Pow.{pow-add}
+use Rattle.std.proofs.lemmas.Nat.{pow_pos, shr_le}
 use Rattle.std.proofs.lemmas.Int.{int_rem_euclid_is, ints}
 use Rattle.std.proofs.lemmas.Bool.{cases_lt}
 use Rattle.std.proofs.lemmas.Bool.Decides.{nat_tests}
 use Rattle.s390x_lanes.specs.declared.operation.Signedness.TheVariants.{Unsigned, Signed}
 use Rattle.s390x_lanes.specs.declared.operation.ShiftOperator.TheVariants.{ShiftRightArithmetic}
 use Rattle.s390x_lanes.specs.declared.operation.Division.TheVariants.{Quotient, Remainder}
-use Rattle.s390x_lanes.specs.Numbers.{number, wrapped, saturated, least, greatest}
+use Rattle.s390x_lanes.specs.Numbers.{number, wrapped, saturated}
 use Rattle.s390x_lanes.specs.Encoding.{biased, sign_extended, negated, magnitude, rounded_mean, shifted_right, saturated_bits, quotient_bits, remainder_bits}
-use Rattle.s390x_lanes.specs.Elements.{is_lower, average, shifted, product, divided, quotient_overflows, widened, immediate}
-use Rattle.s390x_lanes.proofs.Powers.{pow_step, pow_le, product_lt}
+use Rattle.s390x_lanes.specs.Elements.{is_lower, average, shifted, divided, immediate}
+use Rattle.s390x_lanes.proofs.Powers.{pow_step, pow_le}
 
 -- ---- order
 pub is_lower-biased : (w x y : ℕ) → 0 < w → x < 2 ^ w → y < 2 ^ w → nat_lt (biased w x) (biased w y) ≡ is_lower Signed w x y

@@ -6,7 +6,7 @@ use Rattle.std.specs.Int.RustNames.{unsigned_abs, int_div, int_rem}
 use lib.Count.{count_leading_zeros, count_trailing_zeros}
 use Rattle.s390x_lanes.specs.Numbers.{number, wrapped, saturated, greatest}
 use Rattle.s390x_lanes.specs.declared.operation.Signedness.{Signedness}
-use Rattle.s390x_lanes.specs.declared.operation.Signedness.TheVariants.{Unsigned, Signed}
+use Rattle.s390x_lanes.specs.declared.operation.Signedness.TheVariants.{Signed}
 use Rattle.s390x_lanes.specs.declared.operation.BinaryOperator.{BinaryOperator}
 use Rattle.s390x_lanes.specs.declared.operation.BinaryOperator.TheVariants.{Add, Sub, Mul, AddCarryOut, SubBorrowOut, Max, Min, Average, And, Or, Xor, NotAnd, NotOr, NotXor, AndNot, OrNot}
 use Rattle.s390x_lanes.specs.declared.operation.UnaryOperator.{UnaryOperator}

@@ -1,6 +1,6 @@
 -- Which operation an opcode, masks and an immediate are. The masks are the masks and 8-bit immediates of the row's format in
 -- the order of its operands, and the immediate is its 16-bit one, or the amount of an element shift; what a format lacks is 0.
-use Rattle.std.specs.Prelude.{◌≡◌, ℕ, ◌/◌, ◌%◌, ◌^◌, Bool, true, false, nat_lt, nat_le, ◌==◌, ◌&&◌, List, [], ◌∷◌, slice_index, Option, None, Some, ℤ, pos, negsuc, if◌then◌else◌}
+use Rattle.std.specs.Prelude.{ℕ, ◌/◌, ◌%◌, ◌^◌, Bool, true, false, nat_lt, nat_le, ◌==◌, ◌&&◌, List, [], ◌∷◌, slice_index, Option, None, Some, ℤ, pos, negsuc, if◌then◌else◌}
 use Rattle.s390x_lanes.specs.Size.{bits, lane_count, size_of_code, narrower_of_code}
 use Rattle.s390x_lanes.specs.declared.size.ElementSize.TheVariants.{Quadword}
 use Rattle.s390x_lanes.specs.declared.operation.VectorOperation.{VectorOperation}
@@ -95,8 +95,8 @@ with_immediate row masks (Some k) = row_operation row masks k
 abbrev pub operation_in : List OpcodeRow → ℕ → List ℕ → ℤ → Option VectorOperation
 operation_in rows opcode masks imm = with_immediate (row_in rows opcode) masks (immediate_bits imm)
 
--- the operation with an opcode, masks and an immediate
-abbrev pub operation_of : ℕ → List ℕ → ℤ → Option VectorOperation
+-- the operation with an opcode, masks and an immediate; unfoldable, so that goals don't hold the table
+unfoldable pub operation_of : ℕ → List ℕ → ℤ → Option VectorOperation
 operation_of opcode masks imm = operation_in OPCODES opcode masks imm
 
 -- the stepper computes it: not Blend, Evaluate or a high product of 128-bit elements

@@ -1,6 +1,6 @@
 -- The relation of an operation: from its operands' values to the allowed results and condition codes, and where it may stop.
 -- A result that an operation leaves free is any value of 128 bits.
-use Rattle.std.specs.Prelude.{◌≡◌, ℕ, ◌%◌, ◌^◌, ◌<◌, Bool, true, false, nat_lt, ◌==◌, ◌&&◌, ◌||◌, not, Option, None, Some, IsTrue, if◌then◌else◌}
+use Rattle.std.specs.Prelude.{◌≡◌, ℕ, ◌%◌, ◌^◌, ◌<◌, Bool, true, false, ◌==◌, ◌||◌, not, Option, None, Some, IsTrue, if◌then◌else◌}
 use Rattle.s390x_lanes.specs.Size.{bits, lane_count}
 use Rattle.s390x_lanes.specs.Lanes.{lane, some_lane, every_lane}
 use Rattle.s390x_lanes.specs.Elements.{is_lower, compares, quotient_overflows}

@@ -11,7 +11,7 @@ use crate::number::{bias, lower};
 use crate::operation::{BinaryOperator, Comparison, Signedness};
 
 /// `x - y`, wrapping.
-pub fn subtract(w: u32, x: u128, y: u128) -> u128
+pub(crate) fn subtract(w: u32, x: u128, y: u128) -> u128
     requires low { 0 < w }
     requires high { w ≤ 128 }
     requires x_fits { x < 2 ^ w }
@@ -23,7 +23,7 @@ pub fn subtract(w: u32, x: u128, y: u128) -> u128
 }
 
 /// The average of two unsigned numbers, rounded up.
-pub fn mean(w: u32, x: u128, y: u128) -> u128
+pub(crate) fn mean(w: u32, x: u128, y: u128) -> u128
     requires low { 0 < w }
     requires high { w ≤ 128 }
     requires x_fits { x < 2 ^ w }
@@ -35,7 +35,7 @@ pub fn mean(w: u32, x: u128, y: u128) -> u128
 }
 
 /// The average, rounded up.
-pub fn average(sign: Signedness, w: u32, x: u128, y: u128) -> u128
+pub(crate) fn average(sign: Signedness, w: u32, x: u128, y: u128) -> u128
     requires low { 0 < w }
     requires high { w ≤ 128 }
     requires x_fits { x < 2 ^ w }
@@ -50,7 +50,7 @@ pub fn average(sign: Signedness, w: u32, x: u128, y: u128) -> u128
 }
 
 /// The carry out of `x + y`.
-pub fn carry(w: u32, x: u128, y: u128) -> u128
+pub(crate) fn carry(w: u32, x: u128, y: u128) -> u128
     requires low { 0 < w }
     requires high { w ≤ 128 }
     requires x_fits { x < 2 ^ w }
@@ -61,7 +61,7 @@ pub fn carry(w: u32, x: u128, y: u128) -> u128
 }
 
 /// An operator on two elements.
-pub fn binary(operator: BinaryOperator, w: u32, x: u128, y: u128) -> u128
+pub(crate) fn binary(operator: BinaryOperator, w: u32, x: u128, y: u128) -> u128
     requires low { 0 < w }
     requires high { w ≤ 128 }
     requires x_fits { x < 2 ^ w }
@@ -91,7 +91,7 @@ pub fn binary(operator: BinaryOperator, w: u32, x: u128, y: u128) -> u128
 }
 
 /// Whether a comparison holds.
-pub fn compare(comparison: Comparison, w: u32, x: u128, y: u128) -> bool
+pub(crate) fn compare(comparison: Comparison, w: u32, x: u128, y: u128) -> bool
     requires low { 0 < w }
     requires high { w ≤ 128 }
     requires x_fits { x < 2 ^ w }

@@ -14,31 +14,41 @@ use crate::products::overflows;
 use crate::size::ElementSize;
 
 /// Whether some lanes compare.
-#[tactic(auto, using(crate::proofs::Tests::some_none, crate::proofs::Tests::some_more))]
-pub fn some_compare(comparison: Comparison, size: ElementSize, x: u128, y: u128) -> bool
+#[tactic(auto, using(crate::proofs::LaneTests::some_none, crate::proofs::LaneTests::some_more))]
+pub(crate) fn some_compare(comparison: Comparison, size: ElementSize, x: u128, y: u128) -> bool
     ensures { result ≡ some_lane (lane_count size) (lane_compares comparison (bits size) x y) }
 {
     let mut some = false;
     for i in 0..size.lane_count() {
-        some |= compare(comparison, size.bits(), element(size, x, i), element(size, y, i));
+        some |= compare(
+            comparison,
+            size.bits(),
+            element(size, x, i),
+            element(size, y, i),
+        );
     }
     some
 }
 
 /// Whether all lanes compare.
-#[tactic(auto, using(crate::proofs::Tests::every_none, crate::proofs::Tests::every_more))]
-pub fn every_compare(comparison: Comparison, size: ElementSize, x: u128, y: u128) -> bool
+#[tactic(auto, using(crate::proofs::LaneTests::every_none, crate::proofs::LaneTests::every_more))]
+pub(crate) fn every_compare(comparison: Comparison, size: ElementSize, x: u128, y: u128) -> bool
     ensures { result ≡ every_lane (lane_count size) (lane_compares comparison (bits size) x y) }
 {
     let mut every = true;
     for i in 0..size.lane_count() {
-        every &= compare(comparison, size.bits(), element(size, x, i), element(size, y, i));
+        every &= compare(
+            comparison,
+            size.bits(),
+            element(size, x, i),
+            element(size, y, i),
+        );
     }
     every
 }
 
 /// The code of a comparison: 0 all, 1 some, 3 none.
-pub fn lanes_code(comparison: Comparison, size: ElementSize, x: u128, y: u128) -> u8
+pub(crate) fn lanes_code(comparison: Comparison, size: ElementSize, x: u128, y: u128) -> u8
     ensures { result ≡ lanes_code_of comparison (bits size) (lane_count size) x y }
 {
     if every_compare(comparison, size, x, y) {
@@ -51,7 +61,7 @@ pub fn lanes_code(comparison: Comparison, size: ElementSize, x: u128, y: u128) -
 }
 
 /// The code of two elements: 0 equal, 1 first low, 2 first high.
-pub fn order_code(sign: Signedness, size: ElementSize, x: u128, y: u128) -> u8
+pub(crate) fn order_code(sign: Signedness, size: ElementSize, x: u128, y: u128) -> u8
     ensures { result ≡ order_code_of sign (bits size) (lane_of (bits size) x 0) (lane_of (bits size) y 0) }
 {
     let a = element(size, x, 0);
@@ -66,23 +76,29 @@ pub fn order_code(sign: Signedness, size: ElementSize, x: u128, y: u128) -> u8
 }
 
 /// The condition code that an operation sets.
-pub fn code(operation: VectorOperation, first: u128, second: u128, third: u128) -> Option<u8>
+pub(crate) fn code(operation: VectorOperation, first: u128, second: u128, third: u128) -> Option<u8>
     ensures { result ≡ code_of operation first second third }
 {
     match operation {
-        VectorOperation::Compare { comparison, size, sets_code } => if sets_code {
+        VectorOperation::Compare {
+            comparison,
+            size,
+            sets_code,
+        } => if sets_code {
             Some(lanes_code(comparison, size, second, third))
         } else {
             None
         },
-        VectorOperation::CompareElement { sign, size } => Some(order_code(sign, size, first, second)),
+        VectorOperation::CompareElement { sign, size } => Some(order_code(
+            sign, size, first, second,
+        )),
         _ => None,
     }
 }
 
 /// Whether some lane is zero.
-#[tactic(auto, using(crate::proofs::Tests::some_none, crate::proofs::Tests::some_more))]
-pub fn some_zero(size: ElementSize, y: u128) -> bool
+#[tactic(auto, using(crate::proofs::LaneTests::some_none, crate::proofs::LaneTests::some_more))]
+pub(crate) fn some_zero(size: ElementSize, y: u128) -> bool
     ensures { result ≡ some_lane (lane_count size) (lane_is_zero (bits size) y) }
 {
     let mut some = false;
@@ -93,8 +109,8 @@ pub fn some_zero(size: ElementSize, y: u128) -> bool
 }
 
 /// Whether some quotient doesn't fit.
-#[tactic(auto, using(crate::proofs::Tests::some_none, crate::proofs::Tests::some_more))]
-pub fn some_overflow(sign: Signedness, size: ElementSize, x: u128, y: u128) -> bool
+#[tactic(auto, using(crate::proofs::LaneTests::some_none, crate::proofs::LaneTests::some_more))]
+pub(crate) fn some_overflow(sign: Signedness, size: ElementSize, x: u128, y: u128) -> bool
     ensures { result ≡ some_lane (lane_count size) (lane_overflows sign (bits size) x y) }
 {
     let mut some = false;
@@ -105,7 +121,7 @@ pub fn some_overflow(sign: Signedness, size: ElementSize, x: u128, y: u128) -> b
 }
 
 /// Whether an operation divides by zero.
-pub fn divides_by_zero(operation: VectorOperation, third: u128) -> bool
+pub(crate) fn divides_by_zero(operation: VectorOperation, third: u128) -> bool
     ensures { result ≡ divides_by_zero_of operation third }
 {
     match operation {
@@ -115,7 +131,7 @@ pub fn divides_by_zero(operation: VectorOperation, third: u128) -> bool
 }
 
 /// Whether a quotient of an operation doesn't fit.
-pub fn division_overflows(operation: VectorOperation, second: u128, third: u128) -> bool
+pub(crate) fn division_overflows(operation: VectorOperation, second: u128, third: u128) -> bool
     ensures { result ≡ division_overflows_of operation second third }
 {
     match operation {

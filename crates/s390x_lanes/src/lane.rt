@@ -8,7 +8,7 @@ ghost use Rattle.s390x_lanes.specs.Lanes.{lane as lane_of};
 use crate::size::ElementSize;
 
 /// The low `w` bits, all ones.
-pub fn ones(w: u32) -> u128
+pub(crate) fn ones(w: u32) -> u128
     requires low { 0 < w }
     requires high { w ≤ 128 }
     ensures { result ≡ 2 ^ w - 1 }
@@ -17,7 +17,7 @@ pub fn ones(w: u32) -> u128
 }
 
 /// Lane `i` of `w` bits.
-pub fn lane(w: u32, x: u128, i: u32) -> u128
+pub(crate) fn lane(w: u32, x: u128, i: u32) -> u128
     requires low { 0 < w }
     requires high { w * (i + 1) ≤ 128 }
     ensures value { result ≡ lane_of w x i }
@@ -27,7 +27,7 @@ pub fn lane(w: u32, x: u128, i: u32) -> u128
 }
 
 /// Element `i` of `x`.
-pub fn element(size: ElementSize, x: u128, i: u32) -> u128
+pub(crate) fn element(size: ElementSize, x: u128, i: u32) -> u128
     requires { i < lane_count size }
     ensures value { result ≡ lane_of (bits size) x i }
     ensures fits { result < 2 ^ bits size }
@@ -36,7 +36,7 @@ pub fn element(size: ElementSize, x: u128, i: u32) -> u128
 }
 
 /// The lanes in `x`, and one more at the right.
-pub fn append(w: u32, x: u128, v: u128) -> u128
+pub(crate) fn append(w: u32, x: u128, v: u128) -> u128
     requires low { 0 < w }
     requires high { w ≤ 128 }
     requires fits { x * 2 ^ w + v < 2 ^ 128 }

@@ -10,7 +10,7 @@ use crate::lane::ones;
 use crate::operation::Signedness;
 
 /// The sign bit.
-pub fn sign_bit(w: u32) -> u128
+pub(crate) fn sign_bit(w: u32) -> u128
     requires low { 0 < w }
     requires high { w ≤ 128 }
     ensures { result ≡ 2 ^ (w - 1) }
@@ -19,7 +19,7 @@ pub fn sign_bit(w: u32) -> u128
 }
 
 /// With the sign bit inverted.
-pub fn bias(w: u32, x: u128) -> u128
+pub(crate) fn bias(w: u32, x: u128) -> u128
     requires low { 0 < w }
     requires high { w ≤ 128 }
     requires fits { x < 2 ^ w }
@@ -31,7 +31,7 @@ pub fn bias(w: u32, x: u128) -> u128
 }
 
 /// Whether `x` holds a lower number than `y`.
-pub fn lower(sign: Signedness, w: u32, x: u128, y: u128) -> bool
+pub(crate) fn lower(sign: Signedness, w: u32, x: u128, y: u128) -> bool
     requires low { 0 < w }
     requires high { w ≤ 128 }
     requires x_fits { x < 2 ^ w }
@@ -45,7 +45,7 @@ pub fn lower(sign: Signedness, w: u32, x: u128, y: u128) -> bool
 }
 
 /// Sign-extended to `v` bits.
-pub fn sign_extend(w: u32, v: u32, x: u128) -> u128
+pub(crate) fn sign_extend(w: u32, v: u32, x: u128) -> u128
     requires low { 0 < w }
     requires order { w ≤ v }
     requires high { v ≤ 128 }
@@ -61,7 +61,7 @@ pub fn sign_extend(w: u32, v: u32, x: u128) -> u128
 }
 
 /// The two's complement.
-pub fn negate(w: u32, x: u128) -> u128
+pub(crate) fn negate(w: u32, x: u128) -> u128
     requires low { 0 < w }
     requires high { w ≤ 128 }
     requires fits { x < 2 ^ w }
@@ -72,7 +72,7 @@ pub fn negate(w: u32, x: u128) -> u128
 }
 
 /// How far the signed number is from 0.
-pub fn absolute(w: u32, x: u128) -> u128
+pub(crate) fn absolute(w: u32, x: u128) -> u128
     requires low { 0 < w }
     requires high { w ≤ 128 }
     requires fits { x < 2 ^ w }

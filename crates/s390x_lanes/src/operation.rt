@@ -96,53 +96,116 @@ pub enum Narrowing {
 pub enum VectorOperation {
     /// VA, VS, VML, VACC, VSCBI, VMX, VMN, VAVG and their kin by elements; VN, VO, VX and their
     /// kin on all 128 bits.
-    Binary { operator: BinaryOperator, size: ElementSize },
+    Binary {
+        operator: BinaryOperator,
+        size: ElementSize,
+    },
     /// VCEQ, VCH, VCHL: ones where the elements compare, else zeros.
-    Compare { comparison: Comparison, size: ElementSize, sets_code: bool },
+    Compare {
+        comparison: Comparison,
+        size: ElementSize,
+        sets_code: bool,
+    },
     /// VMH, VMLH: the high half of the product.
-    MultiplyHigh { sign: Signedness, size: ElementSize },
+    MultiplyHigh {
+        sign: Signedness,
+        size: ElementSize,
+    },
     /// VME, VMLE, VMO, VMLO: whole products; the size is the operands'.
-    MultiplyPairs { sign: Signedness, parity: Parity, size: ElementSize },
+    MultiplyPairs {
+        sign: Signedness,
+        parity: Parity,
+        size: ElementSize,
+    },
     /// VD, VDL, VR, VRL.
-    Divide { division: Division, sign: Signedness, size: ElementSize },
+    Divide {
+        division: Division,
+        sign: Signedness,
+        size: ElementSize,
+    },
     /// VLP, VLC, VCLZ, VCTZ, VPOPCT.
-    Unary { operator: UnaryOperator, size: ElementSize },
+    Unary {
+        operator: UnaryOperator,
+        size: ElementSize,
+    },
     /// VERLL, VESL, VESRL, VESRA: by the amount modulo the size.
-    ShiftElements { operator: ShiftOperator, size: ElementSize, amount: u32 },
+    ShiftElements {
+        operator: ShiftOperator,
+        size: ElementSize,
+        amount: u32,
+    },
     /// VPK, VPKS, VPKLS; the size is the result's.
-    Pack { narrowing: Narrowing, size: ElementSize },
+    Pack {
+        narrowing: Narrowing,
+        size: ElementSize,
+    },
     /// VMRH, VMRL.
-    Merge { half: Half, size: ElementSize },
+    Merge {
+        half: Half,
+        size: ElementSize,
+    },
     /// VUPH, VUPL, VUPLH, VUPLL; the size is the operand's.
-    Unpack { sign: Signedness, half: Half, size: ElementSize },
+    Unpack {
+        sign: Signedness,
+        half: Half,
+        size: ElementSize,
+    },
     /// VREP.
-    Replicate { size: ElementSize, index: u32 },
+    Replicate {
+        size: ElementSize,
+        index: u32,
+    },
     /// VGBM.
-    ByteMask { mask: u16 },
+    ByteMask {
+        mask: u16,
+    },
     /// VGM: ones from bit `start` to bit `end`, wrapping.
-    BitMask { size: ElementSize, start: u32, end: u32 },
+    BitMask {
+        size: ElementSize,
+        start: u32,
+        end: u32,
+    },
     /// VSEL.
     Select,
     /// VPERM.
     Permute,
     /// VPDI: doubleword `a` of the second operand, then doubleword `b` of the third.
-    PermuteDoublewords { a: u32, b: u32 },
+    PermuteDoublewords {
+        a: u32,
+        b: u32,
+    },
     /// VSL, VSRL, VSRA.
-    ShiftByBits { operator: ShiftOperator },
+    ShiftByBits {
+        operator: ShiftOperator,
+    },
     /// VSLB, VSRLB, VSRAB.
-    ShiftByBytes { operator: ShiftOperator },
+    ShiftByBytes {
+        operator: ShiftOperator,
+    },
     /// VLR.
     Move,
     /// VLEIB, VLEIH, VLEIF, VLEIG: the immediate, sign-extended, in one element.
-    InsertImmediate { size: ElementSize, value: u16, index: u32 },
+    InsertImmediate {
+        size: ElementSize,
+        value: u16,
+        index: u32,
+    },
     /// VREPI: the immediate, sign-extended, in each element.
-    ReplicateImmediate { size: ElementSize, value: u16 },
+    ReplicateImmediate {
+        size: ElementSize,
+        value: u16,
+    },
     /// VBPERM.
     BitPermute,
     /// VEC, VECL: sets the condition code alone.
-    CompareElement { sign: Signedness, size: ElementSize },
+    CompareElement {
+        sign: Signedness,
+        size: ElementSize,
+    },
     /// VBLEND: its result is free.
     Blend,
     /// VEVAL: its result is free.
-    Evaluate { table: u8 },
+    Evaluate {
+        table: u8,
+    },
 }

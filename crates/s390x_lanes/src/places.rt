@@ -13,7 +13,7 @@ use crate::size::ElementSize;
 use crate::unary::{narrow, shift, widen};
 
 /// The even or the odd lane of pair `i`.
-pub fn pair_lane(parity: Parity, i: u32) -> u32
+pub(crate) fn pair_lane(parity: Parity, i: u32) -> u32
     requires { i ≤ 8 }
     ensures value { result ≡ lane_of_pair parity i }
     ensures below { result ≤ 2 * i + 1 }
@@ -25,7 +25,7 @@ pub fn pair_lane(parity: Parity, i: u32) -> u32
 }
 
 /// The first lane of a half of `2 * lanes` lanes.
-pub fn first_lane(half: Half, lanes: u32) -> u32
+pub(crate) fn first_lane(half: Half, lanes: u32) -> u32
     ensures value { result ≡ first_of_half half lanes }
     ensures below { result ≤ lanes }
 {
@@ -36,7 +36,14 @@ pub fn first_lane(half: Half, lanes: u32) -> u32
 }
 
 /// The product of two even or two odd lanes.
-pub fn multiply_pair(sign: Signedness, parity: Parity, size: ElementSize, x: u128, y: u128, i: u32) -> u128
+pub(crate) fn multiply_pair(
+    sign: Signedness,
+    parity: Parity,
+    size: ElementSize,
+    x: u128,
+    y: u128,
+    i: u32,
+) -> u128
     requires narrow { bits size ≤ 64 }
     requires inside { i < lane_count (wider size) }
     ensures value { result ≡ pair_product sign parity (bits size) x y i }
@@ -47,7 +54,7 @@ pub fn multiply_pair(sign: Signedness, parity: Parity, size: ElementSize, x: u12
 }
 
 /// A lane of two registers, in half its bits.
-pub fn pack(narrowing: Narrowing, size: ElementSize, x: u128, y: u128, i: u32) -> u128
+pub(crate) fn pack(narrowing: Narrowing, size: ElementSize, x: u128, y: u128, i: u32) -> u128
     requires narrow { bits size ≤ 64 }
     requires inside { i < lane_count size }
     ensures value { result ≡ packed_lane narrowing (bits size) (lane_count (wider size)) x y i }
@@ -63,18 +70,22 @@ pub fn pack(narrowing: Narrowing, size: ElementSize, x: u128, y: u128, i: u32) -
 }
 
 /// A lane of two halves, alternating.
-pub fn merge(half: Half, size: ElementSize, x: u128, y: u128, i: u32) -> u128
+pub(crate) fn merge(half: Half, size: ElementSize, x: u128, y: u128, i: u32) -> u128
     requires narrow { bits size ≤ 64 }
     requires inside { i < lane_count size }
     ensures value { result ≡ merged_lane half (bits size) (lane_count (wider size)) x y i }
     ensures fits { result < 2 ^ bits size }
 {
     let k = i / 2 + first_lane(half, size.wider().lane_count());
-    if i % 2 == 0 { element(size, x, k) } else { element(size, y, k) }
+    if i % 2 == 0 {
+        element(size, x, k)
+    } else {
+        element(size, y, k)
+    }
 }
 
 /// A lane of a half, in twice its bits.
-pub fn unpack(sign: Signedness, half: Half, size: ElementSize, x: u128, i: u32) -> u128
+pub(crate) fn unpack(sign: Signedness, half: Half, size: ElementSize, x: u128, i: u32) -> u128
     requires narrow { bits size ≤ 64 }
     requires inside { i < lane_count (wider size) }
     ensures value { result ≡ unpacked_lane sign half (bits size) (lane_count (wider size)) x i }
@@ -85,7 +96,7 @@ pub fn unpack(sign: Signedness, half: Half, size: ElementSize, x: u128, i: u32) 
 }
 
 /// Byte `i` of a byte mask.
-pub fn mask_byte(mask: u16, i: u32) -> u128
+pub(crate) fn mask_byte(mask: u16, i: u32) -> u128
     requires { i < 16 }
     ensures value { result ≡ byte_of_mask mask i }
     ensures fits { result < 2 ^ 8 }
@@ -94,7 +105,7 @@ pub fn mask_byte(mask: u16, i: u32) -> u128
 }
 
 /// Ones from bit `start` to bit `end`, wrapping.
-pub fn mask_bits(w: u32, start: u32, end: u32) -> u128
+pub(crate) fn mask_bits(w: u32, start: u32, end: u32) -> u128
     requires width { w ≤ 64 }
     requires start_in { start < w }
     requires end_in { end < w }
@@ -110,14 +121,14 @@ pub fn mask_bits(w: u32, start: u32, end: u32) -> u128
 }
 
 /// `x` where `z` has ones, else `y`.
-pub fn select(x: u128, y: u128, z: u128) -> u128
+pub(crate) fn select(x: u128, y: u128, z: u128) -> u128
     ensures { result ≡ selected x y z }
 {
     (x & z) | (y & (u128::MAX - z))
 }
 
 /// Byte `i` of a permutation.
-pub fn permute(x: u128, y: u128, z: u128, i: u32) -> u128
+pub(crate) fn permute(x: u128, y: u128, z: u128, i: u32) -> u128
     requires { i < 16 }
     ensures value { result ≡ permuted_byte x y z i }
     ensures fits { result < 2 ^ 8 }
@@ -131,7 +142,7 @@ pub fn permute(x: u128, y: u128, z: u128, i: u32) -> u128
 }
 
 /// Doubleword `i` of doubleword `a` of `x` and doubleword `b` of `y`.
-pub fn permute_doubleword(a: u32, b: u32, x: u128, y: u128, i: u32) -> u128
+pub(crate) fn permute_doubleword(a: u32, b: u32, x: u128, y: u128, i: u32) -> u128
     requires a_in { a < 2 }
     requires b_in { b < 2 }
     ensures value { result ≡ chosen_doubleword a b x y i }
@@ -145,16 +156,27 @@ pub fn permute_doubleword(a: u32, b: u32, x: u128, y: u128, i: u32) -> u128
 }
 
 /// A lane, shifted by an amount modulo its width.
-pub fn shift_element(operator: ShiftOperator, size: ElementSize, amount: u32, x: u128, i: u32) -> u128
+pub(crate) fn shift_element(
+    operator: ShiftOperator,
+    size: ElementSize,
+    amount: u32,
+    x: u128,
+    i: u32,
+) -> u128
     requires { i < lane_count size }
     ensures value { result ≡ shifted_lane operator (bits size) amount x i }
     ensures fits { result < 2 ^ bits size }
 {
-    shift(operator, size.bits(), element(size, x, i), amount % size.bits())
+    shift(
+        operator,
+        size.bits(),
+        element(size, x, i),
+        amount % size.bits(),
+    )
 }
 
 /// The count of a shift by bytes.
-pub fn byte_count(y: u128) -> u32
+pub(crate) fn byte_count(y: u128) -> u32
     ensures value { result ≡ shift_byte_count y }
     ensures below { result < 16 }
 {
@@ -162,7 +184,7 @@ pub fn byte_count(y: u128) -> u32
 }
 
 /// The bit of `x` that byte `i` of `y` chooses.
-pub fn choose_bit(x: u128, y: u128, i: u32) -> u128
+pub(crate) fn choose_bit(x: u128, y: u128, i: u32) -> u128
     requires { i < 16 }
     ensures value { result ≡ chosen_bit x y i }
     ensures fits { result < 2 }
@@ -172,7 +194,7 @@ pub fn choose_bit(x: u128, y: u128, i: u32) -> u128
 }
 
 /// The bits of `x` that the bytes of `y` choose.
-pub fn choose_bits(x: u128, y: u128) -> u128
+pub(crate) fn choose_bits(x: u128, y: u128) -> u128
     ensures { result ≡ chosen_bits x y }
 {
     let mut all = 0;

@@ -10,7 +10,7 @@ use crate::number::{absolute, negate, sign_bit, sign_extend};
 use crate::operation::{Division, Signedness};
 
 /// The whole product, of `2 * w` bits.
-pub fn multiply(sign: Signedness, w: u32, x: u128, y: u128) -> u128
+pub(crate) fn multiply(sign: Signedness, w: u32, x: u128, y: u128) -> u128
     requires low { 0 < w }
     requires high { w ≤ 64 }
     requires x_fits { x < 2 ^ w }
@@ -27,7 +27,7 @@ pub fn multiply(sign: Signedness, w: u32, x: u128, y: u128) -> u128
 }
 
 /// The left half of the product.
-pub fn multiply_high(sign: Signedness, w: u32, x: u128, y: u128) -> u128
+pub(crate) fn multiply_high(sign: Signedness, w: u32, x: u128, y: u128) -> u128
     requires low { 0 < w }
     requires high { w ≤ 64 }
     requires x_fits { x < 2 ^ w }
@@ -39,7 +39,7 @@ pub fn multiply_high(sign: Signedness, w: u32, x: u128, y: u128) -> u128
 }
 
 /// A signed quotient, rounded towards zero.
-pub fn quotient_signed(w: u32, x: u128, y: u128) -> u128
+pub(crate) fn quotient_signed(w: u32, x: u128, y: u128) -> u128
     requires low { 0 < w }
     requires high { w ≤ 128 }
     requires x_fits { x < 2 ^ w }
@@ -50,14 +50,22 @@ pub fn quotient_signed(w: u32, x: u128, y: u128) -> u128
 {
     let quotient = absolute(w, x) / absolute(w, y);
     if x < sign_bit(w) {
-        if y < sign_bit(w) { quotient } else { negate(w, quotient) }
+        if y < sign_bit(w) {
+            quotient
+        } else {
+            negate(w, quotient)
+        }
     } else {
-        if y < sign_bit(w) { negate(w, quotient) } else { quotient }
+        if y < sign_bit(w) {
+            negate(w, quotient)
+        } else {
+            quotient
+        }
     }
 }
 
 /// The remainder of a signed quotient: it has the dividend's sign.
-pub fn remainder_signed(w: u32, x: u128, y: u128) -> u128
+pub(crate) fn remainder_signed(w: u32, x: u128, y: u128) -> u128
     requires low { 0 < w }
     requires high { w ≤ 128 }
     requires x_fits { x < 2 ^ w }
@@ -67,11 +75,15 @@ pub fn remainder_signed(w: u32, x: u128, y: u128) -> u128
     ensures fits { result < 2 ^ w }
 {
     let remainder = absolute(w, x) % absolute(w, y);
-    if x < sign_bit(w) { remainder } else { negate(w, remainder) }
+    if x < sign_bit(w) {
+        remainder
+    } else {
+        negate(w, remainder)
+    }
 }
 
 /// A quotient or a remainder; 0 where the divisor is.
-pub fn divide(division: Division, sign: Signedness, w: u32, x: u128, y: u128) -> u128
+pub(crate) fn divide(division: Division, sign: Signedness, w: u32, x: u128, y: u128) -> u128
     requires low { 0 < w }
     requires high { w ≤ 128 }
     requires x_fits { x < 2 ^ w }
@@ -95,7 +107,7 @@ pub fn divide(division: Division, sign: Signedness, w: u32, x: u128, y: u128) ->
 }
 
 /// Whether the quotient passes the greatest number.
-pub fn overflows(sign: Signedness, w: u32, x: u128, y: u128) -> bool
+pub(crate) fn overflows(sign: Signedness, w: u32, x: u128, y: u128) -> bool
     requires low { 0 < w }
     requires high { w ≤ 128 }
     requires x_fits { x < 2 ^ w }

@@ -1,14 +1,16 @@
 // One lane of any operation's result, and the whole.
 #![tactic(auto)]
 
-ghost use Rattle.std.specs.Prelude.{◌≡◌, ℕ, ◌+◌, ◌-◌, ◌*◌, ◌/◌, ◌%◌, ◌^◌, ◌<◌, ◌≤◌, IsTrue};
+ghost use Rattle.std.specs.Prelude.{◌≡◌, ℕ, ◌+◌, ◌-◌, ◌*◌, ◌/◌, ◌%◌, ◌^◌, ◌<◌, ◌≤◌, ◌==◌, IsTrue, if◌then◌else◌};
 ghost use Rattle.s390x_lanes.specs.Size.{bits, lane_count, wider};
 ghost use Rattle.s390x_lanes.specs.Results.{result_size as result_size_of, result_lane as lane_of_result, result_of};
+ghost use Rattle.s390x_lanes.specs.Lanes.{lane as lane_of};
+ghost use Rattle.s390x_lanes.specs.Elements.{compares, immediate as immediate_of};
 ghost use Rattle.s390x_lanes.specs.Opcodes.{is_operation, is_computed};
 
 use crate::binary::{binary, compare};
 use crate::lane::{append, element, ones};
-use crate::operation::VectorOperation;
+use crate::operation::{Comparison, VectorOperation};
 use crate::places::{
     byte_count, choose_bits, mask_bits, mask_byte, merge, multiply_pair, pack, permute,
     permute_doubleword, select, shift_element, unpack,
@@ -18,7 +20,7 @@ use crate::size::ElementSize;
 use crate::unary::{immediate, shift, unary};
 
 /// The size of the result's elements.
-pub fn result_size(operation: VectorOperation) -> ElementSize
+pub(crate) fn result_size(operation: VectorOperation) -> ElementSize
     ensures { result ≡ result_size_of operation }
 {
     match operation {
@@ -50,8 +52,46 @@ pub fn result_size(operation: VectorOperation) -> ElementSize
     }
 }
 
+/// Ones where lane `i` of `x` and `y` compare, else zeros.
+pub(crate) fn compared_lane(
+    comparison: Comparison,
+    size: ElementSize,
+    x: u128,
+    y: u128,
+    i: u32,
+) -> u128
+    requires { i < lane_count size }
+    ensures value { result ≡ (if compares comparison (bits size) (lane_of (bits size) x i) (lane_of (bits size) y i) then 2 ^ bits size - 1 else 0) }
+    ensures fits { result < 2 ^ bits size }
+{
+    if compare(
+        comparison,
+        size.bits(),
+        element(size, x, i),
+        element(size, y, i),
+    ) {
+        ones(size.bits())
+    } else {
+        0
+    }
+}
+
+/// The immediate at `index`, else lane `i` of `x`.
+pub(crate) fn inserted_lane(size: ElementSize, value: u16, index: u32, x: u128, i: u32) -> u128
+    requires { i < lane_count size }
+    ensures value { result ≡ (if i == index then immediate_of (bits size) value else lane_of (bits size) x i) }
+    ensures fits { result < 2 ^ bits size }
+{
+    if i == index {
+        immediate(size.bits(), value)
+    } else {
+        element(size, x, i)
+    }
+}
+
 /// Lane `i` of the result.
-pub fn result_lane(operation: VectorOperation, first: u128, second: u128, third: u128, fourth: u128, i: u32) -> u128
+#[rattlefmt::skip]
+pub(crate) fn result_lane(operation: VectorOperation, first: u128, second: u128, third: u128, fourth: u128, i: u32) -> u128
     requires is_operation { IsTrue (is_operation operation) }
     requires is_computed { IsTrue (is_computed operation) }
     requires inside { i < lane_count (result_size_of operation) }
@@ -60,13 +100,7 @@ pub fn result_lane(operation: VectorOperation, first: u128, second: u128, third:
 {
     match operation {
         VectorOperation::Binary { operator, size } => binary(operator, size.bits(), element(size, second, i), element(size, third, i)),
-        VectorOperation::Compare { comparison, size, .. } => {
-            if compare(comparison, size.bits(), element(size, second, i), element(size, third, i)) {
-                ones(size.bits())
-            } else {
-                0
-            }
-        }
+        VectorOperation::Compare { comparison, size, .. } => compared_lane(comparison, size, second, third, i),
         VectorOperation::MultiplyHigh { sign, size } => multiply_high(sign, size.bits(), element(size, second, i), element(size, third, i)),
         VectorOperation::MultiplyPairs { sign, parity, size } => multiply_pair(sign, parity, size, second, third, i),
         VectorOperation::Divide { division, sign, size } => divide(division, sign, size.bits(), element(size, second, i), element(size, third, i)),
@@ -84,11 +118,7 @@ pub fn result_lane(operation: VectorOperation, first: u128, second: u128, third:
         VectorOperation::ShiftByBits { operator } => shift(operator, 128, second, (third % 8) as u32),
         VectorOperation::ShiftByBytes { operator } => shift(operator, 128, second, 8 * byte_count(third)),
         VectorOperation::Move => second,
-        VectorOperation::InsertImmediate { size, value, index } => if i == index {
-            immediate(size.bits(), value)
-        } else {
-            element(size, first, i)
-        },
+        VectorOperation::InsertImmediate { size, value, index } => inserted_lane(size, value, index, first, i),
         VectorOperation::ReplicateImmediate { size, value } => immediate(size.bits(), value),
         VectorOperation::BitPermute => choose_bits(second, third),
         VectorOperation::CompareElement { .. } => first,
@@ -98,7 +128,13 @@ pub fn result_lane(operation: VectorOperation, first: u128, second: u128, third:
 }
 
 /// The whole result.
-pub fn result(operation: VectorOperation, first: u128, second: u128, third: u128, fourth: u128) -> u128
+pub(crate) fn result(
+    operation: VectorOperation,
+    first: u128,
+    second: u128,
+    third: u128,
+    fourth: u128,
+) -> u128
     requires is_operation { IsTrue (is_operation operation) }
     requires is_computed { IsTrue (is_computed operation) }
     ensures { result ≡ result_of operation first second third fourth }

@@ -12,7 +12,7 @@ use crate::number::{absolute, negate, sign_bit, sign_extend};
 use crate::operation::{Narrowing, ShiftOperator, Signedness, UnaryOperator};
 
 /// The zeros at the left.
-pub fn leading_zeros(w: u32, x: u128) -> u128
+pub(crate) fn leading_zeros(w: u32, x: u128) -> u128
     requires low { 0 < w }
     requires high { w ≤ 128 }
     requires fits { x < 2 ^ w }
@@ -22,7 +22,7 @@ pub fn leading_zeros(w: u32, x: u128) -> u128
 }
 
 /// The zeros at the right.
-pub fn trailing_zeros(w: u32, x: u128) -> u128
+pub(crate) fn trailing_zeros(w: u32, x: u128) -> u128
     requires low { 0 < w }
     requires high { w ≤ 128 }
     requires fits { x < 2 ^ w }
@@ -36,7 +36,7 @@ pub fn trailing_zeros(w: u32, x: u128) -> u128
 }
 
 /// An operator on one element.
-pub fn unary(operator: UnaryOperator, w: u32, x: u128) -> u128
+pub(crate) fn unary(operator: UnaryOperator, w: u32, x: u128) -> u128
     requires low { 8 ≤ w }
     requires high { w ≤ 128 }
     requires fits { x < 2 ^ w }
@@ -53,7 +53,7 @@ pub fn unary(operator: UnaryOperator, w: u32, x: u128) -> u128
 }
 
 /// A signed number divided by a power of two, rounded down.
-pub fn shift_right_signed(w: u32, x: u128, amount: u32) -> u128
+pub(crate) fn shift_right_signed(w: u32, x: u128, amount: u32) -> u128
     requires high { w ≤ 128 }
     requires fits { x < 2 ^ w }
     requires below { amount < w }
@@ -69,7 +69,7 @@ pub fn shift_right_signed(w: u32, x: u128, amount: u32) -> u128
 }
 
 /// A shift by an amount below the width.
-pub fn shift(operator: ShiftOperator, w: u32, x: u128, amount: u32) -> u128
+pub(crate) fn shift(operator: ShiftOperator, w: u32, x: u128, amount: u32) -> u128
     requires high { w ≤ 128 }
     requires fits { x < 2 ^ w }
     requires below { amount < w }
@@ -87,7 +87,7 @@ pub fn shift(operator: ShiftOperator, w: u32, x: u128, amount: u32) -> u128
 }
 
 /// A signed number of `2 * w` bits, saturated to `w`.
-pub fn saturate_signed(w: u32, x: u128) -> u128
+pub(crate) fn saturate_signed(w: u32, x: u128) -> u128
     requires low { 0 < w }
     requires high { w ≤ 64 }
     requires fits { x < 2 ^ (2 * w) }
@@ -99,12 +99,16 @@ pub fn saturate_signed(w: u32, x: u128) -> u128
         if x < limit { x } else { limit - 1 }
     } else {
         let below = negate(2 * w, x);
-        if below <= limit { negate(w, below) } else { limit }
+        if below <= limit {
+            negate(w, below)
+        } else {
+            limit
+        }
     }
 }
 
 /// An element of `2 * w` bits in `w`.
-pub fn narrow(narrowing: Narrowing, w: u32, x: u128) -> u128
+pub(crate) fn narrow(narrowing: Narrowing, w: u32, x: u128) -> u128
     requires low { 0 < w }
     requires high { w ≤ 64 }
     requires fits { x < 2 ^ (2 * w) }
@@ -118,7 +122,7 @@ pub fn narrow(narrowing: Narrowing, w: u32, x: u128) -> u128
 }
 
 /// A number of `2 * w` bits, saturated to `w`.
-pub fn saturate(sign: Signedness, w: u32, x: u128) -> u128
+pub(crate) fn saturate(sign: Signedness, w: u32, x: u128) -> u128
     requires low { 0 < w }
     requires high { w ≤ 64 }
     requires fits { x < 2 ^ (2 * w) }
@@ -132,7 +136,7 @@ pub fn saturate(sign: Signedness, w: u32, x: u128) -> u128
 }
 
 /// An element of `w` bits in `2 * w`.
-pub fn widen(sign: Signedness, w: u32, x: u128) -> u128
+pub(crate) fn widen(sign: Signedness, w: u32, x: u128) -> u128
     requires low { 0 < w }
     requires high { w ≤ 64 }
     requires fits { x < 2 ^ w }
@@ -146,7 +150,7 @@ pub fn widen(sign: Signedness, w: u32, x: u128) -> u128
 }
 
 /// A 16-bit immediate, sign-extended or cut to `w` bits.
-pub fn immediate(w: u32, value: u16) -> u128
+pub(crate) fn immediate(w: u32, value: u16) -> u128
     requires low { 0 < w }
     requires high { w ≤ 128 }
     ensures value { result ≡ immediate_of w value }

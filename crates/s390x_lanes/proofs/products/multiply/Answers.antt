@@ -16,4 +16,4 @@ returns-in-Signed-clause-value c =
     let k : c.args.w ≤ 2 * c.args.w = omega arith in
     rw c.in-Signed.is
     (masked_128 (2 * c.args.w) _ _ h c.ones.ensures ∙ ap₂ (λ (m n : ℕ). m * n % 2 ^ (2 * c.args.w)) c.sign_extend.ensures.value c.sign_extend-in-Signed.ensures.value
-     ∙ product_is c.args.w (2 * c.args.w) c.args.x c.args.y k c.requires.x_fits c.requires.y_fits)
+    ∙ product_is c.args.w (2 * c.args.w) c.args.x c.args.y k c.requires.x_fits c.requires.y_fits)

@@ -2,7 +2,7 @@ use Rattle.std.proofs.Common.{◌≡◌, ℕ, ◌<◌, ◌==◌, false, get_or, 
 use Rattle.std.proofs.lemmas.List.Recursion.{found_at, found_nowhere}
 use Rattle.s390x_lanes.specs.declared.opcodes.OpcodeRow.{OpcodeRow}
 use Rattle.s390x_lanes.specs.Opcodes.{row_in, no_row}
-use Rattle.s390x_lanes.proofs.step.find.Goals as goal
+use Rattle.s390x_lanes.proofs.lookup.find.Goals as goal
 
 at_line : (ls : List OpcodeRow) (op i : ℕ) → i < length ls → ((k : ℕ) → k < i → (get_or ls k no_row).opcode == op ≡ false) → (get_or ls i no_row).opcode ≡ op → Some (get_or ls i no_row) ≡ row_in ls op
 unfolding row_in
