@@ -12,4 +12,4 @@ pub mod Trees
 pub mod Answering
 pub mod Lengths
 pub mod FirstCauses
-pub mod Headline
+pub mod Linked

@@ -41,14 +41,18 @@ pub data IsCodeAlignment (a : ℕ) : Type 0 where
 max_four : (x : ℕ) → is_alignment x ≡ true → IsCodeAlignment (max 4 x)
 max_four x h =
     elim (or_cases (nat_eq x 1 || nat_eq x 2 || nat_eq x 4 || nat_eq x 8) (nat_eq x 16) h) [
-      inr e ↦ sixteen (omega (arith, eqb-true x 16 e))
+      | inr e ↦ sixteen (omega (arith, eqb-true x 16 e))
       | inl h1 ↦ elim (or_cases (nat_eq x 1 || nat_eq x 2 || nat_eq x 4) (nat_eq x 8) h1) [
-        inr e ↦ eight (omega (arith, eqb-true x 8 e))
+        | inr e ↦ eight (omega (arith, eqb-true x 8 e))
         | inl h2 ↦ elim (or_cases (nat_eq x 1 || nat_eq x 2) (nat_eq x 4) h2) [
-          inr e ↦ four (omega (arith, eqb-true x 4 e))
+          | inr e ↦ four (omega (arith, eqb-true x 4 e))
           | inl h3 ↦ elim (or_cases (nat_eq x 1) (nat_eq x 2) h3) [
-            inr e ↦ four (omega (arith, eqb-true x 2 e))
-            | inl e ↦ four (omega (arith, eqb-true x 1 e)) ] ] ] ]
+            | inr e ↦ four (omega (arith, eqb-true x 2 e))
+            | inl e ↦ four (omega (arith, eqb-true x 1 e))
+          ]
+        ]
+      ]
+    ]
 
 max_of : (a x : ℕ) → IsCodeAlignment a → IsCodeAlignment (max 4 x) → IsCodeAlignment (max a x)
 max_of a x (four e) (four f) = four (omega arith)
