@@ -1,0 +1,7 @@
+pub mod Answers
+pub mod Causes
+pub mod Ends
+pub mod InMemory
+pub mod Replies
+pub mod Status
+pub mod Words

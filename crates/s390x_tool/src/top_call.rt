@@ -1,0 +1,47 @@
+//! The top call.
+ghost use Rattle.std.specs.Prelude.{◌≡◌, ◌<◌, ◌⊎◌};
+ghost use Rattle.std.specs.Cow.{cow_str_bytes};
+ghost use Rattle.s390x_tool.specs.Causes.{Rose};
+ghost use Rattle.s390x_tool.specs.Ends.{IsTooLong};
+ghost use Rattle.s390x_tool.specs.Replies.{IsDelivered, IsEnded};
+ghost use Rattle.s390x_tool.specs.Words.{IsNoForm, texts};
+
+use crate::ends::{Failed, Sink, Source};
+use crate::output::write_text;
+use crate::reply::{Reply, reply_to};
+use crate::status::Status;
+use std::alloc::Global;
+
+/// Does what the words ask for with what the source holds, and writes the text or the line of the status to the sink. It
+/// reads the source to its end first, and writes nothing before all is computed.
+pub fn run<S: Source, K: Sink>(
+    alloc: Global,
+    words: &[String],
+    source: &mut S,
+    sink: &mut K,
+) -> Status
+    // The words and the input have this reply, and its text was written whole, or else a front of it.
+    ensures ended { IsEnded (record { words = texts words.now; left = S.left source.old; left' = S.left source.new; faults = S.faults source.old; faults' = S.faults source.new })
+        (K.told sink.old) (K.told sink.new) (K.faults sink.old) (K.faults sink.new) result }
+    ensures usage { result ≡ Status.Usage → IsNoForm (texts words.now) }
+    ensures always_usage { IsNoForm (texts words.now) → (result ≡ Status.Usage) ⊎ (result ≡ Status.WriteFault) }
+    ensures read_fault { result ≡ Status.ReadFault → Rose (S.faults source.old) (S.faults source.new) }
+    ensures always_read_fault { S.faults source.old < S.faults source.new → (result ≡ Status.ReadFault) ⊎ (result ≡ Status.WriteFault) }
+    ensures write_fault { result ≡ Status.WriteFault → Rose (K.faults sink.old) (K.faults sink.new) }
+    ensures always_write_fault { K.faults sink.old < K.faults sink.new → result ≡ Status.WriteFault }
+    ensures too_long { result ≡ Status.InputTooLong → IsTooLong (S.left source.old) (S.left source.new) }
+{
+    let reply = reply_to(alloc, words, source);
+    deliver(&reply, sink)
+}
+
+// Writes the reply's text, and answers how all ended.
+fn deliver<K: Sink>(reply: &Reply, sink: &mut K) -> Status
+    ensures { IsDelivered (K.told sink.old) (K.told sink.new) (K.faults sink.old) (K.faults sink.new)
+        reply.now.status (cow_str_bytes reply.now.text) result }
+{
+    match write_text(reply.text.as_bytes(), sink) {
+        Ok(()) => reply.status,
+        Err(Failed) => Status::WriteFault,
+    }
+}
