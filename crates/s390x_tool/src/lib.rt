@@ -11,6 +11,9 @@ pub mod status;
 pub mod top_call;
 pub mod words;
 
+#[cfg(test)]
+mod tests;
+
 pub use ends::{Failed, Sink, Source};
 pub use in_memory::{BytesSink, BytesSource};
 pub use standard::{StdSink, StdSource};
