@@ -1,6 +1,7 @@
 //! Registers, immediates, conditions, flags, trap codes and errors of the s390x machine layer.
 #![tactic(auto)]
 
+pub mod code;
 pub mod cond;
 pub mod error;
 pub mod imms;
@@ -9,6 +10,7 @@ pub mod regs;
 pub mod sets;
 pub mod trap;
 
+pub use code::Code;
 pub use cond::{Cond, FloatCC, IntCC};
 pub use error::{EmitError, NoMemory};
 pub use imms::{SImm20, UImm12, UImm16Shifted, UImm32Shifted};

@@ -1,2 +1,9 @@
-pub mod Tree
+pub mod Causes
+pub mod Image
+pub mod MachineInstruction
+pub mod Parts
+pub mod Ranges
+pub mod Rows
+pub mod Sizes
 pub mod Steps
+pub mod Tree

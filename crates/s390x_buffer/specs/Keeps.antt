@@ -1,0 +1,20 @@
+-- What stood in a buffer still stands, whatever a call answers.
+use Rattle.std.specs.Prelude.{◌≡◌, ℕ, List, length, take, get_or, Option, Some, None}
+use Rattle.s390x_buffer.specs.State.{State}
+
+abbrev pub IsPrefix : {A : Type 0} → List A → List A → Type 0
+IsPrefix xs ys = take (length xs) ys ≡ xs
+
+pub record Keeps (s t : State) : Type 0 where
+  pub bytes : IsPrefix s.bytes t.bytes
+  pub uses : IsPrefix s.uses t.uses
+  pub traps : IsPrefix s.traps t.traps
+  pub relocs : IsPrefix s.relocs t.relocs
+  pub call_sites : IsPrefix s.call_sites t.call_sites
+  pub try_call_sites : IsPrefix s.try_call_sites t.try_call_sites
+  pub patchable_sites : IsPrefix s.patchable_sites t.patchable_sites
+  pub stack_maps : IsPrefix s.stack_maps t.stack_maps
+  pub starts : IsPrefix s.starts t.starts
+  pub labels : (l p : ℕ) → get_or s.labels l None ≡ Some p → get_or t.labels l None ≡ Some p
+  pub block_count : t.block_count ≡ s.block_count
+  pub constants : t.constants ≡ s.constants

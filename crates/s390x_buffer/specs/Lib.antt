@@ -1,0 +1,6 @@
+pub mod State
+pub mod Keeps
+pub mod Patch
+pub mod Relocs
+pub mod Constants
+pub mod Finish

@@ -1,0 +1,106 @@
+-- Patching: what the uses of labels make of the bytes.
+use Rattle.std.specs.Prelude.{◌≡◌, ℕ, ◌+◌, ◌-◌, ◌*◌, ◌/◌, ◌%◌, ◌<◌, List, [], ◌∷◌, length, Option, Some, None, Bool, true, cond, ◌&&◌, nat_lt, nat_le, nat_eq, set, get_or, is_some, slice_index}
+use Rattle.s390x_buffer.specs.declared.entries.LabelFixup.{LabelFixup}
+use Rattle.s390x_buffer.specs.declared.label_use.LabelUse.{LabelUse}
+use Rattle.s390x_buffer.specs.declared.label_use.LabelUse.TheVariants.{BranchRI, BranchRIL, PCRel32, PCRel32Dbl}
+use Rattle.s390x_base.specs.declared.error.EmitError.{EmitError}
+use Rattle.s390x_base.specs.declared.error.EmitError.TheVariants.{UnboundLabel, LabelOutOfRange}
+
+-- two or four bytes of a list become a number's lowest, the most significant first
+abbrev pub set2 : List ℕ → ℕ → ℕ → List ℕ
+set2 bs o v = set (set bs o (v / 256 % 256)) (o + 1) (v % 256)
+
+abbrev pub set4 : List ℕ → ℕ → ℕ → List ℕ
+set4 bs o v = set (set (set (set bs o (v / 16777216 % 256)) (o + 1) (v / 65536 % 256)) (o + 2) (v / 256 % 256)) (o + 3) (v % 256)
+
+-- the number of two or four bytes of a list
+abbrev pub halfword : List ℕ → ℕ → ℕ
+halfword bs o = slice_index bs o * 256 + slice_index bs (o + 1)
+
+abbrev pub word : List ℕ → ℕ → ℕ
+word bs o = slice_index bs o * 16777216 + slice_index bs (o + 1) * 65536 + slice_index bs (o + 2) * 256 + slice_index bs (o + 3)
+
+-- the distance from a place to a target, modulo 2 ^ 32, and half of it
+abbrev pub distance : ℕ → ℕ → ℕ
+distance place target = (4294967296 + target - place) % 4294967296
+
+abbrev pub half : ℕ → ℕ → ℕ
+half place target = (8589934592 + target - place) / 2 % 4294967296
+
+-- the greatest distance of a use, and the least one's size
+abbrev pub max_pos_range : LabelUse → ℕ
+max_pos_range BranchRI = 65534
+max_pos_range BranchRIL = 4294967294
+max_pos_range PCRel32 = 2147483647
+max_pos_range PCRel32Dbl = 4294967292
+
+abbrev pub max_neg_range : LabelUse → ℕ
+max_neg_range BranchRI = 65536
+max_neg_range BranchRIL = 4294967295
+max_neg_range PCRel32 = 2147483648
+max_neg_range PCRel32Dbl = 4294967295
+
+-- how many bytes a use has
+abbrev pub patch_size : LabelUse → ℕ
+patch_size BranchRI = 4
+patch_size BranchRIL = 6
+patch_size PCRel32 = 4
+patch_size PCRel32Dbl = 4
+
+-- what a use of a target makes of a list in which it begins at an index; the place is its offset in the code
+abbrev pub patch : LabelUse → ℕ → ℕ → ℕ → List ℕ → List ℕ
+patch BranchRI at place target bs = set2 bs (at + 2) (half place target)
+patch BranchRIL at place target bs = set4 bs (at + 2) (half place target)
+patch PCRel32 at place target bs = set4 bs at ((word bs at + distance place target) % 4294967296)
+patch PCRel32Dbl at place target bs = set4 bs at ((word bs at + half place target + 1) % 4294967296)
+
+-- the distance from a place to a target is even and in the range of a use
+abbrev pub is_in_reach : LabelUse → ℕ → ℕ → Bool
+is_in_reach k place target = nat_eq ((place + target) % 2) 0 && (nat_le target (place + max_pos_range k) && nat_le place (target + max_neg_range k))
+
+-- a word as a signed number, plus 2 ^ 31
+abbrev pub flipped : ℕ → ℕ
+flipped w = (w + 2147483648) % 4294967296
+
+-- a signed word plus the distance is a signed word again; only PCRel32 asks for it
+abbrev pub sum_fits : LabelUse → ℕ → ℕ → ℕ → Bool
+sum_fits BranchRI w place target = true
+sum_fits BranchRIL w place target = true
+sum_fits PCRel32 w place target = nat_le place (flipped w + target) && nat_lt (flipped w + target) (place + 4294967296)
+sum_fits PCRel32Dbl w place target = true
+
+-- where a label stands, and whether it does
+abbrev pub place_of : Option ℕ → ℕ
+place_of None = 0
+place_of (Some p) = p
+
+abbrev pub place_in : List (Option ℕ) → ℕ → ℕ
+place_in labels l = place_of (get_or labels l None)
+
+abbrev pub is_bound : List (Option ℕ) → ℕ → Bool
+is_bound labels l = is_some (get_or labels l None)
+
+abbrev pub patch_use : (ℕ → ℕ) → LabelFixup → List ℕ → List ℕ
+patch_use off u bs = patch u.kind u.offset u.offset (off u.label.0) bs
+
+-- each use in the order of the calls
+abbrev pub patch_all : (ℕ → ℕ) → List LabelFixup → List ℕ → List ℕ
+patch_all off [] bs = bs
+patch_all off (u ∷ us) bs = patch_all off us (patch_use off u bs)
+
+-- whether a use of a target can be patched into bytes: in reach, with a sum that fits, and within the bytes
+abbrev pub can_patch : LabelUse → ℕ → ℕ → List ℕ → Bool
+can_patch k place target bs = is_in_reach k place target && (sum_fits k (word bs place) place target && nat_le (place + patch_size k) (length bs))
+
+-- why a use can't be patched into bytes
+abbrev pub use_cause : List (Option ℕ) → List ℕ → LabelFixup → Option EmitError
+use_cause labels bs u = cond (is_bound labels u.label.0) (cond (can_patch u.kind u.offset (place_in labels u.label.0) bs) None (Some LabelOutOfRange)) (Some UnboundLabel)
+
+abbrev pub first : Option EmitError → Option EmitError → Option EmitError
+first None o = o
+first (Some e) o = Some e
+
+-- the first use that can't be patched, each judged on the bytes that the earlier ones left
+abbrev pub uses_cause : List (Option ℕ) → List LabelFixup → List ℕ → Option EmitError
+uses_cause labels [] bs = None
+uses_cause labels (u ∷ us) bs = first (use_cause labels bs u) (uses_cause labels us (patch_use (place_in labels) u bs))

@@ -1,0 +1,571 @@
+//! The buffer that emission writes into.
+ghost use Rattle.std.specs.Prelude.{◌≡◌, ◌+◌, ◌<◌, ◌≤◌, ◌++◌, ◌∷◌, [], Some, None, true, false, length, map, set, get_or, replicate, MatchResult, IfOk};
+ghost use Rattle.std.specs.Int.{to_be_bytes, w32, w64};
+ghost use Rattle.s390x_buffer.specs.Finish.{length_cause, patch_cause, finish_cause, BlamesEither, Finished};
+ghost use Rattle.s390x_buffer.specs.Keeps.{Keeps};
+ghost use Rattle.s390x_buffer.specs.State.{State, Blames, marked, mark_cause, put_cause, draw_cause, label_cause, handlers_cause, labels_below, constant_cause, new_cause, fresh, constant_of, constant_label, is_alignment, all_aligned, IsNoConstant, align_of, limit, label_limit};
+
+use crate::entries::{
+    LabelFixup, MachBufferFinalized, MapEntry, PatchEntry, RelocEntry, TrapEntry, TryHandler,
+    TrySite,
+};
+use crate::finish::{alignment_of, constants_fit, place_and_patch, place_try_sites, starts_of};
+use crate::label_use::LabelUse;
+use s390x_base::{
+    Addend, Code, CodeOffset, ConstantData, EmitError, ExternalName, MachLabel, Reloc, TrapCode,
+    VCodeConstant,
+};
+use std::alloc::{AllocError, Global};
+use std::marker::Model;
+
+// Code ends below this length.
+const LIMIT: usize = 2147483648;
+
+// Label numbers end below this one.
+const LABEL_LIMIT: u64 = 4294967296;
+
+/// Bytes that grow at the end, the labels in them, and the tables that go with them.
+///
+/// Labels 0 to the count of blocks less 1 are the blocks'; each declared constant has the next
+/// label, and `get_label` draws those after these. A call that is refused marks the buffer and
+/// leaves what stood in it; from then on every call that answers a `Result` answers `Failed`.
+#[derive(Drop)]
+pub struct MachBuffer {
+    alloc: Global,
+    bytes: Vec<u8>,
+    labels: Vec<Option<CodeOffset>>,
+    uses: Vec<LabelFixup>,
+    traps: Vec<TrapEntry>,
+    relocs: Vec<RelocEntry>,
+    call_sites: Vec<CodeOffset>,
+    try_call_sites: Vec<TrySite>,
+    patchable_sites: Vec<PatchEntry>,
+    stack_maps: Vec<MapEntry>,
+    starts: Vec<CodeOffset>,
+    block_count: u32,
+    constants: Vec<ConstantData>,
+    failed: bool,
+}
+
+impl Model for MachBuffer {
+    ghost use Rattle.std.specs.Prelude.{◌+◌, ◌<◌, ◌≤◌, length as list_length, map as list_map};
+    ghost use Rattle.s390x_buffer.specs.State.{State, constant_of, site_of, limit, label_limit};
+
+    ghost Value = { State };
+
+    ghost view = { λ b. record { bytes = b.bytes.items; labels = b.labels.items; uses = b.uses.items; traps = b.traps.items; relocs = b.relocs.items; call_sites = b.call_sites.items; try_call_sites = list_map site_of b.try_call_sites.items; patchable_sites = b.patchable_sites.items; stack_maps = b.stack_maps.items; starts = b.starts.items; block_count = b.block_count; constants = list_map constant_of b.constants.items; failed = b.failed } };
+
+    ghost invariant = { λ b. (list_length b.bytes.items < limit) × (list_length b.labels.items ≤ label_limit) × (b.block_count + list_length b.constants.items ≤ list_length b.labels.items) };
+}
+
+impl MachBuffer {
+    /// A buffer with so many blocks and these constants, whose bytes are copied. Refused by
+    /// `BadAlignment` where a constant's alignment isn't 1, 2, 4, 8 or 16, and by
+    /// `LabelOutOfRange` where blocks and constants together pass 4294967295.
+    pub fn new(
+        alloc: Global,
+        block_count: u32,
+        constants: &[ConstantData],
+    ) -> Result<MachBuffer, EmitError>
+        ensures { MatchResult result (λ b. (new_cause block_count (map constant_of constants.now) ≡ None) × (b ≡ fresh block_count (map constant_of constants.now))) (λ e. Blames (new_cause block_count (map constant_of constants.now)) e) }
+    {
+        if !all_aligned(constants) {
+            return Err(EmitError::BadAlignment);
+        }
+        if constants.len() as u64 >= LABEL_LIMIT - u64::from(block_count) {
+            return Err(EmitError::LabelOutOfRange);
+        }
+        let label_count = u64::from(block_count) + constants.len() as u64;
+        let labels = match unbound(alloc, label_count) {
+            Ok(labels) => labels,
+            Err(_) => return Err(EmitError::NoMemory),
+        };
+        let constants = match copy_constants(alloc, constants) {
+            Ok(constants) => constants,
+            Err(_) => return Err(EmitError::NoMemory),
+        };
+        Ok(MachBuffer {
+            alloc,
+            bytes: Vec::new(alloc),
+            labels,
+            uses: Vec::new(alloc),
+            traps: Vec::new(alloc),
+            relocs: Vec::new(alloc),
+            call_sites: Vec::new(alloc),
+            try_call_sites: Vec::new(alloc),
+            patchable_sites: Vec::new(alloc),
+            stack_maps: Vec::new(alloc),
+            starts: Vec::new(alloc),
+            block_count,
+            constants,
+            failed: false,
+        })
+    }
+
+    /// Whether a call was refused, or `fail` was called.
+    pub fn is_failed(&self) -> bool
+        ensures { result ≡ self.now.failed }
+    {
+        self.failed
+    }
+
+    /// The length in bytes.
+    pub fn cur_offset(&self) -> CodeOffset
+        ensures value { result ≡ length self.now.bytes }
+        ensures below { result < limit }
+    {
+        self.bytes.len() as CodeOffset
+    }
+
+    /// The count of blocks.
+    pub fn block_count(&self) -> u32
+        ensures { result ≡ self.now.block_count }
+    {
+        self.block_count
+    }
+
+    /// The declared alignment of a constant, in bytes; `None` exactly for an undeclared one.
+    pub fn constant_align(&self, constant: VCodeConstant) -> Option<u32>
+        ensures { result ≡ align_of self.now constant.0 }
+    {
+        match self.constants.get(constant.0 as usize) {
+            Some(c) => Some(c.align),
+            None => None,
+        }
+    }
+
+    /// Marks the buffer.
+    pub fn fail(&mut self)
+        ensures { self.new ≡ marked self.old }
+    {
+        self.failed = true;
+    }
+
+    // A refusal: the mark stands from now on.
+    fn refuse(&mut self, e: EmitError) -> Result<(), EmitError>
+        ensures { MatchResult result (λ _. false ≡ true) (λ x. (x ≡ e) × (self.new ≡ marked self.old)) }
+    {
+        self.failed = true;
+        Err(e)
+    }
+
+    // Appends bytes.
+    fn put(&mut self, bytes: &[u8]) -> Result<(), EmitError>
+        ensures answer { MatchResult result (λ _. (put_cause self.old (length bytes.now) ≡ None) × (self.new ≡ record self.old { bytes = self.old.bytes ++ bytes.now })) (λ e. Blames (put_cause self.old (length bytes.now)) e × (self.new ≡ marked self.old)) }
+        ensures kept { Keeps self.old self.new }
+    {
+        if self.failed {
+            return self.refuse(EmitError::Failed);
+        }
+        if bytes.len() >= LIMIT - self.bytes.len() {
+            return self.refuse(EmitError::LabelOutOfRange);
+        }
+        match self.bytes.extend_from_slice(bytes) {
+            Ok(()) => Ok(()),
+            Err(_) => self.refuse(EmitError::NoMemory),
+        }
+    }
+
+    /// Appends a byte. Refused by `LabelOutOfRange` where the length would reach 2^31.
+    pub fn put1(&mut self, value: u8) -> Result<(), EmitError>
+        ensures answer { MatchResult result (λ _. (put_cause self.old 1 ≡ None) × (self.new ≡ record self.old { bytes = self.old.bytes ++ value ∷ [] })) (λ e. Blames (put_cause self.old 1) e × (self.new ≡ marked self.old)) }
+        ensures kept { Keeps self.old self.new }
+    {
+        self.put(&[value])
+    }
+
+    /// Appends four bytes, the most significant first. Refused by `LabelOutOfRange` where the length would reach 2^31.
+    pub fn put4(&mut self, value: u32) -> Result<(), EmitError>
+        ensures answer { MatchResult result (λ _. (put_cause self.old 4 ≡ None) × (self.new ≡ record self.old { bytes = self.old.bytes ++ to_be_bytes w32 value })) (λ e. Blames (put_cause self.old 4) e × (self.new ≡ marked self.old)) }
+        ensures kept { Keeps self.old self.new }
+    {
+        self.put(&value.to_be_bytes())
+    }
+
+    /// Appends eight bytes, the most significant first. Refused by `LabelOutOfRange` where the length would reach 2^31.
+    pub fn put8(&mut self, value: u64) -> Result<(), EmitError>
+        ensures answer { MatchResult result (λ _. (put_cause self.old 8 ≡ None) × (self.new ≡ record self.old { bytes = self.old.bytes ++ to_be_bytes w64 value })) (λ e. Blames (put_cause self.old 8) e × (self.new ≡ marked self.old)) }
+        ensures kept { Keeps self.old self.new }
+    {
+        self.put(&value.to_be_bytes())
+    }
+
+    /// Appends the code of an instruction. Refused by `LabelOutOfRange` where the length would reach 2^31.
+    pub fn put_code(&mut self, code: &Code) -> Result<(), EmitError>
+        ensures answer { MatchResult result (λ _. (put_cause self.old (length code.now) ≡ None) × (self.new ≡ record self.old { bytes = self.old.bytes ++ code.now })) (λ e. Blames (put_cause self.old (length code.now)) e × (self.new ≡ marked self.old)) }
+        ensures kept { Keeps self.old self.new }
+    {
+        self.put(code.bytes())
+    }
+
+    /// Records a trap at the current offset.
+    pub fn add_trap(&mut self, code: TrapCode) -> Result<(), EmitError>
+        ensures answer { MatchResult result (λ _. (mark_cause self.old ≡ None) × (self.new ≡ record self.old { traps = self.old.traps ++ record { offset = length self.old.bytes; code = code } ∷ [] })) (λ e. Blames (mark_cause self.old) e × (self.new ≡ marked self.old)) }
+        ensures kept { Keeps self.old self.new }
+    {
+        if self.failed {
+            return self.refuse(EmitError::Failed);
+        }
+        let offset = self.cur_offset();
+        match self.traps.push(TrapEntry { offset, code }) {
+            Ok(()) => Ok(()),
+            Err(_) => self.refuse(EmitError::NoMemory),
+        }
+    }
+
+    /// Records a relocation at the current offset.
+    pub fn add_reloc(
+        &mut self,
+        kind: Reloc,
+        name: ExternalName,
+        addend: Addend,
+    ) -> Result<(), EmitError>
+        ensures answer { MatchResult result (λ _. (mark_cause self.old ≡ None) × (self.new ≡ record self.old { relocs = self.old.relocs ++ record { offset = length self.old.bytes; kind = kind; name = name; addend = addend } ∷ [] })) (λ e. Blames (mark_cause self.old) e × (self.new ≡ marked self.old)) }
+        ensures kept { Keeps self.old self.new }
+    {
+        let offset = self.cur_offset();
+        self.add_reloc_at_offset(offset, kind, name, addend)
+    }
+
+    /// Records a relocation at an offset.
+    pub fn add_reloc_at_offset(
+        &mut self,
+        offset: CodeOffset,
+        kind: Reloc,
+        name: ExternalName,
+        addend: Addend,
+    ) -> Result<(), EmitError>
+        ensures answer { MatchResult result (λ _. (mark_cause self.old ≡ None) × (self.new ≡ record self.old { relocs = self.old.relocs ++ record { offset = offset; kind = kind; name = name; addend = addend } ∷ [] })) (λ e. Blames (mark_cause self.old) e × (self.new ≡ marked self.old)) }
+        ensures kept { Keeps self.old self.new }
+    {
+        if self.failed {
+            return self.refuse(EmitError::Failed);
+        }
+        let entry = RelocEntry {
+            offset,
+            kind,
+            name,
+            addend,
+        };
+        match self.relocs.push(entry) {
+            Ok(()) => Ok(()),
+            Err(_) => {
+                self.failed = true;
+                Err(EmitError::NoMemory)
+            }
+        }
+    }
+
+    /// The next unused label. Refused by `LabelOutOfRange` where its number would pass 4294967295.
+    pub fn get_label(&mut self) -> Result<MachLabel, EmitError>
+        ensures answer { MatchResult result (λ l. (draw_cause self.old ≡ None) × (l.0 ≡ length self.old.labels) × (self.new ≡ record self.old { labels = self.old.labels ++ None ∷ [] })) (λ e. Blames (draw_cause self.old) e × (self.new ≡ marked self.old)) }
+        ensures kept { Keeps self.old self.new }
+    {
+        if self.failed {
+            self.failed = true;
+            return Err(EmitError::Failed);
+        }
+        let label = self.labels.len();
+        if label as u64 >= LABEL_LIMIT {
+            self.failed = true;
+            return Err(EmitError::LabelOutOfRange);
+        }
+        match self.labels.push(None) {
+            Ok(()) => Ok(MachLabel(label as u32)),
+            Err(_) => {
+                self.failed = true;
+                Err(EmitError::NoMemory)
+            }
+        }
+    }
+
+    /// The label of a constant. Refused by `UnboundLabel` where it isn't declared.
+    pub fn get_label_for_constant(
+        &mut self,
+        constant: VCodeConstant,
+    ) -> Result<MachLabel, EmitError>
+        ensures answer { MatchResult result (λ l. (constant_cause self.old constant.0 ≡ None) × (l.0 ≡ constant_label self.old constant.0) × (self.new ≡ self.old)) (λ e. Blames (constant_cause self.old constant.0) e × (self.new ≡ marked self.old)) }
+        ensures kept { Keeps self.old self.new }
+    {
+        if self.failed {
+            self.failed = true;
+            return Err(EmitError::Failed);
+        }
+        if constant.0 as usize >= self.constants.len() {
+            self.failed = true;
+            return Err(EmitError::UnboundLabel);
+        }
+        Ok(MachLabel(self.block_count + constant.0))
+    }
+
+    /// Binds a label at the current offset. Refused by `UnboundLabel` where it isn't this buffer's.
+    pub fn bind_label(&mut self, label: MachLabel) -> Result<(), EmitError>
+        requires unbound { get_or self.old.labels label.0 None ≡ None }
+        requires no_constant { IsNoConstant self.old label.0 }
+        ensures answer { MatchResult result (λ _. (label_cause self.old label.0 ≡ None) × (self.new ≡ record self.old { labels = set self.old.labels label.0 (Some (length self.old.bytes)) })) (λ e. Blames (label_cause self.old label.0) e × (self.new ≡ marked self.old)) }
+        ensures kept { Keeps self.old self.new }
+    {
+        if self.failed {
+            return self.refuse(EmitError::Failed);
+        }
+        if label.0 as usize >= self.labels.len() {
+            return self.refuse(EmitError::UnboundLabel);
+        }
+        let offset = self.cur_offset();
+        self.labels[label.0 as usize] = Some(offset);
+        Ok(())
+    }
+
+    /// Records a use of a label, to be patched at the end. Refused by `UnboundLabel` where the label isn't this buffer's.
+    pub fn use_label_at_offset(
+        &mut self,
+        offset: CodeOffset,
+        label: MachLabel,
+        kind: LabelUse,
+    ) -> Result<(), EmitError>
+        ensures answer { MatchResult result (λ _. (label_cause self.old label.0 ≡ None) × (self.new ≡ record self.old { uses = self.old.uses ++ record { kind = kind; offset = offset; label = label } ∷ [] })) (λ e. Blames (label_cause self.old label.0) e × (self.new ≡ marked self.old)) }
+        ensures kept { Keeps self.old self.new }
+    {
+        if self.failed {
+            return self.refuse(EmitError::Failed);
+        }
+        if label.0 as usize >= self.labels.len() {
+            return self.refuse(EmitError::UnboundLabel);
+        }
+        let fixup = LabelFixup {
+            kind,
+            offset,
+            label,
+        };
+        match self.uses.push(fixup) {
+            Ok(()) => Ok(()),
+            Err(_) => self.refuse(EmitError::NoMemory),
+        }
+    }
+
+    /// Records a call's site at the current offset.
+    pub fn add_call_site(&mut self) -> Result<(), EmitError>
+        ensures answer { MatchResult result (λ _. (mark_cause self.old ≡ None) × (self.new ≡ record self.old { call_sites = self.old.call_sites ++ length self.old.bytes ∷ [] })) (λ e. Blames (mark_cause self.old) e × (self.new ≡ marked self.old)) }
+        ensures kept { Keeps self.old self.new }
+    {
+        if self.failed {
+            return self.refuse(EmitError::Failed);
+        }
+        let offset = self.cur_offset();
+        match self.call_sites.push(offset) {
+            Ok(()) => Ok(()),
+            Err(_) => self.refuse(EmitError::NoMemory),
+        }
+    }
+
+    /// Records the site of a call with a try at the current offset, with its frame's size in bytes and its handlers.
+    /// Refused by `UnboundLabel` where a handler's label isn't this buffer's.
+    #[tactic(auto, using(crate::proofs::Keeping::keeps_mark, crate::proofs::Keeping::keeps_try_call_sites))]
+    pub fn add_try_call_site(
+        &mut self,
+        frame: u64,
+        handlers: &[TryHandler],
+    ) -> Result<(), EmitError>
+        ensures answer { MatchResult result (λ _. (handlers_cause self.old handlers.now ≡ None) × (self.new ≡ record self.old { try_call_sites = self.old.try_call_sites ++ record { offset = length self.old.bytes; frame = frame; handlers = handlers.now } ∷ [] })) (λ e. Blames (handlers_cause self.old handlers.now) e × (self.new ≡ marked self.old)) }
+        ensures kept { Keeps self.old self.new }
+    {
+        if self.failed {
+            return self.refuse(EmitError::Failed);
+        }
+        if !all_below(handlers, self.labels.len()) {
+            return self.refuse(EmitError::UnboundLabel);
+        }
+        let offset = self.cur_offset();
+        let handlers = match copy_handlers(self.alloc, handlers) {
+            Ok(handlers) => handlers,
+            Err(_) => return self.refuse(EmitError::NoMemory),
+        };
+        let site = TrySite {
+            offset,
+            frame,
+            handlers,
+        };
+        if self.try_call_sites.push(site).is_err() {
+            return self.refuse(EmitError::NoMemory);
+        }
+        Ok(())
+    }
+
+    /// Records the site of a patchable call of so many bytes at the current offset.
+    pub fn add_patchable_call_site(&mut self, len: u32) -> Result<(), EmitError>
+        ensures answer { MatchResult result (λ _. (mark_cause self.old ≡ None) × (self.new ≡ record self.old { patchable_sites = self.old.patchable_sites ++ record { offset = length self.old.bytes; len = len } ∷ [] })) (λ e. Blames (mark_cause self.old) e × (self.new ≡ marked self.old)) }
+        ensures kept { Keeps self.old self.new }
+    {
+        if self.failed {
+            return self.refuse(EmitError::Failed);
+        }
+        let offset = self.cur_offset();
+        match self.patchable_sites.push(PatchEntry { offset, len }) {
+            Ok(()) => Ok(()),
+            Err(_) => self.refuse(EmitError::NoMemory),
+        }
+    }
+
+    /// Records a stack map at an offset.
+    pub fn push_user_stack_map(&mut self, offset: CodeOffset, map: u32) -> Result<(), EmitError>
+        ensures answer { MatchResult result (λ _. (mark_cause self.old ≡ None) × (self.new ≡ record self.old { stack_maps = self.old.stack_maps ++ record { offset = offset; map = map } ∷ [] })) (λ e. Blames (mark_cause self.old) e × (self.new ≡ marked self.old)) }
+        ensures kept { Keeps self.old self.new }
+    {
+        if self.failed {
+            return self.refuse(EmitError::Failed);
+        }
+        match self.stack_maps.push(MapEntry { offset, map }) {
+            Ok(()) => Ok(()),
+            Err(_) => self.refuse(EmitError::NoMemory),
+        }
+    }
+
+    /// The current offset is where the next step starts.
+    pub fn start_step(&mut self) -> Result<(), EmitError>
+        ensures answer { MatchResult result (λ _. (mark_cause self.old ≡ None) × (self.new ≡ record self.old { starts = self.old.starts ++ length self.old.bytes ∷ [] })) (λ e. Blames (mark_cause self.old) e × (self.new ≡ marked self.old)) }
+        ensures kept { Keeps self.old self.new }
+    {
+        if self.failed {
+            return self.refuse(EmitError::Failed);
+        }
+        let offset = self.cur_offset();
+        match self.starts.push(offset) {
+            Ok(()) => Ok(()),
+            Err(_) => self.refuse(EmitError::NoMemory),
+        }
+    }
+
+    /// The finished code: the constants stand behind it, in order, each at the next multiple of the
+    /// greater of 2 and its alignment with zero bytes between, and each use is patched to its label,
+    /// in the order of the calls that made the uses. Refused by `LabelOutOfRange` where the length
+    /// would reach 2^31, and where a use can't be patched, by `UnboundLabel` where its label was never
+    /// bound and by `LabelOutOfRange` where its distance is odd or out of its range, a patched
+    /// `PCRel32` sum leaves signed 32 bits, or its bytes lie past the end.
+    pub fn finish(self) -> Result<MachBufferFinalized, EmitError>
+        ensures { MatchResult result (λ f. (finish_cause self ≡ None) × Finished self f) (λ e. BlamesEither (length_cause self) (patch_cause self) e) }
+    {
+        if self.failed {
+            return Err(EmitError::Failed);
+        }
+        let MachBuffer {
+            alloc,
+            mut bytes,
+            mut labels,
+            uses,
+            traps,
+            relocs,
+            call_sites,
+            try_call_sites,
+            patchable_sites,
+            stack_maps,
+            starts,
+            block_count,
+            constants,
+            failed: _,
+        } = self;
+        if !constants_fit(bytes.len(), &constants) {
+            return Err(EmitError::LabelOutOfRange);
+        }
+        let alignment = alignment_of(&constants);
+        let Ok(block_starts) = starts_of(alloc, &labels, block_count) else {
+            return Err(EmitError::NoMemory);
+        };
+        let constant_starts = match place_and_patch(
+            alloc,
+            &mut bytes,
+            &mut labels,
+            block_count,
+            &constants,
+            &uses,
+        ) {
+            Ok(starts) => starts,
+            Err(e) => return Err(e),
+        };
+        let Ok(try_call_sites) = place_try_sites(alloc, &labels, &try_call_sites) else {
+            return Err(EmitError::NoMemory);
+        };
+        Ok(MachBufferFinalized {
+            bytes,
+            block_starts,
+            constant_starts,
+            starts,
+            relocs,
+            traps,
+            call_sites,
+            try_call_sites,
+            patchable_sites,
+            stack_maps,
+            alignment,
+        })
+    }
+}
+
+// Whether a declared alignment is one of the allowed ones.
+fn is_alignment(align: u32) -> bool
+    ensures { result ≡ is_alignment align }
+{
+    matches!(align, 1 | 2 | 4 | 8 | 16)
+}
+
+// Whether each constant's alignment is one of the allowed ones.
+fn all_aligned(constants: &[ConstantData]) -> bool
+    ensures { result ≡ all_aligned (map constant_of constants.now) }
+{
+    for c in constants {
+        if !is_alignment(c.align) {
+            return false;
+        }
+    }
+    true
+}
+
+// So many labels without a place.
+fn unbound(alloc: Global, count: u64) -> Result<Vec<Option<CodeOffset>>, AllocError>
+    ensures { IfOk result (λ v. v.items ≡ replicate count None) }
+{
+    let mut labels = Vec::new(alloc);
+    for _i in 0..count {
+        labels.push(None)?;
+    }
+    Ok(labels)
+}
+
+// The constants again.
+fn copy_constants(
+    alloc: Global,
+    constants: &[ConstantData],
+) -> Result<Vec<ConstantData>, AllocError>
+    ensures { IfOk result (λ v. map constant_of v.items ≡ map constant_of constants.now) }
+{
+    let mut copies = Vec::new(alloc);
+    for c in constants {
+        let mut bytes = Vec::new(alloc);
+        bytes.extend_from_slice(&c.bytes)?;
+        copies.push(ConstantData {
+            bytes,
+            align: c.align,
+        })?;
+    }
+    Ok(copies)
+}
+
+// The handlers again.
+fn copy_handlers(alloc: Global, handlers: &[TryHandler]) -> Result<Vec<TryHandler>, AllocError>
+    ensures { IfOk result (λ v. v.items ≡ handlers.now) }
+{
+    let mut copies = Vec::new(alloc);
+    copies.extend_from_slice(handlers)?;
+    Ok(copies)
+}
+
+// Whether each handler's label is one of the first so many.
+fn all_below(handlers: &[TryHandler], count: usize) -> bool
+    ensures { result ≡ labels_below count handlers.now }
+{
+    for h in handlers {
+        if h.label.0 as usize >= count {
+            return false;
+        }
+    }
+    true
+}

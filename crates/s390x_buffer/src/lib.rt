@@ -1,0 +1,17 @@
+//! The buffer of emission: bytes, labels and their uses, constants and tables, and what they become once finished.
+#![tactic(auto)]
+
+pub mod buffer;
+pub mod entries;
+mod finish;
+pub mod label_use;
+pub mod mach_inst_label_use;
+mod patch;
+
+pub use buffer::MachBuffer;
+pub use entries::{
+    HandlerEntry, LabelFixup, MachBufferFinalized, MapEntry, PatchEntry, RelocEntry, TrapEntry,
+    TryEntry, TryHandler,
+};
+pub use label_use::LabelUse;
+pub use mach_inst_label_use::MachInstLabelUse;

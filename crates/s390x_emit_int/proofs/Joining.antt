@@ -1,0 +1,190 @@
+-- The pieces, resolved, are the code of the typed steps.
+use Rattle.std.proofs.Common.{◌≡◌, ℕ, zero, suc, ◌+◌, ◌-◌, ◌*◌, ◌/◌, ◌%◌, ◌<◌, ◌≤◌, List, [], ◌∷◌, ◌++◌, length, refl, sym, ap, ◌∙◌, subst, arith, length-append, append_assoc, append-nil, add-zero, add_assoc}
+use Rattle.s390x_buffer.specs.Patch.{half, patch}
+use Rattle.s390x_buffer.specs.declared.label_use.LabelUse.TheVariants.{BranchRIL}
+use Rattle.s390x_inst.specs.declared.inst.Inst.{Inst}
+use Rattle.s390x_inst.specs.declared.inst.Inst.TheVariants.{CondBreak}
+use Rattle.s390x_steps.specs.Tree.{Tree, empty, leaf, looped}
+use Rattle.s390x_steps.specs.Steps.{Step as TypedStep, Plain, Opening, Back, Break, step_count, step_of, steps_of}
+use Rattle.s390x_steps.specs.MachineInstruction.{ril_c, bytes_of, size_of, joined_bytes}
+use Rattle.s390x_steps.specs.Parts.{Part, Row, Branch, Target, ToBlock, ToStep, instruction_parts, step_parts, part_size, parts_size, step_size}
+use Rattle.s390x_steps.specs.Rows.{Places, half_distance, row_of, rows_of, step_bytes}
+use Rattle.s390x_steps.specs.Image.{code}
+use Rattle.s390x_steps.specs.Sizes.{instruction_size, tree_size}
+use Rattle.s390x_steps.specs.Causes.{draws}
+use Rattle.s390x_emit_int.specs.Pieces.{Piece, Put, Link, Step, Draw, Bind}
+use Rattle.s390x_emit_int.specs.Emission.{branch, part_piece, part_pieces, leaf_pieces, back_pieces, pieces}
+use Rattle.s390x_emit_int.specs.Resolve.{resolve, put_length}
+use Rattle.s390x_emit_int.specs.Bound.{Bound, Follows, PartNames, PartsName, TreeNames}
+use Rattle.s390x_emit_int.proofs.Branches.{patched_branch}
+use Rattle.s390x_emit_int.proofs.Runs.{length-bytes, length-branch}
+
+pub resolve-append : (off : ℕ → ℕ) (a b : List Piece) (p : ℕ) → resolve off p (a ++ b) ≡ resolve off p a ++ resolve off (p + put_length a) b
+resolve-append off [] b p = ap (λ m. resolve off m b) (sym (add-zero p))
+resolve-append off (Put bs ∷ a) b p = ap (λ l. bs ++ l) (resolve-append off a b (p + length bs)) ∙ sym (append_assoc bs _ _) ∙ ap (λ m. (bs ++ resolve off (p + length bs) a) ++ resolve off m b) (add_assoc p (length bs) (put_length a))
+resolve-append off (Link k l bs ∷ a) b p = ap (λ x. patch k 0 p (off l) bs ++ x) (resolve-append off a b (p + length bs)) ∙ sym (append_assoc (patch k 0 p (off l) bs) _ _) ∙ ap (λ m. (patch k 0 p (off l) bs ++ resolve off (p + length bs) a) ++ resolve off m b) (add_assoc p (length bs) (put_length a))
+resolve-append off (Step ∷ a) b p = resolve-append off a b p
+resolve-append off (Draw ∷ a) b p = resolve-append off a b p
+resolve-append off (Bind l ∷ a) b p = resolve-append off a b p
+
+pub put_append : (a b : List Piece) → put_length (a ++ b) ≡ put_length a + put_length b
+put_append [] b = omega arith
+put_append (Put bs ∷ a) b = omega (arith, put_append a b)
+put_append (Link k l bs ∷ a) b = omega (arith, put_append a b)
+put_append (Step ∷ a) b = put_append a b
+put_append (Draw ∷ a) b = put_append a b
+put_append (Bind l ∷ a) b = put_append a b
+
+parts_put : (parts : List Part) → put_length (part_pieces parts) ≡ parts_size parts
+parts_put [] = refl
+parts_put (Row m ∷ parts) = omega (arith, length-bytes m, parts_put parts)
+parts_put (Branch mask (ToBlock b) ∷ parts) = omega (arith, length-branch mask, parts_put parts)
+parts_put (Branch mask (ToStep k) ∷ parts) = omega (arith, length-branch mask, parts_put parts)
+
+pub leaf_put : (after : ℕ) (i : Inst) → put_length (leaf_pieces after i) ≡ instruction_size i
+leaf_put after (CondBreak mask) = omega (arith, length-branch mask)
+leaf_put after i = parts_put (instruction_parts i)
+
+pub tree_put : (n after : ℕ) (t : Tree) → put_length (pieces n after t) ≡ tree_size t
+tree_put n after empty = refl
+tree_put n after (leaf i rest) = put_append (leaf_pieces after i) (pieces n after rest) ∙ omega (arith, leaf_put after i, tree_put n after rest)
+tree_put n after (looped mask members rest) =
+    let r = pieces (n + 2 + draws members) after rest in
+    put_append (pieces (n + 2) (n + 1) members) (back_pieces n mask ++ r) ∙ omega (arith, length-branch mask, tree_put (n + 2) (n + 1) members, tree_put (n + 2 + draws members) after rest)
+
+-- the parts of an instruction, at a place
+parts_join : (parts : List Part) (off : ℕ → ℕ) (P : Places) (count p : ℕ) → ((l : ℕ) → l < count → off l ≡ P.block l) → PartsName count parts → resolve off p (part_pieces parts) ≡ joined_bytes (rows_of P p parts)
+parts_join [] off P count p agree names = refl
+parts_join (Row m ∷ parts) off P count p agree names =
+    ap (λ n. bytes_of m ++ resolve off (p + n) (part_pieces parts)) (length-bytes m) ∙ ap (λ l. bytes_of m ++ l) (parts_join parts off P count (p + size_of m) agree names.1)
+parts_join (Branch mask (ToBlock b) ∷ parts) off P count p agree names =
+    ap (λ l. l ++ resolve off (p + length (bytes_of (ril_c 0xc04 mask 0))) (part_pieces parts)) (patched_branch mask p (off b))
+    ∙ ap (λ x. bytes_of (ril_c 0xc04 mask (half_distance p x)) ++ resolve off (p + length (bytes_of (ril_c 0xc04 mask 0))) (part_pieces parts)) (agree b names.0)
+    ∙ ap (λ n. bytes_of (ril_c 0xc04 mask (half_distance p (P.block b))) ++ resolve off (p + n) (part_pieces parts)) (length-branch mask)
+    ∙ ap (λ l. bytes_of (ril_c 0xc04 mask (half_distance p (P.block b))) ++ l) (parts_join parts off P count (p + 6) agree names.1)
+parts_join (Branch mask (ToStep k) ∷ parts) off P count p agree names = absurd names.0
+
+pub leaf_join : (i : Inst) (off : ℕ → ℕ) (P : Places) (count after end p : ℕ) → ((l : ℕ) → l < count → off l ≡ P.block l) → PartsName count (instruction_parts i) → off after ≡ P.step end → resolve off p (leaf_pieces after i) ≡ step_bytes P p (step_of end i)
+leaf_join (CondBreak mask) off P count after end p agree names e =
+    append-nil (patch BranchRIL 0 p (off after) (bytes_of (ril_c 0xc04 mask 0))) ∙ patched_branch mask p (off after) ∙ ap (λ x. bytes_of (ril_c 0xc04 mask (half_distance p x))) e ∙ sym (append-nil (bytes_of (ril_c 0xc04 mask (half_distance p (P.step end)))))
+leaf_join i off P count after end p agree names e = parts_join (instruction_parts i) off P count p agree names
+
+-- the sizes of typed steps
+abbrev pub total : List TypedStep → ℕ
+total [] = 0
+total (s ∷ ss) = step_size s + total ss
+
+total_append : (a b : List TypedStep) → total (a ++ b) ≡ total a + total b
+total_append [] b = omega arith
+total_append (s ∷ a) b = omega (arith, total_append a b)
+
+pub size_of_step : (e : ℕ) (i : Inst) → step_size (step_of e i) ≡ instruction_size i
+size_of_step e (CondBreak mask) = refl
+size_of_step e i = refl
+
+pub steps_total : (t : Tree) (k e : ℕ) → total (steps_of k e t) ≡ tree_size t
+steps_total empty k e = refl
+steps_total (leaf i rest) k e = omega (arith, size_of_step e i, steps_total rest (k + 1) e)
+steps_total (looped mask members rest) k e =
+    let r = steps_of (k + 2 + step_count members) e rest in
+    omega (arith, total_append (steps_of (k + 1) (k + 2 + step_count members) members) (Back mask (k + 1) ∷ r), steps_total members (k + 1) (k + 2 + step_count members), steps_total rest (k + 2 + step_count members) e)
+
+pub steps_length : (t : Tree) (k e : ℕ) → length (steps_of k e t) ≡ step_count t
+steps_length empty k e = refl
+steps_length (leaf i rest) k e = omega (arith, steps_length rest (k + 1) e)
+steps_length (looped mask members rest) k e =
+    let r = steps_of (k + 2 + step_count members) e rest in
+    let l = length-append (steps_of (k + 1) (k + 2 + step_count members) members) (Back mask (k + 1) ∷ r) in
+    omega (arith, l, steps_length members (k + 1) (k + 2 + step_count members), steps_length rest (k + 2 + step_count members) e)
+
+pub code_append : (P : Places) (a b : List TypedStep) (k : ℕ) → code P k (a ++ b) ≡ code P k a ++ code P (k + length a) b
+code_append P [] b k = ap (λ m. code P m b) (sym (add-zero k))
+code_append P (s ∷ a) b k =
+    let e : k + 1 + length a ≡ k + suc (length a) = omega arith in
+    ap (λ l. step_bytes P (P.step k) s ++ l) (code_append P a b (k + 1)) ∙ sym (append_assoc (step_bytes P (P.step k) s) _ _) ∙ ap (λ m. (step_bytes P (P.step k) s ++ code P (k + 1) a) ++ code P m b) e
+
+pub follows_left : (at : ℕ → ℕ) (a b : List TypedStep) (k : ℕ) → Follows at k (a ++ b) → Follows at k a
+follows_left at [] b k h = tt
+follows_left at (s ∷ a) b k h = (h.0, follows_left at a b (k + 1) h.1)
+
+pub follows_right : (at : ℕ → ℕ) (a b : List TypedStep) (k m : ℕ) → k + length a ≡ m → Follows at k (a ++ b) → Follows at m b
+follows_right at [] b k m e h = subst (λ x. Follows at x b) (sym (add-zero k) ∙ e) h
+follows_right at (s ∷ a) b k m e h = follows_right at a b (k + 1) m (omega arith) h.1
+
+pub follows_end : (at : ℕ → ℕ) (a : List TypedStep) (k m : ℕ) → k + length a ≡ m → Follows at k a → at m ≡ at k + total a
+follows_end at [] k m e h = ap at (sym e ∙ add-zero k) ∙ sym (add-zero (at k))
+follows_end at (s ∷ a) k m e h = follows_end at a (k + 1) m (omega arith) h.1 ∙ omega (arith, h.0)
+
+-- what is known of a loop's places
+pub record LoopPlaces (at : ℕ → ℕ) (k e : ℕ) (members rest : Tree) : Type 0 where
+  pub start : at (k + 1) ≡ at k
+  pub turn : at (k + 1 + step_count members) ≡ at k + tree_size members
+  pub next : at (k + 2 + step_count members) ≡ at k + tree_size members + 6
+  pub inner : Follows at (k + 1) (steps_of (k + 1) (k + 2 + step_count members) members)
+  pub outer : Follows at (k + 2 + step_count members) (steps_of (k + 2 + step_count members) e rest)
+
+pub loop_places : (at : ℕ → ℕ) (k e mask : ℕ) (members rest : Tree) → Follows at k (steps_of k e (looped mask members rest)) → LoopPlaces at k e members rest
+loop_places at k e mask members rest follow =
+    let fb = steps_of (k + 1) (k + 2 + step_count members) members in
+    let fr = steps_of (k + 2 + step_count members) e rest in
+    let lb = steps_length members (k + 1) (k + 2 + step_count members) in
+    let start : at (k + 1) ≡ at k = omega (arith, follow.0) in
+    let inner = follows_left at fb (Back mask (k + 1) ∷ fr) (k + 1) follow.1 in
+    let turn : at (k + 1 + step_count members) ≡ at k + tree_size members = follows_end at fb (k + 1) (k + 1 + step_count members) (ap (λ m. k + 1 + m) lb) inner ∙ omega (arith, start, steps_total members (k + 1) (k + 2 + step_count members)) in
+    let right = follows_right at fb (Back mask (k + 1) ∷ fr) (k + 1) (k + 1 + step_count members) (ap (λ m. k + 1 + m) lb) follow.1 in
+    let k2 : k + 1 + step_count members + 1 ≡ k + 2 + step_count members = omega arith in
+    record {
+      start = start;
+      turn = turn;
+      next = ap at (sym k2) ∙ right.0 ∙ ap (λ m. m + 6) turn;
+      inner = inner;
+      outer = subst (λ m. Follows at m fr) k2 right.1;
+    }
+
+pub tree_join : (t : Tree) (off : ℕ → ℕ) (P : Places) (blocks n after k e : ℕ) → ((l : ℕ) → l < blocks → off l ≡ P.block l) → TreeNames blocks t → Bound off n (P.step k) t → Follows P.step k (steps_of k e t) → off after ≡ P.step e → resolve off (P.step k) (pieces n after t) ≡ code P k (steps_of k e t)
+tree_join empty off P blocks n after k e agree names bound follow oe = refl
+tree_join (leaf i rest) off P blocks n after k e agree names bound follow oe =
+    let p = P.step k in
+    let next : P.step (k + 1) ≡ p + instruction_size i = follow.0 ∙ ap (λ m. p + m) (size_of_step e i) in
+    let ps = pieces n after rest in
+    let here = leaf_join i off P blocks after e p agree names.0 oe in
+    let there = tree_join rest off P blocks n after (k + 1) e agree names.1 (subst (λ m. Bound off n m rest) (sym next) bound) follow.1 oe in
+    resolve-append off (leaf_pieces after i) ps p
+    ∙ ap (λ m. resolve off p (leaf_pieces after i) ++ resolve off (p + m) ps) (leaf_put after i)
+    ∙ ap (λ m. resolve off p (leaf_pieces after i) ++ resolve off m ps) (sym next)
+    ∙ ap (λ l. l ++ resolve off (P.step (k + 1)) ps) here
+    ∙ ap (λ l. step_bytes P p (step_of e i) ++ l) there
+tree_join (looped mask members rest) off P blocks n after k e agree names bound follow oe =
+    let at = P.step in
+    let p = at k in
+    let k1 = k + 1 + step_count members in
+    let k2 = k + 2 + step_count members in
+    let fb = steps_of (k + 1) k2 members in
+    let fr = steps_of k2 e rest in
+    let pb = pieces (n + 2) (n + 1) members in
+    let pr = pieces (n + 2 + draws members) after rest in
+    let b0 = bytes_of (ril_c 0xc04 mask 0) in
+    let w : LoopPlaces at k e members rest = loop_places at k e mask members rest follow in
+    let inner = tree_join members off P blocks (n + 2) (n + 1) (k + 1) k2 agree names.0 (subst (λ m. Bound off (n + 2) m members) (sym w.start) bound.2) w.inner (bound.1 ∙ sym w.next) in
+    let outer = tree_join rest off P blocks (n + 2 + draws members) after k2 e agree names.1 (subst (λ m. Bound off (n + 2 + draws members) m rest) (sym w.next) bound.3) w.outer oe in
+    let back_off : off n ≡ at (k + 1) = bound.0 ∙ sym w.start in
+    let lb : k + 1 + length fb ≡ k1 = ap (λ m. k + 1 + m) (steps_length members (k + 1) k2) in
+    let k12 : k1 + 1 ≡ k2 = omega arith in
+    let after_back : p + tree_size members + length b0 ≡ at k2 = ap (λ m. p + tree_size members + m) (length-branch mask) ∙ sym w.next in
+    let tail : resolve off (p + tree_size members) (back_pieces n mask ++ pr) ≡ bytes_of (ril_c 0xc04 mask (half_distance (at k1) (at (k + 1)))) ++ code P k2 fr =
+      ap (λ l. l ++ resolve off (p + tree_size members + length b0) pr) (patched_branch mask (p + tree_size members) (off n))
+      ∙ ap (λ m. bytes_of (ril_c 0xc04 mask (half_distance m (off n))) ++ resolve off (p + tree_size members + length b0) pr) (sym w.turn)
+      ∙ ap (λ m. bytes_of (ril_c 0xc04 mask (half_distance (at k1) m)) ++ resolve off (p + tree_size members + length b0) pr) back_off
+      ∙ ap (λ m. bytes_of (ril_c 0xc04 mask (half_distance (at k1) (at (k + 1)))) ++ resolve off m pr) after_back
+      ∙ ap (λ l. bytes_of (ril_c 0xc04 mask (half_distance (at k1) (at (k + 1)))) ++ l) outer in
+    let left : resolve off p (pieces n after (looped mask members rest)) ≡ code P (k + 1) fb ++ (bytes_of (ril_c 0xc04 mask (half_distance (at k1) (at (k + 1)))) ++ code P k2 fr) =
+      resolve-append off pb (back_pieces n mask ++ pr) p
+      ∙ ap (λ m. resolve off p pb ++ resolve off (p + m) (back_pieces n mask ++ pr)) (tree_put (n + 2) (n + 1) members)
+      ∙ ap (λ l. resolve off p pb ++ l) tail
+      ∙ ap (λ l. l ++ (bytes_of (ril_c 0xc04 mask (half_distance (at k1) (at (k + 1)))) ++ code P k2 fr)) (ap (λ m. resolve off m pb) (sym w.start) ∙ inner) in
+    let right : code P (k + 1) (fb ++ Back mask (k + 1) ∷ fr) ≡ code P (k + 1) fb ++ (bytes_of (ril_c 0xc04 mask (half_distance (at k1) (at (k + 1)))) ++ code P k2 fr) =
+      code_append P fb (Back mask (k + 1) ∷ fr) (k + 1)
+      ∙ ap (λ m. code P (k + 1) fb ++ code P m (Back mask (k + 1) ∷ fr)) lb
+      ∙ ap (λ l. code P (k + 1) fb ++ (l ++ code P (k1 + 1) fr)) (append-nil (bytes_of (ril_c 0xc04 mask (half_distance (at k1) (at (k + 1))))))
+      ∙ ap (λ m. code P (k + 1) fb ++ (bytes_of (ril_c 0xc04 mask (half_distance (at k1) (at (k + 1)))) ++ code P m fr)) k12 in
+    left ∙ sym right

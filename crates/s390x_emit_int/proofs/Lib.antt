@@ -1,0 +1,9 @@
+pub mod Checking
+pub mod Runs
+pub mod Patching
+pub mod Branches
+pub mod Binding
+pub mod Joining
+pub mod Starts
+pub mod Names
+pub mod Functions

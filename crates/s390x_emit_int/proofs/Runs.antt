@@ -1,0 +1,123 @@
+-- Running pieces: how the lists of a buffer grow.
+use Rattle.std.proofs.Common.{◌≡◌, ℕ, zero, suc, ◌+◌, ◌<◌, ◌≢◌, Option, Some, None, List, [], ◌∷◌, ◌++◌, length, get_or, set, refl, sym, ap, ◌∙◌, subst, arith, length-append, length-set}
+use Rattle.std.proofs.lemmas.List.{get_or_append_left, get_or-set_other}
+use Rattle.s390x_buffer.specs.State.{State}
+use Rattle.s390x_inst.specs.declared.inst.Inst.{Inst}
+use Rattle.s390x_inst.specs.declared.inst.Inst.TheVariants.{CondBreak}
+use Rattle.s390x_steps.specs.Tree.{Tree, empty, leaf, looped}
+use Rattle.s390x_steps.specs.Sizes.{instruction_size, tree_size}
+use Rattle.s390x_steps.specs.Causes.{draws}
+use Rattle.s390x_steps.specs.MachineInstruction.{MachineInstruction, ril_c, bytes_of, size_of}
+use Rattle.s390x_steps.specs.Parts.{Part, Row, Branch, Target, ToBlock, ToStep, instruction_parts, part_size, parts_size}
+use Rattle.s390x_emit_int.specs.Pieces.{Piece, apply, run, Put, Link, Step, Draw, Bind}
+use Rattle.s390x_emit_int.specs.Emission.{branch, part_piece, part_pieces, leaf_pieces, back_pieces, pieces}
+use Rattle.s390x_format.specs.Formats.{length_of}
+use Rattle.s390x_format.proofs.Encoding.{encode-length}
+
+pub length-bytes : (m : MachineInstruction) → length (bytes_of m) ≡ size_of m
+length-bytes m = encode-length m.format m.slots
+
+pub size-branch : (mask half : ℕ) → size_of (ril_c 0xc04 mask half) ≡ 6
+unfolding length_of
+size-branch mask half = refl
+
+pub length-branch : (mask : ℕ) → length (bytes_of (ril_c 0xc04 mask 0)) ≡ 6
+length-branch mask = length-bytes (ril_c 0xc04 mask 0) ∙ size-branch mask 0
+
+pub run-append : (s : State) (a b : List Piece) → run s (a ++ b) ≡ run (run s a) b
+run-append s [] b = refl
+run-append s (p ∷ a) b = run-append (apply s p) a b
+
+-- from s to t so many labels were drawn and so many bytes put, and the labels before stand as they were
+pub record Grows (s t : State) (k m : ℕ) : Type 0 where
+  pub labels : length t.labels ≡ length s.labels + k
+  pub kept : (l : ℕ) → l < length s.labels → get_or t.labels l None ≡ get_or s.labels l None
+  pub bytes : length t.bytes ≡ length s.bytes + m
+
+pub grows_on : (s t u : State) (k m k' m' : ℕ) → Grows s t k m → Grows t u k' m' → Grows s u (k + k') (m + m')
+grows_on s t u k m k' m' a b = record {
+  labels = omega (arith, a.labels, b.labels);
+  kept = λ l h. let h' : l < length t.labels = omega (arith, a.labels) in b.kept l h' ∙ a.kept l h;
+  bytes = omega (arith, a.bytes, b.bytes);
+}
+
+branch_grows : (s : State) (mask l : ℕ) → Grows s (apply s (branch mask l)) 0 6
+branch_grows s mask l = record {
+  labels = omega arith;
+  kept = λ l h. refl;
+  bytes = length-append s.bytes (bytes_of (ril_c 0xc04 mask 0)) ∙ ap (λ m. length s.bytes + m) (length-branch mask);
+}
+
+part_grows : (part : Part) (s : State) → Grows s (apply s (part_piece part)) 0 (part_size part)
+part_grows (Row m) s = record {
+  labels = omega arith;
+  kept = λ l h. refl;
+  bytes = length-append s.bytes (bytes_of m) ∙ ap (λ n. length s.bytes + n) (length-bytes m);
+}
+part_grows (Branch mask (ToBlock b)) s = branch_grows s mask b
+part_grows (Branch mask (ToStep k)) s = branch_grows s mask k
+
+parts_grow : (parts : List Part) (s : State) → Grows s (run s (part_pieces parts)) 0 (parts_size parts)
+parts_grow [] s = record { labels = omega arith; kept = λ l h. refl; bytes = omega arith }
+parts_grow (part ∷ parts) s = grows_on s (apply s (part_piece part)) _ 0 (part_size part) 0 (parts_size parts) (part_grows part s) (parts_grow parts (apply s (part_piece part)))
+
+pub leaf_grows : (i : Inst) (s : State) (after : ℕ) → Grows s (run s (leaf_pieces after i)) 0 (instruction_size i)
+leaf_grows (CondBreak mask) s after = branch_grows s mask after
+leaf_grows i s after = parts_grow (instruction_parts i) s
+
+-- a loop's beginning
+abbrev pub opened : State → State
+opened s = run s (Draw ∷ Draw ∷ Bind (length s.labels) ∷ [])
+
+pub opened_labels : (s : State) → length (opened s).labels ≡ length s.labels + 2
+opened_labels s = omega (arith, length-set ((s.labels ++ None ∷ []) ++ None ∷ []) (length s.labels) (Some (length s.bytes)), length-append (s.labels ++ None ∷ []) (None ∷ []), length-append s.labels (None ∷ []))
+
+pub opened_kept : (s : State) (l : ℕ) → l < length s.labels → get_or (opened s).labels l None ≡ get_or s.labels l None
+opened_kept s l h =
+    let ne : l ≢ length s.labels = omega arith in
+    let h' : l < length (s.labels ++ None ∷ []) = omega (arith, length-append s.labels (None ∷ [])) in
+    get_or-set_other ((s.labels ++ None ∷ []) ++ None ∷ []) (length s.labels) l (Some (length s.bytes)) None ne ∙ get_or_append_left (s.labels ++ None ∷ []) (None ∷ []) None l h' ∙ get_or_append_left s.labels (None ∷ []) None l h
+
+pub opened_grows : (s : State) → Grows s (opened s) 2 0
+opened_grows s = record { labels = opened_labels s; kept = opened_kept s; bytes = omega arith }
+
+-- a label that was drawn since has the next number, and may be bound
+pub end_grows : (s t : State) (mask k m : ℕ) → Grows s t (2 + k) m → Grows s (run t (back_pieces (length s.labels) mask)) (2 + k) (m + 6)
+end_grows s t mask k m g = record {
+  labels = omega (arith, g.labels, length-set t.labels (length s.labels + 1) (Some (length (t.bytes ++ bytes_of (ril_c 0xc04 mask 0)))));
+  kept = λ l h. let ne : l ≢ length s.labels + 1 = omega arith in get_or-set_other t.labels (length s.labels + 1) l _ None ne ∙ g.kept l h;
+  bytes = omega (arith, g.bytes, length-append t.bytes (bytes_of (ril_c 0xc04 mask 0)), length-branch mask);
+}
+
+pub step_grows : (s t : State) (k m : ℕ) → Grows (apply s Step) t k m → Grows s t k m
+step_grows s t k m g = record { labels = g.labels; kept = g.kept; bytes = g.bytes }
+
+abbrev pub body_run : State → Tree → State
+body_run s members = run (opened s) (pieces (length s.labels + 2) (length s.labels + 1) members)
+
+abbrev pub loop_run : State → ℕ → Tree → State
+loop_run s mask members = run (body_run s members) (back_pieces (length s.labels) mask)
+
+pub tree_grows : (t : Tree) (s : State) (n after : ℕ) → n ≡ length s.labels → Grows s (run s (pieces n after t)) (draws t) (tree_size t)
+tree_grows empty s n after e = record { labels = omega arith; kept = λ l h. refl; bytes = omega arith }
+tree_grows (leaf i rest) s n after e =
+    let s1 = apply s Step in
+    let s2 = run s1 (leaf_pieces after i) in
+    let g : Grows s s2 0 (instruction_size i) = step_grows s s2 _ _ (leaf_grows i s1 after) in
+    let n2 : n ≡ length s2.labels = omega (arith, g.labels) in
+    let h = tree_grows rest s2 n after n2 in
+    let r = grows_on s s2 (run s2 (pieces n after rest)) 0 (instruction_size i) (draws rest) (tree_size rest) g h in
+    let done : Grows s (run s2 (pieces n after rest)) (draws rest) (instruction_size i + tree_size rest) = record { labels = omega (arith, r.labels); kept = r.kept; bytes = omega (arith, r.bytes) } in
+    subst (λ x. Grows s x (draws rest) (instruction_size i + tree_size rest)) (sym (run-append s1 (leaf_pieces after i) (pieces n after rest))) done
+tree_grows (looped mask members rest) s n after e =
+    let n0 = length s.labels in
+    let s1 = apply s Step in
+    let s2 = body_run s1 members in
+    let s3 = loop_run s1 mask members in
+    let g2 = grows_on s1 (opened s1) s2 _ _ _ _ (opened_grows s1) (tree_grows members (opened s1) (n0 + 2) (n0 + 1) (sym (opened_labels s1))) in
+    let g3 = step_grows s s3 _ _ (end_grows s1 s2 mask (draws members) (0 + tree_size members) g2) in
+    let h = tree_grows rest s3 (n0 + 2 + draws members) after (omega (arith, g3.labels)) in
+    let r = grows_on s s3 _ _ _ _ _ g3 h in
+    let whole : run s (pieces n0 after (looped mask members rest)) ≡ run s3 (pieces (n0 + 2 + draws members) after rest) = run-append (opened s1) (pieces (n0 + 2) (n0 + 1) members) (back_pieces n0 mask ++ pieces (n0 + 2 + draws members) after rest) ∙ run-append s2 (back_pieces n0 mask) (pieces (n0 + 2 + draws members) after rest) in
+    let done : Grows s (run s3 (pieces (n0 + 2 + draws members) after rest)) (draws (looped mask members rest)) (tree_size (looped mask members rest)) = record { labels = r.labels; kept = r.kept; bytes = omega (arith, r.bytes) } in
+    subst (λ x. Grows s (run s (pieces x after (looped mask members rest))) (draws (looped mask members rest)) (tree_size (looped mask members rest))) (sym e) (subst (λ x. Grows s x (draws (looped mask members rest)) (tree_size (looped mask members rest))) (sym whole) done)

@@ -1,0 +1,54 @@
+-- A function: its image, and the first cause that refuses it.
+use Rattle.std.specs.Prelude.{◌≡◌, ℕ, ◌+◌, List, [], ◌++◌, length, map, ◌&&◌, nat_lt, nat_eq, Option}
+use Rattle.s390x_base.specs.declared.error.EmitError.{EmitError}
+use Rattle.s390x_base.specs.declared.error.EmitError.TheVariants.{BadStackState, LabelOutOfRange}
+use Rattle.s390x_inst.specs.Emission.{Emission}
+use Rattle.s390x_inst.specs.declared.function.Block.{Block}
+use Rattle.s390x_inst.specs.declared.function.AllocatedFunction.{AllocatedFunction}
+use Rattle.s390x_buffer.specs.State.{Constant, constant_of, new_cause, limit}
+use Rattle.s390x_buffer.specs.Constants.{constant_starts, constant_bytes, constants_end, greatest_align}
+use Rattle.s390x_buffer.specs.Finish.{entry_of}
+use Rattle.s390x_buffer.specs.declared.entries.MachBufferFinalized.{MachBufferFinalized}
+use Rattle.s390x_steps.specs.Tree.{Tree, tree}
+use Rattle.s390x_steps.specs.Steps.{function_steps}
+use Rattle.s390x_steps.specs.Image.{function_places, function_code, step_places, block_places}
+use Rattle.s390x_steps.specs.Sizes.{blocks_size}
+use Rattle.s390x_steps.specs.Causes.{first, unless, blocks_cause}
+
+abbrev pub tree_of : Block → Tree
+tree_of b = tree b.insts.items
+
+-- the blocks of a function as trees, and its constants
+abbrev pub trees_of : AllocatedFunction → List Tree
+trees_of f = map tree_of f.blocks.items
+
+abbrev pub constants_of : AllocatedFunction → List Constant
+constants_of f = map constant_of f.constants.items
+
+-- The finished code and its tables: the bytes of the steps and then the constants, where each block, constant and step starts.
+-- No instruction that is built has a relocation, a trap or a site, so these tables are empty.
+pub record IsImage (ts : List Tree) (cs : List Constant) (f : MachBufferFinalized) : Type 0 where
+  pub bytes : f.bytes.items ≡ function_code ts ++ constant_bytes (length (function_code ts)) cs
+  pub block_starts : f.block_starts.items ≡ block_places (function_places ts).step 0 ts
+  pub constant_starts : f.constant_starts.items ≡ constant_starts (length (function_code ts)) cs
+  pub starts : f.starts.items ≡ step_places (function_places ts).step 0 (function_steps ts)
+  pub relocs : f.relocs.items ≡ []
+  pub traps : f.traps.items ≡ []
+  pub call_sites : f.call_sites.items ≡ []
+  pub try_call_sites : map entry_of f.try_call_sites.items ≡ []
+  pub patchable_sites : f.patchable_sites.items ≡ []
+  pub stack_maps : f.stack_maps.items ≡ []
+  pub alignment : f.alignment ≡ greatest_align 4 cs
+
+-- the stack sizes at the beginning are 0
+abbrev pub start_cause : Emission → Option EmitError
+start_cause e = unless (nat_eq e.nominal 0 && nat_eq e.outgoing 0) BadStackState
+
+-- the code with its constants ends below the limit
+abbrev pub length_cause : List Tree → List Constant → Option EmitError
+length_cause ts cs = unless (nat_lt (constants_end (blocks_size ts) cs) limit) LabelOutOfRange
+
+-- The first cause of a function: the state, the constants' alignments, the count of blocks and constants, the steps in order, the length.
+abbrev pub function_cause : List Tree → List Constant → Emission → Option EmitError
+function_cause ts cs e =
+    first (start_cause e) (first (new_cause (length ts) cs) (first (blocks_cause (length ts) (length ts + length cs) ts) (length_cause ts cs)))

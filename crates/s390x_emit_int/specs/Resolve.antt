@@ -1,0 +1,29 @@
+-- The bytes of pieces, once each label has its place.
+use Rattle.std.specs.Prelude.{ℕ, ◌+◌, ◌≤◌, List, [], ◌∷◌, ◌++◌, length}
+use Rattle.s390x_buffer.specs.Patch.{patch, patch_size}
+use Rattle.s390x_buffer.specs.declared.entries.LabelFixup.{LabelFixup}
+use Rattle.s390x_emit_int.specs.Pieces.{Piece, Put, Link, Step, Draw, Bind}
+
+abbrev pub resolve : (ℕ → ℕ) → ℕ → List Piece → List ℕ
+resolve off p [] = []
+resolve off p (Put bs ∷ ps) = bs ++ resolve off (p + length bs) ps
+resolve off p (Link kind l bs ∷ ps) = patch kind 0 p (off l) bs ++ resolve off (p + length bs) ps
+resolve off p (_ ∷ ps) = resolve off p ps
+
+-- how many bytes they put
+abbrev pub put_length : List Piece → ℕ
+put_length [] = 0
+put_length (Put bs ∷ ps) = length bs + put_length ps
+put_length (Link kind l bs ∷ ps) = length bs + put_length ps
+put_length (_ ∷ ps) = put_length ps
+
+-- each use has its bytes
+abbrev pub Wide : List Piece → Type 0
+Wide [] = Unit {0}
+Wide (Link kind l bs ∷ ps) = (patch_size kind ≤ length bs) × Wide ps
+Wide (_ ∷ ps) = Wide ps
+
+-- the uses lie in so many bytes
+abbrev pub Within : ℕ → List LabelFixup → Type 0
+Within n [] = Unit {0}
+Within n (u ∷ us) = (u.offset + patch_size u.kind ≤ n) × Within n us

@@ -1,0 +1,16 @@
+-- What the check of causes answers: how many labels and bytes, the bytes counted up to the limit of code.
+use Rattle.std.specs.Prelude.{◌≡◌, ℕ, ◌+◌, ◌≤◌, min}
+use Rattle.s390x_emit_int.specs.declared.check.Totals.{Totals}
+
+abbrev pub limit : ℕ
+limit = 2147483648
+
+pub record IsCounted (t : Totals) : Type 0 where
+  pub labels : t.labels ≤ 4294967296
+  pub bytes : t.bytes ≤ limit
+
+-- after so many more labels and bytes
+pub record Adds (t r : Totals) (labels_more bytes_more : ℕ) : Type 0 where
+  pub counted : IsCounted r
+  pub labels : r.labels ≡ t.labels + labels_more
+  pub bytes : min limit r.bytes ≡ min limit (t.bytes + bytes_more)

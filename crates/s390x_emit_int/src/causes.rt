@@ -1,0 +1,95 @@
+//! Why an instruction is refused.
+ghost use Rattle.std.specs.Prelude.{◌≡◌, ◌≤◌, ◌&&◌, None, Some};
+ghost use Rattle.s390x_base.specs.declared.error.EmitError.TheVariants.{BadOperator, BadRegister, UnboundLabel};
+ghost use Rattle.s390x_steps.specs.Causes.{first, unless, is_general, is_nonzero, label_cause, labels_cause, is_alu_rrr, instruction_cause};
+
+use s390x_base::{EmitError, MachLabel, Reg, RegClass};
+use s390x_inst::{ALUOp, Inst};
+
+// Whether the register is a real Int one.
+fn general(r: Reg) -> bool
+    ensures { result ≡ is_general r }
+{
+    match r.to_real_reg() {
+        Some(preg) => preg.class() == RegClass::Int && preg.hw_enc() < 16,
+        None => false,
+    }
+}
+
+// Whether the register is a real Int one other than `%r0`: one that a branch may go by.
+fn branchable(r: Reg) -> bool
+    ensures { result ≡ is_general r && is_nonzero r }
+{
+    match r.to_real_reg() {
+        Some(preg) => preg.class() == RegClass::Int && preg.hw_enc() < 16 && preg.hw_enc() != 0,
+        None => false,
+    }
+}
+
+fn refusal_unless(holds: bool, error: EmitError) -> Option<EmitError>
+    ensures { result ≡ unless holds error }
+{
+    if holds { None } else { Some(error) }
+}
+
+fn label_refusal(blocks: usize, label: MachLabel) -> Option<EmitError>
+    ensures { result ≡ label_cause blocks label }
+{
+    refusal_unless((label.0 as usize) < blocks, EmitError::UnboundLabel)
+}
+
+fn labels_refusal(blocks: usize, labels: &[MachLabel]) -> Option<EmitError>
+    ensures { result ≡ labels_cause blocks labels.now }
+{
+    for label in labels {
+        let refusal = label_refusal(blocks, *label);
+        if refusal.is_some() {
+            return refusal;
+        }
+    }
+    None
+}
+
+fn two_labels_refusal(blocks: usize, taken: MachLabel, not_taken: MachLabel) -> Option<EmitError>
+    ensures { result ≡ first (label_cause blocks taken) (label_cause blocks not_taken) }
+{
+    match label_refusal(blocks, taken) {
+        Some(error) => Some(error),
+        None => label_refusal(blocks, not_taken),
+    }
+}
+
+fn alu_refusal(op: ALUOp, rd: Reg, rn: Reg, rm: Reg) -> Option<EmitError>
+    ensures { result ≡ first (unless (is_alu_rrr op) BadOperator) (unless (is_general rd && is_general rn && is_general rm) BadRegister) }
+{
+    match op {
+        ALUOp::Add64 => refusal_unless(general(rd) && general(rn) && general(rm), EmitError::BadRegister),
+        _ => Some(EmitError::BadOperator),
+    }
+}
+
+fn indirect_refusal(blocks: usize, rn: Reg, targets: &[MachLabel]) -> Option<EmitError>
+    ensures { result ≡ first (unless (is_general rn && is_nonzero rn) BadRegister) (labels_cause blocks targets.now) }
+{
+    if branchable(rn) {
+        labels_refusal(blocks, targets)
+    } else {
+        Some(EmitError::BadRegister)
+    }
+}
+
+/// The first cause of an instruction that is no `Loop`, inside so many loops.
+pub fn instruction_refusal(blocks: usize, depth: u32, inst: &Inst) -> Option<EmitError>
+    ensures { result ≡ instruction_cause blocks depth inst.now }
+{
+    match inst {
+        Inst::AluRRR { alu_op, rd, rn, rm } => alu_refusal(*alu_op, rd.to_reg(), *rn, *rm),
+        Inst::Mov64 { rd, rm } => refusal_unless(general(rd.to_reg()) && general(*rm), EmitError::BadRegister),
+        Inst::Jump { dest } => label_refusal(blocks, *dest),
+        Inst::CondBr { taken, not_taken, .. } => two_labels_refusal(blocks, *taken, *not_taken),
+        Inst::IndirectBr { rn, targets } => indirect_refusal(blocks, *rn, targets),
+        Inst::Ret { link } => refusal_unless(branchable(*link), EmitError::BadRegister),
+        Inst::CondBreak { .. } => refusal_unless(0 < depth, EmitError::BreakOutsideLoop),
+        _ => Some(EmitError::BadOperator),
+    }
+}

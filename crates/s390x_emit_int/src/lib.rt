@@ -1,0 +1,6 @@
+//! Emission: from typed instructions to finished code.
+#![tactic(auto)]
+
+pub mod causes;
+pub mod check;
+

@@ -1,0 +1,4 @@
+pub mod ByteByByte
+pub mod IntegerCodes
+pub mod StorageCodes
+pub mod VectorCodes

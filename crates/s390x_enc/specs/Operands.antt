@@ -1,0 +1,62 @@
+-- What an instruction asks of its register operands.
+use Rattle.std.specs.Prelude.{ℕ, ◌+◌, ◌*◌, ◌/◌, Bool, true, false, ◌&&◌, ◌||◌, ◌==◌, nat_lt, Option, Some, None, cond}
+use Rattle.s390x_base.specs.declared.regs.Reg.{Reg}
+use Rattle.s390x_base.specs.declared.regs.Reg.TheVariants.{Real, Virtual}
+use Rattle.s390x_base.specs.declared.regs.RegClass.{RegClass}
+use Rattle.s390x_base.specs.declared.regs.RegClass.TheVariants.{Int, Float}
+use Rattle.s390x_base.specs.Regs.{number_of}
+
+abbrev pub is_int : RegClass → Bool
+is_int Int = true
+is_int Float = false
+
+-- a real Int register
+abbrev pub is_general : Reg → Bool
+is_general (Real r) = is_int r.class
+is_general (Virtual n c) = false
+
+abbrev pub is_float_class : RegClass → Bool
+is_float_class Int = false
+is_float_class Float = true
+
+-- a real Float register
+abbrev pub is_vector : Reg → Bool
+is_vector (Real r) = is_float_class r.class
+is_vector (Virtual n c) = false
+
+-- a real Float register below 16, which has a float register in its leftmost 64 bits
+abbrev pub is_float : Reg → Bool
+is_float (Real r) = is_float_class r.class && nat_lt r.number 16
+is_float (Virtual n c) = false
+
+-- the opcodes whose first register operand is a float register: LER, LDR, LE, LD, STE, STD, LEY,
+-- LDY, STEY, STDY, LDGR
+abbrev pub is_first_float : ℕ → Bool
+is_first_float o =
+    (o == 0x28) || (o == 0x38) || (o == 0x60) || (o == 0x68) || (o == 0x70) || (o == 0x78)
+    || (o == 0xed64) || (o == 0xed65) || (o == 0xed66) || (o == 0xed67) || (o == 0xb3c1)
+
+-- and those whose second one is: LER, LDR, LGDR
+abbrev pub is_second_float : ℕ → Bool
+is_second_float o = (o == 0x28) || (o == 0x38) || (o == 0xb3cd)
+
+-- the register may stand first, or second, in an instruction on general and float registers
+abbrev pub may_stand_first : ℕ → Reg → Bool
+may_stand_first o r = cond (is_first_float o) (is_float r) (is_general r)
+
+abbrev pub may_stand_second : ℕ → Reg → Bool
+may_stand_second o r = cond (is_second_float o) (is_float r) (is_general r)
+
+-- the bit above the four low ones of a register's number, where a register is given
+abbrev pub high_bit : Option Reg → ℕ
+high_bit None = 0
+high_bit (Some r) = number_of r / 16
+
+-- none is given, or a real Float register
+abbrev pub is_vector_or_none : Option Reg → Bool
+is_vector_or_none None = true
+is_vector_or_none (Some r) = is_vector r
+
+-- the sum of 8, 4, 2, 1 for those of 16 and above
+abbrev pub rxb_of : Option Reg → Option Reg → Option Reg → Option Reg → ℕ
+rxb_of a b c d = 8 * high_bit a + 4 * high_bit b + 2 * high_bit c + high_bit d

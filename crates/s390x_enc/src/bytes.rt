@@ -1,0 +1,72 @@
+//! Putting bytes together.
+ghost use Rattle.std.specs.Prelude.{◌≡◌, ◌+◌, ◌*◌, ◌/◌, ◌%◌, ◌^◌, ◌<◌, [], ◌∷◌, slice_index};
+
+use s390x_base::Code;
+
+/// The byte with these two halves.
+pub fn halves(high: u8, low: u8) -> u8
+    requires high { high < 2 ^ 4 }
+    requires low { low < 2 ^ 4 }
+    ensures value { result ≡ high * 16 + low }
+    ensures byte { result < 256 }
+{
+    high * 16 + low
+}
+
+/// The high byte.
+pub fn upper(n: u16) -> u8
+    ensures { result ≡ n / 256 }
+{
+    (n / 256) as u8
+}
+
+/// The low byte.
+pub fn lower(n: u16) -> u8
+    ensures { result ≡ n % 256 }
+{
+    (n % 256) as u8
+}
+
+/// The high half.
+pub fn high_half(n: u32) -> u16
+    ensures { result ≡ n / 65536 }
+{
+    (n / 65536) as u16
+}
+
+/// The low half.
+pub fn low_half(n: u32) -> u16
+    ensures { result ≡ n % 65536 }
+{
+    (n % 65536) as u16
+}
+
+/// The code of two bytes.
+pub fn two(a: u8, b: u8) -> Code
+    ensures { result ≡ a ∷ b ∷ [] }
+{
+    match Code::new(&[a, b]) {
+        Some(code) => code,
+        None => unreachable!(),
+    }
+}
+
+/// The code of four bytes.
+pub fn four(a: u8, b: u8, c: u8, d: u8) -> Code
+    ensures { result ≡ a ∷ b ∷ c ∷ d ∷ [] }
+{
+    match Code::new(&[a, b, c, d]) {
+        Some(code) => code,
+        None => unreachable!(),
+    }
+}
+
+/// The code of six bytes.
+pub fn six(bytes: [u8; 6]) -> Code
+    ensures { result ≡ bytes }
+{
+    match Code::new(&bytes) {
+        Some(code) => code,
+        None => unreachable!(),
+    }
+}

@@ -1,0 +1,229 @@
+//! The encoding calls for instructions on registers and immediates. The opcode is written in hex as `ab`, `abc` or `abcd`;
+//! registers stand by their numbers modulo 16, and x is the sum of 8, 4, 2, 1 for a vector register
+//! of 16 and above in the left half of byte 1, the right half of byte 1, byte 2, byte 4. h is half
+//! of a distance; dl and dh are the low 12 and the high 8 bits of a displacement of 20 bits.
+//!
+//! Each answers `BadRegister` exactly where a register operand isn't real, has another class than
+//! the instruction's, or is 16 or above where the instruction takes a float register.
+ghost use Rattle.std.specs.Prelude.{◌≡◌, ◌/◌, ◌%◌, ◌^◌, ◌<◌, List, [], ◌∷◌, true, false, ◌&&◌, MatchResult, pos, negsuc, ◌≤ℤ◌};
+ghost use Rattle.std.specs.Int.RustNames.{int_rem};
+ghost use mir.Syntax.{w16};
+ghost use Rattle.s390x_format.specs.Distances.{half_of};
+ghost use Rattle.s390x_base.specs.declared.error.EmitError.{EmitError};
+ghost use Rattle.s390x_base.specs.Regs.{number_of};
+ghost use Rattle.s390x_format.specs.declared.kind.FormatKind.{FormatKind};
+ghost use Rattle.s390x_format.specs.Encoded.{slots, IsCode};
+ghost use Rattle.s390x_enc.specs.Operands.{is_general, may_stand_first, may_stand_second};
+
+use crate::bytes::{four, halves, high_half, low_half, lower, six, two, upper};
+use crate::operands::{first, general, second};
+use s390x_base::{Code, EmitError, Reg};
+
+/// E: `ab cd`.
+pub fn enc_e(opcode: u16) -> Result<Code, EmitError>
+    ensures { MatchResult result (λ code. IsCode FormatKind.E (slots opcode [] [] 0 0) code) (λ _. ⊥) }
+{
+    Ok(two(upper(opcode), lower(opcode)))
+}
+
+/// RI-A: `ab`, r1 c, i2.
+pub fn enc_ri_a(opcode: u16, r1: Reg, i2: u16) -> Result<Code, EmitError>
+    requires { opcode < 2 ^ 12 }
+    ensures { let ok = is_general r1 in MatchResult result (λ code. (ok ≡ true) × IsCode FormatKind.RiA (slots opcode (number_of r1 ∷ []) [] i2 0) code) (λ e. (e ≡ EmitError.BadRegister) × (ok ≡ false)) }
+{
+    let n1 = general(r1)?;
+    Ok(four(
+        (opcode / 16) as u8,
+        halves(n1, (opcode % 16) as u8),
+        upper(i2),
+        lower(i2),
+    ))
+}
+
+/// RI-B: `ab`, r1 c, h.
+pub fn enc_ri_b(opcode: u16, r1: Reg, ri2: i32) -> Result<Code, EmitError>
+    requires opcode { opcode < 2 ^ 12 }
+    requires low { negsuc 65535 ≤ℤ ri2 }
+    requires high { ri2 ≤ℤ pos 65534 }
+    requires even { int_rem ri2 (pos 2) ≡ pos 0 }
+    ensures { let ok = is_general r1 in MatchResult result (λ code. (ok ≡ true) × IsCode FormatKind.RiB (slots opcode (number_of r1 ∷ []) [] (half_of w16 ri2) 0) code) (λ e. (e ≡ EmitError.BadRegister) × (ok ≡ false)) }
+{
+    let n1 = general(r1)?;
+    let half = (ri2 / 2) as i16;
+    let bits = half.cast_unsigned();
+    Ok(four(
+        (opcode / 16) as u8,
+        halves(n1, (opcode % 16) as u8),
+        upper(bits),
+        lower(bits),
+    ))
+}
+
+/// RI-C: `ab`, m1 c, h.
+pub fn enc_ri_c(opcode: u16, m1: u8, ri2: i32) -> Result<Code, EmitError>
+    requires opcode { opcode < 2 ^ 12 }
+    requires m1 { m1 < 16 }
+    requires low { negsuc 65535 ≤ℤ ri2 }
+    requires high { ri2 ≤ℤ pos 65534 }
+    requires even { int_rem ri2 (pos 2) ≡ pos 0 }
+    ensures { MatchResult result (λ code. IsCode FormatKind.RiC (slots opcode [] (m1 ∷ []) (half_of w16 ri2) 0) code) (λ _. ⊥) }
+{
+    let half = (ri2 / 2) as i16;
+    let bits = half.cast_unsigned();
+    Ok(four(
+        (opcode / 16) as u8,
+        halves(m1, (opcode % 16) as u8),
+        upper(bits),
+        lower(bits),
+    ))
+}
+
+/// RIE-A: `ab`, r1 0, i2, m3 0, `cd`.
+pub fn enc_rie_a(opcode: u16, r1: Reg, i2: u16, m3: u8) -> Result<Code, EmitError>
+    requires { m3 < 16 }
+    ensures { let ok = is_general r1 in MatchResult result (λ code. (ok ≡ true) × IsCode FormatKind.RieA (slots opcode (number_of r1 ∷ []) (m3 ∷ []) i2 0) code) (λ e. (e ≡ EmitError.BadRegister) × (ok ≡ false)) }
+{
+    let n1 = general(r1)?;
+    Ok(six([
+        upper(opcode),
+        halves(n1, 0),
+        upper(i2),
+        lower(i2),
+        halves(m3, 0),
+        lower(opcode),
+    ]))
+}
+
+/// RIE-D: `ab`, r1 r3, i2, 00, `cd`.
+pub fn enc_rie_d(opcode: u16, r1: Reg, r3: Reg, i2: u16) -> Result<Code, EmitError>
+    ensures { let ok = is_general r1 && is_general r3 in MatchResult result (λ code. (ok ≡ true) × IsCode FormatKind.RieD (slots opcode (number_of r1 ∷ number_of r3 ∷ []) [] i2 0) code) (λ e. (e ≡ EmitError.BadRegister) × (ok ≡ false)) }
+{
+    let n1 = general(r1)?;
+    let n3 = general(r3)?;
+    Ok(six([
+        upper(opcode),
+        halves(n1, n3),
+        upper(i2),
+        lower(i2),
+        0,
+        lower(opcode),
+    ]))
+}
+
+/// RIE-F: `ab`, r1 r2, i3, i4, i5, `cd`.
+pub fn enc_rie_f(opcode: u16, r1: Reg, r2: Reg, i3: u8, i4: u8, i5: u8) -> Result<Code, EmitError>
+    ensures { let ok = is_general r1 && is_general r2 in MatchResult result (λ code. (ok ≡ true) × IsCode FormatKind.RieF (slots opcode (number_of r1 ∷ number_of r2 ∷ []) (i3 ∷ i4 ∷ i5 ∷ []) 0 0) code) (λ e. (e ≡ EmitError.BadRegister) × (ok ≡ false)) }
+{
+    let n1 = general(r1)?;
+    let n2 = general(r2)?;
+    Ok(six([upper(opcode), halves(n1, n2), i3, i4, i5, lower(opcode)]))
+}
+
+/// RIE-G: `ab`, r1 m3, i2, 00, `cd`.
+pub fn enc_rie_g(opcode: u16, r1: Reg, i2: u16, m3: u8) -> Result<Code, EmitError>
+    requires { m3 < 16 }
+    ensures { let ok = is_general r1 in MatchResult result (λ code. (ok ≡ true) × IsCode FormatKind.RieG (slots opcode (number_of r1 ∷ []) (m3 ∷ []) i2 0) code) (λ e. (e ≡ EmitError.BadRegister) × (ok ≡ false)) }
+{
+    let n1 = general(r1)?;
+    Ok(six([
+        upper(opcode),
+        halves(n1, m3),
+        upper(i2),
+        lower(i2),
+        0,
+        lower(opcode),
+    ]))
+}
+
+/// RIL-A: `ab`, r1 c, i2.
+pub fn enc_ril_a(opcode: u16, r1: Reg, i2: u32) -> Result<Code, EmitError>
+    requires { opcode < 2 ^ 12 }
+    ensures { let ok = is_general r1 in MatchResult result (λ code. (ok ≡ true) × IsCode FormatKind.RilA (slots opcode (number_of r1 ∷ []) [] i2 0) code) (λ e. (e ≡ EmitError.BadRegister) × (ok ≡ false)) }
+{
+    let n1 = general(r1)?;
+    Ok(six([
+        (opcode / 16) as u8,
+        halves(n1, (opcode % 16) as u8),
+        upper(high_half(i2)),
+        lower(high_half(i2)),
+        upper(low_half(i2)),
+        lower(low_half(i2)),
+    ]))
+}
+
+/// RIL-B: `ab`, r1 c, h.
+pub fn enc_ril_b(opcode: u16, r1: Reg, ri2: u32) -> Result<Code, EmitError>
+    requires opcode { opcode < 2 ^ 12 }
+    requires even { ri2 % 2 ≡ 0 }
+    ensures { let ok = is_general r1 in MatchResult result (λ code. (ok ≡ true) × IsCode FormatKind.RilB (slots opcode (number_of r1 ∷ []) [] (ri2 / 2) 0) code) (λ e. (e ≡ EmitError.BadRegister) × (ok ≡ false)) }
+{
+    let n1 = general(r1)?;
+    let half = ri2 / 2;
+    Ok(six([
+        (opcode / 16) as u8,
+        halves(n1, (opcode % 16) as u8),
+        upper(high_half(half)),
+        lower(high_half(half)),
+        upper(low_half(half)),
+        lower(low_half(half)),
+    ]))
+}
+
+/// RIL-C: `ab`, m1 c, h.
+pub fn enc_ril_c(opcode: u16, m1: u8, ri2: u32) -> Result<Code, EmitError>
+    requires opcode { opcode < 2 ^ 12 }
+    requires m1 { m1 < 16 }
+    requires even { ri2 % 2 ≡ 0 }
+    ensures { MatchResult result (λ code. IsCode FormatKind.RilC (slots opcode [] (m1 ∷ []) (ri2 / 2) 0) code) (λ _. ⊥) }
+{
+    let half = ri2 / 2;
+    Ok(six([
+        (opcode / 16) as u8,
+        halves(m1, (opcode % 16) as u8),
+        upper(high_half(half)),
+        lower(high_half(half)),
+        upper(low_half(half)),
+        lower(low_half(half)),
+    ]))
+}
+
+/// RR: `ab`, r1 r2.
+pub fn enc_rr(opcode: u16, r1: Reg, r2: Reg) -> Result<Code, EmitError>
+    requires { opcode < 2 ^ 8 }
+    ensures { let ok = may_stand_first opcode r1 && may_stand_second opcode r2 in MatchResult result (λ code. (ok ≡ true) × IsCode FormatKind.Rr (slots opcode (number_of r1 ∷ number_of r2 ∷ []) [] 0 0) code) (λ e. (e ≡ EmitError.BadRegister) × (ok ≡ false)) }
+{
+    let n1 = first(opcode, r1)?;
+    let n2 = second(opcode, r2)?;
+    Ok(two(lower(opcode), halves(n1, n2)))
+}
+
+/// RRE: `ab cd`, 00, r1 r2.
+pub fn enc_rre(opcode: u16, r1: Reg, r2: Reg) -> Result<Code, EmitError>
+    ensures { let ok = may_stand_first opcode r1 && may_stand_second opcode r2 in MatchResult result (λ code. (ok ≡ true) × IsCode FormatKind.Rre (slots opcode (number_of r1 ∷ number_of r2 ∷ []) [] 0 0) code) (λ e. (e ≡ EmitError.BadRegister) × (ok ≡ false)) }
+{
+    let n1 = first(opcode, r1)?;
+    let n2 = second(opcode, r2)?;
+    Ok(four(upper(opcode), lower(opcode), 0, halves(n1, n2)))
+}
+
+/// RRF-AB: `ab cd`, r3 m4, r1 r2.
+pub fn enc_rrf_ab(opcode: u16, r1: Reg, r2: Reg, r3: Reg, m4: u8) -> Result<Code, EmitError>
+    requires { m4 < 16 }
+    ensures { let ok = is_general r1 && is_general r2 && is_general r3 in MatchResult result (λ code. (ok ≡ true) × IsCode FormatKind.RrfAb (slots opcode (number_of r1 ∷ number_of r2 ∷ number_of r3 ∷ []) (m4 ∷ []) 0 0) code) (λ e. (e ≡ EmitError.BadRegister) × (ok ≡ false)) }
+{
+    let n1 = general(r1)?;
+    let n2 = general(r2)?;
+    let n3 = general(r3)?;
+    Ok(four(upper(opcode), lower(opcode), halves(n3, m4), halves(n1, n2)))
+}
+
+/// RRF-CDE: `ab cd`, m3 m4, r1 r2.
+pub fn enc_rrf_cde(opcode: u16, r1: Reg, r2: Reg, m3: u8, m4: u8) -> Result<Code, EmitError>
+    requires m3 { m3 < 16 }
+    requires m4 { m4 < 16 }
+    ensures { let ok = is_general r1 && is_general r2 in MatchResult result (λ code. (ok ≡ true) × IsCode FormatKind.RrfCde (slots opcode (number_of r1 ∷ number_of r2 ∷ []) (m3 ∷ m4 ∷ []) 0 0) code) (λ e. (e ≡ EmitError.BadRegister) × (ok ≡ false)) }
+{
+    let n1 = general(r1)?;
+    let n2 = general(r2)?;
+    Ok(four(upper(opcode), lower(opcode), halves(m3, m4), halves(n1, n2)))
+}

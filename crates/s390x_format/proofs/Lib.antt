@@ -1,0 +1,14 @@
+pub mod Bytes
+pub mod Codes
+pub mod Digits
+pub mod Encoding
+pub mod Fetching
+pub mod Finding
+pub mod FormatFacts
+pub mod Lengths
+pub mod OneReading
+pub mod Packing
+pub mod Searching
+pub mod SlotBounds
+pub mod RowTable
+pub mod Unpacking

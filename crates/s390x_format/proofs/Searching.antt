@@ -1,0 +1,123 @@
+-- The halving search.
+use Rattle.std.proofs.Common.{◌≡◌, ℕ, zero, suc, ◌+◌, ◌-◌, ◌*◌, ◌^◌, ◌<◌, ◌≤◌, true, ◌&&◌, List, [], ◌∷◌, length, get_or, refl, ap, subst, ◌∙◌, arith, inl, inr, leb-true, nat_le, nat_lt, add-one}
+use Rattle.std.proofs.Math.Pow.{pow_pos, pow-add}
+use Rattle.std.proofs.Math.Nat.{mul_assoc}
+use Rattle.std.proofs.lemmas.Nat.{mul-le}
+use Rattle.std.proofs.lemmas.Bool.{and_parts, cases_order, ltb-true}
+use Rattle.s390x_format.specs.declared.row.MachineRow.{MachineRow}
+use Rattle.s390x_format.specs.declared.index.FirstByte.{FirstByte}
+use Rattle.s390x_format.specs.Formats.{place_of}
+use Rattle.s390x_format.specs.declared.index.RestPlace.{RestPlace}
+use Rattle.s390x_format.specs.declared.index.RestPlace.TheVariants.{Nowhere, LowHalf, SecondByte, LastByte}
+use Rattle.s390x_format.specs.Rows.{rises, first_byte_of, rows_with}
+use Rattle.s390x_format.specs.Reading.{no_row}
+use Rattle.s390x_format.specs.Index.{no_first_byte, places_agree, are_indexed, are_tight, is_index}
+use Rattle.s390x_format.proofs.Fetching.{rises_lt}
+
+agreed : (p q : RestPlace) → places_agree p q ≡ true → p ≡ q
+agreed Nowhere Nowhere h = refl
+agreed LowHalf LowHalf h = refl
+agreed SecondByte SecondByte h = refl
+agreed LastByte LastByte h = refl
+agreed Nowhere LowHalf h = cc
+agreed Nowhere SecondByte h = cc
+agreed Nowhere LastByte h = cc
+agreed LowHalf Nowhere h = cc
+agreed LowHalf SecondByte h = cc
+agreed LowHalf LastByte h = cc
+agreed SecondByte Nowhere h = cc
+agreed SecondByte LowHalf h = cc
+agreed SecondByte LastByte h = cc
+agreed LastByte Nowhere h = cc
+agreed LastByte LowHalf h = cc
+agreed LastByte SecondByte h = cc
+
+-- the part of a row's first byte has the row and tells where its opcode goes on
+record Indexed (p : FirstByte) (r : MachineRow) (i : ℕ) : Type 0 where
+  rest : p.rest ≡ place_of r.format
+  start : p.start ≤ i
+  end : i < p.end
+
+indexed_from : (i0 : ℕ) (rs : List MachineRow) (ps : List FirstByte) (i : ℕ) → are_indexed i0 rs ps ≡ true → i < length rs →
+    Indexed (get_or ps (first_byte_of (get_or rs i no_row)) no_first_byte) (get_or rs i no_row) (i0 + i)
+unfolding are_indexed
+indexed_from i0 [] ps i h lt = absurd (omega arith)
+indexed_from i0 (r ∷ rs) ps zero h lt =
+    let p : FirstByte = get_or ps (first_byte_of r) no_first_byte in
+    let t = and_parts (places_agree p.rest (place_of r.format) && nat_le p.start i0 && nat_lt i0 p.end) (are_indexed (i0 + 1) rs ps) h in
+    let s = and_parts (places_agree p.rest (place_of r.format) && nat_le p.start i0) (nat_lt i0 p.end) t.0 in
+    let u = and_parts (places_agree p.rest (place_of r.format)) (nat_le p.start i0) s.0 in
+    let a : p.start ≤ i0 = leb-true p.start i0 u.1 in
+    let b : i0 < p.end = ltb-true i0 p.end s.1 in
+    record { rest = agreed p.rest (place_of r.format) u.0; start = omega arith; end = omega arith }
+indexed_from i0 (r ∷ rs) ps (suc i) h lt =
+    let t = indexed_from (i0 + 1) rs ps i (and_parts _ (are_indexed (i0 + 1) rs ps) h).1 (omega arith) in
+    record { rest = t.rest; start = omega (arith, t.start); end = omega (arith, t.end) }
+
+pub indexed_at : (rs : List MachineRow) (ps : List FirstByte) (i first : ℕ) → is_index rs ps ≡ true → i < length rs → first_byte_of (get_or rs i no_row) ≡ first →
+    ((get_or ps first no_first_byte).start ≤ i) × (i < (get_or ps first no_first_byte).end)
+indexed_at rs ps i first h lt e =
+    let t = indexed_from 0 rs ps i (and_parts (are_indexed 0 rs ps) (are_tight 0 ps rs) h).0 lt in
+    subst (λ (b : ℕ). ((get_or ps b no_first_byte).start ≤ i) × (i < (get_or ps b no_first_byte).end)) e (omega (arith, t.start), omega (arith, t.end))
+
+pub placed_at : (rs : List MachineRow) (ps : List FirstByte) (i first : ℕ) → is_index rs ps ≡ true → i < length rs → first_byte_of (get_or rs i no_row) ≡ first →
+    (get_or ps first no_first_byte).rest ≡ place_of (get_or rs i no_row).format
+placed_at rs ps i first h lt e =
+    let t = indexed_from 0 rs ps i (and_parts (are_indexed 0 rs ps) (are_tight 0 ps rs) h).0 lt in
+    subst (λ (b : ℕ). (get_or ps b no_first_byte).rest ≡ place_of (get_or rs i no_row).format) e t.rest
+
+-- a part ends within the rows, and has no more than have its first byte
+pub record Tight (p : FirstByte) (rs : List MachineRow) (b : ℕ) : Type 0 where
+  pub end : p.end ≤ length rs
+  pub order : p.start ≤ p.end
+  pub few : p.end - p.start ≤ rows_with b rs
+
+tight_from : (b : ℕ) (ps : List FirstByte) (rs : List MachineRow) (i : ℕ) → are_tight b ps rs ≡ true → Tight (get_or ps i no_first_byte) rs (b + i)
+unfolding are_tight
+tight_from b [] rs i h = record { end = omega arith; order = omega arith; few = omega arith }
+tight_from b (p ∷ ps) rs zero h =
+    let t = and_parts (nat_le p.end (length rs) && nat_le p.start p.end && nat_le (p.end - p.start) (rows_with b rs)) (are_tight (b + 1) ps rs) h in
+    let s = and_parts (nat_le p.end (length rs) && nat_le p.start p.end) (nat_le (p.end - p.start) (rows_with b rs)) t.0 in
+    let u = and_parts (nat_le p.end (length rs)) (nat_le p.start p.end) s.0 in
+    let e : b ≡ b + 0 = omega arith in
+    record { end = leb-true p.end (length rs) u.0; order = leb-true p.start p.end u.1; few = subst (λ (k : ℕ). p.end - p.start ≤ rows_with k rs) e (leb-true (p.end - p.start) (rows_with b rs) s.1) }
+tight_from b (p ∷ ps) rs (suc i) h =
+    let e : b + 1 + i ≡ b + suc i = omega arith in
+    subst (λ (k : ℕ). Tight (get_or ps i no_first_byte) rs k) e (tight_from (b + 1) ps rs i (and_parts _ (are_tight (b + 1) ps rs) h).1)
+
+pub span_ends : (rs : List MachineRow) (ps : List FirstByte) (i : ℕ) → is_index rs ps ≡ true → Tight (get_or ps i no_first_byte) rs i
+span_ends rs ps i h =
+    let e : 0 + i ≡ i = omega arith in
+    subst (λ (k : ℕ). Tight (get_or ps i no_first_byte) rs k) e (tight_from 0 ps rs i (and_parts (are_indexed 0 rs ps) (are_tight 0 ps rs) h).1)
+
+pub halved : (s m m' n : ℕ) → 2 ^ s * m ≤ n → 1 ≤ m → 2 * m' ≤ m → (2 ^ (s + 1) * m' ≤ n) × (2 ^ (s + 1) ≤ 2 * n + 1)
+halved s m m' n h one le =
+    let e : 2 ^ (s + 1) ≡ 2 ^ s * 2 = pow-add 2 s 1 in
+    let a : 2 ^ s * (2 * m') ≤ 2 ^ s * m = mul-le (2 ^ s) (2 * m') (2 ^ s) m (omega arith) le in
+    let b : 2 ^ s * 1 ≤ 2 ^ s * m = mul-le (2 ^ s) 1 (2 ^ s) m (omega arith) one in
+    let c : 2 ^ (s + 1) * m' ≡ 2 ^ s * (2 * m') = ap (λ (z : ℕ). z * m') e ∙ mul_assoc (2 ^ s) 2 m' in
+    (omega arith, omega arith)
+
+rises_le : (rs : List MachineRow) (i j : ℕ) → rises 0 rs ≡ true → i ≤ j → j < length rs → (get_or rs i no_row).opcode ≤ (get_or rs j no_row).opcode
+rises_le rs i j up le lt =
+    elim (cases_order i j) [
+      | inl same ↦ let e : (get_or rs i no_row).opcode ≡ (get_or rs j no_row).opcode = ap (λ (k : ℕ). (get_or rs k no_row).opcode) same in omega arith
+      | inr other ↦ elim other [
+        | inl less ↦ let h : (get_or rs i no_row).opcode < (get_or rs j no_row).opcode = rises_lt 0 rs i j up less lt in omega arith
+        | inr more ↦ absurd (omega arith)
+      ]
+    ]
+
+pub below_next : (rs : List MachineRow) (start mid o : ℕ) → rises 0 rs ≡ true → mid < length rs → (get_or rs mid no_row).opcode < o →
+    (k : ℕ) → start ≤ k → k < mid + 1 → (get_or rs k no_row).opcode < o
+below_next rs start mid o up lt h k a b =
+    let le : (get_or rs k no_row).opcode ≤ (get_or rs mid no_row).opcode = rises_le rs k mid up (omega arith) lt in omega arith
+
+pub above_next : (rs : List MachineRow) (end mid o : ℕ) → rises 0 rs ≡ true → end ≤ length rs → o ≤ (get_or rs mid no_row).opcode → ((get_or rs mid no_row).opcode ≡ o → ⊥) →
+    (k : ℕ) → mid ≤ k → k < end → o < (get_or rs k no_row).opcode
+above_next rs end mid o up few h ne k a b =
+    let le : (get_or rs mid no_row).opcode ≤ (get_or rs k no_row).opcode = rises_le rs mid k up a (omega arith) in omega arith
+
+pub power_above : (s : ℕ) → s < 2 ^ s
+power_above zero = omega arith
+power_above (suc s) = let e : 2 ^ (s + 1) ≡ 2 ^ s * 2 = pow-add 2 s 1 in omega (arith, power_above s, pow_pos s, rw add-one at e)

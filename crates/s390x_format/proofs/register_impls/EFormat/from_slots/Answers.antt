@@ -1,0 +1,14 @@
+use Rattle.std.proofs.Common.{refl, lit<, arith}
+use Rattle.s390x_format.specs.declared.kind.FormatKind.TheVariants.{E as KindE}
+use Rattle.s390x_format.specs.Fits.{slot_fits, ten_same}
+use Rattle.s390x_format.proofs.register_impls.EFormat.from_slots.Goals as goal
+
+pub overflow_cast-result : goal.overflow_cast-result
+overflow_cast-result c = omega (arith, slot_fits KindE c.args.slots.now 0 (lit< tt) c.requires)
+
+pub invariant_of-result : goal.invariant_of-result
+invariant_of-result c = record { opcode_fits = slot_fits KindE c.args.slots.now 0 (lit< tt) c.requires }
+
+pub returns : goal.returns
+returns c =
+    ten_same c.args.slots.now _ _ _ _ _ _ _ _ _ _ c.requires.0 refl (omega (arith, slot_fits KindE c.args.slots.now 1 (lit< tt) c.requires)) (omega (arith, slot_fits KindE c.args.slots.now 2 (lit< tt) c.requires)) (omega (arith, slot_fits KindE c.args.slots.now 3 (lit< tt) c.requires)) (omega (arith, slot_fits KindE c.args.slots.now 4 (lit< tt) c.requires)) (omega (arith, slot_fits KindE c.args.slots.now 5 (lit< tt) c.requires)) (omega (arith, slot_fits KindE c.args.slots.now 6 (lit< tt) c.requires)) (omega (arith, slot_fits KindE c.args.slots.now 7 (lit< tt) c.requires)) (omega (arith, slot_fits KindE c.args.slots.now 8 (lit< tt) c.requires)) (omega (arith, slot_fits KindE c.args.slots.now 9 (lit< tt) c.requires))

@@ -1,0 +1,40 @@
+use Rattle.std.proofs.Common.{refl, lit<, arith}
+use Rattle.s390x_format.specs.declared.kind.FormatKind.TheVariants.{VrrE as KindVrrE}
+use Rattle.s390x_format.specs.Fits.{slot_fits, ten_same}
+use Rattle.s390x_format.proofs.vector_impls.VrrEFormat.from_slots.Goals as goal
+
+pub overflow_cast-result : goal.overflow_cast-result
+overflow_cast-result c = omega (arith, slot_fits KindVrrE c.args.slots.now 0 (lit< tt) c.requires)
+
+pub overflow_cast-result-2 : goal.overflow_cast-result-2
+overflow_cast-result-2 c = omega (arith, slot_fits KindVrrE c.args.slots.now 1 (lit< tt) c.requires)
+
+pub overflow_cast-result-3 : goal.overflow_cast-result-3
+overflow_cast-result-3 c = omega (arith, slot_fits KindVrrE c.args.slots.now 2 (lit< tt) c.requires)
+
+pub overflow_cast-result-4 : goal.overflow_cast-result-4
+overflow_cast-result-4 c = omega (arith, slot_fits KindVrrE c.args.slots.now 3 (lit< tt) c.requires)
+
+pub overflow_cast-result-5 : goal.overflow_cast-result-5
+overflow_cast-result-5 c = omega (arith, slot_fits KindVrrE c.args.slots.now 4 (lit< tt) c.requires)
+
+pub overflow_cast-result-6 : goal.overflow_cast-result-6
+overflow_cast-result-6 c = omega (arith, slot_fits KindVrrE c.args.slots.now 5 (lit< tt) c.requires)
+
+pub overflow_cast-result-7 : goal.overflow_cast-result-7
+overflow_cast-result-7 c = omega (arith, slot_fits KindVrrE c.args.slots.now 6 (lit< tt) c.requires)
+
+pub invariant_of-result : goal.invariant_of-result
+invariant_of-result c = record {
+  opcode_fits = slot_fits KindVrrE c.args.slots.now 0 (lit< tt) c.requires;
+  v1_fits = slot_fits KindVrrE c.args.slots.now 1 (lit< tt) c.requires;
+  v2_fits = slot_fits KindVrrE c.args.slots.now 2 (lit< tt) c.requires;
+  v3_fits = slot_fits KindVrrE c.args.slots.now 3 (lit< tt) c.requires;
+  v4_fits = slot_fits KindVrrE c.args.slots.now 4 (lit< tt) c.requires;
+  m5_fits = slot_fits KindVrrE c.args.slots.now 5 (lit< tt) c.requires;
+  m6_fits = slot_fits KindVrrE c.args.slots.now 6 (lit< tt) c.requires;
+}
+
+pub returns : goal.returns
+returns c =
+    ten_same c.args.slots.now _ _ _ _ _ _ _ _ _ _ c.requires.0 refl refl refl refl refl refl refl (omega (arith, slot_fits KindVrrE c.args.slots.now 7 (lit< tt) c.requires)) (omega (arith, slot_fits KindVrrE c.args.slots.now 8 (lit< tt) c.requires)) (omega (arith, slot_fits KindVrrE c.args.slots.now 9 (lit< tt) c.requires))

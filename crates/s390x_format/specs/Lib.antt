@@ -1,0 +1,17 @@
+pub mod Layout
+pub mod Formats
+pub mod Rows
+pub mod Reading
+pub mod View
+pub mod Fetch
+pub mod Index
+pub mod Encoded
+pub mod Lookup
+pub mod Widths
+pub mod Fits
+pub mod Distances
+pub mod RegisterLaws
+pub mod ImmediateLaws
+pub mod SignedLaws
+pub mod StorageLaws
+pub mod VectorLaws

@@ -1,0 +1,64 @@
+-- Which bytes are a row's, with which values in the slots.
+use Rattle.std.specs.Prelude.{◌≡◌, ℕ, zero, suc, ◌+◌, ◌-◌, ◌*◌, ◌/◌, ◌%◌, ◌^◌, ◌<◌, true, List, [], ◌∷◌, length, take, get_or, slice_index}
+use Rattle.s390x_format.specs.declared.kind.FormatKind.{FormatKind}
+use Rattle.s390x_format.specs.declared.kind.FormatKind.TheVariants.{E}
+use Rattle.s390x_format.specs.declared.row.MachineRow.{MachineRow}
+use Rattle.s390x_format.specs.declared.row.Allowed.TheVariants.{Any}
+use Rattle.s390x_format.specs.declared.reading.Reading.{Reading}
+use Rattle.s390x_format.specs.declared.index.RestPlace.{RestPlace}
+use Rattle.s390x_format.specs.declared.index.RestPlace.TheVariants.{Nowhere, LowHalf, SecondByte, LastByte}
+use Rattle.s390x_format.specs.Layout.{number, SlotsFit}
+use Rattle.s390x_format.specs.Formats.{layout_of, length_of}
+use Rattle.s390x_format.specs.Rows.{is_allowed}
+
+-- the k bytes of a number, the most significant first
+unfoldable pub be_bytes : ℕ → ℕ → List ℕ
+be_bytes zero n = []
+be_bytes (suc k) n = (n / 2 ^ (8 * k) % 256) ∷ be_bytes k n
+
+-- the number of bytes, the most significant first
+unfoldable pub be_number : List ℕ → ℕ
+be_number [] = 0
+be_number (b ∷ bs) = b * 2 ^ (8 * length bs) + be_number bs
+
+-- the bytes of the values in the slots
+abbrev pub encode : FormatKind → List ℕ → List ℕ
+encode kind slots = be_bytes (length_of kind) (number (layout_of kind) slots)
+
+-- what a read past the table's end gives
+abbrev pub no_row : MachineRow
+no_row = record { format = E; opcode = 0; allowed = Any }
+
+-- the opcode of a number of t bits that goes on there
+abbrev pub opcode_at : RestPlace → ℕ → ℕ → ℕ
+opcode_at Nowhere t n = n / 2 ^ (t - 8) % 256
+opcode_at LowHalf t n = n / 2 ^ (t - 8) % 256 * 16 + n / 2 ^ (t - 16) % 16
+opcode_at SecondByte t n = n / 2 ^ (t - 8) % 256 * 256 + n / 2 ^ (t - 16) % 256
+opcode_at LastByte t n = n / 2 ^ (t - 8) % 256 * 256 + n % 256
+
+pub record HasOpcode (rows : List MachineRow) (opcode : ℕ) (r : MachineRow) : Type 0 where
+  pub at : ℕ
+  pub below : at < length rows
+  pub is : get_or rows at no_row ≡ r
+  pub same : r.opcode ≡ opcode
+
+-- a number of some bytes is the row's, with these values in the slots
+pub record IsReadAs (row : MachineRow) (bytes n : ℕ) (d : Reading) : Type 0 where
+  pub format : d.row.format ≡ row.format
+  pub opcode : d.row.opcode ≡ row.opcode
+  pub bytes_are : length_of row.format ≡ bytes
+  pub fit : SlotsFit (layout_of row.format) d.slots
+  pub code : slice_index d.slots 0 ≡ row.opcode
+  pub number_is : number (layout_of row.format) d.slots ≡ n
+  pub allowed : is_allowed row.allowed d.slots ≡ true
+
+-- the bytes begin with those of a row of the table, with these values in the slots
+pub record IsReading (rows : List MachineRow) (bytes : List ℕ) (d : Reading) : Type 0 where
+  pub at : ℕ
+  pub in_table : at < length rows
+  pub format : d.row.format ≡ (get_or rows at no_row).format
+  pub opcode : d.row.opcode ≡ (get_or rows at no_row).opcode
+  pub fit : SlotsFit (layout_of d.row.format) d.slots
+  pub code : slice_index d.slots 0 ≡ d.row.opcode
+  pub allowed : is_allowed (get_or rows at no_row).allowed d.slots ≡ true
+  pub bytes_are : take (length_of d.row.format) bytes ≡ encode d.row.format d.slots

@@ -1,0 +1,71 @@
+//! Machine rows.
+ghost use Rattle.std.specs.Prelude.{◌≡◌};
+ghost use Rattle.s390x_format.specs.Rows.{is_allowed};
+
+use crate::kind::FormatKind;
+
+/// Which masks and immediates of 8 bits a row allows. Bytes with others have no row.
+#[derive(Clone, Copy, Drop)]
+pub enum Allowed {
+    /// Any.
+    Any,
+    /// The first mask lies in this range, as a condition, an element size or a lane number does;
+    /// the others are 0.
+    FirstMask { low: u8, high: u8 },
+    /// POPULATION COUNT: the first mask is 0 (ones of each byte) or 8 (ones of the register).
+    CountMode,
+    /// Vector comparisons: an element size of 0 to 4, and whether the condition code is set.
+    ComparedLanes,
+    /// VECTOR PERMUTE DOUBLEWORD IMMEDIATE: the mask is 0, 1, 4 or 5, the others are 0.
+    DoublewordPair,
+    /// Rotate then insert: three bit numbers below 64.
+    RotateBits,
+    /// The other rotates: the same, and the first may have 128 added, which means that the result
+    /// is only tested.
+    RotateBitsOrTest,
+    /// VECTOR GENERATE MASK: two bit numbers below the element's size.
+    BitRange,
+    /// VECTOR REPLICATE: a lane number below the number of lanes.
+    ReplicatedLane,
+}
+
+/// A row of the table: an opcode with its format, and what it allows.
+#[derive(Clone, Copy, Drop)]
+pub struct MachineRow {
+    pub format: FormatKind,
+    pub opcode: u16,
+    pub allowed: Allowed,
+}
+
+/// A row by its format and opcode.
+#[derive(Clone, Copy, Drop, PartialEq, Eq, Debug)]
+pub struct Row {
+    pub format: FormatKind,
+    pub opcode: u16,
+}
+
+/// Whether the row allows the masks and immediates in the slots.
+pub fn allows(allowed: Allowed, slots: &[u32; 10]) -> bool
+    ensures { result ≡ is_allowed allowed slots.now }
+{
+    let first = slots[5];
+    let second = slots[6];
+    let third = slots[7];
+    match allowed {
+        Allowed::Any => true,
+        Allowed::FirstMask { low, high } => {
+            u32::from(low) <= first && first <= u32::from(high) && second == 0 && third == 0
+        }
+        Allowed::CountMode => (first == 0 || first == 8) && second == 0,
+        Allowed::ComparedLanes => first <= 4 && second <= 1,
+        Allowed::DoublewordPair => {
+            (first == 0 || first == 1 || first == 4 || first == 5) && second == 0 && third == 0
+        }
+        Allowed::RotateBits => first < 64 && second < 64 && third < 64,
+        Allowed::RotateBitsOrTest => {
+            (first < 64 || (128 <= first && first < 192)) && second < 64 && third < 64
+        }
+        Allowed::BitRange => third < 4 && first < (8 << third) && second < (8 << third),
+        Allowed::ReplicatedLane => first < 4 && slots[8] < (1 << (4 - first)),
+    }
+}

@@ -1,0 +1,40 @@
+-- Machine instructions: a format and the values in its slots, which are the opcode, four registers, three masks, an immediate and a displacement.
+use Rattle.std.specs.Prelude.{ℕ, ◌+◌, List, [], ◌∷◌, ◌++◌, set}
+use Rattle.s390x_format.specs.declared.kind.FormatKind.{FormatKind}
+use Rattle.s390x_format.specs.declared.kind.FormatKind.TheVariants.{Rr, Rre, RrfAb, RilB, RilC}
+use Rattle.s390x_format.specs.Formats.{length_of}
+use Rattle.s390x_format.specs.Reading.{encode}
+
+pub record MachineInstruction : Type 0 where
+  pub format : FormatKind
+  pub slots : List ℕ
+
+abbrev pub bytes_of : MachineInstruction → List ℕ
+bytes_of m = encode m.format m.slots
+
+abbrev pub size_of : MachineInstruction → ℕ
+size_of m = length_of m.format
+
+abbrev pub rr : (opcode r1 r2 : ℕ) → MachineInstruction
+rr opcode r1 r2 = record { format = Rr; slots = opcode ∷ r1 ∷ r2 ∷ 0 ∷ 0 ∷ 0 ∷ 0 ∷ 0 ∷ 0 ∷ 0 ∷ [] }
+
+abbrev pub rre : (opcode r1 r2 : ℕ) → MachineInstruction
+rre opcode r1 r2 = record { format = Rre; slots = opcode ∷ r1 ∷ r2 ∷ 0 ∷ 0 ∷ 0 ∷ 0 ∷ 0 ∷ 0 ∷ 0 ∷ [] }
+
+abbrev pub rrf_ab : (opcode r1 r2 r3 m4 : ℕ) → MachineInstruction
+rrf_ab opcode r1 r2 r3 m4 = record { format = RrfAb; slots = opcode ∷ r1 ∷ r2 ∷ r3 ∷ 0 ∷ m4 ∷ 0 ∷ 0 ∷ 0 ∷ 0 ∷ [] }
+
+-- half of a relative distance, modulo 2 ^ 32, stands in the immediate's slot
+abbrev pub ril_b : (opcode r1 half : ℕ) → MachineInstruction
+ril_b opcode r1 half = record { format = RilB; slots = opcode ∷ r1 ∷ 0 ∷ 0 ∷ 0 ∷ 0 ∷ 0 ∷ 0 ∷ half ∷ 0 ∷ [] }
+
+abbrev pub ril_c : (opcode m1 half : ℕ) → MachineInstruction
+ril_c opcode m1 half = record { format = RilC; slots = opcode ∷ 0 ∷ 0 ∷ 0 ∷ 0 ∷ m1 ∷ 0 ∷ 0 ∷ half ∷ 0 ∷ [] }
+
+abbrev pub joined_bytes : List MachineInstruction → List ℕ
+joined_bytes [] = []
+joined_bytes (m ∷ ms) = bytes_of m ++ joined_bytes ms
+
+abbrev pub joined_size : List MachineInstruction → ℕ
+joined_size [] = 0
+joined_size (m ∷ ms) = size_of m + joined_size ms
