@@ -4,7 +4,8 @@ use Rattle.std.specs.Io.KnownBytes.{Appends}
 use Rattle.s390x_tool.specs.Causes.{Rose}
 use Rattle.s390x_tool.specs.Ends.{IsRead, IsTooLong, IsCutShort}
 use Rattle.s390x_tool.specs.Words.{IsForm, IsNoForm}
-use Rattle.s390x_tool.specs.Answers.{IsAnswer, line}
+use Rattle.s390x_tool.specs.Answers.{IsAnswer}
+use Rattle.s390x_tool.specs.Lines.{line}
 use Rattle.s390x_tool.specs.declared.words.Command.{Command}
 use Rattle.s390x_tool.specs.declared.status.Status.{Status}
 use Rattle.s390x_tool.specs.declared.status.Status.TheVariants as status

@@ -1,15 +1,13 @@
-//! What is replied to the words and the input.
-ghost use Rattle.std.specs.Prelude.{◌≡◌, ◌↔◌, IsTrue};
+//! Replies: a status, and the text that is written with it.
+ghost use Rattle.std.specs.Prelude.{◌≡◌, ◌++◌, codes, IfOk, OnErr, string_bytes};
 ghost use Rattle.std.specs.Cow.{cow_str_bytes};
-ghost use Rattle.s390x_tool.specs.Answers.{IsAnswer, empty_job};
-ghost use Rattle.s390x_tool.specs.Replies.{IsReply};
-ghost use Rattle.s390x_tool.specs.Words.{texts};
+ghost use Rattle.std.specs.Fmt.{decimal};
+ghost use Rattle.hex.specs.Hex.{encode_lower};
+ghost use Rattle.s390x_tool.specs.Lines.{line, error_name, IsMade, IsRefusal};
 
-use crate::ends::Source;
-use crate::input::{InputError, read_input};
 use crate::status::Status;
-use crate::words::{Command, read_words};
-use std::alloc::Global;
+use s390x_base::EmitError;
+use std::alloc::{AllocError, Global};
 use std::borrow::CowStr;
 
 /// A status, and the text that is written with it.
@@ -19,8 +17,8 @@ pub struct Reply {
     pub text: CowStr<'static>,
 }
 
-// A reply with a line that is the same each time.
-fn fixed(status: Status, text: &'static str) -> Reply
+/// A reply with a line that is the same each time.
+pub fn fixed(status: Status, text: &'static str) -> Reply
     ensures status { result.status ≡ status }
     ensures text { cow_str_bytes result.text ≡ text.entry.now }
 {
@@ -30,40 +28,77 @@ fn fixed(status: Status, text: &'static str) -> Reply
     }
 }
 
-/// The reply to these words and to what the source holds.
-pub fn reply_to<S: Source>(alloc: Global, words: &[String], source: &mut S) -> Reply
-    ensures { IsReply (record { words = texts words.now; left = S.left source.old; left' = S.left source.new; faults = S.faults source.old; faults' = S.faults source.new })
-        result.status (cow_str_bytes result.text) }
+/// The reply where memory doesn't suffice.
+pub fn no_memory() -> Reply
+    ensures status { result.status ≡ Status.NoMemory }
+    ensures text { cow_str_bytes result.text ≡ line (codes "no memory") }
 {
-    let Some(command) = read_words(words) else {
-        return fixed(Status::Usage, "usage\n");
-    };
-    match read_input(alloc, source) {
-        Ok(input) => answer(alloc, command, &input),
-        Err(InputError::Fault) => fixed(Status::ReadFault, "read fault\n"),
-        Err(InputError::TooLong) => fixed(Status::InputTooLong, "input too long\n"),
-        Err(InputError::NoMemory) => fixed(Status::NoMemory, "no memory\n"),
+    fixed(Status::NoMemory, "no memory\n")
+}
+
+/// A reply with a text that was made, or that memory doesn't suffice for.
+pub fn made(status: Status, text: Result<String, AllocError>) -> Reply
+    ensures ok { IfOk text (λ t. (result.status ≡ status) × (cow_str_bytes result.text ≡ string_bytes t)) }
+    ensures err { OnErr text ((result.status ≡ Status.NoMemory) × (cow_str_bytes result.text ≡ line (codes "no memory"))) }
+{
+    match text {
+        Ok(text) => Reply {
+            status,
+            text: CowStr::Owned(text),
+        },
+        Err(_) => no_memory(),
     }
 }
 
-/// The answer to a command and its whole input.
-pub fn answer(_alloc: Global, command: Command, input: &[u8]) -> Reply
-    ensures { IsAnswer command input.now result.status (cow_str_bytes result.text) }
+/// The reply to an input that is no text of a job: the number of its first line that is at fault.
+pub fn syntax(alloc: Global, number: u32) -> Reply
+    ensures { IsMade Status.Syntax (line (codes "syntax " ++ decimal number)) result.status (cow_str_bytes result.text) }
 {
-    match command {
-        Command::Image { base: _ } => {
-            if is_empty_job(input) {
-                fixed(Status::Ok, "\n")
-            } else {
-                fixed(Status::Syntax, "syntax 1\n")
-            }
-        }
+    made(Status::Syntax, format!(in alloc; "syntax {number}\n"))
+}
+
+/// The reply with bytes in hex.
+pub fn in_hex(alloc: Global, bytes: &[u8]) -> Reply
+    ensures { IsMade Status.Ok (line (encode_lower bytes.now)) result.status (cow_str_bytes result.text) }
+{
+    made(Status::Ok, hex_line(alloc, bytes))
+}
+
+// Bytes in lower-case hex, and a line feed.
+fn hex_line(alloc: Global, bytes: &[u8]) -> Result<String, AllocError>
+    ensures { IfOk result (λ text. string_bytes text ≡ line (encode_lower bytes.now)) }
+{
+    let mut text = hex::encode(alloc, bytes)?;
+    text.push_str("\n")?;
+    Ok(text)
+}
+
+/// The reply to a job that emission refuses.
+pub fn refused(error: EmitError) -> Reply
+    ensures { IsRefusal error result.status (cow_str_bytes result.text) }
+{
+    match error {
+        EmitError::NoMemory => no_memory(),
+        _ => fixed(Status::Refused, refusal_line(error)),
     }
 }
 
-// Whether this is the text of the job without blocks.
-fn is_empty_job(input: &[u8]) -> bool
-    ensures { IsTrue result ↔ (input.now ≡ empty_job) }
+// The line for a refusal of emission.
+fn refusal_line(error: EmitError) -> &'static str
+    ensures { result.now ≡ line (codes "refused " ++ error_name error) }
 {
-    input == b"end\n".as_slice()
+    match error {
+        EmitError::MissingFacility => "refused MissingFacility\n",
+        EmitError::BadOperator => "refused BadOperator\n",
+        EmitError::BadRegister => "refused BadRegister\n",
+        EmitError::ScratchConflict => "refused ScratchConflict\n",
+        EmitError::OffsetOutOfRange => "refused OffsetOutOfRange\n",
+        EmitError::BreakOutsideLoop => "refused BreakOutsideLoop\n",
+        EmitError::BadStackState => "refused BadStackState\n",
+        EmitError::UnboundLabel => "refused UnboundLabel\n",
+        EmitError::BadAlignment => "refused BadAlignment\n",
+        EmitError::LabelOutOfRange => "refused LabelOutOfRange\n",
+        EmitError::Failed => "refused Failed\n",
+        EmitError::NoMemory => "refused NoMemory\n",
+    }
 }

@@ -49,7 +49,11 @@ fn expect<R: Abort + AllocGlobal>(
     };
     let mut source = BytesSource::new(input, failing_reads);
     let (status, told) = wanted;
-    assert_eq!(rt; run(alloc, words.as_slice(), &mut source, &mut sink), status, "{told}");
+    assert_eq!(rt;
+        run(alloc, words.as_slice(), &mut source, &mut sink),
+        status,
+        "{told}"
+    );
     assert_eq!(rt; sink.told(), told.as_bytes());
     Ok(())
 }
@@ -68,7 +72,13 @@ fn words_that_are_no_command(rt: HostRuntime) -> Result<(), Fail> {
         "image 4098",
         "Image 4096",
     ] {
-        expect(&rt, words, Vec::new(rt.alloc()), GOOD, (Status::Usage, "usage\n"))?;
+        expect(
+            &rt,
+            words,
+            Vec::new(rt.alloc()),
+            GOOD,
+            (Status::Usage, "usage\n"),
+        )?;
     }
     Ok(())
 }
@@ -82,7 +92,16 @@ fn reads_that_fail(rt: HostRuntime) -> Result<(), Fail> {
         } else {
             (Status::Ok, "\n")
         };
-        expect(&rt, "image 4096", input, Ends { failing_read, ..GOOD }, wanted)?;
+        expect(
+            &rt,
+            "image 4096",
+            input,
+            Ends {
+                failing_read,
+                ..GOOD
+            },
+            wanted,
+        )?;
     }
     Ok(())
 }
@@ -95,7 +114,13 @@ fn writes_that_fail(rt: HostRuntime) -> Result<(), Fail> {
             most: 1,
             ..GOOD
         };
-        expect(&rt, "", Vec::new(rt.alloc()), ends, (Status::WriteFault, told))?;
+        expect(
+            &rt,
+            "",
+            Vec::new(rt.alloc()),
+            ends,
+            (Status::WriteFault, told),
+        )?;
     }
     Ok(())
 }
@@ -105,5 +130,11 @@ fn the_longest_input(rt: HostRuntime) -> Result<(), Fail> {
     let input = vec![in rt.alloc(); 0u8; 16_777_216]?;
     expect(&rt, "image 0", input, GOOD, (Status::Syntax, "syntax 1\n"))?;
     let input = vec![in rt.alloc(); 0u8; 16_777_217]?;
-    expect(&rt, "image 0", input, GOOD, (Status::InputTooLong, "input too long\n"))
+    expect(
+        &rt,
+        "image 0",
+        input,
+        GOOD,
+        (Status::InputTooLong, "input too long\n"),
+    )
 }

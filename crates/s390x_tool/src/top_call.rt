@@ -3,13 +3,16 @@ ghost use Rattle.std.specs.Prelude.{◌≡◌, ◌<◌, ◌⊎◌};
 ghost use Rattle.std.specs.Cow.{cow_str_bytes};
 ghost use Rattle.s390x_tool.specs.Causes.{Rose};
 ghost use Rattle.s390x_tool.specs.Ends.{IsTooLong};
-ghost use Rattle.s390x_tool.specs.Replies.{IsDelivered, IsEnded};
+ghost use Rattle.s390x_tool.specs.Replies.{IsDelivered, IsEnded, IsReply};
 ghost use Rattle.s390x_tool.specs.Words.{IsNoForm, texts};
 
+use crate::answer::answer;
 use crate::ends::{Failed, Sink, Source};
+use crate::input::{InputError, read_input};
 use crate::output::write_text;
-use crate::reply::{Reply, reply_to};
+use crate::reply::{Reply, fixed, no_memory};
 use crate::status::Status;
+use crate::words::read_words;
 use std::alloc::Global;
 
 /// Does what the words ask for with what the source holds, and writes the text or the line of the status to the sink. It
@@ -33,6 +36,22 @@ pub fn run<S: Source, K: Sink>(
 {
     let reply = reply_to(alloc, words, source);
     deliver(&reply, sink)
+}
+
+// The reply to these words and to what the source holds.
+fn reply_to<S: Source>(alloc: Global, words: &[String], source: &mut S) -> Reply
+    ensures { IsReply (record { words = texts words.now; left = S.left source.old; left' = S.left source.new; faults = S.faults source.old; faults' = S.faults source.new })
+        result.status (cow_str_bytes result.text) }
+{
+    let Some(command) = read_words(words) else {
+        return fixed(Status::Usage, "usage\n");
+    };
+    match read_input(alloc, source) {
+        Ok(input) => answer(alloc, command, &input),
+        Err(InputError::Fault) => fixed(Status::ReadFault, "read fault\n"),
+        Err(InputError::TooLong) => fixed(Status::InputTooLong, "input too long\n"),
+        Err(InputError::NoMemory) => no_memory(),
+    }
 }
 
 // Writes the reply's text, and answers how all ended.
