@@ -7,3 +7,5 @@ pub mod Joining
 pub mod Starts
 pub mod Names
 pub mod Functions
+pub mod Imaging
+pub mod Trees

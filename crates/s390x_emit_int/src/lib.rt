@@ -4,3 +4,7 @@
 pub mod causes;
 pub mod check;
 
+pub mod leaf;
+
+
+

@@ -5,6 +5,8 @@ mod bytes;
 pub mod integer;
 pub mod operands;
 pub mod storage;
+#[cfg(test)]
+mod tests;
 pub mod vector;
 
 pub use integer::{

@@ -1,5 +1,7 @@
-//! The formats with registers and masks, one struct each. Its fields are the opcode and what the
-//! format's encoding call takes; each fits its place in the format.
+//! The formats with registers and masks, one struct each.
+//!
+//! The fields are the opcode and what the format's encoding call takes, registers as numbers; each
+//! fits its place in the format.
 ghost use Rattle.std.specs.Prelude.{◌^◌, ◌<◌};
 
 /// E: `ab cd`.

@@ -1,5 +1,7 @@
-//! The formats with distances or a signed immediate, one struct each. Its fields are the opcode and what the
-//! format's encoding call takes; each fits its place in the format.
+//! The formats with distances or a signed immediate, one struct each.
+//!
+//! The fields are the opcode and what the format's encoding call takes, registers as numbers; each
+//! fits its place in the format.
 ghost use Rattle.std.specs.Prelude.{◌≡◌, ◌^◌, ◌<◌};
 ghost use mir.Syntax.{w16, w32};
 ghost use Rattle.s390x_format.specs.Distances.{half_of, distance_of, signed_of, unsigned_of};

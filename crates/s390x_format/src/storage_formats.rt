@@ -1,5 +1,7 @@
-//! The formats with a displacement, one struct each. Its fields are the opcode and what the
-//! format's encoding call takes; each fits its place in the format.
+//! The formats with a displacement, one struct each.
+//!
+//! The fields are the opcode and what the format's encoding call takes, registers as numbers; each
+//! fits its place in the format.
 ghost use Rattle.std.specs.Prelude.{◌^◌, ◌<◌};
 
 /// RS: `ab`, r1 r3, b2 d.

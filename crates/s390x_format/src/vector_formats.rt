@@ -1,5 +1,7 @@
-//! The formats with vector registers, one struct each. Its fields are the opcode and what the
-//! format's encoding call takes; each fits its place in the format.
+//! The formats with vector registers, one struct each.
+//!
+//! The fields are the opcode and what the format's encoding call takes, registers as numbers; each
+//! fits its place in the format.
 ghost use Rattle.std.specs.Prelude.{◌^◌, ◌<◌};
 
 /// VRI-A: `ab`, v1 0, i2, m3 x, `cd`.

@@ -1,0 +1,152 @@
+-- The finished function is its image.
+use Rattle.std.proofs.Common.{◌≡◌, ℕ, zero, suc, ◌+◌, ◌-◌, ◌<◌, ◌≤◌, ◌≢◌, ◌⊎◌, inl, inr, List, [], ◌∷◌, ◌++◌, length, map, get_or, set, take, drop, replicate, refl, sym, ap, ◌∙◌, subst, arith, length-append, length-set, append-nil, add-zero, zero-add, drop-cons, length-take, Option, None, Some, Vec, Global}
+use Rattle.std.proofs.lemmas.List.{length-map, length-replicate, get_or_append_left, get_or-append-add, get_or-take, get_or-drop}
+use Rattle.s390x_buffer.specs.State.{State, Constant, fresh}
+use Rattle.s390x_buffer.specs.Patch.{place_in, place_of, patch_all}
+use Rattle.s390x_buffer.specs.Constants.{constant_start, constant_starts, constant_bytes, greatest_align}
+use Rattle.s390x_buffer.specs.Finish.{Finished, bind_constants, final_labels, starts_of_constants, placed_site}
+use Rattle.s390x_buffer.specs.declared.entries.MachBufferFinalized.{MachBufferFinalized}
+use Rattle.s390x_inst.specs.declared.function.Block.{Block}
+use Rattle.s390x_steps.specs.Tree.{Tree, tree}
+use Rattle.s390x_steps.specs.Steps.{function_steps, steps_from, first_step}
+use Rattle.s390x_steps.specs.Rows.{Places}
+use Rattle.s390x_steps.specs.Image.{place, code, function_places, function_code, step_places, block_places}
+use Rattle.s390x_steps.specs.Sizes.{blocks_size}
+use Rattle.s390x_steps.specs.Causes.{draws, blocks_cause}
+use Rattle.s390x_emit_int.specs.Pieces.{Piece, apply, run, Put, Link, Step, Draw, Bind}
+use Rattle.s390x_emit_int.specs.Emission.{pieces, function_pieces}
+use Rattle.s390x_emit_int.specs.Resolve.{resolve, Wide, Within, put_length}
+use Rattle.s390x_emit_int.specs.Bound.{Follows, TreesName, AllBound}
+use Rattle.s390x_emit_int.specs.Function.{IsImage, tree_of}
+use Rattle.s390x_emit_int.proofs.Runs.{run-append}
+use Rattle.s390x_emit_int.proofs.Patching.{patched, patched_run, all_left, length-patch_all, within_more, within_append}
+use Rattle.s390x_emit_int.proofs.Names.{all_names}
+use Rattle.s390x_emit_int.proofs.Starts.{Same, same_run, starts_run, marks}
+use Rattle.s390x_emit_int.proofs.Functions.{function_wide, TellsBlocks, all_bound, function_join, function_marks, block_at, blocks_upto, places_upto, place_follows, place_zero, bound_state, block_state, block_labels, block_kept, longer}
+use Rattle.s390x_buffer.specs.declared.entries.LabelFixup.{LabelFixup}
+
+-- the uses lie within the bytes
+within_run : (ps : List Piece) (s : State) → Within (length s.bytes) s.uses → Wide ps → Within (length (run s ps).bytes) (run s ps).uses
+within_run [] s w h = w
+within_run (Put bs ∷ ps) s w h =
+    let n = length-append s.bytes bs in
+    within_run ps (apply s (Put bs)) (within_more (length s.bytes) (length (s.bytes ++ bs)) s.uses (omega (arith, n)) w) h
+within_run (Link k l bs ∷ ps) s w h =
+    let n = length-append s.bytes bs in
+    let u : LabelFixup = record { kind = k; offset = length s.bytes; label = record { 0 = l } } in
+    within_run ps (apply s (Link k l bs)) (within_append (length (s.bytes ++ bs)) s.uses u (within_more (length s.bytes) (length (s.bytes ++ bs)) s.uses (omega (arith, n)) w) (omega (arith, n, h.0))) h.1
+within_run (Step ∷ ps) s w h = within_run ps (apply s Step) w h
+within_run (Draw ∷ ps) s w h = within_run ps (apply s Draw) w h
+within_run (Bind l ∷ ps) s w h = within_run ps (apply s (Bind l)) w h
+
+-- binding the constants leaves the labels before theirs, and those behind
+low_label : (n : ℕ) (starts : List ℕ) (labels : List (Option ℕ)) (l : ℕ) → l < n → n ≤ length labels → get_or (bind_constants n starts labels) l None ≡ get_or labels l None
+low_label n starts labels l lt le =
+    let h : l < length (take n labels) = omega (arith, length-take n labels) in
+    get_or_append_left (take n labels) _ None l h ∙ get_or-take n labels l None lt
+
+high_label : (n : ℕ) (starts : List ℕ) (labels : List (Option ℕ)) (l : ℕ) → n + length starts ≤ l → n ≤ length labels → get_or (bind_constants n starts labels) l None ≡ get_or labels l None
+high_label n starts labels l lo le =
+    let m = length starts in
+    let j = l - (n + m) in
+    let first : length (take n labels) ≡ n = omega (arith, length-take n labels) in
+    let second : length (map Some starts) ≡ m = length-map starts Some in
+    let e1 : l ≡ length (take n labels) + (m + j) = omega arith in
+    let e2 : m + j ≡ length (map Some starts) + j = omega arith in
+    let e3 : n + m + j ≡ l = omega arith in
+    ap (λ k. get_or (bind_constants n starts labels) k None) e1
+    ∙ get_or-append-add (take n labels) (map Some starts ++ drop (n + m) labels) (m + j) None
+    ∙ ap (λ k. get_or (map Some starts ++ drop (n + m) labels) k None) e2
+    ∙ get_or-append-add (map Some starts) (drop (n + m) labels) j None
+    ∙ get_or-drop (n + m) labels j None
+    ∙ ap (λ k. get_or labels k None) e3
+
+length-starts : (n : ℕ) (cs : List Constant) → length (constant_starts n cs) ≡ length cs
+length-starts n [] = refl
+length-starts n (c ∷ cs) = ap suc (length-starts (constant_start n c + length c.bytes) cs)
+
+code_is : (ts : List Tree) (off : ℕ → ℕ) (n : ℕ) → ((l : ℕ) → l < length ts → off l ≡ (function_places ts).block l) → TreesName (length ts) ts → AllBound off n 0 (place (function_steps ts) 0) ts → resolve off 0 (function_pieces n 0 ts) ≡ function_code ts
+code_is [] off n agree names bound = refl
+code_is (t ∷ ts) off n agree names bound =
+    let all = function_steps (t ∷ ts) in
+    ap (λ m. resolve off m (function_pieces n 0 (t ∷ ts))) (sym (place_zero all)) ∙ function_join (t ∷ ts) off (function_places (t ∷ ts)) (length (t ∷ ts)) n 0 0 agree names bound (place_follows all) bound.0
+
+-- what was emitted, as one buffer has it
+pub record Emitted (ts : List Tree) (cs : List Constant) (u : State) : Type 0 where
+  pub is : u ≡ run (fresh (length ts) cs) (function_pieces (length ts + length cs) 0 ts)
+  pub fine : blocks_cause (length ts) (length ts + length cs) ts ≡ None
+
+pub image_of : (ts : List Tree) (cs : List Constant) (u : State) (f : MachBufferFinalized) → Emitted ts cs u → Finished u f → IsImage ts cs f
+image_of ts cs u0 f emitted fin0 =
+    let b = length ts in
+    let n = b + length cs in
+    let s0 = fresh b cs in
+    let ps = function_pieces n 0 ts in
+    let u = run s0 ps in
+    let fin : Finished u f = subst (λ x. Finished x f) emitted.is fin0 in
+    let same : Same s0 u = same_run ps s0 in
+    let off = place_in (final_labels u) in
+    let all = function_steps ts in
+    let at = place all in
+    let follow = place_follows all in
+    let drawn : length s0.labels ≡ n = length-replicate n None in
+    let long : n ≤ length u.labels = longer ts s0 n 0 (sym drawn) in
+    let count : u.block_count ≡ b = same.block_count in
+    let starts : length (starts_of_constants u) ≡ length cs = length-starts (length u.bytes) u.constants ∙ ap length same.constants in
+    let enough : u.block_count ≤ length u.labels = omega arith in
+    let blocks : TellsBlocks off 0 b u = λ l lo hi. let lt : l < u.block_count = omega arith in ap place_of (low_label u.block_count (starts_of_constants u) u.labels l lt enough) in
+    let tells : (l : ℕ) → n ≤ l → l < length u.labels → off l ≡ place_in u.labels l = λ l lo hi. let le : u.block_count + length (starts_of_constants u) ≤ l = omega arith in ap place_of (high_label u.block_count (starts_of_constants u) u.labels l le enough) in
+    let bound0 : AllBound off n 0 0 ts = all_bound ts s0 n 0 off (sym drawn) (omega arith) blocks tells in
+    let bound : AllBound off n 0 (at 0) ts = subst (λ m. AllBound off n 0 m ts) (sym (place_zero all)) bound0 in
+    let agree : (l : ℕ) → l < b → off l ≡ (function_places ts).block l = λ l h. ap off (sym (zero-add l)) ∙ block_at ts off at n 0 0 l bound follow h ∙ ap at (zero-add (first_step ts l)) in
+    let wide : Wide ps = function_wide ts n 0 in
+    let within : Within (length u.bytes) u.uses = within_run ps s0 tt wide in
+    let body : patched off u ≡ function_code ts = patched_run ps s0 off tt wide ∙ code_is ts off n agree (all_names b n ts emitted.fine) bound in
+    let size : length u.bytes ≡ length (function_code ts) = sym (length-patch_all off u.uses u.bytes) ∙ ap length body in
+    record {
+      bytes = fin.bytes ∙ all_left off u.uses u.bytes (constant_bytes (length u.bytes) u.constants) within ∙ ap (λ l. l ++ constant_bytes (length u.bytes) u.constants) body ∙ ap (λ m. function_code ts ++ constant_bytes m u.constants) size ∙ ap (λ x. function_code ts ++ constant_bytes (length (function_code ts)) x) same.constants;
+      block_starts = fin.block_starts ∙ ap (λ m. map place_of (take m u.labels)) count ∙ places_upto b 0 u.labels off (omega arith) blocks ∙ blocks_upto ts off at n 0 0 bound follow;
+      constant_starts = fin.constant_starts ∙ ap (λ m. constant_starts m u.constants) size ∙ ap (λ x. constant_starts (length (function_code ts)) x) same.constants;
+      starts = fin.starts ∙ starts_run ps s0 ∙ ap (λ m. marks m ps) (sym (place_zero all)) ∙ function_marks ts at n 0 0 follow;
+      relocs = fin.relocs ∙ same.relocs;
+      traps = fin.traps ∙ same.traps;
+      call_sites = fin.call_sites ∙ same.call_sites;
+      try_call_sites = fin.try_call_sites ∙ ap (λ x. map (placed_site off) x) same.try_call_sites;
+      patchable_sites = fin.patchable_sites ∙ same.patchable_sites;
+      stack_maps = fin.stack_maps ∙ same.stack_maps;
+      alignment = fin.alignment ∙ ap (λ x. greatest_align 4 x) same.constants;
+    }
+
+block_is : (s s1 s2 : State) (k : ℕ) (t : Tree) → s1 ≡ apply s (Bind k) → s2 ≡ run s1 (pieces (length s1.labels) 0 t) → s2 ≡ block_state s (length s.labels) k t
+block_is s s1 s2 k t e1 e2 =
+    e2 ∙ ap (λ x. run x (pieces (length x.labels) 0 t)) e1 ∙ ap (λ m. run (bound_state s k) (pieces m 0 t)) (length-set s.labels k (Some (length s.bytes)))
+
+-- one more block
+pub block_more : (bs : List Block) (k : ℕ) (v : Block) (s s1 s2 r : State) → k < length bs → v ≡ get_or bs k v → s1 ≡ apply s (Bind k) → s2 ≡ run s1 (pieces (length s1.labels) 0 (tree_of v)) → run s (function_pieces (length s.labels) k (map tree_of (drop k bs))) ≡ r → run s2 (function_pieces (length s2.labels) (k + 1) (map tree_of (drop (k + 1) bs))) ≡ r
+block_more bs k v s s1 s2 r lt at e1 e2 h =
+    let n = length s.labels in
+    let t = tree_of v in
+    let rest = drop (k + 1) bs in
+    let k1 : suc k ≡ k + 1 = omega arith in
+    let cons : drop k bs ≡ v ∷ rest = drop-cons bs k v lt ∙ ap (λ x. x ∷ drop (suc k) bs) (sym at) ∙ ap (λ m. v ∷ drop m bs) k1 in
+    let e2' : s2 ≡ block_state s n k t = block_is s s1 s2 k t e1 e2 in
+    let len : length s2.labels ≡ n + draws t = ap (λ x. length x.labels) e2' ∙ sym (block_labels t s n k refl) in
+    ap (λ m. run s2 (function_pieces m (k + 1) (map tree_of rest))) len
+    ∙ ap (λ x. run x (function_pieces (n + draws t) (k + 1) (map tree_of rest))) e2'
+    ∙ sym (run-append (bound_state s k) (pieces n 0 t) (function_pieces (n + draws t) (k + 1) (map tree_of rest)))
+    ∙ ap (λ l. run s (function_pieces n k (map tree_of l))) (sym cons)
+    ∙ h
+
+pub record NextBlock (s2 : State) (k n : ℕ) : Type 0 where
+  pub drawn : n ≤ length s2.labels
+  pub free : (j : ℕ) → k + 1 ≤ j → j < n → get_or s2.labels j None ≡ None
+
+pub next_free : (k m : ℕ) (t : Tree) (s s1 s2 : State) → m ≤ length s.labels → ((j : ℕ) → k ≤ j → j < m → get_or s.labels j None ≡ None) → s1 ≡ apply s (Bind k) → s2 ≡ run s1 (pieces (length s1.labels) 0 t) → NextBlock s2 k m
+next_free k m t s s1 s2 room free e1 e2 =
+    let n = length s.labels in
+    let e2' : s2 ≡ block_state s n k t = block_is s s1 s2 k t e1 e2 in
+    let len : length s2.labels ≡ n + draws t = ap (λ x. length x.labels) e2' ∙ sym (block_labels t s n k refl) in
+    record {
+      drawn = omega (arith, len);
+      free = λ j lo hi. let ne : j ≢ k = omega arith in ap (λ x. get_or x.labels j None) e2' ∙ block_kept t s n k j refl (omega arith) ne ∙ free j (omega arith) hi;
+    }
