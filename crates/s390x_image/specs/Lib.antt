@@ -1,0 +1,6 @@
+pub mod Errors
+pub mod Symbols
+pub mod Fields
+pub mod Causes
+pub mod Filled
+pub mod ReadingBack

@@ -1,0 +1,64 @@
+-- What a field says when it is read: the target, or the distance that its half stands for.
+use Rattle.std.proofs.Common.{◌≡◌, ℕ, suc, ◌+◌, ◌*◌, ◌/◌, ◌%◌, ◌^◌, ◌<◌, refl, ap, sym, ◌∙◌, arith}
+use Rattle.std.specs.Prelude.{ℤ, pos, negsuc, ◌*ℤ◌, ◌-ℤ◌, ◌≤ℤ◌, ◌<ℤ◌, Bool, true, false, cond, Option, Some, None}
+use Rattle.std.specs.Int.{w32, w64, cast_signed, cast_unsigned, from_be_bytes}
+use Rattle.std.specs.Int.RustNames.{int_div, int_rem, FitsSigned}
+use Rattle.std.proofs.lemmas.Int.{to_z-of_z, ints}
+use Rattle.std.proofs.lemmas.Nat.{from_be_bytes-to_be_bytes_4, from_be_bytes-to_be_bytes_8}
+use Rattle.s390x_image.specs.declared.error.LinkError.{LinkError}
+use Rattle.s390x_image.specs.declared.error.LinkError.TheVariants.{AddressOverflow, OddSymbol, TooFar}
+use Rattle.std.proofs.lemmas.Bool.Decides.{Decides-int_eq}
+use Rattle.s390x_image.specs.Fields.{half_field, target_field}
+use Rattle.s390x_image.specs.Causes.{first, is_address, is_even, is_signed_word, absolute_cause, half_cause, relative_cause}
+
+one_test : (a : Bool) (e : LinkError) → cond a None (Some e) ≡ None → a ≡ true
+one_test true e h = refl
+one_test false e h = cc
+
+two_tests : (a b : Bool) (e f : LinkError) → cond a (cond b None (Some e)) (Some f) ≡ None → (a ≡ true) × (b ≡ true)
+two_tests true true e f h = (refl, refl)
+two_tests true false e f h = cc
+two_tests false b e f h = cc
+
+second : (o p : Option LinkError) → first o p ≡ None → p ≡ None
+second None p h = h
+second (Some e) p h = cc
+
+twice_half : (z : ℤ) → is_even z ≡ true → pos 2 *ℤ int_div z (pos 2) ≡ z
+twice_half (pos n) h =
+    let e : n % 2 ≡ 0 = omega (arith, ints, (Decides-int_eq (int_rem (pos n) (pos 2)) (pos 0)).0 h) in
+    let f : 2 * (n / 2) ≡ n = omega arith in
+    ap pos f
+twice_half (negsuc n) h =
+    let e : suc n % 2 ≡ 0 = omega (arith, ints, (Decides-int_eq (int_rem (negsuc n) (pos 2)) (pos 0)).0 h) in
+    omega (arith, ints)
+
+word_fits : (z : ℤ) → is_signed_word z ≡ true → FitsSigned w32 z
+word_fits z h = grind (arith, ints)
+
+word_bits : (z : ℤ) → FitsSigned w32 z → cast_unsigned w32 z < 2 ^ 32
+word_bits z h = omega (arith, ints)
+
+-- the word at a relative field, doubled, is the distance
+pub relative_back : (target distance : ℤ) → relative_cause target distance ≡ None →
+    pos 2 *ℤ cast_signed w32 (from_be_bytes w32 (half_field distance)) ≡ distance
+relative_back target distance h =
+    let tests = two_tests (is_even distance) (is_signed_word (int_div distance (pos 2))) TooFar OddSymbol (second (absolute_cause (target -ℤ pos 2)) (half_cause distance) h) in
+    let fits = word_fits (int_div distance (pos 2)) tests.1 in
+    let small : cast_unsigned w32 (int_div distance (pos 2)) < 2 ^ 32 = word_bits (int_div distance (pos 2)) fits in
+    ap (λ (n : ℕ). pos 2 *ℤ cast_signed w32 n) (from_be_bytes-to_be_bytes_4 (cast_unsigned w32 (int_div distance (pos 2))) small)
+    ∙ ap (λ (z : ℤ). pos 2 *ℤ z) (to_z-of_z w32 (int_div distance (pos 2)) fits)
+    ∙ twice_half distance tests.0
+
+address_bits : (z : ℤ) → is_address z ≡ true → cast_unsigned w64 z < 2 ^ 64
+address_bits z h = grind (arith, ints)
+
+in_range : (z : ℤ) → is_address z ≡ true → pos (cast_unsigned w64 z) ≡ z
+in_range z h = grind (arith, ints)
+
+-- the doubleword at an absolute field is the target
+pub absolute_back : (target : ℤ) → absolute_cause target ≡ None → pos (from_be_bytes w64 (target_field target)) ≡ target
+absolute_back target h =
+    let test = one_test (is_address target) AddressOverflow h in
+    let small : cast_unsigned w64 target < 2 ^ 64 = address_bits target test in
+    ap pos (from_be_bytes-to_be_bytes_8 (cast_unsigned w64 target) small) ∙ in_range target test
