@@ -3,10 +3,11 @@ ghost use Rattle.std.specs.Prelude.{◌≡◌, ◌++◌, codes, IfOk, OnErr, str
 ghost use Rattle.std.specs.Cow.{cow_str_bytes};
 ghost use Rattle.std.specs.Fmt.{decimal};
 ghost use Rattle.hex.specs.Hex.{encode_lower};
-ghost use Rattle.s390x_tool.specs.Lines.{line, error_name, IsMade, IsRefusal};
+ghost use Rattle.s390x_tool.specs.Lines.{line, error_name, link_error_name, IsLinkRefusal, IsMade, IsRefusal};
 
 use crate::status::Status;
 use s390x_base::EmitError;
+use s390x_image::LinkError;
 use std::alloc::{AllocError, Global};
 use std::borrow::CowStr;
 
@@ -100,5 +101,30 @@ fn refusal_line(error: EmitError) -> &'static str
         EmitError::LabelOutOfRange => "refused LabelOutOfRange\n",
         EmitError::Failed => "refused Failed\n",
         EmitError::NoMemory => "refused NoMemory\n",
+    }
+}
+
+/// The reply to a job whose code isn't linked.
+pub fn link_refused(error: LinkError) -> Reply
+    ensures { IsLinkRefusal error result.status (cow_str_bytes result.text) }
+{
+    match error {
+        LinkError::NoMemory => no_memory(),
+        _ => fixed(Status::LinkRefused, link_refusal_line(error)),
+    }
+}
+
+// The line for a refusal of linking.
+fn link_refusal_line(error: LinkError) -> &'static str
+    ensures { result.now ≡ line (codes "link " ++ link_error_name error) }
+{
+    match error {
+        LinkError::MisalignedBase => "link MisalignedBase\n",
+        LinkError::ImageTooHigh => "link ImageTooHigh\n",
+        LinkError::UndefinedSymbol => "link UndefinedSymbol\n",
+        LinkError::AddressOverflow => "link AddressOverflow\n",
+        LinkError::OddSymbol => "link OddSymbol\n",
+        LinkError::TooFar => "link TooFar\n",
+        LinkError::NoMemory => "link NoMemory\n",
     }
 }
