@@ -1,8 +1,8 @@
 -- What follows from a reply and how it was written.
-use Rattle.std.proofs.Common.{◌≡◌, ℕ, ◌⊎◌, inl, inr, List, refl}
+use Rattle.std.proofs.Common.{◌≡◌, ℕ, ◌⊎◌, inl, inr, List, refl, sym, ◌∙◌}
 use Rattle.std.specs.Prelude.{Option}
 use Rattle.s390x_tool.specs.Words.{IsNoForm}
-use Rattle.s390x_tool.specs.Replies.{Found, IsReply, IsDelivered}
+use Rattle.s390x_tool.specs.Replies.{Found, IsReply, IsDelivered, IsDone}
 use Rattle.s390x_tool.specs.declared.status.Status.{Status}
 use Rattle.s390x_tool.specs.declared.status.Status.TheVariants as status
 
@@ -29,3 +29,10 @@ pub usage_result : (f : Found) (told told' : Option (List ℕ)) (faults faults' 
     → (result ≡ status.Usage) ⊎ (result ≡ status.WriteFault)
 usage_result f told told' faults faults' s text result reply delivered none =
     rw (usage_reply f s text none reply) at (delivered_status told told' faults faults' s text result delivered)
+
+-- at `Ok` all was done
+pub done_result : (f : Found) (told told' : Option (List ℕ)) (faults faults' : ℕ) (s : Status) (text : List ℕ) (result : Status)
+    → IsReply f s text → IsDelivered told told' faults faults' s text result → result ≡ status.Ok → IsDone f told told'
+done_result f told told' faults faults' s text result reply (inl whole) ok =
+    record { text = text; answered = rw (sym whole.0 ∙ ok) at reply; appended = whole.1 }
+done_result f told told' faults faults' s text result reply (inr part) ok = absurd cc

@@ -73,3 +73,9 @@ pub record IsEnded (f : Found) (told told' : Option (List ℕ)) (faults faults' 
   pub text : List ℕ
   pub reply : IsReply f status text
   pub delivered : IsDelivered told told' faults faults' status text result
+
+-- all was done: the source was read to its end, the command's text for what it held was told, and nothing else
+pub record IsDone (f : Found) (told told' : Option (List ℕ)) : Type 0 where
+  pub text : List ℕ
+  pub answered : IsAnswered f status.Ok text
+  pub appended : Appends told told' text

@@ -1,5 +1,5 @@
 -- The words that the program takes.
-use Rattle.std.specs.Prelude.{ℕ, ◌≡◌, ◌≢◌, slice_index, length, ◌%◌, ◌^◌, ◌<◌, List, [], ◌∷◌, map, codes}
+use Rattle.std.specs.Prelude.{ℕ, ◌≡◌, ◌≢◌, slice_index, length, ◌^◌, ◌<◌, List, [], ◌∷◌, map, codes}
 use Rattle.std.specs.String.{string_bytes}
 use Rattle.std.specs.Fmt.{decimal}
 use Rattle.std.specs.declared.string.String.{String}
@@ -10,13 +10,9 @@ use Rattle.s390x_tool.specs.declared.words.Command.TheVariants.{Image}
 abbrev pub words_of : Command → List (List ℕ)
 words_of (Image base) = codes "image" ∷ decimal base ∷ []
 
--- a base that the command takes, until images are linked: a multiple of 4 below 2^63
-abbrev pub IsBase : ℕ → Type 0
-IsBase base = (base % 4 ≡ 0) × (base < 2 ^ 63)
-
 -- the numbers of the command lie in their ranges
 abbrev pub IsInRange : Command → Type 0
-IsInRange (Image base) = (base < 2 ^ 64) × IsBase base
+IsInRange (Image base) = base < 2 ^ 64
 
 -- these words are this command
 pub record IsForm (words : List (List ℕ)) (command : Command) : Type 0 where

@@ -18,7 +18,7 @@ const GOOD: Ends = Ends {
     most: 1000,
 };
 
-const EMPTY: &str = "end\n";
+const ADD: &str = "block\nMov64 %r2 %r3\nAluRRR Add64 %r2 %r2 %r4\nRet %r14\nend\n";
 
 /// The words of a line, one space between two of them.
 fn words_of(alloc: Global, line: &str) -> Result<Vec<String>, Fail> {
@@ -69,7 +69,6 @@ fn words_that_are_no_command(rt: HostRuntime) -> Result<(), Fail> {
         "image +4",
         "image 0x10",
         "image 18446744073709551616",
-        "image 4098",
         "Image 4096",
     ] {
         expect(
@@ -86,11 +85,11 @@ fn words_that_are_no_command(rt: HostRuntime) -> Result<(), Fail> {
 #[test]
 fn reads_that_fail(rt: HostRuntime) -> Result<(), Fail> {
     for failing_read in 1..6 {
-        let input = Vec::from_slice(rt.alloc(), EMPTY.as_bytes())?;
+        let input = Vec::from_slice(rt.alloc(), ADD.as_bytes())?;
         let wanted = if failing_read < 3 {
             (Status::ReadFault, "read fault\n")
         } else {
-            (Status::Ok, "\n")
+            (Status::Ok, "b9040023b908002407fe\n")
         };
         expect(
             &rt,
@@ -108,19 +107,76 @@ fn reads_that_fail(rt: HostRuntime) -> Result<(), Fail> {
 
 #[test]
 fn writes_that_fail(rt: HostRuntime) -> Result<(), Fail> {
-    for (failing_write, told) in [(1, ""), (2, "u"), (3, "us"), (4, "usa"), (5, "usag")] {
+    for (failing_write, told) in [
+        (1, ""),
+        (2, "b90"),
+        (3, "b90400"),
+        (4, "b9040023b"),
+        (5, "b9040023b908"),
+    ] {
+        let input = Vec::from_slice(rt.alloc(), ADD.as_bytes())?;
         let ends = Ends {
             failing_write,
-            most: 1,
+            most: 3,
             ..GOOD
         };
-        expect(
-            &rt,
-            "",
-            Vec::new(rt.alloc()),
-            ends,
-            (Status::WriteFault, told),
-        )?;
+        expect(&rt, "image 4096", input, ends, (Status::WriteFault, told))?;
+    }
+    Ok(())
+}
+
+#[test]
+fn images(rt: HostRuntime) -> Result<(), Fail> {
+    for (words, input, status, told) in [
+        ("image 4096", ADD, Status::Ok, "b9040023b908002407fe\n"),
+        (
+            "image 18446744073709551604",
+            ADD,
+            Status::Ok,
+            "b9040023b908002407fe\n",
+        ),
+        (
+            "image 18446744073709551608",
+            ADD,
+            Status::LinkRefused,
+            "link ImageTooHigh\n",
+        ),
+        (
+            "image 4098",
+            ADD,
+            Status::LinkRefused,
+            "link MisalignedBase\n",
+        ),
+        ("image 4096", "end\n", Status::Ok, "\n"),
+        ("image 4096", "", Status::Syntax, "syntax 1\n"),
+        ("image 4096", "block\n", Status::Syntax, "syntax 2\n"),
+        (
+            "image 4096",
+            "block\nCondBr 1 2 8\nblock\nRet %r14\nblock\nRet %r14\nend\n",
+            Status::Ok,
+            "c08400000006c0f40000000407fe07fe\n",
+        ),
+        (
+            "image 4096",
+            "block\nCondBr 1 3 8\nblock\nRet %r14\nblock\nRet %r14\nend\n",
+            Status::Refused,
+            "refused UnboundLabel\n",
+        ),
+        (
+            "image 4096",
+            "block\nRet %r0\nend\n",
+            Status::Refused,
+            "refused BadRegister\n",
+        ),
+        (
+            "image 4096",
+            "block\nJump 0\nend\n",
+            Status::Ok,
+            "c0f400000000\n",
+        ),
+    ] {
+        let input = Vec::from_slice(rt.alloc(), input.as_bytes())?;
+        expect(&rt, words, input, GOOD, (status, told))?;
     }
     Ok(())
 }

@@ -1,10 +1,11 @@
 //! The top call.
-ghost use Rattle.std.specs.Prelude.{◌≡◌, ◌<◌, ◌⊎◌};
+ghost use Rattle.std.specs.Prelude.{◌≡◌, ◌<◌, ◌⊎◌, ℕ, List, Some};
 ghost use Rattle.std.specs.Cow.{cow_str_bytes};
+ghost use Rattle.s390x_tool.specs.Answers.{IsAccepted};
 ghost use Rattle.s390x_tool.specs.Causes.{Rose};
 ghost use Rattle.s390x_tool.specs.Ends.{IsTooLong};
-ghost use Rattle.s390x_tool.specs.Replies.{IsDelivered, IsEnded, IsReply};
-ghost use Rattle.s390x_tool.specs.Words.{IsNoForm, texts};
+ghost use Rattle.s390x_tool.specs.Replies.{IsDelivered, IsDone, IsEnded, IsReply};
+ghost use Rattle.s390x_tool.specs.Words.{IsForm, IsNoForm, texts};
 
 use crate::answer::answer;
 use crate::ends::{Failed, Sink, Source};
@@ -12,7 +13,7 @@ use crate::input::{InputError, read_input};
 use crate::output::write_text;
 use crate::reply::{Reply, fixed, no_memory};
 use crate::status::Status;
-use crate::words::read_words;
+use crate::words::{Command, read_words};
 use std::alloc::Global;
 
 /// Does what the words ask for with what the source holds, and writes the text or the line of the status to the sink. It
@@ -26,6 +27,13 @@ pub fn run<S: Source, K: Sink>(
     // The words and the input have this reply, and its text was written whole, or else a front of it.
     ensures ended { IsEnded (record { words = texts words.now; left = S.left source.old; left' = S.left source.new; faults = S.faults source.old; faults' = S.faults source.new })
         (K.told sink.old) (K.told sink.new) (K.faults sink.old) (K.faults sink.new) result }
+    // At `Ok` the source held the text of one job, and the sink was told its image in hex and a line feed.
+    ensures ok { result ≡ Status.Ok → IsDone (record { words = texts words.now; left = S.left source.old; left' = S.left source.new; faults = S.faults source.old; faults' = S.faults source.new })
+        (K.told sink.old) (K.told sink.new) }
+    // A job that neither emission nor linking has a cause to refuse is done, where no read and no write fails.
+    ensures complete { (base : ℕ) (input : List ℕ) → IsForm (texts words.now) (Command.Image base) → S.left source.old ≡ Some input → IsAccepted base input
+        → (Rose (S.faults source.old) (S.faults source.new) → ⊥) → (Rose (K.faults sink.old) (K.faults sink.new) → ⊥)
+        → (result ≡ Status.Ok) ⊎ (result ≡ Status.NoMemory) }
     ensures usage { result ≡ Status.Usage → IsNoForm (texts words.now) }
     ensures always_usage { IsNoForm (texts words.now) → (result ≡ Status.Usage) ⊎ (result ≡ Status.WriteFault) }
     ensures read_fault { result ≡ Status.ReadFault → Rose (S.faults source.old) (S.faults source.new) }

@@ -1,7 +1,7 @@
 //! The words after the program's name.
 ghost use Rattle.std.specs.Prelude.{◌≡◌, ◌≢◌, ℕ, ◌^◌, ◌<◌, ◌↔◌, IsTrue, IfSome, IfNone};
 ghost use Rattle.std.specs.Fmt.{decimal};
-ghost use Rattle.s390x_tool.specs.Words.{IsBase, IsForm, IsImage, IsNoForm, IsPlain, texts};
+ghost use Rattle.s390x_tool.specs.Words.{IsForm, IsImage, IsNoForm, IsPlain, texts};
 
 /// What the program is asked for.
 #[derive(Clone, Copy, PartialEq, Eq, Debug)]
@@ -24,21 +24,10 @@ pub fn read_words(words: &[String]) -> Option<Command>
 // The command `image` with this second word.
 fn read_image(word: &str) -> Option<Command>
     ensures some { IfSome result (λ command. IsImage word.now command) }
-    ensures none { IfNone result ((base : ℕ) → base < 2 ^ 64 → IsBase base → word.now ≢ decimal base) }
+    ensures none { IfNone result ((base : ℕ) → base < 2 ^ 64 → word.now ≢ decimal base) }
 {
     let base = read_number(word)?;
-    if is_base(base) {
-        Some(Command::Image { base })
-    } else {
-        None
-    }
-}
-
-// Whether images are made at this base.
-fn is_base(base: u64) -> bool
-    ensures { IsTrue result ↔ IsBase base }
-{
-    base % 4 == 0 && base < 9_223_372_036_854_775_808
+    Some(Command::Image { base })
 }
 
 // The number below 2^64 that this word writes, in decimal without leading zeros.
