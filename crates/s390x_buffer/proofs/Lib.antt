@@ -1,3 +1,5 @@
+pub mod Appending
+pub mod Branching
 pub mod Declared
 pub mod Keeping
 pub mod Placing

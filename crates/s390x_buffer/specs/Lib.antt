@@ -4,3 +4,4 @@ pub mod Patch
 pub mod Relocs
 pub mod Constants
 pub mod Finish
+pub mod Branches

@@ -1,6 +1,7 @@
 //! The buffer that emission writes into.
 ghost use Rattle.std.specs.Prelude.{◌≡◌, ◌+◌, ◌<◌, ◌≤◌, ◌++◌, ◌∷◌, [], Some, None, true, false, length, map, set, get_or, replicate, MatchResult, IfOk};
 ghost use Rattle.std.specs.Int.{to_be_bytes, w32, w64};
+ghost use Rattle.s390x_buffer.specs.Branches.{BranchesLead};
 ghost use Rattle.s390x_buffer.specs.Finish.{length_cause, patch_cause, finish_cause, BlamesEither, Finished};
 ghost use Rattle.s390x_buffer.specs.Keeps.{Keeps};
 ghost use Rattle.s390x_buffer.specs.State.{State, Blames, marked, mark_cause, put_cause, draw_cause, label_cause, handlers_cause, labels_below, constant_cause, new_cause, fresh, constant_of, constant_label, is_alignment, all_aligned, IsNoConstant, align_of, limit, label_limit};
@@ -145,7 +146,7 @@ impl MachBuffer {
     fn refuse(&mut self, e: EmitError) -> Result<(), EmitError>
         ensures { MatchResult result (λ _. false ≡ true) (λ x. (x ≡ e) × (self.new ≡ marked self.old)) }
     {
-        self.failed = true;
+        self.fail();
         Err(e)
     }
 
@@ -179,7 +180,8 @@ impl MachBuffer {
         ensures answer { MatchResult result (λ _. (put_cause self.old 4 ≡ None) × (self.new ≡ record self.old { bytes = self.old.bytes ++ to_be_bytes w32 value })) (λ e. Blames (put_cause self.old 4) e × (self.new ≡ marked self.old)) }
         ensures kept { Keeps self.old self.new }
     {
-        self.put(&value.to_be_bytes())
+        let word = value.to_be_bytes();
+        self.put(&word)
     }
 
     /// Appends eight bytes, the most significant first. Refused by `LabelOutOfRange` where the length would reach 2^31.
@@ -187,7 +189,8 @@ impl MachBuffer {
         ensures answer { MatchResult result (λ _. (put_cause self.old 8 ≡ None) × (self.new ≡ record self.old { bytes = self.old.bytes ++ to_be_bytes w64 value })) (λ e. Blames (put_cause self.old 8) e × (self.new ≡ marked self.old)) }
         ensures kept { Keeps self.old self.new }
     {
-        self.put(&value.to_be_bytes())
+        let doubleword = value.to_be_bytes();
+        self.put(&doubleword)
     }
 
     /// Appends the code of an instruction. Refused by `LabelOutOfRange` where the length would reach 2^31.
@@ -441,8 +444,10 @@ impl MachBuffer {
     /// would reach 2^31, and where a use can't be patched, by `UnboundLabel` where its label was never
     /// bound and by `LabelOutOfRange` where its distance is odd or out of its range, a patched
     /// `PCRel32` sum leaves signed 32 bits, or its bytes lie past the end.
+    #[tactic(auto, using(crate::proofs::Branching::branches_lead))]
     pub fn finish(self) -> Result<MachBufferFinalized, EmitError>
-        ensures { MatchResult result (λ f. (finish_cause self ≡ None) × Finished self f) (λ e. BlamesEither (length_cause self) (patch_cause self) e) }
+        ensures answer { MatchResult result (λ f. (finish_cause self ≡ None) × Finished self f) (λ e. BlamesEither (length_cause self) (patch_cause self) e) }
+        ensures branches { IfOk result (λ f. BranchesLead self f.bytes.items) }
     {
         if self.failed {
             return Err(EmitError::Failed);
@@ -507,8 +512,8 @@ fn is_alignment(align: u32) -> bool
     matches!(align, 1 | 2 | 4 | 8 | 16)
 }
 
-// Whether each constant's alignment is one of the allowed ones.
-fn all_aligned(constants: &[ConstantData]) -> bool
+/// Whether each constant's alignment is 1, 2, 4, 8 or 16.
+pub fn all_aligned(constants: &[ConstantData]) -> bool
     ensures { result ≡ all_aligned (map constant_of constants.now) }
 {
     for c in constants {

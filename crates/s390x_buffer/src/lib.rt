@@ -8,10 +8,11 @@ pub mod label_use;
 pub mod mach_inst_label_use;
 mod patch;
 
-pub use buffer::MachBuffer;
+pub use buffer::{MachBuffer, all_aligned};
 pub use entries::{
     HandlerEntry, LabelFixup, MachBufferFinalized, MapEntry, PatchEntry, RelocEntry, TrapEntry,
     TryEntry, TryHandler,
 };
+pub use finish::constants_fit;
 pub use label_use::LabelUse;
 pub use mach_inst_label_use::MachInstLabelUse;

@@ -52,9 +52,9 @@ patched_branch mask p target =
     let lm : m < 16 = mask_below mask in
     let lh : h < 4294967296 = below_word x in
     six _ _ _ _ _ _ _ _ _ _ _ _
-      (first_byte m h lm lh ∙ ap (λ y. with_word m y / 1099511627776 % 256) (whole_word x))
-      (second_byte m h lm lh ∙ ap (λ y. with_word m y / 4294967296 % 256) (whole_word x))
-      (third_byte m h lh ∙ ap (λ y. with_word m y / 16777216 % 256) (whole_word x))
-      (fourth_byte m h ∙ ap (λ y. with_word m y / 65536 % 256) (whole_word x))
-      (fifth_byte m h ∙ ap (λ y. with_word m y / 256 % 256) (whole_word x))
-      (sixth_byte m h ∙ ap (λ y. with_word m y / 1 % 256) (whole_word x))
+    (first_byte m h lm lh ∙ ap (λ y. with_word m y / 1099511627776 % 256) (whole_word x))
+    (second_byte m h lm lh ∙ ap (λ y. with_word m y / 4294967296 % 256) (whole_word x))
+    (third_byte m h lh ∙ ap (λ y. with_word m y / 16777216 % 256) (whole_word x))
+    (fourth_byte m h ∙ ap (λ y. with_word m y / 65536 % 256) (whole_word x))
+    (fifth_byte m h ∙ ap (λ y. with_word m y / 256 % 256) (whole_word x))
+    (sixth_byte m h ∙ ap (λ y. with_word m y / 1 % 256) (whole_word x))

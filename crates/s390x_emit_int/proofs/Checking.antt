@@ -34,22 +34,26 @@ pub loop_answer : (blocks depth : ℕ) (t : Totals) (mask : ℕ) (x members : Tr
     MatchResult result (λ r. (first (first (nesting_cause depth) (numbers_cause t.labels 2)) (tree_cause blocks (t.labels + 2) (depth + 1) members) ≡ None) × Adds t r (2 + draws members) (tree_size members + 6)) (λ e. first (first (nesting_cause depth) (numbers_cause t.labels 2)) (tree_cause blocks (t.labels + 2) (depth + 1) members) ≡ Some e) →
     MatchResult result (λ r. (tree_cause blocks t.labels depth x ≡ None) × Adds t r (draws x) (tree_size x)) (λ e. tree_cause blocks t.labels depth x ≡ Some e)
 loop_answer blocks depth t mask x members (Ok r) e p =
-    let z = ap (tree_cause blocks t.labels depth) e ∙ first_none (first (first (nesting_cause depth) (numbers_cause t.labels 2)) (tree_cause blocks (t.labels + 2) (depth + 1) members)) in
-    (z ∙ p.0, record {
-      counted = p.1.counted;
-      labels = omega (arith, p.1.labels, ap draws e);
-      bytes = p.1.bytes ∙ ap (λ m. min limit m) (omega (arith, ap tree_size e));
-    })
+    let z = ap (tree_cause blocks t.labels depth) e ∙ first_none (first (first (nesting_cause depth) (numbers_cause t.labels 2)) (tree_cause blocks (t.labels + 2) (depth + 1) members)) in (
+      z ∙ p.0,
+      record {
+        counted = p.1.counted;
+        labels = omega (arith, p.1.labels, ap draws e);
+        bytes = p.1.bytes ∙ ap (λ m. min limit m) (omega (arith, ap tree_size e));
+      },
+    )
 loop_answer blocks depth t mask x members (Err d) e p = ap (tree_cause blocks t.labels depth) e ∙ first_none _ ∙ p
 
 -- so is that of an instruction that is no loop
 pub leaf_answer : (blocks depth : ℕ) (t : Totals) (i : Inst) (x : Tree) (result : Result Totals EmitError) → x ≡ leaf i empty →
     MatchResult result (λ r. (instruction_cause blocks depth i ≡ None) × Adds t r 0 (instruction_size i)) (λ e. instruction_cause blocks depth i ≡ Some e) →
     MatchResult result (λ r. (tree_cause blocks t.labels depth x ≡ None) × Adds t r (draws x) (tree_size x)) (λ e. tree_cause blocks t.labels depth x ≡ Some e)
-leaf_answer blocks depth t i x (Ok r) e p =
-    (ap (tree_cause blocks t.labels depth) e ∙ first_none (instruction_cause blocks depth i) ∙ p.0, record {
-      counted = p.1.counted;
-      labels = omega (arith, p.1.labels, ap draws e);
-      bytes = p.1.bytes ∙ ap (λ m. min limit m) (omega (arith, ap tree_size e));
-    })
+leaf_answer blocks depth t i x (Ok r) e p = (
+  ap (tree_cause blocks t.labels depth) e ∙ first_none (instruction_cause blocks depth i) ∙ p.0,
+  record {
+    counted = p.1.counted;
+    labels = omega (arith, p.1.labels, ap draws e);
+    bytes = p.1.bytes ∙ ap (λ m. min limit m) (omega (arith, ap tree_size e));
+  },
+)
 leaf_answer blocks depth t i x (Err d) e p = ap (tree_cause blocks t.labels depth) e ∙ first_none _ ∙ p

@@ -8,6 +8,9 @@ use Rattle.s390x_buffer.specs.Finish.{Finished, bind_constants, final_labels, st
 use Rattle.s390x_buffer.specs.declared.entries.MachBufferFinalized.{MachBufferFinalized}
 use Rattle.s390x_inst.specs.declared.function.Block.{Block}
 use Rattle.s390x_steps.specs.Tree.{Tree, tree}
+use Rattle.s390x_steps.specs.Ranges.{AllInRange, BlocksInRange}
+use Rattle.s390x_emit_int.specs.Room.{HasRoom}
+use Rattle.s390x_inst.specs.declared.inst.Inst.{Inst}
 use Rattle.s390x_steps.specs.Steps.{function_steps, steps_from, first_step}
 use Rattle.s390x_steps.specs.Rows.{Places}
 use Rattle.s390x_steps.specs.Image.{place, code, function_places, function_code, step_places, block_places}
@@ -150,3 +153,16 @@ next_free k m t s s1 s2 room free e1 e2 =
       drawn = omega (arith, len);
       free = λ j lo hi. let ne : j ≢ k = omega arith in ap (λ x. get_or x.labels j None) e2' ∙ block_kept t s n k j refl (omega arith) ne ∙ free j (omega arith) hi;
     }
+
+pub block_room : (k : ℕ) (t : Tree) (s s1 s2 : State) → HasRoom s → s1 ≡ apply s (Bind k) → s2 ≡ run s1 (pieces (length s1.labels) 0 t) → HasRoom s2
+block_room k t s s1 s2 room e1 e2 =
+    let n = length s.labels in
+    let e2' : s2 ≡ block_state s n k t = block_is s s1 s2 k t e1 e2 in
+    let same : Same s (block_state s n k t) = same_run (Bind k ∷ pieces n 0 t) s in
+    subst HasRoom (sym e2') (omega (arith, block_labels t s n k refl, same.block_count, ap length same.constants))
+
+pub block_ranges : (bs : List Block) (k : ℕ) (v : Block) (members : List Inst) → k < length bs → v ≡ get_or bs k v → members ≡ v.insts.items → AllInRange (tree members) → BlocksInRange (map tree_of (drop (k + 1) bs)) → BlocksInRange (map tree_of (drop k bs))
+block_ranges bs k v members lt at e here rest =
+    let k1 : suc k ≡ k + 1 = omega arith in
+    let cons : drop k bs ≡ v ∷ drop (k + 1) bs = drop-cons bs k v lt ∙ ap (λ x. x ∷ drop (suc k) bs) (sym at) ∙ ap (λ m. v ∷ drop m bs) k1 in
+    subst (λ l. BlocksInRange (map tree_of l)) (sym cons) (subst (λ l. AllInRange (tree l)) e here, rest)

@@ -172,19 +172,19 @@ tree_join (looped mask members rest) off P blocks n after k e agree names bound 
     let k12 : k1 + 1 ≡ k2 = omega arith in
     let after_back : p + tree_size members + length b0 ≡ at k2 = ap (λ m. p + tree_size members + m) (length-branch mask) ∙ sym w.next in
     let tail : resolve off (p + tree_size members) (back_pieces n mask ++ pr) ≡ bytes_of (ril_c 0xc04 mask (half_distance (at k1) (at (k + 1)))) ++ code P k2 fr =
-      ap (λ l. l ++ resolve off (p + tree_size members + length b0) pr) (patched_branch mask (p + tree_size members) (off n))
-      ∙ ap (λ m. bytes_of (ril_c 0xc04 mask (half_distance m (off n))) ++ resolve off (p + tree_size members + length b0) pr) (sym w.turn)
-      ∙ ap (λ m. bytes_of (ril_c 0xc04 mask (half_distance (at k1) m)) ++ resolve off (p + tree_size members + length b0) pr) back_off
-      ∙ ap (λ m. bytes_of (ril_c 0xc04 mask (half_distance (at k1) (at (k + 1)))) ++ resolve off m pr) after_back
-      ∙ ap (λ l. bytes_of (ril_c 0xc04 mask (half_distance (at k1) (at (k + 1)))) ++ l) outer in
+    ap (λ l. l ++ resolve off (p + tree_size members + length b0) pr) (patched_branch mask (p + tree_size members) (off n))
+    ∙ ap (λ m. bytes_of (ril_c 0xc04 mask (half_distance m (off n))) ++ resolve off (p + tree_size members + length b0) pr) (sym w.turn)
+    ∙ ap (λ m. bytes_of (ril_c 0xc04 mask (half_distance (at k1) m)) ++ resolve off (p + tree_size members + length b0) pr) back_off
+    ∙ ap (λ m. bytes_of (ril_c 0xc04 mask (half_distance (at k1) (at (k + 1)))) ++ resolve off m pr) after_back
+    ∙ ap (λ l. bytes_of (ril_c 0xc04 mask (half_distance (at k1) (at (k + 1)))) ++ l) outer in
     let left : resolve off p (pieces n after (looped mask members rest)) ≡ code P (k + 1) fb ++ (bytes_of (ril_c 0xc04 mask (half_distance (at k1) (at (k + 1)))) ++ code P k2 fr) =
-      resolve-append off pb (back_pieces n mask ++ pr) p
-      ∙ ap (λ m. resolve off p pb ++ resolve off (p + m) (back_pieces n mask ++ pr)) (tree_put (n + 2) (n + 1) members)
-      ∙ ap (λ l. resolve off p pb ++ l) tail
-      ∙ ap (λ l. l ++ (bytes_of (ril_c 0xc04 mask (half_distance (at k1) (at (k + 1)))) ++ code P k2 fr)) (ap (λ m. resolve off m pb) (sym w.start) ∙ inner) in
+    resolve-append off pb (back_pieces n mask ++ pr) p
+    ∙ ap (λ m. resolve off p pb ++ resolve off (p + m) (back_pieces n mask ++ pr)) (tree_put (n + 2) (n + 1) members)
+    ∙ ap (λ l. resolve off p pb ++ l) tail
+    ∙ ap (λ l. l ++ (bytes_of (ril_c 0xc04 mask (half_distance (at k1) (at (k + 1)))) ++ code P k2 fr)) (ap (λ m. resolve off m pb) (sym w.start) ∙ inner) in
     let right : code P (k + 1) (fb ++ Back mask (k + 1) ∷ fr) ≡ code P (k + 1) fb ++ (bytes_of (ril_c 0xc04 mask (half_distance (at k1) (at (k + 1)))) ++ code P k2 fr) =
-      code_append P fb (Back mask (k + 1) ∷ fr) (k + 1)
-      ∙ ap (λ m. code P (k + 1) fb ++ code P m (Back mask (k + 1) ∷ fr)) lb
-      ∙ ap (λ l. code P (k + 1) fb ++ (l ++ code P (k1 + 1) fr)) (append-nil (bytes_of (ril_c 0xc04 mask (half_distance (at k1) (at (k + 1))))))
-      ∙ ap (λ m. code P (k + 1) fb ++ (bytes_of (ril_c 0xc04 mask (half_distance (at k1) (at (k + 1)))) ++ code P m fr)) k12 in
+    code_append P fb (Back mask (k + 1) ∷ fr) (k + 1)
+    ∙ ap (λ m. code P (k + 1) fb ++ code P m (Back mask (k + 1) ∷ fr)) lb
+    ∙ ap (λ l. code P (k + 1) fb ++ (l ++ code P (k1 + 1) fr)) (append-nil (bytes_of (ril_c 0xc04 mask (half_distance (at k1) (at (k + 1))))))
+    ∙ ap (λ m. code P (k + 1) fb ++ (bytes_of (ril_c 0xc04 mask (half_distance (at k1) (at (k + 1)))) ++ code P m fr)) k12 in
     left ∙ sym right

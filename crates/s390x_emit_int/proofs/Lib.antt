@@ -9,3 +9,6 @@ pub mod Names
 pub mod Functions
 pub mod Imaging
 pub mod Trees
+pub mod Answering
+pub mod Lengths
+pub mod FirstCauses

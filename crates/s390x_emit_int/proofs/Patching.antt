@@ -134,10 +134,10 @@ patched_run (Link k l bs ∷ ps) s off w h =
     let u : LabelFixup = record { kind = k; offset = p; label = record { 0 = l } } in
     let w1 = within_append (length s1.bytes) s.uses u (within_more p (length s1.bytes) s.uses (omega (arith, n)) w) (omega (arith, n, h.0)) in
     let here : patched off s1 ≡ patched off s ++ patch k 0 p (off l) bs =
-      all_more off s.uses u (s.bytes ++ bs)
-      ∙ ap (λ x. patch_use off u x) (all_left off s.uses s.bytes bs w)
-      ∙ ap (λ m. patch k m p (off l) (patched off s ++ bs)) (sym (length-patch_all off s.uses s.bytes))
-      ∙ patch_right k p (off l) (patched off s) bs in
+    all_more off s.uses u (s.bytes ++ bs)
+    ∙ ap (λ x. patch_use off u x) (all_left off s.uses s.bytes bs w)
+    ∙ ap (λ m. patch k m p (off l) (patched off s ++ bs)) (sym (length-patch_all off s.uses s.bytes))
+    ∙ patch_right k p (off l) (patched off s) bs in
     patched_run ps s1 off w1 h.1
     ∙ ap (λ x. x ++ resolve off (length s1.bytes) ps) here
     ∙ append_assoc (patched off s) (patch k 0 p (off l) bs) (resolve off (length s1.bytes) ps)

@@ -63,10 +63,10 @@ tree_marks empty at n after k e follow = refl
 tree_marks (leaf i rest) at n after k e follow =
     let next : at (k + 1) ≡ at k + instruction_size i = follow.0 ∙ ap (λ m. at k + m) (size_of_step e i) in
     ap (λ l. at k ∷ l) (marks_append (leaf_pieces after i) (pieces n after rest) (at k)
-      ∙ ap (λ l. l ++ marks (at k + put_length (leaf_pieces after i)) (pieces n after rest)) (leaf_unmarked after i (at k))
-      ∙ ap (λ m. marks (at k + m) (pieces n after rest)) (leaf_put after i)
-      ∙ ap (λ m. marks m (pieces n after rest)) (sym next)
-      ∙ tree_marks rest at n after (k + 1) e follow.1)
+    ∙ ap (λ l. l ++ marks (at k + put_length (leaf_pieces after i)) (pieces n after rest)) (leaf_unmarked after i (at k))
+    ∙ ap (λ m. marks (at k + m) (pieces n after rest)) (leaf_put after i)
+    ∙ ap (λ m. marks m (pieces n after rest)) (sym next)
+    ∙ tree_marks rest at n after (k + 1) e follow.1)
 tree_marks (looped mask members rest) at n after k e follow =
     let k1 = k + 1 + step_count members in
     let k2 = k + 2 + step_count members in
@@ -81,14 +81,14 @@ tree_marks (looped mask members rest) at n after k e follow =
     let after_back : at k1 + length b0 ≡ at k2 = ap (λ m. at k1 + m) (length-branch mask) ∙ omega (arith, w.turn, w.next) in
     let tail : marks (at k1) (back_pieces n mask ++ pr) ≡ at k1 ∷ step_places at k2 fr = ap (λ m. at k1 ∷ marks m pr) after_back ∙ ap (λ l. at k1 ∷ l) (tree_marks rest at (n + 2 + draws members) after k2 e w.outer) in
     let right : step_places at (k + 1) (fb ++ Back mask (k + 1) ∷ fr) ≡ step_places at (k + 1) fb ++ (at k1 ∷ step_places at k2 fr) =
-      places_append at fb (Back mask (k + 1) ∷ fr) (k + 1) ∙ ap (λ m. step_places at (k + 1) fb ++ step_places at m (Back mask (k + 1) ∷ fr)) lb ∙ ap (λ m. step_places at (k + 1) fb ++ (at k1 ∷ step_places at m fr)) k12 in
+    places_append at fb (Back mask (k + 1) ∷ fr) (k + 1) ∙ ap (λ m. step_places at (k + 1) fb ++ step_places at m (Back mask (k + 1) ∷ fr)) lb ∙ ap (λ m. step_places at (k + 1) fb ++ (at k1 ∷ step_places at m fr)) k12 in
     ap (λ l. at k ∷ l) (marks_append pb (back_pieces n mask ++ pr) (at k)
-      ∙ ap (λ m. marks (at k) pb ++ marks (at k + m) (back_pieces n mask ++ pr)) (tree_put (n + 2) (n + 1) members)
-      ∙ ap (λ m. marks (at k) pb ++ marks m (back_pieces n mask ++ pr)) (sym w.turn)
-      ∙ ap (λ m. marks m pb ++ marks (at k1) (back_pieces n mask ++ pr)) (sym w.start)
-      ∙ ap (λ l. l ++ marks (at k1) (back_pieces n mask ++ pr)) (tree_marks members at (n + 2) (n + 1) (k + 1) k2 w.inner)
-      ∙ ap (λ l. step_places at (k + 1) fb ++ l) tail
-      ∙ sym right)
+    ∙ ap (λ m. marks (at k) pb ++ marks (at k + m) (back_pieces n mask ++ pr)) (tree_put (n + 2) (n + 1) members)
+    ∙ ap (λ m. marks (at k) pb ++ marks m (back_pieces n mask ++ pr)) (sym w.turn)
+    ∙ ap (λ m. marks m pb ++ marks (at k1) (back_pieces n mask ++ pr)) (sym w.start)
+    ∙ ap (λ l. l ++ marks (at k1) (back_pieces n mask ++ pr)) (tree_marks members at (n + 2) (n + 1) (k + 1) k2 w.inner)
+    ∙ ap (λ l. step_places at (k + 1) fb ++ l) tail
+    ∙ sym right)
 
 pub places_more : (at : ℕ → ℕ) (a b : List TypedStep) (k m : ℕ) → k + length a ≡ m → step_places at k (a ++ b) ≡ step_places at k a ++ step_places at m b
 places_more at a b k m e = places_append at a b k ∙ ap (λ x. step_places at k a ++ step_places at x b) e

@@ -9,8 +9,11 @@ use Rattle.s390x_steps.specs.Tree.{Tree, empty, leaf, looped, graft, row_tree, t
 use Rattle.s390x_steps.specs.Causes.{draws}
 use Rattle.s390x_emit_int.specs.Pieces.{Piece, Step, Draw, Bind, Link, apply, run}
 use Rattle.s390x_emit_int.specs.Emission.{branch, leaf_pieces, pieces, own_pieces, back_pieces}
-use Rattle.s390x_emit_int.specs.Fit.{LeafFits, TreeFits}
-use Rattle.s390x_emit_int.proofs.Runs.{run-append, opened, opened_labels, body_run, loop_run, tree_grows}
+use Rattle.s390x_steps.specs.Ranges.{AllInRange}
+use Rattle.s390x_emit_int.specs.Room.{HasRoom}
+use Rattle.s390x_emit_int.proofs.Runs.{Grows, run-append, opened, opened_labels, body_run, loop_run, tree_grows}
+use Rattle.s390x_emit_int.proofs.Starts.{Same, same_run}
+use Rattle.std.proofs.Common.{◌≤◌}
 
 leaf_run : (i : Inst) (rest : Tree) (s : State) (n after : ℕ) → run s (pieces n after (leaf i rest)) ≡ run (run (apply s Step) (own_pieces n after (leaf i empty))) (pieces (n + draws (leaf i empty)) after rest)
 leaf_run i rest s n after =
@@ -30,9 +33,9 @@ pub graft_run : (i : Inst) (rest : Tree) (s : State) (n after : ℕ) → run s (
 graft_run (Loop' mask body all) rest s n after = looped_run mask (row_tree all) rest s n after
 graft_run i rest s n after = leaf_run i rest s n after
 
-pub graft_fits : (i : Inst) (rest : Tree) → TreeFits (graft i empty) → TreeFits rest → TreeFits (graft i rest)
-graft_fits (Loop' mask body all) rest f r = (f.0, f.1, r)
-graft_fits i rest f r = (f.0, r)
+pub graft_ranges : (i : Inst) (rest : Tree) → AllInRange (graft i empty) → AllInRange rest → AllInRange (graft i rest)
+graft_ranges (Loop' mask body all) rest f r = (f.0, f.1, r)
+graft_ranges i rest f r = (f.0, r)
 
 cons_of : (is : List Inst) (k : ℕ) (i : Inst) → k < length is → i ≡ get_or is k i → drop k is ≡ i ∷ drop (k + 1) is
 cons_of is k i lt at =
@@ -49,9 +52,9 @@ more is k i s s1 s2 r after lt at e1 e2 h =
     let len : length s2.labels ≡ n + draws (graft i empty) = ap (λ x. length x.labels) alone ∙ (tree_grows (graft i empty) s n after refl).labels in
     ap (λ m. run s2 (pieces m after (tree rest))) len ∙ ap (λ x. run x (pieces (n + draws (graft i empty)) after (tree rest))) e2' ∙ sym (graft_run i (tree rest) s n after) ∙ ap (λ l. run s (pieces n after (tree l))) (sym (cons_of is k i lt at)) ∙ h
 
--- and its fields fit
-pub more_fits : (is : List Inst) (k : ℕ) (i : Inst) → k < length is → i ≡ get_or is k i → TreeFits (graft i empty) → TreeFits (tree (drop (k + 1) is)) → TreeFits (tree (drop k is))
-more_fits is k i lt at f rest = subst (λ l. TreeFits (tree l)) (sym (cons_of is k i lt at)) (graft_fits i (tree (drop (k + 1) is)) f rest)
+-- and its numbers are in range
+pub more_ranges : (is : List Inst) (k : ℕ) (i : Inst) → k < length is → i ≡ get_or is k i → AllInRange (graft i empty) → AllInRange (tree (drop (k + 1) is)) → AllInRange (tree (drop k is))
+more_ranges is k i lt at f rest = subst (λ l. AllInRange (tree l)) (sym (cons_of is k i lt at)) (graft_ranges i (tree (drop (k + 1) is)) f rest)
 
 opened_end : (s : State) → get_or (opened s).labels (length s.labels + 1) None ≡ None
 opened_end s =
@@ -85,3 +88,13 @@ loop_states s sa sb so sc sd se start end mask members est ea een eb eo ec ed ee
       free = ap (λ x. get_or x.labels end None) ee' ∙ ap (λ k. get_or (body_run s members).labels k None) end' ∙ end_free s members;
       after = λ sf ef. ef ∙ ap (λ x. apply x (Bind end)) ee' ∙ ap (λ k. apply (linked n) (Bind k)) end' ∙ sym (run-append (opened s) (pieces (n + 2) (n + 1) members) (back_pieces n mask));
     }
+
+-- after a member there is room
+pub more_room : (i : Inst) (s s1 s2 : State) (after : ℕ) → HasRoom s → s1 ≡ apply s Step → s2 ≡ run s1 (own_pieces (length s1.labels) after (graft i empty)) → HasRoom s2
+more_room i s s1 s2 after room e1 e2 =
+    let n = length s.labels in
+    let e2' : s2 ≡ run (apply s Step) (own_pieces n after (graft i empty)) = e2 ∙ ap (λ x. run x (own_pieces (length x.labels) after (graft i empty))) e1 in
+    let alone : s2 ≡ run s (pieces n after (graft i empty)) = e2' ∙ sym (graft_run i empty s n after) in
+    let g : Grows s (run s (pieces n after (graft i empty))) _ _ = tree_grows (graft i empty) s n after refl in
+    let same : Same s (run s (pieces n after (graft i empty))) = same_run (pieces n after (graft i empty)) s in
+    subst HasRoom (sym alone) (omega (arith, g.labels, same.block_count, ap length same.constants))

@@ -48,7 +48,10 @@ start_cause e = unless (nat_eq e.nominal 0 && nat_eq e.outgoing 0) BadStackState
 abbrev pub length_cause : List Tree → List Constant → Option EmitError
 length_cause ts cs = unless (nat_lt (constants_end (blocks_size ts) cs) limit) LabelOutOfRange
 
--- The first cause of a function: the state, the constants' alignments, the count of blocks and constants, the steps in order, the length.
+-- The constants' alignments, the count of blocks and constants, the steps in order, the length.
+abbrev pub checked_cause : List Tree → List Constant → Option EmitError
+checked_cause ts cs = first (new_cause (length ts) cs) (first (blocks_cause (length ts) (length ts + length cs) ts) (length_cause ts cs))
+
+-- The first cause of a function: the state, and then these.
 abbrev pub function_cause : List Tree → List Constant → Emission → Option EmitError
-function_cause ts cs e =
-    first (start_cause e) (first (new_cause (length ts) cs) (first (blocks_cause (length ts) (length ts + length cs) ts) (length_cause ts cs)))
+function_cause ts cs e = first (start_cause e) (checked_cause ts cs)

@@ -63,7 +63,10 @@ fn alu_refusal(op: ALUOp, rd: Reg, rn: Reg, rm: Reg) -> Option<EmitError>
     ensures { result ≡ first (unless (is_alu_rrr op) BadOperator) (unless (is_general rd && is_general rn && is_general rm) BadRegister) }
 {
     match op {
-        ALUOp::Add64 => refusal_unless(general(rd) && general(rn) && general(rm), EmitError::BadRegister),
+        ALUOp::Add64 => refusal_unless(
+            general(rd) && general(rn) && general(rm),
+            EmitError::BadRegister,
+        ),
         _ => Some(EmitError::BadOperator),
     }
 }
@@ -84,9 +87,16 @@ pub fn instruction_refusal(blocks: usize, depth: u32, inst: &Inst) -> Option<Emi
 {
     match inst {
         Inst::AluRRR { alu_op, rd, rn, rm } => alu_refusal(*alu_op, rd.to_reg(), *rn, *rm),
-        Inst::Mov64 { rd, rm } => refusal_unless(general(rd.to_reg()) && general(*rm), EmitError::BadRegister),
+        Inst::Mov64 { rd, rm } => refusal_unless(
+            general(rd.to_reg()) && general(*rm),
+            EmitError::BadRegister,
+        ),
         Inst::Jump { dest } => label_refusal(blocks, *dest),
-        Inst::CondBr { taken, not_taken, .. } => two_labels_refusal(blocks, *taken, *not_taken),
+        Inst::CondBr {
+            taken,
+            not_taken,
+            ..
+        } => two_labels_refusal(blocks, *taken, *not_taken),
         Inst::IndirectBr { rn, targets } => indirect_refusal(blocks, *rn, targets),
         Inst::Ret { link } => refusal_unless(branchable(*link), EmitError::BadRegister),
         Inst::CondBreak { .. } => refusal_unless(0 < depth, EmitError::BreakOutsideLoop),

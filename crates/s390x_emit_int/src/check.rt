@@ -26,7 +26,11 @@ fn size_of(inst: &Inst) -> u64
     ensures few { result ≤ 44 }
 {
     match inst {
-        Inst::AluRRR { alu_op: ALUOp::Add64, .. } | Inst::Mov64 { .. } => 4,
+        Inst::AluRRR {
+            alu_op: ALUOp::Add64,
+            ..
+        }
+        | Inst::Mov64 { .. } => 4,
         Inst::Jump { .. } | Inst::CondBreak { .. } => 6,
         Inst::CondBr { .. } => 12,
         Inst::IndirectBr { .. } | Inst::Ret { .. } => 2,
@@ -46,9 +50,15 @@ fn add(t: Totals, labels: u64, bytes: u64) -> Result<Totals, EmitError>
     }
     let bytes = t.bytes + bytes;
     if bytes > LIMIT {
-        Ok(Totals { labels: t.labels + labels, bytes: LIMIT })
+        Ok(Totals {
+            labels: t.labels + labels,
+            bytes: LIMIT,
+        })
     } else {
-        Ok(Totals { labels: t.labels + labels, bytes })
+        Ok(Totals {
+            labels: t.labels + labels,
+            bytes,
+        })
     }
 }
 
@@ -67,12 +77,21 @@ fn open_loop(t: Totals, depth: u32) -> Result<Totals, EmitError>
     requires { IsCounted t }
     ensures { MatchResult result (λ r. (first (nesting_cause depth) (numbers_cause t.labels 2) ≡ None) × Adds t r 2 0 × (depth < 8)) (λ e. first (nesting_cause depth) (numbers_cause t.labels 2) ≡ Some e) }
 {
-    if depth < 8 { add(t, 2, 0) } else { Err(EmitError::BadOperator) }
+    if depth < 8 {
+        add(t, 2, 0)
+    } else {
+        Err(EmitError::BadOperator)
+    }
 }
 
 /// The first cause among the members of a block or a loop, inside so many loops, or what they add.
 #[cycle(checking)]
-pub fn check_members(blocks: usize, t: Totals, depth: u32, insts: &[Inst]) -> Result<Totals, EmitError>
+pub fn check_members(
+    blocks: usize,
+    t: Totals,
+    depth: u32,
+    insts: &[Inst],
+) -> Result<Totals, EmitError>
     requires { IsCounted t }
     ensures { MatchResult result (λ r. (tree_cause blocks t.labels depth (tree insts.now) ≡ None) × Adds t r (draws (tree insts.now)) (tree_size (tree insts.now))) (λ e. tree_cause blocks t.labels depth (tree insts.now) ≡ Some e) }
 {

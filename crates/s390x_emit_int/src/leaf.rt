@@ -9,7 +9,7 @@ ghost use Rattle.s390x_steps.specs.MachineInstruction.{rr, rre, bytes_of};
 ghost use Rattle.s390x_steps.specs.Parts.{Row, Branch, ToBlock, alu_rrr, add64};
 ghost use Rattle.s390x_emit_int.specs.Pieces.{apply, run};
 ghost use Rattle.s390x_emit_int.specs.Emission.{branch, part_pieces, leaf_pieces};
-ghost use Rattle.s390x_emit_int.specs.Fit.{PartFits, PartsFit, LeafFits};
+ghost use Rattle.s390x_steps.specs.Ranges.{InRange, IsMask};
 
 use s390x_base::{Code, Cond, EmitError, MachLabel, Reg, gpr};
 use s390x_buffer::{LabelUse, MachBuffer};
@@ -31,7 +31,6 @@ pub fn put_branch(sink: &mut MachBuffer, mask: u8, label: MachLabel) -> Result<(
 // LOAD (64).
 fn emit_move(sink: &mut MachBuffer, rd: Reg, rm: Reg) -> Result<(), EmitError>
     ensures answer { OnOk result (sink.new ≡ run sink.old (part_pieces (Row (rre 0xb904 (number_of rd) (number_of rm)) ∷ []))) }
-    ensures fits { OnOk result (PartsFit (Row (rre 0xb904 (number_of rd) (number_of rm)) ∷ [])) }
     ensures kept { Keeps sink.old sink.new }
 {
     let code = enc_rre(0xb904, rd, rm)?;
@@ -41,7 +40,6 @@ fn emit_move(sink: &mut MachBuffer, rd: Reg, rm: Reg) -> Result<(), EmitError>
 // BRANCH ON CONDITION to the address in a register, always.
 fn emit_branch_register(sink: &mut MachBuffer, rn: Reg) -> Result<(), EmitError>
     ensures answer { OnOk result (sink.new ≡ run sink.old (part_pieces (Row (rr 0x07 15 (number_of rn)) ∷ []))) }
-    ensures fits { OnOk result (PartsFit (Row (rr 0x07 15 (number_of rn)) ∷ [])) }
     ensures kept { Keeps sink.old sink.new }
 {
     let code = enc_rr(0x07, gpr(15), rn)?;
@@ -51,7 +49,6 @@ fn emit_branch_register(sink: &mut MachBuffer, rn: Reg) -> Result<(), EmitError>
 // ADD (64), in its form of two operands where the first input is the output.
 fn emit_add(sink: &mut MachBuffer, rd: Reg, rn: Reg, rm: Reg) -> Result<(), EmitError>
     ensures answer { OnOk result (sink.new ≡ run sink.old (part_pieces (alu_rrr Add64 (number_of rd) (number_of rn) (number_of rm)))) }
-    ensures fits { OnOk result (PartsFit (alu_rrr Add64 (number_of rd) (number_of rn) (number_of rm))) }
     ensures kept { Keeps sink.old sink.new }
 {
     let code = add_code(rd, rn, rm)?;
@@ -59,7 +56,7 @@ fn emit_add(sink: &mut MachBuffer, rd: Reg, rn: Reg, rm: Reg) -> Result<(), Emit
 }
 
 fn add_code(rd: Reg, rn: Reg, rm: Reg) -> Result<Code, EmitError>
-    ensures { IfOk result (λ code. (code ≡ bytes_of (add64 (number_of rd) (number_of rn) (number_of rm))) × PartFits (Row (add64 (number_of rd) (number_of rn) (number_of rm)))) }
+    ensures { IfOk result (λ code. code ≡ bytes_of (add64 (number_of rd) (number_of rn) (number_of rm))) }
 {
     if same_number(&rd, &rn) {
         enc_rre(0xb908, rd, rm)
@@ -85,7 +82,6 @@ fn number(r: &Reg) -> u32
 
 fn emit_alu(sink: &mut MachBuffer, op: ALUOp, rd: Reg, rn: Reg, rm: Reg) -> Result<(), EmitError>
     ensures answer { OnOk result (sink.new ≡ run sink.old (part_pieces (alu_rrr op (number_of rd) (number_of rn) (number_of rm)))) }
-    ensures fits { OnOk result (PartsFit (alu_rrr op (number_of rd) (number_of rn) (number_of rm))) }
     ensures kept { Keeps sink.old sink.new }
 {
     match op {
@@ -94,9 +90,14 @@ fn emit_alu(sink: &mut MachBuffer, op: ALUOp, rd: Reg, rn: Reg, rm: Reg) -> Resu
     }
 }
 
-fn emit_two_branches(sink: &mut MachBuffer, taken: MachLabel, not_taken: MachLabel, cond: Cond) -> Result<(), EmitError>
+fn emit_two_branches(
+    sink: &mut MachBuffer,
+    taken: MachLabel,
+    not_taken: MachLabel,
+    cond: Cond,
+) -> Result<(), EmitError>
     ensures answer { OnOk result (sink.new ≡ run sink.old (part_pieces (Branch cond (ToBlock taken.0) ∷ Branch 15 (ToBlock not_taken.0) ∷ []))) }
-    ensures fits { PartsFit (Branch cond (ToBlock taken.0) ∷ Branch 15 (ToBlock not_taken.0) ∷ []) }
+    ensures range { IsMask cond }
     ensures kept { Keeps sink.old sink.new }
 {
     put_branch(sink, cond.bits(), taken)?;
@@ -105,7 +106,7 @@ fn emit_two_branches(sink: &mut MachBuffer, taken: MachLabel, not_taken: MachLab
 
 fn emit_break(sink: &mut MachBuffer, cond: Cond, after: MachLabel) -> Result<(), EmitError>
     ensures answer { OnOk result (sink.new ≡ apply sink.old (branch cond after.0)) }
-    ensures fits { cond < 16 }
+    ensures range { IsMask cond }
     ensures kept { Keeps sink.old sink.new }
 {
     put_branch(sink, cond.bits(), after)
@@ -114,14 +115,18 @@ fn emit_break(sink: &mut MachBuffer, cond: Cond, after: MachLabel) -> Result<(),
 /// Emits an instruction that is no `Loop`; `after` is the label behind the innermost loop.
 pub fn emit_leaf(sink: &mut MachBuffer, inst: &Inst, after: MachLabel) -> Result<(), EmitError>
     ensures answer { OnOk result (sink.new ≡ run sink.old (leaf_pieces after.0 inst.now)) }
-    ensures fits { OnOk result (LeafFits inst.now) }
+    ensures range { OnOk result (InRange inst.now) }
     ensures kept { Keeps sink.old sink.new }
 {
     match inst {
         Inst::AluRRR { alu_op, rd, rn, rm } => emit_alu(sink, *alu_op, rd.to_reg(), *rn, *rm),
         Inst::Mov64 { rd, rm } => emit_move(sink, rd.to_reg(), *rm),
         Inst::Jump { dest } => put_branch(sink, 15, *dest),
-        Inst::CondBr { taken, not_taken, cond } => emit_two_branches(sink, *taken, *not_taken, *cond),
+        Inst::CondBr {
+            taken,
+            not_taken,
+            cond,
+        } => emit_two_branches(sink, *taken, *not_taken, *cond),
         Inst::IndirectBr { rn, .. } => emit_branch_register(sink, *rn),
         Inst::Ret { link } => emit_branch_register(sink, *link),
         Inst::CondBreak { cond } => emit_break(sink, *cond, after),

@@ -3,8 +3,6 @@
 
 pub mod causes;
 pub mod check;
-
+pub mod function;
 pub mod leaf;
-
-
-
+pub mod tree;

@@ -7,24 +7,33 @@ ghost use Rattle.s390x_format.specs.View.{imm_class_of, imm_of, disp_of, fields_
 use crate::kind::FormatKind;
 use crate::reading::Reading;
 
-/// Register numbers, masks, an immediate or a distance in bytes, and a displacement.
+/// The operands of an instruction. What its format lacks is 0.
 #[derive(Clone, Copy, Drop)]
 pub struct Fields {
+    /// Register numbers, in the order of the arguments of the format's encoding call.
     pub regs: [u8; 4],
+    /// Masks and immediates of 8 bits, in that order too.
     pub masks: [u8; 3],
+    /// A wider immediate in the type of the call's argument, or a distance in bytes.
     pub imm: i64,
+    /// The displacement in bytes, one of 20 bits as a signed number.
     pub disp: i32,
 }
 
 /// How the bits of an immediate are read.
 #[derive(Clone, Copy, Drop)]
 pub enum Imm {
+    /// As an unsigned number.
     Unsigned,
+    /// As a signed number of 16 bits.
     Signed16,
+    /// As half of a distance, of 16 bits.
     Half16,
+    /// As half of a distance, of 32 bits.
     Half32,
 }
 
+/// How a format's immediate is read.
 pub fn imm_class(kind: FormatKind) -> Imm
     ensures { result ≡ imm_class_of kind }
 {

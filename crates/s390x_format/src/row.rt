@@ -48,6 +48,7 @@ pub struct Row {
 pub fn allows(allowed: Allowed, slots: &[u32; 10]) -> bool
     ensures { result ≡ is_allowed allowed slots.now }
 {
+    // The slots of masks and immediates of 8 bits; slot 8 has the wider immediate.
     let first = slots[5];
     let second = slots[6];
     let third = slots[7];

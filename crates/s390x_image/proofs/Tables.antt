@@ -1,12 +1,12 @@
 -- A table of symbols answers as the ordered map inside it does.
-use Rattle.std.proofs.Common.{◌≡◌, ℕ, Option, Some, None, cond, List, [], ◌∷◌, refl, ap, sym, ◌∙◌}
+use Rattle.std.proofs.Common.{◌≡◌, ℕ, Some, cond, List, [], ◌∷◌, refl, ap, sym, ◌∙◌}
 use Rattle.std.specs.Ordering.{nat_cmp, is_eq}
 use Rattle.std.specs.Cmp.{nat_cmp_total, eq_by_cmp_equiv}
 use Rattle.std.specs.Map.{lookup}
 use Rattle.std.specs.BTreeMap.{is_at}
 use Rattle.s390x_base.specs.declared.ir.ExternalName.{ExternalName}
 use Rattle.s390x_image.specs.Symbols.{Symbols, with_address}
-use Rattle.std.specs.FinMap.{FinMap, get, insert, from_entries, find, get-insert, get-from_entries, same_map, nat_cmp-IsAntisymmetric}
+use Rattle.std.specs.FinMap.{get, insert, from_entries, find, get-insert, get-from_entries, same_map, nat_cmp-IsAntisymmetric}
 
 find_is : (q : ℕ) (es : List (ℕ × ℕ)) → find nat_cmp q es ≡ lookup (is_at (nat_cmp q)) es
 find_is q [] = refl

@@ -1,5 +1,5 @@
 -- Why linking is refused: the base first, then each relocation in order.
-use Rattle.std.specs.Prelude.{ℕ, ◌+◌, ◌%◌, ℤ, pos, negsuc, ◌-ℤ◌, Bool, true, cond, ◌&&◌, nat_eq, nat_le, int_lt, Option, Some, None, List, [], ◌∷◌, length}
+use Rattle.std.specs.Prelude.{ℕ, ◌+◌, ◌%◌, ℤ, pos, negsuc, ◌-ℤ◌, Bool, cond, ◌&&◌, nat_eq, nat_le, int_lt, Option, Some, None, List, [], ◌∷◌, length}
 use Rattle.std.specs.Ordering.{int_eq}
 use Rattle.std.specs.Int.RustNames.{int_le, int_div, int_rem}
 use Rattle.s390x_base.specs.declared.ir.Reloc.{Reloc}

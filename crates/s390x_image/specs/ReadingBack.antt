@@ -1,6 +1,6 @@
 -- What a field says when it is read: the target, or the distance that its half stands for.
-use Rattle.std.proofs.Common.{◌≡◌, ℕ, suc, ◌+◌, ◌*◌, ◌/◌, ◌%◌, ◌^◌, ◌<◌, refl, ap, sym, ◌∙◌, arith}
-use Rattle.std.specs.Prelude.{ℤ, pos, negsuc, ◌*ℤ◌, ◌-ℤ◌, ◌≤ℤ◌, ◌<ℤ◌, Bool, true, false, cond, Option, Some, None}
+use Rattle.std.proofs.Common.{◌≡◌, ℕ, suc, ◌*◌, ◌/◌, ◌%◌, ◌^◌, ◌<◌, refl, ap, ◌∙◌, arith}
+use Rattle.std.specs.Prelude.{ℤ, pos, negsuc, ◌*ℤ◌, ◌-ℤ◌, Bool, true, false, cond, Option, Some, None}
 use Rattle.std.specs.Int.{w32, w64, cast_signed, cast_unsigned, from_be_bytes}
 use Rattle.std.specs.Int.RustNames.{int_div, int_rem, FitsSigned}
 use Rattle.std.proofs.lemmas.Int.{to_z-of_z, ints}

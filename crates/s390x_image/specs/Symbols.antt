@@ -1,6 +1,6 @@
 -- A table of symbols: the address of each name that was given one.
 use Rattle.std.proofs.Common.{◌≡◌, ℕ, ap, ◌∙◌}
-use Rattle.std.specs.Prelude.{Option, Some, None, Bool, cond, nat_eq}
+use Rattle.std.specs.Prelude.{Option, Some, None, cond, nat_eq}
 use Rattle.std.specs.Ordering.{nat_cmp}
 use Rattle.std.specs.Cmp.{nat_cmp_total, unsigned_tied}
 use Rattle.std.specs.FinMap.{FinMap, empty, get, insert, get-empty, get-insert}

@@ -1,4 +1,4 @@
-use Rattle.std.proofs.Common.{◌≡◌, ℕ, ◌^◌, ◌<◌, List, [], ◌∷◌, refl, sym, lit<, arith, get_or}
+use Rattle.std.proofs.Common.{refl, lit<, arith}
 use Rattle.s390x_format.specs.declared.kind.FormatKind.TheVariants.{RieG as KindRieG}
 use Rattle.s390x_format.specs.Fits.{slot_fits, ten_same}
 use Rattle.s390x_format.proofs.immediate_impls.RieGFormat.from_slots.Goals as goal

@@ -1,12 +1,11 @@
-use Rattle.std.proofs.Common.{◌≡◌, ℕ, ◌^◌, ◌<◌, List, [], ◌∷◌, refl, sym, ap, ◌∙◌, lit<, arith, get_or}
+use Rattle.std.proofs.Common.{◌≡◌, ◌^◌, ◌<◌, refl, ap, ◌∙◌, lit<, arith, get_or}
 use Rattle.std.specs.Prelude.{ℤ, pos, ◌*ℤ◌}
-use Rattle.std.specs.Int.{cast_signed}
 use Rattle.std.proofs.lemmas.Int.{ints}
 use mir.Val.{to_z, of_z}
-use mir.Syntax.{w16, w32, w64}
+use mir.Syntax.{w16, w64}
 use Rattle.s390x_format.specs.declared.kind.FormatKind.TheVariants.{RiC as KindRiC}
 use Rattle.s390x_format.specs.Fits.{slot_fits, ten_same}
-use Rattle.s390x_format.specs.Distances.{half_of, distance_of, half16_back, half32_back, unsigned_of, signed_of}
+use Rattle.s390x_format.specs.Distances.{half_of, distance_of, half16_back}
 use Rattle.s390x_format.proofs.signed_impls.RiCFormat.from_slots.Goals as goal
 
 pub overflow_cast-slots : goal.overflow_cast-slots

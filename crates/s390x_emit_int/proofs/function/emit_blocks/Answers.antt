@@ -1,0 +1,26 @@
+use Rattle.std.proofs.Common.{◌≡◌, ◌∙◌, ap, length, arith}
+use Rattle.s390x_steps.specs.Tree.{tree}
+use Rattle.s390x_emit_int.specs.Emission.{pieces}
+use Rattle.s390x_emit_int.specs.Function.{tree_of}
+use Rattle.s390x_emit_int.specs.Pieces.{run, apply, Bind}
+use Rattle.s390x_emit_int.proofs.Imaging.{block_more, block_room, block_ranges, NextBlock, next_free}
+use Rattle.s390x_emit_int.proofs.function.emit_blocks.Goals as goal
+
+pub loop-block-preserved : goal.loop-block-preserved
+loop-block-preserved c =
+    let s = c.loop-block.sink in
+    let k = c.loop-block.block-index in
+    let s1 = c.bind_label.new.self in
+    let s2 = c.emit_members.new.sink in
+    let v = c.block-item.result in
+    let e1 : s1 ≡ apply s (Bind k) = c.in_ok-bind_label.ensures.answer.1 ∙ ap (λ l. apply s (Bind l)) c.loop-block.invariant.label in
+    let e2 : s2 ≡ run s1 (pieces (length s1.labels) 0 (tree_of v)) = c.in_ok-emit_members.ensures.answer ∙ ap (λ l. run s1 (pieces (length s1.labels) 0 (tree l))) c.deref.ensures.value in
+    let next : NextBlock s2 k (length c.args.blocks.now) = next_free k (length c.args.blocks.now) (tree_of v) s s1 s2 (omega (arith, c.loop-block.invariant.room, c.loop-block.invariant.count)) c.loop-block.invariant.free e1 e2 in
+    record {
+      rest = block_more c.args.blocks.now k v s s1 s2 _ (omega arith) c.block-item.is e1 e2 c.loop-block.invariant.rest;
+      ranges = λ f. c.loop-block.invariant.ranges (block_ranges c.args.blocks.now k v c.deref.result.now (omega arith) c.block-item.is c.deref.ensures.value c.in_ok-emit_members.ensures.ranges f);
+      label = omega (arith, c.loop-block.invariant.label);
+      count = c.emit_members.ensures.kept.block_count ∙ c.bind_label.ensures.kept.block_count ∙ c.loop-block.invariant.count;
+      room = block_room k (tree_of v) s s1 s2 c.loop-block.invariant.room e1 e2;
+      free = next.free;
+    }

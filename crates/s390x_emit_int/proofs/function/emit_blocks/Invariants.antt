@@ -1,0 +1,17 @@
+use Rattle.std.proofs.Common.{◌≡◌, ℕ, ◌<◌, ◌≤◌, drop, map, length, get_or, None}
+use Rattle.s390x_emit_int.specs.Emission.{function_pieces}
+use Rattle.s390x_steps.specs.Ranges.{BlocksInRange}
+use Rattle.s390x_emit_int.specs.Function.{tree_of}
+use Rattle.s390x_emit_int.specs.Pieces.{run}
+use Rattle.s390x_emit_int.specs.Room.{HasRoom}
+use Rattle.s390x_emit_int.proofs.function.emit_blocks.Given as goal
+
+abbrev pub invariant-loop-block : goal.invariant-loop-block
+invariant-loop-block l = record {
+  rest : run l.sink (function_pieces (length l.sink.labels) l.block-index (map tree_of (drop l.block-index l.blocks))) ≡ run l.initial.sink (function_pieces (length l.initial.sink.labels) 0 (map tree_of l.blocks));
+  ranges : BlocksInRange (map tree_of (drop l.block-index l.blocks)) → BlocksInRange (map tree_of l.blocks);
+  label : l.label ≡ l.block-index;
+  count : l.sink.block_count ≡ length l.blocks;
+  room : HasRoom l.sink;
+  free : (j : ℕ) → l.block-index ≤ j → j < length l.blocks → get_or l.sink.labels j None ≡ None;
+}

@@ -1,0 +1,16 @@
+use Rattle.std.proofs.Common.{◌≡◌, drop, length}
+use Rattle.s390x_buffer.specs.Keeps.{Keeps}
+use Rattle.s390x_steps.specs.Tree.{tree}
+use Rattle.s390x_emit_int.specs.Pieces.{run}
+use Rattle.s390x_emit_int.specs.Emission.{pieces}
+use Rattle.s390x_steps.specs.Ranges.{AllInRange}
+use Rattle.s390x_emit_int.specs.Room.{HasRoom}
+use Rattle.s390x_emit_int.proofs.tree.+members.Given as goal
+
+abbrev pub invariant-emit_members-loop-inst : goal.invariant-emit_members-loop-inst
+invariant-emit_members-loop-inst l = record {
+  kept : Keeps l.initial.sink l.sink;
+  room : HasRoom l.sink;
+  rest : run l.sink (pieces (length l.sink.labels) l.after.0 (tree (drop l.inst-index l.insts))) ≡ run l.initial.sink (pieces (length l.initial.sink.labels) l.after.0 (tree l.insts));
+  ranges : AllInRange (tree (drop l.inst-index l.insts)) → AllInRange (tree l.insts);
+}

@@ -1,0 +1,145 @@
+//! Emitting a function: its blocks, and then its constants.
+
+ghost use Rattle.std.specs.Prelude.{◌≡◌, ℕ, ◌+◌, ◌<◌, ◌≤◌, ◌⊎◌, OnOk, IfOk, length, map, min, get_or, None, Some, MatchResult, nat_lt, nat_eq, ◌&&◌, true};
+ghost use Rattle.s390x_base.specs.declared.error.EmitError.TheVariants.{NoMemory, LabelOutOfRange, BadStackState};
+ghost use Rattle.s390x_buffer.specs.State.{constant_of, new_cause, fresh, limit};
+ghost use Rattle.s390x_buffer.specs.Constants.{constants_end};
+ghost use Rattle.s390x_steps.specs.Causes.{first, unless, blocks_cause};
+ghost use Rattle.s390x_steps.specs.Sizes.{blocks_size};
+ghost use Rattle.s390x_emit_int.specs.Emission.{function_pieces};
+ghost use Rattle.s390x_steps.specs.Ranges.{BlocksInRange};
+ghost use Rattle.s390x_emit_int.specs.Function.{tree_of, trees_of, constants_of, IsImage, start_cause, checked_cause, function_cause};
+ghost use Rattle.s390x_emit_int.specs.Pieces.{run};
+ghost use Rattle.s390x_emit_int.specs.Room.{HasRoom};
+
+use crate::check::{Totals, check_members};
+use crate::tree::emit_members;
+use s390x_base::{ConstantData, EmitError, MachLabel};
+use s390x_buffer::{MachBuffer, MachBufferFinalized, all_aligned, constants_fit};
+use s390x_inst::{AllocatedFunction, Block, EmitInfo, EmitState};
+use std::alloc::Global;
+
+// The stack sizes at the beginning have to be 0.
+fn start_refusal(state: &EmitState) -> Option<EmitError>
+    ensures { result ≡ start_cause state.now }
+{
+    if state.nominal() == 0 && state.outgoing() == 0 {
+        None
+    } else {
+        Some(EmitError::BadStackState)
+    }
+}
+
+// The first cause in the blocks, with so many labels in use, or what they add.
+fn check_blocks(blocks: &[Block], labels: u64) -> Result<Totals, EmitError>
+    requires { labels ≤ 4294967296 }
+    ensures { MatchResult result (λ r. (blocks_cause (length blocks.now) labels (map tree_of blocks.now) ≡ None) × (min limit r.bytes ≡ min limit (blocks_size (map tree_of blocks.now))) × (r.bytes ≤ limit)) (λ e. blocks_cause (length blocks.now) labels (map tree_of blocks.now) ≡ Some e) }
+{
+    let count = blocks.len();
+    let mut sum = Totals { labels, bytes: 0 };
+    for block in blocks {
+        sum = check_members(count, sum, 0, &block.insts)?;
+    }
+    Ok(sum)
+}
+
+// Whether the code, of which so many bytes were counted, ends below the limit with its constants.
+fn length_refusal(bytes: u64, constants: &[ConstantData]) -> Option<EmitError>
+    requires { bytes ≤ limit }
+    ensures { (size : ℕ) → min limit bytes ≡ min limit size → result ≡ unless (nat_lt (constants_end size (map constant_of constants.now)) limit) LabelOutOfRange }
+{
+    if bytes < 2147483648 && constants_fit(bytes as usize, constants) {
+        None
+    } else {
+        Some(EmitError::LabelOutOfRange)
+    }
+}
+
+// Each block's label is bound before its members.
+fn emit_blocks(sink: &mut MachBuffer, blocks: &[Block]) -> Result<(), EmitError>
+    requires few { length blocks.now ≤ 4294967295 }
+    requires count { sink.old.block_count ≡ length blocks.now }
+    requires room { HasRoom sink.old }
+    requires free { (l : ℕ) → l < length blocks.now → get_or sink.old.labels l None ≡ None }
+    ensures answer { OnOk result (sink.new ≡ run sink.old (function_pieces (length sink.old.labels) 0 (map tree_of blocks.now))) }
+    ensures ranges { OnOk result (BlocksInRange (map tree_of blocks.now)) }
+{
+    let mut label: u32 = 0;
+    for block in blocks {
+        sink.bind_label(MachLabel(label))?;
+        emit_members(sink, &block.insts, MachLabel(0))?;
+        label += 1;
+    }
+    Ok(())
+}
+
+// No cause stands: the finished code is the function's image.
+fn emit_checked(
+    alloc: Global,
+    function: &AllocatedFunction,
+    count: u32,
+) -> Result<MachBufferFinalized, EmitError>
+    requires count { count ≡ length function.now.blocks.items }
+    requires fine { blocks_cause (length (trees_of function.now)) (length (trees_of function.now) + length (constants_of function.now)) (trees_of function.now) ≡ None }
+    ensures { IfOk result (λ f. IsImage (trees_of function.now) (constants_of function.now) f × BlocksInRange (trees_of function.now)) }
+{
+    let mut sink = MachBuffer::new(alloc, count, &function.constants)?;
+    emit_blocks(&mut sink, &function.blocks)?;
+    sink.finish()
+}
+
+// How many blocks there are, where the count has a label for each.
+fn block_count(function: &AllocatedFunction) -> Result<u32, EmitError>
+    ensures { MatchResult result (λ n. n ≡ length function.now.blocks.items) (λ e. new_cause (length function.now.blocks.items) (constants_of function.now) ≡ Some e) }
+{
+    let count = function.blocks.len();
+    if count <= 4294967295 {
+        Ok(count as u32)
+    } else if all_aligned(&function.constants) {
+        Err(EmitError::LabelOutOfRange)
+    } else {
+        Err(EmitError::BadAlignment)
+    }
+}
+
+// The first cause among the constants, the steps and the length.
+fn check_function(function: &AllocatedFunction, count: u32) -> Result<(), EmitError>
+    requires count { count ≡ length function.now.blocks.items }
+    ensures { MatchResult result (λ _. checked_cause (trees_of function.now) (constants_of function.now) ≡ None) (λ e. checked_cause (trees_of function.now) (constants_of function.now) ≡ Some e) }
+{
+    let constants = &function.constants;
+    if !all_aligned(constants) {
+        return Err(EmitError::BadAlignment);
+    }
+    if constants.len() as u64 >= 4294967296 - u64::from(count) {
+        return Err(EmitError::LabelOutOfRange);
+    }
+    let sum = check_blocks(&function.blocks, u64::from(count) + constants.len() as u64)?;
+    match length_refusal(sum.bytes, constants) {
+        Some(error) => Err(error),
+        None => Ok(()),
+    }
+}
+
+/// Emits a function: binds each block's label, emits its members, and finishes the code with the constants behind it.
+///
+/// Refused by the first cause in this order: the state's sizes (`BadStackState`), the constants' alignments (`BadAlignment`),
+/// the count of blocks and constants (`LabelOutOfRange`), each step in order, the length (`LabelOutOfRange`).
+pub fn emit_function(
+    alloc: Global,
+    function: &AllocatedFunction,
+    _info: &EmitInfo,
+    state: EmitState,
+) -> Result<MachBufferFinalized, EmitError>
+    ensures { MatchResult result (λ f. (function_cause (trees_of function.now) (constants_of function.now) state ≡ None) × IsImage (trees_of function.now) (constants_of function.now) f × BlocksInRange (trees_of function.now)) (λ e. (e ≡ NoMemory) ⊎ (function_cause (trees_of function.now) (constants_of function.now) state ≡ Some e)) }
+{
+    if let Some(error) = start_refusal(&state) {
+        return Err(error);
+    }
+    let count = block_count(function)?;
+    check_function(function, count)?;
+    match emit_checked(alloc, function, count) {
+        Ok(code) => Ok(code),
+        Err(_) => Err(EmitError::NoMemory),
+    }
+}

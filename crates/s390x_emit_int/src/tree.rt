@@ -1,0 +1,65 @@
+//! Emitting lists of instructions, with the members of loops.
+#![tactic(auto, using(s390x_buffer::proofs::Keeping::keeps_on, s390x_buffer::proofs::Keeping::keeps_same))]
+
+ghost use Rattle.std.specs.Prelude.{◌≡◌, OnOk, length};
+ghost use Rattle.s390x_buffer.specs.Keeps.{Keeps};
+ghost use Rattle.s390x_steps.specs.Tree.{empty, looped, graft, tree};
+ghost use Rattle.s390x_emit_int.specs.Pieces.{run};
+ghost use Rattle.s390x_emit_int.specs.Emission.{pieces, own_pieces};
+ghost use Rattle.s390x_steps.specs.Ranges.{AllInRange};
+ghost use Rattle.s390x_emit_int.specs.Room.{HasRoom};
+
+use crate::leaf::{emit_leaf, put_branch};
+use s390x_base::{Cond, EmitError, MachLabel};
+use s390x_buffer::MachBuffer;
+use s390x_inst::Inst;
+
+/// Emits instructions in order, each with its step place; `after` is the label behind the innermost loop.
+#[cycle(members)]
+pub fn emit_members(
+    sink: &mut MachBuffer,
+    insts: &[Inst],
+    after: MachLabel,
+) -> Result<(), EmitError>
+    requires { HasRoom sink.old }
+    ensures answer { OnOk result (sink.new ≡ run sink.old (pieces (length sink.old.labels) after.0 (tree insts.now))) }
+    ensures ranges { OnOk result (AllInRange (tree insts.now)) }
+    ensures kept { Keeps sink.old sink.new }
+{
+    for inst in insts {
+        sink.start_step()?;
+        emit_inst(sink, inst, after)?;
+    }
+    Ok(())
+}
+
+/// Emits an instruction.
+#[cycle(members)]
+pub fn emit_inst(sink: &mut MachBuffer, inst: &Inst, after: MachLabel) -> Result<(), EmitError>
+    requires { HasRoom sink.old }
+    ensures answer { OnOk result (sink.new ≡ run sink.old (own_pieces (length sink.old.labels) after.0 (graft inst.now empty))) }
+    ensures ranges { OnOk result (AllInRange (graft inst.now empty)) }
+    ensures kept { Keeps sink.old sink.new }
+{
+    match inst {
+        Inst::Loop { cond, body } => emit_loop(sink, *cond, body),
+        _ => emit_leaf(sink, inst, after),
+    }
+}
+
+#[cycle(members)]
+fn emit_loop(sink: &mut MachBuffer, cond: Cond, body: &[Inst]) -> Result<(), EmitError>
+    requires { HasRoom sink.old }
+    ensures answer { OnOk result (sink.new ≡ run sink.old (own_pieces (length sink.old.labels) 0 (looped cond (tree body.now) empty))) }
+    ensures ranges { OnOk result (AllInRange (looped cond (tree body.now) empty)) }
+    ensures kept { Keeps sink.old sink.new }
+{
+    let mask = cond.bits();
+    let start = sink.get_label()?;
+    let end = sink.get_label()?;
+    sink.bind_label(start)?;
+    emit_members(sink, body, end)?;
+    sink.start_step()?;
+    put_branch(sink, mask, start)?;
+    sink.bind_label(end)
+}

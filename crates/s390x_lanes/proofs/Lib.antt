@@ -1,0 +1,6 @@
+pub mod Powers
+pub mod Building
+pub mod Splitting
+pub mod Counting
+pub mod LaneTests
+pub mod Signed

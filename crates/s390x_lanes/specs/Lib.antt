@@ -1,0 +1,10 @@
+pub mod Size
+pub mod Lanes
+pub mod Numbers
+pub mod Encoding
+pub mod Elements
+pub mod Places
+pub mod Results
+pub mod Relation
+pub mod Opcodes
+pub mod Step

@@ -1,0 +1,20 @@
+// The results of the vector rows whose operands are vector registers and immediates.
+#![tactic(auto)]
+
+mod binary;
+mod ends;
+mod lane;
+mod lookup;
+mod number;
+pub mod opcodes;
+pub mod operation;
+mod places;
+mod products;
+mod results;
+pub mod size;
+pub mod step;
+#[cfg(test)]
+mod tests;
+mod unary;
+
+pub use step::{LaneEnd, lane_step};

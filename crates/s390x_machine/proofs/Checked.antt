@@ -1,0 +1,107 @@
+-- Steps that emission lets pass are fine.
+use Rattle.std.proofs.Common.{◌≡◌, ℕ, zero, suc, ◌+◌, ◌<◌, ◌≤◌, List, [], ◌∷◌, ◌++◌, length, Option, Some, None, Bool, true, false, ◌&&◌, IsTrue, refl, sym, ap, ◌∙◌, subst, arith, length-append, slice_get, ltb-true}
+use Rattle.std.specs.Prelude.{nat_lt}
+use Rattle.std.proofs.lemmas.Bool.{and_parts}
+use Rattle.s390x_base.specs.declared.ir.MachLabel.{MachLabel}
+use Rattle.s390x_base.specs.declared.error.EmitError.{EmitError}
+use Rattle.s390x_base.specs.declared.error.EmitError.TheVariants.{BadOperator, BadRegister, UnboundLabel}
+use Rattle.s390x_inst.specs.declared.inst.Inst.{Inst}
+use Rattle.s390x_inst.specs.declared.inst.Inst.TheVariants.{AluRRR, Mov64, Jump, CondBr, IndirectBr, Ret, CondBreak}
+use Rattle.s390x_steps.specs.Causes.{first, unless, is_general, is_nonzero, is_alu_rrr, label_cause, labels_cause, instruction_cause, numbers_cause, nesting_cause, draws, tree_cause, blocks_cause}
+use Rattle.s390x_steps.specs.Ranges.{InRange, AllInRange, BlocksInRange}
+use Rattle.s390x_steps.specs.Tree.{Tree, empty, leaf, looped}
+use Rattle.s390x_steps.specs.Steps.{Step, Opening, Back, step_count, step_of, steps_of, steps_from, function_steps}
+use Rattle.s390x_base.specs.declared.trap.TrapKind.{TrapKind}
+use Rattle.s390x_operations.specs.State.{CodeImage}
+use Rattle.s390x_operations.specs.declared.stop.StopKind.{StopKind}
+use Rattle.s390x_machine.specs.Functions.{function_layout}
+use Rattle.s390x_machine.specs.Layout.{Layout}
+use Rattle.s390x_machine.specs.Placed.{IsBlock, AreBlocks, IsFine}
+use Rattle.s390x_machine.proofs.Functions.{count_of}
+
+first_none : (a b : Option EmitError) → first a b ≡ None → (a ≡ None) × (b ≡ None)
+first_none None b e = (refl, e)
+first_none (Some x) b e = absurd (cc)
+
+unless_none : (h : Bool) (x : EmitError) → unless h x ≡ None → IsTrue h
+unless_none true x e = refl
+unless_none false x e = absurd (cc)
+
+three : (a b c : Bool) → IsTrue (a && b && c) → IsTrue a × IsTrue b × IsTrue c
+three true true true h = (refl, refl, refl)
+three true true false h = absurd (cc)
+three true false c h = absurd (cc)
+three false b c h = absurd (cc)
+
+module _ (L : Layout) where
+  block_of : (l : MachLabel) → label_cause L.block_count l ≡ None → IsBlock L l.0
+  block_of l e = ltb-true l.0 L.block_count (unless_none (nat_lt l.0 L.block_count) UnboundLabel e)
+
+  blocks_of : (ls : List MachLabel) → labels_cause L.block_count ls ≡ None → AreBlocks L ls
+  blocks_of [] e = tt
+  blocks_of (l ∷ ls) e = let parts = first_none (label_cause L.block_count l) (labels_cause L.block_count ls) e in (block_of l parts.0, blocks_of ls parts.1)
+
+  -- an instruction, in so many loops, the innermost of which ends at a step
+  fine_step : (depth after : ℕ) (i : Inst) → instruction_cause L.block_count depth i ≡ None → InRange i → (0 < depth → after ≤ length L.steps) → IsFine L (step_of after i)
+  fine_step depth after (AluRRR op rd rn rm) e range le =
+      let parts = first_none (unless (is_alu_rrr op) BadOperator) (unless (is_general rd && is_general rn && is_general rm) BadRegister) e in
+      let regs = three (is_general rd) (is_general rn) (is_general rm) (unless_none (is_general rd && is_general rn && is_general rm) BadRegister parts.1) in
+      (unless_none (is_alu_rrr op) BadOperator parts.0, regs.0, regs.1, regs.2)
+  fine_step depth after (Mov64 rd rm) e range le = and_parts (is_general rd) (is_general rm) (unless_none (is_general rd && is_general rm) BadRegister e)
+  fine_step depth after (Jump dest) e range le = block_of dest e
+  fine_step depth after (CondBr taken not_taken mask) e range le = let parts = first_none (label_cause L.block_count taken) (label_cause L.block_count not_taken) e in (block_of taken parts.0, block_of not_taken parts.1, range)
+  fine_step depth after (IndirectBr rn targets) e range le =
+      let parts = first_none (unless (is_general rn && is_nonzero rn) BadRegister) (labels_cause L.block_count targets.items) e in
+      let regs = and_parts (is_general rn) (is_nonzero rn) (unless_none (is_general rn && is_nonzero rn) BadRegister parts.0) in
+      (regs.0, regs.1, blocks_of targets.items parts.1)
+  fine_step depth after (Ret link) e range le = and_parts (is_general link) (is_nonzero link) (unless_none (is_general link && is_nonzero link) BadRegister e)
+  fine_step depth after (CondBreak mask) e range le = (range, le (ltb-true 0 depth (unless_none (nat_lt 0 depth) Rattle.s390x_base.specs.declared.error.EmitError.TheVariants.BreakOutsideLoop e)))
+  fine_step depth after _ e range le = absurd (cc)
+
+  -- each of some steps is fine
+  AllFine : List Step → Type 0
+  AllFine ss = (j : ℕ) (s : Step) → slice_get ss j ≡ Some s → IsFine L s
+
+  fine_cons : (x : Step) (ss : List Step) → IsFine L x → AllFine ss → AllFine (x ∷ ss)
+  unfolding AllFine
+  fine_cons x ss h all zero s e = let same : x ≡ s = cc in subst (λ y. IsFine L y) same h
+  fine_cons x ss h all (suc j) s e = all j s e
+
+  fine_append : (xs ys : List Step) → AllFine xs → AllFine ys → AllFine (xs ++ ys)
+  unfolding AllFine
+  fine_append [] ys a b j s e = b j s e
+  fine_append (x ∷ xs) ys a b zero s e = a zero s e
+  fine_append (x ∷ xs) ys a b (suc j) s e = fine_append xs ys (λ i t h. a (suc i) t h) b j s e
+
+  fine_tree : (k after n depth : ℕ) (t : Tree) → tree_cause L.block_count n depth t ≡ None → AllInRange t → (0 < depth → after ≤ length L.steps) → k + step_count t ≤ length L.steps → AllFine (steps_of k after t)
+  unfolding AllFine
+  fine_tree k after n depth empty e range le within = λ j s h. absurd (cc)
+  fine_tree k after n depth (leaf i rest) e range le within =
+      let parts = first_none (instruction_cause L.block_count depth i) (tree_cause L.block_count n depth rest) e in
+      fine_cons (step_of after i) (steps_of (k + 1) after rest) (fine_step depth after i parts.0 range.0 le) (fine_tree (k + 1) after n depth rest parts.1 range.1 le (omega arith))
+  fine_tree k after n depth (looped mask members rest) e range le within =
+      let a = first_none (first (first (nesting_cause depth) (numbers_cause n 2)) (tree_cause L.block_count (n + 2) (depth + 1) members)) (tree_cause L.block_count (n + 2 + draws members) depth rest) e in
+      let b = first_none (first (nesting_cause depth) (numbers_cause n 2)) (tree_cause L.block_count (n + 2) (depth + 1) members) a.0 in
+      let end = k + 2 + step_count members in
+      let tail : AllFine (Back mask (k + 1) ∷ steps_of end after rest) = fine_cons (Back mask (k + 1)) (steps_of end after rest) (range.0, omega arith) (fine_tree end after (n + 2 + draws members) depth rest a.1 range.2 le (omega arith)) in
+      fine_cons Opening (steps_of (k + 1) end members ++ (Back mask (k + 1) ∷ steps_of end after rest)) tt
+      (fine_append (steps_of (k + 1) end members) (Back mask (k + 1) ∷ steps_of end after rest) (fine_tree (k + 1) end (n + 2) (depth + 1) members b.1 range.1 (λ d. omega arith) (omega arith)) tail)
+
+  fine_blocks : (k n : ℕ) (ts : List Tree) → blocks_cause L.block_count n ts ≡ None → BlocksInRange ts → k + length (steps_from k ts) ≤ length L.steps → AllFine (steps_from k ts)
+  unfolding AllFine
+  fine_blocks k n [] e range within = λ j s h. absurd (cc)
+  fine_blocks k n (t ∷ ts) e range within =
+      let parts = first_none (tree_cause L.block_count n 0 t) (blocks_cause L.block_count (n + draws t) ts) e in
+      let counted = count_of k 0 t in
+      let joined = length-append (steps_of k 0 t) (steps_from (k + step_count t) ts) in
+      fine_append (steps_of k 0 t) (steps_from (k + step_count t) ts) (fine_tree k 0 n 0 t parts.0 range.0 (λ d. absurd (omega arith)) (omega (arith, counted, joined))) (fine_blocks (k + step_count t) (n + draws t) ts parts.1 range.1 (omega (arith, counted, joined)))
+
+  pub fine_function : (n : ℕ) (ts : List Tree) → L.steps ≡ function_steps ts → blocks_cause L.block_count n ts ≡ None → BlocksInRange ts → (k : ℕ) (s : Step) → slice_get L.steps k ≡ Some s → IsFine L s
+  unfolding AllFine
+  fine_function n ts same e range k s h =
+      let within : 0 + length (steps_from 0 ts) ≤ length L.steps = omega (arith, ap length same) in
+      fine_blocks 0 n ts e range within k s (ap (λ ss. slice_get ss k) (sym same) ∙ h)
+
+-- the steps of a function that has no cause of refusal
+pub checked_steps : (ts : List Tree) (n : ℕ) (image : CodeImage) (code_at : ℕ → StopKind → Option TrapKind) → blocks_cause (length ts) n ts ≡ None → BlocksInRange ts → (k : ℕ) (s : Step) → slice_get (function_steps ts) k ≡ Some s → IsFine (function_layout ts image code_at) s
+checked_steps ts n image code_at e range = fine_function (function_layout ts image code_at) n ts refl e range

@@ -1,0 +1,135 @@
+-- From each step alone to every run: the generic induction.
+use Rattle.std.proofs.Common.{◌⊎◌, Bool, true, false, IsTrue, IsFalse, true≢false, append-nil, ◌≡◌, ℕ, zero, suc, ◌+◌, ◌<◌, ◌≤◌, inl, inr, List, [], ◌∷◌, ◌++◌, length, Option, Some, None, refl, sym, ap, ◌∙◌, subst, arith, append_assoc, length-append, slice_get}
+use Rattle.s390x_operations.specs.State.{Core, State, Write, written, Lies, CodeImage, Apart}
+use Rattle.s390x_operations.specs.Access.{stores_into}
+use Rattle.s390x_operations.specs.Effects.{access}
+use Rattle.s390x_steps.specs.Steps.{Step}
+use Rattle.s390x_machine.specs.Machine.{Turn, Run, after_all, all_writes}
+use Rattle.s390x_machine.specs.Forms.{Form, Performs}
+use Rattle.s390x_machine.specs.Typed.{Ending, Ended, At, touches_image, TypedStep, Wrong, form_of, form_at, form_deposit, FormWrong}
+use Rattle.s390x_machine.specs.Match.{Quiet, joined, start, Closes, Allowed, Headline, OneStep, here, on, StepHolds, Runs, waits, silent, goes, stops, ends, lost, StepRuns}
+use Rattle.s390x_machine.specs.Layout.{Layout}
+use Rattle.s390x_machine.proofs.Frame.{apart_of}
+
+pub run_after : (L : Layout) (s : State) (g rest : List Turn) → Run L.image s (g ++ rest) → Run L.image (after_all s g) rest
+run_after L s [] rest r = r
+run_after L s (x ∷ g) rest r = run_after L x.after g rest r.1
+
+pub after_append : (s : State) (g h : List Turn) → after_all s (g ++ h) ≡ after_all (after_all s g) h
+after_append s [] h = refl
+after_append s (x ∷ g) h = after_append x.after g h
+
+-- a step, and what is allowed after it
+step_then : (L : Layout) (k : ℕ) (c : Core) (turns g rest : List Turn) → turns ≡ g ++ rest → length g ≤ 4 → (j : ℕ) (t : Core) → TypedStep L k (written (all_writes g) c) (At j) t → after_all (start L k c) g ≡ start L j t → Allowed L j t rest → Allowed L k c turns
+step_then L k c turns g rest split small j t step lands a = record {
+  groups = g ∷ a.groups;
+  rest = a.rest;
+  split = split ∙ ap (λ l. g ++ l) a.split ∙ sym (append_assoc g (joined a.groups) a.rest);
+  small = (small, a.small);
+  position = a.position;
+  core = a.core;
+  run = (At j, t, step, a.run);
+  closes = subst (λ s. Closes L a.position a.core s a.rest) (sym (after_append (start L k c) g (joined a.groups) ∙ ap (λ s. after_all s (joined a.groups)) lands)) a.closes;
+}
+
+combine : (L : Layout) (k : ℕ) (c : Core) (turns : List Turn) → Run L.image (start L k c) turns → OneStep L k c turns → ((j : ℕ) (t : Core) → Lies L.image t.memory → (rest : List Turn) → Run L.image (start L j t) rest → length rest < length turns → Allowed L j t rest) → ((t : Core) → Lies L.image t.memory → (rest : List Turn) → Run L.image (start L (suc k) t) rest → length rest ≤ length turns → suc k ≤ length L.steps → Allowed L (suc k) t rest) → Allowed L k c turns
+combine L k c turns r (here a le) shorter without = a
+combine L k c turns r (on g rest split small j t step lands lies (inl pos)) shorter without =
+    let r' = subst (λ s. Run L.image s rest) lands (run_after L (start L k c) g rest (subst (λ l. Run L.image (start L k c) l) split r)) in
+    let lt : length rest < length turns = omega (arith, ap length split, length-append g rest) in
+    step_then L k c turns g rest split small j t step lands (shorter j t lies rest r' lt)
+combine L k c turns r (on g rest split small j t step lands lies (inr e)) shorter without =
+    let r' = subst (λ s. Run L.image s rest) lands (run_after L (start L k c) g rest (subst (λ l. Run L.image (start L k c) l) split r)) in
+    let le : length rest ≤ length turns = omega (arith, ap length split, length-append g rest) in
+    step_then L k c turns g rest split small j t step lands (subst (λ i. Allowed L i t rest) (sym e.0) (without t lies rest (subst (λ i. Run L.image (start L i t) rest) e.0 r') le e.1))
+
+module _ (L : Layout) (holds : (k : ℕ) → StepHolds L k) where
+  inner : (n : ℕ) → ((j : ℕ) (t : Core) → Lies L.image t.memory → (rest : List Turn) → Run L.image (start L j t) rest → length rest < n → Allowed L j t rest) → (d k : ℕ) (c : Core) → Lies L.image c.memory → (turns : List Turn) → Run L.image (start L k c) turns → length turns ≤ n → length L.steps ≤ k + d → Allowed L k c turns
+  inner n shorter zero k c lies turns r le far =
+      combine L k c turns r (holds k c lies turns r) (λ j t l rest q lt. shorter j t l rest q (omega arith)) (λ t l rest q le' below. absurd (omega arith))
+  inner n shorter (suc d) k c lies turns r le far =
+      combine L k c turns r (holds k c lies turns r) (λ j t l rest q lt. shorter j t l rest q (omega arith)) (λ t l rest q le' below. inner n shorter d (suc k) t l rest q (omega arith) (omega arith))
+
+  outer : (n k : ℕ) (c : Core) → Lies L.image c.memory → (turns : List Turn) → Run L.image (start L k c) turns → length turns < n → Allowed L k c turns
+  outer zero k c lies turns r lt = absurd (omega arith)
+  outer (suc n) k c lies turns r lt = inner n (outer n) (length L.steps) k c lies turns r (omega arith) (omega arith)
+
+  pub headline : (k : ℕ) → Headline L k
+  headline k c lies turns r = outer (suc (length turns)) k c lies turns r (omega arith)
+
+-- past the last step the typed run is wrong
+past_end : (L : Layout) (k : ℕ) (c : Core) (turns : List Turn) → slice_get L.steps k ≡ None → OneStep L k c turns
+past_end L k c turns e = here (record {
+  groups = [];
+  rest = turns;
+  split = refl;
+  small = tt;
+  position = At k;
+  core = c;
+  run = (refl, refl);
+  closes = (refl, inl (subst (λ o. FormWrong L (form_of o) c) (sym e) tt));
+}) (omega arith)
+
+by_instruction : (L : Layout) → ((k : ℕ) (i : Step) → slice_get L.steps k ≡ Some i → StepHolds L k) → (k : ℕ) (o : Option Step) → slice_get L.steps k ≡ o → StepHolds L k
+by_instruction L holds k None e c lies turns r = past_end L k c turns e
+by_instruction L holds k (Some i) e c lies turns r = holds k i e c lies turns r
+
+-- the headline, of a proof for each instruction
+pub headline_of : (L : Layout) → ((k : ℕ) (i : Step) → slice_get L.steps k ≡ Some i → StepHolds L k) → (k : ℕ) → Headline L k
+headline_of L holds k = headline L (λ j. by_instruction L holds j (slice_get L.steps j) refl) k
+
+-- ---- a step by itself, from what the machine does
+
+abbrev form_into : CodeImage → Option Form → Core → Bool
+form_into image (Some (Performs needs operation code)) c = stores_into image (access (operation c.registers).effect)
+form_into image _ c = false
+
+wrong_into : (L : Layout) (o : Option Form) (c : Core) → IsTrue (form_into L.image o c) → FormWrong L o c
+wrong_into L (Some (Performs needs operation code)) c e = touches_image e
+wrong_into L (Some _) c e = absurd (true≢false (sym e))
+wrong_into L None c e = tt
+
+apart_form : (image : CodeImage) (o : Option Form) (c : Core) (ws : List Write) → IsFalse (form_into image o c) → Apart image (form_deposit o (written ws c))
+apart_form image (Some (Performs needs operation code)) c ws e = apart_of image (access (operation c.registers).effect) (written ws c).memory e
+apart_form image (Some _) c ws e = tt
+apart_form image None c ws e = tt
+
+stays_here : (L : Layout) (k : ℕ) (c : Core) (turns : List Turn) → Wrong L k c ⊎ ((length turns ≤ 3) × Quiet turns) → OneStep L k c turns
+stays_here L k c turns w = here (record {
+  groups = [];
+  rest = turns;
+  split = refl;
+  small = tt;
+  position = At k;
+  core = c;
+  run = (refl, refl);
+  closes = (refl, w);
+}) (omega arith)
+
+stays_ended : (L : Layout) (k : ℕ) (c : Core) (g rest : List Turn) (e : Ending) (x : Core) → length g ≤ 4 → TypedStep L k (written (all_writes g) c) (Ended e) x → Closes L (Ended e) x (after_all (start L k c) g) rest → OneStep L k c (g ++ rest)
+stays_ended L k c g rest e x few step closes = here (record {
+  groups = g ∷ [];
+  rest = rest;
+  split = ap (λ l. l ++ rest) (sym (append-nil g));
+  small = (few, tt);
+  position = Ended e;
+  core = x;
+  run = (Ended e, x, step, (refl, refl));
+  closes = subst (λ l. Closes L (Ended e) x (after_all (start L k c) l) rest) (sym (append-nil g)) closes;
+}) (omega arith)
+
+weaker : (L : Layout) (k : ℕ) (c : Core) (turns : List Turn) → Lies L.image c.memory → IsFalse (form_into L.image (form_at L k) c) → Runs L k c turns → OneStep L k c turns
+weaker L k c turns lies out (waits few quiet at) = stays_here L k c turns (inr (few, quiet))
+weaker L k c turns lies out (silent step below same) = on [] turns refl (omega arith) (suc k) c step (ap (λ q. record { core = c; place = q }) same) lies (inr (refl, below))
+weaker L k c turns lies out (goes h rest t split few quiet j x step e m lands l) =
+    on (h ++ t ∷ []) rest (split ∙ sym (append_assoc h (t ∷ []) rest)) (omega (arith, length-append h (t ∷ []))) j x step (after_append (start L k c) h (t ∷ []) ∙ lands) (l (apart_form L.image (form_at L k) c (all_writes (h ++ t ∷ [])) out)) (inl (omega (arith, length-append h (t ∷ []))))
+weaker L k c turns lies out (stops h rest t kind split quiet e w) = stays_here L k c turns (inl w)
+weaker L k c turns lies out (ends g rest split few quiet e x step closes) = subst (λ l. OneStep L k c l) (sym split) (stays_ended L k c g rest e x few step closes)
+weaker L k c turns lies out (lost w form) = stays_here L k c turns (inl w)
+
+unless_into : (L : Layout) (k : ℕ) (c : Core) (turns : List Turn) → Lies L.image c.memory → Runs L k c turns → (b : Bool) → form_into L.image (form_at L k) c ≡ b → OneStep L k c turns
+unless_into L k c turns lies r true e = stays_here L k c turns (inl (wrong_into L (form_at L k) c e))
+unless_into L k c turns lies r false e = weaker L k c turns lies e r
+
+pub one_step : (L : Layout) (k : ℕ) → StepRuns L k → StepHolds L k
+one_step L k runs c lies turns run = unless_into L k c turns lies (runs c lies turns run) _ refl

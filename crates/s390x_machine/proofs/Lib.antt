@@ -1,0 +1,16 @@
+pub mod Addresses
+pub mod Checked
+pub mod Composites
+pub mod Decoding
+pub mod Fetching
+pub mod Frame
+pub mod Functions
+pub mod Induction
+pub mod Simulation
+pub mod Standing
+pub mod Reaching
+pub mod Reading
+pub mod Rows
+pub mod Branches
+pub mod Example
+pub mod Instructions

@@ -1,0 +1,101 @@
+-- What the machine does at each built row.
+use Rattle.std.proofs.Common.{◌≡◌, ◌≢◌, ℕ, zero, suc, ◌+◌, ◌%◌, ◌^◌, ◌<◌, ◌≤◌, List, [], ◌∷◌, length, Bool, true, false, cond, ◌==◌, ◌&&◌, IsTrue, refl, sym, ap, ◌∙◌, subst, arith, ltb-true, true≢false}
+use Rattle.std.specs.Prelude.{pos, ◌+ℤ◌, ◌*ℤ◌, nat_eq, nat_lt, not}
+use Rattle.std.specs.Int.{cast_signed}
+use mir.Syntax.{w32}
+use Rattle.std.proofs.lemmas.Bool.{and_parts}
+use Rattle.s390x_base.specs.Regs.{number_of, is_int}
+use Rattle.s390x_base.specs.declared.regs.Reg.{Reg}
+use Rattle.s390x_base.specs.declared.regs.Reg.TheVariants.{Real, Virtual}
+use Rattle.s390x_format.specs.declared.kind.FormatKind.TheVariants.{Rr, Rre, RrfAb, RilC}
+use Rattle.s390x_format.specs.Layout.{SlotsFit}
+use Rattle.s390x_format.specs.Formats.{layout_of, length_of}
+use Rattle.s390x_format.specs.Fits.{fields_from}
+use Rattle.s390x_format.specs.Lookup.{row_for, listed}
+use Rattle.s390x_format.specs.Fetch.{machine_rows}
+use Rattle.s390x_format.specs.Encoded.{IsEncoded}
+use Rattle.s390x_steps.specs.Causes.{is_general, is_nonzero}
+use Rattle.s390x_steps.specs.MachineInstruction.{bytes_of, rr, rre, rrf_ab, ril_c}
+use Rattle.s390x_steps.specs.Rows.{half_distance}
+use Rattle.s390x_operations.specs.State.{State, sum64}
+use Rattle.s390x_operations.specs.Numbers.{low}
+use Rattle.s390x_operations.specs.declared.size.Size.TheVariants.{Doubleword}
+use Rattle.s390x_machine.specs.declared.meaning.Action.TheVariants.{Perform, Branch}
+use Rattle.s390x_machine.specs.Machine.{Event, Acts}
+use Rattle.s390x_machine.specs.Meanings.{performs}
+use Rattle.s390x_machine.specs.Forms.{move64, add64}
+use Rattle.s390x_machine.specs.Layout.{Layout}
+use Rattle.s390x_machine.specs.Placed.{AllPlaced}
+use Rattle.s390x_machine.proofs.Addresses.{lands}
+use Rattle.s390x_machine.proofs.Fetching.{StandsAt, row_at}
+use Rattle.s390x_machine.proofs.Simulation.{RowAt}
+
+-- ---- registers
+
+pub general_number : (r : Reg) → IsTrue (is_general r) → number_of r < 16
+general_number (Real r) h = ltb-true r.number 16 (and_parts (is_int r.class) (nat_lt r.number 16) h).1
+general_number (Virtual n c) h = absurd (cc)
+
+pub nonzero_number : (r : Reg) → IsTrue (is_general r) → IsTrue (is_nonzero r) → number_of r ≢ 0
+nonzero_number (Real r) g h = λ e. true≢false (sym h ∙ ap (λ n. not (nat_eq n 0)) e)
+nonzero_number (Virtual n c) g h = absurd (cc)
+
+-- ---- formats
+
+pub fits_rr : (opcode a b : ℕ) → opcode < 256 → a < 16 → b < 16 → SlotsFit (layout_of Rr) (rr opcode a b).slots
+fits_rr opcode a b o la lb = fields_from Rr (rr opcode a b).slots refl (omega arith, (omega arith, (omega arith, (omega arith, (omega arith, (omega arith, (omega arith, (omega arith, (omega arith, (omega arith, tt))))))))))
+
+pub fits_rre : (opcode a b : ℕ) → opcode < 65536 → a < 16 → b < 16 → SlotsFit (layout_of Rre) (rre opcode a b).slots
+fits_rre opcode a b o la lb = fields_from Rre (rre opcode a b).slots refl (omega arith, (omega arith, (omega arith, (omega arith, (omega arith, (omega arith, (omega arith, (omega arith, (omega arith, (omega arith, tt))))))))))
+
+pub fits_rrf_ab : (opcode a b c : ℕ) → opcode < 65536 → a < 16 → b < 16 → c < 16 → SlotsFit (layout_of RrfAb) (rrf_ab opcode a b c 0).slots
+fits_rrf_ab opcode a b c o la lb lc = fields_from RrfAb (rrf_ab opcode a b c 0).slots refl (omega arith, (omega arith, (omega arith, (omega arith, (omega arith, (omega arith, (omega arith, (omega arith, (omega arith, (omega arith, tt))))))))))
+
+pub fits_ril_c : (opcode mask half : ℕ) → opcode < 4096 → mask < 16 → half < 2 ^ 32 → SlotsFit (layout_of RilC) (ril_c opcode mask half).slots
+fits_ril_c opcode mask half o lm lh = fields_from RilC (ril_c opcode mask half).slots refl (omega arith, (omega arith, (omega arith, (omega arith, (omega arith, (omega arith, (omega arith, (omega arith, (omega arith, (omega arith, tt))))))))))
+
+-- ---- the table lists them
+
+lgr_listed : (a b : ℕ) → IsEncoded machine_rows Rre (rre 0xb904 a b).slots
+unfolding machine_rows row_for
+lgr_listed a b = listed machine_rows Rre (rre 0xb904 a b).slots (omega arith) refl refl refl
+
+pub agr_listed : (a b : ℕ) → IsEncoded machine_rows Rre (rre 0xb908 a b).slots
+unfolding machine_rows row_for
+agr_listed a b = listed machine_rows Rre (rre 0xb908 a b).slots (omega arith) refl refl refl
+
+agrk_listed : (a b c : ℕ) → IsEncoded machine_rows RrfAb (rrf_ab 0xb9e8 a b c 0).slots
+unfolding machine_rows row_for
+agrk_listed a b c = listed machine_rows RrfAb (rrf_ab 0xb9e8 a b c 0).slots (omega arith) refl refl refl
+
+pub bcr_listed : (a b : ℕ) → IsEncoded machine_rows Rr (rr 0x07 a b).slots
+unfolding machine_rows row_for
+bcr_listed a b = listed machine_rows Rr (rr 0x07 a b).slots (omega arith) refl refl refl
+
+pub brcl_listed : (mask half : ℕ) → IsEncoded machine_rows RilC (ril_c 0xc04 mask half).slots
+unfolding machine_rows row_for
+brcl_listed mask half = listed machine_rows RilC (ril_c 0xc04 mask half).slots (omega arith) refl refl refl
+
+-- ---- what the machine does there
+
+module _ (L : Layout) (all : AllPlaced L) (offset : ℕ) (even : offset % 2 ≡ 0) where
+  pub lgr_at : (a b : ℕ) → a < 16 → b < 16 → StandsAt L.image offset (bytes_of (rre 0xb904 a b)) → RowAt L (sum64 L.image.base offset) (λ r. Perform (move64 a b r)) (length_of Rre)
+  lgr_at a b la lb s = row_at L offset (rre 0xb904 a b) (λ r. Perform (move64 a b r)) all.even even all.fits s (fits_rre 0xb904 a b (omega arith) la lb) (lgr_listed a b) (λ state event t at h. h)
+
+  pub agr_at : (a b : ℕ) → a < 16 → b < 16 → StandsAt L.image offset (bytes_of (rre 0xb908 a b)) → RowAt L (sum64 L.image.base offset) (λ r. Perform (add64 a a b r)) (length_of Rre)
+  agr_at a b la lb s = row_at L offset (rre 0xb908 a b) (λ r. Perform (add64 a a b r)) all.even even all.fits s (fits_rre 0xb908 a b (omega arith) la lb) (agr_listed a b) (λ state event t at h. h)
+
+  pub agrk_at : (a b c : ℕ) → a < 16 → b < 16 → c < 16 → StandsAt L.image offset (bytes_of (rrf_ab 0xb9e8 a b c 0)) → RowAt L (sum64 L.image.base offset) (λ r. Perform (add64 a b c r)) (length_of RrfAb)
+  agrk_at a b c la lb lc s = row_at L offset (rrf_ab 0xb9e8 a b c 0) (λ r. Perform (add64 a b c r)) all.even even all.fits s (fits_rrf_ab 0xb9e8 a b c (omega arith) la lb lc) (agrk_listed a b c) (λ state event t at h. h)
+
+  pub bcr_at : (mask b : ℕ) → mask < 16 → b < 16 → b ≢ 0 → StandsAt L.image offset (bytes_of (rr 0x07 mask b)) → RowAt L (sum64 L.image.base offset) (λ r. Branch mask (r.general b)) (length_of Rr)
+  bcr_at mask b lm lb some s = row_at L offset (rr 0x07 mask b) (λ r. Branch mask (r.general b)) all.even even all.fits s (fits_rr 0x07 mask b (omega arith) lm lb) (bcr_listed mask b) (λ state event t at h. taken (b == 0) refl state event t h)
+    where
+      taken : (n : Bool) → (b == 0) ≡ n → (state : State) (event : Event) (t : State) → Acts (cond n (performs Rattle.s390x_operations.specs.declared.effect.CodeRule.TheVariants.Kept Rattle.s390x_operations.specs.declared.effect.Effect.TheVariants.Nothing) (Branch mask (state.core.registers.general b))) (length_of Rr) state event t → Acts (Branch mask (state.core.registers.general b)) (length_of Rr) state event t
+      taken true e state event t h = absurd (some (Rattle.std.proofs.Common.eqb-true b 0 e))
+      taken false e state event t h = h
+
+  pub brcl_at : (mask target : ℕ) → mask < 16 → offset < 2 ^ 31 → target % 2 ≡ 0 → target < 2 ^ 31 → StandsAt L.image offset (bytes_of (ril_c 0xc04 mask (half_distance offset target))) → RowAt L (sum64 L.image.base offset) (λ r. Branch mask (sum64 L.image.base target)) (length_of RilC)
+  brcl_at mask target lm small even_target small_target s =
+      row_at L offset (ril_c 0xc04 mask (half_distance offset target)) (λ r. Branch mask (sum64 L.image.base target)) all.even even all.fits s (fits_ril_c 0xc04 mask (half_distance offset target) (omega arith) lm (omega arith)) (brcl_listed mask (half_distance offset target)) (λ state event t at h.
+      subst (λ a. Acts (Branch mask a) (length_of RilC) state event t) (ap (λ p. low Doubleword (pos p +ℤ pos 2 *ℤ cast_signed w32 (half_distance offset target))) at ∙ lands L.image.base offset target even even_target small small_target) h)

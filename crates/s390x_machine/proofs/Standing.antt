@@ -1,0 +1,99 @@
+-- What the premises tell of a step: where its bytes and those of its rows stand, and the places of its targets.
+use Rattle.std.proofs.Common.{◌≡◌, ℕ, zero, suc, ◌+◌, ◌%◌, ◌^◌, ◌<◌, ◌≤◌, List, [], ◌∷◌, ◌++◌, length, Option, Some, None, refl, sym, ap, ◌∙◌, subst, arith, append_assoc, length-append, slice_get}
+use Rattle.s390x_format.specs.Formats.{length_of}
+use Rattle.s390x_format.proofs.Encoding.{encode-length}
+use Rattle.s390x_steps.specs.MachineInstruction.{MachineInstruction, bytes_of, size_of, joined_bytes}
+use Rattle.s390x_steps.specs.Steps.{Step}
+use Rattle.s390x_steps.specs.Parts.{Part, Row, Branch, part_size, parts_size, step_parts, step_size}
+use Rattle.s390x_steps.specs.Rows.{Places, row_of, rows_of, rows, step_bytes}
+use Rattle.s390x_operations.specs.State.{sum64}
+use Rattle.s390x_machine.specs.Layout.{Layout, place, block_place, InStep}
+use Rattle.s390x_machine.specs.Placed.{Placed, AllPlaced, IsBlock}
+use Rattle.s390x_machine.proofs.Addresses.{sum_more}
+use Rattle.s390x_machine.proofs.Fetching.{StandsAt, size_even}
+
+-- the bytes of parts are as many as their sizes say
+row_size : (P : Places) (p : ℕ) (part : Part) → size_of (row_of P p part) ≡ part_size part
+unfolding length_of
+row_size P p (Row m) = refl
+row_size P p (Branch mask target) = refl
+
+joined_length : (P : Places) (p : ℕ) (parts : List Part) → length (joined_bytes (rows_of P p parts)) ≡ parts_size parts
+joined_length P p [] = refl
+joined_length P p (part ∷ parts) =
+    let m = row_of P p part in
+    omega (arith, length-append (bytes_of m) (joined_bytes (rows_of P (p + part_size part) parts)), encode-length m.format m.slots, row_size P p part, joined_length P (p + part_size part) parts)
+
+parts_even : (parts : List Part) → parts_size parts % 2 ≡ 0
+parts_even [] = refl
+parts_even (Row m ∷ parts) = omega (arith, size_even m.format, parts_even parts)
+parts_even (Branch mask target ∷ parts) = omega (arith, parts_even parts)
+
+pub step_even : (s : Step) → step_size s % 2 ≡ 0
+step_even s = parts_even (step_parts s)
+
+pub step_length : (P : Places) (p : ℕ) (s : Step) → length (step_bytes P p s) ≡ step_size s
+step_length P p s = joined_length P p (step_parts s)
+
+-- a step's bytes end in the image
+pub step_within : (L : Layout) (k : ℕ) (s : Step) → Placed L k s → L.places.step (suc k) ≤ length L.image.bytes
+step_within L k s p =
+    let n1 = ap length p.bytes in
+    let n2 = length-append p.earlier (step_bytes L.places (L.places.step k) s ++ p.later) in
+    let n3 = length-append (step_bytes L.places (L.places.step k) s) p.later in
+    omega (arith, n1, n2, n3, p.offset, p.size, step_length L.places (L.places.step k) s)
+
+-- the steps' offsets are even, and lie in the image or at its end
+none_past : (xs : List Step) (k : ℕ) → slice_get xs k ≡ None → suc k ≤ length xs → ⊥
+none_past [] k e le = absurd (omega arith)
+none_past (x ∷ xs) zero e le = absurd (cc)
+none_past (x ∷ xs) (suc k) e le = none_past xs k e (omega arith)
+
+next_ok : (L : Layout) → AllPlaced L → (k : ℕ) → suc k ≤ length L.steps → (L.places.step k % 2 ≡ 0) × (L.places.step k ≤ length L.image.bytes) → (o : Option Step) → slice_get L.steps k ≡ o → (L.places.step (suc k) % 2 ≡ 0) × (L.places.step (suc k) ≤ length L.image.bytes)
+next_ok L all k le before None e = absurd (none_past L.steps k e le)
+next_ok L all k le before (Some s) e = let p = all.steps k s e in (omega (arith, before.0, p.size, step_even s), step_within L k s p)
+
+offset_ok : (L : Layout) → AllPlaced L → (k : ℕ) → k ≤ length L.steps → (L.places.step k % 2 ≡ 0) × (L.places.step k ≤ length L.image.bytes)
+offset_ok L all zero le = (omega (arith, all.begins), omega (arith, all.begins))
+offset_ok L all (suc k) le = next_ok L all k le (offset_ok L all k (omega arith)) (slice_get L.steps k) refl
+
+pub offset_even : (L : Layout) → AllPlaced L → (k : ℕ) → k ≤ length L.steps → L.places.step k % 2 ≡ 0
+offset_even L all k le = (offset_ok L all k le).0
+
+pub offset_small : (L : Layout) → AllPlaced L → (k : ℕ) → k ≤ length L.steps → L.places.step k < 2 ^ 31
+offset_small L all k le = omega (arith, (offset_ok L all k le).1, all.short)
+
+-- ---- the rows of a step
+
+-- the rows stand in the image one after another
+abbrev pub RowsStand : Layout → ℕ → List MachineInstruction → Type 0
+RowsStand L p [] = Unit {0}
+RowsStand L p (m ∷ ms) = StandsAt L.image p (bytes_of m) × RowsStand L (p + size_of m) ms
+
+rows_stand : (L : Layout) (earlier later : List ℕ) (ms : List MachineInstruction) → L.image.bytes ≡ earlier ++ (joined_bytes ms ++ later) → RowsStand L (length earlier) ms
+rows_stand L earlier later [] e = tt
+rows_stand L earlier later (m ∷ ms) e =
+    let e1 : L.image.bytes ≡ earlier ++ (bytes_of m ++ (joined_bytes ms ++ later)) = e ∙ ap (λ l. earlier ++ l) (append_assoc (bytes_of m) (joined_bytes ms) later) in
+    let e2 : L.image.bytes ≡ (earlier ++ bytes_of m) ++ (joined_bytes ms ++ later) = e1 ∙ sym (append_assoc earlier (bytes_of m) (joined_bytes ms ++ later)) in
+    let n : length (earlier ++ bytes_of m) ≡ length earlier + size_of m = length-append earlier (bytes_of m) ∙ ap (λ k. length earlier + k) (encode-length m.format m.slots) in
+    (record { earlier = earlier; later = joined_bytes ms ++ later; at = refl; is = e1 }, subst (λ k. RowsStand L k ms) n (rows_stand L (earlier ++ bytes_of m) later ms e2))
+
+pub step_rows : (L : Layout) (k : ℕ) (s : Step) → Placed L k s → RowsStand L (L.places.step k) (rows L.places (L.places.step k) s)
+step_rows L k s p = subst (λ n. RowsStand L n (rows L.places (L.places.step k) s)) (sym p.offset) (rows_stand L p.earlier p.later (rows L.places (L.places.step k) s) p.bytes)
+
+-- ---- places
+
+-- the place after some bytes of a step
+pub inside_at : (L : Layout) (k n size : ℕ) → L.places.step (suc k) ≡ L.places.step k + size → n < size → InStep L k (sum64 (place L k) n)
+inside_at L k n size e lt = record { offset = L.places.step k + n; above = omega arith; below = omega (arith, e); is = sum_more L.image.base (L.places.step k) n }
+
+pub inside_first : (L : Layout) (k size : ℕ) → L.places.step (suc k) ≡ L.places.step k + size → 0 < size → InStep L k (place L k)
+inside_first L k size e lt = record { offset = L.places.step k; above = omega arith; below = omega (arith, e); is = refl }
+
+-- the place behind a step's bytes
+pub next_place : (L : Layout) (k size : ℕ) → L.places.step (suc k) ≡ L.places.step k + size → sum64 (place L k) size ≡ place L (suc k)
+next_place L k size e = sum_more L.image.base (L.places.step k) size ∙ ap (λ n. sum64 L.image.base n) (sym e)
+
+-- a block begins at its first step
+pub block_at : (L : Layout) → AllPlaced L → (b : ℕ) → IsBlock L b → block_place L b ≡ place L (L.first_step b)
+block_at L all b is = ap (λ n. sum64 L.image.base n) (all.blocks b is)

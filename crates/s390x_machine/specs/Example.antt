@@ -1,0 +1,83 @@
+-- A job of two blocks in memory at 4096, and a run of it. The first block adds `%r4` to `%r2` and begins again where the sum is negative; the second one returns.
+use Rattle.std.specs.Prelude.{ℕ, zero, suc, ◌-◌, List, [], ◌∷◌, None, if◌then◌else◌, ◌==◌, slice_index}
+use Rattle.s390x_base.specs.Registers.{general}
+use Rattle.s390x_base.specs.declared.regs.Reg.TheVariants.{Real}
+use Rattle.s390x_base.specs.declared.ir.MachLabel.{MachLabel}
+use Rattle.s390x_inst.specs.declared.ops.ALUOp.TheVariants.{Add64}
+use Rattle.s390x_inst.specs.declared.inst.Inst.{Inst}
+use Rattle.s390x_inst.specs.declared.inst.Inst.TheVariants.{AluRRR, CondBr, Ret}
+use Rattle.s390x_steps.specs.Steps.{Step, Plain}
+use Rattle.s390x_operations.specs.State.{Registers, Core, CodeImage, is_within, Lies, put, coded}
+use Rattle.s390x_operations.specs.declared.stop.ConditionCode.TheVariants.{Code0, Code1}
+use Rattle.s390x_machine.specs.Machine.{Turn, Went, Run}
+use Rattle.s390x_machine.specs.Layout.{Layout}
+use Rattle.s390x_machine.specs.Placed.{AllPlaced}
+use Rattle.s390x_machine.specs.Match.{start}
+
+-- agr %r2, %r4; jgl to the first block; jg to the second one; br %r14: as an assembler gives them
+abbrev pub image : CodeImage
+image = record {
+  base = 4096;
+  bytes = 0xb9 ∷ 0x08 ∷ 0x00 ∷ 0x24 ∷ 0xc0 ∷ 0x44 ∷ 0xff ∷ 0xff ∷ 0xff ∷ 0xfe ∷ 0xc0 ∷ 0xf4 ∷ 0x00 ∷ 0x00 ∷ 0x00 ∷ 0x03 ∷ 0x07 ∷ 0xfe ∷ [];
+}
+
+abbrev pub label : ℕ → MachLabel
+label n = record { 0 = n }
+
+abbrev pub adds : Inst
+adds = AluRRR Add64 (Real (general 2)) (Real (general 2)) (Real (general 4))
+
+abbrev pub steps : List Step
+steps = Plain adds ∷ Plain (CondBr (label 0) (label 1) 4) ∷ Plain (Ret (Real (general 14))) ∷ []
+
+abbrev pub offset : ℕ → ℕ
+offset zero = 0
+offset (suc zero) = 4
+offset (suc (suc zero)) = 16
+offset (suc (suc (suc k))) = 18
+
+abbrev pub first_step : ℕ → ℕ
+first_step zero = 0
+first_step (suc b) = 2
+
+abbrev pub L : Layout
+L = record {
+  image = image;
+  steps = steps;
+  places = record { step = offset; block = λ b. offset (first_step b) };
+  block_count = 2;
+  first_step = first_step;
+  code_at = λ o kind. None;
+}
+
+-- `%r2` is -2, `%r4` is 1 and `%r14` is 8192
+abbrev pub registers : Registers
+registers = record {
+  general = λ i. if i == 2 then 18446744073709551614 else (if i == 4 then 1 else (if i == 14 then 8192 else 0));
+  vector = λ i. 0;
+  access = λ i. 0;
+  code = Code0;
+}
+
+-- the image and nothing else is accessible
+abbrev pub core : Core
+core = record { registers = registers; memory = record { has = λ a. is_within image a; get = λ a. slice_index image.bytes (a - 4096) } }
+
+abbrev pub with_sum : ℕ → Registers → Registers
+with_sum x r = put r 2 x
+
+abbrev pub once : Core
+once = record { registers = coded Code1 (with_sum 18446744073709551615 registers); memory = core.memory }
+
+abbrev pub twice : Core
+twice = record { registers = coded Code0 (with_sum 0 once.registers); memory = core.memory }
+
+abbrev pub turn : Core → ℕ → Turn
+turn c place = record { writes = []; event = Went None; after = record { core = c; place = place } }
+
+-- -1 and round, 0 and on, to the second block, and back to the caller
+abbrev pub turns : List Turn
+turns = turn once 4100 ∷ turn once 4096 ∷ turn twice 4100 ∷ turn twice 4106 ∷ turn twice 4112 ∷ turn twice 8192 ∷ []
+
+abbrev pub LoopRuns : Type 0
+LoopRuns = AllPlaced L × Lies image core.memory × Run image (start L 0 core) turns

@@ -1,0 +1,36 @@
+-- What both sides are told of a function: its image, its typed steps, and where they stand.
+use Rattle.std.specs.Prelude.{◌≡◌, ℕ, suc, ◌<◌, ◌≤◌, List, Option}
+use Rattle.s390x_base.specs.declared.trap.TrapKind.{TrapKind}
+use Rattle.s390x_steps.specs.Steps.{Step}
+use Rattle.s390x_steps.specs.Rows.{Places}
+use Rattle.s390x_operations.specs.State.{CodeImage, sum64}
+use Rattle.s390x_operations.specs.declared.stop.StopKind.{StopKind}
+
+-- places and offsets are counted in bytes: places from address 0, offsets from the image's base
+pub record Layout : Type 0 where
+  -- the code and its constants, at their base
+  pub image : CodeImage
+  -- the typed steps, block by block
+  pub steps : List Step
+  -- the offset of each step and of each block; that of the number past the last step is the code's end
+  pub places : Places
+  pub block_count : ℕ
+  -- the number of a block's first step; where the block is empty, of the next step
+  pub first_step : ℕ → ℕ
+  -- the trap code that the tables have for a stop at an offset
+  pub code_at : ℕ → StopKind → Option TrapKind
+
+-- where a step stands
+abbrev pub place : Layout → ℕ → ℕ
+place L k = sum64 L.image.base (L.places.step k)
+
+-- where a block begins
+abbrev pub block_place : Layout → ℕ → ℕ
+block_place L b = sum64 L.image.base (L.places.block b)
+
+-- the place is that of one of a step's bytes
+pub record InStep (L : Layout) (k p : ℕ) : Type 0 where
+  pub offset : ℕ
+  pub above : L.places.step k ≤ offset
+  pub below : offset < L.places.step (suc k)
+  pub is : p ≡ sum64 L.image.base offset

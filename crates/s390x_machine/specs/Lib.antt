@@ -1,0 +1,11 @@
+pub mod Example
+pub mod Fetch
+pub mod Forms
+pub mod Functions
+pub mod Layout
+pub mod Machine
+pub mod Match
+pub mod Meanings
+pub mod Placed
+pub mod State
+pub mod Typed

@@ -1,0 +1,122 @@
+-- The typed steps: where they may go, and when they are wrong.
+use Rattle.std.specs.Prelude.{◌≡◌, ℕ, suc, ◌/◌, ◌%◌, List, Option, Some, None, Bool, true, false, ◌==◌, if◌then◌else◌, slice_get, IsTrue}
+use Rattle.s390x_base.specs.declared.ir.MachLabel.{MachLabel}
+use Rattle.s390x_base.specs.declared.trap.TrapKind.{TrapKind}
+use Rattle.s390x_steps.specs.Steps.{Step}
+use Rattle.s390x_operations.specs.State.{Registers, Core, put, coded, CodeImage, Deposit}
+use Rattle.s390x_operations.specs.Access.{deposit, stores_into}
+use Rattle.s390x_operations.specs.Effects.{access, is_selected, Goes, Stops}
+use Rattle.s390x_operations.specs.declared.stop.StopKind.{StopKind}
+use Rattle.s390x_operations.specs.declared.stop.ConditionCode.{ConditionCode}
+use Rattle.s390x_operations.specs.declared.effect.Operation.{Operation}
+use Rattle.s390x_machine.specs.Layout.{Layout, place, block_place}
+use Rattle.s390x_machine.specs.Forms.{Form, Performs, GoesTo, Chooses, GoesByAddress, Leads, GoesByTable, PerformsWhere, Returns, Calls, TailCalls, TrapsAlways, TrapsWhere, DebugStops, Silent, Unbuilt, form}
+
+-- how a run ends
+pub data Ending : Type 0 where
+  Returned : (address : ℕ) → Ending
+  Called : (address : ℕ) → Ending
+  TailCalled : (address : ℕ) → Ending
+  Trapped : (code : TrapKind) → Ending
+  DebugStopped : Ending
+
+-- where a typed run stands: at a step, or past its end
+pub data Position : Type 0 where
+  At : (step : ℕ) → Position
+  Ended : Ending → Position
+
+-- `%r1` may have any value where it is needed
+abbrev pub loosened : Bool → ℕ → Registers → Registers
+loosened false v r = r
+loosened true v r = put r 1 v
+
+abbrev pub loosen : Bool → ℕ → Core → Core
+loosen needs v c = record { registers = loosened needs v c.registers; memory = c.memory }
+
+-- an operation goes on to the next step, or it stops and ends by a trap with its code; a trap changes nothing but a needed `%r1`
+pub data OperationStep (needs : Bool) (op : Operation) (code : StopKind → Option TrapKind) (k : ℕ) (c : Core) (position : Position) (t : Core) : Type 0 where
+  goes_on : (v : ℕ) → Goes op (loosen needs v c) t → position ≡ At (suc k) → OperationStep needs op code k c position t
+  traps : (v : ℕ) (kind : StopKind) (n : TrapKind) → Stops op c.memory.has kind → code kind ≡ Some n → t ≡ loosen needs v c → position ≡ Ended (Trapped n) → OperationStep needs op code k c position t
+
+-- a listed block whose address this is
+pub record IsTarget (L : Layout) (targets : List MachLabel) (held b : ℕ) : Type 0 where
+  pub index : ℕ
+  pub label : MachLabel
+  pub listed : slice_get targets index ≡ Some label
+  pub number : label.0 ≡ b
+  pub address : held ≡ block_place L b
+
+-- the j of a table index 4j, where there is a target j
+abbrev pub table_target : ℕ → List MachLabel → Option MachLabel
+table_target index targets = if index % 4 == 0 then slice_get targets (index / 4) else None
+
+abbrev pub TableStep : Layout → Bool → Option MachLabel → (other : ℕ) → Core → Position → Core → Type 0
+TableStep L true o other c position t = (v : ℕ) × (position ≡ At (L.first_step other)) × (t ≡ loosen true v c)
+TableStep L false None other c position t = ⊥
+TableStep L false (Some l) other c position t =
+    (v : ℕ) × (code : ConditionCode) × (position ≡ At (L.first_step l.0)) × (t ≡ record { registers = coded code (put c.registers 1 v); memory = c.memory })
+
+abbrev pub WhereStep : Bool → Operation → ℕ → Core → Position → Core → Type 0
+WhereStep true op k c position t = (position ≡ At (suc k)) × Goes op c t
+WhereStep false op k c position t = (position ≡ At (suc k)) × (t ≡ c)
+
+-- a step of number k of a form
+abbrev pub FormStep : Layout → Option Form → ℕ → Core → Position → Core → Type 0
+FormStep L None k c position t = ⊥
+FormStep L (Some (Performs needs operation code)) k c position t = OperationStep needs (operation c.registers) code k c position t
+FormStep L (Some (GoesTo b)) k c position t = (position ≡ At (L.first_step b)) × (t ≡ c)
+FormStep L (Some (Chooses mask a b)) k c position t = (position ≡ At (if is_selected mask c.registers.code then L.first_step a else L.first_step b)) × (t ≡ c)
+FormStep L (Some (GoesByAddress r targets)) k c position t = (b : ℕ) × IsTarget L targets (c.registers.general r) b × (position ≡ At (L.first_step b)) × (t ≡ c)
+FormStep L (Some (Leads mask j)) k c position t = (position ≡ (if is_selected mask c.registers.code then At j else At (suc k))) × (t ≡ c)
+FormStep L (Some (GoesByTable index mask other targets)) k c position t =
+    TableStep L (is_selected mask c.registers.code) (table_target (c.registers.general index) targets) other c position t
+FormStep L (Some (PerformsWhere mask operation)) k c position t = WhereStep (is_selected mask c.registers.code) (operation c.registers) k c position t
+FormStep L (Some (Returns r)) k c position t = (position ≡ Ended (Returned (c.registers.general r))) × (t ≡ c)
+FormStep L (Some (Calls link target)) k c position t =
+    (position ≡ Ended (Called (target c.registers))) × (t ≡ record { registers = put c.registers link (place L (suc k)); memory = c.memory })
+FormStep L (Some (TailCalls target)) k c position t = (position ≡ Ended (TailCalled (target c.registers))) × (t ≡ c)
+FormStep L (Some (TrapsAlways code)) k c position t = (position ≡ Ended (Trapped code)) × (t ≡ c)
+FormStep L (Some (TrapsWhere mask code)) k c position t = (position ≡ (if is_selected mask c.registers.code then Ended (Trapped code) else At (suc k))) × (t ≡ c)
+FormStep L (Some DebugStops) k c position t = (position ≡ Ended DebugStopped) × (t ≡ c)
+FormStep L (Some Silent) k c position t = (position ≡ At (suc k)) × (t ≡ c)
+FormStep L (Some Unbuilt) k c position t = ⊥
+
+abbrev pub form_of : Option Step → Option Form
+form_of None = None
+form_of (Some s) = Some (form s)
+
+-- the form of step k; none past the last step
+abbrev pub form_at : Layout → ℕ → Option Form
+form_at L k = form_of (slice_get L.steps k)
+
+abbrev pub TypedStep : Layout → ℕ → Core → Position → Core → Type 0
+TypedStep L k c position t = FormStep L (form_at L k) k c position t
+
+-- a stop without a code, or a store, or a locked access, whose operand has a byte of the image
+pub data OperationWrong (image : CodeImage) (op : Operation) (code : StopKind → Option TrapKind) (c : Core) : Type 0 where
+  stops_uncoded : (kind : StopKind) → Stops op c.memory.has kind → code kind ≡ None → OperationWrong image op code c
+  touches_image : IsTrue (stores_into image (access op.effect)) → OperationWrong image op code c
+
+abbrev pub TableWrong : Bool → Option MachLabel → Type 0
+TableWrong true o = ⊥
+TableWrong false None = Unit {0}
+TableWrong false (Some l) = ⊥
+
+-- past the last step; at an address or an index of no target; at a wrong operation
+abbrev pub FormWrong : Layout → Option Form → Core → Type 0
+FormWrong L None c = Unit {0}
+FormWrong L (Some (Performs needs operation code)) c = OperationWrong L.image (operation c.registers) code c
+FormWrong L (Some (GoesByAddress r targets)) c = (b : ℕ) → IsTarget L targets (c.registers.general r) b → ⊥
+FormWrong L (Some (GoesByTable index mask other targets)) c = TableWrong (is_selected mask c.registers.code) (table_target (c.registers.general index) targets)
+FormWrong L (Some _) c = ⊥
+
+abbrev pub Wrong : Layout → ℕ → Core → Type 0
+Wrong L k c = FormWrong L (form_at L k) c
+
+-- what a typed step stores
+abbrev pub form_deposit : Option Form → Core → Option Deposit
+form_deposit (Some (Performs needs operation code)) c = deposit (access (operation c.registers).effect) c.memory
+form_deposit _ c = None
+
+abbrev pub typed_deposit : Layout → ℕ → Core → Option Deposit
+typed_deposit L k c = form_deposit (form_at L k) c

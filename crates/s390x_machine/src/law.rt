@@ -1,0 +1,55 @@
+//! The laws of the typed steps and the machine.
+ghost use Rattle.std.specs.Prelude.{◌≡◌, ℕ, List, length, Option, Some, None, slice_get};
+ghost use Rattle.s390x_base.specs.declared.trap.TrapKind.{TrapKind};
+ghost use Rattle.s390x_steps.specs.Tree.{Tree};
+ghost use Rattle.s390x_operations.specs.declared.stop.StopKind.{StopKind};
+ghost use Rattle.s390x_machine.specs.Functions.{function_layout, StandsAsCode};
+ghost use Rattle.s390x_steps.specs.Causes.{blocks_cause};
+ghost use Rattle.s390x_steps.specs.Ranges.{BlocksInRange};
+ghost use Rattle.s390x_steps.specs.Steps.{Step, function_steps};
+ghost use Rattle.s390x_machine.specs.Layout.{Layout};
+ghost use Rattle.s390x_machine.specs.Placed.{AllPlaced, IsBlock, IsFine};
+ghost use Rattle.s390x_machine.specs.Match.{StepRuns, StepHolds, EveryRun, EveryBlockRun};
+ghost use Rattle.s390x_machine.specs.Fetch.{Fetched, Fetches};
+ghost use Rattle.s390x_operations.specs.State.{CodeImage, Memory};
+ghost use Rattle.s390x_machine.specs.Example.{LoopRuns};
+
+/// Wherever a step's bytes lie in an image at their place, every machine run from there is allowed by at most that step, or begins with a run of at most four turns that is that step.
+pub fn each_step()
+    ensures { (L : Layout) → AllPlaced L → (k : ℕ) (s : Step) → slice_get L.steps k ≡ Some s → StepHolds L k }
+{}
+
+/// The same with all that the step stores and every stop told.
+pub fn each_step_tells()
+    ensures { (L : Layout) → AllPlaced L → (k : ℕ) (s : Step) → slice_get L.steps k ≡ Some s → StepRuns L k }
+{}
+
+/// Where an image begins with a function's code, and emission lets each step pass, the premises hold of the function's layout.
+pub fn code_is_placed()
+    ensures { (ts : List Tree) (image : CodeImage) (code_at : ℕ → StopKind → Option TrapKind) → StandsAsCode ts image code_at → AllPlaced (function_layout ts image code_at) }
+{}
+
+/// Emission lets each step pass of a function that has no cause of refusal, with n labels in use.
+pub fn checked_steps_are_fine()
+    ensures { (ts : List Tree) (n : ℕ) (image : CodeImage) (code_at : ℕ → StopKind → Option TrapKind) → blocks_cause (length ts) n ts ≡ None → BlocksInRange ts → (k : ℕ) (s : Step) → slice_get (function_steps ts) k ≡ Some s → IsFine (function_layout ts image code_at) s }
+{}
+
+/// Every machine run from a step's place, in every state in which the image lies in memory and under every list of others' writes, is allowed by the typed steps.
+pub fn every_run()
+    ensures { (L : Layout) → AllPlaced L → (k : ℕ) → EveryRun L k }
+{}
+
+/// The same from the start of each block.
+pub fn every_block_run()
+    ensures { (L : Layout) → AllPlaced L → (b : ℕ) → IsBlock L b → EveryBlockRun L b }
+{}
+
+/// What stands at a place is one thing: no bytes belong to two machine rows.
+pub fn one_instruction()
+    ensures { (m : Memory) (p : ℕ) (f g : Fetched) → Fetches m p f → Fetches m p g → f ≡ g }
+{}
+
+/// The premises can be met: a job of two blocks in memory, and a run of it that goes round a loop, leaves it and returns.
+pub fn a_loop_runs()
+    ensures { LoopRuns }
+{}

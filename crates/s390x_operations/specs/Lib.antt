@@ -1,0 +1,9 @@
+pub mod Access
+pub mod Bits
+pub mod Effects
+pub mod Numbers
+pub mod Signed
+pub mod State
+pub mod Unsigned
+pub mod Values
+pub mod Vectors
