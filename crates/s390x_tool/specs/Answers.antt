@@ -5,6 +5,8 @@ use Rattle.hex.specs.Hex.{encode_lower}
 use Rattle.s390x_base.specs.declared.error.EmitError.{EmitError}
 use Rattle.s390x_buffer.specs.declared.entries.MachBufferFinalized.{MachBufferFinalized}
 use Rattle.s390x_emit_int.specs.Function.{IsImage, function_cause, trees_of, constants_of}
+use Rattle.s390x_emit_int.specs.Headline.{RunsAsTyped}
+use Rattle.s390x_steps.specs.Ranges.{BlocksInRange}
 use Rattle.s390x_image.specs.declared.error.LinkError.{LinkError}
 use Rattle.s390x_image.specs.Causes.{link_cause}
 use Rattle.s390x_image.specs.Fields.{filled}
@@ -32,9 +34,10 @@ symbols_of j = with_symbols no_symbols j.symbols.items
 abbrev pub cause_of : Job → Option EmitError
 cause_of j = function_cause (trees_of j.function) (constants_of j.function) j.state
 
--- the code of a job's function, which isn't refused
+-- the code of a job's function, which isn't refused and whose numbers lie in their ranges
 pub record IsCode (j : Job) (code : MachBufferFinalized) : Type 0 where
   pub valid : cause_of j ≡ None
+  pub ranges : BlocksInRange (trees_of j.function)
   pub emitted : IsImage (trees_of j.function) (constants_of j.function) code
 
 -- the first cause by which linking refuses a job's code at a base
@@ -48,10 +51,12 @@ pub record IsImageAt (base : ℕ) (j : Job) (bytes : List ℕ) : Type 0 where
   pub linked : link_cause_of base j code ≡ None
   pub filled : bytes ≡ filled base (symbols_of j) code.relocs.items code.bytes.items
 
--- the text of `image`: the image in lower-case hex, and a line feed
+-- The text of `image`: the image in lower-case hex, and a line feed. A machine that fetches the image at the base from any
+-- block's start does only what the job's typed instructions allow, in every state and under every list of others' writes.
 pub record IsImageText (base : ℕ) (j : Job) (text : List ℕ) : Type 0 where
   pub bytes : List ℕ
   pub image : IsImageAt base j bytes
+  pub runs : RunsAsTyped (trees_of j.function) (record { base = base; bytes = bytes })
   pub spelled : text ≡ line (encode_lower bytes)
 
 -- emission refuses the job's function by its first cause

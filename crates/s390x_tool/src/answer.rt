@@ -9,6 +9,7 @@ use crate::words::Command;
 use s390x_base::NoMemory;
 use s390x_buffer::MachBufferFinalized;
 use s390x_emit_int::emit_function;
+use s390x_emit_int::headline::linked_code_runs_as_typed;
 use s390x_image::{SymbolTable, link};
 use s390x_job::{Job, LineError, SymbolLine, read_lines};
 use std::alloc::Global;
@@ -53,7 +54,10 @@ fn linked(alloc: Global, base: u64, job: &Job, code: &MachBufferFinalized) -> Re
         return no_memory();
     };
     match link(alloc, code, base, &symbols) {
-        Ok(image) => in_hex(alloc, &image.bytes),
+        Ok(image) => {
+            linked_code_runs_as_typed();
+            in_hex(alloc, &image.bytes)
+        }
         Err(error) => link_refused(error),
     }
 }

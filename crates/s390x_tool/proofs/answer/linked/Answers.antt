@@ -8,7 +8,7 @@ pub returns-in-Ok-link : goal.returns-in-Ok-link
 returns-in-Ok-link c =
     let symbols = c.in-Ok.ensures ∙ ap (with_symbols no_symbols) c.deref.ensures.value in
     let answer = rw symbols at c.in-Ok-link.ensures.answer in
-    reply_of_image c.args.base c.args.job.now c.deref-in-Ok-link.result.now _ _
+    reply_of_image c.args.base c.args.job.now c.deref-in-Ok-link.result.now _ _ c.linked_code_runs_as_typed.ensures
     (record { code = c.args.code.now; is = c.requires; linked = answer.0; filled = c.deref-in-Ok-link.ensures.value ∙ answer.2 })
     c.in_hex.ensures
 
