@@ -1,6 +1,6 @@
 -- From the replies of the parts to the answer.
-use Rattle.std.proofs.Common.{◌≡◌, ℕ, ◌⊎◌, inl, inr, List, Some, sym, ◌∙◌, refl, subst, ap}
-use Rattle.std.specs.Prelude.{codes, ◌++◌}
+use Rattle.std.proofs.Common.{◌≡◌, ℕ, ◌⊎◌, inl, inr, List, Some, None, sym, ◌∙◌, refl, subst, ap}
+use Rattle.std.specs.Prelude.{codes, ◌++◌, Option}
 use Rattle.std.specs.Fmt.{decimal}
 use Rattle.hex.specs.Hex.{encode_lower}
 use Rattle.s390x_base.specs.declared.error.EmitError.{EmitError}
