@@ -3,7 +3,7 @@ use Rattle.std.proofs.Common.{◌≡◌, ℕ, zero, suc, ◌+◌, ◌-◌, ◌<�
 use Rattle.std.proofs.lemmas.List.{length-map, length-replicate, get_or_append_left, get_or-append-add, get_or-take, get_or-drop}
 use Rattle.s390x_buffer.specs.State.{State, Constant, fresh}
 use Rattle.s390x_buffer.specs.Patch.{place_in, place_of, patch_all}
-use Rattle.s390x_buffer.specs.Constants.{constant_start, constant_starts, constant_bytes, greatest_align}
+use Rattle.s390x_buffer.specs.Constants.{constant_start, constant_starts, constant_bytes, constants_end, greatest_align}
 use Rattle.s390x_buffer.specs.Finish.{Finished, bind_constants, final_labels, starts_of_constants, placed_site}
 use Rattle.s390x_buffer.specs.declared.entries.MachBufferFinalized.{MachBufferFinalized}
 use Rattle.s390x_inst.specs.declared.function.Block.{Block}
@@ -27,6 +27,7 @@ use Rattle.s390x_emit_int.proofs.Names.{all_names}
 use Rattle.s390x_emit_int.proofs.Starts.{Same, same_run, starts_run, marks}
 use Rattle.s390x_emit_int.proofs.Functions.{function_wide, TellsBlocks, all_bound, function_join, function_marks, block_at, blocks_upto, places_upto, place_follows, place_zero, bound_state, block_state, block_labels, block_kept, longer}
 use Rattle.s390x_buffer.specs.declared.entries.LabelFixup.{LabelFixup}
+use Rattle.s390x_buffer.proofs.Placing.{length-constant_bytes}
 
 -- the uses lie within the bytes
 within_run : (ps : List Piece) (s : State) → Within (length s.bytes) s.uses → Wide ps → Within (length (run s ps).bytes) (run s ps).uses
@@ -106,8 +107,11 @@ image_of ts cs u0 f emitted fin0 =
     let within : Within (length u.bytes) u.uses = within_run ps s0 tt wide in
     let body : patched off u ≡ function_code ts = patched_run ps s0 off tt wide ∙ code_is ts off n agree (all_names b n ts emitted.fine) bound in
     let size : length u.bytes ≡ length (function_code ts) = sym (length-patch_all off u.uses u.bytes) ∙ ap length body in
+    let whole : f.bytes.items ≡ function_code ts ++ constant_bytes (length (function_code ts)) cs = fin.bytes ∙ all_left off u.uses u.bytes (constant_bytes (length u.bytes) u.constants) within ∙ ap (λ l. l ++ constant_bytes (length u.bytes) u.constants) body ∙ ap (λ m. function_code ts ++ constant_bytes m u.constants) size ∙ ap (λ x. function_code ts ++ constant_bytes (length (function_code ts)) x) same.constants in
+    let ends : length f.bytes.items ≡ constants_end (length u.bytes) u.constants = ap length whole ∙ length-append (function_code ts) (constant_bytes (length (function_code ts)) cs) ∙ length-constant_bytes (length (function_code ts)) cs ∙ ap (λ m. constants_end m cs) (sym size) ∙ ap (constants_end (length u.bytes)) (sym same.constants) in
     record {
-      bytes = fin.bytes ∙ all_left off u.uses u.bytes (constant_bytes (length u.bytes) u.constants) within ∙ ap (λ l. l ++ constant_bytes (length u.bytes) u.constants) body ∙ ap (λ m. function_code ts ++ constant_bytes m u.constants) size ∙ ap (λ x. function_code ts ++ constant_bytes (length (function_code ts)) x) same.constants;
+      short = omega (arith, ends, fin.small);
+      bytes = whole;
       block_starts = fin.block_starts ∙ ap (λ m. map place_of (take m u.labels)) count ∙ places_upto b 0 u.labels off (omega arith) blocks ∙ blocks_upto ts off at n 0 0 bound follow;
       constant_starts = fin.constant_starts ∙ ap (λ m. constant_starts m u.constants) size ∙ ap (λ x. constant_starts (length (function_code ts)) x) same.constants;
       starts = fin.starts ∙ starts_run ps s0 ∙ ap (λ m. marks m ps) (sym (place_zero all)) ∙ function_marks ts at n 0 0 follow;

@@ -12,3 +12,4 @@ pub mod Trees
 pub mod Answering
 pub mod Lengths
 pub mod FirstCauses
+pub mod Linked

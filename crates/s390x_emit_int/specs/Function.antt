@@ -1,5 +1,5 @@
 -- A function: its image, and the first cause that refuses it.
-use Rattle.std.specs.Prelude.{◌≡◌, ℕ, ◌+◌, List, [], ◌++◌, length, map, ◌&&◌, nat_lt, nat_eq, Option}
+use Rattle.std.specs.Prelude.{◌≡◌, ℕ, ◌+◌, ◌<◌, List, [], ◌++◌, length, map, ◌&&◌, nat_lt, nat_eq, Option}
 use Rattle.s390x_base.specs.declared.error.EmitError.{EmitError}
 use Rattle.s390x_base.specs.declared.error.EmitError.TheVariants.{BadStackState, LabelOutOfRange}
 use Rattle.s390x_inst.specs.Emission.{Emission}
@@ -39,6 +39,7 @@ pub record IsImage (ts : List Tree) (cs : List Constant) (f : MachBufferFinalize
   pub patchable_sites : f.patchable_sites.items ≡ []
   pub stack_maps : f.stack_maps.items ≡ []
   pub alignment : f.alignment ≡ greatest_align 4 cs
+  pub short : length f.bytes.items < limit
 
 -- the stack sizes at the beginning are 0
 abbrev pub start_cause : Emission → Option EmitError

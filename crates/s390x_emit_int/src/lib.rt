@@ -4,5 +4,8 @@
 pub mod causes;
 pub mod check;
 pub mod function;
+pub mod headline;
 pub mod leaf;
 pub mod tree;
+
+pub use function::emit_function;

@@ -11,7 +11,8 @@ use Rattle.s390x_format.specs.declared.kind.FormatKind.TheVariants.{Rr, Rre, Rrf
 use Rattle.s390x_format.specs.Layout.{SlotsFit}
 use Rattle.s390x_format.specs.Formats.{layout_of, length_of}
 use Rattle.s390x_format.specs.Fits.{fields_from}
-use Rattle.s390x_format.specs.Lookup.{row_for, listed}
+use Rattle.s390x_format.specs.Lookup.{row_for}
+use Rattle.s390x_format.proofs.Encoding.{listed}
 use Rattle.s390x_format.specs.Fetch.{machine_rows}
 use Rattle.s390x_format.specs.Encoded.{IsEncoded}
 use Rattle.s390x_steps.specs.Causes.{is_general, is_nonzero}
@@ -58,23 +59,23 @@ fits_ril_c opcode mask half o lm lh = fields_from RilC (ril_c opcode mask half).
 
 lgr_listed : (a b : ℕ) → IsEncoded machine_rows Rre (rre 0xb904 a b).slots
 unfolding machine_rows row_for
-lgr_listed a b = listed machine_rows Rre (rre 0xb904 a b).slots (omega arith) refl refl refl
+lgr_listed a b = listed machine_rows Rre (rre 0xb904 a b).slots (omega arith) (refl, refl, refl)
 
 pub agr_listed : (a b : ℕ) → IsEncoded machine_rows Rre (rre 0xb908 a b).slots
 unfolding machine_rows row_for
-agr_listed a b = listed machine_rows Rre (rre 0xb908 a b).slots (omega arith) refl refl refl
+agr_listed a b = listed machine_rows Rre (rre 0xb908 a b).slots (omega arith) (refl, refl, refl)
 
 agrk_listed : (a b c : ℕ) → IsEncoded machine_rows RrfAb (rrf_ab 0xb9e8 a b c 0).slots
 unfolding machine_rows row_for
-agrk_listed a b c = listed machine_rows RrfAb (rrf_ab 0xb9e8 a b c 0).slots (omega arith) refl refl refl
+agrk_listed a b c = listed machine_rows RrfAb (rrf_ab 0xb9e8 a b c 0).slots (omega arith) (refl, refl, refl)
 
 pub bcr_listed : (a b : ℕ) → IsEncoded machine_rows Rr (rr 0x07 a b).slots
 unfolding machine_rows row_for
-bcr_listed a b = listed machine_rows Rr (rr 0x07 a b).slots (omega arith) refl refl refl
+bcr_listed a b = listed machine_rows Rr (rr 0x07 a b).slots (omega arith) (refl, refl, refl)
 
 pub brcl_listed : (mask half : ℕ) → IsEncoded machine_rows RilC (ril_c 0xc04 mask half).slots
 unfolding machine_rows row_for
-brcl_listed mask half = listed machine_rows RilC (ril_c 0xc04 mask half).slots (omega arith) refl refl refl
+brcl_listed mask half = listed machine_rows RilC (ril_c 0xc04 mask half).slots (omega arith) (refl, refl, refl)
 
 -- ---- what the machine does there
 
