@@ -1,5 +1,5 @@
 -- From the replies of the parts to the answer.
-use Rattle.std.proofs.Common.{◌≡◌, ℕ, ◌⊎◌, inl, inr, List, Some, None, sym, ◌∙◌, refl, subst, ap}
+use Rattle.std.proofs.Common.{◌≡◌, ℕ, ◌⊎◌, inl, inr, List, Some, None, sym, ◌∙◌, refl, subst}
 use Rattle.std.specs.Prelude.{codes, ◌++◌, Option}
 use Rattle.std.specs.Fmt.{decimal}
 use Rattle.hex.specs.Hex.{encode_lower}
@@ -74,7 +74,7 @@ pub image_runs : RunsWhereLinked → (base : ℕ) (j : Job) (bytes : List ℕ) �
 image_runs law base j bytes image =
     let same : bytes ≡ image.code.bytes.items = image.filled ∙ rw image.is.emitted.relocs refl in
     let runs = law (trees_of j.function) (constants_of j.function) image.code base (symbols_of j)
-        (second_none (start_cause j.state) _ image.is.valid) image.is.ranges image.is.emitted image.linked in
+    (second_none (start_cause j.state) _ image.is.valid) image.is.ranges image.is.emitted image.linked in
     let P : List ℕ → Type 0 = λ bs. RunsAsTyped (trees_of j.function) (record { base = base; bytes = bs }) in
     subst P (sym same) runs
 
