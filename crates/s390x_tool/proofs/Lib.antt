@@ -1,0 +1,5 @@
+pub mod Numbers
+pub mod Pieces
+pub mod Replying
+pub mod Answering
+pub mod Completing

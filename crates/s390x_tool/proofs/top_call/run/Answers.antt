@@ -1,0 +1,12 @@
+use Rattle.s390x_tool.proofs.Completing.{completed}
+use Rattle.s390x_tool.proofs.Replying.{done_result, usage_result}
+use Rattle.s390x_tool.proofs.top_call.run.Goals as goal
+
+pub returns-clause-always_usage : goal.returns-clause-always_usage
+returns-clause-always_usage g c = usage_result _ _ _ _ _ _ _ _ c.reply_to-reply.ensures c.deliver.ensures
+
+pub returns-clause-ok : goal.returns-clause-ok
+returns-clause-ok g c = done_result _ _ _ _ _ _ _ _ c.reply_to-reply.ensures c.deliver.ensures
+
+pub returns-clause-complete : goal.returns-clause-complete
+returns-clause-complete g c = completed _ _ _ _ _ _ _ _ c.reply_to-reply.ensures c.deliver.ensures

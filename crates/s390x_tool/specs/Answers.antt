@@ -1,0 +1,115 @@
+-- The answers to a command and its whole input.
+use Rattle.std.specs.Prelude.{ℕ, ◌≡◌, ◌≤◌, List, [], ◌∷◌, ◌++◌, length, codes, Option, Some, None}
+use Rattle.std.specs.Fmt.{decimal}
+use Rattle.hex.specs.Hex.{encode_lower}
+use Rattle.s390x_base.specs.declared.error.EmitError.{EmitError}
+use Rattle.s390x_buffer.specs.declared.entries.MachBufferFinalized.{MachBufferFinalized}
+use Rattle.s390x_emit_int.specs.Function.{IsImage, function_cause, trees_of, constants_of}
+use Rattle.s390x_emit_int.specs.Headline.{RunsAsTyped}
+use Rattle.s390x_steps.specs.Ranges.{BlocksInRange}
+use Rattle.s390x_image.specs.declared.error.LinkError.{LinkError}
+use Rattle.s390x_image.specs.Causes.{link_cause}
+use Rattle.s390x_image.specs.Fields.{filled}
+use Rattle.s390x_image.specs.Symbols.{Symbols, no_symbols, with_address}
+use Rattle.s390x_job.specs.Jobs.{text_of_job, IsJob}
+use Rattle.s390x_job.specs.Completions.{pieces, IsFirstWrong}
+use Rattle.s390x_job.specs.declared.job.Job.{Job}
+use Rattle.s390x_job.specs.declared.job.SymbolLine.{SymbolLine}
+use Rattle.s390x_tool.specs.Lines.{line, error_name, link_error_name}
+use Rattle.s390x_tool.specs.declared.words.Command.{Command}
+use Rattle.s390x_tool.specs.declared.words.Command.TheVariants.{Image}
+use Rattle.s390x_tool.specs.declared.status.Status.{Status}
+use Rattle.s390x_tool.specs.declared.status.Status.TheVariants as status
+
+-- a table with the symbols of these lines, each in place of an earlier one
+abbrev pub with_symbols : Symbols → List SymbolLine → Symbols
+with_symbols table [] = table
+with_symbols table (s ∷ ss) = with_symbols (with_address table s.name s.address) ss
+
+-- the addresses of a job's symbols
+abbrev pub symbols_of : Job → Symbols
+symbols_of j = with_symbols no_symbols j.symbols.items
+
+-- the first cause by which emission refuses a job's function
+abbrev pub cause_of : Job → Option EmitError
+cause_of j = function_cause (trees_of j.function) (constants_of j.function) j.state
+
+-- the code of a job's function, which isn't refused and whose numbers lie in their ranges
+pub record IsCode (j : Job) (code : MachBufferFinalized) : Type 0 where
+  pub valid : cause_of j ≡ None
+  pub ranges : BlocksInRange (trees_of j.function)
+  pub emitted : IsImage (trees_of j.function) (constants_of j.function) code
+
+-- the first cause by which linking refuses a job's code at a base
+abbrev pub link_cause_of : ℕ → Job → MachBufferFinalized → Option LinkError
+link_cause_of base j code = link_cause code base (symbols_of j)
+
+-- the image of a job's function at a base: its code and constants, with the relocations' fields filled
+pub record IsImageAt (base : ℕ) (j : Job) (bytes : List ℕ) : Type 0 where
+  pub code : MachBufferFinalized
+  pub is : IsCode j code
+  pub linked : link_cause_of base j code ≡ None
+  pub filled : bytes ≡ filled base (symbols_of j) code.relocs.items code.bytes.items
+
+-- The text of `image`: the image in lower-case hex, and a line feed. A machine that fetches the image at the base from any
+-- block's start does only what the job's typed instructions allow, in every state and under every list of others' writes.
+pub record IsImageText (base : ℕ) (j : Job) (text : List ℕ) : Type 0 where
+  pub bytes : List ℕ
+  pub image : IsImageAt base j bytes
+  pub runs : RunsAsTyped (trees_of j.function) (record { base = base; bytes = bytes })
+  pub spelled : text ≡ line (encode_lower bytes)
+
+-- emission refuses the job's function by its first cause
+pub record IsRefused (j : Job) (text : List ℕ) : Type 0 where
+  pub error : EmitError
+  pub cause : cause_of j ≡ Some error
+  pub spelled : text ≡ line (codes "refused " ++ error_name error)
+
+-- linking refuses the job's code by its first cause
+pub record IsLinkRefused (base : ℕ) (j : Job) (text : List ℕ) : Type 0 where
+  pub code : MachBufferFinalized
+  pub is : IsCode j code
+  pub error : LinkError
+  pub cause : link_cause_of base j code ≡ Some error
+  pub spelled : text ≡ line (codes "link " ++ link_error_name error)
+
+-- the reply of `image` to a job
+abbrev pub IsImageReply : ℕ → Job → Status → List ℕ → Type 0
+IsImageReply base j status.Ok text = IsImageText base j text
+IsImageReply base j status.Refused text = IsRefused j text
+IsImageReply base j status.LinkRefused text = IsLinkRefused base j text
+IsImageReply base j status.NoMemory text = text ≡ line (codes "no memory")
+IsImageReply base j s text = ⊥
+
+-- the reply of a command to a job
+abbrev pub IsJobReply : Command → Job → Status → List ℕ → Type 0
+IsJobReply (Image base) j s text = IsImageReply base j s text
+
+-- the input is the text of a job, and this is the command's reply to it
+pub record IsJobAnswer (command : Command) (input : List ℕ) (s : Status) (text : List ℕ) : Type 0 where
+  pub job : Job
+  pub is : IsJob job
+  pub spelled : text_of_job job ≡ input
+  pub reply : IsJobReply command job s text
+
+-- the input is the text of no job, and this is its first wrong line
+pub record IsSyntax (input text : List ℕ) : Type 0 where
+  pub no_job : (j : Job) → IsJob j → text_of_job j ≡ input → ⊥
+  pub number : ℕ
+  pub first : IsFirstWrong (pieces input) number
+  pub spelled : text ≡ line (codes "syntax " ++ decimal number)
+
+-- the answer to a command and its whole input
+abbrev pub IsAnswer : Command → List ℕ → Status → List ℕ → Type 0
+IsAnswer command input status.Syntax text = IsSyntax input text
+IsAnswer command input status.NoMemory text = text ≡ line (codes "no memory")
+IsAnswer command input s text = IsJobAnswer command input s text
+
+-- The input is the text of a job, and neither emission nor linking at this base has a cause to refuse one with this text.
+pub record IsAccepted (base : ℕ) (input : List ℕ) : Type 0 where
+  pub short : length input ≤ 16777216
+  pub job : Job
+  pub is : IsJob job
+  pub spelled : text_of_job job ≡ input
+  pub valid : (j : Job) → IsJob j → text_of_job j ≡ input → cause_of j ≡ None
+  pub links : (j : Job) (code : MachBufferFinalized) → IsJob j → text_of_job j ≡ input → IsCode j code → link_cause_of base j code ≡ None

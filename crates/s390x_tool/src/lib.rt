@@ -1,0 +1,21 @@
+//! The top call of the s390x machine layer: its sources and sinks, its words, and `run`.
+#![tactic(auto)]
+
+pub mod answer;
+pub mod ends;
+pub mod in_memory;
+pub mod input;
+pub mod output;
+pub mod reply;
+pub mod standard;
+pub mod status;
+#[cfg(test)]
+mod tests;
+pub mod top_call;
+pub mod words;
+
+pub use ends::{Failed, Sink, Source};
+pub use in_memory::{BytesSink, BytesSource};
+pub use standard::{StdSink, StdSource};
+pub use status::Status;
+pub use top_call::run;

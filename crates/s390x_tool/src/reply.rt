@@ -1,0 +1,130 @@
+//! Replies: a status, and the text that is written with it.
+ghost use Rattle.std.specs.Prelude.{◌≡◌, ◌++◌, codes, IfOk, OnErr, string_bytes};
+ghost use Rattle.std.specs.Cow.{cow_str_bytes};
+ghost use Rattle.std.specs.Fmt.{decimal};
+ghost use Rattle.hex.specs.Hex.{encode_lower};
+ghost use Rattle.s390x_tool.specs.Lines.{line, error_name, link_error_name, IsLinkRefusal, IsMade, IsRefusal};
+
+use crate::status::Status;
+use s390x_base::EmitError;
+use s390x_image::LinkError;
+use std::alloc::{AllocError, Global};
+use std::borrow::CowStr;
+
+/// A status, and the text that is written with it.
+#[derive(Drop)]
+pub struct Reply {
+    pub status: Status,
+    pub text: CowStr<'static>,
+}
+
+/// A reply with a line that is the same each time.
+pub fn fixed(status: Status, text: &'static str) -> Reply
+    ensures status { result.status ≡ status }
+    ensures text { cow_str_bytes result.text ≡ text.entry.now }
+{
+    Reply {
+        status,
+        text: CowStr::Borrowed(text),
+    }
+}
+
+/// The reply where memory doesn't suffice.
+pub fn no_memory() -> Reply
+    ensures status { result.status ≡ Status.NoMemory }
+    ensures text { cow_str_bytes result.text ≡ line (codes "no memory") }
+{
+    fixed(Status::NoMemory, "no memory\n")
+}
+
+/// A reply with a text that was made, or that memory doesn't suffice for.
+pub fn made(status: Status, text: Result<String, AllocError>) -> Reply
+    ensures ok { IfOk text (λ t. (result.status ≡ status) × (cow_str_bytes result.text ≡ string_bytes t)) }
+    ensures err { OnErr text ((result.status ≡ Status.NoMemory) × (cow_str_bytes result.text ≡ line (codes "no memory"))) }
+{
+    match text {
+        Ok(text) => Reply {
+            status,
+            text: CowStr::Owned(text),
+        },
+        Err(_) => no_memory(),
+    }
+}
+
+/// The reply to an input that is no text of a job: the number of its first line that is at fault.
+pub fn syntax(alloc: Global, number: u32) -> Reply
+    ensures { IsMade Status.Syntax (line (codes "syntax " ++ decimal number)) result.status (cow_str_bytes result.text) }
+{
+    made(Status::Syntax, format!(in alloc; "syntax {number}\n"))
+}
+
+/// The reply with bytes in hex.
+pub fn in_hex(alloc: Global, bytes: &[u8]) -> Reply
+    ensures { IsMade Status.Ok (line (encode_lower bytes.now)) result.status (cow_str_bytes result.text) }
+{
+    made(Status::Ok, hex_line(alloc, bytes))
+}
+
+// Bytes in lower-case hex, and a line feed.
+fn hex_line(alloc: Global, bytes: &[u8]) -> Result<String, AllocError>
+    ensures { IfOk result (λ text. string_bytes text ≡ line (encode_lower bytes.now)) }
+{
+    let mut text = hex::encode(alloc, bytes)?;
+    text.push_str("\n")?;
+    Ok(text)
+}
+
+/// The reply to a job that emission refuses.
+pub fn refused(error: EmitError) -> Reply
+    ensures { IsRefusal error result.status (cow_str_bytes result.text) }
+{
+    match error {
+        EmitError::NoMemory => no_memory(),
+        _ => fixed(Status::Refused, refusal_line(error)),
+    }
+}
+
+// The line for a refusal of emission.
+fn refusal_line(error: EmitError) -> &'static str
+    ensures { result.now ≡ line (codes "refused " ++ error_name error) }
+{
+    match error {
+        EmitError::MissingFacility => "refused MissingFacility\n",
+        EmitError::BadOperator => "refused BadOperator\n",
+        EmitError::BadRegister => "refused BadRegister\n",
+        EmitError::ScratchConflict => "refused ScratchConflict\n",
+        EmitError::OffsetOutOfRange => "refused OffsetOutOfRange\n",
+        EmitError::BreakOutsideLoop => "refused BreakOutsideLoop\n",
+        EmitError::BadStackState => "refused BadStackState\n",
+        EmitError::UnboundLabel => "refused UnboundLabel\n",
+        EmitError::BadAlignment => "refused BadAlignment\n",
+        EmitError::LabelOutOfRange => "refused LabelOutOfRange\n",
+        EmitError::Failed => "refused Failed\n",
+        EmitError::NoMemory => "refused NoMemory\n",
+    }
+}
+
+/// The reply to a job whose code isn't linked.
+pub fn link_refused(error: LinkError) -> Reply
+    ensures { IsLinkRefusal error result.status (cow_str_bytes result.text) }
+{
+    match error {
+        LinkError::NoMemory => no_memory(),
+        _ => fixed(Status::LinkRefused, link_refusal_line(error)),
+    }
+}
+
+// The line for a refusal of linking.
+fn link_refusal_line(error: LinkError) -> &'static str
+    ensures { result.now ≡ line (codes "link " ++ link_error_name error) }
+{
+    match error {
+        LinkError::MisalignedBase => "link MisalignedBase\n",
+        LinkError::ImageTooHigh => "link ImageTooHigh\n",
+        LinkError::UndefinedSymbol => "link UndefinedSymbol\n",
+        LinkError::AddressOverflow => "link AddressOverflow\n",
+        LinkError::OddSymbol => "link OddSymbol\n",
+        LinkError::TooFar => "link TooFar\n",
+        LinkError::NoMemory => "link NoMemory\n",
+    }
+}

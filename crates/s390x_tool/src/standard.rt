@@ -1,0 +1,71 @@
+//! Standard input and output as a source and a sink.
+ghost use Rattle.std.specs.Prelude.{◌≡◌};
+
+use crate::ends::{Failed, Sink, Source};
+use std::io::{Read, Write};
+
+/// The source over a reader. It tells what its reader tells: nothing, for standard input.
+#[derive(Drop)]
+pub struct StdSource<R: Read> {
+    input: R,
+    faults: u64,
+}
+
+impl<R: Read> StdSource<R> {
+    /// The source over this reader, with no fault counted.
+    pub fn new(input: R) -> StdSource<R>
+        ensures { result ≡ record { input = input; faults = 0 } }
+    {
+        StdSource { input, faults: 0 }
+    }
+}
+
+impl<R: Read> Source for StdSource<R> {
+    ghost left = { λ s. R.remaining s.input };
+
+    ghost faults = { λ s. s.faults };
+
+    /// Reads once. Each error is counted.
+    fn read(&mut self, buf: &mut [u8]) -> Result<usize, Failed> {
+        match self.input.read(buf) {
+            Ok(count) => Ok(count),
+            Err(_) => {
+                self.faults = self.faults.saturating_add(1);
+                Err(Failed)
+            }
+        }
+    }
+}
+
+/// The sink over a writer. It tells what its writer tells: nothing, for standard output.
+#[derive(Drop)]
+pub struct StdSink<W: Write> {
+    output: W,
+    faults: u64,
+}
+
+impl<W: Write> StdSink<W> {
+    /// The sink over this writer, with no fault counted.
+    pub fn new(output: W) -> StdSink<W>
+        ensures { result ≡ record { output = output; faults = 0 } }
+    {
+        StdSink { output, faults: 0 }
+    }
+}
+
+impl<W: Write> Sink for StdSink<W> {
+    ghost told = { λ s. W.contents s.output };
+
+    ghost faults = { λ s. s.faults };
+
+    /// Writes once. Each error is counted, and so is a write that takes nothing of a piece that isn't empty.
+    fn write(&mut self, piece: &[u8]) -> Result<usize, Failed> {
+        match self.output.write(piece) {
+            Ok(count) if count > 0 || piece.is_empty() => Ok(count),
+            _ => {
+                self.faults = self.faults.saturating_add(1);
+                Err(Failed)
+            }
+        }
+    }
+}

@@ -1,0 +1,35 @@
+//! How the program ends.
+ghost use Rattle.std.specs.Prelude.{◌≡◌};
+ghost use Rattle.s390x_tool.specs.Status.{number_of_status};
+
+/// How `run` ended.
+#[derive(Clone, Copy, PartialEq, Eq, Debug)]
+pub enum Status {
+    /// All done, and the whole text written.
+    Ok = 0,
+    /// The words are no command.
+    Usage = 2,
+    /// The input is no text of a job.
+    Syntax = 3,
+    /// Emission refuses the job.
+    Refused = 4,
+    /// Linking refuses the job's code at this base.
+    LinkRefused = 5,
+    /// Reading failed.
+    ReadFault = 6,
+    /// Writing failed.
+    WriteFault = 7,
+    /// The input has more than 16777216 bytes.
+    InputTooLong = 8,
+    /// No memory.
+    NoMemory = 9,
+}
+
+impl Status {
+    /// The number with which the program ends.
+    pub fn number(self) -> u8
+        ensures { result ≡ number_of_status self }
+    {
+        self as u8
+    }
+}

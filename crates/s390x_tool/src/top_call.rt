@@ -1,0 +1,74 @@
+//! The top call.
+ghost use Rattle.std.specs.Prelude.{◌≡◌, ◌<◌, ◌⊎◌, ℕ, List, Some};
+ghost use Rattle.std.specs.Cow.{cow_str_bytes};
+ghost use Rattle.s390x_tool.specs.Answers.{IsAccepted};
+ghost use Rattle.s390x_tool.specs.Causes.{Rose};
+ghost use Rattle.s390x_tool.specs.Ends.{IsTooLong};
+ghost use Rattle.s390x_tool.specs.Replies.{IsDelivered, IsDone, IsEnded, IsReply};
+ghost use Rattle.s390x_tool.specs.Words.{IsForm, IsNoForm, texts};
+
+use crate::answer::answer;
+use crate::ends::{Failed, Sink, Source};
+use crate::input::{InputError, read_input};
+use crate::output::write_text;
+use crate::reply::{Reply, fixed, no_memory};
+use crate::status::Status;
+use crate::words::{Command, read_words};
+use std::alloc::Global;
+
+/// Does what the words ask for with what the source holds, and writes the text or the line of the status to the sink. It
+/// reads the source to its end first, and writes nothing before all is computed.
+pub fn run<S: Source, K: Sink>(
+    alloc: Global,
+    words: &[String],
+    source: &mut S,
+    sink: &mut K,
+) -> Status
+    // The words and the input have this reply, and its text was written whole, or else a front of it.
+    ensures ended { IsEnded (record { words = texts words.now; left = S.left source.old; left' = S.left source.new; faults = S.faults source.old; faults' = S.faults source.new })
+        (K.told sink.old) (K.told sink.new) (K.faults sink.old) (K.faults sink.new) result }
+    // At `Ok` the source held the text of one job, and the sink was told its image in hex and a line feed.
+    ensures ok { result ≡ Status.Ok → IsDone (record { words = texts words.now; left = S.left source.old; left' = S.left source.new; faults = S.faults source.old; faults' = S.faults source.new })
+        (K.told sink.old) (K.told sink.new) }
+    // A job that neither emission nor linking has a cause to refuse is done, where no read and no write fails.
+    ensures complete { (base : ℕ) (input : List ℕ) → IsForm (texts words.now) (Command.Image base) → S.left source.old ≡ Some input → IsAccepted base input
+        → (Rose (S.faults source.old) (S.faults source.new) → ⊥) → (Rose (K.faults sink.old) (K.faults sink.new) → ⊥)
+        → (result ≡ Status.Ok) ⊎ (result ≡ Status.NoMemory) }
+    ensures usage { result ≡ Status.Usage → IsNoForm (texts words.now) }
+    ensures always_usage { IsNoForm (texts words.now) → (result ≡ Status.Usage) ⊎ (result ≡ Status.WriteFault) }
+    ensures read_fault { result ≡ Status.ReadFault → Rose (S.faults source.old) (S.faults source.new) }
+    ensures always_read_fault { S.faults source.old < S.faults source.new → (result ≡ Status.ReadFault) ⊎ (result ≡ Status.WriteFault) }
+    ensures write_fault { result ≡ Status.WriteFault → Rose (K.faults sink.old) (K.faults sink.new) }
+    ensures always_write_fault { K.faults sink.old < K.faults sink.new → result ≡ Status.WriteFault }
+    ensures too_long { result ≡ Status.InputTooLong → IsTooLong (S.left source.old) (S.left source.new) }
+{
+    let reply = reply_to(alloc, words, source);
+    deliver(&reply, sink)
+}
+
+// The reply to these words and to what the source holds.
+fn reply_to<S: Source>(alloc: Global, words: &[String], source: &mut S) -> Reply
+    ensures { IsReply (record { words = texts words.now; left = S.left source.old; left' = S.left source.new; faults = S.faults source.old; faults' = S.faults source.new })
+        result.status (cow_str_bytes result.text) }
+{
+    let Some(command) = read_words(words) else {
+        return fixed(Status::Usage, "usage\n");
+    };
+    match read_input(alloc, source) {
+        Ok(input) => answer(alloc, command, &input),
+        Err(InputError::Fault) => fixed(Status::ReadFault, "read fault\n"),
+        Err(InputError::TooLong) => fixed(Status::InputTooLong, "input too long\n"),
+        Err(InputError::NoMemory) => no_memory(),
+    }
+}
+
+// Writes the reply's text, and answers how all ended.
+fn deliver<K: Sink>(reply: &Reply, sink: &mut K) -> Status
+    ensures { IsDelivered (K.told sink.old) (K.told sink.new) (K.faults sink.old) (K.faults sink.new)
+        reply.now.status (cow_str_bytes reply.now.text) result }
+{
+    match write_text(reply.text.as_bytes(), sink) {
+        Ok(()) => reply.status,
+        Err(Failed) => Status::WriteFault,
+    }
+}
