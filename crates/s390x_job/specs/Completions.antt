@@ -1,0 +1,54 @@
+-- The line that a syntax error names, by completions.
+use Rattle.std.specs.Prelude.{◌≡◌, ℕ, zero, suc, ◌+◌, ◌-◌, ◌<◌, ◌≤◌, ◌⊎◌, Bool, false, List, [], ◌∷◌, ◌++◌, take, length, codes, if◌then◌else◌, ◌==◌}
+use Rattle.std.specs.Str.{bytes_eq}
+use Rattle.s390x_job.specs.Jobs.{text_of_job, IsJob}
+use Rattle.s390x_job.specs.declared.job.Job.{Job}
+
+-- the pieces that end with a line feed
+abbrev pub pieces_from : List ℕ → List ℕ → List (List ℕ)
+pieces_from w [] = []
+pieces_from w (x ∷ s) = if x == 10 then w ∷ pieces_from [] s else pieces_from (w ++ x ∷ []) s
+
+abbrev pub pieces : List ℕ → List (List ℕ)
+pieces s = pieces_from [] s
+
+abbrev pub joined : List (List ℕ) → List ℕ
+joined [] = []
+joined (w ∷ ws) = w ++ (10 ∷ joined ws)
+
+-- how many lines begin with `Loop `
+abbrev pub opens : List (List ℕ) → ℕ
+opens [] = 0
+opens (w ∷ ws) = if bytes_eq (take 5 w) (codes "Loop ") then opens ws + 1 else opens ws
+
+-- how many lines are `endloop`
+abbrev pub closes : List (List ℕ) → ℕ
+closes [] = 0
+closes (w ∷ ws) = if bytes_eq w (codes "endloop") then closes ws + 1 else closes ws
+
+-- whether the last line is `end`
+abbrev pub ends : Bool → List (List ℕ) → Bool
+ends b [] = b
+ends b (w ∷ ws) = ends (bytes_eq w (codes "end")) ws
+
+-- so many lines `endloop`, and a line `end`
+abbrev pub closing : ℕ → List ℕ
+closing zero = codes "end" ++ 10 ∷ []
+closing (suc n) = codes "endloop" ++ (10 ∷ closing n)
+
+abbrev pub ending : List (List ℕ) → List ℕ
+ending ws = if ends false ws then [] else closing (opens ws - closes ws)
+
+abbrev pub completion : List (List ℕ) → List ℕ
+completion ws = joined ws ++ ending ws
+
+abbrev pub IsText : List ℕ → Type 0
+IsText s = (j : Job) × IsJob j × (text_of_job j ≡ s)
+
+-- the number of the line: 1 plus the greatest k that is 0 or whose completion is a text
+pub record IsFirstWrong (ws : List (List ℕ)) (n : ℕ) : Type 0 where
+  pub k : ℕ
+  pub is : n ≡ k + 1
+  pub small : k ≤ length ws
+  pub here : (k ≡ 0) ⊎ IsText (completion (take k ws))
+  pub above : (m : ℕ) → k < m → m ≤ length ws → IsText (completion (take m ws)) → ⊥

@@ -1,0 +1,25 @@
+-- What the readers answer.
+use Rattle.std.specs.Prelude.{◌≡◌, ℕ, ◌<◌, ◌≤◌, List, take, length}
+use Rattle.s390x_job.specs.Jobs.{text_of_job, IsJob}
+use Rattle.s390x_job.specs.Completions.{pieces, completion, IsText, IsFirstWrong}
+use Rattle.s390x_job.specs.declared.job.Job.{Job}
+use Rattle.s390x_job.specs.declared.job.LineError.{LineError}
+use Rattle.s390x_job.specs.declared.job.LineError.TheVariants.{Syntax, NoMemory}
+use Rattle.s390x_job.specs.declared.lines.Found.{Found}
+use Rattle.s390x_job.specs.declared.lines.Found.TheVariants.{Whole, Stuck}
+
+-- no job has this text, and no completion of more than k lines is one
+pub record IsStuck (bytes : List ℕ) (k : ℕ) : Type 0 where
+  pub small : k ≤ length (pieces bytes)
+  pub no_job : (j : Job) → IsJob j → text_of_job j ≡ bytes → ⊥
+  pub above : (m : ℕ) → k < m → m ≤ length (pieces bytes) → IsText (completion (take m (pieces bytes))) → ⊥
+
+abbrev pub IsFound : List ℕ → Found → Type 0
+IsFound bytes (Whole j) = IsJob j × (text_of_job j ≡ bytes)
+IsFound bytes (Stuck k) = IsStuck bytes k
+
+-- `Syntax` exactly where no job has this text, with the line by completions
+abbrev pub IsError : List ℕ → LineError → Type 0
+IsError bytes (Syntax line) =
+    ((j : Job) → IsJob j → text_of_job j ≡ bytes → ⊥) × IsFirstWrong (pieces bytes) line
+IsError bytes NoMemory = Unit {0}

@@ -1,0 +1,108 @@
+-- The order of a job's lines.
+use Rattle.std.specs.Prelude.{ℕ, zero, suc, ◌+◌, ◌^◌, Bool, Option, Some, None, List, [], ◌∷◌, codes, length, nat_lt, nat_le, ◌||◌, ◌&&◌, if◌then◌else◌, ◌==◌}
+use Rattle.std.specs.Str.{bytes_eq}
+use Rattle.s390x_base.specs.Registers.{RealRegister}
+use Rattle.s390x_base.specs.declared.regs.RegClass.{RegClass}
+use Rattle.s390x_base.specs.declared.regs.RegClass.TheVariants.{Int, Float}
+use Rattle.s390x_job.specs.Fields.{Field, FName, FNatural, FBytes, FStart}
+use Rattle.s390x_job.specs.Line.{Line, spelled}
+use Rattle.s390x_job.specs.declared.name.LineName.{LineName}
+use Rattle.s390x_job.specs.declared.name.LineName.TheVariants as N
+
+-- what a line is: a line before the blocks has a rank, a first number and the number past it
+pub data Class : Type 0 where
+  Head : ℕ → ℕ → ℕ → Class
+  Opening : Class
+  OpenLoop : Class
+  CloseLoop : Class
+  Ending : Class
+  Instruction : Class
+  Never : Class
+
+-- `flags`, where a facility is set
+abbrev pub flags_class : List Field → Class
+flags_class fs = if bytes_eq (spelled fs) [] then Never else Head 0 0 1
+
+-- `frame`, where it is not the one that is taken without it
+abbrev pub frame_class : List Field → Class
+frame_class fs = if bytes_eq (spelled fs) (codes " SystemV 0 0 0 0 0 0 - 0") then Never else Head 1 0 1
+
+-- symbols: numbers rising
+abbrev pub symbol_class : List Field → Class
+symbol_class (FName n ∷ fs) = Head 3 n (n + 1)
+symbol_class _ = Never
+
+-- the place of a register among all: general ones first
+abbrev pub class_place : RegClass → ℕ
+class_place Int = 0
+class_place Float = 16
+
+abbrev pub register_place : RealRegister → ℕ
+register_place r = class_place r.class + r.number
+
+-- registers that do not start at zero: numbers rising
+abbrev pub register_class : List Field → Class
+register_class (FStart r v ∷ fs) = if v == 0 then Never else Head 4 (register_place r) (register_place r + 1)
+register_class _ = Never
+
+-- regions: not empty, each at or after the end of the one before, ending at most at 2 ^ 64
+abbrev pub region_class : ℕ → ℕ → Class
+region_class address size = if (size == 0) || nat_lt (2 ^ 64) (address + size) then Never else Head 5 address (address + size)
+
+abbrev pub memory_class : List Field → Class
+memory_class (FNatural w address ∷ FBytes bytes ∷ fs) = region_class address (length bytes)
+memory_class _ = Never
+
+abbrev pub class_of : LineName → List Field → Class
+class_of N.FlagsLine fs = flags_class fs
+class_of N.FrameLine fs = frame_class fs
+class_of N.ConstantLine fs = Head 2 0 0
+class_of N.SymbolLine fs = symbol_class fs
+class_of N.RegisterLine fs = register_class fs
+class_of N.MemoryLine fs = memory_class fs
+class_of N.BlockLine fs = Opening
+class_of N.Loop fs = OpenLoop
+class_of N.EndLoopLine fs = CloseLoop
+class_of N.EndLine fs = Ending
+class_of n fs = Instruction
+
+abbrev pub class : Line → Class
+class l = class_of l.name l.fields
+
+-- where a job is: before its blocks, behind a line of a rank and with a bound for the next one's first number;
+-- in a block with so many open loops; or at its end
+pub data Place : Type 0 where
+  Header : ℕ → ℕ → Place
+  Within : ℕ → Place
+  AtEnd : Place
+
+-- a line of a later rank, or one of the same rank that begins where the one before ends or later
+abbrev pub may_follow : ℕ → ℕ → ℕ → ℕ → Bool
+may_follow rank bound r first = nat_lt rank r || ((rank == r) && nat_le bound first)
+
+-- the place after one more line
+abbrev pub next : Place → Class → Option Place
+next (Header rank bound) (Head r first past) = if may_follow rank bound r first then Some (Header r past) else None
+next (Header rank bound) Opening = Some (Within 0)
+next (Header rank bound) Ending = Some AtEnd
+next (Header rank bound) OpenLoop = None
+next (Header rank bound) CloseLoop = None
+next (Header rank bound) Instruction = None
+next (Header rank bound) Never = None
+next (Within d) (Head r first past) = None
+next (Within d) Never = None
+next (Within d) OpenLoop = if nat_lt d 9 then Some (Within (suc d)) else None
+next (Within d) Instruction = Some (Within d)
+next (Within zero) Opening = Some (Within 0)
+next (Within zero) Ending = Some AtEnd
+next (Within zero) CloseLoop = None
+next (Within (suc d)) Opening = None
+next (Within (suc d)) Ending = None
+next (Within (suc d)) CloseLoop = Some (Within d)
+next AtEnd c = None
+
+-- the place after these lines
+abbrev pub run : Option Place → List Line → Option Place
+run None ls = None
+run (Some p) [] = Some p
+run (Some p) (l ∷ ls) = run (next p (class l)) ls

@@ -1,0 +1,26 @@
+-- Sets of registers: a list, general registers before vector ones, numbers rising.
+use Rattle.std.specs.Prelude.{ℕ, zero, suc, Bool, true, false, List, [], ◌∷◌, ◌++◌, if◌then◌else◌, ◌==◌, ◌&&◌, ◌||◌}
+use Rattle.s390x_base.specs.Registers.{RealRegister, general, vector}
+use Rattle.s390x_base.specs.declared.regs.RegClass.{RegClass}
+use Rattle.s390x_base.specs.declared.regs.RegClass.TheVariants.{Int, Float}
+
+-- the members among the registers of a class below a number
+abbrev pub members_below : (ℕ → RealRegister) → (RealRegister → Bool) → ℕ → List RealRegister
+members_below of has zero = []
+members_below of has (suc n) = members_below of has n ++ (if has (of n) then of n ∷ [] else [])
+
+unfoldable pub members : (RealRegister → Bool) → List RealRegister
+members has = members_below general has 16 ++ members_below vector has 32
+
+abbrev pub same_class : RegClass → RegClass → Bool
+same_class Int Int = true
+same_class Int Float = false
+same_class Float Int = false
+same_class Float Float = true
+
+abbrev pub same_register : RealRegister → RealRegister → Bool
+same_register r q = same_class r.class q.class && (r.number == q.number)
+
+abbrev pub is_in : List RealRegister → RealRegister → Bool
+is_in [] r = false
+is_in (q ∷ qs) r = same_register r q || is_in qs r

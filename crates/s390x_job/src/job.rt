@@ -1,0 +1,49 @@
+//! A job: a function with the machine that it is emitted for, and what a run of it starts with.
+
+use s390x_base::ExternalName;
+use s390x_inst::{AllocatedFunction, CallConv, EmitInfo, EmitState};
+use thiserror::Error;
+
+/// The address of a symbol.
+#[derive(Clone, Copy, PartialEq, Eq, Debug)]
+pub struct SymbolLine {
+    pub name: ExternalName,
+    pub address: u64,
+}
+
+/// What the registers hold when a run starts.
+#[derive(Clone, Copy, PartialEq, Eq, Debug)]
+pub struct StartRegs {
+    pub general: [u64; 16],
+    pub vector: [u128; 32],
+}
+
+/// What a region of memory holds when a run starts.
+#[derive(Debug, Drop)]
+pub struct MemLine {
+    pub address: u64,
+    pub bytes: Vec<u8>,
+}
+
+/// A function and all that its emission, its linking and its run need.
+#[derive(Debug, Drop)]
+pub struct Job {
+    pub function: AllocatedFunction,
+    pub info: EmitInfo,
+    pub conv: CallConv,
+    pub state: EmitState,
+    pub symbols: Vec<SymbolLine>,
+    pub registers: StartRegs,
+    pub memory: Vec<MemLine>,
+}
+
+/// Why bytes are not read as a job.
+#[derive(Debug, Drop, Error)]
+pub enum LineError {
+    /// They are the text of no job; the line is the first one with which no text of a job goes on.
+    #[error("syntax {line}")]
+    Syntax { line: u32 },
+    /// No memory.
+    #[error("no memory")]
+    NoMemory,
+}

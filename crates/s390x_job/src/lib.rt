@@ -1,0 +1,39 @@
+//! The text of a job: its printer, and its exact reader.
+#![tactic(auto)]
+
+mod atoms;
+pub mod build;
+mod bytes;
+mod calls;
+mod cursor;
+mod heading;
+pub mod item;
+pub mod job;
+mod jobs;
+pub mod lines;
+mod list;
+pub mod memory;
+pub mod name;
+mod number;
+pub mod operators;
+mod part;
+pub mod parts;
+mod print;
+mod print_line;
+mod read;
+mod read_control;
+mod read_integer;
+mod read_line;
+mod read_memory;
+mod read_vector;
+mod reader;
+mod sets;
+pub mod vector_operators;
+mod word;
+
+pub use job::{Job, LineError, MemLine, StartRegs, SymbolLine};
+pub use jobs::lines_of_job;
+pub use lines::read_lines;
+
+#[cfg(test)]
+mod tests;

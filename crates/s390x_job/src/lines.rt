@@ -1,0 +1,233 @@
+//! The line that a syntax error names.
+
+ghost use Rattle.std.specs.Prelude.{◌≡◌, ℕ, ◌+◌, ◌-◌, ◌<◌, ◌≤◌, ◌++◌, ◌∷◌, [], IfOk, IfErr, OnOk, map, take, length, codes, false, Decides, MatchResult};
+ghost use Rattle.std.specs.Str.{bytes_eq};
+ghost use Rattle.s390x_job.specs.Errors.{IsFound, IsError};
+ghost use Rattle.s390x_job.specs.Jobs.{text_of_job, IsJob};
+ghost use Rattle.s390x_job.specs.Same.{SameJob};
+ghost use Rattle.s390x_job.specs.declared.job.Job.{Job};
+ghost use Rattle.s390x_job.specs.Completions.{pieces, joined, opens, closes, ends, ending, closing, completion, IsText, IsFirstWrong};
+
+use crate::build::{State, push, start};
+use crate::cursor::{after, before};
+use crate::job::{Job, LineError};
+use crate::reader::{read_item, read_job};
+use std::alloc::{AllocError, Global};
+
+/// What a reader found: a job, or so many lines that one may begin with.
+#[derive(Drop)]
+pub enum Found {
+    Whole(Job),
+    Stuck(usize),
+}
+
+fn put(out: &mut Vec<u8>, s: &[u8]) -> Result<(), AllocError>
+    ensures { OnOk result (out.new.items ≡ out.old.items ++ s.now) }
+{
+    out.extend_from_slice(s)
+}
+
+/// The lines of a text.
+pub fn split_lines<'a>(alloc: Global, bytes: &'a [u8]) -> Result<Vec<&'a [u8]>, AllocError>
+    ensures { IfOk result (λ v. map (λ w. w.now) v.items ≡ pieces bytes.now) }
+{
+    let mut v = Vec::new(alloc);
+    let mut rest = bytes;
+    while !rest.is_empty() {
+        let line = before(rest, b'\n');
+        if line.len() == rest.len() {
+            return Ok(v);
+        }
+        v.push(line)?;
+        rest = after(rest, b'\n');
+    }
+    Ok(v)
+}
+
+fn front5(w: &[u8]) -> &[u8]
+    ensures { result.now ≡ take 5 w.now }
+{
+    if w.len() < 5 { w } else { &w[..5] }
+}
+
+fn begins(w: &[u8]) -> bool
+    ensures { result ≡ bytes_eq (take 5 w.now) (codes "Loop ") }
+{
+    front5(w) == b"Loop ".as_slice()
+}
+
+fn closes_one(w: &[u8]) -> bool
+    ensures { result ≡ bytes_eq w.now (codes "endloop") }
+{
+    w == b"endloop".as_slice()
+}
+
+fn is_end(w: &[u8]) -> bool
+    ensures { result ≡ bytes_eq w.now (codes "end") }
+{
+    w == b"end".as_slice()
+}
+
+fn count_opens(ws: &[&[u8]]) -> usize
+    ensures { result ≡ opens (map (λ w. w.now) ws.now) }
+{
+    let mut n: usize = 0;
+    for w in ws {
+        if begins(w) {
+            n += 1;
+        }
+    }
+    n
+}
+
+fn count_closes(ws: &[&[u8]]) -> usize
+    ensures { result ≡ closes (map (λ w. w.now) ws.now) }
+{
+    let mut n: usize = 0;
+    for w in ws {
+        if closes_one(w) {
+            n += 1;
+        }
+    }
+    n
+}
+
+fn ended(ws: &[&[u8]]) -> bool
+    ensures { result ≡ ends false (map (λ w. w.now) ws.now) }
+{
+    let mut b = false;
+    for w in ws {
+        b = is_end(w);
+    }
+    b
+}
+
+fn put_joined(out: &mut Vec<u8>, ws: &[&[u8]]) -> Result<(), AllocError>
+    ensures { OnOk result (out.new.items ≡ out.old.items ++ joined (map (λ w. w.now) ws.now)) }
+{
+    for w in ws {
+        put(out, w)?;
+        put(out, b"\n")?;
+    }
+    Ok(())
+}
+
+fn put_closing(out: &mut Vec<u8>, n: usize) -> Result<(), AllocError>
+    ensures { OnOk result (out.new.items ≡ out.old.items ++ closing n) }
+{
+    let mut k = n;
+    while k > 0 {
+        put(out, b"endloop\n")?;
+        k -= 1;
+    }
+    put(out, b"end\n")
+}
+
+fn complete(alloc: Global, ws: &[&[u8]]) -> Result<Vec<u8>, AllocError>
+    ensures { IfOk result (λ v. v.items ≡ completion (map (λ w. w.now) ws.now)) }
+{
+    let mut out = Vec::new(alloc);
+    put_joined(&mut out, ws)?;
+    if ended(ws) {
+        return Ok(out);
+    }
+    let n = count_opens(ws).saturating_sub(count_closes(ws));
+    put_closing(&mut out, n)?;
+    Ok(out)
+}
+
+fn is_text(alloc: Global, s: &[u8]) -> Result<bool, AllocError>
+    ensures { IfOk result (λ b. Decides b (IsText s.now)) }
+{
+    match read_job(alloc, s)? {
+        Some(_) => Ok(true),
+        None => Ok(false),
+    }
+}
+
+/// The number of the line, where no completion of more than `top` lines is a text.
+pub fn line_number(alloc: Global, ws: &[&[u8]], top: usize) -> Result<usize, AllocError>
+    requires small { top ≤ length ws.now }
+    requires above { (m : ℕ) → top < m → m ≤ length ws.now → IsText (completion (take m (map (λ w. w.now) ws.now))) → ⊥ }
+    ensures { IfOk result (λ n. IsFirstWrong (map (λ w. w.now) ws.now) n) }
+{
+    let mut k = top;
+    while k > 0 {
+        let text = complete(alloc, &ws[..k])?;
+        if is_text(alloc, &text)? {
+            return Ok(k + 1);
+        }
+        k -= 1;
+    }
+    Ok(1)
+}
+
+/// The job whose text this is, or how many lines of it a job's text may begin with.
+pub fn find_job(alloc: Global, bytes: &[u8]) -> Result<Found, AllocError>
+    requires { length bytes.now < 4294967295 }
+    ensures { IfOk result (IsFound bytes.now) }
+{
+    let mut state = start(alloc);
+    let mut text = String::new(alloc);
+    let mut rest = bytes;
+    let mut n: usize = 0;
+    while !rest.is_empty() {
+        let line = before(rest, b'\n');
+        if line.len() == rest.len() {
+            return Ok(Found::Stuck(n));
+        }
+        match read_item(alloc, &mut text, line)? {
+            None => return Ok(Found::Stuck(n)),
+            Some(i) => match push(alloc, state, i)? {
+                None => return Ok(Found::Stuck(n)),
+                Some(s) => state = s,
+            },
+        }
+        rest = after(rest, b'\n');
+        n += 1;
+    }
+    match state {
+        State::Done(j) => Ok(Found::Whole(j)),
+        _ => Ok(Found::Stuck(n)),
+    }
+}
+
+fn read_inner(alloc: Global, bytes: &[u8]) -> Result<Result<Job, LineError>, AllocError>
+    requires { length bytes.now < 4294967295 }
+    ensures { IfOk result (λ r. MatchResult r (λ j. IsJob j × (text_of_job j ≡ bytes.now)) (IsError bytes.now)) }
+{
+    match find_job(alloc, bytes)? {
+        Found::Whole(j) => Ok(Ok(j)),
+        Found::Stuck(k) => {
+            let ws = split_lines(alloc, bytes)?;
+            let n = line_number(alloc, &ws, k)?;
+            Ok(Err(LineError::Syntax { line: n as u32 }))
+        }
+    }
+}
+
+fn read_all(alloc: Global, bytes: &[u8]) -> Result<Job, LineError>
+    requires { length bytes.now < 4294967295 }
+    ensures job { IfOk result (λ j. IsJob j × (text_of_job j ≡ bytes.now)) }
+    ensures error { IfErr result (IsError bytes.now) }
+{
+    match read_inner(alloc, bytes) {
+        Ok(r) => r,
+        Err(_) => Err(LineError::NoMemory),
+    }
+}
+
+/// The job whose text this is.
+///
+/// `Syntax` comes exactly where the bytes are the text of no job. Its line is 1 plus the greatest k that is 0 or
+/// for which the first k lines can be completed to the text of a job: as they are where the last of them is `end`,
+/// otherwise by as many lines `endloop` as lines begin with `Loop ` beyond those that are `endloop`, and a line
+/// `end`. `NoMemory` comes for want of memory alone.
+pub fn read_lines(alloc: Global, bytes: &[u8]) -> Result<Job, LineError>
+    requires { length bytes.now < 4294967295 }
+    ensures job { IfOk result (λ j. IsJob j × (text_of_job j ≡ bytes.now)) }
+    ensures error { IfErr result (IsError bytes.now) }
+    ensures one { (j : Job) → IsJob j → text_of_job j ≡ bytes.now → IfOk result (λ r. SameJob r j) }
+{
+    read_all(alloc, bytes)
+}

@@ -1,0 +1,237 @@
+//! Reading a line of each name.
+ghost use Rattle.std.specs.Prelude.{◌≡◌, IfOk, ◌<◌};
+ghost use Rattle.s390x_job.specs.Line.{line_with};
+ghost use Rattle.s390x_job.specs.Items.{item_line, IsItem};
+
+use crate::bytes::hex_number;
+use crate::cursor::Cursor;
+use crate::item::{Frame, Item};
+use crate::job::{MemLine, SymbolLine};
+use crate::name::LineName;
+use crate::number::natural;
+use crate::parts::{GeneralStart, VectorStart};
+use crate::read_control::{
+    allocate_args, args, call, cond_br, cond_break, dummy_use, indirect_br, jt_sequence, jump,
+    label_address, load_symbol_reloc, ret, rets, return_call, trap, trap_if,
+};
+use crate::read_integer::{
+    alu_rr, alu_rrr, alu_rrs_imm16, alu_rs_imm16, alu_rs_imm32, alu_ru_imm16_shifted,
+    alu_ru_imm32, alu_ru_imm32_shifted, alu_rx, c_mov32, c_mov32_s_imm16, c_mov64,
+    c_mov64_s_imm16, cmp_rr, cmp_rs_imm16, cmp_rs_imm32, cmp_ru_imm32, cmp_rx, cmp_trap_rr,
+    cmp_trap_rs_imm16, cmp_trap_ru_imm16, extend, flogr, insert64_u_imm16_shifted,
+    insert64_u_imm32_shifted, insert_ar, load_ar, mov32, mov32_imm, mov32_s_imm16, mov64,
+    mov64_s_imm16, mov64_s_imm32, mov64_u_imm16_shifted, mov64_u_imm32_shifted, mov_p_reg, rx_sbg,
+    rx_sbg_test, s_div_mod32, s_div_mod64, s_mul_wide, shift_rr, u_div_mod32, u_div_mod64,
+    u_mul_wide, unary_rr,
+};
+use crate::read_memory::{
+    atomic_cas32, atomic_cas64, atomic_rmw, load32, load32_s_ext16, load32_s_ext8, load32_z_ext16,
+    load32_z_ext8, load64, load64_s_ext16, load64_s_ext32, load64_s_ext8, load64_z_ext16,
+    load64_z_ext32, load64_z_ext8, load_addr, load_indexed_addr, load_logical_indexed_addr,
+    load_multiple64, load_rev16, load_rev32, load_rev64, store16, store32, store64, store8,
+    store_imm16, store_imm32_s_ext16, store_imm64_s_ext16, store_imm8, store_multiple64,
+    store_rev16, store_rev32, store_rev64,
+};
+use crate::read_vector::{
+    vec_blend, vec_evaluate, vec_int128_s_cmp_hi, vec_int128_u_cmp_hi, vec_int_cmp, vec_int_cmp_s,
+    vec_int_elt_cmp, vec_load, vec_load_byte16_rev, vec_load_byte32_rev, vec_load_byte64_rev,
+    vec_load_elt16_rev, vec_load_elt32_rev, vec_load_elt64_rev, vec_load_rev, vec_permute,
+    vec_permute_dw_imm, vec_rr, vec_rrr, vec_select, vec_shift_rr, vec_store,
+    vec_store_byte16_rev, vec_store_byte32_rev, vec_store_byte64_rev, vec_store_rev,
+};
+use s390x_base::{ConstantData, RegClass};
+use s390x_inst::{FrameLayout, Inst};
+use std::alloc::{AllocError, Global};
+
+fn frame(c: &mut Cursor) -> Frame
+    ensures { item_line (Item.Frame result) ≡ line_with LineName.FrameLine c.old }
+{
+    Frame {
+        conv: c.convention(),
+        layout: FrameLayout {
+            incoming_args_size: c.u32(),
+            tail_args_size: c.u32(),
+            clobber_size: c.u32(),
+            fixed_frame_storage_size: c.u32(),
+            stackslots_size: c.u32(),
+            outgoing_args_size: c.u32(),
+            first_saved_gpr: c.option8(),
+            saved_fprs: c.u16(),
+        },
+    }
+}
+
+fn register(c: &mut Cursor) -> Item
+    ensures line { item_line result ≡ line_with LineName.RegisterLine c.old }
+    ensures is { IsItem result }
+{
+    let register = c.real();
+    let number = register.hw_enc();
+    match register.class() {
+        RegClass::Int => Item::General(GeneralStart {
+            number,
+            value: natural(c.word()),
+        }),
+        RegClass::Float => Item::Vector(VectorStart {
+            number,
+            value: hex_number(c.word()),
+        }),
+    }
+}
+
+/// The part of a job that a line of this name tells, whose fields come next.
+pub fn item(alloc: Global, n: LineName, c: &mut Cursor) -> Result<Item, AllocError>
+    ensures line { IfOk result (λ i. item_line i ≡ line_with n c.old) }
+    ensures is { IfOk result IsItem }
+{
+    match n {
+        LineName::FlagsLine => Ok(Item::Flags(c.facilities())),
+        LineName::FrameLine => Ok(Item::Frame(frame(c))),
+        LineName::ConstantLine => {
+            let align = c.u32();
+            let bytes = c.bytes(alloc)?;
+            Ok(Item::Constant(ConstantData { bytes, align }))
+        }
+        LineName::SymbolLine => Ok(Item::Symbol(SymbolLine {
+            name: c.name(),
+            address: c.u64(),
+        })),
+        LineName::RegisterLine => Ok(register(c)),
+        LineName::MemoryLine => {
+            let address = c.u64();
+            let bytes = c.bytes(alloc)?;
+            Ok(Item::Memory(MemLine { address, bytes }))
+        }
+        LineName::BlockLine => Ok(Item::Block),
+        LineName::EndLoopLine => Ok(Item::Close),
+        LineName::EndLine => Ok(Item::End),
+        LineName::Loop => Ok(Item::Open(c.cond())),
+        LineName::AluRRR => Ok(Item::One(alu_rrr(c))),
+        LineName::AluRRSImm16 => Ok(Item::One(alu_rrs_imm16(c))),
+        LineName::AluRR => Ok(Item::One(alu_rr(c))),
+        LineName::AluRX => Ok(Item::One(alu_rx(c))),
+        LineName::AluRSImm16 => Ok(Item::One(alu_rs_imm16(c))),
+        LineName::AluRSImm32 => Ok(Item::One(alu_rs_imm32(c))),
+        LineName::AluRUImm32 => Ok(Item::One(alu_ru_imm32(c))),
+        LineName::AluRUImm16Shifted => Ok(Item::One(alu_ru_imm16_shifted(c))),
+        LineName::AluRUImm32Shifted => Ok(Item::One(alu_ru_imm32_shifted(c))),
+        LineName::SMulWide => Ok(Item::One(s_mul_wide(c))),
+        LineName::UMulWide => Ok(Item::One(u_mul_wide(c))),
+        LineName::SDivMod32 => Ok(Item::One(s_div_mod32(c))),
+        LineName::SDivMod64 => Ok(Item::One(s_div_mod64(c))),
+        LineName::UDivMod32 => Ok(Item::One(u_div_mod32(c))),
+        LineName::UDivMod64 => Ok(Item::One(u_div_mod64(c))),
+        LineName::Flogr => Ok(Item::One(flogr(c))),
+        LineName::ShiftRR => Ok(Item::One(shift_rr(c))),
+        LineName::RxSBG => Ok(Item::One(rx_sbg(c))),
+        LineName::RxSBGTest => Ok(Item::One(rx_sbg_test(c))),
+        LineName::UnaryRR => Ok(Item::One(unary_rr(c))),
+        LineName::CmpRR => Ok(Item::One(cmp_rr(c))),
+        LineName::CmpRX => Ok(Item::One(cmp_rx(c))),
+        LineName::CmpRSImm16 => Ok(Item::One(cmp_rs_imm16(c))),
+        LineName::CmpRSImm32 => Ok(Item::One(cmp_rs_imm32(c))),
+        LineName::CmpRUImm32 => Ok(Item::One(cmp_ru_imm32(c))),
+        LineName::CmpTrapRR => Ok(Item::One(cmp_trap_rr(c))),
+        LineName::CmpTrapRSImm16 => Ok(Item::One(cmp_trap_rs_imm16(c))),
+        LineName::CmpTrapRUImm16 => Ok(Item::One(cmp_trap_ru_imm16(c))),
+        LineName::Mov64 => Ok(Item::One(mov64(c))),
+        LineName::MovPReg => Ok(Item::One(mov_p_reg(c))),
+        LineName::Mov32 => Ok(Item::One(mov32(c))),
+        LineName::Mov32Imm => Ok(Item::One(mov32_imm(c))),
+        LineName::Mov32SImm16 => Ok(Item::One(mov32_s_imm16(c))),
+        LineName::Mov64SImm16 => Ok(Item::One(mov64_s_imm16(c))),
+        LineName::Mov64SImm32 => Ok(Item::One(mov64_s_imm32(c))),
+        LineName::Mov64UImm16Shifted => Ok(Item::One(mov64_u_imm16_shifted(c))),
+        LineName::Mov64UImm32Shifted => Ok(Item::One(mov64_u_imm32_shifted(c))),
+        LineName::Insert64UImm16Shifted => Ok(Item::One(insert64_u_imm16_shifted(c))),
+        LineName::Insert64UImm32Shifted => Ok(Item::One(insert64_u_imm32_shifted(c))),
+        LineName::CMov32 => Ok(Item::One(c_mov32(c))),
+        LineName::CMov64 => Ok(Item::One(c_mov64(c))),
+        LineName::CMov32SImm16 => Ok(Item::One(c_mov32_s_imm16(c))),
+        LineName::CMov64SImm16 => Ok(Item::One(c_mov64_s_imm16(c))),
+        LineName::Extend => Ok(Item::One(extend(c))),
+        LineName::LoadAR => Ok(Item::One(load_ar(c))),
+        LineName::InsertAR => Ok(Item::One(insert_ar(c))),
+        LineName::Load32 => Ok(Item::One(load32(c))),
+        LineName::Load32ZExt8 => Ok(Item::One(load32_z_ext8(c))),
+        LineName::Load32SExt8 => Ok(Item::One(load32_s_ext8(c))),
+        LineName::Load32ZExt16 => Ok(Item::One(load32_z_ext16(c))),
+        LineName::Load32SExt16 => Ok(Item::One(load32_s_ext16(c))),
+        LineName::Load64 => Ok(Item::One(load64(c))),
+        LineName::Load64ZExt8 => Ok(Item::One(load64_z_ext8(c))),
+        LineName::Load64SExt8 => Ok(Item::One(load64_s_ext8(c))),
+        LineName::Load64ZExt16 => Ok(Item::One(load64_z_ext16(c))),
+        LineName::Load64SExt16 => Ok(Item::One(load64_s_ext16(c))),
+        LineName::Load64ZExt32 => Ok(Item::One(load64_z_ext32(c))),
+        LineName::Load64SExt32 => Ok(Item::One(load64_s_ext32(c))),
+        LineName::LoadRev16 => Ok(Item::One(load_rev16(c))),
+        LineName::LoadRev32 => Ok(Item::One(load_rev32(c))),
+        LineName::LoadRev64 => Ok(Item::One(load_rev64(c))),
+        LineName::Store8 => Ok(Item::One(store8(c))),
+        LineName::Store16 => Ok(Item::One(store16(c))),
+        LineName::Store32 => Ok(Item::One(store32(c))),
+        LineName::Store64 => Ok(Item::One(store64(c))),
+        LineName::StoreRev16 => Ok(Item::One(store_rev16(c))),
+        LineName::StoreRev32 => Ok(Item::One(store_rev32(c))),
+        LineName::StoreRev64 => Ok(Item::One(store_rev64(c))),
+        LineName::StoreImm8 => Ok(Item::One(store_imm8(c))),
+        LineName::StoreImm16 => Ok(Item::One(store_imm16(c))),
+        LineName::StoreImm32SExt16 => Ok(Item::One(store_imm32_s_ext16(c))),
+        LineName::StoreImm64SExt16 => Ok(Item::One(store_imm64_s_ext16(c))),
+        LineName::LoadMultiple64 => Ok(Item::One(load_multiple64(c))),
+        LineName::StoreMultiple64 => Ok(Item::One(store_multiple64(c))),
+        LineName::LoadAddr => Ok(Item::One(load_addr(c))),
+        LineName::LoadIndexedAddr => Ok(Item::One(load_indexed_addr(c))),
+        LineName::LoadLogicalIndexedAddr => Ok(Item::One(load_logical_indexed_addr(c))),
+        LineName::AtomicRmw => Ok(Item::One(atomic_rmw(c))),
+        LineName::AtomicCas32 => Ok(Item::One(atomic_cas32(c))),
+        LineName::AtomicCas64 => Ok(Item::One(atomic_cas64(c))),
+        LineName::Fence => Ok(Item::One(Inst::Fence)),
+        LineName::Nop0 => Ok(Item::One(Inst::Nop0)),
+        LineName::Nop2 => Ok(Item::One(Inst::Nop2)),
+        LineName::Debugtrap => Ok(Item::One(Inst::Debugtrap)),
+        LineName::Trap => Ok(Item::One(trap(c))),
+        LineName::TrapIf => Ok(Item::One(trap_if(c))),
+        LineName::Jump => Ok(Item::One(jump(c))),
+        LineName::CondBr => Ok(Item::One(cond_br(c))),
+        LineName::IndirectBr => Ok(Item::One(indirect_br(alloc, c)?)),
+        LineName::Ret => Ok(Item::One(ret(c))),
+        LineName::JTSequence => Ok(Item::One(jt_sequence(alloc, c)?)),
+        LineName::CondBreak => Ok(Item::One(cond_break(c))),
+        LineName::Call => Ok(Item::One(call(alloc, c)?)),
+        LineName::ReturnCall => Ok(Item::One(return_call(alloc, c)?)),
+        LineName::AllocateArgs => Ok(Item::One(allocate_args(c))),
+        LineName::LoadSymbolReloc => Ok(Item::One(load_symbol_reloc(c))),
+        LineName::LabelAddress => Ok(Item::One(label_address(c))),
+        LineName::Args => Ok(Item::One(args(alloc, c)?)),
+        LineName::Rets => Ok(Item::One(rets(alloc, c)?)),
+        LineName::DummyUse => Ok(Item::One(dummy_use(c))),
+        LineName::SequencePoint => Ok(Item::One(Inst::SequencePoint)),
+        LineName::VecRRR => Ok(Item::One(vec_rrr(c))),
+        LineName::VecRR => Ok(Item::One(vec_rr(c))),
+        LineName::VecShiftRR => Ok(Item::One(vec_shift_rr(c))),
+        LineName::VecSelect => Ok(Item::One(vec_select(c))),
+        LineName::VecPermute => Ok(Item::One(vec_permute(c))),
+        LineName::VecBlend => Ok(Item::One(vec_blend(c))),
+        LineName::VecEvaluate => Ok(Item::One(vec_evaluate(c))),
+        LineName::VecPermuteDWImm => Ok(Item::One(vec_permute_dw_imm(c))),
+        LineName::VecIntCmp => Ok(Item::One(vec_int_cmp(c))),
+        LineName::VecIntCmpS => Ok(Item::One(vec_int_cmp_s(c))),
+        LineName::VecIntEltCmp => Ok(Item::One(vec_int_elt_cmp(c))),
+        LineName::VecInt128SCmpHi => Ok(Item::One(vec_int128_s_cmp_hi(c))),
+        LineName::VecInt128UCmpHi => Ok(Item::One(vec_int128_u_cmp_hi(c))),
+        LineName::VecLoad => Ok(Item::One(vec_load(c))),
+        LineName::VecLoadRev => Ok(Item::One(vec_load_rev(c))),
+        LineName::VecLoadByte16Rev => Ok(Item::One(vec_load_byte16_rev(c))),
+        LineName::VecLoadByte32Rev => Ok(Item::One(vec_load_byte32_rev(c))),
+        LineName::VecLoadByte64Rev => Ok(Item::One(vec_load_byte64_rev(c))),
+        LineName::VecLoadElt16Rev => Ok(Item::One(vec_load_elt16_rev(c))),
+        LineName::VecLoadElt32Rev => Ok(Item::One(vec_load_elt32_rev(c))),
+        LineName::VecLoadElt64Rev => Ok(Item::One(vec_load_elt64_rev(c))),
+        LineName::VecStore => Ok(Item::One(vec_store(c))),
+        LineName::VecStoreRev => Ok(Item::One(vec_store_rev(c))),
+        LineName::VecStoreByte16Rev => Ok(Item::One(vec_store_byte16_rev(c))),
+        LineName::VecStoreByte32Rev => Ok(Item::One(vec_store_byte32_rev(c))),
+        LineName::VecStoreByte64Rev => Ok(Item::One(vec_store_byte64_rev(c))),
+    }
+}

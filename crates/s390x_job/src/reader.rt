@@ -1,0 +1,70 @@
+//! The exact reader of lines and jobs.
+ghost use Rattle.std.specs.Prelude.{◌≡◌, ◌≢◌, List, ℕ, IfOk, MatchOption};
+ghost use Rattle.s390x_job.specs.Line.{Line, IsLine, line_text, line_of};
+ghost use Rattle.s390x_job.specs.Items.{item_line, IsItem};
+ghost use Rattle.s390x_job.specs.Jobs.{text_of_job, IsJob};
+ghost use Rattle.s390x_job.specs.Builds.{IsState};
+ghost use Rattle.s390x_job.specs.declared.job.Job.{Job};
+
+use crate::build::{State, push, start};
+use crate::cursor::{Cursor, after, back, before, front};
+use crate::item::Item;
+use crate::job::Job;
+use crate::name::{ALL_NAMES, LineName};
+use crate::print_line::put_item;
+use crate::read_line::item;
+use crate::word::find;
+use std::alloc::{AllocError, Global};
+
+fn parse(alloc: Global, w: &[u8]) -> Result<Item, AllocError>
+    ensures line { IfOk result (λ i. item_line i ≡ line_of w.now) }
+    ensures is { IfOk result IsItem }
+{
+    let mut fields = Cursor::new(back(w));
+    item(alloc, find(&ALL_NAMES, front(w), LineName::EndLine), &mut fields)
+}
+
+/// The part of a job whose line this is, or none where it is no line of a job. The text is room for printing.
+pub fn read_item(
+    alloc: Global,
+    text: &mut String,
+    w: &[u8],
+) -> Result<Option<Item>, AllocError>
+    ensures { IfOk result (λ o. MatchOption o ((l : Line) → IsLine l → line_text l ≢ w.now) (λ i. IsItem i × IsLine (item_line i) × (line_text (item_line i) ≡ w.now))) }
+{
+    let i = parse(alloc, w)?;
+    text.clear();
+    put_item(alloc, text, &i)?;
+    if text.as_bytes() == w {
+        Ok(Some(i))
+    } else {
+        Ok(None)
+    }
+}
+
+/// The job whose text this is, or none where it is the text of no job.
+pub fn read_job(alloc: Global, bytes: &[u8]) -> Result<Option<Job>, AllocError>
+    ensures { IfOk result (λ o. MatchOption o ((j : Job) → IsJob j → text_of_job j ≢ bytes.now) (λ j. IsJob j × (text_of_job j ≡ bytes.now))) }
+{
+    let mut state = start(alloc);
+    let mut text = String::new(alloc);
+    let mut rest = bytes;
+    while !rest.is_empty() {
+        let line = before(rest, b'\n');
+        if line.len() == rest.len() {
+            return Ok(None);
+        }
+        match read_item(alloc, &mut text, line)? {
+            None => return Ok(None),
+            Some(i) => match push(alloc, state, i)? {
+                None => return Ok(None),
+                Some(s) => state = s,
+            },
+        }
+        rest = after(rest, b'\n');
+    }
+    match state {
+        State::Done(j) => Ok(Some(j)),
+        _ => Ok(None),
+    }
+}
