@@ -101,11 +101,23 @@ user_ok w =
 
 trap_ok : (w : List ℕ) → IsKind (trap_of w)
 trap_ok w =
-    elim (either (bytes_eq w (codes "stk_ovf"))) [ inl a ↦ rw a tt | inr a ↦
-      elim (either (bytes_eq w (codes "int_ovf"))) [ inl b ↦ rw (a, b) tt | inr b ↦
-        elim (either (bytes_eq w (codes "heap_oob"))) [ inl c ↦ rw (a, b, c) tt | inr c ↦
-          elim (either (bytes_eq w (codes "int_divz"))) [ inl d ↦ rw (a, b, c, d) tt | inr d ↦
-            elim (either (bytes_eq w (codes "bad_toint"))) [ inl e ↦ rw (a, b, c, d, e) tt | inr e ↦ rw (a, b, c, d, e) (user_ok w) ] ] ] ] ]
+    elim (either (bytes_eq w (codes "stk_ovf"))) [
+      | inl a ↦ rw a tt
+      | inr a ↦
+          elim (either (bytes_eq w (codes "int_ovf"))) [
+            | inl b ↦ rw (a, b) tt
+            | inr b ↦
+                elim (either (bytes_eq w (codes "heap_oob"))) [
+                  | inl c ↦ rw (a, b, c) tt
+                  | inr c ↦
+                      elim (either (bytes_eq w (codes "int_divz"))) [
+                        | inl d ↦ rw (a, b, c, d) tt
+                        | inr d ↦
+                            elim (either (bytes_eq w (codes "bad_toint"))) [ inl e ↦ rw (a, b, c, d, e) tt | inr e ↦ rw (a, b, c, d, e) (user_ok w) ]
+                      ]
+                ]
+          ]
+    ]
 
 suffix_ok : (s : List ℕ) → IsSuffix (suffix_of s)
 suffix_ok s = elim (either (slice_index s 0 == 33)) [ inl e ↦ rw e (trap_ok (word s)) | inr e ↦ rw e tt ]

@@ -154,7 +154,11 @@ fn user_number(w: &[u8]) -> u8
 fn put_aligned(out: &mut String, aligned: bool) -> Result<(), AllocError>
     ensures { OnOk result (string_bytes out.new ≡ string_bytes out.old ++ aligned_text aligned) }
 {
-    if aligned { put(out, "a") } else { put(out, "u") }
+    if aligned {
+        put(out, "a")
+    } else {
+        put(out, "u")
+    }
 }
 
 fn put_suffix(out: &mut String, t: Option<TrapCode>) -> Result<(), AllocError>
@@ -201,7 +205,11 @@ pub fn access(s: &[u8]) -> MachMemFlags
 pub fn put_bool(out: &mut String, b: bool) -> Result<(), AllocError>
     ensures { OnOk result (string_bytes out.new ≡ string_bytes out.old ++ bool_text b) }
 {
-    if b { put(out, "true") } else { put(out, "false") }
+    if b {
+        put(out, "true")
+    } else {
+        put(out, "false")
+    }
 }
 
 /// Whether the word is `true`.

@@ -10,9 +10,9 @@ ghost use Rattle.s390x_job.specs.Instructions.{inst_line};
 ghost use Rattle.s390x_job.specs.Builds.{state_lines, beginning_lines, body_lines, place_of, rank_of, IsState, IsBeginning, IsFull, IsWhole, Follows};
 ghost use Rattle.s390x_job.specs.declared.build.State.{State};
 
+use crate::heading::{is_plain_flags, is_plain_frame};
 use crate::item::{Frame, Item};
 use crate::job::{Job, MemLine, StartRegs, SymbolLine};
-use crate::heading::{is_plain_flags, is_plain_frame};
 use crate::parts::{GeneralStart, VectorStart};
 use s390x_base::{Cond, ConstantData};
 use s390x_inst::{
@@ -153,7 +153,9 @@ fn head_frame(
     requires { IsBeginning (rank_of stage) bound b }
     ensures { IfOk result (Follows (beginning_lines b) (Header (rank_of stage) bound) (frame_line frame.conv frame.layout)) }
 {
-    if is_plain_frame(alloc, frame.conv, &frame.layout)? || !may_stand(stage, bound, Stage::Frame, 0) {
+    if is_plain_frame(alloc, frame.conv, &frame.layout)?
+        || !may_stand(stage, bound, Stage::Frame, 0)
+    {
         return Ok(None);
     }
     let mut b = b;
@@ -197,12 +199,7 @@ fn head_symbol(
     Ok(Some(State::Head(b, Stage::Symbols, number + 1)))
 }
 
-fn head_general(
-    b: Beginning,
-    stage: Stage,
-    bound: u128,
-    start: GeneralStart,
-) -> Option<State>
+fn head_general(b: Beginning, stage: Stage, bound: u128, start: GeneralStart) -> Option<State>
     requires number { start.number < 16 }
     requires beginning { IsBeginning (rank_of stage) bound b }
     ensures { Follows (beginning_lines b) (Header (rank_of stage) bound) (register_line (general start.number) start.value) result }
@@ -216,18 +213,13 @@ fn head_general(
     Some(State::Head(b, Stage::Registers, place + 1))
 }
 
-fn head_vector(
-    b: Beginning,
-    stage: Stage,
-    bound: u128,
-    start: VectorStart,
-) -> Option<State>
+fn head_vector(b: Beginning, stage: Stage, bound: u128, start: VectorStart) -> Option<State>
     requires number { start.number < 32 }
     requires beginning { IsBeginning (rank_of stage) bound b }
     ensures { Follows (beginning_lines b) (Header (rank_of stage) bound) (register_line (vector start.number) start.value) result }
 {
     let place = 16 + u128::from(start.number);
-    if start.value == 0 || !may_stand(stage, bound, Stage::Registers, place) {
+    if !may_stand(stage, bound, Stage::Registers, place) || start.value == 0 {
         return None;
     }
     let mut b = b;

@@ -8,9 +8,7 @@ ghost use Rattle.s390x_job.specs.Marks.{word};
 use crate::atoms::{name, put_name, put_real, put_reg, real, reg, written};
 use crate::cursor::{after_word, word};
 use crate::list::{Element, list, put_list};
-use crate::number::{
-    first, integer64, natural32, put, put_integer, put_natural, second, tail,
-};
+use crate::number::{first, integer64, natural32, put, put_integer, put_natural, second, tail};
 use crate::operators::ALL_TYPE;
 use crate::word::{Word, find};
 use s390x_base::{MachLabel, PReg, Reg, ValueType};

@@ -123,12 +123,7 @@ fn put_regions(alloc: Global, out: &mut String, ms: &[MemLine]) -> Result<(), Al
     Ok(())
 }
 
-fn put_general(
-    alloc: Global,
-    out: &mut String,
-    number: u8,
-    value: u64,
-) -> Result<(), AllocError>
+fn put_general(alloc: Global, out: &mut String, number: u8, value: u64) -> Result<(), AllocError>
     ensures { OnOk result (string_bytes out.new ≡ string_bytes out.old ++ lines_text (start_lines general number (value ∷ []))) }
 {
     if value == 0 {
@@ -139,12 +134,7 @@ fn put_general(
     put(out, "\n")
 }
 
-fn put_vector(
-    alloc: Global,
-    out: &mut String,
-    number: u8,
-    value: u128,
-) -> Result<(), AllocError>
+fn put_vector(alloc: Global, out: &mut String, number: u8, value: u128) -> Result<(), AllocError>
     ensures { OnOk result (string_bytes out.new ≡ string_bytes out.old ++ lines_text (start_lines vector number (value ∷ []))) }
 {
     if value == 0 {

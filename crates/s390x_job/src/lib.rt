@@ -2,23 +2,24 @@
 #![tactic(auto)]
 
 mod atoms;
-pub mod build;
+mod build;
 mod bytes;
 mod calls;
 mod cursor;
 mod heading;
-pub mod item;
+mod item;
 pub mod job;
 mod jobs;
-pub mod lines;
+mod lines;
 mod list;
-pub mod memory;
-pub mod name;
+mod memory;
+mod name;
 mod number;
-pub mod operators;
+mod operators;
 mod part;
-pub mod parts;
+mod parts;
 mod print;
+mod print_call;
 mod print_line;
 mod read;
 mod read_control;
@@ -28,7 +29,7 @@ mod read_memory;
 mod read_vector;
 mod reader;
 mod sets;
-pub mod vector_operators;
+mod vector_operators;
 mod word;
 
 pub use job::{Job, LineError, MemLine, StartRegs, SymbolLine};

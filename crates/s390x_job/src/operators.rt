@@ -159,12 +159,7 @@ impl Word for ShiftOp {
 }
 
 /// Every value.
-pub const ALL_RXSBG: [RxSBGOp; 4] = [
-    RxSBGOp::Insert,
-    RxSBGOp::And,
-    RxSBGOp::Or,
-    RxSBGOp::Xor,
-];
+pub const ALL_RXSBG: [RxSBGOp; 4] = [RxSBGOp::Insert, RxSBGOp::And, RxSBGOp::Or, RxSBGOp::Xor];
 
 impl Word for RxSBGOp {
     ghost spelling = { rxsbg_text };
@@ -217,11 +212,7 @@ impl Word for UnaryOp {
 }
 
 /// Every value.
-pub const ALL_CONVENTION: [CallConv; 3] = [
-    CallConv::Fast,
-    CallConv::Tail,
-    CallConv::SystemV,
-];
+pub const ALL_CONVENTION: [CallConv; 3] = [CallConv::Fast, CallConv::Tail, CallConv::SystemV];
 
 impl Word for CallConv {
     ghost spelling = { convention_text };

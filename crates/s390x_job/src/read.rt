@@ -21,7 +21,7 @@ use crate::cursor::{Cursor, after, word};
 use crate::list::list;
 use crate::memory::{displacement20, memory};
 use crate::number::{
-    integer16, integer32, integer8, natural16, natural32, natural64, natural8, tail,
+    integer8, integer16, integer32, natural8, natural16, natural32, natural64, tail,
 };
 use crate::operators::{ALL_ALU, ALL_CMP, ALL_CONVENTION, ALL_RXSBG, ALL_SHIFT, ALL_UNARY};
 use crate::sets::set_of;
@@ -129,7 +129,11 @@ impl<'a> Cursor<'a> {
         ensures value { result ≡ found vec_element_compare_text ALL_VEC_ELEMENT_COMPARE (word self.old) VecIntEltCmpOp.SCmp128 }
         ensures after { self.new ≡ after_word self.old }
     {
-        find(&ALL_VEC_ELEMENT_COMPARE, self.word(), VecIntEltCmpOp::SCmp128)
+        find(
+            &ALL_VEC_ELEMENT_COMPARE,
+            self.word(),
+            VecIntEltCmpOp::SCmp128,
+        )
     }
 
     pub fn convention(&mut self) -> CallConv

@@ -5,8 +5,7 @@ ghost use Rattle.s390x_job.specs.Instructions.{inst_line};
 
 use crate::cursor::Cursor;
 use crate::name::LineName;
-use s390x_inst::Inst;
-use s390x_inst::{CallInfo, ReturnCallInfo};
+use s390x_inst::{CallInfo, Inst, ReturnCallInfo};
 use std::alloc::{AllocError, Global};
 
 pub fn trap(c: &mut Cursor) -> Inst
@@ -29,9 +28,7 @@ pub fn trap_if(c: &mut Cursor) -> Inst
 pub fn jump(c: &mut Cursor) -> Inst
     ensures { inst_line result ≡ line_with LineName.Jump c.old }
 {
-    Inst::Jump {
-        dest: c.label(),
-    }
+    Inst::Jump { dest: c.label() }
 }
 
 pub fn cond_br(c: &mut Cursor) -> Inst
@@ -56,9 +53,7 @@ pub fn indirect_br(alloc: Global, c: &mut Cursor) -> Result<Inst, AllocError>
 pub fn ret(c: &mut Cursor) -> Inst
     ensures { inst_line result ≡ line_with LineName.Ret c.old }
 {
-    Inst::Ret {
-        link: c.reg(),
-    }
+    Inst::Ret { link: c.reg() }
 }
 
 pub fn jt_sequence(alloc: Global, c: &mut Cursor) -> Result<Inst, AllocError>
@@ -75,9 +70,7 @@ pub fn jt_sequence(alloc: Global, c: &mut Cursor) -> Result<Inst, AllocError>
 pub fn cond_break(c: &mut Cursor) -> Inst
     ensures { inst_line result ≡ line_with LineName.CondBreak c.old }
 {
-    Inst::CondBreak {
-        cond: c.cond(),
-    }
+    Inst::CondBreak { cond: c.cond() }
 }
 
 pub fn call(alloc: Global, c: &mut Cursor) -> Result<Inst, AllocError>
@@ -129,9 +122,7 @@ pub fn return_call(alloc: Global, c: &mut Cursor) -> Result<Inst, AllocError>
 pub fn allocate_args(c: &mut Cursor) -> Inst
     ensures { inst_line result ≡ line_with LineName.AllocateArgs c.old }
 {
-    Inst::AllocateArgs {
-        size: c.u32(),
-    }
+    Inst::AllocateArgs { size: c.u32() }
 }
 
 pub fn load_symbol_reloc(c: &mut Cursor) -> Inst
@@ -171,7 +162,5 @@ pub fn rets(alloc: Global, c: &mut Cursor) -> Result<Inst, AllocError>
 pub fn dummy_use(c: &mut Cursor) -> Inst
     ensures { inst_line result ≡ line_with LineName.DummyUse c.old }
 {
-    Inst::DummyUse {
-        reg: c.reg(),
-    }
+    Inst::DummyUse { reg: c.reg() }
 }

@@ -5,43 +5,142 @@ ghost use Rattle.s390x_job.specs.Items.{item_line, IsItem};
 
 use crate::bytes::hex_number;
 use crate::cursor::Cursor;
-use crate::item::{Frame, Item};
-use crate::job::{MemLine, SymbolLine};
+use crate::item::Frame;
+use crate::item::Item;
+use crate::job::MemLine;
+use crate::job::SymbolLine;
 use crate::name::LineName;
 use crate::number::natural;
-use crate::parts::{GeneralStart, VectorStart};
-use crate::read_control::{
-    allocate_args, args, call, cond_br, cond_break, dummy_use, indirect_br, jt_sequence, jump,
-    label_address, load_symbol_reloc, ret, rets, return_call, trap, trap_if,
-};
-use crate::read_integer::{
-    alu_rr, alu_rrr, alu_rrs_imm16, alu_rs_imm16, alu_rs_imm32, alu_ru_imm16_shifted,
-    alu_ru_imm32, alu_ru_imm32_shifted, alu_rx, c_mov32, c_mov32_s_imm16, c_mov64,
-    c_mov64_s_imm16, cmp_rr, cmp_rs_imm16, cmp_rs_imm32, cmp_ru_imm32, cmp_rx, cmp_trap_rr,
-    cmp_trap_rs_imm16, cmp_trap_ru_imm16, extend, flogr, insert64_u_imm16_shifted,
-    insert64_u_imm32_shifted, insert_ar, load_ar, mov32, mov32_imm, mov32_s_imm16, mov64,
-    mov64_s_imm16, mov64_s_imm32, mov64_u_imm16_shifted, mov64_u_imm32_shifted, mov_p_reg, rx_sbg,
-    rx_sbg_test, s_div_mod32, s_div_mod64, s_mul_wide, shift_rr, u_div_mod32, u_div_mod64,
-    u_mul_wide, unary_rr,
-};
-use crate::read_memory::{
-    atomic_cas32, atomic_cas64, atomic_rmw, load32, load32_s_ext16, load32_s_ext8, load32_z_ext16,
-    load32_z_ext8, load64, load64_s_ext16, load64_s_ext32, load64_s_ext8, load64_z_ext16,
-    load64_z_ext32, load64_z_ext8, load_addr, load_indexed_addr, load_logical_indexed_addr,
-    load_multiple64, load_rev16, load_rev32, load_rev64, store16, store32, store64, store8,
-    store_imm16, store_imm32_s_ext16, store_imm64_s_ext16, store_imm8, store_multiple64,
-    store_rev16, store_rev32, store_rev64,
-};
-use crate::read_vector::{
-    vec_blend, vec_evaluate, vec_int128_s_cmp_hi, vec_int128_u_cmp_hi, vec_int_cmp, vec_int_cmp_s,
-    vec_int_elt_cmp, vec_load, vec_load_byte16_rev, vec_load_byte32_rev, vec_load_byte64_rev,
-    vec_load_elt16_rev, vec_load_elt32_rev, vec_load_elt64_rev, vec_load_rev, vec_permute,
-    vec_permute_dw_imm, vec_rr, vec_rrr, vec_select, vec_shift_rr, vec_store,
-    vec_store_byte16_rev, vec_store_byte32_rev, vec_store_byte64_rev, vec_store_rev,
-};
-use s390x_base::{ConstantData, RegClass};
-use s390x_inst::{FrameLayout, Inst};
-use std::alloc::{AllocError, Global};
+use crate::parts::GeneralStart;
+use crate::parts::VectorStart;
+use crate::read_control::allocate_args;
+use crate::read_control::args;
+use crate::read_control::call;
+use crate::read_control::cond_br;
+use crate::read_control::cond_break;
+use crate::read_control::dummy_use;
+use crate::read_control::indirect_br;
+use crate::read_control::jt_sequence;
+use crate::read_control::jump;
+use crate::read_control::label_address;
+use crate::read_control::load_symbol_reloc;
+use crate::read_control::ret;
+use crate::read_control::rets;
+use crate::read_control::return_call;
+use crate::read_control::trap;
+use crate::read_control::trap_if;
+use crate::read_integer::alu_rr;
+use crate::read_integer::alu_rrr;
+use crate::read_integer::alu_rrs_imm16;
+use crate::read_integer::alu_rs_imm16;
+use crate::read_integer::alu_rs_imm32;
+use crate::read_integer::alu_ru_imm16_shifted;
+use crate::read_integer::alu_ru_imm32;
+use crate::read_integer::alu_ru_imm32_shifted;
+use crate::read_integer::alu_rx;
+use crate::read_integer::c_mov32;
+use crate::read_integer::c_mov32_s_imm16;
+use crate::read_integer::c_mov64;
+use crate::read_integer::c_mov64_s_imm16;
+use crate::read_integer::cmp_rr;
+use crate::read_integer::cmp_rs_imm16;
+use crate::read_integer::cmp_rs_imm32;
+use crate::read_integer::cmp_ru_imm32;
+use crate::read_integer::cmp_rx;
+use crate::read_integer::cmp_trap_rr;
+use crate::read_integer::cmp_trap_rs_imm16;
+use crate::read_integer::cmp_trap_ru_imm16;
+use crate::read_integer::extend;
+use crate::read_integer::flogr;
+use crate::read_integer::insert_ar;
+use crate::read_integer::insert64_u_imm16_shifted;
+use crate::read_integer::insert64_u_imm32_shifted;
+use crate::read_integer::load_ar;
+use crate::read_integer::mov_p_reg;
+use crate::read_integer::mov32;
+use crate::read_integer::mov32_imm;
+use crate::read_integer::mov32_s_imm16;
+use crate::read_integer::mov64;
+use crate::read_integer::mov64_s_imm16;
+use crate::read_integer::mov64_s_imm32;
+use crate::read_integer::mov64_u_imm16_shifted;
+use crate::read_integer::mov64_u_imm32_shifted;
+use crate::read_integer::rx_sbg;
+use crate::read_integer::rx_sbg_test;
+use crate::read_integer::s_div_mod32;
+use crate::read_integer::s_div_mod64;
+use crate::read_integer::s_mul_wide;
+use crate::read_integer::shift_rr;
+use crate::read_integer::u_div_mod32;
+use crate::read_integer::u_div_mod64;
+use crate::read_integer::u_mul_wide;
+use crate::read_integer::unary_rr;
+use crate::read_memory::atomic_cas32;
+use crate::read_memory::atomic_cas64;
+use crate::read_memory::atomic_rmw;
+use crate::read_memory::load_addr;
+use crate::read_memory::load_indexed_addr;
+use crate::read_memory::load_logical_indexed_addr;
+use crate::read_memory::load_multiple64;
+use crate::read_memory::load_rev16;
+use crate::read_memory::load_rev32;
+use crate::read_memory::load_rev64;
+use crate::read_memory::load32;
+use crate::read_memory::load32_s_ext8;
+use crate::read_memory::load32_s_ext16;
+use crate::read_memory::load32_z_ext8;
+use crate::read_memory::load32_z_ext16;
+use crate::read_memory::load64;
+use crate::read_memory::load64_s_ext8;
+use crate::read_memory::load64_s_ext16;
+use crate::read_memory::load64_s_ext32;
+use crate::read_memory::load64_z_ext8;
+use crate::read_memory::load64_z_ext16;
+use crate::read_memory::load64_z_ext32;
+use crate::read_memory::store_imm8;
+use crate::read_memory::store_imm16;
+use crate::read_memory::store_imm32_s_ext16;
+use crate::read_memory::store_imm64_s_ext16;
+use crate::read_memory::store_multiple64;
+use crate::read_memory::store_rev16;
+use crate::read_memory::store_rev32;
+use crate::read_memory::store_rev64;
+use crate::read_memory::store8;
+use crate::read_memory::store16;
+use crate::read_memory::store32;
+use crate::read_memory::store64;
+use crate::read_vector::vec_blend;
+use crate::read_vector::vec_evaluate;
+use crate::read_vector::vec_int_cmp;
+use crate::read_vector::vec_int_cmp_s;
+use crate::read_vector::vec_int_elt_cmp;
+use crate::read_vector::vec_int128_s_cmp_hi;
+use crate::read_vector::vec_int128_u_cmp_hi;
+use crate::read_vector::vec_load;
+use crate::read_vector::vec_load_byte16_rev;
+use crate::read_vector::vec_load_byte32_rev;
+use crate::read_vector::vec_load_byte64_rev;
+use crate::read_vector::vec_load_elt16_rev;
+use crate::read_vector::vec_load_elt32_rev;
+use crate::read_vector::vec_load_elt64_rev;
+use crate::read_vector::vec_load_rev;
+use crate::read_vector::vec_permute;
+use crate::read_vector::vec_permute_dw_imm;
+use crate::read_vector::vec_rr;
+use crate::read_vector::vec_rrr;
+use crate::read_vector::vec_select;
+use crate::read_vector::vec_shift_rr;
+use crate::read_vector::vec_store;
+use crate::read_vector::vec_store_byte16_rev;
+use crate::read_vector::vec_store_byte32_rev;
+use crate::read_vector::vec_store_byte64_rev;
+use crate::read_vector::vec_store_rev;
+use s390x_base::ConstantData;
+use s390x_base::RegClass;
+use s390x_inst::FrameLayout;
+use s390x_inst::Inst;
+use std::alloc::AllocError;
+use std::alloc::Global;
 
 fn frame(c: &mut Cursor) -> Frame
     ensures { item_line (Item.Frame result) ≡ line_with LineName.FrameLine c.old }

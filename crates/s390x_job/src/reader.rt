@@ -21,15 +21,15 @@ fn parse(alloc: Global, w: &[u8]) -> Result<Item, AllocError>
     ensures is { IfOk result IsItem }
 {
     let mut fields = Cursor::new(back(w));
-    item(alloc, find(&ALL_NAMES, front(w), LineName::EndLine), &mut fields)
+    item(
+        alloc,
+        find(&ALL_NAMES, front(w), LineName::EndLine),
+        &mut fields,
+    )
 }
 
 /// The part of a job whose line this is, or none where it is no line of a job. The text is room for printing.
-pub fn read_item(
-    alloc: Global,
-    text: &mut String,
-    w: &[u8],
-) -> Result<Option<Item>, AllocError>
+pub fn read_item(alloc: Global, text: &mut String, w: &[u8]) -> Result<Option<Item>, AllocError>
     ensures { IfOk result (λ o. MatchOption o ((l : Line) → IsLine l → line_text l ≢ w.now) (λ i. IsItem i × IsLine (item_line i) × (line_text (item_line i) ≡ w.now))) }
 {
     let i = parse(alloc, w)?;

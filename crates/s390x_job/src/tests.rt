@@ -3,6 +3,7 @@
 use crate::job::LineError;
 use crate::{lines_of_job, read_lines};
 use s390x_base::NoMemory;
+use std::alloc::{AllocError, Global};
 
 #[derive(Debug, Drop)]
 struct Fail;
@@ -36,5 +37,94 @@ fn texts_are_read_and_printed_back(rt: HostRuntime) -> Result<(), Fail> {
         let printed = lines_of_job(rt.alloc(), &job)?;
         assert_eq!(rt; printed.as_str(), text);
     }
+    Ok(())
+}
+
+/// Texts of no job, and the line that is named: one more than the lines that a text of a job can begin with.
+const DAMAGED: [(&str, u32); 52] = [
+    ("", 1),
+    ("end", 1),
+    ("block", 1),
+    ("block\n", 2),
+    ("end\n\n", 2),
+    ("end\nend\n", 2),
+    ("end\nblock\n", 2),
+    (" end\n", 1),
+    ("end \n", 1),
+    ("Block\nend\n", 1),
+    ("block\r\nend\n", 1),
+    ("Ret %r14\nend\n", 1),
+    ("block\nRet %r014\nend\n", 2),
+    ("block\nRet %r16\nend\n", 2),
+    ("block\nRet %v32\nend\n", 2),
+    ("block\nRet %i4294967296\nend\n", 2),
+    ("block\nRet %r14 \nend\n", 2),
+    ("block\nRet  %r14\nend\n", 2),
+    ("block\nRet\nend\n", 2),
+    ("block\nRet %r14 %r14\nend\n", 2),
+    ("block\nMov64SImm16 %r2 -0\nend\n", 2),
+    ("block\nMov64SImm16 %r2 32768\nend\n", 2),
+    ("block\nMov64SImm16 %r2 -32769\nend\n", 2),
+    ("block\nMov32Imm %r2 4294967296\nend\n", 2),
+    ("block\nTrapIf 15 heap_oob\nend\n", 2),
+    ("block\nTrap user251\nend\n", 2),
+    ("block\nVecRRR Add9x9 %v1 %v2 %v3\nend\n", 2),
+    ("block\nLoad64 %r2 BXD12(%r3,%r0,4096,a)\nend\n", 2),
+    ("block\nLoad64 %r2 BXD12(%r3,%r0,0,a\nend\n", 2),
+    ("block\nIndirectBr %r1 [1,]\nend\n", 2),
+    ("block\nSMulWide %r2/%r3/ %r4 %r5\nend\n", 2),
+    (
+        "block\nCall %r14 u1 [] [] [%v0,%r1] 0 SystemV SystemV - false -\nend\n",
+        2,
+    ),
+    (
+        "block\nCall %r14 u1 [] [] [%r1,%r1] 0 SystemV SystemV - false -\nend\n",
+        2,
+    ),
+    ("flags\nend\n", 1),
+    ("flags mie4 mie3\nend\n", 1),
+    ("flags mie3\nflags mie4\nend\n", 2),
+    ("frame SystemV 0 0 0 0 0 0 - 0\nend\n", 1),
+    ("symbol u1 0\nsymbol u1 1\nend\n", 2),
+    ("symbol u2 0\nsymbol u1 1\nend\n", 2),
+    ("symbol u1 0\nflags mie3\nend\n", 2),
+    ("reg %r2 0\nend\n", 1),
+    ("reg %r3 1\nreg %r2 1\nend\n", 2),
+    ("reg %v1 1\nend\n", 1),
+    ("mem 0 -\nend\n", 1),
+    ("mem 0 FF\nend\n", 1),
+    ("mem 0 0001\nmem 1 00\nend\n", 2),
+    ("mem 18446744073709551615 0001\nend\n", 1),
+    ("block\nLoop 4\nend\n", 3),
+    ("block\nendloop\nend\n", 2),
+    ("block\nLoop 4\nendloop\nendloop\nend\n", 4),
+    ("block\nLoop 4\nblock\nend\n", 3),
+    (
+        "block\nLoop 1\nLoop 2\nLoop 3\nLoop 4\nLoop 5\nLoop 6\nLoop 7\nLoop 8\nLoop 9\nLoop 10\nendloop\nendloop\nendloop\nendloop\nendloop\nendloop\nendloop\nendloop\nendloop\nendloop\nend\n",
+        11,
+    ),
+];
+
+/// The line of a syntax error, 0 where there is none.
+fn wrong_line(alloc: Global, text: &str) -> u32 {
+    match read_lines(alloc, text.as_bytes()) {
+        Err(LineError::Syntax { line }) => line,
+        _ => 0,
+    }
+}
+
+#[test]
+fn damaged_texts_name_their_line(rt: HostRuntime) {
+    for (text, line) in DAMAGED {
+        assert_eq!(rt; wrong_line(rt.alloc(), text), line, "at {text}");
+    }
+}
+
+#[test]
+fn errors_are_displayed(rt: HostRuntime) -> Result<(), AllocError> {
+    let wrong = format!(in rt.alloc(); "{}", LineError::Syntax { line: 2 })?;
+    assert_eq!(rt; wrong.as_str(), "syntax 2");
+    let full = format!(in rt.alloc(); "{}", LineError::NoMemory)?;
+    assert_eq!(rt; full.as_str(), "no memory");
     Ok(())
 }
