@@ -105,9 +105,13 @@ const DAMAGED: [(&str, u32); 52] = [
     ),
 ];
 
-/// The line of a syntax error, 0 where there is none.
+/// The line of a syntax error in a short text, 0 where there is none.
 fn wrong_line(alloc: Global, text: &str) -> u32 {
-    match read_lines(alloc, text.as_bytes()) {
+    let bytes = text.as_bytes();
+    if bytes.len() > 1000 {
+        return 0;
+    }
+    match read_lines(alloc, bytes) {
         Err(LineError::Syntax { line }) => line,
         _ => 0,
     }
