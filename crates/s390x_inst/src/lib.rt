@@ -7,6 +7,7 @@ pub mod function;
 pub mod inst;
 pub mod ops;
 pub mod state;
+pub mod vec_inst;
 pub mod vec_ops;
 
 pub use args::MemArg;
@@ -20,4 +21,5 @@ pub use ops::{ALUOp, CmpOp, RxSBGOp, ShiftOp, UnaryOp};
 pub use state::{
     EmitInfo, EmitState, FrameLayout, IsaFlags, MachInstEmitState, REG_SAVE_AREA_SIZE,
 };
+pub use vec_inst::VecInst;
 pub use vec_ops::{VecBinaryOp, VecIntCmpOp, VecIntEltCmpOp, VecShiftOp, VecUnaryOp};
