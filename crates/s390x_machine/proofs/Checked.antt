@@ -6,8 +6,10 @@ use Rattle.s390x_base.specs.declared.ir.MachLabel.{MachLabel}
 use Rattle.s390x_base.specs.declared.error.EmitError.{EmitError}
 use Rattle.s390x_base.specs.declared.error.EmitError.TheVariants.{BadOperator, BadRegister, UnboundLabel}
 use Rattle.s390x_inst.specs.declared.inst.Inst.{Inst}
-use Rattle.s390x_inst.specs.declared.inst.Inst.TheVariants.{AluRRR, Mov64, Jump, CondBr, IndirectBr, Ret, CondBreak}
-use Rattle.s390x_steps.specs.Causes.{first, unless, is_general, is_nonzero, is_alu_rrr, label_cause, labels_cause, instruction_cause, numbers_cause, nesting_cause, draws, tree_cause, blocks_cause}
+use Rattle.s390x_inst.specs.declared.inst.Inst.TheVariants.{Jump, CondBr, IndirectBr, Ret, CondBreak}
+use Rattle.s390x_steps.specs.Causes.{first, unless, label_cause, labels_cause, cause_or, instruction_cause, numbers_cause, nesting_cause, draws, tree_cause, blocks_cause}
+use Rattle.s390x_steps.specs.Alone.{Alone, alone}
+use Rattle.s390x_steps.specs.General.{is_general, is_nonzero}
 use Rattle.s390x_steps.specs.Ranges.{InRange, AllInRange, BlocksInRange}
 use Rattle.s390x_steps.specs.Tree.{Tree, empty, leaf, looped}
 use Rattle.s390x_steps.specs.Steps.{Step, Opening, Back, step_count, step_of, steps_of, steps_from, function_steps}
@@ -16,7 +18,7 @@ use Rattle.s390x_operations.specs.State.{CodeImage}
 use Rattle.s390x_operations.specs.declared.stop.StopKind.{StopKind}
 use Rattle.s390x_machine.specs.Functions.{function_layout}
 use Rattle.s390x_machine.specs.Layout.{Layout}
-use Rattle.s390x_machine.specs.Placed.{IsBlock, AreBlocks, IsFine}
+use Rattle.s390x_machine.specs.Placed.{IsBlock, AreBlocks, FineOr, IsFine}
 use Rattle.s390x_machine.proofs.Functions.{count_of}
 
 first_none : (a b : Option EmitError) → first a b ≡ None → (a ≡ None) × (b ≡ None)
@@ -27,11 +29,9 @@ unless_none : (h : Bool) (x : EmitError) → unless h x ≡ None → IsTrue h
 unless_none true x e = refl
 unless_none false x e = absurd (cc)
 
-three : (a b c : Bool) → IsTrue (a && b && c) → IsTrue a × IsTrue b × IsTrue c
-three true true true h = (refl, refl, refl)
-three true true false h = absurd (cc)
-three true false c h = absurd (cc)
-three false b c h = absurd (cc)
+fine_alone : (o : Option Alone) → cause_or o (Some BadOperator) ≡ None → FineOr o ⊥
+fine_alone None e = absurd (cc)
+fine_alone (Some x) e = unless_none x.fine BadRegister e
 
 module _ (L : Layout) where
   block_of : (l : MachLabel) → label_cause L.block_count l ≡ None → IsBlock L l.0
@@ -43,11 +43,6 @@ module _ (L : Layout) where
 
   -- an instruction, in so many loops, the innermost of which ends at a step
   fine_step : (depth after : ℕ) (i : Inst) → instruction_cause L.block_count depth i ≡ None → InRange i → (0 < depth → after ≤ length L.steps) → IsFine L (step_of after i)
-  fine_step depth after (AluRRR op rd rn rm) e range le =
-      let parts = first_none (unless (is_alu_rrr op) BadOperator) (unless (is_general rd && is_general rn && is_general rm) BadRegister) e in
-      let regs = three (is_general rd) (is_general rn) (is_general rm) (unless_none (is_general rd && is_general rn && is_general rm) BadRegister parts.1) in
-      (unless_none (is_alu_rrr op) BadOperator parts.0, regs.0, regs.1, regs.2)
-  fine_step depth after (Mov64 rd rm) e range le = and_parts (is_general rd) (is_general rm) (unless_none (is_general rd && is_general rm) BadRegister e)
   fine_step depth after (Jump dest) e range le = block_of dest e
   fine_step depth after (CondBr taken not_taken mask) e range le = let parts = first_none (label_cause L.block_count taken) (label_cause L.block_count not_taken) e in (block_of taken parts.0, block_of not_taken parts.1, range)
   fine_step depth after (IndirectBr rn targets) e range le =
@@ -56,7 +51,7 @@ module _ (L : Layout) where
       (regs.0, regs.1, blocks_of targets.items parts.1)
   fine_step depth after (Ret link) e range le = and_parts (is_general link) (is_nonzero link) (unless_none (is_general link && is_nonzero link) BadRegister e)
   fine_step depth after (CondBreak mask) e range le = (range, le (ltb-true 0 depth (unless_none (nat_lt 0 depth) Rattle.s390x_base.specs.declared.error.EmitError.TheVariants.BreakOutsideLoop e)))
-  fine_step depth after _ e range le = absurd (cc)
+  fine_step depth after i e range le = fine_alone (alone i) e
 
   -- each of some steps is fine
   AllFine : List Step → Type 0

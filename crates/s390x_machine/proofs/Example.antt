@@ -13,6 +13,7 @@ use Rattle.s390x_base.specs.Registers.{general}
 use Rattle.s390x_base.specs.declared.regs.Reg.TheVariants.{Real}
 use Rattle.s390x_operations.specs.State.{State, Lies, sum64}
 use Rattle.s390x_machine.specs.Fetch.{Found}
+use Rattle.s390x_machine.specs.Meanings.{meaning_in, meaning_of}
 use Rattle.s390x_machine.specs.Machine.{Event, Went, FetchedActs, MachineStep}
 use Rattle.s390x_machine.specs.Placed.{Placed, AllPlaced, IsBlock}
 use Rattle.s390x_machine.specs.Match.{start}
@@ -31,7 +32,7 @@ placed_add = record {
   offset = refl;
   bytes = refl;
   size = refl;
-  fine = (refl, refl, refl, refl);
+  fine = refl;
 }
 
 placed_branches : Placed L 1 (Plain (CondBr (label 0) (label 1) 4))
@@ -118,7 +119,7 @@ return_step : (s t : State) → s.core.memory ≡ core.memory → s.place ≡ 41
 return_step s t memory at acts = step_at (rr 0x07 15 14) 16 s (Went None) t refl memory at return_stands (fits_rr 0x07 15 14 (omega arith) (omega arith) (omega arith)) (bcr_listed 15 14) acts
 
 pub loop_runs : LoopRuns
-unfolding length_of
+unfolding length_of meaning_in meaning_of
 loop_runs = (
   all_placed,
   lies,

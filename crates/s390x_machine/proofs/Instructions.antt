@@ -1,37 +1,48 @@
 -- Each built step runs as its typed step, and so every run is allowed.
-use Rattle.std.proofs.Common.{◌≡◌, ℕ, suc, ◌+◌, ◌%◌, ◌^◌, ◌<◌, ◌≤◌, [], ◌∷◌, length, Option, Some, Bool, true, false, cond, IsTrue, refl, sym, ap, ◌∙◌, subst, arith, slice_get, eqb-true, true≢false}
-use Rattle.std.specs.Prelude.{nat_eq}
+use Rattle.std.proofs.Common.{◌≡◌, ℕ, suc, ◌+◌, ◌%◌, ◌^◌, ◌<◌, ◌≤◌, [], ◌∷◌, length, Option, Some, None, Bool, true, false, cond, ◌&&◌, IsTrue, refl, sym, ap, ◌∙◌, subst, arith, slice_get, eqb-true, nat_lt, nat_eq}
+use Rattle.std.proofs.lemmas.Bool.{and_parts}
 use Rattle.std.proofs.lemmas.Option.{slice_get_within}
 use Rattle.s390x_base.specs.Regs.{number_of}
+use Rattle.s390x_base.specs.declared.regs.Reg.{Reg}
+use Rattle.s390x_base.specs.declared.regs.Reg.TheVariants.{Real}
 use Rattle.s390x_base.specs.declared.trap.TrapKind.{TrapKind}
 use Rattle.s390x_inst.specs.declared.ops.ALUOp.{ALUOp}
-use Rattle.s390x_inst.specs.declared.ops.ALUOp.TheVariants.{Add64}
 use Rattle.s390x_inst.specs.declared.inst.Inst.{Inst}
-use Rattle.s390x_inst.specs.declared.inst.Inst.TheVariants.{AluRRR, Mov64, Jump, CondBr, IndirectBr, Ret}
+use Rattle.s390x_inst.specs.declared.inst.Inst.TheVariants.{AluRRR, AluRR, UnaryRR, CmpRR, Mov64, MovPReg, Mov32, Jump, CondBr, IndirectBr, Ret}
 use Rattle.s390x_format.specs.Formats.{length_of}
 use Rattle.s390x_format.specs.declared.kind.FormatKind.TheVariants.{Rr}
-use Rattle.s390x_steps.specs.Causes.{is_alu_rrr}
+use Rattle.s390x_steps.specs.General.{is_general, reuses}
+use Rattle.s390x_steps.specs.Opcodes.{alu_three, alu_two, cmp_two, unary_two}
+use Rattle.s390x_steps.specs.Alone.{Alone, alone, alone_with, two_operands, two_row, three_row}
 use Rattle.s390x_steps.specs.Ranges.{IsMask}
-use Rattle.s390x_steps.specs.MachineInstruction.{MachineInstruction, bytes_of, size_of, rre, rrf_ab, ril_c}
+use Rattle.s390x_steps.specs.MachineInstruction.{MachineInstruction, bytes_of, size_of, rr, rre, rrf_ab, ril_c}
 use Rattle.s390x_steps.specs.Steps.{Step, Plain, Opening, Back, Break}
-use Rattle.s390x_steps.specs.Parts.{Target, ToBlock, ToStep, Part, Row, Branch, add64 as add64_row, part_size, parts_size, step_parts}
+use Rattle.s390x_steps.specs.Parts.{Target, ToBlock, ToStep, Part, Row, Branch, part_size, parts_size, parts_or, step_parts}
 use Rattle.s390x_steps.specs.Rows.{rows_of}
 use Rattle.s390x_operations.specs.State.{Registers, sum64}
 use Rattle.s390x_operations.specs.Effects.{Refines}
 use Rattle.s390x_operations.specs.declared.effect.Operation.{Operation}
+use Rattle.s390x_operations.specs.declared.effect.CodeRule.TheVariants.{Kept, Set}
+use Rattle.s390x_operations.specs.declared.operator.Operator.TheVariants.{Move}
 use Rattle.s390x_operations.specs.declared.stop.StopKind.{StopKind}
+use Rattle.s390x_machine.specs.declared.meaning.Meaning.{Meaning}
+use Rattle.s390x_machine.specs.declared.meaning.Meaning.TheVariants.{Compare}
+use Rattle.s390x_machine.specs.declared.meaning.Shape.TheVariants.{Register, ThreeRegisters}
 use Rattle.s390x_machine.specs.declared.meaning.Action.{Action}
 use Rattle.s390x_machine.specs.declared.meaning.Action.TheVariants.{Perform, Branch as BranchAction}
-use Rattle.s390x_machine.specs.Forms.{Form, Performs, GoesTo, Chooses, GoesByAddress, Leads, Returns, Silent, no_code, move64, add64}
+use Rattle.s390x_machine.specs.Computations.{Computation, alu_computation, alu_three_rule, alu_two_rule, unary_computation, unary_rule, comparison, on_words, on_doublewords, computes, compares}
+use Rattle.s390x_machine.specs.Forms.{Form, Performs, GoesTo, Chooses, GoesByAddress, Leads, Returns, Silent, no_code}
+use Rattle.s390x_machine.specs.Meanings.{action}
 use Rattle.s390x_machine.specs.Typed.{At, FormStep, form_of, form_at}
 use Rattle.s390x_machine.specs.Match.{StepRuns, StepHolds, Headline, EveryBlockRun, silent}
 use Rattle.s390x_machine.specs.Machine.{Run}
 use Rattle.s390x_machine.specs.Layout.{Layout, place, block_place, InStep}
-use Rattle.s390x_machine.specs.Placed.{Placed, AllPlaced, IsBlock, IsFineInstruction, IsFine}
+use Rattle.s390x_machine.specs.Placed.{Placed, AllPlaced, IsBlock, FineOr, IsFineInstruction, IsFine}
 use Rattle.s390x_machine.proofs.Fetching.{StandsAt}
 use Rattle.s390x_machine.proofs.Simulation.{RowAt, DoesAs, Coded, at_start, general_step}
 use Rattle.s390x_machine.proofs.Standing.{step_rows, offset_even, offset_small, inside_at, inside_first, next_place, block_at}
-use Rattle.s390x_machine.proofs.Rows.{general_number, nonzero_number, lgr_at, agr_at, agrk_at, bcr_at, brcl_at}
+use Rattle.s390x_machine.proofs.Rows.{general_number, nonzero_number, bcr_at, brcl_at}
+use Rattle.s390x_machine.proofs.Alone.{TwoRow, ThreeRow, TwoRows, ThreeRows, second_register, computed, register_fields, alu_three_rows, alu_two_rows, cmp_rows, unary_rows, lgr_row, lr_row, two_at, three_at, loosens, three_looser, two_looser}
 use Rattle.s390x_machine.proofs.Branches.{jump_runs, TwoBranches, choose_runs, leads_runs, returns_runs, address_runs}
 use Rattle.s390x_machine.proofs.Induction.{headline_of, one_step}
 
@@ -55,6 +66,29 @@ row_alone L k operation code act size is row does coded e some c lies =
 exactly : (op : Operation) → Refines op op
 exactly op = record { access = refl; refused = refl; may_refuse = λ kind h. h; results = λ c r h. h; code = λ c code h. h }
 
+two_some : (opcode d m : ℕ) → 0 < size_of (two_operands opcode d m)
+two_some opcode d m = go (nat_lt opcode 256)
+  where
+    go : (short : Bool) → 0 < size_of (cond short (rr opcode d m) (rre opcode d m))
+    unfolding length_of
+    go true = omega arith
+    go false = omega arith
+
+two_small : (a b : Reg) → IsTrue (is_general a && is_general b) → (number_of a < 16) × (number_of b < 16)
+two_small a b h = let p = and_parts (is_general a) (is_general b) h in (general_number a p.0, general_number b p.1)
+
+three_small : (a b c : Reg) → IsTrue (is_general a && is_general b && is_general c) → (number_of a < 16) × (number_of b < 16) × (number_of c < 16)
+three_small a b c h =
+    let p = and_parts (is_general a) (is_general b && is_general c) h in
+    let q = two_small b c p.1 in
+    (general_number a p.0, q.0, q.1)
+
+reused_small : (output input other : Reg) → IsTrue (reuses output input && is_general other) → (number_of output < 16) × (number_of other < 16)
+reused_small output input other h =
+    let p = and_parts (reuses output input) (is_general other) h in
+    let q = and_parts (is_general output) (is_general input && nat_eq (number_of output) (number_of input)) p.0 in
+    (general_number output q.0, general_number other p.1)
+
 uncoded : (L : Layout) (p : ℕ) → Coded L p no_code
 uncoded L p kind n e = absurd (cc)
 
@@ -71,27 +105,43 @@ module _ (L : Layout) (all : AllPlaced L) (k : ℕ) (s : Step) (at : slice_get L
   formed : (f : Form) → form_of (Some s) ≡ Some f → form_at L k ≡ Some f
   formed f e = ap form_of at ∙ e
 
-  move_runs : (a b : ℕ) → form_of (Some s) ≡ Some (Performs false (move64 a b) no_code) → step_parts s ≡ Row (rre 0xb904 a b) ∷ [] → a < 16 → b < 16 → StepRuns L k
-  unfolding length_of
-  move_runs a b is parts la lb =
-      let one = one_row L k s placed (rre 0xb904 a b) parts in
-      row_alone L k (move64 a b) no_code (λ r. Perform (move64 a b r)) 4 (formed _ is) (lgr_at L all (L.places.step k) even a b la lb one.stands) (λ r. exactly (move64 a b r)) (uncoded L (place L k)) one.size (omega arith)
+  two_runs : (opcode : ℕ) (meaning : Meaning) → TwoRow opcode meaning → (does operation : Registers → Operation) (d m : ℕ) → form_of (Some s) ≡ Some (Performs false operation no_code) → step_parts s ≡ Row (two_operands opcode d m) ∷ [] → d < 16 → m < 16 → ((r : Registers) (p : ℕ) → action meaning (register_fields d m 0) r p ≡ Perform (does r)) → ((r : Registers) → Refines (does r) (operation r)) → StepRuns L k
+  two_runs opcode meaning row does operation d m is parts ld lm acts refines =
+      let one = one_row L k s placed (two_operands opcode d m) parts in
+      row_alone L k operation no_code (λ r. Perform (does r)) (size_of (two_operands opcode d m)) (formed _ is) (two_at L all (L.places.step k) even opcode meaning row does d m ld lm acts one.stands) refines (uncoded L (place L k)) one.size (two_some opcode d m)
 
-  add_runs : (d n m : ℕ) → form_of (Some s) ≡ Some (Performs false (add64 d n m) no_code) → step_parts s ≡ Row (add64_row d n m) ∷ [] → d < 16 → n < 16 → m < 16 → StepRuns L k
+  three_runs : (opcode : ℕ) (meaning : Meaning) → ThreeRow opcode meaning → (does operation : Registers → Operation) (d n m : ℕ) → form_of (Some s) ≡ Some (Performs false operation no_code) → step_parts s ≡ Row (rrf_ab opcode d n m 0) ∷ [] → d < 16 → n < 16 → m < 16 → ((r : Registers) (p : ℕ) → action meaning (register_fields d n m) r p ≡ Perform (does r)) → ((r : Registers) → Refines (does r) (operation r)) → StepRuns L k
   unfolding length_of
-  add_runs d n m is parts ld ln lm = go (nat_eq d n) refl
+  three_runs opcode meaning row does operation d n m is parts ld ln lm acts refines =
+      let one = one_row L k s placed (rrf_ab opcode d n m 0) parts in
+      row_alone L k operation no_code (λ r. Perform (does r)) 4 (formed _ is) (three_at L all (L.places.step k) even opcode meaning row does d n m ld ln lm acts one.stands) refines (uncoded L (place L k)) one.size (omega arith)
+
+  -- an instruction of one row of two registers, where its operator has one
+  one_of_two : (fine : Bool) (o : Option ℕ) (meaning : Meaning) → TwoRows o meaning → (does operation : Registers → Operation) (d m : ℕ) → form_of (Some s) ≡ Some (Performs false operation no_code) → step_parts s ≡ parts_or (alone_with fine (two_row o d m)) [] → FineOr (alone_with fine (two_row o d m)) ⊥ → (IsTrue fine → (d < 16) × (m < 16)) → ((r : Registers) (p : ℕ) → action meaning (register_fields d m 0) r p ≡ Perform (does r)) → ((r : Registers) → Refines (does r) (operation r)) → StepRuns L k
+  one_of_two fine None meaning row does operation d m is parts h small acts refines = absurd h
+  one_of_two fine (Some opcode) meaning row does operation d m is parts h small acts refines = let l = small h in two_runs opcode meaning row does operation d m is parts l.0 l.1 acts refines
+
+  -- an operator on three registers: its row of three, or that of two where the first input is the output
+  alu_three_runs : (op : ALUOp) (fine : Bool) (d n m : ℕ) → form_of (Some s) ≡ Some (Performs false (computes (alu_three_rule op) (alu_computation op) d n m) no_code) → step_parts s ≡ parts_or (alone_with fine (three_row (alu_three op) (alu_two op) d n m)) [] → FineOr (alone_with fine (three_row (alu_three op) (alu_two op) d n m)) ⊥ → (IsTrue fine → (d < 16) × (n < 16) × (m < 16)) → StepRuns L k
+  alu_three_runs op fine d n m is parts h small = go (alu_three op) refl (alu_three_rows op) (alu_two op) (alu_two_rows op) parts h
     where
-      go : (same : Bool) → nat_eq d n ≡ same → StepRuns L k
-      go true e =
-          let one = one_row L k s placed (rre 0xb908 d m) (parts ∙ ap (λ b. Row (cond b (rre 0xb908 d m) (rrf_ab 0xb9e8 d n m 0)) ∷ []) e) in
-          row_alone L k (add64 d n m) no_code (λ r. Perform (add64 d d m r)) 4 (formed _ is) (agr_at L all (L.places.step k) even d m ld lm one.stands) (λ r. subst (λ i. Refines (add64 d d m r) (add64 d i m r)) (eqb-true d n e) (exactly (add64 d d m r))) (uncoded L (place L k)) one.size (omega arith)
-      go false e =
-          let one = one_row L k s placed (rrf_ab 0xb9e8 d n m 0) (parts ∙ ap (λ b. Row (cond b (rre 0xb908 d m) (rrf_ab 0xb9e8 d n m 0)) ∷ []) e) in
-          row_alone L k (add64 d n m) no_code (λ r. Perform (add64 d n m r)) 4 (formed _ is) (agrk_at L all (L.places.step k) even d n m ld ln lm one.stands) (λ r. exactly (add64 d n m r)) (uncoded L (place L k)) one.size (omega arith)
+      c : Computation
+      c = alu_computation op
 
-  alu_runs : (op : ALUOp) (d n m : ℕ) → IsTrue (is_alu_rrr op) → form_of (Some s) ≡ Some (Rattle.s390x_machine.specs.Forms.alu_rrr_form op d n m) → step_parts s ≡ Rattle.s390x_steps.specs.Parts.alu_rrr op d n m → d < 16 → n < 16 → m < 16 → StepRuns L k
-  alu_runs Add64 d n m built is parts ld ln lm = add_runs d n m is parts ld ln lm
-  alu_runs _ d n m built is parts ld ln lm = absurd (true≢false (sym built))
+      by_three : (opcode : ℕ) → ThreeRow opcode (computed c ThreeRegisters Set) → step_parts s ≡ Row (rrf_ab opcode d n m 0) ∷ [] → IsTrue fine → StepRuns L k
+      by_three opcode row is_row h = let l = small h in three_runs opcode (computed c ThreeRegisters Set) row (computes Set c d n m) (computes (alu_three_rule op) c d n m) d n m is is_row l.0 l.1 l.2 (λ r p. refl) (λ r. loosens _ Set (alu_three_rule op) (three_looser op))
+
+      either : (same : Bool) → nat_eq d n ≡ same → (three : ℕ) → alu_three op ≡ Some three → ThreeRow three (computed c ThreeRegisters Set) → (two : ℕ) → TwoRow two (computed c Register (alu_two_rule op)) → step_parts s ≡ Row (cond same (two_operands two d m) (rrf_ab three d n m 0)) ∷ [] → IsTrue fine → StepRuns L k
+      either true e three some row two row2 is_row h =
+          let l = small h in
+          two_runs two (computed c Register (alu_two_rule op)) row2 (computes (alu_two_rule op) c d d m) (computes (alu_three_rule op) c d n m) d m is is_row l.0 l.2 (λ r p. refl) (λ r.
+          subst (λ i. Refines (computes (alu_two_rule op) c d d m r) (computes (alu_three_rule op) c d i m r)) (eqb-true d n e) (loosens _ (alu_two_rule op) (alu_three_rule op) (two_looser op three some)))
+      either false e three some row two row2 is_row h = by_three three row is_row h
+
+      go : (three : Option ℕ) → alu_three op ≡ three → ThreeRows three (computed c ThreeRegisters Set) → (two : Option ℕ) → TwoRows two (computed c Register (alu_two_rule op)) → step_parts s ≡ parts_or (alone_with fine (three_row three two d n m)) [] → FineOr (alone_with fine (three_row three two d n m)) ⊥ → StepRuns L k
+      go None some row two row2 is_row h = absurd h
+      go (Some three) some row None row2 is_row h = by_three three row is_row h
+      go (Some three) some row (Some two) row2 is_row h = either (nat_eq d n) refl three some row two row2 is_row h
 
   -- the row of a branch to a register
   register_row : (n : ℕ) → step_parts s ≡ Row (Rattle.s390x_steps.specs.MachineInstruction.rr 0x07 15 n) ∷ [] → n < 16 → (n ≡ 0 → ⊥) → RowAt L (place L k) (λ r. BranchAction 15 (r.general n)) (length_of Rr) × InStep L k (place L k)
@@ -153,8 +203,19 @@ small_mask mask m = omega (arith, m.1)
 
 instruction_runs : (L : Layout) → AllPlaced L → (k : ℕ) (i : Inst) → slice_get L.steps k ≡ Some (Plain i) → Placed L k (Plain i) → IsFineInstruction L i → StepRuns L k
 instruction_runs L all k (AluRRR op rd rn rm) at p fine =
-    alu_runs L all k (Plain (AluRRR op rd rn rm)) at p op (number_of rd) (number_of rn) (number_of rm) fine.0 refl refl (general_number rd fine.1) (general_number rn fine.2) (general_number rm fine.3)
-instruction_runs L all k (Mov64 rd rm) at p fine = move_runs L all k (Plain (Mov64 rd rm)) at p (number_of rd) (number_of rm) refl refl (general_number rd fine.0) (general_number rm fine.1)
+    alu_three_runs L all k (Plain (AluRRR op rd rn rm)) at p op (is_general rd && is_general rn && is_general rm) (number_of rd) (number_of rn) (number_of rm) refl refl fine (three_small rd rn rm)
+instruction_runs L all k (AluRR op rd ri rm) at p fine =
+    one_of_two L all k (Plain (AluRR op rd ri rm)) at p (reuses rd ri && is_general rm) (alu_two op) (computed (alu_computation op) Register (alu_two_rule op)) (alu_two_rows op) (computes (alu_two_rule op) (alu_computation op) (number_of rd) (number_of rd) (number_of rm)) (computes (alu_two_rule op) (alu_computation op) (number_of rd) (number_of rd) (number_of rm)) (number_of rd) (number_of rm) refl refl fine (reused_small rd ri rm) (λ r q. refl) (λ r. exactly _)
+instruction_runs L all k (UnaryRR op rd rn) at p fine =
+    one_of_two L all k (Plain (UnaryRR op rd rn)) at p (is_general rd && is_general rn) (unary_two op) (computed (unary_computation op) Register (unary_rule op)) (unary_rows op) (computes (unary_rule op) (unary_computation op) (number_of rd) (number_of rd) (number_of rn)) (computes (unary_rule op) (unary_computation op) (number_of rd) (number_of rd) (number_of rn)) (number_of rd) (number_of rn) refl refl fine (two_small rd rn) (λ r q. refl) (λ r. exactly _)
+instruction_runs L all k (CmpRR op rn rm) at p fine =
+    one_of_two L all k (Plain (CmpRR op rn rm)) at p (is_general rn && is_general rm) (cmp_two op) (Compare (comparison op).sign (comparison op).size (second_register Register (comparison op).second)) (cmp_rows op) (compares (comparison op) (number_of rn) (number_of rm)) (compares (comparison op) (number_of rn) (number_of rm)) (number_of rn) (number_of rm) refl refl fine (two_small rn rm) (λ r q. refl) (λ r. exactly _)
+instruction_runs L all k (Mov64 rd rm) at p fine =
+    one_of_two L all k (Plain (Mov64 rd rm)) at p (is_general rd && is_general rm) (Some 0xb904) (computed (on_doublewords Move) Register Kept) lgr_row (computes Kept (on_doublewords Move) (number_of rd) (number_of rd) (number_of rm)) (computes Kept (on_doublewords Move) (number_of rd) (number_of rd) (number_of rm)) (number_of rd) (number_of rm) refl refl fine (two_small rd rm) (λ r q. refl) (λ r. exactly _)
+instruction_runs L all k (MovPReg rd rm) at p fine =
+    one_of_two L all k (Plain (MovPReg rd rm)) at p (is_general rd && is_general (Real rm)) (Some 0xb904) (computed (on_doublewords Move) Register Kept) lgr_row (computes Kept (on_doublewords Move) (number_of rd) (number_of rd) (number_of (Real rm))) (computes Kept (on_doublewords Move) (number_of rd) (number_of rd) (number_of (Real rm))) (number_of rd) (number_of (Real rm)) refl refl fine (two_small rd (Real rm)) (λ r q. refl) (λ r. exactly _)
+instruction_runs L all k (Mov32 rd rm) at p fine =
+    one_of_two L all k (Plain (Mov32 rd rm)) at p (is_general rd && is_general rm) (Some 0x18) (computed (on_words Move) Register Kept) lr_row (computes Kept (on_words Move) (number_of rd) (number_of rd) (number_of rm)) (computes Kept (on_words Move) (number_of rd) (number_of rd) (number_of rm)) (number_of rd) (number_of rm) refl refl fine (two_small rd rm) (λ r q. refl) (λ r. exactly _)
 instruction_runs L all k (Jump dest) at p fine = goto_runs L all k (Plain (Jump dest)) at p dest.0 refl refl fine
 instruction_runs L all k (CondBr taken not_taken mask) at p fine = condbr_runs L all k (Plain (CondBr taken not_taken mask)) at p mask taken.0 not_taken.0 refl refl (small_mask mask fine.2) fine.0 fine.1
 instruction_runs L all k (IndirectBr rn targets) at p fine =

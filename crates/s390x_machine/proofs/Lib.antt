@@ -11,6 +11,7 @@ pub mod Standing
 pub mod Reaching
 pub mod Reading
 pub mod Rows
+pub mod Alone
 pub mod Branches
 pub mod Example
 pub mod Instructions

@@ -15,7 +15,7 @@ use Rattle.s390x_format.specs.Lookup.{row_for}
 use Rattle.s390x_format.proofs.Encoding.{listed}
 use Rattle.s390x_format.specs.Fetch.{machine_rows}
 use Rattle.s390x_format.specs.Encoded.{IsEncoded}
-use Rattle.s390x_steps.specs.Causes.{is_general, is_nonzero}
+use Rattle.s390x_steps.specs.General.{is_general, is_nonzero}
 use Rattle.s390x_steps.specs.MachineInstruction.{bytes_of, rr, rre, rrf_ab, ril_c}
 use Rattle.s390x_steps.specs.Rows.{half_distance}
 use Rattle.s390x_operations.specs.State.{State, sum64}
@@ -23,8 +23,7 @@ use Rattle.s390x_operations.specs.Numbers.{low}
 use Rattle.s390x_operations.specs.declared.size.Size.TheVariants.{Doubleword}
 use Rattle.s390x_machine.specs.declared.meaning.Action.TheVariants.{Perform, Branch}
 use Rattle.s390x_machine.specs.Machine.{Event, Acts}
-use Rattle.s390x_machine.specs.Meanings.{performs}
-use Rattle.s390x_machine.specs.Forms.{move64, add64}
+use Rattle.s390x_machine.specs.Meanings.{performs, meaning_in, meaning_of}
 use Rattle.s390x_machine.specs.Layout.{Layout}
 use Rattle.s390x_machine.specs.Placed.{AllPlaced}
 use Rattle.s390x_machine.proofs.Addresses.{lands}
@@ -57,17 +56,9 @@ fits_ril_c opcode mask half o lm lh = fields_from RilC (ril_c opcode mask half).
 
 -- ---- the table lists them
 
-lgr_listed : (a b : ℕ) → IsEncoded machine_rows Rre (rre 0xb904 a b).slots
-unfolding machine_rows row_for
-lgr_listed a b = listed machine_rows Rre (rre 0xb904 a b).slots (omega arith) (refl, refl, refl)
-
 pub agr_listed : (a b : ℕ) → IsEncoded machine_rows Rre (rre 0xb908 a b).slots
 unfolding machine_rows row_for
 agr_listed a b = listed machine_rows Rre (rre 0xb908 a b).slots (omega arith) (refl, refl, refl)
-
-agrk_listed : (a b c : ℕ) → IsEncoded machine_rows RrfAb (rrf_ab 0xb9e8 a b c 0).slots
-unfolding machine_rows row_for
-agrk_listed a b c = listed machine_rows RrfAb (rrf_ab 0xb9e8 a b c 0).slots (omega arith) (refl, refl, refl)
 
 pub bcr_listed : (a b : ℕ) → IsEncoded machine_rows Rr (rr 0x07 a b).slots
 unfolding machine_rows row_for
@@ -80,16 +71,8 @@ brcl_listed mask half = listed machine_rows RilC (ril_c 0xc04 mask half).slots (
 -- ---- what the machine does there
 
 module _ (L : Layout) (all : AllPlaced L) (offset : ℕ) (even : offset % 2 ≡ 0) where
-  pub lgr_at : (a b : ℕ) → a < 16 → b < 16 → StandsAt L.image offset (bytes_of (rre 0xb904 a b)) → RowAt L (sum64 L.image.base offset) (λ r. Perform (move64 a b r)) (length_of Rre)
-  lgr_at a b la lb s = row_at L offset (rre 0xb904 a b) (λ r. Perform (move64 a b r)) all.even even all.fits s (fits_rre 0xb904 a b (omega arith) la lb) (lgr_listed a b) (λ state event t at h. h)
-
-  pub agr_at : (a b : ℕ) → a < 16 → b < 16 → StandsAt L.image offset (bytes_of (rre 0xb908 a b)) → RowAt L (sum64 L.image.base offset) (λ r. Perform (add64 a a b r)) (length_of Rre)
-  agr_at a b la lb s = row_at L offset (rre 0xb908 a b) (λ r. Perform (add64 a a b r)) all.even even all.fits s (fits_rre 0xb908 a b (omega arith) la lb) (agr_listed a b) (λ state event t at h. h)
-
-  pub agrk_at : (a b c : ℕ) → a < 16 → b < 16 → c < 16 → StandsAt L.image offset (bytes_of (rrf_ab 0xb9e8 a b c 0)) → RowAt L (sum64 L.image.base offset) (λ r. Perform (add64 a b c r)) (length_of RrfAb)
-  agrk_at a b c la lb lc s = row_at L offset (rrf_ab 0xb9e8 a b c 0) (λ r. Perform (add64 a b c r)) all.even even all.fits s (fits_rrf_ab 0xb9e8 a b c (omega arith) la lb lc) (agrk_listed a b c) (λ state event t at h. h)
-
   pub bcr_at : (mask b : ℕ) → mask < 16 → b < 16 → b ≢ 0 → StandsAt L.image offset (bytes_of (rr 0x07 mask b)) → RowAt L (sum64 L.image.base offset) (λ r. Branch mask (r.general b)) (length_of Rr)
+  unfolding meaning_in meaning_of
   bcr_at mask b lm lb some s = row_at L offset (rr 0x07 mask b) (λ r. Branch mask (r.general b)) all.even even all.fits s (fits_rr 0x07 mask b (omega arith) lm lb) (bcr_listed mask b) (λ state event t at h. taken (b == 0) refl state event t h)
     where
       taken : (n : Bool) → (b == 0) ≡ n → (state : State) (event : Event) (t : State) → Acts (cond n (performs Rattle.s390x_operations.specs.declared.effect.CodeRule.TheVariants.Kept Rattle.s390x_operations.specs.declared.effect.Effect.TheVariants.Nothing) (Branch mask (state.core.registers.general b))) (length_of Rr) state event t → Acts (Branch mask (state.core.registers.general b)) (length_of Rr) state event t
@@ -97,6 +80,7 @@ module _ (L : Layout) (all : AllPlaced L) (offset : ℕ) (even : offset % 2 ≡ 
       taken false e state event t h = h
 
   pub brcl_at : (mask target : ℕ) → mask < 16 → offset < 2 ^ 31 → target % 2 ≡ 0 → target < 2 ^ 31 → StandsAt L.image offset (bytes_of (ril_c 0xc04 mask (half_distance offset target))) → RowAt L (sum64 L.image.base offset) (λ r. Branch mask (sum64 L.image.base target)) (length_of RilC)
+  unfolding meaning_in meaning_of
   brcl_at mask target lm small even_target small_target s =
       row_at L offset (ril_c 0xc04 mask (half_distance offset target)) (λ r. Branch mask (sum64 L.image.base target)) all.even even all.fits s (fits_ril_c 0xc04 mask (half_distance offset target) (omega arith) lm (omega arith)) (brcl_listed mask (half_distance offset target)) (λ state event t at h.
       subst (λ a. Acts (Branch mask a) (length_of RilC) state event t) (ap (λ p. low Doubleword (pos p +ℤ pos 2 *ℤ cast_signed w32 (half_distance offset target))) at ∙ lands L.image.base offset target even even_target small small_target) h)

@@ -1,26 +1,17 @@
 -- What each typed step does. It knows no bytes: its operations are those of the common relation.
-use Rattle.std.specs.Prelude.{ℕ, Bool, false, List, Option, None}
+use Rattle.std.specs.Prelude.{ℕ, Bool, false, List, Option, Some, None}
 use Rattle.s390x_base.specs.Regs.{number_of}
+use Rattle.s390x_base.specs.declared.regs.Reg.TheVariants.{Real}
 use Rattle.s390x_base.specs.declared.ir.MachLabel.{MachLabel}
 use Rattle.s390x_base.specs.declared.trap.TrapKind.{TrapKind}
-use Rattle.s390x_inst.specs.declared.ops.ALUOp.{ALUOp}
-use Rattle.s390x_inst.specs.declared.ops.ALUOp.TheVariants.{Add64}
 use Rattle.s390x_inst.specs.declared.inst.Inst.{Inst}
-use Rattle.s390x_inst.specs.declared.inst.Inst.TheVariants.{AluRRR, Mov64, Jump, CondBr, IndirectBr, Ret}
-use Rattle.s390x_lanes.specs.declared.operation.Signedness.TheVariants.{Unsigned}
+use Rattle.s390x_inst.specs.declared.inst.Inst.TheVariants.{AluRRR, AluRR, UnaryRR, CmpRR, Mov64, MovPReg, Mov32, Jump, CondBr, IndirectBr, Ret}
 use Rattle.s390x_operations.specs.State.{Registers}
-use Rattle.s390x_operations.specs.declared.size.Size.TheVariants.{Doubleword}
-use Rattle.s390x_operations.specs.declared.size.Width.TheVariants.{Bits64}
-use Rattle.s390x_operations.specs.declared.operand.Source.TheVariants.{Value}
-use Rattle.s390x_operations.specs.declared.operand.Operand.{Operand}
-use Rattle.s390x_operations.specs.declared.operator.SignedOperator.TheVariants.{Add}
-use Rattle.s390x_operations.specs.declared.operator.Operator.TheVariants.{Signed, Move}
-use Rattle.s390x_operations.specs.declared.effect.Effect.{Effect}
-use Rattle.s390x_operations.specs.declared.effect.Effect.TheVariants.{Compute}
-use Rattle.s390x_operations.specs.declared.effect.CodeRule.{CodeRule}
-use Rattle.s390x_operations.specs.declared.effect.CodeRule.TheVariants.{Kept, Set}
+use Rattle.s390x_operations.specs.declared.operator.Operator.TheVariants.{Move}
+use Rattle.s390x_operations.specs.declared.effect.CodeRule.TheVariants.{Kept}
 use Rattle.s390x_operations.specs.declared.effect.Operation.{Operation}
 use Rattle.s390x_operations.specs.declared.stop.StopKind.{StopKind}
+use Rattle.s390x_machine.specs.Computations.{computes, compares, alu_computation, alu_three_rule, alu_two_rule, unary_computation, unary_rule, comparison, on_words, on_doublewords}
 use Rattle.s390x_steps.specs.Steps.{Step, Plain, Opening, Back, Break}
 
 pub data Form : Type 0 where
@@ -56,31 +47,31 @@ pub data Form : Type 0 where
 abbrev pub no_code : StopKind → Option TrapKind
 no_code kind = None
 
--- a whole register's value as an operand
-abbrev pub register_operand : ℕ → Operand
-register_operand x = record { source = Value x; width = Bits64; sign = Unsigned; reversed = false }
+-- what an instruction that is one operation does; a move has no first operand
+abbrev pub instruction_operation : Inst → Option (Registers → Operation)
+instruction_operation (AluRRR op rd rn rm) = Some (computes (alu_three_rule op) (alu_computation op) (number_of rd) (number_of rn) (number_of rm))
+instruction_operation (AluRR op rd ri rm) = Some (computes (alu_two_rule op) (alu_computation op) (number_of rd) (number_of rd) (number_of rm))
+instruction_operation (UnaryRR op rd rn) = Some (computes (unary_rule op) (unary_computation op) (number_of rd) (number_of rd) (number_of rn))
+instruction_operation (CmpRR op rn rm) = Some (compares (comparison op) (number_of rn) (number_of rm))
+instruction_operation (Mov64 rd rm) = Some (computes Kept (on_doublewords Move) (number_of rd) (number_of rd) (number_of rm))
+instruction_operation (MovPReg rd rm) = Some (computes Kept (on_doublewords Move) (number_of rd) (number_of rd) (number_of (Real rm)))
+instruction_operation (Mov32 rd rm) = Some (computes Kept (on_words Move) (number_of rd) (number_of rd) (number_of rm))
+instruction_operation _ = None
 
-abbrev pub with_rule : CodeRule → Effect → Operation
-with_rule rule effect = record { effect = effect; rule = rule }
+-- one that goes elsewhere
+abbrev pub branch_form : Inst → Form
+branch_form (Jump dest) = GoesTo dest.0
+branch_form (CondBr taken not_taken mask) = Chooses mask taken.0 not_taken.0
+branch_form (IndirectBr rn targets) = GoesByAddress (number_of rn) targets.items
+branch_form (Ret link) = Returns (number_of link)
+branch_form _ = Unbuilt
 
-abbrev pub move64 : (d m : ℕ) → Registers → Operation
-move64 d m r = with_rule Kept (Compute Move Doubleword d (r.general d) (register_operand (r.general m)))
-
-abbrev pub add64 : (d n m : ℕ) → Registers → Operation
-add64 d n m r = with_rule Set (Compute (Signed Add) Doubleword d (r.general n) (register_operand (r.general m)))
-
-abbrev pub alu_rrr_form : ALUOp → (d n m : ℕ) → Form
-alu_rrr_form Add64 d n m = Performs false (add64 d n m) no_code
-alu_rrr_form _ d n m = Unbuilt
+abbrev pub form_or : Option (Registers → Operation) → Form → Form
+form_or None others = others
+form_or (Some operation) others = Performs false operation no_code
 
 abbrev pub instruction_form : Inst → Form
-instruction_form (AluRRR op rd rn rm) = alu_rrr_form op (number_of rd) (number_of rn) (number_of rm)
-instruction_form (Mov64 rd rm) = Performs false (move64 (number_of rd) (number_of rm)) no_code
-instruction_form (Jump dest) = GoesTo dest.0
-instruction_form (CondBr taken not_taken mask) = Chooses mask taken.0 not_taken.0
-instruction_form (IndirectBr rn targets) = GoesByAddress (number_of rn) targets.items
-instruction_form (Ret link) = Returns (number_of link)
-instruction_form _ = Unbuilt
+instruction_form i = form_or (instruction_operation i) (branch_form i)
 
 -- a loop's opening is a step without bytes; its back branch and its breaks lead to steps
 abbrev pub form : Step → Form

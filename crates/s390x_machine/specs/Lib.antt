@@ -1,3 +1,4 @@
+pub mod Computations
 pub mod Example
 pub mod Fetch
 pub mod Forms
@@ -6,6 +7,7 @@ pub mod Layout
 pub mod Machine
 pub mod Match
 pub mod Meanings
+pub mod Operands
 pub mod Placed
 pub mod State
 pub mod Typed

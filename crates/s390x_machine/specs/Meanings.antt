@@ -4,18 +4,19 @@ use Rattle.s390x_format.specs.declared.fields.Fields.{Fields}
 use Rattle.s390x_operations.specs.Numbers.{low}
 use Rattle.s390x_operations.specs.State.{Registers}
 use Rattle.s390x_operations.specs.declared.size.Size.{Size}
-use Rattle.s390x_operations.specs.declared.size.Size.TheVariants.{Word, Doubleword}
+use Rattle.s390x_operations.specs.declared.size.Size.TheVariants.{Doubleword}
+use Rattle.s390x_machine.specs.Operands.{value_in}
 use Rattle.s390x_operations.specs.declared.operand.Source.{Source}
 use Rattle.s390x_operations.specs.declared.operand.Source.TheVariants.{Value, Memory as InMemory, AlignedMemory}
 use Rattle.s390x_operations.specs.declared.operand.Operand.{Operand}
 use Rattle.s390x_operations.specs.declared.effect.Effect.{Effect}
 use Rattle.s390x_operations.specs.declared.effect.CodeRule.{CodeRule}
-use Rattle.s390x_operations.specs.declared.effect.CodeRule.TheVariants.{Kept}
+use Rattle.s390x_operations.specs.declared.effect.CodeRule.TheVariants.{Kept, Set}
 use Rattle.s390x_machine.specs.declared.meaning.Shape.{Shape}
 use Rattle.s390x_machine.specs.declared.meaning.Shape.TheVariants.{Register, ThreeRegisters, Indexed, Relative, Immediate, ThreeImmediate}
 use Rattle.s390x_machine.specs.declared.meaning.SecondOperand.{SecondOperand}
 use Rattle.s390x_machine.specs.declared.meaning.Meaning.{Meaning}
-use Rattle.s390x_machine.specs.declared.meaning.Meaning.TheVariants.{Compute, BranchToRegister, BranchRelative}
+use Rattle.s390x_machine.specs.declared.meaning.Meaning.TheVariants.{Compute, Compare, BranchToRegister, BranchRelative}
 use Rattle.s390x_machine.specs.declared.meaning.RowMeaning.{RowMeaning}
 use Rattle.s390x_machine.specs.declared.meaning.Action.{Action}
 use Rattle.s390x_machine.specs.declared.meaning.Action.TheVariants.{Perform, Branch}
@@ -27,11 +28,6 @@ register_field f i = slice_index f.regs i
 
 abbrev pub mask_field : Fields → ℕ → ℕ
 mask_field f i = slice_index f.masks i
-
--- the part of a register that a size names
-abbrev pub value_in : Size → Registers → ℕ → ℕ
-value_in Word r i = r.general i % 2 ^ 32
-value_in Doubleword r i = r.general i
 
 -- a base or an index: register 0 counts as zero (chapter 5, "Address generation")
 abbrev pub address_part : Registers → ℕ → ℕ
@@ -69,6 +65,7 @@ performs rule effect = Perform (record { effect = effect; rule = rule })
 abbrev pub action : Meaning → Fields → Registers → ℕ → Action
 action (Compute operator size s rule) f r place =
     performs rule (Effect.Compute operator size (register_field f 0) (value_in size r (first_register s.shape f)) (operand s f r place))
+action (Compare sign size s) f r place = performs Set (Effect.Compare sign size (value_in size r (first_register s.shape f)) (operand s f r place))
 action BranchToRegister f r place =
     if register_field f 1 == 0 then performs Kept Effect.Nothing else Branch (register_field f 0) (r.general (register_field f 1))
 action BranchRelative f r place = Branch (mask_field f 0) (relative_address f place)
@@ -81,10 +78,10 @@ abbrev pub is_odd_pair : Meaning → Fields → Bool
 is_odd_pair meaning f = names_pair meaning && (register_field f 0 % 2 == 1)
 
 -- the meaning that a list has for an opcode
-abbrev pub meaning_in : List RowMeaning → ℕ → Option Meaning
+unfoldable pub meaning_in : List RowMeaning → ℕ → Option Meaning
 meaning_in [] opcode = None
 meaning_in (row ∷ rows) opcode = if row.opcode == opcode then Some row.meaning else meaning_in rows opcode
 
 -- the meaning of an opcode; none of one that isn't built yet
-abbrev pub meaning_of : ℕ → Option Meaning
+unfoldable pub meaning_of : ℕ → Option Meaning
 meaning_of opcode = meaning_in MEANINGS opcode

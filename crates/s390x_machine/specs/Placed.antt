@@ -1,9 +1,10 @@
 -- What has to be told of an image: that each step's bytes lie in it at the step's place.
-use Rattle.std.specs.Prelude.{◌≡◌, ℕ, suc, ◌+◌, ◌%◌, ◌^◌, ◌<◌, ◌≤◌, List, [], ◌∷◌, ◌++◌, length, IsTrue, Some, slice_get}
+use Rattle.std.specs.Prelude.{◌≡◌, ℕ, suc, ◌+◌, ◌%◌, ◌^◌, ◌<◌, ◌≤◌, List, [], ◌∷◌, ◌++◌, length, IsTrue, Option, Some, None, slice_get}
 use Rattle.s390x_base.specs.declared.ir.MachLabel.{MachLabel}
 use Rattle.s390x_inst.specs.declared.inst.Inst.{Inst}
-use Rattle.s390x_inst.specs.declared.inst.Inst.TheVariants.{AluRRR, Mov64, Jump, CondBr, IndirectBr, Ret}
-use Rattle.s390x_steps.specs.Causes.{is_general, is_nonzero, is_alu_rrr}
+use Rattle.s390x_inst.specs.declared.inst.Inst.TheVariants.{Jump, CondBr, IndirectBr, Ret}
+use Rattle.s390x_steps.specs.Alone.{Alone, alone}
+use Rattle.s390x_steps.specs.General.{is_general, is_nonzero}
 use Rattle.s390x_steps.specs.Ranges.{IsMask}
 use Rattle.s390x_steps.specs.Steps.{Step, Plain, Opening, Back, Break}
 use Rattle.s390x_steps.specs.Parts.{step_size}
@@ -17,16 +18,22 @@ abbrev pub AreBlocks : Layout → List MachLabel → Type 0
 AreBlocks L [] = Unit {0}
 AreBlocks L (l ∷ ls) = IsBlock L l.0 × AreBlocks L ls
 
--- what emission has checked of an instruction: it is built, its registers are real general ones, not `%r0` where a branch reads its target,
--- its blocks are there, and its mask is one of a condition
+-- what emission has checked of an instruction that goes elsewhere: its register is a real general one other than `%r0`, its blocks are there,
+-- and its mask is one of a condition
+abbrev pub IsFineBranch : Layout → Inst → Type 0
+IsFineBranch L (Jump dest) = IsBlock L dest.0
+IsFineBranch L (CondBr taken not_taken mask) = IsBlock L taken.0 × IsBlock L not_taken.0 × IsMask mask
+IsFineBranch L (IndirectBr rn targets) = IsTrue (is_general rn) × IsTrue (is_nonzero rn) × AreBlocks L targets.items
+IsFineBranch L (Ret link) = IsTrue (is_general link) × IsTrue (is_nonzero link)
+IsFineBranch L _ = ⊥
+
+abbrev pub FineOr : Option Alone → Type 0 → Type 0
+FineOr None others = others
+FineOr (Some x) others = IsTrue x.fine
+
+-- what emission has checked of an instruction: it is built, and its registers may stand where they do
 abbrev pub IsFineInstruction : Layout → Inst → Type 0
-IsFineInstruction L (AluRRR op rd rn rm) = IsTrue (is_alu_rrr op) × IsTrue (is_general rd) × IsTrue (is_general rn) × IsTrue (is_general rm)
-IsFineInstruction L (Mov64 rd rm) = IsTrue (is_general rd) × IsTrue (is_general rm)
-IsFineInstruction L (Jump dest) = IsBlock L dest.0
-IsFineInstruction L (CondBr taken not_taken mask) = IsBlock L taken.0 × IsBlock L not_taken.0 × IsMask mask
-IsFineInstruction L (IndirectBr rn targets) = IsTrue (is_general rn) × IsTrue (is_nonzero rn) × AreBlocks L targets.items
-IsFineInstruction L (Ret link) = IsTrue (is_general link) × IsTrue (is_nonzero link)
-IsFineInstruction L _ = ⊥
+IsFineInstruction L i = FineOr (alone i) (IsFineBranch L i)
 
 abbrev pub IsFine : Layout → Step → Type 0
 IsFine L (Plain i) = IsFineInstruction L i

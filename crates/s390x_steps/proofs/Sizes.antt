@@ -1,17 +1,18 @@
--- The sizes of instructions.
-use Rattle.std.proofs.Common.{◌≡◌, ℕ, Bool, true, false, cond, nat_eq, refl, ap, ◌+◌}
-use Rattle.s390x_format.specs.Formats.{length_of}
-use Rattle.s390x_base.specs.Regs.{number_of}
-use Rattle.s390x_base.specs.declared.regs.Reg.{Reg}
-use Rattle.s390x_inst.specs.declared.ops.ALUOp.TheVariants.{Add64}
-use Rattle.s390x_inst.specs.declared.inst.Inst.TheVariants.{AluRRR}
-use Rattle.s390x_steps.specs.MachineInstruction.{size_of, rre, rrf_ab}
+-- What holds of instructions that are one machine instruction.
+use Rattle.std.proofs.Common.{◌≡◌, ℕ, [], ◌∷◌, Option, Some, None, refl, sym, ap, ◌∙◌}
+use Rattle.s390x_inst.specs.declared.inst.Inst.{Inst}
+use Rattle.s390x_inst.specs.declared.inst.Inst.TheVariants.{CondBr, CondBreak}
+use Rattle.s390x_steps.specs.Alone.{Alone, alone}
+use Rattle.s390x_steps.specs.MachineInstruction.{size_of}
+use Rattle.s390x_steps.specs.Parts.{Row, branch_parts, parts_or, instruction_parts}
+use Rattle.s390x_steps.specs.Ranges.{InRange}
 use Rattle.s390x_steps.specs.Sizes.{instruction_size}
 
-either_size : (b : Bool) (d n m : ℕ) → size_of (cond b (rre 0xb908 d m) (rrf_ab 0xb9e8 d n m 0)) + 0 ≡ 4
-unfolding length_of
-either_size true d n m = refl
-either_size false d n m = refl
+pub alone_parts : (i : Inst) (x : Alone) → alone i ≡ Some x → instruction_parts i ≡ Row x.row ∷ []
+alone_parts i x e = ap (λ o. parts_or o (branch_parts i)) e
 
-pub add_size : (rd rn rm : Reg) → instruction_size (AluRRR Add64 rd rn rm) ≡ 4
-add_size rd rn rm = either_size (nat_eq (number_of rd) (number_of rn)) (number_of rd) (number_of rn) (number_of rm)
+-- one that has one machine instruction is no branch
+pub alone_in_range : (i : Inst) (x : Alone) → alone i ≡ Some x → InRange i
+alone_in_range (CondBr taken not_taken mask) x e = absurd (cc)
+alone_in_range (CondBreak mask) x e = absurd (cc)
+alone_in_range i x e = tt

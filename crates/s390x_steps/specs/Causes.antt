@@ -1,15 +1,12 @@
 -- Why emission refuses an instruction: the first cause, in the order of the steps.
 use Rattle.std.specs.Prelude.{ℕ, zero, suc, ◌+◌, List, [], ◌∷◌, Bool, true, false, cond, ◌&&◌, not, nat_lt, nat_eq, Option, Some, None}
-use Rattle.s390x_base.specs.Regs.{is_int}
-use Rattle.s390x_base.specs.declared.regs.Reg.{Reg}
-use Rattle.s390x_base.specs.declared.regs.Reg.TheVariants.{Real, Virtual}
 use Rattle.s390x_base.specs.declared.ir.MachLabel.{MachLabel}
 use Rattle.s390x_base.specs.declared.error.EmitError.{EmitError}
 use Rattle.s390x_base.specs.declared.error.EmitError.TheVariants.{BadOperator, BadRegister, BreakOutsideLoop, UnboundLabel, LabelOutOfRange}
-use Rattle.s390x_inst.specs.declared.ops.ALUOp.{ALUOp}
-use Rattle.s390x_inst.specs.declared.ops.ALUOp.TheVariants.{Add64}
 use Rattle.s390x_inst.specs.declared.inst.Inst.{Inst}
-use Rattle.s390x_inst.specs.declared.inst.Inst.TheVariants.{AluRRR, Mov64, Jump, CondBr, IndirectBr, Ret, CondBreak}
+use Rattle.s390x_inst.specs.declared.inst.Inst.TheVariants.{Jump, CondBr, IndirectBr, Ret, CondBreak}
+use Rattle.s390x_steps.specs.General.{is_general, is_nonzero}
+use Rattle.s390x_steps.specs.Alone.{Alone, alone}
 use Rattle.s390x_steps.specs.Tree.{Tree, empty, leaf, looped}
 
 -- the first of two causes
@@ -20,16 +17,6 @@ first (Some e) later = Some e
 abbrev pub unless : Bool → EmitError → Option EmitError
 unless holds e = cond holds None (Some e)
 
--- a real Int register
-abbrev pub is_general : Reg → Bool
-is_general (Real r) = is_int r.class && nat_lt r.number 16
-is_general (Virtual num class) = false
-
--- a register other than %r0, which as a branch's target means that there is no branch
-abbrev pub is_nonzero : Reg → Bool
-is_nonzero (Real r) = not (nat_eq r.number 0)
-is_nonzero (Virtual num class) = true
-
 -- a label names a block
 abbrev pub label_cause : ℕ → MachLabel → Option EmitError
 label_cause blocks l = unless (nat_lt l.0 blocks) UnboundLabel
@@ -38,21 +25,22 @@ abbrev pub labels_cause : ℕ → List MachLabel → Option EmitError
 labels_cause blocks [] = None
 labels_cause blocks (l ∷ ls) = first (label_cause blocks l) (labels_cause blocks ls)
 
--- the operators that have a row here
-abbrev pub is_alu_rrr : ALUOp → Bool
-is_alu_rrr Add64 = true
-is_alu_rrr _ = false
+-- the causes of an instruction that goes elsewhere, inside so many loops; one that isn't built yet is refused
+abbrev pub branch_cause : (blocks depth : ℕ) → Inst → Option EmitError
+branch_cause blocks depth (Jump dest) = label_cause blocks dest
+branch_cause blocks depth (CondBr taken not_taken mask) = first (label_cause blocks taken) (label_cause blocks not_taken)
+branch_cause blocks depth (IndirectBr rn targets) = first (unless (is_general rn && is_nonzero rn) BadRegister) (labels_cause blocks targets.items)
+branch_cause blocks depth (Ret link) = unless (is_general link && is_nonzero link) BadRegister
+branch_cause blocks depth (CondBreak mask) = unless (nat_lt 0 depth) BreakOutsideLoop
+branch_cause blocks depth _ = Some BadOperator
 
--- the causes of an instruction that is no `Loop`, inside so many loops; one that isn't built yet is refused
+abbrev pub cause_or : Option Alone → Option EmitError → Option EmitError
+cause_or None others = others
+cause_or (Some x) others = unless x.fine BadRegister
+
+-- the causes of an instruction that is no `Loop`, inside so many loops
 abbrev pub instruction_cause : (blocks depth : ℕ) → Inst → Option EmitError
-instruction_cause blocks depth (AluRRR op rd rn rm) = first (unless (is_alu_rrr op) BadOperator) (unless (is_general rd && is_general rn && is_general rm) BadRegister)
-instruction_cause blocks depth (Mov64 rd rm) = unless (is_general rd && is_general rm) BadRegister
-instruction_cause blocks depth (Jump dest) = label_cause blocks dest
-instruction_cause blocks depth (CondBr taken not_taken mask) = first (label_cause blocks taken) (label_cause blocks not_taken)
-instruction_cause blocks depth (IndirectBr rn targets) = first (unless (is_general rn && is_nonzero rn) BadRegister) (labels_cause blocks targets.items)
-instruction_cause blocks depth (Ret link) = unless (is_general link && is_nonzero link) BadRegister
-instruction_cause blocks depth (CondBreak mask) = unless (nat_lt 0 depth) BreakOutsideLoop
-instruction_cause blocks depth _ = Some BadOperator
+instruction_cause blocks depth i = cause_or (alone i) (branch_cause blocks depth i)
 
 -- label numbers end below 2 ^ 32; n are in use, and so many more are drawn
 abbrev pub numbers_cause : (n more : ℕ) → Option EmitError

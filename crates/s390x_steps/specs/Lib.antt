@@ -1,6 +1,9 @@
+pub mod Alone
 pub mod Causes
+pub mod General
 pub mod Image
 pub mod MachineInstruction
+pub mod Opcodes
 pub mod Parts
 pub mod Ranges
 pub mod Rows

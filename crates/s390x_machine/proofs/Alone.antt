@@ -1,0 +1,237 @@
+-- The rows of the instructions that are one machine instruction on registers: each is listed, and does its instruction's operation.
+use Rattle.std.proofs.Common.{◌≡◌, ℕ, ◌+◌, ◌%◌, ◌<◌, ◌≤◌, List, [], ◌∷◌, Option, Some, None, Bool, true, false, cond, ◌&&◌, ◌==◌, IsTrue, refl, sym, ap, ◌∙◌, subst, arith, nat_lt, nat_eq, eqb-true, ltb-true}
+use Rattle.std.proofs.lemmas.Bool.{and_parts}
+use Rattle.s390x_format.specs.declared.kind.FormatKind.{FormatKind}
+use Rattle.s390x_format.specs.declared.kind.FormatKind.TheVariants.{Rr, Rre, RrfAb}
+use Rattle.s390x_format.specs.declared.row.MachineRow.{MachineRow}
+use Rattle.s390x_format.specs.declared.row.Allowed.{Allowed}
+use Rattle.s390x_format.specs.declared.row.Allowed.TheVariants.{Any, FirstMask}
+use Rattle.s390x_format.specs.Layout.{SlotsFit}
+use Rattle.s390x_format.specs.Formats.{layout_of, length_of}
+use Rattle.s390x_format.specs.Rows.{is_allowed}
+use Rattle.s390x_format.specs.Lookup.{row_for}
+use Rattle.s390x_format.specs.Fetch.{machine_rows}
+use Rattle.s390x_format.specs.Encoded.{IsEncoded, decoded_of}
+use Rattle.s390x_format.specs.View.{fields_of}
+use Rattle.s390x_format.specs.declared.fields.Fields.{Fields}
+use Rattle.s390x_format.proofs.Encoding.{listed}
+use Rattle.s390x_inst.specs.declared.ops.ALUOp.{ALUOp}
+use Rattle.s390x_inst.specs.declared.ops.ALUOp.TheVariants as A
+use Rattle.s390x_inst.specs.declared.ops.CmpOp.{CmpOp}
+use Rattle.s390x_inst.specs.declared.ops.CmpOp.TheVariants as C
+use Rattle.s390x_inst.specs.declared.ops.UnaryOp.{UnaryOp}
+use Rattle.s390x_inst.specs.declared.ops.UnaryOp.TheVariants as U
+use Rattle.s390x_steps.specs.Opcodes.{alu_three, alu_two, cmp_two, unary_two}
+use Rattle.s390x_steps.specs.Alone.{two_operands}
+use Rattle.s390x_steps.specs.MachineInstruction.{MachineInstruction, bytes_of, size_of, rr, rre, rrf_ab}
+use Rattle.s390x_operations.specs.State.{Registers, Core, State, sum64}
+use Rattle.s390x_operations.specs.Effects.{CodeAfter, Refines}
+use Rattle.s390x_operations.specs.declared.stop.ConditionCode.{ConditionCode}
+use Rattle.s390x_operations.specs.declared.effect.Effect.{Effect}
+use Rattle.s390x_operations.specs.declared.effect.CodeRule.{CodeRule}
+use Rattle.s390x_operations.specs.declared.effect.CodeRule.TheVariants.{Kept, Set, Unstated}
+use Rattle.s390x_operations.specs.declared.effect.Operation.{Operation}
+use Rattle.s390x_operations.specs.declared.operator.Operator.TheVariants.{Move}
+use Rattle.s390x_machine.specs.declared.meaning.Meaning.{Meaning}
+use Rattle.s390x_machine.specs.declared.meaning.Meaning.TheVariants.{Compute, Compare}
+use Rattle.s390x_machine.specs.declared.meaning.Shape.{Shape}
+use Rattle.s390x_machine.specs.declared.meaning.Shape.TheVariants.{Register, ThreeRegisters}
+use Rattle.s390x_machine.specs.declared.meaning.SecondOperand.{SecondOperand}
+use Rattle.s390x_machine.specs.declared.meaning.Action.{Action}
+use Rattle.s390x_machine.specs.declared.meaning.Action.TheVariants.{Perform}
+use Rattle.s390x_machine.specs.Computations.{Second, Computation, Comparison, alu_computation, alu_three_rule, alu_two_rule, unary_computation, unary_rule, comparison, on_words, on_doublewords, computes, compares, with_rule}
+use Rattle.s390x_machine.specs.Fetch.{Found}
+use Rattle.s390x_machine.specs.Machine.{Event, Acts, RowActs, FetchedActs}
+use Rattle.s390x_machine.specs.Meanings.{action, names_pair, is_odd_pair, meaning_in, meaning_of}
+use Rattle.s390x_machine.specs.Layout.{Layout}
+use Rattle.s390x_machine.specs.Placed.{AllPlaced}
+use Rattle.s390x_machine.proofs.Fetching.{StandsAt, row_at}
+use Rattle.s390x_machine.proofs.Rows.{fits_rr, fits_rre, fits_rrf_ab}
+use Rattle.s390x_machine.proofs.Simulation.{RowAt}
+
+-- a register as the second operand of a row
+abbrev pub second_register : Shape → Second → SecondOperand
+second_register shape s = record { shape = shape; width = s.width; sign = s.sign; reversed = s.reversed }
+
+-- ---- rows of the table, by computation
+
+abbrev pub Lists : ℕ → FormatKind → Allowed → Type 0
+Lists opcode kind allowed = ((row_for machine_rows opcode).opcode ≡ opcode) × ((row_for machine_rows opcode).format ≡ kind) × ((row_for machine_rows opcode).allowed ≡ allowed)
+
+abbrev pub none_but_zero : Allowed
+none_but_zero = FirstMask 0 0
+
+-- a row of two registers with a meaning
+pub record TwoRow (opcode : ℕ) (meaning : Meaning) : Type 0 where
+  pub some : 0 < opcode
+  pub few : opcode < 65536
+  pub lists : Lists opcode (two_operands opcode 0 0).format Any
+  pub means : meaning_of opcode ≡ Some meaning
+
+-- a row of three registers with a meaning
+pub record ThreeRow (opcode : ℕ) (meaning : Meaning) : Type 0 where
+  pub some : 0 < opcode
+  pub few : opcode < 65536
+  pub lists : Lists opcode RrfAb none_but_zero
+  pub means : meaning_of opcode ≡ Some meaning
+
+abbrev pub TwoRows : Option ℕ → Meaning → Type 0
+TwoRows None meaning = Unit {0}
+TwoRows (Some opcode) meaning = TwoRow opcode meaning
+
+abbrev pub ThreeRows : Option ℕ → Meaning → Type 0
+ThreeRows None meaning = Unit {0}
+ThreeRows (Some opcode) meaning = ThreeRow opcode meaning
+
+-- ---- the rows of each operator
+
+abbrev pub computed : Computation → Shape → CodeRule → Meaning
+computed c shape rule = Compute c.operator c.size (second_register shape c.second) rule
+
+pub alu_three_rows : (op : ALUOp) → ThreeRows (alu_three op) (computed (alu_computation op) ThreeRegisters Set)
+unfolding machine_rows row_for meaning_in meaning_of
+alu_three_rows A.Add32 = record { some = omega arith; few = omega arith; lists = (refl, refl, refl); means = refl }
+alu_three_rows A.Add64 = record { some = omega arith; few = omega arith; lists = (refl, refl, refl); means = refl }
+alu_three_rows A.AddLogical32 = record { some = omega arith; few = omega arith; lists = (refl, refl, refl); means = refl }
+alu_three_rows A.AddLogical64 = record { some = omega arith; few = omega arith; lists = (refl, refl, refl); means = refl }
+alu_three_rows A.Sub32 = record { some = omega arith; few = omega arith; lists = (refl, refl, refl); means = refl }
+alu_three_rows A.Sub64 = record { some = omega arith; few = omega arith; lists = (refl, refl, refl); means = refl }
+alu_three_rows A.SubLogical32 = record { some = omega arith; few = omega arith; lists = (refl, refl, refl); means = refl }
+alu_three_rows A.SubLogical64 = record { some = omega arith; few = omega arith; lists = (refl, refl, refl); means = refl }
+alu_three_rows A.Mul32 = record { some = omega arith; few = omega arith; lists = (refl, refl, refl); means = refl }
+alu_three_rows A.Mul32CC = record { some = omega arith; few = omega arith; lists = (refl, refl, refl); means = refl }
+alu_three_rows A.Mul64 = record { some = omega arith; few = omega arith; lists = (refl, refl, refl); means = refl }
+alu_three_rows A.Mul64CC = record { some = omega arith; few = omega arith; lists = (refl, refl, refl); means = refl }
+alu_three_rows A.And32 = record { some = omega arith; few = omega arith; lists = (refl, refl, refl); means = refl }
+alu_three_rows A.And64 = record { some = omega arith; few = omega arith; lists = (refl, refl, refl); means = refl }
+alu_three_rows A.Orr32 = record { some = omega arith; few = omega arith; lists = (refl, refl, refl); means = refl }
+alu_three_rows A.Orr64 = record { some = omega arith; few = omega arith; lists = (refl, refl, refl); means = refl }
+alu_three_rows A.Xor32 = record { some = omega arith; few = omega arith; lists = (refl, refl, refl); means = refl }
+alu_three_rows A.Xor64 = record { some = omega arith; few = omega arith; lists = (refl, refl, refl); means = refl }
+alu_three_rows _ = tt
+
+pub alu_two_rows : (op : ALUOp) → TwoRows (alu_two op) (computed (alu_computation op) Register (alu_two_rule op))
+unfolding machine_rows row_for meaning_in meaning_of
+alu_two_rows A.Add32 = record { some = omega arith; few = omega arith; lists = (refl, refl, refl); means = refl }
+alu_two_rows A.Add64 = record { some = omega arith; few = omega arith; lists = (refl, refl, refl); means = refl }
+alu_two_rows A.Add64Ext32 = record { some = omega arith; few = omega arith; lists = (refl, refl, refl); means = refl }
+alu_two_rows A.AddLogical32 = record { some = omega arith; few = omega arith; lists = (refl, refl, refl); means = refl }
+alu_two_rows A.AddLogical64 = record { some = omega arith; few = omega arith; lists = (refl, refl, refl); means = refl }
+alu_two_rows A.AddLogical64Ext32 = record { some = omega arith; few = omega arith; lists = (refl, refl, refl); means = refl }
+alu_two_rows A.Sub32 = record { some = omega arith; few = omega arith; lists = (refl, refl, refl); means = refl }
+alu_two_rows A.Sub64 = record { some = omega arith; few = omega arith; lists = (refl, refl, refl); means = refl }
+alu_two_rows A.Sub64Ext32 = record { some = omega arith; few = omega arith; lists = (refl, refl, refl); means = refl }
+alu_two_rows A.SubLogical32 = record { some = omega arith; few = omega arith; lists = (refl, refl, refl); means = refl }
+alu_two_rows A.SubLogical64 = record { some = omega arith; few = omega arith; lists = (refl, refl, refl); means = refl }
+alu_two_rows A.SubLogical64Ext32 = record { some = omega arith; few = omega arith; lists = (refl, refl, refl); means = refl }
+alu_two_rows A.Mul32 = record { some = omega arith; few = omega arith; lists = (refl, refl, refl); means = refl }
+alu_two_rows A.Mul64 = record { some = omega arith; few = omega arith; lists = (refl, refl, refl); means = refl }
+alu_two_rows A.Mul64Ext32 = record { some = omega arith; few = omega arith; lists = (refl, refl, refl); means = refl }
+alu_two_rows A.And32 = record { some = omega arith; few = omega arith; lists = (refl, refl, refl); means = refl }
+alu_two_rows A.And64 = record { some = omega arith; few = omega arith; lists = (refl, refl, refl); means = refl }
+alu_two_rows A.Orr32 = record { some = omega arith; few = omega arith; lists = (refl, refl, refl); means = refl }
+alu_two_rows A.Orr64 = record { some = omega arith; few = omega arith; lists = (refl, refl, refl); means = refl }
+alu_two_rows A.Xor32 = record { some = omega arith; few = omega arith; lists = (refl, refl, refl); means = refl }
+alu_two_rows A.Xor64 = record { some = omega arith; few = omega arith; lists = (refl, refl, refl); means = refl }
+alu_two_rows _ = tt
+
+pub cmp_rows : (op : CmpOp) → TwoRows (cmp_two op) (Compare (comparison op).sign (comparison op).size (second_register Register (comparison op).second))
+unfolding machine_rows row_for meaning_in meaning_of
+cmp_rows C.CmpS32 = record { some = omega arith; few = omega arith; lists = (refl, refl, refl); means = refl }
+cmp_rows C.CmpS64 = record { some = omega arith; few = omega arith; lists = (refl, refl, refl); means = refl }
+cmp_rows C.CmpS64Ext32 = record { some = omega arith; few = omega arith; lists = (refl, refl, refl); means = refl }
+cmp_rows C.CmpL32 = record { some = omega arith; few = omega arith; lists = (refl, refl, refl); means = refl }
+cmp_rows C.CmpL64 = record { some = omega arith; few = omega arith; lists = (refl, refl, refl); means = refl }
+cmp_rows C.CmpL64Ext32 = record { some = omega arith; few = omega arith; lists = (refl, refl, refl); means = refl }
+cmp_rows _ = tt
+
+pub unary_rows : (op : UnaryOp) → TwoRows (unary_two op) (computed (unary_computation op) Register (unary_rule op))
+unfolding machine_rows row_for meaning_in meaning_of
+unary_rows U.Abs32 = record { some = omega arith; few = omega arith; lists = (refl, refl, refl); means = refl }
+unary_rows U.Abs64 = record { some = omega arith; few = omega arith; lists = (refl, refl, refl); means = refl }
+unary_rows U.Abs64Ext32 = record { some = omega arith; few = omega arith; lists = (refl, refl, refl); means = refl }
+unary_rows U.Neg32 = record { some = omega arith; few = omega arith; lists = (refl, refl, refl); means = refl }
+unary_rows U.Neg64 = record { some = omega arith; few = omega arith; lists = (refl, refl, refl); means = refl }
+unary_rows U.Neg64Ext32 = record { some = omega arith; few = omega arith; lists = (refl, refl, refl); means = refl }
+unary_rows U.BSwap32 = record { some = omega arith; few = omega arith; lists = (refl, refl, refl); means = refl }
+unary_rows U.BSwap64 = record { some = omega arith; few = omega arith; lists = (refl, refl, refl); means = refl }
+unary_rows _ = tt
+
+pub lgr_row : TwoRow 0xb904 (computed (on_doublewords Move) Register Kept)
+unfolding machine_rows row_for meaning_in meaning_of
+lgr_row = record { some = omega arith; few = omega arith; lists = (refl, refl, refl); means = refl }
+
+pub lr_row : TwoRow 0x18 (computed (on_words Move) Register Kept)
+unfolding machine_rows row_for meaning_in meaning_of
+lr_row = record { some = omega arith; few = omega arith; lists = (refl, refl, refl); means = refl }
+
+-- ---- the fields that a row has
+
+abbrev pub register_fields : (d n m : ℕ) → Fields
+register_fields d n m = fields_of Rr (0 ∷ d ∷ n ∷ m ∷ 0 ∷ 0 ∷ 0 ∷ 0 ∷ 0 ∷ 0 ∷ [])
+
+-- what is fetched does the row's action
+acts_as_meant : (m : MachineInstruction) (meaning : Meaning) (operation : Registers → Operation) → meaning_of (decoded_of m.format m.slots).row.opcode ≡ Some meaning → ((r : Registers) (p : ℕ) → action meaning (fields_of m.format m.slots) r p ≡ Perform (operation r)) → (s : State) (event : Event) (t : State) → FetchedActs (Found (decoded_of m.format m.slots)) s event t → Acts (Perform (operation s.core.registers)) (size_of m) s event t
+acts_as_meant m meaning operation means does s event t h =
+    let meant : RowActs (Some meaning) (fields_of m.format m.slots) (length_of m.format) s event t = subst (λ o. RowActs o (fields_of m.format m.slots) (length_of m.format) s event t) means h in
+    subst (λ a. Acts a (size_of m) s event t) (does s.core.registers s.place) meant
+
+-- ---- what the machine does there
+
+module _ (L : Layout) (all : AllPlaced L) (offset : ℕ) (even : offset % 2 ≡ 0) where
+  pub three_at : (opcode : ℕ) (meaning : Meaning) → ThreeRow opcode meaning → (operation : Registers → Operation) (d n m : ℕ) → d < 16 → n < 16 → m < 16 → ((r : Registers) (p : ℕ) → action meaning (register_fields d n m) r p ≡ Perform (operation r)) → StandsAt L.image offset (bytes_of (rrf_ab opcode d n m 0)) → RowAt L (sum64 L.image.base offset) (λ r. Perform (operation r)) (size_of (rrf_ab opcode d n m 0))
+  three_at opcode meaning row operation d n m ld ln lm does s =
+      let x = rrf_ab opcode d n m 0 in
+      row_at L offset x (λ r. Perform (operation r)) all.even even all.fits s (fits_rrf_ab opcode d n m row.few ld ln lm) (listed machine_rows RrfAb x.slots row.some (row.lists.0, row.lists.1, ap (λ a. is_allowed a x.slots) row.lists.2)) (λ state event t at h. acts_as_meant x meaning operation row.means does state event t h)
+
+  two_at_as : (opcode : ℕ) (meaning : Meaning) → TwoRow opcode meaning → (operation : Registers → Operation) (d m : ℕ) → d < 16 → m < 16 → ((r : Registers) (p : ℕ) → action meaning (register_fields d m 0) r p ≡ Perform (operation r)) → (short : Bool) → nat_lt opcode 256 ≡ short → StandsAt L.image offset (bytes_of (cond short (rr opcode d m) (rre opcode d m))) → RowAt L (sum64 L.image.base offset) (λ r. Perform (operation r)) (size_of (cond short (rr opcode d m) (rre opcode d m)))
+  two_at_as opcode meaning row operation d m ld lm does true e s =
+      let x = rr opcode d m in
+      let format : (row_for machine_rows opcode).format ≡ Rr = row.lists.1 ∙ ap (λ b. (cond b (rr opcode 0 0) (rre opcode 0 0)).format) e in
+      row_at L offset x (λ r. Perform (operation r)) all.even even all.fits s (fits_rr opcode d m (ltb-true opcode 256 e) ld lm) (listed machine_rows Rr x.slots row.some (row.lists.0, format, ap (λ a. is_allowed a x.slots) row.lists.2)) (λ state event t at h. acts_as_meant x meaning operation row.means does state event t h)
+  two_at_as opcode meaning row operation d m ld lm does false e s =
+      let x = rre opcode d m in
+      let format : (row_for machine_rows opcode).format ≡ Rre = row.lists.1 ∙ ap (λ b. (cond b (rr opcode 0 0) (rre opcode 0 0)).format) e in
+      row_at L offset x (λ r. Perform (operation r)) all.even even all.fits s (fits_rre opcode d m row.few ld lm) (listed machine_rows Rre x.slots row.some (row.lists.0, format, ap (λ a. is_allowed a x.slots) row.lists.2)) (λ state event t at h. acts_as_meant x meaning operation row.means does state event t h)
+
+  pub two_at : (opcode : ℕ) (meaning : Meaning) → TwoRow opcode meaning → (operation : Registers → Operation) (d m : ℕ) → d < 16 → m < 16 → ((r : Registers) (p : ℕ) → action meaning (register_fields d m 0) r p ≡ Perform (operation r)) → StandsAt L.image offset (bytes_of (two_operands opcode d m)) → RowAt L (sum64 L.image.base offset) (λ r. Perform (operation r)) (size_of (two_operands opcode d m))
+  two_at opcode meaning row operation d m ld lm does s = two_at_as opcode meaning row operation d m ld lm does (nat_lt opcode 256) refl s
+
+-- ---- condition codes that leave more free
+
+abbrev pub Looser : CodeRule → CodeRule → Type 0
+Looser rule Unstated = Unit {0}
+Looser Set Set = Unit {0}
+Looser Kept Kept = Unit {0}
+Looser rule other = ⊥
+
+looser_code : (a b : CodeRule) (effect : Effect) (c : Core) (code : ConditionCode) → Looser a b → CodeAfter a effect c code → CodeAfter b effect c code
+looser_code a Unstated effect c code l h = tt
+looser_code Set Set effect c code l h = h
+looser_code Kept Kept effect c code l h = h
+looser_code Set Kept effect c code l h = absurd l
+looser_code Kept Set effect c code l h = absurd l
+looser_code Unstated Set effect c code l h = absurd l
+looser_code Unstated Kept effect c code l h = absurd l
+
+pub loosens : (effect : Effect) (a b : CodeRule) → Looser a b → Refines (with_rule a effect) (with_rule b effect)
+loosens effect a b l = record { access = refl; refused = refl; may_refuse = λ kind h. h; results = λ c r h. h; code = λ c code h. looser_code a b effect c code l h }
+
+pub same_rule : (a : CodeRule) → Looser a a
+same_rule Kept = tt
+same_rule Set = tt
+same_rule Unstated = tt
+
+pub three_looser : (op : ALUOp) → Looser Set (alu_three_rule op)
+three_looser A.Mul32 = tt
+three_looser A.Mul64 = tt
+three_looser _ = tt
+
+-- where there are both rows
+pub two_looser : (op : ALUOp) (opcode : ℕ) → alu_three op ≡ Some opcode → Looser (alu_two_rule op) (alu_three_rule op)
+two_looser A.Mul32 opcode e = tt
+two_looser A.Mul64 opcode e = tt
+two_looser A.Mul32Ext16 opcode e = absurd (cc)
+two_looser A.Mul64Ext16 opcode e = absurd (cc)
+two_looser A.Mul64Ext32 opcode e = absurd (cc)
+two_looser _ opcode e = tt

@@ -1,0 +1,175 @@
+-- What the operators of integer instructions compute.
+use Rattle.std.specs.Prelude.{ℕ, Bool, true, false}
+use Rattle.s390x_inst.specs.declared.ops.ALUOp.{ALUOp}
+use Rattle.s390x_inst.specs.declared.ops.ALUOp.TheVariants as A
+use Rattle.s390x_inst.specs.declared.ops.CmpOp.{CmpOp}
+use Rattle.s390x_inst.specs.declared.ops.CmpOp.TheVariants as C
+use Rattle.s390x_inst.specs.declared.ops.UnaryOp.{UnaryOp}
+use Rattle.s390x_inst.specs.declared.ops.UnaryOp.TheVariants as U
+use Rattle.s390x_lanes.specs.declared.operation.Signedness.{Signedness}
+use Rattle.s390x_lanes.specs.declared.operation.Signedness.TheVariants.{Signed, Unsigned}
+use Rattle.s390x_operations.specs.State.{Registers}
+use Rattle.s390x_operations.specs.declared.size.Size.{Size}
+use Rattle.s390x_operations.specs.declared.size.Size.TheVariants.{Word, Doubleword}
+use Rattle.s390x_operations.specs.declared.size.Width.{Width}
+use Rattle.s390x_operations.specs.declared.size.Width.TheVariants.{Bits16, Bits32, Bits64}
+use Rattle.s390x_operations.specs.declared.operand.Source.TheVariants.{Value}
+use Rattle.s390x_operations.specs.declared.operand.Operand.{Operand}
+use Rattle.s390x_operations.specs.declared.operator.Operator.{Operator}
+use Rattle.s390x_operations.specs.declared.operator.Operator.TheVariants as O
+use Rattle.s390x_operations.specs.declared.operator.SignedOperator.TheVariants.{Add, Subtract, Multiply, Negate, Absolute}
+use Rattle.s390x_operations.specs.declared.operator.LogicalOperator.TheVariants as L
+use Rattle.s390x_operations.specs.declared.operator.BitOperator.TheVariants.{And, Or, Xor, NotAnd, NotOr, NotXor, AndNot, OrNot}
+use Rattle.s390x_operations.specs.declared.effect.Effect.{Effect}
+use Rattle.s390x_operations.specs.declared.effect.Effect.TheVariants.{Compute, Compare}
+use Rattle.s390x_operations.specs.declared.effect.CodeRule.{CodeRule}
+use Rattle.s390x_operations.specs.declared.effect.CodeRule.TheVariants.{Kept, Set, Unstated}
+use Rattle.s390x_operations.specs.declared.effect.Operation.{Operation}
+use Rattle.s390x_machine.specs.Operands.{value_in}
+
+-- which bits of the second operand are read, and how they are extended to the operation's size
+pub record Second : Type 0 where
+  pub width : Width
+  pub sign : Signedness
+  pub reversed : Bool
+
+abbrev pub word : Second
+word = record { width = Bits32; sign = Unsigned; reversed = false }
+
+abbrev pub signed_word : Second
+signed_word = record { width = Bits32; sign = Signed; reversed = false }
+
+abbrev pub signed_halfword : Second
+signed_halfword = record { width = Bits16; sign = Signed; reversed = false }
+
+abbrev pub halfword : Second
+halfword = record { width = Bits16; sign = Unsigned; reversed = false }
+
+abbrev pub doubleword : Second
+doubleword = record { width = Bits64; sign = Unsigned; reversed = false }
+
+-- an operator on values of a size
+pub record Computation : Type 0 where
+  pub operator : Operator
+  pub size : Size
+  pub second : Second
+
+-- on the right halves of registers, and on whole ones
+abbrev pub on_words : Operator → Computation
+on_words operator = record { operator = operator; size = Word; second = word }
+
+abbrev pub on_doublewords : Operator → Computation
+on_doublewords operator = record { operator = operator; size = Doubleword; second = doubleword }
+
+abbrev pub with_second : Operator → Size → Second → Computation
+with_second operator size second = record { operator = operator; size = size; second = second }
+
+abbrev pub alu_computation : ALUOp → Computation
+alu_computation A.Add32 = on_words (O.Signed Add)
+alu_computation A.Add32Ext16 = with_second (O.Signed Add) Word signed_halfword
+alu_computation A.Add64 = on_doublewords (O.Signed Add)
+alu_computation A.Add64Ext16 = with_second (O.Signed Add) Doubleword signed_halfword
+alu_computation A.Add64Ext32 = with_second (O.Signed Add) Doubleword signed_word
+alu_computation A.AddLogical32 = on_words (O.Logical L.Add)
+alu_computation A.AddLogical64 = on_doublewords (O.Logical L.Add)
+alu_computation A.AddLogical64Ext32 = with_second (O.Logical L.Add) Doubleword word
+alu_computation A.Sub32 = on_words (O.Signed Subtract)
+alu_computation A.Sub32Ext16 = with_second (O.Signed Subtract) Word signed_halfword
+alu_computation A.Sub64 = on_doublewords (O.Signed Subtract)
+alu_computation A.Sub64Ext16 = with_second (O.Signed Subtract) Doubleword signed_halfword
+alu_computation A.Sub64Ext32 = with_second (O.Signed Subtract) Doubleword signed_word
+alu_computation A.SubLogical32 = on_words (O.Logical L.Subtract)
+alu_computation A.SubLogical64 = on_doublewords (O.Logical L.Subtract)
+alu_computation A.SubLogical64Ext32 = with_second (O.Logical L.Subtract) Doubleword word
+alu_computation A.Mul32 = on_words (O.Signed Multiply)
+alu_computation A.Mul32Ext16 = with_second (O.Signed Multiply) Word signed_halfword
+alu_computation A.Mul32CC = on_words (O.Signed Multiply)
+alu_computation A.Mul64 = on_doublewords (O.Signed Multiply)
+alu_computation A.Mul64Ext16 = with_second (O.Signed Multiply) Doubleword signed_halfword
+alu_computation A.Mul64Ext32 = with_second (O.Signed Multiply) Doubleword signed_word
+alu_computation A.Mul64CC = on_doublewords (O.Signed Multiply)
+alu_computation A.And32 = on_words (O.Bit And)
+alu_computation A.And64 = on_doublewords (O.Bit And)
+alu_computation A.Orr32 = on_words (O.Bit Or)
+alu_computation A.Orr64 = on_doublewords (O.Bit Or)
+alu_computation A.Xor32 = on_words (O.Bit Xor)
+alu_computation A.Xor64 = on_doublewords (O.Bit Xor)
+alu_computation A.NotAnd32 = on_words (O.Bit NotAnd)
+alu_computation A.NotAnd64 = on_doublewords (O.Bit NotAnd)
+alu_computation A.NotOrr32 = on_words (O.Bit NotOr)
+alu_computation A.NotOrr64 = on_doublewords (O.Bit NotOr)
+alu_computation A.NotXor32 = on_words (O.Bit NotXor)
+alu_computation A.NotXor64 = on_doublewords (O.Bit NotXor)
+alu_computation A.AndNot32 = on_words (O.Bit AndNot)
+alu_computation A.AndNot64 = on_doublewords (O.Bit AndNot)
+alu_computation A.OrrNot32 = on_words (O.Bit OrNot)
+alu_computation A.OrrNot64 = on_doublewords (O.Bit OrNot)
+
+-- the condition code with three operands: unstated after the products that have a form which keeps it
+abbrev pub alu_three_rule : ALUOp → CodeRule
+alu_three_rule A.Mul32 = Unstated
+alu_three_rule A.Mul64 = Unstated
+alu_three_rule _ = Set
+
+-- with two operands: products keep it
+abbrev pub alu_two_rule : ALUOp → CodeRule
+alu_two_rule A.Mul32 = Kept
+alu_two_rule A.Mul32Ext16 = Kept
+alu_two_rule A.Mul64 = Kept
+alu_two_rule A.Mul64Ext16 = Kept
+alu_two_rule A.Mul64Ext32 = Kept
+alu_two_rule _ = Set
+
+abbrev pub unary_computation : UnaryOp → Computation
+unary_computation U.Abs32 = on_words (O.Signed Absolute)
+unary_computation U.Abs64 = on_doublewords (O.Signed Absolute)
+unary_computation U.Abs64Ext32 = with_second (O.Signed Absolute) Doubleword signed_word
+unary_computation U.Neg32 = on_words (O.Signed Negate)
+unary_computation U.Neg64 = on_doublewords (O.Signed Negate)
+unary_computation U.Neg64Ext32 = with_second (O.Signed Negate) Doubleword signed_word
+unary_computation U.PopcntByte = on_doublewords O.PopulationCountByByte
+unary_computation U.PopcntReg = on_doublewords O.PopulationCount
+unary_computation U.BSwap32 = with_second O.Move Word (record { width = Bits32; sign = Unsigned; reversed = true })
+unary_computation U.BSwap64 = with_second O.Move Doubleword (record { width = Bits64; sign = Unsigned; reversed = true })
+unary_computation U.Clz64 = on_doublewords O.LeadingZeros
+unary_computation U.Ctz64 = on_doublewords O.TrailingZeros
+
+abbrev pub unary_rule : UnaryOp → CodeRule
+unary_rule U.BSwap32 = Kept
+unary_rule U.BSwap64 = Kept
+unary_rule U.Clz64 = Unstated
+unary_rule U.Ctz64 = Unstated
+unary_rule _ = Set
+
+-- a comparison of values of a size
+pub record Comparison : Type 0 where
+  pub sign : Signedness
+  pub size : Size
+  pub second : Second
+
+abbrev pub comparison : CmpOp → Comparison
+comparison C.CmpS32 = record { sign = Signed; size = Word; second = word }
+comparison C.CmpS32Ext16 = record { sign = Signed; size = Word; second = signed_halfword }
+comparison C.CmpS64 = record { sign = Signed; size = Doubleword; second = doubleword }
+comparison C.CmpS64Ext16 = record { sign = Signed; size = Doubleword; second = signed_halfword }
+comparison C.CmpS64Ext32 = record { sign = Signed; size = Doubleword; second = signed_word }
+comparison C.CmpL32 = record { sign = Unsigned; size = Word; second = word }
+comparison C.CmpL32Ext16 = record { sign = Unsigned; size = Word; second = halfword }
+comparison C.CmpL64 = record { sign = Unsigned; size = Doubleword; second = doubleword }
+comparison C.CmpL64Ext16 = record { sign = Unsigned; size = Doubleword; second = halfword }
+comparison C.CmpL64Ext32 = record { sign = Unsigned; size = Doubleword; second = word }
+
+abbrev pub with_rule : CodeRule → Effect → Operation
+with_rule rule effect = record { effect = effect; rule = rule }
+
+-- a register as the second operand
+abbrev pub register_operand : Second → ℕ → Operand
+register_operand s x = record { source = Value x; width = s.width; sign = s.sign; reversed = s.reversed }
+
+-- register d becomes the operator's value on registers n and m
+abbrev pub computes : CodeRule → Computation → (d n m : ℕ) → Registers → Operation
+computes rule c d n m r = with_rule rule (Compute c.operator c.size d (value_in c.size r n) (register_operand c.second (r.general m)))
+
+-- the code becomes the order of registers n and m
+abbrev pub compares : Comparison → (n m : ℕ) → Registers → Operation
+compares c n m r = with_rule Set (Compare c.sign c.size (value_in c.size r n) (register_operand c.second (r.general m)))

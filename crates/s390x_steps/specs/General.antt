@@ -1,0 +1,19 @@
+-- The registers that an instruction may name.
+use Rattle.std.specs.Prelude.{Bool, false, true, ◌&&◌, not, nat_lt, nat_eq}
+use Rattle.s390x_base.specs.Regs.{is_int, number_of}
+use Rattle.s390x_base.specs.declared.regs.Reg.{Reg}
+use Rattle.s390x_base.specs.declared.regs.Reg.TheVariants.{Real, Virtual}
+
+-- a real Int register
+abbrev pub is_general : Reg → Bool
+is_general (Real r) = is_int r.class && nat_lt r.number 16
+is_general (Virtual num class) = false
+
+-- a register other than %r0, which as a branch's target means that there is no branch
+abbrev pub is_nonzero : Reg → Bool
+is_nonzero (Real r) = not (nat_eq r.number 0)
+is_nonzero (Virtual num class) = true
+
+-- an input that has to be the output is it
+abbrev pub reuses : (output input : Reg) → Bool
+reuses output input = is_general output && is_general input && nat_eq (number_of output) (number_of input)
