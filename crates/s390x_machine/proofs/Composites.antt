@@ -18,7 +18,8 @@ use Rattle.s390x_operations.specs.declared.stop.StopKind.TheVariants.{Operation 
 use Rattle.s390x_machine.specs.declared.meaning.Action.{Action}
 use Rattle.s390x_machine.specs.declared.meaning.Action.TheVariants.{Perform, Branch, BranchAndSave}
 use Rattle.s390x_machine.specs.Machine.{Event, Went, Stopped, Acts, MachineStep, Turn, before, Run, all_writes}
-use Rattle.s390x_machine.specs.Forms.{with_rule, PerformsWhere, TrapsAlways, TrapsWhere, Calls}
+use Rattle.s390x_machine.specs.Forms.{PerformsWhere, TrapsAlways, TrapsWhere, Calls}
+use Rattle.s390x_machine.specs.Computations.{with_rule}
 use Rattle.s390x_machine.specs.Typed.{Trapped, Called, At, Ended, FormStep, WhereStep, TypedStep, form_at}
 use Rattle.s390x_machine.specs.Match.{code_at_place, Runs, StepRuns}
 use Rattle.s390x_machine.specs.Layout.{Layout, place, InStep}

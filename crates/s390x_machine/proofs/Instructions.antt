@@ -67,10 +67,10 @@ exactly : (op : Operation) → Refines op op
 exactly op = record { access = refl; refused = refl; may_refuse = λ kind h. h; results = λ c r h. h; code = λ c code h. h }
 
 two_some : (opcode d m : ℕ) → 0 < size_of (two_operands opcode d m)
+unfolding length_of
 two_some opcode d m = go (nat_lt opcode 256)
   where
     go : (short : Bool) → 0 < size_of (cond short (rr opcode d m) (rre opcode d m))
-    unfolding length_of
     go true = omega arith
     go false = omega arith
 
