@@ -1,3 +1,5 @@
+pub mod Constructors
 pub mod Emission
+pub mod Facilities
 pub mod Memory
 pub mod State

@@ -3,8 +3,10 @@
 
 pub mod args;
 pub mod calls;
+pub mod facility;
 pub mod function;
 pub mod inst;
+pub mod make;
 pub mod ops;
 pub mod state;
 pub mod vec_inst;
@@ -15,6 +17,7 @@ pub use calls::{
     ArgPair, CallArgPair, CallConv, CallInfo, CallInstDest, CallRetPair, RetLocation, RetPair,
     ReturnCallInfo, SymbolReloc, TryCallHandler, TryCallInfo,
 };
+pub use facility::InstructionSet;
 pub use function::{AllocatedFunction, Block};
 pub use inst::Inst;
 pub use ops::{ALUOp, CmpOp, RxSBGOp, ShiftOp, UnaryOp};
@@ -23,3 +26,6 @@ pub use state::{
 };
 pub use vec_inst::VecInst;
 pub use vec_ops::{VecBinaryOp, VecIntCmpOp, VecIntEltCmpOp, VecShiftOp, VecUnaryOp};
+
+#[cfg(test)]
+mod tests;
