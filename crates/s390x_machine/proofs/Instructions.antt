@@ -79,15 +79,15 @@ two_small a b h = let p = and_parts (is_general a) (is_general b) h in (general_
 
 three_small : (a b c : Reg) → IsTrue (is_general a && is_general b && is_general c) → (number_of a < 16) × (number_of b < 16) × (number_of c < 16)
 three_small a b c h =
-    let p = and_parts (is_general a) (is_general b && is_general c) h in
-    let q = two_small b c p.1 in
-    (general_number a p.0, q.0, q.1)
+    let p = and_parts (is_general a && is_general b) (is_general c) h in
+    let q = two_small a b p.0 in
+    (q.0, q.1, general_number c p.1)
 
 reused_small : (output input other : Reg) → IsTrue (reuses output input && is_general other) → (number_of output < 16) × (number_of other < 16)
 reused_small output input other h =
     let p = and_parts (reuses output input) (is_general other) h in
-    let q = and_parts (is_general output) (is_general input && nat_eq (number_of output) (number_of input)) p.0 in
-    (general_number output q.0, general_number other p.1)
+    let q = and_parts (is_general output && is_general input) (nat_eq (number_of output) (number_of input)) p.0 in
+    ((two_small output input q.0).0, general_number other p.1)
 
 uncoded : (L : Layout) (p : ℕ) → Coded L p no_code
 uncoded L p kind n e = absurd (cc)
