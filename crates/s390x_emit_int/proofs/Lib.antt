@@ -13,3 +13,4 @@ pub mod Answering
 pub mod Lengths
 pub mod FirstCauses
 pub mod Linked
+pub mod Single

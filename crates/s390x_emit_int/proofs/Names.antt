@@ -1,15 +1,13 @@
 -- Where no cause stands, each target is a block.
-use Rattle.std.proofs.Common.{◌≡◌, ℕ, ◌+◌, ◌<◌, List, [], ◌∷◌, Option, None, nat_lt}
+use Rattle.std.proofs.Common.{◌≡◌, ℕ, ◌+◌, ◌<◌, List, [], ◌∷◌, Option, Some, None, nat_lt}
 use Rattle.std.proofs.lemmas.Bool.{ltb-true}
-use Rattle.s390x_base.specs.Regs.{number_of}
 use Rattle.s390x_base.specs.declared.ir.MachLabel.{MachLabel}
 use Rattle.s390x_base.specs.declared.error.EmitError.TheVariants.{UnboundLabel}
-use Rattle.s390x_inst.specs.declared.ops.ALUOp.{ALUOp}
-use Rattle.s390x_inst.specs.declared.ops.ALUOp.TheVariants.{Add64}
 use Rattle.s390x_inst.specs.declared.inst.Inst.{Inst}
-use Rattle.s390x_inst.specs.declared.inst.Inst.TheVariants.{AluRRR, Mov64, Jump, CondBr, IndirectBr, Ret}
+use Rattle.s390x_inst.specs.declared.inst.Inst.TheVariants.{Jump, CondBr, IndirectBr, Ret}
 use Rattle.s390x_steps.specs.Tree.{Tree, empty, leaf, looped}
-use Rattle.s390x_steps.specs.Parts.{alu_rrr, instruction_parts}
+use Rattle.s390x_steps.specs.Parts.{parts_or, instruction_parts}
+use Rattle.s390x_steps.specs.Alone.{Alone, alone}
 use Rattle.s390x_steps.specs.Causes.{first, unless, label_cause, instruction_cause, draws, nesting_cause, numbers_cause, tree_cause, blocks_cause}
 use Rattle.s390x_steps.proofs.Causes.{first_left, first_right, unless_true}
 use Rattle.s390x_emit_int.specs.Bound.{PartsName, TreeNames, TreesName}
@@ -17,18 +15,16 @@ use Rattle.s390x_emit_int.specs.Bound.{PartsName, TreeNames, TreesName}
 label_below : (blocks : ℕ) (l : MachLabel) → label_cause blocks l ≡ None → l.0 < blocks
 label_below blocks l h = ltb-true l.0 blocks (unless_true (nat_lt l.0 blocks) UnboundLabel h)
 
-alu_names : (blocks : ℕ) (op : ALUOp) (d n m : ℕ) → PartsName blocks (alu_rrr op d n m)
-alu_names blocks Add64 d n m = (tt, tt)
-alu_names blocks _ d n m = tt
+alone_names : (blocks : ℕ) (o : Option Alone) → PartsName blocks (parts_or o [])
+alone_names blocks None = tt
+alone_names blocks (Some x) = (tt, tt)
 
 leaf_names : (blocks depth : ℕ) (i : Inst) → instruction_cause blocks depth i ≡ None → PartsName blocks (instruction_parts i)
-leaf_names blocks depth (AluRRR op rd rn rm) h = alu_names blocks op (number_of rd) (number_of rn) (number_of rm)
-leaf_names blocks depth (Mov64 rd rm) h = (tt, tt)
 leaf_names blocks depth (Jump dest) h = (label_below blocks dest h, tt)
 leaf_names blocks depth (CondBr taken not_taken mask) h = (label_below blocks taken (first_left _ _ h), (label_below blocks not_taken (first_right (label_cause blocks taken) _ h), tt))
 leaf_names blocks depth (IndirectBr rn targets) h = (tt, tt)
 leaf_names blocks depth (Ret link) h = (tt, tt)
-leaf_names blocks depth i h = tt
+leaf_names blocks depth i h = alone_names blocks (alone i)
 
 pub tree_names : (blocks n depth : ℕ) (t : Tree) → tree_cause blocks n depth t ≡ None → TreeNames blocks t
 tree_names blocks n depth empty h = tt

@@ -5,7 +5,7 @@ use Rattle.s390x_inst.specs.declared.inst.Inst.{Inst}
 use Rattle.s390x_inst.specs.declared.inst.Inst.TheVariants.{CondBreak}
 use Rattle.s390x_steps.specs.Tree.{Tree, empty, leaf, looped}
 use Rattle.s390x_steps.specs.MachineInstruction.{ril_c, bytes_of}
-use Rattle.s390x_steps.specs.Parts.{Part, Row, Branch, Target, ToBlock, ToStep, instruction_parts}
+use Rattle.s390x_steps.specs.Parts.{Part, Row, Branch, Target, ToBlock, ToStep, branch_parts, parts_size, instruction_parts}
 use Rattle.s390x_steps.specs.Causes.{draws}
 use Rattle.s390x_emit_int.specs.Pieces.{Piece, Put, Link, Step, Draw, Bind}
 
@@ -23,7 +23,17 @@ abbrev pub part_pieces : List Part → List Piece
 part_pieces [] = []
 part_pieces (part ∷ parts) = part_piece part ∷ part_pieces parts
 
--- the pieces of an instruction that is no loop; `after` is the label behind the innermost loop
+-- the pieces of an instruction that goes elsewhere; `after` is the label behind the innermost loop
+abbrev pub branch_pieces : (after : ℕ) → Inst → List Piece
+branch_pieces after (CondBreak mask) = branch mask after ∷ []
+branch_pieces after i = part_pieces (branch_parts i)
+
+-- how many bytes they have
+abbrev pub branch_size : Inst → ℕ
+branch_size (CondBreak mask) = 6
+branch_size i = parts_size (branch_parts i)
+
+-- the pieces of an instruction that is no loop
 abbrev pub leaf_pieces : (after : ℕ) → Inst → List Piece
 leaf_pieces after (CondBreak mask) = branch mask after ∷ []
 leaf_pieces after i = part_pieces (instruction_parts i)

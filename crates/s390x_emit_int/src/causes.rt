@@ -1,20 +1,12 @@
 //! Why an instruction is refused.
 ghost use Rattle.std.specs.Prelude.{◌≡◌, ◌≤◌, ◌&&◌, None, Some};
-ghost use Rattle.s390x_base.specs.declared.error.EmitError.TheVariants.{BadOperator, BadRegister, UnboundLabel};
-ghost use Rattle.s390x_steps.specs.Causes.{first, unless, is_general, is_nonzero, label_cause, labels_cause, is_alu_rrr, instruction_cause};
+ghost use Rattle.s390x_base.specs.declared.error.EmitError.TheVariants.{BadRegister, UnboundLabel};
+ghost use Rattle.s390x_steps.specs.Causes.{first, unless, label_cause, labels_cause, branch_cause, instruction_cause};
+ghost use Rattle.s390x_steps.specs.General.{is_general, is_nonzero};
 
+use crate::alone::find_alone;
 use s390x_base::{EmitError, MachLabel, Reg, RegClass};
-use s390x_inst::{ALUOp, Inst};
-
-// Whether the register is a real Int one.
-fn general(r: Reg) -> bool
-    ensures { result ≡ is_general r }
-{
-    match r.to_real_reg() {
-        Some(preg) => preg.class() == RegClass::Int && preg.hw_enc() < 16,
-        None => false,
-    }
-}
+use s390x_inst::Inst;
 
 // Whether the register is a real Int one other than `%r0`: one that a branch may go by.
 fn branchable(r: Reg) -> bool
@@ -59,18 +51,6 @@ fn two_labels_refusal(blocks: usize, taken: MachLabel, not_taken: MachLabel) -> 
     }
 }
 
-fn alu_refusal(op: ALUOp, rd: Reg, rn: Reg, rm: Reg) -> Option<EmitError>
-    ensures { result ≡ first (unless (is_alu_rrr op) BadOperator) (unless (is_general rd && is_general rn && is_general rm) BadRegister) }
-{
-    match op {
-        ALUOp::Add64 => refusal_unless(
-            general(rd) && general(rn) && general(rm),
-            EmitError::BadRegister,
-        ),
-        _ => Some(EmitError::BadOperator),
-    }
-}
-
 fn indirect_refusal(blocks: usize, rn: Reg, targets: &[MachLabel]) -> Option<EmitError>
     ensures { result ≡ first (unless (is_general rn && is_nonzero rn) BadRegister) (labels_cause blocks targets.now) }
 {
@@ -81,16 +61,11 @@ fn indirect_refusal(blocks: usize, rn: Reg, targets: &[MachLabel]) -> Option<Emi
     }
 }
 
-/// The first cause of an instruction that is no `Loop`, inside so many loops.
-pub fn instruction_refusal(blocks: usize, depth: u32, inst: &Inst) -> Option<EmitError>
-    ensures { result ≡ instruction_cause blocks depth inst.now }
+// The first cause of an instruction that goes elsewhere.
+fn branch_refusal(blocks: usize, depth: u32, inst: &Inst) -> Option<EmitError>
+    ensures { result ≡ branch_cause blocks depth inst.now }
 {
     match inst {
-        Inst::AluRRR { alu_op, rd, rn, rm } => alu_refusal(*alu_op, rd.to_reg(), *rn, *rm),
-        Inst::Mov64 { rd, rm } => refusal_unless(
-            general(rd.to_reg()) && general(*rm),
-            EmitError::BadRegister,
-        ),
         Inst::Jump { dest } => label_refusal(blocks, *dest),
         Inst::CondBr {
             taken,
@@ -101,5 +76,16 @@ pub fn instruction_refusal(blocks: usize, depth: u32, inst: &Inst) -> Option<Emi
         Inst::Ret { link } => refusal_unless(branchable(*link), EmitError::BadRegister),
         Inst::CondBreak { .. } => refusal_unless(0 < depth, EmitError::BreakOutsideLoop),
         _ => Some(EmitError::BadOperator),
+    }
+}
+
+#[tactic(auto, using(crate::proofs::Single::some_cause, crate::proofs::Single::none_cause))]
+/// The first cause of an instruction that is no `Loop`, inside so many loops.
+pub fn instruction_refusal(blocks: usize, depth: u32, inst: &Inst) -> Option<EmitError>
+    ensures { result ≡ instruction_cause blocks depth inst.now }
+{
+    match find_alone(inst) {
+        Some(found) => refusal_unless(found.fine, EmitError::BadRegister),
+        None => branch_refusal(blocks, depth, inst),
     }
 }

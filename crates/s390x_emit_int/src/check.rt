@@ -5,11 +5,13 @@ ghost use Rattle.s390x_steps.specs.Tree.{empty, graft, tree};
 ghost use Rattle.s390x_steps.specs.Sizes.{instruction_size, tree_size};
 ghost use Rattle.s390x_steps.specs.Causes.{first, draws, nesting_cause, numbers_cause, instruction_cause, tree_cause};
 ghost use Rattle.s390x_steps.specs.Ranges.{InRange, AllInRange, IsMask};
+ghost use Rattle.s390x_emit_int.specs.Emission.{branch_size};
 ghost use Rattle.s390x_emit_int.specs.Totals.{IsCounted, Adds, limit};
 
+use crate::alone::find_alone;
 use crate::causes::instruction_refusal;
 use s390x_base::EmitError;
-use s390x_inst::{ALUOp, Inst};
+use s390x_inst::Inst;
 
 const LIMIT: u64 = 2147483648;
 
@@ -20,21 +22,28 @@ pub struct Totals {
     pub bytes: u64,
 }
 
-#[tactic(auto, using(s390x_steps::proofs::Sizes::add_size), unfolding(s390x_format::specs::Formats::length_of))]
-fn size_of(inst: &Inst) -> u64
-    ensures value { result ≡ instruction_size inst.now }
+// The size of an instruction that goes elsewhere.
+#[tactic(auto, unfolding(s390x_format::specs::Formats::length_of))]
+fn branch_size(inst: &Inst) -> u64
+    ensures value { result ≡ branch_size inst.now }
     ensures few { result ≤ 44 }
 {
     match inst {
-        Inst::AluRRR {
-            alu_op: ALUOp::Add64,
-            ..
-        }
-        | Inst::Mov64 { .. } => 4,
         Inst::Jump { .. } | Inst::CondBreak { .. } => 6,
         Inst::CondBr { .. } => 12,
         Inst::IndirectBr { .. } | Inst::Ret { .. } => 2,
         _ => 0,
+    }
+}
+
+#[tactic(auto, using(crate::proofs::Single::some_size, crate::proofs::Single::none_size))]
+fn size_of(inst: &Inst) -> u64
+    ensures value { result ≡ instruction_size inst.now }
+    ensures few { result ≤ 44 }
+{
+    match find_alone(inst) {
+        Some(found) => found.row.size(),
+        None => branch_size(inst),
     }
 }
 

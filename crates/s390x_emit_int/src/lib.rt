@@ -1,6 +1,7 @@
 //! Emission: from typed instructions to finished code.
 #![tactic(auto)]
 
+pub mod alone;
 pub mod causes;
 pub mod check;
 pub mod function;
