@@ -1,14 +1,13 @@
 -- After emission each label stands at the place that the sizes give.
-use Rattle.std.proofs.Common.{◌≡◌, ℕ, zero, suc, ◌+◌, ◌<◌, ◌≤◌, ◌≢◌, List, [], ◌∷◌, ◌++◌, length, get_or, set, refl, sym, ap, ◌∙◌, subst, arith, length-append, length-set, Option, None, Some}
+use Rattle.std.proofs.Common.{◌≡◌, ℕ, ◌+◌, ◌<◌, ◌≤◌, ◌≢◌, [], ◌∷◌, ◌++◌, length, get_or, sym, ap, ◌∙◌, subst, arith, length-append, length-set, None, Some}
 use Rattle.std.proofs.lemmas.List.{get_or-set_other, get_or-set_same}
 use Rattle.s390x_buffer.specs.State.{State}
 use Rattle.s390x_buffer.specs.Patch.{place_in, place_of}
-use Rattle.s390x_inst.specs.declared.inst.Inst.{Inst}
 use Rattle.s390x_steps.specs.Tree.{Tree, empty, leaf, looped}
 use Rattle.s390x_steps.specs.Sizes.{instruction_size, tree_size}
 use Rattle.s390x_steps.specs.Causes.{draws}
 use Rattle.s390x_steps.specs.MachineInstruction.{ril_c, bytes_of}
-use Rattle.s390x_emit_int.specs.Pieces.{Piece, apply, run, Put, Link, Step, Draw, Bind}
+use Rattle.s390x_emit_int.specs.Pieces.{apply, run, Step}
 use Rattle.s390x_emit_int.specs.Emission.{leaf_pieces, back_pieces, pieces}
 use Rattle.s390x_emit_int.specs.Bound.{Bound}
 use Rattle.s390x_emit_int.proofs.Runs.{Grows, grows_on, run-append, leaf_grows, step_grows, tree_grows, opened, opened_labels, opened_grows, body_run, loop_run, end_grows, length-branch}

@@ -1,10 +1,10 @@
 -- A branch patched to its target has half the distance in its field.
-use Rattle.std.proofs.Common.{◌≡◌, ℕ, zero, suc, ◌+◌, ◌-◌, ◌*◌, ◌/◌, ◌%◌, ◌^◌, ◌<◌, List, [], ◌∷◌, ◌++◌, refl, sym, ap, ◌∙◌, arith}
-use Rattle.s390x_buffer.specs.Patch.{patch, half}
+use Rattle.std.proofs.Common.{◌≡◌, ℕ, ◌+◌, ◌-◌, ◌*◌, ◌/◌, ◌%◌, ◌^◌, ◌<◌, [], ◌∷◌, ap, ◌∙◌, arith}
+use Rattle.s390x_buffer.specs.Patch.{patch}
 use Rattle.s390x_buffer.specs.declared.label_use.LabelUse.TheVariants.{BranchRIL}
 use Rattle.s390x_format.specs.Formats.{length_of, layout_of}
 use Rattle.s390x_format.specs.Layout.{number, bits}
-use Rattle.s390x_format.specs.Reading.{be_bytes, encode}
+use Rattle.s390x_format.specs.Reading.{be_bytes}
 use Rattle.s390x_steps.specs.MachineInstruction.{ril_c, bytes_of}
 use Rattle.s390x_steps.specs.Rows.{half_distance}
 

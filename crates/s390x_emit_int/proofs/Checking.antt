@@ -1,5 +1,5 @@
 -- The check goes on from member to member.
-use Rattle.std.proofs.Common.{◌≡◌, ℕ, suc, Result, Ok, Err, MatchResult, ◌+◌, ◌<◌, ◌≤◌, min, drop, get_or, length, List, Option, None, Some, refl, sym, ap, ◌∙◌, arith}
+use Rattle.std.proofs.Common.{◌≡◌, ℕ, Result, Ok, Err, MatchResult, ◌+◌, ◌<◌, min, drop, get_or, length, List, None, Some, sym, ap, ◌∙◌, arith}
 use Rattle.s390x_base.specs.declared.error.EmitError.{EmitError}
 use Rattle.s390x_inst.specs.declared.inst.Inst.{Inst}
 use Rattle.s390x_steps.specs.Tree.{Tree, empty, leaf, looped, graft, tree}
@@ -7,7 +7,7 @@ use Rattle.s390x_steps.specs.Sizes.{instruction_size, tree_size}
 use Rattle.s390x_steps.specs.Causes.{first, draws, nesting_cause, numbers_cause, instruction_cause, tree_cause}
 use Rattle.s390x_steps.proofs.Trees.{behind, graft_draws, graft_size}
 use Rattle.s390x_steps.proofs.Causes.{first_none, graft_cause}
-use Rattle.s390x_emit_int.specs.Totals.{IsCounted, Adds, limit}
+use Rattle.s390x_emit_int.specs.Totals.{Adds, limit}
 use Rattle.s390x_emit_int.specs.declared.check.Totals.{Totals}
 
 capped : (a b x : ℕ) → min limit a ≡ min limit b → min limit (a + x) ≡ min limit (b + x)

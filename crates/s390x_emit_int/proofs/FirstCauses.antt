@@ -1,5 +1,5 @@
 -- The first of four causes.
-use Rattle.std.proofs.Common.{◌≡◌, Option, None, Some, refl, ap, ◌∙◌}
+use Rattle.std.proofs.Common.{◌≡◌, Option, None, Some, ap, ◌∙◌}
 use Rattle.s390x_base.specs.declared.error.EmitError.{EmitError}
 use Rattle.s390x_steps.specs.Causes.{first}
 

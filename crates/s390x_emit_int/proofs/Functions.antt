@@ -1,5 +1,5 @@
 -- Blocks, one after another.
-use Rattle.std.proofs.Common.{◌≡◌, ℕ, zero, suc, ◌+◌, ◌<◌, ◌≤◌, ◌≢◌, ◌⊎◌, inl, inr, List, [], ◌∷◌, ◌++◌, length, map, get_or, set, take, drop, refl, sym, ap, ◌∙◌, subst, arith, length-append, length-set, add-zero, zero-add, drop-cons, Option, None, Some}
+use Rattle.std.proofs.Common.{◌≡◌, ℕ, zero, suc, ◌+◌, ◌<◌, ◌≤◌, ◌≢◌, ◌⊎◌, inl, inr, List, [], ◌∷◌, ◌++◌, length, map, get_or, take, drop, refl, sym, ap, ◌∙◌, subst, arith, length-set, add-zero, zero-add, drop-cons, Option, None, Some}
 use Rattle.std.proofs.lemmas.List.{get_or-set_other, get_or-set_same}
 use Rattle.s390x_buffer.specs.State.{State}
 use Rattle.s390x_buffer.specs.Patch.{place_in, place_of}
@@ -8,7 +8,7 @@ use Rattle.s390x_inst.specs.declared.inst.Inst.TheVariants.{CondBreak}
 use Rattle.s390x_steps.specs.Tree.{Tree, empty, leaf, looped}
 use Rattle.s390x_steps.specs.Steps.{Step as TypedStep, step_count, steps_of, steps_from, first_step}
 use Rattle.s390x_steps.specs.MachineInstruction.{ril_c, bytes_of}
-use Rattle.s390x_steps.specs.Parts.{Part, Row, Branch, Target, ToBlock, ToStep, instruction_parts, step_size}
+use Rattle.s390x_steps.specs.Parts.{Part, Row, Branch, ToBlock, ToStep, instruction_parts, step_size}
 use Rattle.s390x_steps.specs.Rows.{Places}
 use Rattle.s390x_steps.specs.Image.{place, code, step_places, block_places}
 use Rattle.s390x_steps.specs.Sizes.{tree_size, blocks_size}
@@ -16,7 +16,7 @@ use Rattle.s390x_steps.specs.Causes.{draws}
 use Rattle.s390x_emit_int.specs.Pieces.{Piece, apply, run, Put, Link, Step, Draw, Bind}
 use Rattle.s390x_emit_int.specs.Emission.{part_pieces, leaf_pieces, back_pieces, pieces, function_pieces}
 use Rattle.s390x_emit_int.specs.Resolve.{resolve, put_length, Wide}
-use Rattle.s390x_emit_int.specs.Bound.{Bound, Follows, TreesName, AllBound}
+use Rattle.s390x_emit_int.specs.Bound.{Follows, TreesName, AllBound}
 use Rattle.s390x_emit_int.proofs.Runs.{Grows, run-append, tree_grows, length-branch}
 use Rattle.s390x_emit_int.proofs.Joining.{resolve-append, put_append, tree_put, steps_total, steps_length, code_append, follows_left, follows_right, follows_end, tree_join}
 use Rattle.s390x_emit_int.proofs.Binding.{Tells, tree_bound}

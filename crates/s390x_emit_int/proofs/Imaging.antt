@@ -1,8 +1,8 @@
 -- The finished function is its image.
-use Rattle.std.proofs.Common.{◌≡◌, ℕ, zero, suc, ◌+◌, ◌-◌, ◌<◌, ◌≤◌, ◌≢◌, ◌⊎◌, inl, inr, List, [], ◌∷◌, ◌++◌, length, map, get_or, set, take, drop, replicate, refl, sym, ap, ◌∙◌, subst, arith, length-append, length-set, append-nil, add-zero, zero-add, drop-cons, length-take, Option, None, Some, Vec, Global}
+use Rattle.std.proofs.Common.{◌≡◌, ℕ, suc, ◌+◌, ◌-◌, ◌<◌, ◌≤◌, ◌≢◌, List, [], ◌∷◌, ◌++◌, length, map, get_or, take, drop, refl, sym, ap, ◌∙◌, subst, arith, length-append, length-set, zero-add, drop-cons, length-take, Option, None, Some}
 use Rattle.std.proofs.lemmas.List.{length-map, length-replicate, get_or_append_left, get_or-append-add, get_or-take, get_or-drop}
 use Rattle.s390x_buffer.specs.State.{State, Constant, fresh}
-use Rattle.s390x_buffer.specs.Patch.{place_in, place_of, patch_all}
+use Rattle.s390x_buffer.specs.Patch.{place_in, place_of}
 use Rattle.s390x_buffer.specs.Constants.{constant_start, constant_starts, constant_bytes, constants_end, greatest_align}
 use Rattle.s390x_buffer.specs.Finish.{Finished, bind_constants, final_labels, starts_of_constants, placed_site}
 use Rattle.s390x_buffer.specs.declared.entries.MachBufferFinalized.{MachBufferFinalized}
@@ -11,15 +11,13 @@ use Rattle.s390x_steps.specs.Tree.{Tree, tree}
 use Rattle.s390x_steps.specs.Ranges.{AllInRange, BlocksInRange}
 use Rattle.s390x_emit_int.specs.Room.{HasRoom}
 use Rattle.s390x_inst.specs.declared.inst.Inst.{Inst}
-use Rattle.s390x_steps.specs.Steps.{function_steps, steps_from, first_step}
-use Rattle.s390x_steps.specs.Rows.{Places}
-use Rattle.s390x_steps.specs.Image.{place, code, function_places, function_code, step_places, block_places}
-use Rattle.s390x_steps.specs.Sizes.{blocks_size}
+use Rattle.s390x_steps.specs.Steps.{function_steps, first_step}
+use Rattle.s390x_steps.specs.Image.{place, function_places, function_code}
 use Rattle.s390x_steps.specs.Causes.{draws, blocks_cause}
 use Rattle.s390x_emit_int.specs.Pieces.{Piece, apply, run, Put, Link, Step, Draw, Bind}
 use Rattle.s390x_emit_int.specs.Emission.{pieces, function_pieces}
-use Rattle.s390x_emit_int.specs.Resolve.{resolve, Wide, Within, put_length}
-use Rattle.s390x_emit_int.specs.Bound.{Follows, TreesName, AllBound}
+use Rattle.s390x_emit_int.specs.Resolve.{resolve, Wide, Within}
+use Rattle.s390x_emit_int.specs.Bound.{TreesName, AllBound}
 use Rattle.s390x_emit_int.specs.Function.{IsImage, tree_of}
 use Rattle.s390x_emit_int.proofs.Runs.{run-append}
 use Rattle.s390x_emit_int.proofs.Patching.{patched, patched_run, all_left, length-patch_all, within_more, within_append}

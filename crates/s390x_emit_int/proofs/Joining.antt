@@ -1,21 +1,21 @@
 -- The pieces, resolved, are the code of the typed steps.
-use Rattle.std.proofs.Common.{◌≡◌, ℕ, zero, suc, ◌+◌, ◌-◌, ◌*◌, ◌/◌, ◌%◌, ◌<◌, ◌≤◌, List, [], ◌∷◌, ◌++◌, length, refl, sym, ap, ◌∙◌, subst, arith, length-append, append_assoc, append-nil, add-zero, add_assoc}
-use Rattle.s390x_buffer.specs.Patch.{half, patch}
+use Rattle.std.proofs.Common.{◌≡◌, ℕ, suc, ◌+◌, ◌<◌, List, [], ◌∷◌, ◌++◌, length, refl, sym, ap, ◌∙◌, subst, arith, length-append, append_assoc, append-nil, add-zero, add_assoc}
+use Rattle.s390x_buffer.specs.Patch.{patch}
 use Rattle.s390x_buffer.specs.declared.label_use.LabelUse.TheVariants.{BranchRIL}
 use Rattle.s390x_inst.specs.declared.inst.Inst.{Inst}
 use Rattle.s390x_inst.specs.declared.inst.Inst.TheVariants.{CondBreak}
 use Rattle.s390x_steps.specs.Tree.{Tree, empty, leaf, looped}
-use Rattle.s390x_steps.specs.Steps.{Step as TypedStep, Plain, Opening, Back, Break, step_count, step_of, steps_of}
+use Rattle.s390x_steps.specs.Steps.{Step as TypedStep, Back, step_count, step_of, steps_of}
 use Rattle.s390x_steps.specs.MachineInstruction.{ril_c, bytes_of, size_of, joined_bytes}
-use Rattle.s390x_steps.specs.Parts.{Part, Row, Branch, Target, ToBlock, ToStep, instruction_parts, step_parts, part_size, parts_size, step_size}
-use Rattle.s390x_steps.specs.Rows.{Places, half_distance, row_of, rows_of, step_bytes}
+use Rattle.s390x_steps.specs.Parts.{Part, Row, Branch, ToBlock, ToStep, instruction_parts, parts_size, step_size}
+use Rattle.s390x_steps.specs.Rows.{Places, half_distance, rows_of, step_bytes}
 use Rattle.s390x_steps.specs.Image.{code}
 use Rattle.s390x_steps.specs.Sizes.{instruction_size, tree_size}
 use Rattle.s390x_steps.specs.Causes.{draws}
 use Rattle.s390x_emit_int.specs.Pieces.{Piece, Put, Link, Step, Draw, Bind}
-use Rattle.s390x_emit_int.specs.Emission.{branch, part_piece, part_pieces, leaf_pieces, back_pieces, pieces}
+use Rattle.s390x_emit_int.specs.Emission.{part_pieces, leaf_pieces, back_pieces, pieces}
 use Rattle.s390x_emit_int.specs.Resolve.{resolve, put_length}
-use Rattle.s390x_emit_int.specs.Bound.{Bound, Follows, PartNames, PartsName, TreeNames}
+use Rattle.s390x_emit_int.specs.Bound.{Bound, Follows, PartsName, TreeNames}
 use Rattle.s390x_emit_int.proofs.Branches.{patched_branch}
 use Rattle.s390x_emit_int.proofs.Runs.{length-bytes, length-branch}
 

@@ -8,7 +8,7 @@ use Rattle.s390x_inst.specs.declared.inst.Inst.TheVariants.{Jump, CondBr, Indire
 use Rattle.s390x_steps.specs.Tree.{Tree, empty, leaf, looped}
 use Rattle.s390x_steps.specs.Parts.{parts_or, instruction_parts}
 use Rattle.s390x_steps.specs.Alone.{Alone, alone}
-use Rattle.s390x_steps.specs.Causes.{first, unless, label_cause, instruction_cause, draws, nesting_cause, numbers_cause, tree_cause, blocks_cause}
+use Rattle.s390x_steps.specs.Causes.{first, label_cause, instruction_cause, draws, nesting_cause, numbers_cause, tree_cause, blocks_cause}
 use Rattle.s390x_steps.proofs.Causes.{first_left, first_right, unless_true}
 use Rattle.s390x_emit_int.specs.Bound.{PartsName, TreeNames, TreesName}
 

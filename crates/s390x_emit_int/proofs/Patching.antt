@@ -1,5 +1,5 @@
 -- Patching what was put gives each piece at its place.
-use Rattle.std.proofs.Common.{◌≡◌, ℕ, zero, suc, ◌+◌, ◌-◌, ◌*◌, ◌/◌, ◌%◌, ◌<◌, ◌≤◌, List, [], ◌∷◌, ◌++◌, length, get_or, set, refl, sym, ap, ◌∙◌, subst, arith, length-append, length-set, append_assoc, append-nil, add-zero, get_or-append-add}
+use Rattle.std.proofs.Common.{◌≡◌, ℕ, ◌+◌, ◌-◌, ◌/◌, ◌%◌, ◌<◌, ◌≤◌, List, [], ◌∷◌, ◌++◌, length, get_or, set, refl, sym, ap, ◌∙◌, subst, arith, length-append, length-set, append_assoc, append-nil, add-zero, get_or-append-add}
 use Rattle.std.proofs.lemmas.List.{set-append_left, set-append_right, get_or_append_left}
 use Rattle.s390x_buffer.specs.State.{State}
 use Rattle.s390x_buffer.specs.Patch.{patch, patch_size, set2, set4, word, half, distance, patch_use, patch_all}
@@ -7,7 +7,7 @@ use Rattle.s390x_buffer.specs.declared.entries.LabelFixup.{LabelFixup}
 use Rattle.s390x_buffer.specs.declared.label_use.LabelUse.{LabelUse}
 use Rattle.s390x_buffer.specs.declared.label_use.LabelUse.TheVariants.{BranchRI, BranchRIL, PCRel32Dbl, PCRel32}
 use Rattle.s390x_emit_int.specs.Pieces.{Piece, apply, run, Put, Link, Step, Draw, Bind}
-use Rattle.s390x_emit_int.specs.Resolve.{resolve, Wide, Within, put_length}
+use Rattle.s390x_emit_int.specs.Resolve.{resolve, Wide, Within}
 
 set4_left : (bs x : List ℕ) (o v : ℕ) → o + 4 ≤ length bs → set4 (bs ++ x) o v ≡ set4 bs o v ++ x
 set4_left bs x o v h =

@@ -1,5 +1,5 @@
 -- Running pieces: how the lists of a buffer grow.
-use Rattle.std.proofs.Common.{◌≡◌, ℕ, zero, suc, ◌+◌, ◌<◌, ◌≢◌, Option, Some, None, List, [], ◌∷◌, ◌++◌, length, get_or, set, refl, sym, ap, ◌∙◌, subst, arith, length-append, length-set}
+use Rattle.std.proofs.Common.{◌≡◌, ℕ, ◌+◌, ◌<◌, ◌≢◌, Some, None, List, [], ◌∷◌, ◌++◌, length, get_or, refl, sym, ap, ◌∙◌, subst, arith, length-append, length-set}
 use Rattle.std.proofs.lemmas.List.{get_or_append_left, get_or-set_other}
 use Rattle.s390x_buffer.specs.State.{State}
 use Rattle.s390x_inst.specs.declared.inst.Inst.{Inst}
@@ -8,8 +8,8 @@ use Rattle.s390x_steps.specs.Tree.{Tree, empty, leaf, looped}
 use Rattle.s390x_steps.specs.Sizes.{instruction_size, tree_size}
 use Rattle.s390x_steps.specs.Causes.{draws}
 use Rattle.s390x_steps.specs.MachineInstruction.{MachineInstruction, ril_c, bytes_of, size_of}
-use Rattle.s390x_steps.specs.Parts.{Part, Row, Branch, Target, ToBlock, ToStep, instruction_parts, part_size, parts_size}
-use Rattle.s390x_emit_int.specs.Pieces.{Piece, apply, run, Put, Link, Step, Draw, Bind}
+use Rattle.s390x_steps.specs.Parts.{Part, Row, Branch, ToBlock, ToStep, instruction_parts, part_size, parts_size}
+use Rattle.s390x_emit_int.specs.Pieces.{Piece, apply, run, Step, Draw, Bind}
 use Rattle.s390x_emit_int.specs.Emission.{branch, part_piece, part_pieces, leaf_pieces, back_pieces, pieces}
 use Rattle.s390x_format.specs.Formats.{length_of}
 use Rattle.s390x_format.proofs.Encoding.{encode-length}

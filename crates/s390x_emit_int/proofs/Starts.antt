@@ -1,21 +1,21 @@
 -- Where emission's pieces leave the places of steps, and what they leave as it was.
-use Rattle.std.proofs.Common.{◌≡◌, ℕ, zero, suc, ◌+◌, List, [], ◌∷◌, ◌++◌, length, refl, sym, ap, ◌∙◌, subst, arith, length-append, append_assoc, append-nil, add-zero, add_assoc}
+use Rattle.std.proofs.Common.{◌≡◌, ℕ, suc, ◌+◌, List, [], ◌∷◌, ◌++◌, length, refl, sym, ap, ◌∙◌, arith, length-append, append_assoc, append-nil, add-zero, add_assoc}
 use Rattle.s390x_buffer.specs.State.{State}
 use Rattle.s390x_inst.specs.declared.inst.Inst.{Inst}
 use Rattle.s390x_inst.specs.declared.inst.Inst.TheVariants.{CondBreak}
 use Rattle.s390x_steps.specs.Tree.{Tree, empty, leaf, looped}
-use Rattle.s390x_steps.specs.Steps.{Step as TypedStep, Back, step_count, step_of, steps_of}
+use Rattle.s390x_steps.specs.Steps.{Step as TypedStep, Back, step_count, steps_of}
 use Rattle.s390x_steps.specs.MachineInstruction.{ril_c, bytes_of}
-use Rattle.s390x_steps.specs.Parts.{Part, Row, Branch, Target, ToBlock, ToStep, instruction_parts}
+use Rattle.s390x_steps.specs.Parts.{Part, Row, Branch, ToBlock, ToStep, instruction_parts}
 use Rattle.s390x_steps.specs.Image.{step_places}
-use Rattle.s390x_steps.specs.Sizes.{instruction_size, tree_size}
+use Rattle.s390x_steps.specs.Sizes.{instruction_size}
 use Rattle.s390x_steps.specs.Causes.{draws}
 use Rattle.s390x_emit_int.specs.Pieces.{Piece, Put, Link, Step, Draw, Bind, apply, run}
 use Rattle.s390x_emit_int.specs.Emission.{part_pieces, leaf_pieces, back_pieces, pieces}
 use Rattle.s390x_emit_int.specs.Resolve.{put_length}
 use Rattle.s390x_emit_int.specs.Bound.{Follows}
 use Rattle.s390x_emit_int.proofs.Runs.{length-branch}
-use Rattle.s390x_emit_int.proofs.Joining.{leaf_put, tree_put, put_append, size_of_step, steps_length, LoopPlaces, loop_places}
+use Rattle.s390x_emit_int.proofs.Joining.{leaf_put, tree_put, size_of_step, steps_length, LoopPlaces, loop_places}
 
 -- the places of steps in pieces that begin at a place
 abbrev pub marks : ℕ → List Piece → List ℕ

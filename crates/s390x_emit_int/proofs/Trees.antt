@@ -1,5 +1,5 @@
 -- Emission goes on from member to member, and through a loop.
-use Rattle.std.proofs.Common.{◌≡◌, ℕ, ◌+◌, List, [], ◌∷◌, ◌++◌, length, refl, sym, ap, ◌∙◌, subst, suc, ◌<◌, ◌≢◌, get_or, drop, set, None, Some, drop-cons, arith, length-append}
+use Rattle.std.proofs.Common.{◌≡◌, ℕ, ◌+◌, List, [], ◌∷◌, ◌++◌, length, refl, sym, ap, ◌∙◌, subst, suc, ◌<◌, ◌≢◌, get_or, drop, None, Some, drop-cons, arith, length-append}
 use Rattle.std.proofs.lemmas.List.{get_or-set_other}
 use Rattle.std.proofs.Math.Seq.{get_or-append_seam}
 use Rattle.s390x_buffer.specs.State.{State}
@@ -7,13 +7,12 @@ use Rattle.s390x_inst.specs.declared.inst.Inst.{Inst}
 use Rattle.s390x_inst.specs.declared.inst.Inst.TheVariants.{Loop'}
 use Rattle.s390x_steps.specs.Tree.{Tree, empty, leaf, looped, graft, row_tree, tree}
 use Rattle.s390x_steps.specs.Causes.{draws}
-use Rattle.s390x_emit_int.specs.Pieces.{Piece, Step, Draw, Bind, Link, apply, run}
+use Rattle.s390x_emit_int.specs.Pieces.{Step, Draw, Bind, apply, run}
 use Rattle.s390x_emit_int.specs.Emission.{branch, leaf_pieces, pieces, own_pieces, back_pieces}
 use Rattle.s390x_steps.specs.Ranges.{AllInRange}
 use Rattle.s390x_emit_int.specs.Room.{HasRoom}
-use Rattle.s390x_emit_int.proofs.Runs.{Grows, run-append, opened, opened_labels, body_run, loop_run, tree_grows}
+use Rattle.s390x_emit_int.proofs.Runs.{Grows, run-append, opened, opened_labels, body_run, tree_grows}
 use Rattle.s390x_emit_int.proofs.Starts.{Same, same_run}
-use Rattle.std.proofs.Common.{◌≤◌}
 
 leaf_run : (i : Inst) (rest : Tree) (s : State) (n after : ℕ) → run s (pieces n after (leaf i rest)) ≡ run (run (apply s Step) (own_pieces n after (leaf i empty))) (pieces (n + draws (leaf i empty)) after rest)
 leaf_run i rest s n after =

@@ -5,7 +5,7 @@ use Rattle.s390x_inst.specs.declared.inst.Inst.{Inst}
 use Rattle.s390x_inst.specs.declared.inst.Inst.TheVariants.{CondBreak}
 use Rattle.s390x_steps.specs.Tree.{Tree, empty, leaf, looped}
 use Rattle.s390x_steps.specs.MachineInstruction.{ril_c, bytes_of}
-use Rattle.s390x_steps.specs.Parts.{Part, Row, Branch, Target, ToBlock, ToStep, branch_parts, parts_size, instruction_parts}
+use Rattle.s390x_steps.specs.Parts.{Part, Row, Branch, ToBlock, ToStep, branch_parts, parts_size, instruction_parts}
 use Rattle.s390x_steps.specs.Causes.{draws}
 use Rattle.s390x_emit_int.specs.Pieces.{Piece, Put, Link, Step, Draw, Bind}
 

@@ -1,5 +1,5 @@
 -- A function: its image, and the first cause that refuses it.
-use Rattle.std.specs.Prelude.{◌≡◌, ℕ, ◌+◌, ◌<◌, List, [], ◌++◌, length, map, ◌&&◌, nat_lt, nat_eq, Option}
+use Rattle.std.specs.Prelude.{◌≡◌, ◌+◌, ◌<◌, List, [], ◌++◌, length, map, ◌&&◌, nat_lt, nat_eq, Option}
 use Rattle.s390x_base.specs.declared.error.EmitError.{EmitError}
 use Rattle.s390x_base.specs.declared.error.EmitError.TheVariants.{BadStackState, LabelOutOfRange}
 use Rattle.s390x_inst.specs.Emission.{Emission}

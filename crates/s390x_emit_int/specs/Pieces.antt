@@ -1,5 +1,5 @@
 -- What emission does to a buffer, piece by piece.
-use Rattle.std.specs.Prelude.{ℕ, List, [], ◌∷◌, ◌++◌, length, Option, Some, None, set}
+use Rattle.std.specs.Prelude.{ℕ, List, [], ◌∷◌, ◌++◌, length, Some, None, set}
 use Rattle.s390x_buffer.specs.State.{State}
 use Rattle.s390x_buffer.specs.declared.label_use.LabelUse.{LabelUse}
 

@@ -2,7 +2,7 @@
 use Rattle.std.specs.Prelude.{ℕ, ◌+◌, ◌≤◌, List, [], ◌∷◌, ◌++◌, length}
 use Rattle.s390x_buffer.specs.Patch.{patch, patch_size}
 use Rattle.s390x_buffer.specs.declared.entries.LabelFixup.{LabelFixup}
-use Rattle.s390x_emit_int.specs.Pieces.{Piece, Put, Link, Step, Draw, Bind}
+use Rattle.s390x_emit_int.specs.Pieces.{Piece, Put, Link}
 
 abbrev pub resolve : (ℕ → ℕ) → ℕ → List Piece → List ℕ
 resolve off p [] = []

@@ -1,17 +1,14 @@
 -- The rows of the instructions that are one machine instruction on registers: each is listed, and does its instruction's operation.
-use Rattle.std.proofs.Common.{◌≡◌, ℕ, ◌+◌, ◌%◌, ◌<◌, ◌≤◌, List, [], ◌∷◌, Option, Some, None, Bool, true, false, cond, ◌&&◌, ◌==◌, IsTrue, refl, sym, ap, ◌∙◌, subst, arith, nat_lt, nat_eq, eqb-true, ltb-true}
-use Rattle.std.proofs.lemmas.Bool.{and_parts}
+use Rattle.std.proofs.Common.{◌≡◌, ℕ, ◌%◌, ◌<◌, [], ◌∷◌, Option, Some, None, Bool, true, false, cond, refl, ap, ◌∙◌, subst, arith, nat_lt, ltb-true}
 use Rattle.s390x_format.specs.declared.kind.FormatKind.{FormatKind}
 use Rattle.s390x_format.specs.declared.kind.FormatKind.TheVariants.{Rr, Rre, RrfAb}
-use Rattle.s390x_format.specs.declared.row.MachineRow.{MachineRow}
 use Rattle.s390x_format.specs.declared.row.Allowed.{Allowed}
 use Rattle.s390x_format.specs.declared.row.Allowed.TheVariants.{Any, FirstMask}
-use Rattle.s390x_format.specs.Layout.{SlotsFit}
-use Rattle.s390x_format.specs.Formats.{layout_of, length_of}
+use Rattle.s390x_format.specs.Formats.{length_of}
 use Rattle.s390x_format.specs.Rows.{is_allowed}
 use Rattle.s390x_format.specs.Lookup.{row_for}
 use Rattle.s390x_format.specs.Fetch.{machine_rows}
-use Rattle.s390x_format.specs.Encoded.{IsEncoded, decoded_of}
+use Rattle.s390x_format.specs.Encoded.{decoded_of}
 use Rattle.s390x_format.specs.View.{fields_of}
 use Rattle.s390x_format.specs.declared.fields.Fields.{Fields}
 use Rattle.s390x_format.proofs.Encoding.{listed}
@@ -37,12 +34,11 @@ use Rattle.s390x_machine.specs.declared.meaning.Meaning.TheVariants.{Compute, Co
 use Rattle.s390x_machine.specs.declared.meaning.Shape.{Shape}
 use Rattle.s390x_machine.specs.declared.meaning.Shape.TheVariants.{Register, ThreeRegisters}
 use Rattle.s390x_machine.specs.declared.meaning.SecondOperand.{SecondOperand}
-use Rattle.s390x_machine.specs.declared.meaning.Action.{Action}
 use Rattle.s390x_machine.specs.declared.meaning.Action.TheVariants.{Perform}
-use Rattle.s390x_machine.specs.Computations.{Second, Computation, Comparison, alu_computation, alu_three_rule, alu_two_rule, unary_computation, unary_rule, comparison, on_words, on_doublewords, computes, compares, with_rule}
+use Rattle.s390x_machine.specs.Computations.{Second, Computation, alu_computation, alu_three_rule, alu_two_rule, unary_computation, unary_rule, comparison, on_words, on_doublewords, with_rule}
 use Rattle.s390x_machine.specs.Fetch.{Found}
 use Rattle.s390x_machine.specs.Machine.{Event, Acts, RowActs, FetchedActs}
-use Rattle.s390x_machine.specs.Meanings.{action, names_pair, is_odd_pair, meaning_in, meaning_of}
+use Rattle.s390x_machine.specs.Meanings.{action, meaning_in, meaning_of}
 use Rattle.s390x_machine.specs.Layout.{Layout}
 use Rattle.s390x_machine.specs.Placed.{AllPlaced}
 use Rattle.s390x_machine.proofs.Fetching.{StandsAt, row_at}

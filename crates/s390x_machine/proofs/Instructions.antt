@@ -13,11 +13,11 @@ use Rattle.s390x_format.specs.Formats.{length_of}
 use Rattle.s390x_format.specs.declared.kind.FormatKind.TheVariants.{Rr}
 use Rattle.s390x_steps.specs.General.{is_general, reuses}
 use Rattle.s390x_steps.specs.Opcodes.{alu_three, alu_two, cmp_two, unary_two}
-use Rattle.s390x_steps.specs.Alone.{Alone, alone, alone_with, two_operands, two_row, three_row}
+use Rattle.s390x_steps.specs.Alone.{alone_with, two_operands, two_row, three_row}
 use Rattle.s390x_steps.specs.Ranges.{IsMask}
 use Rattle.s390x_steps.specs.MachineInstruction.{MachineInstruction, bytes_of, size_of, rr, rre, rrf_ab, ril_c}
 use Rattle.s390x_steps.specs.Steps.{Step, Plain, Opening, Back, Break}
-use Rattle.s390x_steps.specs.Parts.{Target, ToBlock, ToStep, Part, Row, Branch, part_size, parts_size, parts_or, step_parts}
+use Rattle.s390x_steps.specs.Parts.{ToBlock, ToStep, Row, Branch, parts_size, parts_or, step_parts}
 use Rattle.s390x_steps.specs.Rows.{rows_of}
 use Rattle.s390x_operations.specs.State.{Registers, sum64}
 use Rattle.s390x_operations.specs.Effects.{Refines}
@@ -31,7 +31,7 @@ use Rattle.s390x_machine.specs.declared.meaning.Shape.TheVariants.{Register, Thr
 use Rattle.s390x_machine.specs.declared.meaning.Action.{Action}
 use Rattle.s390x_machine.specs.declared.meaning.Action.TheVariants.{Perform, Branch as BranchAction}
 use Rattle.s390x_machine.specs.Computations.{Computation, alu_computation, alu_three_rule, alu_two_rule, unary_computation, unary_rule, comparison, on_words, on_doublewords, computes, compares}
-use Rattle.s390x_machine.specs.Forms.{Form, Performs, GoesTo, Chooses, GoesByAddress, Leads, Returns, Silent, no_code}
+use Rattle.s390x_machine.specs.Forms.{Form, Performs, GoesTo, Chooses, Leads, Silent, no_code}
 use Rattle.s390x_machine.specs.Meanings.{action}
 use Rattle.s390x_machine.specs.Typed.{At, FormStep, form_of, form_at}
 use Rattle.s390x_machine.specs.Match.{StepRuns, StepHolds, Headline, EveryBlockRun, silent}

@@ -21,7 +21,7 @@ use Rattle.s390x_steps.specs.Rows.{half_distance}
 use Rattle.s390x_operations.specs.State.{State, sum64}
 use Rattle.s390x_operations.specs.Numbers.{low}
 use Rattle.s390x_operations.specs.declared.size.Size.TheVariants.{Doubleword}
-use Rattle.s390x_machine.specs.declared.meaning.Action.TheVariants.{Perform, Branch}
+use Rattle.s390x_machine.specs.declared.meaning.Action.TheVariants.{Branch}
 use Rattle.s390x_machine.specs.Machine.{Event, Acts}
 use Rattle.s390x_machine.specs.Meanings.{performs, meaning_in, meaning_of}
 use Rattle.s390x_machine.specs.Layout.{Layout}

@@ -1,6 +1,5 @@
 -- First causes, and what holds where none stands.
-use Rattle.std.proofs.Common.{◌≡◌, ℕ, suc, ◌+◌, ◌<◌, ◌≤◌, Bool, true, false, List, [], ◌∷◌, Option, None, Some, cond, nat_lt, refl, sym, ap, ◌∙◌, arith, get_or, length, drop}
-use Rattle.std.proofs.lemmas.Bool.{ltb-true}
+use Rattle.std.proofs.Common.{◌≡◌, ℕ, ◌+◌, ◌<◌, Bool, true, false, List, Option, None, Some, refl, sym, ap, ◌∙◌, arith, get_or, length, drop}
 use Rattle.s390x_base.specs.declared.error.EmitError.{EmitError}
 use Rattle.s390x_steps.specs.Tree.{Tree, empty, leaf, looped, graft, row_tree, tree}
 use Rattle.s390x_steps.specs.Causes.{first, unless, draws, nesting_cause, numbers_cause, instruction_cause, tree_cause}

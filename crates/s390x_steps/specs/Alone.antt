@@ -1,8 +1,6 @@
 -- Instructions that are one machine instruction on general registers.
 use Rattle.std.specs.Prelude.{ℕ, Bool, cond, ◌&&◌, nat_eq, nat_lt, Option, Some, None}
 use Rattle.s390x_base.specs.Regs.{number_of}
-use Rattle.s390x_base.specs.Registers.{RealRegister}
-use Rattle.s390x_base.specs.declared.regs.Reg.{Reg}
 use Rattle.s390x_base.specs.declared.regs.Reg.TheVariants.{Real}
 use Rattle.s390x_inst.specs.declared.inst.Inst.{Inst}
 use Rattle.s390x_inst.specs.declared.inst.Inst.TheVariants.{AluRRR, AluRR, UnaryRR, CmpRR, Mov64, MovPReg, Mov32}

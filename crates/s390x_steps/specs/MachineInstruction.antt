@@ -1,5 +1,5 @@
 -- Machine instructions: a format and the values in its slots, which are the opcode, four registers, three masks, an immediate and a displacement.
-use Rattle.std.specs.Prelude.{ℕ, ◌+◌, List, [], ◌∷◌, ◌++◌, set}
+use Rattle.std.specs.Prelude.{ℕ, ◌+◌, List, [], ◌∷◌, ◌++◌}
 use Rattle.s390x_format.specs.declared.kind.FormatKind.{FormatKind}
 use Rattle.s390x_format.specs.declared.kind.FormatKind.TheVariants.{Rr, Rre, RrfAb, RilB, RilC}
 use Rattle.s390x_format.specs.Formats.{length_of}

@@ -1,8 +1,6 @@
-use Rattle.std.proofs.Common.{◌≡◌, ◌∙◌, ◌+◌, sym, ap, true, arith, drop}
+use Rattle.std.proofs.Common.{◌∙◌, ◌+◌, sym, arith, drop}
 use Rattle.std.proofs.lemmas.Result.{err_from_is_err_and}
-use Rattle.s390x_steps.specs.Tree.{empty, looped, graft, tree}
-use Rattle.s390x_steps.specs.Sizes.{tree_size}
-use Rattle.s390x_steps.specs.Causes.{draws, tree_cause}
+use Rattle.s390x_steps.specs.Tree.{empty, graft, tree}
 use Rattle.s390x_steps.proofs.Trees.{graft_loop, not_loop}
 use Rattle.s390x_steps.proofs.Causes.{stops}
 use Rattle.s390x_emit_int.proofs.Checking.{GoesOn, goes_on, loop_answer, leaf_answer}

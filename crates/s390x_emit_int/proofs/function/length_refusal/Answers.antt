@@ -1,4 +1,4 @@
-use Rattle.std.proofs.Common.{◌≡◌, ◌∙◌, sym, map}
+use Rattle.std.proofs.Common.{◌∙◌, sym, map}
 use Rattle.s390x_buffer.specs.State.{constant_of}
 use Rattle.s390x_emit_int.proofs.Lengths.{constants_too_long, code_too_long}
 use Rattle.s390x_emit_int.proofs.function.length_refusal.Goals as goal

@@ -1,11 +1,11 @@
-use Rattle.std.proofs.Common.{rules, ◌≡◌, OnOk, Ok, Err, length, ℕ, ◌+◌, arith, ap, sym, ◌∙◌, refl, subst}
-use Rattle.s390x_buffer.proofs.Keeping.{keeps_on, keeps_same}
-use Rattle.s390x_steps.specs.Tree.{Tree, empty, looped, graft, tree}
+use Rattle.std.proofs.Common.{length, arith, ap, sym, ◌∙◌, subst}
+use Rattle.s390x_buffer.proofs.Keeping.{keeps_on}
+use Rattle.s390x_steps.specs.Tree.{empty, looped, tree}
 use Rattle.s390x_steps.proofs.Trees.{graft_loop, not_loop}
-use Rattle.s390x_emit_int.specs.Pieces.{run, apply}
-use Rattle.s390x_emit_int.specs.Emission.{pieces, own_pieces}
+use Rattle.s390x_emit_int.specs.Pieces.{run}
+use Rattle.s390x_emit_int.specs.Emission.{own_pieces}
 use Rattle.s390x_steps.specs.Ranges.{AllInRange}
-use Rattle.s390x_emit_int.proofs.Trees.{more, more_ranges, more_room, LoopStates, loop_states}
+use Rattle.s390x_emit_int.proofs.Trees.{more, more_ranges, more_room, loop_states}
 use Rattle.s390x_emit_int.proofs.Answering.{on_ok, on_both}
 use Rattle.s390x_emit_int.proofs.tree.+members.Goals as goal
 
