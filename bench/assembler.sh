@@ -1,0 +1,50 @@
+#!/usr/bin/env bash
+# Times `image` of a job of N blocks (100000 if none is given) against GNU as on the same code, in one run: three turns each, and the
+# ratio of the best ones. Needs s390x-linux-gnu-as (Debian's binutils-s390x-linux-gnu) and the built program.
+set -eu
+cd "$(dirname "$0")/.."
+program=crates/s390x/out/s390x
+count=${1:-100000}
+work=$(mktemp -d)
+trap 'rm -rf "$work"' EXIT
+
+# Each block adds and branches: to itself where the sum is zero, else to the next one.
+awk -v n="$count" 'BEGIN {
+    for (i = 0; i < n; i++) {
+        print "block"
+        print "AluRRR Add64 %r2 %r3 %r4"
+        print "Mov64 %r5 %r2"
+        if (i + 1 < n) print "CondBr " i " " i + 1 " 8"; else print "Ret %r14"
+    }
+    print "end"
+}' > "$work/job"
+awk -v n="$count" 'BEGIN {
+    for (i = 0; i < n; i++) {
+        print "L" i ":"
+        print " agrk %r2,%r3,%r4"
+        print " lgr %r5,%r2"
+        if (i + 1 < n) { print " brcl 8,L" i; print " brcl 15,L" i + 1 } else print " br %r14"
+    }
+}' > "$work/code.s"
+
+# The least seconds of three turns.
+best() {
+    local least="" start end
+    for _ in 1 2 3; do
+        start=$(date +%s%N)
+        "$@" > "$work/out" < "$work/job"
+        end=$(date +%s%N)
+        if [ -z "$least" ] || [ $((end - start)) -lt "$least" ]; then least=$((end - start)); fi
+    done
+    echo "$least"
+}
+
+ours=$(best "$program" image 4096)
+cp "$work/out" "$work/image"
+theirs=$(best s390x-linux-gnu-as -march=z14 -o "$work/code.o" "$work/code.s")
+s390x-linux-gnu-objcopy -O binary -j .text "$work/code.o" "$work/code.bin"
+od -An -v -tx1 "$work/code.bin" | tr -d ' \n' > "$work/code.hex"
+echo >> "$work/code.hex"
+cmp "$work/image" "$work/code.hex" && echo "the bytes agree: $(stat -c %s "$work/code.bin")"
+echo "bytes of text: ours $(stat -c %s "$work/job"), as $(stat -c %s "$work/code.s")"
+awk -v a="$ours" -v b="$theirs" 'BEGIN { printf "image %.3f s, as %.3f s, ratio %.2f\n", a / 1e9, b / 1e9, a / b }'
