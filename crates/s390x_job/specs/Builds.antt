@@ -25,7 +25,7 @@ open_lines (l ∷ ls) = insts_lines l.before.items ++ (loop_line l.cond ∷ open
 
 abbrev pub body_lines : Body → List Line
 body_lines b =
-    beginning_lines b.beginning ++ (blocks_lines b.blocks.items ++ (block_line ∷ (open_lines b.«open».items ++ insts_lines b.here.items)))
+    beginning_lines b.beginning ++ (blocks_lines b.blocks.items ++ (block_line ∷ (open_lines b.loops.items ++ insts_lines b.here.items)))
 
 abbrev pub state_lines : State → List Line
 state_lines (Head b stage bound) = beginning_lines b
@@ -42,7 +42,7 @@ rank_of S.Memory = 5
 
 abbrev pub place_of : State → Place
 place_of (Head b stage bound) = Header (rank_of stage) bound
-place_of (Inside b) = Within (length b.«open».items)
+place_of (Inside b) = Within (length b.loops.items)
 place_of (Done j) = AtEnd
 
 -- both files have all their registers

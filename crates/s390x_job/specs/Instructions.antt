@@ -9,6 +9,64 @@ use Rattle.s390x_job.specs.Line.{Line}
 use Rattle.s390x_job.specs.declared.name.LineName.TheVariants as N
 use Rattle.s390x_inst.specs.declared.inst.Inst.{Inst}
 use Rattle.s390x_inst.specs.declared.inst.Inst.TheVariants as I
+use Rattle.s390x_inst.specs.declared.vec_inst.VecInst.{VecInst}
+use Rattle.s390x_inst.specs.declared.vec_inst.VecInst.TheVariants as V
+
+abbrev pub vector_line : VecInst → Line
+vector_line (V.VecRRR op rd rn rm) = record { name = N.VecRRR; fields = FVecBinary op ∷ FReg rd ∷ FReg rn ∷ FReg rm ∷ [] }
+vector_line (V.VecRR op rd rn) = record { name = N.VecRR; fields = FVecUnary op ∷ FReg rd ∷ FReg rn ∷ [] }
+vector_line (V.VecShiftRR shift_op rd rn shift_imm shift_reg) = record { name = N.VecShiftRR; fields = FVecShift shift_op ∷ FReg rd ∷ FReg rn ∷ FNatural W8 shift_imm ∷ FReg shift_reg ∷ [] }
+vector_line (V.VecSelect rd rn rm ra) = record { name = N.VecSelect; fields = FReg rd ∷ FReg rn ∷ FReg rm ∷ FReg ra ∷ [] }
+vector_line (V.VecPermute rd rn rm ra) = record { name = N.VecPermute; fields = FReg rd ∷ FReg rn ∷ FReg rm ∷ FReg ra ∷ [] }
+vector_line (V.VecBlend rd rn rm ra) = record { name = N.VecBlend; fields = FReg rd ∷ FReg rn ∷ FReg rm ∷ FReg ra ∷ [] }
+vector_line (V.VecEvaluate imm rd rn rm ra) = record { name = N.VecEvaluate; fields = FNatural W8 imm ∷ FReg rd ∷ FReg rn ∷ FReg rm ∷ FReg ra ∷ [] }
+vector_line (V.VecPermuteDWImm rd rn rm idx1 idx2) = record { name = N.VecPermuteDWImm; fields = FReg rd ∷ FReg rn ∷ FReg rm ∷ FNatural W8 idx1 ∷ FNatural W8 idx2 ∷ [] }
+vector_line (V.VecIntCmp op rd rn rm) = record { name = N.VecIntCmp; fields = FVecCompare op ∷ FReg rd ∷ FReg rn ∷ FReg rm ∷ [] }
+vector_line (V.VecIntCmpS op rd rn rm) = record { name = N.VecIntCmpS; fields = FVecCompare op ∷ FReg rd ∷ FReg rn ∷ FReg rm ∷ [] }
+vector_line (V.VecIntEltCmp op rn rm) = record { name = N.VecIntEltCmp; fields = FVecElementCompare op ∷ FReg rn ∷ FReg rm ∷ [] }
+vector_line (V.VecInt128SCmpHi tmp rn rm) = record { name = N.VecInt128SCmpHi; fields = FReg tmp ∷ FReg rn ∷ FReg rm ∷ [] }
+vector_line (V.VecInt128UCmpHi tmp rn rm) = record { name = N.VecInt128UCmpHi; fields = FReg tmp ∷ FReg rn ∷ FReg rm ∷ [] }
+vector_line (V.VecLoad rd mem) = record { name = N.VecLoad; fields = FReg rd ∷ FMemory mem ∷ [] }
+vector_line (V.VecLoadRev rd mem) = record { name = N.VecLoadRev; fields = FReg rd ∷ FMemory mem ∷ [] }
+vector_line (V.VecLoadByte16Rev rd mem) = record { name = N.VecLoadByte16Rev; fields = FReg rd ∷ FMemory mem ∷ [] }
+vector_line (V.VecLoadByte32Rev rd mem) = record { name = N.VecLoadByte32Rev; fields = FReg rd ∷ FMemory mem ∷ [] }
+vector_line (V.VecLoadByte64Rev rd mem) = record { name = N.VecLoadByte64Rev; fields = FReg rd ∷ FMemory mem ∷ [] }
+vector_line (V.VecLoadElt16Rev rd mem) = record { name = N.VecLoadElt16Rev; fields = FReg rd ∷ FMemory mem ∷ [] }
+vector_line (V.VecLoadElt32Rev rd mem) = record { name = N.VecLoadElt32Rev; fields = FReg rd ∷ FMemory mem ∷ [] }
+vector_line (V.VecLoadElt64Rev rd mem) = record { name = N.VecLoadElt64Rev; fields = FReg rd ∷ FMemory mem ∷ [] }
+vector_line (V.VecStore rd mem) = record { name = N.VecStore; fields = FReg rd ∷ FMemory mem ∷ [] }
+vector_line (V.VecStoreRev rd mem) = record { name = N.VecStoreRev; fields = FReg rd ∷ FMemory mem ∷ [] }
+vector_line (V.VecStoreByte16Rev rd mem) = record { name = N.VecStoreByte16Rev; fields = FReg rd ∷ FMemory mem ∷ [] }
+vector_line (V.VecStoreByte32Rev rd mem) = record { name = N.VecStoreByte32Rev; fields = FReg rd ∷ FMemory mem ∷ [] }
+vector_line (V.VecStoreByte64Rev rd mem) = record { name = N.VecStoreByte64Rev; fields = FReg rd ∷ FMemory mem ∷ [] }
+vector_line (V.VecStoreElt16Rev rd mem) = record { name = N.VecStoreElt16Rev; fields = FReg rd ∷ FMemory mem ∷ [] }
+vector_line (V.VecStoreElt32Rev rd mem) = record { name = N.VecStoreElt32Rev; fields = FReg rd ∷ FMemory mem ∷ [] }
+vector_line (V.VecStoreElt64Rev rd mem) = record { name = N.VecStoreElt64Rev; fields = FReg rd ∷ FMemory mem ∷ [] }
+vector_line (V.VecLoadReplicate size rd mem) = record { name = N.VecLoadReplicate; fields = FNatural W32 size ∷ FReg rd ∷ FMemory mem ∷ [] }
+vector_line (V.VecLoadReplicateRev size rd mem) = record { name = N.VecLoadReplicateRev; fields = FNatural W32 size ∷ FReg rd ∷ FMemory mem ∷ [] }
+vector_line (V.VecLoadLane size rd ri mem lane_imm) = record { name = N.VecLoadLane; fields = FNatural W32 size ∷ FReg rd ∷ FReg ri ∷ FMemory mem ∷ FNatural W8 lane_imm ∷ [] }
+vector_line (V.VecLoadLaneRev size rd ri mem lane_imm) = record { name = N.VecLoadLaneRev; fields = FNatural W32 size ∷ FReg rd ∷ FReg ri ∷ FMemory mem ∷ FNatural W8 lane_imm ∷ [] }
+vector_line (V.VecLoadLaneUndef size rd mem lane_imm) = record { name = N.VecLoadLaneUndef; fields = FNatural W32 size ∷ FReg rd ∷ FMemory mem ∷ FNatural W8 lane_imm ∷ [] }
+vector_line (V.VecLoadLaneRevUndef size rd mem lane_imm) = record { name = N.VecLoadLaneRevUndef; fields = FNatural W32 size ∷ FReg rd ∷ FMemory mem ∷ FNatural W8 lane_imm ∷ [] }
+vector_line (V.VecStoreLane size rd mem lane_imm) = record { name = N.VecStoreLane; fields = FNatural W32 size ∷ FReg rd ∷ FMemory mem ∷ FNatural W8 lane_imm ∷ [] }
+vector_line (V.VecStoreLaneRev size rd mem lane_imm) = record { name = N.VecStoreLaneRev; fields = FNatural W32 size ∷ FReg rd ∷ FMemory mem ∷ FNatural W8 lane_imm ∷ [] }
+vector_line (V.VecMov rd rn) = record { name = N.VecMov; fields = FReg rd ∷ FReg rn ∷ [] }
+vector_line (V.FpuMove32 rd rn) = record { name = N.FpuMove32; fields = FReg rd ∷ FReg rn ∷ [] }
+vector_line (V.FpuMove64 rd rn) = record { name = N.FpuMove64; fields = FReg rd ∷ FReg rn ∷ [] }
+vector_line (V.FpuCMov32 rd cond ri rm) = record { name = N.FpuCMov32; fields = FReg rd ∷ FCond cond ∷ FReg ri ∷ FReg rm ∷ [] }
+vector_line (V.FpuCMov64 rd cond ri rm) = record { name = N.FpuCMov64; fields = FReg rd ∷ FCond cond ∷ FReg ri ∷ FReg rm ∷ [] }
+vector_line (V.VecCMov rd cond ri rm) = record { name = N.VecCMov; fields = FReg rd ∷ FCond cond ∷ FReg ri ∷ FReg rm ∷ [] }
+vector_line (V.MovToVec128 rd rn rm) = record { name = N.MovToVec128; fields = FReg rd ∷ FReg rn ∷ FReg rm ∷ [] }
+vector_line (V.VecImmByteMask rd mask) = record { name = N.VecImmByteMask; fields = FReg rd ∷ FNatural W16 mask ∷ [] }
+vector_line (V.VecImmBitMask size rd start_bit end_bit) = record { name = N.VecImmBitMask; fields = FNatural W32 size ∷ FReg rd ∷ FNatural W8 start_bit ∷ FNatural W8 end_bit ∷ [] }
+vector_line (V.VecImmReplicate size rd imm) = record { name = N.VecImmReplicate; fields = FNatural W32 size ∷ FReg rd ∷ FInteger S16 imm ∷ [] }
+vector_line (V.VecInsertLane size rd ri rn lane_imm lane_reg) = record { name = N.VecInsertLane; fields = FNatural W32 size ∷ FReg rd ∷ FReg ri ∷ FReg rn ∷ FNatural W8 lane_imm ∷ FReg lane_reg ∷ [] }
+vector_line (V.VecInsertLaneUndef size rd rn lane_imm lane_reg) = record { name = N.VecInsertLaneUndef; fields = FNatural W32 size ∷ FReg rd ∷ FReg rn ∷ FNatural W8 lane_imm ∷ FReg lane_reg ∷ [] }
+vector_line (V.VecExtractLane size rd rn lane_imm lane_reg) = record { name = N.VecExtractLane; fields = FNatural W32 size ∷ FReg rd ∷ FReg rn ∷ FNatural W8 lane_imm ∷ FReg lane_reg ∷ [] }
+vector_line (V.VecInsertLaneImm size rd ri imm lane_imm) = record { name = N.VecInsertLaneImm; fields = FNatural W32 size ∷ FReg rd ∷ FReg ri ∷ FInteger S16 imm ∷ FNatural W8 lane_imm ∷ [] }
+vector_line (V.VecInsertLaneImmUndef size rd imm lane_imm) = record { name = N.VecInsertLaneImmUndef; fields = FNatural W32 size ∷ FReg rd ∷ FInteger S16 imm ∷ FNatural W8 lane_imm ∷ [] }
+vector_line (V.VecReplicateLane size rd rn lane_imm) = record { name = N.VecReplicateLane; fields = FNatural W32 size ∷ FReg rd ∷ FReg rn ∷ FNatural W8 lane_imm ∷ [] }
+vector_line (V.VecEltRev lane_count rd rn) = record { name = N.VecEltRev; fields = FNatural W64 lane_count ∷ FReg rd ∷ FReg rn ∷ [] }
 
 abbrev pub inst_line : Inst → Line
 inst_line (I.AluRRR alu_op rd rn rm) = record { name = N.AluRRR; fields = FAlu alu_op ∷ FReg rd ∷ FReg rn ∷ FReg rm ∷ [] }
@@ -113,31 +171,4 @@ inst_line (I.Args args) = record { name = N.Args; fields = FArgs args.items ∷ 
 inst_line (I.Rets rets) = record { name = N.Rets; fields = FRets rets.items ∷ [] }
 inst_line (I.DummyUse reg) = record { name = N.DummyUse; fields = FReg reg ∷ [] }
 inst_line I.SequencePoint = record { name = N.SequencePoint; fields = [] }
-inst_line (I.VecRRR op rd rn rm) = record { name = N.VecRRR; fields = FVecBinary op ∷ FReg rd ∷ FReg rn ∷ FReg rm ∷ [] }
-inst_line (I.VecRR op rd rn) = record { name = N.VecRR; fields = FVecUnary op ∷ FReg rd ∷ FReg rn ∷ [] }
-inst_line (I.VecShiftRR shift_op rd rn shift_imm shift_reg) = record { name = N.VecShiftRR; fields = FVecShift shift_op ∷ FReg rd ∷ FReg rn ∷ FNatural W8 shift_imm ∷ FReg shift_reg ∷ [] }
-inst_line (I.VecSelect rd rn rm ra) = record { name = N.VecSelect; fields = FReg rd ∷ FReg rn ∷ FReg rm ∷ FReg ra ∷ [] }
-inst_line (I.VecPermute rd rn rm ra) = record { name = N.VecPermute; fields = FReg rd ∷ FReg rn ∷ FReg rm ∷ FReg ra ∷ [] }
-inst_line (I.VecBlend rd rn rm ra) = record { name = N.VecBlend; fields = FReg rd ∷ FReg rn ∷ FReg rm ∷ FReg ra ∷ [] }
-inst_line (I.VecEvaluate imm rd rn rm ra) = record { name = N.VecEvaluate; fields = FNatural W8 imm ∷ FReg rd ∷ FReg rn ∷ FReg rm ∷ FReg ra ∷ [] }
-inst_line (I.VecPermuteDWImm rd rn rm idx1 idx2) = record { name = N.VecPermuteDWImm; fields = FReg rd ∷ FReg rn ∷ FReg rm ∷ FNatural W8 idx1 ∷ FNatural W8 idx2 ∷ [] }
-inst_line (I.VecIntCmp op rd rn rm) = record { name = N.VecIntCmp; fields = FVecCompare op ∷ FReg rd ∷ FReg rn ∷ FReg rm ∷ [] }
-inst_line (I.VecIntCmpS op rd rn rm) = record { name = N.VecIntCmpS; fields = FVecCompare op ∷ FReg rd ∷ FReg rn ∷ FReg rm ∷ [] }
-inst_line (I.VecIntEltCmp op rn rm) = record { name = N.VecIntEltCmp; fields = FVecElementCompare op ∷ FReg rn ∷ FReg rm ∷ [] }
-inst_line (I.VecInt128SCmpHi tmp rn rm) = record { name = N.VecInt128SCmpHi; fields = FReg tmp ∷ FReg rn ∷ FReg rm ∷ [] }
-inst_line (I.VecInt128UCmpHi tmp rn rm) = record { name = N.VecInt128UCmpHi; fields = FReg tmp ∷ FReg rn ∷ FReg rm ∷ [] }
-inst_line (I.VecLoad rd mem) = record { name = N.VecLoad; fields = FReg rd ∷ FMemory mem ∷ [] }
-inst_line (I.VecLoadRev rd mem) = record { name = N.VecLoadRev; fields = FReg rd ∷ FMemory mem ∷ [] }
-inst_line (I.VecLoadByte16Rev rd mem) = record { name = N.VecLoadByte16Rev; fields = FReg rd ∷ FMemory mem ∷ [] }
-inst_line (I.VecLoadByte32Rev rd mem) = record { name = N.VecLoadByte32Rev; fields = FReg rd ∷ FMemory mem ∷ [] }
-inst_line (I.VecLoadByte64Rev rd mem) = record { name = N.VecLoadByte64Rev; fields = FReg rd ∷ FMemory mem ∷ [] }
-inst_line (I.VecLoadElt16Rev rd mem) = record { name = N.VecLoadElt16Rev; fields = FReg rd ∷ FMemory mem ∷ [] }
-inst_line (I.VecLoadElt32Rev rd mem) = record { name = N.VecLoadElt32Rev; fields = FReg rd ∷ FMemory mem ∷ [] }
-inst_line (I.VecLoadElt64Rev rd mem) = record { name = N.VecLoadElt64Rev; fields = FReg rd ∷ FMemory mem ∷ [] }
-inst_line (I.VecStore rd mem) = record { name = N.VecStore; fields = FReg rd ∷ FMemory mem ∷ [] }
-inst_line (I.VecStoreRev rd mem) = record { name = N.VecStoreRev; fields = FReg rd ∷ FMemory mem ∷ [] }
-inst_line (I.VecStoreByte16Rev rd mem) = record { name = N.VecStoreByte16Rev; fields = FReg rd ∷ FMemory mem ∷ [] }
-inst_line (I.VecStoreByte32Rev rd mem) = record { name = N.VecStoreByte32Rev; fields = FReg rd ∷ FMemory mem ∷ [] }
-inst_line (I.VecStoreByte64Rev rd mem) = record { name = N.VecStoreByte64Rev; fields = FReg rd ∷ FMemory mem ∷ [] }
--- not yet read: the line of no instruction
-inst_line i = record { name = N.EndLine; fields = [] }
+inst_line (I.Vector v) = vector_line v

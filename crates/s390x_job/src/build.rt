@@ -56,7 +56,7 @@ pub struct OpenLoop {
 pub struct Body {
     pub beginning: Beginning,
     pub blocks: Vec<Block>,
-    pub open: Vec<OpenLoop>,
+    pub loops: Vec<OpenLoop>,
     pub here: Vec<Inst>,
 }
 
@@ -299,7 +299,7 @@ fn head(
         Item::Block => Ok(Some(State::Inside(Body {
             beginning: b,
             blocks: Vec::new(alloc),
-            open: Vec::new(alloc),
+            loops: Vec::new(alloc),
             here: Vec::new(alloc),
         }))),
         Item::End => Ok(Some(head_end(alloc, b))),
@@ -311,14 +311,14 @@ fn head(
 
 /// The block ends, and one more begins.
 fn shut(alloc: Global, b: Body) -> Result<Body, AllocError>
-    requires none { b.open.items ≡ [] }
+    requires none { b.loops.items ≡ [] }
     requires full { IsFull b.beginning.registers }
-    ensures { IfOk result (λ r. IsFull r.beginning.registers × (body_lines r ≡ body_lines b ++ block_line ∷ []) × (r.open.items ≡ [])) }
+    ensures { IfOk result (λ r. IsFull r.beginning.registers × (body_lines r ≡ body_lines b ++ block_line ∷ []) × (r.loops.items ≡ [])) }
 {
     let Body {
         beginning,
         blocks,
-        open,
+        loops,
         here,
     } = b;
     let mut blocks = blocks;
@@ -326,21 +326,21 @@ fn shut(alloc: Global, b: Body) -> Result<Body, AllocError>
     Ok(Body {
         beginning,
         blocks,
-        open,
+        loops,
         here: Vec::new(alloc),
     })
 }
 
 /// The block ends, and with it the job.
 fn finish(b: Body) -> Result<Job, AllocError>
-    requires none { b.open.items ≡ [] }
+    requires none { b.loops.items ≡ [] }
     requires full { IsFull b.beginning.registers }
     ensures { IfOk result (λ r. IsWhole r × (job_lines r ≡ body_lines b ++ end_line ∷ [])) }
 {
     let Body {
         beginning,
         blocks,
-        open: _,
+        loops: _,
         here,
     } = b;
     let mut blocks = blocks;
@@ -350,37 +350,37 @@ fn finish(b: Body) -> Result<Job, AllocError>
 
 fn open(alloc: Global, b: Body, cond: Cond) -> Result<Body, AllocError>
     requires { IsFull b.beginning.registers }
-    ensures { IfOk result (λ r. IsFull r.beginning.registers × (body_lines r ≡ body_lines b ++ loop_line cond ∷ []) × (length r.open.items ≡ suc (length b.open.items))) }
+    ensures { IfOk result (λ r. IsFull r.beginning.registers × (body_lines r ≡ body_lines b ++ loop_line cond ∷ []) × (length r.loops.items ≡ suc (length b.loops.items))) }
 {
     let Body {
         beginning,
         blocks,
-        open,
+        loops,
         here,
     } = b;
-    let mut open = open;
-    open.push(OpenLoop { cond, before: here })?;
+    let mut loops = loops;
+    loops.push(OpenLoop { cond, before: here })?;
     Ok(Body {
         beginning,
         blocks,
-        open,
+        loops,
         here: Vec::new(alloc),
     })
 }
 
 fn close(b: Body) -> Result<Body, AllocError>
-    requires some { 0 < length b.open.items }
+    requires some { 0 < length b.loops.items }
     requires full { IsFull b.beginning.registers }
-    ensures { IfOk result (λ r. IsFull r.beginning.registers × (body_lines r ≡ body_lines b ++ close_line ∷ []) × (suc (length r.open.items) ≡ length b.open.items)) }
+    ensures { IfOk result (λ r. IsFull r.beginning.registers × (body_lines r ≡ body_lines b ++ close_line ∷ []) × (suc (length r.loops.items) ≡ length b.loops.items)) }
 {
     let Body {
         beginning,
         blocks,
-        open,
+        loops,
         here,
     } = b;
-    let mut open = open;
-    match open.pop() {
+    let mut loops = loops;
+    match loops.pop() {
         Some(top) => {
             let OpenLoop { cond, before } = top;
             let mut before = before;
@@ -388,7 +388,7 @@ fn close(b: Body) -> Result<Body, AllocError>
             Ok(Body {
                 beginning,
                 blocks,
-                open,
+                loops,
                 here: before,
             })
         }
@@ -399,12 +399,12 @@ fn close(b: Body) -> Result<Body, AllocError>
 fn add(b: Body, x: Inst) -> Result<Body, AllocError>
     requires one { class (inst_line x) ≡ Instruction }
     requires full { IsFull b.beginning.registers }
-    ensures { IfOk result (λ r. IsFull r.beginning.registers × (body_lines r ≡ body_lines b ++ inst_line x ∷ []) × (length r.open.items ≡ length b.open.items)) }
+    ensures { IfOk result (λ r. IsFull r.beginning.registers × (body_lines r ≡ body_lines b ++ inst_line x ∷ []) × (length r.loops.items ≡ length b.loops.items)) }
 {
     let Body {
         beginning,
         blocks,
-        open,
+        loops,
         here,
     } = b;
     let mut here = here;
@@ -412,7 +412,7 @@ fn add(b: Body, x: Inst) -> Result<Body, AllocError>
     Ok(Body {
         beginning,
         blocks,
-        open,
+        loops,
         here,
     })
 }
@@ -420,32 +420,32 @@ fn add(b: Body, x: Inst) -> Result<Body, AllocError>
 fn inside(alloc: Global, b: Body, i: Item) -> Result<Option<State>, AllocError>
     requires item { IsItem i }
     requires full { IsFull b.beginning.registers }
-    ensures { IfOk result (Follows (body_lines b) (Within (length b.open.items)) (item_line i)) }
+    ensures { IfOk result (Follows (body_lines b) (Within (length b.loops.items)) (item_line i)) }
 {
     match i {
         Item::Block => {
-            if b.open.is_empty() {
+            if b.loops.is_empty() {
                 Ok(Some(State::Inside(shut(alloc, b)?)))
             } else {
                 Ok(None)
             }
         }
         Item::End => {
-            if b.open.is_empty() {
+            if b.loops.is_empty() {
                 Ok(Some(State::Done(finish(b)?)))
             } else {
                 Ok(None)
             }
         }
         Item::Open(cond) => {
-            if b.open.len() < 9 {
+            if b.loops.len() < 9 {
                 Ok(Some(State::Inside(open(alloc, b, cond)?)))
             } else {
                 Ok(None)
             }
         }
         Item::Close => {
-            if b.open.is_empty() {
+            if b.loops.is_empty() {
                 Ok(None)
             } else {
                 Ok(Some(State::Inside(close(b)?)))

@@ -21,6 +21,7 @@ mod parts;
 mod print;
 mod print_call;
 mod print_line;
+mod print_vector;
 mod read;
 mod read_control;
 mod read_integer;

@@ -109,8 +109,23 @@ use crate::read_memory::store8;
 use crate::read_memory::store16;
 use crate::read_memory::store32;
 use crate::read_memory::store64;
+use crate::read_vector::fpu_c_mov32;
+use crate::read_vector::fpu_c_mov64;
+use crate::read_vector::fpu_move32;
+use crate::read_vector::fpu_move64;
+use crate::read_vector::mov_to_vec128;
 use crate::read_vector::vec_blend;
+use crate::read_vector::vec_c_mov;
+use crate::read_vector::vec_elt_rev;
 use crate::read_vector::vec_evaluate;
+use crate::read_vector::vec_extract_lane;
+use crate::read_vector::vec_imm_bit_mask;
+use crate::read_vector::vec_imm_byte_mask;
+use crate::read_vector::vec_imm_replicate;
+use crate::read_vector::vec_insert_lane;
+use crate::read_vector::vec_insert_lane_imm;
+use crate::read_vector::vec_insert_lane_imm_undef;
+use crate::read_vector::vec_insert_lane_undef;
 use crate::read_vector::vec_int_cmp;
 use crate::read_vector::vec_int_cmp_s;
 use crate::read_vector::vec_int_elt_cmp;
@@ -123,9 +138,17 @@ use crate::read_vector::vec_load_byte64_rev;
 use crate::read_vector::vec_load_elt16_rev;
 use crate::read_vector::vec_load_elt32_rev;
 use crate::read_vector::vec_load_elt64_rev;
+use crate::read_vector::vec_load_lane;
+use crate::read_vector::vec_load_lane_rev;
+use crate::read_vector::vec_load_lane_rev_undef;
+use crate::read_vector::vec_load_lane_undef;
+use crate::read_vector::vec_load_replicate;
+use crate::read_vector::vec_load_replicate_rev;
 use crate::read_vector::vec_load_rev;
+use crate::read_vector::vec_mov;
 use crate::read_vector::vec_permute;
 use crate::read_vector::vec_permute_dw_imm;
+use crate::read_vector::vec_replicate_lane;
 use crate::read_vector::vec_rr;
 use crate::read_vector::vec_rrr;
 use crate::read_vector::vec_select;
@@ -134,6 +157,11 @@ use crate::read_vector::vec_store;
 use crate::read_vector::vec_store_byte16_rev;
 use crate::read_vector::vec_store_byte32_rev;
 use crate::read_vector::vec_store_byte64_rev;
+use crate::read_vector::vec_store_elt16_rev;
+use crate::read_vector::vec_store_elt32_rev;
+use crate::read_vector::vec_store_elt64_rev;
+use crate::read_vector::vec_store_lane;
+use crate::read_vector::vec_store_lane_rev;
 use crate::read_vector::vec_store_rev;
 use s390x_base::ConstantData;
 use s390x_base::RegClass;
@@ -306,31 +334,61 @@ pub fn item(alloc: Global, n: LineName, c: &mut Cursor) -> Result<Item, AllocErr
         LineName::Rets => Ok(Item::One(rets(alloc, c)?)),
         LineName::DummyUse => Ok(Item::One(dummy_use(c))),
         LineName::SequencePoint => Ok(Item::One(Inst::SequencePoint)),
-        LineName::VecRRR => Ok(Item::One(vec_rrr(c))),
-        LineName::VecRR => Ok(Item::One(vec_rr(c))),
-        LineName::VecShiftRR => Ok(Item::One(vec_shift_rr(c))),
-        LineName::VecSelect => Ok(Item::One(vec_select(c))),
-        LineName::VecPermute => Ok(Item::One(vec_permute(c))),
-        LineName::VecBlend => Ok(Item::One(vec_blend(c))),
-        LineName::VecEvaluate => Ok(Item::One(vec_evaluate(c))),
-        LineName::VecPermuteDWImm => Ok(Item::One(vec_permute_dw_imm(c))),
-        LineName::VecIntCmp => Ok(Item::One(vec_int_cmp(c))),
-        LineName::VecIntCmpS => Ok(Item::One(vec_int_cmp_s(c))),
-        LineName::VecIntEltCmp => Ok(Item::One(vec_int_elt_cmp(c))),
-        LineName::VecInt128SCmpHi => Ok(Item::One(vec_int128_s_cmp_hi(c))),
-        LineName::VecInt128UCmpHi => Ok(Item::One(vec_int128_u_cmp_hi(c))),
-        LineName::VecLoad => Ok(Item::One(vec_load(c))),
-        LineName::VecLoadRev => Ok(Item::One(vec_load_rev(c))),
-        LineName::VecLoadByte16Rev => Ok(Item::One(vec_load_byte16_rev(c))),
-        LineName::VecLoadByte32Rev => Ok(Item::One(vec_load_byte32_rev(c))),
-        LineName::VecLoadByte64Rev => Ok(Item::One(vec_load_byte64_rev(c))),
-        LineName::VecLoadElt16Rev => Ok(Item::One(vec_load_elt16_rev(c))),
-        LineName::VecLoadElt32Rev => Ok(Item::One(vec_load_elt32_rev(c))),
-        LineName::VecLoadElt64Rev => Ok(Item::One(vec_load_elt64_rev(c))),
-        LineName::VecStore => Ok(Item::One(vec_store(c))),
-        LineName::VecStoreRev => Ok(Item::One(vec_store_rev(c))),
-        LineName::VecStoreByte16Rev => Ok(Item::One(vec_store_byte16_rev(c))),
-        LineName::VecStoreByte32Rev => Ok(Item::One(vec_store_byte32_rev(c))),
-        LineName::VecStoreByte64Rev => Ok(Item::One(vec_store_byte64_rev(c))),
+        LineName::VecRRR => Ok(Item::One(Inst::Vector(vec_rrr(c)))),
+        LineName::VecRR => Ok(Item::One(Inst::Vector(vec_rr(c)))),
+        LineName::VecShiftRR => Ok(Item::One(Inst::Vector(vec_shift_rr(c)))),
+        LineName::VecSelect => Ok(Item::One(Inst::Vector(vec_select(c)))),
+        LineName::VecPermute => Ok(Item::One(Inst::Vector(vec_permute(c)))),
+        LineName::VecBlend => Ok(Item::One(Inst::Vector(vec_blend(c)))),
+        LineName::VecEvaluate => Ok(Item::One(Inst::Vector(vec_evaluate(c)))),
+        LineName::VecPermuteDWImm => Ok(Item::One(Inst::Vector(vec_permute_dw_imm(c)))),
+        LineName::VecIntCmp => Ok(Item::One(Inst::Vector(vec_int_cmp(c)))),
+        LineName::VecIntCmpS => Ok(Item::One(Inst::Vector(vec_int_cmp_s(c)))),
+        LineName::VecIntEltCmp => Ok(Item::One(Inst::Vector(vec_int_elt_cmp(c)))),
+        LineName::VecInt128SCmpHi => Ok(Item::One(Inst::Vector(vec_int128_s_cmp_hi(c)))),
+        LineName::VecInt128UCmpHi => Ok(Item::One(Inst::Vector(vec_int128_u_cmp_hi(c)))),
+        LineName::VecLoad => Ok(Item::One(Inst::Vector(vec_load(c)))),
+        LineName::VecLoadRev => Ok(Item::One(Inst::Vector(vec_load_rev(c)))),
+        LineName::VecLoadByte16Rev => Ok(Item::One(Inst::Vector(vec_load_byte16_rev(c)))),
+        LineName::VecLoadByte32Rev => Ok(Item::One(Inst::Vector(vec_load_byte32_rev(c)))),
+        LineName::VecLoadByte64Rev => Ok(Item::One(Inst::Vector(vec_load_byte64_rev(c)))),
+        LineName::VecLoadElt16Rev => Ok(Item::One(Inst::Vector(vec_load_elt16_rev(c)))),
+        LineName::VecLoadElt32Rev => Ok(Item::One(Inst::Vector(vec_load_elt32_rev(c)))),
+        LineName::VecLoadElt64Rev => Ok(Item::One(Inst::Vector(vec_load_elt64_rev(c)))),
+        LineName::VecStore => Ok(Item::One(Inst::Vector(vec_store(c)))),
+        LineName::VecStoreRev => Ok(Item::One(Inst::Vector(vec_store_rev(c)))),
+        LineName::VecStoreByte16Rev => Ok(Item::One(Inst::Vector(vec_store_byte16_rev(c)))),
+        LineName::VecStoreByte32Rev => Ok(Item::One(Inst::Vector(vec_store_byte32_rev(c)))),
+        LineName::VecStoreByte64Rev => Ok(Item::One(Inst::Vector(vec_store_byte64_rev(c)))),
+        LineName::VecStoreElt16Rev => Ok(Item::One(Inst::Vector(vec_store_elt16_rev(c)))),
+        LineName::VecStoreElt32Rev => Ok(Item::One(Inst::Vector(vec_store_elt32_rev(c)))),
+        LineName::VecStoreElt64Rev => Ok(Item::One(Inst::Vector(vec_store_elt64_rev(c)))),
+        LineName::VecLoadReplicate => Ok(Item::One(Inst::Vector(vec_load_replicate(c)))),
+        LineName::VecLoadReplicateRev => Ok(Item::One(Inst::Vector(vec_load_replicate_rev(c)))),
+        LineName::VecLoadLane => Ok(Item::One(Inst::Vector(vec_load_lane(c)))),
+        LineName::VecLoadLaneRev => Ok(Item::One(Inst::Vector(vec_load_lane_rev(c)))),
+        LineName::VecLoadLaneUndef => Ok(Item::One(Inst::Vector(vec_load_lane_undef(c)))),
+        LineName::VecLoadLaneRevUndef => Ok(Item::One(Inst::Vector(vec_load_lane_rev_undef(c)))),
+        LineName::VecStoreLane => Ok(Item::One(Inst::Vector(vec_store_lane(c)))),
+        LineName::VecStoreLaneRev => Ok(Item::One(Inst::Vector(vec_store_lane_rev(c)))),
+        LineName::VecMov => Ok(Item::One(Inst::Vector(vec_mov(c)))),
+        LineName::FpuMove32 => Ok(Item::One(Inst::Vector(fpu_move32(c)))),
+        LineName::FpuMove64 => Ok(Item::One(Inst::Vector(fpu_move64(c)))),
+        LineName::FpuCMov32 => Ok(Item::One(Inst::Vector(fpu_c_mov32(c)))),
+        LineName::FpuCMov64 => Ok(Item::One(Inst::Vector(fpu_c_mov64(c)))),
+        LineName::VecCMov => Ok(Item::One(Inst::Vector(vec_c_mov(c)))),
+        LineName::MovToVec128 => Ok(Item::One(Inst::Vector(mov_to_vec128(c)))),
+        LineName::VecImmByteMask => Ok(Item::One(Inst::Vector(vec_imm_byte_mask(c)))),
+        LineName::VecImmBitMask => Ok(Item::One(Inst::Vector(vec_imm_bit_mask(c)))),
+        LineName::VecImmReplicate => Ok(Item::One(Inst::Vector(vec_imm_replicate(c)))),
+        LineName::VecInsertLane => Ok(Item::One(Inst::Vector(vec_insert_lane(c)))),
+        LineName::VecInsertLaneUndef => Ok(Item::One(Inst::Vector(vec_insert_lane_undef(c)))),
+        LineName::VecExtractLane => Ok(Item::One(Inst::Vector(vec_extract_lane(c)))),
+        LineName::VecInsertLaneImm => Ok(Item::One(Inst::Vector(vec_insert_lane_imm(c)))),
+        LineName::VecInsertLaneImmUndef => Ok(Item::One(Inst::Vector(vec_insert_lane_imm_undef(
+            c,
+        )))),
+        LineName::VecReplicateLane => Ok(Item::One(Inst::Vector(vec_replicate_lane(c)))),
+        LineName::VecEltRev => Ok(Item::One(Inst::Vector(vec_elt_rev(c)))),
     }
 }

@@ -11,7 +11,7 @@ returns c =
     let b = c.args.b in
     let ss = beginning_lines b.beginning in
     let bs = blocks_lines b.blocks.items in
-    let fs = open_lines b.«open».items in (
+    let fs = open_lines b.loops.items in (
       c.requires.full,
       ap (λ t. ss ++ (bs ++ (block_line ∷ (fs ++ insts_lines t)))) c.in_ok-push.ensures.items
           ∙ ap (λ t. ss ++ (bs ++ (block_line ∷ (fs ++ t)))) (one_more b.here.items c.args.x c.requires.one)

@@ -15,7 +15,7 @@ returns c =
       c.requires,
       ap (λ t. ss ++ (bs ++ (block_line ∷ (open_lines c.push.new.self.items ++ insts_lines t)))) c.new.ensures.items
           ∙ ap (λ t. ss ++ (bs ++ (block_line ∷ (open_lines t ++ [])))) c.in_ok-push.ensures.items
-          ∙ ap (λ t. ss ++ (bs ++ (block_line ∷ (t ++ [])))) (one_frame b.«open».items f)
-          ∙ at_open ss bs (open_lines b.«open».items) (insts_lines b.here.items) (loop_line c.args.cond),
-      omega (arith, ap length c.in_ok-push.ensures.items, length-append b.«open».items (f ∷ [])),
+          ∙ ap (λ t. ss ++ (bs ++ (block_line ∷ (t ++ [])))) (one_frame b.loops.items f)
+          ∙ at_open ss bs (open_lines b.loops.items) (insts_lines b.here.items) (loop_line c.args.cond),
+      omega (arith, ap length c.in_ok-push.ensures.items, length-append b.loops.items (f ∷ [])),
     )

@@ -13,7 +13,7 @@ returns c =
     let bs = blocks_lines b.blocks.items in
     let block : Block = record { insts = b.here } in (
       c.requires.full,
-      ap (λ t. ss ++ (blocks_lines c.push.new.self.items ++ (block_line ∷ (open_lines b.«open».items ++ insts_lines t)))) c.new.ensures.items
+      ap (λ t. ss ++ (blocks_lines c.push.new.self.items ++ (block_line ∷ (open_lines b.loops.items ++ insts_lines t)))) c.new.ensures.items
           ∙ ap (λ t. ss ++ (blocks_lines c.push.new.self.items ++ (block_line ∷ (open_lines t ++ [])))) c.requires.none
           ∙ ap (λ t. ss ++ (blocks_lines t ++ block_line ∷ [])) c.in_ok-push.ensures.items
           ∙ ap (λ t. ss ++ (t ++ block_line ∷ [])) (one_block b.blocks.items block)
