@@ -17,21 +17,26 @@ use Rattle.s390x_image.specs.Symbols.{Symbols}
 use Rattle.s390x_image.specs.declared.error.LinkError.{LinkError}
 use Rattle.s390x_image.specs.declared.error.LinkError.TheVariants as link
 use Rattle.s390x_job.specs.Jobs.{text_of_job, IsJob}
+use Rattle.s390x_job.specs.Same.{SameJob}
 use Rattle.s390x_job.specs.Completions.{pieces, IsFirstWrong}
 use Rattle.s390x_job.specs.declared.job.Job.{Job}
 use Rattle.s390x_tool.specs.Lines.{line, IsMade, IsRefusal, IsLinkRefusal}
-use Rattle.s390x_tool.specs.Answers.{IsAnswer, IsCode, IsImageAt, IsImageReply, IsJobReply, cause_of, link_cause_of, symbols_of}
+use Rattle.s390x_tool.specs.Emitted.{emit_text}
+use Rattle.s390x_tool.specs.Answers.{IsAnswer, IsCode, IsEmitReply, IsImageAt, IsImageReply, IsJobReply, cause_of, link_cause_of, symbols_of}
 use Rattle.s390x_tool.specs.declared.words.Command.{Command}
-use Rattle.s390x_tool.specs.declared.words.Command.TheVariants.{Image}
+use Rattle.s390x_tool.specs.declared.words.Command.TheVariants.{Image, Emit}
 use Rattle.s390x_tool.specs.declared.status.Status.{Status}
 use Rattle.s390x_tool.specs.declared.status.Status.TheVariants as status
 
 -- a command's reply to the job of the input is the answer
 pub answer_of_job : (command : Command) (input : List ℕ) (s : Status) (text : List ℕ) (j : Job)
-    → IsJob j → text_of_job j ≡ input → IsJobReply command j s text → IsAnswer command input s text
-answer_of_job (Image base) input status.Syntax text j is spelled reply = absurd reply
-answer_of_job (Image base) input status.NoMemory text j is spelled reply = reply
-answer_of_job (Image base) input s text j is spelled reply = record { job = j; is = is; spelled = spelled; reply = reply }
+    → IsJob j → text_of_job j ≡ input → ((k : Job) → IsJob k → text_of_job k ≡ input → SameJob j k) → IsJobReply command j s text → IsAnswer command input s text
+answer_of_job (Image base) input status.Syntax text j is spelled only reply = absurd reply
+answer_of_job (Image base) input status.NoMemory text j is spelled only reply = reply
+answer_of_job (Image base) input s text j is spelled only reply = record { job = j; is = is; spelled = spelled; one = only; reply = reply }
+answer_of_job Emit input status.Syntax text j is spelled only reply = absurd reply
+answer_of_job Emit input status.NoMemory text j is spelled only reply = reply
+answer_of_job Emit input s text j is spelled only reply = record { job = j; is = is; spelled = spelled; one = only; reply = reply }
 
 -- a syntax error is the answer
 pub answer_of_syntax : (command : Command) (input : List ℕ) (s : Status) (text : List ℕ) (number : ℕ)
@@ -47,6 +52,19 @@ pub reply_of_refusal : (base : ℕ) (j : Job) (e : EmitError) (s : Status) (text
 reply_of_refusal base j e s text (inl short) (inl refusal) = absurd (refusal.0 short)
 reply_of_refusal base j e s text (inr cause) (inl refusal) = rw refusal.1 (record { error = e; cause = cause; spelled = refusal.2 })
 reply_of_refusal base j e s text cause (inr short) = rw short.1 short.2
+
+-- to `emit` too
+pub emit_reply_of_refusal : (j : Job) (e : EmitError) (s : Status) (text : List ℕ)
+    → (e ≡ error.NoMemory) ⊎ (cause_of j ≡ Some e) → IsRefusal e s text → IsEmitReply j s text
+emit_reply_of_refusal j e s text (inl short) (inl refusal) = absurd (refusal.0 short)
+emit_reply_of_refusal j e s text (inr cause) (inl refusal) = rw refusal.1 (record { error = e; cause = cause; spelled = refusal.2 })
+emit_reply_of_refusal j e s text cause (inr short) = rw short.1 short.2
+
+-- the code with its tables is the reply to `emit`
+pub reply_of_code : (j : Job) (code : MachBufferFinalized) (s : Status) (text : List ℕ)
+    → IsCode j code → IsMade status.Ok (emit_text code) s text → IsEmitReply j s text
+reply_of_code j code s text is (inl made) = rw made.0 (record { code = code; is = is; spelled = made.1 })
+reply_of_code j code s text is (inr short) = rw short.0 short.1
 
 -- a refusal of linking is the reply
 pub reply_of_link_refusal : (base : ℕ) (j : Job) (code : MachBufferFinalized) (e : LinkError) (s : Status) (text : List ℕ)

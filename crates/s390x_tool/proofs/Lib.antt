@@ -2,4 +2,9 @@ pub mod Numbers
 pub mod Pieces
 pub mod Replying
 pub mod Answering
+pub mod Emitting
+pub mod SameInstruction
+pub mod SameTree
+pub mod SameLines
+pub mod SameJob
 pub mod Completing

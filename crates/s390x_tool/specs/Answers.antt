@@ -12,12 +12,14 @@ use Rattle.s390x_image.specs.Causes.{link_cause}
 use Rattle.s390x_image.specs.Fields.{filled}
 use Rattle.s390x_image.specs.Symbols.{Symbols, no_symbols, with_address}
 use Rattle.s390x_job.specs.Jobs.{text_of_job, IsJob}
+use Rattle.s390x_job.specs.Same.{SameJob}
 use Rattle.s390x_job.specs.Completions.{pieces, IsFirstWrong}
 use Rattle.s390x_job.specs.declared.job.Job.{Job}
 use Rattle.s390x_job.specs.declared.job.SymbolLine.{SymbolLine}
+use Rattle.s390x_tool.specs.Emitted.{emit_text}
 use Rattle.s390x_tool.specs.Lines.{line, error_name, link_error_name}
 use Rattle.s390x_tool.specs.declared.words.Command.{Command}
-use Rattle.s390x_tool.specs.declared.words.Command.TheVariants.{Image}
+use Rattle.s390x_tool.specs.declared.words.Command.TheVariants.{Image, Emit}
 use Rattle.s390x_tool.specs.declared.status.Status.{Status}
 use Rattle.s390x_tool.specs.declared.status.Status.TheVariants as status
 
@@ -81,15 +83,30 @@ IsImageReply base j status.LinkRefused text = IsLinkRefused base j text
 IsImageReply base j status.NoMemory text = text ≡ line (codes "no memory")
 IsImageReply base j s text = ⊥
 
+-- the text of `emit`: the lines of the code of a job's function
+pub record IsEmitText (j : Job) (text : List ℕ) : Type 0 where
+  pub code : MachBufferFinalized
+  pub is : IsCode j code
+  pub spelled : text ≡ emit_text code
+
+-- the reply of `emit` to a job
+abbrev pub IsEmitReply : Job → Status → List ℕ → Type 0
+IsEmitReply j status.Ok text = IsEmitText j text
+IsEmitReply j status.Refused text = IsRefused j text
+IsEmitReply j status.NoMemory text = text ≡ line (codes "no memory")
+IsEmitReply j s text = ⊥
+
 -- the reply of a command to a job
 abbrev pub IsJobReply : Command → Job → Status → List ℕ → Type 0
 IsJobReply (Image base) j s text = IsImageReply base j s text
+IsJobReply Emit j s text = IsEmitReply j s text
 
--- the input is the text of a job, and this is the command's reply to it
+-- the input is the text of a job, the only one, and this is the command's reply to it
 pub record IsJobAnswer (command : Command) (input : List ℕ) (s : Status) (text : List ℕ) : Type 0 where
   pub job : Job
   pub is : IsJob job
   pub spelled : text_of_job job ≡ input
+  pub one : (j : Job) → IsJob j → text_of_job j ≡ input → SameJob job j
   pub reply : IsJobReply command job s text
 
 -- the input is the text of no job, and this is its first wrong line
@@ -105,11 +122,16 @@ IsAnswer command input status.Syntax text = IsSyntax input text
 IsAnswer command input status.NoMemory text = text ≡ line (codes "no memory")
 IsAnswer command input s text = IsJobAnswer command input s text
 
--- The input is the text of a job, and neither emission nor linking at this base has a cause to refuse one with this text.
-pub record IsAccepted (base : ℕ) (input : List ℕ) : Type 0 where
+-- linking has no cause to refuse the job's code, where the command links it
+abbrev pub Links : Command → Job → Type 0
+Links (Image base) j = (code : MachBufferFinalized) → IsCode j code → link_cause_of base j code ≡ None
+Links Emit j = Unit {0}
+
+-- The input is the text of a job, which neither emission nor the command's linking has a cause to refuse.
+pub record IsAccepted (command : Command) (input : List ℕ) : Type 0 where
   pub short : length input ≤ 16777216
   pub job : Job
   pub is : IsJob job
   pub spelled : text_of_job job ≡ input
-  pub valid : (j : Job) → IsJob j → text_of_job j ≡ input → cause_of j ≡ None
-  pub links : (j : Job) (code : MachBufferFinalized) → IsJob j → text_of_job j ≡ input → IsCode j code → link_cause_of base j code ≡ None
+  pub valid : cause_of job ≡ None
+  pub links : Links command job

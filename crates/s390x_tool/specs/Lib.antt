@@ -1,5 +1,6 @@
 pub mod Answers
 pub mod Causes
+pub mod Emitted
 pub mod Ends
 pub mod InMemory
 pub mod Lines

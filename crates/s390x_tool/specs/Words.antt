@@ -4,15 +4,17 @@ use Rattle.std.specs.String.{string_bytes}
 use Rattle.std.specs.Fmt.{decimal}
 use Rattle.std.specs.declared.string.String.{String}
 use Rattle.s390x_tool.specs.declared.words.Command.{Command}
-use Rattle.s390x_tool.specs.declared.words.Command.TheVariants.{Image}
+use Rattle.s390x_tool.specs.declared.words.Command.TheVariants.{Image, Emit}
 
 -- the words of a command; a number is decimal, without a leading zero
 abbrev pub words_of : Command → List (List ℕ)
 words_of (Image base) = codes "image" ∷ decimal base ∷ []
+words_of Emit = codes "emit" ∷ []
 
 -- the numbers of the command lie in their ranges
 abbrev pub IsInRange : Command → Type 0
 IsInRange (Image base) = base < 2 ^ 64
+IsInRange Emit = Unit {0}
 
 -- these words are this command
 pub record IsForm (words : List (List ℕ)) (command : Command) : Type 0 where

@@ -2,9 +2,9 @@
 ghost use Rattle.std.specs.Prelude.{◌≡◌, ◌<◌, length, IfOk};
 ghost use Rattle.std.specs.Cow.{cow_str_bytes};
 ghost use Rattle.s390x_image.specs.Symbols.{no_symbols};
-ghost use Rattle.s390x_tool.specs.Answers.{IsAnswer, IsCode, IsImageReply, IsJobReply, with_symbols};
+ghost use Rattle.s390x_tool.specs.Answers.{IsAnswer, IsCode, IsEmitReply, IsImageReply, IsJobReply, with_symbols};
 
-use crate::reply::{Reply, in_hex, link_refused, no_memory, refused, syntax};
+use crate::reply::{Reply, in_hex, link_refused, no_memory, refused, syntax, with_tables};
 use crate::words::Command;
 use s390x_base::NoMemory;
 use s390x_buffer::MachBufferFinalized;
@@ -32,6 +32,17 @@ fn reply_to_job(alloc: Global, command: Command, job: &Job) -> Reply
 {
     match command {
         Command::Image { base } => image(alloc, base, job),
+        Command::Emit => emit(alloc, job),
+    }
+}
+
+// The code of the job's function with its tables.
+fn emit(alloc: Global, job: &Job) -> Reply
+    ensures { IsEmitReply job.now result.status (cow_str_bytes result.text) }
+{
+    match emit_function(alloc, &job.function, &job.info, job.state) {
+        Ok(code) => with_tables(alloc, &code),
+        Err(error) => refused(error),
     }
 }
 

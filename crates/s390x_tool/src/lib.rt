@@ -2,6 +2,7 @@
 #![tactic(auto)]
 
 pub mod answer;
+mod emitted;
 pub mod ends;
 pub mod in_memory;
 pub mod input;

@@ -3,10 +3,13 @@ ghost use Rattle.std.specs.Prelude.{◌≡◌, ◌++◌, codes, IfOk, OnErr, str
 ghost use Rattle.std.specs.Cow.{cow_str_bytes};
 ghost use Rattle.std.specs.Fmt.{decimal};
 ghost use Rattle.hex.specs.Hex.{encode_lower};
+ghost use Rattle.s390x_tool.specs.Emitted.{emit_text};
 ghost use Rattle.s390x_tool.specs.Lines.{line, error_name, link_error_name, IsLinkRefusal, IsMade, IsRefusal};
 
+use crate::emitted::emitted_text;
 use crate::status::Status;
 use s390x_base::EmitError;
+use s390x_buffer::MachBufferFinalized;
 use s390x_image::LinkError;
 use std::alloc::{AllocError, Global};
 use std::borrow::CowStr;
@@ -72,6 +75,13 @@ fn hex_line(alloc: Global, bytes: &[u8]) -> Result<String, AllocError>
     let mut text = hex::encode(alloc, bytes)?;
     text.push_str("\n")?;
     Ok(text)
+}
+
+/// The reply with a finished code and its tables.
+pub fn with_tables(alloc: Global, code: &MachBufferFinalized) -> Reply
+    ensures { IsMade Status.Ok (emit_text code.now) result.status (cow_str_bytes result.text) }
+{
+    made(Status::Ok, emitted_text(alloc, code))
 }
 
 /// The reply to a job that emission refuses.

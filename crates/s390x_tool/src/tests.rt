@@ -1,5 +1,10 @@
 //! Whole runs over sources and sinks in memory.
+use crate::emitted::emitted_text;
 use crate::{BytesSink, BytesSource, Status, run};
+use s390x_base::{ExternalName, Reloc, TrapCode};
+use s390x_buffer::{
+    HandlerEntry, MachBufferFinalized, MapEntry, PatchEntry, RelocEntry, TrapEntry, TryEntry,
+};
 use std::alloc::Global;
 use std::process::Abort;
 use std::test::Fail;
@@ -69,7 +74,12 @@ fn words_that_are_no_command(rt: HostRuntime) -> Result<(), Fail> {
         "image +4",
         "image 0x10",
         "image 18446744073709551616",
+        "image -4",
+        "image 4096 ",
         "Image 4096",
+        "emit 4096",
+        "emit ",
+        "Emit",
     ] {
         expect(
             &rt,
@@ -147,6 +157,18 @@ fn images(rt: HostRuntime) -> Result<(), Fail> {
             Status::LinkRefused,
             "link MisalignedBase\n",
         ),
+        (
+            "image 4096",
+            "block\nAluRRR Add64 %r2 %r3 %r4\nend\n",
+            Status::Ok,
+            "b9e84023\n",
+        ),
+        (
+            "image 18446744073709551612",
+            "block\nMov64 %r2 %r3\nMov64 %r2 %r3\nMov64 %r2 %r3\nMov64 %r2 %r3\nend\n",
+            Status::LinkRefused,
+            "link ImageTooHigh\n",
+        ),
         ("image 4096", "end\n", Status::Ok, "\n"),
         ("image 4096", "", Status::Syntax, "syntax 1\n"),
         ("image 4096", "block\n", Status::Syntax, "syntax 2\n"),
@@ -170,6 +192,30 @@ fn images(rt: HostRuntime) -> Result<(), Fail> {
         ),
         (
             "image 4096",
+            "block\nMov64 %i2 %r3\nend\n",
+            Status::Refused,
+            "refused BadRegister\n",
+        ),
+        (
+            "image 4096",
+            "block\nIndirectBr %r0 [7]\nend\n",
+            Status::Refused,
+            "refused BadRegister\n",
+        ),
+        (
+            "image 4096",
+            "const 3 00\nblock\nRet %r14\nend\n",
+            Status::Refused,
+            "refused BadAlignment\n",
+        ),
+        (
+            "image 4096",
+            "const 2 0a0b\nconst 8 01\nblock\nRet %r14\nend\n",
+            Status::Ok,
+            "07fe0a0b0000000001\n",
+        ),
+        (
+            "image 4096",
             "block\nJump 0\nend\n",
             Status::Ok,
             "c0f400000000\n",
@@ -178,6 +224,158 @@ fn images(rt: HostRuntime) -> Result<(), Fail> {
         let input = Vec::from_slice(rt.alloc(), input.as_bytes())?;
         expect(&rt, words, input, GOOD, (status, told))?;
     }
+    Ok(())
+}
+
+/// A block of so many loops, each in the one before.
+fn nested(alloc: Global, loops: usize) -> Result<Vec<u8>, Fail> {
+    let mut text = String::from_str(alloc, "block\n")?;
+    for _ in 0..loops {
+        text.push_str("Loop 4\n")?;
+    }
+    for _ in 0..loops {
+        text.push_str("endloop\n")?;
+    }
+    text.push_str("end\n")?;
+    Ok(Vec::from_slice(alloc, text.as_bytes())?)
+}
+
+#[test]
+fn nested_loops(rt: HostRuntime) -> Result<(), Fail> {
+    for (loops, status, told) in [
+        (9, Status::Refused, "refused BadOperator\n"),
+        (10, Status::Syntax, "syntax 11\n"),
+    ] {
+        let input = nested(rt.alloc(), loops)?;
+        expect(&rt, "image 4096", input, GOOD, (status, told))?;
+    }
+    Ok(())
+}
+
+#[test]
+fn codes(rt: HostRuntime) -> Result<(), Fail> {
+    for (input, status, told) in [
+        (
+            ADD,
+            Status::Ok,
+            "code b9040023b908002407fe\nalign 4\nblock 0 0\n",
+        ),
+        ("end\n", Status::Ok, "code -\nalign 4\n"),
+        (
+            "const 2 0a0b\nconst 8 01\nblock\nRet %r14\nend\n",
+            Status::Ok,
+            "code 07fe0a0b0000000001\nalign 8\nblock 0 0\nconst 0 2\nconst 1 8\n",
+        ),
+        (
+            "block\nCondBr 1 2 8\nblock\nRet %r14\nblock\nRet %r14\nend\n",
+            Status::Ok,
+            "code c08400000006c0f40000000407fe07fe\nalign 4\nblock 0 0\nblock 1 12\nblock 2 14\n",
+        ),
+        (
+            "block\nRet %r0\nend\n",
+            Status::Refused,
+            "refused BadRegister\n",
+        ),
+        ("block\n", Status::Syntax, "syntax 2\n"),
+    ] {
+        let input = Vec::from_slice(rt.alloc(), input.as_bytes())?;
+        expect(&rt, "emit", input, GOOD, (status, told))?;
+    }
+    Ok(())
+}
+
+/// Relocations of each kind.
+fn relocs(alloc: Global) -> Result<Vec<RelocEntry>, Fail> {
+    let mut relocs = Vec::new(alloc);
+    for (offset, kind, name, addend) in [
+        (2, Reloc::S390xPLTRel32Dbl, 1, 2),
+        (8, Reloc::S390xPCRel32Dbl, 4294967295, -6),
+        (16, Reloc::Abs8, 0, -9223372036854775808),
+    ] {
+        let name = ExternalName(name);
+        relocs.push(RelocEntry {
+            offset,
+            kind,
+            name,
+            addend,
+        })?;
+    }
+    Ok(relocs)
+}
+
+/// Traps of each code.
+fn traps(alloc: Global, user: TrapCode) -> Result<Vec<TrapEntry>, Fail> {
+    let mut traps = Vec::new(alloc);
+    for (offset, code) in [
+        (0, TrapCode::STACK_OVERFLOW),
+        (1, TrapCode::INTEGER_OVERFLOW),
+        (2, TrapCode::HEAP_OUT_OF_BOUNDS),
+        (3, TrapCode::INTEGER_DIVISION_BY_ZERO),
+        (3, TrapCode::BAD_CONVERSION_TO_INTEGER),
+        (4, user),
+    ] {
+        traps.push(TrapEntry { offset, code })?;
+    }
+    Ok(traps)
+}
+
+/// Calls with two handlers, with one and with none.
+fn tries(alloc: Global) -> Result<Vec<TryEntry>, Fail> {
+    let tagged = HandlerEntry {
+        tag: Some(7),
+        offset: 14,
+    };
+    let other = HandlerEntry {
+        tag: None,
+        offset: 14,
+    };
+    let mut tries = Vec::new(alloc);
+    for handlers in [
+        Vec::from_slice(alloc, &[tagged, other])?,
+        Vec::from_slice(alloc, &[other])?,
+        Vec::new(alloc),
+    ] {
+        tries.push(TryEntry {
+            offset: 6,
+            frame: 160,
+            handlers,
+        })?;
+    }
+    Ok(tries)
+}
+
+/// A code with entries of each kind.
+fn full_code(alloc: Global, user: TrapCode) -> Result<MachBufferFinalized, Fail> {
+    Ok(MachBufferFinalized {
+        bytes: Vec::from_slice(alloc, &[0x07, 0xfe, 0x0a])?,
+        block_starts: Vec::from_slice(alloc, &[0, 12])?,
+        constant_starts: Vec::from_slice(alloc, &[2])?,
+        starts: Vec::from_slice(alloc, &[0, 6])?,
+        relocs: relocs(alloc)?,
+        traps: traps(alloc, user)?,
+        call_sites: Vec::from_slice(alloc, &[6, 4294967295])?,
+        try_call_sites: tries(alloc)?,
+        patchable_sites: Vec::from_slice(alloc, &[PatchEntry { offset: 6, len: 2 }])?,
+        stack_maps: Vec::from_slice(alloc, &[MapEntry { offset: 6, map: 9 }])?,
+        alignment: 16,
+    })
+}
+
+#[test]
+fn every_kind_of_entry(rt: HostRuntime) -> Result<(), Fail> {
+    let Some(user) = TrapCode::user(7) else {
+        return Err(Fail::from("no code"));
+    };
+    let code = full_code(rt.alloc(), user)?;
+    assert_eq!(rt;
+        emitted_text(rt.alloc(), &code)?.as_str(),
+        "code 07fe0a\nalign 16\nblock 0 0\nblock 1 12\nconst 0 2\n\
+         reloc 2 PLTRel32Dbl u1 2\nreloc 8 PCRel32Dbl u4294967295 -6\nreloc 16 Abs8 u0 -9223372036854775808\n\
+         trap 0 stk_ovf\ntrap 1 int_ovf\ntrap 2 heap_oob\ntrap 3 int_divz\ntrap 3 bad_toint\ntrap 4 user7\n\
+         call 6\ncall 4294967295\n\
+         try 6 160 [7:14,*:14]\ntry 6 160 [*:14]\ntry 6 160 []\n\
+         patch 6 2\nmap 6 9\n"
+    );
     Ok(())
 }
 

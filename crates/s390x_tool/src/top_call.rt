@@ -1,5 +1,6 @@
 //! The top call.
 ghost use Rattle.std.specs.Prelude.{◌≡◌, ◌<◌, ◌⊎◌, ℕ, List, Some};
+ghost use Rattle.s390x_tool.specs.declared.words.Command.{Command};
 ghost use Rattle.std.specs.Cow.{cow_str_bytes};
 ghost use Rattle.s390x_tool.specs.Answers.{IsAccepted};
 ghost use Rattle.s390x_tool.specs.Causes.{Rose};
@@ -27,11 +28,11 @@ pub fn run<S: Source, K: Sink>(
     // The words and the input have this reply, and its text was written whole, or else a front of it.
     ensures ended { IsEnded (record { words = texts words.now; left = S.left source.old; left' = S.left source.new; faults = S.faults source.old; faults' = S.faults source.new })
         (K.told sink.old) (K.told sink.new) (K.faults sink.old) (K.faults sink.new) result }
-    // At `Ok` the source held the text of one job, and the sink was told its image in hex and a line feed.
+    // At `Ok` the source held the text of one job, and the sink was told the command's text for it.
     ensures ok { result ≡ Status.Ok → IsDone (record { words = texts words.now; left = S.left source.old; left' = S.left source.new; faults = S.faults source.old; faults' = S.faults source.new })
         (K.told sink.old) (K.told sink.new) }
     // A job that neither emission nor linking has a cause to refuse is done, where no read and no write fails.
-    ensures complete { (base : ℕ) (input : List ℕ) → IsForm (texts words.now) (Command.Image base) → S.left source.old ≡ Some input → IsAccepted base input
+    ensures complete { (command : Command) (input : List ℕ) → IsForm (texts words.now) command → S.left source.old ≡ Some input → IsAccepted command input
         → (Rose (S.faults source.old) (S.faults source.new) → ⊥) → (Rose (K.faults sink.old) (K.faults sink.new) → ⊥)
         → (result ≡ Status.Ok) ⊎ (result ≡ Status.NoMemory) }
     ensures usage { result ≡ Status.Usage → IsNoForm (texts words.now) }

@@ -8,6 +8,8 @@ ghost use Rattle.s390x_tool.specs.Words.{IsForm, IsImage, IsNoForm, IsPlain, tex
 pub enum Command {
     /// The image of the job, linked at this base.
     Image { base: u64 },
+    /// The code of the job with its tables.
+    Emit,
 }
 
 /// The command of these words, where they are one.
@@ -16,6 +18,7 @@ pub fn read_words(words: &[String]) -> Option<Command>
     ensures none { IfNone result (IsNoForm (texts words.now)) }
 {
     match words {
+        [name] if name.as_str() == "emit" => Some(Command::Emit),
         [name, base] if name.as_str() == "image" => read_image(base.as_str()),
         _ => None,
     }

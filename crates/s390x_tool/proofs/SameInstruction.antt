@@ -1,0 +1,81 @@
+-- What emission reads of an instruction stands in its line.
+use Rattle.std.proofs.Common.{◌≡◌, ℕ, List, [], ◌∷◌, Option, Some, ◌&&◌, refl, ap, subst}
+use Rattle.s390x_base.specs.Regs.{number_of}
+use Rattle.s390x_base.specs.declared.regs.Reg.{Reg}
+use Rattle.s390x_base.specs.declared.ir.MachLabel.{MachLabel}
+use Rattle.s390x_base.specs.declared.error.EmitError.{EmitError}
+use Rattle.s390x_base.specs.declared.error.EmitError.TheVariants.{BadOperator, BadRegister}
+use Rattle.s390x_inst.specs.declared.inst.Inst.{Inst}
+use Rattle.s390x_inst.specs.declared.inst.Inst.TheVariants.{AluRRR, Mov64, Jump, CondBr, Ret, CondBreak, Vector}
+use Rattle.s390x_inst.specs.declared.vec_inst.VecInst.{VecInst}
+use Rattle.s390x_inst.specs.declared.vec_inst.VecInst.TheVariants.{VecRR}
+use Rattle.s390x_steps.specs.MachineInstruction.{rr}
+use Rattle.s390x_steps.specs.Causes.{first, unless, is_general, is_nonzero, labels_cause, instruction_cause}
+use Rattle.s390x_steps.specs.Parts.{Part, Row, step_parts}
+use Rattle.s390x_steps.specs.Steps.{step_of}
+use Rattle.s390x_steps.specs.Ranges.{InRange}
+use Rattle.s390x_job.specs.Fields.{Field, FAlu, FReg, FNatural, FLabels, FCond}
+use Rattle.s390x_job.specs.Line.{Line}
+use Rattle.s390x_job.specs.Instructions.{inst_line, vector_line}
+use Rattle.s390x_job.specs.declared.name.LineName.{LineName}
+use Rattle.s390x_job.specs.declared.name.LineName.TheVariants as N
+
+-- What emission reads of an instruction: all of one without lists; of one with lists, their items instead of the vectors
+-- that hold them; of one that isn't built yet, nothing.
+pub data Reading : Type 0 where
+  Whole : Inst → Reading
+  Picks : Reg → List MachLabel → Reading
+  Other : Reading
+
+abbrev pub named : ℕ → MachLabel
+named n = record { 0 = n }
+
+-- a clause for each instruction that is built
+abbrev pub reading : LineName → List Field → Reading
+reading N.AluRRR (FAlu op ∷ FReg rd ∷ FReg rn ∷ FReg rm ∷ []) = Whole (AluRRR op rd rn rm)
+reading N.Mov64 (FReg rd ∷ FReg rm ∷ []) = Whole (Mov64 rd rm)
+reading N.Jump (FNatural w dest ∷ []) = Whole (Jump (named dest))
+reading N.CondBr (FNatural v taken ∷ FNatural w not_taken ∷ FCond mask ∷ []) = Whole (CondBr (named taken) (named not_taken) mask)
+reading N.IndirectBr (FReg rn ∷ FLabels targets ∷ []) = Picks rn targets
+reading N.Ret (FReg link ∷ []) = Whole (Ret link)
+reading N.CondBreak (FCond mask ∷ []) = Whole (CondBreak mask)
+reading name fields = Other
+
+abbrev pub line_reading : Line → Reading
+line_reading l = reading l.name l.fields
+
+abbrev pub reading_cause : (blocks depth : ℕ) → Reading → Option EmitError
+reading_cause blocks depth (Whole i) = instruction_cause blocks depth i
+reading_cause blocks depth (Picks rn targets) = first (unless (is_general rn && is_nonzero rn) BadRegister) (labels_cause blocks targets)
+reading_cause blocks depth Other = Some BadOperator
+
+-- the parts of the step in a loop that ends at the step `after`
+abbrev pub reading_parts : ℕ → Reading → List Part
+reading_parts after (Whole i) = step_parts (step_of after i)
+reading_parts after (Picks rn targets) = Row (rr 0x07 15 (number_of rn)) ∷ []
+reading_parts after Other = []
+
+abbrev pub reading_range : Reading → Type 0
+reading_range (Whole i) = InRange i
+reading_range (Picks rn targets) = Unit {0}
+reading_range Other = Unit {0}
+
+vector_reading : (v : VecInst) → Other ≡ line_reading (vector_line v)
+vector_reading (VecRR op rd rn) = refl
+vector_reading v = refl
+
+pub cause_read : (blocks depth : ℕ) (i : Inst) → instruction_cause blocks depth i ≡ reading_cause blocks depth (line_reading (inst_line i))
+cause_read blocks depth (Vector v) = ap (reading_cause blocks depth) (vector_reading v)
+cause_read blocks depth i = refl
+
+pub parts_read : (after : ℕ) (i : Inst) → step_parts (step_of after i) ≡ reading_parts after (line_reading (inst_line i))
+parts_read after (Vector v) = ap (reading_parts after) (vector_reading v)
+parts_read after i = refl
+
+pub range_read : (i : Inst) → InRange i → reading_range (line_reading (inst_line i))
+range_read (Vector v) h = subst reading_range (vector_reading v) h
+range_read i h = h
+
+pub range_back : (i : Inst) → reading_range (line_reading (inst_line i)) → InRange i
+range_back (Vector v) h = tt
+range_back i h = h

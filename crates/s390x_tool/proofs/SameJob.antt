@@ -1,0 +1,99 @@
+-- Two jobs with the same lines have the same causes, the same code and the same symbols.
+use Rattle.std.proofs.Common.{◌≡◌, ◌+◌, ◌++◌, List, map, length, Option, None, sym, ap, ◌∙◌, subst, append-nil, nat_lt}
+use Rattle.std.proofs.lemmas.List.{length-map}
+use Rattle.s390x_base.specs.declared.error.EmitError.{EmitError}
+use Rattle.s390x_base.specs.declared.error.EmitError.TheVariants.{LabelOutOfRange}
+use Rattle.s390x_buffer.specs.State.{Constant, new_cause, limit}
+use Rattle.s390x_buffer.specs.Constants.{constant_starts, constant_bytes, constants_end}
+use Rattle.s390x_buffer.specs.declared.entries.MachBufferFinalized.{MachBufferFinalized}
+use Rattle.s390x_steps.specs.Tree.{Tree}
+use Rattle.s390x_steps.specs.Causes.{first, unless}
+use Rattle.s390x_steps.specs.Ranges.{BlocksInRange}
+use Rattle.s390x_steps.specs.Image.{function_code}
+use Rattle.s390x_emit_int.specs.Function.{IsImage, start_cause, checked_cause, length_cause, trees_of, constants_of}
+use Rattle.s390x_job.specs.Jobs.{IsJob}
+use Rattle.s390x_job.specs.Same.{SameJob}
+use Rattle.s390x_job.specs.declared.job.Job.{Job}
+use Rattle.s390x_image.specs.Causes.{link_cause}
+use Rattle.s390x_image.specs.Symbols.{no_symbols}
+use Rattle.s390x_tool.specs.Answers.{IsCode, Links, cause_of, with_symbols}
+use Rattle.s390x_tool.specs.declared.words.Command.{Command}
+use Rattle.s390x_tool.specs.declared.words.Command.TheVariants.{Image, Emit}
+use Rattle.s390x_tool.proofs.SameTree.{LineTree, lines_tree, line_blocks_cause, line_blocks_size, line_ranges, parts_code, line_places, line_steps_from, same_blocks_cause, same_function_code, same_starts, same_block_starts, same_blocks_size, parts_places, line_block_places, ranges_to, ranges_from}
+use Rattle.s390x_tool.proofs.SameLines.{found, job_found}
+
+-- what two jobs share
+pub same_blocks : (j k : Job) → SameJob j k → map lines_tree (trees_of j.function) ≡ map lines_tree (trees_of k.function)
+same_blocks j k e = ap (λ f. f.blocks) (sym (job_found j) ∙ ap found e ∙ job_found k)
+
+pub same_constants : (j k : Job) → SameJob j k → constants_of j.function ≡ constants_of k.function
+same_constants j k e =
+    sym (append-nil (constants_of j.function)) ∙ ap (λ f. f.constants) (sym (job_found j) ∙ ap found e ∙ job_found k) ∙ append-nil (constants_of k.function)
+
+pub same_symbols : (j k : Job) → SameJob j k → j.symbols.items ≡ k.symbols.items
+same_symbols j k e =
+    sym (append-nil j.symbols.items) ∙ ap (λ f. f.symbols) (sym (job_found j) ∙ ap found e ∙ job_found k) ∙ append-nil k.symbols.items
+
+-- the causes after the state's
+abbrev line_checked : List LineTree → List Constant → Option EmitError
+line_checked ts cs =
+    first (new_cause (length ts) cs)
+    (first (line_blocks_cause (length ts) (length ts + length cs) ts) (unless (nat_lt (constants_end (line_blocks_size ts) cs) limit) LabelOutOfRange))
+
+same_checked : (ts : List Tree) (cs : List Constant) → checked_cause ts cs ≡ line_checked (map lines_tree ts) cs
+same_checked ts cs =
+    ap (λ o. first (new_cause (length ts) cs) (first o (length_cause ts cs))) (same_blocks_cause (length ts) (length ts + length cs) ts)
+    ∙ ap (λ n. first (new_cause (length ts) cs) (first (line_blocks_cause (length ts) (length ts + length cs) (map lines_tree ts)) (unless (nat_lt (constants_end n cs) limit) LabelOutOfRange))) (same_blocks_size ts)
+    ∙ ap (λ n. first (new_cause n cs) (first (line_blocks_cause n (n + length cs) (map lines_tree ts)) (unless (nat_lt (constants_end (line_blocks_size (map lines_tree ts)) cs) limit) LabelOutOfRange))) (sym (length-map ts lines_tree))
+
+start_none : (j : Job) → IsJob j → start_cause j.state ≡ None
+start_none j is = ap start_cause is.state
+
+-- they are refused by the same cause
+pub same_cause : (j k : Job) → IsJob j → IsJob k → SameJob j k → cause_of j ≡ cause_of k
+same_cause j k a b e =
+    ap (λ o. first o (checked_cause (trees_of j.function) (constants_of j.function))) (start_none j a)
+    ∙ same_checked (trees_of j.function) (constants_of j.function)
+    ∙ ap (λ ts. line_checked ts (constants_of j.function)) (same_blocks j k e)
+    ∙ ap (line_checked (map lines_tree (trees_of k.function))) (same_constants j k e)
+    ∙ sym (same_checked (trees_of k.function) (constants_of k.function))
+    ∙ ap (λ o. first o (checked_cause (trees_of k.function) (constants_of k.function))) (sym (start_none k b))
+
+same_ranges : (ts us : List Tree) → map lines_tree ts ≡ map lines_tree us → BlocksInRange ts → BlocksInRange us
+same_ranges ts us e h = ranges_from us (subst line_ranges e (ranges_to ts h))
+
+same_bytes : (ts us : List Tree) → map lines_tree ts ≡ map lines_tree us → function_code ts ≡ function_code us
+same_bytes ts us e = same_function_code ts ∙ ap (λ ls. parts_code (line_places ls) 0 (line_steps_from 0 ls)) e ∙ sym (same_function_code us)
+
+same_image : (ts us : List Tree) (cs : List Constant) (f : MachBufferFinalized) → map lines_tree ts ≡ map lines_tree us → IsImage ts cs f → IsImage us cs f
+same_image ts us cs f e h =
+    let bytes = same_bytes ts us e in
+    record {
+      bytes = h.bytes ∙ ap (λ bs. bs ++ constant_bytes (length bs) cs) bytes;
+      block_starts = h.block_starts ∙ same_block_starts ts ∙ ap (λ ls. line_block_places (line_places ls).step 0 ls) e ∙ sym (same_block_starts us);
+      constant_starts = h.constant_starts ∙ ap (λ bs. constant_starts (length bs) cs) bytes;
+      starts = h.starts ∙ same_starts ts ∙ ap (λ ls. parts_places (line_places ls).step 0 (line_steps_from 0 ls)) e ∙ sym (same_starts us);
+      relocs = h.relocs;
+      traps = h.traps;
+      call_sites = h.call_sites;
+      try_call_sites = h.try_call_sites;
+      patchable_sites = h.patchable_sites;
+      stack_maps = h.stack_maps;
+      alignment = h.alignment;
+      short = h.short;
+    }
+
+-- a code of one is a code of the other
+pub same_code : (j k : Job) (code : MachBufferFinalized) → IsJob j → IsJob k → SameJob j k → IsCode j code → IsCode k code
+same_code j k code a b e h =
+    record {
+      valid = sym (same_cause j k a b e) ∙ h.valid;
+      ranges = same_ranges (trees_of j.function) (trees_of k.function) (same_blocks j k e) h.ranges;
+      emitted = subst (λ cs. IsImage (trees_of k.function) cs code) (same_constants j k e) (same_image (trees_of j.function) (trees_of k.function) (constants_of j.function) code (same_blocks j k e) h.emitted);
+    }
+
+-- what links of one links of the other
+pub same_links : (command : Command) (j k : Job) → IsJob j → IsJob k → SameJob j k → Links command k → Links command j
+same_links (Image base) j k a b e links =
+    λ code is. ap (λ ss. link_cause code base (with_symbols no_symbols ss)) (same_symbols j k e) ∙ links code (same_code j k code a b e is)
+same_links Emit j k a b e links = tt

@@ -1,0 +1,187 @@
+-- The lines of a job, read back to what emission and linking read of it.
+use Rattle.std.proofs.Common.{◌≡◌, ℕ, suc, List, [], ◌∷◌, ◌++◌, map, refl, ap, ◌∙◌, append_assoc, Bool, true, false}
+use Rattle.std.specs.Prelude.{codes, ◌==◌, if◌then◌else◌}
+use Rattle.std.specs.Str.{bytes_eq}
+use Rattle.s390x_base.specs.Registers.{RealRegister, general, vector}
+use Rattle.s390x_base.specs.declared.ir.ConstantData.{ConstantData}
+use Rattle.s390x_inst.specs.declared.calls.CallConv.{CallConv}
+use Rattle.s390x_inst.specs.declared.state.FrameLayout.{FrameLayout}
+use Rattle.s390x_inst.specs.declared.state.IsaFlags.{IsaFlags}
+use Rattle.s390x_inst.specs.declared.function.Block.{Block}
+use Rattle.s390x_inst.specs.declared.inst.Inst.{Inst, Row_of-Inst, end_of-Inst, more_of-Inst}
+use Rattle.s390x_inst.specs.declared.inst.Inst.TheVariants.{Loop', Vector}
+use Rattle.s390x_inst.specs.declared.vec_inst.VecInst.{VecInst}
+use Rattle.s390x_inst.specs.declared.vec_inst.VecInst.TheVariants.{VecRR}
+use Rattle.s390x_buffer.specs.State.{Constant, constant_of}
+use Rattle.s390x_steps.specs.Tree.{Tree, graft, row_tree, tree}
+use Rattle.s390x_emit_int.specs.Function.{tree_of, trees_of, constants_of}
+use Rattle.s390x_job.specs.Fields.{Field, FNatural, FBytes, FName, FCond}
+use Rattle.s390x_job.specs.Line.{Line, spelled}
+use Rattle.s390x_job.specs.Instructions.{inst_line, vector_line}
+use Rattle.s390x_job.specs.Items.{flags_line, frame_line, constant_line, symbol_line, register_line, memory_line, block_line, loop_line, close_line, end_line}
+use Rattle.s390x_job.specs.Jobs.{inst_lines, row_lines, insts_lines, blocks_lines, flags_lines, frame_lines, start_lines, registers_lines, job_lines}
+use Rattle.s390x_job.specs.declared.name.LineName.{LineName}
+use Rattle.s390x_job.specs.declared.name.LineName.TheVariants as N
+use Rattle.s390x_job.specs.declared.job.Job.{Job}
+use Rattle.s390x_job.specs.declared.job.StartRegs.{StartRegs}
+use Rattle.s390x_job.specs.declared.job.SymbolLine.{SymbolLine}
+use Rattle.s390x_job.specs.declared.job.MemLine.{MemLine}
+use Rattle.s390x_tool.proofs.SameTree.{LineTree, none, one, around, lines_tree}
+
+-- what was read from the last line on: the siblings so far, those of the loops around, the blocks, and what stands before them
+pub record Found : Type 0 where
+  pub siblings : LineTree
+  pub outer : List LineTree
+  pub blocks : List LineTree
+  pub constants : List Constant
+  pub symbols : List SymbolLine
+
+abbrev pub nothing : Found
+nothing = record { siblings = none; outer = []; blocks = []; constants = []; symbols = [] }
+
+abbrev pub after_loop : List LineTree → LineTree
+after_loop [] = none
+after_loop (t ∷ ts) = t
+
+abbrev pub around_loop : List LineTree → List LineTree
+around_loop [] = []
+around_loop (t ∷ ts) = ts
+
+abbrev pub mask_in : List Field → ℕ
+mask_in (FCond mask ∷ fs) = mask
+mask_in fs = 0
+
+abbrev pub constant_in : List Field → List Constant → List Constant
+constant_in (FNatural w align ∷ FBytes bytes ∷ fs) cs = record { bytes = bytes; align = align } ∷ cs
+constant_in fs cs = cs
+
+abbrev pub symbol_in : List Field → List SymbolLine → List SymbolLine
+symbol_in (FName n ∷ FNatural w address ∷ fs) ss = record { name = record { 0 = n }; address = address } ∷ ss
+symbol_in fs ss = ss
+
+-- an instruction before its siblings
+abbrev pub onto : Line → Found → Found
+onto l f = record { siblings = one l f.siblings; outer = f.outer; blocks = f.blocks; constants = f.constants; symbols = f.symbols }
+
+abbrev pub feed : LineName → Line → Found → Found
+feed N.FlagsLine l f = f
+feed N.FrameLine l f = f
+feed N.ConstantLine l f = record { siblings = f.siblings; outer = f.outer; blocks = f.blocks; constants = constant_in l.fields f.constants; symbols = f.symbols }
+feed N.SymbolLine l f = record { siblings = f.siblings; outer = f.outer; blocks = f.blocks; constants = f.constants; symbols = symbol_in l.fields f.symbols }
+feed N.RegisterLine l f = f
+feed N.MemoryLine l f = f
+feed N.BlockLine l f = record { siblings = none; outer = f.outer; blocks = f.siblings ∷ f.blocks; constants = f.constants; symbols = f.symbols }
+feed N.Loop l f = record { siblings = around (mask_in l.fields) f.siblings (after_loop f.outer); outer = around_loop f.outer; blocks = f.blocks; constants = f.constants; symbols = f.symbols }
+feed N.EndLoopLine l f = record { siblings = none; outer = f.siblings ∷ f.outer; blocks = f.blocks; constants = f.constants; symbols = f.symbols }
+feed N.EndLine l f = f
+feed name l f = onto l f
+
+abbrev pub found : List Line → Found
+found [] = nothing
+found (l ∷ ls) = feed l.name l (found ls)
+
+-- so many siblings, and all else as before
+abbrev pub with_siblings : LineTree → Found → Found
+with_siblings t f = record { siblings = t; outer = f.outer; blocks = f.blocks; constants = f.constants; symbols = f.symbols }
+
+vector_onto : (v : VecInst) (f : Found) → feed (vector_line v).name (vector_line v) f ≡ onto (vector_line v) f
+vector_onto (VecRR op rd rn) f = refl
+vector_onto v f = refl
+
+mutual
+  -- an instruction is read back before the siblings t
+  inst_found : (i : Inst) (t : Tree) (f : Found) (ls : List Line) → found ls ≡ with_siblings (lines_tree t) f → found (inst_lines i ++ ls) ≡ with_siblings (lines_tree (graft i t)) f
+  inst_found (Loop' mask body all) t f ls e =
+      let inner : Found = record { siblings = none; outer = lines_tree t ∷ f.outer; blocks = f.blocks; constants = f.constants; symbols = f.symbols } in
+      ap (λ x. found (loop_line mask ∷ x)) (append_assoc (row_lines all) (close_line ∷ []) ls)
+      ∙ ap (feed N.Loop (loop_line mask)) (row_found all inner (close_line ∷ ls) (ap (feed N.EndLoopLine close_line) e))
+  inst_found (Vector v) t f ls e = vector_onto v (found ls) ∙ ap (onto (vector_line v)) e
+  inst_found i t f ls e = ap (onto (inst_line i)) e
+
+  row_found : {m : _} (r : Row_of-Inst m) (f : Found) (ls : List Line) → found ls ≡ with_siblings none f → found (row_lines r ++ ls) ≡ with_siblings (lines_tree (row_tree r)) f
+  row_found end_of-Inst f ls e = e
+  row_found (more_of-Inst i rest) f ls e =
+      ap found (append_assoc (inst_lines i) (row_lines rest) ls) ∙ inst_found i (row_tree rest) f (row_lines rest ++ ls) (row_found rest f ls e)
+
+insts_found : (is : List Inst) (f : Found) (ls : List Line) → found ls ≡ with_siblings none f → found (insts_lines is ++ ls) ≡ with_siblings (lines_tree (tree is)) f
+insts_found [] f ls e = e
+insts_found (i ∷ is) f ls e =
+    ap found (append_assoc (inst_lines i) (insts_lines is) ls) ∙ inst_found i (tree is) f (insts_lines is ++ ls) (insts_found is f ls e)
+
+-- blocks and nothing before them
+abbrev blocks_alone : List LineTree → Found
+blocks_alone ts = record { siblings = none; outer = []; blocks = ts; constants = []; symbols = [] }
+
+blocks_found : (bs : List Block) → found (blocks_lines bs ++ end_line ∷ []) ≡ blocks_alone (map lines_tree (map tree_of bs))
+blocks_found [] = refl
+blocks_found (b ∷ bs) =
+    ap (λ x. found (block_line ∷ x)) (append_assoc (insts_lines b.insts.items) (blocks_lines bs) (end_line ∷ []))
+    ∙ ap (feed N.BlockLine block_line) (insts_found b.insts.items (blocks_alone (map lines_tree (map tree_of bs))) (blocks_lines bs ++ end_line ∷ []) (blocks_found bs))
+
+-- lines of which nothing is read
+abbrev IsPassed : List Line → Type 0
+IsPassed hs = (ls : List Line) → found (hs ++ ls) ≡ found ls
+
+passed_append : (a b : List Line) → IsPassed a → IsPassed b → IsPassed (a ++ b)
+passed_append a b p q ls = ap found (append_assoc a b ls) ∙ p (b ++ ls) ∙ q ls
+
+passed_if : (c : Bool) (l : Line) → ((f : Found) → feed l.name l f ≡ f) → IsPassed (if c then [] else l ∷ [])
+passed_if true l h ls = refl
+passed_if false l h ls = h (found ls)
+
+flags_passed : (f : IsaFlags) → IsPassed (flags_lines f)
+flags_passed f = passed_if (bytes_eq (spelled (flags_line f).fields) []) (flags_line f) (λ g. refl)
+
+frame_passed : (conv : CallConv) (layout : FrameLayout) → IsPassed (frame_lines conv layout)
+frame_passed conv layout = passed_if (bytes_eq (spelled (frame_line conv layout).fields) (codes " SystemV 0 0 0 0 0 0 - 0")) (frame_line conv layout) (λ g. refl)
+
+register_passed : (c : Bool) (l : Line) (rest ls : List Line) → ((f : Found) → feed l.name l f ≡ f) → found (rest ++ ls) ≡ found ls → found ((if c then rest else l ∷ rest) ++ ls) ≡ found ls
+register_passed true l rest ls h e = e
+register_passed false l rest ls h e = h (found (rest ++ ls)) ∙ e
+
+start_passed : (of : ℕ → RealRegister) (n : ℕ) (vs : List ℕ) → IsPassed (start_lines of n vs)
+start_passed of n [] ls = refl
+start_passed of n (v ∷ vs) ls = register_passed (v == 0) (register_line (of n) v) (start_lines of (suc n) vs) ls (λ g. refl) (start_passed of (suc n) vs ls)
+
+registers_passed : (r : StartRegs) → IsPassed (registers_lines r)
+registers_passed r = passed_append (start_lines general 0 r.general) (start_lines vector 0 r.vector) (start_passed general 0 r.general) (start_passed vector 0 r.vector)
+
+memory_passed : (ms : List MemLine) → IsPassed (map memory_line ms)
+memory_passed [] ls = refl
+memory_passed (m ∷ ms) ls = memory_passed ms ls
+
+-- symbols and constants before what is found
+abbrev with_symbols_before : List SymbolLine → Found → Found
+with_symbols_before ss f = record { siblings = f.siblings; outer = f.outer; blocks = f.blocks; constants = f.constants; symbols = ss ++ f.symbols }
+
+symbols_found : (ss : List SymbolLine) (ls : List Line) → found (map symbol_line ss ++ ls) ≡ with_symbols_before ss (found ls)
+symbols_found [] ls = refl
+symbols_found (s ∷ ss) ls = ap (feed N.SymbolLine (symbol_line s)) (symbols_found ss ls)
+
+abbrev with_constants_before : List Constant → Found → Found
+with_constants_before cs f = record { siblings = f.siblings; outer = f.outer; blocks = f.blocks; constants = cs ++ f.constants; symbols = f.symbols }
+
+constants_found : (cs : List ConstantData) (ls : List Line) → found (map constant_line cs ++ ls) ≡ with_constants_before (map constant_of cs) (found ls)
+constants_found [] ls = refl
+constants_found (c ∷ cs) ls = ap (feed N.ConstantLine (constant_line c)) (constants_found cs ls)
+
+-- what a job's lines say
+pub job_found : (j : Job)
+    → found (job_lines j) ≡ with_constants_before (constants_of j.function) (with_symbols_before j.symbols.items (blocks_alone (map lines_tree (trees_of j.function))))
+job_found j =
+    let flags = flags_lines j.info.isa_flags in
+    let frame = frame_lines j.conv j.state.layout in
+    let constants = map constant_line j.function.constants.items in
+    let symbols = map symbol_line j.symbols.items in
+    let registers = registers_lines j.registers in
+    let memory = map memory_line j.memory.items in
+    let blocks = blocks_lines j.function.blocks.items ++ end_line ∷ [] in
+    let last = registers ++ memory in
+    let rest = constants ++ (symbols ++ last) in
+    let before = with_constants_before (constants_of j.function) in
+    ap found (append_assoc flags (frame ++ rest) blocks) ∙ flags_passed j.info.isa_flags ((frame ++ rest) ++ blocks)
+    ∙ ap found (append_assoc frame rest blocks) ∙ frame_passed j.conv j.state.layout (rest ++ blocks)
+    ∙ ap found (append_assoc constants (symbols ++ last) blocks) ∙ constants_found j.function.constants.items ((symbols ++ last) ++ blocks)
+    ∙ ap before (ap found (append_assoc symbols last blocks) ∙ symbols_found j.symbols.items (last ++ blocks))
+    ∙ ap (λ f. before (with_symbols_before j.symbols.items f))
+    (passed_append registers memory (registers_passed j.registers) (memory_passed j.memory.items) blocks ∙ blocks_found j.function.blocks.items)

@@ -1,0 +1,236 @@
+-- What emission reads of a function stands in the lines of its blocks.
+use Rattle.std.proofs.Common.{◌≡◌, ℕ, zero, suc, ◌+◌, List, [], ◌∷◌, ◌++◌, map, Option, None, refl, ap, ◌∙◌}
+use Rattle.std.proofs.Math.Path.{fun_ext}
+use Rattle.std.proofs.lemmas.List.{map-append}
+use Rattle.s390x_base.specs.declared.error.EmitError.{EmitError}
+use Rattle.s390x_steps.specs.MachineInstruction.{joined_bytes}
+use Rattle.s390x_steps.specs.Tree.{Tree, empty, leaf, looped}
+use Rattle.s390x_steps.specs.Causes.{first, draws, nesting_cause, numbers_cause, tree_cause, blocks_cause}
+use Rattle.s390x_steps.specs.Parts.{Part, Branch, ToStep, step_parts, parts_size}
+use Rattle.s390x_steps.specs.Steps.{Step, step_count, steps_of, steps_from, function_steps, first_step}
+use Rattle.s390x_steps.specs.Sizes.{tree_size, blocks_size}
+use Rattle.s390x_steps.specs.Rows.{Places, rows_of}
+use Rattle.s390x_steps.specs.Image.{place, function_places, code, function_code, step_places, block_places}
+use Rattle.s390x_steps.specs.Ranges.{IsMask, AllInRange, BlocksInRange}
+use Rattle.s390x_job.specs.Line.{Line}
+use Rattle.s390x_job.specs.Instructions.{inst_line}
+use Rattle.s390x_tool.proofs.SameInstruction.{line_reading, reading_cause, reading_parts, reading_range, cause_read, parts_read, range_read, range_back}
+
+-- a tree with lines in place of instructions
+pub data LineTree : Type 0 where
+  none : LineTree
+  one : Line → LineTree → LineTree
+  around : ℕ → LineTree → LineTree → LineTree
+
+abbrev pub lines_tree : Tree → LineTree
+lines_tree empty = none
+lines_tree (leaf i rest) = one (inst_line i) (lines_tree rest)
+lines_tree (looped mask members rest) = around mask (lines_tree members) (lines_tree rest)
+
+-- labels drawn
+abbrev pub line_draws : LineTree → ℕ
+line_draws none = 0
+line_draws (one l rest) = line_draws rest
+line_draws (around mask members rest) = 2 + line_draws members + line_draws rest
+
+same_draws : (t : Tree) → draws t ≡ line_draws (lines_tree t)
+same_draws empty = refl
+same_draws (leaf i rest) = same_draws rest
+same_draws (looped mask members rest) = let a = same_draws members in let b = same_draws rest in cc
+
+-- the first cause
+abbrev pub line_cause : (blocks n depth : ℕ) → LineTree → Option EmitError
+line_cause blocks n depth none = None
+line_cause blocks n depth (one l rest) = first (reading_cause blocks depth (line_reading l)) (line_cause blocks n depth rest)
+line_cause blocks n depth (around mask members rest) =
+    first (first (first (nesting_cause depth) (numbers_cause n 2)) (line_cause blocks (n + 2) (depth + 1) members)) (line_cause blocks (n + 2 + line_draws members) depth rest)
+
+same_tree_cause : (blocks n depth : ℕ) (t : Tree) → tree_cause blocks n depth t ≡ line_cause blocks n depth (lines_tree t)
+same_tree_cause blocks n depth empty = refl
+same_tree_cause blocks n depth (leaf i rest) =
+    ap (λ o. first o (tree_cause blocks n depth rest)) (cause_read blocks depth i)
+    ∙ ap (first (reading_cause blocks depth (line_reading (inst_line i)))) (same_tree_cause blocks n depth rest)
+same_tree_cause blocks n depth (looped mask members rest) =
+    let own = first (nesting_cause depth) (numbers_cause n 2) in
+    ap (λ o. first (first own o) (tree_cause blocks (n + 2 + draws members) depth rest)) (same_tree_cause blocks (n + 2) (depth + 1) members)
+    ∙ ap (first (first own (line_cause blocks (n + 2) (depth + 1) (lines_tree members)))) (same_tree_cause blocks (n + 2 + draws members) depth rest)
+    ∙ ap (λ d. first (first own (line_cause blocks (n + 2) (depth + 1) (lines_tree members))) (line_cause blocks (n + 2 + d) depth (lines_tree rest))) (same_draws members)
+
+abbrev pub line_blocks_cause : (blocks n : ℕ) → List LineTree → Option EmitError
+line_blocks_cause blocks n [] = None
+line_blocks_cause blocks n (t ∷ ts) = first (line_cause blocks n 0 t) (line_blocks_cause blocks (n + line_draws t) ts)
+
+pub same_blocks_cause : (blocks n : ℕ) (ts : List Tree) → blocks_cause blocks n ts ≡ line_blocks_cause blocks n (map lines_tree ts)
+same_blocks_cause blocks n [] = refl
+same_blocks_cause blocks n (t ∷ ts) =
+    ap (λ o. first o (blocks_cause blocks (n + draws t) ts)) (same_tree_cause blocks n 0 t)
+    ∙ ap (first (line_cause blocks n 0 (lines_tree t))) (same_blocks_cause blocks (n + draws t) ts)
+    ∙ ap (λ d. first (line_cause blocks n 0 (lines_tree t)) (line_blocks_cause blocks (n + d) (map lines_tree ts))) (same_draws t)
+
+-- steps
+abbrev pub line_count : LineTree → ℕ
+line_count none = 0
+line_count (one l rest) = 1 + line_count rest
+line_count (around mask members rest) = 2 + line_count members + line_count rest
+
+same_count : (t : Tree) → step_count t ≡ line_count (lines_tree t)
+same_count empty = refl
+same_count (leaf i rest) = ap (λ n. 1 + n) (same_count rest)
+same_count (looped mask members rest) = let a = same_count members in let b = same_count rest in cc
+
+-- the parts of each step
+abbrev pub line_steps : (k after : ℕ) → LineTree → List (List Part)
+line_steps k after none = []
+line_steps k after (one l rest) = reading_parts after (line_reading l) ∷ line_steps (k + 1) after rest
+line_steps k after (around mask members rest) =
+    [] ∷ (line_steps (k + 1) (k + 2 + line_count members) members ++ ((Branch mask (ToStep (k + 1)) ∷ []) ∷ line_steps (k + 2 + line_count members) after rest))
+
+same_steps : (k after : ℕ) (t : Tree) → map step_parts (steps_of k after t) ≡ line_steps k after (lines_tree t)
+same_steps k after empty = refl
+same_steps k after (leaf i rest) =
+    ap (λ p. p ∷ map step_parts (steps_of (k + 1) after rest)) (parts_read after i)
+    ∙ ap (λ ps. reading_parts after (line_reading (inst_line i)) ∷ ps) (same_steps (k + 1) after rest)
+same_steps k after (looped mask members rest) =
+    let back = Branch mask (ToStep (k + 1)) ∷ [] in
+    let n = step_count members in
+    ap (λ ps. [] ∷ ps) (
+    map-append step_parts (steps_of (k + 1) (k + 2 + n) members) _
+    ∙ ap (λ ps. ps ++ (back ∷ map step_parts (steps_of (k + 2 + n) after rest))) (same_steps (k + 1) (k + 2 + n) members)
+    ∙ ap (λ ps. line_steps (k + 1) (k + 2 + n) (lines_tree members) ++ (back ∷ ps)) (same_steps (k + 2 + n) after rest)
+    ∙ ap (λ m. line_steps (k + 1) (k + 2 + m) (lines_tree members) ++ (back ∷ line_steps (k + 2 + m) after (lines_tree rest))) (same_count members)
+    )
+
+abbrev pub line_steps_from : ℕ → List LineTree → List (List Part)
+line_steps_from k [] = []
+line_steps_from k (t ∷ ts) = line_steps k 0 t ++ line_steps_from (k + line_count t) ts
+
+same_steps_from : (k : ℕ) (ts : List Tree) → map step_parts (steps_from k ts) ≡ line_steps_from k (map lines_tree ts)
+same_steps_from k [] = refl
+same_steps_from k (t ∷ ts) =
+    map-append step_parts (steps_of k 0 t) _
+    ∙ ap (λ ps. ps ++ map step_parts (steps_from (k + step_count t) ts)) (same_steps k 0 t)
+    ∙ ap (λ ps. line_steps k 0 (lines_tree t) ++ ps) (same_steps_from (k + step_count t) ts)
+    ∙ ap (λ n. line_steps k 0 (lines_tree t) ++ line_steps_from (k + n) (map lines_tree ts)) (same_count t)
+
+abbrev pub line_first_step : List LineTree → ℕ → ℕ
+line_first_step [] b = 0
+line_first_step (t ∷ ts) zero = 0
+line_first_step (t ∷ ts) (suc b) = line_count t + line_first_step ts b
+
+same_first_step : (ts : List Tree) (b : ℕ) → first_step ts b ≡ line_first_step (map lines_tree ts) b
+same_first_step [] b = refl
+same_first_step (t ∷ ts) zero = refl
+same_first_step (t ∷ ts) (suc b) = let a = same_count t in let c = same_first_step ts b in cc
+
+-- places
+abbrev pub parts_place : List (List Part) → ℕ → ℕ
+parts_place [] k = 0
+parts_place (p ∷ ps) zero = 0
+parts_place (p ∷ ps) (suc k) = parts_size p + parts_place ps k
+
+same_place : (ss : List Step) (k : ℕ) → place ss k ≡ parts_place (map step_parts ss) k
+same_place [] k = refl
+same_place (s ∷ ss) zero = refl
+same_place (s ∷ ss) (suc k) = ap (λ n. parts_size (step_parts s) + n) (same_place ss k)
+
+abbrev pub line_places : List LineTree → Places
+line_places ts = record { step = parts_place (line_steps_from 0 ts); block = λ b. parts_place (line_steps_from 0 ts) (line_first_step ts b) }
+
+same_step_place : (ts : List Tree) (k : ℕ) → place (function_steps ts) k ≡ parts_place (line_steps_from 0 (map lines_tree ts)) k
+same_step_place ts k = same_place (function_steps ts) k ∙ ap (λ ps. parts_place ps k) (same_steps_from 0 ts)
+
+same_places : (ts : List Tree) → function_places ts ≡ line_places (map lines_tree ts)
+same_places ts =
+    let at : place (function_steps ts) ≡ parts_place (line_steps_from 0 (map lines_tree ts)) = fun_ext (same_step_place ts) in
+    let first : first_step ts ≡ line_first_step (map lines_tree ts) = fun_ext (same_first_step ts) in
+    ap (λ p. record { step = p; block = λ b. p (first_step ts b) }) at
+    ∙ ap (λ f. record { step = parts_place (line_steps_from 0 (map lines_tree ts)); block = λ b. parts_place (line_steps_from 0 (map lines_tree ts)) (f b) }) first
+
+-- bytes
+abbrev pub parts_code : Places → ℕ → List (List Part) → List ℕ
+parts_code P k [] = []
+parts_code P k (p ∷ ps) = joined_bytes (rows_of P (P.step k) p) ++ parts_code P (k + 1) ps
+
+same_code : (P : Places) (k : ℕ) (ss : List Step) → code P k ss ≡ parts_code P k (map step_parts ss)
+same_code P k [] = refl
+same_code P k (s ∷ ss) = ap (λ bs. joined_bytes (rows_of P (P.step k) (step_parts s)) ++ bs) (same_code P (k + 1) ss)
+
+pub same_function_code : (ts : List Tree) → function_code ts ≡ parts_code (line_places (map lines_tree ts)) 0 (line_steps_from 0 (map lines_tree ts))
+same_function_code ts =
+    same_code (function_places ts) 0 (function_steps ts)
+    ∙ ap (λ P. parts_code P 0 (map step_parts (function_steps ts))) (same_places ts)
+    ∙ ap (parts_code (line_places (map lines_tree ts)) 0) (same_steps_from 0 ts)
+
+abbrev pub parts_places : (ℕ → ℕ) → ℕ → List (List Part) → List ℕ
+parts_places at k [] = []
+parts_places at k (p ∷ ps) = at k ∷ parts_places at (k + 1) ps
+
+same_step_places : (at : ℕ → ℕ) (k : ℕ) (ss : List Step) → step_places at k ss ≡ parts_places at k (map step_parts ss)
+same_step_places at k [] = refl
+same_step_places at k (s ∷ ss) = ap (λ ps. at k ∷ ps) (same_step_places at (k + 1) ss)
+
+pub same_starts : (ts : List Tree) → step_places (function_places ts).step 0 (function_steps ts) ≡ parts_places (line_places (map lines_tree ts)).step 0 (line_steps_from 0 (map lines_tree ts))
+same_starts ts =
+    same_step_places (function_places ts).step 0 (function_steps ts)
+    ∙ ap (λ P. parts_places P.step 0 (map step_parts (function_steps ts))) (same_places ts)
+    ∙ ap (parts_places (line_places (map lines_tree ts)).step 0) (same_steps_from 0 ts)
+
+abbrev pub line_block_places : (ℕ → ℕ) → ℕ → List LineTree → List ℕ
+line_block_places at k [] = []
+line_block_places at k (t ∷ ts) = at k ∷ line_block_places at (k + line_count t) ts
+
+same_block_places : (at : ℕ → ℕ) (k : ℕ) (ts : List Tree) → block_places at k ts ≡ line_block_places at k (map lines_tree ts)
+same_block_places at k [] = refl
+same_block_places at k (t ∷ ts) =
+    ap (λ ps. at k ∷ ps) (same_block_places at (k + step_count t) ts ∙ ap (λ n. line_block_places at (k + n) (map lines_tree ts)) (same_count t))
+
+pub same_block_starts : (ts : List Tree) → block_places (function_places ts).step 0 ts ≡ line_block_places (line_places (map lines_tree ts)).step 0 (map lines_tree ts)
+same_block_starts ts =
+    same_block_places (function_places ts).step 0 ts ∙ ap (λ P. line_block_places P.step 0 (map lines_tree ts)) (same_places ts)
+
+-- sizes
+abbrev pub line_size : LineTree → ℕ
+line_size none = 0
+line_size (one l rest) = parts_size (reading_parts 0 (line_reading l)) + line_size rest
+line_size (around mask members rest) = line_size members + 6 + line_size rest
+
+same_size : (t : Tree) → tree_size t ≡ line_size (lines_tree t)
+same_size empty = refl
+same_size (leaf i rest) = let a = ap parts_size (parts_read 0 i) in let b = same_size rest in cc
+same_size (looped mask members rest) = let a = same_size members in let b = same_size rest in cc
+
+abbrev pub line_blocks_size : List LineTree → ℕ
+line_blocks_size [] = 0
+line_blocks_size (t ∷ ts) = line_size t + line_blocks_size ts
+
+pub same_blocks_size : (ts : List Tree) → blocks_size ts ≡ line_blocks_size (map lines_tree ts)
+same_blocks_size [] = refl
+same_blocks_size (t ∷ ts) = let a = same_size t in let b = same_blocks_size ts in cc
+
+-- ranges
+abbrev pub line_range : LineTree → Type 0
+line_range none = Unit {0}
+line_range (one l rest) = reading_range (line_reading l) × line_range rest
+line_range (around mask members rest) = IsMask mask × line_range members × line_range rest
+
+range_to : (t : Tree) → AllInRange t → line_range (lines_tree t)
+range_to empty h = tt
+range_to (leaf i rest) h = (range_read i h.0, range_to rest h.1)
+range_to (looped mask members rest) h = (h.0, range_to members h.1, range_to rest h.2)
+
+range_from : (t : Tree) → line_range (lines_tree t) → AllInRange t
+range_from empty h = tt
+range_from (leaf i rest) h = (range_back i h.0, range_from rest h.1)
+range_from (looped mask members rest) h = (h.0, range_from members h.1, range_from rest h.2)
+
+abbrev pub line_ranges : List LineTree → Type 0
+line_ranges [] = Unit {0}
+line_ranges (t ∷ ts) = line_range t × line_ranges ts
+
+pub ranges_to : (ts : List Tree) → BlocksInRange ts → line_ranges (map lines_tree ts)
+ranges_to [] h = tt
+ranges_to (t ∷ ts) h = (range_to t h.0, ranges_to ts h.1)
+
+pub ranges_from : (ts : List Tree) → line_ranges (map lines_tree ts) → BlocksInRange ts
+ranges_from [] h = tt
+ranges_from (t ∷ ts) h = (range_from t h.0, ranges_from ts h.1)
