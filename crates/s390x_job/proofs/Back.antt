@@ -3,12 +3,20 @@ use Rattle.std.proofs.Common.{◌≡◌, ℕ, ◌+◌, ◌*◌, ◌%◌, ◌<◌
 use Rattle.std.specs.Prelude.{◌==◌, ◌&&◌, nat_lt, nat_le, slice_index, codes, if◌then◌else◌}
 use Rattle.s390x_job.specs.Marks.{before_mark, from_mark}
 use Rattle.s390x_job.specs.Found.{found}
-use Rattle.s390x_job.specs.Names.{name_text}
+use Rattle.s390x_job.specs.Names.{integer_text, memory_text, control_text, vector_text, name_text}
 use Rattle.s390x_inst.specs.declared.state.IsaFlags.{IsaFlags}
 use Rattle.s390x_job.specs.Bytes.{facility_text, facilities_text}
-use Rattle.s390x_job.specs.Kinds.{kinds}
+use Rattle.s390x_job.specs.Kinds.{integer_kinds, memory_kinds, control_kinds, vector_kinds, kinds}
 use Rattle.s390x_job.specs.Fields.{Field, Kind, KFlags, FFlags, kind_of, spell, IsField, value_as, after_as}
 use Rattle.s390x_job.specs.Line.{Line, spelled, line_text, AllFields, kinds_of, IsLine, fields_of, line_with, line_of}
+use Rattle.s390x_job.specs.declared.inst_name.IntegerName.{IntegerName}
+use Rattle.s390x_job.specs.declared.inst_name.IntegerName.TheVariants as IntegerIs
+use Rattle.s390x_job.specs.declared.inst_name.MemoryName.{MemoryName}
+use Rattle.s390x_job.specs.declared.inst_name.MemoryName.TheVariants as MemoryIs
+use Rattle.s390x_job.specs.declared.inst_name.ControlName.{ControlName}
+use Rattle.s390x_job.specs.declared.inst_name.ControlName.TheVariants as ControlIs
+use Rattle.s390x_job.specs.declared.inst_name.VectorName.{VectorName}
+use Rattle.s390x_job.specs.declared.inst_name.VectorName.TheVariants as VectorIs
 use Rattle.s390x_job.specs.declared.name.LineName.{LineName}
 use Rattle.s390x_job.specs.declared.name.LineName.TheVariants as N
 use Rattle.s390x_job.specs.declared.name.TheConstants.{ALL_NAMES}
@@ -16,12 +24,52 @@ use Rattle.s390x_job.proofs.Avoids.{Avoids, Avoids-append, Avoids-fewer, Avoids-
 use Rattle.s390x_job.proofs.Fields.{Rest, field-back, field-after, field-feed}
 use Rattle.s390x_job.proofs.Ranges.{value-ok, value-kind}
 
+integer-back : (n : IntegerName) → found name_text ALL_NAMES (integer_text n) N.EndLine ≡ N.Integer n
+integer-back IntegerIs.AluRRR = refl
+integer-back n = refl
+
+memory-back : (n : MemoryName) → found name_text ALL_NAMES (memory_text n) N.EndLine ≡ N.Memory n
+memory-back MemoryIs.Load32 = refl
+memory-back n = refl
+
+control-back : (n : ControlName) → found name_text ALL_NAMES (control_text n) N.EndLine ≡ N.Control n
+control-back ControlIs.Fence = refl
+control-back n = refl
+
+vector-back : (n : VectorName) → found name_text ALL_NAMES (vector_text n) N.EndLine ≡ N.Vector n
+vector-back VectorIs.VecRRR = refl
+vector-back n = refl
+
 name-back : (n : LineName) → found name_text ALL_NAMES (name_text n) N.EndLine ≡ n
 name-back N.EndLine = refl
+name-back (N.Integer n) = integer-back n
+name-back (N.Memory n) = memory-back n
+name-back (N.Control n) = control-back n
+name-back (N.Vector n) = vector-back n
 name-back n = refl
+
+integer-solid : (n : IntegerName) → Solid (integer_text n)
+integer-solid IntegerIs.AluRRR = Avoids-test marks (integer_text IntegerIs.AluRRR) refl
+integer-solid n = Avoids-test marks (integer_text n) refl
+
+memory-solid : (n : MemoryName) → Solid (memory_text n)
+memory-solid MemoryIs.Load32 = Avoids-test marks (memory_text MemoryIs.Load32) refl
+memory-solid n = Avoids-test marks (memory_text n) refl
+
+control-solid : (n : ControlName) → Solid (control_text n)
+control-solid ControlIs.Fence = Avoids-test marks (control_text ControlIs.Fence) refl
+control-solid n = Avoids-test marks (control_text n) refl
+
+vector-solid : (n : VectorName) → Solid (vector_text n)
+vector-solid VectorIs.VecRRR = Avoids-test marks (vector_text VectorIs.VecRRR) refl
+vector-solid n = Avoids-test marks (vector_text n) refl
 
 name-solid : (n : LineName) → Solid (name_text n)
 name-solid N.EndLine = Avoids-test marks (name_text N.EndLine) refl
+name-solid (N.Integer n) = integer-solid n
+name-solid (N.Memory n) = memory-solid n
+name-solid (N.Control n) = control-solid n
+name-solid (N.Vector n) = vector-solid n
 name-solid n = Avoids-test marks (name_text n) refl
 
 -- facilities stand last
@@ -34,8 +82,28 @@ proper [] = true
 proper (k ∷ []) = true
 proper (k ∷ l ∷ ks) = if is_facilities k then false else proper (l ∷ ks)
 
+integer_proper : (n : IntegerName) → proper (integer_kinds n) ≡ true
+integer_proper IntegerIs.AluRRR = refl
+integer_proper n = refl
+
+memory_proper : (n : MemoryName) → proper (memory_kinds n) ≡ true
+memory_proper MemoryIs.Load32 = refl
+memory_proper n = refl
+
+control_proper : (n : ControlName) → proper (control_kinds n) ≡ true
+control_proper ControlIs.Fence = refl
+control_proper n = refl
+
+vector_proper : (n : VectorName) → proper (vector_kinds n) ≡ true
+vector_proper VectorIs.VecRRR = refl
+vector_proper n = refl
+
 kinds_proper : (n : LineName) → proper (kinds n) ≡ true
 kinds_proper N.EndLine = refl
+kinds_proper (N.Integer n) = integer_proper n
+kinds_proper (N.Memory n) = memory_proper n
+kinds_proper (N.Control n) = control_proper n
+kinds_proper (N.Vector n) = vector_proper n
 kinds_proper n = refl
 
 flags_split : (f : IsaFlags) (r : List ℕ) → facilities_text f ++ r ≡ facility_text f.has_mie3 (codes "mie3") ++ (facility_text f.has_mie4 (codes "mie4") ++ (facility_text f.has_vxrs_ext2 (codes "vxrs_ext2") ++ (facility_text f.has_vxrs_ext3 (codes "vxrs_ext3") ++ r)))

@@ -7,6 +7,7 @@ mod bytes;
 mod calls;
 mod cursor;
 mod heading;
+mod inst_name;
 mod item;
 pub mod job;
 mod jobs;

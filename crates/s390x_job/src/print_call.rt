@@ -6,7 +6,8 @@ ghost use Rattle.s390x_job.specs.Fields.{FNatural, FConvention, FTry, FBool, FOp
 ghost use Rattle.s390x_job.specs.Line.{line_text, spelled};
 ghost use Rattle.s390x_job.specs.Instructions.{inst_line};
 
-use crate::name::LineName;
+use crate::inst_name::ControlName;
+use crate::name::LineName::Control;
 use crate::part::{Part, line3, line5};
 use s390x_base::{Reg, Writable};
 use s390x_inst::{CallInfo, CallInstDest, Inst, ReturnCallInfo};
@@ -24,7 +25,7 @@ pub fn put_call(
     line5(
         alloc,
         out,
-        LineName::Call,
+        Control(ControlName::Call),
         link,
         &info.dest,
         &info.uses,
@@ -57,7 +58,7 @@ pub fn put_return_call(
     line3(
         alloc,
         out,
-        LineName::ReturnCall,
+        Control(ControlName::ReturnCall),
         &info.dest,
         &info.uses,
         &info.callee_pop_size,

@@ -3,7 +3,8 @@ ghost use Rattle.std.specs.Prelude.{◌≡◌, ◌++◌, OnOk, string_bytes};
 ghost use Rattle.s390x_job.specs.Line.{line_text};
 ghost use Rattle.s390x_job.specs.Instructions.{vector_line};
 
-use crate::name::LineName;
+use crate::inst_name::VectorName;
+use crate::name::LineName::Vector;
 use crate::part::{line2, line3, line4, line5, line6};
 use s390x_inst::VecInst;
 use std::alloc::{AllocError, Global};
@@ -13,8 +14,16 @@ pub fn put_vector(alloc: Global, out: &mut String, v: &VecInst) -> Result<(), Al
     ensures { OnOk result (string_bytes out.new ≡ string_bytes out.old ++ line_text (vector_line v.now)) }
 {
     match v {
-        VecInst::VecRRR { op, rd, rn, rm } => line4(alloc, out, LineName::VecRRR, op, rd, rn, rm),
-        VecInst::VecRR { op, rd, rn } => line3(alloc, out, LineName::VecRR, op, rd, rn),
+        VecInst::VecRRR { op, rd, rn, rm } => line4(
+            alloc,
+            out,
+            Vector(VectorName::VecRRR),
+            op,
+            rd,
+            rn,
+            rm,
+        ),
+        VecInst::VecRR { op, rd, rn } => line3(alloc, out, Vector(VectorName::VecRR), op, rd, rn),
         VecInst::VecShiftRR {
             shift_op,
             rd,
@@ -24,7 +33,7 @@ pub fn put_vector(alloc: Global, out: &mut String, v: &VecInst) -> Result<(), Al
         } => line5(
             alloc,
             out,
-            LineName::VecShiftRR,
+            Vector(VectorName::VecShiftRR),
             shift_op,
             rd,
             rn,
@@ -34,7 +43,7 @@ pub fn put_vector(alloc: Global, out: &mut String, v: &VecInst) -> Result<(), Al
         VecInst::VecSelect { rd, rn, rm, ra } => line4(
             alloc,
             out,
-            LineName::VecSelect,
+            Vector(VectorName::VecSelect),
             rd,
             rn,
             rm,
@@ -43,7 +52,7 @@ pub fn put_vector(alloc: Global, out: &mut String, v: &VecInst) -> Result<(), Al
         VecInst::VecPermute { rd, rn, rm, ra } => line4(
             alloc,
             out,
-            LineName::VecPermute,
+            Vector(VectorName::VecPermute),
             rd,
             rn,
             rm,
@@ -52,7 +61,7 @@ pub fn put_vector(alloc: Global, out: &mut String, v: &VecInst) -> Result<(), Al
         VecInst::VecBlend { rd, rn, rm, ra } => line4(
             alloc,
             out,
-            LineName::VecBlend,
+            Vector(VectorName::VecBlend),
             rd,
             rn,
             rm,
@@ -64,7 +73,16 @@ pub fn put_vector(alloc: Global, out: &mut String, v: &VecInst) -> Result<(), Al
             rn,
             rm,
             ra,
-        } => line5(alloc, out, LineName::VecEvaluate, imm, rd, rn, rm, ra),
+        } => line5(
+            alloc,
+            out,
+            Vector(VectorName::VecEvaluate),
+            imm,
+            rd,
+            rn,
+            rm,
+            ra,
+        ),
         VecInst::VecPermuteDWImm {
             rd,
             rn,
@@ -74,7 +92,7 @@ pub fn put_vector(alloc: Global, out: &mut String, v: &VecInst) -> Result<(), Al
         } => line5(
             alloc,
             out,
-            LineName::VecPermuteDWImm,
+            Vector(VectorName::VecPermuteDWImm),
             rd,
             rn,
             rm,
@@ -84,7 +102,7 @@ pub fn put_vector(alloc: Global, out: &mut String, v: &VecInst) -> Result<(), Al
         VecInst::VecIntCmp { op, rd, rn, rm } => line4(
             alloc,
             out,
-            LineName::VecIntCmp,
+            Vector(VectorName::VecIntCmp),
             op,
             rd,
             rn,
@@ -93,7 +111,7 @@ pub fn put_vector(alloc: Global, out: &mut String, v: &VecInst) -> Result<(), Al
         VecInst::VecIntCmpS { op, rd, rn, rm } => line4(
             alloc,
             out,
-            LineName::VecIntCmpS,
+            Vector(VectorName::VecIntCmpS),
             op,
             rd,
             rn,
@@ -102,7 +120,7 @@ pub fn put_vector(alloc: Global, out: &mut String, v: &VecInst) -> Result<(), Al
         VecInst::VecIntEltCmp { op, rn, rm } => line3(
             alloc,
             out,
-            LineName::VecIntEltCmp,
+            Vector(VectorName::VecIntEltCmp),
             op,
             rn,
             rm,
@@ -110,7 +128,7 @@ pub fn put_vector(alloc: Global, out: &mut String, v: &VecInst) -> Result<(), Al
         VecInst::VecInt128SCmpHi { tmp, rn, rm } => line3(
             alloc,
             out,
-            LineName::VecInt128SCmpHi,
+            Vector(VectorName::VecInt128SCmpHi),
             tmp,
             rn,
             rm,
@@ -118,103 +136,115 @@ pub fn put_vector(alloc: Global, out: &mut String, v: &VecInst) -> Result<(), Al
         VecInst::VecInt128UCmpHi { tmp, rn, rm } => line3(
             alloc,
             out,
-            LineName::VecInt128UCmpHi,
+            Vector(VectorName::VecInt128UCmpHi),
             tmp,
             rn,
             rm,
         ),
-        VecInst::VecLoad { rd, mem } => line2(alloc, out, LineName::VecLoad, rd, mem),
-        VecInst::VecLoadRev { rd, mem } => line2(alloc, out, LineName::VecLoadRev, rd, mem),
+        VecInst::VecLoad { rd, mem } => line2(alloc, out, Vector(VectorName::VecLoad), rd, mem),
+        VecInst::VecLoadRev { rd, mem } => line2(
+            alloc,
+            out,
+            Vector(VectorName::VecLoadRev),
+            rd,
+            mem,
+        ),
         VecInst::VecLoadByte16Rev { rd, mem } => line2(
             alloc,
             out,
-            LineName::VecLoadByte16Rev,
+            Vector(VectorName::VecLoadByte16Rev),
             rd,
             mem,
         ),
         VecInst::VecLoadByte32Rev { rd, mem } => line2(
             alloc,
             out,
-            LineName::VecLoadByte32Rev,
+            Vector(VectorName::VecLoadByte32Rev),
             rd,
             mem,
         ),
         VecInst::VecLoadByte64Rev { rd, mem } => line2(
             alloc,
             out,
-            LineName::VecLoadByte64Rev,
+            Vector(VectorName::VecLoadByte64Rev),
             rd,
             mem,
         ),
         VecInst::VecLoadElt16Rev { rd, mem } => line2(
             alloc,
             out,
-            LineName::VecLoadElt16Rev,
+            Vector(VectorName::VecLoadElt16Rev),
             rd,
             mem,
         ),
         VecInst::VecLoadElt32Rev { rd, mem } => line2(
             alloc,
             out,
-            LineName::VecLoadElt32Rev,
+            Vector(VectorName::VecLoadElt32Rev),
             rd,
             mem,
         ),
         VecInst::VecLoadElt64Rev { rd, mem } => line2(
             alloc,
             out,
-            LineName::VecLoadElt64Rev,
+            Vector(VectorName::VecLoadElt64Rev),
             rd,
             mem,
         ),
-        VecInst::VecStore { rd, mem } => line2(alloc, out, LineName::VecStore, rd, mem),
-        VecInst::VecStoreRev { rd, mem } => line2(alloc, out, LineName::VecStoreRev, rd, mem),
+        VecInst::VecStore { rd, mem } => line2(alloc, out, Vector(VectorName::VecStore), rd, mem),
+        VecInst::VecStoreRev { rd, mem } => line2(
+            alloc,
+            out,
+            Vector(VectorName::VecStoreRev),
+            rd,
+            mem,
+        ),
         VecInst::VecStoreByte16Rev { rd, mem } => line2(
             alloc,
             out,
-            LineName::VecStoreByte16Rev,
+            Vector(VectorName::VecStoreByte16Rev),
             rd,
             mem,
         ),
         VecInst::VecStoreByte32Rev { rd, mem } => line2(
             alloc,
             out,
-            LineName::VecStoreByte32Rev,
+            Vector(VectorName::VecStoreByte32Rev),
             rd,
             mem,
         ),
         VecInst::VecStoreByte64Rev { rd, mem } => line2(
             alloc,
             out,
-            LineName::VecStoreByte64Rev,
+            Vector(VectorName::VecStoreByte64Rev),
             rd,
             mem,
         ),
         VecInst::VecStoreElt16Rev { rd, mem } => line2(
             alloc,
             out,
-            LineName::VecStoreElt16Rev,
+            Vector(VectorName::VecStoreElt16Rev),
             rd,
             mem,
         ),
         VecInst::VecStoreElt32Rev { rd, mem } => line2(
             alloc,
             out,
-            LineName::VecStoreElt32Rev,
+            Vector(VectorName::VecStoreElt32Rev),
             rd,
             mem,
         ),
         VecInst::VecStoreElt64Rev { rd, mem } => line2(
             alloc,
             out,
-            LineName::VecStoreElt64Rev,
+            Vector(VectorName::VecStoreElt64Rev),
             rd,
             mem,
         ),
         VecInst::VecLoadReplicate { size, rd, mem } => line3(
             alloc,
             out,
-            LineName::VecLoadReplicate,
+            Vector(VectorName::VecLoadReplicate),
             size,
             rd,
             mem,
@@ -222,7 +252,7 @@ pub fn put_vector(alloc: Global, out: &mut String, v: &VecInst) -> Result<(), Al
         VecInst::VecLoadReplicateRev { size, rd, mem } => line3(
             alloc,
             out,
-            LineName::VecLoadReplicateRev,
+            Vector(VectorName::VecLoadReplicateRev),
             size,
             rd,
             mem,
@@ -236,7 +266,7 @@ pub fn put_vector(alloc: Global, out: &mut String, v: &VecInst) -> Result<(), Al
         } => line5(
             alloc,
             out,
-            LineName::VecLoadLane,
+            Vector(VectorName::VecLoadLane),
             size,
             rd,
             ri,
@@ -252,7 +282,7 @@ pub fn put_vector(alloc: Global, out: &mut String, v: &VecInst) -> Result<(), Al
         } => line5(
             alloc,
             out,
-            LineName::VecLoadLaneRev,
+            Vector(VectorName::VecLoadLaneRev),
             size,
             rd,
             ri,
@@ -267,7 +297,7 @@ pub fn put_vector(alloc: Global, out: &mut String, v: &VecInst) -> Result<(), Al
         } => line4(
             alloc,
             out,
-            LineName::VecLoadLaneUndef,
+            Vector(VectorName::VecLoadLaneUndef),
             size,
             rd,
             mem,
@@ -281,7 +311,7 @@ pub fn put_vector(alloc: Global, out: &mut String, v: &VecInst) -> Result<(), Al
         } => line4(
             alloc,
             out,
-            LineName::VecLoadLaneRevUndef,
+            Vector(VectorName::VecLoadLaneRevUndef),
             size,
             rd,
             mem,
@@ -292,7 +322,15 @@ pub fn put_vector(alloc: Global, out: &mut String, v: &VecInst) -> Result<(), Al
             rd,
             mem,
             lane_imm,
-        } => line4(alloc, out, LineName::VecStoreLane, size, rd, mem, lane_imm),
+        } => line4(
+            alloc,
+            out,
+            Vector(VectorName::VecStoreLane),
+            size,
+            rd,
+            mem,
+            lane_imm,
+        ),
         VecInst::VecStoreLaneRev {
             size,
             rd,
@@ -301,19 +339,19 @@ pub fn put_vector(alloc: Global, out: &mut String, v: &VecInst) -> Result<(), Al
         } => line4(
             alloc,
             out,
-            LineName::VecStoreLaneRev,
+            Vector(VectorName::VecStoreLaneRev),
             size,
             rd,
             mem,
             lane_imm,
         ),
-        VecInst::VecMov { rd, rn } => line2(alloc, out, LineName::VecMov, rd, rn),
-        VecInst::FpuMove32 { rd, rn } => line2(alloc, out, LineName::FpuMove32, rd, rn),
-        VecInst::FpuMove64 { rd, rn } => line2(alloc, out, LineName::FpuMove64, rd, rn),
+        VecInst::VecMov { rd, rn } => line2(alloc, out, Vector(VectorName::VecMov), rd, rn),
+        VecInst::FpuMove32 { rd, rn } => line2(alloc, out, Vector(VectorName::FpuMove32), rd, rn),
+        VecInst::FpuMove64 { rd, rn } => line2(alloc, out, Vector(VectorName::FpuMove64), rd, rn),
         VecInst::FpuCMov32 { rd, cond, ri, rm } => line4(
             alloc,
             out,
-            LineName::FpuCMov32,
+            Vector(VectorName::FpuCMov32),
             rd,
             cond,
             ri,
@@ -322,7 +360,7 @@ pub fn put_vector(alloc: Global, out: &mut String, v: &VecInst) -> Result<(), Al
         VecInst::FpuCMov64 { rd, cond, ri, rm } => line4(
             alloc,
             out,
-            LineName::FpuCMov64,
+            Vector(VectorName::FpuCMov64),
             rd,
             cond,
             ri,
@@ -331,17 +369,24 @@ pub fn put_vector(alloc: Global, out: &mut String, v: &VecInst) -> Result<(), Al
         VecInst::VecCMov { rd, cond, ri, rm } => line4(
             alloc,
             out,
-            LineName::VecCMov,
+            Vector(VectorName::VecCMov),
             rd,
             cond,
             ri,
             rm,
         ),
-        VecInst::MovToVec128 { rd, rn, rm } => line3(alloc, out, LineName::MovToVec128, rd, rn, rm),
+        VecInst::MovToVec128 { rd, rn, rm } => line3(
+            alloc,
+            out,
+            Vector(VectorName::MovToVec128),
+            rd,
+            rn,
+            rm,
+        ),
         VecInst::VecImmByteMask { rd, mask } => line2(
             alloc,
             out,
-            LineName::VecImmByteMask,
+            Vector(VectorName::VecImmByteMask),
             rd,
             mask,
         ),
@@ -353,7 +398,7 @@ pub fn put_vector(alloc: Global, out: &mut String, v: &VecInst) -> Result<(), Al
         } => line4(
             alloc,
             out,
-            LineName::VecImmBitMask,
+            Vector(VectorName::VecImmBitMask),
             size,
             rd,
             start_bit,
@@ -362,7 +407,7 @@ pub fn put_vector(alloc: Global, out: &mut String, v: &VecInst) -> Result<(), Al
         VecInst::VecImmReplicate { size, rd, imm } => line3(
             alloc,
             out,
-            LineName::VecImmReplicate,
+            Vector(VectorName::VecImmReplicate),
             size,
             rd,
             imm,
@@ -377,7 +422,7 @@ pub fn put_vector(alloc: Global, out: &mut String, v: &VecInst) -> Result<(), Al
         } => line6(
             alloc,
             out,
-            LineName::VecInsertLane,
+            Vector(VectorName::VecInsertLane),
             size,
             rd,
             ri,
@@ -394,7 +439,7 @@ pub fn put_vector(alloc: Global, out: &mut String, v: &VecInst) -> Result<(), Al
         } => line5(
             alloc,
             out,
-            LineName::VecInsertLaneUndef,
+            Vector(VectorName::VecInsertLaneUndef),
             size,
             rd,
             rn,
@@ -410,7 +455,7 @@ pub fn put_vector(alloc: Global, out: &mut String, v: &VecInst) -> Result<(), Al
         } => line5(
             alloc,
             out,
-            LineName::VecExtractLane,
+            Vector(VectorName::VecExtractLane),
             size,
             rd,
             rn,
@@ -426,7 +471,7 @@ pub fn put_vector(alloc: Global, out: &mut String, v: &VecInst) -> Result<(), Al
         } => line5(
             alloc,
             out,
-            LineName::VecInsertLaneImm,
+            Vector(VectorName::VecInsertLaneImm),
             size,
             rd,
             ri,
@@ -441,7 +486,7 @@ pub fn put_vector(alloc: Global, out: &mut String, v: &VecInst) -> Result<(), Al
         } => line4(
             alloc,
             out,
-            LineName::VecInsertLaneImmUndef,
+            Vector(VectorName::VecInsertLaneImmUndef),
             size,
             rd,
             imm,
@@ -455,7 +500,7 @@ pub fn put_vector(alloc: Global, out: &mut String, v: &VecInst) -> Result<(), Al
         } => line4(
             alloc,
             out,
-            LineName::VecReplicateLane,
+            Vector(VectorName::VecReplicateLane),
             size,
             rd,
             rn,
@@ -464,7 +509,7 @@ pub fn put_vector(alloc: Global, out: &mut String, v: &VecInst) -> Result<(), Al
         VecInst::VecEltRev { lane_count, rd, rn } => line3(
             alloc,
             out,
-            LineName::VecEltRev,
+            Vector(VectorName::VecEltRev),
             lane_count,
             rd,
             rn,

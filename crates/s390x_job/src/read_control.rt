@@ -4,20 +4,21 @@ ghost use Rattle.s390x_job.specs.Line.{line_with};
 ghost use Rattle.s390x_job.specs.Instructions.{inst_line};
 
 use crate::cursor::Cursor;
+use crate::inst_name::ControlName;
 use crate::name::LineName;
 use s390x_inst::{CallInfo, Inst, ReturnCallInfo};
 use std::alloc::{AllocError, Global};
 
-pub fn trap(c: &mut Cursor) -> Inst
-    ensures { inst_line result ≡ line_with LineName.Trap c.old }
+fn trap(c: &mut Cursor) -> Inst
+    ensures { inst_line result ≡ line_with (LineName.Control ControlName.Trap) c.old }
 {
     Inst::Trap {
         trap_code: c.trap(),
     }
 }
 
-pub fn trap_if(c: &mut Cursor) -> Inst
-    ensures { inst_line result ≡ line_with LineName.TrapIf c.old }
+fn trap_if(c: &mut Cursor) -> Inst
+    ensures { inst_line result ≡ line_with (LineName.Control ControlName.TrapIf) c.old }
 {
     Inst::TrapIf {
         cond: c.cond(),
@@ -25,14 +26,14 @@ pub fn trap_if(c: &mut Cursor) -> Inst
     }
 }
 
-pub fn jump(c: &mut Cursor) -> Inst
-    ensures { inst_line result ≡ line_with LineName.Jump c.old }
+fn jump(c: &mut Cursor) -> Inst
+    ensures { inst_line result ≡ line_with (LineName.Control ControlName.Jump) c.old }
 {
     Inst::Jump { dest: c.label() }
 }
 
-pub fn cond_br(c: &mut Cursor) -> Inst
-    ensures { inst_line result ≡ line_with LineName.CondBr c.old }
+fn cond_br(c: &mut Cursor) -> Inst
+    ensures { inst_line result ≡ line_with (LineName.Control ControlName.CondBr) c.old }
 {
     Inst::CondBr {
         taken: c.label(),
@@ -41,8 +42,8 @@ pub fn cond_br(c: &mut Cursor) -> Inst
     }
 }
 
-pub fn indirect_br(alloc: Global, c: &mut Cursor) -> Result<Inst, AllocError>
-    ensures { IfOk result (λ i. inst_line i ≡ line_with LineName.IndirectBr c.old) }
+fn indirect_br(alloc: Global, c: &mut Cursor) -> Result<Inst, AllocError>
+    ensures { IfOk result (λ i. inst_line i ≡ line_with (LineName.Control ControlName.IndirectBr) c.old) }
 {
     Ok(Inst::IndirectBr {
         rn: c.reg(),
@@ -50,14 +51,14 @@ pub fn indirect_br(alloc: Global, c: &mut Cursor) -> Result<Inst, AllocError>
     })
 }
 
-pub fn ret(c: &mut Cursor) -> Inst
-    ensures { inst_line result ≡ line_with LineName.Ret c.old }
+fn ret(c: &mut Cursor) -> Inst
+    ensures { inst_line result ≡ line_with (LineName.Control ControlName.Ret) c.old }
 {
     Inst::Ret { link: c.reg() }
 }
 
-pub fn jt_sequence(alloc: Global, c: &mut Cursor) -> Result<Inst, AllocError>
-    ensures { IfOk result (λ i. inst_line i ≡ line_with LineName.JTSequence c.old) }
+fn jt_sequence(alloc: Global, c: &mut Cursor) -> Result<Inst, AllocError>
+    ensures { IfOk result (λ i. inst_line i ≡ line_with (LineName.Control ControlName.JTSequence) c.old) }
 {
     Ok(Inst::JTSequence {
         ridx: c.reg(),
@@ -67,14 +68,14 @@ pub fn jt_sequence(alloc: Global, c: &mut Cursor) -> Result<Inst, AllocError>
     })
 }
 
-pub fn cond_break(c: &mut Cursor) -> Inst
-    ensures { inst_line result ≡ line_with LineName.CondBreak c.old }
+fn cond_break(c: &mut Cursor) -> Inst
+    ensures { inst_line result ≡ line_with (LineName.Control ControlName.CondBreak) c.old }
 {
     Inst::CondBreak { cond: c.cond() }
 }
 
-pub fn call(alloc: Global, c: &mut Cursor) -> Result<Inst, AllocError>
-    ensures { IfOk result (λ i. inst_line i ≡ line_with LineName.Call c.old) }
+fn call(alloc: Global, c: &mut Cursor) -> Result<Inst, AllocError>
+    ensures { IfOk result (λ i. inst_line i ≡ line_with (LineName.Control ControlName.Call) c.old) }
 {
     let link = c.written();
     let dest = c.target();
@@ -104,8 +105,8 @@ pub fn call(alloc: Global, c: &mut Cursor) -> Result<Inst, AllocError>
     })
 }
 
-pub fn return_call(alloc: Global, c: &mut Cursor) -> Result<Inst, AllocError>
-    ensures { IfOk result (λ i. inst_line i ≡ line_with LineName.ReturnCall c.old) }
+fn return_call(alloc: Global, c: &mut Cursor) -> Result<Inst, AllocError>
+    ensures { IfOk result (λ i. inst_line i ≡ line_with (LineName.Control ControlName.ReturnCall) c.old) }
 {
     let dest = c.target();
     let uses = c.uses(alloc)?;
@@ -119,14 +120,14 @@ pub fn return_call(alloc: Global, c: &mut Cursor) -> Result<Inst, AllocError>
     })
 }
 
-pub fn allocate_args(c: &mut Cursor) -> Inst
-    ensures { inst_line result ≡ line_with LineName.AllocateArgs c.old }
+fn allocate_args(c: &mut Cursor) -> Inst
+    ensures { inst_line result ≡ line_with (LineName.Control ControlName.AllocateArgs) c.old }
 {
     Inst::AllocateArgs { size: c.u32() }
 }
 
-pub fn load_symbol_reloc(c: &mut Cursor) -> Inst
-    ensures { inst_line result ≡ line_with LineName.LoadSymbolReloc c.old }
+fn load_symbol_reloc(c: &mut Cursor) -> Inst
+    ensures { inst_line result ≡ line_with (LineName.Control ControlName.LoadSymbolReloc) c.old }
 {
     Inst::LoadSymbolReloc {
         rd: c.written(),
@@ -134,8 +135,8 @@ pub fn load_symbol_reloc(c: &mut Cursor) -> Inst
     }
 }
 
-pub fn label_address(c: &mut Cursor) -> Inst
-    ensures { inst_line result ≡ line_with LineName.LabelAddress c.old }
+fn label_address(c: &mut Cursor) -> Inst
+    ensures { inst_line result ≡ line_with (LineName.Control ControlName.LabelAddress) c.old }
 {
     Inst::LabelAddress {
         dst: c.written(),
@@ -143,24 +144,53 @@ pub fn label_address(c: &mut Cursor) -> Inst
     }
 }
 
-pub fn args(alloc: Global, c: &mut Cursor) -> Result<Inst, AllocError>
-    ensures { IfOk result (λ i. inst_line i ≡ line_with LineName.Args c.old) }
+fn args(alloc: Global, c: &mut Cursor) -> Result<Inst, AllocError>
+    ensures { IfOk result (λ i. inst_line i ≡ line_with (LineName.Control ControlName.Args) c.old) }
 {
     Ok(Inst::Args {
         args: c.args(alloc)?,
     })
 }
 
-pub fn rets(alloc: Global, c: &mut Cursor) -> Result<Inst, AllocError>
-    ensures { IfOk result (λ i. inst_line i ≡ line_with LineName.Rets c.old) }
+fn rets(alloc: Global, c: &mut Cursor) -> Result<Inst, AllocError>
+    ensures { IfOk result (λ i. inst_line i ≡ line_with (LineName.Control ControlName.Rets) c.old) }
 {
     Ok(Inst::Rets {
         rets: c.rets(alloc)?,
     })
 }
 
-pub fn dummy_use(c: &mut Cursor) -> Inst
-    ensures { inst_line result ≡ line_with LineName.DummyUse c.old }
+fn dummy_use(c: &mut Cursor) -> Inst
+    ensures { inst_line result ≡ line_with (LineName.Control ControlName.DummyUse) c.old }
 {
     Inst::DummyUse { reg: c.reg() }
+}
+
+/// The instruction of this name, whose fields come next.
+pub fn control(alloc: Global, name: ControlName, c: &mut Cursor) -> Result<Inst, AllocError>
+    ensures { IfOk result (λ i. inst_line i ≡ line_with (LineName.Control name) c.old) }
+{
+    match name {
+        ControlName::Fence => Ok(Inst::Fence),
+        ControlName::Nop0 => Ok(Inst::Nop0),
+        ControlName::Nop2 => Ok(Inst::Nop2),
+        ControlName::Debugtrap => Ok(Inst::Debugtrap),
+        ControlName::Trap => Ok(trap(c)),
+        ControlName::TrapIf => Ok(trap_if(c)),
+        ControlName::Jump => Ok(jump(c)),
+        ControlName::CondBr => Ok(cond_br(c)),
+        ControlName::IndirectBr => indirect_br(alloc, c),
+        ControlName::Ret => Ok(ret(c)),
+        ControlName::JTSequence => jt_sequence(alloc, c),
+        ControlName::CondBreak => Ok(cond_break(c)),
+        ControlName::Call => call(alloc, c),
+        ControlName::ReturnCall => return_call(alloc, c),
+        ControlName::AllocateArgs => Ok(allocate_args(c)),
+        ControlName::LoadSymbolReloc => Ok(load_symbol_reloc(c)),
+        ControlName::LabelAddress => Ok(label_address(c)),
+        ControlName::Args => args(alloc, c),
+        ControlName::Rets => rets(alloc, c),
+        ControlName::DummyUse => Ok(dummy_use(c)),
+        ControlName::SequencePoint => Ok(Inst::SequencePoint),
+    }
 }

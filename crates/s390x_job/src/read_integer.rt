@@ -4,11 +4,12 @@ ghost use Rattle.s390x_job.specs.Line.{line_with};
 ghost use Rattle.s390x_job.specs.Instructions.{inst_line};
 
 use crate::cursor::Cursor;
+use crate::inst_name::IntegerName;
 use crate::name::LineName;
 use s390x_inst::Inst;
 
-pub fn alu_rrr(c: &mut Cursor) -> Inst
-    ensures { inst_line result ≡ line_with LineName.AluRRR c.old }
+fn alu_rrr(c: &mut Cursor) -> Inst
+    ensures { inst_line result ≡ line_with (LineName.Integer IntegerName.AluRRR) c.old }
 {
     Inst::AluRRR {
         alu_op: c.alu(),
@@ -18,8 +19,8 @@ pub fn alu_rrr(c: &mut Cursor) -> Inst
     }
 }
 
-pub fn alu_rrs_imm16(c: &mut Cursor) -> Inst
-    ensures { inst_line result ≡ line_with LineName.AluRRSImm16 c.old }
+fn alu_rrs_imm16(c: &mut Cursor) -> Inst
+    ensures { inst_line result ≡ line_with (LineName.Integer IntegerName.AluRRSImm16) c.old }
 {
     Inst::AluRRSImm16 {
         alu_op: c.alu(),
@@ -29,8 +30,8 @@ pub fn alu_rrs_imm16(c: &mut Cursor) -> Inst
     }
 }
 
-pub fn alu_rr(c: &mut Cursor) -> Inst
-    ensures { inst_line result ≡ line_with LineName.AluRR c.old }
+fn alu_rr(c: &mut Cursor) -> Inst
+    ensures { inst_line result ≡ line_with (LineName.Integer IntegerName.AluRR) c.old }
 {
     Inst::AluRR {
         alu_op: c.alu(),
@@ -40,8 +41,8 @@ pub fn alu_rr(c: &mut Cursor) -> Inst
     }
 }
 
-pub fn alu_rx(c: &mut Cursor) -> Inst
-    ensures { inst_line result ≡ line_with LineName.AluRX c.old }
+fn alu_rx(c: &mut Cursor) -> Inst
+    ensures { inst_line result ≡ line_with (LineName.Integer IntegerName.AluRX) c.old }
 {
     Inst::AluRX {
         alu_op: c.alu(),
@@ -51,8 +52,8 @@ pub fn alu_rx(c: &mut Cursor) -> Inst
     }
 }
 
-pub fn alu_rs_imm16(c: &mut Cursor) -> Inst
-    ensures { inst_line result ≡ line_with LineName.AluRSImm16 c.old }
+fn alu_rs_imm16(c: &mut Cursor) -> Inst
+    ensures { inst_line result ≡ line_with (LineName.Integer IntegerName.AluRSImm16) c.old }
 {
     Inst::AluRSImm16 {
         alu_op: c.alu(),
@@ -62,8 +63,8 @@ pub fn alu_rs_imm16(c: &mut Cursor) -> Inst
     }
 }
 
-pub fn alu_rs_imm32(c: &mut Cursor) -> Inst
-    ensures { inst_line result ≡ line_with LineName.AluRSImm32 c.old }
+fn alu_rs_imm32(c: &mut Cursor) -> Inst
+    ensures { inst_line result ≡ line_with (LineName.Integer IntegerName.AluRSImm32) c.old }
 {
     Inst::AluRSImm32 {
         alu_op: c.alu(),
@@ -73,8 +74,8 @@ pub fn alu_rs_imm32(c: &mut Cursor) -> Inst
     }
 }
 
-pub fn alu_ru_imm32(c: &mut Cursor) -> Inst
-    ensures { inst_line result ≡ line_with LineName.AluRUImm32 c.old }
+fn alu_ru_imm32(c: &mut Cursor) -> Inst
+    ensures { inst_line result ≡ line_with (LineName.Integer IntegerName.AluRUImm32) c.old }
 {
     Inst::AluRUImm32 {
         alu_op: c.alu(),
@@ -84,8 +85,8 @@ pub fn alu_ru_imm32(c: &mut Cursor) -> Inst
     }
 }
 
-pub fn alu_ru_imm16_shifted(c: &mut Cursor) -> Inst
-    ensures { inst_line result ≡ line_with LineName.AluRUImm16Shifted c.old }
+fn alu_ru_imm16_shifted(c: &mut Cursor) -> Inst
+    ensures { inst_line result ≡ line_with (LineName.Integer IntegerName.AluRUImm16Shifted) c.old }
 {
     Inst::AluRUImm16Shifted {
         alu_op: c.alu(),
@@ -95,8 +96,8 @@ pub fn alu_ru_imm16_shifted(c: &mut Cursor) -> Inst
     }
 }
 
-pub fn alu_ru_imm32_shifted(c: &mut Cursor) -> Inst
-    ensures { inst_line result ≡ line_with LineName.AluRUImm32Shifted c.old }
+fn alu_ru_imm32_shifted(c: &mut Cursor) -> Inst
+    ensures { inst_line result ≡ line_with (LineName.Integer IntegerName.AluRUImm32Shifted) c.old }
 {
     Inst::AluRUImm32Shifted {
         alu_op: c.alu(),
@@ -106,8 +107,8 @@ pub fn alu_ru_imm32_shifted(c: &mut Cursor) -> Inst
     }
 }
 
-pub fn s_mul_wide(c: &mut Cursor) -> Inst
-    ensures { inst_line result ≡ line_with LineName.SMulWide c.old }
+fn s_mul_wide(c: &mut Cursor) -> Inst
+    ensures { inst_line result ≡ line_with (LineName.Integer IntegerName.SMulWide) c.old }
 {
     Inst::SMulWide {
         rd: c.written_pair(),
@@ -116,8 +117,8 @@ pub fn s_mul_wide(c: &mut Cursor) -> Inst
     }
 }
 
-pub fn u_mul_wide(c: &mut Cursor) -> Inst
-    ensures { inst_line result ≡ line_with LineName.UMulWide c.old }
+fn u_mul_wide(c: &mut Cursor) -> Inst
+    ensures { inst_line result ≡ line_with (LineName.Integer IntegerName.UMulWide) c.old }
 {
     Inst::UMulWide {
         rd: c.written_pair(),
@@ -126,8 +127,8 @@ pub fn u_mul_wide(c: &mut Cursor) -> Inst
     }
 }
 
-pub fn s_div_mod32(c: &mut Cursor) -> Inst
-    ensures { inst_line result ≡ line_with LineName.SDivMod32 c.old }
+fn s_div_mod32(c: &mut Cursor) -> Inst
+    ensures { inst_line result ≡ line_with (LineName.Integer IntegerName.SDivMod32) c.old }
 {
     Inst::SDivMod32 {
         rd: c.written_pair(),
@@ -136,8 +137,8 @@ pub fn s_div_mod32(c: &mut Cursor) -> Inst
     }
 }
 
-pub fn s_div_mod64(c: &mut Cursor) -> Inst
-    ensures { inst_line result ≡ line_with LineName.SDivMod64 c.old }
+fn s_div_mod64(c: &mut Cursor) -> Inst
+    ensures { inst_line result ≡ line_with (LineName.Integer IntegerName.SDivMod64) c.old }
 {
     Inst::SDivMod64 {
         rd: c.written_pair(),
@@ -146,8 +147,8 @@ pub fn s_div_mod64(c: &mut Cursor) -> Inst
     }
 }
 
-pub fn u_div_mod32(c: &mut Cursor) -> Inst
-    ensures { inst_line result ≡ line_with LineName.UDivMod32 c.old }
+fn u_div_mod32(c: &mut Cursor) -> Inst
+    ensures { inst_line result ≡ line_with (LineName.Integer IntegerName.UDivMod32) c.old }
 {
     Inst::UDivMod32 {
         rd: c.written_pair(),
@@ -156,8 +157,8 @@ pub fn u_div_mod32(c: &mut Cursor) -> Inst
     }
 }
 
-pub fn u_div_mod64(c: &mut Cursor) -> Inst
-    ensures { inst_line result ≡ line_with LineName.UDivMod64 c.old }
+fn u_div_mod64(c: &mut Cursor) -> Inst
+    ensures { inst_line result ≡ line_with (LineName.Integer IntegerName.UDivMod64) c.old }
 {
     Inst::UDivMod64 {
         rd: c.written_pair(),
@@ -166,8 +167,8 @@ pub fn u_div_mod64(c: &mut Cursor) -> Inst
     }
 }
 
-pub fn flogr(c: &mut Cursor) -> Inst
-    ensures { inst_line result ≡ line_with LineName.Flogr c.old }
+fn flogr(c: &mut Cursor) -> Inst
+    ensures { inst_line result ≡ line_with (LineName.Integer IntegerName.Flogr) c.old }
 {
     Inst::Flogr {
         rd: c.written_pair(),
@@ -175,8 +176,8 @@ pub fn flogr(c: &mut Cursor) -> Inst
     }
 }
 
-pub fn shift_rr(c: &mut Cursor) -> Inst
-    ensures { inst_line result ≡ line_with LineName.ShiftRR c.old }
+fn shift_rr(c: &mut Cursor) -> Inst
+    ensures { inst_line result ≡ line_with (LineName.Integer IntegerName.ShiftRR) c.old }
 {
     Inst::ShiftRR {
         shift_op: c.shift_op(),
@@ -187,8 +188,8 @@ pub fn shift_rr(c: &mut Cursor) -> Inst
     }
 }
 
-pub fn rx_sbg(c: &mut Cursor) -> Inst
-    ensures { inst_line result ≡ line_with LineName.RxSBG c.old }
+fn rx_sbg(c: &mut Cursor) -> Inst
+    ensures { inst_line result ≡ line_with (LineName.Integer IntegerName.RxSBG) c.old }
 {
     Inst::RxSBG {
         op: c.rxsbg(),
@@ -201,8 +202,8 @@ pub fn rx_sbg(c: &mut Cursor) -> Inst
     }
 }
 
-pub fn rx_sbg_test(c: &mut Cursor) -> Inst
-    ensures { inst_line result ≡ line_with LineName.RxSBGTest c.old }
+fn rx_sbg_test(c: &mut Cursor) -> Inst
+    ensures { inst_line result ≡ line_with (LineName.Integer IntegerName.RxSBGTest) c.old }
 {
     Inst::RxSBGTest {
         op: c.rxsbg(),
@@ -214,8 +215,8 @@ pub fn rx_sbg_test(c: &mut Cursor) -> Inst
     }
 }
 
-pub fn unary_rr(c: &mut Cursor) -> Inst
-    ensures { inst_line result ≡ line_with LineName.UnaryRR c.old }
+fn unary_rr(c: &mut Cursor) -> Inst
+    ensures { inst_line result ≡ line_with (LineName.Integer IntegerName.UnaryRR) c.old }
 {
     Inst::UnaryRR {
         op: c.unary(),
@@ -224,8 +225,8 @@ pub fn unary_rr(c: &mut Cursor) -> Inst
     }
 }
 
-pub fn cmp_rr(c: &mut Cursor) -> Inst
-    ensures { inst_line result ≡ line_with LineName.CmpRR c.old }
+fn cmp_rr(c: &mut Cursor) -> Inst
+    ensures { inst_line result ≡ line_with (LineName.Integer IntegerName.CmpRR) c.old }
 {
     Inst::CmpRR {
         op: c.cmp(),
@@ -234,8 +235,8 @@ pub fn cmp_rr(c: &mut Cursor) -> Inst
     }
 }
 
-pub fn cmp_rx(c: &mut Cursor) -> Inst
-    ensures { inst_line result ≡ line_with LineName.CmpRX c.old }
+fn cmp_rx(c: &mut Cursor) -> Inst
+    ensures { inst_line result ≡ line_with (LineName.Integer IntegerName.CmpRX) c.old }
 {
     Inst::CmpRX {
         op: c.cmp(),
@@ -244,8 +245,8 @@ pub fn cmp_rx(c: &mut Cursor) -> Inst
     }
 }
 
-pub fn cmp_rs_imm16(c: &mut Cursor) -> Inst
-    ensures { inst_line result ≡ line_with LineName.CmpRSImm16 c.old }
+fn cmp_rs_imm16(c: &mut Cursor) -> Inst
+    ensures { inst_line result ≡ line_with (LineName.Integer IntegerName.CmpRSImm16) c.old }
 {
     Inst::CmpRSImm16 {
         op: c.cmp(),
@@ -254,8 +255,8 @@ pub fn cmp_rs_imm16(c: &mut Cursor) -> Inst
     }
 }
 
-pub fn cmp_rs_imm32(c: &mut Cursor) -> Inst
-    ensures { inst_line result ≡ line_with LineName.CmpRSImm32 c.old }
+fn cmp_rs_imm32(c: &mut Cursor) -> Inst
+    ensures { inst_line result ≡ line_with (LineName.Integer IntegerName.CmpRSImm32) c.old }
 {
     Inst::CmpRSImm32 {
         op: c.cmp(),
@@ -264,8 +265,8 @@ pub fn cmp_rs_imm32(c: &mut Cursor) -> Inst
     }
 }
 
-pub fn cmp_ru_imm32(c: &mut Cursor) -> Inst
-    ensures { inst_line result ≡ line_with LineName.CmpRUImm32 c.old }
+fn cmp_ru_imm32(c: &mut Cursor) -> Inst
+    ensures { inst_line result ≡ line_with (LineName.Integer IntegerName.CmpRUImm32) c.old }
 {
     Inst::CmpRUImm32 {
         op: c.cmp(),
@@ -274,8 +275,8 @@ pub fn cmp_ru_imm32(c: &mut Cursor) -> Inst
     }
 }
 
-pub fn cmp_trap_rr(c: &mut Cursor) -> Inst
-    ensures { inst_line result ≡ line_with LineName.CmpTrapRR c.old }
+fn cmp_trap_rr(c: &mut Cursor) -> Inst
+    ensures { inst_line result ≡ line_with (LineName.Integer IntegerName.CmpTrapRR) c.old }
 {
     Inst::CmpTrapRR {
         op: c.cmp(),
@@ -286,8 +287,8 @@ pub fn cmp_trap_rr(c: &mut Cursor) -> Inst
     }
 }
 
-pub fn cmp_trap_rs_imm16(c: &mut Cursor) -> Inst
-    ensures { inst_line result ≡ line_with LineName.CmpTrapRSImm16 c.old }
+fn cmp_trap_rs_imm16(c: &mut Cursor) -> Inst
+    ensures { inst_line result ≡ line_with (LineName.Integer IntegerName.CmpTrapRSImm16) c.old }
 {
     Inst::CmpTrapRSImm16 {
         op: c.cmp(),
@@ -298,8 +299,8 @@ pub fn cmp_trap_rs_imm16(c: &mut Cursor) -> Inst
     }
 }
 
-pub fn cmp_trap_ru_imm16(c: &mut Cursor) -> Inst
-    ensures { inst_line result ≡ line_with LineName.CmpTrapRUImm16 c.old }
+fn cmp_trap_ru_imm16(c: &mut Cursor) -> Inst
+    ensures { inst_line result ≡ line_with (LineName.Integer IntegerName.CmpTrapRUImm16) c.old }
 {
     Inst::CmpTrapRUImm16 {
         op: c.cmp(),
@@ -310,8 +311,8 @@ pub fn cmp_trap_ru_imm16(c: &mut Cursor) -> Inst
     }
 }
 
-pub fn mov64(c: &mut Cursor) -> Inst
-    ensures { inst_line result ≡ line_with LineName.Mov64 c.old }
+fn mov64(c: &mut Cursor) -> Inst
+    ensures { inst_line result ≡ line_with (LineName.Integer IntegerName.Mov64) c.old }
 {
     Inst::Mov64 {
         rd: c.written(),
@@ -319,8 +320,8 @@ pub fn mov64(c: &mut Cursor) -> Inst
     }
 }
 
-pub fn mov_p_reg(c: &mut Cursor) -> Inst
-    ensures { inst_line result ≡ line_with LineName.MovPReg c.old }
+fn mov_p_reg(c: &mut Cursor) -> Inst
+    ensures { inst_line result ≡ line_with (LineName.Integer IntegerName.MovPReg) c.old }
 {
     Inst::MovPReg {
         rd: c.written(),
@@ -328,8 +329,8 @@ pub fn mov_p_reg(c: &mut Cursor) -> Inst
     }
 }
 
-pub fn mov32(c: &mut Cursor) -> Inst
-    ensures { inst_line result ≡ line_with LineName.Mov32 c.old }
+fn mov32(c: &mut Cursor) -> Inst
+    ensures { inst_line result ≡ line_with (LineName.Integer IntegerName.Mov32) c.old }
 {
     Inst::Mov32 {
         rd: c.written(),
@@ -337,8 +338,8 @@ pub fn mov32(c: &mut Cursor) -> Inst
     }
 }
 
-pub fn mov32_imm(c: &mut Cursor) -> Inst
-    ensures { inst_line result ≡ line_with LineName.Mov32Imm c.old }
+fn mov32_imm(c: &mut Cursor) -> Inst
+    ensures { inst_line result ≡ line_with (LineName.Integer IntegerName.Mov32Imm) c.old }
 {
     Inst::Mov32Imm {
         rd: c.written(),
@@ -346,8 +347,8 @@ pub fn mov32_imm(c: &mut Cursor) -> Inst
     }
 }
 
-pub fn mov32_s_imm16(c: &mut Cursor) -> Inst
-    ensures { inst_line result ≡ line_with LineName.Mov32SImm16 c.old }
+fn mov32_s_imm16(c: &mut Cursor) -> Inst
+    ensures { inst_line result ≡ line_with (LineName.Integer IntegerName.Mov32SImm16) c.old }
 {
     Inst::Mov32SImm16 {
         rd: c.written(),
@@ -355,8 +356,8 @@ pub fn mov32_s_imm16(c: &mut Cursor) -> Inst
     }
 }
 
-pub fn mov64_s_imm16(c: &mut Cursor) -> Inst
-    ensures { inst_line result ≡ line_with LineName.Mov64SImm16 c.old }
+fn mov64_s_imm16(c: &mut Cursor) -> Inst
+    ensures { inst_line result ≡ line_with (LineName.Integer IntegerName.Mov64SImm16) c.old }
 {
     Inst::Mov64SImm16 {
         rd: c.written(),
@@ -364,8 +365,8 @@ pub fn mov64_s_imm16(c: &mut Cursor) -> Inst
     }
 }
 
-pub fn mov64_s_imm32(c: &mut Cursor) -> Inst
-    ensures { inst_line result ≡ line_with LineName.Mov64SImm32 c.old }
+fn mov64_s_imm32(c: &mut Cursor) -> Inst
+    ensures { inst_line result ≡ line_with (LineName.Integer IntegerName.Mov64SImm32) c.old }
 {
     Inst::Mov64SImm32 {
         rd: c.written(),
@@ -373,8 +374,8 @@ pub fn mov64_s_imm32(c: &mut Cursor) -> Inst
     }
 }
 
-pub fn mov64_u_imm16_shifted(c: &mut Cursor) -> Inst
-    ensures { inst_line result ≡ line_with LineName.Mov64UImm16Shifted c.old }
+fn mov64_u_imm16_shifted(c: &mut Cursor) -> Inst
+    ensures { inst_line result ≡ line_with (LineName.Integer IntegerName.Mov64UImm16Shifted) c.old }
 {
     Inst::Mov64UImm16Shifted {
         rd: c.written(),
@@ -382,8 +383,8 @@ pub fn mov64_u_imm16_shifted(c: &mut Cursor) -> Inst
     }
 }
 
-pub fn mov64_u_imm32_shifted(c: &mut Cursor) -> Inst
-    ensures { inst_line result ≡ line_with LineName.Mov64UImm32Shifted c.old }
+fn mov64_u_imm32_shifted(c: &mut Cursor) -> Inst
+    ensures { inst_line result ≡ line_with (LineName.Integer IntegerName.Mov64UImm32Shifted) c.old }
 {
     Inst::Mov64UImm32Shifted {
         rd: c.written(),
@@ -391,8 +392,8 @@ pub fn mov64_u_imm32_shifted(c: &mut Cursor) -> Inst
     }
 }
 
-pub fn insert64_u_imm16_shifted(c: &mut Cursor) -> Inst
-    ensures { inst_line result ≡ line_with LineName.Insert64UImm16Shifted c.old }
+fn insert64_u_imm16_shifted(c: &mut Cursor) -> Inst
+    ensures { inst_line result ≡ line_with (LineName.Integer IntegerName.Insert64UImm16Shifted) c.old }
 {
     Inst::Insert64UImm16Shifted {
         rd: c.written(),
@@ -401,8 +402,8 @@ pub fn insert64_u_imm16_shifted(c: &mut Cursor) -> Inst
     }
 }
 
-pub fn insert64_u_imm32_shifted(c: &mut Cursor) -> Inst
-    ensures { inst_line result ≡ line_with LineName.Insert64UImm32Shifted c.old }
+fn insert64_u_imm32_shifted(c: &mut Cursor) -> Inst
+    ensures { inst_line result ≡ line_with (LineName.Integer IntegerName.Insert64UImm32Shifted) c.old }
 {
     Inst::Insert64UImm32Shifted {
         rd: c.written(),
@@ -411,8 +412,8 @@ pub fn insert64_u_imm32_shifted(c: &mut Cursor) -> Inst
     }
 }
 
-pub fn c_mov32(c: &mut Cursor) -> Inst
-    ensures { inst_line result ≡ line_with LineName.CMov32 c.old }
+fn c_mov32(c: &mut Cursor) -> Inst
+    ensures { inst_line result ≡ line_with (LineName.Integer IntegerName.CMov32) c.old }
 {
     Inst::CMov32 {
         rd: c.written(),
@@ -422,8 +423,8 @@ pub fn c_mov32(c: &mut Cursor) -> Inst
     }
 }
 
-pub fn c_mov64(c: &mut Cursor) -> Inst
-    ensures { inst_line result ≡ line_with LineName.CMov64 c.old }
+fn c_mov64(c: &mut Cursor) -> Inst
+    ensures { inst_line result ≡ line_with (LineName.Integer IntegerName.CMov64) c.old }
 {
     Inst::CMov64 {
         rd: c.written(),
@@ -433,8 +434,8 @@ pub fn c_mov64(c: &mut Cursor) -> Inst
     }
 }
 
-pub fn c_mov32_s_imm16(c: &mut Cursor) -> Inst
-    ensures { inst_line result ≡ line_with LineName.CMov32SImm16 c.old }
+fn c_mov32_s_imm16(c: &mut Cursor) -> Inst
+    ensures { inst_line result ≡ line_with (LineName.Integer IntegerName.CMov32SImm16) c.old }
 {
     Inst::CMov32SImm16 {
         rd: c.written(),
@@ -444,8 +445,8 @@ pub fn c_mov32_s_imm16(c: &mut Cursor) -> Inst
     }
 }
 
-pub fn c_mov64_s_imm16(c: &mut Cursor) -> Inst
-    ensures { inst_line result ≡ line_with LineName.CMov64SImm16 c.old }
+fn c_mov64_s_imm16(c: &mut Cursor) -> Inst
+    ensures { inst_line result ≡ line_with (LineName.Integer IntegerName.CMov64SImm16) c.old }
 {
     Inst::CMov64SImm16 {
         rd: c.written(),
@@ -455,8 +456,8 @@ pub fn c_mov64_s_imm16(c: &mut Cursor) -> Inst
     }
 }
 
-pub fn extend(c: &mut Cursor) -> Inst
-    ensures { inst_line result ≡ line_with LineName.Extend c.old }
+fn extend(c: &mut Cursor) -> Inst
+    ensures { inst_line result ≡ line_with (LineName.Integer IntegerName.Extend) c.old }
 {
     Inst::Extend {
         rd: c.written(),
@@ -467,8 +468,8 @@ pub fn extend(c: &mut Cursor) -> Inst
     }
 }
 
-pub fn load_ar(c: &mut Cursor) -> Inst
-    ensures { inst_line result ≡ line_with LineName.LoadAR c.old }
+fn load_ar(c: &mut Cursor) -> Inst
+    ensures { inst_line result ≡ line_with (LineName.Integer IntegerName.LoadAR) c.old }
 {
     Inst::LoadAR {
         rd: c.written(),
@@ -476,12 +477,66 @@ pub fn load_ar(c: &mut Cursor) -> Inst
     }
 }
 
-pub fn insert_ar(c: &mut Cursor) -> Inst
-    ensures { inst_line result ≡ line_with LineName.InsertAR c.old }
+fn insert_ar(c: &mut Cursor) -> Inst
+    ensures { inst_line result ≡ line_with (LineName.Integer IntegerName.InsertAR) c.old }
 {
     Inst::InsertAR {
         rd: c.written(),
         ri: c.reg(),
         ar: c.u8(),
+    }
+}
+
+/// The instruction of this name, whose fields come next.
+pub fn integer(name: IntegerName, c: &mut Cursor) -> Inst
+    ensures { inst_line result ≡ line_with (LineName.Integer name) c.old }
+{
+    match name {
+        IntegerName::AluRRR => alu_rrr(c),
+        IntegerName::AluRRSImm16 => alu_rrs_imm16(c),
+        IntegerName::AluRR => alu_rr(c),
+        IntegerName::AluRX => alu_rx(c),
+        IntegerName::AluRSImm16 => alu_rs_imm16(c),
+        IntegerName::AluRSImm32 => alu_rs_imm32(c),
+        IntegerName::AluRUImm32 => alu_ru_imm32(c),
+        IntegerName::AluRUImm16Shifted => alu_ru_imm16_shifted(c),
+        IntegerName::AluRUImm32Shifted => alu_ru_imm32_shifted(c),
+        IntegerName::SMulWide => s_mul_wide(c),
+        IntegerName::UMulWide => u_mul_wide(c),
+        IntegerName::SDivMod32 => s_div_mod32(c),
+        IntegerName::SDivMod64 => s_div_mod64(c),
+        IntegerName::UDivMod32 => u_div_mod32(c),
+        IntegerName::UDivMod64 => u_div_mod64(c),
+        IntegerName::Flogr => flogr(c),
+        IntegerName::ShiftRR => shift_rr(c),
+        IntegerName::RxSBG => rx_sbg(c),
+        IntegerName::RxSBGTest => rx_sbg_test(c),
+        IntegerName::UnaryRR => unary_rr(c),
+        IntegerName::CmpRR => cmp_rr(c),
+        IntegerName::CmpRX => cmp_rx(c),
+        IntegerName::CmpRSImm16 => cmp_rs_imm16(c),
+        IntegerName::CmpRSImm32 => cmp_rs_imm32(c),
+        IntegerName::CmpRUImm32 => cmp_ru_imm32(c),
+        IntegerName::CmpTrapRR => cmp_trap_rr(c),
+        IntegerName::CmpTrapRSImm16 => cmp_trap_rs_imm16(c),
+        IntegerName::CmpTrapRUImm16 => cmp_trap_ru_imm16(c),
+        IntegerName::Mov64 => mov64(c),
+        IntegerName::MovPReg => mov_p_reg(c),
+        IntegerName::Mov32 => mov32(c),
+        IntegerName::Mov32Imm => mov32_imm(c),
+        IntegerName::Mov32SImm16 => mov32_s_imm16(c),
+        IntegerName::Mov64SImm16 => mov64_s_imm16(c),
+        IntegerName::Mov64SImm32 => mov64_s_imm32(c),
+        IntegerName::Mov64UImm16Shifted => mov64_u_imm16_shifted(c),
+        IntegerName::Mov64UImm32Shifted => mov64_u_imm32_shifted(c),
+        IntegerName::Insert64UImm16Shifted => insert64_u_imm16_shifted(c),
+        IntegerName::Insert64UImm32Shifted => insert64_u_imm32_shifted(c),
+        IntegerName::CMov32 => c_mov32(c),
+        IntegerName::CMov64 => c_mov64(c),
+        IntegerName::CMov32SImm16 => c_mov32_s_imm16(c),
+        IntegerName::CMov64SImm16 => c_mov64_s_imm16(c),
+        IntegerName::Extend => extend(c),
+        IntegerName::LoadAR => load_ar(c),
+        IntegerName::InsertAR => insert_ar(c),
     }
 }

@@ -4,11 +4,12 @@ ghost use Rattle.s390x_job.specs.Line.{line_with};
 ghost use Rattle.s390x_job.specs.Instructions.{vector_line};
 
 use crate::cursor::Cursor;
+use crate::inst_name::VectorName;
 use crate::name::LineName;
 use s390x_inst::VecInst;
 
-pub fn vec_rrr(c: &mut Cursor) -> VecInst
-    ensures { vector_line result ≡ line_with LineName.VecRRR c.old }
+fn vec_rrr(c: &mut Cursor) -> VecInst
+    ensures { vector_line result ≡ line_with (LineName.Vector VectorName.VecRRR) c.old }
 {
     VecInst::VecRRR {
         op: c.vec_binary(),
@@ -18,8 +19,8 @@ pub fn vec_rrr(c: &mut Cursor) -> VecInst
     }
 }
 
-pub fn vec_rr(c: &mut Cursor) -> VecInst
-    ensures { vector_line result ≡ line_with LineName.VecRR c.old }
+fn vec_rr(c: &mut Cursor) -> VecInst
+    ensures { vector_line result ≡ line_with (LineName.Vector VectorName.VecRR) c.old }
 {
     VecInst::VecRR {
         op: c.vec_unary(),
@@ -28,8 +29,8 @@ pub fn vec_rr(c: &mut Cursor) -> VecInst
     }
 }
 
-pub fn vec_shift_rr(c: &mut Cursor) -> VecInst
-    ensures { vector_line result ≡ line_with LineName.VecShiftRR c.old }
+fn vec_shift_rr(c: &mut Cursor) -> VecInst
+    ensures { vector_line result ≡ line_with (LineName.Vector VectorName.VecShiftRR) c.old }
 {
     VecInst::VecShiftRR {
         shift_op: c.vec_shift_op(),
@@ -40,8 +41,8 @@ pub fn vec_shift_rr(c: &mut Cursor) -> VecInst
     }
 }
 
-pub fn vec_select(c: &mut Cursor) -> VecInst
-    ensures { vector_line result ≡ line_with LineName.VecSelect c.old }
+fn vec_select(c: &mut Cursor) -> VecInst
+    ensures { vector_line result ≡ line_with (LineName.Vector VectorName.VecSelect) c.old }
 {
     VecInst::VecSelect {
         rd: c.written(),
@@ -51,8 +52,8 @@ pub fn vec_select(c: &mut Cursor) -> VecInst
     }
 }
 
-pub fn vec_permute(c: &mut Cursor) -> VecInst
-    ensures { vector_line result ≡ line_with LineName.VecPermute c.old }
+fn vec_permute(c: &mut Cursor) -> VecInst
+    ensures { vector_line result ≡ line_with (LineName.Vector VectorName.VecPermute) c.old }
 {
     VecInst::VecPermute {
         rd: c.written(),
@@ -62,8 +63,8 @@ pub fn vec_permute(c: &mut Cursor) -> VecInst
     }
 }
 
-pub fn vec_blend(c: &mut Cursor) -> VecInst
-    ensures { vector_line result ≡ line_with LineName.VecBlend c.old }
+fn vec_blend(c: &mut Cursor) -> VecInst
+    ensures { vector_line result ≡ line_with (LineName.Vector VectorName.VecBlend) c.old }
 {
     VecInst::VecBlend {
         rd: c.written(),
@@ -73,8 +74,8 @@ pub fn vec_blend(c: &mut Cursor) -> VecInst
     }
 }
 
-pub fn vec_evaluate(c: &mut Cursor) -> VecInst
-    ensures { vector_line result ≡ line_with LineName.VecEvaluate c.old }
+fn vec_evaluate(c: &mut Cursor) -> VecInst
+    ensures { vector_line result ≡ line_with (LineName.Vector VectorName.VecEvaluate) c.old }
 {
     VecInst::VecEvaluate {
         imm: c.u8(),
@@ -85,8 +86,8 @@ pub fn vec_evaluate(c: &mut Cursor) -> VecInst
     }
 }
 
-pub fn vec_permute_dw_imm(c: &mut Cursor) -> VecInst
-    ensures { vector_line result ≡ line_with LineName.VecPermuteDWImm c.old }
+fn vec_permute_dw_imm(c: &mut Cursor) -> VecInst
+    ensures { vector_line result ≡ line_with (LineName.Vector VectorName.VecPermuteDWImm) c.old }
 {
     VecInst::VecPermuteDWImm {
         rd: c.written(),
@@ -97,8 +98,8 @@ pub fn vec_permute_dw_imm(c: &mut Cursor) -> VecInst
     }
 }
 
-pub fn vec_int_cmp(c: &mut Cursor) -> VecInst
-    ensures { vector_line result ≡ line_with LineName.VecIntCmp c.old }
+fn vec_int_cmp(c: &mut Cursor) -> VecInst
+    ensures { vector_line result ≡ line_with (LineName.Vector VectorName.VecIntCmp) c.old }
 {
     VecInst::VecIntCmp {
         op: c.vec_compare(),
@@ -108,8 +109,8 @@ pub fn vec_int_cmp(c: &mut Cursor) -> VecInst
     }
 }
 
-pub fn vec_int_cmp_s(c: &mut Cursor) -> VecInst
-    ensures { vector_line result ≡ line_with LineName.VecIntCmpS c.old }
+fn vec_int_cmp_s(c: &mut Cursor) -> VecInst
+    ensures { vector_line result ≡ line_with (LineName.Vector VectorName.VecIntCmpS) c.old }
 {
     VecInst::VecIntCmpS {
         op: c.vec_compare(),
@@ -119,8 +120,8 @@ pub fn vec_int_cmp_s(c: &mut Cursor) -> VecInst
     }
 }
 
-pub fn vec_int_elt_cmp(c: &mut Cursor) -> VecInst
-    ensures { vector_line result ≡ line_with LineName.VecIntEltCmp c.old }
+fn vec_int_elt_cmp(c: &mut Cursor) -> VecInst
+    ensures { vector_line result ≡ line_with (LineName.Vector VectorName.VecIntEltCmp) c.old }
 {
     VecInst::VecIntEltCmp {
         op: c.vec_element_compare(),
@@ -129,8 +130,8 @@ pub fn vec_int_elt_cmp(c: &mut Cursor) -> VecInst
     }
 }
 
-pub fn vec_int128_s_cmp_hi(c: &mut Cursor) -> VecInst
-    ensures { vector_line result ≡ line_with LineName.VecInt128SCmpHi c.old }
+fn vec_int128_s_cmp_hi(c: &mut Cursor) -> VecInst
+    ensures { vector_line result ≡ line_with (LineName.Vector VectorName.VecInt128SCmpHi) c.old }
 {
     VecInst::VecInt128SCmpHi {
         tmp: c.written(),
@@ -139,8 +140,8 @@ pub fn vec_int128_s_cmp_hi(c: &mut Cursor) -> VecInst
     }
 }
 
-pub fn vec_int128_u_cmp_hi(c: &mut Cursor) -> VecInst
-    ensures { vector_line result ≡ line_with LineName.VecInt128UCmpHi c.old }
+fn vec_int128_u_cmp_hi(c: &mut Cursor) -> VecInst
+    ensures { vector_line result ≡ line_with (LineName.Vector VectorName.VecInt128UCmpHi) c.old }
 {
     VecInst::VecInt128UCmpHi {
         tmp: c.written(),
@@ -149,8 +150,8 @@ pub fn vec_int128_u_cmp_hi(c: &mut Cursor) -> VecInst
     }
 }
 
-pub fn vec_load(c: &mut Cursor) -> VecInst
-    ensures { vector_line result ≡ line_with LineName.VecLoad c.old }
+fn vec_load(c: &mut Cursor) -> VecInst
+    ensures { vector_line result ≡ line_with (LineName.Vector VectorName.VecLoad) c.old }
 {
     VecInst::VecLoad {
         rd: c.written(),
@@ -158,8 +159,8 @@ pub fn vec_load(c: &mut Cursor) -> VecInst
     }
 }
 
-pub fn vec_load_rev(c: &mut Cursor) -> VecInst
-    ensures { vector_line result ≡ line_with LineName.VecLoadRev c.old }
+fn vec_load_rev(c: &mut Cursor) -> VecInst
+    ensures { vector_line result ≡ line_with (LineName.Vector VectorName.VecLoadRev) c.old }
 {
     VecInst::VecLoadRev {
         rd: c.written(),
@@ -167,8 +168,8 @@ pub fn vec_load_rev(c: &mut Cursor) -> VecInst
     }
 }
 
-pub fn vec_load_byte16_rev(c: &mut Cursor) -> VecInst
-    ensures { vector_line result ≡ line_with LineName.VecLoadByte16Rev c.old }
+fn vec_load_byte16_rev(c: &mut Cursor) -> VecInst
+    ensures { vector_line result ≡ line_with (LineName.Vector VectorName.VecLoadByte16Rev) c.old }
 {
     VecInst::VecLoadByte16Rev {
         rd: c.written(),
@@ -176,8 +177,8 @@ pub fn vec_load_byte16_rev(c: &mut Cursor) -> VecInst
     }
 }
 
-pub fn vec_load_byte32_rev(c: &mut Cursor) -> VecInst
-    ensures { vector_line result ≡ line_with LineName.VecLoadByte32Rev c.old }
+fn vec_load_byte32_rev(c: &mut Cursor) -> VecInst
+    ensures { vector_line result ≡ line_with (LineName.Vector VectorName.VecLoadByte32Rev) c.old }
 {
     VecInst::VecLoadByte32Rev {
         rd: c.written(),
@@ -185,8 +186,8 @@ pub fn vec_load_byte32_rev(c: &mut Cursor) -> VecInst
     }
 }
 
-pub fn vec_load_byte64_rev(c: &mut Cursor) -> VecInst
-    ensures { vector_line result ≡ line_with LineName.VecLoadByte64Rev c.old }
+fn vec_load_byte64_rev(c: &mut Cursor) -> VecInst
+    ensures { vector_line result ≡ line_with (LineName.Vector VectorName.VecLoadByte64Rev) c.old }
 {
     VecInst::VecLoadByte64Rev {
         rd: c.written(),
@@ -194,8 +195,8 @@ pub fn vec_load_byte64_rev(c: &mut Cursor) -> VecInst
     }
 }
 
-pub fn vec_load_elt16_rev(c: &mut Cursor) -> VecInst
-    ensures { vector_line result ≡ line_with LineName.VecLoadElt16Rev c.old }
+fn vec_load_elt16_rev(c: &mut Cursor) -> VecInst
+    ensures { vector_line result ≡ line_with (LineName.Vector VectorName.VecLoadElt16Rev) c.old }
 {
     VecInst::VecLoadElt16Rev {
         rd: c.written(),
@@ -203,8 +204,8 @@ pub fn vec_load_elt16_rev(c: &mut Cursor) -> VecInst
     }
 }
 
-pub fn vec_load_elt32_rev(c: &mut Cursor) -> VecInst
-    ensures { vector_line result ≡ line_with LineName.VecLoadElt32Rev c.old }
+fn vec_load_elt32_rev(c: &mut Cursor) -> VecInst
+    ensures { vector_line result ≡ line_with (LineName.Vector VectorName.VecLoadElt32Rev) c.old }
 {
     VecInst::VecLoadElt32Rev {
         rd: c.written(),
@@ -212,8 +213,8 @@ pub fn vec_load_elt32_rev(c: &mut Cursor) -> VecInst
     }
 }
 
-pub fn vec_load_elt64_rev(c: &mut Cursor) -> VecInst
-    ensures { vector_line result ≡ line_with LineName.VecLoadElt64Rev c.old }
+fn vec_load_elt64_rev(c: &mut Cursor) -> VecInst
+    ensures { vector_line result ≡ line_with (LineName.Vector VectorName.VecLoadElt64Rev) c.old }
 {
     VecInst::VecLoadElt64Rev {
         rd: c.written(),
@@ -221,8 +222,8 @@ pub fn vec_load_elt64_rev(c: &mut Cursor) -> VecInst
     }
 }
 
-pub fn vec_store(c: &mut Cursor) -> VecInst
-    ensures { vector_line result ≡ line_with LineName.VecStore c.old }
+fn vec_store(c: &mut Cursor) -> VecInst
+    ensures { vector_line result ≡ line_with (LineName.Vector VectorName.VecStore) c.old }
 {
     VecInst::VecStore {
         rd: c.reg(),
@@ -230,8 +231,8 @@ pub fn vec_store(c: &mut Cursor) -> VecInst
     }
 }
 
-pub fn vec_store_rev(c: &mut Cursor) -> VecInst
-    ensures { vector_line result ≡ line_with LineName.VecStoreRev c.old }
+fn vec_store_rev(c: &mut Cursor) -> VecInst
+    ensures { vector_line result ≡ line_with (LineName.Vector VectorName.VecStoreRev) c.old }
 {
     VecInst::VecStoreRev {
         rd: c.reg(),
@@ -239,8 +240,8 @@ pub fn vec_store_rev(c: &mut Cursor) -> VecInst
     }
 }
 
-pub fn vec_store_byte16_rev(c: &mut Cursor) -> VecInst
-    ensures { vector_line result ≡ line_with LineName.VecStoreByte16Rev c.old }
+fn vec_store_byte16_rev(c: &mut Cursor) -> VecInst
+    ensures { vector_line result ≡ line_with (LineName.Vector VectorName.VecStoreByte16Rev) c.old }
 {
     VecInst::VecStoreByte16Rev {
         rd: c.reg(),
@@ -248,8 +249,8 @@ pub fn vec_store_byte16_rev(c: &mut Cursor) -> VecInst
     }
 }
 
-pub fn vec_store_byte32_rev(c: &mut Cursor) -> VecInst
-    ensures { vector_line result ≡ line_with LineName.VecStoreByte32Rev c.old }
+fn vec_store_byte32_rev(c: &mut Cursor) -> VecInst
+    ensures { vector_line result ≡ line_with (LineName.Vector VectorName.VecStoreByte32Rev) c.old }
 {
     VecInst::VecStoreByte32Rev {
         rd: c.reg(),
@@ -257,8 +258,8 @@ pub fn vec_store_byte32_rev(c: &mut Cursor) -> VecInst
     }
 }
 
-pub fn vec_store_byte64_rev(c: &mut Cursor) -> VecInst
-    ensures { vector_line result ≡ line_with LineName.VecStoreByte64Rev c.old }
+fn vec_store_byte64_rev(c: &mut Cursor) -> VecInst
+    ensures { vector_line result ≡ line_with (LineName.Vector VectorName.VecStoreByte64Rev) c.old }
 {
     VecInst::VecStoreByte64Rev {
         rd: c.reg(),
@@ -266,8 +267,8 @@ pub fn vec_store_byte64_rev(c: &mut Cursor) -> VecInst
     }
 }
 
-pub fn vec_store_elt16_rev(c: &mut Cursor) -> VecInst
-    ensures { vector_line result ≡ line_with LineName.VecStoreElt16Rev c.old }
+fn vec_store_elt16_rev(c: &mut Cursor) -> VecInst
+    ensures { vector_line result ≡ line_with (LineName.Vector VectorName.VecStoreElt16Rev) c.old }
 {
     VecInst::VecStoreElt16Rev {
         rd: c.reg(),
@@ -275,8 +276,8 @@ pub fn vec_store_elt16_rev(c: &mut Cursor) -> VecInst
     }
 }
 
-pub fn vec_store_elt32_rev(c: &mut Cursor) -> VecInst
-    ensures { vector_line result ≡ line_with LineName.VecStoreElt32Rev c.old }
+fn vec_store_elt32_rev(c: &mut Cursor) -> VecInst
+    ensures { vector_line result ≡ line_with (LineName.Vector VectorName.VecStoreElt32Rev) c.old }
 {
     VecInst::VecStoreElt32Rev {
         rd: c.reg(),
@@ -284,8 +285,8 @@ pub fn vec_store_elt32_rev(c: &mut Cursor) -> VecInst
     }
 }
 
-pub fn vec_store_elt64_rev(c: &mut Cursor) -> VecInst
-    ensures { vector_line result ≡ line_with LineName.VecStoreElt64Rev c.old }
+fn vec_store_elt64_rev(c: &mut Cursor) -> VecInst
+    ensures { vector_line result ≡ line_with (LineName.Vector VectorName.VecStoreElt64Rev) c.old }
 {
     VecInst::VecStoreElt64Rev {
         rd: c.reg(),
@@ -293,8 +294,8 @@ pub fn vec_store_elt64_rev(c: &mut Cursor) -> VecInst
     }
 }
 
-pub fn vec_load_replicate(c: &mut Cursor) -> VecInst
-    ensures { vector_line result ≡ line_with LineName.VecLoadReplicate c.old }
+fn vec_load_replicate(c: &mut Cursor) -> VecInst
+    ensures { vector_line result ≡ line_with (LineName.Vector VectorName.VecLoadReplicate) c.old }
 {
     VecInst::VecLoadReplicate {
         size: c.u32(),
@@ -303,8 +304,8 @@ pub fn vec_load_replicate(c: &mut Cursor) -> VecInst
     }
 }
 
-pub fn vec_load_replicate_rev(c: &mut Cursor) -> VecInst
-    ensures { vector_line result ≡ line_with LineName.VecLoadReplicateRev c.old }
+fn vec_load_replicate_rev(c: &mut Cursor) -> VecInst
+    ensures { vector_line result ≡ line_with (LineName.Vector VectorName.VecLoadReplicateRev) c.old }
 {
     VecInst::VecLoadReplicateRev {
         size: c.u32(),
@@ -313,8 +314,8 @@ pub fn vec_load_replicate_rev(c: &mut Cursor) -> VecInst
     }
 }
 
-pub fn vec_load_lane(c: &mut Cursor) -> VecInst
-    ensures { vector_line result ≡ line_with LineName.VecLoadLane c.old }
+fn vec_load_lane(c: &mut Cursor) -> VecInst
+    ensures { vector_line result ≡ line_with (LineName.Vector VectorName.VecLoadLane) c.old }
 {
     VecInst::VecLoadLane {
         size: c.u32(),
@@ -325,8 +326,8 @@ pub fn vec_load_lane(c: &mut Cursor) -> VecInst
     }
 }
 
-pub fn vec_load_lane_rev(c: &mut Cursor) -> VecInst
-    ensures { vector_line result ≡ line_with LineName.VecLoadLaneRev c.old }
+fn vec_load_lane_rev(c: &mut Cursor) -> VecInst
+    ensures { vector_line result ≡ line_with (LineName.Vector VectorName.VecLoadLaneRev) c.old }
 {
     VecInst::VecLoadLaneRev {
         size: c.u32(),
@@ -337,8 +338,8 @@ pub fn vec_load_lane_rev(c: &mut Cursor) -> VecInst
     }
 }
 
-pub fn vec_load_lane_undef(c: &mut Cursor) -> VecInst
-    ensures { vector_line result ≡ line_with LineName.VecLoadLaneUndef c.old }
+fn vec_load_lane_undef(c: &mut Cursor) -> VecInst
+    ensures { vector_line result ≡ line_with (LineName.Vector VectorName.VecLoadLaneUndef) c.old }
 {
     VecInst::VecLoadLaneUndef {
         size: c.u32(),
@@ -348,8 +349,8 @@ pub fn vec_load_lane_undef(c: &mut Cursor) -> VecInst
     }
 }
 
-pub fn vec_load_lane_rev_undef(c: &mut Cursor) -> VecInst
-    ensures { vector_line result ≡ line_with LineName.VecLoadLaneRevUndef c.old }
+fn vec_load_lane_rev_undef(c: &mut Cursor) -> VecInst
+    ensures { vector_line result ≡ line_with (LineName.Vector VectorName.VecLoadLaneRevUndef) c.old }
 {
     VecInst::VecLoadLaneRevUndef {
         size: c.u32(),
@@ -359,8 +360,8 @@ pub fn vec_load_lane_rev_undef(c: &mut Cursor) -> VecInst
     }
 }
 
-pub fn vec_store_lane(c: &mut Cursor) -> VecInst
-    ensures { vector_line result ≡ line_with LineName.VecStoreLane c.old }
+fn vec_store_lane(c: &mut Cursor) -> VecInst
+    ensures { vector_line result ≡ line_with (LineName.Vector VectorName.VecStoreLane) c.old }
 {
     VecInst::VecStoreLane {
         size: c.u32(),
@@ -370,8 +371,8 @@ pub fn vec_store_lane(c: &mut Cursor) -> VecInst
     }
 }
 
-pub fn vec_store_lane_rev(c: &mut Cursor) -> VecInst
-    ensures { vector_line result ≡ line_with LineName.VecStoreLaneRev c.old }
+fn vec_store_lane_rev(c: &mut Cursor) -> VecInst
+    ensures { vector_line result ≡ line_with (LineName.Vector VectorName.VecStoreLaneRev) c.old }
 {
     VecInst::VecStoreLaneRev {
         size: c.u32(),
@@ -381,8 +382,8 @@ pub fn vec_store_lane_rev(c: &mut Cursor) -> VecInst
     }
 }
 
-pub fn vec_mov(c: &mut Cursor) -> VecInst
-    ensures { vector_line result ≡ line_with LineName.VecMov c.old }
+fn vec_mov(c: &mut Cursor) -> VecInst
+    ensures { vector_line result ≡ line_with (LineName.Vector VectorName.VecMov) c.old }
 {
     VecInst::VecMov {
         rd: c.written(),
@@ -390,8 +391,8 @@ pub fn vec_mov(c: &mut Cursor) -> VecInst
     }
 }
 
-pub fn fpu_move32(c: &mut Cursor) -> VecInst
-    ensures { vector_line result ≡ line_with LineName.FpuMove32 c.old }
+fn fpu_move32(c: &mut Cursor) -> VecInst
+    ensures { vector_line result ≡ line_with (LineName.Vector VectorName.FpuMove32) c.old }
 {
     VecInst::FpuMove32 {
         rd: c.written(),
@@ -399,8 +400,8 @@ pub fn fpu_move32(c: &mut Cursor) -> VecInst
     }
 }
 
-pub fn fpu_move64(c: &mut Cursor) -> VecInst
-    ensures { vector_line result ≡ line_with LineName.FpuMove64 c.old }
+fn fpu_move64(c: &mut Cursor) -> VecInst
+    ensures { vector_line result ≡ line_with (LineName.Vector VectorName.FpuMove64) c.old }
 {
     VecInst::FpuMove64 {
         rd: c.written(),
@@ -408,8 +409,8 @@ pub fn fpu_move64(c: &mut Cursor) -> VecInst
     }
 }
 
-pub fn fpu_c_mov32(c: &mut Cursor) -> VecInst
-    ensures { vector_line result ≡ line_with LineName.FpuCMov32 c.old }
+fn fpu_c_mov32(c: &mut Cursor) -> VecInst
+    ensures { vector_line result ≡ line_with (LineName.Vector VectorName.FpuCMov32) c.old }
 {
     VecInst::FpuCMov32 {
         rd: c.written(),
@@ -419,8 +420,8 @@ pub fn fpu_c_mov32(c: &mut Cursor) -> VecInst
     }
 }
 
-pub fn fpu_c_mov64(c: &mut Cursor) -> VecInst
-    ensures { vector_line result ≡ line_with LineName.FpuCMov64 c.old }
+fn fpu_c_mov64(c: &mut Cursor) -> VecInst
+    ensures { vector_line result ≡ line_with (LineName.Vector VectorName.FpuCMov64) c.old }
 {
     VecInst::FpuCMov64 {
         rd: c.written(),
@@ -430,8 +431,8 @@ pub fn fpu_c_mov64(c: &mut Cursor) -> VecInst
     }
 }
 
-pub fn vec_c_mov(c: &mut Cursor) -> VecInst
-    ensures { vector_line result ≡ line_with LineName.VecCMov c.old }
+fn vec_c_mov(c: &mut Cursor) -> VecInst
+    ensures { vector_line result ≡ line_with (LineName.Vector VectorName.VecCMov) c.old }
 {
     VecInst::VecCMov {
         rd: c.written(),
@@ -441,8 +442,8 @@ pub fn vec_c_mov(c: &mut Cursor) -> VecInst
     }
 }
 
-pub fn mov_to_vec128(c: &mut Cursor) -> VecInst
-    ensures { vector_line result ≡ line_with LineName.MovToVec128 c.old }
+fn mov_to_vec128(c: &mut Cursor) -> VecInst
+    ensures { vector_line result ≡ line_with (LineName.Vector VectorName.MovToVec128) c.old }
 {
     VecInst::MovToVec128 {
         rd: c.written(),
@@ -451,8 +452,8 @@ pub fn mov_to_vec128(c: &mut Cursor) -> VecInst
     }
 }
 
-pub fn vec_imm_byte_mask(c: &mut Cursor) -> VecInst
-    ensures { vector_line result ≡ line_with LineName.VecImmByteMask c.old }
+fn vec_imm_byte_mask(c: &mut Cursor) -> VecInst
+    ensures { vector_line result ≡ line_with (LineName.Vector VectorName.VecImmByteMask) c.old }
 {
     VecInst::VecImmByteMask {
         rd: c.written(),
@@ -460,8 +461,8 @@ pub fn vec_imm_byte_mask(c: &mut Cursor) -> VecInst
     }
 }
 
-pub fn vec_imm_bit_mask(c: &mut Cursor) -> VecInst
-    ensures { vector_line result ≡ line_with LineName.VecImmBitMask c.old }
+fn vec_imm_bit_mask(c: &mut Cursor) -> VecInst
+    ensures { vector_line result ≡ line_with (LineName.Vector VectorName.VecImmBitMask) c.old }
 {
     VecInst::VecImmBitMask {
         size: c.u32(),
@@ -471,8 +472,8 @@ pub fn vec_imm_bit_mask(c: &mut Cursor) -> VecInst
     }
 }
 
-pub fn vec_imm_replicate(c: &mut Cursor) -> VecInst
-    ensures { vector_line result ≡ line_with LineName.VecImmReplicate c.old }
+fn vec_imm_replicate(c: &mut Cursor) -> VecInst
+    ensures { vector_line result ≡ line_with (LineName.Vector VectorName.VecImmReplicate) c.old }
 {
     VecInst::VecImmReplicate {
         size: c.u32(),
@@ -481,8 +482,8 @@ pub fn vec_imm_replicate(c: &mut Cursor) -> VecInst
     }
 }
 
-pub fn vec_insert_lane(c: &mut Cursor) -> VecInst
-    ensures { vector_line result ≡ line_with LineName.VecInsertLane c.old }
+fn vec_insert_lane(c: &mut Cursor) -> VecInst
+    ensures { vector_line result ≡ line_with (LineName.Vector VectorName.VecInsertLane) c.old }
 {
     VecInst::VecInsertLane {
         size: c.u32(),
@@ -494,8 +495,8 @@ pub fn vec_insert_lane(c: &mut Cursor) -> VecInst
     }
 }
 
-pub fn vec_insert_lane_undef(c: &mut Cursor) -> VecInst
-    ensures { vector_line result ≡ line_with LineName.VecInsertLaneUndef c.old }
+fn vec_insert_lane_undef(c: &mut Cursor) -> VecInst
+    ensures { vector_line result ≡ line_with (LineName.Vector VectorName.VecInsertLaneUndef) c.old }
 {
     VecInst::VecInsertLaneUndef {
         size: c.u32(),
@@ -506,8 +507,8 @@ pub fn vec_insert_lane_undef(c: &mut Cursor) -> VecInst
     }
 }
 
-pub fn vec_extract_lane(c: &mut Cursor) -> VecInst
-    ensures { vector_line result ≡ line_with LineName.VecExtractLane c.old }
+fn vec_extract_lane(c: &mut Cursor) -> VecInst
+    ensures { vector_line result ≡ line_with (LineName.Vector VectorName.VecExtractLane) c.old }
 {
     VecInst::VecExtractLane {
         size: c.u32(),
@@ -518,8 +519,8 @@ pub fn vec_extract_lane(c: &mut Cursor) -> VecInst
     }
 }
 
-pub fn vec_insert_lane_imm(c: &mut Cursor) -> VecInst
-    ensures { vector_line result ≡ line_with LineName.VecInsertLaneImm c.old }
+fn vec_insert_lane_imm(c: &mut Cursor) -> VecInst
+    ensures { vector_line result ≡ line_with (LineName.Vector VectorName.VecInsertLaneImm) c.old }
 {
     VecInst::VecInsertLaneImm {
         size: c.u32(),
@@ -530,8 +531,8 @@ pub fn vec_insert_lane_imm(c: &mut Cursor) -> VecInst
     }
 }
 
-pub fn vec_insert_lane_imm_undef(c: &mut Cursor) -> VecInst
-    ensures { vector_line result ≡ line_with LineName.VecInsertLaneImmUndef c.old }
+fn vec_insert_lane_imm_undef(c: &mut Cursor) -> VecInst
+    ensures { vector_line result ≡ line_with (LineName.Vector VectorName.VecInsertLaneImmUndef) c.old }
 {
     VecInst::VecInsertLaneImmUndef {
         size: c.u32(),
@@ -541,8 +542,8 @@ pub fn vec_insert_lane_imm_undef(c: &mut Cursor) -> VecInst
     }
 }
 
-pub fn vec_replicate_lane(c: &mut Cursor) -> VecInst
-    ensures { vector_line result ≡ line_with LineName.VecReplicateLane c.old }
+fn vec_replicate_lane(c: &mut Cursor) -> VecInst
+    ensures { vector_line result ≡ line_with (LineName.Vector VectorName.VecReplicateLane) c.old }
 {
     VecInst::VecReplicateLane {
         size: c.u32(),
@@ -552,12 +553,74 @@ pub fn vec_replicate_lane(c: &mut Cursor) -> VecInst
     }
 }
 
-pub fn vec_elt_rev(c: &mut Cursor) -> VecInst
-    ensures { vector_line result ≡ line_with LineName.VecEltRev c.old }
+fn vec_elt_rev(c: &mut Cursor) -> VecInst
+    ensures { vector_line result ≡ line_with (LineName.Vector VectorName.VecEltRev) c.old }
 {
     VecInst::VecEltRev {
         lane_count: c.u64(),
         rd: c.written(),
         rn: c.reg(),
+    }
+}
+
+/// The instruction of this name, whose fields come next.
+pub fn vector(name: VectorName, c: &mut Cursor) -> VecInst
+    ensures { vector_line result ≡ line_with (LineName.Vector name) c.old }
+{
+    match name {
+        VectorName::VecRRR => vec_rrr(c),
+        VectorName::VecRR => vec_rr(c),
+        VectorName::VecShiftRR => vec_shift_rr(c),
+        VectorName::VecSelect => vec_select(c),
+        VectorName::VecPermute => vec_permute(c),
+        VectorName::VecBlend => vec_blend(c),
+        VectorName::VecEvaluate => vec_evaluate(c),
+        VectorName::VecPermuteDWImm => vec_permute_dw_imm(c),
+        VectorName::VecIntCmp => vec_int_cmp(c),
+        VectorName::VecIntCmpS => vec_int_cmp_s(c),
+        VectorName::VecIntEltCmp => vec_int_elt_cmp(c),
+        VectorName::VecInt128SCmpHi => vec_int128_s_cmp_hi(c),
+        VectorName::VecInt128UCmpHi => vec_int128_u_cmp_hi(c),
+        VectorName::VecLoad => vec_load(c),
+        VectorName::VecLoadRev => vec_load_rev(c),
+        VectorName::VecLoadByte16Rev => vec_load_byte16_rev(c),
+        VectorName::VecLoadByte32Rev => vec_load_byte32_rev(c),
+        VectorName::VecLoadByte64Rev => vec_load_byte64_rev(c),
+        VectorName::VecLoadElt16Rev => vec_load_elt16_rev(c),
+        VectorName::VecLoadElt32Rev => vec_load_elt32_rev(c),
+        VectorName::VecLoadElt64Rev => vec_load_elt64_rev(c),
+        VectorName::VecStore => vec_store(c),
+        VectorName::VecStoreRev => vec_store_rev(c),
+        VectorName::VecStoreByte16Rev => vec_store_byte16_rev(c),
+        VectorName::VecStoreByte32Rev => vec_store_byte32_rev(c),
+        VectorName::VecStoreByte64Rev => vec_store_byte64_rev(c),
+        VectorName::VecStoreElt16Rev => vec_store_elt16_rev(c),
+        VectorName::VecStoreElt32Rev => vec_store_elt32_rev(c),
+        VectorName::VecStoreElt64Rev => vec_store_elt64_rev(c),
+        VectorName::VecLoadReplicate => vec_load_replicate(c),
+        VectorName::VecLoadReplicateRev => vec_load_replicate_rev(c),
+        VectorName::VecLoadLane => vec_load_lane(c),
+        VectorName::VecLoadLaneRev => vec_load_lane_rev(c),
+        VectorName::VecLoadLaneUndef => vec_load_lane_undef(c),
+        VectorName::VecLoadLaneRevUndef => vec_load_lane_rev_undef(c),
+        VectorName::VecStoreLane => vec_store_lane(c),
+        VectorName::VecStoreLaneRev => vec_store_lane_rev(c),
+        VectorName::VecMov => vec_mov(c),
+        VectorName::FpuMove32 => fpu_move32(c),
+        VectorName::FpuMove64 => fpu_move64(c),
+        VectorName::FpuCMov32 => fpu_c_mov32(c),
+        VectorName::FpuCMov64 => fpu_c_mov64(c),
+        VectorName::VecCMov => vec_c_mov(c),
+        VectorName::MovToVec128 => mov_to_vec128(c),
+        VectorName::VecImmByteMask => vec_imm_byte_mask(c),
+        VectorName::VecImmBitMask => vec_imm_bit_mask(c),
+        VectorName::VecImmReplicate => vec_imm_replicate(c),
+        VectorName::VecInsertLane => vec_insert_lane(c),
+        VectorName::VecInsertLaneUndef => vec_insert_lane_undef(c),
+        VectorName::VecExtractLane => vec_extract_lane(c),
+        VectorName::VecInsertLaneImm => vec_insert_lane_imm(c),
+        VectorName::VecInsertLaneImmUndef => vec_insert_lane_imm_undef(c),
+        VectorName::VecReplicateLane => vec_replicate_lane(c),
+        VectorName::VecEltRev => vec_elt_rev(c),
     }
 }
