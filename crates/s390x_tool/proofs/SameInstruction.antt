@@ -6,17 +6,20 @@ use Rattle.s390x_base.specs.declared.ir.MachLabel.{MachLabel}
 use Rattle.s390x_base.specs.declared.error.EmitError.{EmitError}
 use Rattle.s390x_base.specs.declared.error.EmitError.TheVariants.{BadOperator, BadRegister}
 use Rattle.s390x_inst.specs.declared.inst.Inst.{Inst}
-use Rattle.s390x_inst.specs.declared.inst.Inst.TheVariants.{AluRRR, Mov64, Jump, CondBr, Ret, CondBreak, Vector}
+use Rattle.s390x_inst.specs.declared.inst.Inst.TheVariants.{AluRRR, AluRR, UnaryRR, CmpRR, Mov64, MovPReg, Mov32, Jump, CondBr, Ret, CondBreak, Vector}
 use Rattle.s390x_inst.specs.declared.vec_inst.VecInst.{VecInst}
 use Rattle.s390x_inst.specs.declared.vec_inst.VecInst.TheVariants.{VecRR}
 use Rattle.s390x_steps.specs.MachineInstruction.{rr}
-use Rattle.s390x_steps.specs.Causes.{first, unless, is_general, is_nonzero, labels_cause, instruction_cause}
+use Rattle.s390x_steps.specs.Causes.{first, unless, labels_cause, instruction_cause}
+use Rattle.s390x_steps.specs.General.{is_general, is_nonzero}
 use Rattle.s390x_steps.specs.Parts.{Part, Row, step_parts}
 use Rattle.s390x_steps.specs.Steps.{step_of}
 use Rattle.s390x_steps.specs.Ranges.{InRange}
-use Rattle.s390x_job.specs.Fields.{Field, FAlu, FReg, FNatural, FLabels, FCond}
+use Rattle.s390x_job.specs.Fields.{Field, FAlu, FUnary, FCmp, FReg, FReal, FNatural, FLabels, FCond}
 use Rattle.s390x_job.specs.Line.{Line}
 use Rattle.s390x_job.specs.Instructions.{inst_line, vector_line}
+use Rattle.s390x_job.specs.declared.inst_name.IntegerName.TheVariants as IntegerIs
+use Rattle.s390x_job.specs.declared.inst_name.ControlName.TheVariants as ControlIs
 use Rattle.s390x_job.specs.declared.name.LineName.{LineName}
 use Rattle.s390x_job.specs.declared.name.LineName.TheVariants as N
 
@@ -32,13 +35,18 @@ named n = record { 0 = n }
 
 -- a clause for each instruction that is built
 abbrev pub reading : LineName → List Field → Reading
-reading N.AluRRR (FAlu op ∷ FReg rd ∷ FReg rn ∷ FReg rm ∷ []) = Whole (AluRRR op rd rn rm)
-reading N.Mov64 (FReg rd ∷ FReg rm ∷ []) = Whole (Mov64 rd rm)
-reading N.Jump (FNatural w dest ∷ []) = Whole (Jump (named dest))
-reading N.CondBr (FNatural v taken ∷ FNatural w not_taken ∷ FCond mask ∷ []) = Whole (CondBr (named taken) (named not_taken) mask)
-reading N.IndirectBr (FReg rn ∷ FLabels targets ∷ []) = Picks rn targets
-reading N.Ret (FReg link ∷ []) = Whole (Ret link)
-reading N.CondBreak (FCond mask ∷ []) = Whole (CondBreak mask)
+reading (N.Integer IntegerIs.AluRRR) (FAlu op ∷ FReg rd ∷ FReg rn ∷ FReg rm ∷ []) = Whole (AluRRR op rd rn rm)
+reading (N.Integer IntegerIs.AluRR) (FAlu op ∷ FReg rd ∷ FReg ri ∷ FReg rm ∷ []) = Whole (AluRR op rd ri rm)
+reading (N.Integer IntegerIs.UnaryRR) (FUnary op ∷ FReg rd ∷ FReg rn ∷ []) = Whole (UnaryRR op rd rn)
+reading (N.Integer IntegerIs.CmpRR) (FCmp op ∷ FReg rn ∷ FReg rm ∷ []) = Whole (CmpRR op rn rm)
+reading (N.Integer IntegerIs.Mov64) (FReg rd ∷ FReg rm ∷ []) = Whole (Mov64 rd rm)
+reading (N.Integer IntegerIs.MovPReg) (FReg rd ∷ FReal rm ∷ []) = Whole (MovPReg rd rm)
+reading (N.Integer IntegerIs.Mov32) (FReg rd ∷ FReg rm ∷ []) = Whole (Mov32 rd rm)
+reading (N.Control ControlIs.Jump) (FNatural w dest ∷ []) = Whole (Jump (named dest))
+reading (N.Control ControlIs.CondBr) (FNatural v taken ∷ FNatural w not_taken ∷ FCond mask ∷ []) = Whole (CondBr (named taken) (named not_taken) mask)
+reading (N.Control ControlIs.IndirectBr) (FReg rn ∷ FLabels targets ∷ []) = Picks rn targets
+reading (N.Control ControlIs.Ret) (FReg link ∷ []) = Whole (Ret link)
+reading (N.Control ControlIs.CondBreak) (FCond mask ∷ []) = Whole (CondBreak mask)
 reading name fields = Other
 
 abbrev pub line_reading : Line → Reading

@@ -7,6 +7,8 @@ pub mod ends;
 pub mod in_memory;
 pub mod input;
 pub mod output;
+#[cfg(test)]
+mod register_rows;
 pub mod reply;
 pub mod standard;
 pub mod status;

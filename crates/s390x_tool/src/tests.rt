@@ -1,5 +1,6 @@
 //! Whole runs over sources and sinks in memory.
 use crate::emitted::emitted_text;
+use crate::register_rows::REGISTER_ROWS;
 use crate::{BytesSink, BytesSource, Status, run};
 use s390x_base::{ExternalName, Reloc, TrapCode};
 use s390x_buffer::{
@@ -204,6 +205,12 @@ fn images(rt: HostRuntime) -> Result<(), Fail> {
         ),
         (
             "image 4096",
+            "block\nAluRR Add64 %r2 %r3 %r4\nend\n",
+            Status::Refused,
+            "refused BadRegister\n",
+        ),
+        (
+            "image 4096",
             "const 3 00\nblock\nRet %r14\nend\n",
             Status::Refused,
             "refused BadAlignment\n",
@@ -225,6 +232,22 @@ fn images(rt: HostRuntime) -> Result<(), Fail> {
         expect(&rt, words, input, GOOD, (status, told))?;
     }
     Ok(())
+}
+
+#[test]
+fn instructions_on_registers(rt: HostRuntime) -> Result<(), Fail> {
+    let alloc = rt.alloc();
+    let mut text = String::from_str(alloc, "block\n")?;
+    let mut code = String::new(alloc);
+    for (line, hex) in REGISTER_ROWS {
+        text.push_str(line)?;
+        text.push_str("\n")?;
+        code.push_str(hex)?;
+    }
+    text.push_str("end\n")?;
+    code.push_str("\n")?;
+    let input = Vec::from_slice(alloc, text.as_bytes())?;
+    expect(&rt, "image 4096", input, GOOD, (Status::Ok, code.as_str()))
 }
 
 /// A block of so many loops, each in the one before.
