@@ -1,18 +1,19 @@
-//! Instructions that are one machine instruction on general registers.
-ghost use Rattle.std.specs.Prelude.{◌≡◌, ◌≤◌, ◌&&◌, Some, IfOk, nat_eq};
+//! Instructions that are one machine instruction on general registers and immediates.
+ghost use Rattle.std.specs.Prelude.{◌≡◌, ◌≤◌, ◌<◌, ◌&&◌, Some, IfOk, nat_eq, pos};
 ghost use Rattle.std.specs.Option.{option_map};
 ghost use Rattle.s390x_base.specs.Regs.{number_of};
-ghost use Rattle.s390x_steps.specs.General.{is_general, reuses};
+ghost use Rattle.s390x_steps.specs.General.{is_general, reuses, low_halfword, low_word};
 ghost use Rattle.s390x_steps.specs.MachineInstruction.{bytes_of, size_of};
-ghost use Rattle.s390x_steps.specs.Opcodes.{alu_three, alu_two, cmp_two, unary_two};
-ghost use Rattle.s390x_steps.specs.Alone.{alone, alone_with, two_operands, two_row, three_row};
-ghost use Rattle.s390x_emit_int.specs.Alone.{instruction_of, alone_of};
+ghost use Rattle.s390x_steps.specs.Opcodes.{alu_three, alu_two, cmp_two, unary_two, alu_halfword, alu_three_halfword, alu_signed_word, alu_unsigned_word, cmp_halfword, cmp_signed_word, cmp_unsigned_word};
+ghost use Rattle.s390x_steps.specs.Alone.{alone, alone_with, two_operands, two_row, three_row, halfword_row, word_row, three_halfword_row};
+ghost use Rattle.s390x_emit_int.specs.Alone.{instruction_of, alone_of, opcode_of};
 
+use crate::opcode::ShortOpcode;
 use s390x_base::{Code, EmitError, Reg, RegClass};
-use s390x_enc::{enc_rr, enc_rre, enc_rrf_ab};
+use s390x_enc::{enc_ri_a, enc_rie_d, enc_ril_a, enc_rr, enc_rre, enc_rrf_ab};
 use s390x_inst::{ALUOp, CmpOp, Inst, UnaryOp};
 
-/// A machine instruction on general registers, in its format.
+/// A machine instruction on general registers and an immediate, in its format.
 #[derive(Clone, Copy)]
 pub enum RegisterRow {
     Rr {
@@ -30,6 +31,22 @@ pub enum RegisterRow {
         r1: Reg,
         r2: Reg,
         r3: Reg,
+    },
+    RiA {
+        opcode: ShortOpcode,
+        r1: Reg,
+        imm: u16,
+    },
+    RieD {
+        opcode: u16,
+        r1: Reg,
+        r3: Reg,
+        imm: u16,
+    },
+    RilA {
+        opcode: ShortOpcode,
+        r1: Reg,
+        imm: u32,
     },
 }
 
@@ -50,6 +67,14 @@ impl RegisterRow {
             RegisterRow::Rr { opcode, r1, r2 } => enc_rr(u16::from(*opcode), *r1, *r2),
             RegisterRow::Rre { opcode, r1, r2 } => enc_rre(*opcode, *r1, *r2),
             RegisterRow::RrfAb { opcode, r1, r2, r3 } => enc_rrf_ab(*opcode, *r1, *r2, *r3, 0),
+            RegisterRow::RiA { opcode, r1, imm } => enc_ri_a(opcode.value, *r1, *imm),
+            RegisterRow::RieD {
+                opcode,
+                r1,
+                r3,
+                imm,
+            } => enc_rie_d(*opcode, *r1, *r3, *imm),
+            RegisterRow::RilA { opcode, r1, imm } => enc_ril_a(opcode.value, *r1, *imm),
         }
     }
 
@@ -61,7 +86,8 @@ impl RegisterRow {
     {
         match self {
             RegisterRow::Rr { .. } => 2,
-            RegisterRow::Rre { .. } | RegisterRow::RrfAb { .. } => 4,
+            RegisterRow::Rre { .. } | RegisterRow::RrfAb { .. } | RegisterRow::RiA { .. } => 4,
+            RegisterRow::RieD { .. } | RegisterRow::RilA { .. } => 6,
         }
     }
 }
@@ -250,6 +276,162 @@ fn shorter_row(three: u16, two: u16, rd: Reg, rn: Reg, rm: Reg) -> RegisterRow
     }
 }
 
+fn short(value: u16) -> ShortOpcode
+    requires { value < 4096 }
+    ensures { opcode_of result ≡ value }
+{
+    ShortOpcode { value }
+}
+
+// The opcodes of an operator's rows with an immediate.
+fn halfword_opcode(op: ALUOp) -> Option<ShortOpcode>
+    ensures { option_map opcode_of result ≡ alu_halfword op }
+{
+    match op {
+        ALUOp::Add32 => Some(short(0xa7a)),
+        ALUOp::Add64 => Some(short(0xa7b)),
+        ALUOp::Mul32 => Some(short(0xa7c)),
+        ALUOp::Mul64 => Some(short(0xa7d)),
+        _ => None,
+    }
+}
+
+fn three_halfword_opcode(op: ALUOp) -> Option<u16>
+    ensures { result ≡ alu_three_halfword op }
+{
+    match op {
+        ALUOp::Add32 => Some(0xecd8),
+        ALUOp::Add64 => Some(0xecd9),
+        _ => None,
+    }
+}
+
+fn signed_word_opcode(op: ALUOp) -> Option<ShortOpcode>
+    ensures { option_map opcode_of result ≡ alu_signed_word op }
+{
+    match op {
+        ALUOp::Add32 => Some(short(0xc29)),
+        ALUOp::Add64 => Some(short(0xc28)),
+        ALUOp::Mul32 => Some(short(0xc21)),
+        ALUOp::Mul64 => Some(short(0xc20)),
+        _ => None,
+    }
+}
+
+fn unsigned_word_opcode(op: ALUOp) -> Option<ShortOpcode>
+    ensures { option_map opcode_of result ≡ alu_unsigned_word op }
+{
+    match op {
+        ALUOp::AddLogical32 => Some(short(0xc2b)),
+        ALUOp::AddLogical64 => Some(short(0xc2a)),
+        ALUOp::SubLogical32 => Some(short(0xc25)),
+        ALUOp::SubLogical64 => Some(short(0xc24)),
+        _ => None,
+    }
+}
+
+fn compare_halfword_opcode(op: CmpOp) -> Option<ShortOpcode>
+    ensures { option_map opcode_of result ≡ cmp_halfword op }
+{
+    match op {
+        CmpOp::CmpS32 => Some(short(0xa7e)),
+        CmpOp::CmpS64 => Some(short(0xa7f)),
+        _ => None,
+    }
+}
+
+fn compare_signed_word_opcode(op: CmpOp) -> Option<ShortOpcode>
+    ensures { option_map opcode_of result ≡ cmp_signed_word op }
+{
+    match op {
+        CmpOp::CmpS32 => Some(short(0xc2d)),
+        CmpOp::CmpS64 => Some(short(0xc2c)),
+        _ => None,
+    }
+}
+
+fn compare_unsigned_word_opcode(op: CmpOp) -> Option<ShortOpcode>
+    ensures { option_map opcode_of result ≡ cmp_unsigned_word op }
+{
+    match op {
+        CmpOp::CmpL32 => Some(short(0xc2f)),
+        CmpOp::CmpL64 => Some(short(0xc2e)),
+        _ => None,
+    }
+}
+
+// The bits of an immediate.
+fn bits_of_halfword(imm: i16) -> u16
+    ensures { result ≡ low_halfword imm }
+{
+    i32::from(imm).rem_euclid(65536) as u16
+}
+
+fn bits_of_word(imm: i32) -> u32
+    ensures { result ≡ low_word imm }
+{
+    i64::from(imm).rem_euclid(4294967296) as u32
+}
+
+fn bits_of_unsigned(imm: u32) -> u32
+    ensures { result ≡ low_word (pos imm) }
+{
+    imm
+}
+
+fn halfword_row(opcode: Option<ShortOpcode>, r1: Reg, imm: u16) -> Option<RegisterRow>
+    ensures { option_map instruction_of result ≡ halfword_row (option_map opcode_of opcode) (number_of r1) imm }
+{
+    match opcode {
+        Some(opcode) => Some(RegisterRow::RiA { opcode, r1, imm }),
+        None => None,
+    }
+}
+
+fn word_row(opcode: Option<ShortOpcode>, r1: Reg, imm: u32) -> Option<RegisterRow>
+    ensures { option_map instruction_of result ≡ word_row (option_map opcode_of opcode) (number_of r1) imm }
+{
+    match opcode {
+        Some(opcode) => Some(RegisterRow::RilA { opcode, r1, imm }),
+        None => None,
+    }
+}
+
+// Into another register, or two operands where the input is the output.
+fn three_halfword_row(op: ALUOp, rd: Reg, rn: Reg, imm: u16) -> Option<RegisterRow>
+    ensures { option_map instruction_of result ≡ three_halfword_row (alu_three_halfword op) (alu_halfword op) (number_of rd) (number_of rn) imm }
+{
+    let three = three_halfword_opcode(op)?;
+    match halfword_opcode(op) {
+        Some(two) => Some(shorter_halfword_row(three, two, rd, rn, imm)),
+        None => Some(RegisterRow::RieD {
+            opcode: three,
+            r1: rd,
+            r3: rn,
+            imm,
+        }),
+    }
+}
+
+fn shorter_halfword_row(three: u16, two: ShortOpcode, rd: Reg, rn: Reg, imm: u16) -> RegisterRow
+    ensures { Some (instruction_of result) ≡ three_halfword_row (Some three) (Some (opcode_of two)) (number_of rd) (number_of rn) imm }
+{
+    if same_number(&rd, &rn) {
+        RegisterRow::RiA {
+            opcode: two,
+            r1: rd,
+            imm,
+        }
+    } else {
+        RegisterRow::RieD {
+            opcode: three,
+            r1: rd,
+            r3: rn,
+            imm,
+        }
+    }
+}
+
 fn alone_with(fine: bool, row: Option<RegisterRow>) -> Option<Alone>
     ensures { option_map alone_of result ≡ alone_with fine (option_map instruction_of row) }
 {
@@ -291,6 +473,82 @@ pub fn find_alone(inst: &Inst) -> Option<Alone>
         Inst::Mov32 { rd, rm } => alone_with(
             two_general(&rd.to_reg(), rm),
             two_row(Some(0x18), rd.to_reg(), *rm),
+        ),
+        Inst::AluRRSImm16 {
+            alu_op,
+            rd,
+            rn,
+            imm,
+        } => alone_with(
+            two_general(&rd.to_reg(), rn),
+            three_halfword_row(*alu_op, rd.to_reg(), *rn, bits_of_halfword(*imm)),
+        ),
+        Inst::AluRSImm16 {
+            alu_op,
+            rd,
+            ri,
+            imm,
+        } => alone_with(
+            is_reused(&rd.to_reg(), ri),
+            halfword_row(
+                halfword_opcode(*alu_op),
+                rd.to_reg(),
+                bits_of_halfword(*imm),
+            ),
+        ),
+        Inst::AluRSImm32 {
+            alu_op,
+            rd,
+            ri,
+            imm,
+        } => alone_with(
+            is_reused(&rd.to_reg(), ri),
+            word_row(signed_word_opcode(*alu_op), rd.to_reg(), bits_of_word(*imm)),
+        ),
+        Inst::AluRUImm32 {
+            alu_op,
+            rd,
+            ri,
+            imm,
+        } => alone_with(
+            is_reused(&rd.to_reg(), ri),
+            word_row(
+                unsigned_word_opcode(*alu_op),
+                rd.to_reg(),
+                bits_of_unsigned(*imm),
+            ),
+        ),
+        Inst::CmpRSImm16 { op, rn, imm } => alone_with(
+            general(rn),
+            halfword_row(compare_halfword_opcode(*op), *rn, bits_of_halfword(*imm)),
+        ),
+        Inst::CmpRSImm32 { op, rn, imm } => alone_with(
+            general(rn),
+            word_row(compare_signed_word_opcode(*op), *rn, bits_of_word(*imm)),
+        ),
+        Inst::CmpRUImm32 { op, rn, imm } => alone_with(
+            general(rn),
+            word_row(
+                compare_unsigned_word_opcode(*op),
+                *rn,
+                bits_of_unsigned(*imm),
+            ),
+        ),
+        Inst::Mov32Imm { rd, imm } => alone_with(
+            general(&rd.to_reg()),
+            word_row(Some(short(0xc09)), rd.to_reg(), bits_of_unsigned(*imm)),
+        ),
+        Inst::Mov32SImm16 { rd, imm } => alone_with(
+            general(&rd.to_reg()),
+            halfword_row(Some(short(0xa78)), rd.to_reg(), bits_of_halfword(*imm)),
+        ),
+        Inst::Mov64SImm16 { rd, imm } => alone_with(
+            general(&rd.to_reg()),
+            halfword_row(Some(short(0xa79)), rd.to_reg(), bits_of_halfword(*imm)),
+        ),
+        Inst::Mov64SImm32 { rd, imm } => alone_with(
+            general(&rd.to_reg()),
+            word_row(Some(short(0xc01)), rd.to_reg(), bits_of_word(*imm)),
         ),
         _ => None,
     }

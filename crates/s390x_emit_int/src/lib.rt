@@ -7,6 +7,7 @@ pub mod check;
 pub mod function;
 pub mod headline;
 pub mod leaf;
+pub mod opcode;
 pub mod tree;
 
 pub use function::emit_function;

@@ -1,7 +1,7 @@
--- The rows of the instructions that are one machine instruction on registers: each is listed, and does its instruction's operation.
-use Rattle.std.proofs.Common.{◌≡◌, ℕ, ◌%◌, ◌<◌, [], ◌∷◌, Option, Some, None, Bool, true, false, cond, refl, ap, ◌∙◌, subst, arith, nat_lt, ltb-true}
+-- The rows of the instructions that are one machine instruction on registers and immediates: each is listed, and does its instruction's operation.
+use Rattle.std.proofs.Common.{◌≡◌, ℕ, ◌%◌, ◌<◌, [], ◌∷◌, Option, Some, None, Bool, true, false, cond, refl, ap, ◌∙◌, subst, arith, nat_lt, ltb-true, pos, ◌^◌}
 use Rattle.s390x_format.specs.declared.kind.FormatKind.{FormatKind}
-use Rattle.s390x_format.specs.declared.kind.FormatKind.TheVariants.{Rr, Rre, RrfAb}
+use Rattle.s390x_format.specs.declared.kind.FormatKind.TheVariants.{Rr, Rre, RrfAb, RiA, RieD, RilA}
 use Rattle.s390x_format.specs.declared.row.Allowed.{Allowed}
 use Rattle.s390x_format.specs.declared.row.Allowed.TheVariants.{Any, FirstMask}
 use Rattle.s390x_format.specs.Formats.{length_of}
@@ -18,13 +18,15 @@ use Rattle.s390x_inst.specs.declared.ops.CmpOp.{CmpOp}
 use Rattle.s390x_inst.specs.declared.ops.CmpOp.TheVariants as C
 use Rattle.s390x_inst.specs.declared.ops.UnaryOp.{UnaryOp}
 use Rattle.s390x_inst.specs.declared.ops.UnaryOp.TheVariants as U
-use Rattle.s390x_steps.specs.Opcodes.{alu_three, alu_two, cmp_two, unary_two}
+use Rattle.s390x_steps.specs.Opcodes.{alu_three, alu_two, cmp_two, unary_two, alu_halfword, alu_three_halfword, alu_signed_word, alu_unsigned_word, cmp_halfword, cmp_signed_word, cmp_unsigned_word}
 use Rattle.s390x_steps.specs.Alone.{two_operands}
-use Rattle.s390x_steps.specs.MachineInstruction.{MachineInstruction, bytes_of, size_of, rr, rre, rrf_ab}
+use Rattle.s390x_steps.specs.MachineInstruction.{MachineInstruction, bytes_of, size_of, rr, rre, rrf_ab, ri_a, rie_d, ril_a}
 use Rattle.s390x_operations.specs.State.{Registers, Core, State, sum64}
 use Rattle.s390x_operations.specs.Effects.{CodeAfter, Refines}
 use Rattle.s390x_operations.specs.declared.stop.ConditionCode.{ConditionCode}
 use Rattle.s390x_operations.specs.declared.effect.Effect.{Effect}
+use Rattle.s390x_operations.specs.Numbers.{low}
+use Rattle.s390x_operations.specs.declared.size.Size.TheVariants.{Doubleword}
 use Rattle.s390x_operations.specs.declared.effect.CodeRule.{CodeRule}
 use Rattle.s390x_operations.specs.declared.effect.CodeRule.TheVariants.{Kept, Set, Unstated}
 use Rattle.s390x_operations.specs.declared.effect.Operation.{Operation}
@@ -32,17 +34,17 @@ use Rattle.s390x_operations.specs.declared.operator.Operator.TheVariants.{Move}
 use Rattle.s390x_machine.specs.declared.meaning.Meaning.{Meaning}
 use Rattle.s390x_machine.specs.declared.meaning.Meaning.TheVariants.{Compute, Compare}
 use Rattle.s390x_machine.specs.declared.meaning.Shape.{Shape}
-use Rattle.s390x_machine.specs.declared.meaning.Shape.TheVariants.{Register, ThreeRegisters}
+use Rattle.s390x_machine.specs.declared.meaning.Shape.TheVariants.{Register, ThreeRegisters, Immediate, ThreeImmediate}
 use Rattle.s390x_machine.specs.declared.meaning.SecondOperand.{SecondOperand}
 use Rattle.s390x_machine.specs.declared.meaning.Action.TheVariants.{Perform}
-use Rattle.s390x_machine.specs.Computations.{Second, Computation, alu_computation, alu_three_rule, alu_two_rule, unary_computation, unary_rule, comparison, on_words, on_doublewords, with_rule}
+use Rattle.s390x_machine.specs.Computations.{Second, Computation, Comparison, alu_computation, alu_three_rule, alu_two_rule, unary_computation, unary_rule, comparison, on_words, on_doublewords, word, signed_word, signed_halfword, on_immediate, compares_on_immediate, computes_immediate, compares_immediate, with_rule}
 use Rattle.s390x_machine.specs.Fetch.{Found}
 use Rattle.s390x_machine.specs.Machine.{Event, Acts, RowActs, FetchedActs}
 use Rattle.s390x_machine.specs.Meanings.{action, meaning_in, meaning_of}
 use Rattle.s390x_machine.specs.Layout.{Layout}
 use Rattle.s390x_machine.specs.Placed.{AllPlaced}
 use Rattle.s390x_machine.proofs.Fetching.{StandsAt, row_at}
-use Rattle.s390x_machine.proofs.Rows.{fits_rr, fits_rre, fits_rrf_ab}
+use Rattle.s390x_machine.proofs.Rows.{fits_rr, fits_rre, fits_rrf_ab, fits_ri_a, fits_rie_d, fits_ril_a}
 use Rattle.s390x_machine.proofs.Simulation.{RowAt}
 
 -- a register as the second operand of a row
@@ -161,6 +163,97 @@ pub lr_row : TwoRow 0x18 (computed (on_words Move) Register Kept)
 unfolding machine_rows row_for meaning_in meaning_of
 lr_row = record { some = omega arith; few = omega arith; lists = (refl, refl, refl); means = refl }
 
+-- ---- rows of a register and an immediate
+
+-- a row of these bits with a meaning; the immediate's rows of 16 and 32 bits have opcodes of three digits
+pub record ImmediateRow (kind : FormatKind) (digits opcode : ℕ) (meaning : Meaning) : Type 0 where
+  pub some : 0 < opcode
+  pub few : opcode < digits
+  pub lists : Lists opcode kind Any
+  pub means : meaning_of opcode ≡ Some meaning
+
+abbrev pub ImmediateRows : FormatKind → ℕ → Option ℕ → Meaning → Type 0
+ImmediateRows kind digits None meaning = Unit {0}
+ImmediateRows kind digits (Some opcode) meaning = ImmediateRow kind digits opcode meaning
+
+-- an operator's meaning with an immediate that is read like this
+abbrev pub computed_immediate : Computation → Second → Shape → CodeRule → Meaning
+computed_immediate c second shape rule = computed (on_immediate c second) shape rule
+
+abbrev pub compared : Comparison → Meaning
+compared c = Compare c.sign c.size (second_register Immediate c.second)
+
+pub halfword_rows : (op : ALUOp) → ImmediateRows RiA 4096 (alu_halfword op) (computed_immediate (alu_computation op) signed_halfword Immediate (alu_two_rule op))
+unfolding machine_rows row_for meaning_in meaning_of
+halfword_rows A.Add32 = record { some = omega arith; few = omega arith; lists = (refl, refl, refl); means = refl }
+halfword_rows A.Add64 = record { some = omega arith; few = omega arith; lists = (refl, refl, refl); means = refl }
+halfword_rows A.Mul32 = record { some = omega arith; few = omega arith; lists = (refl, refl, refl); means = refl }
+halfword_rows A.Mul64 = record { some = omega arith; few = omega arith; lists = (refl, refl, refl); means = refl }
+halfword_rows _ = tt
+
+pub three_halfword_rows : (op : ALUOp) → ImmediateRows RieD 65536 (alu_three_halfword op) (computed_immediate (alu_computation op) signed_halfword ThreeImmediate (alu_two_rule op))
+unfolding machine_rows row_for meaning_in meaning_of
+three_halfword_rows A.Add32 = record { some = omega arith; few = omega arith; lists = (refl, refl, refl); means = refl }
+three_halfword_rows A.Add64 = record { some = omega arith; few = omega arith; lists = (refl, refl, refl); means = refl }
+three_halfword_rows _ = tt
+
+pub signed_word_rows : (op : ALUOp) → ImmediateRows RilA 4096 (alu_signed_word op) (computed_immediate (alu_computation op) signed_word Immediate (alu_two_rule op))
+unfolding machine_rows row_for meaning_in meaning_of
+signed_word_rows A.Add32 = record { some = omega arith; few = omega arith; lists = (refl, refl, refl); means = refl }
+signed_word_rows A.Add64 = record { some = omega arith; few = omega arith; lists = (refl, refl, refl); means = refl }
+signed_word_rows A.Mul32 = record { some = omega arith; few = omega arith; lists = (refl, refl, refl); means = refl }
+signed_word_rows A.Mul64 = record { some = omega arith; few = omega arith; lists = (refl, refl, refl); means = refl }
+signed_word_rows _ = tt
+
+pub unsigned_word_rows : (op : ALUOp) → ImmediateRows RilA 4096 (alu_unsigned_word op) (computed_immediate (alu_computation op) word Immediate (alu_two_rule op))
+unfolding machine_rows row_for meaning_in meaning_of
+unsigned_word_rows A.AddLogical32 = record { some = omega arith; few = omega arith; lists = (refl, refl, refl); means = refl }
+unsigned_word_rows A.AddLogical64 = record { some = omega arith; few = omega arith; lists = (refl, refl, refl); means = refl }
+unsigned_word_rows A.SubLogical32 = record { some = omega arith; few = omega arith; lists = (refl, refl, refl); means = refl }
+unsigned_word_rows A.SubLogical64 = record { some = omega arith; few = omega arith; lists = (refl, refl, refl); means = refl }
+unsigned_word_rows _ = tt
+
+pub cmp_halfword_rows : (op : CmpOp) → ImmediateRows RiA 4096 (cmp_halfword op) (compared (compares_on_immediate (comparison op) signed_halfword))
+unfolding machine_rows row_for meaning_in meaning_of
+cmp_halfword_rows C.CmpS32 = record { some = omega arith; few = omega arith; lists = (refl, refl, refl); means = refl }
+cmp_halfword_rows C.CmpS64 = record { some = omega arith; few = omega arith; lists = (refl, refl, refl); means = refl }
+cmp_halfword_rows _ = tt
+
+pub cmp_signed_word_rows : (op : CmpOp) → ImmediateRows RilA 4096 (cmp_signed_word op) (compared (compares_on_immediate (comparison op) signed_word))
+unfolding machine_rows row_for meaning_in meaning_of
+cmp_signed_word_rows C.CmpS32 = record { some = omega arith; few = omega arith; lists = (refl, refl, refl); means = refl }
+cmp_signed_word_rows C.CmpS64 = record { some = omega arith; few = omega arith; lists = (refl, refl, refl); means = refl }
+cmp_signed_word_rows _ = tt
+
+pub cmp_unsigned_word_rows : (op : CmpOp) → ImmediateRows RilA 4096 (cmp_unsigned_word op) (compared (compares_on_immediate (comparison op) word))
+unfolding machine_rows row_for meaning_in meaning_of
+cmp_unsigned_word_rows C.CmpL32 = record { some = omega arith; few = omega arith; lists = (refl, refl, refl); means = refl }
+cmp_unsigned_word_rows C.CmpL64 = record { some = omega arith; few = omega arith; lists = (refl, refl, refl); means = refl }
+cmp_unsigned_word_rows _ = tt
+
+pub iilf_row : ImmediateRow RilA 4096 0xc09 (computed (on_words Move) Immediate Kept)
+unfolding machine_rows row_for meaning_in meaning_of
+iilf_row = record { some = omega arith; few = omega arith; lists = (refl, refl, refl); means = refl }
+
+pub lhi_row : ImmediateRow RiA 4096 0xa78 (computed_immediate (on_words Move) signed_halfword Immediate Kept)
+unfolding machine_rows row_for meaning_in meaning_of
+lhi_row = record { some = omega arith; few = omega arith; lists = (refl, refl, refl); means = refl }
+
+pub lghi_row : ImmediateRow RiA 4096 0xa79 (computed_immediate (on_doublewords Move) signed_halfword Immediate Kept)
+unfolding machine_rows row_for meaning_in meaning_of
+lghi_row = record { some = omega arith; few = omega arith; lists = (refl, refl, refl); means = refl }
+
+pub lgfi_row : ImmediateRow RilA 4096 0xc01 (computed_immediate (on_doublewords Move) signed_word Immediate Kept)
+unfolding machine_rows row_for meaning_in meaning_of
+lgfi_row = record { some = omega arith; few = omega arith; lists = (refl, refl, refl); means = refl }
+
+-- a number of up to 64 bits is its own low part
+low_small : (n : ℕ) → n < 2 ^ 64 → low Doubleword (pos n) ≡ n
+low_small n lt = omega (arith, lt)
+
+abbrev pub immediate_fields : (kind : FormatKind) (d n bits : ℕ) → Fields
+immediate_fields kind d n bits = fields_of kind (0 ∷ d ∷ n ∷ 0 ∷ 0 ∷ 0 ∷ 0 ∷ 0 ∷ bits ∷ 0 ∷ [])
+
 -- ---- the fields that a row has
 
 abbrev pub register_fields : (d n m : ℕ) → Fields
@@ -192,6 +285,37 @@ module _ (L : Layout) (all : AllPlaced L) (offset : ℕ) (even : offset % 2 ≡ 
 
   pub two_at : (opcode : ℕ) (meaning : Meaning) → TwoRow opcode meaning → (operation : Registers → Operation) (d m : ℕ) → d < 16 → m < 16 → ((r : Registers) (p : ℕ) → action meaning (register_fields d m 0) r p ≡ Perform (operation r)) → StandsAt L.image offset (bytes_of (two_operands opcode d m)) → RowAt L (sum64 L.image.base offset) (λ r. Perform (operation r)) (size_of (two_operands opcode d m))
   two_at opcode meaning row operation d m ld lm does s = two_at_as opcode meaning row operation d m ld lm does (nat_lt opcode 256) refl s
+
+  ri_a_at : (opcode : ℕ) (meaning : Meaning) → ImmediateRow RiA 4096 opcode meaning → (operation : Registers → Operation) (d bits : ℕ) → d < 16 → bits < 2 ^ 16 → ((r : Registers) (p : ℕ) → action meaning (immediate_fields RiA d 0 bits) r p ≡ Perform (operation r)) → StandsAt L.image offset (bytes_of (ri_a opcode d bits)) → RowAt L (sum64 L.image.base offset) (λ r. Perform (operation r)) (size_of (ri_a opcode d bits))
+  ri_a_at opcode meaning row operation d bits ld lb does s =
+      let x = ri_a opcode d bits in
+      row_at L offset x (λ r. Perform (operation r)) all.even even all.fits s (fits_ri_a opcode d bits row.few ld lb) (listed machine_rows RiA x.slots row.some (row.lists.0, row.lists.1, ap (λ a. is_allowed a x.slots) row.lists.2)) (λ state event t at h. acts_as_meant x meaning operation row.means does state event t h)
+
+  ril_a_at : (opcode : ℕ) (meaning : Meaning) → ImmediateRow RilA 4096 opcode meaning → (operation : Registers → Operation) (d bits : ℕ) → d < 16 → bits < 2 ^ 32 → ((r : Registers) (p : ℕ) → action meaning (immediate_fields RilA d 0 bits) r p ≡ Perform (operation r)) → StandsAt L.image offset (bytes_of (ril_a opcode d bits)) → RowAt L (sum64 L.image.base offset) (λ r. Perform (operation r)) (size_of (ril_a opcode d bits))
+  ril_a_at opcode meaning row operation d bits ld lb does s =
+      let x = ril_a opcode d bits in
+      row_at L offset x (λ r. Perform (operation r)) all.even even all.fits s (fits_ril_a opcode d bits row.few ld lb) (listed machine_rows RilA x.slots row.some (row.lists.0, row.lists.1, ap (λ a. is_allowed a x.slots) row.lists.2)) (λ state event t at h. acts_as_meant x meaning operation row.means does state event t h)
+
+  rie_d_at : (opcode : ℕ) (meaning : Meaning) → ImmediateRow RieD 65536 opcode meaning → (operation : Registers → Operation) (d n bits : ℕ) → d < 16 → n < 16 → bits < 2 ^ 16 → ((r : Registers) (p : ℕ) → action meaning (immediate_fields RieD d n bits) r p ≡ Perform (operation r)) → StandsAt L.image offset (bytes_of (rie_d opcode d n bits)) → RowAt L (sum64 L.image.base offset) (λ r. Perform (operation r)) (size_of (rie_d opcode d n bits))
+  rie_d_at opcode meaning row operation d n bits ld ln lb does s =
+      let x = rie_d opcode d n bits in
+      row_at L offset x (λ r. Perform (operation r)) all.even even all.fits s (fits_rie_d opcode d n bits row.few ld ln lb) (listed machine_rows RieD x.slots row.some (row.lists.0, row.lists.1, ap (λ a. is_allowed a x.slots) row.lists.2)) (λ state event t at h. acts_as_meant x meaning operation row.means does state event t h)
+
+  -- the operations with an immediate
+  pub halfword_at : (opcode : ℕ) (c : Computation) (rule : CodeRule) → ImmediateRow RiA 4096 opcode (computed c Immediate rule) → (d bits : ℕ) → d < 16 → bits < 2 ^ 16 → StandsAt L.image offset (bytes_of (ri_a opcode d bits)) → RowAt L (sum64 L.image.base offset) (λ r. Perform (computes_immediate rule c d d bits r)) (size_of (ri_a opcode d bits))
+  halfword_at opcode c rule row d bits ld lb s = ri_a_at opcode (computed c Immediate rule) row (computes_immediate rule c d d bits) d bits ld lb (λ r p. ap (λ x. Perform (computes_immediate rule c d d x r)) (low_small bits (omega (arith, lb)))) s
+
+  pub word_at : (opcode : ℕ) (c : Computation) (rule : CodeRule) → ImmediateRow RilA 4096 opcode (computed c Immediate rule) → (d bits : ℕ) → d < 16 → bits < 2 ^ 32 → StandsAt L.image offset (bytes_of (ril_a opcode d bits)) → RowAt L (sum64 L.image.base offset) (λ r. Perform (computes_immediate rule c d d bits r)) (size_of (ril_a opcode d bits))
+  word_at opcode c rule row d bits ld lb s = ril_a_at opcode (computed c Immediate rule) row (computes_immediate rule c d d bits) d bits ld lb (λ r p. ap (λ x. Perform (computes_immediate rule c d d x r)) (low_small bits (omega (arith, lb)))) s
+
+  pub three_halfword_at : (opcode : ℕ) (c : Computation) (rule : CodeRule) → ImmediateRow RieD 65536 opcode (computed c ThreeImmediate rule) → (d n bits : ℕ) → d < 16 → n < 16 → bits < 2 ^ 16 → StandsAt L.image offset (bytes_of (rie_d opcode d n bits)) → RowAt L (sum64 L.image.base offset) (λ r. Perform (computes_immediate rule c d n bits r)) (size_of (rie_d opcode d n bits))
+  three_halfword_at opcode c rule row d n bits ld ln lb s = rie_d_at opcode (computed c ThreeImmediate rule) row (computes_immediate rule c d n bits) d n bits ld ln lb (λ r p. ap (λ x. Perform (computes_immediate rule c d n x r)) (low_small bits (omega (arith, lb)))) s
+
+  pub compare_halfword_at : (opcode : ℕ) (c : Comparison) → ImmediateRow RiA 4096 opcode (compared c) → (n bits : ℕ) → n < 16 → bits < 2 ^ 16 → StandsAt L.image offset (bytes_of (ri_a opcode n bits)) → RowAt L (sum64 L.image.base offset) (λ r. Perform (compares_immediate c n bits r)) (size_of (ri_a opcode n bits))
+  compare_halfword_at opcode c row n bits ln lb s = ri_a_at opcode (compared c) row (compares_immediate c n bits) n bits ln lb (λ r p. ap (λ x. Perform (compares_immediate c n x r)) (low_small bits (omega (arith, lb)))) s
+
+  pub compare_word_at : (opcode : ℕ) (c : Comparison) → ImmediateRow RilA 4096 opcode (compared c) → (n bits : ℕ) → n < 16 → bits < 2 ^ 32 → StandsAt L.image offset (bytes_of (ril_a opcode n bits)) → RowAt L (sum64 L.image.base offset) (λ r. Perform (compares_immediate c n bits r)) (size_of (ril_a opcode n bits))
+  compare_word_at opcode c row n bits ln lb s = ril_a_at opcode (compared c) row (compares_immediate c n bits) n bits ln lb (λ r p. ap (λ x. Perform (compares_immediate c n x r)) (low_small bits (omega (arith, lb)))) s
 
 -- ---- condition codes that leave more free
 

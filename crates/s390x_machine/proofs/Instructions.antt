@@ -1,5 +1,5 @@
 -- Each built step runs as its typed step, and so every run is allowed.
-use Rattle.std.proofs.Common.{◌≡◌, ℕ, suc, ◌+◌, ◌%◌, ◌^◌, ◌<◌, ◌≤◌, [], ◌∷◌, length, Option, Some, None, Bool, true, false, cond, ◌&&◌, IsTrue, refl, sym, ap, ◌∙◌, subst, arith, slice_get, eqb-true, nat_lt, nat_eq}
+use Rattle.std.proofs.Common.{◌≡◌, ℕ, suc, ◌+◌, ◌%◌, ◌^◌, ◌<◌, ◌≤◌, [], ◌∷◌, length, Option, Some, None, Bool, true, false, cond, ◌&&◌, IsTrue, refl, sym, ap, ◌∙◌, subst, arith, slice_get, eqb-true, nat_lt, nat_eq, ℤ, pos, negsuc}
 use Rattle.std.proofs.lemmas.Bool.{and_parts}
 use Rattle.std.proofs.lemmas.Option.{slice_get_within}
 use Rattle.s390x_base.specs.Regs.{number_of}
@@ -8,29 +8,30 @@ use Rattle.s390x_base.specs.declared.regs.Reg.TheVariants.{Real}
 use Rattle.s390x_base.specs.declared.trap.TrapKind.{TrapKind}
 use Rattle.s390x_inst.specs.declared.ops.ALUOp.{ALUOp}
 use Rattle.s390x_inst.specs.declared.inst.Inst.{Inst}
-use Rattle.s390x_inst.specs.declared.inst.Inst.TheVariants.{AluRRR, AluRR, UnaryRR, CmpRR, Mov64, MovPReg, Mov32, Jump, CondBr, IndirectBr, Ret}
+use Rattle.s390x_inst.specs.declared.inst.Inst.TheVariants.{AluRRR, AluRR, AluRRSImm16, AluRSImm16, AluRSImm32, AluRUImm32, UnaryRR, CmpRR, CmpRSImm16, CmpRSImm32, CmpRUImm32, Mov64, MovPReg, Mov32, Mov32Imm, Mov32SImm16, Mov64SImm16, Mov64SImm32, Jump, CondBr, IndirectBr, Ret}
 use Rattle.s390x_format.specs.Formats.{length_of}
-use Rattle.s390x_format.specs.declared.kind.FormatKind.TheVariants.{Rr}
-use Rattle.s390x_steps.specs.General.{is_general, reuses}
-use Rattle.s390x_steps.specs.Opcodes.{alu_three, alu_two, cmp_two, unary_two}
-use Rattle.s390x_steps.specs.Alone.{alone_with, two_operands, two_row, three_row}
+use Rattle.s390x_format.specs.declared.kind.FormatKind.TheVariants.{Rr, RiA, RieD, RilA}
+use Rattle.s390x_steps.specs.General.{is_general, reuses, low_halfword, low_word}
+use Rattle.s390x_steps.specs.Opcodes.{alu_three, alu_two, cmp_two, unary_two, alu_halfword, alu_three_halfword, alu_signed_word, alu_unsigned_word, cmp_halfword, cmp_signed_word, cmp_unsigned_word}
+use Rattle.s390x_steps.specs.Alone.{alone_with, two_operands, two_row, three_row, halfword_row, word_row, three_halfword_row}
 use Rattle.s390x_steps.specs.Ranges.{IsMask}
-use Rattle.s390x_steps.specs.MachineInstruction.{MachineInstruction, bytes_of, size_of, rr, rre, rrf_ab, ril_c}
+use Rattle.s390x_steps.specs.MachineInstruction.{MachineInstruction, bytes_of, size_of, rr, rre, rrf_ab, ri_a, rie_d, ril_a, ril_c}
 use Rattle.s390x_steps.specs.Steps.{Step, Plain, Opening, Back, Break}
 use Rattle.s390x_steps.specs.Parts.{ToBlock, ToStep, Row, Branch, parts_size, parts_or, step_parts}
 use Rattle.s390x_steps.specs.Rows.{rows_of}
 use Rattle.s390x_operations.specs.State.{Registers, sum64}
 use Rattle.s390x_operations.specs.Effects.{Refines}
 use Rattle.s390x_operations.specs.declared.effect.Operation.{Operation}
+use Rattle.s390x_operations.specs.declared.effect.CodeRule.{CodeRule}
 use Rattle.s390x_operations.specs.declared.effect.CodeRule.TheVariants.{Kept, Set}
 use Rattle.s390x_operations.specs.declared.operator.Operator.TheVariants.{Move}
 use Rattle.s390x_operations.specs.declared.stop.StopKind.{StopKind}
 use Rattle.s390x_machine.specs.declared.meaning.Meaning.{Meaning}
 use Rattle.s390x_machine.specs.declared.meaning.Meaning.TheVariants.{Compare}
-use Rattle.s390x_machine.specs.declared.meaning.Shape.TheVariants.{Register, ThreeRegisters}
+use Rattle.s390x_machine.specs.declared.meaning.Shape.TheVariants.{Register, ThreeRegisters, Immediate, ThreeImmediate}
 use Rattle.s390x_machine.specs.declared.meaning.Action.{Action}
 use Rattle.s390x_machine.specs.declared.meaning.Action.TheVariants.{Perform, Branch as BranchAction}
-use Rattle.s390x_machine.specs.Computations.{Computation, alu_computation, alu_three_rule, alu_two_rule, unary_computation, unary_rule, comparison, on_words, on_doublewords, computes, compares}
+use Rattle.s390x_machine.specs.Computations.{Computation, Comparison, alu_computation, alu_three_rule, alu_two_rule, unary_computation, unary_rule, comparison, on_words, on_doublewords, word, signed_word, signed_halfword, on_immediate, compares_on_immediate, computes, compares, computes_immediate, compares_immediate}
 use Rattle.s390x_machine.specs.Forms.{Form, Performs, GoesTo, Chooses, Leads, Silent, no_code}
 use Rattle.s390x_machine.specs.Meanings.{action}
 use Rattle.s390x_machine.specs.Typed.{At, FormStep, form_of, form_at}
@@ -42,7 +43,7 @@ use Rattle.s390x_machine.proofs.Fetching.{StandsAt}
 use Rattle.s390x_machine.proofs.Simulation.{RowAt, DoesAs, Coded, at_start, general_step}
 use Rattle.s390x_machine.proofs.Standing.{step_rows, offset_even, offset_small, inside_at, inside_first, next_place, block_at}
 use Rattle.s390x_machine.proofs.Rows.{general_number, nonzero_number, bcr_at, brcl_at}
-use Rattle.s390x_machine.proofs.Alone.{TwoRow, ThreeRow, TwoRows, ThreeRows, second_register, computed, register_fields, alu_three_rows, alu_two_rows, cmp_rows, unary_rows, lgr_row, lr_row, two_at, three_at, loosens, three_looser, two_looser}
+use Rattle.s390x_machine.proofs.Alone.{TwoRow, ThreeRow, TwoRows, ThreeRows, second_register, computed, register_fields, alu_three_rows, alu_two_rows, cmp_rows, unary_rows, lgr_row, lr_row, two_at, three_at, ImmediateRows, compared, halfword_rows, three_halfword_rows, signed_word_rows, unsigned_word_rows, cmp_halfword_rows, cmp_signed_word_rows, cmp_unsigned_word_rows, iilf_row, lhi_row, lghi_row, lgfi_row, halfword_at, word_at, three_halfword_at, compare_halfword_at, compare_word_at, loosens, three_looser, two_looser}
 use Rattle.s390x_machine.proofs.Branches.{jump_runs, TwoBranches, choose_runs, leads_runs, returns_runs, address_runs}
 use Rattle.s390x_machine.proofs.Induction.{headline_of, one_step}
 
@@ -89,6 +90,19 @@ reused_small output input other h =
     let q = and_parts (is_general output && is_general input) (nat_eq (number_of output) (number_of input)) p.0 in
     ((two_small output input q.0).0, general_number other p.1)
 
+output_small : (output input : Reg) → IsTrue (reuses output input) → number_of output < 16
+output_small output input h =
+    let p = and_parts (is_general output && is_general input) (nat_eq (number_of output) (number_of input)) h in
+    (two_small output input p.0).0
+
+halfword_bits : (z : ℤ) → low_halfword z < 2 ^ 16
+halfword_bits (pos a) = omega arith
+halfword_bits (negsuc a) = omega arith
+
+word_bits : (z : ℤ) → low_word z < 2 ^ 32
+word_bits (pos a) = omega arith
+word_bits (negsuc a) = omega arith
+
 uncoded : (L : Layout) (p : ℕ) → Coded L p no_code
 uncoded L p kind n e = absurd (cc)
 
@@ -115,6 +129,51 @@ module _ (L : Layout) (all : AllPlaced L) (k : ℕ) (s : Step) (at : slice_get L
   three_runs opcode meaning row does operation d n m is parts ld ln lm acts refines =
       let one = one_row L k s placed (rrf_ab opcode d n m 0) parts in
       row_alone L k operation no_code (λ r. Perform (does r)) 4 (formed _ is) (three_at L all (L.places.step k) even opcode meaning row does d n m ld ln lm acts one.stands) refines (uncoded L (place L k)) one.size (omega arith)
+
+  -- a row of a register and an immediate, which does the step's operation
+  immediate_runs : (m : MachineInstruction) (operation : Registers → Operation) → form_of (Some s) ≡ Some (Performs false operation no_code) → step_parts s ≡ Row m ∷ [] → 0 < size_of m → (StandsAt L.image (L.places.step k) (bytes_of m) → RowAt L (place L k) (λ r. Perform (operation r)) (size_of m)) → StepRuns L k
+  immediate_runs m operation is parts some at_row =
+      let one = one_row L k s placed m parts in
+      row_alone L k operation no_code (λ r. Perform (operation r)) (size_of m) (formed _ is) (at_row one.stands) (λ r. exactly (operation r)) (uncoded L (place L k)) one.size some
+
+  -- an operator with an immediate of 16 bits, or of 32, where it has a row
+  one_of_halfword : (fine : Bool) (o : Option ℕ) (c : Computation) (rule : CodeRule) → ImmediateRows RiA 4096 o (computed c Immediate rule) → (d bits : ℕ) → form_of (Some s) ≡ Some (Performs false (computes_immediate rule c d d bits) no_code) → step_parts s ≡ parts_or (alone_with fine (halfword_row o d bits)) [] → FineOr (alone_with fine (halfword_row o d bits)) ⊥ → (IsTrue fine → d < 16) → bits < 2 ^ 16 → StepRuns L k
+  unfolding length_of
+  one_of_halfword fine None c rule row d bits is parts h small lb = absurd h
+  one_of_halfword fine (Some opcode) c rule row d bits is parts h small lb = immediate_runs (ri_a opcode d bits) (computes_immediate rule c d d bits) is parts (omega arith) (λ st. halfword_at L all (L.places.step k) even opcode c rule row d bits (small h) lb st)
+
+  one_of_word : (fine : Bool) (o : Option ℕ) (c : Computation) (rule : CodeRule) → ImmediateRows RilA 4096 o (computed c Immediate rule) → (d bits : ℕ) → form_of (Some s) ≡ Some (Performs false (computes_immediate rule c d d bits) no_code) → step_parts s ≡ parts_or (alone_with fine (word_row o d bits)) [] → FineOr (alone_with fine (word_row o d bits)) ⊥ → (IsTrue fine → d < 16) → bits < 2 ^ 32 → StepRuns L k
+  unfolding length_of
+  one_of_word fine None c rule row d bits is parts h small lb = absurd h
+  one_of_word fine (Some opcode) c rule row d bits is parts h small lb = immediate_runs (ril_a opcode d bits) (computes_immediate rule c d d bits) is parts (omega arith) (λ st. word_at L all (L.places.step k) even opcode c rule row d bits (small h) lb st)
+
+  compare_of_halfword : (fine : Bool) (o : Option ℕ) (c : Comparison) → ImmediateRows RiA 4096 o (compared c) → (n bits : ℕ) → form_of (Some s) ≡ Some (Performs false (compares_immediate c n bits) no_code) → step_parts s ≡ parts_or (alone_with fine (halfword_row o n bits)) [] → FineOr (alone_with fine (halfword_row o n bits)) ⊥ → (IsTrue fine → n < 16) → bits < 2 ^ 16 → StepRuns L k
+  unfolding length_of
+  compare_of_halfword fine None c row n bits is parts h small lb = absurd h
+  compare_of_halfword fine (Some opcode) c row n bits is parts h small lb = immediate_runs (ri_a opcode n bits) (compares_immediate c n bits) is parts (omega arith) (λ st. compare_halfword_at L all (L.places.step k) even opcode c row n bits (small h) lb st)
+
+  compare_of_word : (fine : Bool) (o : Option ℕ) (c : Comparison) → ImmediateRows RilA 4096 o (compared c) → (n bits : ℕ) → form_of (Some s) ≡ Some (Performs false (compares_immediate c n bits) no_code) → step_parts s ≡ parts_or (alone_with fine (word_row o n bits)) [] → FineOr (alone_with fine (word_row o n bits)) ⊥ → (IsTrue fine → n < 16) → bits < 2 ^ 32 → StepRuns L k
+  unfolding length_of
+  compare_of_word fine None c row n bits is parts h small lb = absurd h
+  compare_of_word fine (Some opcode) c row n bits is parts h small lb = immediate_runs (ril_a opcode n bits) (compares_immediate c n bits) is parts (omega arith) (λ st. compare_word_at L all (L.places.step k) even opcode c row n bits (small h) lb st)
+
+  -- an immediate of 16 bits into another register, or two operands where the input is the output
+  three_halfword_runs : (fine : Bool) (three two : Option ℕ) (c : Computation) (rule : CodeRule) → ImmediateRows RieD 65536 three (computed c ThreeImmediate rule) → ImmediateRows RiA 4096 two (computed c Immediate rule) → (d n bits : ℕ) → form_of (Some s) ≡ Some (Performs false (computes_immediate rule c d n bits) no_code) → step_parts s ≡ parts_or (alone_with fine (three_halfword_row three two d n bits)) [] → FineOr (alone_with fine (three_halfword_row three two d n bits)) ⊥ → (IsTrue fine → (d < 16) × (n < 16)) → bits < 2 ^ 16 → StepRuns L k
+  unfolding length_of
+  three_halfword_runs fine None two c rule row3 row2 d n bits is parts h small lb = absurd h
+  three_halfword_runs fine (Some three) None c rule row3 row2 d n bits is parts h small lb =
+      let l = small h in
+      immediate_runs (rie_d three d n bits) (computes_immediate rule c d n bits) is parts (omega arith) (λ st. three_halfword_at L all (L.places.step k) even three c rule row3 d n bits l.0 l.1 lb st)
+  three_halfword_runs fine (Some three) (Some two) c rule row3 row2 d n bits is parts h small lb = go (nat_eq d n) refl parts
+    where
+      go : (same : Bool) → nat_eq d n ≡ same → step_parts s ≡ Row (cond same (ri_a two d bits) (rie_d three d n bits)) ∷ [] → StepRuns L k
+      go true e is_row =
+          let l = small h in
+          let op : computes_immediate rule c d d bits ≡ computes_immediate rule c d n bits = ap (λ i. computes_immediate rule c d i bits) (eqb-true d n e) in
+          immediate_runs (ri_a two d bits) (computes_immediate rule c d n bits) is is_row (omega arith) (λ st. subst (λ o. RowAt L (place L k) (λ r. Perform (o r)) 4) op (halfword_at L all (L.places.step k) even two c rule row2 d bits l.0 lb st))
+      go false e is_row =
+          let l = small h in
+          immediate_runs (rie_d three d n bits) (computes_immediate rule c d n bits) is is_row (omega arith) (λ st. three_halfword_at L all (L.places.step k) even three c rule row3 d n bits l.0 l.1 lb st)
 
   -- an instruction of one row of two registers, where its operator has one
   one_of_two : (fine : Bool) (o : Option ℕ) (meaning : Meaning) → TwoRows o meaning → (does operation : Registers → Operation) (d m : ℕ) → form_of (Some s) ≡ Some (Performs false operation no_code) → step_parts s ≡ parts_or (alone_with fine (two_row o d m)) [] → FineOr (alone_with fine (two_row o d m)) ⊥ → (IsTrue fine → (d < 16) × (m < 16)) → ((r : Registers) (p : ℕ) → action meaning (register_fields d m 0) r p ≡ Perform (does r)) → ((r : Registers) → Refines (does r) (operation r)) → StepRuns L k
@@ -216,6 +275,28 @@ instruction_runs L all k (MovPReg rd rm) at p fine =
     one_of_two L all k (Plain (MovPReg rd rm)) at p (is_general rd && is_general (Real rm)) (Some 0xb904) (computed (on_doublewords Move) Register Kept) lgr_row (computes Kept (on_doublewords Move) (number_of rd) (number_of rd) (number_of (Real rm))) (computes Kept (on_doublewords Move) (number_of rd) (number_of rd) (number_of (Real rm))) (number_of rd) (number_of (Real rm)) refl refl fine (two_small rd (Real rm)) (λ r q. refl) (λ r. exactly _)
 instruction_runs L all k (Mov32 rd rm) at p fine =
     one_of_two L all k (Plain (Mov32 rd rm)) at p (is_general rd && is_general rm) (Some 0x18) (computed (on_words Move) Register Kept) lr_row (computes Kept (on_words Move) (number_of rd) (number_of rd) (number_of rm)) (computes Kept (on_words Move) (number_of rd) (number_of rd) (number_of rm)) (number_of rd) (number_of rm) refl refl fine (two_small rd rm) (λ r q. refl) (λ r. exactly _)
+instruction_runs L all k (AluRRSImm16 op rd rn imm) at p fine =
+    three_halfword_runs L all k (Plain (AluRRSImm16 op rd rn imm)) at p (is_general rd && is_general rn) (alu_three_halfword op) (alu_halfword op) (on_immediate (alu_computation op) signed_halfword) (alu_two_rule op) (three_halfword_rows op) (halfword_rows op) (number_of rd) (number_of rn) (low_halfword imm) refl refl fine (two_small rd rn) (halfword_bits imm)
+instruction_runs L all k (AluRSImm16 op rd ri imm) at p fine =
+    one_of_halfword L all k (Plain (AluRSImm16 op rd ri imm)) at p (reuses rd ri) (alu_halfword op) (on_immediate (alu_computation op) signed_halfword) (alu_two_rule op) (halfword_rows op) (number_of rd) (low_halfword imm) refl refl fine (output_small rd ri) (halfword_bits imm)
+instruction_runs L all k (AluRSImm32 op rd ri imm) at p fine =
+    one_of_word L all k (Plain (AluRSImm32 op rd ri imm)) at p (reuses rd ri) (alu_signed_word op) (on_immediate (alu_computation op) signed_word) (alu_two_rule op) (signed_word_rows op) (number_of rd) (low_word imm) refl refl fine (output_small rd ri) (word_bits imm)
+instruction_runs L all k (CmpRSImm16 op rn imm) at p fine =
+    compare_of_halfword L all k (Plain (CmpRSImm16 op rn imm)) at p (is_general rn) (cmp_halfword op) (compares_on_immediate (comparison op) signed_halfword) (cmp_halfword_rows op) (number_of rn) (low_halfword imm) refl refl fine (general_number rn) (halfword_bits imm)
+instruction_runs L all k (CmpRSImm32 op rn imm) at p fine =
+    compare_of_word L all k (Plain (CmpRSImm32 op rn imm)) at p (is_general rn) (cmp_signed_word op) (compares_on_immediate (comparison op) signed_word) (cmp_signed_word_rows op) (number_of rn) (low_word imm) refl refl fine (general_number rn) (word_bits imm)
+instruction_runs L all k (AluRUImm32 op rd ri imm) at p fine =
+    one_of_word L all k (Plain (AluRUImm32 op rd ri imm)) at p (reuses rd ri) (alu_unsigned_word op) (on_immediate (alu_computation op) word) (alu_two_rule op) (unsigned_word_rows op) (number_of rd) (low_word (pos imm)) refl refl fine (output_small rd ri) (word_bits (pos imm))
+instruction_runs L all k (CmpRUImm32 op rn imm) at p fine =
+    compare_of_word L all k (Plain (CmpRUImm32 op rn imm)) at p (is_general rn) (cmp_unsigned_word op) (compares_on_immediate (comparison op) word) (cmp_unsigned_word_rows op) (number_of rn) (low_word (pos imm)) refl refl fine (general_number rn) (word_bits (pos imm))
+instruction_runs L all k (Mov32Imm rd imm) at p fine =
+    one_of_word L all k (Plain (Mov32Imm rd imm)) at p (is_general rd) (Some 0xc09) (on_words Move) Kept iilf_row (number_of rd) (low_word (pos imm)) refl refl fine (general_number rd) (word_bits (pos imm))
+instruction_runs L all k (Mov32SImm16 rd imm) at p fine =
+    one_of_halfword L all k (Plain (Mov32SImm16 rd imm)) at p (is_general rd) (Some 0xa78) (on_immediate (on_words Move) signed_halfword) Kept lhi_row (number_of rd) (low_halfword imm) refl refl fine (general_number rd) (halfword_bits imm)
+instruction_runs L all k (Mov64SImm16 rd imm) at p fine =
+    one_of_halfword L all k (Plain (Mov64SImm16 rd imm)) at p (is_general rd) (Some 0xa79) (on_immediate (on_doublewords Move) signed_halfword) Kept lghi_row (number_of rd) (low_halfword imm) refl refl fine (general_number rd) (halfword_bits imm)
+instruction_runs L all k (Mov64SImm32 rd imm) at p fine =
+    one_of_word L all k (Plain (Mov64SImm32 rd imm)) at p (is_general rd) (Some 0xc01) (on_immediate (on_doublewords Move) signed_word) Kept lgfi_row (number_of rd) (low_word imm) refl refl fine (general_number rd) (word_bits imm)
 instruction_runs L all k (Jump dest) at p fine = goto_runs L all k (Plain (Jump dest)) at p dest.0 refl refl fine
 instruction_runs L all k (CondBr taken not_taken mask) at p fine = condbr_runs L all k (Plain (CondBr taken not_taken mask)) at p mask taken.0 not_taken.0 refl refl (small_mask mask fine.2) fine.0 fine.1
 instruction_runs L all k (IndirectBr rn targets) at p fine =

@@ -7,7 +7,7 @@ use Rattle.std.proofs.lemmas.Bool.{and_parts}
 use Rattle.s390x_base.specs.Regs.{number_of, is_int}
 use Rattle.s390x_base.specs.declared.regs.Reg.{Reg}
 use Rattle.s390x_base.specs.declared.regs.Reg.TheVariants.{Real, Virtual}
-use Rattle.s390x_format.specs.declared.kind.FormatKind.TheVariants.{Rr, Rre, RrfAb, RilC}
+use Rattle.s390x_format.specs.declared.kind.FormatKind.TheVariants.{Rr, Rre, RrfAb, RiA, RieD, RilA, RilC}
 use Rattle.s390x_format.specs.Layout.{SlotsFit}
 use Rattle.s390x_format.specs.Formats.{layout_of, length_of}
 use Rattle.s390x_format.specs.Fits.{fields_from}
@@ -16,7 +16,7 @@ use Rattle.s390x_format.proofs.Encoding.{listed}
 use Rattle.s390x_format.specs.Fetch.{machine_rows}
 use Rattle.s390x_format.specs.Encoded.{IsEncoded}
 use Rattle.s390x_steps.specs.General.{is_general, is_nonzero}
-use Rattle.s390x_steps.specs.MachineInstruction.{bytes_of, rr, rre, rrf_ab, ril_c}
+use Rattle.s390x_steps.specs.MachineInstruction.{bytes_of, rr, rre, rrf_ab, ri_a, rie_d, ril_a, ril_c}
 use Rattle.s390x_steps.specs.Rows.{half_distance}
 use Rattle.s390x_operations.specs.State.{State, sum64}
 use Rattle.s390x_operations.specs.Numbers.{low}
@@ -53,6 +53,15 @@ fits_rrf_ab opcode a b c o la lb lc = fields_from RrfAb (rrf_ab opcode a b c 0).
 
 pub fits_ril_c : (opcode mask half : ℕ) → opcode < 4096 → mask < 16 → half < 2 ^ 32 → SlotsFit (layout_of RilC) (ril_c opcode mask half).slots
 fits_ril_c opcode mask half o lm lh = fields_from RilC (ril_c opcode mask half).slots refl (omega arith, (omega arith, (omega arith, (omega arith, (omega arith, (omega arith, (omega arith, (omega arith, (omega arith, (omega arith, tt))))))))))
+
+pub fits_ri_a : (opcode a bits : ℕ) → opcode < 4096 → a < 16 → bits < 2 ^ 16 → SlotsFit (layout_of RiA) (ri_a opcode a bits).slots
+fits_ri_a opcode a bits o la lb = fields_from RiA (ri_a opcode a bits).slots refl (omega arith, (omega arith, (omega arith, (omega arith, (omega arith, (omega arith, (omega arith, (omega arith, (omega arith, (omega arith, tt))))))))))
+
+pub fits_ril_a : (opcode a bits : ℕ) → opcode < 4096 → a < 16 → bits < 2 ^ 32 → SlotsFit (layout_of RilA) (ril_a opcode a bits).slots
+fits_ril_a opcode a bits o la lb = fields_from RilA (ril_a opcode a bits).slots refl (omega arith, (omega arith, (omega arith, (omega arith, (omega arith, (omega arith, (omega arith, (omega arith, (omega arith, (omega arith, tt))))))))))
+
+pub fits_rie_d : (opcode a b bits : ℕ) → opcode < 65536 → a < 16 → b < 16 → bits < 2 ^ 16 → SlotsFit (layout_of RieD) (rie_d opcode a b bits).slots
+fits_rie_d opcode a b bits o la lb lc = fields_from RieD (rie_d opcode a b bits).slots refl (omega arith, (omega arith, (omega arith, (omega arith, (omega arith, (omega arith, (omega arith, (omega arith, (omega arith, (omega arith, tt))))))))))
 
 -- ---- the table lists them
 

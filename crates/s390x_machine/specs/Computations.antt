@@ -162,14 +162,29 @@ comparison C.CmpL64Ext32 = record { sign = Unsigned; size = Doubleword; second =
 abbrev pub with_rule : CodeRule → Effect → Operation
 with_rule rule effect = record { effect = effect; rule = rule }
 
--- a register as the second operand
-abbrev pub register_operand : Second → ℕ → Operand
-register_operand s x = record { source = Value x; width = s.width; sign = s.sign; reversed = s.reversed }
+-- a value as the second operand
+abbrev pub operand_of : Second → ℕ → Operand
+operand_of s x = record { source = Value x; width = s.width; sign = s.sign; reversed = s.reversed }
 
 -- register d becomes the operator's value on registers n and m
 abbrev pub computes : CodeRule → Computation → (d n m : ℕ) → Registers → Operation
-computes rule c d n m r = with_rule rule (Compute c.operator c.size d (value_in c.size r n) (register_operand c.second (r.general m)))
+computes rule c d n m r = with_rule rule (Compute c.operator c.size d (value_in c.size r n) (operand_of c.second (r.general m)))
 
 -- the code becomes the order of registers n and m
 abbrev pub compares : Comparison → (n m : ℕ) → Registers → Operation
-compares c n m r = with_rule Set (Compare c.sign c.size (value_in c.size r n) (register_operand c.second (r.general m)))
+compares c n m r = with_rule Set (Compare c.sign c.size (value_in c.size r n) (operand_of c.second (r.general m)))
+
+-- register d becomes the operator's value on register n and an immediate's bits
+abbrev pub computes_immediate : CodeRule → Computation → (d n bits : ℕ) → Registers → Operation
+computes_immediate rule c d n bits r = with_rule rule (Compute c.operator c.size d (value_in c.size r n) (operand_of c.second bits))
+
+-- the code becomes the order of register n and an immediate's bits
+abbrev pub compares_immediate : Comparison → (n bits : ℕ) → Registers → Operation
+compares_immediate c n bits r = with_rule Set (Compare c.sign c.size (value_in c.size r n) (operand_of c.second bits))
+
+-- the same operator with an immediate, whose bits are read like this
+abbrev pub on_immediate : Computation → Second → Computation
+on_immediate c second = record { operator = c.operator; size = c.size; second = second }
+
+abbrev pub compares_on_immediate : Comparison → Second → Comparison
+compares_on_immediate c second = record { sign = c.sign; size = c.size; second = second }

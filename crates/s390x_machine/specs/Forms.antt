@@ -1,17 +1,18 @@
 -- What each typed step does. It knows no bytes: its operations are those of the common relation.
-use Rattle.std.specs.Prelude.{ℕ, Bool, false, List, Option, Some, None}
+use Rattle.std.specs.Prelude.{ℕ, pos, Bool, false, List, Option, Some, None}
 use Rattle.s390x_base.specs.Regs.{number_of}
 use Rattle.s390x_base.specs.declared.regs.Reg.TheVariants.{Real}
 use Rattle.s390x_base.specs.declared.ir.MachLabel.{MachLabel}
 use Rattle.s390x_base.specs.declared.trap.TrapKind.{TrapKind}
 use Rattle.s390x_inst.specs.declared.inst.Inst.{Inst}
-use Rattle.s390x_inst.specs.declared.inst.Inst.TheVariants.{AluRRR, AluRR, UnaryRR, CmpRR, Mov64, MovPReg, Mov32, Jump, CondBr, IndirectBr, Ret}
+use Rattle.s390x_inst.specs.declared.inst.Inst.TheVariants.{AluRRR, AluRR, AluRRSImm16, AluRSImm16, AluRSImm32, AluRUImm32, UnaryRR, CmpRR, CmpRSImm16, CmpRSImm32, CmpRUImm32, Mov64, MovPReg, Mov32, Mov32Imm, Mov32SImm16, Mov64SImm16, Mov64SImm32, Jump, CondBr, IndirectBr, Ret}
 use Rattle.s390x_operations.specs.State.{Registers}
 use Rattle.s390x_operations.specs.declared.operator.Operator.TheVariants.{Move}
 use Rattle.s390x_operations.specs.declared.effect.CodeRule.TheVariants.{Kept}
 use Rattle.s390x_operations.specs.declared.effect.Operation.{Operation}
 use Rattle.s390x_operations.specs.declared.stop.StopKind.{StopKind}
-use Rattle.s390x_machine.specs.Computations.{computes, compares, alu_computation, alu_three_rule, alu_two_rule, unary_computation, unary_rule, comparison, on_words, on_doublewords}
+use Rattle.s390x_machine.specs.Computations.{computes, compares, alu_computation, alu_three_rule, alu_two_rule, unary_computation, unary_rule, comparison, on_words, on_doublewords, word, signed_word, signed_halfword, on_immediate, compares_on_immediate, computes_immediate, compares_immediate}
+use Rattle.s390x_steps.specs.General.{low_halfword, low_word}
 use Rattle.s390x_steps.specs.Steps.{Step, Plain, Opening, Back, Break}
 
 pub data Form : Type 0 where
@@ -56,6 +57,17 @@ instruction_operation (CmpRR op rn rm) = Some (compares (comparison op) (number_
 instruction_operation (Mov64 rd rm) = Some (computes Kept (on_doublewords Move) (number_of rd) (number_of rd) (number_of rm))
 instruction_operation (MovPReg rd rm) = Some (computes Kept (on_doublewords Move) (number_of rd) (number_of rd) (number_of (Real rm)))
 instruction_operation (Mov32 rd rm) = Some (computes Kept (on_words Move) (number_of rd) (number_of rd) (number_of rm))
+instruction_operation (AluRRSImm16 op rd rn imm) = Some (computes_immediate (alu_two_rule op) (on_immediate (alu_computation op) signed_halfword) (number_of rd) (number_of rn) (low_halfword imm))
+instruction_operation (AluRSImm16 op rd ri imm) = Some (computes_immediate (alu_two_rule op) (on_immediate (alu_computation op) signed_halfword) (number_of rd) (number_of rd) (low_halfword imm))
+instruction_operation (AluRSImm32 op rd ri imm) = Some (computes_immediate (alu_two_rule op) (on_immediate (alu_computation op) signed_word) (number_of rd) (number_of rd) (low_word imm))
+instruction_operation (AluRUImm32 op rd ri imm) = Some (computes_immediate (alu_two_rule op) (on_immediate (alu_computation op) word) (number_of rd) (number_of rd) (low_word (pos imm)))
+instruction_operation (CmpRSImm16 op rn imm) = Some (compares_immediate (compares_on_immediate (comparison op) signed_halfword) (number_of rn) (low_halfword imm))
+instruction_operation (CmpRSImm32 op rn imm) = Some (compares_immediate (compares_on_immediate (comparison op) signed_word) (number_of rn) (low_word imm))
+instruction_operation (CmpRUImm32 op rn imm) = Some (compares_immediate (compares_on_immediate (comparison op) word) (number_of rn) (low_word (pos imm)))
+instruction_operation (Mov32Imm rd imm) = Some (computes_immediate Kept (on_words Move) (number_of rd) (number_of rd) (low_word (pos imm)))
+instruction_operation (Mov32SImm16 rd imm) = Some (computes_immediate Kept (on_immediate (on_words Move) signed_halfword) (number_of rd) (number_of rd) (low_halfword imm))
+instruction_operation (Mov64SImm16 rd imm) = Some (computes_immediate Kept (on_immediate (on_doublewords Move) signed_halfword) (number_of rd) (number_of rd) (low_halfword imm))
+instruction_operation (Mov64SImm32 rd imm) = Some (computes_immediate Kept (on_immediate (on_doublewords Move) signed_word) (number_of rd) (number_of rd) (low_word imm))
 instruction_operation _ = None
 
 -- one that goes elsewhere

@@ -118,9 +118,41 @@ pub const THREE_WORD_REGISTERS: SecondOperand = SecondOperand {
     reversed: false,
 };
 
+/// The immediate of 16 bits, with its sign.
+pub const HALFWORD_IMMEDIATE: SecondOperand = SecondOperand {
+    shape: Shape::Immediate,
+    width: Width::Bits16,
+    sign: Signedness::Signed,
+    reversed: false,
+};
+
+/// The immediate of 32 bits, with its sign.
+pub const SIGNED_WORD_IMMEDIATE: SecondOperand = SecondOperand {
+    shape: Shape::Immediate,
+    width: Width::Bits32,
+    sign: Signedness::Signed,
+    reversed: false,
+};
+
+/// The immediate of 32 bits.
+pub const WORD_IMMEDIATE: SecondOperand = SecondOperand {
+    shape: Shape::Immediate,
+    width: Width::Bits32,
+    sign: Signedness::Unsigned,
+    reversed: false,
+};
+
+/// The immediate of 16 bits, with its sign; the first operand is in another register than the result.
+pub const THREE_HALFWORD_IMMEDIATE: SecondOperand = SecondOperand {
+    shape: Shape::ThreeImmediate,
+    width: Width::Bits16,
+    sign: Signedness::Signed,
+    reversed: false,
+};
+
 /// The rows that are built, by rising opcode.
 #[rattlefmt::skip]
-pub const MEANINGS: [RowMeaning; 55] = [
+pub const MEANINGS: [RowMeaning; 79] = [
     RowMeaning { opcode: 0x07, meaning: Meaning::BranchToRegister }, // bcr
     RowMeaning { opcode: 0x10, meaning: Meaning::Compute(Operator::Signed(SignedOperator::Absolute), Size::Word, WORD_REGISTER, CodeRule::Set) }, // lpr
     RowMeaning { opcode: 0x13, meaning: Meaning::Compute(Operator::Signed(SignedOperator::Negate), Size::Word, WORD_REGISTER, CodeRule::Set) }, // lcr
@@ -134,7 +166,29 @@ pub const MEANINGS: [RowMeaning; 55] = [
     RowMeaning { opcode: 0x1b, meaning: Meaning::Compute(Operator::Signed(SignedOperator::Subtract), Size::Word, WORD_REGISTER, CodeRule::Set) }, // sr
     RowMeaning { opcode: 0x1e, meaning: Meaning::Compute(Operator::Logical(LogicalOperator::Add), Size::Word, WORD_REGISTER, CodeRule::Set) }, // alr
     RowMeaning { opcode: 0x1f, meaning: Meaning::Compute(Operator::Logical(LogicalOperator::Subtract), Size::Word, WORD_REGISTER, CodeRule::Set) }, // slr
+    RowMeaning { opcode: 0xa78, meaning: Meaning::Compute(Operator::Move, Size::Word, HALFWORD_IMMEDIATE, CodeRule::Kept) }, // lhi
+    RowMeaning { opcode: 0xa79, meaning: Meaning::Compute(Operator::Move, Size::Doubleword, HALFWORD_IMMEDIATE, CodeRule::Kept) }, // lghi
+    RowMeaning { opcode: 0xa7a, meaning: Meaning::Compute(Operator::Signed(SignedOperator::Add), Size::Word, HALFWORD_IMMEDIATE, CodeRule::Set) }, // ahi
+    RowMeaning { opcode: 0xa7b, meaning: Meaning::Compute(Operator::Signed(SignedOperator::Add), Size::Doubleword, HALFWORD_IMMEDIATE, CodeRule::Set) }, // aghi
+    RowMeaning { opcode: 0xa7c, meaning: Meaning::Compute(Operator::Signed(SignedOperator::Multiply), Size::Word, HALFWORD_IMMEDIATE, CodeRule::Kept) }, // mhi
+    RowMeaning { opcode: 0xa7d, meaning: Meaning::Compute(Operator::Signed(SignedOperator::Multiply), Size::Doubleword, HALFWORD_IMMEDIATE, CodeRule::Kept) }, // mghi
+    RowMeaning { opcode: 0xa7e, meaning: Meaning::Compare(Signedness::Signed, Size::Word, HALFWORD_IMMEDIATE) }, // chi
+    RowMeaning { opcode: 0xa7f, meaning: Meaning::Compare(Signedness::Signed, Size::Doubleword, HALFWORD_IMMEDIATE) }, // cghi
+    RowMeaning { opcode: 0xc01, meaning: Meaning::Compute(Operator::Move, Size::Doubleword, SIGNED_WORD_IMMEDIATE, CodeRule::Kept) }, // lgfi
     RowMeaning { opcode: 0xc04, meaning: Meaning::BranchRelative }, // brcl
+    RowMeaning { opcode: 0xc09, meaning: Meaning::Compute(Operator::Move, Size::Word, WORD_IMMEDIATE, CodeRule::Kept) }, // iilf
+    RowMeaning { opcode: 0xc20, meaning: Meaning::Compute(Operator::Signed(SignedOperator::Multiply), Size::Doubleword, SIGNED_WORD_IMMEDIATE, CodeRule::Kept) }, // msgfi
+    RowMeaning { opcode: 0xc21, meaning: Meaning::Compute(Operator::Signed(SignedOperator::Multiply), Size::Word, SIGNED_WORD_IMMEDIATE, CodeRule::Kept) }, // msfi
+    RowMeaning { opcode: 0xc24, meaning: Meaning::Compute(Operator::Logical(LogicalOperator::Subtract), Size::Doubleword, WORD_IMMEDIATE, CodeRule::Set) }, // slgfi
+    RowMeaning { opcode: 0xc25, meaning: Meaning::Compute(Operator::Logical(LogicalOperator::Subtract), Size::Word, WORD_IMMEDIATE, CodeRule::Set) }, // slfi
+    RowMeaning { opcode: 0xc28, meaning: Meaning::Compute(Operator::Signed(SignedOperator::Add), Size::Doubleword, SIGNED_WORD_IMMEDIATE, CodeRule::Set) }, // agfi
+    RowMeaning { opcode: 0xc29, meaning: Meaning::Compute(Operator::Signed(SignedOperator::Add), Size::Word, SIGNED_WORD_IMMEDIATE, CodeRule::Set) }, // afi
+    RowMeaning { opcode: 0xc2a, meaning: Meaning::Compute(Operator::Logical(LogicalOperator::Add), Size::Doubleword, WORD_IMMEDIATE, CodeRule::Set) }, // algfi
+    RowMeaning { opcode: 0xc2b, meaning: Meaning::Compute(Operator::Logical(LogicalOperator::Add), Size::Word, WORD_IMMEDIATE, CodeRule::Set) }, // alfi
+    RowMeaning { opcode: 0xc2c, meaning: Meaning::Compare(Signedness::Signed, Size::Doubleword, SIGNED_WORD_IMMEDIATE) }, // cgfi
+    RowMeaning { opcode: 0xc2d, meaning: Meaning::Compare(Signedness::Signed, Size::Word, SIGNED_WORD_IMMEDIATE) }, // cfi
+    RowMeaning { opcode: 0xc2e, meaning: Meaning::Compare(Signedness::Unsigned, Size::Doubleword, WORD_IMMEDIATE) }, // clgfi
+    RowMeaning { opcode: 0xc2f, meaning: Meaning::Compare(Signedness::Unsigned, Size::Word, WORD_IMMEDIATE) }, // clfi
     RowMeaning { opcode: 0xb252, meaning: Meaning::Compute(Operator::Signed(SignedOperator::Multiply), Size::Word, WORD_REGISTER, CodeRule::Kept) }, // msr
     RowMeaning { opcode: 0xb900, meaning: Meaning::Compute(Operator::Signed(SignedOperator::Absolute), Size::Doubleword, REGISTER, CodeRule::Set) }, // lpgr
     RowMeaning { opcode: 0xb903, meaning: Meaning::Compute(Operator::Signed(SignedOperator::Negate), Size::Doubleword, REGISTER, CodeRule::Set) }, // lcgr
@@ -176,4 +230,6 @@ pub const MEANINGS: [RowMeaning; 55] = [
     RowMeaning { opcode: 0xb9fa, meaning: Meaning::Compute(Operator::Logical(LogicalOperator::Add), Size::Word, THREE_WORD_REGISTERS, CodeRule::Set) }, // alrk
     RowMeaning { opcode: 0xb9fb, meaning: Meaning::Compute(Operator::Logical(LogicalOperator::Subtract), Size::Word, THREE_WORD_REGISTERS, CodeRule::Set) }, // slrk
     RowMeaning { opcode: 0xb9fd, meaning: Meaning::Compute(Operator::Signed(SignedOperator::Multiply), Size::Word, THREE_WORD_REGISTERS, CodeRule::Set) }, // msrkc
+    RowMeaning { opcode: 0xecd8, meaning: Meaning::Compute(Operator::Signed(SignedOperator::Add), Size::Word, THREE_HALFWORD_IMMEDIATE, CodeRule::Set) }, // ahik
+    RowMeaning { opcode: 0xecd9, meaning: Meaning::Compute(Operator::Signed(SignedOperator::Add), Size::Doubleword, THREE_HALFWORD_IMMEDIATE, CodeRule::Set) }, // aghik
 ];

@@ -1,12 +1,12 @@
--- Instructions that are one machine instruction on general registers.
-use Rattle.std.specs.Prelude.{ℕ, Bool, cond, ◌&&◌, nat_eq, nat_lt, Option, Some, None}
+-- Instructions that are one machine instruction on general registers and immediates.
+use Rattle.std.specs.Prelude.{ℕ, pos, Bool, cond, ◌&&◌, nat_eq, nat_lt, Option, Some, None}
 use Rattle.s390x_base.specs.Regs.{number_of}
 use Rattle.s390x_base.specs.declared.regs.Reg.TheVariants.{Real}
 use Rattle.s390x_inst.specs.declared.inst.Inst.{Inst}
-use Rattle.s390x_inst.specs.declared.inst.Inst.TheVariants.{AluRRR, AluRR, UnaryRR, CmpRR, Mov64, MovPReg, Mov32}
-use Rattle.s390x_steps.specs.General.{is_general, reuses}
-use Rattle.s390x_steps.specs.MachineInstruction.{MachineInstruction, rr, rre, rrf_ab}
-use Rattle.s390x_steps.specs.Opcodes.{alu_three, alu_two, cmp_two, unary_two}
+use Rattle.s390x_inst.specs.declared.inst.Inst.TheVariants.{AluRRR, AluRR, AluRRSImm16, AluRSImm16, AluRSImm32, AluRUImm32, UnaryRR, CmpRR, CmpRSImm16, CmpRSImm32, CmpRUImm32, Mov64, MovPReg, Mov32, Mov32Imm, Mov32SImm16, Mov64SImm16, Mov64SImm32}
+use Rattle.s390x_steps.specs.General.{is_general, reuses, low_halfword, low_word}
+use Rattle.s390x_steps.specs.MachineInstruction.{MachineInstruction, rr, rre, rrf_ab, ri_a, rie_d, ril_a}
+use Rattle.s390x_steps.specs.Opcodes.{alu_three, alu_two, cmp_two, unary_two, alu_halfword, alu_three_halfword, alu_signed_word, alu_unsigned_word, cmp_halfword, cmp_signed_word, cmp_unsigned_word}
 
 -- the machine instruction, and whether its registers may stand there: real general ones, and the input that has to be the output is it
 pub record Alone : Type 0 where
@@ -27,6 +27,21 @@ three_row None two d n m = None
 three_row (Some three) None d n m = Some (rrf_ab three d n m 0)
 three_row (Some three) (Some two) d n m = Some (cond (nat_eq d n) (two_operands two d m) (rrf_ab three d n m 0))
 
+-- an immediate of 16 bits, and of 32
+abbrev pub halfword_row : Option ℕ → (d bits : ℕ) → Option MachineInstruction
+halfword_row None d bits = None
+halfword_row (Some opcode) d bits = Some (ri_a opcode d bits)
+
+abbrev pub word_row : Option ℕ → (d bits : ℕ) → Option MachineInstruction
+word_row None d bits = None
+word_row (Some opcode) d bits = Some (ril_a opcode d bits)
+
+-- into another register, or two operands where the input is the output
+abbrev pub three_halfword_row : (three two : Option ℕ) → (d n bits : ℕ) → Option MachineInstruction
+three_halfword_row None two d n bits = None
+three_halfword_row (Some three) None d n bits = Some (rie_d three d n bits)
+three_halfword_row (Some three) (Some two) d n bits = Some (cond (nat_eq d n) (ri_a two d bits) (rie_d three d n bits))
+
 -- with these registers; none where there is no row
 abbrev pub alone_with : Bool → Option MachineInstruction → Option Alone
 alone_with fine None = None
@@ -41,4 +56,15 @@ alone (CmpRR op rn rm) = alone_with (is_general rn && is_general rm) (two_row (c
 alone (Mov64 rd rm) = alone_with (is_general rd && is_general rm) (two_row (Some 0xb904) (number_of rd) (number_of rm))
 alone (MovPReg rd rm) = alone_with (is_general rd && is_general (Real rm)) (two_row (Some 0xb904) (number_of rd) (number_of (Real rm)))
 alone (Mov32 rd rm) = alone_with (is_general rd && is_general rm) (two_row (Some 0x18) (number_of rd) (number_of rm))
+alone (AluRRSImm16 op rd rn imm) = alone_with (is_general rd && is_general rn) (three_halfword_row (alu_three_halfword op) (alu_halfword op) (number_of rd) (number_of rn) (low_halfword imm))
+alone (AluRSImm16 op rd ri imm) = alone_with (reuses rd ri) (halfword_row (alu_halfword op) (number_of rd) (low_halfword imm))
+alone (AluRSImm32 op rd ri imm) = alone_with (reuses rd ri) (word_row (alu_signed_word op) (number_of rd) (low_word imm))
+alone (AluRUImm32 op rd ri imm) = alone_with (reuses rd ri) (word_row (alu_unsigned_word op) (number_of rd) (low_word (pos imm)))
+alone (CmpRSImm16 op rn imm) = alone_with (is_general rn) (halfword_row (cmp_halfword op) (number_of rn) (low_halfword imm))
+alone (CmpRSImm32 op rn imm) = alone_with (is_general rn) (word_row (cmp_signed_word op) (number_of rn) (low_word imm))
+alone (CmpRUImm32 op rn imm) = alone_with (is_general rn) (word_row (cmp_unsigned_word op) (number_of rn) (low_word (pos imm)))
+alone (Mov32Imm rd imm) = alone_with (is_general rd) (word_row (Some 0xc09) (number_of rd) (low_word (pos imm)))
+alone (Mov32SImm16 rd imm) = alone_with (is_general rd) (halfword_row (Some 0xa78) (number_of rd) (low_halfword imm))
+alone (Mov64SImm16 rd imm) = alone_with (is_general rd) (halfword_row (Some 0xa79) (number_of rd) (low_halfword imm))
+alone (Mov64SImm32 rd imm) = alone_with (is_general rd) (word_row (Some 0xc01) (number_of rd) (low_word imm))
 alone _ = None

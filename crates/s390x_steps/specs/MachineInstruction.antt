@@ -1,7 +1,7 @@
 -- Machine instructions: a format and the values in its slots, which are the opcode, four registers, three masks, an immediate and a displacement.
 use Rattle.std.specs.Prelude.{ℕ, ◌+◌, List, [], ◌∷◌, ◌++◌}
 use Rattle.s390x_format.specs.declared.kind.FormatKind.{FormatKind}
-use Rattle.s390x_format.specs.declared.kind.FormatKind.TheVariants.{Rr, Rre, RrfAb, RilB, RilC}
+use Rattle.s390x_format.specs.declared.kind.FormatKind.TheVariants.{Rr, Rre, RrfAb, RiA, RieD, RilA, RilB, RilC}
 use Rattle.s390x_format.specs.Formats.{length_of}
 use Rattle.s390x_format.specs.Reading.{encode}
 
@@ -23,6 +23,16 @@ rre opcode r1 r2 = record { format = Rre; slots = opcode ∷ r1 ∷ r2 ∷ 0 ∷
 
 abbrev pub rrf_ab : (opcode r1 r2 r3 m4 : ℕ) → MachineInstruction
 rrf_ab opcode r1 r2 r3 m4 = record { format = RrfAb; slots = opcode ∷ r1 ∷ r2 ∷ r3 ∷ 0 ∷ m4 ∷ 0 ∷ 0 ∷ 0 ∷ 0 ∷ [] }
+
+-- the bits of an immediate stand in its slot
+abbrev pub ri_a : (opcode r1 bits : ℕ) → MachineInstruction
+ri_a opcode r1 bits = record { format = RiA; slots = opcode ∷ r1 ∷ 0 ∷ 0 ∷ 0 ∷ 0 ∷ 0 ∷ 0 ∷ bits ∷ 0 ∷ [] }
+
+abbrev pub rie_d : (opcode r1 r3 bits : ℕ) → MachineInstruction
+rie_d opcode r1 r3 bits = record { format = RieD; slots = opcode ∷ r1 ∷ r3 ∷ 0 ∷ 0 ∷ 0 ∷ 0 ∷ 0 ∷ bits ∷ 0 ∷ [] }
+
+abbrev pub ril_a : (opcode r1 bits : ℕ) → MachineInstruction
+ril_a opcode r1 bits = record { format = RilA; slots = opcode ∷ r1 ∷ 0 ∷ 0 ∷ 0 ∷ 0 ∷ 0 ∷ 0 ∷ bits ∷ 0 ∷ [] }
 
 -- half of a relative distance, modulo 2 ^ 32, stands in the immediate's slot
 abbrev pub ril_b : (opcode r1 half : ℕ) → MachineInstruction

@@ -1,4 +1,5 @@
--- The machine rows of each operator on registers: their opcodes. Those of two digits are RR, of four with two operands RRE, with three RRF-AB.
+-- The machine rows of each operator on registers and immediates: their opcodes. Of those on registers alone, opcodes of two digits are RR, of
+-- four with two operands RRE, with three RRF-AB; with an immediate of 16 bits rows are RI-A, or RIE-D with a third operand; of 32 bits RIL-A.
 use Rattle.std.specs.Prelude.{ℕ, Option, Some, None}
 use Rattle.s390x_inst.specs.declared.ops.ALUOp.{ALUOp}
 use Rattle.s390x_inst.specs.declared.ops.ALUOp.TheVariants.{Add32, Add64, Add64Ext32, AddLogical32, AddLogical64, AddLogical64Ext32, Sub32, Sub64, Sub64Ext32, SubLogical32, SubLogical64, SubLogical64Ext32, Mul32, Mul32CC, Mul64, Mul64Ext32, Mul64CC, And32, And64, Orr32, Orr64, Xor32, Xor64}
@@ -75,3 +76,49 @@ unary_two Neg64Ext32 = Some 0xb913
 unary_two BSwap32 = Some 0xb91f
 unary_two BSwap64 = Some 0xb90f
 unary_two _ = None
+
+-- a register and an immediate of 16 bits with its sign
+abbrev pub alu_halfword : ALUOp → Option ℕ
+alu_halfword Add32 = Some 0xa7a
+alu_halfword Add64 = Some 0xa7b
+alu_halfword Mul32 = Some 0xa7c
+alu_halfword Mul64 = Some 0xa7d
+alu_halfword _ = None
+
+-- the same into another register
+abbrev pub alu_three_halfword : ALUOp → Option ℕ
+alu_three_halfword Add32 = Some 0xecd8
+alu_three_halfword Add64 = Some 0xecd9
+alu_three_halfword _ = None
+
+-- a register and an immediate of 32 bits, with its sign
+abbrev pub alu_signed_word : ALUOp → Option ℕ
+alu_signed_word Add32 = Some 0xc29
+alu_signed_word Add64 = Some 0xc28
+alu_signed_word Mul32 = Some 0xc21
+alu_signed_word Mul64 = Some 0xc20
+alu_signed_word _ = None
+
+-- and without a sign
+abbrev pub alu_unsigned_word : ALUOp → Option ℕ
+alu_unsigned_word AddLogical32 = Some 0xc2b
+alu_unsigned_word AddLogical64 = Some 0xc2a
+alu_unsigned_word SubLogical32 = Some 0xc25
+alu_unsigned_word SubLogical64 = Some 0xc24
+alu_unsigned_word _ = None
+
+-- comparisons with an immediate of 16 bits, and of 32 bits with and without a sign
+abbrev pub cmp_halfword : CmpOp → Option ℕ
+cmp_halfword CmpS32 = Some 0xa7e
+cmp_halfword CmpS64 = Some 0xa7f
+cmp_halfword _ = None
+
+abbrev pub cmp_signed_word : CmpOp → Option ℕ
+cmp_signed_word CmpS32 = Some 0xc2d
+cmp_signed_word CmpS64 = Some 0xc2c
+cmp_signed_word _ = None
+
+abbrev pub cmp_unsigned_word : CmpOp → Option ℕ
+cmp_unsigned_word CmpL32 = Some 0xc2f
+cmp_unsigned_word CmpL64 = Some 0xc2e
+cmp_unsigned_word _ = None

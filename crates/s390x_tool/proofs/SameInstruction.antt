@@ -6,7 +6,7 @@ use Rattle.s390x_base.specs.declared.ir.MachLabel.{MachLabel}
 use Rattle.s390x_base.specs.declared.error.EmitError.{EmitError}
 use Rattle.s390x_base.specs.declared.error.EmitError.TheVariants.{BadOperator, BadRegister}
 use Rattle.s390x_inst.specs.declared.inst.Inst.{Inst}
-use Rattle.s390x_inst.specs.declared.inst.Inst.TheVariants.{AluRRR, AluRR, UnaryRR, CmpRR, Mov64, MovPReg, Mov32, Jump, CondBr, Ret, CondBreak, Vector}
+use Rattle.s390x_inst.specs.declared.inst.Inst.TheVariants.{AluRRR, AluRR, AluRRSImm16, AluRSImm16, AluRSImm32, AluRUImm32, UnaryRR, CmpRR, CmpRSImm16, CmpRSImm32, CmpRUImm32, Mov64, MovPReg, Mov32, Mov32Imm, Mov32SImm16, Mov64SImm16, Mov64SImm32, Jump, CondBr, Ret, CondBreak, Vector}
 use Rattle.s390x_inst.specs.declared.vec_inst.VecInst.{VecInst}
 use Rattle.s390x_inst.specs.declared.vec_inst.VecInst.TheVariants.{VecRR}
 use Rattle.s390x_steps.specs.MachineInstruction.{rr}
@@ -15,7 +15,7 @@ use Rattle.s390x_steps.specs.General.{is_general, is_nonzero}
 use Rattle.s390x_steps.specs.Parts.{Part, Row, step_parts}
 use Rattle.s390x_steps.specs.Steps.{step_of}
 use Rattle.s390x_steps.specs.Ranges.{InRange}
-use Rattle.s390x_job.specs.Fields.{Field, FAlu, FUnary, FCmp, FReg, FReal, FNatural, FLabels, FCond}
+use Rattle.s390x_job.specs.Fields.{Field, FAlu, FUnary, FCmp, FReg, FReal, FInteger, FNatural, FLabels, FCond}
 use Rattle.s390x_job.specs.Line.{Line}
 use Rattle.s390x_job.specs.Instructions.{inst_line, vector_line}
 use Rattle.s390x_job.specs.declared.inst_name.IntegerName.TheVariants as IntegerIs
@@ -42,6 +42,17 @@ reading (N.Integer IntegerIs.CmpRR) (FCmp op ∷ FReg rn ∷ FReg rm ∷ []) = W
 reading (N.Integer IntegerIs.Mov64) (FReg rd ∷ FReg rm ∷ []) = Whole (Mov64 rd rm)
 reading (N.Integer IntegerIs.MovPReg) (FReg rd ∷ FReal rm ∷ []) = Whole (MovPReg rd rm)
 reading (N.Integer IntegerIs.Mov32) (FReg rd ∷ FReg rm ∷ []) = Whole (Mov32 rd rm)
+reading (N.Integer IntegerIs.AluRRSImm16) (FAlu op ∷ FReg rd ∷ FReg rn ∷ FInteger w imm ∷ []) = Whole (AluRRSImm16 op rd rn imm)
+reading (N.Integer IntegerIs.AluRSImm16) (FAlu op ∷ FReg rd ∷ FReg ri ∷ FInteger w imm ∷ []) = Whole (AluRSImm16 op rd ri imm)
+reading (N.Integer IntegerIs.AluRSImm32) (FAlu op ∷ FReg rd ∷ FReg ri ∷ FInteger w imm ∷ []) = Whole (AluRSImm32 op rd ri imm)
+reading (N.Integer IntegerIs.AluRUImm32) (FAlu op ∷ FReg rd ∷ FReg ri ∷ FNatural w imm ∷ []) = Whole (AluRUImm32 op rd ri imm)
+reading (N.Integer IntegerIs.CmpRSImm16) (FCmp op ∷ FReg rn ∷ FInteger w imm ∷ []) = Whole (CmpRSImm16 op rn imm)
+reading (N.Integer IntegerIs.CmpRSImm32) (FCmp op ∷ FReg rn ∷ FInteger w imm ∷ []) = Whole (CmpRSImm32 op rn imm)
+reading (N.Integer IntegerIs.CmpRUImm32) (FCmp op ∷ FReg rn ∷ FNatural w imm ∷ []) = Whole (CmpRUImm32 op rn imm)
+reading (N.Integer IntegerIs.Mov32Imm) (FReg rd ∷ FNatural w imm ∷ []) = Whole (Mov32Imm rd imm)
+reading (N.Integer IntegerIs.Mov32SImm16) (FReg rd ∷ FInteger w imm ∷ []) = Whole (Mov32SImm16 rd imm)
+reading (N.Integer IntegerIs.Mov64SImm16) (FReg rd ∷ FInteger w imm ∷ []) = Whole (Mov64SImm16 rd imm)
+reading (N.Integer IntegerIs.Mov64SImm32) (FReg rd ∷ FInteger w imm ∷ []) = Whole (Mov64SImm32 rd imm)
 reading (N.Control ControlIs.Jump) (FNatural w dest ∷ []) = Whole (Jump (named dest))
 reading (N.Control ControlIs.CondBr) (FNatural v taken ∷ FNatural w not_taken ∷ FCond mask ∷ []) = Whole (CondBr (named taken) (named not_taken) mask)
 reading (N.Control ControlIs.IndirectBr) (FReg rn ∷ FLabels targets ∷ []) = Picks rn targets

@@ -1,7 +1,7 @@
-//! A line of each instruction of two or three registers, and its code as an assembler gives it.
+//! A line of each instruction that is one row of registers and an immediate, and its code as an assembler gives it.
 
 #[rattlefmt::skip]
-pub const REGISTER_ROWS: [(&str, &str); 53] = [
+pub const REGISTER_ROWS: [(&str, &str); 73] = [
     ("UnaryRR Abs32 %r4 %r15", "104f"),
     ("UnaryRR Neg32 %r3 %r3", "1333"),
     ("AluRR And32 %r1 %r1 %r3", "1413"),
@@ -14,6 +14,13 @@ pub const REGISTER_ROWS: [(&str, &str); 53] = [
     ("AluRR Sub32 %r3 %r3 %r2", "1b32"),
     ("AluRR AddLogical32 %r0 %r0 %r4", "1e04"),
     ("AluRR SubLogical32 %r4 %r4 %r3", "1f43"),
+    ("Mov32SImm16 %r14 -1", "a7e8ffff"),
+    ("Mov64SImm16 %r6 -32768", "a7698000"),
+    ("AluRRSImm16 Add32 %r5 %r5 26394", "a75a671a"),
+    ("AluRSImm16 Mul32 %r2 %r2 1", "a72c0001"),
+    ("AluRSImm16 Mul64 %r2 %r2 -31032", "a72d86c8"),
+    ("CmpRSImm16 CmpS32 %r4 -15024", "a74ec550"),
+    ("CmpRSImm16 CmpS64 %r14 -1", "a7efffff"),
     ("AluRR Mul32 %r6 %r6 %r3", "b2520063"),
     ("UnaryRR Abs64 %r5 %r3", "b9000053"),
     ("UnaryRR Neg64 %r0 %r3", "b9030003"),
@@ -55,4 +62,17 @@ pub const REGISTER_ROWS: [(&str, &str); 53] = [
     ("AluRRR AddLogical32 %r3 %r2 %r6", "b9fa6032"),
     ("AluRRR SubLogical32 %r3 %r2 %r4", "b9fb4032"),
     ("AluRRR Mul32 %r7 %r0 %r15", "b9fdf070"),
+    ("AluRSImm32 Mul64 %r4 %r4 0", "c24000000000"),
+    ("AluRSImm32 Mul32 %r6 %r6 -1", "c261ffffffff"),
+    ("AluRUImm32 SubLogical32 %r14 %r14 1407399480", "c2e553e33638"),
+    ("AluRSImm32 Add64 %r0 %r0 1", "c20800000001"),
+    ("AluRSImm32 Add32 %r3 %r3 -1197345688", "c239b8a1f468"),
+    ("AluRUImm32 AddLogical64 %r1 %r1 1317076308", "c21a4e80fd54"),
+    ("AluRUImm32 AddLogical32 %r3 %r3 4294967295", "c23bffffffff"),
+    ("CmpRSImm32 CmpS64 %r8 -1", "c28cffffffff"),
+    ("CmpRSImm32 CmpS32 %r2 1", "c22d00000001"),
+    ("CmpRUImm32 CmpL64 %r3 0", "c23e00000000"),
+    ("CmpRUImm32 CmpL32 %r14 1", "c2ef00000001"),
+    ("AluRRSImm16 Add32 %r14 %r3 32767", "ece37fff00d8"),
+    ("AluRRSImm16 Add64 %r7 %r2 -1", "ec72ffff00d9"),
 ];
