@@ -196,7 +196,8 @@ line_size (around mask members rest) = line_size members + 6 + line_size rest
 
 same_size : (t : Tree) → tree_size t ≡ line_size (lines_tree t)
 same_size empty = refl
-same_size (leaf i rest) = let a = ap parts_size (parts_read 0 i) in let b = same_size rest in cc
+same_size (leaf i rest) =
+    ap (λ ps. parts_size ps + tree_size rest) (parts_read 0 i) ∙ ap (λ n. parts_size (reading_parts 0 (line_reading (inst_line i))) + n) (same_size rest)
 same_size (looped mask members rest) = let a = same_size members in let b = same_size rest in cc
 
 abbrev pub line_blocks_size : List LineTree → ℕ
