@@ -234,19 +234,24 @@ fn images(rt: HostRuntime) -> Result<(), Fail> {
     Ok(())
 }
 
-#[test]
-fn instructions_on_registers(rt: HostRuntime) -> Result<(), Fail> {
-    let alloc = rt.alloc();
+/// The text of a job with these lines, and the line that is its code in hex.
+fn job_of(alloc: Global, rows: &[(&str, &str)]) -> Result<(String, String), Fail> {
     let mut text = String::from_str(alloc, "block\n")?;
     let mut code = String::new(alloc);
-    for (line, hex) in REGISTER_ROWS {
+    for (line, hex) in rows {
         text.push_str(line)?;
         text.push_str("\n")?;
         code.push_str(hex)?;
     }
     text.push_str("end\n")?;
     code.push_str("\n")?;
-    let input = Vec::from_slice(alloc, text.as_bytes())?;
+    Ok((text, code))
+}
+
+#[test]
+fn instructions_on_registers(rt: HostRuntime) -> Result<(), Fail> {
+    let (text, code) = job_of(rt.alloc(), &REGISTER_ROWS)?;
+    let input = Vec::from_slice(rt.alloc(), text.as_bytes())?;
     expect(&rt, "image 4096", input, GOOD, (Status::Ok, code.as_str()))
 }
 
