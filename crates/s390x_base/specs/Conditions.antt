@@ -5,6 +5,7 @@ use Rattle.s390x_base.specs.declared.cond.IntCC.TheVariants.{Equal, NotEqual, Si
 use Rattle.s390x_base.specs.declared.cond.FloatCC.{FloatCC}
 use Rattle.s390x_base.specs.declared.cond.FloatCC.TheVariants.{Ordered, Unordered, Equal as FloatEqual, NotEqual as FloatNotEqual, OrderedNotEqual, UnorderedOrEqual, LessThan, LessThanOrEqual, GreaterThan, GreaterThanOrEqual, UnorderedOrLessThan, UnorderedOrLessThanOrEqual, UnorderedOrGreaterThan, UnorderedOrGreaterThanOrEqual}
 
+-- the mask of the codes at which a condition holds after a comparison of integers
 abbrev pub mask_of_intcc : IntCC → ℕ
 mask_of_intcc Equal = 8
 mask_of_intcc NotEqual = 6
@@ -17,6 +18,7 @@ mask_of_intcc UnsignedGreaterThanOrEqual = 10
 mask_of_intcc UnsignedGreaterThan = 2
 mask_of_intcc UnsignedLessThanOrEqual = 12
 
+-- the same after a comparison of floats, which gives code 3 where they are unordered
 abbrev pub mask_of_floatcc : FloatCC → ℕ
 mask_of_floatcc Ordered = 14
 mask_of_floatcc Unordered = 1

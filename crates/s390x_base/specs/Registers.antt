@@ -13,9 +13,11 @@ pub record RealRegister : Type 0 where
   pub class : RegClass
   pub number : ℕ
 
+-- the general register of a number
 abbrev pub general : ℕ → RealRegister
 general n = record { class = Int; number = n }
 
+-- the vector register of a number
 abbrev pub vector : ℕ → RealRegister
 vector n = record { class = Float; number = n }
 

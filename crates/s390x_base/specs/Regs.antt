@@ -6,6 +6,7 @@ use Rattle.s390x_base.specs.declared.regs.RegClass.TheVariants.{Int, Float}
 use Rattle.s390x_base.specs.declared.regs.Reg.{Reg}
 use Rattle.s390x_base.specs.declared.regs.Reg.TheVariants.{Real, Virtual}
 
+-- the class, of a virtual register too
 abbrev pub class_of : Reg → RegClass
 class_of (Real r) = r.class
 class_of (Virtual n c) = c
@@ -25,6 +26,7 @@ abbrev pub IsReal : RegClass → Reg → Type 0
 IsReal c (Real r) = r.class ≡ c
 IsReal c (Virtual n k) = false ≡ true
 
+-- the class of general registers
 abbrev pub is_int : RegClass → Bool
 is_int Int = true
 is_int Float = false

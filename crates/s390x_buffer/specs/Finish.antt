@@ -16,12 +16,15 @@ pub record PlacedTryCallSite : Type 0 where
   pub frame : ℕ
   pub handlers : List HandlerEntry
 
+-- an entry of the finished table, as contracts see it
 abbrev pub entry_of : TryEntry → PlacedTryCallSite
 entry_of e = record { offset = e.offset; frame = e.frame; handlers = e.handlers.items }
 
+-- a handler with the place of its label
 abbrev pub placed_handler : (ℕ → ℕ) → TryHandler → HandlerEntry
 placed_handler off h = record { tag = h.tag; offset = off h.label.0 }
 
+-- a call with a try, its handlers with their places
 abbrev pub placed_site : (ℕ → ℕ) → TryCallSite → PlacedTryCallSite
 placed_site off s = record { offset = s.offset; frame = s.frame; handlers = map (placed_handler off) s.handlers }
 

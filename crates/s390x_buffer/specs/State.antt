@@ -17,6 +17,7 @@ pub record Constant : Type 0 where
   pub bytes : List ℕ
   pub align : ℕ
 
+-- a constant of a function, as contracts see it
 abbrev pub constant_of : ConstantData → Constant
 constant_of c = record { bytes = c.bytes.items; align = c.align }
 
@@ -26,6 +27,7 @@ pub record TryCallSite : Type 0 where
   pub frame : ℕ
   pub handlers : List TryHandler
 
+-- a recorded call with a try, as contracts see it
 abbrev pub site_of : TrySite → TryCallSite
 site_of s = record { offset = s.offset; frame = s.frame; handlers = s.handlers.items }
 
@@ -110,6 +112,7 @@ handlers_cause s hs = cond s.failed (Some Failed) (cond (labels_below (length s.
 abbrev pub constant_cause : State → ℕ → Option EmitError
 constant_cause s c = cond s.failed (Some Failed) (cond (nat_lt c (length s.constants)) None (Some UnboundLabel))
 
+-- an alignment that a constant may have
 abbrev pub is_alignment : ℕ → Bool
 is_alignment a = nat_eq a 1 || nat_eq a 2 || nat_eq a 4 || nat_eq a 8 || nat_eq a 16
 

@@ -15,13 +15,15 @@ use Rattle.s390x_steps.specs.Image.{function_places, function_code, step_places,
 use Rattle.s390x_steps.specs.Sizes.{blocks_size}
 use Rattle.s390x_steps.specs.Causes.{first, unless, blocks_cause}
 
+-- a block as a tree
 abbrev pub tree_of : Block → Tree
 tree_of b = tree b.insts.items
 
--- the blocks of a function as trees, and its constants
+-- the blocks of a function as trees
 abbrev pub trees_of : AllocatedFunction → List Tree
 trees_of f = map tree_of f.blocks.items
 
+-- the constants of a function
 abbrev pub constants_of : AllocatedFunction → List Constant
 constants_of f = map constant_of f.constants.items
 

@@ -37,10 +37,12 @@ is_whole (p ∷ []) = p.low == 0
 is_whole (p ∷ q ∷ []) = ((p.low == 0) && (q.low == p.width)) || ((q.low == 0) && (p.low == q.width))
 is_whole (p ∷ q ∷ r ∷ ps) = false
 
+-- the value of each slot below k is whole, and has at most 32 bits
 unfoldable pub slots_ok : ℕ → List Part → Bool
 slots_ok zero ps = true
 slots_ok (suc k) ps = is_whole (parts_of k ps) && (nat_le (width_of k ps) 32) && slots_ok k ps
 
+-- no part begins above bit 31 of its value, and none has more than 32 bits
 unfoldable pub is_narrow : List Part → Bool
 is_narrow [] = true
 is_narrow (p ∷ ps) = nat_le (p.low) 31 && nat_le (p.width) 32 && is_narrow ps

@@ -36,6 +36,7 @@ opcode_at LowHalf t n = n / 2 ^ (t - 8) % 256 * 16 + n / 2 ^ (t - 16) % 16
 opcode_at SecondByte t n = n / 2 ^ (t - 8) % 256 * 256 + n / 2 ^ (t - 16) % 256
 opcode_at LastByte t n = n / 2 ^ (t - 8) % 256 * 256 + n % 256
 
+-- this is a row of the table with this opcode
 pub record HasOpcode (rows : List MachineRow) (opcode : ℕ) (r : MachineRow) : Type 0 where
   pub at : ℕ
   pub below : at < length rows

@@ -1,4 +1,5 @@
--- The machine rows: which masks and immediates they allow, and which length a first byte tells.
+-- The machine rows: which masks and immediates they allow, of those that the instructions have (Principles of Operation, chapter 7,
+-- "General instructions", and chapters 21 and 22), and which length a first byte tells (chapter 5, "Instruction formats").
 use Rattle.std.specs.Prelude.{ℕ, ◌+◌, ◌-◌, ◌*◌, ◌/◌, ◌^◌, Bool, true, ◌&&◌, ◌||◌, ◌==◌, nat_le, nat_lt, List, [], ◌∷◌, slice_index, if◌then◌else◌}
 use Rattle.s390x_format.specs.declared.row.MachineRow.{MachineRow}
 use Rattle.s390x_format.specs.declared.row.Allowed.{Allowed}

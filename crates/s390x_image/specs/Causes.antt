@@ -29,6 +29,7 @@ is_address z = int_le (pos 0) z && int_lt z (pos 18446744073709551616)
 abbrev pub is_signed_word : ℤ → Bool
 is_signed_word z = int_le (negsuc 2147483647) z && int_lt z (pos 2147483648)
 
+-- an even number
 abbrev pub is_even : ℤ → Bool
 is_even z = int_eq (int_rem z (pos 2)) (pos 0)
 
@@ -44,11 +45,13 @@ half_cause distance = cond (is_even distance) (cond (is_signed_word (int_div dis
 abbrev pub relative_cause : (target distance : ℤ) → Option LinkError
 relative_cause target distance = first (absolute_cause (target -ℤ pos 2)) (half_cause distance)
 
+-- why a relocation of this kind can't store its target
 abbrev pub field_cause : Reloc → (target distance : ℤ) → Option LinkError
 field_cause S390xPCRel32Dbl target distance = relative_cause target distance
 field_cause S390xPLTRel32Dbl target distance = relative_cause target distance
 field_cause Abs8 target distance = absolute_cause target
 
+-- why a relocation's field can't be filled, where its symbol has this address or none
 abbrev pub symbol_cause : ℕ → RelocEntry → Option ℕ → Option LinkError
 symbol_cause base r None = Some UndefinedSymbol
 symbol_cause base r (Some symbol) = field_cause r.kind (target_of symbol r) (distance_of base symbol r)
@@ -57,9 +60,11 @@ symbol_cause base r (Some symbol) = field_cause r.kind (target_of symbol r) (dis
 abbrev pub reloc_cause : ℕ → Symbols → RelocEntry → Option LinkError
 reloc_cause base table r = symbol_cause base r (address_of table r.name)
 
+-- the first cause among the relocations, in order
 abbrev pub relocs_cause : ℕ → Symbols → List RelocEntry → Option LinkError
 relocs_cause base table [] = None
 relocs_cause base table (r ∷ rs) = first (reloc_cause base table r) (relocs_cause base table rs)
 
+-- why code can't be linked at a base: the base, then each relocation
 abbrev pub link_cause : MachBufferFinalized → ℕ → Symbols → Option LinkError
 link_cause code base table = first (base_cause code.alignment (length code.bytes.items) base) (relocs_cause base table code.relocs.items)

@@ -37,6 +37,7 @@ half_field distance = to_be_bytes w32 (cast_unsigned w32 (int_div distance (pos 
 abbrev pub target_field : ℤ → List ℕ
 target_field target = to_be_bytes w64 (cast_unsigned w64 target)
 
+-- what a relocation of this kind stores for a target at a distance
 abbrev pub field_of : Reloc → (target distance : ℤ) → List ℕ
 field_of S390xPCRel32Dbl target distance = half_field distance
 field_of S390xPLTRel32Dbl target distance = half_field distance

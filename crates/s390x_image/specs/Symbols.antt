@@ -6,6 +6,7 @@ use Rattle.std.specs.Cmp.{nat_cmp_total, unsigned_tied}
 use Rattle.std.specs.FinMap.{FinMap, empty, get, insert, get-empty, get-insert}
 use Rattle.s390x_base.specs.declared.ir.ExternalName.{ExternalName}
 
+-- the addresses of names, by the names' numbers
 abbrev pub Symbols : Type 0
 Symbols = FinMap nat_cmp ℕ
 

@@ -32,6 +32,7 @@ alu_facility OrrNot32 = MIE3
 alu_facility OrrNot64 = MIE3
 alu_facility _ = Base
 
+-- of an operator on one register
 abbrev pub unary_facility : UnaryOp → InstructionSet
 unary_facility PopcntReg = MIE3
 unary_facility Clz64 = MIE4
@@ -70,6 +71,7 @@ vec_binary_facility UAvg128 = VXRS_EXT3
 vec_binary_facility SAvg128 = VXRS_EXT3
 vec_binary_facility _ = Base
 
+-- vector operators on one register: those on 128 bits, and those that unpack to 128 bits
 abbrev pub vec_unary_facility : VecUnaryOp → InstructionSet
 vec_unary_facility Abs128 = VXRS_EXT3
 vec_unary_facility Neg128 = VXRS_EXT3
@@ -81,12 +83,14 @@ vec_unary_facility UnpackSLow64x2 = VXRS_EXT3
 vec_unary_facility UnpackSHigh64x2 = VXRS_EXT3
 vec_unary_facility _ = Base
 
+-- comparisons of vectors: those of 128 bits
 abbrev pub vec_compare_facility : VecIntCmpOp → InstructionSet
 vec_compare_facility CmpEq128 = VXRS_EXT3
 vec_compare_facility SCmpHi128 = VXRS_EXT3
 vec_compare_facility UCmpHi128 = VXRS_EXT3
 vec_compare_facility _ = Base
 
+-- of a vector instruction: its operator's; comparing elements, blending and evaluating need one too, and so do reversed accesses to memory
 abbrev pub vec_facility : VecInst → InstructionSet
 vec_facility (VecRRR op rd rn rm) = vec_binary_facility op
 vec_facility (VecRR op rd rn) = vec_unary_facility op
@@ -115,6 +119,7 @@ vec_facility (VecLoadLaneRevUndef size rd mem lane) = VXRS_EXT2
 vec_facility (VecStoreLaneRev size rd mem lane) = VXRS_EXT2
 vec_facility _ = Base
 
+-- the facility that an instruction needs
 abbrev pub facility_of : Inst → InstructionSet
 facility_of (AluRRR op rd rn rm) = alu_facility op
 facility_of (UnaryRR op rd rn) = unary_facility op

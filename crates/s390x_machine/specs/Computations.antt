@@ -1,4 +1,4 @@
--- What the operators of integer instructions compute.
+-- What the operators of integer instructions compute (Principles of Operation, chapter 7, "General instructions"). Their names are cranelift-codegen's.
 use Rattle.std.specs.Prelude.{ℕ, Bool, true, false}
 use Rattle.s390x_inst.specs.declared.ops.ALUOp.{ALUOp}
 use Rattle.s390x_inst.specs.declared.ops.ALUOp.TheVariants as A
@@ -33,18 +33,23 @@ pub record Second : Type 0 where
   pub sign : Signedness
   pub reversed : Bool
 
+-- 32 bits, without a sign
 abbrev pub word : Second
 word = record { width = Bits32; sign = Unsigned; reversed = false }
 
+-- 32 bits, with their sign
 abbrev pub signed_word : Second
 signed_word = record { width = Bits32; sign = Signed; reversed = false }
 
+-- 16 bits, with their sign
 abbrev pub signed_halfword : Second
 signed_halfword = record { width = Bits16; sign = Signed; reversed = false }
 
+-- 16 bits, without a sign
 abbrev pub halfword : Second
 halfword = record { width = Bits16; sign = Unsigned; reversed = false }
 
+-- all 64 bits
 abbrev pub doubleword : Second
 doubleword = record { width = Bits64; sign = Unsigned; reversed = false }
 
@@ -54,16 +59,19 @@ pub record Computation : Type 0 where
   pub size : Size
   pub second : Second
 
--- on the right halves of registers, and on whole ones
+-- on the right halves of registers
 abbrev pub on_words : Operator → Computation
 on_words operator = record { operator = operator; size = Word; second = word }
 
+-- on whole registers
 abbrev pub on_doublewords : Operator → Computation
 on_doublewords operator = record { operator = operator; size = Doubleword; second = doubleword }
 
+-- on a first operand of a size and a second one that is read like this
 abbrev pub with_second : Operator → Size → Second → Computation
 with_second operator size second = record { operator = operator; size = size; second = second }
 
+-- what each operator on two operands computes
 abbrev pub alu_computation : ALUOp → Computation
 alu_computation A.Add32 = on_words (O.Signed Add)
 alu_computation A.Add32Ext16 = with_second (O.Signed Add) Word signed_halfword
@@ -120,6 +128,7 @@ alu_two_rule A.Mul64Ext16 = Kept
 alu_two_rule A.Mul64Ext32 = Kept
 alu_two_rule _ = Set
 
+-- what each operator on one operand computes: that operand stands as the second one
 abbrev pub unary_computation : UnaryOp → Computation
 unary_computation U.Abs32 = on_words (O.Signed Absolute)
 unary_computation U.Abs64 = on_doublewords (O.Signed Absolute)
@@ -134,6 +143,7 @@ unary_computation U.BSwap64 = with_second O.Move Doubleword (record { width = Bi
 unary_computation U.Clz64 = on_doublewords O.LeadingZeros
 unary_computation U.Ctz64 = on_doublewords O.TrailingZeros
 
+-- the condition code with one operand: reversals of bytes keep it, and it is unstated after counts of zeros
 abbrev pub unary_rule : UnaryOp → CodeRule
 unary_rule U.BSwap32 = Kept
 unary_rule U.BSwap64 = Kept
@@ -147,6 +157,7 @@ pub record Comparison : Type 0 where
   pub size : Size
   pub second : Second
 
+-- how each comparison reads its operands
 abbrev pub comparison : CmpOp → Comparison
 comparison C.CmpS32 = record { sign = Signed; size = Word; second = word }
 comparison C.CmpS32Ext16 = record { sign = Signed; size = Word; second = signed_halfword }
@@ -159,6 +170,7 @@ comparison C.CmpL64 = record { sign = Unsigned; size = Doubleword; second = doub
 comparison C.CmpL64Ext16 = record { sign = Unsigned; size = Doubleword; second = halfword }
 comparison C.CmpL64Ext32 = record { sign = Unsigned; size = Doubleword; second = word }
 
+-- an effect, with what becomes of the condition code
 abbrev pub with_rule : CodeRule → Effect → Operation
 with_rule rule effect = record { effect = effect; rule = rule }
 
@@ -186,5 +198,6 @@ compares_immediate c n bits r = with_rule Set (Compare c.sign c.size (value_in c
 abbrev pub on_immediate : Computation → Second → Computation
 on_immediate c second = record { operator = c.operator; size = c.size; second = second }
 
+-- the same comparison with an immediate, whose bits are read like this
 abbrev pub compares_on_immediate : Comparison → Second → Comparison
 compares_on_immediate c second = record { sign = c.sign; size = c.size; second = second }

@@ -25,6 +25,7 @@ pub record IsFound (m : Memory) (place : ℕ) (d : Decoded) : Type 0 where
   pub reached : IsReached m place
   pub row : IsFetch (instruction_bytes m place) d
 
+-- what fetching at a place gives: the place is odd, a byte isn't accessible, no row has the bytes, or a row has them
 abbrev pub Fetches : Memory → ℕ → Fetched → Type 0
 Fetches m place Misplaced = place % 2 ≡ 1
 Fetches m place Missing = (place % 2 ≡ 0) × (IsReached m place → ⊥)

@@ -15,6 +15,7 @@ use Rattle.s390x_machine.specs.Computations.{computes, compares, alu_computation
 use Rattle.s390x_steps.specs.General.{low_halfword, low_word}
 use Rattle.s390x_steps.specs.Steps.{Step, Plain, Opening, Back, Break}
 
+-- what a typed step does
 pub data Form : Type 0 where
   -- an operation on the registers. Where it needs `%r1`, that register may have any value after it, but for what the operation writes there.
   -- Each kind of stop ends the run by a trap with a code, or is wrong where it has none
@@ -78,10 +79,12 @@ branch_form (IndirectBr rn targets) = GoesByAddress (number_of rn) targets.items
 branch_form (Ret link) = Returns (number_of link)
 branch_form _ = Unbuilt
 
+-- an instruction that is one operation performs it, and its stops have no code; another one has its own form
 abbrev pub form_or : Option (Registers → Operation) → Form → Form
 form_or None others = others
 form_or (Some operation) others = Performs false operation no_code
 
+-- what an instruction does
 abbrev pub instruction_form : Inst → Form
 instruction_form i = form_or (instruction_operation i) (branch_form i)
 

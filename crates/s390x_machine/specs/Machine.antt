@@ -61,21 +61,26 @@ pub record Turn : Type 0 where
   pub event : Event
   pub after : State
 
+-- the state after the turn's writes, before its step
 abbrev pub before : State → Turn → State
 before s turn = record { core = written turn.writes s.core; place = s.place }
 
+-- others may write this, and then the machine takes this step
 pub record Takes (image : CodeImage) (s : State) (turn : Turn) : Type 0 where
   pub may : MayWrite image s.core.memory.has turn.writes
   pub goes : MachineStep (before s turn) turn.event turn.after
 
+-- a run of the machine: one turn after another
 abbrev pub Run : CodeImage → State → List Turn → Type 0
 Run image s [] = Unit {0}
 Run image s (turn ∷ turns) = Takes image s turn × Run image turn.after turns
 
+-- the state after all turns
 abbrev pub after_all : State → List Turn → State
 after_all s [] = s
 after_all s (turn ∷ turns) = after_all turn.after turns
 
+-- all that others write in the turns, in order
 abbrev pub all_writes : List Turn → List Write
 all_writes [] = []
 all_writes (turn ∷ turns) = turn.writes ++ all_writes turns

@@ -11,6 +11,7 @@ use Rattle.s390x_machine.specs.Layout.{Layout, place, block_place, InStep}
 
 -- ---- the match
 
+-- the turns of all groups, one group after another
 abbrev pub joined : List (List Turn) → List Turn
 joined [] = []
 joined (g ∷ gs) = g ++ joined gs

@@ -21,10 +21,11 @@ use Rattle.s390x_machine.specs.declared.meaning.Action.{Action}
 use Rattle.s390x_machine.specs.declared.meaning.Action.TheVariants.{Perform, Branch}
 use Rattle.s390x_machine.specs.declared.meaning.TheConstants.{MEANINGS}
 
--- a register field's number, and a mask field's value
+-- a register field's number
 abbrev pub register_field : Fields → ℕ → ℕ
 register_field f i = slice_index f.regs i
 
+-- a mask field's value
 abbrev pub mask_field : Fields → ℕ → ℕ
 mask_field f i = slice_index f.masks i
 
@@ -46,6 +47,7 @@ first_register ThreeRegisters f = register_field f 1
 first_register ThreeImmediate f = register_field f 1
 first_register _ f = register_field f 0
 
+-- the second operand's value, or its address where it is in memory
 abbrev pub source : Shape → Fields → Registers → ℕ → Source
 source Register f r place = Value (r.general (register_field f 1))
 source ThreeRegisters f r place = Value (r.general (register_field f 2))
@@ -54,9 +56,11 @@ source Relative f r place = AlignedMemory (relative_address f place)
 source Immediate f r place = Value (low Doubleword f.imm)
 source ThreeImmediate f r place = Value (low Doubleword f.imm)
 
+-- the second operand, and how it is read
 abbrev pub operand : SecondOperand → Fields → Registers → ℕ → Operand
 operand s f r place = record { source = source s.shape f r place; width = s.width; sign = s.sign; reversed = s.reversed }
 
+-- an effect with its rule for the condition code; the next instruction follows
 abbrev pub performs : CodeRule → Effect → Action
 performs rule effect = Perform (record { effect = effect; rule = rule })
 
@@ -73,6 +77,7 @@ action BranchRelative f r place = Branch (mask_field f 0) (relative_address f pl
 abbrev pub names_pair : Meaning → Bool
 names_pair _ = false
 
+-- an odd register where the row names a pair
 abbrev pub is_odd_pair : Meaning → Fields → Bool
 is_odd_pair meaning f = names_pair meaning && (register_field f 0 % 2 == 1)
 

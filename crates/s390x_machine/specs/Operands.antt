@@ -1,4 +1,4 @@
--- Values of registers, as operands.
+-- Values of registers, as operands (Principles of Operation, chapter 7, "General instructions").
 use Rattle.std.specs.Prelude.{ℕ, ◌%◌, ◌^◌}
 use Rattle.s390x_operations.specs.State.{Registers}
 use Rattle.s390x_operations.specs.declared.size.Size.{Size}

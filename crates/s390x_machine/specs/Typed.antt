@@ -30,6 +30,7 @@ abbrev pub loosened : Bool → ℕ → Registers → Registers
 loosened false v r = r
 loosened true v r = put r 1 v
 
+-- a core whose `%r1` may have any value where it is needed
 abbrev pub loosen : Bool → ℕ → Core → Core
 loosen needs v c = record { registers = loosened needs v c.registers; memory = c.memory }
 
@@ -50,12 +51,14 @@ pub record IsTarget (L : Layout) (targets : List MachLabel) (held b : ℕ) : Typ
 abbrev pub table_target : ℕ → List MachLabel → Option MachLabel
 table_target index targets = if index % 4 == 0 then slice_get targets (index / 4) else None
 
+-- a jump by a table goes to the other block where the mask selects the code, else to its target, if there is one; `%r1` may be any then, and after a target the code too
 abbrev pub TableStep : Layout → Bool → Option MachLabel → (other : ℕ) → Core → Position → Core → Type 0
 TableStep L true o other c position t = (v : ℕ) × (position ≡ At (L.first_step other)) × (t ≡ loosen true v c)
 TableStep L false None other c position t = ⊥
 TableStep L false (Some l) other c position t =
     (v : ℕ) × (code : ConditionCode) × (position ≡ At (L.first_step l.0)) × (t ≡ record { registers = coded code (put c.registers 1 v); memory = c.memory })
 
+-- an operation under a mask is done where the mask selects the code; else nothing changes
 abbrev pub WhereStep : Bool → Operation → ℕ → Core → Position → Core → Type 0
 WhereStep true op k c position t = (position ≡ At (suc k)) × Goes op c t
 WhereStep false op k c position t = (position ≡ At (suc k)) × (t ≡ c)
@@ -81,6 +84,7 @@ FormStep L (Some DebugStops) k c position t = (position ≡ Ended DebugStopped) 
 FormStep L (Some Silent) k c position t = (position ≡ At (suc k)) × (t ≡ c)
 FormStep L (Some Unbuilt) k c position t = ⊥
 
+-- the form of a step, if there is one
 abbrev pub form_of : Option Step → Option Form
 form_of None = None
 form_of (Some s) = Some (form s)
@@ -89,6 +93,7 @@ form_of (Some s) = Some (form s)
 abbrev pub form_at : Layout → ℕ → Option Form
 form_at L k = form_of (slice_get L.steps k)
 
+-- step k may go from this core to this position and core
 abbrev pub TypedStep : Layout → ℕ → Core → Position → Core → Type 0
 TypedStep L k c position t = FormStep L (form_at L k) k c position t
 
@@ -97,6 +102,7 @@ pub data OperationWrong (image : CodeImage) (op : Operation) (code : StopKind �
   stops_uncoded : (kind : StopKind) → Stops op c.memory.has kind → code kind ≡ None → OperationWrong image op code c
   touches_image : IsTrue (stores_into image (access op.effect)) → OperationWrong image op code c
 
+-- a jump by a table is wrong where the mask doesn't select the code and there is no target
 abbrev pub TableWrong : Bool → Option MachLabel → Type 0
 TableWrong true o = ⊥
 TableWrong false None = Unit {0}
@@ -110,6 +116,7 @@ FormWrong L (Some (GoesByAddress r targets)) c = (b : ℕ) → IsTarget L target
 FormWrong L (Some (GoesByTable index mask other targets)) c = TableWrong (is_selected mask c.registers.code) (table_target (c.registers.general index) targets)
 FormWrong L (Some _) c = ⊥
 
+-- step k is wrong at this core
 abbrev pub Wrong : Layout → ℕ → Core → Type 0
 Wrong L k c = FormWrong L (form_at L k) c
 
@@ -118,5 +125,6 @@ abbrev pub form_deposit : Option Form → Core → Option Deposit
 form_deposit (Some (Performs needs operation code)) c = deposit (access (operation c.registers).effect) c.memory
 form_deposit _ c = None
 
+-- what step k stores, from this core
 abbrev pub typed_deposit : Layout → ℕ → Core → Option Deposit
 typed_deposit L k c = form_deposit (form_at L k) c

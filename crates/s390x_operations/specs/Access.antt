@@ -24,10 +24,11 @@ pub data Access : Type 0 where
   Stores : (aligned : Bool) → (address size stored : ℕ) → Access
   Locks : (address size : ℕ) → Change → Access
 
--- an operand that has to be aligned stands at a multiple of its size (chapter 5, "Boundary alignment")
+-- an operand that has to be aligned stands at a multiple of its size (Principles of Operation, chapter 3, "Integral Boundaries")
 abbrev pub is_misaligned : Bool → ℕ → ℕ → Bool
 is_misaligned aligned a n = aligned && not (a % n == 0)
 
+-- the fault of n bytes: they are misaligned, or else one isn't accessible
 abbrev pub reach_fault : Bool → (ℕ → Bool) → ℕ → ℕ → Option StopKind
 reach_fault misaligned has a n = if misaligned then Some Specification else (if reaches has a n then None else Some AccessStop)
 
@@ -38,6 +39,7 @@ fault (Reads aligned a n) has = reach_fault (is_misaligned aligned a n) has a n
 fault (Stores aligned a n v) has = reach_fault (is_misaligned aligned a n) has a n
 fault (Locks a n change) has = reach_fault (is_misaligned true a n) has a n
 
+-- the store of a number in n bytes from a, if there is one
 abbrev pub deposit_at : ℕ → ℕ → Option ℕ → Option Deposit
 deposit_at a n None = None
 deposit_at a n (Some v) = Some (record { address = a; size = n; value = v })

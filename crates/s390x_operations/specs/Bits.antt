@@ -19,7 +19,7 @@ use Rattle.s390x_operations.specs.declared.size.Width.{Width}
 use Rattle.s390x_operations.specs.declared.size.Width.TheVariants.{Bits8, Bits16, Bits32, Bits64}
 use Rattle.s390x_operations.specs.declared.operand.Pair.{Pair}
 
--- code Z, of logical operations: 0 for zero, else 1
+-- code Z, of logical operations (Principles of Operation, chapter 7, "General instructions"): 0 for zero, else 1
 abbrev pub code_z : ℕ → ConditionCode
 code_z x = if x == 0 then Code0 else Code1
 
@@ -27,6 +27,7 @@ code_z x = if x == 0 then Code0 else Code1
 abbrev pub complement : Size → ℕ → ℕ
 complement size x = whole size - 1 - x
 
+-- the value of an operator on the bits of two numbers of a size
 abbrev pub bit_value : BitOperator → Size → ℕ → ℕ → ℕ
 bit_value And size x y = bit_and x y
 bit_value Or size x y = bit_or x y
@@ -37,10 +38,12 @@ bit_value NotXor size x y = complement size (bit_xor x y)
 bit_value AndNot size x y = bit_and x (complement size y)
 bit_value OrNot size x y = bit_or x (complement size y)
 
+-- a number of a size, rotated to the left by k bits
 abbrev pub rotated : Size → ℕ → ℕ → ℕ
 rotated Word x k = rotate_left w32 x k
 rotated Doubleword x k = rotate_left w64 x k
 
+-- a number of a size, shifted or rotated by k bits
 abbrev pub shifted : ShiftOperator → Size → ℕ → ℕ → ℕ
 shifted RotateLeft size x k = rotated size x k
 shifted ShiftLeft size x k = (x * 2 ^ k) % whole size
@@ -55,6 +58,7 @@ shift_code size x k = code_s size (int_shr (signed size x) k)
 abbrev pub selection : ℕ → ℕ → ℕ
 selection start end = if nat_le start end then 2 ^ (64 - start) - 2 ^ (63 - end) else (2 ^ 64 - 2 ^ (63 - end)) + (2 ^ (64 - start) - 1)
 
+-- what the operator makes of all bits, as if each was selected
 abbrev pub combined : SelectedBitsOperator → ℕ → ℕ → ℕ
 combined Select.Insert x y = y
 combined Select.And x y = bit_and x y
@@ -65,6 +69,7 @@ combined Select.Xor x y = bit_xor x y
 abbrev pub select_value : SelectedBitsOperator → ℕ → ℕ → ℕ → ℕ
 select_value op mask x y = bit_or (bit_and (combined op x y) mask) (bit_and x (complement Doubleword mask))
 
+-- code Z of the combined bits that are selected
 abbrev pub select_code : SelectedBitsOperator → ℕ → ℕ → ℕ → ConditionCode
 select_code op mask x y = code_z (bit_and (combined op x y) mask)
 
@@ -78,6 +83,7 @@ unfoldable pub reversed_onto : ℕ → ℕ → ℕ → ℕ
 reversed_onto zero x a = a
 reversed_onto (suc n) x a = reversed_onto n (x / 256) (a * 256 + x % 256)
 
+-- the lowest n bytes of a number in reverse order
 abbrev pub reversed : ℕ → ℕ → ℕ
 reversed n x = reversed_onto n x 0
 
@@ -85,12 +91,14 @@ reversed n x = reversed_onto n x 0
 abbrev pub leftmost : ℕ → Pair
 leftmost x = record { high = leading_zeros w64 x; low = if x == 0 then 0 else x - 2 ^ (63 - leading_zeros w64 x) }
 
+-- how many bits a width has
 abbrev pub bits : Width → ℕ
 bits Bits8 = 8
 bits Bits16 = 16
 bits Bits32 = 32
 bits Bits64 = 64
 
+-- how many bytes a width has
 abbrev pub bytes : Width → ℕ
 bytes Bits8 = 1
 bytes Bits16 = 2

@@ -27,12 +27,14 @@ use Rattle.s390x_operations.specs.declared.effect.Operation.{Operation}
 
 -- ---- condition codes as numbers
 
+-- the number of a condition code
 abbrev pub number_of_code : ConditionCode → ℕ
 number_of_code Code0 = 0
 number_of_code Code1 = 1
 number_of_code Code2 = 2
 number_of_code Code3 = 3
 
+-- the condition code of a number; one above 3 counts as 3
 abbrev pub code_numbered : ℕ → ConditionCode
 code_numbered zero = Code0
 code_numbered (suc zero) = Code1
@@ -45,11 +47,13 @@ is_selected mask code = selects mask (number_of_code code)
 
 -- ---- accesses
 
+-- the read of an operand of so many bytes; none where it isn't in memory
 abbrev pub source_access : Source → ℕ → Access
 source_access (Value x) size = Untouched
 source_access (InMemory a) size = Reads false a size
 source_access (AlignedMemory a) size = Reads true a size
 
+-- the store of so many bytes of a number; none where the destination isn't in memory
 abbrev pub store_access : Source → ℕ → ℕ → Access
 store_access (Value x) size stored = Untouched
 store_access (InMemory a) size stored = Stores false a size stored
@@ -60,6 +64,7 @@ abbrev pub joined_doublewords : List ℕ → ℕ → ℕ
 joined_doublewords values zero = 0
 joined_doublewords values (suc n) = joined_doublewords values n * 2 ^ 64 + slice_index values n
 
+-- the data access of an effect
 abbrev pub access : Effect → Access
 access (Compute operator size target first second) = source_access second.source (bytes second.width)
 access (Test operator size first second) = source_access second.source (bytes second.width)
@@ -75,6 +80,7 @@ access _ = Untouched
 
 -- ---- stops by values
 
+-- a division without a result stops
 abbrev pub divide_stop : Option Pair → Option StopKind
 divide_stop None = Some DivideStop
 divide_stop (Some p) = None
@@ -99,6 +105,7 @@ abbrev pub merged : Size → ℕ → ℕ → ℕ
 merged Word old x = old / 2 ^ 32 * 2 ^ 32 + x
 merged Doubleword old x = x
 
+-- a general register gets a value of a size
 abbrev pub put_sized : Size → Registers → ℕ → ℕ → Registers
 put_sized size r target x = put r target (merged size (r.general target) x)
 
@@ -106,6 +113,7 @@ put_sized size r target x = put r target (merged size (r.general target) x)
 abbrev pub put_pair : Size → Registers → ℕ → Pair → Registers
 put_pair size r pair p = put_sized size (put_sized size r pair p.high) (pair + 1) p.low
 
+-- an even-odd pair gets the result of a division, if there is one
 abbrev pub put_divided : Size → Registers → ℕ → Option Pair → Registers
 put_divided size r pair None = r
 put_divided size r pair (Some p) = put_pair size r pair p
@@ -159,6 +167,7 @@ effect_code (CompareAndSwap size target expected replacement address) c = if fou
 effect_code (ComputeVector operation target first second third fourth) c = vector_code c.registers.code (vector_code_of operation first second third)
 effect_code _ c = c.registers.code
 
+-- this may be the code after it, under a rule
 abbrev pub CodeAfter : CodeRule → Effect → Core → ConditionCode → Type 0
 CodeAfter Kept effect c code = code ≡ c.registers.code
 CodeAfter Set effect c code = code ≡ effect_code effect c

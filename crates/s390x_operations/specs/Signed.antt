@@ -19,8 +19,10 @@ exact Absolute x y = pos (unsigned_abs y)
 abbrev pub code_s : Size → ℤ → ConditionCode
 code_s size z = if fits size z then (if int_lt z (pos 0) then Code1 else (if int_lt (pos 0) z then Code2 else Code0)) else Code3
 
+-- the value of an operator on numbers with signs: what of the exact result is kept
 abbrev pub signed_value : SignedOperator → Size → ℕ → ℕ → ℕ
 signed_value op size x y = low size (exact op (signed size x) (signed size y))
 
+-- its condition code: code S of the exact result
 abbrev pub signed_code : SignedOperator → Size → ℕ → ℕ → ConditionCode
 signed_code op size x y = code_s size (exact op (signed size x) (signed size y))

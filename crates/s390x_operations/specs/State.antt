@@ -1,8 +1,9 @@
--- The state of the machine (Principles of Operation, chapters 2 and 4), and what others write.
+-- The state of the machine (Principles of Operation, chapters 2 to 4), and what others write.
 -- A state's parts are functions, so that writes by others and changes of registers commute by computation. The ranges are `IsState`.
 use Rattle.std.specs.Prelude.{Option, Some, None, ◌≡◌, ℕ, zero, suc, ◌+◌, ◌-◌, ◌*◌, ◌/◌, ◌%◌, ◌^◌, ◌<◌, List, [], ◌∷◌, length, Bool, true, false, if◌then◌else◌, ◌==◌, nat_lt, nat_le, ◌&&◌, ◌||◌, slice_index, IsTrue, IsFalse}
 use Rattle.s390x_operations.specs.declared.stop.ConditionCode.{ConditionCode}
 
+-- what the registers hold, by their numbers, and the condition code
 pub record Registers : Type 0 where
   pub general : ℕ → ℕ
   pub vector : ℕ → ℕ
@@ -33,6 +34,7 @@ pub record IsState (s : State) : Type 0 where
   pub addresses : (a : ℕ) → IsTrue (s.core.memory.has a) → a < 2 ^ 64
   pub place : s.place < 2 ^ 64
 
+-- the values with another one at number i
 abbrev pub update : (ℕ → ℕ) → ℕ → ℕ → ℕ → ℕ
 update f i v k = if k == i then v else f k
 
@@ -62,6 +64,7 @@ abbrev pub write_get : List Write → (ℕ → ℕ) → ℕ → ℕ
 write_get [] f = f
 write_get (w ∷ ws) f = write_get ws (update f w.address w.byte)
 
+-- the core after others' writes
 abbrev pub written : List Write → Core → Core
 written ws c = record {
   registers = c.registers;
@@ -112,6 +115,7 @@ pub record CodeImage : Type 0 where
   pub base : ℕ
   pub bytes : List ℕ
 
+-- this address is one of the image's
 abbrev pub is_within : CodeImage → ℕ → Bool
 is_within image a = nat_le image.base a && nat_lt a (image.base + length image.bytes)
 

@@ -12,18 +12,20 @@ use Rattle.s390x_lanes.specs.declared.operation.Signedness.{Signedness}
 use Rattle.s390x_lanes.specs.declared.operation.Signedness.TheVariants.{Signed, Unsigned}
 use Rattle.s390x_operations.specs.declared.operand.Pair.{Pair}
 
--- code A, of a logical sum: 0 zero and 1 nonzero without a carry, 2 zero and 3 nonzero with one
+-- code A, of a logical sum (Principles of Operation, chapter 7, "Unsigned binary arithmetic"): 0 zero and 1 nonzero without a carry, 2 zero and 3 nonzero with one
 abbrev pub code_a : Size → ℕ → ConditionCode
 code_a size sum = if nat_lt sum (whole size) then (if sum == 0 then Code0 else Code1) else (if sum % whole size == 0 then Code2 else Code3)
 
--- code B, of a logical difference: 1 with a borrow, 2 zero, 3 nonzero without a borrow
+-- code B, of a logical difference (chapter 7, "Unsigned binary arithmetic"): 1 with a borrow, 2 zero, 3 nonzero without a borrow
 abbrev pub code_b : ℕ → ℕ → ConditionCode
 code_b x y = if nat_lt x y then Code1 else (if x == y then Code2 else Code3)
 
+-- the value of an operator on numbers without signs, modulo 2 ^ 32 or 2 ^ 64
 abbrev pub logical_value : LogicalOperator → Size → ℕ → ℕ → ℕ
 logical_value Add size x y = (x + y) % whole size
 logical_value Subtract size x y = (x + (whole size - y)) % whole size
 
+-- its condition code: code A of a sum, code B of a difference
 abbrev pub logical_code : LogicalOperator → Size → ℕ → ℕ → ConditionCode
 logical_code Add size x y = code_a size (x + y)
 logical_code Subtract size x y = code_b x y
@@ -33,10 +35,11 @@ abbrev pub read : Signedness → Size → ℕ → ℤ
 read Signed size x = signed size x
 read Unsigned size x = pos x
 
--- code C, of comparisons: 0 equal, 1 first low, 2 first high
+-- code C, of comparisons (chapter 7, "Signed and logical comparison"): 0 equal, 1 first low, 2 first high
 abbrev pub code_c : ℤ → ℤ → ConditionCode
 code_c x y = if int_lt x y then Code1 else (if int_lt y x then Code2 else Code0)
 
+-- code C of two numbers, read with or without their signs
 abbrev pub compared : Signedness → Size → ℕ → ℕ → ConditionCode
 compared sign size x y = code_c (read sign size x) (read sign size y)
 
@@ -49,6 +52,7 @@ wide_product Unsigned x y = record { high = (x * y) / whole Doubleword; low = (x
 abbrev pub signed_division : ℤ → ℤ → Option Pair
 signed_division x y = if unsigned_abs y == 0 then None else (if fits Doubleword (int_div x y) then Some (record { high = low Doubleword (int_rem x y); low = low Doubleword (int_div x y) }) else None)
 
+-- remainder and quotient of numbers without signs; none where it stops
 abbrev pub unsigned_division : Size → ℕ → ℕ → Option Pair
 unsigned_division size n y = if y == 0 then None else (if nat_lt (n / y) (whole size) then Some (record { high = n % y; low = n / y }) else None)
 

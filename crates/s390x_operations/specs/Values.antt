@@ -49,6 +49,7 @@ raw (Value x) width m = x
 raw (InMemory a) width m = number_at m.get a (bytes width)
 raw (AlignedMemory a) width m = number_at m.get a (bytes width)
 
+-- an operand's bits, its bytes in reverse order where the flag says so
 abbrev pub ordered : Bool → Width → ℕ → ℕ
 ordered backwards width x = if backwards then reversed (bytes width) x else x
 

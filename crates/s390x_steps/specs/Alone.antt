@@ -1,4 +1,4 @@
--- Instructions that are one machine instruction on general registers and immediates.
+-- Instructions that are one machine instruction on general registers and immediates (cranelift-codegen, `emit.rs`).
 use Rattle.std.specs.Prelude.{ℕ, pos, Bool, cond, ◌&&◌, nat_eq, nat_lt, Option, Some, None}
 use Rattle.s390x_base.specs.Regs.{number_of}
 use Rattle.s390x_base.specs.declared.regs.Reg.TheVariants.{Real}
@@ -17,6 +17,7 @@ pub record Alone : Type 0 where
 abbrev pub two_operands : (opcode d m : ℕ) → MachineInstruction
 two_operands opcode d m = cond (nat_lt opcode 256) (rr opcode d m) (rre opcode d m)
 
+-- two registers; none where there is no row
 abbrev pub two_row : Option ℕ → (d m : ℕ) → Option MachineInstruction
 two_row None d m = None
 two_row (Some opcode) d m = Some (two_operands opcode d m)
@@ -27,11 +28,12 @@ three_row None two d n m = None
 three_row (Some three) None d n m = Some (rrf_ab three d n m 0)
 three_row (Some three) (Some two) d n m = Some (cond (nat_eq d n) (two_operands two d m) (rrf_ab three d n m 0))
 
--- an immediate of 16 bits, and of 32
+-- a register and an immediate of 16 bits; none where there is no row
 abbrev pub halfword_row : Option ℕ → (d bits : ℕ) → Option MachineInstruction
 halfword_row None d bits = None
 halfword_row (Some opcode) d bits = Some (ri_a opcode d bits)
 
+-- a register and an immediate of 32 bits; none where there is no row
 abbrev pub word_row : Option ℕ → (d bits : ℕ) → Option MachineInstruction
 word_row None d bits = None
 word_row (Some opcode) d bits = Some (ril_a opcode d bits)

@@ -14,6 +14,7 @@ abbrev pub first : Option EmitError → Option EmitError → Option EmitError
 first None later = later
 first (Some e) later = Some e
 
+-- no cause where a test holds, else this one
 abbrev pub unless : Bool → EmitError → Option EmitError
 unless holds e = cond holds None (Some e)
 
@@ -21,6 +22,7 @@ unless holds e = cond holds None (Some e)
 abbrev pub label_cause : ℕ → MachLabel → Option EmitError
 label_cause blocks l = unless (nat_lt l.0 blocks) UnboundLabel
 
+-- each of the labels names a block
 abbrev pub labels_cause : ℕ → List MachLabel → Option EmitError
 labels_cause blocks [] = None
 labels_cause blocks (l ∷ ls) = first (label_cause blocks l) (labels_cause blocks ls)
@@ -34,6 +36,7 @@ branch_cause blocks depth (Ret link) = unless (is_general link && is_nonzero lin
 branch_cause blocks depth (CondBreak mask) = unless (nat_lt 0 depth) BreakOutsideLoop
 branch_cause blocks depth _ = Some BadOperator
 
+-- an instruction that is one machine instruction is refused for its registers alone; another one has its own causes
 abbrev pub cause_or : Option Alone → Option EmitError → Option EmitError
 cause_or None others = others
 cause_or (Some x) others = unless x.fine BadRegister

@@ -1,4 +1,4 @@
--- The registers that an instruction may name, and the bits of its immediates.
+-- The registers that an instruction may name, and the bits of its immediates (cranelift-codegen, `emit.rs`).
 use Rattle.std.specs.Prelude.{ℕ, ℤ, pos, unsigned_abs, Bool, false, true, ◌&&◌, not, nat_lt, nat_eq}
 use Rattle.std.specs.Int.{int_rem_euclid}
 use Rattle.s390x_base.specs.Regs.{is_int, number_of}
@@ -19,9 +19,10 @@ is_nonzero (Virtual num class) = true
 abbrev pub reuses : (output input : Reg) → Bool
 reuses output input = is_general output && is_general input && nat_eq (number_of output) (number_of input)
 
--- the low 16 bits of an immediate, and the low 32, in two's complement
+-- the low 16 bits of an immediate, in two's complement
 abbrev pub low_halfword : ℤ → ℕ
 low_halfword z = unsigned_abs (int_rem_euclid z (pos 65536))
 
+-- the low 32 bits of an immediate, in two's complement
 abbrev pub low_word : ℤ → ℕ
 low_word z = unsigned_abs (int_rem_euclid z (pos 4294967296))

@@ -20,6 +20,7 @@ abbrev pub code : Places → ℕ → List Step → List ℕ
 code P k [] = []
 code P k (s ∷ ss) = step_bytes P (P.step k) s ++ code P (k + 1) ss
 
+-- the code of a function, without its constants
 abbrev pub function_code : List Tree → List ℕ
 function_code ts = code (function_places ts) 0 (function_steps ts)
 

@@ -1,50 +1,62 @@
--- Machine instructions: a format and the values in its slots, which are the opcode, four registers, three masks, an immediate and a displacement.
+-- Machine instructions: a format and the values in its slots, which are the opcode, four registers, three masks, an immediate and a displacement
+-- (cranelift-codegen, `emit.rs`; the formats: Principles of Operation, chapter 5, "Instruction formats").
 use Rattle.std.specs.Prelude.{ℕ, ◌+◌, List, [], ◌∷◌, ◌++◌}
 use Rattle.s390x_format.specs.declared.kind.FormatKind.{FormatKind}
 use Rattle.s390x_format.specs.declared.kind.FormatKind.TheVariants.{Rr, Rre, RrfAb, RiA, RieD, RilA, RilB, RilC}
 use Rattle.s390x_format.specs.Formats.{length_of}
 use Rattle.s390x_format.specs.Reading.{encode}
 
+-- a machine instruction; what its format lacks is 0 in its slot
 pub record MachineInstruction : Type 0 where
   pub format : FormatKind
   pub slots : List ℕ
 
+-- its bytes in memory
 abbrev pub bytes_of : MachineInstruction → List ℕ
 bytes_of m = encode m.format m.slots
 
+-- how many bytes it has
 abbrev pub size_of : MachineInstruction → ℕ
 size_of m = length_of m.format
 
+-- RR: two registers, and an opcode of two digits
 abbrev pub rr : (opcode r1 r2 : ℕ) → MachineInstruction
 rr opcode r1 r2 = record { format = Rr; slots = opcode ∷ r1 ∷ r2 ∷ 0 ∷ 0 ∷ 0 ∷ 0 ∷ 0 ∷ 0 ∷ 0 ∷ [] }
 
+-- RRE: two registers, and an opcode of four digits
 abbrev pub rre : (opcode r1 r2 : ℕ) → MachineInstruction
 rre opcode r1 r2 = record { format = Rre; slots = opcode ∷ r1 ∷ r2 ∷ 0 ∷ 0 ∷ 0 ∷ 0 ∷ 0 ∷ 0 ∷ 0 ∷ [] }
 
+-- RRF-AB: three registers and a mask
 abbrev pub rrf_ab : (opcode r1 r2 r3 m4 : ℕ) → MachineInstruction
 rrf_ab opcode r1 r2 r3 m4 = record { format = RrfAb; slots = opcode ∷ r1 ∷ r2 ∷ r3 ∷ 0 ∷ m4 ∷ 0 ∷ 0 ∷ 0 ∷ 0 ∷ [] }
 
--- the bits of an immediate stand in its slot
+-- RI-A: a register and the bits of an immediate of 16 bits
 abbrev pub ri_a : (opcode r1 bits : ℕ) → MachineInstruction
 ri_a opcode r1 bits = record { format = RiA; slots = opcode ∷ r1 ∷ 0 ∷ 0 ∷ 0 ∷ 0 ∷ 0 ∷ 0 ∷ bits ∷ 0 ∷ [] }
 
+-- RIE-D: two registers and the bits of an immediate of 16 bits
 abbrev pub rie_d : (opcode r1 r3 bits : ℕ) → MachineInstruction
 rie_d opcode r1 r3 bits = record { format = RieD; slots = opcode ∷ r1 ∷ r3 ∷ 0 ∷ 0 ∷ 0 ∷ 0 ∷ 0 ∷ bits ∷ 0 ∷ [] }
 
+-- RIL-A: a register and the bits of an immediate of 32 bits
 abbrev pub ril_a : (opcode r1 bits : ℕ) → MachineInstruction
 ril_a opcode r1 bits = record { format = RilA; slots = opcode ∷ r1 ∷ 0 ∷ 0 ∷ 0 ∷ 0 ∷ 0 ∷ 0 ∷ bits ∷ 0 ∷ [] }
 
--- half of a relative distance, modulo 2 ^ 32, stands in the immediate's slot
+-- RIL-B: a register and half of a distance, modulo 2 ^ 32, in the immediate's slot
 abbrev pub ril_b : (opcode r1 half : ℕ) → MachineInstruction
 ril_b opcode r1 half = record { format = RilB; slots = opcode ∷ r1 ∷ 0 ∷ 0 ∷ 0 ∷ 0 ∷ 0 ∷ 0 ∷ half ∷ 0 ∷ [] }
 
+-- RIL-C: a mask and half of a distance, as in RIL-B
 abbrev pub ril_c : (opcode m1 half : ℕ) → MachineInstruction
 ril_c opcode m1 half = record { format = RilC; slots = opcode ∷ 0 ∷ 0 ∷ 0 ∷ 0 ∷ m1 ∷ 0 ∷ 0 ∷ half ∷ 0 ∷ [] }
 
+-- the bytes of machine instructions, one after another
 abbrev pub joined_bytes : List MachineInstruction → List ℕ
 joined_bytes [] = []
 joined_bytes (m ∷ ms) = bytes_of m ++ joined_bytes ms
 
+-- how many bytes they have together
 abbrev pub joined_size : List MachineInstruction → ℕ
 joined_size [] = 0
 joined_size (m ∷ ms) = size_of m + joined_size ms

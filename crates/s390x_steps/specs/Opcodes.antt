@@ -1,5 +1,6 @@
--- The machine rows of each operator on registers and immediates: their opcodes. Of those on registers alone, opcodes of two digits are RR, of
--- four with two operands RRE, with three RRF-AB; with an immediate of 16 bits rows are RI-A, or RIE-D with a third operand; of 32 bits RIL-A.
+-- The machine rows of each operator on registers and immediates: their opcodes (cranelift-codegen, `emit.rs`). Of those on registers alone, opcodes
+-- of two digits are RR, of four with two operands RRE, with three RRF-AB; with an immediate of 16 bits rows are RI-A, or RIE-D with a third operand;
+-- of 32 bits RIL-A.
 use Rattle.std.specs.Prelude.{ℕ, Option, Some, None}
 use Rattle.s390x_inst.specs.declared.ops.ALUOp.{ALUOp}
 use Rattle.s390x_inst.specs.declared.ops.ALUOp.TheVariants.{Add32, Add64, Add64Ext32, AddLogical32, AddLogical64, AddLogical64Ext32, Sub32, Sub64, Sub64Ext32, SubLogical32, SubLogical64, SubLogical64Ext32, Mul32, Mul32CC, Mul64, Mul64Ext32, Mul64CC, And32, And64, Orr32, Orr64, Xor32, Xor64}
@@ -107,17 +108,19 @@ alu_unsigned_word SubLogical32 = Some 0xc25
 alu_unsigned_word SubLogical64 = Some 0xc24
 alu_unsigned_word _ = None
 
--- comparisons with an immediate of 16 bits, and of 32 bits with and without a sign
+-- a comparison with an immediate of 16 bits, with its sign
 abbrev pub cmp_halfword : CmpOp → Option ℕ
 cmp_halfword CmpS32 = Some 0xa7e
 cmp_halfword CmpS64 = Some 0xa7f
 cmp_halfword _ = None
 
+-- a comparison with an immediate of 32 bits, with its sign
 abbrev pub cmp_signed_word : CmpOp → Option ℕ
 cmp_signed_word CmpS32 = Some 0xc2d
 cmp_signed_word CmpS64 = Some 0xc2c
 cmp_signed_word _ = None
 
+-- a comparison with an immediate of 32 bits, without a sign
 abbrev pub cmp_unsigned_word : CmpOp → Option ℕ
 cmp_unsigned_word CmpL32 = Some 0xc2f
 cmp_unsigned_word CmpL64 = Some 0xc2e

@@ -12,6 +12,7 @@ pub data Target : Type 0 where
   ToBlock : ℕ → Target
   ToStep : ℕ → Target
 
+-- a machine instruction, or a branch whose target has no place yet
 pub data Part : Type 0 where
   -- a machine instruction
   Row : MachineInstruction → Part
@@ -26,6 +27,7 @@ branch_parts (IndirectBr rn targets) = Row (rr 0x07 15 (number_of rn)) ∷ []
 branch_parts (Ret link) = Row (rr 0x07 15 (number_of link)) ∷ []
 branch_parts _ = []
 
+-- an instruction that is one machine instruction has that part alone; another one has its own
 abbrev pub parts_or : Option Alone → List Part → List Part
 parts_or None others = others
 parts_or (Some x) others = Row x.row ∷ []
@@ -34,6 +36,7 @@ parts_or (Some x) others = Row x.row ∷ []
 abbrev pub instruction_parts : Inst → List Part
 instruction_parts i = parts_or (alone i) (branch_parts i)
 
+-- the parts of a step; a loop's opening has none
 abbrev pub step_parts : Step → List Part
 step_parts (Plain i) = instruction_parts i
 step_parts Opening = []
@@ -45,9 +48,11 @@ abbrev pub part_size : Part → ℕ
 part_size (Row m) = size_of m
 part_size (Branch mask target) = 6
 
+-- how many bytes the parts have
 abbrev pub parts_size : List Part → ℕ
 parts_size [] = 0
 parts_size (part ∷ parts) = part_size part + parts_size parts
 
+-- how many bytes a step has
 abbrev pub step_size : Step → ℕ
 step_size s = parts_size (step_parts s)

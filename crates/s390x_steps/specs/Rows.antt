@@ -4,10 +4,12 @@ use Rattle.s390x_steps.specs.MachineInstruction.{MachineInstruction, ril_c, join
 use Rattle.s390x_steps.specs.Parts.{Target, ToBlock, ToStep, Part, Row, Branch, step_parts, part_size}
 use Rattle.s390x_steps.specs.Steps.{Step}
 
+-- where each step and each block stands, by its number
 pub record Places : Type 0 where
   pub step : ℕ → ℕ
   pub block : ℕ → ℕ
 
+-- where a target stands
 abbrev pub target_place : Places → Target → ℕ
 target_place P (ToBlock b) = P.block b
 target_place P (ToStep k) = P.step k
@@ -16,6 +18,7 @@ target_place P (ToStep k) = P.step k
 abbrev pub half_distance : (place target : ℕ) → ℕ
 half_distance place target = (8589934592 + target - place) / 2 % 4294967296
 
+-- the machine instruction of a part at a place
 abbrev pub row_of : Places → ℕ → Part → MachineInstruction
 row_of P p (Row m) = m
 row_of P p (Branch mask target) = ril_c 0xc04 mask (half_distance p (target_place P target))

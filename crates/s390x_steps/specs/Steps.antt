@@ -12,6 +12,7 @@ pub data Step : Type 0 where
   Back : (mask target : ℕ) → Step
   Break : (mask target : ℕ) → Step
 
+-- how many steps a tree has
 abbrev pub step_count : Tree → ℕ
 step_count empty = 0
 step_count (leaf i rest) = 1 + step_count rest

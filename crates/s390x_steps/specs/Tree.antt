@@ -1,8 +1,10 @@
--- Instructions as a tree: first member, next sibling. The only definition that reads the nested vectors of a `Loop`.
+-- Instructions as a tree: first member, next sibling. Of what runs and of emission this is the only definition that reads the nested vectors of a `Loop`;
+-- the text of jobs reads them too.
 use Rattle.std.specs.Prelude.{ℕ, List, [], ◌∷◌}
 use Rattle.s390x_inst.specs.declared.inst.Inst.{Inst, Row_of-Inst, end_of-Inst, more_of-Inst}
 use Rattle.s390x_inst.specs.declared.inst.Inst.TheVariants.{Loop'}
 
+-- instructions in order, each loop with its members
 pub data Tree : Type 0 where
   empty : Tree
   leaf : Inst → Tree → Tree
