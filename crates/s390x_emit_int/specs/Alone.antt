@@ -1,10 +1,15 @@
 -- How the code's rows stand for machine instructions.
 use Rattle.std.specs.Prelude.{ℕ}
 use Rattle.s390x_base.specs.Regs.{number_of}
-use Rattle.s390x_steps.specs.MachineInstruction.{MachineInstruction, rr, rre, rrf_ab, ri_a, rie_d, ril_a}
+use Rattle.s390x_inst.specs.declared.inst.Inst.{Inst}
+use Rattle.s390x_inst.specs.declared.inst.Inst.TheVariants.{AluRUImm16Shifted, AluRUImm32Shifted, ShiftRR, RxSBG, RxSBGTest, Mov64, MovPReg, Mov32, Mov32Imm, Mov32SImm16, Mov64SImm16, Mov64SImm32, Mov64UImm16Shifted, Mov64UImm32Shifted, Insert64UImm16Shifted, Insert64UImm32Shifted, CMov32, CMov64, CMov32SImm16, CMov64SImm16, Extend, LoadAR, InsertAR}
+use Rattle.s390x_steps.specs.MachineInstruction.{MachineInstruction, rr, rre, rrf_ab, rrf_cde, ri_a, rie_d, rie_f, rie_g, ril_a, rsy}
+use Rattle.s390x_steps.specs.General.{four_bits}
 use Rattle.s390x_steps.specs.Alone.{Alone}
 use Rattle.s390x_emit_int.specs.declared.alone.RegisterRow.{RegisterRow}
-use Rattle.s390x_emit_int.specs.declared.alone.RegisterRow.TheVariants.{Rr, Rre, RrfAb, RiA, RieD, RilA}
+use Rattle.s390x_emit_int.specs.declared.alone.RegisterRow.TheVariants.{Rr, Rre, RrfAb, RrfCde, RiA, RieD, RieF, RieG, RilA, Rsy}
+use Rattle.s390x_emit_int.specs.declared.alone.Group.{Group}
+use Rattle.s390x_emit_int.specs.declared.alone.Group.TheVariants.{Arithmetic, Bits, Moves}
 use Rattle.s390x_emit_int.specs.declared.opcode.ShortOpcode.{ShortOpcode}
 use Rattle.s390x_emit_int.specs.declared.alone.Alone.{Alone as Found}
 
@@ -18,6 +23,37 @@ instruction_of (RrfAb opcode r1 r2 r3) = rrf_ab opcode (number_of r1) (number_of
 instruction_of (RiA opcode r1 imm) = ri_a (opcode_of opcode) (number_of r1) imm
 instruction_of (RieD opcode r1 r3 imm) = rie_d opcode (number_of r1) (number_of r3) imm
 instruction_of (RilA opcode r1 imm) = ril_a (opcode_of opcode) (number_of r1) imm
+instruction_of (RrfCde opcode r1 r2 mask) = rrf_cde opcode (number_of r1) (number_of r2) (four_bits mask) 0
+instruction_of (RieF opcode r1 r2 first end rotated) = rie_f opcode (number_of r1) (number_of r2) first end rotated
+instruction_of (RieG opcode r1 imm mask) = rie_g opcode (number_of r1) imm (four_bits mask)
+instruction_of (Rsy opcode r1 r3 b2 amount) = rsy opcode (number_of r1) (number_of r3) (number_of b2) amount
 
 abbrev pub alone_of : Found → Alone
 alone_of x = record { row = instruction_of x.row; fine = x.fine }
+
+-- which part of the code knows an instruction's row
+abbrev pub group_of : Inst → Group
+group_of (AluRUImm16Shifted op rd ri imm) = Bits
+group_of (AluRUImm32Shifted op rd ri imm) = Bits
+group_of (ShiftRR op rd rn amount register) = Bits
+group_of (RxSBG op rd ri rn start end amount) = Bits
+group_of (RxSBGTest op rd rn start end amount) = Bits
+group_of (Mov64 rd rm) = Moves
+group_of (MovPReg rd rm) = Moves
+group_of (Mov32 rd rm) = Moves
+group_of (Mov32Imm rd imm) = Moves
+group_of (Mov32SImm16 rd imm) = Moves
+group_of (Mov64SImm16 rd imm) = Moves
+group_of (Mov64SImm32 rd imm) = Moves
+group_of (Mov64UImm16Shifted rd imm) = Moves
+group_of (Mov64UImm32Shifted rd imm) = Moves
+group_of (Insert64UImm16Shifted rd ri imm) = Moves
+group_of (Insert64UImm32Shifted rd ri imm) = Moves
+group_of (CMov32 rd mask ri rm) = Moves
+group_of (CMov64 rd mask ri rm) = Moves
+group_of (CMov32SImm16 rd mask ri imm) = Moves
+group_of (CMov64SImm16 rd mask ri imm) = Moves
+group_of (Extend rd rn signed from to) = Moves
+group_of (LoadAR rd ar) = Moves
+group_of (InsertAR rd ri ar) = Moves
+group_of _ = Arithmetic

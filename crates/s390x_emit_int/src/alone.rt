@@ -5,12 +5,18 @@ ghost use Rattle.s390x_base.specs.Regs.{number_of};
 ghost use Rattle.s390x_steps.specs.General.{is_general, reuses, low_halfword, low_word};
 ghost use Rattle.s390x_steps.specs.MachineInstruction.{bytes_of, size_of};
 ghost use Rattle.s390x_steps.specs.Opcodes.{alu_three, alu_two, cmp_two, unary_two, alu_halfword, alu_three_halfword, alu_signed_word, alu_unsigned_word, cmp_halfword, cmp_signed_word, cmp_unsigned_word};
-ghost use Rattle.s390x_steps.specs.Alone.{alone, alone_with, two_operands, two_row, three_row, halfword_row, word_row, three_halfword_row};
-ghost use Rattle.s390x_emit_int.specs.Alone.{instruction_of, alone_of, opcode_of};
+ghost use Rattle.s390x_steps.specs.Alone.{alone, alone_with, two_operands, two_row, unary_row, three_row, halfword_row, word_row, three_halfword_row};
+ghost use Rattle.s390x_emit_int.specs.Alone.{instruction_of, alone_of, opcode_of, group_of};
+ghost use Rattle.s390x_emit_int.specs.declared.alone.Group.TheVariants.{Arithmetic};
 
+use crate::bits::find_bits;
+use crate::moves::find_move;
 use crate::opcode::ShortOpcode;
 use s390x_base::{Code, EmitError, Reg, RegClass};
-use s390x_enc::{enc_ri_a, enc_rie_d, enc_ril_a, enc_rr, enc_rre, enc_rrf_ab};
+use s390x_enc::{
+    enc_ri_a, enc_rie_d, enc_rie_f, enc_rie_g, enc_ril_a, enc_rr, enc_rre, enc_rrf_ab, enc_rrf_cde,
+    enc_rsy,
+};
 use s390x_inst::{ALUOp, CmpOp, Inst, UnaryOp};
 
 /// A machine instruction on general registers and an immediate, in its format.
@@ -48,6 +54,43 @@ pub enum RegisterRow {
         r1: Reg,
         imm: u32,
     },
+    /// The mask has 4 bits.
+    RrfCde {
+        opcode: u16,
+        r1: Reg,
+        r2: Reg,
+        mask: u8,
+    },
+    RieF {
+        opcode: u16,
+        r1: Reg,
+        r2: Reg,
+        first: u8,
+        end: u8,
+        rotated: u8,
+    },
+    /// The mask has 4 bits.
+    RieG {
+        opcode: u16,
+        r1: Reg,
+        imm: u16,
+        mask: u8,
+    },
+    Rsy {
+        opcode: u16,
+        r1: Reg,
+        r3: Reg,
+        b2: Reg,
+        amount: u8,
+    },
+}
+
+/// Which part of the code knows an instruction's row.
+#[derive(Clone, Copy, PartialEq, Eq, Debug)]
+pub enum Group {
+    Arithmetic,
+    Bits,
+    Moves,
 }
 
 /// The machine instruction of an instruction, and whether its registers may stand there: real general ones, and the input that has
@@ -75,6 +118,33 @@ impl RegisterRow {
                 imm,
             } => enc_rie_d(*opcode, *r1, *r3, *imm),
             RegisterRow::RilA { opcode, r1, imm } => enc_ril_a(opcode.value, *r1, *imm),
+            RegisterRow::RrfCde {
+                opcode,
+                r1,
+                r2,
+                mask,
+            } => enc_rrf_cde(*opcode, *r1, *r2, mask % 16, 0),
+            RegisterRow::RieF {
+                opcode,
+                r1,
+                r2,
+                first,
+                end,
+                rotated,
+            } => enc_rie_f(*opcode, *r1, *r2, *first, *end, *rotated),
+            RegisterRow::RieG {
+                opcode,
+                r1,
+                imm,
+                mask,
+            } => enc_rie_g(*opcode, *r1, *imm, mask % 16),
+            RegisterRow::Rsy {
+                opcode,
+                r1,
+                r3,
+                b2,
+                amount,
+            } => enc_rsy(*opcode, *r1, *r3, *b2, u32::from(*amount)),
         }
     }
 
@@ -86,8 +156,15 @@ impl RegisterRow {
     {
         match self {
             RegisterRow::Rr { .. } => 2,
-            RegisterRow::Rre { .. } | RegisterRow::RrfAb { .. } | RegisterRow::RiA { .. } => 4,
-            RegisterRow::RieD { .. } | RegisterRow::RilA { .. } => 6,
+            RegisterRow::Rre { .. }
+            | RegisterRow::RrfAb { .. }
+            | RegisterRow::RrfCde { .. }
+            | RegisterRow::RiA { .. } => 4,
+            RegisterRow::RieD { .. }
+            | RegisterRow::RieF { .. }
+            | RegisterRow::RieG { .. }
+            | RegisterRow::RilA { .. }
+            | RegisterRow::Rsy { .. } => 6,
         }
     }
 }
@@ -118,19 +195,19 @@ fn same_number(a: &Reg, b: &Reg) -> bool
 }
 
 // Whether an input that has to be the output is it.
-fn is_reused(output: &Reg, input: &Reg) -> bool
+pub fn is_reused(output: &Reg, input: &Reg) -> bool
     ensures { result ≡ reuses output.now input.now }
 {
     general(output) && general(input) && same_number(output, input)
 }
 
-fn two_general(a: &Reg, b: &Reg) -> bool
+pub fn two_general(a: &Reg, b: &Reg) -> bool
     ensures { result ≡ is_general a.now && is_general b.now }
 {
     general(a) && general(b)
 }
 
-fn three_general(a: &Reg, b: &Reg, c: &Reg) -> bool
+pub fn three_general(a: &Reg, b: &Reg, c: &Reg) -> bool
     ensures { result ≡ is_general a.now && is_general b.now && is_general c.now }
 {
     general(a) && general(b) && general(c)
@@ -236,7 +313,22 @@ fn two_operands(opcode: u16, r1: Reg, r2: Reg) -> RegisterRow
     }
 }
 
-fn two_row(opcode: Option<u16>, r1: Reg, r2: Reg) -> Option<RegisterRow>
+// The count of ones has its mode in a mask.
+fn unary_row(op: UnaryOp, r1: Reg, r2: Reg) -> Option<RegisterRow>
+    ensures { option_map instruction_of result ≡ unary_row op (number_of r1) (number_of r2) }
+{
+    match op {
+        UnaryOp::PopcntByte => Some(RegisterRow::RrfCde {
+            opcode: 0xb9e1,
+            r1,
+            r2,
+            mask: 0,
+        }),
+        _ => two_row(unary_opcode(op), r1, r2),
+    }
+}
+
+pub fn two_row(opcode: Option<u16>, r1: Reg, r2: Reg) -> Option<RegisterRow>
     ensures { option_map instruction_of result ≡ two_row opcode (number_of r1) (number_of r2) }
 {
     match opcode {
@@ -276,7 +368,7 @@ fn shorter_row(three: u16, two: u16, rd: Reg, rn: Reg, rm: Reg) -> RegisterRow
     }
 }
 
-fn short(value: u16) -> ShortOpcode
+pub fn short(value: u16) -> ShortOpcode
     requires { value < 4096 }
     ensures { opcode_of result ≡ value }
 {
@@ -361,25 +453,31 @@ fn compare_unsigned_word_opcode(op: CmpOp) -> Option<ShortOpcode>
 }
 
 // The bits of an immediate.
-fn bits_of_halfword(imm: i16) -> u16
+pub fn bits_of_halfword(imm: i16) -> u16
     ensures { result ≡ low_halfword imm }
 {
     i32::from(imm).rem_euclid(65536) as u16
 }
 
-fn bits_of_word(imm: i32) -> u32
+pub fn bits_of_word(imm: i32) -> u32
     ensures { result ≡ low_word imm }
 {
     i64::from(imm).rem_euclid(4294967296) as u32
 }
 
-fn bits_of_unsigned(imm: u32) -> u32
+pub fn bits_of_unsigned(imm: u32) -> u32
     ensures { result ≡ low_word (pos imm) }
 {
     imm
 }
 
-fn halfword_row(opcode: Option<ShortOpcode>, r1: Reg, imm: u16) -> Option<RegisterRow>
+pub fn bits_of_unsigned_halfword(imm: u16) -> u16
+    ensures { result ≡ low_halfword (pos imm) }
+{
+    imm
+}
+
+pub fn halfword_row(opcode: Option<ShortOpcode>, r1: Reg, imm: u16) -> Option<RegisterRow>
     ensures { option_map instruction_of result ≡ halfword_row (option_map opcode_of opcode) (number_of r1) imm }
 {
     match opcode {
@@ -388,7 +486,7 @@ fn halfword_row(opcode: Option<ShortOpcode>, r1: Reg, imm: u16) -> Option<Regist
     }
 }
 
-fn word_row(opcode: Option<ShortOpcode>, r1: Reg, imm: u32) -> Option<RegisterRow>
+pub fn word_row(opcode: Option<ShortOpcode>, r1: Reg, imm: u32) -> Option<RegisterRow>
     ensures { option_map instruction_of result ≡ word_row (option_map opcode_of opcode) (number_of r1) imm }
 {
     match opcode {
@@ -432,7 +530,7 @@ fn shorter_halfword_row(three: u16, two: ShortOpcode, rd: Reg, rn: Reg, imm: u16
     }
 }
 
-fn alone_with(fine: bool, row: Option<RegisterRow>) -> Option<Alone>
+pub fn alone_with(fine: bool, row: Option<RegisterRow>) -> Option<Alone>
     ensures { option_map alone_of result ≡ alone_with fine (option_map instruction_of row) }
 {
     match row {
@@ -441,9 +539,9 @@ fn alone_with(fine: bool, row: Option<RegisterRow>) -> Option<Alone>
     }
 }
 
-/// The one machine instruction of an instruction, where it is one that is built.
-pub fn find_alone(inst: &Inst) -> Option<Alone>
-    ensures { option_map alone_of result ≡ alone inst.now }
+// The machine instruction of arithmetic and comparisons.
+fn find_arithmetic(inst: &Inst) -> Option<Alone>
+    ensures { group_of inst.now ≡ Arithmetic → option_map alone_of result ≡ alone inst.now }
 {
     match inst {
         Inst::AluRRR { alu_op, rd, rn, rm } => alone_with(
@@ -456,23 +554,11 @@ pub fn find_alone(inst: &Inst) -> Option<Alone>
         ),
         Inst::UnaryRR { op, rd, rn } => alone_with(
             two_general(&rd.to_reg(), rn),
-            two_row(unary_opcode(*op), rd.to_reg(), *rn),
+            unary_row(*op, rd.to_reg(), *rn),
         ),
         Inst::CmpRR { op, rn, rm } => alone_with(
             two_general(rn, rm),
             two_row(compare_opcode(*op), *rn, *rm),
-        ),
-        Inst::Mov64 { rd, rm } => alone_with(
-            two_general(&rd.to_reg(), rm),
-            two_row(Some(0xb904), rd.to_reg(), *rm),
-        ),
-        Inst::MovPReg { rd, rm } => alone_with(
-            two_general(&rd.to_reg(), &Reg::Real(*rm)),
-            two_row(Some(0xb904), rd.to_reg(), Reg::Real(*rm)),
-        ),
-        Inst::Mov32 { rd, rm } => alone_with(
-            two_general(&rd.to_reg(), rm),
-            two_row(Some(0x18), rd.to_reg(), *rm),
         ),
         Inst::AluRRSImm16 {
             alu_op,
@@ -534,22 +620,48 @@ pub fn find_alone(inst: &Inst) -> Option<Alone>
                 bits_of_unsigned(*imm),
             ),
         ),
-        Inst::Mov32Imm { rd, imm } => alone_with(
-            general(&rd.to_reg()),
-            word_row(Some(short(0xc09)), rd.to_reg(), bits_of_unsigned(*imm)),
-        ),
-        Inst::Mov32SImm16 { rd, imm } => alone_with(
-            general(&rd.to_reg()),
-            halfword_row(Some(short(0xa78)), rd.to_reg(), bits_of_halfword(*imm)),
-        ),
-        Inst::Mov64SImm16 { rd, imm } => alone_with(
-            general(&rd.to_reg()),
-            halfword_row(Some(short(0xa79)), rd.to_reg(), bits_of_halfword(*imm)),
-        ),
-        Inst::Mov64SImm32 { rd, imm } => alone_with(
-            general(&rd.to_reg()),
-            word_row(Some(short(0xc01)), rd.to_reg(), bits_of_word(*imm)),
-        ),
         _ => None,
+    }
+}
+
+fn find_group(inst: &Inst) -> Group
+    ensures { result ≡ group_of inst.now }
+{
+    match inst {
+        Inst::AluRUImm16Shifted { .. }
+        | Inst::AluRUImm32Shifted { .. }
+        | Inst::ShiftRR { .. }
+        | Inst::RxSBG { .. }
+        | Inst::RxSBGTest { .. } => Group::Bits,
+        Inst::Mov64 { .. }
+        | Inst::MovPReg { .. }
+        | Inst::Mov32 { .. }
+        | Inst::Mov32Imm { .. }
+        | Inst::Mov32SImm16 { .. }
+        | Inst::Mov64SImm16 { .. }
+        | Inst::Mov64SImm32 { .. }
+        | Inst::Mov64UImm16Shifted { .. }
+        | Inst::Mov64UImm32Shifted { .. }
+        | Inst::Insert64UImm16Shifted { .. }
+        | Inst::Insert64UImm32Shifted { .. }
+        | Inst::CMov32 { .. }
+        | Inst::CMov64 { .. }
+        | Inst::CMov32SImm16 { .. }
+        | Inst::CMov64SImm16 { .. }
+        | Inst::Extend { .. }
+        | Inst::LoadAR { .. }
+        | Inst::InsertAR { .. } => Group::Moves,
+        _ => Group::Arithmetic,
+    }
+}
+
+/// The one machine instruction of an instruction, where it is one that is built.
+pub fn find_alone(inst: &Inst) -> Option<Alone>
+    ensures { option_map alone_of result ≡ alone inst.now }
+{
+    match find_group(inst) {
+        Group::Arithmetic => find_arithmetic(inst),
+        Group::Bits => find_bits(inst),
+        Group::Moves => find_move(inst),
     }
 }

@@ -2,11 +2,13 @@
 #![tactic(auto)]
 
 pub mod alone;
+pub mod bits;
 pub mod causes;
 pub mod check;
 pub mod function;
 pub mod headline;
 pub mod leaf;
+pub mod moves;
 pub mod opcode;
 pub mod tree;
 

@@ -1,10 +1,11 @@
 -- The rows of the instructions that are one machine instruction on registers and immediates: each is listed, and does its instruction's operation.
-use Rattle.std.proofs.Common.{◌≡◌, ℕ, ◌%◌, ◌<◌, [], ◌∷◌, Option, Some, None, Bool, true, false, cond, refl, ap, ◌∙◌, subst, arith, nat_lt, ltb-true, pos, ◌^◌}
+use Rattle.std.proofs.Common.{◌≡◌, ℕ, ◌%◌, ◌<◌, List, [], ◌∷◌, Option, Some, None, Bool, true, false, cond, refl, ap, ◌∙◌, subst, arith, nat_lt, ltb-true, pos, ◌^◌}
 use Rattle.s390x_format.specs.declared.kind.FormatKind.{FormatKind}
 use Rattle.s390x_format.specs.declared.kind.FormatKind.TheVariants.{Rr, Rre, RrfAb, RiA, RieD, RilA}
 use Rattle.s390x_format.specs.declared.row.Allowed.{Allowed}
 use Rattle.s390x_format.specs.declared.row.Allowed.TheVariants.{Any, FirstMask}
-use Rattle.s390x_format.specs.Formats.{length_of}
+use Rattle.s390x_format.specs.Formats.{length_of, layout_of}
+use Rattle.s390x_format.specs.Layout.{SlotsFit}
 use Rattle.s390x_format.specs.Rows.{is_allowed}
 use Rattle.s390x_format.specs.Lookup.{row_for}
 use Rattle.s390x_format.specs.Fetch.{machine_rows}
@@ -80,6 +81,13 @@ TwoRows (Some opcode) meaning = TwoRow opcode meaning
 abbrev pub ThreeRows : Option ℕ → Meaning → Type 0
 ThreeRows None meaning = Unit {0}
 ThreeRows (Some opcode) meaning = ThreeRow opcode meaning
+
+-- a row of the table with a meaning
+pub record Meant (kind : FormatKind) (allowed : Allowed) (opcode : ℕ) (meaning : Meaning) : Type 0 where
+  pub some : 0 < opcode
+  pub few : opcode < 65536
+  pub lists : Lists opcode kind allowed
+  pub means : meaning_of opcode ≡ Some meaning
 
 -- ---- the rows of each operator
 
@@ -248,7 +256,7 @@ unfolding machine_rows row_for meaning_in meaning_of
 lgfi_row = record { some = omega arith; few = omega arith; lists = (refl, refl, refl); means = refl }
 
 -- a number of up to 64 bits is its own low part
-low_small : (n : ℕ) → n < 2 ^ 64 → low Doubleword (pos n) ≡ n
+pub low_small : (n : ℕ) → n < 2 ^ 64 → low Doubleword (pos n) ≡ n
 low_small n lt = omega (arith, lt)
 
 abbrev pub immediate_fields : (kind : FormatKind) (d n bits : ℕ) → Fields
@@ -286,12 +294,12 @@ module _ (L : Layout) (all : AllPlaced L) (offset : ℕ) (even : offset % 2 ≡ 
   pub two_at : (opcode : ℕ) (meaning : Meaning) → TwoRow opcode meaning → (operation : Registers → Operation) (d m : ℕ) → d < 16 → m < 16 → ((r : Registers) (p : ℕ) → action meaning (register_fields d m 0) r p ≡ Perform (operation r)) → StandsAt L.image offset (bytes_of (two_operands opcode d m)) → RowAt L (sum64 L.image.base offset) (λ r. Perform (operation r)) (size_of (two_operands opcode d m))
   two_at opcode meaning row operation d m ld lm does s = two_at_as opcode meaning row operation d m ld lm does (nat_lt opcode 256) refl s
 
-  ri_a_at : (opcode : ℕ) (meaning : Meaning) → ImmediateRow RiA 4096 opcode meaning → (operation : Registers → Operation) (d bits : ℕ) → d < 16 → bits < 2 ^ 16 → ((r : Registers) (p : ℕ) → action meaning (immediate_fields RiA d 0 bits) r p ≡ Perform (operation r)) → StandsAt L.image offset (bytes_of (ri_a opcode d bits)) → RowAt L (sum64 L.image.base offset) (λ r. Perform (operation r)) (size_of (ri_a opcode d bits))
+  pub ri_a_at : (opcode : ℕ) (meaning : Meaning) → ImmediateRow RiA 4096 opcode meaning → (operation : Registers → Operation) (d bits : ℕ) → d < 16 → bits < 2 ^ 16 → ((r : Registers) (p : ℕ) → action meaning (immediate_fields RiA d 0 bits) r p ≡ Perform (operation r)) → StandsAt L.image offset (bytes_of (ri_a opcode d bits)) → RowAt L (sum64 L.image.base offset) (λ r. Perform (operation r)) (size_of (ri_a opcode d bits))
   ri_a_at opcode meaning row operation d bits ld lb does s =
       let x = ri_a opcode d bits in
       row_at L offset x (λ r. Perform (operation r)) all.even even all.fits s (fits_ri_a opcode d bits row.few ld lb) (listed machine_rows RiA x.slots row.some (row.lists.0, row.lists.1, ap (λ a. is_allowed a x.slots) row.lists.2)) (λ state event t at h. acts_as_meant x meaning operation row.means does state event t h)
 
-  ril_a_at : (opcode : ℕ) (meaning : Meaning) → ImmediateRow RilA 4096 opcode meaning → (operation : Registers → Operation) (d bits : ℕ) → d < 16 → bits < 2 ^ 32 → ((r : Registers) (p : ℕ) → action meaning (immediate_fields RilA d 0 bits) r p ≡ Perform (operation r)) → StandsAt L.image offset (bytes_of (ril_a opcode d bits)) → RowAt L (sum64 L.image.base offset) (λ r. Perform (operation r)) (size_of (ril_a opcode d bits))
+  pub ril_a_at : (opcode : ℕ) (meaning : Meaning) → ImmediateRow RilA 4096 opcode meaning → (operation : Registers → Operation) (d bits : ℕ) → d < 16 → bits < 2 ^ 32 → ((r : Registers) (p : ℕ) → action meaning (immediate_fields RilA d 0 bits) r p ≡ Perform (operation r)) → StandsAt L.image offset (bytes_of (ril_a opcode d bits)) → RowAt L (sum64 L.image.base offset) (λ r. Perform (operation r)) (size_of (ril_a opcode d bits))
   ril_a_at opcode meaning row operation d bits ld lb does s =
       let x = ril_a opcode d bits in
       row_at L offset x (λ r. Perform (operation r)) all.even even all.fits s (fits_ril_a opcode d bits row.few ld lb) (listed machine_rows RilA x.slots row.some (row.lists.0, row.lists.1, ap (λ a. is_allowed a x.slots) row.lists.2)) (λ state event t at h. acts_as_meant x meaning operation row.means does state event t h)
@@ -300,6 +308,12 @@ module _ (L : Layout) (all : AllPlaced L) (offset : ℕ) (even : offset % 2 ≡ 
   rie_d_at opcode meaning row operation d n bits ld ln lb does s =
       let x = rie_d opcode d n bits in
       row_at L offset x (λ r. Perform (operation r)) all.even even all.fits s (fits_rie_d opcode d n bits row.few ld ln lb) (listed machine_rows RieD x.slots row.some (row.lists.0, row.lists.1, ap (λ a. is_allowed a x.slots) row.lists.2)) (λ state event t at h. acts_as_meant x meaning operation row.means does state event t h)
+
+  -- any row whose action is an operation
+  pub meant_at : (kind : FormatKind) (allowed : Allowed) (opcode : ℕ) (fields : List ℕ) (meaning : Meaning) (operation : Registers → Operation) → Meant kind allowed opcode meaning → SlotsFit (layout_of kind) (opcode ∷ fields) → is_allowed allowed (opcode ∷ fields) ≡ true → ((r : Registers) (p : ℕ) → action meaning (fields_of kind (opcode ∷ fields)) r p ≡ Perform (operation r)) → StandsAt L.image offset (bytes_of (record { format = kind; slots = opcode ∷ fields })) → RowAt L (sum64 L.image.base offset) (λ r. Perform (operation r)) (length_of kind)
+  meant_at kind allowed opcode fields meaning operation row fit allows does s =
+      let x : MachineInstruction = record { format = kind; slots = opcode ∷ fields } in
+      row_at L offset x (λ r. Perform (operation r)) all.even even all.fits s fit (listed machine_rows kind x.slots row.some (row.lists.0, row.lists.1, ap (λ a. is_allowed a x.slots) row.lists.2 ∙ allows)) (λ state event t at h. acts_as_meant x meaning operation row.means does state event t h)
 
   -- the operations with an immediate
   pub halfword_at : (opcode : ℕ) (c : Computation) (rule : CodeRule) → ImmediateRow RiA 4096 opcode (computed c Immediate rule) → (d bits : ℕ) → d < 16 → bits < 2 ^ 16 → StandsAt L.image offset (bytes_of (ri_a opcode d bits)) → RowAt L (sum64 L.image.base offset) (λ r. Perform (computes_immediate rule c d d bits r)) (size_of (ri_a opcode d bits))

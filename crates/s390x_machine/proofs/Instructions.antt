@@ -1,5 +1,6 @@
 -- Each built step runs as its typed step, and so every run is allowed.
-use Rattle.std.proofs.Common.{◌≡◌, ℕ, suc, ◌+◌, ◌%◌, ◌^◌, ◌<◌, ◌≤◌, [], ◌∷◌, length, Option, Some, None, Bool, true, false, cond, ◌&&◌, IsTrue, refl, sym, ap, ◌∙◌, subst, arith, slice_get, eqb-true, nat_lt, nat_eq, ℤ, pos, negsuc}
+use Rattle.std.proofs.Common.{◌≡◌, ℕ, suc, ◌+◌, ◌%◌, ◌^◌, ◌<◌, ◌≤◌, [], ◌∷◌, length, Option, Some, None, Bool, true, false, cond, ◌&&◌, IsTrue, refl, sym, ap, ◌∙◌, subst, arith, slice_get, eqb-true, nat_lt, nat_eq, ℤ, pos, negsuc, List, ◌*◌, ◌-◌, ltb-true}
+use Rattle.std.specs.Prelude.{◌-ℤ◌}
 use Rattle.std.proofs.lemmas.Bool.{and_parts}
 use Rattle.std.proofs.lemmas.Option.{slice_get_within}
 use Rattle.s390x_base.specs.Regs.{number_of}
@@ -7,15 +8,25 @@ use Rattle.s390x_base.specs.declared.regs.Reg.{Reg}
 use Rattle.s390x_base.specs.declared.regs.Reg.TheVariants.{Real}
 use Rattle.s390x_base.specs.declared.trap.TrapKind.{TrapKind}
 use Rattle.s390x_inst.specs.declared.ops.ALUOp.{ALUOp}
+use Rattle.s390x_inst.specs.declared.ops.UnaryOp.TheVariants as U
+use Rattle.s390x_inst.specs.declared.ops.ShiftOp.{ShiftOp}
+use Rattle.s390x_inst.specs.declared.ops.RxSBGOp.{RxSBGOp}
+use Rattle.s390x_inst.specs.declared.ops.RxSBGOp.TheVariants as R
 use Rattle.s390x_inst.specs.declared.inst.Inst.{Inst}
-use Rattle.s390x_inst.specs.declared.inst.Inst.TheVariants.{AluRRR, AluRR, AluRRSImm16, AluRSImm16, AluRSImm32, AluRUImm32, UnaryRR, CmpRR, CmpRSImm16, CmpRSImm32, CmpRUImm32, Mov64, MovPReg, Mov32, Mov32Imm, Mov32SImm16, Mov64SImm16, Mov64SImm32, Jump, CondBr, IndirectBr, Ret}
-use Rattle.s390x_format.specs.Formats.{length_of}
-use Rattle.s390x_format.specs.declared.kind.FormatKind.TheVariants.{Rr, RiA, RieD, RilA}
-use Rattle.s390x_steps.specs.General.{is_general, reuses, low_halfword, low_word}
-use Rattle.s390x_steps.specs.Opcodes.{alu_three, alu_two, cmp_two, unary_two, alu_halfword, alu_three_halfword, alu_signed_word, alu_unsigned_word, cmp_halfword, cmp_signed_word, cmp_unsigned_word}
-use Rattle.s390x_steps.specs.Alone.{alone_with, two_operands, two_row, three_row, halfword_row, word_row, three_halfword_row}
+use Rattle.s390x_inst.specs.declared.inst.Inst.TheVariants.{AluRRR, AluRR, AluRRSImm16, AluRSImm16, AluRSImm32, AluRUImm32, UnaryRR, CmpRR, CmpRSImm16, CmpRSImm32, CmpRUImm32, Mov64, MovPReg, Mov32, Mov32Imm, Mov32SImm16, Mov64SImm16, Mov64SImm32, AluRUImm16Shifted, AluRUImm32Shifted, ShiftRR, RxSBG, RxSBGTest, Mov64UImm16Shifted, Mov64UImm32Shifted, Insert64UImm16Shifted, Insert64UImm32Shifted, CMov32, CMov64, CMov32SImm16, CMov64SImm16, Extend, LoadAR, InsertAR, Jump, CondBr, IndirectBr, Ret}
+use Rattle.s390x_format.specs.Formats.{length_of, layout_of}
+use Rattle.s390x_format.specs.Layout.{SlotsFit}
+use Rattle.s390x_format.specs.Rows.{is_allowed}
+use Rattle.s390x_format.specs.View.{fields_of}
+use Rattle.s390x_format.specs.declared.row.Allowed.{Allowed}
+use Rattle.s390x_format.specs.declared.row.Allowed.TheVariants.{Any, CountMode, RotateBitsOrTest}
+use Rattle.s390x_format.specs.declared.kind.FormatKind.{FormatKind}
+use Rattle.s390x_format.specs.declared.kind.FormatKind.TheVariants.{Rr, RrfCde, RiA, RieD, RieF, RieG, RilA, Rsy}
+use Rattle.s390x_steps.specs.General.{is_general, reuses, low_halfword, low_word, low_byte, four_bits, rotation, is_access}
+use Rattle.s390x_steps.specs.Opcodes.{alu_three, alu_two, cmp_two, unary_two, alu_halfword, alu_three_halfword, alu_signed_word, alu_unsigned_word, cmp_halfword, cmp_signed_word, cmp_unsigned_word, alu_part, alu_half, load_part, load_half, insert_part, insert_half, extend_two, shift_storage, rotate_then, rotate_then_test}
+use Rattle.s390x_steps.specs.Alone.{alone_with, two_operands, two_row, three_row, halfword_row, word_row, three_halfword_row, rotated_row}
 use Rattle.s390x_steps.specs.Ranges.{IsMask}
-use Rattle.s390x_steps.specs.MachineInstruction.{MachineInstruction, bytes_of, size_of, rr, rre, rrf_ab, ri_a, rie_d, ril_a, ril_c}
+use Rattle.s390x_steps.specs.MachineInstruction.{MachineInstruction, bytes_of, size_of, rr, rre, rrf_ab, rrf_cde, ri_a, rie_d, rie_f, rie_g, ril_a, ril_c, rsy}
 use Rattle.s390x_steps.specs.Steps.{Step, Plain, Opening, Back, Break}
 use Rattle.s390x_steps.specs.Parts.{ToBlock, ToStep, Row, Branch, parts_size, parts_or, step_parts}
 use Rattle.s390x_steps.specs.Rows.{rows_of}
@@ -24,14 +35,21 @@ use Rattle.s390x_operations.specs.Effects.{Refines}
 use Rattle.s390x_operations.specs.declared.effect.Operation.{Operation}
 use Rattle.s390x_operations.specs.declared.effect.CodeRule.{CodeRule}
 use Rattle.s390x_operations.specs.declared.effect.CodeRule.TheVariants.{Kept, Set}
-use Rattle.s390x_operations.specs.declared.operator.Operator.TheVariants.{Move}
+use Rattle.s390x_operations.specs.Bits.{selection}
+use Rattle.s390x_operations.specs.declared.size.Size.{Size}
+use Rattle.s390x_operations.specs.declared.size.Size.TheVariants.{Word, Doubleword}
+use Rattle.s390x_operations.specs.declared.effect.Effect.TheVariants as Effect
+use Rattle.s390x_operations.specs.declared.operator.SelectedBitsOperator.TheVariants as Select
+use Rattle.s390x_operations.specs.declared.operator.Operator.{Operator}
+use Rattle.s390x_operations.specs.declared.operator.Operator.TheVariants.{Move, Shift, SelectedBits, PopulationCountByByte}
 use Rattle.s390x_operations.specs.declared.stop.StopKind.{StopKind}
 use Rattle.s390x_machine.specs.declared.meaning.Meaning.{Meaning}
-use Rattle.s390x_machine.specs.declared.meaning.Meaning.TheVariants.{Compare}
-use Rattle.s390x_machine.specs.declared.meaning.Shape.TheVariants.{Register, ThreeRegisters, Immediate, ThreeImmediate}
+use Rattle.s390x_machine.specs.declared.meaning.Meaning.TheVariants.{Compare, MoveWhere, CountOnes, RotateThen}
+use Rattle.s390x_machine.specs.declared.meaning.Shape.TheVariants.{Register, ThreeRegisters, Immediate, ThreeImmediate, AccessRegister}
 use Rattle.s390x_machine.specs.declared.meaning.Action.{Action}
 use Rattle.s390x_machine.specs.declared.meaning.Action.TheVariants.{Perform, Branch as BranchAction}
-use Rattle.s390x_machine.specs.Computations.{Computation, Comparison, alu_computation, alu_three_rule, alu_two_rule, unary_computation, unary_rule, comparison, on_words, on_doublewords, word, signed_word, signed_halfword, on_immediate, compares_on_immediate, computes, compares, computes_immediate, compares_immediate}
+use Rattle.s390x_machine.specs.Computations.{Computation, Comparison, alu_computation, alu_three_rule, alu_two_rule, unary_computation, unary_rule, comparison, on_words, on_doublewords, word, signed_word, signed_halfword, on_immediate, compares_on_immediate, computes, compares, computes_immediate, compares_immediate, Second, with_rule, operand_of, doubleword, part_mask, half_mask, on_selected, part_operator, at_half, inserts_half, extension, shift_operator, shift_size, shift_rule, shift_computation, shifts, rotate_operator, rotate_rule, rotates_into, rotates_to_test, copies_access, moves_where, moves_immediate_where}
+use Rattle.s390x_machine.specs.Operands.{value_in, based, rotated_operand}
 use Rattle.s390x_machine.specs.Forms.{Form, Performs, GoesTo, Chooses, Leads, Silent, no_code}
 use Rattle.s390x_machine.specs.Meanings.{action}
 use Rattle.s390x_machine.specs.Typed.{At, FormStep, form_of, form_at}
@@ -42,8 +60,9 @@ use Rattle.s390x_machine.specs.Placed.{Placed, AllPlaced, IsBlock, FineOr, IsFin
 use Rattle.s390x_machine.proofs.Fetching.{StandsAt}
 use Rattle.s390x_machine.proofs.Simulation.{RowAt, DoesAs, Coded, at_start, general_step}
 use Rattle.s390x_machine.proofs.Standing.{step_rows, offset_even, offset_small, inside_at, inside_first, next_place, block_at}
-use Rattle.s390x_machine.proofs.Rows.{general_number, nonzero_number, bcr_at, brcl_at}
-use Rattle.s390x_machine.proofs.Alone.{TwoRow, ThreeRow, TwoRows, ThreeRows, second_register, computed, register_fields, alu_three_rows, alu_two_rows, cmp_rows, unary_rows, lgr_row, lr_row, two_at, three_at, ImmediateRows, compared, halfword_rows, three_halfword_rows, signed_word_rows, unsigned_word_rows, cmp_halfword_rows, cmp_signed_word_rows, cmp_unsigned_word_rows, iilf_row, lhi_row, lghi_row, lgfi_row, halfword_at, word_at, three_halfword_at, compare_halfword_at, compare_word_at, loosens, three_looser, two_looser}
+use Rattle.s390x_machine.proofs.Rows.{general_number, nonzero_number, bcr_at, brcl_at, fits_rrf_cde, fits_rie_f, fits_rie_g, fits_rsy}
+use Rattle.s390x_machine.proofs.Bits.{immediate_at, part_rows, half_rows, load_part_rows, load_half_rows, insert_part_rows, iihf_row, extends, extend_rows, ear_row, shift_meaning, shift_rows, rotate_allows, rotate_rows, any_mask, locr_row, locgr_row, lochi_row, locghi_row, popcnt_row, below, not_below, mask_allowed, rotation_allowed, test_allowed}
+use Rattle.s390x_machine.proofs.Alone.{TwoRow, ThreeRow, TwoRows, ThreeRows, second_register, computed, register_fields, alu_three_rows, alu_two_rows, cmp_rows, unary_rows, lgr_row, lr_row, two_at, three_at, ImmediateRows, compared, halfword_rows, three_halfword_rows, signed_word_rows, unsigned_word_rows, cmp_halfword_rows, cmp_signed_word_rows, cmp_unsigned_word_rows, iilf_row, lhi_row, lghi_row, lgfi_row, halfword_at, word_at, three_halfword_at, compare_halfword_at, compare_word_at, loosens, three_looser, two_looser, Meant, meant_at, ri_a_at, ril_a_at, low_small}
 use Rattle.s390x_machine.proofs.Branches.{jump_runs, TwoBranches, choose_runs, leads_runs, returns_runs, address_runs}
 use Rattle.s390x_machine.proofs.Induction.{headline_of, one_step}
 
@@ -102,6 +121,13 @@ halfword_bits (negsuc a) = omega arith
 word_bits : (z : ℤ) → low_word z < 2 ^ 32
 word_bits (pos a) = omega arith
 word_bits (negsuc a) = omega arith
+
+rotation_small : (z : ℤ) → rotation z < 64
+rotation_small (pos a) = omega arith
+rotation_small (negsuc a) = omega arith
+
+access_small : (output : Reg) (a : ℕ) → number_of output < 16 → (number_of output < 16) × (four_bits a < 16)
+access_small output a lt = (lt, omega arith)
 
 uncoded : (L : Layout) (p : ℕ) → Coded L p no_code
 uncoded L p kind n e = absurd (cc)
@@ -174,6 +200,110 @@ module _ (L : Layout) (all : AllPlaced L) (k : ℕ) (s : Step) (at : slice_get L
       go false e is_row =
           let l = small h in
           immediate_runs (rie_d three d n bits) (computes_immediate rule c d n bits) is is_row (omega arith) (λ st. three_halfword_at L all (L.places.step k) even three c rule row3 d n bits l.0 l.1 lb st)
+
+  -- any row whose action is the step's operation
+  meant_runs : (kind : FormatKind) (allowed : Allowed) (opcode : ℕ) (fields : List ℕ) (meaning : Meaning) (operation : Registers → Operation) → form_of (Some s) ≡ Some (Performs false operation no_code) → step_parts s ≡ Row (record { format = kind; slots = opcode ∷ fields }) ∷ [] → 0 < length_of kind → Meant kind allowed opcode meaning → SlotsFit (layout_of kind) (opcode ∷ fields) → is_allowed allowed (opcode ∷ fields) ≡ true → ((r : Registers) (p : ℕ) → action meaning (fields_of kind (opcode ∷ fields)) r p ≡ Perform (operation r)) → StepRuns L k
+  meant_runs kind allowed opcode fields meaning operation is parts some row fit allows acts =
+      immediate_runs (record { format = kind; slots = opcode ∷ fields }) operation is parts some (λ st. meant_at L all (L.places.step k) even kind allowed opcode fields meaning operation row fit allows acts st)
+
+  -- an operator with an immediate of 16 bits, or of 32, at its place in the register
+  placed_halfword : (fine : Bool) (o : Option ℕ) (operator : Operator) (rule : CodeRule) (n : ℕ) → ImmediateRows RiA 4096 o (immediate_at (on_doublewords operator) n rule) → (d bits : ℕ) → form_of (Some s) ≡ Some (Performs false (computes_immediate rule (on_doublewords operator) d d (bits * 2 ^ n)) no_code) → step_parts s ≡ parts_or (alone_with fine (halfword_row o d bits)) [] → FineOr (alone_with fine (halfword_row o d bits)) ⊥ → (IsTrue fine → d < 16) → bits < 2 ^ 16 → StepRuns L k
+  unfolding length_of
+  placed_halfword fine None operator rule n row d bits is parts h small lb = absurd h
+  placed_halfword fine (Some opcode) operator rule n row d bits is parts h small lb =
+      let op = computes_immediate rule (on_doublewords operator) d d (bits * 2 ^ n) in
+      immediate_runs (ri_a opcode d bits) op is parts (omega arith) (λ st. ri_a_at L all (L.places.step k) even opcode (immediate_at (on_doublewords operator) n rule) row op d bits (small h) lb (λ r p. ap (λ x. Perform (computes_immediate rule (on_doublewords operator) d d (x * 2 ^ n) r)) (low_small bits (omega (arith, lb)))) st)
+
+  placed_word : (fine : Bool) (o : Option ℕ) (operator : Operator) (rule : CodeRule) (n : ℕ) → ImmediateRows RilA 4096 o (immediate_at (on_doublewords operator) n rule) → (d bits : ℕ) → form_of (Some s) ≡ Some (Performs false (computes_immediate rule (on_doublewords operator) d d (bits * 2 ^ n)) no_code) → step_parts s ≡ parts_or (alone_with fine (word_row o d bits)) [] → FineOr (alone_with fine (word_row o d bits)) ⊥ → (IsTrue fine → d < 16) → bits < 2 ^ 32 → StepRuns L k
+  unfolding length_of
+  placed_word fine None operator rule n row d bits is parts h small lb = absurd h
+  placed_word fine (Some opcode) operator rule n row d bits is parts h small lb =
+      let op = computes_immediate rule (on_doublewords operator) d d (bits * 2 ^ n) in
+      immediate_runs (ril_a opcode d bits) op is parts (omega arith) (λ st. ril_a_at L all (L.places.step k) even opcode (immediate_at (on_doublewords operator) n rule) row op d bits (small h) lb (λ r p. ap (λ x. Perform (computes_immediate rule (on_doublewords operator) d d (x * 2 ^ n) r)) (low_small bits (omega (arith, lb)))) st)
+
+  -- a half is inserted: the right one by the row of a move of 32 bits
+  inserted_half : (fine : Bool) (shift d bits : ℕ) → form_of (Some s) ≡ Some (Performs false (computes_immediate Kept (inserts_half shift) d d (at_half shift bits)) no_code) → step_parts s ≡ parts_or (alone_with fine (word_row (insert_half shift) d bits)) [] → FineOr (alone_with fine (word_row (insert_half shift) d bits)) ⊥ → (IsTrue fine → d < 16) → bits < 2 ^ 32 → StepRuns L k
+  inserted_half fine shift d bits is parts h small lb = go (nat_eq shift 0) refl (nat_eq shift 1) refl is parts h
+    where
+      go : (t : Bool) → nat_eq shift 0 ≡ t → (u : Bool) → nat_eq shift 1 ≡ u → form_of (Some s) ≡ Some (Performs false (computes_immediate Kept (cond t (on_words Move) (on_selected Select.Insert (half_mask shift))) d d (bits * 2 ^ (32 * shift))) no_code) → step_parts s ≡ parts_or (alone_with fine (word_row (cond t (Some 0xc09) (cond u (Some 0xc08) None)) d bits)) [] → FineOr (alone_with fine (word_row (cond t (Some 0xc09) (cond u (Some 0xc08) None)) d bits)) ⊥ → StepRuns L k
+      go true e u f is2 parts2 h2 =
+          let same : bits * 2 ^ (32 * shift) ≡ bits = ap (λ i. bits * 2 ^ (32 * i)) (eqb-true shift 0 e) ∙ omega arith in
+          one_of_word fine (Some 0xc09) (on_words Move) Kept iilf_row d bits (is2 ∙ ap (λ x. Some (Performs false (computes_immediate Kept (on_words Move) d d x) no_code)) same) parts2 h2 small lb
+      go false e true f is2 parts2 h2 =
+          placed_word fine (Some 0xc08) (SelectedBits Select.Insert (half_mask 1)) Kept 32 iihf_row d bits (is2 ∙ ap (λ i. Some (Performs false (computes_immediate Kept (on_selected Select.Insert (half_mask i)) d d (bits * 2 ^ (32 * i))) no_code)) (eqb-true shift 1 f)) parts2 h2 small lb
+      go false e false f is2 parts2 h2 = absurd h2
+
+  shift_runs : (op : ShiftOp) (fine : Bool) (d n base amount : ℕ) → form_of (Some s) ≡ Some (Performs false (shifts op d n base (low_byte amount)) no_code) → step_parts s ≡ Row (rsy (shift_storage op) d n base (low_byte amount)) ∷ [] → IsTrue fine → (IsTrue fine → (d < 16) × (n < 16) × (base < 16)) → StepRuns L k
+  unfolding length_of
+  shift_runs op fine d n base amount is parts h small =
+      let l = small h in
+      let byte : low_byte amount < 2 ^ 19 = omega arith in
+      meant_runs Rsy Any (shift_storage op) (d ∷ n ∷ base ∷ 0 ∷ 0 ∷ 0 ∷ 0 ∷ 0 ∷ low_byte amount ∷ []) (shift_meaning op) (shifts op d n base (low_byte amount)) is parts (omega arith) (shift_rows op) (fits_rsy (shift_storage op) d n base (low_byte amount) (shift_rows op).few l.0 l.1 l.2 (omega arith)) refl (λ r p.
+      ap (λ t. Perform (with_rule (shift_rule op) (Effect.Compute (Shift (shift_operator op)) (shift_size op) d (value_in (shift_size op) r n) (operand_of (shift_computation op).second (based r base (cond t (pos (low_byte amount)) (pos (low_byte amount) -ℤ pos (2 ^ 20)))))))) (below (low_byte amount) (2 ^ 19) byte))
+
+  rotate_runs : (op : RxSBGOp) (fine : Bool) (d n start end : ℕ) (amount : ℤ) → form_of (Some s) ≡ Some (Performs false (rotates_into op d n start end (rotation amount)) no_code) → step_parts s ≡ parts_or (alone_with fine (rotated_row (Some (rotate_then op)) d n start end start (rotation amount))) [] → FineOr (alone_with fine (rotated_row (Some (rotate_then op)) d n start end start (rotation amount))) ⊥ → (IsTrue fine → (d < 16) × (n < 16)) → StepRuns L k
+  unfolding length_of
+  rotate_runs op fine d n start end amount is parts h small = go (nat_lt start 64 && nat_lt end 64) refl parts h
+    where
+      am : ℕ
+      am = rotation amount
+
+      go : (t : Bool) → (nat_lt start 64 && nat_lt end 64) ≡ t → step_parts s ≡ parts_or (alone_with fine (cond t (Some (rie_f (rotate_then op) d n start end am)) None)) [] → FineOr (alone_with fine (cond t (Some (rie_f (rotate_then op) d n start end am)) None)) ⊥ → StepRuns L k
+      go false e parts2 h2 = absurd h2
+      go true e parts2 h2 =
+          let l = small h2 in
+          let tests = and_parts (nat_lt start 64) (nat_lt end 64) e in
+          let ls = ltb-true start 64 tests.0 in
+          let le = ltb-true end 64 tests.1 in
+          meant_runs RieF (rotate_allows op) (rotate_then op) (d ∷ n ∷ 0 ∷ 0 ∷ start ∷ end ∷ am ∷ 0 ∷ 0 ∷ []) (RotateThen (rotate_operator op) (rotate_rule op)) (rotates_into op d n start end am) is parts2 (omega arith) (rotate_rows op) (fits_rie_f (rotate_then op) d n start end am (rotate_rows op).few l.0 l.1 (omega (arith, ls)) (omega (arith, le)) (omega (arith, rotation_small amount))) (rotation_allowed op d n start end am ls le (rotation_small amount)) (λ r p.
+          ap (λ t. cond t (Perform (rotates_into op d n start end am r)) (Perform (with_rule Set (Effect.Test (SelectedBits (rotate_operator op) (selection (start - 128) end)) Doubleword (r.general d) (rotated_operand r n am))))) (below start 64 ls))
+
+  -- the same for the code alone
+  tested : (op : RxSBGOp) → rotate_allows op ≡ RotateBitsOrTest → (fine : Bool) (d n start end : ℕ) (amount : ℤ) → form_of (Some s) ≡ Some (Performs false (rotates_to_test op d n start end (rotation amount)) no_code) → step_parts s ≡ parts_or (alone_with fine (rotated_row (Some (rotate_then op)) d n start end (start + 128) (rotation amount))) [] → FineOr (alone_with fine (rotated_row (Some (rotate_then op)) d n start end (start + 128) (rotation amount))) ⊥ → (IsTrue fine → (d < 16) × (n < 16)) → StepRuns L k
+  unfolding length_of
+  tested op tests_alone fine d n start end amount is parts h small = go (nat_lt start 64 && nat_lt end 64) refl parts h
+    where
+      am : ℕ
+      am = rotation amount
+
+      go : (t : Bool) → (nat_lt start 64 && nat_lt end 64) ≡ t → step_parts s ≡ parts_or (alone_with fine (cond t (Some (rie_f (rotate_then op) d n (start + 128) end am)) None)) [] → FineOr (alone_with fine (cond t (Some (rie_f (rotate_then op) d n (start + 128) end am)) None)) ⊥ → StepRuns L k
+      go false e parts2 h2 = absurd h2
+      go true e parts2 h2 =
+          let l = small h2 in
+          let tests = and_parts (nat_lt start 64) (nat_lt end 64) e in
+          let ls = ltb-true start 64 tests.0 in
+          let le = ltb-true end 64 tests.1 in
+          let back : start + 128 - 128 ≡ start = omega arith in
+          meant_runs RieF (rotate_allows op) (rotate_then op) (d ∷ n ∷ 0 ∷ 0 ∷ (start + 128) ∷ end ∷ am ∷ 0 ∷ 0 ∷ []) (RotateThen (rotate_operator op) (rotate_rule op)) (rotates_to_test op d n start end am) is parts2 (omega arith) (rotate_rows op) (fits_rie_f (rotate_then op) d n (start + 128) end am (rotate_rows op).few l.0 l.1 (omega (arith, ls)) (omega (arith, le)) (omega (arith, rotation_small amount))) (ap (λ a. is_allowed a (rie_f (rotate_then op) d n (start + 128) end am).slots) tests_alone ∙ test_allowed (rotate_then op) d n start end am ls le (rotation_small amount)) (λ r p.
+          ap (λ t. cond t (Perform (with_rule (rotate_rule op) (Effect.Compute (SelectedBits (rotate_operator op) (selection (start + 128) end)) Doubleword d (r.general d) (rotated_operand r n am)))) (Perform (rotates_to_test op d n (start + 128 - 128) end am r))) (not_below (start + 128) 64 (omega arith)) ∙ ap (λ i. Perform (rotates_to_test op d n i end am r)) back)
+
+  test_runs : (op : RxSBGOp) (fine : Bool) (d n start end : ℕ) (amount : ℤ) → form_of (Some s) ≡ Some (Performs false (rotates_to_test op d n start end (rotation amount)) no_code) → step_parts s ≡ parts_or (alone_with fine (rotated_row (rotate_then_test op) d n start end (start + 128) (rotation amount))) [] → FineOr (alone_with fine (rotated_row (rotate_then_test op) d n start end (start + 128) (rotation amount))) ⊥ → (IsTrue fine → (d < 16) × (n < 16)) → StepRuns L k
+  test_runs R.Insert fine d n start end amount is parts h small = absurd h
+  test_runs R.And fine d n start end amount is parts h small = tested R.And refl fine d n start end amount is parts h small
+  test_runs R.Or fine d n start end amount is parts h small = tested R.Or refl fine d n start end amount is parts h small
+  test_runs R.Xor fine d n start end amount is parts h small = tested R.Xor refl fine d n start end amount is parts h small
+
+  -- a conditional move of a register
+  move_where_runs : (opcode : ℕ) (size : Size) (second : Second) → Meant RrfCde any_mask opcode (MoveWhere size (second_register Register second)) → (fine : Bool) (mask d m : ℕ) → form_of (Some s) ≡ Some (Performs false (moves_where size second (four_bits mask) d m) no_code) → step_parts s ≡ Row (rrf_cde opcode d m (four_bits mask) 0) ∷ [] → IsTrue fine → (IsTrue fine → (d < 16) × (m < 16)) → StepRuns L k
+  unfolding length_of
+  move_where_runs opcode size second row fine mask d m is parts h small =
+      let l = small h in
+      let lm : four_bits mask < 16 = omega arith in
+      meant_runs RrfCde any_mask opcode (d ∷ m ∷ 0 ∷ 0 ∷ four_bits mask ∷ 0 ∷ 0 ∷ 0 ∷ 0 ∷ []) (MoveWhere size (second_register Register second)) (moves_where size second (four_bits mask) d m) is parts (omega arith) row (fits_rrf_cde opcode d m (four_bits mask) row.few l.0 l.1 lm) (mask_allowed opcode d m (four_bits mask) lm) (λ r p. refl)
+
+  -- and of an immediate
+  move_immediate_where_runs : (opcode : ℕ) (size : Size) → Meant RieG Any opcode (MoveWhere size (second_register Immediate signed_halfword)) → (fine : Bool) (mask d bits : ℕ) → form_of (Some s) ≡ Some (Performs false (moves_immediate_where size (four_bits mask) d bits) no_code) → step_parts s ≡ Row (rie_g opcode d bits (four_bits mask)) ∷ [] → IsTrue fine → (IsTrue fine → d < 16) → bits < 2 ^ 16 → StepRuns L k
+  unfolding length_of
+  move_immediate_where_runs opcode size row fine mask d bits is parts h small lb =
+      let lm : four_bits mask < 16 = omega arith in
+      meant_runs RieG Any opcode (d ∷ 0 ∷ 0 ∷ 0 ∷ four_bits mask ∷ 0 ∷ 0 ∷ bits ∷ 0 ∷ []) (MoveWhere size (second_register Immediate signed_halfword)) (moves_immediate_where size (four_bits mask) d bits) is parts (omega arith) row (fits_rie_g opcode d bits (four_bits mask) row.few (small h) lb lm) refl (λ r p. ap (λ x. Perform (moves_immediate_where size (four_bits mask) d x r)) (low_small bits (omega (arith, lb))))
+
+  -- a count of the ones of each byte
+  count_runs : (fine : Bool) (d n : ℕ) → form_of (Some s) ≡ Some (Performs false (computes Set (on_doublewords PopulationCountByByte) d d n) no_code) → step_parts s ≡ Row (rrf_cde 0xb9e1 d n 0 0) ∷ [] → IsTrue fine → (IsTrue fine → (d < 16) × (n < 16)) → StepRuns L k
+  unfolding length_of
+  count_runs fine d n is parts h small =
+      let l = small h in
+      meant_runs RrfCde CountMode 0xb9e1 (d ∷ n ∷ 0 ∷ 0 ∷ 0 ∷ 0 ∷ 0 ∷ 0 ∷ 0 ∷ []) CountOnes (computes Set (on_doublewords PopulationCountByByte) d d n) is parts (omega arith) popcnt_row (fits_rrf_cde 0xb9e1 d n 0 (omega arith) l.0 l.1 (omega arith)) refl (λ r p. refl)
 
   -- an instruction of one row of two registers, where its operator has one
   one_of_two : (fine : Bool) (o : Option ℕ) (meaning : Meaning) → TwoRows o meaning → (does operation : Registers → Operation) (d m : ℕ) → form_of (Some s) ≡ Some (Performs false operation no_code) → step_parts s ≡ parts_or (alone_with fine (two_row o d m)) [] → FineOr (alone_with fine (two_row o d m)) ⊥ → (IsTrue fine → (d < 16) × (m < 16)) → ((r : Registers) (p : ℕ) → action meaning (register_fields d m 0) r p ≡ Perform (does r)) → ((r : Registers) → Refines (does r) (operation r)) → StepRuns L k
@@ -265,6 +395,8 @@ instruction_runs L all k (AluRRR op rd rn rm) at p fine =
     alu_three_runs L all k (Plain (AluRRR op rd rn rm)) at p op (is_general rd && is_general rn && is_general rm) (number_of rd) (number_of rn) (number_of rm) refl refl fine (three_small rd rn rm)
 instruction_runs L all k (AluRR op rd ri rm) at p fine =
     one_of_two L all k (Plain (AluRR op rd ri rm)) at p (reuses rd ri && is_general rm) (alu_two op) (computed (alu_computation op) Register (alu_two_rule op)) (alu_two_rows op) (computes (alu_two_rule op) (alu_computation op) (number_of rd) (number_of rd) (number_of rm)) (computes (alu_two_rule op) (alu_computation op) (number_of rd) (number_of rd) (number_of rm)) (number_of rd) (number_of rm) refl refl fine (reused_small rd ri rm) (λ r q. refl) (λ r. exactly _)
+instruction_runs L all k (UnaryRR U.PopcntByte rd rn) at p fine =
+    count_runs L all k (Plain (UnaryRR U.PopcntByte rd rn)) at p (is_general rd && is_general rn) (number_of rd) (number_of rn) refl refl fine (two_small rd rn)
 instruction_runs L all k (UnaryRR op rd rn) at p fine =
     one_of_two L all k (Plain (UnaryRR op rd rn)) at p (is_general rd && is_general rn) (unary_two op) (computed (unary_computation op) Register (unary_rule op)) (unary_rows op) (computes (unary_rule op) (unary_computation op) (number_of rd) (number_of rd) (number_of rn)) (computes (unary_rule op) (unary_computation op) (number_of rd) (number_of rd) (number_of rn)) (number_of rd) (number_of rn) refl refl fine (two_small rd rn) (λ r q. refl) (λ r. exactly _)
 instruction_runs L all k (CmpRR op rn rm) at p fine =
@@ -297,6 +429,38 @@ instruction_runs L all k (Mov64SImm16 rd imm) at p fine =
     one_of_halfword L all k (Plain (Mov64SImm16 rd imm)) at p (is_general rd) (Some 0xa79) (on_immediate (on_doublewords Move) signed_halfword) Kept lghi_row (number_of rd) (low_halfword imm) refl refl fine (general_number rd) (halfword_bits imm)
 instruction_runs L all k (Mov64SImm32 rd imm) at p fine =
     one_of_word L all k (Plain (Mov64SImm32 rd imm)) at p (is_general rd) (Some 0xc01) (on_immediate (on_doublewords Move) signed_word) Kept lgfi_row (number_of rd) (low_word imm) refl refl fine (general_number rd) (word_bits imm)
+instruction_runs L all k (AluRUImm16Shifted op rd ri imm) at p fine =
+    placed_halfword L all k (Plain (AluRUImm16Shifted op rd ri imm)) at p (reuses rd ri) (alu_part op imm.shift) (SelectedBits (part_operator op) (part_mask imm.shift)) Set (16 * imm.shift) (part_rows op imm.shift) (number_of rd) (low_halfword (pos imm.bits)) refl refl fine (output_small rd ri) (halfword_bits (pos imm.bits))
+instruction_runs L all k (AluRUImm32Shifted op rd ri imm) at p fine =
+    placed_word L all k (Plain (AluRUImm32Shifted op rd ri imm)) at p (reuses rd ri) (alu_half op imm.shift) (SelectedBits (part_operator op) (half_mask imm.shift)) Set (32 * imm.shift) (half_rows op imm.shift) (number_of rd) (low_word (pos imm.bits)) refl refl fine (output_small rd ri) (word_bits (pos imm.bits))
+instruction_runs L all k (Mov64UImm16Shifted rd imm) at p fine =
+    placed_halfword L all k (Plain (Mov64UImm16Shifted rd imm)) at p (is_general rd) (load_part imm.shift) Move Kept (16 * imm.shift) (load_part_rows imm.shift) (number_of rd) (low_halfword (pos imm.bits)) refl refl fine (general_number rd) (halfword_bits (pos imm.bits))
+instruction_runs L all k (Mov64UImm32Shifted rd imm) at p fine =
+    placed_word L all k (Plain (Mov64UImm32Shifted rd imm)) at p (is_general rd) (load_half imm.shift) Move Kept (32 * imm.shift) (load_half_rows imm.shift) (number_of rd) (low_word (pos imm.bits)) refl refl fine (general_number rd) (word_bits (pos imm.bits))
+instruction_runs L all k (Insert64UImm16Shifted rd ri imm) at p fine =
+    placed_halfword L all k (Plain (Insert64UImm16Shifted rd ri imm)) at p (reuses rd ri) (insert_part imm.shift) (SelectedBits Select.Insert (part_mask imm.shift)) Kept (16 * imm.shift) (insert_part_rows imm.shift) (number_of rd) (low_halfword (pos imm.bits)) refl refl fine (output_small rd ri) (halfword_bits (pos imm.bits))
+instruction_runs L all k (Insert64UImm32Shifted rd ri imm) at p fine =
+    inserted_half L all k (Plain (Insert64UImm32Shifted rd ri imm)) at p (reuses rd ri) imm.shift (number_of rd) (low_word (pos imm.bits)) refl refl fine (output_small rd ri) (word_bits (pos imm.bits))
+instruction_runs L all k (Extend rd rn signed from to) at p fine =
+    one_of_two L all k (Plain (Extend rd rn signed from to)) at p (is_general rd && is_general rn) (extend_two signed from to) (extends signed from to) (extend_rows signed from to) (computes Kept (extension signed from to) (number_of rd) (number_of rd) (number_of rn)) (computes Kept (extension signed from to) (number_of rd) (number_of rd) (number_of rn)) (number_of rd) (number_of rn) refl refl fine (two_small rd rn) (λ r q. refl) (λ r. exactly _)
+instruction_runs L all k (LoadAR rd ar) at p fine =
+    one_of_two L all k (Plain (LoadAR rd ar)) at p (is_general rd && is_access ar) (Some 0xb24f) (computed (on_words Move) AccessRegister Kept) ear_row (copies_access (number_of rd) (four_bits ar)) (copies_access (number_of rd) (four_bits ar)) (number_of rd) (four_bits ar) refl refl fine (λ h. access_small rd ar (general_number rd (and_parts (is_general rd) (is_access ar) h).0)) (λ r q. refl) (λ r. exactly _)
+instruction_runs L all k (InsertAR rd ri ar) at p fine =
+    one_of_two L all k (Plain (InsertAR rd ri ar)) at p (reuses rd ri && is_access ar) (Some 0xb24f) (computed (on_words Move) AccessRegister Kept) ear_row (copies_access (number_of rd) (four_bits ar)) (copies_access (number_of rd) (four_bits ar)) (number_of rd) (four_bits ar) refl refl fine (λ h. access_small rd ar (output_small rd ri (and_parts (reuses rd ri) (is_access ar) h).0)) (λ r q. refl) (λ r. exactly _)
+instruction_runs L all k (ShiftRR op rd rn amount register) at p fine =
+    shift_runs L all k (Plain (ShiftRR op rd rn amount register)) at p op (is_general rd && is_general rn && is_general register) (number_of rd) (number_of rn) (number_of register) amount refl refl fine (three_small rd rn register)
+instruction_runs L all k (RxSBG op rd ri rn start end amount) at p fine =
+    rotate_runs L all k (Plain (RxSBG op rd ri rn start end amount)) at p op (reuses rd ri && is_general rn) (number_of rd) (number_of rn) start end amount refl refl fine (reused_small rd ri rn)
+instruction_runs L all k (RxSBGTest op rd rn start end amount) at p fine =
+    test_runs L all k (Plain (RxSBGTest op rd rn start end amount)) at p op (is_general rd && is_general rn) (number_of rd) (number_of rn) start end amount refl refl fine (two_small rd rn)
+instruction_runs L all k (CMov32 rd mask ri rm) at p fine =
+    move_where_runs L all k (Plain (CMov32 rd mask ri rm)) at p 0xb9f2 Word word locr_row (reuses rd ri && is_general rm) mask (number_of rd) (number_of rm) refl refl fine (reused_small rd ri rm)
+instruction_runs L all k (CMov64 rd mask ri rm) at p fine =
+    move_where_runs L all k (Plain (CMov64 rd mask ri rm)) at p 0xb9e2 Doubleword doubleword locgr_row (reuses rd ri && is_general rm) mask (number_of rd) (number_of rm) refl refl fine (reused_small rd ri rm)
+instruction_runs L all k (CMov32SImm16 rd mask ri imm) at p fine =
+    move_immediate_where_runs L all k (Plain (CMov32SImm16 rd mask ri imm)) at p 0xec42 Word lochi_row (reuses rd ri) mask (number_of rd) (low_halfword imm) refl refl fine (output_small rd ri) (halfword_bits imm)
+instruction_runs L all k (CMov64SImm16 rd mask ri imm) at p fine =
+    move_immediate_where_runs L all k (Plain (CMov64SImm16 rd mask ri imm)) at p 0xec46 Doubleword locghi_row (reuses rd ri) mask (number_of rd) (low_halfword imm) refl refl fine (output_small rd ri) (halfword_bits imm)
 instruction_runs L all k (Jump dest) at p fine = goto_runs L all k (Plain (Jump dest)) at p dest.0 refl refl fine
 instruction_runs L all k (CondBr taken not_taken mask) at p fine = condbr_runs L all k (Plain (CondBr taken not_taken mask)) at p mask taken.0 not_taken.0 refl refl (small_mask mask fine.2) fine.0 fine.1
 instruction_runs L all k (IndirectBr rn targets) at p fine =

@@ -12,6 +12,7 @@ pub mod Reaching
 pub mod Reading
 pub mod Rows
 pub mod Alone
+pub mod Bits
 pub mod Branches
 pub mod Example
 pub mod Instructions

@@ -7,7 +7,7 @@ use Rattle.std.proofs.lemmas.Bool.{and_parts}
 use Rattle.s390x_base.specs.Regs.{number_of, is_int}
 use Rattle.s390x_base.specs.declared.regs.Reg.{Reg}
 use Rattle.s390x_base.specs.declared.regs.Reg.TheVariants.{Real, Virtual}
-use Rattle.s390x_format.specs.declared.kind.FormatKind.TheVariants.{Rr, Rre, RrfAb, RiA, RieD, RilA, RilC}
+use Rattle.s390x_format.specs.declared.kind.FormatKind.TheVariants.{Rr, Rre, RrfAb, RrfCde, RiA, RieD, RieF, RieG, RilA, RilC, Rsy}
 use Rattle.s390x_format.specs.Layout.{SlotsFit}
 use Rattle.s390x_format.specs.Formats.{layout_of, length_of}
 use Rattle.s390x_format.specs.Fits.{fields_from}
@@ -16,7 +16,7 @@ use Rattle.s390x_format.proofs.Encoding.{listed}
 use Rattle.s390x_format.specs.Fetch.{machine_rows}
 use Rattle.s390x_format.specs.Encoded.{IsEncoded}
 use Rattle.s390x_steps.specs.General.{is_general, is_nonzero}
-use Rattle.s390x_steps.specs.MachineInstruction.{bytes_of, rr, rre, rrf_ab, ri_a, rie_d, ril_a, ril_c}
+use Rattle.s390x_steps.specs.MachineInstruction.{bytes_of, rr, rre, rrf_ab, rrf_cde, ri_a, rie_d, rie_f, rie_g, ril_a, ril_c, rsy}
 use Rattle.s390x_steps.specs.Rows.{half_distance}
 use Rattle.s390x_operations.specs.State.{State, sum64}
 use Rattle.s390x_operations.specs.Numbers.{low}
@@ -62,6 +62,18 @@ fits_ril_a opcode a bits o la lb = fields_from RilA (ril_a opcode a bits).slots 
 
 pub fits_rie_d : (opcode a b bits : ℕ) → opcode < 65536 → a < 16 → b < 16 → bits < 2 ^ 16 → SlotsFit (layout_of RieD) (rie_d opcode a b bits).slots
 fits_rie_d opcode a b bits o la lb lc = fields_from RieD (rie_d opcode a b bits).slots refl (omega arith, (omega arith, (omega arith, (omega arith, (omega arith, (omega arith, (omega arith, (omega arith, (omega arith, (omega arith, tt))))))))))
+
+pub fits_rrf_cde : (opcode a b mask : ℕ) → opcode < 65536 → a < 16 → b < 16 → mask < 16 → SlotsFit (layout_of RrfCde) (rrf_cde opcode a b mask 0).slots
+fits_rrf_cde opcode a b mask o la lb lm = fields_from RrfCde (rrf_cde opcode a b mask 0).slots refl (omega arith, (omega arith, (omega arith, (omega arith, (omega arith, (omega arith, (omega arith, (omega arith, (omega arith, (omega arith, tt))))))))))
+
+pub fits_rie_f : (opcode a b first last amount : ℕ) → opcode < 65536 → a < 16 → b < 16 → first < 256 → last < 256 → amount < 256 → SlotsFit (layout_of RieF) (rie_f opcode a b first last amount).slots
+fits_rie_f opcode a b first last amount o la lb lf ll lm = fields_from RieF (rie_f opcode a b first last amount).slots refl (omega arith, (omega arith, (omega arith, (omega arith, (omega arith, (omega arith, (omega arith, (omega arith, (omega arith, (omega arith, tt))))))))))
+
+pub fits_rie_g : (opcode a bits mask : ℕ) → opcode < 65536 → a < 16 → bits < 2 ^ 16 → mask < 16 → SlotsFit (layout_of RieG) (rie_g opcode a bits mask).slots
+fits_rie_g opcode a bits mask o la lb lm = fields_from RieG (rie_g opcode a bits mask).slots refl (omega arith, (omega arith, (omega arith, (omega arith, (omega arith, (omega arith, (omega arith, (omega arith, (omega arith, (omega arith, tt))))))))))
+
+pub fits_rsy : (opcode a b base displacement : ℕ) → opcode < 65536 → a < 16 → b < 16 → base < 16 → displacement < 2 ^ 20 → SlotsFit (layout_of Rsy) (rsy opcode a b base displacement).slots
+fits_rsy opcode a b base displacement o la lb lc ld = fields_from Rsy (rsy opcode a b base displacement).slots refl (omega arith, (omega arith, (omega arith, (omega arith, (omega arith, (omega arith, (omega arith, (omega arith, (omega arith, (omega arith, tt))))))))))
 
 -- ---- the table lists them
 

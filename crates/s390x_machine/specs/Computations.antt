@@ -1,18 +1,26 @@
 -- What the operators of integer instructions compute (Principles of Operation, chapter 7, "General instructions"). Their names are cranelift-codegen's.
-use Rattle.std.specs.Prelude.{ℕ, Bool, true, false}
+use Rattle.std.specs.Prelude.{ℕ, ◌*◌, ◌^◌, pos, Bool, true, false, cond, nat_eq}
 use Rattle.s390x_inst.specs.declared.ops.ALUOp.{ALUOp}
 use Rattle.s390x_inst.specs.declared.ops.ALUOp.TheVariants as A
 use Rattle.s390x_inst.specs.declared.ops.CmpOp.{CmpOp}
 use Rattle.s390x_inst.specs.declared.ops.CmpOp.TheVariants as C
+use Rattle.s390x_inst.specs.declared.ops.ShiftOp.{ShiftOp}
+use Rattle.s390x_inst.specs.declared.ops.ShiftOp.TheVariants as S
+use Rattle.s390x_inst.specs.declared.ops.RxSBGOp.{RxSBGOp}
+use Rattle.s390x_inst.specs.declared.ops.RxSBGOp.TheVariants as R
 use Rattle.s390x_inst.specs.declared.ops.UnaryOp.{UnaryOp}
 use Rattle.s390x_inst.specs.declared.ops.UnaryOp.TheVariants as U
 use Rattle.s390x_lanes.specs.declared.operation.Signedness.{Signedness}
 use Rattle.s390x_lanes.specs.declared.operation.Signedness.TheVariants.{Signed, Unsigned}
+use Rattle.s390x_lanes.specs.declared.operation.ShiftOperator.{ShiftOperator}
+use Rattle.s390x_lanes.specs.declared.operation.ShiftOperator.TheVariants.{RotateLeft, ShiftLeft, ShiftRightLogical, ShiftRightArithmetic}
+use Rattle.s390x_operations.specs.Bits.{selection}
+use Rattle.s390x_operations.specs.Effects.{is_selected}
 use Rattle.s390x_operations.specs.State.{Registers}
 use Rattle.s390x_operations.specs.declared.size.Size.{Size}
 use Rattle.s390x_operations.specs.declared.size.Size.TheVariants.{Word, Doubleword}
 use Rattle.s390x_operations.specs.declared.size.Width.{Width}
-use Rattle.s390x_operations.specs.declared.size.Width.TheVariants.{Bits16, Bits32, Bits64}
+use Rattle.s390x_operations.specs.declared.size.Width.TheVariants.{Bits8, Bits16, Bits32, Bits64}
 use Rattle.s390x_operations.specs.declared.operand.Source.TheVariants.{Value}
 use Rattle.s390x_operations.specs.declared.operand.Operand.{Operand}
 use Rattle.s390x_operations.specs.declared.operator.Operator.{Operator}
@@ -20,12 +28,14 @@ use Rattle.s390x_operations.specs.declared.operator.Operator.TheVariants as O
 use Rattle.s390x_operations.specs.declared.operator.SignedOperator.TheVariants.{Add, Subtract, Multiply, Negate, Absolute}
 use Rattle.s390x_operations.specs.declared.operator.LogicalOperator.TheVariants as L
 use Rattle.s390x_operations.specs.declared.operator.BitOperator.TheVariants.{And, Or, Xor, NotAnd, NotOr, NotXor, AndNot, OrNot}
+use Rattle.s390x_operations.specs.declared.operator.SelectedBitsOperator.{SelectedBitsOperator}
+use Rattle.s390x_operations.specs.declared.operator.SelectedBitsOperator.TheVariants as Select
 use Rattle.s390x_operations.specs.declared.effect.Effect.{Effect}
-use Rattle.s390x_operations.specs.declared.effect.Effect.TheVariants.{Compute, Compare}
+use Rattle.s390x_operations.specs.declared.effect.Effect.TheVariants.{Compute, Compare, Test}
 use Rattle.s390x_operations.specs.declared.effect.CodeRule.{CodeRule}
 use Rattle.s390x_operations.specs.declared.effect.CodeRule.TheVariants.{Kept, Set, Unstated}
 use Rattle.s390x_operations.specs.declared.effect.Operation.{Operation}
-use Rattle.s390x_machine.specs.Operands.{value_in}
+use Rattle.s390x_machine.specs.Operands.{value_in, based, rotated_operand, performed_where}
 
 -- which bits of the second operand are read, and how they are extended to the operation's size
 pub record Second : Type 0 where
@@ -201,3 +211,124 @@ on_immediate c second = record { operator = c.operator; size = c.size; second = 
 -- the same comparison with an immediate, whose bits are read like this
 abbrev pub compares_on_immediate : Comparison → Second → Comparison
 compares_on_immediate c second = record { sign = c.sign; size = c.size; second = second }
+
+-- ---- parts of a register
+
+-- the bits of a part of 16 bits, by its number from the right
+abbrev pub part_mask : ℕ → ℕ
+part_mask shift = 65535 * 2 ^ (16 * shift)
+
+-- the bits of a half of 32 bits, by its number from the right
+abbrev pub half_mask : ℕ → ℕ
+half_mask shift = 4294967295 * 2 ^ (32 * shift)
+
+-- an operator on the bits under a mask: the others stay, and the code is that of those bits
+abbrev pub on_selected : SelectedBitsOperator → ℕ → Computation
+on_selected operator mask = on_doublewords (O.SelectedBits operator mask)
+
+-- what each operator does with part of a register: And, Or, and else Xor
+abbrev pub part_operator : ALUOp → SelectedBitsOperator
+part_operator A.And32 = Select.And
+part_operator A.And64 = Select.And
+part_operator A.Orr32 = Select.Or
+part_operator A.Orr64 = Select.Or
+part_operator _ = Select.Xor
+
+-- an immediate of 16 bits at its part of a register
+abbrev pub at_part : (shift bits : ℕ) → ℕ
+at_part shift bits = bits * 2 ^ (16 * shift)
+
+-- an immediate of 32 bits at its half
+abbrev pub at_half : (shift bits : ℕ) → ℕ
+at_half shift bits = bits * 2 ^ (32 * shift)
+
+-- a half is inserted: the right one is a move of 32 bits
+abbrev pub inserts_half : ℕ → Computation
+inserts_half shift = cond (nat_eq shift 0) (on_words O.Move) (on_selected Select.Insert (half_mask shift))
+
+-- ---- extensions
+
+-- how a number of so many bits is read: one bit counts as a byte with its sign
+abbrev pub extended_second : (signed : Bool) → (from : ℕ) → Second
+extended_second signed from = record {
+  width = cond (nat_eq from 1) Bits8 (cond (nat_eq from 8) Bits8 (cond (nat_eq from 16) Bits16 Bits32));
+  sign = cond (nat_eq from 1) Signed (cond signed Signed Unsigned);
+  reversed = false;
+}
+
+-- a number of so many bits becomes one of 32 bits, or of 64
+abbrev pub extension : (signed : Bool) → (from to : ℕ) → Computation
+extension signed from to = with_second O.Move (cond (nat_eq to 32) Word Doubleword) (extended_second signed from)
+
+-- ---- shifts
+
+-- how a shift moves bits
+abbrev pub shift_operator : ShiftOp → ShiftOperator
+shift_operator S.RotL32 = RotateLeft
+shift_operator S.RotL64 = RotateLeft
+shift_operator S.LShL32 = ShiftLeft
+shift_operator S.LShL64 = ShiftLeft
+shift_operator S.LShR32 = ShiftRightLogical
+shift_operator S.LShR64 = ShiftRightLogical
+shift_operator S.AShR32 = ShiftRightArithmetic
+shift_operator S.AShR64 = ShiftRightArithmetic
+
+-- the part of a register that it shifts
+abbrev pub shift_size : ShiftOp → Size
+shift_size S.RotL32 = Word
+shift_size S.LShL32 = Word
+shift_size S.LShR32 = Word
+shift_size S.AShR32 = Word
+shift_size _ = Doubleword
+
+-- of the amount only low bits count
+abbrev pub shift_computation : ShiftOp → Computation
+shift_computation op = with_second (O.Shift (shift_operator op)) (shift_size op) (record { width = Bits8; sign = Unsigned; reversed = false })
+
+-- a shift to the right with the sign sets the code
+abbrev pub shift_rule : ShiftOp → CodeRule
+shift_rule S.AShR32 = Set
+shift_rule S.AShR64 = Set
+shift_rule _ = Kept
+
+-- register d becomes register n shifted by a base plus a displacement
+abbrev pub shifts : ShiftOp → (d n base displacement : ℕ) → Registers → Operation
+shifts op d n base displacement r =
+    with_rule (shift_rule op) (Compute (shift_computation op).operator (shift_size op) d (value_in (shift_size op) r n) (operand_of (shift_computation op).second (based r base (pos displacement))))
+
+-- ---- rotations
+
+-- what becomes of the selected bits
+abbrev pub rotate_operator : RxSBGOp → SelectedBitsOperator
+rotate_operator R.Insert = Select.Insert
+rotate_operator R.And = Select.And
+rotate_operator R.Or = Select.Or
+rotate_operator R.Xor = Select.Xor
+
+-- an insertion leaves the code
+abbrev pub rotate_rule : RxSBGOp → CodeRule
+rotate_rule R.Insert = Kept
+rotate_rule _ = Set
+
+-- the bits of register d from a first to a last one are joined with those of register n, rotated to the left
+abbrev pub rotates_into : RxSBGOp → (d n first last amount : ℕ) → Registers → Operation
+rotates_into op d n first last amount r =
+    with_rule (rotate_rule op) (Compute (O.SelectedBits (rotate_operator op) (selection first last)) Doubleword d (r.general d) (rotated_operand r n amount))
+
+-- the same for the code alone
+abbrev pub rotates_to_test : RxSBGOp → (d n first last amount : ℕ) → Registers → Operation
+rotates_to_test op d n first last amount r = with_rule Set (Test (O.SelectedBits (rotate_operator op) (selection first last)) Doubleword (r.general d) (rotated_operand r n amount))
+
+-- ---- access registers and conditional moves
+
+-- the right half of register d becomes an access register
+abbrev pub copies_access : (d access : ℕ) → Registers → Operation
+copies_access d access r = with_rule Kept (Compute O.Move Word d (value_in Word r d) (operand_of word (r.access access)))
+
+-- register d becomes register m where the mask selects the condition code
+abbrev pub moves_where : Size → Second → (mask d m : ℕ) → Registers → Operation
+moves_where size second mask d m r = performed_where (is_selected mask r.code) (with_rule Kept (Compute O.Move size d (value_in size r d) (operand_of second (r.general m))))
+
+-- register d becomes an immediate there
+abbrev pub moves_immediate_where : Size → (mask d bits : ℕ) → Registers → Operation
+moves_immediate_where size mask d bits r = performed_where (is_selected mask r.code) (with_rule Kept (Compute O.Move size d (value_in size r d) (operand_of signed_halfword bits)))

@@ -5,14 +5,16 @@ use Rattle.s390x_base.specs.declared.regs.Reg.TheVariants.{Real}
 use Rattle.s390x_base.specs.declared.ir.MachLabel.{MachLabel}
 use Rattle.s390x_base.specs.declared.trap.TrapKind.{TrapKind}
 use Rattle.s390x_inst.specs.declared.inst.Inst.{Inst}
-use Rattle.s390x_inst.specs.declared.inst.Inst.TheVariants.{AluRRR, AluRR, AluRRSImm16, AluRSImm16, AluRSImm32, AluRUImm32, UnaryRR, CmpRR, CmpRSImm16, CmpRSImm32, CmpRUImm32, Mov64, MovPReg, Mov32, Mov32Imm, Mov32SImm16, Mov64SImm16, Mov64SImm32, Jump, CondBr, IndirectBr, Ret}
+use Rattle.s390x_inst.specs.declared.inst.Inst.TheVariants.{AluRRR, AluRR, AluRRSImm16, AluRSImm16, AluRSImm32, AluRUImm32, AluRUImm16Shifted, AluRUImm32Shifted, ShiftRR, RxSBG, RxSBGTest, UnaryRR, CmpRR, CmpRSImm16, CmpRSImm32, CmpRUImm32, Mov64, MovPReg, Mov32, Mov32Imm, Mov32SImm16, Mov64SImm16, Mov64SImm32, Mov64UImm16Shifted, Mov64UImm32Shifted, Insert64UImm16Shifted, Insert64UImm32Shifted, CMov32, CMov64, CMov32SImm16, CMov64SImm16, Extend, LoadAR, InsertAR, Jump, CondBr, IndirectBr, Ret}
 use Rattle.s390x_operations.specs.State.{Registers}
 use Rattle.s390x_operations.specs.declared.operator.Operator.TheVariants.{Move}
-use Rattle.s390x_operations.specs.declared.effect.CodeRule.TheVariants.{Kept}
+use Rattle.s390x_operations.specs.declared.size.Size.TheVariants.{Word, Doubleword}
+use Rattle.s390x_operations.specs.declared.operator.SelectedBitsOperator.TheVariants as Select
+use Rattle.s390x_operations.specs.declared.effect.CodeRule.TheVariants.{Kept, Set}
 use Rattle.s390x_operations.specs.declared.effect.Operation.{Operation}
 use Rattle.s390x_operations.specs.declared.stop.StopKind.{StopKind}
-use Rattle.s390x_machine.specs.Computations.{computes, compares, alu_computation, alu_three_rule, alu_two_rule, unary_computation, unary_rule, comparison, on_words, on_doublewords, word, signed_word, signed_halfword, on_immediate, compares_on_immediate, computes_immediate, compares_immediate}
-use Rattle.s390x_steps.specs.General.{low_halfword, low_word}
+use Rattle.s390x_machine.specs.Computations.{computes, compares, alu_computation, alu_three_rule, alu_two_rule, unary_computation, unary_rule, comparison, on_words, on_doublewords, word, signed_word, signed_halfword, on_immediate, compares_on_immediate, computes_immediate, compares_immediate, doubleword, part_mask, on_selected, part_operator, at_part, at_half, half_mask, inserts_half, extension, shifts, rotates_into, rotates_to_test, copies_access, moves_where, moves_immediate_where}
+use Rattle.s390x_steps.specs.General.{low_halfword, low_word, low_byte, four_bits, rotation}
 use Rattle.s390x_steps.specs.Steps.{Step, Plain, Opening, Back, Break}
 
 -- what a typed step does
@@ -69,6 +71,22 @@ instruction_operation (Mov32Imm rd imm) = Some (computes_immediate Kept (on_word
 instruction_operation (Mov32SImm16 rd imm) = Some (computes_immediate Kept (on_immediate (on_words Move) signed_halfword) (number_of rd) (number_of rd) (low_halfword imm))
 instruction_operation (Mov64SImm16 rd imm) = Some (computes_immediate Kept (on_immediate (on_doublewords Move) signed_halfword) (number_of rd) (number_of rd) (low_halfword imm))
 instruction_operation (Mov64SImm32 rd imm) = Some (computes_immediate Kept (on_immediate (on_doublewords Move) signed_word) (number_of rd) (number_of rd) (low_word imm))
+instruction_operation (AluRUImm16Shifted op rd ri imm) = Some (computes_immediate Set (on_selected (part_operator op) (part_mask imm.shift)) (number_of rd) (number_of rd) (at_part imm.shift (low_halfword (pos imm.bits))))
+instruction_operation (AluRUImm32Shifted op rd ri imm) = Some (computes_immediate Set (on_selected (part_operator op) (half_mask imm.shift)) (number_of rd) (number_of rd) (at_half imm.shift (low_word (pos imm.bits))))
+instruction_operation (Mov64UImm16Shifted rd imm) = Some (computes_immediate Kept (on_doublewords Move) (number_of rd) (number_of rd) (at_part imm.shift (low_halfword (pos imm.bits))))
+instruction_operation (Mov64UImm32Shifted rd imm) = Some (computes_immediate Kept (on_doublewords Move) (number_of rd) (number_of rd) (at_half imm.shift (low_word (pos imm.bits))))
+instruction_operation (Insert64UImm16Shifted rd ri imm) = Some (computes_immediate Kept (on_selected Select.Insert (part_mask imm.shift)) (number_of rd) (number_of rd) (at_part imm.shift (low_halfword (pos imm.bits))))
+instruction_operation (Insert64UImm32Shifted rd ri imm) = Some (computes_immediate Kept (inserts_half imm.shift) (number_of rd) (number_of rd) (at_half imm.shift (low_word (pos imm.bits))))
+instruction_operation (Extend rd rn signed from to) = Some (computes Kept (extension signed from to) (number_of rd) (number_of rd) (number_of rn))
+instruction_operation (LoadAR rd ar) = Some (copies_access (number_of rd) (four_bits ar))
+instruction_operation (InsertAR rd ri ar) = Some (copies_access (number_of rd) (four_bits ar))
+instruction_operation (ShiftRR op rd rn amount register) = Some (shifts op (number_of rd) (number_of rn) (number_of register) (low_byte amount))
+instruction_operation (RxSBG op rd ri rn first last amount) = Some (rotates_into op (number_of rd) (number_of rn) first last (rotation amount))
+instruction_operation (RxSBGTest op rd rn first last amount) = Some (rotates_to_test op (number_of rd) (number_of rn) first last (rotation amount))
+instruction_operation (CMov32 rd mask ri rm) = Some (moves_where Word word (four_bits mask) (number_of rd) (number_of rm))
+instruction_operation (CMov64 rd mask ri rm) = Some (moves_where Doubleword doubleword (four_bits mask) (number_of rd) (number_of rm))
+instruction_operation (CMov32SImm16 rd mask ri imm) = Some (moves_immediate_where Word (four_bits mask) (number_of rd) (low_halfword imm))
+instruction_operation (CMov64SImm16 rd mask ri imm) = Some (moves_immediate_where Doubleword (four_bits mask) (number_of rd) (low_halfword imm))
 instruction_operation _ = None
 
 -- one that goes elsewhere

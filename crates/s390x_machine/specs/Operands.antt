@@ -1,5 +1,14 @@
 -- Values of registers, as operands (Principles of Operation, chapter 7, "General instructions").
-use Rattle.std.specs.Prelude.{ℕ, ◌%◌, ◌^◌}
+use Rattle.std.specs.Prelude.{ℕ, ℤ, pos, ◌+ℤ◌, ◌%◌, ◌^◌, ◌==◌, Bool, true, false, if◌then◌else◌}
+use Rattle.s390x_lanes.specs.declared.operation.Signedness.TheVariants.{Unsigned}
+use Rattle.s390x_operations.specs.Numbers.{low}
+use Rattle.s390x_operations.specs.Bits.{rotated}
+use Rattle.s390x_operations.specs.declared.size.Width.TheVariants.{Bits64}
+use Rattle.s390x_operations.specs.declared.operand.Source.TheVariants.{Value}
+use Rattle.s390x_operations.specs.declared.operand.Operand.{Operand}
+use Rattle.s390x_operations.specs.declared.effect.Effect.TheVariants.{Nothing}
+use Rattle.s390x_operations.specs.declared.effect.CodeRule.TheVariants.{Kept}
+use Rattle.s390x_operations.specs.declared.effect.Operation.{Operation}
 use Rattle.s390x_operations.specs.State.{Registers}
 use Rattle.s390x_operations.specs.declared.size.Size.{Size}
 use Rattle.s390x_operations.specs.declared.size.Size.TheVariants.{Word, Doubleword}
@@ -8,3 +17,20 @@ use Rattle.s390x_operations.specs.declared.size.Size.TheVariants.{Word, Doublewo
 abbrev pub value_in : Size → Registers → ℕ → ℕ
 value_in Word r i = r.general i % 2 ^ 32
 value_in Doubleword r i = r.general i
+
+-- a base or an index: register 0 counts as zero (chapter 5, "Address generation")
+abbrev pub address_part : Registers → ℕ → ℕ
+address_part r i = if i == 0 then 0 else r.general i
+
+-- a base plus a displacement, modulo 2 ^ 64
+abbrev pub based : Registers → (base : ℕ) → (displacement : ℤ) → ℕ
+based r base displacement = low Doubleword (pos (address_part r base) +ℤ displacement)
+
+-- a register rotated to the left by so many bits, as an operand
+abbrev pub rotated_operand : Registers → (register amount : ℕ) → Operand
+rotated_operand r register amount = record { source = Value (rotated Doubleword (r.general register) amount); width = Bits64; sign = Unsigned; reversed = false }
+
+-- an operation where a condition holds, and nothing elsewhere
+abbrev pub performed_where : Bool → Operation → Operation
+performed_where true operation = operation
+performed_where false operation = record { effect = Nothing; rule = Kept }

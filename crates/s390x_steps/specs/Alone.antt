@@ -1,12 +1,15 @@
 -- Instructions that are one machine instruction on general registers and immediates (cranelift-codegen, `emit.rs`).
-use Rattle.std.specs.Prelude.{ℕ, pos, Bool, cond, ◌&&◌, nat_eq, nat_lt, Option, Some, None}
+use Rattle.std.specs.Prelude.{ℕ, ◌+◌, pos, Bool, cond, ◌&&◌, nat_eq, nat_lt, Option, Some, None}
 use Rattle.s390x_base.specs.Regs.{number_of}
 use Rattle.s390x_base.specs.declared.regs.Reg.TheVariants.{Real}
 use Rattle.s390x_inst.specs.declared.inst.Inst.{Inst}
-use Rattle.s390x_inst.specs.declared.inst.Inst.TheVariants.{AluRRR, AluRR, AluRRSImm16, AluRSImm16, AluRSImm32, AluRUImm32, UnaryRR, CmpRR, CmpRSImm16, CmpRSImm32, CmpRUImm32, Mov64, MovPReg, Mov32, Mov32Imm, Mov32SImm16, Mov64SImm16, Mov64SImm32}
-use Rattle.s390x_steps.specs.General.{is_general, reuses, low_halfword, low_word}
-use Rattle.s390x_steps.specs.MachineInstruction.{MachineInstruction, rr, rre, rrf_ab, ri_a, rie_d, ril_a}
-use Rattle.s390x_steps.specs.Opcodes.{alu_three, alu_two, cmp_two, unary_two, alu_halfword, alu_three_halfword, alu_signed_word, alu_unsigned_word, cmp_halfword, cmp_signed_word, cmp_unsigned_word}
+use Rattle.s390x_inst.specs.declared.inst.Inst.TheVariants.{AluRRR, AluRR, AluRRSImm16, AluRSImm16, AluRSImm32, AluRUImm32, AluRUImm16Shifted, AluRUImm32Shifted, ShiftRR, RxSBG, RxSBGTest, UnaryRR, CmpRR, CmpRSImm16, CmpRSImm32, CmpRUImm32, Mov64, MovPReg, Mov32, Mov32Imm, Mov32SImm16, Mov64SImm16, Mov64SImm32, Mov64UImm16Shifted, Mov64UImm32Shifted, Insert64UImm16Shifted, Insert64UImm32Shifted, CMov32, CMov64, CMov32SImm16, CMov64SImm16, Extend, LoadAR, InsertAR}
+use Rattle.s390x_inst.specs.declared.ops.RxSBGOp.{RxSBGOp}
+use Rattle.s390x_inst.specs.declared.ops.UnaryOp.{UnaryOp}
+use Rattle.s390x_inst.specs.declared.ops.UnaryOp.TheVariants.{PopcntByte}
+use Rattle.s390x_steps.specs.General.{is_general, reuses, low_halfword, low_word, four_bits, low_byte, rotation, is_access}
+use Rattle.s390x_steps.specs.MachineInstruction.{MachineInstruction, rr, rre, rrf_ab, rrf_cde, ri_a, rie_d, rie_f, rie_g, ril_a, rsy}
+use Rattle.s390x_steps.specs.Opcodes.{alu_three, alu_two, cmp_two, unary_two, alu_halfword, alu_three_halfword, alu_signed_word, alu_unsigned_word, cmp_halfword, cmp_signed_word, cmp_unsigned_word, alu_part, alu_half, load_part, load_half, insert_part, insert_half, extend_two, shift_storage, rotate_then, rotate_then_test}
 
 -- the machine instruction, and whether its registers may stand there: real general ones, and the input that has to be the output is it
 pub record Alone : Type 0 where
@@ -44,6 +47,16 @@ three_halfword_row None two d n bits = None
 three_halfword_row (Some three) None d n bits = Some (rie_d three d n bits)
 three_halfword_row (Some three) (Some two) d n bits = Some (cond (nat_eq d n) (ri_a two d bits) (rie_d three d n bits))
 
+-- one operand: of two registers, but for the count of ones, whose mode stands in a mask
+abbrev pub unary_row : UnaryOp → (d n : ℕ) → Option MachineInstruction
+unary_row PopcntByte d n = Some (rrf_cde 0xb9e1 d n 0 0)
+unary_row op d n = two_row (unary_two op) d n
+
+-- selected bits, numbered from the left below 64; none for others
+abbrev pub rotated_row : Option ℕ → (d n start end first rotated : ℕ) → Option MachineInstruction
+rotated_row None d n start end first rotated = None
+rotated_row (Some opcode) d n start end first rotated = cond (nat_lt start 64 && nat_lt end 64) (Some (rie_f opcode d n first end rotated)) None
+
 -- with these registers; none where there is no row
 abbrev pub alone_with : Bool → Option MachineInstruction → Option Alone
 alone_with fine None = None
@@ -53,7 +66,7 @@ alone_with fine (Some row) = Some (record { row = row; fine = fine })
 abbrev pub alone : Inst → Option Alone
 alone (AluRRR op rd rn rm) = alone_with (is_general rd && is_general rn && is_general rm) (three_row (alu_three op) (alu_two op) (number_of rd) (number_of rn) (number_of rm))
 alone (AluRR op rd ri rm) = alone_with (reuses rd ri && is_general rm) (two_row (alu_two op) (number_of rd) (number_of rm))
-alone (UnaryRR op rd rn) = alone_with (is_general rd && is_general rn) (two_row (unary_two op) (number_of rd) (number_of rn))
+alone (UnaryRR op rd rn) = alone_with (is_general rd && is_general rn) (unary_row op (number_of rd) (number_of rn))
 alone (CmpRR op rn rm) = alone_with (is_general rn && is_general rm) (two_row (cmp_two op) (number_of rn) (number_of rm))
 alone (Mov64 rd rm) = alone_with (is_general rd && is_general rm) (two_row (Some 0xb904) (number_of rd) (number_of rm))
 alone (MovPReg rd rm) = alone_with (is_general rd && is_general (Real rm)) (two_row (Some 0xb904) (number_of rd) (number_of (Real rm)))
@@ -69,4 +82,23 @@ alone (Mov32Imm rd imm) = alone_with (is_general rd) (word_row (Some 0xc09) (num
 alone (Mov32SImm16 rd imm) = alone_with (is_general rd) (halfword_row (Some 0xa78) (number_of rd) (low_halfword imm))
 alone (Mov64SImm16 rd imm) = alone_with (is_general rd) (halfword_row (Some 0xa79) (number_of rd) (low_halfword imm))
 alone (Mov64SImm32 rd imm) = alone_with (is_general rd) (word_row (Some 0xc01) (number_of rd) (low_word imm))
+alone (AluRUImm16Shifted op rd ri imm) = alone_with (reuses rd ri) (halfword_row (alu_part op imm.shift) (number_of rd) (low_halfword (pos imm.bits)))
+alone (AluRUImm32Shifted op rd ri imm) = alone_with (reuses rd ri) (word_row (alu_half op imm.shift) (number_of rd) (low_word (pos imm.bits)))
+alone (Mov64UImm16Shifted rd imm) = alone_with (is_general rd) (halfword_row (load_part imm.shift) (number_of rd) (low_halfword (pos imm.bits)))
+alone (Mov64UImm32Shifted rd imm) = alone_with (is_general rd) (word_row (load_half imm.shift) (number_of rd) (low_word (pos imm.bits)))
+alone (Insert64UImm16Shifted rd ri imm) = alone_with (reuses rd ri) (halfword_row (insert_part imm.shift) (number_of rd) (low_halfword (pos imm.bits)))
+alone (Insert64UImm32Shifted rd ri imm) = alone_with (reuses rd ri) (word_row (insert_half imm.shift) (number_of rd) (low_word (pos imm.bits)))
+alone (Extend rd rn signed from to) = alone_with (is_general rd && is_general rn) (two_row (extend_two signed from to) (number_of rd) (number_of rn))
+alone (LoadAR rd ar) = alone_with (is_general rd && is_access ar) (two_row (Some 0xb24f) (number_of rd) (four_bits ar))
+alone (InsertAR rd ri ar) = alone_with (reuses rd ri && is_access ar) (two_row (Some 0xb24f) (number_of rd) (four_bits ar))
+alone (ShiftRR op rd rn amount register) =
+    alone_with (is_general rd && is_general rn && is_general register) (Some (rsy (shift_storage op) (number_of rd) (number_of rn) (number_of register) (low_byte amount)))
+alone (RxSBG op rd ri rn start end amount) =
+    alone_with (reuses rd ri && is_general rn) (rotated_row (Some (rotate_then op)) (number_of rd) (number_of rn) start end start (rotation amount))
+alone (RxSBGTest op rd rn start end amount) =
+    alone_with (is_general rd && is_general rn) (rotated_row (rotate_then_test op) (number_of rd) (number_of rn) start end (start + 128) (rotation amount))
+alone (CMov32 rd mask ri rm) = alone_with (reuses rd ri && is_general rm) (Some (rrf_cde 0xb9f2 (number_of rd) (number_of rm) (four_bits mask) 0))
+alone (CMov64 rd mask ri rm) = alone_with (reuses rd ri && is_general rm) (Some (rrf_cde 0xb9e2 (number_of rd) (number_of rm) (four_bits mask) 0))
+alone (CMov32SImm16 rd mask ri imm) = alone_with (reuses rd ri) (Some (rie_g 0xec42 (number_of rd) (low_halfword imm) (four_bits mask)))
+alone (CMov64SImm16 rd mask ri imm) = alone_with (reuses rd ri) (Some (rie_g 0xec46 (number_of rd) (low_halfword imm) (four_bits mask)))
 alone _ = None

@@ -1,5 +1,5 @@
 -- The registers that an instruction may name, and the bits of its immediates (cranelift-codegen, `emit.rs`).
-use Rattle.std.specs.Prelude.{ℕ, ℤ, pos, unsigned_abs, Bool, false, true, ◌&&◌, not, nat_lt, nat_eq}
+use Rattle.std.specs.Prelude.{ℕ, ℤ, pos, unsigned_abs, Bool, false, true, ◌&&◌, not, nat_lt, nat_eq, ◌%◌}
 use Rattle.std.specs.Int.{int_rem_euclid}
 use Rattle.s390x_base.specs.Regs.{is_int, number_of}
 use Rattle.s390x_base.specs.declared.regs.Reg.{Reg}
@@ -26,3 +26,19 @@ low_halfword z = unsigned_abs (int_rem_euclid z (pos 65536))
 -- the low 32 bits of an immediate, in two's complement
 abbrev pub low_word : ℤ → ℕ
 low_word z = unsigned_abs (int_rem_euclid z (pos 4294967296))
+
+-- the low 4 bits, of a mask or of an access register's number
+abbrev pub four_bits : ℕ → ℕ
+four_bits n = n % 16
+
+-- an amount of 8 bits
+abbrev pub low_byte : ℕ → ℕ
+low_byte n = n % 256
+
+-- how far bits are rotated to the left: an amount to the right counts as one to the left
+abbrev pub rotation : ℤ → ℕ
+rotation z = unsigned_abs (int_rem_euclid z (pos 64))
+
+-- the number of an access register
+abbrev pub is_access : ℕ → Bool
+is_access n = nat_lt n 16

@@ -2,7 +2,7 @@
 -- (cranelift-codegen, `emit.rs`; the formats: Principles of Operation, chapter 5, "Instruction formats").
 use Rattle.std.specs.Prelude.{ℕ, ◌+◌, List, [], ◌∷◌, ◌++◌}
 use Rattle.s390x_format.specs.declared.kind.FormatKind.{FormatKind}
-use Rattle.s390x_format.specs.declared.kind.FormatKind.TheVariants.{Rr, Rre, RrfAb, RiA, RieD, RilA, RilB, RilC}
+use Rattle.s390x_format.specs.declared.kind.FormatKind.TheVariants.{Rr, Rre, RrfAb, RrfCde, RiA, RieD, RieF, RieG, RilA, RilB, RilC, Rsy}
 use Rattle.s390x_format.specs.Formats.{length_of}
 use Rattle.s390x_format.specs.Reading.{encode}
 
@@ -31,6 +31,10 @@ rre opcode r1 r2 = record { format = Rre; slots = opcode ∷ r1 ∷ r2 ∷ 0 ∷
 abbrev pub rrf_ab : (opcode r1 r2 r3 m4 : ℕ) → MachineInstruction
 rrf_ab opcode r1 r2 r3 m4 = record { format = RrfAb; slots = opcode ∷ r1 ∷ r2 ∷ r3 ∷ 0 ∷ m4 ∷ 0 ∷ 0 ∷ 0 ∷ 0 ∷ [] }
 
+-- RRF-CDE: two registers and two masks
+abbrev pub rrf_cde : (opcode r1 r2 m3 m4 : ℕ) → MachineInstruction
+rrf_cde opcode r1 r2 m3 m4 = record { format = RrfCde; slots = opcode ∷ r1 ∷ r2 ∷ 0 ∷ 0 ∷ m3 ∷ m4 ∷ 0 ∷ 0 ∷ 0 ∷ [] }
+
 -- RI-A: a register and the bits of an immediate of 16 bits
 abbrev pub ri_a : (opcode r1 bits : ℕ) → MachineInstruction
 ri_a opcode r1 bits = record { format = RiA; slots = opcode ∷ r1 ∷ 0 ∷ 0 ∷ 0 ∷ 0 ∷ 0 ∷ 0 ∷ bits ∷ 0 ∷ [] }
@@ -38,6 +42,18 @@ ri_a opcode r1 bits = record { format = RiA; slots = opcode ∷ r1 ∷ 0 ∷ 0 �
 -- RIE-D: two registers and the bits of an immediate of 16 bits
 abbrev pub rie_d : (opcode r1 r3 bits : ℕ) → MachineInstruction
 rie_d opcode r1 r3 bits = record { format = RieD; slots = opcode ∷ r1 ∷ r3 ∷ 0 ∷ 0 ∷ 0 ∷ 0 ∷ 0 ∷ bits ∷ 0 ∷ [] }
+
+-- RIE-F: two registers and three immediates of 8 bits
+abbrev pub rie_f : (opcode r1 r2 i3 i4 i5 : ℕ) → MachineInstruction
+rie_f opcode r1 r2 i3 i4 i5 = record { format = RieF; slots = opcode ∷ r1 ∷ r2 ∷ 0 ∷ 0 ∷ i3 ∷ i4 ∷ i5 ∷ 0 ∷ 0 ∷ [] }
+
+-- RIE-G: a register, the bits of an immediate of 16 bits, and a mask
+abbrev pub rie_g : (opcode r1 bits m3 : ℕ) → MachineInstruction
+rie_g opcode r1 bits m3 = record { format = RieG; slots = opcode ∷ r1 ∷ 0 ∷ 0 ∷ 0 ∷ m3 ∷ 0 ∷ 0 ∷ bits ∷ 0 ∷ [] }
+
+-- RSY: two registers, and a base with a displacement of 20 bits
+abbrev pub rsy : (opcode r1 r3 b2 displacement : ℕ) → MachineInstruction
+rsy opcode r1 r3 b2 displacement = record { format = Rsy; slots = opcode ∷ r1 ∷ r3 ∷ b2 ∷ 0 ∷ 0 ∷ 0 ∷ 0 ∷ 0 ∷ displacement ∷ [] }
 
 -- RIL-A: a register and the bits of an immediate of 32 bits
 abbrev pub ril_a : (opcode r1 bits : ℕ) → MachineInstruction

@@ -1,11 +1,15 @@
 -- The machine rows of each operator on registers and immediates: their opcodes (cranelift-codegen, `emit.rs`). Of those on registers alone, opcodes
 -- of two digits are RR, of four with two operands RRE, with three RRF-AB; with an immediate of 16 bits rows are RI-A, or RIE-D with a third operand;
 -- of 32 bits RIL-A.
-use Rattle.std.specs.Prelude.{ℕ, Option, Some, None}
+use Rattle.std.specs.Prelude.{ℕ, Bool, nat_eq, cond, Option, Some, None}
 use Rattle.s390x_inst.specs.declared.ops.ALUOp.{ALUOp}
 use Rattle.s390x_inst.specs.declared.ops.ALUOp.TheVariants.{Add32, Add64, Add64Ext32, AddLogical32, AddLogical64, AddLogical64Ext32, Sub32, Sub64, Sub64Ext32, SubLogical32, SubLogical64, SubLogical64Ext32, Mul32, Mul32CC, Mul64, Mul64Ext32, Mul64CC, And32, And64, Orr32, Orr64, Xor32, Xor64}
 use Rattle.s390x_inst.specs.declared.ops.CmpOp.{CmpOp}
 use Rattle.s390x_inst.specs.declared.ops.CmpOp.TheVariants.{CmpS32, CmpS64, CmpS64Ext32, CmpL32, CmpL64, CmpL64Ext32}
+use Rattle.s390x_inst.specs.declared.ops.ShiftOp.{ShiftOp}
+use Rattle.s390x_inst.specs.declared.ops.ShiftOp.TheVariants.{RotL32, RotL64, LShL32, LShL64, LShR32, LShR64, AShR32, AShR64}
+use Rattle.s390x_inst.specs.declared.ops.RxSBGOp.{RxSBGOp}
+use Rattle.s390x_inst.specs.declared.ops.RxSBGOp.TheVariants.{Insert, And, Or, Xor}
 use Rattle.s390x_inst.specs.declared.ops.UnaryOp.{UnaryOp}
 use Rattle.s390x_inst.specs.declared.ops.UnaryOp.TheVariants.{Abs32, Abs64, Abs64Ext32, Neg32, Neg64, Neg64Ext32, BSwap32, BSwap64}
 
@@ -125,3 +129,86 @@ abbrev pub cmp_unsigned_word : CmpOp → Option ℕ
 cmp_unsigned_word CmpL32 = Some 0xc2f
 cmp_unsigned_word CmpL64 = Some 0xc2e
 cmp_unsigned_word _ = None
+
+-- the only one, whose number is 0
+abbrev pub of_one : (zeroth : ℕ) → ℕ → Option ℕ
+of_one zeroth n = cond (nat_eq n 0) (Some zeroth) None
+
+-- one of two by its number
+abbrev pub of_two : (zeroth first : ℕ) → ℕ → Option ℕ
+of_two zeroth first n = cond (nat_eq n 0) (Some zeroth) (cond (nat_eq n 1) (Some first) None)
+
+-- one of four by its number
+abbrev pub of_four : (zeroth first second third : ℕ) → ℕ → Option ℕ
+of_four zeroth first second third n = cond (nat_eq n 0) (Some zeroth) (cond (nat_eq n 1) (Some first) (cond (nat_eq n 2) (Some second) (cond (nat_eq n 3) (Some third) None)))
+
+-- a part of 16 bits, by its number from the right; of 32-bit operators the right two alone
+abbrev pub alu_part : ALUOp → ℕ → Option ℕ
+alu_part And32 shift = of_two 0xa57 0xa56 shift
+alu_part And64 shift = of_four 0xa57 0xa56 0xa55 0xa54 shift
+alu_part Orr32 shift = of_two 0xa5b 0xa5a shift
+alu_part Orr64 shift = of_four 0xa5b 0xa5a 0xa59 0xa58 shift
+alu_part _ shift = None
+
+-- a half of 32 bits, by its number from the right; of 32-bit operators the right one alone
+abbrev pub alu_half : ALUOp → ℕ → Option ℕ
+alu_half And32 shift = of_one 0xc0b shift
+alu_half And64 shift = of_two 0xc0b 0xc0a shift
+alu_half Orr32 shift = of_one 0xc0d shift
+alu_half Orr64 shift = of_two 0xc0d 0xc0c shift
+alu_half Xor32 shift = of_one 0xc07 shift
+alu_half Xor64 shift = of_two 0xc07 0xc06 shift
+alu_half _ shift = None
+
+-- a load of a part of 16 bits or of a half into a register that is zero elsewhere
+abbrev pub load_part : ℕ → Option ℕ
+load_part shift = of_four 0xa5f 0xa5e 0xa5d 0xa5c shift
+
+abbrev pub load_half : ℕ → Option ℕ
+load_half shift = of_two 0xc0f 0xc0e shift
+
+-- the same into a register that is left elsewhere
+abbrev pub insert_part : ℕ → Option ℕ
+insert_part shift = of_four 0xa53 0xa52 0xa51 0xa50 shift
+
+abbrev pub insert_half : ℕ → Option ℕ
+insert_half shift = of_two 0xc09 0xc08 shift
+
+-- a number of so many bits becomes one of 32 bits; one bit counts as a byte with its sign
+abbrev pub extend_to_word : Bool → ℕ → Option ℕ
+extend_to_word signed from =
+    cond (nat_eq from 1) (Some 0xb926) (cond (nat_eq from 8) (Some (cond signed 0xb926 0xb994)) (cond (nat_eq from 16) (Some (cond signed 0xb927 0xb995)) None))
+
+-- or of 64 bits
+abbrev pub extend_to_doubleword : Bool → ℕ → Option ℕ
+extend_to_doubleword signed from =
+    cond (nat_eq from 1) (Some 0xb906) (cond (nat_eq from 8) (Some (cond signed 0xb906 0xb984)) (cond (nat_eq from 16) (Some (cond signed 0xb907 0xb985)) (cond (nat_eq from 32) (Some (cond signed 0xb914 0xb916)) None)))
+
+-- an extension to 32 or to 64 bits
+abbrev pub extend_two : Bool → (from to : ℕ) → Option ℕ
+extend_two signed from to = cond (nat_eq to 32) (extend_to_word signed from) (cond (nat_eq to 64) (extend_to_doubleword signed from) None)
+
+-- a shift by an amount
+abbrev pub shift_storage : ShiftOp → ℕ
+shift_storage RotL32 = 0xeb1d
+shift_storage RotL64 = 0xeb1c
+shift_storage LShL32 = 0xebdf
+shift_storage LShL64 = 0xeb0d
+shift_storage LShR32 = 0xebde
+shift_storage LShR64 = 0xeb0c
+shift_storage AShR32 = 0xebdc
+shift_storage AShR64 = 0xeb0a
+
+-- bits that are rotated, and then inserted or combined
+abbrev pub rotate_then : RxSBGOp → ℕ
+rotate_then Insert = 0xec59
+rotate_then And = 0xec54
+rotate_then Or = 0xec56
+rotate_then Xor = 0xec57
+
+-- or combined to be tested alone
+abbrev pub rotate_then_test : RxSBGOp → Option ℕ
+rotate_then_test Insert = None
+rotate_then_test And = Some 0xec54
+rotate_then_test Or = Some 0xec56
+rotate_then_test Xor = Some 0xec57

@@ -3,10 +3,12 @@ use Rattle.std.proofs.Common.{◌≡◌, ℕ, List, [], ◌∷◌, Option, Some,
 use Rattle.s390x_base.specs.Regs.{number_of}
 use Rattle.s390x_base.specs.declared.regs.Reg.{Reg}
 use Rattle.s390x_base.specs.declared.ir.MachLabel.{MachLabel}
+use Rattle.s390x_base.specs.declared.imms.UImm16Shifted.{UImm16Shifted}
+use Rattle.s390x_base.specs.declared.imms.UImm32Shifted.{UImm32Shifted}
 use Rattle.s390x_base.specs.declared.error.EmitError.{EmitError}
 use Rattle.s390x_base.specs.declared.error.EmitError.TheVariants.{BadOperator, BadRegister}
 use Rattle.s390x_inst.specs.declared.inst.Inst.{Inst}
-use Rattle.s390x_inst.specs.declared.inst.Inst.TheVariants.{AluRRR, AluRR, AluRRSImm16, AluRSImm16, AluRSImm32, AluRUImm32, UnaryRR, CmpRR, CmpRSImm16, CmpRSImm32, CmpRUImm32, Mov64, MovPReg, Mov32, Mov32Imm, Mov32SImm16, Mov64SImm16, Mov64SImm32, Jump, CondBr, Ret, CondBreak, Vector}
+use Rattle.s390x_inst.specs.declared.inst.Inst.TheVariants.{AluRRR, AluRR, AluRRSImm16, AluRSImm16, AluRSImm32, AluRUImm32, UnaryRR, CmpRR, CmpRSImm16, CmpRSImm32, CmpRUImm32, Mov64, MovPReg, Mov32, Mov32Imm, Mov32SImm16, Mov64SImm16, Mov64SImm32, AluRUImm16Shifted, AluRUImm32Shifted, ShiftRR, RxSBG, RxSBGTest, Mov64UImm16Shifted, Mov64UImm32Shifted, Insert64UImm16Shifted, Insert64UImm32Shifted, CMov32, CMov64, CMov32SImm16, CMov64SImm16, Extend, LoadAR, InsertAR, Jump, CondBr, Ret, CondBreak, Vector}
 use Rattle.s390x_inst.specs.declared.vec_inst.VecInst.{VecInst}
 use Rattle.s390x_inst.specs.declared.vec_inst.VecInst.TheVariants.{VecRR}
 use Rattle.s390x_steps.specs.MachineInstruction.{rr}
@@ -15,7 +17,7 @@ use Rattle.s390x_steps.specs.General.{is_general, is_nonzero}
 use Rattle.s390x_steps.specs.Parts.{Part, Row, step_parts}
 use Rattle.s390x_steps.specs.Steps.{step_of}
 use Rattle.s390x_steps.specs.Ranges.{InRange}
-use Rattle.s390x_job.specs.Fields.{Field, FAlu, FUnary, FCmp, FReg, FReal, FInteger, FNatural, FLabels, FCond}
+use Rattle.s390x_job.specs.Fields.{Field, FAlu, FUnary, FCmp, FShift, FRxsbg, FReg, FReal, FInteger, FNatural, FShifted, FBool, FLabels, FCond}
 use Rattle.s390x_job.specs.Line.{Line}
 use Rattle.s390x_job.specs.Instructions.{inst_line, vector_line}
 use Rattle.s390x_job.specs.declared.inst_name.IntegerName.TheVariants as IntegerIs
@@ -32,6 +34,12 @@ pub data Reading : Type 0 where
 
 abbrev pub named : ℕ → MachLabel
 named n = record { 0 = n }
+
+abbrev pub part16 : (bits shift : ℕ) → UImm16Shifted
+part16 bits shift = record { bits = bits; shift = shift }
+
+abbrev pub part32 : (bits shift : ℕ) → UImm32Shifted
+part32 bits shift = record { bits = bits; shift = shift }
 
 -- a clause for each instruction that is built
 abbrev pub reading : LineName → List Field → Reading
@@ -53,6 +61,22 @@ reading (N.Integer IntegerIs.Mov32Imm) (FReg rd ∷ FNatural w imm ∷ []) = Who
 reading (N.Integer IntegerIs.Mov32SImm16) (FReg rd ∷ FInteger w imm ∷ []) = Whole (Mov32SImm16 rd imm)
 reading (N.Integer IntegerIs.Mov64SImm16) (FReg rd ∷ FInteger w imm ∷ []) = Whole (Mov64SImm16 rd imm)
 reading (N.Integer IntegerIs.Mov64SImm32) (FReg rd ∷ FInteger w imm ∷ []) = Whole (Mov64SImm32 rd imm)
+reading (N.Integer IntegerIs.AluRUImm16Shifted) (FAlu op ∷ FReg rd ∷ FReg ri ∷ FShifted w bits shift ∷ []) = Whole (AluRUImm16Shifted op rd ri (part16 bits shift))
+reading (N.Integer IntegerIs.AluRUImm32Shifted) (FAlu op ∷ FReg rd ∷ FReg ri ∷ FShifted w bits shift ∷ []) = Whole (AluRUImm32Shifted op rd ri (part32 bits shift))
+reading (N.Integer IntegerIs.ShiftRR) (FShift op ∷ FReg rd ∷ FReg rn ∷ FNatural w amount ∷ FReg register ∷ []) = Whole (ShiftRR op rd rn amount register)
+reading (N.Integer IntegerIs.RxSBG) (FRxsbg op ∷ FReg rd ∷ FReg ri ∷ FReg rn ∷ FNatural v start ∷ FNatural w end ∷ FInteger x amount ∷ []) = Whole (RxSBG op rd ri rn start end amount)
+reading (N.Integer IntegerIs.RxSBGTest) (FRxsbg op ∷ FReg rd ∷ FReg rn ∷ FNatural v start ∷ FNatural w end ∷ FInteger x amount ∷ []) = Whole (RxSBGTest op rd rn start end amount)
+reading (N.Integer IntegerIs.Mov64UImm16Shifted) (FReg rd ∷ FShifted w bits shift ∷ []) = Whole (Mov64UImm16Shifted rd (part16 bits shift))
+reading (N.Integer IntegerIs.Mov64UImm32Shifted) (FReg rd ∷ FShifted w bits shift ∷ []) = Whole (Mov64UImm32Shifted rd (part32 bits shift))
+reading (N.Integer IntegerIs.Insert64UImm16Shifted) (FReg rd ∷ FReg ri ∷ FShifted w bits shift ∷ []) = Whole (Insert64UImm16Shifted rd ri (part16 bits shift))
+reading (N.Integer IntegerIs.Insert64UImm32Shifted) (FReg rd ∷ FReg ri ∷ FShifted w bits shift ∷ []) = Whole (Insert64UImm32Shifted rd ri (part32 bits shift))
+reading (N.Integer IntegerIs.CMov32) (FReg rd ∷ FCond mask ∷ FReg ri ∷ FReg rm ∷ []) = Whole (CMov32 rd mask ri rm)
+reading (N.Integer IntegerIs.CMov64) (FReg rd ∷ FCond mask ∷ FReg ri ∷ FReg rm ∷ []) = Whole (CMov64 rd mask ri rm)
+reading (N.Integer IntegerIs.CMov32SImm16) (FReg rd ∷ FCond mask ∷ FReg ri ∷ FInteger w imm ∷ []) = Whole (CMov32SImm16 rd mask ri imm)
+reading (N.Integer IntegerIs.CMov64SImm16) (FReg rd ∷ FCond mask ∷ FReg ri ∷ FInteger w imm ∷ []) = Whole (CMov64SImm16 rd mask ri imm)
+reading (N.Integer IntegerIs.Extend) (FReg rd ∷ FReg rn ∷ FBool signed ∷ FNatural v from ∷ FNatural w to ∷ []) = Whole (Extend rd rn signed from to)
+reading (N.Integer IntegerIs.LoadAR) (FReg rd ∷ FNatural w ar ∷ []) = Whole (LoadAR rd ar)
+reading (N.Integer IntegerIs.InsertAR) (FReg rd ∷ FReg ri ∷ FNatural w ar ∷ []) = Whole (InsertAR rd ri ar)
 reading (N.Control ControlIs.Jump) (FNatural w dest ∷ []) = Whole (Jump (named dest))
 reading (N.Control ControlIs.CondBr) (FNatural v taken ∷ FNatural w not_taken ∷ FCond mask ∷ []) = Whole (CondBr (named taken) (named not_taken) mask)
 reading (N.Control ControlIs.IndirectBr) (FReg rn ∷ FLabels targets ∷ []) = Picks rn targets

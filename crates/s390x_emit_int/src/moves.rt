@@ -1,0 +1,223 @@
+//! Moves, insertions, extensions and conditional moves that are one machine instruction.
+ghost use Rattle.std.specs.Prelude.{◌≡◌, ◌<◌, ◌&&◌, Some};
+ghost use Rattle.std.specs.Option.{option_map};
+ghost use Rattle.s390x_base.specs.Regs.{number_of};
+ghost use Rattle.s390x_steps.specs.General.{is_general, is_access, reuses, four_bits, low_halfword};
+ghost use Rattle.s390x_steps.specs.MachineInstruction.{rrf_cde, rie_g};
+ghost use Rattle.s390x_steps.specs.Opcodes.{of_two, of_four, load_part, load_half, insert_part, insert_half, extend_to_word, extend_to_doubleword, extend_two};
+ghost use Rattle.s390x_steps.specs.Alone.{alone, alone_with, two_row};
+ghost use Rattle.s390x_emit_int.specs.Alone.{instruction_of, alone_of, opcode_of, group_of};
+ghost use Rattle.s390x_emit_int.specs.declared.alone.Group.TheVariants.{Moves};
+
+use crate::alone::{
+    Alone, RegisterRow, alone_with, bits_of_halfword, bits_of_unsigned, bits_of_unsigned_halfword,
+    bits_of_word, general, halfword_row, is_reused, short, two_general, two_row, word_row,
+};
+use crate::opcode::ShortOpcode;
+use s390x_base::{Cond, Reg, gpr};
+use s390x_inst::Inst;
+
+/// One of two opcodes by its number.
+pub fn of_two(zeroth: u16, first: u16, n: u8) -> Option<ShortOpcode>
+    requires zeroth { zeroth < 4096 }
+    requires first { first < 4096 }
+    ensures { option_map opcode_of result ≡ of_two zeroth first n }
+{
+    match n {
+        0 => Some(short(zeroth)),
+        1 => Some(short(first)),
+        _ => None,
+    }
+}
+
+/// One of four opcodes by its number.
+pub fn of_four(zeroth: u16, first: u16, second: u16, third: u16, n: u8) -> Option<ShortOpcode>
+    requires zeroth { zeroth < 4096 }
+    requires first { first < 4096 }
+    requires second { second < 4096 }
+    requires third { third < 4096 }
+    ensures { option_map opcode_of result ≡ of_four zeroth first second third n }
+{
+    match n {
+        0 => Some(short(zeroth)),
+        1 => Some(short(first)),
+        2 => Some(short(second)),
+        3 => Some(short(third)),
+        _ => None,
+    }
+}
+
+fn to_word(signed: bool, from: u8) -> Option<u16>
+    ensures { result ≡ extend_to_word signed from }
+{
+    match from {
+        1 => Some(0xb926),
+        8 => Some(if signed { 0xb926 } else { 0xb994 }),
+        16 => Some(if signed { 0xb927 } else { 0xb995 }),
+        _ => None,
+    }
+}
+
+fn to_doubleword(signed: bool, from: u8) -> Option<u16>
+    ensures { result ≡ extend_to_doubleword signed from }
+{
+    match from {
+        1 => Some(0xb906),
+        8 => Some(if signed { 0xb906 } else { 0xb984 }),
+        16 => Some(if signed { 0xb907 } else { 0xb985 }),
+        32 => Some(if signed { 0xb914 } else { 0xb916 }),
+        _ => None,
+    }
+}
+
+fn extend_opcode(signed: bool, from: u8, to: u8) -> Option<u16>
+    ensures { result ≡ extend_two signed from to }
+{
+    match to {
+        32 => to_word(signed, from),
+        64 => to_doubleword(signed, from),
+        _ => None,
+    }
+}
+
+fn access(ar: u8) -> bool
+    ensures { result ≡ is_access ar }
+{
+    ar < 16
+}
+
+// EXTRACT ACCESS; its second field is the access register's number.
+fn access_row(rd: Reg, ar: u8) -> Option<RegisterRow>
+    ensures { option_map instruction_of result ≡ two_row (Some 0xb24f) (number_of rd) (four_bits ar) }
+{
+    two_row(Some(0xb24f), rd, gpr(ar % 16))
+}
+
+fn conditional(opcode: u16, rd: Reg, rm: Reg, cond: Cond) -> Option<RegisterRow>
+    ensures { option_map instruction_of result ≡ Some (rrf_cde opcode (number_of rd) (number_of rm) (four_bits cond) 0) }
+{
+    Some(RegisterRow::RrfCde {
+        opcode,
+        r1: rd,
+        r2: rm,
+        mask: cond.bits(),
+    })
+}
+
+fn conditional_immediate(opcode: u16, rd: Reg, imm: i16, cond: Cond) -> Option<RegisterRow>
+    ensures { option_map instruction_of result ≡ Some (rie_g opcode (number_of rd) (low_halfword imm) (four_bits cond)) }
+{
+    Some(RegisterRow::RieG {
+        opcode,
+        r1: rd,
+        imm: bits_of_halfword(imm),
+        mask: cond.bits(),
+    })
+}
+
+/// The machine instruction of a move.
+pub fn find_move(inst: &Inst) -> Option<Alone>
+    ensures { group_of inst.now ≡ Moves → option_map alone_of result ≡ alone inst.now }
+{
+    match inst {
+        Inst::Mov64 { rd, rm } => alone_with(
+            two_general(&rd.to_reg(), rm),
+            two_row(Some(0xb904), rd.to_reg(), *rm),
+        ),
+        Inst::MovPReg { rd, rm } => alone_with(
+            two_general(&rd.to_reg(), &Reg::Real(*rm)),
+            two_row(Some(0xb904), rd.to_reg(), Reg::Real(*rm)),
+        ),
+        Inst::Mov32 { rd, rm } => alone_with(
+            two_general(&rd.to_reg(), rm),
+            two_row(Some(0x18), rd.to_reg(), *rm),
+        ),
+        Inst::Mov32Imm { rd, imm } => alone_with(
+            general(&rd.to_reg()),
+            word_row(Some(short(0xc09)), rd.to_reg(), bits_of_unsigned(*imm)),
+        ),
+        Inst::Mov32SImm16 { rd, imm } => alone_with(
+            general(&rd.to_reg()),
+            halfword_row(Some(short(0xa78)), rd.to_reg(), bits_of_halfword(*imm)),
+        ),
+        Inst::Mov64SImm16 { rd, imm } => alone_with(
+            general(&rd.to_reg()),
+            halfword_row(Some(short(0xa79)), rd.to_reg(), bits_of_halfword(*imm)),
+        ),
+        Inst::Mov64SImm32 { rd, imm } => alone_with(
+            general(&rd.to_reg()),
+            word_row(Some(short(0xc01)), rd.to_reg(), bits_of_word(*imm)),
+        ),
+        Inst::Mov64UImm16Shifted { rd, imm } => alone_with(
+            general(&rd.to_reg()),
+            halfword_row(
+                of_four(0xa5f, 0xa5e, 0xa5d, 0xa5c, imm.shift),
+                rd.to_reg(),
+                bits_of_unsigned_halfword(imm.bits),
+            ),
+        ),
+        Inst::Mov64UImm32Shifted { rd, imm } => alone_with(
+            general(&rd.to_reg()),
+            word_row(
+                of_two(0xc0f, 0xc0e, imm.shift),
+                rd.to_reg(),
+                bits_of_unsigned(imm.bits),
+            ),
+        ),
+        Inst::Insert64UImm16Shifted { rd, ri, imm } => alone_with(
+            is_reused(&rd.to_reg(), ri),
+            halfword_row(
+                of_four(0xa53, 0xa52, 0xa51, 0xa50, imm.shift),
+                rd.to_reg(),
+                bits_of_unsigned_halfword(imm.bits),
+            ),
+        ),
+        Inst::Insert64UImm32Shifted { rd, ri, imm } => alone_with(
+            is_reused(&rd.to_reg(), ri),
+            word_row(
+                of_two(0xc09, 0xc08, imm.shift),
+                rd.to_reg(),
+                bits_of_unsigned(imm.bits),
+            ),
+        ),
+        Inst::CMov32 { rd, cond, ri, rm } => alone_with(
+            is_reused(&rd.to_reg(), ri) && general(rm),
+            conditional(0xb9f2, rd.to_reg(), *rm, *cond),
+        ),
+        Inst::CMov64 { rd, cond, ri, rm } => alone_with(
+            is_reused(&rd.to_reg(), ri) && general(rm),
+            conditional(0xb9e2, rd.to_reg(), *rm, *cond),
+        ),
+        Inst::CMov32SImm16 { rd, cond, ri, imm } => alone_with(
+            is_reused(&rd.to_reg(), ri),
+            conditional_immediate(0xec42, rd.to_reg(), *imm, *cond),
+        ),
+        Inst::CMov64SImm16 { rd, cond, ri, imm } => alone_with(
+            is_reused(&rd.to_reg(), ri),
+            conditional_immediate(0xec46, rd.to_reg(), *imm, *cond),
+        ),
+        Inst::Extend {
+            rd,
+            rn,
+            signed,
+            from_bits,
+            to_bits,
+        } => alone_with(
+            two_general(&rd.to_reg(), rn),
+            two_row(
+                extend_opcode(*signed, *from_bits, *to_bits),
+                rd.to_reg(),
+                *rn,
+            ),
+        ),
+        Inst::LoadAR { rd, ar } => alone_with(
+            general(&rd.to_reg()) && access(*ar),
+            access_row(rd.to_reg(), *ar),
+        ),
+        Inst::InsertAR { rd, ri, ar } => alone_with(
+            is_reused(&rd.to_reg(), ri) && access(*ar),
+            access_row(rd.to_reg(), *ar),
+        ),
+        _ => None,
+    }
+}

@@ -1,0 +1,232 @@
+-- The rows of the instructions on parts of registers, of shifts, rotations, extensions and conditional moves.
+use Rattle.std.proofs.Common.{◌≡◌, ℕ, ◌+◌, ◌*◌, ◌<◌, ◌≤◌, Some, None, Bool, true, false, cond, ◌&&◌, ◌||◌, refl, sym, ap, ◌∙◌, arith, nat_lt, nat_le, nat_eq, eqb-true, subst}
+use Rattle.std.proofs.lemmas.Bool.Decides.{nat_tests}
+use Rattle.s390x_format.specs.declared.kind.FormatKind.TheVariants.{RrfCde, RiA, RieF, RieG, RilA, Rsy}
+use Rattle.s390x_format.specs.declared.row.Allowed.{Allowed}
+use Rattle.s390x_format.specs.declared.row.Allowed.TheVariants.{Any, FirstMask, CountMode, RotateBits, RotateBitsOrTest}
+use Rattle.s390x_format.specs.Lookup.{row_for}
+use Rattle.s390x_format.specs.Fetch.{machine_rows}
+use Rattle.s390x_format.specs.Rows.{is_allowed}
+use Rattle.s390x_inst.specs.declared.ops.ALUOp.{ALUOp}
+use Rattle.s390x_inst.specs.declared.ops.ALUOp.TheVariants as A
+use Rattle.s390x_inst.specs.declared.ops.ShiftOp.{ShiftOp}
+use Rattle.s390x_inst.specs.declared.ops.ShiftOp.TheVariants as S
+use Rattle.s390x_inst.specs.declared.ops.RxSBGOp.{RxSBGOp}
+use Rattle.s390x_inst.specs.declared.ops.RxSBGOp.TheVariants as R
+use Rattle.s390x_lanes.specs.declared.operation.Signedness.TheVariants.{Signed, Unsigned}
+use Rattle.s390x_format.specs.declared.kind.FormatKind.{FormatKind}
+use Rattle.s390x_steps.specs.Opcodes.{of_one, of_two, of_four, alu_part, alu_half, load_part, load_half, insert_part, extend_to_word, extend_to_doubleword, extend_two, shift_storage, rotate_then}
+use Rattle.s390x_steps.specs.MachineInstruction.{rrf_cde, rie_f}
+use Rattle.s390x_operations.specs.declared.effect.CodeRule.{CodeRule}
+use Rattle.s390x_operations.specs.declared.effect.CodeRule.TheVariants.{Kept, Set}
+use Rattle.s390x_operations.specs.declared.operator.Operator.TheVariants.{Move, Shift}
+use Rattle.s390x_operations.specs.declared.operator.SelectedBitsOperator.TheVariants as Select
+use Rattle.s390x_operations.specs.declared.size.Size.TheVariants.{Word, Doubleword}
+use Rattle.s390x_operations.specs.declared.size.Width.TheVariants.{Bits8, Bits16, Bits32, Bits64}
+use Rattle.s390x_machine.specs.declared.meaning.Meaning.{Meaning}
+use Rattle.s390x_machine.specs.declared.meaning.Meaning.TheVariants.{Compute, MoveWhere, CountOnes, RotateThen}
+use Rattle.s390x_machine.specs.declared.meaning.SecondOperand.{SecondOperand}
+use Rattle.s390x_machine.specs.declared.meaning.Shape.TheVariants.{Register, Immediate, ShiftedImmediate, Amount, AccessRegister}
+use Rattle.s390x_machine.specs.Computations.{Computation, word, doubleword, signed_halfword, on_words, on_doublewords, on_selected, with_second, extended_second, extension, part_mask, half_mask, part_operator, shift_operator, shift_size, shift_rule, rotate_operator, rotate_rule}
+use Rattle.s390x_machine.specs.Meanings.{meaning_in, meaning_of}
+use Rattle.s390x_machine.proofs.Alone.{Meant, TwoRow, TwoRows, ImmediateRow, ImmediateRows, second_register, computed}
+
+-- ---- parts and halves
+
+-- the immediate so many bits further to the left
+abbrev pub at_bit : ℕ → SecondOperand
+at_bit n = record { shape = ShiftedImmediate n; width = Bits64; sign = Unsigned; reversed = false }
+
+-- what a row does with an immediate at a place
+abbrev pub immediate_at : Computation → ℕ → CodeRule → Meaning
+immediate_at c n rule = Compute c.operator c.size (at_bit n) rule
+
+-- one, two or four rows by their number, each with its meaning
+by_one : (kind : FormatKind) (digits a : ℕ) (meaning : ℕ → Meaning) → ImmediateRow kind digits a (meaning 0) → (n : ℕ) → ImmediateRows kind digits (of_one a n) (meaning n)
+by_one kind digits a meaning zeroth n = go (nat_eq n 0) refl
+  where
+    go : (t : Bool) → nat_eq n 0 ≡ t → ImmediateRows kind digits (cond t (Some a) None) (meaning n)
+    go true e = subst (λ i. ImmediateRow kind digits a (meaning i)) (sym (eqb-true n 0 e)) zeroth
+    go false e = tt
+
+by_two : (kind : FormatKind) (digits a b : ℕ) (meaning : ℕ → Meaning) → ImmediateRow kind digits a (meaning 0) → ImmediateRow kind digits b (meaning 1) → (n : ℕ) → ImmediateRows kind digits (of_two a b n) (meaning n)
+by_two kind digits a b meaning zeroth first n = go (nat_eq n 0) refl (nat_eq n 1) refl
+  where
+    go : (t : Bool) → nat_eq n 0 ≡ t → (u : Bool) → nat_eq n 1 ≡ u → ImmediateRows kind digits (cond t (Some a) (cond u (Some b) None)) (meaning n)
+    go true e u f = subst (λ i. ImmediateRow kind digits a (meaning i)) (sym (eqb-true n 0 e)) zeroth
+    go false e true f = subst (λ i. ImmediateRow kind digits b (meaning i)) (sym (eqb-true n 1 f)) first
+    go false e false f = tt
+
+by_four : (kind : FormatKind) (digits a b c d : ℕ) (meaning : ℕ → Meaning) → ImmediateRow kind digits a (meaning 0) → ImmediateRow kind digits b (meaning 1) → ImmediateRow kind digits c (meaning 2) → ImmediateRow kind digits d (meaning 3) → (n : ℕ) → ImmediateRows kind digits (of_four a b c d n) (meaning n)
+by_four kind digits a b c d meaning zeroth first second third n = go (nat_eq n 0) refl (nat_eq n 1) refl (nat_eq n 2) refl (nat_eq n 3) refl
+  where
+    go : (t : Bool) → nat_eq n 0 ≡ t → (u : Bool) → nat_eq n 1 ≡ u → (v : Bool) → nat_eq n 2 ≡ v → (w : Bool) → nat_eq n 3 ≡ w → ImmediateRows kind digits (cond t (Some a) (cond u (Some b) (cond v (Some c) (cond w (Some d) None)))) (meaning n)
+    go true e u f v g w h = subst (λ i. ImmediateRow kind digits a (meaning i)) (sym (eqb-true n 0 e)) zeroth
+    go false e true f v g w h = subst (λ i. ImmediateRow kind digits b (meaning i)) (sym (eqb-true n 1 f)) first
+    go false e false f true g w h = subst (λ i. ImmediateRow kind digits c (meaning i)) (sym (eqb-true n 2 g)) second
+    go false e false f false g true h = subst (λ i. ImmediateRow kind digits d (meaning i)) (sym (eqb-true n 3 h)) third
+    go false e false f false g false h = tt
+
+pub part_rows : (op : ALUOp) (shift : ℕ) → ImmediateRows RiA 4096 (alu_part op shift) (immediate_at (on_selected (part_operator op) (part_mask shift)) (16 * shift) Set)
+unfolding machine_rows row_for meaning_in meaning_of
+part_rows A.And32 shift = by_two RiA 4096 0xa57 0xa56 (λ n. immediate_at (on_selected Select.And (part_mask n)) (16 * n) Set) (record { some = omega arith; few = omega arith; lists = (refl, refl, refl); means = refl }) (record { some = omega arith; few = omega arith; lists = (refl, refl, refl); means = refl }) shift
+part_rows A.And64 shift = by_four RiA 4096 0xa57 0xa56 0xa55 0xa54 (λ n. immediate_at (on_selected Select.And (part_mask n)) (16 * n) Set) (record { some = omega arith; few = omega arith; lists = (refl, refl, refl); means = refl }) (record { some = omega arith; few = omega arith; lists = (refl, refl, refl); means = refl }) (record { some = omega arith; few = omega arith; lists = (refl, refl, refl); means = refl }) (record { some = omega arith; few = omega arith; lists = (refl, refl, refl); means = refl }) shift
+part_rows A.Orr32 shift = by_two RiA 4096 0xa5b 0xa5a (λ n. immediate_at (on_selected Select.Or (part_mask n)) (16 * n) Set) (record { some = omega arith; few = omega arith; lists = (refl, refl, refl); means = refl }) (record { some = omega arith; few = omega arith; lists = (refl, refl, refl); means = refl }) shift
+part_rows A.Orr64 shift = by_four RiA 4096 0xa5b 0xa5a 0xa59 0xa58 (λ n. immediate_at (on_selected Select.Or (part_mask n)) (16 * n) Set) (record { some = omega arith; few = omega arith; lists = (refl, refl, refl); means = refl }) (record { some = omega arith; few = omega arith; lists = (refl, refl, refl); means = refl }) (record { some = omega arith; few = omega arith; lists = (refl, refl, refl); means = refl }) (record { some = omega arith; few = omega arith; lists = (refl, refl, refl); means = refl }) shift
+part_rows _ shift = tt
+
+pub half_rows : (op : ALUOp) (shift : ℕ) → ImmediateRows RilA 4096 (alu_half op shift) (immediate_at (on_selected (part_operator op) (half_mask shift)) (32 * shift) Set)
+unfolding machine_rows row_for meaning_in meaning_of
+half_rows A.And32 shift = by_one RilA 4096 0xc0b (λ n. immediate_at (on_selected Select.And (half_mask n)) (32 * n) Set) (record { some = omega arith; few = omega arith; lists = (refl, refl, refl); means = refl }) shift
+half_rows A.And64 shift = by_two RilA 4096 0xc0b 0xc0a (λ n. immediate_at (on_selected Select.And (half_mask n)) (32 * n) Set) (record { some = omega arith; few = omega arith; lists = (refl, refl, refl); means = refl }) (record { some = omega arith; few = omega arith; lists = (refl, refl, refl); means = refl }) shift
+half_rows A.Orr32 shift = by_one RilA 4096 0xc0d (λ n. immediate_at (on_selected Select.Or (half_mask n)) (32 * n) Set) (record { some = omega arith; few = omega arith; lists = (refl, refl, refl); means = refl }) shift
+half_rows A.Orr64 shift = by_two RilA 4096 0xc0d 0xc0c (λ n. immediate_at (on_selected Select.Or (half_mask n)) (32 * n) Set) (record { some = omega arith; few = omega arith; lists = (refl, refl, refl); means = refl }) (record { some = omega arith; few = omega arith; lists = (refl, refl, refl); means = refl }) shift
+half_rows A.Xor32 shift = by_one RilA 4096 0xc07 (λ n. immediate_at (on_selected Select.Xor (half_mask n)) (32 * n) Set) (record { some = omega arith; few = omega arith; lists = (refl, refl, refl); means = refl }) shift
+half_rows A.Xor64 shift = by_two RilA 4096 0xc07 0xc06 (λ n. immediate_at (on_selected Select.Xor (half_mask n)) (32 * n) Set) (record { some = omega arith; few = omega arith; lists = (refl, refl, refl); means = refl }) (record { some = omega arith; few = omega arith; lists = (refl, refl, refl); means = refl }) shift
+half_rows _ shift = tt
+
+pub load_part_rows : (shift : ℕ) → ImmediateRows RiA 4096 (load_part shift) (immediate_at (on_doublewords Move) (16 * shift) Kept)
+unfolding machine_rows row_for meaning_in meaning_of
+load_part_rows shift = by_four RiA 4096 0xa5f 0xa5e 0xa5d 0xa5c (λ n. immediate_at (on_doublewords Move) (16 * n) Kept) (record { some = omega arith; few = omega arith; lists = (refl, refl, refl); means = refl }) (record { some = omega arith; few = omega arith; lists = (refl, refl, refl); means = refl }) (record { some = omega arith; few = omega arith; lists = (refl, refl, refl); means = refl }) (record { some = omega arith; few = omega arith; lists = (refl, refl, refl); means = refl }) shift
+
+pub load_half_rows : (shift : ℕ) → ImmediateRows RilA 4096 (load_half shift) (immediate_at (on_doublewords Move) (32 * shift) Kept)
+unfolding machine_rows row_for meaning_in meaning_of
+load_half_rows shift = by_two RilA 4096 0xc0f 0xc0e (λ n. immediate_at (on_doublewords Move) (32 * n) Kept) (record { some = omega arith; few = omega arith; lists = (refl, refl, refl); means = refl }) (record { some = omega arith; few = omega arith; lists = (refl, refl, refl); means = refl }) shift
+
+pub insert_part_rows : (shift : ℕ) → ImmediateRows RiA 4096 (insert_part shift) (immediate_at (on_selected Select.Insert (part_mask shift)) (16 * shift) Kept)
+unfolding machine_rows row_for meaning_in meaning_of
+insert_part_rows shift = by_four RiA 4096 0xa53 0xa52 0xa51 0xa50 (λ n. immediate_at (on_selected Select.Insert (part_mask n)) (16 * n) Kept) (record { some = omega arith; few = omega arith; lists = (refl, refl, refl); means = refl }) (record { some = omega arith; few = omega arith; lists = (refl, refl, refl); means = refl }) (record { some = omega arith; few = omega arith; lists = (refl, refl, refl); means = refl }) (record { some = omega arith; few = omega arith; lists = (refl, refl, refl); means = refl }) shift
+
+pub iihf_row : ImmediateRow RilA 4096 0xc08 (immediate_at (on_selected Select.Insert (half_mask 1)) 32 Kept)
+unfolding machine_rows row_for meaning_in meaning_of
+iihf_row = record { some = omega arith; few = omega arith; lists = (refl, refl, refl); means = refl }
+
+-- ---- extensions
+
+-- the meaning of an extension
+abbrev pub extends : (signed : Bool) → (from to : ℕ) → Meaning
+extends signed from to = computed (extension signed from to) Register Kept
+
+pub word_rows : (signed one eight sixteen : Bool) → TwoRows (cond one (Some 0xb926) (cond eight (Some (cond signed 0xb926 0xb994)) (cond sixteen (Some (cond signed 0xb927 0xb995)) None))) (computed (with_second Move Word (record { width = cond one Bits8 (cond eight Bits8 (cond sixteen Bits16 Bits32)); sign = cond one Signed (cond signed Signed Unsigned); reversed = false })) Register Kept)
+unfolding machine_rows row_for meaning_in meaning_of
+word_rows true true eight sixteen = record { some = omega arith; few = omega arith; lists = (refl, refl, refl); means = refl }
+word_rows false true eight sixteen = record { some = omega arith; few = omega arith; lists = (refl, refl, refl); means = refl }
+word_rows true false true sixteen = record { some = omega arith; few = omega arith; lists = (refl, refl, refl); means = refl }
+word_rows false false true sixteen = record { some = omega arith; few = omega arith; lists = (refl, refl, refl); means = refl }
+word_rows true false false true = record { some = omega arith; few = omega arith; lists = (refl, refl, refl); means = refl }
+word_rows false false false true = record { some = omega arith; few = omega arith; lists = (refl, refl, refl); means = refl }
+word_rows signed false false false = tt
+
+pub doubleword_rows : (signed one eight sixteen thirty_two : Bool) → TwoRows (cond one (Some 0xb906) (cond eight (Some (cond signed 0xb906 0xb984)) (cond sixteen (Some (cond signed 0xb907 0xb985)) (cond thirty_two (Some (cond signed 0xb914 0xb916)) None)))) (computed (with_second Move Doubleword (record { width = cond one Bits8 (cond eight Bits8 (cond sixteen Bits16 Bits32)); sign = cond one Signed (cond signed Signed Unsigned); reversed = false })) Register Kept)
+unfolding machine_rows row_for meaning_in meaning_of
+doubleword_rows true true eight sixteen more = record { some = omega arith; few = omega arith; lists = (refl, refl, refl); means = refl }
+doubleword_rows false true eight sixteen more = record { some = omega arith; few = omega arith; lists = (refl, refl, refl); means = refl }
+doubleword_rows true false true sixteen more = record { some = omega arith; few = omega arith; lists = (refl, refl, refl); means = refl }
+doubleword_rows false false true sixteen more = record { some = omega arith; few = omega arith; lists = (refl, refl, refl); means = refl }
+doubleword_rows true false false true more = record { some = omega arith; few = omega arith; lists = (refl, refl, refl); means = refl }
+doubleword_rows false false false true more = record { some = omega arith; few = omega arith; lists = (refl, refl, refl); means = refl }
+doubleword_rows true false false false true = record { some = omega arith; few = omega arith; lists = (refl, refl, refl); means = refl }
+doubleword_rows false false false false true = record { some = omega arith; few = omega arith; lists = (refl, refl, refl); means = refl }
+doubleword_rows signed false false false false = tt
+
+sized_rows : (signed : Bool) (from : ℕ) (to_word to_doubleword : Bool) → TwoRows (cond to_word (extend_to_word signed from) (cond to_doubleword (extend_to_doubleword signed from) None)) (computed (with_second Move (cond to_word Word Doubleword) (extended_second signed from)) Register Kept)
+sized_rows signed from true more = word_rows signed (nat_eq from 1) (nat_eq from 8) (nat_eq from 16)
+sized_rows signed from false true = doubleword_rows signed (nat_eq from 1) (nat_eq from 8) (nat_eq from 16) (nat_eq from 32)
+sized_rows signed from false false = tt
+
+pub extend_rows : (signed : Bool) (from to : ℕ) → TwoRows (extend_two signed from to) (extends signed from to)
+extend_rows signed from to = sized_rows signed from (nat_eq to 32) (nat_eq to 64)
+
+pub ear_row : TwoRow 0xb24f (computed (on_words Move) AccessRegister Kept)
+unfolding machine_rows row_for meaning_in meaning_of
+ear_row = record { some = omega arith; few = omega arith; lists = (refl, refl, refl); means = refl }
+
+-- ---- shifts
+
+abbrev pub shift_meaning : ShiftOp → Meaning
+shift_meaning op = Compute (Shift (shift_operator op)) (shift_size op) (record { shape = Amount; width = Bits8; sign = Unsigned; reversed = false }) (shift_rule op)
+
+pub shift_rows : (op : ShiftOp) → Meant Rsy Any (shift_storage op) (shift_meaning op)
+unfolding machine_rows row_for meaning_in meaning_of
+shift_rows S.RotL32 = record { some = omega arith; few = omega arith; lists = (refl, refl, refl); means = refl }
+shift_rows S.RotL64 = record { some = omega arith; few = omega arith; lists = (refl, refl, refl); means = refl }
+shift_rows S.LShL32 = record { some = omega arith; few = omega arith; lists = (refl, refl, refl); means = refl }
+shift_rows S.LShL64 = record { some = omega arith; few = omega arith; lists = (refl, refl, refl); means = refl }
+shift_rows S.LShR32 = record { some = omega arith; few = omega arith; lists = (refl, refl, refl); means = refl }
+shift_rows S.LShR64 = record { some = omega arith; few = omega arith; lists = (refl, refl, refl); means = refl }
+shift_rows S.AShR32 = record { some = omega arith; few = omega arith; lists = (refl, refl, refl); means = refl }
+shift_rows S.AShR64 = record { some = omega arith; few = omega arith; lists = (refl, refl, refl); means = refl }
+
+-- ---- rotations
+
+-- which bit numbers a rotation's row allows: an insertion's first one can't ask for a test
+abbrev pub rotate_allows : RxSBGOp → Allowed
+rotate_allows R.Insert = RotateBits
+rotate_allows _ = RotateBitsOrTest
+
+pub rotate_rows : (op : RxSBGOp) → Meant RieF (rotate_allows op) (rotate_then op) (RotateThen (rotate_operator op) (rotate_rule op))
+unfolding machine_rows row_for meaning_in meaning_of
+rotate_rows R.Insert = record { some = omega arith; few = omega arith; lists = (refl, refl, refl); means = refl }
+rotate_rows R.And = record { some = omega arith; few = omega arith; lists = (refl, refl, refl); means = refl }
+rotate_rows R.Or = record { some = omega arith; few = omega arith; lists = (refl, refl, refl); means = refl }
+rotate_rows R.Xor = record { some = omega arith; few = omega arith; lists = (refl, refl, refl); means = refl }
+
+-- ---- conditional moves, and counts of ones
+
+abbrev pub any_mask : Allowed
+any_mask = FirstMask 0 15
+
+pub locr_row : Meant RrfCde any_mask 0xb9f2 (MoveWhere Word (second_register Register word))
+unfolding machine_rows row_for meaning_in meaning_of
+locr_row = record { some = omega arith; few = omega arith; lists = (refl, refl, refl); means = refl }
+
+pub locgr_row : Meant RrfCde any_mask 0xb9e2 (MoveWhere Doubleword (second_register Register doubleword))
+unfolding machine_rows row_for meaning_in meaning_of
+locgr_row = record { some = omega arith; few = omega arith; lists = (refl, refl, refl); means = refl }
+
+pub lochi_row : Meant RieG Any 0xec42 (MoveWhere Word (second_register Immediate signed_halfword))
+unfolding machine_rows row_for meaning_in meaning_of
+lochi_row = record { some = omega arith; few = omega arith; lists = (refl, refl, refl); means = refl }
+
+pub locghi_row : Meant RieG Any 0xec46 (MoveWhere Doubleword (second_register Immediate signed_halfword))
+unfolding machine_rows row_for meaning_in meaning_of
+locghi_row = record { some = omega arith; few = omega arith; lists = (refl, refl, refl); means = refl }
+
+pub popcnt_row : Meant RrfCde CountMode 0xb9e1 CountOnes
+unfolding machine_rows row_for meaning_in meaning_of
+popcnt_row = record { some = omega arith; few = omega arith; lists = (refl, refl, refl); means = refl }
+
+-- ---- tests
+
+pub below : (a b : ℕ) → a < b → nat_lt a b ≡ true
+below a b h = grind (arith, nat_tests)
+
+pub not_below : (a b : ℕ) → b ≤ a → nat_lt a b ≡ false
+not_below a b h = grind (arith, nat_tests)
+
+pub at_most : (a b : ℕ) → a ≤ b → nat_le a b ≡ true
+at_most a b h = grind (arith, nat_tests)
+
+-- a mask of 4 bits is allowed
+pub mask_allowed : (opcode a b mask : ℕ) → mask < 16 → is_allowed any_mask (rrf_cde opcode a b mask 0).slots ≡ true
+mask_allowed opcode a b mask lt = ap (λ t. t && nat_le mask 15 && true && true) (at_most 0 mask (omega arith)) ∙ ap (λ t. t && true && true) (at_most mask 15 (omega (arith, lt)))
+
+-- bit numbers below 64 are allowed, and the first one with 128 added where the row can test
+bits_allowed : (op : RxSBGOp) (a b c : Bool) → a ≡ true → b ≡ true → c ≡ true → (a && b && c) ≡ true
+bits_allowed op a b c e f g = ap (λ x. x && b && c) e ∙ ap (λ x. x && c) f ∙ g
+
+pub rotation_allowed : (op : RxSBGOp) (a b first last amount : ℕ) → first < 64 → last < 64 → amount < 64 → is_allowed (rotate_allows op) (rie_f (rotate_then op) a b first last amount).slots ≡ true
+rotation_allowed R.Insert a b first last amount lf ll la = bits_allowed R.Insert (nat_lt first 64) (nat_lt last 64) (nat_lt amount 64) (below first 64 lf) (below last 64 ll) (below amount 64 la)
+rotation_allowed R.And a b first last amount lf ll la = bits_allowed R.And _ (nat_lt last 64) (nat_lt amount 64) (ap (λ t. t || (nat_le 128 first && nat_lt first 192)) (below first 64 lf)) (below last 64 ll) (below amount 64 la)
+rotation_allowed R.Or a b first last amount lf ll la = bits_allowed R.Or _ (nat_lt last 64) (nat_lt amount 64) (ap (λ t. t || (nat_le 128 first && nat_lt first 192)) (below first 64 lf)) (below last 64 ll) (below amount 64 la)
+rotation_allowed R.Xor a b first last amount lf ll la = bits_allowed R.Xor _ (nat_lt last 64) (nat_lt amount 64) (ap (λ t. t || (nat_le 128 first && nat_lt first 192)) (below first 64 lf)) (below last 64 ll) (below amount 64 la)
+
+-- 128 added to the first bit number is allowed where the row can test
+first_tested : (first : ℕ) → first < 64 → (nat_lt (first + 128) 64 || (nat_le 128 (first + 128) && nat_lt (first + 128) 192)) ≡ true
+first_tested first lt =
+    ap (λ t. t || (nat_le 128 (first + 128) && nat_lt (first + 128) 192)) (not_below (first + 128) 64 (omega arith))
+    ∙ ap (λ t. t && nat_lt (first + 128) 192) (at_most 128 (first + 128) (omega arith))
+    ∙ below (first + 128) 192 (omega (arith, lt))
+
+pub test_allowed : (opcode a b first last amount : ℕ) → first < 64 → last < 64 → amount < 64 → is_allowed RotateBitsOrTest (rie_f opcode a b (first + 128) last amount).slots ≡ true
+test_allowed opcode a b first last amount lf ll la = bits_allowed R.And _ (nat_lt last 64) (nat_lt amount 64) (first_tested first lf) (below last 64 ll) (below amount 64 la)
