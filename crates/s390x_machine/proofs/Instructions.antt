@@ -35,17 +35,18 @@ use Rattle.s390x_machine.specs.Computations.{Computation, Comparison, alu_comput
 use Rattle.s390x_machine.specs.Forms.{Form, Performs, GoesTo, Chooses, Leads, Silent, no_code}
 use Rattle.s390x_machine.specs.Meanings.{action}
 use Rattle.s390x_machine.specs.Typed.{At, FormStep, form_of, form_at}
-use Rattle.s390x_machine.specs.Match.{StepRuns, StepHolds, Headline, EveryBlockRun, silent}
+use Rattle.s390x_machine.specs.Match.{StepRuns, StepHolds, EveryRunOfTurns, EveryBlockRun, silent}
 use Rattle.s390x_machine.specs.Machine.{Run}
 use Rattle.s390x_machine.specs.Layout.{Layout, place, block_place, InStep}
 use Rattle.s390x_machine.specs.Placed.{Placed, AllPlaced, IsBlock, FineOr, IsFineInstruction, IsFine}
 use Rattle.s390x_machine.proofs.Fetching.{StandsAt}
-use Rattle.s390x_machine.proofs.Simulation.{RowAt, DoesAs, Coded, at_start, general_step}
+use Rattle.s390x_machine.proofs.Simulation.{RowAt, DoesAs, Coded, ValuesCoded, at_start, general_step}
 use Rattle.s390x_machine.proofs.Standing.{step_rows, offset_even, offset_small, inside_at, inside_first, next_place, block_at}
+use Rattle.s390x_machine.proofs.Stops.{never_by_values}
 use Rattle.s390x_machine.proofs.Rows.{general_number, nonzero_number, bcr_at, brcl_at}
 use Rattle.s390x_machine.proofs.Alone.{TwoRow, ThreeRow, TwoRows, ThreeRows, second_register, computed, register_fields, alu_three_rows, alu_two_rows, cmp_rows, unary_rows, lgr_row, lr_row, two_at, three_at, ImmediateRows, compared, halfword_rows, three_halfword_rows, signed_word_rows, unsigned_word_rows, cmp_halfword_rows, cmp_signed_word_rows, cmp_unsigned_word_rows, iilf_row, lhi_row, lghi_row, lgfi_row, halfword_at, word_at, three_halfword_at, compare_halfword_at, compare_word_at, loosens, three_looser, two_looser}
 use Rattle.s390x_machine.proofs.Branches.{jump_runs, TwoBranches, choose_runs, leads_runs, returns_runs, address_runs}
-use Rattle.s390x_machine.proofs.Induction.{headline_of, one_step}
+use Rattle.s390x_machine.proofs.Induction.{turns_of, one_step}
 
 -- ---- the rows of a step of one part or two
 
@@ -60,9 +61,9 @@ one_row L k s p m is =
     record { stands = rows.0; size = p.size ∙ ap (λ ps. L.places.step k + parts_size ps) is ∙ ap (λ n. L.places.step k + n) size }
 
 -- a row by itself, which does the step's operation
-row_alone : (L : Layout) (k : ℕ) (operation : Registers → Operation) (code : StopKind → Option TrapKind) (act : Registers → Action) (size : ℕ) → form_at L k ≡ Some (Performs false operation code) → RowAt L (place L k) act size → ((r : Registers) → DoesAs (act r) (operation r)) → Coded L (place L k) code → L.places.step (suc k) ≡ L.places.step k + size → 0 < size → StepRuns L k
-row_alone L k operation code act size is row does coded e some c lies =
-    general_step L k c [] (place L k) act size false 0 operation code is (at_start L k c (inside_first L k size e some) lies) row (does c.registers) (next_place L k size e) coded
+row_alone : (L : Layout) (k : ℕ) (operation : Registers → Operation) (code : StopKind → Option TrapKind) (act : Registers → Action) (size : ℕ) → form_at L k ≡ Some (Performs false operation code) → RowAt L (place L k) act size → ((r : Registers) → DoesAs (act r) (operation r)) → Coded L (place L k) code → ((r : Registers) → ValuesCoded (operation r) code) → L.places.step (suc k) ≡ L.places.step k + size → 0 < size → StepRuns L k
+row_alone L k operation code act size is row does at coded e some c lies =
+    general_step L k c [] (place L k) act size false 0 operation code is (at_start L k c (inside_first L k size e some) lies) row (does c.registers) (next_place L k size e) at (coded c.registers)
 
 exactly : (op : Operation) → Refines op op
 exactly op = record { access = refl; refused = refl; may_refuse = λ kind h. h; results = λ c r h. h; code = λ c code h. h }
@@ -106,6 +107,22 @@ word_bits (negsuc a) = omega arith
 uncoded : (L : Layout) (p : ℕ) → Coded L p no_code
 uncoded L p kind n e = absurd (cc)
 
+-- an operation on registers stops by no values
+abbrev NeverStops : (Registers → Operation) → Type 0
+NeverStops operation = (r : Registers) → ValuesCoded (operation r) no_code
+
+computes_always : (rule : CodeRule) (c : Computation) (d n m : ℕ) → NeverStops (computes rule c d n m)
+computes_always rule c d n m r = never_by_values (computes rule c d n m r) no_code refl (λ kind h. h)
+
+computes_immediate_always : (rule : CodeRule) (c : Computation) (d n bits : ℕ) → NeverStops (computes_immediate rule c d n bits)
+computes_immediate_always rule c d n bits r = never_by_values (computes_immediate rule c d n bits r) no_code refl (λ kind h. h)
+
+compares_always : (c : Comparison) (n m : ℕ) → NeverStops (compares c n m)
+compares_always c n m r = never_by_values (compares c n m r) no_code refl (λ kind h. h)
+
+compares_immediate_always : (c : Comparison) (n bits : ℕ) → NeverStops (compares_immediate c n bits)
+compares_immediate_always c n bits r = never_by_values (compares_immediate c n bits r) no_code refl (λ kind h. h)
+
 module _ (L : Layout) (all : AllPlaced L) (k : ℕ) (s : Step) (at : slice_get L.steps k ≡ Some s) (placed : Placed L k s) where
   within : suc k ≤ length L.steps
   within = slice_get_within L.steps k s at
@@ -119,43 +136,43 @@ module _ (L : Layout) (all : AllPlaced L) (k : ℕ) (s : Step) (at : slice_get L
   formed : (f : Form) → form_of (Some s) ≡ Some f → form_at L k ≡ Some f
   formed f e = ap form_of at ∙ e
 
-  two_runs : (opcode : ℕ) (meaning : Meaning) → TwoRow opcode meaning → (does operation : Registers → Operation) (d m : ℕ) → form_of (Some s) ≡ Some (Performs false operation no_code) → step_parts s ≡ Row (two_operands opcode d m) ∷ [] → d < 16 → m < 16 → ((r : Registers) (p : ℕ) → action meaning (register_fields d m 0) r p ≡ Perform (does r)) → ((r : Registers) → Refines (does r) (operation r)) → StepRuns L k
-  two_runs opcode meaning row does operation d m is parts ld lm acts refines =
+  two_runs : (opcode : ℕ) (meaning : Meaning) → TwoRow opcode meaning → (does operation : Registers → Operation) (d m : ℕ) → form_of (Some s) ≡ Some (Performs false operation no_code) → step_parts s ≡ Row (two_operands opcode d m) ∷ [] → d < 16 → m < 16 → ((r : Registers) (p : ℕ) → action meaning (register_fields d m 0) r p ≡ Perform (does r)) → ((r : Registers) → Refines (does r) (operation r)) → NeverStops operation → StepRuns L k
+  two_runs opcode meaning row does operation d m is parts ld lm acts refines never =
       let one = one_row L k s placed (two_operands opcode d m) parts in
-      row_alone L k operation no_code (λ r. Perform (does r)) (size_of (two_operands opcode d m)) (formed _ is) (two_at L all (L.places.step k) even opcode meaning row does d m ld lm acts one.stands) refines (uncoded L (place L k)) one.size (two_some opcode d m)
+      row_alone L k operation no_code (λ r. Perform (does r)) (size_of (two_operands opcode d m)) (formed _ is) (two_at L all (L.places.step k) even opcode meaning row does d m ld lm acts one.stands) refines (uncoded L (place L k)) never one.size (two_some opcode d m)
 
-  three_runs : (opcode : ℕ) (meaning : Meaning) → ThreeRow opcode meaning → (does operation : Registers → Operation) (d n m : ℕ) → form_of (Some s) ≡ Some (Performs false operation no_code) → step_parts s ≡ Row (rrf_ab opcode d n m 0) ∷ [] → d < 16 → n < 16 → m < 16 → ((r : Registers) (p : ℕ) → action meaning (register_fields d n m) r p ≡ Perform (does r)) → ((r : Registers) → Refines (does r) (operation r)) → StepRuns L k
+  three_runs : (opcode : ℕ) (meaning : Meaning) → ThreeRow opcode meaning → (does operation : Registers → Operation) (d n m : ℕ) → form_of (Some s) ≡ Some (Performs false operation no_code) → step_parts s ≡ Row (rrf_ab opcode d n m 0) ∷ [] → d < 16 → n < 16 → m < 16 → ((r : Registers) (p : ℕ) → action meaning (register_fields d n m) r p ≡ Perform (does r)) → ((r : Registers) → Refines (does r) (operation r)) → NeverStops operation → StepRuns L k
   unfolding length_of
-  three_runs opcode meaning row does operation d n m is parts ld ln lm acts refines =
+  three_runs opcode meaning row does operation d n m is parts ld ln lm acts refines never =
       let one = one_row L k s placed (rrf_ab opcode d n m 0) parts in
-      row_alone L k operation no_code (λ r. Perform (does r)) 4 (formed _ is) (three_at L all (L.places.step k) even opcode meaning row does d n m ld ln lm acts one.stands) refines (uncoded L (place L k)) one.size (omega arith)
+      row_alone L k operation no_code (λ r. Perform (does r)) 4 (formed _ is) (three_at L all (L.places.step k) even opcode meaning row does d n m ld ln lm acts one.stands) refines (uncoded L (place L k)) never one.size (omega arith)
 
   -- a row of a register and an immediate, which does the step's operation
-  immediate_runs : (m : MachineInstruction) (operation : Registers → Operation) → form_of (Some s) ≡ Some (Performs false operation no_code) → step_parts s ≡ Row m ∷ [] → 0 < size_of m → (StandsAt L.image (L.places.step k) (bytes_of m) → RowAt L (place L k) (λ r. Perform (operation r)) (size_of m)) → StepRuns L k
-  immediate_runs m operation is parts some at_row =
+  immediate_runs : (m : MachineInstruction) (operation : Registers → Operation) → NeverStops operation → form_of (Some s) ≡ Some (Performs false operation no_code) → step_parts s ≡ Row m ∷ [] → 0 < size_of m → (StandsAt L.image (L.places.step k) (bytes_of m) → RowAt L (place L k) (λ r. Perform (operation r)) (size_of m)) → StepRuns L k
+  immediate_runs m operation never is parts some at_row =
       let one = one_row L k s placed m parts in
-      row_alone L k operation no_code (λ r. Perform (operation r)) (size_of m) (formed _ is) (at_row one.stands) (λ r. exactly (operation r)) (uncoded L (place L k)) one.size some
+      row_alone L k operation no_code (λ r. Perform (operation r)) (size_of m) (formed _ is) (at_row one.stands) (λ r. exactly (operation r)) (uncoded L (place L k)) never one.size some
 
   -- an operator with an immediate of 16 bits, or of 32, where it has a row
   one_of_halfword : (fine : Bool) (o : Option ℕ) (c : Computation) (rule : CodeRule) → ImmediateRows RiA 4096 o (computed c Immediate rule) → (d bits : ℕ) → form_of (Some s) ≡ Some (Performs false (computes_immediate rule c d d bits) no_code) → step_parts s ≡ parts_or (alone_with fine (halfword_row o d bits)) [] → FineOr (alone_with fine (halfword_row o d bits)) ⊥ → (IsTrue fine → d < 16) → bits < 2 ^ 16 → StepRuns L k
   unfolding length_of
   one_of_halfword fine None c rule row d bits is parts h small lb = absurd h
-  one_of_halfword fine (Some opcode) c rule row d bits is parts h small lb = immediate_runs (ri_a opcode d bits) (computes_immediate rule c d d bits) is parts (omega arith) (λ st. halfword_at L all (L.places.step k) even opcode c rule row d bits (small h) lb st)
+  one_of_halfword fine (Some opcode) c rule row d bits is parts h small lb = immediate_runs (ri_a opcode d bits) (computes_immediate rule c d d bits) (computes_immediate_always rule c d d bits) is parts (omega arith) (λ st. halfword_at L all (L.places.step k) even opcode c rule row d bits (small h) lb st)
 
   one_of_word : (fine : Bool) (o : Option ℕ) (c : Computation) (rule : CodeRule) → ImmediateRows RilA 4096 o (computed c Immediate rule) → (d bits : ℕ) → form_of (Some s) ≡ Some (Performs false (computes_immediate rule c d d bits) no_code) → step_parts s ≡ parts_or (alone_with fine (word_row o d bits)) [] → FineOr (alone_with fine (word_row o d bits)) ⊥ → (IsTrue fine → d < 16) → bits < 2 ^ 32 → StepRuns L k
   unfolding length_of
   one_of_word fine None c rule row d bits is parts h small lb = absurd h
-  one_of_word fine (Some opcode) c rule row d bits is parts h small lb = immediate_runs (ril_a opcode d bits) (computes_immediate rule c d d bits) is parts (omega arith) (λ st. word_at L all (L.places.step k) even opcode c rule row d bits (small h) lb st)
+  one_of_word fine (Some opcode) c rule row d bits is parts h small lb = immediate_runs (ril_a opcode d bits) (computes_immediate rule c d d bits) (computes_immediate_always rule c d d bits) is parts (omega arith) (λ st. word_at L all (L.places.step k) even opcode c rule row d bits (small h) lb st)
 
   compare_of_halfword : (fine : Bool) (o : Option ℕ) (c : Comparison) → ImmediateRows RiA 4096 o (compared c) → (n bits : ℕ) → form_of (Some s) ≡ Some (Performs false (compares_immediate c n bits) no_code) → step_parts s ≡ parts_or (alone_with fine (halfword_row o n bits)) [] → FineOr (alone_with fine (halfword_row o n bits)) ⊥ → (IsTrue fine → n < 16) → bits < 2 ^ 16 → StepRuns L k
   unfolding length_of
   compare_of_halfword fine None c row n bits is parts h small lb = absurd h
-  compare_of_halfword fine (Some opcode) c row n bits is parts h small lb = immediate_runs (ri_a opcode n bits) (compares_immediate c n bits) is parts (omega arith) (λ st. compare_halfword_at L all (L.places.step k) even opcode c row n bits (small h) lb st)
+  compare_of_halfword fine (Some opcode) c row n bits is parts h small lb = immediate_runs (ri_a opcode n bits) (compares_immediate c n bits) (compares_immediate_always c n bits) is parts (omega arith) (λ st. compare_halfword_at L all (L.places.step k) even opcode c row n bits (small h) lb st)
 
   compare_of_word : (fine : Bool) (o : Option ℕ) (c : Comparison) → ImmediateRows RilA 4096 o (compared c) → (n bits : ℕ) → form_of (Some s) ≡ Some (Performs false (compares_immediate c n bits) no_code) → step_parts s ≡ parts_or (alone_with fine (word_row o n bits)) [] → FineOr (alone_with fine (word_row o n bits)) ⊥ → (IsTrue fine → n < 16) → bits < 2 ^ 32 → StepRuns L k
   unfolding length_of
   compare_of_word fine None c row n bits is parts h small lb = absurd h
-  compare_of_word fine (Some opcode) c row n bits is parts h small lb = immediate_runs (ril_a opcode n bits) (compares_immediate c n bits) is parts (omega arith) (λ st. compare_word_at L all (L.places.step k) even opcode c row n bits (small h) lb st)
+  compare_of_word fine (Some opcode) c row n bits is parts h small lb = immediate_runs (ril_a opcode n bits) (compares_immediate c n bits) (compares_immediate_always c n bits) is parts (omega arith) (λ st. compare_word_at L all (L.places.step k) even opcode c row n bits (small h) lb st)
 
   -- an immediate of 16 bits into another register, or two operands where the input is the output
   three_halfword_runs : (fine : Bool) (three two : Option ℕ) (c : Computation) (rule : CodeRule) → ImmediateRows RieD 65536 three (computed c ThreeImmediate rule) → ImmediateRows RiA 4096 two (computed c Immediate rule) → (d n bits : ℕ) → form_of (Some s) ≡ Some (Performs false (computes_immediate rule c d n bits) no_code) → step_parts s ≡ parts_or (alone_with fine (three_halfword_row three two d n bits)) [] → FineOr (alone_with fine (three_halfword_row three two d n bits)) ⊥ → (IsTrue fine → (d < 16) × (n < 16)) → bits < 2 ^ 16 → StepRuns L k
@@ -163,22 +180,22 @@ module _ (L : Layout) (all : AllPlaced L) (k : ℕ) (s : Step) (at : slice_get L
   three_halfword_runs fine None two c rule row3 row2 d n bits is parts h small lb = absurd h
   three_halfword_runs fine (Some three) None c rule row3 row2 d n bits is parts h small lb =
       let l = small h in
-      immediate_runs (rie_d three d n bits) (computes_immediate rule c d n bits) is parts (omega arith) (λ st. three_halfword_at L all (L.places.step k) even three c rule row3 d n bits l.0 l.1 lb st)
+      immediate_runs (rie_d three d n bits) (computes_immediate rule c d n bits) (computes_immediate_always rule c d n bits) is parts (omega arith) (λ st. three_halfword_at L all (L.places.step k) even three c rule row3 d n bits l.0 l.1 lb st)
   three_halfword_runs fine (Some three) (Some two) c rule row3 row2 d n bits is parts h small lb = go (nat_eq d n) refl parts
     where
       go : (same : Bool) → nat_eq d n ≡ same → step_parts s ≡ Row (cond same (ri_a two d bits) (rie_d three d n bits)) ∷ [] → StepRuns L k
       go true e is_row =
           let l = small h in
           let op : computes_immediate rule c d d bits ≡ computes_immediate rule c d n bits = ap (λ i. computes_immediate rule c d i bits) (eqb-true d n e) in
-          immediate_runs (ri_a two d bits) (computes_immediate rule c d n bits) is is_row (omega arith) (λ st. subst (λ o. RowAt L (place L k) (λ r. Perform (o r)) 4) op (halfword_at L all (L.places.step k) even two c rule row2 d bits l.0 lb st))
+          immediate_runs (ri_a two d bits) (computes_immediate rule c d n bits) (computes_immediate_always rule c d n bits) is is_row (omega arith) (λ st. subst (λ o. RowAt L (place L k) (λ r. Perform (o r)) 4) op (halfword_at L all (L.places.step k) even two c rule row2 d bits l.0 lb st))
       go false e is_row =
           let l = small h in
-          immediate_runs (rie_d three d n bits) (computes_immediate rule c d n bits) is is_row (omega arith) (λ st. three_halfword_at L all (L.places.step k) even three c rule row3 d n bits l.0 l.1 lb st)
+          immediate_runs (rie_d three d n bits) (computes_immediate rule c d n bits) (computes_immediate_always rule c d n bits) is is_row (omega arith) (λ st. three_halfword_at L all (L.places.step k) even three c rule row3 d n bits l.0 l.1 lb st)
 
   -- an instruction of one row of two registers, where its operator has one
-  one_of_two : (fine : Bool) (o : Option ℕ) (meaning : Meaning) → TwoRows o meaning → (does operation : Registers → Operation) (d m : ℕ) → form_of (Some s) ≡ Some (Performs false operation no_code) → step_parts s ≡ parts_or (alone_with fine (two_row o d m)) [] → FineOr (alone_with fine (two_row o d m)) ⊥ → (IsTrue fine → (d < 16) × (m < 16)) → ((r : Registers) (p : ℕ) → action meaning (register_fields d m 0) r p ≡ Perform (does r)) → ((r : Registers) → Refines (does r) (operation r)) → StepRuns L k
-  one_of_two fine None meaning row does operation d m is parts h small acts refines = absurd h
-  one_of_two fine (Some opcode) meaning row does operation d m is parts h small acts refines = let l = small h in two_runs opcode meaning row does operation d m is parts l.0 l.1 acts refines
+  one_of_two : (fine : Bool) (o : Option ℕ) (meaning : Meaning) → TwoRows o meaning → (does operation : Registers → Operation) (d m : ℕ) → form_of (Some s) ≡ Some (Performs false operation no_code) → step_parts s ≡ parts_or (alone_with fine (two_row o d m)) [] → FineOr (alone_with fine (two_row o d m)) ⊥ → (IsTrue fine → (d < 16) × (m < 16)) → ((r : Registers) (p : ℕ) → action meaning (register_fields d m 0) r p ≡ Perform (does r)) → ((r : Registers) → Refines (does r) (operation r)) → NeverStops operation → StepRuns L k
+  one_of_two fine None meaning row does operation d m is parts h small acts refines never = absurd h
+  one_of_two fine (Some opcode) meaning row does operation d m is parts h small acts refines never = let l = small h in two_runs opcode meaning row does operation d m is parts l.0 l.1 acts refines never
 
   -- an operator on three registers: its row of three, or that of two where the first input is the output
   alu_three_runs : (op : ALUOp) (fine : Bool) (d n m : ℕ) → form_of (Some s) ≡ Some (Performs false (computes (alu_three_rule op) (alu_computation op) d n m) no_code) → step_parts s ≡ parts_or (alone_with fine (three_row (alu_three op) (alu_two op) d n m)) [] → FineOr (alone_with fine (three_row (alu_three op) (alu_two op) d n m)) ⊥ → (IsTrue fine → (d < 16) × (n < 16) × (m < 16)) → StepRuns L k
@@ -188,13 +205,13 @@ module _ (L : Layout) (all : AllPlaced L) (k : ℕ) (s : Step) (at : slice_get L
       c = alu_computation op
 
       by_three : (opcode : ℕ) → ThreeRow opcode (computed c ThreeRegisters Set) → step_parts s ≡ Row (rrf_ab opcode d n m 0) ∷ [] → IsTrue fine → StepRuns L k
-      by_three opcode row is_row h = let l = small h in three_runs opcode (computed c ThreeRegisters Set) row (computes Set c d n m) (computes (alu_three_rule op) c d n m) d n m is is_row l.0 l.1 l.2 (λ r p. refl) (λ r. loosens _ Set (alu_three_rule op) (three_looser op))
+      by_three opcode row is_row h = let l = small h in three_runs opcode (computed c ThreeRegisters Set) row (computes Set c d n m) (computes (alu_three_rule op) c d n m) d n m is is_row l.0 l.1 l.2 (λ r p. refl) (λ r. loosens _ Set (alu_three_rule op) (three_looser op)) (computes_always (alu_three_rule op) c d n m)
 
       either : (same : Bool) → nat_eq d n ≡ same → (three : ℕ) → alu_three op ≡ Some three → ThreeRow three (computed c ThreeRegisters Set) → (two : ℕ) → TwoRow two (computed c Register (alu_two_rule op)) → step_parts s ≡ Row (cond same (two_operands two d m) (rrf_ab three d n m 0)) ∷ [] → IsTrue fine → StepRuns L k
       either true e three some row two row2 is_row h =
           let l = small h in
           two_runs two (computed c Register (alu_two_rule op)) row2 (computes (alu_two_rule op) c d d m) (computes (alu_three_rule op) c d n m) d m is is_row l.0 l.2 (λ r p. refl) (λ r.
-          subst (λ i. Refines (computes (alu_two_rule op) c d d m r) (computes (alu_three_rule op) c d i m r)) (eqb-true d n e) (loosens _ (alu_two_rule op) (alu_three_rule op) (two_looser op three some)))
+          subst (λ i. Refines (computes (alu_two_rule op) c d d m r) (computes (alu_three_rule op) c d i m r)) (eqb-true d n e) (loosens _ (alu_two_rule op) (alu_three_rule op) (two_looser op three some))) (computes_always (alu_three_rule op) c d n m)
       either false e three some row two row2 is_row h = by_three three row is_row h
 
       go : (three : Option ℕ) → alu_three op ≡ three → ThreeRows three (computed c ThreeRegisters Set) → (two : Option ℕ) → TwoRows two (computed c Register (alu_two_rule op)) → step_parts s ≡ parts_or (alone_with fine (three_row three two d n m)) [] → FineOr (alone_with fine (three_row three two d n m)) ⊥ → StepRuns L k
@@ -264,17 +281,17 @@ instruction_runs : (L : Layout) → AllPlaced L → (k : ℕ) (i : Inst) → sli
 instruction_runs L all k (AluRRR op rd rn rm) at p fine =
     alu_three_runs L all k (Plain (AluRRR op rd rn rm)) at p op (is_general rd && is_general rn && is_general rm) (number_of rd) (number_of rn) (number_of rm) refl refl fine (three_small rd rn rm)
 instruction_runs L all k (AluRR op rd ri rm) at p fine =
-    one_of_two L all k (Plain (AluRR op rd ri rm)) at p (reuses rd ri && is_general rm) (alu_two op) (computed (alu_computation op) Register (alu_two_rule op)) (alu_two_rows op) (computes (alu_two_rule op) (alu_computation op) (number_of rd) (number_of rd) (number_of rm)) (computes (alu_two_rule op) (alu_computation op) (number_of rd) (number_of rd) (number_of rm)) (number_of rd) (number_of rm) refl refl fine (reused_small rd ri rm) (λ r q. refl) (λ r. exactly _)
+    one_of_two L all k (Plain (AluRR op rd ri rm)) at p (reuses rd ri && is_general rm) (alu_two op) (computed (alu_computation op) Register (alu_two_rule op)) (alu_two_rows op) (computes (alu_two_rule op) (alu_computation op) (number_of rd) (number_of rd) (number_of rm)) (computes (alu_two_rule op) (alu_computation op) (number_of rd) (number_of rd) (number_of rm)) (number_of rd) (number_of rm) refl refl fine (reused_small rd ri rm) (λ r q. refl) (λ r. exactly _) (computes_always (alu_two_rule op) (alu_computation op) (number_of rd) (number_of rd) (number_of rm))
 instruction_runs L all k (UnaryRR op rd rn) at p fine =
-    one_of_two L all k (Plain (UnaryRR op rd rn)) at p (is_general rd && is_general rn) (unary_two op) (computed (unary_computation op) Register (unary_rule op)) (unary_rows op) (computes (unary_rule op) (unary_computation op) (number_of rd) (number_of rd) (number_of rn)) (computes (unary_rule op) (unary_computation op) (number_of rd) (number_of rd) (number_of rn)) (number_of rd) (number_of rn) refl refl fine (two_small rd rn) (λ r q. refl) (λ r. exactly _)
+    one_of_two L all k (Plain (UnaryRR op rd rn)) at p (is_general rd && is_general rn) (unary_two op) (computed (unary_computation op) Register (unary_rule op)) (unary_rows op) (computes (unary_rule op) (unary_computation op) (number_of rd) (number_of rd) (number_of rn)) (computes (unary_rule op) (unary_computation op) (number_of rd) (number_of rd) (number_of rn)) (number_of rd) (number_of rn) refl refl fine (two_small rd rn) (λ r q. refl) (λ r. exactly _) (computes_always (unary_rule op) (unary_computation op) (number_of rd) (number_of rd) (number_of rn))
 instruction_runs L all k (CmpRR op rn rm) at p fine =
-    one_of_two L all k (Plain (CmpRR op rn rm)) at p (is_general rn && is_general rm) (cmp_two op) (Compare (comparison op).sign (comparison op).size (second_register Register (comparison op).second)) (cmp_rows op) (compares (comparison op) (number_of rn) (number_of rm)) (compares (comparison op) (number_of rn) (number_of rm)) (number_of rn) (number_of rm) refl refl fine (two_small rn rm) (λ r q. refl) (λ r. exactly _)
+    one_of_two L all k (Plain (CmpRR op rn rm)) at p (is_general rn && is_general rm) (cmp_two op) (Compare (comparison op).sign (comparison op).size (second_register Register (comparison op).second)) (cmp_rows op) (compares (comparison op) (number_of rn) (number_of rm)) (compares (comparison op) (number_of rn) (number_of rm)) (number_of rn) (number_of rm) refl refl fine (two_small rn rm) (λ r q. refl) (λ r. exactly _) (compares_always (comparison op) (number_of rn) (number_of rm))
 instruction_runs L all k (Mov64 rd rm) at p fine =
-    one_of_two L all k (Plain (Mov64 rd rm)) at p (is_general rd && is_general rm) (Some 0xb904) (computed (on_doublewords Move) Register Kept) lgr_row (computes Kept (on_doublewords Move) (number_of rd) (number_of rd) (number_of rm)) (computes Kept (on_doublewords Move) (number_of rd) (number_of rd) (number_of rm)) (number_of rd) (number_of rm) refl refl fine (two_small rd rm) (λ r q. refl) (λ r. exactly _)
+    one_of_two L all k (Plain (Mov64 rd rm)) at p (is_general rd && is_general rm) (Some 0xb904) (computed (on_doublewords Move) Register Kept) lgr_row (computes Kept (on_doublewords Move) (number_of rd) (number_of rd) (number_of rm)) (computes Kept (on_doublewords Move) (number_of rd) (number_of rd) (number_of rm)) (number_of rd) (number_of rm) refl refl fine (two_small rd rm) (λ r q. refl) (λ r. exactly _) (computes_always Kept (on_doublewords Move) (number_of rd) (number_of rd) (number_of rm))
 instruction_runs L all k (MovPReg rd rm) at p fine =
-    one_of_two L all k (Plain (MovPReg rd rm)) at p (is_general rd && is_general (Real rm)) (Some 0xb904) (computed (on_doublewords Move) Register Kept) lgr_row (computes Kept (on_doublewords Move) (number_of rd) (number_of rd) (number_of (Real rm))) (computes Kept (on_doublewords Move) (number_of rd) (number_of rd) (number_of (Real rm))) (number_of rd) (number_of (Real rm)) refl refl fine (two_small rd (Real rm)) (λ r q. refl) (λ r. exactly _)
+    one_of_two L all k (Plain (MovPReg rd rm)) at p (is_general rd && is_general (Real rm)) (Some 0xb904) (computed (on_doublewords Move) Register Kept) lgr_row (computes Kept (on_doublewords Move) (number_of rd) (number_of rd) (number_of (Real rm))) (computes Kept (on_doublewords Move) (number_of rd) (number_of rd) (number_of (Real rm))) (number_of rd) (number_of (Real rm)) refl refl fine (two_small rd (Real rm)) (λ r q. refl) (λ r. exactly _) (computes_always Kept (on_doublewords Move) (number_of rd) (number_of rd) (number_of (Real rm)))
 instruction_runs L all k (Mov32 rd rm) at p fine =
-    one_of_two L all k (Plain (Mov32 rd rm)) at p (is_general rd && is_general rm) (Some 0x18) (computed (on_words Move) Register Kept) lr_row (computes Kept (on_words Move) (number_of rd) (number_of rd) (number_of rm)) (computes Kept (on_words Move) (number_of rd) (number_of rd) (number_of rm)) (number_of rd) (number_of rm) refl refl fine (two_small rd rm) (λ r q. refl) (λ r. exactly _)
+    one_of_two L all k (Plain (Mov32 rd rm)) at p (is_general rd && is_general rm) (Some 0x18) (computed (on_words Move) Register Kept) lr_row (computes Kept (on_words Move) (number_of rd) (number_of rd) (number_of rm)) (computes Kept (on_words Move) (number_of rd) (number_of rd) (number_of rm)) (number_of rd) (number_of rm) refl refl fine (two_small rd rm) (λ r q. refl) (λ r. exactly _) (computes_always Kept (on_words Move) (number_of rd) (number_of rd) (number_of rm))
 instruction_runs L all k (AluRRSImm16 op rd rn imm) at p fine =
     three_halfword_runs L all k (Plain (AluRRSImm16 op rd rn imm)) at p (is_general rd && is_general rn) (alu_three_halfword op) (alu_halfword op) (on_immediate (alu_computation op) signed_halfword) (alu_two_rule op) (three_halfword_rows op) (halfword_rows op) (number_of rd) (number_of rn) (low_halfword imm) refl refl fine (two_small rd rn) (halfword_bits imm)
 instruction_runs L all k (AluRSImm16 op rd ri imm) at p fine =
@@ -321,10 +338,10 @@ pub step_holds : (L : Layout) → AllPlaced L → (k : ℕ) (s : Step) → slice
 step_holds L all k s at = one_step L k (step_runs_placed L all k s at)
 
 -- every run
-pub headline_holds : (L : Layout) → AllPlaced L → (k : ℕ) → Headline L k
-headline_holds L all = headline_of L (λ k s at. step_holds L all k s at)
+pub turns_hold : (L : Layout) → AllPlaced L → (k : ℕ) → EveryRunOfTurns L k
+turns_hold L all = turns_of L (λ k s at. step_holds L all k s at)
 
 -- from each block's start
 pub block_holds : (L : Layout) → AllPlaced L → (b : ℕ) → IsBlock L b → EveryBlockRun L b
 block_holds L all b is c lies entries n turns len under run =
-    headline_holds L all (L.first_step b) c lies turns (subst (λ p. Run L.image (record { core = c; place = p }) turns) (block_at L all b is) run)
+    turns_hold L all (L.first_step b) c lies turns (subst (λ p. Run L.image (record { core = c; place = p }) turns) (block_at L all b is) run)
