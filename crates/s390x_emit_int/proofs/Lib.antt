@@ -14,3 +14,4 @@ pub mod Lengths
 pub mod FirstCauses
 pub mod Linked
 pub mod Single
+pub mod Example

@@ -1,81 +1,45 @@
--- The job of two blocks meets the premises, and its run is one of the machine.
-use Rattle.std.proofs.Common.{◌≡◌, ℕ, zero, suc, ◌%◌, ◌≤◌, List, [], ◌∷◌, length, Some, None, refl, sym, subst, arith, slice_get}
+-- The function of two blocks meets the premises, and its run is one of the machine.
+use Rattle.std.proofs.Common.{◌≡◌, ℕ, ◌%◌, [], ◌∷◌, ◌++◌, None, refl, sym, subst, arith}
 use Rattle.s390x_format.specs.declared.kind.FormatKind.TheVariants.{Rr, Rre, RilC}
 use Rattle.s390x_format.specs.Layout.{number, bits, SlotsFit}
 use Rattle.s390x_format.specs.Formats.{layout_of, length_of}
 use Rattle.s390x_format.specs.Reading.{be_bytes}
 use Rattle.s390x_format.specs.Fetch.{machine_rows}
 use Rattle.s390x_format.specs.Encoded.{IsEncoded, decoded_of}
-use Rattle.s390x_steps.specs.Steps.{Step, Plain}
+use Rattle.s390x_steps.specs.Causes.{blocks_cause}
+use Rattle.s390x_steps.specs.Image.{function_code}
 use Rattle.s390x_steps.specs.MachineInstruction.{MachineInstruction, bytes_of, rr, rre, ril_c}
-use Rattle.s390x_inst.specs.declared.inst.Inst.TheVariants.{CondBr, Ret}
-use Rattle.s390x_base.specs.Registers.{general}
-use Rattle.s390x_base.specs.declared.regs.Reg.TheVariants.{Real}
+use Rattle.s390x_steps.specs.Ranges.{BlocksInRange}
 use Rattle.s390x_operations.specs.State.{State, Lies, sum64}
 use Rattle.s390x_machine.specs.Fetch.{Found}
+use Rattle.s390x_machine.specs.Functions.{StandsAsCode}
 use Rattle.s390x_machine.specs.Meanings.{meaning_in, meaning_of}
 use Rattle.s390x_machine.specs.Machine.{Event, Went, FetchedActs, MachineStep}
-use Rattle.s390x_machine.specs.Placed.{Placed, AllPlaced, IsBlock}
-use Rattle.s390x_machine.specs.Match.{start}
-use Rattle.s390x_machine.specs.Example.{image, label, adds, first_step, L, core, once, twice, LoopRuns}
+use Rattle.s390x_machine.specs.Example.{image, trees, no_codes, core, once, twice, LoopRuns}
+use Rattle.s390x_machine.proofs.Checked.{checked_steps}
 use Rattle.s390x_machine.proofs.Fetching.{StandsAt, found_at}
 use Rattle.s390x_machine.proofs.Rows.{fits_rr, fits_rre, fits_ril_c, agr_listed, bcr_listed, brcl_listed}
 
-add_bytes : List ℕ
-add_bytes = 0xb9 ∷ 0x08 ∷ 0x00 ∷ 0x24 ∷ []
-
-placed_add : Placed L 0 (Plain adds)
+-- the bytes are the function's code, as emission gives it
+code : image.bytes ≡ function_code trees ++ []
 unfolding number bits layout_of length_of be_bytes
-placed_add = record {
-  earlier = [];
-  later = 0xc0 ∷ 0x44 ∷ 0xff ∷ 0xff ∷ 0xff ∷ 0xfe ∷ 0xc0 ∷ 0xf4 ∷ 0x00 ∷ 0x00 ∷ 0x00 ∷ 0x03 ∷ 0x07 ∷ 0xfe ∷ [];
-  offset = refl;
-  bytes = refl;
-  size = refl;
-  fine = refl;
-}
+code = refl
 
-placed_branches : Placed L 1 (Plain (CondBr (label 0) (label 1) 4))
-unfolding number bits layout_of length_of be_bytes
-placed_branches = record {
-  earlier = 0xb9 ∷ 0x08 ∷ 0x00 ∷ 0x24 ∷ [];
-  later = 0x07 ∷ 0xfe ∷ [];
-  offset = refl;
-  bytes = refl;
-  size = refl;
-  fine = (omega arith, omega arith, (omega arith, omega arith));
-}
+-- emission has no cause against it, and its mask is that of a condition
+pub checked : blocks_cause 2 2 trees ≡ None
+checked = refl
 
-placed_return : Placed L 2 (Plain (Ret (Real (general 14))))
-unfolding number bits layout_of length_of be_bytes
-placed_return = record {
-  earlier = 0xb9 ∷ 0x08 ∷ 0x00 ∷ 0x24 ∷ 0xc0 ∷ 0x44 ∷ 0xff ∷ 0xff ∷ 0xff ∷ 0xfe ∷ 0xc0 ∷ 0xf4 ∷ 0x00 ∷ 0x00 ∷ 0x00 ∷ 0x03 ∷ [];
-  later = [];
-  offset = refl;
-  bytes = refl;
-  size = refl;
-  fine = (refl, refl);
-}
+pub ranges : BlocksInRange trees
+ranges = ((tt, ((omega arith, omega arith), tt)), ((tt, tt), tt))
 
-each_placed : (k : ℕ) (s : Step) → slice_get L.steps k ≡ Some s → Placed L k s
-each_placed zero s e = let same : Plain adds ≡ s = cc in subst (λ x. Placed L 0 x) same placed_add
-each_placed (suc zero) s e = let same : Plain (CondBr (label 0) (label 1) 4) ≡ s = cc in subst (λ x. Placed L 1 x) same placed_branches
-each_placed (suc (suc zero)) s e = let same : Plain (Ret (Real (general 14))) ≡ s = cc in subst (λ x. Placed L 2 x) same placed_return
-each_placed (suc (suc (suc k))) s e = absurd (cc)
-
-first_within : (b : ℕ) → IsBlock L b → first_step b ≤ length L.steps
-first_within zero lt = omega arith
-first_within (suc b) lt = omega arith
-
-pub all_placed : AllPlaced L
-all_placed = record {
+pub stands : StandsAsCode trees image no_codes
+stands = record {
+  constants = [];
+  bytes = code;
   even = refl;
   fits = omega arith;
   short = omega arith;
-  begins = refl;
-  steps = each_placed;
-  first_steps = first_within;
-  blocks = λ b lt. refl;
+  fine = checked_steps trees 2 image no_codes checked ranges;
 }
 
 pub lies : Lies image core.memory
@@ -121,10 +85,10 @@ return_step s t memory at acts = step_at (rr 0x07 15 14) 16 s (Went None) t refl
 pub loop_runs : LoopRuns
 unfolding length_of meaning_in meaning_of
 loop_runs = (
-  all_placed,
+  stands,
   lies,
   (
-    record { may = tt; goes = add_step (start L 0 core) (record { core = once; place = 4100 }) refl refl (record { reached = refl; allowed = refl; results = refl; code = refl; memory = refl }, refl, refl) },
+    record { may = tt; goes = add_step (record { core = core; place = 4096 }) (record { core = once; place = 4100 }) refl refl (record { reached = refl; allowed = refl; results = refl; code = refl; memory = refl }, refl, refl) },
     (
       record { may = tt; goes = first_step_taken (record { core = once; place = 4100 }) (record { core = once; place = 4096 }) refl refl (refl, refl, refl) },
       (

@@ -7,7 +7,7 @@ use Rattle.s390x_steps.specs.Steps.{Step}
 use Rattle.s390x_machine.specs.Machine.{Turn, Run, after_all, all_writes}
 use Rattle.s390x_machine.specs.Forms.{Form, Performs}
 use Rattle.s390x_machine.specs.Typed.{Ending, Ended, At, touches_image, TypedStep, Wrong, form_of, form_at, form_deposit, FormWrong}
-use Rattle.s390x_machine.specs.Match.{Quiet, joined, start, Closes, Allowed, Headline, OneStep, here, on, StepHolds, Runs, waits, silent, goes, stops, ends, lost, StepRuns}
+use Rattle.s390x_machine.specs.Match.{Quiet, joined, start, Closes, Allowed, EveryRunOfTurns, OneStep, here, on, StepHolds, Runs, waits, silent, goes, stops, ends, lost, StepRuns}
 use Rattle.s390x_machine.specs.Layout.{Layout}
 use Rattle.s390x_machine.proofs.Frame.{apart_of}
 
@@ -54,8 +54,8 @@ module _ (L : Layout) (holds : (k : ℕ) → StepHolds L k) where
   outer zero k c lies turns r lt = absurd (omega arith)
   outer (suc n) k c lies turns r lt = inner n (outer n) (length L.steps) k c lies turns r (omega arith) (omega arith)
 
-  pub headline : (k : ℕ) → Headline L k
-  headline k c lies turns r = outer (suc (length turns)) k c lies turns r (omega arith)
+  pub every_run_of_turns : (k : ℕ) → EveryRunOfTurns L k
+  every_run_of_turns k c lies turns r = outer (suc (length turns)) k c lies turns r (omega arith)
 
 -- past the last step the typed run is wrong
 past_end : (L : Layout) (k : ℕ) (c : Core) (turns : List Turn) → slice_get L.steps k ≡ None → OneStep L k c turns
@@ -74,9 +74,9 @@ by_instruction : (L : Layout) → ((k : ℕ) (i : Step) → slice_get L.steps k 
 by_instruction L holds k None e c lies turns r = past_end L k c turns e
 by_instruction L holds k (Some i) e c lies turns r = holds k i e c lies turns r
 
--- the headline, of a proof for each instruction
-pub headline_of : (L : Layout) → ((k : ℕ) (i : Step) → slice_get L.steps k ≡ Some i → StepHolds L k) → (k : ℕ) → Headline L k
-headline_of L holds k = headline L (λ j. by_instruction L holds j (slice_get L.steps j) refl) k
+-- the same, of a proof for each instruction
+pub turns_of : (L : Layout) → ((k : ℕ) (i : Step) → slice_get L.steps k ≡ Some i → StepHolds L k) → (k : ℕ) → EveryRunOfTurns L k
+turns_of L holds k = every_run_of_turns L (λ j. by_instruction L holds j (slice_get L.steps j) refl) k
 
 -- ---- a step by itself, from what the machine does
 

@@ -31,7 +31,7 @@ use Rattle.s390x_steps.specs.Steps.{Step, Plain, Opening, Back, Break}
 use Rattle.s390x_steps.specs.Parts.{ToBlock, ToStep, Row, Branch, parts_size, parts_or, step_parts}
 use Rattle.s390x_steps.specs.Rows.{rows_of}
 use Rattle.s390x_operations.specs.State.{Registers, sum64}
-use Rattle.s390x_operations.specs.Effects.{Refines}
+use Rattle.s390x_operations.specs.Effects.{Refines, refused, MayRefuse, is_selected}
 use Rattle.s390x_operations.specs.declared.effect.Operation.{Operation}
 use Rattle.s390x_operations.specs.declared.effect.CodeRule.{CodeRule}
 use Rattle.s390x_operations.specs.declared.effect.CodeRule.TheVariants.{Kept, Set}
@@ -49,22 +49,23 @@ use Rattle.s390x_machine.specs.declared.meaning.Shape.TheVariants.{Register, Thr
 use Rattle.s390x_machine.specs.declared.meaning.Action.{Action}
 use Rattle.s390x_machine.specs.declared.meaning.Action.TheVariants.{Perform, Branch as BranchAction}
 use Rattle.s390x_machine.specs.Computations.{Computation, Comparison, alu_computation, alu_three_rule, alu_two_rule, unary_computation, unary_rule, comparison, on_words, on_doublewords, word, signed_word, signed_halfword, on_immediate, compares_on_immediate, computes, compares, computes_immediate, compares_immediate, Second, with_rule, operand_of, doubleword, part_mask, half_mask, on_selected, part_operator, at_half, inserts_half, extension, shift_operator, shift_size, shift_rule, shift_computation, shifts, rotate_operator, rotate_rule, rotates_into, rotates_to_test, copies_access, moves_where, moves_immediate_where}
-use Rattle.s390x_machine.specs.Operands.{value_in, based, rotated_operand}
+use Rattle.s390x_machine.specs.Operands.{value_in, based, rotated_operand, performed_where}
 use Rattle.s390x_machine.specs.Forms.{Form, Performs, GoesTo, Chooses, Leads, Silent, no_code}
 use Rattle.s390x_machine.specs.Meanings.{action}
 use Rattle.s390x_machine.specs.Typed.{At, FormStep, form_of, form_at}
-use Rattle.s390x_machine.specs.Match.{StepRuns, StepHolds, Headline, EveryBlockRun, silent}
+use Rattle.s390x_machine.specs.Match.{StepRuns, StepHolds, EveryRunOfTurns, EveryBlockRun, silent}
 use Rattle.s390x_machine.specs.Machine.{Run}
 use Rattle.s390x_machine.specs.Layout.{Layout, place, block_place, InStep}
 use Rattle.s390x_machine.specs.Placed.{Placed, AllPlaced, IsBlock, FineOr, IsFineInstruction, IsFine}
 use Rattle.s390x_machine.proofs.Fetching.{StandsAt}
-use Rattle.s390x_machine.proofs.Simulation.{RowAt, DoesAs, Coded, at_start, general_step}
+use Rattle.s390x_machine.proofs.Simulation.{RowAt, DoesAs, Coded, ValuesCoded, at_start, general_step}
 use Rattle.s390x_machine.proofs.Standing.{step_rows, offset_even, offset_small, inside_at, inside_first, next_place, block_at}
+use Rattle.s390x_machine.proofs.Stops.{never_by_values}
 use Rattle.s390x_machine.proofs.Rows.{general_number, nonzero_number, bcr_at, brcl_at, fits_rrf_cde, fits_rie_f, fits_rie_g, fits_rsy}
 use Rattle.s390x_machine.proofs.Bits.{immediate_at, part_rows, half_rows, load_part_rows, load_half_rows, insert_part_rows, iihf_row, extends, extend_rows, ear_row, shift_meaning, shift_rows, rotate_allows, rotate_rows, any_mask, locr_row, locgr_row, lochi_row, locghi_row, popcnt_row, below, not_below, mask_allowed, rotation_allowed, test_allowed}
 use Rattle.s390x_machine.proofs.Alone.{TwoRow, ThreeRow, TwoRows, ThreeRows, second_register, computed, register_fields, alu_three_rows, alu_two_rows, cmp_rows, unary_rows, lgr_row, lr_row, two_at, three_at, ImmediateRows, compared, halfword_rows, three_halfword_rows, signed_word_rows, unsigned_word_rows, cmp_halfword_rows, cmp_signed_word_rows, cmp_unsigned_word_rows, iilf_row, lhi_row, lghi_row, lgfi_row, halfword_at, word_at, three_halfword_at, compare_halfword_at, compare_word_at, loosens, three_looser, two_looser, Meant, meant_at, ri_a_at, ril_a_at, low_small}
 use Rattle.s390x_machine.proofs.Branches.{jump_runs, TwoBranches, choose_runs, leads_runs, returns_runs, address_runs}
-use Rattle.s390x_machine.proofs.Induction.{headline_of, one_step}
+use Rattle.s390x_machine.proofs.Induction.{turns_of, one_step}
 
 -- ---- the rows of a step of one part or two
 
@@ -79,9 +80,9 @@ one_row L k s p m is =
     record { stands = rows.0; size = p.size ∙ ap (λ ps. L.places.step k + parts_size ps) is ∙ ap (λ n. L.places.step k + n) size }
 
 -- a row by itself, which does the step's operation
-row_alone : (L : Layout) (k : ℕ) (operation : Registers → Operation) (code : StopKind → Option TrapKind) (act : Registers → Action) (size : ℕ) → form_at L k ≡ Some (Performs false operation code) → RowAt L (place L k) act size → ((r : Registers) → DoesAs (act r) (operation r)) → Coded L (place L k) code → L.places.step (suc k) ≡ L.places.step k + size → 0 < size → StepRuns L k
-row_alone L k operation code act size is row does coded e some c lies =
-    general_step L k c [] (place L k) act size false 0 operation code is (at_start L k c (inside_first L k size e some) lies) row (does c.registers) (next_place L k size e) coded
+row_alone : (L : Layout) (k : ℕ) (operation : Registers → Operation) (code : StopKind → Option TrapKind) (act : Registers → Action) (size : ℕ) → form_at L k ≡ Some (Performs false operation code) → RowAt L (place L k) act size → ((r : Registers) → DoesAs (act r) (operation r)) → Coded L (place L k) code → ((r : Registers) → ValuesCoded (operation r) code) → L.places.step (suc k) ≡ L.places.step k + size → 0 < size → StepRuns L k
+row_alone L k operation code act size is row does at coded e some c lies =
+    general_step L k c [] (place L k) act size false 0 operation code is (at_start L k c (inside_first L k size e some) lies) row (does c.registers) (next_place L k size e) at (coded c.registers)
 
 exactly : (op : Operation) → Refines op op
 exactly op = record { access = refl; refused = refl; may_refuse = λ kind h. h; results = λ c r h. h; code = λ c code h. h }
@@ -132,6 +133,26 @@ access_small output a lt = (lt, omega arith)
 uncoded : (L : Layout) (p : ℕ) → Coded L p no_code
 uncoded L p kind n e = absurd (cc)
 
+-- an operation on registers stops by no values
+abbrev NeverStops : (Registers → Operation) → Type 0
+NeverStops operation = (r : Registers) → ValuesCoded (operation r) no_code
+
+computes_always : (rule : CodeRule) (c : Computation) (d n m : ℕ) → NeverStops (computes rule c d n m)
+computes_always rule c d n m r = never_by_values (computes rule c d n m r) no_code refl (λ kind h. h)
+
+computes_immediate_always : (rule : CodeRule) (c : Computation) (d n bits : ℕ) → NeverStops (computes_immediate rule c d n bits)
+computes_immediate_always rule c d n bits r = never_by_values (computes_immediate rule c d n bits r) no_code refl (λ kind h. h)
+
+compares_always : (c : Comparison) (n m : ℕ) → NeverStops (compares c n m)
+compares_always c n m r = never_by_values (compares c n m r) no_code refl (λ kind h. h)
+
+compares_immediate_always : (c : Comparison) (n bits : ℕ) → NeverStops (compares_immediate c n bits)
+compares_immediate_always c n bits r = never_by_values (compares_immediate c n bits r) no_code refl (λ kind h. h)
+
+where_never : (selected : Bool) (op : Operation) (code : StopKind → Option TrapKind) → refused op.effect ≡ None → ((kind : StopKind) → MayRefuse op.effect kind → ⊥) → ValuesCoded (performed_where selected op) code
+where_never true op code none free = never_by_values op code none free
+where_never false op code none free = never_by_values (performed_where false op) code refl (λ kind h. h)
+
 module _ (L : Layout) (all : AllPlaced L) (k : ℕ) (s : Step) (at : slice_get L.steps k ≡ Some s) (placed : Placed L k s) where
   within : suc k ≤ length L.steps
   within = slice_get_within L.steps k s at
@@ -145,43 +166,43 @@ module _ (L : Layout) (all : AllPlaced L) (k : ℕ) (s : Step) (at : slice_get L
   formed : (f : Form) → form_of (Some s) ≡ Some f → form_at L k ≡ Some f
   formed f e = ap form_of at ∙ e
 
-  two_runs : (opcode : ℕ) (meaning : Meaning) → TwoRow opcode meaning → (does operation : Registers → Operation) (d m : ℕ) → form_of (Some s) ≡ Some (Performs false operation no_code) → step_parts s ≡ Row (two_operands opcode d m) ∷ [] → d < 16 → m < 16 → ((r : Registers) (p : ℕ) → action meaning (register_fields d m 0) r p ≡ Perform (does r)) → ((r : Registers) → Refines (does r) (operation r)) → StepRuns L k
-  two_runs opcode meaning row does operation d m is parts ld lm acts refines =
+  two_runs : (opcode : ℕ) (meaning : Meaning) → TwoRow opcode meaning → (does operation : Registers → Operation) (d m : ℕ) → form_of (Some s) ≡ Some (Performs false operation no_code) → step_parts s ≡ Row (two_operands opcode d m) ∷ [] → d < 16 → m < 16 → ((r : Registers) (p : ℕ) → action meaning (register_fields d m 0) r p ≡ Perform (does r)) → ((r : Registers) → Refines (does r) (operation r)) → NeverStops operation → StepRuns L k
+  two_runs opcode meaning row does operation d m is parts ld lm acts refines never =
       let one = one_row L k s placed (two_operands opcode d m) parts in
-      row_alone L k operation no_code (λ r. Perform (does r)) (size_of (two_operands opcode d m)) (formed _ is) (two_at L all (L.places.step k) even opcode meaning row does d m ld lm acts one.stands) refines (uncoded L (place L k)) one.size (two_some opcode d m)
+      row_alone L k operation no_code (λ r. Perform (does r)) (size_of (two_operands opcode d m)) (formed _ is) (two_at L all (L.places.step k) even opcode meaning row does d m ld lm acts one.stands) refines (uncoded L (place L k)) never one.size (two_some opcode d m)
 
-  three_runs : (opcode : ℕ) (meaning : Meaning) → ThreeRow opcode meaning → (does operation : Registers → Operation) (d n m : ℕ) → form_of (Some s) ≡ Some (Performs false operation no_code) → step_parts s ≡ Row (rrf_ab opcode d n m 0) ∷ [] → d < 16 → n < 16 → m < 16 → ((r : Registers) (p : ℕ) → action meaning (register_fields d n m) r p ≡ Perform (does r)) → ((r : Registers) → Refines (does r) (operation r)) → StepRuns L k
+  three_runs : (opcode : ℕ) (meaning : Meaning) → ThreeRow opcode meaning → (does operation : Registers → Operation) (d n m : ℕ) → form_of (Some s) ≡ Some (Performs false operation no_code) → step_parts s ≡ Row (rrf_ab opcode d n m 0) ∷ [] → d < 16 → n < 16 → m < 16 → ((r : Registers) (p : ℕ) → action meaning (register_fields d n m) r p ≡ Perform (does r)) → ((r : Registers) → Refines (does r) (operation r)) → NeverStops operation → StepRuns L k
   unfolding length_of
-  three_runs opcode meaning row does operation d n m is parts ld ln lm acts refines =
+  three_runs opcode meaning row does operation d n m is parts ld ln lm acts refines never =
       let one = one_row L k s placed (rrf_ab opcode d n m 0) parts in
-      row_alone L k operation no_code (λ r. Perform (does r)) 4 (formed _ is) (three_at L all (L.places.step k) even opcode meaning row does d n m ld ln lm acts one.stands) refines (uncoded L (place L k)) one.size (omega arith)
+      row_alone L k operation no_code (λ r. Perform (does r)) 4 (formed _ is) (three_at L all (L.places.step k) even opcode meaning row does d n m ld ln lm acts one.stands) refines (uncoded L (place L k)) never one.size (omega arith)
 
   -- a row of a register and an immediate, which does the step's operation
-  immediate_runs : (m : MachineInstruction) (operation : Registers → Operation) → form_of (Some s) ≡ Some (Performs false operation no_code) → step_parts s ≡ Row m ∷ [] → 0 < size_of m → (StandsAt L.image (L.places.step k) (bytes_of m) → RowAt L (place L k) (λ r. Perform (operation r)) (size_of m)) → StepRuns L k
-  immediate_runs m operation is parts some at_row =
+  immediate_runs : (m : MachineInstruction) (operation : Registers → Operation) → NeverStops operation → form_of (Some s) ≡ Some (Performs false operation no_code) → step_parts s ≡ Row m ∷ [] → 0 < size_of m → (StandsAt L.image (L.places.step k) (bytes_of m) → RowAt L (place L k) (λ r. Perform (operation r)) (size_of m)) → StepRuns L k
+  immediate_runs m operation never is parts some at_row =
       let one = one_row L k s placed m parts in
-      row_alone L k operation no_code (λ r. Perform (operation r)) (size_of m) (formed _ is) (at_row one.stands) (λ r. exactly (operation r)) (uncoded L (place L k)) one.size some
+      row_alone L k operation no_code (λ r. Perform (operation r)) (size_of m) (formed _ is) (at_row one.stands) (λ r. exactly (operation r)) (uncoded L (place L k)) never one.size some
 
   -- an operator with an immediate of 16 bits, or of 32, where it has a row
   one_of_halfword : (fine : Bool) (o : Option ℕ) (c : Computation) (rule : CodeRule) → ImmediateRows RiA 4096 o (computed c Immediate rule) → (d bits : ℕ) → form_of (Some s) ≡ Some (Performs false (computes_immediate rule c d d bits) no_code) → step_parts s ≡ parts_or (alone_with fine (halfword_row o d bits)) [] → FineOr (alone_with fine (halfword_row o d bits)) ⊥ → (IsTrue fine → d < 16) → bits < 2 ^ 16 → StepRuns L k
   unfolding length_of
   one_of_halfword fine None c rule row d bits is parts h small lb = absurd h
-  one_of_halfword fine (Some opcode) c rule row d bits is parts h small lb = immediate_runs (ri_a opcode d bits) (computes_immediate rule c d d bits) is parts (omega arith) (λ st. halfword_at L all (L.places.step k) even opcode c rule row d bits (small h) lb st)
+  one_of_halfword fine (Some opcode) c rule row d bits is parts h small lb = immediate_runs (ri_a opcode d bits) (computes_immediate rule c d d bits) (computes_immediate_always rule c d d bits) is parts (omega arith) (λ st. halfword_at L all (L.places.step k) even opcode c rule row d bits (small h) lb st)
 
   one_of_word : (fine : Bool) (o : Option ℕ) (c : Computation) (rule : CodeRule) → ImmediateRows RilA 4096 o (computed c Immediate rule) → (d bits : ℕ) → form_of (Some s) ≡ Some (Performs false (computes_immediate rule c d d bits) no_code) → step_parts s ≡ parts_or (alone_with fine (word_row o d bits)) [] → FineOr (alone_with fine (word_row o d bits)) ⊥ → (IsTrue fine → d < 16) → bits < 2 ^ 32 → StepRuns L k
   unfolding length_of
   one_of_word fine None c rule row d bits is parts h small lb = absurd h
-  one_of_word fine (Some opcode) c rule row d bits is parts h small lb = immediate_runs (ril_a opcode d bits) (computes_immediate rule c d d bits) is parts (omega arith) (λ st. word_at L all (L.places.step k) even opcode c rule row d bits (small h) lb st)
+  one_of_word fine (Some opcode) c rule row d bits is parts h small lb = immediate_runs (ril_a opcode d bits) (computes_immediate rule c d d bits) (computes_immediate_always rule c d d bits) is parts (omega arith) (λ st. word_at L all (L.places.step k) even opcode c rule row d bits (small h) lb st)
 
   compare_of_halfword : (fine : Bool) (o : Option ℕ) (c : Comparison) → ImmediateRows RiA 4096 o (compared c) → (n bits : ℕ) → form_of (Some s) ≡ Some (Performs false (compares_immediate c n bits) no_code) → step_parts s ≡ parts_or (alone_with fine (halfword_row o n bits)) [] → FineOr (alone_with fine (halfword_row o n bits)) ⊥ → (IsTrue fine → n < 16) → bits < 2 ^ 16 → StepRuns L k
   unfolding length_of
   compare_of_halfword fine None c row n bits is parts h small lb = absurd h
-  compare_of_halfword fine (Some opcode) c row n bits is parts h small lb = immediate_runs (ri_a opcode n bits) (compares_immediate c n bits) is parts (omega arith) (λ st. compare_halfword_at L all (L.places.step k) even opcode c row n bits (small h) lb st)
+  compare_of_halfword fine (Some opcode) c row n bits is parts h small lb = immediate_runs (ri_a opcode n bits) (compares_immediate c n bits) (compares_immediate_always c n bits) is parts (omega arith) (λ st. compare_halfword_at L all (L.places.step k) even opcode c row n bits (small h) lb st)
 
   compare_of_word : (fine : Bool) (o : Option ℕ) (c : Comparison) → ImmediateRows RilA 4096 o (compared c) → (n bits : ℕ) → form_of (Some s) ≡ Some (Performs false (compares_immediate c n bits) no_code) → step_parts s ≡ parts_or (alone_with fine (word_row o n bits)) [] → FineOr (alone_with fine (word_row o n bits)) ⊥ → (IsTrue fine → n < 16) → bits < 2 ^ 32 → StepRuns L k
   unfolding length_of
   compare_of_word fine None c row n bits is parts h small lb = absurd h
-  compare_of_word fine (Some opcode) c row n bits is parts h small lb = immediate_runs (ril_a opcode n bits) (compares_immediate c n bits) is parts (omega arith) (λ st. compare_word_at L all (L.places.step k) even opcode c row n bits (small h) lb st)
+  compare_of_word fine (Some opcode) c row n bits is parts h small lb = immediate_runs (ril_a opcode n bits) (compares_immediate c n bits) (compares_immediate_always c n bits) is parts (omega arith) (λ st. compare_word_at L all (L.places.step k) even opcode c row n bits (small h) lb st)
 
   -- an immediate of 16 bits into another register, or two operands where the input is the output
   three_halfword_runs : (fine : Bool) (three two : Option ℕ) (c : Computation) (rule : CodeRule) → ImmediateRows RieD 65536 three (computed c ThreeImmediate rule) → ImmediateRows RiA 4096 two (computed c Immediate rule) → (d n bits : ℕ) → form_of (Some s) ≡ Some (Performs false (computes_immediate rule c d n bits) no_code) → step_parts s ≡ parts_or (alone_with fine (three_halfword_row three two d n bits)) [] → FineOr (alone_with fine (three_halfword_row three two d n bits)) ⊥ → (IsTrue fine → (d < 16) × (n < 16)) → bits < 2 ^ 16 → StepRuns L k
@@ -189,22 +210,22 @@ module _ (L : Layout) (all : AllPlaced L) (k : ℕ) (s : Step) (at : slice_get L
   three_halfword_runs fine None two c rule row3 row2 d n bits is parts h small lb = absurd h
   three_halfword_runs fine (Some three) None c rule row3 row2 d n bits is parts h small lb =
       let l = small h in
-      immediate_runs (rie_d three d n bits) (computes_immediate rule c d n bits) is parts (omega arith) (λ st. three_halfword_at L all (L.places.step k) even three c rule row3 d n bits l.0 l.1 lb st)
+      immediate_runs (rie_d three d n bits) (computes_immediate rule c d n bits) (computes_immediate_always rule c d n bits) is parts (omega arith) (λ st. three_halfword_at L all (L.places.step k) even three c rule row3 d n bits l.0 l.1 lb st)
   three_halfword_runs fine (Some three) (Some two) c rule row3 row2 d n bits is parts h small lb = go (nat_eq d n) refl parts
     where
       go : (same : Bool) → nat_eq d n ≡ same → step_parts s ≡ Row (cond same (ri_a two d bits) (rie_d three d n bits)) ∷ [] → StepRuns L k
       go true e is_row =
           let l = small h in
           let op : computes_immediate rule c d d bits ≡ computes_immediate rule c d n bits = ap (λ i. computes_immediate rule c d i bits) (eqb-true d n e) in
-          immediate_runs (ri_a two d bits) (computes_immediate rule c d n bits) is is_row (omega arith) (λ st. subst (λ o. RowAt L (place L k) (λ r. Perform (o r)) 4) op (halfword_at L all (L.places.step k) even two c rule row2 d bits l.0 lb st))
+          immediate_runs (ri_a two d bits) (computes_immediate rule c d n bits) (computes_immediate_always rule c d n bits) is is_row (omega arith) (λ st. subst (λ o. RowAt L (place L k) (λ r. Perform (o r)) 4) op (halfword_at L all (L.places.step k) even two c rule row2 d bits l.0 lb st))
       go false e is_row =
           let l = small h in
-          immediate_runs (rie_d three d n bits) (computes_immediate rule c d n bits) is is_row (omega arith) (λ st. three_halfword_at L all (L.places.step k) even three c rule row3 d n bits l.0 l.1 lb st)
+          immediate_runs (rie_d three d n bits) (computes_immediate rule c d n bits) (computes_immediate_always rule c d n bits) is is_row (omega arith) (λ st. three_halfword_at L all (L.places.step k) even three c rule row3 d n bits l.0 l.1 lb st)
 
   -- any row whose action is the step's operation
-  meant_runs : (kind : FormatKind) (allowed : Allowed) (opcode : ℕ) (fields : List ℕ) (meaning : Meaning) (operation : Registers → Operation) → form_of (Some s) ≡ Some (Performs false operation no_code) → step_parts s ≡ Row (record { format = kind; slots = opcode ∷ fields }) ∷ [] → 0 < length_of kind → Meant kind allowed opcode meaning → SlotsFit (layout_of kind) (opcode ∷ fields) → is_allowed allowed (opcode ∷ fields) ≡ true → ((r : Registers) (p : ℕ) → action meaning (fields_of kind (opcode ∷ fields)) r p ≡ Perform (operation r)) → StepRuns L k
-  meant_runs kind allowed opcode fields meaning operation is parts some row fit allows acts =
-      immediate_runs (record { format = kind; slots = opcode ∷ fields }) operation is parts some (λ st. meant_at L all (L.places.step k) even kind allowed opcode fields meaning operation row fit allows acts st)
+  meant_runs : (kind : FormatKind) (allowed : Allowed) (opcode : ℕ) (fields : List ℕ) (meaning : Meaning) (operation : Registers → Operation) → NeverStops operation → form_of (Some s) ≡ Some (Performs false operation no_code) → step_parts s ≡ Row (record { format = kind; slots = opcode ∷ fields }) ∷ [] → 0 < length_of kind → Meant kind allowed opcode meaning → SlotsFit (layout_of kind) (opcode ∷ fields) → is_allowed allowed (opcode ∷ fields) ≡ true → ((r : Registers) (p : ℕ) → action meaning (fields_of kind (opcode ∷ fields)) r p ≡ Perform (operation r)) → StepRuns L k
+  meant_runs kind allowed opcode fields meaning operation never is parts some row fit allows acts =
+      immediate_runs (record { format = kind; slots = opcode ∷ fields }) operation never is parts some (λ st. meant_at L all (L.places.step k) even kind allowed opcode fields meaning operation row fit allows acts st)
 
   -- an operator with an immediate of 16 bits, or of 32, at its place in the register
   placed_halfword : (fine : Bool) (o : Option ℕ) (operator : Operator) (rule : CodeRule) (n : ℕ) → ImmediateRows RiA 4096 o (immediate_at (on_doublewords operator) n rule) → (d bits : ℕ) → form_of (Some s) ≡ Some (Performs false (computes_immediate rule (on_doublewords operator) d d (bits * 2 ^ n)) no_code) → step_parts s ≡ parts_or (alone_with fine (halfword_row o d bits)) [] → FineOr (alone_with fine (halfword_row o d bits)) ⊥ → (IsTrue fine → d < 16) → bits < 2 ^ 16 → StepRuns L k
@@ -212,14 +233,14 @@ module _ (L : Layout) (all : AllPlaced L) (k : ℕ) (s : Step) (at : slice_get L
   placed_halfword fine None operator rule n row d bits is parts h small lb = absurd h
   placed_halfword fine (Some opcode) operator rule n row d bits is parts h small lb =
       let op = computes_immediate rule (on_doublewords operator) d d (bits * 2 ^ n) in
-      immediate_runs (ri_a opcode d bits) op is parts (omega arith) (λ st. ri_a_at L all (L.places.step k) even opcode (immediate_at (on_doublewords operator) n rule) row op d bits (small h) lb (λ r p. ap (λ x. Perform (computes_immediate rule (on_doublewords operator) d d (x * 2 ^ n) r)) (low_small bits (omega (arith, lb)))) st)
+      immediate_runs (ri_a opcode d bits) op (computes_immediate_always rule (on_doublewords operator) d d (bits * 2 ^ n)) is parts (omega arith) (λ st. ri_a_at L all (L.places.step k) even opcode (immediate_at (on_doublewords operator) n rule) row op d bits (small h) lb (λ r p. ap (λ x. Perform (computes_immediate rule (on_doublewords operator) d d (x * 2 ^ n) r)) (low_small bits (omega (arith, lb)))) st)
 
   placed_word : (fine : Bool) (o : Option ℕ) (operator : Operator) (rule : CodeRule) (n : ℕ) → ImmediateRows RilA 4096 o (immediate_at (on_doublewords operator) n rule) → (d bits : ℕ) → form_of (Some s) ≡ Some (Performs false (computes_immediate rule (on_doublewords operator) d d (bits * 2 ^ n)) no_code) → step_parts s ≡ parts_or (alone_with fine (word_row o d bits)) [] → FineOr (alone_with fine (word_row o d bits)) ⊥ → (IsTrue fine → d < 16) → bits < 2 ^ 32 → StepRuns L k
   unfolding length_of
   placed_word fine None operator rule n row d bits is parts h small lb = absurd h
   placed_word fine (Some opcode) operator rule n row d bits is parts h small lb =
       let op = computes_immediate rule (on_doublewords operator) d d (bits * 2 ^ n) in
-      immediate_runs (ril_a opcode d bits) op is parts (omega arith) (λ st. ril_a_at L all (L.places.step k) even opcode (immediate_at (on_doublewords operator) n rule) row op d bits (small h) lb (λ r p. ap (λ x. Perform (computes_immediate rule (on_doublewords operator) d d (x * 2 ^ n) r)) (low_small bits (omega (arith, lb)))) st)
+      immediate_runs (ril_a opcode d bits) op (computes_immediate_always rule (on_doublewords operator) d d (bits * 2 ^ n)) is parts (omega arith) (λ st. ril_a_at L all (L.places.step k) even opcode (immediate_at (on_doublewords operator) n rule) row op d bits (small h) lb (λ r p. ap (λ x. Perform (computes_immediate rule (on_doublewords operator) d d (x * 2 ^ n) r)) (low_small bits (omega (arith, lb)))) st)
 
   -- a half is inserted: the right one by the row of a move of 32 bits
   inserted_half : (fine : Bool) (shift d bits : ℕ) → form_of (Some s) ≡ Some (Performs false (computes_immediate Kept (inserts_half shift) d d (at_half shift bits)) no_code) → step_parts s ≡ parts_or (alone_with fine (word_row (insert_half shift) d bits)) [] → FineOr (alone_with fine (word_row (insert_half shift) d bits)) ⊥ → (IsTrue fine → d < 16) → bits < 2 ^ 32 → StepRuns L k
@@ -238,7 +259,7 @@ module _ (L : Layout) (all : AllPlaced L) (k : ℕ) (s : Step) (at : slice_get L
   shift_runs op fine d n base amount is parts h small =
       let l = small h in
       let byte : low_byte amount < 2 ^ 19 = omega arith in
-      meant_runs Rsy Any (shift_storage op) (d ∷ n ∷ base ∷ 0 ∷ 0 ∷ 0 ∷ 0 ∷ 0 ∷ low_byte amount ∷ []) (shift_meaning op) (shifts op d n base (low_byte amount)) is parts (omega arith) (shift_rows op) (fits_rsy (shift_storage op) d n base (low_byte amount) (shift_rows op).few l.0 l.1 l.2 (omega arith)) refl (λ r p.
+      meant_runs Rsy Any (shift_storage op) (d ∷ n ∷ base ∷ 0 ∷ 0 ∷ 0 ∷ 0 ∷ 0 ∷ low_byte amount ∷ []) (shift_meaning op) (shifts op d n base (low_byte amount)) (λ r. never_by_values (shifts op d n base (low_byte amount) r) no_code refl (λ kind h. h)) is parts (omega arith) (shift_rows op) (fits_rsy (shift_storage op) d n base (low_byte amount) (shift_rows op).few l.0 l.1 l.2 (omega arith)) refl (λ r p.
       ap (λ t. Perform (with_rule (shift_rule op) (Effect.Compute (Shift (shift_operator op)) (shift_size op) d (value_in (shift_size op) r n) (operand_of (shift_computation op).second (based r base (cond t (pos (low_byte amount)) (pos (low_byte amount) -ℤ pos (2 ^ 20)))))))) (below (low_byte amount) (2 ^ 19) byte))
 
   rotate_runs : (op : RxSBGOp) (fine : Bool) (d n start end : ℕ) (amount : ℤ) → form_of (Some s) ≡ Some (Performs false (rotates_into op d n start end (rotation amount)) no_code) → step_parts s ≡ parts_or (alone_with fine (rotated_row (Some (rotate_then op)) d n start end start (rotation amount))) [] → FineOr (alone_with fine (rotated_row (Some (rotate_then op)) d n start end start (rotation amount))) ⊥ → (IsTrue fine → (d < 16) × (n < 16)) → StepRuns L k
@@ -255,7 +276,7 @@ module _ (L : Layout) (all : AllPlaced L) (k : ℕ) (s : Step) (at : slice_get L
           let tests = and_parts (nat_lt start 64) (nat_lt end 64) e in
           let ls = ltb-true start 64 tests.0 in
           let le = ltb-true end 64 tests.1 in
-          meant_runs RieF (rotate_allows op) (rotate_then op) (d ∷ n ∷ 0 ∷ 0 ∷ start ∷ end ∷ am ∷ 0 ∷ 0 ∷ []) (RotateThen (rotate_operator op) (rotate_rule op)) (rotates_into op d n start end am) is parts2 (omega arith) (rotate_rows op) (fits_rie_f (rotate_then op) d n start end am (rotate_rows op).few l.0 l.1 (omega (arith, ls)) (omega (arith, le)) (omega (arith, rotation_small amount))) (rotation_allowed op d n start end am ls le (rotation_small amount)) (λ r p.
+          meant_runs RieF (rotate_allows op) (rotate_then op) (d ∷ n ∷ 0 ∷ 0 ∷ start ∷ end ∷ am ∷ 0 ∷ 0 ∷ []) (RotateThen (rotate_operator op) (rotate_rule op)) (rotates_into op d n start end am) (λ r. never_by_values (rotates_into op d n start end am r) no_code refl (λ kind h. h)) is parts2 (omega arith) (rotate_rows op) (fits_rie_f (rotate_then op) d n start end am (rotate_rows op).few l.0 l.1 (omega (arith, ls)) (omega (arith, le)) (omega (arith, rotation_small amount))) (rotation_allowed op d n start end am ls le (rotation_small amount)) (λ r p.
           ap (λ t. cond t (Perform (rotates_into op d n start end am r)) (Perform (with_rule Set (Effect.Test (SelectedBits (rotate_operator op) (selection (start - 128) end)) Doubleword (r.general d) (rotated_operand r n am))))) (below start 64 ls))
 
   -- the same for the code alone
@@ -274,7 +295,7 @@ module _ (L : Layout) (all : AllPlaced L) (k : ℕ) (s : Step) (at : slice_get L
           let ls = ltb-true start 64 tests.0 in
           let le = ltb-true end 64 tests.1 in
           let back : start + 128 - 128 ≡ start = omega arith in
-          meant_runs RieF (rotate_allows op) (rotate_then op) (d ∷ n ∷ 0 ∷ 0 ∷ (start + 128) ∷ end ∷ am ∷ 0 ∷ 0 ∷ []) (RotateThen (rotate_operator op) (rotate_rule op)) (rotates_to_test op d n start end am) is parts2 (omega arith) (rotate_rows op) (fits_rie_f (rotate_then op) d n (start + 128) end am (rotate_rows op).few l.0 l.1 (omega (arith, ls)) (omega (arith, le)) (omega (arith, rotation_small amount))) (ap (λ a. is_allowed a (rie_f (rotate_then op) d n (start + 128) end am).slots) tests_alone ∙ test_allowed (rotate_then op) d n start end am ls le (rotation_small amount)) (λ r p.
+          meant_runs RieF (rotate_allows op) (rotate_then op) (d ∷ n ∷ 0 ∷ 0 ∷ (start + 128) ∷ end ∷ am ∷ 0 ∷ 0 ∷ []) (RotateThen (rotate_operator op) (rotate_rule op)) (rotates_to_test op d n start end am) (λ r. never_by_values (rotates_to_test op d n start end am r) no_code refl (λ kind h. h)) is parts2 (omega arith) (rotate_rows op) (fits_rie_f (rotate_then op) d n (start + 128) end am (rotate_rows op).few l.0 l.1 (omega (arith, ls)) (omega (arith, le)) (omega (arith, rotation_small amount))) (ap (λ a. is_allowed a (rie_f (rotate_then op) d n (start + 128) end am).slots) tests_alone ∙ test_allowed (rotate_then op) d n start end am ls le (rotation_small amount)) (λ r p.
           ap (λ t. cond t (Perform (with_rule (rotate_rule op) (Effect.Compute (SelectedBits (rotate_operator op) (selection (start + 128) end)) Doubleword d (r.general d) (rotated_operand r n am)))) (Perform (rotates_to_test op d n (start + 128 - 128) end am r))) (not_below (start + 128) 64 (omega arith)) ∙ ap (λ i. Perform (rotates_to_test op d n i end am r)) back)
 
   test_runs : (op : RxSBGOp) (fine : Bool) (d n start end : ℕ) (amount : ℤ) → form_of (Some s) ≡ Some (Performs false (rotates_to_test op d n start end (rotation amount)) no_code) → step_parts s ≡ parts_or (alone_with fine (rotated_row (rotate_then_test op) d n start end (start + 128) (rotation amount))) [] → FineOr (alone_with fine (rotated_row (rotate_then_test op) d n start end (start + 128) (rotation amount))) ⊥ → (IsTrue fine → (d < 16) × (n < 16)) → StepRuns L k
@@ -289,26 +310,26 @@ module _ (L : Layout) (all : AllPlaced L) (k : ℕ) (s : Step) (at : slice_get L
   move_where_runs opcode size second row fine mask d m is parts h small =
       let l = small h in
       let lm : four_bits mask < 16 = omega arith in
-      meant_runs RrfCde any_mask opcode (d ∷ m ∷ 0 ∷ 0 ∷ four_bits mask ∷ 0 ∷ 0 ∷ 0 ∷ 0 ∷ []) (MoveWhere size (second_register Register second)) (moves_where size second (four_bits mask) d m) is parts (omega arith) row (fits_rrf_cde opcode d m (four_bits mask) row.few l.0 l.1 lm) (mask_allowed opcode d m (four_bits mask) lm) (λ r p. refl)
+      meant_runs RrfCde any_mask opcode (d ∷ m ∷ 0 ∷ 0 ∷ four_bits mask ∷ 0 ∷ 0 ∷ 0 ∷ 0 ∷ []) (MoveWhere size (second_register Register second)) (moves_where size second (four_bits mask) d m) (λ r. where_never (is_selected (four_bits mask) r.code) _ no_code refl (λ kind h. h)) is parts (omega arith) row (fits_rrf_cde opcode d m (four_bits mask) row.few l.0 l.1 lm) (mask_allowed opcode d m (four_bits mask) lm) (λ r p. refl)
 
   -- and of an immediate
   move_immediate_where_runs : (opcode : ℕ) (size : Size) → Meant RieG Any opcode (MoveWhere size (second_register Immediate signed_halfword)) → (fine : Bool) (mask d bits : ℕ) → form_of (Some s) ≡ Some (Performs false (moves_immediate_where size (four_bits mask) d bits) no_code) → step_parts s ≡ Row (rie_g opcode d bits (four_bits mask)) ∷ [] → IsTrue fine → (IsTrue fine → d < 16) → bits < 2 ^ 16 → StepRuns L k
   unfolding length_of
   move_immediate_where_runs opcode size row fine mask d bits is parts h small lb =
       let lm : four_bits mask < 16 = omega arith in
-      meant_runs RieG Any opcode (d ∷ 0 ∷ 0 ∷ 0 ∷ four_bits mask ∷ 0 ∷ 0 ∷ bits ∷ 0 ∷ []) (MoveWhere size (second_register Immediate signed_halfword)) (moves_immediate_where size (four_bits mask) d bits) is parts (omega arith) row (fits_rie_g opcode d bits (four_bits mask) row.few (small h) lb lm) refl (λ r p. ap (λ x. Perform (moves_immediate_where size (four_bits mask) d x r)) (low_small bits (omega (arith, lb))))
+      meant_runs RieG Any opcode (d ∷ 0 ∷ 0 ∷ 0 ∷ four_bits mask ∷ 0 ∷ 0 ∷ bits ∷ 0 ∷ []) (MoveWhere size (second_register Immediate signed_halfword)) (moves_immediate_where size (four_bits mask) d bits) (λ r. where_never (is_selected (four_bits mask) r.code) _ no_code refl (λ kind h. h)) is parts (omega arith) row (fits_rie_g opcode d bits (four_bits mask) row.few (small h) lb lm) refl (λ r p. ap (λ x. Perform (moves_immediate_where size (four_bits mask) d x r)) (low_small bits (omega (arith, lb))))
 
   -- a count of the ones of each byte
   count_runs : (fine : Bool) (d n : ℕ) → form_of (Some s) ≡ Some (Performs false (computes Set (on_doublewords PopulationCountByByte) d d n) no_code) → step_parts s ≡ Row (rrf_cde 0xb9e1 d n 0 0) ∷ [] → IsTrue fine → (IsTrue fine → (d < 16) × (n < 16)) → StepRuns L k
   unfolding length_of
   count_runs fine d n is parts h small =
       let l = small h in
-      meant_runs RrfCde CountMode 0xb9e1 (d ∷ n ∷ 0 ∷ 0 ∷ 0 ∷ 0 ∷ 0 ∷ 0 ∷ 0 ∷ []) CountOnes (computes Set (on_doublewords PopulationCountByByte) d d n) is parts (omega arith) popcnt_row (fits_rrf_cde 0xb9e1 d n 0 (omega arith) l.0 l.1 (omega arith)) refl (λ r p. refl)
+      meant_runs RrfCde CountMode 0xb9e1 (d ∷ n ∷ 0 ∷ 0 ∷ 0 ∷ 0 ∷ 0 ∷ 0 ∷ 0 ∷ []) CountOnes (computes Set (on_doublewords PopulationCountByByte) d d n) (computes_always Set (on_doublewords PopulationCountByByte) d d n) is parts (omega arith) popcnt_row (fits_rrf_cde 0xb9e1 d n 0 (omega arith) l.0 l.1 (omega arith)) refl (λ r p. refl)
 
   -- an instruction of one row of two registers, where its operator has one
-  one_of_two : (fine : Bool) (o : Option ℕ) (meaning : Meaning) → TwoRows o meaning → (does operation : Registers → Operation) (d m : ℕ) → form_of (Some s) ≡ Some (Performs false operation no_code) → step_parts s ≡ parts_or (alone_with fine (two_row o d m)) [] → FineOr (alone_with fine (two_row o d m)) ⊥ → (IsTrue fine → (d < 16) × (m < 16)) → ((r : Registers) (p : ℕ) → action meaning (register_fields d m 0) r p ≡ Perform (does r)) → ((r : Registers) → Refines (does r) (operation r)) → StepRuns L k
-  one_of_two fine None meaning row does operation d m is parts h small acts refines = absurd h
-  one_of_two fine (Some opcode) meaning row does operation d m is parts h small acts refines = let l = small h in two_runs opcode meaning row does operation d m is parts l.0 l.1 acts refines
+  one_of_two : (fine : Bool) (o : Option ℕ) (meaning : Meaning) → TwoRows o meaning → (does operation : Registers → Operation) (d m : ℕ) → form_of (Some s) ≡ Some (Performs false operation no_code) → step_parts s ≡ parts_or (alone_with fine (two_row o d m)) [] → FineOr (alone_with fine (two_row o d m)) ⊥ → (IsTrue fine → (d < 16) × (m < 16)) → ((r : Registers) (p : ℕ) → action meaning (register_fields d m 0) r p ≡ Perform (does r)) → ((r : Registers) → Refines (does r) (operation r)) → NeverStops operation → StepRuns L k
+  one_of_two fine None meaning row does operation d m is parts h small acts refines never = absurd h
+  one_of_two fine (Some opcode) meaning row does operation d m is parts h small acts refines never = let l = small h in two_runs opcode meaning row does operation d m is parts l.0 l.1 acts refines never
 
   -- an operator on three registers: its row of three, or that of two where the first input is the output
   alu_three_runs : (op : ALUOp) (fine : Bool) (d n m : ℕ) → form_of (Some s) ≡ Some (Performs false (computes (alu_three_rule op) (alu_computation op) d n m) no_code) → step_parts s ≡ parts_or (alone_with fine (three_row (alu_three op) (alu_two op) d n m)) [] → FineOr (alone_with fine (three_row (alu_three op) (alu_two op) d n m)) ⊥ → (IsTrue fine → (d < 16) × (n < 16) × (m < 16)) → StepRuns L k
@@ -318,13 +339,13 @@ module _ (L : Layout) (all : AllPlaced L) (k : ℕ) (s : Step) (at : slice_get L
       c = alu_computation op
 
       by_three : (opcode : ℕ) → ThreeRow opcode (computed c ThreeRegisters Set) → step_parts s ≡ Row (rrf_ab opcode d n m 0) ∷ [] → IsTrue fine → StepRuns L k
-      by_three opcode row is_row h = let l = small h in three_runs opcode (computed c ThreeRegisters Set) row (computes Set c d n m) (computes (alu_three_rule op) c d n m) d n m is is_row l.0 l.1 l.2 (λ r p. refl) (λ r. loosens _ Set (alu_three_rule op) (three_looser op))
+      by_three opcode row is_row h = let l = small h in three_runs opcode (computed c ThreeRegisters Set) row (computes Set c d n m) (computes (alu_three_rule op) c d n m) d n m is is_row l.0 l.1 l.2 (λ r p. refl) (λ r. loosens _ Set (alu_three_rule op) (three_looser op)) (computes_always (alu_three_rule op) c d n m)
 
       either : (same : Bool) → nat_eq d n ≡ same → (three : ℕ) → alu_three op ≡ Some three → ThreeRow three (computed c ThreeRegisters Set) → (two : ℕ) → TwoRow two (computed c Register (alu_two_rule op)) → step_parts s ≡ Row (cond same (two_operands two d m) (rrf_ab three d n m 0)) ∷ [] → IsTrue fine → StepRuns L k
       either true e three some row two row2 is_row h =
           let l = small h in
           two_runs two (computed c Register (alu_two_rule op)) row2 (computes (alu_two_rule op) c d d m) (computes (alu_three_rule op) c d n m) d m is is_row l.0 l.2 (λ r p. refl) (λ r.
-          subst (λ i. Refines (computes (alu_two_rule op) c d d m r) (computes (alu_three_rule op) c d i m r)) (eqb-true d n e) (loosens _ (alu_two_rule op) (alu_three_rule op) (two_looser op three some)))
+          subst (λ i. Refines (computes (alu_two_rule op) c d d m r) (computes (alu_three_rule op) c d i m r)) (eqb-true d n e) (loosens _ (alu_two_rule op) (alu_three_rule op) (two_looser op three some))) (computes_always (alu_three_rule op) c d n m)
       either false e three some row two row2 is_row h = by_three three row is_row h
 
       go : (three : Option ℕ) → alu_three op ≡ three → ThreeRows three (computed c ThreeRegisters Set) → (two : Option ℕ) → TwoRows two (computed c Register (alu_two_rule op)) → step_parts s ≡ parts_or (alone_with fine (three_row three two d n m)) [] → FineOr (alone_with fine (three_row three two d n m)) ⊥ → StepRuns L k
@@ -394,19 +415,19 @@ instruction_runs : (L : Layout) → AllPlaced L → (k : ℕ) (i : Inst) → sli
 instruction_runs L all k (AluRRR op rd rn rm) at p fine =
     alu_three_runs L all k (Plain (AluRRR op rd rn rm)) at p op (is_general rd && is_general rn && is_general rm) (number_of rd) (number_of rn) (number_of rm) refl refl fine (three_small rd rn rm)
 instruction_runs L all k (AluRR op rd ri rm) at p fine =
-    one_of_two L all k (Plain (AluRR op rd ri rm)) at p (reuses rd ri && is_general rm) (alu_two op) (computed (alu_computation op) Register (alu_two_rule op)) (alu_two_rows op) (computes (alu_two_rule op) (alu_computation op) (number_of rd) (number_of rd) (number_of rm)) (computes (alu_two_rule op) (alu_computation op) (number_of rd) (number_of rd) (number_of rm)) (number_of rd) (number_of rm) refl refl fine (reused_small rd ri rm) (λ r q. refl) (λ r. exactly _)
+    one_of_two L all k (Plain (AluRR op rd ri rm)) at p (reuses rd ri && is_general rm) (alu_two op) (computed (alu_computation op) Register (alu_two_rule op)) (alu_two_rows op) (computes (alu_two_rule op) (alu_computation op) (number_of rd) (number_of rd) (number_of rm)) (computes (alu_two_rule op) (alu_computation op) (number_of rd) (number_of rd) (number_of rm)) (number_of rd) (number_of rm) refl refl fine (reused_small rd ri rm) (λ r q. refl) (λ r. exactly _) (computes_always (alu_two_rule op) (alu_computation op) (number_of rd) (number_of rd) (number_of rm))
 instruction_runs L all k (UnaryRR U.PopcntByte rd rn) at p fine =
     count_runs L all k (Plain (UnaryRR U.PopcntByte rd rn)) at p (is_general rd && is_general rn) (number_of rd) (number_of rn) refl refl fine (two_small rd rn)
 instruction_runs L all k (UnaryRR op rd rn) at p fine =
-    one_of_two L all k (Plain (UnaryRR op rd rn)) at p (is_general rd && is_general rn) (unary_two op) (computed (unary_computation op) Register (unary_rule op)) (unary_rows op) (computes (unary_rule op) (unary_computation op) (number_of rd) (number_of rd) (number_of rn)) (computes (unary_rule op) (unary_computation op) (number_of rd) (number_of rd) (number_of rn)) (number_of rd) (number_of rn) refl refl fine (two_small rd rn) (λ r q. refl) (λ r. exactly _)
+    one_of_two L all k (Plain (UnaryRR op rd rn)) at p (is_general rd && is_general rn) (unary_two op) (computed (unary_computation op) Register (unary_rule op)) (unary_rows op) (computes (unary_rule op) (unary_computation op) (number_of rd) (number_of rd) (number_of rn)) (computes (unary_rule op) (unary_computation op) (number_of rd) (number_of rd) (number_of rn)) (number_of rd) (number_of rn) refl refl fine (two_small rd rn) (λ r q. refl) (λ r. exactly _) (computes_always (unary_rule op) (unary_computation op) (number_of rd) (number_of rd) (number_of rn))
 instruction_runs L all k (CmpRR op rn rm) at p fine =
-    one_of_two L all k (Plain (CmpRR op rn rm)) at p (is_general rn && is_general rm) (cmp_two op) (Compare (comparison op).sign (comparison op).size (second_register Register (comparison op).second)) (cmp_rows op) (compares (comparison op) (number_of rn) (number_of rm)) (compares (comparison op) (number_of rn) (number_of rm)) (number_of rn) (number_of rm) refl refl fine (two_small rn rm) (λ r q. refl) (λ r. exactly _)
+    one_of_two L all k (Plain (CmpRR op rn rm)) at p (is_general rn && is_general rm) (cmp_two op) (Compare (comparison op).sign (comparison op).size (second_register Register (comparison op).second)) (cmp_rows op) (compares (comparison op) (number_of rn) (number_of rm)) (compares (comparison op) (number_of rn) (number_of rm)) (number_of rn) (number_of rm) refl refl fine (two_small rn rm) (λ r q. refl) (λ r. exactly _) (compares_always (comparison op) (number_of rn) (number_of rm))
 instruction_runs L all k (Mov64 rd rm) at p fine =
-    one_of_two L all k (Plain (Mov64 rd rm)) at p (is_general rd && is_general rm) (Some 0xb904) (computed (on_doublewords Move) Register Kept) lgr_row (computes Kept (on_doublewords Move) (number_of rd) (number_of rd) (number_of rm)) (computes Kept (on_doublewords Move) (number_of rd) (number_of rd) (number_of rm)) (number_of rd) (number_of rm) refl refl fine (two_small rd rm) (λ r q. refl) (λ r. exactly _)
+    one_of_two L all k (Plain (Mov64 rd rm)) at p (is_general rd && is_general rm) (Some 0xb904) (computed (on_doublewords Move) Register Kept) lgr_row (computes Kept (on_doublewords Move) (number_of rd) (number_of rd) (number_of rm)) (computes Kept (on_doublewords Move) (number_of rd) (number_of rd) (number_of rm)) (number_of rd) (number_of rm) refl refl fine (two_small rd rm) (λ r q. refl) (λ r. exactly _) (computes_always Kept (on_doublewords Move) (number_of rd) (number_of rd) (number_of rm))
 instruction_runs L all k (MovPReg rd rm) at p fine =
-    one_of_two L all k (Plain (MovPReg rd rm)) at p (is_general rd && is_general (Real rm)) (Some 0xb904) (computed (on_doublewords Move) Register Kept) lgr_row (computes Kept (on_doublewords Move) (number_of rd) (number_of rd) (number_of (Real rm))) (computes Kept (on_doublewords Move) (number_of rd) (number_of rd) (number_of (Real rm))) (number_of rd) (number_of (Real rm)) refl refl fine (two_small rd (Real rm)) (λ r q. refl) (λ r. exactly _)
+    one_of_two L all k (Plain (MovPReg rd rm)) at p (is_general rd && is_general (Real rm)) (Some 0xb904) (computed (on_doublewords Move) Register Kept) lgr_row (computes Kept (on_doublewords Move) (number_of rd) (number_of rd) (number_of (Real rm))) (computes Kept (on_doublewords Move) (number_of rd) (number_of rd) (number_of (Real rm))) (number_of rd) (number_of (Real rm)) refl refl fine (two_small rd (Real rm)) (λ r q. refl) (λ r. exactly _) (computes_always Kept (on_doublewords Move) (number_of rd) (number_of rd) (number_of (Real rm)))
 instruction_runs L all k (Mov32 rd rm) at p fine =
-    one_of_two L all k (Plain (Mov32 rd rm)) at p (is_general rd && is_general rm) (Some 0x18) (computed (on_words Move) Register Kept) lr_row (computes Kept (on_words Move) (number_of rd) (number_of rd) (number_of rm)) (computes Kept (on_words Move) (number_of rd) (number_of rd) (number_of rm)) (number_of rd) (number_of rm) refl refl fine (two_small rd rm) (λ r q. refl) (λ r. exactly _)
+    one_of_two L all k (Plain (Mov32 rd rm)) at p (is_general rd && is_general rm) (Some 0x18) (computed (on_words Move) Register Kept) lr_row (computes Kept (on_words Move) (number_of rd) (number_of rd) (number_of rm)) (computes Kept (on_words Move) (number_of rd) (number_of rd) (number_of rm)) (number_of rd) (number_of rm) refl refl fine (two_small rd rm) (λ r q. refl) (λ r. exactly _) (computes_always Kept (on_words Move) (number_of rd) (number_of rd) (number_of rm))
 instruction_runs L all k (AluRRSImm16 op rd rn imm) at p fine =
     three_halfword_runs L all k (Plain (AluRRSImm16 op rd rn imm)) at p (is_general rd && is_general rn) (alu_three_halfword op) (alu_halfword op) (on_immediate (alu_computation op) signed_halfword) (alu_two_rule op) (three_halfword_rows op) (halfword_rows op) (number_of rd) (number_of rn) (low_halfword imm) refl refl fine (two_small rd rn) (halfword_bits imm)
 instruction_runs L all k (AluRSImm16 op rd ri imm) at p fine =
@@ -442,11 +463,11 @@ instruction_runs L all k (Insert64UImm16Shifted rd ri imm) at p fine =
 instruction_runs L all k (Insert64UImm32Shifted rd ri imm) at p fine =
     inserted_half L all k (Plain (Insert64UImm32Shifted rd ri imm)) at p (reuses rd ri) imm.shift (number_of rd) (low_word (pos imm.bits)) refl refl fine (output_small rd ri) (word_bits (pos imm.bits))
 instruction_runs L all k (Extend rd rn signed from to) at p fine =
-    one_of_two L all k (Plain (Extend rd rn signed from to)) at p (is_general rd && is_general rn) (extend_two signed from to) (extends signed from to) (extend_rows signed from to) (computes Kept (extension signed from to) (number_of rd) (number_of rd) (number_of rn)) (computes Kept (extension signed from to) (number_of rd) (number_of rd) (number_of rn)) (number_of rd) (number_of rn) refl refl fine (two_small rd rn) (λ r q. refl) (λ r. exactly _)
+    one_of_two L all k (Plain (Extend rd rn signed from to)) at p (is_general rd && is_general rn) (extend_two signed from to) (extends signed from to) (extend_rows signed from to) (computes Kept (extension signed from to) (number_of rd) (number_of rd) (number_of rn)) (computes Kept (extension signed from to) (number_of rd) (number_of rd) (number_of rn)) (number_of rd) (number_of rn) refl refl fine (two_small rd rn) (λ r q. refl) (λ r. exactly _) (computes_always Kept (extension signed from to) (number_of rd) (number_of rd) (number_of rn))
 instruction_runs L all k (LoadAR rd ar) at p fine =
-    one_of_two L all k (Plain (LoadAR rd ar)) at p (is_general rd && is_access ar) (Some 0xb24f) (computed (on_words Move) AccessRegister Kept) ear_row (copies_access (number_of rd) (four_bits ar)) (copies_access (number_of rd) (four_bits ar)) (number_of rd) (four_bits ar) refl refl fine (λ h. access_small rd ar (general_number rd (and_parts (is_general rd) (is_access ar) h).0)) (λ r q. refl) (λ r. exactly _)
+    one_of_two L all k (Plain (LoadAR rd ar)) at p (is_general rd && is_access ar) (Some 0xb24f) (computed (on_words Move) AccessRegister Kept) ear_row (copies_access (number_of rd) (four_bits ar)) (copies_access (number_of rd) (four_bits ar)) (number_of rd) (four_bits ar) refl refl fine (λ h. access_small rd ar (general_number rd (and_parts (is_general rd) (is_access ar) h).0)) (λ r q. refl) (λ r. exactly _) (λ r. never_by_values (copies_access (number_of rd) (four_bits ar) r) no_code refl (λ kind h. h))
 instruction_runs L all k (InsertAR rd ri ar) at p fine =
-    one_of_two L all k (Plain (InsertAR rd ri ar)) at p (reuses rd ri && is_access ar) (Some 0xb24f) (computed (on_words Move) AccessRegister Kept) ear_row (copies_access (number_of rd) (four_bits ar)) (copies_access (number_of rd) (four_bits ar)) (number_of rd) (four_bits ar) refl refl fine (λ h. access_small rd ar (output_small rd ri (and_parts (reuses rd ri) (is_access ar) h).0)) (λ r q. refl) (λ r. exactly _)
+    one_of_two L all k (Plain (InsertAR rd ri ar)) at p (reuses rd ri && is_access ar) (Some 0xb24f) (computed (on_words Move) AccessRegister Kept) ear_row (copies_access (number_of rd) (four_bits ar)) (copies_access (number_of rd) (four_bits ar)) (number_of rd) (four_bits ar) refl refl fine (λ h. access_small rd ar (output_small rd ri (and_parts (reuses rd ri) (is_access ar) h).0)) (λ r q. refl) (λ r. exactly _) (λ r. never_by_values (copies_access (number_of rd) (four_bits ar) r) no_code refl (λ kind h. h))
 instruction_runs L all k (ShiftRR op rd rn amount register) at p fine =
     shift_runs L all k (Plain (ShiftRR op rd rn amount register)) at p op (is_general rd && is_general rn && is_general register) (number_of rd) (number_of rn) (number_of register) amount refl refl fine (three_small rd rn register)
 instruction_runs L all k (RxSBG op rd ri rn start end amount) at p fine =
@@ -485,10 +506,10 @@ pub step_holds : (L : Layout) → AllPlaced L → (k : ℕ) (s : Step) → slice
 step_holds L all k s at = one_step L k (step_runs_placed L all k s at)
 
 -- every run
-pub headline_holds : (L : Layout) → AllPlaced L → (k : ℕ) → Headline L k
-headline_holds L all = headline_of L (λ k s at. step_holds L all k s at)
+pub turns_hold : (L : Layout) → AllPlaced L → (k : ℕ) → EveryRunOfTurns L k
+turns_hold L all = turns_of L (λ k s at. step_holds L all k s at)
 
 -- from each block's start
 pub block_holds : (L : Layout) → AllPlaced L → (b : ℕ) → IsBlock L b → EveryBlockRun L b
 block_holds L all b is c lies entries n turns len under run =
-    headline_holds L all (L.first_step b) c lies turns (subst (λ p. Run L.image (record { core = c; place = p }) turns) (block_at L all b is) run)
+    turns_hold L all (L.first_step b) c lies turns (subst (λ p. Run L.image (record { core = c; place = p }) turns) (block_at L all b is) run)

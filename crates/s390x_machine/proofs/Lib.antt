@@ -8,6 +8,7 @@ pub mod Functions
 pub mod Induction
 pub mod Simulation
 pub mod Standing
+pub mod Stops
 pub mod Reaching
 pub mod Reading
 pub mod Rows

@@ -1,16 +1,16 @@
 -- Inside one step: the machine's turns, one row after another.
-use Rattle.std.proofs.Common.{◌≡◌, ℕ, suc, ◌≤◌, inl, inr, List, [], ◌∷◌, ◌++◌, length, Option, Some, None, Bool, if◌then◌else◌, refl, sym, ap, ◌∙◌, subst, arith, append_assoc, append-nil, length-append}
+use Rattle.std.proofs.Common.{◌≡◌, ℕ, suc, ◌≤◌, ◌⊎◌, inl, inr, List, [], ◌∷◌, ◌++◌, length, Option, Some, None, Bool, if◌then◌else◌, refl, sym, ap, ◌∙◌, subst, arith, append_assoc, append-nil, length-append}
 use Rattle.s390x_base.specs.declared.trap.TrapKind.{TrapKind}
 use Rattle.s390x_operations.specs.State.{Registers, Memory, Core, coded, State, Write, written, sum64, Lies, Apart}
 use Rattle.s390x_operations.specs.Access.{fault, deposit}
-use Rattle.s390x_operations.specs.Effects.{access, is_selected, Goes, Stops, Refines}
+use Rattle.s390x_operations.specs.Effects.{access, refused, MayRefuse, is_selected, Goes, Stops, Refines}
 use Rattle.s390x_operations.specs.declared.effect.Operation.{Operation}
 use Rattle.s390x_operations.specs.declared.stop.StopKind.{StopKind}
 use Rattle.s390x_machine.specs.declared.meaning.Action.{Action}
 use Rattle.s390x_machine.specs.declared.meaning.Action.TheVariants.{Perform, Branch, BranchAndSave}
 use Rattle.s390x_machine.specs.Machine.{Event, Went, Stopped, Acts, MachineStep, Turn, before, Takes, Run, after_all, all_writes}
 use Rattle.s390x_machine.specs.Forms.{Performs}
-use Rattle.s390x_machine.specs.Typed.{Ending, Trapped, At, Ended, loosened, loosen, goes_on, traps, stops_uncoded, FormStep, FormWrong, TypedStep, form_at, form_deposit, typed_deposit}
+use Rattle.s390x_machine.specs.Typed.{Ending, Trapped, At, Ended, loosened, loosen, goes_on, traps, OperationWrong, faults_uncoded, FormStep, FormWrong, TypedStep, form_at, form_deposit, typed_deposit}
 use Rattle.s390x_machine.specs.Match.{Quiet, start, code_at_place, Closes, Runs, waits, goes, ends, stops}
 use Rattle.s390x_machine.specs.Layout.{Layout, place, InStep}
 use Rattle.s390x_machine.proofs.Frame.{lies_written, lies_deposited, written_append}
@@ -142,30 +142,43 @@ acts_as (BranchAndSave link target) op size s event t f h = absurd f
 abbrev pub Coded : Layout → ℕ → (StopKind → Option TrapKind) → Type 0
 Coded L p code = (kind : StopKind) (n : TrapKind) → code kind ≡ Some n → code_at_place L p kind ≡ Some n
 
-stop_ends : (L : Layout) (k : ℕ) (c : Core) (g rest : List Turn) (t : Turn) (p : ℕ) (needs : Bool) (v : ℕ) (operation : Registers → Operation) (code : StopKind → Option TrapKind) (o : Option TrapKind) (kind : StopKind) → form_at L k ≡ Some (Performs needs operation code) → Inside L k c g (loosened needs v c.registers) p → Coded L p code → t.event ≡ Stopped kind → Stops (operation c.registers) c.memory.has kind → code kind ≡ o → Runs L k c (g ++ t ∷ rest)
-stop_ends L k c g rest t p needs v operation code None kind is i at e h none =
-    stops g rest t kind refl i.quiet e (subst (λ f. FormWrong L f c) (sym is) (stops_uncoded kind h none))
-stop_ends L k c g rest t p needs v operation code (Some n) kind is i at e h some =
+-- each stop that the operation's values may bring about has a code; a fault of its access may have none
+abbrev pub ValuesCoded : Operation → (StopKind → Option TrapKind) → Type 0
+ValuesCoded op code = (kind : StopKind) → (refused op.effect ≡ Some kind) ⊎ MayRefuse op.effect kind → (n : TrapKind) × (code kind ≡ Some n)
+
+-- a stop without a code is the access's
+uncoded_wrong : (L : Layout) (op : Operation) (code : StopKind → Option TrapKind) (c : Core) (kind : StopKind) → ValuesCoded op code → code kind ≡ None → Stops op c.memory.has kind → OperationWrong L.image op code c
+uncoded_wrong L op code c kind coded none (inl e) = faults_uncoded kind e none
+uncoded_wrong L op code c kind coded none (inr (e, by)) = let x = coded kind by in absurd (some_none x.0 (sym x.1 ∙ none))
+  where
+    some_none : (n : TrapKind) → Some n ≡ None → ⊥
+    some_none n h = cc
+
+stop_ends : (L : Layout) (k : ℕ) (c : Core) (g rest : List Turn) (t : Turn) (p : ℕ) (needs : Bool) (v : ℕ) (operation : Registers → Operation) (code : StopKind → Option TrapKind) (o : Option TrapKind) (kind : StopKind) → form_at L k ≡ Some (Performs needs operation code) → Inside L k c g (loosened needs v c.registers) p → Coded L p code → ValuesCoded (operation c.registers) code → t.event ≡ Stopped kind → Stops (operation c.registers) c.memory.has kind → code kind ≡ o → Runs L k c (g ++ t ∷ rest)
+stop_ends L k c g rest t p needs v operation code None kind is i at coded e h none =
+    stops g rest t kind refl i.quiet e (subst (λ f. FormWrong L f c) (sym is) (uncoded_wrong L (operation c.registers) code c kind coded none h))
+stop_ends L k c g rest t p needs v operation code (Some n) kind is i at coded e h some =
     let x = loosen needs v (written (all_writes g) c) in
     let step : TypedStep L k (written (all_writes g) c) (Ended (Trapped n)) x = subst (λ f. FormStep L f k (written (all_writes g) c) (Ended (Trapped n)) x) (sym is) (traps v kind n h some refl refl) in
     let few : length g ≤ 4 = omega (arith, i.few) in
     ended L k c g (t ∷ rest) (Trapped n) x few i.quiet step (ap (λ (s : State). s.core) i.lands, (kind, e, subst (λ (s : State). code_at_place L s.place kind ≡ Some n) (sym i.lands) (at kind n some)))
 
-row_turn : (L : Layout) (k : ℕ) (c : Core) (g rest : List Turn) (t : Turn) (p : ℕ) (act : Registers → Action) (size : ℕ) (needs : Bool) (v : ℕ) (operation : Registers → Operation) (code : StopKind → Option TrapKind) → form_at L k ≡ Some (Performs needs operation code) → Inside L k c g (loosened needs v c.registers) p → Turned L c g (loosened needs v c.registers) p act size t → sum64 p size ≡ place L (suc k) → Coded L p code → (event : Event) → t.event ≡ event → Acts (Perform (operation c.registers)) size (mid c (loosened needs v c.registers) (all_writes (g ++ t ∷ [])) p) event t.after → Runs L k c (g ++ t ∷ rest)
-row_turn L k c g rest t p act size needs v operation code is i u next at (Went x) e acts =
+row_turn : (L : Layout) (k : ℕ) (c : Core) (g rest : List Turn) (t : Turn) (p : ℕ) (act : Registers → Action) (size : ℕ) (needs : Bool) (v : ℕ) (operation : Registers → Operation) (code : StopKind → Option TrapKind) → form_at L k ≡ Some (Performs needs operation code) → Inside L k c g (loosened needs v c.registers) p → Turned L c g (loosened needs v c.registers) p act size t → sum64 p size ≡ place L (suc k) → Coded L p code → ValuesCoded (operation c.registers) code → (event : Event) → t.event ≡ event → Acts (Perform (operation c.registers)) size (mid c (loosened needs v c.registers) (all_writes (g ++ t ∷ [])) p) event t.after → Runs L k c (g ++ t ∷ rest)
+row_turn L k c g rest t p act size needs v operation code is i u next at coded (Went x) e acts =
     let w = written (all_writes (g ++ t ∷ [])) c in
     let op = operation c.registers in
     let step : TypedStep L k w (At (suc k)) t.after.core = subst (λ f. FormStep L f k w (At (suc k)) t.after.core) (sym is) (goes_on v acts.0 refl) in
     let same : typed_deposit L k w ≡ deposit (access op.effect) w.memory = ap (λ f. form_deposit f w) is in
     done L k c g (loosened needs v c.registers) p act size t rest (suc k) t.after.core i u (e ∙ ap Went (acts.2 ∙ sym same)) (λ j. record { core = t.after.core; place = (acts.1 ∙ next) j }) (λ out.
     subst (λ (m : Memory). Lies L.image m) (sym acts.0.memory) (lies_deposited L.image (deposit (access op.effect) w.memory) w.memory u.lies (subst (λ x. Apart L.image x) same out))) step
-row_turn L k c g rest t p act size needs v operation code is i u next at (Stopped kind) e acts =
-    stop_ends L k c g rest t p needs v operation code (code kind) kind is i at e acts.0 refl
+row_turn L k c g rest t p act size needs v operation code is i u next at coded (Stopped kind) e acts =
+    stop_ends L k c g rest t p needs v operation code (code kind) kind is i at coded e acts.0 refl
 
--- A step whose last row does its operation runs as that step: a row on registers alone, one with a memory access, or one that may stop.
-pub general_step : (L : Layout) (k : ℕ) (c : Core) (g : List Turn) (p : ℕ) (act : Registers → Action) (size : ℕ) (needs : Bool) (v : ℕ) (operation : Registers → Operation) (code : StopKind → Option TrapKind) → form_at L k ≡ Some (Performs needs operation code) → Inside L k c g (loosened needs v c.registers) p → RowAt L p act size → DoesAs (act (loosened needs v c.registers)) (operation c.registers) → sum64 p size ≡ place L (suc k) → Coded L p code → Simulates L k c g (loosened needs v c.registers) p
-general_step L k c g p act size needs v operation code is i row does next at =
+-- A step whose last row does its operation runs as that step: a row on registers alone, one with a memory access, which may fault with or
+-- without a code, or one that stops by its values, with a code.
+pub general_step : (L : Layout) (k : ℕ) (c : Core) (g : List Turn) (p : ℕ) (act : Registers → Action) (size : ℕ) (needs : Bool) (v : ℕ) (operation : Registers → Operation) (code : StopKind → Option TrapKind) → form_at L k ≡ Some (Performs needs operation code) → Inside L k c g (loosened needs v c.registers) p → RowAt L p act size → DoesAs (act (loosened needs v c.registers)) (operation c.registers) → sum64 p size ≡ place L (suc k) → Coded L p code → ValuesCoded (operation c.registers) code → Simulates L k c g (loosened needs v c.registers) p
+general_step L k c g p act size needs v operation code is i row does next at coded =
     let r = loosened needs v c.registers in
     peel L k c g r p i (λ t s rest run.
     let u = turned L k c g r p act size t i row s in
-    row_turn L k c g rest t p act size needs v operation code is i u next at t.event refl (acts_as (act r) (operation c.registers) size (mid c r (all_writes (g ++ t ∷ [])) p) t.event t.after does u.acts))
+    row_turn L k c g rest t p act size needs v operation code is i u next at coded t.event refl (acts_as (act r) (operation c.registers) size (mid c r (all_writes (g ++ t ∷ [])) p) t.event t.after does u.acts))

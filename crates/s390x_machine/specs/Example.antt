@@ -1,18 +1,19 @@
--- A job of two blocks in memory at 4096, and a run of it. The first block adds `%r4` to `%r2` and begins again where the sum is negative; the second one returns.
-use Rattle.std.specs.Prelude.{ℕ, zero, suc, ◌-◌, List, [], ◌∷◌, None, if◌then◌else◌, ◌==◌, slice_index}
+-- A function of two blocks in memory at 4096, and a run of it. The first block adds `%r4` to `%r2` and begins again where the sum is negative; the second one returns.
+use Rattle.std.specs.Prelude.{ℕ, ◌-◌, List, [], ◌∷◌, Option, None, if◌then◌else◌, ◌==◌, slice_index}
 use Rattle.s390x_base.specs.Registers.{general}
 use Rattle.s390x_base.specs.declared.regs.Reg.TheVariants.{Real}
 use Rattle.s390x_base.specs.declared.ir.MachLabel.{MachLabel}
+use Rattle.s390x_base.specs.declared.trap.TrapKind.{TrapKind}
 use Rattle.s390x_inst.specs.declared.ops.ALUOp.TheVariants.{Add64}
 use Rattle.s390x_inst.specs.declared.inst.Inst.{Inst}
 use Rattle.s390x_inst.specs.declared.inst.Inst.TheVariants.{AluRRR, CondBr, Ret}
-use Rattle.s390x_steps.specs.Steps.{Step, Plain}
+use Rattle.s390x_steps.specs.Tree.{Tree, empty, leaf}
 use Rattle.s390x_operations.specs.State.{Registers, Core, CodeImage, is_within, Lies, put, coded}
 use Rattle.s390x_operations.specs.declared.stop.ConditionCode.TheVariants.{Code0, Code1}
 use Rattle.s390x_machine.specs.Machine.{Turn, Went, Run}
-use Rattle.s390x_machine.specs.Layout.{Layout}
-use Rattle.s390x_machine.specs.Placed.{AllPlaced}
-use Rattle.s390x_machine.specs.Match.{start}
+use Rattle.s390x_operations.specs.declared.stop.StopKind.{StopKind}
+use Rattle.s390x_machine.specs.Layout.{block_place}
+use Rattle.s390x_machine.specs.Functions.{function_layout, StandsAsCode}
 
 -- agr %r2, %r4; jgl to the first block; jg to the second one; br %r14: as an assembler gives them
 abbrev pub image : CodeImage
@@ -27,28 +28,12 @@ label n = record { 0 = n }
 abbrev pub adds : Inst
 adds = AluRRR Add64 (Real (general 2)) (Real (general 2)) (Real (general 4))
 
-abbrev pub steps : List Step
-steps = Plain adds ∷ Plain (CondBr (label 0) (label 1) 4) ∷ Plain (Ret (Real (general 14))) ∷ []
+abbrev pub trees : List Tree
+trees = leaf adds (leaf (CondBr (label 0) (label 1) 4) empty) ∷ leaf (Ret (Real (general 14))) empty ∷ []
 
-abbrev pub offset : ℕ → ℕ
-offset zero = 0
-offset (suc zero) = 4
-offset (suc (suc zero)) = 16
-offset (suc (suc (suc k))) = 18
-
-abbrev pub first_step : ℕ → ℕ
-first_step zero = 0
-first_step (suc b) = 2
-
-abbrev pub L : Layout
-L = record {
-  image = image;
-  steps = steps;
-  places = record { step = offset; block = λ b. offset (first_step b) };
-  block_count = 2;
-  first_step = first_step;
-  code_at = λ o kind. None;
-}
+-- no stop has a code
+abbrev pub no_codes : ℕ → StopKind → Option TrapKind
+no_codes offset kind = None
 
 -- `%r2` is -2, `%r4` is 1 and `%r14` is 8192
 abbrev pub registers : Registers
@@ -79,5 +64,6 @@ turn c place = record { writes = []; event = Went None; after = record { core = 
 abbrev pub turns : List Turn
 turns = turn once 4100 ∷ turn once 4096 ∷ turn twice 4100 ∷ turn twice 4106 ∷ turn twice 4112 ∷ turn twice 8192 ∷ []
 
+-- the image is the function's code and lies in memory, and the machine runs so from the first block
 abbrev pub LoopRuns : Type 0
-LoopRuns = AllPlaced L × Lies image core.memory × Run image (start L 0 core) turns
+LoopRuns = StandsAsCode trees image no_codes × Lies image core.memory × Run image (record { core = core; place = block_place (function_layout trees image no_codes) 0 }) turns

@@ -70,7 +70,7 @@ pub record Allowed (L : Layout) (k : ℕ) (c : Core) (turns : List Turn) : Type 
   pub run : TypedRun L (At k) c groups position core
   pub closes : Closes L position core (after_all (start L k c) (joined groups)) rest
 
--- ---- the headline
+-- ---- every run
 
 -- the entries of a list of others' writes come one before each turn, and empty ones past its end
 abbrev pub Under : List (List Write) → List Turn → Type 0
@@ -89,8 +89,8 @@ EveryBlockRun L b =
     (c : Core) → Lies L.image c.memory → (entries : List (List Write)) (n : ℕ) (turns : List Turn) → length turns ≡ n → Under entries turns → Run L.image (record { core = c; place = block_place L b }) turns → Allowed L (L.first_step b) c turns
 
 -- the same, without the entries: the turns have their writes
-abbrev pub Headline : Layout → ℕ → Type 0
-Headline L k = (c : Core) → Lies L.image c.memory → (turns : List Turn) → Run L.image (start L k c) turns → Allowed L k c turns
+abbrev pub EveryRunOfTurns : Layout → ℕ → Type 0
+EveryRunOfTurns L k = (c : Core) → Lies L.image c.memory → (turns : List Turn) → Run L.image (start L k c) turns → Allowed L k c turns
 
 -- ---- one step
 

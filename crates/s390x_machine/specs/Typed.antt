@@ -4,7 +4,7 @@ use Rattle.s390x_base.specs.declared.ir.MachLabel.{MachLabel}
 use Rattle.s390x_base.specs.declared.trap.TrapKind.{TrapKind}
 use Rattle.s390x_steps.specs.Steps.{Step}
 use Rattle.s390x_operations.specs.State.{Registers, Core, put, coded, CodeImage, Deposit}
-use Rattle.s390x_operations.specs.Access.{deposit, stores_into}
+use Rattle.s390x_operations.specs.Access.{deposit, fault, stores_into}
 use Rattle.s390x_operations.specs.Effects.{access, is_selected, Goes, Stops}
 use Rattle.s390x_operations.specs.declared.stop.StopKind.{StopKind}
 use Rattle.s390x_operations.specs.declared.stop.ConditionCode.{ConditionCode}
@@ -97,9 +97,9 @@ form_at L k = form_of (slice_get L.steps k)
 abbrev pub TypedStep : Layout → ℕ → Core → Position → Core → Type 0
 TypedStep L k c position t = FormStep L (form_at L k) k c position t
 
--- a stop without a code, or a store, or a locked access, whose operand has a byte of the image
+-- a fault of an access that has no code; or a store, or a locked access, whose operand has a byte of the image
 pub data OperationWrong (image : CodeImage) (op : Operation) (code : StopKind → Option TrapKind) (c : Core) : Type 0 where
-  stops_uncoded : (kind : StopKind) → Stops op c.memory.has kind → code kind ≡ None → OperationWrong image op code c
+  faults_uncoded : (kind : StopKind) → fault (access op.effect) c.memory.has ≡ Some kind → code kind ≡ None → OperationWrong image op code c
   touches_image : IsTrue (stores_into image (access op.effect)) → OperationWrong image op code c
 
 -- a jump by a table is wrong where the mask doesn't select the code and there is no target

@@ -49,7 +49,7 @@ pub fn one_instruction()
     ensures { (m : Memory) (p : ℕ) (f g : Fetched) → Fetches m p f → Fetches m p g → f ≡ g }
 {}
 
-/// The premises can be met: a job of two blocks in memory, and a run of it that goes round a loop, leaves it and returns.
+/// The premises can be met: the code of a function of two blocks in memory, and a run of it that goes round a loop, leaves it and returns.
 pub fn a_loop_runs()
     ensures { LoopRuns }
 {}

@@ -1,0 +1,28 @@
+-- The theorem about linked code isn't empty: a function, its finished code, a base and a machine that meet its premises.
+use Rattle.std.specs.Prelude.{◌≡◌, [], None}
+use Rattle.s390x_buffer.specs.declared.entries.MachBufferFinalized.{MachBufferFinalized}
+use Rattle.s390x_image.specs.Causes.{link_cause}
+use Rattle.s390x_image.specs.Symbols.{no_symbols}
+use Rattle.s390x_steps.specs.Ranges.{BlocksInRange}
+use Rattle.s390x_operations.specs.State.{CodeImage, Lies}
+use Rattle.s390x_machine.specs.Machine.{Run}
+use Rattle.s390x_machine.specs.Layout.{block_place}
+use Rattle.s390x_machine.specs.Functions.{function_layout}
+use Rattle.s390x_machine.specs.Example.{trees, core, turns}
+use Rattle.s390x_emit_int.specs.Function.{checked_cause, IsImage}
+use Rattle.s390x_emit_int.specs.Headline.{no_trap_code}
+
+-- finished code at 4096
+abbrev pub linked_at_4096 : MachBufferFinalized → CodeImage
+linked_at_4096 code = record { base = 4096; bytes = code.bytes.items }
+
+-- The function of two blocks has no cause, this is its finished code, and linking has no cause; the code lies in memory, and a run of the machine
+-- from the first block goes round the loop, leaves it and returns.
+pub record LinkedLoopRuns : Type 0 where
+  pub code : MachBufferFinalized
+  pub checked : checked_cause trees [] ≡ None
+  pub masks : BlocksInRange trees
+  pub finished : IsImage trees [] code
+  pub linked : link_cause code 4096 no_symbols ≡ None
+  pub lies : Lies (linked_at_4096 code) core.memory
+  pub run : Run (linked_at_4096 code) (record { core = core; place = block_place (function_layout trees (linked_at_4096 code) no_trap_code) 0 }) turns
