@@ -2,7 +2,7 @@
 use Rattle.std.specs.Prelude.{ℕ}
 use Rattle.s390x_base.specs.Regs.{number_of}
 use Rattle.s390x_inst.specs.declared.inst.Inst.{Inst}
-use Rattle.s390x_inst.specs.declared.inst.Inst.TheVariants.{AluRUImm16Shifted, AluRUImm32Shifted, ShiftRR, RxSBG, RxSBGTest, Mov64, MovPReg, Mov32, Mov32Imm, Mov32SImm16, Mov64SImm16, Mov64SImm32, Mov64UImm16Shifted, Mov64UImm32Shifted, Insert64UImm16Shifted, Insert64UImm32Shifted, CMov32, CMov64, CMov32SImm16, CMov64SImm16, Extend, LoadAR, InsertAR}
+use Rattle.s390x_inst.specs.declared.inst.Inst.TheVariants.{AluRUImm16Shifted, AluRUImm32Shifted, SMulWide, UMulWide, Flogr, ShiftRR, RxSBG, RxSBGTest, Mov64, MovPReg, Mov32, Mov32Imm, Mov32SImm16, Mov64SImm16, Mov64SImm32, Mov64UImm16Shifted, Mov64UImm32Shifted, Insert64UImm16Shifted, Insert64UImm32Shifted, CMov32, CMov64, CMov32SImm16, CMov64SImm16, Extend, LoadAR, InsertAR, Fence, Nop2}
 use Rattle.s390x_steps.specs.MachineInstruction.{MachineInstruction, rr, rre, rrf_ab, rrf_cde, ri_a, rie_d, rie_f, rie_g, ril_a, rsy}
 use Rattle.s390x_steps.specs.General.{four_bits}
 use Rattle.s390x_steps.specs.Alone.{Alone}
@@ -35,6 +35,9 @@ alone_of x = record { row = instruction_of x.row; fine = x.fine }
 abbrev pub group_of : Inst → Group
 group_of (AluRUImm16Shifted op rd ri imm) = Bits
 group_of (AluRUImm32Shifted op rd ri imm) = Bits
+group_of (SMulWide rd rn rm) = Bits
+group_of (UMulWide rd ri rn) = Bits
+group_of (Flogr rd rn) = Bits
 group_of (ShiftRR op rd rn amount register) = Bits
 group_of (RxSBG op rd ri rn start end amount) = Bits
 group_of (RxSBGTest op rd rn start end amount) = Bits
@@ -56,4 +59,6 @@ group_of (CMov64SImm16 rd mask ri imm) = Moves
 group_of (Extend rd rn signed from to) = Moves
 group_of (LoadAR rd ar) = Moves
 group_of (InsertAR rd ri ar) = Moves
+group_of Fence = Moves
+group_of Nop2 = Moves
 group_of _ = Arithmetic

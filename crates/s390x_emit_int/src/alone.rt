@@ -630,6 +630,9 @@ fn find_group(inst: &Inst) -> Group
     match inst {
         Inst::AluRUImm16Shifted { .. }
         | Inst::AluRUImm32Shifted { .. }
+        | Inst::SMulWide { .. }
+        | Inst::UMulWide { .. }
+        | Inst::Flogr { .. }
         | Inst::ShiftRR { .. }
         | Inst::RxSBG { .. }
         | Inst::RxSBGTest { .. } => Group::Bits,
@@ -650,7 +653,9 @@ fn find_group(inst: &Inst) -> Group
         | Inst::CMov64SImm16 { .. }
         | Inst::Extend { .. }
         | Inst::LoadAR { .. }
-        | Inst::InsertAR { .. } => Group::Moves,
+        | Inst::InsertAR { .. }
+        | Inst::Fence
+        | Inst::Nop2 => Group::Moves,
         _ => Group::Arithmetic,
     }
 }

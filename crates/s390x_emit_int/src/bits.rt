@@ -1,9 +1,9 @@
-//! Operators on parts of a register, shifts and rotations that are one machine instruction.
+//! Operators on parts of a register and on pairs, shifts and rotations that are one machine instruction.
 ghost use Rattle.std.specs.Prelude.{◌≡◌, ◌+◌, ◌<◌, ◌&&◌, Some, nat_lt, nat_eq};
 ghost use Rattle.std.specs.Option.{option_map};
 ghost use Rattle.s390x_base.specs.Regs.{number_of};
-ghost use Rattle.s390x_steps.specs.General.{is_general, reuses, rotation, low_byte};
-ghost use Rattle.s390x_steps.specs.MachineInstruction.{rsy};
+ghost use Rattle.s390x_steps.specs.General.{is_general, is_even_pair, reuses, rotation, low_byte};
+ghost use Rattle.s390x_steps.specs.MachineInstruction.{rre, rrf_ab, rsy};
 ghost use Rattle.s390x_steps.specs.Opcodes.{of_one, alu_part, alu_half, shift_storage, rotate_then, rotate_then_test};
 ghost use Rattle.s390x_steps.specs.Alone.{alone, rotated_row};
 ghost use Rattle.s390x_emit_int.specs.Alone.{instruction_of, alone_of, opcode_of, group_of};
@@ -15,7 +15,7 @@ use crate::alone::{
 };
 use crate::moves::{of_four, of_two};
 use crate::opcode::ShortOpcode;
-use s390x_base::Reg;
+use s390x_base::{Reg, WritableRegPair, valid_regpair};
 use s390x_inst::{ALUOp, Inst, RxSBGOp, ShiftOp};
 
 fn of_one(zeroth: u16, n: u8) -> Option<ShortOpcode>
@@ -159,7 +159,37 @@ fn shift_row(op: ShiftOp, rd: Reg, rn: Reg, amount: u8, register: Reg) -> Option
     })
 }
 
-/// The machine instruction of a shift, a rotation or an operator on part of a register.
+// Whether the pair is an even register and the next one.
+fn is_even_pair(pair: &WritableRegPair) -> bool
+    ensures { result ≡ is_even_pair pair.now.hi pair.now.lo }
+{
+    let high = pair.hi.to_reg();
+    let low = pair.lo.to_reg();
+    general(&high) && general(&low) && valid_regpair(high, low)
+}
+
+fn product_row(pair: Reg, rn: Reg, rm: Reg) -> Option<RegisterRow>
+    ensures { option_map instruction_of result ≡ Some (rrf_ab 0xb9ec (number_of pair) (number_of rn) (number_of rm) 0) }
+{
+    Some(RegisterRow::RrfAb {
+        opcode: 0xb9ec,
+        r1: pair,
+        r2: rn,
+        r3: rm,
+    })
+}
+
+fn pair_row(opcode: u16, pair: Reg, rn: Reg) -> Option<RegisterRow>
+    ensures { option_map instruction_of result ≡ Some (rre opcode (number_of pair) (number_of rn)) }
+{
+    Some(RegisterRow::Rre {
+        opcode,
+        r1: pair,
+        r2: rn,
+    })
+}
+
+/// The machine instruction of a shift, a rotation, an operator on part of a register or one on a pair.
 pub fn find_bits(inst: &Inst) -> Option<Alone>
     ensures { group_of inst.now ≡ Bits → option_map alone_of result ≡ alone inst.now }
 {
@@ -240,6 +270,18 @@ pub fn find_bits(inst: &Inst) -> Option<Alone>
                     rotated: rotation(*rotate_amt),
                 },
             ),
+        ),
+        Inst::SMulWide { rd, rn, rm } => alone_with(
+            is_even_pair(rd) && general(rn) && general(rm),
+            product_row(rd.hi.to_reg(), *rn, *rm),
+        ),
+        Inst::UMulWide { rd, ri, rn } => alone_with(
+            is_even_pair(rd) && is_reused(&rd.lo.to_reg(), ri) && general(rn),
+            pair_row(0xb986, rd.hi.to_reg(), *rn),
+        ),
+        Inst::Flogr { rd, rn } => alone_with(
+            is_even_pair(rd) && general(rn),
+            pair_row(0xb983, rd.hi.to_reg(), *rn),
         ),
         _ => None,
     }

@@ -75,6 +75,7 @@ fn branch_refusal(blocks: usize, depth: u32, inst: &Inst) -> Option<EmitError>
         Inst::IndirectBr { rn, targets } => indirect_refusal(blocks, *rn, targets),
         Inst::Ret { link } => refusal_unless(branchable(*link), EmitError::BadRegister),
         Inst::CondBreak { .. } => refusal_unless(0 < depth, EmitError::BreakOutsideLoop),
+        Inst::Nop0 => None,
         _ => Some(EmitError::BadOperator),
     }
 }

@@ -83,6 +83,7 @@ fn emit_branch(sink: &mut MachBuffer, inst: &Inst, after: MachLabel) -> Result<(
         Inst::IndirectBr { rn, .. } => emit_branch_register(sink, *rn),
         Inst::Ret { link } => emit_branch_register(sink, *link),
         Inst::CondBreak { cond } => emit_break(sink, *cond, after),
+        Inst::Nop0 => Ok(()),
         _ => Err(EmitError::BadOperator),
     }
 }

@@ -3,7 +3,7 @@ ghost use Rattle.std.specs.Prelude.{◌≡◌, ◌<◌, ◌&&◌, Some};
 ghost use Rattle.std.specs.Option.{option_map};
 ghost use Rattle.s390x_base.specs.Regs.{number_of};
 ghost use Rattle.s390x_steps.specs.General.{is_general, is_access, reuses, four_bits, low_halfword};
-ghost use Rattle.s390x_steps.specs.MachineInstruction.{rrf_cde, rie_g};
+ghost use Rattle.s390x_steps.specs.MachineInstruction.{rr, rrf_cde, rie_g};
 ghost use Rattle.s390x_steps.specs.Opcodes.{of_two, of_four, load_part, load_half, insert_part, insert_half, extend_to_word, extend_to_doubleword, extend_two};
 ghost use Rattle.s390x_steps.specs.Alone.{alone, alone_with, two_row};
 ghost use Rattle.s390x_emit_int.specs.Alone.{instruction_of, alone_of, opcode_of, group_of};
@@ -115,7 +115,20 @@ fn conditional_immediate(opcode: u16, rd: Reg, imm: i16, cond: Cond) -> Option<R
     })
 }
 
-/// The machine instruction of a move.
+// BRANCH ON CONDITION that doesn't branch: to no address, or under a mask of zeros.
+fn branch_nowhere(mask: u8, target: u8) -> Option<RegisterRow>
+    requires mask { mask < 16 }
+    requires target { target < 16 }
+    ensures { option_map instruction_of result ≡ Some (rr 0x07 mask target) }
+{
+    Some(RegisterRow::Rr {
+        opcode: 0x07,
+        r1: gpr(mask),
+        r2: gpr(target),
+    })
+}
+
+/// The machine instruction of a move, or of one that does nothing.
 pub fn find_move(inst: &Inst) -> Option<Alone>
     ensures { group_of inst.now ≡ Moves → option_map alone_of result ≡ alone inst.now }
 {
@@ -218,6 +231,8 @@ pub fn find_move(inst: &Inst) -> Option<Alone>
             is_reused(&rd.to_reg(), ri) && access(*ar),
             access_row(rd.to_reg(), *ar),
         ),
+        Inst::Fence => alone_with(true, branch_nowhere(14, 0)),
+        Inst::Nop2 => alone_with(true, branch_nowhere(0, 7)),
         _ => None,
     }
 }

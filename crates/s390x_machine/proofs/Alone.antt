@@ -1,5 +1,5 @@
 -- The rows of the instructions that are one machine instruction on registers and immediates: each is listed, and does its instruction's operation.
-use Rattle.std.proofs.Common.{◌≡◌, ℕ, ◌%◌, ◌<◌, List, [], ◌∷◌, Option, Some, None, Bool, true, false, cond, refl, ap, ◌∙◌, subst, arith, nat_lt, ltb-true, pos, ◌^◌}
+use Rattle.std.proofs.Common.{◌≡◌, ℕ, ◌%◌, ◌==◌, ◌&&◌, ◌<◌, List, [], ◌∷◌, Option, Some, None, Bool, true, false, cond, refl, ap, ◌∙◌, subst, arith, nat_lt, ltb-true, pos, ◌^◌}
 use Rattle.s390x_format.specs.declared.kind.FormatKind.{FormatKind}
 use Rattle.s390x_format.specs.declared.kind.FormatKind.TheVariants.{Rr, Rre, RrfAb, RiA, RieD, RilA}
 use Rattle.s390x_format.specs.declared.row.Allowed.{Allowed}
@@ -40,8 +40,8 @@ use Rattle.s390x_machine.specs.declared.meaning.SecondOperand.{SecondOperand}
 use Rattle.s390x_machine.specs.declared.meaning.Action.TheVariants.{Perform}
 use Rattle.s390x_machine.specs.Computations.{Second, Computation, Comparison, alu_computation, alu_three_rule, alu_two_rule, unary_computation, unary_rule, comparison, on_words, on_doublewords, word, signed_word, signed_halfword, on_immediate, compares_on_immediate, computes_immediate, compares_immediate, with_rule}
 use Rattle.s390x_machine.specs.Fetch.{Found}
-use Rattle.s390x_machine.specs.Machine.{Event, Acts, RowActs, FetchedActs}
-use Rattle.s390x_machine.specs.Meanings.{action, meaning_in, meaning_of}
+use Rattle.s390x_machine.specs.Machine.{Event, Acts, PairActs, RowActs, FetchedActs}
+use Rattle.s390x_machine.specs.Meanings.{action, meaning_in, meaning_of, names_pair, is_odd_pair, register_field}
 use Rattle.s390x_machine.specs.Layout.{Layout}
 use Rattle.s390x_machine.specs.Placed.{AllPlaced}
 use Rattle.s390x_machine.proofs.Fetching.{StandsAt, row_at}
@@ -66,6 +66,7 @@ pub record TwoRow (opcode : ℕ) (meaning : Meaning) : Type 0 where
   pub few : opcode < 65536
   pub lists : Lists opcode (two_operands opcode 0 0).format Any
   pub means : meaning_of opcode ≡ Some meaning
+  pub single : names_pair meaning ≡ false
 
 -- a row of three registers with a meaning
 pub record ThreeRow (opcode : ℕ) (meaning : Meaning) : Type 0 where
@@ -73,6 +74,7 @@ pub record ThreeRow (opcode : ℕ) (meaning : Meaning) : Type 0 where
   pub few : opcode < 65536
   pub lists : Lists opcode RrfAb none_but_zero
   pub means : meaning_of opcode ≡ Some meaning
+  pub single : names_pair meaning ≡ false
 
 abbrev pub TwoRows : Option ℕ → Meaning → Type 0
 TwoRows None meaning = Unit {0}
@@ -88,6 +90,14 @@ pub record Meant (kind : FormatKind) (allowed : Allowed) (opcode : ℕ) (meaning
   pub few : opcode < 65536
   pub lists : Lists opcode kind allowed
   pub means : meaning_of opcode ≡ Some meaning
+  pub single : names_pair meaning ≡ false
+
+-- a row of the table that names a pair, with its meaning
+pub record PairRow (kind : FormatKind) (allowed : Allowed) (opcode : ℕ) (meaning : Meaning) : Type 0 where
+  pub some : 0 < opcode
+  pub few : opcode < 65536
+  pub lists : Lists opcode kind allowed
+  pub means : meaning_of opcode ≡ Some meaning
 
 -- ---- the rows of each operator
 
@@ -96,80 +106,80 @@ computed c shape rule = Compute c.operator c.size (second_register shape c.secon
 
 pub alu_three_rows : (op : ALUOp) → ThreeRows (alu_three op) (computed (alu_computation op) ThreeRegisters Set)
 unfolding machine_rows row_for meaning_in meaning_of
-alu_three_rows A.Add32 = record { some = omega arith; few = omega arith; lists = (refl, refl, refl); means = refl }
-alu_three_rows A.Add64 = record { some = omega arith; few = omega arith; lists = (refl, refl, refl); means = refl }
-alu_three_rows A.AddLogical32 = record { some = omega arith; few = omega arith; lists = (refl, refl, refl); means = refl }
-alu_three_rows A.AddLogical64 = record { some = omega arith; few = omega arith; lists = (refl, refl, refl); means = refl }
-alu_three_rows A.Sub32 = record { some = omega arith; few = omega arith; lists = (refl, refl, refl); means = refl }
-alu_three_rows A.Sub64 = record { some = omega arith; few = omega arith; lists = (refl, refl, refl); means = refl }
-alu_three_rows A.SubLogical32 = record { some = omega arith; few = omega arith; lists = (refl, refl, refl); means = refl }
-alu_three_rows A.SubLogical64 = record { some = omega arith; few = omega arith; lists = (refl, refl, refl); means = refl }
-alu_three_rows A.Mul32 = record { some = omega arith; few = omega arith; lists = (refl, refl, refl); means = refl }
-alu_three_rows A.Mul32CC = record { some = omega arith; few = omega arith; lists = (refl, refl, refl); means = refl }
-alu_three_rows A.Mul64 = record { some = omega arith; few = omega arith; lists = (refl, refl, refl); means = refl }
-alu_three_rows A.Mul64CC = record { some = omega arith; few = omega arith; lists = (refl, refl, refl); means = refl }
-alu_three_rows A.And32 = record { some = omega arith; few = omega arith; lists = (refl, refl, refl); means = refl }
-alu_three_rows A.And64 = record { some = omega arith; few = omega arith; lists = (refl, refl, refl); means = refl }
-alu_three_rows A.Orr32 = record { some = omega arith; few = omega arith; lists = (refl, refl, refl); means = refl }
-alu_three_rows A.Orr64 = record { some = omega arith; few = omega arith; lists = (refl, refl, refl); means = refl }
-alu_three_rows A.Xor32 = record { some = omega arith; few = omega arith; lists = (refl, refl, refl); means = refl }
-alu_three_rows A.Xor64 = record { some = omega arith; few = omega arith; lists = (refl, refl, refl); means = refl }
+alu_three_rows A.Add32 = record { some = omega arith; few = omega arith; lists = (refl, refl, refl); means = refl; single = refl }
+alu_three_rows A.Add64 = record { some = omega arith; few = omega arith; lists = (refl, refl, refl); means = refl; single = refl }
+alu_three_rows A.AddLogical32 = record { some = omega arith; few = omega arith; lists = (refl, refl, refl); means = refl; single = refl }
+alu_three_rows A.AddLogical64 = record { some = omega arith; few = omega arith; lists = (refl, refl, refl); means = refl; single = refl }
+alu_three_rows A.Sub32 = record { some = omega arith; few = omega arith; lists = (refl, refl, refl); means = refl; single = refl }
+alu_three_rows A.Sub64 = record { some = omega arith; few = omega arith; lists = (refl, refl, refl); means = refl; single = refl }
+alu_three_rows A.SubLogical32 = record { some = omega arith; few = omega arith; lists = (refl, refl, refl); means = refl; single = refl }
+alu_three_rows A.SubLogical64 = record { some = omega arith; few = omega arith; lists = (refl, refl, refl); means = refl; single = refl }
+alu_three_rows A.Mul32 = record { some = omega arith; few = omega arith; lists = (refl, refl, refl); means = refl; single = refl }
+alu_three_rows A.Mul32CC = record { some = omega arith; few = omega arith; lists = (refl, refl, refl); means = refl; single = refl }
+alu_three_rows A.Mul64 = record { some = omega arith; few = omega arith; lists = (refl, refl, refl); means = refl; single = refl }
+alu_three_rows A.Mul64CC = record { some = omega arith; few = omega arith; lists = (refl, refl, refl); means = refl; single = refl }
+alu_three_rows A.And32 = record { some = omega arith; few = omega arith; lists = (refl, refl, refl); means = refl; single = refl }
+alu_three_rows A.And64 = record { some = omega arith; few = omega arith; lists = (refl, refl, refl); means = refl; single = refl }
+alu_three_rows A.Orr32 = record { some = omega arith; few = omega arith; lists = (refl, refl, refl); means = refl; single = refl }
+alu_three_rows A.Orr64 = record { some = omega arith; few = omega arith; lists = (refl, refl, refl); means = refl; single = refl }
+alu_three_rows A.Xor32 = record { some = omega arith; few = omega arith; lists = (refl, refl, refl); means = refl; single = refl }
+alu_three_rows A.Xor64 = record { some = omega arith; few = omega arith; lists = (refl, refl, refl); means = refl; single = refl }
 alu_three_rows _ = tt
 
 pub alu_two_rows : (op : ALUOp) → TwoRows (alu_two op) (computed (alu_computation op) Register (alu_two_rule op))
 unfolding machine_rows row_for meaning_in meaning_of
-alu_two_rows A.Add32 = record { some = omega arith; few = omega arith; lists = (refl, refl, refl); means = refl }
-alu_two_rows A.Add64 = record { some = omega arith; few = omega arith; lists = (refl, refl, refl); means = refl }
-alu_two_rows A.Add64Ext32 = record { some = omega arith; few = omega arith; lists = (refl, refl, refl); means = refl }
-alu_two_rows A.AddLogical32 = record { some = omega arith; few = omega arith; lists = (refl, refl, refl); means = refl }
-alu_two_rows A.AddLogical64 = record { some = omega arith; few = omega arith; lists = (refl, refl, refl); means = refl }
-alu_two_rows A.AddLogical64Ext32 = record { some = omega arith; few = omega arith; lists = (refl, refl, refl); means = refl }
-alu_two_rows A.Sub32 = record { some = omega arith; few = omega arith; lists = (refl, refl, refl); means = refl }
-alu_two_rows A.Sub64 = record { some = omega arith; few = omega arith; lists = (refl, refl, refl); means = refl }
-alu_two_rows A.Sub64Ext32 = record { some = omega arith; few = omega arith; lists = (refl, refl, refl); means = refl }
-alu_two_rows A.SubLogical32 = record { some = omega arith; few = omega arith; lists = (refl, refl, refl); means = refl }
-alu_two_rows A.SubLogical64 = record { some = omega arith; few = omega arith; lists = (refl, refl, refl); means = refl }
-alu_two_rows A.SubLogical64Ext32 = record { some = omega arith; few = omega arith; lists = (refl, refl, refl); means = refl }
-alu_two_rows A.Mul32 = record { some = omega arith; few = omega arith; lists = (refl, refl, refl); means = refl }
-alu_two_rows A.Mul64 = record { some = omega arith; few = omega arith; lists = (refl, refl, refl); means = refl }
-alu_two_rows A.Mul64Ext32 = record { some = omega arith; few = omega arith; lists = (refl, refl, refl); means = refl }
-alu_two_rows A.And32 = record { some = omega arith; few = omega arith; lists = (refl, refl, refl); means = refl }
-alu_two_rows A.And64 = record { some = omega arith; few = omega arith; lists = (refl, refl, refl); means = refl }
-alu_two_rows A.Orr32 = record { some = omega arith; few = omega arith; lists = (refl, refl, refl); means = refl }
-alu_two_rows A.Orr64 = record { some = omega arith; few = omega arith; lists = (refl, refl, refl); means = refl }
-alu_two_rows A.Xor32 = record { some = omega arith; few = omega arith; lists = (refl, refl, refl); means = refl }
-alu_two_rows A.Xor64 = record { some = omega arith; few = omega arith; lists = (refl, refl, refl); means = refl }
+alu_two_rows A.Add32 = record { some = omega arith; few = omega arith; lists = (refl, refl, refl); means = refl; single = refl }
+alu_two_rows A.Add64 = record { some = omega arith; few = omega arith; lists = (refl, refl, refl); means = refl; single = refl }
+alu_two_rows A.Add64Ext32 = record { some = omega arith; few = omega arith; lists = (refl, refl, refl); means = refl; single = refl }
+alu_two_rows A.AddLogical32 = record { some = omega arith; few = omega arith; lists = (refl, refl, refl); means = refl; single = refl }
+alu_two_rows A.AddLogical64 = record { some = omega arith; few = omega arith; lists = (refl, refl, refl); means = refl; single = refl }
+alu_two_rows A.AddLogical64Ext32 = record { some = omega arith; few = omega arith; lists = (refl, refl, refl); means = refl; single = refl }
+alu_two_rows A.Sub32 = record { some = omega arith; few = omega arith; lists = (refl, refl, refl); means = refl; single = refl }
+alu_two_rows A.Sub64 = record { some = omega arith; few = omega arith; lists = (refl, refl, refl); means = refl; single = refl }
+alu_two_rows A.Sub64Ext32 = record { some = omega arith; few = omega arith; lists = (refl, refl, refl); means = refl; single = refl }
+alu_two_rows A.SubLogical32 = record { some = omega arith; few = omega arith; lists = (refl, refl, refl); means = refl; single = refl }
+alu_two_rows A.SubLogical64 = record { some = omega arith; few = omega arith; lists = (refl, refl, refl); means = refl; single = refl }
+alu_two_rows A.SubLogical64Ext32 = record { some = omega arith; few = omega arith; lists = (refl, refl, refl); means = refl; single = refl }
+alu_two_rows A.Mul32 = record { some = omega arith; few = omega arith; lists = (refl, refl, refl); means = refl; single = refl }
+alu_two_rows A.Mul64 = record { some = omega arith; few = omega arith; lists = (refl, refl, refl); means = refl; single = refl }
+alu_two_rows A.Mul64Ext32 = record { some = omega arith; few = omega arith; lists = (refl, refl, refl); means = refl; single = refl }
+alu_two_rows A.And32 = record { some = omega arith; few = omega arith; lists = (refl, refl, refl); means = refl; single = refl }
+alu_two_rows A.And64 = record { some = omega arith; few = omega arith; lists = (refl, refl, refl); means = refl; single = refl }
+alu_two_rows A.Orr32 = record { some = omega arith; few = omega arith; lists = (refl, refl, refl); means = refl; single = refl }
+alu_two_rows A.Orr64 = record { some = omega arith; few = omega arith; lists = (refl, refl, refl); means = refl; single = refl }
+alu_two_rows A.Xor32 = record { some = omega arith; few = omega arith; lists = (refl, refl, refl); means = refl; single = refl }
+alu_two_rows A.Xor64 = record { some = omega arith; few = omega arith; lists = (refl, refl, refl); means = refl; single = refl }
 alu_two_rows _ = tt
 
 pub cmp_rows : (op : CmpOp) → TwoRows (cmp_two op) (Compare (comparison op).sign (comparison op).size (second_register Register (comparison op).second))
 unfolding machine_rows row_for meaning_in meaning_of
-cmp_rows C.CmpS32 = record { some = omega arith; few = omega arith; lists = (refl, refl, refl); means = refl }
-cmp_rows C.CmpS64 = record { some = omega arith; few = omega arith; lists = (refl, refl, refl); means = refl }
-cmp_rows C.CmpS64Ext32 = record { some = omega arith; few = omega arith; lists = (refl, refl, refl); means = refl }
-cmp_rows C.CmpL32 = record { some = omega arith; few = omega arith; lists = (refl, refl, refl); means = refl }
-cmp_rows C.CmpL64 = record { some = omega arith; few = omega arith; lists = (refl, refl, refl); means = refl }
-cmp_rows C.CmpL64Ext32 = record { some = omega arith; few = omega arith; lists = (refl, refl, refl); means = refl }
+cmp_rows C.CmpS32 = record { some = omega arith; few = omega arith; lists = (refl, refl, refl); means = refl; single = refl }
+cmp_rows C.CmpS64 = record { some = omega arith; few = omega arith; lists = (refl, refl, refl); means = refl; single = refl }
+cmp_rows C.CmpS64Ext32 = record { some = omega arith; few = omega arith; lists = (refl, refl, refl); means = refl; single = refl }
+cmp_rows C.CmpL32 = record { some = omega arith; few = omega arith; lists = (refl, refl, refl); means = refl; single = refl }
+cmp_rows C.CmpL64 = record { some = omega arith; few = omega arith; lists = (refl, refl, refl); means = refl; single = refl }
+cmp_rows C.CmpL64Ext32 = record { some = omega arith; few = omega arith; lists = (refl, refl, refl); means = refl; single = refl }
 cmp_rows _ = tt
 
 pub unary_rows : (op : UnaryOp) → TwoRows (unary_two op) (computed (unary_computation op) Register (unary_rule op))
 unfolding machine_rows row_for meaning_in meaning_of
-unary_rows U.Abs32 = record { some = omega arith; few = omega arith; lists = (refl, refl, refl); means = refl }
-unary_rows U.Abs64 = record { some = omega arith; few = omega arith; lists = (refl, refl, refl); means = refl }
-unary_rows U.Abs64Ext32 = record { some = omega arith; few = omega arith; lists = (refl, refl, refl); means = refl }
-unary_rows U.Neg32 = record { some = omega arith; few = omega arith; lists = (refl, refl, refl); means = refl }
-unary_rows U.Neg64 = record { some = omega arith; few = omega arith; lists = (refl, refl, refl); means = refl }
-unary_rows U.Neg64Ext32 = record { some = omega arith; few = omega arith; lists = (refl, refl, refl); means = refl }
-unary_rows U.BSwap32 = record { some = omega arith; few = omega arith; lists = (refl, refl, refl); means = refl }
-unary_rows U.BSwap64 = record { some = omega arith; few = omega arith; lists = (refl, refl, refl); means = refl }
+unary_rows U.Abs32 = record { some = omega arith; few = omega arith; lists = (refl, refl, refl); means = refl; single = refl }
+unary_rows U.Abs64 = record { some = omega arith; few = omega arith; lists = (refl, refl, refl); means = refl; single = refl }
+unary_rows U.Abs64Ext32 = record { some = omega arith; few = omega arith; lists = (refl, refl, refl); means = refl; single = refl }
+unary_rows U.Neg32 = record { some = omega arith; few = omega arith; lists = (refl, refl, refl); means = refl; single = refl }
+unary_rows U.Neg64 = record { some = omega arith; few = omega arith; lists = (refl, refl, refl); means = refl; single = refl }
+unary_rows U.Neg64Ext32 = record { some = omega arith; few = omega arith; lists = (refl, refl, refl); means = refl; single = refl }
+unary_rows U.BSwap32 = record { some = omega arith; few = omega arith; lists = (refl, refl, refl); means = refl; single = refl }
+unary_rows U.BSwap64 = record { some = omega arith; few = omega arith; lists = (refl, refl, refl); means = refl; single = refl }
 unary_rows _ = tt
 
 pub lgr_row : TwoRow 0xb904 (computed (on_doublewords Move) Register Kept)
 unfolding machine_rows row_for meaning_in meaning_of
-lgr_row = record { some = omega arith; few = omega arith; lists = (refl, refl, refl); means = refl }
+lgr_row = record { some = omega arith; few = omega arith; lists = (refl, refl, refl); means = refl; single = refl }
 
 pub lr_row : TwoRow 0x18 (computed (on_words Move) Register Kept)
 unfolding machine_rows row_for meaning_in meaning_of
-lr_row = record { some = omega arith; few = omega arith; lists = (refl, refl, refl); means = refl }
+lr_row = record { some = omega arith; few = omega arith; lists = (refl, refl, refl); means = refl; single = refl }
 
 -- ---- rows of a register and an immediate
 
@@ -179,6 +189,7 @@ pub record ImmediateRow (kind : FormatKind) (digits opcode : ℕ) (meaning : Mea
   pub few : opcode < digits
   pub lists : Lists opcode kind Any
   pub means : meaning_of opcode ≡ Some meaning
+  pub single : names_pair meaning ≡ false
 
 abbrev pub ImmediateRows : FormatKind → ℕ → Option ℕ → Meaning → Type 0
 ImmediateRows kind digits None meaning = Unit {0}
@@ -193,67 +204,67 @@ compared c = Compare c.sign c.size (second_register Immediate c.second)
 
 pub halfword_rows : (op : ALUOp) → ImmediateRows RiA 4096 (alu_halfword op) (computed_immediate (alu_computation op) signed_halfword Immediate (alu_two_rule op))
 unfolding machine_rows row_for meaning_in meaning_of
-halfword_rows A.Add32 = record { some = omega arith; few = omega arith; lists = (refl, refl, refl); means = refl }
-halfword_rows A.Add64 = record { some = omega arith; few = omega arith; lists = (refl, refl, refl); means = refl }
-halfword_rows A.Mul32 = record { some = omega arith; few = omega arith; lists = (refl, refl, refl); means = refl }
-halfword_rows A.Mul64 = record { some = omega arith; few = omega arith; lists = (refl, refl, refl); means = refl }
+halfword_rows A.Add32 = record { some = omega arith; few = omega arith; lists = (refl, refl, refl); means = refl; single = refl }
+halfword_rows A.Add64 = record { some = omega arith; few = omega arith; lists = (refl, refl, refl); means = refl; single = refl }
+halfword_rows A.Mul32 = record { some = omega arith; few = omega arith; lists = (refl, refl, refl); means = refl; single = refl }
+halfword_rows A.Mul64 = record { some = omega arith; few = omega arith; lists = (refl, refl, refl); means = refl; single = refl }
 halfword_rows _ = tt
 
 pub three_halfword_rows : (op : ALUOp) → ImmediateRows RieD 65536 (alu_three_halfword op) (computed_immediate (alu_computation op) signed_halfword ThreeImmediate (alu_two_rule op))
 unfolding machine_rows row_for meaning_in meaning_of
-three_halfword_rows A.Add32 = record { some = omega arith; few = omega arith; lists = (refl, refl, refl); means = refl }
-three_halfword_rows A.Add64 = record { some = omega arith; few = omega arith; lists = (refl, refl, refl); means = refl }
+three_halfword_rows A.Add32 = record { some = omega arith; few = omega arith; lists = (refl, refl, refl); means = refl; single = refl }
+three_halfword_rows A.Add64 = record { some = omega arith; few = omega arith; lists = (refl, refl, refl); means = refl; single = refl }
 three_halfword_rows _ = tt
 
 pub signed_word_rows : (op : ALUOp) → ImmediateRows RilA 4096 (alu_signed_word op) (computed_immediate (alu_computation op) signed_word Immediate (alu_two_rule op))
 unfolding machine_rows row_for meaning_in meaning_of
-signed_word_rows A.Add32 = record { some = omega arith; few = omega arith; lists = (refl, refl, refl); means = refl }
-signed_word_rows A.Add64 = record { some = omega arith; few = omega arith; lists = (refl, refl, refl); means = refl }
-signed_word_rows A.Mul32 = record { some = omega arith; few = omega arith; lists = (refl, refl, refl); means = refl }
-signed_word_rows A.Mul64 = record { some = omega arith; few = omega arith; lists = (refl, refl, refl); means = refl }
+signed_word_rows A.Add32 = record { some = omega arith; few = omega arith; lists = (refl, refl, refl); means = refl; single = refl }
+signed_word_rows A.Add64 = record { some = omega arith; few = omega arith; lists = (refl, refl, refl); means = refl; single = refl }
+signed_word_rows A.Mul32 = record { some = omega arith; few = omega arith; lists = (refl, refl, refl); means = refl; single = refl }
+signed_word_rows A.Mul64 = record { some = omega arith; few = omega arith; lists = (refl, refl, refl); means = refl; single = refl }
 signed_word_rows _ = tt
 
 pub unsigned_word_rows : (op : ALUOp) → ImmediateRows RilA 4096 (alu_unsigned_word op) (computed_immediate (alu_computation op) word Immediate (alu_two_rule op))
 unfolding machine_rows row_for meaning_in meaning_of
-unsigned_word_rows A.AddLogical32 = record { some = omega arith; few = omega arith; lists = (refl, refl, refl); means = refl }
-unsigned_word_rows A.AddLogical64 = record { some = omega arith; few = omega arith; lists = (refl, refl, refl); means = refl }
-unsigned_word_rows A.SubLogical32 = record { some = omega arith; few = omega arith; lists = (refl, refl, refl); means = refl }
-unsigned_word_rows A.SubLogical64 = record { some = omega arith; few = omega arith; lists = (refl, refl, refl); means = refl }
+unsigned_word_rows A.AddLogical32 = record { some = omega arith; few = omega arith; lists = (refl, refl, refl); means = refl; single = refl }
+unsigned_word_rows A.AddLogical64 = record { some = omega arith; few = omega arith; lists = (refl, refl, refl); means = refl; single = refl }
+unsigned_word_rows A.SubLogical32 = record { some = omega arith; few = omega arith; lists = (refl, refl, refl); means = refl; single = refl }
+unsigned_word_rows A.SubLogical64 = record { some = omega arith; few = omega arith; lists = (refl, refl, refl); means = refl; single = refl }
 unsigned_word_rows _ = tt
 
 pub cmp_halfword_rows : (op : CmpOp) → ImmediateRows RiA 4096 (cmp_halfword op) (compared (compares_on_immediate (comparison op) signed_halfword))
 unfolding machine_rows row_for meaning_in meaning_of
-cmp_halfword_rows C.CmpS32 = record { some = omega arith; few = omega arith; lists = (refl, refl, refl); means = refl }
-cmp_halfword_rows C.CmpS64 = record { some = omega arith; few = omega arith; lists = (refl, refl, refl); means = refl }
+cmp_halfword_rows C.CmpS32 = record { some = omega arith; few = omega arith; lists = (refl, refl, refl); means = refl; single = refl }
+cmp_halfword_rows C.CmpS64 = record { some = omega arith; few = omega arith; lists = (refl, refl, refl); means = refl; single = refl }
 cmp_halfword_rows _ = tt
 
 pub cmp_signed_word_rows : (op : CmpOp) → ImmediateRows RilA 4096 (cmp_signed_word op) (compared (compares_on_immediate (comparison op) signed_word))
 unfolding machine_rows row_for meaning_in meaning_of
-cmp_signed_word_rows C.CmpS32 = record { some = omega arith; few = omega arith; lists = (refl, refl, refl); means = refl }
-cmp_signed_word_rows C.CmpS64 = record { some = omega arith; few = omega arith; lists = (refl, refl, refl); means = refl }
+cmp_signed_word_rows C.CmpS32 = record { some = omega arith; few = omega arith; lists = (refl, refl, refl); means = refl; single = refl }
+cmp_signed_word_rows C.CmpS64 = record { some = omega arith; few = omega arith; lists = (refl, refl, refl); means = refl; single = refl }
 cmp_signed_word_rows _ = tt
 
 pub cmp_unsigned_word_rows : (op : CmpOp) → ImmediateRows RilA 4096 (cmp_unsigned_word op) (compared (compares_on_immediate (comparison op) word))
 unfolding machine_rows row_for meaning_in meaning_of
-cmp_unsigned_word_rows C.CmpL32 = record { some = omega arith; few = omega arith; lists = (refl, refl, refl); means = refl }
-cmp_unsigned_word_rows C.CmpL64 = record { some = omega arith; few = omega arith; lists = (refl, refl, refl); means = refl }
+cmp_unsigned_word_rows C.CmpL32 = record { some = omega arith; few = omega arith; lists = (refl, refl, refl); means = refl; single = refl }
+cmp_unsigned_word_rows C.CmpL64 = record { some = omega arith; few = omega arith; lists = (refl, refl, refl); means = refl; single = refl }
 cmp_unsigned_word_rows _ = tt
 
 pub iilf_row : ImmediateRow RilA 4096 0xc09 (computed (on_words Move) Immediate Kept)
 unfolding machine_rows row_for meaning_in meaning_of
-iilf_row = record { some = omega arith; few = omega arith; lists = (refl, refl, refl); means = refl }
+iilf_row = record { some = omega arith; few = omega arith; lists = (refl, refl, refl); means = refl; single = refl }
 
 pub lhi_row : ImmediateRow RiA 4096 0xa78 (computed_immediate (on_words Move) signed_halfword Immediate Kept)
 unfolding machine_rows row_for meaning_in meaning_of
-lhi_row = record { some = omega arith; few = omega arith; lists = (refl, refl, refl); means = refl }
+lhi_row = record { some = omega arith; few = omega arith; lists = (refl, refl, refl); means = refl; single = refl }
 
 pub lghi_row : ImmediateRow RiA 4096 0xa79 (computed_immediate (on_doublewords Move) signed_halfword Immediate Kept)
 unfolding machine_rows row_for meaning_in meaning_of
-lghi_row = record { some = omega arith; few = omega arith; lists = (refl, refl, refl); means = refl }
+lghi_row = record { some = omega arith; few = omega arith; lists = (refl, refl, refl); means = refl; single = refl }
 
 pub lgfi_row : ImmediateRow RilA 4096 0xc01 (computed_immediate (on_doublewords Move) signed_word Immediate Kept)
 unfolding machine_rows row_for meaning_in meaning_of
-lgfi_row = record { some = omega arith; few = omega arith; lists = (refl, refl, refl); means = refl }
+lgfi_row = record { some = omega arith; few = omega arith; lists = (refl, refl, refl); means = refl; single = refl }
 
 -- a number of up to 64 bits is its own low part
 pub low_small : (n : ℕ) → n < 2 ^ 64 → low Doubleword (pos n) ≡ n
@@ -267,11 +278,16 @@ immediate_fields kind d n bits = fields_of kind (0 ∷ d ∷ n ∷ 0 ∷ 0 ∷ 0
 abbrev pub register_fields : (d n m : ℕ) → Fields
 register_fields d n m = fields_of Rr (0 ∷ d ∷ n ∷ m ∷ 0 ∷ 0 ∷ 0 ∷ 0 ∷ 0 ∷ 0 ∷ [])
 
+-- a row that names no pair, or an even one, isn't odd
+single_pair : (meaning : Meaning) (f : Fields) → names_pair meaning ≡ false → is_odd_pair meaning f ≡ false
+single_pair meaning f e = ap (λ b. b && (register_field f 0 % 2 == 1)) e
+
 -- what is fetched does the row's action
-acts_as_meant : (m : MachineInstruction) (meaning : Meaning) (operation : Registers → Operation) → meaning_of (decoded_of m.format m.slots).row.opcode ≡ Some meaning → ((r : Registers) (p : ℕ) → action meaning (fields_of m.format m.slots) r p ≡ Perform (operation r)) → (s : State) (event : Event) (t : State) → FetchedActs (Found (decoded_of m.format m.slots)) s event t → Acts (Perform (operation s.core.registers)) (size_of m) s event t
-acts_as_meant m meaning operation means does s event t h =
+acts_as_meant : (m : MachineInstruction) (meaning : Meaning) (operation : Registers → Operation) → meaning_of (decoded_of m.format m.slots).row.opcode ≡ Some meaning → is_odd_pair meaning (fields_of m.format m.slots) ≡ false → ((r : Registers) (p : ℕ) → action meaning (fields_of m.format m.slots) r p ≡ Perform (operation r)) → (s : State) (event : Event) (t : State) → FetchedActs (Found (decoded_of m.format m.slots)) s event t → Acts (Perform (operation s.core.registers)) (size_of m) s event t
+acts_as_meant m meaning operation means even does s event t h =
     let meant : RowActs (Some meaning) (fields_of m.format m.slots) (length_of m.format) s event t = subst (λ o. RowActs o (fields_of m.format m.slots) (length_of m.format) s event t) means h in
-    subst (λ a. Acts a (size_of m) s event t) (does s.core.registers s.place) meant
+    let acts : Acts (action meaning (fields_of m.format m.slots) s.core.registers s.place) (size_of m) s event t = subst (λ b. PairActs b (action meaning (fields_of m.format m.slots) s.core.registers s.place) (size_of m) s event t) even meant in
+    subst (λ a. Acts a (size_of m) s event t) (does s.core.registers s.place) acts
 
 -- ---- what the machine does there
 
@@ -279,17 +295,17 @@ module _ (L : Layout) (all : AllPlaced L) (offset : ℕ) (even : offset % 2 ≡ 
   pub three_at : (opcode : ℕ) (meaning : Meaning) → ThreeRow opcode meaning → (operation : Registers → Operation) (d n m : ℕ) → d < 16 → n < 16 → m < 16 → ((r : Registers) (p : ℕ) → action meaning (register_fields d n m) r p ≡ Perform (operation r)) → StandsAt L.image offset (bytes_of (rrf_ab opcode d n m 0)) → RowAt L (sum64 L.image.base offset) (λ r. Perform (operation r)) (size_of (rrf_ab opcode d n m 0))
   three_at opcode meaning row operation d n m ld ln lm does s =
       let x = rrf_ab opcode d n m 0 in
-      row_at L offset x (λ r. Perform (operation r)) all.even even all.fits s (fits_rrf_ab opcode d n m row.few ld ln lm) (listed machine_rows RrfAb x.slots row.some (row.lists.0, row.lists.1, ap (λ a. is_allowed a x.slots) row.lists.2)) (λ state event t at h. acts_as_meant x meaning operation row.means does state event t h)
+      row_at L offset x (λ r. Perform (operation r)) all.even even all.fits s (fits_rrf_ab opcode d n m row.few ld ln lm) (listed machine_rows RrfAb x.slots row.some (row.lists.0, row.lists.1, ap (λ a. is_allowed a x.slots) row.lists.2)) (λ state event t at h. acts_as_meant x meaning operation row.means (single_pair meaning (fields_of x.format x.slots) row.single) does state event t h)
 
   two_at_as : (opcode : ℕ) (meaning : Meaning) → TwoRow opcode meaning → (operation : Registers → Operation) (d m : ℕ) → d < 16 → m < 16 → ((r : Registers) (p : ℕ) → action meaning (register_fields d m 0) r p ≡ Perform (operation r)) → (short : Bool) → nat_lt opcode 256 ≡ short → StandsAt L.image offset (bytes_of (cond short (rr opcode d m) (rre opcode d m))) → RowAt L (sum64 L.image.base offset) (λ r. Perform (operation r)) (size_of (cond short (rr opcode d m) (rre opcode d m)))
   two_at_as opcode meaning row operation d m ld lm does true e s =
       let x = rr opcode d m in
       let format : (row_for machine_rows opcode).format ≡ Rr = row.lists.1 ∙ ap (λ b. (cond b (rr opcode 0 0) (rre opcode 0 0)).format) e in
-      row_at L offset x (λ r. Perform (operation r)) all.even even all.fits s (fits_rr opcode d m (ltb-true opcode 256 e) ld lm) (listed machine_rows Rr x.slots row.some (row.lists.0, format, ap (λ a. is_allowed a x.slots) row.lists.2)) (λ state event t at h. acts_as_meant x meaning operation row.means does state event t h)
+      row_at L offset x (λ r. Perform (operation r)) all.even even all.fits s (fits_rr opcode d m (ltb-true opcode 256 e) ld lm) (listed machine_rows Rr x.slots row.some (row.lists.0, format, ap (λ a. is_allowed a x.slots) row.lists.2)) (λ state event t at h. acts_as_meant x meaning operation row.means (single_pair meaning (fields_of x.format x.slots) row.single) does state event t h)
   two_at_as opcode meaning row operation d m ld lm does false e s =
       let x = rre opcode d m in
       let format : (row_for machine_rows opcode).format ≡ Rre = row.lists.1 ∙ ap (λ b. (cond b (rr opcode 0 0) (rre opcode 0 0)).format) e in
-      row_at L offset x (λ r. Perform (operation r)) all.even even all.fits s (fits_rre opcode d m row.few ld lm) (listed machine_rows Rre x.slots row.some (row.lists.0, format, ap (λ a. is_allowed a x.slots) row.lists.2)) (λ state event t at h. acts_as_meant x meaning operation row.means does state event t h)
+      row_at L offset x (λ r. Perform (operation r)) all.even even all.fits s (fits_rre opcode d m row.few ld lm) (listed machine_rows Rre x.slots row.some (row.lists.0, format, ap (λ a. is_allowed a x.slots) row.lists.2)) (λ state event t at h. acts_as_meant x meaning operation row.means (single_pair meaning (fields_of x.format x.slots) row.single) does state event t h)
 
   pub two_at : (opcode : ℕ) (meaning : Meaning) → TwoRow opcode meaning → (operation : Registers → Operation) (d m : ℕ) → d < 16 → m < 16 → ((r : Registers) (p : ℕ) → action meaning (register_fields d m 0) r p ≡ Perform (operation r)) → StandsAt L.image offset (bytes_of (two_operands opcode d m)) → RowAt L (sum64 L.image.base offset) (λ r. Perform (operation r)) (size_of (two_operands opcode d m))
   two_at opcode meaning row operation d m ld lm does s = two_at_as opcode meaning row operation d m ld lm does (nat_lt opcode 256) refl s
@@ -297,23 +313,29 @@ module _ (L : Layout) (all : AllPlaced L) (offset : ℕ) (even : offset % 2 ≡ 
   pub ri_a_at : (opcode : ℕ) (meaning : Meaning) → ImmediateRow RiA 4096 opcode meaning → (operation : Registers → Operation) (d bits : ℕ) → d < 16 → bits < 2 ^ 16 → ((r : Registers) (p : ℕ) → action meaning (immediate_fields RiA d 0 bits) r p ≡ Perform (operation r)) → StandsAt L.image offset (bytes_of (ri_a opcode d bits)) → RowAt L (sum64 L.image.base offset) (λ r. Perform (operation r)) (size_of (ri_a opcode d bits))
   ri_a_at opcode meaning row operation d bits ld lb does s =
       let x = ri_a opcode d bits in
-      row_at L offset x (λ r. Perform (operation r)) all.even even all.fits s (fits_ri_a opcode d bits row.few ld lb) (listed machine_rows RiA x.slots row.some (row.lists.0, row.lists.1, ap (λ a. is_allowed a x.slots) row.lists.2)) (λ state event t at h. acts_as_meant x meaning operation row.means does state event t h)
+      row_at L offset x (λ r. Perform (operation r)) all.even even all.fits s (fits_ri_a opcode d bits row.few ld lb) (listed machine_rows RiA x.slots row.some (row.lists.0, row.lists.1, ap (λ a. is_allowed a x.slots) row.lists.2)) (λ state event t at h. acts_as_meant x meaning operation row.means (single_pair meaning (fields_of x.format x.slots) row.single) does state event t h)
 
   pub ril_a_at : (opcode : ℕ) (meaning : Meaning) → ImmediateRow RilA 4096 opcode meaning → (operation : Registers → Operation) (d bits : ℕ) → d < 16 → bits < 2 ^ 32 → ((r : Registers) (p : ℕ) → action meaning (immediate_fields RilA d 0 bits) r p ≡ Perform (operation r)) → StandsAt L.image offset (bytes_of (ril_a opcode d bits)) → RowAt L (sum64 L.image.base offset) (λ r. Perform (operation r)) (size_of (ril_a opcode d bits))
   ril_a_at opcode meaning row operation d bits ld lb does s =
       let x = ril_a opcode d bits in
-      row_at L offset x (λ r. Perform (operation r)) all.even even all.fits s (fits_ril_a opcode d bits row.few ld lb) (listed machine_rows RilA x.slots row.some (row.lists.0, row.lists.1, ap (λ a. is_allowed a x.slots) row.lists.2)) (λ state event t at h. acts_as_meant x meaning operation row.means does state event t h)
+      row_at L offset x (λ r. Perform (operation r)) all.even even all.fits s (fits_ril_a opcode d bits row.few ld lb) (listed machine_rows RilA x.slots row.some (row.lists.0, row.lists.1, ap (λ a. is_allowed a x.slots) row.lists.2)) (λ state event t at h. acts_as_meant x meaning operation row.means (single_pair meaning (fields_of x.format x.slots) row.single) does state event t h)
 
   rie_d_at : (opcode : ℕ) (meaning : Meaning) → ImmediateRow RieD 65536 opcode meaning → (operation : Registers → Operation) (d n bits : ℕ) → d < 16 → n < 16 → bits < 2 ^ 16 → ((r : Registers) (p : ℕ) → action meaning (immediate_fields RieD d n bits) r p ≡ Perform (operation r)) → StandsAt L.image offset (bytes_of (rie_d opcode d n bits)) → RowAt L (sum64 L.image.base offset) (λ r. Perform (operation r)) (size_of (rie_d opcode d n bits))
   rie_d_at opcode meaning row operation d n bits ld ln lb does s =
       let x = rie_d opcode d n bits in
-      row_at L offset x (λ r. Perform (operation r)) all.even even all.fits s (fits_rie_d opcode d n bits row.few ld ln lb) (listed machine_rows RieD x.slots row.some (row.lists.0, row.lists.1, ap (λ a. is_allowed a x.slots) row.lists.2)) (λ state event t at h. acts_as_meant x meaning operation row.means does state event t h)
+      row_at L offset x (λ r. Perform (operation r)) all.even even all.fits s (fits_rie_d opcode d n bits row.few ld ln lb) (listed machine_rows RieD x.slots row.some (row.lists.0, row.lists.1, ap (λ a. is_allowed a x.slots) row.lists.2)) (λ state event t at h. acts_as_meant x meaning operation row.means (single_pair meaning (fields_of x.format x.slots) row.single) does state event t h)
 
   -- any row whose action is an operation
   pub meant_at : (kind : FormatKind) (allowed : Allowed) (opcode : ℕ) (fields : List ℕ) (meaning : Meaning) (operation : Registers → Operation) → Meant kind allowed opcode meaning → SlotsFit (layout_of kind) (opcode ∷ fields) → is_allowed allowed (opcode ∷ fields) ≡ true → ((r : Registers) (p : ℕ) → action meaning (fields_of kind (opcode ∷ fields)) r p ≡ Perform (operation r)) → StandsAt L.image offset (bytes_of (record { format = kind; slots = opcode ∷ fields })) → RowAt L (sum64 L.image.base offset) (λ r. Perform (operation r)) (length_of kind)
   meant_at kind allowed opcode fields meaning operation row fit allows does s =
       let x : MachineInstruction = record { format = kind; slots = opcode ∷ fields } in
-      row_at L offset x (λ r. Perform (operation r)) all.even even all.fits s fit (listed machine_rows kind x.slots row.some (row.lists.0, row.lists.1, ap (λ a. is_allowed a x.slots) row.lists.2 ∙ allows)) (λ state event t at h. acts_as_meant x meaning operation row.means does state event t h)
+      row_at L offset x (λ r. Perform (operation r)) all.even even all.fits s fit (listed machine_rows kind x.slots row.some (row.lists.0, row.lists.1, ap (λ a. is_allowed a x.slots) row.lists.2 ∙ allows)) (λ state event t at h. acts_as_meant x meaning operation row.means (single_pair meaning (fields_of x.format x.slots) row.single) does state event t h)
+
+  -- any row that names an even pair
+  pub pair_at : (kind : FormatKind) (allowed : Allowed) (opcode : ℕ) (fields : List ℕ) (meaning : Meaning) (operation : Registers → Operation) → PairRow kind allowed opcode meaning → is_odd_pair meaning (fields_of kind (opcode ∷ fields)) ≡ false → SlotsFit (layout_of kind) (opcode ∷ fields) → is_allowed allowed (opcode ∷ fields) ≡ true → ((r : Registers) (p : ℕ) → action meaning (fields_of kind (opcode ∷ fields)) r p ≡ Perform (operation r)) → StandsAt L.image offset (bytes_of (record { format = kind; slots = opcode ∷ fields })) → RowAt L (sum64 L.image.base offset) (λ r. Perform (operation r)) (length_of kind)
+  pair_at kind allowed opcode fields meaning operation row is_even fit allows does s =
+      let x : MachineInstruction = record { format = kind; slots = opcode ∷ fields } in
+      row_at L offset x (λ r. Perform (operation r)) all.even even all.fits s fit (listed machine_rows kind x.slots row.some (row.lists.0, row.lists.1, ap (λ a. is_allowed a x.slots) row.lists.2 ∙ allows)) (λ state event t at h. acts_as_meant x meaning operation row.means is_even does state event t h)
 
   -- the operations with an immediate
   pub halfword_at : (opcode : ℕ) (c : Computation) (rule : CodeRule) → ImmediateRow RiA 4096 opcode (computed c Immediate rule) → (d bits : ℕ) → d < 16 → bits < 2 ^ 16 → StandsAt L.image offset (bytes_of (ri_a opcode d bits)) → RowAt L (sum64 L.image.base offset) (λ r. Perform (computes_immediate rule c d d bits r)) (size_of (ri_a opcode d bits))

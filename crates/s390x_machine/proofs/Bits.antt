@@ -1,7 +1,7 @@
 -- The rows of the instructions on parts of registers, of shifts, rotations, extensions and conditional moves.
 use Rattle.std.proofs.Common.{◌≡◌, ℕ, ◌+◌, ◌*◌, ◌<◌, ◌≤◌, Some, None, Bool, true, false, cond, ◌&&◌, ◌||◌, refl, sym, ap, ◌∙◌, arith, nat_lt, nat_le, nat_eq, eqb-true, subst}
 use Rattle.std.proofs.lemmas.Bool.Decides.{nat_tests}
-use Rattle.s390x_format.specs.declared.kind.FormatKind.TheVariants.{RrfCde, RiA, RieF, RieG, RilA, Rsy}
+use Rattle.s390x_format.specs.declared.kind.FormatKind.TheVariants.{Rr, Rre, RrfAb, RrfCde, RiA, RieF, RieG, RilA, Rsy}
 use Rattle.s390x_format.specs.declared.row.Allowed.{Allowed}
 use Rattle.s390x_format.specs.declared.row.Allowed.TheVariants.{Any, FirstMask, CountMode, RotateBits, RotateBitsOrTest}
 use Rattle.s390x_format.specs.Lookup.{row_for}
@@ -24,12 +24,12 @@ use Rattle.s390x_operations.specs.declared.operator.SelectedBitsOperator.TheVari
 use Rattle.s390x_operations.specs.declared.size.Size.TheVariants.{Word, Doubleword}
 use Rattle.s390x_operations.specs.declared.size.Width.TheVariants.{Bits8, Bits16, Bits32, Bits64}
 use Rattle.s390x_machine.specs.declared.meaning.Meaning.{Meaning}
-use Rattle.s390x_machine.specs.declared.meaning.Meaning.TheVariants.{Compute, MoveWhere, CountOnes, RotateThen}
+use Rattle.s390x_machine.specs.declared.meaning.Meaning.TheVariants.{Compute, MoveWhere, CountOnes, RotateThen, MultiplySigned, MultiplyLogical, FindLeftmostOne, BranchToRegister}
 use Rattle.s390x_machine.specs.declared.meaning.SecondOperand.{SecondOperand}
 use Rattle.s390x_machine.specs.declared.meaning.Shape.TheVariants.{Register, Immediate, ShiftedImmediate, Amount, AccessRegister}
 use Rattle.s390x_machine.specs.Computations.{Computation, word, doubleword, signed_halfword, on_words, on_doublewords, on_selected, with_second, extended_second, extension, part_mask, half_mask, part_operator, shift_operator, shift_size, shift_rule, rotate_operator, rotate_rule}
 use Rattle.s390x_machine.specs.Meanings.{meaning_in, meaning_of}
-use Rattle.s390x_machine.proofs.Alone.{Meant, TwoRow, TwoRows, ImmediateRow, ImmediateRows, second_register, computed}
+use Rattle.s390x_machine.proofs.Alone.{none_but_zero, PairRow, Meant, TwoRow, TwoRows, ImmediateRow, ImmediateRows, second_register, computed}
 
 -- ---- parts and halves
 
@@ -69,37 +69,37 @@ by_four kind digits a b c d meaning zeroth first second third n = go (nat_eq n 0
 
 pub part_rows : (op : ALUOp) (shift : ℕ) → ImmediateRows RiA 4096 (alu_part op shift) (immediate_at (on_selected (part_operator op) (part_mask shift)) (16 * shift) Set)
 unfolding machine_rows row_for meaning_in meaning_of
-part_rows A.And32 shift = by_two RiA 4096 0xa57 0xa56 (λ n. immediate_at (on_selected Select.And (part_mask n)) (16 * n) Set) (record { some = omega arith; few = omega arith; lists = (refl, refl, refl); means = refl }) (record { some = omega arith; few = omega arith; lists = (refl, refl, refl); means = refl }) shift
-part_rows A.And64 shift = by_four RiA 4096 0xa57 0xa56 0xa55 0xa54 (λ n. immediate_at (on_selected Select.And (part_mask n)) (16 * n) Set) (record { some = omega arith; few = omega arith; lists = (refl, refl, refl); means = refl }) (record { some = omega arith; few = omega arith; lists = (refl, refl, refl); means = refl }) (record { some = omega arith; few = omega arith; lists = (refl, refl, refl); means = refl }) (record { some = omega arith; few = omega arith; lists = (refl, refl, refl); means = refl }) shift
-part_rows A.Orr32 shift = by_two RiA 4096 0xa5b 0xa5a (λ n. immediate_at (on_selected Select.Or (part_mask n)) (16 * n) Set) (record { some = omega arith; few = omega arith; lists = (refl, refl, refl); means = refl }) (record { some = omega arith; few = omega arith; lists = (refl, refl, refl); means = refl }) shift
-part_rows A.Orr64 shift = by_four RiA 4096 0xa5b 0xa5a 0xa59 0xa58 (λ n. immediate_at (on_selected Select.Or (part_mask n)) (16 * n) Set) (record { some = omega arith; few = omega arith; lists = (refl, refl, refl); means = refl }) (record { some = omega arith; few = omega arith; lists = (refl, refl, refl); means = refl }) (record { some = omega arith; few = omega arith; lists = (refl, refl, refl); means = refl }) (record { some = omega arith; few = omega arith; lists = (refl, refl, refl); means = refl }) shift
+part_rows A.And32 shift = by_two RiA 4096 0xa57 0xa56 (λ n. immediate_at (on_selected Select.And (part_mask n)) (16 * n) Set) (record { some = omega arith; few = omega arith; lists = (refl, refl, refl); means = refl; single = refl }) (record { some = omega arith; few = omega arith; lists = (refl, refl, refl); means = refl; single = refl }) shift
+part_rows A.And64 shift = by_four RiA 4096 0xa57 0xa56 0xa55 0xa54 (λ n. immediate_at (on_selected Select.And (part_mask n)) (16 * n) Set) (record { some = omega arith; few = omega arith; lists = (refl, refl, refl); means = refl; single = refl }) (record { some = omega arith; few = omega arith; lists = (refl, refl, refl); means = refl; single = refl }) (record { some = omega arith; few = omega arith; lists = (refl, refl, refl); means = refl; single = refl }) (record { some = omega arith; few = omega arith; lists = (refl, refl, refl); means = refl; single = refl }) shift
+part_rows A.Orr32 shift = by_two RiA 4096 0xa5b 0xa5a (λ n. immediate_at (on_selected Select.Or (part_mask n)) (16 * n) Set) (record { some = omega arith; few = omega arith; lists = (refl, refl, refl); means = refl; single = refl }) (record { some = omega arith; few = omega arith; lists = (refl, refl, refl); means = refl; single = refl }) shift
+part_rows A.Orr64 shift = by_four RiA 4096 0xa5b 0xa5a 0xa59 0xa58 (λ n. immediate_at (on_selected Select.Or (part_mask n)) (16 * n) Set) (record { some = omega arith; few = omega arith; lists = (refl, refl, refl); means = refl; single = refl }) (record { some = omega arith; few = omega arith; lists = (refl, refl, refl); means = refl; single = refl }) (record { some = omega arith; few = omega arith; lists = (refl, refl, refl); means = refl; single = refl }) (record { some = omega arith; few = omega arith; lists = (refl, refl, refl); means = refl; single = refl }) shift
 part_rows _ shift = tt
 
 pub half_rows : (op : ALUOp) (shift : ℕ) → ImmediateRows RilA 4096 (alu_half op shift) (immediate_at (on_selected (part_operator op) (half_mask shift)) (32 * shift) Set)
 unfolding machine_rows row_for meaning_in meaning_of
-half_rows A.And32 shift = by_one RilA 4096 0xc0b (λ n. immediate_at (on_selected Select.And (half_mask n)) (32 * n) Set) (record { some = omega arith; few = omega arith; lists = (refl, refl, refl); means = refl }) shift
-half_rows A.And64 shift = by_two RilA 4096 0xc0b 0xc0a (λ n. immediate_at (on_selected Select.And (half_mask n)) (32 * n) Set) (record { some = omega arith; few = omega arith; lists = (refl, refl, refl); means = refl }) (record { some = omega arith; few = omega arith; lists = (refl, refl, refl); means = refl }) shift
-half_rows A.Orr32 shift = by_one RilA 4096 0xc0d (λ n. immediate_at (on_selected Select.Or (half_mask n)) (32 * n) Set) (record { some = omega arith; few = omega arith; lists = (refl, refl, refl); means = refl }) shift
-half_rows A.Orr64 shift = by_two RilA 4096 0xc0d 0xc0c (λ n. immediate_at (on_selected Select.Or (half_mask n)) (32 * n) Set) (record { some = omega arith; few = omega arith; lists = (refl, refl, refl); means = refl }) (record { some = omega arith; few = omega arith; lists = (refl, refl, refl); means = refl }) shift
-half_rows A.Xor32 shift = by_one RilA 4096 0xc07 (λ n. immediate_at (on_selected Select.Xor (half_mask n)) (32 * n) Set) (record { some = omega arith; few = omega arith; lists = (refl, refl, refl); means = refl }) shift
-half_rows A.Xor64 shift = by_two RilA 4096 0xc07 0xc06 (λ n. immediate_at (on_selected Select.Xor (half_mask n)) (32 * n) Set) (record { some = omega arith; few = omega arith; lists = (refl, refl, refl); means = refl }) (record { some = omega arith; few = omega arith; lists = (refl, refl, refl); means = refl }) shift
+half_rows A.And32 shift = by_one RilA 4096 0xc0b (λ n. immediate_at (on_selected Select.And (half_mask n)) (32 * n) Set) (record { some = omega arith; few = omega arith; lists = (refl, refl, refl); means = refl; single = refl }) shift
+half_rows A.And64 shift = by_two RilA 4096 0xc0b 0xc0a (λ n. immediate_at (on_selected Select.And (half_mask n)) (32 * n) Set) (record { some = omega arith; few = omega arith; lists = (refl, refl, refl); means = refl; single = refl }) (record { some = omega arith; few = omega arith; lists = (refl, refl, refl); means = refl; single = refl }) shift
+half_rows A.Orr32 shift = by_one RilA 4096 0xc0d (λ n. immediate_at (on_selected Select.Or (half_mask n)) (32 * n) Set) (record { some = omega arith; few = omega arith; lists = (refl, refl, refl); means = refl; single = refl }) shift
+half_rows A.Orr64 shift = by_two RilA 4096 0xc0d 0xc0c (λ n. immediate_at (on_selected Select.Or (half_mask n)) (32 * n) Set) (record { some = omega arith; few = omega arith; lists = (refl, refl, refl); means = refl; single = refl }) (record { some = omega arith; few = omega arith; lists = (refl, refl, refl); means = refl; single = refl }) shift
+half_rows A.Xor32 shift = by_one RilA 4096 0xc07 (λ n. immediate_at (on_selected Select.Xor (half_mask n)) (32 * n) Set) (record { some = omega arith; few = omega arith; lists = (refl, refl, refl); means = refl; single = refl }) shift
+half_rows A.Xor64 shift = by_two RilA 4096 0xc07 0xc06 (λ n. immediate_at (on_selected Select.Xor (half_mask n)) (32 * n) Set) (record { some = omega arith; few = omega arith; lists = (refl, refl, refl); means = refl; single = refl }) (record { some = omega arith; few = omega arith; lists = (refl, refl, refl); means = refl; single = refl }) shift
 half_rows _ shift = tt
 
 pub load_part_rows : (shift : ℕ) → ImmediateRows RiA 4096 (load_part shift) (immediate_at (on_doublewords Move) (16 * shift) Kept)
 unfolding machine_rows row_for meaning_in meaning_of
-load_part_rows shift = by_four RiA 4096 0xa5f 0xa5e 0xa5d 0xa5c (λ n. immediate_at (on_doublewords Move) (16 * n) Kept) (record { some = omega arith; few = omega arith; lists = (refl, refl, refl); means = refl }) (record { some = omega arith; few = omega arith; lists = (refl, refl, refl); means = refl }) (record { some = omega arith; few = omega arith; lists = (refl, refl, refl); means = refl }) (record { some = omega arith; few = omega arith; lists = (refl, refl, refl); means = refl }) shift
+load_part_rows shift = by_four RiA 4096 0xa5f 0xa5e 0xa5d 0xa5c (λ n. immediate_at (on_doublewords Move) (16 * n) Kept) (record { some = omega arith; few = omega arith; lists = (refl, refl, refl); means = refl; single = refl }) (record { some = omega arith; few = omega arith; lists = (refl, refl, refl); means = refl; single = refl }) (record { some = omega arith; few = omega arith; lists = (refl, refl, refl); means = refl; single = refl }) (record { some = omega arith; few = omega arith; lists = (refl, refl, refl); means = refl; single = refl }) shift
 
 pub load_half_rows : (shift : ℕ) → ImmediateRows RilA 4096 (load_half shift) (immediate_at (on_doublewords Move) (32 * shift) Kept)
 unfolding machine_rows row_for meaning_in meaning_of
-load_half_rows shift = by_two RilA 4096 0xc0f 0xc0e (λ n. immediate_at (on_doublewords Move) (32 * n) Kept) (record { some = omega arith; few = omega arith; lists = (refl, refl, refl); means = refl }) (record { some = omega arith; few = omega arith; lists = (refl, refl, refl); means = refl }) shift
+load_half_rows shift = by_two RilA 4096 0xc0f 0xc0e (λ n. immediate_at (on_doublewords Move) (32 * n) Kept) (record { some = omega arith; few = omega arith; lists = (refl, refl, refl); means = refl; single = refl }) (record { some = omega arith; few = omega arith; lists = (refl, refl, refl); means = refl; single = refl }) shift
 
 pub insert_part_rows : (shift : ℕ) → ImmediateRows RiA 4096 (insert_part shift) (immediate_at (on_selected Select.Insert (part_mask shift)) (16 * shift) Kept)
 unfolding machine_rows row_for meaning_in meaning_of
-insert_part_rows shift = by_four RiA 4096 0xa53 0xa52 0xa51 0xa50 (λ n. immediate_at (on_selected Select.Insert (part_mask n)) (16 * n) Kept) (record { some = omega arith; few = omega arith; lists = (refl, refl, refl); means = refl }) (record { some = omega arith; few = omega arith; lists = (refl, refl, refl); means = refl }) (record { some = omega arith; few = omega arith; lists = (refl, refl, refl); means = refl }) (record { some = omega arith; few = omega arith; lists = (refl, refl, refl); means = refl }) shift
+insert_part_rows shift = by_four RiA 4096 0xa53 0xa52 0xa51 0xa50 (λ n. immediate_at (on_selected Select.Insert (part_mask n)) (16 * n) Kept) (record { some = omega arith; few = omega arith; lists = (refl, refl, refl); means = refl; single = refl }) (record { some = omega arith; few = omega arith; lists = (refl, refl, refl); means = refl; single = refl }) (record { some = omega arith; few = omega arith; lists = (refl, refl, refl); means = refl; single = refl }) (record { some = omega arith; few = omega arith; lists = (refl, refl, refl); means = refl; single = refl }) shift
 
 pub iihf_row : ImmediateRow RilA 4096 0xc08 (immediate_at (on_selected Select.Insert (half_mask 1)) 32 Kept)
 unfolding machine_rows row_for meaning_in meaning_of
-iihf_row = record { some = omega arith; few = omega arith; lists = (refl, refl, refl); means = refl }
+iihf_row = record { some = omega arith; few = omega arith; lists = (refl, refl, refl); means = refl; single = refl }
 
 -- ---- extensions
 
@@ -109,24 +109,24 @@ extends signed from to = computed (extension signed from to) Register Kept
 
 pub word_rows : (signed one eight sixteen : Bool) → TwoRows (cond one (Some 0xb926) (cond eight (Some (cond signed 0xb926 0xb994)) (cond sixteen (Some (cond signed 0xb927 0xb995)) None))) (computed (with_second Move Word (record { width = cond one Bits8 (cond eight Bits8 (cond sixteen Bits16 Bits32)); sign = cond one Signed (cond signed Signed Unsigned); reversed = false })) Register Kept)
 unfolding machine_rows row_for meaning_in meaning_of
-word_rows true true eight sixteen = record { some = omega arith; few = omega arith; lists = (refl, refl, refl); means = refl }
-word_rows false true eight sixteen = record { some = omega arith; few = omega arith; lists = (refl, refl, refl); means = refl }
-word_rows true false true sixteen = record { some = omega arith; few = omega arith; lists = (refl, refl, refl); means = refl }
-word_rows false false true sixteen = record { some = omega arith; few = omega arith; lists = (refl, refl, refl); means = refl }
-word_rows true false false true = record { some = omega arith; few = omega arith; lists = (refl, refl, refl); means = refl }
-word_rows false false false true = record { some = omega arith; few = omega arith; lists = (refl, refl, refl); means = refl }
+word_rows true true eight sixteen = record { some = omega arith; few = omega arith; lists = (refl, refl, refl); means = refl; single = refl }
+word_rows false true eight sixteen = record { some = omega arith; few = omega arith; lists = (refl, refl, refl); means = refl; single = refl }
+word_rows true false true sixteen = record { some = omega arith; few = omega arith; lists = (refl, refl, refl); means = refl; single = refl }
+word_rows false false true sixteen = record { some = omega arith; few = omega arith; lists = (refl, refl, refl); means = refl; single = refl }
+word_rows true false false true = record { some = omega arith; few = omega arith; lists = (refl, refl, refl); means = refl; single = refl }
+word_rows false false false true = record { some = omega arith; few = omega arith; lists = (refl, refl, refl); means = refl; single = refl }
 word_rows signed false false false = tt
 
 pub doubleword_rows : (signed one eight sixteen thirty_two : Bool) → TwoRows (cond one (Some 0xb906) (cond eight (Some (cond signed 0xb906 0xb984)) (cond sixteen (Some (cond signed 0xb907 0xb985)) (cond thirty_two (Some (cond signed 0xb914 0xb916)) None)))) (computed (with_second Move Doubleword (record { width = cond one Bits8 (cond eight Bits8 (cond sixteen Bits16 Bits32)); sign = cond one Signed (cond signed Signed Unsigned); reversed = false })) Register Kept)
 unfolding machine_rows row_for meaning_in meaning_of
-doubleword_rows true true eight sixteen more = record { some = omega arith; few = omega arith; lists = (refl, refl, refl); means = refl }
-doubleword_rows false true eight sixteen more = record { some = omega arith; few = omega arith; lists = (refl, refl, refl); means = refl }
-doubleword_rows true false true sixteen more = record { some = omega arith; few = omega arith; lists = (refl, refl, refl); means = refl }
-doubleword_rows false false true sixteen more = record { some = omega arith; few = omega arith; lists = (refl, refl, refl); means = refl }
-doubleword_rows true false false true more = record { some = omega arith; few = omega arith; lists = (refl, refl, refl); means = refl }
-doubleword_rows false false false true more = record { some = omega arith; few = omega arith; lists = (refl, refl, refl); means = refl }
-doubleword_rows true false false false true = record { some = omega arith; few = omega arith; lists = (refl, refl, refl); means = refl }
-doubleword_rows false false false false true = record { some = omega arith; few = omega arith; lists = (refl, refl, refl); means = refl }
+doubleword_rows true true eight sixteen more = record { some = omega arith; few = omega arith; lists = (refl, refl, refl); means = refl; single = refl }
+doubleword_rows false true eight sixteen more = record { some = omega arith; few = omega arith; lists = (refl, refl, refl); means = refl; single = refl }
+doubleword_rows true false true sixteen more = record { some = omega arith; few = omega arith; lists = (refl, refl, refl); means = refl; single = refl }
+doubleword_rows false false true sixteen more = record { some = omega arith; few = omega arith; lists = (refl, refl, refl); means = refl; single = refl }
+doubleword_rows true false false true more = record { some = omega arith; few = omega arith; lists = (refl, refl, refl); means = refl; single = refl }
+doubleword_rows false false false true more = record { some = omega arith; few = omega arith; lists = (refl, refl, refl); means = refl; single = refl }
+doubleword_rows true false false false true = record { some = omega arith; few = omega arith; lists = (refl, refl, refl); means = refl; single = refl }
+doubleword_rows false false false false true = record { some = omega arith; few = omega arith; lists = (refl, refl, refl); means = refl; single = refl }
 doubleword_rows signed false false false false = tt
 
 sized_rows : (signed : Bool) (from : ℕ) (to_word to_doubleword : Bool) → TwoRows (cond to_word (extend_to_word signed from) (cond to_doubleword (extend_to_doubleword signed from) None)) (computed (with_second Move (cond to_word Word Doubleword) (extended_second signed from)) Register Kept)
@@ -139,7 +139,7 @@ extend_rows signed from to = sized_rows signed from (nat_eq to 32) (nat_eq to 64
 
 pub ear_row : TwoRow 0xb24f (computed (on_words Move) AccessRegister Kept)
 unfolding machine_rows row_for meaning_in meaning_of
-ear_row = record { some = omega arith; few = omega arith; lists = (refl, refl, refl); means = refl }
+ear_row = record { some = omega arith; few = omega arith; lists = (refl, refl, refl); means = refl; single = refl }
 
 -- ---- shifts
 
@@ -148,14 +148,14 @@ shift_meaning op = Compute (Shift (shift_operator op)) (shift_size op) (record {
 
 pub shift_rows : (op : ShiftOp) → Meant Rsy Any (shift_storage op) (shift_meaning op)
 unfolding machine_rows row_for meaning_in meaning_of
-shift_rows S.RotL32 = record { some = omega arith; few = omega arith; lists = (refl, refl, refl); means = refl }
-shift_rows S.RotL64 = record { some = omega arith; few = omega arith; lists = (refl, refl, refl); means = refl }
-shift_rows S.LShL32 = record { some = omega arith; few = omega arith; lists = (refl, refl, refl); means = refl }
-shift_rows S.LShL64 = record { some = omega arith; few = omega arith; lists = (refl, refl, refl); means = refl }
-shift_rows S.LShR32 = record { some = omega arith; few = omega arith; lists = (refl, refl, refl); means = refl }
-shift_rows S.LShR64 = record { some = omega arith; few = omega arith; lists = (refl, refl, refl); means = refl }
-shift_rows S.AShR32 = record { some = omega arith; few = omega arith; lists = (refl, refl, refl); means = refl }
-shift_rows S.AShR64 = record { some = omega arith; few = omega arith; lists = (refl, refl, refl); means = refl }
+shift_rows S.RotL32 = record { some = omega arith; few = omega arith; lists = (refl, refl, refl); means = refl; single = refl }
+shift_rows S.RotL64 = record { some = omega arith; few = omega arith; lists = (refl, refl, refl); means = refl; single = refl }
+shift_rows S.LShL32 = record { some = omega arith; few = omega arith; lists = (refl, refl, refl); means = refl; single = refl }
+shift_rows S.LShL64 = record { some = omega arith; few = omega arith; lists = (refl, refl, refl); means = refl; single = refl }
+shift_rows S.LShR32 = record { some = omega arith; few = omega arith; lists = (refl, refl, refl); means = refl; single = refl }
+shift_rows S.LShR64 = record { some = omega arith; few = omega arith; lists = (refl, refl, refl); means = refl; single = refl }
+shift_rows S.AShR32 = record { some = omega arith; few = omega arith; lists = (refl, refl, refl); means = refl; single = refl }
+shift_rows S.AShR64 = record { some = omega arith; few = omega arith; lists = (refl, refl, refl); means = refl; single = refl }
 
 -- ---- rotations
 
@@ -166,10 +166,24 @@ rotate_allows _ = RotateBitsOrTest
 
 pub rotate_rows : (op : RxSBGOp) → Meant RieF (rotate_allows op) (rotate_then op) (RotateThen (rotate_operator op) (rotate_rule op))
 unfolding machine_rows row_for meaning_in meaning_of
-rotate_rows R.Insert = record { some = omega arith; few = omega arith; lists = (refl, refl, refl); means = refl }
-rotate_rows R.And = record { some = omega arith; few = omega arith; lists = (refl, refl, refl); means = refl }
-rotate_rows R.Or = record { some = omega arith; few = omega arith; lists = (refl, refl, refl); means = refl }
-rotate_rows R.Xor = record { some = omega arith; few = omega arith; lists = (refl, refl, refl); means = refl }
+rotate_rows R.Insert = record { some = omega arith; few = omega arith; lists = (refl, refl, refl); means = refl; single = refl }
+rotate_rows R.And = record { some = omega arith; few = omega arith; lists = (refl, refl, refl); means = refl; single = refl }
+rotate_rows R.Or = record { some = omega arith; few = omega arith; lists = (refl, refl, refl); means = refl; single = refl }
+rotate_rows R.Xor = record { some = omega arith; few = omega arith; lists = (refl, refl, refl); means = refl; single = refl }
+
+-- ---- pairs
+
+pub mgrk_row : PairRow RrfAb none_but_zero 0xb9ec MultiplySigned
+unfolding machine_rows row_for meaning_in meaning_of
+mgrk_row = record { some = omega arith; few = omega arith; lists = (refl, refl, refl); means = refl }
+
+pub mlgr_row : PairRow Rre Any 0xb986 MultiplyLogical
+unfolding machine_rows row_for meaning_in meaning_of
+mlgr_row = record { some = omega arith; few = omega arith; lists = (refl, refl, refl); means = refl }
+
+pub flogr_row : PairRow Rre Any 0xb983 FindLeftmostOne
+unfolding machine_rows row_for meaning_in meaning_of
+flogr_row = record { some = omega arith; few = omega arith; lists = (refl, refl, refl); means = refl }
 
 -- ---- conditional moves, and counts of ones
 
@@ -178,23 +192,27 @@ any_mask = FirstMask 0 15
 
 pub locr_row : Meant RrfCde any_mask 0xb9f2 (MoveWhere Word (second_register Register word))
 unfolding machine_rows row_for meaning_in meaning_of
-locr_row = record { some = omega arith; few = omega arith; lists = (refl, refl, refl); means = refl }
+locr_row = record { some = omega arith; few = omega arith; lists = (refl, refl, refl); means = refl; single = refl }
 
 pub locgr_row : Meant RrfCde any_mask 0xb9e2 (MoveWhere Doubleword (second_register Register doubleword))
 unfolding machine_rows row_for meaning_in meaning_of
-locgr_row = record { some = omega arith; few = omega arith; lists = (refl, refl, refl); means = refl }
+locgr_row = record { some = omega arith; few = omega arith; lists = (refl, refl, refl); means = refl; single = refl }
 
 pub lochi_row : Meant RieG Any 0xec42 (MoveWhere Word (second_register Immediate signed_halfword))
 unfolding machine_rows row_for meaning_in meaning_of
-lochi_row = record { some = omega arith; few = omega arith; lists = (refl, refl, refl); means = refl }
+lochi_row = record { some = omega arith; few = omega arith; lists = (refl, refl, refl); means = refl; single = refl }
 
 pub locghi_row : Meant RieG Any 0xec46 (MoveWhere Doubleword (second_register Immediate signed_halfword))
 unfolding machine_rows row_for meaning_in meaning_of
-locghi_row = record { some = omega arith; few = omega arith; lists = (refl, refl, refl); means = refl }
+locghi_row = record { some = omega arith; few = omega arith; lists = (refl, refl, refl); means = refl; single = refl }
 
 pub popcnt_row : Meant RrfCde CountMode 0xb9e1 CountOnes
 unfolding machine_rows row_for meaning_in meaning_of
-popcnt_row = record { some = omega arith; few = omega arith; lists = (refl, refl, refl); means = refl }
+popcnt_row = record { some = omega arith; few = omega arith; lists = (refl, refl, refl); means = refl; single = refl }
+
+pub bcr_row : Meant Rr Any 0x07 BranchToRegister
+unfolding machine_rows row_for meaning_in meaning_of
+bcr_row = record { some = omega arith; few = omega arith; lists = (refl, refl, refl); means = refl; single = refl }
 
 -- ---- tests
 

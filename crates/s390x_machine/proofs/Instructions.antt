@@ -1,11 +1,11 @@
 -- Each built step runs as its typed step, and so every run is allowed.
-use Rattle.std.proofs.Common.{◌≡◌, ℕ, suc, ◌+◌, ◌%◌, ◌^◌, ◌<◌, ◌≤◌, [], ◌∷◌, length, Option, Some, None, Bool, true, false, cond, ◌&&◌, IsTrue, refl, sym, ap, ◌∙◌, subst, arith, slice_get, eqb-true, nat_lt, nat_eq, ℤ, pos, negsuc, List, ◌*◌, ◌-◌, ltb-true}
+use Rattle.std.proofs.Common.{◌≡◌, ℕ, suc, ◌+◌, ◌%◌, ◌==◌, ◌^◌, ◌<◌, ◌≤◌, [], ◌∷◌, length, Option, Some, None, Bool, true, false, cond, ◌&&◌, IsTrue, refl, sym, ap, ◌∙◌, subst, arith, slice_get, eqb-true, nat_lt, nat_eq, ℤ, pos, negsuc, List, ◌*◌, ◌-◌, ltb-true}
 use Rattle.std.specs.Prelude.{◌-ℤ◌}
 use Rattle.std.proofs.lemmas.Bool.{and_parts}
 use Rattle.std.proofs.lemmas.Option.{slice_get_within}
-use Rattle.s390x_base.specs.Regs.{number_of}
+use Rattle.s390x_base.specs.Regs.{number_of, is_int, is_pair}
 use Rattle.s390x_base.specs.declared.regs.Reg.{Reg}
-use Rattle.s390x_base.specs.declared.regs.Reg.TheVariants.{Real}
+use Rattle.s390x_base.specs.declared.regs.Reg.TheVariants.{Real, Virtual}
 use Rattle.s390x_base.specs.declared.trap.TrapKind.{TrapKind}
 use Rattle.s390x_inst.specs.declared.ops.ALUOp.{ALUOp}
 use Rattle.s390x_inst.specs.declared.ops.UnaryOp.TheVariants as U
@@ -13,7 +13,7 @@ use Rattle.s390x_inst.specs.declared.ops.ShiftOp.{ShiftOp}
 use Rattle.s390x_inst.specs.declared.ops.RxSBGOp.{RxSBGOp}
 use Rattle.s390x_inst.specs.declared.ops.RxSBGOp.TheVariants as R
 use Rattle.s390x_inst.specs.declared.inst.Inst.{Inst}
-use Rattle.s390x_inst.specs.declared.inst.Inst.TheVariants.{AluRRR, AluRR, AluRRSImm16, AluRSImm16, AluRSImm32, AluRUImm32, UnaryRR, CmpRR, CmpRSImm16, CmpRSImm32, CmpRUImm32, Mov64, MovPReg, Mov32, Mov32Imm, Mov32SImm16, Mov64SImm16, Mov64SImm32, AluRUImm16Shifted, AluRUImm32Shifted, ShiftRR, RxSBG, RxSBGTest, Mov64UImm16Shifted, Mov64UImm32Shifted, Insert64UImm16Shifted, Insert64UImm32Shifted, CMov32, CMov64, CMov32SImm16, CMov64SImm16, Extend, LoadAR, InsertAR, Jump, CondBr, IndirectBr, Ret}
+use Rattle.s390x_inst.specs.declared.inst.Inst.TheVariants.{AluRRR, AluRR, AluRRSImm16, AluRSImm16, AluRSImm32, AluRUImm32, UnaryRR, CmpRR, CmpRSImm16, CmpRSImm32, CmpRUImm32, Mov64, MovPReg, Mov32, Mov32Imm, Mov32SImm16, Mov64SImm16, Mov64SImm32, AluRUImm16Shifted, AluRUImm32Shifted, SMulWide, UMulWide, Flogr, ShiftRR, RxSBG, RxSBGTest, Mov64UImm16Shifted, Mov64UImm32Shifted, Insert64UImm16Shifted, Insert64UImm32Shifted, CMov32, CMov64, CMov32SImm16, CMov64SImm16, Extend, LoadAR, InsertAR, Fence, Nop0, Nop2, Jump, CondBr, IndirectBr, Ret}
 use Rattle.s390x_format.specs.Formats.{length_of, layout_of}
 use Rattle.s390x_format.specs.Layout.{SlotsFit}
 use Rattle.s390x_format.specs.Rows.{is_allowed}
@@ -21,8 +21,8 @@ use Rattle.s390x_format.specs.View.{fields_of}
 use Rattle.s390x_format.specs.declared.row.Allowed.{Allowed}
 use Rattle.s390x_format.specs.declared.row.Allowed.TheVariants.{Any, CountMode, RotateBitsOrTest}
 use Rattle.s390x_format.specs.declared.kind.FormatKind.{FormatKind}
-use Rattle.s390x_format.specs.declared.kind.FormatKind.TheVariants.{Rr, RrfCde, RiA, RieD, RieF, RieG, RilA, Rsy}
-use Rattle.s390x_steps.specs.General.{is_general, reuses, low_halfword, low_word, low_byte, four_bits, rotation, is_access}
+use Rattle.s390x_format.specs.declared.kind.FormatKind.TheVariants.{Rr, Rre, RrfAb, RrfCde, RiA, RieD, RieF, RieG, RilA, Rsy}
+use Rattle.s390x_steps.specs.General.{is_general, is_even_pair, reuses, low_halfword, low_word, low_byte, four_bits, rotation, is_access}
 use Rattle.s390x_steps.specs.Opcodes.{alu_three, alu_two, cmp_two, unary_two, alu_halfword, alu_three_halfword, alu_signed_word, alu_unsigned_word, cmp_halfword, cmp_signed_word, cmp_unsigned_word, alu_part, alu_half, load_part, load_half, insert_part, insert_half, extend_two, shift_storage, rotate_then, rotate_then_test}
 use Rattle.s390x_steps.specs.Alone.{alone_with, two_operands, two_row, three_row, halfword_row, word_row, three_halfword_row, rotated_row}
 use Rattle.s390x_steps.specs.Ranges.{IsMask}
@@ -30,7 +30,9 @@ use Rattle.s390x_steps.specs.MachineInstruction.{MachineInstruction, bytes_of, s
 use Rattle.s390x_steps.specs.Steps.{Step, Plain, Opening, Back, Break}
 use Rattle.s390x_steps.specs.Parts.{ToBlock, ToStep, Row, Branch, parts_size, parts_or, step_parts}
 use Rattle.s390x_steps.specs.Rows.{rows_of}
-use Rattle.s390x_operations.specs.State.{Registers, sum64}
+use Rattle.s390x_operations.specs.State.{Registers, Core, State, coded, sum64}
+use Rattle.s390x_operations.specs.declared.stop.ConditionCode.{ConditionCode}
+use Rattle.s390x_operations.specs.declared.stop.ConditionCode.TheVariants.{Code0, Code1, Code2, Code3}
 use Rattle.s390x_operations.specs.Effects.{Refines, refused, MayRefuse, is_selected}
 use Rattle.s390x_operations.specs.declared.effect.Operation.{Operation}
 use Rattle.s390x_operations.specs.declared.effect.CodeRule.{CodeRule}
@@ -44,26 +46,27 @@ use Rattle.s390x_operations.specs.declared.operator.Operator.{Operator}
 use Rattle.s390x_operations.specs.declared.operator.Operator.TheVariants.{Move, Shift, SelectedBits, PopulationCountByByte}
 use Rattle.s390x_operations.specs.declared.stop.StopKind.{StopKind}
 use Rattle.s390x_machine.specs.declared.meaning.Meaning.{Meaning}
-use Rattle.s390x_machine.specs.declared.meaning.Meaning.TheVariants.{Compare, MoveWhere, CountOnes, RotateThen}
+use Rattle.s390x_machine.specs.declared.meaning.Meaning.TheVariants.{Compare, MoveWhere, CountOnes, RotateThen, MultiplySigned, MultiplyLogical, FindLeftmostOne, BranchToRegister}
 use Rattle.s390x_machine.specs.declared.meaning.Shape.TheVariants.{Register, ThreeRegisters, Immediate, ThreeImmediate, AccessRegister}
 use Rattle.s390x_machine.specs.declared.meaning.Action.{Action}
 use Rattle.s390x_machine.specs.declared.meaning.Action.TheVariants.{Perform, Branch as BranchAction}
-use Rattle.s390x_machine.specs.Computations.{Computation, Comparison, alu_computation, alu_three_rule, alu_two_rule, unary_computation, unary_rule, comparison, on_words, on_doublewords, word, signed_word, signed_halfword, on_immediate, compares_on_immediate, computes, compares, computes_immediate, compares_immediate, Second, with_rule, operand_of, doubleword, part_mask, half_mask, on_selected, part_operator, at_half, inserts_half, extension, shift_operator, shift_size, shift_rule, shift_computation, shifts, rotate_operator, rotate_rule, rotates_into, rotates_to_test, copies_access, moves_where, moves_immediate_where}
+use Rattle.s390x_machine.specs.Computations.{Computation, Comparison, alu_computation, alu_three_rule, alu_two_rule, unary_computation, unary_rule, comparison, on_words, on_doublewords, word, signed_word, signed_halfword, on_immediate, compares_on_immediate, computes, compares, computes_immediate, compares_immediate, Second, with_rule, operand_of, doubleword, part_mask, half_mask, on_selected, part_operator, at_half, inserts_half, extension, shift_operator, shift_size, shift_rule, shift_computation, shifts, rotate_operator, rotate_rule, rotates_into, rotates_to_test, multiplies_signed, multiplies_logical, finds_leftmost, idles, copies_access, moves_where, moves_immediate_where}
 use Rattle.s390x_machine.specs.Operands.{value_in, based, rotated_operand, performed_where}
 use Rattle.s390x_machine.specs.Forms.{Form, Performs, GoesTo, Chooses, Leads, Silent, no_code}
-use Rattle.s390x_machine.specs.Meanings.{action}
+use Rattle.s390x_format.specs.declared.fields.Fields.{Fields}
+use Rattle.s390x_machine.specs.Meanings.{action, names_pair, is_odd_pair, register_field}
 use Rattle.s390x_machine.specs.Typed.{At, FormStep, form_of, form_at}
 use Rattle.s390x_machine.specs.Match.{StepRuns, StepHolds, EveryRunOfTurns, EveryBlockRun, silent}
-use Rattle.s390x_machine.specs.Machine.{Run}
+use Rattle.s390x_machine.specs.Machine.{Run, Event, Went, Stopped, Acts}
 use Rattle.s390x_machine.specs.Layout.{Layout, place, block_place, InStep}
 use Rattle.s390x_machine.specs.Placed.{Placed, AllPlaced, IsBlock, FineOr, IsFineInstruction, IsFine}
 use Rattle.s390x_machine.proofs.Fetching.{StandsAt}
 use Rattle.s390x_machine.proofs.Simulation.{RowAt, DoesAs, Coded, ValuesCoded, at_start, general_step}
 use Rattle.s390x_machine.proofs.Standing.{step_rows, offset_even, offset_small, inside_at, inside_first, next_place, block_at}
 use Rattle.s390x_machine.proofs.Stops.{never_by_values}
-use Rattle.s390x_machine.proofs.Rows.{general_number, nonzero_number, bcr_at, brcl_at, fits_rrf_cde, fits_rie_f, fits_rie_g, fits_rsy}
-use Rattle.s390x_machine.proofs.Bits.{immediate_at, part_rows, half_rows, load_part_rows, load_half_rows, insert_part_rows, iihf_row, extends, extend_rows, ear_row, shift_meaning, shift_rows, rotate_allows, rotate_rows, any_mask, locr_row, locgr_row, lochi_row, locghi_row, popcnt_row, below, not_below, mask_allowed, rotation_allowed, test_allowed}
-use Rattle.s390x_machine.proofs.Alone.{TwoRow, ThreeRow, TwoRows, ThreeRows, second_register, computed, register_fields, alu_three_rows, alu_two_rows, cmp_rows, unary_rows, lgr_row, lr_row, two_at, three_at, ImmediateRows, compared, halfword_rows, three_halfword_rows, signed_word_rows, unsigned_word_rows, cmp_halfword_rows, cmp_signed_word_rows, cmp_unsigned_word_rows, iilf_row, lhi_row, lghi_row, lgfi_row, halfword_at, word_at, three_halfword_at, compare_halfword_at, compare_word_at, loosens, three_looser, two_looser, Meant, meant_at, ri_a_at, ril_a_at, low_small}
+use Rattle.s390x_machine.proofs.Rows.{general_number, nonzero_number, bcr_at, brcl_at, fits_rr, fits_rre, fits_rrf_ab, fits_rrf_cde, fits_rie_f, fits_rie_g, fits_rsy}
+use Rattle.s390x_machine.proofs.Bits.{immediate_at, part_rows, half_rows, load_part_rows, load_half_rows, insert_part_rows, iihf_row, extends, extend_rows, ear_row, shift_meaning, shift_rows, rotate_allows, rotate_rows, any_mask, locr_row, locgr_row, lochi_row, locghi_row, popcnt_row, mgrk_row, mlgr_row, flogr_row, bcr_row, below, not_below, mask_allowed, rotation_allowed, test_allowed}
+use Rattle.s390x_machine.proofs.Alone.{TwoRow, ThreeRow, TwoRows, ThreeRows, second_register, computed, register_fields, alu_three_rows, alu_two_rows, cmp_rows, unary_rows, lgr_row, lr_row, two_at, three_at, ImmediateRows, compared, halfword_rows, three_halfword_rows, signed_word_rows, unsigned_word_rows, cmp_halfword_rows, cmp_signed_word_rows, cmp_unsigned_word_rows, iilf_row, lhi_row, lghi_row, lgfi_row, halfword_at, word_at, three_halfword_at, compare_halfword_at, compare_word_at, loosens, three_looser, two_looser, none_but_zero, PairRow, pair_at, Meant, meant_at, ri_a_at, ril_a_at, low_small}
 use Rattle.s390x_machine.proofs.Branches.{jump_runs, TwoBranches, choose_runs, leads_runs, returns_runs, address_runs}
 use Rattle.s390x_machine.proofs.Induction.{turns_of, one_step}
 
@@ -129,6 +132,66 @@ rotation_small (negsuc a) = omega arith
 
 access_small : (output : Reg) (a : ℕ) → number_of output < 16 → (number_of output < 16) × (four_bits a < 16)
 access_small output a lt = (lt, omega arith)
+
+-- a pair that is even isn't odd
+even_pair : (meaning : Meaning) (f : Fields) → register_field f 0 % 2 ≡ 0 → is_odd_pair meaning f ≡ false
+even_pair meaning f e = go (names_pair meaning)
+  where
+    go : (b : Bool) → (b && (register_field f 0 % 2 == 1)) ≡ false
+    go true = ap (λ n. n == 1) e
+    go false = refl
+
+pair_even : (high low : Reg) → IsTrue (is_even_pair high low) → (number_of high < 16) × (number_of high % 2 ≡ 0)
+pair_even (Real h) (Real l) t =
+    let p = and_parts (is_general (Real h) && is_general (Real l)) (is_pair (Real h) (Real l)) t in
+    let q = and_parts (is_general (Real h)) (is_general (Real l)) p.0 in
+    let m = and_parts (is_int h.class && is_int l.class && nat_eq (h.number % 2) 0) (nat_eq l.number (h.number + 1)) p.1 in
+    let n = and_parts (is_int h.class && is_int l.class) (nat_eq (h.number % 2) 0) m.0 in
+    (general_number (Real h) q.0, eqb-true (h.number % 2) 0 n.1)
+pair_even (Real h) (Virtual n c) t = let no = (and_parts (is_general (Real h) && is_general (Virtual n c)) (is_pair (Real h) (Virtual n c)) t).1 in absurd (cc)
+pair_even (Virtual n c) low t = absurd (cc)
+
+pair_small : (high low other : Reg) → IsTrue (is_even_pair high low && is_general other) → (number_of high < 16) × (number_of high % 2 ≡ 0) × (number_of other < 16)
+pair_small high low other t =
+    let p = and_parts (is_even_pair high low) (is_general other) t in
+    let q = pair_even high low p.0 in
+    (q.0, q.1, general_number other p.1)
+
+pair_small2 : (high low a b : Reg) → IsTrue (is_even_pair high low && is_general a && is_general b) → (number_of high < 16) × (number_of high % 2 ≡ 0) × (number_of a < 16) × (number_of b < 16)
+pair_small2 high low a b t =
+    let p = and_parts (is_even_pair high low && is_general a) (is_general b) t in
+    let q = pair_small high low a p.0 in
+    (q.0, q.1, q.2, general_number b p.1)
+
+pair_reused_small : (high low input other : Reg) → IsTrue (is_even_pair high low && reuses low input && is_general other) → (number_of high < 16) × (number_of high % 2 ≡ 0) × (number_of other < 16)
+pair_reused_small high low input other t =
+    let p = and_parts (is_even_pair high low && reuses low input) (is_general other) t in
+    let q = pair_even high low (and_parts (is_even_pair high low) (reuses low input) p.0).0 in
+    (q.0, q.1, general_number other p.1)
+
+-- no code is selected by a mask of zeros
+none_selected : (code : ConditionCode) → is_selected 0 code ≡ false
+none_selected Code0 = refl
+none_selected Code1 = refl
+none_selected Code2 = refl
+none_selected Code3 = refl
+
+idle_acts : (target size : ℕ) (s : State) (event : Event) (t : State) → Acts (BranchAction 0 target) size s event t → Acts (Perform (idles s.core.registers)) size s event t
+idle_acts target size s (Went x) t h = (
+  record {
+    reached = refl;
+    allowed = refl;
+    results = ap (λ (c : Core). c.registers) h.0 ∙ ap (λ (c : Core). coded c.registers.code s.core.registers) (sym h.0);
+    code = ap (λ (c : Core). c.registers.code) h.0;
+    memory = ap (λ (c : Core). c.memory) h.0;
+  },
+  h.1 ∙ ap (λ b. cond b target (sum64 s.place size)) (none_selected s.core.registers.code),
+  h.2,
+)
+idle_acts target size s (Stopped kind) t h = absurd h
+
+idle_branch : (L : Layout) (p size : ℕ) (target : Registers → ℕ) → RowAt L p (λ r. BranchAction 0 (target r)) size → RowAt L p (λ r. Perform (idles r)) size
+idle_branch L p size target row s at lies event t step = idle_acts (target s.core.registers) size s event t (row s at lies event t step)
 
 uncoded : (L : Layout) (p : ℕ) → Coded L p no_code
 uncoded L p kind n e = absurd (cc)
@@ -319,6 +382,29 @@ module _ (L : Layout) (all : AllPlaced L) (k : ℕ) (s : Step) (at : slice_get L
       let lm : four_bits mask < 16 = omega arith in
       meant_runs RieG Any opcode (d ∷ 0 ∷ 0 ∷ 0 ∷ four_bits mask ∷ 0 ∷ 0 ∷ bits ∷ 0 ∷ []) (MoveWhere size (second_register Immediate signed_halfword)) (moves_immediate_where size (four_bits mask) d bits) (λ r. where_never (is_selected (four_bits mask) r.code) _ no_code refl (λ kind h. h)) is parts (omega arith) row (fits_rie_g opcode d bits (four_bits mask) row.few (small h) lb lm) refl (λ r p. ap (λ x. Perform (moves_immediate_where size (four_bits mask) d x r)) (low_small bits (omega (arith, lb))))
 
+  -- a row of an even pair whose action is the step's operation
+  pair_runs : (kind : FormatKind) (allowed : Allowed) (opcode pair : ℕ) (fields : List ℕ) (meaning : Meaning) (operation : Registers → Operation) → NeverStops operation → form_of (Some s) ≡ Some (Performs false operation no_code) → step_parts s ≡ Row (record { format = kind; slots = opcode ∷ pair ∷ fields }) ∷ [] → 0 < length_of kind → PairRow kind allowed opcode meaning → pair % 2 ≡ 0 → SlotsFit (layout_of kind) (opcode ∷ pair ∷ fields) → is_allowed allowed (opcode ∷ pair ∷ fields) ≡ true → ((r : Registers) (p : ℕ) → action meaning (fields_of kind (opcode ∷ pair ∷ fields)) r p ≡ Perform (operation r)) → StepRuns L k
+  pair_runs kind allowed opcode pair fields meaning operation never is parts some row is_even fit allows acts =
+      immediate_runs (record { format = kind; slots = opcode ∷ pair ∷ fields }) operation never is parts some (λ st. pair_at L all (L.places.step k) even kind allowed opcode (pair ∷ fields) meaning operation row (even_pair meaning (fields_of kind (opcode ∷ pair ∷ fields)) is_even) fit allows acts st)
+
+  signed_runs : (fine : Bool) (pair n m : ℕ) → form_of (Some s) ≡ Some (Performs false (multiplies_signed pair n m) no_code) → step_parts s ≡ Row (rrf_ab 0xb9ec pair n m 0) ∷ [] → IsTrue fine → (IsTrue fine → (pair < 16) × (pair % 2 ≡ 0) × (n < 16) × (m < 16)) → StepRuns L k
+  unfolding length_of
+  signed_runs fine pair n m is parts h small =
+      let l = small h in
+      pair_runs RrfAb none_but_zero 0xb9ec pair (n ∷ m ∷ 0 ∷ 0 ∷ 0 ∷ 0 ∷ 0 ∷ 0 ∷ []) MultiplySigned (multiplies_signed pair n m) (λ r. never_by_values (multiplies_signed pair n m r) no_code refl (λ kind h. h)) is parts (omega arith) mgrk_row l.1 (fits_rrf_ab 0xb9ec pair n m (omega arith) l.0 l.2 l.3) refl (λ r p. refl)
+
+  logical_runs : (fine : Bool) (pair m : ℕ) → form_of (Some s) ≡ Some (Performs false (multiplies_logical pair m) no_code) → step_parts s ≡ Row (rre 0xb986 pair m) ∷ [] → IsTrue fine → (IsTrue fine → (pair < 16) × (pair % 2 ≡ 0) × (m < 16)) → StepRuns L k
+  unfolding length_of
+  logical_runs fine pair m is parts h small =
+      let l = small h in
+      pair_runs Rre Any 0xb986 pair (m ∷ 0 ∷ 0 ∷ 0 ∷ 0 ∷ 0 ∷ 0 ∷ 0 ∷ []) MultiplyLogical (multiplies_logical pair m) (λ r. never_by_values (multiplies_logical pair m r) no_code refl (λ kind h. h)) is parts (omega arith) mlgr_row l.1 (fits_rre 0xb986 pair m (omega arith) l.0 l.2) refl (λ r p. refl)
+
+  leftmost_runs : (fine : Bool) (pair n : ℕ) → form_of (Some s) ≡ Some (Performs false (finds_leftmost pair n) no_code) → step_parts s ≡ Row (rre 0xb983 pair n) ∷ [] → IsTrue fine → (IsTrue fine → (pair < 16) × (pair % 2 ≡ 0) × (n < 16)) → StepRuns L k
+  unfolding length_of
+  leftmost_runs fine pair n is parts h small =
+      let l = small h in
+      pair_runs Rre Any 0xb983 pair (n ∷ 0 ∷ 0 ∷ 0 ∷ 0 ∷ 0 ∷ 0 ∷ 0 ∷ []) FindLeftmostOne (finds_leftmost pair n) (λ r. never_by_values (finds_leftmost pair n r) no_code refl (λ kind h. h)) is parts (omega arith) flogr_row l.1 (fits_rre 0xb983 pair n (omega arith) l.0 l.2) refl (λ r p. refl)
+
   -- a count of the ones of each byte
   count_runs : (fine : Bool) (d n : ℕ) → form_of (Some s) ≡ Some (Performs false (computes Set (on_doublewords PopulationCountByByte) d d n) no_code) → step_parts s ≡ Row (rrf_cde 0xb9e1 d n 0 0) ∷ [] → IsTrue fine → (IsTrue fine → (d < 16) × (n < 16)) → StepRuns L k
   unfolding length_of
@@ -359,6 +445,18 @@ module _ (L : Layout) (all : AllPlaced L) (k : ℕ) (s : Step) (at : slice_get L
   register_row n parts ln some =
       let one = one_row L k s placed (Rattle.s390x_steps.specs.MachineInstruction.rr 0x07 15 n) parts in
       (bcr_at L all (L.places.step k) even 15 n (omega arith) ln some one.stands, inside_first L k 2 one.size (omega arith))
+
+  -- a branch to no address does nothing
+  fence_runs : form_of (Some s) ≡ Some (Performs false idles no_code) → step_parts s ≡ Row (rr 0x07 14 0) ∷ [] → StepRuns L k
+  unfolding length_of
+  fence_runs is parts =
+      meant_runs Rr Any 0x07 (14 ∷ 0 ∷ 0 ∷ 0 ∷ 0 ∷ 0 ∷ 0 ∷ 0 ∷ 0 ∷ []) BranchToRegister idles (λ r. never_by_values (idles r) no_code refl (λ kind h. h)) is parts (omega arith) bcr_row (fits_rr 0x07 14 0 (omega arith) (omega arith) (omega arith)) refl (λ r p. refl)
+
+  -- nor does one under a mask that selects nothing
+  idle_runs : form_of (Some s) ≡ Some (Performs false idles no_code) → step_parts s ≡ Row (rr 0x07 0 7) ∷ [] → StepRuns L k
+  unfolding length_of
+  idle_runs is parts =
+      immediate_runs (rr 0x07 0 7) idles (λ r. never_by_values (idles r) no_code refl (λ kind h. h)) is parts (omega arith) (λ st. idle_branch L (place L k) (length_of Rr) (λ r. r.general 7) (bcr_at L all (L.places.step k) even 0 7 (omega arith) (omega arith) (λ e. absurd (cc)) st))
 
   -- a block's offset is that of its first step
   block_even : (b : ℕ) → IsBlock L b → L.places.block b % 2 ≡ 0
@@ -474,6 +572,12 @@ instruction_runs L all k (RxSBG op rd ri rn start end amount) at p fine =
     rotate_runs L all k (Plain (RxSBG op rd ri rn start end amount)) at p op (reuses rd ri && is_general rn) (number_of rd) (number_of rn) start end amount refl refl fine (reused_small rd ri rn)
 instruction_runs L all k (RxSBGTest op rd rn start end amount) at p fine =
     test_runs L all k (Plain (RxSBGTest op rd rn start end amount)) at p op (is_general rd && is_general rn) (number_of rd) (number_of rn) start end amount refl refl fine (two_small rd rn)
+instruction_runs L all k (SMulWide rd rn rm) at p fine =
+    signed_runs L all k (Plain (SMulWide rd rn rm)) at p (is_even_pair rd.hi rd.lo && is_general rn && is_general rm) (number_of rd.hi) (number_of rn) (number_of rm) refl refl fine (pair_small2 rd.hi rd.lo rn rm)
+instruction_runs L all k (UMulWide rd ri rn) at p fine =
+    logical_runs L all k (Plain (UMulWide rd ri rn)) at p (is_even_pair rd.hi rd.lo && reuses rd.lo ri && is_general rn) (number_of rd.hi) (number_of rn) refl refl fine (pair_reused_small rd.hi rd.lo ri rn)
+instruction_runs L all k (Flogr rd rn) at p fine =
+    leftmost_runs L all k (Plain (Flogr rd rn)) at p (is_even_pair rd.hi rd.lo && is_general rn) (number_of rd.hi) (number_of rn) refl refl fine (pair_small rd.hi rd.lo rn)
 instruction_runs L all k (CMov32 rd mask ri rm) at p fine =
     move_where_runs L all k (Plain (CMov32 rd mask ri rm)) at p 0xb9f2 Word word locr_row (reuses rd ri && is_general rm) mask (number_of rd) (number_of rm) refl refl fine (reused_small rd ri rm)
 instruction_runs L all k (CMov64 rd mask ri rm) at p fine =
@@ -482,6 +586,9 @@ instruction_runs L all k (CMov32SImm16 rd mask ri imm) at p fine =
     move_immediate_where_runs L all k (Plain (CMov32SImm16 rd mask ri imm)) at p 0xec42 Word lochi_row (reuses rd ri) mask (number_of rd) (low_halfword imm) refl refl fine (output_small rd ri) (halfword_bits imm)
 instruction_runs L all k (CMov64SImm16 rd mask ri imm) at p fine =
     move_immediate_where_runs L all k (Plain (CMov64SImm16 rd mask ri imm)) at p 0xec46 Doubleword locghi_row (reuses rd ri) mask (number_of rd) (low_halfword imm) refl refl fine (output_small rd ri) (halfword_bits imm)
+instruction_runs L all k Fence at p fine = fence_runs L all k (Plain Fence) at p refl refl
+instruction_runs L all k Nop2 at p fine = idle_runs L all k (Plain Nop2) at p refl refl
+instruction_runs L all k Nop0 at p fine = opening_runs L all k (Plain Nop0) at p refl refl
 instruction_runs L all k (Jump dest) at p fine = goto_runs L all k (Plain (Jump dest)) at p dest.0 refl refl fine
 instruction_runs L all k (CondBr taken not_taken mask) at p fine = condbr_runs L all k (Plain (CondBr taken not_taken mask)) at p mask taken.0 not_taken.0 refl refl (small_mask mask fine.2) fine.0 fine.1
 instruction_runs L all k (IndirectBr rn targets) at p fine =

@@ -1,5 +1,5 @@
 -- What the operators of integer instructions compute (Principles of Operation, chapter 7, "General instructions"). Their names are cranelift-codegen's.
-use Rattle.std.specs.Prelude.{ℕ, ◌*◌, ◌^◌, pos, Bool, true, false, cond, nat_eq}
+use Rattle.std.specs.Prelude.{ℕ, ◌+◌, ◌*◌, ◌^◌, pos, Bool, true, false, cond, nat_eq}
 use Rattle.s390x_inst.specs.declared.ops.ALUOp.{ALUOp}
 use Rattle.s390x_inst.specs.declared.ops.ALUOp.TheVariants as A
 use Rattle.s390x_inst.specs.declared.ops.CmpOp.{CmpOp}
@@ -31,7 +31,7 @@ use Rattle.s390x_operations.specs.declared.operator.BitOperator.TheVariants.{And
 use Rattle.s390x_operations.specs.declared.operator.SelectedBitsOperator.{SelectedBitsOperator}
 use Rattle.s390x_operations.specs.declared.operator.SelectedBitsOperator.TheVariants as Select
 use Rattle.s390x_operations.specs.declared.effect.Effect.{Effect}
-use Rattle.s390x_operations.specs.declared.effect.Effect.TheVariants.{Compute, Compare, Test}
+use Rattle.s390x_operations.specs.declared.effect.Effect.TheVariants.{Compute, Compare, Test, MultiplyPair, FindLeftmostOne, Nothing}
 use Rattle.s390x_operations.specs.declared.effect.CodeRule.{CodeRule}
 use Rattle.s390x_operations.specs.declared.effect.CodeRule.TheVariants.{Kept, Set, Unstated}
 use Rattle.s390x_operations.specs.declared.effect.Operation.{Operation}
@@ -319,6 +319,20 @@ rotates_into op d n first last amount r =
 abbrev pub rotates_to_test : RxSBGOp → (d n first last amount : ℕ) → Registers → Operation
 rotates_to_test op d n first last amount r = with_rule Set (Test (O.SelectedBits (rotate_operator op) (selection first last)) Doubleword (r.general d) (rotated_operand r n amount))
 
+-- ---- pairs: an even register and the next one
+
+-- a pair becomes the product of registers n and m, with their signs
+abbrev pub multiplies_signed : (pair n m : ℕ) → Registers → Operation
+multiplies_signed pair n m r = with_rule Kept (MultiplyPair Signed pair (r.general n) (r.general m))
+
+-- a pair becomes the product of its second register and register m, without signs
+abbrev pub multiplies_logical : (pair m : ℕ) → Registers → Operation
+multiplies_logical pair m r = with_rule Kept (MultiplyPair Unsigned pair (r.general (pair + 1)) (r.general m))
+
+-- a pair becomes the number of leading zeros of register n, and it without its leftmost one
+abbrev pub finds_leftmost : (pair n : ℕ) → Registers → Operation
+finds_leftmost pair n r = with_rule Set (FindLeftmostOne pair (r.general n))
+
 -- ---- access registers and conditional moves
 
 -- the right half of register d becomes an access register
@@ -332,3 +346,7 @@ moves_where size second mask d m r = performed_where (is_selected mask r.code) (
 -- register d becomes an immediate there
 abbrev pub moves_immediate_where : Size → (mask d bits : ℕ) → Registers → Operation
 moves_immediate_where size mask d bits r = performed_where (is_selected mask r.code) (with_rule Kept (Compute O.Move size d (value_in size r d) (operand_of signed_halfword bits)))
+
+-- nothing
+abbrev pub idles : Registers → Operation
+idles r = with_rule Kept Nothing

@@ -6,7 +6,7 @@ use Rattle.s390x_base.specs.declared.ir.MachLabel.{MachLabel}
 use Rattle.s390x_base.specs.declared.trap.TrapKind.{TrapKind}
 use Rattle.s390x_base.specs.declared.trap.TrapKind.TheVariants.{IntegerDivisionByZero}
 use Rattle.s390x_inst.specs.declared.inst.Inst.{Inst}
-use Rattle.s390x_inst.specs.declared.inst.Inst.TheVariants.{AluRRR, AluRR, AluRRSImm16, AluRSImm16, AluRSImm32, AluRUImm32, AluRUImm16Shifted, AluRUImm32Shifted, ShiftRR, RxSBG, RxSBGTest, UnaryRR, CmpRR, CmpRSImm16, CmpRSImm32, CmpRUImm32, Mov64, MovPReg, Mov32, Mov32Imm, Mov32SImm16, Mov64SImm16, Mov64SImm32, Mov64UImm16Shifted, Mov64UImm32Shifted, Insert64UImm16Shifted, Insert64UImm32Shifted, CMov32, CMov64, CMov32SImm16, CMov64SImm16, Extend, LoadAR, InsertAR, Jump, CondBr, IndirectBr, Ret}
+use Rattle.s390x_inst.specs.declared.inst.Inst.TheVariants.{AluRRR, AluRR, AluRRSImm16, AluRSImm16, AluRSImm32, AluRUImm32, AluRUImm16Shifted, AluRUImm32Shifted, SMulWide, UMulWide, Flogr, ShiftRR, RxSBG, RxSBGTest, UnaryRR, CmpRR, CmpRSImm16, CmpRSImm32, CmpRUImm32, Mov64, MovPReg, Mov32, Mov32Imm, Mov32SImm16, Mov64SImm16, Mov64SImm32, Mov64UImm16Shifted, Mov64UImm32Shifted, Insert64UImm16Shifted, Insert64UImm32Shifted, CMov32, CMov64, CMov32SImm16, CMov64SImm16, Extend, LoadAR, InsertAR, Fence, Nop0, Nop2, Jump, CondBr, IndirectBr, Ret}
 use Rattle.s390x_operations.specs.State.{Registers}
 use Rattle.s390x_operations.specs.declared.operator.Operator.TheVariants.{Move}
 use Rattle.s390x_operations.specs.declared.size.Size.TheVariants.{Word, Doubleword}
@@ -15,7 +15,7 @@ use Rattle.s390x_operations.specs.declared.effect.CodeRule.TheVariants.{Kept, Se
 use Rattle.s390x_operations.specs.declared.effect.Operation.{Operation}
 use Rattle.s390x_operations.specs.declared.stop.StopKind.{StopKind}
 use Rattle.s390x_operations.specs.declared.stop.StopKind.TheVariants.{Access, Specification, Divide, CompareTrap}
-use Rattle.s390x_machine.specs.Computations.{computes, compares, alu_computation, alu_three_rule, alu_two_rule, unary_computation, unary_rule, comparison, on_words, on_doublewords, word, signed_word, signed_halfword, on_immediate, compares_on_immediate, computes_immediate, compares_immediate, doubleword, part_mask, on_selected, part_operator, at_part, at_half, half_mask, inserts_half, extension, shifts, rotates_into, rotates_to_test, copies_access, moves_where, moves_immediate_where}
+use Rattle.s390x_machine.specs.Computations.{computes, compares, alu_computation, alu_three_rule, alu_two_rule, unary_computation, unary_rule, comparison, on_words, on_doublewords, word, signed_word, signed_halfword, on_immediate, compares_on_immediate, computes_immediate, compares_immediate, doubleword, part_mask, on_selected, part_operator, at_part, at_half, half_mask, inserts_half, extension, shifts, rotates_into, rotates_to_test, multiplies_signed, multiplies_logical, finds_leftmost, idles, copies_access, moves_where, moves_immediate_where}
 use Rattle.s390x_steps.specs.General.{low_halfword, low_word, low_byte, four_bits, rotation}
 use Rattle.s390x_steps.specs.Steps.{Step, Plain, Opening, Back, Break}
 
@@ -113,10 +113,15 @@ performed (InsertAR rd ri ar) = on_registers (copies_access (number_of rd) (four
 performed (ShiftRR op rd rn amount register) = on_registers (shifts op (number_of rd) (number_of rn) (number_of register) (low_byte amount))
 performed (RxSBG op rd ri rn first last amount) = on_registers (rotates_into op (number_of rd) (number_of rn) first last (rotation amount))
 performed (RxSBGTest op rd rn first last amount) = on_registers (rotates_to_test op (number_of rd) (number_of rn) first last (rotation amount))
+performed (SMulWide rd rn rm) = on_registers (multiplies_signed (number_of rd.hi) (number_of rn) (number_of rm))
+performed (UMulWide rd ri rn) = on_registers (multiplies_logical (number_of rd.hi) (number_of rn))
+performed (Flogr rd rn) = on_registers (finds_leftmost (number_of rd.hi) (number_of rn))
 performed (CMov32 rd mask ri rm) = on_registers (moves_where Word word (four_bits mask) (number_of rd) (number_of rm))
 performed (CMov64 rd mask ri rm) = on_registers (moves_where Doubleword doubleword (four_bits mask) (number_of rd) (number_of rm))
 performed (CMov32SImm16 rd mask ri imm) = on_registers (moves_immediate_where Word (four_bits mask) (number_of rd) (low_halfword imm))
 performed (CMov64SImm16 rd mask ri imm) = on_registers (moves_immediate_where Doubleword (four_bits mask) (number_of rd) (low_halfword imm))
+performed Fence = on_registers idles
+performed Nop2 = on_registers idles
 performed _ = None
 
 -- one that goes elsewhere
@@ -125,6 +130,7 @@ branch_form (Jump dest) = GoesTo dest.0
 branch_form (CondBr taken not_taken mask) = Chooses mask taken.0 not_taken.0
 branch_form (IndirectBr rn targets) = GoesByAddress (number_of rn) targets.items
 branch_form (Ret link) = Returns (number_of link)
+branch_form Nop0 = Silent
 branch_form _ = Unbuilt
 
 -- an instruction that is one operation performs it; another one has its own form

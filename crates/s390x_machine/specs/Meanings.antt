@@ -1,5 +1,5 @@
 -- What a machine row does with its fields. This is the only place that knows their order.
-use Rattle.std.specs.Prelude.{ℕ, ◌+◌, ◌-◌, ◌*◌, ◌^◌, ◌%◌, ◌==◌, nat_lt, Bool, false, ◌&&◌, if◌then◌else◌, pos, ◌+ℤ◌, List, [], ◌∷◌, Option, Some, None, slice_index}
+use Rattle.std.specs.Prelude.{ℕ, ◌+◌, ◌-◌, ◌*◌, ◌^◌, ◌%◌, ◌==◌, nat_lt, Bool, true, false, ◌&&◌, if◌then◌else◌, pos, ◌+ℤ◌, List, [], ◌∷◌, Option, Some, None, slice_index}
 use Rattle.s390x_format.specs.declared.fields.Fields.{Fields}
 use Rattle.s390x_operations.specs.Numbers.{low}
 use Rattle.s390x_operations.specs.State.{Registers}
@@ -8,7 +8,7 @@ use Rattle.s390x_machine.specs.Operands.{value_in, address_part, based, rotated_
 use Rattle.s390x_operations.specs.declared.operand.Source.{Source}
 use Rattle.s390x_operations.specs.declared.operand.Source.TheVariants.{Value, Memory as InMemory, AlignedMemory}
 use Rattle.s390x_operations.specs.declared.operand.Operand.{Operand}
-use Rattle.s390x_lanes.specs.declared.operation.Signedness.TheVariants.{Unsigned}
+use Rattle.s390x_lanes.specs.declared.operation.Signedness.TheVariants.{Signed, Unsigned}
 use Rattle.s390x_operations.specs.Bits.{selection}
 use Rattle.s390x_operations.specs.Effects.{is_selected}
 use Rattle.s390x_operations.specs.declared.size.Width.TheVariants.{Bits64}
@@ -22,7 +22,7 @@ use Rattle.s390x_machine.specs.declared.meaning.Shape.{Shape}
 use Rattle.s390x_machine.specs.declared.meaning.Shape.TheVariants.{Register, ThreeRegisters, Indexed, Relative, Immediate, ThreeImmediate, ShiftedImmediate, Amount, AccessRegister}
 use Rattle.s390x_machine.specs.declared.meaning.SecondOperand.{SecondOperand}
 use Rattle.s390x_machine.specs.declared.meaning.Meaning.{Meaning}
-use Rattle.s390x_machine.specs.declared.meaning.Meaning.TheVariants.{Compute, Compare, MoveWhere, CountOnes, RotateThen, BranchToRegister, BranchRelative}
+use Rattle.s390x_machine.specs.declared.meaning.Meaning.TheVariants.{Compute, Compare, MoveWhere, CountOnes, RotateThen, MultiplySigned, MultiplyLogical, FindLeftmostOne, BranchToRegister, BranchRelative}
 use Rattle.s390x_machine.specs.declared.meaning.RowMeaning.{RowMeaning}
 use Rattle.s390x_machine.specs.declared.meaning.Action.{Action}
 use Rattle.s390x_machine.specs.declared.meaning.Action.TheVariants.{Perform, Branch}
@@ -91,12 +91,18 @@ action (MoveWhere size s) f r place =
 action CountOnes f r place =
     performs Set (Effect.Compute (count_operator (mask_field f 0)) Doubleword (register_field f 0) (r.general (register_field f 0)) (record { source = Value (r.general (register_field f 1)); width = Bits64; sign = Unsigned; reversed = false }))
 action (RotateThen op rule) f r place = rotates op rule (register_field f 0) (mask_field f 0) (mask_field f 1) r (rotated_operand r (register_field f 1) (mask_field f 2))
+action MultiplySigned f r place = performs Kept (Effect.MultiplyPair Signed (register_field f 0) (r.general (register_field f 1)) (r.general (register_field f 2)))
+action MultiplyLogical f r place = performs Kept (Effect.MultiplyPair Unsigned (register_field f 0) (r.general (register_field f 0 + 1)) (r.general (register_field f 1)))
+action FindLeftmostOne f r place = performs Set (Effect.FindLeftmostOne (register_field f 0) (r.general (register_field f 1)))
 action BranchToRegister f r place =
     if register_field f 1 == 0 then performs Kept Effect.Nothing else Branch (register_field f 0) (r.general (register_field f 1))
 action BranchRelative f r place = Branch (mask_field f 0) (relative_address f place)
 
 -- the row's r1 is the first of an even-odd pair: an odd one stops (chapter 7)
 abbrev pub names_pair : Meaning → Bool
+names_pair MultiplySigned = true
+names_pair MultiplyLogical = true
+names_pair FindLeftmostOne = true
 names_pair _ = false
 
 -- an odd register where the row names a pair

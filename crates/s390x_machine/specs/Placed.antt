@@ -2,7 +2,7 @@
 use Rattle.std.specs.Prelude.{◌≡◌, ℕ, suc, ◌+◌, ◌%◌, ◌^◌, ◌<◌, ◌≤◌, List, [], ◌∷◌, ◌++◌, length, IsTrue, Option, Some, None, slice_get}
 use Rattle.s390x_base.specs.declared.ir.MachLabel.{MachLabel}
 use Rattle.s390x_inst.specs.declared.inst.Inst.{Inst}
-use Rattle.s390x_inst.specs.declared.inst.Inst.TheVariants.{Jump, CondBr, IndirectBr, Ret}
+use Rattle.s390x_inst.specs.declared.inst.Inst.TheVariants.{Jump, CondBr, IndirectBr, Ret, Nop0}
 use Rattle.s390x_steps.specs.Alone.{Alone, alone}
 use Rattle.s390x_steps.specs.General.{is_general, is_nonzero}
 use Rattle.s390x_steps.specs.Ranges.{IsMask}
@@ -25,6 +25,7 @@ IsFineBranch L (Jump dest) = IsBlock L dest.0
 IsFineBranch L (CondBr taken not_taken mask) = IsBlock L taken.0 × IsBlock L not_taken.0 × IsMask mask
 IsFineBranch L (IndirectBr rn targets) = IsTrue (is_general rn) × IsTrue (is_nonzero rn) × AreBlocks L targets.items
 IsFineBranch L (Ret link) = IsTrue (is_general link) × IsTrue (is_nonzero link)
+IsFineBranch L Nop0 = Unit {0}
 IsFineBranch L _ = ⊥
 
 abbrev pub FineOr : Option Alone → Type 0 → Type 0

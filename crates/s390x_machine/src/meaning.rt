@@ -51,6 +51,12 @@ pub enum Meaning {
     CountOnes,
     /// The selected bits of r1 are joined with those of r2 rotated; the start with 128 added means that only the code is set.
     RotateThen(SelectedBitsOperator, CodeRule),
+    /// The pair r1 gets the product of r2 and r3, with their signs.
+    MultiplySigned,
+    /// The pair r1 gets the product of its second register and r2, without signs.
+    MultiplyLogical,
+    /// The pair r1 gets the number of leading zeros of r2, and r2 without its leftmost one.
+    FindLeftmostOne,
     /// A branch to the address in r2 under the mask r1; none for r2 = 0.
     BranchToRegister,
     /// A branch to a distance from the instruction, under the first mask.
@@ -245,7 +251,7 @@ pub const AT_48: SecondOperand = SecondOperand {
 
 /// The rows that are built, by rising opcode.
 #[rattlefmt::skip]
-pub const MEANINGS: [RowMeaning; 132] = [
+pub const MEANINGS: [RowMeaning; 135] = [
     RowMeaning { opcode: 0x07, meaning: Meaning::BranchToRegister }, // bcr
     RowMeaning { opcode: 0x10, meaning: Meaning::Compute(Operator::Signed(SignedOperator::Absolute), Size::Word, WORD_REGISTER, CodeRule::Set) }, // lpr
     RowMeaning { opcode: 0x13, meaning: Meaning::Compute(Operator::Signed(SignedOperator::Negate), Size::Word, WORD_REGISTER, CodeRule::Set) }, // lcr
@@ -339,8 +345,10 @@ pub const MEANINGS: [RowMeaning; 132] = [
     RowMeaning { opcode: 0xb980, meaning: Meaning::Compute(Operator::Bit(BitOperator::And), Size::Doubleword, REGISTER, CodeRule::Set) }, // ngr
     RowMeaning { opcode: 0xb981, meaning: Meaning::Compute(Operator::Bit(BitOperator::Or), Size::Doubleword, REGISTER, CodeRule::Set) }, // ogr
     RowMeaning { opcode: 0xb982, meaning: Meaning::Compute(Operator::Bit(BitOperator::Xor), Size::Doubleword, REGISTER, CodeRule::Set) }, // xgr
+    RowMeaning { opcode: 0xb983, meaning: Meaning::FindLeftmostOne }, // flogr
     RowMeaning { opcode: 0xb984, meaning: Meaning::Compute(Operator::Move, Size::Doubleword, BYTE_REGISTER, CodeRule::Kept) }, // llgcr
     RowMeaning { opcode: 0xb985, meaning: Meaning::Compute(Operator::Move, Size::Doubleword, HALFWORD_REGISTER, CodeRule::Kept) }, // llghr
+    RowMeaning { opcode: 0xb986, meaning: Meaning::MultiplyLogical }, // mlgr
     RowMeaning { opcode: 0xb994, meaning: Meaning::Compute(Operator::Move, Size::Word, BYTE_REGISTER, CodeRule::Kept) }, // llcr
     RowMeaning { opcode: 0xb995, meaning: Meaning::Compute(Operator::Move, Size::Word, HALFWORD_REGISTER, CodeRule::Kept) }, // llhr
     RowMeaning { opcode: 0xb9e1, meaning: Meaning::CountOnes }, // popcnt
@@ -352,6 +360,7 @@ pub const MEANINGS: [RowMeaning; 132] = [
     RowMeaning { opcode: 0xb9e9, meaning: Meaning::Compute(Operator::Signed(SignedOperator::Subtract), Size::Doubleword, THREE_REGISTERS, CodeRule::Set) }, // sgrk
     RowMeaning { opcode: 0xb9ea, meaning: Meaning::Compute(Operator::Logical(LogicalOperator::Add), Size::Doubleword, THREE_REGISTERS, CodeRule::Set) }, // algrk
     RowMeaning { opcode: 0xb9eb, meaning: Meaning::Compute(Operator::Logical(LogicalOperator::Subtract), Size::Doubleword, THREE_REGISTERS, CodeRule::Set) }, // slgrk
+    RowMeaning { opcode: 0xb9ec, meaning: Meaning::MultiplySigned }, // mgrk
     RowMeaning { opcode: 0xb9ed, meaning: Meaning::Compute(Operator::Signed(SignedOperator::Multiply), Size::Doubleword, THREE_REGISTERS, CodeRule::Set) }, // msgrkc
     RowMeaning { opcode: 0xb9f2, meaning: Meaning::MoveWhere(Size::Word, WORD_REGISTER) }, // locr
     RowMeaning { opcode: 0xb9f4, meaning: Meaning::Compute(Operator::Bit(BitOperator::And), Size::Word, THREE_WORD_REGISTERS, CodeRule::Set) }, // nrk

@@ -1,13 +1,13 @@
 -- Instructions that are one machine instruction on general registers and immediates (cranelift-codegen, `emit.rs`).
-use Rattle.std.specs.Prelude.{ℕ, ◌+◌, pos, Bool, cond, ◌&&◌, nat_eq, nat_lt, Option, Some, None}
+use Rattle.std.specs.Prelude.{ℕ, ◌+◌, pos, Bool, true, cond, ◌&&◌, nat_eq, nat_lt, Option, Some, None}
 use Rattle.s390x_base.specs.Regs.{number_of}
 use Rattle.s390x_base.specs.declared.regs.Reg.TheVariants.{Real}
 use Rattle.s390x_inst.specs.declared.inst.Inst.{Inst}
-use Rattle.s390x_inst.specs.declared.inst.Inst.TheVariants.{AluRRR, AluRR, AluRRSImm16, AluRSImm16, AluRSImm32, AluRUImm32, AluRUImm16Shifted, AluRUImm32Shifted, ShiftRR, RxSBG, RxSBGTest, UnaryRR, CmpRR, CmpRSImm16, CmpRSImm32, CmpRUImm32, Mov64, MovPReg, Mov32, Mov32Imm, Mov32SImm16, Mov64SImm16, Mov64SImm32, Mov64UImm16Shifted, Mov64UImm32Shifted, Insert64UImm16Shifted, Insert64UImm32Shifted, CMov32, CMov64, CMov32SImm16, CMov64SImm16, Extend, LoadAR, InsertAR}
+use Rattle.s390x_inst.specs.declared.inst.Inst.TheVariants.{AluRRR, AluRR, AluRRSImm16, AluRSImm16, AluRSImm32, AluRUImm32, AluRUImm16Shifted, AluRUImm32Shifted, SMulWide, UMulWide, Flogr, ShiftRR, RxSBG, RxSBGTest, UnaryRR, CmpRR, CmpRSImm16, CmpRSImm32, CmpRUImm32, Mov64, MovPReg, Mov32, Mov32Imm, Mov32SImm16, Mov64SImm16, Mov64SImm32, Mov64UImm16Shifted, Mov64UImm32Shifted, Insert64UImm16Shifted, Insert64UImm32Shifted, CMov32, CMov64, CMov32SImm16, CMov64SImm16, Extend, LoadAR, InsertAR, Fence, Nop2}
 use Rattle.s390x_inst.specs.declared.ops.RxSBGOp.{RxSBGOp}
 use Rattle.s390x_inst.specs.declared.ops.UnaryOp.{UnaryOp}
 use Rattle.s390x_inst.specs.declared.ops.UnaryOp.TheVariants.{PopcntByte}
-use Rattle.s390x_steps.specs.General.{is_general, reuses, low_halfword, low_word, four_bits, low_byte, rotation, is_access}
+use Rattle.s390x_steps.specs.General.{is_general, is_even_pair, reuses, low_halfword, low_word, four_bits, low_byte, rotation, is_access}
 use Rattle.s390x_steps.specs.MachineInstruction.{MachineInstruction, rr, rre, rrf_ab, rrf_cde, ri_a, rie_d, rie_f, rie_g, ril_a, rsy}
 use Rattle.s390x_steps.specs.Opcodes.{alu_three, alu_two, cmp_two, unary_two, alu_halfword, alu_three_halfword, alu_signed_word, alu_unsigned_word, cmp_halfword, cmp_signed_word, cmp_unsigned_word, alu_part, alu_half, load_part, load_half, insert_part, insert_half, extend_two, shift_storage, rotate_then, rotate_then_test}
 
@@ -97,8 +97,15 @@ alone (RxSBG op rd ri rn start end amount) =
     alone_with (reuses rd ri && is_general rn) (rotated_row (Some (rotate_then op)) (number_of rd) (number_of rn) start end start (rotation amount))
 alone (RxSBGTest op rd rn start end amount) =
     alone_with (is_general rd && is_general rn) (rotated_row (rotate_then_test op) (number_of rd) (number_of rn) start end (start + 128) (rotation amount))
+alone (SMulWide rd rn rm) =
+    alone_with (is_even_pair rd.hi rd.lo && is_general rn && is_general rm) (Some (rrf_ab 0xb9ec (number_of rd.hi) (number_of rn) (number_of rm) 0))
+alone (UMulWide rd ri rn) = alone_with (is_even_pair rd.hi rd.lo && reuses rd.lo ri && is_general rn) (Some (rre 0xb986 (number_of rd.hi) (number_of rn)))
+alone (Flogr rd rn) = alone_with (is_even_pair rd.hi rd.lo && is_general rn) (Some (rre 0xb983 (number_of rd.hi) (number_of rn)))
 alone (CMov32 rd mask ri rm) = alone_with (reuses rd ri && is_general rm) (Some (rrf_cde 0xb9f2 (number_of rd) (number_of rm) (four_bits mask) 0))
 alone (CMov64 rd mask ri rm) = alone_with (reuses rd ri && is_general rm) (Some (rrf_cde 0xb9e2 (number_of rd) (number_of rm) (four_bits mask) 0))
 alone (CMov32SImm16 rd mask ri imm) = alone_with (reuses rd ri) (Some (rie_g 0xec42 (number_of rd) (low_halfword imm) (four_bits mask)))
 alone (CMov64SImm16 rd mask ri imm) = alone_with (reuses rd ri) (Some (rie_g 0xec46 (number_of rd) (low_halfword imm) (four_bits mask)))
+-- BRANCH ON CONDITION to no address, and under a mask that selects nothing
+alone Fence = Some (record { row = rr 0x07 14 0; fine = true })
+alone Nop2 = Some (record { row = rr 0x07 0 7; fine = true })
 alone _ = None

@@ -4,7 +4,7 @@ use Rattle.s390x_base.specs.declared.ir.MachLabel.{MachLabel}
 use Rattle.s390x_base.specs.declared.error.EmitError.{EmitError}
 use Rattle.s390x_base.specs.declared.error.EmitError.TheVariants.{BadOperator, BadRegister, BreakOutsideLoop, UnboundLabel, LabelOutOfRange}
 use Rattle.s390x_inst.specs.declared.inst.Inst.{Inst}
-use Rattle.s390x_inst.specs.declared.inst.Inst.TheVariants.{Jump, CondBr, IndirectBr, Ret, CondBreak}
+use Rattle.s390x_inst.specs.declared.inst.Inst.TheVariants.{Jump, CondBr, IndirectBr, Ret, CondBreak, Nop0}
 use Rattle.s390x_steps.specs.General.{is_general, is_nonzero}
 use Rattle.s390x_steps.specs.Alone.{Alone, alone}
 use Rattle.s390x_steps.specs.Tree.{Tree, empty, leaf, looped}
@@ -34,6 +34,7 @@ branch_cause blocks depth (CondBr taken not_taken mask) = first (label_cause blo
 branch_cause blocks depth (IndirectBr rn targets) = first (unless (is_general rn && is_nonzero rn) BadRegister) (labels_cause blocks targets.items)
 branch_cause blocks depth (Ret link) = unless (is_general link && is_nonzero link) BadRegister
 branch_cause blocks depth (CondBreak mask) = unless (nat_lt 0 depth) BreakOutsideLoop
+branch_cause blocks depth Nop0 = None
 branch_cause blocks depth _ = Some BadOperator
 
 -- an instruction that is one machine instruction is refused for its registers alone; another one has its own causes

@@ -1,7 +1,7 @@
 -- The registers that an instruction may name, and the bits of its immediates (cranelift-codegen, `emit.rs`).
 use Rattle.std.specs.Prelude.{ℕ, ℤ, pos, unsigned_abs, Bool, false, true, ◌&&◌, not, nat_lt, nat_eq, ◌%◌}
 use Rattle.std.specs.Int.{int_rem_euclid}
-use Rattle.s390x_base.specs.Regs.{is_int, number_of}
+use Rattle.s390x_base.specs.Regs.{is_int, number_of, is_pair}
 use Rattle.s390x_base.specs.declared.regs.Reg.{Reg}
 use Rattle.s390x_base.specs.declared.regs.Reg.TheVariants.{Real, Virtual}
 
@@ -18,6 +18,10 @@ is_nonzero (Virtual num class) = true
 -- an input that has to be the output is it
 abbrev pub reuses : (output input : Reg) → Bool
 reuses output input = is_general output && is_general input && nat_eq (number_of output) (number_of input)
+
+-- an even register and the next one
+abbrev pub is_even_pair : (high low : Reg) → Bool
+is_even_pair high low = is_general high && is_general low && is_pair high low
 
 -- the low 16 bits of an immediate, in two's complement
 abbrev pub low_halfword : ℤ → ℕ

@@ -2,13 +2,14 @@
 use Rattle.std.proofs.Common.{◌≡◌, ℕ, List, [], ◌∷◌, Option, Some, ◌&&◌, refl, ap, subst}
 use Rattle.s390x_base.specs.Regs.{number_of}
 use Rattle.s390x_base.specs.declared.regs.Reg.{Reg}
+use Rattle.s390x_base.specs.declared.regs.WritableRegPair.{WritableRegPair}
 use Rattle.s390x_base.specs.declared.ir.MachLabel.{MachLabel}
 use Rattle.s390x_base.specs.declared.imms.UImm16Shifted.{UImm16Shifted}
 use Rattle.s390x_base.specs.declared.imms.UImm32Shifted.{UImm32Shifted}
 use Rattle.s390x_base.specs.declared.error.EmitError.{EmitError}
 use Rattle.s390x_base.specs.declared.error.EmitError.TheVariants.{BadOperator, BadRegister}
 use Rattle.s390x_inst.specs.declared.inst.Inst.{Inst}
-use Rattle.s390x_inst.specs.declared.inst.Inst.TheVariants.{AluRRR, AluRR, AluRRSImm16, AluRSImm16, AluRSImm32, AluRUImm32, UnaryRR, CmpRR, CmpRSImm16, CmpRSImm32, CmpRUImm32, Mov64, MovPReg, Mov32, Mov32Imm, Mov32SImm16, Mov64SImm16, Mov64SImm32, AluRUImm16Shifted, AluRUImm32Shifted, ShiftRR, RxSBG, RxSBGTest, Mov64UImm16Shifted, Mov64UImm32Shifted, Insert64UImm16Shifted, Insert64UImm32Shifted, CMov32, CMov64, CMov32SImm16, CMov64SImm16, Extend, LoadAR, InsertAR, Jump, CondBr, Ret, CondBreak, Vector}
+use Rattle.s390x_inst.specs.declared.inst.Inst.TheVariants.{AluRRR, AluRR, AluRRSImm16, AluRSImm16, AluRSImm32, AluRUImm32, UnaryRR, CmpRR, CmpRSImm16, CmpRSImm32, CmpRUImm32, Mov64, MovPReg, Mov32, Mov32Imm, Mov32SImm16, Mov64SImm16, Mov64SImm32, AluRUImm16Shifted, AluRUImm32Shifted, ShiftRR, RxSBG, RxSBGTest, Mov64UImm16Shifted, Mov64UImm32Shifted, Insert64UImm16Shifted, Insert64UImm32Shifted, CMov32, CMov64, CMov32SImm16, CMov64SImm16, Extend, LoadAR, InsertAR, SMulWide, UMulWide, Flogr, Fence, Nop0, Nop2, Jump, CondBr, Ret, CondBreak, Vector}
 use Rattle.s390x_inst.specs.declared.vec_inst.VecInst.{VecInst}
 use Rattle.s390x_inst.specs.declared.vec_inst.VecInst.TheVariants.{VecRR}
 use Rattle.s390x_steps.specs.MachineInstruction.{rr}
@@ -17,7 +18,7 @@ use Rattle.s390x_steps.specs.General.{is_general, is_nonzero}
 use Rattle.s390x_steps.specs.Parts.{Part, Row, step_parts}
 use Rattle.s390x_steps.specs.Steps.{step_of}
 use Rattle.s390x_steps.specs.Ranges.{InRange}
-use Rattle.s390x_job.specs.Fields.{Field, FAlu, FUnary, FCmp, FShift, FRxsbg, FReg, FReal, FInteger, FNatural, FShifted, FBool, FLabels, FCond}
+use Rattle.s390x_job.specs.Fields.{Field, FAlu, FUnary, FCmp, FShift, FRxsbg, FReg, FReal, FInteger, FNatural, FShifted, FPair, FBool, FLabels, FCond}
 use Rattle.s390x_job.specs.Line.{Line}
 use Rattle.s390x_job.specs.Instructions.{inst_line, vector_line}
 use Rattle.s390x_job.specs.declared.inst_name.IntegerName.TheVariants as IntegerIs
@@ -40,6 +41,9 @@ part16 bits shift = record { bits = bits; shift = shift }
 
 abbrev pub part32 : (bits shift : ℕ) → UImm32Shifted
 part32 bits shift = record { bits = bits; shift = shift }
+
+abbrev pub written_pair : (high low : Reg) → WritableRegPair
+written_pair high low = record { hi = high; lo = low }
 
 -- a clause for each instruction that is built
 abbrev pub reading : LineName → List Field → Reading
@@ -77,6 +81,12 @@ reading (N.Integer IntegerIs.CMov64SImm16) (FReg rd ∷ FCond mask ∷ FReg ri �
 reading (N.Integer IntegerIs.Extend) (FReg rd ∷ FReg rn ∷ FBool signed ∷ FNatural v from ∷ FNatural w to ∷ []) = Whole (Extend rd rn signed from to)
 reading (N.Integer IntegerIs.LoadAR) (FReg rd ∷ FNatural w ar ∷ []) = Whole (LoadAR rd ar)
 reading (N.Integer IntegerIs.InsertAR) (FReg rd ∷ FReg ri ∷ FNatural w ar ∷ []) = Whole (InsertAR rd ri ar)
+reading (N.Integer IntegerIs.SMulWide) (FPair high low ∷ FReg rn ∷ FReg rm ∷ []) = Whole (SMulWide (written_pair high low) rn rm)
+reading (N.Integer IntegerIs.UMulWide) (FPair high low ∷ FReg ri ∷ FReg rn ∷ []) = Whole (UMulWide (written_pair high low) ri rn)
+reading (N.Integer IntegerIs.Flogr) (FPair high low ∷ FReg rn ∷ []) = Whole (Flogr (written_pair high low) rn)
+reading (N.Control ControlIs.Fence) [] = Whole Fence
+reading (N.Control ControlIs.Nop0) [] = Whole Nop0
+reading (N.Control ControlIs.Nop2) [] = Whole Nop2
 reading (N.Control ControlIs.Jump) (FNatural w dest ∷ []) = Whole (Jump (named dest))
 reading (N.Control ControlIs.CondBr) (FNatural v taken ∷ FNatural w not_taken ∷ FCond mask ∷ []) = Whole (CondBr (named taken) (named not_taken) mask)
 reading (N.Control ControlIs.IndirectBr) (FReg rn ∷ FLabels targets ∷ []) = Picks rn targets

@@ -1,7 +1,9 @@
 //! A line of each instruction that is one row of registers and an immediate, and its code as an assembler gives it.
 
 #[rattlefmt::skip]
-pub const REGISTER_ROWS: [(&str, &str); 127] = [
+pub const REGISTER_ROWS: [(&str, &str); 134] = [
+    ("Nop2", "0707"),
+    ("Fence", "07e0"),
     ("UnaryRR Abs32 %r4 %r15", "104f"),
     ("UnaryRR Neg32 %r3 %r3", "1333"),
     ("AluRR And32 %r1 %r1 %r3", "1413"),
@@ -37,6 +39,7 @@ pub const REGISTER_ROWS: [(&str, &str); 127] = [
     ("Mov64SImm16 %r6 -32768", "a7698000"),
     ("Mov32SImm16 %r14 -1", "a7e8ffff"),
     ("CmpRSImm16 CmpS64 %r14 -1", "a7efffff"),
+    ("LoadAR %r2 0", "b24f0020"),
     ("InsertAR %r7 %r7 7", "b24f0077"),
     ("AluRR Mul32 %r6 %r6 %r3", "b2520063"),
     ("UnaryRR Abs64 %r5 %r3", "b9000053"),
@@ -69,8 +72,10 @@ pub const REGISTER_ROWS: [(&str, &str); 127] = [
     ("AluRR And64 %r7 %r7 %r4", "b9800074"),
     ("AluRR Orr64 %r2 %r2 %r7", "b9810027"),
     ("AluRR Xor64 %r3 %r3 %r1", "b9820031"),
+    ("Flogr %r0/%r1 %r3", "b9830003"),
     ("Extend %r1 %r5 false 8 64", "b9840015"),
     ("Extend %r7 %r3 false 16 64", "b9850073"),
+    ("UMulWide %r2/%r3 %r3 %r4", "b9860024"),
     ("Extend %r14 %r3 false 8 32", "b99400e3"),
     ("Extend %r2 %r3 false 16 32", "b9950023"),
     ("UnaryRR PopcntByte %r3 %r5", "b9e10035"),
@@ -82,6 +87,7 @@ pub const REGISTER_ROWS: [(&str, &str); 127] = [
     ("AluRRR Sub64 %r6 %r15 %r14", "b9e9e06f"),
     ("AluRRR AddLogical64 %r3 %r7 %r15", "b9eaf037"),
     ("AluRRR SubLogical64 %r3 %r13 %r2", "b9eb203d"),
+    ("SMulWide %r2/%r3 %r6 %r5", "b9ec5026"),
     ("AluRRR Mul64 %r3 %r1 %r7", "b9ed7031"),
     ("CMov32 %r0 13 %r0 %r1", "b9f2d001"),
     ("AluRRR And32 %r7 %r5 %r6", "b9f46075"),
@@ -122,6 +128,7 @@ pub const REGISTER_ROWS: [(&str, &str); 127] = [
     ("ShiftRR RotL64 %r14 %r2 0 %r0", "ebe20000001c"),
     ("ShiftRR AShR64 %r14 %r3 1 %r0", "ebe30001000a"),
     ("RxSBG Or %r2 %r2 %r2 33 4 -128", "ec2221040056"),
+    ("RxSBGTest And %r2 %r3 0 63 0", "ec23803f0054"),
     ("RxSBG Xor %r4 %r4 %r6 38 35 -70", "ec4626233a57"),
     ("CMov64SImm16 %r5 13 %r5 -32768", "ec5d80000046"),
     ("RxSBG And %r6 %r6 %r3 15 21 0", "ec630f150054"),
