@@ -1,6 +1,7 @@
 -- How the code's rows stand for machine instructions.
-use Rattle.std.specs.Prelude.{ℕ}
+use Rattle.std.specs.Prelude.{ℕ, Bool, true, not, ◌&&◌, ◌||◌, Option, None, Some}
 use Rattle.s390x_base.specs.Regs.{number_of}
+use Rattle.s390x_enc.specs.Operands.{is_general, is_first_float, is_second_float, may_stand_first, may_stand_second}
 use Rattle.s390x_steps.specs.MachineInstruction.{MachineInstruction, rr, rre, rrf_ab, ri_a, rie_d, ril_a}
 use Rattle.s390x_steps.specs.Alone.{Alone}
 use Rattle.s390x_emit_int.specs.declared.alone.RegisterRow.{RegisterRow}
@@ -21,3 +22,22 @@ instruction_of (RilA opcode r1 imm) = ril_a (opcode_of opcode) (number_of r1) im
 
 abbrev pub alone_of : Found → Alone
 alone_of x = record { row = instruction_of x.row; fine = x.fine }
+
+-- the registers may stand where the row has them
+abbrev pub can_encode : RegisterRow → Bool
+can_encode (Rr opcode r1 r2) = may_stand_first opcode r1 && may_stand_second opcode r2
+can_encode (Rre opcode r1 r2) = may_stand_first opcode r1 && may_stand_second opcode r2
+can_encode (RrfAb opcode r1 r2 r3) = is_general r1 && is_general r2 && is_general r3
+can_encode (RiA opcode r1 imm) = is_general r1
+can_encode (RieD opcode r1 r3 imm) = is_general r1 && is_general r3
+can_encode (RilA opcode r1 imm) = is_general r1
+
+-- where a test holds, a row can be encoded; no row always can
+abbrev pub encodes : Bool → Option RegisterRow → Bool
+encodes fine None = true
+encodes fine (Some row) = not fine || can_encode row
+
+-- the opcode's register operands are general ones; no opcode has any
+abbrev pub takes_general : Option ℕ → Bool
+takes_general None = true
+takes_general (Some opcode) = not (is_first_float opcode) && not (is_second_float opcode)

@@ -4,6 +4,7 @@
 pub mod alone;
 pub mod causes;
 pub mod check;
+pub mod completeness;
 pub mod function;
 pub mod headline;
 pub mod leaf;
