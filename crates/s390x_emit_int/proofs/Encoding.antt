@@ -8,11 +8,11 @@ use Rattle.s390x_base.specs.declared.regs.Reg.{Reg}
 use Rattle.s390x_base.specs.declared.regs.Reg.TheVariants.{Real, Virtual}
 use Rattle.s390x_enc.specs.Operands.{is_first_float, is_second_float, is_float, may_stand_first, may_stand_second, is_general as encodes_general, is_int as encodes_int}
 use Rattle.s390x_inst.specs.declared.ops.ALUOp.{ALUOp}
-use Rattle.s390x_inst.specs.declared.ops.ALUOp.TheVariants.{Add32, Add64, Add64Ext32, AddLogical32, AddLogical64, AddLogical64Ext32, Sub32, Sub64, Sub64Ext32, SubLogical32, SubLogical64, SubLogical64Ext32, Mul32, Mul64, Mul64Ext32, And32, And64, Orr32, Orr64, Xor32, Xor64}
+use Rattle.s390x_inst.specs.declared.ops.ALUOp.TheVariants.{Add32}
 use Rattle.s390x_inst.specs.declared.ops.CmpOp.{CmpOp}
-use Rattle.s390x_inst.specs.declared.ops.CmpOp.TheVariants.{CmpS32, CmpS64, CmpS64Ext32, CmpL32, CmpL64, CmpL64Ext32}
+use Rattle.s390x_inst.specs.declared.ops.CmpOp.TheVariants.{CmpS32}
 use Rattle.s390x_inst.specs.declared.ops.UnaryOp.{UnaryOp}
-use Rattle.s390x_inst.specs.declared.ops.UnaryOp.TheVariants.{Abs32, Abs64, Abs64Ext32, Neg32, Neg64, Neg64Ext32, BSwap32, BSwap64}
+use Rattle.s390x_inst.specs.declared.ops.UnaryOp.TheVariants.{Abs32}
 use Rattle.s390x_steps.specs.General.{is_general, reuses}
 use Rattle.s390x_steps.specs.Opcodes.{alu_two, cmp_two, unary_two}
 use Rattle.s390x_emit_int.specs.Alone.{can_encode, encodes, takes_general}
@@ -85,44 +85,12 @@ reused_pair_encodes a b c o e = stronger (reuses a b && is_general c) (is_genera
 -- no opcode of two registers has a float one
 pub alu_two_general : (op : ALUOp) → takes_general (alu_two op) ≡ true
 alu_two_general Add32 = refl
-alu_two_general Add64 = refl
-alu_two_general Add64Ext32 = refl
-alu_two_general AddLogical32 = refl
-alu_two_general AddLogical64 = refl
-alu_two_general AddLogical64Ext32 = refl
-alu_two_general Sub32 = refl
-alu_two_general Sub64 = refl
-alu_two_general Sub64Ext32 = refl
-alu_two_general SubLogical32 = refl
-alu_two_general SubLogical64 = refl
-alu_two_general SubLogical64Ext32 = refl
-alu_two_general Mul32 = refl
-alu_two_general Mul64 = refl
-alu_two_general Mul64Ext32 = refl
-alu_two_general And32 = refl
-alu_two_general And64 = refl
-alu_two_general Orr32 = refl
-alu_two_general Orr64 = refl
-alu_two_general Xor32 = refl
-alu_two_general Xor64 = refl
 alu_two_general _ = refl
 
 pub cmp_two_general : (op : CmpOp) → takes_general (cmp_two op) ≡ true
 cmp_two_general CmpS32 = refl
-cmp_two_general CmpS64 = refl
-cmp_two_general CmpS64Ext32 = refl
-cmp_two_general CmpL32 = refl
-cmp_two_general CmpL64 = refl
-cmp_two_general CmpL64Ext32 = refl
 cmp_two_general _ = refl
 
 pub unary_two_general : (op : UnaryOp) → takes_general (unary_two op) ≡ true
 unary_two_general Abs32 = refl
-unary_two_general Abs64 = refl
-unary_two_general Abs64Ext32 = refl
-unary_two_general Neg32 = refl
-unary_two_general Neg64 = refl
-unary_two_general Neg64Ext32 = refl
-unary_two_general BSwap32 = refl
-unary_two_general BSwap64 = refl
 unary_two_general _ = refl

@@ -7,7 +7,7 @@ use Rattle.s390x_buffer.specs.State.{State}
 use Rattle.s390x_buffer.specs.declared.entries.LabelFixup.{LabelFixup}
 use Rattle.s390x_buffer.specs.declared.label_use.LabelUse.TheVariants.{BranchRIL}
 use Rattle.s390x_format.specs.declared.kind.FormatKind.{FormatKind}
-use Rattle.s390x_format.specs.declared.kind.FormatKind.TheVariants.{E, RiA, RiB, RiC, RieA, RieD, RieF, RieG, RilA, RilB, RilC, Rr, Rre, RrfAb, RrfCde, Rs, Rsy, Rx, Rxy, Si, Sil, Siy, VriA, VriB, VriC, VriK, VrrA, VrrB, VrrC, VrrD, VrrE, VrrF, VrsA, VrsB, VrsC, Vrx}
+use Rattle.s390x_format.specs.declared.kind.FormatKind.TheVariants.{E}
 use Rattle.s390x_format.specs.Formats.{length_of}
 use Rattle.s390x_inst.specs.declared.inst.Inst.{Inst}
 use Rattle.s390x_inst.specs.declared.inst.Inst.TheVariants.{CondBreak}
@@ -23,41 +23,7 @@ use Rattle.s390x_emit_int.proofs.Runs.{length-bytes, length-branch}
 even_length : (kind : FormatKind) → length_of kind % 2 ≡ 0
 unfolding length_of
 even_length E = refl
-even_length RiA = refl
-even_length RiB = refl
-even_length RiC = refl
-even_length RieA = refl
-even_length RieD = refl
-even_length RieF = refl
-even_length RieG = refl
-even_length RilA = refl
-even_length RilB = refl
-even_length RilC = refl
-even_length Rr = refl
-even_length Rre = refl
-even_length RrfAb = refl
-even_length RrfCde = refl
-even_length Rs = refl
-even_length Rsy = refl
-even_length Rx = refl
-even_length Rxy = refl
-even_length Si = refl
-even_length Sil = refl
-even_length Siy = refl
-even_length VriA = refl
-even_length VriB = refl
-even_length VriC = refl
-even_length VriK = refl
-even_length VrrA = refl
-even_length VrrB = refl
-even_length VrrC = refl
-even_length VrrD = refl
-even_length VrrE = refl
-even_length VrrF = refl
-even_length VrsA = refl
-even_length VrsB = refl
-even_length VrsC = refl
-even_length Vrx = refl
+even_length _ = refl
 
 even_bytes : (m : MachineInstruction) → length (bytes_of m) % 2 ≡ 0
 even_bytes m = ap (λ n. n % 2) (length-bytes m) ∙ even_length m.format
