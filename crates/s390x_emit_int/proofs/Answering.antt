@@ -1,5 +1,5 @@
 -- What an answer says where it is Ok.
-use Rattle.std.proofs.Common.{Result, Ok, Err, OnOk, IfOk, MatchResult}
+use Rattle.std.proofs.Common.{Result, Ok, Err, OnOk, MatchResult}
 
 pub on_ok : {T E P Q : Type 0} (r : Result T E) → OnOk r P → (P → Q) → OnOk r Q
 on_ok (Ok x) h f = f h
@@ -8,7 +8,3 @@ on_ok (Err e) h f = h
 pub on_both : {T E P Q : Type 0} (R : E → Type 0) (r : Result T E) → MatchResult r (λ _. P) R → (P → Q) → OnOk r Q
 on_both R (Ok x) h f = f h
 on_both R (Err e) h f = tt
-
-pub if_ok : {T E : Type 0} (P R : T → Type 0) (Q : E → Type 0) (r : Result T E) → MatchResult r P Q → ((x : T) → P x → R x) → IfOk r R
-if_ok P R Q (Ok x) h f = f x h
-if_ok P R Q (Err e) h f = tt

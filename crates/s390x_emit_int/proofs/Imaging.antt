@@ -42,12 +42,12 @@ within_run (Draw ∷ ps) s w h = within_run ps (apply s Draw) w h
 within_run (Bind l ∷ ps) s w h = within_run ps (apply s (Bind l)) w h
 
 -- binding the constants leaves the labels before theirs, and those behind
-low_label : (n : ℕ) (starts : List ℕ) (labels : List (Option ℕ)) (l : ℕ) → l < n → n ≤ length labels → get_or (bind_constants n starts labels) l None ≡ get_or labels l None
+pub low_label : (n : ℕ) (starts : List ℕ) (labels : List (Option ℕ)) (l : ℕ) → l < n → n ≤ length labels → get_or (bind_constants n starts labels) l None ≡ get_or labels l None
 low_label n starts labels l lt le =
     let h : l < length (take n labels) = omega (arith, length-take n labels) in
     get_or_append_left (take n labels) _ None l h ∙ get_or-take n labels l None lt
 
-high_label : (n : ℕ) (starts : List ℕ) (labels : List (Option ℕ)) (l : ℕ) → n + length starts ≤ l → n ≤ length labels → get_or (bind_constants n starts labels) l None ≡ get_or labels l None
+pub high_label : (n : ℕ) (starts : List ℕ) (labels : List (Option ℕ)) (l : ℕ) → n + length starts ≤ l → n ≤ length labels → get_or (bind_constants n starts labels) l None ≡ get_or labels l None
 high_label n starts labels l lo le =
     let m = length starts in
     let j = l - (n + m) in
@@ -63,7 +63,7 @@ high_label n starts labels l lo le =
     ∙ get_or-drop (n + m) labels j None
     ∙ ap (λ k. get_or labels k None) e3
 
-length-starts : (n : ℕ) (cs : List Constant) → length (constant_starts n cs) ≡ length cs
+pub length-starts : (n : ℕ) (cs : List Constant) → length (constant_starts n cs) ≡ length cs
 length-starts n [] = refl
 length-starts n (c ∷ cs) = ap suc (length-starts (constant_start n c + length c.bytes) cs)
 

@@ -1,9 +1,16 @@
 pub mod Checking
+pub mod Closing
+pub mod Orderly
+pub mod Encoding
 pub mod Runs
+pub mod Passing
 pub mod Patching
+pub mod Blocks
 pub mod Branches
 pub mod Binding
 pub mod Joining
+pub mod Lacking
+pub mod Leaves
 pub mod Starts
 pub mod Names
 pub mod Functions
@@ -11,6 +18,7 @@ pub mod Imaging
 pub mod Trees
 pub mod Answering
 pub mod Lengths
+pub mod Finishing
 pub mod FirstCauses
 pub mod Linked
 pub mod Single

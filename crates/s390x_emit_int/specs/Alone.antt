@@ -1,10 +1,11 @@
 -- How the code's rows stand for machine instructions.
-use Rattle.std.specs.Prelude.{ℕ}
+use Rattle.std.specs.Prelude.{ℕ, Bool, true, not, ◌&&◌, ◌||◌, Option, None, Some}
 use Rattle.s390x_base.specs.Regs.{number_of}
 use Rattle.s390x_inst.specs.declared.inst.Inst.{Inst}
 use Rattle.s390x_inst.specs.declared.inst.Inst.TheVariants.{AluRUImm16Shifted, AluRUImm32Shifted, SMulWide, UMulWide, Flogr, ShiftRR, RxSBG, RxSBGTest, Mov64, MovPReg, Mov32, Mov32Imm, Mov32SImm16, Mov64SImm16, Mov64SImm32, Mov64UImm16Shifted, Mov64UImm32Shifted, Insert64UImm16Shifted, Insert64UImm32Shifted, CMov32, CMov64, CMov32SImm16, CMov64SImm16, Extend, LoadAR, InsertAR, Fence, Nop2}
 use Rattle.s390x_steps.specs.MachineInstruction.{MachineInstruction, rr, rre, rrf_ab, rrf_cde, ri_a, rie_d, rie_f, rie_g, ril_a, rsy}
 use Rattle.s390x_steps.specs.General.{four_bits}
+use Rattle.s390x_enc.specs.Operands.{is_general, is_first_float, is_second_float, may_stand_first, may_stand_second}
 use Rattle.s390x_steps.specs.Alone.{Alone}
 use Rattle.s390x_emit_int.specs.declared.alone.RegisterRow.{RegisterRow}
 use Rattle.s390x_emit_int.specs.declared.alone.RegisterRow.TheVariants.{Rr, Rre, RrfAb, RrfCde, RiA, RieD, RieF, RieG, RilA, Rsy}
@@ -62,3 +63,26 @@ group_of (InsertAR rd ri ar) = Moves
 group_of Fence = Moves
 group_of Nop2 = Moves
 group_of _ = Arithmetic
+
+-- the registers may stand where the row has them
+abbrev pub can_encode : RegisterRow → Bool
+can_encode (Rr opcode r1 r2) = may_stand_first opcode r1 && may_stand_second opcode r2
+can_encode (Rre opcode r1 r2) = may_stand_first opcode r1 && may_stand_second opcode r2
+can_encode (RrfAb opcode r1 r2 r3) = is_general r1 && is_general r2 && is_general r3
+can_encode (RiA opcode r1 imm) = is_general r1
+can_encode (RieD opcode r1 r3 imm) = is_general r1 && is_general r3
+can_encode (RilA opcode r1 imm) = is_general r1
+can_encode (RrfCde opcode r1 r2 mask) = is_general r1 && is_general r2
+can_encode (RieF opcode r1 r2 first end rotated) = is_general r1 && is_general r2
+can_encode (RieG opcode r1 imm mask) = is_general r1
+can_encode (Rsy opcode r1 r3 b2 amount) = is_general r1 && is_general r3 && is_general b2
+
+-- where a test holds, a row can be encoded; no row always can
+abbrev pub encodes : Bool → Option RegisterRow → Bool
+encodes fine None = true
+encodes fine (Some row) = not fine || can_encode row
+
+-- the opcode's register operands are general ones; no opcode has any
+abbrev pub takes_general : Option ℕ → Bool
+takes_general None = true
+takes_general (Some opcode) = not (is_first_float opcode) && not (is_second_float opcode)

@@ -1,6 +1,29 @@
--- The labels of a buffer come in this order: the blocks', the constants', those that were drawn.
-use Rattle.std.specs.Prelude.{◌+◌, ◌≤◌, length}
-use Rattle.s390x_buffer.specs.State.{State}
+-- The room in a buffer for what emission puts there.
+use Rattle.std.specs.Prelude.{◌≡◌, ℕ, ◌+◌, ◌<◌, ◌≤◌, length, Option, None, Result, IfErr, false}
+use Rattle.s390x_base.specs.declared.error.EmitError.{EmitError}
+use Rattle.s390x_base.specs.declared.error.EmitError.TheVariants.{NoMemory}
+use Rattle.s390x_buffer.specs.State.{State, limit}
+use Rattle.s390x_steps.specs.Tree.{Tree}
+use Rattle.s390x_steps.specs.Sizes.{tree_size}
+use Rattle.s390x_steps.specs.Causes.{tree_cause}
 
+-- the labels of a buffer come in this order: the blocks', the constants', those that were drawn
 abbrev pub HasRoom : State → Type 0
 HasRoom s = s.block_count + length s.constants ≤ length s.labels
+
+-- What the check let pass goes into the buffer: no cause stands, the buffer bears no mark, its blocks and the label behind the innermost loop
+-- are among its labels, and so many more bytes end below the limit of code.
+pub record Passed (s : State) (after bytes : ℕ) (cause : Option EmitError) : Type 0 where
+  pub unmarked : s.failed ≡ false
+  pub blocks : s.block_count ≤ length s.labels
+  pub label : after < length s.labels
+  pub short : length s.bytes + bytes < limit
+  pub passed : cause ≡ None
+
+-- the same of a tree, inside so many loops
+abbrev pub TreePassed : State → (after depth : ℕ) → Tree → Type 0
+TreePassed s after depth t = Passed s after (tree_size t) (tree_cause s.block_count (length s.labels) depth t)
+
+-- an error is want of memory
+abbrev pub LacksMemory : {T : Type 0} → Result T EmitError → Type 0
+LacksMemory r = IfErr r (λ e. e ≡ NoMemory)

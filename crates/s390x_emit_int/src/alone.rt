@@ -1,12 +1,12 @@
 //! Instructions that are one machine instruction on general registers and immediates.
-ghost use Rattle.std.specs.Prelude.{◌≡◌, ◌≤◌, ◌<◌, ◌&&◌, Some, IfOk, nat_eq, pos};
+ghost use Rattle.std.specs.Prelude.{◌≡◌, ◌≤◌, ◌<◌, ◌&&◌, true, false, Some, MatchResult, IfSome, nat_eq, pos};
 ghost use Rattle.std.specs.Option.{option_map};
 ghost use Rattle.s390x_base.specs.Regs.{number_of};
 ghost use Rattle.s390x_steps.specs.General.{is_general, reuses, low_halfword, low_word};
 ghost use Rattle.s390x_steps.specs.MachineInstruction.{bytes_of, size_of};
 ghost use Rattle.s390x_steps.specs.Opcodes.{alu_three, alu_two, cmp_two, unary_two, alu_halfword, alu_three_halfword, alu_signed_word, alu_unsigned_word, cmp_halfword, cmp_signed_word, cmp_unsigned_word};
 ghost use Rattle.s390x_steps.specs.Alone.{alone, alone_with, two_operands, two_row, unary_row, three_row, halfword_row, word_row, three_halfword_row};
-ghost use Rattle.s390x_emit_int.specs.Alone.{instruction_of, alone_of, opcode_of, group_of};
+ghost use Rattle.s390x_emit_int.specs.Alone.{instruction_of, alone_of, opcode_of, group_of, can_encode, encodes, takes_general};
 ghost use Rattle.s390x_emit_int.specs.declared.alone.Group.TheVariants.{Arithmetic};
 
 use crate::bits::find_bits;
@@ -102,9 +102,9 @@ pub struct Alone {
 }
 
 impl RegisterRow {
-    /// Its bytes. `BadRegister` where a register can't be encoded.
+    /// Its bytes. `BadRegister` where a register can't be encoded, and no other refusal.
     pub fn code(&self) -> Result<Code, EmitError>
-        ensures { IfOk result (λ code. code ≡ bytes_of (instruction_of self.now)) }
+        ensures { MatchResult result (λ code. code ≡ bytes_of (instruction_of self.now)) (λ _. can_encode self.now ≡ false) }
     {
         match self {
             RegisterRow::Rr { opcode, r1, r2 } => enc_rr(u16::from(*opcode), *r1, *r2),
@@ -299,8 +299,11 @@ fn unary_opcode(op: UnaryOp) -> Option<u16>
 }
 
 // Opcodes of two digits are RR, others RRE.
+#[tactic(auto, using(crate::proofs::Encoding::pair_encodes))]
 fn two_operands(opcode: u16, r1: Reg, r2: Reg) -> RegisterRow
-    ensures { instruction_of result ≡ two_operands opcode (number_of r1) (number_of r2) }
+    requires { takes_general (Some opcode) ≡ true }
+    ensures row { instruction_of result ≡ two_operands opcode (number_of r1) (number_of r2) }
+    ensures encodes { encodes (is_general r1 && is_general r2) (Some result) ≡ true }
 {
     if opcode < 256 {
         RegisterRow::Rr {
@@ -314,8 +317,10 @@ fn two_operands(opcode: u16, r1: Reg, r2: Reg) -> RegisterRow
 }
 
 // The count of ones has its mode in a mask.
+#[tactic(auto, using(crate::proofs::Encoding::unary_two_general, crate::proofs::Encoding::two_encode))]
 fn unary_row(op: UnaryOp, r1: Reg, r2: Reg) -> Option<RegisterRow>
-    ensures { option_map instruction_of result ≡ unary_row op (number_of r1) (number_of r2) }
+    ensures row { option_map instruction_of result ≡ unary_row op (number_of r1) (number_of r2) }
+    ensures encodes { encodes (is_general r1 && is_general r2) result ≡ true }
 {
     match op {
         UnaryOp::PopcntByte => Some(RegisterRow::RrfCde {
@@ -329,7 +334,9 @@ fn unary_row(op: UnaryOp, r1: Reg, r2: Reg) -> Option<RegisterRow>
 }
 
 pub fn two_row(opcode: Option<u16>, r1: Reg, r2: Reg) -> Option<RegisterRow>
-    ensures { option_map instruction_of result ≡ two_row opcode (number_of r1) (number_of r2) }
+    requires { takes_general opcode ≡ true }
+    ensures row { option_map instruction_of result ≡ two_row opcode (number_of r1) (number_of r2) }
+    ensures encodes { encodes (is_general r1 && is_general r2) result ≡ true }
 {
     match opcode {
         Some(opcode) => Some(two_operands(opcode, r1, r2)),
@@ -338,8 +345,10 @@ pub fn two_row(opcode: Option<u16>, r1: Reg, r2: Reg) -> Option<RegisterRow>
 }
 
 // The row of three operands, or that of two where there is one and the first input is the output.
+#[tactic(auto, using(crate::proofs::Encoding::alu_two_general, crate::proofs::Encoding::three_encode))]
 fn three_row(op: ALUOp, rd: Reg, rn: Reg, rm: Reg) -> Option<RegisterRow>
-    ensures { option_map instruction_of result ≡ three_row (alu_three op) (alu_two op) (number_of rd) (number_of rn) (number_of rm) }
+    ensures row { option_map instruction_of result ≡ three_row (alu_three op) (alu_two op) (number_of rd) (number_of rn) (number_of rm) }
+    ensures encodes { encodes (is_general rd && is_general rn && is_general rm) result ≡ true }
 {
     let three = three_opcode(op)?;
     match two_opcode(op) {
@@ -353,8 +362,11 @@ fn three_row(op: ALUOp, rd: Reg, rn: Reg, rm: Reg) -> Option<RegisterRow>
     }
 }
 
+#[tactic(auto, using(crate::proofs::Encoding::three_encode, crate::proofs::Encoding::encodes_outer))]
 fn shorter_row(three: u16, two: u16, rd: Reg, rn: Reg, rm: Reg) -> RegisterRow
-    ensures { Some (instruction_of result) ≡ three_row (Some three) (Some two) (number_of rd) (number_of rn) (number_of rm) }
+    requires { takes_general (Some two) ≡ true }
+    ensures row { Some (instruction_of result) ≡ three_row (Some three) (Some two) (number_of rd) (number_of rn) (number_of rm) }
+    ensures encodes { encodes (is_general rd && is_general rn && is_general rm) (Some result) ≡ true }
 {
     if same_number(&rd, &rn) {
         two_operands(two, rd, rm)
@@ -477,8 +489,10 @@ pub fn bits_of_unsigned_halfword(imm: u16) -> u16
     imm
 }
 
+#[tactic(auto, using(crate::proofs::Encoding::one_encodes))]
 pub fn halfword_row(opcode: Option<ShortOpcode>, r1: Reg, imm: u16) -> Option<RegisterRow>
-    ensures { option_map instruction_of result ≡ halfword_row (option_map opcode_of opcode) (number_of r1) imm }
+    ensures row { option_map instruction_of result ≡ halfword_row (option_map opcode_of opcode) (number_of r1) imm }
+    ensures encodes { encodes (is_general r1) result ≡ true }
 {
     match opcode {
         Some(opcode) => Some(RegisterRow::RiA { opcode, r1, imm }),
@@ -486,8 +500,10 @@ pub fn halfword_row(opcode: Option<ShortOpcode>, r1: Reg, imm: u16) -> Option<Re
     }
 }
 
+#[tactic(auto, using(crate::proofs::Encoding::one_encodes))]
 pub fn word_row(opcode: Option<ShortOpcode>, r1: Reg, imm: u32) -> Option<RegisterRow>
-    ensures { option_map instruction_of result ≡ word_row (option_map opcode_of opcode) (number_of r1) imm }
+    ensures row { option_map instruction_of result ≡ word_row (option_map opcode_of opcode) (number_of r1) imm }
+    ensures encodes { encodes (is_general r1) result ≡ true }
 {
     match opcode {
         Some(opcode) => Some(RegisterRow::RilA { opcode, r1, imm }),
@@ -496,8 +512,10 @@ pub fn word_row(opcode: Option<ShortOpcode>, r1: Reg, imm: u32) -> Option<Regist
 }
 
 // Into another register, or two operands where the input is the output.
+#[tactic(auto, using(crate::proofs::Encoding::two_encode))]
 fn three_halfword_row(op: ALUOp, rd: Reg, rn: Reg, imm: u16) -> Option<RegisterRow>
-    ensures { option_map instruction_of result ≡ three_halfword_row (alu_three_halfword op) (alu_halfword op) (number_of rd) (number_of rn) imm }
+    ensures row { option_map instruction_of result ≡ three_halfword_row (alu_three_halfword op) (alu_halfword op) (number_of rd) (number_of rn) imm }
+    ensures encodes { encodes (is_general rd && is_general rn) result ≡ true }
 {
     let three = three_halfword_opcode(op)?;
     match halfword_opcode(op) {
@@ -511,8 +529,10 @@ fn three_halfword_row(op: ALUOp, rd: Reg, rn: Reg, imm: u16) -> Option<RegisterR
     }
 }
 
+#[tactic(auto, using(crate::proofs::Encoding::two_encode, crate::proofs::Encoding::first_encodes))]
 fn shorter_halfword_row(three: u16, two: ShortOpcode, rd: Reg, rn: Reg, imm: u16) -> RegisterRow
-    ensures { Some (instruction_of result) ≡ three_halfword_row (Some three) (Some (opcode_of two)) (number_of rd) (number_of rn) imm }
+    ensures row { Some (instruction_of result) ≡ three_halfword_row (Some three) (Some (opcode_of two)) (number_of rd) (number_of rn) imm }
+    ensures encodes { encodes (is_general rd && is_general rn) (Some result) ≡ true }
 {
     if same_number(&rd, &rn) {
         RegisterRow::RiA {
@@ -531,7 +551,9 @@ fn shorter_halfword_row(three: u16, two: ShortOpcode, rd: Reg, rn: Reg, imm: u16
 }
 
 pub fn alone_with(fine: bool, row: Option<RegisterRow>) -> Option<Alone>
-    ensures { option_map alone_of result ≡ alone_with fine (option_map instruction_of row) }
+    requires { encodes fine row ≡ true }
+    ensures row { option_map alone_of result ≡ alone_with fine (option_map instruction_of row) }
+    ensures encodes { IfSome result (λ x. encodes x.fine (Some x.row) ≡ true) }
 {
     match row {
         Some(row) => Some(Alone { row, fine }),
@@ -539,9 +561,11 @@ pub fn alone_with(fine: bool, row: Option<RegisterRow>) -> Option<Alone>
     }
 }
 
+#[tactic(auto, using(crate::proofs::Encoding::alu_two_general, crate::proofs::Encoding::cmp_two_general, crate::proofs::Encoding::reused_encodes, crate::proofs::Encoding::reused_pair_encodes))]
 // The machine instruction of arithmetic and comparisons.
 fn find_arithmetic(inst: &Inst) -> Option<Alone>
-    ensures { group_of inst.now ≡ Arithmetic → option_map alone_of result ≡ alone inst.now }
+    ensures row { group_of inst.now ≡ Arithmetic → option_map alone_of result ≡ alone inst.now }
+    ensures encodes { IfSome result (λ x. encodes x.fine (Some x.row) ≡ true) }
 {
     match inst {
         Inst::AluRRR { alu_op, rd, rn, rm } => alone_with(
@@ -662,7 +686,8 @@ fn find_group(inst: &Inst) -> Group
 
 /// The one machine instruction of an instruction, where it is one that is built.
 pub fn find_alone(inst: &Inst) -> Option<Alone>
-    ensures { option_map alone_of result ≡ alone inst.now }
+    ensures row { option_map alone_of result ≡ alone inst.now }
+    ensures encodes { IfSome result (λ x. encodes x.fine (Some x.row) ≡ true) }
 {
     match find_group(inst) {
         Group::Arithmetic => find_arithmetic(inst),

@@ -1,12 +1,12 @@
 //! Operators on parts of a register and on pairs, shifts and rotations that are one machine instruction.
-ghost use Rattle.std.specs.Prelude.{◌≡◌, ◌+◌, ◌<◌, ◌&&◌, Some, nat_lt, nat_eq};
+ghost use Rattle.std.specs.Prelude.{◌≡◌, ◌+◌, ◌<◌, ◌&&◌, true, Some, IfSome, nat_lt, nat_eq};
 ghost use Rattle.std.specs.Option.{option_map};
 ghost use Rattle.s390x_base.specs.Regs.{number_of};
 ghost use Rattle.s390x_steps.specs.General.{is_general, is_even_pair, reuses, rotation, low_byte};
 ghost use Rattle.s390x_steps.specs.MachineInstruction.{rre, rrf_ab, rsy};
 ghost use Rattle.s390x_steps.specs.Opcodes.{of_one, alu_part, alu_half, shift_storage, rotate_then, rotate_then_test};
 ghost use Rattle.s390x_steps.specs.Alone.{alone, rotated_row};
-ghost use Rattle.s390x_emit_int.specs.Alone.{instruction_of, alone_of, opcode_of, group_of};
+ghost use Rattle.s390x_emit_int.specs.Alone.{instruction_of, alone_of, opcode_of, group_of, encodes, takes_general};
 ghost use Rattle.s390x_emit_int.specs.declared.alone.Group.TheVariants.{Bits};
 
 use crate::alone::{
@@ -111,8 +111,10 @@ struct Selection {
     rotated: u8,
 }
 
+#[tactic(auto, using(crate::proofs::Encoding::two_encode))]
 fn rotated_row(opcode: u16, rd: Reg, rn: Reg, bits: Selection) -> Option<RegisterRow>
-    ensures { option_map instruction_of result ≡ rotated_row (Some opcode) (number_of rd) (number_of rn) bits.start bits.end bits.start bits.rotated }
+    ensures encodes { encodes (is_general rd && is_general rn) result ≡ true }
+    ensures row { option_map instruction_of result ≡ rotated_row (Some opcode) (number_of rd) (number_of rn) bits.start bits.end bits.start bits.rotated }
 {
     if bits.start < 64 && bits.end < 64 {
         Some(RegisterRow::RieF {
@@ -129,8 +131,10 @@ fn rotated_row(opcode: u16, rd: Reg, rn: Reg, bits: Selection) -> Option<Registe
 }
 
 // A start with 128 added means that the result is tested alone.
+#[tactic(auto, using(crate::proofs::Encoding::two_encode))]
 fn tested_row(op: RxSBGOp, rd: Reg, rn: Reg, bits: Selection) -> Option<RegisterRow>
-    ensures { option_map instruction_of result ≡ rotated_row (rotate_then_test op) (number_of rd) (number_of rn) bits.start bits.end (bits.start + 128) bits.rotated }
+    ensures encodes { encodes (is_general rd && is_general rn) result ≡ true }
+    ensures row { option_map instruction_of result ≡ rotated_row (rotate_then_test op) (number_of rd) (number_of rn) bits.start bits.end (bits.start + 128) bits.rotated }
 {
     let opcode = test_opcode(op)?;
     if bits.start < 64 && bits.end < 64 {
@@ -147,8 +151,10 @@ fn tested_row(op: RxSBGOp, rd: Reg, rn: Reg, bits: Selection) -> Option<Register
     }
 }
 
+#[tactic(auto, using(crate::proofs::Encoding::three_encode))]
 fn shift_row(op: ShiftOp, rd: Reg, rn: Reg, amount: u8, register: Reg) -> Option<RegisterRow>
-    ensures { option_map instruction_of result ≡ Some (rsy (shift_storage op) (number_of rd) (number_of rn) (number_of register) (low_byte amount)) }
+    ensures encodes { encodes (is_general rd && is_general rn && is_general register) result ≡ true }
+    ensures row { option_map instruction_of result ≡ Some (rsy (shift_storage op) (number_of rd) (number_of rn) (number_of register) (low_byte amount)) }
 {
     Some(RegisterRow::Rsy {
         opcode: shift_opcode(op),
@@ -168,8 +174,10 @@ fn is_even_pair(pair: &WritableRegPair) -> bool
     general(&high) && general(&low) && valid_regpair(high, low)
 }
 
+#[tactic(auto, using(crate::proofs::Encoding::three_encode))]
 fn product_row(pair: Reg, rn: Reg, rm: Reg) -> Option<RegisterRow>
-    ensures { option_map instruction_of result ≡ Some (rrf_ab 0xb9ec (number_of pair) (number_of rn) (number_of rm) 0) }
+    ensures encodes { encodes (is_general pair && is_general rn && is_general rm) result ≡ true }
+    ensures row { option_map instruction_of result ≡ Some (rrf_ab 0xb9ec (number_of pair) (number_of rn) (number_of rm) 0) }
 {
     Some(RegisterRow::RrfAb {
         opcode: 0xb9ec,
@@ -179,8 +187,11 @@ fn product_row(pair: Reg, rn: Reg, rm: Reg) -> Option<RegisterRow>
     })
 }
 
+#[tactic(auto, using(crate::proofs::Encoding::pair_encodes))]
 fn pair_row(opcode: u16, pair: Reg, rn: Reg) -> Option<RegisterRow>
-    ensures { option_map instruction_of result ≡ Some (rre opcode (number_of pair) (number_of rn)) }
+    requires { takes_general (Some opcode) ≡ true }
+    ensures encodes { encodes (is_general pair && is_general rn) result ≡ true }
+    ensures row { option_map instruction_of result ≡ Some (rre opcode (number_of pair) (number_of rn)) }
 {
     Some(RegisterRow::Rre {
         opcode,
@@ -189,9 +200,11 @@ fn pair_row(opcode: u16, pair: Reg, rn: Reg) -> Option<RegisterRow>
     })
 }
 
+#[tactic(auto, using(crate::proofs::Encoding::reused_encodes, crate::proofs::Encoding::reused_pair_encodes, crate::proofs::Encoding::even_encodes, crate::proofs::Encoding::even_two_encodes, crate::proofs::Encoding::even_reused_encodes))]
 /// The machine instruction of a shift, a rotation, an operator on part of a register or one on a pair.
 pub fn find_bits(inst: &Inst) -> Option<Alone>
-    ensures { group_of inst.now ≡ Bits → option_map alone_of result ≡ alone inst.now }
+    ensures row { group_of inst.now ≡ Bits → option_map alone_of result ≡ alone inst.now }
+    ensures encodes { IfSome result (λ x. encodes x.fine (Some x.row) ≡ true) }
 {
     match inst {
         Inst::AluRUImm16Shifted {

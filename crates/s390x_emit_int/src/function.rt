@@ -1,8 +1,8 @@
 //! Emitting a function: its blocks, and then its constants.
 
-ghost use Rattle.std.specs.Prelude.{◌≡◌, ℕ, ◌+◌, ◌<◌, ◌≤◌, ◌⊎◌, OnOk, IfOk, length, map, min, get_or, None, Some, MatchResult, nat_lt, nat_eq, ◌&&◌, true};
+ghost use Rattle.std.specs.Prelude.{◌≡◌, ℕ, ◌+◌, ◌<◌, ◌≤◌, ◌⊎◌, OnOk, length, map, min, get_or, None, Some, MatchResult, nat_lt};
 ghost use Rattle.s390x_base.specs.declared.error.EmitError.TheVariants.{NoMemory, LabelOutOfRange, BadStackState};
-ghost use Rattle.s390x_buffer.specs.State.{constant_of, new_cause, fresh, limit};
+ghost use Rattle.s390x_buffer.specs.State.{constant_of, new_cause, put_cause, limit};
 ghost use Rattle.s390x_buffer.specs.Constants.{constants_end};
 ghost use Rattle.s390x_steps.specs.Causes.{first, unless, blocks_cause};
 ghost use Rattle.s390x_steps.specs.Sizes.{blocks_size};
@@ -10,7 +10,7 @@ ghost use Rattle.s390x_emit_int.specs.Emission.{function_pieces};
 ghost use Rattle.s390x_steps.specs.Ranges.{BlocksInRange};
 ghost use Rattle.s390x_emit_int.specs.Function.{tree_of, trees_of, constants_of, IsImage, start_cause, checked_cause, function_cause};
 ghost use Rattle.s390x_emit_int.specs.Pieces.{run};
-ghost use Rattle.s390x_emit_int.specs.Room.{HasRoom};
+ghost use Rattle.s390x_emit_int.specs.Room.{HasRoom, LacksMemory};
 
 use crate::check::{Totals, check_members};
 use crate::tree::emit_members;
@@ -62,6 +62,7 @@ fn emit_blocks(sink: &mut MachBuffer, blocks: &[Block]) -> Result<(), EmitError>
     requires room { HasRoom sink.old }
     requires free { (l : ℕ) → l < length blocks.now → get_or sink.old.labels l None ≡ None }
     ensures answer { OnOk result (sink.new ≡ run sink.old (function_pieces (length sink.old.labels) 0 (map tree_of blocks.now))) }
+    ensures lacks { put_cause sink.old (blocks_size (map tree_of blocks.now)) ≡ None → blocks_cause (length blocks.now) (length sink.old.labels) (map tree_of blocks.now) ≡ None → LacksMemory result }
     ensures ranges { OnOk result (BlocksInRange (map tree_of blocks.now)) }
 {
     let mut label: u32 = 0;
@@ -80,8 +81,8 @@ fn emit_checked(
     count: u32,
 ) -> Result<MachBufferFinalized, EmitError>
     requires count { count ≡ length function.now.blocks.items }
-    requires fine { blocks_cause (length (trees_of function.now)) (length (trees_of function.now) + length (constants_of function.now)) (trees_of function.now) ≡ None }
-    ensures { IfOk result (λ f. IsImage (trees_of function.now) (constants_of function.now) f × BlocksInRange (trees_of function.now)) }
+    requires fine { checked_cause (trees_of function.now) (constants_of function.now) ≡ None }
+    ensures { MatchResult result (λ f. IsImage (trees_of function.now) (constants_of function.now) f × BlocksInRange (trees_of function.now)) (λ e. e ≡ NoMemory) }
 {
     let mut sink = MachBuffer::new(alloc, count, &function.constants)?;
     emit_blocks(&mut sink, &function.blocks)?;
@@ -138,8 +139,5 @@ pub fn emit_function(
     }
     let count = block_count(function)?;
     check_function(function, count)?;
-    match emit_checked(alloc, function, count) {
-        Ok(code) => Ok(code),
-        Err(_) => Err(EmitError::NoMemory),
-    }
+    emit_checked(alloc, function, count)
 }

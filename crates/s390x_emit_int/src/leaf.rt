@@ -1,14 +1,19 @@
 //! Emitting one instruction that is no `Loop`.
 #![tactic(auto, using(s390x_buffer::proofs::Keeping::keeps_on, s390x_buffer::proofs::Keeping::keeps_same))]
 
-ghost use Rattle.std.specs.Prelude.{◌≡◌, ◌<◌, [], ◌∷◌, OnOk};
+ghost use Rattle.std.specs.Prelude.{◌≡◌, ℕ, ◌<◌, ◌&&◌, [], ◌∷◌, None, true, length, OnOk};
 ghost use Rattle.s390x_base.specs.Regs.{number_of};
 ghost use Rattle.s390x_buffer.specs.Keeps.{Keeps};
-ghost use Rattle.s390x_steps.specs.MachineInstruction.{rr, bytes_of};
+ghost use Rattle.s390x_buffer.specs.State.{put_cause};
+ghost use Rattle.s390x_steps.specs.MachineInstruction.{rr, bytes_of, size_of};
 ghost use Rattle.s390x_steps.specs.Parts.{Row, Branch, ToBlock};
-ghost use Rattle.s390x_emit_int.specs.Alone.{instruction_of};
+ghost use Rattle.s390x_steps.specs.Causes.{branch_cause, instruction_cause};
+ghost use Rattle.s390x_steps.specs.General.{is_general, is_nonzero};
+ghost use Rattle.s390x_steps.specs.Sizes.{instruction_size};
+ghost use Rattle.s390x_emit_int.specs.Alone.{instruction_of, can_encode};
 ghost use Rattle.s390x_emit_int.specs.Pieces.{Put, apply, run};
-ghost use Rattle.s390x_emit_int.specs.Emission.{branch, part_pieces, branch_pieces, leaf_pieces};
+ghost use Rattle.s390x_emit_int.specs.Emission.{branch, part_pieces, branch_pieces, branch_size, leaf_pieces};
+ghost use Rattle.s390x_emit_int.specs.Room.{Passed, LacksMemory};
 ghost use Rattle.s390x_steps.specs.Ranges.{InRange, IsMask};
 
 use crate::alone::{RegisterRow, find_alone};
@@ -21,6 +26,7 @@ use s390x_inst::Inst;
 pub fn put_branch(sink: &mut MachBuffer, mask: u8, label: MachLabel) -> Result<(), EmitError>
     requires { mask < 16 }
     ensures answer { OnOk result (sink.new ≡ apply sink.old (branch mask label.0)) }
+    ensures lacks { Passed sink.old label.0 6 None → LacksMemory result }
     ensures kept { Keeps sink.old sink.new }
 {
     let code = enc_ril_c(0xc04, mask, 0)?;
@@ -32,6 +38,7 @@ pub fn put_branch(sink: &mut MachBuffer, mask: u8, label: MachLabel) -> Result<(
 // BRANCH ON CONDITION to the address in a register, always.
 fn emit_branch_register(sink: &mut MachBuffer, rn: Reg) -> Result<(), EmitError>
     ensures answer { OnOk result (sink.new ≡ run sink.old (part_pieces (Row (rr 0x07 15 (number_of rn)) ∷ []))) }
+    ensures lacks { put_cause sink.old 2 ≡ None → (is_general rn && is_nonzero rn) ≡ true → LacksMemory result }
     ensures kept { Keeps sink.old sink.new }
 {
     let code = enc_rr(0x07, gpr(15), rn)?;
@@ -45,6 +52,7 @@ fn emit_two_branches(
     cond: Cond,
 ) -> Result<(), EmitError>
     ensures answer { OnOk result (sink.new ≡ run sink.old (part_pieces (Branch cond (ToBlock taken.0) ∷ Branch 15 (ToBlock not_taken.0) ∷ []))) }
+    ensures lacks { Passed sink.old taken.0 12 None → not_taken.0 < length sink.old.labels → LacksMemory result }
     ensures range { IsMask cond }
     ensures kept { Keeps sink.old sink.new }
 {
@@ -54,6 +62,7 @@ fn emit_two_branches(
 
 fn emit_break(sink: &mut MachBuffer, cond: Cond, after: MachLabel) -> Result<(), EmitError>
     ensures answer { OnOk result (sink.new ≡ apply sink.old (branch cond after.0)) }
+    ensures lacks { Passed sink.old after.0 6 None → LacksMemory result }
     ensures range { IsMask cond }
     ensures kept { Keeps sink.old sink.new }
 {
@@ -62,6 +71,7 @@ fn emit_break(sink: &mut MachBuffer, cond: Cond, after: MachLabel) -> Result<(),
 
 fn emit_alone(sink: &mut MachBuffer, row: &RegisterRow) -> Result<(), EmitError>
     ensures answer { OnOk result (sink.new ≡ apply sink.old (Put (bytes_of (instruction_of row.now)))) }
+    ensures lacks { put_cause sink.old (size_of (instruction_of row.now)) ≡ None → can_encode row.now ≡ true → LacksMemory result }
     ensures kept { Keeps sink.old sink.new }
 {
     let code = row.code()?;
@@ -70,6 +80,7 @@ fn emit_alone(sink: &mut MachBuffer, row: &RegisterRow) -> Result<(), EmitError>
 
 fn emit_branch(sink: &mut MachBuffer, inst: &Inst, after: MachLabel) -> Result<(), EmitError>
     ensures answer { OnOk result (sink.new ≡ run sink.old (branch_pieces after.0 inst.now)) }
+    ensures lacks { (depth : ℕ) → Passed sink.old after.0 (branch_size inst.now) (branch_cause sink.old.block_count depth inst.now) → LacksMemory result }
     ensures range { OnOk result (InRange inst.now) }
     ensures kept { Keeps sink.old sink.new }
 {
@@ -88,10 +99,11 @@ fn emit_branch(sink: &mut MachBuffer, inst: &Inst, after: MachLabel) -> Result<(
     }
 }
 
-#[tactic(auto, using(s390x_buffer::proofs::Keeping::keeps_on, s390x_buffer::proofs::Keeping::keeps_same, crate::proofs::Single::some_pieces, crate::proofs::Single::none_pieces, crate::proofs::Single::some_range))]
+#[tactic(auto, using(s390x_buffer::proofs::Keeping::keeps_on, s390x_buffer::proofs::Keeping::keeps_same, crate::proofs::Single::none_pieces))]
 /// Emits an instruction that is no `Loop`; `after` is the label behind the innermost loop.
 pub fn emit_leaf(sink: &mut MachBuffer, inst: &Inst, after: MachLabel) -> Result<(), EmitError>
     ensures answer { OnOk result (sink.new ≡ run sink.old (leaf_pieces after.0 inst.now)) }
+    ensures lacks { (depth : ℕ) → Passed sink.old after.0 (instruction_size inst.now) (instruction_cause sink.old.block_count depth inst.now) → LacksMemory result }
     ensures range { OnOk result (InRange inst.now) }
     ensures kept { Keeps sink.old sink.new }
 {

@@ -5,6 +5,7 @@ pub mod alone;
 pub mod bits;
 pub mod causes;
 pub mod check;
+pub mod completeness;
 pub mod function;
 pub mod headline;
 pub mod leaf;

@@ -1,12 +1,12 @@
 //! Moves, insertions, extensions and conditional moves that are one machine instruction.
-ghost use Rattle.std.specs.Prelude.{◌≡◌, ◌<◌, ◌&&◌, Some};
+ghost use Rattle.std.specs.Prelude.{◌≡◌, ◌<◌, ◌&&◌, true, Some, IfSome};
 ghost use Rattle.std.specs.Option.{option_map};
 ghost use Rattle.s390x_base.specs.Regs.{number_of};
 ghost use Rattle.s390x_steps.specs.General.{is_general, is_access, reuses, four_bits, low_halfword};
 ghost use Rattle.s390x_steps.specs.MachineInstruction.{rr, rrf_cde, rie_g};
 ghost use Rattle.s390x_steps.specs.Opcodes.{of_two, of_four, load_part, load_half, insert_part, insert_half, extend_to_word, extend_to_doubleword, extend_two};
 ghost use Rattle.s390x_steps.specs.Alone.{alone, alone_with, two_row};
-ghost use Rattle.s390x_emit_int.specs.Alone.{instruction_of, alone_of, opcode_of, group_of};
+ghost use Rattle.s390x_emit_int.specs.Alone.{instruction_of, alone_of, opcode_of, group_of, encodes, takes_general};
 ghost use Rattle.s390x_emit_int.specs.declared.alone.Group.TheVariants.{Moves};
 
 use crate::alone::{
@@ -48,7 +48,8 @@ pub fn of_four(zeroth: u16, first: u16, second: u16, third: u16, n: u8) -> Optio
 }
 
 fn to_word(signed: bool, from: u8) -> Option<u16>
-    ensures { result ≡ extend_to_word signed from }
+    ensures value { result ≡ extend_to_word signed from }
+    ensures general { takes_general result ≡ true }
 {
     match from {
         1 => Some(0xb926),
@@ -59,7 +60,8 @@ fn to_word(signed: bool, from: u8) -> Option<u16>
 }
 
 fn to_doubleword(signed: bool, from: u8) -> Option<u16>
-    ensures { result ≡ extend_to_doubleword signed from }
+    ensures value { result ≡ extend_to_doubleword signed from }
+    ensures general { takes_general result ≡ true }
 {
     match from {
         1 => Some(0xb906),
@@ -71,7 +73,8 @@ fn to_doubleword(signed: bool, from: u8) -> Option<u16>
 }
 
 fn extend_opcode(signed: bool, from: u8, to: u8) -> Option<u16>
-    ensures { result ≡ extend_two signed from to }
+    ensures value { result ≡ extend_two signed from to }
+    ensures general { takes_general result ≡ true }
 {
     match to {
         32 => to_word(signed, from),
@@ -87,14 +90,22 @@ fn access(ar: u8) -> bool
 }
 
 // EXTRACT ACCESS; its second field is the access register's number.
+#[tactic(auto, using(crate::proofs::Encoding::access_encodes))]
 fn access_row(rd: Reg, ar: u8) -> Option<RegisterRow>
-    ensures { option_map instruction_of result ≡ two_row (Some 0xb24f) (number_of rd) (four_bits ar) }
+    ensures row { option_map instruction_of result ≡ two_row (Some 0xb24f) (number_of rd) (four_bits ar) }
+    ensures encodes { encodes (is_general rd) result ≡ true }
 {
-    two_row(Some(0xb24f), rd, gpr(ar % 16))
+    Some(RegisterRow::Rre {
+        opcode: 0xb24f,
+        r1: rd,
+        r2: gpr(ar % 16),
+    })
 }
 
+#[tactic(auto, using(crate::proofs::Encoding::two_encode))]
 fn conditional(opcode: u16, rd: Reg, rm: Reg, cond: Cond) -> Option<RegisterRow>
-    ensures { option_map instruction_of result ≡ Some (rrf_cde opcode (number_of rd) (number_of rm) (four_bits cond) 0) }
+    ensures row { option_map instruction_of result ≡ Some (rrf_cde opcode (number_of rd) (number_of rm) (four_bits cond) 0) }
+    ensures encodes { encodes (is_general rd && is_general rm) result ≡ true }
 {
     Some(RegisterRow::RrfCde {
         opcode,
@@ -104,8 +115,10 @@ fn conditional(opcode: u16, rd: Reg, rm: Reg, cond: Cond) -> Option<RegisterRow>
     })
 }
 
+#[tactic(auto, using(crate::proofs::Encoding::one_encodes))]
 fn conditional_immediate(opcode: u16, rd: Reg, imm: i16, cond: Cond) -> Option<RegisterRow>
-    ensures { option_map instruction_of result ≡ Some (rie_g opcode (number_of rd) (low_halfword imm) (four_bits cond)) }
+    ensures row { option_map instruction_of result ≡ Some (rie_g opcode (number_of rd) (low_halfword imm) (four_bits cond)) }
+    ensures encodes { encodes (is_general rd) result ≡ true }
 {
     Some(RegisterRow::RieG {
         opcode,
@@ -119,7 +132,8 @@ fn conditional_immediate(opcode: u16, rd: Reg, imm: i16, cond: Cond) -> Option<R
 fn branch_nowhere(mask: u8, target: u8) -> Option<RegisterRow>
     requires mask { mask < 16 }
     requires target { target < 16 }
-    ensures { option_map instruction_of result ≡ Some (rr 0x07 mask target) }
+    ensures row { option_map instruction_of result ≡ Some (rr 0x07 mask target) }
+    ensures encodes { encodes true result ≡ true }
 {
     Some(RegisterRow::Rr {
         opcode: 0x07,
@@ -128,9 +142,11 @@ fn branch_nowhere(mask: u8, target: u8) -> Option<RegisterRow>
     })
 }
 
+#[tactic(auto, using(crate::proofs::Encoding::reused_encodes, crate::proofs::Encoding::reused_pair_encodes, crate::proofs::Encoding::first_encodes, crate::proofs::Encoding::reused_tested_encodes))]
 /// The machine instruction of a move, or of one that does nothing.
 pub fn find_move(inst: &Inst) -> Option<Alone>
-    ensures { group_of inst.now ≡ Moves → option_map alone_of result ≡ alone inst.now }
+    ensures row { group_of inst.now ≡ Moves → option_map alone_of result ≡ alone inst.now }
+    ensures encodes { IfSome result (λ x. encodes x.fine (Some x.row) ≡ true) }
 {
     match inst {
         Inst::Mov64 { rd, rm } => alone_with(

@@ -5,7 +5,12 @@ use Rattle.s390x_steps.specs.Ranges.{BlocksInRange}
 use Rattle.s390x_emit_int.specs.Emission.{function_pieces}
 use Rattle.s390x_emit_int.specs.Function.{tree_of, trees_of, constants_of}
 use Rattle.s390x_emit_int.specs.Pieces.{run}
-use Rattle.s390x_emit_int.proofs.Answering.{if_ok}
+use Rattle.s390x_buffer.specs.State.{put_cause, new_cause}
+use Rattle.s390x_steps.specs.Sizes.{blocks_size}
+use Rattle.s390x_steps.specs.Causes.{blocks_cause}
+use Rattle.s390x_steps.proofs.Causes.{first_left, first_right}
+use Rattle.s390x_emit_int.proofs.Finishing.{can_finish, finished_or_lacks, fresh_takes}
+use Rattle.s390x_emit_int.proofs.Lacking.{blames_none, lacks_at_last}
 use Rattle.s390x_emit_int.proofs.Imaging.{image_of, Emitted}
 use Rattle.s390x_emit_int.proofs.function.emit_checked.Goals as goal
 
@@ -24,5 +29,30 @@ returns c =
     ∙ ap (λ m. run s0 (function_pieces m 0 ts)) labels
     ∙ ap (λ s. run s (function_pieces (length ts + length cs) 0 ts)) start in
     let ranges : BlocksInRange ts = subst (λ l. BlocksInRange (map tree_of l)) c.deref-2.ensures.value c.in_ok-emit_blocks.ensures.ranges in
-    let emitted : Emitted ts cs c.emit_blocks.new.sink = record { is = e; fine = c.requires.fine } in
-    if_ok _ _ _ c.finish.result c.finish.ensures.answer (λ code p. (image_of ts cs c.emit_blocks.new.sink code emitted p.1, ranges))
+    let emitted : Emitted ts cs c.emit_blocks.new.sink = record { is = e; fine = first_left _ _ (first_right (new_cause (length ts) cs) _ c.requires.fine) } in
+    let can = can_finish ts cs c.emit_blocks.new.sink e c.requires.fine in
+    finished_or_lacks _ _ _ _ c.finish.result c.finish.ensures.answer can.short can.patched (λ code p. (image_of ts cs c.emit_blocks.new.sink code emitted p.1, ranges))
+
+pub returns-in_err-sink : goal.returns-in_err-sink
+returns-in_err-sink c =
+    let f = c.args.function.now in
+    let ts = trees_of f in
+    let cs = constants_of f in
+    let count : c.args.count ≡ length ts = c.requires.count ∙ sym (length-map f.blocks.items tree_of) in
+    let cause : new_cause c.args.count (map constant_of c.deref.result.now) ≡ None = ap₂ (λ n l. new_cause n (map constant_of l)) count c.deref.ensures.value ∙ first_left _ _ c.requires.fine in
+    lacks_at_last _ c.from_residual.result _ c.from_residual.ensures.1 (blames_none _ _ cause c.in_err-sink.ensures)
+
+pub returns-in_err-emit_blocks : goal.returns-in_err-emit_blocks
+returns-in_err-emit_blocks c =
+    let f = c.args.function.now in
+    let ts = trees_of f in
+    let cs = constants_of f in
+    let n = length ts + length cs in
+    let s0 = c.in_ok-sink.sink in
+    let count : c.args.count ≡ length ts = c.requires.count ∙ sym (length-map f.blocks.items tree_of) in
+    let start : s0 ≡ fresh (length ts) cs = c.in_ok-sink.ensures.1 ∙ ap₂ (λ n l. fresh n (map constant_of l)) count c.deref.ensures.value in
+    let labels : length s0.labels ≡ n = ap (λ s. length s.labels) start ∙ length-replicate n None in
+    let put : put_cause s0 (blocks_size (map tree_of c.deref-2.result.now)) ≡ None = ap₂ (λ s l. put_cause s (blocks_size (map tree_of l))) start c.deref-2.ensures.value ∙ fresh_takes ts cs c.requires.fine in
+    let cause : blocks_cause (length c.deref-2.result.now) (length s0.labels) (map tree_of c.deref-2.result.now) ≡ None =
+    ap₂ (λ m l. blocks_cause (length l) m (map tree_of l)) labels c.deref-2.ensures.value ∙ ap (λ m. blocks_cause m n ts) (sym (length-map f.blocks.items tree_of)) ∙ first_left _ _ (first_right (new_cause (length ts) cs) _ c.requires.fine) in
+    lacks_at_last _ c.from_residual-in_err-emit_blocks.result _ c.from_residual-in_err-emit_blocks.ensures.1 (c.in_err-emit_blocks.ensures.lacks put cause)

@@ -1,0 +1,161 @@
+-- After a check that found no cause, a buffer can be finished.
+use Rattle.std.proofs.Common.{◌≡◌, ℕ, ◌+◌, ◌%◌, ◌<◌, ◌≤◌, ◌⊎◌, inl, inr, List, [], ◌∷◌, length, get_or, Bool, true, cond, nat_lt, nat_le, nat_eq, Option, Result, Ok, Err, MatchResult, refl, sym, ap, ◌∙◌, subst, arith, length-append, None, Some}
+use Rattle.std.specs.Prelude.{is_some}
+use Rattle.std.specs.List.{All}
+use Rattle.std.proofs.lemmas.Bool.{and_from, ltb-true, lt-ltb, le-leb, eq-eqb}
+use Rattle.std.proofs.lemmas.List.{length-replicate}
+use Rattle.std.proofs.lemmas.List.Elements.{All-nil, All-head, All-tail, All-replicate, All-get_or}
+use Rattle.s390x_base.specs.declared.error.EmitError.{EmitError}
+use Rattle.s390x_base.specs.declared.error.EmitError.TheVariants.{LabelOutOfRange, UnboundLabel, Failed, NoMemory}
+use Rattle.s390x_buffer.specs.State.{State, Constant, fresh, limit, new_cause, put_cause}
+use Rattle.s390x_buffer.specs.Patch.{first as first_use, place_of, place_in, is_bound, is_in_reach, can_patch, use_cause, uses_cause, patch_use}
+use Rattle.s390x_buffer.specs.Constants.{constant_bytes, constants_end}
+use Rattle.s390x_buffer.specs.Finish.{final_labels, finished_length, starts_of_constants, unpatched, length_cause as long_cause, patch_cause, BlamesEither, finish_cause}
+use Rattle.s390x_buffer.specs.declared.entries.LabelFixup.{LabelFixup}
+use Rattle.s390x_buffer.specs.declared.label_use.LabelUse.{LabelUse}
+use Rattle.s390x_buffer.specs.declared.label_use.LabelUse.TheVariants.{BranchRIL}
+use Rattle.s390x_buffer.proofs.Placing.{length-constant_bytes, end-ge}
+use Rattle.s390x_steps.specs.Tree.{Tree}
+use Rattle.s390x_steps.specs.Causes.{draws, blocks_cause}
+use Rattle.s390x_steps.specs.Sizes.{blocks_size}
+use Rattle.s390x_steps.proofs.Causes.{first_left, first_right, unless_true}
+use Rattle.s390x_emit_int.specs.Function.{checked_cause, length_cause}
+use Rattle.s390x_emit_int.specs.Pieces.{Piece, apply, run, Put, Link, Step, Draw, Bind}
+use Rattle.s390x_emit_int.specs.Emission.{pieces, function_pieces}
+use Rattle.s390x_emit_int.specs.Resolve.{put_length}
+use Rattle.s390x_emit_int.proofs.Closing.{blocks_closed, drawn_closed}
+use Rattle.s390x_emit_int.proofs.Functions.{block_state, bound_state, block_labels, function_put}
+use Rattle.s390x_emit_int.proofs.Imaging.{low_label, high_label, length-starts}
+use Rattle.s390x_emit_int.proofs.Lacking.{put_none}
+use Rattle.s390x_emit_int.proofs.Names.{all_names}
+use Rattle.s390x_emit_int.proofs.Orderly.{AllSound, all_draws, function_sound, Stands, IsUse, Orderly, orderly_run}
+use Rattle.s390x_emit_int.proofs.Patching.{length-patch}
+use Rattle.s390x_emit_int.proofs.Runs.{run-append}
+use Rattle.s390x_emit_int.proofs.Starts.{Same, same_run}
+
+-- how long the bytes become
+bytes_run : (ps : List Piece) (s : State) → length (run s ps).bytes ≡ length s.bytes + put_length ps
+bytes_run [] s = omega arith
+bytes_run (Put bs ∷ ps) s = omega (arith, bytes_run ps (apply s (Put bs)), length-append s.bytes bs)
+bytes_run (Link k l bs ∷ ps) s = omega (arith, bytes_run ps (apply s (Link k l bs)), length-append s.bytes bs)
+bytes_run (Step ∷ ps) s = bytes_run ps (apply s Step)
+bytes_run (Draw ∷ ps) s = bytes_run ps (apply s Draw)
+bytes_run (Bind l ∷ ps) s = bytes_run ps (apply s (Bind l))
+
+-- how many labels there are in the end
+labels_run : (ts : List Tree) (s : State) (n b : ℕ) → n ≡ length s.labels → length (run s (function_pieces n b ts)).labels ≡ n + all_draws ts
+labels_run [] s n b e = omega arith
+labels_run (t ∷ ts) s n b e =
+    let n2 = block_labels t s n b e in
+    ap (λ x. length x.labels) (run-append (bound_state s b) (pieces n 0 t) (function_pieces (n + draws t) (b + 1) ts))
+    ∙ labels_run ts (block_state s n b t) (n + draws t) (b + 1) n2
+    ∙ (omega arith)
+
+-- a branch between even places in code below the limit
+branch_reaches : (kind : LabelUse) (place target : ℕ) (bs : List ℕ) → kind ≡ BranchRIL → place % 2 ≡ 0 → target % 2 ≡ 0 → target < limit → place + 6 ≤ length bs → length bs < limit → can_patch kind place target bs ≡ true
+branch_reaches kind place target bs e even_place even_target near within short =
+    let even : nat_eq ((place + target) % 2) 0 ≡ true = eq-eqb ((place + target) % 2) 0 (omega arith) in
+    let up : nat_le target (place + 4294967294) ≡ true = le-leb target (place + 4294967294) (omega arith) in
+    let down : nat_le place (target + 4294967295) ≡ true = le-leb place (target + 4294967295) (omega arith) in
+    let inside : nat_le (place + 6) (length bs) ≡ true = le-leb (place + 6) (length bs) within in
+    let reach : is_in_reach BranchRIL place target ≡ true = and_from _ _ even (and_from _ _ up down) in
+    ap (λ k. can_patch k place target bs) e ∙ and_from (is_in_reach BranchRIL place target) _ reach (and_from true _ refl inside)
+
+-- a label that a use may name stands at an even place below the limit
+pub record CanBeUsed (labels : List (Option ℕ)) (l : ℕ) : Type 0 where
+  pub bound : is_bound labels l ≡ true
+  pub even : place_in labels l % 2 ≡ 0
+  pub near : place_in labels l < limit
+
+none_of : (a b : Bool) → a ≡ true → b ≡ true → cond a (cond b None (Some LabelOutOfRange)) (Some UnboundLabel) ≡ None
+none_of a b ha hb = ap (λ x. cond x (cond b None (Some LabelOutOfRange)) (Some UnboundLabel)) ha ∙ ap (λ x. cond x None (Some LabelOutOfRange)) hb
+
+both_none : (a b : Option EmitError) → a ≡ None → b ≡ None → first_use a b ≡ None
+both_none a b ha hb = ap (λ x. first_use x b) ha ∙ hb
+
+uses_fine : (May : ℕ → Type 0) (labels : List (Option ℕ)) (us : List LabelFixup) (bs : List ℕ) (n : ℕ) → ((l : ℕ) → May l → CanBeUsed labels l) → All (IsUse May n) us → n ≤ length bs → length bs < limit → uses_cause labels us bs ≡ None
+uses_fine May labels [] bs n fine all le short = refl
+uses_fine May labels (u ∷ us) bs n fine all le short =
+    let h = All-head (IsUse May n) u us all in
+    let l = fine u.label.0 h.label in
+    let long = length-patch u.kind u.offset u.offset (place_in labels u.label.0) bs in
+    let here : use_cause labels bs u ≡ None = none_of (is_bound labels u.label.0) _ l.bound (branch_reaches u.kind u.offset (place_in labels u.label.0) bs h.kind h.even l.even l.near (omega (arith, h.within)) short) in
+    both_none _ _ here (uses_fine May labels us (patch_use (place_in labels) u bs) n fine (All-tail (IsUse May n) u us all) (omega (arith, long)) (omega (arith, long)))
+
+stands_place : (n : ℕ) (o : Option ℕ) → Stands n o → (place_of o % 2 ≡ 0) × (place_of o ≤ n)
+stands_place n None h = (refl, omega arith)
+stands_place n (Some p) h = h
+
+-- a label that stands before the constants are bound, and isn't one of theirs
+used_of : (labels all : List (Option ℕ)) (l n : ℕ) → get_or all l None ≡ get_or labels l None → is_bound labels l ≡ true → Stands n (get_or labels l None) → n < limit → CanBeUsed all l
+used_of labels all l n e bound stands lt =
+    let p = stands_place n (get_or labels l None) stands in
+    let same : place_in all l ≡ place_in labels l = ap place_of e in
+    record {
+      bound = ap is_some e ∙ bound;
+      even = ap (λ x. x % 2) same ∙ p.0;
+      near = omega (arith, same, p.1);
+    }
+
+-- the labels that instructions name: those of blocks, and those that were drawn
+abbrev pub IsNamed : (blocks base count : ℕ) → ℕ → Type 0
+IsNamed blocks base count l = (l < blocks) ⊎ ((base ≤ l) × (l < count))
+
+pub record CanFinish (u : State) : Type 0 where
+  pub short : long_cause u ≡ None
+  pub patched : patch_cause u ≡ None
+
+pub can_finish : (ts : List Tree) (cs : List Constant) (u : State) → u ≡ run (fresh (length ts) cs) (function_pieces (length ts + length cs) 0 ts) → checked_cause ts cs ≡ None → CanFinish u
+can_finish ts cs u0 is fine =
+    let b = length ts in
+    let n = b + length cs in
+    let s0 = fresh b cs in
+    let ps = function_pieces n 0 ts in
+    let u = run s0 ps in
+    let rest = first_right (new_cause b cs) _ fine in
+    let blocks : blocks_cause b n ts ≡ None = first_left _ _ rest in
+    let long : length_cause ts cs ≡ None = first_right (blocks_cause b n ts) _ rest in
+    let same : Same s0 u = same_run ps s0 in
+    let drawn : length s0.labels ≡ n = length-replicate n None in
+    let count : length u.labels ≡ n + all_draws ts = labels_run ts s0 n 0 (sym drawn) in
+    let size : length u.bytes ≡ blocks_size ts = bytes_run ps s0 ∙ (omega (arith, function_put ts n 0)) in
+    let ends : finished_length u ≡ constants_end (blocks_size ts) cs = ap (λ x. constants_end (length u.bytes) x) same.constants ∙ ap (λ m. constants_end m cs) size in
+    let below : constants_end (blocks_size ts) cs < limit = ltb-true (constants_end (blocks_size ts) cs) limit (unless_true (nat_lt (constants_end (blocks_size ts) cs) limit) LabelOutOfRange long) in
+    let May = IsNamed b n (n + all_draws ts) in
+    let sound : AllSound May ps = function_sound May ts n 0 b (all_names b n ts blocks) (λ l lt. inl lt) (λ l lo hi. inr (lo, hi)) (omega arith) in
+    let begins : Orderly May s0 = record { even = refl; labels = All-replicate (Stands 0) n None tt; uses = All-nil (IsUse May 0) } in
+    let orderly : Orderly May u = orderly_run May ps s0 sound begins in
+    let full : length (unpatched u) ≡ finished_length u = length-append u.bytes (constant_bytes (length u.bytes) u.constants) ∙ length-constant_bytes (length u.bytes) u.constants in
+    let far : length u.bytes ≤ length (unpatched u) = omega (arith, length-append u.bytes (constant_bytes (length u.bytes) u.constants)) in
+    let short : length (unpatched u) < limit = omega (arith, full, ends, below) in
+    let near : length u.bytes < limit = omega arith in
+    let starts : length (starts_of_constants u) ≡ length cs = length-starts (length u.bytes) u.constants ∙ ap length same.constants in
+    let held : u.block_count ≡ b = same.block_count in
+    let enough : u.block_count ≤ length u.labels = omega (arith, held, count) in
+    let stands : (l : ℕ) → l < length u.labels → Stands (length u.bytes) (get_or u.labels l None) = λ l lt. All-get_or (Stands (length u.bytes)) u.labels l None lt orderly.labels in
+    let named : (l : ℕ) → May l → CanBeUsed (final_labels u) l = λ l may. elim may [
+      | inl lt ↦ used_of u.labels (final_labels u) l (length u.bytes) (low_label u.block_count (starts_of_constants u) u.labels l (omega (arith, held)) enough) (blocks_closed ts s0 n 0 l (sym drawn) (omega arith) (omega arith) (omega arith)) (stands l (omega (arith, count))) near
+      | inr among ↦ used_of u.labels (final_labels u) l (length u.bytes) (high_label u.block_count (starts_of_constants u) u.labels l (omega (arith, held, starts, among.0)) enough) (drawn_closed ts s0 n 0 l (sym drawn) (omega arith) among.0 (omega (arith, count, among.1))) (stands l (omega (arith, count, among.1))) near
+    ] in
+    let done : CanFinish u = record {
+      short = ap (λ f. cond f (Some Failed) (cond (nat_lt (finished_length u) limit) None (Some LabelOutOfRange))) same.failed ∙ ap (λ t. cond t None (Some LabelOutOfRange)) (lt-ltb (finished_length u) limit (omega (arith, ends, below)));
+      patched = uses_fine May (final_labels u) u.uses (unpatched u) (length u.bytes) named orderly.uses far short;
+    } in
+    subst CanFinish (sym is) done
+
+pub always_finishes : (ts : List Tree) (cs : List Constant) → checked_cause ts cs ≡ None → finish_cause (run (fresh (length ts) cs) (function_pieces (length ts + length cs) 0 ts)) ≡ None
+always_finishes ts cs fine = let f = can_finish ts cs _ refl fine in both_none _ _ f.short f.patched
+
+-- finishing answers the code, or want of memory
+pub finished_or_lacks : {T : Type 0} (P R : T → Type 0) (a b : Option EmitError) (r : Result T EmitError) → MatchResult r P (λ e. BlamesEither a b e) → a ≡ None → b ≡ None → ((x : T) → P x → R x) → MatchResult r R (λ e. e ≡ NoMemory)
+finished_or_lacks P R a b (Ok x) m ha hb f = f x m
+finished_or_lacks P R None b (Err e) m ha hb f = elim m [ inl h ↦ h | inr h ↦ absurd (let g : None ≡ Some e = sym hb ∙ h in cc) ]
+finished_or_lacks P R (Some c) b (Err e) m ha hb f = absurd (cc)
+
+-- at the beginning there is room for all
+pub fresh_takes : (ts : List Tree) (cs : List Constant) → checked_cause ts cs ≡ None → put_cause (fresh (length ts) cs) (blocks_size ts) ≡ None
+fresh_takes ts cs fine =
+    let rest = first_right (new_cause (length ts) cs) _ fine in
+    let long : length_cause ts cs ≡ None = first_right (blocks_cause (length ts) (length ts + length cs) ts) _ rest in
+    let below : constants_end (blocks_size ts) cs < limit = ltb-true (constants_end (blocks_size ts) cs) limit (unless_true (nat_lt (constants_end (blocks_size ts) cs) limit) LabelOutOfRange long) in
+    put_none (fresh (length ts) cs) (blocks_size ts) refl (omega (arith, below, end-ge (blocks_size ts) cs))

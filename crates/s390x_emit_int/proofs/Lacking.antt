@@ -1,0 +1,52 @@
+-- Where no cause stands, a call of the buffer is refused for want of memory alone.
+use Rattle.std.proofs.Common.{◌≡◌, ℕ, ◌+◌, ◌<◌, Bool, true, false, cond, nat_lt, Option, None, Some, length, Result, Ok, Err, MatchResult, IsErrAnd, refl, ap, ◌∙◌}
+use Rattle.std.proofs.lemmas.Bool.{ltb-true, lt-ltb}
+use Rattle.s390x_base.specs.declared.error.EmitError.{EmitError}
+use Rattle.s390x_base.specs.declared.error.EmitError.TheVariants.{NoMemory, LabelOutOfRange, UnboundLabel, Failed}
+use Rattle.s390x_buffer.specs.State.{State, Blames, mark_cause, put_cause, draw_cause, label_cause, limit, label_limit}
+use Rattle.s390x_emit_int.specs.Room.{LacksMemory}
+
+pub blames_none : (c : Option EmitError) (e : EmitError) → c ≡ None → Blames c e → e ≡ NoMemory
+blames_none None e h b = b
+blames_none (Some x) e h b = absurd (cc)
+
+-- a call's answer, where its cause doesn't stand
+pub lacks_call : {T : Type 0} (P : T → Type 0) (Q : EmitError → Type 0) (c : Option EmitError) (r : Result T EmitError) → MatchResult r P (λ e. Blames c e × Q e) → c ≡ None → LacksMemory r
+lacks_call P Q c (Ok x) m h = tt
+lacks_call P Q c (Err e) m h = blames_none c e h m.0
+
+-- an error that is handed on
+pub lacks_again : {T : Type 0} (r : Result T EmitError) (e : EmitError) → IsErrAnd r (λ y. y ≡ e) → e ≡ NoMemory → LacksMemory r
+lacks_again (Ok x) e a h = tt
+lacks_again (Err y) e a h = a ∙ h
+
+pub lacks_at_last : {T : Type 0} (P : T → Type 0) (r : Result T EmitError) (e : EmitError) → IsErrAnd r (λ y. y ≡ e) → e ≡ NoMemory → MatchResult r P (λ y. y ≡ NoMemory)
+lacks_at_last P (Ok x) e a h = absurd a
+lacks_at_last P (Err y) e a h = a ∙ h
+
+mark_of : (f : Bool) (o : Option EmitError) → f ≡ false → cond f (Some Failed) o ≡ o
+mark_of f o h = ap (λ b. cond b (Some Failed) o) h
+
+test_of : (t : Bool) (e : EmitError) → t ≡ true → cond t None (Some e) ≡ None
+test_of t e h = ap (λ b. cond b None (Some e)) h
+
+pub mark_none : (s : State) → s.failed ≡ false → mark_cause s ≡ None
+mark_none s h = mark_of s.failed None h
+
+pub put_none : (s : State) (n : ℕ) → s.failed ≡ false → length s.bytes + n < limit → put_cause s n ≡ None
+put_none s n h lt = mark_of s.failed _ h ∙ test_of (nat_lt (length s.bytes + n) limit) LabelOutOfRange (lt-ltb (length s.bytes + n) limit lt)
+
+pub draw_none : (s : State) → s.failed ≡ false → length s.labels < label_limit → draw_cause s ≡ None
+draw_none s h lt = mark_of s.failed _ h ∙ test_of (nat_lt (length s.labels) label_limit) LabelOutOfRange (lt-ltb (length s.labels) label_limit lt)
+
+pub label_none : (s : State) (l : ℕ) → s.failed ≡ false → l < length s.labels → label_cause s l ≡ None
+label_none s l h lt = mark_of s.failed _ h ∙ test_of (nat_lt l (length s.labels)) UnboundLabel (lt-ltb l (length s.labels) lt)
+
+two_tests : (f t : Bool) (d e : EmitError) → cond f (Some d) (cond t None (Some e)) ≡ None → (f ≡ false) × (t ≡ true)
+two_tests true t d e h = absurd (cc)
+two_tests false true d e h = (refl, refl)
+two_tests false false d e h = absurd (cc)
+
+-- what a buffer is in which so many bytes can be put
+pub put_parts : (s : State) (n : ℕ) → put_cause s n ≡ None → (s.failed ≡ false) × (length s.bytes + n < limit)
+put_parts s n h = let t = two_tests s.failed (nat_lt (length s.bytes + n) limit) Failed LabelOutOfRange h in (t.0, ltb-true (length s.bytes + n) limit t.1)

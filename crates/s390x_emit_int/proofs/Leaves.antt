@@ -1,0 +1,66 @@
+-- What the check let pass of one instruction that is no loop.
+use Rattle.std.proofs.Common.{◌≡◌, ℕ, ◌+◌, ◌<◌, ◌&&◌, List, length, None, Some, true, refl, sym, ap, ◌∙◌, arith, length-append, Vec, Global}
+use Rattle.s390x_base.specs.declared.error.EmitError.TheVariants.{BadRegister}
+use Rattle.s390x_base.specs.declared.ir.MachLabel.{MachLabel}
+use Rattle.s390x_base.specs.declared.regs.Reg.{Reg}
+use Rattle.s390x_buffer.specs.State.{State, put_cause}
+use Rattle.s390x_format.specs.declared.kind.FormatKind.TheVariants.{Rr}
+use Rattle.s390x_format.specs.Formats.{length_of}
+use Rattle.s390x_format.specs.Reading.{encode}
+use Rattle.s390x_format.proofs.Encoding.{encode-length}
+use Rattle.s390x_inst.specs.declared.inst.Inst.{Inst}
+use Rattle.s390x_inst.specs.declared.inst.Inst.TheVariants.{IndirectBr, Ret}
+use Rattle.s390x_steps.specs.Alone.{Alone, alone}
+use Rattle.s390x_steps.specs.General.{is_general, is_nonzero}
+use Rattle.s390x_steps.specs.MachineInstruction.{rr, size_of}
+use Rattle.s390x_steps.specs.Sizes.{instruction_size}
+use Rattle.s390x_steps.specs.Causes.{branch_cause, instruction_cause}
+use Rattle.s390x_steps.proofs.Causes.{first_left, unless_true}
+use Rattle.s390x_emit_int.specs.Pieces.{apply}
+use Rattle.s390x_emit_int.specs.Emission.{branch, branch_size}
+use Rattle.s390x_emit_int.specs.Room.{Passed}
+use Rattle.s390x_emit_int.proofs.Lacking.{put_none}
+use Rattle.s390x_emit_int.proofs.Runs.{length-branch}
+use Rattle.s390x_emit_int.proofs.Single.{some_cause, some_size}
+
+-- behind a branch
+pub branch_passed : (s s1 : State) (mask first second : ℕ) → s1 ≡ apply s (branch mask first) → Passed s first 12 None → second < length s.labels → Passed s1 second 6 None
+branch_passed s s1 mask first second e p lt =
+    let labels : length s1.labels ≡ length s.labels = ap (λ x. length x.labels) e in
+    let blocks : s1.block_count ≡ s.block_count = ap (λ x. x.block_count) e in
+    let bytes : length s1.bytes ≡ length s.bytes + 6 = ap (λ x. length x.bytes) e ∙ length-append s.bytes _ ∙ ap (λ m. length s.bytes + m) (length-branch mask) in
+    record {
+      unmarked = ap (λ x. x.failed) e ∙ p.unmarked;
+      blocks = omega (arith, p.blocks);
+      label = omega arith;
+      short = omega (arith, p.short);
+      passed = refl;
+    }
+
+pub length-rr : (bs slots : List ℕ) → bs ≡ encode Rr slots → length bs ≡ 2
+unfolding length_of
+length-rr bs slots e = ap length e ∙ encode-length Rr slots
+
+size-rr : (opcode a b : ℕ) → size_of (rr opcode a b) ≡ 2
+unfolding length_of
+size-rr opcode a b = refl
+
+-- a branch to the address in a register
+pub indirect_passed : (s : State) (after depth : ℕ) (i : Inst) (r : Reg) (ts : Vec MachLabel Global) → i ≡ IndirectBr r ts → Passed s after (branch_size i) (branch_cause s.block_count depth i) → (put_cause s 2 ≡ None) × ((is_general r && is_nonzero r) ≡ true)
+unfolding length_of
+indirect_passed s after depth i r ts e p =
+    let size : branch_size i ≡ 2 = ap branch_size e in
+    let cause = sym (ap (branch_cause s.block_count depth) e) ∙ p.passed in
+    (put_none s 2 p.unmarked (omega (arith, p.short)), unless_true (is_general r && is_nonzero r) BadRegister (first_left _ _ cause))
+
+pub return_passed : (s : State) (after depth : ℕ) (i : Inst) (r : Reg) → i ≡ Ret r → Passed s after (branch_size i) (branch_cause s.block_count depth i) → (put_cause s 2 ≡ None) × ((is_general r && is_nonzero r) ≡ true)
+unfolding length_of
+return_passed s after depth i r e p =
+    let size : branch_size i ≡ 2 = ap branch_size e in
+    let cause = sym (ap (branch_cause s.block_count depth) e) ∙ p.passed in
+    (put_none s 2 p.unmarked (omega (arith, p.short)), unless_true (is_general r && is_nonzero r) BadRegister cause)
+
+-- an instruction that is one machine instruction
+pub alone_passed : (s : State) (after depth : ℕ) (i : Inst) (x : Alone) → Some x ≡ alone i → Passed s after (instruction_size i) (instruction_cause s.block_count depth i) → (put_cause s (size_of x.row) ≡ None) × (x.fine ≡ true)
+alone_passed s after depth i x e p =
+    (put_none s (size_of x.row) p.unmarked (omega (arith, p.short, some_size i x e)), unless_true x.fine BadRegister (sym (some_cause s.block_count depth i x e) ∙ p.passed))

@@ -1,0 +1,155 @@
+-- What the check let pass stays passed, from member to member, through a loop and from block to block.
+use Rattle.std.proofs.Common.{◌≡◌, ℕ, ◌+◌, ◌<◌, ◌≤◌, ◌∙◌, List, [], ◌∷◌, length, get_or, drop, None, false, refl, sym, ap, subst, arith, length-append, length-set, nat_lt}
+use Rattle.std.proofs.lemmas.Bool.{ltb-true}
+use Rattle.s390x_base.specs.declared.error.EmitError.TheVariants.{LabelOutOfRange}
+use Rattle.s390x_buffer.specs.State.{State, label_limit}
+use Rattle.s390x_inst.specs.declared.inst.Inst.{Inst}
+use Rattle.s390x_steps.specs.Tree.{Tree, empty, leaf, looped, graft, tree}
+use Rattle.s390x_steps.specs.Sizes.{instruction_size, tree_size}
+use Rattle.s390x_steps.specs.Causes.{first, draws, nesting_cause, numbers_cause, instruction_cause, tree_cause}
+use Rattle.s390x_steps.proofs.Trees.{behind, graft_size}
+use Rattle.s390x_steps.proofs.Causes.{first_left, first_right, unless_true, graft_cause}
+use Rattle.s390x_emit_int.specs.Pieces.{Step, Draw, Bind, apply, run}
+use Rattle.s390x_emit_int.specs.Emission.{branch, pieces, own_pieces}
+use Rattle.s390x_emit_int.specs.Room.{Passed, TreePassed}
+use Rattle.s390x_emit_int.proofs.Runs.{tree_grows, length-branch}
+use Rattle.s390x_emit_int.proofs.Starts.{same_run}
+use Rattle.s390x_emit_int.proofs.Trees.{graft_run}
+
+-- from s to t so many labels were drawn and so many bytes put, and no mark was set
+pub record Turns (s t : State) (k m : ℕ) : Type 0 where
+  pub unmarked : t.failed ≡ s.failed
+  pub blocks : t.block_count ≡ s.block_count
+  pub labels : length t.labels ≡ length s.labels + k
+  pub bytes : length t.bytes ≡ length s.bytes + m
+
+pub step_turns : (s t : State) → t ≡ apply s Step → Turns s t 0 0
+step_turns s t e = record { unmarked = ap (λ x. x.failed) e; blocks = ap (λ x. x.block_count) e; labels = omega (arith, ap (λ x. length x.labels) e); bytes = omega (arith, ap (λ x. length x.bytes) e) }
+
+pub draw_turns : (s t : State) → t ≡ apply s Draw → Turns s t 1 0
+draw_turns s t e = record { unmarked = ap (λ x. x.failed) e; blocks = ap (λ x. x.block_count) e; labels = ap (λ x. length x.labels) e ∙ length-append s.labels (None ∷ []); bytes = omega (arith, ap (λ x. length x.bytes) e) }
+
+pub bind_turns : (s t : State) (l : ℕ) → t ≡ apply s (Bind l) → Turns s t 0 0
+bind_turns s t l e = record { unmarked = ap (λ x. x.failed) e; blocks = ap (λ x. x.block_count) e; labels = ap (λ x. length x.labels) e ∙ length-set s.labels l _ ∙ (omega arith); bytes = omega (arith, ap (λ x. length x.bytes) e) }
+
+pub branch_turns : (s t : State) (mask l : ℕ) → t ≡ apply s (branch mask l) → Turns s t 0 6
+branch_turns s t mask l e = record { unmarked = ap (λ x. x.failed) e; blocks = ap (λ x. x.block_count) e; labels = omega (arith, ap (λ x. length x.labels) e); bytes = ap (λ x. length x.bytes) e ∙ length-append s.bytes _ ∙ ap (λ m. length s.bytes + m) (length-branch mask) }
+
+pub tree_turns : (s t : State) (n after : ℕ) (x : Tree) → n ≡ length s.labels → t ≡ run s (pieces n after x) → Turns s t (draws x) (tree_size x)
+tree_turns s t n after x en e =
+    let g = tree_grows x s n after en in
+    let same = same_run (pieces n after x) s in
+    record { unmarked = ap (λ x. x.failed) e ∙ same.failed; blocks = ap (λ x. x.block_count) e ∙ same.block_count; labels = ap (λ x. length x.labels) e ∙ g.labels; bytes = ap (λ x. length x.bytes) e ∙ g.bytes }
+
+-- an instruction that is no loop, alone
+pub leaf_passed : (s : State) (after depth : ℕ) (i : Inst) (x : Tree) → x ≡ leaf i empty → TreePassed s after depth x → Passed s after (instruction_size i) (instruction_cause s.block_count depth i)
+leaf_passed s after depth i x e p =
+    let q : TreePassed s after depth (leaf i empty) = subst (TreePassed s after depth) e p in
+    record { unmarked = q.unmarked; blocks = q.blocks; label = q.label; short = omega (arith, q.short); passed = first_left _ _ q.passed }
+
+-- the next member
+pub member_passed : (s s1 : State) (after depth : ℕ) (is : List Inst) (k : ℕ) (i : Inst) → k < length is → i ≡ get_or is k i → s1 ≡ apply s Step → TreePassed s after depth (tree (drop k is)) → TreePassed s1 after depth (graft i empty)
+member_passed s s1 after depth is k i lt at e p =
+    let rest = tree (drop (k + 1) is) in
+    let q : TreePassed s after depth (graft i rest) = subst (TreePassed s after depth) (behind is k i lt at) p in
+    let here : TreePassed (apply s Step) after depth (graft i empty) = record {
+      unmarked = q.unmarked;
+      blocks = q.blocks;
+      label = q.label;
+      short = omega (arith, q.short, graft_size i rest);
+      passed = first_left _ _ (sym (graft_cause s.block_count (length s.labels) depth i rest) ∙ q.passed);
+    } in
+    subst (λ x. TreePassed x after depth (graft i empty)) (sym e) here
+
+-- and those behind it
+pub others_passed : (s s1 s2 : State) (after depth : ℕ) (is : List Inst) (k : ℕ) (i : Inst) → k < length is → i ≡ get_or is k i → s1 ≡ apply s Step → s2 ≡ run s1 (own_pieces (length s1.labels) after (graft i empty)) → TreePassed s after depth (tree (drop k is)) → TreePassed s2 after depth (tree (drop (k + 1) is))
+others_passed s s1 s2 after depth is k i lt at e1 e2 p =
+    let n = length s.labels in
+    let rest = tree (drop (k + 1) is) in
+    let q : TreePassed s after depth (graft i rest) = subst (TreePassed s after depth) (behind is k i lt at) p in
+    let e2' : s2 ≡ run (apply s Step) (own_pieces n after (graft i empty)) = e2 ∙ ap (λ x. run x (own_pieces (length x.labels) after (graft i empty))) e1 in
+    let t = tree_turns s s2 n after (graft i empty) refl (e2' ∙ sym (graft_run i empty s n after)) in
+    let cause : tree_cause s.block_count (n + draws (graft i empty)) depth rest ≡ None = first_right (tree_cause s.block_count n depth (graft i empty)) _ (sym (graft_cause s.block_count n depth i rest) ∙ q.passed) in
+    record {
+      unmarked = t.unmarked ∙ q.unmarked;
+      blocks = omega (arith, t.blocks, t.labels, q.blocks);
+      label = omega (arith, t.labels, q.label);
+      short = omega (arith, t.bytes, q.short, graft_size i rest);
+      passed = ap (λ b. tree_cause b (length s2.labels) depth rest) t.blocks ∙ ap (λ m. tree_cause s.block_count m depth rest) t.labels ∙ cause;
+    }
+
+-- a loop has two labels left, and its members pass
+pub record LoopPassed (s : State) (depth : ℕ) (members : Tree) : Type 0 where
+  pub unmarked : s.failed ≡ false
+  pub blocks : s.block_count ≤ length s.labels
+  pub drawn : length s.labels + 2 ≤ label_limit
+  pub short : length s.bytes + (tree_size members + 6) < 2147483648
+  pub passed : tree_cause s.block_count (length s.labels + 2) (depth + 1) members ≡ None
+
+pub loop_passed : (s : State) (after depth mask : ℕ) (members : Tree) → TreePassed s after depth (looped mask members empty) → LoopPassed s depth members
+loop_passed s after depth mask members p =
+    let n = length s.labels in
+    let opens = first (nesting_cause depth) (numbers_cause n 2) in
+    let inner = tree_cause s.block_count (n + 2) (depth + 1) members in
+    let both : first opens inner ≡ None = first_left _ _ p.passed in
+    let numbers : numbers_cause n 2 ≡ None = first_right (nesting_cause depth) _ (first_left _ _ both) in
+    let lt : n + 2 < 4294967297 = ltb-true (n + 2) 4294967297 (unless_true (nat_lt (n + 2) 4294967297) LabelOutOfRange numbers) in
+    record {
+      unmarked = p.unmarked;
+      blocks = p.blocks;
+      drawn = omega arith;
+      short = omega (arith, p.short);
+      passed = first_right opens inner both;
+    }
+
+pub inner_passed : (s so : State) (depth end k : ℕ) (members : Tree) → LoopPassed s depth members → Turns s so 2 0 → end < length so.labels → TreePassed so end (depth + 1) members
+inner_passed s so depth end k members p t lt = record {
+  unmarked = t.unmarked ∙ p.unmarked;
+  blocks = omega (arith, t.blocks, t.labels, p.blocks);
+  label = lt;
+  short = omega (arith, t.bytes, p.short);
+  passed = ap (λ b. tree_cause b (length so.labels) (depth + 1) members) t.blocks ∙ ap (λ m. tree_cause s.block_count m (depth + 1) members) t.labels ∙ p.passed;
+}
+
+pub turns_on : (s t u : State) (k m k' m' : ℕ) → Turns s t k m → Turns t u k' m' → Turns s u (k + k') (m + m')
+turns_on s t u k m k' m' a b = record {
+  unmarked = b.unmarked ∙ a.unmarked;
+  blocks = b.blocks ∙ a.blocks;
+  labels = omega (arith, a.labels, b.labels);
+  bytes = omega (arith, a.bytes, b.bytes);
+}
+
+pub members_unmarked : (s sa sb so sc : State) (start end : ℕ) (members : Tree) → sa ≡ apply s Draw → sb ≡ apply sa Draw → so ≡ apply sb (Bind start) → sc ≡ run so (pieces (length so.labels) end members) → sc.failed ≡ s.failed
+members_unmarked s sa sb so sc start end members ea eb eo ec = (tree_turns so sc (length so.labels) end members refl ec).unmarked ∙ (bind_turns sb so start eo).unmarked ∙ (draw_turns sa sb eb).unmarked ∙ (draw_turns s sa ea).unmarked
+
+-- up to a loop's back branch
+pub body_turns : (s sa sb so sc sd : State) (start end : ℕ) (members : Tree) → sa ≡ apply s Draw → sb ≡ apply sa Draw → so ≡ apply sb (Bind start) → sc ≡ run so (pieces (length so.labels) end members) → sd ≡ apply sc Step → Turns s sd (2 + draws members) (tree_size members)
+body_turns s sa sb so sc sd start end members ea eb eo ec ed =
+    let a = draw_turns s sa ea in
+    let b = draw_turns sa sb eb in
+    let o = bind_turns sb so start eo in
+    let m = tree_turns so sc (length so.labels) end members refl ec in
+    let d = step_turns sc sd ed in
+    record {
+      unmarked = d.unmarked ∙ m.unmarked ∙ o.unmarked ∙ b.unmarked ∙ a.unmarked;
+      blocks = d.blocks ∙ m.blocks ∙ o.blocks ∙ b.blocks ∙ a.blocks;
+      labels = omega (arith, a.labels, b.labels, o.labels, m.labels, d.labels);
+      bytes = omega (arith, a.bytes, b.bytes, o.bytes, m.bytes, d.bytes);
+    }
+
+-- the back branch
+pub back_passed : (s sd : State) (start depth : ℕ) (members : Tree) → LoopPassed s depth members → Turns s sd (2 + draws members) (tree_size members) → start ≡ length s.labels → Passed sd start 6 None
+back_passed s sd start depth members l t e = record {
+  unmarked = t.unmarked ∙ l.unmarked;
+  blocks = omega (arith, t.blocks, t.labels, l.blocks);
+  label = omega (arith, t.labels, e);
+  short = omega (arith, t.bytes, l.short);
+  passed = refl;
+}
+
+-- the label behind the loop
+pub end_below : (s sa sd se : State) (mask start end depth : ℕ) (members : Tree) → sa ≡ apply s Draw → end ≡ length sa.labels → Turns s sd (2 + draws members) (tree_size members) → se ≡ apply sd (branch mask start) → end < length se.labels
+end_below s sa sd se mask start end depth members ea een t ee =
+    let a = draw_turns s sa ea in
+    let g = branch_turns sd se mask start ee in
+    omega (arith, a.labels, een, t.labels, g.labels)
