@@ -1,7 +1,7 @@
 -- What one more line adds.
 use Rattle.std.proofs.Common.{◌≡◌, ℕ, List, [], ◌∷◌, ◌++◌, map, refl, sym, ap, ◌∙◌, append_assoc, append-nil, Vec, Global}
-use Rattle.s390x_job.specs.Line.{Line}
-use Rattle.s390x_job.specs.Instructions.{inst_line}
+use Rattle.s390x_lines.specs.Line.{Line}
+use Rattle.s390x_lines.specs.Instructions.{inst_line}
 use Rattle.s390x_job.specs.Grammar.{class, Instruction}
 use Rattle.s390x_job.specs.Items.{block_line, loop_line, close_line}
 use Rattle.s390x_job.specs.Jobs.{inst_lines, insts_lines, blocks_lines}

@@ -1,17 +1,3 @@
-pub mod Members
-pub mod Avoids
-pub mod Digits
-pub mod AtomsBack
-pub mod Lists
-pub mod MemoryBack
-pub mod Registers
-pub mod BytesBack
-pub mod CallsBack
-pub mod OperatorsBack
-pub mod Fields
-pub mod Ranges
-pub mod Back
-pub mod Frees
 pub mod Exact
 pub mod Texts
 pub mod Trees

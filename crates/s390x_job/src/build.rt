@@ -2,19 +2,19 @@
 ghost use Rattle.std.specs.Prelude.{◌≡◌, ◌+◌, ◌^◌, ◌++◌, ◌∷◌, [], ℕ, IfOk, MatchOption, Some, None, map, length, suc, ◌<◌, ◌≤◌, if◌then◌else◌, ◌==◌, codes, IsTrue};
 ghost use Rattle.std.specs.Str.{bytes_eq};
 ghost use Rattle.s390x_base.specs.Registers.{general, vector};
-ghost use Rattle.s390x_job.specs.Line.{spelled, Line};
+ghost use Rattle.s390x_lines.specs.Line.{spelled, Line};
 ghost use Rattle.s390x_job.specs.Items.{item_line, IsItem, flags_line, frame_line, constant_line, symbol_line, register_line, memory_line, block_line, loop_line, close_line, end_line};
 ghost use Rattle.s390x_job.specs.Grammar.{Place, next, class, Header, Within, AtEnd, Instruction, may_follow, Class};
 ghost use Rattle.s390x_job.specs.Jobs.{job_lines, blocks_lines};
-ghost use Rattle.s390x_job.specs.Instructions.{inst_line};
+ghost use Rattle.s390x_lines.specs.Instructions.{inst_line};
 ghost use Rattle.s390x_job.specs.Builds.{state_lines, beginning_lines, body_lines, place_of, rank_of, IsState, IsBeginning, IsFull, IsWhole, Follows};
 ghost use Rattle.s390x_job.specs.declared.build.State.{State};
 
 use crate::heading::{is_plain_flags, is_plain_frame};
 use crate::item::{Frame, Item};
 use crate::job::{Job, MemLine, StartRegs, SymbolLine};
-use crate::parts::{GeneralStart, VectorStart};
 use s390x_base::{Cond, ConstantData};
+use s390x_fields::parts::{GeneralStart, VectorStart};
 use s390x_inst::{
     AllocatedFunction, Block, CallConv, EmitInfo, EmitState, FrameLayout, Inst, IsaFlags,
     MachInstEmitState,

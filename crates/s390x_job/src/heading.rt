@@ -1,12 +1,12 @@
 //! The lines before the blocks that stand only where they say something: `flags` and `frame`.
 ghost use Rattle.std.specs.Prelude.{◌≡◌, ◌++◌, ◌∷◌, [], OnOk, IfOk, string_bytes, codes};
 ghost use Rattle.std.specs.Str.{bytes_eq};
-ghost use Rattle.s390x_job.specs.Numbers.{W8, W16, W32};
-ghost use Rattle.s390x_job.specs.Fields.{FNatural, FOption};
-ghost use Rattle.s390x_job.specs.Line.{spelled};
+ghost use Rattle.s390x_words.specs.Numbers.{W8, W16, W32};
+ghost use Rattle.s390x_fields.specs.Fields.{FNatural, FOption};
+ghost use Rattle.s390x_lines.specs.Line.{spelled};
 ghost use Rattle.s390x_job.specs.Items.{flags_line, frame_line};
 
-use crate::part::Part;
+use s390x_fields::part::Part;
 use s390x_inst::{CallConv, FrameLayout, IsaFlags};
 use std::alloc::{AllocError, Global};
 

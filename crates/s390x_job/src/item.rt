@@ -1,8 +1,8 @@
 //! The parts of a job, as one line tells each.
 
 use crate::job::{MemLine, SymbolLine};
-use crate::parts::{GeneralStart, VectorStart};
 use s390x_base::{Cond, ConstantData};
+use s390x_fields::parts::{GeneralStart, VectorStart};
 use s390x_inst::{CallConv, FrameLayout, Inst, IsaFlags};
 
 /// A convention and a layout, as the line `frame` tells them.

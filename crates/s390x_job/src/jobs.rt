@@ -1,21 +1,21 @@
 //! Printing a job.
 ghost use Rattle.std.specs.Prelude.{◌≡◌, ◌≤◌, ◌++◌, ◌∷◌, [], OnOk, IfOk, map, length, string_bytes};
 ghost use Rattle.s390x_base.specs.Registers.{general, vector};
-ghost use Rattle.s390x_job.specs.Line.{Line, line_text};
-ghost use Rattle.s390x_job.specs.Instructions.{inst_line};
+ghost use Rattle.s390x_lines.specs.Line.{Line, line_text};
+ghost use Rattle.s390x_lines.specs.Instructions.{inst_line};
 ghost use Rattle.s390x_job.specs.Items.{flags_line, frame_line, constant_line, symbol_line, register_line, memory_line, block_line, end_line};
 ghost use Rattle.s390x_job.specs.Jobs.{lines_text, inst_lines, insts_lines, blocks_lines, flags_lines, frame_lines, start_lines, registers_lines, head_lines, text_of_job};
 
 use crate::heading::{is_plain_flags, is_plain_frame};
 use crate::job::{Job, MemLine, StartRegs, SymbolLine};
-use crate::name::LineName;
-use crate::number::put;
-use crate::part::{line0, line1, line2};
-use crate::parts::{GeneralStart, VectorStart};
-use crate::print::put_inst;
 use crate::print_line::put_frame_line;
 use s390x_base::{ConstantData, NoMemory};
+use s390x_fields::parts::{GeneralStart, VectorStart};
 use s390x_inst::{Block, CallConv, FrameLayout, Inst, IsaFlags, MachInstEmitState};
+use s390x_lines::name::LineName;
+use s390x_lines::print::put_inst;
+use s390x_lines::put_line::{line0, line1, line2};
+use s390x_words::number::put;
 use std::alloc::{AllocError, Global};
 
 fn put_name_line(out: &mut String, name: LineName) -> Result<(), AllocError>

@@ -9,9 +9,9 @@ ghost use Rattle.s390x_job.specs.declared.job.Job.{Job};
 ghost use Rattle.s390x_job.specs.Completions.{pieces, joined, opens, closes, ends, ending, closing, completion, IsText, IsFirstWrong};
 
 use crate::build::{State, push, start};
-use crate::cursor::{after, before};
 use crate::job::{Job, LineError};
 use crate::reader::{read_item, read_job};
+use s390x_words::marks::{after, before};
 use std::alloc::{AllocError, Global};
 
 /// What a reader found: a job, or so many lines that one may begin with.

@@ -1,21 +1,21 @@
 //! Reading a line of each name.
 ghost use Rattle.std.specs.Prelude.{◌≡◌, IfOk, ◌<◌};
-ghost use Rattle.s390x_job.specs.Line.{line_with};
+ghost use Rattle.s390x_lines.specs.Line.{line_with};
 ghost use Rattle.s390x_job.specs.Items.{item_line, IsItem};
 
-use crate::bytes::hex_number;
-use crate::cursor::Cursor;
 use crate::item::{Frame, Item};
 use crate::job::{MemLine, SymbolLine};
-use crate::name::LineName;
-use crate::number::natural;
-use crate::parts::{GeneralStart, VectorStart};
-use crate::read_control::control;
-use crate::read_integer::integer;
-use crate::read_memory::memory;
-use crate::read_vector::vector;
 use s390x_base::{ConstantData, RegClass};
+use s390x_fields::cursor::Cursor;
+use s390x_fields::parts::{GeneralStart, VectorStart};
 use s390x_inst::{FrameLayout, Inst};
+use s390x_lines::name::LineName;
+use s390x_lines::read_control::control;
+use s390x_lines::read_integer::integer;
+use s390x_lines::read_memory::memory;
+use s390x_lines::read_vector::vector;
+use s390x_words::bytes::hex_number;
+use s390x_words::number::natural;
 use std::alloc::{AllocError, Global};
 
 fn frame(c: &mut Cursor) -> Frame

@@ -1,19 +1,20 @@
 //! The exact reader of lines and jobs.
 ghost use Rattle.std.specs.Prelude.{◌≡◌, ◌≢◌, List, ℕ, IfOk, MatchOption};
-ghost use Rattle.s390x_job.specs.Line.{Line, IsLine, line_text, line_of};
+ghost use Rattle.s390x_lines.specs.Line.{Line, IsLine, line_text, line_of};
 ghost use Rattle.s390x_job.specs.Items.{item_line, IsItem};
 ghost use Rattle.s390x_job.specs.Jobs.{text_of_job, IsJob};
 ghost use Rattle.s390x_job.specs.Builds.{IsState};
 ghost use Rattle.s390x_job.specs.declared.job.Job.{Job};
 
 use crate::build::{State, push, start};
-use crate::cursor::{Cursor, after, back, before, front};
 use crate::item::Item;
 use crate::job::Job;
-use crate::name::{ALL_NAMES, LineName};
 use crate::print_line::put_item;
 use crate::read_line::item;
-use crate::word::find;
+use s390x_fields::cursor::Cursor;
+use s390x_lines::name::{ALL_NAMES, LineName};
+use s390x_words::marks::{after, back, before, front};
+use s390x_words::word::find;
 use std::alloc::{AllocError, Global};
 
 fn parse(alloc: Global, w: &[u8]) -> Result<Item, AllocError>

@@ -18,13 +18,13 @@ use Rattle.s390x_steps.specs.General.{is_general, is_nonzero}
 use Rattle.s390x_steps.specs.Parts.{Part, Row, step_parts}
 use Rattle.s390x_steps.specs.Steps.{step_of}
 use Rattle.s390x_steps.specs.Ranges.{InRange}
-use Rattle.s390x_job.specs.Fields.{Field, FAlu, FUnary, FCmp, FShift, FRxsbg, FReg, FReal, FInteger, FNatural, FShifted, FPair, FBool, FLabels, FCond}
-use Rattle.s390x_job.specs.Line.{Line}
-use Rattle.s390x_job.specs.Instructions.{inst_line, vector_line}
-use Rattle.s390x_job.specs.declared.inst_name.IntegerName.TheVariants as IntegerIs
-use Rattle.s390x_job.specs.declared.inst_name.ControlName.TheVariants as ControlIs
-use Rattle.s390x_job.specs.declared.name.LineName.{LineName}
-use Rattle.s390x_job.specs.declared.name.LineName.TheVariants as N
+use Rattle.s390x_fields.specs.Fields.{Field, FAlu, FUnary, FCmp, FShift, FRxsbg, FReg, FReal, FInteger, FNatural, FShifted, FPair, FBool, FLabels, FCond}
+use Rattle.s390x_lines.specs.Line.{Line}
+use Rattle.s390x_lines.specs.Instructions.{inst_line, vector_line}
+use Rattle.s390x_lines.specs.declared.inst_name.IntegerName.TheVariants as IntegerIs
+use Rattle.s390x_lines.specs.declared.inst_name.ControlName.TheVariants as ControlIs
+use Rattle.s390x_lines.specs.declared.name.LineName.{LineName}
+use Rattle.s390x_lines.specs.declared.name.LineName.TheVariants as N
 
 -- What emission reads of an instruction: all of one without lists; of one with lists, their items instead of the vectors
 -- that hold them; of one that isn't built yet, nothing.

@@ -12,8 +12,8 @@ use Rattle.s390x_steps.specs.Sizes.{tree_size, blocks_size}
 use Rattle.s390x_steps.specs.Rows.{Places, rows_of}
 use Rattle.s390x_steps.specs.Image.{place, function_places, code, function_code, step_places, block_places}
 use Rattle.s390x_steps.specs.Ranges.{IsMask, AllInRange, BlocksInRange}
-use Rattle.s390x_job.specs.Line.{Line}
-use Rattle.s390x_job.specs.Instructions.{inst_line}
+use Rattle.s390x_lines.specs.Line.{Line}
+use Rattle.s390x_lines.specs.Instructions.{inst_line}
 use Rattle.s390x_tool.proofs.SameInstruction.{line_reading, reading_cause, reading_parts, reading_range, cause_read, parts_read, range_read, range_back}
 
 -- a tree with lines in place of instructions

@@ -1,5 +1,5 @@
 use Rattle.std.proofs.Common.{◌≡◌, length, sym, ap, ◌∙◌, arith}
-use Rattle.s390x_job.specs.Marks.{upto}
+use Rattle.s390x_words.specs.Marks.{upto}
 use Rattle.s390x_job.specs.Items.{item_line}
 use Rattle.s390x_job.specs.Builds.{state_lines, place_of}
 use Rattle.s390x_job.proofs.Whole.{accept, refuse_feed, refuse_line, refuse_place, refuse_end, one_more_line, shorter}

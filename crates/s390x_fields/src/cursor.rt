@@ -1,0 +1,61 @@
+//! A place in a line, and the words from there on.
+ghost use Rattle.std.specs.Prelude.{◌≡◌, drop, slice_index};
+ghost use Rattle.s390x_words.specs.Marks.{word, after_word};
+
+use s390x_words::marks::{back, front};
+use s390x_words::number::{first, tail};
+use std::marker::Model;
+
+/// A place in a line. Contracts see it as the bytes that are left.
+#[derive(Drop)]
+pub struct Cursor<'a> {
+    left: &'a [u8],
+}
+
+impl<'a> Model for Cursor<'a> {
+    ghost use Rattle.std.specs.Prelude.{ℕ, List};
+
+    ghost Value = { List ℕ };
+
+    ghost view = { λ c. c.left.now };
+}
+
+impl<'a> Cursor<'a> {
+    /// The place before these bytes.
+    pub fn new(left: &'a [u8]) -> Cursor<'a>
+        ensures { result ≡ left.now }
+    {
+        Cursor { left }
+    }
+
+    /// What is left.
+    pub fn rest(&self) -> &'a [u8]
+        ensures { result.now ≡ self.now }
+    {
+        self.left
+    }
+
+    /// Goes on by so many bytes.
+    pub fn skip(&mut self, n: usize)
+        ensures { self.new ≡ drop n self.old }
+    {
+        self.left = tail(self.left, n);
+    }
+
+    /// The next byte, or 0.
+    pub fn peek(&self) -> u8
+        ensures { result ≡ slice_index self.now 0 }
+    {
+        first(self.left)
+    }
+
+    /// The word after one mark.
+    pub fn word(&mut self) -> &'a [u8]
+        ensures value { result.now ≡ word self.old }
+        ensures after { self.new ≡ after_word self.old }
+    {
+        let from = tail(self.left, 1);
+        self.left = back(from);
+        front(from)
+    }
+}

@@ -1,0 +1,425 @@
+//! Reading the fields of a line, one after the other. Each reader is total: it reads something from any text.
+ghost use Rattle.std.specs.Prelude.{◌≡◌, ℕ, IfOk, drop};
+ghost use Rattle.s390x_base.specs.Registers.{general, vector};
+ghost use Rattle.s390x_base.specs.Sets.{has};
+ghost use Rattle.s390x_words.specs.Marks.{word, after_word, past};
+ghost use Rattle.s390x_words.specs.Numbers.{natural_of, integer_of, W8, W16, W32, W64, S8, S16, S20, S32};
+ghost use Rattle.s390x_words.specs.Found.{found};
+ghost use Rattle.s390x_words.specs.Operators.{alu_text, cmp_text, shift_text, rxsbg_text, unary_text, vec_binary_text, vec_unary_text, vec_shift_text, vec_compare_text, vec_element_compare_text, convention_text};
+ghost use Rattle.s390x_words.specs.Atoms.{real_of, reg_of, mask_of, trap_of, bool_of, name_of};
+ghost use Rattle.s390x_words.specs.Memory.{memory_of};
+ghost use Rattle.s390x_words.specs.Lists.{list_of};
+ghost use Rattle.s390x_words.specs.Sets.{members, is_in};
+ghost use Rattle.s390x_words.specs.Calls.{target_of, reloc_of, result_of, try_part, try_of, after_try, arg_of, ret_of, use_of, label_of};
+ghost use Rattle.s390x_words.specs.Bytes.{bytes_of, value_of, facilities_of};
+ghost use Rattle.s390x_fields.specs.Fields.{option_of};
+
+use crate::cursor::Cursor;
+use s390x_base::{
+    Cond, ExternalName, MachLabel, PReg, PRegSet, Reg, RegPair, SImm20, TrapCode, UImm16Shifted,
+    UImm32Shifted, Writable, WritableRegPair,
+};
+use s390x_inst::{
+    ALUOp, ArgPair, CallArgPair, CallConv, CallInstDest, CallRetPair, CmpOp, IsaFlags, MemArg,
+    RetPair, RxSBGOp, ShiftOp, SymbolReloc, TryCallInfo, UnaryOp, VecBinaryOp, VecIntCmpOp,
+    VecIntEltCmpOp, VecShiftOp, VecUnaryOp,
+};
+use s390x_words::atoms::{cond, name, real, reg, trap, truth, written};
+use s390x_words::bytes::{bytes, facilities};
+use s390x_words::calls::{handlers, reloc, target};
+use s390x_words::list::list;
+use s390x_words::marks::{after, word};
+use s390x_words::memory::{displacement20, memory};
+use s390x_words::number::{
+    integer8, integer16, integer32, natural8, natural16, natural32, natural64, tail,
+};
+use s390x_words::operators::{ALL_ALU, ALL_CMP, ALL_CONVENTION, ALL_RXSBG, ALL_SHIFT, ALL_UNARY};
+use s390x_words::sets::set_of;
+use s390x_words::vector_operators::{
+    ALL_VEC_BINARY, ALL_VEC_COMPARE, ALL_VEC_ELEMENT_COMPARE, ALL_VEC_SHIFT, ALL_VEC_UNARY,
+};
+use s390x_words::word::find;
+use std::alloc::{AllocError, Global};
+
+impl<'a> Cursor<'a> {
+    pub fn reg(&mut self) -> Reg
+        ensures value { result ≡ reg_of (word self.old) }
+        ensures after { self.new ≡ after_word self.old }
+    {
+        reg(self.word())
+    }
+
+    pub fn written(&mut self) -> Writable<Reg>
+        ensures value { result ≡ reg_of (word self.old) }
+        ensures after { self.new ≡ after_word self.old }
+    {
+        written(self.word())
+    }
+
+    pub fn real(&mut self) -> PReg
+        ensures value { result ≡ real_of (word self.old) }
+        ensures after { self.new ≡ after_word self.old }
+    {
+        real(self.word())
+    }
+
+    pub fn alu(&mut self) -> ALUOp
+        ensures value { result ≡ found alu_text ALL_ALU (word self.old) ALUOp.Add32 }
+        ensures after { self.new ≡ after_word self.old }
+    {
+        find(&ALL_ALU, self.word(), ALUOp::Add32)
+    }
+
+    pub fn cmp(&mut self) -> CmpOp
+        ensures value { result ≡ found cmp_text ALL_CMP (word self.old) CmpOp.CmpS32 }
+        ensures after { self.new ≡ after_word self.old }
+    {
+        find(&ALL_CMP, self.word(), CmpOp::CmpS32)
+    }
+
+    pub fn shift_op(&mut self) -> ShiftOp
+        ensures value { result ≡ found shift_text ALL_SHIFT (word self.old) ShiftOp.RotL32 }
+        ensures after { self.new ≡ after_word self.old }
+    {
+        find(&ALL_SHIFT, self.word(), ShiftOp::RotL32)
+    }
+
+    pub fn rxsbg(&mut self) -> RxSBGOp
+        ensures value { result ≡ found rxsbg_text ALL_RXSBG (word self.old) RxSBGOp.Insert }
+        ensures after { self.new ≡ after_word self.old }
+    {
+        find(&ALL_RXSBG, self.word(), RxSBGOp::Insert)
+    }
+
+    pub fn unary(&mut self) -> UnaryOp
+        ensures value { result ≡ found unary_text ALL_UNARY (word self.old) UnaryOp.Abs32 }
+        ensures after { self.new ≡ after_word self.old }
+    {
+        find(&ALL_UNARY, self.word(), UnaryOp::Abs32)
+    }
+
+    pub fn vec_binary(&mut self) -> VecBinaryOp
+        ensures value { result ≡ found vec_binary_text ALL_VEC_BINARY (word self.old) VecBinaryOp.Add8x16 }
+        ensures after { self.new ≡ after_word self.old }
+    {
+        find(&ALL_VEC_BINARY, self.word(), VecBinaryOp::Add8x16)
+    }
+
+    pub fn vec_unary(&mut self) -> VecUnaryOp
+        ensures value { result ≡ found vec_unary_text ALL_VEC_UNARY (word self.old) VecUnaryOp.Abs8x16 }
+        ensures after { self.new ≡ after_word self.old }
+    {
+        find(&ALL_VEC_UNARY, self.word(), VecUnaryOp::Abs8x16)
+    }
+
+    pub fn vec_shift_op(&mut self) -> VecShiftOp
+        ensures value { result ≡ found vec_shift_text ALL_VEC_SHIFT (word self.old) VecShiftOp.RotL8x16 }
+        ensures after { self.new ≡ after_word self.old }
+    {
+        find(&ALL_VEC_SHIFT, self.word(), VecShiftOp::RotL8x16)
+    }
+
+    pub fn vec_compare(&mut self) -> VecIntCmpOp
+        ensures value { result ≡ found vec_compare_text ALL_VEC_COMPARE (word self.old) VecIntCmpOp.CmpEq8x16 }
+        ensures after { self.new ≡ after_word self.old }
+    {
+        find(&ALL_VEC_COMPARE, self.word(), VecIntCmpOp::CmpEq8x16)
+    }
+
+    pub fn vec_element_compare(&mut self) -> VecIntEltCmpOp
+        ensures value { result ≡ found vec_element_compare_text ALL_VEC_ELEMENT_COMPARE (word self.old) VecIntEltCmpOp.SCmp128 }
+        ensures after { self.new ≡ after_word self.old }
+    {
+        find(
+            &ALL_VEC_ELEMENT_COMPARE,
+            self.word(),
+            VecIntEltCmpOp::SCmp128,
+        )
+    }
+
+    pub fn convention(&mut self) -> CallConv
+        ensures value { result ≡ found convention_text ALL_CONVENTION (word self.old) CallConv.Fast }
+        ensures after { self.new ≡ after_word self.old }
+    {
+        find(&ALL_CONVENTION, self.word(), CallConv::Fast)
+    }
+
+    pub fn truth(&mut self) -> bool
+        ensures value { result ≡ bool_of (word self.old) }
+        ensures after { self.new ≡ after_word self.old }
+    {
+        truth(self.word())
+    }
+
+    pub fn u8(&mut self) -> u8
+        ensures value { result ≡ natural_of W8 (word self.old) }
+        ensures after { self.new ≡ after_word self.old }
+    {
+        natural8(self.word())
+    }
+
+    pub fn u16(&mut self) -> u16
+        ensures value { result ≡ natural_of W16 (word self.old) }
+        ensures after { self.new ≡ after_word self.old }
+    {
+        natural16(self.word())
+    }
+
+    pub fn u32(&mut self) -> u32
+        ensures value { result ≡ natural_of W32 (word self.old) }
+        ensures after { self.new ≡ after_word self.old }
+    {
+        natural32(self.word())
+    }
+
+    pub fn u64(&mut self) -> u64
+        ensures value { result ≡ natural_of W64 (word self.old) }
+        ensures after { self.new ≡ after_word self.old }
+    {
+        natural64(self.word())
+    }
+
+    pub fn i8(&mut self) -> i8
+        ensures value { result ≡ integer_of S8 (word self.old) }
+        ensures after { self.new ≡ after_word self.old }
+    {
+        integer8(self.word())
+    }
+
+    pub fn i16(&mut self) -> i16
+        ensures value { result ≡ integer_of S16 (word self.old) }
+        ensures after { self.new ≡ after_word self.old }
+    {
+        integer16(self.word())
+    }
+
+    pub fn i32(&mut self) -> i32
+        ensures value { result ≡ integer_of S32 (word self.old) }
+        ensures after { self.new ≡ after_word self.old }
+    {
+        integer32(self.word())
+    }
+
+    pub fn displacement(&mut self) -> SImm20
+        ensures value { result ≡ integer_of S20 (word self.old) }
+        ensures after { self.new ≡ after_word self.old }
+    {
+        displacement20(self.word())
+    }
+
+    pub fn cond(&mut self) -> Cond
+        ensures value { result ≡ mask_of (word self.old) }
+        ensures after { self.new ≡ after_word self.old }
+    {
+        cond(self.word())
+    }
+
+    pub fn trap(&mut self) -> TrapCode
+        ensures value { result ≡ trap_of (word self.old) }
+        ensures after { self.new ≡ after_word self.old }
+    {
+        trap(self.word())
+    }
+
+    pub fn name(&mut self) -> ExternalName
+        ensures value { result ≡ record { 0 = name_of (word self.old) } }
+        ensures after { self.new ≡ after_word self.old }
+    {
+        name(self.word())
+    }
+
+    pub fn label(&mut self) -> MachLabel
+        ensures value { result ≡ record { 0 = natural_of W32 (word self.old) } }
+        ensures after { self.new ≡ after_word self.old }
+    {
+        MachLabel(natural32(self.word()))
+    }
+
+    pub fn target(&mut self) -> CallInstDest
+        ensures value { result ≡ target_of (word self.old) }
+        ensures after { self.new ≡ after_word self.old }
+    {
+        target(self.word())
+    }
+
+    pub fn pair(&mut self) -> RegPair
+        ensures value { result ≡ record { hi = reg_of (word self.old); lo = reg_of (word (after_word self.old)) } }
+        ensures after { self.new ≡ after_word (after_word self.old) }
+    {
+        let hi = self.reg();
+        let lo = self.reg();
+        RegPair { hi, lo }
+    }
+
+    pub fn written_pair(&mut self) -> WritableRegPair
+        ensures value { result ≡ record { hi = reg_of (word self.old); lo = reg_of (word (after_word self.old)) } }
+        ensures after { self.new ≡ after_word (after_word self.old) }
+    {
+        let hi = self.written();
+        let lo = self.written();
+        WritableRegPair { hi, lo }
+    }
+
+    pub fn shifted16(&mut self) -> UImm16Shifted
+        ensures value { result ≡ record { bits = natural_of W16 (word self.old); shift = natural_of W8 (word (after_word self.old)) } }
+        ensures after { self.new ≡ after_word (after_word self.old) }
+    {
+        let bits = self.u16();
+        let shift = self.u8();
+        UImm16Shifted { bits, shift }
+    }
+
+    pub fn shifted32(&mut self) -> UImm32Shifted
+        ensures value { result ≡ record { bits = natural_of W32 (word self.old); shift = natural_of W8 (word (after_word self.old)) } }
+        ensures after { self.new ≡ after_word (after_word self.old) }
+    {
+        let bits = self.u32();
+        let shift = self.u8();
+        UImm32Shifted { bits, shift }
+    }
+
+    /// Goes on behind the first `c`.
+    fn skip_past(&mut self, c: u8)
+        ensures { self.new ≡ past c self.old }
+    {
+        let left = after(self.rest(), c);
+        *self = Cursor::new(left);
+    }
+
+    pub fn memory(&mut self) -> MemArg
+        ensures value { result ≡ memory_of self.old }
+        ensures after { self.new ≡ past 41 self.old }
+    {
+        let value = memory(self.rest());
+        self.skip_past(b')');
+        value
+    }
+
+    pub fn reloc(&mut self) -> SymbolReloc
+        ensures value { result ≡ reloc_of self.old }
+        ensures after { self.new ≡ past 41 self.old }
+    {
+        let value = reloc(self.rest());
+        self.skip_past(b')');
+        value
+    }
+
+    pub fn labels(&mut self, alloc: Global) -> Result<Vec<MachLabel>, AllocError>
+        ensures value { IfOk result (λ v. v.items ≡ list_of label_of (drop 1 self.old)) }
+        ensures after { self.new ≡ past 93 self.old }
+    {
+        let value = list(alloc, tail(self.rest(), 1));
+        self.skip_past(b']');
+        value
+    }
+
+    pub fn args(&mut self, alloc: Global) -> Result<Vec<ArgPair>, AllocError>
+        ensures value { IfOk result (λ v. v.items ≡ list_of arg_of (drop 1 self.old)) }
+        ensures after { self.new ≡ past 93 self.old }
+    {
+        let value = list(alloc, tail(self.rest(), 1));
+        self.skip_past(b']');
+        value
+    }
+
+    pub fn rets(&mut self, alloc: Global) -> Result<Vec<RetPair>, AllocError>
+        ensures value { IfOk result (λ v. v.items ≡ list_of ret_of (drop 1 self.old)) }
+        ensures after { self.new ≡ past 93 self.old }
+    {
+        let value = list(alloc, tail(self.rest(), 1));
+        self.skip_past(b']');
+        value
+    }
+
+    pub fn uses(&mut self, alloc: Global) -> Result<Vec<CallArgPair>, AllocError>
+        ensures value { IfOk result (λ v. v.items ≡ list_of use_of (drop 1 self.old)) }
+        ensures after { self.new ≡ past 93 self.old }
+    {
+        let value = list(alloc, tail(self.rest(), 1));
+        self.skip_past(b']');
+        value
+    }
+
+    pub fn defs(&mut self, alloc: Global) -> Result<Vec<CallRetPair>, AllocError>
+        ensures value { IfOk result (λ v. v.items ≡ list_of result_of (drop 1 self.old)) }
+        ensures after { self.new ≡ past 93 self.old }
+    {
+        let value = list(alloc, tail(self.rest(), 1));
+        self.skip_past(b']');
+        value
+    }
+
+    pub fn reals(&mut self, alloc: Global) -> Result<Vec<PReg>, AllocError>
+        ensures value { IfOk result (λ v. v.items ≡ list_of (λ s. real_of (word s)) (drop 1 self.old)) }
+        ensures after { self.new ≡ past 93 self.old }
+    {
+        let value = list(alloc, tail(self.rest(), 1));
+        self.skip_past(b']');
+        value
+    }
+
+    pub fn set(&mut self, alloc: Global) -> Result<PRegSet, AllocError>
+        ensures value { IfOk result (λ p. members (has p) ≡ members (is_in (list_of (λ s. real_of (word s)) (drop 1 self.old)))) }
+        ensures after { self.new ≡ past 93 self.old }
+    {
+        let members = self.reals(alloc)?;
+        Ok(set_of(&members))
+    }
+
+    fn skip_handlers(&mut self)
+        ensures { self.new ≡ after_try self.old }
+    {
+        if word(self.rest()) == b"-".as_slice() {
+            let _word = self.word();
+        } else {
+            self.skip_past(b']');
+        }
+    }
+
+    pub fn handlers(&mut self, alloc: Global) -> Result<Option<TryCallInfo>, AllocError>
+        ensures value { IfOk result (λ t. try_part t ≡ try_of self.old) }
+        ensures after { self.new ≡ after_try self.old }
+    {
+        let value = handlers(alloc, self.rest());
+        self.skip_handlers();
+        value
+    }
+
+    pub fn option8(&mut self) -> Option<u8>
+        ensures value { result ≡ option_of W8 (word self.old) }
+        ensures after { self.new ≡ after_word self.old }
+    {
+        let w = self.word();
+        if w == b"-".as_slice() {
+            None
+        } else {
+            Some(natural8(w))
+        }
+    }
+
+    pub fn option32(&mut self) -> Option<u32>
+        ensures value { result ≡ option_of W32 (word self.old) }
+        ensures after { self.new ≡ after_word self.old }
+    {
+        let w = self.word();
+        if w == b"-".as_slice() {
+            None
+        } else {
+            Some(natural32(w))
+        }
+    }
+
+    pub fn bytes(&mut self, alloc: Global) -> Result<Vec<u8>, AllocError>
+        ensures value { IfOk result (λ v. v.items ≡ bytes_of (word self.old)) }
+        ensures after { self.new ≡ after_word self.old }
+    {
+        bytes(alloc, self.word())
+    }
+
+    /// All that is left, as facilities.
+    pub fn facilities(&self) -> IsaFlags
+        ensures { result ≡ facilities_of self.now }
+    {
+        facilities(self.rest())
+    }
+}

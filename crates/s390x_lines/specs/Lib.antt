@@ -1,0 +1,4 @@
+pub mod Names
+pub mod Kinds
+pub mod Line
+pub mod Instructions

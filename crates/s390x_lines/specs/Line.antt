@@ -1,0 +1,45 @@
+-- A line: a name and a list of fields.
+use Rattle.std.specs.Prelude.{◌≡◌, ℕ, List, [], ◌∷◌, ◌++◌}
+use Rattle.s390x_words.specs.Marks.{before_mark, from_mark}
+use Rattle.s390x_words.specs.Found.{found}
+use Rattle.s390x_lines.specs.Names.{name_text}
+use Rattle.s390x_fields.specs.Fields.{Field, Kind, kind_of, spell, IsField, value_as, after_as}
+use Rattle.s390x_lines.specs.Kinds.{kinds}
+use Rattle.s390x_lines.specs.declared.name.LineName.{LineName}
+use Rattle.s390x_lines.specs.declared.name.LineName.TheVariants as N
+use Rattle.s390x_lines.specs.declared.name.TheConstants.{ALL_NAMES}
+
+pub record Line : Type 0 where
+  pub name : LineName
+  pub fields : List Field
+
+abbrev pub spelled : List Field → List ℕ
+spelled [] = []
+spelled (f ∷ fs) = spell f ++ spelled fs
+
+abbrev pub line_text : Line → List ℕ
+line_text l = name_text l.name ++ spelled l.fields
+
+abbrev pub AllFields : List Field → Type 0
+AllFields [] = Unit {0}
+AllFields (f ∷ fs) = IsField f × AllFields fs
+
+abbrev pub kinds_of : List Field → List Kind
+kinds_of [] = []
+kinds_of (f ∷ fs) = kind_of f ∷ kinds_of fs
+
+-- a line whose fields are those of its name, each in its range
+pub record IsLine (l : Line) : Type 0 where
+  pub kinds_fit : kinds l.name ≡ kinds_of l.fields
+  pub fields_fit : AllFields l.fields
+
+-- what is read
+abbrev pub fields_of : List Kind → List ℕ → List Field
+fields_of [] s = []
+fields_of (k ∷ ks) s = value_as k s ∷ fields_of ks (after_as k s)
+
+abbrev pub line_with : LineName → List ℕ → Line
+line_with n s = record { name = n; fields = fields_of (kinds n) s }
+
+abbrev pub line_of : List ℕ → Line
+line_of s = line_with (found name_text ALL_NAMES (before_mark s) N.EndLine) (from_mark s)

@@ -1,0 +1,166 @@
+-- Bytes and starting values in hex, and facilities: reading gives back what was printed.
+use Rattle.std.proofs.Common.{◌≡◌, ℕ, zero, suc, ◌+◌, ◌-◌, ◌*◌, ◌/◌, ◌%◌, ◌^◌, ◌<◌, ◌≤◌, Bool, true, false, List, [], ◌∷◌, ◌++◌, length, refl, sym, ap, ◌∙◌, arith, append_assoc, append-nil}
+use Rattle.std.specs.Prelude.{◌==◌, ◌||◌, codes, slice_index, nat_lt, Result, Ok, Err}
+use Rattle.std.specs.Str.{bytes_eq}
+use Rattle.std.proofs.lemmas.Bool.Decides.{nat_tests}
+use Rattle.std.proofs.lemmas.Nat.{pow-add}
+use Rattle.std.proofs.Math.Pow.{pow_mono}
+use Rattle.hex.specs.Hex.{encode_lower, encode_with, decode_of, decode_pairs, IsBytes, lower_digits, hex_digit_value, pair_value, value_at, digit_or_error, ◌>>=◌}
+use Rattle.hex.specs.declared.error.FromHexError.{FromHexError}
+use Rattle.hex.proofs.HexLemmas.{decode_of-encode_lower}
+use Rattle.s390x_base.specs.Registers.{RealRegister, IsRegister}
+use Rattle.s390x_base.specs.declared.regs.RegClass.{RegClass}
+use Rattle.s390x_base.specs.declared.regs.RegClass.TheVariants.{Int, Float}
+use Rattle.s390x_inst.specs.declared.state.IsaFlags.{IsaFlags}
+use Rattle.s390x_words.specs.Marks.{among, word, after_word}
+use Rattle.s390x_words.specs.Bytes.{bytes_text, bytes_of, decoded, digits_text, vector_text, digit_of, hex_from, value_text, value_limit, value_of, facility_text, facilities_text, facilities_of}
+use Rattle.s390x_words.proofs.Avoids.{Avoids, Avoids-test, Avoids-append, marks, Solid}
+use Rattle.s390x_words.proofs.Digits.{decimal-back, decimal-solid, small_mod}
+
+-- hex digits
+hex_digit_solid : (d : ℕ) → d < 16 → among (slice_index lower_digits d) (45 ∷ marks) ≡ false
+hex_digit_solid zero h = refl
+hex_digit_solid (suc zero) h = refl
+hex_digit_solid (suc (suc zero)) h = refl
+hex_digit_solid (suc (suc (suc zero))) h = refl
+hex_digit_solid (suc (suc (suc (suc zero)))) h = refl
+hex_digit_solid (suc (suc (suc (suc (suc zero))))) h = refl
+hex_digit_solid (suc (suc (suc (suc (suc (suc zero)))))) h = refl
+hex_digit_solid (suc (suc (suc (suc (suc (suc (suc zero))))))) h = refl
+hex_digit_solid (suc (suc (suc (suc (suc (suc (suc (suc zero)))))))) h = refl
+hex_digit_solid (suc (suc (suc (suc (suc (suc (suc (suc (suc zero))))))))) h = refl
+hex_digit_solid (suc (suc (suc (suc (suc (suc (suc (suc (suc (suc zero)))))))))) h = refl
+hex_digit_solid (suc (suc (suc (suc (suc (suc (suc (suc (suc (suc (suc zero))))))))))) h = refl
+hex_digit_solid (suc (suc (suc (suc (suc (suc (suc (suc (suc (suc (suc (suc zero)))))))))))) h = refl
+hex_digit_solid (suc (suc (suc (suc (suc (suc (suc (suc (suc (suc (suc (suc (suc zero))))))))))))) h = refl
+hex_digit_solid (suc (suc (suc (suc (suc (suc (suc (suc (suc (suc (suc (suc (suc (suc zero)))))))))))))) h = refl
+hex_digit_solid (suc (suc (suc (suc (suc (suc (suc (suc (suc (suc (suc (suc (suc (suc (suc zero))))))))))))))) h = refl
+hex_digit_solid (suc (suc (suc (suc (suc (suc (suc (suc (suc (suc (suc (suc (suc (suc (suc (suc d)))))))))))))))) h = absurd (omega arith)
+
+digit_back : (d : ℕ) → d < 16 → digit_of (slice_index lower_digits d) ≡ d
+digit_back zero h = refl
+digit_back (suc zero) h = refl
+digit_back (suc (suc zero)) h = refl
+digit_back (suc (suc (suc zero))) h = refl
+digit_back (suc (suc (suc (suc zero)))) h = refl
+digit_back (suc (suc (suc (suc (suc zero))))) h = refl
+digit_back (suc (suc (suc (suc (suc (suc zero)))))) h = refl
+digit_back (suc (suc (suc (suc (suc (suc (suc zero))))))) h = refl
+digit_back (suc (suc (suc (suc (suc (suc (suc (suc zero)))))))) h = refl
+digit_back (suc (suc (suc (suc (suc (suc (suc (suc (suc zero))))))))) h = refl
+digit_back (suc (suc (suc (suc (suc (suc (suc (suc (suc (suc zero)))))))))) h = refl
+digit_back (suc (suc (suc (suc (suc (suc (suc (suc (suc (suc (suc zero))))))))))) h = refl
+digit_back (suc (suc (suc (suc (suc (suc (suc (suc (suc (suc (suc (suc zero)))))))))))) h = refl
+digit_back (suc (suc (suc (suc (suc (suc (suc (suc (suc (suc (suc (suc (suc zero))))))))))))) h = refl
+digit_back (suc (suc (suc (suc (suc (suc (suc (suc (suc (suc (suc (suc (suc (suc zero)))))))))))))) h = refl
+digit_back (suc (suc (suc (suc (suc (suc (suc (suc (suc (suc (suc (suc (suc (suc (suc zero))))))))))))))) h = refl
+digit_back (suc (suc (suc (suc (suc (suc (suc (suc (suc (suc (suc (suc (suc (suc (suc (suc d)))))))))))))))) h = absurd (omega arith)
+
+either_false : (a b : Bool) → (a || b) ≡ false → b ≡ false
+either_false true b h = absurd cc
+either_false false b h = h
+
+first_false : (a b : Bool) → (a || b) ≡ false → a ≡ false
+first_false true b h = absurd cc
+first_false false b h = refl
+
+power : (k : ℕ) → 2 ^ (4 * suc k) ≡ 16 * 2 ^ (4 * k)
+power k = let e : 4 * suc k ≡ 4 + 4 * k = omega arith in ap (λ n. 2 ^ n) e ∙ pow-add 2 4 (4 * k)
+
+powers : (n : ℕ) → n ≤ 128 → 2 ^ n ≤ 2 ^ 128
+powers n h = pow_mono h
+
+-- no mark and no `-` stands in bytes
+encode_avoids : (bs : List ℕ) → IsBytes bs → Avoids (45 ∷ marks) (encode_lower bs)
+unfolding encode_with
+encode_avoids [] h = tt
+encode_avoids (b ∷ bs) h =
+    let s : b < 256 = h 0 in
+    (hex_digit_solid (b / 16) (omega arith), (hex_digit_solid (b % 16) (omega arith), encode_avoids bs (λ i. h (suc i))))
+
+fewer_marks : (s : List ℕ) → Avoids (45 ∷ marks) s → Solid s
+fewer_marks [] h = tt
+fewer_marks (x ∷ s) h = (either_false (x == 45) (among x marks) h.0, fewer_marks s h.1)
+
+pub bytes-solid : (bs : List ℕ) → IsBytes bs → Solid (bytes_text bs)
+bytes-solid [] h = (refl, tt)
+bytes-solid (b ∷ bs) h = fewer_marks (encode_lower (b ∷ bs)) (encode_avoids (b ∷ bs) h)
+
+no_dash : (b : ℕ) (bs : List ℕ) → IsBytes (b ∷ bs) → bytes_eq (encode_lower (b ∷ bs)) (codes "-") ≡ false
+unfolding encode_with
+no_dash b bs h =
+    let s : b < 256 = h 0 in
+    let d = hex_digit_solid (b / 16) (omega arith) in
+    rw (first_false (slice_index lower_digits (b / 16) == 45) (among (slice_index lower_digits (b / 16)) marks) d) refl
+
+pub bytes-back : (bs : List ℕ) → IsBytes bs → bytes_of (bytes_text bs) ≡ bs
+bytes-back [] h = refl
+bytes-back (b ∷ bs) h = rw (no_dash b bs h) (ap decoded (decode_of-encode_lower (b ∷ bs) h))
+
+-- numbers in hex
+hex_from-append : (xs : List ℕ) (a : ℕ) (ys : List ℕ) → hex_from a (xs ++ ys) ≡ hex_from (hex_from a xs) ys
+hex_from-append [] a ys = refl
+hex_from-append (x ∷ xs) a ys = hex_from-append xs ((a * 16 + digit_of x) % 2 ^ 128) ys
+
+digits_back : (k v : ℕ) → v < 2 ^ (4 * k) → k ≤ 32 → hex_from 0 (digits_text k v) ≡ v
+digits_back zero v h l = omega arith
+digits_back (suc k) v h l =
+    let p : 2 ^ (4 * suc k) ≡ 16 * 2 ^ (4 * k) = power k in
+    let q : v / 16 < 2 ^ (4 * k) = omega arith in
+    let b : 2 ^ (4 * suc k) ≤ 2 ^ 128 = powers (4 * suc k) (omega arith) in
+    let s : v < 2 ^ 128 = omega arith in
+    let e : (v / 16) * 16 + v % 16 ≡ v = omega arith in
+    hex_from-append (digits_text k (v / 16)) 0 (slice_index lower_digits (v % 16) ∷ [])
+    ∙ rw (digits_back k (v / 16) q (omega arith), digit_back (v % 16) (omega arith), e) (small_mod v (2 ^ 128) s)
+
+digits_avoid : (k v : ℕ) → Avoids (45 ∷ marks) (digits_text k v)
+digits_avoid zero v = tt
+digits_avoid (suc k) v =
+    Avoids-append (45 ∷ marks) (digits_text k (v / 16)) (slice_index lower_digits (v % 16) ∷ []) (digits_avoid k (v / 16)) (hex_digit_solid (v % 16) (omega arith), tt)
+
+-- a register's starting value
+pub value-back : (c : RegClass) (v : ℕ) → v < value_limit c → value_of c (value_text c v) ≡ v
+unfolding vector_text
+value-back Int v h = decimal-back v h
+value-back Float v h = digits_back 32 v h (omega arith)
+
+pub value-solid : (c : RegClass) (v : ℕ) → v < value_limit c → Solid (value_text c v)
+unfolding vector_text
+value-solid Int v h = decimal-solid v h
+value-solid Float v h = fewer_marks (digits_text 32 v) (digits_avoid 32 v)
+
+-- facilities
+made : Bool → Bool → Bool → Bool → IsaFlags
+made a b c d = record { has_mie3 = a; has_mie4 = b; has_vxrs_ext2 = c; has_vxrs_ext3 = d }
+
+facilities_back : (a b c d : Bool) → facilities_of (facilities_text (made a b c d)) ≡ made a b c d
+unfolding made word after_word
+facilities_back true true true true = refl
+facilities_back true true true false = refl
+facilities_back true true false true = refl
+facilities_back true true false false = refl
+facilities_back true false true true = refl
+facilities_back true false true false = refl
+facilities_back true false false true = refl
+facilities_back true false false false = refl
+facilities_back false true true true = refl
+facilities_back false true true false = refl
+facilities_back false true false true = refl
+facilities_back false true false false = refl
+facilities_back false false true true = refl
+facilities_back false false true false = refl
+facilities_back false false false true = refl
+facilities_back false false false false = refl
+
+pub facilities-back : (f : IsaFlags) → facilities_of (facilities_text f) ≡ f
+unfolding made
+facilities-back f = facilities_back f.has_mie3 f.has_mie4 f.has_vxrs_ext2 f.has_vxrs_ext3
+
+facility_feed : (b : Bool) (name : List ℕ) → Avoids (10 ∷ []) name → Avoids (10 ∷ []) (facility_text b name)
+facility_feed true name h = (refl, h)
+facility_feed false name h = tt
+
+pub facilities-feed : (f : IsaFlags) → Avoids (10 ∷ []) (facilities_text f)
+facilities-feed f =
+    let bad = 10 ∷ [] in
+    Avoids-append bad (facility_text f.has_mie3 (codes "mie3")) _ (facility_feed f.has_mie3 (codes "mie3") (Avoids-test bad (codes "mie3") refl)) (Avoids-append bad (facility_text f.has_mie4 (codes "mie4")) _ (facility_feed f.has_mie4 (codes "mie4") (Avoids-test bad (codes "mie4") refl)) (Avoids-append bad (facility_text f.has_vxrs_ext2 (codes "vxrs_ext2")) _ (facility_feed f.has_vxrs_ext2 (codes "vxrs_ext2") (Avoids-test bad (codes "vxrs_ext2") refl)) (facility_feed f.has_vxrs_ext3 (codes "vxrs_ext3") (Avoids-test bad (codes "vxrs_ext3") refl))))

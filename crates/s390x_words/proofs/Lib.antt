@@ -1,0 +1,10 @@
+pub mod Members
+pub mod Avoids
+pub mod Digits
+pub mod AtomsBack
+pub mod Lists
+pub mod MemoryBack
+pub mod Registers
+pub mod BytesBack
+pub mod CallsBack
+pub mod OperatorsBack

@@ -1,0 +1,107 @@
+-- Registers, conditions, trap codes and access flags: spelling, range and reading.
+use Rattle.std.specs.Prelude.{ℕ, ◌%◌, ◌<◌, ◌≤◌, Bool, true, false, Option, Some, None, List, [], ◌∷◌, ◌++◌, codes, nat_lt, ◌&&◌, if◌then◌else◌, ◌==◌, slice_index, drop}
+use Rattle.std.specs.Fmt.{decimal}
+use Rattle.std.specs.Str.{bytes_eq}
+use Rattle.s390x_base.specs.Registers.{RealRegister, general, vector, IsRegister}
+use Rattle.s390x_base.specs.Traps.{IsKind}
+use Rattle.s390x_base.specs.declared.regs.RegClass.{RegClass}
+use Rattle.s390x_base.specs.declared.regs.RegClass.TheVariants.{Int, Float}
+use Rattle.s390x_base.specs.declared.regs.Reg.{Reg}
+use Rattle.s390x_base.specs.declared.regs.Reg.TheVariants.{Real, Virtual}
+use Rattle.s390x_base.specs.declared.trap.TrapKind.{TrapKind}
+use Rattle.s390x_base.specs.declared.trap.TrapKind.TheVariants.{StackOverflow, IntegerOverflow, HeapOutOfBounds, IntegerDivisionByZero, BadConversionToInteger, User}
+use Rattle.s390x_base.specs.declared.ir.MachMemFlags.{MachMemFlags}
+use Rattle.s390x_words.specs.Marks.{word, after_word}
+use Rattle.s390x_words.specs.Numbers.{decimal_of, natural_of, W32}
+
+-- registers: `%r0` to `%r15`, `%v0` to `%v31`; `%iN` and `%xN` for virtual ones
+abbrev pub real_letter : RegClass → ℕ
+real_letter Int = 114
+real_letter Float = 118
+
+abbrev pub virtual_letter : RegClass → ℕ
+virtual_letter Int = 105
+virtual_letter Float = 120
+
+abbrev pub real_text : RealRegister → List ℕ
+real_text r = 37 ∷ real_letter r.class ∷ decimal r.number
+
+abbrev pub reg_text : Reg → List ℕ
+reg_text (Real r) = real_text r
+reg_text (Virtual n c) = 37 ∷ virtual_letter c ∷ decimal n
+
+abbrev pub IsReg : Reg → Type 0
+IsReg (Real r) = IsRegister r
+IsReg (Virtual n c) = n < 4294967296
+
+abbrev pub real_of : List ℕ → RealRegister
+real_of w =
+    if slice_index w 1 == 118 then vector (decimal_of (drop 2 w) % 32) else general (decimal_of (drop 2 w) % 16)
+
+abbrev pub reg_of : List ℕ → Reg
+reg_of w =
+    if slice_index w 1 == 105 then Virtual (natural_of W32 (drop 2 w)) Int
+    else if slice_index w 1 == 120 then Virtual (natural_of W32 (drop 2 w)) Float
+    else Real (real_of w)
+
+-- conditions: the mask, 1 to 14
+abbrev pub IsMask : ℕ → Type 0
+IsMask n = (1 ≤ n) × (n ≤ 14)
+
+abbrev pub mask_of : List ℕ → ℕ
+mask_of w = if nat_lt 0 (decimal_of w) && nat_lt (decimal_of w) 15 then decimal_of w else 1
+
+-- trap codes
+abbrev pub trap_text : TrapKind → List ℕ
+trap_text StackOverflow = codes "stk_ovf"
+trap_text IntegerOverflow = codes "int_ovf"
+trap_text HeapOutOfBounds = codes "heap_oob"
+trap_text IntegerDivisionByZero = codes "int_divz"
+trap_text BadConversionToInteger = codes "bad_toint"
+trap_text (User n) = codes "user" ++ decimal n
+
+abbrev pub user_number_of : List ℕ → ℕ
+user_number_of w =
+    if nat_lt 0 (decimal_of (drop 4 w)) && nat_lt (decimal_of (drop 4 w)) 251 then decimal_of (drop 4 w) else 1
+
+abbrev pub trap_of : List ℕ → TrapKind
+trap_of w =
+    if bytes_eq w (codes "stk_ovf") then StackOverflow
+    else if bytes_eq w (codes "int_ovf") then IntegerOverflow
+    else if bytes_eq w (codes "heap_oob") then HeapOutOfBounds
+    else if bytes_eq w (codes "int_divz") then IntegerDivisionByZero
+    else if bytes_eq w (codes "bad_toint") then BadConversionToInteger
+    else User (user_number_of w)
+
+-- what is known of an access: `a` or `u`, and `!` with a trap code where there is one
+abbrev pub aligned_text : Bool → List ℕ
+aligned_text true = 97 ∷ []
+aligned_text false = 117 ∷ []
+
+abbrev pub trap_suffix : Option TrapKind → List ℕ
+trap_suffix None = []
+trap_suffix (Some k) = 33 ∷ trap_text k
+
+abbrev pub access_text : MachMemFlags → List ℕ
+access_text f = aligned_text f.aligned ++ trap_suffix f.trap
+
+abbrev pub IsSuffix : Option TrapKind → Type 0
+IsSuffix None = Unit {0}
+IsSuffix (Some k) = IsKind k
+
+abbrev pub suffix_of : List ℕ → Option TrapKind
+suffix_of s = if slice_index s 0 == 33 then Some (trap_of (word s)) else None
+
+abbrev pub access_of : List ℕ → MachMemFlags
+access_of s = record { aligned = slice_index (word s) 0 == 97; trap = suffix_of (after_word s) }
+
+abbrev pub bool_text : Bool → List ℕ
+bool_text true = codes "true"
+bool_text false = codes "false"
+
+abbrev pub bool_of : List ℕ → Bool
+bool_of w = bytes_eq w (codes "true")
+
+-- symbols: `uN`
+abbrev pub name_of : List ℕ → ℕ
+name_of w = natural_of W32 (drop 1 w)

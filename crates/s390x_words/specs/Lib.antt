@@ -1,0 +1,10 @@
+pub mod Marks
+pub mod Numbers
+pub mod Found
+pub mod Operators
+pub mod Atoms
+pub mod Memory
+pub mod Lists
+pub mod Sets
+pub mod Calls
+pub mod Bytes
