@@ -42,7 +42,7 @@ halfword-set2 bs o v h =
     let e0 : get_or (set2 bs o v) o 0 ≡ v / 256 % 256 = get_or-set_other b1 (o + 1) o (v % 256) 0 ne ∙ get_or-set_same bs o (v / 256 % 256) 0 (omega arith) in
     ap (λ x. x * 256 + get_or (set2 bs o v) (o + 1) 0) e0 ∙ ap (λ y. v / 256 % 256 * 256 + y) e1 ∙ (omega arith)
 
-word-set4 : (bs : List ℕ) (o v : ℕ) → o + 3 < length bs → word (set4 bs o v) o ≡ v % 4294967296
+pub word-set4 : (bs : List ℕ) (o v : ℕ) → o + 3 < length bs → word (set4 bs o v) o ≡ v % 4294967296
 word-set4 bs o v h =
     let x0 = v / 16777216 % 256 in
     let x1 = v / 65536 % 256 in
@@ -136,7 +136,7 @@ ri_back place target even up down =
     elim (cases_lt target place) [ inl lt ↦ ri_below place target ((place - target) / 2 - 1) (omega arith) (omega arith) | inr ge ↦ ri_above place target ((target - place) / 2) (omega arith) (omega arith) ]
 
 -- what a passed use says
-reach_parts : (k : LabelUse) (place target : ℕ) (bs : List ℕ) → can_patch k place target bs ≡ true → ((place + target) % 2 ≡ 0) × (target ≤ place + max_pos_range k) × (place ≤ target + max_neg_range k) × (place + patch_size k ≤ length bs)
+pub reach_parts : (k : LabelUse) (place target : ℕ) (bs : List ℕ) → can_patch k place target bs ≡ true → ((place + target) % 2 ≡ 0) × (target ≤ place + max_pos_range k) × (place ≤ target + max_neg_range k) × (place + patch_size k ≤ length bs)
 reach_parts k place target bs h =
     let a = and_parts (is_in_reach k place target) (sum_fits k (word bs place) place target && nat_le (place + patch_size k) (length bs)) h in
     let b = and_parts (nat_eq ((place + target) % 2) 0) (nat_le target (place + max_pos_range k) && nat_le place (target + max_neg_range k)) a.0 in

@@ -3,3 +3,4 @@ pub mod Branching
 pub mod Declared
 pub mod Keeping
 pub mod Placing
+pub mod Sums

@@ -5,3 +5,4 @@ pub mod Relocs
 pub mod Constants
 pub mod Finish
 pub mod Branches
+pub mod Sums

@@ -5,6 +5,7 @@ pub mod buffer;
 pub mod entries;
 mod finish;
 pub mod label_use;
+pub mod law;
 pub mod mach_inst_label_use;
 mod patch;
 

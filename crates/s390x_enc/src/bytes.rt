@@ -1,5 +1,7 @@
 //! Putting bytes together.
-ghost use Rattle.std.specs.Prelude.{◌≡◌, ◌+◌, ◌*◌, ◌/◌, ◌%◌, ◌^◌, ◌<◌, [], ◌∷◌, slice_index};
+ghost use Rattle.std.specs.Prelude.{◌≡◌, ◌+◌, ◌*◌, ◌/◌, ◌%◌, ◌^◌, ◌<◌, [], ◌∷◌, slice_index, pos, negsuc, ◌≤ℤ◌};
+ghost use Rattle.s390x_format.specs.Distances.{half_of};
+ghost use mir.Syntax.{w16};
 
 use s390x_base::Code;
 
@@ -39,6 +41,23 @@ pub fn low_half(n: u32) -> u16
     ensures { result ≡ n % 65536 }
 {
     (n % 65536) as u16
+}
+
+/// The 16 bits of half of an even distance.
+pub fn half16(distance: i32) -> u16
+    requires low { negsuc 65535 ≤ℤ distance }
+    requires high { distance ≤ℤ pos 65534 }
+    ensures { result ≡ half_of w16 distance }
+{
+    let half = (distance / 2) as i16;
+    half.cast_unsigned()
+}
+
+/// The 32 bits of half of an even distance.
+pub fn half32(distance: u32) -> u32
+    ensures { result ≡ distance / 2 }
+{
+    distance / 2
 }
 
 /// The code of two bytes.

@@ -15,7 +15,7 @@ ghost use Rattle.s390x_format.specs.declared.kind.FormatKind.{FormatKind};
 ghost use Rattle.s390x_format.specs.Encoded.{slots, IsCode};
 ghost use Rattle.s390x_enc.specs.Operands.{is_general, may_stand_first, may_stand_second};
 
-use crate::bytes::{four, halves, high_half, low_half, lower, six, two, upper};
+use crate::bytes::{four, half16, half32, halves, high_half, low_half, lower, six, two, upper};
 use crate::operands::{first, general, second};
 use s390x_base::{Code, EmitError, Reg};
 
@@ -49,13 +49,12 @@ pub fn enc_ri_b(opcode: u16, r1: Reg, ri2: i32) -> Result<Code, EmitError>
     ensures { let ok = is_general r1 in MatchResult result (λ code. (ok ≡ true) × IsCode FormatKind.RiB (slots opcode (number_of r1 ∷ []) [] (half_of w16 ri2) 0) code) (λ e. (e ≡ EmitError.BadRegister) × (ok ≡ false)) }
 {
     let n1 = general(r1)?;
-    let half = (ri2 / 2) as i16;
-    let bits = half.cast_unsigned();
+    let half = half16(ri2);
     Ok(four(
         (opcode / 16) as u8,
         halves(n1, (opcode % 16) as u8),
-        upper(bits),
-        lower(bits),
+        upper(half),
+        lower(half),
     ))
 }
 
@@ -68,13 +67,12 @@ pub fn enc_ri_c(opcode: u16, m1: u8, ri2: i32) -> Result<Code, EmitError>
     requires even { int_rem ri2 (pos 2) ≡ pos 0 }
     ensures { MatchResult result (λ code. IsCode FormatKind.RiC (slots opcode [] (m1 ∷ []) (half_of w16 ri2) 0) code) (λ _. ⊥) }
 {
-    let half = (ri2 / 2) as i16;
-    let bits = half.cast_unsigned();
+    let half = half16(ri2);
     Ok(four(
         (opcode / 16) as u8,
         halves(m1, (opcode % 16) as u8),
-        upper(bits),
-        lower(bits),
+        upper(half),
+        lower(half),
     ))
 }
 
@@ -158,7 +156,7 @@ pub fn enc_ril_b(opcode: u16, r1: Reg, ri2: u32) -> Result<Code, EmitError>
     ensures { let ok = is_general r1 in MatchResult result (λ code. (ok ≡ true) × IsCode FormatKind.RilB (slots opcode (number_of r1 ∷ []) [] (ri2 / 2) 0) code) (λ e. (e ≡ EmitError.BadRegister) × (ok ≡ false)) }
 {
     let n1 = general(r1)?;
-    let half = ri2 / 2;
+    let half = half32(ri2);
     Ok(six([
         (opcode / 16) as u8,
         halves(n1, (opcode % 16) as u8),
@@ -176,7 +174,7 @@ pub fn enc_ril_c(opcode: u16, m1: u8, ri2: u32) -> Result<Code, EmitError>
     requires even { ri2 % 2 ≡ 0 }
     ensures { MatchResult result (λ code. IsCode FormatKind.RilC (slots opcode [] (m1 ∷ []) (ri2 / 2) 0) code) (λ _. ⊥) }
 {
-    let half = ri2 / 2;
+    let half = half32(ri2);
     Ok(six([
         (opcode / 16) as u8,
         halves(m1, (opcode % 16) as u8),

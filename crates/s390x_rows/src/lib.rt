@@ -2,6 +2,13 @@
 #![tactic(auto)]
 
 #[cfg(test)]
+mod buffer;
+#[cfg(test)]
+mod buffer_tables;
+#[cfg(test)]
+mod decoder;
+
+#[cfg(test)]
 mod tests {
     use s390x_base::{
         Cond, ConstantData, EmitError, ExternalName, MachLabel, TrapCode, gpr, writable_gpr,
