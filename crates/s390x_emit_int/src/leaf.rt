@@ -5,7 +5,7 @@ ghost use Rattle.std.specs.Prelude.{◌≡◌, ◌<◌, [], ◌∷◌, OnOk};
 ghost use Rattle.s390x_base.specs.Regs.{number_of};
 ghost use Rattle.s390x_buffer.specs.Keeps.{Keeps};
 ghost use Rattle.s390x_steps.specs.MachineInstruction.{rr, bytes_of};
-ghost use Rattle.s390x_steps.specs.Parts.{Row, Branch, ToBlock};
+ghost use Rattle.s390x_steps.specs.Parts.{Row, Branch, Relative, ToBlock};
 ghost use Rattle.s390x_emit_int.specs.Alone.{instruction_of};
 ghost use Rattle.s390x_emit_int.specs.Pieces.{Put, apply, run};
 ghost use Rattle.s390x_emit_int.specs.Emission.{branch, part_pieces, branch_pieces, leaf_pieces};
@@ -14,7 +14,7 @@ ghost use Rattle.s390x_steps.specs.Ranges.{InRange, IsMask};
 use crate::alone::{RegisterRow, find_alone};
 use s390x_base::{Cond, EmitError, MachLabel, Reg, gpr};
 use s390x_buffer::{LabelUse, MachBuffer};
-use s390x_enc::{enc_ril_c, enc_rr};
+use s390x_enc::{enc_ril_b, enc_ril_c, enc_rr};
 use s390x_inst::Inst;
 
 /// BRANCH RELATIVE ON CONDITION LONG to a label under a mask; the buffer's end fills the distance in.
@@ -35,6 +35,17 @@ fn emit_branch_register(sink: &mut MachBuffer, rn: Reg) -> Result<(), EmitError>
     ensures kept { Keeps sink.old sink.new }
 {
     let code = enc_rr(0x07, gpr(15), rn)?;
+    sink.put_code(&code)
+}
+
+// LOAD ADDRESS RELATIVE LONG of a label into a register; the buffer's end fills the distance in, as it does a branch's.
+fn emit_address(sink: &mut MachBuffer, dst: Reg, label: MachLabel) -> Result<(), EmitError>
+    ensures answer { OnOk result (sink.new ≡ run sink.old (part_pieces (Relative 0xc00 (number_of dst) (ToBlock label.0) ∷ []))) }
+    ensures kept { Keeps sink.old sink.new }
+{
+    let code = enc_ril_b(0xc00, dst, 0)?;
+    let offset = sink.cur_offset();
+    sink.use_label_at_offset(offset, label, LabelUse::BranchRIL)?;
     sink.put_code(&code)
 }
 
@@ -83,6 +94,7 @@ fn emit_branch(sink: &mut MachBuffer, inst: &Inst, after: MachLabel) -> Result<(
         Inst::IndirectBr { rn, .. } => emit_branch_register(sink, *rn),
         Inst::Ret { link } => emit_branch_register(sink, *link),
         Inst::CondBreak { cond } => emit_break(sink, *cond, after),
+        Inst::LabelAddress { dst, label } => emit_address(sink, dst.to_reg(), *label),
         _ => Err(EmitError::BadOperator),
     }
 }

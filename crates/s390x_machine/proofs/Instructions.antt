@@ -8,7 +8,7 @@ use Rattle.s390x_base.specs.declared.regs.Reg.TheVariants.{Real}
 use Rattle.s390x_base.specs.declared.trap.TrapKind.{TrapKind}
 use Rattle.s390x_inst.specs.declared.ops.ALUOp.{ALUOp}
 use Rattle.s390x_inst.specs.declared.inst.Inst.{Inst}
-use Rattle.s390x_inst.specs.declared.inst.Inst.TheVariants.{AluRRR, AluRR, AluRRSImm16, AluRSImm16, AluRSImm32, AluRUImm32, UnaryRR, CmpRR, CmpRSImm16, CmpRSImm32, CmpRUImm32, Mov64, MovPReg, Mov32, Mov32Imm, Mov32SImm16, Mov64SImm16, Mov64SImm32, Jump, CondBr, IndirectBr, Ret}
+use Rattle.s390x_inst.specs.declared.inst.Inst.TheVariants.{AluRRR, AluRR, AluRRSImm16, AluRSImm16, AluRSImm32, AluRUImm32, UnaryRR, CmpRR, CmpRSImm16, CmpRSImm32, CmpRUImm32, Mov64, MovPReg, Mov32, Mov32Imm, Mov32SImm16, Mov64SImm16, Mov64SImm32, Jump, CondBr, IndirectBr, Ret, LabelAddress}
 use Rattle.s390x_format.specs.Formats.{length_of}
 use Rattle.s390x_format.specs.declared.kind.FormatKind.TheVariants.{Rr, RiA, RieD, RilA}
 use Rattle.s390x_steps.specs.General.{is_general, reuses, low_halfword, low_word}
@@ -17,7 +17,7 @@ use Rattle.s390x_steps.specs.Alone.{alone_with, two_operands, two_row, three_row
 use Rattle.s390x_steps.specs.Ranges.{IsMask}
 use Rattle.s390x_steps.specs.MachineInstruction.{MachineInstruction, bytes_of, size_of, rr, rre, rrf_ab, ri_a, rie_d, ril_a, ril_c}
 use Rattle.s390x_steps.specs.Steps.{Step, Plain, Opening, Back, Break}
-use Rattle.s390x_steps.specs.Parts.{ToBlock, ToStep, Row, Branch, parts_size, parts_or, step_parts}
+use Rattle.s390x_steps.specs.Parts.{ToBlock, ToStep, Row, Branch, Relative, parts_size, parts_or, step_parts}
 use Rattle.s390x_steps.specs.Rows.{rows_of}
 use Rattle.s390x_operations.specs.State.{Registers, sum64}
 use Rattle.s390x_operations.specs.Effects.{Refines}
@@ -43,7 +43,7 @@ use Rattle.s390x_machine.proofs.Fetching.{StandsAt}
 use Rattle.s390x_machine.proofs.Simulation.{RowAt, DoesAs, Coded, ValuesCoded, at_start, general_step}
 use Rattle.s390x_machine.proofs.Standing.{step_rows, offset_even, offset_small, inside_at, inside_first, next_place, block_at}
 use Rattle.s390x_machine.proofs.Stops.{never_by_values}
-use Rattle.s390x_machine.proofs.Rows.{general_number, nonzero_number, bcr_at, brcl_at}
+use Rattle.s390x_machine.proofs.Rows.{general_number, nonzero_number, bcr_at, brcl_at, larl_at}
 use Rattle.s390x_machine.proofs.Alone.{TwoRow, ThreeRow, TwoRows, ThreeRows, second_register, computed, register_fields, alu_three_rows, alu_two_rows, cmp_rows, unary_rows, lgr_row, lr_row, two_at, three_at, ImmediateRows, compared, halfword_rows, three_halfword_rows, signed_word_rows, unsigned_word_rows, cmp_halfword_rows, cmp_signed_word_rows, cmp_unsigned_word_rows, iilf_row, lhi_row, lghi_row, lgfi_row, halfword_at, word_at, three_halfword_at, compare_halfword_at, compare_word_at, loosens, three_looser, two_looser}
 use Rattle.s390x_machine.proofs.Branches.{jump_runs, TwoBranches, choose_runs, leads_runs, returns_runs, address_runs}
 use Rattle.s390x_machine.proofs.Induction.{turns_of, one_step}
@@ -133,49 +133,49 @@ module _ (L : Layout) (all : AllPlaced L) (k : ℕ) (s : Step) (at : slice_get L
   small : L.places.step k < 2 ^ 31
   small = offset_small L all k (omega (arith, within))
 
-  formed : (f : Form) → form_of (Some s) ≡ Some f → form_at L k ≡ Some f
-  formed f e = ap form_of at ∙ e
+  formed : (f : Form) → form_of L (Some s) ≡ Some f → form_at L k ≡ Some f
+  formed f e = ap (form_of L) at ∙ e
 
-  two_runs : (opcode : ℕ) (meaning : Meaning) → TwoRow opcode meaning → (does operation : Registers → Operation) (d m : ℕ) → form_of (Some s) ≡ Some (Performs false operation no_code) → step_parts s ≡ Row (two_operands opcode d m) ∷ [] → d < 16 → m < 16 → ((r : Registers) (p : ℕ) → action meaning (register_fields d m 0) r p ≡ Perform (does r)) → ((r : Registers) → Refines (does r) (operation r)) → NeverStops operation → StepRuns L k
+  two_runs : (opcode : ℕ) (meaning : Meaning) → TwoRow opcode meaning → (does operation : Registers → Operation) (d m : ℕ) → form_of L (Some s) ≡ Some (Performs false operation no_code) → step_parts s ≡ Row (two_operands opcode d m) ∷ [] → d < 16 → m < 16 → ((r : Registers) (p : ℕ) → action meaning (register_fields d m 0) r p ≡ Perform (does r)) → ((r : Registers) → Refines (does r) (operation r)) → NeverStops operation → StepRuns L k
   two_runs opcode meaning row does operation d m is parts ld lm acts refines never =
       let one = one_row L k s placed (two_operands opcode d m) parts in
       row_alone L k operation no_code (λ r. Perform (does r)) (size_of (two_operands opcode d m)) (formed _ is) (two_at L all (L.places.step k) even opcode meaning row does d m ld lm acts one.stands) refines (uncoded L (place L k)) never one.size (two_some opcode d m)
 
-  three_runs : (opcode : ℕ) (meaning : Meaning) → ThreeRow opcode meaning → (does operation : Registers → Operation) (d n m : ℕ) → form_of (Some s) ≡ Some (Performs false operation no_code) → step_parts s ≡ Row (rrf_ab opcode d n m 0) ∷ [] → d < 16 → n < 16 → m < 16 → ((r : Registers) (p : ℕ) → action meaning (register_fields d n m) r p ≡ Perform (does r)) → ((r : Registers) → Refines (does r) (operation r)) → NeverStops operation → StepRuns L k
+  three_runs : (opcode : ℕ) (meaning : Meaning) → ThreeRow opcode meaning → (does operation : Registers → Operation) (d n m : ℕ) → form_of L (Some s) ≡ Some (Performs false operation no_code) → step_parts s ≡ Row (rrf_ab opcode d n m 0) ∷ [] → d < 16 → n < 16 → m < 16 → ((r : Registers) (p : ℕ) → action meaning (register_fields d n m) r p ≡ Perform (does r)) → ((r : Registers) → Refines (does r) (operation r)) → NeverStops operation → StepRuns L k
   unfolding length_of
   three_runs opcode meaning row does operation d n m is parts ld ln lm acts refines never =
       let one = one_row L k s placed (rrf_ab opcode d n m 0) parts in
       row_alone L k operation no_code (λ r. Perform (does r)) 4 (formed _ is) (three_at L all (L.places.step k) even opcode meaning row does d n m ld ln lm acts one.stands) refines (uncoded L (place L k)) never one.size (omega arith)
 
   -- a row of a register and an immediate, which does the step's operation
-  immediate_runs : (m : MachineInstruction) (operation : Registers → Operation) → NeverStops operation → form_of (Some s) ≡ Some (Performs false operation no_code) → step_parts s ≡ Row m ∷ [] → 0 < size_of m → (StandsAt L.image (L.places.step k) (bytes_of m) → RowAt L (place L k) (λ r. Perform (operation r)) (size_of m)) → StepRuns L k
+  immediate_runs : (m : MachineInstruction) (operation : Registers → Operation) → NeverStops operation → form_of L (Some s) ≡ Some (Performs false operation no_code) → step_parts s ≡ Row m ∷ [] → 0 < size_of m → (StandsAt L.image (L.places.step k) (bytes_of m) → RowAt L (place L k) (λ r. Perform (operation r)) (size_of m)) → StepRuns L k
   immediate_runs m operation never is parts some at_row =
       let one = one_row L k s placed m parts in
       row_alone L k operation no_code (λ r. Perform (operation r)) (size_of m) (formed _ is) (at_row one.stands) (λ r. exactly (operation r)) (uncoded L (place L k)) never one.size some
 
   -- an operator with an immediate of 16 bits, or of 32, where it has a row
-  one_of_halfword : (fine : Bool) (o : Option ℕ) (c : Computation) (rule : CodeRule) → ImmediateRows RiA 4096 o (computed c Immediate rule) → (d bits : ℕ) → form_of (Some s) ≡ Some (Performs false (computes_immediate rule c d d bits) no_code) → step_parts s ≡ parts_or (alone_with fine (halfword_row o d bits)) [] → FineOr (alone_with fine (halfword_row o d bits)) ⊥ → (IsTrue fine → d < 16) → bits < 2 ^ 16 → StepRuns L k
+  one_of_halfword : (fine : Bool) (o : Option ℕ) (c : Computation) (rule : CodeRule) → ImmediateRows RiA 4096 o (computed c Immediate rule) → (d bits : ℕ) → form_of L (Some s) ≡ Some (Performs false (computes_immediate rule c d d bits) no_code) → step_parts s ≡ parts_or (alone_with fine (halfword_row o d bits)) [] → FineOr (alone_with fine (halfword_row o d bits)) ⊥ → (IsTrue fine → d < 16) → bits < 2 ^ 16 → StepRuns L k
   unfolding length_of
   one_of_halfword fine None c rule row d bits is parts h small lb = absurd h
   one_of_halfword fine (Some opcode) c rule row d bits is parts h small lb = immediate_runs (ri_a opcode d bits) (computes_immediate rule c d d bits) (computes_immediate_always rule c d d bits) is parts (omega arith) (λ st. halfword_at L all (L.places.step k) even opcode c rule row d bits (small h) lb st)
 
-  one_of_word : (fine : Bool) (o : Option ℕ) (c : Computation) (rule : CodeRule) → ImmediateRows RilA 4096 o (computed c Immediate rule) → (d bits : ℕ) → form_of (Some s) ≡ Some (Performs false (computes_immediate rule c d d bits) no_code) → step_parts s ≡ parts_or (alone_with fine (word_row o d bits)) [] → FineOr (alone_with fine (word_row o d bits)) ⊥ → (IsTrue fine → d < 16) → bits < 2 ^ 32 → StepRuns L k
+  one_of_word : (fine : Bool) (o : Option ℕ) (c : Computation) (rule : CodeRule) → ImmediateRows RilA 4096 o (computed c Immediate rule) → (d bits : ℕ) → form_of L (Some s) ≡ Some (Performs false (computes_immediate rule c d d bits) no_code) → step_parts s ≡ parts_or (alone_with fine (word_row o d bits)) [] → FineOr (alone_with fine (word_row o d bits)) ⊥ → (IsTrue fine → d < 16) → bits < 2 ^ 32 → StepRuns L k
   unfolding length_of
   one_of_word fine None c rule row d bits is parts h small lb = absurd h
   one_of_word fine (Some opcode) c rule row d bits is parts h small lb = immediate_runs (ril_a opcode d bits) (computes_immediate rule c d d bits) (computes_immediate_always rule c d d bits) is parts (omega arith) (λ st. word_at L all (L.places.step k) even opcode c rule row d bits (small h) lb st)
 
-  compare_of_halfword : (fine : Bool) (o : Option ℕ) (c : Comparison) → ImmediateRows RiA 4096 o (compared c) → (n bits : ℕ) → form_of (Some s) ≡ Some (Performs false (compares_immediate c n bits) no_code) → step_parts s ≡ parts_or (alone_with fine (halfword_row o n bits)) [] → FineOr (alone_with fine (halfword_row o n bits)) ⊥ → (IsTrue fine → n < 16) → bits < 2 ^ 16 → StepRuns L k
+  compare_of_halfword : (fine : Bool) (o : Option ℕ) (c : Comparison) → ImmediateRows RiA 4096 o (compared c) → (n bits : ℕ) → form_of L (Some s) ≡ Some (Performs false (compares_immediate c n bits) no_code) → step_parts s ≡ parts_or (alone_with fine (halfword_row o n bits)) [] → FineOr (alone_with fine (halfword_row o n bits)) ⊥ → (IsTrue fine → n < 16) → bits < 2 ^ 16 → StepRuns L k
   unfolding length_of
   compare_of_halfword fine None c row n bits is parts h small lb = absurd h
   compare_of_halfword fine (Some opcode) c row n bits is parts h small lb = immediate_runs (ri_a opcode n bits) (compares_immediate c n bits) (compares_immediate_always c n bits) is parts (omega arith) (λ st. compare_halfword_at L all (L.places.step k) even opcode c row n bits (small h) lb st)
 
-  compare_of_word : (fine : Bool) (o : Option ℕ) (c : Comparison) → ImmediateRows RilA 4096 o (compared c) → (n bits : ℕ) → form_of (Some s) ≡ Some (Performs false (compares_immediate c n bits) no_code) → step_parts s ≡ parts_or (alone_with fine (word_row o n bits)) [] → FineOr (alone_with fine (word_row o n bits)) ⊥ → (IsTrue fine → n < 16) → bits < 2 ^ 32 → StepRuns L k
+  compare_of_word : (fine : Bool) (o : Option ℕ) (c : Comparison) → ImmediateRows RilA 4096 o (compared c) → (n bits : ℕ) → form_of L (Some s) ≡ Some (Performs false (compares_immediate c n bits) no_code) → step_parts s ≡ parts_or (alone_with fine (word_row o n bits)) [] → FineOr (alone_with fine (word_row o n bits)) ⊥ → (IsTrue fine → n < 16) → bits < 2 ^ 32 → StepRuns L k
   unfolding length_of
   compare_of_word fine None c row n bits is parts h small lb = absurd h
   compare_of_word fine (Some opcode) c row n bits is parts h small lb = immediate_runs (ril_a opcode n bits) (compares_immediate c n bits) (compares_immediate_always c n bits) is parts (omega arith) (λ st. compare_word_at L all (L.places.step k) even opcode c row n bits (small h) lb st)
 
   -- an immediate of 16 bits into another register, or two operands where the input is the output
-  three_halfword_runs : (fine : Bool) (three two : Option ℕ) (c : Computation) (rule : CodeRule) → ImmediateRows RieD 65536 three (computed c ThreeImmediate rule) → ImmediateRows RiA 4096 two (computed c Immediate rule) → (d n bits : ℕ) → form_of (Some s) ≡ Some (Performs false (computes_immediate rule c d n bits) no_code) → step_parts s ≡ parts_or (alone_with fine (three_halfword_row three two d n bits)) [] → FineOr (alone_with fine (three_halfword_row three two d n bits)) ⊥ → (IsTrue fine → (d < 16) × (n < 16)) → bits < 2 ^ 16 → StepRuns L k
+  three_halfword_runs : (fine : Bool) (three two : Option ℕ) (c : Computation) (rule : CodeRule) → ImmediateRows RieD 65536 three (computed c ThreeImmediate rule) → ImmediateRows RiA 4096 two (computed c Immediate rule) → (d n bits : ℕ) → form_of L (Some s) ≡ Some (Performs false (computes_immediate rule c d n bits) no_code) → step_parts s ≡ parts_or (alone_with fine (three_halfword_row three two d n bits)) [] → FineOr (alone_with fine (three_halfword_row three two d n bits)) ⊥ → (IsTrue fine → (d < 16) × (n < 16)) → bits < 2 ^ 16 → StepRuns L k
   unfolding length_of
   three_halfword_runs fine None two c rule row3 row2 d n bits is parts h small lb = absurd h
   three_halfword_runs fine (Some three) None c rule row3 row2 d n bits is parts h small lb =
@@ -193,12 +193,12 @@ module _ (L : Layout) (all : AllPlaced L) (k : ℕ) (s : Step) (at : slice_get L
           immediate_runs (rie_d three d n bits) (computes_immediate rule c d n bits) (computes_immediate_always rule c d n bits) is is_row (omega arith) (λ st. three_halfword_at L all (L.places.step k) even three c rule row3 d n bits l.0 l.1 lb st)
 
   -- an instruction of one row of two registers, where its operator has one
-  one_of_two : (fine : Bool) (o : Option ℕ) (meaning : Meaning) → TwoRows o meaning → (does operation : Registers → Operation) (d m : ℕ) → form_of (Some s) ≡ Some (Performs false operation no_code) → step_parts s ≡ parts_or (alone_with fine (two_row o d m)) [] → FineOr (alone_with fine (two_row o d m)) ⊥ → (IsTrue fine → (d < 16) × (m < 16)) → ((r : Registers) (p : ℕ) → action meaning (register_fields d m 0) r p ≡ Perform (does r)) → ((r : Registers) → Refines (does r) (operation r)) → NeverStops operation → StepRuns L k
+  one_of_two : (fine : Bool) (o : Option ℕ) (meaning : Meaning) → TwoRows o meaning → (does operation : Registers → Operation) (d m : ℕ) → form_of L (Some s) ≡ Some (Performs false operation no_code) → step_parts s ≡ parts_or (alone_with fine (two_row o d m)) [] → FineOr (alone_with fine (two_row o d m)) ⊥ → (IsTrue fine → (d < 16) × (m < 16)) → ((r : Registers) (p : ℕ) → action meaning (register_fields d m 0) r p ≡ Perform (does r)) → ((r : Registers) → Refines (does r) (operation r)) → NeverStops operation → StepRuns L k
   one_of_two fine None meaning row does operation d m is parts h small acts refines never = absurd h
   one_of_two fine (Some opcode) meaning row does operation d m is parts h small acts refines never = let l = small h in two_runs opcode meaning row does operation d m is parts l.0 l.1 acts refines never
 
   -- an operator on three registers: its row of three, or that of two where the first input is the output
-  alu_three_runs : (op : ALUOp) (fine : Bool) (d n m : ℕ) → form_of (Some s) ≡ Some (Performs false (computes (alu_three_rule op) (alu_computation op) d n m) no_code) → step_parts s ≡ parts_or (alone_with fine (three_row (alu_three op) (alu_two op) d n m)) [] → FineOr (alone_with fine (three_row (alu_three op) (alu_two op) d n m)) ⊥ → (IsTrue fine → (d < 16) × (n < 16) × (m < 16)) → StepRuns L k
+  alu_three_runs : (op : ALUOp) (fine : Bool) (d n m : ℕ) → form_of L (Some s) ≡ Some (Performs false (computes (alu_three_rule op) (alu_computation op) d n m) no_code) → step_parts s ≡ parts_or (alone_with fine (three_row (alu_three op) (alu_two op) d n m)) [] → FineOr (alone_with fine (three_row (alu_three op) (alu_two op) d n m)) ⊥ → (IsTrue fine → (d < 16) × (n < 16) × (m < 16)) → StepRuns L k
   alu_three_runs op fine d n m is parts h small = go (alu_three op) refl (alu_three_rows op) (alu_two op) (alu_two_rows op) parts h
     where
       c : Computation
@@ -233,14 +233,14 @@ module _ (L : Layout) (all : AllPlaced L) (k : ℕ) (s : Step) (at : slice_get L
   block_small : (b : ℕ) → IsBlock L b → L.places.block b < 2 ^ 31
   block_small b is = omega (arith, all.blocks b is, offset_small L all (L.first_step b) (all.first_steps b is))
 
-  goto_runs : (b : ℕ) → form_of (Some s) ≡ Some (GoesTo b) → step_parts s ≡ Branch 15 (ToBlock b) ∷ [] → IsBlock L b → StepRuns L k
+  goto_runs : (b : ℕ) → form_of L (Some s) ≡ Some (GoesTo b) → step_parts s ≡ Branch 15 (ToBlock b) ∷ [] → IsBlock L b → StepRuns L k
   unfolding length_of
   goto_runs b is parts known =
       let rows = subst (λ ps. Rattle.s390x_machine.proofs.Standing.RowsStand L (L.places.step k) (rows_of L.places (L.places.step k) ps)) parts (step_rows L k s placed) in
       let size : L.places.step (suc k) ≡ L.places.step k + 6 = placed.size ∙ ap (λ ps. L.places.step k + parts_size ps) parts in
       jump_runs L k b (λ r. BranchAction 15 (block_place L b)) 6 (block_place L b) (formed _ is) (brcl_at L all (L.places.step k) even 15 (L.places.block b) (omega arith) small (block_even b known) (block_small b known) rows.0) (λ r. refl) (block_at L all b known) (inside_first L k 6 size (omega arith))
 
-  condbr_runs : (mask a b : ℕ) → form_of (Some s) ≡ Some (Chooses mask a b) → step_parts s ≡ Branch mask (ToBlock a) ∷ Branch 15 (ToBlock b) ∷ [] → mask < 16 → IsBlock L a → IsBlock L b → StepRuns L k
+  condbr_runs : (mask a b : ℕ) → form_of L (Some s) ≡ Some (Chooses mask a b) → step_parts s ≡ Branch mask (ToBlock a) ∷ Branch 15 (ToBlock b) ∷ [] → mask < 16 → IsBlock L a → IsBlock L b → StepRuns L k
   unfolding length_of
   condbr_runs mask a b is parts lm known_a known_b =
       let o = L.places.step k in
@@ -260,14 +260,23 @@ module _ (L : Layout) (all : AllPlaced L) (k : ℕ) (s : Step) (at : slice_get L
       } in
       choose_runs L k mask a b (formed _ is) two
 
-  loop_runs : (mask j : ℕ) → form_of (Some s) ≡ Some (Leads mask j) → step_parts s ≡ Branch mask (ToStep j) ∷ [] → mask < 16 → j ≤ length L.steps → StepRuns L k
+  -- the address of a block
+  label_runs : (d b : ℕ) → form_of L (Some s) ≡ Some (Performs false (computes_immediate Kept (on_doublewords Move) d d (block_place L b)) no_code) → step_parts s ≡ Relative 0xc00 d (ToBlock b) ∷ [] → d < 16 → IsBlock L b → StepRuns L k
+  unfolding length_of
+  label_runs d b is parts ld known =
+      let rows = subst (λ ps. Rattle.s390x_machine.proofs.Standing.RowsStand L (L.places.step k) (rows_of L.places (L.places.step k) ps)) parts (step_rows L k s placed) in
+      let size : L.places.step (suc k) ≡ L.places.step k + 6 = placed.size ∙ ap (λ ps. L.places.step k + parts_size ps) parts in
+      let operation = computes_immediate Kept (on_doublewords Move) d d (block_place L b) in
+      row_alone L k operation no_code (λ r. Perform (operation r)) 6 (formed _ is) (larl_at L all (L.places.step k) even d (L.places.block b) ld small (block_even b known) (block_small b known) rows.0) (λ r. exactly (operation r)) (uncoded L (place L k)) (computes_immediate_always Kept (on_doublewords Move) d d (block_place L b)) size (omega arith)
+
+  loop_runs : (mask j : ℕ) → form_of L (Some s) ≡ Some (Leads mask j) → step_parts s ≡ Branch mask (ToStep j) ∷ [] → mask < 16 → j ≤ length L.steps → StepRuns L k
   unfolding length_of
   loop_runs mask j is parts lm le =
       let rows = subst (λ ps. Rattle.s390x_machine.proofs.Standing.RowsStand L (L.places.step k) (rows_of L.places (L.places.step k) ps)) parts (step_rows L k s placed) in
       let size : L.places.step (suc k) ≡ L.places.step k + 6 = placed.size ∙ ap (λ ps. L.places.step k + parts_size ps) parts in
       leads_runs L k mask j 6 (formed _ is) (brcl_at L all (L.places.step k) even mask (L.places.step j) lm small (offset_even L all j le) (offset_small L all j le) rows.0) (next_place L k 6 size) (inside_first L k 6 size (omega arith))
 
-  opening_runs : form_of (Some s) ≡ Some Silent → step_parts s ≡ [] → StepRuns L k
+  opening_runs : form_of L (Some s) ≡ Some Silent → step_parts s ≡ [] → StepRuns L k
   opening_runs is parts c lies turns run =
       let size : L.places.step (suc k) ≡ L.places.step k = placed.size ∙ ap (λ ps. L.places.step k + parts_size ps) parts ∙ omega arith in
       silent (subst (λ f. FormStep L f k c (At (suc k)) c) (sym (formed Silent is)) (refl, refl)) within (ap (λ n. sum64 L.image.base n) (sym size))
@@ -318,10 +327,11 @@ instruction_runs L all k (Jump dest) at p fine = goto_runs L all k (Plain (Jump 
 instruction_runs L all k (CondBr taken not_taken mask) at p fine = condbr_runs L all k (Plain (CondBr taken not_taken mask)) at p mask taken.0 not_taken.0 refl refl (small_mask mask fine.2) fine.0 fine.1
 instruction_runs L all k (IndirectBr rn targets) at p fine =
     let row = register_row L all k (Plain (IndirectBr rn targets)) at p (number_of rn) refl (general_number rn fine.0) (nonzero_number rn fine.0 fine.1) in
-    address_runs L all k (number_of rn) (length_of Rr) targets.items (ap form_of at) fine.2 row.0 row.1
+    address_runs L all k (number_of rn) (length_of Rr) targets.items (ap (form_of L) at) fine.2 row.0 row.1
 instruction_runs L all k (Ret link) at p fine =
     let row = register_row L all k (Plain (Ret link)) at p (number_of link) refl (general_number link fine.0) (nonzero_number link fine.0 fine.1) in
-    returns_runs L k (number_of link) (length_of Rr) (ap form_of at) row.0 row.1
+    returns_runs L k (number_of link) (length_of Rr) (ap (form_of L) at) row.0 row.1
+instruction_runs L all k (LabelAddress dst label) at p fine = label_runs L all k (Plain (LabelAddress dst label)) at p (number_of dst) label.0 refl refl (general_number dst fine.0) fine.1
 instruction_runs L all k _ at p fine = absurd fine
 
 pub step_runs : (L : Layout) → AllPlaced L → (k : ℕ) (s : Step) → slice_get L.steps k ≡ Some s → Placed L k s → IsFine L s → StepRuns L k

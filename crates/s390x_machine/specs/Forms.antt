@@ -6,7 +6,7 @@ use Rattle.s390x_base.specs.declared.ir.MachLabel.{MachLabel}
 use Rattle.s390x_base.specs.declared.trap.TrapKind.{TrapKind}
 use Rattle.s390x_base.specs.declared.trap.TrapKind.TheVariants.{IntegerDivisionByZero}
 use Rattle.s390x_inst.specs.declared.inst.Inst.{Inst}
-use Rattle.s390x_inst.specs.declared.inst.Inst.TheVariants.{AluRRR, AluRR, AluRRSImm16, AluRSImm16, AluRSImm32, AluRUImm32, UnaryRR, CmpRR, CmpRSImm16, CmpRSImm32, CmpRUImm32, Mov64, MovPReg, Mov32, Mov32Imm, Mov32SImm16, Mov64SImm16, Mov64SImm32, Jump, CondBr, IndirectBr, Ret}
+use Rattle.s390x_inst.specs.declared.inst.Inst.TheVariants.{AluRRR, AluRR, AluRRSImm16, AluRSImm16, AluRSImm32, AluRUImm32, UnaryRR, CmpRR, CmpRSImm16, CmpRSImm32, CmpRUImm32, Mov64, MovPReg, Mov32, Mov32Imm, Mov32SImm16, Mov64SImm16, Mov64SImm32, Jump, CondBr, IndirectBr, Ret, LabelAddress}
 use Rattle.s390x_operations.specs.State.{Registers}
 use Rattle.s390x_operations.specs.declared.operator.Operator.TheVariants.{Move}
 use Rattle.s390x_operations.specs.declared.effect.CodeRule.TheVariants.{Kept}
@@ -14,6 +14,7 @@ use Rattle.s390x_operations.specs.declared.effect.Operation.{Operation}
 use Rattle.s390x_operations.specs.declared.stop.StopKind.{StopKind}
 use Rattle.s390x_operations.specs.declared.stop.StopKind.TheVariants.{Access, Specification, Divide, CompareTrap}
 use Rattle.s390x_machine.specs.Computations.{computes, compares, alu_computation, alu_three_rule, alu_two_rule, unary_computation, unary_rule, comparison, on_words, on_doublewords, word, signed_word, signed_halfword, on_immediate, compares_on_immediate, computes_immediate, compares_immediate}
+use Rattle.s390x_machine.specs.Layout.{Layout, block_place}
 use Rattle.s390x_steps.specs.General.{low_halfword, low_word}
 use Rattle.s390x_steps.specs.Steps.{Step, Plain, Opening, Back, Break}
 
@@ -79,27 +80,28 @@ access_code flags kind = None
 abbrev pub on_registers : (Registers → Operation) → Option Performed
 on_registers operation = Some (record { operation = operation; needs = false; code = no_code })
 
--- the instructions that are one operation; a move has no first operand
-abbrev pub performed : Inst → Option Performed
-performed (AluRRR op rd rn rm) = on_registers (computes (alu_three_rule op) (alu_computation op) (number_of rd) (number_of rn) (number_of rm))
-performed (AluRR op rd ri rm) = on_registers (computes (alu_two_rule op) (alu_computation op) (number_of rd) (number_of rd) (number_of rm))
-performed (UnaryRR op rd rn) = on_registers (computes (unary_rule op) (unary_computation op) (number_of rd) (number_of rd) (number_of rn))
-performed (CmpRR op rn rm) = on_registers (compares (comparison op) (number_of rn) (number_of rm))
-performed (Mov64 rd rm) = on_registers (computes Kept (on_doublewords Move) (number_of rd) (number_of rd) (number_of rm))
-performed (MovPReg rd rm) = on_registers (computes Kept (on_doublewords Move) (number_of rd) (number_of rd) (number_of (Real rm)))
-performed (Mov32 rd rm) = on_registers (computes Kept (on_words Move) (number_of rd) (number_of rd) (number_of rm))
-performed (AluRRSImm16 op rd rn imm) = on_registers (computes_immediate (alu_two_rule op) (on_immediate (alu_computation op) signed_halfword) (number_of rd) (number_of rn) (low_halfword imm))
-performed (AluRSImm16 op rd ri imm) = on_registers (computes_immediate (alu_two_rule op) (on_immediate (alu_computation op) signed_halfword) (number_of rd) (number_of rd) (low_halfword imm))
-performed (AluRSImm32 op rd ri imm) = on_registers (computes_immediate (alu_two_rule op) (on_immediate (alu_computation op) signed_word) (number_of rd) (number_of rd) (low_word imm))
-performed (AluRUImm32 op rd ri imm) = on_registers (computes_immediate (alu_two_rule op) (on_immediate (alu_computation op) word) (number_of rd) (number_of rd) (low_word (pos imm)))
-performed (CmpRSImm16 op rn imm) = on_registers (compares_immediate (compares_on_immediate (comparison op) signed_halfword) (number_of rn) (low_halfword imm))
-performed (CmpRSImm32 op rn imm) = on_registers (compares_immediate (compares_on_immediate (comparison op) signed_word) (number_of rn) (low_word imm))
-performed (CmpRUImm32 op rn imm) = on_registers (compares_immediate (compares_on_immediate (comparison op) word) (number_of rn) (low_word (pos imm)))
-performed (Mov32Imm rd imm) = on_registers (computes_immediate Kept (on_words Move) (number_of rd) (number_of rd) (low_word (pos imm)))
-performed (Mov32SImm16 rd imm) = on_registers (computes_immediate Kept (on_immediate (on_words Move) signed_halfword) (number_of rd) (number_of rd) (low_halfword imm))
-performed (Mov64SImm16 rd imm) = on_registers (computes_immediate Kept (on_immediate (on_doublewords Move) signed_halfword) (number_of rd) (number_of rd) (low_halfword imm))
-performed (Mov64SImm32 rd imm) = on_registers (computes_immediate Kept (on_immediate (on_doublewords Move) signed_word) (number_of rd) (number_of rd) (low_word imm))
-performed _ = None
+-- the instructions that are one operation; a move has no first operand. The layout tells the addresses of blocks
+abbrev pub performed : Layout → Inst → Option Performed
+performed L (AluRRR op rd rn rm) = on_registers (computes (alu_three_rule op) (alu_computation op) (number_of rd) (number_of rn) (number_of rm))
+performed L (AluRR op rd ri rm) = on_registers (computes (alu_two_rule op) (alu_computation op) (number_of rd) (number_of rd) (number_of rm))
+performed L (UnaryRR op rd rn) = on_registers (computes (unary_rule op) (unary_computation op) (number_of rd) (number_of rd) (number_of rn))
+performed L (CmpRR op rn rm) = on_registers (compares (comparison op) (number_of rn) (number_of rm))
+performed L (Mov64 rd rm) = on_registers (computes Kept (on_doublewords Move) (number_of rd) (number_of rd) (number_of rm))
+performed L (MovPReg rd rm) = on_registers (computes Kept (on_doublewords Move) (number_of rd) (number_of rd) (number_of (Real rm)))
+performed L (Mov32 rd rm) = on_registers (computes Kept (on_words Move) (number_of rd) (number_of rd) (number_of rm))
+performed L (AluRRSImm16 op rd rn imm) = on_registers (computes_immediate (alu_two_rule op) (on_immediate (alu_computation op) signed_halfword) (number_of rd) (number_of rn) (low_halfword imm))
+performed L (AluRSImm16 op rd ri imm) = on_registers (computes_immediate (alu_two_rule op) (on_immediate (alu_computation op) signed_halfword) (number_of rd) (number_of rd) (low_halfword imm))
+performed L (AluRSImm32 op rd ri imm) = on_registers (computes_immediate (alu_two_rule op) (on_immediate (alu_computation op) signed_word) (number_of rd) (number_of rd) (low_word imm))
+performed L (AluRUImm32 op rd ri imm) = on_registers (computes_immediate (alu_two_rule op) (on_immediate (alu_computation op) word) (number_of rd) (number_of rd) (low_word (pos imm)))
+performed L (CmpRSImm16 op rn imm) = on_registers (compares_immediate (compares_on_immediate (comparison op) signed_halfword) (number_of rn) (low_halfword imm))
+performed L (CmpRSImm32 op rn imm) = on_registers (compares_immediate (compares_on_immediate (comparison op) signed_word) (number_of rn) (low_word imm))
+performed L (CmpRUImm32 op rn imm) = on_registers (compares_immediate (compares_on_immediate (comparison op) word) (number_of rn) (low_word (pos imm)))
+performed L (Mov32Imm rd imm) = on_registers (computes_immediate Kept (on_words Move) (number_of rd) (number_of rd) (low_word (pos imm)))
+performed L (Mov32SImm16 rd imm) = on_registers (computes_immediate Kept (on_immediate (on_words Move) signed_halfword) (number_of rd) (number_of rd) (low_halfword imm))
+performed L (Mov64SImm16 rd imm) = on_registers (computes_immediate Kept (on_immediate (on_doublewords Move) signed_halfword) (number_of rd) (number_of rd) (low_halfword imm))
+performed L (Mov64SImm32 rd imm) = on_registers (computes_immediate Kept (on_immediate (on_doublewords Move) signed_word) (number_of rd) (number_of rd) (low_word imm))
+performed L (LabelAddress dst label) = on_registers (computes_immediate Kept (on_doublewords Move) (number_of dst) (number_of dst) (block_place L label.0))
+performed L _ = None
 
 -- one that goes elsewhere
 abbrev pub branch_form : Inst → Form
@@ -115,12 +117,12 @@ form_or None others = others
 form_or (Some x) others = Performs x.needs x.operation x.code
 
 -- what an instruction does
-abbrev pub instruction_form : Inst → Form
-instruction_form i = form_or (performed i) (branch_form i)
+abbrev pub instruction_form : Layout → Inst → Form
+instruction_form L i = form_or (performed L i) (branch_form i)
 
 -- a loop's opening is a step without bytes; its back branch and its breaks lead to steps
-abbrev pub form : Step → Form
-form (Plain i) = instruction_form i
-form Opening = Silent
-form (Back mask target) = Leads mask target
-form (Break mask target) = Leads mask target
+abbrev pub form : Layout → Step → Form
+form L (Plain i) = instruction_form L i
+form L Opening = Silent
+form L (Back mask target) = Leads mask target
+form L (Break mask target) = Leads mask target

@@ -12,7 +12,7 @@ use Rattle.s390x_operations.specs.declared.effect.Effect.{Effect}
 use Rattle.s390x_operations.specs.declared.effect.CodeRule.{CodeRule}
 use Rattle.s390x_operations.specs.declared.effect.CodeRule.TheVariants.{Kept, Set}
 use Rattle.s390x_machine.specs.declared.meaning.Shape.{Shape}
-use Rattle.s390x_machine.specs.declared.meaning.Shape.TheVariants.{Register, ThreeRegisters, Indexed, Relative, Immediate, ThreeImmediate}
+use Rattle.s390x_machine.specs.declared.meaning.Shape.TheVariants.{Register, ThreeRegisters, Indexed, Relative, RelativeAddress, Immediate, ThreeImmediate}
 use Rattle.s390x_machine.specs.declared.meaning.SecondOperand.{SecondOperand}
 use Rattle.s390x_machine.specs.declared.meaning.Meaning.{Meaning}
 use Rattle.s390x_machine.specs.declared.meaning.Meaning.TheVariants.{Compute, Compare, BranchToRegister, BranchRelative}
@@ -53,6 +53,7 @@ source Register f r place = Value (r.general (register_field f 1))
 source ThreeRegisters f r place = Value (r.general (register_field f 2))
 source Indexed f r place = InMemory (indexed_address f r)
 source Relative f r place = AlignedMemory (relative_address f place)
+source RelativeAddress f r place = Value (relative_address f place)
 source Immediate f r place = Value (low Doubleword f.imm)
 source ThreeImmediate f r place = Value (low Doubleword f.imm)
 
