@@ -5,7 +5,7 @@ use Rattle.s390x_buffer.specs.declared.label_use.LabelUse.TheVariants.{BranchRIL
 use Rattle.s390x_format.specs.Formats.{length_of, layout_of}
 use Rattle.s390x_format.specs.Layout.{number, bits}
 use Rattle.s390x_format.specs.Reading.{be_bytes}
-use Rattle.s390x_steps.specs.MachineInstruction.{ril_c, bytes_of}
+use Rattle.s390x_steps.specs.MachineInstruction.{ril_b, ril_c, bytes_of}
 use Rattle.s390x_steps.specs.Rows.{half_distance}
 
 -- c0, the mask beside 4, and a word
@@ -58,3 +58,50 @@ patched_branch mask p target =
     (fourth_byte m h ∙ ap (λ y. with_word m y / 65536 % 256) (whole_word x))
     (fifth_byte m h ∙ ap (λ y. with_word m y / 256 % 256) (whole_word x))
     (sixth_byte m h ∙ ap (λ y. with_word m y / 1 % 256) (whole_word x))
+
+-- ---- a register in the mask's place, and any opcode
+
+-- the opcode's first two digits, the register, the opcode's last digit, and a word
+abbrev with_opcode : (a m b h : ℕ) → ℕ
+with_opcode a m b h = a * 1099511627776 + (m * 68719476736 + (b * 4294967296 + (h * 1 + 0)))
+
+register_first : (a m b h : ℕ) → a < 256 → m < 16 → b < 16 → h < 4294967296 → (a * 1099511627776 + (m * 68719476736 + (b * 4294967296 + 0))) / 1099511627776 % 256 ≡ with_opcode a m b h / 1099511627776 % 256
+register_first a m b h la lm lb lh = omega arith
+
+register_second : (a m b h : ℕ) → a < 256 → m < 16 → b < 16 → h < 4294967296 → (a * 1099511627776 + (m * 68719476736 + (b * 4294967296 + 0))) / 4294967296 % 256 ≡ with_opcode a m b h / 4294967296 % 256
+register_second a m b h la lm lb lh = omega arith
+
+register_third : (a m b h : ℕ) → h < 4294967296 → h / 16777216 % 256 ≡ with_opcode a m b h / 16777216 % 256
+register_third a m b h lh = omega arith
+
+register_fourth : (a m b h : ℕ) → h / 65536 % 256 ≡ with_opcode a m b h / 65536 % 256
+register_fourth a m b h = omega arith
+
+register_fifth : (a m b h : ℕ) → h / 256 % 256 ≡ with_opcode a m b h / 256 % 256
+register_fifth a m b h = omega arith
+
+register_sixth : (a m b h : ℕ) → h % 256 ≡ with_opcode a m b h / 1 % 256
+register_sixth a m b h = omega arith
+
+below_byte : (opcode : ℕ) → opcode / 2 ^ 4 % 2 ^ 8 < 256
+below_byte opcode = omega arith
+
+pub patched_relative : (opcode register p target : ℕ) → patch BranchRIL 0 p target (bytes_of (ril_b opcode register 0)) ≡ bytes_of (ril_b opcode register (half_distance p target))
+unfolding length_of layout_of number bits be_bytes
+patched_relative opcode register p target =
+    let a : ℕ = opcode / 2 ^ 4 % 2 ^ 8 in
+    let m : ℕ = register / 2 ^ 0 % 2 ^ 4 in
+    let b : ℕ = opcode / 2 ^ 0 % 2 ^ 4 in
+    let x : ℕ = (8589934592 + target - p) / 2 in
+    let h : ℕ = x % 4294967296 in
+    let la : a < 256 = below_byte opcode in
+    let lm : m < 16 = mask_below register in
+    let lb : b < 16 = mask_below opcode in
+    let lh : h < 4294967296 = below_word x in
+    six _ _ _ _ _ _ _ _ _ _ _ _
+    (register_first a m b h la lm lb lh ∙ ap (λ y. with_opcode a m b y / 1099511627776 % 256) (whole_word x))
+    (register_second a m b h la lm lb lh ∙ ap (λ y. with_opcode a m b y / 4294967296 % 256) (whole_word x))
+    (register_third a m b h lh ∙ ap (λ y. with_opcode a m b y / 16777216 % 256) (whole_word x))
+    (register_fourth a m b h ∙ ap (λ y. with_opcode a m b y / 65536 % 256) (whole_word x))
+    (register_fifth a m b h ∙ ap (λ y. with_opcode a m b y / 256 % 256) (whole_word x))
+    (register_sixth a m b h ∙ ap (λ y. with_opcode a m b y / 1 % 256) (whole_word x))

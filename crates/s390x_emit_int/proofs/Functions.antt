@@ -7,8 +7,8 @@ use Rattle.s390x_inst.specs.declared.inst.Inst.{Inst}
 use Rattle.s390x_inst.specs.declared.inst.Inst.TheVariants.{CondBreak}
 use Rattle.s390x_steps.specs.Tree.{Tree, empty, leaf, looped}
 use Rattle.s390x_steps.specs.Steps.{Step as TypedStep, step_count, steps_of, steps_from, first_step}
-use Rattle.s390x_steps.specs.MachineInstruction.{ril_c, bytes_of}
-use Rattle.s390x_steps.specs.Parts.{Part, Row, Branch, ToBlock, ToStep, instruction_parts, step_size}
+use Rattle.s390x_steps.specs.MachineInstruction.{ril_b, ril_c, bytes_of}
+use Rattle.s390x_steps.specs.Parts.{Part, Row, Branch, Relative, ToBlock, ToStep, instruction_parts, step_size}
 use Rattle.s390x_steps.specs.Rows.{Places}
 use Rattle.s390x_steps.specs.Image.{place, code, step_places, block_places}
 use Rattle.s390x_steps.specs.Sizes.{tree_size, blocks_size}
@@ -17,7 +17,7 @@ use Rattle.s390x_emit_int.specs.Pieces.{Piece, apply, run, Put, Link, Step, Draw
 use Rattle.s390x_emit_int.specs.Emission.{part_pieces, leaf_pieces, back_pieces, pieces, function_pieces}
 use Rattle.s390x_emit_int.specs.Resolve.{resolve, put_length, Wide}
 use Rattle.s390x_emit_int.specs.Bound.{Follows, TreesName, AllBound}
-use Rattle.s390x_emit_int.proofs.Runs.{Grows, run-append, tree_grows, length-branch}
+use Rattle.s390x_emit_int.proofs.Runs.{Grows, run-append, tree_grows, length-branch, length-relative}
 use Rattle.s390x_emit_int.proofs.Joining.{resolve-append, put_append, tree_put, steps_total, steps_length, code_append, follows_left, follows_right, follows_end, tree_join}
 use Rattle.s390x_emit_int.proofs.Binding.{Tells, tree_bound}
 use Rattle.s390x_emit_int.proofs.Starts.{marks, marks_append, tree_marks, places_more}
@@ -34,11 +34,16 @@ wide_append (Bind l ∷ a) b v w = wide_append a b v w
 wide_branch : (mask : ℕ) → 6 ≤ length (bytes_of (ril_c 0xc04 mask 0))
 wide_branch mask = omega (arith, length-branch mask)
 
+wide_relative : (opcode register : ℕ) → 6 ≤ length (bytes_of (ril_b opcode register 0))
+wide_relative opcode register = omega (arith, length-relative opcode register)
+
 parts_wide : (parts : List Part) → Wide (part_pieces parts)
 parts_wide [] = tt
 parts_wide (Row m ∷ parts) = parts_wide parts
 parts_wide (Branch mask (ToBlock b) ∷ parts) = (wide_branch mask, parts_wide parts)
 parts_wide (Branch mask (ToStep k) ∷ parts) = (wide_branch mask, parts_wide parts)
+parts_wide (Relative opcode register (ToBlock b) ∷ parts) = (wide_relative opcode register, parts_wide parts)
+parts_wide (Relative opcode register (ToStep k) ∷ parts) = (wide_relative opcode register, parts_wide parts)
 
 leaf_wide : (i : Inst) (after : ℕ) → Wide (leaf_pieces after i)
 leaf_wide (CondBreak mask) after = (wide_branch mask, tt)

@@ -6,8 +6,8 @@ use Rattle.s390x_inst.specs.declared.inst.Inst.{Inst}
 use Rattle.s390x_inst.specs.declared.inst.Inst.TheVariants.{CondBreak}
 use Rattle.s390x_steps.specs.Tree.{Tree, empty, leaf, looped}
 use Rattle.s390x_steps.specs.Steps.{Step as TypedStep, Back, step_count, step_of, steps_of}
-use Rattle.s390x_steps.specs.MachineInstruction.{ril_c, bytes_of, size_of, joined_bytes}
-use Rattle.s390x_steps.specs.Parts.{Part, Row, Branch, ToBlock, ToStep, instruction_parts, parts_size, step_size}
+use Rattle.s390x_steps.specs.MachineInstruction.{ril_b, ril_c, bytes_of, size_of, joined_bytes}
+use Rattle.s390x_steps.specs.Parts.{Part, Row, Branch, Relative, ToBlock, ToStep, instruction_parts, parts_size, step_size}
 use Rattle.s390x_steps.specs.Rows.{Places, half_distance, rows_of, step_bytes}
 use Rattle.s390x_steps.specs.Image.{code}
 use Rattle.s390x_steps.specs.Sizes.{instruction_size, tree_size}
@@ -16,8 +16,8 @@ use Rattle.s390x_emit_int.specs.Pieces.{Piece, Put, Link, Step, Draw, Bind}
 use Rattle.s390x_emit_int.specs.Emission.{part_pieces, leaf_pieces, back_pieces, pieces}
 use Rattle.s390x_emit_int.specs.Resolve.{resolve, put_length}
 use Rattle.s390x_emit_int.specs.Bound.{Bound, Follows, PartsName, TreeNames}
-use Rattle.s390x_emit_int.proofs.Branches.{patched_branch}
-use Rattle.s390x_emit_int.proofs.Runs.{length-bytes, length-branch}
+use Rattle.s390x_emit_int.proofs.Branches.{patched_branch, patched_relative}
+use Rattle.s390x_emit_int.proofs.Runs.{length-bytes, length-branch, length-relative}
 
 pub resolve-append : (off : ℕ → ℕ) (a b : List Piece) (p : ℕ) → resolve off p (a ++ b) ≡ resolve off p a ++ resolve off (p + put_length a) b
 resolve-append off [] b p = ap (λ m. resolve off m b) (sym (add-zero p))
@@ -40,6 +40,8 @@ parts_put [] = refl
 parts_put (Row m ∷ parts) = omega (arith, length-bytes m, parts_put parts)
 parts_put (Branch mask (ToBlock b) ∷ parts) = omega (arith, length-branch mask, parts_put parts)
 parts_put (Branch mask (ToStep k) ∷ parts) = omega (arith, length-branch mask, parts_put parts)
+parts_put (Relative opcode register (ToBlock b) ∷ parts) = omega (arith, length-relative opcode register, parts_put parts)
+parts_put (Relative opcode register (ToStep k) ∷ parts) = omega (arith, length-relative opcode register, parts_put parts)
 
 pub leaf_put : (after : ℕ) (i : Inst) → put_length (leaf_pieces after i) ≡ instruction_size i
 leaf_put after (CondBreak mask) = omega (arith, length-branch mask)
@@ -63,6 +65,13 @@ parts_join (Branch mask (ToBlock b) ∷ parts) off P count p agree names =
     ∙ ap (λ n. bytes_of (ril_c 0xc04 mask (half_distance p (P.block b))) ++ resolve off (p + n) (part_pieces parts)) (length-branch mask)
     ∙ ap (λ l. bytes_of (ril_c 0xc04 mask (half_distance p (P.block b))) ++ l) (parts_join parts off P count (p + 6) agree names.1)
 parts_join (Branch mask (ToStep k) ∷ parts) off P count p agree names = absurd names.0
+parts_join (Relative opcode register (ToBlock b) ∷ parts) off P count p agree names =
+    let bare = bytes_of (ril_b opcode register 0) in
+    ap (λ l. l ++ resolve off (p + length bare) (part_pieces parts)) (patched_relative opcode register p (off b))
+    ∙ ap (λ x. bytes_of (ril_b opcode register (half_distance p x)) ++ resolve off (p + length bare) (part_pieces parts)) (agree b names.0)
+    ∙ ap (λ n. bytes_of (ril_b opcode register (half_distance p (P.block b))) ++ resolve off (p + n) (part_pieces parts)) (length-relative opcode register)
+    ∙ ap (λ l. bytes_of (ril_b opcode register (half_distance p (P.block b))) ++ l) (parts_join parts off P count (p + 6) agree names.1)
+parts_join (Relative opcode register (ToStep k) ∷ parts) off P count p agree names = absurd names.0
 
 pub leaf_join : (i : Inst) (off : ℕ → ℕ) (P : Places) (count after end p : ℕ) → ((l : ℕ) → l < count → off l ≡ P.block l) → PartsName count (instruction_parts i) → off after ≡ P.step end → resolve off p (leaf_pieces after i) ≡ step_bytes P p (step_of end i)
 leaf_join (CondBreak mask) off P count after end p agree names e =

@@ -1,21 +1,21 @@
 -- What the check let pass of one instruction that is no loop.
-use Rattle.std.proofs.Common.{◌≡◌, ℕ, ◌+◌, ◌<◌, ◌&&◌, List, length, None, Some, true, refl, sym, ap, ◌∙◌, arith, length-append, Vec, Global}
-use Rattle.s390x_base.specs.declared.error.EmitError.TheVariants.{BadRegister}
+use Rattle.std.proofs.Common.{◌≡◌, ℕ, ◌+◌, ◌<◌, ◌&&◌, List, length, None, Some, true, refl, sym, ap, ◌∙◌, arith, length-append, nat_lt, ltb-true, Vec, Global}
+use Rattle.s390x_base.specs.declared.error.EmitError.TheVariants.{BadRegister, UnboundLabel}
 use Rattle.s390x_base.specs.declared.ir.MachLabel.{MachLabel}
 use Rattle.s390x_base.specs.declared.regs.Reg.{Reg}
 use Rattle.s390x_buffer.specs.State.{State, put_cause}
-use Rattle.s390x_format.specs.declared.kind.FormatKind.TheVariants.{Rr}
+use Rattle.s390x_format.specs.declared.kind.FormatKind.TheVariants.{Rr, RilB, RilC}
 use Rattle.s390x_format.specs.Formats.{length_of}
 use Rattle.s390x_format.specs.Reading.{encode}
 use Rattle.s390x_format.proofs.Encoding.{encode-length}
 use Rattle.s390x_inst.specs.declared.inst.Inst.{Inst}
-use Rattle.s390x_inst.specs.declared.inst.Inst.TheVariants.{IndirectBr, Ret}
+use Rattle.s390x_inst.specs.declared.inst.Inst.TheVariants.{IndirectBr, Ret, LabelAddress}
 use Rattle.s390x_steps.specs.Alone.{Alone, alone}
 use Rattle.s390x_steps.specs.General.{is_general, is_nonzero}
 use Rattle.s390x_steps.specs.MachineInstruction.{rr, size_of}
 use Rattle.s390x_steps.specs.Sizes.{instruction_size}
-use Rattle.s390x_steps.specs.Causes.{branch_cause, instruction_cause}
-use Rattle.s390x_steps.proofs.Causes.{first_left, unless_true}
+use Rattle.s390x_steps.specs.Causes.{unless, branch_cause, instruction_cause}
+use Rattle.s390x_steps.proofs.Causes.{first_left, first_right, unless_true}
 use Rattle.s390x_emit_int.specs.Pieces.{apply}
 use Rattle.s390x_emit_int.specs.Emission.{branch, branch_size}
 use Rattle.s390x_emit_int.specs.Room.{Passed}
@@ -41,6 +41,14 @@ pub length-rr : (bs slots : List ℕ) → bs ≡ encode Rr slots → length bs �
 unfolding length_of
 length-rr bs slots e = ap length e ∙ encode-length Rr slots
 
+pub length-ril_b : (bs slots : List ℕ) → bs ≡ encode RilB slots → length bs ≡ 6
+unfolding length_of
+length-ril_b bs slots e = ap length e ∙ encode-length RilB slots
+
+pub length-ril_c : (bs slots : List ℕ) → bs ≡ encode RilC slots → length bs ≡ 6
+unfolding length_of
+length-ril_c bs slots e = ap length e ∙ encode-length RilC slots
+
 size-rr : (opcode a b : ℕ) → size_of (rr opcode a b) ≡ 2
 unfolding length_of
 size-rr opcode a b = refl
@@ -64,3 +72,12 @@ return_passed s after depth i r e p =
 pub alone_passed : (s : State) (after depth : ℕ) (i : Inst) (x : Alone) → Some x ≡ alone i → Passed s after (instruction_size i) (instruction_cause s.block_count depth i) → (put_cause s (size_of x.row) ≡ None) × (x.fine ≡ true)
 alone_passed s after depth i x e p =
     (put_none s (size_of x.row) p.unmarked (omega (arith, p.short, some_size i x e)), unless_true x.fine BadRegister (sym (some_cause s.block_count depth i x e) ∙ p.passed))
+
+-- the address of a block
+pub address_passed : (s : State) (after depth : ℕ) (i : Inst) (dst : Reg) (l : MachLabel) → i ≡ LabelAddress dst l → Passed s after (branch_size i) (branch_cause s.block_count depth i) → Passed s l.0 6 None × (is_general dst ≡ true)
+unfolding length_of
+address_passed s after depth i dst l e p =
+    let size : branch_size i ≡ 6 = ap branch_size e in
+    let cause = sym (ap (branch_cause s.block_count depth) e) ∙ p.passed in
+    let below : l.0 < s.block_count = ltb-true l.0 s.block_count (unless_true (nat_lt l.0 s.block_count) UnboundLabel (first_right (unless (is_general dst) BadRegister) _ cause)) in
+    (record { unmarked = p.unmarked; blocks = p.blocks; label = omega (arith, below, p.blocks); short = omega (arith, p.short, size); passed = refl }, unless_true (is_general dst) BadRegister (first_left _ _ cause))

@@ -2,13 +2,14 @@
 use Rattle.std.proofs.Common.{◌≡◌, ℕ, ◌+◌, ◌<◌, List, [], ◌∷◌, Option, Some, None, nat_lt}
 use Rattle.std.proofs.lemmas.Bool.{ltb-true}
 use Rattle.s390x_base.specs.declared.ir.MachLabel.{MachLabel}
-use Rattle.s390x_base.specs.declared.error.EmitError.TheVariants.{UnboundLabel}
+use Rattle.s390x_base.specs.declared.error.EmitError.TheVariants.{BadRegister, UnboundLabel}
 use Rattle.s390x_inst.specs.declared.inst.Inst.{Inst}
-use Rattle.s390x_inst.specs.declared.inst.Inst.TheVariants.{Jump, CondBr, IndirectBr, Ret}
+use Rattle.s390x_inst.specs.declared.inst.Inst.TheVariants.{Jump, CondBr, IndirectBr, Ret, LabelAddress}
 use Rattle.s390x_steps.specs.Tree.{Tree, empty, leaf, looped}
 use Rattle.s390x_steps.specs.Parts.{parts_or, instruction_parts}
 use Rattle.s390x_steps.specs.Alone.{Alone, alone}
-use Rattle.s390x_steps.specs.Causes.{first, label_cause, instruction_cause, draws, nesting_cause, numbers_cause, tree_cause, blocks_cause}
+use Rattle.s390x_steps.specs.General.{is_general}
+use Rattle.s390x_steps.specs.Causes.{first, unless, label_cause, instruction_cause, draws, nesting_cause, numbers_cause, tree_cause, blocks_cause}
 use Rattle.s390x_steps.proofs.Causes.{first_left, first_right, unless_true}
 use Rattle.s390x_emit_int.specs.Bound.{PartsName, TreeNames, TreesName}
 
@@ -24,6 +25,7 @@ leaf_names blocks depth (Jump dest) h = (label_below blocks dest h, tt)
 leaf_names blocks depth (CondBr taken not_taken mask) h = (label_below blocks taken (first_left _ _ h), (label_below blocks not_taken (first_right (label_cause blocks taken) _ h), tt))
 leaf_names blocks depth (IndirectBr rn targets) h = (tt, tt)
 leaf_names blocks depth (Ret link) h = (tt, tt)
+leaf_names blocks depth (LabelAddress dst label) h = (label_below blocks label (first_right (unless (is_general dst) BadRegister) _ h), tt)
 leaf_names blocks depth i h = alone_names blocks (alone i)
 
 pub tree_names : (blocks n depth : ℕ) (t : Tree) → tree_cause blocks n depth t ≡ None → TreeNames blocks t

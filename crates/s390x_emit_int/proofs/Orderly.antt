@@ -14,11 +14,11 @@ use Rattle.s390x_inst.specs.declared.inst.Inst.TheVariants.{CondBreak}
 use Rattle.s390x_steps.specs.Tree.{Tree, empty, leaf, looped}
 use Rattle.s390x_steps.specs.Causes.{draws}
 use Rattle.s390x_steps.specs.MachineInstruction.{MachineInstruction, bytes_of}
-use Rattle.s390x_steps.specs.Parts.{Part, Row, Branch, ToBlock, ToStep, instruction_parts}
+use Rattle.s390x_steps.specs.Parts.{Part, Row, Branch, Relative, ToBlock, ToStep, instruction_parts}
 use Rattle.s390x_emit_int.specs.Pieces.{Piece, apply, run, Put, Link, Step, Draw, Bind}
 use Rattle.s390x_emit_int.specs.Emission.{part_pieces, leaf_pieces, back_pieces, pieces, function_pieces}
 use Rattle.s390x_emit_int.specs.Bound.{PartsName, TreeNames, TreesName}
-use Rattle.s390x_emit_int.proofs.Runs.{length-bytes, length-branch}
+use Rattle.s390x_emit_int.proofs.Runs.{length-bytes, length-branch, length-relative}
 
 even_length : (kind : FormatKind) → length_of kind % 2 ≡ 0
 unfolding length_of
@@ -49,6 +49,8 @@ parts_sound May [] blocks names may = tt
 parts_sound May (Row m ∷ parts) blocks names may = (even_bytes m, parts_sound May parts blocks names.1 may)
 parts_sound May (Branch mask (ToBlock b) ∷ parts) blocks names may = ((refl, length-branch mask, may b names.0), parts_sound May parts blocks names.1 may)
 parts_sound May (Branch mask (ToStep k) ∷ parts) blocks names may = absurd names.0
+parts_sound May (Relative opcode register (ToBlock b) ∷ parts) blocks names may = ((refl, length-relative opcode register, may b names.0), parts_sound May parts blocks names.1 may)
+parts_sound May (Relative opcode register (ToStep k) ∷ parts) blocks names may = absurd names.0
 
 leaf_sound : (May : ℕ → Type 0) (i : Inst) (after blocks : ℕ) → PartsName blocks (instruction_parts i) → ((l : ℕ) → l < blocks → May l) → May after → AllSound May (leaf_pieces after i)
 leaf_sound May (CondBreak mask) after blocks names may here = ((refl, length-branch mask, here), tt)

@@ -7,10 +7,10 @@ use Rattle.s390x_inst.specs.declared.inst.Inst.TheVariants.{CondBreak}
 use Rattle.s390x_steps.specs.Tree.{Tree, empty, leaf, looped}
 use Rattle.s390x_steps.specs.Sizes.{instruction_size, tree_size}
 use Rattle.s390x_steps.specs.Causes.{draws}
-use Rattle.s390x_steps.specs.MachineInstruction.{MachineInstruction, ril_c, bytes_of, size_of}
-use Rattle.s390x_steps.specs.Parts.{Part, Row, Branch, ToBlock, ToStep, instruction_parts, part_size, parts_size}
+use Rattle.s390x_steps.specs.MachineInstruction.{MachineInstruction, ril_b, ril_c, bytes_of, size_of}
+use Rattle.s390x_steps.specs.Parts.{Part, Row, Branch, Relative, ToBlock, ToStep, instruction_parts, part_size, parts_size}
 use Rattle.s390x_emit_int.specs.Pieces.{Piece, apply, run, Step, Draw, Bind}
-use Rattle.s390x_emit_int.specs.Emission.{branch, part_piece, part_pieces, leaf_pieces, back_pieces, pieces}
+use Rattle.s390x_emit_int.specs.Emission.{branch, relative, part_piece, part_pieces, leaf_pieces, back_pieces, pieces}
 use Rattle.s390x_format.specs.Formats.{length_of}
 use Rattle.s390x_format.proofs.Encoding.{encode-length}
 
@@ -23,6 +23,13 @@ size-branch mask half = refl
 
 pub length-branch : (mask : ℕ) → length (bytes_of (ril_c 0xc04 mask 0)) ≡ 6
 length-branch mask = length-bytes (ril_c 0xc04 mask 0) ∙ size-branch mask 0
+
+size-relative : (opcode register half : ℕ) → size_of (ril_b opcode register half) ≡ 6
+unfolding length_of
+size-relative opcode register half = refl
+
+pub length-relative : (opcode register : ℕ) → length (bytes_of (ril_b opcode register 0)) ≡ 6
+length-relative opcode register = length-bytes (ril_b opcode register 0) ∙ size-relative opcode register 0
 
 pub run-append : (s : State) (a b : List Piece) → run s (a ++ b) ≡ run (run s a) b
 run-append s [] b = refl
@@ -48,6 +55,13 @@ branch_grows s mask l = record {
   bytes = length-append s.bytes (bytes_of (ril_c 0xc04 mask 0)) ∙ ap (λ m. length s.bytes + m) (length-branch mask);
 }
 
+relative_grows : (s : State) (opcode register l : ℕ) → Grows s (apply s (relative opcode register l)) 0 6
+relative_grows s opcode register l = record {
+  labels = omega arith;
+  kept = λ l h. refl;
+  bytes = length-append s.bytes (bytes_of (ril_b opcode register 0)) ∙ ap (λ m. length s.bytes + m) (length-relative opcode register);
+}
+
 part_grows : (part : Part) (s : State) → Grows s (apply s (part_piece part)) 0 (part_size part)
 part_grows (Row m) s = record {
   labels = omega arith;
@@ -56,6 +70,8 @@ part_grows (Row m) s = record {
 }
 part_grows (Branch mask (ToBlock b)) s = branch_grows s mask b
 part_grows (Branch mask (ToStep k)) s = branch_grows s mask k
+part_grows (Relative opcode register (ToBlock b)) s = relative_grows s opcode register b
+part_grows (Relative opcode register (ToStep k)) s = relative_grows s opcode register k
 
 parts_grow : (parts : List Part) (s : State) → Grows s (run s (part_pieces parts)) 0 (parts_size parts)
 parts_grow [] s = record { labels = omega arith; kept = λ l h. refl; bytes = omega arith }

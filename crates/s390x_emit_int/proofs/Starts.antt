@@ -6,7 +6,7 @@ use Rattle.s390x_inst.specs.declared.inst.Inst.TheVariants.{CondBreak}
 use Rattle.s390x_steps.specs.Tree.{Tree, empty, leaf, looped}
 use Rattle.s390x_steps.specs.Steps.{Step as TypedStep, Back, step_count, steps_of}
 use Rattle.s390x_steps.specs.MachineInstruction.{ril_c, bytes_of}
-use Rattle.s390x_steps.specs.Parts.{Part, Row, Branch, ToBlock, ToStep, instruction_parts}
+use Rattle.s390x_steps.specs.Parts.{Part, Row, Branch, Relative, ToBlock, ToStep, instruction_parts}
 use Rattle.s390x_steps.specs.Image.{step_places}
 use Rattle.s390x_steps.specs.Sizes.{instruction_size}
 use Rattle.s390x_steps.specs.Causes.{draws}
@@ -47,6 +47,8 @@ parts_unmarked [] p = refl
 parts_unmarked (Row m ∷ parts) p = parts_unmarked parts _
 parts_unmarked (Branch mask (ToBlock b) ∷ parts) p = parts_unmarked parts _
 parts_unmarked (Branch mask (ToStep k) ∷ parts) p = parts_unmarked parts _
+parts_unmarked (Relative opcode register (ToBlock b) ∷ parts) p = parts_unmarked parts _
+parts_unmarked (Relative opcode register (ToStep k) ∷ parts) p = parts_unmarked parts _
 
 leaf_unmarked : (after : ℕ) (i : Inst) (p : ℕ) → marks p (leaf_pieces after i) ≡ []
 leaf_unmarked after (CondBreak mask) p = refl

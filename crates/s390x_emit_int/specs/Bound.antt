@@ -2,7 +2,7 @@
 use Rattle.std.specs.Prelude.{◌≡◌, ℕ, ◌+◌, ◌<◌, List, [], ◌∷◌}
 use Rattle.s390x_steps.specs.Tree.{Tree, empty, leaf, looped}
 use Rattle.s390x_steps.specs.Steps.{Step}
-use Rattle.s390x_steps.specs.Parts.{Part, Row, Branch, ToBlock, ToStep, instruction_parts, step_size}
+use Rattle.s390x_steps.specs.Parts.{Part, Row, Branch, Relative, ToBlock, ToStep, instruction_parts, step_size}
 use Rattle.s390x_steps.specs.Sizes.{instruction_size, tree_size}
 use Rattle.s390x_steps.specs.Causes.{draws}
 
@@ -22,6 +22,8 @@ abbrev pub PartNames : ℕ → Part → Type 0
 PartNames count (Row m) = Unit {0}
 PartNames count (Branch mask (ToBlock b)) = b < count
 PartNames count (Branch mask (ToStep k)) = ⊥
+PartNames count (Relative opcode register (ToBlock b)) = b < count
+PartNames count (Relative opcode register (ToStep k)) = ⊥
 
 abbrev pub PartsName : ℕ → List Part → Type 0
 PartsName count [] = Unit {0}

@@ -4,8 +4,8 @@ use Rattle.s390x_buffer.specs.declared.label_use.LabelUse.TheVariants.{BranchRIL
 use Rattle.s390x_inst.specs.declared.inst.Inst.{Inst}
 use Rattle.s390x_inst.specs.declared.inst.Inst.TheVariants.{CondBreak}
 use Rattle.s390x_steps.specs.Tree.{Tree, empty, leaf, looped}
-use Rattle.s390x_steps.specs.MachineInstruction.{ril_c, bytes_of}
-use Rattle.s390x_steps.specs.Parts.{Part, Row, Branch, ToBlock, ToStep, branch_parts, parts_size, instruction_parts}
+use Rattle.s390x_steps.specs.MachineInstruction.{ril_b, ril_c, bytes_of}
+use Rattle.s390x_steps.specs.Parts.{Part, Row, Branch, Relative, ToBlock, ToStep, branch_parts, parts_size, instruction_parts}
 use Rattle.s390x_steps.specs.Causes.{draws}
 use Rattle.s390x_emit_int.specs.Pieces.{Piece, Put, Link, Step, Draw, Bind}
 
@@ -13,11 +13,17 @@ use Rattle.s390x_emit_int.specs.Pieces.{Piece, Put, Link, Step, Draw, Bind}
 abbrev pub branch : (mask label : ℕ) → Piece
 branch mask label = Link BranchRIL label (bytes_of (ril_c 0xc04 mask 0))
 
+-- an address relative to the instruction, its distance still zero. The distance stands where a branch has it, and counts from the same place
+abbrev pub relative : (opcode register label : ℕ) → Piece
+relative opcode register label = Link BranchRIL label (bytes_of (ril_b opcode register 0))
+
 -- a block's label has the block's number
 abbrev pub part_piece : Part → Piece
 part_piece (Row m) = Put (bytes_of m)
 part_piece (Branch mask (ToBlock b)) = branch mask b
 part_piece (Branch mask (ToStep k)) = branch mask k
+part_piece (Relative opcode register (ToBlock b)) = relative opcode register b
+part_piece (Relative opcode register (ToStep k)) = relative opcode register k
 
 abbrev pub part_pieces : List Part → List Piece
 part_pieces [] = []

@@ -4,7 +4,7 @@ ghost use Rattle.s390x_base.specs.declared.error.EmitError.TheVariants.{BadRegis
 ghost use Rattle.s390x_steps.specs.Causes.{first, unless, label_cause, labels_cause, branch_cause, instruction_cause};
 ghost use Rattle.s390x_steps.specs.General.{is_general, is_nonzero};
 
-use crate::alone::find_alone;
+use crate::alone::{find_alone, general};
 use s390x_base::{EmitError, MachLabel, Reg, RegClass};
 use s390x_inst::Inst;
 
@@ -51,6 +51,16 @@ fn two_labels_refusal(blocks: usize, taken: MachLabel, not_taken: MachLabel) -> 
     }
 }
 
+fn address_refusal(blocks: usize, dst: &Reg, label: MachLabel) -> Option<EmitError>
+    ensures { result ≡ first (unless (is_general dst.now) BadRegister) (label_cause blocks label) }
+{
+    if general(dst) {
+        label_refusal(blocks, label)
+    } else {
+        Some(EmitError::BadRegister)
+    }
+}
+
 fn indirect_refusal(blocks: usize, rn: Reg, targets: &[MachLabel]) -> Option<EmitError>
     ensures { result ≡ first (unless (is_general rn && is_nonzero rn) BadRegister) (labels_cause blocks targets.now) }
 {
@@ -61,7 +71,7 @@ fn indirect_refusal(blocks: usize, rn: Reg, targets: &[MachLabel]) -> Option<Emi
     }
 }
 
-// The first cause of an instruction that goes elsewhere.
+// The first cause of an instruction that names a place or goes elsewhere.
 fn branch_refusal(blocks: usize, depth: u32, inst: &Inst) -> Option<EmitError>
     ensures { result ≡ branch_cause blocks depth inst.now }
 {
@@ -76,6 +86,7 @@ fn branch_refusal(blocks: usize, depth: u32, inst: &Inst) -> Option<EmitError>
         Inst::Ret { link } => refusal_unless(branchable(*link), EmitError::BadRegister),
         Inst::CondBreak { .. } => refusal_unless(0 < depth, EmitError::BreakOutsideLoop),
         Inst::Nop0 => None,
+        Inst::LabelAddress { dst, label } => address_refusal(blocks, &dst.to_reg(), *label),
         _ => Some(EmitError::BadOperator),
     }
 }

@@ -22,14 +22,14 @@ pub struct Totals {
     pub bytes: u64,
 }
 
-// The size of an instruction that goes elsewhere.
+// The size of an instruction that names a place or goes elsewhere.
 #[tactic(auto, unfolding(s390x_format::specs::Formats::length_of))]
 fn branch_size(inst: &Inst) -> u64
     ensures value { result ≡ branch_size inst.now }
     ensures few { result ≤ 44 }
 {
     match inst {
-        Inst::Jump { .. } | Inst::CondBreak { .. } => 6,
+        Inst::Jump { .. } | Inst::CondBreak { .. } | Inst::LabelAddress { .. } => 6,
         Inst::CondBr { .. } => 12,
         Inst::IndirectBr { .. } | Inst::Ret { .. } => 2,
         _ => 0,

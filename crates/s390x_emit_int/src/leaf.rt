@@ -6,21 +6,33 @@ ghost use Rattle.s390x_base.specs.Regs.{number_of};
 ghost use Rattle.s390x_buffer.specs.Keeps.{Keeps};
 ghost use Rattle.s390x_buffer.specs.State.{put_cause};
 ghost use Rattle.s390x_steps.specs.MachineInstruction.{rr, bytes_of, size_of};
-ghost use Rattle.s390x_steps.specs.Parts.{Row, Branch, ToBlock};
+ghost use Rattle.s390x_steps.specs.Parts.{Row, Branch, ToBlock, Relative};
 ghost use Rattle.s390x_steps.specs.Causes.{branch_cause, instruction_cause};
 ghost use Rattle.s390x_steps.specs.General.{is_general, is_nonzero};
 ghost use Rattle.s390x_steps.specs.Sizes.{instruction_size};
 ghost use Rattle.s390x_emit_int.specs.Alone.{instruction_of, can_encode};
-ghost use Rattle.s390x_emit_int.specs.Pieces.{Put, apply, run};
+ghost use Rattle.s390x_emit_int.specs.Pieces.{Put, apply, run, Link};
 ghost use Rattle.s390x_emit_int.specs.Emission.{branch, part_pieces, branch_pieces, branch_size, leaf_pieces};
 ghost use Rattle.s390x_emit_int.specs.Room.{Passed, LacksMemory};
+ghost use Rattle.s390x_buffer.specs.declared.label_use.LabelUse.TheVariants.{BranchRIL};
 ghost use Rattle.s390x_steps.specs.Ranges.{InRange, IsMask};
 
 use crate::alone::{RegisterRow, find_alone};
-use s390x_base::{Cond, EmitError, MachLabel, Reg, gpr};
+use s390x_base::{Code, Cond, EmitError, MachLabel, Reg, gpr};
 use s390x_buffer::{LabelUse, MachBuffer};
-use s390x_enc::{enc_ril_c, enc_rr};
+use s390x_enc::{enc_ril_b, enc_ril_c, enc_rr};
 use s390x_inst::Inst;
+
+// A code whose last four bytes are half of the distance to a label; the buffer's end fills it in.
+fn put_with_distance(sink: &mut MachBuffer, code: &Code, label: MachLabel) -> Result<(), EmitError>
+    ensures answer { OnOk result (sink.new ≡ apply sink.old (Link BranchRIL label.0 code.now)) }
+    ensures lacks { Passed sink.old label.0 6 None → length code.now ≡ 6 → LacksMemory result }
+    ensures kept { Keeps sink.old sink.new }
+{
+    let offset = sink.cur_offset();
+    sink.use_label_at_offset(offset, label, LabelUse::BranchRIL)?;
+    sink.put_code(code)
+}
 
 /// BRANCH RELATIVE ON CONDITION LONG to a label under a mask; the buffer's end fills the distance in.
 pub fn put_branch(sink: &mut MachBuffer, mask: u8, label: MachLabel) -> Result<(), EmitError>
@@ -30,9 +42,7 @@ pub fn put_branch(sink: &mut MachBuffer, mask: u8, label: MachLabel) -> Result<(
     ensures kept { Keeps sink.old sink.new }
 {
     let code = enc_ril_c(0xc04, mask, 0)?;
-    let offset = sink.cur_offset();
-    sink.use_label_at_offset(offset, label, LabelUse::BranchRIL)?;
-    sink.put_code(&code)
+    put_with_distance(sink, &code, label)
 }
 
 // BRANCH ON CONDITION to the address in a register, always.
@@ -43,6 +53,16 @@ fn emit_branch_register(sink: &mut MachBuffer, rn: Reg) -> Result<(), EmitError>
 {
     let code = enc_rr(0x07, gpr(15), rn)?;
     sink.put_code(&code)
+}
+
+// LOAD ADDRESS RELATIVE LONG of a label into a register; the buffer's end fills the distance in.
+fn emit_address(sink: &mut MachBuffer, dst: Reg, label: MachLabel) -> Result<(), EmitError>
+    ensures answer { OnOk result (sink.new ≡ run sink.old (part_pieces (Relative 0xc00 (number_of dst) (ToBlock label.0) ∷ []))) }
+    ensures lacks { Passed sink.old label.0 6 None → is_general dst ≡ true → LacksMemory result }
+    ensures kept { Keeps sink.old sink.new }
+{
+    let code = enc_ril_b(0xc00, dst, 0)?;
+    put_with_distance(sink, &code, label)
 }
 
 fn emit_two_branches(
@@ -95,6 +115,7 @@ fn emit_branch(sink: &mut MachBuffer, inst: &Inst, after: MachLabel) -> Result<(
         Inst::Ret { link } => emit_branch_register(sink, *link),
         Inst::CondBreak { cond } => emit_break(sink, *cond, after),
         Inst::Nop0 => Ok(()),
+        Inst::LabelAddress { dst, label } => emit_address(sink, dst.to_reg(), *label),
         _ => Err(EmitError::BadOperator),
     }
 }

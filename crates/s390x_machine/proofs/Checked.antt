@@ -6,7 +6,7 @@ use Rattle.s390x_base.specs.declared.ir.MachLabel.{MachLabel}
 use Rattle.s390x_base.specs.declared.error.EmitError.{EmitError}
 use Rattle.s390x_base.specs.declared.error.EmitError.TheVariants.{BadOperator, BadRegister, UnboundLabel}
 use Rattle.s390x_inst.specs.declared.inst.Inst.{Inst}
-use Rattle.s390x_inst.specs.declared.inst.Inst.TheVariants.{Jump, CondBr, IndirectBr, Ret, CondBreak, Nop0}
+use Rattle.s390x_inst.specs.declared.inst.Inst.TheVariants.{Jump, CondBr, IndirectBr, Ret, CondBreak, Nop0, LabelAddress}
 use Rattle.s390x_steps.specs.Causes.{first, unless, label_cause, labels_cause, cause_or, instruction_cause, numbers_cause, nesting_cause, draws, tree_cause, blocks_cause}
 use Rattle.s390x_steps.specs.Alone.{Alone, alone}
 use Rattle.s390x_steps.specs.General.{is_general, is_nonzero}
@@ -52,6 +52,9 @@ module _ (L : Layout) where
   fine_step depth after (Ret link) e range le = and_parts (is_general link) (is_nonzero link) (unless_none (is_general link && is_nonzero link) BadRegister e)
   fine_step depth after (CondBreak mask) e range le = (range, le (ltb-true 0 depth (unless_none (nat_lt 0 depth) Rattle.s390x_base.specs.declared.error.EmitError.TheVariants.BreakOutsideLoop e)))
   fine_step depth after Nop0 e range le = tt
+  fine_step depth after (LabelAddress dst label) e range le =
+      let parts = first_none (unless (is_general dst) BadRegister) (label_cause L.block_count label) e in
+      (unless_none (is_general dst) BadRegister parts.0, block_of label parts.1)
   fine_step depth after i e range le = fine_alone (alone i) e
 
   -- each of some steps is fine

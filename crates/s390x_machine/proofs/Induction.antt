@@ -67,7 +67,7 @@ past_end L k c turns e = here (record {
   position = At k;
   core = c;
   run = (refl, refl);
-  closes = (refl, inl (subst (λ o. FormWrong L (form_of o) c) (sym e) tt));
+  closes = (refl, inl (subst (λ o. FormWrong L (form_of L o) c) (sym e) tt));
 }) (omega arith)
 
 by_instruction : (L : Layout) → ((k : ℕ) (i : Step) → slice_get L.steps k ≡ Some i → StepHolds L k) → (k : ℕ) (o : Option Step) → slice_get L.steps k ≡ o → StepHolds L k

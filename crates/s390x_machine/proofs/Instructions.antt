@@ -13,7 +13,7 @@ use Rattle.s390x_inst.specs.declared.ops.ShiftOp.{ShiftOp}
 use Rattle.s390x_inst.specs.declared.ops.RxSBGOp.{RxSBGOp}
 use Rattle.s390x_inst.specs.declared.ops.RxSBGOp.TheVariants as R
 use Rattle.s390x_inst.specs.declared.inst.Inst.{Inst}
-use Rattle.s390x_inst.specs.declared.inst.Inst.TheVariants.{AluRRR, AluRR, AluRRSImm16, AluRSImm16, AluRSImm32, AluRUImm32, UnaryRR, CmpRR, CmpRSImm16, CmpRSImm32, CmpRUImm32, Mov64, MovPReg, Mov32, Mov32Imm, Mov32SImm16, Mov64SImm16, Mov64SImm32, AluRUImm16Shifted, AluRUImm32Shifted, SMulWide, UMulWide, Flogr, ShiftRR, RxSBG, RxSBGTest, Mov64UImm16Shifted, Mov64UImm32Shifted, Insert64UImm16Shifted, Insert64UImm32Shifted, CMov32, CMov64, CMov32SImm16, CMov64SImm16, Extend, LoadAR, InsertAR, Fence, Nop0, Nop2, Jump, CondBr, IndirectBr, Ret}
+use Rattle.s390x_inst.specs.declared.inst.Inst.TheVariants.{AluRRR, AluRR, AluRRSImm16, AluRSImm16, AluRSImm32, AluRUImm32, UnaryRR, CmpRR, CmpRSImm16, CmpRSImm32, CmpRUImm32, Mov64, MovPReg, Mov32, Mov32Imm, Mov32SImm16, Mov64SImm16, Mov64SImm32, AluRUImm16Shifted, AluRUImm32Shifted, SMulWide, UMulWide, Flogr, ShiftRR, RxSBG, RxSBGTest, Mov64UImm16Shifted, Mov64UImm32Shifted, Insert64UImm16Shifted, Insert64UImm32Shifted, CMov32, CMov64, CMov32SImm16, CMov64SImm16, Extend, LoadAR, InsertAR, Fence, Nop0, Nop2, Jump, CondBr, IndirectBr, Ret, LabelAddress}
 use Rattle.s390x_format.specs.Formats.{length_of, layout_of}
 use Rattle.s390x_format.specs.Layout.{SlotsFit}
 use Rattle.s390x_format.specs.Rows.{is_allowed}
@@ -28,7 +28,7 @@ use Rattle.s390x_steps.specs.Alone.{alone_with, two_operands, two_row, three_row
 use Rattle.s390x_steps.specs.Ranges.{IsMask}
 use Rattle.s390x_steps.specs.MachineInstruction.{MachineInstruction, bytes_of, size_of, rr, rre, rrf_ab, rrf_cde, ri_a, rie_d, rie_f, rie_g, ril_a, ril_c, rsy}
 use Rattle.s390x_steps.specs.Steps.{Step, Plain, Opening, Back, Break}
-use Rattle.s390x_steps.specs.Parts.{ToBlock, ToStep, Row, Branch, parts_size, parts_or, step_parts}
+use Rattle.s390x_steps.specs.Parts.{ToBlock, ToStep, Row, Branch, Relative, parts_size, parts_or, step_parts}
 use Rattle.s390x_steps.specs.Rows.{rows_of}
 use Rattle.s390x_operations.specs.State.{Registers, Core, State, coded, sum64}
 use Rattle.s390x_operations.specs.declared.stop.ConditionCode.{ConditionCode}
@@ -64,7 +64,7 @@ use Rattle.s390x_machine.proofs.Fetching.{StandsAt}
 use Rattle.s390x_machine.proofs.Simulation.{RowAt, DoesAs, Coded, ValuesCoded, at_start, general_step}
 use Rattle.s390x_machine.proofs.Standing.{step_rows, offset_even, offset_small, inside_at, inside_first, next_place, block_at}
 use Rattle.s390x_machine.proofs.Stops.{never_by_values}
-use Rattle.s390x_machine.proofs.Rows.{general_number, nonzero_number, bcr_at, brcl_at, fits_rr, fits_rre, fits_rrf_ab, fits_rrf_cde, fits_rie_f, fits_rie_g, fits_rsy}
+use Rattle.s390x_machine.proofs.Rows.{general_number, nonzero_number, bcr_at, brcl_at, fits_rr, fits_rre, fits_rrf_ab, fits_rrf_cde, fits_rie_f, fits_rie_g, fits_rsy, larl_at}
 use Rattle.s390x_machine.proofs.Bits.{immediate_at, part_rows, half_rows, load_part_rows, load_half_rows, insert_part_rows, iihf_row, extends, extend_rows, ear_row, shift_meaning, shift_rows, rotate_allows, rotate_rows, any_mask, locr_row, locgr_row, lochi_row, locghi_row, popcnt_row, mgrk_row, mlgr_row, flogr_row, bcr_row, below, not_below, mask_allowed, rotation_allowed, test_allowed}
 use Rattle.s390x_machine.proofs.Alone.{TwoRow, ThreeRow, TwoRows, ThreeRows, second_register, computed, register_fields, alu_three_rows, alu_two_rows, cmp_rows, unary_rows, lgr_row, lr_row, two_at, three_at, ImmediateRows, compared, halfword_rows, three_halfword_rows, signed_word_rows, unsigned_word_rows, cmp_halfword_rows, cmp_signed_word_rows, cmp_unsigned_word_rows, iilf_row, lhi_row, lghi_row, lgfi_row, halfword_at, word_at, three_halfword_at, compare_halfword_at, compare_word_at, loosens, three_looser, two_looser, none_but_zero, PairRow, pair_at, Meant, meant_at, ri_a_at, ril_a_at, low_small}
 use Rattle.s390x_machine.proofs.Branches.{jump_runs, TwoBranches, choose_runs, leads_runs, returns_runs, address_runs}
@@ -226,49 +226,49 @@ module _ (L : Layout) (all : AllPlaced L) (k : ℕ) (s : Step) (at : slice_get L
   small : L.places.step k < 2 ^ 31
   small = offset_small L all k (omega (arith, within))
 
-  formed : (f : Form) → form_of (Some s) ≡ Some f → form_at L k ≡ Some f
-  formed f e = ap form_of at ∙ e
+  formed : (f : Form) → form_of L (Some s) ≡ Some f → form_at L k ≡ Some f
+  formed f e = ap (form_of L) at ∙ e
 
-  two_runs : (opcode : ℕ) (meaning : Meaning) → TwoRow opcode meaning → (does operation : Registers → Operation) (d m : ℕ) → form_of (Some s) ≡ Some (Performs false operation no_code) → step_parts s ≡ Row (two_operands opcode d m) ∷ [] → d < 16 → m < 16 → ((r : Registers) (p : ℕ) → action meaning (register_fields d m 0) r p ≡ Perform (does r)) → ((r : Registers) → Refines (does r) (operation r)) → NeverStops operation → StepRuns L k
+  two_runs : (opcode : ℕ) (meaning : Meaning) → TwoRow opcode meaning → (does operation : Registers → Operation) (d m : ℕ) → form_of L (Some s) ≡ Some (Performs false operation no_code) → step_parts s ≡ Row (two_operands opcode d m) ∷ [] → d < 16 → m < 16 → ((r : Registers) (p : ℕ) → action meaning (register_fields d m 0) r p ≡ Perform (does r)) → ((r : Registers) → Refines (does r) (operation r)) → NeverStops operation → StepRuns L k
   two_runs opcode meaning row does operation d m is parts ld lm acts refines never =
       let one = one_row L k s placed (two_operands opcode d m) parts in
       row_alone L k operation no_code (λ r. Perform (does r)) (size_of (two_operands opcode d m)) (formed _ is) (two_at L all (L.places.step k) even opcode meaning row does d m ld lm acts one.stands) refines (uncoded L (place L k)) never one.size (two_some opcode d m)
 
-  three_runs : (opcode : ℕ) (meaning : Meaning) → ThreeRow opcode meaning → (does operation : Registers → Operation) (d n m : ℕ) → form_of (Some s) ≡ Some (Performs false operation no_code) → step_parts s ≡ Row (rrf_ab opcode d n m 0) ∷ [] → d < 16 → n < 16 → m < 16 → ((r : Registers) (p : ℕ) → action meaning (register_fields d n m) r p ≡ Perform (does r)) → ((r : Registers) → Refines (does r) (operation r)) → NeverStops operation → StepRuns L k
+  three_runs : (opcode : ℕ) (meaning : Meaning) → ThreeRow opcode meaning → (does operation : Registers → Operation) (d n m : ℕ) → form_of L (Some s) ≡ Some (Performs false operation no_code) → step_parts s ≡ Row (rrf_ab opcode d n m 0) ∷ [] → d < 16 → n < 16 → m < 16 → ((r : Registers) (p : ℕ) → action meaning (register_fields d n m) r p ≡ Perform (does r)) → ((r : Registers) → Refines (does r) (operation r)) → NeverStops operation → StepRuns L k
   unfolding length_of
   three_runs opcode meaning row does operation d n m is parts ld ln lm acts refines never =
       let one = one_row L k s placed (rrf_ab opcode d n m 0) parts in
       row_alone L k operation no_code (λ r. Perform (does r)) 4 (formed _ is) (three_at L all (L.places.step k) even opcode meaning row does d n m ld ln lm acts one.stands) refines (uncoded L (place L k)) never one.size (omega arith)
 
   -- a row of a register and an immediate, which does the step's operation
-  immediate_runs : (m : MachineInstruction) (operation : Registers → Operation) → NeverStops operation → form_of (Some s) ≡ Some (Performs false operation no_code) → step_parts s ≡ Row m ∷ [] → 0 < size_of m → (StandsAt L.image (L.places.step k) (bytes_of m) → RowAt L (place L k) (λ r. Perform (operation r)) (size_of m)) → StepRuns L k
+  immediate_runs : (m : MachineInstruction) (operation : Registers → Operation) → NeverStops operation → form_of L (Some s) ≡ Some (Performs false operation no_code) → step_parts s ≡ Row m ∷ [] → 0 < size_of m → (StandsAt L.image (L.places.step k) (bytes_of m) → RowAt L (place L k) (λ r. Perform (operation r)) (size_of m)) → StepRuns L k
   immediate_runs m operation never is parts some at_row =
       let one = one_row L k s placed m parts in
       row_alone L k operation no_code (λ r. Perform (operation r)) (size_of m) (formed _ is) (at_row one.stands) (λ r. exactly (operation r)) (uncoded L (place L k)) never one.size some
 
   -- an operator with an immediate of 16 bits, or of 32, where it has a row
-  one_of_halfword : (fine : Bool) (o : Option ℕ) (c : Computation) (rule : CodeRule) → ImmediateRows RiA 4096 o (computed c Immediate rule) → (d bits : ℕ) → form_of (Some s) ≡ Some (Performs false (computes_immediate rule c d d bits) no_code) → step_parts s ≡ parts_or (alone_with fine (halfword_row o d bits)) [] → FineOr (alone_with fine (halfword_row o d bits)) ⊥ → (IsTrue fine → d < 16) → bits < 2 ^ 16 → StepRuns L k
+  one_of_halfword : (fine : Bool) (o : Option ℕ) (c : Computation) (rule : CodeRule) → ImmediateRows RiA 4096 o (computed c Immediate rule) → (d bits : ℕ) → form_of L (Some s) ≡ Some (Performs false (computes_immediate rule c d d bits) no_code) → step_parts s ≡ parts_or (alone_with fine (halfword_row o d bits)) [] → FineOr (alone_with fine (halfword_row o d bits)) ⊥ → (IsTrue fine → d < 16) → bits < 2 ^ 16 → StepRuns L k
   unfolding length_of
   one_of_halfword fine None c rule row d bits is parts h small lb = absurd h
   one_of_halfword fine (Some opcode) c rule row d bits is parts h small lb = immediate_runs (ri_a opcode d bits) (computes_immediate rule c d d bits) (computes_immediate_always rule c d d bits) is parts (omega arith) (λ st. halfword_at L all (L.places.step k) even opcode c rule row d bits (small h) lb st)
 
-  one_of_word : (fine : Bool) (o : Option ℕ) (c : Computation) (rule : CodeRule) → ImmediateRows RilA 4096 o (computed c Immediate rule) → (d bits : ℕ) → form_of (Some s) ≡ Some (Performs false (computes_immediate rule c d d bits) no_code) → step_parts s ≡ parts_or (alone_with fine (word_row o d bits)) [] → FineOr (alone_with fine (word_row o d bits)) ⊥ → (IsTrue fine → d < 16) → bits < 2 ^ 32 → StepRuns L k
+  one_of_word : (fine : Bool) (o : Option ℕ) (c : Computation) (rule : CodeRule) → ImmediateRows RilA 4096 o (computed c Immediate rule) → (d bits : ℕ) → form_of L (Some s) ≡ Some (Performs false (computes_immediate rule c d d bits) no_code) → step_parts s ≡ parts_or (alone_with fine (word_row o d bits)) [] → FineOr (alone_with fine (word_row o d bits)) ⊥ → (IsTrue fine → d < 16) → bits < 2 ^ 32 → StepRuns L k
   unfolding length_of
   one_of_word fine None c rule row d bits is parts h small lb = absurd h
   one_of_word fine (Some opcode) c rule row d bits is parts h small lb = immediate_runs (ril_a opcode d bits) (computes_immediate rule c d d bits) (computes_immediate_always rule c d d bits) is parts (omega arith) (λ st. word_at L all (L.places.step k) even opcode c rule row d bits (small h) lb st)
 
-  compare_of_halfword : (fine : Bool) (o : Option ℕ) (c : Comparison) → ImmediateRows RiA 4096 o (compared c) → (n bits : ℕ) → form_of (Some s) ≡ Some (Performs false (compares_immediate c n bits) no_code) → step_parts s ≡ parts_or (alone_with fine (halfword_row o n bits)) [] → FineOr (alone_with fine (halfword_row o n bits)) ⊥ → (IsTrue fine → n < 16) → bits < 2 ^ 16 → StepRuns L k
+  compare_of_halfword : (fine : Bool) (o : Option ℕ) (c : Comparison) → ImmediateRows RiA 4096 o (compared c) → (n bits : ℕ) → form_of L (Some s) ≡ Some (Performs false (compares_immediate c n bits) no_code) → step_parts s ≡ parts_or (alone_with fine (halfword_row o n bits)) [] → FineOr (alone_with fine (halfword_row o n bits)) ⊥ → (IsTrue fine → n < 16) → bits < 2 ^ 16 → StepRuns L k
   unfolding length_of
   compare_of_halfword fine None c row n bits is parts h small lb = absurd h
   compare_of_halfword fine (Some opcode) c row n bits is parts h small lb = immediate_runs (ri_a opcode n bits) (compares_immediate c n bits) (compares_immediate_always c n bits) is parts (omega arith) (λ st. compare_halfword_at L all (L.places.step k) even opcode c row n bits (small h) lb st)
 
-  compare_of_word : (fine : Bool) (o : Option ℕ) (c : Comparison) → ImmediateRows RilA 4096 o (compared c) → (n bits : ℕ) → form_of (Some s) ≡ Some (Performs false (compares_immediate c n bits) no_code) → step_parts s ≡ parts_or (alone_with fine (word_row o n bits)) [] → FineOr (alone_with fine (word_row o n bits)) ⊥ → (IsTrue fine → n < 16) → bits < 2 ^ 32 → StepRuns L k
+  compare_of_word : (fine : Bool) (o : Option ℕ) (c : Comparison) → ImmediateRows RilA 4096 o (compared c) → (n bits : ℕ) → form_of L (Some s) ≡ Some (Performs false (compares_immediate c n bits) no_code) → step_parts s ≡ parts_or (alone_with fine (word_row o n bits)) [] → FineOr (alone_with fine (word_row o n bits)) ⊥ → (IsTrue fine → n < 16) → bits < 2 ^ 32 → StepRuns L k
   unfolding length_of
   compare_of_word fine None c row n bits is parts h small lb = absurd h
   compare_of_word fine (Some opcode) c row n bits is parts h small lb = immediate_runs (ril_a opcode n bits) (compares_immediate c n bits) (compares_immediate_always c n bits) is parts (omega arith) (λ st. compare_word_at L all (L.places.step k) even opcode c row n bits (small h) lb st)
 
   -- an immediate of 16 bits into another register, or two operands where the input is the output
-  three_halfword_runs : (fine : Bool) (three two : Option ℕ) (c : Computation) (rule : CodeRule) → ImmediateRows RieD 65536 three (computed c ThreeImmediate rule) → ImmediateRows RiA 4096 two (computed c Immediate rule) → (d n bits : ℕ) → form_of (Some s) ≡ Some (Performs false (computes_immediate rule c d n bits) no_code) → step_parts s ≡ parts_or (alone_with fine (three_halfword_row three two d n bits)) [] → FineOr (alone_with fine (three_halfword_row three two d n bits)) ⊥ → (IsTrue fine → (d < 16) × (n < 16)) → bits < 2 ^ 16 → StepRuns L k
+  three_halfword_runs : (fine : Bool) (three two : Option ℕ) (c : Computation) (rule : CodeRule) → ImmediateRows RieD 65536 three (computed c ThreeImmediate rule) → ImmediateRows RiA 4096 two (computed c Immediate rule) → (d n bits : ℕ) → form_of L (Some s) ≡ Some (Performs false (computes_immediate rule c d n bits) no_code) → step_parts s ≡ parts_or (alone_with fine (three_halfword_row three two d n bits)) [] → FineOr (alone_with fine (three_halfword_row three two d n bits)) ⊥ → (IsTrue fine → (d < 16) × (n < 16)) → bits < 2 ^ 16 → StepRuns L k
   unfolding length_of
   three_halfword_runs fine None two c rule row3 row2 d n bits is parts h small lb = absurd h
   three_halfword_runs fine (Some three) None c rule row3 row2 d n bits is parts h small lb =
@@ -286,19 +286,19 @@ module _ (L : Layout) (all : AllPlaced L) (k : ℕ) (s : Step) (at : slice_get L
           immediate_runs (rie_d three d n bits) (computes_immediate rule c d n bits) (computes_immediate_always rule c d n bits) is is_row (omega arith) (λ st. three_halfword_at L all (L.places.step k) even three c rule row3 d n bits l.0 l.1 lb st)
 
   -- any row whose action is the step's operation
-  meant_runs : (kind : FormatKind) (allowed : Allowed) (opcode : ℕ) (fields : List ℕ) (meaning : Meaning) (operation : Registers → Operation) → NeverStops operation → form_of (Some s) ≡ Some (Performs false operation no_code) → step_parts s ≡ Row (record { format = kind; slots = opcode ∷ fields }) ∷ [] → 0 < length_of kind → Meant kind allowed opcode meaning → SlotsFit (layout_of kind) (opcode ∷ fields) → is_allowed allowed (opcode ∷ fields) ≡ true → ((r : Registers) (p : ℕ) → action meaning (fields_of kind (opcode ∷ fields)) r p ≡ Perform (operation r)) → StepRuns L k
+  meant_runs : (kind : FormatKind) (allowed : Allowed) (opcode : ℕ) (fields : List ℕ) (meaning : Meaning) (operation : Registers → Operation) → NeverStops operation → form_of L (Some s) ≡ Some (Performs false operation no_code) → step_parts s ≡ Row (record { format = kind; slots = opcode ∷ fields }) ∷ [] → 0 < length_of kind → Meant kind allowed opcode meaning → SlotsFit (layout_of kind) (opcode ∷ fields) → is_allowed allowed (opcode ∷ fields) ≡ true → ((r : Registers) (p : ℕ) → action meaning (fields_of kind (opcode ∷ fields)) r p ≡ Perform (operation r)) → StepRuns L k
   meant_runs kind allowed opcode fields meaning operation never is parts some row fit allows acts =
       immediate_runs (record { format = kind; slots = opcode ∷ fields }) operation never is parts some (λ st. meant_at L all (L.places.step k) even kind allowed opcode fields meaning operation row fit allows acts st)
 
   -- an operator with an immediate of 16 bits, or of 32, at its place in the register
-  placed_halfword : (fine : Bool) (o : Option ℕ) (operator : Operator) (rule : CodeRule) (n : ℕ) → ImmediateRows RiA 4096 o (immediate_at (on_doublewords operator) n rule) → (d bits : ℕ) → form_of (Some s) ≡ Some (Performs false (computes_immediate rule (on_doublewords operator) d d (bits * 2 ^ n)) no_code) → step_parts s ≡ parts_or (alone_with fine (halfword_row o d bits)) [] → FineOr (alone_with fine (halfword_row o d bits)) ⊥ → (IsTrue fine → d < 16) → bits < 2 ^ 16 → StepRuns L k
+  placed_halfword : (fine : Bool) (o : Option ℕ) (operator : Operator) (rule : CodeRule) (n : ℕ) → ImmediateRows RiA 4096 o (immediate_at (on_doublewords operator) n rule) → (d bits : ℕ) → form_of L (Some s) ≡ Some (Performs false (computes_immediate rule (on_doublewords operator) d d (bits * 2 ^ n)) no_code) → step_parts s ≡ parts_or (alone_with fine (halfword_row o d bits)) [] → FineOr (alone_with fine (halfword_row o d bits)) ⊥ → (IsTrue fine → d < 16) → bits < 2 ^ 16 → StepRuns L k
   unfolding length_of
   placed_halfword fine None operator rule n row d bits is parts h small lb = absurd h
   placed_halfword fine (Some opcode) operator rule n row d bits is parts h small lb =
       let op = computes_immediate rule (on_doublewords operator) d d (bits * 2 ^ n) in
       immediate_runs (ri_a opcode d bits) op (computes_immediate_always rule (on_doublewords operator) d d (bits * 2 ^ n)) is parts (omega arith) (λ st. ri_a_at L all (L.places.step k) even opcode (immediate_at (on_doublewords operator) n rule) row op d bits (small h) lb (λ r p. ap (λ x. Perform (computes_immediate rule (on_doublewords operator) d d (x * 2 ^ n) r)) (low_small bits (omega (arith, lb)))) st)
 
-  placed_word : (fine : Bool) (o : Option ℕ) (operator : Operator) (rule : CodeRule) (n : ℕ) → ImmediateRows RilA 4096 o (immediate_at (on_doublewords operator) n rule) → (d bits : ℕ) → form_of (Some s) ≡ Some (Performs false (computes_immediate rule (on_doublewords operator) d d (bits * 2 ^ n)) no_code) → step_parts s ≡ parts_or (alone_with fine (word_row o d bits)) [] → FineOr (alone_with fine (word_row o d bits)) ⊥ → (IsTrue fine → d < 16) → bits < 2 ^ 32 → StepRuns L k
+  placed_word : (fine : Bool) (o : Option ℕ) (operator : Operator) (rule : CodeRule) (n : ℕ) → ImmediateRows RilA 4096 o (immediate_at (on_doublewords operator) n rule) → (d bits : ℕ) → form_of L (Some s) ≡ Some (Performs false (computes_immediate rule (on_doublewords operator) d d (bits * 2 ^ n)) no_code) → step_parts s ≡ parts_or (alone_with fine (word_row o d bits)) [] → FineOr (alone_with fine (word_row o d bits)) ⊥ → (IsTrue fine → d < 16) → bits < 2 ^ 32 → StepRuns L k
   unfolding length_of
   placed_word fine None operator rule n row d bits is parts h small lb = absurd h
   placed_word fine (Some opcode) operator rule n row d bits is parts h small lb =
@@ -306,10 +306,10 @@ module _ (L : Layout) (all : AllPlaced L) (k : ℕ) (s : Step) (at : slice_get L
       immediate_runs (ril_a opcode d bits) op (computes_immediate_always rule (on_doublewords operator) d d (bits * 2 ^ n)) is parts (omega arith) (λ st. ril_a_at L all (L.places.step k) even opcode (immediate_at (on_doublewords operator) n rule) row op d bits (small h) lb (λ r p. ap (λ x. Perform (computes_immediate rule (on_doublewords operator) d d (x * 2 ^ n) r)) (low_small bits (omega (arith, lb)))) st)
 
   -- a half is inserted: the right one by the row of a move of 32 bits
-  inserted_half : (fine : Bool) (shift d bits : ℕ) → form_of (Some s) ≡ Some (Performs false (computes_immediate Kept (inserts_half shift) d d (at_half shift bits)) no_code) → step_parts s ≡ parts_or (alone_with fine (word_row (insert_half shift) d bits)) [] → FineOr (alone_with fine (word_row (insert_half shift) d bits)) ⊥ → (IsTrue fine → d < 16) → bits < 2 ^ 32 → StepRuns L k
+  inserted_half : (fine : Bool) (shift d bits : ℕ) → form_of L (Some s) ≡ Some (Performs false (computes_immediate Kept (inserts_half shift) d d (at_half shift bits)) no_code) → step_parts s ≡ parts_or (alone_with fine (word_row (insert_half shift) d bits)) [] → FineOr (alone_with fine (word_row (insert_half shift) d bits)) ⊥ → (IsTrue fine → d < 16) → bits < 2 ^ 32 → StepRuns L k
   inserted_half fine shift d bits is parts h small lb = go (nat_eq shift 0) refl (nat_eq shift 1) refl is parts h
     where
-      go : (t : Bool) → nat_eq shift 0 ≡ t → (u : Bool) → nat_eq shift 1 ≡ u → form_of (Some s) ≡ Some (Performs false (computes_immediate Kept (cond t (on_words Move) (on_selected Select.Insert (half_mask shift))) d d (bits * 2 ^ (32 * shift))) no_code) → step_parts s ≡ parts_or (alone_with fine (word_row (cond t (Some 0xc09) (cond u (Some 0xc08) None)) d bits)) [] → FineOr (alone_with fine (word_row (cond t (Some 0xc09) (cond u (Some 0xc08) None)) d bits)) ⊥ → StepRuns L k
+      go : (t : Bool) → nat_eq shift 0 ≡ t → (u : Bool) → nat_eq shift 1 ≡ u → form_of L (Some s) ≡ Some (Performs false (computes_immediate Kept (cond t (on_words Move) (on_selected Select.Insert (half_mask shift))) d d (bits * 2 ^ (32 * shift))) no_code) → step_parts s ≡ parts_or (alone_with fine (word_row (cond t (Some 0xc09) (cond u (Some 0xc08) None)) d bits)) [] → FineOr (alone_with fine (word_row (cond t (Some 0xc09) (cond u (Some 0xc08) None)) d bits)) ⊥ → StepRuns L k
       go true e u f is2 parts2 h2 =
           let same : bits * 2 ^ (32 * shift) ≡ bits = ap (λ i. bits * 2 ^ (32 * i)) (eqb-true shift 0 e) ∙ omega arith in
           one_of_word fine (Some 0xc09) (on_words Move) Kept iilf_row d bits (is2 ∙ ap (λ x. Some (Performs false (computes_immediate Kept (on_words Move) d d x) no_code)) same) parts2 h2 small lb
@@ -317,7 +317,7 @@ module _ (L : Layout) (all : AllPlaced L) (k : ℕ) (s : Step) (at : slice_get L
           placed_word fine (Some 0xc08) (SelectedBits Select.Insert (half_mask 1)) Kept 32 iihf_row d bits (is2 ∙ ap (λ i. Some (Performs false (computes_immediate Kept (on_selected Select.Insert (half_mask i)) d d (bits * 2 ^ (32 * i))) no_code)) (eqb-true shift 1 f)) parts2 h2 small lb
       go false e false f is2 parts2 h2 = absurd h2
 
-  shift_runs : (op : ShiftOp) (fine : Bool) (d n base amount : ℕ) → form_of (Some s) ≡ Some (Performs false (shifts op d n base (low_byte amount)) no_code) → step_parts s ≡ Row (rsy (shift_storage op) d n base (low_byte amount)) ∷ [] → IsTrue fine → (IsTrue fine → (d < 16) × (n < 16) × (base < 16)) → StepRuns L k
+  shift_runs : (op : ShiftOp) (fine : Bool) (d n base amount : ℕ) → form_of L (Some s) ≡ Some (Performs false (shifts op d n base (low_byte amount)) no_code) → step_parts s ≡ Row (rsy (shift_storage op) d n base (low_byte amount)) ∷ [] → IsTrue fine → (IsTrue fine → (d < 16) × (n < 16) × (base < 16)) → StepRuns L k
   unfolding length_of
   shift_runs op fine d n base amount is parts h small =
       let l = small h in
@@ -325,7 +325,7 @@ module _ (L : Layout) (all : AllPlaced L) (k : ℕ) (s : Step) (at : slice_get L
       meant_runs Rsy Any (shift_storage op) (d ∷ n ∷ base ∷ 0 ∷ 0 ∷ 0 ∷ 0 ∷ 0 ∷ low_byte amount ∷ []) (shift_meaning op) (shifts op d n base (low_byte amount)) (λ r. never_by_values (shifts op d n base (low_byte amount) r) no_code refl (λ kind h. h)) is parts (omega arith) (shift_rows op) (fits_rsy (shift_storage op) d n base (low_byte amount) (shift_rows op).few l.0 l.1 l.2 (omega arith)) refl (λ r p.
       ap (λ t. Perform (with_rule (shift_rule op) (Effect.Compute (Shift (shift_operator op)) (shift_size op) d (value_in (shift_size op) r n) (operand_of (shift_computation op).second (based r base (cond t (pos (low_byte amount)) (pos (low_byte amount) -ℤ pos (2 ^ 20)))))))) (below (low_byte amount) (2 ^ 19) byte))
 
-  rotate_runs : (op : RxSBGOp) (fine : Bool) (d n start end : ℕ) (amount : ℤ) → form_of (Some s) ≡ Some (Performs false (rotates_into op d n start end (rotation amount)) no_code) → step_parts s ≡ parts_or (alone_with fine (rotated_row (Some (rotate_then op)) d n start end start (rotation amount))) [] → FineOr (alone_with fine (rotated_row (Some (rotate_then op)) d n start end start (rotation amount))) ⊥ → (IsTrue fine → (d < 16) × (n < 16)) → StepRuns L k
+  rotate_runs : (op : RxSBGOp) (fine : Bool) (d n start end : ℕ) (amount : ℤ) → form_of L (Some s) ≡ Some (Performs false (rotates_into op d n start end (rotation amount)) no_code) → step_parts s ≡ parts_or (alone_with fine (rotated_row (Some (rotate_then op)) d n start end start (rotation amount))) [] → FineOr (alone_with fine (rotated_row (Some (rotate_then op)) d n start end start (rotation amount))) ⊥ → (IsTrue fine → (d < 16) × (n < 16)) → StepRuns L k
   unfolding length_of
   rotate_runs op fine d n start end amount is parts h small = go (nat_lt start 64 && nat_lt end 64) refl parts h
     where
@@ -343,7 +343,7 @@ module _ (L : Layout) (all : AllPlaced L) (k : ℕ) (s : Step) (at : slice_get L
           ap (λ t. cond t (Perform (rotates_into op d n start end am r)) (Perform (with_rule Set (Effect.Test (SelectedBits (rotate_operator op) (selection (start - 128) end)) Doubleword (r.general d) (rotated_operand r n am))))) (below start 64 ls))
 
   -- the same for the code alone
-  tested : (op : RxSBGOp) → rotate_allows op ≡ RotateBitsOrTest → (fine : Bool) (d n start end : ℕ) (amount : ℤ) → form_of (Some s) ≡ Some (Performs false (rotates_to_test op d n start end (rotation amount)) no_code) → step_parts s ≡ parts_or (alone_with fine (rotated_row (Some (rotate_then op)) d n start end (start + 128) (rotation amount))) [] → FineOr (alone_with fine (rotated_row (Some (rotate_then op)) d n start end (start + 128) (rotation amount))) ⊥ → (IsTrue fine → (d < 16) × (n < 16)) → StepRuns L k
+  tested : (op : RxSBGOp) → rotate_allows op ≡ RotateBitsOrTest → (fine : Bool) (d n start end : ℕ) (amount : ℤ) → form_of L (Some s) ≡ Some (Performs false (rotates_to_test op d n start end (rotation amount)) no_code) → step_parts s ≡ parts_or (alone_with fine (rotated_row (Some (rotate_then op)) d n start end (start + 128) (rotation amount))) [] → FineOr (alone_with fine (rotated_row (Some (rotate_then op)) d n start end (start + 128) (rotation amount))) ⊥ → (IsTrue fine → (d < 16) × (n < 16)) → StepRuns L k
   unfolding length_of
   tested op tests_alone fine d n start end amount is parts h small = go (nat_lt start 64 && nat_lt end 64) refl parts h
     where
@@ -361,14 +361,14 @@ module _ (L : Layout) (all : AllPlaced L) (k : ℕ) (s : Step) (at : slice_get L
           meant_runs RieF (rotate_allows op) (rotate_then op) (d ∷ n ∷ 0 ∷ 0 ∷ (start + 128) ∷ end ∷ am ∷ 0 ∷ 0 ∷ []) (RotateThen (rotate_operator op) (rotate_rule op)) (rotates_to_test op d n start end am) (λ r. never_by_values (rotates_to_test op d n start end am r) no_code refl (λ kind h. h)) is parts2 (omega arith) (rotate_rows op) (fits_rie_f (rotate_then op) d n (start + 128) end am (rotate_rows op).few l.0 l.1 (omega (arith, ls)) (omega (arith, le)) (omega (arith, rotation_small amount))) (ap (λ a. is_allowed a (rie_f (rotate_then op) d n (start + 128) end am).slots) tests_alone ∙ test_allowed (rotate_then op) d n start end am ls le (rotation_small amount)) (λ r p.
           ap (λ t. cond t (Perform (with_rule (rotate_rule op) (Effect.Compute (SelectedBits (rotate_operator op) (selection (start + 128) end)) Doubleword d (r.general d) (rotated_operand r n am)))) (Perform (rotates_to_test op d n (start + 128 - 128) end am r))) (not_below (start + 128) 64 (omega arith)) ∙ ap (λ i. Perform (rotates_to_test op d n i end am r)) back)
 
-  test_runs : (op : RxSBGOp) (fine : Bool) (d n start end : ℕ) (amount : ℤ) → form_of (Some s) ≡ Some (Performs false (rotates_to_test op d n start end (rotation amount)) no_code) → step_parts s ≡ parts_or (alone_with fine (rotated_row (rotate_then_test op) d n start end (start + 128) (rotation amount))) [] → FineOr (alone_with fine (rotated_row (rotate_then_test op) d n start end (start + 128) (rotation amount))) ⊥ → (IsTrue fine → (d < 16) × (n < 16)) → StepRuns L k
+  test_runs : (op : RxSBGOp) (fine : Bool) (d n start end : ℕ) (amount : ℤ) → form_of L (Some s) ≡ Some (Performs false (rotates_to_test op d n start end (rotation amount)) no_code) → step_parts s ≡ parts_or (alone_with fine (rotated_row (rotate_then_test op) d n start end (start + 128) (rotation amount))) [] → FineOr (alone_with fine (rotated_row (rotate_then_test op) d n start end (start + 128) (rotation amount))) ⊥ → (IsTrue fine → (d < 16) × (n < 16)) → StepRuns L k
   test_runs R.Insert fine d n start end amount is parts h small = absurd h
   test_runs R.And fine d n start end amount is parts h small = tested R.And refl fine d n start end amount is parts h small
   test_runs R.Or fine d n start end amount is parts h small = tested R.Or refl fine d n start end amount is parts h small
   test_runs R.Xor fine d n start end amount is parts h small = tested R.Xor refl fine d n start end amount is parts h small
 
   -- a conditional move of a register
-  move_where_runs : (opcode : ℕ) (size : Size) (second : Second) → Meant RrfCde any_mask opcode (MoveWhere size (second_register Register second)) → (fine : Bool) (mask d m : ℕ) → form_of (Some s) ≡ Some (Performs false (moves_where size second (four_bits mask) d m) no_code) → step_parts s ≡ Row (rrf_cde opcode d m (four_bits mask) 0) ∷ [] → IsTrue fine → (IsTrue fine → (d < 16) × (m < 16)) → StepRuns L k
+  move_where_runs : (opcode : ℕ) (size : Size) (second : Second) → Meant RrfCde any_mask opcode (MoveWhere size (second_register Register second)) → (fine : Bool) (mask d m : ℕ) → form_of L (Some s) ≡ Some (Performs false (moves_where size second (four_bits mask) d m) no_code) → step_parts s ≡ Row (rrf_cde opcode d m (four_bits mask) 0) ∷ [] → IsTrue fine → (IsTrue fine → (d < 16) × (m < 16)) → StepRuns L k
   unfolding length_of
   move_where_runs opcode size second row fine mask d m is parts h small =
       let l = small h in
@@ -376,49 +376,49 @@ module _ (L : Layout) (all : AllPlaced L) (k : ℕ) (s : Step) (at : slice_get L
       meant_runs RrfCde any_mask opcode (d ∷ m ∷ 0 ∷ 0 ∷ four_bits mask ∷ 0 ∷ 0 ∷ 0 ∷ 0 ∷ []) (MoveWhere size (second_register Register second)) (moves_where size second (four_bits mask) d m) (λ r. where_never (is_selected (four_bits mask) r.code) _ no_code refl (λ kind h. h)) is parts (omega arith) row (fits_rrf_cde opcode d m (four_bits mask) row.few l.0 l.1 lm) (mask_allowed opcode d m (four_bits mask) lm) (λ r p. refl)
 
   -- and of an immediate
-  move_immediate_where_runs : (opcode : ℕ) (size : Size) → Meant RieG Any opcode (MoveWhere size (second_register Immediate signed_halfword)) → (fine : Bool) (mask d bits : ℕ) → form_of (Some s) ≡ Some (Performs false (moves_immediate_where size (four_bits mask) d bits) no_code) → step_parts s ≡ Row (rie_g opcode d bits (four_bits mask)) ∷ [] → IsTrue fine → (IsTrue fine → d < 16) → bits < 2 ^ 16 → StepRuns L k
+  move_immediate_where_runs : (opcode : ℕ) (size : Size) → Meant RieG Any opcode (MoveWhere size (second_register Immediate signed_halfword)) → (fine : Bool) (mask d bits : ℕ) → form_of L (Some s) ≡ Some (Performs false (moves_immediate_where size (four_bits mask) d bits) no_code) → step_parts s ≡ Row (rie_g opcode d bits (four_bits mask)) ∷ [] → IsTrue fine → (IsTrue fine → d < 16) → bits < 2 ^ 16 → StepRuns L k
   unfolding length_of
   move_immediate_where_runs opcode size row fine mask d bits is parts h small lb =
       let lm : four_bits mask < 16 = omega arith in
       meant_runs RieG Any opcode (d ∷ 0 ∷ 0 ∷ 0 ∷ four_bits mask ∷ 0 ∷ 0 ∷ bits ∷ 0 ∷ []) (MoveWhere size (second_register Immediate signed_halfword)) (moves_immediate_where size (four_bits mask) d bits) (λ r. where_never (is_selected (four_bits mask) r.code) _ no_code refl (λ kind h. h)) is parts (omega arith) row (fits_rie_g opcode d bits (four_bits mask) row.few (small h) lb lm) refl (λ r p. ap (λ x. Perform (moves_immediate_where size (four_bits mask) d x r)) (low_small bits (omega (arith, lb))))
 
   -- a row of an even pair whose action is the step's operation
-  pair_runs : (kind : FormatKind) (allowed : Allowed) (opcode pair : ℕ) (fields : List ℕ) (meaning : Meaning) (operation : Registers → Operation) → NeverStops operation → form_of (Some s) ≡ Some (Performs false operation no_code) → step_parts s ≡ Row (record { format = kind; slots = opcode ∷ pair ∷ fields }) ∷ [] → 0 < length_of kind → PairRow kind allowed opcode meaning → pair % 2 ≡ 0 → SlotsFit (layout_of kind) (opcode ∷ pair ∷ fields) → is_allowed allowed (opcode ∷ pair ∷ fields) ≡ true → ((r : Registers) (p : ℕ) → action meaning (fields_of kind (opcode ∷ pair ∷ fields)) r p ≡ Perform (operation r)) → StepRuns L k
+  pair_runs : (kind : FormatKind) (allowed : Allowed) (opcode pair : ℕ) (fields : List ℕ) (meaning : Meaning) (operation : Registers → Operation) → NeverStops operation → form_of L (Some s) ≡ Some (Performs false operation no_code) → step_parts s ≡ Row (record { format = kind; slots = opcode ∷ pair ∷ fields }) ∷ [] → 0 < length_of kind → PairRow kind allowed opcode meaning → pair % 2 ≡ 0 → SlotsFit (layout_of kind) (opcode ∷ pair ∷ fields) → is_allowed allowed (opcode ∷ pair ∷ fields) ≡ true → ((r : Registers) (p : ℕ) → action meaning (fields_of kind (opcode ∷ pair ∷ fields)) r p ≡ Perform (operation r)) → StepRuns L k
   pair_runs kind allowed opcode pair fields meaning operation never is parts some row is_even fit allows acts =
       immediate_runs (record { format = kind; slots = opcode ∷ pair ∷ fields }) operation never is parts some (λ st. pair_at L all (L.places.step k) even kind allowed opcode (pair ∷ fields) meaning operation row (even_pair meaning (fields_of kind (opcode ∷ pair ∷ fields)) is_even) fit allows acts st)
 
-  signed_runs : (fine : Bool) (pair n m : ℕ) → form_of (Some s) ≡ Some (Performs false (multiplies_signed pair n m) no_code) → step_parts s ≡ Row (rrf_ab 0xb9ec pair n m 0) ∷ [] → IsTrue fine → (IsTrue fine → (pair < 16) × (pair % 2 ≡ 0) × (n < 16) × (m < 16)) → StepRuns L k
+  signed_runs : (fine : Bool) (pair n m : ℕ) → form_of L (Some s) ≡ Some (Performs false (multiplies_signed pair n m) no_code) → step_parts s ≡ Row (rrf_ab 0xb9ec pair n m 0) ∷ [] → IsTrue fine → (IsTrue fine → (pair < 16) × (pair % 2 ≡ 0) × (n < 16) × (m < 16)) → StepRuns L k
   unfolding length_of
   signed_runs fine pair n m is parts h small =
       let l = small h in
       pair_runs RrfAb none_but_zero 0xb9ec pair (n ∷ m ∷ 0 ∷ 0 ∷ 0 ∷ 0 ∷ 0 ∷ 0 ∷ []) MultiplySigned (multiplies_signed pair n m) (λ r. never_by_values (multiplies_signed pair n m r) no_code refl (λ kind h. h)) is parts (omega arith) mgrk_row l.1 (fits_rrf_ab 0xb9ec pair n m (omega arith) l.0 l.2 l.3) refl (λ r p. refl)
 
-  logical_runs : (fine : Bool) (pair m : ℕ) → form_of (Some s) ≡ Some (Performs false (multiplies_logical pair m) no_code) → step_parts s ≡ Row (rre 0xb986 pair m) ∷ [] → IsTrue fine → (IsTrue fine → (pair < 16) × (pair % 2 ≡ 0) × (m < 16)) → StepRuns L k
+  logical_runs : (fine : Bool) (pair m : ℕ) → form_of L (Some s) ≡ Some (Performs false (multiplies_logical pair m) no_code) → step_parts s ≡ Row (rre 0xb986 pair m) ∷ [] → IsTrue fine → (IsTrue fine → (pair < 16) × (pair % 2 ≡ 0) × (m < 16)) → StepRuns L k
   unfolding length_of
   logical_runs fine pair m is parts h small =
       let l = small h in
       pair_runs Rre Any 0xb986 pair (m ∷ 0 ∷ 0 ∷ 0 ∷ 0 ∷ 0 ∷ 0 ∷ 0 ∷ []) MultiplyLogical (multiplies_logical pair m) (λ r. never_by_values (multiplies_logical pair m r) no_code refl (λ kind h. h)) is parts (omega arith) mlgr_row l.1 (fits_rre 0xb986 pair m (omega arith) l.0 l.2) refl (λ r p. refl)
 
-  leftmost_runs : (fine : Bool) (pair n : ℕ) → form_of (Some s) ≡ Some (Performs false (finds_leftmost pair n) no_code) → step_parts s ≡ Row (rre 0xb983 pair n) ∷ [] → IsTrue fine → (IsTrue fine → (pair < 16) × (pair % 2 ≡ 0) × (n < 16)) → StepRuns L k
+  leftmost_runs : (fine : Bool) (pair n : ℕ) → form_of L (Some s) ≡ Some (Performs false (finds_leftmost pair n) no_code) → step_parts s ≡ Row (rre 0xb983 pair n) ∷ [] → IsTrue fine → (IsTrue fine → (pair < 16) × (pair % 2 ≡ 0) × (n < 16)) → StepRuns L k
   unfolding length_of
   leftmost_runs fine pair n is parts h small =
       let l = small h in
       pair_runs Rre Any 0xb983 pair (n ∷ 0 ∷ 0 ∷ 0 ∷ 0 ∷ 0 ∷ 0 ∷ 0 ∷ []) FindLeftmostOne (finds_leftmost pair n) (λ r. never_by_values (finds_leftmost pair n r) no_code refl (λ kind h. h)) is parts (omega arith) flogr_row l.1 (fits_rre 0xb983 pair n (omega arith) l.0 l.2) refl (λ r p. refl)
 
   -- a count of the ones of each byte
-  count_runs : (fine : Bool) (d n : ℕ) → form_of (Some s) ≡ Some (Performs false (computes Set (on_doublewords PopulationCountByByte) d d n) no_code) → step_parts s ≡ Row (rrf_cde 0xb9e1 d n 0 0) ∷ [] → IsTrue fine → (IsTrue fine → (d < 16) × (n < 16)) → StepRuns L k
+  count_runs : (fine : Bool) (d n : ℕ) → form_of L (Some s) ≡ Some (Performs false (computes Set (on_doublewords PopulationCountByByte) d d n) no_code) → step_parts s ≡ Row (rrf_cde 0xb9e1 d n 0 0) ∷ [] → IsTrue fine → (IsTrue fine → (d < 16) × (n < 16)) → StepRuns L k
   unfolding length_of
   count_runs fine d n is parts h small =
       let l = small h in
       meant_runs RrfCde CountMode 0xb9e1 (d ∷ n ∷ 0 ∷ 0 ∷ 0 ∷ 0 ∷ 0 ∷ 0 ∷ 0 ∷ []) CountOnes (computes Set (on_doublewords PopulationCountByByte) d d n) (computes_always Set (on_doublewords PopulationCountByByte) d d n) is parts (omega arith) popcnt_row (fits_rrf_cde 0xb9e1 d n 0 (omega arith) l.0 l.1 (omega arith)) refl (λ r p. refl)
 
   -- an instruction of one row of two registers, where its operator has one
-  one_of_two : (fine : Bool) (o : Option ℕ) (meaning : Meaning) → TwoRows o meaning → (does operation : Registers → Operation) (d m : ℕ) → form_of (Some s) ≡ Some (Performs false operation no_code) → step_parts s ≡ parts_or (alone_with fine (two_row o d m)) [] → FineOr (alone_with fine (two_row o d m)) ⊥ → (IsTrue fine → (d < 16) × (m < 16)) → ((r : Registers) (p : ℕ) → action meaning (register_fields d m 0) r p ≡ Perform (does r)) → ((r : Registers) → Refines (does r) (operation r)) → NeverStops operation → StepRuns L k
+  one_of_two : (fine : Bool) (o : Option ℕ) (meaning : Meaning) → TwoRows o meaning → (does operation : Registers → Operation) (d m : ℕ) → form_of L (Some s) ≡ Some (Performs false operation no_code) → step_parts s ≡ parts_or (alone_with fine (two_row o d m)) [] → FineOr (alone_with fine (two_row o d m)) ⊥ → (IsTrue fine → (d < 16) × (m < 16)) → ((r : Registers) (p : ℕ) → action meaning (register_fields d m 0) r p ≡ Perform (does r)) → ((r : Registers) → Refines (does r) (operation r)) → NeverStops operation → StepRuns L k
   one_of_two fine None meaning row does operation d m is parts h small acts refines never = absurd h
   one_of_two fine (Some opcode) meaning row does operation d m is parts h small acts refines never = let l = small h in two_runs opcode meaning row does operation d m is parts l.0 l.1 acts refines never
 
   -- an operator on three registers: its row of three, or that of two where the first input is the output
-  alu_three_runs : (op : ALUOp) (fine : Bool) (d n m : ℕ) → form_of (Some s) ≡ Some (Performs false (computes (alu_three_rule op) (alu_computation op) d n m) no_code) → step_parts s ≡ parts_or (alone_with fine (three_row (alu_three op) (alu_two op) d n m)) [] → FineOr (alone_with fine (three_row (alu_three op) (alu_two op) d n m)) ⊥ → (IsTrue fine → (d < 16) × (n < 16) × (m < 16)) → StepRuns L k
+  alu_three_runs : (op : ALUOp) (fine : Bool) (d n m : ℕ) → form_of L (Some s) ≡ Some (Performs false (computes (alu_three_rule op) (alu_computation op) d n m) no_code) → step_parts s ≡ parts_or (alone_with fine (three_row (alu_three op) (alu_two op) d n m)) [] → FineOr (alone_with fine (three_row (alu_three op) (alu_two op) d n m)) ⊥ → (IsTrue fine → (d < 16) × (n < 16) × (m < 16)) → StepRuns L k
   alu_three_runs op fine d n m is parts h small = go (alu_three op) refl (alu_three_rows op) (alu_two op) (alu_two_rows op) parts h
     where
       c : Computation
@@ -447,13 +447,13 @@ module _ (L : Layout) (all : AllPlaced L) (k : ℕ) (s : Step) (at : slice_get L
       (bcr_at L all (L.places.step k) even 15 n (omega arith) ln some one.stands, inside_first L k 2 one.size (omega arith))
 
   -- a branch to no address does nothing
-  fence_runs : form_of (Some s) ≡ Some (Performs false idles no_code) → step_parts s ≡ Row (rr 0x07 14 0) ∷ [] → StepRuns L k
+  fence_runs : form_of L (Some s) ≡ Some (Performs false idles no_code) → step_parts s ≡ Row (rr 0x07 14 0) ∷ [] → StepRuns L k
   unfolding length_of
   fence_runs is parts =
       meant_runs Rr Any 0x07 (14 ∷ 0 ∷ 0 ∷ 0 ∷ 0 ∷ 0 ∷ 0 ∷ 0 ∷ 0 ∷ []) BranchToRegister idles (λ r. never_by_values (idles r) no_code refl (λ kind h. h)) is parts (omega arith) bcr_row (fits_rr 0x07 14 0 (omega arith) (omega arith) (omega arith)) refl (λ r p. refl)
 
   -- nor does one under a mask that selects nothing
-  idle_runs : form_of (Some s) ≡ Some (Performs false idles no_code) → step_parts s ≡ Row (rr 0x07 0 7) ∷ [] → StepRuns L k
+  idle_runs : form_of L (Some s) ≡ Some (Performs false idles no_code) → step_parts s ≡ Row (rr 0x07 0 7) ∷ [] → StepRuns L k
   unfolding length_of
   idle_runs is parts =
       immediate_runs (rr 0x07 0 7) idles (λ r. never_by_values (idles r) no_code refl (λ kind h. h)) is parts (omega arith) (λ st. idle_branch L (place L k) (length_of Rr) (λ r. r.general 7) (bcr_at L all (L.places.step k) even 0 7 (omega arith) (omega arith) (λ e. absurd (cc)) st))
@@ -465,14 +465,14 @@ module _ (L : Layout) (all : AllPlaced L) (k : ℕ) (s : Step) (at : slice_get L
   block_small : (b : ℕ) → IsBlock L b → L.places.block b < 2 ^ 31
   block_small b is = omega (arith, all.blocks b is, offset_small L all (L.first_step b) (all.first_steps b is))
 
-  goto_runs : (b : ℕ) → form_of (Some s) ≡ Some (GoesTo b) → step_parts s ≡ Branch 15 (ToBlock b) ∷ [] → IsBlock L b → StepRuns L k
+  goto_runs : (b : ℕ) → form_of L (Some s) ≡ Some (GoesTo b) → step_parts s ≡ Branch 15 (ToBlock b) ∷ [] → IsBlock L b → StepRuns L k
   unfolding length_of
   goto_runs b is parts known =
       let rows = subst (λ ps. Rattle.s390x_machine.proofs.Standing.RowsStand L (L.places.step k) (rows_of L.places (L.places.step k) ps)) parts (step_rows L k s placed) in
       let size : L.places.step (suc k) ≡ L.places.step k + 6 = placed.size ∙ ap (λ ps. L.places.step k + parts_size ps) parts in
       jump_runs L k b (λ r. BranchAction 15 (block_place L b)) 6 (block_place L b) (formed _ is) (brcl_at L all (L.places.step k) even 15 (L.places.block b) (omega arith) small (block_even b known) (block_small b known) rows.0) (λ r. refl) (block_at L all b known) (inside_first L k 6 size (omega arith))
 
-  condbr_runs : (mask a b : ℕ) → form_of (Some s) ≡ Some (Chooses mask a b) → step_parts s ≡ Branch mask (ToBlock a) ∷ Branch 15 (ToBlock b) ∷ [] → mask < 16 → IsBlock L a → IsBlock L b → StepRuns L k
+  condbr_runs : (mask a b : ℕ) → form_of L (Some s) ≡ Some (Chooses mask a b) → step_parts s ≡ Branch mask (ToBlock a) ∷ Branch 15 (ToBlock b) ∷ [] → mask < 16 → IsBlock L a → IsBlock L b → StepRuns L k
   unfolding length_of
   condbr_runs mask a b is parts lm known_a known_b =
       let o = L.places.step k in
@@ -492,14 +492,23 @@ module _ (L : Layout) (all : AllPlaced L) (k : ℕ) (s : Step) (at : slice_get L
       } in
       choose_runs L k mask a b (formed _ is) two
 
-  loop_runs : (mask j : ℕ) → form_of (Some s) ≡ Some (Leads mask j) → step_parts s ≡ Branch mask (ToStep j) ∷ [] → mask < 16 → j ≤ length L.steps → StepRuns L k
+  -- the address of a block
+  label_runs : (d b : ℕ) → form_of L (Some s) ≡ Some (Performs false (computes_immediate Kept (on_doublewords Move) d d (block_place L b)) no_code) → step_parts s ≡ Relative 0xc00 d (ToBlock b) ∷ [] → d < 16 → IsBlock L b → StepRuns L k
+  unfolding length_of
+  label_runs d b is parts ld known =
+      let rows = subst (λ ps. Rattle.s390x_machine.proofs.Standing.RowsStand L (L.places.step k) (rows_of L.places (L.places.step k) ps)) parts (step_rows L k s placed) in
+      let size : L.places.step (suc k) ≡ L.places.step k + 6 = placed.size ∙ ap (λ ps. L.places.step k + parts_size ps) parts in
+      let operation = computes_immediate Kept (on_doublewords Move) d d (block_place L b) in
+      row_alone L k operation no_code (λ r. Perform (operation r)) 6 (formed _ is) (larl_at L all (L.places.step k) even d (L.places.block b) ld small (block_even b known) (block_small b known) rows.0) (λ r. exactly (operation r)) (uncoded L (place L k)) (computes_immediate_always Kept (on_doublewords Move) d d (block_place L b)) size (omega arith)
+
+  loop_runs : (mask j : ℕ) → form_of L (Some s) ≡ Some (Leads mask j) → step_parts s ≡ Branch mask (ToStep j) ∷ [] → mask < 16 → j ≤ length L.steps → StepRuns L k
   unfolding length_of
   loop_runs mask j is parts lm le =
       let rows = subst (λ ps. Rattle.s390x_machine.proofs.Standing.RowsStand L (L.places.step k) (rows_of L.places (L.places.step k) ps)) parts (step_rows L k s placed) in
       let size : L.places.step (suc k) ≡ L.places.step k + 6 = placed.size ∙ ap (λ ps. L.places.step k + parts_size ps) parts in
       leads_runs L k mask j 6 (formed _ is) (brcl_at L all (L.places.step k) even mask (L.places.step j) lm small (offset_even L all j le) (offset_small L all j le) rows.0) (next_place L k 6 size) (inside_first L k 6 size (omega arith))
 
-  opening_runs : form_of (Some s) ≡ Some Silent → step_parts s ≡ [] → StepRuns L k
+  opening_runs : form_of L (Some s) ≡ Some Silent → step_parts s ≡ [] → StepRuns L k
   opening_runs is parts c lies turns run =
       let size : L.places.step (suc k) ≡ L.places.step k = placed.size ∙ ap (λ ps. L.places.step k + parts_size ps) parts ∙ omega arith in
       silent (subst (λ f. FormStep L f k c (At (suc k)) c) (sym (formed Silent is)) (refl, refl)) within (ap (λ n. sum64 L.image.base n) (sym size))
@@ -593,10 +602,11 @@ instruction_runs L all k (Jump dest) at p fine = goto_runs L all k (Plain (Jump 
 instruction_runs L all k (CondBr taken not_taken mask) at p fine = condbr_runs L all k (Plain (CondBr taken not_taken mask)) at p mask taken.0 not_taken.0 refl refl (small_mask mask fine.2) fine.0 fine.1
 instruction_runs L all k (IndirectBr rn targets) at p fine =
     let row = register_row L all k (Plain (IndirectBr rn targets)) at p (number_of rn) refl (general_number rn fine.0) (nonzero_number rn fine.0 fine.1) in
-    address_runs L all k (number_of rn) (length_of Rr) targets.items (ap form_of at) fine.2 row.0 row.1
+    address_runs L all k (number_of rn) (length_of Rr) targets.items (ap (form_of L) at) fine.2 row.0 row.1
 instruction_runs L all k (Ret link) at p fine =
     let row = register_row L all k (Plain (Ret link)) at p (number_of link) refl (general_number link fine.0) (nonzero_number link fine.0 fine.1) in
-    returns_runs L k (number_of link) (length_of Rr) (ap form_of at) row.0 row.1
+    returns_runs L k (number_of link) (length_of Rr) (ap (form_of L) at) row.0 row.1
+instruction_runs L all k (LabelAddress dst label) at p fine = label_runs L all k (Plain (LabelAddress dst label)) at p (number_of dst) label.0 refl refl (general_number dst fine.0) fine.1
 instruction_runs L all k _ at p fine = absurd fine
 
 pub step_runs : (L : Layout) → AllPlaced L → (k : ℕ) (s : Step) → slice_get L.steps k ≡ Some s → Placed L k s → IsFine L s → StepRuns L k

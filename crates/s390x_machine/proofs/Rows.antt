@@ -7,7 +7,7 @@ use Rattle.std.proofs.lemmas.Bool.{and_parts}
 use Rattle.s390x_base.specs.Regs.{number_of, is_int}
 use Rattle.s390x_base.specs.declared.regs.Reg.{Reg}
 use Rattle.s390x_base.specs.declared.regs.Reg.TheVariants.{Real, Virtual}
-use Rattle.s390x_format.specs.declared.kind.FormatKind.TheVariants.{Rr, Rre, RrfAb, RrfCde, RiA, RieD, RieF, RieG, RilA, RilC, Rsy}
+use Rattle.s390x_format.specs.declared.kind.FormatKind.TheVariants.{Rr, Rre, RrfAb, RrfCde, RiA, RieD, RieF, RieG, RilA, RilC, Rsy, RilB}
 use Rattle.s390x_format.specs.Layout.{SlotsFit}
 use Rattle.s390x_format.specs.Formats.{layout_of, length_of}
 use Rattle.s390x_format.specs.Fits.{fields_from}
@@ -16,12 +16,15 @@ use Rattle.s390x_format.proofs.Encoding.{listed}
 use Rattle.s390x_format.specs.Fetch.{machine_rows}
 use Rattle.s390x_format.specs.Encoded.{IsEncoded}
 use Rattle.s390x_steps.specs.General.{is_general, is_nonzero}
-use Rattle.s390x_steps.specs.MachineInstruction.{bytes_of, rr, rre, rrf_ab, rrf_cde, ri_a, rie_d, rie_f, rie_g, ril_a, ril_c, rsy}
+use Rattle.s390x_steps.specs.MachineInstruction.{bytes_of, rr, rre, rrf_ab, rrf_cde, ri_a, rie_d, rie_f, rie_g, ril_a, ril_c, rsy, ril_b}
 use Rattle.s390x_steps.specs.Rows.{half_distance}
 use Rattle.s390x_operations.specs.State.{State, sum64}
 use Rattle.s390x_operations.specs.Numbers.{low}
 use Rattle.s390x_operations.specs.declared.size.Size.TheVariants.{Doubleword}
-use Rattle.s390x_machine.specs.declared.meaning.Action.TheVariants.{Branch}
+use Rattle.s390x_machine.specs.declared.meaning.Action.TheVariants.{Perform, Branch}
+use Rattle.s390x_operations.specs.declared.effect.CodeRule.TheVariants.{Kept}
+use Rattle.s390x_operations.specs.declared.operator.Operator.TheVariants.{Move}
+use Rattle.s390x_machine.specs.Computations.{on_doublewords, computes_immediate}
 use Rattle.s390x_machine.specs.Machine.{Event, Acts}
 use Rattle.s390x_machine.specs.Meanings.{performs, meaning_in, meaning_of}
 use Rattle.s390x_machine.specs.Layout.{Layout}
@@ -53,6 +56,9 @@ fits_rrf_ab opcode a b c o la lb lc = fields_from RrfAb (rrf_ab opcode a b c 0).
 
 pub fits_ril_c : (opcode mask half : ℕ) → opcode < 4096 → mask < 16 → half < 2 ^ 32 → SlotsFit (layout_of RilC) (ril_c opcode mask half).slots
 fits_ril_c opcode mask half o lm lh = fields_from RilC (ril_c opcode mask half).slots refl (omega arith, (omega arith, (omega arith, (omega arith, (omega arith, (omega arith, (omega arith, (omega arith, (omega arith, (omega arith, tt))))))))))
+
+pub fits_ril_b : (opcode a half : ℕ) → opcode < 4096 → a < 16 → half < 2 ^ 32 → SlotsFit (layout_of RilB) (ril_b opcode a half).slots
+fits_ril_b opcode a half o la lh = fields_from RilB (ril_b opcode a half).slots refl (omega arith, (omega arith, (omega arith, (omega arith, (omega arith, (omega arith, (omega arith, (omega arith, (omega arith, (omega arith, tt))))))))))
 
 pub fits_ri_a : (opcode a bits : ℕ) → opcode < 4096 → a < 16 → bits < 2 ^ 16 → SlotsFit (layout_of RiA) (ri_a opcode a bits).slots
 fits_ri_a opcode a bits o la lb = fields_from RiA (ri_a opcode a bits).slots refl (omega arith, (omega arith, (omega arith, (omega arith, (omega arith, (omega arith, (omega arith, (omega arith, (omega arith, (omega arith, tt))))))))))
@@ -89,6 +95,10 @@ pub brcl_listed : (mask half : ℕ) → IsEncoded machine_rows RilC (ril_c 0xc04
 unfolding machine_rows row_for
 brcl_listed mask half = listed machine_rows RilC (ril_c 0xc04 mask half).slots (omega arith) (refl, refl, refl)
 
+pub larl_listed : (a half : ℕ) → IsEncoded machine_rows RilB (ril_b 0xc00 a half).slots
+unfolding machine_rows row_for
+larl_listed a half = listed machine_rows RilB (ril_b 0xc00 a half).slots (omega arith) (refl, refl, refl)
+
 -- ---- what the machine does there
 
 module _ (L : Layout) (all : AllPlaced L) (offset : ℕ) (even : offset % 2 ≡ 0) where
@@ -105,3 +115,10 @@ module _ (L : Layout) (all : AllPlaced L) (offset : ℕ) (even : offset % 2 ≡ 
   brcl_at mask target lm small even_target small_target s =
       row_at L offset (ril_c 0xc04 mask (half_distance offset target)) (λ r. Branch mask (sum64 L.image.base target)) all.even even all.fits s (fits_ril_c 0xc04 mask (half_distance offset target) (omega arith) lm (omega arith)) (brcl_listed mask (half_distance offset target)) (λ state event t at h.
       subst (λ a. Acts (Branch mask a) (length_of RilC) state event t) (ap (λ p. low Doubleword (pos p +ℤ pos 2 *ℤ cast_signed w32 (half_distance offset target))) at ∙ lands L.image.base offset target even even_target small small_target) h)
+
+  -- the register gets the target's address
+  pub larl_at : (a target : ℕ) → a < 16 → offset < 2 ^ 31 → target % 2 ≡ 0 → target < 2 ^ 31 → StandsAt L.image offset (bytes_of (ril_b 0xc00 a (half_distance offset target))) → RowAt L (sum64 L.image.base offset) (λ r. Perform (computes_immediate Kept (on_doublewords Move) a a (sum64 L.image.base target) r)) (length_of RilB)
+  unfolding meaning_in meaning_of
+  larl_at a target la small even_target small_target s =
+      row_at L offset (ril_b 0xc00 a (half_distance offset target)) (λ r. Perform (computes_immediate Kept (on_doublewords Move) a a (sum64 L.image.base target) r)) all.even even all.fits s (fits_ril_b 0xc00 a (half_distance offset target) (omega arith) la (omega arith)) (larl_listed a (half_distance offset target)) (λ state event t at h.
+      subst (λ x. Acts (Perform (computes_immediate Kept (on_doublewords Move) a a x state.core.registers)) (length_of RilB) state event t) (ap (λ p. low Doubleword (pos p +ℤ pos 2 *ℤ cast_signed w32 (half_distance offset target))) at ∙ lands L.image.base offset target even even_target small small_target) h)

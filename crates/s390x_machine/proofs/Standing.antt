@@ -4,7 +4,7 @@ use Rattle.s390x_format.specs.Formats.{length_of}
 use Rattle.s390x_format.proofs.Encoding.{encode-length}
 use Rattle.s390x_steps.specs.MachineInstruction.{MachineInstruction, bytes_of, size_of, joined_bytes}
 use Rattle.s390x_steps.specs.Steps.{Step}
-use Rattle.s390x_steps.specs.Parts.{Part, Row, Branch, part_size, parts_size, step_parts, step_size}
+use Rattle.s390x_steps.specs.Parts.{Part, Row, Branch, Relative, part_size, parts_size, step_parts, step_size}
 use Rattle.s390x_steps.specs.Rows.{Places, row_of, rows_of, rows, step_bytes}
 use Rattle.s390x_operations.specs.State.{sum64}
 use Rattle.s390x_machine.specs.Layout.{Layout, place, block_place, InStep}
@@ -17,6 +17,7 @@ row_size : (P : Places) (p : ℕ) (part : Part) → size_of (row_of P p part) �
 unfolding length_of
 row_size P p (Row m) = refl
 row_size P p (Branch mask target) = refl
+row_size P p (Relative opcode register target) = refl
 
 joined_length : (P : Places) (p : ℕ) (parts : List Part) → length (joined_bytes (rows_of P p parts)) ≡ parts_size parts
 joined_length P p [] = refl
@@ -28,6 +29,7 @@ parts_even : (parts : List Part) → parts_size parts % 2 ≡ 0
 parts_even [] = refl
 parts_even (Row m ∷ parts) = omega (arith, size_even m.format, parts_even parts)
 parts_even (Branch mask target ∷ parts) = omega (arith, parts_even parts)
+parts_even (Relative opcode register target ∷ parts) = omega (arith, parts_even parts)
 
 pub step_even : (s : Step) → step_size s % 2 ≡ 0
 step_even s = parts_even (step_parts s)

@@ -6,7 +6,7 @@ use Rattle.s390x_base.specs.declared.ir.MachLabel.{MachLabel}
 use Rattle.s390x_base.specs.declared.trap.TrapKind.{TrapKind}
 use Rattle.s390x_base.specs.declared.trap.TrapKind.TheVariants.{IntegerDivisionByZero}
 use Rattle.s390x_inst.specs.declared.inst.Inst.{Inst}
-use Rattle.s390x_inst.specs.declared.inst.Inst.TheVariants.{AluRRR, AluRR, AluRRSImm16, AluRSImm16, AluRSImm32, AluRUImm32, AluRUImm16Shifted, AluRUImm32Shifted, SMulWide, UMulWide, Flogr, ShiftRR, RxSBG, RxSBGTest, UnaryRR, CmpRR, CmpRSImm16, CmpRSImm32, CmpRUImm32, Mov64, MovPReg, Mov32, Mov32Imm, Mov32SImm16, Mov64SImm16, Mov64SImm32, Mov64UImm16Shifted, Mov64UImm32Shifted, Insert64UImm16Shifted, Insert64UImm32Shifted, CMov32, CMov64, CMov32SImm16, CMov64SImm16, Extend, LoadAR, InsertAR, Fence, Nop0, Nop2, Jump, CondBr, IndirectBr, Ret}
+use Rattle.s390x_inst.specs.declared.inst.Inst.TheVariants.{AluRRR, AluRR, AluRRSImm16, AluRSImm16, AluRSImm32, AluRUImm32, AluRUImm16Shifted, AluRUImm32Shifted, SMulWide, UMulWide, Flogr, ShiftRR, RxSBG, RxSBGTest, UnaryRR, CmpRR, CmpRSImm16, CmpRSImm32, CmpRUImm32, Mov64, MovPReg, Mov32, Mov32Imm, Mov32SImm16, Mov64SImm16, Mov64SImm32, Mov64UImm16Shifted, Mov64UImm32Shifted, Insert64UImm16Shifted, Insert64UImm32Shifted, CMov32, CMov64, CMov32SImm16, CMov64SImm16, Extend, LoadAR, InsertAR, Fence, Nop0, Nop2, Jump, CondBr, IndirectBr, Ret, LabelAddress}
 use Rattle.s390x_operations.specs.State.{Registers}
 use Rattle.s390x_operations.specs.declared.operator.Operator.TheVariants.{Move}
 use Rattle.s390x_operations.specs.declared.size.Size.TheVariants.{Word, Doubleword}
@@ -17,6 +17,7 @@ use Rattle.s390x_operations.specs.declared.stop.StopKind.{StopKind}
 use Rattle.s390x_operations.specs.declared.stop.StopKind.TheVariants.{Access, Specification, Divide, CompareTrap}
 use Rattle.s390x_machine.specs.Computations.{computes, compares, alu_computation, alu_three_rule, alu_two_rule, unary_computation, unary_rule, comparison, on_words, on_doublewords, word, signed_word, signed_halfword, on_immediate, compares_on_immediate, computes_immediate, compares_immediate, doubleword, part_mask, on_selected, part_operator, at_part, at_half, half_mask, inserts_half, extension, shifts, rotates_into, rotates_to_test, multiplies_signed, multiplies_logical, finds_leftmost, idles, copies_access, moves_where, moves_immediate_where}
 use Rattle.s390x_steps.specs.General.{low_halfword, low_word, low_byte, four_bits, rotation}
+use Rattle.s390x_machine.specs.Layout.{Layout, block_place}
 use Rattle.s390x_steps.specs.Steps.{Step, Plain, Opening, Back, Break}
 
 -- what a typed step does
@@ -81,48 +82,49 @@ access_code flags kind = None
 abbrev pub on_registers : (Registers → Operation) → Option Performed
 on_registers operation = Some (record { operation = operation; needs = false; code = no_code })
 
--- the instructions that are one operation; a move has no first operand
-abbrev pub performed : Inst → Option Performed
-performed (AluRRR op rd rn rm) = on_registers (computes (alu_three_rule op) (alu_computation op) (number_of rd) (number_of rn) (number_of rm))
-performed (AluRR op rd ri rm) = on_registers (computes (alu_two_rule op) (alu_computation op) (number_of rd) (number_of rd) (number_of rm))
-performed (UnaryRR op rd rn) = on_registers (computes (unary_rule op) (unary_computation op) (number_of rd) (number_of rd) (number_of rn))
-performed (CmpRR op rn rm) = on_registers (compares (comparison op) (number_of rn) (number_of rm))
-performed (Mov64 rd rm) = on_registers (computes Kept (on_doublewords Move) (number_of rd) (number_of rd) (number_of rm))
-performed (MovPReg rd rm) = on_registers (computes Kept (on_doublewords Move) (number_of rd) (number_of rd) (number_of (Real rm)))
-performed (Mov32 rd rm) = on_registers (computes Kept (on_words Move) (number_of rd) (number_of rd) (number_of rm))
-performed (AluRRSImm16 op rd rn imm) = on_registers (computes_immediate (alu_two_rule op) (on_immediate (alu_computation op) signed_halfword) (number_of rd) (number_of rn) (low_halfword imm))
-performed (AluRSImm16 op rd ri imm) = on_registers (computes_immediate (alu_two_rule op) (on_immediate (alu_computation op) signed_halfword) (number_of rd) (number_of rd) (low_halfword imm))
-performed (AluRSImm32 op rd ri imm) = on_registers (computes_immediate (alu_two_rule op) (on_immediate (alu_computation op) signed_word) (number_of rd) (number_of rd) (low_word imm))
-performed (AluRUImm32 op rd ri imm) = on_registers (computes_immediate (alu_two_rule op) (on_immediate (alu_computation op) word) (number_of rd) (number_of rd) (low_word (pos imm)))
-performed (CmpRSImm16 op rn imm) = on_registers (compares_immediate (compares_on_immediate (comparison op) signed_halfword) (number_of rn) (low_halfword imm))
-performed (CmpRSImm32 op rn imm) = on_registers (compares_immediate (compares_on_immediate (comparison op) signed_word) (number_of rn) (low_word imm))
-performed (CmpRUImm32 op rn imm) = on_registers (compares_immediate (compares_on_immediate (comparison op) word) (number_of rn) (low_word (pos imm)))
-performed (Mov32Imm rd imm) = on_registers (computes_immediate Kept (on_words Move) (number_of rd) (number_of rd) (low_word (pos imm)))
-performed (Mov32SImm16 rd imm) = on_registers (computes_immediate Kept (on_immediate (on_words Move) signed_halfword) (number_of rd) (number_of rd) (low_halfword imm))
-performed (Mov64SImm16 rd imm) = on_registers (computes_immediate Kept (on_immediate (on_doublewords Move) signed_halfword) (number_of rd) (number_of rd) (low_halfword imm))
-performed (Mov64SImm32 rd imm) = on_registers (computes_immediate Kept (on_immediate (on_doublewords Move) signed_word) (number_of rd) (number_of rd) (low_word imm))
-performed (AluRUImm16Shifted op rd ri imm) = on_registers (computes_immediate Set (on_selected (part_operator op) (part_mask imm.shift)) (number_of rd) (number_of rd) (at_part imm.shift (low_halfword (pos imm.bits))))
-performed (AluRUImm32Shifted op rd ri imm) = on_registers (computes_immediate Set (on_selected (part_operator op) (half_mask imm.shift)) (number_of rd) (number_of rd) (at_half imm.shift (low_word (pos imm.bits))))
-performed (Mov64UImm16Shifted rd imm) = on_registers (computes_immediate Kept (on_doublewords Move) (number_of rd) (number_of rd) (at_part imm.shift (low_halfword (pos imm.bits))))
-performed (Mov64UImm32Shifted rd imm) = on_registers (computes_immediate Kept (on_doublewords Move) (number_of rd) (number_of rd) (at_half imm.shift (low_word (pos imm.bits))))
-performed (Insert64UImm16Shifted rd ri imm) = on_registers (computes_immediate Kept (on_selected Select.Insert (part_mask imm.shift)) (number_of rd) (number_of rd) (at_part imm.shift (low_halfword (pos imm.bits))))
-performed (Insert64UImm32Shifted rd ri imm) = on_registers (computes_immediate Kept (inserts_half imm.shift) (number_of rd) (number_of rd) (at_half imm.shift (low_word (pos imm.bits))))
-performed (Extend rd rn signed from to) = on_registers (computes Kept (extension signed from to) (number_of rd) (number_of rd) (number_of rn))
-performed (LoadAR rd ar) = on_registers (copies_access (number_of rd) (four_bits ar))
-performed (InsertAR rd ri ar) = on_registers (copies_access (number_of rd) (four_bits ar))
-performed (ShiftRR op rd rn amount register) = on_registers (shifts op (number_of rd) (number_of rn) (number_of register) (low_byte amount))
-performed (RxSBG op rd ri rn first last amount) = on_registers (rotates_into op (number_of rd) (number_of rn) first last (rotation amount))
-performed (RxSBGTest op rd rn first last amount) = on_registers (rotates_to_test op (number_of rd) (number_of rn) first last (rotation amount))
-performed (SMulWide rd rn rm) = on_registers (multiplies_signed (number_of rd.hi) (number_of rn) (number_of rm))
-performed (UMulWide rd ri rn) = on_registers (multiplies_logical (number_of rd.hi) (number_of rn))
-performed (Flogr rd rn) = on_registers (finds_leftmost (number_of rd.hi) (number_of rn))
-performed (CMov32 rd mask ri rm) = on_registers (moves_where Word word (four_bits mask) (number_of rd) (number_of rm))
-performed (CMov64 rd mask ri rm) = on_registers (moves_where Doubleword doubleword (four_bits mask) (number_of rd) (number_of rm))
-performed (CMov32SImm16 rd mask ri imm) = on_registers (moves_immediate_where Word (four_bits mask) (number_of rd) (low_halfword imm))
-performed (CMov64SImm16 rd mask ri imm) = on_registers (moves_immediate_where Doubleword (four_bits mask) (number_of rd) (low_halfword imm))
-performed Fence = on_registers idles
-performed Nop2 = on_registers idles
-performed _ = None
+-- the instructions that are one operation; a move has no first operand. The layout tells the addresses of blocks
+abbrev pub performed : Layout → Inst → Option Performed
+performed L (AluRRR op rd rn rm) = on_registers (computes (alu_three_rule op) (alu_computation op) (number_of rd) (number_of rn) (number_of rm))
+performed L (AluRR op rd ri rm) = on_registers (computes (alu_two_rule op) (alu_computation op) (number_of rd) (number_of rd) (number_of rm))
+performed L (UnaryRR op rd rn) = on_registers (computes (unary_rule op) (unary_computation op) (number_of rd) (number_of rd) (number_of rn))
+performed L (CmpRR op rn rm) = on_registers (compares (comparison op) (number_of rn) (number_of rm))
+performed L (Mov64 rd rm) = on_registers (computes Kept (on_doublewords Move) (number_of rd) (number_of rd) (number_of rm))
+performed L (MovPReg rd rm) = on_registers (computes Kept (on_doublewords Move) (number_of rd) (number_of rd) (number_of (Real rm)))
+performed L (Mov32 rd rm) = on_registers (computes Kept (on_words Move) (number_of rd) (number_of rd) (number_of rm))
+performed L (AluRRSImm16 op rd rn imm) = on_registers (computes_immediate (alu_two_rule op) (on_immediate (alu_computation op) signed_halfword) (number_of rd) (number_of rn) (low_halfword imm))
+performed L (AluRSImm16 op rd ri imm) = on_registers (computes_immediate (alu_two_rule op) (on_immediate (alu_computation op) signed_halfword) (number_of rd) (number_of rd) (low_halfword imm))
+performed L (AluRSImm32 op rd ri imm) = on_registers (computes_immediate (alu_two_rule op) (on_immediate (alu_computation op) signed_word) (number_of rd) (number_of rd) (low_word imm))
+performed L (AluRUImm32 op rd ri imm) = on_registers (computes_immediate (alu_two_rule op) (on_immediate (alu_computation op) word) (number_of rd) (number_of rd) (low_word (pos imm)))
+performed L (CmpRSImm16 op rn imm) = on_registers (compares_immediate (compares_on_immediate (comparison op) signed_halfword) (number_of rn) (low_halfword imm))
+performed L (CmpRSImm32 op rn imm) = on_registers (compares_immediate (compares_on_immediate (comparison op) signed_word) (number_of rn) (low_word imm))
+performed L (CmpRUImm32 op rn imm) = on_registers (compares_immediate (compares_on_immediate (comparison op) word) (number_of rn) (low_word (pos imm)))
+performed L (Mov32Imm rd imm) = on_registers (computes_immediate Kept (on_words Move) (number_of rd) (number_of rd) (low_word (pos imm)))
+performed L (Mov32SImm16 rd imm) = on_registers (computes_immediate Kept (on_immediate (on_words Move) signed_halfword) (number_of rd) (number_of rd) (low_halfword imm))
+performed L (Mov64SImm16 rd imm) = on_registers (computes_immediate Kept (on_immediate (on_doublewords Move) signed_halfword) (number_of rd) (number_of rd) (low_halfword imm))
+performed L (Mov64SImm32 rd imm) = on_registers (computes_immediate Kept (on_immediate (on_doublewords Move) signed_word) (number_of rd) (number_of rd) (low_word imm))
+performed L (AluRUImm16Shifted op rd ri imm) = on_registers (computes_immediate Set (on_selected (part_operator op) (part_mask imm.shift)) (number_of rd) (number_of rd) (at_part imm.shift (low_halfword (pos imm.bits))))
+performed L (AluRUImm32Shifted op rd ri imm) = on_registers (computes_immediate Set (on_selected (part_operator op) (half_mask imm.shift)) (number_of rd) (number_of rd) (at_half imm.shift (low_word (pos imm.bits))))
+performed L (Mov64UImm16Shifted rd imm) = on_registers (computes_immediate Kept (on_doublewords Move) (number_of rd) (number_of rd) (at_part imm.shift (low_halfword (pos imm.bits))))
+performed L (Mov64UImm32Shifted rd imm) = on_registers (computes_immediate Kept (on_doublewords Move) (number_of rd) (number_of rd) (at_half imm.shift (low_word (pos imm.bits))))
+performed L (Insert64UImm16Shifted rd ri imm) = on_registers (computes_immediate Kept (on_selected Select.Insert (part_mask imm.shift)) (number_of rd) (number_of rd) (at_part imm.shift (low_halfword (pos imm.bits))))
+performed L (Insert64UImm32Shifted rd ri imm) = on_registers (computes_immediate Kept (inserts_half imm.shift) (number_of rd) (number_of rd) (at_half imm.shift (low_word (pos imm.bits))))
+performed L (Extend rd rn signed from to) = on_registers (computes Kept (extension signed from to) (number_of rd) (number_of rd) (number_of rn))
+performed L (LoadAR rd ar) = on_registers (copies_access (number_of rd) (four_bits ar))
+performed L (InsertAR rd ri ar) = on_registers (copies_access (number_of rd) (four_bits ar))
+performed L (ShiftRR op rd rn amount register) = on_registers (shifts op (number_of rd) (number_of rn) (number_of register) (low_byte amount))
+performed L (RxSBG op rd ri rn first last amount) = on_registers (rotates_into op (number_of rd) (number_of rn) first last (rotation amount))
+performed L (RxSBGTest op rd rn first last amount) = on_registers (rotates_to_test op (number_of rd) (number_of rn) first last (rotation amount))
+performed L (SMulWide rd rn rm) = on_registers (multiplies_signed (number_of rd.hi) (number_of rn) (number_of rm))
+performed L (UMulWide rd ri rn) = on_registers (multiplies_logical (number_of rd.hi) (number_of rn))
+performed L (Flogr rd rn) = on_registers (finds_leftmost (number_of rd.hi) (number_of rn))
+performed L (CMov32 rd mask ri rm) = on_registers (moves_where Word word (four_bits mask) (number_of rd) (number_of rm))
+performed L (CMov64 rd mask ri rm) = on_registers (moves_where Doubleword doubleword (four_bits mask) (number_of rd) (number_of rm))
+performed L (CMov32SImm16 rd mask ri imm) = on_registers (moves_immediate_where Word (four_bits mask) (number_of rd) (low_halfword imm))
+performed L (CMov64SImm16 rd mask ri imm) = on_registers (moves_immediate_where Doubleword (four_bits mask) (number_of rd) (low_halfword imm))
+performed L Fence = on_registers idles
+performed L Nop2 = on_registers idles
+performed L (LabelAddress dst label) = on_registers (computes_immediate Kept (on_doublewords Move) (number_of dst) (number_of dst) (block_place L label.0))
+performed L _ = None
 
 -- one that goes elsewhere
 abbrev pub branch_form : Inst → Form
@@ -139,12 +141,12 @@ form_or None others = others
 form_or (Some x) others = Performs x.needs x.operation x.code
 
 -- what an instruction does
-abbrev pub instruction_form : Inst → Form
-instruction_form i = form_or (performed i) (branch_form i)
+abbrev pub instruction_form : Layout → Inst → Form
+instruction_form L i = form_or (performed L i) (branch_form i)
 
 -- a loop's opening is a step without bytes; its back branch and its breaks lead to steps
-abbrev pub form : Step → Form
-form (Plain i) = instruction_form i
-form Opening = Silent
-form (Back mask target) = Leads mask target
-form (Break mask target) = Leads mask target
+abbrev pub form : Layout → Step → Form
+form L (Plain i) = instruction_form L i
+form L Opening = Silent
+form L (Back mask target) = Leads mask target
+form L (Break mask target) = Leads mask target

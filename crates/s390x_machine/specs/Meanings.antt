@@ -19,7 +19,7 @@ use Rattle.s390x_operations.specs.declared.effect.Effect.{Effect}
 use Rattle.s390x_operations.specs.declared.effect.CodeRule.{CodeRule}
 use Rattle.s390x_operations.specs.declared.effect.CodeRule.TheVariants.{Kept, Set}
 use Rattle.s390x_machine.specs.declared.meaning.Shape.{Shape}
-use Rattle.s390x_machine.specs.declared.meaning.Shape.TheVariants.{Register, ThreeRegisters, Indexed, Relative, Immediate, ThreeImmediate, ShiftedImmediate, Amount, AccessRegister}
+use Rattle.s390x_machine.specs.declared.meaning.Shape.TheVariants.{Register, ThreeRegisters, Indexed, Relative, Immediate, ThreeImmediate, ShiftedImmediate, Amount, AccessRegister, RelativeAddress}
 use Rattle.s390x_machine.specs.declared.meaning.SecondOperand.{SecondOperand}
 use Rattle.s390x_machine.specs.declared.meaning.Meaning.{Meaning}
 use Rattle.s390x_machine.specs.declared.meaning.Meaning.TheVariants.{Compute, Compare, MoveWhere, CountOnes, RotateThen, MultiplySigned, MultiplyLogical, FindLeftmostOne, BranchToRegister, BranchRelative}
@@ -57,6 +57,7 @@ source Register f r place = Value (r.general (register_field f 1))
 source ThreeRegisters f r place = Value (r.general (register_field f 2))
 source Indexed f r place = InMemory (indexed_address f r)
 source Relative f r place = AlignedMemory (relative_address f place)
+source RelativeAddress f r place = Value (relative_address f place)
 source Immediate f r place = Value (low Doubleword f.imm)
 source ThreeImmediate f r place = Value (low Doubleword f.imm)
 source (ShiftedImmediate n) f r place = Value (low Doubleword f.imm * 2 ^ n)

@@ -2,7 +2,7 @@
 use Rattle.std.specs.Prelude.{◌≡◌, ℕ, suc, ◌+◌, ◌%◌, ◌^◌, ◌<◌, ◌≤◌, List, [], ◌∷◌, ◌++◌, length, IsTrue, Option, Some, None, slice_get}
 use Rattle.s390x_base.specs.declared.ir.MachLabel.{MachLabel}
 use Rattle.s390x_inst.specs.declared.inst.Inst.{Inst}
-use Rattle.s390x_inst.specs.declared.inst.Inst.TheVariants.{Jump, CondBr, IndirectBr, Ret, Nop0}
+use Rattle.s390x_inst.specs.declared.inst.Inst.TheVariants.{Jump, CondBr, IndirectBr, Ret, Nop0, LabelAddress}
 use Rattle.s390x_steps.specs.Alone.{Alone, alone}
 use Rattle.s390x_steps.specs.General.{is_general, is_nonzero}
 use Rattle.s390x_steps.specs.Ranges.{IsMask}
@@ -18,14 +18,15 @@ abbrev pub AreBlocks : Layout → List MachLabel → Type 0
 AreBlocks L [] = Unit {0}
 AreBlocks L (l ∷ ls) = IsBlock L l.0 × AreBlocks L ls
 
--- what emission has checked of an instruction that goes elsewhere: its register is a real general one other than `%r0`, its blocks are there,
--- and its mask is one of a condition
+-- what emission has checked of an instruction that names a place or goes elsewhere: its register is a real general one, that of a branch none
+-- of `%r0`, its blocks are there, and its mask is one of a condition
 abbrev pub IsFineBranch : Layout → Inst → Type 0
 IsFineBranch L (Jump dest) = IsBlock L dest.0
 IsFineBranch L (CondBr taken not_taken mask) = IsBlock L taken.0 × IsBlock L not_taken.0 × IsMask mask
 IsFineBranch L (IndirectBr rn targets) = IsTrue (is_general rn) × IsTrue (is_nonzero rn) × AreBlocks L targets.items
 IsFineBranch L (Ret link) = IsTrue (is_general link) × IsTrue (is_nonzero link)
 IsFineBranch L Nop0 = Unit {0}
+IsFineBranch L (LabelAddress dst label) = IsTrue (is_general dst) × IsBlock L label.0
 IsFineBranch L _ = ⊥
 
 abbrev pub FineOr : Option Alone → Type 0 → Type 0

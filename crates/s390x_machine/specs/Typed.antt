@@ -85,13 +85,13 @@ FormStep L (Some Silent) k c position t = (position ≡ At (suc k)) × (t ≡ c)
 FormStep L (Some Unbuilt) k c position t = ⊥
 
 -- the form of a step, if there is one
-abbrev pub form_of : Option Step → Option Form
-form_of None = None
-form_of (Some s) = Some (form s)
+abbrev pub form_of : Layout → Option Step → Option Form
+form_of L None = None
+form_of L (Some s) = Some (form L s)
 
 -- the form of step k; none past the last step
 abbrev pub form_at : Layout → ℕ → Option Form
-form_at L k = form_of (slice_get L.steps k)
+form_at L k = form_of L (slice_get L.steps k)
 
 -- step k may go from this core to this position and core
 abbrev pub TypedStep : Layout → ℕ → Core → Position → Core → Type 0

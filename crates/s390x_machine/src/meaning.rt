@@ -17,6 +17,8 @@ pub enum Shape {
     Indexed,
     /// In memory, at a distance from the instruction.
     Relative,
+    /// The address at a distance from the instruction.
+    RelativeAddress,
     /// The immediate.
     Immediate,
     /// The immediate; the first operand is r2.
@@ -249,9 +251,17 @@ pub const AT_48: SecondOperand = SecondOperand {
     reversed: false,
 };
 
+/// The address at a distance from the instruction.
+pub const RELATIVE_ADDRESS: SecondOperand = SecondOperand {
+    shape: Shape::RelativeAddress,
+    width: Width::Bits64,
+    sign: Signedness::Unsigned,
+    reversed: false,
+};
+
 /// The rows that are built, by rising opcode.
 #[rattlefmt::skip]
-pub const MEANINGS: [RowMeaning; 135] = [
+pub const MEANINGS: [RowMeaning; 136] = [
     RowMeaning { opcode: 0x07, meaning: Meaning::BranchToRegister }, // bcr
     RowMeaning { opcode: 0x10, meaning: Meaning::Compute(Operator::Signed(SignedOperator::Absolute), Size::Word, WORD_REGISTER, CodeRule::Set) }, // lpr
     RowMeaning { opcode: 0x13, meaning: Meaning::Compute(Operator::Signed(SignedOperator::Negate), Size::Word, WORD_REGISTER, CodeRule::Set) }, // lcr
@@ -289,6 +299,7 @@ pub const MEANINGS: [RowMeaning; 135] = [
     RowMeaning { opcode: 0xa7d, meaning: Meaning::Compute(Operator::Signed(SignedOperator::Multiply), Size::Doubleword, HALFWORD_IMMEDIATE, CodeRule::Kept) }, // mghi
     RowMeaning { opcode: 0xa7e, meaning: Meaning::Compare(Signedness::Signed, Size::Word, HALFWORD_IMMEDIATE) }, // chi
     RowMeaning { opcode: 0xa7f, meaning: Meaning::Compare(Signedness::Signed, Size::Doubleword, HALFWORD_IMMEDIATE) }, // cghi
+    RowMeaning { opcode: 0xc00, meaning: Meaning::Compute(Operator::Move, Size::Doubleword, RELATIVE_ADDRESS, CodeRule::Kept) }, // larl
     RowMeaning { opcode: 0xc01, meaning: Meaning::Compute(Operator::Move, Size::Doubleword, SIGNED_WORD_IMMEDIATE, CodeRule::Kept) }, // lgfi
     RowMeaning { opcode: 0xc04, meaning: Meaning::BranchRelative }, // brcl
     RowMeaning { opcode: 0xc06, meaning: Meaning::Compute(Operator::SelectedBits(SelectedBitsOperator::Xor, 0xffffffff00000000), Size::Doubleword, AT_32, CodeRule::Set) }, // xihf

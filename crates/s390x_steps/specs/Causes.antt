@@ -4,7 +4,7 @@ use Rattle.s390x_base.specs.declared.ir.MachLabel.{MachLabel}
 use Rattle.s390x_base.specs.declared.error.EmitError.{EmitError}
 use Rattle.s390x_base.specs.declared.error.EmitError.TheVariants.{BadOperator, BadRegister, BreakOutsideLoop, UnboundLabel, LabelOutOfRange}
 use Rattle.s390x_inst.specs.declared.inst.Inst.{Inst}
-use Rattle.s390x_inst.specs.declared.inst.Inst.TheVariants.{Jump, CondBr, IndirectBr, Ret, CondBreak, Nop0}
+use Rattle.s390x_inst.specs.declared.inst.Inst.TheVariants.{Jump, CondBr, IndirectBr, Ret, CondBreak, Nop0, LabelAddress}
 use Rattle.s390x_steps.specs.General.{is_general, is_nonzero}
 use Rattle.s390x_steps.specs.Alone.{Alone, alone}
 use Rattle.s390x_steps.specs.Tree.{Tree, empty, leaf, looped}
@@ -27,7 +27,7 @@ abbrev pub labels_cause : ℕ → List MachLabel → Option EmitError
 labels_cause blocks [] = None
 labels_cause blocks (l ∷ ls) = first (label_cause blocks l) (labels_cause blocks ls)
 
--- the causes of an instruction that goes elsewhere, inside so many loops; one that isn't built yet is refused
+-- the causes of an instruction that names a place or goes elsewhere, inside so many loops; one that isn't built yet is refused
 abbrev pub branch_cause : (blocks depth : ℕ) → Inst → Option EmitError
 branch_cause blocks depth (Jump dest) = label_cause blocks dest
 branch_cause blocks depth (CondBr taken not_taken mask) = first (label_cause blocks taken) (label_cause blocks not_taken)
@@ -35,6 +35,7 @@ branch_cause blocks depth (IndirectBr rn targets) = first (unless (is_general rn
 branch_cause blocks depth (Ret link) = unless (is_general link && is_nonzero link) BadRegister
 branch_cause blocks depth (CondBreak mask) = unless (nat_lt 0 depth) BreakOutsideLoop
 branch_cause blocks depth Nop0 = None
+branch_cause blocks depth (LabelAddress dst label) = first (unless (is_general dst) BadRegister) (label_cause blocks label)
 branch_cause blocks depth _ = Some BadOperator
 
 -- an instruction that is one machine instruction is refused for its registers alone; another one has its own causes

@@ -2,7 +2,7 @@
 use Rattle.std.specs.Prelude.{ℕ, ◌+◌, List, [], ◌∷◌, Option, Some, None}
 use Rattle.s390x_base.specs.Regs.{number_of}
 use Rattle.s390x_inst.specs.declared.inst.Inst.{Inst}
-use Rattle.s390x_inst.specs.declared.inst.Inst.TheVariants.{Jump, CondBr, IndirectBr, Ret}
+use Rattle.s390x_inst.specs.declared.inst.Inst.TheVariants.{Jump, CondBr, IndirectBr, Ret, LabelAddress}
 use Rattle.s390x_steps.specs.MachineInstruction.{MachineInstruction, size_of, rr}
 use Rattle.s390x_steps.specs.Alone.{Alone, alone}
 use Rattle.s390x_steps.specs.Steps.{Step, Plain, Opening, Back, Break}
@@ -12,19 +12,22 @@ pub data Target : Type 0 where
   ToBlock : ℕ → Target
   ToStep : ℕ → Target
 
--- a machine instruction, or a branch whose target has no place yet
+-- a machine instruction, or one with a distance whose target has no place yet
 pub data Part : Type 0 where
   -- a machine instruction
   Row : MachineInstruction → Part
   -- BRANCH RELATIVE ON CONDITION LONG under a mask
   Branch : (mask : ℕ) → Target → Part
+  -- one of format RIL-B: a register, and an address relative to the instruction
+  Relative : (opcode register : ℕ) → Target → Part
 
--- the parts of an instruction that goes elsewhere; of one that isn't built yet, none: emission refuses it
+-- the parts of an instruction that names a place or goes elsewhere; of one that isn't built yet, none: emission refuses it
 abbrev pub branch_parts : Inst → List Part
 branch_parts (Jump dest) = Branch 15 (ToBlock dest.0) ∷ []
 branch_parts (CondBr taken not_taken mask) = Branch mask (ToBlock taken.0) ∷ Branch 15 (ToBlock not_taken.0) ∷ []
 branch_parts (IndirectBr rn targets) = Row (rr 0x07 15 (number_of rn)) ∷ []
 branch_parts (Ret link) = Row (rr 0x07 15 (number_of link)) ∷ []
+branch_parts (LabelAddress dst label) = Relative 0xc00 (number_of dst) (ToBlock label.0) ∷ []
 branch_parts _ = []
 
 -- an instruction that is one machine instruction has that part alone; another one has its own
@@ -47,6 +50,7 @@ step_parts (Break mask target) = Branch mask (ToStep target) ∷ []
 abbrev pub part_size : Part → ℕ
 part_size (Row m) = size_of m
 part_size (Branch mask target) = 6
+part_size (Relative opcode register target) = 6
 
 -- how many bytes the parts have
 abbrev pub parts_size : List Part → ℕ

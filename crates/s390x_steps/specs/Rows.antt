@@ -1,7 +1,7 @@
 -- The machine instructions of a step, once the steps and the blocks have places. Places are counted in bytes from the code's beginning.
 use Rattle.std.specs.Prelude.{ℕ, ◌+◌, ◌-◌, ◌/◌, ◌%◌, List, [], ◌∷◌}
-use Rattle.s390x_steps.specs.MachineInstruction.{MachineInstruction, ril_c, joined_bytes}
-use Rattle.s390x_steps.specs.Parts.{Target, ToBlock, ToStep, Part, Row, Branch, step_parts, part_size}
+use Rattle.s390x_steps.specs.MachineInstruction.{MachineInstruction, ril_b, ril_c, joined_bytes}
+use Rattle.s390x_steps.specs.Parts.{Target, ToBlock, ToStep, Part, Row, Branch, Relative, step_parts, part_size}
 use Rattle.s390x_steps.specs.Steps.{Step}
 
 -- where each step and each block stands, by its number
@@ -22,6 +22,7 @@ half_distance place target = (8589934592 + target - place) / 2 % 4294967296
 abbrev pub row_of : Places → ℕ → Part → MachineInstruction
 row_of P p (Row m) = m
 row_of P p (Branch mask target) = ril_c 0xc04 mask (half_distance p (target_place P target))
+row_of P p (Relative opcode register target) = ril_b opcode register (half_distance p (target_place P target))
 
 -- the rows of parts from a place on
 abbrev pub rows_of : Places → ℕ → List Part → List MachineInstruction

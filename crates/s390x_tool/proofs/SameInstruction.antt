@@ -9,7 +9,7 @@ use Rattle.s390x_base.specs.declared.imms.UImm32Shifted.{UImm32Shifted}
 use Rattle.s390x_base.specs.declared.error.EmitError.{EmitError}
 use Rattle.s390x_base.specs.declared.error.EmitError.TheVariants.{BadOperator, BadRegister}
 use Rattle.s390x_inst.specs.declared.inst.Inst.{Inst}
-use Rattle.s390x_inst.specs.declared.inst.Inst.TheVariants.{AluRRR, AluRR, AluRRSImm16, AluRSImm16, AluRSImm32, AluRUImm32, UnaryRR, CmpRR, CmpRSImm16, CmpRSImm32, CmpRUImm32, Mov64, MovPReg, Mov32, Mov32Imm, Mov32SImm16, Mov64SImm16, Mov64SImm32, AluRUImm16Shifted, AluRUImm32Shifted, ShiftRR, RxSBG, RxSBGTest, Mov64UImm16Shifted, Mov64UImm32Shifted, Insert64UImm16Shifted, Insert64UImm32Shifted, CMov32, CMov64, CMov32SImm16, CMov64SImm16, Extend, LoadAR, InsertAR, SMulWide, UMulWide, Flogr, Fence, Nop0, Nop2, Jump, CondBr, Ret, CondBreak, Vector}
+use Rattle.s390x_inst.specs.declared.inst.Inst.TheVariants.{AluRRR, AluRR, AluRRSImm16, AluRSImm16, AluRSImm32, AluRUImm32, UnaryRR, CmpRR, CmpRSImm16, CmpRSImm32, CmpRUImm32, Mov64, MovPReg, Mov32, Mov32Imm, Mov32SImm16, Mov64SImm16, Mov64SImm32, AluRUImm16Shifted, AluRUImm32Shifted, ShiftRR, RxSBG, RxSBGTest, Mov64UImm16Shifted, Mov64UImm32Shifted, Insert64UImm16Shifted, Insert64UImm32Shifted, CMov32, CMov64, CMov32SImm16, CMov64SImm16, Extend, LoadAR, InsertAR, SMulWide, UMulWide, Flogr, Fence, Nop0, Nop2, Jump, CondBr, Ret, CondBreak, Vector, LabelAddress}
 use Rattle.s390x_inst.specs.declared.vec_inst.VecInst.{VecInst}
 use Rattle.s390x_inst.specs.declared.vec_inst.VecInst.TheVariants.{VecRR}
 use Rattle.s390x_steps.specs.MachineInstruction.{rr}
@@ -90,6 +90,7 @@ reading (N.Control ControlIs.Nop2) [] = Whole Nop2
 reading (N.Control ControlIs.Jump) (FNatural w dest ∷ []) = Whole (Jump (named dest))
 reading (N.Control ControlIs.CondBr) (FNatural v taken ∷ FNatural w not_taken ∷ FCond mask ∷ []) = Whole (CondBr (named taken) (named not_taken) mask)
 reading (N.Control ControlIs.IndirectBr) (FReg rn ∷ FLabels targets ∷ []) = Picks rn targets
+reading (N.Control ControlIs.LabelAddress) (FReg dst ∷ FNatural w label ∷ []) = Whole (LabelAddress dst (named label))
 reading (N.Control ControlIs.Ret) (FReg link ∷ []) = Whole (Ret link)
 reading (N.Control ControlIs.CondBreak) (FCond mask ∷ []) = Whole (CondBreak mask)
 reading name fields = Other

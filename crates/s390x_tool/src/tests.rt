@@ -227,6 +227,12 @@ fn images(rt: HostRuntime) -> Result<(), Fail> {
             Status::Ok,
             "c0f400000000\n",
         ),
+        (
+            "image 4096",
+            "block\nLabelAddress %r2 0\nend\n",
+            Status::Ok,
+            "c02000000000\n",
+        ),
     ] {
         let input = Vec::from_slice(rt.alloc(), input.as_bytes())?;
         expect(&rt, words, input, GOOD, (status, told))?;
