@@ -1,5 +1,6 @@
 -- What the check let pass stays passed from block to block.
 use Rattle.std.proofs.Common.{◌≡◌, ℕ, suc, ◌+◌, ◌<◌, List, ◌∷◌, length, map, get_or, drop, None, false, refl, sym, ap, ◌∙◌, subst, arith, drop-cons}
+use Rattle.s390x_inst.specs.declared.state.IsaFlags.{IsaFlags}
 use Rattle.s390x_buffer.specs.State.{State, put_cause, limit}
 use Rattle.s390x_inst.specs.declared.function.Block.{Block}
 use Rattle.s390x_steps.specs.Tree.{Tree}
@@ -14,13 +15,13 @@ use Rattle.s390x_emit_int.proofs.Lacking.{put_parts}
 use Rattle.s390x_emit_int.proofs.Passing.{bind_turns, tree_turns}
 
 -- the blocks that are left have no cause and fit
-pub record BlocksPassed (s : State) (count : ℕ) (ts : List Tree) : Type 0 where
+pub record BlocksPassed (flags : IsaFlags) (s : State) (count : ℕ) (ts : List Tree) : Type 0 where
   pub unmarked : s.failed ≡ false
   pub short : length s.bytes + blocks_size ts < limit
-  pub passed : blocks_cause count (length s.labels) ts ≡ None
+  pub passed : blocks_cause flags count (length s.labels) ts ≡ None
 
-pub all_passed : (s : State) (count : ℕ) (ts : List Tree) → put_cause s (blocks_size ts) ≡ None → blocks_cause count (length s.labels) ts ≡ None → BlocksPassed s count ts
-all_passed s count ts put cause = let p = put_parts s (blocks_size ts) put in record { unmarked = p.0; short = p.1; passed = cause }
+pub all_passed : (flags : IsaFlags) (s : State) (count : ℕ) (ts : List Tree) → put_cause s (blocks_size ts) ≡ None → blocks_cause flags count (length s.labels) ts ≡ None → BlocksPassed flags s count ts
+all_passed flags s count ts put cause = let p = put_parts s (blocks_size ts) put in record { unmarked = p.0; short = p.1; passed = cause }
 
 split_at : (bs : List Block) (k : ℕ) (v : Block) → k < length bs → v ≡ get_or bs k v → map tree_of (drop k bs) ≡ tree_of v ∷ map tree_of (drop (k + 1) bs)
 split_at bs k v lt at =
@@ -28,11 +29,11 @@ split_at bs k v lt at =
     ap (map tree_of) (drop-cons bs k v lt ∙ ap (λ x. x ∷ drop (suc k) bs) (sym at) ∙ ap (λ m. v ∷ drop m bs) k1)
 
 -- the next block
-pub block_passed : (bs : List Block) (k count : ℕ) (v : Block) (s s1 : State) → k < length bs → v ≡ get_or bs k v → s1 ≡ apply s (Bind k) → s.block_count ≡ count → k < count → HasRoom s → BlocksPassed s count (map tree_of (drop k bs)) → TreePassed s1 0 0 (tree_of v)
-block_passed bs k count v s s1 lt at e held below room p =
+pub block_passed : (flags : IsaFlags) (bs : List Block) (k count : ℕ) (v : Block) (s s1 : State) → k < length bs → v ≡ get_or bs k v → s1 ≡ apply s (Bind k) → s.block_count ≡ count → k < count → HasRoom s → BlocksPassed flags s count (map tree_of (drop k bs)) → TreePassed flags s1 0 0 (tree_of v)
+block_passed flags bs k count v s s1 lt at e held below room p =
     let t = tree_of v in
     let rest = map tree_of (drop (k + 1) bs) in
-    let q : BlocksPassed s count (t ∷ rest) = subst (BlocksPassed s count) (split_at bs k v lt at) p in
+    let q : BlocksPassed flags s count (t ∷ rest) = subst (BlocksPassed flags s count) (split_at bs k v lt at) p in
     let o = bind_turns s s1 k e in
     let same : s1.block_count ≡ count = o.blocks ∙ held in
     record {
@@ -40,20 +41,20 @@ block_passed bs k count v s s1 lt at e held below room p =
       blocks = omega (arith, o.blocks, o.labels, room);
       label = omega (arith, held, o.labels, room);
       short = omega (arith, o.bytes, q.short);
-      passed = ap (λ b. tree_cause b (length s1.labels) 0 t) same ∙ ap (λ m. tree_cause count m 0 t) (o.labels ∙ (omega arith)) ∙ first_left (tree_cause count (length s.labels) 0 t) _ q.passed;
+      passed = ap (λ b. tree_cause flags b (length s1.labels) 0 t) same ∙ ap (λ m. tree_cause flags count m 0 t) (o.labels ∙ (omega arith)) ∙ first_left (tree_cause flags count (length s.labels) 0 t) _ q.passed;
     }
 
 -- and those behind it
-pub others_passed : (bs : List Block) (k count : ℕ) (v : Block) (s s1 s2 : State) → k < length bs → v ≡ get_or bs k v → s1 ≡ apply s (Bind k) → s2 ≡ run s1 (pieces (length s1.labels) 0 (tree_of v)) → BlocksPassed s count (map tree_of (drop k bs)) → BlocksPassed s2 count (map tree_of (drop (k + 1) bs))
-others_passed bs k count v s s1 s2 lt at e1 e2 p =
+pub others_passed : (flags : IsaFlags) (bs : List Block) (k count : ℕ) (v : Block) (s s1 s2 : State) → k < length bs → v ≡ get_or bs k v → s1 ≡ apply s (Bind k) → s2 ≡ run s1 (pieces (length s1.labels) 0 (tree_of v)) → BlocksPassed flags s count (map tree_of (drop k bs)) → BlocksPassed flags s2 count (map tree_of (drop (k + 1) bs))
+others_passed flags bs k count v s s1 s2 lt at e1 e2 p =
     let t = tree_of v in
     let rest = map tree_of (drop (k + 1) bs) in
-    let q : BlocksPassed s count (t ∷ rest) = subst (BlocksPassed s count) (split_at bs k v lt at) p in
+    let q : BlocksPassed flags s count (t ∷ rest) = subst (BlocksPassed flags s count) (split_at bs k v lt at) p in
     let o = bind_turns s s1 k e1 in
     let m = tree_turns s1 s2 (length s1.labels) 0 t refl e2 in
     let labels : length s2.labels ≡ length s.labels + draws t = omega (arith, o.labels, m.labels) in
     record {
       unmarked = m.unmarked ∙ o.unmarked ∙ q.unmarked;
       short = omega (arith, o.bytes, m.bytes, q.short);
-      passed = ap (λ n. blocks_cause count n rest) labels ∙ first_right (tree_cause count (length s.labels) 0 t) _ q.passed;
+      passed = ap (λ n. blocks_cause flags count n rest) labels ∙ first_right (tree_cause flags count (length s.labels) 0 t) _ q.passed;
     }

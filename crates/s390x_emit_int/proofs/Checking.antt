@@ -1,5 +1,6 @@
 -- The check goes on from member to member.
 use Rattle.std.proofs.Common.{◌≡◌, ℕ, Result, Ok, Err, MatchResult, ◌+◌, ◌<◌, min, drop, get_or, length, List, None, Some, sym, ap, ◌∙◌, arith}
+use Rattle.s390x_inst.specs.declared.state.IsaFlags.{IsaFlags}
 use Rattle.s390x_base.specs.declared.error.EmitError.{EmitError}
 use Rattle.s390x_inst.specs.declared.inst.Inst.{Inst}
 use Rattle.s390x_steps.specs.Tree.{Tree, empty, leaf, looped, graft, tree}
@@ -14,27 +15,27 @@ capped : (a b x : ℕ) → min limit a ≡ min limit b → min limit (a + x) ≡
 capped a b x h = omega arith
 
 -- what is left after a member, with what was counted, comes to what was left before it
-pub record GoesOn (blocks depth : ℕ) (sum r : Totals) (rest all : Tree) : Type 0 where
-  pub cause : tree_cause blocks r.labels depth rest ≡ tree_cause blocks sum.labels depth all
+pub record GoesOn (flags : IsaFlags) (blocks depth : ℕ) (sum r : Totals) (rest all : Tree) : Type 0 where
+  pub cause : tree_cause flags blocks r.labels depth rest ≡ tree_cause flags blocks sum.labels depth all
   pub labels : r.labels + draws rest ≡ sum.labels + draws all
   pub bytes : min limit (r.bytes + tree_size rest) ≡ min limit (sum.bytes + tree_size all)
 
-pub goes_on : (blocks depth : ℕ) (sum r : Totals) (is : List Inst) (k : ℕ) (i : Inst) → k < length is → i ≡ get_or is k i → tree_cause blocks sum.labels depth (graft i empty) ≡ None → Adds sum r (draws (graft i empty)) (tree_size (graft i empty)) → GoesOn blocks depth sum r (tree (drop (k + 1) is)) (tree (drop k is))
-goes_on blocks depth sum r is k i lt at none adds =
+pub goes_on : (flags : IsaFlags) (blocks depth : ℕ) (sum r : Totals) (is : List Inst) (k : ℕ) (i : Inst) → k < length is → i ≡ get_or is k i → tree_cause flags blocks sum.labels depth (graft i empty) ≡ None → Adds sum r (draws (graft i empty)) (tree_size (graft i empty)) → GoesOn flags blocks depth sum r (tree (drop (k + 1) is)) (tree (drop k is))
+goes_on flags blocks depth sum r is k i lt at none adds =
     let rest = tree (drop (k + 1) is) in
     let b = behind is k i lt at in
     record {
-      cause = ap (λ m. tree_cause blocks m depth rest) adds.labels ∙ ap (λ o. first o (tree_cause blocks (sum.labels + draws (graft i empty)) depth rest)) (sym none) ∙ sym (graft_cause blocks sum.labels depth i rest) ∙ ap (λ t. tree_cause blocks sum.labels depth t) (sym b);
+      cause = ap (λ m. tree_cause flags blocks m depth rest) adds.labels ∙ ap (λ o. first o (tree_cause flags blocks (sum.labels + draws (graft i empty)) depth rest)) (sym none) ∙ sym (graft_cause flags blocks sum.labels depth i rest) ∙ ap (λ t. tree_cause flags blocks sum.labels depth t) (sym b);
       labels = omega (arith, adds.labels, graft_draws i rest, ap draws b);
       bytes = capped r.bytes (sum.bytes + tree_size (graft i empty)) (tree_size rest) adds.bytes ∙ ap (λ m. min limit m) (omega (arith, graft_size i rest, ap tree_size b));
     }
 
 -- a loop's answer is that of its tree
-pub loop_answer : (blocks depth : ℕ) (t : Totals) (mask : ℕ) (x members : Tree) (result : Result Totals EmitError) → x ≡ looped mask members empty →
-    MatchResult result (λ r. (first (first (nesting_cause depth) (numbers_cause t.labels 2)) (tree_cause blocks (t.labels + 2) (depth + 1) members) ≡ None) × Adds t r (2 + draws members) (tree_size members + 6)) (λ e. first (first (nesting_cause depth) (numbers_cause t.labels 2)) (tree_cause blocks (t.labels + 2) (depth + 1) members) ≡ Some e) →
-    MatchResult result (λ r. (tree_cause blocks t.labels depth x ≡ None) × Adds t r (draws x) (tree_size x)) (λ e. tree_cause blocks t.labels depth x ≡ Some e)
-loop_answer blocks depth t mask x members (Ok r) e p =
-    let z = ap (tree_cause blocks t.labels depth) e ∙ first_none (first (first (nesting_cause depth) (numbers_cause t.labels 2)) (tree_cause blocks (t.labels + 2) (depth + 1) members)) in (
+pub loop_answer : (flags : IsaFlags) (blocks depth : ℕ) (t : Totals) (mask : ℕ) (x members : Tree) (result : Result Totals EmitError) → x ≡ looped mask members empty →
+    MatchResult result (λ r. (first (first (nesting_cause depth) (numbers_cause t.labels 2)) (tree_cause flags blocks (t.labels + 2) (depth + 1) members) ≡ None) × Adds t r (2 + draws members) (tree_size members + 6)) (λ e. first (first (nesting_cause depth) (numbers_cause t.labels 2)) (tree_cause flags blocks (t.labels + 2) (depth + 1) members) ≡ Some e) →
+    MatchResult result (λ r. (tree_cause flags blocks t.labels depth x ≡ None) × Adds t r (draws x) (tree_size x)) (λ e. tree_cause flags blocks t.labels depth x ≡ Some e)
+loop_answer flags blocks depth t mask x members (Ok r) e p =
+    let z = ap (tree_cause flags blocks t.labels depth) e ∙ first_none (first (first (nesting_cause depth) (numbers_cause t.labels 2)) (tree_cause flags blocks (t.labels + 2) (depth + 1) members)) in (
       z ∙ p.0,
       record {
         counted = p.1.counted;
@@ -42,18 +43,18 @@ loop_answer blocks depth t mask x members (Ok r) e p =
         bytes = p.1.bytes ∙ ap (λ m. min limit m) (omega (arith, ap tree_size e));
       },
     )
-loop_answer blocks depth t mask x members (Err d) e p = ap (tree_cause blocks t.labels depth) e ∙ first_none _ ∙ p
+loop_answer flags blocks depth t mask x members (Err d) e p = ap (tree_cause flags blocks t.labels depth) e ∙ first_none _ ∙ p
 
 -- so is that of an instruction that is no loop
-pub leaf_answer : (blocks depth : ℕ) (t : Totals) (i : Inst) (x : Tree) (result : Result Totals EmitError) → x ≡ leaf i empty →
-    MatchResult result (λ r. (instruction_cause blocks depth i ≡ None) × Adds t r 0 (instruction_size i)) (λ e. instruction_cause blocks depth i ≡ Some e) →
-    MatchResult result (λ r. (tree_cause blocks t.labels depth x ≡ None) × Adds t r (draws x) (tree_size x)) (λ e. tree_cause blocks t.labels depth x ≡ Some e)
-leaf_answer blocks depth t i x (Ok r) e p = (
-  ap (tree_cause blocks t.labels depth) e ∙ first_none (instruction_cause blocks depth i) ∙ p.0,
+pub leaf_answer : (flags : IsaFlags) (blocks depth : ℕ) (t : Totals) (i : Inst) (x : Tree) (result : Result Totals EmitError) → x ≡ leaf i empty →
+    MatchResult result (λ r. (instruction_cause flags blocks depth i ≡ None) × Adds t r 0 (instruction_size i)) (λ e. instruction_cause flags blocks depth i ≡ Some e) →
+    MatchResult result (λ r. (tree_cause flags blocks t.labels depth x ≡ None) × Adds t r (draws x) (tree_size x)) (λ e. tree_cause flags blocks t.labels depth x ≡ Some e)
+leaf_answer flags blocks depth t i x (Ok r) e p = (
+  ap (tree_cause flags blocks t.labels depth) e ∙ first_none (instruction_cause flags blocks depth i) ∙ p.0,
   record {
     counted = p.1.counted;
     labels = omega (arith, p.1.labels, ap draws e);
     bytes = p.1.bytes ∙ ap (λ m. min limit m) (omega (arith, ap tree_size e));
   },
 )
-leaf_answer blocks depth t i x (Err d) e p = ap (tree_cause blocks t.labels depth) e ∙ first_none _ ∙ p
+leaf_answer flags blocks depth t i x (Err d) e p = ap (tree_cause flags blocks t.labels depth) e ∙ first_none _ ∙ p

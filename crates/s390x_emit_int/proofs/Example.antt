@@ -49,7 +49,7 @@ pub linked_loop_runs : LinkedLoopRuns
 unfolding vec code length_of
 linked_loop_runs = record {
   code = code;
-  checked = refl;
+  checked = λ flags. refl;
   masks = ranges;
   finished = finished;
   linked = refl;

@@ -5,6 +5,7 @@ use Rattle.std.specs.List.{All}
 use Rattle.std.proofs.lemmas.Bool.{and_from, ltb-true, lt-ltb, le-leb, eq-eqb}
 use Rattle.std.proofs.lemmas.List.{length-replicate}
 use Rattle.std.proofs.lemmas.List.Elements.{All-nil, All-head, All-tail, All-replicate, All-get_or}
+use Rattle.s390x_inst.specs.declared.state.IsaFlags.{IsaFlags}
 use Rattle.s390x_base.specs.declared.error.EmitError.{EmitError}
 use Rattle.s390x_base.specs.declared.error.EmitError.TheVariants.{LabelOutOfRange, UnboundLabel, Failed, NoMemory}
 use Rattle.s390x_buffer.specs.State.{State, Constant, fresh, limit, new_cause, put_cause}
@@ -105,16 +106,16 @@ pub record CanFinish (u : State) : Type 0 where
   pub short : long_cause u ≡ None
   pub patched : patch_cause u ≡ None
 
-pub can_finish : (ts : List Tree) (cs : List Constant) (u : State) → u ≡ run (fresh (length ts) cs) (function_pieces (length ts + length cs) 0 ts) → checked_cause ts cs ≡ None → CanFinish u
-can_finish ts cs u0 is fine =
+pub can_finish : (flags : IsaFlags) (ts : List Tree) (cs : List Constant) (u : State) → u ≡ run (fresh (length ts) cs) (function_pieces (length ts + length cs) 0 ts) → checked_cause flags ts cs ≡ None → CanFinish u
+can_finish flags ts cs u0 is fine =
     let b = length ts in
     let n = b + length cs in
     let s0 = fresh b cs in
     let ps = function_pieces n 0 ts in
     let u = run s0 ps in
     let rest = first_right (new_cause b cs) _ fine in
-    let blocks : blocks_cause b n ts ≡ None = first_left _ _ rest in
-    let long : length_cause ts cs ≡ None = first_right (blocks_cause b n ts) _ rest in
+    let blocks : blocks_cause flags b n ts ≡ None = first_left _ _ rest in
+    let long : length_cause ts cs ≡ None = first_right (blocks_cause flags b n ts) _ rest in
     let same : Same s0 u = same_run ps s0 in
     let drawn : length s0.labels ≡ n = length-replicate n None in
     let count : length u.labels ≡ n + all_draws ts = labels_run ts s0 n 0 (sym drawn) in
@@ -122,7 +123,7 @@ can_finish ts cs u0 is fine =
     let ends : finished_length u ≡ constants_end (blocks_size ts) cs = ap (λ x. constants_end (length u.bytes) x) same.constants ∙ ap (λ m. constants_end m cs) size in
     let below : constants_end (blocks_size ts) cs < limit = ltb-true (constants_end (blocks_size ts) cs) limit (unless_true (nat_lt (constants_end (blocks_size ts) cs) limit) LabelOutOfRange long) in
     let May = IsNamed b n (n + all_draws ts) in
-    let sound : AllSound May ps = function_sound May ts n 0 b (all_names b n ts blocks) (λ l lt. inl lt) (λ l lo hi. inr (lo, hi)) (omega arith) in
+    let sound : AllSound May ps = function_sound May ts n 0 b (all_names flags b n ts blocks) (λ l lt. inl lt) (λ l lo hi. inr (lo, hi)) (omega arith) in
     let begins : Orderly May s0 = record { even = refl; labels = All-replicate (Stands 0) n None tt; uses = All-nil (IsUse May 0) } in
     let orderly : Orderly May u = orderly_run May ps s0 sound begins in
     let full : length (unpatched u) ≡ finished_length u = length-append u.bytes (constant_bytes (length u.bytes) u.constants) ∙ length-constant_bytes (length u.bytes) u.constants in
@@ -143,8 +144,8 @@ can_finish ts cs u0 is fine =
     } in
     subst CanFinish (sym is) done
 
-pub always_finishes : (ts : List Tree) (cs : List Constant) → checked_cause ts cs ≡ None → finish_cause (run (fresh (length ts) cs) (function_pieces (length ts + length cs) 0 ts)) ≡ None
-always_finishes ts cs fine = let f = can_finish ts cs _ refl fine in both_none _ _ f.short f.patched
+pub always_finishes : (flags : IsaFlags) (ts : List Tree) (cs : List Constant) → checked_cause flags ts cs ≡ None → finish_cause (run (fresh (length ts) cs) (function_pieces (length ts + length cs) 0 ts)) ≡ None
+always_finishes flags ts cs fine = let f = can_finish flags ts cs _ refl fine in both_none _ _ f.short f.patched
 
 -- finishing answers the code, or want of memory
 pub finished_or_lacks : {T : Type 0} (P R : T → Type 0) (a b : Option EmitError) (r : Result T EmitError) → MatchResult r P (λ e. BlamesEither a b e) → a ≡ None → b ≡ None → ((x : T) → P x → R x) → MatchResult r R (λ e. e ≡ NoMemory)
@@ -153,9 +154,9 @@ finished_or_lacks P R None b (Err e) m ha hb f = elim m [ inl h ↦ h | inr h �
 finished_or_lacks P R (Some c) b (Err e) m ha hb f = absurd (cc)
 
 -- at the beginning there is room for all
-pub fresh_takes : (ts : List Tree) (cs : List Constant) → checked_cause ts cs ≡ None → put_cause (fresh (length ts) cs) (blocks_size ts) ≡ None
-fresh_takes ts cs fine =
+pub fresh_takes : (flags : IsaFlags) (ts : List Tree) (cs : List Constant) → checked_cause flags ts cs ≡ None → put_cause (fresh (length ts) cs) (blocks_size ts) ≡ None
+fresh_takes flags ts cs fine =
     let rest = first_right (new_cause (length ts) cs) _ fine in
-    let long : length_cause ts cs ≡ None = first_right (blocks_cause (length ts) (length ts + length cs) ts) _ rest in
+    let long : length_cause ts cs ≡ None = first_right (blocks_cause flags (length ts) (length ts + length cs) ts) _ rest in
     let below : constants_end (blocks_size ts) cs < limit = ltb-true (constants_end (blocks_size ts) cs) limit (unless_true (nat_lt (constants_end (blocks_size ts) cs) limit) LabelOutOfRange long) in
     put_none (fresh (length ts) cs) (blocks_size ts) refl (omega (arith, below, end-ge (blocks_size ts) cs))

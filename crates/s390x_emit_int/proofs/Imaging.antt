@@ -1,6 +1,7 @@
 -- The finished function is its image.
 use Rattle.std.proofs.Common.{◌≡◌, ℕ, suc, ◌+◌, ◌-◌, ◌<◌, ◌≤◌, ◌≢◌, List, [], ◌∷◌, ◌++◌, length, map, get_or, take, drop, refl, sym, ap, ◌∙◌, subst, arith, length-append, length-set, zero-add, drop-cons, length-take, Option, None, Some}
 use Rattle.std.proofs.lemmas.List.{length-map, length-replicate, get_or_append_left, get_or-append-add, get_or-take, get_or-drop}
+use Rattle.s390x_inst.specs.declared.state.IsaFlags.{IsaFlags}
 use Rattle.s390x_buffer.specs.State.{State, Constant, fresh}
 use Rattle.s390x_buffer.specs.Patch.{place_in, place_of}
 use Rattle.s390x_buffer.specs.Constants.{constant_start, constant_starts, constant_bytes, constants_end, greatest_align}
@@ -74,12 +75,12 @@ code_is (t ∷ ts) off n agree names bound =
     ap (λ m. resolve off m (function_pieces n 0 (t ∷ ts))) (sym (place_zero all)) ∙ function_join (t ∷ ts) off (function_places (t ∷ ts)) (length (t ∷ ts)) n 0 0 agree names bound (place_follows all) bound.0
 
 -- what was emitted, as one buffer has it
-pub record Emitted (ts : List Tree) (cs : List Constant) (u : State) : Type 0 where
+pub record Emitted (flags : IsaFlags) (ts : List Tree) (cs : List Constant) (u : State) : Type 0 where
   pub is : u ≡ run (fresh (length ts) cs) (function_pieces (length ts + length cs) 0 ts)
-  pub fine : blocks_cause (length ts) (length ts + length cs) ts ≡ None
+  pub fine : blocks_cause flags (length ts) (length ts + length cs) ts ≡ None
 
-pub image_of : (ts : List Tree) (cs : List Constant) (u : State) (f : MachBufferFinalized) → Emitted ts cs u → Finished u f → IsImage ts cs f
-image_of ts cs u0 f emitted fin0 =
+pub image_of : (flags : IsaFlags) (ts : List Tree) (cs : List Constant) (u : State) (f : MachBufferFinalized) → Emitted flags ts cs u → Finished u f → IsImage ts cs f
+image_of flags ts cs u0 f emitted fin0 =
     let b = length ts in
     let n = b + length cs in
     let s0 = fresh b cs in
@@ -103,7 +104,7 @@ image_of ts cs u0 f emitted fin0 =
     let agree : (l : ℕ) → l < b → off l ≡ (function_places ts).block l = λ l h. ap off (sym (zero-add l)) ∙ block_at ts off at n 0 0 l bound follow h ∙ ap at (zero-add (first_step ts l)) in
     let wide : Wide ps = function_wide ts n 0 in
     let within : Within (length u.bytes) u.uses = within_run ps s0 tt wide in
-    let body : patched off u ≡ function_code ts = patched_run ps s0 off tt wide ∙ code_is ts off n agree (all_names b n ts emitted.fine) bound in
+    let body : patched off u ≡ function_code ts = patched_run ps s0 off tt wide ∙ code_is ts off n agree (all_names flags b n ts emitted.fine) bound in
     let size : length u.bytes ≡ length (function_code ts) = sym (length-patch_all off u.uses u.bytes) ∙ ap length body in
     let whole : f.bytes.items ≡ function_code ts ++ constant_bytes (length (function_code ts)) cs = fin.bytes ∙ all_left off u.uses u.bytes (constant_bytes (length u.bytes) u.constants) within ∙ ap (λ l. l ++ constant_bytes (length u.bytes) u.constants) body ∙ ap (λ m. function_code ts ++ constant_bytes m u.constants) size ∙ ap (λ x. function_code ts ++ constant_bytes (length (function_code ts)) x) same.constants in
     let ends : length f.bytes.items ≡ constants_end (length u.bytes) u.constants = ap length whole ∙ length-append (function_code ts) (constant_bytes (length (function_code ts)) cs) ∙ length-constant_bytes (length (function_code ts)) cs ∙ ap (λ m. constants_end m cs) (sym size) ∙ ap (constants_end (length u.bytes)) (sym same.constants) in

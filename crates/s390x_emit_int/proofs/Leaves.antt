@@ -1,5 +1,6 @@
 -- What the check let pass of one instruction that is no loop.
 use Rattle.std.proofs.Common.{◌≡◌, ℕ, ◌+◌, ◌<◌, ◌&&◌, List, length, None, Some, true, refl, sym, ap, ◌∙◌, arith, length-append, nat_lt, ltb-true, Vec, Global}
+use Rattle.s390x_inst.specs.declared.state.IsaFlags.{IsaFlags}
 use Rattle.s390x_base.specs.declared.error.EmitError.TheVariants.{BadRegister, UnboundLabel}
 use Rattle.s390x_base.specs.declared.ir.MachLabel.{MachLabel}
 use Rattle.s390x_base.specs.declared.regs.Reg.{Reg}
@@ -69,9 +70,9 @@ return_passed s after depth i r e p =
     (put_none s 2 p.unmarked (omega (arith, p.short)), unless_true (is_general r && is_nonzero r) BadRegister cause)
 
 -- an instruction that is one machine instruction
-pub alone_passed : (s : State) (after depth : ℕ) (i : Inst) (x : Alone) → Some x ≡ alone i → Passed s after (instruction_size i) (instruction_cause s.block_count depth i) → (put_cause s (size_of x.row) ≡ None) × (x.fine ≡ true)
-alone_passed s after depth i x e p =
-    (put_none s (size_of x.row) p.unmarked (omega (arith, p.short, some_size i x e)), unless_true x.fine BadRegister (sym (some_cause s.block_count depth i x e) ∙ p.passed))
+pub alone_passed : (flags : IsaFlags) (s : State) (after depth : ℕ) (i : Inst) (x : Alone) → Some x ≡ alone i → Passed s after (instruction_size i) (instruction_cause flags s.block_count depth i) → (put_cause s (size_of x.row) ≡ None) × (x.fine ≡ true)
+alone_passed flags s after depth i x e p =
+    (put_none s (size_of x.row) p.unmarked (omega (arith, p.short, some_size i x e)), unless_true x.fine BadRegister (some_cause flags s.block_count depth i x e p.passed))
 
 -- the address of a block
 pub address_passed : (s : State) (after depth : ℕ) (i : Inst) (dst : Reg) (l : MachLabel) → i ≡ LabelAddress dst l → Passed s after (branch_size i) (branch_cause s.block_count depth i) → Passed s l.0 6 None × (is_general dst ≡ true)

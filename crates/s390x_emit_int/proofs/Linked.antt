@@ -1,6 +1,7 @@
 -- Emitted and linked code runs as typed.
 use Rattle.std.proofs.Common.{◌≡◌, ℕ, ◌+◌, ◌%◌, inl, inr, List, [], ◌∷◌, length, Bool, true, false, cond, ◌&&◌, ◌||◌, nat_eq, max, Option, None, Some, refl, sym, ap, ◌∙◌, subst, arith, eqb-true}
 use Rattle.std.proofs.lemmas.Bool.{leb-true, or_cases}
+use Rattle.s390x_inst.specs.declared.state.IsaFlags.{IsaFlags}
 use Rattle.s390x_base.specs.declared.error.EmitError.{EmitError}
 use Rattle.s390x_buffer.specs.State.{Constant, is_alignment, all_aligned, new_cause}
 use Rattle.s390x_buffer.specs.Constants.{constant_bytes, greatest_align}
@@ -84,12 +85,12 @@ aligned_constants : (s : Bool) (o : Option EmitError) (e : EmitError) → cond s
 aligned_constants true o e h = refl
 aligned_constants false o e h = absurd (cc)
 
-pub runs_as_typed : (ts : List Tree) (cs : List Constant) (f : MachBufferFinalized) (base : ℕ) (symbols : Symbols) → checked_cause ts cs ≡ None → BlocksInRange ts → IsImage ts cs f → link_cause f base symbols ≡ None → RunsAsTyped ts (record { base = base; bytes = f.bytes.items })
-runs_as_typed ts cs f base symbols fine ranges image linked b lt =
+pub runs_as_typed : (flags : IsaFlags) (ts : List Tree) (cs : List Constant) (f : MachBufferFinalized) (base : ℕ) (symbols : Symbols) → checked_cause flags ts cs ≡ None → BlocksInRange ts → IsImage ts cs f → link_cause f base symbols ≡ None → RunsAsTyped ts (record { base = base; bytes = f.bytes.items })
+runs_as_typed flags ts cs f base symbols fine ranges image linked b lt =
     let code : CodeImage = record { base = base; bytes = f.bytes.items } in
     let n = length ts + length cs in
     let declared : new_cause (length ts) cs ≡ None = first_left _ _ fine in
-    let checked : blocks_cause (length ts) n ts ≡ None = first_left _ _ (first_right (new_cause (length ts) cs) (first (blocks_cause (length ts) n ts) (length_cause ts cs)) fine) in
+    let checked : blocks_cause flags (length ts) n ts ≡ None = first_left _ _ (first_right (new_cause (length ts) cs) (first (blocks_cause flags (length ts) n ts) (length_cause ts cs)) fine) in
     let two = two_passed _ _ _ _ (first_of_links (base_cause f.alignment (length f.bytes.items) base) (relocs_cause base symbols f.relocs.items) linked) in
     let multiple : base % greatest_align 4 cs ≡ 0 = ap (λ a. base % a) (sym image.alignment) ∙ eqb-true (base % f.alignment) 0 two.0 in
     let stands : StandsAsCode ts code no_trap_code = record {
@@ -98,6 +99,6 @@ runs_as_typed ts cs f base symbols fine ranges image linked b lt =
       even = even_base base (greatest_align 4 cs) (greatest 4 cs (four refl) (aligned_constants _ _ _ declared)) multiple;
       fits = leb-true (base + length f.bytes.items) 18446744073709551616 two.1;
       short = image.short;
-      fine = checked_steps ts n code no_trap_code checked ranges;
+      fine = checked_steps flags ts n code no_trap_code checked ranges;
     } in
     block_holds (function_layout ts code no_trap_code) (function_placed ts code no_trap_code stands) b lt

@@ -1,6 +1,7 @@
 -- Where no cause stands, each target is a block.
 use Rattle.std.proofs.Common.{◌≡◌, ℕ, ◌+◌, ◌<◌, List, [], ◌∷◌, Option, Some, None, nat_lt}
 use Rattle.std.proofs.lemmas.Bool.{ltb-true}
+use Rattle.s390x_inst.specs.declared.state.IsaFlags.{IsaFlags}
 use Rattle.s390x_base.specs.declared.ir.MachLabel.{MachLabel}
 use Rattle.s390x_base.specs.declared.error.EmitError.TheVariants.{BadRegister, UnboundLabel}
 use Rattle.s390x_inst.specs.declared.inst.Inst.{Inst}
@@ -20,21 +21,21 @@ alone_names : (blocks : ℕ) (o : Option Alone) → PartsName blocks (parts_or o
 alone_names blocks None = tt
 alone_names blocks (Some x) = (tt, tt)
 
-leaf_names : (blocks depth : ℕ) (i : Inst) → instruction_cause blocks depth i ≡ None → PartsName blocks (instruction_parts i)
-leaf_names blocks depth (Jump dest) h = (label_below blocks dest h, tt)
-leaf_names blocks depth (CondBr taken not_taken mask) h = (label_below blocks taken (first_left _ _ h), (label_below blocks not_taken (first_right (label_cause blocks taken) _ h), tt))
-leaf_names blocks depth (IndirectBr rn targets) h = (tt, tt)
-leaf_names blocks depth (Ret link) h = (tt, tt)
-leaf_names blocks depth (LabelAddress dst label) h = (label_below blocks label (first_right (unless (is_general dst) BadRegister) _ h), tt)
-leaf_names blocks depth i h = alone_names blocks (alone i)
+leaf_names : (flags : IsaFlags) (blocks depth : ℕ) (i : Inst) → instruction_cause flags blocks depth i ≡ None → PartsName blocks (instruction_parts i)
+leaf_names flags blocks depth (Jump dest) h = (label_below blocks dest h, tt)
+leaf_names flags blocks depth (CondBr taken not_taken mask) h = (label_below blocks taken (first_left _ _ h), (label_below blocks not_taken (first_right (label_cause blocks taken) _ h), tt))
+leaf_names flags blocks depth (IndirectBr rn targets) h = (tt, tt)
+leaf_names flags blocks depth (Ret link) h = (tt, tt)
+leaf_names flags blocks depth (LabelAddress dst label) h = (label_below blocks label (first_right (unless (is_general dst) BadRegister) _ h), tt)
+leaf_names flags blocks depth i h = alone_names blocks (alone i)
 
-pub tree_names : (blocks n depth : ℕ) (t : Tree) → tree_cause blocks n depth t ≡ None → TreeNames blocks t
-tree_names blocks n depth empty h = tt
-tree_names blocks n depth (leaf i rest) h = (leaf_names blocks depth i (first_left _ _ h), tree_names blocks n depth rest (first_right (instruction_cause blocks depth i) _ h))
-tree_names blocks n depth (looped mask members rest) h =
+pub tree_names : (flags : IsaFlags) (blocks n depth : ℕ) (t : Tree) → tree_cause flags blocks n depth t ≡ None → TreeNames blocks t
+tree_names flags blocks n depth empty h = tt
+tree_names flags blocks n depth (leaf i rest) h = (leaf_names flags blocks depth i (first_left _ _ h), tree_names flags blocks n depth rest (first_right (instruction_cause flags blocks depth i) _ h))
+tree_names flags blocks n depth (looped mask members rest) h =
     let inner = first_left _ _ h in
-    (tree_names blocks (n + 2) (depth + 1) members (first_right (first (nesting_cause depth) (numbers_cause n 2)) _ inner), tree_names blocks (n + 2 + draws members) depth rest (first_right (first (first (nesting_cause depth) (numbers_cause n 2)) (tree_cause blocks (n + 2) (depth + 1) members)) _ h))
+    (tree_names flags blocks (n + 2) (depth + 1) members (first_right (first (nesting_cause depth) (numbers_cause n 2)) _ inner), tree_names flags blocks (n + 2 + draws members) depth rest (first_right (first (first (nesting_cause depth) (numbers_cause n 2)) (tree_cause flags blocks (n + 2) (depth + 1) members)) _ h))
 
-pub all_names : (blocks n : ℕ) (ts : List Tree) → blocks_cause blocks n ts ≡ None → TreesName blocks ts
-all_names blocks n [] h = tt
-all_names blocks n (t ∷ ts) h = (tree_names blocks n 0 t (first_left _ _ h), all_names blocks (n + draws t) ts (first_right (tree_cause blocks n 0 t) _ h))
+pub all_names : (flags : IsaFlags) (blocks n : ℕ) (ts : List Tree) → blocks_cause flags blocks n ts ≡ None → TreesName blocks ts
+all_names flags blocks n [] h = tt
+all_names flags blocks n (t ∷ ts) h = (tree_names flags blocks n 0 t (first_left _ _ h), all_names flags blocks (n + draws t) ts (first_right (tree_cause flags blocks n 0 t) _ h))

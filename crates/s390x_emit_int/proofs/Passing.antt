@@ -1,6 +1,7 @@
 -- What the check let pass stays passed, from member to member, through a loop and from block to block.
 use Rattle.std.proofs.Common.{◌≡◌, ℕ, ◌+◌, ◌<◌, ◌≤◌, ◌∙◌, List, [], ◌∷◌, length, get_or, drop, None, false, refl, sym, ap, subst, arith, length-append, length-set, nat_lt}
 use Rattle.std.proofs.lemmas.Bool.{ltb-true}
+use Rattle.s390x_inst.specs.declared.state.IsaFlags.{IsaFlags}
 use Rattle.s390x_base.specs.declared.error.EmitError.TheVariants.{LabelOutOfRange}
 use Rattle.s390x_buffer.specs.State.{State, label_limit}
 use Rattle.s390x_inst.specs.declared.inst.Inst.{Inst}
@@ -42,55 +43,55 @@ tree_turns s t n after x en e =
     record { unmarked = ap (λ x. x.failed) e ∙ same.failed; blocks = ap (λ x. x.block_count) e ∙ same.block_count; labels = ap (λ x. length x.labels) e ∙ g.labels; bytes = ap (λ x. length x.bytes) e ∙ g.bytes }
 
 -- an instruction that is no loop, alone
-pub leaf_passed : (s : State) (after depth : ℕ) (i : Inst) (x : Tree) → x ≡ leaf i empty → TreePassed s after depth x → Passed s after (instruction_size i) (instruction_cause s.block_count depth i)
-leaf_passed s after depth i x e p =
-    let q : TreePassed s after depth (leaf i empty) = subst (TreePassed s after depth) e p in
+pub leaf_passed : (flags : IsaFlags) (s : State) (after depth : ℕ) (i : Inst) (x : Tree) → x ≡ leaf i empty → TreePassed flags s after depth x → Passed s after (instruction_size i) (instruction_cause flags s.block_count depth i)
+leaf_passed flags s after depth i x e p =
+    let q : TreePassed flags s after depth (leaf i empty) = subst (TreePassed flags s after depth) e p in
     record { unmarked = q.unmarked; blocks = q.blocks; label = q.label; short = omega (arith, q.short); passed = first_left _ _ q.passed }
 
 -- the next member
-pub member_passed : (s s1 : State) (after depth : ℕ) (is : List Inst) (k : ℕ) (i : Inst) → k < length is → i ≡ get_or is k i → s1 ≡ apply s Step → TreePassed s after depth (tree (drop k is)) → TreePassed s1 after depth (graft i empty)
-member_passed s s1 after depth is k i lt at e p =
+pub member_passed : (flags : IsaFlags) (s s1 : State) (after depth : ℕ) (is : List Inst) (k : ℕ) (i : Inst) → k < length is → i ≡ get_or is k i → s1 ≡ apply s Step → TreePassed flags s after depth (tree (drop k is)) → TreePassed flags s1 after depth (graft i empty)
+member_passed flags s s1 after depth is k i lt at e p =
     let rest = tree (drop (k + 1) is) in
-    let q : TreePassed s after depth (graft i rest) = subst (TreePassed s after depth) (behind is k i lt at) p in
-    let here : TreePassed (apply s Step) after depth (graft i empty) = record {
+    let q : TreePassed flags s after depth (graft i rest) = subst (TreePassed flags s after depth) (behind is k i lt at) p in
+    let here : TreePassed flags (apply s Step) after depth (graft i empty) = record {
       unmarked = q.unmarked;
       blocks = q.blocks;
       label = q.label;
       short = omega (arith, q.short, graft_size i rest);
-      passed = first_left _ _ (sym (graft_cause s.block_count (length s.labels) depth i rest) ∙ q.passed);
+      passed = first_left _ _ (sym (graft_cause flags s.block_count (length s.labels) depth i rest) ∙ q.passed);
     } in
-    subst (λ x. TreePassed x after depth (graft i empty)) (sym e) here
+    subst (λ x. TreePassed flags x after depth (graft i empty)) (sym e) here
 
 -- and those behind it
-pub others_passed : (s s1 s2 : State) (after depth : ℕ) (is : List Inst) (k : ℕ) (i : Inst) → k < length is → i ≡ get_or is k i → s1 ≡ apply s Step → s2 ≡ run s1 (own_pieces (length s1.labels) after (graft i empty)) → TreePassed s after depth (tree (drop k is)) → TreePassed s2 after depth (tree (drop (k + 1) is))
-others_passed s s1 s2 after depth is k i lt at e1 e2 p =
+pub others_passed : (flags : IsaFlags) (s s1 s2 : State) (after depth : ℕ) (is : List Inst) (k : ℕ) (i : Inst) → k < length is → i ≡ get_or is k i → s1 ≡ apply s Step → s2 ≡ run s1 (own_pieces (length s1.labels) after (graft i empty)) → TreePassed flags s after depth (tree (drop k is)) → TreePassed flags s2 after depth (tree (drop (k + 1) is))
+others_passed flags s s1 s2 after depth is k i lt at e1 e2 p =
     let n = length s.labels in
     let rest = tree (drop (k + 1) is) in
-    let q : TreePassed s after depth (graft i rest) = subst (TreePassed s after depth) (behind is k i lt at) p in
+    let q : TreePassed flags s after depth (graft i rest) = subst (TreePassed flags s after depth) (behind is k i lt at) p in
     let e2' : s2 ≡ run (apply s Step) (own_pieces n after (graft i empty)) = e2 ∙ ap (λ x. run x (own_pieces (length x.labels) after (graft i empty))) e1 in
     let t = tree_turns s s2 n after (graft i empty) refl (e2' ∙ sym (graft_run i empty s n after)) in
-    let cause : tree_cause s.block_count (n + draws (graft i empty)) depth rest ≡ None = first_right (tree_cause s.block_count n depth (graft i empty)) _ (sym (graft_cause s.block_count n depth i rest) ∙ q.passed) in
+    let cause : tree_cause flags s.block_count (n + draws (graft i empty)) depth rest ≡ None = first_right (tree_cause flags s.block_count n depth (graft i empty)) _ (sym (graft_cause flags s.block_count n depth i rest) ∙ q.passed) in
     record {
       unmarked = t.unmarked ∙ q.unmarked;
       blocks = omega (arith, t.blocks, t.labels, q.blocks);
       label = omega (arith, t.labels, q.label);
       short = omega (arith, t.bytes, q.short, graft_size i rest);
-      passed = ap (λ b. tree_cause b (length s2.labels) depth rest) t.blocks ∙ ap (λ m. tree_cause s.block_count m depth rest) t.labels ∙ cause;
+      passed = ap (λ b. tree_cause flags b (length s2.labels) depth rest) t.blocks ∙ ap (λ m. tree_cause flags s.block_count m depth rest) t.labels ∙ cause;
     }
 
 -- a loop has two labels left, and its members pass
-pub record LoopPassed (s : State) (depth : ℕ) (members : Tree) : Type 0 where
+pub record LoopPassed (flags : IsaFlags) (s : State) (depth : ℕ) (members : Tree) : Type 0 where
   pub unmarked : s.failed ≡ false
   pub blocks : s.block_count ≤ length s.labels
   pub drawn : length s.labels + 2 ≤ label_limit
   pub short : length s.bytes + (tree_size members + 6) < 2147483648
-  pub passed : tree_cause s.block_count (length s.labels + 2) (depth + 1) members ≡ None
+  pub passed : tree_cause flags s.block_count (length s.labels + 2) (depth + 1) members ≡ None
 
-pub loop_passed : (s : State) (after depth mask : ℕ) (members : Tree) → TreePassed s after depth (looped mask members empty) → LoopPassed s depth members
-loop_passed s after depth mask members p =
+pub loop_passed : (flags : IsaFlags) (s : State) (after depth mask : ℕ) (members : Tree) → TreePassed flags s after depth (looped mask members empty) → LoopPassed flags s depth members
+loop_passed flags s after depth mask members p =
     let n = length s.labels in
     let opens = first (nesting_cause depth) (numbers_cause n 2) in
-    let inner = tree_cause s.block_count (n + 2) (depth + 1) members in
+    let inner = tree_cause flags s.block_count (n + 2) (depth + 1) members in
     let both : first opens inner ≡ None = first_left _ _ p.passed in
     let numbers : numbers_cause n 2 ≡ None = first_right (nesting_cause depth) _ (first_left _ _ both) in
     let lt : n + 2 < 4294967297 = ltb-true (n + 2) 4294967297 (unless_true (nat_lt (n + 2) 4294967297) LabelOutOfRange numbers) in
@@ -102,13 +103,13 @@ loop_passed s after depth mask members p =
       passed = first_right opens inner both;
     }
 
-pub inner_passed : (s so : State) (depth end k : ℕ) (members : Tree) → LoopPassed s depth members → Turns s so 2 0 → end < length so.labels → TreePassed so end (depth + 1) members
-inner_passed s so depth end k members p t lt = record {
+pub inner_passed : (flags : IsaFlags) (s so : State) (depth end k : ℕ) (members : Tree) → LoopPassed flags s depth members → Turns s so 2 0 → end < length so.labels → TreePassed flags so end (depth + 1) members
+inner_passed flags s so depth end k members p t lt = record {
   unmarked = t.unmarked ∙ p.unmarked;
   blocks = omega (arith, t.blocks, t.labels, p.blocks);
   label = lt;
   short = omega (arith, t.bytes, p.short);
-  passed = ap (λ b. tree_cause b (length so.labels) (depth + 1) members) t.blocks ∙ ap (λ m. tree_cause s.block_count m (depth + 1) members) t.labels ∙ p.passed;
+  passed = ap (λ b. tree_cause flags b (length so.labels) (depth + 1) members) t.blocks ∙ ap (λ m. tree_cause flags s.block_count m (depth + 1) members) t.labels ∙ p.passed;
 }
 
 pub turns_on : (s t u : State) (k m k' m' : ℕ) → Turns s t k m → Turns t u k' m' → Turns s u (k + k') (m + m')
@@ -138,8 +139,8 @@ body_turns s sa sb so sc sd start end members ea eb eo ec ed =
     }
 
 -- the back branch
-pub back_passed : (s sd : State) (start depth : ℕ) (members : Tree) → LoopPassed s depth members → Turns s sd (2 + draws members) (tree_size members) → start ≡ length s.labels → Passed sd start 6 None
-back_passed s sd start depth members l t e = record {
+pub back_passed : (flags : IsaFlags) (s sd : State) (start depth : ℕ) (members : Tree) → LoopPassed flags s depth members → Turns s sd (2 + draws members) (tree_size members) → start ≡ length s.labels → Passed sd start 6 None
+back_passed flags s sd start depth members l t e = record {
   unmarked = t.unmarked ∙ l.unmarked;
   blocks = omega (arith, t.blocks, t.labels, l.blocks);
   label = omega (arith, t.labels, e);

@@ -1,5 +1,6 @@
 -- The theorem about linked code isn't empty: a function, its finished code, a base and a machine that meet its premises.
 use Rattle.std.specs.Prelude.{◌≡◌, [], None}
+use Rattle.s390x_inst.specs.declared.state.IsaFlags.{IsaFlags}
 use Rattle.s390x_buffer.specs.declared.entries.MachBufferFinalized.{MachBufferFinalized}
 use Rattle.s390x_image.specs.Causes.{link_cause}
 use Rattle.s390x_image.specs.Symbols.{no_symbols}
@@ -20,7 +21,7 @@ linked_at_4096 code = record { base = 4096; bytes = code.bytes.items }
 -- from the first block goes round the loop, leaves it and returns.
 pub record LinkedLoopRuns : Type 0 where
   pub code : MachBufferFinalized
-  pub checked : checked_cause trees [] ≡ None
+  pub checked : (flags : IsaFlags) → checked_cause flags trees [] ≡ None
   pub masks : BlocksInRange trees
   pub finished : IsImage trees [] code
   pub linked : link_cause code 4096 no_symbols ≡ None

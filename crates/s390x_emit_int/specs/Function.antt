@@ -3,6 +3,7 @@ use Rattle.std.specs.Prelude.{◌≡◌, ◌+◌, ◌<◌, List, [], ◌++◌, l
 use Rattle.s390x_base.specs.declared.error.EmitError.{EmitError}
 use Rattle.s390x_base.specs.declared.error.EmitError.TheVariants.{BadStackState, LabelOutOfRange}
 use Rattle.s390x_inst.specs.Emission.{Emission}
+use Rattle.s390x_inst.specs.declared.state.IsaFlags.{IsaFlags}
 use Rattle.s390x_inst.specs.declared.function.Block.{Block}
 use Rattle.s390x_inst.specs.declared.function.AllocatedFunction.{AllocatedFunction}
 use Rattle.s390x_buffer.specs.State.{Constant, constant_of, new_cause, limit}
@@ -52,9 +53,9 @@ abbrev pub length_cause : List Tree → List Constant → Option EmitError
 length_cause ts cs = unless (nat_lt (constants_end (blocks_size ts) cs) limit) LabelOutOfRange
 
 -- The constants' alignments, the count of blocks and constants, the steps in order, the length.
-abbrev pub checked_cause : List Tree → List Constant → Option EmitError
-checked_cause ts cs = first (new_cause (length ts) cs) (first (blocks_cause (length ts) (length ts + length cs) ts) (length_cause ts cs))
+abbrev pub checked_cause : IsaFlags → List Tree → List Constant → Option EmitError
+checked_cause flags ts cs = first (new_cause (length ts) cs) (first (blocks_cause flags (length ts) (length ts + length cs) ts) (length_cause ts cs))
 
 -- The first cause of a function: the state, and then these.
-abbrev pub function_cause : List Tree → List Constant → Emission → Option EmitError
-function_cause ts cs e = first (start_cause e) (checked_cause ts cs)
+abbrev pub function_cause : IsaFlags → List Tree → List Constant → Emission → Option EmitError
+function_cause flags ts cs e = first (start_cause e) (checked_cause flags ts cs)

@@ -3,6 +3,7 @@ use Rattle.std.specs.Prelude.{◌≡◌, ℕ, ◌+◌, ◌<◌, ◌≤◌, lengt
 use Rattle.s390x_base.specs.declared.error.EmitError.{EmitError}
 use Rattle.s390x_base.specs.declared.error.EmitError.TheVariants.{NoMemory}
 use Rattle.s390x_buffer.specs.State.{State, limit}
+use Rattle.s390x_inst.specs.declared.state.IsaFlags.{IsaFlags}
 use Rattle.s390x_steps.specs.Tree.{Tree}
 use Rattle.s390x_steps.specs.Sizes.{tree_size}
 use Rattle.s390x_steps.specs.Causes.{tree_cause}
@@ -21,8 +22,8 @@ pub record Passed (s : State) (after bytes : ℕ) (cause : Option EmitError) : T
   pub passed : cause ≡ None
 
 -- the same of a tree, inside so many loops
-abbrev pub TreePassed : State → (after depth : ℕ) → Tree → Type 0
-TreePassed s after depth t = Passed s after (tree_size t) (tree_cause s.block_count (length s.labels) depth t)
+abbrev pub TreePassed : IsaFlags → State → (after depth : ℕ) → Tree → Type 0
+TreePassed flags s after depth t = Passed s after (tree_size t) (tree_cause flags s.block_count (length s.labels) depth t)
 
 -- an error is want of memory
 abbrev pub LacksMemory : {T : Type 0} → Result T EmitError → Type 0

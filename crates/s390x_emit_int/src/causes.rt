@@ -1,12 +1,13 @@
 //! Why an instruction is refused.
 ghost use Rattle.std.specs.Prelude.{◌≡◌, ◌≤◌, ◌&&◌, None, Some};
 ghost use Rattle.s390x_base.specs.declared.error.EmitError.TheVariants.{BadRegister, UnboundLabel};
-ghost use Rattle.s390x_steps.specs.Causes.{first, unless, label_cause, labels_cause, branch_cause, instruction_cause};
+ghost use Rattle.s390x_steps.specs.Causes.{first, unless, label_cause, labels_cause, cause_or, branch_cause, instruction_cause};
+ghost use Rattle.s390x_steps.specs.Alone.{alone};
 ghost use Rattle.s390x_steps.specs.General.{is_general, is_nonzero};
 
 use crate::alone::{find_alone, general};
 use s390x_base::{EmitError, MachLabel, Reg, RegClass};
-use s390x_inst::Inst;
+use s390x_inst::{Inst, IsaFlags};
 
 // Whether the register is a real Int one other than `%r0`: one that a branch may go by.
 fn branchable(r: Reg) -> bool
@@ -91,13 +92,29 @@ fn branch_refusal(blocks: usize, depth: u32, inst: &Inst) -> Option<EmitError>
     }
 }
 
-#[tactic(auto, using(crate::proofs::Single::some_cause, crate::proofs::Single::none_cause))]
-/// The first cause of an instruction that is no `Loop`, inside so many loops.
-pub fn instruction_refusal(blocks: usize, depth: u32, inst: &Inst) -> Option<EmitError>
-    ensures { result ≡ instruction_cause blocks depth inst.now }
+// The first cause of an instruction whose facility is there.
+#[tactic(auto, using(crate::proofs::Single::some_other, crate::proofs::Single::none_other))]
+fn other_refusal(blocks: usize, depth: u32, inst: &Inst) -> Option<EmitError>
+    ensures { result ≡ cause_or (alone inst.now) (branch_cause blocks depth inst.now) }
 {
     match find_alone(inst) {
         Some(found) => refusal_unless(found.fine, EmitError::BadRegister),
         None => branch_refusal(blocks, depth, inst),
+    }
+}
+
+/// The first cause of an instruction that is no `Loop`, inside so many loops, where the machine has these facilities.
+pub fn instruction_refusal(
+    flags: IsaFlags,
+    blocks: usize,
+    depth: u32,
+    inst: &Inst,
+) -> Option<EmitError>
+    ensures { result ≡ instruction_cause flags blocks depth inst.now }
+{
+    if flags.has(inst.available_in_isa()) {
+        other_refusal(blocks, depth, inst)
+    } else {
+        Some(EmitError::MissingFacility)
     }
 }

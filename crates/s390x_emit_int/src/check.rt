@@ -11,7 +11,7 @@ ghost use Rattle.s390x_emit_int.specs.Totals.{IsCounted, Adds, limit};
 use crate::alone::find_alone;
 use crate::causes::instruction_refusal;
 use s390x_base::EmitError;
-use s390x_inst::Inst;
+use s390x_inst::{Inst, IsaFlags};
 
 const LIMIT: u64 = 2147483648;
 
@@ -71,11 +71,17 @@ fn add(t: Totals, labels: u64, bytes: u64) -> Result<Totals, EmitError>
     }
 }
 
-fn check_leaf(blocks: usize, t: Totals, depth: u32, inst: &Inst) -> Result<Totals, EmitError>
+fn check_leaf(
+    flags: IsaFlags,
+    blocks: usize,
+    t: Totals,
+    depth: u32,
+    inst: &Inst,
+) -> Result<Totals, EmitError>
     requires { IsCounted t }
-    ensures { MatchResult result (λ r. (instruction_cause blocks depth inst.now ≡ None) × Adds t r 0 (instruction_size inst.now)) (λ e. instruction_cause blocks depth inst.now ≡ Some e) }
+    ensures { MatchResult result (λ r. (instruction_cause flags blocks depth inst.now ≡ None) × Adds t r 0 (instruction_size inst.now)) (λ e. instruction_cause flags blocks depth inst.now ≡ Some e) }
 {
-    match instruction_refusal(blocks, depth, inst) {
+    match instruction_refusal(flags, blocks, depth, inst) {
         Some(error) => Err(error),
         None => add(t, 0, size_of(inst)),
     }
@@ -96,39 +102,52 @@ fn open_loop(t: Totals, depth: u32) -> Result<Totals, EmitError>
 /// The first cause among the members of a block or a loop, inside so many loops, or what they add.
 #[cycle(checking)]
 pub fn check_members(
+    flags: IsaFlags,
     blocks: usize,
     t: Totals,
     depth: u32,
     insts: &[Inst],
 ) -> Result<Totals, EmitError>
     requires { IsCounted t }
-    ensures { MatchResult result (λ r. (tree_cause blocks t.labels depth (tree insts.now) ≡ None) × Adds t r (draws (tree insts.now)) (tree_size (tree insts.now))) (λ e. tree_cause blocks t.labels depth (tree insts.now) ≡ Some e) }
+    ensures { MatchResult result (λ r. (tree_cause flags blocks t.labels depth (tree insts.now) ≡ None) × Adds t r (draws (tree insts.now)) (tree_size (tree insts.now))) (λ e. tree_cause flags blocks t.labels depth (tree insts.now) ≡ Some e) }
 {
     let mut sum = t;
     for inst in insts {
-        sum = check_inst(blocks, sum, depth, inst)?;
+        sum = check_inst(flags, blocks, sum, depth, inst)?;
     }
     Ok(sum)
 }
 
 /// The first cause of an instruction, or what it adds.
 #[cycle(checking)]
-pub fn check_inst(blocks: usize, t: Totals, depth: u32, inst: &Inst) -> Result<Totals, EmitError>
+pub fn check_inst(
+    flags: IsaFlags,
+    blocks: usize,
+    t: Totals,
+    depth: u32,
+    inst: &Inst,
+) -> Result<Totals, EmitError>
     requires { IsCounted t }
-    ensures { MatchResult result (λ r. (tree_cause blocks t.labels depth (graft inst.now empty) ≡ None) × Adds t r (draws (graft inst.now empty)) (tree_size (graft inst.now empty))) (λ e. tree_cause blocks t.labels depth (graft inst.now empty) ≡ Some e) }
+    ensures { MatchResult result (λ r. (tree_cause flags blocks t.labels depth (graft inst.now empty) ≡ None) × Adds t r (draws (graft inst.now empty)) (tree_size (graft inst.now empty))) (λ e. tree_cause flags blocks t.labels depth (graft inst.now empty) ≡ Some e) }
 {
     match inst {
-        Inst::Loop { body, .. } => check_loop(blocks, t, depth, body),
-        _ => check_leaf(blocks, t, depth, inst),
+        Inst::Loop { body, .. } => check_loop(flags, blocks, t, depth, body),
+        _ => check_leaf(flags, blocks, t, depth, inst),
     }
 }
 
 #[cycle(checking)]
-fn check_loop(blocks: usize, t: Totals, depth: u32, body: &[Inst]) -> Result<Totals, EmitError>
+fn check_loop(
+    flags: IsaFlags,
+    blocks: usize,
+    t: Totals,
+    depth: u32,
+    body: &[Inst],
+) -> Result<Totals, EmitError>
     requires { IsCounted t }
-    ensures { MatchResult result (λ r. (first (first (nesting_cause depth) (numbers_cause t.labels 2)) (tree_cause blocks (t.labels + 2) (depth + 1) (tree body.now)) ≡ None) × Adds t r (2 + draws (tree body.now)) (tree_size (tree body.now) + 6)) (λ e. first (first (nesting_cause depth) (numbers_cause t.labels 2)) (tree_cause blocks (t.labels + 2) (depth + 1) (tree body.now)) ≡ Some e) }
+    ensures { MatchResult result (λ r. (first (first (nesting_cause depth) (numbers_cause t.labels 2)) (tree_cause flags blocks (t.labels + 2) (depth + 1) (tree body.now)) ≡ None) × Adds t r (2 + draws (tree body.now)) (tree_size (tree body.now) + 6)) (λ e. first (first (nesting_cause depth) (numbers_cause t.labels 2)) (tree_cause flags blocks (t.labels + 2) (depth + 1) (tree body.now)) ≡ Some e) }
 {
     let opened = open_loop(t, depth)?;
-    let inner = check_members(blocks, opened, depth + 1, body)?;
+    let inner = check_members(flags, blocks, opened, depth + 1, body)?;
     add(inner, 0, 6)
 }

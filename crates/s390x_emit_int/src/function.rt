@@ -4,6 +4,7 @@ ghost use Rattle.std.specs.Prelude.{◌≡◌, ℕ, ◌+◌, ◌<◌, ◌≤◌,
 ghost use Rattle.s390x_base.specs.declared.error.EmitError.TheVariants.{NoMemory, LabelOutOfRange, BadStackState};
 ghost use Rattle.s390x_buffer.specs.State.{constant_of, new_cause, put_cause, limit};
 ghost use Rattle.s390x_buffer.specs.Constants.{constants_end};
+ghost use Rattle.s390x_inst.specs.declared.state.IsaFlags.{IsaFlags};
 ghost use Rattle.s390x_steps.specs.Causes.{first, unless, blocks_cause};
 ghost use Rattle.s390x_steps.specs.Sizes.{blocks_size};
 ghost use Rattle.s390x_emit_int.specs.Emission.{function_pieces};
@@ -16,7 +17,7 @@ use crate::check::{Totals, check_members};
 use crate::tree::emit_members;
 use s390x_base::{ConstantData, EmitError, MachLabel};
 use s390x_buffer::{MachBuffer, MachBufferFinalized, all_aligned, constants_fit};
-use s390x_inst::{AllocatedFunction, Block, EmitInfo, EmitState};
+use s390x_inst::{AllocatedFunction, Block, EmitInfo, EmitState, IsaFlags};
 use std::alloc::Global;
 
 // The stack sizes at the beginning have to be 0.
@@ -31,14 +32,14 @@ fn start_refusal(state: &EmitState) -> Option<EmitError>
 }
 
 // The first cause in the blocks, with so many labels in use, or what they add.
-fn check_blocks(blocks: &[Block], labels: u64) -> Result<Totals, EmitError>
+fn check_blocks(flags: IsaFlags, blocks: &[Block], labels: u64) -> Result<Totals, EmitError>
     requires { labels ≤ 4294967296 }
-    ensures { MatchResult result (λ r. (blocks_cause (length blocks.now) labels (map tree_of blocks.now) ≡ None) × (min limit r.bytes ≡ min limit (blocks_size (map tree_of blocks.now))) × (r.bytes ≤ limit)) (λ e. blocks_cause (length blocks.now) labels (map tree_of blocks.now) ≡ Some e) }
+    ensures { MatchResult result (λ r. (blocks_cause flags (length blocks.now) labels (map tree_of blocks.now) ≡ None) × (min limit r.bytes ≡ min limit (blocks_size (map tree_of blocks.now))) × (r.bytes ≤ limit)) (λ e. blocks_cause flags (length blocks.now) labels (map tree_of blocks.now) ≡ Some e) }
 {
     let count = blocks.len();
     let mut sum = Totals { labels, bytes: 0 };
     for block in blocks {
-        sum = check_members(count, sum, 0, &block.insts)?;
+        sum = check_members(flags, count, sum, 0, &block.insts)?;
     }
     Ok(sum)
 }
@@ -62,7 +63,7 @@ fn emit_blocks(sink: &mut MachBuffer, blocks: &[Block]) -> Result<(), EmitError>
     requires room { HasRoom sink.old }
     requires free { (l : ℕ) → l < length blocks.now → get_or sink.old.labels l None ≡ None }
     ensures answer { OnOk result (sink.new ≡ run sink.old (function_pieces (length sink.old.labels) 0 (map tree_of blocks.now))) }
-    ensures lacks { put_cause sink.old (blocks_size (map tree_of blocks.now)) ≡ None → blocks_cause (length blocks.now) (length sink.old.labels) (map tree_of blocks.now) ≡ None → LacksMemory result }
+    ensures lacks { (flags : IsaFlags) → put_cause sink.old (blocks_size (map tree_of blocks.now)) ≡ None → blocks_cause flags (length blocks.now) (length sink.old.labels) (map tree_of blocks.now) ≡ None → LacksMemory result }
     ensures ranges { OnOk result (BlocksInRange (map tree_of blocks.now)) }
 {
     let mut label: u32 = 0;
@@ -78,10 +79,11 @@ fn emit_blocks(sink: &mut MachBuffer, blocks: &[Block]) -> Result<(), EmitError>
 fn emit_checked(
     alloc: Global,
     function: &AllocatedFunction,
+    flags: IsaFlags,
     count: u32,
 ) -> Result<MachBufferFinalized, EmitError>
     requires count { count ≡ length function.now.blocks.items }
-    requires fine { checked_cause (trees_of function.now) (constants_of function.now) ≡ None }
+    requires fine { checked_cause flags (trees_of function.now) (constants_of function.now) ≡ None }
     ensures { MatchResult result (λ f. IsImage (trees_of function.now) (constants_of function.now) f × BlocksInRange (trees_of function.now)) (λ e. e ≡ NoMemory) }
 {
     let mut sink = MachBuffer::new(alloc, count, &function.constants)?;
@@ -104,9 +106,13 @@ fn block_count(function: &AllocatedFunction) -> Result<u32, EmitError>
 }
 
 // The first cause among the constants, the steps and the length.
-fn check_function(function: &AllocatedFunction, count: u32) -> Result<(), EmitError>
+fn check_function(
+    function: &AllocatedFunction,
+    flags: IsaFlags,
+    count: u32,
+) -> Result<(), EmitError>
     requires count { count ≡ length function.now.blocks.items }
-    ensures { MatchResult result (λ _. checked_cause (trees_of function.now) (constants_of function.now) ≡ None) (λ e. checked_cause (trees_of function.now) (constants_of function.now) ≡ Some e) }
+    ensures { MatchResult result (λ _. checked_cause flags (trees_of function.now) (constants_of function.now) ≡ None) (λ e. checked_cause flags (trees_of function.now) (constants_of function.now) ≡ Some e) }
 {
     let constants = &function.constants;
     if !all_aligned(constants) {
@@ -115,7 +121,11 @@ fn check_function(function: &AllocatedFunction, count: u32) -> Result<(), EmitEr
     if constants.len() as u64 >= 4294967296 - u64::from(count) {
         return Err(EmitError::LabelOutOfRange);
     }
-    let sum = check_blocks(&function.blocks, u64::from(count) + constants.len() as u64)?;
+    let sum = check_blocks(
+        flags,
+        &function.blocks,
+        u64::from(count) + constants.len() as u64,
+    )?;
     match length_refusal(sum.bytes, constants) {
         Some(error) => Err(error),
         None => Ok(()),
@@ -125,19 +135,19 @@ fn check_function(function: &AllocatedFunction, count: u32) -> Result<(), EmitEr
 /// Emits a function: binds each block's label, emits its members, and finishes the code with the constants behind it.
 ///
 /// Refused by the first cause in this order: the state's sizes (`BadStackState`), the constants' alignments (`BadAlignment`),
-/// the count of blocks and constants (`LabelOutOfRange`), each step in order, the length (`LabelOutOfRange`).
+/// the count of blocks and constants (`LabelOutOfRange`), each step in order (first of all `MissingFacility`), the length (`LabelOutOfRange`).
 pub fn emit_function(
     alloc: Global,
     function: &AllocatedFunction,
-    _info: &EmitInfo,
+    info: &EmitInfo,
     state: EmitState,
 ) -> Result<MachBufferFinalized, EmitError>
-    ensures { MatchResult result (λ f. (function_cause (trees_of function.now) (constants_of function.now) state ≡ None) × IsImage (trees_of function.now) (constants_of function.now) f × BlocksInRange (trees_of function.now)) (λ e. (e ≡ NoMemory) ⊎ (function_cause (trees_of function.now) (constants_of function.now) state ≡ Some e)) }
+    ensures { MatchResult result (λ f. (function_cause info.now.isa_flags (trees_of function.now) (constants_of function.now) state ≡ None) × IsImage (trees_of function.now) (constants_of function.now) f × BlocksInRange (trees_of function.now)) (λ e. (e ≡ NoMemory) ⊎ (function_cause info.now.isa_flags (trees_of function.now) (constants_of function.now) state ≡ Some e)) }
 {
     if let Some(error) = start_refusal(&state) {
         return Err(error);
     }
     let count = block_count(function)?;
-    check_function(function, count)?;
-    emit_checked(alloc, function, count)
+    check_function(function, info.isa_flags, count)?;
+    emit_checked(alloc, function, info.isa_flags, count)
 }

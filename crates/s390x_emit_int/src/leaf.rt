@@ -7,6 +7,7 @@ ghost use Rattle.s390x_buffer.specs.Keeps.{Keeps};
 ghost use Rattle.s390x_buffer.specs.State.{put_cause};
 ghost use Rattle.s390x_steps.specs.MachineInstruction.{rr, bytes_of, size_of};
 ghost use Rattle.s390x_steps.specs.Parts.{Row, Branch, ToBlock, Relative};
+ghost use Rattle.s390x_inst.specs.declared.state.IsaFlags.{IsaFlags};
 ghost use Rattle.s390x_steps.specs.Causes.{branch_cause, instruction_cause};
 ghost use Rattle.s390x_steps.specs.General.{is_general, is_nonzero};
 ghost use Rattle.s390x_steps.specs.Sizes.{instruction_size};
@@ -124,7 +125,7 @@ fn emit_branch(sink: &mut MachBuffer, inst: &Inst, after: MachLabel) -> Result<(
 /// Emits an instruction that is no `Loop`; `after` is the label behind the innermost loop.
 pub fn emit_leaf(sink: &mut MachBuffer, inst: &Inst, after: MachLabel) -> Result<(), EmitError>
     ensures answer { OnOk result (sink.new ≡ run sink.old (leaf_pieces after.0 inst.now)) }
-    ensures lacks { (depth : ℕ) → Passed sink.old after.0 (instruction_size inst.now) (instruction_cause sink.old.block_count depth inst.now) → LacksMemory result }
+    ensures lacks { (flags : IsaFlags) (depth : ℕ) → Passed sink.old after.0 (instruction_size inst.now) (instruction_cause flags sink.old.block_count depth inst.now) → LacksMemory result }
     ensures range { OnOk result (InRange inst.now) }
     ensures kept { Keeps sink.old sink.new }
 {

@@ -3,6 +3,7 @@
 
 ghost use Rattle.std.specs.Prelude.{◌≡◌, ℕ, OnOk, length};
 ghost use Rattle.s390x_buffer.specs.Keeps.{Keeps};
+ghost use Rattle.s390x_inst.specs.declared.state.IsaFlags.{IsaFlags};
 ghost use Rattle.s390x_steps.specs.Tree.{empty, looped, graft, tree};
 ghost use Rattle.s390x_emit_int.specs.Pieces.{run};
 ghost use Rattle.s390x_emit_int.specs.Emission.{pieces, own_pieces};
@@ -23,7 +24,7 @@ pub fn emit_members(
 ) -> Result<(), EmitError>
     requires { HasRoom sink.old }
     ensures answer { OnOk result (sink.new ≡ run sink.old (pieces (length sink.old.labels) after.0 (tree insts.now))) }
-    ensures lacks { (depth : ℕ) → TreePassed sink.old after.0 depth (tree insts.now) → LacksMemory result }
+    ensures lacks { (flags : IsaFlags) (depth : ℕ) → TreePassed flags sink.old after.0 depth (tree insts.now) → LacksMemory result }
     ensures ranges { OnOk result (AllInRange (tree insts.now)) }
     ensures kept { Keeps sink.old sink.new }
 {
@@ -39,7 +40,7 @@ pub fn emit_members(
 pub fn emit_inst(sink: &mut MachBuffer, inst: &Inst, after: MachLabel) -> Result<(), EmitError>
     requires { HasRoom sink.old }
     ensures answer { OnOk result (sink.new ≡ run sink.old (own_pieces (length sink.old.labels) after.0 (graft inst.now empty))) }
-    ensures lacks { (depth : ℕ) → TreePassed sink.old after.0 depth (graft inst.now empty) → LacksMemory result }
+    ensures lacks { (flags : IsaFlags) (depth : ℕ) → TreePassed flags sink.old after.0 depth (graft inst.now empty) → LacksMemory result }
     ensures ranges { OnOk result (AllInRange (graft inst.now empty)) }
     ensures kept { Keeps sink.old sink.new }
 {
@@ -53,7 +54,7 @@ pub fn emit_inst(sink: &mut MachBuffer, inst: &Inst, after: MachLabel) -> Result
 fn emit_loop(sink: &mut MachBuffer, cond: Cond, body: &[Inst]) -> Result<(), EmitError>
     requires { HasRoom sink.old }
     ensures answer { OnOk result (sink.new ≡ run sink.old (own_pieces (length sink.old.labels) 0 (looped cond (tree body.now) empty))) }
-    ensures lacks { (depth after : ℕ) → TreePassed sink.old after depth (looped cond (tree body.now) empty) → LacksMemory result }
+    ensures lacks { (flags : IsaFlags) (depth after : ℕ) → TreePassed flags sink.old after depth (looped cond (tree body.now) empty) → LacksMemory result }
     ensures ranges { OnOk result (AllInRange (looped cond (tree body.now) empty)) }
     ensures kept { Keeps sink.old sink.new }
 {

@@ -1,5 +1,6 @@
 -- The function of two blocks meets the premises, and its run is one of the machine.
-use Rattle.std.proofs.Common.{◌≡◌, ℕ, ◌%◌, [], ◌∷◌, ◌++◌, None, refl, sym, subst, arith}
+use Rattle.std.proofs.Common.{false, ◌≡◌, ℕ, ◌%◌, [], ◌∷◌, ◌++◌, None, refl, sym, subst, arith}
+use Rattle.s390x_inst.specs.declared.state.IsaFlags.{IsaFlags}
 use Rattle.s390x_format.specs.declared.kind.FormatKind.TheVariants.{Rr, Rre, RilC}
 use Rattle.s390x_format.specs.Layout.{number, bits, SlotsFit}
 use Rattle.s390x_format.specs.Formats.{layout_of, length_of}
@@ -26,8 +27,12 @@ unfolding number bits layout_of length_of be_bytes
 code = refl
 
 -- emission has no cause against it, and its mask is that of a condition
-pub checked : blocks_cause 2 2 trees ≡ None
-checked = refl
+pub checked : (flags : IsaFlags) → blocks_cause flags 2 2 trees ≡ None
+checked flags = refl
+
+-- a machine of the base alone
+base : IsaFlags
+base = record { has_mie3 = false; has_mie4 = false; has_vxrs_ext2 = false; has_vxrs_ext3 = false }
 
 pub ranges : BlocksInRange trees
 ranges = ((tt, ((omega arith, omega arith), tt)), ((tt, tt), tt))
@@ -39,7 +44,7 @@ stands = record {
   even = refl;
   fits = omega arith;
   short = omega arith;
-  fine = checked_steps trees 2 image no_codes checked ranges;
+  fine = checked_steps base trees 2 image no_codes (checked base) ranges;
 }
 
 pub lies : Lies image core.memory

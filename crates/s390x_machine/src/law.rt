@@ -1,6 +1,7 @@
 //! The laws of the typed steps and the machine.
 ghost use Rattle.std.specs.Prelude.{◌≡◌, ℕ, List, length, Option, Some, None, slice_get};
 ghost use Rattle.s390x_base.specs.declared.trap.TrapKind.{TrapKind};
+ghost use Rattle.s390x_inst.specs.declared.state.IsaFlags.{IsaFlags};
 ghost use Rattle.s390x_steps.specs.Tree.{Tree};
 ghost use Rattle.s390x_operations.specs.declared.stop.StopKind.{StopKind};
 ghost use Rattle.s390x_machine.specs.Functions.{function_layout, StandsAsCode};
@@ -31,7 +32,7 @@ pub fn code_is_placed()
 
 /// Emission lets each step pass of a function that has no cause of refusal, with n labels in use.
 pub fn checked_steps_are_fine()
-    ensures { (ts : List Tree) (n : ℕ) (image : CodeImage) (code_at : ℕ → StopKind → Option TrapKind) → blocks_cause (length ts) n ts ≡ None → BlocksInRange ts → (k : ℕ) (s : Step) → slice_get (function_steps ts) k ≡ Some s → IsFine (function_layout ts image code_at) s }
+    ensures { (flags : IsaFlags) (ts : List Tree) (n : ℕ) (image : CodeImage) (code_at : ℕ → StopKind → Option TrapKind) → blocks_cause flags (length ts) n ts ≡ None → BlocksInRange ts → (k : ℕ) (s : Step) → slice_get (function_steps ts) k ≡ Some s → IsFine (function_layout ts image code_at) s }
 {}
 
 /// Every machine run from a step's place, in every state in which the image lies in memory and under every list of others' writes, is allowed by the typed steps.

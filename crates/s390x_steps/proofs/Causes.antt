@@ -1,5 +1,6 @@
 -- First causes, and what holds where none stands.
 use Rattle.std.proofs.Common.{◌≡◌, ℕ, ◌+◌, ◌<◌, Bool, true, false, List, Option, None, Some, refl, sym, ap, ◌∙◌, arith, get_or, length, drop}
+use Rattle.s390x_inst.specs.declared.state.IsaFlags.{IsaFlags}
 use Rattle.s390x_base.specs.declared.error.EmitError.{EmitError}
 use Rattle.s390x_steps.specs.Tree.{Tree, empty, leaf, looped, graft, row_tree, tree}
 use Rattle.s390x_steps.specs.Causes.{first, unless, draws, nesting_cause, numbers_cause, instruction_cause, tree_cause}
@@ -23,24 +24,24 @@ pub unless_true : (t : Bool) (e : EmitError) → unless t e ≡ None → t ≡ t
 unless_true true e h = refl
 unless_true false e h = absurd (cc)
 
-leaf_first : (blocks n depth : ℕ) (i : Inst) (rest : Tree) → tree_cause blocks n depth (leaf i rest) ≡ first (tree_cause blocks n depth (leaf i empty)) (tree_cause blocks (n + draws (leaf i empty)) depth rest)
-leaf_first blocks n depth i rest =
+leaf_first : (flags : IsaFlags) (blocks n depth : ℕ) (i : Inst) (rest : Tree) → tree_cause flags blocks n depth (leaf i rest) ≡ first (tree_cause flags blocks n depth (leaf i empty)) (tree_cause flags blocks (n + draws (leaf i empty)) depth rest)
+leaf_first flags blocks n depth i rest =
     let e : n ≡ n + 0 = omega arith in
-    ap (λ y. first y (tree_cause blocks n depth rest)) (sym (first_none (instruction_cause blocks depth i))) ∙ ap (λ m. first (first (instruction_cause blocks depth i) None) (tree_cause blocks m depth rest)) e
+    ap (λ y. first y (tree_cause flags blocks n depth rest)) (sym (first_none (instruction_cause flags blocks depth i))) ∙ ap (λ m. first (first (instruction_cause flags blocks depth i) None) (tree_cause flags blocks m depth rest)) e
 
-loop_first : (blocks n depth mask : ℕ) (members rest : Tree) → tree_cause blocks n depth (looped mask members rest) ≡ first (tree_cause blocks n depth (looped mask members empty)) (tree_cause blocks (n + draws (looped mask members empty)) depth rest)
-loop_first blocks n depth mask members rest =
-    let x = first (first (nesting_cause depth) (numbers_cause n 2)) (tree_cause blocks (n + 2) (depth + 1) members) in
+loop_first : (flags : IsaFlags) (blocks n depth mask : ℕ) (members rest : Tree) → tree_cause flags blocks n depth (looped mask members rest) ≡ first (tree_cause flags blocks n depth (looped mask members empty)) (tree_cause flags blocks (n + draws (looped mask members empty)) depth rest)
+loop_first flags blocks n depth mask members rest =
+    let x = first (first (nesting_cause depth) (numbers_cause n 2)) (tree_cause flags blocks (n + 2) (depth + 1) members) in
     let e : n + 2 + draws members ≡ n + (2 + draws members + 0) = omega arith in
-    ap (λ y. first y (tree_cause blocks (n + 2 + draws members) depth rest)) (sym (first_none x)) ∙ ap (λ m. first (first x None) (tree_cause blocks m depth rest)) e
+    ap (λ y. first y (tree_cause flags blocks (n + 2 + draws members) depth rest)) (sym (first_none x)) ∙ ap (λ m. first (first x None) (tree_cause flags blocks m depth rest)) e
 
 -- a member's cause comes before those of the others
-pub graft_cause : (blocks n depth : ℕ) (i : Inst) (rest : Tree) → tree_cause blocks n depth (graft i rest) ≡ first (tree_cause blocks n depth (graft i empty)) (tree_cause blocks (n + draws (graft i empty)) depth rest)
-graft_cause blocks n depth (Loop' mask body all) rest = loop_first blocks n depth mask (row_tree all) rest
-graft_cause blocks n depth i rest = leaf_first blocks n depth i rest
+pub graft_cause : (flags : IsaFlags) (blocks n depth : ℕ) (i : Inst) (rest : Tree) → tree_cause flags blocks n depth (graft i rest) ≡ first (tree_cause flags blocks n depth (graft i empty)) (tree_cause flags blocks (n + draws (graft i empty)) depth rest)
+graft_cause flags blocks n depth (Loop' mask body all) rest = loop_first flags blocks n depth mask (row_tree all) rest
+graft_cause flags blocks n depth i rest = leaf_first flags blocks n depth i rest
 
 -- a cause at a member is the first one from there on
-pub stops : (blocks depth n : ℕ) (e : EmitError) (is : List Inst) (k : ℕ) (i : Inst) → k < length is → i ≡ get_or is k i → tree_cause blocks n depth (graft i empty) ≡ Some e → tree_cause blocks n depth (tree (drop k is)) ≡ Some e
-stops blocks depth n e is k i lt at some =
+pub stops : (flags : IsaFlags) (blocks depth n : ℕ) (e : EmitError) (is : List Inst) (k : ℕ) (i : Inst) → k < length is → i ≡ get_or is k i → tree_cause flags blocks n depth (graft i empty) ≡ Some e → tree_cause flags blocks n depth (tree (drop k is)) ≡ Some e
+stops flags blocks depth n e is k i lt at some =
     let rest = tree (drop (k + 1) is) in
-    ap (λ t. tree_cause blocks n depth t) (behind is k i lt at) ∙ graft_cause blocks n depth i rest ∙ ap (λ o. first o (tree_cause blocks (n + draws (graft i empty)) depth rest)) some
+    ap (λ t. tree_cause flags blocks n depth t) (behind is k i lt at) ∙ graft_cause flags blocks n depth i rest ∙ ap (λ o. first o (tree_cause flags blocks (n + draws (graft i empty)) depth rest)) some

@@ -2,9 +2,11 @@
 use Rattle.std.specs.Prelude.{ℕ, ◌+◌, List, [], ◌∷◌, Bool, cond, ◌&&◌, nat_lt, Option, Some, None}
 use Rattle.s390x_base.specs.declared.ir.MachLabel.{MachLabel}
 use Rattle.s390x_base.specs.declared.error.EmitError.{EmitError}
-use Rattle.s390x_base.specs.declared.error.EmitError.TheVariants.{BadOperator, BadRegister, BreakOutsideLoop, UnboundLabel, LabelOutOfRange}
+use Rattle.s390x_base.specs.declared.error.EmitError.TheVariants.{MissingFacility, BadOperator, BadRegister, BreakOutsideLoop, UnboundLabel, LabelOutOfRange}
 use Rattle.s390x_inst.specs.declared.inst.Inst.{Inst}
 use Rattle.s390x_inst.specs.declared.inst.Inst.TheVariants.{Jump, CondBr, IndirectBr, Ret, CondBreak, Nop0, LabelAddress}
+use Rattle.s390x_inst.specs.declared.state.IsaFlags.{IsaFlags}
+use Rattle.s390x_inst.specs.Facilities.{facility_of, has_facility}
 use Rattle.s390x_steps.specs.General.{is_general, is_nonzero}
 use Rattle.s390x_steps.specs.Alone.{Alone, alone}
 use Rattle.s390x_steps.specs.Tree.{Tree, empty, leaf, looped}
@@ -43,9 +45,13 @@ abbrev pub cause_or : Option Alone → Option EmitError → Option EmitError
 cause_or None others = others
 cause_or (Some x) others = unless x.fine BadRegister
 
+-- the machine has the facility that an instruction needs
+abbrev pub facility_cause : IsaFlags → Inst → Option EmitError
+facility_cause flags i = unless (has_facility flags (facility_of i)) MissingFacility
+
 -- the causes of an instruction that is no `Loop`, inside so many loops
-abbrev pub instruction_cause : (blocks depth : ℕ) → Inst → Option EmitError
-instruction_cause blocks depth i = cause_or (alone i) (branch_cause blocks depth i)
+abbrev pub instruction_cause : IsaFlags → (blocks depth : ℕ) → Inst → Option EmitError
+instruction_cause flags blocks depth i = first (facility_cause flags i) (cause_or (alone i) (branch_cause blocks depth i))
 
 -- label numbers end below 2 ^ 32; n are in use, and so many more are drawn
 abbrev pub numbers_cause : (n more : ℕ) → Option EmitError
@@ -62,13 +68,13 @@ abbrev pub nesting_cause : ℕ → Option EmitError
 nesting_cause depth = unless (nat_lt depth 8) BadOperator
 
 -- the first cause in a tree, inside so many loops, with n labels in use
-abbrev pub tree_cause : (blocks n depth : ℕ) → Tree → Option EmitError
-tree_cause blocks n depth empty = None
-tree_cause blocks n depth (leaf i rest) = first (instruction_cause blocks depth i) (tree_cause blocks n depth rest)
-tree_cause blocks n depth (looped mask members rest) =
-    first (first (first (nesting_cause depth) (numbers_cause n 2)) (tree_cause blocks (n + 2) (depth + 1) members)) (tree_cause blocks (n + 2 + draws members) depth rest)
+abbrev pub tree_cause : IsaFlags → (blocks n depth : ℕ) → Tree → Option EmitError
+tree_cause flags blocks n depth empty = None
+tree_cause flags blocks n depth (leaf i rest) = first (instruction_cause flags blocks depth i) (tree_cause flags blocks n depth rest)
+tree_cause flags blocks n depth (looped mask members rest) =
+    first (first (first (nesting_cause depth) (numbers_cause n 2)) (tree_cause flags blocks (n + 2) (depth + 1) members)) (tree_cause flags blocks (n + 2 + draws members) depth rest)
 
 -- the first cause in the blocks
-abbrev pub blocks_cause : (blocks n : ℕ) → List Tree → Option EmitError
-blocks_cause blocks n [] = None
-blocks_cause blocks n (t ∷ ts) = first (tree_cause blocks n 0 t) (blocks_cause blocks (n + draws t) ts)
+abbrev pub blocks_cause : IsaFlags → (blocks n : ℕ) → List Tree → Option EmitError
+blocks_cause flags blocks n [] = None
+blocks_cause flags blocks n (t ∷ ts) = first (tree_cause flags blocks n 0 t) (blocks_cause flags blocks (n + draws t) ts)

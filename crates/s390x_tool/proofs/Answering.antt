@@ -83,7 +83,7 @@ second_none (Some e) b none = absurd cc
 abbrev pub RunsWhereLinked : Type 0
 RunsWhereLinked =
     (ts : List Tree) (cs : List Constant) (f : MachBufferFinalized) (base : ℕ) (symbols : Symbols)
-    → checked_cause ts cs ≡ None → BlocksInRange ts → IsImage ts cs f → link_cause f base symbols ≡ None
+    → checked_cause flags ts cs ≡ None → BlocksInRange ts → IsImage ts cs f → link_cause f base symbols ≡ None
     → RunsAsTyped ts (record { base = base; bytes = f.bytes.items })
 
 -- it holds of a job's image

@@ -1,5 +1,6 @@
 -- What emission reads of an instruction stands in its line.
 use Rattle.std.proofs.Common.{◌≡◌, ℕ, List, [], ◌∷◌, Option, Some, ◌&&◌, refl, ap, subst}
+use Rattle.s390x_inst.specs.declared.state.IsaFlags.{IsaFlags}
 use Rattle.s390x_base.specs.Regs.{number_of}
 use Rattle.s390x_base.specs.declared.regs.Reg.{Reg}
 use Rattle.s390x_base.specs.declared.regs.WritableRegPair.{WritableRegPair}
@@ -99,7 +100,7 @@ abbrev pub line_reading : Line → Reading
 line_reading l = reading l.name l.fields
 
 abbrev pub reading_cause : (blocks depth : ℕ) → Reading → Option EmitError
-reading_cause blocks depth (Whole i) = instruction_cause blocks depth i
+reading_cause blocks depth (Whole i) = instruction_cause flags blocks depth i
 reading_cause blocks depth (Picks rn targets) = first (unless (is_general rn && is_nonzero rn) BadRegister) (labels_cause blocks targets)
 reading_cause blocks depth Other = Some BadOperator
 
@@ -118,9 +119,9 @@ vector_reading : (v : VecInst) → Other ≡ line_reading (vector_line v)
 vector_reading (VecRR op rd rn) = refl
 vector_reading v = refl
 
-pub cause_read : (blocks depth : ℕ) (i : Inst) → instruction_cause blocks depth i ≡ reading_cause blocks depth (line_reading (inst_line i))
-cause_read blocks depth (Vector v) = ap (reading_cause blocks depth) (vector_reading v)
-cause_read blocks depth i = refl
+pub cause_read : (flags : IsaFlags) (blocks depth : ℕ) (i : Inst) → instruction_cause flags blocks depth i ≡ reading_cause blocks depth (line_reading (inst_line i))
+cause_read flags blocks depth (Vector v) = ap (reading_cause blocks depth) (vector_reading v)
+cause_read flags blocks depth i = refl
 
 pub parts_read : (after : ℕ) (i : Inst) → step_parts (step_of after i) ≡ reading_parts after (line_reading (inst_line i))
 parts_read after (Vector v) = ap (reading_parts after) (vector_reading v)

@@ -1,6 +1,7 @@
 -- Two jobs with the same lines have the same causes, the same code and the same symbols.
 use Rattle.std.proofs.Common.{◌≡◌, ◌+◌, ◌++◌, List, map, length, Option, None, sym, ap, ◌∙◌, subst, append-nil, nat_lt}
 use Rattle.std.proofs.lemmas.List.{length-map}
+use Rattle.s390x_inst.specs.declared.state.IsaFlags.{IsaFlags}
 use Rattle.s390x_base.specs.declared.error.EmitError.{EmitError}
 use Rattle.s390x_base.specs.declared.error.EmitError.TheVariants.{LabelOutOfRange}
 use Rattle.s390x_buffer.specs.State.{Constant, new_cause, limit}
@@ -40,9 +41,9 @@ line_checked ts cs =
     first (new_cause (length ts) cs)
     (first (line_blocks_cause (length ts) (length ts + length cs) ts) (unless (nat_lt (constants_end (line_blocks_size ts) cs) limit) LabelOutOfRange))
 
-same_checked : (ts : List Tree) (cs : List Constant) → checked_cause ts cs ≡ line_checked (map lines_tree ts) cs
-same_checked ts cs =
-    ap (λ o. first (new_cause (length ts) cs) (first o (length_cause ts cs))) (same_blocks_cause (length ts) (length ts + length cs) ts)
+same_checked : (flags : IsaFlags) (ts : List Tree) (cs : List Constant) → checked_cause flags ts cs ≡ line_checked (map lines_tree ts) cs
+same_checked flags ts cs =
+    ap (λ o. first (new_cause (length ts) cs) (first o (length_cause ts cs))) (same_blocks_cause flags (length ts) (length ts + length cs) ts)
     ∙ ap (λ n. first (new_cause (length ts) cs) (first (line_blocks_cause (length ts) (length ts + length cs) (map lines_tree ts)) (unless (nat_lt (constants_end n cs) limit) LabelOutOfRange))) (same_blocks_size ts)
     ∙ ap (λ n. first (new_cause n cs) (first (line_blocks_cause n (n + length cs) (map lines_tree ts)) (unless (nat_lt (constants_end (line_blocks_size (map lines_tree ts)) cs) limit) LabelOutOfRange))) (sym (length-map ts lines_tree))
 
@@ -52,12 +53,12 @@ start_none j is = ap start_cause is.state
 -- they are refused by the same cause
 pub same_cause : (j k : Job) → IsJob j → IsJob k → SameJob j k → cause_of j ≡ cause_of k
 same_cause j k a b e =
-    ap (λ o. first o (checked_cause (trees_of j.function) (constants_of j.function))) (start_none j a)
-    ∙ same_checked (trees_of j.function) (constants_of j.function)
+    ap (λ o. first o (checked_cause flags (trees_of j.function) (constants_of j.function))) (start_none j a)
+    ∙ same_checked flags (trees_of j.function) (constants_of j.function)
     ∙ ap (λ ts. line_checked ts (constants_of j.function)) (same_blocks j k e)
     ∙ ap (line_checked (map lines_tree (trees_of k.function))) (same_constants j k e)
-    ∙ sym (same_checked (trees_of k.function) (constants_of k.function))
-    ∙ ap (λ o. first o (checked_cause (trees_of k.function) (constants_of k.function))) (sym (start_none k b))
+    ∙ sym (same_checked flags (trees_of k.function) (constants_of k.function))
+    ∙ ap (λ o. first o (checked_cause flags (trees_of k.function) (constants_of k.function))) (sym (start_none k b))
 
 same_ranges : (ts us : List Tree) → map lines_tree ts ≡ map lines_tree us → BlocksInRange ts → BlocksInRange us
 same_ranges ts us e h = ranges_from us (subst line_ranges e (ranges_to ts h))

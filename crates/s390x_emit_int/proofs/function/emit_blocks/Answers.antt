@@ -22,7 +22,7 @@ loop-block-preserved c =
     record {
       rest = block_more c.args.blocks.now k v s s1 s2 _ (omega arith) c.block-item.is e1 e2 c.loop-block.invariant.rest;
       ranges = λ f. c.loop-block.invariant.ranges (block_ranges c.args.blocks.now k v c.deref.result.now (omega arith) c.block-item.is c.deref.ensures.value c.in_ok-emit_members.ensures.ranges f);
-      passed = λ put cause. others_passed c.args.blocks.now k (length c.args.blocks.now) v s s1 s2 (omega arith) c.block-item.is e1 e2 (c.loop-block.invariant.passed put cause);
+      passed = λ flags put cause. others_passed flags c.args.blocks.now k (length c.args.blocks.now) v s s1 s2 (omega arith) c.block-item.is e1 e2 (c.loop-block.invariant.passed flags put cause);
       label = omega (arith, c.loop-block.invariant.label);
       count = c.emit_members.ensures.kept.block_count ∙ c.bind_label.ensures.kept.block_count ∙ c.loop-block.invariant.count;
       room = block_room k (tree_of v) s s1 s2 c.loop-block.invariant.room e1 e2;
@@ -30,19 +30,19 @@ loop-block-preserved c =
     }
 
 pub returns-in_err-bind_label-clause-lacks : goal.returns-in_err-bind_label-clause-lacks
-returns-in_err-bind_label-clause-lacks c = λ put cause.
+returns-in_err-bind_label-clause-lacks c = λ flags put cause.
     let s = c.loop-block.sink in
-    let p = c.loop-block.invariant.passed put cause in
+    let p = c.loop-block.invariant.passed flags put cause in
     let below : c.loop-block.label < length s.labels = omega (arith, c.loop-block.invariant.label, c.loop-block.invariant.room, c.loop-block.invariant.count) in
     lacks_again c.from_residual.result _ c.from_residual.ensures.1 (blames_none _ _ (label_none s c.loop-block.label p.unmarked below) c.in_err-bind_label.ensures.answer.0)
 
 pub returns-in_err-emit_members-clause-lacks : goal.returns-in_err-emit_members-clause-lacks
-returns-in_err-emit_members-clause-lacks c = λ put cause.
+returns-in_err-emit_members-clause-lacks c = λ flags put cause.
     let s = c.loop-block.sink in
     let k = c.loop-block.block-index in
     let s1 = c.bind_label.new.self in
     let v = c.block-item.result in
     let e1 : s1 ≡ apply s (Bind k) = c.in_ok-bind_label.ensures.answer.1 ∙ ap (λ l. apply s (Bind l)) c.loop-block.invariant.label in
-    let p : TreePassed s1 0 0 (tree_of v) = block_passed c.args.blocks.now k (length c.args.blocks.now) v s s1 (omega arith) c.block-item.is e1 c.loop-block.invariant.count (omega arith) c.loop-block.invariant.room (c.loop-block.invariant.passed put cause) in
-    let q : TreePassed s1 0 0 (tree c.deref.result.now) = subst (λ l. TreePassed s1 0 0 (tree l)) (sym c.deref.ensures.value) p in
-    lacks_again c.from_residual-in_err-emit_members.result _ c.from_residual-in_err-emit_members.ensures.1 (c.in_err-emit_members.ensures.lacks 0 q)
+    let p : TreePassed flags s1 0 0 (tree_of v) = block_passed flags c.args.blocks.now k (length c.args.blocks.now) v s s1 (omega arith) c.block-item.is e1 c.loop-block.invariant.count (omega arith) c.loop-block.invariant.room (c.loop-block.invariant.passed flags put cause) in
+    let q : TreePassed flags s1 0 0 (tree c.deref.result.now) = subst (λ l. TreePassed flags s1 0 0 (tree l)) (sym c.deref.ensures.value) p in
+    lacks_again c.from_residual-in_err-emit_members.result _ c.from_residual-in_err-emit_members.ensures.1 (c.in_err-emit_members.ensures.lacks flags 0 q)

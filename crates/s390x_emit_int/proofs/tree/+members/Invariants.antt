@@ -1,4 +1,5 @@
 use Rattle.std.proofs.Common.{◌≡◌, ℕ, drop, length}
+use Rattle.s390x_inst.specs.declared.state.IsaFlags.{IsaFlags}
 use Rattle.s390x_buffer.specs.Keeps.{Keeps}
 use Rattle.s390x_steps.specs.Tree.{tree}
 use Rattle.s390x_emit_int.specs.Pieces.{run}
@@ -12,6 +13,6 @@ invariant-emit_members-loop-inst l = record {
   kept : Keeps l.initial.sink l.sink;
   room : HasRoom l.sink;
   rest : run l.sink (pieces (length l.sink.labels) l.after.0 (tree (drop l.inst-index l.insts))) ≡ run l.initial.sink (pieces (length l.initial.sink.labels) l.after.0 (tree l.insts));
-  passed : (depth : ℕ) → TreePassed l.initial.sink l.after.0 depth (tree l.insts) → TreePassed l.sink l.after.0 depth (tree (drop l.inst-index l.insts));
+  passed : (flags : IsaFlags) (depth : ℕ) → TreePassed flags l.initial.sink l.after.0 depth (tree l.insts) → TreePassed flags l.sink l.after.0 depth (tree (drop l.inst-index l.insts));
   ranges : AllInRange (tree (drop l.inst-index l.insts)) → AllInRange (tree l.insts);
 }
