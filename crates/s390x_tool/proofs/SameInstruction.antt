@@ -10,25 +10,27 @@ use Rattle.s390x_base.specs.declared.imms.UImm32Shifted.{UImm32Shifted}
 use Rattle.s390x_base.specs.declared.error.EmitError.{EmitError}
 use Rattle.s390x_base.specs.declared.error.EmitError.TheVariants.{BadOperator, BadRegister}
 use Rattle.s390x_inst.specs.declared.inst.Inst.{Inst}
-use Rattle.s390x_inst.specs.declared.inst.Inst.TheVariants.{AluRRR, AluRR, AluRRSImm16, AluRSImm16, AluRSImm32, AluRUImm32, UnaryRR, CmpRR, CmpRSImm16, CmpRSImm32, CmpRUImm32, Mov64, MovPReg, Mov32, Mov32Imm, Mov32SImm16, Mov64SImm16, Mov64SImm32, AluRUImm16Shifted, AluRUImm32Shifted, ShiftRR, RxSBG, RxSBGTest, Mov64UImm16Shifted, Mov64UImm32Shifted, Insert64UImm16Shifted, Insert64UImm32Shifted, CMov32, CMov64, CMov32SImm16, CMov64SImm16, Extend, LoadAR, InsertAR, SMulWide, UMulWide, Flogr, Fence, Nop0, Nop2, Jump, CondBr, Ret, CondBreak, Vector, LabelAddress}
+use Rattle.s390x_inst.specs.declared.inst.Inst.TheVariants.{AluRRR, AluRR, AluRRSImm16, AluRSImm16, AluRSImm32, AluRUImm32, UnaryRR, CmpRR, CmpRSImm16, CmpRSImm32, CmpRUImm32, Mov64, MovPReg, Mov32, Mov32Imm, Mov32SImm16, Mov64SImm16, Mov64SImm32, AluRUImm16Shifted, AluRUImm32Shifted, ShiftRR, RxSBG, RxSBGTest, Mov64UImm16Shifted, Mov64UImm32Shifted, Insert64UImm16Shifted, Insert64UImm32Shifted, CMov32, CMov64, CMov32SImm16, CMov64SImm16, Extend, LoadAR, InsertAR, SMulWide, UMulWide, Flogr, Fence, Nop0, Nop2, LoadIndexedAddr, LoadLogicalIndexedAddr, Jump, CondBr, Ret, CondBreak, Vector, LabelAddress}
 use Rattle.s390x_inst.specs.declared.vec_inst.VecInst.{VecInst}
-use Rattle.s390x_inst.specs.declared.vec_inst.VecInst.TheVariants.{VecRR}
+use Rattle.s390x_inst.specs.declared.vec_inst.VecInst.TheVariants as V
 use Rattle.s390x_steps.specs.MachineInstruction.{rr}
 use Rattle.s390x_steps.specs.Causes.{first, unless, labels_cause, instruction_cause}
 use Rattle.s390x_steps.specs.General.{is_general, is_nonzero}
 use Rattle.s390x_steps.specs.Parts.{Part, Row, step_parts}
 use Rattle.s390x_steps.specs.Steps.{step_of}
 use Rattle.s390x_steps.specs.Ranges.{InRange}
-use Rattle.s390x_fields.specs.Fields.{Field, FAlu, FUnary, FCmp, FShift, FRxsbg, FReg, FReal, FInteger, FNatural, FShifted, FPair, FBool, FLabels, FCond}
+use Rattle.s390x_fields.specs.Fields.{Field, FAlu, FUnary, FCmp, FShift, FRxsbg, FReg, FReal, FInteger, FNatural, FShifted, FPair, FBool, FLabels, FCond, FMemory, FVecBinary, FVecCompare, FVecElementCompare, FVecShift, FVecUnary}
 use Rattle.s390x_lines.specs.Line.{Line}
 use Rattle.s390x_lines.specs.Instructions.{inst_line, vector_line}
 use Rattle.s390x_lines.specs.declared.inst_name.IntegerName.TheVariants as IntegerIs
 use Rattle.s390x_lines.specs.declared.inst_name.ControlName.TheVariants as ControlIs
+use Rattle.s390x_lines.specs.declared.inst_name.MemoryName.TheVariants as MemoryIs
+use Rattle.s390x_lines.specs.declared.inst_name.VectorName.TheVariants as VectorIs
 use Rattle.s390x_lines.specs.declared.name.LineName.{LineName}
 use Rattle.s390x_lines.specs.declared.name.LineName.TheVariants as N
 
 -- What emission reads of an instruction: all of one without lists; of one with lists, their items instead of the vectors
--- that hold them; of one that isn't built yet, nothing.
+-- that hold them; of one that isn't built yet and needs no facility, nothing.
 pub data Reading : Type 0 where
   Whole : Inst → Reading
   Picks : Reg → List MachLabel → Reading
@@ -94,15 +96,71 @@ reading (N.Control ControlIs.IndirectBr) (FReg rn ∷ FLabels targets ∷ []) = 
 reading (N.Control ControlIs.LabelAddress) (FReg dst ∷ FNatural w label ∷ []) = Whole (LabelAddress dst (named label))
 reading (N.Control ControlIs.Ret) (FReg link ∷ []) = Whole (Ret link)
 reading (N.Control ControlIs.CondBreak) (FCond mask ∷ []) = Whole (CondBreak mask)
+reading (N.Vector VectorIs.VecRRR) (FVecBinary op ∷ FReg rd ∷ FReg rn ∷ FReg rm ∷ []) = Whole (Vector (V.VecRRR op rd rn rm))
+reading (N.Vector VectorIs.VecRR) (FVecUnary op ∷ FReg rd ∷ FReg rn ∷ []) = Whole (Vector (V.VecRR op rd rn))
+reading (N.Vector VectorIs.VecShiftRR) (FVecShift shift_op ∷ FReg rd ∷ FReg rn ∷ FNatural w0 shift_imm ∷ FReg shift_reg ∷ []) = Whole (Vector (V.VecShiftRR shift_op rd rn shift_imm shift_reg))
+reading (N.Vector VectorIs.VecSelect) (FReg rd ∷ FReg rn ∷ FReg rm ∷ FReg ra ∷ []) = Whole (Vector (V.VecSelect rd rn rm ra))
+reading (N.Vector VectorIs.VecPermute) (FReg rd ∷ FReg rn ∷ FReg rm ∷ FReg ra ∷ []) = Whole (Vector (V.VecPermute rd rn rm ra))
+reading (N.Vector VectorIs.VecBlend) (FReg rd ∷ FReg rn ∷ FReg rm ∷ FReg ra ∷ []) = Whole (Vector (V.VecBlend rd rn rm ra))
+reading (N.Vector VectorIs.VecEvaluate) (FNatural w0 imm ∷ FReg rd ∷ FReg rn ∷ FReg rm ∷ FReg ra ∷ []) = Whole (Vector (V.VecEvaluate imm rd rn rm ra))
+reading (N.Vector VectorIs.VecPermuteDWImm) (FReg rd ∷ FReg rn ∷ FReg rm ∷ FNatural w0 idx1 ∷ FNatural w1 idx2 ∷ []) = Whole (Vector (V.VecPermuteDWImm rd rn rm idx1 idx2))
+reading (N.Vector VectorIs.VecIntCmp) (FVecCompare op ∷ FReg rd ∷ FReg rn ∷ FReg rm ∷ []) = Whole (Vector (V.VecIntCmp op rd rn rm))
+reading (N.Vector VectorIs.VecIntCmpS) (FVecCompare op ∷ FReg rd ∷ FReg rn ∷ FReg rm ∷ []) = Whole (Vector (V.VecIntCmpS op rd rn rm))
+reading (N.Vector VectorIs.VecIntEltCmp) (FVecElementCompare op ∷ FReg rn ∷ FReg rm ∷ []) = Whole (Vector (V.VecIntEltCmp op rn rm))
+reading (N.Vector VectorIs.VecInt128SCmpHi) (FReg tmp ∷ FReg rn ∷ FReg rm ∷ []) = Whole (Vector (V.VecInt128SCmpHi tmp rn rm))
+reading (N.Vector VectorIs.VecInt128UCmpHi) (FReg tmp ∷ FReg rn ∷ FReg rm ∷ []) = Whole (Vector (V.VecInt128UCmpHi tmp rn rm))
+reading (N.Vector VectorIs.VecLoad) (FReg rd ∷ FMemory mem ∷ []) = Whole (Vector (V.VecLoad rd mem))
+reading (N.Vector VectorIs.VecLoadRev) (FReg rd ∷ FMemory mem ∷ []) = Whole (Vector (V.VecLoadRev rd mem))
+reading (N.Vector VectorIs.VecLoadByte16Rev) (FReg rd ∷ FMemory mem ∷ []) = Whole (Vector (V.VecLoadByte16Rev rd mem))
+reading (N.Vector VectorIs.VecLoadByte32Rev) (FReg rd ∷ FMemory mem ∷ []) = Whole (Vector (V.VecLoadByte32Rev rd mem))
+reading (N.Vector VectorIs.VecLoadByte64Rev) (FReg rd ∷ FMemory mem ∷ []) = Whole (Vector (V.VecLoadByte64Rev rd mem))
+reading (N.Vector VectorIs.VecLoadElt16Rev) (FReg rd ∷ FMemory mem ∷ []) = Whole (Vector (V.VecLoadElt16Rev rd mem))
+reading (N.Vector VectorIs.VecLoadElt32Rev) (FReg rd ∷ FMemory mem ∷ []) = Whole (Vector (V.VecLoadElt32Rev rd mem))
+reading (N.Vector VectorIs.VecLoadElt64Rev) (FReg rd ∷ FMemory mem ∷ []) = Whole (Vector (V.VecLoadElt64Rev rd mem))
+reading (N.Vector VectorIs.VecStore) (FReg rd ∷ FMemory mem ∷ []) = Whole (Vector (V.VecStore rd mem))
+reading (N.Vector VectorIs.VecStoreRev) (FReg rd ∷ FMemory mem ∷ []) = Whole (Vector (V.VecStoreRev rd mem))
+reading (N.Vector VectorIs.VecStoreByte16Rev) (FReg rd ∷ FMemory mem ∷ []) = Whole (Vector (V.VecStoreByte16Rev rd mem))
+reading (N.Vector VectorIs.VecStoreByte32Rev) (FReg rd ∷ FMemory mem ∷ []) = Whole (Vector (V.VecStoreByte32Rev rd mem))
+reading (N.Vector VectorIs.VecStoreByte64Rev) (FReg rd ∷ FMemory mem ∷ []) = Whole (Vector (V.VecStoreByte64Rev rd mem))
+reading (N.Vector VectorIs.VecStoreElt16Rev) (FReg rd ∷ FMemory mem ∷ []) = Whole (Vector (V.VecStoreElt16Rev rd mem))
+reading (N.Vector VectorIs.VecStoreElt32Rev) (FReg rd ∷ FMemory mem ∷ []) = Whole (Vector (V.VecStoreElt32Rev rd mem))
+reading (N.Vector VectorIs.VecStoreElt64Rev) (FReg rd ∷ FMemory mem ∷ []) = Whole (Vector (V.VecStoreElt64Rev rd mem))
+reading (N.Vector VectorIs.VecLoadReplicate) (FNatural w0 size ∷ FReg rd ∷ FMemory mem ∷ []) = Whole (Vector (V.VecLoadReplicate size rd mem))
+reading (N.Vector VectorIs.VecLoadReplicateRev) (FNatural w0 size ∷ FReg rd ∷ FMemory mem ∷ []) = Whole (Vector (V.VecLoadReplicateRev size rd mem))
+reading (N.Vector VectorIs.VecLoadLane) (FNatural w0 size ∷ FReg rd ∷ FReg ri ∷ FMemory mem ∷ FNatural w1 lane_imm ∷ []) = Whole (Vector (V.VecLoadLane size rd ri mem lane_imm))
+reading (N.Vector VectorIs.VecLoadLaneRev) (FNatural w0 size ∷ FReg rd ∷ FReg ri ∷ FMemory mem ∷ FNatural w1 lane_imm ∷ []) = Whole (Vector (V.VecLoadLaneRev size rd ri mem lane_imm))
+reading (N.Vector VectorIs.VecLoadLaneUndef) (FNatural w0 size ∷ FReg rd ∷ FMemory mem ∷ FNatural w1 lane_imm ∷ []) = Whole (Vector (V.VecLoadLaneUndef size rd mem lane_imm))
+reading (N.Vector VectorIs.VecLoadLaneRevUndef) (FNatural w0 size ∷ FReg rd ∷ FMemory mem ∷ FNatural w1 lane_imm ∷ []) = Whole (Vector (V.VecLoadLaneRevUndef size rd mem lane_imm))
+reading (N.Vector VectorIs.VecStoreLane) (FNatural w0 size ∷ FReg rd ∷ FMemory mem ∷ FNatural w1 lane_imm ∷ []) = Whole (Vector (V.VecStoreLane size rd mem lane_imm))
+reading (N.Vector VectorIs.VecStoreLaneRev) (FNatural w0 size ∷ FReg rd ∷ FMemory mem ∷ FNatural w1 lane_imm ∷ []) = Whole (Vector (V.VecStoreLaneRev size rd mem lane_imm))
+reading (N.Vector VectorIs.VecMov) (FReg rd ∷ FReg rn ∷ []) = Whole (Vector (V.VecMov rd rn))
+reading (N.Vector VectorIs.FpuMove32) (FReg rd ∷ FReg rn ∷ []) = Whole (Vector (V.FpuMove32 rd rn))
+reading (N.Vector VectorIs.FpuMove64) (FReg rd ∷ FReg rn ∷ []) = Whole (Vector (V.FpuMove64 rd rn))
+reading (N.Vector VectorIs.FpuCMov32) (FReg rd ∷ FCond cond ∷ FReg ri ∷ FReg rm ∷ []) = Whole (Vector (V.FpuCMov32 rd cond ri rm))
+reading (N.Vector VectorIs.FpuCMov64) (FReg rd ∷ FCond cond ∷ FReg ri ∷ FReg rm ∷ []) = Whole (Vector (V.FpuCMov64 rd cond ri rm))
+reading (N.Vector VectorIs.VecCMov) (FReg rd ∷ FCond cond ∷ FReg ri ∷ FReg rm ∷ []) = Whole (Vector (V.VecCMov rd cond ri rm))
+reading (N.Vector VectorIs.MovToVec128) (FReg rd ∷ FReg rn ∷ FReg rm ∷ []) = Whole (Vector (V.MovToVec128 rd rn rm))
+reading (N.Vector VectorIs.VecImmByteMask) (FReg rd ∷ FNatural w0 mask ∷ []) = Whole (Vector (V.VecImmByteMask rd mask))
+reading (N.Vector VectorIs.VecImmBitMask) (FNatural w0 size ∷ FReg rd ∷ FNatural w1 start_bit ∷ FNatural w2 end_bit ∷ []) = Whole (Vector (V.VecImmBitMask size rd start_bit end_bit))
+reading (N.Vector VectorIs.VecImmReplicate) (FNatural w0 size ∷ FReg rd ∷ FInteger w1 imm ∷ []) = Whole (Vector (V.VecImmReplicate size rd imm))
+reading (N.Vector VectorIs.VecInsertLane) (FNatural w0 size ∷ FReg rd ∷ FReg ri ∷ FReg rn ∷ FNatural w1 lane_imm ∷ FReg lane_reg ∷ []) = Whole (Vector (V.VecInsertLane size rd ri rn lane_imm lane_reg))
+reading (N.Vector VectorIs.VecInsertLaneUndef) (FNatural w0 size ∷ FReg rd ∷ FReg rn ∷ FNatural w1 lane_imm ∷ FReg lane_reg ∷ []) = Whole (Vector (V.VecInsertLaneUndef size rd rn lane_imm lane_reg))
+reading (N.Vector VectorIs.VecExtractLane) (FNatural w0 size ∷ FReg rd ∷ FReg rn ∷ FNatural w1 lane_imm ∷ FReg lane_reg ∷ []) = Whole (Vector (V.VecExtractLane size rd rn lane_imm lane_reg))
+reading (N.Vector VectorIs.VecInsertLaneImm) (FNatural w0 size ∷ FReg rd ∷ FReg ri ∷ FInteger w1 imm ∷ FNatural w2 lane_imm ∷ []) = Whole (Vector (V.VecInsertLaneImm size rd ri imm lane_imm))
+reading (N.Vector VectorIs.VecInsertLaneImmUndef) (FNatural w0 size ∷ FReg rd ∷ FInteger w1 imm ∷ FNatural w2 lane_imm ∷ []) = Whole (Vector (V.VecInsertLaneImmUndef size rd imm lane_imm))
+reading (N.Vector VectorIs.VecReplicateLane) (FNatural w0 size ∷ FReg rd ∷ FReg rn ∷ FNatural w1 lane_imm ∷ []) = Whole (Vector (V.VecReplicateLane size rd rn lane_imm))
+reading (N.Vector VectorIs.VecEltRev) (FNatural w0 lane_count ∷ FReg rd ∷ FReg rn ∷ []) = Whole (Vector (V.VecEltRev lane_count rd rn))
+reading (N.Memory MemoryIs.LoadIndexedAddr) (FReg rd ∷ FReg base ∷ FReg index ∷ FInteger v offset ∷ FNatural w size ∷ []) = Whole (LoadIndexedAddr rd base index offset size)
+reading (N.Memory MemoryIs.LoadLogicalIndexedAddr) (FReg rd ∷ FReg base ∷ FReg index ∷ FInteger v offset ∷ FNatural w size ∷ []) = Whole (LoadLogicalIndexedAddr rd base index offset size)
 reading name fields = Other
 
 abbrev pub line_reading : Line → Reading
 line_reading l = reading l.name l.fields
 
-abbrev pub reading_cause : (blocks depth : ℕ) → Reading → Option EmitError
-reading_cause blocks depth (Whole i) = instruction_cause flags blocks depth i
-reading_cause blocks depth (Picks rn targets) = first (unless (is_general rn && is_nonzero rn) BadRegister) (labels_cause blocks targets)
-reading_cause blocks depth Other = Some BadOperator
+abbrev pub reading_cause : IsaFlags → (blocks depth : ℕ) → Reading → Option EmitError
+reading_cause flags blocks depth (Whole i) = instruction_cause flags blocks depth i
+reading_cause flags blocks depth (Picks rn targets) = first (unless (is_general rn && is_nonzero rn) BadRegister) (labels_cause blocks targets)
+reading_cause flags blocks depth Other = Some BadOperator
 
 -- the parts of the step in a loop that ends at the step `after`
 abbrev pub reading_parts : ℕ → Reading → List Part
@@ -115,12 +173,12 @@ reading_range (Whole i) = InRange i
 reading_range (Picks rn targets) = Unit {0}
 reading_range Other = Unit {0}
 
-vector_reading : (v : VecInst) → Other ≡ line_reading (vector_line v)
-vector_reading (VecRR op rd rn) = refl
+vector_reading : (v : VecInst) → Whole (Vector v) ≡ line_reading (vector_line v)
+vector_reading (V.VecRR op rd rn) = refl
 vector_reading v = refl
 
-pub cause_read : (flags : IsaFlags) (blocks depth : ℕ) (i : Inst) → instruction_cause flags blocks depth i ≡ reading_cause blocks depth (line_reading (inst_line i))
-cause_read flags blocks depth (Vector v) = ap (reading_cause blocks depth) (vector_reading v)
+pub cause_read : (flags : IsaFlags) (blocks depth : ℕ) (i : Inst) → instruction_cause flags blocks depth i ≡ reading_cause flags blocks depth (line_reading (inst_line i))
+cause_read flags blocks depth (Vector v) = ap (reading_cause flags blocks depth) (vector_reading v)
 cause_read flags blocks depth i = refl
 
 pub parts_read : (after : ℕ) (i : Inst) → step_parts (step_of after i) ≡ reading_parts after (line_reading (inst_line i))

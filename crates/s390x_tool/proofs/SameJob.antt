@@ -31,21 +31,24 @@ pub same_constants : (j k : Job) → SameJob j k → constants_of j.function ≡
 same_constants j k e =
     sym (append-nil (constants_of j.function)) ∙ ap (λ f. f.constants) (sym (job_found j) ∙ ap found e ∙ job_found k) ∙ append-nil (constants_of k.function)
 
+same_flags : (j k : Job) → SameJob j k → j.info.isa_flags ≡ k.info.isa_flags
+same_flags j k e = ap (λ f. f.flags) (sym (job_found j) ∙ ap found e ∙ job_found k)
+
 pub same_symbols : (j k : Job) → SameJob j k → j.symbols.items ≡ k.symbols.items
 same_symbols j k e =
     sym (append-nil j.symbols.items) ∙ ap (λ f. f.symbols) (sym (job_found j) ∙ ap found e ∙ job_found k) ∙ append-nil k.symbols.items
 
 -- the causes after the state's
-abbrev line_checked : List LineTree → List Constant → Option EmitError
-line_checked ts cs =
+abbrev line_checked : IsaFlags → List LineTree → List Constant → Option EmitError
+line_checked flags ts cs =
     first (new_cause (length ts) cs)
-    (first (line_blocks_cause (length ts) (length ts + length cs) ts) (unless (nat_lt (constants_end (line_blocks_size ts) cs) limit) LabelOutOfRange))
+    (first (line_blocks_cause flags (length ts) (length ts + length cs) ts) (unless (nat_lt (constants_end (line_blocks_size ts) cs) limit) LabelOutOfRange))
 
-same_checked : (flags : IsaFlags) (ts : List Tree) (cs : List Constant) → checked_cause flags ts cs ≡ line_checked (map lines_tree ts) cs
+same_checked : (flags : IsaFlags) (ts : List Tree) (cs : List Constant) → checked_cause flags ts cs ≡ line_checked flags (map lines_tree ts) cs
 same_checked flags ts cs =
     ap (λ o. first (new_cause (length ts) cs) (first o (length_cause ts cs))) (same_blocks_cause flags (length ts) (length ts + length cs) ts)
-    ∙ ap (λ n. first (new_cause (length ts) cs) (first (line_blocks_cause (length ts) (length ts + length cs) (map lines_tree ts)) (unless (nat_lt (constants_end n cs) limit) LabelOutOfRange))) (same_blocks_size ts)
-    ∙ ap (λ n. first (new_cause n cs) (first (line_blocks_cause n (n + length cs) (map lines_tree ts)) (unless (nat_lt (constants_end (line_blocks_size (map lines_tree ts)) cs) limit) LabelOutOfRange))) (sym (length-map ts lines_tree))
+    ∙ ap (λ n. first (new_cause (length ts) cs) (first (line_blocks_cause flags (length ts) (length ts + length cs) (map lines_tree ts)) (unless (nat_lt (constants_end n cs) limit) LabelOutOfRange))) (same_blocks_size ts)
+    ∙ ap (λ n. first (new_cause n cs) (first (line_blocks_cause flags n (n + length cs) (map lines_tree ts)) (unless (nat_lt (constants_end (line_blocks_size (map lines_tree ts)) cs) limit) LabelOutOfRange))) (sym (length-map ts lines_tree))
 
 start_none : (j : Job) → IsJob j → start_cause j.state ≡ None
 start_none j is = ap start_cause is.state
@@ -53,12 +56,15 @@ start_none j is = ap start_cause is.state
 -- they are refused by the same cause
 pub same_cause : (j k : Job) → IsJob j → IsJob k → SameJob j k → cause_of j ≡ cause_of k
 same_cause j k a b e =
-    ap (λ o. first o (checked_cause flags (trees_of j.function) (constants_of j.function))) (start_none j a)
-    ∙ same_checked flags (trees_of j.function) (constants_of j.function)
-    ∙ ap (λ ts. line_checked ts (constants_of j.function)) (same_blocks j k e)
-    ∙ ap (line_checked (map lines_tree (trees_of k.function))) (same_constants j k e)
-    ∙ sym (same_checked flags (trees_of k.function) (constants_of k.function))
-    ∙ ap (λ o. first o (checked_cause flags (trees_of k.function) (constants_of k.function))) (sym (start_none k b))
+    let f = j.info.isa_flags in
+    let g = k.info.isa_flags in
+    ap (λ o. first o (checked_cause f (trees_of j.function) (constants_of j.function))) (start_none j a)
+    ∙ same_checked f (trees_of j.function) (constants_of j.function)
+    ∙ ap (λ ts. line_checked f ts (constants_of j.function)) (same_blocks j k e)
+    ∙ ap (line_checked f (map lines_tree (trees_of k.function))) (same_constants j k e)
+    ∙ ap (λ x. line_checked x (map lines_tree (trees_of k.function)) (constants_of k.function)) (same_flags j k e)
+    ∙ sym (same_checked g (trees_of k.function) (constants_of k.function))
+    ∙ ap (λ o. first o (checked_cause g (trees_of k.function) (constants_of k.function))) (sym (start_none k b))
 
 same_ranges : (ts us : List Tree) → map lines_tree ts ≡ map lines_tree us → BlocksInRange ts → BlocksInRange us
 same_ranges ts us e h = ranges_from us (subst line_ranges e (ranges_to ts h))

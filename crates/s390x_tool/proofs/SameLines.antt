@@ -15,7 +15,7 @@ use Rattle.s390x_inst.specs.declared.vec_inst.VecInst.TheVariants.{VecRR}
 use Rattle.s390x_buffer.specs.State.{Constant, constant_of}
 use Rattle.s390x_steps.specs.Tree.{Tree, graft, row_tree, tree}
 use Rattle.s390x_emit_int.specs.Function.{tree_of, trees_of, constants_of}
-use Rattle.s390x_fields.specs.Fields.{Field, FNatural, FBytes, FName, FCond}
+use Rattle.s390x_fields.specs.Fields.{Field, FNatural, FBytes, FName, FCond, FFlags}
 use Rattle.s390x_lines.specs.Line.{Line, spelled}
 use Rattle.s390x_lines.specs.Instructions.{inst_line, vector_line}
 use Rattle.s390x_job.specs.Items.{flags_line, frame_line, constant_line, symbol_line, register_line, memory_line, block_line, loop_line, close_line, end_line}
@@ -35,9 +35,14 @@ pub record Found : Type 0 where
   pub blocks : List LineTree
   pub constants : List Constant
   pub symbols : List SymbolLine
+  pub flags : IsaFlags
+
+-- no facility
+abbrev pub no_flags : IsaFlags
+no_flags = record { has_mie3 = false; has_mie4 = false; has_vxrs_ext2 = false; has_vxrs_ext3 = false }
 
 abbrev pub nothing : Found
-nothing = record { siblings = none; outer = []; blocks = []; constants = []; symbols = [] }
+nothing = record { siblings = none; outer = []; blocks = []; constants = []; symbols = []; flags = no_flags }
 
 abbrev pub after_loop : List LineTree → LineTree
 after_loop [] = none
@@ -59,20 +64,28 @@ abbrev pub symbol_in : List Field → List SymbolLine → List SymbolLine
 symbol_in (FName n ∷ FNatural w address ∷ fs) ss = record { name = record { 0 = n }; address = address } ∷ ss
 symbol_in fs ss = ss
 
+abbrev pub flags_in : List Field → IsaFlags → IsaFlags
+flags_in (FFlags x ∷ fs) flags = x
+flags_in fs flags = flags
+
+-- these facilities, and all else as before
+abbrev pub with_flags : IsaFlags → Found → Found
+with_flags flags f = record { siblings = f.siblings; outer = f.outer; blocks = f.blocks; constants = f.constants; symbols = f.symbols; flags = flags }
+
 -- an instruction before its siblings
 abbrev pub onto : Line → Found → Found
-onto l f = record { siblings = one l f.siblings; outer = f.outer; blocks = f.blocks; constants = f.constants; symbols = f.symbols }
+onto l f = record { siblings = one l f.siblings; outer = f.outer; blocks = f.blocks; constants = f.constants; symbols = f.symbols; flags = f.flags }
 
 abbrev pub feed : LineName → Line → Found → Found
-feed N.FlagsLine l f = f
+feed N.FlagsLine l f = with_flags (flags_in l.fields f.flags) f
 feed N.FrameLine l f = f
-feed N.ConstantLine l f = record { siblings = f.siblings; outer = f.outer; blocks = f.blocks; constants = constant_in l.fields f.constants; symbols = f.symbols }
-feed N.SymbolLine l f = record { siblings = f.siblings; outer = f.outer; blocks = f.blocks; constants = f.constants; symbols = symbol_in l.fields f.symbols }
+feed N.ConstantLine l f = record { siblings = f.siblings; outer = f.outer; blocks = f.blocks; constants = constant_in l.fields f.constants; symbols = f.symbols; flags = f.flags }
+feed N.SymbolLine l f = record { siblings = f.siblings; outer = f.outer; blocks = f.blocks; constants = f.constants; symbols = symbol_in l.fields f.symbols; flags = f.flags }
 feed N.RegisterLine l f = f
 feed N.MemoryLine l f = f
-feed N.BlockLine l f = record { siblings = none; outer = f.outer; blocks = f.siblings ∷ f.blocks; constants = f.constants; symbols = f.symbols }
-feed N.Loop l f = record { siblings = around (mask_in l.fields) f.siblings (after_loop f.outer); outer = around_loop f.outer; blocks = f.blocks; constants = f.constants; symbols = f.symbols }
-feed N.EndLoopLine l f = record { siblings = none; outer = f.siblings ∷ f.outer; blocks = f.blocks; constants = f.constants; symbols = f.symbols }
+feed N.BlockLine l f = record { siblings = none; outer = f.outer; blocks = f.siblings ∷ f.blocks; constants = f.constants; symbols = f.symbols; flags = f.flags }
+feed N.Loop l f = record { siblings = around (mask_in l.fields) f.siblings (after_loop f.outer); outer = around_loop f.outer; blocks = f.blocks; constants = f.constants; symbols = f.symbols; flags = f.flags }
+feed N.EndLoopLine l f = record { siblings = none; outer = f.siblings ∷ f.outer; blocks = f.blocks; constants = f.constants; symbols = f.symbols; flags = f.flags }
 feed N.EndLine l f = f
 feed name l f = onto l f
 
@@ -82,7 +95,7 @@ found (l ∷ ls) = feed l.name l (found ls)
 
 -- so many siblings, and all else as before
 abbrev pub with_siblings : LineTree → Found → Found
-with_siblings t f = record { siblings = t; outer = f.outer; blocks = f.blocks; constants = f.constants; symbols = f.symbols }
+with_siblings t f = record { siblings = t; outer = f.outer; blocks = f.blocks; constants = f.constants; symbols = f.symbols; flags = f.flags }
 
 vector_onto : (v : VecInst) (f : Found) → feed (vector_line v).name (vector_line v) f ≡ onto (vector_line v) f
 vector_onto (VecRR op rd rn) f = refl
@@ -92,7 +105,7 @@ mutual
   -- an instruction is read back before the siblings t
   inst_found : (i : Inst) (t : Tree) (f : Found) (ls : List Line) → found ls ≡ with_siblings (lines_tree t) f → found (inst_lines i ++ ls) ≡ with_siblings (lines_tree (graft i t)) f
   inst_found (Loop' mask body all) t f ls e =
-      let inner : Found = record { siblings = none; outer = lines_tree t ∷ f.outer; blocks = f.blocks; constants = f.constants; symbols = f.symbols } in
+      let inner : Found = record { siblings = none; outer = lines_tree t ∷ f.outer; blocks = f.blocks; constants = f.constants; symbols = f.symbols; flags = f.flags } in
       ap (λ x. found (loop_line mask ∷ x)) (append_assoc (row_lines all) (close_line ∷ []) ls)
       ∙ ap (feed N.Loop (loop_line mask)) (row_found all inner (close_line ∷ ls) (ap (feed N.EndLoopLine close_line) e))
   inst_found (Vector v) t f ls e = vector_onto v (found ls) ∙ ap (onto (vector_line v)) e
@@ -110,7 +123,7 @@ insts_found (i ∷ is) f ls e =
 
 -- blocks and nothing before them
 abbrev blocks_alone : List LineTree → Found
-blocks_alone ts = record { siblings = none; outer = []; blocks = ts; constants = []; symbols = [] }
+blocks_alone ts = record { siblings = none; outer = []; blocks = ts; constants = []; symbols = []; flags = no_flags }
 
 blocks_found : (bs : List Block) → found (blocks_lines bs ++ end_line ∷ []) ≡ blocks_alone (map lines_tree (map tree_of bs))
 blocks_found [] = refl
@@ -129,8 +142,13 @@ passed_if : (c : Bool) (l : Line) → ((f : Found) → feed l.name l f ≡ f) �
 passed_if true l h ls = refl
 passed_if false l h ls = h (found ls)
 
-flags_passed : (f : IsaFlags) → IsPassed (flags_lines f)
-flags_passed f = passed_if (bytes_eq (spelled (flags_line f).fields) []) (flags_line f) (λ g. refl)
+-- the line `flags`, or its absence, tells the facilities
+flags_found : (mie3 mie4 ext2 ext3 : Bool) (ls : List Line) → (found ls).flags ≡ no_flags → found (flags_lines (record { has_mie3 = mie3; has_mie4 = mie4; has_vxrs_ext2 = ext2; has_vxrs_ext3 = ext3 }) ++ ls) ≡ with_flags (record { has_mie3 = mie3; has_mie4 = mie4; has_vxrs_ext2 = ext2; has_vxrs_ext3 = ext3 }) (found ls)
+flags_found true b c d ls e = refl
+flags_found false true c d ls e = refl
+flags_found false false true d ls e = refl
+flags_found false false false true ls e = refl
+flags_found false false false false ls e = ap (λ x. with_flags x (found ls)) e
 
 frame_passed : (conv : CallConv) (layout : FrameLayout) → IsPassed (frame_lines conv layout)
 frame_passed conv layout = passed_if (bytes_eq (spelled (frame_line conv layout).fields) (codes " SystemV 0 0 0 0 0 0 - 0")) (frame_line conv layout) (λ g. refl)
@@ -152,24 +170,27 @@ memory_passed (m ∷ ms) ls = memory_passed ms ls
 
 -- symbols and constants before what is found
 abbrev with_symbols_before : List SymbolLine → Found → Found
-with_symbols_before ss f = record { siblings = f.siblings; outer = f.outer; blocks = f.blocks; constants = f.constants; symbols = ss ++ f.symbols }
+with_symbols_before ss f = record { siblings = f.siblings; outer = f.outer; blocks = f.blocks; constants = f.constants; symbols = ss ++ f.symbols; flags = f.flags }
 
 symbols_found : (ss : List SymbolLine) (ls : List Line) → found (map symbol_line ss ++ ls) ≡ with_symbols_before ss (found ls)
 symbols_found [] ls = refl
 symbols_found (s ∷ ss) ls = ap (feed N.SymbolLine (symbol_line s)) (symbols_found ss ls)
 
 abbrev with_constants_before : List Constant → Found → Found
-with_constants_before cs f = record { siblings = f.siblings; outer = f.outer; blocks = f.blocks; constants = cs ++ f.constants; symbols = f.symbols }
+with_constants_before cs f = record { siblings = f.siblings; outer = f.outer; blocks = f.blocks; constants = cs ++ f.constants; symbols = f.symbols; flags = f.flags }
 
 constants_found : (cs : List ConstantData) (ls : List Line) → found (map constant_line cs ++ ls) ≡ with_constants_before (map constant_of cs) (found ls)
 constants_found [] ls = refl
 constants_found (c ∷ cs) ls = ap (feed N.ConstantLine (constant_line c)) (constants_found cs ls)
 
 -- what a job's lines say
-pub job_found : (j : Job)
-    → found (job_lines j) ≡ with_constants_before (constants_of j.function) (with_symbols_before j.symbols.items (blocks_alone (map lines_tree (trees_of j.function))))
+abbrev pub Said : Job → Found
+Said j = with_constants_before (constants_of j.function) (with_symbols_before j.symbols.items (blocks_alone (map lines_tree (trees_of j.function))))
+
+pub job_found : (j : Job) → found (job_lines j) ≡ with_flags j.info.isa_flags (Said j)
 job_found j =
-    let flags = flags_lines j.info.isa_flags in
+    let f = j.info.isa_flags in
+    let flags = flags_lines f in
     let frame = frame_lines j.conv j.state.layout in
     let constants = map constant_line j.function.constants.items in
     let symbols = map symbol_line j.symbols.items in
@@ -179,9 +200,12 @@ job_found j =
     let last = registers ++ memory in
     let rest = constants ++ (symbols ++ last) in
     let before = with_constants_before (constants_of j.function) in
-    ap found (append_assoc flags (frame ++ rest) blocks) ∙ flags_passed j.info.isa_flags ((frame ++ rest) ++ blocks)
-    ∙ ap found (append_assoc frame rest blocks) ∙ frame_passed j.conv j.state.layout (rest ++ blocks)
+    let said : found ((frame ++ rest) ++ blocks) ≡ Said j =
+    ap found (append_assoc frame rest blocks) ∙ frame_passed j.conv j.state.layout (rest ++ blocks)
     ∙ ap found (append_assoc constants (symbols ++ last) blocks) ∙ constants_found j.function.constants.items ((symbols ++ last) ++ blocks)
     ∙ ap before (ap found (append_assoc symbols last blocks) ∙ symbols_found j.symbols.items (last ++ blocks))
-    ∙ ap (λ f. before (with_symbols_before j.symbols.items f))
-    (passed_append registers memory (registers_passed j.registers) (memory_passed j.memory.items) blocks ∙ blocks_found j.function.blocks.items)
+    ∙ ap (λ g. before (with_symbols_before j.symbols.items g))
+    (passed_append registers memory (registers_passed j.registers) (memory_passed j.memory.items) blocks ∙ blocks_found j.function.blocks.items) in
+    ap found (append_assoc flags (frame ++ rest) blocks)
+    ∙ flags_found f.has_mie3 f.has_mie4 f.has_vxrs_ext2 f.has_vxrs_ext3 ((frame ++ rest) ++ blocks) (ap (λ g. g.flags) said)
+    ∙ ap (with_flags f) said

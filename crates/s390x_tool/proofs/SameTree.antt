@@ -40,33 +40,33 @@ same_draws (leaf i rest) = same_draws rest
 same_draws (looped mask members rest) = let a = same_draws members in let b = same_draws rest in cc
 
 -- the first cause
-abbrev pub line_cause : (blocks n depth : ℕ) → LineTree → Option EmitError
-line_cause blocks n depth none = None
-line_cause blocks n depth (one l rest) = first (reading_cause blocks depth (line_reading l)) (line_cause blocks n depth rest)
-line_cause blocks n depth (around mask members rest) =
-    first (first (first (nesting_cause depth) (numbers_cause n 2)) (line_cause blocks (n + 2) (depth + 1) members)) (line_cause blocks (n + 2 + line_draws members) depth rest)
+abbrev pub line_cause : IsaFlags → (blocks n depth : ℕ) → LineTree → Option EmitError
+line_cause flags blocks n depth none = None
+line_cause flags blocks n depth (one l rest) = first (reading_cause flags blocks depth (line_reading l)) (line_cause flags blocks n depth rest)
+line_cause flags blocks n depth (around mask members rest) =
+    first (first (first (nesting_cause depth) (numbers_cause n 2)) (line_cause flags blocks (n + 2) (depth + 1) members)) (line_cause flags blocks (n + 2 + line_draws members) depth rest)
 
-same_tree_cause : (flags : IsaFlags) (blocks n depth : ℕ) (t : Tree) → tree_cause flags blocks n depth t ≡ line_cause blocks n depth (lines_tree t)
+same_tree_cause : (flags : IsaFlags) (blocks n depth : ℕ) (t : Tree) → tree_cause flags blocks n depth t ≡ line_cause flags blocks n depth (lines_tree t)
 same_tree_cause flags blocks n depth empty = refl
 same_tree_cause flags blocks n depth (leaf i rest) =
     ap (λ o. first o (tree_cause flags blocks n depth rest)) (cause_read flags blocks depth i)
-    ∙ ap (first (reading_cause blocks depth (line_reading (inst_line i)))) (same_tree_cause flags blocks n depth rest)
+    ∙ ap (first (reading_cause flags blocks depth (line_reading (inst_line i)))) (same_tree_cause flags blocks n depth rest)
 same_tree_cause flags blocks n depth (looped mask members rest) =
     let own = first (nesting_cause depth) (numbers_cause n 2) in
     ap (λ o. first (first own o) (tree_cause flags blocks (n + 2 + draws members) depth rest)) (same_tree_cause flags blocks (n + 2) (depth + 1) members)
-    ∙ ap (first (first own (line_cause blocks (n + 2) (depth + 1) (lines_tree members)))) (same_tree_cause flags blocks (n + 2 + draws members) depth rest)
-    ∙ ap (λ d. first (first own (line_cause blocks (n + 2) (depth + 1) (lines_tree members))) (line_cause blocks (n + 2 + d) depth (lines_tree rest))) (same_draws members)
+    ∙ ap (first (first own (line_cause flags blocks (n + 2) (depth + 1) (lines_tree members)))) (same_tree_cause flags blocks (n + 2 + draws members) depth rest)
+    ∙ ap (λ d. first (first own (line_cause flags blocks (n + 2) (depth + 1) (lines_tree members))) (line_cause flags blocks (n + 2 + d) depth (lines_tree rest))) (same_draws members)
 
-abbrev pub line_blocks_cause : (blocks n : ℕ) → List LineTree → Option EmitError
-line_blocks_cause blocks n [] = None
-line_blocks_cause blocks n (t ∷ ts) = first (line_cause blocks n 0 t) (line_blocks_cause blocks (n + line_draws t) ts)
+abbrev pub line_blocks_cause : IsaFlags → (blocks n : ℕ) → List LineTree → Option EmitError
+line_blocks_cause flags blocks n [] = None
+line_blocks_cause flags blocks n (t ∷ ts) = first (line_cause flags blocks n 0 t) (line_blocks_cause flags blocks (n + line_draws t) ts)
 
-pub same_blocks_cause : (flags : IsaFlags) (blocks n : ℕ) (ts : List Tree) → blocks_cause flags blocks n ts ≡ line_blocks_cause blocks n (map lines_tree ts)
+pub same_blocks_cause : (flags : IsaFlags) (blocks n : ℕ) (ts : List Tree) → blocks_cause flags blocks n ts ≡ line_blocks_cause flags blocks n (map lines_tree ts)
 same_blocks_cause flags blocks n [] = refl
 same_blocks_cause flags blocks n (t ∷ ts) =
     ap (λ o. first o (blocks_cause flags blocks (n + draws t) ts)) (same_tree_cause flags blocks n 0 t)
-    ∙ ap (first (line_cause blocks n 0 (lines_tree t))) (same_blocks_cause flags blocks (n + draws t) ts)
-    ∙ ap (λ d. first (line_cause blocks n 0 (lines_tree t)) (line_blocks_cause blocks (n + d) (map lines_tree ts))) (same_draws t)
+    ∙ ap (first (line_cause flags blocks n 0 (lines_tree t))) (same_blocks_cause flags blocks (n + draws t) ts)
+    ∙ ap (λ d. first (line_cause flags blocks n 0 (lines_tree t)) (line_blocks_cause flags blocks (n + d) (map lines_tree ts))) (same_draws t)
 
 -- steps
 abbrev pub line_count : LineTree → ℕ

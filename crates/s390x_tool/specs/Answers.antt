@@ -34,7 +34,7 @@ symbols_of j = with_symbols no_symbols j.symbols.items
 
 -- the first cause by which emission refuses a job's function
 abbrev pub cause_of : Job → Option EmitError
-cause_of j = function_cause (trees_of j.function) (constants_of j.function) j.state
+cause_of j = function_cause j.info.isa_flags (trees_of j.function) (constants_of j.function) j.state
 
 -- the code of a job's function, which isn't refused and whose numbers lie in their ranges
 pub record IsCode (j : Job) (code : MachBufferFinalized) : Type 0 where
