@@ -1,16 +1,14 @@
 -- Each field: reading gives back what was printed, and what follows it; no line feed stands in it.
-use Rattle.std.proofs.Common.{◌≡◌, ℕ, ◌<◌, ◌^◌, Bool, true, false, Option, Some, None, List, [], ◌∷◌, ◌++◌, refl, sym, ap, ◌∙◌, subst, arith, append_assoc, append-nil, ℤ}
-use Rattle.std.specs.Prelude.{codes, drop}
+use Rattle.std.proofs.Common.{◌≡◌, ℕ, Option, Some, None, List, [], ◌∷◌, ◌++◌, refl, sym, ap, ◌∙◌, subst, arith, append_assoc, append-nil}
 use Rattle.std.specs.Fmt.{decimal, signed_decimal}
 use Rattle.s390x_base.specs.Registers.{RealRegister, IsRegister}
 use Rattle.s390x_words.specs.Marks.{word, after_word, past}
-use Rattle.s390x_words.specs.Numbers.{Width, width_bits, natural_of, integer_of, W8, W32}
+use Rattle.s390x_words.specs.Numbers.{Width, natural_of, integer_of, W8}
 use Rattle.s390x_words.specs.Found.{found}
-use Rattle.s390x_words.specs.Atoms.{real_text, real_of, reg_text, reg_of, IsReg, mask_of, trap_text, trap_of, bool_text, bool_of, name_of}
-use Rattle.s390x_words.specs.Memory.{memory_text}
-use Rattle.s390x_words.specs.Lists.{list_text, list_of, AllItems}
+use Rattle.s390x_words.specs.Atoms.{real_text, real_of, reg_text, reg_of, mask_of, trap_text, trap_of, bool_text, bool_of, name_of}
+use Rattle.s390x_words.specs.Lists.{list_text, AllItems}
 use Rattle.s390x_words.specs.Sets.{members, is_in}
-use Rattle.s390x_words.specs.Calls.{target_text, target_of, result_text, result_of, IsResult, try_text, arg_text, arg_of, IsArg, ret_text, ret_of, IsRet, use_text, use_of, IsUse, label_text, label_of, IsLabel}
+use Rattle.s390x_words.specs.Calls.{target_text, target_of, result_text, result_of, IsResult, arg_text, arg_of, IsArg, ret_text, ret_of, IsRet, use_text, use_of, IsUse, label_text, label_of, IsLabel}
 use Rattle.s390x_words.specs.Bytes.{bytes_text, bytes_of, value_text, value_of, facilities_text, facilities_of}
 use Rattle.s390x_words.specs.Operators.{alu_text, cmp_text, shift_text, rxsbg_text, unary_text, vec_binary_text, vec_unary_text, vec_shift_text, vec_compare_text, vec_element_compare_text, convention_text}
 use Rattle.s390x_fields.specs.Fields.{option_text, IsOption, option_of, Field, KStart, FReg, FReal, FPair, FBool, FNatural, FInteger, FShifted, FMemory, FCond, FTrap, FLabels, FArgs, FRets, FUses, FDefs, FSet, FTarget, FTry, FOption, FReloc, FName, FBytes, FStart, FFlags, FAlu, FCmp, FShift, FRxsbg, FUnary, FVecBinary, FVecUnary, FVecShift, FVecCompare, FVecElementCompare, FConvention, kind_of, spell, IsField, value_as, after_as}
@@ -27,12 +25,12 @@ use Rattle.s390x_inst.specs.declared.vec_ops.VecIntEltCmpOp.TheVariants as VecIn
 use Rattle.s390x_inst.specs.declared.calls.CallConv.TheVariants as CallConvIs
 use Rattle.s390x_words.specs.declared.operators.TheConstants.{ALL_ALU, ALL_CMP, ALL_SHIFT, ALL_RXSBG, ALL_UNARY, ALL_CONVENTION}
 use Rattle.s390x_words.specs.declared.vector_operators.TheConstants.{ALL_VEC_BINARY, ALL_VEC_UNARY, ALL_VEC_SHIFT, ALL_VEC_COMPARE, ALL_VEC_ELEMENT_COMPARE}
-use Rattle.s390x_words.proofs.Avoids.{Avoids, Avoids-append, Avoids-fewer, Avoids-test, marks, Solid, Ends, word-is, after-is}
+use Rattle.s390x_words.proofs.Avoids.{Avoids, Avoids-append, Avoids-fewer, marks, Solid, Ends, word-is, after-is}
 use Rattle.s390x_words.proofs.Digits.{decimal-solid, signed-solid, natural-back, integer-back, wide, signed_wide}
 use Rattle.s390x_words.proofs.AtomsBack.{real-back, real-solid, reg-back, reg-solid, mask-back, trap-back, trap-solid, bool-back, bool-solid, name-back, name-solid}
 use Rattle.s390x_words.proofs.Lists.{IsElement, list-back, list-past, list-feed}
 use Rattle.s390x_words.proofs.MemoryBack.{ap2, memory-back, memory-past, memory-feed}
-use Rattle.s390x_words.proofs.CallsBack.{target-back, target-solid, reloc-back, reloc-past, reloc-feed, arg-element, ret-element, use-element, label-element, real-element, result-element, dash, past_front, try-back, try-after, try-feed}
+use Rattle.s390x_words.proofs.CallsBack.{target-back, target-solid, reloc-back, reloc-past, reloc-feed, arg-element, ret-element, use-element, label-element, real-element, result-element, dash, try-back, try-after, try-feed}
 use Rattle.s390x_words.proofs.BytesBack.{bytes-back, bytes-solid, value-back, value-solid, facilities-back, facilities-feed}
 use Rattle.s390x_words.proofs.OperatorsBack.{alu-back, alu-solid, cmp-back, cmp-solid, shift-back, shift-solid, rxsbg-back, rxsbg-solid, unary-back, unary-solid, vec_binary-back, vec_binary-solid, vec_unary-back, vec_unary-solid, vec_shift-back, vec_shift-solid, vec_compare-back, vec_compare-solid, vec_element_compare-back, vec_element_compare-solid, convention-back, convention-solid}
 use Rattle.s390x_words.proofs.Registers.{all_registers}

@@ -1,32 +1,30 @@
 -- Whatever is read lies in its range.
-use Rattle.std.proofs.Common.{◌≡◌, ℕ, suc, ◌+◌, ◌-◌, ◌*◌, ◌%◌, ◌<◌, ◌≤◌, ◌^◌, Bool, true, false, Option, Some, None, List, [], ◌∷◌, ◌++◌, refl, sym, ap, ◌∙◌, subst, ◌⊎◌, inl, inr, arith, ℤ, pos, negsuc}
-use Rattle.std.specs.Prelude.{◌==◌, ◌&&◌, nat_lt, nat_le, slice_index, codes, drop, length, if◌then◌else◌, Result, Ok, Err}
+use Rattle.std.proofs.Common.{◌≡◌, ℕ, ◌+◌, ◌-◌, ◌*◌, ◌%◌, ◌<◌, ◌≤◌, ◌^◌, Bool, true, false, List, [], ◌∷◌, refl, inl, inr, arith}
+use Rattle.std.specs.Prelude.{◌==◌, ◌&&◌, nat_lt, nat_le, slice_index, codes, drop, length, Result, Ok, Err}
 use Rattle.std.specs.Str.{bytes_eq}
 use Rattle.std.proofs.lemmas.Bool.Decides.{nat_tests}
-use Rattle.hex.specs.Hex.{IsBytes, decode_of, decode_pairs, hex_digit_value, pair_value, value_at, digit_or_error, ◌>>=◌}
+use Rattle.hex.specs.Hex.{IsBytes, decode_of}
 use Rattle.hex.specs.declared.error.FromHexError.{FromHexError}
 use Rattle.hex.proofs.HexLemmas.{decode_of-ok}
-use Rattle.s390x_base.specs.Registers.{RealRegister, general, vector, IsRegister}
+use Rattle.s390x_base.specs.Registers.{IsRegister}
 use Rattle.s390x_base.specs.Traps.{IsKind}
 use Rattle.s390x_base.specs.declared.regs.RegClass.{RegClass}
 use Rattle.s390x_base.specs.declared.regs.RegClass.TheVariants.{Int, Float}
 use Rattle.s390x_base.specs.declared.trap.TrapKind.TheVariants.{User}
-use Rattle.s390x_inst.specs.declared.args.MemArg.TheVariants as M
-use Rattle.s390x_inst.specs.declared.calls.RetLocation.TheVariants as L
 use Rattle.s390x_words.specs.Marks.{word, after_word}
 use Rattle.s390x_words.specs.Numbers.{Width, W8, W12, W16, W32, W64, width_bits, SignedWidth, signed_limit, IsBelow, decimal_from, decimal_of, natural_of, minus_of, plus_of, signed_below, integer_of, S8, S16, S20, S32, S64}
 use Rattle.s390x_words.specs.Found.{found}
-use Rattle.s390x_words.specs.Atoms.{real_of, reg_of, IsReg, mask_of, IsMask, user_number_of, trap_of, suffix_of, IsSuffix, access_of, name_of}
-use Rattle.s390x_words.specs.Memory.{IsMemory, memory_with, memory_of, form_text}
+use Rattle.s390x_words.specs.Atoms.{real_of, reg_of, IsReg, mask_of, IsMask, user_number_of, trap_of, suffix_of, IsSuffix}
+use Rattle.s390x_words.specs.Memory.{IsMemory, memory_with, form_text}
 use Rattle.s390x_words.specs.declared.memory.MemoryForm.{MemoryForm}
 use Rattle.s390x_words.specs.declared.memory.MemoryForm.TheVariants as F
 use Rattle.s390x_words.specs.declared.memory.TheConstants.{ALL_FORMS}
 use Rattle.s390x_words.specs.Lists.{AllItems, elements, list_of, begins_element}
 use Rattle.s390x_words.specs.Marks.{upto}
-use Rattle.s390x_words.specs.Sets.{members, is_in}
-use Rattle.s390x_words.specs.Calls.{IsTarget, target_of, IsReloc, reloc_of, IsLocation, IsResult, location_of, result_of, IsHandler, handler_of, IsTry, try_of, arg_of, IsArg, ret_of, IsRet, use_of, IsUse, label_of, IsLabel}
+use Rattle.s390x_words.specs.Sets.{is_in}
+use Rattle.s390x_words.specs.Calls.{IsTarget, target_of, IsLocation, IsResult, location_of, result_of, IsHandler, handler_of, IsTry, try_of, arg_of, IsArg, ret_of, IsRet, use_of, IsUse, label_of, IsLabel}
 use Rattle.s390x_words.specs.Bytes.{bytes_of, decoded, hex_from, digit_of, value_limit, value_of}
-use Rattle.s390x_fields.specs.Fields.{IsOption, option_of, Field, Kind, KAlu, KArgs, KBool, KBytes, KCmp, KCond, KConvention, KDefs, KFlags, KInteger, KLabels, KMemory, KName, KNatural, KOption, KPair, KReal, KReg, KReloc, KRets, KRxsbg, KSet, KShift, KShifted, KStart, KTarget, KTrap, KTry, KUnary, KUses, KVecBinary, KVecCompare, KVecElementCompare, KVecShift, KVecUnary, kind_of, IsField, value_as}
+use Rattle.s390x_fields.specs.Fields.{IsOption, option_of, Kind, KAlu, KArgs, KBool, KBytes, KCmp, KCond, KConvention, KDefs, KFlags, KInteger, KLabels, KMemory, KName, KNatural, KOption, KPair, KReal, KReg, KReloc, KRets, KRxsbg, KSet, KShift, KShifted, KStart, KTarget, KTrap, KTry, KUnary, KUses, KVecBinary, KVecCompare, KVecElementCompare, KVecShift, KVecUnary, kind_of, IsField, value_as}
 use Rattle.s390x_words.proofs.Members.{either}
 use Rattle.s390x_words.proofs.Registers.{members-again}
 

@@ -1,5 +1,5 @@
 -- The fields of a line: each kind has a spelling, a range and a reader. A field is spelled with the space before it.
-use Rattle.std.specs.Prelude.{ℕ, ◌≡◌, ◌%◌, ◌^◌, ◌<◌, Bool, Option, Some, None, List, [], ◌∷◌, ◌++◌, codes, ℤ, if◌then◌else◌, drop}
+use Rattle.std.specs.Prelude.{ℕ, ◌≡◌, ◌^◌, ◌<◌, Bool, Option, Some, None, List, [], ◌∷◌, ◌++◌, codes, ℤ, if◌then◌else◌, drop}
 use Rattle.std.specs.Fmt.{decimal, signed_decimal}
 use Rattle.std.specs.Str.{bytes_eq}
 use Rattle.hex.specs.Hex.{IsBytes}
@@ -17,13 +17,13 @@ use Rattle.s390x_inst.specs.declared.calls.CallInstDest.{CallInstDest}
 use Rattle.s390x_inst.specs.declared.calls.SymbolReloc.{SymbolReloc}
 use Rattle.s390x_inst.specs.declared.state.IsaFlags.{IsaFlags}
 use Rattle.s390x_words.specs.Marks.{word, after_word, past}
-use Rattle.s390x_words.specs.Numbers.{Width, width_bits, SignedWidth, signed_limit, IsBelow, natural_of, integer_of, W8, W32}
+use Rattle.s390x_words.specs.Numbers.{Width, width_bits, SignedWidth, signed_limit, IsBelow, natural_of, integer_of, W8}
 use Rattle.s390x_words.specs.Found.{found}
 use Rattle.s390x_words.specs.Atoms.{real_text, real_of, reg_text, reg_of, IsReg, mask_of, IsMask, trap_text, trap_of, bool_text, bool_of, name_of}
 use Rattle.s390x_words.specs.Memory.{memory_text, memory_of, IsMemory}
 use Rattle.s390x_words.specs.Lists.{list_text, list_of, AllItems}
 use Rattle.s390x_words.specs.Sets.{members, is_in}
-use Rattle.s390x_words.specs.Calls.{target_text, target_of, IsTarget, reloc_text, reloc_of, IsReloc, pair_text, result_text, result_of, IsResult, TryPart, try_text, try_of, after_try, IsTry, arg_text, IsArg, arg_of, ret_text, IsRet, ret_of, use_text, IsUse, use_of, label_text, IsLabel, label_of}
+use Rattle.s390x_words.specs.Calls.{target_text, target_of, IsTarget, reloc_text, reloc_of, IsReloc, result_text, result_of, IsResult, TryPart, try_text, try_of, after_try, IsTry, arg_text, IsArg, arg_of, ret_text, IsRet, ret_of, use_text, IsUse, use_of, label_text, IsLabel, label_of}
 use Rattle.s390x_words.specs.Bytes.{bytes_text, bytes_of, value_text, value_limit, value_of, facilities_text, facilities_of}
 use Rattle.s390x_words.specs.Operators.{alu_text, cmp_text, shift_text, rxsbg_text, unary_text, vec_binary_text, vec_unary_text, vec_shift_text, vec_compare_text, vec_element_compare_text, convention_text}
 use Rattle.s390x_inst.specs.declared.ops.ALUOp.{ALUOp}

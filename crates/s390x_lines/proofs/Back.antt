@@ -1,13 +1,13 @@
 -- Reading a line gives back the line that was printed, and what is read is in its ranges.
-use Rattle.std.proofs.Common.{◌≡◌, ℕ, ◌+◌, ◌*◌, ◌%◌, ◌<◌, ◌≤◌, ◌^◌, Bool, true, false, Option, Some, None, List, [], ◌∷◌, ◌++◌, refl, sym, ap, ◌∙◌, subst, ◌⊎◌, inl, inr, arith, append_assoc, append-nil, ℤ, pos, negsuc}
-use Rattle.std.specs.Prelude.{◌==◌, ◌&&◌, nat_lt, nat_le, slice_index, codes, if◌then◌else◌}
+use Rattle.std.proofs.Common.{◌≡◌, ℕ, Bool, true, false, List, [], ◌∷◌, ◌++◌, refl, sym, ap, ◌∙◌, subst, append_assoc}
+use Rattle.std.specs.Prelude.{codes, if◌then◌else◌}
 use Rattle.s390x_words.specs.Marks.{before_mark, from_mark}
 use Rattle.s390x_words.specs.Found.{found}
 use Rattle.s390x_lines.specs.Names.{integer_text, memory_text, control_text, vector_text, name_text}
 use Rattle.s390x_inst.specs.declared.state.IsaFlags.{IsaFlags}
 use Rattle.s390x_words.specs.Bytes.{facility_text, facilities_text}
 use Rattle.s390x_lines.specs.Kinds.{integer_kinds, memory_kinds, control_kinds, vector_kinds, kinds}
-use Rattle.s390x_fields.specs.Fields.{Field, Kind, KFlags, FFlags, kind_of, spell, IsField, value_as, after_as}
+use Rattle.s390x_fields.specs.Fields.{Field, Kind, KFlags, FFlags, kind_of, spell, value_as, after_as}
 use Rattle.s390x_lines.specs.Line.{Line, spelled, line_text, AllFields, kinds_of, IsLine, fields_of, line_with, line_of}
 use Rattle.s390x_lines.specs.declared.inst_name.IntegerName.{IntegerName}
 use Rattle.s390x_lines.specs.declared.inst_name.IntegerName.TheVariants as IntegerIs

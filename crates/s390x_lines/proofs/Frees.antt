@@ -1,5 +1,5 @@
 -- Texts that lack a byte, and their pieces.
-use Rattle.std.proofs.Common.{◌≡◌, ℕ, Bool, true, false, List, [], ◌∷◌, ◌++◌, refl, sym, ap, ◌∙◌}
+use Rattle.std.proofs.Common.{◌≡◌, ℕ, false, List, [], ◌∷◌, ◌++◌, refl, sym, ap, ◌∙◌}
 use Rattle.std.specs.Prelude.{◌==◌}
 use Rattle.s390x_words.specs.Marks.{upto, past}
 use Rattle.s390x_lines.specs.Line.{Line, line_text, IsLine}

@@ -1,5 +1,5 @@
 -- The lines of instructions: the variant's name, and its fields in the order of their declaration.
-use Rattle.std.specs.Prelude.{ℕ, List, [], ◌∷◌}
+use Rattle.std.specs.Prelude.{[], ◌∷◌}
 use Rattle.s390x_base.specs.Sets.{has}
 use Rattle.s390x_words.specs.Numbers.{W8, W16, W32, W64, S8, S16, S20, S32}
 use Rattle.s390x_words.specs.Calls.{try_part}

@@ -1,9 +1,9 @@
 -- Registers, conditions and trap codes: reading gives back what was printed, and each spelling is a word.
-use Rattle.std.proofs.Common.{◌≡◌, ℕ, ◌%◌, ◌<◌, ◌≤◌, ◌^◌, Bool, true, false, Option, Some, None, List, [], ◌∷◌, ◌++◌, length, refl, sym, ap, ◌∙◌, arith, append_assoc}
-use Rattle.std.specs.Prelude.{◌==◌, nat_lt, ◌&&◌, slice_index, codes}
+use Rattle.std.proofs.Common.{◌≡◌, ℕ, ◌<◌, ◌^◌, Bool, true, false, Option, Some, None, List, ◌∷◌, ◌++◌, refl, ap, ◌∙◌, arith, append_assoc}
+use Rattle.std.specs.Prelude.{◌==◌, nat_lt, slice_index, codes}
 use Rattle.std.specs.Fmt.{decimal}
 use Rattle.std.proofs.lemmas.Bool.Decides.{nat_tests}
-use Rattle.s390x_base.specs.Registers.{RealRegister, general, vector, IsRegister}
+use Rattle.s390x_base.specs.Registers.{RealRegister, IsRegister}
 use Rattle.s390x_base.specs.Traps.{IsKind}
 use Rattle.s390x_base.specs.declared.regs.RegClass.{RegClass}
 use Rattle.s390x_base.specs.declared.regs.RegClass.TheVariants.{Int, Float}
@@ -12,8 +12,8 @@ use Rattle.s390x_base.specs.declared.regs.Reg.TheVariants.{Real, Virtual}
 use Rattle.s390x_base.specs.declared.trap.TrapKind.{TrapKind}
 use Rattle.s390x_base.specs.declared.trap.TrapKind.TheVariants.{StackOverflow, IntegerOverflow, HeapOutOfBounds, IntegerDivisionByZero, BadConversionToInteger, User}
 use Rattle.s390x_base.specs.declared.ir.MachMemFlags.{MachMemFlags}
-use Rattle.s390x_words.specs.Marks.{among, word, after_word}
-use Rattle.s390x_words.specs.Numbers.{decimal_of, natural_of, W32}
+use Rattle.s390x_words.specs.Marks.{among}
+use Rattle.s390x_words.specs.Numbers.{W32}
 use Rattle.s390x_words.specs.Atoms.{real_text, reg_text, IsReg, real_of, reg_of, IsMask, mask_of, trap_text, trap_of, aligned_text, trap_suffix, access_text, IsSuffix, suffix_of, access_of, bool_text, bool_of, name_of}
 use Rattle.s390x_words.proofs.Avoids.{Avoids, Avoids-test, Avoids-append, Avoids-fewer, covers, marks, Solid, Ends, word-is, after-is}
 use Rattle.s390x_words.proofs.Digits.{decimal-back, decimal-solid, natural-back, small_mod}

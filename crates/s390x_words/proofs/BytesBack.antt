@@ -1,14 +1,11 @@
 -- Bytes and starting values in hex, and facilities: reading gives back what was printed.
-use Rattle.std.proofs.Common.{◌≡◌, ℕ, zero, suc, ◌+◌, ◌-◌, ◌*◌, ◌/◌, ◌%◌, ◌^◌, ◌<◌, ◌≤◌, Bool, true, false, List, [], ◌∷◌, ◌++◌, length, refl, sym, ap, ◌∙◌, arith, append_assoc, append-nil}
-use Rattle.std.specs.Prelude.{◌==◌, ◌||◌, codes, slice_index, nat_lt, Result, Ok, Err}
+use Rattle.std.proofs.Common.{◌≡◌, ℕ, zero, suc, ◌+◌, ◌*◌, ◌/◌, ◌%◌, ◌^◌, ◌<◌, ◌≤◌, Bool, true, false, List, [], ◌∷◌, ◌++◌, refl, ap, ◌∙◌, arith}
+use Rattle.std.specs.Prelude.{◌==◌, ◌||◌, codes, slice_index}
 use Rattle.std.specs.Str.{bytes_eq}
-use Rattle.std.proofs.lemmas.Bool.Decides.{nat_tests}
 use Rattle.std.proofs.lemmas.Nat.{pow-add}
 use Rattle.std.proofs.Math.Pow.{pow_mono}
-use Rattle.hex.specs.Hex.{encode_lower, encode_with, decode_of, decode_pairs, IsBytes, lower_digits, hex_digit_value, pair_value, value_at, digit_or_error, ◌>>=◌}
-use Rattle.hex.specs.declared.error.FromHexError.{FromHexError}
+use Rattle.hex.specs.Hex.{encode_lower, encode_with, IsBytes, lower_digits}
 use Rattle.hex.proofs.HexLemmas.{decode_of-encode_lower}
-use Rattle.s390x_base.specs.Registers.{RealRegister, IsRegister}
 use Rattle.s390x_base.specs.declared.regs.RegClass.{RegClass}
 use Rattle.s390x_base.specs.declared.regs.RegClass.TheVariants.{Int, Float}
 use Rattle.s390x_inst.specs.declared.state.IsaFlags.{IsaFlags}

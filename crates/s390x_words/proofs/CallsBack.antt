@@ -1,17 +1,15 @@
 -- The parts of calls: reading gives back what was printed.
-use Rattle.std.proofs.Common.{◌≡◌, ℕ, ◌<◌, ◌^◌, Bool, true, false, List, [], ◌∷◌, ◌++◌, length, refl, sym, ap, ◌∙◌, subst, arith, append_assoc, length-append}
-use Rattle.std.specs.Prelude.{◌==◌, codes, slice_index, drop}
+use Rattle.std.proofs.Common.{◌≡◌, ℕ, ◌<◌, ◌^◌, true, false, List, [], ◌∷◌, ◌++◌, length, refl, sym, ap, ◌∙◌, subst, arith, append_assoc, length-append}
+use Rattle.std.specs.Prelude.{◌==◌, codes, slice_index}
 use Rattle.std.specs.Str.{bytes_eq}
 use Rattle.std.specs.Fmt.{decimal, signed_decimal}
 use Rattle.std.proofs.lemmas.Fmt.{decimal_nonempty}
-use Rattle.std.proofs.lemmas.Bool.Decides.{nat_tests}
-use Rattle.s390x_base.specs.Registers.{RealRegister, IsRegister}
+use Rattle.s390x_base.specs.Registers.{IsRegister}
 use Rattle.s390x_base.specs.declared.ir.MachLabel.{MachLabel}
 use Rattle.s390x_base.specs.declared.ir.ValueType.{ValueType}
 use Rattle.s390x_base.specs.declared.ir.ValueType.TheVariants as T
 use Rattle.s390x_base.specs.declared.regs.Reg.{Reg}
 use Rattle.s390x_base.specs.declared.regs.Reg.TheVariants.{Real, Virtual}
-use Rattle.s390x_base.specs.declared.regs.RegClass.TheVariants.{Int, Float}
 use Rattle.s390x_inst.specs.declared.calls.ArgPair.{ArgPair}
 use Rattle.s390x_inst.specs.declared.calls.RetPair.{RetPair}
 use Rattle.s390x_inst.specs.declared.calls.CallArgPair.{CallArgPair}
@@ -25,13 +23,11 @@ use Rattle.s390x_inst.specs.declared.calls.TryCallHandler.TheVariants.{Tag, Defa
 use Rattle.s390x_inst.specs.declared.calls.SymbolReloc.{SymbolReloc}
 use Rattle.s390x_inst.specs.declared.calls.SymbolReloc.TheVariants.{Absolute}
 use Rattle.s390x_words.specs.Marks.{word, after_word, past}
-use Rattle.s390x_words.specs.Numbers.{natural_of, integer_of, IsBelow, signed_limit, W32, S64}
-use Rattle.s390x_words.specs.Found.{found}
+use Rattle.s390x_words.specs.Numbers.{natural_of, integer_of, W32, S64}
 use Rattle.s390x_words.specs.Operators.{type_text}
 use Rattle.s390x_words.specs.Atoms.{real_text, real_of, reg_text, reg_of, IsReg, name_of}
-use Rattle.s390x_words.specs.Lists.{list_text, list_of, AllItems}
+use Rattle.s390x_words.specs.Lists.{list_text}
 use Rattle.s390x_words.specs.Calls.{target_text, IsTarget, target_of, reloc_text, IsReloc, reloc_of, pair_text, location_text, result_text, IsLocation, IsResult, type_of, location_of, result_of, handler_text, IsHandler, handler_of, TryPart, NoTry, Goes, try_text, IsTry, try_of, after_try, arg_text, IsArg, arg_of, ret_text, IsRet, ret_of, use_text, IsUse, use_of, label_text, IsLabel, label_of}
-use Rattle.s390x_words.specs.declared.operators.TheConstants.{ALL_TYPE}
 use Rattle.s390x_words.proofs.Avoids.{Avoids, Avoids-test, Avoids-append, Avoids-fewer, marks, Solid, Ends, word-is, after-is, past-is}
 use Rattle.s390x_words.proofs.Digits.{decimal-solid, decimal-digits, signed-solid, natural-back, integer-back, no_digits}
 use Rattle.s390x_words.proofs.AtomsBack.{real-back, real-solid, reg-back, reg-solid, name-back, name-solid}

@@ -1,9 +1,9 @@
 -- Lists: reading gives back what was printed.
-use Rattle.std.proofs.Common.{◌≡◌, ℕ, ◌<◌, Bool, true, false, List, [], ◌∷◌, ◌++◌, length, refl, sym, ap, ◌∙◌, arith, append_assoc, length-append}
+use Rattle.std.proofs.Common.{◌≡◌, ℕ, ◌<◌, false, List, [], ◌∷◌, ◌++◌, length, refl, ap, ◌∙◌, arith, append_assoc}
 use Rattle.std.specs.Prelude.{◌==◌, if◌then◌else◌}
 use Rattle.std.proofs.lemmas.Bool.Decides.{nat_tests}
-use Rattle.s390x_words.specs.Marks.{among, upto, past}
-use Rattle.s390x_words.specs.Lists.{more_text, open_text, list_text, AllItems, begins_element, elements, list_of}
+use Rattle.s390x_words.specs.Marks.{upto, past}
+use Rattle.s390x_words.specs.Lists.{more_text, open_text, list_text, AllItems, elements, list_of}
 use Rattle.s390x_words.proofs.Avoids.{Avoids, Avoids-append, Avoids-fewer, marks, Solid, Ends, upto-is, past-is}
 
 -- the bytes that stand in no element

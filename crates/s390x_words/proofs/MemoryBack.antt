@@ -1,5 +1,5 @@
 -- Memory operands: reading gives back what was printed.
-use Rattle.std.proofs.Common.{◌≡◌, ℕ, ◌<◌, Bool, true, false, List, [], ◌∷◌, ◌++◌, refl, sym, ap, ◌∙◌, arith, append_assoc, ℤ}
+use Rattle.std.proofs.Common.{◌≡◌, ℕ, ◌<◌, List, [], ◌∷◌, ◌++◌, refl, sym, ap, ◌∙◌, arith, append_assoc, ℤ}
 use Rattle.std.specs.Fmt.{decimal, signed_decimal}
 use Rattle.s390x_base.specs.declared.ir.MachMemFlags.{MachMemFlags}
 use Rattle.s390x_base.specs.declared.regs.Reg.{Reg}
@@ -13,7 +13,7 @@ use Rattle.s390x_words.specs.Memory.{form_text, form_of, indexed_text, offset_te
 use Rattle.s390x_words.specs.declared.memory.MemoryForm.{MemoryForm}
 use Rattle.s390x_words.specs.declared.memory.MemoryForm.TheVariants as F
 use Rattle.s390x_words.specs.declared.memory.TheConstants.{ALL_FORMS}
-use Rattle.s390x_words.proofs.Avoids.{Avoids, Avoids-test, Avoids-append, Avoids-fewer, marks, Solid, Ends, word-is, after-is, past-is}
+use Rattle.s390x_words.proofs.Avoids.{Avoids, Avoids-test, Avoids-append, Avoids-fewer, marks, Solid, word-is, after-is, past-is}
 use Rattle.s390x_words.proofs.Digits.{decimal-solid, signed-solid, natural-back, integer-back, signed_wide}
 use Rattle.s390x_words.proofs.AtomsBack.{reg-back, reg-solid, name-back, name-solid, access-back, access-avoids}
 

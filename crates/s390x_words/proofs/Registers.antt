@@ -1,11 +1,11 @@
 -- The members of a set, in order.
-use Rattle.std.proofs.Common.{◌≡◌, ℕ, zero, suc, ◌<◌, ◌≤◌, Bool, true, false, List, [], ◌∷◌, ◌++◌, refl, sym, ap, ◌∙◌, ◌⊎◌, inl, inr, arith}
+use Rattle.std.proofs.Common.{◌≡◌, ℕ, zero, suc, ◌<◌, ◌≤◌, Bool, true, false, List, [], ◌∷◌, ◌++◌, refl, sym, ap, ◌∙◌, inl, inr, arith}
 use Rattle.std.specs.Prelude.{◌==◌, ◌||◌, ◌&&◌, if◌then◌else◌}
 use Rattle.std.proofs.lemmas.Bool.Decides.{nat_tests}
 use Rattle.s390x_base.specs.Registers.{RealRegister, general, vector, IsRegister}
 use Rattle.s390x_words.specs.Lists.{AllItems}
 use Rattle.s390x_words.specs.Sets.{members_below, members, same_register, is_in}
-use Rattle.s390x_words.proofs.Members.{either, register-self, or-false}
+use Rattle.s390x_words.proofs.Members.{either, or-false}
 
 all_append : {A : Type 0} (P : A → Type 0) (a b : List A) → AllItems P a → AllItems P b → AllItems P (a ++ b)
 all_append P [] b h k = k

@@ -1,6 +1,6 @@
 -- Lists: `[x,y]`, `[]`.
 use Rattle.std.specs.Prelude.{ℕ, Bool, List, [], ◌∷◌, ◌++◌, length, codes, if◌then◌else◌, ◌==◌}
-use Rattle.s390x_words.specs.Marks.{among, upto, past}
+use Rattle.s390x_words.specs.Marks.{among, upto}
 
 abbrev pub more_text : {A : Type 0} → (A → List ℕ) → List A → List ℕ
 more_text spelling [] = []

@@ -1,5 +1,5 @@
 -- Texts as words between marks.
-use Rattle.std.specs.Prelude.{ℕ, Bool, true, false, List, [], ◌∷◌, codes, if◌then◌else◌, ◌==◌, ◌||◌, drop}
+use Rattle.std.specs.Prelude.{ℕ, Bool, false, List, [], ◌∷◌, codes, if◌then◌else◌, ◌==◌, ◌||◌, drop}
 
 abbrev pub among : ℕ → List ℕ → Bool
 among x [] = false
