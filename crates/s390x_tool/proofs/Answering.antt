@@ -92,7 +92,7 @@ pub image_runs : RunsWhereLinked → (base : ℕ) (j : Job) (bytes : List ℕ) �
     → RunsAsTyped (trees_of j.function) (record { base = base; bytes = bytes })
 image_runs law base j bytes image =
     let same : bytes ≡ image.code.bytes.items = image.filled ∙ rw image.is.emitted.relocs refl in
-    let runs = law (trees_of j.function) (constants_of j.function) image.code base (symbols_of j)
+    let runs = law j.info.isa_flags (trees_of j.function) (constants_of j.function) image.code base (symbols_of j)
     (second_none (start_cause j.state) _ image.is.valid) image.is.ranges image.is.emitted image.linked in
     let P : List ℕ → Type 0 = λ bs. RunsAsTyped (trees_of j.function) (record { base = base; bytes = bs }) in
     subst P (sym same) runs
