@@ -1,5 +1,7 @@
 -- Where the registers of an instruction are general ones, its row can be encoded.
 use Rattle.std.proofs.Common.{◌≡◌, ℕ, Bool, true, false, not, ◌&&◌, ◌||◌, cond, Option, None, Some, refl, ap, ◌∙◌, nat_eq}
+use Rattle.std.proofs.Common.{Result, Ok, Err, MatchResult}
+use Rattle.s390x_base.specs.declared.error.EmitError.{EmitError}
 use Rattle.std.proofs.lemmas.Bool.{and_parts, and_from, not-true}
 use Rattle.s390x_base.specs.Regs.{number_of, is_int}
 use Rattle.s390x_base.specs.declared.regs.RegClass.{RegClass}
@@ -123,3 +125,16 @@ access_encodes a n = implied (is_general a) _ (λ g. and_from (may_stand_first 0
 -- an output that is an input, and another test
 pub reused_tested_encodes : (a b : Reg) (t : Bool) (o : Option RegisterRow) → encodes (is_general a) o ≡ true → encodes (reuses a b && t) o ≡ true
 reused_tested_encodes a b t o e = stronger (reuses a b && t) (is_general a) o (λ h. reused_general a b (and_parts (reuses a b) t h).0) e
+
+pub indexed_encodes : (opcode : ℕ) (r1 r2 r3 : Reg) → takes_general (Some opcode) ≡ true → (not (is_general r1 && is_general r2 && is_general r3) || (may_stand_first opcode r1 && encodes_general r2 && encodes_general r3)) ≡ true
+indexed_encodes opcode r1 r2 r3 h =
+    let t = and_parts (not (is_first_float opcode)) (not (is_second_float opcode)) h in
+    implied (is_general r1 && is_general r2 && is_general r3) _ (λ g.
+    let p = and_parts (is_general r1 && is_general r2) (is_general r3) g in
+    let q = and_parts (is_general r1) (is_general r2) p.0 in
+    and_from (may_stand_first opcode r1 && encodes_general r2) (encodes_general r3) (and_from (may_stand_first opcode r1) (encodes_general r2) (stands_first opcode r1 t.0 (one_general r1 q.0)) (one_general r2 q.1)) (one_general r3 p.1))
+
+-- what both answers say, in other words
+pub matched : {T : Type 0} (P P' : T → Type 0) (Q Q' : EmitError → Type 0) (r : Result T EmitError) → MatchResult r P Q → ((x : T) → P x → P' x) → ((e : EmitError) → Q e → Q' e) → MatchResult r P' Q'
+matched P P' Q Q' (Ok x) m f g = f x m
+matched P P' Q Q' (Err e) m f g = g e m

@@ -2,13 +2,13 @@
 use Rattle.std.specs.Prelude.{ℕ, Bool, true, not, ◌&&◌, ◌||◌, Option, None, Some}
 use Rattle.s390x_base.specs.Regs.{number_of}
 use Rattle.s390x_inst.specs.declared.inst.Inst.{Inst}
-use Rattle.s390x_inst.specs.declared.inst.Inst.TheVariants.{AluRUImm16Shifted, AluRUImm32Shifted, SMulWide, UMulWide, Flogr, ShiftRR, RxSBG, RxSBGTest, Mov64, MovPReg, Mov32, Mov32Imm, Mov32SImm16, Mov64SImm16, Mov64SImm32, Mov64UImm16Shifted, Mov64UImm32Shifted, Insert64UImm16Shifted, Insert64UImm32Shifted, CMov32, CMov64, CMov32SImm16, CMov64SImm16, Extend, LoadAR, InsertAR, Fence, Nop2}
-use Rattle.s390x_steps.specs.MachineInstruction.{MachineInstruction, rr, rre, rrf_ab, rrf_cde, ri_a, rie_d, rie_f, rie_g, ril_a, rsy}
-use Rattle.s390x_steps.specs.General.{four_bits}
+use Rattle.s390x_inst.specs.declared.inst.Inst.TheVariants.{AluRUImm16Shifted, AluRUImm32Shifted, SMulWide, UMulWide, Flogr, ShiftRR, RxSBG, RxSBGTest, Mov64, MovPReg, Mov32, Mov32Imm, Mov32SImm16, Mov64SImm16, Mov64SImm32, Mov64UImm16Shifted, Mov64UImm32Shifted, Insert64UImm16Shifted, Insert64UImm32Shifted, CMov32, CMov64, CMov32SImm16, CMov64SImm16, Extend, LoadAR, InsertAR, LoadIndexedAddr, LoadLogicalIndexedAddr, Fence, Nop2}
+use Rattle.s390x_steps.specs.MachineInstruction.{MachineInstruction, rr, rre, rrf_ab, rrf_cde, ri_a, rie_d, rie_f, rie_g, ril_a, rsy, rxy}
+use Rattle.s390x_steps.specs.General.{four_bits, low_displacement}
 use Rattle.s390x_enc.specs.Operands.{is_general, is_first_float, is_second_float, may_stand_first, may_stand_second}
 use Rattle.s390x_steps.specs.Alone.{Alone}
 use Rattle.s390x_emit_int.specs.declared.alone.RegisterRow.{RegisterRow}
-use Rattle.s390x_emit_int.specs.declared.alone.RegisterRow.TheVariants.{Rr, Rre, RrfAb, RrfCde, RiA, RieD, RieF, RieG, RilA, Rsy}
+use Rattle.s390x_emit_int.specs.declared.alone.RegisterRow.TheVariants.{Rr, Rre, RrfAb, RrfCde, RiA, RieD, RieF, RieG, RilA, Rsy, Rxy}
 use Rattle.s390x_emit_int.specs.declared.alone.Group.{Group}
 use Rattle.s390x_emit_int.specs.declared.alone.Group.TheVariants.{Arithmetic, Bits, Moves}
 use Rattle.s390x_emit_int.specs.declared.opcode.ShortOpcode.{ShortOpcode}
@@ -27,6 +27,7 @@ instruction_of (RilA opcode r1 imm) = ril_a (opcode_of opcode) (number_of r1) im
 instruction_of (RrfCde opcode r1 r2 mask) = rrf_cde opcode (number_of r1) (number_of r2) (four_bits mask) 0
 instruction_of (RieF opcode r1 r2 first end rotated) = rie_f opcode (number_of r1) (number_of r2) first end rotated
 instruction_of (RieG opcode r1 imm mask) = rie_g opcode (number_of r1) imm (four_bits mask)
+instruction_of (Rxy opcode r1 b2 x2 displacement) = rxy opcode (number_of r1) (number_of b2) (number_of x2) (low_displacement displacement)
 instruction_of (Rsy opcode r1 r3 b2 amount) = rsy opcode (number_of r1) (number_of r3) (number_of b2) amount
 
 abbrev pub alone_of : Found → Alone
@@ -60,6 +61,8 @@ group_of (CMov64SImm16 rd mask ri imm) = Moves
 group_of (Extend rd rn signed from to) = Moves
 group_of (LoadAR rd ar) = Moves
 group_of (InsertAR rd ri ar) = Moves
+group_of (LoadIndexedAddr rd base index offset size) = Moves
+group_of (LoadLogicalIndexedAddr rd base index offset size) = Moves
 group_of Fence = Moves
 group_of Nop2 = Moves
 group_of _ = Arithmetic
@@ -75,6 +78,7 @@ can_encode (RilA opcode r1 imm) = is_general r1
 can_encode (RrfCde opcode r1 r2 mask) = is_general r1 && is_general r2
 can_encode (RieF opcode r1 r2 first end rotated) = is_general r1 && is_general r2
 can_encode (RieG opcode r1 imm mask) = is_general r1
+can_encode (Rxy opcode r1 b2 x2 displacement) = may_stand_first opcode r1 && is_general b2 && is_general x2
 can_encode (Rsy opcode r1 r3 b2 amount) = is_general r1 && is_general r3 && is_general b2
 
 -- where a test holds, a row can be encoded; no row always can

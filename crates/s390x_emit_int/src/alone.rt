@@ -2,7 +2,7 @@
 ghost use Rattle.std.specs.Prelude.{◌≡◌, ◌≤◌, ◌<◌, ◌&&◌, true, false, Some, MatchResult, IfSome, nat_eq, pos};
 ghost use Rattle.std.specs.Option.{option_map};
 ghost use Rattle.s390x_base.specs.Regs.{number_of};
-ghost use Rattle.s390x_steps.specs.General.{is_general, reuses, low_halfword, low_word};
+ghost use Rattle.s390x_steps.specs.General.{is_general, reuses, low_halfword, low_word, low_displacement};
 ghost use Rattle.s390x_steps.specs.MachineInstruction.{bytes_of, size_of};
 ghost use Rattle.s390x_steps.specs.Opcodes.{alu_three, alu_two, cmp_two, unary_two, alu_halfword, alu_three_halfword, alu_signed_word, alu_unsigned_word, cmp_halfword, cmp_signed_word, cmp_unsigned_word};
 ghost use Rattle.s390x_steps.specs.Alone.{alone, alone_with, two_operands, two_row, unary_row, three_row, halfword_row, word_row, three_halfword_row};
@@ -12,10 +12,10 @@ ghost use Rattle.s390x_emit_int.specs.declared.alone.Group.TheVariants.{Arithmet
 use crate::bits::find_bits;
 use crate::moves::find_move;
 use crate::opcode::ShortOpcode;
-use s390x_base::{Code, EmitError, Reg, RegClass};
+use s390x_base::{Code, EmitError, Reg, RegClass, SImm20};
 use s390x_enc::{
     enc_ri_a, enc_rie_d, enc_rie_f, enc_rie_g, enc_ril_a, enc_rr, enc_rre, enc_rrf_ab, enc_rrf_cde,
-    enc_rsy,
+    enc_rsy, enc_rxy,
 };
 use s390x_inst::{ALUOp, CmpOp, Inst, UnaryOp};
 
@@ -83,6 +83,13 @@ pub enum RegisterRow {
         b2: Reg,
         amount: u8,
     },
+    Rxy {
+        opcode: u16,
+        r1: Reg,
+        b2: Reg,
+        x2: Reg,
+        displacement: SImm20,
+    },
 }
 
 /// Which part of the code knows an instruction's row.
@@ -145,6 +152,13 @@ impl RegisterRow {
                 b2,
                 amount,
             } => enc_rsy(*opcode, *r1, *r3, *b2, u32::from(*amount)),
+            RegisterRow::Rxy {
+                opcode,
+                r1,
+                b2,
+                x2,
+                displacement,
+            } => enc_rxy(*opcode, *r1, *b2, *x2, low_displacement(*displacement)),
         }
     }
 
@@ -164,9 +178,18 @@ impl RegisterRow {
             | RegisterRow::RieF { .. }
             | RegisterRow::RieG { .. }
             | RegisterRow::RilA { .. }
-            | RegisterRow::Rsy { .. } => 6,
+            | RegisterRow::Rsy { .. }
+            | RegisterRow::Rxy { .. } => 6,
         }
     }
+}
+
+// The 20 bits of a displacement, in two's complement.
+fn low_displacement(displacement: SImm20) -> u32
+    ensures value { result ≡ low_displacement displacement }
+    ensures below { result < 1048576 }
+{
+    i64::from(displacement.value()).rem_euclid(1048576) as u32
 }
 
 /// Whether the register is a real Int one.
@@ -234,6 +257,16 @@ fn three_opcode(op: ALUOp) -> Option<u16>
         ALUOp::Orr64 => Some(0xb9e6),
         ALUOp::Xor32 => Some(0xb9f7),
         ALUOp::Xor64 => Some(0xb9e7),
+        ALUOp::NotAnd32 => Some(0xb974),
+        ALUOp::NotAnd64 => Some(0xb964),
+        ALUOp::NotOrr32 => Some(0xb976),
+        ALUOp::NotOrr64 => Some(0xb966),
+        ALUOp::NotXor32 => Some(0xb977),
+        ALUOp::NotXor64 => Some(0xb967),
+        ALUOp::AndNot32 => Some(0xb9f5),
+        ALUOp::AndNot64 => Some(0xb9e5),
+        ALUOp::OrrNot32 => Some(0xb975),
+        ALUOp::OrrNot64 => Some(0xb965),
         _ => None,
     }
 }
@@ -294,6 +327,8 @@ fn unary_opcode(op: UnaryOp) -> Option<u16>
         UnaryOp::Neg64Ext32 => Some(0xb913),
         UnaryOp::BSwap32 => Some(0xb91f),
         UnaryOp::BSwap64 => Some(0xb90f),
+        UnaryOp::Clz64 => Some(0xb968),
+        UnaryOp::Ctz64 => Some(0xb969),
         _ => None,
     }
 }
@@ -328,6 +363,12 @@ fn unary_row(op: UnaryOp, r1: Reg, r2: Reg) -> Option<RegisterRow>
             r1,
             r2,
             mask: 0,
+        }),
+        UnaryOp::PopcntReg => Some(RegisterRow::RrfCde {
+            opcode: 0xb9e1,
+            r1,
+            r2,
+            mask: 8,
         }),
         _ => two_row(unary_opcode(op), r1, r2),
     }
@@ -678,6 +719,8 @@ fn find_group(inst: &Inst) -> Group
         | Inst::Extend { .. }
         | Inst::LoadAR { .. }
         | Inst::InsertAR { .. }
+        | Inst::LoadIndexedAddr { .. }
+        | Inst::LoadLogicalIndexedAddr { .. }
         | Inst::Fence
         | Inst::Nop2 => Group::Moves,
         _ => Group::Arithmetic,

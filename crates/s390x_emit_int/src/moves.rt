@@ -2,19 +2,20 @@
 ghost use Rattle.std.specs.Prelude.{◌≡◌, ◌<◌, ◌&&◌, true, Some, IfSome};
 ghost use Rattle.std.specs.Option.{option_map};
 ghost use Rattle.s390x_base.specs.Regs.{number_of};
-ghost use Rattle.s390x_steps.specs.General.{is_general, is_access, reuses, four_bits, low_halfword};
+ghost use Rattle.s390x_steps.specs.General.{is_general, is_access, reuses, four_bits, low_halfword, low_displacement};
 ghost use Rattle.s390x_steps.specs.MachineInstruction.{rr, rrf_cde, rie_g};
-ghost use Rattle.s390x_steps.specs.Opcodes.{of_two, of_four, load_part, load_half, insert_part, insert_half, extend_to_word, extend_to_doubleword, extend_two};
-ghost use Rattle.s390x_steps.specs.Alone.{alone, alone_with, two_row};
+ghost use Rattle.s390x_steps.specs.Opcodes.{of_two, of_four, load_part, load_half, insert_part, insert_half, extend_to_word, extend_to_doubleword, extend_two, indexed_opcode, logical_indexed_opcode};
+ghost use Rattle.s390x_steps.specs.Alone.{alone, alone_with, two_row, indexed_row};
 ghost use Rattle.s390x_emit_int.specs.Alone.{instruction_of, alone_of, opcode_of, group_of, encodes, takes_general};
 ghost use Rattle.s390x_emit_int.specs.declared.alone.Group.TheVariants.{Moves};
 
 use crate::alone::{
     Alone, RegisterRow, alone_with, bits_of_halfword, bits_of_unsigned, bits_of_unsigned_halfword,
-    bits_of_word, general, halfword_row, is_reused, short, two_general, two_row, word_row,
+    bits_of_word, general, halfword_row, is_reused, short, three_general, two_general, two_row,
+    word_row,
 };
 use crate::opcode::ShortOpcode;
-use s390x_base::{Cond, Reg, gpr};
+use s390x_base::{Cond, Reg, SImm20, gpr};
 use s390x_inst::Inst;
 
 /// One of two opcodes by its number.
@@ -126,6 +127,57 @@ fn conditional_immediate(opcode: u16, rd: Reg, imm: i16, cond: Cond) -> Option<R
         imm: bits_of_halfword(imm),
         mask: cond.bits(),
     })
+}
+
+// The opcode of an indexed address, by the size of its elements.
+fn indexed_opcode(size: u8) -> Option<u16>
+    ensures value { result ≡ indexed_opcode size }
+    ensures general { takes_general result ≡ true }
+{
+    match size {
+        1 => Some(0xe362),
+        2 => Some(0xe364),
+        3 => Some(0xe366),
+        4 => Some(0xe368),
+        _ => None,
+    }
+}
+
+fn logical_indexed_opcode(size: u8) -> Option<u16>
+    ensures value { result ≡ logical_indexed_opcode size }
+    ensures general { takes_general result ≡ true }
+{
+    match size {
+        1 => Some(0xe363),
+        2 => Some(0xe365),
+        3 => Some(0xe367),
+        4 => Some(0xe369),
+        _ => None,
+    }
+}
+
+#[tactic(auto, using(crate::proofs::Encoding::indexed_encodes))]
+fn indexed_row(
+    opcode: Option<u16>,
+    rd: Reg,
+    base: Reg,
+    index: Reg,
+    displacement: SImm20,
+) -> Option<RegisterRow>
+    requires { takes_general opcode ≡ true }
+    ensures row { option_map instruction_of result ≡ indexed_row opcode (number_of rd) (number_of base) (number_of index) (low_displacement displacement) }
+    ensures encodes { encodes (is_general rd && is_general base && is_general index) result ≡ true }
+{
+    match opcode {
+        Some(opcode) => Some(RegisterRow::Rxy {
+            opcode,
+            r1: rd,
+            b2: base,
+            x2: index,
+            displacement,
+        }),
+        None => None,
+    }
 }
 
 // BRANCH ON CONDITION that doesn't branch: to no address, or under a mask of zeros.
@@ -246,6 +298,32 @@ pub fn find_move(inst: &Inst) -> Option<Alone>
         Inst::InsertAR { rd, ri, ar } => alone_with(
             is_reused(&rd.to_reg(), ri) && access(*ar),
             access_row(rd.to_reg(), *ar),
+        ),
+        Inst::LoadIndexedAddr {
+            rd,
+            base,
+            index,
+            offset,
+            size,
+        } => alone_with(
+            three_general(&rd.to_reg(), base, index),
+            indexed_row(indexed_opcode(*size), rd.to_reg(), *base, *index, *offset),
+        ),
+        Inst::LoadLogicalIndexedAddr {
+            rd,
+            base,
+            index,
+            offset,
+            size,
+        } => alone_with(
+            three_general(&rd.to_reg(), base, index),
+            indexed_row(
+                logical_indexed_opcode(*size),
+                rd.to_reg(),
+                *base,
+                *index,
+                *offset,
+            ),
         ),
         Inst::Fence => alone_with(true, branch_nowhere(14, 0)),
         Inst::Nop2 => alone_with(true, branch_nowhere(0, 7)),

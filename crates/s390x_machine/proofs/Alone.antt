@@ -124,6 +124,16 @@ alu_three_rows A.Orr32 = record { some = omega arith; few = omega arith; lists =
 alu_three_rows A.Orr64 = record { some = omega arith; few = omega arith; lists = (refl, refl, refl); means = refl; single = refl }
 alu_three_rows A.Xor32 = record { some = omega arith; few = omega arith; lists = (refl, refl, refl); means = refl; single = refl }
 alu_three_rows A.Xor64 = record { some = omega arith; few = omega arith; lists = (refl, refl, refl); means = refl; single = refl }
+alu_three_rows A.NotAnd32 = record { some = omega arith; few = omega arith; lists = (refl, refl, refl); means = refl; single = refl }
+alu_three_rows A.NotAnd64 = record { some = omega arith; few = omega arith; lists = (refl, refl, refl); means = refl; single = refl }
+alu_three_rows A.NotOrr32 = record { some = omega arith; few = omega arith; lists = (refl, refl, refl); means = refl; single = refl }
+alu_three_rows A.NotOrr64 = record { some = omega arith; few = omega arith; lists = (refl, refl, refl); means = refl; single = refl }
+alu_three_rows A.NotXor32 = record { some = omega arith; few = omega arith; lists = (refl, refl, refl); means = refl; single = refl }
+alu_three_rows A.NotXor64 = record { some = omega arith; few = omega arith; lists = (refl, refl, refl); means = refl; single = refl }
+alu_three_rows A.AndNot32 = record { some = omega arith; few = omega arith; lists = (refl, refl, refl); means = refl; single = refl }
+alu_three_rows A.AndNot64 = record { some = omega arith; few = omega arith; lists = (refl, refl, refl); means = refl; single = refl }
+alu_three_rows A.OrrNot32 = record { some = omega arith; few = omega arith; lists = (refl, refl, refl); means = refl; single = refl }
+alu_three_rows A.OrrNot64 = record { some = omega arith; few = omega arith; lists = (refl, refl, refl); means = refl; single = refl }
 alu_three_rows _ = tt
 
 pub alu_two_rows : (op : ALUOp) → TwoRows (alu_two op) (computed (alu_computation op) Register (alu_two_rule op))
@@ -171,6 +181,8 @@ unary_rows U.Neg64 = record { some = omega arith; few = omega arith; lists = (re
 unary_rows U.Neg64Ext32 = record { some = omega arith; few = omega arith; lists = (refl, refl, refl); means = refl; single = refl }
 unary_rows U.BSwap32 = record { some = omega arith; few = omega arith; lists = (refl, refl, refl); means = refl; single = refl }
 unary_rows U.BSwap64 = record { some = omega arith; few = omega arith; lists = (refl, refl, refl); means = refl; single = refl }
+unary_rows U.Clz64 = record { some = omega arith; few = omega arith; lists = (refl, refl, refl); means = refl; single = refl }
+unary_rows U.Ctz64 = record { some = omega arith; few = omega arith; lists = (refl, refl, refl); means = refl; single = refl }
 unary_rows _ = tt
 
 pub lgr_row : TwoRow 0xb904 (computed (on_doublewords Move) Register Kept)

@@ -1,7 +1,7 @@
 -- The rows of the instructions on parts of registers, of shifts, rotations, extensions and conditional moves.
-use Rattle.std.proofs.Common.{◌≡◌, ℕ, ◌+◌, ◌*◌, ◌<◌, ◌≤◌, Some, None, Bool, true, false, cond, ◌&&◌, ◌||◌, refl, sym, ap, ◌∙◌, arith, nat_lt, nat_le, nat_eq, eqb-true, subst}
+use Rattle.std.proofs.Common.{◌≡◌, ℕ, ◌+◌, ◌*◌, ◌<◌, ◌≤◌, Some, None, Bool, true, false, cond, ◌&&◌, ◌||◌, refl, sym, ap, ◌∙◌, arith, nat_lt, nat_le, nat_eq, eqb-true, subst, Option}
 use Rattle.std.proofs.lemmas.Bool.Decides.{nat_tests}
-use Rattle.s390x_format.specs.declared.kind.FormatKind.TheVariants.{Rr, Rre, RrfAb, RrfCde, RiA, RieF, RieG, RilA, Rsy}
+use Rattle.s390x_format.specs.declared.kind.FormatKind.TheVariants.{Rr, Rre, RrfAb, RrfCde, RiA, RieF, RieG, RilA, Rsy, Rxy}
 use Rattle.s390x_format.specs.declared.row.Allowed.{Allowed}
 use Rattle.s390x_format.specs.declared.row.Allowed.TheVariants.{Any, FirstMask, CountMode, RotateBits, RotateBitsOrTest}
 use Rattle.s390x_format.specs.Lookup.{row_for}
@@ -15,7 +15,7 @@ use Rattle.s390x_inst.specs.declared.ops.RxSBGOp.{RxSBGOp}
 use Rattle.s390x_inst.specs.declared.ops.RxSBGOp.TheVariants as R
 use Rattle.s390x_lanes.specs.declared.operation.Signedness.TheVariants.{Signed, Unsigned}
 use Rattle.s390x_format.specs.declared.kind.FormatKind.{FormatKind}
-use Rattle.s390x_steps.specs.Opcodes.{of_one, of_two, of_four, alu_part, alu_half, load_part, load_half, insert_part, extend_to_word, extend_to_doubleword, extend_two, shift_storage, rotate_then}
+use Rattle.s390x_steps.specs.Opcodes.{of_one, of_two, of_four, alu_part, alu_half, load_part, load_half, insert_part, extend_to_word, extend_to_doubleword, extend_two, shift_storage, rotate_then, indexed_opcode, logical_indexed_opcode}
 use Rattle.s390x_steps.specs.MachineInstruction.{rrf_cde, rie_f}
 use Rattle.s390x_operations.specs.declared.effect.CodeRule.{CodeRule}
 use Rattle.s390x_operations.specs.declared.effect.CodeRule.TheVariants.{Kept, Set}
@@ -24,7 +24,7 @@ use Rattle.s390x_operations.specs.declared.operator.SelectedBitsOperator.TheVari
 use Rattle.s390x_operations.specs.declared.size.Size.TheVariants.{Word, Doubleword}
 use Rattle.s390x_operations.specs.declared.size.Width.TheVariants.{Bits8, Bits16, Bits32, Bits64}
 use Rattle.s390x_machine.specs.declared.meaning.Meaning.{Meaning}
-use Rattle.s390x_machine.specs.declared.meaning.Meaning.TheVariants.{Compute, MoveWhere, CountOnes, RotateThen, MultiplySigned, MultiplyLogical, FindLeftmostOne, BranchToRegister}
+use Rattle.s390x_machine.specs.declared.meaning.Meaning.TheVariants.{Compute, MoveWhere, CountOnes, RotateThen, MultiplySigned, MultiplyLogical, FindLeftmostOne, PutAny, BranchToRegister}
 use Rattle.s390x_machine.specs.declared.meaning.SecondOperand.{SecondOperand}
 use Rattle.s390x_machine.specs.declared.meaning.Shape.TheVariants.{Register, Immediate, ShiftedImmediate, Amount, AccessRegister}
 use Rattle.s390x_machine.specs.Computations.{Computation, word, doubleword, signed_halfword, on_words, on_doublewords, on_selected, with_second, extended_second, extension, part_mask, half_mask, part_operator, shift_operator, shift_size, shift_rule, rotate_operator, rotate_rule}
@@ -213,6 +213,35 @@ popcnt_row = record { some = omega arith; few = omega arith; lists = (refl, refl
 pub bcr_row : Meant Rr Any 0x07 BranchToRegister
 unfolding machine_rows row_for meaning_in meaning_of
 bcr_row = record { some = omega arith; few = omega arith; lists = (refl, refl, refl); means = refl; single = refl }
+
+-- ---- indexed addresses
+
+-- a row that puts any value, where there is one
+abbrev pub AnyRows : Option ℕ → Type 0
+AnyRows None = Unit {0}
+AnyRows (Some opcode) = Meant Rxy Any opcode PutAny
+
+any_rows : (one two three four : Bool) → AnyRows (cond one (Some 0xe362) (cond two (Some 0xe364) (cond three (Some 0xe366) (cond four (Some 0xe368) None))))
+unfolding machine_rows row_for meaning_in meaning_of
+any_rows true two three four = record { some = omega arith; few = omega arith; lists = (refl, refl, refl); means = refl; single = refl }
+any_rows false true three four = record { some = omega arith; few = omega arith; lists = (refl, refl, refl); means = refl; single = refl }
+any_rows false false true four = record { some = omega arith; few = omega arith; lists = (refl, refl, refl); means = refl; single = refl }
+any_rows false false false true = record { some = omega arith; few = omega arith; lists = (refl, refl, refl); means = refl; single = refl }
+any_rows false false false false = tt
+
+logical_any_rows : (one two three four : Bool) → AnyRows (cond one (Some 0xe363) (cond two (Some 0xe365) (cond three (Some 0xe367) (cond four (Some 0xe369) None))))
+unfolding machine_rows row_for meaning_in meaning_of
+logical_any_rows true two three four = record { some = omega arith; few = omega arith; lists = (refl, refl, refl); means = refl; single = refl }
+logical_any_rows false true three four = record { some = omega arith; few = omega arith; lists = (refl, refl, refl); means = refl; single = refl }
+logical_any_rows false false true four = record { some = omega arith; few = omega arith; lists = (refl, refl, refl); means = refl; single = refl }
+logical_any_rows false false false true = record { some = omega arith; few = omega arith; lists = (refl, refl, refl); means = refl; single = refl }
+logical_any_rows false false false false = tt
+
+pub indexed_rows : (size : ℕ) → AnyRows (indexed_opcode size)
+indexed_rows size = any_rows (nat_eq size 1) (nat_eq size 2) (nat_eq size 3) (nat_eq size 4)
+
+pub logical_indexed_rows : (size : ℕ) → AnyRows (logical_indexed_opcode size)
+logical_indexed_rows size = logical_any_rows (nat_eq size 1) (nat_eq size 2) (nat_eq size 3) (nat_eq size 4)
 
 -- ---- tests
 

@@ -13,7 +13,7 @@ use Rattle.s390x_inst.specs.declared.ops.ShiftOp.{ShiftOp}
 use Rattle.s390x_inst.specs.declared.ops.RxSBGOp.{RxSBGOp}
 use Rattle.s390x_inst.specs.declared.ops.RxSBGOp.TheVariants as R
 use Rattle.s390x_inst.specs.declared.inst.Inst.{Inst}
-use Rattle.s390x_inst.specs.declared.inst.Inst.TheVariants.{AluRRR, AluRR, AluRRSImm16, AluRSImm16, AluRSImm32, AluRUImm32, UnaryRR, CmpRR, CmpRSImm16, CmpRSImm32, CmpRUImm32, Mov64, MovPReg, Mov32, Mov32Imm, Mov32SImm16, Mov64SImm16, Mov64SImm32, AluRUImm16Shifted, AluRUImm32Shifted, SMulWide, UMulWide, Flogr, ShiftRR, RxSBG, RxSBGTest, Mov64UImm16Shifted, Mov64UImm32Shifted, Insert64UImm16Shifted, Insert64UImm32Shifted, CMov32, CMov64, CMov32SImm16, CMov64SImm16, Extend, LoadAR, InsertAR, Fence, Nop0, Nop2, Jump, CondBr, IndirectBr, Ret, LabelAddress}
+use Rattle.s390x_inst.specs.declared.inst.Inst.TheVariants.{AluRRR, AluRR, AluRRSImm16, AluRSImm16, AluRSImm32, AluRUImm32, UnaryRR, CmpRR, CmpRSImm16, CmpRSImm32, CmpRUImm32, Mov64, MovPReg, Mov32, Mov32Imm, Mov32SImm16, Mov64SImm16, Mov64SImm32, AluRUImm16Shifted, AluRUImm32Shifted, SMulWide, UMulWide, Flogr, ShiftRR, RxSBG, RxSBGTest, Mov64UImm16Shifted, Mov64UImm32Shifted, Insert64UImm16Shifted, Insert64UImm32Shifted, CMov32, CMov64, CMov32SImm16, CMov64SImm16, Extend, LoadAR, InsertAR, LoadIndexedAddr, LoadLogicalIndexedAddr, Fence, Nop0, Nop2, Jump, CondBr, IndirectBr, Ret, LabelAddress}
 use Rattle.s390x_format.specs.Formats.{length_of, layout_of}
 use Rattle.s390x_format.specs.Layout.{SlotsFit}
 use Rattle.s390x_format.specs.Rows.{is_allowed}
@@ -21,10 +21,10 @@ use Rattle.s390x_format.specs.View.{fields_of}
 use Rattle.s390x_format.specs.declared.row.Allowed.{Allowed}
 use Rattle.s390x_format.specs.declared.row.Allowed.TheVariants.{Any, CountMode, RotateBitsOrTest}
 use Rattle.s390x_format.specs.declared.kind.FormatKind.{FormatKind}
-use Rattle.s390x_format.specs.declared.kind.FormatKind.TheVariants.{Rr, Rre, RrfAb, RrfCde, RiA, RieD, RieF, RieG, RilA, Rsy}
-use Rattle.s390x_steps.specs.General.{is_general, is_even_pair, reuses, low_halfword, low_word, low_byte, four_bits, rotation, is_access}
-use Rattle.s390x_steps.specs.Opcodes.{alu_three, alu_two, cmp_two, unary_two, alu_halfword, alu_three_halfword, alu_signed_word, alu_unsigned_word, cmp_halfword, cmp_signed_word, cmp_unsigned_word, alu_part, alu_half, load_part, load_half, insert_part, insert_half, extend_two, shift_storage, rotate_then, rotate_then_test}
-use Rattle.s390x_steps.specs.Alone.{alone_with, two_operands, two_row, three_row, halfword_row, word_row, three_halfword_row, rotated_row}
+use Rattle.s390x_format.specs.declared.kind.FormatKind.TheVariants.{Rr, Rre, RrfAb, RrfCde, RiA, RieD, RieF, RieG, RilA, Rsy, Rxy}
+use Rattle.s390x_steps.specs.General.{is_general, is_even_pair, reuses, low_halfword, low_word, low_byte, four_bits, low_displacement, rotation, is_access}
+use Rattle.s390x_steps.specs.Opcodes.{alu_three, alu_two, cmp_two, unary_two, alu_halfword, alu_three_halfword, alu_signed_word, alu_unsigned_word, cmp_halfword, cmp_signed_word, cmp_unsigned_word, alu_part, alu_half, load_part, load_half, insert_part, insert_half, extend_two, shift_storage, rotate_then, rotate_then_test, indexed_opcode, logical_indexed_opcode}
+use Rattle.s390x_steps.specs.Alone.{alone_with, two_operands, two_row, three_row, halfword_row, word_row, three_halfword_row, rotated_row, indexed_row}
 use Rattle.s390x_steps.specs.Ranges.{IsMask}
 use Rattle.s390x_steps.specs.MachineInstruction.{MachineInstruction, bytes_of, size_of, rr, rre, rrf_ab, rrf_cde, ri_a, rie_d, rie_f, rie_g, ril_a, ril_c, rsy}
 use Rattle.s390x_steps.specs.Steps.{Step, Plain, Opening, Back, Break}
@@ -46,15 +46,15 @@ use Rattle.s390x_operations.specs.declared.operator.Operator.{Operator}
 use Rattle.s390x_operations.specs.declared.operator.Operator.TheVariants.{Move, Shift, SelectedBits, PopulationCountByByte}
 use Rattle.s390x_operations.specs.declared.stop.StopKind.{StopKind}
 use Rattle.s390x_machine.specs.declared.meaning.Meaning.{Meaning}
-use Rattle.s390x_machine.specs.declared.meaning.Meaning.TheVariants.{Compare, MoveWhere, CountOnes, RotateThen, MultiplySigned, MultiplyLogical, FindLeftmostOne, BranchToRegister}
+use Rattle.s390x_machine.specs.declared.meaning.Meaning.TheVariants.{Compare, MoveWhere, CountOnes, RotateThen, MultiplySigned, MultiplyLogical, FindLeftmostOne, PutAny, BranchToRegister}
 use Rattle.s390x_machine.specs.declared.meaning.Shape.TheVariants.{Register, ThreeRegisters, Immediate, ThreeImmediate, AccessRegister}
 use Rattle.s390x_machine.specs.declared.meaning.Action.{Action}
 use Rattle.s390x_machine.specs.declared.meaning.Action.TheVariants.{Perform, Branch as BranchAction}
-use Rattle.s390x_machine.specs.Computations.{Computation, Comparison, alu_computation, alu_three_rule, alu_two_rule, unary_computation, unary_rule, comparison, on_words, on_doublewords, word, signed_word, signed_halfword, on_immediate, compares_on_immediate, computes, compares, computes_immediate, compares_immediate, Second, with_rule, operand_of, doubleword, part_mask, half_mask, on_selected, part_operator, at_half, inserts_half, extension, shift_operator, shift_size, shift_rule, shift_computation, shifts, rotate_operator, rotate_rule, rotates_into, rotates_to_test, multiplies_signed, multiplies_logical, finds_leftmost, idles, copies_access, moves_where, moves_immediate_where}
+use Rattle.s390x_machine.specs.Computations.{Computation, Comparison, alu_computation, alu_three_rule, alu_two_rule, unary_computation, unary_rule, comparison, on_words, on_doublewords, word, signed_word, signed_halfword, on_immediate, compares_on_immediate, computes, compares, computes_immediate, compares_immediate, Second, with_rule, operand_of, doubleword, part_mask, half_mask, on_selected, part_operator, at_half, inserts_half, extension, shift_operator, shift_size, shift_rule, shift_computation, shifts, rotate_operator, rotate_rule, rotates_into, rotates_to_test, multiplies_signed, multiplies_logical, finds_leftmost, idles, puts_any, copies_access, moves_where, moves_immediate_where}
 use Rattle.s390x_machine.specs.Operands.{value_in, based, rotated_operand, performed_where}
 use Rattle.s390x_machine.specs.Forms.{Form, Performs, GoesTo, Chooses, Leads, Silent, no_code}
 use Rattle.s390x_format.specs.declared.fields.Fields.{Fields}
-use Rattle.s390x_machine.specs.Meanings.{action, names_pair, is_odd_pair, register_field}
+use Rattle.s390x_machine.specs.Meanings.{action, count_operator, names_pair, is_odd_pair, register_field}
 use Rattle.s390x_machine.specs.Typed.{At, FormStep, form_of, form_at}
 use Rattle.s390x_machine.specs.Match.{StepRuns, StepHolds, EveryRunOfTurns, EveryBlockRun, silent}
 use Rattle.s390x_machine.specs.Machine.{Run, Event, Went, Stopped, Acts}
@@ -64,8 +64,8 @@ use Rattle.s390x_machine.proofs.Fetching.{StandsAt}
 use Rattle.s390x_machine.proofs.Simulation.{RowAt, DoesAs, Coded, ValuesCoded, at_start, general_step}
 use Rattle.s390x_machine.proofs.Standing.{step_rows, offset_even, offset_small, inside_at, inside_first, next_place, block_at}
 use Rattle.s390x_machine.proofs.Stops.{never_by_values}
-use Rattle.s390x_machine.proofs.Rows.{general_number, nonzero_number, bcr_at, brcl_at, fits_rr, fits_rre, fits_rrf_ab, fits_rrf_cde, fits_rie_f, fits_rie_g, fits_rsy, larl_at}
-use Rattle.s390x_machine.proofs.Bits.{immediate_at, part_rows, half_rows, load_part_rows, load_half_rows, insert_part_rows, iihf_row, extends, extend_rows, ear_row, shift_meaning, shift_rows, rotate_allows, rotate_rows, any_mask, locr_row, locgr_row, lochi_row, locghi_row, popcnt_row, mgrk_row, mlgr_row, flogr_row, bcr_row, below, not_below, mask_allowed, rotation_allowed, test_allowed}
+use Rattle.s390x_machine.proofs.Rows.{general_number, nonzero_number, bcr_at, brcl_at, fits_rr, fits_rre, fits_rrf_ab, fits_rrf_cde, fits_rie_f, fits_rie_g, fits_rsy, fits_rxy, larl_at}
+use Rattle.s390x_machine.proofs.Bits.{immediate_at, part_rows, half_rows, load_part_rows, load_half_rows, insert_part_rows, iihf_row, extends, extend_rows, ear_row, shift_meaning, shift_rows, rotate_allows, rotate_rows, any_mask, locr_row, locgr_row, lochi_row, locghi_row, popcnt_row, AnyRows, indexed_rows, logical_indexed_rows, mgrk_row, mlgr_row, flogr_row, bcr_row, below, not_below, mask_allowed, rotation_allowed, test_allowed}
 use Rattle.s390x_machine.proofs.Alone.{TwoRow, ThreeRow, TwoRows, ThreeRows, second_register, computed, register_fields, alu_three_rows, alu_two_rows, cmp_rows, unary_rows, lgr_row, lr_row, two_at, three_at, ImmediateRows, compared, halfword_rows, three_halfword_rows, signed_word_rows, unsigned_word_rows, cmp_halfword_rows, cmp_signed_word_rows, cmp_unsigned_word_rows, iilf_row, lhi_row, lghi_row, lgfi_row, halfword_at, word_at, three_halfword_at, compare_halfword_at, compare_word_at, loosens, three_looser, two_looser, none_but_zero, PairRow, pair_at, Meant, meant_at, ri_a_at, ril_a_at, low_small}
 use Rattle.s390x_machine.proofs.Branches.{jump_runs, TwoBranches, choose_runs, leads_runs, returns_runs, address_runs}
 use Rattle.s390x_machine.proofs.Induction.{turns_of, one_step}
@@ -125,6 +125,10 @@ halfword_bits (negsuc a) = omega arith
 word_bits : (z : ℤ) → low_word z < 2 ^ 32
 word_bits (pos a) = omega arith
 word_bits (negsuc a) = omega arith
+
+displacement_bits : (z : ℤ) → low_displacement z < 2 ^ 20
+displacement_bits (pos a) = omega arith
+displacement_bits (negsuc a) = omega arith
 
 rotation_small : (z : ℤ) → rotation z < 64
 rotation_small (pos a) = omega arith
@@ -405,12 +409,20 @@ module _ (L : Layout) (all : AllPlaced L) (k : ℕ) (s : Step) (at : slice_get L
       let l = small h in
       pair_runs Rre Any 0xb983 pair (n ∷ 0 ∷ 0 ∷ 0 ∷ 0 ∷ 0 ∷ 0 ∷ 0 ∷ []) FindLeftmostOne (finds_leftmost pair n) (λ r. never_by_values (finds_leftmost pair n r) no_code refl (λ kind h. h)) is parts (omega arith) flogr_row l.1 (fits_rre 0xb983 pair n (omega arith) l.0 l.2) refl (λ r p. refl)
 
-  -- a count of the ones of each byte
-  count_runs : (fine : Bool) (d n : ℕ) → form_of L (Some s) ≡ Some (Performs false (computes Set (on_doublewords PopulationCountByByte) d d n) no_code) → step_parts s ≡ Row (rrf_cde 0xb9e1 d n 0 0) ∷ [] → IsTrue fine → (IsTrue fine → (d < 16) × (n < 16)) → StepRuns L k
+  -- a count of the ones of each byte, or of the register in mode 8
+  count_runs : (mode : ℕ) → mode < 16 → is_allowed CountMode (rrf_cde 0xb9e1 0 0 mode 0).slots ≡ true → (fine : Bool) (d n : ℕ) → form_of L (Some s) ≡ Some (Performs false (computes Set (on_doublewords (count_operator mode)) d d n) no_code) → step_parts s ≡ Row (rrf_cde 0xb9e1 d n mode 0) ∷ [] → IsTrue fine → (IsTrue fine → (d < 16) × (n < 16)) → StepRuns L k
   unfolding length_of
-  count_runs fine d n is parts h small =
+  count_runs mode few allowed fine d n is parts h small =
       let l = small h in
-      meant_runs RrfCde CountMode 0xb9e1 (d ∷ n ∷ 0 ∷ 0 ∷ 0 ∷ 0 ∷ 0 ∷ 0 ∷ 0 ∷ []) CountOnes (computes Set (on_doublewords PopulationCountByByte) d d n) (computes_always Set (on_doublewords PopulationCountByByte) d d n) is parts (omega arith) popcnt_row (fits_rrf_cde 0xb9e1 d n 0 (omega arith) l.0 l.1 (omega arith)) refl (λ r p. refl)
+      meant_runs RrfCde CountMode 0xb9e1 (d ∷ n ∷ 0 ∷ 0 ∷ mode ∷ 0 ∷ 0 ∷ 0 ∷ 0 ∷ []) CountOnes (computes Set (on_doublewords (count_operator mode)) d d n) (computes_always Set (on_doublewords (count_operator mode)) d d n) is parts (omega arith) popcnt_row (fits_rrf_cde 0xb9e1 d n mode (omega arith) l.0 l.1 few) allowed (λ r p. refl)
+
+  -- an indexed address, whose result is free
+  any_runs : (fine : Bool) (o : Option ℕ) → AnyRows o → (d base index displacement : ℕ) → form_of L (Some s) ≡ Some (Performs false (puts_any d) no_code) → step_parts s ≡ parts_or (alone_with fine (indexed_row o d base index displacement)) [] → FineOr (alone_with fine (indexed_row o d base index displacement)) ⊥ → (IsTrue fine → (d < 16) × (base < 16) × (index < 16)) → displacement < 2 ^ 20 → StepRuns L k
+  unfolding length_of
+  any_runs fine None row d base index displacement is parts h small ld = absurd h
+  any_runs fine (Some opcode) row d base index displacement is parts h small ld =
+      let l = small h in
+      meant_runs Rxy Any opcode (d ∷ base ∷ index ∷ 0 ∷ 0 ∷ 0 ∷ 0 ∷ 0 ∷ displacement ∷ []) PutAny (puts_any d) (λ r. never_by_values (puts_any d r) no_code refl (λ kind h. h)) is parts (omega arith) row (fits_rxy opcode d base index displacement row.few l.0 l.1 l.2 ld) refl (λ r p. refl)
 
   -- an instruction of one row of two registers, where its operator has one
   one_of_two : (fine : Bool) (o : Option ℕ) (meaning : Meaning) → TwoRows o meaning → (does operation : Registers → Operation) (d m : ℕ) → form_of L (Some s) ≡ Some (Performs false operation no_code) → step_parts s ≡ parts_or (alone_with fine (two_row o d m)) [] → FineOr (alone_with fine (two_row o d m)) ⊥ → (IsTrue fine → (d < 16) × (m < 16)) → ((r : Registers) (p : ℕ) → action meaning (register_fields d m 0) r p ≡ Perform (does r)) → ((r : Registers) → Refines (does r) (operation r)) → NeverStops operation → StepRuns L k
@@ -524,7 +536,9 @@ instruction_runs L all k (AluRRR op rd rn rm) at p fine =
 instruction_runs L all k (AluRR op rd ri rm) at p fine =
     one_of_two L all k (Plain (AluRR op rd ri rm)) at p (reuses rd ri && is_general rm) (alu_two op) (computed (alu_computation op) Register (alu_two_rule op)) (alu_two_rows op) (computes (alu_two_rule op) (alu_computation op) (number_of rd) (number_of rd) (number_of rm)) (computes (alu_two_rule op) (alu_computation op) (number_of rd) (number_of rd) (number_of rm)) (number_of rd) (number_of rm) refl refl fine (reused_small rd ri rm) (λ r q. refl) (λ r. exactly _) (computes_always (alu_two_rule op) (alu_computation op) (number_of rd) (number_of rd) (number_of rm))
 instruction_runs L all k (UnaryRR U.PopcntByte rd rn) at p fine =
-    count_runs L all k (Plain (UnaryRR U.PopcntByte rd rn)) at p (is_general rd && is_general rn) (number_of rd) (number_of rn) refl refl fine (two_small rd rn)
+    count_runs L all k (Plain (UnaryRR U.PopcntByte rd rn)) at p 0 (omega arith) refl (is_general rd && is_general rn) (number_of rd) (number_of rn) refl refl fine (two_small rd rn)
+instruction_runs L all k (UnaryRR U.PopcntReg rd rn) at p fine =
+    count_runs L all k (Plain (UnaryRR U.PopcntReg rd rn)) at p 8 (omega arith) refl (is_general rd && is_general rn) (number_of rd) (number_of rn) refl refl fine (two_small rd rn)
 instruction_runs L all k (UnaryRR op rd rn) at p fine =
     one_of_two L all k (Plain (UnaryRR op rd rn)) at p (is_general rd && is_general rn) (unary_two op) (computed (unary_computation op) Register (unary_rule op)) (unary_rows op) (computes (unary_rule op) (unary_computation op) (number_of rd) (number_of rd) (number_of rn)) (computes (unary_rule op) (unary_computation op) (number_of rd) (number_of rd) (number_of rn)) (number_of rd) (number_of rn) refl refl fine (two_small rd rn) (λ r q. refl) (λ r. exactly _) (computes_always (unary_rule op) (unary_computation op) (number_of rd) (number_of rd) (number_of rn))
 instruction_runs L all k (CmpRR op rn rm) at p fine =
@@ -595,6 +609,10 @@ instruction_runs L all k (CMov32SImm16 rd mask ri imm) at p fine =
     move_immediate_where_runs L all k (Plain (CMov32SImm16 rd mask ri imm)) at p 0xec42 Word lochi_row (reuses rd ri) mask (number_of rd) (low_halfword imm) refl refl fine (output_small rd ri) (halfword_bits imm)
 instruction_runs L all k (CMov64SImm16 rd mask ri imm) at p fine =
     move_immediate_where_runs L all k (Plain (CMov64SImm16 rd mask ri imm)) at p 0xec46 Doubleword locghi_row (reuses rd ri) mask (number_of rd) (low_halfword imm) refl refl fine (output_small rd ri) (halfword_bits imm)
+instruction_runs L all k (LoadIndexedAddr rd base index offset size) at p fine =
+    any_runs L all k (Plain (LoadIndexedAddr rd base index offset size)) at p (is_general rd && is_general base && is_general index) (indexed_opcode size) (indexed_rows size) (number_of rd) (number_of base) (number_of index) (low_displacement offset) refl refl fine (three_small rd base index) (displacement_bits offset)
+instruction_runs L all k (LoadLogicalIndexedAddr rd base index offset size) at p fine =
+    any_runs L all k (Plain (LoadLogicalIndexedAddr rd base index offset size)) at p (is_general rd && is_general base && is_general index) (logical_indexed_opcode size) (logical_indexed_rows size) (number_of rd) (number_of base) (number_of index) (low_displacement offset) refl refl fine (three_small rd base index) (displacement_bits offset)
 instruction_runs L all k Fence at p fine = fence_runs L all k (Plain Fence) at p refl refl
 instruction_runs L all k Nop2 at p fine = idle_runs L all k (Plain Nop2) at p refl refl
 instruction_runs L all k Nop0 at p fine = opening_runs L all k (Plain Nop0) at p refl refl

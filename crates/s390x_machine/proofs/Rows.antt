@@ -7,7 +7,7 @@ use Rattle.std.proofs.lemmas.Bool.{and_parts}
 use Rattle.s390x_base.specs.Regs.{number_of, is_int}
 use Rattle.s390x_base.specs.declared.regs.Reg.{Reg}
 use Rattle.s390x_base.specs.declared.regs.Reg.TheVariants.{Real, Virtual}
-use Rattle.s390x_format.specs.declared.kind.FormatKind.TheVariants.{Rr, Rre, RrfAb, RrfCde, RiA, RieD, RieF, RieG, RilA, RilC, Rsy, RilB}
+use Rattle.s390x_format.specs.declared.kind.FormatKind.TheVariants.{Rr, Rre, RrfAb, RrfCde, RiA, RieD, RieF, RieG, RilA, RilC, Rsy, RilB, Rxy}
 use Rattle.s390x_format.specs.Layout.{SlotsFit}
 use Rattle.s390x_format.specs.Formats.{layout_of, length_of}
 use Rattle.s390x_format.specs.Fits.{fields_from}
@@ -16,7 +16,7 @@ use Rattle.s390x_format.proofs.Encoding.{listed}
 use Rattle.s390x_format.specs.Fetch.{machine_rows}
 use Rattle.s390x_format.specs.Encoded.{IsEncoded}
 use Rattle.s390x_steps.specs.General.{is_general, is_nonzero}
-use Rattle.s390x_steps.specs.MachineInstruction.{bytes_of, rr, rre, rrf_ab, rrf_cde, ri_a, rie_d, rie_f, rie_g, ril_a, ril_c, rsy, ril_b}
+use Rattle.s390x_steps.specs.MachineInstruction.{bytes_of, rr, rre, rrf_ab, rrf_cde, ri_a, rie_d, rie_f, rie_g, ril_a, ril_c, rsy, ril_b, rxy}
 use Rattle.s390x_steps.specs.Rows.{half_distance}
 use Rattle.s390x_operations.specs.State.{State, sum64}
 use Rattle.s390x_operations.specs.Numbers.{low}
@@ -80,6 +80,9 @@ fits_rie_g opcode a bits mask o la lb lm = fields_from RieG (rie_g opcode a bits
 
 pub fits_rsy : (opcode a b base displacement : ℕ) → opcode < 65536 → a < 16 → b < 16 → base < 16 → displacement < 2 ^ 20 → SlotsFit (layout_of Rsy) (rsy opcode a b base displacement).slots
 fits_rsy opcode a b base displacement o la lb lc ld = fields_from Rsy (rsy opcode a b base displacement).slots refl (omega arith, (omega arith, (omega arith, (omega arith, (omega arith, (omega arith, (omega arith, (omega arith, (omega arith, (omega arith, tt))))))))))
+
+pub fits_rxy : (opcode a base index displacement : ℕ) → opcode < 65536 → a < 16 → base < 16 → index < 16 → displacement < 2 ^ 20 → SlotsFit (layout_of Rxy) (rxy opcode a base index displacement).slots
+fits_rxy opcode a base index displacement o la lb lc ld = fields_from Rxy (rxy opcode a base index displacement).slots refl (omega arith, (omega arith, (omega arith, (omega arith, (omega arith, (omega arith, (omega arith, (omega arith, (omega arith, (omega arith, tt))))))))))
 
 -- ---- the table lists them
 

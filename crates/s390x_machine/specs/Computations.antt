@@ -31,7 +31,7 @@ use Rattle.s390x_operations.specs.declared.operator.BitOperator.TheVariants.{And
 use Rattle.s390x_operations.specs.declared.operator.SelectedBitsOperator.{SelectedBitsOperator}
 use Rattle.s390x_operations.specs.declared.operator.SelectedBitsOperator.TheVariants as Select
 use Rattle.s390x_operations.specs.declared.effect.Effect.{Effect}
-use Rattle.s390x_operations.specs.declared.effect.Effect.TheVariants.{Compute, Compare, Test, MultiplyPair, FindLeftmostOne, Nothing}
+use Rattle.s390x_operations.specs.declared.effect.Effect.TheVariants.{Compute, Compare, Test, MultiplyPair, FindLeftmostOne, PutAny, Nothing}
 use Rattle.s390x_operations.specs.declared.effect.CodeRule.{CodeRule}
 use Rattle.s390x_operations.specs.declared.effect.CodeRule.TheVariants.{Kept, Set, Unstated}
 use Rattle.s390x_operations.specs.declared.effect.Operation.{Operation}
@@ -346,6 +346,10 @@ moves_where size second mask d m r = performed_where (is_selected mask r.code) (
 -- register d becomes an immediate there
 abbrev pub moves_immediate_where : Size → (mask d bits : ℕ) → Registers → Operation
 moves_immediate_where size mask d bits r = performed_where (is_selected mask r.code) (with_rule Kept (Compute O.Move size d (value_in size r d) (operand_of signed_halfword bits)))
+
+-- register d becomes any value
+abbrev pub puts_any : (d : ℕ) → Registers → Operation
+puts_any d r = with_rule Kept (PutAny d)
 
 -- nothing
 abbrev pub idles : Registers → Operation

@@ -6,7 +6,7 @@ use Rattle.s390x_base.specs.declared.ir.MachLabel.{MachLabel}
 use Rattle.s390x_base.specs.declared.trap.TrapKind.{TrapKind}
 use Rattle.s390x_base.specs.declared.trap.TrapKind.TheVariants.{IntegerDivisionByZero}
 use Rattle.s390x_inst.specs.declared.inst.Inst.{Inst}
-use Rattle.s390x_inst.specs.declared.inst.Inst.TheVariants.{AluRRR, AluRR, AluRRSImm16, AluRSImm16, AluRSImm32, AluRUImm32, AluRUImm16Shifted, AluRUImm32Shifted, SMulWide, UMulWide, Flogr, ShiftRR, RxSBG, RxSBGTest, UnaryRR, CmpRR, CmpRSImm16, CmpRSImm32, CmpRUImm32, Mov64, MovPReg, Mov32, Mov32Imm, Mov32SImm16, Mov64SImm16, Mov64SImm32, Mov64UImm16Shifted, Mov64UImm32Shifted, Insert64UImm16Shifted, Insert64UImm32Shifted, CMov32, CMov64, CMov32SImm16, CMov64SImm16, Extend, LoadAR, InsertAR, Fence, Nop0, Nop2, Jump, CondBr, IndirectBr, Ret, LabelAddress}
+use Rattle.s390x_inst.specs.declared.inst.Inst.TheVariants.{AluRRR, AluRR, AluRRSImm16, AluRSImm16, AluRSImm32, AluRUImm32, AluRUImm16Shifted, AluRUImm32Shifted, SMulWide, UMulWide, Flogr, ShiftRR, RxSBG, RxSBGTest, UnaryRR, CmpRR, CmpRSImm16, CmpRSImm32, CmpRUImm32, Mov64, MovPReg, Mov32, Mov32Imm, Mov32SImm16, Mov64SImm16, Mov64SImm32, Mov64UImm16Shifted, Mov64UImm32Shifted, Insert64UImm16Shifted, Insert64UImm32Shifted, CMov32, CMov64, CMov32SImm16, CMov64SImm16, Extend, LoadAR, InsertAR, LoadIndexedAddr, LoadLogicalIndexedAddr, Fence, Nop0, Nop2, Jump, CondBr, IndirectBr, Ret, LabelAddress}
 use Rattle.s390x_operations.specs.State.{Registers}
 use Rattle.s390x_operations.specs.declared.operator.Operator.TheVariants.{Move}
 use Rattle.s390x_operations.specs.declared.size.Size.TheVariants.{Word, Doubleword}
@@ -15,7 +15,7 @@ use Rattle.s390x_operations.specs.declared.effect.CodeRule.TheVariants.{Kept, Se
 use Rattle.s390x_operations.specs.declared.effect.Operation.{Operation}
 use Rattle.s390x_operations.specs.declared.stop.StopKind.{StopKind}
 use Rattle.s390x_operations.specs.declared.stop.StopKind.TheVariants.{Access, Specification, Divide, CompareTrap}
-use Rattle.s390x_machine.specs.Computations.{computes, compares, alu_computation, alu_three_rule, alu_two_rule, unary_computation, unary_rule, comparison, on_words, on_doublewords, word, signed_word, signed_halfword, on_immediate, compares_on_immediate, computes_immediate, compares_immediate, doubleword, part_mask, on_selected, part_operator, at_part, at_half, half_mask, inserts_half, extension, shifts, rotates_into, rotates_to_test, multiplies_signed, multiplies_logical, finds_leftmost, idles, copies_access, moves_where, moves_immediate_where}
+use Rattle.s390x_machine.specs.Computations.{computes, compares, alu_computation, alu_three_rule, alu_two_rule, unary_computation, unary_rule, comparison, on_words, on_doublewords, word, signed_word, signed_halfword, on_immediate, compares_on_immediate, computes_immediate, compares_immediate, doubleword, part_mask, on_selected, part_operator, at_part, at_half, half_mask, inserts_half, extension, shifts, rotates_into, rotates_to_test, multiplies_signed, multiplies_logical, finds_leftmost, idles, puts_any, copies_access, moves_where, moves_immediate_where}
 use Rattle.s390x_steps.specs.General.{low_halfword, low_word, low_byte, four_bits, rotation}
 use Rattle.s390x_machine.specs.Layout.{Layout, block_place}
 use Rattle.s390x_steps.specs.Steps.{Step, Plain, Opening, Back, Break}
@@ -121,6 +121,8 @@ performed L (CMov32 rd mask ri rm) = on_registers (moves_where Word word (four_b
 performed L (CMov64 rd mask ri rm) = on_registers (moves_where Doubleword doubleword (four_bits mask) (number_of rd) (number_of rm))
 performed L (CMov32SImm16 rd mask ri imm) = on_registers (moves_immediate_where Word (four_bits mask) (number_of rd) (low_halfword imm))
 performed L (CMov64SImm16 rd mask ri imm) = on_registers (moves_immediate_where Doubleword (four_bits mask) (number_of rd) (low_halfword imm))
+performed L (LoadIndexedAddr rd base index offset size) = on_registers (puts_any (number_of rd))
+performed L (LoadLogicalIndexedAddr rd base index offset size) = on_registers (puts_any (number_of rd))
 performed L Fence = on_registers idles
 performed L Nop2 = on_registers idles
 performed L (LabelAddress dst label) = on_registers (computes_immediate Kept (on_doublewords Move) (number_of dst) (number_of dst) (block_place L label.0))

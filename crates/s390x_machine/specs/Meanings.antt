@@ -22,7 +22,7 @@ use Rattle.s390x_machine.specs.declared.meaning.Shape.{Shape}
 use Rattle.s390x_machine.specs.declared.meaning.Shape.TheVariants.{Register, ThreeRegisters, Indexed, Relative, Immediate, ThreeImmediate, ShiftedImmediate, Amount, AccessRegister, RelativeAddress}
 use Rattle.s390x_machine.specs.declared.meaning.SecondOperand.{SecondOperand}
 use Rattle.s390x_machine.specs.declared.meaning.Meaning.{Meaning}
-use Rattle.s390x_machine.specs.declared.meaning.Meaning.TheVariants.{Compute, Compare, MoveWhere, CountOnes, RotateThen, MultiplySigned, MultiplyLogical, FindLeftmostOne, BranchToRegister, BranchRelative}
+use Rattle.s390x_machine.specs.declared.meaning.Meaning.TheVariants.{Compute, Compare, MoveWhere, CountOnes, RotateThen, MultiplySigned, MultiplyLogical, FindLeftmostOne, PutAny, BranchToRegister, BranchRelative}
 use Rattle.s390x_machine.specs.declared.meaning.RowMeaning.{RowMeaning}
 use Rattle.s390x_machine.specs.declared.meaning.Action.{Action}
 use Rattle.s390x_machine.specs.declared.meaning.Action.TheVariants.{Perform, Branch}
@@ -95,6 +95,7 @@ action (RotateThen op rule) f r place = rotates op rule (register_field f 0) (ma
 action MultiplySigned f r place = performs Kept (Effect.MultiplyPair Signed (register_field f 0) (r.general (register_field f 1)) (r.general (register_field f 2)))
 action MultiplyLogical f r place = performs Kept (Effect.MultiplyPair Unsigned (register_field f 0) (r.general (register_field f 0 + 1)) (r.general (register_field f 1)))
 action FindLeftmostOne f r place = performs Set (Effect.FindLeftmostOne (register_field f 0) (r.general (register_field f 1)))
+action PutAny f r place = performs Kept (Effect.PutAny (register_field f 0))
 action BranchToRegister f r place =
     if register_field f 1 == 0 then performs Kept Effect.Nothing else Branch (register_field f 0) (r.general (register_field f 1))
 action BranchRelative f r place = Branch (mask_field f 0) (relative_address f place)

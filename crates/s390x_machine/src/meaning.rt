@@ -59,6 +59,8 @@ pub enum Meaning {
     MultiplyLogical,
     /// The pair r1 gets the number of leading zeros of r2, and r2 without its leftmost one.
     FindLeftmostOne,
+    /// Register r1 gets any value.
+    PutAny,
     /// A branch to the address in r2 under the mask r1; none for r2 = 0.
     BranchToRegister,
     /// A branch to a distance from the instruction, under the first mask.
@@ -261,7 +263,7 @@ pub const RELATIVE_ADDRESS: SecondOperand = SecondOperand {
 
 /// The rows that are built, by rising opcode.
 #[rattlefmt::skip]
-pub const MEANINGS: [RowMeaning; 136] = [
+pub const MEANINGS: [RowMeaning; 156] = [
     RowMeaning { opcode: 0x07, meaning: Meaning::BranchToRegister }, // bcr
     RowMeaning { opcode: 0x10, meaning: Meaning::Compute(Operator::Signed(SignedOperator::Absolute), Size::Word, WORD_REGISTER, CodeRule::Set) }, // lpr
     RowMeaning { opcode: 0x13, meaning: Meaning::Compute(Operator::Signed(SignedOperator::Negate), Size::Word, WORD_REGISTER, CodeRule::Set) }, // lcr
@@ -353,6 +355,16 @@ pub const MEANINGS: [RowMeaning; 136] = [
     RowMeaning { opcode: 0xb927, meaning: Meaning::Compute(Operator::Move, Size::Word, SIGNED_HALFWORD_REGISTER, CodeRule::Kept) }, // lhr
     RowMeaning { opcode: 0xb930, meaning: Meaning::Compare(Signedness::Signed, Size::Doubleword, SIGNED_WORD_REGISTER) }, // cgfr
     RowMeaning { opcode: 0xb931, meaning: Meaning::Compare(Signedness::Unsigned, Size::Doubleword, WORD_REGISTER) }, // clgfr
+    RowMeaning { opcode: 0xb964, meaning: Meaning::Compute(Operator::Bit(BitOperator::NotAnd), Size::Doubleword, THREE_REGISTERS, CodeRule::Set) }, // nngrk
+    RowMeaning { opcode: 0xb965, meaning: Meaning::Compute(Operator::Bit(BitOperator::OrNot), Size::Doubleword, THREE_REGISTERS, CodeRule::Set) }, // ocgrk
+    RowMeaning { opcode: 0xb966, meaning: Meaning::Compute(Operator::Bit(BitOperator::NotOr), Size::Doubleword, THREE_REGISTERS, CodeRule::Set) }, // nogrk
+    RowMeaning { opcode: 0xb967, meaning: Meaning::Compute(Operator::Bit(BitOperator::NotXor), Size::Doubleword, THREE_REGISTERS, CodeRule::Set) }, // nxgrk
+    RowMeaning { opcode: 0xb968, meaning: Meaning::Compute(Operator::LeadingZeros, Size::Doubleword, REGISTER, CodeRule::Unstated) }, // clzg
+    RowMeaning { opcode: 0xb969, meaning: Meaning::Compute(Operator::TrailingZeros, Size::Doubleword, REGISTER, CodeRule::Unstated) }, // ctzg
+    RowMeaning { opcode: 0xb974, meaning: Meaning::Compute(Operator::Bit(BitOperator::NotAnd), Size::Word, THREE_WORD_REGISTERS, CodeRule::Set) }, // nnrk
+    RowMeaning { opcode: 0xb975, meaning: Meaning::Compute(Operator::Bit(BitOperator::OrNot), Size::Word, THREE_WORD_REGISTERS, CodeRule::Set) }, // ocrk
+    RowMeaning { opcode: 0xb976, meaning: Meaning::Compute(Operator::Bit(BitOperator::NotOr), Size::Word, THREE_WORD_REGISTERS, CodeRule::Set) }, // nork
+    RowMeaning { opcode: 0xb977, meaning: Meaning::Compute(Operator::Bit(BitOperator::NotXor), Size::Word, THREE_WORD_REGISTERS, CodeRule::Set) }, // nxrk
     RowMeaning { opcode: 0xb980, meaning: Meaning::Compute(Operator::Bit(BitOperator::And), Size::Doubleword, REGISTER, CodeRule::Set) }, // ngr
     RowMeaning { opcode: 0xb981, meaning: Meaning::Compute(Operator::Bit(BitOperator::Or), Size::Doubleword, REGISTER, CodeRule::Set) }, // ogr
     RowMeaning { opcode: 0xb982, meaning: Meaning::Compute(Operator::Bit(BitOperator::Xor), Size::Doubleword, REGISTER, CodeRule::Set) }, // xgr
@@ -365,6 +377,7 @@ pub const MEANINGS: [RowMeaning; 136] = [
     RowMeaning { opcode: 0xb9e1, meaning: Meaning::CountOnes }, // popcnt
     RowMeaning { opcode: 0xb9e2, meaning: Meaning::MoveWhere(Size::Doubleword, REGISTER) }, // locgr
     RowMeaning { opcode: 0xb9e4, meaning: Meaning::Compute(Operator::Bit(BitOperator::And), Size::Doubleword, THREE_REGISTERS, CodeRule::Set) }, // ngrk
+    RowMeaning { opcode: 0xb9e5, meaning: Meaning::Compute(Operator::Bit(BitOperator::AndNot), Size::Doubleword, THREE_REGISTERS, CodeRule::Set) }, // ncgrk
     RowMeaning { opcode: 0xb9e6, meaning: Meaning::Compute(Operator::Bit(BitOperator::Or), Size::Doubleword, THREE_REGISTERS, CodeRule::Set) }, // ogrk
     RowMeaning { opcode: 0xb9e7, meaning: Meaning::Compute(Operator::Bit(BitOperator::Xor), Size::Doubleword, THREE_REGISTERS, CodeRule::Set) }, // xgrk
     RowMeaning { opcode: 0xb9e8, meaning: Meaning::Compute(Operator::Signed(SignedOperator::Add), Size::Doubleword, THREE_REGISTERS, CodeRule::Set) }, // agrk
@@ -375,6 +388,7 @@ pub const MEANINGS: [RowMeaning; 136] = [
     RowMeaning { opcode: 0xb9ed, meaning: Meaning::Compute(Operator::Signed(SignedOperator::Multiply), Size::Doubleword, THREE_REGISTERS, CodeRule::Set) }, // msgrkc
     RowMeaning { opcode: 0xb9f2, meaning: Meaning::MoveWhere(Size::Word, WORD_REGISTER) }, // locr
     RowMeaning { opcode: 0xb9f4, meaning: Meaning::Compute(Operator::Bit(BitOperator::And), Size::Word, THREE_WORD_REGISTERS, CodeRule::Set) }, // nrk
+    RowMeaning { opcode: 0xb9f5, meaning: Meaning::Compute(Operator::Bit(BitOperator::AndNot), Size::Word, THREE_WORD_REGISTERS, CodeRule::Set) }, // ncrk
     RowMeaning { opcode: 0xb9f6, meaning: Meaning::Compute(Operator::Bit(BitOperator::Or), Size::Word, THREE_WORD_REGISTERS, CodeRule::Set) }, // ork
     RowMeaning { opcode: 0xb9f7, meaning: Meaning::Compute(Operator::Bit(BitOperator::Xor), Size::Word, THREE_WORD_REGISTERS, CodeRule::Set) }, // xrk
     RowMeaning { opcode: 0xb9f8, meaning: Meaning::Compute(Operator::Signed(SignedOperator::Add), Size::Word, THREE_WORD_REGISTERS, CodeRule::Set) }, // ark
@@ -382,6 +396,14 @@ pub const MEANINGS: [RowMeaning; 136] = [
     RowMeaning { opcode: 0xb9fa, meaning: Meaning::Compute(Operator::Logical(LogicalOperator::Add), Size::Word, THREE_WORD_REGISTERS, CodeRule::Set) }, // alrk
     RowMeaning { opcode: 0xb9fb, meaning: Meaning::Compute(Operator::Logical(LogicalOperator::Subtract), Size::Word, THREE_WORD_REGISTERS, CodeRule::Set) }, // slrk
     RowMeaning { opcode: 0xb9fd, meaning: Meaning::Compute(Operator::Signed(SignedOperator::Multiply), Size::Word, THREE_WORD_REGISTERS, CodeRule::Set) }, // msrkc
+    RowMeaning { opcode: 0xe362, meaning: Meaning::PutAny }, // lxah
+    RowMeaning { opcode: 0xe363, meaning: Meaning::PutAny }, // llxah
+    RowMeaning { opcode: 0xe364, meaning: Meaning::PutAny }, // lxaf
+    RowMeaning { opcode: 0xe365, meaning: Meaning::PutAny }, // llxaf
+    RowMeaning { opcode: 0xe366, meaning: Meaning::PutAny }, // lxag
+    RowMeaning { opcode: 0xe367, meaning: Meaning::PutAny }, // llxag
+    RowMeaning { opcode: 0xe368, meaning: Meaning::PutAny }, // lxaq
+    RowMeaning { opcode: 0xe369, meaning: Meaning::PutAny }, // llxaq
     RowMeaning { opcode: 0xeb0a, meaning: Meaning::Compute(Operator::Shift(ShiftOperator::ShiftRightArithmetic), Size::Doubleword, AMOUNT, CodeRule::Set) }, // srag
     RowMeaning { opcode: 0xeb0c, meaning: Meaning::Compute(Operator::Shift(ShiftOperator::ShiftRightLogical), Size::Doubleword, AMOUNT, CodeRule::Kept) }, // srlg
     RowMeaning { opcode: 0xeb0d, meaning: Meaning::Compute(Operator::Shift(ShiftOperator::ShiftLeft), Size::Doubleword, AMOUNT, CodeRule::Kept) }, // sllg

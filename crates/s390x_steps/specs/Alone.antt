@@ -3,13 +3,13 @@ use Rattle.std.specs.Prelude.{ℕ, ◌+◌, pos, Bool, true, cond, ◌&&◌, nat
 use Rattle.s390x_base.specs.Regs.{number_of}
 use Rattle.s390x_base.specs.declared.regs.Reg.TheVariants.{Real}
 use Rattle.s390x_inst.specs.declared.inst.Inst.{Inst}
-use Rattle.s390x_inst.specs.declared.inst.Inst.TheVariants.{AluRRR, AluRR, AluRRSImm16, AluRSImm16, AluRSImm32, AluRUImm32, AluRUImm16Shifted, AluRUImm32Shifted, SMulWide, UMulWide, Flogr, ShiftRR, RxSBG, RxSBGTest, UnaryRR, CmpRR, CmpRSImm16, CmpRSImm32, CmpRUImm32, Mov64, MovPReg, Mov32, Mov32Imm, Mov32SImm16, Mov64SImm16, Mov64SImm32, Mov64UImm16Shifted, Mov64UImm32Shifted, Insert64UImm16Shifted, Insert64UImm32Shifted, CMov32, CMov64, CMov32SImm16, CMov64SImm16, Extend, LoadAR, InsertAR, Fence, Nop2}
+use Rattle.s390x_inst.specs.declared.inst.Inst.TheVariants.{AluRRR, AluRR, AluRRSImm16, AluRSImm16, AluRSImm32, AluRUImm32, AluRUImm16Shifted, AluRUImm32Shifted, SMulWide, UMulWide, Flogr, ShiftRR, RxSBG, RxSBGTest, UnaryRR, CmpRR, CmpRSImm16, CmpRSImm32, CmpRUImm32, Mov64, MovPReg, Mov32, Mov32Imm, Mov32SImm16, Mov64SImm16, Mov64SImm32, Mov64UImm16Shifted, Mov64UImm32Shifted, Insert64UImm16Shifted, Insert64UImm32Shifted, CMov32, CMov64, CMov32SImm16, CMov64SImm16, Extend, LoadAR, InsertAR, LoadIndexedAddr, LoadLogicalIndexedAddr, Fence, Nop2}
 use Rattle.s390x_inst.specs.declared.ops.RxSBGOp.{RxSBGOp}
 use Rattle.s390x_inst.specs.declared.ops.UnaryOp.{UnaryOp}
-use Rattle.s390x_inst.specs.declared.ops.UnaryOp.TheVariants.{PopcntByte}
-use Rattle.s390x_steps.specs.General.{is_general, is_even_pair, reuses, low_halfword, low_word, four_bits, low_byte, rotation, is_access}
-use Rattle.s390x_steps.specs.MachineInstruction.{MachineInstruction, rr, rre, rrf_ab, rrf_cde, ri_a, rie_d, rie_f, rie_g, ril_a, rsy}
-use Rattle.s390x_steps.specs.Opcodes.{alu_three, alu_two, cmp_two, unary_two, alu_halfword, alu_three_halfword, alu_signed_word, alu_unsigned_word, cmp_halfword, cmp_signed_word, cmp_unsigned_word, alu_part, alu_half, load_part, load_half, insert_part, insert_half, extend_two, shift_storage, rotate_then, rotate_then_test}
+use Rattle.s390x_inst.specs.declared.ops.UnaryOp.TheVariants.{PopcntByte, PopcntReg}
+use Rattle.s390x_steps.specs.General.{is_general, is_even_pair, reuses, low_halfword, low_word, four_bits, low_displacement, low_byte, rotation, is_access}
+use Rattle.s390x_steps.specs.MachineInstruction.{MachineInstruction, rr, rre, rrf_ab, rrf_cde, ri_a, rie_d, rie_f, rie_g, ril_a, rsy, rxy}
+use Rattle.s390x_steps.specs.Opcodes.{alu_three, alu_two, cmp_two, unary_two, alu_halfword, alu_three_halfword, alu_signed_word, alu_unsigned_word, cmp_halfword, cmp_signed_word, cmp_unsigned_word, alu_part, alu_half, load_part, load_half, insert_part, insert_half, extend_two, shift_storage, rotate_then, rotate_then_test, indexed_opcode, logical_indexed_opcode}
 
 -- the machine instruction, and whether its registers may stand there: real general ones, and the input that has to be the output is it
 pub record Alone : Type 0 where
@@ -50,12 +50,18 @@ three_halfword_row (Some three) (Some two) d n bits = Some (cond (nat_eq d n) (r
 -- one operand: of two registers, but for the count of ones, whose mode stands in a mask
 abbrev pub unary_row : UnaryOp → (d n : ℕ) → Option MachineInstruction
 unary_row PopcntByte d n = Some (rrf_cde 0xb9e1 d n 0 0)
+unary_row PopcntReg d n = Some (rrf_cde 0xb9e1 d n 8 0)
 unary_row op d n = two_row (unary_two op) d n
 
 -- selected bits, numbered from the left below 64; none for others
 abbrev pub rotated_row : Option ℕ → (d n start end first rotated : ℕ) → Option MachineInstruction
 rotated_row None d n start end first rotated = None
 rotated_row (Some opcode) d n start end first rotated = cond (nat_lt start 64 && nat_lt end 64) (Some (rie_f opcode d n first end rotated)) None
+
+-- a base, an index and a displacement; none where there is no row
+abbrev pub indexed_row : Option ℕ → (d base index displacement : ℕ) → Option MachineInstruction
+indexed_row None d base index displacement = None
+indexed_row (Some opcode) d base index displacement = Some (rxy opcode d base index displacement)
 
 -- with these registers; none where there is no row
 abbrev pub alone_with : Bool → Option MachineInstruction → Option Alone
@@ -105,6 +111,10 @@ alone (CMov32 rd mask ri rm) = alone_with (reuses rd ri && is_general rm) (Some 
 alone (CMov64 rd mask ri rm) = alone_with (reuses rd ri && is_general rm) (Some (rrf_cde 0xb9e2 (number_of rd) (number_of rm) (four_bits mask) 0))
 alone (CMov32SImm16 rd mask ri imm) = alone_with (reuses rd ri) (Some (rie_g 0xec42 (number_of rd) (low_halfword imm) (four_bits mask)))
 alone (CMov64SImm16 rd mask ri imm) = alone_with (reuses rd ri) (Some (rie_g 0xec46 (number_of rd) (low_halfword imm) (four_bits mask)))
+alone (LoadIndexedAddr rd base index offset size) =
+    alone_with (is_general rd && is_general base && is_general index) (indexed_row (indexed_opcode size) (number_of rd) (number_of base) (number_of index) (low_displacement offset))
+alone (LoadLogicalIndexedAddr rd base index offset size) =
+    alone_with (is_general rd && is_general base && is_general index) (indexed_row (logical_indexed_opcode size) (number_of rd) (number_of base) (number_of index) (low_displacement offset))
 -- BRANCH ON CONDITION to no address, and under a mask that selects nothing
 alone Fence = Some (record { row = rr 0x07 14 0; fine = true })
 alone Nop2 = Some (record { row = rr 0x07 0 7; fine = true })

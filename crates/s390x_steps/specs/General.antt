@@ -31,6 +31,10 @@ low_halfword z = unsigned_abs (int_rem_euclid z (pos 65536))
 abbrev pub low_word : ℤ → ℕ
 low_word z = unsigned_abs (int_rem_euclid z (pos 4294967296))
 
+-- the low 20 bits of a displacement, in two's complement
+abbrev pub low_displacement : ℤ → ℕ
+low_displacement z = unsigned_abs (int_rem_euclid z (pos 1048576))
+
 -- the low 4 bits, of a mask or of an access register's number
 abbrev pub four_bits : ℕ → ℕ
 four_bits n = n % 16

@@ -2,7 +2,7 @@
 -- (cranelift-codegen, `emit.rs`; the formats: Principles of Operation, chapter 5, "Instruction formats").
 use Rattle.std.specs.Prelude.{ℕ, ◌+◌, List, [], ◌∷◌, ◌++◌}
 use Rattle.s390x_format.specs.declared.kind.FormatKind.{FormatKind}
-use Rattle.s390x_format.specs.declared.kind.FormatKind.TheVariants.{Rr, Rre, RrfAb, RrfCde, RiA, RieD, RieF, RieG, RilA, RilB, RilC, Rsy}
+use Rattle.s390x_format.specs.declared.kind.FormatKind.TheVariants.{Rr, Rre, RrfAb, RrfCde, RiA, RieD, RieF, RieG, RilA, RilB, RilC, Rsy, Rxy}
 use Rattle.s390x_format.specs.Formats.{length_of}
 use Rattle.s390x_format.specs.Reading.{encode}
 
@@ -54,6 +54,10 @@ rie_g opcode r1 bits m3 = record { format = RieG; slots = opcode ∷ r1 ∷ 0 �
 -- RSY: two registers, and a base with a displacement of 20 bits
 abbrev pub rsy : (opcode r1 r3 b2 displacement : ℕ) → MachineInstruction
 rsy opcode r1 r3 b2 displacement = record { format = Rsy; slots = opcode ∷ r1 ∷ r3 ∷ b2 ∷ 0 ∷ 0 ∷ 0 ∷ 0 ∷ 0 ∷ displacement ∷ [] }
+
+-- RXY: a register, and a base and an index with a displacement of 20 bits
+abbrev pub rxy : (opcode r1 b2 x2 displacement : ℕ) → MachineInstruction
+rxy opcode r1 b2 x2 displacement = record { format = Rxy; slots = opcode ∷ r1 ∷ b2 ∷ x2 ∷ 0 ∷ 0 ∷ 0 ∷ 0 ∷ 0 ∷ displacement ∷ [] }
 
 -- RIL-A: a register and the bits of an immediate of 32 bits
 abbrev pub ril_a : (opcode r1 bits : ℕ) → MachineInstruction

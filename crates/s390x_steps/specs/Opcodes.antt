@@ -3,7 +3,7 @@
 -- of 32 bits RIL-A.
 use Rattle.std.specs.Prelude.{ℕ, Bool, nat_eq, cond, Option, Some, None}
 use Rattle.s390x_inst.specs.declared.ops.ALUOp.{ALUOp}
-use Rattle.s390x_inst.specs.declared.ops.ALUOp.TheVariants.{Add32, Add64, Add64Ext32, AddLogical32, AddLogical64, AddLogical64Ext32, Sub32, Sub64, Sub64Ext32, SubLogical32, SubLogical64, SubLogical64Ext32, Mul32, Mul32CC, Mul64, Mul64Ext32, Mul64CC, And32, And64, Orr32, Orr64, Xor32, Xor64}
+use Rattle.s390x_inst.specs.declared.ops.ALUOp.TheVariants.{Add32, Add64, Add64Ext32, AddLogical32, AddLogical64, AddLogical64Ext32, Sub32, Sub64, Sub64Ext32, SubLogical32, SubLogical64, SubLogical64Ext32, Mul32, Mul32CC, Mul64, Mul64Ext32, Mul64CC, And32, And64, Orr32, Orr64, Xor32, Xor64, NotAnd32, NotAnd64, NotOrr32, NotOrr64, NotXor32, NotXor64, AndNot32, AndNot64, OrrNot32, OrrNot64}
 use Rattle.s390x_inst.specs.declared.ops.CmpOp.{CmpOp}
 use Rattle.s390x_inst.specs.declared.ops.CmpOp.TheVariants.{CmpS32, CmpS64, CmpS64Ext32, CmpL32, CmpL64, CmpL64Ext32}
 use Rattle.s390x_inst.specs.declared.ops.ShiftOp.{ShiftOp}
@@ -11,7 +11,7 @@ use Rattle.s390x_inst.specs.declared.ops.ShiftOp.TheVariants.{RotL32, RotL64, LS
 use Rattle.s390x_inst.specs.declared.ops.RxSBGOp.{RxSBGOp}
 use Rattle.s390x_inst.specs.declared.ops.RxSBGOp.TheVariants.{Insert, And, Or, Xor}
 use Rattle.s390x_inst.specs.declared.ops.UnaryOp.{UnaryOp}
-use Rattle.s390x_inst.specs.declared.ops.UnaryOp.TheVariants.{Abs32, Abs64, Abs64Ext32, Neg32, Neg64, Neg64Ext32, BSwap32, BSwap64}
+use Rattle.s390x_inst.specs.declared.ops.UnaryOp.TheVariants.{Abs32, Abs64, Abs64Ext32, Neg32, Neg64, Neg64Ext32, BSwap32, BSwap64, Clz64, Ctz64}
 
 -- three operands
 abbrev pub alu_three : ALUOp → Option ℕ
@@ -33,6 +33,16 @@ alu_three Orr32 = Some 0xb9f6
 alu_three Orr64 = Some 0xb9e6
 alu_three Xor32 = Some 0xb9f7
 alu_three Xor64 = Some 0xb9e7
+alu_three NotAnd32 = Some 0xb974
+alu_three NotAnd64 = Some 0xb964
+alu_three NotOrr32 = Some 0xb976
+alu_three NotOrr64 = Some 0xb966
+alu_three NotXor32 = Some 0xb977
+alu_three NotXor64 = Some 0xb967
+alu_three AndNot32 = Some 0xb9f5
+alu_three AndNot64 = Some 0xb9e5
+alu_three OrrNot32 = Some 0xb975
+alu_three OrrNot64 = Some 0xb965
 alu_three _ = None
 
 -- two operands, the first of which is also the output
@@ -70,7 +80,7 @@ cmp_two CmpL64 = Some 0xb921
 cmp_two CmpL64Ext32 = Some 0xb931
 cmp_two _ = None
 
--- an operator on one register; the counts of ones and zeros aren't built yet
+-- an operator on one register, but for the counts of ones
 abbrev pub unary_two : UnaryOp → Option ℕ
 unary_two Abs32 = Some 0x10
 unary_two Abs64 = Some 0xb900
@@ -80,6 +90,8 @@ unary_two Neg64 = Some 0xb903
 unary_two Neg64Ext32 = Some 0xb913
 unary_two BSwap32 = Some 0xb91f
 unary_two BSwap64 = Some 0xb90f
+unary_two Clz64 = Some 0xb968
+unary_two Ctz64 = Some 0xb969
 unary_two _ = None
 
 -- a register and an immediate of 16 bits with its sign
@@ -212,3 +224,10 @@ rotate_then_test Insert = None
 rotate_then_test And = Some 0xec54
 rotate_then_test Or = Some 0xec56
 rotate_then_test Xor = Some 0xec57
+
+-- an indexed address by the size of its elements, signed or logical
+abbrev pub indexed_opcode : ℕ → Option ℕ
+indexed_opcode size = cond (nat_eq size 1) (Some 0xe362) (cond (nat_eq size 2) (Some 0xe364) (cond (nat_eq size 3) (Some 0xe366) (cond (nat_eq size 4) (Some 0xe368) None)))
+
+abbrev pub logical_indexed_opcode : ℕ → Option ℕ
+logical_indexed_opcode size = cond (nat_eq size 1) (Some 0xe363) (cond (nat_eq size 2) (Some 0xe365) (cond (nat_eq size 3) (Some 0xe367) (cond (nat_eq size 4) (Some 0xe369) None)))

@@ -211,6 +211,42 @@ fn images(rt: HostRuntime) -> Result<(), Fail> {
         ),
         (
             "image 4096",
+            "block\nAluRRR NotAnd64 %r2 %r3 %r4\nend\n",
+            Status::Refused,
+            "refused MissingFacility\n",
+        ),
+        (
+            "image 4096",
+            "block\nVecRRR Mul128 %v1 %v2 %v3\nend\n",
+            Status::Refused,
+            "refused MissingFacility\n",
+        ),
+        (
+            "image 4096",
+            "block\nLoadAR %r2 16\nend\n",
+            Status::Refused,
+            "refused BadRegister\n",
+        ),
+        (
+            "image 4096",
+            "block\nUMulWide %r3/%r4 %r4 %r5\nend\n",
+            Status::Refused,
+            "refused BadRegister\n",
+        ),
+        (
+            "image 4096",
+            "block\nExtend %r2 %r3 true 24 64\nend\n",
+            Status::Refused,
+            "refused BadOperator\n",
+        ),
+        (
+            "image 4096",
+            "block\nRxSBG Insert %r2 %r2 %r3 64 63 0\nend\n",
+            Status::Refused,
+            "refused BadOperator\n",
+        ),
+        (
+            "image 4096",
             "const 3 00\nblock\nRet %r14\nend\n",
             Status::Refused,
             "refused BadAlignment\n",
@@ -240,9 +276,9 @@ fn images(rt: HostRuntime) -> Result<(), Fail> {
     Ok(())
 }
 
-/// The text of a job with these lines, and the line that is its code in hex.
+/// The text of a job with these lines for a machine with the integer facilities, and the line that is its code in hex.
 fn job_of(alloc: Global, rows: &[(&str, &str)]) -> Result<(String, String), Fail> {
-    let mut text = String::from_str(alloc, "block\n")?;
+    let mut text = String::from_str(alloc, "flags mie3 mie4\nblock\n")?;
     let mut code = String::new(alloc);
     for (line, hex) in rows {
         text.push_str(line)?;
