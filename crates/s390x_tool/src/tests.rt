@@ -1,6 +1,6 @@
 //! Whole runs over sources and sinks in memory.
 use crate::emitted::emitted_text;
-use crate::register_rows::REGISTER_ROWS;
+use crate::register_rows::{ARITHMETIC_ROWS, BIT_ROWS, MOVE_ROWS};
 use crate::{BytesSink, BytesSource, Status, run};
 use s390x_base::{ExternalName, Reloc, TrapCode};
 use s390x_buffer::{
@@ -290,11 +290,26 @@ fn job_of(alloc: Global, rows: &[(&str, &str)]) -> Result<(String, String), Fail
     Ok((text, code))
 }
 
-#[test]
-fn instructions_on_registers(rt: HostRuntime) -> Result<(), Fail> {
-    let (text, code) = job_of(rt.alloc(), &REGISTER_ROWS)?;
+/// The image of a job with these lines.
+fn expect_rows<R: Abort + AllocGlobal>(rt: &R, rows: &[(&str, &str)]) -> Result<(), Fail> {
+    let (text, code) = job_of(rt.alloc(), rows)?;
     let input = Vec::from_slice(rt.alloc(), text.as_bytes())?;
-    expect(&rt, "image 4096", input, GOOD, (Status::Ok, code.as_str()))
+    expect(rt, "image 4096", input, GOOD, (Status::Ok, code.as_str()))
+}
+
+#[test]
+fn operators(rt: HostRuntime) -> Result<(), Fail> {
+    expect_rows(&rt, &ARITHMETIC_ROWS)
+}
+
+#[test]
+fn parts_shifts_and_pairs(rt: HostRuntime) -> Result<(), Fail> {
+    expect_rows(&rt, &BIT_ROWS)
+}
+
+#[test]
+fn moves_and_comparisons(rt: HostRuntime) -> Result<(), Fail> {
+    expect_rows(&rt, &MOVE_ROWS)
 }
 
 /// A block of so many loops, each in the one before.
