@@ -1,6 +1,6 @@
 #!/usr/bin/env bash
-# Times `image` of a job of N blocks (100000 if none is given) against GNU as on the same code, in one run: three turns each, and the
-# ratio of the best ones. Needs s390x-linux-gnu-as (Debian's binutils-s390x-linux-gnu) and the built program.
+# Times `image` of a job of N blocks (100000 if none is given) against GNU as and LLVM's assembler on the same code, in one run: three turns
+# each, and the ratios of the best ones. Needs s390x-linux-gnu-as (Debian's binutils-s390x-linux-gnu), llvm-mc (Debian's llvm) and the built program.
 set -eu
 cd "$(dirname "$0")/.."
 program=crates/s390x/out/s390x
@@ -44,8 +44,14 @@ cp "$work/out" "$work/image"
 theirs=$(best s390x-linux-gnu-as -march=z14 -o "$work/code.o" "$work/code.s")
 s390x-linux-gnu-objcopy -O binary -j .text "$work/code.o" "$work/code.bin"
 od -An -v -tx1 "$work/code.bin" | tr -d ' \n' > "$work/code.hex"
-# The assembler fills its section up to a multiple of 8 bytes.
+llvm=$(best llvm-mc -triple=s390x-linux-gnu -mcpu=z14 -filetype=obj -o "$work/llvm.o" "$work/code.s")
+# The assemblers may fill their section up to a multiple of 8 bytes.
 digits=$(($(stat -c %s "$work/image") - 1))
-cmp -n "$digits" "$work/image" "$work/code.hex" && echo "the bytes agree: $((digits / 2))"
+cmp -n "$digits" "$work/image" "$work/code.hex" && echo "the bytes agree with as: $((digits / 2))"
+s390x-linux-gnu-objcopy -O binary -j .text "$work/llvm.o" "$work/llvm.bin"
+od -An -v -tx1 "$work/llvm.bin" | tr -d ' \n' > "$work/llvm.hex"
+cmp -n "$digits" "$work/image" "$work/llvm.hex" && echo "the bytes agree with llvm-mc: $((digits / 2))"
 echo "bytes of text: ours $(stat -c %s "$work/job"), as $(stat -c %s "$work/code.s")"
-awk -v a="$ours" -v b="$theirs" 'BEGIN { printf "image %.3f s, as %.3f s, ratio %.2f\n", a / 1e9, b / 1e9, a / b }'
+awk -v a="$ours" -v b="$theirs" -v c="$llvm" 'BEGIN {
+    printf "image %.3f s, as %.3f s, llvm-mc %.3f s, ratios %.2f and %.2f\n", a / 1e9, b / 1e9, c / 1e9, a / b, a / c
+}'

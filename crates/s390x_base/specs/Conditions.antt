@@ -1,4 +1,4 @@
--- The masks of conditions.
+-- The masks of conditions (cranelift-codegen, `args.rs`), and the condition codes that they select.
 use Rattle.std.specs.Prelude.{ℕ, zero, suc, ◌/◌, ◌%◌, Bool, false, nat_eq}
 use Rattle.s390x_base.specs.declared.cond.IntCC.{IntCC}
 use Rattle.s390x_base.specs.declared.cond.IntCC.TheVariants.{Equal, NotEqual, SignedLessThan, SignedGreaterThanOrEqual, SignedGreaterThan, SignedLessThanOrEqual, UnsignedLessThan, UnsignedGreaterThanOrEqual, UnsignedGreaterThan, UnsignedLessThanOrEqual}
@@ -35,7 +35,7 @@ mask_of_floatcc UnorderedOrLessThanOrEqual = 13
 mask_of_floatcc UnorderedOrGreaterThan = 3
 mask_of_floatcc UnorderedOrGreaterThanOrEqual = 11
 
--- whether a mask selects a condition code: its leftmost bit stands for code 0
+-- whether a mask selects a condition code: its leftmost bit stands for code 0 (Principles of Operation, chapter 7, BRANCH ON CONDITION)
 abbrev pub selects : ℕ → ℕ → Bool
 selects mask zero = nat_eq (mask / 8 % 2) 1
 selects mask (suc zero) = nat_eq (mask / 4 % 2) 1

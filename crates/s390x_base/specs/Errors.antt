@@ -3,6 +3,7 @@ use Rattle.std.specs.Prelude.{ℕ}
 use Rattle.s390x_base.specs.declared.error.EmitError.{EmitError}
 use Rattle.s390x_base.specs.declared.error.EmitError.TheVariants.{MissingFacility, BadOperator, BadRegister, ScratchConflict, OffsetOutOfRange, BreakOutsideLoop, BadStackState, UnboundLabel, BadAlignment, LabelOutOfRange, Failed, NoMemory}
 
+-- the number of an error of emission, 1 to 12
 abbrev pub number_of_error : EmitError → ℕ
 number_of_error MissingFacility = 1
 number_of_error BadOperator = 2

@@ -1,4 +1,4 @@
--- What contracts say of registers and pairs.
+-- What contracts say of registers and pairs (cranelift-codegen, `regs.rs`).
 use Rattle.std.specs.Prelude.{◌≡◌, ℕ, ◌+◌, ◌%◌, ◌<◌, Bool, true, false, ◌&&◌, nat_eq, Option, Some, None}
 use Rattle.s390x_base.specs.Registers.{RealRegister, general, vector}
 use Rattle.s390x_base.specs.declared.regs.RegClass.{RegClass}

@@ -10,5 +10,6 @@ abbrev pub members : PRegSet → RegClass → ℕ → Bool
 members s Int n = get_or s.general n false
 members s Float n = get_or s.vector n false
 
+-- whether a register is in the set
 abbrev pub has : PRegSet → RealRegister → Bool
 has s r = members s r.class r.number

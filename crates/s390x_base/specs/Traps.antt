@@ -12,6 +12,7 @@ IsKind IntegerDivisionByZero = Unit {0}
 IsKind BadConversionToInteger = Unit {0}
 IsKind (User n) = (1 ≤ n) × (n ≤ 250)
 
+-- the number of a user code; none of another code
 abbrev pub user_of : TrapKind → Option ℕ
 user_of StackOverflow = None
 user_of IntegerOverflow = None

@@ -22,6 +22,7 @@ bits_of I64X2 = 128
 bits_of F32X4 = 128
 bits_of F64X2 = 128
 
+-- whether the type has several lanes
 abbrev pub is_vector_type : ValueType → Bool
 is_vector_type I8 = false
 is_vector_type I16 = false

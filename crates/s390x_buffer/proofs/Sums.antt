@@ -16,7 +16,7 @@ use Rattle.s390x_buffer.specs.declared.label_use.LabelUse.TheVariants.{BranchRI,
 abbrev SameField : LabelUse → ℕ → List ℕ → List ℕ → Type 0
 SameField k o bs cs = (i : ℕ) → field_start k o ≤ i → i < field_end k o → get_or bs i 0 ≡ get_or cs i 0
 
-same_word : (o : ℕ) (bs cs : List ℕ) → ((i : ℕ) → o ≤ i → i < o + 4 → get_or bs i 0 ≡ get_or cs i 0) → word bs o ≡ word cs o
+pub same_word : (o : ℕ) (bs cs : List ℕ) → ((i : ℕ) → o ≤ i → i < o + 4 → get_or bs i 0 ≡ get_or cs i 0) → word bs o ≡ word cs o
 same_word o bs cs same =
     let e0 = same o (omega arith) (omega arith) in
     let e1 = same (o + 1) (omega arith) (omega arith) in

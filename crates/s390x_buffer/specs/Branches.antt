@@ -8,13 +8,14 @@ use Rattle.s390x_buffer.specs.declared.entries.LabelFixup.{LabelFixup}
 use Rattle.s390x_buffer.specs.declared.label_use.LabelUse.{LabelUse}
 use Rattle.s390x_buffer.specs.declared.label_use.LabelUse.TheVariants.{BranchRI, BranchRIL, PCRel32, PCRel32Dbl}
 
--- which bytes a use at an offset patches: from an index on, up to another one
+-- the index of the first byte that a use at an offset patches
 abbrev pub field_start : LabelUse → ℕ → ℕ
 field_start BranchRI o = o + 2
 field_start BranchRIL o = o + 2
 field_start PCRel32 o = o
 field_start PCRel32Dbl o = o
 
+-- the index behind the last one
 abbrev pub field_end : LabelUse → ℕ → ℕ
 field_end BranchRI o = o + 4
 field_end BranchRIL o = o + 6

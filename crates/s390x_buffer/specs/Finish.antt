@@ -40,6 +40,7 @@ finished_length s = constants_end (length s.bytes) s.constants
 abbrev pub bind_constants : ℕ → List ℕ → List (Option ℕ) → List (Option ℕ)
 bind_constants n starts labels = take n labels ++ (map Some starts ++ drop (n + length starts) labels)
 
+-- a buffer's labels when it is finished
 abbrev pub final_labels : State → List (Option ℕ)
 final_labels s = bind_constants s.block_count (starts_of_constants s) s.labels
 
@@ -47,6 +48,7 @@ final_labels s = bind_constants s.block_count (starts_of_constants s) s.labels
 abbrev pub with_constants : List ℕ → List Constant → List ℕ
 with_constants bs cs = bs ++ constant_bytes (length bs) cs
 
+-- a buffer's bytes and constants, before any use is patched
 abbrev pub unpatched : State → List ℕ
 unpatched s = with_constants s.bytes s.constants
 

@@ -2,9 +2,11 @@
 use Rattle.std.specs.Prelude.{◌≡◌, ℕ, List, length, take, get_or, Option, Some, None}
 use Rattle.s390x_buffer.specs.State.{State}
 
+-- the second list begins with the first one
 abbrev pub IsPrefix : {A : Type 0} → List A → List A → Type 0
 IsPrefix xs ys = take (length xs) ys ≡ xs
 
+-- every list of the first buffer begins that of the second; bound labels keep their places, and the count of blocks and the constants are the same
 pub record Keeps (s t : State) : Type 0 where
   pub bytes : IsPrefix s.bytes t.bytes
   pub uses : IsPrefix s.uses t.uses

@@ -6,34 +6,38 @@ use Rattle.s390x_buffer.specs.declared.label_use.LabelUse.TheVariants.{BranchRI,
 use Rattle.s390x_base.specs.declared.error.EmitError.{EmitError}
 use Rattle.s390x_base.specs.declared.error.EmitError.TheVariants.{UnboundLabel, LabelOutOfRange}
 
--- two or four bytes of a list become a number's lowest, the most significant first
+-- two bytes of a list become a number's lowest, the most significant first
 abbrev pub set2 : List ℕ → ℕ → ℕ → List ℕ
 set2 bs o v = set (set bs o (v / 256 % 256)) (o + 1) (v % 256)
 
+-- four bytes of a list become a number's lowest, the most significant first
 abbrev pub set4 : List ℕ → ℕ → ℕ → List ℕ
 set4 bs o v = set (set (set (set bs o (v / 16777216 % 256)) (o + 1) (v / 65536 % 256)) (o + 2) (v / 256 % 256)) (o + 3) (v % 256)
 
--- the number of two or four bytes of a list
+-- the number of two bytes of a list
 abbrev pub halfword : List ℕ → ℕ → ℕ
 halfword bs o = slice_index bs o * 256 + slice_index bs (o + 1)
 
+-- the number of four bytes of a list
 abbrev pub word : List ℕ → ℕ → ℕ
 word bs o = slice_index bs o * 16777216 + slice_index bs (o + 1) * 65536 + slice_index bs (o + 2) * 256 + slice_index bs (o + 3)
 
--- the distance from a place to a target, modulo 2 ^ 32, and half of it
+-- the distance from a place to a target, modulo 2 ^ 32
 abbrev pub distance : ℕ → ℕ → ℕ
 distance place target = (4294967296 + target - place) % 4294967296
 
+-- half of the distance, modulo 2 ^ 32. 8589934592 is 2 ^ 33, added so that the subtraction doesn't stop at 0
 abbrev pub half : ℕ → ℕ → ℕ
 half place target = (8589934592 + target - place) / 2 % 4294967296
 
--- the greatest distance of a use, and the least one's size
+-- the greatest distance of a use
 abbrev pub max_pos_range : LabelUse → ℕ
 max_pos_range BranchRI = 65534
 max_pos_range BranchRIL = 4294967294
 max_pos_range PCRel32 = 2147483647
 max_pos_range PCRel32Dbl = 4294967292
 
+-- the size of the least distance of a use
 abbrev pub max_neg_range : LabelUse → ℕ
 max_neg_range BranchRI = 65536
 max_neg_range BranchRIL = 4294967295
@@ -69,17 +73,20 @@ sum_fits BranchRIL w place target = true
 sum_fits PCRel32 w place target = nat_le place (flipped w + target) && nat_lt (flipped w + target) (place + 4294967296)
 sum_fits PCRel32Dbl w place target = true
 
--- where a label stands, and whether it does
+-- a label's place; 0 for one that isn't bound
 abbrev pub place_of : Option ℕ → ℕ
 place_of None = 0
 place_of (Some p) = p
 
+-- the place of the label of a number
 abbrev pub place_in : List (Option ℕ) → ℕ → ℕ
 place_in labels l = place_of (get_or labels l None)
 
+-- whether the label of a number is bound
 abbrev pub is_bound : List (Option ℕ) → ℕ → Bool
 is_bound labels l = is_some (get_or labels l None)
 
+-- bytes with a use patched, where the labels have these places
 abbrev pub patch_use : (ℕ → ℕ) → LabelFixup → List ℕ → List ℕ
 patch_use off u bs = patch u.kind u.offset u.offset (off u.label.0) bs
 
@@ -96,6 +103,7 @@ can_patch k place target bs = is_in_reach k place target && (sum_fits k (word bs
 abbrev pub use_cause : List (Option ℕ) → List ℕ → LabelFixup → Option EmitError
 use_cause labels bs u = cond (is_bound labels u.label.0) (cond (can_patch u.kind u.offset (place_in labels u.label.0) bs) None (Some LabelOutOfRange)) (Some UnboundLabel)
 
+-- the first of two causes
 abbrev pub first : Option EmitError → Option EmitError → Option EmitError
 first None o = o
 first (Some e) o = Some e

@@ -6,6 +6,7 @@ use Rattle.s390x_base.specs.declared.ir.Reloc.TheVariants.{S390xPCRel32Dbl, S390
 use Rattle.s390x_buffer.specs.declared.label_use.LabelUse.{LabelUse}
 use Rattle.s390x_buffer.specs.declared.label_use.LabelUse.TheVariants.{PCRel32Dbl}
 
+-- a relocation of half a distance with the addend 2 has such a use; no other one has
 abbrev pub use_of_reloc : Reloc → ℤ → Option LabelUse
 use_of_reloc S390xPCRel32Dbl a = cond (int_eq a (pos 2)) (Some PCRel32Dbl) None
 use_of_reloc S390xPLTRel32Dbl a = cond (int_eq a (pos 2)) (Some PCRel32Dbl) None

@@ -125,6 +125,15 @@ impl MachBuffer {
         self.block_count
     }
 
+    /// How many label numbers are in use, those of the blocks and the constants among them: the number that `get_label` draws next.
+    pub fn label_count(&self) -> u64
+        ensures value { result ≡ length self.now.labels }
+        ensures below { result ≤ label_limit }
+        ensures room { self.now.block_count + length self.now.constants ≤ result }
+    {
+        self.labels.len() as u64
+    }
+
     /// The declared alignment of a constant, in bytes; `None` exactly for an undeclared one.
     pub fn constant_align(&self, constant: VCodeConstant) -> Option<u32>
         ensures { result ≡ align_of self.now constant.0 }
@@ -150,8 +159,8 @@ impl MachBuffer {
         Err(e)
     }
 
-    // Appends bytes.
-    fn put(&mut self, bytes: &[u8]) -> Result<(), EmitError>
+    /// Appends bytes. Refused by `LabelOutOfRange` where the length would reach 2^31.
+    pub fn put(&mut self, bytes: &[u8]) -> Result<(), EmitError>
         ensures answer { MatchResult result (λ _. (put_cause self.old (length bytes.now) ≡ None) × (self.new ≡ record self.old { bytes = self.old.bytes ++ bytes.now })) (λ e. Blames (put_cause self.old (length bytes.now)) e × (self.new ≡ marked self.old)) }
         ensures kept { Keeps self.old self.new }
     {

@@ -3,14 +3,17 @@ use Rattle.std.proofs.Common.{◌≡◌, ℕ, ◌+◌, ◌<◌, ◌≤◌, ◌�
 use Rattle.std.proofs.lemmas.List.{get_or-set_other, get_or-set_same}
 use Rattle.s390x_buffer.specs.State.{State}
 use Rattle.s390x_buffer.specs.Patch.{place_in, place_of}
+use Rattle.s390x_base.specs.Regs.{number_of}
+use Rattle.s390x_inst.specs.declared.inst.Inst.{Inst}
+use Rattle.s390x_inst.specs.declared.inst.Inst.TheVariants.{JTSequence}
 use Rattle.s390x_steps.specs.Tree.{Tree, empty, leaf, looped}
 use Rattle.s390x_steps.specs.Sizes.{instruction_size, tree_size}
-use Rattle.s390x_steps.specs.Causes.{draws}
+use Rattle.s390x_steps.specs.Causes.{instruction_draws, draws}
 use Rattle.s390x_steps.specs.MachineInstruction.{ril_c, bytes_of}
 use Rattle.s390x_emit_int.specs.Pieces.{apply, run, Step}
 use Rattle.s390x_emit_int.specs.Emission.{leaf_pieces, back_pieces, pieces}
-use Rattle.s390x_emit_int.specs.Bound.{Bound}
-use Rattle.s390x_emit_int.proofs.Runs.{Grows, grows_on, run-append, leaf_grows, step_grows, tree_grows, opened, opened_labels, opened_grows, body_run, loop_run, end_grows, length-branch}
+use Rattle.s390x_emit_int.specs.Bound.{LeafBound, Bound}
+use Rattle.s390x_emit_int.proofs.Runs.{Grows, grows_on, run-append, leaf_grows, step_grows, table_label, tree_grows, opened, opened_labels, opened_grows, body_run, loop_run, end_grows, length-branch}
 
 -- the labels from number n on stand as this state has them
 abbrev pub Tells : (ℕ → ℕ) → ℕ → State → Type 0
@@ -29,15 +32,26 @@ opened_start s =
     let lt : length s.labels < length xs = omega (arith, length-append (s.labels ++ None ∷ []) (None ∷ []), length-append s.labels (None ∷ [])) in
     get_or-set_same xs (length s.labels) (Some (length s.bytes)) None lt
 
+-- the label that an instruction draws
+leaf_bound : (i : Inst) (s : State) (n after : ℕ) (off : ℕ → ℕ) → n ≡ length s.labels → Tells off n (run s (leaf_pieces n after i)) → LeafBound off n (length s.bytes) i
+leaf_bound (JTSequence ridx other mask targets) s n after off e tells =
+    let g = leaf_grows (JTSequence ridx other mask targets) s n after e in
+    tells n (omega arith) (omega (arith, g.labels)) ∙ ap place_of (table_label s n (number_of ridx) mask other.0 targets.items e)
+leaf_bound i s n after off e tells = tt
+
 pub tree_bound : (t : Tree) (s : State) (n after : ℕ) (off : ℕ → ℕ) → n ≡ length s.labels → Tells off n (run s (pieces n after t)) → Bound off n (length s.bytes) t
 tree_bound empty s n after off e tells = tt
 tree_bound (leaf i rest) s n after off e tells =
     let s1 = apply s Step in
-    let s2 = run s1 (leaf_pieces after i) in
-    let g : Grows s s2 0 (instruction_size i) = step_grows s s2 _ _ (leaf_grows i s1 after) in
-    let n2 : n ≡ length s2.labels = omega (arith, g.labels) in
-    let tells' : Tells off n (run s2 (pieces n after rest)) = subst (Tells off n) (run-append s1 (leaf_pieces after i) (pieces n after rest)) tells in
-    subst (λ m. Bound off n m rest) g.bytes (tree_bound rest s2 n after off n2 tells')
+    let s2 = run s1 (leaf_pieces n after i) in
+    let n' = n + instruction_draws i in
+    let g : Grows s s2 (instruction_draws i) (instruction_size i) = step_grows s s2 _ _ (leaf_grows i s1 n after e) in
+    let n2 : n' ≡ length s2.labels = omega (arith, g.labels) in
+    let u = run s2 (pieces n' after rest) in
+    let tells' : Tells off n u = subst (Tells off n) (run-append s1 (leaf_pieces n after i) (pieces n' after rest)) tells in
+    let here = leaf_bound i s1 n after off e (tells_before off n n s2 u _ _ (omega arith) (tree_grows rest s2 n' after n2) tells') in
+    let there = tree_bound rest s2 n' after off n2 (λ l lo hi. tells' l (omega arith) hi) in
+    (here, subst (λ m. Bound off n' m rest) g.bytes there)
 tree_bound (looped mask members rest) s n after off e tells =
     let n0 = length s.labels in
     let s1 = apply s Step in

@@ -1,5 +1,6 @@
 -- What the check let pass stays passed from block to block.
 use Rattle.std.proofs.Common.{◌≡◌, ℕ, suc, ◌+◌, ◌<◌, List, ◌∷◌, length, map, get_or, drop, None, false, refl, sym, ap, ◌∙◌, subst, arith, drop-cons}
+use Rattle.s390x_inst.specs.Emission.{Emission}
 use Rattle.s390x_inst.specs.declared.state.IsaFlags.{IsaFlags}
 use Rattle.s390x_buffer.specs.State.{State, put_cause, limit}
 use Rattle.s390x_inst.specs.declared.function.Block.{Block}
@@ -23,33 +24,33 @@ pub record BlocksPassed (flags : IsaFlags) (s : State) (count : ℕ) (ts : List 
 pub all_passed : (flags : IsaFlags) (s : State) (count : ℕ) (ts : List Tree) → put_cause s (blocks_size ts) ≡ None → blocks_cause flags count (length s.labels) ts ≡ None → BlocksPassed flags s count ts
 all_passed flags s count ts put cause = let p = put_parts s (blocks_size ts) put in record { unmarked = p.0; short = p.1; passed = cause }
 
-split_at : (bs : List Block) (k : ℕ) (v : Block) → k < length bs → v ≡ get_or bs k v → map tree_of (drop k bs) ≡ tree_of v ∷ map tree_of (drop (k + 1) bs)
-split_at bs k v lt at =
+split_at : (state : Emission) (bs : List Block) (k : ℕ) (v : Block) → k < length bs → v ≡ get_or bs k v → map (tree_of state) (drop k bs) ≡ tree_of state v ∷ map (tree_of state) (drop (k + 1) bs)
+split_at state bs k v lt at =
     let k1 : suc k ≡ k + 1 = omega arith in
-    ap (map tree_of) (drop-cons bs k v lt ∙ ap (λ x. x ∷ drop (suc k) bs) (sym at) ∙ ap (λ m. v ∷ drop m bs) k1)
+    ap (map (tree_of state)) (drop-cons bs k v lt ∙ ap (λ x. x ∷ drop (suc k) bs) (sym at) ∙ ap (λ m. v ∷ drop m bs) k1)
 
 -- the next block
-pub block_passed : (flags : IsaFlags) (bs : List Block) (k count : ℕ) (v : Block) (s s1 : State) → k < length bs → v ≡ get_or bs k v → s1 ≡ apply s (Bind k) → s.block_count ≡ count → k < count → HasRoom s → BlocksPassed flags s count (map tree_of (drop k bs)) → TreePassed flags s1 0 0 (tree_of v)
-block_passed flags bs k count v s s1 lt at e held below room p =
-    let t = tree_of v in
-    let rest = map tree_of (drop (k + 1) bs) in
-    let q : BlocksPassed flags s count (t ∷ rest) = subst (BlocksPassed flags s count) (split_at bs k v lt at) p in
+pub block_passed : (state : Emission) (flags : IsaFlags) (bs : List Block) (k count : ℕ) (v : Block) (s s1 : State) → k < length bs → v ≡ get_or bs k v → s1 ≡ apply s (Bind k) → s.block_count ≡ count → k < count → HasRoom s → BlocksPassed flags s count (map (tree_of state) (drop k bs)) → TreePassed flags s1 0 0 (tree_of state v)
+block_passed state flags bs k count v s s1 lt at e held below room p =
+    let t = tree_of state v in
+    let rest = map (tree_of state) (drop (k + 1) bs) in
+    let q : BlocksPassed flags s count (t ∷ rest) = subst (BlocksPassed flags s count) (split_at state bs k v lt at) p in
     let o = bind_turns s s1 k e in
     let same : s1.block_count ≡ count = o.blocks ∙ held in
     record {
       unmarked = o.unmarked ∙ q.unmarked;
       blocks = omega (arith, o.blocks, o.labels, room);
-      label = omega (arith, held, o.labels, room);
+      label = λ d. omega (arith, held, o.labels, room);
       short = omega (arith, o.bytes, q.short);
       passed = ap (λ b. tree_cause flags b (length s1.labels) 0 t) same ∙ ap (λ m. tree_cause flags count m 0 t) (o.labels ∙ (omega arith)) ∙ first_left (tree_cause flags count (length s.labels) 0 t) _ q.passed;
     }
 
 -- and those behind it
-pub others_passed : (flags : IsaFlags) (bs : List Block) (k count : ℕ) (v : Block) (s s1 s2 : State) → k < length bs → v ≡ get_or bs k v → s1 ≡ apply s (Bind k) → s2 ≡ run s1 (pieces (length s1.labels) 0 (tree_of v)) → BlocksPassed flags s count (map tree_of (drop k bs)) → BlocksPassed flags s2 count (map tree_of (drop (k + 1) bs))
-others_passed flags bs k count v s s1 s2 lt at e1 e2 p =
-    let t = tree_of v in
-    let rest = map tree_of (drop (k + 1) bs) in
-    let q : BlocksPassed flags s count (t ∷ rest) = subst (BlocksPassed flags s count) (split_at bs k v lt at) p in
+pub others_passed : (state : Emission) (flags : IsaFlags) (bs : List Block) (k count : ℕ) (v : Block) (s s1 s2 : State) → k < length bs → v ≡ get_or bs k v → s1 ≡ apply s (Bind k) → s2 ≡ run s1 (pieces (length s1.labels) 0 (tree_of state v)) → BlocksPassed flags s count (map (tree_of state) (drop k bs)) → BlocksPassed flags s2 count (map (tree_of state) (drop (k + 1) bs))
+others_passed state flags bs k count v s s1 s2 lt at e1 e2 p =
+    let t = tree_of state v in
+    let rest = map (tree_of state) (drop (k + 1) bs) in
+    let q : BlocksPassed flags s count (t ∷ rest) = subst (BlocksPassed flags s count) (split_at state bs k v lt at) p in
     let o = bind_turns s s1 k e1 in
     let m = tree_turns s1 s2 (length s1.labels) 0 t refl e2 in
     let labels : length s2.labels ≡ length s.labels + draws t = omega (arith, o.labels, m.labels) in

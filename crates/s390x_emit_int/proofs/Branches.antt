@@ -1,12 +1,12 @@
 -- A branch patched to its target has half the distance in its field.
 use Rattle.std.proofs.Common.{◌≡◌, ℕ, ◌+◌, ◌-◌, ◌*◌, ◌/◌, ◌%◌, ◌^◌, ◌<◌, [], ◌∷◌, ap, ◌∙◌, arith}
 use Rattle.s390x_buffer.specs.Patch.{patch}
-use Rattle.s390x_buffer.specs.declared.label_use.LabelUse.TheVariants.{BranchRIL}
+use Rattle.s390x_buffer.specs.declared.label_use.LabelUse.TheVariants.{BranchRIL, PCRel32}
 use Rattle.s390x_format.specs.Formats.{length_of, layout_of}
 use Rattle.s390x_format.specs.Layout.{number, bits}
 use Rattle.s390x_format.specs.Reading.{be_bytes}
 use Rattle.s390x_steps.specs.MachineInstruction.{ril_b, ril_c, bytes_of}
-use Rattle.s390x_steps.specs.Rows.{half_distance}
+use Rattle.s390x_steps.specs.Rows.{half_distance, table_distance, word_bytes}
 
 -- c0, the mask beside 4, and a word
 abbrev with_word : (m h : ℕ) → ℕ
@@ -105,3 +105,12 @@ patched_relative opcode register p target =
     (register_fourth a m b h ∙ ap (λ y. with_opcode a m b y / 65536 % 256) (whole_word x))
     (register_fifth a m b h ∙ ap (λ y. with_opcode a m b y / 256 % 256) (whole_word x))
     (register_sixth a m b h ∙ ap (λ y. with_opcode a m b y / 1 % 256) (whole_word x))
+
+-- ---- a word of a table
+
+-- what is added to the word is the distance from it
+word_sum : (before p target : ℕ) → (before / 16777216 % 256 * 16777216 + before / 65536 % 256 * 65536 + before / 256 % 256 * 256 + before % 256 + (4294967296 + target - p) % 4294967296) % 4294967296 ≡ table_distance p before target
+word_sum before p target = omega arith
+
+pub patched_word : (before p target : ℕ) → patch PCRel32 0 p target (word_bytes before) ≡ word_bytes (table_distance p before target)
+patched_word before p target = ap word_bytes (word_sum before p target)

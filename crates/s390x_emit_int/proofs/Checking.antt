@@ -1,11 +1,12 @@
 -- The check goes on from member to member.
 use Rattle.std.proofs.Common.{◌≡◌, ℕ, Result, Ok, Err, MatchResult, ◌+◌, ◌<◌, min, drop, get_or, length, List, None, Some, sym, ap, ◌∙◌, arith}
+use Rattle.s390x_inst.specs.Emission.{Emission}
 use Rattle.s390x_inst.specs.declared.state.IsaFlags.{IsaFlags}
 use Rattle.s390x_base.specs.declared.error.EmitError.{EmitError}
 use Rattle.s390x_inst.specs.declared.inst.Inst.{Inst}
 use Rattle.s390x_steps.specs.Tree.{Tree, empty, leaf, looped, graft, tree}
 use Rattle.s390x_steps.specs.Sizes.{instruction_size, tree_size}
-use Rattle.s390x_steps.specs.Causes.{first, draws, nesting_cause, numbers_cause, instruction_cause, tree_cause}
+use Rattle.s390x_steps.specs.Causes.{first, draws, nesting_cause, numbers_cause, instruction_draws, leaf_cause, tree_cause}
 use Rattle.s390x_steps.proofs.Trees.{behind, graft_draws, graft_size}
 use Rattle.s390x_steps.proofs.Causes.{first_none, graft_cause}
 use Rattle.s390x_emit_int.specs.Totals.{Adds, limit}
@@ -20,14 +21,14 @@ pub record GoesOn (flags : IsaFlags) (blocks depth : ℕ) (sum r : Totals) (rest
   pub labels : r.labels + draws rest ≡ sum.labels + draws all
   pub bytes : min limit (r.bytes + tree_size rest) ≡ min limit (sum.bytes + tree_size all)
 
-pub goes_on : (flags : IsaFlags) (blocks depth : ℕ) (sum r : Totals) (is : List Inst) (k : ℕ) (i : Inst) → k < length is → i ≡ get_or is k i → tree_cause flags blocks sum.labels depth (graft i empty) ≡ None → Adds sum r (draws (graft i empty)) (tree_size (graft i empty)) → GoesOn flags blocks depth sum r (tree (drop (k + 1) is)) (tree (drop k is))
-goes_on flags blocks depth sum r is k i lt at none adds =
-    let rest = tree (drop (k + 1) is) in
-    let b = behind is k i lt at in
+pub goes_on : (state : Emission) (flags : IsaFlags) (blocks depth : ℕ) (sum r : Totals) (is : List Inst) (k : ℕ) (i : Inst) → k < length is → i ≡ get_or is k i → tree_cause flags blocks sum.labels depth (graft state i empty) ≡ None → Adds sum r (draws (graft state i empty)) (tree_size (graft state i empty)) → GoesOn flags blocks depth sum r (tree state (drop (k + 1) is)) (tree state (drop k is))
+goes_on state flags blocks depth sum r is k i lt at none adds =
+    let rest = tree state (drop (k + 1) is) in
+    let b = behind state is k i lt at in
     record {
-      cause = ap (λ m. tree_cause flags blocks m depth rest) adds.labels ∙ ap (λ o. first o (tree_cause flags blocks (sum.labels + draws (graft i empty)) depth rest)) (sym none) ∙ sym (graft_cause flags blocks sum.labels depth i rest) ∙ ap (λ t. tree_cause flags blocks sum.labels depth t) (sym b);
-      labels = omega (arith, adds.labels, graft_draws i rest, ap draws b);
-      bytes = capped r.bytes (sum.bytes + tree_size (graft i empty)) (tree_size rest) adds.bytes ∙ ap (λ m. min limit m) (omega (arith, graft_size i rest, ap tree_size b));
+      cause = ap (λ m. tree_cause flags blocks m depth rest) adds.labels ∙ ap (λ o. first o (tree_cause flags blocks (sum.labels + draws (graft state i empty)) depth rest)) (sym none) ∙ sym (graft_cause flags state blocks sum.labels depth i rest) ∙ ap (λ t. tree_cause flags blocks sum.labels depth t) (sym b);
+      labels = omega (arith, adds.labels, graft_draws state i rest, ap draws b);
+      bytes = capped r.bytes (sum.bytes + tree_size (graft state i empty)) (tree_size rest) adds.bytes ∙ ap (λ m. min limit m) (omega (arith, graft_size state i rest, ap tree_size b));
     }
 
 -- a loop's answer is that of its tree
@@ -47,10 +48,10 @@ loop_answer flags blocks depth t mask x members (Err d) e p = ap (tree_cause fla
 
 -- so is that of an instruction that is no loop
 pub leaf_answer : (flags : IsaFlags) (blocks depth : ℕ) (t : Totals) (i : Inst) (x : Tree) (result : Result Totals EmitError) → x ≡ leaf i empty →
-    MatchResult result (λ r. (instruction_cause flags blocks depth i ≡ None) × Adds t r 0 (instruction_size i)) (λ e. instruction_cause flags blocks depth i ≡ Some e) →
+    MatchResult result (λ r. (leaf_cause flags blocks t.labels depth i ≡ None) × Adds t r (instruction_draws i) (instruction_size i)) (λ e. leaf_cause flags blocks t.labels depth i ≡ Some e) →
     MatchResult result (λ r. (tree_cause flags blocks t.labels depth x ≡ None) × Adds t r (draws x) (tree_size x)) (λ e. tree_cause flags blocks t.labels depth x ≡ Some e)
 leaf_answer flags blocks depth t i x (Ok r) e p = (
-  ap (tree_cause flags blocks t.labels depth) e ∙ first_none (instruction_cause flags blocks depth i) ∙ p.0,
+  ap (tree_cause flags blocks t.labels depth) e ∙ first_none (leaf_cause flags blocks t.labels depth i) ∙ p.0,
   record {
     counted = p.1.counted;
     labels = omega (arith, p.1.labels, ap draws e);

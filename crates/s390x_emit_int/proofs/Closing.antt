@@ -5,13 +5,16 @@ use Rattle.std.proofs.lemmas.Bool.{cases_lt, cases_eq}
 use Rattle.std.proofs.lemmas.List.{get_or-set_other, get_or-set_same}
 use Rattle.s390x_buffer.specs.State.{State}
 use Rattle.s390x_buffer.specs.Patch.{is_bound}
+use Rattle.s390x_base.specs.Regs.{number_of}
+use Rattle.s390x_inst.specs.declared.inst.Inst.{Inst}
+use Rattle.s390x_inst.specs.declared.inst.Inst.TheVariants.{JTSequence}
 use Rattle.s390x_steps.specs.Tree.{Tree, empty, leaf, looped}
 use Rattle.s390x_steps.specs.Sizes.{instruction_size, tree_size}
-use Rattle.s390x_steps.specs.Causes.{draws}
+use Rattle.s390x_steps.specs.Causes.{instruction_draws, draws}
 use Rattle.s390x_steps.specs.MachineInstruction.{ril_c, bytes_of}
 use Rattle.s390x_emit_int.specs.Pieces.{apply, run, Step}
 use Rattle.s390x_emit_int.specs.Emission.{leaf_pieces, back_pieces, pieces, function_pieces}
-use Rattle.s390x_emit_int.proofs.Runs.{Grows, grows_on, run-append, leaf_grows, step_grows, tree_grows, opened, opened_labels, opened_grows, body_run, loop_run, end_grows}
+use Rattle.s390x_emit_int.proofs.Runs.{Grows, grows_on, run-append, leaf_grows, step_grows, table_label, tree_grows, opened, opened_labels, opened_grows, body_run, loop_run, end_grows}
 use Rattle.s390x_emit_int.proofs.Binding.{opened_start}
 use Rattle.s390x_emit_int.proofs.Functions.{bound_state, block_state, block_grows, block_labels, later}
 
@@ -23,17 +26,29 @@ set_bound labels k l p lt h =
       | inr ne ↦ ap is_some (get_or-set_other labels k l (Some p) None ne) ∙ h ne
     ]
 
+-- so is the label that an instruction draws
+leaf_closed : (i : Inst) (s : State) (n after l : ℕ) → n ≡ length s.labels → n ≤ l → l < n + instruction_draws i → is_bound (run s (leaf_pieces n after i)).labels l ≡ true
+leaf_closed (JTSequence ridx other mask targets) s n after l e lo hi =
+    let same : l ≡ n = omega arith in
+    let pieces = leaf_pieces n after (JTSequence ridx other mask targets) in
+    ap (is_bound (run s pieces).labels) same ∙ ap is_some (table_label s n (number_of ridx) mask other.0 targets.items e)
+leaf_closed i s n after l e lo hi = absurd (omega arith)
+
 -- the labels that a tree draws, from number n on, are bound behind it
 pub tree_closed : (t : Tree) (s : State) (n after l : ℕ) → n ≡ length s.labels → n ≤ l → l < length (run s (pieces n after t)).labels → is_bound (run s (pieces n after t)).labels l ≡ true
 tree_closed empty s n after l e lo hi = absurd (omega arith)
 tree_closed (leaf i rest) s n after l e lo hi =
     let s1 = apply s Step in
-    let s2 = run s1 (leaf_pieces after i) in
-    let g : Grows s s2 0 (instruction_size i) = step_grows s s2 _ _ (leaf_grows i s1 after) in
-    let n2 : n ≡ length s2.labels = omega (arith, g.labels) in
-    let whole : run s (pieces n after (leaf i rest)) ≡ run s2 (pieces n after rest) = run-append s1 (leaf_pieces after i) (pieces n after rest) in
-    let hi2 : l < length (run s2 (pieces n after rest)).labels = omega (arith, hi, ap (λ x. length x.labels) whole) in
-    ap (λ x. is_bound x.labels l) whole ∙ tree_closed rest s2 n after l n2 lo hi2
+    let s2 = run s1 (leaf_pieces n after i) in
+    let n' = n + instruction_draws i in
+    let g : Grows s s2 (instruction_draws i) (instruction_size i) = step_grows s s2 _ _ (leaf_grows i s1 n after e) in
+    let n2 : n' ≡ length s2.labels = omega (arith, g.labels) in
+    let whole : run s (pieces n after (leaf i rest)) ≡ run s2 (pieces n' after rest) = run-append s1 (leaf_pieces n after i) (pieces n' after rest) in
+    let hi2 : l < length (run s2 (pieces n' after rest)).labels = omega (arith, hi, ap (λ x. length x.labels) whole) in
+    ap (λ x. is_bound x.labels l) whole ∙ elim (cases_lt l n') [
+      | inl lt ↦ ap is_some ((tree_grows rest s2 n' after n2).kept l (omega (arith, n2))) ∙ leaf_closed i s1 n after l e lo lt
+      | inr ge ↦ tree_closed rest s2 n' after l n2 ge hi2
+    ]
 tree_closed (looped mask members rest) s n after l e lo hi =
     let n0 = length s.labels in
     let s1 = apply s Step in

@@ -7,6 +7,8 @@ use Rattle.s390x_base.specs.Regs.{number_of, is_int}
 use Rattle.s390x_base.specs.declared.regs.RegClass.{RegClass}
 use Rattle.s390x_base.specs.declared.regs.RegClass.TheVariants.{Int, Float}
 use Rattle.s390x_base.specs.declared.regs.Reg.{Reg}
+use Rattle.s390x_base.specs.declared.regs.RegPair.{RegPair}
+use Rattle.s390x_base.specs.declared.regs.WritableRegPair.{WritableRegPair}
 use Rattle.s390x_base.specs.declared.regs.Reg.TheVariants.{Real, Virtual}
 use Rattle.s390x_enc.specs.Operands.{is_first_float, is_second_float, is_float, may_stand_first, may_stand_second, is_general as encodes_general, is_int as encodes_int}
 use Rattle.s390x_inst.specs.declared.ops.ALUOp.{ALUOp}
@@ -17,7 +19,7 @@ use Rattle.s390x_inst.specs.declared.ops.UnaryOp.{UnaryOp}
 use Rattle.s390x_inst.specs.declared.ops.UnaryOp.TheVariants.{Abs32}
 use Rattle.s390x_base.specs.Registers.{general}
 use Rattle.s390x_base.specs.Regs.{is_pair}
-use Rattle.s390x_steps.specs.General.{is_general, is_even_pair, reuses}
+use Rattle.s390x_steps.specs.General.{is_general, is_even_pair, reuses, reuses_pair}
 use Rattle.s390x_steps.specs.Opcodes.{alu_two, cmp_two, unary_two}
 use Rattle.s390x_emit_int.specs.Alone.{can_encode, encodes, takes_general}
 use Rattle.s390x_emit_int.specs.declared.alone.RegisterRow.{RegisterRow}
@@ -117,6 +119,12 @@ even_reused_encodes a b c d o e = stronger (is_even_pair a b && reuses b c && is
     let p = and_parts (is_even_pair a b && reuses b c) (is_general d) h in
     let q = and_parts (is_even_pair a b) (reuses b c) p.0 in
     and_from (is_general a) (is_general d) (even_high a b q.0) p.1) e
+
+pub even_reused_pair_encodes : (output : WritableRegPair) (input : RegPair) (d : Reg) (o : Option RegisterRow) → encodes (is_general output.hi && is_general d) o ≡ true → encodes (is_even_pair output.hi output.lo && reuses_pair output input && is_general d) o ≡ true
+even_reused_pair_encodes output input d o e = stronger (is_even_pair output.hi output.lo && reuses_pair output input && is_general d) (is_general output.hi && is_general d) o (λ h.
+    let p = and_parts (is_even_pair output.hi output.lo && reuses_pair output input) (is_general d) h in
+    let q = and_parts (is_even_pair output.hi output.lo) (reuses_pair output input) p.0 in
+    and_from (is_general output.hi) (is_general d) (even_high output.hi output.lo q.0) p.1) e
 
 -- an access register's number stands where a general register's does
 pub access_encodes : (a : Reg) (n : ℕ) → (not (is_general a) || (may_stand_first 0xb24f a && may_stand_second 0xb24f (Real (general n)))) ≡ true

@@ -1,27 +1,28 @@
 -- After a check that found no cause, a buffer can be finished.
 use Rattle.std.proofs.Common.{◌≡◌, ℕ, ◌+◌, ◌%◌, ◌<◌, ◌≤◌, ◌⊎◌, inl, inr, List, [], ◌∷◌, length, get_or, Bool, true, cond, nat_lt, nat_le, nat_eq, Option, Result, Ok, Err, MatchResult, refl, sym, ap, ◌∙◌, subst, arith, length-append, None, Some}
 use Rattle.std.specs.Prelude.{is_some}
-use Rattle.std.specs.List.{All}
 use Rattle.std.proofs.lemmas.Bool.{and_from, ltb-true, lt-ltb, le-leb, eq-eqb}
 use Rattle.std.proofs.lemmas.List.{length-replicate}
-use Rattle.std.proofs.lemmas.List.Elements.{All-nil, All-head, All-tail, All-replicate, All-get_or}
+use Rattle.std.proofs.lemmas.List.Elements.{All-replicate, All-get_or}
 use Rattle.s390x_inst.specs.declared.state.IsaFlags.{IsaFlags}
 use Rattle.s390x_base.specs.declared.error.EmitError.{EmitError}
 use Rattle.s390x_base.specs.declared.error.EmitError.TheVariants.{LabelOutOfRange, UnboundLabel, Failed, NoMemory}
 use Rattle.s390x_buffer.specs.State.{State, Constant, fresh, limit, new_cause, put_cause}
-use Rattle.s390x_buffer.specs.Patch.{first as first_use, place_of, place_in, is_bound, is_in_reach, can_patch, use_cause, uses_cause, patch_use}
+use Rattle.s390x_buffer.specs.Patch.{first as first_use, place_of, place_in, is_bound, word, flipped, sum_fits, is_in_reach, can_patch, use_cause, uses_cause, patch, patch_size, patch_use}
+use Rattle.s390x_buffer.specs.Branches.{field_end}
+use Rattle.s390x_buffer.proofs.Branching.{patch_other}
 use Rattle.s390x_buffer.specs.Constants.{constant_bytes, constants_end}
 use Rattle.s390x_buffer.specs.Finish.{final_labels, finished_length, starts_of_constants, unpatched, length_cause as long_cause, patch_cause, BlamesEither, finish_cause}
 use Rattle.s390x_buffer.specs.declared.entries.LabelFixup.{LabelFixup}
 use Rattle.s390x_buffer.specs.declared.label_use.LabelUse.{LabelUse}
-use Rattle.s390x_buffer.specs.declared.label_use.LabelUse.TheVariants.{BranchRIL}
+use Rattle.s390x_buffer.specs.declared.label_use.LabelUse.TheVariants.{BranchRI, BranchRIL, PCRel32, PCRel32Dbl}
 use Rattle.s390x_buffer.proofs.Placing.{length-constant_bytes, end-ge}
 use Rattle.s390x_steps.specs.Tree.{Tree}
 use Rattle.s390x_steps.specs.Causes.{draws, blocks_cause}
 use Rattle.s390x_steps.specs.Sizes.{blocks_size}
 use Rattle.s390x_steps.proofs.Causes.{first_left, first_right, unless_true}
 use Rattle.s390x_emit_int.specs.Function.{checked_cause, length_cause}
-use Rattle.s390x_emit_int.specs.Pieces.{Piece, apply, run, Put, Link, Step, Draw, Bind}
+use Rattle.s390x_emit_int.specs.Pieces.{Piece, apply, run, Put, PutTrapping, PutReloc, Link, Step, Draw, Bind}
 use Rattle.s390x_emit_int.specs.Emission.{pieces, function_pieces}
 use Rattle.s390x_emit_int.specs.Resolve.{put_length}
 use Rattle.s390x_emit_int.proofs.Closing.{blocks_closed, drawn_closed}
@@ -29,7 +30,7 @@ use Rattle.s390x_emit_int.proofs.Functions.{block_state, bound_state, block_labe
 use Rattle.s390x_emit_int.proofs.Imaging.{low_label, high_label, length-starts}
 use Rattle.s390x_emit_int.proofs.Lacking.{put_none}
 use Rattle.s390x_emit_int.proofs.Names.{all_names}
-use Rattle.s390x_emit_int.proofs.Orderly.{AllSound, all_draws, function_sound, Stands, IsUse, Orderly, orderly_run}
+use Rattle.s390x_emit_int.proofs.Orderly.{AllSound, all_draws, function_sound, Stands, BearsUse, UsesStand, SameFrom, uses_still, same_append, Orderly, orderly_run}
 use Rattle.s390x_emit_int.proofs.Patching.{length-patch}
 use Rattle.s390x_emit_int.proofs.Runs.{run-append}
 use Rattle.s390x_emit_int.proofs.Starts.{Same, same_run}
@@ -38,6 +39,8 @@ use Rattle.s390x_emit_int.proofs.Starts.{Same, same_run}
 bytes_run : (ps : List Piece) (s : State) → length (run s ps).bytes ≡ length s.bytes + put_length ps
 bytes_run [] s = omega arith
 bytes_run (Put bs ∷ ps) s = omega (arith, bytes_run ps (apply s (Put bs)), length-append s.bytes bs)
+bytes_run (PutReloc bs kind name addend ∷ ps) s = omega (arith, bytes_run ps (apply s (PutReloc bs kind name addend)), length-append s.bytes bs)
+bytes_run (PutTrapping bs byte code ∷ ps) s = omega (arith, bytes_run ps (apply s (PutTrapping bs byte code)), length-append s.bytes bs)
 bytes_run (Link k l bs ∷ ps) s = omega (arith, bytes_run ps (apply s (Link k l bs)), length-append s.bytes bs)
 bytes_run (Step ∷ ps) s = bytes_run ps (apply s Step)
 bytes_run (Draw ∷ ps) s = bytes_run ps (apply s Draw)
@@ -52,15 +55,28 @@ labels_run (t ∷ ts) s n b e =
     ∙ labels_run ts (block_state s n b t) (n + draws t) (b + 1) n2
     ∙ (omega arith)
 
--- a branch between even places in code below the limit
-branch_reaches : (kind : LabelUse) (place target : ℕ) (bs : List ℕ) → kind ≡ BranchRIL → place % 2 ≡ 0 → target % 2 ≡ 0 → target < limit → place + 6 ≤ length bs → length bs < limit → can_patch kind place target bs ≡ true
-branch_reaches kind place target bs e even_place even_target near within short =
+-- a use between even places in code below the limit
+use_reaches : (kind : LabelUse) (place target : ℕ) (bs : List ℕ) → BearsUse kind place bs → place % 2 ≡ 0 → target % 2 ≡ 0 → target < limit → place + patch_size kind ≤ length bs → length bs < limit → can_patch kind place target bs ≡ true
+use_reaches BranchRI place target bs bears even_place even_target near within short = absurd bears
+use_reaches BranchRIL place target bs bears even_place even_target near within short =
     let even : nat_eq ((place + target) % 2) 0 ≡ true = eq-eqb ((place + target) % 2) 0 (omega arith) in
     let up : nat_le target (place + 4294967294) ≡ true = le-leb target (place + 4294967294) (omega arith) in
     let down : nat_le place (target + 4294967295) ≡ true = le-leb place (target + 4294967295) (omega arith) in
     let inside : nat_le (place + 6) (length bs) ≡ true = le-leb (place + 6) (length bs) within in
     let reach : is_in_reach BranchRIL place target ≡ true = and_from _ _ even (and_from _ _ up down) in
-    ap (λ k. can_patch k place target bs) e ∙ and_from (is_in_reach BranchRIL place target) _ reach (and_from true _ refl inside)
+    and_from (is_in_reach BranchRIL place target) _ reach (and_from true _ refl inside)
+use_reaches PCRel32 place target bs bears even_place even_target near within short =
+    let w : ℕ = word bs place in
+    let even : nat_eq ((place + target) % 2) 0 ≡ true = eq-eqb ((place + target) % 2) 0 (omega arith) in
+    let up : nat_le target (place + 2147483647) ≡ true = le-leb target (place + 2147483647) (omega arith) in
+    let down : nat_le place (target + 2147483648) ≡ true = le-leb place (target + 2147483648) (omega arith) in
+    let inside : nat_le (place + 4) (length bs) ≡ true = le-leb (place + 4) (length bs) within in
+    let whole : flipped w ≡ w + 2147483648 = omega (arith, bears) in
+    let low : nat_le place (flipped w + target) ≡ true = le-leb place (flipped w + target) (omega (arith, whole)) in
+    let high : nat_lt (flipped w + target) (place + 4294967296) ≡ true = lt-ltb (flipped w + target) (place + 4294967296) (omega (arith, whole, bears)) in
+    let reach : is_in_reach PCRel32 place target ≡ true = and_from _ _ even (and_from _ _ up down) in
+    and_from (is_in_reach PCRel32 place target) _ reach (and_from (sum_fits PCRel32 w place target) _ (and_from _ _ low high) inside)
+use_reaches PCRel32Dbl place target bs bears even_place even_target near within short = absurd bears
 
 -- a label that a use may name stands at an even place below the limit
 pub record CanBeUsed (labels : List (Option ℕ)) (l : ℕ) : Type 0 where
@@ -74,14 +90,25 @@ none_of a b ha hb = ap (λ x. cond x (cond b None (Some LabelOutOfRange)) (Some 
 both_none : (a b : Option EmitError) → a ≡ None → b ≡ None → first_use a b ≡ None
 both_none a b ha hb = ap (λ x. first_use x b) ha ∙ hb
 
-uses_fine : (May : ℕ → Type 0) (labels : List (Option ℕ)) (us : List LabelFixup) (bs : List ℕ) (n : ℕ) → ((l : ℕ) → May l → CanBeUsed labels l) → All (IsUse May n) us → n ≤ length bs → length bs < limit → uses_cause labels us bs ≡ None
-uses_fine May labels [] bs n fine all le short = refl
-uses_fine May labels (u ∷ us) bs n fine all le short =
-    let h = All-head (IsUse May n) u us all in
+-- a patched use leaves the bytes behind it
+patch_leaves : (kind : LabelUse) (place target : ℕ) (bs : List ℕ) → SameFrom (place + patch_size kind) bs (patch kind place place target bs)
+patch_leaves kind place target bs = (omega (arith, length-patch kind place place target bs), λ i lo hi. patch_other kind place place target bs i (inr (ends kind place i lo)))
+  where
+    ends : (kind : LabelUse) (place i : ℕ) → place + patch_size kind ≤ i → field_end kind place ≤ i
+    ends BranchRI place i h = h
+    ends BranchRIL place i h = h
+    ends PCRel32 place i h = h
+    ends PCRel32Dbl place i h = h
+
+uses_fine : (May : ℕ → Type 0) (labels : List (Option ℕ)) (us : List LabelFixup) (from : ℕ) (bs : List ℕ) → ((l : ℕ) → May l → CanBeUsed labels l) → UsesStand May bs from us → length bs < limit → uses_cause labels us bs ≡ None
+uses_fine May labels [] from bs fine all short = refl
+uses_fine May labels (u ∷ us) from bs fine all short =
+    let h = all.0 in
     let l = fine u.label.0 h.label in
     let long = length-patch u.kind u.offset u.offset (place_in labels u.label.0) bs in
-    let here : use_cause labels bs u ≡ None = none_of (is_bound labels u.label.0) _ l.bound (branch_reaches u.kind u.offset (place_in labels u.label.0) bs h.kind h.even l.even l.near (omega (arith, h.within)) short) in
-    both_none _ _ here (uses_fine May labels us (patch_use (place_in labels) u bs) n fine (All-tail (IsUse May n) u us all) (omega (arith, long)) (omega (arith, long)))
+    let here : use_cause labels bs u ≡ None = none_of (is_bound labels u.label.0) _ l.bound (use_reaches u.kind u.offset (place_in labels u.label.0) bs h.bears h.even l.even l.near h.within short) in
+    let n = u.offset + patch_size u.kind in
+    both_none _ _ here (uses_fine May labels us n (patch_use (place_in labels) u bs) fine (uses_still May us n n bs (patch_use (place_in labels) u bs) (patch_leaves u.kind u.offset (place_in labels u.label.0) bs) (omega arith) all.1) (omega (arith, long)))
 
 stands_place : (n : ℕ) (o : Option ℕ) → Stands n o → (place_of o % 2 ≡ 0) × (place_of o ≤ n)
 stands_place n None h = (refl, omega arith)
@@ -123,9 +150,9 @@ can_finish flags ts cs u0 is fine =
     let ends : finished_length u ≡ constants_end (blocks_size ts) cs = ap (λ x. constants_end (length u.bytes) x) same.constants ∙ ap (λ m. constants_end m cs) size in
     let below : constants_end (blocks_size ts) cs < limit = ltb-true (constants_end (blocks_size ts) cs) limit (unless_true (nat_lt (constants_end (blocks_size ts) cs) limit) LabelOutOfRange long) in
     let May = IsNamed b n (n + all_draws ts) in
-    let sound : AllSound May ps = function_sound May ts n 0 b (all_names flags b n ts blocks) (λ l lt. inl lt) (λ l lo hi. inr (lo, hi)) (omega arith) in
-    let begins : Orderly May s0 = record { even = refl; labels = All-replicate (Stands 0) n None tt; uses = All-nil (IsUse May 0) } in
-    let orderly : Orderly May u = orderly_run May ps s0 sound begins in
+    let sound : AllSound May 0 ps = function_sound May ts n 0 b (all_names flags b n ts blocks) (λ l lt. inl lt) (λ l lo hi. inr (lo, hi)) (omega arith) in
+    let begins : Orderly May s0 = record { even = refl; labels = All-replicate (Stands 0) n None tt; uses = tt } in
+    let orderly : Orderly May u = orderly_run May ps s0 0 (omega arith) sound begins in
     let full : length (unpatched u) ≡ finished_length u = length-append u.bytes (constant_bytes (length u.bytes) u.constants) ∙ length-constant_bytes (length u.bytes) u.constants in
     let far : length u.bytes ≤ length (unpatched u) = omega (arith, length-append u.bytes (constant_bytes (length u.bytes) u.constants)) in
     let short : length (unpatched u) < limit = omega (arith, full, ends, below) in
@@ -140,7 +167,7 @@ can_finish flags ts cs u0 is fine =
     ] in
     let done : CanFinish u = record {
       short = ap (λ f. cond f (Some Failed) (cond (nat_lt (finished_length u) limit) None (Some LabelOutOfRange))) same.failed ∙ ap (λ t. cond t None (Some LabelOutOfRange)) (lt-ltb (finished_length u) limit (omega (arith, ends, below)));
-      patched = uses_fine May (final_labels u) u.uses (unpatched u) (length u.bytes) named orderly.uses far short;
+      patched = uses_fine May (final_labels u) u.uses 0 (unpatched u) named (uses_still May u.uses 0 0 u.bytes (unpatched u) (same_append 0 u.bytes (constant_bytes (length u.bytes) u.constants)) (omega arith) orderly.uses) short;
     } in
     subst CanFinish (sym is) done
 

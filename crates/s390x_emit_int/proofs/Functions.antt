@@ -4,21 +4,21 @@ use Rattle.std.proofs.lemmas.List.{get_or-set_other, get_or-set_same}
 use Rattle.s390x_buffer.specs.State.{State}
 use Rattle.s390x_buffer.specs.Patch.{place_in, place_of}
 use Rattle.s390x_inst.specs.declared.inst.Inst.{Inst}
-use Rattle.s390x_inst.specs.declared.inst.Inst.TheVariants.{CondBreak}
+use Rattle.s390x_inst.specs.declared.inst.Inst.TheVariants.{CondBreak, JTSequence}
 use Rattle.s390x_steps.specs.Tree.{Tree, empty, leaf, looped}
 use Rattle.s390x_steps.specs.Steps.{Step as TypedStep, step_count, steps_of, steps_from, first_step}
 use Rattle.s390x_steps.specs.MachineInstruction.{ril_b, ril_c, bytes_of}
-use Rattle.s390x_steps.specs.Parts.{Part, Row, Branch, Relative, ToBlock, ToStep, instruction_parts, step_size}
+use Rattle.s390x_steps.specs.Parts.{Part, Row, Trapping, Branch, Relative, SymbolValue, TrapHere, TableWord, ToBlock, ToStep, table_words, instruction_parts, step_size}
 use Rattle.s390x_steps.specs.Rows.{Places}
 use Rattle.s390x_steps.specs.Image.{place, code, step_places, block_places}
 use Rattle.s390x_steps.specs.Sizes.{tree_size, blocks_size}
-use Rattle.s390x_steps.specs.Causes.{draws}
-use Rattle.s390x_emit_int.specs.Pieces.{Piece, apply, run, Put, Link, Step, Draw, Bind}
+use Rattle.s390x_steps.specs.Causes.{instruction_draws, draws}
+use Rattle.s390x_emit_int.specs.Pieces.{Piece, apply, run, Put, PutTrapping, PutReloc, Link, Step, Draw, Bind}
 use Rattle.s390x_emit_int.specs.Emission.{part_pieces, leaf_pieces, back_pieces, pieces, function_pieces}
 use Rattle.s390x_emit_int.specs.Resolve.{resolve, put_length, Wide}
 use Rattle.s390x_emit_int.specs.Bound.{Follows, TreesName, AllBound}
 use Rattle.s390x_emit_int.proofs.Runs.{Grows, run-append, tree_grows, length-branch, length-relative}
-use Rattle.s390x_emit_int.proofs.Joining.{resolve-append, put_append, tree_put, steps_total, steps_length, code_append, follows_left, follows_right, follows_end, tree_join}
+use Rattle.s390x_emit_int.proofs.Joining.{Agrees, resolve-append, put_append, tree_put, steps_total, steps_length, code_append, follows_left, follows_right, follows_end, tree_join}
 use Rattle.s390x_emit_int.proofs.Binding.{Tells, tree_bound}
 use Rattle.s390x_emit_int.proofs.Starts.{marks, marks_append, tree_marks, places_more}
 
@@ -26,6 +26,8 @@ use Rattle.s390x_emit_int.proofs.Starts.{marks, marks_append, tree_marks, places
 wide_append : (a b : List Piece) → Wide a → Wide b → Wide (a ++ b)
 wide_append [] b v w = w
 wide_append (Put bs ∷ a) b v w = wide_append a b v w
+wide_append (PutReloc bs kind name addend ∷ a) b v w = wide_append a b v w
+wide_append (PutTrapping bs byte code ∷ a) b v w = wide_append a b v w
 wide_append (Link k l bs ∷ a) b v w = (v.0, wide_append a b v.1 w)
 wide_append (Step ∷ a) b v w = wide_append a b v w
 wide_append (Draw ∷ a) b v w = wide_append a b v w
@@ -40,18 +42,24 @@ wide_relative opcode register = omega (arith, length-relative opcode register)
 parts_wide : (parts : List Part) → Wide (part_pieces parts)
 parts_wide [] = tt
 parts_wide (Row m ∷ parts) = parts_wide parts
+parts_wide (Trapping m byte code ∷ parts) = parts_wide parts
 parts_wide (Branch mask (ToBlock b) ∷ parts) = (wide_branch mask, parts_wide parts)
 parts_wide (Branch mask (ToStep k) ∷ parts) = (wide_branch mask, parts_wide parts)
 parts_wide (Relative opcode register (ToBlock b) ∷ parts) = (wide_relative opcode register, parts_wide parts)
 parts_wide (Relative opcode register (ToStep k) ∷ parts) = (wide_relative opcode register, parts_wide parts)
+parts_wide (SymbolValue name offset ∷ parts) = parts_wide parts
+parts_wide (TrapHere code ∷ parts) = parts_wide parts
+parts_wide (TableWord before (ToBlock b) ∷ parts) = (omega arith, parts_wide parts)
+parts_wide (TableWord before (ToStep k) ∷ parts) = (omega arith, parts_wide parts)
 
-leaf_wide : (i : Inst) (after : ℕ) → Wide (leaf_pieces after i)
-leaf_wide (CondBreak mask) after = (wide_branch mask, tt)
-leaf_wide i after = parts_wide (instruction_parts i)
+leaf_wide : (i : Inst) (n after : ℕ) → Wide (leaf_pieces n after i)
+leaf_wide (CondBreak mask) n after = (wide_branch mask, tt)
+leaf_wide (JTSequence ridx other mask targets) n after = (wide_branch mask, (wide_relative 0xc00 1, parts_wide (table_words 0 targets.items)))
+leaf_wide i n after = parts_wide (instruction_parts i)
 
 pub tree_wide : (t : Tree) (n after : ℕ) → Wide (pieces n after t)
 tree_wide empty n after = tt
-tree_wide (leaf i rest) n after = wide_append (leaf_pieces after i) (pieces n after rest) (leaf_wide i after) (tree_wide rest n after)
+tree_wide (leaf i rest) n after = wide_append (leaf_pieces n after i) (pieces (n + instruction_draws i) after rest) (leaf_wide i n after) (tree_wide rest (n + instruction_draws i) after)
 tree_wide (looped mask members rest) n after =
     let r = pieces (n + 2 + draws members) after rest in
     wide_append (pieces (n + 2) (n + 1) members) (back_pieces n mask ++ r) (tree_wide members (n + 2) (n + 1)) (wide_branch mask, tree_wide rest (n + 2 + draws members) after)
@@ -127,12 +135,12 @@ all_bound (t ∷ ts) s n b off e room blocks tells =
     (here, inner, subst (λ m. AllBound off (n + draws t) (b + 1) m ts) g.bytes outer)
 
 -- where the next block's steps stand
-next_block : (t : Tree) (ts : List Tree) (at : ℕ → ℕ) (k : ℕ) → Follows at k (steps_from k (t ∷ ts)) → (at (k + step_count t) ≡ at k + tree_size t) × Follows at (k + step_count t) (steps_from (k + step_count t) ts)
+pub next_block : (t : Tree) (ts : List Tree) (at : ℕ → ℕ) (k : ℕ) → Follows at k (steps_from k (t ∷ ts)) → (at (k + step_count t) ≡ at k + tree_size t) × Follows at (k + step_count t) (steps_from (k + step_count t) ts)
 next_block t ts at k follow =
     let e : k + length (steps_of k 0 t) ≡ k + step_count t = ap (λ m. k + m) (steps_length t k 0) in
     (follows_end at (steps_of k 0 t) k (k + step_count t) e (follows_left at (steps_of k 0 t) (steps_from (k + step_count t) ts) k follow) ∙ ap (λ m. at k + m) (steps_total t k 0), follows_right at (steps_of k 0 t) (steps_from (k + step_count t) ts) k (k + step_count t) e follow)
 
-pub function_join : (ts : List Tree) (off : ℕ → ℕ) (P : Places) (blocks n b k : ℕ) → ((l : ℕ) → l < blocks → off l ≡ P.block l) → TreesName blocks ts → AllBound off n b (P.step k) ts → Follows P.step k (steps_from k ts) → off 0 ≡ P.step 0 → resolve off (P.step k) (function_pieces n b ts) ≡ code P k (steps_from k ts)
+pub function_join : (ts : List Tree) (off : ℕ → ℕ) (P : Places) (blocks n b k : ℕ) → Agrees off P blocks → TreesName blocks ts → AllBound off n b (P.step k) ts → Follows P.step k (steps_from k ts) → off 0 ≡ P.step 0 → resolve off (P.step k) (function_pieces n b ts) ≡ code P k (steps_from k ts)
 function_join [] off P blocks n b k agree names bound follow zero_at = refl
 function_join (t ∷ ts) off P blocks n b k agree names bound follow zero_at =
     let at = P.step in

@@ -1,6 +1,7 @@
 -- The finished function is its image.
 use Rattle.std.proofs.Common.{◌≡◌, ℕ, suc, ◌+◌, ◌-◌, ◌<◌, ◌≤◌, ◌≢◌, List, [], ◌∷◌, ◌++◌, length, map, get_or, take, drop, refl, sym, ap, ◌∙◌, subst, arith, length-append, length-set, zero-add, drop-cons, length-take, Option, None, Some}
 use Rattle.std.proofs.lemmas.List.{length-map, length-replicate, get_or_append_left, get_or-append-add, get_or-take, get_or-drop}
+use Rattle.s390x_inst.specs.Emission.{Emission}
 use Rattle.s390x_inst.specs.declared.state.IsaFlags.{IsaFlags}
 use Rattle.s390x_buffer.specs.State.{State, Constant, fresh}
 use Rattle.s390x_buffer.specs.Patch.{place_in, place_of}
@@ -15,7 +16,7 @@ use Rattle.s390x_inst.specs.declared.inst.Inst.{Inst}
 use Rattle.s390x_steps.specs.Steps.{function_steps, first_step}
 use Rattle.s390x_steps.specs.Image.{place, function_places, function_code}
 use Rattle.s390x_steps.specs.Causes.{draws, blocks_cause}
-use Rattle.s390x_emit_int.specs.Pieces.{Piece, apply, run, Put, Link, Step, Draw, Bind}
+use Rattle.s390x_emit_int.specs.Pieces.{Piece, apply, run, Put, PutTrapping, PutReloc, Link, Step, Draw, Bind}
 use Rattle.s390x_emit_int.specs.Emission.{pieces, function_pieces}
 use Rattle.s390x_emit_int.specs.Resolve.{resolve, Wide, Within}
 use Rattle.s390x_emit_int.specs.Bound.{TreesName, AllBound}
@@ -25,6 +26,8 @@ use Rattle.s390x_emit_int.proofs.Patching.{patched, patched_run, all_left, lengt
 use Rattle.s390x_emit_int.proofs.Names.{all_names}
 use Rattle.s390x_emit_int.proofs.Starts.{Same, same_run, starts_run, marks}
 use Rattle.s390x_emit_int.proofs.Functions.{function_wide, TellsBlocks, all_bound, function_join, function_marks, block_at, blocks_upto, places_upto, place_follows, place_zero, bound_state, block_state, block_labels, block_kept, longer}
+use Rattle.s390x_emit_int.proofs.Relocating.{relocated, relocs_run, function_relocated}
+use Rattle.s390x_emit_int.proofs.Recording.{recorded, traps_run, function_recorded}
 use Rattle.s390x_buffer.specs.declared.entries.LabelFixup.{LabelFixup}
 use Rattle.s390x_buffer.proofs.Placing.{length-constant_bytes}
 
@@ -34,6 +37,12 @@ within_run [] s w h = w
 within_run (Put bs ∷ ps) s w h =
     let n = length-append s.bytes bs in
     within_run ps (apply s (Put bs)) (within_more (length s.bytes) (length (s.bytes ++ bs)) s.uses (omega (arith, n)) w) h
+within_run (PutReloc bs kind name addend ∷ ps) s w h =
+    let n = length-append s.bytes bs in
+    within_run ps (apply s (PutReloc bs kind name addend)) (within_more (length s.bytes) (length (s.bytes ++ bs)) s.uses (omega (arith, n)) w) h
+within_run (PutTrapping bs byte code ∷ ps) s w h =
+    let n = length-append s.bytes bs in
+    within_run ps (apply s (PutTrapping bs byte code)) (within_more (length s.bytes) (length (s.bytes ++ bs)) s.uses (omega (arith, n)) w) h
 within_run (Link k l bs ∷ ps) s w h =
     let n = length-append s.bytes bs in
     let u : LabelFixup = record { kind = k; offset = length s.bytes; label = record { 0 = l } } in
@@ -72,7 +81,7 @@ code_is : (ts : List Tree) (off : ℕ → ℕ) (n : ℕ) → ((l : ℕ) → l < 
 code_is [] off n agree names bound = refl
 code_is (t ∷ ts) off n agree names bound =
     let all = function_steps (t ∷ ts) in
-    ap (λ m. resolve off m (function_pieces n 0 (t ∷ ts))) (sym (place_zero all)) ∙ function_join (t ∷ ts) off (function_places (t ∷ ts)) (length (t ∷ ts)) n 0 0 agree names bound (place_follows all) bound.0
+    ap (λ m. resolve off m (function_pieces n 0 (t ∷ ts))) (sym (place_zero all)) ∙ function_join (t ∷ ts) off (function_places (t ∷ ts)) (length (t ∷ ts)) n 0 0 (agree, λ name offset. refl) names bound (place_follows all) bound.0
 
 -- what was emitted, as one buffer has it
 pub record Emitted (flags : IsaFlags) (ts : List Tree) (cs : List Constant) (u : State) : Type 0 where
@@ -114,8 +123,8 @@ image_of flags ts cs u0 f emitted fin0 =
       block_starts = fin.block_starts ∙ ap (λ m. map place_of (take m u.labels)) count ∙ places_upto b 0 u.labels off (omega arith) blocks ∙ blocks_upto ts off at n 0 0 bound follow;
       constant_starts = fin.constant_starts ∙ ap (λ m. constant_starts m u.constants) size ∙ ap (λ x. constant_starts (length (function_code ts)) x) same.constants;
       starts = fin.starts ∙ starts_run ps s0 ∙ ap (λ m. marks m ps) (sym (place_zero all)) ∙ function_marks ts at n 0 0 follow;
-      relocs = fin.relocs ∙ same.relocs;
-      traps = fin.traps ∙ same.traps;
+      relocs = fin.relocs ∙ relocs_run ps s0 ∙ ap (λ m. relocated m ps) (sym (place_zero all)) ∙ function_relocated ts at n 0 0 follow;
+      traps = fin.traps ∙ traps_run ps s0 ∙ ap (λ m. recorded m ps) (sym (place_zero all)) ∙ function_recorded ts at n 0 0 follow;
       call_sites = fin.call_sites ∙ same.call_sites;
       try_call_sites = fin.try_call_sites ∙ ap (λ x. map (placed_site off) x) same.try_call_sites;
       patchable_sites = fin.patchable_sites ∙ same.patchable_sites;
@@ -128,19 +137,19 @@ block_is s s1 s2 k t e1 e2 =
     e2 ∙ ap (λ x. run x (pieces (length x.labels) 0 t)) e1 ∙ ap (λ m. run (bound_state s k) (pieces m 0 t)) (length-set s.labels k (Some (length s.bytes)))
 
 -- one more block
-pub block_more : (bs : List Block) (k : ℕ) (v : Block) (s s1 s2 r : State) → k < length bs → v ≡ get_or bs k v → s1 ≡ apply s (Bind k) → s2 ≡ run s1 (pieces (length s1.labels) 0 (tree_of v)) → run s (function_pieces (length s.labels) k (map tree_of (drop k bs))) ≡ r → run s2 (function_pieces (length s2.labels) (k + 1) (map tree_of (drop (k + 1) bs))) ≡ r
-block_more bs k v s s1 s2 r lt at e1 e2 h =
+pub block_more : (state : Emission) (bs : List Block) (k : ℕ) (v : Block) (s s1 s2 r : State) → k < length bs → v ≡ get_or bs k v → s1 ≡ apply s (Bind k) → s2 ≡ run s1 (pieces (length s1.labels) 0 (tree_of state v)) → run s (function_pieces (length s.labels) k (map (tree_of state) (drop k bs))) ≡ r → run s2 (function_pieces (length s2.labels) (k + 1) (map (tree_of state) (drop (k + 1) bs))) ≡ r
+block_more state bs k v s s1 s2 r lt at e1 e2 h =
     let n = length s.labels in
-    let t = tree_of v in
+    let t = tree_of state v in
     let rest = drop (k + 1) bs in
     let k1 : suc k ≡ k + 1 = omega arith in
     let cons : drop k bs ≡ v ∷ rest = drop-cons bs k v lt ∙ ap (λ x. x ∷ drop (suc k) bs) (sym at) ∙ ap (λ m. v ∷ drop m bs) k1 in
     let e2' : s2 ≡ block_state s n k t = block_is s s1 s2 k t e1 e2 in
     let len : length s2.labels ≡ n + draws t = ap (λ x. length x.labels) e2' ∙ sym (block_labels t s n k refl) in
-    ap (λ m. run s2 (function_pieces m (k + 1) (map tree_of rest))) len
-    ∙ ap (λ x. run x (function_pieces (n + draws t) (k + 1) (map tree_of rest))) e2'
-    ∙ sym (run-append (bound_state s k) (pieces n 0 t) (function_pieces (n + draws t) (k + 1) (map tree_of rest)))
-    ∙ ap (λ l. run s (function_pieces n k (map tree_of l))) (sym cons)
+    ap (λ m. run s2 (function_pieces m (k + 1) (map (tree_of state) rest))) len
+    ∙ ap (λ x. run x (function_pieces (n + draws t) (k + 1) (map (tree_of state) rest))) e2'
+    ∙ sym (run-append (bound_state s k) (pieces n 0 t) (function_pieces (n + draws t) (k + 1) (map (tree_of state) rest)))
+    ∙ ap (λ l. run s (function_pieces n k (map (tree_of state) l))) (sym cons)
     ∙ h
 
 pub record NextBlock (s2 : State) (k n : ℕ) : Type 0 where
@@ -164,8 +173,8 @@ block_room k t s s1 s2 room e1 e2 =
     let same : Same s (block_state s n k t) = same_run (Bind k ∷ pieces n 0 t) s in
     subst HasRoom (sym e2') (omega (arith, block_labels t s n k refl, same.block_count, ap length same.constants))
 
-pub block_ranges : (bs : List Block) (k : ℕ) (v : Block) (members : List Inst) → k < length bs → v ≡ get_or bs k v → members ≡ v.insts.items → AllInRange (tree members) → BlocksInRange (map tree_of (drop (k + 1) bs)) → BlocksInRange (map tree_of (drop k bs))
-block_ranges bs k v members lt at e here rest =
+pub block_ranges : (state : Emission) (bs : List Block) (k : ℕ) (v : Block) (members : List Inst) → k < length bs → v ≡ get_or bs k v → members ≡ v.insts.items → AllInRange (tree state members) → BlocksInRange (map (tree_of state) (drop (k + 1) bs)) → BlocksInRange (map (tree_of state) (drop k bs))
+block_ranges state bs k v members lt at e here rest =
     let k1 : suc k ≡ k + 1 = omega arith in
     let cons : drop k bs ≡ v ∷ drop (k + 1) bs = drop-cons bs k v lt ∙ ap (λ x. x ∷ drop (suc k) bs) (sym at) ∙ ap (λ m. v ∷ drop m bs) k1 in
-    subst (λ l. BlocksInRange (map tree_of l)) (sym cons) (subst (λ l. AllInRange (tree l)) e here, rest)
+    subst (λ l. BlocksInRange (map (tree_of state) l)) (sym cons) (subst (λ l. AllInRange (tree state l)) e here, rest)

@@ -1,27 +1,34 @@
 -- The pieces, resolved, are the code of the typed steps.
 use Rattle.std.proofs.Common.{◌≡◌, ℕ, suc, ◌+◌, ◌<◌, List, [], ◌∷◌, ◌++◌, length, refl, sym, ap, ◌∙◌, subst, arith, length-append, append_assoc, append-nil, add-zero, add_assoc}
+use Rattle.std.specs.Prelude.{ℤ}
+use Rattle.std.specs.Int.{w64, to_be_bytes}
+use Rattle.s390x_base.specs.declared.ir.ExternalName.{ExternalName}
 use Rattle.s390x_buffer.specs.Patch.{patch}
 use Rattle.s390x_buffer.specs.declared.label_use.LabelUse.TheVariants.{BranchRIL}
 use Rattle.s390x_inst.specs.declared.inst.Inst.{Inst}
-use Rattle.s390x_inst.specs.declared.inst.Inst.TheVariants.{CondBreak}
+use Rattle.s390x_inst.specs.declared.inst.Inst.TheVariants.{CondBreak, JTSequence}
+use Rattle.s390x_base.specs.Regs.{number_of}
+use Rattle.s390x_base.specs.declared.ir.MachLabel.{MachLabel}
 use Rattle.s390x_steps.specs.Tree.{Tree, empty, leaf, looped}
 use Rattle.s390x_steps.specs.Steps.{Step as TypedStep, Back, step_count, step_of, steps_of}
-use Rattle.s390x_steps.specs.MachineInstruction.{ril_b, ril_c, bytes_of, size_of, joined_bytes}
-use Rattle.s390x_steps.specs.Parts.{Part, Row, Branch, Relative, ToBlock, ToStep, instruction_parts, parts_size, step_size}
-use Rattle.s390x_steps.specs.Rows.{Places, half_distance, rows_of, step_bytes}
+use Rattle.s390x_steps.specs.MachineInstruction.{rr, ril_b, ril_c, rxy, bytes_of, size_of}
+use Rattle.s390x_steps.specs.Parts.{Part, Row, Trapping, Branch, Relative, SymbolValue, TrapHere, TableWord, ToBlock, ToStep, table_words, table_parts, instruction_parts, parts_size, step_size}
+use Rattle.s390x_steps.specs.Rows.{Places, half_distance, table_distance, word_bytes, parts_bytes, step_bytes}
 use Rattle.s390x_steps.specs.Image.{code}
 use Rattle.s390x_steps.specs.Sizes.{instruction_size, tree_size}
-use Rattle.s390x_steps.specs.Causes.{draws}
-use Rattle.s390x_emit_int.specs.Pieces.{Piece, Put, Link, Step, Draw, Bind}
-use Rattle.s390x_emit_int.specs.Emission.{part_pieces, leaf_pieces, back_pieces, pieces}
+use Rattle.s390x_steps.specs.Causes.{instruction_draws, draws}
+use Rattle.s390x_emit_int.specs.Pieces.{Piece, Put, PutTrapping, PutReloc, Link, Step, Draw, Bind}
+use Rattle.s390x_emit_int.specs.Emission.{part_pieces, table_pieces, leaf_pieces, back_pieces, pieces}
 use Rattle.s390x_emit_int.specs.Resolve.{resolve, put_length}
-use Rattle.s390x_emit_int.specs.Bound.{Bound, Follows, PartsName, TreeNames}
-use Rattle.s390x_emit_int.proofs.Branches.{patched_branch, patched_relative}
-use Rattle.s390x_emit_int.proofs.Runs.{length-bytes, length-branch, length-relative}
+use Rattle.s390x_emit_int.specs.Bound.{LeafBound, Bound, Follows, PartsName, TreeNames}
+use Rattle.s390x_emit_int.proofs.Branches.{patched_branch, patched_relative, patched_word}
+use Rattle.s390x_emit_int.proofs.Runs.{length-bytes, length-branch, size-relative, length-relative}
 
 pub resolve-append : (off : ℕ → ℕ) (a b : List Piece) (p : ℕ) → resolve off p (a ++ b) ≡ resolve off p a ++ resolve off (p + put_length a) b
 resolve-append off [] b p = ap (λ m. resolve off m b) (sym (add-zero p))
 resolve-append off (Put bs ∷ a) b p = ap (λ l. bs ++ l) (resolve-append off a b (p + length bs)) ∙ sym (append_assoc bs _ _) ∙ ap (λ m. (bs ++ resolve off (p + length bs) a) ++ resolve off m b) (add_assoc p (length bs) (put_length a))
+resolve-append off (PutReloc bs kind name addend ∷ a) b p = ap (λ l. bs ++ l) (resolve-append off a b (p + length bs)) ∙ sym (append_assoc bs _ _) ∙ ap (λ m. (bs ++ resolve off (p + length bs) a) ++ resolve off m b) (add_assoc p (length bs) (put_length a))
+resolve-append off (PutTrapping bs byte code ∷ a) b p = ap (λ l. bs ++ l) (resolve-append off a b (p + length bs)) ∙ sym (append_assoc bs _ _) ∙ ap (λ m. (bs ++ resolve off (p + length bs) a) ++ resolve off m b) (add_assoc p (length bs) (put_length a))
 resolve-append off (Link k l bs ∷ a) b p = ap (λ x. patch k 0 p (off l) bs ++ x) (resolve-append off a b (p + length bs)) ∙ sym (append_assoc (patch k 0 p (off l) bs) _ _) ∙ ap (λ m. (patch k 0 p (off l) bs ++ resolve off (p + length bs) a) ++ resolve off m b) (add_assoc p (length bs) (put_length a))
 resolve-append off (Step ∷ a) b p = resolve-append off a b p
 resolve-append off (Draw ∷ a) b p = resolve-append off a b p
@@ -30,6 +37,8 @@ resolve-append off (Bind l ∷ a) b p = resolve-append off a b p
 pub put_append : (a b : List Piece) → put_length (a ++ b) ≡ put_length a + put_length b
 put_append [] b = omega arith
 put_append (Put bs ∷ a) b = omega (arith, put_append a b)
+put_append (PutReloc bs kind name addend ∷ a) b = omega (arith, put_append a b)
+put_append (PutTrapping bs byte code ∷ a) b = omega (arith, put_append a b)
 put_append (Link k l bs ∷ a) b = omega (arith, put_append a b)
 put_append (Step ∷ a) b = put_append a b
 put_append (Draw ∷ a) b = put_append a b
@@ -38,45 +47,96 @@ put_append (Bind l ∷ a) b = put_append a b
 parts_put : (parts : List Part) → put_length (part_pieces parts) ≡ parts_size parts
 parts_put [] = refl
 parts_put (Row m ∷ parts) = omega (arith, length-bytes m, parts_put parts)
+parts_put (Trapping m byte code ∷ parts) = omega (arith, length-bytes m, parts_put parts)
 parts_put (Branch mask (ToBlock b) ∷ parts) = omega (arith, length-branch mask, parts_put parts)
 parts_put (Branch mask (ToStep k) ∷ parts) = omega (arith, length-branch mask, parts_put parts)
 parts_put (Relative opcode register (ToBlock b) ∷ parts) = omega (arith, length-relative opcode register, parts_put parts)
 parts_put (Relative opcode register (ToStep k) ∷ parts) = omega (arith, length-relative opcode register, parts_put parts)
+parts_put (SymbolValue name offset ∷ parts) = omega (arith, parts_put parts)
+parts_put (TrapHere code ∷ parts) = omega (arith, parts_put parts)
+parts_put (TableWord before (ToBlock b) ∷ parts) = omega (arith, parts_put parts)
+parts_put (TableWord before (ToStep k) ∷ parts) = omega (arith, parts_put parts)
 
-pub leaf_put : (after : ℕ) (i : Inst) → put_length (leaf_pieces after i) ≡ instruction_size i
-leaf_put after (CondBreak mask) = omega (arith, length-branch mask)
-leaf_put after i = parts_put (instruction_parts i)
+table_put : (n index mask other : ℕ) (targets : List MachLabel) → put_length (table_pieces n index mask other targets) ≡ parts_size (table_parts index mask other targets)
+table_put n index mask other targets =
+    omega (arith, length-branch mask, length-relative 0xc00 1, length-bytes (rxy 0xe318 1 1 index 0), length-bytes (rr 0x07 15 1), parts_put (table_words 0 targets), length-bytes (ril_b 0xc00 1 7), size-relative 0xc00 1 7)
+
+pub leaf_put : (n after : ℕ) (i : Inst) → put_length (leaf_pieces n after i) ≡ instruction_size i
+leaf_put n after (CondBreak mask) = omega (arith, length-branch mask)
+leaf_put n after (JTSequence ridx other mask targets) = table_put n (number_of ridx) mask other.0 targets.items
+leaf_put n after i = parts_put (instruction_parts i)
 
 pub tree_put : (n after : ℕ) (t : Tree) → put_length (pieces n after t) ≡ tree_size t
 tree_put n after empty = refl
-tree_put n after (leaf i rest) = put_append (leaf_pieces after i) (pieces n after rest) ∙ omega (arith, leaf_put after i, tree_put n after rest)
+tree_put n after (leaf i rest) = put_append (leaf_pieces n after i) (pieces (n + instruction_draws i) after rest) ∙ omega (arith, leaf_put n after i, tree_put (n + instruction_draws i) after rest)
 tree_put n after (looped mask members rest) =
     let r = pieces (n + 2 + draws members) after rest in
     put_append (pieces (n + 2) (n + 1) members) (back_pieces n mask ++ r) ∙ omega (arith, length-branch mask, tree_put (n + 2) (n + 1) members, tree_put (n + 2 + draws members) after rest)
 
+-- labels of blocks stand at their places, and nothing is linked
+abbrev pub Agrees : (ℕ → ℕ) → Places → ℕ → Type 0
+Agrees off P count = ((l : ℕ) → l < count → off l ≡ P.block l) × ((name : ExternalName) (offset : ℤ) → P.symbol_value name offset ≡ 0)
+
 -- the parts of an instruction, at a place
-parts_join : (parts : List Part) (off : ℕ → ℕ) (P : Places) (count p : ℕ) → ((l : ℕ) → l < count → off l ≡ P.block l) → PartsName count parts → resolve off p (part_pieces parts) ≡ joined_bytes (rows_of P p parts)
+parts_join : (parts : List Part) (off : ℕ → ℕ) (P : Places) (count p : ℕ) → Agrees off P count → PartsName count parts → resolve off p (part_pieces parts) ≡ parts_bytes P p parts
 parts_join [] off P count p agree names = refl
 parts_join (Row m ∷ parts) off P count p agree names =
     ap (λ n. bytes_of m ++ resolve off (p + n) (part_pieces parts)) (length-bytes m) ∙ ap (λ l. bytes_of m ++ l) (parts_join parts off P count (p + size_of m) agree names.1)
+parts_join (Trapping m byte code ∷ parts) off P count p agree names =
+    ap (λ n. bytes_of m ++ resolve off (p + n) (part_pieces parts)) (length-bytes m) ∙ ap (λ l. bytes_of m ++ l) (parts_join parts off P count (p + size_of m) agree names.1)
 parts_join (Branch mask (ToBlock b) ∷ parts) off P count p agree names =
     ap (λ l. l ++ resolve off (p + length (bytes_of (ril_c 0xc04 mask 0))) (part_pieces parts)) (patched_branch mask p (off b))
-    ∙ ap (λ x. bytes_of (ril_c 0xc04 mask (half_distance p x)) ++ resolve off (p + length (bytes_of (ril_c 0xc04 mask 0))) (part_pieces parts)) (agree b names.0)
+    ∙ ap (λ x. bytes_of (ril_c 0xc04 mask (half_distance p x)) ++ resolve off (p + length (bytes_of (ril_c 0xc04 mask 0))) (part_pieces parts)) (agree.0 b names.0)
     ∙ ap (λ n. bytes_of (ril_c 0xc04 mask (half_distance p (P.block b))) ++ resolve off (p + n) (part_pieces parts)) (length-branch mask)
     ∙ ap (λ l. bytes_of (ril_c 0xc04 mask (half_distance p (P.block b))) ++ l) (parts_join parts off P count (p + 6) agree names.1)
 parts_join (Branch mask (ToStep k) ∷ parts) off P count p agree names = absurd names.0
 parts_join (Relative opcode register (ToBlock b) ∷ parts) off P count p agree names =
     let bare = bytes_of (ril_b opcode register 0) in
     ap (λ l. l ++ resolve off (p + length bare) (part_pieces parts)) (patched_relative opcode register p (off b))
-    ∙ ap (λ x. bytes_of (ril_b opcode register (half_distance p x)) ++ resolve off (p + length bare) (part_pieces parts)) (agree b names.0)
+    ∙ ap (λ x. bytes_of (ril_b opcode register (half_distance p x)) ++ resolve off (p + length bare) (part_pieces parts)) (agree.0 b names.0)
     ∙ ap (λ n. bytes_of (ril_b opcode register (half_distance p (P.block b))) ++ resolve off (p + n) (part_pieces parts)) (length-relative opcode register)
     ∙ ap (λ l. bytes_of (ril_b opcode register (half_distance p (P.block b))) ++ l) (parts_join parts off P count (p + 6) agree names.1)
 parts_join (Relative opcode register (ToStep k) ∷ parts) off P count p agree names = absurd names.0
+parts_join (SymbolValue name offset ∷ parts) off P count p agree names =
+    ap (λ v. to_be_bytes w64 v ++ resolve off (p + 8) (part_pieces parts)) (sym (agree.1 name offset)) ∙ ap (λ l. to_be_bytes w64 (P.symbol_value name offset) ++ l) (parts_join parts off P count (p + 8) agree names.1)
+parts_join (TrapHere code ∷ parts) off P count p agree names = parts_join parts off P count (p + 0) agree names.1
+parts_join (TableWord before (ToBlock b) ∷ parts) off P count p agree names =
+    ap (λ l. l ++ resolve off (p + 4) (part_pieces parts)) (patched_word before p (off b))
+    ∙ ap (λ x. word_bytes (table_distance p before x) ++ resolve off (p + 4) (part_pieces parts)) (agree.0 b names.0)
+    ∙ ap (λ l. word_bytes (table_distance p before (P.block b)) ++ l) (parts_join parts off P count (p + 4) agree names.1)
+parts_join (TableWord before (ToStep k) ∷ parts) off P count p agree names = absurd names.0
 
-pub leaf_join : (i : Inst) (off : ℕ → ℕ) (P : Places) (count after end p : ℕ) → ((l : ℕ) → l < count → off l ≡ P.block l) → PartsName count (instruction_parts i) → off after ≡ P.step end → resolve off p (leaf_pieces after i) ≡ step_bytes P p (step_of end i)
-leaf_join (CondBreak mask) off P count after end p agree names e =
+-- from the second row of a table to the table
+seven_halfwords : (p : ℕ) → half_distance (p + 6) (p + 20) ≡ 7
+seven_halfwords p = omega arith
+
+table_join : (off : ℕ → ℕ) (P : Places) (count n p index mask other : ℕ) (targets : List MachLabel) → Agrees off P count → PartsName count (table_parts index mask other targets) → off n ≡ p + 20 →
+    resolve off p (table_pieces n index mask other targets) ≡ parts_bytes P p (table_parts index mask other targets)
+table_join off P count n p index mask other targets agree names at =
+    let words = table_words 0 targets in
+    let agf = rxy 0xe318 1 1 index 0 in
+    let bcr = rr 0x07 15 1 in
+    let bare = bytes_of (ril_c 0xc04 mask 0) in
+    let relative = bytes_of (ril_b 0xc00 1 0) in
+    let sizes : p + 6 + size_of (ril_b 0xc00 1 7) + size_of agf + size_of bcr ≡ p + length bare + length relative + length (bytes_of agf) + length (bytes_of bcr) = omega (arith, length-branch mask, length-relative 0xc00 1, size-relative 0xc00 1 7, length-bytes agf, length-bytes bcr) in
+    let behind : ℕ → List ℕ = λ q. bytes_of agf ++ (bytes_of bcr ++ resolve off q (part_pieces words)) in
+    let q = p + length bare + length relative + length (bytes_of agf) + length (bytes_of bcr) in
+    let q' = p + 6 + size_of (ril_b 0xc00 1 7) + size_of agf + size_of bcr in
+    ap (λ l. l ++ (patch BranchRIL 0 (p + length bare) (off n) relative ++ behind q)) (patched_branch mask p (off other) ∙ ap (λ x. bytes_of (ril_c 0xc04 mask (half_distance p x))) (agree.0 other names.0))
+    ∙ ap (λ l. bytes_of (ril_c 0xc04 mask (half_distance p (P.block other))) ++ (l ++ behind q)) (
+    ap (λ m. patch BranchRIL 0 (p + m) (off n) relative) (length-branch mask)
+    ∙ patched_relative 0xc00 1 (p + 6) (off n)
+    ∙ ap (λ x. bytes_of (ril_b 0xc00 1 (half_distance (p + 6) x))) at
+    ∙ ap (λ h. bytes_of (ril_b 0xc00 1 h)) (seven_halfwords p)
+    )
+    ∙ ap (λ m. bytes_of (ril_c 0xc04 mask (half_distance p (P.block other))) ++ (bytes_of (ril_b 0xc00 1 7) ++ behind m)) (sym sizes)
+    ∙ ap (λ l. bytes_of (ril_c 0xc04 mask (half_distance p (P.block other))) ++ (bytes_of (ril_b 0xc00 1 7) ++ (bytes_of agf ++ (bytes_of bcr ++ l)))) (parts_join words off P count q' agree names.1.1.1.1)
+
+pub leaf_join : (i : Inst) (off : ℕ → ℕ) (P : Places) (count n after end p : ℕ) → Agrees off P count → PartsName count (instruction_parts i) → LeafBound off n p i → off after ≡ P.step end → resolve off p (leaf_pieces n after i) ≡ step_bytes P p (step_of end i)
+leaf_join (JTSequence ridx other mask targets) off P count n after end p agree names at e = table_join off P count n p (number_of ridx) mask other.0 targets.items agree names at
+leaf_join (CondBreak mask) off P count n after end p agree names at e =
     append-nil (patch BranchRIL 0 p (off after) (bytes_of (ril_c 0xc04 mask 0))) ∙ patched_branch mask p (off after) ∙ ap (λ x. bytes_of (ril_c 0xc04 mask (half_distance p x))) e ∙ sym (append-nil (bytes_of (ril_c 0xc04 mask (half_distance p (P.step end)))))
-leaf_join i off P count after end p agree names e = parts_join (instruction_parts i) off P count p agree names
+leaf_join i off P count n after end p agree names at e = parts_join (instruction_parts i) off P count p agree names
 
 -- the sizes of typed steps
 abbrev pub total : List TypedStep → ℕ
@@ -150,17 +210,18 @@ loop_places at k e mask members rest follow =
       outer = subst (λ m. Follows at m fr) k2 right.1;
     }
 
-pub tree_join : (t : Tree) (off : ℕ → ℕ) (P : Places) (blocks n after k e : ℕ) → ((l : ℕ) → l < blocks → off l ≡ P.block l) → TreeNames blocks t → Bound off n (P.step k) t → Follows P.step k (steps_of k e t) → off after ≡ P.step e → resolve off (P.step k) (pieces n after t) ≡ code P k (steps_of k e t)
+pub tree_join : (t : Tree) (off : ℕ → ℕ) (P : Places) (blocks n after k e : ℕ) → Agrees off P blocks → TreeNames blocks t → Bound off n (P.step k) t → Follows P.step k (steps_of k e t) → off after ≡ P.step e → resolve off (P.step k) (pieces n after t) ≡ code P k (steps_of k e t)
 tree_join empty off P blocks n after k e agree names bound follow oe = refl
 tree_join (leaf i rest) off P blocks n after k e agree names bound follow oe =
     let p = P.step k in
     let next : P.step (k + 1) ≡ p + instruction_size i = follow.0 ∙ ap (λ m. p + m) (size_of_step e i) in
-    let ps = pieces n after rest in
-    let here = leaf_join i off P blocks after e p agree names.0 oe in
-    let there = tree_join rest off P blocks n after (k + 1) e agree names.1 (subst (λ m. Bound off n m rest) (sym next) bound) follow.1 oe in
-    resolve-append off (leaf_pieces after i) ps p
-    ∙ ap (λ m. resolve off p (leaf_pieces after i) ++ resolve off (p + m) ps) (leaf_put after i)
-    ∙ ap (λ m. resolve off p (leaf_pieces after i) ++ resolve off m ps) (sym next)
+    let n' = n + instruction_draws i in
+    let ps = pieces n' after rest in
+    let here = leaf_join i off P blocks n after e p agree names.0 bound.0 oe in
+    let there = tree_join rest off P blocks n' after (k + 1) e agree names.1 (subst (λ m. Bound off n' m rest) (sym next) bound.1) follow.1 oe in
+    resolve-append off (leaf_pieces n after i) ps p
+    ∙ ap (λ m. resolve off p (leaf_pieces n after i) ++ resolve off (p + m) ps) (leaf_put n after i)
+    ∙ ap (λ m. resolve off p (leaf_pieces n after i) ++ resolve off m ps) (sym next)
     ∙ ap (λ l. l ++ resolve off (P.step (k + 1)) ps) here
     ∙ ap (λ l. step_bytes P p (step_of e i) ++ l) there
 tree_join (looped mask members rest) off P blocks n after k e agree names bound follow oe =

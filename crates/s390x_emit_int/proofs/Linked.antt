@@ -1,5 +1,5 @@
 -- Emitted and linked code runs as typed.
-use Rattle.std.proofs.Common.{◌≡◌, ℕ, ◌+◌, ◌%◌, inl, inr, List, [], ◌∷◌, length, Bool, true, false, cond, ◌&&◌, ◌||◌, nat_eq, max, Option, None, Some, refl, sym, ap, ◌∙◌, subst, arith, eqb-true}
+use Rattle.std.proofs.Common.{◌≡◌, ℕ, ◌+◌, ◌%◌, inl, inr, List, [], ◌∷◌, ◌++◌, length, Bool, true, false, cond, ◌&&◌, ◌||◌, nat_eq, max, Option, None, Some, refl, sym, ap, ◌∙◌, subst, arith, eqb-true}
 use Rattle.std.proofs.lemmas.Bool.{leb-true, or_cases}
 use Rattle.s390x_inst.specs.declared.state.IsaFlags.{IsaFlags}
 use Rattle.s390x_base.specs.declared.error.EmitError.{EmitError}
@@ -7,6 +7,8 @@ use Rattle.s390x_buffer.specs.State.{Constant, is_alignment, all_aligned, new_ca
 use Rattle.s390x_buffer.specs.Constants.{constant_bytes, greatest_align}
 use Rattle.s390x_buffer.specs.declared.entries.MachBufferFinalized.{MachBufferFinalized}
 use Rattle.s390x_image.specs.Causes.{first as first_link, base_cause, relocs_cause, link_cause}
+use Rattle.s390x_image.specs.Fields.{filled}
+use Rattle.s390x_image.specs.Values.{symbol_value}
 use Rattle.s390x_image.specs.Symbols.{Symbols}
 use Rattle.s390x_image.specs.declared.error.LinkError.{LinkError}
 use Rattle.s390x_operations.specs.State.{CodeImage}
@@ -16,11 +18,13 @@ use Rattle.s390x_machine.proofs.Instructions.{block_holds}
 use Rattle.s390x_machine.proofs.Checked.{checked_steps}
 use Rattle.s390x_steps.specs.Ranges.{BlocksInRange}
 use Rattle.s390x_steps.specs.Tree.{Tree}
-use Rattle.s390x_steps.specs.Image.{function_code}
+use Rattle.s390x_steps.specs.Image.{function_code, linked_code}
+use Rattle.s390x_steps.specs.Relocs.{function_relocs}
+use Rattle.s390x_emit_int.proofs.Filling.{function_filled, linked_length}
 use Rattle.s390x_steps.specs.Causes.{first, blocks_cause}
 use Rattle.s390x_steps.proofs.Causes.{first_left, first_right}
 use Rattle.s390x_emit_int.specs.Function.{checked_cause, length_cause, IsImage}
-use Rattle.s390x_emit_int.specs.Headline.{no_trap_code, RunsAsTyped}
+use Rattle.s390x_emit_int.specs.Headline.{RunsAsTyped}
 
 first_of_links : (a b : Option LinkError) → first_link a b ≡ None → a ≡ None
 first_of_links None b h = refl
@@ -85,20 +89,23 @@ aligned_constants : (s : Bool) (o : Option EmitError) (e : EmitError) → cond s
 aligned_constants true o e h = refl
 aligned_constants false o e h = absurd (cc)
 
-pub runs_as_typed : (flags : IsaFlags) (ts : List Tree) (cs : List Constant) (f : MachBufferFinalized) (base : ℕ) (symbols : Symbols) → checked_cause flags ts cs ≡ None → BlocksInRange ts → IsImage ts cs f → link_cause f base symbols ≡ None → RunsAsTyped ts (record { base = base; bytes = f.bytes.items })
+pub runs_as_typed : (flags : IsaFlags) (ts : List Tree) (cs : List Constant) (f : MachBufferFinalized) (base : ℕ) (symbols : Symbols) → checked_cause flags ts cs ≡ None → BlocksInRange ts → IsImage ts cs f → link_cause f base symbols ≡ None → RunsAsTyped symbols ts (record { base = base; bytes = filled base symbols f.relocs.items f.bytes.items })
 runs_as_typed flags ts cs f base symbols fine ranges image linked b lt =
-    let code : CodeImage = record { base = base; bytes = f.bytes.items } in
+    let constants = constant_bytes (length (function_code ts)) cs in
+    let code : CodeImage = record { base = base; bytes = filled base symbols f.relocs.items f.bytes.items } in
+    let is : code.bytes ≡ linked_code (symbol_value symbols) ts ++ constants = ap (λ rs. filled base symbols rs f.bytes.items) image.relocs ∙ ap (filled base symbols (function_relocs ts)) image.bytes ∙ function_filled base symbols ts constants in
+    let size : length code.bytes ≡ length f.bytes.items = ap length is ∙ linked_length (symbol_value symbols) ts constants ∙ ap length (sym image.bytes) in
     let n = length ts + length cs in
     let declared : new_cause (length ts) cs ≡ None = first_left _ _ fine in
     let checked : blocks_cause flags (length ts) n ts ≡ None = first_left _ _ (first_right (new_cause (length ts) cs) (first (blocks_cause flags (length ts) n ts) (length_cause ts cs)) fine) in
     let two = two_passed _ _ _ _ (first_of_links (base_cause f.alignment (length f.bytes.items) base) (relocs_cause base symbols f.relocs.items) linked) in
     let multiple : base % greatest_align 4 cs ≡ 0 = ap (λ a. base % a) (sym image.alignment) ∙ eqb-true (base % f.alignment) 0 two.0 in
-    let stands : StandsAsCode ts code no_trap_code = record {
-      constants = constant_bytes (length (function_code ts)) cs;
-      bytes = image.bytes;
+    let stands : StandsAsCode (symbol_value symbols) ts code = record {
+      constants = constants;
+      bytes = is;
       even = even_base base (greatest_align 4 cs) (greatest 4 cs (four refl) (aligned_constants _ _ _ declared)) multiple;
-      fits = leb-true (base + length f.bytes.items) 18446744073709551616 two.1;
-      short = image.short;
-      fine = checked_steps flags ts n code no_trap_code checked ranges;
+      fits = omega (arith, size, leb-true (base + length f.bytes.items) 18446744073709551616 two.1);
+      short = omega (arith, size, image.short);
+      fine = checked_steps flags (symbol_value symbols) ts n code checked ranges;
     } in
-    block_holds (function_layout ts code no_trap_code) (function_placed ts code no_trap_code stands) b lt
+    block_holds (function_layout (symbol_value symbols) ts code) (function_placed (symbol_value symbols) ts code stands) b lt

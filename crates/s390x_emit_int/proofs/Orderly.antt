@@ -1,23 +1,36 @@
--- Emission's pieces keep a buffer in order: its length is even, each bound label stands at an even place, and each use is a branch's at an even
--- place, of a label that may be used.
-use Rattle.std.proofs.Common.{◌≡◌, ℕ, ◌+◌, ◌%◌, ◌<◌, ◌≤◌, List, [], ◌∷◌, ◌++◌, length, Option, refl, ap, ◌∙◌, arith, length-append, None, Some}
+-- Emission's pieces keep a buffer in order: its length is even, each bound label stands at an even place, and each use, of a label that may be used,
+-- stands at an even place behind those before it.
+use Rattle.std.proofs.Common.{◌≡◌, ℕ, ◌+◌, ◌%◌, ◌<◌, ◌≤◌, List, [], ◌∷◌, ◌++◌, length, get_or, Option, refl, ap, ◌∙◌, arith, length-append, None, Some}
 use Rattle.std.specs.List.{All}
+use Rattle.std.proofs.lemmas.List.{get_or_append_left}
 use Rattle.std.proofs.lemmas.List.Elements.{All-push, All-set, All-weaker}
+use Rattle.s390x_base.specs.Regs.{number_of}
+use Rattle.s390x_base.specs.declared.ir.MachLabel.{MachLabel}
+use Rattle.s390x_base.specs.declared.trap.TrapKind.{TrapKind}
 use Rattle.s390x_buffer.specs.State.{State}
+use Rattle.s390x_buffer.specs.Patch.{word, patch_size}
 use Rattle.s390x_buffer.specs.declared.entries.LabelFixup.{LabelFixup}
-use Rattle.s390x_buffer.specs.declared.label_use.LabelUse.TheVariants.{BranchRIL}
+use Rattle.s390x_buffer.specs.declared.label_use.LabelUse.{LabelUse}
+use Rattle.s390x_buffer.specs.declared.label_use.LabelUse.TheVariants.{BranchRI, BranchRIL, PCRel32, PCRel32Dbl}
+use Rattle.s390x_buffer.proofs.Sums.{same_word}
 use Rattle.s390x_format.specs.declared.kind.FormatKind.{FormatKind}
 use Rattle.s390x_format.specs.declared.kind.FormatKind.TheVariants.{E}
 use Rattle.s390x_format.specs.Formats.{length_of}
 use Rattle.s390x_inst.specs.declared.inst.Inst.{Inst}
-use Rattle.s390x_inst.specs.declared.inst.Inst.TheVariants.{CondBreak}
+use Rattle.s390x_inst.specs.declared.inst.Inst.TheVariants.{Jump, CondBr, IndirectBr, Ret, JTSequence, CondBreak, LabelAddress, LoadSymbolReloc, Trap, TrapIf, Debugtrap}
 use Rattle.s390x_steps.specs.Tree.{Tree, empty, leaf, looped}
-use Rattle.s390x_steps.specs.Causes.{draws}
-use Rattle.s390x_steps.specs.MachineInstruction.{MachineInstruction, bytes_of}
-use Rattle.s390x_steps.specs.Parts.{Part, Row, Branch, Relative, ToBlock, ToStep, instruction_parts}
-use Rattle.s390x_emit_int.specs.Pieces.{Piece, apply, run, Put, Link, Step, Draw, Bind}
+use Rattle.s390x_steps.specs.Causes.{instruction_draws, draws}
+use Rattle.s390x_steps.specs.Alone.{Alone, alone, stop_code}
+use Rattle.s390x_steps.specs.MachineInstruction.{MachineInstruction, rr, rxy, bytes_of, size_of}
+use Rattle.s390x_steps.specs.Rows.{word_bytes}
+use Rattle.s390x_steps.specs.Parts.{Part, Row, Trapping, Branch, Relative, TableWord, ToBlock, ToStep, table_words, branch_parts, row_part, parts_or, instruction_parts, memory_or, memory_parts, SymbolValue, TrapHere}
+use Rattle.s390x_steps.specs.Memory.{MemoryInstruction, memory}
+use Rattle.s390x_emit_int.proofs.Accessing.{AllRows, memory_rows}
+use Rattle.s390x_emit_int.specs.Pieces.{Piece, apply, run, Put, PutTrapping, Link, Step, Draw, Bind, PutReloc}
 use Rattle.s390x_emit_int.specs.Emission.{part_pieces, leaf_pieces, back_pieces, pieces, function_pieces}
+use Rattle.s390x_emit_int.specs.Resolve.{put_length}
 use Rattle.s390x_emit_int.specs.Bound.{PartsName, TreeNames, TreesName}
+use Rattle.s390x_emit_int.proofs.Patching.{word_right}
 use Rattle.s390x_emit_int.proofs.Runs.{length-bytes, length-branch, length-relative}
 
 even_length : (kind : FormatKind) → length_of kind % 2 ≡ 0
@@ -28,103 +41,289 @@ even_length _ = refl
 even_bytes : (m : MachineInstruction) → length (bytes_of m) % 2 ≡ 0
 even_bytes m = ap (λ n. n % 2) (length-bytes m) ∙ even_length m.format
 
--- a piece whose bytes come in pairs, and whose use is a branch's to a label that may be used
-abbrev pub Sound : (ℕ → Type 0) → Piece → Type 0
-Sound May (Put bs) = length bs % 2 ≡ 0
-Sound May (Link kind l bs) = (kind ≡ BranchRIL) × (length bs ≡ 6) × May l
-Sound May Step = Unit {0}
-Sound May Draw = Unit {0}
-Sound May (Bind l) = Unit {0}
+-- a use of a label has its bytes; a word of a table has at most the value of its place, so that the sum with a distance has a sign
+abbrev pub LinkSound : LabelUse → (place : ℕ) → List ℕ → Type 0
+LinkSound BranchRI p bs = ⊥
+LinkSound BranchRIL p bs = length bs ≡ 6
+LinkSound PCRel32 p bs = (length bs ≡ 4) × (word bs 0 ≤ p)
+LinkSound PCRel32Dbl p bs = ⊥
 
-abbrev pub AllSound : (ℕ → Type 0) → List Piece → Type 0
-AllSound May [] = Unit {0}
-AllSound May (p ∷ ps) = Sound May p × AllSound May ps
+-- a piece at a place or behind it, whose bytes come in pairs, and whose use is one of a label that may be used
+abbrev pub Sound : (ℕ → Type 0) → (place : ℕ) → Piece → Type 0
+Sound May p (Put bs) = length bs % 2 ≡ 0
+Sound May p (PutReloc bs kind name addend) = length bs % 2 ≡ 0
+Sound May p (PutTrapping bs byte code) = length bs % 2 ≡ 0
+Sound May p (Link kind l bs) = LinkSound kind p bs × May l
+Sound May p Step = Unit {0}
+Sound May p Draw = Unit {0}
+Sound May p (Bind l) = Unit {0}
 
-sound_append : (May : ℕ → Type 0) (a b : List Piece) → AllSound May a → AllSound May b → AllSound May (a ++ b)
-sound_append May [] b h k = k
-sound_append May (p ∷ a) b h k = (h.0, sound_append May a b h.1 k)
+abbrev pub AllSound : (ℕ → Type 0) → (place : ℕ) → List Piece → Type 0
+AllSound May p [] = Unit {0}
+AllSound May p (x ∷ xs) = Sound May p x × AllSound May (p + put_length (x ∷ [])) xs
 
-parts_sound : (May : ℕ → Type 0) (parts : List Part) (blocks : ℕ) → PartsName blocks parts → ((l : ℕ) → l < blocks → May l) → AllSound May (part_pieces parts)
-parts_sound May [] blocks names may = tt
-parts_sound May (Row m ∷ parts) blocks names may = (even_bytes m, parts_sound May parts blocks names.1 may)
-parts_sound May (Branch mask (ToBlock b) ∷ parts) blocks names may = ((refl, length-branch mask, may b names.0), parts_sound May parts blocks names.1 may)
-parts_sound May (Branch mask (ToStep k) ∷ parts) blocks names may = absurd names.0
-parts_sound May (Relative opcode register (ToBlock b) ∷ parts) blocks names may = ((refl, length-relative opcode register, may b names.0), parts_sound May parts blocks names.1 may)
-parts_sound May (Relative opcode register (ToStep k) ∷ parts) blocks names may = absurd names.0
+link_later : (kind : LabelUse) (p q : ℕ) (bs : List ℕ) → p ≤ q → LinkSound kind p bs → LinkSound kind q bs
+link_later BranchRI p q bs le h = h
+link_later BranchRIL p q bs le h = h
+link_later PCRel32 p q bs le h = (h.0, omega (arith, h.1))
+link_later PCRel32Dbl p q bs le h = h
 
-leaf_sound : (May : ℕ → Type 0) (i : Inst) (after blocks : ℕ) → PartsName blocks (instruction_parts i) → ((l : ℕ) → l < blocks → May l) → May after → AllSound May (leaf_pieces after i)
-leaf_sound May (CondBreak mask) after blocks names may here = ((refl, length-branch mask, here), tt)
-leaf_sound May i after blocks names may here = parts_sound May (instruction_parts i) blocks names may
+later_sound : (May : ℕ → Type 0) (p q : ℕ) (x : Piece) → p ≤ q → Sound May p x → Sound May q x
+later_sound May p q (Put bs) le h = h
+later_sound May p q (PutReloc bs kind name addend) le h = h
+later_sound May p q (PutTrapping bs byte code) le h = h
+later_sound May p q (Link kind l bs) le h = (link_later kind p q bs le h.0, h.1)
+later_sound May p q Step le h = h
+later_sound May p q Draw le h = h
+later_sound May p q (Bind l) le h = h
 
-pub tree_sound : (May : ℕ → Type 0) (t : Tree) (n after blocks : ℕ) → TreeNames blocks t → ((l : ℕ) → l < blocks → May l) → ((l : ℕ) → n ≤ l → l < n + draws t → May l) → May after → AllSound May (pieces n after t)
+all_later : (May : ℕ → Type 0) (xs : List Piece) (p q : ℕ) → p ≤ q → AllSound May p xs → AllSound May q xs
+all_later May [] p q le h = h
+all_later May (x ∷ xs) p q le h = (later_sound May p q x le h.0, all_later May xs (p + put_length (x ∷ [])) (q + put_length (x ∷ [])) (omega arith) h.1)
+
+sound_append : (May : ℕ → Type 0) (a b : List Piece) (p : ℕ) → AllSound May p a → AllSound May 0 b → AllSound May p (a ++ b)
+sound_append May [] b p h k = all_later May b 0 p (omega arith) k
+sound_append May (x ∷ a) b p h k = (h.0, sound_append May a b (p + put_length (x ∷ [])) h.1 k)
+
+-- no table begins before the first of the parts, which stands at a place
+abbrev pub TablesBegin : (place : ℕ) → List Part → Type 0
+TablesBegin p [] = Unit {0}
+TablesBegin p (TableWord before target ∷ parts) = (before ≤ p) × TablesBegin (p + 4) parts
+TablesBegin p (SymbolValue name offset ∷ parts) = TablesBegin (p + 8) parts
+TablesBegin p (TrapHere code ∷ parts) = TablesBegin (p + 0) parts
+TablesBegin p (Row m ∷ parts) = TablesBegin (p + size_of m) parts
+TablesBegin p (Trapping m byte code ∷ parts) = TablesBegin (p + size_of m) parts
+TablesBegin p (Branch mask target ∷ parts) = TablesBegin (p + 6) parts
+TablesBegin p (Relative opcode register target ∷ parts) = TablesBegin (p + 6) parts
+
+word_sound : (before p : ℕ) → before ≤ p → LinkSound PCRel32 p (word_bytes before)
+word_sound before p le = (refl, omega arith)
+
+parts_sound : (May : ℕ → Type 0) (parts : List Part) (blocks p : ℕ) → PartsName blocks parts → TablesBegin p parts → ((l : ℕ) → l < blocks → May l) → AllSound May p (part_pieces parts)
+parts_sound May [] blocks p names begin may = tt
+parts_sound May (Row m ∷ parts) blocks p names begin may = (even_bytes m, all_later May (part_pieces parts) (p + size_of m) _ (omega (arith, length-bytes m)) (parts_sound May parts blocks (p + size_of m) names.1 begin may))
+parts_sound May (Trapping m byte code ∷ parts) blocks p names begin may = (even_bytes m, all_later May (part_pieces parts) (p + size_of m) _ (omega (arith, length-bytes m)) (parts_sound May parts blocks (p + size_of m) names.1 begin may))
+parts_sound May (Branch mask (ToBlock b) ∷ parts) blocks p names begin may = ((length-branch mask, may b names.0), all_later May (part_pieces parts) (p + 6) _ (omega (arith, length-branch mask)) (parts_sound May parts blocks (p + 6) names.1 begin may))
+parts_sound May (Branch mask (ToStep k) ∷ parts) blocks p names begin may = absurd names.0
+parts_sound May (Relative opcode register (ToBlock b) ∷ parts) blocks p names begin may =
+    ((length-relative opcode register, may b names.0), all_later May (part_pieces parts) (p + 6) _ (omega (arith, length-relative opcode register)) (parts_sound May parts blocks (p + 6) names.1 begin may))
+parts_sound May (Relative opcode register (ToStep k) ∷ parts) blocks p names begin may = absurd names.0
+parts_sound May (SymbolValue name offset ∷ parts) blocks p names begin may = (refl, all_later May (part_pieces parts) (p + 8) _ (omega arith) (parts_sound May parts blocks (p + 8) names.1 begin may))
+parts_sound May (TrapHere code ∷ parts) blocks p names begin may = (refl, all_later May (part_pieces parts) (p + 0) _ (omega arith) (parts_sound May parts blocks (p + 0) names.1 begin may))
+parts_sound May (TableWord before (ToBlock b) ∷ parts) blocks p names begin may = ((word_sound before p begin.0, may b names.0), all_later May (part_pieces parts) (p + 4) _ (omega arith) (parts_sound May parts blocks (p + 4) names.1 begin.1 may))
+parts_sound May (TableWord before (ToStep k) ∷ parts) blocks p names begin may = absurd names.0
+
+row_begins : (m : MachineInstruction) (code : Option TrapKind) → TablesBegin 0 (row_part m code ∷ [])
+row_begins m None = tt
+row_begins m (Some code) = tt
+
+begins_or : (o : Option Alone) (code : Option TrapKind) (others : List Part) → TablesBegin 0 others → TablesBegin 0 (parts_or o code others)
+begins_or None code others h = h
+begins_or (Some x) code others h = row_begins x.row code
+
+words_begin : (ls : List MachLabel) (before p : ℕ) → before ≤ p → TablesBegin p (table_words before ls)
+words_begin [] before p le = tt
+words_begin (l ∷ ls) before p le = (le, words_begin ls (before + 4) (p + 4) (omega arith))
+
+branch_begins : (i : Inst) → TablesBegin 0 (branch_parts i)
+branch_begins (Jump dest) = tt
+branch_begins (CondBr taken not_taken mask) = tt
+branch_begins (IndirectBr rn targets) = tt
+branch_begins (Ret link) = tt
+branch_begins (JTSequence ridx other mask targets) = words_begin targets.items 0 _ (omega arith)
+branch_begins (LabelAddress dst label) = tt
+branch_begins (LoadSymbolReloc rd reloc) = tt
+branch_begins (Trap code) = tt
+branch_begins (TrapIf mask code) = tt
+branch_begins Debugtrap = tt
+branch_begins i = tt
+
+all_begin : (n : ℕ) (parts : List Part) → AllRows parts → TablesBegin n parts
+unfolding AllRows
+all_begin n [] h = tt
+all_begin n (Row m ∷ parts) h = all_begin (n + size_of m) parts h
+all_begin n (Trapping m byte code ∷ parts) h = all_begin (n + size_of m) parts h
+all_begin n (part ∷ parts) h = absurd h
+
+memory_begins : (o : Option MemoryInstruction) (others : List Part) → TablesBegin 0 others → TablesBegin 0 (memory_or o others)
+memory_begins None others h = h
+memory_begins (Some x) others h = all_begin 0 (memory_parts x) (memory_rows x)
+
+leaf_sound : (May : ℕ → Type 0) (i : Inst) (n after blocks : ℕ) → PartsName blocks (instruction_parts i) → ((l : ℕ) → l < blocks → May l) → ((l : ℕ) → n ≤ l → l < n + instruction_draws i → May l) → May after → AllSound May 0 (leaf_pieces n after i)
+leaf_sound May (CondBreak mask) n after blocks names may drawn here = ((length-branch mask, here), tt)
+leaf_sound May (JTSequence ridx other mask targets) n after blocks names may drawn here = (
+  tt,
+  (
+    (length-branch mask, may other.0 names.0),
+    (
+      (length-relative 0xc00 1, drawn n (omega arith) (omega arith)),
+      (even_bytes (rxy 0xe318 1 1 (number_of ridx) 0), (even_bytes (rr 0x07 15 1), (tt, parts_sound May (table_words 0 targets.items) blocks _ names.1.1.1.1 (words_begin targets.items 0 _ (omega arith)) may))),
+    ),
+  ),
+)
+leaf_sound May i n after blocks names may drawn here = parts_sound May (instruction_parts i) blocks 0 names (begins_or (alone i) (stop_code i) (memory_or (memory i) (branch_parts i)) (memory_begins (memory i) (branch_parts i) (branch_begins i))) may
+
+pub tree_sound : (May : ℕ → Type 0) (t : Tree) (n after blocks : ℕ) → TreeNames blocks t → ((l : ℕ) → l < blocks → May l) → ((l : ℕ) → n ≤ l → l < n + draws t → May l) → May after → AllSound May 0 (pieces n after t)
 tree_sound May empty n after blocks names may drawn here = tt
-tree_sound May (leaf i rest) n after blocks names may drawn here =
-    (tt, sound_append May (leaf_pieces after i) (pieces n after rest) (leaf_sound May i after blocks names.0 may here) (tree_sound May rest n after blocks names.1 may drawn here))
+tree_sound May (leaf i rest) n after blocks names may drawn here = (
+  tt,
+  sound_append May (leaf_pieces n after i) (pieces (n + instruction_draws i) after rest) 0
+      (leaf_sound May i n after blocks names.0 may (λ l lo hi. drawn l lo (omega arith)) here)
+      (tree_sound May rest (n + instruction_draws i) after blocks names.1 may (λ l lo hi. drawn l (omega arith) (omega arith)) here),
+)
 tree_sound May (looped mask members rest) n after blocks names may drawn here =
     let r = pieces (n + 2 + draws members) after rest in
     let inner = tree_sound May members (n + 2) (n + 1) blocks names.0 may (λ l lo hi. drawn l (omega arith) (omega arith)) (drawn (n + 1) (omega arith) (omega arith)) in
     let outer = tree_sound May rest (n + 2 + draws members) after blocks names.1 may (λ l lo hi. drawn l (omega arith) (omega arith)) here in
-    let back : AllSound May (back_pieces n mask ++ r) = (tt, ((refl, length-branch mask, drawn n (omega arith) (omega arith)), (tt, outer))) in
-    (tt, (tt, (tt, (tt, sound_append May (pieces (n + 2) (n + 1) members) (back_pieces n mask ++ r) inner back))))
+    let back : AllSound May 0 (back_pieces n mask ++ r) = (tt, ((length-branch mask, drawn n (omega arith) (omega arith)), (tt, all_later May r 0 _ (omega arith) outer))) in
+    (tt, (tt, (tt, (tt, sound_append May (pieces (n + 2) (n + 1) members) (back_pieces n mask ++ r) 0 inner back))))
 
 -- how many labels the blocks draw
 abbrev pub all_draws : List Tree → ℕ
 all_draws [] = 0
 all_draws (t ∷ ts) = draws t + all_draws ts
 
-pub function_sound : (May : ℕ → Type 0) (ts : List Tree) (n b blocks : ℕ) → TreesName blocks ts → ((l : ℕ) → l < blocks → May l) → ((l : ℕ) → n ≤ l → l < n + all_draws ts → May l) → b + length ts ≤ blocks → AllSound May (function_pieces n b ts)
+pub function_sound : (May : ℕ → Type 0) (ts : List Tree) (n b blocks : ℕ) → TreesName blocks ts → ((l : ℕ) → l < blocks → May l) → ((l : ℕ) → n ≤ l → l < n + all_draws ts → May l) → b + length ts ≤ blocks → AllSound May 0 (function_pieces n b ts)
 function_sound May [] n b blocks names may drawn room = tt
 function_sound May (t ∷ ts) n b blocks names may drawn room =
     let here = tree_sound May t n 0 blocks names.0 may (λ l lo hi. drawn l (omega arith) (omega arith)) (may 0 (omega arith)) in
     let there = function_sound May ts (n + draws t) (b + 1) blocks names.1 may (λ l lo hi. drawn l (omega arith) (omega arith)) (omega arith) in
-    (tt, sound_append May (pieces n 0 t) (function_pieces (n + draws t) (b + 1) ts) here there)
+    (tt, sound_append May (pieces n 0 t) (function_pieces (n + draws t) (b + 1) ts) 0 here there)
 
 -- where a label stands, if it does: at an even place in so many bytes
 abbrev pub Stands : ℕ → Option ℕ → Type 0
 Stands n None = Unit {0}
 Stands n (Some p) = (p % 2 ≡ 0) × (p ≤ n)
 
--- a use that can be patched once its label stands
-pub record IsUse (May : ℕ → Type 0) (n : ℕ) (u : LabelFixup) : Type 0 where
-  pub kind : u.kind ≡ BranchRIL
+-- the bytes that a use patches bear it
+abbrev pub BearsUse : LabelUse → (offset : ℕ) → List ℕ → Type 0
+BearsUse BranchRI o bs = ⊥
+BearsUse BranchRIL o bs = Unit {0}
+BearsUse PCRel32 o bs = word bs o ≤ o
+BearsUse PCRel32Dbl o bs = ⊥
+
+-- a use from a place on that can be patched once its label stands
+pub record IsUse (May : ℕ → Type 0) (bs : List ℕ) (from : ℕ) (u : LabelFixup) : Type 0 where
+  pub behind : from ≤ u.offset
   pub even : u.offset % 2 ≡ 0
-  pub within : u.offset + 6 ≤ n
+  pub within : u.offset + patch_size u.kind ≤ length bs
+  pub bears : BearsUse u.kind u.offset bs
   pub label : May u.label.0
+
+-- such uses, one behind another
+abbrev pub UsesStand : (ℕ → Type 0) → List ℕ → (from : ℕ) → List LabelFixup → Type 0
+UsesStand May bs n [] = Unit {0}
+UsesStand May bs n (u ∷ us) = IsUse May bs n u × UsesStand May bs (u.offset + patch_size u.kind) us
+
+-- the bytes from an index on are the same
+abbrev pub SameFrom : ℕ → (old new : List ℕ) → Type 0
+SameFrom n old new = (length old ≤ length new) × ((i : ℕ) → n ≤ i → i < length old → get_or new i 0 ≡ get_or old i 0)
+
+bears_still : (kind : LabelUse) (n o : ℕ) (old new : List ℕ) → SameFrom n old new → n ≤ o → o + patch_size kind ≤ length old → BearsUse kind o old → BearsUse kind o new
+bears_still BranchRI n o old new same le within h = h
+bears_still BranchRIL n o old new same le within h = h
+bears_still PCRel32 n o old new same le within h =
+    let e : word new o ≡ word old o = same_word o new old (λ i lo hi. same.1 i (omega arith) (omega arith)) in
+    omega (arith, e, h)
+bears_still PCRel32Dbl n o old new same le within h = h
+
+use_still : (May : ℕ → Type 0) (n from : ℕ) (old new : List ℕ) (u : LabelFixup) → SameFrom n old new → n ≤ from → IsUse May old from u → IsUse May new from u
+use_still May n from old new u same le h = record {
+  behind = h.behind;
+  even = h.even;
+  within = omega (arith, h.within, same.0);
+  bears = bears_still u.kind n u.offset old new same (omega (arith, h.behind)) h.within h.bears;
+  label = h.label;
+}
+
+pub uses_still : (May : ℕ → Type 0) (us : List LabelFixup) (n from : ℕ) (old new : List ℕ) → SameFrom n old new → n ≤ from → UsesStand May old from us → UsesStand May new from us
+uses_still May [] n from old new same le h = tt
+uses_still May (u ∷ us) n from old new same le h =
+    (use_still May n from old new u same le h.0, uses_still May us n (u.offset + patch_size u.kind) old new same (omega (arith, h.0.behind)) h.1)
+
+-- one more, behind all bytes that stood there
+one_more_use : (May : ℕ → Type 0) (us : List LabelFixup) (from : ℕ) (old new : List ℕ) (u : LabelFixup) → SameFrom 0 old new → from ≤ length old → UsesStand May old from us → IsUse May new (length old) u → UsesStand May new from (us ++ u ∷ [])
+one_more_use May [] from old new u same le h last = (record { behind = omega (arith, last.behind); even = last.even; within = last.within; bears = last.bears; label = last.label }, tt)
+one_more_use May (v ∷ us) from old new u same le h last =
+    (use_still May 0 from old new v same (omega arith) h.0, one_more_use May us (v.offset + patch_size v.kind) old new u same h.0.within h.1 last)
 
 pub record Orderly (May : ℕ → Type 0) (s : State) : Type 0 where
   pub even : length s.bytes % 2 ≡ 0
   pub labels : All (Stands (length s.bytes)) s.labels
-  pub uses : All (IsUse May (length s.bytes)) s.uses
+  pub uses : UsesStand May s.bytes 0 s.uses
 
 stands_more : (n m : ℕ) → n ≤ m → (o : Option ℕ) → Stands n o → Stands m o
 stands_more n m le None h = tt
 stands_more n m le (Some p) h = (h.0, omega (arith, h.1))
 
-use_more : (May : ℕ → Type 0) (n m : ℕ) → n ≤ m → (u : LabelFixup) → IsUse May n u → IsUse May m u
-use_more May n m le u h = record { kind = h.kind; even = h.even; within = omega (arith, h.within); label = h.label }
+pub same_append : (n : ℕ) (old more : List ℕ) → SameFrom n old (old ++ more)
+same_append n old more = (omega (arith, length-append old more), λ i lo hi. get_or_append_left old more 0 i hi)
 
-orderly_step : (May : ℕ → Type 0) (p : Piece) (s : State) → Sound May p → Orderly May s → Orderly May (apply s p)
-orderly_step May (Put bs) s sound h =
+-- what a use puts bears it
+link_bears : (kind : LabelUse) (p : ℕ) (old bs : List ℕ) → p ≤ length old → LinkSound kind p bs → BearsUse kind (length old) (old ++ bs)
+link_bears BranchRI p old bs le h = h
+link_bears BranchRIL p old bs le h = tt
+link_bears PCRel32 p old bs le h = omega (arith, word_right old bs, h.1)
+link_bears PCRel32Dbl p old bs le h = h
+
+-- and has its bytes, which come in pairs
+link_size : (kind : LabelUse) (p : ℕ) (bs : List ℕ) → LinkSound kind p bs → (length bs ≡ patch_size kind) × (length bs % 2 ≡ 0)
+link_size BranchRI p bs h = absurd h
+link_size BranchRIL p bs h = (h, omega (arith, h))
+link_size PCRel32 p bs h = (h.0, omega (arith, h.0))
+link_size PCRel32Dbl p bs h = absurd h
+
+orderly_step : (May : ℕ → Type 0) (x : Piece) (s : State) (p : ℕ) → p ≤ length s.bytes → Sound May p x → Orderly May s → Orderly May (apply s x)
+orderly_step May (Put bs) s p le sound h =
     let n = length-append s.bytes bs in
-    let le : length s.bytes ≤ length (s.bytes ++ bs) = omega (arith, n) in
     record {
       even = omega (arith, n, sound, h.even);
-      labels = All-weaker _ _ (stands_more (length s.bytes) (length (s.bytes ++ bs)) le) s.labels h.labels;
-      uses = All-weaker _ _ (use_more May (length s.bytes) (length (s.bytes ++ bs)) le) s.uses h.uses;
+      labels = All-weaker _ _ (stands_more (length s.bytes) (length (s.bytes ++ bs)) (omega (arith, n))) s.labels h.labels;
+      uses = uses_still May s.uses 0 0 s.bytes (s.bytes ++ bs) (same_append 0 s.bytes bs) (omega arith) h.uses;
     }
-orderly_step May (Link kind l bs) s sound h =
+orderly_step May (PutReloc bs kind name addend) s p le sound h =
     let n = length-append s.bytes bs in
-    let le : length s.bytes ≤ length (s.bytes ++ bs) = omega (arith, n) in
+    record {
+      even = omega (arith, n, sound, h.even);
+      labels = All-weaker _ _ (stands_more (length s.bytes) (length (s.bytes ++ bs)) (omega (arith, n))) s.labels h.labels;
+      uses = uses_still May s.uses 0 0 s.bytes (s.bytes ++ bs) (same_append 0 s.bytes bs) (omega arith) h.uses;
+    }
+orderly_step May (PutTrapping bs byte code) s p le sound h =
+    let n = length-append s.bytes bs in
+    record {
+      even = omega (arith, n, sound, h.even);
+      labels = All-weaker _ _ (stands_more (length s.bytes) (length (s.bytes ++ bs)) (omega (arith, n))) s.labels h.labels;
+      uses = uses_still May s.uses 0 0 s.bytes (s.bytes ++ bs) (same_append 0 s.bytes bs) (omega arith) h.uses;
+    }
+orderly_step May (Link kind l bs) s p le sound h =
+    let n = length-append s.bytes bs in
+    let size = link_size kind p bs sound.0 in
     let u : LabelFixup = record { kind = kind; offset = length s.bytes; label = record { 0 = l } } in
     record {
-      even = omega (arith, n, sound.1, h.even);
-      labels = All-weaker _ _ (stands_more (length s.bytes) (length (s.bytes ++ bs)) le) s.labels h.labels;
-      uses = All-push (IsUse May (length (s.bytes ++ bs))) s.uses u (All-weaker _ _ (use_more May (length s.bytes) (length (s.bytes ++ bs)) le) s.uses h.uses) (record { kind = sound.0; even = h.even; within = omega (arith, n, sound.1); label = sound.2 });
+      even = omega (arith, n, size.1, h.even);
+      labels = All-weaker _ _ (stands_more (length s.bytes) (length (s.bytes ++ bs)) (omega (arith, n))) s.labels h.labels;
+      uses = one_more_use May s.uses 0 s.bytes (s.bytes ++ bs) u (same_append 0 s.bytes bs) (omega arith) h.uses (record {
+        behind = omega arith;
+        even = h.even;
+        within = omega (arith, n, size.0);
+        bears = link_bears kind p s.bytes bs le sound.0;
+        label = sound.1;
+      });
     }
-orderly_step May Step s sound h = record { even = h.even; labels = h.labels; uses = h.uses }
-orderly_step May Draw s sound h = record { even = h.even; labels = All-push (Stands (length s.bytes)) s.labels None h.labels tt; uses = h.uses }
-orderly_step May (Bind l) s sound h = record { even = h.even; labels = All-set (Stands (length s.bytes)) s.labels l (Some (length s.bytes)) (h.even, omega arith) h.labels; uses = h.uses }
+orderly_step May Step s p le sound h = record { even = h.even; labels = h.labels; uses = h.uses }
+orderly_step May Draw s p le sound h = record { even = h.even; labels = All-push (Stands (length s.bytes)) s.labels None h.labels tt; uses = h.uses }
+orderly_step May (Bind l) s p le sound h = record { even = h.even; labels = All-set (Stands (length s.bytes)) s.labels l (Some (length s.bytes)) (h.even, omega arith) h.labels; uses = h.uses }
 
-pub orderly_run : (May : ℕ → Type 0) (ps : List Piece) (s : State) → AllSound May ps → Orderly May s → Orderly May (run s ps)
-orderly_run May [] s sound h = h
-orderly_run May (p ∷ ps) s sound h = orderly_run May ps (apply s p) sound.1 (orderly_step May p s sound.0 h)
+applied_length : (x : Piece) (s : State) → length (apply s x).bytes ≡ length s.bytes + put_length (x ∷ [])
+applied_length (Put bs) s = omega (arith, length-append s.bytes bs)
+applied_length (PutReloc bs kind name addend) s = omega (arith, length-append s.bytes bs)
+applied_length (PutTrapping bs byte code) s = omega (arith, length-append s.bytes bs)
+applied_length (Link kind l bs) s = omega (arith, length-append s.bytes bs)
+applied_length Step s = omega arith
+applied_length Draw s = omega arith
+applied_length (Bind l) s = omega arith
+
+pub orderly_run : (May : ℕ → Type 0) (xs : List Piece) (s : State) (p : ℕ) → p ≤ length s.bytes → AllSound May p xs → Orderly May s → Orderly May (run s xs)
+orderly_run May [] s p le sound h = h
+orderly_run May (x ∷ xs) s p le sound h =
+    orderly_run May xs (apply s x) (p + put_length (x ∷ [])) (omega (arith, applied_length x s)) sound.1 (orderly_step May x s p le sound.0 h)

@@ -1,18 +1,19 @@
 -- What the check let pass stays passed, from member to member, through a loop and from block to block.
 use Rattle.std.proofs.Common.{◌≡◌, ℕ, ◌+◌, ◌<◌, ◌≤◌, ◌∙◌, List, [], ◌∷◌, length, get_or, drop, None, false, refl, sym, ap, subst, arith, length-append, length-set, nat_lt}
 use Rattle.std.proofs.lemmas.Bool.{ltb-true}
+use Rattle.s390x_inst.specs.Emission.{Emission}
 use Rattle.s390x_inst.specs.declared.state.IsaFlags.{IsaFlags}
 use Rattle.s390x_base.specs.declared.error.EmitError.TheVariants.{LabelOutOfRange}
 use Rattle.s390x_buffer.specs.State.{State, label_limit}
 use Rattle.s390x_inst.specs.declared.inst.Inst.{Inst}
 use Rattle.s390x_steps.specs.Tree.{Tree, empty, leaf, looped, graft, tree}
 use Rattle.s390x_steps.specs.Sizes.{instruction_size, tree_size}
-use Rattle.s390x_steps.specs.Causes.{first, draws, nesting_cause, numbers_cause, instruction_cause, tree_cause}
+use Rattle.s390x_steps.specs.Causes.{first, draws, nesting_cause, numbers_cause, leaf_cause, tree_cause}
 use Rattle.s390x_steps.proofs.Trees.{behind, graft_size}
 use Rattle.s390x_steps.proofs.Causes.{first_left, first_right, unless_true, graft_cause}
 use Rattle.s390x_emit_int.specs.Pieces.{Step, Draw, Bind, apply, run}
 use Rattle.s390x_emit_int.specs.Emission.{branch, pieces, own_pieces}
-use Rattle.s390x_emit_int.specs.Room.{Passed, TreePassed}
+use Rattle.s390x_emit_int.specs.Room.{Passed, MembersPassed, TreePassed}
 use Rattle.s390x_emit_int.proofs.Runs.{tree_grows, length-branch}
 use Rattle.s390x_emit_int.proofs.Starts.{same_run}
 use Rattle.s390x_emit_int.proofs.Trees.{graft_run}
@@ -43,39 +44,39 @@ tree_turns s t n after x en e =
     record { unmarked = ap (λ x. x.failed) e ∙ same.failed; blocks = ap (λ x. x.block_count) e ∙ same.block_count; labels = ap (λ x. length x.labels) e ∙ g.labels; bytes = ap (λ x. length x.bytes) e ∙ g.bytes }
 
 -- an instruction that is no loop, alone
-pub leaf_passed : (flags : IsaFlags) (s : State) (after depth : ℕ) (i : Inst) (x : Tree) → x ≡ leaf i empty → TreePassed flags s after depth x → Passed s after (instruction_size i) (instruction_cause flags s.block_count depth i)
+pub leaf_passed : (flags : IsaFlags) (s : State) (after depth : ℕ) (i : Inst) (x : Tree) → x ≡ leaf i empty → TreePassed flags s after depth x → MembersPassed s after depth (instruction_size i) (leaf_cause flags s.block_count (length s.labels) depth i)
 leaf_passed flags s after depth i x e p =
     let q : TreePassed flags s after depth (leaf i empty) = subst (TreePassed flags s after depth) e p in
     record { unmarked = q.unmarked; blocks = q.blocks; label = q.label; short = omega (arith, q.short); passed = first_left _ _ q.passed }
 
 -- the next member
-pub member_passed : (flags : IsaFlags) (s s1 : State) (after depth : ℕ) (is : List Inst) (k : ℕ) (i : Inst) → k < length is → i ≡ get_or is k i → s1 ≡ apply s Step → TreePassed flags s after depth (tree (drop k is)) → TreePassed flags s1 after depth (graft i empty)
-member_passed flags s s1 after depth is k i lt at e p =
-    let rest = tree (drop (k + 1) is) in
-    let q : TreePassed flags s after depth (graft i rest) = subst (TreePassed flags s after depth) (behind is k i lt at) p in
-    let here : TreePassed flags (apply s Step) after depth (graft i empty) = record {
+pub member_passed : (state : Emission) (flags : IsaFlags) (s s1 : State) (after depth : ℕ) (is : List Inst) (k : ℕ) (i : Inst) → k < length is → i ≡ get_or is k i → s1 ≡ apply s Step → TreePassed flags s after depth (tree state (drop k is)) → TreePassed flags s1 after depth (graft state i empty)
+member_passed state flags s s1 after depth is k i lt at e p =
+    let rest = tree state (drop (k + 1) is) in
+    let q : TreePassed flags s after depth (graft state i rest) = subst (TreePassed flags s after depth) (behind state is k i lt at) p in
+    let here : TreePassed flags (apply s Step) after depth (graft state i empty) = record {
       unmarked = q.unmarked;
       blocks = q.blocks;
       label = q.label;
-      short = omega (arith, q.short, graft_size i rest);
-      passed = first_left _ _ (sym (graft_cause flags s.block_count (length s.labels) depth i rest) ∙ q.passed);
+      short = omega (arith, q.short, graft_size state i rest);
+      passed = first_left _ _ (sym (graft_cause flags state s.block_count (length s.labels) depth i rest) ∙ q.passed);
     } in
-    subst (λ x. TreePassed flags x after depth (graft i empty)) (sym e) here
+    subst (λ x. TreePassed flags x after depth (graft state i empty)) (sym e) here
 
 -- and those behind it
-pub others_passed : (flags : IsaFlags) (s s1 s2 : State) (after depth : ℕ) (is : List Inst) (k : ℕ) (i : Inst) → k < length is → i ≡ get_or is k i → s1 ≡ apply s Step → s2 ≡ run s1 (own_pieces (length s1.labels) after (graft i empty)) → TreePassed flags s after depth (tree (drop k is)) → TreePassed flags s2 after depth (tree (drop (k + 1) is))
-others_passed flags s s1 s2 after depth is k i lt at e1 e2 p =
+pub others_passed : (state : Emission) (flags : IsaFlags) (s s1 s2 : State) (after depth : ℕ) (is : List Inst) (k : ℕ) (i : Inst) → k < length is → i ≡ get_or is k i → s1 ≡ apply s Step → s2 ≡ run s1 (own_pieces (length s1.labels) after (graft state i empty)) → TreePassed flags s after depth (tree state (drop k is)) → TreePassed flags s2 after depth (tree state (drop (k + 1) is))
+others_passed state flags s s1 s2 after depth is k i lt at e1 e2 p =
     let n = length s.labels in
-    let rest = tree (drop (k + 1) is) in
-    let q : TreePassed flags s after depth (graft i rest) = subst (TreePassed flags s after depth) (behind is k i lt at) p in
-    let e2' : s2 ≡ run (apply s Step) (own_pieces n after (graft i empty)) = e2 ∙ ap (λ x. run x (own_pieces (length x.labels) after (graft i empty))) e1 in
-    let t = tree_turns s s2 n after (graft i empty) refl (e2' ∙ sym (graft_run i empty s n after)) in
-    let cause : tree_cause flags s.block_count (n + draws (graft i empty)) depth rest ≡ None = first_right (tree_cause flags s.block_count n depth (graft i empty)) _ (sym (graft_cause flags s.block_count n depth i rest) ∙ q.passed) in
+    let rest = tree state (drop (k + 1) is) in
+    let q : TreePassed flags s after depth (graft state i rest) = subst (TreePassed flags s after depth) (behind state is k i lt at) p in
+    let e2' : s2 ≡ run (apply s Step) (own_pieces n after (graft state i empty)) = e2 ∙ ap (λ x. run x (own_pieces (length x.labels) after (graft state i empty))) e1 in
+    let t = tree_turns s s2 n after (graft state i empty) refl (e2' ∙ sym (graft_run state i empty s n after)) in
+    let cause : tree_cause flags s.block_count (n + draws (graft state i empty)) depth rest ≡ None = first_right (tree_cause flags s.block_count n depth (graft state i empty)) _ (sym (graft_cause flags state s.block_count n depth i rest) ∙ q.passed) in
     record {
       unmarked = t.unmarked ∙ q.unmarked;
       blocks = omega (arith, t.blocks, t.labels, q.blocks);
-      label = omega (arith, t.labels, q.label);
-      short = omega (arith, t.bytes, q.short, graft_size i rest);
+      label = λ d. omega (arith, t.labels, q.label d);
+      short = omega (arith, t.bytes, q.short, graft_size state i rest);
       passed = ap (λ b. tree_cause flags b (length s2.labels) depth rest) t.blocks ∙ ap (λ m. tree_cause flags s.block_count m depth rest) t.labels ∙ cause;
     }
 
@@ -107,7 +108,7 @@ pub inner_passed : (flags : IsaFlags) (s so : State) (depth end k : ℕ) (member
 inner_passed flags s so depth end k members p t lt = record {
   unmarked = t.unmarked ∙ p.unmarked;
   blocks = omega (arith, t.blocks, t.labels, p.blocks);
-  label = lt;
+  label = λ d. lt;
   short = omega (arith, t.bytes, p.short);
   passed = ap (λ b. tree_cause flags b (length so.labels) (depth + 1) members) t.blocks ∙ ap (λ m. tree_cause flags s.block_count m (depth + 1) members) t.labels ∙ p.passed;
 }

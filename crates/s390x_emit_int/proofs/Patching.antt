@@ -6,7 +6,7 @@ use Rattle.s390x_buffer.specs.Patch.{patch, patch_size, set2, set4, word, half, 
 use Rattle.s390x_buffer.specs.declared.entries.LabelFixup.{LabelFixup}
 use Rattle.s390x_buffer.specs.declared.label_use.LabelUse.{LabelUse}
 use Rattle.s390x_buffer.specs.declared.label_use.LabelUse.TheVariants.{BranchRI, BranchRIL, PCRel32Dbl, PCRel32}
-use Rattle.s390x_emit_int.specs.Pieces.{Piece, apply, run, Put, Link, Step, Draw, Bind}
+use Rattle.s390x_emit_int.specs.Pieces.{Piece, apply, run, Put, PutTrapping, PutReloc, Link, Step, Draw, Bind}
 use Rattle.s390x_emit_int.specs.Resolve.{resolve, Wide, Within}
 
 set4_left : (bs x : List ℕ) (o v : ℕ) → o + 4 ≤ length bs → set4 (bs ++ x) o v ≡ set4 bs o v ++ x
@@ -61,7 +61,7 @@ word_left bs x o h =
     let e3 = get_or_append_left bs x 0 (o + 3) (omega arith) in
     cc
 
-word_right : (r bs : List ℕ) → word (r ++ bs) (length r) ≡ word bs 0
+pub word_right : (r bs : List ℕ) → word (r ++ bs) (length r) ≡ word bs 0
 word_right r bs =
     let e0 : get_or (r ++ bs) (length r) 0 ≡ get_or bs 0 0 = ap (λ k. get_or (r ++ bs) k 0) (sym (add-zero (length r))) ∙ get_or-append-add r bs 0 0 in
     let e1 = get_or-append-add r bs 1 0 in
@@ -121,6 +121,22 @@ pub patched_run : (ps : List Piece) (s : State) (off : ℕ → ℕ) → Within (
 patched_run [] s off w h = sym (append-nil (patched off s))
 patched_run (Put bs ∷ ps) s off w h =
     let s1 = apply s (Put bs) in
+    let n = length-append s.bytes bs in
+    let w1 = within_more (length s.bytes) (length s1.bytes) s.uses (omega (arith, n)) w in
+    patched_run ps s1 off w1 h
+    ∙ ap (λ l. l ++ resolve off (length s1.bytes) ps) (all_left off s.uses s.bytes bs w)
+    ∙ append_assoc (patched off s) bs (resolve off (length s1.bytes) ps)
+    ∙ ap (λ m. patched off s ++ (bs ++ resolve off m ps)) n
+patched_run (PutReloc bs kind name addend ∷ ps) s off w h =
+    let s1 = apply s (PutReloc bs kind name addend) in
+    let n = length-append s.bytes bs in
+    let w1 = within_more (length s.bytes) (length s1.bytes) s.uses (omega (arith, n)) w in
+    patched_run ps s1 off w1 h
+    ∙ ap (λ l. l ++ resolve off (length s1.bytes) ps) (all_left off s.uses s.bytes bs w)
+    ∙ append_assoc (patched off s) bs (resolve off (length s1.bytes) ps)
+    ∙ ap (λ m. patched off s ++ (bs ++ resolve off m ps)) n
+patched_run (PutTrapping bs byte code ∷ ps) s off w h =
+    let s1 = apply s (PutTrapping bs byte code) in
     let n = length-append s.bytes bs in
     let w1 = within_more (length s.bytes) (length s1.bytes) s.uses (omega (arith, n)) w in
     patched_run ps s1 off w1 h

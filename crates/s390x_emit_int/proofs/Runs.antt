@@ -1,16 +1,20 @@
 -- Running pieces: how the lists of a buffer grow.
 use Rattle.std.proofs.Common.{◌≡◌, ℕ, ◌+◌, ◌<◌, ◌≢◌, Some, None, List, [], ◌∷◌, ◌++◌, length, get_or, refl, sym, ap, ◌∙◌, subst, arith, length-append, length-set}
-use Rattle.std.proofs.lemmas.List.{get_or_append_left, get_or-set_other}
+use Rattle.std.proofs.lemmas.List.{get_or_append_left, get_or-set_other, get_or-set_same}
 use Rattle.s390x_buffer.specs.State.{State}
 use Rattle.s390x_inst.specs.declared.inst.Inst.{Inst}
-use Rattle.s390x_inst.specs.declared.inst.Inst.TheVariants.{CondBreak}
+use Rattle.s390x_inst.specs.declared.inst.Inst.TheVariants.{CondBreak, JTSequence}
+use Rattle.s390x_base.specs.Regs.{number_of}
+use Rattle.s390x_base.specs.declared.ir.MachLabel.{MachLabel}
 use Rattle.s390x_steps.specs.Tree.{Tree, empty, leaf, looped}
 use Rattle.s390x_steps.specs.Sizes.{instruction_size, tree_size}
-use Rattle.s390x_steps.specs.Causes.{draws}
-use Rattle.s390x_steps.specs.MachineInstruction.{MachineInstruction, ril_b, ril_c, bytes_of, size_of}
-use Rattle.s390x_steps.specs.Parts.{Part, Row, Branch, Relative, ToBlock, ToStep, instruction_parts, part_size, parts_size}
-use Rattle.s390x_emit_int.specs.Pieces.{Piece, apply, run, Step, Draw, Bind}
-use Rattle.s390x_emit_int.specs.Emission.{branch, relative, part_piece, part_pieces, leaf_pieces, back_pieces, pieces}
+use Rattle.s390x_steps.specs.Causes.{instruction_draws, draws}
+use Rattle.s390x_steps.specs.MachineInstruction.{MachineInstruction, rr, ril_b, ril_c, rxy, bytes_of, size_of}
+use Rattle.std.specs.Int.{w64, to_be_bytes}
+use Rattle.s390x_steps.specs.Rows.{word_bytes}
+use Rattle.s390x_steps.specs.Parts.{Part, Row, Trapping, Branch, Relative, SymbolValue, TrapHere, TableWord, ToBlock, ToStep, table_words, table_parts, instruction_parts, part_size, parts_size}
+use Rattle.s390x_emit_int.specs.Pieces.{Piece, apply, run, Put, Step, Draw, Bind}
+use Rattle.s390x_emit_int.specs.Emission.{branch, relative, table_word, part_piece, part_pieces, table_rows, table_head, table_pieces, leaf_pieces, back_pieces, pieces}
 use Rattle.s390x_format.specs.Formats.{length_of}
 use Rattle.s390x_format.proofs.Encoding.{encode-length}
 
@@ -24,7 +28,7 @@ size-branch mask half = refl
 pub length-branch : (mask : ℕ) → length (bytes_of (ril_c 0xc04 mask 0)) ≡ 6
 length-branch mask = length-bytes (ril_c 0xc04 mask 0) ∙ size-branch mask 0
 
-size-relative : (opcode register half : ℕ) → size_of (ril_b opcode register half) ≡ 6
+pub size-relative : (opcode register half : ℕ) → size_of (ril_b opcode register half) ≡ 6
 unfolding length_of
 size-relative opcode register half = refl
 
@@ -62,8 +66,20 @@ relative_grows s opcode register l = record {
   bytes = length-append s.bytes (bytes_of (ril_b opcode register 0)) ∙ ap (λ m. length s.bytes + m) (length-relative opcode register);
 }
 
+word_grows : (s : State) (before l : ℕ) → Grows s (apply s (table_word before l)) 0 4
+word_grows s before l = record {
+  labels = omega arith;
+  kept = λ l h. refl;
+  bytes = length-append s.bytes (word_bytes before);
+}
+
 part_grows : (part : Part) (s : State) → Grows s (apply s (part_piece part)) 0 (part_size part)
 part_grows (Row m) s = record {
+  labels = omega arith;
+  kept = λ l h. refl;
+  bytes = length-append s.bytes (bytes_of m) ∙ ap (λ n. length s.bytes + n) (length-bytes m);
+}
+part_grows (Trapping m byte code) s = record {
   labels = omega arith;
   kept = λ l h. refl;
   bytes = length-append s.bytes (bytes_of m) ∙ ap (λ n. length s.bytes + n) (length-bytes m);
@@ -72,14 +88,75 @@ part_grows (Branch mask (ToBlock b)) s = branch_grows s mask b
 part_grows (Branch mask (ToStep k)) s = branch_grows s mask k
 part_grows (Relative opcode register (ToBlock b)) s = relative_grows s opcode register b
 part_grows (Relative opcode register (ToStep k)) s = relative_grows s opcode register k
+part_grows (SymbolValue name offset) s = record { labels = omega arith; kept = λ l h. refl; bytes = length-append s.bytes (to_be_bytes w64 0) }
+part_grows (TrapHere code) s = record { labels = omega arith; kept = λ l h. refl; bytes = length-append s.bytes [] }
+part_grows (TableWord before (ToBlock b)) s = word_grows s before b
+part_grows (TableWord before (ToStep k)) s = word_grows s before k
 
-parts_grow : (parts : List Part) (s : State) → Grows s (run s (part_pieces parts)) 0 (parts_size parts)
+pub parts_grow : (parts : List Part) (s : State) → Grows s (run s (part_pieces parts)) 0 (parts_size parts)
 parts_grow [] s = record { labels = omega arith; kept = λ l h. refl; bytes = omega arith }
 parts_grow (part ∷ parts) s = grows_on s (apply s (part_piece part)) _ 0 (part_size part) 0 (parts_size parts) (part_grows part s) (parts_grow parts (apply s (part_piece part)))
 
-pub leaf_grows : (i : Inst) (s : State) (after : ℕ) → Grows s (run s (leaf_pieces after i)) 0 (instruction_size i)
-leaf_grows (CondBreak mask) s after = branch_grows s mask after
-leaf_grows i s after = parts_grow (instruction_parts i) s
+draw_grows : (s : State) → Grows s (apply s Draw) 1 0
+draw_grows s = record {
+  labels = length-append s.labels (None ∷ []);
+  kept = λ l h. get_or_append_left s.labels (None ∷ []) None l h;
+  bytes = omega arith;
+}
+
+-- what stands before the words of a table, up to its label
+abbrev pub table_begun : State → (n index mask other : ℕ) → State
+table_begun s n index mask other = run s (Draw ∷ table_rows n index mask other)
+
+pub begun_grows : (s : State) (n index mask other : ℕ) → Grows s (table_begun s n index mask other) 1 20
+unfolding length_of
+begun_grows s n index mask other =
+    let s1 = apply s Draw in
+    let s2 = apply s1 (branch mask other) in
+    let s3 = apply s2 (relative 0xc00 1 n) in
+    let s4 = apply s3 (Put (bytes_of (rxy 0xe318 1 1 index 0))) in
+    let a = draw_grows s in
+    let b = branch_grows s1 mask other in
+    let d = relative_grows s2 0xc00 1 n in
+    let e = part_grows (Row (rxy 0xe318 1 1 index 0)) s3 in
+    let f = part_grows (Row (rr 0x07 15 1)) s4 in
+    let r = grows_on s s1 _ _ _ _ _ a (grows_on s1 s2 _ _ _ _ _ b (grows_on s2 s3 _ _ _ _ _ d (grows_on s3 s4 _ _ _ _ _ e f))) in
+    record { labels = omega (arith, r.labels); kept = r.kept; bytes = omega (arith, r.bytes) }
+
+head_grows : (s : State) (n index mask other : ℕ) → n ≡ length s.labels → Grows s (run s (table_head n index mask other)) 1 20
+head_grows s n index mask other e =
+    let t = table_begun s n index mask other in
+    let g = begun_grows s n index mask other in
+    record {
+      labels = omega (arith, g.labels, length-set t.labels n (Some (length t.bytes)));
+      kept = λ l h. let ne : l ≢ n = omega arith in get_or-set_other t.labels n l (Some (length t.bytes)) None ne ∙ g.kept l h;
+      bytes = g.bytes;
+    }
+
+pub table_size : (index mask other : ℕ) (targets : List MachLabel) → parts_size (table_parts index mask other targets) ≡ 20 + parts_size (table_words 0 targets)
+unfolding length_of
+table_size index mask other targets = omega arith
+
+table_grows : (s : State) (n index mask other : ℕ) (targets : List MachLabel) → n ≡ length s.labels → Grows s (run s (table_pieces n index mask other targets)) 1 (parts_size (table_parts index mask other targets))
+table_grows s n index mask other targets e =
+    let t = run s (table_head n index mask other) in
+    let r = grows_on s t (run t (part_pieces (table_words 0 targets))) _ _ _ _ (head_grows s n index mask other e) (parts_grow (table_words 0 targets) t) in
+    record { labels = omega (arith, r.labels); kept = r.kept; bytes = omega (arith, r.bytes, table_size index mask other targets) }
+
+-- where the table's label stands
+pub table_label : (s : State) (n index mask other : ℕ) (targets : List MachLabel) → n ≡ length s.labels → get_or (run s (table_pieces n index mask other targets)).labels n None ≡ Some (length s.bytes + 20)
+table_label s n index mask other targets e =
+    let t = table_begun s n index mask other in
+    let g = begun_grows s n index mask other in
+    let u = run s (table_head n index mask other) in
+    let inside : n < length t.labels = omega (arith, g.labels) in
+    let inside' : n < length u.labels = omega (arith, inside, length-set t.labels n (Some (length t.bytes))) in
+    (parts_grow (table_words 0 targets) u).kept n inside' ∙ get_or-set_same t.labels n (Some (length t.bytes)) None inside ∙ ap Some g.bytes
+
+pub leaf_grows : (i : Inst) (s : State) (n after : ℕ) → n ≡ length s.labels → Grows s (run s (leaf_pieces n after i)) (instruction_draws i) (instruction_size i)
+leaf_grows (CondBreak mask) s n after e = branch_grows s mask after
+leaf_grows (JTSequence ridx other mask targets) s n after e = table_grows s n (number_of ridx) mask other.0 targets.items e
+leaf_grows i s n after e = parts_grow (instruction_parts i) s
 
 -- a loop's beginning
 abbrev pub opened : State → State
@@ -118,13 +195,13 @@ pub tree_grows : (t : Tree) (s : State) (n after : ℕ) → n ≡ length s.label
 tree_grows empty s n after e = record { labels = omega arith; kept = λ l h. refl; bytes = omega arith }
 tree_grows (leaf i rest) s n after e =
     let s1 = apply s Step in
-    let s2 = run s1 (leaf_pieces after i) in
-    let g : Grows s s2 0 (instruction_size i) = step_grows s s2 _ _ (leaf_grows i s1 after) in
-    let n2 : n ≡ length s2.labels = omega (arith, g.labels) in
-    let h = tree_grows rest s2 n after n2 in
-    let r = grows_on s s2 (run s2 (pieces n after rest)) 0 (instruction_size i) (draws rest) (tree_size rest) g h in
-    let done : Grows s (run s2 (pieces n after rest)) (draws rest) (instruction_size i + tree_size rest) = record { labels = omega (arith, r.labels); kept = r.kept; bytes = omega (arith, r.bytes) } in
-    subst (λ x. Grows s x (draws rest) (instruction_size i + tree_size rest)) (sym (run-append s1 (leaf_pieces after i) (pieces n after rest))) done
+    let s2 = run s1 (leaf_pieces n after i) in
+    let d = instruction_draws i in
+    let g : Grows s s2 d (instruction_size i) = step_grows s s2 _ _ (leaf_grows i s1 n after e) in
+    let n2 : n + d ≡ length s2.labels = omega (arith, g.labels) in
+    let h = tree_grows rest s2 (n + d) after n2 in
+    let r = grows_on s s2 (run s2 (pieces (n + d) after rest)) d (instruction_size i) (draws rest) (tree_size rest) g h in
+    subst (λ x. Grows s x (d + draws rest) (instruction_size i + tree_size rest)) (sym (run-append s1 (leaf_pieces n after i) (pieces (n + d) after rest))) r
 tree_grows (looped mask members rest) s n after e =
     let n0 = length s.labels in
     let s1 = apply s Step in

@@ -1,46 +1,63 @@
 -- What emission does with an instruction that is one machine instruction, and with one that isn't.
-use Rattle.std.proofs.Common.{◌≡◌, ℕ, [], ◌∷◌, Some, None, refl, sym, ap, ◌∙◌, arith}
+use Rattle.std.proofs.Common.{◌≡◌, ℕ, List, [], ◌∷◌, Option, Some, None, refl, sym, ap, ◌∙◌, arith}
+use Rattle.s390x_base.specs.declared.trap.TrapKind.{TrapKind}
 use Rattle.s390x_inst.specs.declared.state.IsaFlags.{IsaFlags}
+use Rattle.s390x_base.specs.declared.error.EmitError.{EmitError}
 use Rattle.s390x_base.specs.declared.error.EmitError.TheVariants.{BadRegister}
 use Rattle.s390x_inst.specs.declared.inst.Inst.{Inst}
-use Rattle.s390x_inst.specs.declared.inst.Inst.TheVariants.{CondBr, CondBreak}
-use Rattle.s390x_steps.specs.Alone.{Alone, alone}
-use Rattle.s390x_steps.specs.MachineInstruction.{bytes_of, size_of}
-use Rattle.s390x_steps.specs.Parts.{branch_parts, parts_or, parts_size}
-use Rattle.s390x_steps.specs.Causes.{unless, facility_cause, branch_cause, cause_or, instruction_cause}
+use Rattle.s390x_inst.specs.declared.inst.Inst.TheVariants.{CondBreak, JTSequence}
+use Rattle.s390x_steps.specs.Alone.{Alone, alone, stop_code}
+use Rattle.s390x_steps.specs.MachineInstruction.{MachineInstruction, size_of}
+use Rattle.s390x_steps.specs.Parts.{Part, branch_parts, memory_parts, row_part, parts_or, memory_or, parts_size}
+use Rattle.s390x_steps.specs.Memory.{MemoryInstruction, memory}
+use Rattle.s390x_steps.specs.Causes.{unless, facility_cause, branch_cause, cause_or, memory_cause_or, instruction_cause}
 use Rattle.s390x_steps.proofs.Causes.{first_right}
-use Rattle.s390x_steps.specs.Ranges.{InRange}
 use Rattle.s390x_steps.specs.Sizes.{instruction_size}
-use Rattle.s390x_emit_int.specs.Pieces.{Put}
-use Rattle.s390x_emit_int.specs.Emission.{part_pieces, branch_pieces, branch_size, leaf_pieces}
+use Rattle.s390x_emit_int.specs.Emission.{part_pieces, branch_pieces, branch_size, memory_size_or, leaf_pieces}
 
-pub some_pieces : (i : Inst) (x : Alone) (after : ℕ) → Some x ≡ alone i → leaf_pieces after i ≡ Put (bytes_of x.row) ∷ []
-some_pieces (CondBreak mask) x after e = absurd (cc)
-some_pieces i x after e = ap (λ o. part_pieces (parts_or o (branch_parts i))) (sym e)
+pub some_pieces : (i : Inst) (x : Alone) (n after : ℕ) → Some x ≡ alone i → leaf_pieces n after i ≡ part_pieces (row_part x.row (stop_code i) ∷ [])
+some_pieces (CondBreak mask) x n after e = absurd (cc)
+some_pieces (JTSequence ridx other mask targets) x n after e = absurd (cc)
+some_pieces i x n after e = ap (λ o. part_pieces (parts_or o (stop_code i) (memory_or (memory i) (branch_parts i)))) (sym e)
 
-pub none_pieces : (i : Inst) (after : ℕ) → None ≡ alone i → leaf_pieces after i ≡ branch_pieces after i
-none_pieces (CondBreak mask) after e = refl
-none_pieces i after e = ap (λ o. part_pieces (parts_or o (branch_parts i))) (sym e)
+pub none_pieces : (i : Inst) (n after : ℕ) → None ≡ alone i → None ≡ memory i → leaf_pieces n after i ≡ branch_pieces n after i
+none_pieces (CondBreak mask) n after e m = refl
+none_pieces (JTSequence ridx other mask targets) n after e m = refl
+none_pieces i n after e m = ap (λ o. part_pieces (parts_or o (stop_code i) (memory_or (memory i) (branch_parts i)))) (sym e) ∙ ap (λ o. part_pieces (memory_or o (branch_parts i))) (sym m)
 
-pub some_range : (i : Inst) (x : Alone) → Some x ≡ alone i → InRange i
-some_range (CondBr taken not_taken mask) x e = absurd (cc)
-some_range (CondBreak mask) x e = absurd (cc)
-some_range i x e = tt
+pub memory_pieces : (i : Inst) (x : MemoryInstruction) (n after : ℕ) → None ≡ alone i → Some x ≡ memory i → leaf_pieces n after i ≡ part_pieces (memory_parts x)
+memory_pieces (CondBreak mask) x n after e m = absurd (cc)
+memory_pieces (JTSequence ridx other mask targets) x n after e m = absurd (cc)
+memory_pieces i x n after e m = ap (λ o. part_pieces (parts_or o (stop_code i) (memory_or (memory i) (branch_parts i)))) (sym e) ∙ ap (λ o. part_pieces (memory_or o (branch_parts i))) (sym m)
 
-pub some_other : (blocks depth : ℕ) (i : Inst) (x : Alone) → Some x ≡ alone i → cause_or (alone i) (branch_cause blocks depth i) ≡ unless x.fine BadRegister
-some_other blocks depth i x e = ap (λ o. cause_or o (branch_cause blocks depth i)) (sym e)
+pub some_other : (others : Option EmitError) (i : Inst) (x : Alone) → Some x ≡ alone i → cause_or (alone i) others ≡ unless x.fine BadRegister
+some_other others i x e = ap (λ o. cause_or o others) (sym e)
 
-pub none_other : (blocks depth : ℕ) (i : Inst) → None ≡ alone i → cause_or (alone i) (branch_cause blocks depth i) ≡ branch_cause blocks depth i
-none_other blocks depth i e = ap (λ o. cause_or o (branch_cause blocks depth i)) (sym e)
+pub none_other : (others : Option EmitError) (i : Inst) → None ≡ alone i → cause_or (alone i) others ≡ others
+none_other others i e = ap (λ o. cause_or o others) (sym e)
 
 -- an instruction without a cause has none behind its facility
+pub behind_facility : (flags : IsaFlags) (blocks depth : ℕ) (i : Inst) → instruction_cause flags blocks depth i ≡ None → cause_or (alone i) (memory_cause_or (memory i) (branch_cause blocks depth i)) ≡ None
+behind_facility flags blocks depth i h = first_right (facility_cause flags i) (cause_or (alone i) (memory_cause_or (memory i) (branch_cause blocks depth i))) h
+
 pub some_cause : (flags : IsaFlags) (blocks depth : ℕ) (i : Inst) (x : Alone) → Some x ≡ alone i → instruction_cause flags blocks depth i ≡ None → unless x.fine BadRegister ≡ None
-some_cause flags blocks depth i x e h = sym (some_other blocks depth i x e) ∙ first_right (facility_cause flags i) (cause_or (alone i) (branch_cause blocks depth i)) h
+some_cause flags blocks depth i x e h = sym (some_other (memory_cause_or (memory i) (branch_cause blocks depth i)) i x e) ∙ behind_facility flags blocks depth i h
+
+pub none_cause : (flags : IsaFlags) (blocks depth : ℕ) (i : Inst) → None ≡ alone i → instruction_cause flags blocks depth i ≡ None → memory_cause_or (memory i) (branch_cause blocks depth i) ≡ None
+none_cause flags blocks depth i e h = sym (none_other (memory_cause_or (memory i) (branch_cause blocks depth i)) i e) ∙ behind_facility flags blocks depth i h
+
+row_size : (m : MachineInstruction) (code : Option TrapKind) → parts_size (row_part m code ∷ []) ≡ size_of m
+row_size m None = omega arith
+row_size m (Some code) = omega arith
 
 pub some_size : (i : Inst) (x : Alone) → Some x ≡ alone i → instruction_size i ≡ size_of x.row
 some_size (CondBreak mask) x e = absurd (cc)
-some_size i x e = ap (λ o. parts_size (parts_or o (branch_parts i))) (sym e) ∙ omega arith
+some_size i x e = ap (λ o. parts_size (parts_or o (stop_code i) (memory_or (memory i) (branch_parts i)))) (sym e) ∙ row_size x.row (stop_code i)
 
-pub none_size : (i : Inst) → None ≡ alone i → instruction_size i ≡ branch_size i
+or_size : (o : Option MemoryInstruction) (others : List Part) → parts_size (memory_or o others) ≡ memory_size_or o (parts_size others)
+or_size None others = refl
+or_size (Some x) others = refl
+
+pub none_size : (i : Inst) → None ≡ alone i → instruction_size i ≡ memory_size_or (memory i) (branch_size i)
 none_size (CondBreak mask) e = refl
-none_size i e = ap (λ o. parts_size (parts_or o (branch_parts i))) (sym e)
+none_size i e = ap (λ o. parts_size (parts_or o (stop_code i) (memory_or (memory i) (branch_parts i)))) (sym e) ∙ or_size (memory i) (branch_parts i)

@@ -2,15 +2,15 @@
 use Rattle.std.proofs.Common.{◌≡◌, ℕ, suc, ◌+◌, List, [], ◌∷◌, ◌++◌, length, refl, sym, ap, ◌∙◌, arith, length-append, append_assoc, append-nil, add-zero, add_assoc}
 use Rattle.s390x_buffer.specs.State.{State}
 use Rattle.s390x_inst.specs.declared.inst.Inst.{Inst}
-use Rattle.s390x_inst.specs.declared.inst.Inst.TheVariants.{CondBreak}
+use Rattle.s390x_inst.specs.declared.inst.Inst.TheVariants.{CondBreak, JTSequence}
 use Rattle.s390x_steps.specs.Tree.{Tree, empty, leaf, looped}
 use Rattle.s390x_steps.specs.Steps.{Step as TypedStep, Back, step_count, steps_of}
 use Rattle.s390x_steps.specs.MachineInstruction.{ril_c, bytes_of}
-use Rattle.s390x_steps.specs.Parts.{Part, Row, Branch, Relative, ToBlock, ToStep, instruction_parts}
+use Rattle.s390x_steps.specs.Parts.{Part, Row, Trapping, Branch, Relative, SymbolValue, TrapHere, TableWord, ToBlock, ToStep, table_words, instruction_parts}
 use Rattle.s390x_steps.specs.Image.{step_places}
 use Rattle.s390x_steps.specs.Sizes.{instruction_size}
-use Rattle.s390x_steps.specs.Causes.{draws}
-use Rattle.s390x_emit_int.specs.Pieces.{Piece, Put, Link, Step, Draw, Bind, apply, run}
+use Rattle.s390x_steps.specs.Causes.{instruction_draws, draws}
+use Rattle.s390x_emit_int.specs.Pieces.{Piece, Put, PutTrapping, PutReloc, Link, Step, Draw, Bind, apply, run}
 use Rattle.s390x_emit_int.specs.Emission.{part_pieces, leaf_pieces, back_pieces, pieces}
 use Rattle.s390x_emit_int.specs.Resolve.{put_length}
 use Rattle.s390x_emit_int.specs.Bound.{Follows}
@@ -21,6 +21,8 @@ use Rattle.s390x_emit_int.proofs.Joining.{leaf_put, tree_put, size_of_step, step
 abbrev pub marks : ℕ → List Piece → List ℕ
 marks p [] = []
 marks p (Put bs ∷ ps) = marks (p + length bs) ps
+marks p (PutReloc bs kind name addend ∷ ps) = marks (p + length bs) ps
+marks p (PutTrapping bs byte code ∷ ps) = marks (p + length bs) ps
 marks p (Link k l bs ∷ ps) = marks (p + length bs) ps
 marks p (Step ∷ ps) = p ∷ marks p ps
 marks p (Draw ∷ ps) = marks p ps
@@ -29,6 +31,8 @@ marks p (Bind l ∷ ps) = marks p ps
 pub starts_run : (ps : List Piece) (s : State) → (run s ps).starts ≡ s.starts ++ marks (length s.bytes) ps
 starts_run [] s = sym (append-nil s.starts)
 starts_run (Put bs ∷ ps) s = starts_run ps (apply s (Put bs)) ∙ ap (λ m. s.starts ++ marks m ps) (length-append s.bytes bs)
+starts_run (PutReloc bs kind name addend ∷ ps) s = starts_run ps (apply s (PutReloc bs kind name addend)) ∙ ap (λ m. s.starts ++ marks m ps) (length-append s.bytes bs)
+starts_run (PutTrapping bs byte code ∷ ps) s = starts_run ps (apply s (PutTrapping bs byte code)) ∙ ap (λ m. s.starts ++ marks m ps) (length-append s.bytes bs)
 starts_run (Link k l bs ∷ ps) s = starts_run ps (apply s (Link k l bs)) ∙ ap (λ m. s.starts ++ marks m ps) (length-append s.bytes bs)
 starts_run (Step ∷ ps) s = starts_run ps (apply s Step) ∙ append_assoc s.starts (length s.bytes ∷ []) (marks (length s.bytes) ps)
 starts_run (Draw ∷ ps) s = starts_run ps (apply s Draw)
@@ -37,6 +41,8 @@ starts_run (Bind l ∷ ps) s = starts_run ps (apply s (Bind l))
 pub marks_append : (a b : List Piece) (p : ℕ) → marks p (a ++ b) ≡ marks p a ++ marks (p + put_length a) b
 marks_append [] b p = ap (λ m. marks m b) (sym (add-zero p))
 marks_append (Put bs ∷ a) b p = marks_append a b (p + length bs) ∙ ap (λ m. marks (p + length bs) a ++ marks m b) (add_assoc p (length bs) (put_length a))
+marks_append (PutReloc bs kind name addend ∷ a) b p = marks_append a b (p + length bs) ∙ ap (λ m. marks (p + length bs) a ++ marks m b) (add_assoc p (length bs) (put_length a))
+marks_append (PutTrapping bs byte code ∷ a) b p = marks_append a b (p + length bs) ∙ ap (λ m. marks (p + length bs) a ++ marks m b) (add_assoc p (length bs) (put_length a))
 marks_append (Link k l bs ∷ a) b p = marks_append a b (p + length bs) ∙ ap (λ m. marks (p + length bs) a ++ marks m b) (add_assoc p (length bs) (put_length a))
 marks_append (Step ∷ a) b p = ap (λ l. p ∷ l) (marks_append a b p)
 marks_append (Draw ∷ a) b p = marks_append a b p
@@ -45,14 +51,20 @@ marks_append (Bind l ∷ a) b p = marks_append a b p
 parts_unmarked : (parts : List Part) (p : ℕ) → marks p (part_pieces parts) ≡ []
 parts_unmarked [] p = refl
 parts_unmarked (Row m ∷ parts) p = parts_unmarked parts _
+parts_unmarked (Trapping m byte code ∷ parts) p = parts_unmarked parts _
 parts_unmarked (Branch mask (ToBlock b) ∷ parts) p = parts_unmarked parts _
 parts_unmarked (Branch mask (ToStep k) ∷ parts) p = parts_unmarked parts _
 parts_unmarked (Relative opcode register (ToBlock b) ∷ parts) p = parts_unmarked parts _
 parts_unmarked (Relative opcode register (ToStep k) ∷ parts) p = parts_unmarked parts _
+parts_unmarked (SymbolValue name offset ∷ parts) p = parts_unmarked parts _
+parts_unmarked (TrapHere code ∷ parts) p = parts_unmarked parts _
+parts_unmarked (TableWord before (ToBlock b) ∷ parts) p = parts_unmarked parts _
+parts_unmarked (TableWord before (ToStep k) ∷ parts) p = parts_unmarked parts _
 
-leaf_unmarked : (after : ℕ) (i : Inst) (p : ℕ) → marks p (leaf_pieces after i) ≡ []
-leaf_unmarked after (CondBreak mask) p = refl
-leaf_unmarked after i p = parts_unmarked (instruction_parts i) p
+leaf_unmarked : (n after : ℕ) (i : Inst) (p : ℕ) → marks p (leaf_pieces n after i) ≡ []
+leaf_unmarked n after (CondBreak mask) p = refl
+leaf_unmarked n after (JTSequence ridx other mask targets) p = parts_unmarked (table_words 0 targets.items) _
+leaf_unmarked n after i p = parts_unmarked (instruction_parts i) p
 
 places_append : (at : ℕ → ℕ) (a b : List TypedStep) (k : ℕ) → step_places at k (a ++ b) ≡ step_places at k a ++ step_places at (k + length a) b
 places_append at [] b k = ap (λ m. step_places at m b) (sym (add-zero k))
@@ -64,11 +76,12 @@ pub tree_marks : (t : Tree) (at : ℕ → ℕ) (n after k e : ℕ) → Follows a
 tree_marks empty at n after k e follow = refl
 tree_marks (leaf i rest) at n after k e follow =
     let next : at (k + 1) ≡ at k + instruction_size i = follow.0 ∙ ap (λ m. at k + m) (size_of_step e i) in
-    ap (λ l. at k ∷ l) (marks_append (leaf_pieces after i) (pieces n after rest) (at k)
-    ∙ ap (λ l. l ++ marks (at k + put_length (leaf_pieces after i)) (pieces n after rest)) (leaf_unmarked after i (at k))
-    ∙ ap (λ m. marks (at k + m) (pieces n after rest)) (leaf_put after i)
-    ∙ ap (λ m. marks m (pieces n after rest)) (sym next)
-    ∙ tree_marks rest at n after (k + 1) e follow.1)
+    let ps = pieces (n + instruction_draws i) after rest in
+    ap (λ l. at k ∷ l) (marks_append (leaf_pieces n after i) ps (at k)
+    ∙ ap (λ l. l ++ marks (at k + put_length (leaf_pieces n after i)) ps) (leaf_unmarked n after i (at k))
+    ∙ ap (λ m. marks (at k + m) ps) (leaf_put n after i)
+    ∙ ap (λ m. marks m ps) (sym next)
+    ∙ tree_marks rest at (n + instruction_draws i) after (k + 1) e follow.1)
 tree_marks (looped mask members rest) at n after k e follow =
     let k1 = k + 1 + step_count members in
     let k2 = k + 2 + step_count members in
@@ -95,10 +108,8 @@ tree_marks (looped mask members rest) at n after k e follow =
 pub places_more : (at : ℕ → ℕ) (a b : List TypedStep) (k m : ℕ) → k + length a ≡ m → step_places at k (a ++ b) ≡ step_places at k a ++ step_places at m b
 places_more at a b k m e = places_append at a b k ∙ ap (λ x. step_places at k a ++ step_places at x b) e
 
--- what pieces leave as it was
+-- what pieces leave as it was, but for the traps and the relocations
 pub record Same (s t : State) : Type 0 where
-  pub relocs : t.relocs ≡ s.relocs
-  pub traps : t.traps ≡ s.traps
   pub call_sites : t.call_sites ≡ s.call_sites
   pub try_call_sites : t.try_call_sites ≡ s.try_call_sites
   pub patchable_sites : t.patchable_sites ≡ s.patchable_sites
@@ -108,9 +119,11 @@ pub record Same (s t : State) : Type 0 where
   pub failed : t.failed ≡ s.failed
 
 pub same_run : (ps : List Piece) (s : State) → Same s (run s ps)
-same_run [] s = record { relocs = refl; traps = refl; call_sites = refl; try_call_sites = refl; patchable_sites = refl; stack_maps = refl; block_count = refl; constants = refl; failed = refl }
-same_run (Put bs ∷ ps) s = let r = same_run ps (apply s (Put bs)) in record { relocs = r.relocs; traps = r.traps; call_sites = r.call_sites; try_call_sites = r.try_call_sites; patchable_sites = r.patchable_sites; stack_maps = r.stack_maps; block_count = r.block_count; constants = r.constants; failed = r.failed }
-same_run (Link k l bs ∷ ps) s = let r = same_run ps (apply s (Link k l bs)) in record { relocs = r.relocs; traps = r.traps; call_sites = r.call_sites; try_call_sites = r.try_call_sites; patchable_sites = r.patchable_sites; stack_maps = r.stack_maps; block_count = r.block_count; constants = r.constants; failed = r.failed }
-same_run (Step ∷ ps) s = let r = same_run ps (apply s Step) in record { relocs = r.relocs; traps = r.traps; call_sites = r.call_sites; try_call_sites = r.try_call_sites; patchable_sites = r.patchable_sites; stack_maps = r.stack_maps; block_count = r.block_count; constants = r.constants; failed = r.failed }
-same_run (Draw ∷ ps) s = let r = same_run ps (apply s Draw) in record { relocs = r.relocs; traps = r.traps; call_sites = r.call_sites; try_call_sites = r.try_call_sites; patchable_sites = r.patchable_sites; stack_maps = r.stack_maps; block_count = r.block_count; constants = r.constants; failed = r.failed }
-same_run (Bind l ∷ ps) s = let r = same_run ps (apply s (Bind l)) in record { relocs = r.relocs; traps = r.traps; call_sites = r.call_sites; try_call_sites = r.try_call_sites; patchable_sites = r.patchable_sites; stack_maps = r.stack_maps; block_count = r.block_count; constants = r.constants; failed = r.failed }
+same_run [] s = record { call_sites = refl; try_call_sites = refl; patchable_sites = refl; stack_maps = refl; block_count = refl; constants = refl; failed = refl }
+same_run (Put bs ∷ ps) s = let r = same_run ps (apply s (Put bs)) in record { call_sites = r.call_sites; try_call_sites = r.try_call_sites; patchable_sites = r.patchable_sites; stack_maps = r.stack_maps; block_count = r.block_count; constants = r.constants; failed = r.failed }
+same_run (PutReloc bs kind name addend ∷ ps) s = let r = same_run ps (apply s (PutReloc bs kind name addend)) in record { call_sites = r.call_sites; try_call_sites = r.try_call_sites; patchable_sites = r.patchable_sites; stack_maps = r.stack_maps; block_count = r.block_count; constants = r.constants; failed = r.failed }
+same_run (PutTrapping bs byte code ∷ ps) s = let r = same_run ps (apply s (PutTrapping bs byte code)) in record { call_sites = r.call_sites; try_call_sites = r.try_call_sites; patchable_sites = r.patchable_sites; stack_maps = r.stack_maps; block_count = r.block_count; constants = r.constants; failed = r.failed }
+same_run (Link k l bs ∷ ps) s = let r = same_run ps (apply s (Link k l bs)) in record { call_sites = r.call_sites; try_call_sites = r.try_call_sites; patchable_sites = r.patchable_sites; stack_maps = r.stack_maps; block_count = r.block_count; constants = r.constants; failed = r.failed }
+same_run (Step ∷ ps) s = let r = same_run ps (apply s Step) in record { call_sites = r.call_sites; try_call_sites = r.try_call_sites; patchable_sites = r.patchable_sites; stack_maps = r.stack_maps; block_count = r.block_count; constants = r.constants; failed = r.failed }
+same_run (Draw ∷ ps) s = let r = same_run ps (apply s Draw) in record { call_sites = r.call_sites; try_call_sites = r.try_call_sites; patchable_sites = r.patchable_sites; stack_maps = r.stack_maps; block_count = r.block_count; constants = r.constants; failed = r.failed }
+same_run (Bind l ∷ ps) s = let r = same_run ps (apply s (Bind l)) in record { call_sites = r.call_sites; try_call_sites = r.try_call_sites; patchable_sites = r.patchable_sites; stack_maps = r.stack_maps; block_count = r.block_count; constants = r.constants; failed = r.failed }

@@ -2,11 +2,13 @@
 use Rattle.std.proofs.Common.{◌≡◌, ℕ, ◌+◌, List, [], ◌∷◌, ◌++◌, length, refl, sym, ap, ◌∙◌, subst, suc, ◌<◌, ◌≢◌, get_or, drop, None, Some, drop-cons, arith, length-append}
 use Rattle.std.proofs.lemmas.List.{get_or-set_other}
 use Rattle.std.proofs.Math.Seq.{get_or-append_seam}
+use Rattle.s390x_inst.specs.Emission.{Emission}
 use Rattle.s390x_buffer.specs.State.{State}
 use Rattle.s390x_inst.specs.declared.inst.Inst.{Inst}
 use Rattle.s390x_inst.specs.declared.inst.Inst.TheVariants.{Loop'}
+use Rattle.s390x_steps.specs.Resolved.{resolved_instruction}
 use Rattle.s390x_steps.specs.Tree.{Tree, empty, leaf, looped, graft, row_tree, tree}
-use Rattle.s390x_steps.specs.Causes.{draws}
+use Rattle.s390x_steps.specs.Causes.{instruction_draws, draws}
 use Rattle.s390x_emit_int.specs.Pieces.{Step, Draw, Bind, apply, run}
 use Rattle.s390x_emit_int.specs.Emission.{branch, leaf_pieces, pieces, own_pieces, back_pieces}
 use Rattle.s390x_steps.specs.Ranges.{AllInRange}
@@ -16,8 +18,8 @@ use Rattle.s390x_emit_int.proofs.Starts.{Same, same_run}
 
 leaf_run : (i : Inst) (rest : Tree) (s : State) (n after : ℕ) → run s (pieces n after (leaf i rest)) ≡ run (run (apply s Step) (own_pieces n after (leaf i empty))) (pieces (n + draws (leaf i empty)) after rest)
 leaf_run i rest s n after =
-    let e : n ≡ n + 0 = omega arith in
-    run-append (apply s Step) (leaf_pieces after i) (pieces n after rest) ∙ ap (λ k. run (run (apply s Step) (leaf_pieces after i)) (pieces k after rest)) e
+    let e : n + instruction_draws i ≡ n + (instruction_draws i + 0) = omega arith in
+    run-append (apply s Step) (leaf_pieces n after i) (pieces (n + instruction_draws i) after rest) ∙ ap (λ k. run (run (apply s Step) (leaf_pieces n after i)) (pieces k after rest)) e
 
 looped_run : (mask : ℕ) (members rest : Tree) (s : State) (n after : ℕ) → run s (pieces n after (looped mask members rest)) ≡ run (run (apply s Step) (own_pieces n after (looped mask members empty))) (pieces (n + draws (looped mask members empty)) after rest)
 looped_run mask members rest s n after =
@@ -28,13 +30,13 @@ looped_run mask members rest s n after =
     run-append o p (back_pieces n mask ++ r) ∙ run-append (run o p) (back_pieces n mask) r ∙ ap (λ x. run x r) (sym (run-append o p (back_pieces n mask))) ∙ ap (λ k. run (run o (p ++ back_pieces n mask)) (pieces k after rest)) e
 
 -- a member's pieces come before those of the others
-pub graft_run : (i : Inst) (rest : Tree) (s : State) (n after : ℕ) → run s (pieces n after (graft i rest)) ≡ run (run (apply s Step) (own_pieces n after (graft i empty))) (pieces (n + draws (graft i empty)) after rest)
-graft_run (Loop' mask body all) rest s n after = looped_run mask (row_tree all) rest s n after
-graft_run i rest s n after = leaf_run i rest s n after
+pub graft_run : (state : Emission) (i : Inst) (rest : Tree) (s : State) (n after : ℕ) → run s (pieces n after (graft state i rest)) ≡ run (run (apply s Step) (own_pieces n after (graft state i empty))) (pieces (n + draws (graft state i empty)) after rest)
+graft_run state (Loop' mask body all) rest s n after = looped_run mask (row_tree state all) rest s n after
+graft_run state i rest s n after = leaf_run (resolved_instruction state i) rest s n after
 
-pub graft_ranges : (i : Inst) (rest : Tree) → AllInRange (graft i empty) → AllInRange rest → AllInRange (graft i rest)
-graft_ranges (Loop' mask body all) rest f r = (f.0, f.1, r)
-graft_ranges i rest f r = (f.0, r)
+pub graft_ranges : (state : Emission) (i : Inst) (rest : Tree) → AllInRange (graft state i empty) → AllInRange rest → AllInRange (graft state i rest)
+graft_ranges state (Loop' mask body all) rest f r = (f.0, f.1, r)
+graft_ranges state i rest f r = (f.0, r)
 
 cons_of : (is : List Inst) (k : ℕ) (i : Inst) → k < length is → i ≡ get_or is k i → drop k is ≡ i ∷ drop (k + 1) is
 cons_of is k i lt at =
@@ -42,18 +44,18 @@ cons_of is k i lt at =
     drop-cons is k i lt ∙ ap (λ x. x ∷ drop (suc k) is) (sym at) ∙ ap (λ m. i ∷ drop m is) k1
 
 -- one more member
-pub more : (is : List Inst) (k : ℕ) (i : Inst) (s s1 s2 r : State) (after : ℕ) → k < length is → i ≡ get_or is k i → s1 ≡ apply s Step → s2 ≡ run s1 (own_pieces (length s1.labels) after (graft i empty)) → run s (pieces (length s.labels) after (tree (drop k is))) ≡ r → run s2 (pieces (length s2.labels) after (tree (drop (k + 1) is))) ≡ r
-more is k i s s1 s2 r after lt at e1 e2 h =
+pub more : (state : Emission) (is : List Inst) (k : ℕ) (i : Inst) (s s1 s2 r : State) (after : ℕ) → k < length is → i ≡ get_or is k i → s1 ≡ apply s Step → s2 ≡ run s1 (own_pieces (length s1.labels) after (graft state i empty)) → run s (pieces (length s.labels) after (tree state (drop k is))) ≡ r → run s2 (pieces (length s2.labels) after (tree state (drop (k + 1) is))) ≡ r
+more state is k i s s1 s2 r after lt at e1 e2 h =
     let n = length s.labels in
     let rest = drop (k + 1) is in
-    let e2' : s2 ≡ run (apply s Step) (own_pieces n after (graft i empty)) = e2 ∙ ap (λ x. run x (own_pieces (length x.labels) after (graft i empty))) e1 in
-    let alone : s2 ≡ run s (pieces n after (graft i empty)) = e2' ∙ sym (graft_run i empty s n after) in
-    let len : length s2.labels ≡ n + draws (graft i empty) = ap (λ x. length x.labels) alone ∙ (tree_grows (graft i empty) s n after refl).labels in
-    ap (λ m. run s2 (pieces m after (tree rest))) len ∙ ap (λ x. run x (pieces (n + draws (graft i empty)) after (tree rest))) e2' ∙ sym (graft_run i (tree rest) s n after) ∙ ap (λ l. run s (pieces n after (tree l))) (sym (cons_of is k i lt at)) ∙ h
+    let e2' : s2 ≡ run (apply s Step) (own_pieces n after (graft state i empty)) = e2 ∙ ap (λ x. run x (own_pieces (length x.labels) after (graft state i empty))) e1 in
+    let alone : s2 ≡ run s (pieces n after (graft state i empty)) = e2' ∙ sym (graft_run state i empty s n after) in
+    let len : length s2.labels ≡ n + draws (graft state i empty) = ap (λ x. length x.labels) alone ∙ (tree_grows (graft state i empty) s n after refl).labels in
+    ap (λ m. run s2 (pieces m after (tree state rest))) len ∙ ap (λ x. run x (pieces (n + draws (graft state i empty)) after (tree state rest))) e2' ∙ sym (graft_run state i (tree state rest) s n after) ∙ ap (λ l. run s (pieces n after (tree state l))) (sym (cons_of is k i lt at)) ∙ h
 
 -- and its numbers are in range
-pub more_ranges : (is : List Inst) (k : ℕ) (i : Inst) → k < length is → i ≡ get_or is k i → AllInRange (graft i empty) → AllInRange (tree (drop (k + 1) is)) → AllInRange (tree (drop k is))
-more_ranges is k i lt at f rest = subst (λ l. AllInRange (tree l)) (sym (cons_of is k i lt at)) (graft_ranges i (tree (drop (k + 1) is)) f rest)
+pub more_ranges : (state : Emission) (is : List Inst) (k : ℕ) (i : Inst) → k < length is → i ≡ get_or is k i → AllInRange (graft state i empty) → AllInRange (tree state (drop (k + 1) is)) → AllInRange (tree state (drop k is))
+more_ranges state is k i lt at f rest = subst (λ l. AllInRange (tree state l)) (sym (cons_of is k i lt at)) (graft_ranges state i (tree state (drop (k + 1) is)) f rest)
 
 opened_end : (s : State) → get_or (opened s).labels (length s.labels + 1) None ≡ None
 opened_end s =
@@ -89,11 +91,11 @@ loop_states s sa sb so sc sd se start end mask members est ea een eb eo ec ed ee
     }
 
 -- after a member there is room
-pub more_room : (i : Inst) (s s1 s2 : State) (after : ℕ) → HasRoom s → s1 ≡ apply s Step → s2 ≡ run s1 (own_pieces (length s1.labels) after (graft i empty)) → HasRoom s2
-more_room i s s1 s2 after room e1 e2 =
+pub more_room : (state : Emission) (i : Inst) (s s1 s2 : State) (after : ℕ) → HasRoom s → s1 ≡ apply s Step → s2 ≡ run s1 (own_pieces (length s1.labels) after (graft state i empty)) → HasRoom s2
+more_room state i s s1 s2 after room e1 e2 =
     let n = length s.labels in
-    let e2' : s2 ≡ run (apply s Step) (own_pieces n after (graft i empty)) = e2 ∙ ap (λ x. run x (own_pieces (length x.labels) after (graft i empty))) e1 in
-    let alone : s2 ≡ run s (pieces n after (graft i empty)) = e2' ∙ sym (graft_run i empty s n after) in
-    let g : Grows s (run s (pieces n after (graft i empty))) _ _ = tree_grows (graft i empty) s n after refl in
-    let same : Same s (run s (pieces n after (graft i empty))) = same_run (pieces n after (graft i empty)) s in
+    let e2' : s2 ≡ run (apply s Step) (own_pieces n after (graft state i empty)) = e2 ∙ ap (λ x. run x (own_pieces (length x.labels) after (graft state i empty))) e1 in
+    let alone : s2 ≡ run s (pieces n after (graft state i empty)) = e2' ∙ sym (graft_run state i empty s n after) in
+    let g : Grows s (run s (pieces n after (graft state i empty))) _ _ = tree_grows (graft state i empty) s n after refl in
+    let same : Same s (run s (pieces n after (graft state i empty))) = same_run (pieces n after (graft state i empty)) s in
     subst HasRoom (sym alone) (omega (arith, g.labels, same.block_count, ap length same.constants))

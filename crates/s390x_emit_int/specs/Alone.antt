@@ -2,26 +2,29 @@
 use Rattle.std.specs.Prelude.{ℕ, Bool, true, not, ◌&&◌, ◌||◌, Option, None, Some}
 use Rattle.s390x_base.specs.Regs.{number_of}
 use Rattle.s390x_inst.specs.declared.inst.Inst.{Inst}
-use Rattle.s390x_inst.specs.declared.inst.Inst.TheVariants.{AluRUImm16Shifted, AluRUImm32Shifted, SMulWide, UMulWide, Flogr, ShiftRR, RxSBG, RxSBGTest, Mov64, MovPReg, Mov32, Mov32Imm, Mov32SImm16, Mov64SImm16, Mov64SImm32, Mov64UImm16Shifted, Mov64UImm32Shifted, Insert64UImm16Shifted, Insert64UImm32Shifted, CMov32, CMov64, CMov32SImm16, CMov64SImm16, Extend, LoadAR, InsertAR, LoadIndexedAddr, LoadLogicalIndexedAddr, Fence, Nop2}
-use Rattle.s390x_steps.specs.MachineInstruction.{MachineInstruction, rr, rre, rrf_ab, rrf_cde, ri_a, rie_d, rie_f, rie_g, ril_a, rsy, rxy}
+use Rattle.s390x_inst.specs.declared.inst.Inst.TheVariants.{AluRUImm16Shifted, AluRUImm32Shifted, SMulWide, UMulWide, Flogr, ShiftRR, RxSBG, RxSBGTest, Mov64, MovPReg, Mov32, Mov32Imm, Mov32SImm16, Mov64SImm16, Mov64SImm32, Mov64UImm16Shifted, Mov64UImm32Shifted, Insert64UImm16Shifted, Insert64UImm32Shifted, CMov32, CMov64, CMov32SImm16, CMov64SImm16, Extend, LoadAR, InsertAR, LoadIndexedAddr, LoadLogicalIndexedAddr, Fence, Nop2, SDivMod32, SDivMod64, UDivMod32, UDivMod64, CmpTrapRR, CmpTrapRSImm16, CmpTrapRUImm16}
+use Rattle.s390x_steps.specs.MachineInstruction.{MachineInstruction, rr, rre, rrf_ab, rrf_cde, ri_a, rie_a, rie_d, rie_f, rie_g, ril_a, rsy, rxy}
 use Rattle.s390x_steps.specs.General.{four_bits, low_displacement}
 use Rattle.s390x_enc.specs.Operands.{is_general, is_first_float, is_second_float, may_stand_first, may_stand_second}
 use Rattle.s390x_steps.specs.Alone.{Alone}
 use Rattle.s390x_emit_int.specs.declared.alone.RegisterRow.{RegisterRow}
-use Rattle.s390x_emit_int.specs.declared.alone.RegisterRow.TheVariants.{Rr, Rre, RrfAb, RrfCde, RiA, RieD, RieF, RieG, RilA, Rsy, Rxy}
+use Rattle.s390x_emit_int.specs.declared.alone.RegisterRow.TheVariants.{Rr, Rre, RrfAb, RrfCde, RiA, RieA, RieD, RieF, RieG, RilA, Rsy, Rxy}
 use Rattle.s390x_emit_int.specs.declared.alone.Group.{Group}
-use Rattle.s390x_emit_int.specs.declared.alone.Group.TheVariants.{Arithmetic, Bits, Moves}
+use Rattle.s390x_emit_int.specs.declared.alone.Group.TheVariants.{Arithmetic, Bits, Moves, Stops}
 use Rattle.s390x_emit_int.specs.declared.opcode.ShortOpcode.{ShortOpcode}
 use Rattle.s390x_emit_int.specs.declared.alone.Alone.{Alone as Found}
 
+-- the number of an opcode of three digits
 abbrev pub opcode_of : ShortOpcode → ℕ
 opcode_of o = o.value
 
+-- the machine instruction that a row of the code stands for
 abbrev pub instruction_of : RegisterRow → MachineInstruction
 instruction_of (Rr opcode r1 r2) = rr opcode (number_of r1) (number_of r2)
 instruction_of (Rre opcode r1 r2) = rre opcode (number_of r1) (number_of r2)
 instruction_of (RrfAb opcode r1 r2 r3) = rrf_ab opcode (number_of r1) (number_of r2) (number_of r3) 0
 instruction_of (RiA opcode r1 imm) = ri_a (opcode_of opcode) (number_of r1) imm
+instruction_of (RieA opcode r1 imm mask) = rie_a opcode (number_of r1) imm (four_bits mask)
 instruction_of (RieD opcode r1 r3 imm) = rie_d opcode (number_of r1) (number_of r3) imm
 instruction_of (RilA opcode r1 imm) = ril_a (opcode_of opcode) (number_of r1) imm
 instruction_of (RrfCde opcode r1 r2 mask) = rrf_cde opcode (number_of r1) (number_of r2) (four_bits mask) 0
@@ -30,6 +33,7 @@ instruction_of (RieG opcode r1 imm mask) = rie_g opcode (number_of r1) imm (four
 instruction_of (Rxy opcode r1 b2 x2 displacement) = rxy opcode (number_of r1) (number_of b2) (number_of x2) (low_displacement displacement)
 instruction_of (Rsy opcode r1 r3 b2 amount) = rsy opcode (number_of r1) (number_of r3) (number_of b2) amount
 
+-- the machine instruction that the code finds, and whether its registers may stand there
 abbrev pub alone_of : Found → Alone
 alone_of x = record { row = instruction_of x.row; fine = x.fine }
 
@@ -65,6 +69,13 @@ group_of (LoadIndexedAddr rd base index offset size) = Moves
 group_of (LoadLogicalIndexedAddr rd base index offset size) = Moves
 group_of Fence = Moves
 group_of Nop2 = Moves
+group_of (SDivMod32 rd ri rn) = Stops
+group_of (SDivMod64 rd ri rn) = Stops
+group_of (UDivMod32 rd ri rn) = Stops
+group_of (UDivMod64 rd ri rn) = Stops
+group_of (CmpTrapRR op rn rm mask code) = Stops
+group_of (CmpTrapRSImm16 op rn imm mask code) = Stops
+group_of (CmpTrapRUImm16 op rn imm mask code) = Stops
 group_of _ = Arithmetic
 
 -- the registers may stand where the row has them
@@ -73,6 +84,7 @@ can_encode (Rr opcode r1 r2) = may_stand_first opcode r1 && may_stand_second opc
 can_encode (Rre opcode r1 r2) = may_stand_first opcode r1 && may_stand_second opcode r2
 can_encode (RrfAb opcode r1 r2 r3) = is_general r1 && is_general r2 && is_general r3
 can_encode (RiA opcode r1 imm) = is_general r1
+can_encode (RieA opcode r1 imm mask) = is_general r1
 can_encode (RieD opcode r1 r3 imm) = is_general r1 && is_general r3
 can_encode (RilA opcode r1 imm) = is_general r1
 can_encode (RrfCde opcode r1 r2 mask) = is_general r1 && is_general r2

@@ -1,15 +1,22 @@
 -- Labels stand at the places that the sizes give.
 use Rattle.std.specs.Prelude.{◌≡◌, ℕ, ◌+◌, ◌<◌, List, [], ◌∷◌}
+use Rattle.s390x_inst.specs.declared.inst.Inst.{Inst}
+use Rattle.s390x_inst.specs.declared.inst.Inst.TheVariants.{JTSequence}
 use Rattle.s390x_steps.specs.Tree.{Tree, empty, leaf, looped}
 use Rattle.s390x_steps.specs.Steps.{Step}
-use Rattle.s390x_steps.specs.Parts.{Part, Row, Branch, Relative, ToBlock, ToStep, instruction_parts, step_size}
+use Rattle.s390x_steps.specs.Parts.{Part, Row, Trapping, Branch, Relative, SymbolValue, TrapHere, TableWord, ToBlock, ToStep, instruction_parts, step_size}
 use Rattle.s390x_steps.specs.Sizes.{instruction_size, tree_size}
-use Rattle.s390x_steps.specs.Causes.{draws}
+use Rattle.s390x_steps.specs.Causes.{instruction_draws, draws}
+
+-- the label that an instruction at a place draws, if it does: a table stands behind 20 bytes
+abbrev pub LeafBound : (ℕ → ℕ) → (n p : ℕ) → Inst → Type 0
+LeafBound off n p (JTSequence ridx other mask targets) = off n ≡ p + 20
+LeafBound off n p _ = Unit {0}
 
 -- the labels that a tree at a place draws, from number n on
 abbrev pub Bound : (ℕ → ℕ) → (n p : ℕ) → Tree → Type 0
 Bound off n p empty = Unit {0}
-Bound off n p (leaf i rest) = Bound off n (p + instruction_size i) rest
+Bound off n p (leaf i rest) = LeafBound off n p i × Bound off (n + instruction_draws i) (p + instruction_size i) rest
 Bound off n p (looped mask members rest) = (off n ≡ p) × (off (n + 1) ≡ p + tree_size members + 6) × Bound off (n + 2) p members × Bound off (n + 2 + draws members) (p + tree_size members + 6) rest
 
 -- each step ends where the next one starts
@@ -17,23 +24,31 @@ abbrev pub Follows : (ℕ → ℕ) → ℕ → List Step → Type 0
 Follows at k [] = Unit {0}
 Follows at k (s ∷ ss) = (at (k + 1) ≡ at k + step_size s) × Follows at (k + 1) ss
 
--- the targets of parts are blocks
+-- the target of a part is a block
 abbrev pub PartNames : ℕ → Part → Type 0
 PartNames count (Row m) = Unit {0}
+PartNames count (Trapping m byte code) = Unit {0}
 PartNames count (Branch mask (ToBlock b)) = b < count
 PartNames count (Branch mask (ToStep k)) = ⊥
 PartNames count (Relative opcode register (ToBlock b)) = b < count
 PartNames count (Relative opcode register (ToStep k)) = ⊥
+PartNames count (SymbolValue name offset) = Unit {0}
+PartNames count (TrapHere code) = Unit {0}
+PartNames count (TableWord before (ToBlock b)) = b < count
+PartNames count (TableWord before (ToStep k)) = ⊥
 
+-- the target of each part is a block
 abbrev pub PartsName : ℕ → List Part → Type 0
 PartsName count [] = Unit {0}
 PartsName count (part ∷ parts) = PartNames count part × PartsName count parts
 
+-- the same of the instructions in a tree
 abbrev pub TreeNames : ℕ → Tree → Type 0
 TreeNames count empty = Unit {0}
 TreeNames count (leaf i rest) = PartsName count (instruction_parts i) × TreeNames count rest
 TreeNames count (looped mask members rest) = TreeNames count members × TreeNames count rest
 
+-- the same of all blocks
 abbrev pub TreesName : ℕ → List Tree → Type 0
 TreesName count [] = Unit {0}
 TreesName count (t ∷ ts) = TreeNames count t × TreesName count ts

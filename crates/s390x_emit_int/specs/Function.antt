@@ -13,30 +13,32 @@ use Rattle.s390x_buffer.specs.declared.entries.MachBufferFinalized.{MachBufferFi
 use Rattle.s390x_steps.specs.Tree.{Tree, tree}
 use Rattle.s390x_steps.specs.Steps.{function_steps}
 use Rattle.s390x_steps.specs.Image.{function_places, function_code, step_places, block_places}
+use Rattle.s390x_steps.specs.Traps.{function_traps}
+use Rattle.s390x_steps.specs.Relocs.{function_relocs}
 use Rattle.s390x_steps.specs.Sizes.{blocks_size}
 use Rattle.s390x_steps.specs.Causes.{first, unless, blocks_cause}
 
--- a block as a tree
-abbrev pub tree_of : Block → Tree
-tree_of b = tree b.insts.items
+-- a block as a tree, in a state of emission: the stack sizes are the same all over a function
+abbrev pub tree_of : Emission → Block → Tree
+tree_of e b = tree e b.insts.items
 
 -- the blocks of a function as trees
-abbrev pub trees_of : AllocatedFunction → List Tree
-trees_of f = map tree_of f.blocks.items
+abbrev pub trees_of : Emission → AllocatedFunction → List Tree
+trees_of e f = map (tree_of e) f.blocks.items
 
 -- the constants of a function
 abbrev pub constants_of : AllocatedFunction → List Constant
 constants_of f = map constant_of f.constants.items
 
--- The finished code and its tables: the bytes of the steps and then the constants, where each block, constant and step starts.
--- No instruction that is built has a relocation, a trap or a site, so these tables are empty.
+-- The finished code and its tables: the bytes of the steps and then the constants, where each block, constant and step starts, and the steps' traps and relocations.
+-- No instruction that is built has a site, so these tables are empty.
 pub record IsImage (ts : List Tree) (cs : List Constant) (f : MachBufferFinalized) : Type 0 where
   pub bytes : f.bytes.items ≡ function_code ts ++ constant_bytes (length (function_code ts)) cs
   pub block_starts : f.block_starts.items ≡ block_places (function_places ts).step 0 ts
   pub constant_starts : f.constant_starts.items ≡ constant_starts (length (function_code ts)) cs
   pub starts : f.starts.items ≡ step_places (function_places ts).step 0 (function_steps ts)
-  pub relocs : f.relocs.items ≡ []
-  pub traps : f.traps.items ≡ []
+  pub relocs : f.relocs.items ≡ function_relocs ts
+  pub traps : f.traps.items ≡ function_traps ts
   pub call_sites : f.call_sites.items ≡ []
   pub try_call_sites : map entry_of f.try_call_sites.items ≡ []
   pub patchable_sites : f.patchable_sites.items ≡ []

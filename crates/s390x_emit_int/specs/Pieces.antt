@@ -1,11 +1,19 @@
 -- What emission does to a buffer, piece by piece.
-use Rattle.std.specs.Prelude.{ℕ, List, [], ◌∷◌, ◌++◌, length, Some, None, set}
+use Rattle.s390x_base.specs.declared.ir.ExternalName.{ExternalName}
+use Rattle.s390x_base.specs.declared.ir.Reloc.{Reloc}
+use Rattle.std.specs.Prelude.{ℕ, ℤ, ◌+◌, List, [], ◌∷◌, ◌++◌, length, Some, None, set}
+use Rattle.s390x_base.specs.declared.trap.TrapKind.{TrapKind}
 use Rattle.s390x_buffer.specs.State.{State}
 use Rattle.s390x_buffer.specs.declared.label_use.LabelUse.{LabelUse}
 
+-- one thing that emission does to a buffer
 pub data Piece : Type 0 where
   -- bytes
   Put : List ℕ → Piece
+  -- bytes, with a trap recorded at one of them
+  PutTrapping : List ℕ → (byte : ℕ) → TrapKind → Piece
+  -- bytes, with a relocation recorded at their beginning
+  PutReloc : List ℕ → Reloc → ExternalName → (addend : ℤ) → Piece
   -- bytes that a use of a label patches from their beginning on
   Link : LabelUse → (label : ℕ) → List ℕ → Piece
   -- the place of the next step
@@ -15,13 +23,17 @@ pub data Piece : Type 0 where
   -- a label is bound here
   Bind : (label : ℕ) → Piece
 
+-- the buffer after a piece
 abbrev pub apply : State → Piece → State
 apply s (Put bs) = record s { bytes = s.bytes ++ bs }
+apply s (PutTrapping bs byte code) = record s { bytes = s.bytes ++ bs; traps = s.traps ++ record { offset = length s.bytes + byte; code = code } ∷ [] }
+apply s (PutReloc bs kind name addend) = record s { bytes = s.bytes ++ bs; relocs = s.relocs ++ record { offset = length s.bytes; kind = kind; name = name; addend = addend } ∷ [] }
 apply s (Link kind l bs) = record s { bytes = s.bytes ++ bs; uses = s.uses ++ record { kind = kind; offset = length s.bytes; label = record { 0 = l } } ∷ [] }
 apply s Step = record s { starts = s.starts ++ length s.bytes ∷ [] }
 apply s Draw = record s { labels = s.labels ++ None ∷ [] }
 apply s (Bind l) = record s { labels = set s.labels l (Some (length s.bytes)) }
 
+-- the buffer after pieces, one after another
 abbrev pub run : State → List Piece → State
 run s [] = s
 run s (p ∷ ps) = run (apply s p) ps

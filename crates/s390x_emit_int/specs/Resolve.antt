@@ -2,11 +2,14 @@
 use Rattle.std.specs.Prelude.{ℕ, ◌+◌, ◌≤◌, List, [], ◌∷◌, ◌++◌, length}
 use Rattle.s390x_buffer.specs.Patch.{patch, patch_size}
 use Rattle.s390x_buffer.specs.declared.entries.LabelFixup.{LabelFixup}
-use Rattle.s390x_emit_int.specs.Pieces.{Piece, Put, Link}
+use Rattle.s390x_emit_int.specs.Pieces.{Piece, Put, PutTrapping, PutReloc, Link}
 
+-- the bytes that pieces put from a place on, each use patched to where its label stands
 abbrev pub resolve : (ℕ → ℕ) → ℕ → List Piece → List ℕ
 resolve off p [] = []
 resolve off p (Put bs ∷ ps) = bs ++ resolve off (p + length bs) ps
+resolve off p (PutReloc bs kind name addend ∷ ps) = bs ++ resolve off (p + length bs) ps
+resolve off p (PutTrapping bs byte code ∷ ps) = bs ++ resolve off (p + length bs) ps
 resolve off p (Link kind l bs ∷ ps) = patch kind 0 p (off l) bs ++ resolve off (p + length bs) ps
 resolve off p (_ ∷ ps) = resolve off p ps
 
@@ -14,6 +17,8 @@ resolve off p (_ ∷ ps) = resolve off p ps
 abbrev pub put_length : List Piece → ℕ
 put_length [] = 0
 put_length (Put bs ∷ ps) = length bs + put_length ps
+put_length (PutReloc bs kind name addend ∷ ps) = length bs + put_length ps
+put_length (PutTrapping bs byte code ∷ ps) = length bs + put_length ps
 put_length (Link kind l bs ∷ ps) = length bs + put_length ps
 put_length (_ ∷ ps) = put_length ps
 

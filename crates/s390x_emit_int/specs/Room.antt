@@ -21,9 +21,17 @@ pub record Passed (s : State) (after bytes : ℕ) (cause : Option EmitError) : T
   pub short : length s.bytes + bytes < limit
   pub passed : cause ≡ None
 
--- the same of a tree, inside so many loops
+-- The same of members inside so many loops: a label behind the innermost loop is needed only where there is a loop.
+pub record MembersPassed (s : State) (after depth bytes : ℕ) (cause : Option EmitError) : Type 0 where
+  pub unmarked : s.failed ≡ false
+  pub blocks : s.block_count ≤ length s.labels
+  pub label : 0 < depth → after < length s.labels
+  pub short : length s.bytes + bytes < limit
+  pub passed : cause ≡ None
+
+-- the same of a tree
 abbrev pub TreePassed : IsaFlags → State → (after depth : ℕ) → Tree → Type 0
-TreePassed flags s after depth t = Passed s after (tree_size t) (tree_cause flags s.block_count (length s.labels) depth t)
+TreePassed flags s after depth t = MembersPassed s after depth (tree_size t) (tree_cause flags s.block_count (length s.labels) depth t)
 
 -- an error is want of memory
 abbrev pub LacksMemory : {T : Type 0} → Result T EmitError → Type 0

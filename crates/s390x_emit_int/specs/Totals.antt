@@ -2,9 +2,11 @@
 use Rattle.std.specs.Prelude.{◌≡◌, ℕ, ◌+◌, ◌≤◌, min}
 use Rattle.s390x_emit_int.specs.declared.check.Totals.{Totals}
 
+-- code ends below 2 ^ 31
 abbrev pub limit : ℕ
 limit = 2147483648
 
+-- at most 2 ^ 32 label numbers are in use, and the bytes are counted up to the limit
 pub record IsCounted (t : Totals) : Type 0 where
   pub labels : t.labels ≤ 4294967296
   pub bytes : t.bytes ≤ limit

@@ -12,10 +12,11 @@ ghost use Rattle.s390x_emit_int.specs.declared.alone.Group.TheVariants.{Arithmet
 use crate::bits::find_bits;
 use crate::moves::find_move;
 use crate::opcode::ShortOpcode;
+use crate::stops::find_stop;
 use s390x_base::{Code, EmitError, Reg, RegClass, SImm20};
 use s390x_enc::{
-    enc_ri_a, enc_rie_d, enc_rie_f, enc_rie_g, enc_ril_a, enc_rr, enc_rre, enc_rrf_ab, enc_rrf_cde,
-    enc_rsy, enc_rxy,
+    enc_ri_a, enc_rie_a, enc_rie_d, enc_rie_f, enc_rie_g, enc_ril_a, enc_rr, enc_rre, enc_rrf_ab,
+    enc_rrf_cde, enc_rsy, enc_rxy,
 };
 use s390x_inst::{ALUOp, CmpOp, Inst, UnaryOp};
 
@@ -42,6 +43,13 @@ pub enum RegisterRow {
         opcode: ShortOpcode,
         r1: Reg,
         imm: u16,
+    },
+    /// The mask has 4 bits.
+    RieA {
+        opcode: u16,
+        r1: Reg,
+        imm: u16,
+        mask: u8,
     },
     RieD {
         opcode: u16,
@@ -98,6 +106,7 @@ pub enum Group {
     Arithmetic,
     Bits,
     Moves,
+    Stops,
 }
 
 /// The machine instruction of an instruction, and whether its registers may stand there: real general ones, and the input that has
@@ -118,6 +127,12 @@ impl RegisterRow {
             RegisterRow::Rre { opcode, r1, r2 } => enc_rre(*opcode, *r1, *r2),
             RegisterRow::RrfAb { opcode, r1, r2, r3 } => enc_rrf_ab(*opcode, *r1, *r2, *r3, 0),
             RegisterRow::RiA { opcode, r1, imm } => enc_ri_a(opcode.value, *r1, *imm),
+            RegisterRow::RieA {
+                opcode,
+                r1,
+                imm,
+                mask,
+            } => enc_rie_a(*opcode, *r1, *imm, mask % 16),
             RegisterRow::RieD {
                 opcode,
                 r1,
@@ -174,7 +189,8 @@ impl RegisterRow {
             | RegisterRow::RrfAb { .. }
             | RegisterRow::RrfCde { .. }
             | RegisterRow::RiA { .. } => 4,
-            RegisterRow::RieD { .. }
+            RegisterRow::RieA { .. }
+            | RegisterRow::RieD { .. }
             | RegisterRow::RieF { .. }
             | RegisterRow::RieG { .. }
             | RegisterRow::RilA { .. }
@@ -202,7 +218,7 @@ pub fn general(r: &Reg) -> bool
     }
 }
 
-fn number(r: &Reg) -> u32
+pub fn number(r: &Reg) -> u32
     ensures { result ≡ number_of r.now }
 {
     match r {
@@ -723,6 +739,13 @@ fn find_group(inst: &Inst) -> Group
         | Inst::LoadLogicalIndexedAddr { .. }
         | Inst::Fence
         | Inst::Nop2 => Group::Moves,
+        Inst::SDivMod32 { .. }
+        | Inst::SDivMod64 { .. }
+        | Inst::UDivMod32 { .. }
+        | Inst::UDivMod64 { .. }
+        | Inst::CmpTrapRR { .. }
+        | Inst::CmpTrapRSImm16 { .. }
+        | Inst::CmpTrapRUImm16 { .. } => Group::Stops,
         _ => Group::Arithmetic,
     }
 }
@@ -736,5 +759,6 @@ pub fn find_alone(inst: &Inst) -> Option<Alone>
         Group::Arithmetic => find_arithmetic(inst),
         Group::Bits => find_bits(inst),
         Group::Moves => find_move(inst),
+        Group::Stops => find_stop(inst),
     }
 }

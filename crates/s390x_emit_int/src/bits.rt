@@ -97,7 +97,7 @@ fn rotation(amount: i8) -> u8
     i32::from(amount).rem_euclid(64) as u8
 }
 
-fn low_byte(amount: u8) -> u8
+pub fn low_byte(amount: u8) -> u8
     ensures { result ≡ low_byte amount }
 {
     amount
@@ -165,8 +165,8 @@ fn shift_row(op: ShiftOp, rd: Reg, rn: Reg, amount: u8, register: Reg) -> Option
     })
 }
 
-// Whether the pair is an even register and the next one.
-fn is_even_pair(pair: &WritableRegPair) -> bool
+/// Whether the pair is an even register and the next one.
+pub fn is_even_pair(pair: &WritableRegPair) -> bool
     ensures { result ≡ is_even_pair pair.now.hi pair.now.lo }
 {
     let high = pair.hi.to_reg();
@@ -187,8 +187,9 @@ fn product_row(pair: Reg, rn: Reg, rm: Reg) -> Option<RegisterRow>
     })
 }
 
+/// A row of two registers, the first of them that of an even pair.
 #[tactic(auto, using(crate::proofs::Encoding::pair_encodes))]
-fn pair_row(opcode: u16, pair: Reg, rn: Reg) -> Option<RegisterRow>
+pub fn pair_row(opcode: u16, pair: Reg, rn: Reg) -> Option<RegisterRow>
     requires { takes_general (Some opcode) ≡ true }
     ensures encodes { encodes (is_general pair && is_general rn) result ≡ true }
     ensures row { option_map instruction_of result ≡ Some (rre opcode (number_of pair) (number_of rn)) }

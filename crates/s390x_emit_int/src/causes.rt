@@ -1,13 +1,16 @@
 //! Why an instruction is refused.
 ghost use Rattle.std.specs.Prelude.{◌≡◌, ◌≤◌, ◌&&◌, None, Some};
 ghost use Rattle.s390x_base.specs.declared.error.EmitError.TheVariants.{BadRegister, UnboundLabel};
-ghost use Rattle.s390x_steps.specs.Causes.{first, unless, label_cause, labels_cause, cause_or, branch_cause, instruction_cause};
+ghost use Rattle.s390x_steps.specs.Causes.{first, unless, label_cause, labels_cause, cause_or, memory_cause_or, branch_cause, instruction_cause, table_cause};
+ghost use Rattle.s390x_steps.specs.Memory.{memory};
+ghost use Rattle.s390x_steps.specs.Resolved.{resolved_instruction};
 ghost use Rattle.s390x_steps.specs.Alone.{alone};
-ghost use Rattle.s390x_steps.specs.General.{is_general, is_nonzero};
+ghost use Rattle.s390x_steps.specs.General.{is_general, is_nonzero, is_scratch};
 
 use crate::alone::{find_alone, general};
+use crate::memory::find_memory;
 use s390x_base::{EmitError, MachLabel, Reg, RegClass};
-use s390x_inst::{Inst, IsaFlags};
+use s390x_inst::{EmitState, Inst, IsaFlags};
 
 // Whether the register is a real Int one other than `%r0`: one that a branch may go by.
 fn branchable(r: Reg) -> bool
@@ -15,6 +18,16 @@ fn branchable(r: Reg) -> bool
 {
     match r.to_real_reg() {
         Some(preg) => preg.class() == RegClass::Int && preg.hw_enc() < 16 && preg.hw_enc() != 0,
+        None => false,
+    }
+}
+
+// Whether the register is `%r1`, which emission uses for itself.
+fn is_scratch(r: Reg) -> bool
+    ensures { result ≡ is_scratch r }
+{
+    match r.to_real_reg() {
+        Some(preg) => preg.hw_enc() == 1,
         None => false,
     }
 }
@@ -72,7 +85,27 @@ fn indirect_refusal(blocks: usize, rn: Reg, targets: &[MachLabel]) -> Option<Emi
     }
 }
 
-// The first cause of an instruction that names a place or goes elsewhere.
+fn table_refusal(
+    blocks: usize,
+    index: &Reg,
+    other: MachLabel,
+    targets: &[MachLabel],
+) -> Option<EmitError>
+    ensures { result ≡ table_cause blocks index.now other targets.now }
+{
+    if !branchable(*index) {
+        return Some(EmitError::BadRegister);
+    }
+    if is_scratch(*index) {
+        return Some(EmitError::ScratchConflict);
+    }
+    match label_refusal(blocks, other) {
+        Some(error) => Some(error),
+        None => labels_refusal(blocks, targets),
+    }
+}
+
+// The first cause of an instruction that names a place, goes elsewhere or ends the run.
 fn branch_refusal(blocks: usize, depth: u32, inst: &Inst) -> Option<EmitError>
     ensures { result ≡ branch_cause blocks depth inst.now }
 {
@@ -85,35 +118,55 @@ fn branch_refusal(blocks: usize, depth: u32, inst: &Inst) -> Option<EmitError>
         } => two_labels_refusal(blocks, *taken, *not_taken),
         Inst::IndirectBr { rn, targets } => indirect_refusal(blocks, *rn, targets),
         Inst::Ret { link } => refusal_unless(branchable(*link), EmitError::BadRegister),
+        Inst::JTSequence {
+            ridx,
+            default,
+            targets,
+            ..
+        } => table_refusal(blocks, ridx, *default, targets),
         Inst::CondBreak { .. } => refusal_unless(0 < depth, EmitError::BreakOutsideLoop),
-        Inst::Nop0 => None,
+        Inst::Nop0 | Inst::Trap { .. } | Inst::TrapIf { .. } | Inst::Debugtrap => None,
         Inst::LabelAddress { dst, label } => address_refusal(blocks, &dst.to_reg(), *label),
+        Inst::LoadSymbolReloc { rd, .. } => {
+            refusal_unless(general(&rd.to_reg()), EmitError::BadRegister)
+        }
         _ => Some(EmitError::BadOperator),
+    }
+}
+
+// The first cause of an instruction that isn't one machine instruction.
+fn memory_refusal(state: &EmitState, blocks: usize, depth: u32, inst: &Inst) -> Option<EmitError>
+    ensures { result ≡ memory_cause_or (memory (resolved_instruction state.now inst.now)) (branch_cause blocks depth inst.now) }
+{
+    match find_memory(inst) {
+        Some(found) => found.refusal(state),
+        None => branch_refusal(blocks, depth, inst),
     }
 }
 
 // The first cause of an instruction whose facility is there.
 #[tactic(auto, using(crate::proofs::Single::some_other, crate::proofs::Single::none_other))]
-fn other_refusal(blocks: usize, depth: u32, inst: &Inst) -> Option<EmitError>
-    ensures { result ≡ cause_or (alone inst.now) (branch_cause blocks depth inst.now) }
+fn other_refusal(state: &EmitState, blocks: usize, depth: u32, inst: &Inst) -> Option<EmitError>
+    ensures { result ≡ cause_or (alone inst.now) (memory_cause_or (memory (resolved_instruction state.now inst.now)) (branch_cause blocks depth inst.now)) }
 {
     match find_alone(inst) {
         Some(found) => refusal_unless(found.fine, EmitError::BadRegister),
-        None => branch_refusal(blocks, depth, inst),
+        None => memory_refusal(state, blocks, depth, inst),
     }
 }
 
-/// The first cause of an instruction that is no `Loop`, inside so many loops, where the machine has these facilities.
+/// The first cause of an instruction that is no `Loop` in a state of emission, inside so many loops, where the machine has these facilities.
 pub fn instruction_refusal(
     flags: IsaFlags,
+    state: &EmitState,
     blocks: usize,
     depth: u32,
     inst: &Inst,
 ) -> Option<EmitError>
-    ensures { result ≡ instruction_cause flags blocks depth inst.now }
+    ensures { result ≡ instruction_cause flags blocks depth (resolved_instruction state.now inst.now) }
 {
     if flags.has(inst.available_in_isa()) {
-        other_refusal(blocks, depth, inst)
+        other_refusal(state, blocks, depth, inst)
     } else {
         Some(EmitError::MissingFacility)
     }

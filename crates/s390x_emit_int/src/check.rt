@@ -1,17 +1,21 @@
 //! The causes of refusal, found before anything is emitted: the length stands last among them, so no part of a function may be
 //! refused for it while an earlier cause may follow.
-ghost use Rattle.std.specs.Prelude.{◌≡◌, ◌+◌, ◌≤◌, ◌<◌, min, None, Some, MatchResult};
+ghost use Rattle.std.specs.Prelude.{◌≡◌, ℕ, ◌+◌, ◌≤◌, ◌<◌, min, None, Some, MatchResult, ◌*◌};
+ghost use Rattle.s390x_inst.specs.declared.state.IsaFlags.{IsaFlags};
+ghost use Rattle.s390x_steps.specs.Memory.{memory};
+ghost use Rattle.s390x_steps.specs.Resolved.{resolved_instruction};
 ghost use Rattle.s390x_steps.specs.Tree.{empty, graft, tree};
 ghost use Rattle.s390x_steps.specs.Sizes.{instruction_size, tree_size};
-ghost use Rattle.s390x_steps.specs.Causes.{first, draws, nesting_cause, numbers_cause, instruction_cause, tree_cause};
+ghost use Rattle.s390x_steps.specs.Causes.{first, draws, nesting_cause, numbers_cause, memory_cause_or, instruction_cause, tree_cause, instruction_draws, leaf_cause};
 ghost use Rattle.s390x_steps.specs.Ranges.{InRange, AllInRange, IsMask};
-ghost use Rattle.s390x_emit_int.specs.Emission.{branch_size};
+ghost use Rattle.s390x_emit_int.specs.Emission.{branch_size, memory_size_or};
 ghost use Rattle.s390x_emit_int.specs.Totals.{IsCounted, Adds, limit};
 
 use crate::alone::find_alone;
 use crate::causes::instruction_refusal;
+use crate::memory::find_memory;
 use s390x_base::EmitError;
-use s390x_inst::{Inst, IsaFlags};
+use s390x_inst::{EmitState, Inst, IsaFlags};
 
 const LIMIT: u64 = 2147483648;
 
@@ -22,28 +26,68 @@ pub struct Totals {
     pub bytes: u64,
 }
 
-// The size of an instruction that names a place or goes elsewhere.
+// The size of a jump by a table with so many words, counted up to the limit of code.
+fn table_size(count: usize) -> u64
+    ensures value { min limit result ≡ min limit (20 + 4 * count) }
+    ensures few { result ≤ limit }
+{
+    if count < 536870912 {
+        let size = 20 + 4 * count as u64;
+        if size < LIMIT { size } else { LIMIT }
+    } else {
+        LIMIT
+    }
+}
+
+// The size of an instruction that names a place, goes elsewhere or ends the run, counted up to the limit of code.
 #[tactic(auto, unfolding(s390x_format::specs::Formats::length_of))]
 fn branch_size(inst: &Inst) -> u64
-    ensures value { result ≡ branch_size inst.now }
-    ensures few { result ≤ 44 }
+    ensures value { min limit result ≡ min limit (branch_size inst.now) }
+    ensures few { result ≤ limit }
 {
     match inst {
-        Inst::Jump { .. } | Inst::CondBreak { .. } | Inst::LabelAddress { .. } => 6,
+        Inst::Jump { .. }
+        | Inst::CondBreak { .. }
+        | Inst::LabelAddress { .. }
+        | Inst::TrapIf { .. } => 6,
         Inst::CondBr { .. } => 12,
-        Inst::IndirectBr { .. } | Inst::Ret { .. } => 2,
+        Inst::LoadSymbolReloc { .. } => 18,
+        Inst::JTSequence { targets, .. } => table_size(targets.len()),
+        Inst::IndirectBr { .. } | Inst::Ret { .. } | Inst::Trap { .. } | Inst::Debugtrap => 2,
         _ => 0,
     }
 }
 
-#[tactic(auto, using(crate::proofs::Single::some_size, crate::proofs::Single::none_size))]
-fn size_of(inst: &Inst) -> u64
-    ensures value { result ≡ instruction_size inst.now }
-    ensures few { result ≤ 44 }
+// The size of an instruction that isn't one machine instruction, counted up to the limit of code.
+fn other_size(state: &EmitState, inst: &Inst) -> u64
+    ensures value { memory_cause_or (memory (resolved_instruction state.now inst.now)) None ≡ None → min limit result ≡ min limit (memory_size_or (memory (resolved_instruction state.now inst.now)) (branch_size inst.now)) }
+    ensures few { result ≤ limit }
+{
+    match find_memory(inst) {
+        Some(found) => found.size(state),
+        None => branch_size(inst),
+    }
+}
+
+// The size of an instruction that no cause refuses, counted up to the limit of code.
+fn size_of(state: &EmitState, inst: &Inst) -> u64
+    ensures value { (flags : IsaFlags) (blocks depth : ℕ) → instruction_cause flags blocks depth (resolved_instruction state.now inst.now) ≡ None → min limit result ≡ min limit (instruction_size (resolved_instruction state.now inst.now)) }
+    ensures few { result ≤ limit }
 {
     match find_alone(inst) {
         Some(found) => found.row.size(),
-        None => branch_size(inst),
+        None => other_size(state, inst),
+    }
+}
+
+// How many labels an instruction draws that is no `Loop`.
+fn draws(inst: &Inst) -> u64
+    ensures value { result ≡ instruction_draws inst.now }
+    ensures few { result ≤ 2 }
+{
+    match inst {
+        Inst::JTSequence { .. } => 1,
+        _ => 0,
     }
 }
 
@@ -51,7 +95,7 @@ fn size_of(inst: &Inst) -> u64
 fn add(t: Totals, labels: u64, bytes: u64) -> Result<Totals, EmitError>
     requires counted { IsCounted t }
     requires few { labels ≤ 2 }
-    requires short { bytes ≤ 44 }
+    requires short { bytes ≤ limit }
     ensures { MatchResult result (λ r. (numbers_cause t.labels labels ≡ None) × Adds t r labels bytes) (λ e. numbers_cause t.labels labels ≡ Some e) }
 {
     if t.labels + labels > 4294967296 {
@@ -73,17 +117,18 @@ fn add(t: Totals, labels: u64, bytes: u64) -> Result<Totals, EmitError>
 
 fn check_leaf(
     flags: IsaFlags,
+    state: &EmitState,
     blocks: usize,
     t: Totals,
     depth: u32,
     inst: &Inst,
 ) -> Result<Totals, EmitError>
     requires { IsCounted t }
-    ensures { MatchResult result (λ r. (instruction_cause flags blocks depth inst.now ≡ None) × Adds t r 0 (instruction_size inst.now)) (λ e. instruction_cause flags blocks depth inst.now ≡ Some e) }
+    ensures { MatchResult result (λ r. (leaf_cause flags blocks t.labels depth (resolved_instruction state.now inst.now) ≡ None) × Adds t r (instruction_draws (resolved_instruction state.now inst.now)) (instruction_size (resolved_instruction state.now inst.now))) (λ e. leaf_cause flags blocks t.labels depth (resolved_instruction state.now inst.now) ≡ Some e) }
 {
-    match instruction_refusal(flags, blocks, depth, inst) {
+    match instruction_refusal(flags, state, blocks, depth, inst) {
         Some(error) => Err(error),
-        None => add(t, 0, size_of(inst)),
+        None => add(t, draws(inst), size_of(state, inst)),
     }
 }
 
@@ -103,17 +148,18 @@ fn open_loop(t: Totals, depth: u32) -> Result<Totals, EmitError>
 #[cycle(checking)]
 pub fn check_members(
     flags: IsaFlags,
+    state: &EmitState,
     blocks: usize,
     t: Totals,
     depth: u32,
     insts: &[Inst],
 ) -> Result<Totals, EmitError>
     requires { IsCounted t }
-    ensures { MatchResult result (λ r. (tree_cause flags blocks t.labels depth (tree insts.now) ≡ None) × Adds t r (draws (tree insts.now)) (tree_size (tree insts.now))) (λ e. tree_cause flags blocks t.labels depth (tree insts.now) ≡ Some e) }
+    ensures { MatchResult result (λ r. (tree_cause flags blocks t.labels depth (tree state.now insts.now) ≡ None) × Adds t r (draws (tree state.now insts.now)) (tree_size (tree state.now insts.now))) (λ e. tree_cause flags blocks t.labels depth (tree state.now insts.now) ≡ Some e) }
 {
     let mut sum = t;
     for inst in insts {
-        sum = check_inst(flags, blocks, sum, depth, inst)?;
+        sum = check_inst(flags, state, blocks, sum, depth, inst)?;
     }
     Ok(sum)
 }
@@ -122,32 +168,34 @@ pub fn check_members(
 #[cycle(checking)]
 pub fn check_inst(
     flags: IsaFlags,
+    state: &EmitState,
     blocks: usize,
     t: Totals,
     depth: u32,
     inst: &Inst,
 ) -> Result<Totals, EmitError>
     requires { IsCounted t }
-    ensures { MatchResult result (λ r. (tree_cause flags blocks t.labels depth (graft inst.now empty) ≡ None) × Adds t r (draws (graft inst.now empty)) (tree_size (graft inst.now empty))) (λ e. tree_cause flags blocks t.labels depth (graft inst.now empty) ≡ Some e) }
+    ensures { MatchResult result (λ r. (tree_cause flags blocks t.labels depth (graft state.now inst.now empty) ≡ None) × Adds t r (draws (graft state.now inst.now empty)) (tree_size (graft state.now inst.now empty))) (λ e. tree_cause flags blocks t.labels depth (graft state.now inst.now empty) ≡ Some e) }
 {
     match inst {
-        Inst::Loop { body, .. } => check_loop(flags, blocks, t, depth, body),
-        _ => check_leaf(flags, blocks, t, depth, inst),
+        Inst::Loop { body, .. } => check_loop(flags, state, blocks, t, depth, body),
+        _ => check_leaf(flags, state, blocks, t, depth, inst),
     }
 }
 
 #[cycle(checking)]
 fn check_loop(
     flags: IsaFlags,
+    state: &EmitState,
     blocks: usize,
     t: Totals,
     depth: u32,
     body: &[Inst],
 ) -> Result<Totals, EmitError>
     requires { IsCounted t }
-    ensures { MatchResult result (λ r. (first (first (nesting_cause depth) (numbers_cause t.labels 2)) (tree_cause flags blocks (t.labels + 2) (depth + 1) (tree body.now)) ≡ None) × Adds t r (2 + draws (tree body.now)) (tree_size (tree body.now) + 6)) (λ e. first (first (nesting_cause depth) (numbers_cause t.labels 2)) (tree_cause flags blocks (t.labels + 2) (depth + 1) (tree body.now)) ≡ Some e) }
+    ensures { MatchResult result (λ r. (first (first (nesting_cause depth) (numbers_cause t.labels 2)) (tree_cause flags blocks (t.labels + 2) (depth + 1) (tree state.now body.now)) ≡ None) × Adds t r (2 + draws (tree state.now body.now)) (tree_size (tree state.now body.now) + 6)) (λ e. first (first (nesting_cause depth) (numbers_cause t.labels 2)) (tree_cause flags blocks (t.labels + 2) (depth + 1) (tree state.now body.now)) ≡ Some e) }
 {
     let opened = open_loop(t, depth)?;
-    let inner = check_members(flags, blocks, opened, depth + 1, body)?;
+    let inner = check_members(flags, state, blocks, opened, depth + 1, body)?;
     add(inner, 0, 6)
 }

@@ -32,14 +32,19 @@ fn start_refusal(state: &EmitState) -> Option<EmitError>
 }
 
 // The first cause in the blocks, with so many labels in use, or what they add.
-fn check_blocks(flags: IsaFlags, blocks: &[Block], labels: u64) -> Result<Totals, EmitError>
+fn check_blocks(
+    flags: IsaFlags,
+    state: &EmitState,
+    blocks: &[Block],
+    labels: u64,
+) -> Result<Totals, EmitError>
     requires { labels ≤ 4294967296 }
-    ensures { MatchResult result (λ r. (blocks_cause flags (length blocks.now) labels (map tree_of blocks.now) ≡ None) × (min limit r.bytes ≡ min limit (blocks_size (map tree_of blocks.now))) × (r.bytes ≤ limit)) (λ e. blocks_cause flags (length blocks.now) labels (map tree_of blocks.now) ≡ Some e) }
+    ensures { MatchResult result (λ r. (blocks_cause flags (length blocks.now) labels (map (tree_of state.now) blocks.now) ≡ None) × (min limit r.bytes ≡ min limit (blocks_size (map (tree_of state.now) blocks.now))) × (r.bytes ≤ limit)) (λ e. blocks_cause flags (length blocks.now) labels (map (tree_of state.now) blocks.now) ≡ Some e) }
 {
     let count = blocks.len();
     let mut sum = Totals { labels, bytes: 0 };
     for block in blocks {
-        sum = check_members(flags, count, sum, 0, &block.insts)?;
+        sum = check_members(flags, state, count, sum, 0, &block.insts)?;
     }
     Ok(sum)
 }
@@ -57,19 +62,19 @@ fn length_refusal(bytes: u64, constants: &[ConstantData]) -> Option<EmitError>
 }
 
 // Each block's label is bound before its members.
-fn emit_blocks(sink: &mut MachBuffer, blocks: &[Block]) -> Result<(), EmitError>
+fn emit_blocks(sink: &mut MachBuffer, state: &EmitState, blocks: &[Block]) -> Result<(), EmitError>
     requires few { length blocks.now ≤ 4294967295 }
     requires count { sink.old.block_count ≡ length blocks.now }
     requires room { HasRoom sink.old }
     requires free { (l : ℕ) → l < length blocks.now → get_or sink.old.labels l None ≡ None }
-    ensures answer { OnOk result (sink.new ≡ run sink.old (function_pieces (length sink.old.labels) 0 (map tree_of blocks.now))) }
-    ensures lacks { (flags : IsaFlags) → put_cause sink.old (blocks_size (map tree_of blocks.now)) ≡ None → blocks_cause flags (length blocks.now) (length sink.old.labels) (map tree_of blocks.now) ≡ None → LacksMemory result }
-    ensures ranges { OnOk result (BlocksInRange (map tree_of blocks.now)) }
+    ensures answer { OnOk result (sink.new ≡ run sink.old (function_pieces (length sink.old.labels) 0 (map (tree_of state.now) blocks.now))) }
+    ensures lacks { (flags : IsaFlags) → put_cause sink.old (blocks_size (map (tree_of state.now) blocks.now)) ≡ None → blocks_cause flags (length blocks.now) (length sink.old.labels) (map (tree_of state.now) blocks.now) ≡ None → LacksMemory result }
+    ensures ranges { OnOk result (BlocksInRange (map (tree_of state.now) blocks.now)) }
 {
     let mut label: u32 = 0;
     for block in blocks {
         sink.bind_label(MachLabel(label))?;
-        emit_members(sink, &block.insts, MachLabel(0))?;
+        emit_members(sink, state, &block.insts, MachLabel(0))?;
         label += 1;
     }
     Ok(())
@@ -79,15 +84,16 @@ fn emit_blocks(sink: &mut MachBuffer, blocks: &[Block]) -> Result<(), EmitError>
 fn emit_checked(
     alloc: Global,
     function: &AllocatedFunction,
+    state: &EmitState,
     flags: IsaFlags,
     count: u32,
 ) -> Result<MachBufferFinalized, EmitError>
     requires count { count ≡ length function.now.blocks.items }
-    requires fine { checked_cause flags (trees_of function.now) (constants_of function.now) ≡ None }
-    ensures { MatchResult result (λ f. IsImage (trees_of function.now) (constants_of function.now) f × BlocksInRange (trees_of function.now)) (λ e. e ≡ NoMemory) }
+    requires fine { checked_cause flags (trees_of state.now function.now) (constants_of function.now) ≡ None }
+    ensures { MatchResult result (λ f. IsImage (trees_of state.now function.now) (constants_of function.now) f × BlocksInRange (trees_of state.now function.now)) (λ e. e ≡ NoMemory) }
 {
     let mut sink = MachBuffer::new(alloc, count, &function.constants)?;
-    emit_blocks(&mut sink, &function.blocks)?;
+    emit_blocks(&mut sink, state, &function.blocks)?;
     sink.finish()
 }
 
@@ -108,11 +114,12 @@ fn block_count(function: &AllocatedFunction) -> Result<u32, EmitError>
 // The first cause among the constants, the steps and the length.
 fn check_function(
     function: &AllocatedFunction,
+    state: &EmitState,
     flags: IsaFlags,
     count: u32,
 ) -> Result<(), EmitError>
     requires count { count ≡ length function.now.blocks.items }
-    ensures { MatchResult result (λ _. checked_cause flags (trees_of function.now) (constants_of function.now) ≡ None) (λ e. checked_cause flags (trees_of function.now) (constants_of function.now) ≡ Some e) }
+    ensures { MatchResult result (λ _. checked_cause flags (trees_of state.now function.now) (constants_of function.now) ≡ None) (λ e. checked_cause flags (trees_of state.now function.now) (constants_of function.now) ≡ Some e) }
 {
     let constants = &function.constants;
     if !all_aligned(constants) {
@@ -123,6 +130,7 @@ fn check_function(
     }
     let sum = check_blocks(
         flags,
+        state,
         &function.blocks,
         u64::from(count) + constants.len() as u64,
     )?;
@@ -142,12 +150,12 @@ pub fn emit_function(
     info: &EmitInfo,
     state: EmitState,
 ) -> Result<MachBufferFinalized, EmitError>
-    ensures { MatchResult result (λ f. (function_cause info.now.isa_flags (trees_of function.now) (constants_of function.now) state ≡ None) × IsImage (trees_of function.now) (constants_of function.now) f × BlocksInRange (trees_of function.now)) (λ e. (e ≡ NoMemory) ⊎ (function_cause info.now.isa_flags (trees_of function.now) (constants_of function.now) state ≡ Some e)) }
+    ensures { MatchResult result (λ f. (function_cause info.now.isa_flags (trees_of state function.now) (constants_of function.now) state ≡ None) × IsImage (trees_of state function.now) (constants_of function.now) f × BlocksInRange (trees_of state function.now)) (λ e. (e ≡ NoMemory) ⊎ (function_cause info.now.isa_flags (trees_of state function.now) (constants_of function.now) state ≡ Some e)) }
 {
     if let Some(error) = start_refusal(&state) {
         return Err(error);
     }
     let count = block_count(function)?;
-    check_function(function, info.isa_flags, count)?;
-    emit_checked(alloc, function, info.isa_flags, count)
+    check_function(function, &state, info.isa_flags, count)?;
+    emit_checked(alloc, function, &state, info.isa_flags, count)
 }

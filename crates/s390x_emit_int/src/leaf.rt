@@ -1,28 +1,38 @@
 //! Emitting one instruction that is no `Loop`.
 #![tactic(auto, using(s390x_buffer::proofs::Keeping::keeps_on, s390x_buffer::proofs::Keeping::keeps_same))]
 
-ghost use Rattle.std.specs.Prelude.{◌≡◌, ℕ, ◌<◌, ◌&&◌, [], ◌∷◌, None, true, length, OnOk};
+ghost use Rattle.std.specs.Prelude.{◌≡◌, ℕ, ◌<◌, ◌&&◌, ◌||◌, not, [], ◌∷◌, None, true, length, OnOk};
 ghost use Rattle.s390x_base.specs.Regs.{number_of};
 ghost use Rattle.s390x_buffer.specs.Keeps.{Keeps};
 ghost use Rattle.s390x_buffer.specs.State.{put_cause};
-ghost use Rattle.s390x_steps.specs.MachineInstruction.{rr, bytes_of, size_of};
-ghost use Rattle.s390x_steps.specs.Parts.{Row, Branch, ToBlock, Relative};
+ghost use Rattle.s390x_steps.specs.MachineInstruction.{format_e, rr, ril_c, bytes_of, size_of};
+ghost use Rattle.s390x_steps.specs.Parts.{Row, Trapping, Branch, ToBlock, Relative, row_part, stopping, memory_parts, parts_size};
+ghost use Rattle.s390x_inst.specs.Emission.{Emission};
 ghost use Rattle.s390x_inst.specs.declared.state.IsaFlags.{IsaFlags};
-ghost use Rattle.s390x_steps.specs.Causes.{branch_cause, instruction_cause};
+ghost use Rattle.s390x_steps.specs.Causes.{branch_cause, memory_cause, instruction_cause, numbers_cause, instruction_draws, leaf_cause};
 ghost use Rattle.s390x_steps.specs.General.{is_general, is_nonzero};
 ghost use Rattle.s390x_steps.specs.Sizes.{instruction_size};
 ghost use Rattle.s390x_emit_int.specs.Alone.{instruction_of, can_encode};
-ghost use Rattle.s390x_emit_int.specs.Pieces.{Put, apply, run, Link};
+ghost use Rattle.s390x_emit_int.specs.Pieces.{Put, PutTrapping, apply, run, Link};
 ghost use Rattle.s390x_emit_int.specs.Emission.{branch, part_pieces, branch_pieces, branch_size, leaf_pieces};
-ghost use Rattle.s390x_emit_int.specs.Room.{Passed, LacksMemory};
+ghost use Rattle.s390x_emit_int.specs.Room.{Passed, MembersPassed, LacksMemory, HasRoom};
 ghost use Rattle.s390x_buffer.specs.declared.label_use.LabelUse.TheVariants.{BranchRIL};
-ghost use Rattle.s390x_steps.specs.Ranges.{InRange, IsMask};
+ghost use Rattle.s390x_steps.specs.Ranges.{InRange, MaskInRange, OperandInRange, IsMask};
+ghost use Rattle.s390x_steps.specs.Alone.{alone};
+ghost use Rattle.s390x_steps.specs.Operands.{resolved};
+ghost use Rattle.s390x_steps.specs.Resolved.{resolved_instruction};
+ghost use Rattle.s390x_address.specs.Rows.{memory_of, in_state, rows_encode};
 
 use crate::alone::{RegisterRow, find_alone};
-use s390x_base::{Code, Cond, EmitError, MachLabel, Reg, gpr};
+use crate::memory::find_memory;
+use crate::stops::stop_code;
+use crate::symbol::emit_symbol_load;
+use crate::table::emit_table;
+use s390x_address::memory::MemoryInst;
+use s390x_base::{Code, Cond, EmitError, MachLabel, Reg, TrapCode, gpr};
 use s390x_buffer::{LabelUse, MachBuffer};
-use s390x_enc::{enc_ril_b, enc_ril_c, enc_rr};
-use s390x_inst::Inst;
+use s390x_enc::{enc_e, enc_ril_b, enc_ril_c, enc_rr};
+use s390x_inst::{EmitState, Inst, MemArg};
 
 // A code whose last four bytes are half of the distance to a label; the buffer's end fills it in.
 fn put_with_distance(sink: &mut MachBuffer, code: &Code, label: MachLabel) -> Result<(), EmitError>
@@ -46,8 +56,8 @@ pub fn put_branch(sink: &mut MachBuffer, mask: u8, label: MachLabel) -> Result<(
     put_with_distance(sink, &code, label)
 }
 
-// BRANCH ON CONDITION to the address in a register, always.
-fn emit_branch_register(sink: &mut MachBuffer, rn: Reg) -> Result<(), EmitError>
+/// BRANCH ON CONDITION to the address in a register, always.
+pub fn emit_branch_register(sink: &mut MachBuffer, rn: Reg) -> Result<(), EmitError>
     ensures answer { OnOk result (sink.new ≡ run sink.old (part_pieces (Row (rr 0x07 15 (number_of rn)) ∷ []))) }
     ensures lacks { put_cause sink.old 2 ≡ None → (is_general rn && is_nonzero rn) ≡ true → LacksMemory result }
     ensures kept { Keeps sink.old sink.new }
@@ -56,14 +66,63 @@ fn emit_branch_register(sink: &mut MachBuffer, rn: Reg) -> Result<(), EmitError>
     sink.put_code(&code)
 }
 
-// LOAD ADDRESS RELATIVE LONG of a label into a register; the buffer's end fills the distance in.
-fn emit_address(sink: &mut MachBuffer, dst: Reg, label: MachLabel) -> Result<(), EmitError>
+/// LOAD ADDRESS RELATIVE LONG of a label into a register; the buffer's end fills the distance in.
+pub fn emit_address(sink: &mut MachBuffer, dst: Reg, label: MachLabel) -> Result<(), EmitError>
     ensures answer { OnOk result (sink.new ≡ run sink.old (part_pieces (Relative 0xc00 (number_of dst) (ToBlock label.0) ∷ []))) }
     ensures lacks { Passed sink.old label.0 6 None → is_general dst ≡ true → LacksMemory result }
     ensures kept { Keeps sink.old sink.new }
 {
     let code = enc_ril_b(0xc00, dst, 0)?;
     put_with_distance(sink, &code, label)
+}
+
+// A code with a trap recorded at one of its bytes.
+fn put_trapping(
+    sink: &mut MachBuffer,
+    code: &Code,
+    byte: usize,
+    trap_code: TrapCode,
+) -> Result<(), EmitError>
+    requires { byte < length code.now }
+    ensures answer { OnOk result (sink.new ≡ apply sink.old (PutTrapping code.now byte trap_code)) }
+    ensures lacks { put_cause sink.old (length code.now) ≡ None → LacksMemory result }
+    ensures kept { Keeps sink.old sink.new }
+{
+    let bytes = code.bytes();
+    sink.put(&bytes[..byte])?;
+    sink.add_trap(trap_code)?;
+    sink.put(&bytes[byte..])
+}
+
+// Bytes that are no instruction, with a trap.
+fn emit_trap(sink: &mut MachBuffer, trap_code: TrapCode) -> Result<(), EmitError>
+    ensures answer { OnOk result (sink.new ≡ run sink.old (part_pieces (stopping (format_e 0) trap_code ∷ []))) }
+    ensures lacks { put_cause sink.old 2 ≡ None → LacksMemory result }
+    ensures kept { Keeps sink.old sink.new }
+{
+    let code = enc_e(0x0000)?;
+    put_trapping(sink, &code, 1, trap_code)
+}
+
+// A branch under a condition to its own place plus 2, where no instruction stands and a trap is recorded.
+fn emit_trap_if(sink: &mut MachBuffer, cond: Cond, trap_code: TrapCode) -> Result<(), EmitError>
+    ensures answer { OnOk result (sink.new ≡ run sink.old (part_pieces (Trapping (ril_c 0xc04 cond 1) 3 trap_code ∷ []))) }
+    ensures lacks { put_cause sink.old 6 ≡ None → LacksMemory result }
+    ensures range { IsMask cond }
+    ensures kept { Keeps sink.old sink.new }
+{
+    let code = enc_ril_c(0xc04, cond.bits(), 2)?;
+    put_trapping(sink, &code, 3, trap_code)
+}
+
+// Bytes that are no instruction, without a trap.
+fn emit_debug_trap(sink: &mut MachBuffer) -> Result<(), EmitError>
+    ensures answer { OnOk result (sink.new ≡ run sink.old (part_pieces (Row (format_e 1) ∷ []))) }
+    ensures lacks { put_cause sink.old 2 ≡ None → LacksMemory result }
+    ensures kept { Keeps sink.old sink.new }
+{
+    let code = enc_e(0x0001)?;
+    sink.put_code(&code)
 }
 
 fn emit_two_branches(
@@ -90,19 +149,28 @@ fn emit_break(sink: &mut MachBuffer, cond: Cond, after: MachLabel) -> Result<(),
     put_branch(sink, cond.bits(), after)
 }
 
-fn emit_alone(sink: &mut MachBuffer, row: &RegisterRow) -> Result<(), EmitError>
-    ensures answer { OnOk result (sink.new ≡ apply sink.old (Put (bytes_of (instruction_of row.now)))) }
+// A machine instruction; where its stop has a code, a trap is recorded at its last byte.
+fn emit_alone(
+    sink: &mut MachBuffer,
+    row: &RegisterRow,
+    trap_code: Option<TrapCode>,
+) -> Result<(), EmitError>
+    ensures answer { OnOk result (sink.new ≡ run sink.old (part_pieces (row_part (instruction_of row.now) trap_code ∷ []))) }
     ensures lacks { put_cause sink.old (size_of (instruction_of row.now)) ≡ None → can_encode row.now ≡ true → LacksMemory result }
     ensures kept { Keeps sink.old sink.new }
 {
     let code = row.code()?;
-    sink.put_code(&code)
+    match trap_code {
+        Some(trap_code) => put_trapping(sink, &code, code.bytes().len() - 1, trap_code),
+        None => sink.put_code(&code),
+    }
 }
 
 fn emit_branch(sink: &mut MachBuffer, inst: &Inst, after: MachLabel) -> Result<(), EmitError>
-    ensures answer { OnOk result (sink.new ≡ run sink.old (branch_pieces after.0 inst.now)) }
-    ensures lacks { (depth : ℕ) → Passed sink.old after.0 (branch_size inst.now) (branch_cause sink.old.block_count depth inst.now) → LacksMemory result }
-    ensures range { OnOk result (InRange inst.now) }
+    requires { HasRoom sink.old }
+    ensures answer { OnOk result (sink.new ≡ run sink.old (branch_pieces (length sink.old.labels) after.0 inst.now)) }
+    ensures lacks { (depth : ℕ) → MembersPassed sink.old after.0 depth (branch_size inst.now) (branch_cause sink.old.block_count depth inst.now) → numbers_cause (length sink.old.labels) (instruction_draws inst.now) ≡ None → LacksMemory result }
+    ensures range { OnOk result (MaskInRange inst.now) }
     ensures kept { Keeps sink.old sink.new }
 {
     match inst {
@@ -114,23 +182,98 @@ fn emit_branch(sink: &mut MachBuffer, inst: &Inst, after: MachLabel) -> Result<(
         } => emit_two_branches(sink, *taken, *not_taken, *cond),
         Inst::IndirectBr { rn, .. } => emit_branch_register(sink, *rn),
         Inst::Ret { link } => emit_branch_register(sink, *link),
+        Inst::JTSequence {
+            ridx,
+            default,
+            default_cond,
+            targets,
+        } => emit_table(sink, *ridx, *default_cond, *default, targets),
         Inst::CondBreak { cond } => emit_break(sink, *cond, after),
         Inst::Nop0 => Ok(()),
         Inst::LabelAddress { dst, label } => emit_address(sink, dst.to_reg(), *label),
+        Inst::LoadSymbolReloc { rd, symbol_reloc } => {
+            emit_symbol_load(sink, rd.to_reg(), symbol_reloc)
+        }
+        Inst::Trap { trap_code } => emit_trap(sink, *trap_code),
+        Inst::TrapIf { cond, trap_code } => emit_trap_if(sink, *cond, *trap_code),
+        Inst::Debugtrap => emit_debug_trap(sink),
         _ => Err(EmitError::BadOperator),
     }
 }
 
-#[tactic(auto, using(s390x_buffer::proofs::Keeping::keeps_on, s390x_buffer::proofs::Keeping::keeps_same, crate::proofs::Single::none_pieces))]
-/// Emits an instruction that is no `Loop`; `after` is the label behind the innermost loop.
-pub fn emit_leaf(sink: &mut MachBuffer, inst: &Inst, after: MachLabel) -> Result<(), EmitError>
-    ensures answer { OnOk result (sink.new ≡ run sink.old (leaf_pieces after.0 inst.now)) }
-    ensures lacks { (flags : IsaFlags) (depth : ℕ) → Passed sink.old after.0 (instruction_size inst.now) (instruction_cause flags sink.old.block_count depth inst.now) → LacksMemory result }
-    ensures range { OnOk result (InRange inst.now) }
+// A displacement lies in its range by its type; another form has none, once it is resolved.
+fn read_displacement(mem: &MemArg)
+    ensures { (e : Emission) → OperandInRange (resolved e mem.now) }
+{
+    match mem {
+        MemArg::BXD12 { disp, .. } => {
+            let _bits = disp.bits();
+        }
+        MemArg::BXD20 { disp, .. } => {
+            let _value = disp.value();
+        }
+        MemArg::Label { .. }
+        | MemArg::Constant { .. }
+        | MemArg::Symbol { .. }
+        | MemArg::RegOffset { .. }
+        | MemArg::InitialSPOffset { .. }
+        | MemArg::IncomingArgOffset { .. }
+        | MemArg::OutgoingArgOffset { .. }
+        | MemArg::SlotOffset { .. }
+        | MemArg::SpillOffset { .. } => {}
+    }
+}
+
+// Its helpers, and then its access.
+fn emit_memory(
+    sink: &mut MachBuffer,
+    state: &EmitState,
+    found: &MemoryInst,
+) -> Result<(), EmitError>
+    ensures answer { OnOk result (sink.new ≡ run sink.old (part_pieces (memory_parts (in_state state.now (memory_of found.now))))) }
+    ensures lacks { put_cause sink.old (parts_size (memory_parts (in_state state.now (memory_of found.now)))) ≡ None → memory_cause (in_state state.now (memory_of found.now)) ≡ None → (not found.now.fine || rows_encode found.now.rows) ≡ true → LacksMemory result }
+    ensures range { OperandInRange (resolved state.now found.now.operand) }
+    ensures kept { Keeps sink.old sink.new }
+{
+    read_displacement(&found.operand);
+    found.emit(sink, state)
+}
+
+// An instruction that isn't one machine instruction.
+fn emit_other(
+    sink: &mut MachBuffer,
+    state: &EmitState,
+    inst: &Inst,
+    after: MachLabel,
+) -> Result<(), EmitError>
+    requires alone { None ≡ alone inst.now }
+    requires room { HasRoom sink.old }
+    ensures answer { OnOk result (sink.new ≡ run sink.old (leaf_pieces (length sink.old.labels) after.0 (resolved_instruction state.now inst.now))) }
+    ensures lacks { (flags : IsaFlags) (depth : ℕ) → MembersPassed sink.old after.0 depth (instruction_size (resolved_instruction state.now inst.now)) (leaf_cause flags sink.old.block_count (length sink.old.labels) depth (resolved_instruction state.now inst.now)) → LacksMemory result }
+    ensures range { OnOk result (InRange (resolved_instruction state.now inst.now)) }
+    ensures kept { Keeps sink.old sink.new }
+{
+    match find_memory(inst) {
+        Some(found) => emit_memory(sink, state, &found),
+        None => emit_branch(sink, inst, after),
+    }
+}
+
+/// Emits an instruction that is no `Loop`, in a state of emission; `after` is the label behind the innermost loop.
+pub fn emit_leaf(
+    sink: &mut MachBuffer,
+    state: &EmitState,
+    inst: &Inst,
+    after: MachLabel,
+) -> Result<(), EmitError>
+    requires { HasRoom sink.old }
+    ensures answer { OnOk result (sink.new ≡ run sink.old (leaf_pieces (length sink.old.labels) after.0 (resolved_instruction state.now inst.now))) }
+    ensures lacks { (flags : IsaFlags) (depth : ℕ) → MembersPassed sink.old after.0 depth (instruction_size (resolved_instruction state.now inst.now)) (leaf_cause flags sink.old.block_count (length sink.old.labels) depth (resolved_instruction state.now inst.now)) → LacksMemory result }
+    ensures range { OnOk result (InRange (resolved_instruction state.now inst.now)) }
     ensures kept { Keeps sink.old sink.new }
 {
     match find_alone(inst) {
-        Some(found) => emit_alone(sink, &found.row),
-        None => emit_branch(sink, inst, after),
+        Some(found) => emit_alone(sink, &found.row, stop_code(inst)),
+        None => emit_other(sink, state, inst, after),
     }
 }

@@ -6,11 +6,17 @@ pub mod bits;
 pub mod causes;
 pub mod check;
 pub mod completeness;
+pub mod emit;
 pub mod function;
 pub mod headline;
 pub mod leaf;
+pub mod memory;
 pub mod moves;
 pub mod opcode;
+pub mod stops;
+pub mod symbol;
+pub mod table;
 pub mod tree;
 
+pub use emit::{MachInstEmit, put, put_with_trap};
 pub use function::emit_function;

@@ -13,56 +13,67 @@ ghost use Rattle.s390x_emit_int.specs.Room.{HasRoom, TreePassed, LacksMemory};
 use crate::leaf::{emit_leaf, put_branch};
 use s390x_base::{Cond, EmitError, MachLabel};
 use s390x_buffer::MachBuffer;
-use s390x_inst::Inst;
+use s390x_inst::{EmitState, Inst};
 
 /// Emits instructions in order, each with its step place; `after` is the label behind the innermost loop.
 #[cycle(members)]
 pub fn emit_members(
     sink: &mut MachBuffer,
+    state: &EmitState,
     insts: &[Inst],
     after: MachLabel,
 ) -> Result<(), EmitError>
     requires { HasRoom sink.old }
-    ensures answer { OnOk result (sink.new ≡ run sink.old (pieces (length sink.old.labels) after.0 (tree insts.now))) }
-    ensures lacks { (flags : IsaFlags) (depth : ℕ) → TreePassed flags sink.old after.0 depth (tree insts.now) → LacksMemory result }
-    ensures ranges { OnOk result (AllInRange (tree insts.now)) }
+    ensures answer { OnOk result (sink.new ≡ run sink.old (pieces (length sink.old.labels) after.0 (tree state.now insts.now))) }
+    ensures lacks { (flags : IsaFlags) (depth : ℕ) → TreePassed flags sink.old after.0 depth (tree state.now insts.now) → LacksMemory result }
+    ensures ranges { OnOk result (AllInRange (tree state.now insts.now)) }
     ensures kept { Keeps sink.old sink.new }
 {
     for inst in insts {
         sink.start_step()?;
-        emit_inst(sink, inst, after)?;
+        emit_inst(sink, state, inst, after)?;
     }
     Ok(())
 }
 
 /// Emits an instruction.
 #[cycle(members)]
-pub fn emit_inst(sink: &mut MachBuffer, inst: &Inst, after: MachLabel) -> Result<(), EmitError>
+pub fn emit_inst(
+    sink: &mut MachBuffer,
+    state: &EmitState,
+    inst: &Inst,
+    after: MachLabel,
+) -> Result<(), EmitError>
     requires { HasRoom sink.old }
-    ensures answer { OnOk result (sink.new ≡ run sink.old (own_pieces (length sink.old.labels) after.0 (graft inst.now empty))) }
-    ensures lacks { (flags : IsaFlags) (depth : ℕ) → TreePassed flags sink.old after.0 depth (graft inst.now empty) → LacksMemory result }
-    ensures ranges { OnOk result (AllInRange (graft inst.now empty)) }
+    ensures answer { OnOk result (sink.new ≡ run sink.old (own_pieces (length sink.old.labels) after.0 (graft state.now inst.now empty))) }
+    ensures lacks { (flags : IsaFlags) (depth : ℕ) → TreePassed flags sink.old after.0 depth (graft state.now inst.now empty) → LacksMemory result }
+    ensures ranges { OnOk result (AllInRange (graft state.now inst.now empty)) }
     ensures kept { Keeps sink.old sink.new }
 {
     match inst {
-        Inst::Loop { cond, body } => emit_loop(sink, *cond, body),
-        _ => emit_leaf(sink, inst, after),
+        Inst::Loop { cond, body } => emit_loop(sink, state, *cond, body),
+        _ => emit_leaf(sink, state, inst, after),
     }
 }
 
 #[cycle(members)]
-fn emit_loop(sink: &mut MachBuffer, cond: Cond, body: &[Inst]) -> Result<(), EmitError>
+fn emit_loop(
+    sink: &mut MachBuffer,
+    state: &EmitState,
+    cond: Cond,
+    body: &[Inst],
+) -> Result<(), EmitError>
     requires { HasRoom sink.old }
-    ensures answer { OnOk result (sink.new ≡ run sink.old (own_pieces (length sink.old.labels) 0 (looped cond (tree body.now) empty))) }
-    ensures lacks { (flags : IsaFlags) (depth after : ℕ) → TreePassed flags sink.old after depth (looped cond (tree body.now) empty) → LacksMemory result }
-    ensures ranges { OnOk result (AllInRange (looped cond (tree body.now) empty)) }
+    ensures answer { OnOk result (sink.new ≡ run sink.old (own_pieces (length sink.old.labels) 0 (looped cond (tree state.now body.now) empty))) }
+    ensures lacks { (flags : IsaFlags) (depth after : ℕ) → TreePassed flags sink.old after depth (looped cond (tree state.now body.now) empty) → LacksMemory result }
+    ensures ranges { OnOk result (AllInRange (looped cond (tree state.now body.now) empty)) }
     ensures kept { Keeps sink.old sink.new }
 {
     let mask = cond.bits();
     let start = sink.get_label()?;
     let end = sink.get_label()?;
     sink.bind_label(start)?;
-    emit_members(sink, body, end)?;
+    emit_members(sink, state, body, end)?;
     sink.start_step()?;
     put_branch(sink, mask, start)?;
     sink.bind_label(end)

@@ -6,6 +6,7 @@ use Rattle.s390x_base.specs.declared.regs.RegClass.{RegClass}
 use Rattle.s390x_base.specs.declared.regs.RegClass.TheVariants.{Int, Float}
 use Rattle.s390x_base.specs.Regs.{number_of}
 
+-- the class of general registers
 abbrev pub is_int : RegClass → Bool
 is_int Int = true
 is_int Float = false
@@ -15,6 +16,7 @@ abbrev pub is_general : Reg → Bool
 is_general (Real r) = is_int r.class
 is_general (Virtual n c) = false
 
+-- the class of vector and float registers
 abbrev pub is_float_class : RegClass → Bool
 is_float_class Int = false
 is_float_class Float = true
@@ -40,10 +42,11 @@ is_first_float o =
 abbrev pub is_second_float : ℕ → Bool
 is_second_float o = (o == 0x28) || (o == 0x38) || (o == 0xb3cd)
 
--- the register may stand first, or second, in an instruction on general and float registers
+-- the register may stand first in an instruction with this opcode, on general and float registers
 abbrev pub may_stand_first : ℕ → Reg → Bool
 may_stand_first o r = cond (is_first_float o) (is_float r) (is_general r)
 
+-- the register may stand second there
 abbrev pub may_stand_second : ℕ → Reg → Bool
 may_stand_second o r = cond (is_second_float o) (is_float r) (is_general r)
 

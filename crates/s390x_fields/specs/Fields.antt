@@ -56,13 +56,16 @@ abbrev pub option_text : Option ℕ → List ℕ
 option_text None = codes "-"
 option_text (Some n) = decimal n
 
+-- the number, where there is one, lies in the range of its width
 abbrev pub IsOption : Width → Option ℕ → Type 0
 IsOption w None = Unit {0}
 IsOption w (Some n) = n < 2 ^ width_bits w
 
+-- the number that a word spells, or none
 abbrev pub option_of : Width → List ℕ → Option ℕ
 option_of w s = if bytes_eq s (codes "-") then None else Some (natural_of w s)
 
+-- a field of a line: its kind, and its value
 pub data Field : Type 0 where
   FReg : Reg → Field
   FReal : RealRegister → Field
@@ -100,6 +103,7 @@ pub data Field : Type 0 where
   FStart : RealRegister → ℕ → Field
   FFlags : IsaFlags → Field
 
+-- the kinds of fields; that of a number has its width
 pub data Kind : Type 0 where
   KReg : Kind
   KReal : Kind
@@ -137,6 +141,7 @@ pub data Kind : Type 0 where
   KStart : Kind
   KFlags : Kind
 
+-- the kind of a field
 abbrev pub kind_of : Field → Kind
 kind_of (FReg r) = KReg
 kind_of (FReal r) = KReal
@@ -174,6 +179,7 @@ kind_of (FBytes bs) = KBytes
 kind_of (FStart r v) = KStart
 kind_of (FFlags f) = KFlags
 
+-- the text of a field
 abbrev pub spell : Field → List ℕ
 spell (FReg r) = 32 ∷ reg_text r
 spell (FReal r) = 32 ∷ real_text r
@@ -249,7 +255,7 @@ IsField (FBytes bs) = IsBytes bs
 IsField (FStart r v) = IsRegister r × (v < value_limit r.class)
 IsField (FFlags f) = Unit {0}
 
--- the field of a kind that s begins with, and what follows it
+-- the field of a kind that a text begins with; where none stands there, some field of the kind
 abbrev pub value_as : Kind → List ℕ → Field
 value_as KReg s = FReg (reg_of (word s))
 value_as KReal s = FReal (real_of (word s))
@@ -287,6 +293,7 @@ value_as KBytes s = FBytes (bytes_of (word s))
 value_as KStart s = FStart (real_of (word s)) (value_of (real_of (word s)).class (word (after_word s)))
 value_as KFlags s = FFlags (facilities_of s)
 
+-- what follows the field of a kind that a text begins with
 abbrev pub after_as : Kind → List ℕ → List ℕ
 after_as KReg s = after_word s
 after_as KReal s = after_word s

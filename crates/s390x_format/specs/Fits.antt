@@ -7,6 +7,7 @@ use Rattle.s390x_format.specs.Layout.{bits, parts_of, width_of, SlotsFit}
 use Rattle.s390x_format.specs.Formats.{layout_of}
 use Rattle.s390x_format.specs.Widths.{widths_of}
 
+-- there are as many values as widths, and each value fits in its width
 abbrev pub AllFit : List ℕ → List ℕ → Type 0
 AllFit [] [] = Unit {0}
 AllFit [] (v ∷ vs) = ⊥

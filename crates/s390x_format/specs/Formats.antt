@@ -1,4 +1,4 @@
--- Each format's layout, its length, and where its opcode stands.
+-- Each format's layout, its length, and where its opcode stands (Principles of Operation, chapter 5, "Instruction formats").
 use Rattle.std.specs.Prelude.{ℕ, List}
 use Rattle.s390x_format.specs.declared.layout.Part.{Part}
 use Rattle.s390x_format.specs.declared.kind.FormatKind.{FormatKind}

@@ -12,6 +12,7 @@ use Rattle.s390x_format.specs.Reading.{no_row}
 abbrev pub no_first_byte : FirstByte
 no_first_byte = record { rest = Nowhere; start = 0; end = 0 }
 
+-- the two are the same place
 abbrev pub places_agree : RestPlace → RestPlace → Bool
 places_agree Nowhere Nowhere = true
 places_agree LowHalf LowHalf = true
@@ -30,6 +31,7 @@ unfoldable pub are_tight : ℕ → List FirstByte → List MachineRow → Bool
 are_tight b [] rs = true
 are_tight b (p ∷ ps) rs = nat_le p.end (length rs) && nat_le p.start p.end && nat_le (p.end - p.start) (rows_with b rs) && are_tight (b + 1) ps rs
 
+-- the parts are an index of the rows
 abbrev pub is_index : List MachineRow → List FirstByte → Bool
 is_index rs ps = are_indexed 0 rs ps && are_tight 0 ps rs
 

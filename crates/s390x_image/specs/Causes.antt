@@ -1,4 +1,4 @@
--- Why linking is refused: the base first, then each relocation in order.
+-- Why linking is refused: the base first, then each relocation in order (what a field can hold: the s390x supplement of the ELF ABI).
 use Rattle.std.specs.Prelude.{ℕ, ◌+◌, ◌%◌, ℤ, pos, negsuc, ◌-ℤ◌, Bool, cond, ◌&&◌, nat_eq, nat_le, int_lt, Option, Some, None, List, [], ◌∷◌, length}
 use Rattle.std.specs.Ordering.{int_eq}
 use Rattle.std.specs.Int.RustNames.{int_le, int_div, int_rem}

@@ -1,4 +1,4 @@
--- What each relocation stores, and where.
+-- What each relocation stores, and where (the s390x supplement of the ELF ABI: `R_390_PC32DBL`, `R_390_PLT32DBL`, `R_390_64`).
 use Rattle.std.specs.Prelude.{ℕ, ◌+◌, ◌<◌, ◌≤◌, ◌⊎◌, ℤ, pos, ◌+ℤ◌, ◌-ℤ◌, Option, Some, None, List, [], ◌∷◌, ◌++◌, length, take, drop}
 use Rattle.std.specs.Int.{w32, w64, cast_unsigned, to_be_bytes}
 use Rattle.std.specs.Int.RustNames.{int_div}

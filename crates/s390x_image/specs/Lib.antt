@@ -4,3 +4,4 @@ pub mod Fields
 pub mod Causes
 pub mod Filled
 pub mod ReadingBack
+pub mod Values

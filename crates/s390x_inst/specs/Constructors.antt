@@ -16,9 +16,11 @@ abbrev pub by_class : RegClass → (int float : Inst) → Inst
 by_class Int i f = i
 by_class Float i f = f
 
+-- the move of 32 bits in the class of its source
 abbrev pub move32_of : (rd rn : Reg) → Inst
 move32_of rd rn = by_class (class_of rn) (Mov32 rd rn) (Vector (FpuMove32 rd rn))
 
+-- the move of 64 bits in the class of its source
 abbrev pub move64_of : (rd rn : Reg) → Inst
 move64_of rd rn = by_class (class_of rn) (Mov64 rd rn) (Vector (FpuMove64 rd rn))
 
@@ -41,6 +43,7 @@ load_of rd mem I64X2 = Some (Vector (VecLoad rd mem))
 load_of rd mem F32X4 = Some (Vector (VecLoad rd mem))
 load_of rd mem F64X2 = Some (Vector (VecLoad rd mem))
 
+-- the store of a type, floats from lane 0; none for `I8X8`
 abbrev pub store_of : MemArg → Reg → ValueType → Option Inst
 store_of mem rd I8 = Some (Store8 rd mem)
 store_of mem rd I16 = Some (Store16 rd mem)

@@ -1,4 +1,4 @@
--- The facility that an instruction needs. What isn't named is part of the base.
+-- The facility that an instruction needs (cranelift-codegen, `mod.rs`). What isn't named is part of the base.
 use Rattle.std.specs.Prelude.{Bool, true}
 use Rattle.s390x_inst.specs.declared.facility.InstructionSet.{InstructionSet}
 use Rattle.s390x_inst.specs.declared.facility.InstructionSet.TheVariants.{Base, MIE3, MIE4, VXRS_EXT2, VXRS_EXT3}
@@ -128,7 +128,7 @@ facility_of (LoadLogicalIndexedAddr rd base index offset size) = MIE4
 facility_of (Vector v) = vec_facility v
 facility_of _ = Base
 
--- whether the flags have a facility; every machine has the base
+-- whether the flags have a facility; the base always, which the crate's least machine has
 abbrev pub has_facility : IsaFlags → InstructionSet → Bool
 has_facility f Base = true
 has_facility f MIE3 = f.has_mie3

@@ -8,6 +8,7 @@ use Rattle.s390x_inst.specs.declared.args.MemArg.TheVariants.{BXD12, BXD20, Labe
 abbrev pub trusted : MachMemFlags
 trusted = record { aligned = true; trap = None }
 
+-- what is known of an operand's access: its flags, or where its form has none, that it is trusted
 abbrev pub flags_of : MemArg → MachMemFlags
 flags_of (BXD12 base index disp flags) = flags
 flags_of (BXD20 base index disp flags) = flags

@@ -11,7 +11,7 @@ use crate::vec_ops::{VecBinaryOp, VecIntCmpOp, VecUnaryOp};
 /// A set of instructions that a machine has as a whole, or not at all.
 #[derive(Clone, Copy, PartialEq, Eq, Debug)]
 pub enum InstructionSet {
-    /// What every machine has.
+    /// What the crate's least machine has; no flag tells it.
     Base,
     /// The miscellaneous-instruction-extensions facility 3.
     MIE3,

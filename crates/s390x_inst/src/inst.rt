@@ -594,6 +594,13 @@ pub enum Inst {
     Vector(VecInst),
 }
 
+impl Default for Inst {
+    /// Nothing: what stands in the unused places of a list.
+    fn default() -> Inst {
+        Inst::Nop0
+    }
+}
+
 impl fmt::Debug for Inst {
     fn fmt<W: fmt::Write>(&self, f: &mut fmt::Formatter<W>) -> fmt::Result {
         f.write_str("Inst")

@@ -15,7 +15,7 @@ use Rattle.s390x_inst.specs.declared.state.IsaFlags.{IsaFlags}
 use Rattle.s390x_lines.specs.Line.{spelled}
 use Rattle.s390x_job.specs.Items.{flags_line, frame_line, constant_line, symbol_line, register_line, memory_line}
 use Rattle.s390x_job.specs.Grammar.{may_follow, register_place, region_class, next, Header, Head}
-use Rattle.s390x_job.specs.Jobs.{flags_lines, frame_lines, start_lines, registers_lines, head_lines}
+use Rattle.s390x_job.specs.Jobs.{plain_layout, flags_lines, frame_lines, start_lines, registers_lines, head_lines}
 use Rattle.s390x_job.specs.Builds.{IsZeroFrom, IsFull, IsBeginning, IsNext, beginning_lines}
 use Rattle.s390x_job.specs.declared.job.SymbolLine.{SymbolLine}
 use Rattle.s390x_job.specs.declared.job.MemLine.{MemLine}
@@ -106,6 +106,10 @@ module _ (x : Line) where
 
 none2 : (a b : List Line) → a ≡ [] → b ≡ [] → a ++ b ≡ []
 none2 a b h k = rw (h, k) refl
+
+-- a frame that has a line
+told_not : (b : Bool) (l : Line) → b ≡ false → (if b then [] else l ∷ []) ≡ [] → ⊥
+told_not b l n e = let k : l ∷ [] ≡ [] = ap (λ t. if t then [] else l ∷ []) (sym n) ∙ e in cc
 
 module _ (rank bound : ℕ) (b : Beginning) (h : IsBeginning rank bound b) where
   no_regions : rank < 5 → map memory_line b.memory.items ≡ []
@@ -202,7 +206,7 @@ module _ (rank bound : ℕ) (b : Beginning) (h : IsBeginning rank bound b) where
       let fresh : frame_lines conv layout ≡ frame_lines b.conv b.layout ++ frame_line conv layout ∷ [] = rw (n, h.no_frame r) refl in
       record {
         state = record {
-          full = h.full;
+          full = record { frame = λ e. absurd (told_not (bytes_eq (spelled (frame_line conv layout).fields) (codes " SystemV 0 0 0 0 0 0 - 0")) (frame_line conv layout) n e); general_count = h.full.general_count; vector_count = h.full.vector_count };
           no_flags = λ p q. absurd (omega (arith, p));
           framed = λ p. omega arith;
           no_frame = λ p. absurd (omega (arith, p));
@@ -248,7 +252,7 @@ module _ (rank bound : ℕ) (b : Beginning) (h : IsBeginning rank bound b) where
         | inr l ↦ let z = h.next_registers l.0 in record { general_zero = λ i k. z.general_zero i (omega (arith, l.1)); vector_zero = λ i k. z.vector_zero i (omega (arith, l.1)) }
       ]
 
-  registers_next : (x : RealRegister) (v first : ℕ) (r : StartRegs) → register_place x ≡ first → (v == 0) ≡ false → may_follow rank bound 4 first ≡ true → IsFull r → IsZeroFrom (first + 1) r → registers_lines r ≡ registers_lines b.registers ++ register_line x v ∷ [] → IsNext (beginning_lines b) (Header rank bound) (register_line x v) (Begun (record b { registers = r }) S.Registers (first + 1))
+  registers_next : (x : RealRegister) (v first : ℕ) (r : StartRegs) → register_place x ≡ first → (v == 0) ≡ false → may_follow rank bound 4 first ≡ true → IsFull b.conv b.layout r → IsZeroFrom (first + 1) r → registers_lines r ≡ registers_lines b.registers ++ register_line x v ∷ [] → IsNext (beginning_lines b) (Header rank bound) (register_line x v) (Begun (record b { registers = r }) S.Registers (first + 1))
   registers_next x v first r p n f full z e =
       let m = h.no_memory (omega (arith, at_most 4 first f)) in
       let tail = map memory_line b.memory.items in
@@ -275,14 +279,14 @@ module _ (rank bound : ℕ) (b : Beginning) (h : IsBeginning rank bound b) where
       let g = b.registers.general in
       let rest = no_starts vector 0 b.registers.vector (λ j. z.vector_zero j (omega arith)) in
       let one = one_start general 0 g i v (omega (arith, h.full.general_count)) (λ j k. z.general_zero j k) n ∙ ap (λ m. start_lines general 0 g ++ register_line (general m) v ∷ []) (zero-add i) in
-      registers_next (general i) v i (record b.registers { general = set g i v }) (zero-add i) n f (record { general_count = length-set g i v ∙ h.full.general_count; vector_count = h.full.vector_count }) (record { general_zero = zero_after g i v z.general_zero; vector_zero = λ j k. z.vector_zero j (omega arith) }) (ap (λ t. t ++ start_lines vector 0 b.registers.vector) one ∙ more1 (register_line (general i) v) (start_lines general 0 g) (start_lines vector 0 b.registers.vector) rest)
+      registers_next (general i) v i (record b.registers { general = set g i v }) (zero-add i) n f (record { frame = h.full.frame; general_count = length-set g i v ∙ h.full.general_count; vector_count = h.full.vector_count }) (record { general_zero = zero_after g i v z.general_zero; vector_zero = λ j k. z.vector_zero j (omega arith) }) (ap (λ t. t ++ start_lines vector 0 b.registers.vector) one ∙ more1 (register_line (general i) v) (start_lines general 0 g) (start_lines vector 0 b.registers.vector) rest)
 
   pub vector_next : (i v : ℕ) → i < 32 → (v == 0) ≡ false → may_follow rank bound 4 (16 + i) ≡ true → IsNext (beginning_lines b) (Header rank bound) (register_line (vector i) v) (Begun (record b { registers = record b.registers { vector = set b.registers.vector i v } }) S.Registers (16 + i + 1))
   vector_next i v small n f =
       let z = zeros (16 + i) f in
       let g = b.registers.vector in
       let one = one_start vector 0 g i v (omega (arith, h.full.vector_count)) (λ j k. z.vector_zero j (omega arith)) n ∙ ap (λ m. start_lines vector 0 g ++ register_line (vector m) v ∷ []) (zero-add i) in
-      registers_next (vector i) v (16 + i) (record b.registers { vector = set g i v }) refl n f (record { general_count = h.full.general_count; vector_count = length-set g i v ∙ h.full.vector_count }) (record { general_zero = λ j k. z.general_zero j (omega arith); vector_zero = λ j k. zero_after g i v (λ a c. z.vector_zero a (omega arith)) j (omega arith) }) (ap (λ t. start_lines general 0 b.registers.general ++ t) one ∙ sym (append_assoc (start_lines general 0 b.registers.general) (start_lines vector 0 g) (register_line (vector i) v ∷ [])))
+      registers_next (vector i) v (16 + i) (record b.registers { vector = set g i v }) refl n f (record { frame = h.full.frame; general_count = h.full.general_count; vector_count = length-set g i v ∙ h.full.vector_count }) (record { general_zero = λ j k. z.general_zero j (omega arith); vector_zero = λ j k. zero_after g i v (λ a c. z.vector_zero a (omega arith)) j (omega arith) }) (ap (λ t. start_lines general 0 b.registers.general ++ t) one ∙ sym (append_assoc (start_lines general 0 b.registers.general) (start_lines vector 0 g) (register_line (vector i) v ∷ [])))
 
 -- no line is told yet
 abbrev is_zeros : List ℕ → Bool
@@ -310,9 +314,6 @@ no_registers = record { general = general_zeros; vector = vector_zeros }
 abbrev no_facilities : IsaFlags
 no_facilities = record { has_mie3 = false; has_mie4 = false; has_vxrs_ext2 = false; has_vxrs_ext3 = false }
 
-abbrev plain_layout : FrameLayout
-plain_layout = record { incoming_args_size = 0; tail_args_size = 0; clobber_size = 0; fixed_frame_storage_size = 0; stackslots_size = 0; outgoing_args_size = 0; first_saved_gpr = None; saved_fprs = 0 }
-
 abbrev pub beginning : Vec ConstantData Global → Vec SymbolLine Global → Vec MemLine Global → Beginning
 beginning cs ss ms = record { flags = no_facilities; conv = SystemV; layout = plain_layout; constants = cs; symbols = ss; registers = no_registers; memory = ms }
 
@@ -324,7 +325,7 @@ plain_frame = rw (decimal_digit 0 (omega arith)) refl
 
 pub start_state : (cs : Vec ConstantData Global) (ss : Vec SymbolLine Global) (ms : Vec MemLine Global) → cs.items ≡ [] → ss.items ≡ [] → ms.items ≡ [] → IsBeginning 0 0 (beginning cs ss ms)
 start_state cs ss ms c s m = record {
-  full = record { general_count = refl; vector_count = refl };
+  full = record { frame = λ e. (refl, refl); general_count = refl; vector_count = refl };
   no_flags = λ p q. refl;
   framed = λ p. absurd (omega (arith, p));
   no_frame = λ p. plain_frame;

@@ -134,7 +134,7 @@ nil (x ∷ s) h = absurd (omega arith)
 
 pub accept : (bytes : List ℕ) (j : Job) (rest : List ℕ) → Inv bytes (job_lines j) AtEnd rest → IsWhole j → length rest ≡ 0 → IsJob j × (text_of_job j ≡ bytes)
 accept bytes j rest i w n =
-    (record { lines = i.oks; order = i.runs; state = w.state; general_count = w.full.general_count; vector_count = w.full.vector_count }, sym (i.text ∙ ap (λ r. lines_text (job_lines j) ++ r) (nil rest n) ∙ append-nil (lines_text (job_lines j))))
+    (record { lines = i.oks; order = i.runs; state = w.state; frame = w.full.frame; general_count = w.full.general_count; vector_count = w.full.vector_count }, sym (i.text ∙ ap (λ r. lines_text (job_lines j) ++ r) (nil rest n) ∙ append-nil (lines_text (job_lines j))))
 
 -- one more line
 pub either : (b : Bool) → (b ≡ true) ⊎ (b ≡ false)

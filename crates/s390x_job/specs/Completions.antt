@@ -4,14 +4,16 @@ use Rattle.std.specs.Str.{bytes_eq}
 use Rattle.s390x_job.specs.Jobs.{text_of_job, IsJob}
 use Rattle.s390x_job.specs.declared.job.Job.{Job}
 
--- the pieces that end with a line feed
+-- the lines of a text that end with a line feed; w is what the first one begins with
 abbrev pub pieces_from : List ℕ → List ℕ → List (List ℕ)
 pieces_from w [] = []
 pieces_from w (x ∷ s) = if x == 10 then w ∷ pieces_from [] s else pieces_from (w ++ x ∷ []) s
 
+-- the lines of a text, without what stands behind the last line feed
 abbrev pub pieces : List ℕ → List (List ℕ)
 pieces s = pieces_from [] s
 
+-- the text of lines, each with its line feed
 abbrev pub joined : List (List ℕ) → List ℕ
 joined [] = []
 joined (w ∷ ws) = w ++ (10 ∷ joined ws)
@@ -36,12 +38,15 @@ abbrev pub closing : ℕ → List ℕ
 closing zero = codes "end" ++ 10 ∷ []
 closing (suc n) = codes "endloop" ++ (10 ∷ closing n)
 
+-- the text that these lines lack: none behind a line `end`; else an `endloop` for each loop that is open, and `end`
 abbrev pub ending : List (List ℕ) → List ℕ
 ending ws = if ends false ws then [] else closing (opens ws - closes ws)
 
+-- the text of lines, completed
 abbrev pub completion : List (List ℕ) → List ℕ
 completion ws = joined ws ++ ending ws
 
+-- the bytes are the text of a job
 abbrev pub IsText : List ℕ → Type 0
 IsText s = (j : Job) × IsJob j × (text_of_job j ≡ s)
 

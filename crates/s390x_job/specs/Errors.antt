@@ -14,6 +14,7 @@ pub record IsStuck (bytes : List ℕ) (k : ℕ) : Type 0 where
   pub no_job : (j : Job) → IsJob j → text_of_job j ≡ bytes → ⊥
   pub above : (m : ℕ) → k < m → m ≤ length (pieces bytes) → IsText (completion (take m (pieces bytes))) → ⊥
 
+-- what was found is so: the job has this text, or no job has it and no completion of more lines is one
 abbrev pub IsFound : List ℕ → Found → Type 0
 IsFound bytes (Whole j) = IsJob j × (text_of_job j ≡ bytes)
 IsFound bytes (Stuck k) = IsStuck bytes k

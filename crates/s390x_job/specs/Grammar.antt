@@ -37,6 +37,7 @@ abbrev pub class_place : RegClass → ℕ
 class_place Int = 0
 class_place Float = 16
 
+-- the place of a register among all
 abbrev pub register_place : RealRegister → ℕ
 register_place r = class_place r.class + r.number
 
@@ -49,10 +50,12 @@ register_class _ = Never
 abbrev pub region_class : ℕ → ℕ → Class
 region_class address size = if (size == 0) || nat_lt (2 ^ 64) (address + size) then Never else Head 5 address (address + size)
 
+-- the class of a line `mem`: that of its region
 abbrev pub memory_class : List Field → Class
 memory_class (FNatural w address ∷ FBytes bytes ∷ fs) = region_class address (length bytes)
 memory_class _ = Never
 
+-- the class of a line of this name with these fields
 abbrev pub class_of : LineName → List Field → Class
 class_of N.FlagsLine fs = flags_class fs
 class_of N.FrameLine fs = frame_class fs
@@ -66,6 +69,7 @@ class_of N.EndLoopLine fs = CloseLoop
 class_of N.EndLine fs = Ending
 class_of n fs = Instruction
 
+-- the class of a line
 abbrev pub class : Line → Class
 class l = class_of l.name l.fields
 

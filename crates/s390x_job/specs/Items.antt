@@ -16,36 +16,47 @@ use Rattle.s390x_job.specs.declared.job.MemLine.{MemLine}
 use Rattle.s390x_job.specs.declared.item.Item.{Item}
 use Rattle.s390x_job.specs.declared.item.Item.TheVariants as Is
 
+-- `flags` and the facilities that are set
 abbrev pub flags_line : IsaFlags → Line
 flags_line f = record { name = N.FlagsLine; fields = FFlags f ∷ [] }
 
+-- `frame`, the convention, the six sizes, the first saved register and the saved float registers
 abbrev pub frame_line : CallConv → FrameLayout → Line
 frame_line conv l = record { name = N.FrameLine; fields = FConvention conv ∷ FNatural W32 l.incoming_args_size ∷ FNatural W32 l.tail_args_size ∷ FNatural W32 l.clobber_size ∷ FNatural W32 l.fixed_frame_storage_size ∷ FNatural W32 l.stackslots_size ∷ FNatural W32 l.outgoing_args_size ∷ FOption W8 l.first_saved_gpr ∷ FNatural W16 l.saved_fprs ∷ [] }
 
+-- `const`, the alignment and the bytes of a constant
 abbrev pub constant_line : ConstantData → Line
 constant_line c = record { name = N.ConstantLine; fields = FNatural W32 c.align ∷ FBytes c.bytes.items ∷ [] }
 
+-- `symbol`, a name and its address
 abbrev pub symbol_line : SymbolLine → Line
 symbol_line s = record { name = N.SymbolLine; fields = FName s.name.0 ∷ FNatural W64 s.address ∷ [] }
 
+-- `reg`, a register and the value with which it starts
 abbrev pub register_line : RealRegister → ℕ → Line
 register_line r v = record { name = N.RegisterLine; fields = FStart r v ∷ [] }
 
+-- `mem`, the address of a region and its bytes
 abbrev pub memory_line : MemLine → Line
 memory_line m = record { name = N.MemoryLine; fields = FNatural W64 m.address ∷ FBytes m.bytes.items ∷ [] }
 
+-- `block`, which begins a block
 abbrev pub block_line : Line
 block_line = record { name = N.BlockLine; fields = [] }
 
+-- `Loop` and its mask; the lines of its members follow
 abbrev pub loop_line : ℕ → Line
 loop_line c = record { name = N.Loop; fields = FCond c ∷ [] }
 
+-- `endloop`, behind the members of a loop
 abbrev pub close_line : Line
 close_line = record { name = N.EndLoopLine; fields = [] }
 
+-- `end`, the last line
 abbrev pub end_line : Line
 end_line = record { name = N.EndLine; fields = [] }
 
+-- the line of a part
 abbrev pub item_line : Item → Line
 item_line (Is.Flags f) = flags_line f
 item_line (Is.Frame f) = frame_line f.conv f.layout

@@ -249,7 +249,7 @@ fn head_memory(
 }
 
 fn head_end(alloc: Global, b: Beginning) -> State
-    requires { IsFull b.registers }
+    requires { IsFull b.conv b.layout b.registers }
     ensures whole { IsState result }
     ensures lines { state_lines result ≡ beginning_lines b ++ end_line ∷ [] }
     ensures place { place_of result ≡ AtEnd }
@@ -259,7 +259,7 @@ fn head_end(alloc: Global, b: Beginning) -> State
 
 /// The job of these blocks.
 fn job_of(b: Beginning, blocks: Vec<Block>) -> Job
-    requires { IsFull b.registers }
+    requires { IsFull b.conv b.layout b.registers }
     ensures lines { job_lines result ≡ beginning_lines b ++ (blocks_lines blocks.items ++ end_line ∷ []) }
     ensures whole { IsWhole result }
 {
@@ -312,8 +312,8 @@ fn head(
 /// The block ends, and one more begins.
 fn shut(alloc: Global, b: Body) -> Result<Body, AllocError>
     requires none { b.loops.items ≡ [] }
-    requires full { IsFull b.beginning.registers }
-    ensures { IfOk result (λ r. IsFull r.beginning.registers × (body_lines r ≡ body_lines b ++ block_line ∷ []) × (r.loops.items ≡ [])) }
+    requires full { IsFull b.beginning.conv b.beginning.layout b.beginning.registers }
+    ensures { IfOk result (λ r. IsFull r.beginning.conv r.beginning.layout r.beginning.registers × (body_lines r ≡ body_lines b ++ block_line ∷ []) × (r.loops.items ≡ [])) }
 {
     let Body {
         beginning,
@@ -334,7 +334,7 @@ fn shut(alloc: Global, b: Body) -> Result<Body, AllocError>
 /// The block ends, and with it the job.
 fn finish(b: Body) -> Result<Job, AllocError>
     requires none { b.loops.items ≡ [] }
-    requires full { IsFull b.beginning.registers }
+    requires full { IsFull b.beginning.conv b.beginning.layout b.beginning.registers }
     ensures { IfOk result (λ r. IsWhole r × (job_lines r ≡ body_lines b ++ end_line ∷ [])) }
 {
     let Body {
@@ -349,8 +349,8 @@ fn finish(b: Body) -> Result<Job, AllocError>
 }
 
 fn open(alloc: Global, b: Body, cond: Cond) -> Result<Body, AllocError>
-    requires { IsFull b.beginning.registers }
-    ensures { IfOk result (λ r. IsFull r.beginning.registers × (body_lines r ≡ body_lines b ++ loop_line cond ∷ []) × (length r.loops.items ≡ suc (length b.loops.items))) }
+    requires { IsFull b.beginning.conv b.beginning.layout b.beginning.registers }
+    ensures { IfOk result (λ r. IsFull r.beginning.conv r.beginning.layout r.beginning.registers × (body_lines r ≡ body_lines b ++ loop_line cond ∷ []) × (length r.loops.items ≡ suc (length b.loops.items))) }
 {
     let Body {
         beginning,
@@ -370,8 +370,8 @@ fn open(alloc: Global, b: Body, cond: Cond) -> Result<Body, AllocError>
 
 fn close(b: Body) -> Result<Body, AllocError>
     requires some { 0 < length b.loops.items }
-    requires full { IsFull b.beginning.registers }
-    ensures { IfOk result (λ r. IsFull r.beginning.registers × (body_lines r ≡ body_lines b ++ close_line ∷ []) × (suc (length r.loops.items) ≡ length b.loops.items)) }
+    requires full { IsFull b.beginning.conv b.beginning.layout b.beginning.registers }
+    ensures { IfOk result (λ r. IsFull r.beginning.conv r.beginning.layout r.beginning.registers × (body_lines r ≡ body_lines b ++ close_line ∷ []) × (suc (length r.loops.items) ≡ length b.loops.items)) }
 {
     let Body {
         beginning,
@@ -398,8 +398,8 @@ fn close(b: Body) -> Result<Body, AllocError>
 
 fn add(b: Body, x: Inst) -> Result<Body, AllocError>
     requires one { class (inst_line x) ≡ Instruction }
-    requires full { IsFull b.beginning.registers }
-    ensures { IfOk result (λ r. IsFull r.beginning.registers × (body_lines r ≡ body_lines b ++ inst_line x ∷ []) × (length r.loops.items ≡ length b.loops.items)) }
+    requires full { IsFull b.beginning.conv b.beginning.layout b.beginning.registers }
+    ensures { IfOk result (λ r. IsFull r.beginning.conv r.beginning.layout r.beginning.registers × (body_lines r ≡ body_lines b ++ inst_line x ∷ []) × (length r.loops.items ≡ length b.loops.items)) }
 {
     let Body {
         beginning,
@@ -419,7 +419,7 @@ fn add(b: Body, x: Inst) -> Result<Body, AllocError>
 
 fn inside(alloc: Global, b: Body, i: Item) -> Result<Option<State>, AllocError>
     requires item { IsItem i }
-    requires full { IsFull b.beginning.registers }
+    requires full { IsFull b.beginning.conv b.beginning.layout b.beginning.registers }
     ensures { IfOk result (Follows (body_lines b) (Within (length b.loops.items)) (item_line i)) }
 {
     match i {

@@ -40,7 +40,8 @@ pub struct Job {
 /// Why bytes are not read as a job.
 #[derive(Debug, Drop, Error)]
 pub enum LineError {
-    /// They are the text of no job; the line is the first one with which no text of a job goes on.
+    /// They are the text of no job. The line is 1 plus the greatest k that is 0 or for which the first k lines can be
+    /// completed to the text of a job, by the lines `endloop` and `end` that they lack.
     #[error("syntax {line}")]
     Syntax { line: u32 },
     /// No memory.

@@ -14,7 +14,7 @@ use crate::reader::{read_item, read_job};
 use s390x_words::marks::{after, before};
 use std::alloc::{AllocError, Global};
 
-/// What a reader found: a job, or so many lines that one may begin with.
+/// What a reader found: a job, or a number of lines where the text is no job's: no more of them can be completed to one.
 #[derive(Drop)]
 pub enum Found {
     Whole(Job),
@@ -162,7 +162,7 @@ pub fn line_number(alloc: Global, ws: &[&[u8]], top: usize) -> Result<usize, All
     Ok(1)
 }
 
-/// The job whose text this is, or how many lines of it a job's text may begin with.
+/// The job whose text this is. Where there is none, a number of its lines: no more of them can be completed to a job's text.
 pub fn find_job(alloc: Global, bytes: &[u8]) -> Result<Found, AllocError>
     requires { length bytes.now < 4294967295 }
     ensures { IfOk result (IsFound bytes.now) }

@@ -32,11 +32,12 @@ saturated_bits w x =
     if nat_lt x (2 ^ (2 * w - 1)) then min x (2 ^ (w - 1) - 1)
     else (if nat_le (2 ^ (2 * w) - x) (2 ^ (w - 1)) then 2 ^ w - (2 ^ (2 * w) - x) else 2 ^ (w - 1))
 
--- a signed quotient and its remainder
+-- a signed quotient, rounded towards zero
 abbrev pub quotient_bits : ℕ → ℕ → ℕ → ℕ
 quotient_bits w x y =
     if nat_lt x (2 ^ (w - 1)) then (if nat_lt y (2 ^ (w - 1)) then magnitude w x / magnitude w y else negated w (magnitude w x / magnitude w y))
     else (if nat_lt y (2 ^ (w - 1)) then negated w (magnitude w x / magnitude w y) else magnitude w x / magnitude w y)
 
+-- its remainder
 abbrev pub remainder_bits : ℕ → ℕ → ℕ → ℕ
 remainder_bits w x y = if nat_lt x (2 ^ (w - 1)) then magnitude w x % magnitude w y else negated w (magnitude w x % magnitude w y)

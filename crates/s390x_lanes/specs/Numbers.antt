@@ -15,11 +15,12 @@ number Signed w x = if nat_lt x (2 ^ (w - 1)) then pos x else negsuc (2 ^ w - 1 
 abbrev pub wrapped : ℕ → ℤ → ℕ
 wrapped w z = unsigned_abs (int_rem_euclid z (pos (2 ^ w)))
 
--- the least and the greatest number that an element of w bits can hold
+-- the least number that an element of w bits can hold
 abbrev pub least : Signedness → ℕ → ℤ
 least Unsigned w = pos 0
 least Signed w = negsuc (2 ^ (w - 1) - 1)
 
+-- the greatest one
 abbrev pub greatest : Signedness → ℕ → ℤ
 greatest Unsigned w = pos (2 ^ w - 1)
 greatest Signed w = pos (2 ^ (w - 1) - 1)

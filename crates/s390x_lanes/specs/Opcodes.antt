@@ -72,9 +72,11 @@ is_operation (O.PermuteDoublewords a b) = nat_lt a 2 && nat_lt b 2
 is_operation (O.InsertImmediate size value index) = nat_lt index (lane_count size)
 is_operation _ = true
 
+-- the operation, where its sizes and numbers are allowed
 abbrev pub where_operation : VectorOperation → Option VectorOperation
 where_operation operation = if is_operation operation then Some operation else None
 
+-- the operation of a row with these masks and this immediate, where the row allows them
 abbrev pub row_operation : Option OpcodeRow → List ℕ → ℕ → Option VectorOperation
 row_operation None masks k = None
 row_operation (Some row) masks k =
@@ -87,6 +89,7 @@ abbrev pub immediate_bits : ℤ → Option ℕ
 immediate_bits (pos n) = if nat_lt n (2 ^ 16) then Some n else None
 immediate_bits (negsuc n) = None
 
+-- the same, where there is an immediate
 abbrev pub with_immediate : Option OpcodeRow → List ℕ → Option ℕ → Option VectorOperation
 with_immediate row masks None = None
 with_immediate row masks (Some k) = row_operation row masks k
@@ -106,6 +109,7 @@ is_computed O.Blend = false
 is_computed (O.Evaluate table) = false
 is_computed _ = true
 
+-- the operation, where the stepper computes it
 abbrev pub where_computed : Option VectorOperation → Option VectorOperation
 where_computed None = None
 where_computed (Some operation) = if is_computed operation then Some operation else None

@@ -11,6 +11,7 @@ use Rattle.s390x_lanes.specs.declared.operation.VectorOperation.{VectorOperation
 use Rattle.s390x_lanes.specs.declared.operation.VectorOperation.TheVariants.{Compare, Divide, ShiftByBits, CompareElement, Blend, Evaluate}
 
 -- ---- condition codes
+-- the comparison holds in lane i of two registers
 abbrev pub lane_compares : Comparison → ℕ → ℕ → ℕ → ℕ → Bool
 lane_compares comparison w x y i = compares comparison w (lane w x i) (lane w y i)
 
@@ -30,9 +31,11 @@ code_of (CompareElement sign size) first second third = Some (order_code sign (b
 code_of _ first second third = None
 
 -- ---- stops
+-- lane i is 0
 abbrev pub lane_is_zero : ℕ → ℕ → ℕ → Bool
 lane_is_zero w y i = lane w y i == 0
 
+-- the quotient of lane i doesn't fit
 abbrev pub lane_overflows : Signedness → ℕ → ℕ → ℕ → ℕ → Bool
 lane_overflows sign w x y i = quotient_overflows sign w (lane w x i) (lane w y i)
 

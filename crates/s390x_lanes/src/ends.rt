@@ -76,7 +76,7 @@ pub(crate) fn order_code(sign: Signedness, size: ElementSize, x: u128, y: u128) 
 }
 
 /// The condition code that an operation sets.
-pub(crate) fn code(operation: VectorOperation, first: u128, second: u128, third: u128) -> Option<u8>
+pub fn code(operation: VectorOperation, first: u128, second: u128, third: u128) -> Option<u8>
     ensures { result ≡ code_of operation first second third }
 {
     match operation {
@@ -121,7 +121,7 @@ pub(crate) fn some_overflow(sign: Signedness, size: ElementSize, x: u128, y: u12
 }
 
 /// Whether an operation divides by zero.
-pub(crate) fn divides_by_zero(operation: VectorOperation, third: u128) -> bool
+pub fn divides_by_zero(operation: VectorOperation, third: u128) -> bool
     ensures { result ≡ divides_by_zero_of operation third }
 {
     match operation {
@@ -131,7 +131,7 @@ pub(crate) fn divides_by_zero(operation: VectorOperation, third: u128) -> bool
 }
 
 /// Whether a quotient of an operation doesn't fit.
-pub(crate) fn division_overflows(operation: VectorOperation, second: u128, third: u128) -> bool
+pub fn division_overflows(operation: VectorOperation, second: u128, third: u128) -> bool
     ensures { result ≡ division_overflows_of operation second third }
 {
     match operation {

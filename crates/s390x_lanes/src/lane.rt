@@ -27,7 +27,7 @@ pub(crate) fn lane(w: u32, x: u128, i: u32) -> u128
 }
 
 /// Element `i` of `x`.
-pub(crate) fn element(size: ElementSize, x: u128, i: u32) -> u128
+pub fn element(size: ElementSize, x: u128, i: u32) -> u128
     requires { i < lane_count size }
     ensures value { result ≡ lane_of (bits size) x i }
     ensures fits { result < 2 ^ bits size }
@@ -36,7 +36,7 @@ pub(crate) fn element(size: ElementSize, x: u128, i: u32) -> u128
 }
 
 /// The lanes in `x`, and one more at the right.
-pub(crate) fn append(w: u32, x: u128, v: u128) -> u128
+pub fn append(w: u32, x: u128, v: u128) -> u128
     requires low { 0 < w }
     requires high { w ≤ 128 }
     requires fits { x * 2 ^ w + v < 2 ^ 128 }

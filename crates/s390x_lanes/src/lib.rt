@@ -2,15 +2,15 @@
 #![tactic(auto)]
 
 mod binary;
-mod ends;
-mod lane;
-mod lookup;
+pub mod ends;
+pub mod lane;
+pub mod lookup;
 mod number;
 pub mod opcodes;
 pub mod operation;
 mod places;
 mod products;
-mod results;
+pub mod results;
 pub mod size;
 pub mod step;
 #[cfg(test)]

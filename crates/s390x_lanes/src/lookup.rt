@@ -22,7 +22,7 @@ fn find(rows: &[OpcodeRow], opcode: u16) -> Option<OpcodeRow>
 }
 
 /// The size with an element-size code of 0 to 4.
-fn size_from(code: u8) -> ElementSize
+pub fn size_from(code: u8) -> ElementSize
     ensures { result ≡ size_of_code code }
 {
     if code == 0 {
@@ -183,7 +183,7 @@ fn operation_in_rows(
 }
 
 /// The operation with an opcode, masks and an immediate.
-pub(crate) fn operation(opcode: u16, masks: [u8; 3], imm: i64) -> Option<VectorOperation>
+pub fn operation(opcode: u16, masks: [u8; 3], imm: i64) -> Option<VectorOperation>
     ensures value { result ≡ operation_of opcode masks imm }
     ensures is_operation { MatchOption result (Unit {0}) (λ o. IsTrue (is_operation o)) }
 {
@@ -191,7 +191,7 @@ pub(crate) fn operation(opcode: u16, masks: [u8; 3], imm: i64) -> Option<VectorO
 }
 
 /// Whether the result of an operation is computed.
-pub(crate) fn computes(operation: VectorOperation) -> bool
+pub fn computes(operation: VectorOperation) -> bool
     ensures { result ≡ is_computed operation }
 {
     match operation {

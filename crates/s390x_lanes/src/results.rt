@@ -128,7 +128,7 @@ pub(crate) fn result_lane(operation: VectorOperation, first: u128, second: u128,
 }
 
 /// The whole result.
-pub(crate) fn result(
+pub fn result(
     operation: VectorOperation,
     first: u128,
     second: u128,

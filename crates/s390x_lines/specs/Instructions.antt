@@ -16,6 +16,7 @@ use Rattle.s390x_inst.specs.declared.inst.Inst.TheVariants as I
 use Rattle.s390x_inst.specs.declared.vec_inst.VecInst.{VecInst}
 use Rattle.s390x_inst.specs.declared.vec_inst.VecInst.TheVariants as V
 
+-- the line of an instruction on vector or float registers
 abbrev pub vector_line : VecInst → Line
 vector_line (V.VecRRR op rd rn rm) = record { name = N.Vector VectorIs.VecRRR; fields = FVecBinary op ∷ FReg rd ∷ FReg rn ∷ FReg rm ∷ [] }
 vector_line (V.VecRR op rd rn) = record { name = N.Vector VectorIs.VecRR; fields = FVecUnary op ∷ FReg rd ∷ FReg rn ∷ [] }
@@ -72,6 +73,7 @@ vector_line (V.VecInsertLaneImmUndef size rd imm lane_imm) = record { name = N.V
 vector_line (V.VecReplicateLane size rd rn lane_imm) = record { name = N.Vector VectorIs.VecReplicateLane; fields = FNatural W32 size ∷ FReg rd ∷ FReg rn ∷ FNatural W8 lane_imm ∷ [] }
 vector_line (V.VecEltRev lane_count rd rn) = record { name = N.Vector VectorIs.VecEltRev; fields = FNatural W64 lane_count ∷ FReg rd ∷ FReg rn ∷ [] }
 
+-- the line of an instruction; a loop's has its mask alone
 abbrev pub inst_line : Inst → Line
 inst_line (I.AluRRR alu_op rd rn rm) = record { name = N.Integer IntegerIs.AluRRR; fields = FAlu alu_op ∷ FReg rd ∷ FReg rn ∷ FReg rm ∷ [] }
 inst_line (I.AluRRSImm16 alu_op rd rn imm) = record { name = N.Integer IntegerIs.AluRRSImm16; fields = FAlu alu_op ∷ FReg rd ∷ FReg rn ∷ FInteger S16 imm ∷ [] }

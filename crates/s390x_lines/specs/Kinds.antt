@@ -13,6 +13,7 @@ use Rattle.s390x_lines.specs.declared.inst_name.VectorName.TheVariants as Vector
 use Rattle.s390x_lines.specs.declared.name.LineName.{LineName}
 use Rattle.s390x_lines.specs.declared.name.LineName.TheVariants as N
 
+-- of the instructions on general registers alone
 abbrev pub integer_kinds : IntegerName → List Kind
 integer_kinds IntegerIs.AluRRR = KAlu ∷ KReg ∷ KReg ∷ KReg ∷ []
 integer_kinds IntegerIs.AluRRSImm16 = KAlu ∷ KReg ∷ KReg ∷ KInteger S16 ∷ []
@@ -61,6 +62,7 @@ integer_kinds IntegerIs.Extend = KReg ∷ KReg ∷ KBool ∷ KNatural W8 ∷ KNa
 integer_kinds IntegerIs.LoadAR = KReg ∷ KNatural W8 ∷ []
 integer_kinds IntegerIs.InsertAR = KReg ∷ KReg ∷ KNatural W8 ∷ []
 
+-- of loads, stores, addresses and atomic instructions
 abbrev pub memory_kinds : MemoryName → List Kind
 memory_kinds MemoryIs.Load32 = KReg ∷ KMemory ∷ []
 memory_kinds MemoryIs.Load32ZExt8 = KReg ∷ KMemory ∷ []
@@ -97,6 +99,7 @@ memory_kinds MemoryIs.AtomicRmw = KAlu ∷ KReg ∷ KReg ∷ KMemory ∷ []
 memory_kinds MemoryIs.AtomicCas32 = KReg ∷ KReg ∷ KReg ∷ KMemory ∷ []
 memory_kinds MemoryIs.AtomicCas64 = KReg ∷ KReg ∷ KReg ∷ KMemory ∷ []
 
+-- of traps, branches and calls, and of what has no code
 abbrev pub control_kinds : ControlName → List Kind
 control_kinds ControlIs.Fence = []
 control_kinds ControlIs.Nop0 = []
@@ -120,6 +123,7 @@ control_kinds ControlIs.Rets = KRets ∷ []
 control_kinds ControlIs.DummyUse = KReg ∷ []
 control_kinds ControlIs.SequencePoint = []
 
+-- of the instructions on vector or float registers
 abbrev pub vector_kinds : VectorName → List Kind
 vector_kinds VectorIs.VecRRR = KVecBinary ∷ KReg ∷ KReg ∷ KReg ∷ []
 vector_kinds VectorIs.VecRR = KVecUnary ∷ KReg ∷ KReg ∷ []
@@ -176,6 +180,7 @@ vector_kinds VectorIs.VecInsertLaneImmUndef = KNatural W32 ∷ KReg ∷ KInteger
 vector_kinds VectorIs.VecReplicateLane = KNatural W32 ∷ KReg ∷ KReg ∷ KNatural W8 ∷ []
 vector_kinds VectorIs.VecEltRev = KNatural W64 ∷ KReg ∷ KReg ∷ []
 
+-- of every line
 abbrev pub kinds : LineName → List Kind
 kinds N.FlagsLine = KFlags ∷ []
 kinds N.FrameLine = KConvention ∷ KNatural W32 ∷ KNatural W32 ∷ KNatural W32 ∷ KNatural W32 ∷ KNatural W32 ∷ KNatural W32 ∷ KOption W8 ∷ KNatural W16 ∷ []

@@ -11,6 +11,7 @@ use Rattle.s390x_lines.specs.declared.inst_name.VectorName.TheVariants as Vector
 use Rattle.s390x_lines.specs.declared.name.LineName.{LineName}
 use Rattle.s390x_lines.specs.declared.name.LineName.TheVariants as N
 
+-- of the instructions on general registers alone
 abbrev pub integer_text : IntegerName → List ℕ
 integer_text IntegerIs.AluRRR = codes "AluRRR"
 integer_text IntegerIs.AluRRSImm16 = codes "AluRRSImm16"
@@ -59,6 +60,7 @@ integer_text IntegerIs.Extend = codes "Extend"
 integer_text IntegerIs.LoadAR = codes "LoadAR"
 integer_text IntegerIs.InsertAR = codes "InsertAR"
 
+-- of loads, stores, addresses and atomic instructions
 abbrev pub memory_text : MemoryName → List ℕ
 memory_text MemoryIs.Load32 = codes "Load32"
 memory_text MemoryIs.Load32ZExt8 = codes "Load32ZExt8"
@@ -95,6 +97,7 @@ memory_text MemoryIs.AtomicRmw = codes "AtomicRmw"
 memory_text MemoryIs.AtomicCas32 = codes "AtomicCas32"
 memory_text MemoryIs.AtomicCas64 = codes "AtomicCas64"
 
+-- of traps, branches and calls, and of what has no code
 abbrev pub control_text : ControlName → List ℕ
 control_text ControlIs.Fence = codes "Fence"
 control_text ControlIs.Nop0 = codes "Nop0"
@@ -118,6 +121,7 @@ control_text ControlIs.Rets = codes "Rets"
 control_text ControlIs.DummyUse = codes "DummyUse"
 control_text ControlIs.SequencePoint = codes "SequencePoint"
 
+-- of the instructions on vector or float registers
 abbrev pub vector_text : VectorName → List ℕ
 vector_text VectorIs.VecRRR = codes "VecRRR"
 vector_text VectorIs.VecRR = codes "VecRR"
@@ -174,6 +178,7 @@ vector_text VectorIs.VecInsertLaneImmUndef = codes "VecInsertLaneImmUndef"
 vector_text VectorIs.VecReplicateLane = codes "VecReplicateLane"
 vector_text VectorIs.VecEltRev = codes "VecEltRev"
 
+-- of every line
 abbrev pub name_text : LineName → List ℕ
 name_text N.FlagsLine = codes "flags"
 name_text N.FrameLine = codes "frame"

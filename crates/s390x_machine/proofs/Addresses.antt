@@ -32,8 +32,16 @@ read_backward : (t i : ℕ) → suc i < 2 ^ 31 → cast_signed w32 (half_distanc
 read_backward t i lt = ap (cast_signed w32) (backward t (suc i) (omega arith) lt) ∙ to_z-of_z w32 (negsuc i) (record { sfits = omega arith })
 
 -- a place plus a distance
-low_of : (z : ℤ) (m : ℕ) → z +ℤ pos (1 * 2 ^ 64) ≡ pos m → low Doubleword z ≡ m % 2 ^ 64
+pub low_of : (z : ℤ) (m : ℕ) → z +ℤ pos (1 * 2 ^ 64) ≡ pos m → low Doubleword z ≡ m % 2 ^ 64
 low_of z m e = ap unsigned_abs (int_rem_euclid_is z (pos (2 ^ 64)) (2 ^ 64) 1 m (omega arith) refl e)
+
+-- a place plus a number of bytes
+pub moved : (p n : ℕ) → low Doubleword (pos p +ℤ pos n) ≡ sum64 p n
+moved p n = low_of (pos p +ℤ pos n) (p + n + 2 ^ 64) (omega (arith, ints)) ∙ add-mod_right (p + n) (2 ^ 64)
+
+-- one that doesn't move
+pub unmoved : (p : ℕ) → low Doubleword (pos p +ℤ pos 0) ≡ p % 2 ^ 64
+unmoved p = low_of (pos p +ℤ pos 0) (p + 2 ^ 64) (omega (arith, ints)) ∙ add-mod_right p (2 ^ 64)
 
 lands_forward : (base o j : ℕ) → low Doubleword (pos (sum64 base o) +ℤ pos 2 *ℤ pos j) ≡ sum64 base (o + 2 * j)
 lands_forward base o j =

@@ -1,12 +1,12 @@
 -- The rows of the instructions that are one machine instruction on registers and immediates: each is listed, and does its instruction's operation.
-use Rattle.std.proofs.Common.{◌≡◌, ℕ, ◌%◌, ◌==◌, ◌&&◌, ◌<◌, List, [], ◌∷◌, Option, Some, None, Bool, true, false, cond, refl, ap, ◌∙◌, subst, arith, nat_lt, ltb-true, pos, ◌^◌}
+use Rattle.std.proofs.Common.{◌≡◌, ℕ, ◌%◌, ◌==◌, ◌&&◌, ◌<◌, List, [], ◌∷◌, get_or, Option, Some, None, Bool, true, false, cond, refl, ap, ◌∙◌, subst, arith, nat_lt, ltb-true, pos, ◌^◌}
 use Rattle.s390x_format.specs.declared.kind.FormatKind.{FormatKind}
 use Rattle.s390x_format.specs.declared.kind.FormatKind.TheVariants.{Rr, Rre, RrfAb, RiA, RieD, RilA}
 use Rattle.s390x_format.specs.declared.row.Allowed.{Allowed}
 use Rattle.s390x_format.specs.declared.row.Allowed.TheVariants.{Any, FirstMask}
 use Rattle.s390x_format.specs.Formats.{length_of, layout_of}
 use Rattle.s390x_format.specs.Layout.{SlotsFit}
-use Rattle.s390x_format.specs.Rows.{is_allowed}
+use Rattle.s390x_format.specs.Rows.{is_allowed, fetch_length_of}
 use Rattle.s390x_format.specs.Lookup.{row_for}
 use Rattle.s390x_format.specs.Fetch.{machine_rows}
 use Rattle.s390x_format.specs.Encoded.{decoded_of}
@@ -44,6 +44,7 @@ use Rattle.s390x_machine.specs.Machine.{Event, Acts, PairActs, RowActs, FetchedA
 use Rattle.s390x_machine.specs.Meanings.{action, meaning_in, meaning_of, names_pair, is_odd_pair, register_field}
 use Rattle.s390x_machine.specs.Layout.{Layout}
 use Rattle.s390x_machine.specs.Placed.{AllPlaced}
+use Rattle.s390x_machine.proofs.Decoding.{encoded_length}
 use Rattle.s390x_machine.proofs.Fetching.{StandsAt, row_at}
 use Rattle.s390x_machine.proofs.Rows.{fits_rr, fits_rre, fits_rrf_ab, fits_ri_a, fits_rie_d, fits_ril_a}
 use Rattle.s390x_machine.proofs.Simulation.{RowAt}
@@ -195,17 +196,17 @@ lr_row = record { some = omega arith; few = omega arith; lists = (refl, refl, re
 
 -- ---- rows of a register and an immediate
 
--- a row of these bits with a meaning; the immediate's rows of 16 and 32 bits have opcodes of three digits
-pub record ImmediateRow (kind : FormatKind) (digits opcode : ℕ) (meaning : Meaning) : Type 0 where
+-- a row of the table with a meaning, whose opcode is below a bound: those of two and three digits are below 256 and 4096
+pub record OpcodeRow (kind : FormatKind) (digits opcode : ℕ) (meaning : Meaning) : Type 0 where
   pub some : 0 < opcode
   pub few : opcode < digits
   pub lists : Lists opcode kind Any
   pub means : meaning_of opcode ≡ Some meaning
   pub single : names_pair meaning ≡ false
 
-abbrev pub ImmediateRows : FormatKind → ℕ → Option ℕ → Meaning → Type 0
-ImmediateRows kind digits None meaning = Unit {0}
-ImmediateRows kind digits (Some opcode) meaning = ImmediateRow kind digits opcode meaning
+abbrev pub OpcodeRows : FormatKind → ℕ → Option ℕ → Meaning → Type 0
+OpcodeRows kind digits None meaning = Unit {0}
+OpcodeRows kind digits (Some opcode) meaning = OpcodeRow kind digits opcode meaning
 
 -- an operator's meaning with an immediate that is read like this
 abbrev pub computed_immediate : Computation → Second → Shape → CodeRule → Meaning
@@ -214,7 +215,7 @@ computed_immediate c second shape rule = computed (on_immediate c second) shape 
 abbrev pub compared : Comparison → Meaning
 compared c = Compare c.sign c.size (second_register Immediate c.second)
 
-pub halfword_rows : (op : ALUOp) → ImmediateRows RiA 4096 (alu_halfword op) (computed_immediate (alu_computation op) signed_halfword Immediate (alu_two_rule op))
+pub halfword_rows : (op : ALUOp) → OpcodeRows RiA 4096 (alu_halfword op) (computed_immediate (alu_computation op) signed_halfword Immediate (alu_two_rule op))
 unfolding machine_rows row_for meaning_in meaning_of
 halfword_rows A.Add32 = record { some = omega arith; few = omega arith; lists = (refl, refl, refl); means = refl; single = refl }
 halfword_rows A.Add64 = record { some = omega arith; few = omega arith; lists = (refl, refl, refl); means = refl; single = refl }
@@ -222,13 +223,13 @@ halfword_rows A.Mul32 = record { some = omega arith; few = omega arith; lists = 
 halfword_rows A.Mul64 = record { some = omega arith; few = omega arith; lists = (refl, refl, refl); means = refl; single = refl }
 halfword_rows _ = tt
 
-pub three_halfword_rows : (op : ALUOp) → ImmediateRows RieD 65536 (alu_three_halfword op) (computed_immediate (alu_computation op) signed_halfword ThreeImmediate (alu_two_rule op))
+pub three_halfword_rows : (op : ALUOp) → OpcodeRows RieD 65536 (alu_three_halfword op) (computed_immediate (alu_computation op) signed_halfword ThreeImmediate (alu_two_rule op))
 unfolding machine_rows row_for meaning_in meaning_of
 three_halfword_rows A.Add32 = record { some = omega arith; few = omega arith; lists = (refl, refl, refl); means = refl; single = refl }
 three_halfword_rows A.Add64 = record { some = omega arith; few = omega arith; lists = (refl, refl, refl); means = refl; single = refl }
 three_halfword_rows _ = tt
 
-pub signed_word_rows : (op : ALUOp) → ImmediateRows RilA 4096 (alu_signed_word op) (computed_immediate (alu_computation op) signed_word Immediate (alu_two_rule op))
+pub signed_word_rows : (op : ALUOp) → OpcodeRows RilA 4096 (alu_signed_word op) (computed_immediate (alu_computation op) signed_word Immediate (alu_two_rule op))
 unfolding machine_rows row_for meaning_in meaning_of
 signed_word_rows A.Add32 = record { some = omega arith; few = omega arith; lists = (refl, refl, refl); means = refl; single = refl }
 signed_word_rows A.Add64 = record { some = omega arith; few = omega arith; lists = (refl, refl, refl); means = refl; single = refl }
@@ -236,7 +237,7 @@ signed_word_rows A.Mul32 = record { some = omega arith; few = omega arith; lists
 signed_word_rows A.Mul64 = record { some = omega arith; few = omega arith; lists = (refl, refl, refl); means = refl; single = refl }
 signed_word_rows _ = tt
 
-pub unsigned_word_rows : (op : ALUOp) → ImmediateRows RilA 4096 (alu_unsigned_word op) (computed_immediate (alu_computation op) word Immediate (alu_two_rule op))
+pub unsigned_word_rows : (op : ALUOp) → OpcodeRows RilA 4096 (alu_unsigned_word op) (computed_immediate (alu_computation op) word Immediate (alu_two_rule op))
 unfolding machine_rows row_for meaning_in meaning_of
 unsigned_word_rows A.AddLogical32 = record { some = omega arith; few = omega arith; lists = (refl, refl, refl); means = refl; single = refl }
 unsigned_word_rows A.AddLogical64 = record { some = omega arith; few = omega arith; lists = (refl, refl, refl); means = refl; single = refl }
@@ -244,37 +245,37 @@ unsigned_word_rows A.SubLogical32 = record { some = omega arith; few = omega ari
 unsigned_word_rows A.SubLogical64 = record { some = omega arith; few = omega arith; lists = (refl, refl, refl); means = refl; single = refl }
 unsigned_word_rows _ = tt
 
-pub cmp_halfword_rows : (op : CmpOp) → ImmediateRows RiA 4096 (cmp_halfword op) (compared (compares_on_immediate (comparison op) signed_halfword))
+pub cmp_halfword_rows : (op : CmpOp) → OpcodeRows RiA 4096 (cmp_halfword op) (compared (compares_on_immediate (comparison op) signed_halfword))
 unfolding machine_rows row_for meaning_in meaning_of
 cmp_halfword_rows C.CmpS32 = record { some = omega arith; few = omega arith; lists = (refl, refl, refl); means = refl; single = refl }
 cmp_halfword_rows C.CmpS64 = record { some = omega arith; few = omega arith; lists = (refl, refl, refl); means = refl; single = refl }
 cmp_halfword_rows _ = tt
 
-pub cmp_signed_word_rows : (op : CmpOp) → ImmediateRows RilA 4096 (cmp_signed_word op) (compared (compares_on_immediate (comparison op) signed_word))
+pub cmp_signed_word_rows : (op : CmpOp) → OpcodeRows RilA 4096 (cmp_signed_word op) (compared (compares_on_immediate (comparison op) signed_word))
 unfolding machine_rows row_for meaning_in meaning_of
 cmp_signed_word_rows C.CmpS32 = record { some = omega arith; few = omega arith; lists = (refl, refl, refl); means = refl; single = refl }
 cmp_signed_word_rows C.CmpS64 = record { some = omega arith; few = omega arith; lists = (refl, refl, refl); means = refl; single = refl }
 cmp_signed_word_rows _ = tt
 
-pub cmp_unsigned_word_rows : (op : CmpOp) → ImmediateRows RilA 4096 (cmp_unsigned_word op) (compared (compares_on_immediate (comparison op) word))
+pub cmp_unsigned_word_rows : (op : CmpOp) → OpcodeRows RilA 4096 (cmp_unsigned_word op) (compared (compares_on_immediate (comparison op) word))
 unfolding machine_rows row_for meaning_in meaning_of
 cmp_unsigned_word_rows C.CmpL32 = record { some = omega arith; few = omega arith; lists = (refl, refl, refl); means = refl; single = refl }
 cmp_unsigned_word_rows C.CmpL64 = record { some = omega arith; few = omega arith; lists = (refl, refl, refl); means = refl; single = refl }
 cmp_unsigned_word_rows _ = tt
 
-pub iilf_row : ImmediateRow RilA 4096 0xc09 (computed (on_words Move) Immediate Kept)
+pub iilf_row : OpcodeRow RilA 4096 0xc09 (computed (on_words Move) Immediate Kept)
 unfolding machine_rows row_for meaning_in meaning_of
 iilf_row = record { some = omega arith; few = omega arith; lists = (refl, refl, refl); means = refl; single = refl }
 
-pub lhi_row : ImmediateRow RiA 4096 0xa78 (computed_immediate (on_words Move) signed_halfword Immediate Kept)
+pub lhi_row : OpcodeRow RiA 4096 0xa78 (computed_immediate (on_words Move) signed_halfword Immediate Kept)
 unfolding machine_rows row_for meaning_in meaning_of
 lhi_row = record { some = omega arith; few = omega arith; lists = (refl, refl, refl); means = refl; single = refl }
 
-pub lghi_row : ImmediateRow RiA 4096 0xa79 (computed_immediate (on_doublewords Move) signed_halfword Immediate Kept)
+pub lghi_row : OpcodeRow RiA 4096 0xa79 (computed_immediate (on_doublewords Move) signed_halfword Immediate Kept)
 unfolding machine_rows row_for meaning_in meaning_of
 lghi_row = record { some = omega arith; few = omega arith; lists = (refl, refl, refl); means = refl; single = refl }
 
-pub lgfi_row : ImmediateRow RilA 4096 0xc01 (computed_immediate (on_doublewords Move) signed_word Immediate Kept)
+pub lgfi_row : OpcodeRow RilA 4096 0xc01 (computed_immediate (on_doublewords Move) signed_word Immediate Kept)
 unfolding machine_rows row_for meaning_in meaning_of
 lgfi_row = record { some = omega arith; few = omega arith; lists = (refl, refl, refl); means = refl; single = refl }
 
@@ -301,6 +302,11 @@ acts_as_meant m meaning operation means even does s event t h =
     let acts : Acts (action meaning (fields_of m.format m.slots) s.core.registers s.place) (size_of m) s event t = subst (λ b. PairActs b (action meaning (fields_of m.format m.slots) s.core.registers s.place) (size_of m) s event t) even meant in
     subst (λ a. Acts a (size_of m) s event t) (does s.core.registers s.place) acts
 
+-- the first byte of a row's bytes tells how many they are
+pub row_tells : (kind : FormatKind) (allowed : Allowed) (opcode : ℕ) (fields : List ℕ) → 0 < opcode → Lists opcode kind allowed → SlotsFit (layout_of kind) (opcode ∷ fields) → is_allowed allowed (opcode ∷ fields) ≡ true → fetch_length_of (get_or (bytes_of (record { format = kind; slots = opcode ∷ fields })) 0 0) ≡ length_of kind
+row_tells kind allowed opcode fields some lists fit allows =
+    encoded_length kind (opcode ∷ fields) fit (listed machine_rows kind (opcode ∷ fields) some (lists.0, lists.1, ap (λ a. is_allowed a (opcode ∷ fields)) lists.2 ∙ allows))
+
 -- ---- what the machine does there
 
 module _ (L : Layout) (all : AllPlaced L) (offset : ℕ) (even : offset % 2 ≡ 0) where
@@ -322,17 +328,17 @@ module _ (L : Layout) (all : AllPlaced L) (offset : ℕ) (even : offset % 2 ≡ 
   pub two_at : (opcode : ℕ) (meaning : Meaning) → TwoRow opcode meaning → (operation : Registers → Operation) (d m : ℕ) → d < 16 → m < 16 → ((r : Registers) (p : ℕ) → action meaning (register_fields d m 0) r p ≡ Perform (operation r)) → StandsAt L.image offset (bytes_of (two_operands opcode d m)) → RowAt L (sum64 L.image.base offset) (λ r. Perform (operation r)) (size_of (two_operands opcode d m))
   two_at opcode meaning row operation d m ld lm does s = two_at_as opcode meaning row operation d m ld lm does (nat_lt opcode 256) refl s
 
-  pub ri_a_at : (opcode : ℕ) (meaning : Meaning) → ImmediateRow RiA 4096 opcode meaning → (operation : Registers → Operation) (d bits : ℕ) → d < 16 → bits < 2 ^ 16 → ((r : Registers) (p : ℕ) → action meaning (immediate_fields RiA d 0 bits) r p ≡ Perform (operation r)) → StandsAt L.image offset (bytes_of (ri_a opcode d bits)) → RowAt L (sum64 L.image.base offset) (λ r. Perform (operation r)) (size_of (ri_a opcode d bits))
+  pub ri_a_at : (opcode : ℕ) (meaning : Meaning) → OpcodeRow RiA 4096 opcode meaning → (operation : Registers → Operation) (d bits : ℕ) → d < 16 → bits < 2 ^ 16 → ((r : Registers) (p : ℕ) → action meaning (immediate_fields RiA d 0 bits) r p ≡ Perform (operation r)) → StandsAt L.image offset (bytes_of (ri_a opcode d bits)) → RowAt L (sum64 L.image.base offset) (λ r. Perform (operation r)) (size_of (ri_a opcode d bits))
   ri_a_at opcode meaning row operation d bits ld lb does s =
       let x = ri_a opcode d bits in
       row_at L offset x (λ r. Perform (operation r)) all.even even all.fits s (fits_ri_a opcode d bits row.few ld lb) (listed machine_rows RiA x.slots row.some (row.lists.0, row.lists.1, ap (λ a. is_allowed a x.slots) row.lists.2)) (λ state event t at h. acts_as_meant x meaning operation row.means (single_pair meaning (fields_of x.format x.slots) row.single) does state event t h)
 
-  pub ril_a_at : (opcode : ℕ) (meaning : Meaning) → ImmediateRow RilA 4096 opcode meaning → (operation : Registers → Operation) (d bits : ℕ) → d < 16 → bits < 2 ^ 32 → ((r : Registers) (p : ℕ) → action meaning (immediate_fields RilA d 0 bits) r p ≡ Perform (operation r)) → StandsAt L.image offset (bytes_of (ril_a opcode d bits)) → RowAt L (sum64 L.image.base offset) (λ r. Perform (operation r)) (size_of (ril_a opcode d bits))
+  pub ril_a_at : (opcode : ℕ) (meaning : Meaning) → OpcodeRow RilA 4096 opcode meaning → (operation : Registers → Operation) (d bits : ℕ) → d < 16 → bits < 2 ^ 32 → ((r : Registers) (p : ℕ) → action meaning (immediate_fields RilA d 0 bits) r p ≡ Perform (operation r)) → StandsAt L.image offset (bytes_of (ril_a opcode d bits)) → RowAt L (sum64 L.image.base offset) (λ r. Perform (operation r)) (size_of (ril_a opcode d bits))
   ril_a_at opcode meaning row operation d bits ld lb does s =
       let x = ril_a opcode d bits in
       row_at L offset x (λ r. Perform (operation r)) all.even even all.fits s (fits_ril_a opcode d bits row.few ld lb) (listed machine_rows RilA x.slots row.some (row.lists.0, row.lists.1, ap (λ a. is_allowed a x.slots) row.lists.2)) (λ state event t at h. acts_as_meant x meaning operation row.means (single_pair meaning (fields_of x.format x.slots) row.single) does state event t h)
 
-  rie_d_at : (opcode : ℕ) (meaning : Meaning) → ImmediateRow RieD 65536 opcode meaning → (operation : Registers → Operation) (d n bits : ℕ) → d < 16 → n < 16 → bits < 2 ^ 16 → ((r : Registers) (p : ℕ) → action meaning (immediate_fields RieD d n bits) r p ≡ Perform (operation r)) → StandsAt L.image offset (bytes_of (rie_d opcode d n bits)) → RowAt L (sum64 L.image.base offset) (λ r. Perform (operation r)) (size_of (rie_d opcode d n bits))
+  rie_d_at : (opcode : ℕ) (meaning : Meaning) → OpcodeRow RieD 65536 opcode meaning → (operation : Registers → Operation) (d n bits : ℕ) → d < 16 → n < 16 → bits < 2 ^ 16 → ((r : Registers) (p : ℕ) → action meaning (immediate_fields RieD d n bits) r p ≡ Perform (operation r)) → StandsAt L.image offset (bytes_of (rie_d opcode d n bits)) → RowAt L (sum64 L.image.base offset) (λ r. Perform (operation r)) (size_of (rie_d opcode d n bits))
   rie_d_at opcode meaning row operation d n bits ld ln lb does s =
       let x = rie_d opcode d n bits in
       row_at L offset x (λ r. Perform (operation r)) all.even even all.fits s (fits_rie_d opcode d n bits row.few ld ln lb) (listed machine_rows RieD x.slots row.some (row.lists.0, row.lists.1, ap (λ a. is_allowed a x.slots) row.lists.2)) (λ state event t at h. acts_as_meant x meaning operation row.means (single_pair meaning (fields_of x.format x.slots) row.single) does state event t h)
@@ -350,19 +356,19 @@ module _ (L : Layout) (all : AllPlaced L) (offset : ℕ) (even : offset % 2 ≡ 
       row_at L offset x (λ r. Perform (operation r)) all.even even all.fits s fit (listed machine_rows kind x.slots row.some (row.lists.0, row.lists.1, ap (λ a. is_allowed a x.slots) row.lists.2 ∙ allows)) (λ state event t at h. acts_as_meant x meaning operation row.means is_even does state event t h)
 
   -- the operations with an immediate
-  pub halfword_at : (opcode : ℕ) (c : Computation) (rule : CodeRule) → ImmediateRow RiA 4096 opcode (computed c Immediate rule) → (d bits : ℕ) → d < 16 → bits < 2 ^ 16 → StandsAt L.image offset (bytes_of (ri_a opcode d bits)) → RowAt L (sum64 L.image.base offset) (λ r. Perform (computes_immediate rule c d d bits r)) (size_of (ri_a opcode d bits))
+  pub halfword_at : (opcode : ℕ) (c : Computation) (rule : CodeRule) → OpcodeRow RiA 4096 opcode (computed c Immediate rule) → (d bits : ℕ) → d < 16 → bits < 2 ^ 16 → StandsAt L.image offset (bytes_of (ri_a opcode d bits)) → RowAt L (sum64 L.image.base offset) (λ r. Perform (computes_immediate rule c d d bits r)) (size_of (ri_a opcode d bits))
   halfword_at opcode c rule row d bits ld lb s = ri_a_at opcode (computed c Immediate rule) row (computes_immediate rule c d d bits) d bits ld lb (λ r p. ap (λ x. Perform (computes_immediate rule c d d x r)) (low_small bits (omega (arith, lb)))) s
 
-  pub word_at : (opcode : ℕ) (c : Computation) (rule : CodeRule) → ImmediateRow RilA 4096 opcode (computed c Immediate rule) → (d bits : ℕ) → d < 16 → bits < 2 ^ 32 → StandsAt L.image offset (bytes_of (ril_a opcode d bits)) → RowAt L (sum64 L.image.base offset) (λ r. Perform (computes_immediate rule c d d bits r)) (size_of (ril_a opcode d bits))
+  pub word_at : (opcode : ℕ) (c : Computation) (rule : CodeRule) → OpcodeRow RilA 4096 opcode (computed c Immediate rule) → (d bits : ℕ) → d < 16 → bits < 2 ^ 32 → StandsAt L.image offset (bytes_of (ril_a opcode d bits)) → RowAt L (sum64 L.image.base offset) (λ r. Perform (computes_immediate rule c d d bits r)) (size_of (ril_a opcode d bits))
   word_at opcode c rule row d bits ld lb s = ril_a_at opcode (computed c Immediate rule) row (computes_immediate rule c d d bits) d bits ld lb (λ r p. ap (λ x. Perform (computes_immediate rule c d d x r)) (low_small bits (omega (arith, lb)))) s
 
-  pub three_halfword_at : (opcode : ℕ) (c : Computation) (rule : CodeRule) → ImmediateRow RieD 65536 opcode (computed c ThreeImmediate rule) → (d n bits : ℕ) → d < 16 → n < 16 → bits < 2 ^ 16 → StandsAt L.image offset (bytes_of (rie_d opcode d n bits)) → RowAt L (sum64 L.image.base offset) (λ r. Perform (computes_immediate rule c d n bits r)) (size_of (rie_d opcode d n bits))
+  pub three_halfword_at : (opcode : ℕ) (c : Computation) (rule : CodeRule) → OpcodeRow RieD 65536 opcode (computed c ThreeImmediate rule) → (d n bits : ℕ) → d < 16 → n < 16 → bits < 2 ^ 16 → StandsAt L.image offset (bytes_of (rie_d opcode d n bits)) → RowAt L (sum64 L.image.base offset) (λ r. Perform (computes_immediate rule c d n bits r)) (size_of (rie_d opcode d n bits))
   three_halfword_at opcode c rule row d n bits ld ln lb s = rie_d_at opcode (computed c ThreeImmediate rule) row (computes_immediate rule c d n bits) d n bits ld ln lb (λ r p. ap (λ x. Perform (computes_immediate rule c d n x r)) (low_small bits (omega (arith, lb)))) s
 
-  pub compare_halfword_at : (opcode : ℕ) (c : Comparison) → ImmediateRow RiA 4096 opcode (compared c) → (n bits : ℕ) → n < 16 → bits < 2 ^ 16 → StandsAt L.image offset (bytes_of (ri_a opcode n bits)) → RowAt L (sum64 L.image.base offset) (λ r. Perform (compares_immediate c n bits r)) (size_of (ri_a opcode n bits))
+  pub compare_halfword_at : (opcode : ℕ) (c : Comparison) → OpcodeRow RiA 4096 opcode (compared c) → (n bits : ℕ) → n < 16 → bits < 2 ^ 16 → StandsAt L.image offset (bytes_of (ri_a opcode n bits)) → RowAt L (sum64 L.image.base offset) (λ r. Perform (compares_immediate c n bits r)) (size_of (ri_a opcode n bits))
   compare_halfword_at opcode c row n bits ln lb s = ri_a_at opcode (compared c) row (compares_immediate c n bits) n bits ln lb (λ r p. ap (λ x. Perform (compares_immediate c n x r)) (low_small bits (omega (arith, lb)))) s
 
-  pub compare_word_at : (opcode : ℕ) (c : Comparison) → ImmediateRow RilA 4096 opcode (compared c) → (n bits : ℕ) → n < 16 → bits < 2 ^ 32 → StandsAt L.image offset (bytes_of (ril_a opcode n bits)) → RowAt L (sum64 L.image.base offset) (λ r. Perform (compares_immediate c n bits r)) (size_of (ril_a opcode n bits))
+  pub compare_word_at : (opcode : ℕ) (c : Comparison) → OpcodeRow RilA 4096 opcode (compared c) → (n bits : ℕ) → n < 16 → bits < 2 ^ 32 → StandsAt L.image offset (bytes_of (ril_a opcode n bits)) → RowAt L (sum64 L.image.base offset) (λ r. Perform (compares_immediate c n bits r)) (size_of (ril_a opcode n bits))
   compare_word_at opcode c row n bits ln lb s = ril_a_at opcode (compared c) row (compares_immediate c n bits) n bits ln lb (λ r p. ap (λ x. Perform (compares_immediate c n x r)) (low_small bits (omega (arith, lb)))) s
 
 -- ---- condition codes that leave more free

@@ -1,7 +1,7 @@
 -- The rows of the instructions on parts of registers, of shifts, rotations, extensions and conditional moves.
 use Rattle.std.proofs.Common.{◌≡◌, ℕ, ◌+◌, ◌*◌, ◌<◌, ◌≤◌, Some, None, Bool, true, false, cond, ◌&&◌, ◌||◌, refl, sym, ap, ◌∙◌, arith, nat_lt, nat_le, nat_eq, eqb-true, subst, Option}
 use Rattle.std.proofs.lemmas.Bool.Decides.{nat_tests}
-use Rattle.s390x_format.specs.declared.kind.FormatKind.TheVariants.{Rr, Rre, RrfAb, RrfCde, RiA, RieF, RieG, RilA, Rsy, Rxy}
+use Rattle.s390x_format.specs.declared.kind.FormatKind.TheVariants.{Rr, Rre, RrfAb, RrfCde, RiA, RieA, RieF, RieG, RilA, Rsy, Rxy}
 use Rattle.s390x_format.specs.declared.row.Allowed.{Allowed}
 use Rattle.s390x_format.specs.declared.row.Allowed.TheVariants.{Any, FirstMask, CountMode, RotateBits, RotateBitsOrTest}
 use Rattle.s390x_format.specs.Lookup.{row_for}
@@ -9,13 +9,15 @@ use Rattle.s390x_format.specs.Fetch.{machine_rows}
 use Rattle.s390x_format.specs.Rows.{is_allowed}
 use Rattle.s390x_inst.specs.declared.ops.ALUOp.{ALUOp}
 use Rattle.s390x_inst.specs.declared.ops.ALUOp.TheVariants as A
+use Rattle.s390x_inst.specs.declared.ops.CmpOp.{CmpOp}
+use Rattle.s390x_inst.specs.declared.ops.CmpOp.TheVariants as C
 use Rattle.s390x_inst.specs.declared.ops.ShiftOp.{ShiftOp}
 use Rattle.s390x_inst.specs.declared.ops.ShiftOp.TheVariants as S
 use Rattle.s390x_inst.specs.declared.ops.RxSBGOp.{RxSBGOp}
 use Rattle.s390x_inst.specs.declared.ops.RxSBGOp.TheVariants as R
 use Rattle.s390x_lanes.specs.declared.operation.Signedness.TheVariants.{Signed, Unsigned}
 use Rattle.s390x_format.specs.declared.kind.FormatKind.{FormatKind}
-use Rattle.s390x_steps.specs.Opcodes.{of_one, of_two, of_four, alu_part, alu_half, load_part, load_half, insert_part, extend_to_word, extend_to_doubleword, extend_two, shift_storage, rotate_then, indexed_opcode, logical_indexed_opcode}
+use Rattle.s390x_steps.specs.Opcodes.{cmp_trap, cmp_trap_signed, cmp_trap_unsigned, of_one, of_two, of_four, alu_part, alu_half, load_part, load_half, insert_part, extend_to_word, extend_to_doubleword, extend_two, shift_storage, rotate_then, indexed_opcode, logical_indexed_opcode}
 use Rattle.s390x_steps.specs.MachineInstruction.{rrf_cde, rie_f}
 use Rattle.s390x_operations.specs.declared.effect.CodeRule.{CodeRule}
 use Rattle.s390x_operations.specs.declared.effect.CodeRule.TheVariants.{Kept, Set}
@@ -24,12 +26,12 @@ use Rattle.s390x_operations.specs.declared.operator.SelectedBitsOperator.TheVari
 use Rattle.s390x_operations.specs.declared.size.Size.TheVariants.{Word, Doubleword}
 use Rattle.s390x_operations.specs.declared.size.Width.TheVariants.{Bits8, Bits16, Bits32, Bits64}
 use Rattle.s390x_machine.specs.declared.meaning.Meaning.{Meaning}
-use Rattle.s390x_machine.specs.declared.meaning.Meaning.TheVariants.{Compute, MoveWhere, CountOnes, RotateThen, MultiplySigned, MultiplyLogical, FindLeftmostOne, PutAny, BranchToRegister}
+use Rattle.s390x_machine.specs.declared.meaning.Meaning.TheVariants.{Compute, MoveWhere, CountOnes, RotateThen, MultiplySigned, MultiplyLogical, DivideSigned, DivideLogical, CompareAndTrap, CompareImmediateAndTrap, FindLeftmostOne, PutAny, BranchToRegister}
 use Rattle.s390x_machine.specs.declared.meaning.SecondOperand.{SecondOperand}
 use Rattle.s390x_machine.specs.declared.meaning.Shape.TheVariants.{Register, Immediate, ShiftedImmediate, Amount, AccessRegister}
-use Rattle.s390x_machine.specs.Computations.{Computation, word, doubleword, signed_halfword, on_words, on_doublewords, on_selected, with_second, extended_second, extension, part_mask, half_mask, part_operator, shift_operator, shift_size, shift_rule, rotate_operator, rotate_rule}
+use Rattle.s390x_machine.specs.Computations.{Computation, comparison, word, doubleword, signed_halfword, on_words, on_doublewords, on_selected, with_second, extended_second, extension, part_mask, half_mask, part_operator, shift_operator, shift_size, shift_rule, rotate_operator, rotate_rule}
 use Rattle.s390x_machine.specs.Meanings.{meaning_in, meaning_of}
-use Rattle.s390x_machine.proofs.Alone.{none_but_zero, PairRow, Meant, TwoRow, TwoRows, ImmediateRow, ImmediateRows, second_register, computed}
+use Rattle.s390x_machine.proofs.Alone.{none_but_zero, PairRow, Meant, TwoRow, TwoRows, OpcodeRow, OpcodeRows, second_register, computed}
 
 -- ---- parts and halves
 
@@ -42,32 +44,32 @@ abbrev pub immediate_at : Computation → ℕ → CodeRule → Meaning
 immediate_at c n rule = Compute c.operator c.size (at_bit n) rule
 
 -- one, two or four rows by their number, each with its meaning
-by_one : (kind : FormatKind) (digits a : ℕ) (meaning : ℕ → Meaning) → ImmediateRow kind digits a (meaning 0) → (n : ℕ) → ImmediateRows kind digits (of_one a n) (meaning n)
+by_one : (kind : FormatKind) (digits a : ℕ) (meaning : ℕ → Meaning) → OpcodeRow kind digits a (meaning 0) → (n : ℕ) → OpcodeRows kind digits (of_one a n) (meaning n)
 by_one kind digits a meaning zeroth n = go (nat_eq n 0) refl
   where
-    go : (t : Bool) → nat_eq n 0 ≡ t → ImmediateRows kind digits (cond t (Some a) None) (meaning n)
-    go true e = subst (λ i. ImmediateRow kind digits a (meaning i)) (sym (eqb-true n 0 e)) zeroth
+    go : (t : Bool) → nat_eq n 0 ≡ t → OpcodeRows kind digits (cond t (Some a) None) (meaning n)
+    go true e = subst (λ i. OpcodeRow kind digits a (meaning i)) (sym (eqb-true n 0 e)) zeroth
     go false e = tt
 
-by_two : (kind : FormatKind) (digits a b : ℕ) (meaning : ℕ → Meaning) → ImmediateRow kind digits a (meaning 0) → ImmediateRow kind digits b (meaning 1) → (n : ℕ) → ImmediateRows kind digits (of_two a b n) (meaning n)
+by_two : (kind : FormatKind) (digits a b : ℕ) (meaning : ℕ → Meaning) → OpcodeRow kind digits a (meaning 0) → OpcodeRow kind digits b (meaning 1) → (n : ℕ) → OpcodeRows kind digits (of_two a b n) (meaning n)
 by_two kind digits a b meaning zeroth first n = go (nat_eq n 0) refl (nat_eq n 1) refl
   where
-    go : (t : Bool) → nat_eq n 0 ≡ t → (u : Bool) → nat_eq n 1 ≡ u → ImmediateRows kind digits (cond t (Some a) (cond u (Some b) None)) (meaning n)
-    go true e u f = subst (λ i. ImmediateRow kind digits a (meaning i)) (sym (eqb-true n 0 e)) zeroth
-    go false e true f = subst (λ i. ImmediateRow kind digits b (meaning i)) (sym (eqb-true n 1 f)) first
+    go : (t : Bool) → nat_eq n 0 ≡ t → (u : Bool) → nat_eq n 1 ≡ u → OpcodeRows kind digits (cond t (Some a) (cond u (Some b) None)) (meaning n)
+    go true e u f = subst (λ i. OpcodeRow kind digits a (meaning i)) (sym (eqb-true n 0 e)) zeroth
+    go false e true f = subst (λ i. OpcodeRow kind digits b (meaning i)) (sym (eqb-true n 1 f)) first
     go false e false f = tt
 
-by_four : (kind : FormatKind) (digits a b c d : ℕ) (meaning : ℕ → Meaning) → ImmediateRow kind digits a (meaning 0) → ImmediateRow kind digits b (meaning 1) → ImmediateRow kind digits c (meaning 2) → ImmediateRow kind digits d (meaning 3) → (n : ℕ) → ImmediateRows kind digits (of_four a b c d n) (meaning n)
+by_four : (kind : FormatKind) (digits a b c d : ℕ) (meaning : ℕ → Meaning) → OpcodeRow kind digits a (meaning 0) → OpcodeRow kind digits b (meaning 1) → OpcodeRow kind digits c (meaning 2) → OpcodeRow kind digits d (meaning 3) → (n : ℕ) → OpcodeRows kind digits (of_four a b c d n) (meaning n)
 by_four kind digits a b c d meaning zeroth first second third n = go (nat_eq n 0) refl (nat_eq n 1) refl (nat_eq n 2) refl (nat_eq n 3) refl
   where
-    go : (t : Bool) → nat_eq n 0 ≡ t → (u : Bool) → nat_eq n 1 ≡ u → (v : Bool) → nat_eq n 2 ≡ v → (w : Bool) → nat_eq n 3 ≡ w → ImmediateRows kind digits (cond t (Some a) (cond u (Some b) (cond v (Some c) (cond w (Some d) None)))) (meaning n)
-    go true e u f v g w h = subst (λ i. ImmediateRow kind digits a (meaning i)) (sym (eqb-true n 0 e)) zeroth
-    go false e true f v g w h = subst (λ i. ImmediateRow kind digits b (meaning i)) (sym (eqb-true n 1 f)) first
-    go false e false f true g w h = subst (λ i. ImmediateRow kind digits c (meaning i)) (sym (eqb-true n 2 g)) second
-    go false e false f false g true h = subst (λ i. ImmediateRow kind digits d (meaning i)) (sym (eqb-true n 3 h)) third
+    go : (t : Bool) → nat_eq n 0 ≡ t → (u : Bool) → nat_eq n 1 ≡ u → (v : Bool) → nat_eq n 2 ≡ v → (w : Bool) → nat_eq n 3 ≡ w → OpcodeRows kind digits (cond t (Some a) (cond u (Some b) (cond v (Some c) (cond w (Some d) None)))) (meaning n)
+    go true e u f v g w h = subst (λ i. OpcodeRow kind digits a (meaning i)) (sym (eqb-true n 0 e)) zeroth
+    go false e true f v g w h = subst (λ i. OpcodeRow kind digits b (meaning i)) (sym (eqb-true n 1 f)) first
+    go false e false f true g w h = subst (λ i. OpcodeRow kind digits c (meaning i)) (sym (eqb-true n 2 g)) second
+    go false e false f false g true h = subst (λ i. OpcodeRow kind digits d (meaning i)) (sym (eqb-true n 3 h)) third
     go false e false f false g false h = tt
 
-pub part_rows : (op : ALUOp) (shift : ℕ) → ImmediateRows RiA 4096 (alu_part op shift) (immediate_at (on_selected (part_operator op) (part_mask shift)) (16 * shift) Set)
+pub part_rows : (op : ALUOp) (shift : ℕ) → OpcodeRows RiA 4096 (alu_part op shift) (immediate_at (on_selected (part_operator op) (part_mask shift)) (16 * shift) Set)
 unfolding machine_rows row_for meaning_in meaning_of
 part_rows A.And32 shift = by_two RiA 4096 0xa57 0xa56 (λ n. immediate_at (on_selected Select.And (part_mask n)) (16 * n) Set) (record { some = omega arith; few = omega arith; lists = (refl, refl, refl); means = refl; single = refl }) (record { some = omega arith; few = omega arith; lists = (refl, refl, refl); means = refl; single = refl }) shift
 part_rows A.And64 shift = by_four RiA 4096 0xa57 0xa56 0xa55 0xa54 (λ n. immediate_at (on_selected Select.And (part_mask n)) (16 * n) Set) (record { some = omega arith; few = omega arith; lists = (refl, refl, refl); means = refl; single = refl }) (record { some = omega arith; few = omega arith; lists = (refl, refl, refl); means = refl; single = refl }) (record { some = omega arith; few = omega arith; lists = (refl, refl, refl); means = refl; single = refl }) (record { some = omega arith; few = omega arith; lists = (refl, refl, refl); means = refl; single = refl }) shift
@@ -75,7 +77,7 @@ part_rows A.Orr32 shift = by_two RiA 4096 0xa5b 0xa5a (λ n. immediate_at (on_se
 part_rows A.Orr64 shift = by_four RiA 4096 0xa5b 0xa5a 0xa59 0xa58 (λ n. immediate_at (on_selected Select.Or (part_mask n)) (16 * n) Set) (record { some = omega arith; few = omega arith; lists = (refl, refl, refl); means = refl; single = refl }) (record { some = omega arith; few = omega arith; lists = (refl, refl, refl); means = refl; single = refl }) (record { some = omega arith; few = omega arith; lists = (refl, refl, refl); means = refl; single = refl }) (record { some = omega arith; few = omega arith; lists = (refl, refl, refl); means = refl; single = refl }) shift
 part_rows _ shift = tt
 
-pub half_rows : (op : ALUOp) (shift : ℕ) → ImmediateRows RilA 4096 (alu_half op shift) (immediate_at (on_selected (part_operator op) (half_mask shift)) (32 * shift) Set)
+pub half_rows : (op : ALUOp) (shift : ℕ) → OpcodeRows RilA 4096 (alu_half op shift) (immediate_at (on_selected (part_operator op) (half_mask shift)) (32 * shift) Set)
 unfolding machine_rows row_for meaning_in meaning_of
 half_rows A.And32 shift = by_one RilA 4096 0xc0b (λ n. immediate_at (on_selected Select.And (half_mask n)) (32 * n) Set) (record { some = omega arith; few = omega arith; lists = (refl, refl, refl); means = refl; single = refl }) shift
 half_rows A.And64 shift = by_two RilA 4096 0xc0b 0xc0a (λ n. immediate_at (on_selected Select.And (half_mask n)) (32 * n) Set) (record { some = omega arith; few = omega arith; lists = (refl, refl, refl); means = refl; single = refl }) (record { some = omega arith; few = omega arith; lists = (refl, refl, refl); means = refl; single = refl }) shift
@@ -85,19 +87,19 @@ half_rows A.Xor32 shift = by_one RilA 4096 0xc07 (λ n. immediate_at (on_selecte
 half_rows A.Xor64 shift = by_two RilA 4096 0xc07 0xc06 (λ n. immediate_at (on_selected Select.Xor (half_mask n)) (32 * n) Set) (record { some = omega arith; few = omega arith; lists = (refl, refl, refl); means = refl; single = refl }) (record { some = omega arith; few = omega arith; lists = (refl, refl, refl); means = refl; single = refl }) shift
 half_rows _ shift = tt
 
-pub load_part_rows : (shift : ℕ) → ImmediateRows RiA 4096 (load_part shift) (immediate_at (on_doublewords Move) (16 * shift) Kept)
+pub load_part_rows : (shift : ℕ) → OpcodeRows RiA 4096 (load_part shift) (immediate_at (on_doublewords Move) (16 * shift) Kept)
 unfolding machine_rows row_for meaning_in meaning_of
 load_part_rows shift = by_four RiA 4096 0xa5f 0xa5e 0xa5d 0xa5c (λ n. immediate_at (on_doublewords Move) (16 * n) Kept) (record { some = omega arith; few = omega arith; lists = (refl, refl, refl); means = refl; single = refl }) (record { some = omega arith; few = omega arith; lists = (refl, refl, refl); means = refl; single = refl }) (record { some = omega arith; few = omega arith; lists = (refl, refl, refl); means = refl; single = refl }) (record { some = omega arith; few = omega arith; lists = (refl, refl, refl); means = refl; single = refl }) shift
 
-pub load_half_rows : (shift : ℕ) → ImmediateRows RilA 4096 (load_half shift) (immediate_at (on_doublewords Move) (32 * shift) Kept)
+pub load_half_rows : (shift : ℕ) → OpcodeRows RilA 4096 (load_half shift) (immediate_at (on_doublewords Move) (32 * shift) Kept)
 unfolding machine_rows row_for meaning_in meaning_of
 load_half_rows shift = by_two RilA 4096 0xc0f 0xc0e (λ n. immediate_at (on_doublewords Move) (32 * n) Kept) (record { some = omega arith; few = omega arith; lists = (refl, refl, refl); means = refl; single = refl }) (record { some = omega arith; few = omega arith; lists = (refl, refl, refl); means = refl; single = refl }) shift
 
-pub insert_part_rows : (shift : ℕ) → ImmediateRows RiA 4096 (insert_part shift) (immediate_at (on_selected Select.Insert (part_mask shift)) (16 * shift) Kept)
+pub insert_part_rows : (shift : ℕ) → OpcodeRows RiA 4096 (insert_part shift) (immediate_at (on_selected Select.Insert (part_mask shift)) (16 * shift) Kept)
 unfolding machine_rows row_for meaning_in meaning_of
 insert_part_rows shift = by_four RiA 4096 0xa53 0xa52 0xa51 0xa50 (λ n. immediate_at (on_selected Select.Insert (part_mask n)) (16 * n) Kept) (record { some = omega arith; few = omega arith; lists = (refl, refl, refl); means = refl; single = refl }) (record { some = omega arith; few = omega arith; lists = (refl, refl, refl); means = refl; single = refl }) (record { some = omega arith; few = omega arith; lists = (refl, refl, refl); means = refl; single = refl }) (record { some = omega arith; few = omega arith; lists = (refl, refl, refl); means = refl; single = refl }) shift
 
-pub iihf_row : ImmediateRow RilA 4096 0xc08 (immediate_at (on_selected Select.Insert (half_mask 1)) 32 Kept)
+pub iihf_row : OpcodeRow RilA 4096 0xc08 (immediate_at (on_selected Select.Insert (half_mask 1)) 32 Kept)
 unfolding machine_rows row_for meaning_in meaning_of
 iihf_row = record { some = omega arith; few = omega arith; lists = (refl, refl, refl); means = refl; single = refl }
 
@@ -184,6 +186,56 @@ mlgr_row = record { some = omega arith; few = omega arith; lists = (refl, refl, 
 pub flogr_row : PairRow Rre Any 0xb983 FindLeftmostOne
 unfolding machine_rows row_for meaning_in meaning_of
 flogr_row = record { some = omega arith; few = omega arith; lists = (refl, refl, refl); means = refl }
+
+-- ---- divisions, and comparisons that trap
+
+pub dsgfr_row : PairRow Rre Any 0xb91d (DivideSigned Bits32)
+unfolding machine_rows row_for meaning_in meaning_of
+dsgfr_row = record { some = omega arith; few = omega arith; lists = (refl, refl, refl); means = refl }
+
+pub dsgr_row : PairRow Rre Any 0xb90d (DivideSigned Bits64)
+unfolding machine_rows row_for meaning_in meaning_of
+dsgr_row = record { some = omega arith; few = omega arith; lists = (refl, refl, refl); means = refl }
+
+pub dlr_row : PairRow Rre Any 0xb997 (DivideLogical Word)
+unfolding machine_rows row_for meaning_in meaning_of
+dlr_row = record { some = omega arith; few = omega arith; lists = (refl, refl, refl); means = refl }
+
+pub dlgr_row : PairRow Rre Any 0xb987 (DivideLogical Doubleword)
+unfolding machine_rows row_for meaning_in meaning_of
+dlgr_row = record { some = omega arith; few = omega arith; lists = (refl, refl, refl); means = refl }
+
+-- the rows of an operator, where it has some
+abbrev pub MeantRows : FormatKind → Allowed → Option ℕ → Meaning → Type 0
+MeantRows kind allowed None meaning = Unit {0}
+MeantRows kind allowed (Some opcode) meaning = Meant kind allowed opcode meaning
+
+-- what a comparison that traps does, of registers and of an immediate
+abbrev pub trapped : CmpOp → Meaning
+trapped op = CompareAndTrap (comparison op).sign (comparison op).size
+
+abbrev pub immediate_trapped : CmpOp → Meaning
+immediate_trapped op = CompareImmediateAndTrap (comparison op).sign (comparison op).size
+
+pub trap_rows : (op : CmpOp) → MeantRows RrfCde (FirstMask 0 15) (cmp_trap op) (trapped op)
+unfolding machine_rows row_for meaning_in meaning_of
+trap_rows C.CmpS32 = record { some = omega arith; few = omega arith; lists = (refl, refl, refl); means = refl; single = refl }
+trap_rows C.CmpS64 = record { some = omega arith; few = omega arith; lists = (refl, refl, refl); means = refl; single = refl }
+trap_rows C.CmpL32 = record { some = omega arith; few = omega arith; lists = (refl, refl, refl); means = refl; single = refl }
+trap_rows C.CmpL64 = record { some = omega arith; few = omega arith; lists = (refl, refl, refl); means = refl; single = refl }
+trap_rows _ = tt
+
+pub trap_signed_rows : (op : CmpOp) → MeantRows RieA Any (cmp_trap_signed op) (immediate_trapped op)
+unfolding machine_rows row_for meaning_in meaning_of
+trap_signed_rows C.CmpS32 = record { some = omega arith; few = omega arith; lists = (refl, refl, refl); means = refl; single = refl }
+trap_signed_rows C.CmpS64 = record { some = omega arith; few = omega arith; lists = (refl, refl, refl); means = refl; single = refl }
+trap_signed_rows _ = tt
+
+pub trap_unsigned_rows : (op : CmpOp) → MeantRows RieA Any (cmp_trap_unsigned op) (immediate_trapped op)
+unfolding machine_rows row_for meaning_in meaning_of
+trap_unsigned_rows C.CmpL32 = record { some = omega arith; few = omega arith; lists = (refl, refl, refl); means = refl; single = refl }
+trap_unsigned_rows C.CmpL64 = record { some = omega arith; few = omega arith; lists = (refl, refl, refl); means = refl; single = refl }
+trap_unsigned_rows _ = tt
 
 -- ---- conditional moves, and counts of ones
 

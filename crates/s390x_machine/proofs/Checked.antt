@@ -1,25 +1,26 @@
 -- Steps that emission lets pass are fine.
 use Rattle.std.proofs.Common.{◌≡◌, ℕ, zero, suc, ◌+◌, ◌<◌, ◌≤◌, List, [], ◌∷◌, ◌++◌, length, Option, Some, None, Bool, true, false, ◌&&◌, IsTrue, refl, sym, ap, ◌∙◌, subst, arith, length-append, slice_get, ltb-true}
-use Rattle.std.specs.Prelude.{nat_lt}
+use Rattle.s390x_base.specs.declared.ir.ExternalName.{ExternalName}
+use Rattle.std.specs.Prelude.{ℤ, nat_lt, not}
 use Rattle.std.proofs.lemmas.Bool.{and_parts}
 use Rattle.s390x_inst.specs.declared.state.IsaFlags.{IsaFlags}
 use Rattle.s390x_base.specs.declared.ir.MachLabel.{MachLabel}
 use Rattle.s390x_base.specs.declared.error.EmitError.{EmitError}
-use Rattle.s390x_base.specs.declared.error.EmitError.TheVariants.{BadOperator, BadRegister, UnboundLabel}
+use Rattle.s390x_base.specs.declared.error.EmitError.TheVariants.{BadOperator, BadRegister, ScratchConflict, OffsetOutOfRange, UnboundLabel}
 use Rattle.s390x_inst.specs.declared.inst.Inst.{Inst}
-use Rattle.s390x_inst.specs.declared.inst.Inst.TheVariants.{Jump, CondBr, IndirectBr, Ret, CondBreak, Nop0, LabelAddress}
-use Rattle.s390x_steps.specs.Causes.{first, unless, facility_cause, label_cause, labels_cause, cause_or, instruction_cause, numbers_cause, nesting_cause, draws, tree_cause, blocks_cause}
+use Rattle.s390x_inst.specs.declared.inst.Inst.TheVariants.{Jump, CondBr, IndirectBr, Ret, CondBreak, Nop0, LabelAddress, LoadSymbolReloc, Trap, TrapIf, Debugtrap, JTSequence}
+use Rattle.s390x_steps.specs.Causes.{first, unless, facility_cause, label_cause, labels_cause, cause_or, loses_scratch, memory_cause_or, instruction_cause, numbers_cause, nesting_cause, draws, tree_cause, blocks_cause, leaf_cause, instruction_draws}
 use Rattle.s390x_steps.specs.Alone.{Alone, alone}
-use Rattle.s390x_steps.specs.General.{is_general, is_nonzero}
-use Rattle.s390x_steps.specs.Ranges.{InRange, AllInRange, BlocksInRange}
+use Rattle.s390x_steps.specs.General.{is_general, is_nonzero, is_scratch}
+use Rattle.s390x_steps.specs.Memory.{MemoryInstruction, memory, type_of}
+use Rattle.s390x_steps.specs.Operands.{has_form, is_relative, operand_general, offset_fits}
+use Rattle.s390x_steps.specs.Ranges.{MemoryInRange, InRange, AllInRange, BlocksInRange}
 use Rattle.s390x_steps.specs.Tree.{Tree, empty, leaf, looped}
 use Rattle.s390x_steps.specs.Steps.{Step, Opening, Back, step_count, step_of, steps_of, steps_from, function_steps}
-use Rattle.s390x_base.specs.declared.trap.TrapKind.{TrapKind}
 use Rattle.s390x_operations.specs.State.{CodeImage}
-use Rattle.s390x_operations.specs.declared.stop.StopKind.{StopKind}
 use Rattle.s390x_machine.specs.Functions.{function_layout}
 use Rattle.s390x_machine.specs.Layout.{Layout}
-use Rattle.s390x_machine.specs.Placed.{IsBlock, AreBlocks, FineOr, IsFine}
+use Rattle.s390x_machine.specs.Placed.{IsBlock, AreBlocks, FineOr, FineMemoryOr, IsFine}
 use Rattle.s390x_machine.proofs.Functions.{count_of}
 
 first_none : (a b : Option EmitError) → first a b ≡ None → (a ≡ None) × (b ≡ None)
@@ -30,9 +31,24 @@ unless_none : (h : Bool) (x : EmitError) → unless h x ≡ None → IsTrue h
 unless_none true x e = refl
 unless_none false x e = absurd (cc)
 
-fine_alone : (o : Option Alone) → cause_or o (Some BadOperator) ≡ None → FineOr o ⊥
-fine_alone None e = absurd (cc)
-fine_alone (Some x) e = unless_none x.fine BadRegister e
+fine_alone : (o : Option Alone) (m : Option MemoryInstruction) → cause_or o (memory_cause_or m (Some BadOperator)) ≡ None → MemoryInRange m → FineOr o (FineMemoryOr m ⊥)
+fine_alone None None e range = absurd (cc)
+fine_alone None (Some x) e range =
+    let form = has_form (type_of x.form x.accesses) x.operand && not (is_relative x.operand) in
+    let registers = x.fine && operand_general x.operand in
+    let scratch = unless (not (loses_scratch x)) ScratchConflict in
+    let offset = unless (offset_fits x.operand) OffsetOutOfRange in
+    let a = first_none (unless form BadOperator) (first (unless registers BadRegister) (first scratch offset)) e in
+    let b = first_none (unless registers BadRegister) (first scratch offset) a.1 in
+    let c = first_none scratch offset b.1 in
+    record {
+      form = unless_none form BadOperator a.0;
+      registers = unless_none registers BadRegister b.0;
+      kept = unless_none (not (loses_scratch x)) ScratchConflict c.0;
+      offset = unless_none (offset_fits x.operand) OffsetOutOfRange c.1;
+      range = range;
+    }
+fine_alone (Some x) m e range = unless_none x.fine BadRegister e
 
 module _ (L : Layout) where
   block_of : (l : MachLabel) → label_cause L.block_count l ≡ None → IsBlock L l.0
@@ -45,18 +61,28 @@ module _ (L : Layout) where
   -- an instruction, in so many loops, the innermost of which ends at a step
   fine_step : (flags : IsaFlags) (depth after : ℕ) (i : Inst) → instruction_cause flags L.block_count depth i ≡ None → InRange i → (0 < depth → after ≤ length L.steps) → IsFine L (step_of after i)
   fine_step flags depth after (Jump dest) e range le = block_of dest e
-  fine_step flags depth after (CondBr taken not_taken mask) e range le = let parts = first_none (label_cause L.block_count taken) (label_cause L.block_count not_taken) e in (block_of taken parts.0, block_of not_taken parts.1, range)
+  fine_step flags depth after (CondBr taken not_taken mask) e range le = let parts = first_none (label_cause L.block_count taken) (label_cause L.block_count not_taken) e in (block_of taken parts.0, block_of not_taken parts.1, range.0)
   fine_step flags depth after (IndirectBr rn targets) e range le =
       let parts = first_none (unless (is_general rn && is_nonzero rn) BadRegister) (labels_cause L.block_count targets.items) e in
       let regs = and_parts (is_general rn) (is_nonzero rn) (unless_none (is_general rn && is_nonzero rn) BadRegister parts.0) in
       (regs.0, regs.1, blocks_of targets.items parts.1)
   fine_step flags depth after (Ret link) e range le = and_parts (is_general link) (is_nonzero link) (unless_none (is_general link && is_nonzero link) BadRegister e)
-  fine_step flags depth after (CondBreak mask) e range le = (range, le (ltb-true 0 depth (unless_none (nat_lt 0 depth) Rattle.s390x_base.specs.declared.error.EmitError.TheVariants.BreakOutsideLoop e)))
+  fine_step flags depth after (JTSequence ridx other mask targets) e range le =
+      let registers = first_none (unless (is_general ridx && is_nonzero ridx) BadRegister) (first (unless (not (is_scratch ridx)) ScratchConflict) (first (label_cause L.block_count other) (labels_cause L.block_count targets.items))) e in
+      let scratch = first_none (unless (not (is_scratch ridx)) ScratchConflict) (first (label_cause L.block_count other) (labels_cause L.block_count targets.items)) registers.1 in
+      let labels = first_none (label_cause L.block_count other) (labels_cause L.block_count targets.items) scratch.1 in
+      let general = and_parts (is_general ridx) (is_nonzero ridx) (unless_none (is_general ridx && is_nonzero ridx) BadRegister registers.0) in
+      (general.0, general.1, unless_none (not (is_scratch ridx)) ScratchConflict scratch.0, block_of other labels.0, blocks_of targets.items labels.1, range.0)
+  fine_step flags depth after (CondBreak mask) e range le = (range.0, le (ltb-true 0 depth (unless_none (nat_lt 0 depth) Rattle.s390x_base.specs.declared.error.EmitError.TheVariants.BreakOutsideLoop e)))
   fine_step flags depth after Nop0 e range le = tt
   fine_step flags depth after (LabelAddress dst label) e range le =
       let parts = first_none (unless (is_general dst) BadRegister) (label_cause L.block_count label) e in
       (unless_none (is_general dst) BadRegister parts.0, block_of label parts.1)
-  fine_step flags depth after i e range le = fine_alone (alone i) (first_none (facility_cause flags i) (cause_or (alone i) (Some BadOperator)) e).1
+  fine_step flags depth after (LoadSymbolReloc rd reloc) e range le = unless_none (is_general rd) BadRegister e
+  fine_step flags depth after (Trap code) e range le = tt
+  fine_step flags depth after (TrapIf mask code) e range le = range.0
+  fine_step flags depth after Debugtrap e range le = tt
+  fine_step flags depth after i e range le = fine_alone (alone i) (memory i) (first_none (facility_cause flags i) (cause_or (alone i) (memory_cause_or (memory i) (Some BadOperator))) e).1 range.1
 
   -- each of some steps is fine
   AllFine : List Step → Type 0
@@ -77,8 +103,9 @@ module _ (L : Layout) where
   unfolding AllFine
   fine_tree flags k after n depth empty e range le within = λ j s h. absurd (cc)
   fine_tree flags k after n depth (leaf i rest) e range le within =
-      let parts = first_none (instruction_cause flags L.block_count depth i) (tree_cause flags L.block_count n depth rest) e in
-      fine_cons (step_of after i) (steps_of (k + 1) after rest) (fine_step flags depth after i parts.0 range.0 le) (fine_tree flags (k + 1) after n depth rest parts.1 range.1 le (omega arith))
+      let parts = first_none (leaf_cause flags L.block_count n depth i) (tree_cause flags L.block_count (n + instruction_draws i) depth rest) e in
+      let own = first_none (instruction_cause flags L.block_count depth i) (numbers_cause n (instruction_draws i)) parts.0 in
+      fine_cons (step_of after i) (steps_of (k + 1) after rest) (fine_step flags depth after i own.0 range.0 le) (fine_tree flags (k + 1) after (n + instruction_draws i) depth rest parts.1 range.1 le (omega arith))
   fine_tree flags k after n depth (looped mask members rest) e range le within =
       let a = first_none (first (first (nesting_cause depth) (numbers_cause n 2)) (tree_cause flags L.block_count (n + 2) (depth + 1) members)) (tree_cause flags L.block_count (n + 2 + draws members) depth rest) e in
       let b = first_none (first (nesting_cause depth) (numbers_cause n 2)) (tree_cause flags L.block_count (n + 2) (depth + 1) members) a.0 in
@@ -103,5 +130,5 @@ module _ (L : Layout) where
       fine_blocks flags 0 n ts e range within k s (ap (λ ss. slice_get ss k) (sym same) ∙ h)
 
 -- the steps of a function that has no cause of refusal
-pub checked_steps : (flags : IsaFlags) (ts : List Tree) (n : ℕ) (image : CodeImage) (code_at : ℕ → StopKind → Option TrapKind) → blocks_cause flags (length ts) n ts ≡ None → BlocksInRange ts → (k : ℕ) (s : Step) → slice_get (function_steps ts) k ≡ Some s → IsFine (function_layout ts image code_at) s
-checked_steps flags ts n image code_at e range = fine_function (function_layout ts image code_at) flags n ts refl e range
+pub checked_steps : (flags : IsaFlags) (value : ExternalName → ℤ → ℕ) (ts : List Tree) (n : ℕ) (image : CodeImage) → blocks_cause flags (length ts) n ts ≡ None → BlocksInRange ts → (k : ℕ) (s : Step) → slice_get (function_steps ts) k ≡ Some s → IsFine (function_layout value ts image) s
+checked_steps flags value ts n image e range = fine_function (function_layout value ts image) flags n ts refl e range

@@ -1,8 +1,8 @@
 -- Steps of several rows, and steps that end a run.
-use Rattle.std.proofs.Common.{◌≡◌, ℕ, suc, ◌≤◌, inl, inr, List, [], ◌∷◌, ◌++◌, length, Some, None, Bool, true, false, cond, not, refl, sym, ap, ◌∙◌, subst, arith, length-append}
+use Rattle.std.proofs.Common.{◌≡◌, ℕ, suc, ◌≤◌, inl, inr, List, [], ◌∷◌, ◌++◌, length, Option, Some, None, Bool, true, false, cond, not, refl, sym, ap, ◌∙◌, subst, arith, length-append}
 use Rattle.s390x_base.specs.declared.trap.TrapKind.{TrapKind}
 use Rattle.s390x_lanes.specs.declared.operation.Signedness.{Signedness}
-use Rattle.s390x_operations.specs.State.{Registers, Memory, Core, State, coded, put, Write, written, sum64, Lies, deposited}
+use Rattle.s390x_operations.specs.State.{Registers, Memory, Core, State, CodeImage, coded, put, Write, written, sum64, Lies, deposited}
 use Rattle.s390x_operations.specs.Access.{Untouched, fault, deposit}
 use Rattle.s390x_operations.specs.Values.{value, taken}
 use Rattle.s390x_operations.specs.Effects.{access, refused, MayRefuse, is_selected, Goes, put_sized}
@@ -17,11 +17,11 @@ use Rattle.s390x_operations.specs.declared.stop.StopKind.{StopKind}
 use Rattle.s390x_operations.specs.declared.stop.StopKind.TheVariants.{Operation as OperationStop}
 use Rattle.s390x_machine.specs.declared.meaning.Action.{Action}
 use Rattle.s390x_machine.specs.declared.meaning.Action.TheVariants.{Perform, Branch, BranchAndSave}
-use Rattle.s390x_machine.specs.Machine.{Event, Went, Stopped, Acts, MachineStep, Turn, before, Run, all_writes}
-use Rattle.s390x_machine.specs.Forms.{PerformsWhere, TrapsAlways, TrapsWhere, Calls}
+use Rattle.s390x_machine.specs.Machine.{Event, Went, Stopped, Acts, MachineStep, Turn, before, Run, after_all, all_writes}
+use Rattle.s390x_machine.specs.Forms.{PerformsWhere, TrapsAlways, TrapsWhere, DebugStops, Calls}
 use Rattle.s390x_machine.specs.Computations.{with_rule}
-use Rattle.s390x_machine.specs.Typed.{Trapped, Called, At, Ended, FormStep, WhereStep, TypedStep, form_at}
-use Rattle.s390x_machine.specs.Match.{code_at_place, Runs, StepRuns}
+use Rattle.s390x_machine.specs.Typed.{Ending, Trapped, DebugStopped, Called, At, Ended, FormStep, WhereStep, TypedStep, form_at, typed_deposit}
+use Rattle.s390x_machine.specs.Match.{start, code_at_place, Closes, Runs, StepRuns}
 use Rattle.s390x_machine.specs.Layout.{Layout, place, InStep}
 use Rattle.s390x_machine.proofs.Frame.{lies_written}
 use Rattle.s390x_machine.proofs.Simulation.{RowAt, mid, Inside, Simulates, at_start, peel, Turned, turned, further, resume, branch, done, ended, DoesAs, acts_as}
@@ -34,13 +34,32 @@ abbrev pub ChangesTo : Action → ℕ → Registers → ℕ → Registers → Ty
 ChangesTo a size r p r' = (m : Memory) (event : Event) (t : State) → Acts a size (record { core = record { registers = r; memory = m }; place = p }) event t →
     (event ≡ Went None) × (t ≡ record { core = record { registers = r'; memory = m }; place = sum64 p size })
 
-pub row_then : (L : Layout) (k : ℕ) (c : Core) (g : List Turn) (r : Registers) (p : ℕ) (act : Registers → Action) (size : ℕ) (r' : Registers) → Inside L k c g r p → length g ≤ 2 → InStep L k (sum64 p size) → RowAt L p act size → ChangesTo (act r) size r p r' →
+-- the same, where an image lies in memory
+abbrev pub ChangesOver : CodeImage → Action → ℕ → Registers → ℕ → Registers → Type 0
+ChangesOver image a size r p r' = (m : Memory) (event : Event) (t : State) → Lies image m → Acts a size (record { core = record { registers = r; memory = m }; place = p }) event t →
+    (event ≡ Went None) × (t ≡ record { core = record { registers = r'; memory = m }; place = sum64 p size })
+
+pub row_over_then : (L : Layout) (k : ℕ) (c : Core) (g : List Turn) (r : Registers) (p : ℕ) (act : Registers → Action) (size : ℕ) (r' : Registers) → Inside L k c g r p → length g ≤ 2 → InStep L k (sum64 p size) → RowAt L p act size → ChangesOver L.image (act r) size r p r' →
     ((h : List Turn) → length h ≡ suc (length g) → Inside L k c h r' (sum64 p size) → Simulates L k c h r' (sum64 p size)) → Simulates L k c g r p
-row_then L k c g r p act size r' i few here row changes go =
+row_over_then L k c g r p act size r' i few here row changes go =
     peel L k c g r p i (λ t s rest run.
     let u = turned L k c g r p act size t i row s in
-    let m = changes (written (all_writes (g ++ t ∷ [])) c).memory t.event t.after u.acts in
+    let m = changes (written (all_writes (g ++ t ∷ [])) c).memory t.event t.after u.lies u.acts in
     resume L k c g t r' (sum64 p size) rest m.1 run (go (g ++ t ∷ []) (omega (arith, length-append g (t ∷ []))) (further L k c g r p act size t r' (sum64 p size) i u few here m.0 m.1)))
+
+-- the same of the last row of a step
+pub row_over_last : (L : Layout) (k : ℕ) (c : Core) (g : List Turn) (r : Registers) (p : ℕ) (act : Registers → Action) (size : ℕ) (r' : Registers) (j : ℕ) → Inside L k c g r p → RowAt L p act size → ChangesOver L.image (act r) size r p r' → sum64 p size ≡ place L j → ((y : Core) → typed_deposit L k y ≡ None) →
+    ((h : List Turn) → TypedStep L k (written (all_writes h) c) (At j) (mid c r' (all_writes h) 0).core) → Simulates L k c g r p
+row_over_last L k c g r p act size r' j i row changes next none step =
+    peel L k c g r p i (λ t s rest run.
+    let h = g ++ t ∷ [] in
+    let u = turned L k c g r p act size t i row s in
+    let m = changes (written (all_writes h) c).memory t.event t.after u.lies u.acts in
+    done L k c g r p act size t rest j (mid c r' (all_writes h) 0).core i u (m.0 ∙ ap Went (sym (none (written (all_writes h) c)))) (m.1 ∙ ap (λ q. mid c r' (all_writes h) q) next) (λ out. u.lies) (step h))
+
+pub row_then : (L : Layout) (k : ℕ) (c : Core) (g : List Turn) (r : Registers) (p : ℕ) (act : Registers → Action) (size : ℕ) (r' : Registers) → Inside L k c g r p → length g ≤ 2 → InStep L k (sum64 p size) → RowAt L p act size → ChangesTo (act r) size r p r' →
+    ((h : List Turn) → length h ≡ suc (length g) → Inside L k c h r' (sum64 p size) → Simulates L k c h r' (sum64 p size)) → Simulates L k c g r p
+row_then L k c g r p act size r' i few here row changes go = row_over_then L k c g r p act size r' i few here row (λ m event t lies. changes m event t) go
 
 -- an operator on values that leaves the condition code
 pub compute_changes : (operator : Operator) (size : Size) (d x y : ℕ) (width : Width) (sign : Signedness) (backwards : Bool) (bytes p : ℕ) (r : Registers) (m : Memory) →
@@ -102,22 +121,35 @@ where_runs L k mask operation is s c lies =
 
 -- ---- traps
 
--- wherever the image lies in memory, the machine stops at this place by Operation, and the tables have this code for it
-pub record StopsAt (L : Layout) (p : ℕ) (code : TrapKind) : Type 0 where
+-- wherever the image lies in memory, the machine stops at this place by Operation, and the table has this code for it, if any
+pub record StopsAt (L : Layout) (p : ℕ) (code : Option TrapKind) : Type 0 where
   pub stops : (s : State) → s.place ≡ p → Lies L.image s.core.memory → (event : Event) (t : State) → MachineStep s event t → event ≡ Stopped OperationStop
-  pub coded : code_at_place L p OperationStop ≡ Some code
+  pub coded : code_at_place L p OperationStop ≡ code
 
-pub stop_there : (L : Layout) (k : ℕ) (code : TrapKind) (c : Core) (g : List Turn) (p : ℕ) → Inside L k c g c.registers p → StopsAt L p code → ((h : List Turn) → TypedStep L k (written (all_writes h) c) (Ended (Trapped code)) (written (all_writes h) c)) → Simulates L k c g c.registers p
+-- how a run ends at such a stop: by a trap, or where it has no code by a debug stop
+abbrev stopped : Option TrapKind → Ending
+stopped None = DebugStopped
+stopped (Some n) = Trapped n
+
+closes_there : (L : Layout) (code : Option TrapKind) (x : Core) (s : State) (t : Turn) (rest : List Turn) → s.core ≡ x → t.event ≡ Stopped OperationStop → code_at_place L s.place OperationStop ≡ code → Closes L (Ended (stopped code)) x s (t ∷ rest)
+closes_there L None x s t rest same e coded = (same, (e, coded))
+closes_there L (Some n) x s t rest same e coded = (same, (OperationStop, e, coded))
+
+stop_there : (L : Layout) (k : ℕ) (code : Option TrapKind) (c : Core) (g : List Turn) (p : ℕ) → Inside L k c g c.registers p → StopsAt L p code → ((h : List Turn) → TypedStep L k (written (all_writes h) c) (Ended (stopped code)) (written (all_writes h) c)) → Simulates L k c g c.registers p
 stop_there L k code c g p i at step =
     peel L k c g c.registers p i (λ t s rest run.
     let l = lies_written L.image _ _ t.writes i.lies s.may in
     let e = at.stops (before (mid c c.registers (all_writes g) p) t) refl l t.event t.after s.goes in
-    ended L k c g (t ∷ rest) (Trapped code) (written (all_writes g) c) (omega (arith, i.few)) i.quiet (step g)
-    (ap (λ (x : State). x.core) i.lands, (OperationStop, e, subst (λ (x : State). code_at_place L x.place OperationStop ≡ Some code) (sym i.lands) at.coded)))
+    ended L k c g (t ∷ rest) (stopped code) (written (all_writes g) c) (omega (arith, i.few)) i.quiet (step g)
+    (closes_there L code (written (all_writes g) c) (after_all (start L k c) g) t rest (ap (λ (x : State). x.core) i.lands) e (subst (λ (x : State). code_at_place L x.place OperationStop ≡ code) (sym i.lands) at.coded)))
 
-pub trap_runs : (L : Layout) (k : ℕ) (code : TrapKind) → form_at L k ≡ Some (TrapsAlways code) → StopsAt L (place L k) code → InStep L k (place L k) → StepRuns L k
+pub trap_runs : (L : Layout) (k : ℕ) (code : TrapKind) → form_at L k ≡ Some (TrapsAlways code) → StopsAt L (place L k) (Some code) → InStep L k (place L k) → StepRuns L k
 trap_runs L k code is at here c lies =
-    stop_there L k code c [] (place L k) (at_start L k c here lies) at (λ h. subst (λ f. FormStep L f k (written (all_writes h) c) (Ended (Trapped code)) (written (all_writes h) c)) (sym is) (refl, refl))
+    stop_there L k (Some code) c [] (place L k) (at_start L k c here lies) at (λ h. subst (λ f. FormStep L f k (written (all_writes h) c) (Ended (Trapped code)) (written (all_writes h) c)) (sym is) (refl, refl))
+
+pub debug_runs : (L : Layout) (k : ℕ) → form_at L k ≡ Some DebugStops → StopsAt L (place L k) None → InStep L k (place L k) → StepRuns L k
+debug_runs L k is at here c lies =
+    stop_there L k None c [] (place L k) (at_start L k c here lies) at (λ h. subst (λ f. FormStep L f k (written (all_writes h) c) (Ended DebugStopped) (written (all_writes h) c)) (sym is) (refl, refl))
 
 trap_step : (L : Layout) (k mask : ℕ) (code : TrapKind) → form_at L k ≡ Some (TrapsWhere mask code) → (c : Core) (taken : Bool) → is_selected mask c.registers.code ≡ taken → (h : List Turn) → TypedStep L k (written (all_writes h) c) (cond taken (Ended (Trapped code)) (At (suc k))) (written (all_writes h) c)
 trap_step L k mask code is c taken e h =
@@ -128,7 +160,7 @@ pub record BranchesInto (L : Layout) (k mask : ℕ) (code : TrapKind) : Type 0 w
   pub size : ℕ
   pub target : ℕ
   pub row : RowAt L (place L k) (λ r. Branch mask target) size
-  pub stops : StopsAt L target code
+  pub stops : StopsAt L target (Some code)
   pub here : InStep L k (place L k)
   pub here_target : InStep L k target
   pub next : sum64 (place L k) size ≡ place L (suc k)
@@ -139,7 +171,7 @@ trapped L k mask code is b c t rest i u e false sel at run =
     done L k c [] c.registers (place L k) _ b.size t rest (suc k) y i u (e ∙ ap Went (sym (stores_none L k (TrapsWhere mask code) (λ z. refl) is y))) (at ∙ ap (λ q. mid c c.registers (all_writes (t ∷ [])) q) b.next) (λ out. u.lies) (trap_step L k mask code is c false sel (t ∷ []))
 trapped L k mask code is b c t rest i u e true sel at run =
     resume L k c [] t c.registers b.target rest at run
-    (stop_there L k code c (t ∷ []) b.target (further L k c [] c.registers (place L k) _ b.size t c.registers b.target i u (omega arith) b.here_target e at) b.stops (trap_step L k mask code is c true sel))
+    (stop_there L k (Some code) c (t ∷ []) b.target (further L k c [] c.registers (place L k) _ b.size t c.registers b.target i u (omega arith) b.here_target e at) b.stops (trap_step L k mask code is c true sel))
 
 pub trap_where_runs : (L : Layout) (k mask : ℕ) (code : TrapKind) → form_at L k ≡ Some (TrapsWhere mask code) → BranchesInto L k mask code → StepRuns L k
 trap_where_runs L k mask code is b c lies =
@@ -148,7 +180,7 @@ trap_where_runs L k mask code is b c lies =
 
 -- ---- calls
 
-saves : (c : Core) (r : Registers) (ws : List Write) (p link target size : ℕ) (event : Event) (t : State) → Acts (BranchAndSave link target) size (mid c r ws p) event t → (event ≡ Went None) × (t ≡ mid c (put r link (sum64 p size)) ws target)
+pub saves : (c : Core) (r : Registers) (ws : List Write) (p link target size : ℕ) (event : Event) (t : State) → Acts (BranchAndSave link target) size (mid c r ws p) event t → (event ≡ Went None) × (t ≡ mid c (put r link (sum64 p size)) ws target)
 saves c r ws p link target size (Went x) t h = (ap Went h.1, h.0)
 saves c r ws p link target size (Stopped kind) t h = absurd h
 

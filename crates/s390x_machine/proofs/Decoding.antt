@@ -1,5 +1,6 @@
 -- What the decoder's table proves: bytes belong to at most one row, and the bytes of a row are fetched as it. The only file here that cites the lemmas of the formats.
-use Rattle.std.proofs.Common.{◌≡◌, ℕ, ◌<◌, true, List, get_or, take, refl, sym, ap, ◌∙◌, subst}
+use Rattle.std.proofs.Common.{◌≡◌, ℕ, zero, suc, ◌+◌, ◌<◌, Bool, true, false, cond, ◌==◌, List, [], ◌∷◌, length, get_or, take, refl, sym, ap, ◌∙◌, subst, arith, true≢false}
+use Rattle.std.proofs.lemmas.Bool.{eq-eqb}
 use Rattle.s390x_format.specs.declared.row.MachineRow.{MachineRow}
 use Rattle.s390x_format.specs.declared.kind.FormatKind.{FormatKind}
 use Rattle.s390x_format.specs.declared.reading.Reading.{Reading}
@@ -8,9 +9,9 @@ use Rattle.s390x_format.specs.declared.index.FirstByte.{FirstByte}
 use Rattle.s390x_format.specs.declared.table.TheConstants.{MACHINE_ROWS}
 use Rattle.s390x_format.specs.declared.first_bytes.TheConstants.{FIRST_BYTES}
 use Rattle.s390x_format.specs.Index.{is_index}
-use Rattle.s390x_format.specs.Rows.{are_rows, rises, fetch_length_of}
+use Rattle.s390x_format.specs.Rows.{are_rows, rises, rows_with, first_byte_of, fetch_length_of}
 use Rattle.s390x_format.specs.Layout.{SlotsFit, field}
-use Rattle.s390x_format.specs.Formats.{layout_of, length_of}
+use Rattle.s390x_format.specs.Formats.{layout_of, length_of, place_of}
 use Rattle.s390x_format.specs.Reading.{encode, be_number, no_row, IsReading, IsReadAs}
 use Rattle.s390x_format.specs.View.{fields_of}
 use Rattle.s390x_format.specs.Fetch.{IsFetch, machine_rows}
@@ -53,6 +54,32 @@ unfolding machine_rows
 one_fetch bytes d e hd he =
     let same = one_reading MACHINE_ROWS FIRST_BYTES rows_are rows_indexed rows_rise bytes (record { row = d.row; slots = hd.slots }) (record { row = e.row; slots = he.slots }) hd.reading he.reading in
     same_decoded d e (ap (λ (x : Reading). x.row) same) (hd.fields ∙ ap (λ (x : Reading). fields_of x.row.format x.slots) same ∙ sym he.fields)
+
+-- ---- bytes that are no row's
+
+one_more : (b : ℕ) (r : MachineRow) (rs : List MachineRow) → rows_with b (r ∷ rs) ≡ 0 → (first_byte_of r ≡ b → ⊥) × (rows_with b rs ≡ 0)
+unfolding rows_with
+one_more b r rs none = go (first_byte_of r == b) refl none
+  where
+    go : (t : Bool) → (first_byte_of r == b) ≡ t → cond t 1 0 + rows_with b rs ≡ 0 → (first_byte_of r ≡ b → ⊥) × (rows_with b rs ≡ 0)
+    go true e h = absurd (omega (arith, h))
+    go false e h = (λ same. true≢false (sym (eq-eqb (first_byte_of r) b same) ∙ e), omega (arith, h))
+
+none_with : (b : ℕ) (rows : List MachineRow) → rows_with b rows ≡ 0 → (at : ℕ) → at < length rows → first_byte_of (get_or rows at no_row) ≡ b → ⊥
+none_with b [] none at lt is = absurd (omega arith)
+none_with b (r ∷ rs) none zero lt is = (one_more b r rs none).0 is
+none_with b (r ∷ rs) none (suc at) lt is = none_with b rs (one_more b r rs none).1 at (omega arith) is
+
+no_zeros : rows_with 0 MACHINE_ROWS ≡ 0
+unfolding rows_with place_of
+no_zeros = refl
+
+-- no row begins with a byte of zeros
+pub none_begins : (bytes : List ℕ) (d : Decoded) → IsFetch bytes d → get_or bytes 0 0 ≡ 0 → ⊥
+unfolding machine_rows
+none_begins bytes d h first =
+    let k = known MACHINE_ROWS FIRST_BYTES bytes (record { row = d.row; slots = h.slots }) rows_are rows_indexed h.reading in
+    none_with 0 MACHINE_ROWS no_zeros k.at k.below (k.first ∙ first)
 
 -- the bytes of a row are fetched as that row
 pub encoded_fetched : (kind : FormatKind) (slots : List ℕ) → SlotsFit (layout_of kind) slots → IsEncoded machine_rows kind slots → IsFetch (encode kind slots) (decoded_of kind slots)

@@ -8,7 +8,7 @@ use Rattle.s390x_format.specs.Reading.{be_bytes}
 use Rattle.s390x_format.specs.Fetch.{machine_rows}
 use Rattle.s390x_format.specs.Encoded.{IsEncoded, decoded_of}
 use Rattle.s390x_steps.specs.Causes.{blocks_cause}
-use Rattle.s390x_steps.specs.Image.{function_code}
+use Rattle.s390x_steps.specs.Image.{linked_code}
 use Rattle.s390x_steps.specs.MachineInstruction.{MachineInstruction, bytes_of, rr, rre, ril_c}
 use Rattle.s390x_steps.specs.Ranges.{BlocksInRange}
 use Rattle.s390x_operations.specs.State.{State, Lies, sum64}
@@ -16,13 +16,13 @@ use Rattle.s390x_machine.specs.Fetch.{Found}
 use Rattle.s390x_machine.specs.Functions.{StandsAsCode}
 use Rattle.s390x_machine.specs.Meanings.{meaning_in, meaning_of}
 use Rattle.s390x_machine.specs.Machine.{Event, Went, FetchedActs, MachineStep}
-use Rattle.s390x_machine.specs.Example.{image, trees, no_codes, core, once, twice, LoopRuns}
+use Rattle.s390x_machine.specs.Example.{unlinked, image, trees, core, once, twice, LoopRuns}
 use Rattle.s390x_machine.proofs.Checked.{checked_steps}
 use Rattle.s390x_machine.proofs.Fetching.{StandsAt, found_at}
 use Rattle.s390x_machine.proofs.Rows.{fits_rr, fits_rre, fits_ril_c, agr_listed, bcr_listed, brcl_listed}
 
 -- the bytes are the function's code, as emission gives it
-code : image.bytes ≡ function_code trees ++ []
+code : image.bytes ≡ linked_code unlinked trees ++ []
 unfolding number bits layout_of length_of be_bytes
 code = refl
 
@@ -35,16 +35,16 @@ base : IsaFlags
 base = record { has_mie3 = false; has_mie4 = false; has_vxrs_ext2 = false; has_vxrs_ext3 = false }
 
 pub ranges : BlocksInRange trees
-ranges = ((tt, ((omega arith, omega arith), tt)), ((tt, tt), tt))
+ranges = (((tt, tt), ((omega arith, omega arith), tt)), (((tt, tt), tt), tt))
 
-pub stands : StandsAsCode trees image no_codes
+pub stands : StandsAsCode unlinked trees image
 stands = record {
   constants = [];
   bytes = code;
   even = refl;
   fits = omega arith;
   short = omega arith;
-  fine = checked_steps base trees 2 image no_codes (checked base) ranges;
+  fine = checked_steps base unlinked trees 2 image (checked base) ranges;
 }
 
 pub lies : Lies image core.memory

@@ -14,10 +14,10 @@ use Rattle.s390x_format.proofs.Encoding.{encode-length}
 use Rattle.s390x_steps.specs.MachineInstruction.{MachineInstruction, bytes_of, size_of}
 use Rattle.s390x_operations.specs.State.{Registers, Memory, State, sum64, CodeImage, is_within, Lies, bytes_from, bytes_at, reaches}
 use Rattle.s390x_machine.specs.declared.meaning.Action.{Action}
-use Rattle.s390x_machine.specs.Fetch.{Fetched, Misplaced, Missing, Unknown, Found, IsFound, Fetches, length_at, instruction_bytes}
+use Rattle.s390x_machine.specs.Fetch.{Fetched, Misplaced, Missing, Unknown, Found, IsReached, IsFound, Fetches, length_at, instruction_bytes}
 use Rattle.s390x_machine.specs.Machine.{Event, Acts, FetchedActs}
 use Rattle.s390x_machine.specs.Layout.{Layout}
-use Rattle.s390x_machine.proofs.Decoding.{one_fetch, encoded_fetched, encoded_length}
+use Rattle.s390x_machine.proofs.Decoding.{one_fetch, none_begins, encoded_fetched, encoded_length}
 use Rattle.s390x_machine.proofs.Simulation.{RowAt}
 
 pub size_even : (kind : FormatKind) → length_of kind % 2 ≡ 0
@@ -49,7 +49,7 @@ bytes_are f a i (x ∷ xs) h =
 both : (a b : Bool) → IsTrue a → IsTrue b → IsTrue (a && b)
 both a b p q = ap₂ (λ x y. x && y) p q
 
-reached_all : (has : ℕ → Bool) (a n : ℕ) → ((i : ℕ) → i < n → IsTrue (has (sum64 a i))) → IsTrue (reaches has a n)
+pub reached_all : (has : ℕ → Bool) (a n : ℕ) → ((i : ℕ) → i < n → IsTrue (has (sum64 a i))) → IsTrue (reaches has a n)
 reached_all has a zero h = refl
 reached_all has a (suc n) h = both (has (sum64 a n)) (reaches has a n) (h n (omega arith)) (reached_all has a n (λ i lt. h i (omega arith)))
 
@@ -60,8 +60,13 @@ pub record StandsAt (image : CodeImage) (offset : ℕ) (bytes : List ℕ) : Type
   pub at : offset ≡ length earlier
   pub is : image.bytes ≡ earlier ++ (bytes ++ later)
 
+-- byte i of them in the image
+pub image_byte : (image : CodeImage) (offset i : ℕ) (bytes : List ℕ) → StandsAt image offset bytes → i < length bytes → slice_index image.bytes (offset + i) ≡ get_or bytes i 0
+image_byte image offset i bytes s lt =
+    ap (λ k. slice_index image.bytes (k + i)) s.at ∙ ap (λ l. slice_index l (length s.earlier + i)) s.is ∙ get_or-append-add s.earlier (bytes ++ s.later) i 0 ∙ get_or_append_left bytes s.later 0 i lt
+
 -- byte i of them in memory
-byte_at : (image : CodeImage) (m : Memory) (offset i : ℕ) (bytes : List ℕ) → image.base + length image.bytes ≤ 2 ^ 64 → Lies image m → StandsAt image offset bytes → i < length bytes →
+pub byte_at : (image : CodeImage) (m : Memory) (offset i : ℕ) (bytes : List ℕ) → image.base + length image.bytes ≤ 2 ^ 64 → Lies image m → StandsAt image offset bytes → i < length bytes →
     IsTrue (m.has (sum64 (sum64 image.base offset) i)) × (m.get (sum64 (sum64 image.base offset) i) ≡ get_or bytes i 0)
 byte_at image m offset i bytes fits lies s lt =
     let n1 = ap length s.is in
@@ -72,8 +77,7 @@ byte_at image m offset i bytes fits lies s lt =
     let within = is_within_at image (offset + i) inside in
     let back : image.base + (offset + i) - image.base ≡ offset + i = omega arith in (
       subst (λ a. IsTrue (m.has a)) (sym p) (lies.has (image.base + (offset + i)) within),
-      ap m.get p ∙ lies.get (image.base + (offset + i)) within ∙ ap (λ k. slice_index image.bytes k) back ∙ ap (λ k. slice_index image.bytes (k + i)) s.at ∙ ap (λ l. slice_index l (length s.earlier + i)) s.is
-          ∙ get_or-append-add s.earlier (bytes ++ s.later) i 0 ∙ get_or_append_left bytes s.later 0 i lt,
+      ap m.get p ∙ lies.get (image.base + (offset + i)) within ∙ ap (λ k. slice_index image.bytes k) back ∙ image_byte image offset i bytes s lt,
     )
 
 -- what is fetched is the row, and nothing else
@@ -82,6 +86,24 @@ settled m p d found Misplaced h = absurd (omega (arith, found.even, h))
 settled m p d found Missing h = absurd (h.1 found.reached)
 settled m p d found Unknown h = absurd (h.2 d found.row)
 settled m p d found (Found e) h = ap Found (one_fetch (instruction_bytes m p) e d h.row found.row)
+
+-- where the first byte is zero, there is no instruction
+nothing : (m : Memory) (p : ℕ) → p % 2 ≡ 0 → IsReached m p → get_or (instruction_bytes m p) 0 0 ≡ 0 → (f : Fetched) → Fetches m p f → f ≡ Unknown
+nothing m p even reached first Misplaced h = absurd (omega (arith, even, h))
+nothing m p even reached first Missing h = absurd (h.1 reached)
+nothing m p even reached first Unknown h = refl
+nothing m p even reached first (Found d) h = absurd (none_begins (instruction_bytes m p) d h.row first)
+
+pub nothing_at : (image : CodeImage) (m : Memory) (offset second : ℕ) → image.base % 2 ≡ 0 → offset % 2 ≡ 0 → image.base + length image.bytes ≤ 2 ^ 64 → Lies image m → StandsAt image offset (0 ∷ second ∷ []) → (f : Fetched) → Fetches m (sum64 image.base offset) f → f ≡ Unknown
+nothing_at image m offset second even_base even_offset fits lies s f h =
+    let p = sum64 image.base offset in
+    let each = λ (i : ℕ) (lt : i < 2). byte_at image m offset i (0 ∷ second ∷ []) fits lies s lt in
+    let same : sum64 p 0 ≡ p = omega arith in
+    let here : m.get (sum64 p 0) ≡ 0 = (each 0 (omega arith)).1 in
+    let tells : length_at m p ≡ 2 = ap fetch_length_of (ap m.get (sym same) ∙ here) in
+    let reached : IsReached m p = (subst (λ a. IsTrue (m.has a)) same (each 0 (omega arith)).0, subst (λ n. IsTrue (reaches m.has p n)) (sym tells) (reached_all m.has p 2 (λ i lt. (each i lt).0))) in
+    let first : get_or (instruction_bytes m p) 0 0 ≡ 0 = ap (λ n. get_or (bytes_at m.get p n) 0 0) tells ∙ here in
+    nothing m p (omega (arith, even_base, even_offset)) reached first f h
 
 -- what stands at a place is one thing
 pub one_thing : (m : Memory) (p : ℕ) (f g : Fetched) → Fetches m p f → Fetches m p g → f ≡ g

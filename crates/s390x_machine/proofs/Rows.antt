@@ -7,7 +7,7 @@ use Rattle.std.proofs.lemmas.Bool.{and_parts}
 use Rattle.s390x_base.specs.Regs.{number_of, is_int}
 use Rattle.s390x_base.specs.declared.regs.Reg.{Reg}
 use Rattle.s390x_base.specs.declared.regs.Reg.TheVariants.{Real, Virtual}
-use Rattle.s390x_format.specs.declared.kind.FormatKind.TheVariants.{Rr, Rre, RrfAb, RrfCde, RiA, RieD, RieF, RieG, RilA, RilC, Rsy, RilB, Rxy}
+use Rattle.s390x_format.specs.declared.kind.FormatKind.TheVariants.{Rr, Rre, RrfAb, RrfCde, RiA, RiB, RieA, RieD, RieF, RieG, RilA, RilC, Rs, Rsy, RilB, Rx, Rxy, Si, Siy, Sil}
 use Rattle.s390x_format.specs.Layout.{SlotsFit}
 use Rattle.s390x_format.specs.Formats.{layout_of, length_of}
 use Rattle.s390x_format.specs.Fits.{fields_from}
@@ -15,8 +15,8 @@ use Rattle.s390x_format.specs.Lookup.{row_for}
 use Rattle.s390x_format.proofs.Encoding.{listed}
 use Rattle.s390x_format.specs.Fetch.{machine_rows}
 use Rattle.s390x_format.specs.Encoded.{IsEncoded}
-use Rattle.s390x_steps.specs.General.{is_general, is_nonzero}
-use Rattle.s390x_steps.specs.MachineInstruction.{bytes_of, rr, rre, rrf_ab, rrf_cde, ri_a, rie_d, rie_f, rie_g, ril_a, ril_c, rsy, ril_b, rxy}
+use Rattle.s390x_steps.specs.General.{is_general, is_nonzero, is_scratch}
+use Rattle.s390x_steps.specs.MachineInstruction.{bytes_of, rr, rre, rrf_ab, rrf_cde, ri_a, ri_b, rie_a, rie_d, rie_f, rie_g, ril_a, ril_c, rs, rsy, ril_b, rx, rxy, si, siy, sil}
 use Rattle.s390x_steps.specs.Rows.{half_distance}
 use Rattle.s390x_operations.specs.State.{State, sum64}
 use Rattle.s390x_operations.specs.Numbers.{low}
@@ -43,6 +43,10 @@ pub nonzero_number : (r : Reg) → IsTrue (is_general r) → IsTrue (is_nonzero 
 nonzero_number (Real r) g h = λ e. true≢false (sym h ∙ ap (λ n. not (nat_eq n 0)) e)
 nonzero_number (Virtual n c) g h = absurd (cc)
 
+pub unscratched_number : (r : Reg) → IsTrue (is_general r) → IsTrue (not (is_scratch r)) → number_of r ≢ 1
+unscratched_number (Real r) g h = λ e. true≢false (sym h ∙ ap (λ n. not (nat_eq n 1)) e)
+unscratched_number (Virtual n c) g h = absurd (cc)
+
 -- ---- formats
 
 pub fits_rr : (opcode a b : ℕ) → opcode < 256 → a < 16 → b < 16 → SlotsFit (layout_of Rr) (rr opcode a b).slots
@@ -63,6 +67,9 @@ fits_ril_b opcode a half o la lh = fields_from RilB (ril_b opcode a half).slots 
 pub fits_ri_a : (opcode a bits : ℕ) → opcode < 4096 → a < 16 → bits < 2 ^ 16 → SlotsFit (layout_of RiA) (ri_a opcode a bits).slots
 fits_ri_a opcode a bits o la lb = fields_from RiA (ri_a opcode a bits).slots refl (omega arith, (omega arith, (omega arith, (omega arith, (omega arith, (omega arith, (omega arith, (omega arith, (omega arith, (omega arith, tt))))))))))
 
+pub fits_ri_b : (opcode a half : ℕ) → opcode < 4096 → a < 16 → half < 2 ^ 16 → SlotsFit (layout_of RiB) (ri_b opcode a half).slots
+fits_ri_b opcode a half o la lh = fields_from RiB (ri_b opcode a half).slots refl (omega arith, (omega arith, (omega arith, (omega arith, (omega arith, (omega arith, (omega arith, (omega arith, (omega arith, (omega arith, tt))))))))))
+
 pub fits_ril_a : (opcode a bits : ℕ) → opcode < 4096 → a < 16 → bits < 2 ^ 32 → SlotsFit (layout_of RilA) (ril_a opcode a bits).slots
 fits_ril_a opcode a bits o la lb = fields_from RilA (ril_a opcode a bits).slots refl (omega arith, (omega arith, (omega arith, (omega arith, (omega arith, (omega arith, (omega arith, (omega arith, (omega arith, (omega arith, tt))))))))))
 
@@ -75,6 +82,9 @@ fits_rrf_cde opcode a b mask o la lb lm = fields_from RrfCde (rrf_cde opcode a b
 pub fits_rie_f : (opcode a b first last amount : ℕ) → opcode < 65536 → a < 16 → b < 16 → first < 256 → last < 256 → amount < 256 → SlotsFit (layout_of RieF) (rie_f opcode a b first last amount).slots
 fits_rie_f opcode a b first last amount o la lb lf ll lm = fields_from RieF (rie_f opcode a b first last amount).slots refl (omega arith, (omega arith, (omega arith, (omega arith, (omega arith, (omega arith, (omega arith, (omega arith, (omega arith, (omega arith, tt))))))))))
 
+pub fits_rie_a : (opcode a bits mask : ℕ) → opcode < 65536 → a < 16 → bits < 2 ^ 16 → mask < 16 → SlotsFit (layout_of RieA) (rie_a opcode a bits mask).slots
+fits_rie_a opcode a bits mask o la lb lm = fields_from RieA (rie_a opcode a bits mask).slots refl (omega arith, (omega arith, (omega arith, (omega arith, (omega arith, (omega arith, (omega arith, (omega arith, (omega arith, (omega arith, tt))))))))))
+
 pub fits_rie_g : (opcode a bits mask : ℕ) → opcode < 65536 → a < 16 → bits < 2 ^ 16 → mask < 16 → SlotsFit (layout_of RieG) (rie_g opcode a bits mask).slots
 fits_rie_g opcode a bits mask o la lb lm = fields_from RieG (rie_g opcode a bits mask).slots refl (omega arith, (omega arith, (omega arith, (omega arith, (omega arith, (omega arith, (omega arith, (omega arith, (omega arith, (omega arith, tt))))))))))
 
@@ -83,6 +93,21 @@ fits_rsy opcode a b base displacement o la lb lc ld = fields_from Rsy (rsy opcod
 
 pub fits_rxy : (opcode a base index displacement : ℕ) → opcode < 65536 → a < 16 → base < 16 → index < 16 → displacement < 2 ^ 20 → SlotsFit (layout_of Rxy) (rxy opcode a base index displacement).slots
 fits_rxy opcode a base index displacement o la lb lc ld = fields_from Rxy (rxy opcode a base index displacement).slots refl (omega arith, (omega arith, (omega arith, (omega arith, (omega arith, (omega arith, (omega arith, (omega arith, (omega arith, (omega arith, tt))))))))))
+
+pub fits_rx : (opcode a base index displacement : ℕ) → opcode < 256 → a < 16 → base < 16 → index < 16 → displacement < 2 ^ 12 → SlotsFit (layout_of Rx) (rx opcode a base index displacement).slots
+fits_rx opcode a base index displacement o la lb lc ld = fields_from Rx (rx opcode a base index displacement).slots refl (omega arith, (omega arith, (omega arith, (omega arith, (omega arith, (omega arith, (omega arith, (omega arith, (omega arith, (omega arith, tt))))))))))
+
+pub fits_rs : (opcode a b base displacement : ℕ) → opcode < 256 → a < 16 → b < 16 → base < 16 → displacement < 2 ^ 12 → SlotsFit (layout_of Rs) (rs opcode a b base displacement).slots
+fits_rs opcode a b base displacement o la lb lc ld = fields_from Rs (rs opcode a b base displacement).slots refl (omega arith, (omega arith, (omega arith, (omega arith, (omega arith, (omega arith, (omega arith, (omega arith, (omega arith, (omega arith, tt))))))))))
+
+pub fits_si : (opcode base displacement imm : ℕ) → opcode < 256 → base < 16 → displacement < 2 ^ 12 → imm < 256 → SlotsFit (layout_of Si) (si opcode base displacement imm).slots
+fits_si opcode base displacement imm o lb ld li = fields_from Si (si opcode base displacement imm).slots refl (omega arith, (omega arith, (omega arith, (omega arith, (omega arith, (omega arith, (omega arith, (omega arith, (omega arith, (omega arith, tt))))))))))
+
+pub fits_siy : (opcode base displacement imm : ℕ) → opcode < 65536 → base < 16 → displacement < 2 ^ 20 → imm < 256 → SlotsFit (layout_of Siy) (siy opcode base displacement imm).slots
+fits_siy opcode base displacement imm o lb ld li = fields_from Siy (siy opcode base displacement imm).slots refl (omega arith, (omega arith, (omega arith, (omega arith, (omega arith, (omega arith, (omega arith, (omega arith, (omega arith, (omega arith, tt))))))))))
+
+pub fits_sil : (opcode base displacement bits : ℕ) → opcode < 65536 → base < 16 → displacement < 2 ^ 12 → bits < 2 ^ 16 → SlotsFit (layout_of Sil) (sil opcode base displacement bits).slots
+fits_sil opcode base displacement bits o lb ld li = fields_from Sil (sil opcode base displacement bits).slots refl (omega arith, (omega arith, (omega arith, (omega arith, (omega arith, (omega arith, (omega arith, (omega arith, (omega arith, (omega arith, tt))))))))))
 
 -- ---- the table lists them
 
@@ -101,6 +126,18 @@ brcl_listed mask half = listed machine_rows RilC (ril_c 0xc04 mask half).slots (
 pub larl_listed : (a half : ℕ) → IsEncoded machine_rows RilB (ril_b 0xc00 a half).slots
 unfolding machine_rows row_for
 larl_listed a half = listed machine_rows RilB (ril_b 0xc00 a half).slots (omega arith) (refl, refl, refl)
+
+pub agf_listed : (index : ℕ) → IsEncoded machine_rows Rxy (rxy 0xe318 1 1 index 0).slots
+unfolding machine_rows row_for
+agf_listed index = listed machine_rows Rxy (rxy 0xe318 1 1 index 0).slots (omega arith) (refl, refl, refl)
+
+pub bras_listed : IsEncoded machine_rows RiB (ri_b 0xa75 1 6).slots
+unfolding machine_rows row_for
+bras_listed = listed machine_rows RiB (ri_b 0xa75 1 6).slots (omega arith) (refl, refl, refl)
+
+pub lg_listed : (a : ℕ) → IsEncoded machine_rows Rxy (rxy 0xe304 a 1 0 0).slots
+unfolding machine_rows row_for
+lg_listed a = listed machine_rows Rxy (rxy 0xe304 a 1 0 0).slots (omega arith) (refl, refl, refl)
 
 -- ---- what the machine does there
 

@@ -2,10 +2,10 @@
 use Rattle.std.proofs.Common.{◌≡◌, ℕ, zero, suc, ◌+◌, ◌%◌, ◌^◌, ◌<◌, ◌≤◌, List, [], ◌∷◌, ◌++◌, length, Option, Some, None, refl, sym, ap, ◌∙◌, subst, arith, append_assoc, length-append, slice_get}
 use Rattle.s390x_format.specs.Formats.{length_of}
 use Rattle.s390x_format.proofs.Encoding.{encode-length}
-use Rattle.s390x_steps.specs.MachineInstruction.{MachineInstruction, bytes_of, size_of, joined_bytes}
+use Rattle.s390x_steps.specs.MachineInstruction.{ril_b, ril_c}
 use Rattle.s390x_steps.specs.Steps.{Step}
-use Rattle.s390x_steps.specs.Parts.{Part, Row, Branch, Relative, part_size, parts_size, step_parts, step_size}
-use Rattle.s390x_steps.specs.Rows.{Places, row_of, rows_of, rows, step_bytes}
+use Rattle.s390x_steps.specs.Parts.{Part, Row, Trapping, Branch, Relative, SymbolValue, TrapHere, TableWord, part_size, parts_size, step_parts, step_size}
+use Rattle.s390x_steps.specs.Rows.{Places, target_place, half_distance, part_bytes, parts_bytes, step_bytes}
 use Rattle.s390x_operations.specs.State.{sum64}
 use Rattle.s390x_machine.specs.Layout.{Layout, place, block_place, InStep}
 use Rattle.s390x_machine.specs.Placed.{Placed, AllPlaced, IsBlock}
@@ -13,29 +13,36 @@ use Rattle.s390x_machine.proofs.Addresses.{sum_more}
 use Rattle.s390x_machine.proofs.Fetching.{StandsAt, size_even}
 
 -- the bytes of parts are as many as their sizes say
-row_size : (P : Places) (p : ℕ) (part : Part) → size_of (row_of P p part) ≡ part_size part
+pub part_length : (P : Places) (p : ℕ) (part : Part) → length (part_bytes P p part) ≡ part_size part
 unfolding length_of
-row_size P p (Row m) = refl
-row_size P p (Branch mask target) = refl
-row_size P p (Relative opcode register target) = refl
+part_length P p (Row m) = encode-length m.format m.slots
+part_length P p (Trapping m byte code) = encode-length m.format m.slots
+part_length P p (Branch mask target) = let m = ril_c 0xc04 mask (half_distance p (target_place P target)) in encode-length m.format m.slots
+part_length P p (Relative opcode register target) = let m = ril_b opcode register (half_distance p (target_place P target)) in encode-length m.format m.slots
+part_length P p (SymbolValue name offset) = refl
+part_length P p (TrapHere code) = refl
+part_length P p (TableWord before target) = refl
 
-joined_length : (P : Places) (p : ℕ) (parts : List Part) → length (joined_bytes (rows_of P p parts)) ≡ parts_size parts
-joined_length P p [] = refl
-joined_length P p (part ∷ parts) =
-    let m = row_of P p part in
-    omega (arith, length-append (bytes_of m) (joined_bytes (rows_of P (p + part_size part) parts)), encode-length m.format m.slots, row_size P p part, joined_length P (p + part_size part) parts)
+parts_length : (P : Places) (p : ℕ) (parts : List Part) → length (parts_bytes P p parts) ≡ parts_size parts
+parts_length P p [] = refl
+parts_length P p (part ∷ parts) =
+    omega (arith, length-append (part_bytes P p part) (parts_bytes P (p + part_size part) parts), part_length P p part, parts_length P (p + part_size part) parts)
 
 parts_even : (parts : List Part) → parts_size parts % 2 ≡ 0
 parts_even [] = refl
 parts_even (Row m ∷ parts) = omega (arith, size_even m.format, parts_even parts)
+parts_even (Trapping m byte code ∷ parts) = omega (arith, size_even m.format, parts_even parts)
 parts_even (Branch mask target ∷ parts) = omega (arith, parts_even parts)
 parts_even (Relative opcode register target ∷ parts) = omega (arith, parts_even parts)
+parts_even (SymbolValue name offset ∷ parts) = omega (arith, parts_even parts)
+parts_even (TrapHere code ∷ parts) = omega (arith, parts_even parts)
+parts_even (TableWord before target ∷ parts) = omega (arith, parts_even parts)
 
 pub step_even : (s : Step) → step_size s % 2 ≡ 0
 step_even s = parts_even (step_parts s)
 
 pub step_length : (P : Places) (p : ℕ) (s : Step) → length (step_bytes P p s) ≡ step_size s
-step_length P p s = joined_length P p (step_parts s)
+step_length P p s = parts_length P p (step_parts s)
 
 -- a step's bytes end in the image
 pub step_within : (L : Layout) (k : ℕ) (s : Step) → Placed L k s → L.places.step (suc k) ≤ length L.image.bytes
@@ -65,23 +72,27 @@ offset_even L all k le = (offset_ok L all k le).0
 pub offset_small : (L : Layout) → AllPlaced L → (k : ℕ) → k ≤ length L.steps → L.places.step k < 2 ^ 31
 offset_small L all k le = omega (arith, (offset_ok L all k le).1, all.short)
 
--- ---- the rows of a step
+-- ---- the parts of a step
 
--- the rows stand in the image one after another
-abbrev pub RowsStand : Layout → ℕ → List MachineInstruction → Type 0
-RowsStand L p [] = Unit {0}
-RowsStand L p (m ∷ ms) = StandsAt L.image p (bytes_of m) × RowsStand L (p + size_of m) ms
+-- the parts stand in the image one after another
+abbrev pub PartsStand : Layout → ℕ → List Part → Type 0
+PartsStand L p [] = Unit {0}
+PartsStand L p (part ∷ parts) = StandsAt L.image p (part_bytes L.places p part) × PartsStand L (p + part_size part) parts
 
-rows_stand : (L : Layout) (earlier later : List ℕ) (ms : List MachineInstruction) → L.image.bytes ≡ earlier ++ (joined_bytes ms ++ later) → RowsStand L (length earlier) ms
-rows_stand L earlier later [] e = tt
-rows_stand L earlier later (m ∷ ms) e =
-    let e1 : L.image.bytes ≡ earlier ++ (bytes_of m ++ (joined_bytes ms ++ later)) = e ∙ ap (λ l. earlier ++ l) (append_assoc (bytes_of m) (joined_bytes ms) later) in
-    let e2 : L.image.bytes ≡ (earlier ++ bytes_of m) ++ (joined_bytes ms ++ later) = e1 ∙ sym (append_assoc earlier (bytes_of m) (joined_bytes ms ++ later)) in
-    let n : length (earlier ++ bytes_of m) ≡ length earlier + size_of m = length-append earlier (bytes_of m) ∙ ap (λ k. length earlier + k) (encode-length m.format m.slots) in
-    (record { earlier = earlier; later = joined_bytes ms ++ later; at = refl; is = e1 }, subst (λ k. RowsStand L k ms) n (rows_stand L (earlier ++ bytes_of m) later ms e2))
+parts_stand : (L : Layout) (earlier later : List ℕ) (parts : List Part) → L.image.bytes ≡ earlier ++ (parts_bytes L.places (length earlier) parts ++ later) → PartsStand L (length earlier) parts
+parts_stand L earlier later [] e = tt
+parts_stand L earlier later (part ∷ parts) e =
+    let here = part_bytes L.places (length earlier) part in
+    let n : length (earlier ++ here) ≡ length earlier + part_size part = length-append earlier here ∙ ap (λ k. length earlier + k) (part_length L.places (length earlier) part) in
+    let behind = parts_bytes L.places (length earlier + part_size part) parts in
+    let e1 : L.image.bytes ≡ earlier ++ (here ++ (behind ++ later)) = e ∙ ap (λ l. earlier ++ l) (append_assoc here behind later) in
+    let e2 : L.image.bytes ≡ (earlier ++ here) ++ (parts_bytes L.places (length (earlier ++ here)) parts ++ later) = e1 ∙ sym (append_assoc earlier here (behind ++ later)) ∙ ap (λ k. (earlier ++ here) ++ (parts_bytes L.places k parts ++ later)) (sym n) in
+    (record { earlier = earlier; later = behind ++ later; at = refl; is = e1 }, subst (λ k. PartsStand L k parts) n (parts_stand L (earlier ++ here) later parts e2))
 
-pub step_rows : (L : Layout) (k : ℕ) (s : Step) → Placed L k s → RowsStand L (L.places.step k) (rows L.places (L.places.step k) s)
-step_rows L k s p = subst (λ n. RowsStand L n (rows L.places (L.places.step k) s)) (sym p.offset) (rows_stand L p.earlier p.later (rows L.places (L.places.step k) s) p.bytes)
+pub step_stands : (L : Layout) (k : ℕ) (s : Step) → Placed L k s → PartsStand L (L.places.step k) (step_parts s)
+step_stands L k s p =
+    let e : L.image.bytes ≡ p.earlier ++ (step_bytes L.places (length p.earlier) s ++ p.later) = p.bytes ∙ ap (λ n. p.earlier ++ (step_bytes L.places n s ++ p.later)) p.offset in
+    subst (λ n. PartsStand L n (step_parts s)) (sym p.offset) (parts_stand L p.earlier p.later (step_parts s) e)
 
 -- ---- places
 

@@ -14,7 +14,7 @@ use Rattle.s390x_lanes.specs.declared.operation.Signedness.{Signedness}
 use Rattle.s390x_lanes.specs.declared.operation.Signedness.TheVariants.{Signed, Unsigned}
 use Rattle.s390x_lanes.specs.declared.operation.ShiftOperator.{ShiftOperator}
 use Rattle.s390x_lanes.specs.declared.operation.ShiftOperator.TheVariants.{RotateLeft, ShiftLeft, ShiftRightLogical, ShiftRightArithmetic}
-use Rattle.s390x_operations.specs.Bits.{selection}
+use Rattle.s390x_operations.specs.Bits.{selection, extended}
 use Rattle.s390x_operations.specs.Effects.{is_selected}
 use Rattle.s390x_operations.specs.State.{Registers}
 use Rattle.s390x_operations.specs.declared.size.Size.{Size}
@@ -31,7 +31,7 @@ use Rattle.s390x_operations.specs.declared.operator.BitOperator.TheVariants.{And
 use Rattle.s390x_operations.specs.declared.operator.SelectedBitsOperator.{SelectedBitsOperator}
 use Rattle.s390x_operations.specs.declared.operator.SelectedBitsOperator.TheVariants as Select
 use Rattle.s390x_operations.specs.declared.effect.Effect.{Effect}
-use Rattle.s390x_operations.specs.declared.effect.Effect.TheVariants.{Compute, Compare, Test, MultiplyPair, FindLeftmostOne, PutAny, Nothing}
+use Rattle.s390x_operations.specs.declared.effect.Effect.TheVariants.{Compute, Compare, CompareAndTrap, Test, MultiplyPair, DividePair, DivideLogicalPair, FindLeftmostOne, PutAny, Nothing}
 use Rattle.s390x_operations.specs.declared.effect.CodeRule.{CodeRule}
 use Rattle.s390x_operations.specs.declared.effect.CodeRule.TheVariants.{Kept, Set, Unstated}
 use Rattle.s390x_operations.specs.declared.effect.Operation.{Operation}
@@ -329,9 +329,27 @@ multiplies_signed pair n m r = with_rule Kept (MultiplyPair Signed pair (r.gener
 abbrev pub multiplies_logical : (pair m : ℕ) → Registers → Operation
 multiplies_logical pair m r = with_rule Kept (MultiplyPair Unsigned pair (r.general (pair + 1)) (r.general m))
 
+-- a pair becomes the remainder and the quotient of its second register by register m, of which so many bits count, with their signs
+abbrev pub divides_signed : Width → (pair m : ℕ) → Registers → Operation
+divides_signed width pair m r = with_rule Kept (DividePair pair (r.general (pair + 1)) (extended Signed width Doubleword (r.general m)))
+
+-- the same of the number that its two parts make, without signs
+abbrev pub divides_logical : Size → (pair m : ℕ) → Registers → Operation
+divides_logical size pair m r = with_rule Kept (DivideLogicalPair size pair (value_in size r pair) (value_in size r (pair + 1)) (value_in size r m))
+
 -- a pair becomes the number of leading zeros of register n, and it without its leftmost one
 abbrev pub finds_leftmost : (pair n : ℕ) → Registers → Operation
 finds_leftmost pair n r = with_rule Set (FindLeftmostOne pair (r.general n))
+
+-- ---- comparisons that trap
+
+-- a stop where the mask selects the order of registers n and m
+abbrev pub compares_and_traps : Comparison → (n m mask : ℕ) → Registers → Operation
+compares_and_traps c n m mask r = with_rule Kept (CompareAndTrap c.sign c.size (value_in c.size r n) (value_in c.size r m) mask)
+
+-- the same of register n and the 16 bits of an immediate
+abbrev pub compares_immediate_and_traps : Comparison → (n bits mask : ℕ) → Registers → Operation
+compares_immediate_and_traps c n bits mask r = with_rule Kept (CompareAndTrap c.sign c.size (value_in c.size r n) (extended c.sign Bits16 c.size bits) mask)
 
 -- ---- access registers and conditional moves
 

@@ -1,9 +1,9 @@
 -- A function of two blocks in memory at 4096, and a run of it. The first block adds `%r4` to `%r2` and begins again where the sum is negative; the second one returns.
-use Rattle.std.specs.Prelude.{ℕ, ◌-◌, List, [], ◌∷◌, Option, None, if◌then◌else◌, ◌==◌, slice_index}
+use Rattle.s390x_base.specs.declared.ir.ExternalName.{ExternalName}
+use Rattle.std.specs.Prelude.{ℕ, ℤ, ◌-◌, List, [], ◌∷◌, None, if◌then◌else◌, ◌==◌, slice_index}
 use Rattle.s390x_base.specs.Registers.{general}
 use Rattle.s390x_base.specs.declared.regs.Reg.TheVariants.{Real}
 use Rattle.s390x_base.specs.declared.ir.MachLabel.{MachLabel}
-use Rattle.s390x_base.specs.declared.trap.TrapKind.{TrapKind}
 use Rattle.s390x_inst.specs.declared.ops.ALUOp.TheVariants.{Add64}
 use Rattle.s390x_inst.specs.declared.inst.Inst.{Inst}
 use Rattle.s390x_inst.specs.declared.inst.Inst.TheVariants.{AluRRR, CondBr, Ret}
@@ -11,7 +11,6 @@ use Rattle.s390x_steps.specs.Tree.{Tree, empty, leaf}
 use Rattle.s390x_operations.specs.State.{Registers, Core, CodeImage, is_within, Lies, put, coded}
 use Rattle.s390x_operations.specs.declared.stop.ConditionCode.TheVariants.{Code0, Code1}
 use Rattle.s390x_machine.specs.Machine.{Turn, Went, Run}
-use Rattle.s390x_operations.specs.declared.stop.StopKind.{StopKind}
 use Rattle.s390x_machine.specs.Layout.{block_place}
 use Rattle.s390x_machine.specs.Functions.{function_layout, StandsAsCode}
 
@@ -22,18 +21,21 @@ image = record {
   bytes = 0xb9 ∷ 0x08 ∷ 0x00 ∷ 0x24 ∷ 0xc0 ∷ 0x44 ∷ 0xff ∷ 0xff ∷ 0xff ∷ 0xfe ∷ 0xc0 ∷ 0xf4 ∷ 0x00 ∷ 0x00 ∷ 0x00 ∷ 0x03 ∷ 0x07 ∷ 0xfe ∷ [];
 }
 
+-- the label of a block
 abbrev pub label : ℕ → MachLabel
 label n = record { 0 = n }
 
+-- `%r4` is added to `%r2`
 abbrev pub adds : Inst
 adds = AluRRR Add64 (Real (general 2)) (Real (general 2)) (Real (general 4))
 
+-- no symbol is named
+abbrev pub unlinked : ExternalName → ℤ → ℕ
+unlinked name offset = 0
+
+-- the two blocks
 abbrev pub trees : List Tree
 trees = leaf adds (leaf (CondBr (label 0) (label 1) 4) empty) ∷ leaf (Ret (Real (general 14))) empty ∷ []
-
--- no stop has a code
-abbrev pub no_codes : ℕ → StopKind → Option TrapKind
-no_codes offset kind = None
 
 -- `%r2` is -2, `%r4` is 1 and `%r14` is 8192
 abbrev pub registers : Registers
@@ -48,15 +50,19 @@ registers = record {
 abbrev pub core : Core
 core = record { registers = registers; memory = record { has = λ a. is_within image a; get = λ a. slice_index image.bytes (a - 4096) } }
 
+-- `%r2` becomes a sum
 abbrev pub with_sum : ℕ → Registers → Registers
 with_sum x r = put r 2 x
 
+-- after the first addition: the sum is -1
 abbrev pub once : Core
 once = record { registers = coded Code1 (with_sum 18446744073709551615 registers); memory = core.memory }
 
+-- after the second one: the sum is 0
 abbrev pub twice : Core
 twice = record { registers = coded Code0 (with_sum 0 once.registers); memory = core.memory }
 
+-- a turn without writes of others that stores nothing, after which the core and the place are these
 abbrev pub turn : Core → ℕ → Turn
 turn c place = record { writes = []; event = Went None; after = record { core = c; place = place } }
 
@@ -66,4 +72,4 @@ turns = turn once 4100 ∷ turn once 4096 ∷ turn twice 4100 ∷ turn twice 410
 
 -- the image is the function's code and lies in memory, and the machine runs so from the first block
 abbrev pub LoopRuns : Type 0
-LoopRuns = StandsAsCode trees image no_codes × Lies image core.memory × Run image (record { core = core; place = block_place (function_layout trees image no_codes) 0 }) turns
+LoopRuns = StandsAsCode unlinked trees image × Lies image core.memory × Run image (record { core = core; place = block_place (function_layout unlinked trees image) 0 }) turns

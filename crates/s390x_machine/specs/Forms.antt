@@ -1,21 +1,26 @@
--- What each typed step does. It knows no bytes: its operations are those of the common relation.
-use Rattle.std.specs.Prelude.{ℕ, pos, Bool, false, List, Option, Some, None}
+-- What each typed step does (cranelift-codegen, `emit.rs`). It knows no bytes: its operations are those of the common relation.
+use Rattle.std.specs.Prelude.{ℕ, pos, Bool, true, false, cond, List, Option, Some, None}
 use Rattle.s390x_base.specs.Regs.{number_of}
 use Rattle.s390x_base.specs.declared.regs.Reg.TheVariants.{Real}
 use Rattle.s390x_base.specs.declared.ir.MachLabel.{MachLabel}
 use Rattle.s390x_base.specs.declared.trap.TrapKind.{TrapKind}
 use Rattle.s390x_base.specs.declared.trap.TrapKind.TheVariants.{IntegerDivisionByZero}
 use Rattle.s390x_inst.specs.declared.inst.Inst.{Inst}
-use Rattle.s390x_inst.specs.declared.inst.Inst.TheVariants.{AluRRR, AluRR, AluRRSImm16, AluRSImm16, AluRSImm32, AluRUImm32, AluRUImm16Shifted, AluRUImm32Shifted, SMulWide, UMulWide, Flogr, ShiftRR, RxSBG, RxSBGTest, UnaryRR, CmpRR, CmpRSImm16, CmpRSImm32, CmpRUImm32, Mov64, MovPReg, Mov32, Mov32Imm, Mov32SImm16, Mov64SImm16, Mov64SImm32, Mov64UImm16Shifted, Mov64UImm32Shifted, Insert64UImm16Shifted, Insert64UImm32Shifted, CMov32, CMov64, CMov32SImm16, CMov64SImm16, Extend, LoadAR, InsertAR, LoadIndexedAddr, LoadLogicalIndexedAddr, Fence, Nop0, Nop2, Jump, CondBr, IndirectBr, Ret, LabelAddress}
+use Rattle.s390x_inst.specs.declared.inst.Inst.TheVariants.{AluRRR, AluRR, AluRRSImm16, AluRSImm16, AluRSImm32, AluRUImm32, AluRUImm16Shifted, AluRUImm32Shifted, SMulWide, UMulWide, Flogr, ShiftRR, RxSBG, RxSBGTest, UnaryRR, CmpRR, CmpRSImm16, CmpRSImm32, CmpRUImm32, Mov64, MovPReg, Mov32, Mov32Imm, Mov32SImm16, Mov64SImm16, Mov64SImm32, Mov64UImm16Shifted, Mov64UImm32Shifted, Insert64UImm16Shifted, Insert64UImm32Shifted, CMov32, CMov64, CMov32SImm16, CMov64SImm16, Extend, LoadAR, InsertAR, LoadIndexedAddr, LoadLogicalIndexedAddr, Fence, Nop0, Nop2, Jump, CondBr, IndirectBr, Ret, JTSequence, LabelAddress, LoadSymbolReloc, Trap, TrapIf, Debugtrap, SDivMod32, SDivMod64, UDivMod32, UDivMod64, CmpTrapRR, CmpTrapRSImm16, CmpTrapRUImm16}
 use Rattle.s390x_operations.specs.State.{Registers}
 use Rattle.s390x_operations.specs.declared.operator.Operator.TheVariants.{Move}
 use Rattle.s390x_operations.specs.declared.size.Size.TheVariants.{Word, Doubleword}
+use Rattle.s390x_operations.specs.declared.size.Width.TheVariants.{Bits32, Bits64}
 use Rattle.s390x_operations.specs.declared.operator.SelectedBitsOperator.TheVariants as Select
 use Rattle.s390x_operations.specs.declared.effect.CodeRule.TheVariants.{Kept, Set}
 use Rattle.s390x_operations.specs.declared.effect.Operation.{Operation}
 use Rattle.s390x_operations.specs.declared.stop.StopKind.{StopKind}
 use Rattle.s390x_operations.specs.declared.stop.StopKind.TheVariants.{Access, Specification, Divide, CompareTrap}
-use Rattle.s390x_machine.specs.Computations.{computes, compares, alu_computation, alu_three_rule, alu_two_rule, unary_computation, unary_rule, comparison, on_words, on_doublewords, word, signed_word, signed_halfword, on_immediate, compares_on_immediate, computes_immediate, compares_immediate, doubleword, part_mask, on_selected, part_operator, at_part, at_half, half_mask, inserts_half, extension, shifts, rotates_into, rotates_to_test, multiplies_signed, multiplies_logical, finds_leftmost, idles, puts_any, copies_access, moves_where, moves_immediate_where}
+use Rattle.s390x_machine.specs.Computations.{computes, compares, alu_computation, alu_three_rule, alu_two_rule, unary_computation, unary_rule, comparison, on_words, on_doublewords, word, signed_word, signed_halfword, on_immediate, compares_on_immediate, computes_immediate, compares_immediate, doubleword, part_mask, on_selected, part_operator, at_part, at_half, half_mask, inserts_half, extension, shifts, rotates_into, rotates_to_test, multiplies_signed, multiplies_logical, divides_signed, divides_logical, compares_and_traps, compares_immediate_and_traps, finds_leftmost, idles, puts_any, copies_access, moves_where, moves_immediate_where}
+use Rattle.s390x_machine.specs.Storage.{address_of, needs_scratch, OperandStep, operand_step}
+use Rattle.s390x_inst.specs.Memory.{flags_of}
+use Rattle.s390x_inst.specs.declared.calls.SymbolReloc.{SymbolReloc}
+use Rattle.s390x_steps.specs.Parts.{name_in, offset_in}
 use Rattle.s390x_steps.specs.General.{low_halfword, low_word, low_byte, four_bits, rotation}
 use Rattle.s390x_machine.specs.Layout.{Layout, block_place}
 use Rattle.s390x_steps.specs.Steps.{Step, Plain, Opening, Back, Break}
@@ -82,7 +87,19 @@ access_code flags kind = None
 abbrev pub on_registers : (Registers → Operation) → Option Performed
 on_registers operation = Some (record { operation = operation; needs = false; code = no_code })
 
--- the instructions that are one operation; a move has no first operand. The layout tells the addresses of blocks
+-- an operation on registers and immediates that may stop by its values, with the codes of its stops
+abbrev pub may_stop : (StopKind → Option TrapKind) → (Registers → Operation) → Option Performed
+may_stop code operation = Some (record { operation = operation; needs = false; code = code })
+
+-- the same of one that needs `%r1`
+abbrev pub by_scratch : (Registers → Operation) → Option Performed
+by_scratch operation = Some (record { operation = operation; needs = true; code = no_code })
+
+-- what a relocation's doubleword holds once it is linked
+abbrev pub linked_value : Layout → SymbolReloc → ℕ
+linked_value L reloc = L.places.symbol_value (name_in reloc) (offset_in reloc)
+
+-- the instructions that are one operation; a move has no first operand. The layout tells the addresses of blocks and of symbols
 abbrev pub performed : Layout → Inst → Option Performed
 performed L (AluRRR op rd rn rm) = on_registers (computes (alu_three_rule op) (alu_computation op) (number_of rd) (number_of rn) (number_of rm))
 performed L (AluRR op rd ri rm) = on_registers (computes (alu_two_rule op) (alu_computation op) (number_of rd) (number_of rd) (number_of rm))
@@ -117,6 +134,13 @@ performed L (RxSBGTest op rd rn first last amount) = on_registers (rotates_to_te
 performed L (SMulWide rd rn rm) = on_registers (multiplies_signed (number_of rd.hi) (number_of rn) (number_of rm))
 performed L (UMulWide rd ri rn) = on_registers (multiplies_logical (number_of rd.hi) (number_of rn))
 performed L (Flogr rd rn) = on_registers (finds_leftmost (number_of rd.hi) (number_of rn))
+performed L (SDivMod32 rd ri rn) = may_stop division_code (divides_signed Bits32 (number_of rd.hi) (number_of rn))
+performed L (SDivMod64 rd ri rn) = may_stop division_code (divides_signed Bits64 (number_of rd.hi) (number_of rn))
+performed L (UDivMod32 rd ri rn) = may_stop division_code (divides_logical Word (number_of rd.hi) (number_of rn))
+performed L (UDivMod64 rd ri rn) = may_stop division_code (divides_logical Doubleword (number_of rd.hi) (number_of rn))
+performed L (CmpTrapRR op rn rm mask code) = may_stop (comparison_code code) (compares_and_traps (comparison op) (number_of rn) (number_of rm) (four_bits mask))
+performed L (CmpTrapRSImm16 op rn imm mask code) = may_stop (comparison_code code) (compares_immediate_and_traps (comparison op) (number_of rn) (low_halfword imm) (four_bits mask))
+performed L (CmpTrapRUImm16 op rn imm mask code) = may_stop (comparison_code code) (compares_immediate_and_traps (comparison op) (number_of rn) (low_halfword (pos imm)) (four_bits mask))
 performed L (CMov32 rd mask ri rm) = on_registers (moves_where Word word (four_bits mask) (number_of rd) (number_of rm))
 performed L (CMov64 rd mask ri rm) = on_registers (moves_where Doubleword doubleword (four_bits mask) (number_of rd) (number_of rm))
 performed L (CMov32SImm16 rd mask ri imm) = on_registers (moves_immediate_where Word (four_bits mask) (number_of rd) (low_halfword imm))
@@ -126,15 +150,38 @@ performed L (LoadLogicalIndexedAddr rd base index offset size) = on_registers (p
 performed L Fence = on_registers idles
 performed L Nop2 = on_registers idles
 performed L (LabelAddress dst label) = on_registers (computes_immediate Kept (on_doublewords Move) (number_of dst) (number_of dst) (block_place L label.0))
+performed L (LoadSymbolReloc rd reloc) = by_scratch (computes_immediate Kept (on_doublewords Move) (number_of rd) (number_of rd) (linked_value L reloc))
 performed L _ = None
 
--- one that goes elsewhere
+-- the code of an access's faults: that of its flags, if there is one. What accesses nothing has none
+abbrev pub fault_codes : OperandStep → StopKind → Option TrapKind
+fault_codes x = access_code (cond x.accesses (flags_of x.operand).trap None)
+
+-- an instruction with an operand in memory does its operation at the operand's address, where it has one
+abbrev pub performed_at : OperandStep → Option (Registers → ℕ) → Option Performed
+performed_at x None = None
+performed_at x (Some address) = Some (record { operation = λ r. x.operation (address r) r; needs = needs_scratch x.forms x.operand; code = fault_codes x })
+
+-- the same, where it is such an instruction
+abbrev pub performed_by : Option OperandStep → Option Performed
+performed_by None = None
+performed_by (Some x) = performed_at x (address_of x.operand)
+
+-- the instructions that are one operation with an operand in memory
+abbrev pub performed_in_memory : Inst → Option Performed
+performed_in_memory i = performed_by (operand_step i)
+
+-- one that goes elsewhere or ends the run
 abbrev pub branch_form : Inst → Form
 branch_form (Jump dest) = GoesTo dest.0
 branch_form (CondBr taken not_taken mask) = Chooses mask taken.0 not_taken.0
 branch_form (IndirectBr rn targets) = GoesByAddress (number_of rn) targets.items
 branch_form (Ret link) = Returns (number_of link)
+branch_form (JTSequence ridx other mask targets) = GoesByTable (number_of ridx) mask other.0 targets.items
 branch_form Nop0 = Silent
+branch_form (Trap code) = TrapsAlways code
+branch_form (TrapIf mask code) = TrapsWhere mask code
+branch_form Debugtrap = DebugStops
 branch_form _ = Unbuilt
 
 -- an instruction that is one operation performs it; another one has its own form
@@ -144,7 +191,7 @@ form_or (Some x) others = Performs x.needs x.operation x.code
 
 -- what an instruction does
 abbrev pub instruction_form : Layout → Inst → Form
-instruction_form L i = form_or (performed L i) (branch_form i)
+instruction_form L i = form_or (performed L i) (form_or (performed_in_memory i) (branch_form i))
 
 -- a loop's opening is a step without bytes; its back branch and its breaks lead to steps
 abbrev pub form : Layout → Step → Form

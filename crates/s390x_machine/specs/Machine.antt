@@ -1,4 +1,5 @@
--- The machine: one step, and runs. It fetches bytes, and knows of no function, block or typed step.
+-- The machine: one step, and runs (Principles of Operation, chapter 5, "Program execution", and chapter 6, "Interruptions").
+-- It fetches bytes, and knows of no function, block or typed step.
 use Rattle.std.specs.Prelude.{◌≡◌, ℕ, List, [], ◌∷◌, ◌++◌, Option, Some, None, Bool, true, false, if◌then◌else◌}
 use Rattle.s390x_format.specs.Formats.{length_of}
 use Rattle.s390x_format.specs.declared.fields.Fields.{Fields}

@@ -7,7 +7,7 @@ use Rattle.s390x_operations.specs.declared.stop.StopKind.TheVariants.{Operation 
 use Rattle.s390x_machine.specs.Machine.{Went, Stopped, Turn, before, Run, after_all, all_writes}
 use Rattle.s390x_machine.specs.Forms.{Form, GoesByAddress, GoesByTable}
 use Rattle.s390x_machine.specs.Typed.{Ending, Returned, Called, TailCalled, Trapped, DebugStopped, Position, At, Ended, TypedStep, Wrong, typed_deposit, form_at}
-use Rattle.s390x_machine.specs.Layout.{Layout, place, block_place, InStep}
+use Rattle.s390x_machine.specs.Layout.{Layout, place, block_place, InStep, code_at}
 
 -- ---- the match
 
@@ -34,7 +34,7 @@ Quiet (turn ∷ turns) = (turn.event ≡ Went None) × Quiet turns
 
 -- the code that the tables have for a stop at a place
 abbrev pub code_at_place : Layout → ℕ → StopKind → Option TrapKind
-code_at_place L p kind = L.code_at (p - L.image.base) kind
+code_at_place L p kind = code_at L (p - L.image.base) kind
 
 -- the next step is a stop that has this code
 abbrev pub NextStops : Layout → TrapKind → State → List Turn → Type 0
@@ -78,12 +78,13 @@ Under entries [] = Unit {0}
 Under [] (turn ∷ turns) = (turn.writes ≡ []) × Under [] turns
 Under (e ∷ entries) (turn ∷ turns) = (turn.writes ≡ e) × Under entries turns
 
--- every machine run of n steps from a step's place, in every state in which the image lies in memory, under every list of others' writes, is allowed
+-- every machine run of n steps from a step's place, in every state in which the image lies in memory, under every list of others' writes, is allowed.
+-- The statement is over each list of entries and each number of steps, so both stand in it, though the turns tell them too
 abbrev pub EveryRun : Layout → ℕ → Type 0
 EveryRun L k =
     (c : Core) → Lies L.image c.memory → (entries : List (List Write)) (n : ℕ) (turns : List Turn) → length turns ≡ n → Under entries turns → Run L.image (start L k c) turns → Allowed L k c turns
 
--- the same from a block's start
+-- the same from a block's start; the entries and n stand there for the same reason
 abbrev pub EveryBlockRun : Layout → ℕ → Type 0
 EveryBlockRun L b =
     (c : Core) → Lies L.image c.memory → (entries : List (List Write)) (n : ℕ) (turns : List Turn) → length turns ≡ n → Under entries turns → Run L.image (record { core = c; place = block_place L b }) turns → Allowed L (L.first_step b) c turns
@@ -99,6 +100,7 @@ pub data OneStep (L : Layout) (k : ℕ) (c : Core) (turns : List Turn) : Type 0 
   here : (a : Allowed L k c turns) → length a.groups ≤ 1 → OneStep L k c turns
   on : (g rest : List Turn) → turns ≡ g ++ rest → length g ≤ 4 → (j : ℕ) (t : Core) → TypedStep L k (written (all_writes g) c) (At j) t → after_all (start L k c) g ≡ start L j t → Lies L.image t.memory → (1 ≤ length g) ⊎ ((j ≡ suc k) × (suc k ≤ length L.steps)) → OneStep L k c turns
 
+-- every machine run from a step's place, in every state in which the image lies in memory, is as `OneStep` says
 abbrev pub StepHolds : Layout → ℕ → Type 0
 StepHolds L k = (c : Core) → Lies L.image c.memory → (turns : List Turn) → Run L.image (start L k c) turns → OneStep L k c turns
 
@@ -118,5 +120,6 @@ pub data Runs (L : Layout) (k : ℕ) (c : Core) (turns : List Turn) : Type 0 whe
   ends : (g rest : List Turn) → turns ≡ g ++ rest → length g ≤ 4 → Quiet g → (e : Ending) (t : Core) → TypedStep L k (written (all_writes g) c) (Ended e) t → Closes L (Ended e) t (after_all (start L k c) g) rest → Runs L k c turns
   lost : Wrong L k c → Loses (form_at L k) → Runs L k c turns
 
+-- every machine run from a step's place, in every state in which the image lies in memory, is as `Runs` says
 abbrev pub StepRuns : Layout → ℕ → Type 0
 StepRuns L k = (c : Core) → Lies L.image c.memory → (turns : List Turn) → Run L.image (start L k c) turns → Runs L k c turns

@@ -1,4 +1,4 @@
--- The typed steps: where they may go, and when they are wrong.
+-- The typed steps: where they may go, and when they are wrong (cranelift-codegen, `emit.rs`).
 use Rattle.std.specs.Prelude.{◌≡◌, ℕ, suc, ◌/◌, ◌%◌, List, Option, Some, None, Bool, true, false, ◌==◌, if◌then◌else◌, slice_get, IsTrue}
 use Rattle.s390x_base.specs.declared.ir.MachLabel.{MachLabel}
 use Rattle.s390x_base.specs.declared.trap.TrapKind.{TrapKind}

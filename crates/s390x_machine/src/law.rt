@@ -1,12 +1,13 @@
 //! The laws of the typed steps and the machine.
-ghost use Rattle.std.specs.Prelude.{◌≡◌, ℕ, List, length, Option, Some, None, slice_get};
+ghost use Rattle.std.specs.Prelude.{◌≡◌, ℕ, List, length, Option, Some, None, IsTrue, slice_get, ℤ};
+ghost use Rattle.s390x_base.specs.declared.ir.ExternalName.{ExternalName};
 ghost use Rattle.s390x_base.specs.declared.trap.TrapKind.{TrapKind};
 ghost use Rattle.s390x_inst.specs.declared.state.IsaFlags.{IsaFlags};
 ghost use Rattle.s390x_steps.specs.Tree.{Tree};
 ghost use Rattle.s390x_operations.specs.declared.stop.StopKind.{StopKind};
 ghost use Rattle.s390x_machine.specs.Functions.{function_layout, StandsAsCode};
 ghost use Rattle.s390x_steps.specs.Causes.{blocks_cause};
-ghost use Rattle.s390x_steps.specs.Ranges.{BlocksInRange};
+ghost use Rattle.s390x_steps.specs.Ranges.{OperandInRange, BlocksInRange};
 ghost use Rattle.s390x_steps.specs.Steps.{Step, function_steps};
 ghost use Rattle.s390x_machine.specs.Layout.{Layout};
 ghost use Rattle.s390x_machine.specs.Placed.{AllPlaced, IsBlock, IsFine};
@@ -14,6 +15,12 @@ ghost use Rattle.s390x_machine.specs.Match.{StepRuns, StepHolds, EveryRun, Every
 ghost use Rattle.s390x_machine.specs.Fetch.{Fetched, Fetches};
 ghost use Rattle.s390x_operations.specs.State.{CodeImage, Memory};
 ghost use Rattle.s390x_machine.specs.Example.{LoopRuns};
+ghost use Rattle.s390x_inst.specs.declared.args.MemArg.{MemArg};
+ghost use Rattle.s390x_steps.specs.Causes.{is_helped};
+ghost use Rattle.s390x_steps.specs.Operands.{finalized, has_form, operand_general, offset_fits};
+ghost use Rattle.s390x_steps.specs.declared.mem_inst_type.MemInstType.{MemInstType};
+ghost use Rattle.s390x_machine.specs.Storage.{needs_scratch};
+ghost use Rattle.s390x_machine.specs.Helpers.{IsBased, HelpersKeep, TakesOperand};
 
 /// Wherever a step's bytes lie in an image at their place, every machine run from there is allowed by at most that step, or begins with a run of at most four turns that is that step.
 pub fn each_step()
@@ -27,12 +34,12 @@ pub fn each_step_tells()
 
 /// Where an image begins with a function's code, and emission lets each step pass, the premises hold of the function's layout.
 pub fn code_is_placed()
-    ensures { (ts : List Tree) (image : CodeImage) (code_at : ℕ → StopKind → Option TrapKind) → StandsAsCode ts image code_at → AllPlaced (function_layout ts image code_at) }
+    ensures { (value : ExternalName → ℤ → ℕ) (ts : List Tree) (image : CodeImage) → StandsAsCode value ts image → AllPlaced (function_layout value ts image) }
 {}
 
 /// Emission lets each step pass of a function that has no cause of refusal, with n labels in use.
 pub fn checked_steps_are_fine()
-    ensures { (flags : IsaFlags) (ts : List Tree) (n : ℕ) (image : CodeImage) (code_at : ℕ → StopKind → Option TrapKind) → blocks_cause flags (length ts) n ts ≡ None → BlocksInRange ts → (k : ℕ) (s : Step) → slice_get (function_steps ts) k ≡ Some s → IsFine (function_layout ts image code_at) s }
+    ensures { (flags : IsaFlags) (value : ExternalName → ℤ → ℕ) (ts : List Tree) (n : ℕ) (image : CodeImage) → blocks_cause flags (length ts) n ts ≡ None → BlocksInRange ts → (k : ℕ) (s : Step) → slice_get (function_steps ts) k ≡ Some s → IsFine (function_layout value ts image) s }
 {}
 
 /// Every machine run from a step's place, in every state in which the image lies in memory and under every list of others' writes, is allowed by the typed steps.
@@ -53,4 +60,19 @@ pub fn one_instruction()
 /// The premises can be met: the code of a function of two blocks in memory, and a run of it that goes round a loop, leaves it and returns.
 pub fn a_loop_runs()
     ensures { LoopRuns }
+{}
+
+/// Helpers come before an access exactly where its step needs `%r1`.
+pub fn helpers_where_needed()
+    ensures { (mi : MemInstType) (m : MemArg) → IsTrue (operand_general m) → IsTrue (offset_fits m) → is_helped (finalized mi m).helpers ≡ needs_scratch mi m }
+{}
+
+/// Helpers change nothing but `%r1`, and behind them the operand of the access has the address that the given one had before them.
+pub fn helpers_keep_the_address()
+    ensures { (L : Layout) (mi : MemInstType) (m : MemArg) → IsBased m → HelpersKeep L mi m }
+{}
+
+/// Where the rows have a form for an operand, the one that stands in the access is of a form that they take, and its displacement lies in its range.
+pub fn access_takes_its_operand()
+    ensures { (mi : MemInstType) (m : MemArg) → IsTrue (has_form mi m) → IsTrue (operand_general m) → IsTrue (offset_fits m) → OperandInRange m → TakesOperand mi (finalized mi m).operand × OperandInRange (finalized mi m).operand }
 {}

@@ -1,9 +1,16 @@
 //! The machine, the typed steps, and the law that ties them: what a machine does that fetches the code is what the typed steps allow.
 #![tactic(auto)]
 
+pub mod access;
+pub mod action;
+pub mod codes;
 pub mod fetch;
+pub mod flat;
 pub mod law;
 pub mod machine;
 pub mod meaning;
 pub mod memory;
+pub mod perform;
 pub mod registers;
+pub mod step;
+pub mod vector_action;

@@ -1,10 +1,14 @@
 //! Making a machine, and reading and changing its registers.
-ghost use Rattle.std.specs.Prelude.{◌≡◌, ◌<◌};
-ghost use Rattle.s390x_operations.specs.State.{put, coded};
+
+ghost use Rattle.std.specs.Prelude.{◌≡◌, ◌<◌, Option};
+ghost use Rattle.s390x_operations.specs.Numbers.{whole};
+ghost use Rattle.s390x_operations.specs.Unsigned.{IsPairBelow};
+ghost use Rattle.s390x_operations.specs.State.{put, put_vector, coded};
+ghost use Rattle.s390x_operations.specs.Effects.{merged, put_sized, put_pair, put_divided};
 ghost use Rattle.s390x_machine.specs.State.{registers_of, fresh};
 
 use crate::machine::Machine;
-use s390x_operations::ConditionCode;
+use s390x_operations::{ConditionCode, Pair, Size};
 
 impl Machine {
     /// A machine at a place. All else is zero.
@@ -53,5 +57,76 @@ impl Machine {
         ensures place { self.new.place ≡ self.old.place }
     {
         self.regs[target as usize] = value;
+    }
+
+    /// What a general register holds.
+    pub fn general(&self, register: u8) -> u64
+        requires { register < 16 }
+        ensures { result ≡ (registers_of self.now).general register }
+    {
+        self.regs[register as usize]
+    }
+
+    /// A general register, or its rightmost part, gets a number of the size.
+    pub fn put_sized(&mut self, size: Size, target: u8, value: u64)
+        requires there { target < 16 }
+        requires below { value < whole size }
+        ensures registers { registers_of self.new ≡ put_sized size (registers_of self.old) target value }
+        ensures place { self.new.place ≡ self.old.place }
+    {
+        self.regs[target as usize] = merged(size, self.regs[target as usize], value);
+    }
+
+    /// What a vector register holds.
+    pub fn vector(&self, register: u8) -> u128
+        requires { register < 32 }
+        ensures { result ≡ (registers_of self.now).vector register }
+    {
+        self.vregs[register as usize]
+    }
+
+    /// A vector register gets a value.
+    pub fn put_vector(&mut self, target: u8, value: u128)
+        requires { target < 32 }
+        ensures registers { registers_of self.new ≡ put_vector (registers_of self.old) target value }
+        ensures place { self.new.place ≡ self.old.place }
+    {
+        self.vregs[target as usize] = value;
+    }
+
+    /// An even-odd pair gets two numbers of the size.
+    pub fn put_pair(&mut self, size: Size, pair: u8, values: Pair)
+        requires there { pair < 15 }
+        requires high_below { values.high < whole size }
+        requires low_below { values.low < whole size }
+        ensures registers { registers_of self.new ≡ put_pair size (registers_of self.old) pair values }
+        ensures place { self.new.place ≡ self.old.place }
+    {
+        self.put_sized(size, pair, values.high);
+        self.put_sized(size, pair + 1, values.low);
+    }
+
+    /// An even-odd pair gets the result of a division, if there is one.
+    pub fn put_divided(&mut self, size: Size, pair: u8, values: Option<Pair>)
+        requires there { pair < 15 }
+        requires below { IsPairBelow size values }
+        ensures registers { registers_of self.new ≡ put_divided size (registers_of self.old) pair values }
+        ensures place { self.new.place ≡ self.old.place }
+    {
+        if let Some(values) = values {
+            self.put_pair(size, pair, values);
+        }
+    }
+}
+
+/// A part of a register leaves the other bits.
+fn merged(size: Size, old: u64, value: u64) -> u64
+    requires { value < whole size }
+    ensures { result ≡ merged size old value }
+{
+    match size {
+        Size::Halfword => old / 65536 * 65536 + value,
+        Size::Word => old / 4294967296 * 4294967296 + value,
+        Size::Doubleword => value,
     }
 }

@@ -1,10 +1,10 @@
 -- The operators on bits.
 use Rattle.std.specs.Prelude.{ℕ, zero, suc, ◌+◌, ◌-◌, ◌*◌, ◌/◌, ◌%◌, ◌^◌, ◌≤◌, if◌then◌else◌, ◌==◌, nat_lt, nat_le, bit_and, bit_or, bit_xor, count_ones}
-use Rattle.std.specs.Int.{int_shr, w32, w64, rotate_left, leading_zeros}
+use Rattle.std.specs.Int.{int_shr, w16, w32, w64, rotate_left, leading_zeros}
 use Rattle.s390x_operations.specs.Numbers.{whole, signed, low}
 use Rattle.s390x_operations.specs.Signed.{code_s}
 use Rattle.s390x_operations.specs.declared.size.Size.{Size}
-use Rattle.s390x_operations.specs.declared.size.Size.TheVariants.{Word, Doubleword}
+use Rattle.s390x_operations.specs.declared.size.Size.TheVariants.{Halfword, Word, Doubleword}
 use Rattle.s390x_operations.specs.declared.stop.ConditionCode.{ConditionCode}
 use Rattle.s390x_operations.specs.declared.stop.ConditionCode.TheVariants.{Code0, Code1}
 use Rattle.s390x_operations.specs.declared.operator.BitOperator.{BitOperator}
@@ -40,6 +40,7 @@ bit_value OrNot size x y = bit_or x (complement size y)
 
 -- a number of a size, rotated to the left by k bits
 abbrev pub rotated : Size → ℕ → ℕ → ℕ
+rotated Halfword x k = rotate_left w16 x k
 rotated Word x k = rotate_left w32 x k
 rotated Doubleword x k = rotate_left w64 x k
 

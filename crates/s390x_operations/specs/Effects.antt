@@ -1,4 +1,5 @@
--- What instructions do, as one relation from the values in an operation to the allowed outcomes.
+-- What instructions do, as one relation from the values in an operation to the allowed outcomes (Principles of Operation, chapter 7,
+-- "General instructions"; of vectors chapters 21 and 22).
 -- Both the machine's instructions and the typed ones are mapped to operations, so both have this meaning.
 use Rattle.std.specs.Prelude.{◌≡◌, ℕ, zero, suc, ◌+◌, ◌*◌, ◌/◌, ◌%◌, ◌^◌, ◌<◌, ◌⊎◌, Bool, true, false, ◌==◌, if◌then◌else◌, bit_and, Option, Some, None, IsTrue, List, slice_index}
 use Rattle.s390x_base.specs.Conditions.{selects}
@@ -11,7 +12,7 @@ use Rattle.s390x_operations.specs.Values.{value, code_of_value, taken, width_of}
 use Rattle.s390x_operations.specs.Vectors.{layout_bytes, loaded, vector_stored}
 use Rattle.s390x_operations.specs.Access.{Access, Untouched, Reads, Stores, Locks, Swaps, Operates, fault, deposit}
 use Rattle.s390x_operations.specs.declared.size.Size.{Size}
-use Rattle.s390x_operations.specs.declared.size.Size.TheVariants.{Word, Doubleword}
+use Rattle.s390x_operations.specs.declared.size.Size.TheVariants.{Halfword, Word, Doubleword}
 use Rattle.s390x_operations.specs.declared.stop.ConditionCode.{ConditionCode}
 use Rattle.s390x_operations.specs.declared.stop.ConditionCode.TheVariants.{Code0, Code1, Code2, Code3}
 use Rattle.s390x_operations.specs.declared.stop.StopKind.{StopKind}
@@ -100,8 +101,9 @@ MayRefuse _ kind = ⊥
 
 -- ---- results
 
--- a word of a register leaves the other half
+-- a part of a register leaves the other bits
 abbrev pub merged : Size → ℕ → ℕ → ℕ
+merged Halfword old x = old / 2 ^ 16 * 2 ^ 16 + x
 merged Word old x = old / 2 ^ 32 * 2 ^ 32 + x
 merged Doubleword old x = x
 

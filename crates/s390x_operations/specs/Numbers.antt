@@ -1,16 +1,18 @@
--- Numbers of a size, with and without signs.
+-- Numbers of a size, with and without signs (Principles of Operation, chapter 7, "General instructions": binary integers).
 use Rattle.std.specs.Prelude.{ℕ, Bool, if◌then◌else◌, nat_lt, ◌&&◌, ℤ, pos, neg_ℤ, ◌-ℤ◌, int_lt, int_le, unsigned_abs}
 use Rattle.std.specs.Int.{int_rem_euclid}
 use Rattle.s390x_operations.specs.declared.size.Size.{Size}
-use Rattle.s390x_operations.specs.declared.size.Size.TheVariants.{Word, Doubleword}
+use Rattle.s390x_operations.specs.declared.size.Size.TheVariants.{Halfword, Word, Doubleword}
 
 -- how many numbers have the size
 abbrev pub whole : Size → ℕ
+whole Halfword = 65536
 whole Word = 4294967296
 whole Doubleword = 18446744073709551616
 
 -- how many of them have no sign
 abbrev pub half : Size → ℕ
+half Halfword = 32768
 half Word = 2147483648
 half Doubleword = 9223372036854775808
 

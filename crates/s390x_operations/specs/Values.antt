@@ -1,4 +1,4 @@
--- The values and condition codes of operators, and the values of operands.
+-- The values and condition codes of operators, and the values of operands (Principles of Operation, chapter 7, "General instructions").
 use Rattle.std.specs.Prelude.{ℕ, ◌%◌, Bool, if◌then◌else◌, count_ones}
 use Rattle.std.specs.Int.{w64, leading_zeros, trailing_zeros}
 use Rattle.s390x_operations.specs.Signed.{signed_value, signed_code}
@@ -6,9 +6,9 @@ use Rattle.s390x_operations.specs.Unsigned.{logical_value, logical_code}
 use Rattle.s390x_operations.specs.Bits.{code_z, bit_value, shifted, shift_code, select_value, select_code, ones_by_byte, reversed, bytes, extended}
 use Rattle.s390x_operations.specs.State.{Memory, number_at}
 use Rattle.s390x_operations.specs.declared.size.Size.{Size}
-use Rattle.s390x_operations.specs.declared.size.Size.TheVariants.{Word, Doubleword}
+use Rattle.s390x_operations.specs.declared.size.Size.TheVariants.{Halfword, Word, Doubleword}
 use Rattle.s390x_operations.specs.declared.size.Width.{Width}
-use Rattle.s390x_operations.specs.declared.size.Width.TheVariants.{Bits32, Bits64}
+use Rattle.s390x_operations.specs.declared.size.Width.TheVariants.{Bits16, Bits32, Bits64}
 use Rattle.s390x_operations.specs.declared.stop.ConditionCode.{ConditionCode}
 use Rattle.s390x_operations.specs.declared.stop.ConditionCode.TheVariants.{Code0}
 use Rattle.s390x_operations.specs.declared.operand.Source.{Source}
@@ -59,5 +59,6 @@ taken size y m = extended y.sign y.width size (ordered y.reversed y.width (raw y
 
 -- the width of a whole number of a size
 abbrev pub width_of : Size → Width
+width_of Halfword = Bits16
 width_of Word = Bits32
 width_of Doubleword = Bits64

@@ -20,10 +20,11 @@ layout_bytes (ReversedElements size) = 16
 layout_bytes (Replicated size backwards) = bits size / 8
 layout_bytes (Element size index backwards) = bits size / 8
 
--- the elements of x with their bytes reversed, or in reverse order
+-- the elements of x, each with its bytes reversed
 abbrev pub with_reversed_bytes : ElementSize → ℕ → ℕ
 with_reversed_bytes size x = from_lanes (bits size) (lane_count size) (λ i. element_value true size (lane (bits size) x i))
 
+-- the elements of x in reverse order
 abbrev pub with_reversed_elements : ElementSize → ℕ → ℕ
 with_reversed_elements size x = from_lanes (bits size) (lane_count size) (λ i. lane (bits size) x (lane_count size - 1 - i))
 

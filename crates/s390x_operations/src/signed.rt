@@ -13,6 +13,7 @@ pub fn whole(size: Size) -> i128
     ensures { result ≡ pos (whole size) }
 {
     match size {
+        Size::Halfword => 65536,
         Size::Word => 4294967296,
         Size::Doubleword => 18446744073709551616,
     }
@@ -23,6 +24,7 @@ pub fn half(size: Size) -> i128
     ensures { result ≡ pos (half size) }
 {
     match size {
+        Size::Halfword => 32768,
         Size::Word => 2147483648,
         Size::Doubleword => 9223372036854775808,
     }

@@ -3,6 +3,8 @@
 /// The part of a general register that an operation works on.
 #[derive(Clone, Copy, PartialEq, Eq, Debug)]
 pub enum Size {
+    /// Bits 48 to 63: the others stay.
+    Halfword,
     /// Bits 32 to 63: the others stay.
     Word,
     /// All 64 bits.

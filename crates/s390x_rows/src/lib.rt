@@ -9,6 +9,8 @@ mod buffer;
 mod buffer_tables;
 #[cfg(test)]
 mod decoder;
+#[cfg(test)]
+mod emit;
 
 #[cfg(test)]
 mod tests {

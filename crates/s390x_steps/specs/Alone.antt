@@ -2,14 +2,15 @@
 use Rattle.std.specs.Prelude.{ℕ, ◌+◌, pos, Bool, true, cond, ◌&&◌, nat_eq, nat_lt, Option, Some, None}
 use Rattle.s390x_base.specs.Regs.{number_of}
 use Rattle.s390x_base.specs.declared.regs.Reg.TheVariants.{Real}
+use Rattle.s390x_base.specs.declared.trap.TrapKind.{TrapKind}
+use Rattle.s390x_base.specs.declared.trap.TrapKind.TheVariants.{IntegerDivisionByZero}
 use Rattle.s390x_inst.specs.declared.inst.Inst.{Inst}
-use Rattle.s390x_inst.specs.declared.inst.Inst.TheVariants.{AluRRR, AluRR, AluRRSImm16, AluRSImm16, AluRSImm32, AluRUImm32, AluRUImm16Shifted, AluRUImm32Shifted, SMulWide, UMulWide, Flogr, ShiftRR, RxSBG, RxSBGTest, UnaryRR, CmpRR, CmpRSImm16, CmpRSImm32, CmpRUImm32, Mov64, MovPReg, Mov32, Mov32Imm, Mov32SImm16, Mov64SImm16, Mov64SImm32, Mov64UImm16Shifted, Mov64UImm32Shifted, Insert64UImm16Shifted, Insert64UImm32Shifted, CMov32, CMov64, CMov32SImm16, CMov64SImm16, Extend, LoadAR, InsertAR, LoadIndexedAddr, LoadLogicalIndexedAddr, Fence, Nop2}
-use Rattle.s390x_inst.specs.declared.ops.RxSBGOp.{RxSBGOp}
+use Rattle.s390x_inst.specs.declared.inst.Inst.TheVariants.{AluRRR, AluRR, AluRRSImm16, AluRSImm16, AluRSImm32, AluRUImm32, AluRUImm16Shifted, AluRUImm32Shifted, SMulWide, UMulWide, Flogr, ShiftRR, RxSBG, RxSBGTest, UnaryRR, CmpRR, CmpRSImm16, CmpRSImm32, CmpRUImm32, Mov64, MovPReg, Mov32, Mov32Imm, Mov32SImm16, Mov64SImm16, Mov64SImm32, Mov64UImm16Shifted, Mov64UImm32Shifted, Insert64UImm16Shifted, Insert64UImm32Shifted, CMov32, CMov64, CMov32SImm16, CMov64SImm16, Extend, LoadAR, InsertAR, LoadIndexedAddr, LoadLogicalIndexedAddr, Fence, Nop2, SDivMod32, SDivMod64, UDivMod32, UDivMod64, CmpTrapRR, CmpTrapRSImm16, CmpTrapRUImm16}
 use Rattle.s390x_inst.specs.declared.ops.UnaryOp.{UnaryOp}
 use Rattle.s390x_inst.specs.declared.ops.UnaryOp.TheVariants.{PopcntByte, PopcntReg}
-use Rattle.s390x_steps.specs.General.{is_general, is_even_pair, reuses, low_halfword, low_word, four_bits, low_displacement, low_byte, rotation, is_access}
-use Rattle.s390x_steps.specs.MachineInstruction.{MachineInstruction, rr, rre, rrf_ab, rrf_cde, ri_a, rie_d, rie_f, rie_g, ril_a, rsy, rxy}
-use Rattle.s390x_steps.specs.Opcodes.{alu_three, alu_two, cmp_two, unary_two, alu_halfword, alu_three_halfword, alu_signed_word, alu_unsigned_word, cmp_halfword, cmp_signed_word, cmp_unsigned_word, alu_part, alu_half, load_part, load_half, insert_part, insert_half, extend_two, shift_storage, rotate_then, rotate_then_test, indexed_opcode, logical_indexed_opcode}
+use Rattle.s390x_steps.specs.General.{is_general, is_even_pair, reuses, reuses_pair, low_halfword, low_word, four_bits, low_displacement, low_byte, rotation, is_access}
+use Rattle.s390x_steps.specs.MachineInstruction.{MachineInstruction, rr, rre, rrf_ab, rrf_cde, ri_a, rie_a, rie_d, rie_f, rie_g, ril_a, rsy, rxy}
+use Rattle.s390x_steps.specs.Opcodes.{alu_three, alu_two, cmp_two, cmp_trap, cmp_trap_signed, cmp_trap_unsigned, unary_two, alu_halfword, alu_three_halfword, alu_signed_word, alu_unsigned_word, cmp_halfword, cmp_signed_word, cmp_unsigned_word, alu_part, alu_half, load_part, load_half, insert_part, insert_half, extend_two, shift_storage, rotate_then, rotate_then_test, indexed_opcode, logical_indexed_opcode}
 
 -- the machine instruction, and whether its registers may stand there: real general ones, and the input that has to be the output is it
 pub record Alone : Type 0 where
@@ -46,6 +47,16 @@ abbrev pub three_halfword_row : (three two : Option ℕ) → (d n bits : ℕ) �
 three_halfword_row None two d n bits = None
 three_halfword_row (Some three) None d n bits = Some (rie_d three d n bits)
 three_halfword_row (Some three) (Some two) d n bits = Some (cond (nat_eq d n) (ri_a two d bits) (rie_d three d n bits))
+
+-- two registers and a mask; none where there is no row
+abbrev pub masked_row : Option ℕ → (n m mask : ℕ) → Option MachineInstruction
+masked_row None n m mask = None
+masked_row (Some opcode) n m mask = Some (rrf_cde opcode n m mask 0)
+
+-- a register, an immediate of 16 bits and a mask; none where there is no row
+abbrev pub masked_halfword_row : Option ℕ → (n bits mask : ℕ) → Option MachineInstruction
+masked_halfword_row None n bits mask = None
+masked_halfword_row (Some opcode) n bits mask = Some (rie_a opcode n bits mask)
 
 -- one operand: of two registers, but for the count of ones, whose mode stands in a mask
 abbrev pub unary_row : UnaryOp → (d n : ℕ) → Option MachineInstruction
@@ -107,6 +118,13 @@ alone (SMulWide rd rn rm) =
     alone_with (is_even_pair rd.hi rd.lo && is_general rn && is_general rm) (Some (rrf_ab 0xb9ec (number_of rd.hi) (number_of rn) (number_of rm) 0))
 alone (UMulWide rd ri rn) = alone_with (is_even_pair rd.hi rd.lo && reuses rd.lo ri && is_general rn) (Some (rre 0xb986 (number_of rd.hi) (number_of rn)))
 alone (Flogr rd rn) = alone_with (is_even_pair rd.hi rd.lo && is_general rn) (Some (rre 0xb983 (number_of rd.hi) (number_of rn)))
+alone (SDivMod32 rd ri rn) = alone_with (is_even_pair rd.hi rd.lo && reuses rd.lo ri && is_general rn) (Some (rre 0xb91d (number_of rd.hi) (number_of rn)))
+alone (SDivMod64 rd ri rn) = alone_with (is_even_pair rd.hi rd.lo && reuses rd.lo ri && is_general rn) (Some (rre 0xb90d (number_of rd.hi) (number_of rn)))
+alone (UDivMod32 rd ri rn) = alone_with (is_even_pair rd.hi rd.lo && reuses_pair rd ri && is_general rn) (Some (rre 0xb997 (number_of rd.hi) (number_of rn)))
+alone (UDivMod64 rd ri rn) = alone_with (is_even_pair rd.hi rd.lo && reuses_pair rd ri && is_general rn) (Some (rre 0xb987 (number_of rd.hi) (number_of rn)))
+alone (CmpTrapRR op rn rm mask code) = alone_with (is_general rn && is_general rm) (masked_row (cmp_trap op) (number_of rn) (number_of rm) (four_bits mask))
+alone (CmpTrapRSImm16 op rn imm mask code) = alone_with (is_general rn) (masked_halfword_row (cmp_trap_signed op) (number_of rn) (low_halfword imm) (four_bits mask))
+alone (CmpTrapRUImm16 op rn imm mask code) = alone_with (is_general rn) (masked_halfword_row (cmp_trap_unsigned op) (number_of rn) (low_halfword (pos imm)) (four_bits mask))
 alone (CMov32 rd mask ri rm) = alone_with (reuses rd ri && is_general rm) (Some (rrf_cde 0xb9f2 (number_of rd) (number_of rm) (four_bits mask) 0))
 alone (CMov64 rd mask ri rm) = alone_with (reuses rd ri && is_general rm) (Some (rrf_cde 0xb9e2 (number_of rd) (number_of rm) (four_bits mask) 0))
 alone (CMov32SImm16 rd mask ri imm) = alone_with (reuses rd ri) (Some (rie_g 0xec42 (number_of rd) (low_halfword imm) (four_bits mask)))
@@ -119,3 +137,14 @@ alone (LoadLogicalIndexedAddr rd base index offset size) =
 alone Fence = Some (record { row = rr 0x07 14 0; fine = true })
 alone Nop2 = Some (record { row = rr 0x07 0 7; fine = true })
 alone _ = None
+
+-- the code of the stop of a division, or of a comparison that traps
+abbrev pub stop_code : Inst → Option TrapKind
+stop_code (SDivMod32 rd ri rn) = Some IntegerDivisionByZero
+stop_code (SDivMod64 rd ri rn) = Some IntegerDivisionByZero
+stop_code (UDivMod32 rd ri rn) = Some IntegerDivisionByZero
+stop_code (UDivMod64 rd ri rn) = Some IntegerDivisionByZero
+stop_code (CmpTrapRR op rn rm mask code) = Some code
+stop_code (CmpTrapRSImm16 op rn imm mask code) = Some code
+stop_code (CmpTrapRUImm16 op rn imm mask code) = Some code
+stop_code _ = None

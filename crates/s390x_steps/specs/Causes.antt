@@ -1,14 +1,19 @@
 -- Why emission refuses an instruction: the first cause, in the order of the steps.
-use Rattle.std.specs.Prelude.{ℕ, ◌+◌, List, [], ◌∷◌, Bool, cond, ◌&&◌, nat_lt, Option, Some, None}
+use Rattle.std.specs.Prelude.{ℕ, ◌+◌, List, [], ◌∷◌, Bool, true, false, cond, not, ◌&&◌, ◌||◌, nat_lt, Option, Some, None}
 use Rattle.s390x_base.specs.declared.ir.MachLabel.{MachLabel}
+use Rattle.s390x_base.specs.declared.regs.Reg.{Reg}
 use Rattle.s390x_base.specs.declared.error.EmitError.{EmitError}
-use Rattle.s390x_base.specs.declared.error.EmitError.TheVariants.{MissingFacility, BadOperator, BadRegister, BreakOutsideLoop, UnboundLabel, LabelOutOfRange}
+use Rattle.s390x_base.specs.declared.error.EmitError.TheVariants.{MissingFacility, BadOperator, BadRegister, ScratchConflict, OffsetOutOfRange, BreakOutsideLoop, UnboundLabel, LabelOutOfRange}
+use Rattle.s390x_inst.specs.declared.args.MemArg.{MemArg}
 use Rattle.s390x_inst.specs.declared.inst.Inst.{Inst}
-use Rattle.s390x_inst.specs.declared.inst.Inst.TheVariants.{Jump, CondBr, IndirectBr, Ret, CondBreak, Nop0, LabelAddress}
+use Rattle.s390x_inst.specs.declared.inst.Inst.TheVariants.{Jump, CondBr, IndirectBr, Ret, JTSequence, CondBreak, Nop0, LabelAddress, LoadSymbolReloc, Trap, TrapIf, Debugtrap}
 use Rattle.s390x_inst.specs.declared.state.IsaFlags.{IsaFlags}
 use Rattle.s390x_inst.specs.Facilities.{facility_of, has_facility}
-use Rattle.s390x_steps.specs.General.{is_general, is_nonzero}
+use Rattle.s390x_steps.specs.General.{is_general, is_nonzero, is_scratch}
 use Rattle.s390x_steps.specs.Alone.{Alone, alone}
+use Rattle.s390x_steps.specs.Operands.{finalized, is_relative, has_form, loses_base, offset_fits, operand_general}
+use Rattle.s390x_steps.specs.Memory.{MemoryInstruction, memory, type_of}
+use Rattle.s390x_steps.specs.declared.mem_inst_type.MemInstType.{MemInstType}
 use Rattle.s390x_steps.specs.Tree.{Tree, empty, leaf, looped}
 
 -- the first of two causes
@@ -20,47 +25,95 @@ first (Some e) later = Some e
 abbrev pub unless : Bool → EmitError → Option EmitError
 unless holds e = cond holds None (Some e)
 
--- a label names a block
+-- a cause: the label names no block
 abbrev pub label_cause : ℕ → MachLabel → Option EmitError
 label_cause blocks l = unless (nat_lt l.0 blocks) UnboundLabel
 
--- each of the labels names a block
+-- a cause: one of the labels names no block
 abbrev pub labels_cause : ℕ → List MachLabel → Option EmitError
 labels_cause blocks [] = None
 labels_cause blocks (l ∷ ls) = first (label_cause blocks l) (labels_cause blocks ls)
 
--- the causes of an instruction that names a place or goes elsewhere, inside so many loops; one that isn't built yet is refused
+-- the causes of a jump by a table: the index can't be added as an index, it stands where the table's address goes, or a label names no block
+abbrev pub table_cause : (blocks : ℕ) → (index : Reg) → (other : MachLabel) → List MachLabel → Option EmitError
+table_cause blocks index other targets =
+    first (unless (is_general index && is_nonzero index) BadRegister) (first (unless (not (is_scratch index)) ScratchConflict) (first (label_cause blocks other) (labels_cause blocks targets)))
+
+-- the causes of an instruction that names a place, goes elsewhere or ends the run, inside so many loops; one that isn't built yet is refused
 abbrev pub branch_cause : (blocks depth : ℕ) → Inst → Option EmitError
 branch_cause blocks depth (Jump dest) = label_cause blocks dest
 branch_cause blocks depth (CondBr taken not_taken mask) = first (label_cause blocks taken) (label_cause blocks not_taken)
 branch_cause blocks depth (IndirectBr rn targets) = first (unless (is_general rn && is_nonzero rn) BadRegister) (labels_cause blocks targets.items)
 branch_cause blocks depth (Ret link) = unless (is_general link && is_nonzero link) BadRegister
+branch_cause blocks depth (JTSequence ridx other mask targets) = table_cause blocks ridx other targets.items
 branch_cause blocks depth (CondBreak mask) = unless (nat_lt 0 depth) BreakOutsideLoop
 branch_cause blocks depth Nop0 = None
 branch_cause blocks depth (LabelAddress dst label) = first (unless (is_general dst) BadRegister) (label_cause blocks label)
+branch_cause blocks depth (LoadSymbolReloc rd reloc) = unless (is_general rd) BadRegister
+branch_cause blocks depth (Trap code) = None
+branch_cause blocks depth (TrapIf mask code) = None
+branch_cause blocks depth Debugtrap = None
 branch_cause blocks depth _ = Some BadOperator
+
+-- the causes of an operand: no row has a form for it, its offset is loaded over its base, its exact offset doesn't fit 32 bits
+abbrev pub operand_cause : MemInstType → MemArg → Option EmitError
+operand_cause type m = first (unless (has_form type m) BadOperator) (first (unless (not (loses_base m)) ScratchConflict) (unless (offset_fits m) OffsetOutOfRange))
+
+-- there are helpers
+abbrev pub is_helped : List Inst → Bool
+is_helped [] = false
+is_helped (i ∷ is) = true
+
+-- a helper writes %r1 before it is read, as the base of the operand or by the access
+abbrev pub loses_scratch : MemoryInstruction → Bool
+loses_scratch x = loses_base x.operand || (x.reads_scratch && is_helped (finalized (type_of x.form x.accesses) x.operand).helpers)
+
+-- the causes behind those of the rows and the registers
+abbrev pub late_cause : MemoryInstruction → Option EmitError
+late_cause x = first (unless (not (loses_scratch x)) ScratchConflict) (unless (offset_fits x.operand) OffsetOutOfRange)
+
+-- the causes of an instruction with a memory operand. Operands that are relative to the instruction aren't built yet, and are refused
+abbrev pub memory_cause : MemoryInstruction → Option EmitError
+memory_cause x =
+    first (unless (has_form (type_of x.form x.accesses) x.operand && not (is_relative x.operand)) BadOperator)
+    (first (unless (x.fine && operand_general x.operand) BadRegister)
+    (late_cause x))
+
+-- an instruction with a memory operand has these; another one has its own causes
+abbrev pub memory_cause_or : Option MemoryInstruction → Option EmitError → Option EmitError
+memory_cause_or None others = others
+memory_cause_or (Some x) others = memory_cause x
 
 -- an instruction that is one machine instruction is refused for its registers alone; another one has its own causes
 abbrev pub cause_or : Option Alone → Option EmitError → Option EmitError
 cause_or None others = others
 cause_or (Some x) others = unless x.fine BadRegister
 
--- the machine has the facility that an instruction needs
+-- a cause: the machine, by its flags, lacks the facility that the instruction needs
 abbrev pub facility_cause : IsaFlags → Inst → Option EmitError
 facility_cause flags i = unless (has_facility flags (facility_of i)) MissingFacility
 
--- the causes of an instruction that is no `Loop`, inside so many loops
+-- the causes of an instruction that is no `Loop`, inside so many loops: its facility first
 abbrev pub instruction_cause : IsaFlags → (blocks depth : ℕ) → Inst → Option EmitError
-instruction_cause flags blocks depth i = first (facility_cause flags i) (cause_or (alone i) (branch_cause blocks depth i))
+instruction_cause flags blocks depth i = first (facility_cause flags i) (cause_or (alone i) (memory_cause_or (memory i) (branch_cause blocks depth i)))
 
 -- label numbers end below 2 ^ 32; n are in use, and so many more are drawn
 abbrev pub numbers_cause : (n more : ℕ) → Option EmitError
 numbers_cause n more = unless (nat_lt (n + more) 4294967297) LabelOutOfRange
 
--- how many labels a tree draws: two for each loop
+-- how many labels an instruction draws that is no `Loop`: one for a table
+abbrev pub instruction_draws : Inst → ℕ
+instruction_draws (JTSequence ridx other mask targets) = 1
+instruction_draws _ = 0
+
+-- the causes of an instruction that is no `Loop`, with n labels in use: its own, and the numbers of the labels that it draws
+abbrev pub leaf_cause : IsaFlags → (blocks n depth : ℕ) → Inst → Option EmitError
+leaf_cause flags blocks n depth i = first (instruction_cause flags blocks depth i) (numbers_cause n (instruction_draws i))
+
+-- how many labels a tree draws: two for each loop, and one for each table
 abbrev pub draws : Tree → ℕ
 draws empty = 0
-draws (leaf i rest) = draws rest
+draws (leaf i rest) = instruction_draws i + draws rest
 draws (looped mask members rest) = 2 + draws members + draws rest
 
 -- how deep loops may be nested
@@ -70,7 +123,7 @@ nesting_cause depth = unless (nat_lt depth 8) BadOperator
 -- the first cause in a tree, inside so many loops, with n labels in use
 abbrev pub tree_cause : IsaFlags → (blocks n depth : ℕ) → Tree → Option EmitError
 tree_cause flags blocks n depth empty = None
-tree_cause flags blocks n depth (leaf i rest) = first (instruction_cause flags blocks depth i) (tree_cause flags blocks n depth rest)
+tree_cause flags blocks n depth (leaf i rest) = first (leaf_cause flags blocks n depth i) (tree_cause flags blocks (n + instruction_draws i) depth rest)
 tree_cause flags blocks n depth (looped mask members rest) =
     first (first (first (nesting_cause depth) (numbers_cause n 2)) (tree_cause flags blocks (n + 2) (depth + 1) members)) (tree_cause flags blocks (n + 2 + draws members) depth rest)
 

@@ -3,10 +3,16 @@ pub mod Causes
 pub mod General
 pub mod Image
 pub mod MachineInstruction
+pub mod Memory
 pub mod Opcodes
+pub mod Operands
 pub mod Parts
 pub mod Ranges
+pub mod Resolved
 pub mod Rows
 pub mod Sizes
 pub mod Steps
+pub mod Storage
+pub mod Relocs
+pub mod Traps
 pub mod Tree

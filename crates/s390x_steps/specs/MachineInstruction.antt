@@ -1,8 +1,8 @@
 -- Machine instructions: a format and the values in its slots, which are the opcode, four registers, three masks, an immediate and a displacement
 -- (cranelift-codegen, `emit.rs`; the formats: Principles of Operation, chapter 5, "Instruction formats").
-use Rattle.std.specs.Prelude.{ℕ, ◌+◌, List, [], ◌∷◌, ◌++◌}
+use Rattle.std.specs.Prelude.{ℕ, List, [], ◌∷◌}
 use Rattle.s390x_format.specs.declared.kind.FormatKind.{FormatKind}
-use Rattle.s390x_format.specs.declared.kind.FormatKind.TheVariants.{Rr, Rre, RrfAb, RrfCde, RiA, RieD, RieF, RieG, RilA, RilB, RilC, Rsy, Rxy}
+use Rattle.s390x_format.specs.declared.kind.FormatKind.TheVariants.{E, Rr, Rre, RrfAb, RrfCde, RiA, RiB, RieA, RieD, RieF, RieG, RilA, RilB, RilC, Rs, Rsy, Rx, Rxy, Si, Sil, Siy}
 use Rattle.s390x_format.specs.Formats.{length_of}
 use Rattle.s390x_format.specs.Reading.{encode}
 
@@ -18,6 +18,10 @@ bytes_of m = encode m.format m.slots
 -- how many bytes it has
 abbrev pub size_of : MachineInstruction → ℕ
 size_of m = length_of m.format
+
+-- E: an opcode of four digits alone
+abbrev pub format_e : (opcode : ℕ) → MachineInstruction
+format_e opcode = record { format = E; slots = opcode ∷ 0 ∷ 0 ∷ 0 ∷ 0 ∷ 0 ∷ 0 ∷ 0 ∷ 0 ∷ 0 ∷ [] }
 
 -- RR: two registers, and an opcode of two digits
 abbrev pub rr : (opcode r1 r2 : ℕ) → MachineInstruction
@@ -39,6 +43,14 @@ rrf_cde opcode r1 r2 m3 m4 = record { format = RrfCde; slots = opcode ∷ r1 ∷
 abbrev pub ri_a : (opcode r1 bits : ℕ) → MachineInstruction
 ri_a opcode r1 bits = record { format = RiA; slots = opcode ∷ r1 ∷ 0 ∷ 0 ∷ 0 ∷ 0 ∷ 0 ∷ 0 ∷ bits ∷ 0 ∷ [] }
 
+-- RI-B: a register and half of a distance, modulo 2 ^ 16, in the immediate's slot
+abbrev pub ri_b : (opcode r1 half : ℕ) → MachineInstruction
+ri_b opcode r1 half = record { format = RiB; slots = opcode ∷ r1 ∷ 0 ∷ 0 ∷ 0 ∷ 0 ∷ 0 ∷ 0 ∷ half ∷ 0 ∷ [] }
+
+-- RIE-A: a register, the bits of an immediate of 16 bits, and a mask
+abbrev pub rie_a : (opcode r1 bits m3 : ℕ) → MachineInstruction
+rie_a opcode r1 bits m3 = record { format = RieA; slots = opcode ∷ r1 ∷ 0 ∷ 0 ∷ 0 ∷ m3 ∷ 0 ∷ 0 ∷ bits ∷ 0 ∷ [] }
+
 -- RIE-D: two registers and the bits of an immediate of 16 bits
 abbrev pub rie_d : (opcode r1 r3 bits : ℕ) → MachineInstruction
 rie_d opcode r1 r3 bits = record { format = RieD; slots = opcode ∷ r1 ∷ r3 ∷ 0 ∷ 0 ∷ 0 ∷ 0 ∷ 0 ∷ bits ∷ 0 ∷ [] }
@@ -51,13 +63,33 @@ rie_f opcode r1 r2 i3 i4 i5 = record { format = RieF; slots = opcode ∷ r1 ∷ 
 abbrev pub rie_g : (opcode r1 bits m3 : ℕ) → MachineInstruction
 rie_g opcode r1 bits m3 = record { format = RieG; slots = opcode ∷ r1 ∷ 0 ∷ 0 ∷ 0 ∷ m3 ∷ 0 ∷ 0 ∷ bits ∷ 0 ∷ [] }
 
+-- RS: two registers, and a base with a displacement of 12 bits
+abbrev pub rs : (opcode r1 r3 b2 displacement : ℕ) → MachineInstruction
+rs opcode r1 r3 b2 displacement = record { format = Rs; slots = opcode ∷ r1 ∷ r3 ∷ b2 ∷ 0 ∷ 0 ∷ 0 ∷ 0 ∷ 0 ∷ displacement ∷ [] }
+
 -- RSY: two registers, and a base with a displacement of 20 bits
 abbrev pub rsy : (opcode r1 r3 b2 displacement : ℕ) → MachineInstruction
 rsy opcode r1 r3 b2 displacement = record { format = Rsy; slots = opcode ∷ r1 ∷ r3 ∷ b2 ∷ 0 ∷ 0 ∷ 0 ∷ 0 ∷ 0 ∷ displacement ∷ [] }
 
+-- RX: a register, and a base and an index with a displacement of 12 bits
+abbrev pub rx : (opcode r1 b2 x2 displacement : ℕ) → MachineInstruction
+rx opcode r1 b2 x2 displacement = record { format = Rx; slots = opcode ∷ r1 ∷ b2 ∷ x2 ∷ 0 ∷ 0 ∷ 0 ∷ 0 ∷ 0 ∷ displacement ∷ [] }
+
 -- RXY: a register, and a base and an index with a displacement of 20 bits
 abbrev pub rxy : (opcode r1 b2 x2 displacement : ℕ) → MachineInstruction
 rxy opcode r1 b2 x2 displacement = record { format = Rxy; slots = opcode ∷ r1 ∷ b2 ∷ x2 ∷ 0 ∷ 0 ∷ 0 ∷ 0 ∷ 0 ∷ displacement ∷ [] }
+
+-- SI: a base with a displacement of 12 bits, and an immediate of 8 bits
+abbrev pub si : (opcode b1 displacement imm : ℕ) → MachineInstruction
+si opcode b1 displacement imm = record { format = Si; slots = opcode ∷ b1 ∷ 0 ∷ 0 ∷ 0 ∷ imm ∷ 0 ∷ 0 ∷ 0 ∷ displacement ∷ [] }
+
+-- SIY: a base with a displacement of 20 bits, and an immediate of 8 bits
+abbrev pub siy : (opcode b1 displacement imm : ℕ) → MachineInstruction
+siy opcode b1 displacement imm = record { format = Siy; slots = opcode ∷ b1 ∷ 0 ∷ 0 ∷ 0 ∷ imm ∷ 0 ∷ 0 ∷ 0 ∷ displacement ∷ [] }
+
+-- SIL: a base with a displacement of 12 bits, and the bits of an immediate of 16 bits
+abbrev pub sil : (opcode b1 displacement bits : ℕ) → MachineInstruction
+sil opcode b1 displacement bits = record { format = Sil; slots = opcode ∷ b1 ∷ 0 ∷ 0 ∷ 0 ∷ 0 ∷ 0 ∷ 0 ∷ bits ∷ displacement ∷ [] }
 
 -- RIL-A: a register and the bits of an immediate of 32 bits
 abbrev pub ril_a : (opcode r1 bits : ℕ) → MachineInstruction
@@ -70,13 +102,3 @@ ril_b opcode r1 half = record { format = RilB; slots = opcode ∷ r1 ∷ 0 ∷ 0
 -- RIL-C: a mask and half of a distance, as in RIL-B
 abbrev pub ril_c : (opcode m1 half : ℕ) → MachineInstruction
 ril_c opcode m1 half = record { format = RilC; slots = opcode ∷ 0 ∷ 0 ∷ 0 ∷ 0 ∷ m1 ∷ 0 ∷ 0 ∷ half ∷ 0 ∷ [] }
-
--- the bytes of machine instructions, one after another
-abbrev pub joined_bytes : List MachineInstruction → List ℕ
-joined_bytes [] = []
-joined_bytes (m ∷ ms) = bytes_of m ++ joined_bytes ms
-
--- how many bytes they have together
-abbrev pub joined_size : List MachineInstruction → ℕ
-joined_size [] = 0
-joined_size (m ∷ ms) = size_of m + joined_size ms

@@ -1,6 +1,7 @@
 -- The machine rows of each operator on registers and immediates: their opcodes (cranelift-codegen, `emit.rs`). Of those on registers alone, opcodes
 -- of two digits are RR, of four with two operands RRE, with three RRF-AB; with an immediate of 16 bits rows are RI-A, or RIE-D with a third operand;
--- of 32 bits RIL-A.
+-- of 32 bits RIL-A. Shifts by an amount are RSY, selected bits of a rotated register RIE-F, indexed addresses RXY. Rows of a single instruction have
+-- their opcodes in `Alone.antt`: of these, conditional moves are RRF-CDE, or RIE-G with an immediate, and counts of ones RRF-CDE.
 use Rattle.std.specs.Prelude.{ℕ, Bool, nat_eq, cond, Option, Some, None}
 use Rattle.s390x_inst.specs.declared.ops.ALUOp.{ALUOp}
 use Rattle.s390x_inst.specs.declared.ops.ALUOp.TheVariants.{Add32, Add64, Add64Ext32, AddLogical32, AddLogical64, AddLogical64Ext32, Sub32, Sub64, Sub64Ext32, SubLogical32, SubLogical64, SubLogical64Ext32, Mul32, Mul32CC, Mul64, Mul64Ext32, Mul64CC, And32, And64, Orr32, Orr64, Xor32, Xor64, NotAnd32, NotAnd64, NotOrr32, NotOrr64, NotXor32, NotXor64, AndNot32, AndNot64, OrrNot32, OrrNot64}
@@ -124,6 +125,26 @@ alu_unsigned_word SubLogical32 = Some 0xc25
 alu_unsigned_word SubLogical64 = Some 0xc24
 alu_unsigned_word _ = None
 
+-- a comparison of two registers that traps
+abbrev pub cmp_trap : CmpOp → Option ℕ
+cmp_trap CmpS32 = Some 0xb972
+cmp_trap CmpS64 = Some 0xb960
+cmp_trap CmpL32 = Some 0xb973
+cmp_trap CmpL64 = Some 0xb961
+cmp_trap _ = None
+
+-- one with an immediate of 16 bits, with its sign
+abbrev pub cmp_trap_signed : CmpOp → Option ℕ
+cmp_trap_signed CmpS32 = Some 0xec72
+cmp_trap_signed CmpS64 = Some 0xec70
+cmp_trap_signed _ = None
+
+-- and without
+abbrev pub cmp_trap_unsigned : CmpOp → Option ℕ
+cmp_trap_unsigned CmpL32 = Some 0xec73
+cmp_trap_unsigned CmpL64 = Some 0xec71
+cmp_trap_unsigned _ = None
+
 -- a comparison with an immediate of 16 bits, with its sign
 abbrev pub cmp_halfword : CmpOp → Option ℕ
 cmp_halfword CmpS32 = Some 0xa7e
@@ -172,17 +193,19 @@ alu_half Xor32 shift = of_one 0xc07 shift
 alu_half Xor64 shift = of_two 0xc07 0xc06 shift
 alu_half _ shift = None
 
--- a load of a part of 16 bits or of a half into a register that is zero elsewhere
+-- a load of a part of 16 bits, by its number from the right, into a register that is zero elsewhere
 abbrev pub load_part : ℕ → Option ℕ
 load_part shift = of_four 0xa5f 0xa5e 0xa5d 0xa5c shift
 
+-- a load of a half of 32 bits, by its number from the right, into a register that is zero elsewhere
 abbrev pub load_half : ℕ → Option ℕ
 load_half shift = of_two 0xc0f 0xc0e shift
 
--- the same into a register that is left elsewhere
+-- a part of 16 bits, by its number from the right, in a register that is left elsewhere
 abbrev pub insert_part : ℕ → Option ℕ
 insert_part shift = of_four 0xa53 0xa52 0xa51 0xa50 shift
 
+-- a half of 32 bits, by its number from the right, in a register that is left elsewhere
 abbrev pub insert_half : ℕ → Option ℕ
 insert_half shift = of_two 0xc09 0xc08 shift
 
@@ -225,9 +248,10 @@ rotate_then_test And = Some 0xec54
 rotate_then_test Or = Some 0xec56
 rotate_then_test Xor = Some 0xec57
 
--- an indexed address by the size of its elements, signed or logical
+-- an indexed address by the size of its elements, the index with its sign
 abbrev pub indexed_opcode : ℕ → Option ℕ
 indexed_opcode size = cond (nat_eq size 1) (Some 0xe362) (cond (nat_eq size 2) (Some 0xe364) (cond (nat_eq size 3) (Some 0xe366) (cond (nat_eq size 4) (Some 0xe368) None)))
 
+-- the same, the index without a sign
 abbrev pub logical_indexed_opcode : ℕ → Option ℕ
 logical_indexed_opcode size = cond (nat_eq size 1) (Some 0xe363) (cond (nat_eq size 2) (Some 0xe365) (cond (nat_eq size 3) (Some 0xe367) (cond (nat_eq size 4) (Some 0xe369) None)))

@@ -1,10 +1,19 @@
--- What a step consists of, before its targets have places: its machine instructions, and where their distances lead.
-use Rattle.std.specs.Prelude.{ℕ, ◌+◌, List, [], ◌∷◌, Option, Some, None}
+-- What a step consists of, before its targets have places: its machine instructions and the words of its tables, and where their distances lead
+-- (cranelift-codegen, `emit.rs`).
+use Rattle.std.specs.Prelude.{ℕ, ◌+◌, ◌-◌, List, [], ◌∷◌, ◌++◌, Option, Some, None, ℤ}
 use Rattle.s390x_base.specs.Regs.{number_of}
+use Rattle.s390x_base.specs.declared.ir.ExternalName.{ExternalName}
+use Rattle.s390x_base.specs.declared.ir.MachLabel.{MachLabel}
+use Rattle.s390x_base.specs.declared.trap.TrapKind.{TrapKind}
+use Rattle.s390x_inst.specs.declared.calls.SymbolReloc.{SymbolReloc}
+use Rattle.s390x_inst.specs.declared.calls.SymbolReloc.TheVariants.{Absolute}
 use Rattle.s390x_inst.specs.declared.inst.Inst.{Inst}
-use Rattle.s390x_inst.specs.declared.inst.Inst.TheVariants.{Jump, CondBr, IndirectBr, Ret, LabelAddress}
-use Rattle.s390x_steps.specs.MachineInstruction.{MachineInstruction, size_of, rr}
-use Rattle.s390x_steps.specs.Alone.{Alone, alone}
+use Rattle.s390x_inst.specs.declared.inst.Inst.TheVariants.{Mov64SImm32, LoadAddr, Jump, CondBr, IndirectBr, Ret, LabelAddress, LoadSymbolReloc, Trap, TrapIf, Debugtrap, JTSequence}
+use Rattle.s390x_steps.specs.General.{low_word}
+use Rattle.s390x_steps.specs.MachineInstruction.{MachineInstruction, size_of, format_e, rr, ri_b, ril_a, ril_c, ril_b, rxy}
+use Rattle.s390x_steps.specs.Alone.{Alone, alone, stop_code}
+use Rattle.s390x_steps.specs.Operands.{Finalized, finalized}
+use Rattle.s390x_steps.specs.Memory.{StorageForm, MemoryInstruction, memory, type_of, storage_row, address_form, fault_code}
 use Rattle.s390x_steps.specs.Steps.{Step, Plain, Opening, Back, Break}
 
 -- where a distance leads
@@ -12,32 +21,109 @@ pub data Target : Type 0 where
   ToBlock : ℕ → Target
   ToStep : ℕ → Target
 
--- a machine instruction, or one with a distance whose target has no place yet
+-- a machine instruction, or one with a distance whose target has no place yet, or data
 pub data Part : Type 0 where
   -- a machine instruction
   Row : MachineInstruction → Part
+  -- a machine instruction with a trap recorded at one of its bytes: the code of a stop there
+  Trapping : MachineInstruction → (byte : ℕ) → TrapKind → Part
   -- BRANCH RELATIVE ON CONDITION LONG under a mask
   Branch : (mask : ℕ) → Target → Part
   -- one of format RIL-B: a register, and an address relative to the instruction
   Relative : (opcode register : ℕ) → Target → Part
+  -- eight bytes that linking fills: a symbol's address plus an offset
+  SymbolValue : (name : ExternalName) → (offset : ℤ) → Part
+  -- no bytes: a trap recorded at the first byte of the next part
+  TrapHere : TrapKind → Part
+  -- a word of a table that begins so many bytes before it: the distance from the table's beginning to the target
+  TableWord : (before : ℕ) → Target → Part
 
--- the parts of an instruction that names a place or goes elsewhere; of one that isn't built yet, none: emission refuses it
+-- a machine instruction whose stop by what it does has a code: the trap is recorded at its last byte
+abbrev pub stopping : MachineInstruction → TrapKind → Part
+stopping m code = Trapping m (size_of m - 1) code
+
+-- an access: where its faults have a code, the trap is recorded at its first byte; none where there is no row
+abbrev pub access_parts : Option MachineInstruction → Option TrapKind → List Part
+access_parts None code = []
+access_parts (Some m) None = Row m ∷ []
+access_parts (Some m) (Some code) = Trapping m 0 code ∷ []
+
+-- the parts of a helper, whose operand stands in it as it is
+abbrev pub helper_parts : Inst → List Part
+helper_parts (Mov64SImm32 rd imm) = Row (ril_a 0xc01 (number_of rd) (low_word imm)) ∷ []
+helper_parts (LoadAddr rd mem) = access_parts (storage_row (address_form rd) mem) None
+helper_parts _ = []
+
+-- those of helpers, in order
+abbrev pub helpers_parts : List Inst → List Part
+helpers_parts [] = []
+helpers_parts (i ∷ is) = helper_parts i ++ helpers_parts is
+
+-- the helpers, and then the access
+abbrev pub finalized_parts : StorageForm → Option TrapKind → Finalized → List Part
+finalized_parts form code f = helpers_parts f.helpers ++ access_parts (storage_row form f.operand) code
+
+-- the parts of an instruction with a memory operand
+abbrev pub memory_parts : MemoryInstruction → List Part
+memory_parts x = finalized_parts x.form (fault_code x) (finalized (type_of x.form x.accesses) x.operand)
+
+-- the words of a table that leads to blocks, the first of them so many bytes behind the table's beginning
+abbrev pub table_words : (before : ℕ) → List MachLabel → List Part
+table_words before [] = []
+table_words before (l ∷ ls) = TableWord before (ToBlock l.0) ∷ table_words (before + 4) ls
+
+-- a branch to the other block under the mask. Else LOAD ADDRESS RELATIVE LONG of the table, seven halfwords on, into %r1; ADD (64 from 32 bits) of the word
+-- at the index, which is counted in bytes; and a branch there. The table stands behind these
+abbrev pub table_parts : (index mask other : ℕ) → List MachLabel → List Part
+table_parts index mask other targets =
+    Branch mask (ToBlock other) ∷ Row (ril_b 0xc00 1 7) ∷ Row (rxy 0xe318 1 1 index 0) ∷ Row (rr 0x07 15 1) ∷ table_words 0 targets
+
+-- the symbol that a relocation names
+abbrev pub name_in : SymbolReloc → ExternalName
+name_in (Absolute name offset) = name
+
+-- the offset that it adds to the symbol's address
+abbrev pub offset_in : SymbolReloc → ℤ
+offset_in (Absolute name offset) = offset
+
+-- BRANCH RELATIVE AND SAVE to six halfwords on, over a doubleword, whose address goes into %r1; that doubleword; LOAD (64) of it
+abbrev pub symbol_parts : (register : ℕ) → SymbolReloc → List Part
+symbol_parts register reloc = Row (ri_b 0xa75 1 6) ∷ SymbolValue (name_in reloc) (offset_in reloc) ∷ Row (rxy 0xe304 register 1 0 0) ∷ []
+
+-- the parts of an instruction that names a place, goes elsewhere or ends the run; of one that isn't built yet, none: emission refuses it
 abbrev pub branch_parts : Inst → List Part
 branch_parts (Jump dest) = Branch 15 (ToBlock dest.0) ∷ []
 branch_parts (CondBr taken not_taken mask) = Branch mask (ToBlock taken.0) ∷ Branch 15 (ToBlock not_taken.0) ∷ []
 branch_parts (IndirectBr rn targets) = Row (rr 0x07 15 (number_of rn)) ∷ []
 branch_parts (Ret link) = Row (rr 0x07 15 (number_of link)) ∷ []
+branch_parts (JTSequence ridx other mask targets) = table_parts (number_of ridx) mask other.0 targets.items
 branch_parts (LabelAddress dst label) = Relative 0xc00 (number_of dst) (ToBlock label.0) ∷ []
+branch_parts (LoadSymbolReloc rd reloc) = symbol_parts (number_of rd) reloc
+-- no machine instruction begins with a byte of zeros
+branch_parts (Trap code) = stopping (format_e 0x0000) code ∷ []
+-- a branch into its own bytes, to the zeros of its distance
+branch_parts (TrapIf mask code) = Trapping (ril_c 0xc04 mask 1) 3 code ∷ []
+branch_parts Debugtrap = Row (format_e 0x0001) ∷ []
 branch_parts _ = []
 
+-- a machine instruction whose stop may have a code
+abbrev pub row_part : MachineInstruction → Option TrapKind → Part
+row_part m None = Row m
+row_part m (Some code) = stopping m code
+
 -- an instruction that is one machine instruction has that part alone; another one has its own
-abbrev pub parts_or : Option Alone → List Part → List Part
-parts_or None others = others
-parts_or (Some x) others = Row x.row ∷ []
+abbrev pub parts_or : Option Alone → Option TrapKind → List Part → List Part
+parts_or None code others = others
+parts_or (Some x) code others = row_part x.row code ∷ []
+
+-- an instruction with a memory operand has its helpers and its access; another one has its own parts
+abbrev pub memory_or : Option MemoryInstruction → List Part → List Part
+memory_or None others = others
+memory_or (Some x) others = memory_parts x
 
 -- the parts of an instruction
 abbrev pub instruction_parts : Inst → List Part
-instruction_parts i = parts_or (alone i) (branch_parts i)
+instruction_parts i = parts_or (alone i) (stop_code i) (memory_or (memory i) (branch_parts i))
 
 -- the parts of a step; a loop's opening has none
 abbrev pub step_parts : Step → List Part
@@ -49,8 +135,12 @@ step_parts (Break mask target) = Branch mask (ToStep target) ∷ []
 -- the parts' sizes don't depend on where they lead
 abbrev pub part_size : Part → ℕ
 part_size (Row m) = size_of m
+part_size (Trapping m byte code) = size_of m
 part_size (Branch mask target) = 6
 part_size (Relative opcode register target) = 6
+part_size (SymbolValue name offset) = 8
+part_size (TrapHere code) = 0
+part_size (TableWord before target) = 4
 
 -- how many bytes the parts have
 abbrev pub parts_size : List Part → ℕ

@@ -1,38 +1,51 @@
--- The machine instructions of a step, once the steps and the blocks have places. Places are counted in bytes from the code's beginning.
-use Rattle.std.specs.Prelude.{ℕ, ◌+◌, ◌-◌, ◌/◌, ◌%◌, List, [], ◌∷◌}
-use Rattle.s390x_steps.specs.MachineInstruction.{MachineInstruction, ril_b, ril_c, joined_bytes}
-use Rattle.s390x_steps.specs.Parts.{Target, ToBlock, ToStep, Part, Row, Branch, Relative, step_parts, part_size}
+-- The bytes of a step, once the steps and the blocks have places (cranelift-codegen, `emit.rs`).
+-- Places are counted in bytes from the code's beginning.
+use Rattle.std.specs.Int.{w64, to_be_bytes}
+use Rattle.s390x_base.specs.declared.ir.ExternalName.{ExternalName}
+use Rattle.std.specs.Prelude.{ℕ, ℤ, ◌+◌, ◌-◌, ◌/◌, ◌%◌, List, [], ◌∷◌, ◌++◌}
+use Rattle.s390x_steps.specs.MachineInstruction.{bytes_of, ril_b, ril_c}
+use Rattle.s390x_steps.specs.Parts.{Target, ToBlock, ToStep, Part, Row, Trapping, Branch, Relative, SymbolValue, TrapHere, TableWord, step_parts, part_size}
 use Rattle.s390x_steps.specs.Steps.{Step}
 
--- where each step and each block stands, by its number
+-- where each step and each block stands, by its number, and what the doubleword of a symbol plus an offset holds: 0 before linking
 pub record Places : Type 0 where
   pub step : ℕ → ℕ
   pub block : ℕ → ℕ
+  pub symbol_value : ExternalName → ℤ → ℕ
 
 -- where a target stands
 abbrev pub target_place : Places → Target → ℕ
 target_place P (ToBlock b) = P.block b
 target_place P (ToStep k) = P.step k
 
--- half of the distance from a place to a target, modulo 2 ^ 32
+-- half of the distance from a place to a target, modulo 2 ^ 32. 8589934592 is 2 ^ 33, added so that the subtraction doesn't stop at 0
 abbrev pub half_distance : (place target : ℕ) → ℕ
 half_distance place target = (8589934592 + target - place) / 2 % 4294967296
 
--- the machine instruction of a part at a place
-abbrev pub row_of : Places → ℕ → Part → MachineInstruction
-row_of P p (Row m) = m
-row_of P p (Branch mask target) = ril_c 0xc04 mask (half_distance p (target_place P target))
-row_of P p (Relative opcode register target) = ril_b opcode register (half_distance p (target_place P target))
+-- the distance to a target from the beginning of a table, which stands so many bytes before a place, modulo 2 ^ 32.
+-- 4294967296 is 2 ^ 32, added so that the subtraction doesn't stop at 0
+abbrev pub table_distance : (place before target : ℕ) → ℕ
+table_distance place before target = (before + (4294967296 + target - place)) % 4294967296
 
--- the rows of parts from a place on
-abbrev pub rows_of : Places → ℕ → List Part → List MachineInstruction
-rows_of P p [] = []
-rows_of P p (part ∷ parts) = row_of P p part ∷ rows_of P (p + part_size part) parts
+-- the four bytes of a word, the most significant first
+abbrev pub word_bytes : ℕ → List ℕ
+word_bytes n = n / 16777216 % 256 ∷ n / 65536 % 256 ∷ n / 256 % 256 ∷ n % 256 ∷ []
 
--- the rows of a step at a place
-abbrev pub rows : Places → ℕ → Step → List MachineInstruction
-rows P p s = rows_of P p (step_parts s)
+-- the bytes of a part at a place
+abbrev pub part_bytes : Places → ℕ → Part → List ℕ
+part_bytes P p (Row m) = bytes_of m
+part_bytes P p (Trapping m byte code) = bytes_of m
+part_bytes P p (Branch mask target) = bytes_of (ril_c 0xc04 mask (half_distance p (target_place P target)))
+part_bytes P p (Relative opcode register target) = bytes_of (ril_b opcode register (half_distance p (target_place P target)))
+part_bytes P p (SymbolValue name offset) = to_be_bytes w64 (P.symbol_value name offset)
+part_bytes P p (TrapHere code) = []
+part_bytes P p (TableWord before target) = word_bytes (table_distance p before (target_place P target))
+
+-- the bytes of parts from a place on
+abbrev pub parts_bytes : Places → ℕ → List Part → List ℕ
+parts_bytes P p [] = []
+parts_bytes P p (part ∷ parts) = part_bytes P p part ++ parts_bytes P (p + part_size part) parts
 
 -- the bytes of a step at a place
 abbrev pub step_bytes : Places → ℕ → Step → List ℕ
-step_bytes P p s = joined_bytes (rows P p s)
+step_bytes P p s = parts_bytes P p (step_parts s)

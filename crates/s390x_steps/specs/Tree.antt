@@ -1,8 +1,10 @@
 -- Instructions as a tree: first member, next sibling. Of what runs and of emission this is the only definition that reads the nested vectors of a `Loop`;
--- the text of jobs reads them too.
+-- the text of jobs reads them too. The leaves have no frame operands: each is an exact offset from the stack pointer.
 use Rattle.std.specs.Prelude.{ℕ, List, [], ◌∷◌}
+use Rattle.s390x_inst.specs.Emission.{Emission}
 use Rattle.s390x_inst.specs.declared.inst.Inst.{Inst, Row_of-Inst, end_of-Inst, more_of-Inst}
 use Rattle.s390x_inst.specs.declared.inst.Inst.TheVariants.{Loop'}
+use Rattle.s390x_steps.specs.Resolved.{resolved_instruction}
 
 -- instructions in order, each loop with its members
 pub data Tree : Type 0 where
@@ -10,17 +12,18 @@ pub data Tree : Type 0 where
   leaf : Inst → Tree → Tree
   looped : (mask : ℕ) (members rest : Tree) → Tree
 
--- an instruction before others
 abbrev mutual
-  pub graft : Inst → Tree → Tree
-  graft (Loop' mask body all) rest = looped mask (row_tree all) rest
-  graft i rest = leaf i rest
+  -- an instruction before others, in a state of emission. A `Loop` has its members twice: `all` is read, and `body` is ignored
+  pub graft : Emission → Inst → Tree → Tree
+  graft e (Loop' mask body all) rest = looped mask (row_tree e all) rest
+  graft e i rest = leaf (resolved_instruction e i) rest
 
-  pub row_tree : {m : _} → Row_of-Inst m → Tree
-  row_tree end_of-Inst = empty
-  row_tree (more_of-Inst i rest) = graft i (row_tree rest)
+  -- the members of a loop, as a tree
+  pub row_tree : Emission → {m : _} → Row_of-Inst m → Tree
+  row_tree e end_of-Inst = empty
+  row_tree e (more_of-Inst i rest) = graft e i (row_tree e rest)
 
--- the members of a block or of a loop
-abbrev pub tree : List Inst → Tree
-tree [] = empty
-tree (i ∷ is) = graft i (tree is)
+-- the members of a block or of a loop; the stack sizes are the same all over a function
+abbrev pub tree : Emission → List Inst → Tree
+tree e [] = empty
+tree e (i ∷ is) = graft e i (tree e is)

@@ -14,6 +14,7 @@ use Rattle.s390x_steps.specs.Tree.{Tree}
 use Rattle.s390x_emit_int.specs.Function.{IsImage, checked_cause, start_cause, trees_of, constants_of}
 use Rattle.s390x_emit_int.specs.Headline.{RunsAsTyped}
 use Rattle.s390x_image.specs.Causes.{link_cause}
+use Rattle.s390x_image.specs.Fields.{filled}
 use Rattle.s390x_image.specs.Symbols.{Symbols}
 use Rattle.s390x_image.specs.declared.error.LinkError.{LinkError}
 use Rattle.s390x_image.specs.declared.error.LinkError.TheVariants as link
@@ -85,17 +86,16 @@ abbrev pub RunsWhereLinked : Type 0
 RunsWhereLinked =
     (flags : IsaFlags) (ts : List Tree) (cs : List Constant) (f : MachBufferFinalized) (base : ℕ) (symbols : Symbols)
     → checked_cause flags ts cs ≡ None → BlocksInRange ts → IsImage ts cs f → link_cause f base symbols ≡ None
-    → RunsAsTyped ts (record { base = base; bytes = f.bytes.items })
+    → RunsAsTyped symbols ts (record { base = base; bytes = filled base symbols f.relocs.items f.bytes.items })
 
 -- it holds of a job's image
 pub image_runs : RunsWhereLinked → (base : ℕ) (j : Job) (bytes : List ℕ) → IsImageAt base j bytes
-    → RunsAsTyped (trees_of j.function) (record { base = base; bytes = bytes })
+    → RunsAsTyped (symbols_of j) (trees_of j.state j.function) (record { base = base; bytes = bytes })
 image_runs law base j bytes image =
-    let same : bytes ≡ image.code.bytes.items = image.filled ∙ rw image.is.emitted.relocs refl in
-    let runs = law j.info.isa_flags (trees_of j.function) (constants_of j.function) image.code base (symbols_of j)
+    let runs = law j.info.isa_flags (trees_of j.state j.function) (constants_of j.function) image.code base (symbols_of j)
     (second_none (start_cause j.state) _ image.is.valid) image.is.ranges image.is.emitted image.linked in
-    let P : List ℕ → Type 0 = λ bs. RunsAsTyped (trees_of j.function) (record { base = base; bytes = bs }) in
-    subst P (sym same) runs
+    let P : List ℕ → Type 0 = λ bs. RunsAsTyped (symbols_of j) (trees_of j.state j.function) (record { base = base; bytes = bs }) in
+    subst P (sym image.filled) runs
 
 -- the image in hex is the reply
 pub reply_of_image : (base : ℕ) (j : Job) (bytes : List ℕ) (s : Status) (text : List ℕ)

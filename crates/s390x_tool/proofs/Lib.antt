@@ -8,3 +8,4 @@ pub mod SameTree
 pub mod SameLines
 pub mod SameJob
 pub mod Completing
+pub mod Frameless

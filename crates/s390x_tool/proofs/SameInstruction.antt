@@ -3,6 +3,7 @@ use Rattle.std.proofs.Common.{◌≡◌, ℕ, List, [], ◌∷◌, Option, Some,
 use Rattle.s390x_inst.specs.declared.state.IsaFlags.{IsaFlags}
 use Rattle.s390x_base.specs.Regs.{number_of}
 use Rattle.s390x_base.specs.declared.regs.Reg.{Reg}
+use Rattle.s390x_base.specs.declared.regs.RegPair.{RegPair}
 use Rattle.s390x_base.specs.declared.regs.WritableRegPair.{WritableRegPair}
 use Rattle.s390x_base.specs.declared.ir.MachLabel.{MachLabel}
 use Rattle.s390x_base.specs.declared.imms.UImm16Shifted.{UImm16Shifted}
@@ -10,16 +11,16 @@ use Rattle.s390x_base.specs.declared.imms.UImm32Shifted.{UImm32Shifted}
 use Rattle.s390x_base.specs.declared.error.EmitError.{EmitError}
 use Rattle.s390x_base.specs.declared.error.EmitError.TheVariants.{BadOperator, BadRegister}
 use Rattle.s390x_inst.specs.declared.inst.Inst.{Inst}
-use Rattle.s390x_inst.specs.declared.inst.Inst.TheVariants.{AluRRR, AluRR, AluRRSImm16, AluRSImm16, AluRSImm32, AluRUImm32, UnaryRR, CmpRR, CmpRSImm16, CmpRSImm32, CmpRUImm32, Mov64, MovPReg, Mov32, Mov32Imm, Mov32SImm16, Mov64SImm16, Mov64SImm32, AluRUImm16Shifted, AluRUImm32Shifted, ShiftRR, RxSBG, RxSBGTest, Mov64UImm16Shifted, Mov64UImm32Shifted, Insert64UImm16Shifted, Insert64UImm32Shifted, CMov32, CMov64, CMov32SImm16, CMov64SImm16, Extend, LoadAR, InsertAR, SMulWide, UMulWide, Flogr, Fence, Nop0, Nop2, LoadIndexedAddr, LoadLogicalIndexedAddr, Jump, CondBr, Ret, CondBreak, Vector, LabelAddress}
+use Rattle.s390x_inst.specs.declared.inst.Inst.TheVariants.{AluRRR, AluRR, AluRRSImm16, AluRSImm16, AluRSImm32, AluRUImm32, UnaryRR, CmpRR, CmpRSImm16, CmpRSImm32, CmpRUImm32, Mov64, MovPReg, Mov32, Mov32Imm, Mov32SImm16, Mov64SImm16, Mov64SImm32, AluRUImm16Shifted, AluRUImm32Shifted, ShiftRR, RxSBG, RxSBGTest, Mov64UImm16Shifted, Mov64UImm32Shifted, Insert64UImm16Shifted, Insert64UImm32Shifted, CMov32, CMov64, CMov32SImm16, CMov64SImm16, Extend, LoadAR, InsertAR, SMulWide, UMulWide, Flogr, Fence, Nop0, Nop2, LoadIndexedAddr, LoadLogicalIndexedAddr, Jump, CondBr, Ret, CondBreak, Vector, LabelAddress, LoadSymbolReloc, SDivMod32, SDivMod64, UDivMod32, UDivMod64, CmpTrapRR, CmpTrapRSImm16, CmpTrapRUImm16, Trap, TrapIf, Debugtrap, AluRX, CmpRX, Load32, Load32ZExt8, Load32SExt8, Load32ZExt16, Load32SExt16, Load64, Load64ZExt8, Load64SExt8, Load64ZExt16, Load64SExt16, Load64ZExt32, Load64SExt32, LoadRev16, LoadRev32, LoadRev64, Store8, Store16, Store32, Store64, StoreRev16, StoreRev32, StoreRev64, LoadAddr, StoreImm8, StoreImm16, StoreImm32SExt16, StoreImm64SExt16, LoadMultiple64, StoreMultiple64, AtomicRmw, AtomicCas32, AtomicCas64}
 use Rattle.s390x_inst.specs.declared.vec_inst.VecInst.{VecInst}
 use Rattle.s390x_inst.specs.declared.vec_inst.VecInst.TheVariants as V
 use Rattle.s390x_steps.specs.MachineInstruction.{rr}
-use Rattle.s390x_steps.specs.Causes.{first, unless, labels_cause, instruction_cause}
+use Rattle.s390x_steps.specs.Causes.{first, unless, labels_cause, table_cause, instruction_cause, instruction_draws}
 use Rattle.s390x_steps.specs.General.{is_general, is_nonzero}
-use Rattle.s390x_steps.specs.Parts.{Part, Row, step_parts}
+use Rattle.s390x_steps.specs.Parts.{Part, Row, table_parts, step_parts}
 use Rattle.s390x_steps.specs.Steps.{step_of}
-use Rattle.s390x_steps.specs.Ranges.{InRange}
-use Rattle.s390x_fields.specs.Fields.{Field, FAlu, FUnary, FCmp, FShift, FRxsbg, FReg, FReal, FInteger, FNatural, FShifted, FPair, FBool, FLabels, FCond, FMemory, FVecBinary, FVecCompare, FVecElementCompare, FVecShift, FVecUnary}
+use Rattle.s390x_steps.specs.Ranges.{IsMask, InRange}
+use Rattle.s390x_fields.specs.Fields.{Field, FAlu, FUnary, FCmp, FShift, FRxsbg, FReg, FReal, FInteger, FNatural, FShifted, FPair, FTrap, FBool, FReloc, FLabels, FCond, FMemory, FVecBinary, FVecCompare, FVecElementCompare, FVecShift, FVecUnary}
 use Rattle.s390x_lines.specs.Line.{Line}
 use Rattle.s390x_lines.specs.Instructions.{inst_line, vector_line}
 use Rattle.s390x_lines.specs.declared.inst_name.IntegerName.TheVariants as IntegerIs
@@ -34,6 +35,7 @@ use Rattle.s390x_lines.specs.declared.name.LineName.TheVariants as N
 pub data Reading : Type 0 where
   Whole : Inst → Reading
   Picks : Reg → List MachLabel → Reading
+  Jumps : (index : Reg) → (other : MachLabel) → (mask : ℕ) → List MachLabel → Reading
   Other : Reading
 
 abbrev pub named : ℕ → MachLabel
@@ -47,6 +49,9 @@ part32 bits shift = record { bits = bits; shift = shift }
 
 abbrev pub written_pair : (high low : Reg) → WritableRegPair
 written_pair high low = record { hi = high; lo = low }
+
+abbrev pub read_pair : (high low : Reg) → RegPair
+read_pair high low = record { hi = high; lo = low }
 
 -- a clause for each instruction that is built
 abbrev pub reading : LineName → List Field → Reading
@@ -87,14 +92,26 @@ reading (N.Integer IntegerIs.InsertAR) (FReg rd ∷ FReg ri ∷ FNatural w ar �
 reading (N.Integer IntegerIs.SMulWide) (FPair high low ∷ FReg rn ∷ FReg rm ∷ []) = Whole (SMulWide (written_pair high low) rn rm)
 reading (N.Integer IntegerIs.UMulWide) (FPair high low ∷ FReg ri ∷ FReg rn ∷ []) = Whole (UMulWide (written_pair high low) ri rn)
 reading (N.Integer IntegerIs.Flogr) (FPair high low ∷ FReg rn ∷ []) = Whole (Flogr (written_pair high low) rn)
+reading (N.Integer IntegerIs.SDivMod32) (FPair high low ∷ FReg ri ∷ FReg rn ∷ []) = Whole (SDivMod32 (written_pair high low) ri rn)
+reading (N.Integer IntegerIs.SDivMod64) (FPair high low ∷ FReg ri ∷ FReg rn ∷ []) = Whole (SDivMod64 (written_pair high low) ri rn)
+reading (N.Integer IntegerIs.UDivMod32) (FPair high low ∷ FPair h l ∷ FReg rn ∷ []) = Whole (UDivMod32 (written_pair high low) (read_pair h l) rn)
+reading (N.Integer IntegerIs.UDivMod64) (FPair high low ∷ FPair h l ∷ FReg rn ∷ []) = Whole (UDivMod64 (written_pair high low) (read_pair h l) rn)
+reading (N.Integer IntegerIs.CmpTrapRR) (FCmp op ∷ FReg rn ∷ FReg rm ∷ FCond mask ∷ FTrap code ∷ []) = Whole (CmpTrapRR op rn rm mask code)
+reading (N.Integer IntegerIs.CmpTrapRSImm16) (FCmp op ∷ FReg rn ∷ FInteger w imm ∷ FCond mask ∷ FTrap code ∷ []) = Whole (CmpTrapRSImm16 op rn imm mask code)
+reading (N.Integer IntegerIs.CmpTrapRUImm16) (FCmp op ∷ FReg rn ∷ FNatural w imm ∷ FCond mask ∷ FTrap code ∷ []) = Whole (CmpTrapRUImm16 op rn imm mask code)
 reading (N.Control ControlIs.Fence) [] = Whole Fence
 reading (N.Control ControlIs.Nop0) [] = Whole Nop0
 reading (N.Control ControlIs.Nop2) [] = Whole Nop2
 reading (N.Control ControlIs.Jump) (FNatural w dest ∷ []) = Whole (Jump (named dest))
 reading (N.Control ControlIs.CondBr) (FNatural v taken ∷ FNatural w not_taken ∷ FCond mask ∷ []) = Whole (CondBr (named taken) (named not_taken) mask)
 reading (N.Control ControlIs.IndirectBr) (FReg rn ∷ FLabels targets ∷ []) = Picks rn targets
+reading (N.Control ControlIs.JTSequence) (FReg index ∷ FNatural w other ∷ FCond mask ∷ FLabels targets ∷ []) = Jumps index (named other) mask targets
 reading (N.Control ControlIs.LabelAddress) (FReg dst ∷ FNatural w label ∷ []) = Whole (LabelAddress dst (named label))
+reading (N.Control ControlIs.LoadSymbolReloc) (FReg rd ∷ FReloc reloc ∷ []) = Whole (LoadSymbolReloc rd reloc)
 reading (N.Control ControlIs.Ret) (FReg link ∷ []) = Whole (Ret link)
+reading (N.Control ControlIs.Debugtrap) [] = Whole Debugtrap
+reading (N.Control ControlIs.Trap) (FTrap code ∷ []) = Whole (Trap code)
+reading (N.Control ControlIs.TrapIf) (FCond mask ∷ FTrap code ∷ []) = Whole (TrapIf mask code)
 reading (N.Control ControlIs.CondBreak) (FCond mask ∷ []) = Whole (CondBreak mask)
 reading (N.Vector VectorIs.VecRRR) (FVecBinary op ∷ FReg rd ∷ FReg rn ∷ FReg rm ∷ []) = Whole (Vector (V.VecRRR op rd rn rm))
 reading (N.Vector VectorIs.VecRR) (FVecUnary op ∷ FReg rd ∷ FReg rn ∷ []) = Whole (Vector (V.VecRR op rd rn))
@@ -152,6 +169,40 @@ reading (N.Vector VectorIs.VecReplicateLane) (FNatural w0 size ∷ FReg rd ∷ F
 reading (N.Vector VectorIs.VecEltRev) (FNatural w0 lane_count ∷ FReg rd ∷ FReg rn ∷ []) = Whole (Vector (V.VecEltRev lane_count rd rn))
 reading (N.Memory MemoryIs.LoadIndexedAddr) (FReg rd ∷ FReg base ∷ FReg index ∷ FInteger v offset ∷ FNatural w size ∷ []) = Whole (LoadIndexedAddr rd base index offset size)
 reading (N.Memory MemoryIs.LoadLogicalIndexedAddr) (FReg rd ∷ FReg base ∷ FReg index ∷ FInteger v offset ∷ FNatural w size ∷ []) = Whole (LoadLogicalIndexedAddr rd base index offset size)
+reading (N.Integer IntegerIs.AluRX) (FAlu op ∷ FReg rd ∷ FReg ri ∷ FMemory mem ∷ []) = Whole (AluRX op rd ri mem)
+reading (N.Integer IntegerIs.CmpRX) (FCmp op ∷ FReg rn ∷ FMemory mem ∷ []) = Whole (CmpRX op rn mem)
+reading (N.Memory MemoryIs.Load32) (FReg rd ∷ FMemory mem ∷ []) = Whole (Load32 rd mem)
+reading (N.Memory MemoryIs.Load32ZExt8) (FReg rd ∷ FMemory mem ∷ []) = Whole (Load32ZExt8 rd mem)
+reading (N.Memory MemoryIs.Load32SExt8) (FReg rd ∷ FMemory mem ∷ []) = Whole (Load32SExt8 rd mem)
+reading (N.Memory MemoryIs.Load32ZExt16) (FReg rd ∷ FMemory mem ∷ []) = Whole (Load32ZExt16 rd mem)
+reading (N.Memory MemoryIs.Load32SExt16) (FReg rd ∷ FMemory mem ∷ []) = Whole (Load32SExt16 rd mem)
+reading (N.Memory MemoryIs.Load64) (FReg rd ∷ FMemory mem ∷ []) = Whole (Load64 rd mem)
+reading (N.Memory MemoryIs.Load64ZExt8) (FReg rd ∷ FMemory mem ∷ []) = Whole (Load64ZExt8 rd mem)
+reading (N.Memory MemoryIs.Load64SExt8) (FReg rd ∷ FMemory mem ∷ []) = Whole (Load64SExt8 rd mem)
+reading (N.Memory MemoryIs.Load64ZExt16) (FReg rd ∷ FMemory mem ∷ []) = Whole (Load64ZExt16 rd mem)
+reading (N.Memory MemoryIs.Load64SExt16) (FReg rd ∷ FMemory mem ∷ []) = Whole (Load64SExt16 rd mem)
+reading (N.Memory MemoryIs.Load64ZExt32) (FReg rd ∷ FMemory mem ∷ []) = Whole (Load64ZExt32 rd mem)
+reading (N.Memory MemoryIs.Load64SExt32) (FReg rd ∷ FMemory mem ∷ []) = Whole (Load64SExt32 rd mem)
+reading (N.Memory MemoryIs.LoadRev16) (FReg rd ∷ FMemory mem ∷ []) = Whole (LoadRev16 rd mem)
+reading (N.Memory MemoryIs.LoadRev32) (FReg rd ∷ FMemory mem ∷ []) = Whole (LoadRev32 rd mem)
+reading (N.Memory MemoryIs.LoadRev64) (FReg rd ∷ FMemory mem ∷ []) = Whole (LoadRev64 rd mem)
+reading (N.Memory MemoryIs.Store8) (FReg rd ∷ FMemory mem ∷ []) = Whole (Store8 rd mem)
+reading (N.Memory MemoryIs.Store16) (FReg rd ∷ FMemory mem ∷ []) = Whole (Store16 rd mem)
+reading (N.Memory MemoryIs.Store32) (FReg rd ∷ FMemory mem ∷ []) = Whole (Store32 rd mem)
+reading (N.Memory MemoryIs.Store64) (FReg rd ∷ FMemory mem ∷ []) = Whole (Store64 rd mem)
+reading (N.Memory MemoryIs.StoreRev16) (FReg rd ∷ FMemory mem ∷ []) = Whole (StoreRev16 rd mem)
+reading (N.Memory MemoryIs.StoreRev32) (FReg rd ∷ FMemory mem ∷ []) = Whole (StoreRev32 rd mem)
+reading (N.Memory MemoryIs.StoreRev64) (FReg rd ∷ FMemory mem ∷ []) = Whole (StoreRev64 rd mem)
+reading (N.Memory MemoryIs.LoadAddr) (FReg rd ∷ FMemory mem ∷ []) = Whole (LoadAddr rd mem)
+reading (N.Memory MemoryIs.StoreImm8) (FNatural w imm ∷ FMemory mem ∷ []) = Whole (StoreImm8 imm mem)
+reading (N.Memory MemoryIs.StoreImm16) (FInteger w imm ∷ FMemory mem ∷ []) = Whole (StoreImm16 imm mem)
+reading (N.Memory MemoryIs.StoreImm32SExt16) (FInteger w imm ∷ FMemory mem ∷ []) = Whole (StoreImm32SExt16 imm mem)
+reading (N.Memory MemoryIs.StoreImm64SExt16) (FInteger w imm ∷ FMemory mem ∷ []) = Whole (StoreImm64SExt16 imm mem)
+reading (N.Memory MemoryIs.LoadMultiple64) (FReg rt ∷ FReg rt2 ∷ FMemory mem ∷ []) = Whole (LoadMultiple64 rt rt2 mem)
+reading (N.Memory MemoryIs.StoreMultiple64) (FReg rt ∷ FReg rt2 ∷ FMemory mem ∷ []) = Whole (StoreMultiple64 rt rt2 mem)
+reading (N.Memory MemoryIs.AtomicRmw) (FAlu op ∷ FReg rd ∷ FReg rn ∷ FMemory mem ∷ []) = Whole (AtomicRmw op rd rn mem)
+reading (N.Memory MemoryIs.AtomicCas32) (FReg rd ∷ FReg ri ∷ FReg rn ∷ FMemory mem ∷ []) = Whole (AtomicCas32 rd ri rn mem)
+reading (N.Memory MemoryIs.AtomicCas64) (FReg rd ∷ FReg ri ∷ FReg rn ∷ FMemory mem ∷ []) = Whole (AtomicCas64 rd ri rn mem)
 reading name fields = Other
 
 abbrev pub line_reading : Line → Reading
@@ -160,18 +211,28 @@ line_reading l = reading l.name l.fields
 abbrev pub reading_cause : IsaFlags → (blocks depth : ℕ) → Reading → Option EmitError
 reading_cause flags blocks depth (Whole i) = instruction_cause flags blocks depth i
 reading_cause flags blocks depth (Picks rn targets) = first (unless (is_general rn && is_nonzero rn) BadRegister) (labels_cause blocks targets)
+reading_cause flags blocks depth (Jumps index other mask targets) = table_cause blocks index other targets
 reading_cause flags blocks depth Other = Some BadOperator
+
+-- how many labels it draws
+abbrev pub reading_draws : Reading → ℕ
+reading_draws (Whole i) = instruction_draws i
+reading_draws (Picks rn targets) = 0
+reading_draws (Jumps index other mask targets) = 1
+reading_draws Other = 0
 
 -- the parts of the step in a loop that ends at the step `after`
 abbrev pub reading_parts : ℕ → Reading → List Part
 reading_parts after (Whole i) = step_parts (step_of after i)
 reading_parts after (Picks rn targets) = Row (rr 0x07 15 (number_of rn)) ∷ []
+reading_parts after (Jumps index other mask targets) = table_parts (number_of index) mask other.0 targets
 reading_parts after Other = []
 
 abbrev pub reading_range : Reading → Type 0
 reading_range (Whole i) = InRange i
-reading_range (Picks rn targets) = Unit {0}
-reading_range Other = Unit {0}
+reading_range (Picks rn targets) = Unit {0} × Unit {0}
+reading_range (Jumps index other mask targets) = IsMask mask × Unit {0}
+reading_range Other = Unit {0} × Unit {0}
 
 vector_reading : (v : VecInst) → Whole (Vector v) ≡ line_reading (vector_line v)
 vector_reading (V.VecRR op rd rn) = refl
@@ -180,6 +241,10 @@ vector_reading v = refl
 pub cause_read : (flags : IsaFlags) (blocks depth : ℕ) (i : Inst) → instruction_cause flags blocks depth i ≡ reading_cause flags blocks depth (line_reading (inst_line i))
 cause_read flags blocks depth (Vector v) = ap (reading_cause flags blocks depth) (vector_reading v)
 cause_read flags blocks depth i = refl
+
+pub draws_read : (i : Inst) → instruction_draws i ≡ reading_draws (line_reading (inst_line i))
+draws_read (Vector v) = ap reading_draws (vector_reading v)
+draws_read i = refl
 
 pub parts_read : (after : ℕ) (i : Inst) → step_parts (step_of after i) ≡ reading_parts after (line_reading (inst_line i))
 parts_read after (Vector v) = ap (reading_parts after) (vector_reading v)
@@ -190,5 +255,5 @@ range_read (Vector v) h = subst reading_range (vector_reading v) h
 range_read i h = h
 
 pub range_back : (i : Inst) → reading_range (line_reading (inst_line i)) → InRange i
-range_back (Vector v) h = tt
+range_back (Vector v) h = (tt, tt)
 range_back i h = h

@@ -20,23 +20,35 @@ use Rattle.s390x_image.specs.Symbols.{no_symbols}
 use Rattle.s390x_tool.specs.Answers.{IsCode, Links, cause_of, with_symbols}
 use Rattle.s390x_tool.specs.declared.words.Command.{Command}
 use Rattle.s390x_tool.specs.declared.words.Command.TheVariants.{Image, Emit}
-use Rattle.s390x_tool.proofs.SameTree.{LineTree, lines_tree, line_blocks_cause, line_blocks_size, line_ranges, parts_code, line_places, line_steps_from, same_blocks_cause, same_function_code, same_starts, same_block_starts, same_blocks_size, parts_places, line_block_places, ranges_to, ranges_from}
-use Rattle.s390x_tool.proofs.SameLines.{found, job_found}
+use Rattle.s390x_tool.proofs.SameTree.{LineTree, lines_tree, line_blocks_cause, line_blocks_size, line_ranges, parts_code, line_places, line_steps_from, same_blocks_cause, same_function_code, same_starts, same_block_starts, same_blocks_size, parts_places, line_block_places, ranges_to, ranges_from, each_traps, same_function_traps, each_relocs, same_function_relocs}
+use Rattle.s390x_tool.proofs.SameLines.{found, with_flags, with_frame, frame_of, Said, job_found}
+use Rattle.s390x_tool.proofs.Frameless.{raw_block, resolved_lines, blocks_resolved}
+use Rattle.s390x_inst.specs.State.{fresh}
 
 -- what two jobs share
-pub same_blocks : (j k : Job) → SameJob j k → map lines_tree (trees_of j.function) ≡ map lines_tree (trees_of k.function)
-same_blocks j k e = ap (λ f. f.blocks) (sym (job_found j) ∙ ap found e ∙ job_found k)
+same_found : (j k : Job) → IsJob j → IsJob k → SameJob j k → with_flags j.info.isa_flags (with_frame (frame_of j) (Said j)) ≡ with_flags k.info.isa_flags (with_frame (frame_of k) (Said k))
+same_found j k a b e = sym (job_found j a.frame) ∙ ap found e ∙ job_found k b.frame
 
-pub same_constants : (j k : Job) → SameJob j k → constants_of j.function ≡ constants_of k.function
-same_constants j k e =
-    sym (append-nil (constants_of j.function)) ∙ ap (λ f. f.constants) (sym (job_found j) ∙ ap found e ∙ job_found k) ∙ append-nil (constants_of k.function)
+pub same_state : (j k : Job) → IsJob j → IsJob k → SameJob j k → j.state ≡ k.state
+same_state j k a b e = a.state ∙ ap (λ f. fresh f.frame.layout f.frame.conv) (same_found j k a b e) ∙ sym b.state
 
-same_flags : (j k : Job) → SameJob j k → j.info.isa_flags ≡ k.info.isa_flags
-same_flags j k e = ap (λ f. f.flags) (sym (job_found j) ∙ ap found e ∙ job_found k)
+pub same_blocks : (j k : Job) → IsJob j → IsJob k → SameJob j k → map lines_tree (trees_of j.state j.function) ≡ map lines_tree (trees_of k.state k.function)
+same_blocks j k a b e =
+    blocks_resolved j.state j.function.blocks.items
+    ∙ ap (λ f. map (resolved_lines j.state) f.blocks) (same_found j k a b e)
+    ∙ ap (λ s. map (resolved_lines s) (map lines_tree (map raw_block k.function.blocks.items))) (same_state j k a b e)
+    ∙ sym (blocks_resolved k.state k.function.blocks.items)
 
-pub same_symbols : (j k : Job) → SameJob j k → j.symbols.items ≡ k.symbols.items
-same_symbols j k e =
-    sym (append-nil j.symbols.items) ∙ ap (λ f. f.symbols) (sym (job_found j) ∙ ap found e ∙ job_found k) ∙ append-nil k.symbols.items
+pub same_constants : (j k : Job) → IsJob j → IsJob k → SameJob j k → constants_of j.function ≡ constants_of k.function
+same_constants j k a b e =
+    sym (append-nil (constants_of j.function)) ∙ ap (λ f. f.constants) (same_found j k a b e) ∙ append-nil (constants_of k.function)
+
+same_flags : (j k : Job) → IsJob j → IsJob k → SameJob j k → j.info.isa_flags ≡ k.info.isa_flags
+same_flags j k a b e = ap (λ f. f.flags) (same_found j k a b e)
+
+pub same_symbols : (j k : Job) → IsJob j → IsJob k → SameJob j k → j.symbols.items ≡ k.symbols.items
+same_symbols j k a b e =
+    sym (append-nil j.symbols.items) ∙ ap (λ f. f.symbols) (same_found j k a b e) ∙ append-nil k.symbols.items
 
 -- the causes after the state's
 abbrev line_checked : IsaFlags → List LineTree → List Constant → Option EmitError
@@ -58,13 +70,13 @@ pub same_cause : (j k : Job) → IsJob j → IsJob k → SameJob j k → cause_o
 same_cause j k a b e =
     let f = j.info.isa_flags in
     let g = k.info.isa_flags in
-    ap (λ o. first o (checked_cause f (trees_of j.function) (constants_of j.function))) (start_none j a)
-    ∙ same_checked f (trees_of j.function) (constants_of j.function)
-    ∙ ap (λ ts. line_checked f ts (constants_of j.function)) (same_blocks j k e)
-    ∙ ap (line_checked f (map lines_tree (trees_of k.function))) (same_constants j k e)
-    ∙ ap (λ x. line_checked x (map lines_tree (trees_of k.function)) (constants_of k.function)) (same_flags j k e)
-    ∙ sym (same_checked g (trees_of k.function) (constants_of k.function))
-    ∙ ap (λ o. first o (checked_cause g (trees_of k.function) (constants_of k.function))) (sym (start_none k b))
+    ap (λ o. first o (checked_cause f (trees_of j.state j.function) (constants_of j.function))) (start_none j a)
+    ∙ same_checked f (trees_of j.state j.function) (constants_of j.function)
+    ∙ ap (λ ts. line_checked f ts (constants_of j.function)) (same_blocks j k a b e)
+    ∙ ap (line_checked f (map lines_tree (trees_of k.state k.function))) (same_constants j k a b e)
+    ∙ ap (λ x. line_checked x (map lines_tree (trees_of k.state k.function)) (constants_of k.function)) (same_flags j k a b e)
+    ∙ sym (same_checked g (trees_of k.state k.function) (constants_of k.function))
+    ∙ ap (λ o. first o (checked_cause g (trees_of k.state k.function) (constants_of k.function))) (sym (start_none k b))
 
 same_ranges : (ts us : List Tree) → map lines_tree ts ≡ map lines_tree us → BlocksInRange ts → BlocksInRange us
 same_ranges ts us e h = ranges_from us (subst line_ranges e (ranges_to ts h))
@@ -80,8 +92,8 @@ same_image ts us cs f e h =
       block_starts = h.block_starts ∙ same_block_starts ts ∙ ap (λ ls. line_block_places (line_places ls).step 0 ls) e ∙ sym (same_block_starts us);
       constant_starts = h.constant_starts ∙ ap (λ bs. constant_starts (length bs) cs) bytes;
       starts = h.starts ∙ same_starts ts ∙ ap (λ ls. parts_places (line_places ls).step 0 (line_steps_from 0 ls)) e ∙ sym (same_starts us);
-      relocs = h.relocs;
-      traps = h.traps;
+      relocs = h.relocs ∙ same_function_relocs ts ∙ ap (λ ls. each_relocs (line_places ls).step 0 (line_steps_from 0 ls)) e ∙ sym (same_function_relocs us);
+      traps = h.traps ∙ same_function_traps ts ∙ ap (λ ls. each_traps (line_places ls).step 0 (line_steps_from 0 ls)) e ∙ sym (same_function_traps us);
       call_sites = h.call_sites;
       try_call_sites = h.try_call_sites;
       patchable_sites = h.patchable_sites;
@@ -95,12 +107,12 @@ pub same_code : (j k : Job) (code : MachBufferFinalized) → IsJob j → IsJob k
 same_code j k code a b e h =
     record {
       valid = sym (same_cause j k a b e) ∙ h.valid;
-      ranges = same_ranges (trees_of j.function) (trees_of k.function) (same_blocks j k e) h.ranges;
-      emitted = subst (λ cs. IsImage (trees_of k.function) cs code) (same_constants j k e) (same_image (trees_of j.function) (trees_of k.function) (constants_of j.function) code (same_blocks j k e) h.emitted);
+      ranges = same_ranges (trees_of j.state j.function) (trees_of k.state k.function) (same_blocks j k a b e) h.ranges;
+      emitted = subst (λ cs. IsImage (trees_of k.state k.function) cs code) (same_constants j k a b e) (same_image (trees_of j.state j.function) (trees_of k.state k.function) (constants_of j.function) code (same_blocks j k a b e) h.emitted);
     }
 
 -- what links of one links of the other
 pub same_links : (command : Command) (j k : Job) → IsJob j → IsJob k → SameJob j k → Links command k → Links command j
 same_links (Image base) j k a b e links =
-    λ code is. ap (λ ss. link_cause code base (with_symbols no_symbols ss)) (same_symbols j k e) ∙ links code (same_code j k code a b e is)
+    λ code is. ap (λ ss. link_cause code base (with_symbols no_symbols ss)) (same_symbols j k a b e) ∙ links code (same_code j k code a b e is)
 same_links Emit j k a b e links = tt

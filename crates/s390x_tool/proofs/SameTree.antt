@@ -4,18 +4,21 @@ use Rattle.std.proofs.Math.Path.{fun_ext}
 use Rattle.std.proofs.lemmas.List.{map-append}
 use Rattle.s390x_inst.specs.declared.state.IsaFlags.{IsaFlags}
 use Rattle.s390x_base.specs.declared.error.EmitError.{EmitError}
-use Rattle.s390x_steps.specs.MachineInstruction.{joined_bytes}
+use Rattle.s390x_buffer.specs.declared.entries.TrapEntry.{TrapEntry}
 use Rattle.s390x_steps.specs.Tree.{Tree, empty, leaf, looped}
-use Rattle.s390x_steps.specs.Causes.{first, draws, nesting_cause, numbers_cause, tree_cause, blocks_cause}
+use Rattle.s390x_steps.specs.Causes.{first, instruction_draws, draws, nesting_cause, numbers_cause, tree_cause, blocks_cause}
 use Rattle.s390x_steps.specs.Parts.{Part, Branch, ToStep, step_parts, parts_size}
 use Rattle.s390x_steps.specs.Steps.{Step, step_count, steps_of, steps_from, function_steps, first_step}
 use Rattle.s390x_steps.specs.Sizes.{tree_size, blocks_size}
-use Rattle.s390x_steps.specs.Rows.{Places, rows_of}
+use Rattle.s390x_steps.specs.Rows.{Places, parts_bytes}
 use Rattle.s390x_steps.specs.Image.{place, function_places, code, function_code, step_places, block_places}
+use Rattle.s390x_buffer.specs.declared.entries.RelocEntry.{RelocEntry}
+use Rattle.s390x_steps.specs.Relocs.{parts_relocs, relocs_from, function_relocs}
+use Rattle.s390x_steps.specs.Traps.{parts_traps, traps_from, function_traps}
 use Rattle.s390x_steps.specs.Ranges.{IsMask, AllInRange, BlocksInRange}
 use Rattle.s390x_lines.specs.Line.{Line}
 use Rattle.s390x_lines.specs.Instructions.{inst_line}
-use Rattle.s390x_tool.proofs.SameInstruction.{line_reading, reading_cause, reading_parts, reading_range, cause_read, parts_read, range_read, range_back}
+use Rattle.s390x_tool.proofs.SameInstruction.{line_reading, reading_cause, reading_draws, draws_read, reading_parts, reading_range, cause_read, parts_read, range_read, range_back}
 
 -- a tree with lines in place of instructions
 pub data LineTree : Type 0 where
@@ -31,26 +34,29 @@ lines_tree (looped mask members rest) = around mask (lines_tree members) (lines_
 -- labels drawn
 abbrev pub line_draws : LineTree → ℕ
 line_draws none = 0
-line_draws (one l rest) = line_draws rest
+line_draws (one l rest) = reading_draws (line_reading l) + line_draws rest
 line_draws (around mask members rest) = 2 + line_draws members + line_draws rest
 
 same_draws : (t : Tree) → draws t ≡ line_draws (lines_tree t)
 same_draws empty = refl
-same_draws (leaf i rest) = same_draws rest
+same_draws (leaf i rest) = let a = draws_read i in let b = same_draws rest in cc
 same_draws (looped mask members rest) = let a = same_draws members in let b = same_draws rest in cc
 
 -- the first cause
 abbrev pub line_cause : IsaFlags → (blocks n depth : ℕ) → LineTree → Option EmitError
 line_cause flags blocks n depth none = None
-line_cause flags blocks n depth (one l rest) = first (reading_cause flags blocks depth (line_reading l)) (line_cause flags blocks n depth rest)
+line_cause flags blocks n depth (one l rest) =
+    first (first (reading_cause flags blocks depth (line_reading l)) (numbers_cause n (reading_draws (line_reading l)))) (line_cause flags blocks (n + reading_draws (line_reading l)) depth rest)
 line_cause flags blocks n depth (around mask members rest) =
     first (first (first (nesting_cause depth) (numbers_cause n 2)) (line_cause flags blocks (n + 2) (depth + 1) members)) (line_cause flags blocks (n + 2 + line_draws members) depth rest)
 
 same_tree_cause : (flags : IsaFlags) (blocks n depth : ℕ) (t : Tree) → tree_cause flags blocks n depth t ≡ line_cause flags blocks n depth (lines_tree t)
 same_tree_cause flags blocks n depth empty = refl
 same_tree_cause flags blocks n depth (leaf i rest) =
-    ap (λ o. first o (tree_cause flags blocks n depth rest)) (cause_read flags blocks depth i)
-    ∙ ap (first (reading_cause flags blocks depth (line_reading (inst_line i)))) (same_tree_cause flags blocks n depth rest)
+    let r = line_reading (inst_line i) in
+    ap (λ o. first (first o (numbers_cause n (instruction_draws i))) (tree_cause flags blocks (n + instruction_draws i) depth rest)) (cause_read flags blocks depth i)
+    ∙ ap (λ d. first (first (reading_cause flags blocks depth r) (numbers_cause n d)) (tree_cause flags blocks (n + d) depth rest)) (draws_read i)
+    ∙ ap (first (first (reading_cause flags blocks depth r) (numbers_cause n (reading_draws r)))) (same_tree_cause flags blocks (n + reading_draws r) depth rest)
 same_tree_cause flags blocks n depth (looped mask members rest) =
     let own = first (nesting_cause depth) (numbers_cause n 2) in
     ap (λ o. first (first own o) (tree_cause flags blocks (n + 2 + draws members) depth rest)) (same_tree_cause flags blocks (n + 2) (depth + 1) members)
@@ -135,7 +141,7 @@ same_place (s ∷ ss) zero = refl
 same_place (s ∷ ss) (suc k) = ap (λ n. parts_size (step_parts s) + n) (same_place ss k)
 
 abbrev pub line_places : List LineTree → Places
-line_places ts = record { step = parts_place (line_steps_from 0 ts); block = λ b. parts_place (line_steps_from 0 ts) (line_first_step ts b) }
+line_places ts = record { step = parts_place (line_steps_from 0 ts); block = λ b. parts_place (line_steps_from 0 ts) (line_first_step ts b); symbol_value = λ name offset. 0 }
 
 same_step_place : (ts : List Tree) (k : ℕ) → place (function_steps ts) k ≡ parts_place (line_steps_from 0 (map lines_tree ts)) k
 same_step_place ts k = same_place (function_steps ts) k ∙ ap (λ ps. parts_place ps k) (same_steps_from 0 ts)
@@ -144,17 +150,17 @@ same_places : (ts : List Tree) → function_places ts ≡ line_places (map lines
 same_places ts =
     let at : place (function_steps ts) ≡ parts_place (line_steps_from 0 (map lines_tree ts)) = fun_ext (same_step_place ts) in
     let first : first_step ts ≡ line_first_step (map lines_tree ts) = fun_ext (same_first_step ts) in
-    ap (λ p. record { step = p; block = λ b. p (first_step ts b) }) at
-    ∙ ap (λ f. record { step = parts_place (line_steps_from 0 (map lines_tree ts)); block = λ b. parts_place (line_steps_from 0 (map lines_tree ts)) (f b) }) first
+    ap (λ p. record { step = p; block = λ b. p (first_step ts b); symbol_value = λ name offset. 0 }) at
+    ∙ ap (λ f. record { step = parts_place (line_steps_from 0 (map lines_tree ts)); block = λ b. parts_place (line_steps_from 0 (map lines_tree ts)) (f b); symbol_value = λ name offset. 0 }) first
 
 -- bytes
 abbrev pub parts_code : Places → ℕ → List (List Part) → List ℕ
 parts_code P k [] = []
-parts_code P k (p ∷ ps) = joined_bytes (rows_of P (P.step k) p) ++ parts_code P (k + 1) ps
+parts_code P k (p ∷ ps) = parts_bytes P (P.step k) p ++ parts_code P (k + 1) ps
 
 same_code : (P : Places) (k : ℕ) (ss : List Step) → code P k ss ≡ parts_code P k (map step_parts ss)
 same_code P k [] = refl
-same_code P k (s ∷ ss) = ap (λ bs. joined_bytes (rows_of P (P.step k) (step_parts s)) ++ bs) (same_code P (k + 1) ss)
+same_code P k (s ∷ ss) = ap (λ bs. parts_bytes P (P.step k) (step_parts s) ++ bs) (same_code P (k + 1) ss)
 
 pub same_function_code : (ts : List Tree) → function_code ts ≡ parts_code (line_places (map lines_tree ts)) 0 (line_steps_from 0 (map lines_tree ts))
 same_function_code ts =
@@ -175,6 +181,36 @@ same_starts ts =
     same_step_places (function_places ts).step 0 (function_steps ts)
     ∙ ap (λ P. parts_places P.step 0 (map step_parts (function_steps ts))) (same_places ts)
     ∙ ap (parts_places (line_places (map lines_tree ts)).step 0) (same_steps_from 0 ts)
+
+-- the traps that the parts of each step record
+abbrev pub each_traps : (ℕ → ℕ) → ℕ → List (List Part) → List TrapEntry
+each_traps at k [] = []
+each_traps at k (p ∷ ps) = parts_traps (at k) p ++ each_traps at (k + 1) ps
+
+same_traps : (at : ℕ → ℕ) (k : ℕ) (ss : List Step) → traps_from at k ss ≡ each_traps at k (map step_parts ss)
+same_traps at k [] = refl
+same_traps at k (s ∷ ss) = ap (λ es. parts_traps (at k) (step_parts s) ++ es) (same_traps at (k + 1) ss)
+
+pub same_function_traps : (ts : List Tree) → function_traps ts ≡ each_traps (line_places (map lines_tree ts)).step 0 (line_steps_from 0 (map lines_tree ts))
+same_function_traps ts =
+    same_traps (function_places ts).step 0 (function_steps ts)
+    ∙ ap (λ P. each_traps P.step 0 (map step_parts (function_steps ts))) (same_places ts)
+    ∙ ap (each_traps (line_places (map lines_tree ts)).step 0) (same_steps_from 0 ts)
+
+-- the relocations that the parts of each step have
+abbrev pub each_relocs : (ℕ → ℕ) → ℕ → List (List Part) → List RelocEntry
+each_relocs at k [] = []
+each_relocs at k (p ∷ ps) = parts_relocs (at k) p ++ each_relocs at (k + 1) ps
+
+same_relocs : (at : ℕ → ℕ) (k : ℕ) (ss : List Step) → relocs_from at k ss ≡ each_relocs at k (map step_parts ss)
+same_relocs at k [] = refl
+same_relocs at k (s ∷ ss) = ap (λ es. parts_relocs (at k) (step_parts s) ++ es) (same_relocs at (k + 1) ss)
+
+pub same_function_relocs : (ts : List Tree) → function_relocs ts ≡ each_relocs (line_places (map lines_tree ts)).step 0 (line_steps_from 0 (map lines_tree ts))
+same_function_relocs ts =
+    same_relocs (function_places ts).step 0 (function_steps ts)
+    ∙ ap (λ P. each_relocs P.step 0 (map step_parts (function_steps ts))) (same_places ts)
+    ∙ ap (each_relocs (line_places (map lines_tree ts)).step 0) (same_steps_from 0 ts)
 
 abbrev pub line_block_places : (ℕ → ℕ) → ℕ → List LineTree → List ℕ
 line_block_places at k [] = []

@@ -34,13 +34,13 @@ symbols_of j = with_symbols no_symbols j.symbols.items
 
 -- the first cause by which emission refuses a job's function
 abbrev pub cause_of : Job → Option EmitError
-cause_of j = function_cause j.info.isa_flags (trees_of j.function) (constants_of j.function) j.state
+cause_of j = function_cause j.info.isa_flags (trees_of j.state j.function) (constants_of j.function) j.state
 
 -- the code of a job's function, which isn't refused and whose numbers lie in their ranges
 pub record IsCode (j : Job) (code : MachBufferFinalized) : Type 0 where
   pub valid : cause_of j ≡ None
-  pub ranges : BlocksInRange (trees_of j.function)
-  pub emitted : IsImage (trees_of j.function) (constants_of j.function) code
+  pub ranges : BlocksInRange (trees_of j.state j.function)
+  pub emitted : IsImage (trees_of j.state j.function) (constants_of j.function) code
 
 -- the first cause by which linking refuses a job's code at a base
 abbrev pub link_cause_of : ℕ → Job → MachBufferFinalized → Option LinkError
@@ -54,11 +54,12 @@ pub record IsImageAt (base : ℕ) (j : Job) (bytes : List ℕ) : Type 0 where
   pub filled : bytes ≡ filled base (symbols_of j) code.relocs.items code.bytes.items
 
 -- The text of `image`: the image in lower-case hex, and a line feed. A machine that fetches the image at the base from any
--- block's start does only what the job's typed instructions allow, in every state and under every list of others' writes.
+-- block's start does only what the job's typed instructions allow, in every state in which it lies in memory, and under every
+-- list of others' writes, until it returns or a typed step is wrong.
 pub record IsImageText (base : ℕ) (j : Job) (text : List ℕ) : Type 0 where
   pub bytes : List ℕ
   pub image : IsImageAt base j bytes
-  pub runs : RunsAsTyped (trees_of j.function) (record { base = base; bytes = bytes })
+  pub runs : RunsAsTyped (symbols_of j) (trees_of j.state j.function) (record { base = base; bytes = bytes })
   pub spelled : text ≡ line (encode_lower bytes)
 
 -- emission refuses the job's function by its first cause

@@ -31,6 +31,7 @@ abbrev pub numbered : List ℕ → ℕ → List ℕ → List (List ℕ)
 numbered name k [] = []
 numbered name k (offset ∷ offsets) = place_line name k offset ∷ numbered name (k + 1) offsets
 
+-- the name of a relocation's kind
 abbrev pub kind_text : Reloc → List ℕ
 kind_text S390xPCRel32Dbl = codes "PCRel32Dbl"
 kind_text S390xPLTRel32Dbl = codes "PLTRel32Dbl"

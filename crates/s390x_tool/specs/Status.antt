@@ -3,6 +3,7 @@ use Rattle.std.specs.Prelude.{ℕ}
 use Rattle.s390x_tool.specs.declared.status.Status.{Status}
 use Rattle.s390x_tool.specs.declared.status.Status.TheVariants as status
 
+-- the number with which the program ends
 abbrev pub number_of_status : Status → ℕ
 number_of_status status.Ok = 0
 number_of_status status.Usage = 2

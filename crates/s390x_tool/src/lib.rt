@@ -6,6 +6,8 @@ mod emitted;
 pub mod ends;
 pub mod in_memory;
 pub mod input;
+#[cfg(test)]
+mod memory_rows;
 pub mod output;
 #[cfg(test)]
 mod register_rows;

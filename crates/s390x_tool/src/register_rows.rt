@@ -181,3 +181,20 @@ pub const MOVE_ROWS: [(&str, &str); 60] = [
     ("CMov64SImm16 %r5 13 %r5 -32768", "ec5d80000046"),
     ("CMov32SImm16 %r15 12 %r15 6002", "ecfc17720042"),
 ];
+
+/// What may stop: traps, divisions, comparisons that trap.
+#[rattlefmt::skip]
+pub const STOP_ROWS: [(&str, &str); 12] = [
+    ("SDivMod64 %r12/%r13 %r13 %r5", "b90d00c5"),
+    ("SDivMod32 %r2/%r3 %r3 %r1", "b91d0021"),
+    ("CmpTrapRR CmpS64 %r5 %r0 14 user77", "b960e050"),
+    ("CmpTrapRR CmpL64 %r7 %r3 12 user250", "b961c073"),
+    ("CmpTrapRR CmpS32 %r2 %r14 3 user1", "b972302e"),
+    ("CmpTrapRR CmpL32 %r2 %r2 3 int_ovf", "b9733022"),
+    ("UDivMod64 %r14/%r15 %r14/%r15 %r6", "b98700e6"),
+    ("UDivMod32 %r0/%r1 %r0/%r1 %r15", "b997000f"),
+    ("CmpTrapRSImm16 CmpS64 %r0 23570 12 heap_oob", "ec005c12c070"),
+    ("CmpTrapRUImm16 CmpL64 %r3 0 6 heap_oob", "ec3000006071"),
+    ("CmpTrapRSImm16 CmpS32 %r12 -32768 3 user77", "ecc080003072"),
+    ("CmpTrapRUImm16 CmpL32 %r15 65535 2 user250", "ecf0ffff2073"),
+];

@@ -15,10 +15,12 @@ abbrev pub bytes_text : List ℕ → List ℕ
 bytes_text [] = codes "-"
 bytes_text (b ∷ bs) = encode_lower (b ∷ bs)
 
+-- the bytes that hex gave; none where it failed
 abbrev pub decoded : Result (List ℕ) FromHexError → List ℕ
 decoded (Ok bs) = bs
 decoded (Err e) = []
 
+-- the bytes that a word spells; none for any other word
 abbrev pub bytes_of : List ℕ → List ℕ
 bytes_of w = if bytes_eq w (codes "-") then [] else decoded (decode_of w)
 
@@ -31,9 +33,11 @@ digits_text (suc k) v = digits_text k (v / 16) ++ (slice_index lower_digits (v %
 unfoldable pub vector_text : ℕ → List ℕ
 vector_text v = digits_text 32 v
 
+-- the value of a hex digit
 abbrev pub digit_of : ℕ → ℕ
 digit_of c = if nat_lt c 58 then c - 48 else c - 87
 
+-- the number a with the hex digits behind it, modulo 2 ^ 128
 abbrev pub hex_from : ℕ → List ℕ → ℕ
 hex_from a [] = a
 hex_from a (c ∷ cs) = hex_from ((a * 16 + digit_of c) % 2 ^ 128) cs
@@ -43,30 +47,35 @@ abbrev pub value_text : RegClass → ℕ → List ℕ
 value_text Int v = decimal v
 value_text Float v = vector_text v
 
+-- one past the greatest value of a register
 abbrev pub value_limit : RegClass → ℕ
 value_limit Int = 2 ^ 64
 value_limit Float = 2 ^ 128
 
+-- the value that a word spells
 abbrev pub value_of : RegClass → List ℕ → ℕ
 value_of Int w = decimal_of w
 value_of Float w = hex_from 0 w
 
--- the facilities that are set, each after a space
+-- a space and the name of a facility, where it is set
 abbrev pub facility_text : Bool → List ℕ → List ℕ
 facility_text true name = 32 ∷ name
 facility_text false name = []
 
+-- the facilities that are set, each after a space
 abbrev pub facilities_text : IsaFlags → List ℕ
 facilities_text f =
     facility_text f.has_mie3 (codes "mie3") ++ (facility_text f.has_mie4 (codes "mie4") ++ (facility_text f.has_vxrs_ext2 (codes "vxrs_ext2") ++ facility_text f.has_vxrs_ext3 (codes "vxrs_ext3")))
 
--- whether the next word is this one, and what follows it then
+-- whether the next word is this one
 abbrev pub is_next : List ℕ → List ℕ → Bool
 is_next name s = bytes_eq (word s) name
 
+-- what follows it then; else the text as it is
 abbrev pub after_next : List ℕ → List ℕ → List ℕ
 after_next name s = if bytes_eq (word s) name then after_word s else s
 
+-- the facilities that the words of a text name, in the order in which they are printed
 abbrev pub facilities_of : List ℕ → IsaFlags
 facilities_of s =
     let t = after_next (codes "mie3") s in

@@ -2,6 +2,7 @@
 use Rattle.std.specs.Prelude.{ℕ, Bool, List, [], ◌∷◌, ◌++◌, length, codes, if◌then◌else◌, ◌==◌}
 use Rattle.s390x_words.specs.Marks.{among, upto}
 
+-- elements, each behind a comma
 abbrev pub more_text : {A : Type 0} → (A → List ℕ) → List A → List ℕ
 more_text spelling [] = []
 more_text spelling (x ∷ xs) = 44 ∷ (spelling x ++ more_text spelling xs)
@@ -11,9 +12,11 @@ abbrev pub open_text : {A : Type 0} → (A → List ℕ) → List A → List ℕ
 open_text spelling [] = 91 ∷ []
 open_text spelling (x ∷ xs) = 91 ∷ (spelling x ++ more_text spelling xs)
 
+-- a list in brackets, its elements joined by commas
 abbrev pub list_text : {A : Type 0} → (A → List ℕ) → List A → List ℕ
 list_text spelling xs = open_text spelling xs ++ (93 ∷ [])
 
+-- P holds of each element
 abbrev pub AllItems : {A : Type 0} → (A → Type 0) → List A → Type 0
 AllItems P [] = Unit {0}
 AllItems P (x ∷ xs) = P x × AllItems P xs

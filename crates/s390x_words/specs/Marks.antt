@@ -1,6 +1,7 @@
 -- Texts as words between marks.
 use Rattle.std.specs.Prelude.{ℕ, Bool, false, List, [], ◌∷◌, codes, if◌then◌else◌, ◌==◌, ◌||◌, drop}
 
+-- whether a byte is one of these
 abbrev pub among : ℕ → List ℕ → Bool
 among x [] = false
 among x (y ∷ s) = (x == y) || among x s
@@ -19,10 +20,11 @@ abbrev pub from_mark : List ℕ → List ℕ
 from_mark [] = []
 from_mark (x ∷ s) = if is_mark x then x ∷ s else from_mark s
 
--- what stands after one mark: a word, and what follows it
+-- the word after one mark
 unfoldable pub word : List ℕ → List ℕ
 word s = before_mark (drop 1 s)
 
+-- what follows the word after one mark
 unfoldable pub after_word : List ℕ → List ℕ
 after_word s = from_mark (drop 1 s)
 

@@ -13,6 +13,7 @@ use Rattle.s390x_words.specs.declared.memory.MemoryForm.{MemoryForm}
 use Rattle.s390x_words.specs.declared.memory.MemoryForm.TheVariants as F
 use Rattle.s390x_words.specs.declared.memory.TheConstants.{ALL_FORMS}
 
+-- the name of a form
 abbrev pub form_text : MemoryForm → List ℕ
 form_text F.BXD12 = codes "BXD12"
 form_text F.BXD20 = codes "BXD20"
@@ -26,6 +27,7 @@ form_text F.OutgoingArgOffset = codes "OutgoingArgOffset"
 form_text F.SlotOffset = codes "SlotOffset"
 form_text F.SpillOffset = codes "SpillOffset"
 
+-- the form of an operand
 abbrev pub form_of : MemArg → MemoryForm
 form_of (M.BXD12 b x d f) = F.BXD12
 form_of (M.BXD20 b x d f) = F.BXD20
@@ -47,6 +49,7 @@ indexed_text b x d f = reg_text b ++ (44 ∷ (reg_text x ++ (44 ∷ (d ++ (44 �
 abbrev pub offset_text : List ℕ → List ℕ → MachMemFlags → List ℕ
 offset_text n o f = n ++ (44 ∷ (o ++ (44 ∷ access_text f)))
 
+-- the fields of an operand, without the parentheses
 abbrev pub inside_text : MemArg → List ℕ
 inside_text (M.BXD12 b x d f) = indexed_text b x (decimal d) f
 inside_text (M.BXD20 b x d f) = indexed_text b x (signed_decimal d) f
@@ -60,9 +63,11 @@ inside_text (M.OutgoingArgOffset o) = signed_decimal o
 inside_text (M.SlotOffset o) = signed_decimal o
 inside_text (M.SpillOffset o) = signed_decimal o
 
+-- the text of an operand
 abbrev pub memory_text : MemArg → List ℕ
 memory_text m = form_text (form_of m) ++ (40 ∷ (inside_text m ++ (41 ∷ [])))
 
+-- the numbers of an operand lie in their ranges
 abbrev pub IsMemory : MemArg → Type 0
 IsMemory (M.BXD12 b x d f) = IsReg b × IsReg x × (d < 4096) × IsSuffix f.trap
 IsMemory (M.BXD20 b x d f) = IsReg b × IsReg x × IsBelow (signed_limit S20) d × IsSuffix f.trap
@@ -94,5 +99,6 @@ memory_with F.OutgoingArgOffset s = M.OutgoingArgOffset (integer_of S64 (word s)
 memory_with F.SlotOffset s = M.SlotOffset (integer_of S64 (word s))
 memory_with F.SpillOffset s = M.SpillOffset (integer_of S64 (word s))
 
+-- the operand behind one mark
 abbrev pub memory_of : List ℕ → MemArg
 memory_of s = memory_with (found form_text ALL_FORMS (word s) F.BXD12) (after_word s)

@@ -25,6 +25,7 @@ use Rattle.s390x_inst.specs.declared.calls.CallConv.TheVariants as CallConvIs
 use Rattle.s390x_base.specs.declared.ir.ValueType.{ValueType}
 use Rattle.s390x_base.specs.declared.ir.ValueType.TheVariants as ValueTypeIs
 
+-- of operators on two operands
 abbrev pub alu_text : ALUOp → List ℕ
 alu_text ALUOpIs.Add32 = codes "Add32"
 alu_text ALUOpIs.Add32Ext16 = codes "Add32Ext16"
@@ -66,6 +67,7 @@ alu_text ALUOpIs.AndNot64 = codes "AndNot64"
 alu_text ALUOpIs.OrrNot32 = codes "OrrNot32"
 alu_text ALUOpIs.OrrNot64 = codes "OrrNot64"
 
+-- of comparisons
 abbrev pub cmp_text : CmpOp → List ℕ
 cmp_text CmpOpIs.CmpS32 = codes "CmpS32"
 cmp_text CmpOpIs.CmpS32Ext16 = codes "CmpS32Ext16"
@@ -78,6 +80,7 @@ cmp_text CmpOpIs.CmpL64 = codes "CmpL64"
 cmp_text CmpOpIs.CmpL64Ext16 = codes "CmpL64Ext16"
 cmp_text CmpOpIs.CmpL64Ext32 = codes "CmpL64Ext32"
 
+-- of shifts and rotations
 abbrev pub shift_text : ShiftOp → List ℕ
 shift_text ShiftOpIs.RotL32 = codes "RotL32"
 shift_text ShiftOpIs.RotL64 = codes "RotL64"
@@ -88,12 +91,14 @@ shift_text ShiftOpIs.LShR64 = codes "LShR64"
 shift_text ShiftOpIs.AShR32 = codes "AShR32"
 shift_text ShiftOpIs.AShR64 = codes "AShR64"
 
+-- of what becomes of selected bits
 abbrev pub rxsbg_text : RxSBGOp → List ℕ
 rxsbg_text RxSBGOpIs.Insert = codes "Insert"
 rxsbg_text RxSBGOpIs.And = codes "And"
 rxsbg_text RxSBGOpIs.Or = codes "Or"
 rxsbg_text RxSBGOpIs.Xor = codes "Xor"
 
+-- of operators on one operand
 abbrev pub unary_text : UnaryOp → List ℕ
 unary_text UnaryOpIs.Abs32 = codes "Abs32"
 unary_text UnaryOpIs.Abs64 = codes "Abs64"
@@ -108,6 +113,7 @@ unary_text UnaryOpIs.BSwap64 = codes "BSwap64"
 unary_text UnaryOpIs.Clz64 = codes "Clz64"
 unary_text UnaryOpIs.Ctz64 = codes "Ctz64"
 
+-- of operators on two vectors
 abbrev pub vec_binary_text : VecBinaryOp → List ℕ
 vec_binary_text VecBinaryOpIs.Add8x16 = codes "Add8x16"
 vec_binary_text VecBinaryOpIs.Add16x8 = codes "Add16x8"
@@ -227,6 +233,7 @@ vec_binary_text VecBinaryOpIs.MergeHigh16x8 = codes "MergeHigh16x8"
 vec_binary_text VecBinaryOpIs.MergeHigh32x4 = codes "MergeHigh32x4"
 vec_binary_text VecBinaryOpIs.MergeHigh64x2 = codes "MergeHigh64x2"
 
+-- of operators on one vector
 abbrev pub vec_unary_text : VecUnaryOp → List ℕ
 vec_unary_text VecUnaryOpIs.Abs8x16 = codes "Abs8x16"
 vec_unary_text VecUnaryOpIs.Abs16x8 = codes "Abs16x8"
@@ -269,6 +276,7 @@ vec_unary_text VecUnaryOpIs.UnpackSHigh16x8 = codes "UnpackSHigh16x8"
 vec_unary_text VecUnaryOpIs.UnpackSHigh32x4 = codes "UnpackSHigh32x4"
 vec_unary_text VecUnaryOpIs.UnpackSHigh64x2 = codes "UnpackSHigh64x2"
 
+-- of shifts and rotations of lanes
 abbrev pub vec_shift_text : VecShiftOp → List ℕ
 vec_shift_text VecShiftOpIs.RotL8x16 = codes "RotL8x16"
 vec_shift_text VecShiftOpIs.RotL16x8 = codes "RotL16x8"
@@ -287,6 +295,7 @@ vec_shift_text VecShiftOpIs.AShR16x8 = codes "AShR16x8"
 vec_shift_text VecShiftOpIs.AShR32x4 = codes "AShR32x4"
 vec_shift_text VecShiftOpIs.AShR64x2 = codes "AShR64x2"
 
+-- of comparisons of lanes
 abbrev pub vec_compare_text : VecIntCmpOp → List ℕ
 vec_compare_text VecIntCmpOpIs.CmpEq8x16 = codes "CmpEq8x16"
 vec_compare_text VecIntCmpOpIs.CmpEq16x8 = codes "CmpEq16x8"
@@ -304,15 +313,18 @@ vec_compare_text VecIntCmpOpIs.UCmpHi32x4 = codes "UCmpHi32x4"
 vec_compare_text VecIntCmpOpIs.UCmpHi64x2 = codes "UCmpHi64x2"
 vec_compare_text VecIntCmpOpIs.UCmpHi128 = codes "UCmpHi128"
 
+-- of comparisons of one element
 abbrev pub vec_element_compare_text : VecIntEltCmpOp → List ℕ
 vec_element_compare_text VecIntEltCmpOpIs.SCmp128 = codes "SCmp128"
 vec_element_compare_text VecIntEltCmpOpIs.UCmp128 = codes "UCmp128"
 
+-- of calling conventions
 abbrev pub convention_text : CallConv → List ℕ
 convention_text CallConvIs.Fast = codes "Fast"
 convention_text CallConvIs.Tail = codes "Tail"
 convention_text CallConvIs.SystemV = codes "SystemV"
 
+-- of types
 abbrev pub type_text : ValueType → List ℕ
 type_text ValueTypeIs.I8 = codes "I8"
 type_text ValueTypeIs.I16 = codes "I16"

@@ -7,8 +7,8 @@ use Rattle.s390x_emit_int.proofs.check.+checking.Given as goal
 
 abbrev pub invariant-check_members-loop-inst : goal.invariant-check_members-loop-inst
 invariant-check_members-loop-inst l = record {
-  cause : tree_cause l.flags l.blocks l.sum.labels l.depth (tree (drop l.inst-index l.insts)) ≡ tree_cause l.flags l.blocks l.fn.t.labels l.depth (tree l.insts);
-  labels : l.sum.labels + draws (tree (drop l.inst-index l.insts)) ≡ l.fn.t.labels + draws (tree l.insts);
-  bytes : min limit (l.sum.bytes + tree_size (tree (drop l.inst-index l.insts))) ≡ min limit (l.fn.t.bytes + tree_size (tree l.insts));
+  cause : tree_cause l.flags l.blocks l.sum.labels l.depth (tree l.state (drop l.inst-index l.insts)) ≡ tree_cause l.flags l.blocks l.fn.t.labels l.depth (tree l.state l.insts);
+  labels : l.sum.labels + draws (tree l.state (drop l.inst-index l.insts)) ≡ l.fn.t.labels + draws (tree l.state l.insts);
+  bytes : min limit (l.sum.bytes + tree_size (tree l.state (drop l.inst-index l.insts))) ≡ min limit (l.fn.t.bytes + tree_size (tree l.state l.insts));
   counted : IsCounted l.sum;
 }

@@ -7,7 +7,7 @@ use Rattle.s390x_emit_int.proofs.function.check_blocks.Given as goal
 
 abbrev pub invariant-loop-block : goal.invariant-loop-block
 invariant-loop-block l = record {
-  cause : blocks_cause l.fn.flags l.count l.sum.labels (map tree_of (drop l.block-index l.blocks)) ≡ blocks_cause l.fn.flags l.count l.fn.labels (map tree_of l.blocks);
-  bytes : min limit (l.sum.bytes + blocks_size (map tree_of (drop l.block-index l.blocks))) ≡ min limit (blocks_size (map tree_of l.blocks));
+  cause : blocks_cause l.fn.flags l.count l.sum.labels (map (tree_of l.fn.state) (drop l.block-index l.blocks)) ≡ blocks_cause l.fn.flags l.count l.fn.labels (map (tree_of l.fn.state) l.blocks);
+  bytes : min limit (l.sum.bytes + blocks_size (map (tree_of l.fn.state) (drop l.block-index l.blocks))) ≡ min limit (blocks_size (map (tree_of l.fn.state) l.blocks));
   counted : IsCounted l.sum;
 }

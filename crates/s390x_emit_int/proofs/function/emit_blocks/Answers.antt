@@ -17,15 +17,15 @@ loop-block-preserved c =
     let s2 = c.emit_members.new.sink in
     let v = c.block-item.result in
     let e1 : s1 ≡ apply s (Bind k) = c.in_ok-bind_label.ensures.answer.1 ∙ ap (λ l. apply s (Bind l)) c.loop-block.invariant.label in
-    let e2 : s2 ≡ run s1 (pieces (length s1.labels) 0 (tree_of v)) = c.in_ok-emit_members.ensures.answer ∙ ap (λ l. run s1 (pieces (length s1.labels) 0 (tree l))) c.deref.ensures.value in
-    let next : NextBlock s2 k (length c.args.blocks.now) = next_free k (length c.args.blocks.now) (tree_of v) s s1 s2 (omega (arith, c.loop-block.invariant.room, c.loop-block.invariant.count)) c.loop-block.invariant.free e1 e2 in
+    let e2 : s2 ≡ run s1 (pieces (length s1.labels) 0 (tree_of c.args.state.now v)) = c.in_ok-emit_members.ensures.answer ∙ ap (λ l. run s1 (pieces (length s1.labels) 0 (tree c.args.state.now l))) c.deref.ensures.value in
+    let next : NextBlock s2 k (length c.args.blocks.now) = next_free k (length c.args.blocks.now) (tree_of c.args.state.now v) s s1 s2 (omega (arith, c.loop-block.invariant.room, c.loop-block.invariant.count)) c.loop-block.invariant.free e1 e2 in
     record {
-      rest = block_more c.args.blocks.now k v s s1 s2 _ (omega arith) c.block-item.is e1 e2 c.loop-block.invariant.rest;
-      ranges = λ f. c.loop-block.invariant.ranges (block_ranges c.args.blocks.now k v c.deref.result.now (omega arith) c.block-item.is c.deref.ensures.value c.in_ok-emit_members.ensures.ranges f);
-      passed = λ flags put cause. others_passed flags c.args.blocks.now k (length c.args.blocks.now) v s s1 s2 (omega arith) c.block-item.is e1 e2 (c.loop-block.invariant.passed flags put cause);
+      rest = block_more c.args.state.now c.args.blocks.now k v s s1 s2 _ (omega arith) c.block-item.is e1 e2 c.loop-block.invariant.rest;
+      ranges = λ f. c.loop-block.invariant.ranges (block_ranges c.args.state.now c.args.blocks.now k v c.deref.result.now (omega arith) c.block-item.is c.deref.ensures.value c.in_ok-emit_members.ensures.ranges f);
+      passed = λ flags put cause. others_passed c.args.state.now flags c.args.blocks.now k (length c.args.blocks.now) v s s1 s2 (omega arith) c.block-item.is e1 e2 (c.loop-block.invariant.passed flags put cause);
       label = omega (arith, c.loop-block.invariant.label);
       count = c.emit_members.ensures.kept.block_count ∙ c.bind_label.ensures.kept.block_count ∙ c.loop-block.invariant.count;
-      room = block_room k (tree_of v) s s1 s2 c.loop-block.invariant.room e1 e2;
+      room = block_room k (tree_of c.args.state.now v) s s1 s2 c.loop-block.invariant.room e1 e2;
       free = next.free;
     }
 
@@ -43,6 +43,6 @@ returns-in_err-emit_members-clause-lacks c = λ flags put cause.
     let s1 = c.bind_label.new.self in
     let v = c.block-item.result in
     let e1 : s1 ≡ apply s (Bind k) = c.in_ok-bind_label.ensures.answer.1 ∙ ap (λ l. apply s (Bind l)) c.loop-block.invariant.label in
-    let p : TreePassed flags s1 0 0 (tree_of v) = block_passed flags c.args.blocks.now k (length c.args.blocks.now) v s s1 (omega arith) c.block-item.is e1 c.loop-block.invariant.count (omega arith) c.loop-block.invariant.room (c.loop-block.invariant.passed flags put cause) in
-    let q : TreePassed flags s1 0 0 (tree c.deref.result.now) = subst (λ l. TreePassed flags s1 0 0 (tree l)) (sym c.deref.ensures.value) p in
+    let p : TreePassed flags s1 0 0 (tree_of c.args.state.now v) = block_passed c.args.state.now flags c.args.blocks.now k (length c.args.blocks.now) v s s1 (omega arith) c.block-item.is e1 c.loop-block.invariant.count (omega arith) c.loop-block.invariant.room (c.loop-block.invariant.passed flags put cause) in
+    let q : TreePassed flags s1 0 0 (tree c.args.state.now c.deref.result.now) = subst (λ l. TreePassed flags s1 0 0 (tree c.args.state.now l)) (sym c.deref.ensures.value) p in
     lacks_again c.from_residual-in_err-emit_members.result _ c.from_residual-in_err-emit_members.ensures.1 (c.in_err-emit_members.ensures.lacks flags 0 q)

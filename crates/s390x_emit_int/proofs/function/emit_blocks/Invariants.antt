@@ -13,9 +13,9 @@ use Rattle.s390x_emit_int.proofs.function.emit_blocks.Given as goal
 
 abbrev pub invariant-loop-block : goal.invariant-loop-block
 invariant-loop-block l = record {
-  rest : run l.sink (function_pieces (length l.sink.labels) l.block-index (map tree_of (drop l.block-index l.blocks))) ≡ run l.initial.sink (function_pieces (length l.initial.sink.labels) 0 (map tree_of l.blocks));
-  ranges : BlocksInRange (map tree_of (drop l.block-index l.blocks)) → BlocksInRange (map tree_of l.blocks);
-  passed : (flags : IsaFlags) → put_cause l.initial.sink (blocks_size (map tree_of l.blocks)) ≡ None → blocks_cause flags (length l.blocks) (length l.initial.sink.labels) (map tree_of l.blocks) ≡ None → BlocksPassed flags l.sink (length l.blocks) (map tree_of (drop l.block-index l.blocks));
+  rest : run l.sink (function_pieces (length l.sink.labels) l.block-index (map (tree_of l.fn.state) (drop l.block-index l.blocks))) ≡ run l.initial.sink (function_pieces (length l.initial.sink.labels) 0 (map (tree_of l.fn.state) l.blocks));
+  ranges : BlocksInRange (map (tree_of l.fn.state) (drop l.block-index l.blocks)) → BlocksInRange (map (tree_of l.fn.state) l.blocks);
+  passed : (flags : IsaFlags) → put_cause l.initial.sink (blocks_size (map (tree_of l.fn.state) l.blocks)) ≡ None → blocks_cause flags (length l.blocks) (length l.initial.sink.labels) (map (tree_of l.fn.state) l.blocks) ≡ None → BlocksPassed flags l.sink (length l.blocks) (map (tree_of l.fn.state) (drop l.block-index l.blocks));
   label : l.label ≡ l.block-index;
   count : l.sink.block_count ≡ length l.blocks;
   room : HasRoom l.sink;

@@ -1,19 +1,44 @@
-use Rattle.std.proofs.Common.{ap, ◌∙◌}
+use Rattle.std.proofs.Common.{ap, sym, subst, ◌∙◌, ◌+◌, ◌*◌, length}
+use Rattle.s390x_steps.specs.Causes.{table_cause}
+use Rattle.s390x_emit_int.specs.Room.{Passed}
+use Rattle.s390x_emit_int.proofs.Tables.{jump_passed}
 use Rattle.s390x_steps.specs.General.{is_general}
-use Rattle.s390x_emit_int.proofs.Leaves.{indirect_passed, return_passed, address_passed}
+use Rattle.s390x_emit_int.proofs.Symbols.{symbol_passed}
+use Rattle.s390x_emit_int.proofs.Leaves.{indirect_passed, return_passed, address_passed, trap_passed, trap_if_passed, debug_passed}
 use Rattle.s390x_emit_int.proofs.leaf.emit_branch.Goals as goal
 
 pub returns-in-IndirectBr-clause-lacks : goal.returns-in-IndirectBr-clause-lacks
-returns-in-IndirectBr-clause-lacks c = λ depth p.
+returns-in-IndirectBr-clause-lacks c = λ depth p drawn.
     let f = indirect_passed c.args.sink.now c.args.after.0 depth c.args.inst.now c.in-IndirectBr.rn c.in-IndirectBr.targets c.in-IndirectBr.is p in
     c.emit_branch_register.ensures.lacks f.0 f.1
 
 pub returns-in-Ret-clause-lacks : goal.returns-in-Ret-clause-lacks
-returns-in-Ret-clause-lacks c = λ depth p.
+returns-in-Ret-clause-lacks c = λ depth p drawn.
     let f = return_passed c.args.sink.now c.args.after.0 depth c.args.inst.now c.in-Ret.link c.in-Ret.is p in
     c.emit_branch_register-in-Ret.ensures.lacks f.0 f.1
 
 pub returns-in-LabelAddress-clause-lacks : goal.returns-in-LabelAddress-clause-lacks
-returns-in-LabelAddress-clause-lacks c = λ depth p.
+returns-in-LabelAddress-clause-lacks c = λ depth p drawn.
     let f = address_passed c.args.sink.now c.args.after.0 depth c.args.inst.now c.in-LabelAddress.dst c.in-LabelAddress.label c.in-LabelAddress.is p in
     c.emit_address.ensures.lacks f.0 (ap is_general c.to_reg.ensures ∙ f.1)
+
+pub returns-in-LoadSymbolReloc-clause-lacks : goal.returns-in-LoadSymbolReloc-clause-lacks
+returns-in-LoadSymbolReloc-clause-lacks c = λ depth p drawn.
+    let i = c.in-LoadSymbolReloc in
+    let f = symbol_passed c.args.sink.now c.args.after.0 depth c.args.inst.now i.rd i.symbol_reloc i.is p in
+    c.emit_symbol_load.ensures.lacks f.0 (ap is_general c.to_reg-in-LoadSymbolReloc.ensures ∙ f.1)
+
+pub returns-in-Trap-clause-lacks : goal.returns-in-Trap-clause-lacks
+returns-in-Trap-clause-lacks c = λ depth p drawn. c.emit_trap.ensures.lacks (trap_passed c.args.sink.now c.args.after.0 depth c.args.inst.now c.in-Trap.trap_code c.in-Trap.is p)
+
+pub returns-in-TrapIf-clause-lacks : goal.returns-in-TrapIf-clause-lacks
+returns-in-TrapIf-clause-lacks c = λ depth p drawn. c.emit_trap_if.ensures.lacks (trap_if_passed c.args.sink.now c.args.after.0 depth c.args.inst.now c.in-TrapIf.cond c.in-TrapIf.trap_code c.in-TrapIf.is p)
+
+pub returns-in-Debugtrap-clause-lacks : goal.returns-in-Debugtrap-clause-lacks
+returns-in-Debugtrap-clause-lacks c = λ depth p drawn. c.emit_debug_trap.ensures.lacks (debug_passed c.args.sink.now c.args.after.0 depth c.args.inst.now c.in-Debugtrap.is p)
+
+pub returns-in-JTSequence-clause-lacks : goal.returns-in-JTSequence-clause-lacks
+returns-in-JTSequence-clause-lacks c = λ depth p drawn.
+    let i = c.in-JTSequence in
+    let f = jump_passed c.args.sink.now c.args.after.0 depth c.args.inst.now i.ridx i.default i.default_cond i.targets i.is p drawn in
+    c.emit_table.ensures.lacks i.default.0 (subst (λ ts. Passed c.args.sink.now i.default.0 (20 + 4 * length ts) (table_cause c.args.sink.now.block_count i.ridx i.default ts)) (sym c.deref.ensures.value) f.0) f.1

@@ -1,5 +1,6 @@
 use Rattle.std.proofs.Common.{length, arith, ap, sym, ◌∙◌, subst}
 use Rattle.s390x_buffer.proofs.Keeping.{keeps_on}
+use Rattle.s390x_steps.specs.Resolved.{resolved_instruction}
 use Rattle.s390x_steps.specs.Tree.{empty, looped, tree}
 use Rattle.s390x_steps.proofs.Trees.{graft_loop, not_loop}
 use Rattle.s390x_emit_int.specs.Room.{TreePassed}
@@ -14,42 +15,42 @@ use Rattle.s390x_emit_int.proofs.tree.+members.Goals as goal
 
 pub emit_inst-returns-in-Loop-clause-answer : goal.emit_inst-returns-in-Loop-clause-answer
 emit_inst-returns-in-Loop-clause-answer t c =
-    let g = graft_loop c.args.inst.now c.in-Loop.cond c.in-Loop.body c.deref.result.now empty c.in-Loop.is c.deref.ensures.value in
+    let g = graft_loop c.args.state.now c.args.inst.now c.in-Loop.cond c.in-Loop.body c.deref.result.now empty c.in-Loop.is c.deref.ensures.value in
     on_ok c.emit_loop.result c.emit_loop.ensures.answer (λ e. e ∙ ap (λ x. run c.args.sink.now (own_pieces (length c.args.sink.now.labels) c.args.after.0 x)) (sym g))
 
 pub emit_inst-returns-in-Loop-clause-ranges : goal.emit_inst-returns-in-Loop-clause-ranges
 emit_inst-returns-in-Loop-clause-ranges t c =
-    let g = graft_loop c.args.inst.now c.in-Loop.cond c.in-Loop.body c.deref.result.now empty c.in-Loop.is c.deref.ensures.value in
+    let g = graft_loop c.args.state.now c.args.inst.now c.in-Loop.cond c.in-Loop.body c.deref.result.now empty c.in-Loop.is c.deref.ensures.value in
     on_ok c.emit_loop.result c.emit_loop.ensures.ranges (λ f. subst AllInRange (sym g) f)
 
 pub emit_inst-returns-in_default-clause-answer : goal.emit_inst-returns-in_default-clause-answer
 emit_inst-returns-in_default-clause-answer t c =
-    let g = not_loop c.args.inst.now c.in_default.not-Loop in
+    let g = not_loop c.args.state.now c.args.inst.now c.in_default.not-Loop in
     on_ok c.emit_leaf.result c.emit_leaf.ensures.answer (λ e. e ∙ ap (λ x. run c.args.sink.now (own_pieces (length c.args.sink.now.labels) c.args.after.0 x)) (sym g))
 
 pub emit_inst-returns-in_default-clause-ranges : goal.emit_inst-returns-in_default-clause-ranges
 emit_inst-returns-in_default-clause-ranges t c =
-    let g = not_loop c.args.inst.now c.in_default.not-Loop in
+    let g = not_loop c.args.state.now c.args.inst.now c.in_default.not-Loop in
     on_ok c.emit_leaf.result c.emit_leaf.ensures.range (λ f. subst AllInRange (sym g) (f, tt))
 
 pub emit_inst-returns-in-Loop-clause-lacks : goal.emit_inst-returns-in-Loop-clause-lacks
 emit_inst-returns-in-Loop-clause-lacks t c =
-    let g = graft_loop c.args.inst.now c.in-Loop.cond c.in-Loop.body c.deref.result.now empty c.in-Loop.is c.deref.ensures.value in
+    let g = graft_loop c.args.state.now c.args.inst.now c.in-Loop.cond c.in-Loop.body c.deref.result.now empty c.in-Loop.is c.deref.ensures.value in
     λ flags depth p. c.emit_loop.ensures.lacks flags depth c.args.after.0 (subst (TreePassed flags c.args.sink.now c.args.after.0 depth) g p)
 
 pub emit_inst-returns-in_default-clause-lacks : goal.emit_inst-returns-in_default-clause-lacks
 emit_inst-returns-in_default-clause-lacks t c =
-    let g = not_loop c.args.inst.now c.in_default.not-Loop in
-    λ flags depth p. c.emit_leaf.ensures.lacks flags depth (leaf_passed flags c.args.sink.now c.args.after.0 depth c.args.inst.now _ g p)
+    let g = not_loop c.args.state.now c.args.inst.now c.in_default.not-Loop in
+    λ flags depth p. c.emit_leaf.ensures.lacks flags depth (leaf_passed flags c.args.sink.now c.args.after.0 depth (resolved_instruction c.args.state.now c.args.inst.now) _ g p)
 
 pub emit_members-loop-inst-preserved : goal.emit_members-loop-inst-preserved
 emit_members-loop-inst-preserved t c =
     record {
       kept = keeps_on _ _ _ c.loop-inst.invariant.kept (keeps_on _ _ _ c.start_step.ensures.kept c.emit_inst.ensures.kept);
-      room = more_room c.inst-item.result c.loop-inst.sink c.start_step.new.self c.emit_inst.new.sink c.args.after.0 c.loop-inst.invariant.room c.in_ok-start_step.ensures.answer.1 c.in_ok-emit_inst.ensures.answer;
-      rest = more c.args.insts.now c.loop-inst.inst-index c.inst-item.result c.loop-inst.sink c.start_step.new.self c.emit_inst.new.sink _ c.args.after.0 (omega arith) c.inst-item.is c.in_ok-start_step.ensures.answer.1 c.in_ok-emit_inst.ensures.answer c.loop-inst.invariant.rest;
-      passed = λ flags depth p. others_passed flags c.loop-inst.sink c.start_step.new.self c.emit_inst.new.sink c.args.after.0 depth c.args.insts.now c.loop-inst.inst-index c.inst-item.result (omega arith) c.inst-item.is c.in_ok-start_step.ensures.answer.1 c.in_ok-emit_inst.ensures.answer (c.loop-inst.invariant.passed flags depth p);
-      ranges = λ f. c.loop-inst.invariant.ranges (more_ranges c.args.insts.now c.loop-inst.inst-index c.inst-item.result (omega arith) c.inst-item.is c.in_ok-emit_inst.ensures.ranges f);
+      room = more_room c.args.state.now c.inst-item.result c.loop-inst.sink c.start_step.new.self c.emit_inst.new.sink c.args.after.0 c.loop-inst.invariant.room c.in_ok-start_step.ensures.answer.1 c.in_ok-emit_inst.ensures.answer;
+      rest = more c.args.state.now c.args.insts.now c.loop-inst.inst-index c.inst-item.result c.loop-inst.sink c.start_step.new.self c.emit_inst.new.sink _ c.args.after.0 (omega arith) c.inst-item.is c.in_ok-start_step.ensures.answer.1 c.in_ok-emit_inst.ensures.answer c.loop-inst.invariant.rest;
+      passed = λ flags depth p. others_passed c.args.state.now flags c.loop-inst.sink c.start_step.new.self c.emit_inst.new.sink c.args.after.0 depth c.args.insts.now c.loop-inst.inst-index c.inst-item.result (omega arith) c.inst-item.is c.in_ok-start_step.ensures.answer.1 c.in_ok-emit_inst.ensures.answer (c.loop-inst.invariant.passed flags depth p);
+      ranges = λ f. c.loop-inst.invariant.ranges (more_ranges c.args.state.now c.args.insts.now c.loop-inst.inst-index c.inst-item.result (omega arith) c.inst-item.is c.in_ok-emit_inst.ensures.ranges f);
     }
 
 pub emit_members-returns-in_err-emit_inst-clause-kept : goal.emit_members-returns-in_err-emit_inst-clause-kept
@@ -57,12 +58,12 @@ emit_members-returns-in_err-emit_inst-clause-kept t c = keeps_on _ _ _ c.loop-in
 
 pub emit_loop-bind_label-requires-2-clause-unbound : goal.emit_loop-bind_label-requires-2-clause-unbound
 emit_loop-bind_label-requires-2-clause-unbound t c =
-    (loop_states c.args.sink.now c.get_label.new.self c.get_label-2.new.self c.bind_label.new.self c.emit_members.new.sink c.start_step.new.self c.put_branch.new.sink c.in_ok-start.start.0 c.in_ok-end.end.0 c.bits-mask.result (tree c.args.body.now) c.in_ok-start.ensures.answer.1 c.in_ok-start.ensures.answer.2 c.in_ok-end.ensures.answer.1 c.in_ok-end.ensures.answer.2 c.in_ok-bind_label.ensures.answer.1 c.in_ok-emit_members.ensures.answer c.in_ok-start_step.ensures.answer.1 c.in_ok-put_branch.ensures.answer).free
+    (loop_states c.args.sink.now c.get_label.new.self c.get_label-2.new.self c.bind_label.new.self c.emit_members.new.sink c.start_step.new.self c.put_branch.new.sink c.in_ok-start.start.0 c.in_ok-end.end.0 c.bits-mask.result (tree c.args.state.now c.args.body.now) c.in_ok-start.ensures.answer.1 c.in_ok-start.ensures.answer.2 c.in_ok-end.ensures.answer.1 c.in_ok-end.ensures.answer.2 c.in_ok-bind_label.ensures.answer.1 c.in_ok-emit_members.ensures.answer c.in_ok-start_step.ensures.answer.1 c.in_ok-put_branch.ensures.answer).free
 
 pub emit_loop-returns-clause-answer : goal.emit_loop-returns-clause-answer
 emit_loop-returns-clause-answer t c =
-    let l = loop_states c.args.sink.now c.get_label.new.self c.get_label-2.new.self c.bind_label.new.self c.emit_members.new.sink c.start_step.new.self c.put_branch.new.sink c.in_ok-start.start.0 c.in_ok-end.end.0 c.bits-mask.result (tree c.args.body.now) c.in_ok-start.ensures.answer.1 c.in_ok-start.ensures.answer.2 c.in_ok-end.ensures.answer.1 c.in_ok-end.ensures.answer.2 c.in_ok-bind_label.ensures.answer.1 c.in_ok-emit_members.ensures.answer c.in_ok-start_step.ensures.answer.1 c.in_ok-put_branch.ensures.answer in
-    on_both _ c.bind_label-2.result c.bind_label-2.ensures.answer (λ p. l.after c.bind_label-2.new.self p.1 ∙ ap (λ m. run c.args.sink.now (own_pieces (length c.args.sink.now.labels) 0 (looped m (tree c.args.body.now) empty))) c.bits-mask.ensures.value)
+    let l = loop_states c.args.sink.now c.get_label.new.self c.get_label-2.new.self c.bind_label.new.self c.emit_members.new.sink c.start_step.new.self c.put_branch.new.sink c.in_ok-start.start.0 c.in_ok-end.end.0 c.bits-mask.result (tree c.args.state.now c.args.body.now) c.in_ok-start.ensures.answer.1 c.in_ok-start.ensures.answer.2 c.in_ok-end.ensures.answer.1 c.in_ok-end.ensures.answer.2 c.in_ok-bind_label.ensures.answer.1 c.in_ok-emit_members.ensures.answer c.in_ok-start_step.ensures.answer.1 c.in_ok-put_branch.ensures.answer in
+    on_both _ c.bind_label-2.result c.bind_label-2.ensures.answer (λ p. l.after c.bind_label-2.new.self p.1 ∙ ap (λ m. run c.args.sink.now (own_pieces (length c.args.sink.now.labels) 0 (looped m (tree c.args.state.now c.args.body.now) empty))) c.bits-mask.ensures.value)
 
 pub emit_loop-returns-clause-kept : goal.emit_loop-returns-clause-kept
 emit_loop-returns-clause-kept t c =
@@ -70,18 +71,18 @@ emit_loop-returns-clause-kept t c =
 
 pub emit_members-returns-in_err-emit_inst-clause-lacks : goal.emit_members-returns-in_err-emit_inst-clause-lacks
 emit_members-returns-in_err-emit_inst-clause-lacks t c = λ flags depth p.
-    lacks_again c.from_residual-in_err-emit_inst.result _ c.from_residual-in_err-emit_inst.ensures.1 (c.in_err-emit_inst.ensures.lacks flags depth (member_passed flags c.loop-inst.sink c.start_step.new.self c.args.after.0 depth c.args.insts.now c.loop-inst.inst-index c.inst-item.result (omega arith) c.inst-item.is c.in_ok-start_step.ensures.answer.1 (c.loop-inst.invariant.passed flags depth p)))
+    lacks_again c.from_residual-in_err-emit_inst.result _ c.from_residual-in_err-emit_inst.ensures.1 (c.in_err-emit_inst.ensures.lacks flags depth (member_passed c.args.state.now flags c.loop-inst.sink c.start_step.new.self c.args.after.0 depth c.args.insts.now c.loop-inst.inst-index c.inst-item.result (omega arith) c.inst-item.is c.in_ok-start_step.ensures.answer.1 (c.loop-inst.invariant.passed flags depth p)))
 
 pub emit_loop-returns-in_err-start_step-clause-lacks : goal.emit_loop-returns-in_err-start_step-clause-lacks
 emit_loop-returns-in_err-start_step-clause-lacks t c = λ flags depth after p.
-    let l = loop_passed flags c.args.sink.now after depth c.args.cond (tree c.args.body.now) p in
-    lacks_again c.from_residual-in_err-start_step.result _ c.from_residual-in_err-start_step.ensures.1 (blames_none _ _ (mark_none c.emit_members.new.sink (members_unmarked c.args.sink.now c.get_label.new.self c.get_label-2.new.self c.bind_label.new.self c.emit_members.new.sink c.in_ok-start.start.0 c.in_ok-end.end.0 (tree c.args.body.now) c.in_ok-start.ensures.answer.2 c.in_ok-end.ensures.answer.2 c.in_ok-bind_label.ensures.answer.1 c.in_ok-emit_members.ensures.answer ∙ l.unmarked)) c.in_err-start_step.ensures.answer.0)
+    let l = loop_passed flags c.args.sink.now after depth c.args.cond (tree c.args.state.now c.args.body.now) p in
+    lacks_again c.from_residual-in_err-start_step.result _ c.from_residual-in_err-start_step.ensures.1 (blames_none _ _ (mark_none c.emit_members.new.sink (members_unmarked c.args.sink.now c.get_label.new.self c.get_label-2.new.self c.bind_label.new.self c.emit_members.new.sink c.in_ok-start.start.0 c.in_ok-end.end.0 (tree c.args.state.now c.args.body.now) c.in_ok-start.ensures.answer.2 c.in_ok-end.ensures.answer.2 c.in_ok-bind_label.ensures.answer.1 c.in_ok-emit_members.ensures.answer ∙ l.unmarked)) c.in_err-start_step.ensures.answer.0)
 
 pub emit_loop-returns-in_err-put_branch-clause-lacks : goal.emit_loop-returns-in_err-put_branch-clause-lacks
 emit_loop-returns-in_err-put_branch-clause-lacks t c = λ flags depth after p.
-    let l = loop_passed flags c.args.sink.now after depth c.args.cond (tree c.args.body.now) p in
-    let b = body_turns c.args.sink.now c.get_label.new.self c.get_label-2.new.self c.bind_label.new.self c.emit_members.new.sink c.start_step.new.self c.in_ok-start.start.0 c.in_ok-end.end.0 (tree c.args.body.now) c.in_ok-start.ensures.answer.2 c.in_ok-end.ensures.answer.2 c.in_ok-bind_label.ensures.answer.1 c.in_ok-emit_members.ensures.answer c.in_ok-start_step.ensures.answer.1 in
-    lacks_again c.from_residual-in_err-put_branch.result _ c.from_residual-in_err-put_branch.ensures.1 (c.in_err-put_branch.ensures.lacks (back_passed flags c.args.sink.now c.start_step.new.self c.in_ok-start.start.0 depth (tree c.args.body.now) l b c.in_ok-start.ensures.answer.1))
+    let l = loop_passed flags c.args.sink.now after depth c.args.cond (tree c.args.state.now c.args.body.now) p in
+    let b = body_turns c.args.sink.now c.get_label.new.self c.get_label-2.new.self c.bind_label.new.self c.emit_members.new.sink c.start_step.new.self c.in_ok-start.start.0 c.in_ok-end.end.0 (tree c.args.state.now c.args.body.now) c.in_ok-start.ensures.answer.2 c.in_ok-end.ensures.answer.2 c.in_ok-bind_label.ensures.answer.1 c.in_ok-emit_members.ensures.answer c.in_ok-start_step.ensures.answer.1 in
+    lacks_again c.from_residual-in_err-put_branch.result _ c.from_residual-in_err-put_branch.ensures.1 (c.in_err-put_branch.ensures.lacks (back_passed flags c.args.sink.now c.start_step.new.self c.in_ok-start.start.0 depth (tree c.args.state.now c.args.body.now) l b c.in_ok-start.ensures.answer.1))
 
 pub emit_loop-returns-in_err-put_branch-clause-kept : goal.emit_loop-returns-in_err-put_branch-clause-kept
 emit_loop-returns-in_err-put_branch-clause-kept t c =
@@ -89,7 +90,7 @@ emit_loop-returns-in_err-put_branch-clause-kept t c =
 
 pub emit_loop-returns-clause-lacks : goal.emit_loop-returns-clause-lacks
 emit_loop-returns-clause-lacks t c = λ flags depth after p.
-    let l = loop_passed flags c.args.sink.now after depth c.args.cond (tree c.args.body.now) p in
-    let b = body_turns c.args.sink.now c.get_label.new.self c.get_label-2.new.self c.bind_label.new.self c.emit_members.new.sink c.start_step.new.self c.in_ok-start.start.0 c.in_ok-end.end.0 (tree c.args.body.now) c.in_ok-start.ensures.answer.2 c.in_ok-end.ensures.answer.2 c.in_ok-bind_label.ensures.answer.1 c.in_ok-emit_members.ensures.answer c.in_ok-start_step.ensures.answer.1 in
-    let end = end_below c.args.sink.now c.get_label.new.self c.start_step.new.self c.put_branch.new.sink c.bits-mask.result c.in_ok-start.start.0 c.in_ok-end.end.0 depth (tree c.args.body.now) c.in_ok-start.ensures.answer.2 c.in_ok-end.ensures.answer.1 b c.in_ok-put_branch.ensures.answer in
+    let l = loop_passed flags c.args.sink.now after depth c.args.cond (tree c.args.state.now c.args.body.now) p in
+    let b = body_turns c.args.sink.now c.get_label.new.self c.get_label-2.new.self c.bind_label.new.self c.emit_members.new.sink c.start_step.new.self c.in_ok-start.start.0 c.in_ok-end.end.0 (tree c.args.state.now c.args.body.now) c.in_ok-start.ensures.answer.2 c.in_ok-end.ensures.answer.2 c.in_ok-bind_label.ensures.answer.1 c.in_ok-emit_members.ensures.answer c.in_ok-start_step.ensures.answer.1 in
+    let end = end_below c.args.sink.now c.get_label.new.self c.start_step.new.self c.put_branch.new.sink c.bits-mask.result c.in_ok-start.start.0 c.in_ok-end.end.0 depth (tree c.args.state.now c.args.body.now) c.in_ok-start.ensures.answer.2 c.in_ok-end.ensures.answer.1 b c.in_ok-put_branch.ensures.answer in
     lacks_call _ _ _ c.bind_label-2.result c.bind_label-2.ensures.answer (label_none c.put_branch.new.sink c.in_ok-end.end.0 (ap (λ x. x.failed) c.in_ok-put_branch.ensures.answer ∙ b.unmarked ∙ l.unmarked) end)

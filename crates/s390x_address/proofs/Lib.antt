@@ -1,0 +1,6 @@
+pub mod Encoding
+pub mod Lacking
+pub mod Planning
+pub mod Putting
+pub mod Refusing
+pub mod Sizes

@@ -1,0 +1,57 @@
+-- The emitters of operands: what they read besides the operand, and why they refuse.
+use Rattle.std.specs.Prelude.{ℕ, ℤ, Bool, true, false, cond, not, ◌&&◌, ◌||◌, nat_eq, Option, Some, None}
+use Rattle.s390x_base.specs.Regs.{number_of}
+use Rattle.s390x_base.specs.declared.regs.Reg.{Reg}
+use Rattle.s390x_base.specs.declared.error.EmitError.{EmitError}
+use Rattle.s390x_buffer.specs.State.{State, mark_cause, put_cause}
+use Rattle.s390x_inst.specs.declared.args.MemArg.{MemArg}
+use Rattle.s390x_steps.specs.Causes.{first, memory_cause}
+use Rattle.s390x_steps.specs.General.{is_general, low_halfword}
+use Rattle.s390x_steps.specs.Memory.{MemoryInstruction, RxForm, RsForm, SiForm, SilForm, holds_scratch}
+use Rattle.s390x_steps.specs.Operands.{is_numbered}
+use Rattle.s390x_steps.specs.Parts.{memory_parts, parts_size}
+
+-- the buffer's mark, then the causes of the instruction, then its length
+abbrev pub emit_cause : State → MemoryInstruction → Option EmitError
+emit_cause s x = first (mark_cause s) (first (memory_cause x) (put_cause s (parts_size (memory_parts x))))
+
+-- the rows of loads and of LOAD ADDRESS, which write their register and don't read it, with displacements of 20 bits
+abbrev pub loads_register : ℕ → Bool
+loads_register opcode =
+    nat_eq opcode 0xe304 || nat_eq opcode 0xe30f || nat_eq opcode 0xe314 || nat_eq opcode 0xe315 || nat_eq opcode 0xe316 || nat_eq opcode 0xe31e
+    || nat_eq opcode 0xe31f || nat_eq opcode 0xe358 || nat_eq opcode 0xe371 || nat_eq opcode 0xe376 || nat_eq opcode 0xe377 || nat_eq opcode 0xe378
+    || nat_eq opcode 0xe390 || nat_eq opcode 0xe391 || nat_eq opcode 0xe394 || nat_eq opcode 0xe395
+
+-- each instruction that has rows with a displacement has one of 20 bits
+abbrev pub reads_register : Option ℕ → Bool
+reads_register None = true
+reads_register (Some opcode) = not (loads_register opcode)
+
+-- a register and an operand
+abbrev pub one_register : Reg → (rx_opcode rxy_opcode ril_opcode : Option ℕ) → (accesses : Bool) → MemArg → MemoryInstruction
+one_register rd rx_opcode rxy_opcode ril_opcode accesses mem =
+    record { form = RxForm (number_of rd) rx_opcode rxy_opcode ril_opcode; operand = mem; accesses = accesses; fine = is_general rd; reads_scratch = reads_register rxy_opcode && is_numbered 1 rd }
+
+-- an immediate of 8 bits and an operand
+abbrev pub byte_immediate : (imm si_opcode siy_opcode : ℕ) → (accesses : Bool) → MemArg → MemoryInstruction
+byte_immediate imm si_opcode siy_opcode accesses mem =
+    record { form = SiForm imm si_opcode siy_opcode; operand = mem; accesses = accesses; fine = true; reads_scratch = false }
+
+-- what reads %r1 of two registers: a multiple load none, a multiple store the registers from the first to the last, a compare and swap both,
+-- another row that changes memory the second one
+abbrev pub reads_registers : Option ℕ → (rd rn : Reg) → Bool
+reads_registers None rd rn = is_numbered 1 rd || is_numbered 1 rn
+reads_registers (Some opcode) rd rn =
+    cond (nat_eq opcode 0xeb04) false
+    (cond (nat_eq opcode 0xeb24) (holds_scratch rd rn)
+    (cond (nat_eq opcode 0xeb14 || nat_eq opcode 0xeb30) (is_numbered 1 rd || is_numbered 1 rn) (is_numbered 1 rn)))
+
+-- two registers and an operand
+abbrev pub two_registers : (rd rn : Reg) → (rs_opcode rsy_opcode : Option ℕ) → (accesses : Bool) → MemArg → MemoryInstruction
+two_registers rd rn rs_opcode rsy_opcode accesses mem =
+    record { form = RsForm (number_of rd) (number_of rn) rs_opcode rsy_opcode; operand = mem; accesses = accesses; fine = is_general rd && is_general rn; reads_scratch = reads_registers rsy_opcode rd rn }
+
+-- an immediate of 16 bits and an operand
+abbrev pub halfword_immediate : (imm : ℤ) → (sil_opcode : ℕ) → (accesses : Bool) → MemArg → MemoryInstruction
+halfword_immediate imm sil_opcode accesses mem =
+    record { form = SilForm (low_halfword imm) sil_opcode; operand = mem; accesses = accesses; fine = true; reads_scratch = false }

@@ -1,0 +1,4 @@
+pub mod Appended
+pub mod Plans
+pub mod Rows
+pub mod Emitters

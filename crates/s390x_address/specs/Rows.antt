@@ -1,0 +1,61 @@
+-- How the code's rows and instructions stand for those of the definitions.
+use Rattle.std.specs.Prelude.{ℕ, Bool, true, not, ◌&&◌, Option, Some, None}
+use Rattle.s390x_base.specs.Regs.{number_of}
+use Rattle.s390x_inst.specs.Emission.{Emission}
+use Rattle.s390x_enc.specs.Operands.{is_general, is_first_float, may_stand_first}
+use Rattle.s390x_steps.specs.General.{low_displacement, low_12, low_halfword}
+use Rattle.s390x_steps.specs.MachineInstruction.{MachineInstruction, rx, rxy, rs, rsy, si, siy, sil}
+use Rattle.s390x_steps.specs.Operands.{resolved}
+use Rattle.s390x_steps.specs.Memory.{StorageForm, RxForm, RsForm, SiForm, SilForm, MemoryInstruction}
+use Rattle.s390x_address.specs.declared.rows.StorageRow.{StorageRow}
+use Rattle.s390x_address.specs.declared.rows.StorageRow.TheVariants.{Rx, Rxy, Rs, Rsy, Si, Siy, Sil}
+use Rattle.s390x_address.specs.declared.rows.StorageRows.{StorageRows}
+use Rattle.s390x_address.specs.declared.rows.StorageRows.TheVariants.{OneRegister, TwoRegisters, Byte, Halfword}
+use Rattle.s390x_address.specs.declared.memory.MemoryInst.{MemoryInst}
+
+-- the machine instruction that a row of the code stands for
+abbrev pub row_of : StorageRow → MachineInstruction
+row_of (Rx opcode r1 b2 x2 disp) = rx opcode (number_of r1) (number_of b2) (number_of x2) (low_12 disp)
+row_of (Rxy opcode r1 b2 x2 disp) = rxy opcode (number_of r1) (number_of b2) (number_of x2) (low_displacement disp)
+row_of (Rs opcode r1 r3 b2 disp) = rs opcode (number_of r1) (number_of r3) (number_of b2) (low_12 disp)
+row_of (Rsy opcode r1 r3 b2 disp) = rsy opcode (number_of r1) (number_of r3) (number_of b2) (low_displacement disp)
+row_of (Si opcode b1 disp imm) = si opcode (number_of b1) (low_12 disp) imm
+row_of (Siy opcode b1 disp imm) = siy opcode (number_of b1) (low_displacement disp) imm
+row_of (Sil opcode b1 disp imm) = sil opcode (number_of b1) (low_12 disp) (low_halfword imm)
+
+-- the registers may stand where the row has them
+abbrev pub row_encodes : StorageRow → Bool
+row_encodes (Rx opcode r1 b2 x2 disp) = may_stand_first opcode r1 && is_general b2 && is_general x2
+row_encodes (Rxy opcode r1 b2 x2 disp) = may_stand_first opcode r1 && is_general b2 && is_general x2
+row_encodes (Rs opcode r1 r3 b2 disp) = is_general r1 && is_general r3 && is_general b2
+row_encodes (Rsy opcode r1 r3 b2 disp) = is_general r1 && is_general r3 && is_general b2
+row_encodes (Si opcode b1 disp imm) = is_general b1
+row_encodes (Siy opcode b1 disp imm) = is_general b1
+row_encodes (Sil opcode b1 disp imm) = is_general b1
+
+-- the rows by format
+abbrev pub form_of : StorageRows → StorageForm
+form_of (OneRegister register rx_opcode rxy_opcode ril_opcode) = RxForm (number_of register) rx_opcode rxy_opcode ril_opcode
+form_of (TwoRegisters first second rs_opcode rsy_opcode) = RsForm (number_of first) (number_of second) rs_opcode rsy_opcode
+form_of (Byte imm si_opcode siy_opcode) = SiForm imm si_opcode siy_opcode
+form_of (Halfword imm sil_opcode) = SilForm (low_halfword imm) sil_opcode
+
+-- the opcode's first register operand is a general one; no opcode has any
+abbrev pub takes_general : Option ℕ → Bool
+takes_general None = true
+takes_general (Some opcode) = not (is_first_float opcode)
+
+-- the registers of the rows, but for the operand's, may stand there
+abbrev pub rows_encode : StorageRows → Bool
+rows_encode (OneRegister register rx_opcode rxy_opcode ril_opcode) = is_general register && takes_general rx_opcode && takes_general rxy_opcode
+rows_encode (TwoRegisters first second rs_opcode rsy_opcode) = is_general first && is_general second
+rows_encode (Byte imm si_opcode siy_opcode) = true
+rows_encode (Halfword imm sil_opcode) = true
+
+-- an instruction with a memory operand
+abbrev pub memory_of : MemoryInst → MemoryInstruction
+memory_of x = record { form = form_of x.rows; operand = x.operand; accesses = x.accesses; fine = x.fine; reads_scratch = x.reads_scratch }
+
+-- the same without a frame operand
+abbrev pub in_state : Emission → MemoryInstruction → MemoryInstruction
+in_state e x = record { form = x.form; operand = resolved e x.operand; accesses = x.accesses; fine = x.fine; reads_scratch = x.reads_scratch }

@@ -1,0 +1,288 @@
+//! The emitters of operands, by the formats of the rows.
+#![tactic(auto, using(s390x_buffer::proofs::Keeping::keeps_on, s390x_buffer::proofs::Keeping::keeps_same))]
+
+ghost use Rattle.std.specs.Prelude.{◌≡◌, ◌<◌, ◌⊎◌, ◌&&◌, ◌||◌, not, true, None, Some, MatchResult, IfSome, IfErr, IsTrue};
+ghost use Rattle.s390x_base.specs.declared.error.EmitError.TheVariants.{NoMemory};
+ghost use Rattle.s390x_buffer.specs.Keeps.{Keeps};
+ghost use Rattle.s390x_steps.specs.Operands.{is_numbered};
+ghost use Rattle.s390x_base.specs.Regs.{number_of};
+ghost use Rattle.s390x_steps.specs.Memory.{holds_scratch};
+ghost use Rattle.s390x_steps.specs.Parts.{memory_parts};
+ghost use Rattle.s390x_address.specs.Appended.{appended};
+ghost use Rattle.s390x_address.specs.Emitters.{emit_cause, loads_register, reads_register, reads_registers, one_register, two_registers, byte_immediate, halfword_immediate};
+ghost use Rattle.s390x_address.specs.Rows.{memory_of, in_state, rows_encode, takes_general};
+
+use crate::forms::is_numbered;
+use crate::memory::{MemoryInst, general};
+use crate::rows::StorageRows;
+use s390x_base::{EmitError, Reg};
+use s390x_buffer::MachBuffer;
+use s390x_inst::{EmitInfo, EmitState, MemArg};
+use std::alloc::Global;
+
+const LIMIT: u64 = 2147483648;
+
+// Emits the instruction, where no cause refuses it and it fits in the buffer.
+fn emit_checked(
+    found: &MemoryInst,
+    sink: &mut MachBuffer,
+    state: &EmitState,
+) -> Result<(), EmitError>
+    requires { (not found.now.fine || rows_encode found.now.rows) ≡ true }
+    ensures answer { MatchResult result (λ _. (emit_cause sink.old (in_state state.now (memory_of found.now)) ≡ None) × (sink.new ≡ appended sink.old (memory_parts (in_state state.now (memory_of found.now))))) (λ e. (e ≡ NoMemory) ⊎ (emit_cause sink.old (in_state state.now (memory_of found.now)) ≡ Some e)) }
+    ensures kept { Keeps sink.old sink.new }
+{
+    if sink.is_failed() {
+        return Err(EmitError::Failed);
+    }
+    if let Some(error) = found.refusal(state) {
+        return Err(error);
+    }
+    if u64::from(sink.cur_offset()) + found.size(state) >= LIMIT {
+        return Err(EmitError::LabelOutOfRange);
+    }
+    found.emit(sink, state)
+}
+
+// The same; a refused call marks the buffer.
+fn emit_marking(
+    found: &MemoryInst,
+    sink: &mut MachBuffer,
+    state: &EmitState,
+) -> Result<(), EmitError>
+    requires { (not found.now.fine || rows_encode found.now.rows) ≡ true }
+    ensures answer { MatchResult result (λ _. (emit_cause sink.old (in_state state.now (memory_of found.now)) ≡ None) × (sink.new ≡ appended sink.old (memory_parts (in_state state.now (memory_of found.now))))) (λ e. (e ≡ NoMemory) ⊎ (emit_cause sink.old (in_state state.now (memory_of found.now)) ≡ Some e)) }
+    ensures marked { IfErr result (λ _. IsTrue sink.new.failed) }
+    ensures kept { Keeps sink.old sink.new }
+{
+    match emit_checked(found, sink, state) {
+        Ok(()) => Ok(()),
+        Err(error) => {
+            sink.fail();
+            Err(error)
+        }
+    }
+}
+
+// An opcode of two digits.
+fn short(opcode: Option<u16>) -> Option<u8>
+    requires { IfSome opcode (λ o. o < 256) }
+    ensures { result ≡ opcode }
+{
+    match opcode {
+        Some(opcode) => Some(opcode as u8),
+        None => None,
+    }
+}
+
+// Whether a row writes its register without reading it.
+fn loads_register(opcode: u16) -> bool
+    ensures { result ≡ loads_register opcode }
+{
+    opcode == 0xe304
+        || opcode == 0xe30f
+        || opcode == 0xe314
+        || opcode == 0xe315
+        || opcode == 0xe316
+        || opcode == 0xe31e
+        || opcode == 0xe31f
+        || opcode == 0xe358
+        || opcode == 0xe371
+        || opcode == 0xe376
+        || opcode == 0xe377
+        || opcode == 0xe378
+        || opcode == 0xe390
+        || opcode == 0xe391
+        || opcode == 0xe394
+        || opcode == 0xe395
+}
+
+// Whether the rows read their register.
+fn reads_register(opcode_rxy: Option<u16>) -> bool
+    ensures { result ≡ reads_register opcode_rxy }
+{
+    match opcode_rxy {
+        Some(opcode) => !loads_register(opcode),
+        None => true,
+    }
+}
+
+fn number(r: &Reg) -> u32
+    ensures { result ≡ number_of r.now }
+{
+    match r {
+        Reg::Real(preg) => u32::from(preg.hw_enc()),
+        Reg::Virtual { num, .. } => *num,
+    }
+}
+
+// Whether `%r1` is one of the registers from the first to the last.
+fn holds_scratch(first: &Reg, last: &Reg) -> bool
+    ensures { result ≡ holds_scratch first.now last.now }
+{
+    number(first) <= 1 && 1 <= number(last)
+}
+
+fn is_scratch(r: &Reg) -> bool
+    ensures { result ≡ is_numbered 1 r.now }
+{
+    is_numbered(1, r)
+}
+
+// Whether the rows read `%r1` as one of their two registers.
+fn reads_registers(opcode_rsy: Option<u16>, rd: &Reg, rn: &Reg) -> bool
+    ensures { result ≡ reads_registers opcode_rsy rd.now rn.now }
+{
+    match opcode_rsy {
+        Some(opcode) => {
+            if opcode == 0xeb04 {
+                false
+            } else if opcode == 0xeb24 {
+                holds_scratch(rd, rn)
+            } else if opcode == 0xeb14 || opcode == 0xeb30 {
+                is_scratch(rd) || is_scratch(rn)
+            } else {
+                is_scratch(rn)
+            }
+        }
+        None => is_scratch(rd) || is_scratch(rn),
+    }
+}
+
+/// Emits a row of format RX or RXY with a register and an operand, behind the helpers of the operand; where `add_trap` is true, the flags' trap
+/// is recorded at the row. `opcode_ril` tells that there is a relative form; operands of that form aren't built yet.
+///
+/// It answers want of memory, or exactly the first cause: the buffer's mark (`Failed`), no form for the operand (`BadOperator`), a register that can't
+/// be encoded (`BadRegister`), `%r1` read behind a helper (`ScratchConflict`), an offset past 32 bits (`OffsetOutOfRange`), the length
+/// (`LabelOutOfRange`). A refused call marks the buffer and leaves what stood in it; the state stays as it was (cranelift-codegen, `emit.rs`).
+#[tactic(auto, using(crate::proofs::Encoding::register_encodes))]
+pub fn mem_emit(
+    _alloc: Global,
+    rd: Reg,
+    mem: &MemArg,
+    opcode_rx: Option<u16>,
+    opcode_rxy: Option<u16>,
+    opcode_ril: Option<u16>,
+    add_trap: bool,
+    sink: &mut MachBuffer,
+    _emit_info: &EmitInfo,
+    state: &mut EmitState,
+) -> Result<(), EmitError>
+    requires short { IfSome opcode_rx (λ o. o < 256) }
+    requires integer { (takes_general opcode_rx && takes_general opcode_rxy) ≡ true }
+    ensures answer { MatchResult result (λ _. (emit_cause sink.old (in_state state.old (one_register rd opcode_rx opcode_rxy opcode_ril add_trap mem.now)) ≡ None) × (sink.new ≡ appended sink.old (memory_parts (in_state state.old (one_register rd opcode_rx opcode_rxy opcode_ril add_trap mem.now))))) (λ e. (e ≡ NoMemory) ⊎ (emit_cause sink.old (in_state state.old (one_register rd opcode_rx opcode_rxy opcode_ril add_trap mem.now)) ≡ Some e)) }
+    ensures marked { IfErr result (λ _. IsTrue sink.new.failed) }
+    ensures kept { Keeps sink.old sink.new }
+    ensures state { state.new ≡ state.old }
+{
+    let found = MemoryInst {
+        rows: StorageRows::OneRegister {
+            register: rd,
+            rx: short(opcode_rx),
+            rxy: opcode_rxy,
+            ril: opcode_ril,
+        },
+        operand: *mem,
+        accesses: add_trap,
+        fine: general(&rd),
+        reads_scratch: reads_register(opcode_rxy) && is_scratch(&rd),
+    };
+    emit_marking(&found, sink, state)
+}
+
+/// Emits a row of format RS or RSY with two registers and an operand, as `mem_emit` does; there is no index and no relative form.
+#[tactic(auto, using(crate::proofs::Encoding::two_encode))]
+pub fn mem_rs_emit(
+    _alloc: Global,
+    rd: Reg,
+    rn: Reg,
+    mem: &MemArg,
+    opcode_rs: Option<u16>,
+    opcode_rsy: Option<u16>,
+    add_trap: bool,
+    sink: &mut MachBuffer,
+    _emit_info: &EmitInfo,
+    state: &mut EmitState,
+) -> Result<(), EmitError>
+    requires { IfSome opcode_rs (λ o. o < 256) }
+    ensures answer { MatchResult result (λ _. (emit_cause sink.old (in_state state.old (two_registers rd rn opcode_rs opcode_rsy add_trap mem.now)) ≡ None) × (sink.new ≡ appended sink.old (memory_parts (in_state state.old (two_registers rd rn opcode_rs opcode_rsy add_trap mem.now))))) (λ e. (e ≡ NoMemory) ⊎ (emit_cause sink.old (in_state state.old (two_registers rd rn opcode_rs opcode_rsy add_trap mem.now)) ≡ Some e)) }
+    ensures marked { IfErr result (λ _. IsTrue sink.new.failed) }
+    ensures kept { Keeps sink.old sink.new }
+    ensures state { state.new ≡ state.old }
+{
+    let found = MemoryInst {
+        rows: StorageRows::TwoRegisters {
+            first: rd,
+            second: rn,
+            rs: short(opcode_rs),
+            rsy: opcode_rsy,
+        },
+        operand: *mem,
+        accesses: add_trap,
+        fine: general(&rd) && general(&rn),
+        reads_scratch: reads_registers(opcode_rsy, &rd, &rn),
+    };
+    emit_marking(&found, sink, state)
+}
+
+/// Emits a row of format SI or SIY with an immediate of 8 bits and an operand, as `mem_emit` does; there is no index and no relative form.
+pub fn mem_imm8_emit(
+    _alloc: Global,
+    imm: u8,
+    mem: &MemArg,
+    opcode_si: u16,
+    opcode_siy: u16,
+    add_trap: bool,
+    sink: &mut MachBuffer,
+    _emit_info: &EmitInfo,
+    state: &mut EmitState,
+) -> Result<(), EmitError>
+    requires { opcode_si < 256 }
+    ensures answer { MatchResult result (λ _. (emit_cause sink.old (in_state state.old (byte_immediate imm opcode_si opcode_siy add_trap mem.now)) ≡ None) × (sink.new ≡ appended sink.old (memory_parts (in_state state.old (byte_immediate imm opcode_si opcode_siy add_trap mem.now))))) (λ e. (e ≡ NoMemory) ⊎ (emit_cause sink.old (in_state state.old (byte_immediate imm opcode_si opcode_siy add_trap mem.now)) ≡ Some e)) }
+    ensures marked { IfErr result (λ _. IsTrue sink.new.failed) }
+    ensures kept { Keeps sink.old sink.new }
+    ensures state { state.new ≡ state.old }
+{
+    let found = MemoryInst {
+        rows: StorageRows::Byte {
+            imm,
+            si: opcode_si as u8,
+            siy: opcode_siy,
+        },
+        operand: *mem,
+        accesses: add_trap,
+        fine: true,
+        reads_scratch: false,
+    };
+    emit_marking(&found, sink, state)
+}
+
+/// Emits a row of format SIL with an immediate of 16 bits and an operand, as `mem_emit` does; there are 12 bits of displacement alone, no index and
+/// no relative form.
+pub fn mem_imm16_emit(
+    _alloc: Global,
+    imm: i16,
+    mem: &MemArg,
+    opcode_sil: u16,
+    add_trap: bool,
+    sink: &mut MachBuffer,
+    _emit_info: &EmitInfo,
+    state: &mut EmitState,
+) -> Result<(), EmitError>
+    ensures answer { MatchResult result (λ _. (emit_cause sink.old (in_state state.old (halfword_immediate imm opcode_sil add_trap mem.now)) ≡ None) × (sink.new ≡ appended sink.old (memory_parts (in_state state.old (halfword_immediate imm opcode_sil add_trap mem.now))))) (λ e. (e ≡ NoMemory) ⊎ (emit_cause sink.old (in_state state.old (halfword_immediate imm opcode_sil add_trap mem.now)) ≡ Some e)) }
+    ensures marked { IfErr result (λ _. IsTrue sink.new.failed) }
+    ensures kept { Keeps sink.old sink.new }
+    ensures state { state.new ≡ state.old }
+{
+    let found = MemoryInst {
+        rows: StorageRows::Halfword {
+            imm,
+            sil: opcode_sil,
+        },
+        operand: *mem,
+        accesses: add_trap,
+        fine: true,
+        reads_scratch: false,
+    };
+    emit_marking(&found, sink, state)
+}

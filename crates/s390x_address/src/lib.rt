@@ -1,0 +1,13 @@
+//! Memory operands: the forms that machine rows have for them, and the helpers before an access.
+#![tactic(auto)]
+
+pub mod emitters;
+pub mod finalize;
+pub mod forms;
+pub mod memory;
+pub mod plan;
+pub mod rows;
+
+pub use emitters::{mem_emit, mem_imm8_emit, mem_imm16_emit, mem_rs_emit};
+pub use finalize::mem_finalize;
+pub use s390x_steps::MemInstType;

@@ -1,0 +1,292 @@
+//! Instructions with a memory operand: why one is refused, and its emission.
+#![tactic(auto, using(s390x_buffer::proofs::Keeping::keeps_on, s390x_buffer::proofs::Keeping::keeps_same))]
+
+ghost use Rattle.std.specs.Prelude.{◌≡◌, ◌≤◌, ◌+◌, [], ◌∷◌, ◌++◌, ◌||◌, ◌&&◌, not, true, None, Some, length, OnOk, IfErr};
+ghost use Rattle.s390x_base.specs.declared.error.EmitError.TheVariants.{NoMemory, ScratchConflict};
+ghost use Rattle.s390x_buffer.specs.Keeps.{Keeps};
+ghost use Rattle.s390x_buffer.specs.State.{put_cause};
+ghost use Rattle.std.specs.Option.{option_map};
+ghost use Rattle.s390x_steps.specs.Causes.{unless, memory_cause, late_cause};
+ghost use Rattle.s390x_steps.specs.General.{is_general, low_word};
+ghost use Rattle.s390x_steps.specs.MachineInstruction.{size_of};
+ghost use Rattle.s390x_steps.specs.Memory.{type_of, storage_row, fault_code, address_form};
+ghost use Rattle.s390x_steps.specs.Operands.{has_form, operand_general, scratch};
+ghost use Rattle.s390x_steps.specs.Parts.{access_parts, helpers_parts, finalized_parts, memory_parts, parts_size};
+ghost use Rattle.s390x_address.specs.Appended.{appended};
+ghost use Rattle.s390x_address.specs.Plans.{far_helper, address_helper, finalized_of, address_general, plan_general};
+ghost use Rattle.s390x_address.specs.Rows.{row_of, row_encodes, form_of, rows_encode, memory_of, in_state};
+
+use crate::forms::{has_form, is_relative};
+use crate::plan::{Plan, plan_operand};
+use crate::rows::{StorageRow, StorageRows};
+use s390x_base::{Code, EmitError, Reg, RegClass, TrapCode, spilltmp_reg};
+use s390x_buffer::MachBuffer;
+use s390x_enc::enc_ril_a;
+use s390x_inst::{EmitState, MemArg};
+use s390x_steps::MemInstType;
+
+/// An instruction with a memory operand: its machine rows, and the registers that it names.
+#[derive(Clone, Copy)]
+pub struct MemoryInst {
+    pub rows: StorageRows,
+    pub operand: MemArg,
+    /// Whether it accesses memory; else it loads an address.
+    pub accesses: bool,
+    /// Whether its registers, but for the operand's, may stand there.
+    pub fine: bool,
+    /// Whether it reads `%r1`, which helpers write.
+    pub reads_scratch: bool,
+}
+
+/// Whether the register is a real Int one.
+pub fn general(r: &Reg) -> bool
+    ensures { result ≡ is_general r.now }
+{
+    match r {
+        Reg::Real(preg) => preg.class() == RegClass::Int && preg.hw_enc() < 16,
+        Reg::Virtual { .. } => false,
+    }
+}
+
+// Whether the operand's registers are real Int ones.
+fn is_general_operand(mem: &MemArg) -> bool
+    ensures { result ≡ operand_general mem.now }
+{
+    match mem {
+        MemArg::BXD12 { base, index, .. } | MemArg::BXD20 { base, index, .. } => {
+            general(base) && general(index)
+        }
+        MemArg::RegOffset { reg, .. } => general(reg),
+        _ => true,
+    }
+}
+
+// A code with a trap recorded at its first byte.
+fn put_trapping(sink: &mut MachBuffer, code: &Code, trap_code: TrapCode) -> Result<(), EmitError>
+    ensures answer { OnOk result (sink.new ≡ record sink.old { bytes = sink.old.bytes ++ code.now; traps = sink.old.traps ++ record { offset = length sink.old.bytes; code = trap_code } ∷ [] }) }
+    ensures lacks { put_cause sink.old (length code.now) ≡ None → IfErr result (λ e. e ≡ NoMemory) }
+    ensures kept { Keeps sink.old sink.new }
+{
+    sink.add_trap(trap_code)?;
+    sink.put_code(code)
+}
+
+// The load of an offset into `%r1`, where there is one.
+fn put_far(sink: &mut MachBuffer, far: Option<i32>) -> Result<(), EmitError>
+    ensures answer { OnOk result (sink.new ≡ appended sink.old (helpers_parts (far_helper far))) }
+    ensures lacks { put_cause sink.old (parts_size (helpers_parts (far_helper far))) ≡ None → IfErr result (λ e. e ≡ NoMemory) }
+    ensures kept { Keeps sink.old sink.new }
+{
+    match far {
+        Some(off) => put_offset(sink, off),
+        None => Ok(()),
+    }
+}
+
+// The low 32 bits of an offset, in two's complement.
+fn bits_of_word(off: i32) -> u32
+    ensures { result ≡ low_word off }
+{
+    i64::from(off).rem_euclid(4294967296) as u32
+}
+
+fn put_offset(sink: &mut MachBuffer, off: i32) -> Result<(), EmitError>
+    ensures answer { OnOk result (sink.new ≡ appended sink.old (helpers_parts (far_helper (Some off)))) }
+    ensures lacks { put_cause sink.old 6 ≡ None → IfErr result (λ e. e ≡ NoMemory) }
+    ensures kept { Keeps sink.old sink.new }
+{
+    let code = enc_ril_a(0xc01, spilltmp_reg(), bits_of_word(off))?;
+    sink.put_code(&code)
+}
+
+// The access, where there is a row for it.
+fn put_access(
+    sink: &mut MachBuffer,
+    rows: &StorageRows,
+    operand: &MemArg,
+    trap_code: Option<TrapCode>,
+) -> Result<(), EmitError>
+    ensures answer { OnOk result (sink.new ≡ appended sink.old (access_parts (storage_row (form_of rows.now) operand.now) trap_code)) }
+    ensures lacks { put_cause sink.old (parts_size (access_parts (storage_row (form_of rows.now) operand.now) trap_code)) ≡ None → rows_encode rows.now ≡ true → operand_general operand.now ≡ true → IfErr result (λ e. e ≡ NoMemory) }
+    ensures kept { Keeps sink.old sink.new }
+{
+    match rows.row(operand) {
+        Some(row) => put_storage_row(sink, &row, trap_code),
+        None => Ok(()),
+    }
+}
+
+fn put_storage_row(
+    sink: &mut MachBuffer,
+    row: &StorageRow,
+    trap_code: Option<TrapCode>,
+) -> Result<(), EmitError>
+    ensures answer { OnOk result (sink.new ≡ appended sink.old (access_parts (Some (row_of row.now)) trap_code)) }
+    ensures lacks { put_cause sink.old (size_of (row_of row.now)) ≡ None → row_encodes row.now ≡ true → IfErr result (λ e. e ≡ NoMemory) }
+    ensures kept { Keeps sink.old sink.new }
+{
+    let code = row.code()?;
+    match trap_code {
+        Some(trap_code) => put_trapping(sink, &code, trap_code),
+        None => sink.put_code(&code),
+    }
+}
+
+// The load of an address into `%r1`, where there is one.
+fn put_address(sink: &mut MachBuffer, address: Option<MemArg>) -> Result<(), EmitError>
+    ensures answer { OnOk result (sink.new ≡ appended sink.old (helpers_parts (address_helper address))) }
+    ensures lacks { put_cause sink.old (parts_size (helpers_parts (address_helper address))) ≡ None → address_general address ≡ true → IfErr result (λ e. e ≡ NoMemory) }
+    ensures kept { Keeps sink.old sink.new }
+{
+    match address {
+        Some(mem) => put_access(sink, &address_rows(), &mem, None),
+        None => Ok(()),
+    }
+}
+
+// The rows of LOAD ADDRESS into `%r1`.
+fn address_rows() -> StorageRows
+    ensures form { form_of result ≡ address_form scratch }
+    ensures encodes { rows_encode result ≡ true }
+{
+    StorageRows::OneRegister {
+        register: spilltmp_reg(),
+        rx: Some(0x41),
+        rxy: Some(0xe371),
+        ril: Some(0xc00),
+    }
+}
+
+// The helpers, and then the access.
+fn put_plan(
+    sink: &mut MachBuffer,
+    rows: &StorageRows,
+    plan: &Plan,
+    trap_code: Option<TrapCode>,
+) -> Result<(), EmitError>
+    ensures answer { OnOk result (sink.new ≡ appended sink.old (finalized_parts (form_of rows.now) trap_code (finalized_of plan.now))) }
+    ensures lacks { put_cause sink.old (parts_size (finalized_parts (form_of rows.now) trap_code (finalized_of plan.now))) ≡ None → rows_encode rows.now ≡ true → plan_general plan.now ≡ true → IfErr result (λ e. e ≡ NoMemory) }
+    ensures kept { Keeps sink.old sink.new }
+{
+    put_far(sink, plan.far)?;
+    put_address(sink, plan.address)?;
+    put_access(sink, rows, &plan.operand, trap_code)
+}
+
+// How many bytes a row has, where there is one.
+fn row_size(row: Option<StorageRow>) -> u64
+    ensures value { result ≡ parts_size (access_parts (option_map row_of row) None) }
+    ensures few { result ≤ 6 }
+{
+    match row {
+        Some(row) => row.size(),
+        None => 0,
+    }
+}
+
+// How many bytes the load of an offset has, where there is one.
+fn far_size(far: Option<i32>) -> u64
+    ensures value { result ≡ parts_size (helpers_parts (far_helper far)) }
+    ensures few { result ≤ 6 }
+{
+    match far {
+        Some(_) => 6,
+        None => 0,
+    }
+}
+
+// How many bytes the load of an address has, where there is one.
+fn address_size(address: Option<MemArg>) -> u64
+    ensures value { result ≡ parts_size (helpers_parts (address_helper address)) }
+    ensures few { result ≤ 6 }
+{
+    match address {
+        Some(mem) => row_size(address_rows().row(&mem)),
+        None => 0,
+    }
+}
+
+// `%r1` can't be read behind a helper.
+fn scratch_refusal(reads: bool, helped: bool) -> Option<EmitError>
+    ensures { result ≡ unless (not (reads && helped)) ScratchConflict }
+{
+    if reads && helped {
+        Some(EmitError::ScratchConflict)
+    } else {
+        None
+    }
+}
+
+impl MemoryInst {
+    // Which forms of an operand its rows take.
+    fn forms(&self) -> MemInstType
+        ensures { result ≡ type_of (form_of self.now.rows) self.now.accesses }
+    {
+        self.rows.forms(self.accesses)
+    }
+
+    // The code of its access's faults, where they have one.
+    fn fault_code(&self) -> Option<TrapCode>
+        ensures { result ≡ fault_code (memory_of self.now) }
+    {
+        if self.accesses {
+            self.operand.get_flags().trap_code()
+        } else {
+            None
+        }
+    }
+
+    // The cause of an operand that has a form, whose registers are general ones.
+    fn late_refusal(&self, state: &EmitState) -> Option<EmitError>
+        requires { has_form (type_of (form_of self.now.rows) self.now.accesses) self.now.operand ≡ true }
+        ensures { result ≡ late_cause (in_state state.now (memory_of self.now)) }
+    {
+        match plan_operand(&self.operand, state, self.forms()) {
+            Ok(plan) => scratch_refusal(self.reads_scratch, plan.is_helped()),
+            Err(error) => Some(error),
+        }
+    }
+
+    /// The first cause that refuses it in a state of emission: no row has a form for the operand, which is relative to the instruction or for which
+    /// there is no row (`BadOperator`), a register may not stand there (`BadRegister`), `%r1` is read behind a helper (`ScratchConflict`), an exact
+    /// offset doesn't fit 32 bits (`OffsetOutOfRange`).
+    pub fn refusal(&self, state: &EmitState) -> Option<EmitError>
+        ensures { result ≡ memory_cause (in_state state.now (memory_of self.now)) }
+    {
+        if !has_form(self.forms(), &self.operand) || is_relative(&self.operand) {
+            Some(EmitError::BadOperator)
+        } else if !(self.fine && is_general_operand(&self.operand)) {
+            Some(EmitError::BadRegister)
+        } else {
+            self.late_refusal(state)
+        }
+    }
+
+    /// How many bytes it has with its helpers, where no cause refuses it.
+    pub fn size(&self, state: &EmitState) -> u64
+        ensures value { memory_cause (in_state state.now (memory_of self.now)) ≡ None → result ≡ parts_size (memory_parts (in_state state.now (memory_of self.now))) }
+        ensures few { result ≤ 18 }
+    {
+        match plan_operand(&self.operand, state, self.forms()) {
+            Ok(plan) => {
+                far_size(plan.far)
+                    + address_size(plan.address)
+                    + row_size(self.rows.row(&plan.operand))
+            }
+            Err(_) => 0,
+        }
+    }
+
+    /// Appends the helpers, and then the access with the trap of its faults. It answers want of memory, or the buffer's refusal, or a cause of
+    /// `refusal`.
+    pub fn emit(&self, sink: &mut MachBuffer, state: &EmitState) -> Result<(), EmitError>
+        ensures answer { OnOk result (sink.new ≡ appended sink.old (memory_parts (in_state state.now (memory_of self.now)))) }
+        ensures lacks { put_cause sink.old (parts_size (memory_parts (in_state state.now (memory_of self.now)))) ≡ None → memory_cause (in_state state.now (memory_of self.now)) ≡ None → (not self.now.fine || rows_encode self.now.rows) ≡ true → IfErr result (λ e. e ≡ NoMemory) }
+        ensures kept { Keeps sink.old sink.new }
+    {
+        match plan_operand(&self.operand, state, self.forms()) {
+            Ok(plan) => put_plan(sink, &self.rows, &plan, self.fault_code()),
+            Err(error) => Err(error),
+        }
+    }
+}

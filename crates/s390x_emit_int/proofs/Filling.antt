@@ -1,0 +1,129 @@
+-- The fields that linking fills make the code before linking the code after it.
+use Rattle.std.proofs.Common.{◌≡◌, ℕ, ◌+◌, ◌≤◌, List, [], ◌∷◌, ◌++◌, length, take, drop, refl, sym, ap, ◌∙◌, subst, arith, length-append, append_assoc}
+use Rattle.std.proofs.Math.Seq.{take-append_seam, drop-append_seam}
+use Rattle.std.specs.Prelude.{ℤ}
+use Rattle.std.specs.List.{All}
+use Rattle.std.proofs.lemmas.List.Elements.{All-nil, All-push, All-append}
+use Rattle.std.specs.Int.{w64, to_be_bytes}
+use Rattle.s390x_base.specs.declared.ir.ExternalName.{ExternalName}
+use Rattle.s390x_buffer.specs.declared.entries.RelocEntry.{RelocEntry}
+use Rattle.s390x_image.specs.Symbols.{Symbols}
+use Rattle.s390x_image.specs.Fields.{stored, filled, LiesIn}
+use Rattle.s390x_image.specs.Values.{symbol_value}
+use Rattle.s390x_steps.specs.Tree.{Tree}
+use Rattle.s390x_steps.specs.Steps.{Step, function_steps}
+use Rattle.s390x_steps.specs.Parts.{Part, Row, Trapping, Branch, Relative, SymbolValue, TrapHere, TableWord, ToBlock, ToStep, part_size, parts_size, step_parts}
+use Rattle.s390x_steps.specs.Rows.{Places, part_bytes, parts_bytes, step_bytes}
+use Rattle.s390x_steps.specs.Relocs.{part_relocs, parts_relocs, step_relocs, relocs_from, function_relocs}
+use Rattle.s390x_steps.specs.Image.{place, linked_places, function_places, code, function_code, linked_code}
+use Rattle.s390x_machine.proofs.Standing.{part_length, step_length}
+use Rattle.s390x_buffer.specs.State.{Constant}
+use Rattle.s390x_buffer.specs.Constants.{constant_bytes}
+use Rattle.s390x_buffer.specs.declared.entries.MachBufferFinalized.{MachBufferFinalized}
+use Rattle.s390x_emit_int.specs.Function.{IsImage}
+use Rattle.s390x_emit_int.specs.Bound.{Follows}
+use Rattle.s390x_emit_int.proofs.Functions.{place_follows, place_zero}
+use Rattle.s390x_emit_int.proofs.Joining.{total}
+
+-- bytes in the place of as many
+stored_between : (earlier old new later : List ℕ) (at : ℕ) → at ≡ length earlier → length new ≡ length old → stored (earlier ++ (old ++ later)) at new ≡ earlier ++ (new ++ later)
+stored_between earlier old new later at e same =
+    let all = earlier ++ (old ++ later) in
+    let front : take at all ≡ earlier = ap (λ n. take n all) e ∙ take-append_seam earlier (old ++ later) in
+    let n : at + length new ≡ length (earlier ++ old) = omega (arith, e, same, length-append earlier old) in
+    let behind : drop (at + length new) all ≡ later = ap (λ k. drop k all) n ∙ ap (drop (length (earlier ++ old))) (sym (append_assoc earlier old later)) ∙ drop-append_seam (earlier ++ old) later in
+    ap (λ l. l ++ (new ++ drop (at + length new) all)) front ∙ ap (λ l. earlier ++ (new ++ l)) behind
+
+filled_append : (base : ℕ) (table : Symbols) (rs qs : List RelocEntry) (bytes : List ℕ) → filled base table (rs ++ qs) bytes ≡ filled base table qs (filled base table rs bytes)
+filled_append base table [] qs bytes = refl
+filled_append base table (r ∷ rs) qs bytes = filled_append base table rs qs _
+
+module _ (base : ℕ) (table : Symbols) (ts : List Tree) where
+  part_filled : (part : Part) (p : ℕ) (earlier later : List ℕ) → p ≡ length earlier → filled base table (part_relocs p part) (earlier ++ (part_bytes (function_places ts) p part ++ later)) ≡ earlier ++ (part_bytes (linked_places (symbol_value table) ts) p part ++ later)
+  part_filled (Row m) p earlier later e = refl
+  part_filled (Trapping m byte code) p earlier later e = refl
+  part_filled (Branch mask (ToBlock b)) p earlier later e = refl
+  part_filled (Branch mask (ToStep k)) p earlier later e = refl
+  part_filled (Relative opcode register (ToBlock b)) p earlier later e = refl
+  part_filled (Relative opcode register (ToStep k)) p earlier later e = refl
+  part_filled (TrapHere code) p earlier later e = refl
+  part_filled (TableWord before (ToBlock b)) p earlier later e = refl
+  part_filled (TableWord before (ToStep k)) p earlier later e = refl
+  part_filled (SymbolValue name offset) p earlier later e = stored_between earlier (to_be_bytes w64 0) (to_be_bytes w64 (symbol_value table name offset)) later p e refl
+
+  parts_filled : (parts : List Part) (p : ℕ) (earlier later : List ℕ) → p ≡ length earlier → filled base table (parts_relocs p parts) (earlier ++ (parts_bytes (function_places ts) p parts ++ later)) ≡ earlier ++ (parts_bytes (linked_places (symbol_value table) ts) p parts ++ later)
+  parts_filled [] p earlier later e = refl
+  parts_filled (part ∷ parts) p earlier later e =
+      let q = p + part_size part in
+      let old = part_bytes (function_places ts) p part in
+      let new = part_bytes (linked_places (symbol_value table) ts) p part in
+      let old_rest = parts_bytes (function_places ts) q parts in
+      let new_rest = parts_bytes (linked_places (symbol_value table) ts) q parts in
+      let at : q ≡ length (earlier ++ new) = omega (arith, e, length-append earlier new, part_length (linked_places (symbol_value table) ts) p part) in
+      let rs = parts_relocs q parts in
+      filled_append base table (part_relocs p part) rs (earlier ++ ((old ++ old_rest) ++ later))
+      ∙ ap (λ l. filled base table rs (filled base table (part_relocs p part) (earlier ++ l))) (append_assoc old old_rest later)
+      ∙ ap (filled base table rs) (part_filled part p earlier (old_rest ++ later) e)
+      ∙ ap (filled base table rs) (sym (append_assoc earlier new (old_rest ++ later)))
+      ∙ parts_filled parts q (earlier ++ new) later at
+      ∙ append_assoc earlier new (new_rest ++ later)
+      ∙ ap (λ l. earlier ++ l) (sym (append_assoc new new_rest later))
+
+  steps_filled : (ss : List Step) (k : ℕ) (earlier later : List ℕ) → place (function_steps ts) k ≡ length earlier → Follows (place (function_steps ts)) k ss →
+      filled base table (relocs_from (place (function_steps ts)) k ss) (earlier ++ (code (function_places ts) k ss ++ later)) ≡ earlier ++ (code (linked_places (symbol_value table) ts) k ss ++ later)
+  steps_filled [] k earlier later e follow = refl
+  steps_filled (s ∷ ss) k earlier later e follow =
+      let p = place (function_steps ts) k in
+      let old = step_bytes (function_places ts) p s in
+      let new = step_bytes (linked_places (symbol_value table) ts) p s in
+      let old_rest = code (function_places ts) (k + 1) ss in
+      let new_rest = code (linked_places (symbol_value table) ts) (k + 1) ss in
+      let at : place (function_steps ts) (k + 1) ≡ length (earlier ++ new) = omega (arith, follow.0, e, length-append earlier new, step_length (linked_places (symbol_value table) ts) p s) in
+      let rs = relocs_from (place (function_steps ts)) (k + 1) ss in
+      filled_append base table (step_relocs p s) rs (earlier ++ ((old ++ old_rest) ++ later))
+      ∙ ap (λ l. filled base table rs (filled base table (step_relocs p s) (earlier ++ l))) (append_assoc old old_rest later)
+      ∙ ap (filled base table rs) (parts_filled (step_parts s) p earlier (old_rest ++ later) e)
+      ∙ ap (filled base table rs) (sym (append_assoc earlier new (old_rest ++ later)))
+      ∙ steps_filled ss (k + 1) (earlier ++ new) later at follow.1
+      ∙ append_assoc earlier new (new_rest ++ later)
+      ∙ ap (λ l. earlier ++ l) (sym (append_assoc new new_rest later))
+
+  pub function_filled : (constants : List ℕ) → filled base table (function_relocs ts) (function_code ts ++ constants) ≡ linked_code (symbol_value table) ts ++ constants
+  function_filled constants = steps_filled (function_steps ts) 0 [] constants (place_zero (function_steps ts)) (place_follows (function_steps ts))
+
+-- linking leaves the length
+code_length : (P : Places) (k : ℕ) (ss : List Step) → length (code P k ss) ≡ total ss
+code_length P k [] = refl
+code_length P k (s ∷ ss) = omega (arith, length-append (step_bytes P (P.step k) s) (code P (k + 1) ss), step_length P (P.step k) s, code_length P (k + 1) ss)
+
+pub linked_length : (value : ExternalName → ℤ → ℕ) (ts : List Tree) (constants : List ℕ) → length (linked_code value ts ++ constants) ≡ length (function_code ts ++ constants)
+linked_length value ts constants =
+    omega (arith, length-append (linked_code value ts) constants, length-append (function_code ts) constants, code_length (linked_places value ts) 0 (function_steps ts), code_length (function_places ts) 0 (function_steps ts))
+
+-- ---- the fields lie in the code
+
+parts_lie : (parts : List Part) (p n : ℕ) → p + parts_size parts ≤ n → All (LiesIn n) (parts_relocs p parts)
+parts_lie [] p n le = All-nil (LiesIn n)
+parts_lie (part ∷ parts) p n le = All-append (LiesIn n) (part_relocs p part) (parts_relocs (p + part_size part) parts) (part_lies part p n (omega arith)) (parts_lie parts (p + part_size part) n (omega arith))
+  where
+    part_lies : (part : Part) (p n : ℕ) → p + part_size part ≤ n → All (LiesIn n) (part_relocs p part)
+    part_lies (SymbolValue name offset) p n le = All-push (LiesIn n) [] _ (All-nil (LiesIn n)) le
+    part_lies (Row m) p n le = All-nil (LiesIn n)
+    part_lies (Trapping m byte code) p n le = All-nil (LiesIn n)
+    part_lies (Branch mask target) p n le = All-nil (LiesIn n)
+    part_lies (Relative opcode register target) p n le = All-nil (LiesIn n)
+    part_lies (TrapHere code) p n le = All-nil (LiesIn n)
+    part_lies (TableWord before target) p n le = All-nil (LiesIn n)
+
+steps_lie : (at : ℕ → ℕ) (k n : ℕ) (ss : List Step) → Follows at k ss → at k + total ss ≤ n → All (LiesIn n) (relocs_from at k ss)
+steps_lie at k n [] follow le = All-nil (LiesIn n)
+steps_lie at k n (s ∷ ss) follow le =
+    All-append (LiesIn n) (step_relocs (at k) s) (relocs_from at (k + 1) ss) (parts_lie (step_parts s) (at k) n (omega arith)) (steps_lie at (k + 1) n ss follow.1 (omega (arith, follow.0)))
+
+pub relocs_lie : (ts : List Tree) (cs : List Constant) (f : MachBufferFinalized) → IsImage ts cs f → All (LiesIn (length f.bytes.items)) f.relocs.items
+relocs_lie ts cs f image =
+    let ss = function_steps ts in
+    let constants = constant_bytes (length (function_code ts)) cs in
+    let n = length f.bytes.items in
+    let size : total ss ≤ n = omega (arith, ap length image.bytes, length-append (function_code ts) constants, code_length (function_places ts) 0 ss) in
+    subst (All (LiesIn n)) (sym image.relocs) (steps_lie (place ss) 0 n ss (place_follows ss) (omega (arith, place_zero ss)))

@@ -1,0 +1,155 @@
+-- An instruction and the same without a frame operand.
+use Rattle.std.proofs.Common.{◌≡◌, ℕ, Bool, true, false, Option, Some, None, refl, sym, ap, subst, ◌∙◌, is_some, ◌||◌}
+use Rattle.std.specs.Option.{option_map}
+use Rattle.s390x_base.specs.declared.regs.Reg.{Reg}
+use Rattle.s390x_inst.specs.Emission.{Emission}
+use Rattle.s390x_inst.specs.Facilities.{facility_of}
+use Rattle.s390x_base.specs.declared.error.EmitError.{EmitError}
+use Rattle.s390x_inst.specs.declared.args.MemArg.{MemArg}
+use Rattle.s390x_inst.specs.declared.inst.Inst.{Inst}
+use Rattle.s390x_inst.specs.declared.inst.Inst.TheVariants.{AluRX, CmpRX, Load32, Load32ZExt8, Load32SExt8, Load32ZExt16, Load32SExt16, Load64, Load64ZExt8, Load64SExt8, Load64ZExt16, Load64SExt16, Load64ZExt32, Load64SExt32, LoadRev16, LoadRev32, LoadRev64, LoadAddr, Store8, Store16, Store32, Store64, StoreRev16, StoreRev32, StoreRev64, StoreImm8, StoreImm16, StoreImm32SExt16, StoreImm64SExt16, LoadMultiple64, StoreMultiple64, AtomicRmw, AtomicCas32, AtomicCas64, CondBr, JTSequence, CondBreak, TrapIf}
+use Rattle.s390x_inst.specs.declared.state.IsaFlags.{IsaFlags}
+use Rattle.s390x_steps.specs.Alone.{Alone, alone, stop_code}
+use Rattle.s390x_steps.specs.Causes.{first, facility_cause, cause_or, memory_cause_or, branch_cause, instruction_cause, instruction_draws}
+use Rattle.s390x_steps.specs.Memory.{MemoryInstruction, operate, load_and_operate, memory}
+use Rattle.s390x_steps.specs.Operands.{resolved}
+use Rattle.s390x_steps.specs.Ranges.{MaskInRange, OperandInRange, MemoryInRange, InRange}
+use Rattle.s390x_steps.specs.Resolved.{resolved_instruction}
+use Rattle.s390x_steps.specs.Storage.{alu_rx, alu_rxy, atomic_rsy}
+use Rattle.s390x_address.specs.Rows.{in_state}
+use Rattle.s390x_emit_int.specs.Emission.{branch_pieces, branch_size}
+
+pub alone_resolved : (e : Emission) (i : Inst) → alone (resolved_instruction e i) ≡ alone i
+alone_resolved e (CondBreak mask) = refl
+alone_resolved e i = refl
+
+pub stop_resolved : (e : Emission) (i : Inst) → stop_code (resolved_instruction e i) ≡ stop_code i
+stop_resolved e (CondBreak mask) = refl
+stop_resolved e i = refl
+
+facility_resolved : (e : Emission) (i : Inst) → facility_of (resolved_instruction e i) ≡ facility_of i
+facility_resolved e (CondBreak mask) = refl
+facility_resolved e i = refl
+
+pub branch_resolved : (e : Emission) (blocks depth : ℕ) (i : Inst) → branch_cause blocks depth (resolved_instruction e i) ≡ branch_cause blocks depth i
+branch_resolved e blocks depth (CondBreak mask) = refl
+branch_resolved e blocks depth i = refl
+
+pub pieces_resolved : (e : Emission) (n after : ℕ) (i : Inst) → branch_pieces n after (resolved_instruction e i) ≡ branch_pieces n after i
+pieces_resolved e n after (CondBreak mask) = refl
+pieces_resolved e n after i = refl
+
+pub draws_resolved : (e : Emission) (i : Inst) → instruction_draws (resolved_instruction e i) ≡ instruction_draws i
+draws_resolved e (CondBreak mask) = refl
+draws_resolved e i = refl
+
+pub size_resolved : (e : Emission) (i : Inst) → branch_size (resolved_instruction e i) ≡ branch_size i
+size_resolved e (CondBreak mask) = refl
+size_resolved e i = refl
+
+operate_resolved : (e : Emission) (has : Bool) (rx rxy : Option ℕ) (rd ri : Reg) (mem : MemArg) → operate has rx rxy rd ri (resolved e mem) ≡ option_map (in_state e) (operate has rx rxy rd ri mem)
+operate_resolved e true rx rxy rd ri mem = refl
+operate_resolved e false rx rxy rd ri mem = refl
+
+atomic_resolved : (e : Emission) (rsy : Option ℕ) (rd rn : Reg) (mem : MemArg) → load_and_operate rsy rd rn (resolved e mem) ≡ option_map (in_state e) (load_and_operate rsy rd rn mem)
+atomic_resolved e None rd rn mem = refl
+atomic_resolved e (Some opcode) rd rn mem = refl
+
+memory_resolved : (e : Emission) (i : Inst) → memory (resolved_instruction e i) ≡ option_map (in_state e) (memory i)
+memory_resolved e (AluRX op rd ri mem) = operate_resolved e (is_some (alu_rx op) || is_some (alu_rxy op)) (alu_rx op) (alu_rxy op) rd ri mem
+memory_resolved e (AtomicRmw op rd rn mem) = atomic_resolved e (atomic_rsy op) rd rn mem
+memory_resolved e i = refl
+
+-- the rows of an instruction with a memory operand are the same
+pub found_memory : (e : Emission) (i : Inst) (x : MemoryInstruction) → Some x ≡ memory i → memory (resolved_instruction e i) ≡ Some (in_state e x)
+found_memory e i x h = memory_resolved e i ∙ ap (option_map (in_state e)) (sym h)
+
+pub no_memory : (e : Emission) (i : Inst) → None ≡ memory i → memory (resolved_instruction e i) ≡ None
+no_memory e i h = memory_resolved e i ∙ ap (option_map (in_state e)) (sym h)
+
+-- the first cause by the parts that the code looks at
+pub cause_resolved : (flags : IsaFlags) (e : Emission) (blocks depth : ℕ) (i : Inst) → first (facility_cause flags i) (cause_or (alone i) (memory_cause_or (memory (resolved_instruction e i)) (branch_cause blocks depth i))) ≡ instruction_cause flags blocks depth (resolved_instruction e i)
+cause_resolved flags e blocks depth (CondBreak mask) = refl
+cause_resolved flags e blocks depth i = refl
+
+-- ---- ranges
+
+mask_resolved : (e : Emission) (i : Inst) → MaskInRange i → MaskInRange (resolved_instruction e i)
+mask_resolved e (CondBreak mask) h = h
+mask_resolved e i h = h
+
+alone_memory : (i : Inst) (x : Alone) → Some x ≡ alone i → MemoryInRange (memory i)
+alone_memory (AluRX op rd ri mem) x e = absurd (cc)
+alone_memory (CmpRX op rn mem) x e = absurd (cc)
+alone_memory (Load32 rd mem) x e = absurd (cc)
+alone_memory (Load32ZExt8 rd mem) x e = absurd (cc)
+alone_memory (Load32SExt8 rd mem) x e = absurd (cc)
+alone_memory (Load32ZExt16 rd mem) x e = absurd (cc)
+alone_memory (Load32SExt16 rd mem) x e = absurd (cc)
+alone_memory (Load64 rd mem) x e = absurd (cc)
+alone_memory (Load64ZExt8 rd mem) x e = absurd (cc)
+alone_memory (Load64SExt8 rd mem) x e = absurd (cc)
+alone_memory (Load64ZExt16 rd mem) x e = absurd (cc)
+alone_memory (Load64SExt16 rd mem) x e = absurd (cc)
+alone_memory (Load64ZExt32 rd mem) x e = absurd (cc)
+alone_memory (Load64SExt32 rd mem) x e = absurd (cc)
+alone_memory (LoadRev16 rd mem) x e = absurd (cc)
+alone_memory (LoadRev32 rd mem) x e = absurd (cc)
+alone_memory (LoadRev64 rd mem) x e = absurd (cc)
+alone_memory (LoadAddr rd mem) x e = absurd (cc)
+alone_memory (Store8 rd mem) x e = absurd (cc)
+alone_memory (Store16 rd mem) x e = absurd (cc)
+alone_memory (Store32 rd mem) x e = absurd (cc)
+alone_memory (Store64 rd mem) x e = absurd (cc)
+alone_memory (StoreRev16 rd mem) x e = absurd (cc)
+alone_memory (StoreRev32 rd mem) x e = absurd (cc)
+alone_memory (StoreRev64 rd mem) x e = absurd (cc)
+alone_memory (StoreImm8 imm mem) x e = absurd (cc)
+alone_memory (StoreImm16 imm mem) x e = absurd (cc)
+alone_memory (StoreImm32SExt16 imm mem) x e = absurd (cc)
+alone_memory (StoreImm64SExt16 imm mem) x e = absurd (cc)
+alone_memory (LoadMultiple64 rt rt2 mem) x e = absurd (cc)
+alone_memory (StoreMultiple64 rt rt2 mem) x e = absurd (cc)
+alone_memory (AtomicRmw op rd rn mem) x e = absurd (cc)
+alone_memory (AtomicCas32 rd ri rn mem) x e = absurd (cc)
+alone_memory (AtomicCas64 rd ri rn mem) x e = absurd (cc)
+alone_memory i x e = tt
+
+alone_mask : (i : Inst) (x : Alone) → Some x ≡ alone i → MaskInRange i
+alone_mask (CondBr taken not_taken mask) x e = absurd (cc)
+alone_mask (JTSequence ridx other mask targets) x e = absurd (cc)
+alone_mask (CondBreak mask) x e = absurd (cc)
+alone_mask (TrapIf mask code) x e = absurd (cc)
+alone_mask i x e = tt
+
+-- an instruction that is one machine instruction on registers has no masks and no displacements
+pub alone_range : (i : Inst) (x : Alone) → Some x ≡ alone i → InRange i
+alone_range i x e = (alone_mask i x e, alone_memory i x e)
+
+memory_mask : (i : Inst) (x : MemoryInstruction) → Some x ≡ memory i → MaskInRange i
+memory_mask (CondBr taken not_taken mask) x e = absurd (cc)
+memory_mask (JTSequence ridx other mask targets) x e = absurd (cc)
+memory_mask (CondBreak mask) x e = absurd (cc)
+memory_mask (TrapIf mask code) x e = absurd (cc)
+memory_mask i x e = tt
+
+of_memory : (o : Option MemoryInstruction) (x : MemoryInstruction) → o ≡ Some x → OperandInRange x.operand → MemoryInRange o
+of_memory None x h r = absurd (cc)
+of_memory (Some y) x h r = let same : y.operand ≡ x.operand = cc in subst OperandInRange (sym same) r
+
+-- one with a memory operand has its displacement
+pub memory_range : (e : Emission) (i : Inst) (x : MemoryInstruction) → Some x ≡ memory i → OperandInRange (resolved e x.operand) → InRange (resolved_instruction e i)
+memory_range e i x h r = (mask_resolved e i (memory_mask i x h), of_memory (memory (resolved_instruction e i)) (in_state e x) (found_memory e i x h) r)
+
+without_memory : (o : Option MemoryInstruction) → o ≡ None → MemoryInRange o
+without_memory None h = tt
+without_memory (Some x) h = absurd (cc)
+
+-- another one has its mask
+pub branch_range : (e : Emission) (i : Inst) → None ≡ memory i → MaskInRange i → InRange (resolved_instruction e i)
+branch_range e i h m = (mask_resolved e i m, without_memory (memory (resolved_instruction e i)) (no_memory e i h))
+
+-- without an operand, the other causes are asked
+pub or_none : (o : Option MemoryInstruction) (others : Option EmitError) → memory_cause_or o others ≡ None → memory_cause_or o None ≡ None
+or_none None others h = refl
+or_none (Some x) others h = h

@@ -1,0 +1,139 @@
+-- How many bytes an instruction has at most, and that emission fails by want of memory alone where no cause stands.
+use Rattle.std.proofs.Common.{◌*◌, ◌++◌, length-append, ◌≡◌, ◌+◌, ◌≤◌, Bool, true, false, cond, nat_lt, List, [], ◌∷◌, Option, Some, None, length, refl, ap, ◌∙◌, arith, ltb-true}
+use Rattle.s390x_base.specs.declared.trap.TrapKind.{TrapKind}
+use Rattle.s390x_base.specs.declared.error.EmitError.{EmitError}
+use Rattle.s390x_base.specs.declared.error.EmitError.TheVariants.{LabelOutOfRange, Failed}
+use Rattle.s390x_format.specs.Formats.{length_of}
+use Rattle.s390x_format.proofs.FormatFacts.{length_small}
+use Rattle.s390x_inst.specs.declared.inst.Inst.{Inst}
+use Rattle.s390x_inst.specs.Emission.{Emission}
+use Rattle.s390x_inst.specs.declared.args.MemArg.{MemArg}
+use Rattle.s390x_inst.specs.declared.args.MemArg.TheVariants.{RegOffset}
+use Rattle.s390x_inst.specs.declared.inst.Inst.TheVariants.{Loop', JTSequence, Mov64SImm32, LoadAddr, CondBreak, Jump, CondBr, IndirectBr, Ret, LabelAddress, LoadSymbolReloc, Trap, TrapIf, Debugtrap}
+use Rattle.s390x_inst.specs.declared.state.IsaFlags.{IsaFlags}
+use Rattle.s390x_buffer.specs.State.{State, limit}
+use Rattle.s390x_steps.specs.Alone.{Alone, alone, stop_code}
+use Rattle.s390x_steps.specs.MachineInstruction.{MachineInstruction}
+use Rattle.s390x_steps.specs.Memory.{MemoryInstruction, memory, type_of, storage_row, address_form, fault_code}
+use Rattle.s390x_steps.specs.Operands.{Finalized, finalized, displaced, needs_address, fits_12, fits_20, fits_32}
+use Rattle.s390x_steps.specs.Resolved.{resolved_instruction}
+use Rattle.s390x_steps.specs.Parts.{Part, branch_parts, row_part, access_parts, helper_parts, helpers_parts, memory_parts, memory_or, parts_or, parts_size}
+use Rattle.s390x_steps.specs.Sizes.{instruction_size, tree_size}
+use Rattle.s390x_steps.specs.Tree.{Tree, empty, leaf, graft}
+use Rattle.s390x_steps.specs.Causes.{first, unless, tree_cause}
+use Rattle.s390x_steps.proofs.Causes.{first_left, first_right, unless_true}
+use Rattle.s390x_address.proofs.Lacking.{size_append}
+use Rattle.s390x_emit_int.specs.Pieces.{run}
+use Rattle.s390x_emit_int.specs.Emission.{own_pieces}
+use Rattle.s390x_emit_int.specs.Instruction.{emit_cause, is_short}
+use Rattle.s390x_emit_int.specs.Room.{HasRoom, TreePassed}
+use Rattle.s390x_emit_int.proofs.Runs.{leaf_grows}
+
+row_few : (x : Alone) (code : Option TrapKind) → parts_size (row_part x.row code ∷ []) ≤ 44
+row_few x None = let small = length_small x.row.format in omega (arith, small)
+row_few x (Some code) = let small = length_small x.row.format in omega (arith, small)
+
+few_or : (o : Option Alone) (code : Option TrapKind) (others : List Part) → parts_size others ≤ 44 → parts_size (parts_or o code others) ≤ 44
+few_or None code others h = h
+few_or (Some x) code others h = row_few x code
+
+access_few : (o : Option MachineInstruction) (code : Option TrapKind) → parts_size (access_parts o code) ≤ 6
+access_few None code = omega arith
+access_few (Some m) None = let small = length_small m.format in omega (arith, small)
+access_few (Some m) (Some code) = let small = length_small m.format in omega (arith, small)
+
+helper_few : (i : Inst) → parts_size (helper_parts i) ≤ 6
+unfolding length_of
+helper_few (Mov64SImm32 rd imm) = omega arith
+helper_few (LoadAddr rd mem) = access_few (storage_row (address_form rd) mem) None
+helper_few i = omega arith
+
+helpers_few : (is : List Inst) → parts_size (helpers_parts is) ≤ 6 * length is
+helpers_few [] = omega arith
+helpers_few (i ∷ is) =
+    let one = helper_few i in
+    let others = helpers_few is in
+    let both = size_append (helper_parts i) (helpers_parts is) in
+    omega (arith, one, others, both)
+
+one_of : (a b c : Bool) (w x y z : Finalized) → length w.helpers ≤ 1 → length x.helpers ≤ 1 → length y.helpers ≤ 1 → length z.helpers ≤ 1 → length (cond a w (cond b x (cond c y z))).helpers ≤ 1
+one_of true b c w x y z hw hx hy hz = hw
+one_of false true c w x y z hw hx hy hz = hx
+one_of false false true w x y z hw hx hy hz = hy
+one_of false false false w x y z hw hx hy hz = hz
+
+displaced_few : (m : MemArg) → length (displaced m).helpers ≤ 1
+displaced_few (RegOffset reg off flags) = one_of (fits_12 off) (fits_20 off) (fits_32 off) _ _ _ _ (omega arith) (omega arith) (omega arith) (omega arith)
+displaced_few m = omega arith
+
+one_more : (b : Bool) (f : Finalized) (i : Inst) (m : MemArg) → length f.helpers ≤ 1 → length (cond b (record { helpers = f.helpers ++ i ∷ []; operand = m }) f).helpers ≤ 2
+one_more true f i m h = let both = length-append f.helpers (i ∷ []) in omega (arith, both, h)
+one_more false f i m h = omega (arith, h)
+
+-- at most two helpers and an access
+memory_few : (x : MemoryInstruction) → parts_size (memory_parts x) ≤ 44
+memory_few x =
+    let mi = type_of x.form x.accesses in
+    let f = displaced x.operand in
+    let two : length (finalized mi x.operand).helpers ≤ 2 = one_more (needs_address mi f.operand) f _ _ (displaced_few x.operand) in
+    let helpers = helpers_few (finalized mi x.operand).helpers in
+    let access = access_few (storage_row x.form (finalized mi x.operand).operand) (fault_code x) in
+    let both = size_append (helpers_parts (finalized mi x.operand).helpers) (access_parts (storage_row x.form (finalized mi x.operand).operand) (fault_code x)) in
+    omega (arith, two, helpers, access, both)
+
+memory_few_or : (o : Option MemoryInstruction) (others : List Part) → parts_size others ≤ 44 → parts_size (memory_or o others) ≤ 44
+memory_few_or None others h = h
+memory_few_or (Some x) others h = memory_few x
+
+branch_few : (i : Inst) → is_short i ≡ true → parts_size (branch_parts i) ≤ 44
+unfolding length_of
+branch_few (JTSequence ridx other mask targets) h = absurd (cc)
+branch_few (Jump dest) h = omega arith
+branch_few (CondBr taken not_taken mask) h = omega arith
+branch_few (IndirectBr rn targets) h = omega arith
+branch_few (Ret link) h = omega arith
+branch_few (LabelAddress dst label) h = omega arith
+branch_few (LoadSymbolReloc rd reloc) h = omega arith
+branch_few (Trap code) h = omega arith
+branch_few (TrapIf mask code) h = omega arith
+branch_few Debugtrap h = omega arith
+branch_few i h = omega arith
+
+instruction_few : (i : Inst) → is_short i ≡ true → instruction_size i ≤ 44
+instruction_few (CondBreak mask) h = omega arith
+instruction_few i h = few_or (alone i) (stop_code i) (memory_or (memory i) (branch_parts i)) (memory_few_or (memory i) (branch_parts i) (branch_few i h))
+
+short_resolved : (state : Emission) (i : Inst) → is_short (resolved_instruction state i) ≡ is_short i
+short_resolved state (CondBreak mask) = refl
+short_resolved state i = refl
+
+-- an instruction that is no loop
+short_leaf : (state : Emission) (i : Inst) → is_short i ≡ true → graft state i empty ≡ leaf (resolved_instruction state i) empty
+short_leaf state (Loop' mask body all) h = absurd (cc)
+short_leaf state i h = refl
+
+-- a short instruction puts few bytes
+pub puts_few : (state : Emission) (i : Inst) (s t : State) → is_short i ≡ true → t ≡ run s (own_pieces (length s.labels) 0 (graft state i empty)) → length t.bytes ≤ length s.bytes + 44
+puts_few state i s t h e =
+    let j = resolved_instruction state i in
+    let is : t ≡ run s (own_pieces (length s.labels) 0 (leaf j empty)) = e ∙ ap (λ x. run s (own_pieces (length s.labels) 0 x)) (short_leaf state i h) in
+    let g = leaf_grows j s (length s.labels) 0 refl in
+    let few = instruction_few j (short_resolved state i ∙ h) in
+    let bytes = ap (λ x. length x.bytes) is in
+    omega (arith, g.bytes, few, bytes)
+
+three_tests : (f : Bool) (c : Option EmitError) (b : Bool) → cond f (Some Failed) (first c (unless b LabelOutOfRange)) ≡ None → (f ≡ false) × (c ≡ None) × (b ≡ true)
+three_tests true c b h = absurd (cc)
+three_tests false c b h = (refl, first_left c _ h, unless_true b LabelOutOfRange (first_right c _ h))
+
+-- where no cause stands, the instruction passes
+pub emit_passed : (flags : IsaFlags) (s : State) (x : Tree) → HasRoom s → emit_cause flags s x ≡ None → TreePassed flags s 0 0 x
+emit_passed flags s x room h =
+    let t = three_tests s.failed (tree_cause flags s.block_count (length s.labels) 0 x) (nat_lt (length s.bytes + tree_size x) limit) h in
+    record {
+      unmarked = t.0;
+      blocks = omega (arith, room);
+      label = λ d. omega (arith, d);
+      short = ltb-true (length s.bytes + tree_size x) limit t.2;
+      passed = t.1;
+    }

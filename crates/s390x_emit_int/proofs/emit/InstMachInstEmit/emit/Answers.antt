@@ -1,0 +1,17 @@
+use Rattle.std.proofs.Common.{sym, ◌∙◌, inl, refl, subst, IsTrue}
+use Rattle.s390x_buffer.proofs.Keeping.{keeps_on, keeps_mark}
+use Rattle.s390x_steps.specs.Tree.{empty, graft}
+use Rattle.s390x_emit_int.proofs.Short.{puts_few, emit_passed}
+use Rattle.s390x_emit_int.proofs.emit.InstMachInstEmit.emit.Goals as goal
+
+pub returns-in-Ok-clause-few : goal.returns-in-Ok-clause-few
+returns-in-Ok-clause-few c = λ short. puts_few c.args.state.now c.args.self.now c.args.sink.now c.emit_inst.new.sink short c.in-Ok.ensures.answer
+
+-- after the checks an error is want of memory
+pub returns-in-Err-clause-answer : goal.returns-in-Err-clause-answer
+returns-in-Err-clause-answer c =
+    let passed = emit_passed c.args.emit_info.now.isa_flags c.args.sink.now (graft c.args.state.now c.args.self.now empty) (c.refusal.ensures.room c.in_default.is) (sym c.refusal.ensures.cause ∙ c.in_default.is) in
+    (inl (c.in-Err.ensures.lacks c.args.emit_info.now.isa_flags 0 passed), subst (λ s. IsTrue s.failed) (sym c.fail-in-Err.ensures) refl, refl)
+
+pub returns-in-Err-clause-kept : goal.returns-in-Err-clause-kept
+returns-in-Err-clause-kept c = keeps_on _ _ _ c.emit_inst.ensures.kept (keeps_mark _ _ c.fail-in-Err.ensures)

@@ -1,0 +1,147 @@
+//! Emitting one instruction, or bytes, into a buffer of the caller's.
+#![tactic(auto, using(s390x_buffer::proofs::Keeping::keeps_on, s390x_buffer::proofs::Keeping::keeps_same))]
+
+ghost use Rattle.std.specs.Prelude.{◌≡◌, ◌+◌, ◌-◌, ◌<◌, ◌≤◌, ◌⊎◌, length, MatchResult, IsTrue, OnOk, None, Some, true};
+ghost use Rattle.s390x_base.specs.declared.error.EmitError.TheVariants.{NoMemory};
+ghost use Rattle.s390x_buffer.specs.Keeps.{Keeps};
+ghost use Rattle.s390x_buffer.specs.State.{Blames, marked, put_cause};
+ghost use Rattle.s390x_steps.specs.Tree.{empty, graft};
+ghost use Rattle.s390x_emit_int.specs.Emission.{own_pieces};
+ghost use Rattle.s390x_emit_int.specs.Instruction.{emit_cause, is_short};
+ghost use Rattle.s390x_emit_int.specs.Pieces.{Put, PutTrapping, apply, run};
+ghost use Rattle.s390x_emit_int.specs.Room.{HasRoom, LacksMemory};
+
+use crate::check::{Totals, check_inst};
+use crate::tree::emit_inst;
+use s390x_base::{EmitError, MachLabel, TrapCode};
+use s390x_buffer::MachBuffer;
+use s390x_inst::{EmitInfo, EmitState, Inst, IsaFlags};
+use std::alloc::Global;
+
+// Code ends below this length.
+const LIMIT: u64 = 2147483648;
+
+/// Appends bytes. Refused by `Failed` where the buffer bears the mark, and by `LabelOutOfRange` where the length would reach 2^31;
+/// the buffer is marked then (cranelift-codegen, `emit.rs`, `put`).
+pub fn put(sink: &mut MachBuffer, enc: &[u8]) -> Result<(), EmitError>
+    requires { 0 < length enc.now }
+    ensures answer { MatchResult result (λ _. (put_cause sink.old (length enc.now) ≡ None) × (sink.new ≡ apply sink.old (Put enc.now))) (λ e. Blames (put_cause sink.old (length enc.now)) e × (sink.new ≡ marked sink.old)) }
+    ensures kept { Keeps sink.old sink.new }
+{
+    sink.put(enc)
+}
+
+// Why so many bytes can't be appended.
+fn put_refusal(sink: &MachBuffer, size: usize) -> Option<EmitError>
+    ensures { result ≡ put_cause sink.now size }
+{
+    if sink.is_failed() {
+        Some(EmitError::Failed)
+    } else if size as u64 >= LIMIT - u64::from(sink.cur_offset()) {
+        Some(EmitError::LabelOutOfRange)
+    } else {
+        None
+    }
+}
+
+// Appends bytes and records a trap at the last of them, where there is room for them.
+fn put_trapped(sink: &mut MachBuffer, enc: &[u8], trap_code: TrapCode) -> Result<(), EmitError>
+    requires some { 0 < length enc.now }
+    ensures answer { OnOk result (sink.new ≡ apply sink.old (PutTrapping enc.now (length enc.now - 1) trap_code)) }
+    ensures lacks { put_cause sink.old (length enc.now) ≡ None → LacksMemory result }
+    ensures kept { Keeps sink.old sink.new }
+{
+    let last = enc.len() - 1;
+    sink.put(&enc[..last])?;
+    sink.add_trap(trap_code)?;
+    sink.put(&enc[last..])
+}
+
+/// Appends bytes and records a trap at the last of them. Refused by `Failed` where the buffer bears the mark, and by `LabelOutOfRange`
+/// where the length would reach 2^31; the buffer is marked then, and what stood in it still stands (cranelift-codegen, `emit.rs`, `put_with_trap`).
+pub fn put_with_trap(
+    sink: &mut MachBuffer,
+    enc: &[u8],
+    trap_code: TrapCode,
+) -> Result<(), EmitError>
+    requires { 0 < length enc.now }
+    ensures answer { MatchResult result (λ _. (put_cause sink.old (length enc.now) ≡ None) × (sink.new ≡ apply sink.old (PutTrapping enc.now (length enc.now - 1) trap_code))) (λ e. ((e ≡ NoMemory) ⊎ (put_cause sink.old (length enc.now) ≡ Some e)) × IsTrue sink.new.failed) }
+    ensures kept { Keeps sink.old sink.new }
+{
+    if let Some(error) = put_refusal(sink, enc.len()) {
+        sink.fail();
+        return Err(error);
+    }
+    match put_trapped(sink, enc, trap_code) {
+        Ok(()) => Ok(()),
+        Err(error) => {
+            sink.fail();
+            Err(error)
+        }
+    }
+}
+
+// Why an instruction can't be emitted into this buffer.
+fn refusal(sink: &MachBuffer, flags: IsaFlags, state: &EmitState, inst: &Inst) -> Option<EmitError>
+    ensures cause { result ≡ emit_cause flags sink.now (graft state.now inst.now empty) }
+    ensures room { result ≡ None → HasRoom sink.now }
+{
+    if sink.is_failed() {
+        return Some(EmitError::Failed);
+    }
+    let used = Totals {
+        labels: sink.label_count(),
+        bytes: u64::from(sink.cur_offset()),
+    };
+    match check_inst(flags, state, sink.block_count() as usize, used, 0, inst) {
+        Ok(sum) if sum.bytes < LIMIT => None,
+        Ok(_) => Some(EmitError::LabelOutOfRange),
+        Err(error) => Some(error),
+    }
+}
+
+/// What writes itself into a buffer.
+pub trait MachInstEmit {
+    /// Appends itself to the buffer, with its traps, relocations, labels and the places of its steps but the first.
+    fn emit(
+        &self,
+        alloc: Global,
+        sink: &mut MachBuffer,
+        emit_info: &EmitInfo,
+        state: &mut EmitState,
+    ) -> Result<(), EmitError>;
+}
+
+impl MachInstEmit for Inst {
+    /// Appends the instruction. The state's stack map is dropped, all else of it stays.
+    ///
+    /// Refused by `Failed` where the buffer bears the mark, then by the first cause of its steps, where the buffer tells how many blocks and
+    /// labels there are, and last by `LabelOutOfRange` where the length would reach 2^31. A refused call marks the buffer and leaves what stood in
+    /// it, and the state as it was (cranelift-codegen, `emit.rs`).
+    fn emit(
+        &self,
+        _alloc: Global,
+        sink: &mut MachBuffer,
+        emit_info: &EmitInfo,
+        state: &mut EmitState,
+    ) -> Result<(), EmitError>
+        ensures answer { MatchResult result (λ _. (emit_cause emit_info.now.isa_flags sink.old (graft state.old self.now empty) ≡ None) × (sink.new ≡ run sink.old (own_pieces (length sink.old.labels) 0 (graft state.old self.now empty))) × (state.new ≡ record state.old { stack_map = None })) (λ e. ((e ≡ NoMemory) ⊎ (emit_cause emit_info.now.isa_flags sink.old (graft state.old self.now empty) ≡ Some e)) × IsTrue sink.new.failed × (state.new ≡ state.old)) }
+        ensures few { is_short self.now ≡ true → OnOk result (length sink.new.bytes ≤ length sink.old.bytes + 44) }
+        ensures kept { Keeps sink.old sink.new }
+    {
+        if let Some(error) = refusal(sink, emit_info.isa_flags, state, self) {
+            sink.fail();
+            return Err(error);
+        }
+        match emit_inst(sink, state, self, MachLabel(0)) {
+            Ok(()) => {
+                state.clear_post_insn();
+                Ok(())
+            }
+            Err(error) => {
+                sink.fail();
+                Err(error)
+            }
+        }
+    }
+}

@@ -1,0 +1,528 @@
+//! Instructions with a memory operand: their machine rows.
+ghost use Rattle.std.specs.Prelude.{◌≡◌, ◌&&◌, ◌||◌, not, true, IfSome};
+ghost use Rattle.std.specs.Option.{option_map};
+ghost use Rattle.s390x_address.specs.Rows.{memory_of, form_of, rows_encode, takes_general};
+ghost use Rattle.s390x_steps.specs.General.{low_halfword};
+ghost use Rattle.s390x_steps.specs.Memory.{load, store, store_immediate, SilForm, is_range, holds_scratch, multiple, load_and_operate, compare_and_swap, memory};
+ghost use Rattle.s390x_steps.specs.Storage.{alu_rx, alu_rxy, cmp_rx, cmp_rxy, cmp_ril, atomic_rsy};
+ghost use Rattle.s390x_emit_int.specs.Memory.{storage_group};
+ghost use Rattle.s390x_emit_int.specs.declared.memory.StorageGroup.TheVariants.{Loads, Stores, Operators};
+
+use crate::alone::{general, is_reused, number, two_general};
+use crate::bits::low_byte;
+use s390x_address::forms::is_numbered;
+use s390x_address::memory::MemoryInst;
+use s390x_address::rows::StorageRows;
+use s390x_base::Reg;
+use s390x_inst::{ALUOp, CmpOp, Inst, MemArg};
+
+/// Which part of the code knows the rows of an instruction with a memory operand.
+#[derive(Clone, Copy, PartialEq, Eq, Debug)]
+pub enum StorageGroup {
+    Loads,
+    Stores,
+    Operators,
+}
+
+// A load into a register, which is written alone.
+#[tactic(auto, using(crate::proofs::Storing::register_encodes))]
+fn load(
+    rd: Reg,
+    rx: Option<u8>,
+    rxy: Option<u16>,
+    ril: Option<u16>,
+    operand: MemArg,
+) -> Option<MemoryInst>
+    requires { (takes_general rx && takes_general rxy) ≡ true }
+    ensures row { option_map memory_of result ≡ load rd rx rxy ril operand }
+    ensures encodes { IfSome result (λ x. (not x.fine || rows_encode x.rows) ≡ true) }
+{
+    Some(MemoryInst {
+        rows: StorageRows::OneRegister {
+            register: rd,
+            rx,
+            rxy,
+            ril,
+        },
+        operand,
+        accesses: true,
+        fine: general(&rd),
+        reads_scratch: false,
+    })
+}
+
+// A store of a register.
+#[tactic(auto, using(crate::proofs::Storing::register_encodes))]
+fn store(
+    rd: Reg,
+    rx: Option<u8>,
+    rxy: Option<u16>,
+    ril: Option<u16>,
+    operand: MemArg,
+) -> Option<MemoryInst>
+    requires { (takes_general rx && takes_general rxy) ≡ true }
+    ensures row { option_map memory_of result ≡ store rd rx rxy ril operand }
+    ensures encodes { IfSome result (λ x. (not x.fine || rows_encode x.rows) ≡ true) }
+{
+    Some(MemoryInst {
+        rows: StorageRows::OneRegister {
+            register: rd,
+            rx,
+            rxy,
+            ril,
+        },
+        operand,
+        accesses: true,
+        fine: general(&rd),
+        reads_scratch: is_numbered(1, &rd),
+    })
+}
+
+// The address of the operand.
+#[tactic(auto, using(crate::proofs::Storing::register_encodes))]
+fn load_address(rd: Reg, operand: MemArg) -> Option<MemoryInst>
+    ensures row { option_map memory_of result ≡ memory (Inst.LoadAddr rd operand) }
+    ensures encodes { IfSome result (λ x. (not x.fine || rows_encode x.rows) ≡ true) }
+{
+    Some(MemoryInst {
+        rows: StorageRows::OneRegister {
+            register: rd,
+            rx: Some(0x41),
+            rxy: Some(0xe371),
+            ril: Some(0xc00),
+        },
+        operand,
+        accesses: false,
+        fine: general(&rd),
+        reads_scratch: false,
+    })
+}
+
+fn find_load(inst: &Inst) -> Option<MemoryInst>
+    ensures row { storage_group inst.now ≡ Loads → option_map memory_of result ≡ memory inst.now }
+    ensures encodes { IfSome result (λ x. (not x.fine || rows_encode x.rows) ≡ true) }
+{
+    match inst {
+        Inst::Load32 { rd, mem } => load(rd.to_reg(), Some(0x58), Some(0xe358), Some(0xc4d), *mem),
+        Inst::Load32ZExt8 { rd, mem } => load(rd.to_reg(), None, Some(0xe394), None, *mem),
+        Inst::Load32SExt8 { rd, mem } => load(rd.to_reg(), None, Some(0xe376), None, *mem),
+        Inst::Load32ZExt16 { rd, mem } => load(rd.to_reg(), None, Some(0xe395), Some(0xc42), *mem),
+        Inst::Load32SExt16 { rd, mem } => load(
+            rd.to_reg(),
+            Some(0x48),
+            Some(0xe378),
+            Some(0xc45),
+            *mem,
+        ),
+        Inst::Load64 { rd, mem } => load(rd.to_reg(), None, Some(0xe304), Some(0xc48), *mem),
+        Inst::Load64ZExt8 { rd, mem } => load(rd.to_reg(), None, Some(0xe390), None, *mem),
+        Inst::Load64SExt8 { rd, mem } => load(rd.to_reg(), None, Some(0xe377), None, *mem),
+        Inst::Load64ZExt16 { rd, mem } => load(rd.to_reg(), None, Some(0xe391), Some(0xc46), *mem),
+        Inst::Load64SExt16 { rd, mem } => load(rd.to_reg(), None, Some(0xe315), Some(0xc44), *mem),
+        Inst::Load64ZExt32 { rd, mem } => load(rd.to_reg(), None, Some(0xe316), Some(0xc4e), *mem),
+        Inst::Load64SExt32 { rd, mem } => load(rd.to_reg(), None, Some(0xe314), Some(0xc4c), *mem),
+        Inst::LoadRev16 { rd, mem } => load(rd.to_reg(), None, Some(0xe31f), None, *mem),
+        Inst::LoadRev32 { rd, mem } => load(rd.to_reg(), None, Some(0xe31e), None, *mem),
+        Inst::LoadRev64 { rd, mem } => load(rd.to_reg(), None, Some(0xe30f), None, *mem),
+        Inst::LoadAddr { rd, mem } => load_address(rd.to_reg(), *mem),
+        _ => None,
+    }
+}
+
+// A store of an immediate.
+fn store_immediate(rows: StorageRows, operand: MemArg) -> Option<MemoryInst>
+    requires { rows_encode rows ≡ true }
+    ensures row { option_map memory_of result ≡ store_immediate (form_of rows) operand }
+    ensures encodes { IfSome result (λ x. (not x.fine || rows_encode x.rows) ≡ true) }
+{
+    Some(MemoryInst {
+        rows,
+        operand,
+        accesses: true,
+        fine: true,
+        reads_scratch: false,
+    })
+}
+
+fn store_halfword(imm: i16, sil: u16, operand: MemArg) -> Option<MemoryInst>
+    ensures row { option_map memory_of result ≡ store_immediate (SilForm (low_halfword imm) sil) operand }
+    ensures encodes { IfSome result (λ x. (not x.fine || rows_encode x.rows) ≡ true) }
+{
+    store_immediate(StorageRows::Halfword { imm, sil }, operand)
+}
+
+fn find_store(inst: &Inst) -> Option<MemoryInst>
+    ensures row { storage_group inst.now ≡ Stores → option_map memory_of result ≡ memory inst.now }
+    ensures encodes { IfSome result (λ x. (not x.fine || rows_encode x.rows) ≡ true) }
+{
+    match inst {
+        Inst::Store8 { rd, mem } => store(*rd, Some(0x42), Some(0xe372), None, *mem),
+        Inst::Store16 { rd, mem } => store(*rd, Some(0x40), Some(0xe370), Some(0xc47), *mem),
+        Inst::Store32 { rd, mem } => store(*rd, Some(0x50), Some(0xe350), Some(0xc4f), *mem),
+        Inst::Store64 { rd, mem } => store(*rd, None, Some(0xe324), Some(0xc4b), *mem),
+        Inst::StoreRev16 { rd, mem } => store(*rd, None, Some(0xe33f), None, *mem),
+        Inst::StoreRev32 { rd, mem } => store(*rd, None, Some(0xe33e), None, *mem),
+        Inst::StoreRev64 { rd, mem } => store(*rd, None, Some(0xe32f), None, *mem),
+        Inst::StoreImm8 { imm, mem } => store_immediate(
+            StorageRows::Byte {
+                imm: low_byte(*imm),
+                si: 0x92,
+                siy: 0xeb52,
+            },
+            *mem,
+        ),
+        Inst::StoreImm16 { imm, mem } => store_halfword(*imm, 0xe544, *mem),
+        Inst::StoreImm32SExt16 { imm, mem } => store_halfword(*imm, 0xe54c, *mem),
+        Inst::StoreImm64SExt16 { imm, mem } => store_halfword(*imm, 0xe548, *mem),
+        _ => None,
+    }
+}
+
+// The opcodes of an operator's rows with an operand in memory.
+fn alu_rx(op: ALUOp) -> Option<u8>
+    ensures value { result ≡ alu_rx op }
+    ensures general { takes_general result ≡ true }
+{
+    match op {
+        ALUOp::Add32 => Some(0x5a),
+        ALUOp::Add32Ext16 => Some(0x4a),
+        ALUOp::AddLogical32 => Some(0x5e),
+        ALUOp::Sub32 => Some(0x5b),
+        ALUOp::Sub32Ext16 => Some(0x4b),
+        ALUOp::SubLogical32 => Some(0x5f),
+        ALUOp::Mul32 => Some(0x71),
+        ALUOp::Mul32Ext16 => Some(0x4c),
+        ALUOp::And32 => Some(0x54),
+        ALUOp::Orr32 => Some(0x56),
+        ALUOp::Xor32 => Some(0x57),
+        _ => None,
+    }
+}
+
+fn alu_rxy(op: ALUOp) -> Option<u16>
+    ensures value { result ≡ alu_rxy op }
+    ensures general { takes_general result ≡ true }
+{
+    match op {
+        ALUOp::Add32 => Some(0xe35a),
+        ALUOp::Add32Ext16 => Some(0xe37a),
+        ALUOp::Add64 => Some(0xe308),
+        ALUOp::Add64Ext16 => Some(0xe338),
+        ALUOp::Add64Ext32 => Some(0xe318),
+        ALUOp::AddLogical32 => Some(0xe35e),
+        ALUOp::AddLogical64 => Some(0xe30a),
+        ALUOp::AddLogical64Ext32 => Some(0xe31a),
+        ALUOp::Sub32 => Some(0xe35b),
+        ALUOp::Sub32Ext16 => Some(0xe37b),
+        ALUOp::Sub64 => Some(0xe309),
+        ALUOp::Sub64Ext16 => Some(0xe339),
+        ALUOp::Sub64Ext32 => Some(0xe319),
+        ALUOp::SubLogical32 => Some(0xe35f),
+        ALUOp::SubLogical64 => Some(0xe30b),
+        ALUOp::SubLogical64Ext32 => Some(0xe31b),
+        ALUOp::Mul32 => Some(0xe351),
+        ALUOp::Mul32Ext16 => Some(0xe37c),
+        ALUOp::Mul64 => Some(0xe30c),
+        ALUOp::Mul64Ext16 => Some(0xe33c),
+        ALUOp::Mul64Ext32 => Some(0xe31c),
+        ALUOp::And32 => Some(0xe354),
+        ALUOp::And64 => Some(0xe380),
+        ALUOp::Orr32 => Some(0xe356),
+        ALUOp::Orr64 => Some(0xe381),
+        ALUOp::Xor32 => Some(0xe357),
+        ALUOp::Xor64 => Some(0xe382),
+        _ => None,
+    }
+}
+
+fn cmp_rx(op: CmpOp) -> Option<u8>
+    ensures value { result ≡ cmp_rx op }
+    ensures general { takes_general result ≡ true }
+{
+    match op {
+        CmpOp::CmpS32 => Some(0x59),
+        CmpOp::CmpS32Ext16 => Some(0x49),
+        CmpOp::CmpL32 => Some(0x55),
+        _ => None,
+    }
+}
+
+fn cmp_rxy(op: CmpOp) -> Option<u16>
+    ensures value { result ≡ cmp_rxy op }
+    ensures general { takes_general result ≡ true }
+{
+    match op {
+        CmpOp::CmpS32 => Some(0xe359),
+        CmpOp::CmpS32Ext16 => Some(0xe379),
+        CmpOp::CmpS64 => Some(0xe320),
+        CmpOp::CmpS64Ext16 => Some(0xe334),
+        CmpOp::CmpS64Ext32 => Some(0xe330),
+        CmpOp::CmpL32 => Some(0xe355),
+        CmpOp::CmpL64 => Some(0xe321),
+        CmpOp::CmpL64Ext32 => Some(0xe331),
+        _ => None,
+    }
+}
+
+fn cmp_ril(op: CmpOp) -> u16
+    ensures { result ≡ cmp_ril op }
+{
+    match op {
+        CmpOp::CmpS32 => 0xc6d,
+        CmpOp::CmpS32Ext16 => 0xc65,
+        CmpOp::CmpS64 => 0xc68,
+        CmpOp::CmpS64Ext16 => 0xc64,
+        CmpOp::CmpS64Ext32 => 0xc6c,
+        CmpOp::CmpL32 => 0xc6f,
+        CmpOp::CmpL32Ext16 => 0xc67,
+        CmpOp::CmpL64 => 0xc6a,
+        CmpOp::CmpL64Ext16 => 0xc66,
+        CmpOp::CmpL64Ext32 => 0xc6e,
+    }
+}
+
+fn atomic_rsy(op: ALUOp) -> Option<u16>
+    ensures { result ≡ atomic_rsy op }
+{
+    match op {
+        ALUOp::Add32 => Some(0xebf8),
+        ALUOp::Add64 => Some(0xebe8),
+        ALUOp::AddLogical32 => Some(0xebfa),
+        ALUOp::AddLogical64 => Some(0xebea),
+        ALUOp::And32 => Some(0xebf4),
+        ALUOp::And64 => Some(0xebe4),
+        ALUOp::Orr32 => Some(0xebf6),
+        ALUOp::Orr64 => Some(0xebe6),
+        ALUOp::Xor32 => Some(0xebf7),
+        ALUOp::Xor64 => Some(0xebe7),
+        _ => None,
+    }
+}
+
+// An operator on a register and an operand in memory, where it has a row.
+#[tactic(auto, using(crate::proofs::Storing::reused_encodes))]
+fn operate(op: ALUOp, rd: Reg, ri: Reg, operand: MemArg) -> Option<MemoryInst>
+    ensures row { option_map memory_of result ≡ memory (Inst.AluRX op rd ri operand) }
+    ensures encodes { IfSome result (λ x. (not x.fine || rows_encode x.rows) ≡ true) }
+{
+    let rx = alu_rx(op);
+    let rxy = alu_rxy(op);
+    if rx.is_none() && rxy.is_none() {
+        return None;
+    }
+    Some(MemoryInst {
+        rows: StorageRows::OneRegister {
+            register: rd,
+            rx,
+            rxy,
+            ril: None,
+        },
+        operand,
+        accesses: true,
+        fine: is_reused(&rd, &ri),
+        reads_scratch: is_numbered(1, &ri),
+    })
+}
+
+// A comparison of a register with an operand in memory.
+#[tactic(auto, using(crate::proofs::Storing::register_encodes))]
+fn compare(op: CmpOp, rn: Reg, operand: MemArg) -> Option<MemoryInst>
+    ensures row { option_map memory_of result ≡ memory (Inst.CmpRX op rn operand) }
+    ensures encodes { IfSome result (λ x. (not x.fine || rows_encode x.rows) ≡ true) }
+{
+    Some(MemoryInst {
+        rows: StorageRows::OneRegister {
+            register: rn,
+            rx: cmp_rx(op),
+            rxy: cmp_rxy(op),
+            ril: Some(cmp_ril(op)),
+        },
+        operand,
+        accesses: true,
+        fine: general(&rn),
+        reads_scratch: is_numbered(1, &rn),
+    })
+}
+
+// Whether the registers are real Int ones in order.
+fn is_range(first: &Reg, last: &Reg) -> bool
+    ensures { result ≡ is_range first.now last.now }
+{
+    two_general(first, last) && number(first) <= number(last)
+}
+
+// Whether `%r1` is one of the registers.
+fn holds_scratch(first: &Reg, last: &Reg) -> bool
+    ensures { result ≡ holds_scratch first.now last.now }
+{
+    number(first) <= 1 && 1 <= number(last)
+}
+
+// Registers that are loaded or stored one after another.
+#[tactic(auto, using(crate::proofs::Storing::range_encodes))]
+fn multiple(rt: Reg, rt2: Reg, rsy: u16, reads_scratch: bool, operand: MemArg) -> Option<MemoryInst>
+    ensures row { option_map memory_of result ≡ multiple rt rt2 rsy reads_scratch operand }
+    ensures encodes { IfSome result (λ x. (not x.fine || rows_encode x.rows) ≡ true) }
+{
+    Some(MemoryInst {
+        rows: StorageRows::TwoRegisters {
+            first: rt,
+            second: rt2,
+            rs: None,
+            rsy: Some(rsy),
+        },
+        operand,
+        accesses: true,
+        fine: is_range(&rt, &rt2),
+        reads_scratch,
+    })
+}
+
+// An operand in memory that is changed in one access, where the operator has a row.
+#[tactic(auto, using(crate::proofs::Storing::two_encode))]
+fn load_and_operate(op: ALUOp, rd: Reg, rn: Reg, operand: MemArg) -> Option<MemoryInst>
+    ensures row { option_map memory_of result ≡ load_and_operate (atomic_rsy op) rd rn operand }
+    ensures encodes { IfSome result (λ x. (not x.fine || rows_encode x.rows) ≡ true) }
+{
+    match atomic_rsy(op) {
+        Some(opcode) => Some(MemoryInst {
+            rows: StorageRows::TwoRegisters {
+                first: rd,
+                second: rn,
+                rs: None,
+                rsy: Some(opcode),
+            },
+            operand,
+            accesses: true,
+            fine: two_general(&rd, &rn),
+            reads_scratch: is_numbered(1, &rn),
+        }),
+        None => None,
+    }
+}
+
+// A comparison, and where it is equal a store, in one access.
+#[tactic(auto, using(crate::proofs::Storing::swap_encodes))]
+fn compare_and_swap(
+    rs: Option<u8>,
+    rsy: u16,
+    rd: Reg,
+    ri: Reg,
+    rn: Reg,
+    operand: MemArg,
+) -> Option<MemoryInst>
+    ensures row { option_map memory_of result ≡ compare_and_swap rs rsy rd ri rn operand }
+    ensures encodes { IfSome result (λ x. (not x.fine || rows_encode x.rows) ≡ true) }
+{
+    Some(MemoryInst {
+        rows: StorageRows::TwoRegisters {
+            first: rd,
+            second: rn,
+            rs,
+            rsy: Some(rsy),
+        },
+        operand,
+        accesses: true,
+        fine: is_reused(&rd, &ri) && general(&rn),
+        reads_scratch: is_numbered(1, &ri) || is_numbered(1, &rn),
+    })
+}
+
+fn find_operator(inst: &Inst) -> Option<MemoryInst>
+    ensures row { storage_group inst.now ≡ Operators → option_map memory_of result ≡ memory inst.now }
+    ensures encodes { IfSome result (λ x. (not x.fine || rows_encode x.rows) ≡ true) }
+{
+    match inst {
+        Inst::AluRX {
+            alu_op,
+            rd,
+            ri,
+            mem,
+        } => operate(*alu_op, rd.to_reg(), *ri, *mem),
+        Inst::CmpRX { op, rn, mem } => compare(*op, *rn, *mem),
+        Inst::LoadMultiple64 { rt, rt2, mem } => multiple(
+            rt.to_reg(),
+            rt2.to_reg(),
+            0xeb04,
+            false,
+            *mem,
+        ),
+        Inst::StoreMultiple64 { rt, rt2, mem } => multiple(
+            *rt,
+            *rt2,
+            0xeb24,
+            holds_scratch(rt, rt2),
+            *mem,
+        ),
+        Inst::AtomicRmw {
+            alu_op,
+            rd,
+            rn,
+            mem,
+        } => load_and_operate(*alu_op, rd.to_reg(), *rn, *mem),
+        Inst::AtomicCas32 { rd, ri, rn, mem } => compare_and_swap(
+            Some(0xba),
+            0xeb14,
+            rd.to_reg(),
+            *ri,
+            *rn,
+            *mem,
+        ),
+        Inst::AtomicCas64 { rd, ri, rn, mem } => compare_and_swap(
+            None,
+            0xeb30,
+            rd.to_reg(),
+            *ri,
+            *rn,
+            *mem,
+        ),
+        _ => None,
+    }
+}
+
+fn find_storage_group(inst: &Inst) -> StorageGroup
+    ensures { result ≡ storage_group inst.now }
+{
+    match inst {
+        Inst::Load32 { .. }
+        | Inst::Load32ZExt8 { .. }
+        | Inst::Load32SExt8 { .. }
+        | Inst::Load32ZExt16 { .. }
+        | Inst::Load32SExt16 { .. }
+        | Inst::Load64 { .. }
+        | Inst::Load64ZExt8 { .. }
+        | Inst::Load64SExt8 { .. }
+        | Inst::Load64ZExt16 { .. }
+        | Inst::Load64SExt16 { .. }
+        | Inst::Load64ZExt32 { .. }
+        | Inst::Load64SExt32 { .. }
+        | Inst::LoadRev16 { .. }
+        | Inst::LoadRev32 { .. }
+        | Inst::LoadRev64 { .. }
+        | Inst::LoadAddr { .. } => StorageGroup::Loads,
+        Inst::Store8 { .. }
+        | Inst::Store16 { .. }
+        | Inst::Store32 { .. }
+        | Inst::Store64 { .. }
+        | Inst::StoreRev16 { .. }
+        | Inst::StoreRev32 { .. }
+        | Inst::StoreRev64 { .. }
+        | Inst::StoreImm8 { .. }
+        | Inst::StoreImm16 { .. }
+        | Inst::StoreImm32SExt16 { .. }
+        | Inst::StoreImm64SExt16 { .. } => StorageGroup::Stores,
+        _ => StorageGroup::Operators,
+    }
+}
+
+/// The machine rows and the operand of an instruction with a memory operand, where it is one that is built.
+pub fn find_memory(inst: &Inst) -> Option<MemoryInst>
+    ensures row { option_map memory_of result ≡ memory inst.now }
+    ensures encodes { IfSome result (λ x. (not x.fine || rows_encode x.rows) ≡ true) }
+{
+    match find_storage_group(inst) {
+        StorageGroup::Loads => find_load(inst),
+        StorageGroup::Stores => find_store(inst),
+        StorageGroup::Operators => find_operator(inst),
+    }
+}

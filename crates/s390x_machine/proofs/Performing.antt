@@ -1,0 +1,252 @@
+-- The step can perform each row that has a meaning.
+use Rattle.std.proofs.Common.{◌≡◌, ℕ, zero, suc, ◌+◌, ◌*◌, ◌^◌, ◌<◌, ◌≤◌, Bool, true, false, ◌&&◌, ◌==◌, List, [], ◌∷◌, length, get_or, Option, Some, slice_index, refl, sym, ap, ◌∙◌, subst, arith, lit<, mod-eq_of_lt}
+use Rattle.std.specs.Prelude.{nat_le, nat_lt}
+use Rattle.std.proofs.lemmas.Bool.{and_parts, leb-true}
+use Rattle.std.proofs.lemmas.Nat.{shl_below}
+use Rattle.std.proofs.Math.Nat.{pow-le-pow_right}
+use Rattle.s390x_format.specs.declared.kind.FormatKind.{FormatKind}
+use Rattle.s390x_format.specs.declared.fields.Fields.{Fields}
+use Rattle.s390x_format.specs.declared.fields.Imm.{Imm}
+use Rattle.s390x_format.specs.declared.fields.Imm.TheVariants.{Unsigned, Signed16, Half16, Half32}
+use Rattle.s390x_format.specs.declared.row.MachineRow.{MachineRow}
+use Rattle.s390x_format.specs.declared.row.Allowed.{Allowed}
+use Rattle.s390x_format.specs.declared.row.Allowed.TheVariants.{Any, FirstMask, CountMode, ComparedLanes, DoublewordPair, RotateBits, RotateBitsOrTest, BitRange, ReplicatedLane}
+use Rattle.s390x_format.specs.Rows.{is_allowed}
+use Rattle.s390x_format.specs.declared.decoder.Decoded.{Decoded}
+use Rattle.s390x_format.specs.declared.table.TheConstants.{MACHINE_ROWS}
+use Rattle.s390x_format.specs.Formats.{layout_of}
+use Rattle.s390x_format.specs.Layout.{SlotsFit, width_of, parts_of, bits as part_bits}
+use Rattle.s390x_format.specs.View.{imm_of, imm_class_of, fields_of}
+use Rattle.s390x_format.specs.Reading.{no_row}
+use Rattle.s390x_format.specs.Fetch.{IsFetch, machine_rows}
+use Rattle.s390x_operations.specs.Numbers.{low}
+use Rattle.s390x_operations.specs.Bits.{IsWithin}
+use Rattle.s390x_operations.specs.declared.size.Size.{Size}
+use Rattle.s390x_operations.specs.declared.size.Size.TheVariants.{Halfword, Word, Doubleword}
+use Rattle.s390x_operations.specs.declared.size.Width.{Width}
+use Rattle.s390x_operations.specs.declared.size.Width.TheVariants.{Bits8, Bits16, Bits32, Bits64}
+use Rattle.s390x_machine.specs.Meanings.{register_field, meaning_of, meaning_in}
+use Rattle.s390x_machine.specs.Sound.{IsMeant, IsRoomy, HasRoom, HasRegisters, HasElement, CanPerform, register_bits, register_bound, is_vector_field, fits_field, has_registers, is_small, has_element, is_performed, are_performed, is_meant, is_within, is_unsigned, has_room, fits_operand}
+use Rattle.s390x_machine.specs.declared.meaning.Shape.{Shape}
+use Rattle.s390x_machine.specs.declared.meaning.Shape.TheVariants.{Register, ThreeRegisters, Indexed, IndexedAddress, Relative, RelativeAddress, Immediate, ThreeImmediate, ShiftedImmediate, Amount, AccessRegister}
+use Rattle.s390x_machine.specs.declared.meaning.SecondOperand.{SecondOperand}
+use Rattle.s390x_machine.specs.declared.meaning.Meaning.{Meaning}
+use Rattle.s390x_machine.specs.declared.meaning.Meaning.TheVariants.{Compute, Compare, MoveWhere, CountOnes, RotateThen, MultiplySigned, MultiplyLogical, DivideSigned, DivideLogical, CompareAndTrap, CompareImmediateAndTrap, FindLeftmostOne, PutAny, BranchToRegister, BranchRelative, Store, StoreByte, StoreImmediate, LoadMultiple, StoreMultiple, LoadAndOperate, CompareAndSwap, BranchAndSaveToRegister, BranchAndSaveRelative, Elements, ShiftElements, LoadVector, StoreVector, LoadLeft, StoreLeft, MoveLeft, RegisterToLeft, LeftToRegister, JoinRegisters, InsertElement, ExtractElement}
+
+-- ---- the table
+
+rows_performed : are_performed MACHINE_ROWS ≡ true
+unfolding are_performed layout_of meaning_of meaning_in parts_of part_bits
+rows_performed = refl
+
+each_row : (rows : List MachineRow) (i : ℕ) → are_performed rows ≡ true → i < length rows → is_performed (meaning_of (get_or rows i no_row).opcode) (get_or rows i no_row).format (get_or rows i no_row).allowed ≡ true
+unfolding are_performed
+each_row [] i h lt = absurd (omega arith)
+each_row (row ∷ rows) zero h lt = (and_parts (is_performed (meaning_of row.opcode) row.format row.allowed) (are_performed rows) h).0
+each_row (row ∷ rows) (suc i) h lt = each_row rows i (and_parts (is_performed (meaning_of row.opcode) row.format row.allowed) (are_performed rows) h).1 (omega arith)
+
+row_performed : (bytes : List ℕ) (d : Decoded) (h : IsFetch bytes d) → is_performed (meaning_of d.row.opcode) d.row.format (get_or MACHINE_ROWS h.reading.at no_row).allowed ≡ true
+unfolding machine_rows
+row_performed bytes d h =
+    let at = get_or MACHINE_ROWS h.reading.at no_row in
+    let there = each_row MACHINE_ROWS h.reading.at rows_performed h.reading.in_table in
+    ap (λ (o : ℕ). is_performed (meaning_of o) d.row.format at.allowed) h.reading.opcode ∙ ap (λ (k : FormatKind). is_performed (meaning_of at.opcode) k at.allowed) h.reading.format ∙ there
+
+-- ---- registers
+
+five_bits : (w x : ℕ) (v : Bool) → nat_le w (register_bits v) ≡ true → x < 2 ^ w → x < register_bound v
+five_bits w x true h lt = let up = pow-le-pow_right {n = 2} (lit< tt) {i = w} {j = 5} (leb-true w 5 h) in omega arith
+five_bits w x false h lt = let up = pow-le-pow_right {n = 2} (lit< tt) {i = w} {j = 4} (leb-true w 4 h) in omega arith
+
+four : (a b c d : Bool) → (a && b && c && d) ≡ true → (a ≡ true) × (b ≡ true) × (c ≡ true) × (d ≡ true)
+four true true true true h = (refl, refl, refl, refl)
+four true true true false h = cc
+four true true false d h = cc
+four true false c d h = cc
+four false b c d h = cc
+
+none_left : (v : Bool) → 0 < register_bound v
+none_left true = lit< tt
+none_left false = lit< tt
+
+registers : (meaning : Meaning) (format : FormatKind) (slots : List ℕ) → has_registers meaning format ≡ true → SlotsFit (layout_of format) slots → HasRegisters meaning (fields_of format slots)
+registers meaning format slots h fit = go
+  where
+    each : (fits_field meaning format 0 ≡ true) × (fits_field meaning format 1 ≡ true) × (fits_field meaning format 2 ≡ true) × (fits_field meaning format 3 ≡ true)
+    each = four (fits_field meaning format 0) (fits_field meaning format 1) (fits_field meaning format 2) (fits_field meaning format 3) h
+
+    go : (i : ℕ) → register_field (fields_of format slots) i < register_bound (is_vector_field meaning i)
+    go zero = five_bits (width_of 1 (layout_of format)) (slice_index slots 1) (is_vector_field meaning 0) each.0 (fit.1 1 (lit< tt))
+    go (suc zero) = five_bits (width_of 2 (layout_of format)) (slice_index slots 2) (is_vector_field meaning 1) each.1 (fit.1 2 (lit< tt))
+    go (suc (suc zero)) = five_bits (width_of 3 (layout_of format)) (slice_index slots 3) (is_vector_field meaning 2) each.2 (fit.1 3 (lit< tt))
+    go (suc (suc (suc zero))) = five_bits (width_of 4 (layout_of format)) (slice_index slots 4) (is_vector_field meaning 3) each.3 (fit.1 4 (lit< tt))
+    go (suc (suc (suc (suc i)))) = none_left (is_vector_field meaning (suc (suc (suc (suc i)))))
+
+-- ---- masks
+
+small_mask : (allowed : Allowed) (slots : List ℕ) → is_small allowed ≡ true → is_allowed allowed slots ≡ true → slice_index slots 5 ≤ 3
+small_mask (FirstMask low high) slots h ok =
+    let each = four (nat_le low (slice_index slots 5)) (nat_le (slice_index slots 5) high) (slice_index slots 6 == 0) (slice_index slots 7 == 0) ok in
+    let up = leb-true (slice_index slots 5) high each.1 in
+    let few = leb-true high 3 h in
+    omega arith
+small_mask Any slots h ok = cc
+small_mask CountMode slots h ok = cc
+small_mask ComparedLanes slots h ok = cc
+small_mask DoublewordPair slots h ok = cc
+small_mask RotateBits slots h ok = cc
+small_mask RotateBitsOrTest slots h ok = cc
+small_mask BitRange slots h ok = cc
+small_mask ReplicatedLane slots h ok = cc
+
+-- ---- immediates
+
+plain_immediate : (class : Imm) (x : ℕ) → is_unsigned class ≡ true → x < 2 ^ 64 → low Doubleword (imm_of class x) ≡ x
+plain_immediate Unsigned x h lt = mod-eq_of_lt lt
+plain_immediate Signed16 x h lt = cc
+plain_immediate Half16 x h lt = cc
+plain_immediate Half32 x h lt = cc
+
+room_left : (class : Imm) (n w x : ℕ) → is_unsigned class ≡ true → n + w ≤ 64 → x < 2 ^ w → low Doubleword (imm_of class x) * 2 ^ n < 2 ^ 64
+room_left class n w x h fits lt =
+    let up = pow-le-pow_right {n = 2} (lit< tt) {i = w} {j = 64} (omega arith) in
+    let whole_up = pow-le-pow_right {n = 2} (lit< tt) {i = w + n} {j = 64} (omega arith) in
+    let below = shl_below x w n lt in
+    subst (λ k. k * 2 ^ n < 2 ^ 64) (sym (plain_immediate class x h (omega arith))) (omega arith)
+
+room : (shape : Shape) (format : FormatKind) (slots : List ℕ) → has_room shape format ≡ true → SlotsFit (layout_of format) slots → HasRoom shape (fields_of format slots)
+room (ShiftedImmediate n) format slots h fit =
+    let w = width_of 8 (layout_of format) in
+    let outer = and_parts (nat_lt n 64 && nat_le (n + w) 64) (is_unsigned (imm_class_of format)) h in
+    let inner = and_parts (nat_lt n 64) (nat_le (n + w) 64) outer.0 in
+    (leb-true (suc n) 64 inner.0, room_left (imm_class_of format) n w (slice_index slots 8) outer.1 (leb-true (n + w) 64 inner.1) (fit.1 8 (lit< tt)))
+room Register format slots h fit = tt
+room ThreeRegisters format slots h fit = tt
+room Indexed format slots h fit = tt
+room IndexedAddress format slots h fit = tt
+room Relative format slots h fit = tt
+room RelativeAddress format slots h fit = tt
+room Immediate format slots h fit = tt
+room ThreeImmediate format slots h fit = tt
+room Amount format slots h fit = tt
+room AccessRegister format slots h fit = tt
+
+-- ---- widths
+
+within : (width : Width) (size : Size) → is_within width size ≡ true → IsWithin width size
+within Bits8 Halfword h = omega arith
+within Bits16 Halfword h = omega arith
+within Bits32 Halfword h = cc
+within Bits64 Halfword h = cc
+within Bits8 Word h = omega arith
+within Bits16 Word h = omega arith
+within Bits32 Word h = omega arith
+within Bits64 Word h = cc
+within Bits8 Doubleword h = omega arith
+within Bits16 Doubleword h = omega arith
+within Bits32 Doubleword h = omega arith
+within Bits64 Doubleword h = omega arith
+
+-- ---- meanings
+
+operand_fits : (second : SecondOperand) (size : Size) (format : FormatKind) (slots : List ℕ) → fits_operand second size format ≡ true → SlotsFit (layout_of format) slots → IsWithin second.width size × HasRoom second.shape (fields_of format slots)
+operand_fits second size format slots h fit =
+    let parts = and_parts (is_within second.width size) (has_room second.shape format) h in
+    (within second.width size parts.0, room second.shape format slots parts.1 fit)
+
+meant : (meaning : Meaning) (format : FormatKind) (slots : List ℕ) → is_meant meaning format ≡ true → SlotsFit (layout_of format) slots → IsMeant meaning × IsRoomy meaning (fields_of format slots)
+meant (Compute operator size second rule) format slots h fit = operand_fits second size format slots h fit
+meant (Compare sign size second) format slots h fit = operand_fits second size format slots h fit
+meant (MoveWhere size second) format slots h fit = operand_fits second size format slots h fit
+meant (Store destination) format slots h fit = (tt, room destination.shape format slots h fit)
+meant CountOnes format slots h fit = (tt, tt)
+meant (RotateThen operator rule) format slots h fit = (tt, tt)
+meant MultiplySigned format slots h fit = (tt, tt)
+meant MultiplyLogical format slots h fit = (tt, tt)
+meant (DivideSigned width) format slots h fit = (tt, tt)
+meant (DivideLogical size) format slots h fit = (tt, tt)
+meant (CompareAndTrap sign size) format slots h fit = (tt, tt)
+meant (CompareImmediateAndTrap sign size) format slots h fit = (tt, tt)
+meant FindLeftmostOne format slots h fit = (tt, tt)
+meant PutAny format slots h fit = (tt, tt)
+meant BranchToRegister format slots h fit = (tt, tt)
+meant BranchRelative format slots h fit = (tt, tt)
+meant StoreByte format slots h fit = (tt, tt)
+meant (StoreImmediate width) format slots h fit = (tt, tt)
+meant LoadMultiple format slots h fit = (tt, tt)
+meant StoreMultiple format slots h fit = (tt, tt)
+meant (LoadAndOperate operator size) format slots h fit = (tt, tt)
+meant (CompareAndSwap size) format slots h fit = (tt, tt)
+meant BranchAndSaveToRegister format slots h fit = (tt, tt)
+meant BranchAndSaveRelative format slots h fit = (tt, tt)
+meant (Elements opcode) format slots h fit = (tt, tt)
+meant (ShiftElements opcode) format slots h fit = (tt, tt)
+meant (LoadVector storage) format slots h fit = (tt, tt)
+meant (StoreVector storage) format slots h fit = (tt, tt)
+meant (LoadLeft size) format slots h fit = (tt, tt)
+meant (StoreLeft size) format slots h fit = (tt, tt)
+meant (MoveLeft size) format slots h fit = (tt, tt)
+meant RegisterToLeft format slots h fit = (tt, tt)
+meant LeftToRegister format slots h fit = (tt, tt)
+meant JoinRegisters format slots h fit = (tt, tt)
+meant InsertElement format slots h fit = (tt, tt)
+meant ExtractElement format slots h fit = (tt, tt)
+
+element : (meaning : Meaning) (format : FormatKind) (allowed : Allowed) (slots : List ℕ) → has_element meaning allowed ≡ true → is_allowed allowed slots ≡ true → HasElement meaning (fields_of format slots)
+element ExtractElement format allowed slots h ok = small_mask allowed slots h ok
+element (Compute operator size second rule) format allowed slots h ok = tt
+element (Compare sign size second) format allowed slots h ok = tt
+element (MoveWhere size second) format allowed slots h ok = tt
+element (Store destination) format allowed slots h ok = tt
+element CountOnes format allowed slots h ok = tt
+element (RotateThen operator rule) format allowed slots h ok = tt
+element MultiplySigned format allowed slots h ok = tt
+element MultiplyLogical format allowed slots h ok = tt
+element (DivideSigned width) format allowed slots h ok = tt
+element (DivideLogical size) format allowed slots h ok = tt
+element (CompareAndTrap sign size) format allowed slots h ok = tt
+element (CompareImmediateAndTrap sign size) format allowed slots h ok = tt
+element FindLeftmostOne format allowed slots h ok = tt
+element PutAny format allowed slots h ok = tt
+element BranchToRegister format allowed slots h ok = tt
+element BranchRelative format allowed slots h ok = tt
+element StoreByte format allowed slots h ok = tt
+element (StoreImmediate width) format allowed slots h ok = tt
+element LoadMultiple format allowed slots h ok = tt
+element StoreMultiple format allowed slots h ok = tt
+element (LoadAndOperate operator size) format allowed slots h ok = tt
+element (CompareAndSwap size) format allowed slots h ok = tt
+element BranchAndSaveToRegister format allowed slots h ok = tt
+element BranchAndSaveRelative format allowed slots h ok = tt
+element (Elements opcode) format allowed slots h ok = tt
+element (ShiftElements opcode) format allowed slots h ok = tt
+element (LoadVector storage) format allowed slots h ok = tt
+element (StoreVector storage) format allowed slots h ok = tt
+element (LoadLeft size) format allowed slots h ok = tt
+element (StoreLeft size) format allowed slots h ok = tt
+element (MoveLeft size) format allowed slots h ok = tt
+element RegisterToLeft format allowed slots h ok = tt
+element LeftToRegister format allowed slots h ok = tt
+element JoinRegisters format allowed slots h ok = tt
+element InsertElement format allowed slots h ok = tt
+
+three : (a b c : Bool) → (a && b && c) ≡ true → (a ≡ true) × (b ≡ true) × (c ≡ true)
+three true true true h = (refl, refl, refl)
+three true true false h = cc
+three true false c h = cc
+three false b c h = cc
+
+-- what is fetched of a row with a meaning can be performed
+pub can_perform : (bytes : List ℕ) (d : Decoded) (meaning : Meaning) → IsFetch bytes d → meaning_of d.row.opcode ≡ Some meaning → CanPerform meaning d.fields
+unfolding machine_rows
+can_perform bytes d meaning h is =
+    let at = get_or MACHINE_ROWS h.reading.at no_row in
+    let done = sym (ap (λ (m : Option Meaning). is_performed m d.row.format at.allowed) is) ∙ row_performed bytes d h in
+    let parts = three (is_meant meaning d.row.format) (has_registers meaning d.row.format) (has_element meaning at.allowed) done in
+    let both = meant meaning d.row.format h.slots parts.0 h.reading.fit in
+    record {
+      meant = both.0;
+      registers = subst (λ (f : Fields). HasRegisters meaning f) (sym h.fields) (registers meaning d.row.format h.slots parts.1 h.reading.fit);
+      room = subst (λ (f : Fields). IsRoomy meaning f) (sym h.fields) both.1;
+      element = subst (λ (f : Fields). HasElement meaning f) (sym h.fields) (element meaning d.row.format at.allowed h.slots parts.2 h.reading.allowed);
+    }

@@ -1,0 +1,117 @@
+-- A memory of regions: the first region that has an address is the one that counts.
+use Rattle.std.proofs.Common.{◌≡◌, ◌≢◌, ℕ, zero, suc, ◌-◌, ◌<◌, Bool, true, false, ◌&&◌, ◌||◌, ◌==◌, if◌then◌else◌, List, [], ◌∷◌, Option, Some, None, length, get_or, slice_index, refl, sym, ap, ◌∙◌, arith, true≢false}
+use Rattle.std.specs.Prelude.{nat_le, nat_lt, slice_set, MatchOption}
+use Rattle.std.specs.Option.{is_some}
+use Rattle.std.proofs.lemmas.Bool.{and_parts, leb-true, eqb-true, eqb-false}
+use Rattle.std.proofs.lemmas.List.{get_or-set_same, get_or-set_other, length-set}
+use Rattle.s390x_operations.specs.State.{update}
+use Rattle.s390x_machine.specs.Regions.{contains, held_in, byte_in}
+use Rattle.s390x_machine.specs.declared.flat.Region.{Region}
+
+-- none of the first i regions has the address
+abbrev pub NoneBefore : List Region → ℕ → ℕ → Type 0
+NoneBefore rs a i = (k : ℕ) (z : Region) → k < i → contains (get_or rs k z) a ≡ false
+
+later : (r : Region) (rs : List Region) (a i : ℕ) → NoneBefore (r ∷ rs) a (suc i) → NoneBefore rs a i
+later r rs a i h k z lt = h (suc k) z (omega arith)
+
+pub held_nowhere : (rs : List Region) (a : ℕ) → NoneBefore rs a (length rs) → held_in rs a ≡ false
+unfolding held_in
+held_nowhere [] a h = refl
+held_nowhere (r ∷ rs) a h = ap (λ b. b || held_in rs a) (h 0 r (omega arith)) ∙ held_nowhere rs a (later r rs a (length rs) h)
+
+pub held_here : (rs : List Region) (a i : ℕ) (z : Region) → i < length rs → NoneBefore rs a i → contains (get_or rs i z) a ≡ true → held_in rs a ≡ true
+unfolding held_in
+held_here [] a i z lt h here = absurd (omega arith)
+held_here (r ∷ rs) a zero z lt h here = ap (λ b. b || held_in rs a) here
+held_here (r ∷ rs) a (suc i) z lt h here = ap (λ b. b || held_in rs a) (h 0 z (omega arith)) ∙ held_here rs a i z (omega arith) (later r rs a i h) here
+
+pub byte_here : (rs : List Region) (a i : ℕ) (z : Region) → i < length rs → NoneBefore rs a i → contains (get_or rs i z) a ≡ true → byte_in rs a ≡ slice_index (get_or rs i z).bytes.items (a - (get_or rs i z).start)
+unfolding byte_in
+byte_here [] a i z lt h here = absurd (omega arith)
+byte_here (r ∷ rs) a zero z lt h here = ap (λ b. if b then slice_index r.bytes.items (a - r.start) else byte_in rs a) here
+byte_here (r ∷ rs) a (suc i) z lt h here = ap (λ b. if b then slice_index r.bytes.items (a - r.start) else byte_in rs a) (h 0 z (omega arith)) ∙ byte_here rs a i z (omega arith) (later r rs a i h) here
+
+-- the address lies in the region
+pub inside : (r : Region) (a : ℕ) → contains r a ≡ true → a - r.start < length r.bytes.items
+inside r a here = leb-true (suc (a - r.start)) (length r.bytes.items) (and_parts (nat_le r.start a) (nat_lt (a - r.start) (length r.bytes.items)) here).1
+
+-- region i is the first that has the address
+abbrev pub IsHolder : List Region → ℕ → ℕ → Type 0
+IsHolder rs a i = (i < length rs) × ((z : Region) → contains (get_or rs i z) a ≡ true) × NoneBefore rs a i
+
+pub has_some : (rs : List Region) (a : ℕ) (o : Option ℕ) → MatchOption o (held_in rs a ≡ false) (λ i. IsHolder rs a i) → is_some o ≡ held_in rs a
+has_some rs a None h = sym h
+has_some [] a (Some i) h = absurd (omega (arith, h.0))
+has_some (r ∷ rs) a (Some i) h = sym (held_here (r ∷ rs) a i r h.0 h.2 (h.1 r))
+
+-- ---- a byte is changed
+
+-- the region, with a byte changed
+pub record IsChanged (r new : Region) (a v : ℕ) : Type 0 where
+  pub start : new.start ≡ r.start
+  pub bytes : new.bytes.items ≡ slice_set r.bytes.items (a - r.start) v
+
+same_addresses : (r new : Region) (a v b : ℕ) → IsChanged r new a v → contains new b ≡ contains r b
+same_addresses r new a v b c =
+    let long : length new.bytes.items ≡ length r.bytes.items = ap (λ (bs : List ℕ). length bs) c.bytes ∙ length-set r.bytes.items (a - r.start) v in
+    ap (λ s. nat_le s b && nat_lt (b - s) (length new.bytes.items)) c.start ∙ ap (λ n. nat_le r.start b && nat_lt (b - r.start) n) long
+
+pub held_after : (rs : List Region) (i a v : ℕ) (z new : Region) (b : ℕ) → IsChanged (get_or rs i z) new a v → i < length rs → held_in (slice_set rs i new) b ≡ held_in rs b
+unfolding held_in
+held_after [] i a v z new b c lt = absurd (omega arith)
+held_after (r ∷ rs) zero a v z new b c lt = ap (λ x. x || held_in rs b) (same_addresses r new a v b c)
+held_after (r ∷ rs) (suc i) a v z new b c lt = ap (λ x. contains r b || x) (held_after rs i a v z new b c (omega arith))
+
+-- the byte that is changed, in its region
+byte_changed : (r new : Region) (a v b : ℕ) → IsChanged r new a v → contains r a ≡ true → b ≡ a → slice_index new.bytes.items (b - new.start) ≡ v
+byte_changed r new a v b c here e =
+    ap (λ n. slice_index new.bytes.items (n - new.start)) e
+    ∙ ap (λ s. slice_index new.bytes.items (a - s)) c.start
+    ∙ ap (λ (bs : List ℕ). slice_index bs (a - r.start)) c.bytes
+    ∙ get_or-set_same r.bytes.items (a - r.start) v 0 (inside r a here)
+
+-- another one in it
+byte_kept : (r new : Region) (a v b : ℕ) → IsChanged r new a v → contains r a ≡ true → contains r b ≡ true → b ≢ a → slice_index new.bytes.items (b - new.start) ≡ slice_index r.bytes.items (b - r.start)
+byte_kept r new a v b c here there ne =
+    let low = leb-true r.start a (and_parts (nat_le r.start a) (nat_lt (a - r.start) (length r.bytes.items)) here).0 in
+    let low_too = leb-true r.start b (and_parts (nat_le r.start b) (nat_lt (b - r.start) (length r.bytes.items)) there).0 in
+    ap (λ s. slice_index new.bytes.items (b - s)) c.start
+    ∙ ap (λ (bs : List ℕ). slice_index bs (b - r.start)) c.bytes
+    ∙ get_or-set_other r.bytes.items (a - r.start) (b - r.start) v 0 (λ e. ne (omega (arith, e, low, low_too)))
+
+first_after : (r new : Region) (rs : List Region) (a v b : ℕ) → IsChanged r new a v → contains r a ≡ true → (same : Bool) → (b == a) ≡ same → (in_region : Bool) → contains r b ≡ in_region →
+    (if in_region then slice_index new.bytes.items (b - new.start) else byte_in rs b) ≡ (if same then v else (if in_region then slice_index r.bytes.items (b - r.start) else byte_in rs b))
+first_after r new rs a v b c here true e true there = byte_changed r new a v b c here (eqb-true b a e)
+first_after r new rs a v b c here true e false there = absurd (true≢false (sym here ∙ ap (λ n. contains r n) (sym (eqb-true b a e)) ∙ there))
+first_after r new rs a v b c here false e true there = byte_kept r new a v b c here there (eqb-false b a e)
+first_after r new rs a v b c here false e false there = refl
+
+rest_after : (r : Region) (rs ss : List Region) (a v b : ℕ) → contains r a ≡ false → byte_in ss b ≡ update (byte_in rs) a v b → (same : Bool) → (b == a) ≡ same → (in_region : Bool) → contains r b ≡ in_region →
+    (if in_region then slice_index r.bytes.items (b - r.start) else byte_in ss b) ≡ (if same then v else (if in_region then slice_index r.bytes.items (b - r.start) else byte_in rs b))
+rest_after r rs ss a v b out h true e true there = absurd (true≢false (sym there ∙ ap (λ n. contains r n) (eqb-true b a e) ∙ out))
+rest_after r rs ss a v b out h true e false there = h ∙ ap (λ x. if x then v else byte_in rs b) e
+rest_after r rs ss a v b out h false e true there = refl
+rest_after r rs ss a v b out h false e false there = h ∙ ap (λ x. if x then v else byte_in rs b) e
+
+pub byte_after : (rs : List Region) (i a v : ℕ) (z new : Region) (b : ℕ) → IsChanged (get_or rs i z) new a v → i < length rs → NoneBefore rs a i → contains (get_or rs i z) a ≡ true → byte_in (slice_set rs i new) b ≡ update (byte_in rs) a v b
+unfolding byte_in
+byte_after [] i a v z new b c lt h here = absurd (omega arith)
+byte_after (r ∷ rs) zero a v z new b c lt h here =
+    ap (λ x. if x then slice_index new.bytes.items (b - new.start) else byte_in rs b) (same_addresses r new a v b c) ∙ first_after r new rs a v b c here (b == a) refl (contains r b) refl
+byte_after (r ∷ rs) (suc i) a v z new b c lt h here =
+    rest_after r rs (slice_set rs i new) a v b (h 0 z (omega arith)) (byte_after rs i a v z new b c (omega arith) (later r rs a i h) here) (b == a) refl (contains r b) refl
+
+-- ---- a region is added
+
+pub held_added : (r : Region) (rs : List Region) (a : ℕ) → held_in (r ∷ rs) a ≡ (contains r a || held_in rs a)
+unfolding held_in
+held_added r rs a = refl
+
+pub byte_added : (r : Region) (rs : List Region) (a : ℕ) → byte_in (r ∷ rs) a ≡ (if contains r a then slice_index r.bytes.items (a - r.start) else byte_in rs a)
+unfolding byte_in
+byte_added r rs a = refl
+
+pub none_held : (a : ℕ) → held_in [] a ≡ false
+unfolding held_in
+none_held a = refl

@@ -1,0 +1,257 @@
+-- A step with an operand in memory: its helpers, which write `%r1` alone, and then its access.
+use Rattle.std.proofs.Common.{◌≡◌, ℕ, suc, ◌+◌, ◌-◌, ◌%◌, ◌^◌, ◌<◌, ◌≤◌, List, [], ◌∷◌, ◌++◌, length, Option, Some, None, Bool, true, false, cond, refl, sym, ap, ◌∙◌, subst, arith, slice_get}
+use Rattle.std.specs.Prelude.{ℤ, pos, negsuc, ◌≤ℤ◌}
+use Rattle.std.proofs.lemmas.Bool.{eq-eqb}
+use Rattle.std.proofs.lemmas.Option.{slice_get_within}
+use Rattle.s390x_base.specs.Regs.{number_of}
+use Rattle.s390x_base.specs.declared.regs.Reg.{Reg}
+use Rattle.s390x_base.specs.declared.ir.MachMemFlags.{MachMemFlags}
+use Rattle.s390x_base.specs.declared.trap.TrapKind.{TrapKind}
+use Rattle.s390x_inst.specs.declared.args.MemArg.{MemArg}
+use Rattle.s390x_inst.specs.declared.args.MemArg.TheVariants.{BXD12, BXD20}
+use Rattle.s390x_format.specs.declared.kind.FormatKind.{FormatKind}
+use Rattle.s390x_format.specs.declared.kind.FormatKind.TheVariants.{Rx, Rxy, Rs, Rsy, Si, Siy, Sil}
+use Rattle.s390x_format.specs.declared.row.Allowed.TheVariants.{Any}
+use Rattle.s390x_format.specs.Formats.{length_of}
+use Rattle.s390x_format.specs.View.{fields_of, disp_of}
+use Rattle.s390x_format.proofs.Encoding.{encode-length}
+use Rattle.s390x_steps.specs.General.{low_12, low_displacement}
+use Rattle.s390x_steps.specs.MachineInstruction.{MachineInstruction, bytes_of, size_of, rx, rxy, rs, rsy, si, siy, sil}
+use Rattle.s390x_steps.specs.Memory.{StorageForm, RxForm, RsForm, SiForm, SilForm, type_of, storage_row}
+use Rattle.s390x_steps.specs.Parts.{Part, Row, parts_size, access_parts, step_parts}
+use Rattle.s390x_steps.specs.Steps.{Step}
+use Rattle.s390x_steps.specs.Traps.{parts_traps, first_code}
+use Rattle.s390x_operations.specs.State.{Registers, Core, put, sum64}
+use Rattle.s390x_operations.specs.Bits.{extended}
+use Rattle.s390x_operations.specs.declared.effect.CodeRule.TheVariants.{Kept}
+use Rattle.s390x_operations.specs.declared.effect.Operation.{Operation}
+use Rattle.s390x_operations.specs.declared.operator.Operator.TheVariants.{Move}
+use Rattle.s390x_operations.specs.declared.size.Size.TheVariants.{Doubleword}
+use Rattle.s390x_operations.specs.declared.stop.StopKind.{StopKind}
+use Rattle.s390x_operations.specs.declared.stop.StopKind.TheVariants as Stop
+use Rattle.s390x_machine.specs.declared.meaning.Meaning.{Meaning}
+use Rattle.s390x_machine.specs.declared.meaning.Action.TheVariants.{Perform}
+use Rattle.s390x_machine.specs.Computations.{Second, with_second, computes_immediate}
+use Rattle.s390x_machine.specs.Forms.{access_code}
+use Rattle.s390x_machine.specs.Layout.{Layout}
+use Rattle.s390x_machine.specs.Machine.{Turn}
+use Rattle.s390x_machine.specs.Meanings.{action}
+use Rattle.s390x_machine.specs.Operands.{indexed, based}
+use Rattle.s390x_machine.specs.Placed.{Placed, AllPlaced}
+use Rattle.s390x_machine.proofs.Addresses.{sum_more}
+use Rattle.s390x_machine.proofs.Alone.{Meant, OpcodeRow, OpcodeRows, meant_at}
+use Rattle.s390x_machine.proofs.Composites.{row_then, compute_changes}
+use Rattle.s390x_machine.proofs.Fetching.{StandsAt, size_even}
+use Rattle.s390x_machine.proofs.Operands.{read_12, read_20, bits_12, based_indexed}
+use Rattle.s390x_machine.proofs.Rows.{fits_rx, fits_rxy, fits_rs, fits_rsy, fits_si, fits_siy, fits_sil}
+use Rattle.s390x_machine.proofs.Simulation.{RowAt, Inside, Simulates, Coded}
+use Rattle.s390x_machine.proofs.Standing.{PartsStand, step_stands, offset_even}
+use Rattle.s390x_machine.proofs.Trapping.{within_image}
+
+-- ---- rows with an operand in memory
+
+-- the action of a row with a base, an index and a displacement
+abbrev pub IndexedActs : (register : ℕ) → Meaning → (ℕ → Registers → Operation) → Type 0
+IndexedActs register meaning operation = (kind : FormatKind) (opcode base index d : ℕ) (r : Registers) (p : ℕ) →
+    action meaning (fields_of kind (opcode ∷ register ∷ base ∷ index ∷ 0 ∷ 0 ∷ 0 ∷ 0 ∷ 0 ∷ d ∷ [])) r p ≡ Perform (operation (indexed r base index (disp_of d)) r)
+
+-- the rows of an instruction with a register, and what they do with the memory at an address
+pub record IndexedForm (register : ℕ) (short long : Option ℕ) (operation : ℕ → Registers → Operation) : Type 0 where
+  pub few : register < 16
+  pub meaning : Meaning
+  pub short_rows : OpcodeRows Rx 256 short meaning
+  pub long_rows : OpcodeRows Rxy 65536 long meaning
+  pub acts : IndexedActs register meaning operation
+
+-- with two registers and no index
+pub record BasedForm (first second : ℕ) (short long : Option ℕ) (operation : ℕ → Registers → Operation) : Type 0 where
+  pub few : first < 16
+  pub few_second : second < 16
+  pub meaning : Meaning
+  pub short_rows : OpcodeRows Rs 256 short meaning
+  pub long_rows : OpcodeRows Rsy 65536 long meaning
+  pub acts : (kind : FormatKind) (opcode base d : ℕ) (r : Registers) (p : ℕ) → action meaning (fields_of kind (opcode ∷ first ∷ second ∷ base ∷ 0 ∷ 0 ∷ 0 ∷ 0 ∷ 0 ∷ d ∷ [])) r p ≡ Perform (operation (based r base (disp_of d)) r)
+
+-- with an immediate of 8 bits
+pub record ByteForm (imm short long : ℕ) (operation : ℕ → Registers → Operation) : Type 0 where
+  pub few : imm < 256
+  pub meaning : Meaning
+  pub short_row : OpcodeRow Si 256 short meaning
+  pub long_row : OpcodeRow Siy 65536 long meaning
+  pub acts : (kind : FormatKind) (opcode base d : ℕ) (r : Registers) (p : ℕ) → action meaning (fields_of kind (opcode ∷ base ∷ 0 ∷ 0 ∷ 0 ∷ imm ∷ 0 ∷ 0 ∷ 0 ∷ d ∷ [])) r p ≡ Perform (operation (based r base (disp_of d)) r)
+
+-- with the bits of an immediate of 16 bits
+pub record HalfwordForm (bits opcode : ℕ) (operation : ℕ → Registers → Operation) : Type 0 where
+  pub few : bits < 2 ^ 16
+  pub meaning : Meaning
+  pub row : OpcodeRow Sil 65536 opcode meaning
+  pub acts : (base d : ℕ) (r : Registers) (p : ℕ) → action meaning (fields_of Sil (opcode ∷ base ∷ 0 ∷ 0 ∷ 0 ∷ 0 ∷ 0 ∷ 0 ∷ bits ∷ d ∷ [])) r p ≡ Perform (operation (based r base (disp_of d)) r)
+
+abbrev pub FormDoes : StorageForm → (ℕ → Registers → Operation) → Type 0
+FormDoes (RxForm register short long relative) operation = IndexedForm register short long operation
+FormDoes (RsForm first second short long) operation = BasedForm first second short long operation
+FormDoes (SiForm imm short long) operation = ByteForm imm short long operation
+FormDoes (SilForm bits opcode) operation = HalfwordForm bits opcode operation
+
+as_meant : (kind : FormatKind) (digits opcode : ℕ) (meaning : Meaning) → digits ≤ 65536 → OpcodeRow kind digits opcode meaning → Meant kind Any opcode meaning
+as_meant kind digits opcode meaning le row = record { some = row.some; few = omega (arith, row.few, le); lists = row.lists; means = row.means; single = row.single }
+
+-- an operand that stands in a row as it is, and the address there
+pub record Stands (L : Layout) (form : StorageForm) (operand : MemArg) (operation : ℕ → Registers → Operation) (address : Registers → ℕ) : Type 0 where
+  pub m : MachineInstruction
+  pub is : storage_row form operand ≡ Some m
+  pub some : 0 < size_of m
+  pub row : (offset : ℕ) → offset % 2 ≡ 0 → StandsAt L.image offset (bytes_of m) → RowAt L (sum64 L.image.base offset) (λ r. Perform (operation (address r) r)) (size_of m)
+
+-- an index may stand there, or there is none
+abbrev pub MayIndex : StorageForm → ℕ → Type 0
+MayIndex (RxForm register short long relative) index = Unit {0}
+MayIndex (RsForm first second short long) index = index ≡ 0
+MayIndex (SiForm imm short long) index = index ≡ 0
+MayIndex (SilForm bits opcode) index = index ≡ 0
+
+module _ (L : Layout) (all : AllPlaced L) (operation : ℕ → Registers → Operation) where
+  -- a row of a base and a displacement does it, where there is no index
+  unindexed : (r : Registers) (base index n : ℕ) (z : ℤ) → disp_of n ≡ z → index ≡ 0 → Perform (operation (based r base (disp_of n)) r) ≡ Perform (operation (indexed r base index z) r)
+  unindexed r base index n z e none = ap (λ a. Perform (operation a r)) (ap (based r base) e ∙ sym (based_indexed r base z) ∙ ap (λ i. indexed r base i z) (sym none))
+
+  pub stands_12 : (form : StorageForm) → FormDoes form operation → (accesses : Bool) → (type_of form accesses).have_d12 ≡ true → (base index : Reg) (d : ℕ) (flags : MachMemFlags) → number_of base < 16 → number_of index < 16 → MayIndex form (number_of index) → d ≤ 4095 → Stands L form (BXD12 base index d flags) operation (λ r. indexed r (number_of base) (number_of index) (pos d))
+  unfolding length_of
+  stands_12 (RxForm register None long relative) does accesses have base index d flags lb li may le = absurd (cc)
+  stands_12 (RxForm register (Some opcode) long relative) does accesses have base index d flags lb li may le = record {
+    m = rx opcode register (number_of base) (number_of index) (low_12 d);
+    is = refl;
+    some = omega arith;
+    row = λ offset even st. meant_at L all offset even Rx Any opcode (register ∷ number_of base ∷ number_of index ∷ 0 ∷ 0 ∷ 0 ∷ 0 ∷ 0 ∷ low_12 d ∷ []) does.meaning (λ r. operation (indexed r (number_of base) (number_of index) (pos d)) r) (as_meant Rx 256 opcode does.meaning (omega arith) does.short_rows) (fits_rx opcode register (number_of base) (number_of index) (low_12 d) does.short_rows.few does.few lb li (bits_12 d)) refl (λ r p.
+        does.acts Rx opcode (number_of base) (number_of index) (low_12 d) r p ∙ ap (λ z. Perform (operation (indexed r (number_of base) (number_of index) z) r)) (read_12 d le)) st;
+  }
+  stands_12 (RsForm first second None long) does accesses have base index d flags lb li may le = absurd (cc)
+  stands_12 (RsForm first second (Some opcode) long) does accesses have base index d flags lb li may le = record {
+    m = rs opcode first second (number_of base) (low_12 d);
+    is = refl;
+    some = omega arith;
+    row = λ offset even st. meant_at L all offset even Rs Any opcode (first ∷ second ∷ number_of base ∷ 0 ∷ 0 ∷ 0 ∷ 0 ∷ 0 ∷ low_12 d ∷ []) does.meaning (λ r. operation (indexed r (number_of base) (number_of index) (pos d)) r) (as_meant Rs 256 opcode does.meaning (omega arith) does.short_rows) (fits_rs opcode first second (number_of base) (low_12 d) does.short_rows.few does.few does.few_second lb (bits_12 d)) refl (λ r p.
+        does.acts Rs opcode (number_of base) (low_12 d) r p ∙ unindexed r (number_of base) (number_of index) (low_12 d) (pos d) (read_12 d le) may) st;
+  }
+  stands_12 (SiForm imm opcode long) does accesses have base index d flags lb li may le = record {
+    m = si opcode (number_of base) (low_12 d) imm;
+    is = refl;
+    some = omega arith;
+    row = λ offset even st. meant_at L all offset even Si Any opcode (number_of base ∷ 0 ∷ 0 ∷ 0 ∷ imm ∷ 0 ∷ 0 ∷ 0 ∷ low_12 d ∷ []) does.meaning (λ r. operation (indexed r (number_of base) (number_of index) (pos d)) r) (as_meant Si 256 opcode does.meaning (omega arith) does.short_row) (fits_si opcode (number_of base) (low_12 d) imm does.short_row.few lb (bits_12 d) does.few) refl (λ r p.
+        does.acts Si opcode (number_of base) (low_12 d) r p ∙ unindexed r (number_of base) (number_of index) (low_12 d) (pos d) (read_12 d le) may) st;
+  }
+  stands_12 (SilForm bits opcode) does accesses have base index d flags lb li may le = record {
+    m = sil opcode (number_of base) (low_12 d) bits;
+    is = refl;
+    some = omega arith;
+    row = λ offset even st. meant_at L all offset even Sil Any opcode (number_of base ∷ 0 ∷ 0 ∷ 0 ∷ 0 ∷ 0 ∷ 0 ∷ bits ∷ low_12 d ∷ []) does.meaning (λ r. operation (indexed r (number_of base) (number_of index) (pos d)) r) (as_meant Sil 65536 opcode does.meaning (omega arith) does.row) (fits_sil opcode (number_of base) (low_12 d) bits does.row.few lb (bits_12 d) does.few) refl (λ r p.
+        does.acts (number_of base) (low_12 d) r p ∙ unindexed r (number_of base) (number_of index) (low_12 d) (pos d) (read_12 d le) may) st;
+  }
+
+  pub stands_20 : (form : StorageForm) → FormDoes form operation → (accesses : Bool) → (type_of form accesses).have_d20 ≡ true → (base index : Reg) (z : ℤ) (flags : MachMemFlags) → number_of base < 16 → number_of index < 16 → MayIndex form (number_of index) → negsuc 524287 ≤ℤ z → z ≤ℤ pos 524287 → low_displacement z < 2 ^ 20 → Stands L form (BXD20 base index z flags) operation (λ r. indexed r (number_of base) (number_of index) z)
+  unfolding length_of
+  stands_20 (RxForm register short None relative) does accesses have base index z flags lb li may least most lz = absurd (cc)
+  stands_20 (RxForm register short (Some opcode) relative) does accesses have base index z flags lb li may least most lz = record {
+    m = rxy opcode register (number_of base) (number_of index) (low_displacement z);
+    is = refl;
+    some = omega arith;
+    row = λ offset even st. meant_at L all offset even Rxy Any opcode (register ∷ number_of base ∷ number_of index ∷ 0 ∷ 0 ∷ 0 ∷ 0 ∷ 0 ∷ low_displacement z ∷ []) does.meaning (λ r. operation (indexed r (number_of base) (number_of index) z) r) (as_meant Rxy 65536 opcode does.meaning (omega arith) does.long_rows) (fits_rxy opcode register (number_of base) (number_of index) (low_displacement z) does.long_rows.few does.few lb li lz) refl (λ r p.
+        does.acts Rxy opcode (number_of base) (number_of index) (low_displacement z) r p ∙ ap (λ y. Perform (operation (indexed r (number_of base) (number_of index) y) r)) (read_20 z least most)) st;
+  }
+  stands_20 (RsForm first second short None) does accesses have base index z flags lb li may least most lz = absurd (cc)
+  stands_20 (RsForm first second short (Some opcode)) does accesses have base index z flags lb li may least most lz = record {
+    m = rsy opcode first second (number_of base) (low_displacement z);
+    is = refl;
+    some = omega arith;
+    row = λ offset even st. meant_at L all offset even Rsy Any opcode (first ∷ second ∷ number_of base ∷ 0 ∷ 0 ∷ 0 ∷ 0 ∷ 0 ∷ low_displacement z ∷ []) does.meaning (λ r. operation (indexed r (number_of base) (number_of index) z) r) (as_meant Rsy 65536 opcode does.meaning (omega arith) does.long_rows) (fits_rsy opcode first second (number_of base) (low_displacement z) does.long_rows.few does.few does.few_second lb lz) refl (λ r p.
+        does.acts Rsy opcode (number_of base) (low_displacement z) r p ∙ unindexed r (number_of base) (number_of index) (low_displacement z) z (read_20 z least most) may) st;
+  }
+  stands_20 (SiForm imm short opcode) does accesses have base index z flags lb li may least most lz = record {
+    m = siy opcode (number_of base) (low_displacement z) imm;
+    is = refl;
+    some = omega arith;
+    row = λ offset even st. meant_at L all offset even Siy Any opcode (number_of base ∷ 0 ∷ 0 ∷ 0 ∷ imm ∷ 0 ∷ 0 ∷ 0 ∷ low_displacement z ∷ []) does.meaning (λ r. operation (indexed r (number_of base) (number_of index) z) r) (as_meant Siy 65536 opcode does.meaning (omega arith) does.long_row) (fits_siy opcode (number_of base) (low_displacement z) imm does.long_row.few lb lz does.few) refl (λ r p.
+        does.acts Siy opcode (number_of base) (low_displacement z) r p ∙ unindexed r (number_of base) (number_of index) (low_displacement z) z (read_20 z least most) may) st;
+  }
+  stands_20 (SilForm bits opcode) does accesses have base index z flags lb li may least most lz = absurd (cc)
+
+-- ---- the bytes of a step: rows, and then an access
+
+-- rows without traps
+abbrev pub as_rows : List MachineInstruction → List Part
+as_rows [] = []
+as_rows (m ∷ ms) = Row m ∷ as_rows ms
+
+-- the step's last row, at an offset; the table has the code of its faults
+pub record LastRow (L : Layout) (k : ℕ) (m : MachineInstruction) (code : Option TrapKind) (o : ℕ) : Type 0 where
+  pub even : o % 2 ≡ 0
+  pub above : L.places.step k ≤ o
+  pub stands : StandsAt L.image o (bytes_of m)
+  pub next : L.places.step (suc k) ≡ o + size_of m
+  pub coded : Coded L (sum64 L.image.base o) (access_code code)
+
+-- rows before it
+abbrev pub RowsBefore : Layout → ℕ → List MachineInstruction → MachineInstruction → Option TrapKind → ℕ → Type 0
+RowsBefore L k [] m code o = LastRow L k m code o
+RowsBefore L k (h ∷ hs) m code o = StandsAt L.image o (bytes_of h) × RowsBefore L k hs m code (o + size_of h)
+
+uncoded_access : (kind : StopKind) (n : TrapKind) → access_code None kind ≡ Some n → ⊥
+uncoded_access Stop.Operation n e = absurd (cc)
+uncoded_access Stop.Access n e = absurd (cc)
+uncoded_access Stop.Specification n e = absurd (cc)
+uncoded_access Stop.Divide n e = absurd (cc)
+uncoded_access Stop.CompareTrap n e = absurd (cc)
+
+module _ (L : Layout) (all : AllPlaced L) (k : ℕ) where
+  -- the code of a fault stands at the access's first byte
+  access_coded : (o : ℕ) (bytes : List ℕ) → StandsAt L.image o bytes → 0 < length bytes → (x : TrapKind) → first_code L.traps o ≡ Some x → Coded L (sum64 L.image.base o) (access_code (Some x))
+  access_coded o bytes s some x found = go
+    where
+      back : sum64 L.image.base o - L.image.base ≡ o
+      back = omega (arith, all.fits, within_image L o bytes s, some)
+
+      here : first_code L.traps (sum64 L.image.base o - L.image.base) ≡ Some x
+      here = ap (first_code L.traps) back ∙ found
+
+      go : Coded L (sum64 L.image.base o) (access_code (Some x))
+      go Stop.Access n e = here ∙ e
+      go Stop.Specification n e = here ∙ e
+      go Stop.Operation n e = absurd (cc)
+      go Stop.Divide n e = absurd (cc)
+      go Stop.CompareTrap n e = absurd (cc)
+
+  last_row : (m : MachineInstruction) (code : Option TrapKind) (o : ℕ) → o % 2 ≡ 0 → L.places.step k ≤ o → 0 < size_of m → PartsStand L o (access_parts (Some m) code) → L.places.step (suc k) ≡ o + parts_size (access_parts (Some m) code) → ((q : ℕ) → L.places.step k ≤ q → q < L.places.step (suc k) → o ≤ q → first_code L.traps q ≡ first_code (parts_traps o (access_parts (Some m) code)) q) → LastRow L k m code o
+  last_row m None o even above some stands next traps = record { even = even; above = above; stands = stands.0; next = omega (arith, next); coded = λ kind n e. absurd (uncoded_access kind n e) }
+  last_row m (Some x) o even above some stands next traps = record {
+    even = even;
+    above = above;
+    stands = stands.0;
+    next = omega (arith, next);
+    coded = access_coded o (bytes_of m) stands.0 (omega (arith, encode-length m.format m.slots, some)) x (traps o above (omega (arith, next, some)) (omega arith) ∙ ap (λ t. cond t (Some x) None) (eq-eqb (o + 0) o (omega arith)));
+  }
+
+  rows_before : (hs : List MachineInstruction) (m : MachineInstruction) (code : Option TrapKind) (o : ℕ) → o % 2 ≡ 0 → L.places.step k ≤ o → 0 < size_of m → PartsStand L o (as_rows hs ++ access_parts (Some m) code) → L.places.step (suc k) ≡ o + parts_size (as_rows hs ++ access_parts (Some m) code) → ((q : ℕ) → L.places.step k ≤ q → q < L.places.step (suc k) → o ≤ q → first_code L.traps q ≡ first_code (parts_traps o (as_rows hs ++ access_parts (Some m) code)) q) → RowsBefore L k hs m code o
+  rows_before [] m code o even above some stands next traps = last_row m code o even above some stands next traps
+  rows_before (h ∷ hs) m code o even above some stands next traps =
+      (stands.0, rows_before hs m code (o + size_of h) (omega (arith, even, size_even h.format)) (omega (arith, above)) some stands.1 (omega (arith, next)) (λ q a b c. traps q a b (omega (arith, c))))
+
+  pub step_rows_before : (s : Step) → slice_get L.steps k ≡ Some s → Placed L k s → (hs : List MachineInstruction) (m : MachineInstruction) (code : Option TrapKind) → 0 < size_of m → step_parts s ≡ as_rows hs ++ access_parts (Some m) code → RowsBefore L k hs m code (L.places.step k)
+  step_rows_before s at p hs m code some is =
+      let o = L.places.step k in
+      rows_before hs m code o (offset_even L all k (omega (arith, slice_get_within L.steps k s at))) (omega arith) some
+      (subst (λ ps. PartsStand L o ps) is (step_stands L k s p))
+      (p.size ∙ ap (λ ps. o + parts_size ps) is)
+      (λ q a b c. p.traps q a b ∙ ap (λ ps. first_code (parts_traps o ps) q) is)
+
+  -- ---- helpers
+
+  -- what a move of a value that is read like this puts into a register
+  abbrev pub moved : Second → ℕ → ℕ
+  moved s x = extended s.sign s.width Doubleword x
+
+  pub helper_then : (c : Core) (g : List Turn) (r : Registers) (o : ℕ) (h : MachineInstruction) (s : Second) (bits : Registers → ℕ) → s.reversed ≡ false → Inside L k c g r (sum64 L.image.base o) → length g ≤ 2 → L.places.step k ≤ o + size_of h → o + size_of h < L.places.step (suc k) → RowAt L (sum64 L.image.base o) (λ q. Perform (computes_immediate Kept (with_second Move Doubleword s) 1 1 (bits q) q)) (size_of h) →
+      ((hs : List Turn) → length hs ≡ suc (length g) → Inside L k c hs (put r 1 (moved s (bits r))) (sum64 L.image.base (o + size_of h)) → Simulates L k c hs (put r 1 (moved s (bits r))) (sum64 L.image.base (o + size_of h))) → Simulates L k c g r (sum64 L.image.base o)
+  helper_then c g r o h s bits plain i few above below row go =
+      row_then L k c g r (sum64 L.image.base o) (λ q. Perform (computes_immediate Kept (with_second Move Doubleword s) 1 1 (bits q) q)) (size_of h) (put r 1 (moved s (bits r))) i few (record { offset = o + size_of h; above = above; below = below; is = sum_more L.image.base o (size_of h) }) row
+      (subst (λ b. Rattle.s390x_machine.proofs.Composites.ChangesTo (Perform (computes_immediate Kept (with_second Move Doubleword (record { width = s.width; sign = s.sign; reversed = b })) 1 1 (bits r) r)) (size_of h) r (sum64 L.image.base o) (put r 1 (moved s (bits r)))) (sym plain) (compute_changes Move Doubleword 1 (r.general 1) (bits r) s.width s.sign false (size_of h) (sum64 L.image.base o) r c.memory))
+      (λ hs n. subst (λ q. Inside L k c hs (put r 1 (moved s (bits r))) q → Simulates L k c hs (put r 1 (moved s (bits r))) q) (sym (sum_more L.image.base o (size_of h))) (go hs n))

@@ -1,0 +1,105 @@
+-- The codes that the table of traps has for stops, and places where the machine stops because there is no instruction.
+use Rattle.std.proofs.Common.{◌≡◌, ℕ, ◌+◌, ◌-◌, ◌%◌, ◌^◌, ◌<◌, ◌≤◌, List, [], ◌∷◌, ◌++◌, length, get_or, Option, Some, cond, slice_index, refl, sym, ap, ◌∙◌, subst, arith, length-append, append_assoc}
+use Rattle.std.proofs.lemmas.Bool.{eq-eqb}
+use Rattle.s390x_base.specs.declared.trap.TrapKind.{TrapKind}
+use Rattle.s390x_base.specs.declared.trap.TrapKind.TheVariants.{IntegerDivisionByZero}
+use Rattle.s390x_format.specs.Formats.{layout_of, length_of}
+use Rattle.s390x_format.specs.Layout.{number, bits}
+use Rattle.s390x_format.specs.Reading.{be_bytes}
+use Rattle.s390x_format.specs.Rows.{fetch_length_of}
+use Rattle.s390x_steps.specs.MachineInstruction.{bytes_of, format_e, ril_c}
+use Rattle.s390x_steps.specs.Traps.{first_code}
+use Rattle.s390x_operations.specs.State.{sum64}
+use Rattle.s390x_operations.specs.declared.stop.StopKind.{StopKind}
+use Rattle.s390x_operations.specs.declared.stop.StopKind.TheVariants.{Operation as OperationStop, Access, Specification, Divide, CompareTrap}
+use Rattle.s390x_machine.specs.Fetch.{Unknown, Fetches}
+use Rattle.s390x_machine.specs.Machine.{StopsAs, FetchedActs}
+use Rattle.s390x_machine.specs.Layout.{Layout, code_offset, code_at}
+use Rattle.s390x_machine.specs.Match.{code_at_place}
+use Rattle.s390x_machine.specs.Forms.{division_code, comparison_code}
+use Rattle.s390x_machine.specs.Placed.{AllPlaced}
+use Rattle.s390x_machine.proofs.Fetching.{StandsAt, image_byte, nothing_at}
+use Rattle.s390x_machine.proofs.Composites.{StopsAt}
+
+-- an entry is found at its offset
+pub entry_found : (o : ℕ) (n : TrapKind) → first_code (record { offset = o; code = n } ∷ []) o ≡ Some n
+entry_found o n = ap (λ t. cond t (Some n) (first_code [] o)) (eq-eqb o o refl)
+
+-- the stop's code stands at the last byte of the instruction
+abbrev pub IsLate : Layout → StopKind → Type 0
+IsLate L kind = (o : ℕ) → code_offset L.image o kind ≡ o + (fetch_length_of (slice_index L.image.bytes o) - 1)
+
+-- that of a division, and that of a comparison
+pub division_late : (L : Layout) (kind : StopKind) (n : TrapKind) → division_code kind ≡ Some n → IsLate L kind × (n ≡ IntegerDivisionByZero)
+division_late L Divide n e = (λ o. refl, cc)
+division_late L OperationStop n e = absurd (cc)
+division_late L Access n e = absurd (cc)
+division_late L Specification n e = absurd (cc)
+division_late L CompareTrap n e = absurd (cc)
+
+pub comparison_late : (L : Layout) (code : TrapKind) (kind : StopKind) (n : TrapKind) → comparison_code code kind ≡ Some n → IsLate L kind × (n ≡ code)
+comparison_late L code CompareTrap n e = (λ o. refl, cc)
+comparison_late L code OperationStop n e = absurd (cc)
+comparison_late L code Access n e = absurd (cc)
+comparison_late L code Specification n e = absurd (cc)
+comparison_late L code Divide n e = absurd (cc)
+
+pub within_image : (L : Layout) (offset : ℕ) (bytes : List ℕ) → StandsAt L.image offset bytes → offset + length bytes ≤ length L.image.bytes
+within_image L offset bytes s =
+    let n1 = ap length s.is in
+    let n2 = length-append s.earlier (bytes ++ s.later) in
+    let n3 = length-append bytes s.later in
+    omega (arith, n1, n2, n3, s.at)
+
+-- the code that the table has for a stop of the instruction whose bytes stand at an offset
+pub late_code : (L : Layout) → L.image.base + length L.image.bytes ≤ 2 ^ 64 → (offset : ℕ) (bytes : List ℕ) → StandsAt L.image offset bytes → 0 < length bytes → (kind : StopKind) → IsLate L kind → code_at_place L (sum64 L.image.base offset) kind ≡ first_code L.traps (offset + (fetch_length_of (get_or bytes 0 0) - 1))
+late_code L fits offset bytes s some kind late =
+    let inside = within_image L offset bytes s in
+    let back : sum64 L.image.base offset - L.image.base ≡ offset = omega (arith, fits, inside, some) in
+    let z : offset ≡ offset + 0 = omega arith in
+    let first : slice_index L.image.bytes offset ≡ get_or bytes 0 0 = ap (λ k. slice_index L.image.bytes k) z ∙ image_byte L.image offset 0 bytes s some in
+    ap (λ o. code_at L o kind) back ∙ ap (first_code L.traps) (late offset) ∙ ap (λ b. first_code L.traps (offset + (fetch_length_of b - 1))) first
+
+-- the machine stops where a byte of zeros stands at an even place
+pub stops_at : (L : Layout) → AllPlaced L → (offset second : ℕ) (code : Option TrapKind) → offset % 2 ≡ 0 → StandsAt L.image offset (0 ∷ second ∷ []) → first_code L.traps (offset + 1) ≡ code → StopsAt L (sum64 L.image.base offset) code
+stops_at L all offset second code even stands is = record {
+  stops = λ s at lies event t step.
+      let none : step.fetched ≡ Unknown = nothing_at L.image s.core.memory offset second all.even even all.fits lies stands step.fetched (subst (λ p. Fetches s.core.memory p step.fetched) at step.fetches) in
+      let acts : StopsAs OperationStop s event t = subst (λ f. FetchedActs f s event t) none step.acts in
+      acts.0;
+  coded = late_code L all.fits offset (0 ∷ second ∷ []) stands (omega arith) OperationStop (λ o. refl) ∙ is;
+}
+
+-- ---- bytes
+
+pub zeros : bytes_of (format_e 0) ≡ 0 ∷ 0 ∷ []
+unfolding length_of layout_of number bits be_bytes
+zeros = refl
+
+pub zero_and_one : bytes_of (format_e 1) ≡ 0 ∷ 1 ∷ []
+unfolding length_of layout_of number bits be_bytes
+zero_and_one = refl
+
+six : (a b c d e f c' d' e' f' : ℕ) → c ≡ c' → d ≡ d' → e ≡ e' → f ≡ f' → a ∷ b ∷ c ∷ d ∷ e ∷ f ∷ [] ≡ a ∷ b ∷ c' ∷ d' ∷ e' ∷ f' ∷ []
+six a b c d e f c' d' e' f' h3 h4 h5 h6 = cc
+
+-- the first bytes of a branch whose distance is two, and the zeros behind them
+pub record IntoItself (mask : ℕ) : Type 0 where
+  pub first : ℕ
+  pub second : ℕ
+  pub is : bytes_of (ril_c 0xc04 mask 1) ≡ first ∷ second ∷ 0 ∷ 0 ∷ 0 ∷ 1 ∷ []
+
+pub into_itself : (mask : ℕ) → IntoItself mask
+unfolding length_of layout_of number bits be_bytes
+into_itself mask = record { first = _; second = _; is = six _ _ _ _ _ _ _ _ _ _ (omega arith) (omega arith) (omega arith) (omega arith) }
+
+-- the zeros stand two bytes behind the branch's place
+pub zeros_behind : (L : Layout) (offset mask : ℕ) → StandsAt L.image offset (bytes_of (ril_c 0xc04 mask 1)) → StandsAt L.image (offset + 2) (0 ∷ 0 ∷ [])
+zeros_behind L offset mask s =
+    let i = into_itself mask in
+    record {
+      earlier = s.earlier ++ i.first ∷ i.second ∷ [];
+      later = 0 ∷ 1 ∷ s.later;
+      at = omega (arith, s.at, length-append s.earlier (i.first ∷ i.second ∷ []));
+      is = s.is ∙ ap (λ bs. s.earlier ++ (bs ++ s.later)) i.is ∙ sym (append_assoc s.earlier (i.first ∷ i.second ∷ []) (0 ∷ 0 ∷ 0 ∷ 1 ∷ s.later));
+    }

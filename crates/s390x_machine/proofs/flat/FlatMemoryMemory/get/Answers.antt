@@ -1,0 +1,18 @@
+use Rattle.std.proofs.Common.{◌-◌, ◌∙◌, sym, ap, slice_index}
+use Rattle.std.proofs.lemmas.Grind.{get_or_default_zero}
+use Rattle.s390x_machine.specs.Regions.{contains}
+use Rattle.s390x_machine.specs.declared.flat.Region.{Region}
+use Rattle.s390x_machine.proofs.Regions.{inside, byte_here}
+use Rattle.s390x_machine.proofs.flat.FlatMemoryMemory.get.Goals as goal
+
+pub returns-in-Some : goal.returns-in-Some
+returns-in-Some c =
+    let rs = c.args.self.now.regions.items in
+    let a = c.args.address in
+    let h = c.in-Some.ensures in
+    let z = c.index-region.result.now in
+    let here = ap (λ (r : Region). contains r a) c.index-region.ensures ∙ h.1 z in
+    c.index.ensures
+    ∙ get_or_default_zero z.bytes.items (a - z.start) c.index.result.now (inside z a here)
+    ∙ ap (λ (r : Region). slice_index r.bytes.items (a - r.start)) c.index-region.ensures
+    ∙ sym (byte_here rs a c.in-Some.i z h.0 h.2 (h.1 z))

@@ -1,0 +1,56 @@
+-- What helpers have to do: they write `%r1` alone, and leave the operand's address as it was (cranelift-codegen, `mem_finalize` in `emit.rs`).
+use Rattle.std.specs.Prelude.{◌≡◌, ℕ, true, false, ◌⊎◌, List, [], ◌∷◌, Option, Some, IsTrue}
+use Rattle.s390x_base.specs.Regs.{number_of}
+use Rattle.s390x_base.specs.declared.regs.Reg.{Reg}
+use Rattle.s390x_inst.specs.declared.args.MemArg.{MemArg}
+use Rattle.s390x_inst.specs.declared.args.MemArg.TheVariants.{BXD12, BXD20, Label, Constant, Symbol}
+use Rattle.s390x_inst.specs.declared.inst.Inst.{Inst}
+use Rattle.s390x_steps.specs.Operands.{finalized, is_relative, loses_base, operand_general, offset_fits}
+use Rattle.s390x_steps.specs.Ranges.{OperandInRange}
+use Rattle.s390x_steps.specs.declared.mem_inst_type.MemInstType.{MemInstType}
+use Rattle.s390x_operations.specs.State.{Registers, Core}
+use Rattle.s390x_operations.specs.Effects.{Goes}
+use Rattle.s390x_machine.specs.Forms.{Form, Performs, instruction_form}
+use Rattle.s390x_machine.specs.Layout.{Layout}
+use Rattle.s390x_machine.specs.Storage.{address_of, needs_scratch}
+use Rattle.s390x_machine.specs.Typed.{loosen}
+
+-- an operation may go from one core to another
+abbrev pub OperationGoes : Form → Core → Core → Type 0
+OperationGoes (Performs needs operation code) c t = Goes (operation c.registers) c t
+OperationGoes _ c t = ⊥
+
+-- helpers may go from one core to another, one after another, each as an instruction of its own
+abbrev pub HelpersGo : Layout → List Inst → Core → Core → Type 0
+HelpersGo L [] c t = t ≡ c
+HelpersGo L (i ∷ is) c t = (mid : Core) × OperationGoes (instruction_form L i) c mid × HelpersGo L is mid t
+
+-- one operand's address with some registers is another's with others
+abbrev pub IsSameAddress : Option (Registers → ℕ) → Registers → Option (Registers → ℕ) → Registers → Type 0
+IsSameAddress (Some a) r (Some b) q = a r ≡ b q
+IsSameAddress _ r _ q = ⊥
+
+-- an operand with a base, which isn't overwritten, an offset of 32 bits, and real registers
+pub record IsBased (m : MemArg) : Type 0 where
+  pub plain : is_relative m ≡ false
+  pub general : IsTrue (operand_general m)
+  pub fits : IsTrue (offset_fits m)
+  pub kept : loses_base m ≡ false
+  pub range : OperandInRange m
+
+-- after the helpers the operand of the access has the address that the given one had before, and only `%r1` has changed, where it is needed
+abbrev pub HelpersKeep : Layout → MemInstType → MemArg → Type 0
+HelpersKeep L mi m = (c t : Core) → HelpersGo L (finalized mi m).helpers c t → IsSameAddress (address_of (finalized mi m).operand) t.registers (address_of m) c.registers × (v : ℕ) × (t ≡ loosen (needs_scratch mi m) v c)
+
+-- rows take this index: they have one, or it is none
+abbrev pub TakesIndex : MemInstType → Reg → Type 0
+TakesIndex mi index = (mi.have_index ≡ true) ⊎ (number_of index ≡ 0)
+
+-- rows take an operand as it stands
+abbrev pub TakesOperand : MemInstType → MemArg → Type 0
+TakesOperand mi (BXD12 base index disp flags) = (mi.have_d12 ≡ true) × TakesIndex mi index
+TakesOperand mi (BXD20 base index disp flags) = (mi.have_d20 ≡ true) × TakesIndex mi index
+TakesOperand mi (Label target) = mi.have_pcrel ≡ true
+TakesOperand mi (Constant constant) = mi.have_pcrel ≡ true
+TakesOperand mi (Symbol name offset flags) = (mi.have_pcrel ≡ true) × ((flags.aligned ≡ true) ⊎ (mi.have_unaligned_pcrel ≡ true))
+TakesOperand mi _ = ⊥

@@ -1,0 +1,245 @@
+-- What the machine's step needs of an operation so that registers can hold its results: numbers of registers that there are, and values of its size.
+-- Each row with a meaning gives it (`are_performed`).
+use Rattle.std.specs.Prelude.{◌≡◌, ℕ, suc, ◌+◌, ◌==◌, ◌||◌, not, ℤ, pos, ◌*◌, ◌%◌, ◌^◌, ◌<◌, ◌≤◌, Bool, true, false, ◌&&◌, nat_le, nat_lt, List, [], ◌∷◌, Option, Some, None, IsTrue}
+use Rattle.s390x_format.specs.declared.fields.Fields.{Fields}
+use Rattle.s390x_format.specs.declared.kind.FormatKind.{FormatKind}
+use Rattle.s390x_format.specs.declared.fields.Imm.{Imm}
+use Rattle.s390x_format.specs.declared.fields.Imm.TheVariants.{Unsigned}
+use Rattle.s390x_format.specs.declared.row.MachineRow.{MachineRow}
+use Rattle.s390x_format.specs.View.{imm_class_of}
+use Rattle.s390x_format.specs.Formats.{layout_of}
+use Rattle.s390x_format.specs.Layout.{width_of}
+use Rattle.s390x_operations.specs.Numbers.{whole, low}
+use Rattle.s390x_operations.specs.Bits.{bits, IsWithin}
+use Rattle.s390x_operations.specs.State.{Registers, Core, put, put_vector, number_at, reaches}
+use Rattle.s390x_operations.specs.Effects.{results}
+use Rattle.s390x_operations.specs.Vectors.{layout_bytes, loaded}
+use Rattle.s390x_lanes.specs.Results.{result_of}
+use Rattle.s390x_lanes.specs.Opcodes.{is_operation, is_computed, operation_of}
+use Rattle.s390x_lanes.specs.declared.operation.VectorOperation.{VectorOperation}
+use Rattle.s390x_format.specs.declared.row.Allowed.{Allowed}
+use Rattle.s390x_format.specs.declared.row.Allowed.TheVariants.{FirstMask}
+use Rattle.s390x_machine.specs.Operands.{based}
+use Rattle.s390x_operations.specs.Access.{Access, Untouched, Reads, Stores, Locks}
+use Rattle.s390x_operations.specs.declared.size.Size.{Size}
+use Rattle.s390x_operations.specs.declared.size.Size.TheVariants.{Halfword, Word, Doubleword}
+use Rattle.s390x_operations.specs.declared.size.Width.{Width}
+use Rattle.s390x_operations.specs.declared.effect.Effect.{Effect}
+use Rattle.s390x_machine.specs.Meanings.{register_field, mask_field, names_pair, meaning_of}
+use Rattle.s390x_machine.specs.declared.meaning.Shape.{Shape}
+use Rattle.s390x_machine.specs.declared.meaning.Shape.TheVariants.{ShiftedImmediate}
+use Rattle.s390x_machine.specs.declared.meaning.SecondOperand.{SecondOperand}
+use Rattle.s390x_machine.specs.declared.meaning.Meaning.{Meaning}
+use Rattle.s390x_machine.specs.declared.meaning.Meaning.TheVariants as Row
+use Rattle.s390x_machine.specs.declared.meaning.Action.{Action}
+use Rattle.s390x_machine.specs.declared.meaning.Action.TheVariants.{Perform, Branch, BranchAndSave}
+
+-- the bytes of an access are accessible
+abbrev pub is_reached : Access → (ℕ → Bool) → Bool
+is_reached Untouched has = true
+is_reached (Reads aligned a n) has = reaches has a n
+is_reached (Stores aligned a n v) has = reaches has a n
+is_reached (Locks a n change) has = reaches has a n
+
+-- its registers are there, its values have its size, and an operation on vectors is one whose result is computed
+abbrev pub IsSound : Effect → Type 0
+IsSound Effect.Nothing = Unit {0}
+IsSound (Effect.Compute operator size target first second) = (target < 16) × (first < whole size) × IsWithin second.width size
+IsSound (Effect.Test operator size first second) = (first < whole size) × IsWithin second.width size
+IsSound (Effect.Compare sign size first second) = (first < whole size) × IsWithin second.width size
+IsSound (Effect.CompareAndTrap sign size first second mask) = (first < whole size) × (second < whole size)
+IsSound (Effect.MultiplyPair sign pair first second) = pair < 15
+IsSound (Effect.DividePair pair dividend divisor) = pair < 15
+IsSound (Effect.DivideLogicalPair size pair high low divisor) = (pair < 15) × (high < whole size) × (low < whole size) × (divisor < whole size)
+IsSound (Effect.FindLeftmostOne pair value) = pair < 15
+IsSound (Effect.Store width value destination) = Unit {0}
+IsSound (Effect.LoadAndOperate operator size target second address) = (target < 16) × (second < whole size)
+IsSound (Effect.CompareAndSwap size target expected replacement address) = target < 16
+IsSound (Effect.LoadMultiple first_register count address) = (first_register < 16) × (count ≤ 16)
+IsSound (Effect.StoreMultiple values count address) = count ≤ 16
+IsSound (Effect.PutAny target) = target < 16
+IsSound (Effect.ComputeVector operation target first second third fourth) = (target < 32) × IsTrue (is_operation operation) × IsTrue (is_computed operation)
+IsSound (Effect.PutVector target known value) = (target < 32) × (value < 2 ^ 128)
+IsSound (Effect.LoadVector layout target old known address) = target < 32
+IsSound (Effect.StoreVector layout value address) = Unit {0}
+
+-- the registers that the step gives, of those that an effect allows: where it may choose, a general register gets 0, and the bits that
+-- aren't known are those of the value
+abbrev pub outcome : Effect → Core → Registers
+outcome (Effect.PutAny target) c = put c.registers target 0
+outcome (Effect.ComputeVector operation target first second third fourth) c = put_vector c.registers target (result_of operation first second third fourth)
+outcome (Effect.PutVector target known value) c = put_vector c.registers target value
+outcome (Effect.LoadVector layout target old known address) c = put_vector c.registers target (loaded layout old (number_at c.memory.get address (layout_bytes layout)))
+outcome effect c = results effect c
+
+-- a vector register can hold it
+abbrev pub HasOutcome : Effect → Core → Type 0
+HasOutcome (Effect.ComputeVector operation target first second third fourth) c = result_of operation first second third fourth < 2 ^ 128
+HasOutcome (Effect.LoadVector layout target old known address) c = loaded layout old (number_at c.memory.get address (layout_bytes layout)) < 2 ^ 128
+HasOutcome _ c = Unit {0}
+
+-- the same of what a row does; a branch that saves has a register for it
+abbrev pub IsSoundAction : Action → Type 0
+IsSoundAction (Perform op) = IsSound op.effect
+IsSoundAction (Branch mask target) = Unit {0}
+IsSoundAction (BranchAndSave link target) = link < 16
+
+-- the numbers of registers are those of general registers
+abbrev pub AreGeneral : Fields → Type 0
+AreGeneral f = (i : ℕ) → register_field f i < 16
+
+-- this field names a vector register, of which there are 32
+abbrev pub is_vector_field : Meaning → ℕ → Bool
+is_vector_field (Row.Elements opcode) i = true
+is_vector_field (Row.ShiftElements opcode) i = (i == 0) || (i == 2)
+is_vector_field (Row.LoadVector storage) i = i == 0
+is_vector_field (Row.StoreVector storage) i = i == 0
+is_vector_field (Row.LoadLeft size) i = i == 0
+is_vector_field (Row.StoreLeft size) i = i == 0
+is_vector_field (Row.MoveLeft size) i = (i == 0) || (i == 1)
+is_vector_field Row.RegisterToLeft i = i == 0
+is_vector_field Row.LeftToRegister i = i == 1
+is_vector_field Row.JoinRegisters i = i == 0
+is_vector_field Row.InsertElement i = i == 0
+is_vector_field Row.ExtractElement i = i == 2
+is_vector_field _ i = false
+
+-- the row names a vector register
+abbrev pub is_vector : Meaning → Bool
+is_vector (Row.Elements opcode) = true
+is_vector (Row.ShiftElements opcode) = true
+is_vector (Row.LoadVector storage) = true
+is_vector (Row.StoreVector storage) = true
+is_vector (Row.LoadLeft size) = true
+is_vector (Row.StoreLeft size) = true
+is_vector (Row.MoveLeft size) = true
+is_vector Row.RegisterToLeft = true
+is_vector Row.LeftToRegister = true
+is_vector Row.JoinRegisters = true
+is_vector Row.InsertElement = true
+is_vector Row.ExtractElement = true
+is_vector _ = false
+
+-- how many registers there are of the kind that a field names
+abbrev pub register_bound : Bool → ℕ
+register_bound true = 32
+register_bound false = 16
+
+-- the numbers of registers are those of registers of their kind
+abbrev pub HasRegisters : Meaning → Fields → Type 0
+HasRegisters meaning f = (i : ℕ) → register_field f i < register_bound (is_vector_field meaning i)
+
+-- a pair that the row names begins at an even register
+abbrev pub IsPaired : Meaning → Fields → Type 0
+IsPaired meaning f = IsTrue (names_pair meaning) → register_field f 0 % 2 ≡ 0
+
+-- the widths of a row's operands don't exceed its size
+abbrev pub IsMeant : Meaning → Type 0
+IsMeant (Row.Compute operator size second rule) = IsWithin second.width size
+IsMeant (Row.Compare sign size second) = IsWithin second.width size
+IsMeant (Row.MoveWhere size second) = IsWithin second.width size
+IsMeant _ = Unit {0}
+
+-- an immediate still has 64 bits further to the left
+abbrev pub HasRoom : Shape → Fields → Type 0
+HasRoom (ShiftedImmediate n) f = (n < 64) × (low Doubleword f.imm * 2 ^ n < 2 ^ 64)
+HasRoom _ f = Unit {0}
+
+-- the same of a row's second operand
+abbrev pub IsRoomy : Meaning → Fields → Type 0
+IsRoomy (Row.Compute operator size second rule) f = HasRoom second.shape f
+IsRoomy (Row.Compare sign size second) f = HasRoom second.shape f
+IsRoomy (Row.MoveWhere size second) f = HasRoom second.shape f
+IsRoomy (Row.Store destination) f = HasRoom destination.shape f
+IsRoomy _ f = Unit {0}
+
+-- an element that goes to a general register has at most 64 bits
+abbrev pub HasElement : Meaning → Fields → Type 0
+HasElement Row.ExtractElement f = mask_field f 0 ≤ 3
+HasElement _ f = Unit {0}
+
+-- all of it, but for the pair
+pub record CanPerform (meaning : Meaning) (f : Fields) : Type 0 where
+  pub meant : IsMeant meaning
+  pub registers : HasRegisters meaning f
+  pub room : IsRoomy meaning f
+  pub element : HasElement meaning f
+
+-- an operation on vectors whose result isn't computed
+abbrev pub is_uncomputed : Option VectorOperation → Bool
+is_uncomputed None = false
+is_uncomputed (Some operation) = not (is_computed operation)
+
+-- the amount of an element shift
+abbrev pub shift_amount : Fields → Registers → ℤ
+shift_amount f r = pos (based r (register_field f 1) f.disp % 64)
+
+-- the row's result is free, or a high product of 128-bit elements: the step gives none
+abbrev pub is_free : Meaning → Fields → Registers → Bool
+is_free Row.PutAny f r = true
+is_free (Row.Elements opcode) f r = is_uncomputed (operation_of opcode f.masks f.imm)
+is_free (Row.ShiftElements opcode) f r = is_uncomputed (operation_of opcode f.masks (shift_amount f r))
+is_free _ f r = false
+
+-- ---- tests of a row, which the table of machine rows meets
+
+-- the size has as many bits as the width or more
+abbrev pub is_within : Width → Size → Bool
+is_within width Halfword = nat_le (bits width) 16
+is_within width Word = nat_le (bits width) 32
+is_within width Doubleword = true
+
+-- the bits of an immediate are read without a sign
+abbrev pub is_unsigned : Imm → Bool
+is_unsigned Unsigned = true
+is_unsigned _ = false
+
+-- an immediate of the format, so many bits further to the left, has at most 64 bits
+abbrev pub has_room : Shape → FormatKind → Bool
+has_room (ShiftedImmediate n) format = nat_lt n 64 && nat_le (n + width_of 8 (layout_of format)) 64 && is_unsigned (imm_class_of format)
+has_room _ format = true
+
+-- the second operand has room in the format, and its width doesn't exceed the size
+abbrev pub fits_operand : SecondOperand → Size → FormatKind → Bool
+fits_operand second size format = is_within second.width size && has_room second.shape format
+
+-- the row's second operand fits
+abbrev pub is_meant : Meaning → FormatKind → Bool
+is_meant (Row.Compute operator size second rule) format = fits_operand second size format
+is_meant (Row.Compare sign size second) format = fits_operand second size format
+is_meant (Row.MoveWhere size second) format = fits_operand second size format
+is_meant (Row.Store destination) format = has_room destination.shape format
+is_meant _ format = true
+
+-- the first mask is at most 3
+abbrev pub is_small : Allowed → Bool
+is_small (FirstMask low high) = nat_le high 3
+is_small _ = false
+
+-- the row allows no element of 128 bits where one goes to a general register
+abbrev pub has_element : Meaning → Allowed → Bool
+has_element Row.ExtractElement allowed = is_small allowed
+has_element _ allowed = true
+
+-- the bits of a register's number of the kind that a field names
+abbrev pub register_bits : Bool → ℕ
+register_bits true = 5
+register_bits false = 4
+
+-- field i of the format has no more bits than the number of a register of its kind
+abbrev pub fits_field : Meaning → FormatKind → ℕ → Bool
+fits_field meaning format i = nat_le (width_of (suc i) (layout_of format)) (register_bits (is_vector_field meaning i))
+
+-- the same of all four fields
+abbrev pub has_registers : Meaning → FormatKind → Bool
+has_registers meaning format = fits_field meaning format 0 && fits_field meaning format 1 && fits_field meaning format 2 && fits_field meaning format 3
+
+-- the step can perform what a row means, if it means something
+abbrev pub is_performed : Option Meaning → FormatKind → Allowed → Bool
+is_performed None format allowed = true
+is_performed (Some meaning) format allowed = is_meant meaning format && has_registers meaning format && has_element meaning allowed
+
+-- the step can perform each row
+unfoldable pub are_performed : List MachineRow → Bool
+are_performed [] = true
+are_performed (row ∷ rows) = is_performed (meaning_of row.opcode) row.format row.allowed && are_performed rows

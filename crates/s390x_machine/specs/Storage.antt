@@ -1,0 +1,202 @@
+-- What the instructions with an operand in memory do (Principles of Operation, chapter 7, "General instructions"; their names are cranelift-codegen's),
+-- the operand's address, and when a step needs `%r1` for it.
+use Rattle.std.specs.Prelude.{ℕ, ◌+◌, ◌-◌, pos, Bool, true, false, not, ◌&&◌, ◌||◌, nat_eq, Option, Some, None}
+use Rattle.s390x_base.specs.Regs.{number_of}
+use Rattle.s390x_base.specs.declared.regs.Reg.{Reg}
+use Rattle.s390x_inst.specs.declared.args.MemArg.{MemArg}
+use Rattle.s390x_inst.specs.declared.args.MemArg.TheVariants.{BXD12, BXD20, Label, Constant, Symbol, RegOffset}
+use Rattle.s390x_inst.specs.declared.ops.ALUOp.{ALUOp}
+use Rattle.s390x_inst.specs.declared.ops.CmpOp.{CmpOp}
+use Rattle.s390x_inst.specs.declared.ops.CmpOp.TheVariants as C
+use Rattle.s390x_inst.specs.declared.inst.Inst.{Inst}
+use Rattle.s390x_inst.specs.declared.inst.Inst.TheVariants.{AluRX, CmpRX, Load32, Load32ZExt8, Load32SExt8, Load32ZExt16, Load32SExt16, Load64, Load64ZExt8, Load64SExt8, Load64ZExt16, Load64SExt16, Load64ZExt32, Load64SExt32, LoadRev16, LoadRev32, LoadRev64, Store8, Store16, Store32, Store64, StoreRev16, StoreRev32, StoreRev64, StoreImm8, StoreImm16, StoreImm32SExt16, StoreImm64SExt16, LoadMultiple64, StoreMultiple64, LoadAddr, AtomicRmw, AtomicCas32, AtomicCas64}
+use Rattle.s390x_lanes.specs.declared.operation.Signedness.TheVariants.{Signed, Unsigned}
+use Rattle.s390x_steps.specs.General.{low_byte, low_halfword}
+use Rattle.s390x_steps.specs.Operands.{fits_12, fits_20}
+use Rattle.s390x_steps.specs.declared.mem_inst_type.MemInstType.{MemInstType}
+use Rattle.s390x_operations.specs.Bits.{extended}
+use Rattle.s390x_operations.specs.State.{Registers}
+use Rattle.s390x_operations.specs.Values.{ordered}
+use Rattle.s390x_operations.specs.declared.size.Size.{Size}
+use Rattle.s390x_operations.specs.declared.size.Size.TheVariants.{Halfword, Word, Doubleword}
+use Rattle.s390x_operations.specs.declared.size.Width.{Width}
+use Rattle.s390x_operations.specs.declared.size.Width.TheVariants.{Bits8, Bits16, Bits32, Bits64}
+use Rattle.s390x_operations.specs.declared.operand.Source.TheVariants.{Memory as InMemory}
+use Rattle.s390x_operations.specs.declared.operand.Operand.{Operand}
+use Rattle.s390x_operations.specs.declared.operator.Operator.TheVariants.{Move}
+use Rattle.s390x_operations.specs.declared.effect.Effect.TheVariants.{Compute, Compare, Store, LoadAndOperate, CompareAndSwap, LoadMultiple, StoreMultiple}
+use Rattle.s390x_operations.specs.declared.effect.CodeRule.{CodeRule}
+use Rattle.s390x_operations.specs.declared.effect.CodeRule.TheVariants.{Kept, Set}
+use Rattle.s390x_operations.specs.declared.effect.Operation.{Operation}
+use Rattle.s390x_machine.specs.Computations.{Second, word, signed_word, signed_halfword, halfword, doubleword, Computation, alu_computation, alu_two_rule, Comparison, comparison, with_rule, operand_of}
+use Rattle.s390x_machine.specs.Operands.{value_in, based, indexed, values_from}
+
+-- ---- addresses
+
+-- The address of an operand with a base, at a step: base plus index plus displacement, or a register plus an offset. Operands that are relative to the
+-- instruction aren't built yet, and a step has no frame operands
+abbrev pub address_of : MemArg → Option (Registers → ℕ)
+address_of (BXD12 base index disp flags) = Some (λ r. indexed r (number_of base) (number_of index) (pos disp))
+address_of (BXD20 base index disp flags) = Some (λ r. indexed r (number_of base) (number_of index) disp)
+address_of (RegOffset reg off flags) = Some (λ r. based r (number_of reg) off)
+address_of _ = None
+
+-- the right halves of registers
+abbrev pub is_word : Size → Bool
+is_word Word = true
+is_word _ = false
+
+-- there is an index
+abbrev pub has_index : Reg → Bool
+has_index index = not (nat_eq (number_of index) 0)
+
+-- A step needs `%r1` where the rows have no form for its operand as it stands: an offset that no displacement of theirs takes, an index that they
+-- lack, or an address relative to the instruction that they can't have
+abbrev pub needs_scratch : MemInstType → MemArg → Bool
+needs_scratch mi (RegOffset reg off flags) = not (fits_12 off) && not (fits_20 off && mi.have_d20)
+needs_scratch mi (BXD12 base index disp flags) = not mi.have_index && has_index index
+needs_scratch mi (BXD20 base index disp flags) = not mi.have_d20 || (not mi.have_index && has_index index)
+needs_scratch mi (Label target) = not mi.have_pcrel
+needs_scratch mi (Constant constant) = not mi.have_pcrel
+needs_scratch mi (Symbol name offset flags) = not mi.have_pcrel || (not flags.aligned && not mi.have_unaligned_pcrel)
+needs_scratch mi _ = false
+
+-- ---- what an instruction does with the memory at an address
+
+-- 8 bits, without a sign
+abbrev pub byte : Second
+byte = record { width = Bits8; sign = Unsigned; reversed = false }
+
+-- 8 bits, with their sign
+abbrev pub signed_byte : Second
+signed_byte = record { width = Bits8; sign = Signed; reversed = false }
+
+-- so many bits, their bytes in reverse order
+abbrev pub reversed_bytes : Width → Second
+reversed_bytes width = record { width = width; sign = Unsigned; reversed = true }
+
+-- the memory at an address as the second operand
+abbrev pub operand_at : Second → (address : ℕ) → Operand
+operand_at s address = record { source = InMemory address; width = s.width; sign = s.sign; reversed = s.reversed }
+
+-- register d becomes the operator's value on itself and the memory
+abbrev pub computes_at : CodeRule → Computation → (d address : ℕ) → Registers → Operation
+computes_at rule c d address r = with_rule rule (Compute c.operator c.size d (value_in c.size r d) (operand_at c.second address))
+
+-- the code becomes the order of register n and the memory
+abbrev pub compares_at : Comparison → (n address : ℕ) → Registers → Operation
+compares_at c n address r = with_rule Set (Compare c.sign c.size (value_in c.size r n) (operand_at c.second address))
+
+-- register d becomes the memory; what the size leaves stays
+abbrev pub loads_at : Size → Second → (d address : ℕ) → Registers → Operation
+loads_at size s d address r = with_rule Kept (Compute Move size d (value_in size r d) (operand_at s address))
+
+-- register d becomes the address
+abbrev pub loads_address : (d address : ℕ) → Registers → Operation
+loads_address d address r = with_rule Kept (Compute Move Doubleword d (r.general d) (operand_of doubleword address))
+
+-- the memory becomes the low bits of register n
+abbrev pub stores_at : Second → (n address : ℕ) → Registers → Operation
+stores_at s n address r = with_rule Kept (Store s.width (ordered s.reversed s.width (r.general n)) (InMemory address))
+
+-- the memory becomes the low bits of a value
+abbrev pub stores_value : Width → (stored address : ℕ) → Registers → Operation
+stores_value width stored address r = with_rule Kept (Store width stored (InMemory address))
+
+-- 16 bits of an immediate as 64, with their sign
+abbrev pub signed_immediate : (bits : ℕ) → ℕ
+signed_immediate bits = extended Signed Bits16 Doubleword bits
+
+-- the registers from the first to the last become the doublewords in memory
+abbrev pub loads_multiple : (first last address : ℕ) → Registers → Operation
+loads_multiple first last address r = with_rule Kept (LoadMultiple first (last + 1 - first) address)
+
+-- the doublewords in memory become the registers from the first to the last
+abbrev pub stores_multiple : (first last address : ℕ) → Registers → Operation
+stores_multiple first last address r = with_rule Kept (StoreMultiple (values_from r first 16) (last + 1 - first) address)
+
+-- register d becomes the memory, which becomes the operator's value on itself and register n, in one access
+abbrev pub operates_at : Computation → (d n address : ℕ) → Registers → Operation
+operates_at c d n address r = with_rule Set (LoadAndOperate c.operator c.size d (value_in c.size r n) address)
+
+-- the memory becomes register n where it is register d, else register d becomes the memory, in one access
+abbrev pub swaps_at : Size → (d n address : ℕ) → Registers → Operation
+swaps_at size d n address r = with_rule Set (CompareAndSwap size d (value_in size r d) (value_in size r n) address)
+
+-- ---- which forms of an operand the rows of an instruction have
+
+-- rows with an index: displacements of 12 bits and of 20, and an address relative to the instruction, which an access wants aligned
+abbrev pub indexed_forms : (short long relative : Bool) → MemInstType
+indexed_forms short long relative = record { have_d12 = short; have_d20 = long; have_pcrel = relative; have_unaligned_pcrel = false; have_index = true }
+
+-- rows without an index
+abbrev pub based_forms : (short long : Bool) → MemInstType
+based_forms short long = record { have_d12 = short; have_d20 = long; have_pcrel = false; have_unaligned_pcrel = false; have_index = false }
+
+-- operations on words have both displacements, those on doublewords that of 20 bits
+abbrev pub alu_forms : ALUOp → MemInstType
+alu_forms op = indexed_forms (is_word (alu_computation op).size) true false
+
+-- comparisons likewise, all also relative; two are relative alone
+abbrev pub cmp_forms : CmpOp → MemInstType
+cmp_forms C.CmpL32Ext16 = indexed_forms false false true
+cmp_forms C.CmpL64Ext16 = indexed_forms false false true
+cmp_forms op = indexed_forms (is_word (comparison op).size) true true
+
+-- ---- the instructions
+
+-- what an instruction does with its operand in memory
+pub record OperandStep : Type 0 where
+  pub operand : MemArg
+  -- which forms of an operand its rows have
+  pub forms : MemInstType
+  -- whether it accesses the memory at the operand's address
+  pub accesses : Bool
+  pub operation : (address : ℕ) → Registers → Operation
+
+-- one that accesses the memory there
+abbrev pub accesses_at : MemInstType → MemArg → (ℕ → Registers → Operation) → Option OperandStep
+accesses_at forms mem operation = Some (record { operand = mem; forms = forms; accesses = true; operation = operation })
+
+-- LOAD ADDRESS accesses nothing, and so takes every relative address
+abbrev pub takes_address : MemArg → (ℕ → Registers → Operation) → Option OperandStep
+takes_address mem operation =
+    Some (record { operand = mem; forms = record { have_d12 = true; have_d20 = true; have_pcrel = true; have_unaligned_pcrel = true; have_index = true }; accesses = false; operation = operation })
+
+-- the instructions with an operand in memory
+abbrev pub operand_step : Inst → Option OperandStep
+operand_step (AluRX op rd ri mem) = accesses_at (alu_forms op) mem (computes_at (alu_two_rule op) (alu_computation op) (number_of rd))
+operand_step (CmpRX op rn mem) = accesses_at (cmp_forms op) mem (compares_at (comparison op) (number_of rn))
+operand_step (Load32 rd mem) = accesses_at (indexed_forms true true true) mem (loads_at Word word (number_of rd))
+operand_step (Load32ZExt8 rd mem) = accesses_at (indexed_forms false true false) mem (loads_at Word byte (number_of rd))
+operand_step (Load32SExt8 rd mem) = accesses_at (indexed_forms false true false) mem (loads_at Word signed_byte (number_of rd))
+operand_step (Load32ZExt16 rd mem) = accesses_at (indexed_forms false true true) mem (loads_at Word halfword (number_of rd))
+operand_step (Load32SExt16 rd mem) = accesses_at (indexed_forms true true true) mem (loads_at Word signed_halfword (number_of rd))
+operand_step (Load64 rd mem) = accesses_at (indexed_forms false true true) mem (loads_at Doubleword doubleword (number_of rd))
+operand_step (Load64ZExt8 rd mem) = accesses_at (indexed_forms false true false) mem (loads_at Doubleword byte (number_of rd))
+operand_step (Load64SExt8 rd mem) = accesses_at (indexed_forms false true false) mem (loads_at Doubleword signed_byte (number_of rd))
+operand_step (Load64ZExt16 rd mem) = accesses_at (indexed_forms false true true) mem (loads_at Doubleword halfword (number_of rd))
+operand_step (Load64SExt16 rd mem) = accesses_at (indexed_forms false true true) mem (loads_at Doubleword signed_halfword (number_of rd))
+operand_step (Load64ZExt32 rd mem) = accesses_at (indexed_forms false true true) mem (loads_at Doubleword word (number_of rd))
+operand_step (Load64SExt32 rd mem) = accesses_at (indexed_forms false true true) mem (loads_at Doubleword signed_word (number_of rd))
+operand_step (LoadRev16 rd mem) = accesses_at (indexed_forms false true false) mem (loads_at Halfword (reversed_bytes Bits16) (number_of rd))
+operand_step (LoadRev32 rd mem) = accesses_at (indexed_forms false true false) mem (loads_at Word (reversed_bytes Bits32) (number_of rd))
+operand_step (LoadRev64 rd mem) = accesses_at (indexed_forms false true false) mem (loads_at Doubleword (reversed_bytes Bits64) (number_of rd))
+operand_step (LoadAddr rd mem) = takes_address mem (loads_address (number_of rd))
+operand_step (Store8 rd mem) = accesses_at (indexed_forms true true false) mem (stores_at byte (number_of rd))
+operand_step (Store16 rd mem) = accesses_at (indexed_forms true true true) mem (stores_at halfword (number_of rd))
+operand_step (Store32 rd mem) = accesses_at (indexed_forms true true true) mem (stores_at word (number_of rd))
+operand_step (Store64 rd mem) = accesses_at (indexed_forms false true true) mem (stores_at doubleword (number_of rd))
+operand_step (StoreRev16 rd mem) = accesses_at (indexed_forms false true false) mem (stores_at (reversed_bytes Bits16) (number_of rd))
+operand_step (StoreRev32 rd mem) = accesses_at (indexed_forms false true false) mem (stores_at (reversed_bytes Bits32) (number_of rd))
+operand_step (StoreRev64 rd mem) = accesses_at (indexed_forms false true false) mem (stores_at (reversed_bytes Bits64) (number_of rd))
+operand_step (StoreImm8 imm mem) = accesses_at (based_forms true true) mem (stores_value Bits8 (low_byte imm))
+operand_step (StoreImm16 imm mem) = accesses_at (based_forms true false) mem (stores_value Bits16 (signed_immediate (low_halfword imm)))
+operand_step (StoreImm32SExt16 imm mem) = accesses_at (based_forms true false) mem (stores_value Bits32 (signed_immediate (low_halfword imm)))
+operand_step (StoreImm64SExt16 imm mem) = accesses_at (based_forms true false) mem (stores_value Bits64 (signed_immediate (low_halfword imm)))
+operand_step (LoadMultiple64 rt rt2 mem) = accesses_at (based_forms false true) mem (loads_multiple (number_of rt) (number_of rt2))
+operand_step (StoreMultiple64 rt rt2 mem) = accesses_at (based_forms false true) mem (stores_multiple (number_of rt) (number_of rt2))
+operand_step (AtomicRmw op rd rn mem) = accesses_at (based_forms false true) mem (operates_at (alu_computation op) (number_of rd) (number_of rn))
+operand_step (AtomicCas32 rd ri rn mem) = accesses_at (based_forms true true) mem (swaps_at Word (number_of rd) (number_of rn))
+operand_step (AtomicCas64 rd ri rn mem) = accesses_at (based_forms false true) mem (swaps_at Doubleword (number_of rd) (number_of rn))
+operand_step _ = None

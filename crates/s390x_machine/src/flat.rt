@@ -1,0 +1,117 @@
+//! A memory of regions.
+
+ghost use Rattle.std.specs.Prelude.{◌≡◌, ℕ, ◌+◌, ◌-◌, ◌<◌, ◌≤◌, ◌^◌, ◌||◌, ◌∷◌, if◌then◌else◌, true, false, length, get_or, slice_index, IfOk, IfErr, MatchResult, MatchOption};
+ghost use Rattle.s390x_machine.specs.Regions.{contains, held_in, byte_in, covers, is_held, byte_of};
+
+use crate::memory::Memory;
+use s390x_base::NoMemory;
+use std::alloc::Global;
+
+/// Bytes from an address on.
+#[derive(Drop)]
+pub struct Region {
+    start: u64,
+    bytes: Vec<u8>,
+}
+
+impl Region {
+    /// Whether the address is one of the region's.
+    fn contains(&self, address: u64) -> bool
+        ensures { result ≡ contains self.now address }
+    {
+        address >= self.start && address - self.start < self.bytes.len() as u64
+    }
+}
+
+/// A memory of regions. An address in several of them belongs to the last one added.
+#[derive(Drop)]
+pub struct FlatMemory {
+    alloc: Global,
+    /// The last one added is the first.
+    regions: Vec<Region>,
+}
+
+/// The bytes again.
+fn copy_of(alloc: Global, bytes: &[u8]) -> Result<Vec<u8>, NoMemory>
+    ensures { IfOk result (λ copy. copy.items ≡ bytes.now) }
+{
+    let mut copy = Vec::new(alloc);
+    match copy.extend_from_slice(bytes) {
+        Ok(()) => Ok(copy),
+        Err(_) => Err(NoMemory),
+    }
+}
+
+/// The region comes before the others.
+fn put_first(regions: &mut Vec<Region>, region: Region) -> Result<(), NoMemory>
+    ensures { MatchResult result (λ _. regions.new.items ≡ region ∷ regions.old.items) (λ _. regions.new.items ≡ regions.old.items) }
+{
+    match regions.insert(0, region) {
+        Ok(()) => Ok(()),
+        Err(_) => Err(NoMemory),
+    }
+}
+
+impl FlatMemory {
+    /// A memory without an accessible address. It keeps the allocator.
+    pub fn new(alloc: Global) -> FlatMemory
+        ensures { (address : ℕ) → is_held result address ≡ false }
+    {
+        FlatMemory {
+            alloc,
+            regions: Vec::new(alloc),
+        }
+    }
+
+    /// Makes the addresses from a start on accessible, as many as there are bytes, and puts these there. `NoMemory` leaves the memory as it was.
+    pub fn add_region(&mut self, start: u64, bytes: &[u8]) -> Result<(), NoMemory>
+        requires { start + length bytes.now ≤ 2 ^ 64 }
+        ensures added { IfOk result (λ _. (address : ℕ) → is_held self.new address ≡ (covers start bytes.now address || is_held self.old address)) }
+        ensures filled { IfOk result (λ _. (address : ℕ) → byte_of self.new address ≡ (if covers start bytes.now address then slice_index bytes.now (address - start) else byte_of self.old address)) }
+        ensures kept { IfErr result (λ _. (is_held self.new ≡ is_held self.old) × (byte_of self.new ≡ byte_of self.old)) }
+    {
+        let bytes = copy_of(self.alloc, bytes)?;
+        put_first(&mut self.regions, Region { start, bytes })?;
+        Ok(())
+    }
+
+    /// The number of the region to which an address belongs.
+    fn holder(&self, address: u64) -> Option<usize>
+        ensures { MatchOption result (held_in self.now.regions.items address ≡ false) (λ i. (i < length self.now.regions.items) × ((z : Region) → contains (get_or self.now.regions.items i z) address ≡ true) × ((k : ℕ) → (z : Region) → k < i → contains (get_or self.now.regions.items k z) address ≡ false)) }
+    {
+        for i in 0..self.regions.len() {
+            if self.regions[i].contains(address) {
+                return Some(i);
+            }
+        }
+        None
+    }
+}
+
+impl Memory for FlatMemory {
+    ghost held = { is_held };
+
+    ghost byte = { byte_of };
+
+    fn has(&self, address: u64) -> bool {
+        self.holder(address).is_some()
+    }
+
+    fn get(&self, address: u64) -> u8 {
+        match self.holder(address) {
+            Some(i) => {
+                let region = &self.regions[i];
+                region.bytes[(address - region.start) as usize]
+            }
+            None => 0,
+        }
+    }
+
+    fn set(&mut self, address: u64, value: u8) {
+        if let Some(i) = self.holder(address) {
+            let region = &mut self.regions[i];
+            let k = (address - region.start) as usize;
+            region.bytes[k] = value;
+        }
+    }
+}

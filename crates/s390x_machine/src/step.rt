@@ -1,0 +1,183 @@
+//! One step of the machine.
+
+ghost use Rattle.std.specs.Prelude.{◌≡◌, ◌<◌, ℕ, ◌==◌, List, Option, Some, get_or, length, true, false, IsTrue, IsFalse};
+ghost use Rattle.s390x_format.specs.Formats.{length_of};
+ghost use Rattle.s390x_machine.specs.Fetch.{IsFound};
+ghost use Rattle.s390x_machine.specs.Meanings.{action, names_pair, is_odd_pair, meaning_in, meaning_of};
+ghost use Rattle.s390x_machine.specs.State.{memory_of, registers_of, state_of};
+ghost use Rattle.s390x_machine.specs.Sound.{HasRegisters, IsSoundAction, is_free, is_uncomputed};
+ghost use Rattle.s390x_machine.specs.Step.{Executes, Steps};
+
+use crate::action::action;
+use crate::fetch::{Fetched, fetch};
+use crate::machine::Machine;
+use crate::meaning::{Action, MEANINGS, Meaning, RowMeaning};
+use crate::memory::Memory;
+use crate::perform::{is_selected, perform};
+use crate::vector_action::shift_amount;
+use s390x_format::kind::length;
+use s390x_format::{Decoded, Fields};
+use s390x_lanes::lookup::{computes, operation};
+use s390x_lanes::operation::VectorOperation;
+use s390x_operations::StopKind;
+
+/// How a step ends.
+#[derive(Clone, Copy, PartialEq, Eq, Debug)]
+pub enum StepEnd {
+    /// The instruction is done.
+    Went,
+    /// The instruction at this place stops, and everything is as before.
+    Stopped(StopKind, u64),
+    /// The row's result is free or isn't computed; everything is as before.
+    NoRow,
+}
+
+/// The meaning that a list has for an opcode.
+fn meaning_in(rows: &[RowMeaning], opcode: u16) -> Option<Meaning>
+    ensures { result ≡ meaning_in rows.now opcode }
+{
+    for row in rows {
+        if row.opcode == opcode {
+            return Some(row.meaning);
+        }
+    }
+    None
+}
+
+/// The meaning of an opcode; none of one that isn't built.
+#[tactic(auto, unfolding(crate::specs::Meanings::meaning_of))]
+fn meaning_of(opcode: u16) -> Option<Meaning>
+    ensures { result ≡ meaning_of opcode }
+{
+    meaning_in(&MEANINGS, opcode)
+}
+
+/// Whether the row's r1 is the first of an even-odd pair.
+fn names_pair(meaning: Meaning) -> bool
+    ensures { result ≡ names_pair meaning }
+{
+    match meaning {
+        Meaning::MultiplySigned => true,
+        Meaning::MultiplyLogical => true,
+        Meaning::DivideSigned(_) => true,
+        Meaning::DivideLogical(_) => true,
+        Meaning::FindLeftmostOne => true,
+        _ => false,
+    }
+}
+
+/// Whether the row names a pair that begins at an odd register.
+fn is_odd_pair(meaning: Meaning, fields: &Fields) -> bool
+    ensures { result ≡ is_odd_pair meaning fields.now }
+{
+    names_pair(meaning) && fields.regs[0] % 2 == 1
+}
+
+/// Whether an operation on vectors isn't computed.
+fn is_uncomputed(operation: Option<VectorOperation>) -> bool
+    ensures { result ≡ is_uncomputed operation }
+{
+    match operation {
+        None => false,
+        Some(operation) => !computes(operation),
+    }
+}
+
+/// Whether the row leaves its result free, or is a high product of 128-bit elements.
+fn is_free(machine: &Machine, meaning: Meaning, fields: &Fields) -> bool
+    requires { HasRegisters meaning fields.now }
+    ensures { result ≡ is_free meaning fields.now (registers_of machine.now) }
+{
+    match meaning {
+        Meaning::PutAny => true,
+        Meaning::Elements(opcode) => is_uncomputed(operation(opcode, fields.masks, fields.imm)),
+        Meaning::ShiftElements(opcode) => {
+            is_uncomputed(operation(opcode, fields.masks, shift_amount(machine, fields)))
+        }
+        _ => false,
+    }
+}
+
+/// An action of an instruction of so many bytes.
+fn execute<M: Memory>(machine: &mut Machine, memory: &mut M, action: &Action, size: u64) -> StepEnd
+    requires { IsSoundAction action.now }
+    ensures { Executes action.now size (state_of machine.old (M.held memory.old) (M.byte memory.old)) result (state_of machine.new (M.held memory.new) (M.byte memory.new)) }
+{
+    let place = machine.place;
+    match *action {
+        Action::Perform(op) => match perform(machine, memory, &op) {
+            None => {
+                machine.place = place.wrapping_add(size);
+                StepEnd::Went
+            }
+            Some(kind) => StepEnd::Stopped(kind, place),
+        },
+        Action::Branch { mask, target } => {
+            machine.place = if is_selected(mask, machine.condition_code()) {
+                target
+            } else {
+                place.wrapping_add(size)
+            };
+            StepEnd::Went
+        }
+        Action::BranchAndSave { link, target } => {
+            machine.put(link, place.wrapping_add(size));
+            machine.place = target;
+            StepEnd::Went
+        }
+    }
+}
+
+/// The step at an instruction that was fetched, whose row means this.
+fn meaning_step<M: Memory>(
+    machine: &mut Machine,
+    memory: &mut M,
+    decoded: &Decoded,
+    meaning: Meaning,
+) -> StepEnd
+    requires found { IsFound (memory_of (M.held memory.old) (M.byte memory.old)) machine.old.place decoded.now }
+    requires is { meaning_of decoded.now.row.opcode ≡ Some meaning }
+    ensures { Steps (state_of machine.old (M.held memory.old) (M.byte memory.old)) result (state_of machine.new (M.held memory.new) (M.byte memory.new)) }
+{
+    if is_free(machine, meaning, &decoded.fields) {
+        return StepEnd::NoRow;
+    }
+    if is_odd_pair(meaning, &decoded.fields) {
+        return StepEnd::Stopped(StopKind::Specification, machine.place);
+    }
+    let action = action(machine, meaning, &decoded.fields);
+    execute(machine, memory, &action, length(decoded.row.format) as u64)
+}
+
+/// The step at an instruction that was fetched.
+fn row_step<M: Memory>(machine: &mut Machine, memory: &mut M, decoded: &Decoded) -> StepEnd
+    requires { IsFound (memory_of (M.held memory.old) (M.byte memory.old)) machine.old.place decoded.now }
+    ensures { Steps (state_of machine.old (M.held memory.old) (M.byte memory.old)) result (state_of machine.new (M.held memory.new) (M.byte memory.new)) }
+{
+    match meaning_of(decoded.row.opcode) {
+        None => StepEnd::NoRow,
+        Some(meaning) => meaning_step(machine, memory, decoded, meaning),
+    }
+}
+
+impl Machine {
+    /// One step: the instruction at the machine's place is done, or it stops (Principles of Operation, chapter 5, "Program execution", and
+    /// chapter 6, "Program interruption").
+    ///
+    /// At `Went` the machine and the memory are as a step of the definitions allows. At `Stopped` they are as before; the kind is the first
+    /// that applies, in this order: `Specification` where the place is odd, `Access` where a byte of the instruction isn't accessible,
+    /// `Operation` where no row has its bytes, `Specification` where a row of an even-odd pair names an odd register, and where an operand that
+    /// has to be aligned isn't, `Access` where a byte of the operand isn't accessible, and `Divide` or `CompareTrap` where the values bring
+    /// them about. The carried number is the instruction's place. `NoRow` comes exactly at a row whose result is free (LXA, LLXA, VBLEND, VEVAL), at
+    /// a high product of 128-bit elements, and where a row's meaning isn't built, and then everything is as before.
+    pub fn step<M: Memory>(&mut self, memory: &mut M) -> StepEnd
+        ensures { Steps (state_of self.old (M.held memory.old) (M.byte memory.old)) result (state_of self.new (M.held memory.new) (M.byte memory.new)) }
+    {
+        match fetch(memory, self.place) {
+            Fetched::Misplaced => StepEnd::Stopped(StopKind::Specification, self.place),
+            Fetched::Missing => StepEnd::Stopped(StopKind::Access, self.place),
+            Fetched::Unknown => StepEnd::Stopped(StopKind::Operation, self.place),
+            Fetched::Found(decoded) => row_step(self, memory, &decoded),
+        }
+    }
+}

@@ -1,0 +1,80 @@
+-- Trees of instructions as they are given, and the lines of those without frame operands.
+use Rattle.std.proofs.Common.{◌≡◌, List, [], ◌∷◌, map, refl, ap₂}
+use Rattle.s390x_inst.specs.Emission.{Emission}
+use Rattle.s390x_inst.specs.declared.function.Block.{Block}
+use Rattle.s390x_inst.specs.declared.inst.Inst.{Inst, Row_of-Inst, end_of-Inst, more_of-Inst}
+use Rattle.s390x_inst.specs.declared.inst.Inst.TheVariants.{Loop', Vector}
+use Rattle.s390x_inst.specs.declared.vec_inst.VecInst.{VecInst}
+use Rattle.s390x_inst.specs.declared.vec_inst.VecInst.TheVariants.{VecRR}
+use Rattle.s390x_steps.specs.Operands.{resolved}
+use Rattle.s390x_steps.specs.Resolved.{resolved_instruction}
+use Rattle.s390x_steps.specs.Tree.{Tree, empty, leaf, looped, graft, row_tree, tree}
+use Rattle.s390x_emit_int.specs.Function.{tree_of}
+use Rattle.s390x_fields.specs.Fields.{Field, FMemory}
+use Rattle.s390x_lines.specs.Line.{Line}
+use Rattle.s390x_lines.specs.Instructions.{inst_line, vector_line}
+use Rattle.s390x_lines.specs.declared.name.LineName.{LineName}
+use Rattle.s390x_lines.specs.declared.name.LineName.TheVariants as N
+use Rattle.s390x_tool.proofs.SameTree.{LineTree, none, one, around, lines_tree}
+
+abbrev mutual
+  -- an instruction as it is given, before others
+  pub raw_graft : Inst → Tree → Tree
+  raw_graft (Loop' mask body all) rest = looped mask (raw_row all) rest
+  raw_graft i rest = leaf i rest
+
+  pub raw_row : {m : _} → Row_of-Inst m → Tree
+  raw_row end_of-Inst = empty
+  raw_row (more_of-Inst i rest) = raw_graft i (raw_row rest)
+
+abbrev pub raw_tree : List Inst → Tree
+raw_tree [] = empty
+raw_tree (i ∷ is) = raw_graft i (raw_tree is)
+
+abbrev pub raw_block : Block → Tree
+raw_block b = raw_tree b.insts.items
+
+-- a field without a frame operand
+abbrev pub resolved_field : Emission → Field → Field
+resolved_field e (FMemory mem) = FMemory (resolved e mem)
+resolved_field e f = f
+
+-- no instruction on vectors with an operand is built yet
+abbrev pub resolved_fields : Emission → LineName → List Field → List Field
+resolved_fields e (N.Vector name) fs = fs
+resolved_fields e name fs = map (resolved_field e) fs
+
+abbrev pub resolved_line : Emission → Line → Line
+resolved_line e l = record { name = l.name; fields = resolved_fields e l.name l.fields }
+
+abbrev pub resolved_lines : Emission → LineTree → LineTree
+resolved_lines e none = none
+resolved_lines e (one l rest) = one (resolved_line e l) (resolved_lines e rest)
+resolved_lines e (around mask members rest) = around mask (resolved_lines e members) (resolved_lines e rest)
+
+vector_resolved : (e : Emission) (v : VecInst) → vector_line v ≡ resolved_line e (vector_line v)
+vector_resolved e (VecRR op rd rn) = refl
+vector_resolved e v = refl
+
+-- the line of an instruction without a frame operand
+inst_resolved : (e : Emission) (i : Inst) → inst_line (resolved_instruction e i) ≡ resolved_line e (inst_line i)
+inst_resolved e (Vector v) = vector_resolved e v
+inst_resolved e i = refl
+
+mutual
+  graft_resolved : (e : Emission) (i : Inst) (t u : Tree) → lines_tree t ≡ resolved_lines e (lines_tree u) → lines_tree (graft e i t) ≡ resolved_lines e (lines_tree (raw_graft i u))
+  graft_resolved e (Loop' mask body all) t u h = ap₂ (around mask) (row_resolved e all) h
+  graft_resolved e i t u h = ap₂ one (inst_resolved e i) h
+
+  row_resolved : (e : Emission) {m : _} (r : Row_of-Inst m) → lines_tree (row_tree e r) ≡ resolved_lines e (lines_tree (raw_row r))
+  row_resolved e end_of-Inst = refl
+  row_resolved e (more_of-Inst i rest) = graft_resolved e i (row_tree e rest) (raw_row rest) (row_resolved e rest)
+
+tree_resolved : (e : Emission) (is : List Inst) → lines_tree (tree e is) ≡ resolved_lines e (lines_tree (raw_tree is))
+tree_resolved e [] = refl
+tree_resolved e (i ∷ is) = graft_resolved e i (tree e is) (raw_tree is) (tree_resolved e is)
+
+-- the lines of blocks without frame operands
+pub blocks_resolved : (e : Emission) (bs : List Block) → map lines_tree (map (tree_of e) bs) ≡ map (resolved_lines e) (map lines_tree (map raw_block bs))
+blocks_resolved e [] = refl
+blocks_resolved e (b ∷ bs) = ap₂ (λ t ts. t ∷ ts) (tree_resolved e b.insts.items) (blocks_resolved e bs)
