@@ -10,11 +10,13 @@ use Rattle.s390x_inst.specs.declared.inst.Inst.TheVariants.{Mov64SImm32, LoadAdd
 use Rattle.s390x_steps.specs.MachineInstruction.{MachineInstruction, size_of}
 use Rattle.s390x_steps.specs.Tree.{Tree}
 use Rattle.s390x_steps.specs.Alone.{Alone, alone, stop_code}
-use Rattle.s390x_steps.specs.Operands.{finalized}
-use Rattle.s390x_steps.specs.Memory.{MemoryInstruction, memory, type_of, storage_row, fault_code}
+use Rattle.s390x_inst.specs.declared.args.MemArg.{MemArg}
+use Rattle.s390x_inst.specs.declared.args.MemArg.TheVariants.{Label, Constant, Symbol}
+use Rattle.s390x_steps.specs.Operands.{finalized, is_relative}
+use Rattle.s390x_steps.specs.Memory.{StorageForm, RxForm, RsForm, SiForm, SilForm, MemoryInstruction, memory, type_of, storage_row, address_form, fault_code}
 use Rattle.s390x_steps.specs.Steps.{Step, Plain, Opening, Back, Break, function_steps}
-use Rattle.s390x_steps.specs.Parts.{Part, Row, Trapping, Branch, Relative, TableWord, part_size, parts_size, branch_parts, row_part, access_parts, helper_parts, helpers_parts, memory_or, parts_or, step_parts, step_size, table_words, SymbolValue, TrapHere}
-use Rattle.s390x_steps.specs.Image.{place, function_places}
+use Rattle.s390x_steps.specs.Parts.{Part, Row, Trapping, Branch, Relative, RelativeConstant, RelativeSymbol, TableWord, part_size, parts_size, branch_parts, row_part, access_parts, trap_here, relative_part, relative_parts, operand_parts, helper_parts, helpers_parts, memory_or, parts_or, step_parts, step_size, table_words, SymbolValue, TrapHere}
+use Rattle.s390x_steps.specs.Image.{place}
 use Rattle.s390x_steps.specs.Traps.{part_traps, parts_traps, step_traps, traps_from, function_traps, first_code}
 
 -- the entries stand at a place or behind it
@@ -83,6 +85,8 @@ part_above p (Trapping m byte code) = (omega arith, tt)
 part_above p (Row m) = tt
 part_above p (Branch mask target) = tt
 part_above p (Relative opcode register target) = tt
+part_above p (RelativeConstant opcode register constant) = tt
+part_above p (RelativeSymbol opcode register name offset) = tt
 part_above p (SymbolValue name offset) = tt
 part_above p (TrapHere code) = (omega arith, tt)
 part_above p (TableWord before target) = tt
@@ -98,6 +102,8 @@ parts_below p high (Trapping m byte code ∷ parts) le h = (omega (arith, h.0), 
 parts_below p high (Row m ∷ parts) le h = parts_below (p + size_of m) high parts (omega arith) h
 parts_below p high (Branch mask target ∷ parts) le h = parts_below (p + 6) high parts (omega arith) h
 parts_below p high (Relative opcode register target ∷ parts) le h = parts_below (p + 6) high parts (omega arith) h
+parts_below p high (RelativeConstant opcode register constant ∷ parts) le h = parts_below (p + 6) high parts (omega arith) h
+parts_below p high (RelativeSymbol opcode register name offset ∷ parts) le h = parts_below (p + 6) high parts (omega arith) h
 parts_below p high (SymbolValue name offset ∷ parts) le h = parts_below (p + 8) high parts (omega arith) h
 parts_below p high (TrapHere code ∷ parts) le h = (omega (arith, h.0), parts_below (p + 0) high parts (omega arith) h.1)
 parts_below p high (TableWord before target ∷ parts) le h = parts_below (p + 4) high parts (omega arith) h
@@ -134,6 +140,8 @@ inside_append (Trapping m byte code ∷ a) b h k = (h.0, inside_append a b h.1 k
 inside_append (Row m ∷ a) b h k = inside_append a b h k
 inside_append (Branch mask target ∷ a) b h k = inside_append a b h k
 inside_append (Relative opcode register target ∷ a) b h k = inside_append a b h k
+inside_append (RelativeConstant opcode register constant ∷ a) b h k = inside_append a b h k
+inside_append (RelativeSymbol opcode register name offset ∷ a) b h k = inside_append a b h k
 inside_append (SymbolValue name offset ∷ a) b h k = inside_append a b h k
 inside_append (TrapHere code ∷ a) b h k = (omega (arith, h.0, more_parts a b), inside_append a b h.1 k)
 inside_append (TableWord before target ∷ a) b h k = inside_append a b h k
@@ -143,9 +151,32 @@ access_inside None code = tt
 access_inside (Some m) None = tt
 access_inside (Some m) (Some code) = let some = length_some m.format in (omega (arith, some), tt)
 
+relative_part_inside : (opcode register : ℕ) (code : Option TrapKind) (m : MemArg) → is_relative m ≡ true → Inside (trap_here code ++ relative_part opcode register m)
+relative_part_inside opcode register None (Label target) e = tt
+relative_part_inside opcode register None (Constant c) e = tt
+relative_part_inside opcode register None (Symbol name offset flags) e = tt
+relative_part_inside opcode register (Some code) (Label target) e = (omega arith, tt)
+relative_part_inside opcode register (Some code) (Constant c) e = (omega arith, tt)
+relative_part_inside opcode register (Some code) (Symbol name offset flags) e = (omega arith, tt)
+relative_part_inside opcode register code m e = absurd (cc)
+
+relative_inside : (form : StorageForm) (code : Option TrapKind) (m : MemArg) → is_relative m ≡ true → Inside (relative_parts form code m)
+relative_inside (RxForm register short long (Some opcode)) code m e = relative_part_inside opcode register code m e
+relative_inside (RxForm register short long None) code m e = tt
+relative_inside (RsForm first second short long) code m e = tt
+relative_inside (SiForm imm short long) code m e = tt
+relative_inside (SilForm bits opcode) code m e = tt
+
+operand_inside : (form : StorageForm) (code : Option TrapKind) (m : MemArg) → Inside (operand_parts form code m)
+operand_inside form code m = go (is_relative m) refl
+  where
+    go : (t : Bool) → is_relative m ≡ t → Inside (cond t (relative_parts form code m) (access_parts (storage_row form m) code))
+    go true e = relative_inside form code m e
+    go false e = access_inside (storage_row form m) code
+
 helper_inside : (i : Inst) → Inside (helper_parts i)
 helper_inside (Mov64SImm32 rd imm) = tt
-helper_inside (LoadAddr rd mem) = access_inside _ None
+helper_inside (LoadAddr rd mem) = operand_inside (address_form rd) None mem
 helper_inside i = tt
 
 helpers_inside : (is : List Inst) → Inside (helpers_parts is)
@@ -156,7 +187,7 @@ memory_inside : (o : Option MemoryInstruction) (others : List Part) → Inside o
 memory_inside None others h = h
 memory_inside (Some x) others h =
     let f = finalized (type_of x.form x.accesses) x.operand in
-    inside_append (helpers_parts f.helpers) (access_parts (storage_row x.form f.operand) (fault_code x)) (helpers_inside f.helpers) (access_inside (storage_row x.form f.operand) (fault_code x))
+    inside_append (helpers_parts f.helpers) (operand_parts x.form (fault_code x) f.operand) (helpers_inside f.helpers) (operand_inside x.form (fault_code x) f.operand)
 
 instruction_inside : (o : Option Alone) (code : Option TrapKind) (others : List Part) → Inside others → Inside (parts_or o code others)
 instruction_inside None code others h = h
@@ -210,9 +241,9 @@ found at k p (x ∷ ss) h (suc j) s e o low high =
     ∙ ap (λ n. first_code (step_traps (at n) s) o) (sym n1)
 
 -- inside the bytes of step k the table has the traps of that step and no others
-pub step_codes : (ts : List Tree) (k : ℕ) (s : Step) → slice_get (function_steps ts) k ≡ Some s → (o : ℕ) → (function_places ts).step k ≤ o → o < (function_places ts).step (suc k) → first_code (function_traps ts) o ≡ first_code (step_traps ((function_places ts).step k) s) o
+pub step_codes : (ts : List Tree) (k : ℕ) (s : Step) → slice_get (function_steps ts) k ≡ Some s → (o : ℕ) → place (function_steps ts) k ≤ o → o < place (function_steps ts) (suc k) → first_code (function_traps ts) o ≡ first_code (step_traps (place (function_steps ts) k) s) o
 step_codes ts k s e o low high =
-    let at = (function_places ts).step in
+    let at = place (function_steps ts) in
     let z : 0 + k ≡ k = omega arith in
     let z1 : 0 + suc k ≡ suc k = omega arith in
     found at 0 0 (function_steps ts) (λ j. let y : 0 + j ≡ j = omega arith in ap at y ∙ omega arith) k s e o (subst (λ n. at n ≤ o) (sym z) low) (subst (λ n. o < at n) (sym z1) high)

@@ -1,18 +1,20 @@
 -- Why emission refuses an instruction: the first cause, in the order of the steps.
-use Rattle.std.specs.Prelude.{ℕ, ◌+◌, List, [], ◌∷◌, Bool, true, false, cond, not, ◌&&◌, ◌||◌, nat_lt, Option, Some, None}
+use Rattle.std.specs.Prelude.{ℕ, ◌+◌, pos, ◌+ℤ◌, List, [], ◌∷◌, length, get_or, Bool, true, false, cond, not, ◌&&◌, ◌||◌, nat_le, nat_lt, Option, Some, None}
 use Rattle.s390x_base.specs.declared.ir.MachLabel.{MachLabel}
 use Rattle.s390x_base.specs.declared.regs.Reg.{Reg}
 use Rattle.s390x_base.specs.declared.error.EmitError.{EmitError}
-use Rattle.s390x_base.specs.declared.error.EmitError.TheVariants.{MissingFacility, BadOperator, BadRegister, ScratchConflict, OffsetOutOfRange, BreakOutsideLoop, UnboundLabel, LabelOutOfRange}
+use Rattle.s390x_base.specs.declared.error.EmitError.TheVariants.{MissingFacility, BadOperator, BadRegister, ScratchConflict, OffsetOutOfRange, BreakOutsideLoop, UnboundLabel, BadAlignment, LabelOutOfRange}
 use Rattle.s390x_inst.specs.declared.args.MemArg.{MemArg}
+use Rattle.s390x_inst.specs.declared.args.MemArg.TheVariants.{Label, Constant, Symbol}
 use Rattle.s390x_inst.specs.declared.inst.Inst.{Inst}
 use Rattle.s390x_inst.specs.declared.inst.Inst.TheVariants.{Jump, CondBr, IndirectBr, Ret, JTSequence, CondBreak, Nop0, LabelAddress, LoadSymbolReloc, Trap, TrapIf, Debugtrap}
 use Rattle.s390x_inst.specs.declared.state.IsaFlags.{IsaFlags}
 use Rattle.s390x_inst.specs.Facilities.{facility_of, has_facility}
 use Rattle.s390x_steps.specs.General.{is_general, is_nonzero, is_scratch}
 use Rattle.s390x_steps.specs.Alone.{Alone, alone}
-use Rattle.s390x_steps.specs.Operands.{finalized, is_relative, has_form, loses_base, offset_fits, operand_general}
-use Rattle.s390x_steps.specs.Memory.{MemoryInstruction, memory, type_of}
+use Rattle.s390x_steps.specs.Operands.{finalized, is_relative, has_form, needs_address, fits_32, loses_base, offset_fits, operand_general}
+use Rattle.s390x_steps.specs.Memory.{StorageForm, RxForm, MemoryInstruction, memory, type_of}
+use Rattle.s390x_steps.specs.Storage.{relative_bytes}
 use Rattle.s390x_steps.specs.declared.mem_inst_type.MemInstType.{MemInstType}
 use Rattle.s390x_steps.specs.Tree.{Tree, empty, leaf, looped}
 
@@ -59,6 +61,11 @@ branch_cause blocks depth _ = Some BadOperator
 abbrev pub operand_cause : MemInstType → MemArg → Option EmitError
 operand_cause type m = first (unless (has_form type m) BadOperator) (first (unless (not (loses_base m)) ScratchConflict) (unless (offset_fits m) OffsetOutOfRange))
 
+-- what an instruction may name: so many blocks, and constants with these alignments
+pub record Declared : Type 0 where
+  pub blocks : ℕ
+  pub aligns : List ℕ
+
 -- there are helpers
 abbrev pub is_helped : List Inst → Bool
 is_helped [] = false
@@ -68,21 +75,52 @@ is_helped (i ∷ is) = true
 abbrev pub loses_scratch : MemoryInstruction → Bool
 loses_scratch x = loses_base x.operand || (x.reads_scratch && is_helped (finalized (type_of x.form x.accesses) x.operand).helpers)
 
+-- a relocation's addend is the offset plus 2, since its field stands two bytes behind the instruction's beginning
+abbrev pub addend_fits : MemArg → Bool
+addend_fits (Symbol name offset flags) = fits_32 (offset +ℤ pos 2)
+addend_fits m = true
+
 -- the causes behind those of the rows and the registers
 abbrev pub late_cause : MemoryInstruction → Option EmitError
-late_cause x = first (unless (not (loses_scratch x)) ScratchConflict) (unless (offset_fits x.operand) OffsetOutOfRange)
+late_cause x = first (unless (not (loses_scratch x)) ScratchConflict) (unless (offset_fits x.operand && addend_fits x.operand) OffsetOutOfRange)
 
--- the causes of an instruction with a memory operand. Operands that are relative to the instruction aren't built yet, and are refused
-abbrev pub memory_cause : MemoryInstruction → Option EmitError
-memory_cause x =
-    first (unless (has_form (type_of x.form x.accesses) x.operand && not (is_relative x.operand)) BadOperator)
+-- a cause: the operand's label names no block, or its constant isn't declared
+abbrev pub bound_cause : Declared → MemArg → Option EmitError
+bound_cause D (Label target) = label_cause D.blocks target
+bound_cause D (Constant c) = unless (nat_lt c.0 (length D.aligns)) UnboundLabel
+bound_cause D m = None
+
+-- an access of an operand that stands in it relative to the instruction, by so many bytes
+abbrev pub relative_access : StorageForm → MemInstType → (accesses : Bool) → MemArg → ℕ
+relative_access (RxForm register rx_opcode rxy_opcode (Some opcode)) mi accesses m = cond (accesses && is_relative m && not (needs_address mi m)) (relative_bytes opcode) 1
+relative_access form mi accesses m = 1
+
+-- the boundary on which such an operand has to stand; 1 where the access is none of these
+abbrev pub boundary : MemoryInstruction → ℕ
+boundary x = relative_access x.form (type_of x.form x.accesses) x.accesses x.operand
+
+-- a cause: nothing tells that the operand stands on the boundary. Code stands at even places, and constants as they are declared; of symbols the
+-- flags told it
+abbrev pub alignment_cause : Declared → (boundary : ℕ) → MemArg → Option EmitError
+alignment_cause D boundary (Label target) = unless (nat_le boundary 2) BadAlignment
+alignment_cause D boundary (Constant c) = unless (nat_le boundary (get_or D.aligns c.0 0)) BadAlignment
+alignment_cause D boundary m = None
+
+-- the causes of the place that an operand names
+abbrev pub place_cause : Declared → MemoryInstruction → Option EmitError
+place_cause D x = first (bound_cause D x.operand) (alignment_cause D (boundary x) x.operand)
+
+-- the causes of an instruction with a memory operand
+abbrev pub memory_cause : Declared → MemoryInstruction → Option EmitError
+memory_cause D x =
+    first (unless (has_form (type_of x.form x.accesses) x.operand) BadOperator)
     (first (unless (x.fine && operand_general x.operand) BadRegister)
-    (late_cause x))
+    (first (late_cause x) (place_cause D x)))
 
 -- an instruction with a memory operand has these; another one has its own causes
-abbrev pub memory_cause_or : Option MemoryInstruction → Option EmitError → Option EmitError
-memory_cause_or None others = others
-memory_cause_or (Some x) others = memory_cause x
+abbrev pub memory_cause_or : Declared → Option MemoryInstruction → Option EmitError → Option EmitError
+memory_cause_or D None others = others
+memory_cause_or D (Some x) others = memory_cause D x
 
 -- an instruction that is one machine instruction is refused for its registers alone; another one has its own causes
 abbrev pub cause_or : Option Alone → Option EmitError → Option EmitError
@@ -94,8 +132,8 @@ abbrev pub facility_cause : IsaFlags → Inst → Option EmitError
 facility_cause flags i = unless (has_facility flags (facility_of i)) MissingFacility
 
 -- the causes of an instruction that is no `Loop`, inside so many loops: its facility first
-abbrev pub instruction_cause : IsaFlags → (blocks depth : ℕ) → Inst → Option EmitError
-instruction_cause flags blocks depth i = first (facility_cause flags i) (cause_or (alone i) (memory_cause_or (memory i) (branch_cause blocks depth i)))
+abbrev pub instruction_cause : IsaFlags → Declared → (depth : ℕ) → Inst → Option EmitError
+instruction_cause flags D depth i = first (facility_cause flags i) (cause_or (alone i) (memory_cause_or D (memory i) (branch_cause D.blocks depth i)))
 
 -- label numbers end below 2 ^ 32; n are in use, and so many more are drawn
 abbrev pub numbers_cause : (n more : ℕ) → Option EmitError
@@ -107,8 +145,8 @@ instruction_draws (JTSequence ridx other mask targets) = 1
 instruction_draws _ = 0
 
 -- the causes of an instruction that is no `Loop`, with n labels in use: its own, and the numbers of the labels that it draws
-abbrev pub leaf_cause : IsaFlags → (blocks n depth : ℕ) → Inst → Option EmitError
-leaf_cause flags blocks n depth i = first (instruction_cause flags blocks depth i) (numbers_cause n (instruction_draws i))
+abbrev pub leaf_cause : IsaFlags → Declared → (n depth : ℕ) → Inst → Option EmitError
+leaf_cause flags D n depth i = first (instruction_cause flags D depth i) (numbers_cause n (instruction_draws i))
 
 -- how many labels a tree draws: two for each loop, and one for each table
 abbrev pub draws : Tree → ℕ
@@ -121,13 +159,13 @@ abbrev pub nesting_cause : ℕ → Option EmitError
 nesting_cause depth = unless (nat_lt depth 8) BadOperator
 
 -- the first cause in a tree, inside so many loops, with n labels in use
-abbrev pub tree_cause : IsaFlags → (blocks n depth : ℕ) → Tree → Option EmitError
-tree_cause flags blocks n depth empty = None
-tree_cause flags blocks n depth (leaf i rest) = first (leaf_cause flags blocks n depth i) (tree_cause flags blocks (n + instruction_draws i) depth rest)
-tree_cause flags blocks n depth (looped mask members rest) =
-    first (first (first (nesting_cause depth) (numbers_cause n 2)) (tree_cause flags blocks (n + 2) (depth + 1) members)) (tree_cause flags blocks (n + 2 + draws members) depth rest)
+abbrev pub tree_cause : IsaFlags → Declared → (n depth : ℕ) → Tree → Option EmitError
+tree_cause flags D n depth empty = None
+tree_cause flags D n depth (leaf i rest) = first (leaf_cause flags D n depth i) (tree_cause flags D (n + instruction_draws i) depth rest)
+tree_cause flags D n depth (looped mask members rest) =
+    first (first (first (nesting_cause depth) (numbers_cause n 2)) (tree_cause flags D (n + 2) (depth + 1) members)) (tree_cause flags D (n + 2 + draws members) depth rest)
 
 -- the first cause in the blocks
-abbrev pub blocks_cause : IsaFlags → (blocks n : ℕ) → List Tree → Option EmitError
-blocks_cause flags blocks n [] = None
-blocks_cause flags blocks n (t ∷ ts) = first (tree_cause flags blocks n 0 t) (blocks_cause flags blocks (n + draws t) ts)
+abbrev pub blocks_cause : IsaFlags → Declared → (n : ℕ) → List Tree → Option EmitError
+blocks_cause flags D n [] = None
+blocks_cause flags D n (t ∷ ts) = first (tree_cause flags D n 0 t) (blocks_cause flags D (n + draws t) ts)

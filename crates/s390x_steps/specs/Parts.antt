@@ -1,6 +1,6 @@
 -- What a step consists of, before its targets have places: its machine instructions and the words of its tables, and where their distances lead
 -- (cranelift-codegen, `emit.rs`).
-use Rattle.std.specs.Prelude.{ℕ, ◌+◌, ◌-◌, List, [], ◌∷◌, ◌++◌, Option, Some, None, ℤ}
+use Rattle.std.specs.Prelude.{ℕ, ◌+◌, ◌-◌, List, [], ◌∷◌, ◌++◌, Option, Some, None, ℤ, cond}
 use Rattle.s390x_base.specs.Regs.{number_of}
 use Rattle.s390x_base.specs.declared.ir.ExternalName.{ExternalName}
 use Rattle.s390x_base.specs.declared.ir.MachLabel.{MachLabel}
@@ -12,8 +12,10 @@ use Rattle.s390x_inst.specs.declared.inst.Inst.TheVariants.{Mov64SImm32, LoadAdd
 use Rattle.s390x_steps.specs.General.{low_word}
 use Rattle.s390x_steps.specs.MachineInstruction.{MachineInstruction, size_of, format_e, rr, ri_b, ril_a, ril_c, ril_b, rxy}
 use Rattle.s390x_steps.specs.Alone.{Alone, alone, stop_code}
-use Rattle.s390x_steps.specs.Operands.{Finalized, finalized}
-use Rattle.s390x_steps.specs.Memory.{StorageForm, MemoryInstruction, memory, type_of, storage_row, address_form, fault_code}
+use Rattle.s390x_inst.specs.declared.args.MemArg.{MemArg}
+use Rattle.s390x_inst.specs.declared.args.MemArg.TheVariants.{Label, Constant, Symbol}
+use Rattle.s390x_steps.specs.Operands.{Finalized, finalized, is_relative}
+use Rattle.s390x_steps.specs.Memory.{StorageForm, RxForm, MemoryInstruction, memory, type_of, storage_row, address_form, fault_code}
 use Rattle.s390x_steps.specs.Steps.{Step, Plain, Opening, Back, Break}
 
 -- where a distance leads
@@ -31,6 +33,10 @@ pub data Part : Type 0 where
   Branch : (mask : ℕ) → Target → Part
   -- one of format RIL-B: a register, and an address relative to the instruction
   Relative : (opcode register : ℕ) → Target → Part
+  -- the same with the address of a constant
+  RelativeConstant : (opcode register constant : ℕ) → Part
+  -- the same with a symbol's address plus an offset, to which linking fills in the distance
+  RelativeSymbol : (opcode register : ℕ) → (name : ExternalName) → (offset : ℤ) → Part
   -- eight bytes that linking fills: a symbol's address plus an offset
   SymbolValue : (name : ExternalName) → (offset : ℤ) → Part
   -- no bytes: a trap recorded at the first byte of the next part
@@ -48,10 +54,31 @@ access_parts None code = []
 access_parts (Some m) None = Row m ∷ []
 access_parts (Some m) (Some code) = Trapping m 0 code ∷ []
 
+-- a trap recorded at the first byte of what follows, where its faults have a code
+abbrev pub trap_here : Option TrapKind → List Part
+trap_here None = []
+trap_here (Some code) = TrapHere code ∷ []
+
+-- a register and an operand that is relative to the instruction
+abbrev pub relative_part : (opcode register : ℕ) → MemArg → List Part
+relative_part opcode register (Label target) = Relative opcode register (ToBlock target.0) ∷ []
+relative_part opcode register (Constant c) = RelativeConstant opcode register c.0 ∷ []
+relative_part opcode register (Symbol name offset flags) = RelativeSymbol opcode register name offset ∷ []
+relative_part opcode register m = []
+
+-- an access by the row that takes such an operand; none where there is no row
+abbrev pub relative_parts : StorageForm → Option TrapKind → MemArg → List Part
+relative_parts (RxForm register rx_opcode rxy_opcode (Some opcode)) code m = trap_here code ++ relative_part opcode register m
+relative_parts form code m = []
+
+-- an access of an operand that stands in it as it is
+abbrev pub operand_parts : StorageForm → Option TrapKind → MemArg → List Part
+operand_parts form code m = cond (is_relative m) (relative_parts form code m) (access_parts (storage_row form m) code)
+
 -- the parts of a helper, whose operand stands in it as it is
 abbrev pub helper_parts : Inst → List Part
 helper_parts (Mov64SImm32 rd imm) = Row (ril_a 0xc01 (number_of rd) (low_word imm)) ∷ []
-helper_parts (LoadAddr rd mem) = access_parts (storage_row (address_form rd) mem) None
+helper_parts (LoadAddr rd mem) = operand_parts (address_form rd) None mem
 helper_parts _ = []
 
 -- those of helpers, in order
@@ -61,7 +88,7 @@ helpers_parts (i ∷ is) = helper_parts i ++ helpers_parts is
 
 -- the helpers, and then the access
 abbrev pub finalized_parts : StorageForm → Option TrapKind → Finalized → List Part
-finalized_parts form code f = helpers_parts f.helpers ++ access_parts (storage_row form f.operand) code
+finalized_parts form code f = helpers_parts f.helpers ++ operand_parts form code f.operand
 
 -- the parts of an instruction with a memory operand
 abbrev pub memory_parts : MemoryInstruction → List Part
@@ -138,6 +165,8 @@ part_size (Row m) = size_of m
 part_size (Trapping m byte code) = size_of m
 part_size (Branch mask target) = 6
 part_size (Relative opcode register target) = 6
+part_size (RelativeConstant opcode register constant) = 6
+part_size (RelativeSymbol opcode register name offset) = 6
 part_size (SymbolValue name offset) = 8
 part_size (TrapHere code) = 0
 part_size (TableWord before target) = 4

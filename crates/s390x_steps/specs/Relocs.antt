@@ -1,14 +1,15 @@
 -- The table of relocations: the fields that linking fills, by their offsets in the code.
-use Rattle.std.specs.Prelude.{ℕ, ◌+◌, List, [], ◌∷◌, ◌++◌}
-use Rattle.s390x_base.specs.declared.ir.Reloc.TheVariants.{Abs8}
+use Rattle.std.specs.Prelude.{ℕ, ◌+◌, pos, ◌+ℤ◌, List, [], ◌∷◌, ◌++◌}
+use Rattle.s390x_base.specs.declared.ir.Reloc.TheVariants.{S390xPCRel32Dbl, Abs8}
 use Rattle.s390x_buffer.specs.declared.entries.RelocEntry.{RelocEntry}
 use Rattle.s390x_steps.specs.Tree.{Tree}
 use Rattle.s390x_steps.specs.Steps.{Step, function_steps}
-use Rattle.s390x_steps.specs.Parts.{Part, SymbolValue, part_size, step_parts}
-use Rattle.s390x_steps.specs.Image.{function_places}
+use Rattle.s390x_steps.specs.Parts.{Part, RelativeSymbol, SymbolValue, part_size, step_parts}
+use Rattle.s390x_steps.specs.Image.{place}
 
 -- the relocation that a part at a place has, if it does
 abbrev pub part_relocs : ℕ → Part → List RelocEntry
+part_relocs p (RelativeSymbol opcode register name offset) = record { offset = p + 2; kind = S390xPCRel32Dbl; name = name; addend = offset +ℤ pos 2 } ∷ []
 part_relocs p (SymbolValue name offset) = record { offset = p; kind = Abs8; name = name; addend = offset } ∷ []
 part_relocs p _ = []
 
@@ -28,4 +29,4 @@ relocs_from at k (s ∷ ss) = step_relocs (at k) s ++ relocs_from at (k + 1) ss
 
 -- the table of a function: its steps' relocations, and no others
 abbrev pub function_relocs : List Tree → List RelocEntry
-function_relocs ts = relocs_from (function_places ts).step 0 (function_steps ts)
+function_relocs ts = relocs_from (place (function_steps ts)) 0 (function_steps ts)

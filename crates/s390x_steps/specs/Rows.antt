@@ -4,14 +4,24 @@ use Rattle.std.specs.Int.{w64, to_be_bytes}
 use Rattle.s390x_base.specs.declared.ir.ExternalName.{ExternalName}
 use Rattle.std.specs.Prelude.{ℕ, ℤ, ◌+◌, ◌-◌, ◌/◌, ◌%◌, List, [], ◌∷◌, ◌++◌}
 use Rattle.s390x_steps.specs.MachineInstruction.{bytes_of, ril_b, ril_c}
-use Rattle.s390x_steps.specs.Parts.{Target, ToBlock, ToStep, Part, Row, Trapping, Branch, Relative, SymbolValue, TrapHere, TableWord, step_parts, part_size}
+use Rattle.s390x_steps.specs.Parts.{Target, ToBlock, ToStep, Part, Row, Trapping, Branch, Relative, RelativeConstant, RelativeSymbol, SymbolValue, TrapHere, TableWord, step_parts, part_size}
 use Rattle.s390x_steps.specs.Steps.{Step}
 
--- where each step and each block stands, by its number, and what the doubleword of a symbol plus an offset holds: 0 before linking
+-- what the steps refer to outside themselves
+pub record Outside : Type 0 where
+  -- where each constant stands, and its alignment
+  pub constant : ℕ → ℕ
+  pub aligns : List ℕ
+  -- what the doubleword of a symbol plus an offset holds: 0 before linking
+  pub symbol_value : ExternalName → ℤ → ℕ
+  -- half of the distance from a place to a symbol plus an offset, modulo 2 ^ 32: 0 before linking
+  pub symbol_distance : (place : ℕ) → ExternalName → ℤ → ℕ
+
+-- where each step and each block stands, by its number, and what stands outside them
 pub record Places : Type 0 where
   pub step : ℕ → ℕ
   pub block : ℕ → ℕ
-  pub symbol_value : ExternalName → ℤ → ℕ
+  pub outside : Outside
 
 -- where a target stands
 abbrev pub target_place : Places → Target → ℕ
@@ -37,7 +47,9 @@ part_bytes P p (Row m) = bytes_of m
 part_bytes P p (Trapping m byte code) = bytes_of m
 part_bytes P p (Branch mask target) = bytes_of (ril_c 0xc04 mask (half_distance p (target_place P target)))
 part_bytes P p (Relative opcode register target) = bytes_of (ril_b opcode register (half_distance p (target_place P target)))
-part_bytes P p (SymbolValue name offset) = to_be_bytes w64 (P.symbol_value name offset)
+part_bytes P p (RelativeConstant opcode register c) = bytes_of (ril_b opcode register (half_distance p (P.outside.constant c)))
+part_bytes P p (RelativeSymbol opcode register name offset) = bytes_of (ril_b opcode register (P.outside.symbol_distance p name offset))
+part_bytes P p (SymbolValue name offset) = to_be_bytes w64 (P.outside.symbol_value name offset)
 part_bytes P p (TrapHere code) = []
 part_bytes P p (TableWord before target) = word_bytes (table_distance p before (target_place P target))
 

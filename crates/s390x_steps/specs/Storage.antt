@@ -1,6 +1,6 @@
 -- The machine rows of the operators that have an operand in memory: their opcodes (cranelift-codegen, `emit.rs`). Opcodes of two digits are RX, of
 -- three RIL-B, of four RXY; those of `AtomicRmw` are RSY.
-use Rattle.std.specs.Prelude.{ℕ, Option, Some, None}
+use Rattle.std.specs.Prelude.{ℕ, cond, ◌||◌, nat_eq, Option, Some, None}
 use Rattle.s390x_inst.specs.declared.ops.ALUOp.{ALUOp}
 use Rattle.s390x_inst.specs.declared.ops.ALUOp.TheVariants.{Add32, Add32Ext16, Add64, Add64Ext16, Add64Ext32, AddLogical32, AddLogical64, AddLogical64Ext32, Sub32, Sub32Ext16, Sub64, Sub64Ext16, Sub64Ext32, SubLogical32, SubLogical64, SubLogical64Ext32, Mul32, Mul32Ext16, Mul64, Mul64Ext16, Mul64Ext32, And32, And64, Orr32, Orr64, Xor32, Xor64}
 use Rattle.s390x_inst.specs.declared.ops.CmpOp.{CmpOp}
@@ -83,6 +83,16 @@ cmp_ril CmpL32Ext16 = 0xc67
 cmp_ril CmpL64 = 0xc6a
 cmp_ril CmpL64Ext16 = 0xc66
 cmp_ril CmpL64Ext32 = 0xc6e
+
+-- how many bytes the row of an opcode relative to the instruction accesses: the rows of halfwords and of doublewords; the other ones access words
+abbrev pub relative_bytes : (ril_opcode : ℕ) → ℕ
+relative_bytes opcode =
+    cond
+    (
+    nat_eq opcode 0xc42 || nat_eq opcode 0xc44 || nat_eq opcode 0xc45 || nat_eq opcode 0xc46 || nat_eq opcode 0xc47 || nat_eq opcode 0xc64 || nat_eq opcode 0xc65
+    || nat_eq opcode 0xc66 || nat_eq opcode 0xc67
+    )
+    2 (cond (nat_eq opcode 0xc48 || nat_eq opcode 0xc4b || nat_eq opcode 0xc68 || nat_eq opcode 0xc6a) 8 4)
 
 -- an operand in memory that is changed in one access
 abbrev pub atomic_rsy : ALUOp → Option ℕ

@@ -5,7 +5,7 @@ use Rattle.s390x_buffer.specs.declared.entries.TrapEntry.{TrapEntry}
 use Rattle.s390x_steps.specs.Tree.{Tree}
 use Rattle.s390x_steps.specs.Steps.{Step, function_steps}
 use Rattle.s390x_steps.specs.Parts.{Part, Trapping, TrapHere, part_size, step_parts}
-use Rattle.s390x_steps.specs.Image.{function_places}
+use Rattle.s390x_steps.specs.Image.{place}
 
 -- the trap that a part at a place records, if it does
 abbrev pub part_traps : ℕ → Part → List TrapEntry
@@ -29,7 +29,7 @@ traps_from at k (s ∷ ss) = step_traps (at k) s ++ traps_from at (k + 1) ss
 
 -- the table of a function: its steps' traps, and no others
 abbrev pub function_traps : List Tree → List TrapEntry
-function_traps ts = traps_from (function_places ts).step 0 (function_steps ts)
+function_traps ts = traps_from (place (function_steps ts)) 0 (function_steps ts)
 
 -- the code of the first entry at an offset
 abbrev pub first_code : List TrapEntry → ℕ → Option TrapKind

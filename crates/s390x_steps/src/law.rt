@@ -5,17 +5,17 @@ ghost use Rattle.s390x_inst.specs.Emission.{Emission};
 ghost use Rattle.s390x_inst.specs.declared.inst.Inst.{Inst};
 ghost use Rattle.s390x_inst.specs.declared.state.IsaFlags.{IsaFlags};
 ghost use Rattle.s390x_steps.specs.Tree.{Tree, empty, graft, tree};
-ghost use Rattle.s390x_steps.specs.Causes.{tree_cause, first, draws};
+ghost use Rattle.s390x_steps.specs.Causes.{Declared, tree_cause, first, draws};
 ghost use Rattle.s390x_steps.specs.Steps.{Step, function_steps};
-ghost use Rattle.s390x_steps.specs.Image.{function_places};
+ghost use Rattle.s390x_steps.specs.Image.{place};
 ghost use Rattle.s390x_steps.specs.Traps.{step_traps, function_traps, first_code};
 
 /// A member's cause comes before those of the members behind it.
 pub fn members_in_order()
-    ensures { (flags : IsaFlags) (e : Emission) (blocks n depth : ℕ) (i : Inst) (rest : Tree) → tree_cause flags blocks n depth (graft e i rest) ≡ first (tree_cause flags blocks n depth (graft e i empty)) (tree_cause flags blocks (n + draws (graft e i empty)) depth rest) }
+    ensures { (flags : IsaFlags) (e : Emission) (D : Declared) (n depth : ℕ) (i : Inst) (rest : Tree) → tree_cause flags D n depth (graft e i rest) ≡ first (tree_cause flags D n depth (graft e i empty)) (tree_cause flags D (n + draws (graft e i empty)) depth rest) }
 {}
 
 /// Inside the bytes of a step the table of traps has what the step recorded there: its code where it recorded one, and no code elsewhere.
 pub fn codes_of_steps()
-    ensures { (ts : List Tree) (k : ℕ) (s : Step) → slice_get (function_steps ts) k ≡ Some s → (o : ℕ) → (function_places ts).step k ≤ o → o < (function_places ts).step (suc k) → first_code (function_traps ts) o ≡ first_code (step_traps ((function_places ts).step k) s) o }
+    ensures { (ts : List Tree) (k : ℕ) (s : Step) → slice_get (function_steps ts) k ≡ Some s → (o : ℕ) → place (function_steps ts) k ≤ o → o < place (function_steps ts) (suc k) → first_code (function_traps ts) o ≡ first_code (step_traps (place (function_steps ts) k) s) o }
 {}
