@@ -17,7 +17,7 @@ use Rattle.s390x_operations.specs.declared.effect.Operation.{Operation}
 use Rattle.s390x_operations.specs.declared.stop.StopKind.{StopKind}
 use Rattle.s390x_operations.specs.declared.stop.StopKind.TheVariants.{Access, Specification, Divide, CompareTrap}
 use Rattle.s390x_machine.specs.Computations.{computes, compares, alu_computation, alu_three_rule, alu_two_rule, unary_computation, unary_rule, comparison, on_words, on_doublewords, word, signed_word, signed_halfword, on_immediate, compares_on_immediate, computes_immediate, compares_immediate, doubleword, part_mask, on_selected, part_operator, at_part, at_half, half_mask, inserts_half, extension, shifts, rotates_into, rotates_to_test, multiplies_signed, multiplies_logical, divides_signed, divides_logical, compares_and_traps, compares_immediate_and_traps, finds_leftmost, idles, puts_any, copies_access, moves_where, moves_immediate_where}
-use Rattle.s390x_machine.specs.Storage.{address_of, needs_scratch, OperandStep, operand_step}
+use Rattle.s390x_machine.specs.Storage.{address_of, needs_scratch, aligned_where, is_relative_access, OperandStep, operand_step}
 use Rattle.s390x_inst.specs.Memory.{flags_of}
 use Rattle.s390x_inst.specs.declared.calls.SymbolReloc.{SymbolReloc}
 use Rattle.s390x_steps.specs.Parts.{name_in, offset_in}
@@ -97,7 +97,7 @@ by_scratch operation = Some (record { operation = operation; needs = true; code 
 
 -- what a relocation's doubleword holds once it is linked
 abbrev pub linked_value : Layout → SymbolReloc → ℕ
-linked_value L reloc = L.places.symbol_value (name_in reloc) (offset_in reloc)
+linked_value L reloc = L.places.outside.symbol_value (name_in reloc) (offset_in reloc)
 
 -- the instructions that are one operation; a move has no first operand. The layout tells the addresses of blocks and of symbols
 abbrev pub performed : Layout → Inst → Option Performed
@@ -160,16 +160,17 @@ fault_codes x = access_code (cond x.accesses (flags_of x.operand).trap None)
 -- an instruction with an operand in memory does its operation at the operand's address, where it has one
 abbrev pub performed_at : OperandStep → Option (Registers → ℕ) → Option Performed
 performed_at x None = None
-performed_at x (Some address) = Some (record { operation = λ r. x.operation (address r) r; needs = needs_scratch x.forms x.operand; code = fault_codes x })
+performed_at x (Some address) =
+    Some (record { operation = λ r. aligned_where (is_relative_access x) (x.operation (address r) r); needs = needs_scratch x.forms x.operand; code = fault_codes x })
 
 -- the same, where it is such an instruction
-abbrev pub performed_by : Option OperandStep → Option Performed
-performed_by None = None
-performed_by (Some x) = performed_at x (address_of x.operand)
+abbrev pub performed_by : Layout → Option OperandStep → Option Performed
+performed_by L None = None
+performed_by L (Some x) = performed_at x (address_of L x.operand)
 
 -- the instructions that are one operation with an operand in memory
-abbrev pub performed_in_memory : Inst → Option Performed
-performed_in_memory i = performed_by (operand_step i)
+abbrev pub performed_in_memory : Layout → Inst → Option Performed
+performed_in_memory L i = performed_by L (operand_step i)
 
 -- one that goes elsewhere or ends the run
 abbrev pub branch_form : Inst → Form
@@ -191,7 +192,7 @@ form_or (Some x) others = Performs x.needs x.operation x.code
 
 -- what an instruction does
 abbrev pub instruction_form : Layout → Inst → Form
-instruction_form L i = form_or (performed L i) (form_or (performed_in_memory i) (branch_form i))
+instruction_form L i = form_or (performed L i) (form_or (performed_in_memory L i) (branch_form i))
 
 -- a loop's opening is a step without bytes; its back branch and its breaks lead to steps
 abbrev pub form : Layout → Step → Form

@@ -30,9 +30,8 @@ abbrev pub IsSameAddress : Option (Registers → ℕ) → Registers → Option (
 IsSameAddress (Some a) r (Some b) q = a r ≡ b q
 IsSameAddress _ r _ q = ⊥
 
--- an operand with a base, which isn't overwritten, an offset of 32 bits, and real registers
-pub record IsBased (m : MemArg) : Type 0 where
-  pub plain : is_relative m ≡ false
+-- an operand that names a place that stands, or has real registers and an offset of 32 bits, and whose base isn't overwritten
+pub record IsReached (m : MemArg) : Type 0 where
   pub general : IsTrue (operand_general m)
   pub fits : IsTrue (offset_fits m)
   pub kept : loses_base m ≡ false
@@ -40,7 +39,7 @@ pub record IsBased (m : MemArg) : Type 0 where
 
 -- after the helpers the operand of the access has the address that the given one had before, and only `%r1` has changed, where it is needed
 abbrev pub HelpersKeep : Layout → MemInstType → MemArg → Type 0
-HelpersKeep L mi m = (c t : Core) → HelpersGo L (finalized mi m).helpers c t → IsSameAddress (address_of (finalized mi m).operand) t.registers (address_of m) c.registers × (v : ℕ) × (t ≡ loosen (needs_scratch mi m) v c)
+HelpersKeep L mi m = (c t : Core) → HelpersGo L (finalized mi m).helpers c t → IsSameAddress (address_of L (finalized mi m).operand) t.registers (address_of L m) c.registers × (v : ℕ) × (t ≡ loosen (needs_scratch mi m) v c)
 
 -- rows take this index: they have one, or it is none
 abbrev pub TakesIndex : MemInstType → Reg → Type 0

@@ -3,6 +3,7 @@ use Rattle.std.specs.Prelude.{◌≡◌, ℕ, suc, ◌+◌, ◌-◌, ◌<◌, �
 use Rattle.s390x_base.specs.declared.trap.TrapKind.{TrapKind}
 use Rattle.s390x_buffer.specs.declared.entries.TrapEntry.{TrapEntry}
 use Rattle.s390x_format.specs.Rows.{fetch_length_of}
+use Rattle.s390x_steps.specs.Causes.{Declared}
 use Rattle.s390x_steps.specs.Steps.{Step}
 use Rattle.s390x_steps.specs.Rows.{Places}
 use Rattle.s390x_steps.specs.Traps.{first_code}
@@ -16,7 +17,7 @@ pub record Layout : Type 0 where
   pub image : CodeImage
   -- the typed steps, block by block
   pub steps : List Step
-  -- the offset of each step and of each block; that of the number past the last step is the code's end
+  -- the offset of each step, block and constant; that of the step's number past the last one is the code's end
   pub places : Places
   pub block_count : ℕ
   -- the number of a block's first step; where the block is empty, of the next step
@@ -42,6 +43,14 @@ place L k = sum64 L.image.base (L.places.step k)
 -- where a block begins
 abbrev pub block_place : Layout → ℕ → ℕ
 block_place L b = sum64 L.image.base (L.places.block b)
+
+-- where a constant stands
+abbrev pub constant_place : Layout → ℕ → ℕ
+constant_place L c = sum64 L.image.base (L.places.outside.constant c)
+
+-- what the steps may name
+abbrev pub declared : Layout → Declared
+declared L = record { blocks = L.block_count; aligns = L.places.outside.aligns }
 
 -- the place is that of one of a step's bytes
 pub record InStep (L : Layout) (k p : ℕ) : Type 0 where

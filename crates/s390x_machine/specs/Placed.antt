@@ -1,19 +1,24 @@
 -- What has to be told of an image: that each step's bytes lie in it at the step's place.
-use Rattle.std.specs.Prelude.{◌≡◌, ℕ, suc, ◌+◌, ◌%◌, ◌^◌, ◌<◌, ◌≤◌, List, [], ◌∷◌, ◌++◌, length, ◌&&◌, not, IsTrue, Option, Some, None, slice_get}
+use Rattle.std.specs.Prelude.{◌≡◌, ℕ, suc, ◌+◌, pos, ◌+ℤ◌, ◌*ℤ◌, ◌%◌, ◌^◌, ◌<◌, ◌≤◌, List, [], ◌∷◌, ◌++◌, length, get_or, ◌&&◌, not, IsTrue, Option, Some, None, slice_get}
+use Rattle.std.specs.Int.{w32, cast_signed}
+use Rattle.s390x_buffer.specs.State.{is_alignment}
 use Rattle.s390x_base.specs.declared.ir.MachLabel.{MachLabel}
 use Rattle.s390x_inst.specs.declared.inst.Inst.{Inst}
 use Rattle.s390x_inst.specs.declared.inst.Inst.TheVariants.{Jump, CondBr, IndirectBr, Ret, JTSequence, Nop0, LabelAddress, LoadSymbolReloc, Trap, TrapIf, Debugtrap}
 use Rattle.s390x_steps.specs.Alone.{Alone, alone}
 use Rattle.s390x_steps.specs.General.{is_general, is_nonzero, is_scratch}
-use Rattle.s390x_steps.specs.Causes.{loses_scratch}
+use Rattle.s390x_steps.specs.Causes.{loses_scratch, place_cause}
 use Rattle.s390x_steps.specs.Memory.{MemoryInstruction, memory, type_of}
-use Rattle.s390x_steps.specs.Operands.{has_form, is_relative, operand_general, offset_fits}
+use Rattle.s390x_steps.specs.Operands.{has_form, operand_general, offset_fits}
 use Rattle.s390x_steps.specs.Ranges.{IsMask, OperandInRange}
 use Rattle.s390x_steps.specs.Steps.{Step, Plain, Opening, Back, Break}
-use Rattle.s390x_steps.specs.Parts.{step_size}
+use Rattle.s390x_steps.specs.Parts.{Part, RelativeSymbol, part_size, step_parts, step_size}
 use Rattle.s390x_steps.specs.Rows.{step_bytes}
 use Rattle.s390x_steps.specs.Traps.{step_traps, first_code}
-use Rattle.s390x_machine.specs.Layout.{Layout}
+use Rattle.s390x_operations.specs.Numbers.{low}
+use Rattle.s390x_operations.specs.State.{sum64}
+use Rattle.s390x_operations.specs.declared.size.Size.TheVariants.{Doubleword}
+use Rattle.s390x_machine.specs.Layout.{Layout, constant_place, declared}
 
 -- the number is a block's
 abbrev pub IsBlock : Layout → ℕ → Type 0
@@ -47,22 +52,23 @@ FineOr None others = others
 FineOr (Some x) others = IsTrue x.fine
 
 -- of an instruction with a memory operand: its rows have a form for the operand, its registers may stand there, no helper writes a register that is
--- read after it, and the offset and the displacement lie in their ranges
-pub record IsFineMemory (x : MemoryInstruction) : Type 0 where
-  pub form : IsTrue (has_form (type_of x.form x.accesses) x.operand && not (is_relative x.operand))
+-- read after it, the offset and the displacement lie in their ranges, and the place that it names is there and stands on its boundary
+pub record IsFineMemory (L : Layout) (x : MemoryInstruction) : Type 0 where
+  pub form : IsTrue (has_form (type_of x.form x.accesses) x.operand)
   pub registers : IsTrue (x.fine && operand_general x.operand)
   pub kept : IsTrue (not (loses_scratch x))
   pub offset : IsTrue (offset_fits x.operand)
   pub range : OperandInRange x.operand
+  pub place : place_cause (declared L) x ≡ None
 
 -- an instruction with a memory operand is so; of another one, what is asked of it
-abbrev pub FineMemoryOr : Option MemoryInstruction → Type 0 → Type 0
-FineMemoryOr None others = others
-FineMemoryOr (Some x) others = IsFineMemory x
+abbrev pub FineMemoryOr : Layout → Option MemoryInstruction → Type 0 → Type 0
+FineMemoryOr L None others = others
+FineMemoryOr L (Some x) others = IsFineMemory L x
 
 -- what emission has checked of an instruction: it is built, and its registers may stand where they do
 abbrev pub IsFineInstruction : Layout → Inst → Type 0
-IsFineInstruction L i = FineOr (alone i) (FineMemoryOr (memory i) (IsFineBranch L i))
+IsFineInstruction L i = FineOr (alone i) (FineMemoryOr L (memory i) (IsFineBranch L i))
 
 -- what emission has checked of a step: of an instruction its own; of a branch of a loop that its mask is one of a condition,
 -- and that it leads to a step or past the last one
@@ -71,6 +77,25 @@ IsFine L (Plain i) = IsFineInstruction L i
 IsFine L Opening = Unit {0}
 IsFine L (Back mask target) = IsMask mask × (target ≤ length L.steps)
 IsFine L (Break mask target) = IsMask mask × (target ≤ length L.steps)
+
+-- the distance of a part that is relative to a symbol leads from the part's beginning to what the symbol's doubleword would hold
+abbrev pub PartReaches : Layout → ℕ → Part → Type 0
+PartReaches L p (RelativeSymbol opcode register name offset) =
+    let half = L.places.outside.symbol_distance p name offset in
+    (half < 2 ^ 32) × (low Doubleword (pos (sum64 L.image.base p) +ℤ pos 2 *ℤ cast_signed w32 half) ≡ L.places.outside.symbol_value name offset)
+PartReaches L p _ = Unit {0}
+
+-- the same of parts from an offset on
+abbrev pub PartsReach : Layout → ℕ → List Part → Type 0
+PartsReach L p [] = Unit {0}
+PartsReach L p (part ∷ parts) = PartReaches L p part × PartsReach L (p + part_size part) parts
+
+-- a declared constant stands at an even offset in the image or at its end, and on its boundary
+pub record ConstantStands (L : Layout) (c : ℕ) : Type 0 where
+  pub within : L.places.outside.constant c ≤ length L.image.bytes
+  pub even : L.places.outside.constant c % 2 ≡ 0
+  pub alignment : IsTrue (is_alignment (get_or L.places.outside.aligns c 0))
+  pub aligned : constant_place L c % get_or L.places.outside.aligns c 0 ≡ 0
 
 -- the step's bytes stand in the image at its offset, and the next step stands behind them; inside them the table has the step's traps and no others
 pub record Placed (L : Layout) (k : ℕ) (s : Step) : Type 0 where
@@ -81,8 +106,9 @@ pub record Placed (L : Layout) (k : ℕ) (s : Step) : Type 0 where
   pub size : L.places.step (suc k) ≡ L.places.step k + step_size s
   pub traps : (offset : ℕ) → L.places.step k ≤ offset → offset < L.places.step (suc k) → first_code L.traps offset ≡ first_code (step_traps (L.places.step k) s) offset
   pub fine : IsFine L s
+  pub reached : PartsReach L (L.places.step k) (step_parts s)
 
--- each step is placed, and the first one at the beginning; each block stands where its first step does. The image lies at an even address
+-- each step is placed, and the first one at the beginning; each block stands where its first step does, and each constant. The image lies at an even address
 -- below 2 ^ 64 and is shorter than 2 ^ 31 bytes
 pub record AllPlaced (L : Layout) : Type 0 where
   pub even : L.image.base % 2 ≡ 0
@@ -92,3 +118,4 @@ pub record AllPlaced (L : Layout) : Type 0 where
   pub steps : (k : ℕ) (s : Step) → slice_get L.steps k ≡ Some s → Placed L k s
   pub first_steps : (b : ℕ) → IsBlock L b → L.first_step b ≤ length L.steps
   pub blocks : (b : ℕ) → IsBlock L b → L.places.block b ≡ L.places.step (L.first_step b)
+  pub constants : (c : ℕ) → c < length L.places.outside.aligns → ConstantStands L c

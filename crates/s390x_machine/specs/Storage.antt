@@ -12,7 +12,7 @@ use Rattle.s390x_inst.specs.declared.inst.Inst.{Inst}
 use Rattle.s390x_inst.specs.declared.inst.Inst.TheVariants.{AluRX, CmpRX, Load32, Load32ZExt8, Load32SExt8, Load32ZExt16, Load32SExt16, Load64, Load64ZExt8, Load64SExt8, Load64ZExt16, Load64SExt16, Load64ZExt32, Load64SExt32, LoadRev16, LoadRev32, LoadRev64, Store8, Store16, Store32, Store64, StoreRev16, StoreRev32, StoreRev64, StoreImm8, StoreImm16, StoreImm32SExt16, StoreImm64SExt16, LoadMultiple64, StoreMultiple64, LoadAddr, AtomicRmw, AtomicCas32, AtomicCas64}
 use Rattle.s390x_lanes.specs.declared.operation.Signedness.TheVariants.{Signed, Unsigned}
 use Rattle.s390x_steps.specs.General.{low_byte, low_halfword}
-use Rattle.s390x_steps.specs.Operands.{fits_12, fits_20}
+use Rattle.s390x_steps.specs.Operands.{fits_12, fits_20, is_relative}
 use Rattle.s390x_steps.specs.declared.mem_inst_type.MemInstType.{MemInstType}
 use Rattle.s390x_operations.specs.Bits.{extended}
 use Rattle.s390x_operations.specs.State.{Registers}
@@ -21,25 +21,31 @@ use Rattle.s390x_operations.specs.declared.size.Size.{Size}
 use Rattle.s390x_operations.specs.declared.size.Size.TheVariants.{Halfword, Word, Doubleword}
 use Rattle.s390x_operations.specs.declared.size.Width.{Width}
 use Rattle.s390x_operations.specs.declared.size.Width.TheVariants.{Bits8, Bits16, Bits32, Bits64}
-use Rattle.s390x_operations.specs.declared.operand.Source.TheVariants.{Memory as InMemory}
+use Rattle.s390x_operations.specs.declared.operand.Source.{Source}
+use Rattle.s390x_operations.specs.declared.operand.Source.TheVariants.{Memory as InMemory, AlignedMemory}
 use Rattle.s390x_operations.specs.declared.operand.Operand.{Operand}
 use Rattle.s390x_operations.specs.declared.operator.Operator.TheVariants.{Move}
+use Rattle.s390x_operations.specs.declared.effect.Effect.{Effect}
 use Rattle.s390x_operations.specs.declared.effect.Effect.TheVariants.{Compute, Compare, Store, LoadAndOperate, CompareAndSwap, LoadMultiple, StoreMultiple}
 use Rattle.s390x_operations.specs.declared.effect.CodeRule.{CodeRule}
 use Rattle.s390x_operations.specs.declared.effect.CodeRule.TheVariants.{Kept, Set}
 use Rattle.s390x_operations.specs.declared.effect.Operation.{Operation}
 use Rattle.s390x_machine.specs.Computations.{Second, word, signed_word, signed_halfword, halfword, doubleword, Computation, alu_computation, alu_two_rule, Comparison, comparison, with_rule, operand_of}
+use Rattle.s390x_machine.specs.Layout.{Layout, block_place, constant_place}
 use Rattle.s390x_machine.specs.Operands.{value_in, based, indexed, values_from}
 
 -- ---- addresses
 
--- The address of an operand with a base, at a step: base plus index plus displacement, or a register plus an offset. Operands that are relative to the
--- instruction aren't built yet, and a step has no frame operands
-abbrev pub address_of : MemArg → Option (Registers → ℕ)
-address_of (BXD12 base index disp flags) = Some (λ r. indexed r (number_of base) (number_of index) (pos disp))
-address_of (BXD20 base index disp flags) = Some (λ r. indexed r (number_of base) (number_of index) disp)
-address_of (RegOffset reg off flags) = Some (λ r. based r (number_of reg) off)
-address_of _ = None
+-- The address of an operand at a step: base plus index plus displacement, a register plus an offset, or where a block, a constant or a symbol plus an
+-- offset stands. A step has no frame operands
+abbrev pub address_of : Layout → MemArg → Option (Registers → ℕ)
+address_of L (BXD12 base index disp flags) = Some (λ r. indexed r (number_of base) (number_of index) (pos disp))
+address_of L (BXD20 base index disp flags) = Some (λ r. indexed r (number_of base) (number_of index) disp)
+address_of L (RegOffset reg off flags) = Some (λ r. based r (number_of reg) off)
+address_of L (Label target) = Some (λ r. block_place L target.0)
+address_of L (Constant constant) = Some (λ r. constant_place L constant.0)
+address_of L (Symbol name offset flags) = Some (λ r. L.places.outside.symbol_value name offset)
+address_of L _ = None
 
 -- the right halves of registers
 abbrev pub is_word : Size → Bool
@@ -123,6 +129,29 @@ operates_at c d n address r = with_rule Set (LoadAndOperate c.operator c.size d 
 abbrev pub swaps_at : Size → (d n address : ℕ) → Registers → Operation
 swaps_at size d n address r = with_rule Set (CompareAndSwap size d (value_in size r d) (value_in size r n) address)
 
+-- ---- an operand that has to be aligned
+
+-- the same place in memory, on a boundary
+abbrev pub aligned_source : Source → Source
+aligned_source (InMemory address) = AlignedMemory address
+aligned_source s = s
+
+-- an operand there
+abbrev pub aligned_operand : Operand → Operand
+aligned_operand o = record { source = aligned_source o.source; width = o.width; sign = o.sign; reversed = o.reversed }
+
+-- a load, a comparison or a store there
+abbrev pub aligned_effect : Effect → Effect
+aligned_effect (Compute operator size target first second) = Compute operator size target first (aligned_operand second)
+aligned_effect (Compare sign size first second) = Compare sign size first (aligned_operand second)
+aligned_effect (Store width stored destination) = Store width stored (aligned_source destination)
+aligned_effect effect = effect
+
+-- an operation there, where this holds
+abbrev pub aligned_where : Bool → Operation → Operation
+aligned_where false operation = operation
+aligned_where true operation = record { effect = aligned_effect operation.effect; rule = operation.rule }
+
 -- ---- which forms of an operand the rows of an instruction have
 
 -- rows with an index: displacements of 12 bits and of 20, and an address relative to the instruction, which an access wants aligned
@@ -153,6 +182,10 @@ pub record OperandStep : Type 0 where
   -- whether it accesses the memory at the operand's address
   pub accesses : Bool
   pub operation : (address : ℕ) → Registers → Operation
+
+-- its access is relative to the instruction, and so has to be aligned
+abbrev pub is_relative_access : OperandStep → Bool
+is_relative_access x = is_relative x.operand && (x.accesses && not (needs_scratch x.forms x.operand))
 
 -- one that accesses the memory there
 abbrev pub accesses_at : MemInstType → MemArg → (ℕ → Registers → Operation) → Option OperandStep
