@@ -4,7 +4,7 @@ use Rattle.s390x_inst.specs.declared.inst.Inst.{Inst}
 use Rattle.s390x_inst.specs.declared.inst.Inst.TheVariants.{JTSequence}
 use Rattle.s390x_steps.specs.Tree.{Tree, empty, leaf, looped}
 use Rattle.s390x_steps.specs.Steps.{Step}
-use Rattle.s390x_steps.specs.Parts.{Part, Row, Trapping, Branch, Relative, SymbolValue, TrapHere, TableWord, ToBlock, ToStep, instruction_parts, step_size}
+use Rattle.s390x_steps.specs.Parts.{Part, Row, Trapping, Branch, Relative, RelativeConstant, RelativeSymbol, SymbolValue, TrapHere, TableWord, ToBlock, ToStep, instruction_parts, step_size}
 use Rattle.s390x_steps.specs.Sizes.{instruction_size, tree_size}
 use Rattle.s390x_steps.specs.Causes.{instruction_draws, draws}
 
@@ -24,34 +24,36 @@ abbrev pub Follows : (ℕ → ℕ) → ℕ → List Step → Type 0
 Follows at k [] = Unit {0}
 Follows at k (s ∷ ss) = (at (k + 1) ≡ at k + step_size s) × Follows at (k + 1) ss
 
--- the target of a part is a block
-abbrev pub PartNames : ℕ → Part → Type 0
-PartNames count (Row m) = Unit {0}
-PartNames count (Trapping m byte code) = Unit {0}
-PartNames count (Branch mask (ToBlock b)) = b < count
-PartNames count (Branch mask (ToStep k)) = ⊥
-PartNames count (Relative opcode register (ToBlock b)) = b < count
-PartNames count (Relative opcode register (ToStep k)) = ⊥
-PartNames count (SymbolValue name offset) = Unit {0}
-PartNames count (TrapHere code) = Unit {0}
-PartNames count (TableWord before (ToBlock b)) = b < count
-PartNames count (TableWord before (ToStep k)) = ⊥
+-- the target of a part is one of so many blocks, or one of so many constants
+abbrev pub PartNames : (count constants : ℕ) → Part → Type 0
+PartNames count constants (Row m) = Unit {0}
+PartNames count constants (Trapping m byte code) = Unit {0}
+PartNames count constants (Branch mask (ToBlock b)) = b < count
+PartNames count constants (Branch mask (ToStep k)) = ⊥
+PartNames count constants (Relative opcode register (ToBlock b)) = b < count
+PartNames count constants (Relative opcode register (ToStep k)) = ⊥
+PartNames count constants (RelativeConstant opcode register c) = c < constants
+PartNames count constants (RelativeSymbol opcode register name offset) = Unit {0}
+PartNames count constants (SymbolValue name offset) = Unit {0}
+PartNames count constants (TrapHere code) = Unit {0}
+PartNames count constants (TableWord before (ToBlock b)) = b < count
+PartNames count constants (TableWord before (ToStep k)) = ⊥
 
--- the target of each part is a block
-abbrev pub PartsName : ℕ → List Part → Type 0
-PartsName count [] = Unit {0}
-PartsName count (part ∷ parts) = PartNames count part × PartsName count parts
+-- the same of each part
+abbrev pub PartsName : (count constants : ℕ) → List Part → Type 0
+PartsName count constants [] = Unit {0}
+PartsName count constants (part ∷ parts) = PartNames count constants part × PartsName count constants parts
 
 -- the same of the instructions in a tree
-abbrev pub TreeNames : ℕ → Tree → Type 0
-TreeNames count empty = Unit {0}
-TreeNames count (leaf i rest) = PartsName count (instruction_parts i) × TreeNames count rest
-TreeNames count (looped mask members rest) = TreeNames count members × TreeNames count rest
+abbrev pub TreeNames : (count constants : ℕ) → Tree → Type 0
+TreeNames count constants empty = Unit {0}
+TreeNames count constants (leaf i rest) = PartsName count constants (instruction_parts i) × TreeNames count constants rest
+TreeNames count constants (looped mask members rest) = TreeNames count constants members × TreeNames count constants rest
 
 -- the same of all blocks
-abbrev pub TreesName : ℕ → List Tree → Type 0
-TreesName count [] = Unit {0}
-TreesName count (t ∷ ts) = TreeNames count t × TreesName count ts
+abbrev pub TreesName : (count constants : ℕ) → List Tree → Type 0
+TreesName count constants [] = Unit {0}
+TreesName count constants (t ∷ ts) = TreeNames count constants t × TreesName count constants ts
 
 -- the labels of all blocks, from block b on
 abbrev pub AllBound : (ℕ → ℕ) → (n b p : ℕ) → List Tree → Type 0

@@ -1,7 +1,7 @@
 -- The pieces of a tree of instructions, with label numbers.
-use Rattle.std.specs.Prelude.{ℕ, ◌+◌, List, [], ◌∷◌, ◌++◌, Option, Some, None}
+use Rattle.std.specs.Prelude.{ℕ, ◌+◌, pos, ◌+ℤ◌, List, [], ◌∷◌, ◌++◌, Option, Some, None}
 use Rattle.std.specs.Int.{w64, to_be_bytes}
-use Rattle.s390x_base.specs.declared.ir.Reloc.TheVariants.{Abs8}
+use Rattle.s390x_base.specs.declared.ir.Reloc.TheVariants.{S390xPCRel32Dbl, Abs8}
 use Rattle.s390x_buffer.specs.declared.label_use.LabelUse.TheVariants.{BranchRIL, PCRel32}
 use Rattle.s390x_inst.specs.declared.inst.Inst.{Inst}
 use Rattle.s390x_inst.specs.declared.inst.Inst.TheVariants.{CondBreak, JTSequence}
@@ -9,11 +9,11 @@ use Rattle.s390x_base.specs.Regs.{number_of}
 use Rattle.s390x_base.specs.declared.ir.MachLabel.{MachLabel}
 use Rattle.s390x_steps.specs.Tree.{Tree, empty, leaf, looped}
 use Rattle.s390x_steps.specs.MachineInstruction.{ril_b, ril_c, bytes_of, rr, rxy}
-use Rattle.s390x_steps.specs.Parts.{Part, Row, Trapping, Branch, Relative, TableWord, ToBlock, ToStep, branch_parts, memory_parts, parts_size, instruction_parts, table_words, SymbolValue, TrapHere}
+use Rattle.s390x_steps.specs.Parts.{Part, Row, Trapping, Branch, Relative, RelativeConstant, RelativeSymbol, TableWord, ToBlock, ToStep, branch_parts, memory_parts, parts_size, instruction_parts, table_words, SymbolValue, TrapHere}
 use Rattle.s390x_steps.specs.Memory.{MemoryInstruction}
 use Rattle.s390x_steps.specs.Rows.{word_bytes}
 use Rattle.s390x_steps.specs.Causes.{instruction_draws, draws}
-use Rattle.s390x_emit_int.specs.Pieces.{Piece, Put, PutTrapping, PutReloc, Link, Step, Draw, Bind}
+use Rattle.s390x_emit_int.specs.Pieces.{Piece, Put, PutTrapping, PutReloc, Link, LinkConstant, Step, Draw, Bind}
 
 -- a branch to a label, its distance still zero
 abbrev pub branch : (mask label : ℕ) → Piece
@@ -35,7 +35,9 @@ part_piece (Branch mask (ToBlock b)) = branch mask b
 part_piece (Branch mask (ToStep k)) = branch mask k
 part_piece (Relative opcode register (ToBlock b)) = relative opcode register b
 part_piece (Relative opcode register (ToStep k)) = relative opcode register k
-part_piece (SymbolValue name offset) = PutReloc (to_be_bytes w64 0) Abs8 name offset
+part_piece (RelativeConstant opcode register c) = LinkConstant c (bytes_of (ril_b opcode register 0))
+part_piece (RelativeSymbol opcode register name offset) = PutReloc (bytes_of (ril_b opcode register 0)) 2 S390xPCRel32Dbl name (offset +ℤ pos 2)
+part_piece (SymbolValue name offset) = PutReloc (to_be_bytes w64 0) 0 Abs8 name offset
 part_piece (TrapHere code) = PutTrapping [] 0 code
 part_piece (TableWord before (ToBlock b)) = table_word before b
 part_piece (TableWord before (ToStep k)) = table_word before k

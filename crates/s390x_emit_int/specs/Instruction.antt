@@ -8,12 +8,12 @@ use Rattle.s390x_inst.specs.declared.state.IsaFlags.{IsaFlags}
 use Rattle.s390x_buffer.specs.State.{State, limit}
 use Rattle.s390x_steps.specs.Tree.{Tree}
 use Rattle.s390x_steps.specs.Sizes.{tree_size}
-use Rattle.s390x_steps.specs.Causes.{first, unless, tree_cause}
+use Rattle.s390x_steps.specs.Causes.{first, unless, declared_in, tree_cause}
 
 -- why an instruction isn't emitted into a buffer: its mark, the first cause of the instruction's steps by the buffer's blocks and labels, and last the length
 abbrev pub emit_cause : IsaFlags → State → Tree → Option EmitError
 emit_cause flags s t =
-    cond s.failed (Some Failed) (first (tree_cause flags s.block_count (length s.labels) 0 t) (unless (nat_lt (length s.bytes + tree_size t) limit) LabelOutOfRange))
+    cond s.failed (Some Failed) (first (tree_cause flags (declared_in s) (length s.labels) 0 t) (unless (nat_lt (length s.bytes + tree_size t) limit) LabelOutOfRange))
 
 -- neither members nor targets nor the instructions of a call come with it, so that its bytes are few
 abbrev pub is_short : Inst → Bool

@@ -6,7 +6,7 @@ use Rattle.s390x_buffer.specs.State.{State, limit}
 use Rattle.s390x_inst.specs.declared.state.IsaFlags.{IsaFlags}
 use Rattle.s390x_steps.specs.Tree.{Tree}
 use Rattle.s390x_steps.specs.Sizes.{tree_size}
-use Rattle.s390x_steps.specs.Causes.{tree_cause}
+use Rattle.s390x_steps.specs.Causes.{declared_in, tree_cause}
 
 -- the labels of a buffer come in this order: the blocks', the constants', those that were drawn
 abbrev pub HasRoom : State → Type 0
@@ -31,7 +31,7 @@ pub record MembersPassed (s : State) (after depth bytes : ℕ) (cause : Option E
 
 -- the same of a tree
 abbrev pub TreePassed : IsaFlags → State → (after depth : ℕ) → Tree → Type 0
-TreePassed flags s after depth t = MembersPassed s after depth (tree_size t) (tree_cause flags s.block_count (length s.labels) depth t)
+TreePassed flags s after depth t = MembersPassed s after depth (tree_size t) (tree_cause flags (declared_in s) (length s.labels) depth t)
 
 -- an error is want of memory
 abbrev pub LacksMemory : {T : Type 0} → Result T EmitError → Type 0

@@ -1,9 +1,10 @@
 -- Why emission refuses an instruction: the first cause, in the order of the steps.
-use Rattle.std.specs.Prelude.{ℕ, ◌+◌, pos, ◌+ℤ◌, List, [], ◌∷◌, length, get_or, Bool, true, false, cond, not, ◌&&◌, ◌||◌, nat_le, nat_lt, Option, Some, None}
+use Rattle.std.specs.Prelude.{ℕ, ◌+◌, pos, ◌+ℤ◌, List, [], ◌∷◌, length, map, get_or, Bool, true, false, cond, not, ◌&&◌, ◌||◌, nat_le, nat_lt, Option, Some, None}
 use Rattle.s390x_base.specs.declared.ir.MachLabel.{MachLabel}
 use Rattle.s390x_base.specs.declared.regs.Reg.{Reg}
 use Rattle.s390x_base.specs.declared.error.EmitError.{EmitError}
 use Rattle.s390x_base.specs.declared.error.EmitError.TheVariants.{MissingFacility, BadOperator, BadRegister, ScratchConflict, OffsetOutOfRange, BreakOutsideLoop, UnboundLabel, BadAlignment, LabelOutOfRange}
+use Rattle.s390x_buffer.specs.State.{State, Constant as DeclaredConstant}
 use Rattle.s390x_inst.specs.declared.args.MemArg.{MemArg}
 use Rattle.s390x_inst.specs.declared.args.MemArg.TheVariants.{Label, Constant, Symbol}
 use Rattle.s390x_inst.specs.declared.inst.Inst.{Inst}
@@ -65,6 +66,18 @@ operand_cause type m = first (unless (has_form type m) BadOperator) (first (unle
 pub record Declared : Type 0 where
   pub blocks : ℕ
   pub aligns : List ℕ
+
+-- the constants' alignments
+abbrev pub aligns_of : List DeclaredConstant → List ℕ
+aligns_of cs = map (λ (c : DeclaredConstant). c.align) cs
+
+-- what the instructions of a buffer may name
+abbrev pub declared_in : State → Declared
+declared_in s = record { blocks = s.block_count; aligns = aligns_of s.constants }
+
+-- what the instructions of a function may name
+abbrev pub declared_of : List Tree → List DeclaredConstant → Declared
+declared_of ts cs = record { blocks = length ts; aligns = aligns_of cs }
 
 -- there are helpers
 abbrev pub is_helped : List Inst → Bool

@@ -1,11 +1,12 @@
 -- The code of a function: the bytes of its steps, one after another, between places that the steps' sizes alone decide.
-use Rattle.std.specs.Prelude.{ℕ, zero, suc, ◌+◌, List, [], ◌∷◌, ◌++◌, map, get_or}
+use Rattle.std.specs.Prelude.{ℕ, zero, suc, ◌+◌, List, [], ◌∷◌, ◌++◌, get_or}
 use Rattle.s390x_buffer.specs.State.{Constant}
 use Rattle.s390x_buffer.specs.Constants.{constant_starts}
 use Rattle.s390x_steps.specs.Tree.{Tree}
 use Rattle.s390x_steps.specs.Steps.{Step, step_count, function_steps, first_step}
 use Rattle.s390x_steps.specs.Parts.{step_size}
 use Rattle.s390x_steps.specs.Rows.{Outside, Places, step_bytes}
+use Rattle.s390x_steps.specs.Causes.{aligns_of}
 use Rattle.s390x_steps.specs.Sizes.{blocks_size}
 
 -- where a step stands: behind all steps before it; the place past the last step is the code's end
@@ -24,7 +25,7 @@ constant_place ts cs c = get_or (constant_starts (blocks_size ts) cs) c 0
 
 -- what stands outside the steps before linking: the constants, and zeros for what linking fills
 abbrev pub unlinked : List Tree → List Constant → Outside
-unlinked ts cs = record { constant = constant_place ts cs; aligns = map (λ (c : Constant). c.align) cs; symbol_value = λ name offset. 0; symbol_distance = λ place name offset. 0 }
+unlinked ts cs = record { constant = constant_place ts cs; aligns = aligns_of cs; symbol_value = λ name offset. 0; symbol_distance = λ place name offset. 0 }
 
 -- the bytes of the steps from number k on
 abbrev pub code : Places → ℕ → List Step → List ℕ
