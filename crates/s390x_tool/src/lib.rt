@@ -8,9 +8,13 @@ pub mod in_memory;
 pub mod input;
 #[cfg(test)]
 mod memory_rows;
+#[cfg(test)]
+mod operand_tests;
 pub mod output;
 #[cfg(test)]
 mod register_rows;
+#[cfg(test)]
+mod relative_rows;
 pub mod reply;
 pub mod standard;
 pub mod status;

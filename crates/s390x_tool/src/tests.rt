@@ -13,13 +13,13 @@ use std::test::Fail;
 
 /// The source without its bytes, and the sink: the calls that fail, and the most bytes of one write.
 #[derive(Clone, Copy)]
-struct Ends {
+pub struct Ends {
     failing_read: u64,
     failing_write: u64,
     most: usize,
 }
 
-const GOOD: Ends = Ends {
+pub const GOOD: Ends = Ends {
     failing_read: 0,
     failing_write: 0,
     most: 1000,
@@ -39,7 +39,7 @@ fn words_of(alloc: Global, line: &str) -> Result<Vec<String>, Fail> {
 }
 
 /// Runs the words on the input, and compares the status and what the sink was told.
-fn expect<R: Abort + AllocGlobal>(
+pub fn expect<R: Abort + AllocGlobal>(
     rt: &R,
     words: &str,
     input: Vec<u8>,
@@ -277,9 +277,9 @@ fn images(rt: HostRuntime) -> Result<(), Fail> {
     Ok(())
 }
 
-/// The text of a job with these lines for a machine with the integer facilities, and the line that is its code in hex.
+/// The text of a job with these lines for a machine with the integer facilities, with the symbol u1 at 65536, and the line that is its code in hex.
 fn job_of(alloc: Global, rows: &[(&str, &str)]) -> Result<(String, String), Fail> {
-    let mut text = String::from_str(alloc, "flags mie3 mie4\nblock\n")?;
+    let mut text = String::from_str(alloc, "flags mie3 mie4\nsymbol u1 65536\nblock\n")?;
     let mut code = String::new(alloc);
     for (line, hex) in rows {
         text.push_str(line)?;
@@ -292,7 +292,7 @@ fn job_of(alloc: Global, rows: &[(&str, &str)]) -> Result<(String, String), Fail
 }
 
 /// The image of a job with these lines.
-fn expect_rows<R: Abort + AllocGlobal>(rt: &R, rows: &[(&str, &str)]) -> Result<(), Fail> {
+pub fn expect_rows<R: Abort + AllocGlobal>(rt: &R, rows: &[(&str, &str)]) -> Result<(), Fail> {
     let (text, code) = job_of(rt.alloc(), rows)?;
     let input = Vec::from_slice(rt.alloc(), text.as_bytes())?;
     expect(rt, "image 4096", input, GOOD, (Status::Ok, code.as_str()))
@@ -336,71 +336,6 @@ fn helpers_before_accesses(rt: HostRuntime) -> Result<(), Fail> {
 #[test]
 fn offsets(rt: HostRuntime) -> Result<(), Fail> {
     expect_rows(&rt, &OFFSET_ROWS)
-}
-
-/// Jobs whose operands are refused, or lie in a frame, or whose accesses have traps.
-#[test]
-fn operands(rt: HostRuntime) -> Result<(), Fail> {
-    for (words, job, status, told) in [
-        (
-            "image 4096",
-            "block\nStore64 %r1 RegOffset(%r3,524288,a)\nend\n",
-            Status::Refused,
-            "refused ScratchConflict\n",
-        ),
-        (
-            "image 4096",
-            "block\nLoad64 %r2 RegOffset(%r3,2147483648,a)\nend\n",
-            Status::Refused,
-            "refused OffsetOutOfRange\n",
-        ),
-        (
-            "image 4096",
-            "block\nStore64 %r1 RegOffset(%r3,2147483648,a)\nend\n",
-            Status::Refused,
-            "refused OffsetOutOfRange\n",
-        ),
-        (
-            "image 4096",
-            "block\nLoad64 %r2 RegOffset(%r1,524288,a)\nend\n",
-            Status::Refused,
-            "refused ScratchConflict\n",
-        ),
-        (
-            "image 4096",
-            "block\nCmpRX CmpL64Ext16 %r2 RegOffset(%r3,0,a)\nend\n",
-            Status::Refused,
-            "refused BadOperator\n",
-        ),
-        (
-            "image 4096",
-            "block\nLoadMultiple64 %r7 %r6 RegOffset(%r15,48,a)\nend\n",
-            Status::Refused,
-            "refused BadRegister\n",
-        ),
-        (
-            "image 4096",
-            "frame SystemV 16 0 32 8 64 160 - 0\nblock\nLoad64 %r2 InitialSPOffset(8)\nLoad64 %r2 IncomingArgOffset(8)\nLoad64 %r2 SpillOffset(8)\nLoad64 %r2 SlotOffset(8)\nLoad64 %r2 OutgoingArgOffset(8)\nend\n",
-            Status::Ok,
-            "e320f0d00004e320f1800004e320f0e80004e320f0a80004e320f0a80004\n",
-        ),
-        (
-            "emit",
-            "frame SystemV 0 0 0 32 0 160 - 0\nblock\nCmpRUImm32 CmpL64 %r3 65536\nTrapIf 10 heap_oob\nLoad32 %r2 BXD12(%r2,%r3,0,u!heap_oob)\nStore64 %r2 SlotOffset(8)\nRet %r14\nend\n",
-            Status::Ok,
-            "code c23e00010000c0a40000000158232000e320f0a8002407fe\nalign 4\nblock 0 0\ntrap 9 heap_oob\ntrap 12 heap_oob\n",
-        ),
-        (
-            "emit",
-            "block\nLoad64 %r2 RegOffset(%r3,524288,a!heap_oob)\nend\n",
-            Status::Ok,
-            "code c01100080000e32130000004\nalign 4\nblock 0 0\ntrap 6 heap_oob\n",
-        ),
-    ] {
-        let input = Vec::from_slice(rt.alloc(), job.as_bytes())?;
-        expect(&rt, words, input, GOOD, (status, told))?;
-    }
-    Ok(())
 }
 
 /// A block of so many loops, each in the one before.
@@ -476,103 +411,6 @@ fn codes(rt: HostRuntime) -> Result<(), Fail> {
     ] {
         let input = Vec::from_slice(rt.alloc(), input.as_bytes())?;
         expect(&rt, "emit", input, GOOD, (status, told))?;
-    }
-    Ok(())
-}
-
-#[test]
-fn jumps_by_tables(rt: HostRuntime) -> Result<(), Fail> {
-    for (input, status, told) in [
-        (
-            "block\nJTSequence %r2 1 2 [1,2]\nblock\nRet %r14\nblock\nRet %r14\nend\n",
-            Status::Ok,
-            "c0240000000ec01000000007e3121000001807f1000000080000000a07fe07fe\n",
-        ),
-        (
-            "block\nJTSequence %r3 0 4 [0]\nend\n",
-            Status::Ok,
-            "c04400000000c01000000007e3131000001807f1ffffffec\n",
-        ),
-        (
-            "block\nJTSequence %r2 0 2 []\nend\n",
-            Status::Ok,
-            "c02400000000c01000000007e3121000001807f1\n",
-        ),
-        (
-            "block\nJTSequence %r1 1 2 [1]\nend\n",
-            Status::Refused,
-            "refused ScratchConflict\n",
-        ),
-        (
-            "block\nJTSequence %r0 1 2 [1]\nend\n",
-            Status::Refused,
-            "refused BadRegister\n",
-        ),
-        (
-            "block\nJTSequence %r2 0 2 [0,1]\nend\n",
-            Status::Refused,
-            "refused UnboundLabel\n",
-        ),
-        (
-            "block\nJTSequence %r2 1 2 [0]\nend\n",
-            Status::Refused,
-            "refused UnboundLabel\n",
-        ),
-    ] {
-        let input = Vec::from_slice(rt.alloc(), input.as_bytes())?;
-        expect(&rt, "image 4096", input, GOOD, (status, told))?;
-    }
-    Ok(())
-}
-
-#[test]
-fn loads_of_symbols(rt: HostRuntime) -> Result<(), Fail> {
-    for (words, job, status, told) in [
-        (
-            "image 4096",
-            "symbol u1 65536\nblock\nLoadSymbolReloc %r2 Absolute(u1,0)\nend\n",
-            Status::Ok,
-            "a71500060000000000010000e32010000004\n",
-        ),
-        (
-            "emit",
-            "block\nLoadSymbolReloc %r2 Absolute(u1,0)\nend\n",
-            Status::Ok,
-            "code a71500060000000000000000e32010000004\nalign 4\nblock 0 0\nreloc 4 Abs8 u1 0\n",
-        ),
-        (
-            "image 4096",
-            "symbol u1 65536\nsymbol u2 72623859790382856\nblock\nNop2\nLoadSymbolReloc %r1 Absolute(u2,-8)\nLoadSymbolReloc %r0 Absolute(u1,1)\nend\n",
-            Status::Ok,
-            "0707a71500060102030405060700e31010000004a71500060000000000010001e30010000004\n",
-        ),
-        (
-            "emit",
-            "block\nNop2\nLoadSymbolReloc %r1 Absolute(u2,-8)\nLoadSymbolReloc %r0 Absolute(u1,1)\nend\n",
-            Status::Ok,
-            "code 0707a71500060000000000000000e31010000004a71500060000000000000000e30010000004\nalign 4\nblock 0 0\nreloc 6 Abs8 u2 -8\nreloc 24 Abs8 u1 1\n",
-        ),
-        (
-            "image 4096",
-            "block\nLoadSymbolReloc %r2 Absolute(u1,0)\nend\n",
-            Status::LinkRefused,
-            "link UndefinedSymbol\n",
-        ),
-        (
-            "image 4096",
-            "symbol u1 0\nblock\nLoadSymbolReloc %r2 Absolute(u1,-1)\nend\n",
-            Status::LinkRefused,
-            "link AddressOverflow\n",
-        ),
-        (
-            "image 4096",
-            "symbol u1 65536\nblock\nLoadSymbolReloc %v2 Absolute(u1,0)\nend\n",
-            Status::Refused,
-            "refused BadRegister\n",
-        ),
-    ] {
-        let input = Vec::from_slice(rt.alloc(), job.as_bytes())?;
-        expect(&rt, words, input, GOOD, (status, told))?;
     }
     Ok(())
 }
