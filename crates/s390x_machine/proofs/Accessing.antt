@@ -18,7 +18,7 @@ use Rattle.s390x_steps.specs.Memory.{MemoryInstruction, StorageForm, RxForm, RsF
 use Rattle.s390x_steps.specs.Ranges.{OperandInRange}
 use Rattle.s390x_steps.specs.Operands.{Finalized, offset_fits, no_register, scratch, is_numbered, fits_12, fits_20, fits_32, addressed, with_widened, widened, finalized, has_form, is_relative, loses_base, operand_general}
 use Rattle.s390x_steps.specs.Causes.{is_helped}
-use Rattle.s390x_steps.specs.Parts.{Row, access_parts, finalized_parts, memory_parts, step_parts}
+use Rattle.s390x_steps.specs.Parts.{Row, part_size, operand_parts, step_parts}
 use Rattle.s390x_steps.specs.Steps.{Step}
 use Rattle.s390x_steps.specs.declared.mem_inst_type.MemInstType.{MemInstType}
 use Rattle.s390x_operations.specs.State.{Registers, Core, put, sum64}

@@ -631,7 +631,7 @@ module _ (L : Layout) (all : AllPlaced L) (k : ℕ) (s : Step) (at : slice_get L
       let seven : 7 ≡ half_distance (o + 6) (o + 20) = omega arith in
       let bound = Rattle.s390x_machine.proofs.Standing.step_within L k s placed in
       let rows : TableRows L k index mask other (o + 20) targets = record {
-        first = brcl_at L all o even mask (L.places.block other) lm small (block_even other known) (block_small other known) stands.0;
+        first = brcl_at L all o even mask (L.places.block other) lm small (block_even L all other known) (block_small L all other known) stands.0;
         second = subst (λ p. RowAt L p (λ r. Perform (computes_immediate Kept (on_doublewords Move) 1 1 (sum64 base (o + 20)) r)) 6) e2 (larl_at L all (o + 6) (omega (arith, even)) 1 (o + 20) (omega arith) (omega (arith, size, bound, all.short)) (omega (arith, even)) (omega (arith, size, bound, all.short)) (subst (λ h. StandsAt L.image (o + 6) (bytes_of (ril_b 0xc00 1 h))) seven stands.1.0));
         third = subst (λ p. RowAt L p (λ r. Perform (adds_word index r)) 6) e3 (agf_at L all (o + 6 + 6) (omega (arith, even)) index li stands.1.1.0);
         fourth = subst (λ p. RowAt L p (λ r. BranchAction 15 (r.general 1)) 2) e4 (bcr_at L all (o + 6 + 6 + 6) (omega (arith, even)) 15 1 (omega arith) (omega arith) (λ e. absurd (omega arith)) stands.1.1.1.0);
@@ -647,7 +647,7 @@ module _ (L : Layout) (all : AllPlaced L) (k : ℕ) (s : Step) (at : slice_get L
             let w1 : StandsAt L.image (o + 20 + 4 * j) (word_bytes (table_distance (o + 20 + 4 * j) (0 + 4 * j) (L.places.block l.0))) = subst (λ q. StandsAt L.image (q + 4 * j) (word_bytes (table_distance (q + 4 * j) (0 + 4 * j) (L.places.block l.0)))) z w in
             let w2 : StandsAt L.image (o + 20 + 4 * j) (word_bytes (table_distance (o + 20 + 4 * j) (4 * j) (L.places.block l.0))) = subst (λ b. StandsAt L.image (o + 20 + 4 * j) (word_bytes (table_distance (o + 20 + 4 * j) b (L.places.block l.0)))) n w1 in
             let block : IsBlock L l.0 = listed_block L targets are j l e in
-            record { stands = w2; near = omega (arith, within_image L (o + 20 + 4 * j) _ w2, all.short); small = block_small l.0 block; known = block_at L all l.0 block };
+            record { stands = w2; near = omega (arith, within_image L (o + 20 + 4 * j) _ w2, all.short); small = block_small L all l.0 block; known = block_at L all l.0 block };
         nonzero = nonzero;
         not_scratch = not_scratch;
       } in
