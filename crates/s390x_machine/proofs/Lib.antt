@@ -2,6 +2,7 @@ pub mod Addresses
 pub mod Operands
 pub mod Checked
 pub mod Accessing
+pub mod Aligned
 pub mod Relative
 pub mod RelativeRows
 pub mod Composites

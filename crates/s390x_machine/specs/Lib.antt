@@ -1,3 +1,4 @@
+pub mod Aligned
 pub mod Codes
 pub mod Computations
 pub mod Example

@@ -8,16 +8,20 @@ ghost use Rattle.s390x_steps.specs.Causes.{blocks_cause};
 ghost use Rattle.s390x_steps.specs.Ranges.{OperandInRange, BlocksInRange};
 ghost use Rattle.s390x_steps.specs.Steps.{Step, function_steps};
 ghost use Rattle.s390x_machine.specs.Layout.{Layout};
-ghost use Rattle.s390x_machine.specs.Placed.{AllPlaced, IsBlock, IsFine};
+ghost use Rattle.s390x_machine.specs.Placed.{AllPlaced, IsBlock, IsFine, IsFineMemory};
 ghost use Rattle.s390x_machine.specs.Match.{StepRuns, StepHolds, EveryRun, EveryBlockRun};
 ghost use Rattle.s390x_machine.specs.Fetch.{Fetched, Fetches};
 ghost use Rattle.s390x_operations.specs.State.{CodeImage, Memory};
 ghost use Rattle.s390x_machine.specs.Example.{LoopRuns};
 ghost use Rattle.s390x_inst.specs.declared.args.MemArg.{MemArg};
-ghost use Rattle.s390x_steps.specs.Causes.{is_helped};
+ghost use Rattle.s390x_inst.specs.declared.inst.Inst.{Inst};
+ghost use Rattle.s390x_steps.specs.Causes.{is_helped, boundary};
 ghost use Rattle.s390x_steps.specs.Operands.{finalized, has_form, operand_general, offset_fits};
 ghost use Rattle.s390x_steps.specs.declared.mem_inst_type.MemInstType.{MemInstType};
-ghost use Rattle.s390x_machine.specs.Storage.{needs_scratch};
+ghost use Rattle.s390x_machine.specs.Storage.{address_of, needs_scratch, operand_step};
+ghost use Rattle.s390x_machine.specs.Aligned.{IsOwn, IsOnBoundary, relative_row_of, StepAccesses};
+ghost use Rattle.s390x_steps.specs.Memory.{MemoryInstruction, memory};
+ghost use Rattle.s390x_steps.specs.Storage.{relative_bytes};
 ghost use Rattle.s390x_machine.specs.Helpers.{IsReached, HelpersKeep, TakesOperand};
 
 /// Wherever a step's bytes lie in an image at their place, every machine run from there is allowed by at most that step, or begins with a run of at most four turns that is that step.
@@ -73,4 +77,14 @@ pub fn helpers_keep_the_address()
 /// Where the rows have a form for an operand, the one that stands in the access is of a form that they take, and its displacement lies in its range.
 pub fn access_takes_its_operand()
     ensures { (mi : MemInstType) (m : MemArg) → IsTrue (has_form mi m) → IsTrue (operand_general m) → IsTrue (offset_fits m) → OperandInRange m → TakesOperand mi (finalized mi m).operand × OperandInRange (finalized mi m).operand }
+{}
+
+/// A block or a constant that an instruction names relative to itself stands on the boundary that the access needs: the typed step of such an access isn't misaligned.
+pub fn relative_accesses_are_aligned()
+    ensures { (L : Layout) → AllPlaced L → (x : MemoryInstruction) → IsFineMemory L x → IsOwn x.operand → IsOnBoundary (address_of L x.operand) (boundary x) }
+{}
+
+/// An access that has a row relative to the instruction reads or stores as many bytes as are told of that row's opcode.
+pub fn relative_rows_access_their_bytes()
+    ensures { (i : Inst) (opcode : ℕ) → relative_row_of (memory i) ≡ Some opcode → StepAccesses (operand_step i) (relative_bytes opcode) }
 {}
