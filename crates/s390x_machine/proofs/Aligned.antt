@@ -1,25 +1,35 @@
 -- Accesses of operands relative to the instruction stand on the boundary of their bytes.
 use Rattle.std.proofs.Common.{◌≡◌, ℕ, ◌+◌, ◌%◌, ◌^◌, ◌≤◌, inl, inr, ◌⊎◌, length, Option, Some, None, Bool, true, false, cond, ◌||◌, is_some, get_or, IsTrue, refl, sym, ap, ◌∙◌, subst, arith}
 use Rattle.std.specs.Prelude.{nat_eq, nat_le, ◌&&◌, not}
-use Rattle.std.proofs.lemmas.Bool.{eqb-true, leb-true}
+use Rattle.std.proofs.lemmas.Bool.{eq-eqb, eqb-true, leb-true}
+use Rattle.s390x_base.specs.Regs.{number_of}
 use Rattle.s390x_base.specs.declared.regs.Reg.{Reg}
+use Rattle.s390x_steps.specs.General.{is_general}
 use Rattle.s390x_base.specs.declared.error.EmitError.TheVariants.{BadAlignment}
 use Rattle.s390x_buffer.specs.State.{is_alignment}
 use Rattle.s390x_inst.specs.declared.args.MemArg.{MemArg}
 use Rattle.s390x_inst.specs.declared.args.MemArg.TheVariants.{Label, Constant}
 use Rattle.s390x_inst.specs.declared.inst.Inst.{Inst}
 use Rattle.s390x_inst.specs.declared.inst.Inst.TheVariants.{AluRX, CmpRX, Load32, Load32ZExt8, Load32SExt8, Load32ZExt16, Load32SExt16, Load64, Load64ZExt8, Load64SExt8, Load64ZExt16, Load64SExt16, Load64ZExt32, Load64SExt32, LoadRev16, LoadRev32, LoadRev64, Store8, Store16, Store32, Store64, StoreRev16, StoreRev32, StoreRev64, StoreImm8, StoreImm16, StoreImm32SExt16, StoreImm64SExt16, LoadMultiple64, StoreMultiple64, LoadAddr, AtomicRmw, AtomicCas32, AtomicCas64}
+use Rattle.s390x_inst.specs.declared.ops.CmpOp.{CmpOp}
 use Rattle.s390x_inst.specs.declared.ops.CmpOp.TheVariants as C
 use Rattle.s390x_steps.specs.Causes.{unless, bound_cause, relative_access, boundary, alignment_cause}
 use Rattle.s390x_steps.specs.Memory.{StorageForm, RxForm, MemoryInstruction, memory, type_of, operate, load_and_operate}
-use Rattle.s390x_steps.specs.Operands.{is_relative, needs_address}
-use Rattle.s390x_steps.specs.Storage.{alu_rx, alu_rxy, atomic_rsy, relative_bytes}
+use Rattle.s390x_steps.specs.Operands.{is_numbered, is_relative, needs_address}
+use Rattle.s390x_steps.specs.Storage.{alu_rx, alu_rxy, cmp_rx, cmp_rxy, cmp_ril, atomic_rsy, relative_bytes}
 use Rattle.s390x_steps.specs.declared.mem_inst_type.MemInstType.{MemInstType}
-use Rattle.s390x_operations.specs.State.{Registers, sum64}
-use Rattle.s390x_machine.specs.Aligned.{IsOwn, IsOnBoundary, relative_row_of, StepAccesses}
+use Rattle.s390x_operations.specs.State.{Registers, reaches, sum64}
+use Rattle.s390x_operations.specs.Access.{is_misaligned, reach_fault, fault}
+use Rattle.s390x_operations.specs.Effects.{access}
+use Rattle.s390x_operations.specs.declared.effect.Operation.{Operation}
+use Rattle.s390x_operations.specs.declared.size.Size.TheVariants.{Word, Doubleword}
+use Rattle.s390x_operations.specs.declared.stop.StopKind.TheVariants.{Access, Specification}
+use Rattle.s390x_machine.specs.Aligned.{IsOwn, OwnOperand, IsOnBoundary, relative_row_of, StepAccesses, NeverMisaligned}
+use Rattle.s390x_machine.specs.Computations.{word, signed_word, signed_halfword, halfword, doubleword, comparison}
+use Rattle.s390x_machine.specs.Forms.{performed_at, performed_in_memory}
 use Rattle.s390x_machine.specs.Layout.{Layout, declared, constant_place}
-use Rattle.s390x_machine.specs.Placed.{AllPlaced, IsFineMemory}
-use Rattle.s390x_machine.specs.Storage.{address_of, operand_step}
+use Rattle.s390x_machine.specs.Placed.{AllPlaced, IsFineMemory, FineMemoryOr}
+use Rattle.s390x_machine.specs.Storage.{address_of, operand_step, indexed_forms, cmp_forms, loads_at, stores_at, compares_at, aligned_effect, aligned_where}
 use Rattle.s390x_machine.proofs.Relative.{first_none, unless_none, label_known, constant_known}
 use Rattle.s390x_machine.proofs.Standing.{block_even}
 
@@ -152,3 +162,72 @@ bytes_accessed (CmpRX C.CmpL64Ext32 rn mem) opcode e = let same : 0xc6e ≡ opco
 bytes_accessed (AluRX op rd ri mem) opcode e = absurd (no_operate (is_some (alu_rx op) || is_some (alu_rxy op)) (alu_rx op) (alu_rxy op) rd ri mem opcode e)
 bytes_accessed (AtomicRmw op rd rn mem) opcode e = absurd (no_load_and_operate (atomic_rsy op) rd rn mem opcode e)
 bytes_accessed i opcode e = absurd (cc)
+
+-- ---- no stop by alignment
+
+-- n bytes at a multiple of n
+reached_at_multiple : (a n : ℕ) (has : ℕ → Bool) → a % n ≡ 0 → reach_fault (is_misaligned true a n) has a n ≡ Some Specification → ⊥
+reached_at_multiple a n has h e = go (reaches has a n) (sym (ap (λ b. cond (not b) (Some Specification) (cond (reaches has a n) None (Some Access))) (eq-eqb (a % n) 0 h)) ∙ e)
+  where
+    go : (b : Bool) → cond b None (Some Access) ≡ Some Specification → ⊥
+    go true h = absurd (cc)
+    go false h = absurd (cc)
+
+-- an operation whose aligned access has so many bytes at its address
+abbrev AlignedBytes : (ℕ → Registers → Operation) → (size : ℕ) → Type 0
+AlignedBytes operation size = (a : ℕ) (r : Registers) (has : ℕ → Bool) → fault (access (aligned_effect (operation a r).effect)) has ≡ reach_fault (is_misaligned true a size) has a size
+
+-- comparisons have the form, and these bytes
+cmp_relative : (op : CmpOp) → (cmp_forms op).have_pcrel ≡ true
+cmp_relative C.CmpS32 = refl
+cmp_relative C.CmpS32Ext16 = refl
+cmp_relative C.CmpS64 = refl
+cmp_relative C.CmpS64Ext16 = refl
+cmp_relative C.CmpS64Ext32 = refl
+cmp_relative C.CmpL32 = refl
+cmp_relative C.CmpL32Ext16 = refl
+cmp_relative C.CmpL64 = refl
+cmp_relative C.CmpL64Ext16 = refl
+cmp_relative C.CmpL64Ext32 = refl
+
+cmp_bytes : (op : CmpOp) (n : ℕ) → AlignedBytes (compares_at (comparison op) n) (relative_bytes (cmp_ril op))
+cmp_bytes C.CmpS32 n a r has = refl
+cmp_bytes C.CmpS32Ext16 n a r has = refl
+cmp_bytes C.CmpS64 n a r has = refl
+cmp_bytes C.CmpS64Ext16 n a r has = refl
+cmp_bytes C.CmpS64Ext32 n a r has = refl
+cmp_bytes C.CmpL32 n a r has = refl
+cmp_bytes C.CmpL32Ext16 n a r has = refl
+cmp_bytes C.CmpL64 n a r has = refl
+cmp_bytes C.CmpL64Ext16 n a r has = refl
+cmp_bytes C.CmpL64Ext32 n a r has = refl
+
+module _ (L : Layout) (all : AllPlaced L) where
+  -- an operand at an address, where the rows have its form
+  stands_aligned : (size a : ℕ) (operation : ℕ → Registers → Operation) (have : Bool) → have ≡ true → AlignedBytes operation size → a % size ≡ 0 → (r : Registers) (has : ℕ → Bool) → fault (access (aligned_where (not (not have)) (operation a r)).effect) has ≡ Some Specification → ⊥
+  stands_aligned size a operation false have bytes multiple r has e = absurd (cc)
+  stands_aligned size a operation true have bytes multiple r has e = reached_at_multiple a size has multiple (sym (bytes a r has) ∙ e)
+
+  own_never : (register : ℕ) (short long : Option ℕ) (opcode : ℕ) (m : MemArg) (fits reads : Bool) → IsFineMemory L (record { form = RxForm register short long (Some opcode); operand = m; accesses = true; fine = fits; reads_scratch = reads }) → IsOwn m → (forms : MemInstType) (operation : ℕ → Registers → Operation) → forms.have_pcrel ≡ true → AlignedBytes operation (relative_bytes opcode) → NeverMisaligned (performed_at (record { operand = m; forms = forms; accesses = true; operation = operation }) (address_of L m))
+  own_never register short long opcode (Label target) fits reads fine own forms operation have bytes =
+      λ r has e. stands_aligned (relative_bytes opcode) (sum64 L.image.base (L.places.block target.0)) operation forms.have_pcrel have bytes (on_boundary L all (record { form = RxForm register short long (Some opcode); operand = Label target; accesses = true; fine = fits; reads_scratch = reads }) fine own r) r has e
+  own_never register short long opcode (Constant c) fits reads fine own forms operation have bytes =
+      λ r has e. stands_aligned (relative_bytes opcode) (constant_place L c.0) operation forms.have_pcrel have bytes (on_boundary L all (record { form = RxForm register short long (Some opcode); operand = Constant c; accesses = true; fine = fits; reads_scratch = reads }) fine own r) r has e
+  own_never register short long opcode m fits reads fine own forms operation have bytes = absurd own
+
+  pub never_misaligned : (i : Inst) (opcode : ℕ) → relative_row_of (memory i) ≡ Some opcode → FineMemoryOr L (memory i) ⊥ → OwnOperand (memory i) → NeverMisaligned (performed_in_memory L i)
+  never_misaligned (Load32 rd mem) opcode e fine own = own_never (number_of rd) (Some 0x58) (Some 0xe358) 0xc4d mem (is_general rd) false fine own (indexed_forms true true true) (loads_at Word word (number_of rd)) refl (λ a r has. refl)
+  never_misaligned (Load32ZExt16 rd mem) opcode e fine own = own_never (number_of rd) None (Some 0xe395) 0xc42 mem (is_general rd) false fine own (indexed_forms false true true) (loads_at Word halfword (number_of rd)) refl (λ a r has. refl)
+  never_misaligned (Load32SExt16 rd mem) opcode e fine own = own_never (number_of rd) (Some 0x48) (Some 0xe378) 0xc45 mem (is_general rd) false fine own (indexed_forms true true true) (loads_at Word signed_halfword (number_of rd)) refl (λ a r has. refl)
+  never_misaligned (Load64 rd mem) opcode e fine own = own_never (number_of rd) None (Some 0xe304) 0xc48 mem (is_general rd) false fine own (indexed_forms false true true) (loads_at Doubleword doubleword (number_of rd)) refl (λ a r has. refl)
+  never_misaligned (Load64ZExt16 rd mem) opcode e fine own = own_never (number_of rd) None (Some 0xe391) 0xc46 mem (is_general rd) false fine own (indexed_forms false true true) (loads_at Doubleword halfword (number_of rd)) refl (λ a r has. refl)
+  never_misaligned (Load64SExt16 rd mem) opcode e fine own = own_never (number_of rd) None (Some 0xe315) 0xc44 mem (is_general rd) false fine own (indexed_forms false true true) (loads_at Doubleword signed_halfword (number_of rd)) refl (λ a r has. refl)
+  never_misaligned (Load64ZExt32 rd mem) opcode e fine own = own_never (number_of rd) None (Some 0xe316) 0xc4e mem (is_general rd) false fine own (indexed_forms false true true) (loads_at Doubleword word (number_of rd)) refl (λ a r has. refl)
+  never_misaligned (Load64SExt32 rd mem) opcode e fine own = own_never (number_of rd) None (Some 0xe314) 0xc4c mem (is_general rd) false fine own (indexed_forms false true true) (loads_at Doubleword signed_word (number_of rd)) refl (λ a r has. refl)
+  never_misaligned (Store16 rd mem) opcode e fine own = own_never (number_of rd) (Some 0x40) (Some 0xe370) 0xc47 mem (is_general rd) (is_numbered 1 rd) fine own (indexed_forms true true true) (stores_at halfword (number_of rd)) refl (λ a r has. refl)
+  never_misaligned (Store32 rd mem) opcode e fine own = own_never (number_of rd) (Some 0x50) (Some 0xe350) 0xc4f mem (is_general rd) (is_numbered 1 rd) fine own (indexed_forms true true true) (stores_at word (number_of rd)) refl (λ a r has. refl)
+  never_misaligned (Store64 rd mem) opcode e fine own = own_never (number_of rd) None (Some 0xe324) 0xc4b mem (is_general rd) (is_numbered 1 rd) fine own (indexed_forms false true true) (stores_at doubleword (number_of rd)) refl (λ a r has. refl)
+  never_misaligned (CmpRX op rn mem) opcode e fine own = own_never (number_of rn) (cmp_rx op) (cmp_rxy op) (cmp_ril op) mem (is_general rn) (is_numbered 1 rn) fine own (cmp_forms op) (compares_at (comparison op) (number_of rn)) (cmp_relative op) (cmp_bytes op (number_of rn))
+  never_misaligned (AluRX op rd ri mem) opcode e fine own = absurd (no_operate (is_some (alu_rx op) || is_some (alu_rxy op)) (alu_rx op) (alu_rxy op) rd ri mem opcode e)
+  never_misaligned (AtomicRmw op rd rn mem) opcode e fine own = absurd (no_load_and_operate (atomic_rsy op) rd rn mem opcode e)
+  never_misaligned i opcode e fine own = absurd (cc)

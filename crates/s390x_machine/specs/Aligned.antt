@@ -5,8 +5,10 @@ use Rattle.s390x_inst.specs.declared.args.MemArg.{MemArg}
 use Rattle.s390x_inst.specs.declared.args.MemArg.TheVariants.{Label, Constant}
 use Rattle.s390x_steps.specs.Memory.{StorageForm, RxForm, MemoryInstruction}
 use Rattle.s390x_operations.specs.State.{Registers}
-use Rattle.s390x_operations.specs.Access.{Access, Reads, Stores}
+use Rattle.s390x_operations.specs.Access.{Access, Reads, Stores, fault}
 use Rattle.s390x_operations.specs.Effects.{access}
+use Rattle.s390x_operations.specs.declared.stop.StopKind.TheVariants.{Specification}
+use Rattle.s390x_machine.specs.Forms.{Performed}
 use Rattle.s390x_machine.specs.Storage.{OperandStep}
 
 -- the operand is a block or a constant of the function itself
@@ -40,3 +42,13 @@ AccessesBytes access address size = ⊥
 abbrev pub StepAccesses : Option OperandStep → ℕ → Type 0
 StepAccesses (Some x) size = (address : ℕ) (r : Registers) → AccessesBytes (access (x.operation address r).effect) address size
 StepAccesses None size = ⊥
+
+-- the operand of an instruction is a block or a constant
+abbrev pub OwnOperand : Option MemoryInstruction → Type 0
+OwnOperand (Some x) = IsOwn x.operand
+OwnOperand None = ⊥
+
+-- an instruction does something with memory, and never stops because its operand is misaligned
+abbrev pub NeverMisaligned : Option Performed → Type 0
+NeverMisaligned (Some p) = (r : Registers) (has : ℕ → Bool) → fault (access (p.operation r).effect) has ≡ Some Specification → ⊥
+NeverMisaligned None = ⊥

@@ -8,7 +8,7 @@ ghost use Rattle.s390x_steps.specs.Causes.{blocks_cause};
 ghost use Rattle.s390x_steps.specs.Ranges.{OperandInRange, BlocksInRange};
 ghost use Rattle.s390x_steps.specs.Steps.{Step, function_steps};
 ghost use Rattle.s390x_machine.specs.Layout.{Layout};
-ghost use Rattle.s390x_machine.specs.Placed.{AllPlaced, IsBlock, IsFine, IsFineMemory};
+ghost use Rattle.s390x_machine.specs.Placed.{AllPlaced, IsBlock, IsFine, IsFineMemory, FineMemoryOr};
 ghost use Rattle.s390x_machine.specs.Match.{StepRuns, StepHolds, EveryRun, EveryBlockRun};
 ghost use Rattle.s390x_machine.specs.Fetch.{Fetched, Fetches};
 ghost use Rattle.s390x_operations.specs.State.{CodeImage, Memory};
@@ -19,7 +19,8 @@ ghost use Rattle.s390x_steps.specs.Causes.{is_helped, boundary};
 ghost use Rattle.s390x_steps.specs.Operands.{finalized, has_form, operand_general, offset_fits};
 ghost use Rattle.s390x_steps.specs.declared.mem_inst_type.MemInstType.{MemInstType};
 ghost use Rattle.s390x_machine.specs.Storage.{address_of, needs_scratch, operand_step};
-ghost use Rattle.s390x_machine.specs.Aligned.{IsOwn, IsOnBoundary, relative_row_of, StepAccesses};
+ghost use Rattle.s390x_machine.specs.Aligned.{IsOwn, OwnOperand, IsOnBoundary, relative_row_of, StepAccesses, NeverMisaligned};
+ghost use Rattle.s390x_machine.specs.Forms.{performed_in_memory};
 ghost use Rattle.s390x_steps.specs.Memory.{MemoryInstruction, memory};
 ghost use Rattle.s390x_steps.specs.Storage.{relative_bytes};
 ghost use Rattle.s390x_machine.specs.Helpers.{IsReached, HelpersKeep, TakesOperand};
@@ -79,7 +80,7 @@ pub fn access_takes_its_operand()
     ensures { (mi : MemInstType) (m : MemArg) → IsTrue (has_form mi m) → IsTrue (operand_general m) → IsTrue (offset_fits m) → OperandInRange m → TakesOperand mi (finalized mi m).operand × OperandInRange (finalized mi m).operand }
 {}
 
-/// A block or a constant that an instruction names relative to itself stands on the boundary that the access needs: the typed step of such an access isn't misaligned.
+/// A block or a constant that an instruction names relative to itself stands on the boundary that emission asks of it.
 pub fn relative_accesses_are_aligned()
     ensures { (L : Layout) → AllPlaced L → (x : MemoryInstruction) → IsFineMemory L x → IsOwn x.operand → IsOnBoundary (address_of L x.operand) (boundary x) }
 {}
@@ -87,4 +88,9 @@ pub fn relative_accesses_are_aligned()
 /// An access that has a row relative to the instruction reads or stores as many bytes as are told of that row's opcode.
 pub fn relative_rows_access_their_bytes()
     ensures { (i : Inst) (opcode : ℕ) → relative_row_of (memory i) ≡ Some opcode → StepAccesses (operand_step i) (relative_bytes opcode) }
+{}
+
+/// The typed step of an access that has a row relative to the instruction never stops by alignment where it names a block or a constant.
+pub fn relative_accesses_never_misalign()
+    ensures { (L : Layout) → AllPlaced L → (i : Inst) (opcode : ℕ) → relative_row_of (memory i) ≡ Some opcode → FineMemoryOr L (memory i) ⊥ → OwnOperand (memory i) → NeverMisaligned (performed_in_memory L i) }
 {}
