@@ -4,6 +4,7 @@ pub mod Checked
 pub mod Accessing
 pub mod Aligned
 pub mod Relative
+pub mod RelativeExample
 pub mod RelativeRows
 pub mod Composites
 pub mod Decoding

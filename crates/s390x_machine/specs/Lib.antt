@@ -13,6 +13,7 @@ pub mod Meanings
 pub mod Operands
 pub mod Placed
 pub mod Regions
+pub mod RelativeExample
 pub mod Sound
 pub mod State
 pub mod Storage

@@ -13,6 +13,7 @@ ghost use Rattle.s390x_machine.specs.Match.{StepRuns, StepHolds, EveryRun, Every
 ghost use Rattle.s390x_machine.specs.Fetch.{Fetched, Fetches};
 ghost use Rattle.s390x_operations.specs.State.{CodeImage, Memory};
 ghost use Rattle.s390x_machine.specs.Example.{LoopRuns};
+ghost use Rattle.s390x_machine.specs.RelativeExample.{RelativeRuns};
 ghost use Rattle.s390x_inst.specs.declared.args.MemArg.{MemArg};
 ghost use Rattle.s390x_inst.specs.declared.inst.Inst.{Inst};
 ghost use Rattle.s390x_steps.specs.Causes.{is_helped, boundary};
@@ -63,6 +64,11 @@ pub fn one_instruction()
 /// The premises can be met: the code of a function of two blocks in memory, and a run of it that goes round a loop, leaves it and returns.
 pub fn a_loop_runs()
     ensures { LoopRuns }
+{}
+
+/// They can also be met with a constant and a symbol that are named by their distances: the code in memory, and a run that loads both.
+pub fn a_constant_is_loaded()
+    ensures { RelativeRuns }
 {}
 
 /// Helpers come before an access exactly where its step needs `%r1`.
