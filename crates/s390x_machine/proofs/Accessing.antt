@@ -1,26 +1,18 @@
 -- A step with an operand in memory whose access stands as it is, or behind helpers that put an offset or an address into `%r1`.
-use Rattle.std.proofs.Common.{◌≡◌, ℕ, ◌+◌, ◌%◌, ◌^◌, ◌<◌, ◌≤◌, List, [], ◌∷◌, ◌++◌, Option, Some, None, Bool, true, false, cond, not, ◌&&◌, ◌||◌, ◌==◌, IsTrue, refl, sym, ap, ◌∙◌, subst, arith, slice_get}
-use Rattle.std.specs.Prelude.{ℤ, pos, negsuc, ◌+ℤ◌, ◌≤ℤ◌, unsigned_abs}
-use Rattle.std.proofs.lemmas.Bool.{and_parts, eqb-true}
-use Rattle.std.proofs.lemmas.Int.{ints}
+use Rattle.std.proofs.Common.{◌≡◌, ℕ, ◌+◌, ◌%◌, ◌^◌, ◌<◌, List, [], ◌∷◌, ◌++◌, Option, Some, None, Bool, true, false, ◌==◌, refl, sym, ap, ◌∙◌, subst, arith, slice_get}
+use Rattle.std.specs.Prelude.{ℤ, pos, negsuc, ◌+ℤ◌, ◌≤ℤ◌}
 use Rattle.std.proofs.lemmas.Option.{slice_get_within}
 use Rattle.s390x_base.specs.Regs.{number_of}
 use Rattle.s390x_base.specs.declared.regs.Reg.{Reg}
-use Rattle.s390x_base.specs.declared.ir.MachMemFlags.{MachMemFlags}
 use Rattle.s390x_base.specs.declared.trap.TrapKind.{TrapKind}
 use Rattle.s390x_inst.specs.declared.args.MemArg.{MemArg}
-use Rattle.s390x_inst.specs.declared.args.MemArg.TheVariants.{BXD12, BXD20, Label, Constant, Symbol, RegOffset, InitialSPOffset, IncomingArgOffset, OutgoingArgOffset, SlotOffset, SpillOffset}
-use Rattle.s390x_inst.specs.declared.inst.Inst.TheVariants.{Mov64SImm32, LoadAddr}
 use Rattle.s390x_format.specs.Formats.{length_of}
-use Rattle.s390x_steps.specs.General.{is_general, low_word}
+use Rattle.s390x_steps.specs.General.{low_word}
 use Rattle.s390x_steps.specs.MachineInstruction.{size_of, ril_a}
-use Rattle.s390x_steps.specs.Memory.{MemoryInstruction, StorageForm, RxForm, RsForm, SiForm, SilForm, type_of, storage_row, address_form, fault_code}
-use Rattle.s390x_steps.specs.Ranges.{OperandInRange}
-use Rattle.s390x_steps.specs.Operands.{Finalized, offset_fits, no_register, scratch, is_numbered, fits_12, fits_20, fits_32, addressed, with_widened, widened, finalized, has_form, is_relative, loses_base, operand_general}
-use Rattle.s390x_steps.specs.Causes.{is_helped}
+use Rattle.s390x_steps.specs.Memory.{StorageForm, address_form}
+use Rattle.s390x_steps.specs.Operands.{scratch}
 use Rattle.s390x_steps.specs.Parts.{Row, part_size, operand_parts, step_parts}
 use Rattle.s390x_steps.specs.Steps.{Step}
-use Rattle.s390x_steps.specs.declared.mem_inst_type.MemInstType.{MemInstType}
 use Rattle.s390x_operations.specs.State.{Registers, Core, put, sum64}
 use Rattle.s390x_machine.specs.declared.meaning.Action.TheVariants.{Perform}
 use Rattle.s390x_operations.specs.Effects.{Refines}
@@ -28,21 +20,20 @@ use Rattle.s390x_operations.specs.declared.effect.CodeRule.TheVariants.{Kept}
 use Rattle.s390x_operations.specs.declared.effect.Operation.{Operation}
 use Rattle.s390x_operations.specs.declared.operator.Operator.TheVariants.{Move}
 use Rattle.s390x_machine.specs.Computations.{doubleword, signed_word, on_doublewords, on_immediate}
-use Rattle.s390x_machine.specs.Forms.{Performs, Unbuilt, form_or, performed_at, access_code}
+use Rattle.s390x_machine.specs.Forms.{Performs, access_code}
 use Rattle.s390x_machine.specs.Layout.{Layout}
 use Rattle.s390x_machine.specs.Machine.{Turn}
 use Rattle.s390x_machine.specs.Match.{StepRuns}
 use Rattle.s390x_machine.specs.Operands.{indexed, based, address_part}
-use Rattle.s390x_machine.specs.Placed.{Placed, AllPlaced, IsFineMemory}
-use Rattle.s390x_machine.specs.Storage.{address_of, needs_scratch, loads_address}
-use Rattle.s390x_machine.specs.Typed.{loosened, form_of, form_at}
+use Rattle.s390x_machine.specs.Placed.{Placed, AllPlaced}
+use Rattle.s390x_machine.specs.Storage.{loads_address}
+use Rattle.s390x_machine.specs.Typed.{loosened, form_at}
 use Rattle.s390x_machine.proofs.Addresses.{sum_more}
 use Rattle.s390x_machine.proofs.Alone.{lgfi_row, word_at}
-use Rattle.s390x_machine.proofs.Operands.{short_12, short_20, short_32, word_bits, displacement_bits, based_indexed, put_twice, not_scratch, zero_test, low_below, loaded_address, far_offset}
-use Rattle.s390x_machine.proofs.Rows.{general_number}
+use Rattle.s390x_machine.proofs.Operands.{word_bits, put_twice, low_below, loaded_address, far_offset}
 use Rattle.s390x_machine.proofs.Simulation.{Inside, Simulates, ValuesCoded, at_start, general_step}
 use Rattle.s390x_machine.proofs.Standing.{offset_even}
-use Rattle.s390x_machine.proofs.Storage.{FormDoes, IndexedForm, MayIndex, Stands, stands_12, stands_20, LastRow, step_rows_before, moved, helper_then}
+use Rattle.s390x_machine.proofs.Storage.{Stands, LastRow, step_rows_before, moved, helper_then}
 
 pub itself : (op : Operation) → Refines op op
 itself op = record { access = refl; refused = refl; may_refuse = λ kind h. h; results = λ c r h. h; code = λ c code h. h }

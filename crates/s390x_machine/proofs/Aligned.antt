@@ -1,5 +1,5 @@
 -- Accesses of operands relative to the instruction stand on the boundary of their bytes.
-use Rattle.std.proofs.Common.{◌≡◌, ℕ, ◌+◌, ◌%◌, ◌^◌, ◌≤◌, inl, inr, ◌⊎◌, length, Option, Some, None, Bool, true, false, cond, ◌||◌, is_some, get_or, IsTrue, refl, sym, ap, ◌∙◌, subst, arith}
+use Rattle.std.proofs.Common.{◌≡◌, ℕ, ◌%◌, ◌≤◌, inl, inr, ◌⊎◌, Option, Some, None, Bool, true, false, cond, ◌||◌, is_some, get_or, IsTrue, refl, sym, ap, ◌∙◌, subst, arith}
 use Rattle.std.specs.Prelude.{nat_eq, nat_le, ◌&&◌, not}
 use Rattle.std.proofs.lemmas.Bool.{eq-eqb, eqb-true, leb-true}
 use Rattle.s390x_base.specs.Regs.{number_of}
@@ -10,10 +10,10 @@ use Rattle.s390x_buffer.specs.State.{is_alignment}
 use Rattle.s390x_inst.specs.declared.args.MemArg.{MemArg}
 use Rattle.s390x_inst.specs.declared.args.MemArg.TheVariants.{Label, Constant}
 use Rattle.s390x_inst.specs.declared.inst.Inst.{Inst}
-use Rattle.s390x_inst.specs.declared.inst.Inst.TheVariants.{AluRX, CmpRX, Load32, Load32ZExt8, Load32SExt8, Load32ZExt16, Load32SExt16, Load64, Load64ZExt8, Load64SExt8, Load64ZExt16, Load64SExt16, Load64ZExt32, Load64SExt32, LoadRev16, LoadRev32, LoadRev64, Store8, Store16, Store32, Store64, StoreRev16, StoreRev32, StoreRev64, StoreImm8, StoreImm16, StoreImm32SExt16, StoreImm64SExt16, LoadMultiple64, StoreMultiple64, LoadAddr, AtomicRmw, AtomicCas32, AtomicCas64}
+use Rattle.s390x_inst.specs.declared.inst.Inst.TheVariants.{AluRX, CmpRX, Load32, Load32ZExt16, Load32SExt16, Load64, Load64ZExt16, Load64SExt16, Load64ZExt32, Load64SExt32, Store16, Store32, Store64, AtomicRmw}
 use Rattle.s390x_inst.specs.declared.ops.CmpOp.{CmpOp}
 use Rattle.s390x_inst.specs.declared.ops.CmpOp.TheVariants as C
-use Rattle.s390x_steps.specs.Causes.{unless, bound_cause, relative_access, boundary, alignment_cause}
+use Rattle.s390x_steps.specs.Causes.{bound_cause, relative_access, boundary, alignment_cause}
 use Rattle.s390x_steps.specs.Memory.{StorageForm, RxForm, MemoryInstruction, memory, type_of, operate, load_and_operate}
 use Rattle.s390x_steps.specs.Operands.{is_numbered, is_relative, needs_address}
 use Rattle.s390x_steps.specs.Storage.{alu_rx, alu_rxy, cmp_rx, cmp_rxy, cmp_ril, atomic_rsy, relative_bytes}

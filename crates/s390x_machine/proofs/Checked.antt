@@ -1,5 +1,5 @@
 -- Steps that emission lets pass are fine.
-use Rattle.std.proofs.Common.{◌≡◌, ℕ, zero, suc, ◌+◌, ◌<◌, ◌≤◌, List, [], ◌∷◌, ◌++◌, length, Option, Some, None, Bool, true, false, ◌&&◌, IsTrue, refl, sym, ap, ◌∙◌, subst, arith, length-append, slice_get, ltb-true}
+use Rattle.std.proofs.Common.{◌≡◌, ℕ, zero, suc, ◌+◌, ◌<◌, ◌≤◌, List, [], ◌∷◌, ◌++◌, length, Option, Some, None, ◌&&◌, refl, sym, ap, ◌∙◌, subst, arith, length-append, slice_get, ltb-true}
 use Rattle.std.specs.Prelude.{nat_lt, not}
 use Rattle.std.proofs.lemmas.Bool.{and_parts}
 use Rattle.s390x_inst.specs.declared.state.IsaFlags.{IsaFlags}
@@ -22,7 +22,7 @@ use Rattle.s390x_machine.specs.Functions.{function_layout}
 use Rattle.s390x_machine.specs.Layout.{Layout, declared}
 use Rattle.s390x_machine.specs.Placed.{IsBlock, AreBlocks, FineOr, FineMemoryOr, IsFine}
 use Rattle.s390x_machine.proofs.Functions.{count_of}
-use Rattle.s390x_machine.proofs.Relative.{first_none, unless_none, label_known}
+use Rattle.s390x_machine.proofs.Relative.{first_none, unless_none}
 
 module _ (L : Layout) where
   fine_alone : (o : Option Alone) (m : Option MemoryInstruction) → cause_or o (memory_cause_or (declared L) m (Some BadOperator)) ≡ None → MemoryInRange m → FineOr o (FineMemoryOr L m ⊥)

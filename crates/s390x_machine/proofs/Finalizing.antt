@@ -1,12 +1,11 @@
 -- An instruction with an operand in memory runs as its step: its operand stands in its access as it is, or helpers put an offset or an address into
 -- `%r1` first.
-use Rattle.std.proofs.Common.{◌⊎◌, ◌≡◌, ℕ, ◌+◌, ◌%◌, ◌^◌, ◌<◌, ◌≤◌, List, [], ◌∷◌, ◌++◌, Option, Some, None, Bool, true, false, cond, not, ◌&&◌, ◌||◌, ◌==◌, IsTrue, refl, sym, ap, ◌∙◌, subst, arith, slice_get}
+use Rattle.std.proofs.Common.{◌⊎◌, ◌≡◌, ℕ, ◌+◌, ◌^◌, ◌<◌, ◌≤◌, [], ◌∷◌, ◌++◌, Option, Some, None, Bool, true, false, cond, not, ◌&&◌, ◌||◌, ◌==◌, IsTrue, refl, sym, ap, ◌∙◌, subst, arith, slice_get}
 use Rattle.std.specs.Prelude.{ℤ, pos, negsuc, ◌+ℤ◌, ◌*ℤ◌, ◌≤ℤ◌, unsigned_abs}
 use Rattle.std.specs.Int.{cast_signed}
 use mir.Syntax.{w32}
 use Rattle.std.proofs.lemmas.Bool.{and_parts, eqb-true}
 use Rattle.std.proofs.lemmas.Int.{ints}
-use Rattle.std.proofs.lemmas.Option.{slice_get_within}
 use Rattle.s390x_base.specs.Regs.{number_of}
 use Rattle.s390x_base.specs.declared.regs.Reg.{Reg}
 use Rattle.s390x_base.specs.declared.ir.MachMemFlags.{MachMemFlags}
@@ -15,43 +14,34 @@ use Rattle.s390x_inst.specs.Memory.{flags_of}
 use Rattle.s390x_inst.specs.declared.args.MemArg.{MemArg}
 use Rattle.s390x_inst.specs.declared.args.MemArg.TheVariants.{BXD12, BXD20, Label, Constant, Symbol, RegOffset, InitialSPOffset, IncomingArgOffset, OutgoingArgOffset, SlotOffset, SpillOffset}
 use Rattle.s390x_inst.specs.declared.inst.Inst.TheVariants.{Mov64SImm32, LoadAddr}
-use Rattle.s390x_format.specs.Formats.{length_of}
-use Rattle.s390x_steps.specs.General.{is_general, low_word}
-use Rattle.s390x_steps.specs.MachineInstruction.{size_of, ril_a}
-use Rattle.s390x_steps.specs.Memory.{MemoryInstruction, StorageForm, RxForm, RsForm, SiForm, SilForm, type_of, storage_row, address_form, fault_code}
+use Rattle.s390x_steps.specs.General.{is_general}
+use Rattle.s390x_steps.specs.Memory.{MemoryInstruction, StorageForm, RxForm, RsForm, SiForm, SilForm, type_of, address_form, fault_code}
 use Rattle.s390x_steps.specs.Ranges.{OperandInRange}
 use Rattle.s390x_steps.specs.Operands.{Finalized, offset_fits, no_register, scratch, is_numbered, fits_12, fits_20, fits_32, addressed, with_widened, widened, finalized, has_form, is_relative, loses_base, operand_general}
 use Rattle.s390x_steps.specs.Causes.{is_helped, bound_cause, alignment_cause, boundary}
-use Rattle.s390x_steps.specs.Parts.{Row, operand_parts, finalized_parts, memory_parts, step_parts}
+use Rattle.s390x_steps.specs.Parts.{operand_parts, finalized_parts, memory_parts, step_parts}
 use Rattle.s390x_steps.specs.Steps.{Step}
 use Rattle.s390x_steps.specs.declared.mem_inst_type.MemInstType.{MemInstType}
 use Rattle.s390x_operations.specs.State.{Registers, put, sum64}
-use Rattle.s390x_machine.specs.declared.meaning.Action.TheVariants.{Perform}
 use Rattle.s390x_operations.specs.Effects.{Refines, refused, MayRefuse}
 use Rattle.s390x_operations.specs.declared.effect.Effect.{Effect}
 use Rattle.s390x_operations.specs.declared.effect.Effect.TheVariants.{Compute, Compare, Store}
 use Rattle.s390x_operations.specs.declared.stop.StopKind.{StopKind}
-use Rattle.s390x_operations.specs.declared.effect.CodeRule.TheVariants.{Kept}
 use Rattle.s390x_operations.specs.declared.effect.Operation.{Operation}
-use Rattle.s390x_operations.specs.declared.operator.Operator.TheVariants.{Move}
-use Rattle.s390x_machine.specs.Computations.{doubleword, signed_word, on_doublewords, on_immediate}
 use Rattle.s390x_machine.specs.Forms.{Performs, Unbuilt, form_or, performed_at, access_code}
 use Rattle.s390x_machine.specs.Layout.{Layout, declared, block_place, constant_place}
-use Rattle.s390x_machine.specs.Machine.{Turn}
 use Rattle.s390x_machine.specs.Match.{StepRuns}
 use Rattle.s390x_machine.specs.Operands.{indexed, based, address_part}
 use Rattle.s390x_machine.specs.Placed.{Placed, AllPlaced, PartsReach, IsFineMemory}
 use Rattle.s390x_machine.specs.Storage.{address_of, needs_scratch, loads_address, aligned_where, aligned_effect}
-use Rattle.s390x_machine.specs.Typed.{loosened, form_of, form_at}
+use Rattle.s390x_machine.specs.Typed.{form_of, form_at}
 use Rattle.s390x_machine.proofs.Addresses.{sum_below}
-use Rattle.s390x_machine.proofs.Alone.{lgfi_row, word_at}
-use Rattle.s390x_machine.proofs.Operands.{short_12, short_20, short_32, word_bits, displacement_bits, based_indexed, put_twice, not_scratch, zero_test, low_below, loaded_address, far_offset}
+use Rattle.s390x_machine.proofs.Operands.{short_12, short_20, short_32, displacement_bits, based_indexed, not_scratch, zero_test, low_below}
 use Rattle.s390x_machine.proofs.Rows.{general_number}
-use Rattle.s390x_machine.proofs.Simulation.{Inside, Simulates, ValuesCoded, at_start, general_step}
-use Rattle.s390x_machine.proofs.Standing.{offset_even}
+use Rattle.s390x_machine.proofs.Simulation.{ValuesCoded}
 use Rattle.s390x_machine.proofs.Accessing.{direct, after_address, after_offset, after_both}
 use Rattle.s390x_machine.proofs.Relative.{RelativeForm, RelativeDoes, Distant, first_none, label_known, constant_known, to_label, to_constant, to_symbol, distant_stands}
-use Rattle.s390x_machine.proofs.Storage.{FormDoes, IndexedForm, MayIndex, Stands, stands_12, stands_20, LastRow, step_rows_before, moved, helper_then}
+use Rattle.s390x_machine.proofs.Storage.{FormDoes, IndexedForm, MayIndex, Stands, stands_12, stands_20}
 
 may_none : (form : StorageForm) → MayIndex form 0
 may_none (RxForm register short long relative) = tt

@@ -1,5 +1,5 @@
 -- Operands relative to the instruction: the rows that take them, and the addresses to which their distances lead.
-use Rattle.std.proofs.Common.{◌≡◌, ℕ, ◌+◌, ◌%◌, ◌^◌, ◌<◌, [], ◌∷◌, ◌++◌, length, Option, Some, None, Bool, true, false, cond, refl, sym, ap, ◌∙◌, subst, arith, ltb-true, IsTrue}
+use Rattle.std.proofs.Common.{◌≡◌, ℕ, ◌%◌, ◌^◌, ◌<◌, [], ◌++◌, length, Option, Some, None, Bool, true, false, cond, refl, sym, ap, ◌∙◌, subst, arith, ltb-true, IsTrue}
 use Rattle.std.specs.Prelude.{ℤ, nat_lt, pos, ◌+ℤ◌, ◌*ℤ◌}
 use Rattle.std.specs.Int.{cast_signed}
 use mir.Syntax.{w32}
@@ -19,7 +19,7 @@ use Rattle.s390x_format.specs.View.{fields_of}
 use Rattle.s390x_steps.specs.MachineInstruction.{bytes_of, ril_b}
 use Rattle.s390x_steps.specs.Memory.{StorageForm, RxForm, RsForm, SiForm, SilForm, type_of, storage_row}
 use Rattle.s390x_steps.specs.Operands.{is_relative, widened}
-use Rattle.s390x_steps.specs.Parts.{Part, Relative, RelativeConstant, RelativeSymbol, ToBlock, part_size, trap_here, relative_part, relative_parts, access_parts, operand_parts}
+use Rattle.s390x_steps.specs.Parts.{Part, Relative, RelativeConstant, RelativeSymbol, ToBlock, part_size, trap_here, relative_part, relative_parts, access_parts}
 use Rattle.s390x_steps.specs.Rows.{half_distance, part_bytes}
 use Rattle.s390x_steps.specs.Traps.{part_traps}
 use Rattle.s390x_steps.specs.declared.mem_inst_type.MemInstType.{MemInstType}
@@ -34,7 +34,7 @@ use Rattle.s390x_machine.specs.Meanings.{action}
 use Rattle.s390x_machine.specs.Placed.{AllPlaced, IsBlock, PartReaches}
 use Rattle.s390x_machine.specs.Storage.{aligned_where}
 use Rattle.s390x_machine.proofs.Addresses.{lands}
-use Rattle.s390x_machine.proofs.Alone.{OpcodeRow, OpcodeRows, relative_at}
+use Rattle.s390x_machine.proofs.Alone.{OpcodeRows, relative_at}
 use Rattle.s390x_machine.proofs.Fetching.{StandsAt}
 use Rattle.s390x_machine.proofs.Simulation.{RowAt}
 use Rattle.s390x_machine.proofs.Standing.{part_length, block_even, block_small}

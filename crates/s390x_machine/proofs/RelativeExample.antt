@@ -1,5 +1,5 @@
 -- The function that names a constant and a symbol meets the premises, and its run is one of the machine.
-use Rattle.std.proofs.Common.{false, zero, suc, ◌<◌, length, slice_get, Some, ◌≡◌, ℕ, ◌%◌, [], ◌∷◌, ◌++◌, None, refl, sym, subst, arith}
+use Rattle.std.proofs.Common.{false, zero, suc, ◌<◌, slice_get, Some, ◌≡◌, ℕ, ◌%◌, [], ◌∷◌, ◌++◌, None, refl, sym, subst, arith}
 use Rattle.s390x_base.specs.Registers.{general}
 use Rattle.s390x_base.specs.declared.regs.Reg.TheVariants.{Real}
 use Rattle.s390x_inst.specs.declared.inst.Inst.TheVariants.{Ret}

@@ -1,5 +1,5 @@
 -- The rows that are relative to the instruction: each is listed, and does its instruction's operation.
-use Rattle.std.proofs.Common.{◌≡◌, ℕ, Option, Some, None, refl, arith}
+use Rattle.std.proofs.Common.{ℕ, Option, Some, refl, arith}
 use Rattle.s390x_inst.specs.declared.ops.CmpOp.{CmpOp}
 use Rattle.s390x_inst.specs.declared.ops.CmpOp.TheVariants as C
 use Rattle.s390x_format.specs.declared.kind.FormatKind.TheVariants.{RilB}
@@ -15,7 +15,7 @@ use Rattle.s390x_machine.specs.declared.meaning.Meaning.TheVariants.{Compute, Co
 use Rattle.s390x_machine.specs.declared.meaning.Shape.TheVariants.{Relative, RelativeAddress}
 use Rattle.s390x_machine.specs.Computations.{Second, word, signed_word, signed_halfword, halfword, doubleword, comparison}
 use Rattle.s390x_machine.specs.Meanings.{meaning_in, meaning_of}
-use Rattle.s390x_machine.proofs.Alone.{OpcodeRow, OpcodeRows, second_register}
+use Rattle.s390x_machine.proofs.Alone.{OpcodeRows, second_register}
 
 -- the row of an instruction, where it has one
 abbrev pub RelativeRows : Option ℕ → Meaning → Type 0

@@ -1,6 +1,6 @@
 -- Accesses of operands relative to the instruction: how many bytes they have, and the boundary on which they have to stand
 -- (Principles of Operation, chapter 7, the instructions "RELATIVE LONG").
-use Rattle.std.specs.Prelude.{◌≡◌, ℕ, ◌%◌, Bool, true, false, Option, Some, None}
+use Rattle.std.specs.Prelude.{◌≡◌, ℕ, ◌%◌, Bool, true, Option, Some, None}
 use Rattle.s390x_inst.specs.declared.args.MemArg.{MemArg}
 use Rattle.s390x_inst.specs.declared.args.MemArg.TheVariants.{Label, Constant}
 use Rattle.s390x_steps.specs.Memory.{StorageForm, RxForm, MemoryInstruction}
