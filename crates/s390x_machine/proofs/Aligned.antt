@@ -39,9 +39,9 @@ use Rattle.s390x_machine.proofs.Standing.{block_even}
 IsPower : ℕ → Type 0
 IsPower n = (n ≡ 1) ⊎ ((n ≡ 2) ⊎ ((n ≡ 4) ⊎ (n ≡ 8)))
 
-bytes_power : (halfword doubleword : Bool) → IsPower (cond halfword 2 (cond doubleword 8 4))
+bytes_power : (two eight : Bool) → IsPower (cond two 2 (cond eight 8 4))
 unfolding IsPower
-bytes_power true doubleword = inr (inl refl)
+bytes_power true eight = inr (inl refl)
 bytes_power false true = inr (inr (inr refl))
 bytes_power false false = inr (inr (inl refl))
 

@@ -30,7 +30,7 @@ abbrev pub IsSameAddress : Option (Registers → ℕ) → Registers → Option (
 IsSameAddress (Some a) r (Some b) q = a r ≡ b q
 IsSameAddress _ r _ q = ⊥
 
--- what a symbol that an operand names has is an address
+-- the symbol that an operand names stands, with its offset, at an address below 2 ^ 64
 abbrev pub HasAddress : Layout → MemArg → Type 0
 HasAddress L (Symbol name offset flags) = L.places.outside.symbol_value name offset < 2 ^ 64
 HasAddress L m = Unit {0}
