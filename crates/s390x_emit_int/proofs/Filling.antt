@@ -12,7 +12,7 @@ use Rattle.s390x_image.specs.Fields.{stored, filled, LiesIn}
 use Rattle.s390x_image.specs.Values.{symbol_value}
 use Rattle.s390x_steps.specs.Tree.{Tree}
 use Rattle.s390x_steps.specs.Steps.{Step, function_steps}
-use Rattle.s390x_steps.specs.Parts.{Part, Row, Trapping, Branch, Relative, SymbolValue, TrapHere, TableWord, ToBlock, ToStep, part_size, parts_size, step_parts}
+use Rattle.s390x_steps.specs.Parts.{Part, Row, Trapping, Branch, Relative, RelativeConstant, RelativeSymbol, SymbolValue, TrapHere, TableWord, ToBlock, ToStep, part_size, parts_size, step_parts}
 use Rattle.s390x_steps.specs.Rows.{Places, part_bytes, parts_bytes, step_bytes}
 use Rattle.s390x_steps.specs.Relocs.{part_relocs, parts_relocs, step_relocs, relocs_from, function_relocs}
 use Rattle.s390x_steps.specs.Image.{place, linked_places, function_places, code, function_code, linked_code}

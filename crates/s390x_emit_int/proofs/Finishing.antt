@@ -22,7 +22,7 @@ use Rattle.s390x_steps.specs.Causes.{draws, blocks_cause}
 use Rattle.s390x_steps.specs.Sizes.{blocks_size}
 use Rattle.s390x_steps.proofs.Causes.{first_left, first_right, unless_true}
 use Rattle.s390x_emit_int.specs.Function.{checked_cause, length_cause}
-use Rattle.s390x_emit_int.specs.Pieces.{Piece, apply, run, Put, PutTrapping, PutReloc, Link, Step, Draw, Bind}
+use Rattle.s390x_emit_int.specs.Pieces.{Piece, apply, run, Put, PutTrapping, PutReloc, Link, LinkConstant, Step, Draw, Bind}
 use Rattle.s390x_emit_int.specs.Emission.{pieces, function_pieces}
 use Rattle.s390x_emit_int.specs.Resolve.{put_length}
 use Rattle.s390x_emit_int.proofs.Closing.{blocks_closed, drawn_closed}
@@ -39,9 +39,10 @@ use Rattle.s390x_emit_int.proofs.Starts.{Same, same_run}
 bytes_run : (ps : List Piece) (s : State) → length (run s ps).bytes ≡ length s.bytes + put_length ps
 bytes_run [] s = omega arith
 bytes_run (Put bs ∷ ps) s = omega (arith, bytes_run ps (apply s (Put bs)), length-append s.bytes bs)
-bytes_run (PutReloc bs kind name addend ∷ ps) s = omega (arith, bytes_run ps (apply s (PutReloc bs kind name addend)), length-append s.bytes bs)
+bytes_run (PutReloc bs byte kind name addend ∷ ps) s = omega (arith, bytes_run ps (apply s (PutReloc bs byte kind name addend)), length-append s.bytes bs)
 bytes_run (PutTrapping bs byte code ∷ ps) s = omega (arith, bytes_run ps (apply s (PutTrapping bs byte code)), length-append s.bytes bs)
 bytes_run (Link k l bs ∷ ps) s = omega (arith, bytes_run ps (apply s (Link k l bs)), length-append s.bytes bs)
+bytes_run (LinkConstant c bs ∷ ps) s = omega (arith, bytes_run ps (apply s (LinkConstant c bs)), length-append s.bytes bs)
 bytes_run (Step ∷ ps) s = bytes_run ps (apply s Step)
 bytes_run (Draw ∷ ps) s = bytes_run ps (apply s Draw)
 bytes_run (Bind l ∷ ps) s = bytes_run ps (apply s (Bind l))

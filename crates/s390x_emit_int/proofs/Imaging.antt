@@ -3,7 +3,7 @@ use Rattle.std.proofs.Common.{◌≡◌, ℕ, suc, ◌+◌, ◌-◌, ◌<◌, �
 use Rattle.std.proofs.lemmas.List.{length-map, length-replicate, get_or_append_left, get_or-append-add, get_or-take, get_or-drop}
 use Rattle.s390x_inst.specs.Emission.{Emission}
 use Rattle.s390x_inst.specs.declared.state.IsaFlags.{IsaFlags}
-use Rattle.s390x_buffer.specs.State.{State, Constant, fresh}
+use Rattle.s390x_buffer.specs.State.{State, Constant, fresh, constant_label}
 use Rattle.s390x_buffer.specs.Patch.{place_in, place_of}
 use Rattle.s390x_buffer.specs.Constants.{constant_start, constant_starts, constant_bytes, constants_end, greatest_align}
 use Rattle.s390x_buffer.specs.Finish.{Finished, bind_constants, final_labels, starts_of_constants, placed_site}
@@ -16,7 +16,7 @@ use Rattle.s390x_inst.specs.declared.inst.Inst.{Inst}
 use Rattle.s390x_steps.specs.Steps.{function_steps, first_step}
 use Rattle.s390x_steps.specs.Image.{place, function_places, function_code}
 use Rattle.s390x_steps.specs.Causes.{draws, blocks_cause}
-use Rattle.s390x_emit_int.specs.Pieces.{Piece, apply, run, Put, PutTrapping, PutReloc, Link, Step, Draw, Bind}
+use Rattle.s390x_emit_int.specs.Pieces.{Piece, apply, run, Put, PutTrapping, PutReloc, Link, LinkConstant, Step, Draw, Bind}
 use Rattle.s390x_emit_int.specs.Emission.{pieces, function_pieces}
 use Rattle.s390x_emit_int.specs.Resolve.{resolve, Wide, Within}
 use Rattle.s390x_emit_int.specs.Bound.{TreesName, AllBound}
@@ -29,6 +29,7 @@ use Rattle.s390x_emit_int.proofs.Functions.{function_wide, TellsBlocks, all_boun
 use Rattle.s390x_emit_int.proofs.Relocating.{relocated, relocs_run, function_relocated}
 use Rattle.s390x_emit_int.proofs.Recording.{recorded, traps_run, function_recorded}
 use Rattle.s390x_buffer.specs.declared.entries.LabelFixup.{LabelFixup}
+use Rattle.s390x_buffer.specs.declared.label_use.LabelUse.TheVariants.{BranchRIL}
 use Rattle.s390x_buffer.proofs.Placing.{length-constant_bytes}
 
 -- the uses lie within the bytes
@@ -37,9 +38,9 @@ within_run [] s w h = w
 within_run (Put bs ∷ ps) s w h =
     let n = length-append s.bytes bs in
     within_run ps (apply s (Put bs)) (within_more (length s.bytes) (length (s.bytes ++ bs)) s.uses (omega (arith, n)) w) h
-within_run (PutReloc bs kind name addend ∷ ps) s w h =
+within_run (PutReloc bs byte kind name addend ∷ ps) s w h =
     let n = length-append s.bytes bs in
-    within_run ps (apply s (PutReloc bs kind name addend)) (within_more (length s.bytes) (length (s.bytes ++ bs)) s.uses (omega (arith, n)) w) h
+    within_run ps (apply s (PutReloc bs byte kind name addend)) (within_more (length s.bytes) (length (s.bytes ++ bs)) s.uses (omega (arith, n)) w) h
 within_run (PutTrapping bs byte code ∷ ps) s w h =
     let n = length-append s.bytes bs in
     within_run ps (apply s (PutTrapping bs byte code)) (within_more (length s.bytes) (length (s.bytes ++ bs)) s.uses (omega (arith, n)) w) h
@@ -47,6 +48,10 @@ within_run (Link k l bs ∷ ps) s w h =
     let n = length-append s.bytes bs in
     let u : LabelFixup = record { kind = k; offset = length s.bytes; label = record { 0 = l } } in
     within_run ps (apply s (Link k l bs)) (within_append (length (s.bytes ++ bs)) s.uses u (within_more (length s.bytes) (length (s.bytes ++ bs)) s.uses (omega (arith, n)) w) (omega (arith, n, h.0))) h.1
+within_run (LinkConstant c bs ∷ ps) s w h =
+    let n = length-append s.bytes bs in
+    let u : LabelFixup = record { kind = BranchRIL; offset = length s.bytes; label = record { 0 = constant_label s c } } in
+    within_run ps (apply s (LinkConstant c bs)) (within_append (length (s.bytes ++ bs)) s.uses u (within_more (length s.bytes) (length (s.bytes ++ bs)) s.uses (omega (arith, n)) w) (omega (arith, n, h.0))) h.1
 within_run (Step ∷ ps) s w h = within_run ps (apply s Step) w h
 within_run (Draw ∷ ps) s w h = within_run ps (apply s Draw) w h
 within_run (Bind l ∷ ps) s w h = within_run ps (apply s (Bind l)) w h
