@@ -1,7 +1,8 @@
 -- Where constants stand: at even places, on their boundaries, and below their end.
-use Rattle.std.proofs.Common.{◌≡◌, ℕ, zero, suc, ◌+◌, ◌%◌, ◌<◌, ◌≤◌, inl, inr, List, [], ◌∷◌, ◌++◌, length, map, get_or, take, drop, Bool, true, ◌||◌, nat_eq, max, Option, None, Some, refl, sym, ap, ◌∙◌, subst, arith, eqb-true, length-append, length-take}
+use Rattle.std.proofs.Common.{◌≡◌, ℕ, zero, suc, ◌+◌, ◌%◌, ◌<◌, ◌≤◌, inl, inr, List, [], ◌∷◌, ◌++◌, length, map, get_or, take, drop, Bool, true, false, cond, ◌||◌, nat_eq, max, Option, None, Some, refl, sym, ap, ◌∙◌, subst, arith, eqb-true, length-append, length-take}
 use Rattle.std.proofs.lemmas.Bool.{and_parts, or_cases}
 use Rattle.std.proofs.lemmas.List.{length-map, get_or_append_left, get_or-append-add}
+use Rattle.s390x_base.specs.declared.error.EmitError.{EmitError}
 use Rattle.s390x_buffer.specs.State.{Constant, is_alignment, all_aligned}
 use Rattle.s390x_buffer.specs.Constants.{round_up, constant_start, constant_starts, constants_end, greatest_align}
 use Rattle.s390x_buffer.specs.Finish.{bind_constants}
@@ -10,38 +11,42 @@ use Rattle.s390x_steps.specs.Causes.{aligns_of}
 
 -- an alignment that a constant may have
 pub data IsAlignment (a : ℕ) : Type 0 where
-  one : a ≡ 1 → IsAlignment a
-  two : a ≡ 2 → IsAlignment a
-  four : a ≡ 4 → IsAlignment a
-  eight : a ≡ 8 → IsAlignment a
-  sixteen : a ≡ 16 → IsAlignment a
+  byte : a ≡ 1 → IsAlignment a
+  halfword : a ≡ 2 → IsAlignment a
+  word : a ≡ 4 → IsAlignment a
+  doubleword : a ≡ 8 → IsAlignment a
+  quadword : a ≡ 16 → IsAlignment a
 
 pub alignment_of : (x : ℕ) → is_alignment x ≡ true → IsAlignment x
 alignment_of x h =
     elim (or_cases (nat_eq x 1 || nat_eq x 2 || nat_eq x 4 || nat_eq x 8) (nat_eq x 16) h) [
-      | inr e ↦ sixteen (eqb-true x 16 e)
+      | inr e ↦ quadword (eqb-true x 16 e)
       | inl h1 ↦ elim (or_cases (nat_eq x 1 || nat_eq x 2 || nat_eq x 4) (nat_eq x 8) h1) [
-        | inr e ↦ eight (eqb-true x 8 e)
+        | inr e ↦ doubleword (eqb-true x 8 e)
         | inl h2 ↦ elim (or_cases (nat_eq x 1 || nat_eq x 2) (nat_eq x 4) h2) [
-          | inr e ↦ four (eqb-true x 4 e)
+          | inr e ↦ word (eqb-true x 4 e)
           | inl h3 ↦ elim (or_cases (nat_eq x 1) (nat_eq x 2) h3) [
-            | inr e ↦ two (eqb-true x 2 e)
-            | inl e ↦ one (eqb-true x 1 e)
+            | inr e ↦ halfword (eqb-true x 2 e)
+            | inl e ↦ byte (eqb-true x 1 e)
           ]
         ]
       ]
     ]
+
+pub aligned_constants : (s : Bool) (o : Option EmitError) (e : EmitError) → cond s o (Some e) ≡ None → s ≡ true
+aligned_constants true o e h = refl
+aligned_constants false o e h = absurd (cc)
 
 -- a place that is even and on a boundary
 abbrev pub OnBoundary : (place align : ℕ) → Type 0
 OnBoundary place align = (place % 2 ≡ 0) × (place % align ≡ 0)
 
 rounded : (n a : ℕ) → IsAlignment a → OnBoundary (round_up n (max 2 a)) a
-rounded n a (one e) = subst (λ x. OnBoundary (round_up n (max 2 x)) x) (sym e) (omega arith, omega arith)
-rounded n a (two e) = subst (λ x. OnBoundary (round_up n (max 2 x)) x) (sym e) (omega arith, omega arith)
-rounded n a (four e) = subst (λ x. OnBoundary (round_up n (max 2 x)) x) (sym e) (omega arith, omega arith)
-rounded n a (eight e) = subst (λ x. OnBoundary (round_up n (max 2 x)) x) (sym e) (omega arith, omega arith)
-rounded n a (sixteen e) = subst (λ x. OnBoundary (round_up n (max 2 x)) x) (sym e) (omega arith, omega arith)
+rounded n a (byte e) = subst (λ x. OnBoundary (round_up n (max 2 x)) x) (sym e) (omega arith, omega arith)
+rounded n a (halfword e) = subst (λ x. OnBoundary (round_up n (max 2 x)) x) (sym e) (omega arith, omega arith)
+rounded n a (word e) = subst (λ x. OnBoundary (round_up n (max 2 x)) x) (sym e) (omega arith, omega arith)
+rounded n a (doubleword e) = subst (λ x. OnBoundary (round_up n (max 2 x)) x) (sym e) (omega arith, omega arith)
+rounded n a (quadword e) = subst (λ x. OnBoundary (round_up n (max 2 x)) x) (sym e) (omega arith, omega arith)
 
 -- where a constant starts behind n bytes
 pub record Starts (n : ℕ) (cs : List Constant) (c : ℕ) : Type 0 where

@@ -161,7 +161,7 @@ abbrev pub total : List TypedStep → ℕ
 total [] = 0
 total (s ∷ ss) = step_size s + total ss
 
-total_append : (a b : List TypedStep) → total (a ++ b) ≡ total a + total b
+pub total_append : (a b : List TypedStep) → total (a ++ b) ≡ total a + total b
 total_append [] b = omega arith
 total_append (s ∷ a) b = omega (arith, total_append a b)
 
