@@ -20,7 +20,7 @@ use Rattle.s390x_steps.specs.Parts.{Part, parts_or, memory_or, memory_parts, tra
 use Rattle.s390x_steps.specs.Memory.{StorageForm, RxForm, MemoryInstruction, memory, type_of, storage_row, address_form, fault_code}
 use Rattle.s390x_steps.specs.Alone.{Alone, alone, stop_code}
 use Rattle.s390x_steps.specs.General.{is_general, is_nonzero, is_scratch}
-use Rattle.s390x_steps.specs.Causes.{Declared, first, unless, label_cause, labels_cause, bound_cause, late_cause, memory_cause, memory_cause_or, cause_or, facility_cause, instruction_cause, leaf_cause, instruction_draws, draws, nesting_cause, numbers_cause, tree_cause, blocks_cause}
+use Rattle.s390x_steps.specs.Causes.{Declared, first, unless, label_cause, labels_cause, bound_cause, late_cause, memory_cause, branch_cause, memory_cause_or, cause_or, facility_cause, instruction_cause, leaf_cause, instruction_draws, draws, nesting_cause, numbers_cause, tree_cause, blocks_cause}
 use Rattle.s390x_steps.proofs.Causes.{first_left, first_right, unless_true}
 use Rattle.s390x_emit_int.specs.Bound.{PartsName, TreeNames, TreesName}
 
@@ -152,7 +152,7 @@ leaf_names flags D depth (LoadSymbolReloc rd reloc) h = (tt, (tt, (tt, tt)))
 leaf_names flags D depth (Trap code) h = (tt, tt)
 leaf_names flags D depth (TrapIf mask code) h = (tt, tt)
 leaf_names flags D depth Debugtrap h = (tt, tt)
-leaf_names flags D depth i h = alone_names D (alone i) (stop_code i) (memory i) _ (first_right (facility_cause flags i) _ h)
+leaf_names flags D depth i h = alone_names D (alone i) (stop_code i) (memory i) (branch_cause D.blocks depth i) (first_right (facility_cause flags i) _ h)
 
 pub tree_names : (flags : IsaFlags) (D : Declared) (n depth : ℕ) (t : Tree) → tree_cause flags D n depth t ≡ None → TreeNames D.blocks (length D.aligns) t
 tree_names flags D n depth empty h = tt
