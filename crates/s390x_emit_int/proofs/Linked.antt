@@ -152,8 +152,7 @@ module _ (symbols : Symbols) (base : ℕ) where
     part_reaches : (part : Part) (p : ℕ) → base + (p + part_size part) ≤ 2 ^ 64 → relocs_cause base symbols (part_relocs p part) ≡ None → PartReaches here p part
     part_reaches (RelativeSymbol opcode register name offset) p room h =
         let leads = distance_leads base symbols p name offset (first_of_links _ _ h) in
-        let at : sum64 base p ≡ base + p = omega arith in
-        (
+        let at : sum64 base p ≡ base + p = omega arith in (
           leads.0,
           ap (λ n. low Doubleword (pos n +ℤ pos 2 *ℤ cast_signed w32 (symbol_distance base symbols p name offset))) at ∙ ap (low Doubleword) leads.2 ∙ low_small (symbol_value symbols name offset) leads.1,
         )
