@@ -1,5 +1,6 @@
 pub mod Checking
 pub mod Closing
+pub mod Constants
 pub mod Orderly
 pub mod Encoding
 pub mod Runs
