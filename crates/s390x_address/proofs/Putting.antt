@@ -1,18 +1,17 @@
 -- The parts of an instruction with a memory operand: which they are, and how many bytes they put.
-use Rattle.std.proofs.Common.{◌≡◌, ℕ, ◌+◌, ℤ, List, [], ◌∷◌, ◌++◌, Option, None, Some, length, Bool, true, false, cond, refl, sym, ap, ◌∙◌, subst, arith, length-append}
+use Rattle.std.proofs.Common.{◌≡◌, ℕ, ◌+◌, List, [], ◌∷◌, ◌++◌, Option, None, Some, length, Bool, true, false, cond, refl, sym, ap, ◌∙◌, subst, arith, length-append}
 use Rattle.s390x_base.specs.declared.trap.TrapKind.{TrapKind}
 use Rattle.s390x_buffer.specs.State.{State}
 use Rattle.s390x_format.specs.Formats.{length_of}
 use Rattle.s390x_inst.specs.declared.args.MemArg.{MemArg}
-use Rattle.s390x_inst.specs.declared.args.MemArg.TheVariants.{Label, Constant, Symbol}
+use Rattle.s390x_inst.specs.declared.args.MemArg.TheVariants.{Label}
 use Rattle.s390x_inst.specs.declared.inst.Inst.{Inst}
 use Rattle.s390x_inst.specs.declared.inst.Inst.TheVariants.{Mov64SImm32, LoadAddr}
 use Rattle.s390x_steps.specs.MachineInstruction.{MachineInstruction, bytes_of, size_of, ril_b}
-use Rattle.s390x_steps.specs.Memory.{StorageForm, RxForm, MemoryInstruction, type_of, storage_row, fault_code}
+use Rattle.s390x_steps.specs.Memory.{StorageForm, RxForm, MemoryInstruction, type_of, storage_row, address_form, fault_code}
 use Rattle.s390x_steps.specs.Operands.{finalized, is_relative}
 use Rattle.s390x_steps.specs.Parts.{Part, Row, Trapping, Relative, RelativeConstant, RelativeSymbol, TrapHere, ToBlock, access_parts, trap_here, relative_part, relative_parts, operand_parts, helper_parts, helpers_parts, memory_parts, parts_size}
 use Rattle.s390x_address.specs.Appended.{with_part, appended}
-use Rattle.s390x_address.specs.Plans.{far_helper, address_helper}
 use Rattle.s390x_address.proofs.Lacking.{Puts, length-bytes}
 
 -- machine instructions, perhaps with traps or relative to themselves, and traps
@@ -68,7 +67,7 @@ operand_put form code m = chosen_put (is_relative m) (relative_parts form code m
 helper_put : (i : Inst) → AllPut (helper_parts i)
 unfolding AllPut
 helper_put (Mov64SImm32 rd imm) = tt
-helper_put (LoadAddr rd mem) = operand_put _ None mem
+helper_put (LoadAddr rd mem) = operand_put (address_form rd) None mem
 helper_put i = tt
 
 pub helpers_put : (is : List Inst) → AllPut (helpers_parts is)

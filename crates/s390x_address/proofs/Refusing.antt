@@ -15,7 +15,7 @@ use Rattle.s390x_steps.specs.General.{is_general}
 use Rattle.s390x_steps.specs.Memory.{MemoryInstruction, type_of}
 use Rattle.s390x_steps.specs.Operands.{Finalized, scratch, no_register, fits_12, fits_20, fits_32, with_offset, displaced, needs_address, addressed, widened, with_widened, finalized, has_form, loses_base, offset_fits, operand_general}
 use Rattle.s390x_steps.specs.declared.mem_inst_type.MemInstType.{MemInstType}
-use Rattle.s390x_steps.proofs.Causes.{first_none, first_left, first_right, unless_true}
+use Rattle.s390x_steps.proofs.Causes.{first_left, first_right, unless_true}
 use Rattle.s390x_address.specs.Plans.{far_helper, address_helper, finalized_of, offset_cause, is_bound, may_stand, address_stands, plan_stands}
 use Rattle.s390x_address.specs.declared.plan.Plan.{Plan}
 

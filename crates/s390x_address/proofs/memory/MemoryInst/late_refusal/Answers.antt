@@ -1,6 +1,6 @@
 use Rattle.std.proofs.Common.{◌≡◌, ◌&&◌, not, None, Some, sym, ap, ◌∙◌}
 use Rattle.s390x_base.specs.declared.error.EmitError.TheVariants.{ScratchConflict, OffsetOutOfRange}
-use Rattle.s390x_steps.specs.Causes.{first, unless, is_helped, operand_cause, addend_fits}
+use Rattle.s390x_steps.specs.Causes.{first, unless, is_helped, operand_cause}
 use Rattle.s390x_steps.specs.Memory.{type_of}
 use Rattle.s390x_steps.specs.Operands.{finalized}
 use Rattle.s390x_address.specs.Rows.{memory_of, in_state}
