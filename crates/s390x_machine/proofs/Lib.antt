@@ -1,6 +1,9 @@
 pub mod Addresses
 pub mod Operands
 pub mod Checked
+pub mod Accessing
+pub mod Relative
+pub mod RelativeRows
 pub mod Composites
 pub mod Decoding
 pub mod Fetching
