@@ -107,7 +107,8 @@ fn reads_register(opcode_rxy: Option<u16>) -> bool
     }
 }
 
-fn number(r: &Reg) -> u32
+/// The number of a register.
+pub fn number(r: &Reg) -> u32
     ensures { result ≡ number_of r.now }
 {
     match r {
@@ -116,8 +117,8 @@ fn number(r: &Reg) -> u32
     }
 }
 
-// Whether `%r1` is one of the registers from the first to the last.
-fn holds_scratch(first: &Reg, last: &Reg) -> bool
+/// Whether `%r1` is one of the registers from the first to the last.
+pub fn holds_scratch(first: &Reg, last: &Reg) -> bool
     ensures { result ≡ holds_scratch first.now last.now }
 {
     number(first) <= 1 && 1 <= number(last)

@@ -1,5 +1,5 @@
 -- How many bytes an instruction has at most, and that emission fails by want of memory alone where no cause stands.
-use Rattle.std.proofs.Common.{◌*◌, ◌++◌, length-append, ◌≡◌, ℕ, ◌+◌, ◌≤◌, Bool, true, false, cond, nat_lt, List, [], ◌∷◌, Option, Some, None, length, refl, ap, ◌∙◌, arith, ltb-true}
+use Rattle.std.proofs.Common.{ℕ, ◌*◌, ◌++◌, length-append, ◌≡◌, ◌+◌, ◌≤◌, Bool, true, false, cond, nat_lt, List, [], ◌∷◌, Option, Some, None, length, refl, ap, ◌∙◌, arith, ltb-true}
 use Rattle.s390x_base.specs.declared.trap.TrapKind.{TrapKind}
 use Rattle.s390x_base.specs.declared.error.EmitError.{EmitError}
 use Rattle.s390x_base.specs.declared.error.EmitError.TheVariants.{LabelOutOfRange, Failed}
@@ -8,19 +8,19 @@ use Rattle.s390x_format.proofs.FormatFacts.{length_small}
 use Rattle.s390x_inst.specs.declared.inst.Inst.{Inst}
 use Rattle.s390x_inst.specs.Emission.{Emission}
 use Rattle.s390x_inst.specs.declared.args.MemArg.{MemArg}
-use Rattle.s390x_inst.specs.declared.args.MemArg.TheVariants.{RegOffset, Label, Constant, Symbol}
+use Rattle.s390x_inst.specs.declared.args.MemArg.TheVariants.{Label, RegOffset}
 use Rattle.s390x_inst.specs.declared.inst.Inst.TheVariants.{Loop', JTSequence, Mov64SImm32, LoadAddr, CondBreak, Jump, CondBr, IndirectBr, Ret, LabelAddress, LoadSymbolReloc, Trap, TrapIf, Debugtrap}
 use Rattle.s390x_inst.specs.declared.state.IsaFlags.{IsaFlags}
 use Rattle.s390x_buffer.specs.State.{State, limit}
 use Rattle.s390x_steps.specs.Alone.{Alone, alone, stop_code}
 use Rattle.s390x_steps.specs.MachineInstruction.{MachineInstruction}
 use Rattle.s390x_steps.specs.Memory.{StorageForm, RxForm, MemoryInstruction, memory, type_of, storage_row, address_form, fault_code}
-use Rattle.s390x_steps.specs.Operands.{Finalized, finalized, displaced, is_relative, needs_address, fits_12, fits_20, fits_32}
+use Rattle.s390x_steps.specs.Operands.{Finalized, finalized, is_relative, displaced, needs_address, fits_12, fits_20, fits_32}
 use Rattle.s390x_steps.specs.Resolved.{resolved_instruction}
-use Rattle.s390x_steps.specs.Parts.{Part, branch_parts, row_part, trap_here, relative_part, relative_parts, access_parts, operand_parts, helper_parts, helpers_parts, memory_parts, memory_or, parts_or, parts_size}
+use Rattle.s390x_steps.specs.Parts.{Part, branch_parts, row_part, access_parts, trap_here, relative_part, relative_parts, operand_parts, helper_parts, helpers_parts, memory_parts, memory_or, parts_or, parts_size}
 use Rattle.s390x_steps.specs.Sizes.{instruction_size, tree_size}
 use Rattle.s390x_steps.specs.Tree.{Tree, empty, leaf, graft}
-use Rattle.s390x_steps.specs.Causes.{declared_in, first, unless, tree_cause}
+use Rattle.s390x_steps.specs.Causes.{first, unless, declared_in, tree_cause}
 use Rattle.s390x_steps.proofs.Causes.{first_left, first_right, unless_true}
 use Rattle.s390x_address.proofs.Lacking.{size_append}
 use Rattle.s390x_emit_int.specs.Pieces.{run}
@@ -42,29 +42,24 @@ access_few None code = omega arith
 access_few (Some m) None = let small = length_small m.format in omega (arith, small)
 access_few (Some m) (Some code) = let small = length_small m.format in omega (arith, small)
 
-trap_few : (code : Option TrapKind) → parts_size (trap_here code) ≡ 0
-trap_few None = refl
-trap_few (Some code) = refl
+trapping_few : (code : Option TrapKind) (parts : List Part) → parts_size (trap_here code ++ parts) ≡ parts_size parts
+trapping_few None parts = refl
+trapping_few (Some code) parts = omega arith
 
-part_few : (opcode register : ℕ) (m : MemArg) → parts_size (relative_part opcode register m) ≤ 6
-part_few opcode register (Label target) = omega arith
-part_few opcode register (Constant c) = omega arith
-part_few opcode register (Symbol name offset flags) = omega arith
-part_few opcode register m = omega arith
+relative_few : (opcode register : ℕ) (m : MemArg) → parts_size (relative_part opcode register m) ≤ 6
+relative_few opcode register (Label target) = omega arith
+relative_few opcode register m = omega arith
 
-relative_few : (form : StorageForm) (code : Option TrapKind) (m : MemArg) → parts_size (relative_parts form code m) ≤ 6
-relative_few (RxForm register rx_opcode rxy_opcode (Some opcode)) code m =
-    let one = part_few opcode register m in
-    let both = size_append (trap_here code) (relative_part opcode register m) in
-    omega (arith, one, both, trap_few code)
-relative_few form code m = omega arith
+form_few : (form : StorageForm) (code : Option TrapKind) (m : MemArg) → parts_size (relative_parts form code m) ≤ 6
+form_few (RxForm register rx_opcode rxy_opcode (Some opcode)) code m = let few = relative_few opcode register m in omega (arith, trapping_few code (relative_part opcode register m), few)
+form_few form code m = omega arith
 
-either_few : (b : Bool) (x y : List Part) → parts_size x ≤ 6 → parts_size y ≤ 6 → parts_size (cond b x y) ≤ 6
-either_few true x y h k = h
-either_few false x y h k = k
+either_few : (t : Bool) (a b : List Part) → parts_size a ≤ 6 → parts_size b ≤ 6 → parts_size (cond t a b) ≤ 6
+either_few true a b h k = h
+either_few false a b h k = k
 
 operand_few : (form : StorageForm) (code : Option TrapKind) (m : MemArg) → parts_size (operand_parts form code m) ≤ 6
-operand_few form code m = either_few (is_relative m) (relative_parts form code m) (access_parts (storage_row form m) code) (relative_few form code m) (access_few (storage_row form m) code)
+operand_few form code m = either_few (is_relative m) (relative_parts form code m) (access_parts (storage_row form m) code) (form_few form code m) (access_few (storage_row form m) code)
 
 helper_few : (i : Inst) → parts_size (helper_parts i) ≤ 6
 unfolding length_of
