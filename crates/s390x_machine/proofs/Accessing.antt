@@ -106,4 +106,3 @@ module _ (L : Layout) (all : AllPlaced L) (k : ℕ) (s : Step) (at : slice_get L
       subst (λ r. Inside L k c g2 r (sum64 L.image.base (L.places.step k + size_of h + part_size hst.part)) → Simulates L k c g2 r (sum64 L.image.base (L.places.step k + size_of h + part_size hst.part))) (sym (put_twice c.registers v w)) (λ i2.
       last_runs true w (λ r. based r (number_of reg) off) (λ r. indexed r 1 0 (pos 0)) operand st c g2 (L.places.step k + size_of h + part_size hst.part) is b.1.1 i2
       (subst (λ x. Refines (operation x (put c.registers 1 w)) (operation a c.registers)) (sym there) (ignores a c.registers w)))))
-

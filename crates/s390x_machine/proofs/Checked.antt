@@ -58,7 +58,7 @@ module _ (L : Layout) where
   -- an instruction, in so many loops, the innermost of which ends at a step
   fine_step : (flags : IsaFlags) (depth after : ℕ) (i : Inst) → instruction_cause flags (declared L) depth i ≡ None → InRange i → (0 < depth → after ≤ length L.steps) → IsFine L (step_of after i)
   fine_step flags depth after (Jump dest) e range le = block_of dest e
-  fine_step flags depth after (CondBr taken not_taken mask) e range le = let parts = first_none (label_cause L.block_count taken) (label_cause (declared L) not_taken) e in (block_of taken parts.0, block_of not_taken parts.1, range.0)
+  fine_step flags depth after (CondBr taken not_taken mask) e range le = let parts = first_none (label_cause L.block_count taken) (label_cause L.block_count not_taken) e in (block_of taken parts.0, block_of not_taken parts.1, range.0)
   fine_step flags depth after (IndirectBr rn targets) e range le =
       let parts = first_none (unless (is_general rn && is_nonzero rn) BadRegister) (labels_cause L.block_count targets.items) e in
       let regs = and_parts (is_general rn) (is_nonzero rn) (unless_none (is_general rn && is_nonzero rn) BadRegister parts.0) in

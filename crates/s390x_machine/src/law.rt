@@ -8,16 +8,22 @@ ghost use Rattle.s390x_steps.specs.Causes.{blocks_cause};
 ghost use Rattle.s390x_steps.specs.Ranges.{OperandInRange, BlocksInRange};
 ghost use Rattle.s390x_steps.specs.Steps.{Step, function_steps};
 ghost use Rattle.s390x_machine.specs.Layout.{Layout};
-ghost use Rattle.s390x_machine.specs.Placed.{AllPlaced, IsBlock, IsFine};
+ghost use Rattle.s390x_machine.specs.Placed.{AllPlaced, IsBlock, IsFine, IsFineMemory, FineMemoryOr};
 ghost use Rattle.s390x_machine.specs.Match.{StepRuns, StepHolds, EveryRun, EveryBlockRun};
 ghost use Rattle.s390x_machine.specs.Fetch.{Fetched, Fetches};
 ghost use Rattle.s390x_operations.specs.State.{CodeImage, Memory};
 ghost use Rattle.s390x_machine.specs.Example.{LoopRuns};
+ghost use Rattle.s390x_machine.specs.RelativeExample.{RelativeRuns};
 ghost use Rattle.s390x_inst.specs.declared.args.MemArg.{MemArg};
-ghost use Rattle.s390x_steps.specs.Causes.{is_helped};
+ghost use Rattle.s390x_inst.specs.declared.inst.Inst.{Inst};
+ghost use Rattle.s390x_steps.specs.Causes.{is_helped, boundary};
 ghost use Rattle.s390x_steps.specs.Operands.{finalized, has_form, operand_general, offset_fits};
 ghost use Rattle.s390x_steps.specs.declared.mem_inst_type.MemInstType.{MemInstType};
-ghost use Rattle.s390x_machine.specs.Storage.{needs_scratch};
+ghost use Rattle.s390x_machine.specs.Storage.{address_of, needs_scratch, operand_step};
+ghost use Rattle.s390x_machine.specs.Aligned.{IsOwn, OwnOperand, IsOnBoundary, relative_row_of, StepAccesses, NeverMisaligned};
+ghost use Rattle.s390x_machine.specs.Forms.{performed_in_memory};
+ghost use Rattle.s390x_steps.specs.Memory.{MemoryInstruction, memory};
+ghost use Rattle.s390x_steps.specs.Storage.{relative_bytes};
 ghost use Rattle.s390x_machine.specs.Helpers.{IsReached, HelpersKeep, TakesOperand};
 
 /// Wherever a step's bytes lie in an image at their place, every machine run from there is allowed by at most that step, or begins with a run of at most four turns that is that step.
@@ -60,6 +66,11 @@ pub fn a_loop_runs()
     ensures { LoopRuns }
 {}
 
+/// They can also be met with a constant and a symbol that are named by their distances: the code in memory, and a run that loads both.
+pub fn a_constant_is_loaded()
+    ensures { RelativeRuns }
+{}
+
 /// Helpers come before an access exactly where its step needs `%r1`.
 pub fn helpers_where_needed()
     ensures { (mi : MemInstType) (m : MemArg) → IsTrue (operand_general m) → IsTrue (offset_fits m) → is_helped (finalized mi m).helpers ≡ needs_scratch mi m }
@@ -73,4 +84,19 @@ pub fn helpers_keep_the_address()
 /// Where the rows have a form for an operand, the one that stands in the access is of a form that they take, and its displacement lies in its range.
 pub fn access_takes_its_operand()
     ensures { (mi : MemInstType) (m : MemArg) → IsTrue (has_form mi m) → IsTrue (operand_general m) → IsTrue (offset_fits m) → OperandInRange m → TakesOperand mi (finalized mi m).operand × OperandInRange (finalized mi m).operand }
+{}
+
+/// A block or a constant that an instruction names relative to itself stands on the boundary that emission asks of it.
+pub fn relative_accesses_are_aligned()
+    ensures { (L : Layout) → AllPlaced L → (x : MemoryInstruction) → IsFineMemory L x → IsOwn x.operand → IsOnBoundary (address_of L x.operand) (boundary x) }
+{}
+
+/// An access that has a row relative to the instruction reads or stores as many bytes as are told of that row's opcode.
+pub fn relative_rows_access_their_bytes()
+    ensures { (i : Inst) (opcode : ℕ) → relative_row_of (memory i) ≡ Some opcode → StepAccesses (operand_step i) (relative_bytes opcode) }
+{}
+
+/// The typed step of an access that has a row relative to the instruction never stops by alignment where it names a block or a constant.
+pub fn relative_accesses_never_misalign()
+    ensures { (L : Layout) → AllPlaced L → (i : Inst) (opcode : ℕ) → relative_row_of (memory i) ≡ Some opcode → FineMemoryOr L (memory i) ⊥ → OwnOperand (memory i) → NeverMisaligned (performed_in_memory L i) }
 {}
