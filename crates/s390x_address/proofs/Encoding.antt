@@ -11,7 +11,7 @@ use Rattle.s390x_base.specs.declared.regs.Reg.TheVariants.{Real, Virtual}
 use Rattle.s390x_base.specs.declared.regs.RegClass.{RegClass}
 use Rattle.s390x_base.specs.declared.regs.RegClass.TheVariants.{Int, Float}
 use Rattle.s390x_enc.specs.Operands.{is_general, is_int as class_encodes, is_first_float, is_float, may_stand_first}
-use Rattle.s390x_address.specs.Rows.{takes_general}
+use Rattle.s390x_address.specs.Rows.{takes_general, has_12_bits}
 
 pub indexed_encodes : (opcode : ℕ) (r1 b2 x2 : Reg) → (is_general r1 && takes_general (Some opcode)) ≡ true → (is_general b2 && is_general x2) ≡ true → (may_stand_first opcode r1 && is_general b2 && is_general x2) ≡ true
 indexed_encodes opcode r1 b2 x2 h k =
@@ -49,10 +49,10 @@ implied : (s t : Bool) → (s ≡ true → t ≡ true) → (not s || t) ≡ true
 implied true t h = h refl
 implied false t h = refl
 
-pub register_encodes : (r : Reg) (rx_opcode rxy_opcode : Option ℕ) → (takes_general rx_opcode && takes_general rxy_opcode) ≡ true → (not (checked_general r) || (is_general r && takes_general rx_opcode && takes_general rxy_opcode)) ≡ true
-register_encodes r rx_opcode rxy_opcode h = implied (checked_general r) _ (λ g.
+pub register_encodes : (r : Reg) (rx_opcode rxy_opcode ril_opcode : Option ℕ) → (takes_general rx_opcode && takes_general rxy_opcode) ≡ true → has_12_bits ril_opcode ≡ true → (has_12_bits ril_opcode && (not (checked_general r) || (is_general r && takes_general rx_opcode && takes_general rxy_opcode))) ≡ true
+register_encodes r rx_opcode rxy_opcode ril_opcode h k = and_from (has_12_bits ril_opcode) _ k (implied (checked_general r) _ (λ g.
     let p = and_parts (takes_general rx_opcode) (takes_general rxy_opcode) h in
-    and_from (is_general r && takes_general rx_opcode) (takes_general rxy_opcode) (and_from (is_general r) (takes_general rx_opcode) (one_general r g) p.0) p.1)
+    and_from (is_general r && takes_general rx_opcode) (takes_general rxy_opcode) (and_from (is_general r) (takes_general rx_opcode) (one_general r g) p.0) p.1))
 
 pub two_encode : (a b : Reg) → (not (checked_general a && checked_general b) || (is_general a && is_general b)) ≡ true
 two_encode a b = implied (checked_general a && checked_general b) _ (λ g. let p = and_parts (checked_general a) (checked_general b) g in and_from (is_general a) (is_general b) (one_general a p.0) (one_general b p.1))

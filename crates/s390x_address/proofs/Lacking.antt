@@ -1,14 +1,14 @@
 -- Where no cause stands, a call of the buffer is refused for want of memory alone; what the parts of an instruction do to a buffer.
-use Rattle.std.proofs.Common.{◌≡◌, ℕ, ◌+◌, ◌<◌, List, [], ◌∷◌, ◌++◌, Bool, true, false, cond, nat_lt, Option, None, Some, length, Result, Ok, Err, MatchResult, IfErr, IsErrAnd, refl, sym, ap, ◌∙◌, arith, length-append}
+use Rattle.std.proofs.Common.{◌≡◌, ℕ, ◌+◌, ◌<◌, List, [], ◌∷◌, ◌++◌, Bool, true, false, cond, nat_lt, Option, None, Some, length, Result, Ok, Err, MatchResult, IfErr, IsErrAnd, refl, sym, ap, ◌∙◌, arith}
 use Rattle.std.proofs.lemmas.Bool.{ltb-true, lt-ltb}
 use Rattle.s390x_base.specs.declared.error.EmitError.{EmitError}
 use Rattle.s390x_base.specs.declared.error.EmitError.TheVariants.{NoMemory, LabelOutOfRange, Failed}
-use Rattle.s390x_base.specs.declared.trap.TrapKind.{TrapKind}
 use Rattle.s390x_buffer.specs.State.{State, Blames, put_cause, limit}
 use Rattle.s390x_format.proofs.Encoding.{encode-length}
 use Rattle.s390x_inst.specs.declared.inst.Inst.{Inst}
+use Rattle.s390x_steps.specs.Causes.{declared_in}
 use Rattle.s390x_steps.specs.MachineInstruction.{MachineInstruction, bytes_of, size_of}
-use Rattle.s390x_steps.specs.Parts.{Part, access_parts, helper_parts, helpers_parts, parts_size}
+use Rattle.s390x_steps.specs.Parts.{Part, helper_parts, helpers_parts, parts_size}
 use Rattle.s390x_address.specs.Appended.{with_part, appended}
 
 pub blames_none : (c : Option EmitError) (e : EmitError) → c ≡ None → Blames c e → e ≡ NoMemory
@@ -47,10 +47,11 @@ put_none s n h lt = mark_of s.failed _ h ∙ test_of (nat_lt (length s.bytes + n
 pub put_first : (s : State) (a b : ℕ) → put_cause s (a + b) ≡ None → put_cause s a ≡ None
 put_first s a b h = let p = put_parts s (a + b) h in put_none s a p.0 (omega (arith, p.1))
 
--- from s to t so many bytes were put, and no mark was set
+-- from s to t so many bytes were put, and no mark was set; what is declared stays
 pub record Puts (s t : State) (n : ℕ) : Type 0 where
   pub unmarked : t.failed ≡ s.failed
   pub bytes : length t.bytes ≡ length s.bytes + n
+  pub declared : declared_in t ≡ declared_in s
 
 -- and then the others
 pub put_others : (s t : State) (a b : ℕ) → Puts s t a → put_cause s (a + b) ≡ None → put_cause t b ≡ None
@@ -58,11 +59,6 @@ put_others s t a b q h = let p = put_parts s (a + b) h in put_none t b (q.unmark
 
 pub length-bytes : (m : MachineInstruction) → length (bytes_of m) ≡ size_of m
 length-bytes m = encode-length m.format m.slots
-
-pub access_puts : (s : State) (o : Option MachineInstruction) (code : Option TrapKind) → Puts s (appended s (access_parts o code)) (parts_size (access_parts o code))
-access_puts s None code = record { unmarked = refl; bytes = omega arith }
-access_puts s (Some m) None = record { unmarked = refl; bytes = length-append s.bytes (bytes_of m) ∙ ap (λ n. length s.bytes + n) (length-bytes m) ∙ omega arith }
-access_puts s (Some m) (Some code) = record { unmarked = refl; bytes = length-append s.bytes (bytes_of m) ∙ ap (λ n. length s.bytes + n) (length-bytes m) ∙ omega arith }
 
 pub appended_append : (s : State) (a b : List Part) → appended s (a ++ b) ≡ appended (appended s a) b
 appended_append s [] b = refl

@@ -1,22 +1,15 @@
 -- How many bytes the parts of an instruction with a memory operand have.
-use Rattle.std.proofs.Common.{◌≡◌, ◌+◌, ◌++◌, Option, None, Some, refl, ap, arith}
+use Rattle.std.proofs.Common.{◌≡◌, ◌+◌, ◌++◌, Option, ap, arith}
 use Rattle.s390x_base.specs.declared.trap.TrapKind.{TrapKind}
-use Rattle.s390x_steps.specs.MachineInstruction.{MachineInstruction}
-use Rattle.s390x_steps.specs.Memory.{StorageForm, storage_row}
-use Rattle.s390x_steps.specs.Parts.{access_parts, helpers_parts, finalized_parts, parts_size}
+use Rattle.s390x_steps.specs.Memory.{StorageForm}
+use Rattle.s390x_steps.specs.Parts.{operand_parts, helpers_parts, finalized_parts, parts_size}
 use Rattle.s390x_address.specs.Plans.{far_helper, address_helper, finalized_of}
 use Rattle.s390x_address.specs.declared.plan.Plan.{Plan}
 use Rattle.s390x_address.proofs.Lacking.{size_append, helpers_append}
 
--- a trap takes no bytes
-pub access_size : (o : Option MachineInstruction) (code : Option TrapKind) → parts_size (access_parts o code) ≡ parts_size (access_parts o None)
-access_size None code = refl
-access_size (Some m) None = refl
-access_size (Some m) (Some code) = refl
-
-pub plan_size : (form : StorageForm) (code : Option TrapKind) (p : Plan) → parts_size (finalized_parts form code (finalized_of p)) ≡ parts_size (helpers_parts (far_helper p.far)) + (parts_size (helpers_parts (address_helper p.address)) + parts_size (access_parts (storage_row form p.operand) code))
+pub plan_size : (form : StorageForm) (code : Option TrapKind) (p : Plan) → parts_size (finalized_parts form code (finalized_of p)) ≡ parts_size (helpers_parts (far_helper p.far)) + (parts_size (helpers_parts (address_helper p.address)) + parts_size (operand_parts form code p.operand))
 plan_size form code p =
     let far = far_helper p.far in
     let address = address_helper p.address in
-    let access = access_parts (storage_row form p.operand) code in
+    let access = operand_parts form code p.operand in
     omega (arith, size_append (helpers_parts (far ++ address)) access, ap parts_size (helpers_append far address), size_append (helpers_parts far) (helpers_parts address))

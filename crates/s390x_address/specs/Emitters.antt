@@ -5,15 +5,15 @@ use Rattle.s390x_base.specs.declared.regs.Reg.{Reg}
 use Rattle.s390x_base.specs.declared.error.EmitError.{EmitError}
 use Rattle.s390x_buffer.specs.State.{State, mark_cause, put_cause}
 use Rattle.s390x_inst.specs.declared.args.MemArg.{MemArg}
-use Rattle.s390x_steps.specs.Causes.{first, memory_cause}
+use Rattle.s390x_steps.specs.Causes.{first, declared_in, memory_cause}
 use Rattle.s390x_steps.specs.General.{is_general, low_halfword}
 use Rattle.s390x_steps.specs.Memory.{MemoryInstruction, RxForm, RsForm, SiForm, SilForm, holds_scratch}
 use Rattle.s390x_steps.specs.Operands.{is_numbered}
 use Rattle.s390x_steps.specs.Parts.{memory_parts, parts_size}
 
--- the buffer's mark, then the causes of the instruction, then its length
+-- the buffer's mark, then the causes of the instruction by the buffer's blocks and constants, then its length
 abbrev pub emit_cause : State → MemoryInstruction → Option EmitError
-emit_cause s x = first (mark_cause s) (first (memory_cause x) (put_cause s (parts_size (memory_parts x))))
+emit_cause s x = first (mark_cause s) (first (memory_cause (declared_in s) x) (put_cause s (parts_size (memory_parts x))))
 
 -- the rows of loads and of LOAD ADDRESS, which write their register and don't read it, with displacements of 20 bits
 abbrev pub loads_register : ℕ → Bool

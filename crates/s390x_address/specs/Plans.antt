@@ -1,12 +1,13 @@
 -- How the code's plan of an operand stands for its helpers and the operand of the access.
-use Rattle.std.specs.Prelude.{ℤ, List, [], ◌∷◌, ◌++◌, Bool, true, not, ◌&&◌, Option, Some, None}
+use Rattle.std.specs.Prelude.{ℤ, List, [], ◌∷◌, ◌++◌, length, Bool, true, not, ◌&&◌, nat_lt, Option, Some, None}
 use Rattle.s390x_base.specs.declared.error.EmitError.{EmitError}
 use Rattle.s390x_base.specs.declared.error.EmitError.TheVariants.{ScratchConflict, OffsetOutOfRange}
 use Rattle.s390x_inst.specs.declared.args.MemArg.{MemArg}
+use Rattle.s390x_inst.specs.declared.args.MemArg.TheVariants.{Label, Constant}
 use Rattle.s390x_inst.specs.declared.inst.Inst.{Inst}
 use Rattle.s390x_inst.specs.declared.inst.Inst.TheVariants.{Mov64SImm32, LoadAddr}
 use Rattle.s390x_steps.specs.Operands.{Finalized, scratch, loses_base, offset_fits, operand_general}
-use Rattle.s390x_steps.specs.Causes.{first, unless}
+use Rattle.s390x_steps.specs.Causes.{Declared, first, unless}
 use Rattle.s390x_address.specs.declared.plan.Plan.{Plan}
 
 -- the helper that loads an offset, where there is one
@@ -27,11 +28,21 @@ finalized_of p = record { helpers = far_helper p.far ++ address_helper p.address
 abbrev pub offset_cause : MemArg → Option EmitError
 offset_cause m = first (unless (not (loses_base m)) ScratchConflict) (unless (offset_fits m) OffsetOutOfRange)
 
--- the registers of an operand whose address is loaded are real Int ones, where there is one
-abbrev pub address_general : Option MemArg → Bool
-address_general None = true
-address_general (Some mem) = operand_general mem
+-- the operand's label is a block's, its constant is declared
+abbrev pub is_bound : Declared → MemArg → Bool
+is_bound D (Label target) = nat_lt target.0 D.blocks
+is_bound D (Constant c) = nat_lt c.0 (length D.aligns)
+is_bound D m = true
 
--- the registers of a plan are real Int ones
-abbrev pub plan_general : Plan → Bool
-plan_general p = address_general p.address && operand_general p.operand
+-- an operand can stand in an instruction: so it is, and its registers are real Int ones
+abbrev pub may_stand : Declared → MemArg → Bool
+may_stand D m = operand_general m && is_bound D m
+
+-- the operand whose address is loaded can, where there is one
+abbrev pub address_stands : Declared → Option MemArg → Bool
+address_stands D None = true
+address_stands D (Some mem) = may_stand D mem
+
+-- those of a plan can
+abbrev pub plan_stands : Declared → Plan → Bool
+plan_stands D p = address_stands D p.address && may_stand D p.operand

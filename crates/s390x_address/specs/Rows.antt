@@ -1,5 +1,5 @@
 -- How the code's rows and instructions stand for those of the definitions.
-use Rattle.std.specs.Prelude.{ℕ, Bool, true, not, ◌&&◌, Option, Some, None}
+use Rattle.std.specs.Prelude.{ℕ, Bool, true, not, ◌&&◌, ◌||◌, nat_lt, Option, Some, None}
 use Rattle.s390x_base.specs.Regs.{number_of}
 use Rattle.s390x_inst.specs.Emission.{Emission}
 use Rattle.s390x_enc.specs.Operands.{is_general, is_first_float, may_stand_first}
@@ -51,6 +51,20 @@ rows_encode (OneRegister register rx_opcode rxy_opcode ril_opcode) = is_general 
 rows_encode (TwoRegisters first second rs_opcode rsy_opcode) = is_general first && is_general second
 rows_encode (Byte imm si_opcode siy_opcode) = true
 rows_encode (Halfword imm sil_opcode) = true
+
+-- the opcode has 12 bits; no opcode has so many too
+abbrev pub has_12_bits : Option ℕ → Bool
+has_12_bits None = true
+has_12_bits (Some opcode) = nat_lt opcode 4096
+
+-- so has that of the row that is relative to the instruction
+abbrev pub relative_encodes : StorageRows → Bool
+relative_encodes (OneRegister register rx_opcode rxy_opcode ril_opcode) = has_12_bits ril_opcode
+relative_encodes _ = true
+
+-- its rows can be encoded, where its registers may stand there
+abbrev pub may_encode : MemoryInst → Bool
+may_encode x = relative_encodes x.rows && (not x.fine || rows_encode x.rows)
 
 -- an instruction with a memory operand
 abbrev pub memory_of : MemoryInst → MemoryInstruction

@@ -1,7 +1,7 @@
 //! The emitters of operands, by the formats of the rows.
 #![tactic(auto, using(s390x_buffer::proofs::Keeping::keeps_on, s390x_buffer::proofs::Keeping::keeps_same))]
 
-ghost use Rattle.std.specs.Prelude.{◌≡◌, ◌<◌, ◌⊎◌, ◌&&◌, ◌||◌, not, true, None, Some, MatchResult, IfSome, IfErr, IsTrue};
+ghost use Rattle.std.specs.Prelude.{◌≡◌, ◌<◌, ◌⊎◌, ◌&&◌, true, None, Some, MatchResult, IfSome, IfErr, IsTrue};
 ghost use Rattle.s390x_base.specs.declared.error.EmitError.TheVariants.{NoMemory};
 ghost use Rattle.s390x_buffer.specs.Keeps.{Keeps};
 ghost use Rattle.s390x_steps.specs.Operands.{is_numbered};
@@ -10,7 +10,7 @@ ghost use Rattle.s390x_steps.specs.Memory.{holds_scratch};
 ghost use Rattle.s390x_steps.specs.Parts.{memory_parts};
 ghost use Rattle.s390x_address.specs.Appended.{appended};
 ghost use Rattle.s390x_address.specs.Emitters.{emit_cause, loads_register, reads_register, reads_registers, one_register, two_registers, byte_immediate, halfword_immediate};
-ghost use Rattle.s390x_address.specs.Rows.{memory_of, in_state, rows_encode, takes_general};
+ghost use Rattle.s390x_address.specs.Rows.{memory_of, in_state, may_encode, takes_general, has_12_bits};
 
 use crate::forms::is_numbered;
 use crate::memory::{MemoryInst, general};
@@ -28,14 +28,14 @@ fn emit_checked(
     sink: &mut MachBuffer,
     state: &EmitState,
 ) -> Result<(), EmitError>
-    requires { (not found.now.fine || rows_encode found.now.rows) ≡ true }
+    requires { may_encode found.now ≡ true }
     ensures answer { MatchResult result (λ _. (emit_cause sink.old (in_state state.now (memory_of found.now)) ≡ None) × (sink.new ≡ appended sink.old (memory_parts (in_state state.now (memory_of found.now))))) (λ e. (e ≡ NoMemory) ⊎ (emit_cause sink.old (in_state state.now (memory_of found.now)) ≡ Some e)) }
     ensures kept { Keeps sink.old sink.new }
 {
     if sink.is_failed() {
         return Err(EmitError::Failed);
     }
-    if let Some(error) = found.refusal(state) {
+    if let Some(error) = found.refusal(sink, state) {
         return Err(error);
     }
     if u64::from(sink.cur_offset()) + found.size(state) >= LIMIT {
@@ -50,7 +50,7 @@ fn emit_marking(
     sink: &mut MachBuffer,
     state: &EmitState,
 ) -> Result<(), EmitError>
-    requires { (not found.now.fine || rows_encode found.now.rows) ≡ true }
+    requires { may_encode found.now ≡ true }
     ensures answer { MatchResult result (λ _. (emit_cause sink.old (in_state state.now (memory_of found.now)) ≡ None) × (sink.new ≡ appended sink.old (memory_parts (in_state state.now (memory_of found.now))))) (λ e. (e ≡ NoMemory) ⊎ (emit_cause sink.old (in_state state.now (memory_of found.now)) ≡ Some e)) }
     ensures marked { IfErr result (λ _. IsTrue sink.new.failed) }
     ensures kept { Keeps sink.old sink.new }
@@ -107,7 +107,8 @@ fn reads_register(opcode_rxy: Option<u16>) -> bool
     }
 }
 
-fn number(r: &Reg) -> u32
+/// The number of a register.
+pub fn number(r: &Reg) -> u32
     ensures { result ≡ number_of r.now }
 {
     match r {
@@ -116,8 +117,8 @@ fn number(r: &Reg) -> u32
     }
 }
 
-// Whether `%r1` is one of the registers from the first to the last.
-fn holds_scratch(first: &Reg, last: &Reg) -> bool
+/// Whether `%r1` is one of the registers from the first to the last.
+pub fn holds_scratch(first: &Reg, last: &Reg) -> bool
     ensures { result ≡ holds_scratch first.now last.now }
 {
     number(first) <= 1 && 1 <= number(last)
@@ -149,12 +150,15 @@ fn reads_registers(opcode_rsy: Option<u16>, rd: &Reg, rn: &Reg) -> bool
     }
 }
 
-/// Emits a row of format RX or RXY with a register and an operand, behind the helpers of the operand; where `add_trap` is true, the flags' trap
-/// is recorded at the row. `opcode_ril` tells that there is a relative form; operands of that form aren't built yet.
+/// Emits a row of format RX, RXY or RIL-B with a register and an operand, behind the helpers of the operand; where `add_trap` is true, the row
+/// accesses memory, and the flags' trap is recorded at it. The row of format RIL-B takes a label, a constant or a symbol, whose distance the
+/// buffer's end or, for a symbol, linking fills in.
 ///
 /// It answers want of memory, or exactly the first cause: the buffer's mark (`Failed`), no form for the operand (`BadOperator`), a register that can't
-/// be encoded (`BadRegister`), `%r1` read behind a helper (`ScratchConflict`), an offset past 32 bits (`OffsetOutOfRange`), the length
-/// (`LabelOutOfRange`). A refused call marks the buffer and leaves what stood in it; the state stays as it was (cranelift-codegen, `emit.rs`).
+/// be encoded (`BadRegister`), `%r1` read behind a helper (`ScratchConflict`), an offset, or that of a symbol plus 2, past 32 bits
+/// (`OffsetOutOfRange`), a label that names no block or a constant that isn't declared (`UnboundLabel`), a label in a relative access of more than
+/// two bytes or a constant that is aligned below its relative access (`BadAlignment`), the length (`LabelOutOfRange`). A refused call marks the
+/// buffer and leaves what stood in it; the state stays as it was (cranelift-codegen, `emit.rs`).
 #[tactic(auto, using(crate::proofs::Encoding::register_encodes))]
 pub fn mem_emit(
     _alloc: Global,
@@ -170,6 +174,7 @@ pub fn mem_emit(
 ) -> Result<(), EmitError>
     requires short { IfSome opcode_rx (λ o. o < 256) }
     requires integer { (takes_general opcode_rx && takes_general opcode_rxy) ≡ true }
+    requires relative { has_12_bits opcode_ril ≡ true }
     ensures answer { MatchResult result (λ _. (emit_cause sink.old (in_state state.old (one_register rd opcode_rx opcode_rxy opcode_ril add_trap mem.now)) ≡ None) × (sink.new ≡ appended sink.old (memory_parts (in_state state.old (one_register rd opcode_rx opcode_rxy opcode_ril add_trap mem.now))))) (λ e. (e ≡ NoMemory) ⊎ (emit_cause sink.old (in_state state.old (one_register rd opcode_rx opcode_rxy opcode_ril add_trap mem.now)) ≡ Some e)) }
     ensures marked { IfErr result (λ _. IsTrue sink.new.failed) }
     ensures kept { Keeps sink.old sink.new }

@@ -6,6 +6,7 @@ pub mod finalize;
 pub mod forms;
 pub mod memory;
 pub mod plan;
+pub mod relative;
 pub mod rows;
 
 pub use emitters::{mem_emit, mem_imm8_emit, mem_imm16_emit, mem_rs_emit};

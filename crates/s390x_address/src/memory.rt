@@ -1,23 +1,25 @@
 //! Instructions with a memory operand: why one is refused, and its emission.
 #![tactic(auto, using(s390x_buffer::proofs::Keeping::keeps_on, s390x_buffer::proofs::Keeping::keeps_same))]
 
-ghost use Rattle.std.specs.Prelude.{◌≡◌, ◌≤◌, ◌+◌, [], ◌∷◌, ◌++◌, ◌||◌, ◌&&◌, not, true, None, Some, length, OnOk, IfErr};
-ghost use Rattle.s390x_base.specs.declared.error.EmitError.TheVariants.{NoMemory, ScratchConflict};
+ghost use Rattle.std.specs.Prelude.{◌≡◌, ◌≤◌, ◌+◌, [], ◌∷◌, ◌++◌, ◌&&◌, not, true, None, Some, Option, length, OnOk, IfErr};
+ghost use Rattle.s390x_base.specs.declared.error.EmitError.TheVariants.{NoMemory, ScratchConflict, OffsetOutOfRange};
+ghost use Rattle.s390x_base.specs.declared.trap.TrapKind.{TrapKind};
 ghost use Rattle.s390x_buffer.specs.Keeps.{Keeps};
 ghost use Rattle.s390x_buffer.specs.State.{put_cause};
 ghost use Rattle.std.specs.Option.{option_map};
-ghost use Rattle.s390x_steps.specs.Causes.{unless, memory_cause, late_cause};
+ghost use Rattle.s390x_steps.specs.Causes.{Declared, first, unless, declared_in, memory_cause, late_cause, place_cause, boundary};
 ghost use Rattle.s390x_steps.specs.General.{is_general, low_word};
 ghost use Rattle.s390x_steps.specs.MachineInstruction.{size_of};
 ghost use Rattle.s390x_steps.specs.Memory.{type_of, storage_row, fault_code, address_form};
 ghost use Rattle.s390x_steps.specs.Operands.{has_form, operand_general, scratch};
-ghost use Rattle.s390x_steps.specs.Parts.{access_parts, helpers_parts, finalized_parts, memory_parts, parts_size};
+ghost use Rattle.s390x_steps.specs.Parts.{access_parts, operand_parts, helpers_parts, finalized_parts, memory_parts, parts_size};
 ghost use Rattle.s390x_address.specs.Appended.{appended};
-ghost use Rattle.s390x_address.specs.Plans.{far_helper, address_helper, finalized_of, address_general, plan_general};
-ghost use Rattle.s390x_address.specs.Rows.{row_of, row_encodes, form_of, rows_encode, memory_of, in_state};
+ghost use Rattle.s390x_address.specs.Plans.{far_helper, address_helper, finalized_of, may_stand, address_stands, plan_stands};
+ghost use Rattle.s390x_address.specs.Rows.{row_of, row_encodes, form_of, relative_encodes, rows_encode, may_encode, memory_of, in_state};
 
-use crate::forms::{has_form, is_relative};
+use crate::forms::{has_form, is_relative, needs_address};
 use crate::plan::{Plan, plan_operand};
+use crate::relative::{addend_fits, place_refusal, put_relative, relative_bytes, relative_size};
 use crate::rows::{StorageRow, StorageRows};
 use s390x_base::{Code, EmitError, Reg, RegClass, TrapCode, spilltmp_reg};
 use s390x_buffer::MachBuffer;
@@ -132,14 +134,33 @@ fn put_storage_row(
     }
 }
 
+// The access of an operand that stands in it as it is, where there is a row for it.
+fn put_operand(
+    sink: &mut MachBuffer,
+    rows: &StorageRows,
+    operand: &MemArg,
+    trap_code: Option<TrapCode>,
+) -> Result<(), EmitError>
+    requires { relative_encodes rows.now ≡ true }
+    ensures answer { OnOk result (sink.new ≡ appended sink.old (operand_parts (form_of rows.now) trap_code operand.now)) }
+    ensures lacks { put_cause sink.old (parts_size (operand_parts (form_of rows.now) trap_code operand.now)) ≡ None → rows_encode rows.now ≡ true → may_stand (declared_in sink.old) operand.now ≡ true → IfErr result (λ e. e ≡ NoMemory) }
+    ensures kept { Keeps sink.old sink.new }
+{
+    if is_relative(operand) {
+        put_relative(sink, rows, operand, trap_code)
+    } else {
+        put_access(sink, rows, operand, trap_code)
+    }
+}
+
 // The load of an address into `%r1`, where there is one.
 fn put_address(sink: &mut MachBuffer, address: Option<MemArg>) -> Result<(), EmitError>
     ensures answer { OnOk result (sink.new ≡ appended sink.old (helpers_parts (address_helper address))) }
-    ensures lacks { put_cause sink.old (parts_size (helpers_parts (address_helper address))) ≡ None → address_general address ≡ true → IfErr result (λ e. e ≡ NoMemory) }
+    ensures lacks { put_cause sink.old (parts_size (helpers_parts (address_helper address))) ≡ None → address_stands (declared_in sink.old) address ≡ true → IfErr result (λ e. e ≡ NoMemory) }
     ensures kept { Keeps sink.old sink.new }
 {
     match address {
-        Some(mem) => put_access(sink, &address_rows(), &mem, None),
+        Some(mem) => put_operand(sink, &address_rows(), &mem, None),
         None => Ok(()),
     }
 }
@@ -148,6 +169,7 @@ fn put_address(sink: &mut MachBuffer, address: Option<MemArg>) -> Result<(), Emi
 fn address_rows() -> StorageRows
     ensures form { form_of result ≡ address_form scratch }
     ensures encodes { rows_encode result ≡ true }
+    ensures relative { relative_encodes result ≡ true }
 {
     StorageRows::OneRegister {
         register: spilltmp_reg(),
@@ -164,13 +186,14 @@ fn put_plan(
     plan: &Plan,
     trap_code: Option<TrapCode>,
 ) -> Result<(), EmitError>
+    requires { relative_encodes rows.now ≡ true }
     ensures answer { OnOk result (sink.new ≡ appended sink.old (finalized_parts (form_of rows.now) trap_code (finalized_of plan.now))) }
-    ensures lacks { put_cause sink.old (parts_size (finalized_parts (form_of rows.now) trap_code (finalized_of plan.now))) ≡ None → rows_encode rows.now ≡ true → plan_general plan.now ≡ true → IfErr result (λ e. e ≡ NoMemory) }
+    ensures lacks { put_cause sink.old (parts_size (finalized_parts (form_of rows.now) trap_code (finalized_of plan.now))) ≡ None → rows_encode rows.now ≡ true → plan_stands (declared_in sink.old) plan.now ≡ true → IfErr result (λ e. e ≡ NoMemory) }
     ensures kept { Keeps sink.old sink.new }
 {
     put_far(sink, plan.far)?;
     put_address(sink, plan.address)?;
-    put_access(sink, rows, &plan.operand, trap_code)
+    put_operand(sink, rows, &plan.operand, trap_code)
 }
 
 // How many bytes a row has, where there is one.
@@ -181,6 +204,18 @@ fn row_size(row: Option<StorageRow>) -> u64
     match row {
         Some(row) => row.size(),
         None => 0,
+    }
+}
+
+// How many bytes the access has of an operand that stands in it as it is.
+fn operand_size(rows: &StorageRows, operand: &MemArg) -> u64
+    ensures value { (code : Option TrapKind) → result ≡ parts_size (operand_parts (form_of rows.now) code operand.now) }
+    ensures few { result ≤ 6 }
+{
+    if is_relative(operand) {
+        relative_size(rows, operand)
+    } else {
+        row_size(rows.row(operand))
     }
 }
 
@@ -201,19 +236,21 @@ fn address_size(address: Option<MemArg>) -> u64
     ensures few { result ≤ 6 }
 {
     match address {
-        Some(mem) => row_size(address_rows().row(&mem)),
+        Some(mem) => operand_size(&address_rows(), &mem),
         None => 0,
     }
 }
 
-// `%r1` can't be read behind a helper.
-fn scratch_refusal(reads: bool, helped: bool) -> Option<EmitError>
-    ensures { result ≡ unless (not (reads && helped)) ScratchConflict }
+// `%r1` can't be read behind a helper; an addend has to fit 32 bits.
+fn helped_refusal(reads: bool, helped: bool, fits: bool) -> Option<EmitError>
+    ensures { result ≡ first (unless (not (reads && helped)) ScratchConflict) (unless fits OffsetOutOfRange) }
 {
     if reads && helped {
         Some(EmitError::ScratchConflict)
-    } else {
+    } else if fits {
         None
+    } else {
+        Some(EmitError::OffsetOutOfRange)
     }
 }
 
@@ -242,36 +279,75 @@ impl MemoryInst {
         ensures { result ≡ late_cause (in_state state.now (memory_of self.now)) }
     {
         match plan_operand(&self.operand, state, self.forms()) {
-            Ok(plan) => scratch_refusal(self.reads_scratch, plan.is_helped()),
+            Ok(plan) => helped_refusal(
+                self.reads_scratch,
+                plan.is_helped(),
+                addend_fits(&self.operand),
+            ),
             Err(error) => Some(error),
         }
     }
 
-    /// The first cause that refuses it in a state of emission: no row has a form for the operand, which is relative to the instruction or for which
-    /// there is no row (`BadOperator`), a register may not stand there (`BadRegister`), `%r1` is read behind a helper (`ScratchConflict`), an exact
-    /// offset doesn't fit 32 bits (`OffsetOutOfRange`).
-    pub fn refusal(&self, state: &EmitState) -> Option<EmitError>
-        ensures { result ≡ memory_cause (in_state state.now (memory_of self.now)) }
+    // The boundary on which an operand has to stand that is relative to its access; 1 for another one.
+    fn boundary(&self) -> u32
+        ensures { result ≡ boundary (memory_of self.now) }
     {
-        if !has_form(self.forms(), &self.operand) || is_relative(&self.operand) {
+        match self.rows {
+            StorageRows::OneRegister {
+                ril: Some(opcode),
+                ..
+            } => {
+                if self.accesses
+                    && is_relative(&self.operand)
+                    && !needs_address(self.forms(), &self.operand)
+                {
+                    relative_bytes(opcode)
+                } else {
+                    1
+                }
+            }
+            _ => 1,
+        }
+    }
+
+    // The causes behind those of the rows and the registers.
+    fn last_refusal(&self, sink: &MachBuffer, state: &EmitState) -> Option<EmitError>
+        requires { has_form (type_of (form_of self.now.rows) self.now.accesses) self.now.operand ≡ true }
+        ensures { result ≡ first (late_cause (in_state state.now (memory_of self.now))) (place_cause (declared_in sink.now) (in_state state.now (memory_of self.now))) }
+    {
+        match self.late_refusal(state) {
+            Some(error) => Some(error),
+            None => place_refusal(sink, &self.operand, self.boundary()),
+        }
+    }
+
+    /// The first cause that refuses it in a buffer and a state of emission: no row has a form for the operand (`BadOperator`), a register may not
+    /// stand there (`BadRegister`), `%r1` is read behind a helper (`ScratchConflict`), an exact offset, or that of a symbol plus 2, doesn't fit
+    /// 32 bits (`OffsetOutOfRange`), a label names no block or a constant isn't declared (`UnboundLabel`), or it doesn't tell by its alignment that
+    /// it stands where an access relative to the instruction needs it: such an access of a label has at most two bytes, one of a constant at most
+    /// its alignment (`BadAlignment`).
+    pub fn refusal(&self, sink: &MachBuffer, state: &EmitState) -> Option<EmitError>
+        ensures { result ≡ memory_cause (declared_in sink.now) (in_state state.now (memory_of self.now)) }
+    {
+        if !has_form(self.forms(), &self.operand) {
             Some(EmitError::BadOperator)
         } else if !(self.fine && is_general_operand(&self.operand)) {
             Some(EmitError::BadRegister)
         } else {
-            self.late_refusal(state)
+            self.last_refusal(sink, state)
         }
     }
 
     /// How many bytes it has with its helpers, where no cause refuses it.
     pub fn size(&self, state: &EmitState) -> u64
-        ensures value { memory_cause (in_state state.now (memory_of self.now)) ≡ None → result ≡ parts_size (memory_parts (in_state state.now (memory_of self.now))) }
+        ensures value { (D : Declared) → memory_cause D (in_state state.now (memory_of self.now)) ≡ None → result ≡ parts_size (memory_parts (in_state state.now (memory_of self.now))) }
         ensures few { result ≤ 18 }
     {
         match plan_operand(&self.operand, state, self.forms()) {
             Ok(plan) => {
                 far_size(plan.far)
                     + address_size(plan.address)
-                    + row_size(self.rows.row(&plan.operand))
+                    + operand_size(&self.rows, &plan.operand)
             }
             Err(_) => 0,
         }
@@ -280,8 +356,9 @@ impl MemoryInst {
     /// Appends the helpers, and then the access with the trap of its faults. It answers want of memory, or the buffer's refusal, or a cause of
     /// `refusal`.
     pub fn emit(&self, sink: &mut MachBuffer, state: &EmitState) -> Result<(), EmitError>
+        requires { may_encode self.now ≡ true }
         ensures answer { OnOk result (sink.new ≡ appended sink.old (memory_parts (in_state state.now (memory_of self.now)))) }
-        ensures lacks { put_cause sink.old (parts_size (memory_parts (in_state state.now (memory_of self.now)))) ≡ None → memory_cause (in_state state.now (memory_of self.now)) ≡ None → (not self.now.fine || rows_encode self.now.rows) ≡ true → IfErr result (λ e. e ≡ NoMemory) }
+        ensures lacks { put_cause sink.old (parts_size (memory_parts (in_state state.now (memory_of self.now)))) ≡ None → memory_cause (declared_in sink.old) (in_state state.now (memory_of self.now)) ≡ None → IfErr result (λ e. e ≡ NoMemory) }
         ensures kept { Keeps sink.old sink.new }
     {
         match plan_operand(&self.operand, state, self.forms()) {

@@ -1,5 +1,6 @@
 -- A branch patched to its target has half the distance in its field.
-use Rattle.std.proofs.Common.{◌≡◌, ℕ, ◌+◌, ◌-◌, ◌*◌, ◌/◌, ◌%◌, ◌^◌, ◌<◌, [], ◌∷◌, ap, ◌∙◌, arith}
+use Rattle.std.proofs.Common.{◌≡◌, ℕ, ◌+◌, ◌-◌, ◌*◌, ◌/◌, ◌%◌, ◌^◌, ◌<◌, List, [], ◌∷◌, ◌++◌, ap, ◌∙◌, arith}
+use Rattle.std.specs.Int.{w32, to_be_bytes}
 use Rattle.s390x_buffer.specs.Patch.{patch}
 use Rattle.s390x_buffer.specs.declared.label_use.LabelUse.TheVariants.{BranchRIL, PCRel32}
 use Rattle.s390x_format.specs.Formats.{length_of, layout_of}
@@ -105,6 +106,49 @@ patched_relative opcode register p target =
     (register_fourth a m b h ∙ ap (λ y. with_opcode a m b y / 65536 % 256) (whole_word x))
     (register_fifth a m b h ∙ ap (λ y. with_opcode a m b y / 256 % 256) (whole_word x))
     (register_sixth a m b h ∙ ap (λ y. with_opcode a m b y / 1 % 256) (whole_word x))
+
+-- ---- the distance stands in the last four bytes
+
+-- the first two bytes of an address relative to the instruction
+abbrev head_number : (opcode register : ℕ) → ℕ
+head_number opcode register = opcode / 2 ^ 4 % 2 ^ 8 * 1099511627776 + (register / 2 ^ 0 % 2 ^ 4 * 68719476736 + (opcode / 2 ^ 0 % 2 ^ 4 * 4294967296 + 0))
+
+abbrev pub relative_head : (opcode register : ℕ) → List ℕ
+relative_head opcode register = head_number opcode register / 1099511627776 % 256 ∷ head_number opcode register / 4294967296 % 256 ∷ []
+
+whole_below : (h : ℕ) → h / 2 ^ 0 % 2 ^ 32 < 4294967296
+whole_below h = omega arith
+
+whole_third : (h : ℕ) → h / 16777216 % 256 ≡ h / 2 ^ 0 % 2 ^ 32 / 16777216 % 256
+whole_third h = omega arith
+
+whole_fourth : (h : ℕ) → h / 65536 % 256 ≡ h / 2 ^ 0 % 2 ^ 32 / 65536 % 256
+whole_fourth h = omega arith
+
+whole_fifth : (h : ℕ) → h / 256 % 256 ≡ h / 2 ^ 0 % 2 ^ 32 / 256 % 256
+whole_fifth h = omega arith
+
+whole_sixth : (h : ℕ) → h % 256 ≡ h / 2 ^ 0 % 2 ^ 32 % 256
+whole_sixth h = omega arith
+
+pub relative_split : (opcode register h : ℕ) → relative_head opcode register ++ to_be_bytes w32 h ≡ bytes_of (ril_b opcode register h)
+unfolding length_of layout_of number bits be_bytes
+relative_split opcode register h =
+    let a : ℕ = opcode / 2 ^ 4 % 2 ^ 8 in
+    let m : ℕ = register / 2 ^ 0 % 2 ^ 4 in
+    let b : ℕ = opcode / 2 ^ 0 % 2 ^ 4 in
+    let x : ℕ = h / 2 ^ 0 % 2 ^ 32 in
+    let la : a < 256 = below_byte opcode in
+    let lm : m < 16 = mask_below register in
+    let lb : b < 16 = mask_below opcode in
+    let lx : x < 4294967296 = whole_below h in
+    six _ _ _ _ _ _ _ _ _ _ _ _
+    (register_first a m b x la lm lb lx)
+    (register_second a m b x la lm lb lx)
+    (whole_third h ∙ register_third a m b x lx)
+    (whole_fourth h ∙ register_fourth a m b x)
+    (whole_fifth h ∙ register_fifth a m b x)
+    (whole_sixth h ∙ register_sixth a m b x)
 
 -- ---- a word of a table
 

@@ -6,7 +6,7 @@ use Rattle.s390x_base.specs.declared.error.EmitError.{EmitError}
 use Rattle.s390x_inst.specs.declared.inst.Inst.{Inst}
 use Rattle.s390x_steps.specs.Tree.{Tree, empty, leaf, looped, graft, tree}
 use Rattle.s390x_steps.specs.Sizes.{instruction_size, tree_size}
-use Rattle.s390x_steps.specs.Causes.{first, draws, nesting_cause, numbers_cause, instruction_draws, leaf_cause, tree_cause}
+use Rattle.s390x_steps.specs.Causes.{Declared, first, draws, nesting_cause, numbers_cause, instruction_draws, leaf_cause, tree_cause}
 use Rattle.s390x_steps.proofs.Trees.{behind, graft_draws, graft_size}
 use Rattle.s390x_steps.proofs.Causes.{first_none, graft_cause}
 use Rattle.s390x_emit_int.specs.Totals.{Adds, limit}
@@ -16,27 +16,27 @@ capped : (a b x : ℕ) → min limit a ≡ min limit b → min limit (a + x) ≡
 capped a b x h = omega arith
 
 -- what is left after a member, with what was counted, comes to what was left before it
-pub record GoesOn (flags : IsaFlags) (blocks depth : ℕ) (sum r : Totals) (rest all : Tree) : Type 0 where
-  pub cause : tree_cause flags blocks r.labels depth rest ≡ tree_cause flags blocks sum.labels depth all
+pub record GoesOn (flags : IsaFlags) (D : Declared) (depth : ℕ) (sum r : Totals) (rest all : Tree) : Type 0 where
+  pub cause : tree_cause flags D r.labels depth rest ≡ tree_cause flags D sum.labels depth all
   pub labels : r.labels + draws rest ≡ sum.labels + draws all
   pub bytes : min limit (r.bytes + tree_size rest) ≡ min limit (sum.bytes + tree_size all)
 
-pub goes_on : (state : Emission) (flags : IsaFlags) (blocks depth : ℕ) (sum r : Totals) (is : List Inst) (k : ℕ) (i : Inst) → k < length is → i ≡ get_or is k i → tree_cause flags blocks sum.labels depth (graft state i empty) ≡ None → Adds sum r (draws (graft state i empty)) (tree_size (graft state i empty)) → GoesOn flags blocks depth sum r (tree state (drop (k + 1) is)) (tree state (drop k is))
-goes_on state flags blocks depth sum r is k i lt at none adds =
+pub goes_on : (state : Emission) (flags : IsaFlags) (D : Declared) (depth : ℕ) (sum r : Totals) (is : List Inst) (k : ℕ) (i : Inst) → k < length is → i ≡ get_or is k i → tree_cause flags D sum.labels depth (graft state i empty) ≡ None → Adds sum r (draws (graft state i empty)) (tree_size (graft state i empty)) → GoesOn flags D depth sum r (tree state (drop (k + 1) is)) (tree state (drop k is))
+goes_on state flags D depth sum r is k i lt at none adds =
     let rest = tree state (drop (k + 1) is) in
     let b = behind state is k i lt at in
     record {
-      cause = ap (λ m. tree_cause flags blocks m depth rest) adds.labels ∙ ap (λ o. first o (tree_cause flags blocks (sum.labels + draws (graft state i empty)) depth rest)) (sym none) ∙ sym (graft_cause flags state blocks sum.labels depth i rest) ∙ ap (λ t. tree_cause flags blocks sum.labels depth t) (sym b);
+      cause = ap (λ m. tree_cause flags D m depth rest) adds.labels ∙ ap (λ o. first o (tree_cause flags D (sum.labels + draws (graft state i empty)) depth rest)) (sym none) ∙ sym (graft_cause flags state D sum.labels depth i rest) ∙ ap (λ t. tree_cause flags D sum.labels depth t) (sym b);
       labels = omega (arith, adds.labels, graft_draws state i rest, ap draws b);
       bytes = capped r.bytes (sum.bytes + tree_size (graft state i empty)) (tree_size rest) adds.bytes ∙ ap (λ m. min limit m) (omega (arith, graft_size state i rest, ap tree_size b));
     }
 
 -- a loop's answer is that of its tree
-pub loop_answer : (flags : IsaFlags) (blocks depth : ℕ) (t : Totals) (mask : ℕ) (x members : Tree) (result : Result Totals EmitError) → x ≡ looped mask members empty →
-    MatchResult result (λ r. (first (first (nesting_cause depth) (numbers_cause t.labels 2)) (tree_cause flags blocks (t.labels + 2) (depth + 1) members) ≡ None) × Adds t r (2 + draws members) (tree_size members + 6)) (λ e. first (first (nesting_cause depth) (numbers_cause t.labels 2)) (tree_cause flags blocks (t.labels + 2) (depth + 1) members) ≡ Some e) →
-    MatchResult result (λ r. (tree_cause flags blocks t.labels depth x ≡ None) × Adds t r (draws x) (tree_size x)) (λ e. tree_cause flags blocks t.labels depth x ≡ Some e)
-loop_answer flags blocks depth t mask x members (Ok r) e p =
-    let z = ap (tree_cause flags blocks t.labels depth) e ∙ first_none (first (first (nesting_cause depth) (numbers_cause t.labels 2)) (tree_cause flags blocks (t.labels + 2) (depth + 1) members)) in (
+pub loop_answer : (flags : IsaFlags) (D : Declared) (depth : ℕ) (t : Totals) (mask : ℕ) (x members : Tree) (result : Result Totals EmitError) → x ≡ looped mask members empty →
+    MatchResult result (λ r. (first (first (nesting_cause depth) (numbers_cause t.labels 2)) (tree_cause flags D (t.labels + 2) (depth + 1) members) ≡ None) × Adds t r (2 + draws members) (tree_size members + 6)) (λ e. first (first (nesting_cause depth) (numbers_cause t.labels 2)) (tree_cause flags D (t.labels + 2) (depth + 1) members) ≡ Some e) →
+    MatchResult result (λ r. (tree_cause flags D t.labels depth x ≡ None) × Adds t r (draws x) (tree_size x)) (λ e. tree_cause flags D t.labels depth x ≡ Some e)
+loop_answer flags D depth t mask x members (Ok r) e p =
+    let z = ap (tree_cause flags D t.labels depth) e ∙ first_none (first (first (nesting_cause depth) (numbers_cause t.labels 2)) (tree_cause flags D (t.labels + 2) (depth + 1) members)) in (
       z ∙ p.0,
       record {
         counted = p.1.counted;
@@ -44,18 +44,18 @@ loop_answer flags blocks depth t mask x members (Ok r) e p =
         bytes = p.1.bytes ∙ ap (λ m. min limit m) (omega (arith, ap tree_size e));
       },
     )
-loop_answer flags blocks depth t mask x members (Err d) e p = ap (tree_cause flags blocks t.labels depth) e ∙ first_none _ ∙ p
+loop_answer flags D depth t mask x members (Err d) e p = ap (tree_cause flags D t.labels depth) e ∙ first_none _ ∙ p
 
 -- so is that of an instruction that is no loop
-pub leaf_answer : (flags : IsaFlags) (blocks depth : ℕ) (t : Totals) (i : Inst) (x : Tree) (result : Result Totals EmitError) → x ≡ leaf i empty →
-    MatchResult result (λ r. (leaf_cause flags blocks t.labels depth i ≡ None) × Adds t r (instruction_draws i) (instruction_size i)) (λ e. leaf_cause flags blocks t.labels depth i ≡ Some e) →
-    MatchResult result (λ r. (tree_cause flags blocks t.labels depth x ≡ None) × Adds t r (draws x) (tree_size x)) (λ e. tree_cause flags blocks t.labels depth x ≡ Some e)
-leaf_answer flags blocks depth t i x (Ok r) e p = (
-  ap (tree_cause flags blocks t.labels depth) e ∙ first_none (leaf_cause flags blocks t.labels depth i) ∙ p.0,
+pub leaf_answer : (flags : IsaFlags) (D : Declared) (depth : ℕ) (t : Totals) (i : Inst) (x : Tree) (result : Result Totals EmitError) → x ≡ leaf i empty →
+    MatchResult result (λ r. (leaf_cause flags D t.labels depth i ≡ None) × Adds t r (instruction_draws i) (instruction_size i)) (λ e. leaf_cause flags D t.labels depth i ≡ Some e) →
+    MatchResult result (λ r. (tree_cause flags D t.labels depth x ≡ None) × Adds t r (draws x) (tree_size x)) (λ e. tree_cause flags D t.labels depth x ≡ Some e)
+leaf_answer flags D depth t i x (Ok r) e p = (
+  ap (tree_cause flags D t.labels depth) e ∙ first_none (leaf_cause flags D t.labels depth i) ∙ p.0,
   record {
     counted = p.1.counted;
     labels = omega (arith, p.1.labels, ap draws e);
     bytes = p.1.bytes ∙ ap (λ m. min limit m) (omega (arith, ap tree_size e));
   },
 )
-leaf_answer flags blocks depth t i x (Err d) e p = ap (tree_cause flags blocks t.labels depth) e ∙ first_none _ ∙ p
+leaf_answer flags D depth t i x (Err d) e p = ap (tree_cause flags D t.labels depth) e ∙ first_none _ ∙ p

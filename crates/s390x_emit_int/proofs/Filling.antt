@@ -1,27 +1,34 @@
 -- The fields that linking fills make the code before linking the code after it.
 use Rattle.std.proofs.Common.{◌≡◌, ℕ, ◌+◌, ◌≤◌, List, [], ◌∷◌, ◌++◌, length, take, drop, refl, sym, ap, ◌∙◌, subst, arith, length-append, append_assoc}
 use Rattle.std.proofs.Math.Seq.{take-append_seam, drop-append_seam}
-use Rattle.std.specs.Prelude.{ℤ}
+use Rattle.std.specs.Prelude.{ℤ, pos, ◌+ℤ◌, ◌-ℤ◌}
+use Rattle.std.proofs.lemmas.Int.{ints}
 use Rattle.std.specs.List.{All}
 use Rattle.std.proofs.lemmas.List.Elements.{All-nil, All-push, All-append}
-use Rattle.std.specs.Int.{w64, to_be_bytes}
+use Rattle.std.specs.Int.{w32, w64, cast_unsigned, to_be_bytes}
+use Rattle.std.specs.Int.RustNames.{int_div}
 use Rattle.s390x_base.specs.declared.ir.ExternalName.{ExternalName}
 use Rattle.s390x_buffer.specs.declared.entries.RelocEntry.{RelocEntry}
-use Rattle.s390x_image.specs.Symbols.{Symbols}
-use Rattle.s390x_image.specs.Fields.{stored, filled, LiesIn}
-use Rattle.s390x_image.specs.Values.{symbol_value}
+use Rattle.s390x_image.specs.Symbols.{Symbols, address_of}
+use Rattle.s390x_base.specs.declared.ir.Reloc.TheVariants.{S390xPCRel32Dbl}
+use Rattle.s390x_image.specs.Fields.{address_or_zero, stored, filled, LiesIn}
+use Rattle.s390x_image.specs.Values.{symbol_value, symbol_distance}
 use Rattle.s390x_steps.specs.Tree.{Tree}
 use Rattle.s390x_steps.specs.Steps.{Step, function_steps}
-use Rattle.s390x_steps.specs.Parts.{Part, Row, Trapping, Branch, Relative, SymbolValue, TrapHere, TableWord, ToBlock, ToStep, part_size, parts_size, step_parts}
-use Rattle.s390x_steps.specs.Rows.{Places, part_bytes, parts_bytes, step_bytes}
+use Rattle.s390x_steps.specs.Parts.{Part, Row, Trapping, Branch, Relative, RelativeConstant, RelativeSymbol, SymbolValue, TrapHere, TableWord, ToBlock, ToStep, part_size, parts_size, step_parts}
+use Rattle.s390x_steps.specs.MachineInstruction.{ril_b, bytes_of}
+use Rattle.s390x_steps.specs.Sizes.{blocks_size}
+use Rattle.s390x_steps.specs.Rows.{Outside, Places, part_bytes, parts_bytes, step_bytes}
 use Rattle.s390x_steps.specs.Relocs.{part_relocs, parts_relocs, step_relocs, relocs_from, function_relocs}
-use Rattle.s390x_steps.specs.Image.{place, linked_places, function_places, code, function_code, linked_code}
+use Rattle.s390x_steps.specs.Image.{place, places, unlinked, code, function_code}
 use Rattle.s390x_machine.proofs.Standing.{part_length, step_length}
 use Rattle.s390x_buffer.specs.State.{Constant}
 use Rattle.s390x_buffer.specs.Constants.{constant_bytes}
 use Rattle.s390x_buffer.specs.declared.entries.MachBufferFinalized.{MachBufferFinalized}
 use Rattle.s390x_emit_int.specs.Function.{IsImage}
+use Rattle.s390x_emit_int.specs.Headline.{linked}
 use Rattle.s390x_emit_int.specs.Bound.{Follows}
+use Rattle.s390x_emit_int.proofs.Branches.{relative_head, relative_split}
 use Rattle.s390x_emit_int.proofs.Functions.{place_follows, place_zero}
 use Rattle.s390x_emit_int.proofs.Joining.{total}
 
@@ -38,28 +45,54 @@ filled_append : (base : ℕ) (table : Symbols) (rs qs : List RelocEntry) (bytes 
 filled_append base table [] qs bytes = refl
 filled_append base table (r ∷ rs) qs bytes = filled_append base table rs qs _
 
-module _ (base : ℕ) (table : Symbols) (ts : List Tree) where
-  part_filled : (part : Part) (p : ℕ) (earlier later : List ℕ) → p ≡ length earlier → filled base table (part_relocs p part) (earlier ++ (part_bytes (function_places ts) p part ++ later)) ≡ earlier ++ (part_bytes (linked_places (symbol_value table) ts) p part ++ later)
+-- the distance from the beginning of the instruction is that from its field, which stands two bytes behind it, to two more
+same_distance : (base p address : ℕ) (offset : ℤ) → pos address +ℤ (offset +ℤ pos 2) -ℤ pos (base + (p + 2)) ≡ pos address +ℤ offset -ℤ pos (base + p)
+same_distance base p address offset = omega (arith, ints)
+
+-- the field of an address relative to the instruction
+relative_filled : (base : ℕ) (table : Symbols) (opcode register p : ℕ) (name : ExternalName) (offset : ℤ) (earlier later : List ℕ) → p ≡ length earlier →
+    filled base table (record { offset = p + 2; kind = S390xPCRel32Dbl; name = name; addend = offset +ℤ pos 2 } ∷ []) (earlier ++ (bytes_of (ril_b opcode register 0) ++ later))
+    ≡ earlier ++ (bytes_of (ril_b opcode register (symbol_distance base table p name offset)) ++ later)
+relative_filled base table opcode register p name offset earlier later e =
+    let head = relative_head opcode register in
+    let address = address_or_zero (address_of table name) in
+    let half : ℤ → ℕ = λ z. cast_unsigned w32 (int_div z (pos 2)) in
+    let far : ℤ = pos address +ℤ (offset +ℤ pos 2) -ℤ pos (base + (p + 2)) in
+    let distance : ℤ = pos address +ℤ offset -ℤ pos (base + p) in
+    let at : p + 2 ≡ length (earlier ++ head) = omega (arith, e, length-append earlier head) in
+    let old : earlier ++ (bytes_of (ril_b opcode register 0) ++ later) ≡ (earlier ++ head) ++ (to_be_bytes w32 0 ++ later) =
+    ap (λ l. earlier ++ (l ++ later)) (sym (relative_split opcode register 0)) ∙ ap (λ l. earlier ++ l) (append_assoc head (to_be_bytes w32 0) later) ∙ sym (append_assoc earlier head (to_be_bytes w32 0 ++ later)) in
+    let new : (earlier ++ head) ++ (to_be_bytes w32 (half distance) ++ later) ≡ earlier ++ (bytes_of (ril_b opcode register (half distance)) ++ later) =
+    append_assoc earlier head (to_be_bytes w32 (half distance) ++ later) ∙ ap (λ l. earlier ++ l) (sym (append_assoc head (to_be_bytes w32 (half distance)) later)) ∙ ap (λ l. earlier ++ (l ++ later)) (relative_split opcode register (half distance)) in
+    ap (λ z. stored (earlier ++ (bytes_of (ril_b opcode register 0) ++ later)) (p + 2) (to_be_bytes w32 (half z))) (same_distance base p address offset)
+    ∙ ap (λ l. stored l (p + 2) (to_be_bytes w32 (half distance))) old
+    ∙ stored_between (earlier ++ head) (to_be_bytes w32 0) (to_be_bytes w32 (half distance)) later (p + 2) at refl
+    ∙ new
+
+module _ (base : ℕ) (table : Symbols) (ts : List Tree) (cs : List Constant) where
+  part_filled : (part : Part) (p : ℕ) (earlier later : List ℕ) → p ≡ length earlier → filled base table (part_relocs p part) (earlier ++ (part_bytes (places (unlinked ts cs) ts) p part ++ later)) ≡ earlier ++ (part_bytes (places (linked table base ts cs) ts) p part ++ later)
   part_filled (Row m) p earlier later e = refl
   part_filled (Trapping m byte code) p earlier later e = refl
   part_filled (Branch mask (ToBlock b)) p earlier later e = refl
   part_filled (Branch mask (ToStep k)) p earlier later e = refl
   part_filled (Relative opcode register (ToBlock b)) p earlier later e = refl
   part_filled (Relative opcode register (ToStep k)) p earlier later e = refl
+  part_filled (RelativeConstant opcode register c) p earlier later e = refl
+  part_filled (RelativeSymbol opcode register name offset) p earlier later e = relative_filled base table opcode register p name offset earlier later e
   part_filled (TrapHere code) p earlier later e = refl
   part_filled (TableWord before (ToBlock b)) p earlier later e = refl
   part_filled (TableWord before (ToStep k)) p earlier later e = refl
   part_filled (SymbolValue name offset) p earlier later e = stored_between earlier (to_be_bytes w64 0) (to_be_bytes w64 (symbol_value table name offset)) later p e refl
 
-  parts_filled : (parts : List Part) (p : ℕ) (earlier later : List ℕ) → p ≡ length earlier → filled base table (parts_relocs p parts) (earlier ++ (parts_bytes (function_places ts) p parts ++ later)) ≡ earlier ++ (parts_bytes (linked_places (symbol_value table) ts) p parts ++ later)
+  parts_filled : (parts : List Part) (p : ℕ) (earlier later : List ℕ) → p ≡ length earlier → filled base table (parts_relocs p parts) (earlier ++ (parts_bytes (places (unlinked ts cs) ts) p parts ++ later)) ≡ earlier ++ (parts_bytes (places (linked table base ts cs) ts) p parts ++ later)
   parts_filled [] p earlier later e = refl
   parts_filled (part ∷ parts) p earlier later e =
       let q = p + part_size part in
-      let old = part_bytes (function_places ts) p part in
-      let new = part_bytes (linked_places (symbol_value table) ts) p part in
-      let old_rest = parts_bytes (function_places ts) q parts in
-      let new_rest = parts_bytes (linked_places (symbol_value table) ts) q parts in
-      let at : q ≡ length (earlier ++ new) = omega (arith, e, length-append earlier new, part_length (linked_places (symbol_value table) ts) p part) in
+      let old = part_bytes (places (unlinked ts cs) ts) p part in
+      let new = part_bytes (places (linked table base ts cs) ts) p part in
+      let old_rest = parts_bytes (places (unlinked ts cs) ts) q parts in
+      let new_rest = parts_bytes (places (linked table base ts cs) ts) q parts in
+      let at : q ≡ length (earlier ++ new) = omega (arith, e, length-append earlier new, part_length (places (linked table base ts cs) ts) p part) in
       let rs = parts_relocs q parts in
       filled_append base table (part_relocs p part) rs (earlier ++ ((old ++ old_rest) ++ later))
       ∙ ap (λ l. filled base table rs (filled base table (part_relocs p part) (earlier ++ l))) (append_assoc old old_rest later)
@@ -70,15 +103,15 @@ module _ (base : ℕ) (table : Symbols) (ts : List Tree) where
       ∙ ap (λ l. earlier ++ l) (sym (append_assoc new new_rest later))
 
   steps_filled : (ss : List Step) (k : ℕ) (earlier later : List ℕ) → place (function_steps ts) k ≡ length earlier → Follows (place (function_steps ts)) k ss →
-      filled base table (relocs_from (place (function_steps ts)) k ss) (earlier ++ (code (function_places ts) k ss ++ later)) ≡ earlier ++ (code (linked_places (symbol_value table) ts) k ss ++ later)
+      filled base table (relocs_from (place (function_steps ts)) k ss) (earlier ++ (code (places (unlinked ts cs) ts) k ss ++ later)) ≡ earlier ++ (code (places (linked table base ts cs) ts) k ss ++ later)
   steps_filled [] k earlier later e follow = refl
   steps_filled (s ∷ ss) k earlier later e follow =
       let p = place (function_steps ts) k in
-      let old = step_bytes (function_places ts) p s in
-      let new = step_bytes (linked_places (symbol_value table) ts) p s in
-      let old_rest = code (function_places ts) (k + 1) ss in
-      let new_rest = code (linked_places (symbol_value table) ts) (k + 1) ss in
-      let at : place (function_steps ts) (k + 1) ≡ length (earlier ++ new) = omega (arith, follow.0, e, length-append earlier new, step_length (linked_places (symbol_value table) ts) p s) in
+      let old = step_bytes (places (unlinked ts cs) ts) p s in
+      let new = step_bytes (places (linked table base ts cs) ts) p s in
+      let old_rest = code (places (unlinked ts cs) ts) (k + 1) ss in
+      let new_rest = code (places (linked table base ts cs) ts) (k + 1) ss in
+      let at : place (function_steps ts) (k + 1) ≡ length (earlier ++ new) = omega (arith, follow.0, e, length-append earlier new, step_length (places (linked table base ts cs) ts) p s) in
       let rs = relocs_from (place (function_steps ts)) (k + 1) ss in
       filled_append base table (step_relocs p s) rs (earlier ++ ((old ++ old_rest) ++ later))
       ∙ ap (λ l. filled base table rs (filled base table (step_relocs p s) (earlier ++ l))) (append_assoc old old_rest later)
@@ -88,17 +121,17 @@ module _ (base : ℕ) (table : Symbols) (ts : List Tree) where
       ∙ append_assoc earlier new (new_rest ++ later)
       ∙ ap (λ l. earlier ++ l) (sym (append_assoc new new_rest later))
 
-  pub function_filled : (constants : List ℕ) → filled base table (function_relocs ts) (function_code ts ++ constants) ≡ linked_code (symbol_value table) ts ++ constants
+  pub function_filled : (constants : List ℕ) → filled base table (function_relocs ts) (function_code (unlinked ts cs) ts ++ constants) ≡ function_code (linked table base ts cs) ts ++ constants
   function_filled constants = steps_filled (function_steps ts) 0 [] constants (place_zero (function_steps ts)) (place_follows (function_steps ts))
 
 -- linking leaves the length
-code_length : (P : Places) (k : ℕ) (ss : List Step) → length (code P k ss) ≡ total ss
+pub code_length : (P : Places) (k : ℕ) (ss : List Step) → length (code P k ss) ≡ total ss
 code_length P k [] = refl
 code_length P k (s ∷ ss) = omega (arith, length-append (step_bytes P (P.step k) s) (code P (k + 1) ss), step_length P (P.step k) s, code_length P (k + 1) ss)
 
-pub linked_length : (value : ExternalName → ℤ → ℕ) (ts : List Tree) (constants : List ℕ) → length (linked_code value ts ++ constants) ≡ length (function_code ts ++ constants)
-linked_length value ts constants =
-    omega (arith, length-append (linked_code value ts) constants, length-append (function_code ts) constants, code_length (linked_places value ts) 0 (function_steps ts), code_length (function_places ts) 0 (function_steps ts))
+pub linked_length : (before after : Outside) (ts : List Tree) (constants : List ℕ) → length (function_code after ts ++ constants) ≡ length (function_code before ts ++ constants)
+linked_length before after ts constants =
+    omega (arith, length-append (function_code after ts) constants, length-append (function_code before ts) constants, code_length (places after ts) 0 (function_steps ts), code_length (places before ts) 0 (function_steps ts))
 
 -- ---- the fields lie in the code
 
@@ -108,6 +141,8 @@ parts_lie (part ∷ parts) p n le = All-append (LiesIn n) (part_relocs p part) (
   where
     part_lies : (part : Part) (p n : ℕ) → p + part_size part ≤ n → All (LiesIn n) (part_relocs p part)
     part_lies (SymbolValue name offset) p n le = All-push (LiesIn n) [] _ (All-nil (LiesIn n)) le
+    part_lies (RelativeConstant opcode register c) p n le = All-nil (LiesIn n)
+    part_lies (RelativeSymbol opcode register name offset) p n le = All-push (LiesIn n) [] _ (All-nil (LiesIn n)) (omega arith)
     part_lies (Row m) p n le = All-nil (LiesIn n)
     part_lies (Trapping m byte code) p n le = All-nil (LiesIn n)
     part_lies (Branch mask target) p n le = All-nil (LiesIn n)
@@ -123,7 +158,8 @@ steps_lie at k n (s ∷ ss) follow le =
 pub relocs_lie : (ts : List Tree) (cs : List Constant) (f : MachBufferFinalized) → IsImage ts cs f → All (LiesIn (length f.bytes.items)) f.relocs.items
 relocs_lie ts cs f image =
     let ss = function_steps ts in
-    let constants = constant_bytes (length (function_code ts)) cs in
+    let constants = constant_bytes (blocks_size ts) cs in
+    let code = function_code (unlinked ts cs) ts in
     let n = length f.bytes.items in
-    let size : total ss ≤ n = omega (arith, ap length image.bytes, length-append (function_code ts) constants, code_length (function_places ts) 0 ss) in
+    let size : total ss ≤ n = omega (arith, ap length image.bytes, length-append code constants, code_length (places (unlinked ts cs) ts) 0 ss) in
     subst (All (LiesIn n)) (sym image.relocs) (steps_lie (place ss) 0 n ss (place_follows ss) (omega (arith, place_zero ss)))

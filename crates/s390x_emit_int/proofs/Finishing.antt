@@ -1,50 +1,41 @@
 -- After a check that found no cause, a buffer can be finished.
-use Rattle.std.proofs.Common.{◌≡◌, ℕ, ◌+◌, ◌%◌, ◌<◌, ◌≤◌, ◌⊎◌, inl, inr, List, [], ◌∷◌, length, get_or, Bool, true, cond, nat_lt, nat_le, nat_eq, Option, Result, Ok, Err, MatchResult, refl, sym, ap, ◌∙◌, subst, arith, length-append, None, Some}
+use Rattle.std.proofs.Common.{◌≡◌, ℕ, ◌+◌, ◌-◌, ◌%◌, ◌<◌, ◌≤◌, ◌⊎◌, inl, inr, List, [], ◌∷◌, length, get_or, Bool, true, cond, nat_lt, nat_le, nat_eq, Option, Result, Ok, Err, MatchResult, refl, sym, ap, ◌∙◌, subst, arith, length-append, None, Some}
 use Rattle.std.specs.Prelude.{is_some}
-use Rattle.std.proofs.lemmas.Bool.{and_from, ltb-true, lt-ltb, le-leb, eq-eqb}
-use Rattle.std.proofs.lemmas.List.{length-replicate}
+use Rattle.std.proofs.lemmas.Bool.{cases_lt, and_from, ltb-true, lt-ltb, le-leb, eq-eqb}
+use Rattle.std.proofs.lemmas.List.{length-map, length-replicate}
 use Rattle.std.proofs.lemmas.List.Elements.{All-replicate, All-get_or}
 use Rattle.s390x_inst.specs.declared.state.IsaFlags.{IsaFlags}
 use Rattle.s390x_base.specs.declared.error.EmitError.{EmitError}
 use Rattle.s390x_base.specs.declared.error.EmitError.TheVariants.{LabelOutOfRange, UnboundLabel, Failed, NoMemory}
-use Rattle.s390x_buffer.specs.State.{State, Constant, fresh, limit, new_cause, put_cause}
+use Rattle.s390x_buffer.specs.State.{State, Constant, fresh, limit, all_aligned, new_cause, put_cause}
 use Rattle.s390x_buffer.specs.Patch.{first as first_use, place_of, place_in, is_bound, word, flipped, sum_fits, is_in_reach, can_patch, use_cause, uses_cause, patch, patch_size, patch_use}
 use Rattle.s390x_buffer.specs.Branches.{field_end}
 use Rattle.s390x_buffer.proofs.Branching.{patch_other}
-use Rattle.s390x_buffer.specs.Constants.{constant_bytes, constants_end}
+use Rattle.s390x_buffer.specs.Constants.{constant_starts, constant_bytes, constants_end}
 use Rattle.s390x_buffer.specs.Finish.{final_labels, finished_length, starts_of_constants, unpatched, length_cause as long_cause, patch_cause, BlamesEither, finish_cause}
 use Rattle.s390x_buffer.specs.declared.entries.LabelFixup.{LabelFixup}
 use Rattle.s390x_buffer.specs.declared.label_use.LabelUse.{LabelUse}
 use Rattle.s390x_buffer.specs.declared.label_use.LabelUse.TheVariants.{BranchRI, BranchRIL, PCRel32, PCRel32Dbl}
 use Rattle.s390x_buffer.proofs.Placing.{length-constant_bytes, end-ge}
 use Rattle.s390x_steps.specs.Tree.{Tree}
-use Rattle.s390x_steps.specs.Causes.{draws, blocks_cause}
+use Rattle.s390x_steps.specs.Causes.{declared_of, draws, blocks_cause}
 use Rattle.s390x_steps.specs.Sizes.{blocks_size}
 use Rattle.s390x_steps.proofs.Causes.{first_left, first_right, unless_true}
 use Rattle.s390x_emit_int.specs.Function.{checked_cause, length_cause}
-use Rattle.s390x_emit_int.specs.Pieces.{Piece, apply, run, Put, PutTrapping, PutReloc, Link, Step, Draw, Bind}
+use Rattle.s390x_emit_int.specs.Pieces.{Piece, apply, run, Put, PutTrapping, PutReloc, Link, LinkConstant, Step, Draw, Bind}
 use Rattle.s390x_emit_int.specs.Emission.{pieces, function_pieces}
 use Rattle.s390x_emit_int.specs.Resolve.{put_length}
+use Rattle.s390x_emit_int.specs.Bound.{TreesName}
+use Rattle.s390x_emit_int.proofs.Constants.{aligned_constants, starts_of, middle_label}
 use Rattle.s390x_emit_int.proofs.Closing.{blocks_closed, drawn_closed}
 use Rattle.s390x_emit_int.proofs.Functions.{block_state, bound_state, block_labels, function_put}
-use Rattle.s390x_emit_int.proofs.Imaging.{low_label, high_label, length-starts}
+use Rattle.s390x_emit_int.proofs.Imaging.{bytes_run, low_label, high_label, length-starts}
 use Rattle.s390x_emit_int.proofs.Lacking.{put_none}
 use Rattle.s390x_emit_int.proofs.Names.{all_names}
 use Rattle.s390x_emit_int.proofs.Orderly.{AllSound, all_draws, function_sound, Stands, BearsUse, UsesStand, SameFrom, uses_still, same_append, Orderly, orderly_run}
 use Rattle.s390x_emit_int.proofs.Patching.{length-patch}
 use Rattle.s390x_emit_int.proofs.Runs.{run-append}
 use Rattle.s390x_emit_int.proofs.Starts.{Same, same_run}
-
--- how long the bytes become
-bytes_run : (ps : List Piece) (s : State) → length (run s ps).bytes ≡ length s.bytes + put_length ps
-bytes_run [] s = omega arith
-bytes_run (Put bs ∷ ps) s = omega (arith, bytes_run ps (apply s (Put bs)), length-append s.bytes bs)
-bytes_run (PutReloc bs kind name addend ∷ ps) s = omega (arith, bytes_run ps (apply s (PutReloc bs kind name addend)), length-append s.bytes bs)
-bytes_run (PutTrapping bs byte code ∷ ps) s = omega (arith, bytes_run ps (apply s (PutTrapping bs byte code)), length-append s.bytes bs)
-bytes_run (Link k l bs ∷ ps) s = omega (arith, bytes_run ps (apply s (Link k l bs)), length-append s.bytes bs)
-bytes_run (Step ∷ ps) s = bytes_run ps (apply s Step)
-bytes_run (Draw ∷ ps) s = bytes_run ps (apply s Draw)
-bytes_run (Bind l ∷ ps) s = bytes_run ps (apply s (Bind l))
 
 -- how many labels there are in the end
 labels_run : (ts : List Tree) (s : State) (n b : ℕ) → n ≡ length s.labels → length (run s (function_pieces n b ts)).labels ≡ n + all_draws ts
@@ -125,9 +116,20 @@ used_of labels all l n e bound stands lt =
       near = omega (arith, same, p.1);
     }
 
--- the labels that instructions name: those of blocks, and those that were drawn
-abbrev pub IsNamed : (blocks base count : ℕ) → ℕ → Type 0
-IsNamed blocks base count l = (l < blocks) ⊎ ((base ≤ l) × (l < count))
+-- a constant's label is bound where it starts
+constant_used : (cs : List Constant) (n c : ℕ) (labels : List (Option ℕ)) (l : ℕ) → all_aligned cs ≡ true → c < length cs → get_or labels l None ≡ Some (get_or (constant_starts n cs) c 0) → constants_end n cs < limit → CanBeUsed labels l
+constant_used cs n c labels l all lt e below =
+    let s = starts_of cs n c all lt in
+    let same : place_in labels l ≡ get_or (constant_starts n cs) c 0 = ap place_of e in
+    record {
+      bound = ap is_some e;
+      even = ap (λ x. x % 2) same ∙ s.on.0;
+      near = omega (arith, same, s.below, below);
+    }
+
+-- the labels that instructions name: those of blocks, those of constants, and those that were drawn
+abbrev pub IsNamed : (count : ℕ) → ℕ → Type 0
+IsNamed count l = l < count
 
 pub record CanFinish (u : State) : Type 0 where
   pub short : long_cause u ≡ None
@@ -141,18 +143,20 @@ can_finish flags ts cs u0 is fine =
     let ps = function_pieces n 0 ts in
     let u = run s0 ps in
     let rest = first_right (new_cause b cs) _ fine in
-    let blocks : blocks_cause flags b n ts ≡ None = first_left _ _ rest in
-    let long : length_cause ts cs ≡ None = first_right (blocks_cause flags b n ts) _ rest in
+    let aligned : all_aligned cs ≡ true = aligned_constants _ _ _ (first_left (new_cause b cs) _ fine) in
+    let blocks : blocks_cause flags (declared_of ts cs) n ts ≡ None = first_left _ _ rest in
+    let long : length_cause ts cs ≡ None = first_right (blocks_cause flags (declared_of ts cs) n ts) _ rest in
     let same : Same s0 u = same_run ps s0 in
     let drawn : length s0.labels ≡ n = length-replicate n None in
     let count : length u.labels ≡ n + all_draws ts = labels_run ts s0 n 0 (sym drawn) in
     let size : length u.bytes ≡ blocks_size ts = bytes_run ps s0 ∙ (omega (arith, function_put ts n 0)) in
     let ends : finished_length u ≡ constants_end (blocks_size ts) cs = ap (λ x. constants_end (length u.bytes) x) same.constants ∙ ap (λ m. constants_end m cs) size in
     let below : constants_end (blocks_size ts) cs < limit = ltb-true (constants_end (blocks_size ts) cs) limit (unless_true (nat_lt (constants_end (blocks_size ts) cs) limit) LabelOutOfRange long) in
-    let May = IsNamed b n (n + all_draws ts) in
-    let sound : AllSound May 0 ps = function_sound May ts n 0 b (all_names flags b n ts blocks) (λ l lt. inl lt) (λ l lo hi. inr (lo, hi)) (omega arith) in
+    let May = IsNamed (n + all_draws ts) in
+    let names : TreesName b (length cs) ts = subst (λ k. TreesName b k ts) (length-map cs (λ (c : Constant). c.align)) (all_names flags (declared_of ts cs) n ts blocks) in
+    let sound : AllSound May b 0 ps = function_sound May ts n 0 b (length cs) names (λ l lt. omega arith) (λ c lt. omega arith) (λ l lo hi. hi) (omega arith) in
     let begins : Orderly May s0 = record { even = refl; labels = All-replicate (Stands 0) n None tt; uses = tt } in
-    let orderly : Orderly May u = orderly_run May ps s0 0 (omega arith) sound begins in
+    let orderly : Orderly May u = orderly_run May ps s0 b 0 refl (omega arith) sound begins in
     let full : length (unpatched u) ≡ finished_length u = length-append u.bytes (constant_bytes (length u.bytes) u.constants) ∙ length-constant_bytes (length u.bytes) u.constants in
     let far : length u.bytes ≤ length (unpatched u) = omega (arith, length-append u.bytes (constant_bytes (length u.bytes) u.constants)) in
     let short : length (unpatched u) < limit = omega (arith, full, ends, below) in
@@ -161,9 +165,24 @@ can_finish flags ts cs u0 is fine =
     let held : u.block_count ≡ b = same.block_count in
     let enough : u.block_count ≤ length u.labels = omega (arith, held, count) in
     let stands : (l : ℕ) → l < length u.labels → Stands (length u.bytes) (get_or u.labels l None) = λ l lt. All-get_or (Stands (length u.bytes)) u.labels l None lt orderly.labels in
-    let named : (l : ℕ) → May l → CanBeUsed (final_labels u) l = λ l may. elim may [
-      | inl lt ↦ used_of u.labels (final_labels u) l (length u.bytes) (low_label u.block_count (starts_of_constants u) u.labels l (omega (arith, held)) enough) (blocks_closed ts s0 n 0 l (sym drawn) (omega arith) (omega arith) (omega arith)) (stands l (omega (arith, count))) near
-      | inr among ↦ used_of u.labels (final_labels u) l (length u.bytes) (high_label u.block_count (starts_of_constants u) u.labels l (omega (arith, held, starts, among.0)) enough) (drawn_closed ts s0 n 0 l (sym drawn) (omega arith) among.0 (omega (arith, count, among.1))) (stands l (omega (arith, count, among.1))) near
+    let block : (l : ℕ) → l < b → CanBeUsed (final_labels u) l = λ l lt.
+    used_of u.labels (final_labels u) l (length u.bytes) (low_label u.block_count (starts_of_constants u) u.labels l (omega (arith, held)) enough) (blocks_closed ts s0 n 0 l (sym drawn) (omega arith) (omega arith) (omega arith)) (stands l (omega (arith, count))) near in
+    let constant : (c : ℕ) → c < length cs → CanBeUsed (final_labels u) (b + c) = λ c lt.
+    let bound : get_or (final_labels u) (b + c) None ≡ Some (get_or (constant_starts (blocks_size ts) cs) c 0) =
+    ap (λ m. get_or (final_labels u) (m + c) None) (sym held)
+    ∙ middle_label u.block_count (starts_of_constants u) u.labels c (omega (arith, starts)) enough
+    ∙ ap (λ m. Some (get_or (constant_starts m u.constants) c 0)) size
+    ∙ ap (λ x. Some (get_or (constant_starts (blocks_size ts) x) c 0)) same.constants in
+    constant_used cs (blocks_size ts) c (final_labels u) (b + c) aligned lt bound below in
+    let fresh_one : (l : ℕ) → n ≤ l → l < n + all_draws ts → CanBeUsed (final_labels u) l = λ l lo hi.
+    used_of u.labels (final_labels u) l (length u.bytes) (high_label u.block_count (starts_of_constants u) u.labels l (omega (arith, held, starts, lo)) enough) (drawn_closed ts s0 n 0 l (sym drawn) (omega arith) lo (omega (arith, count, hi))) (stands l (omega (arith, count, hi))) near in
+    let named : (l : ℕ) → May l → CanBeUsed (final_labels u) l = λ l may.
+    elim (cases_lt l b) [
+      | inl lt ↦ block l lt
+      | inr ge ↦ elim (cases_lt l n) [
+        | inl lt ↦ let back : b + (l - b) ≡ l = omega arith in subst (CanBeUsed (final_labels u)) back (constant (l - b) (omega arith))
+        | inr ge2 ↦ fresh_one l ge2 may
+      ]
     ] in
     let done : CanFinish u = record {
       short = ap (λ f. cond f (Some Failed) (cond (nat_lt (finished_length u) limit) None (Some LabelOutOfRange))) same.failed ∙ ap (λ t. cond t None (Some LabelOutOfRange)) (lt-ltb (finished_length u) limit (omega (arith, ends, below)));
@@ -184,6 +203,6 @@ finished_or_lacks P R (Some c) b (Err e) m ha hb f = absurd (cc)
 pub fresh_takes : (flags : IsaFlags) (ts : List Tree) (cs : List Constant) → checked_cause flags ts cs ≡ None → put_cause (fresh (length ts) cs) (blocks_size ts) ≡ None
 fresh_takes flags ts cs fine =
     let rest = first_right (new_cause (length ts) cs) _ fine in
-    let long : length_cause ts cs ≡ None = first_right (blocks_cause flags (length ts) (length ts + length cs) ts) _ rest in
+    let long : length_cause ts cs ≡ None = first_right (blocks_cause flags (declared_of ts cs) (length ts + length cs) ts) _ rest in
     let below : constants_end (blocks_size ts) cs < limit = ltb-true (constants_end (blocks_size ts) cs) limit (unless_true (nat_lt (constants_end (blocks_size ts) cs) limit) LabelOutOfRange long) in
     put_none (fresh (length ts) cs) (blocks_size ts) refl (omega (arith, below, end-ge (blocks_size ts) cs))

@@ -8,12 +8,12 @@ use Rattle.s390x_inst.specs.declared.inst.Inst.TheVariants.{CondBreak, JTSequenc
 use Rattle.s390x_steps.specs.Tree.{Tree, empty, leaf, looped}
 use Rattle.s390x_steps.specs.Steps.{Step as TypedStep, step_count, steps_of, steps_from, first_step}
 use Rattle.s390x_steps.specs.MachineInstruction.{ril_b, ril_c, bytes_of}
-use Rattle.s390x_steps.specs.Parts.{Part, Row, Trapping, Branch, Relative, SymbolValue, TrapHere, TableWord, ToBlock, ToStep, table_words, instruction_parts, step_size}
+use Rattle.s390x_steps.specs.Parts.{Part, Row, Trapping, Branch, Relative, RelativeConstant, RelativeSymbol, SymbolValue, TrapHere, TableWord, ToBlock, ToStep, table_words, instruction_parts, step_size}
 use Rattle.s390x_steps.specs.Rows.{Places}
 use Rattle.s390x_steps.specs.Image.{place, code, step_places, block_places}
 use Rattle.s390x_steps.specs.Sizes.{tree_size, blocks_size}
 use Rattle.s390x_steps.specs.Causes.{instruction_draws, draws}
-use Rattle.s390x_emit_int.specs.Pieces.{Piece, apply, run, Put, PutTrapping, PutReloc, Link, Step, Draw, Bind}
+use Rattle.s390x_emit_int.specs.Pieces.{Piece, apply, run, Put, PutTrapping, PutReloc, Link, LinkConstant, Step, Draw, Bind}
 use Rattle.s390x_emit_int.specs.Emission.{part_pieces, leaf_pieces, back_pieces, pieces, function_pieces}
 use Rattle.s390x_emit_int.specs.Resolve.{resolve, put_length, Wide}
 use Rattle.s390x_emit_int.specs.Bound.{Follows, TreesName, AllBound}
@@ -26,9 +26,10 @@ use Rattle.s390x_emit_int.proofs.Starts.{marks, marks_append, tree_marks, places
 wide_append : (a b : List Piece) → Wide a → Wide b → Wide (a ++ b)
 wide_append [] b v w = w
 wide_append (Put bs ∷ a) b v w = wide_append a b v w
-wide_append (PutReloc bs kind name addend ∷ a) b v w = wide_append a b v w
+wide_append (PutReloc bs byte kind name addend ∷ a) b v w = wide_append a b v w
 wide_append (PutTrapping bs byte code ∷ a) b v w = wide_append a b v w
 wide_append (Link k l bs ∷ a) b v w = (v.0, wide_append a b v.1 w)
+wide_append (LinkConstant c bs ∷ a) b v w = (v.0, wide_append a b v.1 w)
 wide_append (Step ∷ a) b v w = wide_append a b v w
 wide_append (Draw ∷ a) b v w = wide_append a b v w
 wide_append (Bind l ∷ a) b v w = wide_append a b v w
@@ -47,6 +48,8 @@ parts_wide (Branch mask (ToBlock b) ∷ parts) = (wide_branch mask, parts_wide p
 parts_wide (Branch mask (ToStep k) ∷ parts) = (wide_branch mask, parts_wide parts)
 parts_wide (Relative opcode register (ToBlock b) ∷ parts) = (wide_relative opcode register, parts_wide parts)
 parts_wide (Relative opcode register (ToStep k) ∷ parts) = (wide_relative opcode register, parts_wide parts)
+parts_wide (RelativeConstant opcode register c ∷ parts) = (wide_relative opcode register, parts_wide parts)
+parts_wide (RelativeSymbol opcode register name offset ∷ parts) = parts_wide parts
 parts_wide (SymbolValue name offset ∷ parts) = parts_wide parts
 parts_wide (TrapHere code ∷ parts) = parts_wide parts
 parts_wide (TableWord before (ToBlock b) ∷ parts) = (omega arith, parts_wide parts)
@@ -140,19 +143,19 @@ next_block t ts at k follow =
     let e : k + length (steps_of k 0 t) ≡ k + step_count t = ap (λ m. k + m) (steps_length t k 0) in
     (follows_end at (steps_of k 0 t) k (k + step_count t) e (follows_left at (steps_of k 0 t) (steps_from (k + step_count t) ts) k follow) ∙ ap (λ m. at k + m) (steps_total t k 0), follows_right at (steps_of k 0 t) (steps_from (k + step_count t) ts) k (k + step_count t) e follow)
 
-pub function_join : (ts : List Tree) (off : ℕ → ℕ) (P : Places) (blocks n b k : ℕ) → Agrees off P blocks → TreesName blocks ts → AllBound off n b (P.step k) ts → Follows P.step k (steps_from k ts) → off 0 ≡ P.step 0 → resolve off (P.step k) (function_pieces n b ts) ≡ code P k (steps_from k ts)
-function_join [] off P blocks n b k agree names bound follow zero_at = refl
-function_join (t ∷ ts) off P blocks n b k agree names bound follow zero_at =
+pub function_join : (ts : List Tree) (off : ℕ → ℕ) (P : Places) (blocks constants n b k : ℕ) → Agrees off P blocks constants → TreesName blocks constants ts → AllBound off n b (P.step k) ts → Follows P.step k (steps_from k ts) → off 0 ≡ P.step 0 → resolve blocks off (P.step k) (function_pieces n b ts) ≡ code P k (steps_from k ts)
+function_join [] off P blocks constants n b k agree names bound follow zero_at = refl
+function_join (t ∷ ts) off P blocks constants n b k agree names bound follow zero_at =
     let at = P.step in
     let f = next_block t ts at k follow in
     let rest = function_pieces (n + draws t) (b + 1) ts in
     let k2 = k + step_count t in
-    let here = tree_join t off P blocks n 0 k 0 agree names.0 bound.1 (follows_left at (steps_of k 0 t) (steps_from k2 ts) k follow) zero_at in
-    let there = function_join ts off P blocks (n + draws t) (b + 1) k2 agree names.1 (subst (λ m. AllBound off (n + draws t) (b + 1) m ts) (sym f.0) bound.2) f.1 zero_at in
-    resolve-append off (pieces n 0 t) rest (at k)
-    ∙ ap (λ m. resolve off (at k) (pieces n 0 t) ++ resolve off (at k + m) rest) (tree_put n 0 t)
-    ∙ ap (λ m. resolve off (at k) (pieces n 0 t) ++ resolve off m rest) (sym f.0)
-    ∙ ap (λ l. l ++ resolve off (at k2) rest) here
+    let here = tree_join t off P blocks constants n 0 k 0 agree names.0 bound.1 (follows_left at (steps_of k 0 t) (steps_from k2 ts) k follow) zero_at in
+    let there = function_join ts off P blocks constants (n + draws t) (b + 1) k2 agree names.1 (subst (λ m. AllBound off (n + draws t) (b + 1) m ts) (sym f.0) bound.2) f.1 zero_at in
+    resolve-append blocks off (pieces n 0 t) rest (at k)
+    ∙ ap (λ m. resolve blocks off (at k) (pieces n 0 t) ++ resolve blocks off (at k + m) rest) (tree_put n 0 t)
+    ∙ ap (λ m. resolve blocks off (at k) (pieces n 0 t) ++ resolve blocks off m rest) (sym f.0)
+    ∙ ap (λ l. l ++ resolve blocks off (at k2) rest) here
     ∙ ap (λ l. code P k (steps_of k 0 t) ++ l) there
     ∙ ap (λ m. code P k (steps_of k 0 t) ++ code P m (steps_from k2 ts)) (sym (ap (λ m. k + m) (steps_length t k 0)))
     ∙ sym (code_append P (steps_of k 0 t) (steps_from k2 ts) k)

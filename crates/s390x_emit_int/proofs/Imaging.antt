@@ -3,7 +3,7 @@ use Rattle.std.proofs.Common.{◌≡◌, ℕ, suc, ◌+◌, ◌-◌, ◌<◌, �
 use Rattle.std.proofs.lemmas.List.{length-map, length-replicate, get_or_append_left, get_or-append-add, get_or-take, get_or-drop}
 use Rattle.s390x_inst.specs.Emission.{Emission}
 use Rattle.s390x_inst.specs.declared.state.IsaFlags.{IsaFlags}
-use Rattle.s390x_buffer.specs.State.{State, Constant, fresh}
+use Rattle.s390x_buffer.specs.State.{State, Constant, fresh, constant_label}
 use Rattle.s390x_buffer.specs.Patch.{place_in, place_of}
 use Rattle.s390x_buffer.specs.Constants.{constant_start, constant_starts, constant_bytes, constants_end, greatest_align}
 use Rattle.s390x_buffer.specs.Finish.{Finished, bind_constants, final_labels, starts_of_constants, placed_site}
@@ -14,22 +14,37 @@ use Rattle.s390x_steps.specs.Ranges.{AllInRange, BlocksInRange}
 use Rattle.s390x_emit_int.specs.Room.{HasRoom}
 use Rattle.s390x_inst.specs.declared.inst.Inst.{Inst}
 use Rattle.s390x_steps.specs.Steps.{function_steps, first_step}
-use Rattle.s390x_steps.specs.Image.{place, function_places, function_code}
-use Rattle.s390x_steps.specs.Causes.{draws, blocks_cause}
-use Rattle.s390x_emit_int.specs.Pieces.{Piece, apply, run, Put, PutTrapping, PutReloc, Link, Step, Draw, Bind}
+use Rattle.s390x_steps.specs.Image.{place, places, constant_place, unlinked, function_code}
+use Rattle.s390x_steps.specs.Sizes.{blocks_size}
+use Rattle.s390x_steps.specs.Causes.{declared_of, draws, blocks_cause}
+use Rattle.s390x_emit_int.specs.Pieces.{Piece, apply, run, Put, PutTrapping, PutReloc, Link, LinkConstant, Step, Draw, Bind}
 use Rattle.s390x_emit_int.specs.Emission.{pieces, function_pieces}
-use Rattle.s390x_emit_int.specs.Resolve.{resolve, Wide, Within}
+use Rattle.s390x_emit_int.specs.Resolve.{resolve, put_length, Wide, Within}
 use Rattle.s390x_emit_int.specs.Bound.{TreesName, AllBound}
 use Rattle.s390x_emit_int.specs.Function.{IsImage, tree_of}
 use Rattle.s390x_emit_int.proofs.Runs.{run-append}
 use Rattle.s390x_emit_int.proofs.Patching.{patched, patched_run, all_left, length-patch_all, within_more, within_append}
 use Rattle.s390x_emit_int.proofs.Names.{all_names}
 use Rattle.s390x_emit_int.proofs.Starts.{Same, same_run, starts_run, marks}
-use Rattle.s390x_emit_int.proofs.Functions.{function_wide, TellsBlocks, all_bound, function_join, function_marks, block_at, blocks_upto, places_upto, place_follows, place_zero, bound_state, block_state, block_labels, block_kept, longer}
+use Rattle.s390x_emit_int.proofs.Functions.{function_wide, TellsBlocks, all_bound, function_join, function_marks, block_at, blocks_upto, places_upto, place_follows, place_zero, bound_state, block_state, block_labels, block_kept, longer, function_put}
+use Rattle.s390x_emit_int.proofs.Constants.{middle_label}
 use Rattle.s390x_emit_int.proofs.Relocating.{relocated, relocs_run, function_relocated}
 use Rattle.s390x_emit_int.proofs.Recording.{recorded, traps_run, function_recorded}
 use Rattle.s390x_buffer.specs.declared.entries.LabelFixup.{LabelFixup}
+use Rattle.s390x_buffer.specs.declared.label_use.LabelUse.TheVariants.{BranchRIL}
 use Rattle.s390x_buffer.proofs.Placing.{length-constant_bytes}
+
+-- how long the bytes become
+pub bytes_run : (ps : List Piece) (s : State) → length (run s ps).bytes ≡ length s.bytes + put_length ps
+bytes_run [] s = omega arith
+bytes_run (Put bs ∷ ps) s = omega (arith, bytes_run ps (apply s (Put bs)), length-append s.bytes bs)
+bytes_run (PutReloc bs byte kind name addend ∷ ps) s = omega (arith, bytes_run ps (apply s (PutReloc bs byte kind name addend)), length-append s.bytes bs)
+bytes_run (PutTrapping bs byte code ∷ ps) s = omega (arith, bytes_run ps (apply s (PutTrapping bs byte code)), length-append s.bytes bs)
+bytes_run (Link k l bs ∷ ps) s = omega (arith, bytes_run ps (apply s (Link k l bs)), length-append s.bytes bs)
+bytes_run (LinkConstant c bs ∷ ps) s = omega (arith, bytes_run ps (apply s (LinkConstant c bs)), length-append s.bytes bs)
+bytes_run (Step ∷ ps) s = bytes_run ps (apply s Step)
+bytes_run (Draw ∷ ps) s = bytes_run ps (apply s Draw)
+bytes_run (Bind l ∷ ps) s = bytes_run ps (apply s (Bind l))
 
 -- the uses lie within the bytes
 within_run : (ps : List Piece) (s : State) → Within (length s.bytes) s.uses → Wide ps → Within (length (run s ps).bytes) (run s ps).uses
@@ -37,9 +52,9 @@ within_run [] s w h = w
 within_run (Put bs ∷ ps) s w h =
     let n = length-append s.bytes bs in
     within_run ps (apply s (Put bs)) (within_more (length s.bytes) (length (s.bytes ++ bs)) s.uses (omega (arith, n)) w) h
-within_run (PutReloc bs kind name addend ∷ ps) s w h =
+within_run (PutReloc bs byte kind name addend ∷ ps) s w h =
     let n = length-append s.bytes bs in
-    within_run ps (apply s (PutReloc bs kind name addend)) (within_more (length s.bytes) (length (s.bytes ++ bs)) s.uses (omega (arith, n)) w) h
+    within_run ps (apply s (PutReloc bs byte kind name addend)) (within_more (length s.bytes) (length (s.bytes ++ bs)) s.uses (omega (arith, n)) w) h
 within_run (PutTrapping bs byte code ∷ ps) s w h =
     let n = length-append s.bytes bs in
     within_run ps (apply s (PutTrapping bs byte code)) (within_more (length s.bytes) (length (s.bytes ++ bs)) s.uses (omega (arith, n)) w) h
@@ -47,6 +62,10 @@ within_run (Link k l bs ∷ ps) s w h =
     let n = length-append s.bytes bs in
     let u : LabelFixup = record { kind = k; offset = length s.bytes; label = record { 0 = l } } in
     within_run ps (apply s (Link k l bs)) (within_append (length (s.bytes ++ bs)) s.uses u (within_more (length s.bytes) (length (s.bytes ++ bs)) s.uses (omega (arith, n)) w) (omega (arith, n, h.0))) h.1
+within_run (LinkConstant c bs ∷ ps) s w h =
+    let n = length-append s.bytes bs in
+    let u : LabelFixup = record { kind = BranchRIL; offset = length s.bytes; label = record { 0 = constant_label s c } } in
+    within_run ps (apply s (LinkConstant c bs)) (within_append (length (s.bytes ++ bs)) s.uses u (within_more (length s.bytes) (length (s.bytes ++ bs)) s.uses (omega (arith, n)) w) (omega (arith, n, h.0))) h.1
 within_run (Step ∷ ps) s w h = within_run ps (apply s Step) w h
 within_run (Draw ∷ ps) s w h = within_run ps (apply s Draw) w h
 within_run (Bind l ∷ ps) s w h = within_run ps (apply s (Bind l)) w h
@@ -77,16 +96,18 @@ pub length-starts : (n : ℕ) (cs : List Constant) → length (constant_starts n
 length-starts n [] = refl
 length-starts n (c ∷ cs) = ap suc (length-starts (constant_start n c + length c.bytes) cs)
 
-code_is : (ts : List Tree) (off : ℕ → ℕ) (n : ℕ) → ((l : ℕ) → l < length ts → off l ≡ (function_places ts).block l) → TreesName (length ts) ts → AllBound off n 0 (place (function_steps ts) 0) ts → resolve off 0 (function_pieces n 0 ts) ≡ function_code ts
-code_is [] off n agree names bound = refl
-code_is (t ∷ ts) off n agree names bound =
+code_is : (ts : List Tree) (cs : List Constant) (off : ℕ → ℕ) (n : ℕ) → ((l : ℕ) → l < length ts → off l ≡ (places (unlinked ts cs) ts).block l) → ((c : ℕ) → c < length cs → off (length ts + c) ≡ constant_place ts cs c) →
+    TreesName (length ts) (length cs) ts → AllBound off n 0 (place (function_steps ts) 0) ts → resolve (length ts) off 0 (function_pieces n 0 ts) ≡ function_code (unlinked ts cs) ts
+code_is [] cs off n agree held names bound = refl
+code_is (t ∷ ts) cs off n agree held names bound =
     let all = function_steps (t ∷ ts) in
-    ap (λ m. resolve off m (function_pieces n 0 (t ∷ ts))) (sym (place_zero all)) ∙ function_join (t ∷ ts) off (function_places (t ∷ ts)) (length (t ∷ ts)) n 0 0 (agree, λ name offset. refl) names bound (place_follows all) bound.0
+    ap (λ m. resolve (length (t ∷ ts)) off m (function_pieces n 0 (t ∷ ts))) (sym (place_zero all))
+    ∙ function_join (t ∷ ts) off (places (unlinked (t ∷ ts) cs) (t ∷ ts)) (length (t ∷ ts)) (length cs) n 0 0 (agree, held, λ name offset. refl, λ p name offset. refl) names bound (place_follows all) bound.0
 
 -- what was emitted, as one buffer has it
 pub record Emitted (flags : IsaFlags) (ts : List Tree) (cs : List Constant) (u : State) : Type 0 where
   pub is : u ≡ run (fresh (length ts) cs) (function_pieces (length ts + length cs) 0 ts)
-  pub fine : blocks_cause flags (length ts) (length ts + length cs) ts ≡ None
+  pub fine : blocks_cause flags (declared_of ts cs) (length ts + length cs) ts ≡ None
 
 pub image_of : (flags : IsaFlags) (ts : List Tree) (cs : List Constant) (u : State) (f : MachBufferFinalized) → Emitted flags ts cs u → Finished u f → IsImage ts cs f
 image_of flags ts cs u0 f emitted fin0 =
@@ -110,18 +131,26 @@ image_of flags ts cs u0 f emitted fin0 =
     let tells : (l : ℕ) → n ≤ l → l < length u.labels → off l ≡ place_in u.labels l = λ l lo hi. let le : u.block_count + length (starts_of_constants u) ≤ l = omega arith in ap place_of (high_label u.block_count (starts_of_constants u) u.labels l le enough) in
     let bound0 : AllBound off n 0 0 ts = all_bound ts s0 n 0 off (sym drawn) (omega arith) blocks tells in
     let bound : AllBound off n 0 (at 0) ts = subst (λ m. AllBound off n 0 m ts) (sym (place_zero all)) bound0 in
-    let agree : (l : ℕ) → l < b → off l ≡ (function_places ts).block l = λ l h. ap off (sym (zero-add l)) ∙ block_at ts off at n 0 0 l bound follow h ∙ ap at (zero-add (first_step ts l)) in
+    let agree : (l : ℕ) → l < b → off l ≡ (places (unlinked ts cs) ts).block l = λ l h. ap off (sym (zero-add l)) ∙ block_at ts off at n 0 0 l bound follow h ∙ ap at (zero-add (first_step ts l)) in
     let wide : Wide ps = function_wide ts n 0 in
     let within : Within (length u.bytes) u.uses = within_run ps s0 tt wide in
-    let body : patched off u ≡ function_code ts = patched_run ps s0 off tt wide ∙ code_is ts off n agree (all_names flags b n ts emitted.fine) bound in
-    let size : length u.bytes ≡ length (function_code ts) = sym (length-patch_all off u.uses u.bytes) ∙ ap length body in
-    let whole : f.bytes.items ≡ function_code ts ++ constant_bytes (length (function_code ts)) cs = fin.bytes ∙ all_left off u.uses u.bytes (constant_bytes (length u.bytes) u.constants) within ∙ ap (λ l. l ++ constant_bytes (length u.bytes) u.constants) body ∙ ap (λ m. function_code ts ++ constant_bytes m u.constants) size ∙ ap (λ x. function_code ts ++ constant_bytes (length (function_code ts)) x) same.constants in
-    let ends : length f.bytes.items ≡ constants_end (length u.bytes) u.constants = ap length whole ∙ length-append (function_code ts) (constant_bytes (length (function_code ts)) cs) ∙ length-constant_bytes (length (function_code ts)) cs ∙ ap (λ m. constants_end m cs) (sym size) ∙ ap (constants_end (length u.bytes)) (sym same.constants) in
+    let size : length u.bytes ≡ blocks_size ts = bytes_run ps s0 ∙ omega (arith, function_put ts n 0) in
+    let held : (c : ℕ) → c < length cs → off (b + c) ≡ constant_place ts cs c = λ c h.
+    ap (λ m. off (m + c)) (sym count)
+    ∙ ap place_of (middle_label u.block_count (starts_of_constants u) u.labels c (omega (arith, starts)) enough)
+    ∙ ap (λ m. get_or (constant_starts m u.constants) c 0) size
+    ∙ ap (λ x. get_or (constant_starts (blocks_size ts) x) c 0) same.constants in
+    let names : TreesName b (length cs) ts = subst (λ k. TreesName b k ts) (length-map cs (λ (c : Constant). c.align)) (all_names flags (declared_of ts cs) n ts emitted.fine) in
+    let code = function_code (unlinked ts cs) ts in
+    let body : patched off u ≡ code = patched_run ps s0 off tt wide ∙ code_is ts cs off n agree held names bound in
+    let sized : length code ≡ blocks_size ts = ap length (sym body) ∙ length-patch_all off u.uses u.bytes ∙ size in
+    let whole : f.bytes.items ≡ code ++ constant_bytes (blocks_size ts) cs = fin.bytes ∙ all_left off u.uses u.bytes (constant_bytes (length u.bytes) u.constants) within ∙ ap (λ l. l ++ constant_bytes (length u.bytes) u.constants) body ∙ ap (λ m. code ++ constant_bytes m u.constants) size ∙ ap (λ x. code ++ constant_bytes (blocks_size ts) x) same.constants in
+    let ends : length f.bytes.items ≡ constants_end (length u.bytes) u.constants = ap length whole ∙ length-append code (constant_bytes (blocks_size ts) cs) ∙ ap (λ m. m + length (constant_bytes (blocks_size ts) cs)) sized ∙ length-constant_bytes (blocks_size ts) cs ∙ ap (λ m. constants_end m cs) (sym size) ∙ ap (constants_end (length u.bytes)) (sym same.constants) in
     record {
       short = omega (arith, ends, fin.small);
       bytes = whole;
       block_starts = fin.block_starts ∙ ap (λ m. map place_of (take m u.labels)) count ∙ places_upto b 0 u.labels off (omega arith) blocks ∙ blocks_upto ts off at n 0 0 bound follow;
-      constant_starts = fin.constant_starts ∙ ap (λ m. constant_starts m u.constants) size ∙ ap (λ x. constant_starts (length (function_code ts)) x) same.constants;
+      constant_starts = fin.constant_starts ∙ ap (λ m. constant_starts m u.constants) size ∙ ap (λ x. constant_starts (blocks_size ts) x) same.constants;
       starts = fin.starts ∙ starts_run ps s0 ∙ ap (λ m. marks m ps) (sym (place_zero all)) ∙ function_marks ts at n 0 0 follow;
       relocs = fin.relocs ∙ relocs_run ps s0 ∙ ap (λ m. relocated m ps) (sym (place_zero all)) ∙ function_relocated ts at n 0 0 follow;
       traps = fin.traps ∙ traps_run ps s0 ∙ ap (λ m. recorded m ps) (sym (place_zero all)) ∙ function_recorded ts at n 0 0 follow;

@@ -12,34 +12,36 @@ use Rattle.s390x_base.specs.declared.ir.MachLabel.{MachLabel}
 use Rattle.s390x_steps.specs.Tree.{Tree, empty, leaf, looped}
 use Rattle.s390x_steps.specs.Steps.{Step as TypedStep, Back, step_count, step_of, steps_of}
 use Rattle.s390x_steps.specs.MachineInstruction.{rr, ril_b, ril_c, rxy, bytes_of, size_of}
-use Rattle.s390x_steps.specs.Parts.{Part, Row, Trapping, Branch, Relative, SymbolValue, TrapHere, TableWord, ToBlock, ToStep, table_words, table_parts, instruction_parts, parts_size, step_size}
+use Rattle.s390x_steps.specs.Parts.{Part, Row, Trapping, Branch, Relative, RelativeConstant, RelativeSymbol, SymbolValue, TrapHere, TableWord, ToBlock, ToStep, table_words, table_parts, instruction_parts, parts_size, step_size}
 use Rattle.s390x_steps.specs.Rows.{Places, half_distance, table_distance, word_bytes, parts_bytes, step_bytes}
 use Rattle.s390x_steps.specs.Image.{code}
 use Rattle.s390x_steps.specs.Sizes.{instruction_size, tree_size}
 use Rattle.s390x_steps.specs.Causes.{instruction_draws, draws}
-use Rattle.s390x_emit_int.specs.Pieces.{Piece, Put, PutTrapping, PutReloc, Link, Step, Draw, Bind}
+use Rattle.s390x_emit_int.specs.Pieces.{Piece, Put, PutTrapping, PutReloc, Link, LinkConstant, Step, Draw, Bind}
 use Rattle.s390x_emit_int.specs.Emission.{part_pieces, table_pieces, leaf_pieces, back_pieces, pieces}
 use Rattle.s390x_emit_int.specs.Resolve.{resolve, put_length}
 use Rattle.s390x_emit_int.specs.Bound.{LeafBound, Bound, Follows, PartsName, TreeNames}
 use Rattle.s390x_emit_int.proofs.Branches.{patched_branch, patched_relative, patched_word}
 use Rattle.s390x_emit_int.proofs.Runs.{length-bytes, length-branch, size-relative, length-relative}
 
-pub resolve-append : (off : ℕ → ℕ) (a b : List Piece) (p : ℕ) → resolve off p (a ++ b) ≡ resolve off p a ++ resolve off (p + put_length a) b
-resolve-append off [] b p = ap (λ m. resolve off m b) (sym (add-zero p))
-resolve-append off (Put bs ∷ a) b p = ap (λ l. bs ++ l) (resolve-append off a b (p + length bs)) ∙ sym (append_assoc bs _ _) ∙ ap (λ m. (bs ++ resolve off (p + length bs) a) ++ resolve off m b) (add_assoc p (length bs) (put_length a))
-resolve-append off (PutReloc bs kind name addend ∷ a) b p = ap (λ l. bs ++ l) (resolve-append off a b (p + length bs)) ∙ sym (append_assoc bs _ _) ∙ ap (λ m. (bs ++ resolve off (p + length bs) a) ++ resolve off m b) (add_assoc p (length bs) (put_length a))
-resolve-append off (PutTrapping bs byte code ∷ a) b p = ap (λ l. bs ++ l) (resolve-append off a b (p + length bs)) ∙ sym (append_assoc bs _ _) ∙ ap (λ m. (bs ++ resolve off (p + length bs) a) ++ resolve off m b) (add_assoc p (length bs) (put_length a))
-resolve-append off (Link k l bs ∷ a) b p = ap (λ x. patch k 0 p (off l) bs ++ x) (resolve-append off a b (p + length bs)) ∙ sym (append_assoc (patch k 0 p (off l) bs) _ _) ∙ ap (λ m. (patch k 0 p (off l) bs ++ resolve off (p + length bs) a) ++ resolve off m b) (add_assoc p (length bs) (put_length a))
-resolve-append off (Step ∷ a) b p = resolve-append off a b p
-resolve-append off (Draw ∷ a) b p = resolve-append off a b p
-resolve-append off (Bind l ∷ a) b p = resolve-append off a b p
+pub resolve-append : (blocks : ℕ) (off : ℕ → ℕ) (a b : List Piece) (p : ℕ) → resolve blocks off p (a ++ b) ≡ resolve blocks off p a ++ resolve blocks off (p + put_length a) b
+resolve-append blocks off [] b p = ap (λ m. resolve blocks off m b) (sym (add-zero p))
+resolve-append blocks off (Put bs ∷ a) b p = ap (λ l. bs ++ l) (resolve-append blocks off a b (p + length bs)) ∙ sym (append_assoc bs _ _) ∙ ap (λ m. (bs ++ resolve blocks off (p + length bs) a) ++ resolve blocks off m b) (add_assoc p (length bs) (put_length a))
+resolve-append blocks off (PutReloc bs byte kind name addend ∷ a) b p = ap (λ l. bs ++ l) (resolve-append blocks off a b (p + length bs)) ∙ sym (append_assoc bs _ _) ∙ ap (λ m. (bs ++ resolve blocks off (p + length bs) a) ++ resolve blocks off m b) (add_assoc p (length bs) (put_length a))
+resolve-append blocks off (PutTrapping bs byte code ∷ a) b p = ap (λ l. bs ++ l) (resolve-append blocks off a b (p + length bs)) ∙ sym (append_assoc bs _ _) ∙ ap (λ m. (bs ++ resolve blocks off (p + length bs) a) ++ resolve blocks off m b) (add_assoc p (length bs) (put_length a))
+resolve-append blocks off (Link k l bs ∷ a) b p = ap (λ x. patch k 0 p (off l) bs ++ x) (resolve-append blocks off a b (p + length bs)) ∙ sym (append_assoc (patch k 0 p (off l) bs) _ _) ∙ ap (λ m. (patch k 0 p (off l) bs ++ resolve blocks off (p + length bs) a) ++ resolve blocks off m b) (add_assoc p (length bs) (put_length a))
+resolve-append blocks off (LinkConstant c bs ∷ a) b p = ap (λ x. patch BranchRIL 0 p (off (blocks + c)) bs ++ x) (resolve-append blocks off a b (p + length bs)) ∙ sym (append_assoc (patch BranchRIL 0 p (off (blocks + c)) bs) _ _) ∙ ap (λ m. (patch BranchRIL 0 p (off (blocks + c)) bs ++ resolve blocks off (p + length bs) a) ++ resolve blocks off m b) (add_assoc p (length bs) (put_length a))
+resolve-append blocks off (Step ∷ a) b p = resolve-append blocks off a b p
+resolve-append blocks off (Draw ∷ a) b p = resolve-append blocks off a b p
+resolve-append blocks off (Bind l ∷ a) b p = resolve-append blocks off a b p
 
 pub put_append : (a b : List Piece) → put_length (a ++ b) ≡ put_length a + put_length b
 put_append [] b = omega arith
 put_append (Put bs ∷ a) b = omega (arith, put_append a b)
-put_append (PutReloc bs kind name addend ∷ a) b = omega (arith, put_append a b)
+put_append (PutReloc bs byte kind name addend ∷ a) b = omega (arith, put_append a b)
 put_append (PutTrapping bs byte code ∷ a) b = omega (arith, put_append a b)
 put_append (Link k l bs ∷ a) b = omega (arith, put_append a b)
+put_append (LinkConstant c bs ∷ a) b = omega (arith, put_append a b)
 put_append (Step ∷ a) b = put_append a b
 put_append (Draw ∷ a) b = put_append a b
 put_append (Bind l ∷ a) b = put_append a b
@@ -52,6 +54,8 @@ parts_put (Branch mask (ToBlock b) ∷ parts) = omega (arith, length-branch mask
 parts_put (Branch mask (ToStep k) ∷ parts) = omega (arith, length-branch mask, parts_put parts)
 parts_put (Relative opcode register (ToBlock b) ∷ parts) = omega (arith, length-relative opcode register, parts_put parts)
 parts_put (Relative opcode register (ToStep k) ∷ parts) = omega (arith, length-relative opcode register, parts_put parts)
+parts_put (RelativeConstant opcode register c ∷ parts) = omega (arith, length-relative opcode register, parts_put parts)
+parts_put (RelativeSymbol opcode register name offset ∷ parts) = omega (arith, length-relative opcode register, parts_put parts)
 parts_put (SymbolValue name offset ∷ parts) = omega (arith, parts_put parts)
 parts_put (TrapHere code ∷ parts) = omega (arith, parts_put parts)
 parts_put (TableWord before (ToBlock b) ∷ parts) = omega (arith, parts_put parts)
@@ -73,53 +77,67 @@ tree_put n after (looped mask members rest) =
     let r = pieces (n + 2 + draws members) after rest in
     put_append (pieces (n + 2) (n + 1) members) (back_pieces n mask ++ r) ∙ omega (arith, length-branch mask, tree_put (n + 2) (n + 1) members, tree_put (n + 2 + draws members) after rest)
 
--- labels of blocks stand at their places, and nothing is linked
-abbrev pub Agrees : (ℕ → ℕ) → Places → ℕ → Type 0
-Agrees off P count = ((l : ℕ) → l < count → off l ≡ P.block l) × ((name : ExternalName) (offset : ℤ) → P.symbol_value name offset ≡ 0)
+-- labels of blocks and of constants stand at their places, and nothing is linked
+abbrev pub Agrees : (ℕ → ℕ) → Places → (count constants : ℕ) → Type 0
+Agrees off P count constants =
+    ((l : ℕ) → l < count → off l ≡ P.block l) × ((c : ℕ) → c < constants → off (count + c) ≡ P.outside.constant c)
+    × ((name : ExternalName) (offset : ℤ) → P.outside.symbol_value name offset ≡ 0) × ((p : ℕ) (name : ExternalName) (offset : ℤ) → P.outside.symbol_distance p name offset ≡ 0)
 
 -- the parts of an instruction, at a place
-parts_join : (parts : List Part) (off : ℕ → ℕ) (P : Places) (count p : ℕ) → Agrees off P count → PartsName count parts → resolve off p (part_pieces parts) ≡ parts_bytes P p parts
-parts_join [] off P count p agree names = refl
-parts_join (Row m ∷ parts) off P count p agree names =
-    ap (λ n. bytes_of m ++ resolve off (p + n) (part_pieces parts)) (length-bytes m) ∙ ap (λ l. bytes_of m ++ l) (parts_join parts off P count (p + size_of m) agree names.1)
-parts_join (Trapping m byte code ∷ parts) off P count p agree names =
-    ap (λ n. bytes_of m ++ resolve off (p + n) (part_pieces parts)) (length-bytes m) ∙ ap (λ l. bytes_of m ++ l) (parts_join parts off P count (p + size_of m) agree names.1)
-parts_join (Branch mask (ToBlock b) ∷ parts) off P count p agree names =
-    ap (λ l. l ++ resolve off (p + length (bytes_of (ril_c 0xc04 mask 0))) (part_pieces parts)) (patched_branch mask p (off b))
-    ∙ ap (λ x. bytes_of (ril_c 0xc04 mask (half_distance p x)) ++ resolve off (p + length (bytes_of (ril_c 0xc04 mask 0))) (part_pieces parts)) (agree.0 b names.0)
-    ∙ ap (λ n. bytes_of (ril_c 0xc04 mask (half_distance p (P.block b))) ++ resolve off (p + n) (part_pieces parts)) (length-branch mask)
-    ∙ ap (λ l. bytes_of (ril_c 0xc04 mask (half_distance p (P.block b))) ++ l) (parts_join parts off P count (p + 6) agree names.1)
-parts_join (Branch mask (ToStep k) ∷ parts) off P count p agree names = absurd names.0
-parts_join (Relative opcode register (ToBlock b) ∷ parts) off P count p agree names =
+parts_join : (parts : List Part) (off : ℕ → ℕ) (P : Places) (count constants p : ℕ) → Agrees off P count constants → PartsName count constants parts → resolve count off p (part_pieces parts) ≡ parts_bytes P p parts
+parts_join [] off P count constants p agree names = refl
+parts_join (Row m ∷ parts) off P count constants p agree names =
+    ap (λ n. bytes_of m ++ resolve count off (p + n) (part_pieces parts)) (length-bytes m) ∙ ap (λ l. bytes_of m ++ l) (parts_join parts off P count constants (p + size_of m) agree names.1)
+parts_join (Trapping m byte code ∷ parts) off P count constants p agree names =
+    ap (λ n. bytes_of m ++ resolve count off (p + n) (part_pieces parts)) (length-bytes m) ∙ ap (λ l. bytes_of m ++ l) (parts_join parts off P count constants (p + size_of m) agree names.1)
+parts_join (Branch mask (ToBlock b) ∷ parts) off P count constants p agree names =
+    ap (λ l. l ++ resolve count off (p + length (bytes_of (ril_c 0xc04 mask 0))) (part_pieces parts)) (patched_branch mask p (off b))
+    ∙ ap (λ x. bytes_of (ril_c 0xc04 mask (half_distance p x)) ++ resolve count off (p + length (bytes_of (ril_c 0xc04 mask 0))) (part_pieces parts)) (agree.0 b names.0)
+    ∙ ap (λ n. bytes_of (ril_c 0xc04 mask (half_distance p (P.block b))) ++ resolve count off (p + n) (part_pieces parts)) (length-branch mask)
+    ∙ ap (λ l. bytes_of (ril_c 0xc04 mask (half_distance p (P.block b))) ++ l) (parts_join parts off P count constants (p + 6) agree names.1)
+parts_join (Branch mask (ToStep k) ∷ parts) off P count constants p agree names = absurd names.0
+parts_join (Relative opcode register (ToBlock b) ∷ parts) off P count constants p agree names =
     let bare = bytes_of (ril_b opcode register 0) in
-    ap (λ l. l ++ resolve off (p + length bare) (part_pieces parts)) (patched_relative opcode register p (off b))
-    ∙ ap (λ x. bytes_of (ril_b opcode register (half_distance p x)) ++ resolve off (p + length bare) (part_pieces parts)) (agree.0 b names.0)
-    ∙ ap (λ n. bytes_of (ril_b opcode register (half_distance p (P.block b))) ++ resolve off (p + n) (part_pieces parts)) (length-relative opcode register)
-    ∙ ap (λ l. bytes_of (ril_b opcode register (half_distance p (P.block b))) ++ l) (parts_join parts off P count (p + 6) agree names.1)
-parts_join (Relative opcode register (ToStep k) ∷ parts) off P count p agree names = absurd names.0
-parts_join (SymbolValue name offset ∷ parts) off P count p agree names =
-    ap (λ v. to_be_bytes w64 v ++ resolve off (p + 8) (part_pieces parts)) (sym (agree.1 name offset)) ∙ ap (λ l. to_be_bytes w64 (P.symbol_value name offset) ++ l) (parts_join parts off P count (p + 8) agree names.1)
-parts_join (TrapHere code ∷ parts) off P count p agree names = parts_join parts off P count (p + 0) agree names.1
-parts_join (TableWord before (ToBlock b) ∷ parts) off P count p agree names =
-    ap (λ l. l ++ resolve off (p + 4) (part_pieces parts)) (patched_word before p (off b))
-    ∙ ap (λ x. word_bytes (table_distance p before x) ++ resolve off (p + 4) (part_pieces parts)) (agree.0 b names.0)
-    ∙ ap (λ l. word_bytes (table_distance p before (P.block b)) ++ l) (parts_join parts off P count (p + 4) agree names.1)
-parts_join (TableWord before (ToStep k) ∷ parts) off P count p agree names = absurd names.0
+    ap (λ l. l ++ resolve count off (p + length bare) (part_pieces parts)) (patched_relative opcode register p (off b))
+    ∙ ap (λ x. bytes_of (ril_b opcode register (half_distance p x)) ++ resolve count off (p + length bare) (part_pieces parts)) (agree.0 b names.0)
+    ∙ ap (λ n. bytes_of (ril_b opcode register (half_distance p (P.block b))) ++ resolve count off (p + n) (part_pieces parts)) (length-relative opcode register)
+    ∙ ap (λ l. bytes_of (ril_b opcode register (half_distance p (P.block b))) ++ l) (parts_join parts off P count constants (p + 6) agree names.1)
+parts_join (Relative opcode register (ToStep k) ∷ parts) off P count constants p agree names = absurd names.0
+parts_join (RelativeConstant opcode register c ∷ parts) off P count constants p agree names =
+    let bare = bytes_of (ril_b opcode register 0) in
+    let full = bytes_of (ril_b opcode register (half_distance p (P.outside.constant c))) in
+    ap (λ l. l ++ resolve count off (p + length bare) (part_pieces parts)) (patched_relative opcode register p (off (count + c)))
+    ∙ ap (λ x. bytes_of (ril_b opcode register (half_distance p x)) ++ resolve count off (p + length bare) (part_pieces parts)) (agree.1 c names.0)
+    ∙ ap (λ n. full ++ resolve count off (p + n) (part_pieces parts)) (length-relative opcode register)
+    ∙ ap (λ l. full ++ l) (parts_join parts off P count constants (p + 6) agree names.1)
+parts_join (RelativeSymbol opcode register name offset ∷ parts) off P count constants p agree names =
+    let full = bytes_of (ril_b opcode register (P.outside.symbol_distance p name offset)) in
+    ap (λ h. bytes_of (ril_b opcode register h) ++ resolve count off (p + length (bytes_of (ril_b opcode register 0))) (part_pieces parts)) (sym (agree.3 p name offset))
+    ∙ ap (λ n. full ++ resolve count off (p + n) (part_pieces parts)) (length-relative opcode register)
+    ∙ ap (λ l. full ++ l) (parts_join parts off P count constants (p + 6) agree names.1)
+parts_join (SymbolValue name offset ∷ parts) off P count constants p agree names =
+    ap (λ v. to_be_bytes w64 v ++ resolve count off (p + 8) (part_pieces parts)) (sym (agree.2 name offset)) ∙ ap (λ l. to_be_bytes w64 (P.outside.symbol_value name offset) ++ l) (parts_join parts off P count constants (p + 8) agree names.1)
+parts_join (TrapHere code ∷ parts) off P count constants p agree names = parts_join parts off P count constants (p + 0) agree names.1
+parts_join (TableWord before (ToBlock b) ∷ parts) off P count constants p agree names =
+    ap (λ l. l ++ resolve count off (p + 4) (part_pieces parts)) (patched_word before p (off b))
+    ∙ ap (λ x. word_bytes (table_distance p before x) ++ resolve count off (p + 4) (part_pieces parts)) (agree.0 b names.0)
+    ∙ ap (λ l. word_bytes (table_distance p before (P.block b)) ++ l) (parts_join parts off P count constants (p + 4) agree names.1)
+parts_join (TableWord before (ToStep k) ∷ parts) off P count constants p agree names = absurd names.0
 
 -- from the second row of a table to the table
 seven_halfwords : (p : ℕ) → half_distance (p + 6) (p + 20) ≡ 7
 seven_halfwords p = omega arith
 
-table_join : (off : ℕ → ℕ) (P : Places) (count n p index mask other : ℕ) (targets : List MachLabel) → Agrees off P count → PartsName count (table_parts index mask other targets) → off n ≡ p + 20 →
-    resolve off p (table_pieces n index mask other targets) ≡ parts_bytes P p (table_parts index mask other targets)
-table_join off P count n p index mask other targets agree names at =
+table_join : (off : ℕ → ℕ) (P : Places) (count constants n p index mask other : ℕ) (targets : List MachLabel) → Agrees off P count constants → PartsName count constants (table_parts index mask other targets) → off n ≡ p + 20 →
+    resolve count off p (table_pieces n index mask other targets) ≡ parts_bytes P p (table_parts index mask other targets)
+table_join off P count constants n p index mask other targets agree names at =
     let words = table_words 0 targets in
     let agf = rxy 0xe318 1 1 index 0 in
     let bcr = rr 0x07 15 1 in
     let bare = bytes_of (ril_c 0xc04 mask 0) in
     let relative = bytes_of (ril_b 0xc00 1 0) in
     let sizes : p + 6 + size_of (ril_b 0xc00 1 7) + size_of agf + size_of bcr ≡ p + length bare + length relative + length (bytes_of agf) + length (bytes_of bcr) = omega (arith, length-branch mask, length-relative 0xc00 1, size-relative 0xc00 1 7, length-bytes agf, length-bytes bcr) in
-    let behind : ℕ → List ℕ = λ q. bytes_of agf ++ (bytes_of bcr ++ resolve off q (part_pieces words)) in
+    let behind : ℕ → List ℕ = λ q. bytes_of agf ++ (bytes_of bcr ++ resolve count off q (part_pieces words)) in
     let q = p + length bare + length relative + length (bytes_of agf) + length (bytes_of bcr) in
     let q' = p + 6 + size_of (ril_b 0xc00 1 7) + size_of agf + size_of bcr in
     ap (λ l. l ++ (patch BranchRIL 0 (p + length bare) (off n) relative ++ behind q)) (patched_branch mask p (off other) ∙ ap (λ x. bytes_of (ril_c 0xc04 mask (half_distance p x))) (agree.0 other names.0))
@@ -130,20 +148,20 @@ table_join off P count n p index mask other targets agree names at =
     ∙ ap (λ h. bytes_of (ril_b 0xc00 1 h)) (seven_halfwords p)
     )
     ∙ ap (λ m. bytes_of (ril_c 0xc04 mask (half_distance p (P.block other))) ++ (bytes_of (ril_b 0xc00 1 7) ++ behind m)) (sym sizes)
-    ∙ ap (λ l. bytes_of (ril_c 0xc04 mask (half_distance p (P.block other))) ++ (bytes_of (ril_b 0xc00 1 7) ++ (bytes_of agf ++ (bytes_of bcr ++ l)))) (parts_join words off P count q' agree names.1.1.1.1)
+    ∙ ap (λ l. bytes_of (ril_c 0xc04 mask (half_distance p (P.block other))) ++ (bytes_of (ril_b 0xc00 1 7) ++ (bytes_of agf ++ (bytes_of bcr ++ l)))) (parts_join words off P count constants q' agree names.1.1.1.1)
 
-pub leaf_join : (i : Inst) (off : ℕ → ℕ) (P : Places) (count n after end p : ℕ) → Agrees off P count → PartsName count (instruction_parts i) → LeafBound off n p i → off after ≡ P.step end → resolve off p (leaf_pieces n after i) ≡ step_bytes P p (step_of end i)
-leaf_join (JTSequence ridx other mask targets) off P count n after end p agree names at e = table_join off P count n p (number_of ridx) mask other.0 targets.items agree names at
-leaf_join (CondBreak mask) off P count n after end p agree names at e =
+pub leaf_join : (i : Inst) (off : ℕ → ℕ) (P : Places) (count constants n after end p : ℕ) → Agrees off P count constants → PartsName count constants (instruction_parts i) → LeafBound off n p i → off after ≡ P.step end → resolve count off p (leaf_pieces n after i) ≡ step_bytes P p (step_of end i)
+leaf_join (JTSequence ridx other mask targets) off P count constants n after end p agree names at e = table_join off P count constants n p (number_of ridx) mask other.0 targets.items agree names at
+leaf_join (CondBreak mask) off P count constants n after end p agree names at e =
     append-nil (patch BranchRIL 0 p (off after) (bytes_of (ril_c 0xc04 mask 0))) ∙ patched_branch mask p (off after) ∙ ap (λ x. bytes_of (ril_c 0xc04 mask (half_distance p x))) e ∙ sym (append-nil (bytes_of (ril_c 0xc04 mask (half_distance p (P.step end)))))
-leaf_join i off P count n after end p agree names at e = parts_join (instruction_parts i) off P count p agree names
+leaf_join i off P count constants n after end p agree names at e = parts_join (instruction_parts i) off P count constants p agree names
 
 -- the sizes of typed steps
 abbrev pub total : List TypedStep → ℕ
 total [] = 0
 total (s ∷ ss) = step_size s + total ss
 
-total_append : (a b : List TypedStep) → total (a ++ b) ≡ total a + total b
+pub total_append : (a b : List TypedStep) → total (a ++ b) ≡ total a + total b
 total_append [] b = omega arith
 total_append (s ∷ a) b = omega (arith, total_append a b)
 
@@ -210,21 +228,21 @@ loop_places at k e mask members rest follow =
       outer = subst (λ m. Follows at m fr) k2 right.1;
     }
 
-pub tree_join : (t : Tree) (off : ℕ → ℕ) (P : Places) (blocks n after k e : ℕ) → Agrees off P blocks → TreeNames blocks t → Bound off n (P.step k) t → Follows P.step k (steps_of k e t) → off after ≡ P.step e → resolve off (P.step k) (pieces n after t) ≡ code P k (steps_of k e t)
-tree_join empty off P blocks n after k e agree names bound follow oe = refl
-tree_join (leaf i rest) off P blocks n after k e agree names bound follow oe =
+pub tree_join : (t : Tree) (off : ℕ → ℕ) (P : Places) (blocks constants n after k e : ℕ) → Agrees off P blocks constants → TreeNames blocks constants t → Bound off n (P.step k) t → Follows P.step k (steps_of k e t) → off after ≡ P.step e → resolve blocks off (P.step k) (pieces n after t) ≡ code P k (steps_of k e t)
+tree_join empty off P blocks constants n after k e agree names bound follow oe = refl
+tree_join (leaf i rest) off P blocks constants n after k e agree names bound follow oe =
     let p = P.step k in
     let next : P.step (k + 1) ≡ p + instruction_size i = follow.0 ∙ ap (λ m. p + m) (size_of_step e i) in
     let n' = n + instruction_draws i in
     let ps = pieces n' after rest in
-    let here = leaf_join i off P blocks n after e p agree names.0 bound.0 oe in
-    let there = tree_join rest off P blocks n' after (k + 1) e agree names.1 (subst (λ m. Bound off n' m rest) (sym next) bound.1) follow.1 oe in
-    resolve-append off (leaf_pieces n after i) ps p
-    ∙ ap (λ m. resolve off p (leaf_pieces n after i) ++ resolve off (p + m) ps) (leaf_put n after i)
-    ∙ ap (λ m. resolve off p (leaf_pieces n after i) ++ resolve off m ps) (sym next)
-    ∙ ap (λ l. l ++ resolve off (P.step (k + 1)) ps) here
+    let here = leaf_join i off P blocks constants n after e p agree names.0 bound.0 oe in
+    let there = tree_join rest off P blocks constants n' after (k + 1) e agree names.1 (subst (λ m. Bound off n' m rest) (sym next) bound.1) follow.1 oe in
+    resolve-append blocks off (leaf_pieces n after i) ps p
+    ∙ ap (λ m. resolve blocks off p (leaf_pieces n after i) ++ resolve blocks off (p + m) ps) (leaf_put n after i)
+    ∙ ap (λ m. resolve blocks off p (leaf_pieces n after i) ++ resolve blocks off m ps) (sym next)
+    ∙ ap (λ l. l ++ resolve blocks off (P.step (k + 1)) ps) here
     ∙ ap (λ l. step_bytes P p (step_of e i) ++ l) there
-tree_join (looped mask members rest) off P blocks n after k e agree names bound follow oe =
+tree_join (looped mask members rest) off P blocks constants n after k e agree names bound follow oe =
     let at = P.step in
     let p = at k in
     let k1 = k + 1 + step_count members in
@@ -235,23 +253,23 @@ tree_join (looped mask members rest) off P blocks n after k e agree names bound 
     let pr = pieces (n + 2 + draws members) after rest in
     let b0 = bytes_of (ril_c 0xc04 mask 0) in
     let w : LoopPlaces at k e members rest = loop_places at k e mask members rest follow in
-    let inner = tree_join members off P blocks (n + 2) (n + 1) (k + 1) k2 agree names.0 (subst (λ m. Bound off (n + 2) m members) (sym w.start) bound.2) w.inner (bound.1 ∙ sym w.next) in
-    let outer = tree_join rest off P blocks (n + 2 + draws members) after k2 e agree names.1 (subst (λ m. Bound off (n + 2 + draws members) m rest) (sym w.next) bound.3) w.outer oe in
+    let inner = tree_join members off P blocks constants (n + 2) (n + 1) (k + 1) k2 agree names.0 (subst (λ m. Bound off (n + 2) m members) (sym w.start) bound.2) w.inner (bound.1 ∙ sym w.next) in
+    let outer = tree_join rest off P blocks constants (n + 2 + draws members) after k2 e agree names.1 (subst (λ m. Bound off (n + 2 + draws members) m rest) (sym w.next) bound.3) w.outer oe in
     let back_off : off n ≡ at (k + 1) = bound.0 ∙ sym w.start in
     let lb : k + 1 + length fb ≡ k1 = ap (λ m. k + 1 + m) (steps_length members (k + 1) k2) in
     let k12 : k1 + 1 ≡ k2 = omega arith in
     let after_back : p + tree_size members + length b0 ≡ at k2 = ap (λ m. p + tree_size members + m) (length-branch mask) ∙ sym w.next in
-    let tail : resolve off (p + tree_size members) (back_pieces n mask ++ pr) ≡ bytes_of (ril_c 0xc04 mask (half_distance (at k1) (at (k + 1)))) ++ code P k2 fr =
-    ap (λ l. l ++ resolve off (p + tree_size members + length b0) pr) (patched_branch mask (p + tree_size members) (off n))
-    ∙ ap (λ m. bytes_of (ril_c 0xc04 mask (half_distance m (off n))) ++ resolve off (p + tree_size members + length b0) pr) (sym w.turn)
-    ∙ ap (λ m. bytes_of (ril_c 0xc04 mask (half_distance (at k1) m)) ++ resolve off (p + tree_size members + length b0) pr) back_off
-    ∙ ap (λ m. bytes_of (ril_c 0xc04 mask (half_distance (at k1) (at (k + 1)))) ++ resolve off m pr) after_back
+    let tail : resolve blocks off (p + tree_size members) (back_pieces n mask ++ pr) ≡ bytes_of (ril_c 0xc04 mask (half_distance (at k1) (at (k + 1)))) ++ code P k2 fr =
+    ap (λ l. l ++ resolve blocks off (p + tree_size members + length b0) pr) (patched_branch mask (p + tree_size members) (off n))
+    ∙ ap (λ m. bytes_of (ril_c 0xc04 mask (half_distance m (off n))) ++ resolve blocks off (p + tree_size members + length b0) pr) (sym w.turn)
+    ∙ ap (λ m. bytes_of (ril_c 0xc04 mask (half_distance (at k1) m)) ++ resolve blocks off (p + tree_size members + length b0) pr) back_off
+    ∙ ap (λ m. bytes_of (ril_c 0xc04 mask (half_distance (at k1) (at (k + 1)))) ++ resolve blocks off m pr) after_back
     ∙ ap (λ l. bytes_of (ril_c 0xc04 mask (half_distance (at k1) (at (k + 1)))) ++ l) outer in
-    let left : resolve off p (pieces n after (looped mask members rest)) ≡ code P (k + 1) fb ++ (bytes_of (ril_c 0xc04 mask (half_distance (at k1) (at (k + 1)))) ++ code P k2 fr) =
-    resolve-append off pb (back_pieces n mask ++ pr) p
-    ∙ ap (λ m. resolve off p pb ++ resolve off (p + m) (back_pieces n mask ++ pr)) (tree_put (n + 2) (n + 1) members)
-    ∙ ap (λ l. resolve off p pb ++ l) tail
-    ∙ ap (λ l. l ++ (bytes_of (ril_c 0xc04 mask (half_distance (at k1) (at (k + 1)))) ++ code P k2 fr)) (ap (λ m. resolve off m pb) (sym w.start) ∙ inner) in
+    let left : resolve blocks off p (pieces n after (looped mask members rest)) ≡ code P (k + 1) fb ++ (bytes_of (ril_c 0xc04 mask (half_distance (at k1) (at (k + 1)))) ++ code P k2 fr) =
+    resolve-append blocks off pb (back_pieces n mask ++ pr) p
+    ∙ ap (λ m. resolve blocks off p pb ++ resolve blocks off (p + m) (back_pieces n mask ++ pr)) (tree_put (n + 2) (n + 1) members)
+    ∙ ap (λ l. resolve blocks off p pb ++ l) tail
+    ∙ ap (λ l. l ++ (bytes_of (ril_c 0xc04 mask (half_distance (at k1) (at (k + 1)))) ++ code P k2 fr)) (ap (λ m. resolve blocks off m pb) (sym w.start) ∙ inner) in
     let right : code P (k + 1) (fb ++ Back mask (k + 1) ∷ fr) ≡ code P (k + 1) fb ++ (bytes_of (ril_c 0xc04 mask (half_distance (at k1) (at (k + 1)))) ++ code P k2 fr) =
     code_append P fb (Back mask (k + 1) ∷ fr) (k + 1)
     ∙ ap (λ m. code P (k + 1) fb ++ code P m (Back mask (k + 1) ∷ fr)) lb

@@ -1,5 +1,6 @@
 pub mod Checking
 pub mod Closing
+pub mod Constants
 pub mod Orderly
 pub mod Encoding
 pub mod Runs
@@ -31,4 +32,5 @@ pub mod Accessing
 pub mod Storing
 pub mod Resolving
 pub mod Linked
+pub mod Linking
 pub mod Example

@@ -1,60 +1,166 @@
--- Where no cause stands, each target is a block.
-use Rattle.std.proofs.Common.{◌≡◌, ℕ, ◌+◌, ◌<◌, List, [], ◌∷◌, Option, Some, None, not, ◌&&◌, nat_lt}
+-- Where no cause stands, each target is a block or a declared constant.
+use Rattle.std.proofs.Common.{◌≡◌, ℕ, ◌+◌, ◌<◌, List, [], ◌∷◌, ◌++◌, length, Bool, true, false, cond, Option, Some, None, not, ◌&&◌, nat_lt, refl}
+use Rattle.std.specs.Prelude.{pos}
 use Rattle.std.proofs.lemmas.Bool.{ltb-true}
 use Rattle.s390x_inst.specs.declared.state.IsaFlags.{IsaFlags}
 use Rattle.s390x_base.specs.declared.ir.MachLabel.{MachLabel}
 use Rattle.s390x_base.specs.declared.trap.TrapKind.{TrapKind}
-use Rattle.s390x_base.specs.declared.error.EmitError.TheVariants.{BadRegister, ScratchConflict, UnboundLabel}
+use Rattle.s390x_base.specs.declared.error.EmitError.{EmitError}
+use Rattle.s390x_base.specs.declared.error.EmitError.TheVariants.{BadOperator, BadRegister, ScratchConflict, UnboundLabel}
 use Rattle.s390x_inst.specs.declared.inst.Inst.{Inst}
-use Rattle.s390x_inst.specs.declared.inst.Inst.TheVariants.{Jump, CondBr, IndirectBr, Ret, JTSequence, LabelAddress, LoadSymbolReloc, Trap, TrapIf, Debugtrap}
+use Rattle.s390x_inst.specs.Memory.{flags_of}
+use Rattle.s390x_inst.specs.declared.args.MemArg.{MemArg}
+use Rattle.s390x_inst.specs.declared.args.MemArg.TheVariants.{BXD12, BXD20, RegOffset, Label, Constant, Symbol}
+use Rattle.s390x_inst.specs.declared.inst.Inst.TheVariants.{Mov64SImm32, LoadAddr, Jump, CondBr, IndirectBr, Ret, JTSequence, LabelAddress, LoadSymbolReloc, Trap, TrapIf, Debugtrap}
 use Rattle.s390x_steps.specs.Tree.{Tree, empty, leaf, looped}
-use Rattle.s390x_steps.specs.Parts.{Part, parts_or, memory_or, memory_parts, instruction_parts, table_words}
-use Rattle.s390x_steps.specs.Memory.{MemoryInstruction, memory}
-use Rattle.s390x_emit_int.proofs.Accessing.{memory_rows, rows_name}
+use Rattle.s390x_steps.specs.MachineInstruction.{MachineInstruction}
+use Rattle.s390x_steps.specs.Operands.{Finalized, finalized, displaced, addressed, widened, needs_address, scratch, no_register, is_relative, has_form, operand_general, fits_12, fits_20, fits_32}
+use Rattle.s390x_steps.specs.declared.mem_inst_type.MemInstType.{MemInstType}
+use Rattle.s390x_steps.specs.Parts.{Part, parts_or, memory_or, memory_parts, trap_here, relative_part, relative_parts, access_parts, operand_parts, helper_parts, helpers_parts, instruction_parts, table_words}
+use Rattle.s390x_steps.specs.Memory.{StorageForm, RxForm, MemoryInstruction, memory, type_of, storage_row, address_form, fault_code}
 use Rattle.s390x_steps.specs.Alone.{Alone, alone, stop_code}
 use Rattle.s390x_steps.specs.General.{is_general, is_nonzero, is_scratch}
-use Rattle.s390x_steps.specs.Causes.{first, unless, label_cause, labels_cause, instruction_cause, leaf_cause, instruction_draws, draws, nesting_cause, numbers_cause, tree_cause, blocks_cause}
+use Rattle.s390x_steps.specs.Causes.{Declared, first, unless, label_cause, labels_cause, bound_cause, late_cause, memory_cause, branch_cause, memory_cause_or, cause_or, facility_cause, instruction_cause, leaf_cause, instruction_draws, draws, nesting_cause, numbers_cause, tree_cause, blocks_cause}
 use Rattle.s390x_steps.proofs.Causes.{first_left, first_right, unless_true}
 use Rattle.s390x_emit_int.specs.Bound.{PartsName, TreeNames, TreesName}
 
 label_below : (blocks : ℕ) (l : MachLabel) → label_cause blocks l ≡ None → l.0 < blocks
 label_below blocks l h = ltb-true l.0 blocks (unless_true (nat_lt l.0 blocks) UnboundLabel h)
 
-alone_names : (blocks : ℕ) (o : Option Alone) (code : Option TrapKind) (others : List Part) → PartsName blocks others → PartsName blocks (parts_or o code others)
-alone_names blocks None code others h = h
-alone_names blocks (Some x) None others h = (tt, tt)
-alone_names blocks (Some x) (Some code) others h = (tt, tt)
+names_append : (blocks constants : ℕ) (a b : List Part) → PartsName blocks constants a → PartsName blocks constants b → PartsName blocks constants (a ++ b)
+names_append blocks constants [] b h k = k
+names_append blocks constants (part ∷ a) b h k = (h.0, names_append blocks constants a b h.1 k)
 
-memory_names : (blocks : ℕ) (o : Option MemoryInstruction) → PartsName blocks (memory_or o [])
-memory_names blocks None = tt
-memory_names blocks (Some x) = rows_name blocks (memory_parts x) (memory_rows x)
+-- ---- an instruction with a memory operand: the operand's label is a block's, and its constant is declared
 
-words_name : (blocks before : ℕ) (ls : List MachLabel) → labels_cause blocks ls ≡ None → PartsName blocks (table_words before ls)
-words_name blocks before [] h = tt
-words_name blocks before (l ∷ ls) h = (label_below blocks l (first_left _ _ h), words_name blocks (before + 4) ls (first_right (label_cause blocks l) _ h))
+module _ (D : Declared) where
+  -- so is what a helper's operand names
+  abbrev HelperBound : Inst → Type 0
+  HelperBound (LoadAddr rd mem) = bound_cause D mem ≡ None
+  HelperBound _ = Unit {0}
 
-leaf_names : (flags : IsaFlags) (blocks depth : ℕ) (i : Inst) → instruction_cause flags blocks depth i ≡ None → PartsName blocks (instruction_parts i)
-leaf_names flags blocks depth (Jump dest) h = (label_below blocks dest h, tt)
-leaf_names flags blocks depth (CondBr taken not_taken mask) h = (label_below blocks taken (first_left _ _ h), (label_below blocks not_taken (first_right (label_cause blocks taken) _ h), tt))
-leaf_names flags blocks depth (IndirectBr rn targets) h = (tt, tt)
-leaf_names flags blocks depth (Ret link) h = (tt, tt)
-leaf_names flags blocks depth (JTSequence ridx other mask targets) h =
+  abbrev HelpersBound : List Inst → Type 0
+  HelpersBound [] = Unit {0}
+  HelpersBound (i ∷ is) = HelperBound i × HelpersBound is
+
+  record FinalBound (f : Finalized) : Type 0 where
+    helpers : HelpersBound f.helpers
+    operand : bound_cause D f.operand ≡ None
+
+  either_bound : (b : Bool) (x y : Finalized) → FinalBound x → FinalBound y → FinalBound (cond b x y)
+  either_bound true x y h k = h
+  either_bound false x y h k = k
+
+  displaced_bound : (m : MemArg) → bound_cause D m ≡ None → FinalBound (displaced m)
+  displaced_bound (RegOffset reg off flags) h =
+      either_bound (fits_12 off) _ _ (record { helpers = tt; operand = refl })
+      (either_bound (fits_20 off) _ _ (record { helpers = tt; operand = refl })
+      (either_bound (fits_32 off) _ _ (record { helpers = (tt, tt); operand = refl }) (record { helpers = tt; operand = refl })))
+  displaced_bound m h = record { helpers = tt; operand = h }
+
+  one_more_bound : (is : List Inst) (i : Inst) → HelpersBound is → HelperBound i → HelpersBound (is ++ i ∷ [])
+  one_more_bound [] i h k = (k, tt)
+  one_more_bound (j ∷ is) i h k = (h.0, one_more_bound is i h.1 k)
+
+  addressed_bound : (mi : MemInstType) (f : Finalized) → FinalBound f → FinalBound (addressed mi f)
+  addressed_bound mi f h =
+      either_bound (needs_address mi f.operand) (record { helpers = f.helpers ++ LoadAddr scratch f.operand ∷ []; operand = BXD12 scratch no_register 0 (flags_of f.operand) }) f
+      (record { helpers = one_more_bound f.helpers (LoadAddr scratch f.operand) h.helpers h.operand; operand = refl }) h
+
+  either_operand : (b : Bool) (x y : MemArg) → bound_cause D x ≡ None → bound_cause D y ≡ None → bound_cause D (cond b x y) ≡ None
+  either_operand true x y h k = h
+  either_operand false x y h k = k
+
+  widened_operand : (mi : MemInstType) (m : MemArg) → bound_cause D m ≡ None → bound_cause D (widened mi m) ≡ None
+  widened_operand mi (BXD12 base index disp flags) h = either_operand (not mi.have_d12 && mi.have_d20) (BXD20 base index (pos disp) flags) (BXD12 base index disp flags) refl refl
+  widened_operand mi m h = h
+
+  final_bound : (mi : MemInstType) (m : MemArg) → bound_cause D m ≡ None → FinalBound (finalized mi m)
+  final_bound mi m h =
+      let f = addressed_bound mi (displaced m) (displaced_bound m h) in
+      record { helpers = f.helpers; operand = widened_operand mi (addressed mi (displaced m)).operand f.operand }
+
+  -- the same of parts
+  abbrev Named : List Part → Type 0
+  Named parts = PartsName D.blocks (length D.aligns) parts
+
+  access_named : (o : Option MachineInstruction) (code : Option TrapKind) → Named (access_parts o code)
+  access_named None code = tt
+  access_named (Some m) None = (tt, tt)
+  access_named (Some m) (Some code) = (tt, tt)
+
+  trap_named : (code : Option TrapKind) → Named (trap_here code)
+  trap_named None = tt
+  trap_named (Some code) = (tt, tt)
+
+  relative_named : (opcode register : ℕ) (m : MemArg) → bound_cause D m ≡ None → Named (relative_part opcode register m)
+  relative_named opcode register (Label target) h = (label_below D.blocks target h, tt)
+  relative_named opcode register (Constant c) h = (ltb-true c.0 (length D.aligns) (unless_true (nat_lt c.0 (length D.aligns)) UnboundLabel h), tt)
+  relative_named opcode register (Symbol name offset flags) h = (tt, tt)
+  relative_named opcode register m h = tt
+
+  form_named : (form : StorageForm) (code : Option TrapKind) (m : MemArg) → bound_cause D m ≡ None → Named (relative_parts form code m)
+  form_named (RxForm register rx_opcode rxy_opcode (Some opcode)) code m h = names_append D.blocks (length D.aligns) (trap_here code) (relative_part opcode register m) (trap_named code) (relative_named opcode register m h)
+  form_named form code m h = tt
+
+  either_named : (b : Bool) (x y : List Part) → Named x → Named y → Named (cond b x y)
+  either_named true x y h k = h
+  either_named false x y h k = k
+
+  operand_named : (form : StorageForm) (code : Option TrapKind) (m : MemArg) → bound_cause D m ≡ None → Named (operand_parts form code m)
+  operand_named form code m h = either_named (is_relative m) (relative_parts form code m) (access_parts (storage_row form m) code) (form_named form code m h) (access_named (storage_row form m) code)
+
+  helper_named : (i : Inst) → HelperBound i → Named (helper_parts i)
+  helper_named (Mov64SImm32 rd imm) h = (tt, tt)
+  helper_named (LoadAddr rd mem) h = operand_named (address_form rd) None mem h
+  helper_named i h = tt
+
+  helpers_named : (is : List Inst) → HelpersBound is → Named (helpers_parts is)
+  helpers_named [] h = tt
+  helpers_named (i ∷ is) h = names_append D.blocks (length D.aligns) (helper_parts i) (helpers_parts is) (helper_named i h.0) (helpers_named is h.1)
+
+  memory_named : (x : MemoryInstruction) → memory_cause D x ≡ None → Named (memory_parts x)
+  memory_named x h =
+      let placed = first_right (late_cause x) _ (first_right (unless (x.fine && operand_general x.operand) BadRegister) _ (first_right (unless (has_form (type_of x.form x.accesses) x.operand) BadOperator) _ h)) in
+      let f = finalized (type_of x.form x.accesses) x.operand in
+      let b = final_bound (type_of x.form x.accesses) x.operand (first_left _ _ placed) in
+      names_append D.blocks (length D.aligns) (helpers_parts f.helpers) (operand_parts x.form (fault_code x) f.operand) (helpers_named f.helpers b.helpers) (operand_named x.form (fault_code x) f.operand b.operand)
+
+  memory_names : (o : Option MemoryInstruction) (last : Option EmitError) → memory_cause_or D o last ≡ None → Named (memory_or o [])
+  memory_names None last h = tt
+  memory_names (Some x) last h = memory_named x h
+
+  alone_names : (o : Option Alone) (code : Option TrapKind) (m : Option MemoryInstruction) (last : Option EmitError) → cause_or o (memory_cause_or D m last) ≡ None → Named (parts_or o code (memory_or m []))
+  alone_names None code m last h = memory_names m last h
+  alone_names (Some x) None m last h = (tt, tt)
+  alone_names (Some x) (Some code) m last h = (tt, tt)
+
+words_name : (blocks constants before : ℕ) (ls : List MachLabel) → labels_cause blocks ls ≡ None → PartsName blocks constants (table_words before ls)
+words_name blocks constants before [] h = tt
+words_name blocks constants before (l ∷ ls) h = (label_below blocks l (first_left _ _ h), words_name blocks constants (before + 4) ls (first_right (label_cause blocks l) _ h))
+
+leaf_names : (flags : IsaFlags) (D : Declared) (depth : ℕ) (i : Inst) → instruction_cause flags D depth i ≡ None → PartsName D.blocks (length D.aligns) (instruction_parts i)
+leaf_names flags D depth (Jump dest) h = (label_below D.blocks dest h, tt)
+leaf_names flags D depth (CondBr taken not_taken mask) h = (label_below D.blocks taken (first_left _ _ h), (label_below D.blocks not_taken (first_right (label_cause D.blocks taken) _ h), tt))
+leaf_names flags D depth (IndirectBr rn targets) h = (tt, tt)
+leaf_names flags D depth (Ret link) h = (tt, tt)
+leaf_names flags D depth (JTSequence ridx other mask targets) h =
     let named = first_right (unless (not (is_scratch ridx)) ScratchConflict) _ (first_right (unless (is_general ridx && is_nonzero ridx) BadRegister) _ h) in
-    (label_below blocks other (first_left _ _ named), (tt, (tt, (tt, words_name blocks 0 targets.items (first_right (label_cause blocks other) _ named)))))
-leaf_names flags blocks depth (LabelAddress dst label) h = (label_below blocks label (first_right (unless (is_general dst) BadRegister) _ h), tt)
-leaf_names flags blocks depth (LoadSymbolReloc rd reloc) h = (tt, (tt, (tt, tt)))
-leaf_names flags blocks depth (Trap code) h = (tt, tt)
-leaf_names flags blocks depth (TrapIf mask code) h = (tt, tt)
-leaf_names flags blocks depth Debugtrap h = (tt, tt)
-leaf_names flags blocks depth i h = alone_names blocks (alone i) (stop_code i) (memory_or (memory i) []) (memory_names blocks (memory i))
+    (label_below D.blocks other (first_left _ _ named), (tt, (tt, (tt, words_name D.blocks (length D.aligns) 0 targets.items (first_right (label_cause D.blocks other) _ named)))))
+leaf_names flags D depth (LabelAddress dst label) h = (label_below D.blocks label (first_right (unless (is_general dst) BadRegister) _ h), tt)
+leaf_names flags D depth (LoadSymbolReloc rd reloc) h = (tt, (tt, (tt, tt)))
+leaf_names flags D depth (Trap code) h = (tt, tt)
+leaf_names flags D depth (TrapIf mask code) h = (tt, tt)
+leaf_names flags D depth Debugtrap h = (tt, tt)
+leaf_names flags D depth i h = alone_names D (alone i) (stop_code i) (memory i) (branch_cause D.blocks depth i) (first_right (facility_cause flags i) _ h)
 
-pub tree_names : (flags : IsaFlags) (blocks n depth : ℕ) (t : Tree) → tree_cause flags blocks n depth t ≡ None → TreeNames blocks t
-tree_names flags blocks n depth empty h = tt
-tree_names flags blocks n depth (leaf i rest) h = (leaf_names flags blocks depth i (first_left _ _ (first_left _ _ h)), tree_names flags blocks (n + instruction_draws i) depth rest (first_right (leaf_cause flags blocks n depth i) _ h))
-tree_names flags blocks n depth (looped mask members rest) h =
+pub tree_names : (flags : IsaFlags) (D : Declared) (n depth : ℕ) (t : Tree) → tree_cause flags D n depth t ≡ None → TreeNames D.blocks (length D.aligns) t
+tree_names flags D n depth empty h = tt
+tree_names flags D n depth (leaf i rest) h = (leaf_names flags D depth i (first_left _ _ (first_left _ _ h)), tree_names flags D (n + instruction_draws i) depth rest (first_right (leaf_cause flags D n depth i) _ h))
+tree_names flags D n depth (looped mask members rest) h =
     let inner = first_left _ _ h in
-    (tree_names flags blocks (n + 2) (depth + 1) members (first_right (first (nesting_cause depth) (numbers_cause n 2)) _ inner), tree_names flags blocks (n + 2 + draws members) depth rest (first_right (first (first (nesting_cause depth) (numbers_cause n 2)) (tree_cause flags blocks (n + 2) (depth + 1) members)) _ h))
+    (tree_names flags D (n + 2) (depth + 1) members (first_right (first (nesting_cause depth) (numbers_cause n 2)) _ inner), tree_names flags D (n + 2 + draws members) depth rest (first_right (first (first (nesting_cause depth) (numbers_cause n 2)) (tree_cause flags D (n + 2) (depth + 1) members)) _ h))
 
-pub all_names : (flags : IsaFlags) (blocks n : ℕ) (ts : List Tree) → blocks_cause flags blocks n ts ≡ None → TreesName blocks ts
-all_names flags blocks n [] h = tt
-all_names flags blocks n (t ∷ ts) h = (tree_names flags blocks n 0 t (first_left _ _ h), all_names flags blocks (n + draws t) ts (first_right (tree_cause flags blocks n 0 t) _ h))
+pub all_names : (flags : IsaFlags) (D : Declared) (n : ℕ) (ts : List Tree) → blocks_cause flags D n ts ≡ None → TreesName D.blocks (length D.aligns) ts
+all_names flags D n [] h = tt
+all_names flags D n (t ∷ ts) h = (tree_names flags D n 0 t (first_left _ _ h), all_names flags D (n + draws t) ts (first_right (tree_cause flags D n 0 t) _ h))

@@ -1,13 +1,13 @@
 -- Emission's pieces keep a buffer in order: its length is even, each bound label stands at an even place, and each use, of a label that may be used,
 -- stands at an even place behind those before it.
-use Rattle.std.proofs.Common.{◌≡◌, ℕ, ◌+◌, ◌%◌, ◌<◌, ◌≤◌, List, [], ◌∷◌, ◌++◌, length, get_or, Option, refl, ap, ◌∙◌, arith, length-append, None, Some}
+use Rattle.std.proofs.Common.{◌≡◌, ℕ, ◌+◌, ◌%◌, ◌<◌, ◌≤◌, List, [], ◌∷◌, ◌++◌, length, get_or, Bool, true, false, cond, Option, refl, sym, ap, ◌∙◌, subst, arith, length-append, None, Some}
 use Rattle.std.specs.List.{All}
 use Rattle.std.proofs.lemmas.List.{get_or_append_left}
 use Rattle.std.proofs.lemmas.List.Elements.{All-push, All-set, All-weaker}
 use Rattle.s390x_base.specs.Regs.{number_of}
 use Rattle.s390x_base.specs.declared.ir.MachLabel.{MachLabel}
 use Rattle.s390x_base.specs.declared.trap.TrapKind.{TrapKind}
-use Rattle.s390x_buffer.specs.State.{State}
+use Rattle.s390x_buffer.specs.State.{State, constant_label}
 use Rattle.s390x_buffer.specs.Patch.{word, patch_size}
 use Rattle.s390x_buffer.specs.declared.entries.LabelFixup.{LabelFixup}
 use Rattle.s390x_buffer.specs.declared.label_use.LabelUse.{LabelUse}
@@ -17,16 +17,18 @@ use Rattle.s390x_format.specs.declared.kind.FormatKind.{FormatKind}
 use Rattle.s390x_format.specs.declared.kind.FormatKind.TheVariants.{E}
 use Rattle.s390x_format.specs.Formats.{length_of}
 use Rattle.s390x_inst.specs.declared.inst.Inst.{Inst}
-use Rattle.s390x_inst.specs.declared.inst.Inst.TheVariants.{Jump, CondBr, IndirectBr, Ret, JTSequence, CondBreak, LabelAddress, LoadSymbolReloc, Trap, TrapIf, Debugtrap}
+use Rattle.s390x_inst.specs.declared.args.MemArg.{MemArg}
+use Rattle.s390x_inst.specs.declared.args.MemArg.TheVariants.{Label, Constant, Symbol}
+use Rattle.s390x_inst.specs.declared.inst.Inst.TheVariants.{Mov64SImm32, LoadAddr, Jump, CondBr, IndirectBr, Ret, JTSequence, CondBreak, LabelAddress, LoadSymbolReloc, Trap, TrapIf, Debugtrap}
 use Rattle.s390x_steps.specs.Tree.{Tree, empty, leaf, looped}
 use Rattle.s390x_steps.specs.Causes.{instruction_draws, draws}
 use Rattle.s390x_steps.specs.Alone.{Alone, alone, stop_code}
 use Rattle.s390x_steps.specs.MachineInstruction.{MachineInstruction, rr, rxy, bytes_of, size_of}
 use Rattle.s390x_steps.specs.Rows.{word_bytes}
-use Rattle.s390x_steps.specs.Parts.{Part, Row, Trapping, Branch, Relative, TableWord, ToBlock, ToStep, table_words, branch_parts, row_part, parts_or, instruction_parts, memory_or, memory_parts, SymbolValue, TrapHere}
-use Rattle.s390x_steps.specs.Memory.{MemoryInstruction, memory}
-use Rattle.s390x_emit_int.proofs.Accessing.{AllRows, memory_rows}
-use Rattle.s390x_emit_int.specs.Pieces.{Piece, apply, run, Put, PutTrapping, Link, Step, Draw, Bind, PutReloc}
+use Rattle.s390x_steps.specs.Parts.{Part, Row, Trapping, Branch, Relative, RelativeConstant, RelativeSymbol, TableWord, ToBlock, ToStep, table_words, branch_parts, row_part, parts_or, instruction_parts, memory_or, memory_parts, trap_here, relative_part, relative_parts, access_parts, operand_parts, helper_parts, helpers_parts, SymbolValue, TrapHere}
+use Rattle.s390x_steps.specs.Memory.{StorageForm, RxForm, MemoryInstruction, memory, type_of, storage_row, address_form, fault_code}
+use Rattle.s390x_steps.specs.Operands.{is_relative, finalized}
+use Rattle.s390x_emit_int.specs.Pieces.{Piece, apply, run, Put, PutTrapping, Link, LinkConstant, Step, Draw, Bind, PutReloc}
 use Rattle.s390x_emit_int.specs.Emission.{part_pieces, leaf_pieces, back_pieces, pieces, function_pieces}
 use Rattle.s390x_emit_int.specs.Resolve.{put_length}
 use Rattle.s390x_emit_int.specs.Bound.{PartsName, TreeNames, TreesName}
@@ -48,19 +50,21 @@ LinkSound BranchRIL p bs = length bs ≡ 6
 LinkSound PCRel32 p bs = (length bs ≡ 4) × (word bs 0 ≤ p)
 LinkSound PCRel32Dbl p bs = ⊥
 
--- a piece at a place or behind it, whose bytes come in pairs, and whose use is one of a label that may be used
-abbrev pub Sound : (ℕ → Type 0) → (place : ℕ) → Piece → Type 0
-Sound May p (Put bs) = length bs % 2 ≡ 0
-Sound May p (PutReloc bs kind name addend) = length bs % 2 ≡ 0
-Sound May p (PutTrapping bs byte code) = length bs % 2 ≡ 0
-Sound May p (Link kind l bs) = LinkSound kind p bs × May l
-Sound May p Step = Unit {0}
-Sound May p Draw = Unit {0}
-Sound May p (Bind l) = Unit {0}
+-- a piece at a place or behind it, whose bytes come in pairs, and whose use is one of a label that may be used. So many blocks have labels before
+-- the constants
+abbrev pub Sound : (ℕ → Type 0) → (blocks place : ℕ) → Piece → Type 0
+Sound May blocks p (Put bs) = length bs % 2 ≡ 0
+Sound May blocks p (PutReloc bs byte kind name addend) = length bs % 2 ≡ 0
+Sound May blocks p (PutTrapping bs byte code) = length bs % 2 ≡ 0
+Sound May blocks p (Link kind l bs) = LinkSound kind p bs × May l
+Sound May blocks p (LinkConstant c bs) = LinkSound BranchRIL p bs × May (blocks + c)
+Sound May blocks p Step = Unit {0}
+Sound May blocks p Draw = Unit {0}
+Sound May blocks p (Bind l) = Unit {0}
 
-abbrev pub AllSound : (ℕ → Type 0) → (place : ℕ) → List Piece → Type 0
-AllSound May p [] = Unit {0}
-AllSound May p (x ∷ xs) = Sound May p x × AllSound May (p + put_length (x ∷ [])) xs
+abbrev pub AllSound : (ℕ → Type 0) → (blocks place : ℕ) → List Piece → Type 0
+AllSound May blocks p [] = Unit {0}
+AllSound May blocks p (x ∷ xs) = Sound May blocks p x × AllSound May blocks (p + put_length (x ∷ [])) xs
 
 link_later : (kind : LabelUse) (p q : ℕ) (bs : List ℕ) → p ≤ q → LinkSound kind p bs → LinkSound kind q bs
 link_later BranchRI p q bs le h = h
@@ -68,22 +72,23 @@ link_later BranchRIL p q bs le h = h
 link_later PCRel32 p q bs le h = (h.0, omega (arith, h.1))
 link_later PCRel32Dbl p q bs le h = h
 
-later_sound : (May : ℕ → Type 0) (p q : ℕ) (x : Piece) → p ≤ q → Sound May p x → Sound May q x
-later_sound May p q (Put bs) le h = h
-later_sound May p q (PutReloc bs kind name addend) le h = h
-later_sound May p q (PutTrapping bs byte code) le h = h
-later_sound May p q (Link kind l bs) le h = (link_later kind p q bs le h.0, h.1)
-later_sound May p q Step le h = h
-later_sound May p q Draw le h = h
-later_sound May p q (Bind l) le h = h
+later_sound : (May : ℕ → Type 0) (blocks p q : ℕ) (x : Piece) → p ≤ q → Sound May blocks p x → Sound May blocks q x
+later_sound May blocks p q (Put bs) le h = h
+later_sound May blocks p q (PutReloc bs byte kind name addend) le h = h
+later_sound May blocks p q (PutTrapping bs byte code) le h = h
+later_sound May blocks p q (Link kind l bs) le h = (link_later kind p q bs le h.0, h.1)
+later_sound May blocks p q (LinkConstant c bs) le h = (link_later BranchRIL p q bs le h.0, h.1)
+later_sound May blocks p q Step le h = h
+later_sound May blocks p q Draw le h = h
+later_sound May blocks p q (Bind l) le h = h
 
-all_later : (May : ℕ → Type 0) (xs : List Piece) (p q : ℕ) → p ≤ q → AllSound May p xs → AllSound May q xs
-all_later May [] p q le h = h
-all_later May (x ∷ xs) p q le h = (later_sound May p q x le h.0, all_later May xs (p + put_length (x ∷ [])) (q + put_length (x ∷ [])) (omega arith) h.1)
+all_later : (May : ℕ → Type 0) (xs : List Piece) (blocks p q : ℕ) → p ≤ q → AllSound May blocks p xs → AllSound May blocks q xs
+all_later May [] blocks p q le h = h
+all_later May (x ∷ xs) blocks p q le h = (later_sound May blocks p q x le h.0, all_later May xs blocks (p + put_length (x ∷ [])) (q + put_length (x ∷ [])) (omega arith) h.1)
 
-sound_append : (May : ℕ → Type 0) (a b : List Piece) (p : ℕ) → AllSound May p a → AllSound May 0 b → AllSound May p (a ++ b)
-sound_append May [] b p h k = all_later May b 0 p (omega arith) k
-sound_append May (x ∷ a) b p h k = (h.0, sound_append May a b (p + put_length (x ∷ [])) h.1 k)
+sound_append : (May : ℕ → Type 0) (a b : List Piece) (blocks p : ℕ) → AllSound May blocks p a → AllSound May blocks 0 b → AllSound May blocks p (a ++ b)
+sound_append May [] b blocks p h k = all_later May b blocks 0 p (omega arith) k
+sound_append May (x ∷ a) b blocks p h k = (h.0, sound_append May a b blocks (p + put_length (x ∷ [])) h.1 k)
 
 -- no table begins before the first of the parts, which stands at a place
 abbrev pub TablesBegin : (place : ℕ) → List Part → Type 0
@@ -95,23 +100,29 @@ TablesBegin p (Row m ∷ parts) = TablesBegin (p + size_of m) parts
 TablesBegin p (Trapping m byte code ∷ parts) = TablesBegin (p + size_of m) parts
 TablesBegin p (Branch mask target ∷ parts) = TablesBegin (p + 6) parts
 TablesBegin p (Relative opcode register target ∷ parts) = TablesBegin (p + 6) parts
+TablesBegin p (RelativeConstant opcode register c ∷ parts) = TablesBegin (p + 6) parts
+TablesBegin p (RelativeSymbol opcode register name offset ∷ parts) = TablesBegin (p + 6) parts
 
 word_sound : (before p : ℕ) → before ≤ p → LinkSound PCRel32 p (word_bytes before)
 word_sound before p le = (refl, omega arith)
 
-parts_sound : (May : ℕ → Type 0) (parts : List Part) (blocks p : ℕ) → PartsName blocks parts → TablesBegin p parts → ((l : ℕ) → l < blocks → May l) → AllSound May p (part_pieces parts)
-parts_sound May [] blocks p names begin may = tt
-parts_sound May (Row m ∷ parts) blocks p names begin may = (even_bytes m, all_later May (part_pieces parts) (p + size_of m) _ (omega (arith, length-bytes m)) (parts_sound May parts blocks (p + size_of m) names.1 begin may))
-parts_sound May (Trapping m byte code ∷ parts) blocks p names begin may = (even_bytes m, all_later May (part_pieces parts) (p + size_of m) _ (omega (arith, length-bytes m)) (parts_sound May parts blocks (p + size_of m) names.1 begin may))
-parts_sound May (Branch mask (ToBlock b) ∷ parts) blocks p names begin may = ((length-branch mask, may b names.0), all_later May (part_pieces parts) (p + 6) _ (omega (arith, length-branch mask)) (parts_sound May parts blocks (p + 6) names.1 begin may))
-parts_sound May (Branch mask (ToStep k) ∷ parts) blocks p names begin may = absurd names.0
-parts_sound May (Relative opcode register (ToBlock b) ∷ parts) blocks p names begin may =
-    ((length-relative opcode register, may b names.0), all_later May (part_pieces parts) (p + 6) _ (omega (arith, length-relative opcode register)) (parts_sound May parts blocks (p + 6) names.1 begin may))
-parts_sound May (Relative opcode register (ToStep k) ∷ parts) blocks p names begin may = absurd names.0
-parts_sound May (SymbolValue name offset ∷ parts) blocks p names begin may = (refl, all_later May (part_pieces parts) (p + 8) _ (omega arith) (parts_sound May parts blocks (p + 8) names.1 begin may))
-parts_sound May (TrapHere code ∷ parts) blocks p names begin may = (refl, all_later May (part_pieces parts) (p + 0) _ (omega arith) (parts_sound May parts blocks (p + 0) names.1 begin may))
-parts_sound May (TableWord before (ToBlock b) ∷ parts) blocks p names begin may = ((word_sound before p begin.0, may b names.0), all_later May (part_pieces parts) (p + 4) _ (omega arith) (parts_sound May parts blocks (p + 4) names.1 begin.1 may))
-parts_sound May (TableWord before (ToStep k) ∷ parts) blocks p names begin may = absurd names.0
+parts_sound : (May : ℕ → Type 0) (parts : List Part) (blocks constants p : ℕ) → PartsName blocks constants parts → TablesBegin p parts → ((l : ℕ) → l < blocks → May l) → ((c : ℕ) → c < constants → May (blocks + c)) → AllSound May blocks p (part_pieces parts)
+parts_sound May [] blocks constants p names begin may held = tt
+parts_sound May (Row m ∷ parts) blocks constants p names begin may held = (even_bytes m, all_later May (part_pieces parts) blocks (p + size_of m) _ (omega (arith, length-bytes m)) (parts_sound May parts blocks constants (p + size_of m) names.1 begin may held))
+parts_sound May (Trapping m byte code ∷ parts) blocks constants p names begin may held = (even_bytes m, all_later May (part_pieces parts) blocks (p + size_of m) _ (omega (arith, length-bytes m)) (parts_sound May parts blocks constants (p + size_of m) names.1 begin may held))
+parts_sound May (Branch mask (ToBlock b) ∷ parts) blocks constants p names begin may held = ((length-branch mask, may b names.0), all_later May (part_pieces parts) blocks (p + 6) _ (omega (arith, length-branch mask)) (parts_sound May parts blocks constants (p + 6) names.1 begin may held))
+parts_sound May (Branch mask (ToStep k) ∷ parts) blocks constants p names begin may held = absurd names.0
+parts_sound May (Relative opcode register (ToBlock b) ∷ parts) blocks constants p names begin may held =
+    ((length-relative opcode register, may b names.0), all_later May (part_pieces parts) blocks (p + 6) _ (omega (arith, length-relative opcode register)) (parts_sound May parts blocks constants (p + 6) names.1 begin may held))
+parts_sound May (Relative opcode register (ToStep k) ∷ parts) blocks constants p names begin may held = absurd names.0
+parts_sound May (RelativeConstant opcode register c ∷ parts) blocks constants p names begin may held =
+    ((length-relative opcode register, held c names.0), all_later May (part_pieces parts) blocks (p + 6) _ (omega (arith, length-relative opcode register)) (parts_sound May parts blocks constants (p + 6) names.1 begin may held))
+parts_sound May (RelativeSymbol opcode register name offset ∷ parts) blocks constants p names begin may held =
+    (omega (arith, length-relative opcode register), all_later May (part_pieces parts) blocks (p + 6) _ (omega (arith, length-relative opcode register)) (parts_sound May parts blocks constants (p + 6) names.1 begin may held))
+parts_sound May (SymbolValue name offset ∷ parts) blocks constants p names begin may held = (refl, all_later May (part_pieces parts) blocks (p + 8) _ (omega arith) (parts_sound May parts blocks constants (p + 8) names.1 begin may held))
+parts_sound May (TrapHere code ∷ parts) blocks constants p names begin may held = (refl, all_later May (part_pieces parts) blocks (p + 0) _ (omega arith) (parts_sound May parts blocks constants (p + 0) names.1 begin may held))
+parts_sound May (TableWord before (ToBlock b) ∷ parts) blocks constants p names begin may held = ((word_sound before p begin.0, may b names.0), all_later May (part_pieces parts) blocks (p + 4) _ (omega arith) (parts_sound May parts blocks constants (p + 4) names.1 begin.1 may held))
+parts_sound May (TableWord before (ToStep k) ∷ parts) blocks constants p names begin may held = absurd names.0
 
 row_begins : (m : MachineInstruction) (code : Option TrapKind) → TablesBegin 0 (row_part m code ∷ [])
 row_begins m None = tt
@@ -138,57 +149,123 @@ branch_begins (TrapIf mask code) = tt
 branch_begins Debugtrap = tt
 branch_begins i = tt
 
-all_begin : (n : ℕ) (parts : List Part) → AllRows parts → TablesBegin n parts
-unfolding AllRows
+-- ---- an instruction with a memory operand has no words of a table
+
+-- no word of a table
+unfoldable NoWords : List Part → Type 0
+NoWords [] = Unit {0}
+NoWords (TableWord before target ∷ parts) = ⊥
+NoWords (_ ∷ parts) = NoWords parts
+
+wordless_append : (a b : List Part) → NoWords a → NoWords b → NoWords (a ++ b)
+unfolding NoWords
+wordless_append [] b h k = k
+wordless_append (TableWord before target ∷ a) b h k = absurd h
+wordless_append (part ∷ a) b h k = wordless_append a b h k
+
+access_wordless : (o : Option MachineInstruction) (code : Option TrapKind) → NoWords (access_parts o code)
+unfolding NoWords
+access_wordless None code = tt
+access_wordless (Some m) None = tt
+access_wordless (Some m) (Some code) = tt
+
+trap_wordless : (code : Option TrapKind) → NoWords (trap_here code)
+unfolding NoWords
+trap_wordless None = tt
+trap_wordless (Some code) = tt
+
+part_wordless : (opcode register : ℕ) (m : MemArg) → NoWords (relative_part opcode register m)
+unfolding NoWords
+part_wordless opcode register (Label target) = tt
+part_wordless opcode register (Constant c) = tt
+part_wordless opcode register (Symbol name offset flags) = tt
+part_wordless opcode register m = tt
+
+relative_wordless : (form : StorageForm) (code : Option TrapKind) (m : MemArg) → NoWords (relative_parts form code m)
+unfolding NoWords
+relative_wordless (RxForm register rx_opcode rxy_opcode (Some opcode)) code m = wordless_append (trap_here code) (relative_part opcode register m) (trap_wordless code) (part_wordless opcode register m)
+relative_wordless form code m = tt
+
+either_wordless : (b : Bool) (x y : List Part) → NoWords x → NoWords y → NoWords (cond b x y)
+either_wordless true x y h k = h
+either_wordless false x y h k = k
+
+operand_wordless : (form : StorageForm) (code : Option TrapKind) (m : MemArg) → NoWords (operand_parts form code m)
+operand_wordless form code m = either_wordless (is_relative m) _ _ (relative_wordless form code m) (access_wordless (storage_row form m) code)
+
+helper_wordless : (i : Inst) → NoWords (helper_parts i)
+unfolding NoWords
+helper_wordless (Mov64SImm32 rd imm) = tt
+helper_wordless (LoadAddr rd mem) = operand_wordless (address_form rd) None mem
+helper_wordless i = tt
+
+helpers_wordless : (is : List Inst) → NoWords (helpers_parts is)
+unfolding NoWords
+helpers_wordless [] = tt
+helpers_wordless (i ∷ is) = wordless_append (helper_parts i) (helpers_parts is) (helper_wordless i) (helpers_wordless is)
+
+memory_wordless : (x : MemoryInstruction) → NoWords (memory_parts x)
+memory_wordless x =
+    let f = finalized (type_of x.form x.accesses) x.operand in
+    wordless_append (helpers_parts f.helpers) (operand_parts x.form (fault_code x) f.operand) (helpers_wordless f.helpers) (operand_wordless x.form (fault_code x) f.operand)
+
+all_begin : (n : ℕ) (parts : List Part) → NoWords parts → TablesBegin n parts
+unfolding NoWords
 all_begin n [] h = tt
+all_begin n (TableWord before target ∷ parts) h = absurd h
+all_begin n (SymbolValue name offset ∷ parts) h = all_begin (n + 8) parts h
+all_begin n (TrapHere code ∷ parts) h = all_begin (n + 0) parts h
 all_begin n (Row m ∷ parts) h = all_begin (n + size_of m) parts h
 all_begin n (Trapping m byte code ∷ parts) h = all_begin (n + size_of m) parts h
-all_begin n (part ∷ parts) h = absurd h
+all_begin n (Branch mask target ∷ parts) h = all_begin (n + 6) parts h
+all_begin n (Relative opcode register target ∷ parts) h = all_begin (n + 6) parts h
+all_begin n (RelativeConstant opcode register c ∷ parts) h = all_begin (n + 6) parts h
+all_begin n (RelativeSymbol opcode register name offset ∷ parts) h = all_begin (n + 6) parts h
 
 memory_begins : (o : Option MemoryInstruction) (others : List Part) → TablesBegin 0 others → TablesBegin 0 (memory_or o others)
 memory_begins None others h = h
-memory_begins (Some x) others h = all_begin 0 (memory_parts x) (memory_rows x)
+memory_begins (Some x) others h = all_begin 0 (memory_parts x) (memory_wordless x)
 
-leaf_sound : (May : ℕ → Type 0) (i : Inst) (n after blocks : ℕ) → PartsName blocks (instruction_parts i) → ((l : ℕ) → l < blocks → May l) → ((l : ℕ) → n ≤ l → l < n + instruction_draws i → May l) → May after → AllSound May 0 (leaf_pieces n after i)
-leaf_sound May (CondBreak mask) n after blocks names may drawn here = ((length-branch mask, here), tt)
-leaf_sound May (JTSequence ridx other mask targets) n after blocks names may drawn here = (
+leaf_sound : (May : ℕ → Type 0) (i : Inst) (n after blocks constants : ℕ) → PartsName blocks constants (instruction_parts i) → ((l : ℕ) → l < blocks → May l) → ((c : ℕ) → c < constants → May (blocks + c)) → ((l : ℕ) → n ≤ l → l < n + instruction_draws i → May l) → May after → AllSound May blocks 0 (leaf_pieces n after i)
+leaf_sound May (CondBreak mask) n after blocks constants names may held drawn here = ((length-branch mask, here), tt)
+leaf_sound May (JTSequence ridx other mask targets) n after blocks constants names may held drawn here = (
   tt,
   (
     (length-branch mask, may other.0 names.0),
     (
       (length-relative 0xc00 1, drawn n (omega arith) (omega arith)),
-      (even_bytes (rxy 0xe318 1 1 (number_of ridx) 0), (even_bytes (rr 0x07 15 1), (tt, parts_sound May (table_words 0 targets.items) blocks _ names.1.1.1.1 (words_begin targets.items 0 _ (omega arith)) may))),
+      (even_bytes (rxy 0xe318 1 1 (number_of ridx) 0), (even_bytes (rr 0x07 15 1), (tt, parts_sound May (table_words 0 targets.items) blocks constants _ names.1.1.1.1 (words_begin targets.items 0 _ (omega arith)) may held))),
     ),
   ),
 )
-leaf_sound May i n after blocks names may drawn here = parts_sound May (instruction_parts i) blocks 0 names (begins_or (alone i) (stop_code i) (memory_or (memory i) (branch_parts i)) (memory_begins (memory i) (branch_parts i) (branch_begins i))) may
+leaf_sound May i n after blocks constants names may held drawn here = parts_sound May (instruction_parts i) blocks constants 0 names (begins_or (alone i) (stop_code i) (memory_or (memory i) (branch_parts i)) (memory_begins (memory i) (branch_parts i) (branch_begins i))) may held
 
-pub tree_sound : (May : ℕ → Type 0) (t : Tree) (n after blocks : ℕ) → TreeNames blocks t → ((l : ℕ) → l < blocks → May l) → ((l : ℕ) → n ≤ l → l < n + draws t → May l) → May after → AllSound May 0 (pieces n after t)
-tree_sound May empty n after blocks names may drawn here = tt
-tree_sound May (leaf i rest) n after blocks names may drawn here = (
+pub tree_sound : (May : ℕ → Type 0) (t : Tree) (n after blocks constants : ℕ) → TreeNames blocks constants t → ((l : ℕ) → l < blocks → May l) → ((c : ℕ) → c < constants → May (blocks + c)) → ((l : ℕ) → n ≤ l → l < n + draws t → May l) → May after → AllSound May blocks 0 (pieces n after t)
+tree_sound May empty n after blocks constants names may held drawn here = tt
+tree_sound May (leaf i rest) n after blocks constants names may held drawn here = (
   tt,
-  sound_append May (leaf_pieces n after i) (pieces (n + instruction_draws i) after rest) 0
-      (leaf_sound May i n after blocks names.0 may (λ l lo hi. drawn l lo (omega arith)) here)
-      (tree_sound May rest (n + instruction_draws i) after blocks names.1 may (λ l lo hi. drawn l (omega arith) (omega arith)) here),
+  sound_append May (leaf_pieces n after i) (pieces (n + instruction_draws i) after rest) blocks 0
+      (leaf_sound May i n after blocks constants names.0 may held (λ l lo hi. drawn l lo (omega arith)) here)
+      (tree_sound May rest (n + instruction_draws i) after blocks constants names.1 may held (λ l lo hi. drawn l (omega arith) (omega arith)) here),
 )
-tree_sound May (looped mask members rest) n after blocks names may drawn here =
+tree_sound May (looped mask members rest) n after blocks constants names may held drawn here =
     let r = pieces (n + 2 + draws members) after rest in
-    let inner = tree_sound May members (n + 2) (n + 1) blocks names.0 may (λ l lo hi. drawn l (omega arith) (omega arith)) (drawn (n + 1) (omega arith) (omega arith)) in
-    let outer = tree_sound May rest (n + 2 + draws members) after blocks names.1 may (λ l lo hi. drawn l (omega arith) (omega arith)) here in
-    let back : AllSound May 0 (back_pieces n mask ++ r) = (tt, ((length-branch mask, drawn n (omega arith) (omega arith)), (tt, all_later May r 0 _ (omega arith) outer))) in
-    (tt, (tt, (tt, (tt, sound_append May (pieces (n + 2) (n + 1) members) (back_pieces n mask ++ r) 0 inner back))))
+    let inner = tree_sound May members (n + 2) (n + 1) blocks constants names.0 may held (λ l lo hi. drawn l (omega arith) (omega arith)) (drawn (n + 1) (omega arith) (omega arith)) in
+    let outer = tree_sound May rest (n + 2 + draws members) after blocks constants names.1 may held (λ l lo hi. drawn l (omega arith) (omega arith)) here in
+    let back : AllSound May blocks 0 (back_pieces n mask ++ r) = (tt, ((length-branch mask, drawn n (omega arith) (omega arith)), (tt, all_later May r blocks 0 _ (omega arith) outer))) in
+    (tt, (tt, (tt, (tt, sound_append May (pieces (n + 2) (n + 1) members) (back_pieces n mask ++ r) blocks 0 inner back))))
 
 -- how many labels the blocks draw
 abbrev pub all_draws : List Tree → ℕ
 all_draws [] = 0
 all_draws (t ∷ ts) = draws t + all_draws ts
 
-pub function_sound : (May : ℕ → Type 0) (ts : List Tree) (n b blocks : ℕ) → TreesName blocks ts → ((l : ℕ) → l < blocks → May l) → ((l : ℕ) → n ≤ l → l < n + all_draws ts → May l) → b + length ts ≤ blocks → AllSound May 0 (function_pieces n b ts)
-function_sound May [] n b blocks names may drawn room = tt
-function_sound May (t ∷ ts) n b blocks names may drawn room =
-    let here = tree_sound May t n 0 blocks names.0 may (λ l lo hi. drawn l (omega arith) (omega arith)) (may 0 (omega arith)) in
-    let there = function_sound May ts (n + draws t) (b + 1) blocks names.1 may (λ l lo hi. drawn l (omega arith) (omega arith)) (omega arith) in
-    (tt, sound_append May (pieces n 0 t) (function_pieces (n + draws t) (b + 1) ts) 0 here there)
+pub function_sound : (May : ℕ → Type 0) (ts : List Tree) (n b blocks constants : ℕ) → TreesName blocks constants ts → ((l : ℕ) → l < blocks → May l) → ((c : ℕ) → c < constants → May (blocks + c)) → ((l : ℕ) → n ≤ l → l < n + all_draws ts → May l) → b + length ts ≤ blocks → AllSound May blocks 0 (function_pieces n b ts)
+function_sound May [] n b blocks constants names may held drawn room = tt
+function_sound May (t ∷ ts) n b blocks constants names may held drawn room =
+    let here = tree_sound May t n 0 blocks constants names.0 may held (λ l lo hi. drawn l (omega arith) (omega arith)) (may 0 (omega arith)) in
+    let there = function_sound May ts (n + draws t) (b + 1) blocks constants names.1 may held (λ l lo hi. drawn l (omega arith) (omega arith)) (omega arith) in
+    (tt, sound_append May (pieces n 0 t) (function_pieces (n + draws t) (b + 1) ts) blocks 0 here there)
 
 -- where a label stands, if it does: at an even place in so many bytes
 abbrev pub Stands : ℕ → Option ℕ → Type 0
@@ -273,29 +350,29 @@ link_size BranchRIL p bs h = (h, omega (arith, h))
 link_size PCRel32 p bs h = (h.0, omega (arith, h.0))
 link_size PCRel32Dbl p bs h = absurd h
 
-orderly_step : (May : ℕ → Type 0) (x : Piece) (s : State) (p : ℕ) → p ≤ length s.bytes → Sound May p x → Orderly May s → Orderly May (apply s x)
-orderly_step May (Put bs) s p le sound h =
+orderly_step : (May : ℕ → Type 0) (x : Piece) (s : State) (blocks p : ℕ) → s.block_count ≡ blocks → p ≤ length s.bytes → Sound May blocks p x → Orderly May s → Orderly May (apply s x)
+orderly_step May (Put bs) s blocks p count le sound h =
     let n = length-append s.bytes bs in
     record {
       even = omega (arith, n, sound, h.even);
       labels = All-weaker _ _ (stands_more (length s.bytes) (length (s.bytes ++ bs)) (omega (arith, n))) s.labels h.labels;
       uses = uses_still May s.uses 0 0 s.bytes (s.bytes ++ bs) (same_append 0 s.bytes bs) (omega arith) h.uses;
     }
-orderly_step May (PutReloc bs kind name addend) s p le sound h =
+orderly_step May (PutReloc bs byte kind name addend) s blocks p count le sound h =
     let n = length-append s.bytes bs in
     record {
       even = omega (arith, n, sound, h.even);
       labels = All-weaker _ _ (stands_more (length s.bytes) (length (s.bytes ++ bs)) (omega (arith, n))) s.labels h.labels;
       uses = uses_still May s.uses 0 0 s.bytes (s.bytes ++ bs) (same_append 0 s.bytes bs) (omega arith) h.uses;
     }
-orderly_step May (PutTrapping bs byte code) s p le sound h =
+orderly_step May (PutTrapping bs byte code) s blocks p count le sound h =
     let n = length-append s.bytes bs in
     record {
       even = omega (arith, n, sound, h.even);
       labels = All-weaker _ _ (stands_more (length s.bytes) (length (s.bytes ++ bs)) (omega (arith, n))) s.labels h.labels;
       uses = uses_still May s.uses 0 0 s.bytes (s.bytes ++ bs) (same_append 0 s.bytes bs) (omega arith) h.uses;
     }
-orderly_step May (Link kind l bs) s p le sound h =
+orderly_step May (Link kind l bs) s blocks p count le sound h =
     let n = length-append s.bytes bs in
     let size = link_size kind p bs sound.0 in
     let u : LabelFixup = record { kind = kind; offset = length s.bytes; label = record { 0 = l } } in
@@ -310,20 +387,46 @@ orderly_step May (Link kind l bs) s p le sound h =
         label = sound.1;
       });
     }
-orderly_step May Step s p le sound h = record { even = h.even; labels = h.labels; uses = h.uses }
-orderly_step May Draw s p le sound h = record { even = h.even; labels = All-push (Stands (length s.bytes)) s.labels None h.labels tt; uses = h.uses }
-orderly_step May (Bind l) s p le sound h = record { even = h.even; labels = All-set (Stands (length s.bytes)) s.labels l (Some (length s.bytes)) (h.even, omega arith) h.labels; uses = h.uses }
+orderly_step May (LinkConstant c bs) s blocks p count le sound h =
+    let n = length-append s.bytes bs in
+    let size = link_size BranchRIL p bs sound.0 in
+    let u : LabelFixup = record { kind = BranchRIL; offset = length s.bytes; label = record { 0 = constant_label s c } } in
+    record {
+      even = omega (arith, n, size.1, h.even);
+      labels = All-weaker _ _ (stands_more (length s.bytes) (length (s.bytes ++ bs)) (omega (arith, n))) s.labels h.labels;
+      uses = one_more_use May s.uses 0 s.bytes (s.bytes ++ bs) u (same_append 0 s.bytes bs) (omega arith) h.uses (record {
+        behind = omega arith;
+        even = h.even;
+        within = omega (arith, n, size.0);
+        bears = link_bears BranchRIL p s.bytes bs le sound.0;
+        label = subst (λ n. May (n + c)) (sym count) sound.1;
+      });
+    }
+orderly_step May Step s blocks p count le sound h = record { even = h.even; labels = h.labels; uses = h.uses }
+orderly_step May Draw s blocks p count le sound h = record { even = h.even; labels = All-push (Stands (length s.bytes)) s.labels None h.labels tt; uses = h.uses }
+orderly_step May (Bind l) s blocks p count le sound h = record { even = h.even; labels = All-set (Stands (length s.bytes)) s.labels l (Some (length s.bytes)) (h.even, omega arith) h.labels; uses = h.uses }
 
 applied_length : (x : Piece) (s : State) → length (apply s x).bytes ≡ length s.bytes + put_length (x ∷ [])
 applied_length (Put bs) s = omega (arith, length-append s.bytes bs)
-applied_length (PutReloc bs kind name addend) s = omega (arith, length-append s.bytes bs)
+applied_length (PutReloc bs byte kind name addend) s = omega (arith, length-append s.bytes bs)
 applied_length (PutTrapping bs byte code) s = omega (arith, length-append s.bytes bs)
 applied_length (Link kind l bs) s = omega (arith, length-append s.bytes bs)
+applied_length (LinkConstant c bs) s = omega (arith, length-append s.bytes bs)
 applied_length Step s = omega arith
 applied_length Draw s = omega arith
 applied_length (Bind l) s = omega arith
 
-pub orderly_run : (May : ℕ → Type 0) (xs : List Piece) (s : State) (p : ℕ) → p ≤ length s.bytes → AllSound May p xs → Orderly May s → Orderly May (run s xs)
-orderly_run May [] s p le sound h = h
-orderly_run May (x ∷ xs) s p le sound h =
-    orderly_run May xs (apply s x) (p + put_length (x ∷ [])) (omega (arith, applied_length x s)) sound.1 (orderly_step May x s p le sound.0 h)
+applied_count : (x : Piece) (s : State) → (apply s x).block_count ≡ s.block_count
+applied_count (Put bs) s = refl
+applied_count (PutReloc bs byte kind name addend) s = refl
+applied_count (PutTrapping bs byte code) s = refl
+applied_count (Link kind l bs) s = refl
+applied_count (LinkConstant c bs) s = refl
+applied_count Step s = refl
+applied_count Draw s = refl
+applied_count (Bind l) s = refl
+
+pub orderly_run : (May : ℕ → Type 0) (xs : List Piece) (s : State) (blocks p : ℕ) → s.block_count ≡ blocks → p ≤ length s.bytes → AllSound May blocks p xs → Orderly May s → Orderly May (run s xs)
+orderly_run May [] s blocks p count le sound h = h
+orderly_run May (x ∷ xs) s blocks p count le sound h =
+    orderly_run May xs (apply s x) blocks (p + put_length (x ∷ [])) (applied_count x s ∙ count) (omega (arith, applied_length x s)) sound.1 (orderly_step May x s blocks p count le sound.0 h)

@@ -1,14 +1,14 @@
 -- What the check let pass stays passed, from member to member, through a loop and from block to block.
-use Rattle.std.proofs.Common.{◌≡◌, ℕ, ◌+◌, ◌<◌, ◌≤◌, ◌∙◌, List, [], ◌∷◌, length, get_or, drop, None, false, refl, sym, ap, subst, arith, length-append, length-set, nat_lt}
+use Rattle.std.proofs.Common.{◌≡◌, ℕ, ◌+◌, ◌<◌, ◌≤◌, ◌∙◌, List, [], ◌∷◌, length, get_or, drop, None, false, refl, sym, ap, ap₂, subst, arith, length-append, length-set, nat_lt}
 use Rattle.std.proofs.lemmas.Bool.{ltb-true}
 use Rattle.s390x_inst.specs.Emission.{Emission}
 use Rattle.s390x_inst.specs.declared.state.IsaFlags.{IsaFlags}
 use Rattle.s390x_base.specs.declared.error.EmitError.TheVariants.{LabelOutOfRange}
-use Rattle.s390x_buffer.specs.State.{State, label_limit}
+use Rattle.s390x_buffer.specs.State.{State, Constant, label_limit}
 use Rattle.s390x_inst.specs.declared.inst.Inst.{Inst}
 use Rattle.s390x_steps.specs.Tree.{Tree, empty, leaf, looped, graft, tree}
 use Rattle.s390x_steps.specs.Sizes.{instruction_size, tree_size}
-use Rattle.s390x_steps.specs.Causes.{first, draws, nesting_cause, numbers_cause, leaf_cause, tree_cause}
+use Rattle.s390x_steps.specs.Causes.{Declared, first, aligns_of, declared_in, draws, nesting_cause, numbers_cause, leaf_cause, tree_cause}
 use Rattle.s390x_steps.proofs.Trees.{behind, graft_size}
 use Rattle.s390x_steps.proofs.Causes.{first_left, first_right, unless_true, graft_cause}
 use Rattle.s390x_emit_int.specs.Pieces.{Step, Draw, Bind, apply, run}
@@ -22,29 +22,37 @@ use Rattle.s390x_emit_int.proofs.Trees.{graft_run}
 pub record Turns (s t : State) (k m : ℕ) : Type 0 where
   pub unmarked : t.failed ≡ s.failed
   pub blocks : t.block_count ≡ s.block_count
+  pub constants : t.constants ≡ s.constants
   pub labels : length t.labels ≡ length s.labels + k
   pub bytes : length t.bytes ≡ length s.bytes + m
 
+abbrev declared_by : ℕ → List Constant → Declared
+declared_by n cs = record { blocks = n; aligns = aligns_of cs }
+
+-- what is declared stays
+pub turns_declared : (s t : State) (k m : ℕ) → Turns s t k m → declared_in t ≡ declared_in s
+turns_declared s t k m u = ap₂ declared_by u.blocks u.constants
+
 pub step_turns : (s t : State) → t ≡ apply s Step → Turns s t 0 0
-step_turns s t e = record { unmarked = ap (λ x. x.failed) e; blocks = ap (λ x. x.block_count) e; labels = omega (arith, ap (λ x. length x.labels) e); bytes = omega (arith, ap (λ x. length x.bytes) e) }
+step_turns s t e = record { unmarked = ap (λ x. x.failed) e; blocks = ap (λ x. x.block_count) e; constants = ap (λ x. x.constants) e; labels = omega (arith, ap (λ x. length x.labels) e); bytes = omega (arith, ap (λ x. length x.bytes) e) }
 
 pub draw_turns : (s t : State) → t ≡ apply s Draw → Turns s t 1 0
-draw_turns s t e = record { unmarked = ap (λ x. x.failed) e; blocks = ap (λ x. x.block_count) e; labels = ap (λ x. length x.labels) e ∙ length-append s.labels (None ∷ []); bytes = omega (arith, ap (λ x. length x.bytes) e) }
+draw_turns s t e = record { unmarked = ap (λ x. x.failed) e; blocks = ap (λ x. x.block_count) e; constants = ap (λ x. x.constants) e; labels = ap (λ x. length x.labels) e ∙ length-append s.labels (None ∷ []); bytes = omega (arith, ap (λ x. length x.bytes) e) }
 
 pub bind_turns : (s t : State) (l : ℕ) → t ≡ apply s (Bind l) → Turns s t 0 0
-bind_turns s t l e = record { unmarked = ap (λ x. x.failed) e; blocks = ap (λ x. x.block_count) e; labels = ap (λ x. length x.labels) e ∙ length-set s.labels l _ ∙ (omega arith); bytes = omega (arith, ap (λ x. length x.bytes) e) }
+bind_turns s t l e = record { unmarked = ap (λ x. x.failed) e; blocks = ap (λ x. x.block_count) e; constants = ap (λ x. x.constants) e; labels = ap (λ x. length x.labels) e ∙ length-set s.labels l _ ∙ (omega arith); bytes = omega (arith, ap (λ x. length x.bytes) e) }
 
 pub branch_turns : (s t : State) (mask l : ℕ) → t ≡ apply s (branch mask l) → Turns s t 0 6
-branch_turns s t mask l e = record { unmarked = ap (λ x. x.failed) e; blocks = ap (λ x. x.block_count) e; labels = omega (arith, ap (λ x. length x.labels) e); bytes = ap (λ x. length x.bytes) e ∙ length-append s.bytes _ ∙ ap (λ m. length s.bytes + m) (length-branch mask) }
+branch_turns s t mask l e = record { unmarked = ap (λ x. x.failed) e; blocks = ap (λ x. x.block_count) e; constants = ap (λ x. x.constants) e; labels = omega (arith, ap (λ x. length x.labels) e); bytes = ap (λ x. length x.bytes) e ∙ length-append s.bytes _ ∙ ap (λ m. length s.bytes + m) (length-branch mask) }
 
 pub tree_turns : (s t : State) (n after : ℕ) (x : Tree) → n ≡ length s.labels → t ≡ run s (pieces n after x) → Turns s t (draws x) (tree_size x)
 tree_turns s t n after x en e =
     let g = tree_grows x s n after en in
     let same = same_run (pieces n after x) s in
-    record { unmarked = ap (λ x. x.failed) e ∙ same.failed; blocks = ap (λ x. x.block_count) e ∙ same.block_count; labels = ap (λ x. length x.labels) e ∙ g.labels; bytes = ap (λ x. length x.bytes) e ∙ g.bytes }
+    record { unmarked = ap (λ x. x.failed) e ∙ same.failed; blocks = ap (λ x. x.block_count) e ∙ same.block_count; constants = ap (λ x. x.constants) e ∙ same.constants; labels = ap (λ x. length x.labels) e ∙ g.labels; bytes = ap (λ x. length x.bytes) e ∙ g.bytes }
 
 -- an instruction that is no loop, alone
-pub leaf_passed : (flags : IsaFlags) (s : State) (after depth : ℕ) (i : Inst) (x : Tree) → x ≡ leaf i empty → TreePassed flags s after depth x → MembersPassed s after depth (instruction_size i) (leaf_cause flags s.block_count (length s.labels) depth i)
+pub leaf_passed : (flags : IsaFlags) (s : State) (after depth : ℕ) (i : Inst) (x : Tree) → x ≡ leaf i empty → TreePassed flags s after depth x → MembersPassed s after depth (instruction_size i) (leaf_cause flags (declared_in s) (length s.labels) depth i)
 leaf_passed flags s after depth i x e p =
     let q : TreePassed flags s after depth (leaf i empty) = subst (TreePassed flags s after depth) e p in
     record { unmarked = q.unmarked; blocks = q.blocks; label = q.label; short = omega (arith, q.short); passed = first_left _ _ q.passed }
@@ -59,7 +67,7 @@ member_passed state flags s s1 after depth is k i lt at e p =
       blocks = q.blocks;
       label = q.label;
       short = omega (arith, q.short, graft_size state i rest);
-      passed = first_left _ _ (sym (graft_cause flags state s.block_count (length s.labels) depth i rest) ∙ q.passed);
+      passed = first_left _ _ (sym (graft_cause flags state (declared_in s) (length s.labels) depth i rest) ∙ q.passed);
     } in
     subst (λ x. TreePassed flags x after depth (graft state i empty)) (sym e) here
 
@@ -71,13 +79,13 @@ others_passed state flags s s1 s2 after depth is k i lt at e1 e2 p =
     let q : TreePassed flags s after depth (graft state i rest) = subst (TreePassed flags s after depth) (behind state is k i lt at) p in
     let e2' : s2 ≡ run (apply s Step) (own_pieces n after (graft state i empty)) = e2 ∙ ap (λ x. run x (own_pieces (length x.labels) after (graft state i empty))) e1 in
     let t = tree_turns s s2 n after (graft state i empty) refl (e2' ∙ sym (graft_run state i empty s n after)) in
-    let cause : tree_cause flags s.block_count (n + draws (graft state i empty)) depth rest ≡ None = first_right (tree_cause flags s.block_count n depth (graft state i empty)) _ (sym (graft_cause flags state s.block_count n depth i rest) ∙ q.passed) in
+    let cause : tree_cause flags (declared_in s) (n + draws (graft state i empty)) depth rest ≡ None = first_right (tree_cause flags (declared_in s) n depth (graft state i empty)) _ (sym (graft_cause flags state (declared_in s) n depth i rest) ∙ q.passed) in
     record {
       unmarked = t.unmarked ∙ q.unmarked;
       blocks = omega (arith, t.blocks, t.labels, q.blocks);
       label = λ d. omega (arith, t.labels, q.label d);
       short = omega (arith, t.bytes, q.short, graft_size state i rest);
-      passed = ap (λ b. tree_cause flags b (length s2.labels) depth rest) t.blocks ∙ ap (λ m. tree_cause flags s.block_count m depth rest) t.labels ∙ cause;
+      passed = ap (λ D. tree_cause flags D (length s2.labels) depth rest) (turns_declared s s2 _ _ t) ∙ ap (λ m. tree_cause flags (declared_in s) m depth rest) t.labels ∙ cause;
     }
 
 -- a loop has two labels left, and its members pass
@@ -86,13 +94,13 @@ pub record LoopPassed (flags : IsaFlags) (s : State) (depth : ℕ) (members : Tr
   pub blocks : s.block_count ≤ length s.labels
   pub drawn : length s.labels + 2 ≤ label_limit
   pub short : length s.bytes + (tree_size members + 6) < 2147483648
-  pub passed : tree_cause flags s.block_count (length s.labels + 2) (depth + 1) members ≡ None
+  pub passed : tree_cause flags (declared_in s) (length s.labels + 2) (depth + 1) members ≡ None
 
 pub loop_passed : (flags : IsaFlags) (s : State) (after depth mask : ℕ) (members : Tree) → TreePassed flags s after depth (looped mask members empty) → LoopPassed flags s depth members
 loop_passed flags s after depth mask members p =
     let n = length s.labels in
     let opens = first (nesting_cause depth) (numbers_cause n 2) in
-    let inner = tree_cause flags s.block_count (n + 2) (depth + 1) members in
+    let inner = tree_cause flags (declared_in s) (n + 2) (depth + 1) members in
     let both : first opens inner ≡ None = first_left _ _ p.passed in
     let numbers : numbers_cause n 2 ≡ None = first_right (nesting_cause depth) _ (first_left _ _ both) in
     let lt : n + 2 < 4294967297 = ltb-true (n + 2) 4294967297 (unless_true (nat_lt (n + 2) 4294967297) LabelOutOfRange numbers) in
@@ -110,13 +118,14 @@ inner_passed flags s so depth end k members p t lt = record {
   blocks = omega (arith, t.blocks, t.labels, p.blocks);
   label = λ d. lt;
   short = omega (arith, t.bytes, p.short);
-  passed = ap (λ b. tree_cause flags b (length so.labels) (depth + 1) members) t.blocks ∙ ap (λ m. tree_cause flags s.block_count m (depth + 1) members) t.labels ∙ p.passed;
+  passed = ap (λ D. tree_cause flags D (length so.labels) (depth + 1) members) (turns_declared s so 2 0 t) ∙ ap (λ m. tree_cause flags (declared_in s) m (depth + 1) members) t.labels ∙ p.passed;
 }
 
 pub turns_on : (s t u : State) (k m k' m' : ℕ) → Turns s t k m → Turns t u k' m' → Turns s u (k + k') (m + m')
 turns_on s t u k m k' m' a b = record {
   unmarked = b.unmarked ∙ a.unmarked;
   blocks = b.blocks ∙ a.blocks;
+  constants = b.constants ∙ a.constants;
   labels = omega (arith, a.labels, b.labels);
   bytes = omega (arith, a.bytes, b.bytes);
 }
@@ -135,6 +144,7 @@ body_turns s sa sb so sc sd start end members ea eb eo ec ed =
     record {
       unmarked = d.unmarked ∙ m.unmarked ∙ o.unmarked ∙ b.unmarked ∙ a.unmarked;
       blocks = d.blocks ∙ m.blocks ∙ o.blocks ∙ b.blocks ∙ a.blocks;
+      constants = d.constants ∙ m.constants ∙ o.constants ∙ b.constants ∙ a.constants;
       labels = omega (arith, a.labels, b.labels, o.labels, m.labels, d.labels);
       bytes = omega (arith, a.bytes, b.bytes, o.bytes, m.bytes, d.bytes);
     }

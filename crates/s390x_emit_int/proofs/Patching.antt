@@ -1,12 +1,12 @@
 -- Patching what was put gives each piece at its place.
 use Rattle.std.proofs.Common.{◌≡◌, ℕ, ◌+◌, ◌-◌, ◌/◌, ◌%◌, ◌<◌, ◌≤◌, List, [], ◌∷◌, ◌++◌, length, get_or, set, refl, sym, ap, ◌∙◌, subst, arith, length-append, length-set, append_assoc, append-nil, add-zero, get_or-append-add}
 use Rattle.std.proofs.lemmas.List.{set-append_left, set-append_right, get_or_append_left}
-use Rattle.s390x_buffer.specs.State.{State}
+use Rattle.s390x_buffer.specs.State.{State, constant_label}
 use Rattle.s390x_buffer.specs.Patch.{patch, patch_size, set2, set4, word, half, distance, patch_use, patch_all}
 use Rattle.s390x_buffer.specs.declared.entries.LabelFixup.{LabelFixup}
 use Rattle.s390x_buffer.specs.declared.label_use.LabelUse.{LabelUse}
 use Rattle.s390x_buffer.specs.declared.label_use.LabelUse.TheVariants.{BranchRI, BranchRIL, PCRel32Dbl, PCRel32}
-use Rattle.s390x_emit_int.specs.Pieces.{Piece, apply, run, Put, PutTrapping, PutReloc, Link, Step, Draw, Bind}
+use Rattle.s390x_emit_int.specs.Pieces.{Piece, apply, run, Put, PutTrapping, PutReloc, Link, LinkConstant, Step, Draw, Bind}
 use Rattle.s390x_emit_int.specs.Resolve.{resolve, Wide, Within}
 
 set4_left : (bs x : List ℕ) (o v : ℕ) → o + 4 ≤ length bs → set4 (bs ++ x) o v ≡ set4 bs o v ++ x
@@ -117,32 +117,32 @@ within_append n (v ∷ us) u w h = (w.0, within_append n us u w.1 h)
 abbrev pub patched : (ℕ → ℕ) → State → List ℕ
 patched off s = patch_all off s.uses s.bytes
 
-pub patched_run : (ps : List Piece) (s : State) (off : ℕ → ℕ) → Within (length s.bytes) s.uses → Wide ps → patched off (run s ps) ≡ patched off s ++ resolve off (length s.bytes) ps
+pub patched_run : (ps : List Piece) (s : State) (off : ℕ → ℕ) → Within (length s.bytes) s.uses → Wide ps → patched off (run s ps) ≡ patched off s ++ resolve s.block_count off (length s.bytes) ps
 patched_run [] s off w h = sym (append-nil (patched off s))
 patched_run (Put bs ∷ ps) s off w h =
     let s1 = apply s (Put bs) in
     let n = length-append s.bytes bs in
     let w1 = within_more (length s.bytes) (length s1.bytes) s.uses (omega (arith, n)) w in
     patched_run ps s1 off w1 h
-    ∙ ap (λ l. l ++ resolve off (length s1.bytes) ps) (all_left off s.uses s.bytes bs w)
-    ∙ append_assoc (patched off s) bs (resolve off (length s1.bytes) ps)
-    ∙ ap (λ m. patched off s ++ (bs ++ resolve off m ps)) n
-patched_run (PutReloc bs kind name addend ∷ ps) s off w h =
-    let s1 = apply s (PutReloc bs kind name addend) in
+    ∙ ap (λ l. l ++ resolve s.block_count off (length s1.bytes) ps) (all_left off s.uses s.bytes bs w)
+    ∙ append_assoc (patched off s) bs (resolve s.block_count off (length s1.bytes) ps)
+    ∙ ap (λ m. patched off s ++ (bs ++ resolve s.block_count off m ps)) n
+patched_run (PutReloc bs byte kind name addend ∷ ps) s off w h =
+    let s1 = apply s (PutReloc bs byte kind name addend) in
     let n = length-append s.bytes bs in
     let w1 = within_more (length s.bytes) (length s1.bytes) s.uses (omega (arith, n)) w in
     patched_run ps s1 off w1 h
-    ∙ ap (λ l. l ++ resolve off (length s1.bytes) ps) (all_left off s.uses s.bytes bs w)
-    ∙ append_assoc (patched off s) bs (resolve off (length s1.bytes) ps)
-    ∙ ap (λ m. patched off s ++ (bs ++ resolve off m ps)) n
+    ∙ ap (λ l. l ++ resolve s.block_count off (length s1.bytes) ps) (all_left off s.uses s.bytes bs w)
+    ∙ append_assoc (patched off s) bs (resolve s.block_count off (length s1.bytes) ps)
+    ∙ ap (λ m. patched off s ++ (bs ++ resolve s.block_count off m ps)) n
 patched_run (PutTrapping bs byte code ∷ ps) s off w h =
     let s1 = apply s (PutTrapping bs byte code) in
     let n = length-append s.bytes bs in
     let w1 = within_more (length s.bytes) (length s1.bytes) s.uses (omega (arith, n)) w in
     patched_run ps s1 off w1 h
-    ∙ ap (λ l. l ++ resolve off (length s1.bytes) ps) (all_left off s.uses s.bytes bs w)
-    ∙ append_assoc (patched off s) bs (resolve off (length s1.bytes) ps)
-    ∙ ap (λ m. patched off s ++ (bs ++ resolve off m ps)) n
+    ∙ ap (λ l. l ++ resolve s.block_count off (length s1.bytes) ps) (all_left off s.uses s.bytes bs w)
+    ∙ append_assoc (patched off s) bs (resolve s.block_count off (length s1.bytes) ps)
+    ∙ ap (λ m. patched off s ++ (bs ++ resolve s.block_count off m ps)) n
 patched_run (Link k l bs ∷ ps) s off w h =
     let s1 = apply s (Link k l bs) in
     let n = length-append s.bytes bs in
@@ -155,9 +155,24 @@ patched_run (Link k l bs ∷ ps) s off w h =
     ∙ ap (λ m. patch k m p (off l) (patched off s ++ bs)) (sym (length-patch_all off s.uses s.bytes))
     ∙ patch_right k p (off l) (patched off s) bs in
     patched_run ps s1 off w1 h.1
-    ∙ ap (λ x. x ++ resolve off (length s1.bytes) ps) here
-    ∙ append_assoc (patched off s) (patch k 0 p (off l) bs) (resolve off (length s1.bytes) ps)
-    ∙ ap (λ m. patched off s ++ (patch k 0 p (off l) bs ++ resolve off m ps)) n
+    ∙ ap (λ x. x ++ resolve s.block_count off (length s1.bytes) ps) here
+    ∙ append_assoc (patched off s) (patch k 0 p (off l) bs) (resolve s.block_count off (length s1.bytes) ps)
+    ∙ ap (λ m. patched off s ++ (patch k 0 p (off l) bs ++ resolve s.block_count off m ps)) n
+patched_run (LinkConstant c bs ∷ ps) s off w h =
+    let s1 = apply s (LinkConstant c bs) in
+    let n = length-append s.bytes bs in
+    let p = length s.bytes in
+    let u : LabelFixup = record { kind = BranchRIL; offset = p; label = record { 0 = constant_label s c } } in
+    let w1 = within_append (length s1.bytes) s.uses u (within_more p (length s1.bytes) s.uses (omega (arith, n)) w) (omega (arith, n, h.0)) in
+    let here : patched off s1 ≡ patched off s ++ patch BranchRIL 0 p (off (constant_label s c)) bs =
+    all_more off s.uses u (s.bytes ++ bs)
+    ∙ ap (λ x. patch_use off u x) (all_left off s.uses s.bytes bs w)
+    ∙ ap (λ m. patch BranchRIL m p (off (constant_label s c)) (patched off s ++ bs)) (sym (length-patch_all off s.uses s.bytes))
+    ∙ patch_right BranchRIL p (off (constant_label s c)) (patched off s) bs in
+    patched_run ps s1 off w1 h.1
+    ∙ ap (λ x. x ++ resolve s.block_count off (length s1.bytes) ps) here
+    ∙ append_assoc (patched off s) (patch BranchRIL 0 p (off (constant_label s c)) bs) (resolve s.block_count off (length s1.bytes) ps)
+    ∙ ap (λ m. patched off s ++ (patch BranchRIL 0 p (off (constant_label s c)) bs ++ resolve s.block_count off m ps)) n
 patched_run (Step ∷ ps) s off w h = patched_run ps (apply s Step) off w h
 patched_run (Draw ∷ ps) s off w h = patched_run ps (apply s Draw) off w h
 patched_run (Bind l ∷ ps) s off w h = patched_run ps (apply s (Bind l)) off w h

@@ -8,11 +8,11 @@ use Rattle.s390x_base.specs.declared.ir.MachLabel.{MachLabel}
 use Rattle.s390x_steps.specs.Tree.{Tree, empty, leaf, looped}
 use Rattle.s390x_steps.specs.Steps.{Step as TypedStep, Back, step_count, step_of, steps_of, steps_from}
 use Rattle.s390x_steps.specs.MachineInstruction.{ril_c, bytes_of, size_of}
-use Rattle.s390x_steps.specs.Parts.{Part, Row, Trapping, Branch, Relative, SymbolValue, TrapHere, TableWord, ToBlock, ToStep, table_words, instruction_parts}
+use Rattle.s390x_steps.specs.Parts.{Part, Row, Trapping, Branch, Relative, RelativeConstant, RelativeSymbol, SymbolValue, TrapHere, TableWord, ToBlock, ToStep, table_words, instruction_parts}
 use Rattle.s390x_steps.specs.Traps.{parts_traps, step_traps, traps_from}
 use Rattle.s390x_steps.specs.Sizes.{instruction_size}
 use Rattle.s390x_steps.specs.Causes.{instruction_draws, draws}
-use Rattle.s390x_emit_int.specs.Pieces.{Piece, Put, PutTrapping, PutReloc, Link, Step, Draw, Bind, apply, run}
+use Rattle.s390x_emit_int.specs.Pieces.{Piece, Put, PutTrapping, PutReloc, Link, LinkConstant, Step, Draw, Bind, apply, run}
 use Rattle.s390x_emit_int.specs.Emission.{part_pieces, leaf_pieces, back_pieces, pieces, function_pieces}
 use Rattle.s390x_emit_int.specs.Resolve.{put_length}
 use Rattle.s390x_emit_int.specs.Bound.{Follows}
@@ -24,9 +24,10 @@ use Rattle.s390x_emit_int.proofs.Functions.{next_block}
 abbrev pub recorded : ℕ → List Piece → List TrapEntry
 recorded p [] = []
 recorded p (Put bs ∷ ps) = recorded (p + length bs) ps
-recorded p (PutReloc bs kind name addend ∷ ps) = recorded (p + length bs) ps
+recorded p (PutReloc bs byte kind name addend ∷ ps) = recorded (p + length bs) ps
 recorded p (PutTrapping bs byte code ∷ ps) = record { offset = p + byte; code = code } ∷ recorded (p + length bs) ps
 recorded p (Link k l bs ∷ ps) = recorded (p + length bs) ps
+recorded p (LinkConstant c bs ∷ ps) = recorded (p + length bs) ps
 recorded p (Step ∷ ps) = recorded p ps
 recorded p (Draw ∷ ps) = recorded p ps
 recorded p (Bind l ∷ ps) = recorded p ps
@@ -34,11 +35,12 @@ recorded p (Bind l ∷ ps) = recorded p ps
 pub traps_run : (ps : List Piece) (s : State) → (run s ps).traps ≡ s.traps ++ recorded (length s.bytes) ps
 traps_run [] s = sym (append-nil s.traps)
 traps_run (Put bs ∷ ps) s = traps_run ps (apply s (Put bs)) ∙ ap (λ m. s.traps ++ recorded m ps) (length-append s.bytes bs)
-traps_run (PutReloc bs kind name addend ∷ ps) s = traps_run ps (apply s (PutReloc bs kind name addend)) ∙ ap (λ m. s.traps ++ recorded m ps) (length-append s.bytes bs)
+traps_run (PutReloc bs byte kind name addend ∷ ps) s = traps_run ps (apply s (PutReloc bs byte kind name addend)) ∙ ap (λ m. s.traps ++ recorded m ps) (length-append s.bytes bs)
 traps_run (PutTrapping bs byte code ∷ ps) s =
     let e : TrapEntry = record { offset = length s.bytes + byte; code = code } in
     traps_run ps (apply s (PutTrapping bs byte code)) ∙ append_assoc s.traps (e ∷ []) (recorded (length (s.bytes ++ bs)) ps) ∙ ap (λ m. s.traps ++ (e ∷ recorded m ps)) (length-append s.bytes bs)
 traps_run (Link k l bs ∷ ps) s = traps_run ps (apply s (Link k l bs)) ∙ ap (λ m. s.traps ++ recorded m ps) (length-append s.bytes bs)
+traps_run (LinkConstant c bs ∷ ps) s = traps_run ps (apply s (LinkConstant c bs)) ∙ ap (λ m. s.traps ++ recorded m ps) (length-append s.bytes bs)
 traps_run (Step ∷ ps) s = traps_run ps (apply s Step)
 traps_run (Draw ∷ ps) s = traps_run ps (apply s Draw)
 traps_run (Bind l ∷ ps) s = traps_run ps (apply s (Bind l))
@@ -46,11 +48,12 @@ traps_run (Bind l ∷ ps) s = traps_run ps (apply s (Bind l))
 recorded_append : (a b : List Piece) (p : ℕ) → recorded p (a ++ b) ≡ recorded p a ++ recorded (p + put_length a) b
 recorded_append [] b p = ap (λ m. recorded m b) (sym (add-zero p))
 recorded_append (Put bs ∷ a) b p = recorded_append a b (p + length bs) ∙ ap (λ m. recorded (p + length bs) a ++ recorded m b) (add_assoc p (length bs) (put_length a))
-recorded_append (PutReloc bs kind name addend ∷ a) b p = recorded_append a b (p + length bs) ∙ ap (λ m. recorded (p + length bs) a ++ recorded m b) (add_assoc p (length bs) (put_length a))
+recorded_append (PutReloc bs byte kind name addend ∷ a) b p = recorded_append a b (p + length bs) ∙ ap (λ m. recorded (p + length bs) a ++ recorded m b) (add_assoc p (length bs) (put_length a))
 recorded_append (PutTrapping bs byte code ∷ a) b p =
     let e : TrapEntry = record { offset = p + byte; code = code } in
     ap (λ l. e ∷ l) (recorded_append a b (p + length bs) ∙ ap (λ m. recorded (p + length bs) a ++ recorded m b) (add_assoc p (length bs) (put_length a)))
 recorded_append (Link k l bs ∷ a) b p = recorded_append a b (p + length bs) ∙ ap (λ m. recorded (p + length bs) a ++ recorded m b) (add_assoc p (length bs) (put_length a))
+recorded_append (LinkConstant c bs ∷ a) b p = recorded_append a b (p + length bs) ∙ ap (λ m. recorded (p + length bs) a ++ recorded m b) (add_assoc p (length bs) (put_length a))
 recorded_append (Step ∷ a) b p = recorded_append a b p
 recorded_append (Draw ∷ a) b p = recorded_append a b p
 recorded_append (Bind l ∷ a) b p = recorded_append a b p
@@ -65,6 +68,8 @@ parts_recorded (Branch mask (ToBlock b) ∷ parts) p = ap (λ n. recorded (p + n
 parts_recorded (Branch mask (ToStep k) ∷ parts) p = ap (λ n. recorded (p + n) (part_pieces parts)) (length-branch mask) ∙ parts_recorded parts (p + 6)
 parts_recorded (Relative opcode register (ToBlock b) ∷ parts) p = ap (λ n. recorded (p + n) (part_pieces parts)) (length-relative opcode register) ∙ parts_recorded parts (p + 6)
 parts_recorded (Relative opcode register (ToStep k) ∷ parts) p = ap (λ n. recorded (p + n) (part_pieces parts)) (length-relative opcode register) ∙ parts_recorded parts (p + 6)
+parts_recorded (RelativeConstant opcode register c ∷ parts) p = ap (λ n. recorded (p + n) (part_pieces parts)) (length-relative opcode register) ∙ parts_recorded parts (p + 6)
+parts_recorded (RelativeSymbol opcode register name offset ∷ parts) p = ap (λ n. recorded (p + n) (part_pieces parts)) (length-relative opcode register) ∙ parts_recorded parts (p + 6)
 parts_recorded (SymbolValue name offset ∷ parts) p = parts_recorded parts (p + 8)
 parts_recorded (TrapHere code ∷ parts) p =
     let entry : ℕ → TrapEntry = λ n. record { offset = n; code = code } in

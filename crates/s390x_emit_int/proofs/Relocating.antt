@@ -1,19 +1,20 @@
 -- The relocations that emission's pieces record are those of the typed steps.
 use Rattle.std.proofs.Common.{◌≡◌, ℕ, ◌+◌, List, [], ◌∷◌, ◌++◌, length, refl, sym, ap, ◌∙◌, arith, length-append, append_assoc, append-nil, add-zero, add_assoc}
+use Rattle.std.specs.Prelude.{pos, ◌+ℤ◌}
 use Rattle.s390x_buffer.specs.State.{State}
 use Rattle.s390x_buffer.specs.declared.entries.RelocEntry.{RelocEntry}
 use Rattle.s390x_inst.specs.declared.inst.Inst.{Inst}
 use Rattle.s390x_inst.specs.declared.inst.Inst.TheVariants.{CondBreak, JTSequence}
 use Rattle.s390x_base.specs.declared.ir.MachLabel.{MachLabel}
-use Rattle.s390x_base.specs.declared.ir.Reloc.TheVariants.{Abs8}
+use Rattle.s390x_base.specs.declared.ir.Reloc.TheVariants.{S390xPCRel32Dbl, Abs8}
 use Rattle.s390x_steps.specs.Tree.{Tree, empty, leaf, looped}
 use Rattle.s390x_steps.specs.Steps.{Step as TypedStep, Back, step_count, step_of, steps_of, steps_from}
 use Rattle.s390x_steps.specs.MachineInstruction.{ril_c, bytes_of, size_of}
-use Rattle.s390x_steps.specs.Parts.{Part, Row, Trapping, Branch, Relative, SymbolValue, TrapHere, TableWord, ToBlock, ToStep, table_words, instruction_parts}
+use Rattle.s390x_steps.specs.Parts.{Part, Row, Trapping, Branch, Relative, RelativeConstant, RelativeSymbol, SymbolValue, TrapHere, TableWord, ToBlock, ToStep, table_words, instruction_parts}
 use Rattle.s390x_steps.specs.Relocs.{parts_relocs, step_relocs, relocs_from}
 use Rattle.s390x_steps.specs.Sizes.{instruction_size}
 use Rattle.s390x_steps.specs.Causes.{instruction_draws, draws}
-use Rattle.s390x_emit_int.specs.Pieces.{Piece, Put, PutTrapping, PutReloc, Link, Step, Draw, Bind, apply, run}
+use Rattle.s390x_emit_int.specs.Pieces.{Piece, Put, PutTrapping, PutReloc, Link, LinkConstant, Step, Draw, Bind, apply, run}
 use Rattle.s390x_emit_int.specs.Emission.{part_pieces, leaf_pieces, back_pieces, pieces, function_pieces}
 use Rattle.s390x_emit_int.specs.Resolve.{put_length}
 use Rattle.s390x_emit_int.specs.Bound.{Follows}
@@ -25,9 +26,10 @@ use Rattle.s390x_emit_int.proofs.Functions.{next_block}
 abbrev pub relocated : ℕ → List Piece → List RelocEntry
 relocated p [] = []
 relocated p (Put bs ∷ ps) = relocated (p + length bs) ps
-relocated p (PutReloc bs kind name addend ∷ ps) = record { offset = p; kind = kind; name = name; addend = addend } ∷ relocated (p + length bs) ps
+relocated p (PutReloc bs byte kind name addend ∷ ps) = record { offset = p + byte; kind = kind; name = name; addend = addend } ∷ relocated (p + length bs) ps
 relocated p (PutTrapping bs byte code ∷ ps) = relocated (p + length bs) ps
 relocated p (Link k l bs ∷ ps) = relocated (p + length bs) ps
+relocated p (LinkConstant c bs ∷ ps) = relocated (p + length bs) ps
 relocated p (Step ∷ ps) = relocated p ps
 relocated p (Draw ∷ ps) = relocated p ps
 relocated p (Bind l ∷ ps) = relocated p ps
@@ -36,10 +38,11 @@ pub relocs_run : (ps : List Piece) (s : State) → (run s ps).relocs ≡ s.reloc
 relocs_run [] s = sym (append-nil s.relocs)
 relocs_run (Put bs ∷ ps) s = relocs_run ps (apply s (Put bs)) ∙ ap (λ m. s.relocs ++ relocated m ps) (length-append s.bytes bs)
 relocs_run (PutTrapping bs byte code ∷ ps) s = relocs_run ps (apply s (PutTrapping bs byte code)) ∙ ap (λ m. s.relocs ++ relocated m ps) (length-append s.bytes bs)
-relocs_run (PutReloc bs kind name addend ∷ ps) s =
-    let e : RelocEntry = record { offset = length s.bytes; kind = kind; name = name; addend = addend } in
-    relocs_run ps (apply s (PutReloc bs kind name addend)) ∙ append_assoc s.relocs (e ∷ []) (relocated (length (s.bytes ++ bs)) ps) ∙ ap (λ m. s.relocs ++ (e ∷ relocated m ps)) (length-append s.bytes bs)
+relocs_run (PutReloc bs byte kind name addend ∷ ps) s =
+    let e : RelocEntry = record { offset = length s.bytes + byte; kind = kind; name = name; addend = addend } in
+    relocs_run ps (apply s (PutReloc bs byte kind name addend)) ∙ append_assoc s.relocs (e ∷ []) (relocated (length (s.bytes ++ bs)) ps) ∙ ap (λ m. s.relocs ++ (e ∷ relocated m ps)) (length-append s.bytes bs)
 relocs_run (Link k l bs ∷ ps) s = relocs_run ps (apply s (Link k l bs)) ∙ ap (λ m. s.relocs ++ relocated m ps) (length-append s.bytes bs)
+relocs_run (LinkConstant c bs ∷ ps) s = relocs_run ps (apply s (LinkConstant c bs)) ∙ ap (λ m. s.relocs ++ relocated m ps) (length-append s.bytes bs)
 relocs_run (Step ∷ ps) s = relocs_run ps (apply s Step)
 relocs_run (Draw ∷ ps) s = relocs_run ps (apply s Draw)
 relocs_run (Bind l ∷ ps) s = relocs_run ps (apply s (Bind l))
@@ -48,10 +51,11 @@ relocated_append : (a b : List Piece) (p : ℕ) → relocated p (a ++ b) ≡ rel
 relocated_append [] b p = ap (λ m. relocated m b) (sym (add-zero p))
 relocated_append (Put bs ∷ a) b p = relocated_append a b (p + length bs) ∙ ap (λ m. relocated (p + length bs) a ++ relocated m b) (add_assoc p (length bs) (put_length a))
 relocated_append (PutTrapping bs byte code ∷ a) b p = relocated_append a b (p + length bs) ∙ ap (λ m. relocated (p + length bs) a ++ relocated m b) (add_assoc p (length bs) (put_length a))
-relocated_append (PutReloc bs kind name addend ∷ a) b p =
-    let e : RelocEntry = record { offset = p; kind = kind; name = name; addend = addend } in
+relocated_append (PutReloc bs byte kind name addend ∷ a) b p =
+    let e : RelocEntry = record { offset = p + byte; kind = kind; name = name; addend = addend } in
     ap (λ l. e ∷ l) (relocated_append a b (p + length bs) ∙ ap (λ m. relocated (p + length bs) a ++ relocated m b) (add_assoc p (length bs) (put_length a)))
 relocated_append (Link k l bs ∷ a) b p = relocated_append a b (p + length bs) ∙ ap (λ m. relocated (p + length bs) a ++ relocated m b) (add_assoc p (length bs) (put_length a))
+relocated_append (LinkConstant c bs ∷ a) b p = relocated_append a b (p + length bs) ∙ ap (λ m. relocated (p + length bs) a ++ relocated m b) (add_assoc p (length bs) (put_length a))
 relocated_append (Step ∷ a) b p = relocated_append a b p
 relocated_append (Draw ∷ a) b p = relocated_append a b p
 relocated_append (Bind l ∷ a) b p = relocated_append a b p
@@ -64,9 +68,13 @@ parts_relocated (Branch mask (ToBlock b) ∷ parts) p = ap (λ n. relocated (p +
 parts_relocated (Branch mask (ToStep k) ∷ parts) p = ap (λ n. relocated (p + n) (part_pieces parts)) (length-branch mask) ∙ parts_relocated parts (p + 6)
 parts_relocated (Relative opcode register (ToBlock b) ∷ parts) p = ap (λ n. relocated (p + n) (part_pieces parts)) (length-relative opcode register) ∙ parts_relocated parts (p + 6)
 parts_relocated (Relative opcode register (ToStep k) ∷ parts) p = ap (λ n. relocated (p + n) (part_pieces parts)) (length-relative opcode register) ∙ parts_relocated parts (p + 6)
+parts_relocated (RelativeConstant opcode register c ∷ parts) p = ap (λ n. relocated (p + n) (part_pieces parts)) (length-relative opcode register) ∙ parts_relocated parts (p + 6)
+parts_relocated (RelativeSymbol opcode register name offset ∷ parts) p =
+    let e : RelocEntry = record { offset = p + 2; kind = S390xPCRel32Dbl; name = name; addend = offset +ℤ pos 2 } in
+    ap (λ n. e ∷ relocated (p + n) (part_pieces parts)) (length-relative opcode register) ∙ ap (λ l. e ∷ l) (parts_relocated parts (p + 6))
 parts_relocated (SymbolValue name offset ∷ parts) p =
-    let e : RelocEntry = record { offset = p; kind = Abs8; name = name; addend = offset } in
-    ap (λ l. e ∷ l) (parts_relocated parts (p + 8))
+    let entry : ℕ → RelocEntry = λ n. record { offset = n; kind = Abs8; name = name; addend = offset } in
+    ap (λ n. entry n ∷ relocated (p + 8) (part_pieces parts)) (add-zero p) ∙ ap (λ l. entry p ∷ l) (parts_relocated parts (p + 8))
 parts_relocated (TrapHere code ∷ parts) p = parts_relocated parts (p + 0)
 parts_relocated (TableWord before (ToBlock b) ∷ parts) p = parts_relocated parts (p + 4)
 parts_relocated (TableWord before (ToStep k) ∷ parts) p = parts_relocated parts (p + 4)

@@ -10,7 +10,7 @@ use Rattle.s390x_inst.specs.declared.inst.Inst.{Inst}
 use Rattle.s390x_inst.specs.declared.inst.Inst.TheVariants.{AluRX, CmpRX, Load32, Load32ZExt8, Load32SExt8, Load32ZExt16, Load32SExt16, Load64, Load64ZExt8, Load64SExt8, Load64ZExt16, Load64SExt16, Load64ZExt32, Load64SExt32, LoadRev16, LoadRev32, LoadRev64, LoadAddr, Store8, Store16, Store32, Store64, StoreRev16, StoreRev32, StoreRev64, StoreImm8, StoreImm16, StoreImm32SExt16, StoreImm64SExt16, LoadMultiple64, StoreMultiple64, AtomicRmw, AtomicCas32, AtomicCas64, CondBr, JTSequence, CondBreak, TrapIf}
 use Rattle.s390x_inst.specs.declared.state.IsaFlags.{IsaFlags}
 use Rattle.s390x_steps.specs.Alone.{Alone, alone, stop_code}
-use Rattle.s390x_steps.specs.Causes.{first, facility_cause, cause_or, memory_cause_or, branch_cause, instruction_cause, instruction_draws}
+use Rattle.s390x_steps.specs.Causes.{Declared, first, facility_cause, cause_or, memory_cause_or, branch_cause, instruction_cause, instruction_draws}
 use Rattle.s390x_steps.specs.Memory.{MemoryInstruction, operate, load_and_operate, memory}
 use Rattle.s390x_steps.specs.Operands.{resolved}
 use Rattle.s390x_steps.specs.Ranges.{MaskInRange, OperandInRange, MemoryInRange, InRange}
@@ -68,9 +68,9 @@ pub no_memory : (e : Emission) (i : Inst) → None ≡ memory i → memory (reso
 no_memory e i h = memory_resolved e i ∙ ap (option_map (in_state e)) (sym h)
 
 -- the first cause by the parts that the code looks at
-pub cause_resolved : (flags : IsaFlags) (e : Emission) (blocks depth : ℕ) (i : Inst) → first (facility_cause flags i) (cause_or (alone i) (memory_cause_or (memory (resolved_instruction e i)) (branch_cause blocks depth i))) ≡ instruction_cause flags blocks depth (resolved_instruction e i)
-cause_resolved flags e blocks depth (CondBreak mask) = refl
-cause_resolved flags e blocks depth i = refl
+pub cause_resolved : (flags : IsaFlags) (e : Emission) (D : Declared) (depth : ℕ) (i : Inst) → first (facility_cause flags i) (cause_or (alone i) (memory_cause_or D (memory (resolved_instruction e i)) (branch_cause D.blocks depth i))) ≡ instruction_cause flags D depth (resolved_instruction e i)
+cause_resolved flags e D depth (CondBreak mask) = refl
+cause_resolved flags e D depth i = refl
 
 -- ---- ranges
 
@@ -150,6 +150,6 @@ pub branch_range : (e : Emission) (i : Inst) → None ≡ memory i → MaskInRan
 branch_range e i h m = (mask_resolved e i m, without_memory (memory (resolved_instruction e i)) (no_memory e i h))
 
 -- without an operand, the other causes are asked
-pub or_none : (o : Option MemoryInstruction) (others : Option EmitError) → memory_cause_or o others ≡ None → memory_cause_or o None ≡ None
-or_none None others h = refl
-or_none (Some x) others h = h
+pub or_none : (D : Declared) (o : Option MemoryInstruction) (others : Option EmitError) → memory_cause_or D o others ≡ None → memory_cause_or D o None ≡ None
+or_none D None others h = refl
+or_none D (Some x) others h = h

@@ -12,7 +12,7 @@ use Rattle.s390x_steps.specs.Causes.{instruction_draws, draws}
 use Rattle.s390x_steps.specs.MachineInstruction.{MachineInstruction, rr, ril_b, ril_c, rxy, bytes_of, size_of}
 use Rattle.std.specs.Int.{w64, to_be_bytes}
 use Rattle.s390x_steps.specs.Rows.{word_bytes}
-use Rattle.s390x_steps.specs.Parts.{Part, Row, Trapping, Branch, Relative, SymbolValue, TrapHere, TableWord, ToBlock, ToStep, table_words, table_parts, instruction_parts, part_size, parts_size}
+use Rattle.s390x_steps.specs.Parts.{Part, Row, Trapping, Branch, Relative, RelativeConstant, RelativeSymbol, SymbolValue, TrapHere, TableWord, ToBlock, ToStep, table_words, table_parts, instruction_parts, part_size, parts_size}
 use Rattle.s390x_emit_int.specs.Pieces.{Piece, apply, run, Put, Step, Draw, Bind}
 use Rattle.s390x_emit_int.specs.Emission.{branch, relative, table_word, part_piece, part_pieces, table_rows, table_head, table_pieces, leaf_pieces, back_pieces, pieces}
 use Rattle.s390x_format.specs.Formats.{length_of}
@@ -66,6 +66,14 @@ relative_grows s opcode register l = record {
   bytes = length-append s.bytes (bytes_of (ril_b opcode register 0)) ∙ ap (λ m. length s.bytes + m) (length-relative opcode register);
 }
 
+-- an address relative to the instruction, put in some way
+bare_grows : (s : State) (opcode register : ℕ) (t : State) → t.labels ≡ s.labels → t.bytes ≡ s.bytes ++ bytes_of (ril_b opcode register 0) → Grows s t 0 6
+bare_grows s opcode register t labels bytes = record {
+  labels = omega (arith, ap length labels);
+  kept = λ l h. ap (λ x. get_or x l None) labels;
+  bytes = ap length bytes ∙ length-append s.bytes (bytes_of (ril_b opcode register 0)) ∙ ap (λ m. length s.bytes + m) (length-relative opcode register);
+}
+
 word_grows : (s : State) (before l : ℕ) → Grows s (apply s (table_word before l)) 0 4
 word_grows s before l = record {
   labels = omega arith;
@@ -88,6 +96,8 @@ part_grows (Branch mask (ToBlock b)) s = branch_grows s mask b
 part_grows (Branch mask (ToStep k)) s = branch_grows s mask k
 part_grows (Relative opcode register (ToBlock b)) s = relative_grows s opcode register b
 part_grows (Relative opcode register (ToStep k)) s = relative_grows s opcode register k
+part_grows (RelativeConstant opcode register c) s = bare_grows s opcode register (apply s (part_piece (RelativeConstant opcode register c))) refl refl
+part_grows (RelativeSymbol opcode register name offset) s = bare_grows s opcode register (apply s (part_piece (RelativeSymbol opcode register name offset))) refl refl
 part_grows (SymbolValue name offset) s = record { labels = omega arith; kept = λ l h. refl; bytes = length-append s.bytes (to_be_bytes w64 0) }
 part_grows (TrapHere code) s = record { labels = omega arith; kept = λ l h. refl; bytes = length-append s.bytes [] }
 part_grows (TableWord before (ToBlock b)) s = word_grows s before b

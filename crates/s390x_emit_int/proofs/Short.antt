@@ -1,5 +1,5 @@
 -- How many bytes an instruction has at most, and that emission fails by want of memory alone where no cause stands.
-use Rattle.std.proofs.Common.{◌*◌, ◌++◌, length-append, ◌≡◌, ◌+◌, ◌≤◌, Bool, true, false, cond, nat_lt, List, [], ◌∷◌, Option, Some, None, length, refl, ap, ◌∙◌, arith, ltb-true}
+use Rattle.std.proofs.Common.{ℕ, ◌*◌, ◌++◌, length-append, ◌≡◌, ◌+◌, ◌≤◌, Bool, true, false, cond, nat_lt, List, [], ◌∷◌, Option, Some, None, length, refl, ap, ◌∙◌, arith, ltb-true}
 use Rattle.s390x_base.specs.declared.trap.TrapKind.{TrapKind}
 use Rattle.s390x_base.specs.declared.error.EmitError.{EmitError}
 use Rattle.s390x_base.specs.declared.error.EmitError.TheVariants.{LabelOutOfRange, Failed}
@@ -8,19 +8,19 @@ use Rattle.s390x_format.proofs.FormatFacts.{length_small}
 use Rattle.s390x_inst.specs.declared.inst.Inst.{Inst}
 use Rattle.s390x_inst.specs.Emission.{Emission}
 use Rattle.s390x_inst.specs.declared.args.MemArg.{MemArg}
-use Rattle.s390x_inst.specs.declared.args.MemArg.TheVariants.{RegOffset}
+use Rattle.s390x_inst.specs.declared.args.MemArg.TheVariants.{Label, RegOffset}
 use Rattle.s390x_inst.specs.declared.inst.Inst.TheVariants.{Loop', JTSequence, Mov64SImm32, LoadAddr, CondBreak, Jump, CondBr, IndirectBr, Ret, LabelAddress, LoadSymbolReloc, Trap, TrapIf, Debugtrap}
 use Rattle.s390x_inst.specs.declared.state.IsaFlags.{IsaFlags}
 use Rattle.s390x_buffer.specs.State.{State, limit}
 use Rattle.s390x_steps.specs.Alone.{Alone, alone, stop_code}
 use Rattle.s390x_steps.specs.MachineInstruction.{MachineInstruction}
-use Rattle.s390x_steps.specs.Memory.{MemoryInstruction, memory, type_of, storage_row, address_form, fault_code}
-use Rattle.s390x_steps.specs.Operands.{Finalized, finalized, displaced, needs_address, fits_12, fits_20, fits_32}
+use Rattle.s390x_steps.specs.Memory.{StorageForm, RxForm, MemoryInstruction, memory, type_of, storage_row, address_form, fault_code}
+use Rattle.s390x_steps.specs.Operands.{Finalized, finalized, is_relative, displaced, needs_address, fits_12, fits_20, fits_32}
 use Rattle.s390x_steps.specs.Resolved.{resolved_instruction}
-use Rattle.s390x_steps.specs.Parts.{Part, branch_parts, row_part, access_parts, helper_parts, helpers_parts, memory_parts, memory_or, parts_or, parts_size}
+use Rattle.s390x_steps.specs.Parts.{Part, branch_parts, row_part, access_parts, trap_here, relative_part, relative_parts, operand_parts, helper_parts, helpers_parts, memory_parts, memory_or, parts_or, parts_size}
 use Rattle.s390x_steps.specs.Sizes.{instruction_size, tree_size}
 use Rattle.s390x_steps.specs.Tree.{Tree, empty, leaf, graft}
-use Rattle.s390x_steps.specs.Causes.{first, unless, tree_cause}
+use Rattle.s390x_steps.specs.Causes.{first, unless, declared_in, tree_cause}
 use Rattle.s390x_steps.proofs.Causes.{first_left, first_right, unless_true}
 use Rattle.s390x_address.proofs.Lacking.{size_append}
 use Rattle.s390x_emit_int.specs.Pieces.{run}
@@ -42,10 +42,29 @@ access_few None code = omega arith
 access_few (Some m) None = let small = length_small m.format in omega (arith, small)
 access_few (Some m) (Some code) = let small = length_small m.format in omega (arith, small)
 
+trapping_few : (code : Option TrapKind) (parts : List Part) → parts_size (trap_here code ++ parts) ≡ parts_size parts
+trapping_few None parts = refl
+trapping_few (Some code) parts = omega arith
+
+relative_few : (opcode register : ℕ) (m : MemArg) → parts_size (relative_part opcode register m) ≤ 6
+relative_few opcode register (Label target) = omega arith
+relative_few opcode register m = omega arith
+
+form_few : (form : StorageForm) (code : Option TrapKind) (m : MemArg) → parts_size (relative_parts form code m) ≤ 6
+form_few (RxForm register rx_opcode rxy_opcode (Some opcode)) code m = let few = relative_few opcode register m in omega (arith, trapping_few code (relative_part opcode register m), few)
+form_few form code m = omega arith
+
+either_few : (t : Bool) (a b : List Part) → parts_size a ≤ 6 → parts_size b ≤ 6 → parts_size (cond t a b) ≤ 6
+either_few true a b h k = h
+either_few false a b h k = k
+
+operand_few : (form : StorageForm) (code : Option TrapKind) (m : MemArg) → parts_size (operand_parts form code m) ≤ 6
+operand_few form code m = either_few (is_relative m) (relative_parts form code m) (access_parts (storage_row form m) code) (form_few form code m) (access_few (storage_row form m) code)
+
 helper_few : (i : Inst) → parts_size (helper_parts i) ≤ 6
 unfolding length_of
 helper_few (Mov64SImm32 rd imm) = omega arith
-helper_few (LoadAddr rd mem) = access_few (storage_row (address_form rd) mem) None
+helper_few (LoadAddr rd mem) = operand_few (address_form rd) None mem
 helper_few i = omega arith
 
 helpers_few : (is : List Inst) → parts_size (helpers_parts is) ≤ 6 * length is
@@ -77,8 +96,8 @@ memory_few x =
     let f = displaced x.operand in
     let two : length (finalized mi x.operand).helpers ≤ 2 = one_more (needs_address mi f.operand) f _ _ (displaced_few x.operand) in
     let helpers = helpers_few (finalized mi x.operand).helpers in
-    let access = access_few (storage_row x.form (finalized mi x.operand).operand) (fault_code x) in
-    let both = size_append (helpers_parts (finalized mi x.operand).helpers) (access_parts (storage_row x.form (finalized mi x.operand).operand) (fault_code x)) in
+    let access = operand_few x.form (fault_code x) (finalized mi x.operand).operand in
+    let both = size_append (helpers_parts (finalized mi x.operand).helpers) (operand_parts x.form (fault_code x) (finalized mi x.operand).operand) in
     omega (arith, two, helpers, access, both)
 
 memory_few_or : (o : Option MemoryInstruction) (others : List Part) → parts_size others ≤ 44 → parts_size (memory_or o others) ≤ 44
@@ -129,7 +148,7 @@ three_tests false c b h = (refl, first_left c _ h, unless_true b LabelOutOfRange
 -- where no cause stands, the instruction passes
 pub emit_passed : (flags : IsaFlags) (s : State) (x : Tree) → HasRoom s → emit_cause flags s x ≡ None → TreePassed flags s 0 0 x
 emit_passed flags s x room h =
-    let t = three_tests s.failed (tree_cause flags s.block_count (length s.labels) 0 x) (nat_lt (length s.bytes + tree_size x) limit) h in
+    let t = three_tests s.failed (tree_cause flags (declared_in s) (length s.labels) 0 x) (nat_lt (length s.bytes + tree_size x) limit) h in
     record {
       unmarked = t.0;
       blocks = omega (arith, room);

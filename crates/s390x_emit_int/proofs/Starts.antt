@@ -6,11 +6,11 @@ use Rattle.s390x_inst.specs.declared.inst.Inst.TheVariants.{CondBreak, JTSequenc
 use Rattle.s390x_steps.specs.Tree.{Tree, empty, leaf, looped}
 use Rattle.s390x_steps.specs.Steps.{Step as TypedStep, Back, step_count, steps_of}
 use Rattle.s390x_steps.specs.MachineInstruction.{ril_c, bytes_of}
-use Rattle.s390x_steps.specs.Parts.{Part, Row, Trapping, Branch, Relative, SymbolValue, TrapHere, TableWord, ToBlock, ToStep, table_words, instruction_parts}
+use Rattle.s390x_steps.specs.Parts.{Part, Row, Trapping, Branch, Relative, RelativeConstant, RelativeSymbol, SymbolValue, TrapHere, TableWord, ToBlock, ToStep, table_words, instruction_parts}
 use Rattle.s390x_steps.specs.Image.{step_places}
 use Rattle.s390x_steps.specs.Sizes.{instruction_size}
-use Rattle.s390x_steps.specs.Causes.{instruction_draws, draws}
-use Rattle.s390x_emit_int.specs.Pieces.{Piece, Put, PutTrapping, PutReloc, Link, Step, Draw, Bind, apply, run}
+use Rattle.s390x_steps.specs.Causes.{declared_in, instruction_draws, draws}
+use Rattle.s390x_emit_int.specs.Pieces.{Piece, Put, PutTrapping, PutReloc, Link, LinkConstant, Step, Draw, Bind, apply, run}
 use Rattle.s390x_emit_int.specs.Emission.{part_pieces, leaf_pieces, back_pieces, pieces}
 use Rattle.s390x_emit_int.specs.Resolve.{put_length}
 use Rattle.s390x_emit_int.specs.Bound.{Follows}
@@ -21,9 +21,10 @@ use Rattle.s390x_emit_int.proofs.Joining.{leaf_put, tree_put, size_of_step, step
 abbrev pub marks : ℕ → List Piece → List ℕ
 marks p [] = []
 marks p (Put bs ∷ ps) = marks (p + length bs) ps
-marks p (PutReloc bs kind name addend ∷ ps) = marks (p + length bs) ps
+marks p (PutReloc bs byte kind name addend ∷ ps) = marks (p + length bs) ps
 marks p (PutTrapping bs byte code ∷ ps) = marks (p + length bs) ps
 marks p (Link k l bs ∷ ps) = marks (p + length bs) ps
+marks p (LinkConstant c bs ∷ ps) = marks (p + length bs) ps
 marks p (Step ∷ ps) = p ∷ marks p ps
 marks p (Draw ∷ ps) = marks p ps
 marks p (Bind l ∷ ps) = marks p ps
@@ -31,9 +32,10 @@ marks p (Bind l ∷ ps) = marks p ps
 pub starts_run : (ps : List Piece) (s : State) → (run s ps).starts ≡ s.starts ++ marks (length s.bytes) ps
 starts_run [] s = sym (append-nil s.starts)
 starts_run (Put bs ∷ ps) s = starts_run ps (apply s (Put bs)) ∙ ap (λ m. s.starts ++ marks m ps) (length-append s.bytes bs)
-starts_run (PutReloc bs kind name addend ∷ ps) s = starts_run ps (apply s (PutReloc bs kind name addend)) ∙ ap (λ m. s.starts ++ marks m ps) (length-append s.bytes bs)
+starts_run (PutReloc bs byte kind name addend ∷ ps) s = starts_run ps (apply s (PutReloc bs byte kind name addend)) ∙ ap (λ m. s.starts ++ marks m ps) (length-append s.bytes bs)
 starts_run (PutTrapping bs byte code ∷ ps) s = starts_run ps (apply s (PutTrapping bs byte code)) ∙ ap (λ m. s.starts ++ marks m ps) (length-append s.bytes bs)
 starts_run (Link k l bs ∷ ps) s = starts_run ps (apply s (Link k l bs)) ∙ ap (λ m. s.starts ++ marks m ps) (length-append s.bytes bs)
+starts_run (LinkConstant c bs ∷ ps) s = starts_run ps (apply s (LinkConstant c bs)) ∙ ap (λ m. s.starts ++ marks m ps) (length-append s.bytes bs)
 starts_run (Step ∷ ps) s = starts_run ps (apply s Step) ∙ append_assoc s.starts (length s.bytes ∷ []) (marks (length s.bytes) ps)
 starts_run (Draw ∷ ps) s = starts_run ps (apply s Draw)
 starts_run (Bind l ∷ ps) s = starts_run ps (apply s (Bind l))
@@ -41,9 +43,10 @@ starts_run (Bind l ∷ ps) s = starts_run ps (apply s (Bind l))
 pub marks_append : (a b : List Piece) (p : ℕ) → marks p (a ++ b) ≡ marks p a ++ marks (p + put_length a) b
 marks_append [] b p = ap (λ m. marks m b) (sym (add-zero p))
 marks_append (Put bs ∷ a) b p = marks_append a b (p + length bs) ∙ ap (λ m. marks (p + length bs) a ++ marks m b) (add_assoc p (length bs) (put_length a))
-marks_append (PutReloc bs kind name addend ∷ a) b p = marks_append a b (p + length bs) ∙ ap (λ m. marks (p + length bs) a ++ marks m b) (add_assoc p (length bs) (put_length a))
+marks_append (PutReloc bs byte kind name addend ∷ a) b p = marks_append a b (p + length bs) ∙ ap (λ m. marks (p + length bs) a ++ marks m b) (add_assoc p (length bs) (put_length a))
 marks_append (PutTrapping bs byte code ∷ a) b p = marks_append a b (p + length bs) ∙ ap (λ m. marks (p + length bs) a ++ marks m b) (add_assoc p (length bs) (put_length a))
 marks_append (Link k l bs ∷ a) b p = marks_append a b (p + length bs) ∙ ap (λ m. marks (p + length bs) a ++ marks m b) (add_assoc p (length bs) (put_length a))
+marks_append (LinkConstant c bs ∷ a) b p = marks_append a b (p + length bs) ∙ ap (λ m. marks (p + length bs) a ++ marks m b) (add_assoc p (length bs) (put_length a))
 marks_append (Step ∷ a) b p = ap (λ l. p ∷ l) (marks_append a b p)
 marks_append (Draw ∷ a) b p = marks_append a b p
 marks_append (Bind l ∷ a) b p = marks_append a b p
@@ -56,6 +59,8 @@ parts_unmarked (Branch mask (ToBlock b) ∷ parts) p = parts_unmarked parts _
 parts_unmarked (Branch mask (ToStep k) ∷ parts) p = parts_unmarked parts _
 parts_unmarked (Relative opcode register (ToBlock b) ∷ parts) p = parts_unmarked parts _
 parts_unmarked (Relative opcode register (ToStep k) ∷ parts) p = parts_unmarked parts _
+parts_unmarked (RelativeConstant opcode register c ∷ parts) p = parts_unmarked parts _
+parts_unmarked (RelativeSymbol opcode register name offset ∷ parts) p = parts_unmarked parts _
 parts_unmarked (SymbolValue name offset ∷ parts) p = parts_unmarked parts _
 parts_unmarked (TrapHere code ∷ parts) p = parts_unmarked parts _
 parts_unmarked (TableWord before (ToBlock b) ∷ parts) p = parts_unmarked parts _
@@ -121,9 +126,25 @@ pub record Same (s t : State) : Type 0 where
 pub same_run : (ps : List Piece) (s : State) → Same s (run s ps)
 same_run [] s = record { call_sites = refl; try_call_sites = refl; patchable_sites = refl; stack_maps = refl; block_count = refl; constants = refl; failed = refl }
 same_run (Put bs ∷ ps) s = let r = same_run ps (apply s (Put bs)) in record { call_sites = r.call_sites; try_call_sites = r.try_call_sites; patchable_sites = r.patchable_sites; stack_maps = r.stack_maps; block_count = r.block_count; constants = r.constants; failed = r.failed }
-same_run (PutReloc bs kind name addend ∷ ps) s = let r = same_run ps (apply s (PutReloc bs kind name addend)) in record { call_sites = r.call_sites; try_call_sites = r.try_call_sites; patchable_sites = r.patchable_sites; stack_maps = r.stack_maps; block_count = r.block_count; constants = r.constants; failed = r.failed }
+same_run (PutReloc bs byte kind name addend ∷ ps) s = let r = same_run ps (apply s (PutReloc bs byte kind name addend)) in record { call_sites = r.call_sites; try_call_sites = r.try_call_sites; patchable_sites = r.patchable_sites; stack_maps = r.stack_maps; block_count = r.block_count; constants = r.constants; failed = r.failed }
 same_run (PutTrapping bs byte code ∷ ps) s = let r = same_run ps (apply s (PutTrapping bs byte code)) in record { call_sites = r.call_sites; try_call_sites = r.try_call_sites; patchable_sites = r.patchable_sites; stack_maps = r.stack_maps; block_count = r.block_count; constants = r.constants; failed = r.failed }
 same_run (Link k l bs ∷ ps) s = let r = same_run ps (apply s (Link k l bs)) in record { call_sites = r.call_sites; try_call_sites = r.try_call_sites; patchable_sites = r.patchable_sites; stack_maps = r.stack_maps; block_count = r.block_count; constants = r.constants; failed = r.failed }
+same_run (LinkConstant c bs ∷ ps) s = let r = same_run ps (apply s (LinkConstant c bs)) in record { call_sites = r.call_sites; try_call_sites = r.try_call_sites; patchable_sites = r.patchable_sites; stack_maps = r.stack_maps; block_count = r.block_count; constants = r.constants; failed = r.failed }
 same_run (Step ∷ ps) s = let r = same_run ps (apply s Step) in record { call_sites = r.call_sites; try_call_sites = r.try_call_sites; patchable_sites = r.patchable_sites; stack_maps = r.stack_maps; block_count = r.block_count; constants = r.constants; failed = r.failed }
 same_run (Draw ∷ ps) s = let r = same_run ps (apply s Draw) in record { call_sites = r.call_sites; try_call_sites = r.try_call_sites; patchable_sites = r.patchable_sites; stack_maps = r.stack_maps; block_count = r.block_count; constants = r.constants; failed = r.failed }
 same_run (Bind l ∷ ps) s = let r = same_run ps (apply s (Bind l)) in record { call_sites = r.call_sites; try_call_sites = r.try_call_sites; patchable_sites = r.patchable_sites; stack_maps = r.stack_maps; block_count = r.block_count; constants = r.constants; failed = r.failed }
+
+-- what instructions may name stays the same
+declared_applied : (x : Piece) (s : State) → declared_in (apply s x) ≡ declared_in s
+declared_applied (Put bs) s = refl
+declared_applied (PutReloc bs byte kind name addend) s = refl
+declared_applied (PutTrapping bs byte code) s = refl
+declared_applied (Link k l bs) s = refl
+declared_applied (LinkConstant c bs) s = refl
+declared_applied Step s = refl
+declared_applied Draw s = refl
+declared_applied (Bind l) s = refl
+
+pub declared_run : (ps : List Piece) (s : State) → declared_in (run s ps) ≡ declared_in s
+declared_run [] s = refl
+declared_run (x ∷ ps) s = declared_run ps (apply s x) ∙ declared_applied x s

@@ -6,7 +6,7 @@ use Rattle.s390x_base.specs.declared.regs.Reg.{Reg}
 use Rattle.s390x_enc.specs.Operands.{is_general as encodes_general}
 use Rattle.s390x_steps.specs.General.{is_general, reuses}
 use Rattle.s390x_steps.specs.Memory.{is_range}
-use Rattle.s390x_address.specs.Rows.{takes_general}
+use Rattle.s390x_address.specs.Rows.{takes_general, has_12_bits}
 use Rattle.s390x_emit_int.proofs.Encoding.{implied, one_general}
 
 opcodes_encode : (r : Reg) (rx rxy : Option ℕ) → (takes_general rx && takes_general rxy) ≡ true → encodes_general r ≡ true → (encodes_general r && takes_general rx && takes_general rxy) ≡ true
@@ -15,8 +15,10 @@ opcodes_encode r rx rxy h g =
     and_from (encodes_general r && takes_general rx) (takes_general rxy) (and_from (encodes_general r) (takes_general rx) g p.0) p.1
 
 -- one register
-pub register_encodes : (r : Reg) (rx rxy : Option ℕ) → (takes_general rx && takes_general rxy) ≡ true → (not (is_general r) || (encodes_general r && takes_general rx && takes_general rxy)) ≡ true
-register_encodes r rx rxy h = implied (is_general r) _ (λ g. opcodes_encode r rx rxy h (one_general r g))
+pub register_encodes : (r : Reg) (rx rxy ril : Option ℕ) → (takes_general rx && takes_general rxy && has_12_bits ril) ≡ true → (has_12_bits ril && (not (is_general r) || (encodes_general r && takes_general rx && takes_general rxy))) ≡ true
+register_encodes r rx rxy ril h =
+    let p = and_parts (takes_general rx && takes_general rxy) (has_12_bits ril) h in
+    and_from (has_12_bits ril) _ p.1 (implied (is_general r) _ (λ g. opcodes_encode r rx rxy p.0 (one_general r g)))
 
 reused_general : (a b : Reg) → reuses a b ≡ true → is_general a ≡ true
 reused_general a b h = let p = and_parts (is_general a && is_general b) (nat_eq (number_of a) (number_of b)) h in (and_parts (is_general a) (is_general b) p.0).0

@@ -39,7 +39,7 @@ pub parts_turns : (s t : State) (parts : List Part) → t ≡ run s (part_pieces
 parts_turns s t parts e =
     let g = parts_grow parts s in
     let same = same_run (part_pieces parts) s in
-    record { unmarked = ap (λ x. x.failed) e ∙ same.failed; blocks = ap (λ x. x.block_count) e ∙ same.block_count; labels = ap (λ x. length x.labels) e ∙ g.labels; bytes = ap (λ x. length x.bytes) e ∙ g.bytes }
+    record { unmarked = ap (λ x. x.failed) e ∙ same.failed; blocks = ap (λ x. x.block_count) e ∙ same.block_count; constants = ap (λ x. x.constants) e ∙ same.constants; labels = ap (λ x. length x.labels) e ∙ g.labels; bytes = ap (λ x. length x.bytes) e ∙ g.bytes }
 
 -- what still fits after some bytes
 passed_on : (s t : State) (after l n k m r : ℕ) → Passed s after n None → Turns s t k m → m + r ≤ n → l < length t.labels → Passed t l r None
@@ -98,7 +98,7 @@ pub words_done : (ls : List MachLabel) (k : ℕ) (s r : State) → length ls ≤
 words_done ls k s r le h = ap (λ l. run s (part_pieces (table_words (4 * k) l))) (sym (drop_all k ls le)) ∙ h
 
 word_turns : (s t : State) (before l : ℕ) → t ≡ apply s (table_word before l) → Turns s t 0 4
-word_turns s t before l e = record { unmarked = ap (λ x. x.failed) e; blocks = ap (λ x. x.block_count) e; labels = omega (arith, ap (λ x. length x.labels) e); bytes = ap (λ x. length x.bytes) e ∙ length-append s.bytes _ }
+word_turns s t before l e = record { unmarked = ap (λ x. x.failed) e; blocks = ap (λ x. x.block_count) e; constants = ap (λ x. x.constants) e; labels = omega (arith, ap (λ x. length x.labels) e); bytes = ap (λ x. length x.bytes) e ∙ length-append s.bytes _ }
 
 pub word_length : (s t : State) (before l : ℕ) → t ≡ apply s (table_word before l) → length t.bytes ≡ length s.bytes + 4
 word_length s t before l e = (word_turns s t before l e).bytes
@@ -157,7 +157,7 @@ rows_turns s sa sb table index mask other ea eb =
     let e : sb ≡ run s (Draw ∷ table_rows table index mask other) = eb ∙ ap (λ x. run x (table_rows table index mask other)) ea in
     let g = begun_grows s table index mask other in
     let same = same_run (Draw ∷ table_rows table index mask other) s in
-    record { unmarked = ap (λ x. x.failed) e ∙ same.failed; blocks = ap (λ x. x.block_count) e ∙ same.block_count; labels = ap (λ x. length x.labels) e ∙ g.labels; bytes = ap (λ x. length x.bytes) e ∙ g.bytes }
+    record { unmarked = ap (λ x. x.failed) e ∙ same.failed; blocks = ap (λ x. x.block_count) e ∙ same.block_count; constants = ap (λ x. x.constants) e ∙ same.constants; labels = ap (λ x. length x.labels) e ∙ g.labels; bytes = ap (λ x. length x.bytes) e ∙ g.bytes }
 
 -- the drawn label can be bound
 pub binds : (s sa sb : State) (after table i mask : ℕ) (index : Reg) (other : MachLabel) (targets : List MachLabel) → Passed s after (20 + 4 * length targets) (table_cause s.block_count index other targets) → sa ≡ apply s Draw → table ≡ length s.labels → sb ≡ run sa (table_rows table i mask other.0) → label_cause sb table ≡ None

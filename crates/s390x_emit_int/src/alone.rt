@@ -13,7 +13,9 @@ use crate::bits::find_bits;
 use crate::moves::find_move;
 use crate::opcode::ShortOpcode;
 use crate::stops::find_stop;
-use s390x_base::{Code, EmitError, Reg, RegClass, SImm20};
+use s390x_address::emitters::number;
+use s390x_address::memory::general;
+use s390x_base::{Code, EmitError, Reg, SImm20};
 use s390x_enc::{
     enc_ri_a, enc_rie_a, enc_rie_d, enc_rie_f, enc_rie_g, enc_ril_a, enc_rr, enc_rre, enc_rrf_ab,
     enc_rrf_cde, enc_rsy, enc_rxy,
@@ -206,25 +208,6 @@ fn low_displacement(displacement: SImm20) -> u32
     ensures below { result < 1048576 }
 {
     i64::from(displacement.value()).rem_euclid(1048576) as u32
-}
-
-/// Whether the register is a real Int one.
-pub fn general(r: &Reg) -> bool
-    ensures { result ≡ is_general r.now }
-{
-    match r {
-        Reg::Real(preg) => preg.class() == RegClass::Int && preg.hw_enc() < 16,
-        Reg::Virtual { .. } => false,
-    }
-}
-
-pub fn number(r: &Reg) -> u32
-    ensures { result ≡ number_of r.now }
-{
-    match r {
-        Reg::Real(preg) => u32::from(preg.hw_enc()),
-        Reg::Virtual { num, .. } => *num,
-    }
 }
 
 fn same_number(a: &Reg, b: &Reg) -> bool

@@ -1,15 +1,17 @@
 //! Why an instruction is refused.
 ghost use Rattle.std.specs.Prelude.{◌≡◌, ◌≤◌, ◌&&◌, None, Some};
 ghost use Rattle.s390x_base.specs.declared.error.EmitError.TheVariants.{BadRegister, UnboundLabel};
-ghost use Rattle.s390x_steps.specs.Causes.{first, unless, label_cause, labels_cause, cause_or, memory_cause_or, branch_cause, instruction_cause, table_cause};
+ghost use Rattle.s390x_steps.specs.Causes.{first, unless, declared_in, label_cause, labels_cause, cause_or, memory_cause_or, branch_cause, instruction_cause, table_cause};
 ghost use Rattle.s390x_steps.specs.Memory.{memory};
 ghost use Rattle.s390x_steps.specs.Resolved.{resolved_instruction};
 ghost use Rattle.s390x_steps.specs.Alone.{alone};
 ghost use Rattle.s390x_steps.specs.General.{is_general, is_nonzero, is_scratch};
 
-use crate::alone::{find_alone, general};
+use crate::alone::find_alone;
 use crate::memory::find_memory;
+use s390x_address::memory::general;
 use s390x_base::{EmitError, MachLabel, Reg, RegClass};
+use s390x_buffer::MachBuffer;
 use s390x_inst::{EmitState, Inst, IsaFlags};
 
 // Whether the register is a real Int one other than `%r0`: one that a branch may go by.
@@ -38,13 +40,13 @@ fn refusal_unless(holds: bool, error: EmitError) -> Option<EmitError>
     if holds { None } else { Some(error) }
 }
 
-fn label_refusal(blocks: usize, label: MachLabel) -> Option<EmitError>
+fn label_refusal(blocks: u32, label: MachLabel) -> Option<EmitError>
     ensures { result ≡ label_cause blocks label }
 {
-    refusal_unless((label.0 as usize) < blocks, EmitError::UnboundLabel)
+    refusal_unless(label.0 < blocks, EmitError::UnboundLabel)
 }
 
-fn labels_refusal(blocks: usize, labels: &[MachLabel]) -> Option<EmitError>
+fn labels_refusal(blocks: u32, labels: &[MachLabel]) -> Option<EmitError>
     ensures { result ≡ labels_cause blocks labels.now }
 {
     for label in labels {
@@ -56,7 +58,7 @@ fn labels_refusal(blocks: usize, labels: &[MachLabel]) -> Option<EmitError>
     None
 }
 
-fn two_labels_refusal(blocks: usize, taken: MachLabel, not_taken: MachLabel) -> Option<EmitError>
+fn two_labels_refusal(blocks: u32, taken: MachLabel, not_taken: MachLabel) -> Option<EmitError>
     ensures { result ≡ first (label_cause blocks taken) (label_cause blocks not_taken) }
 {
     match label_refusal(blocks, taken) {
@@ -65,7 +67,7 @@ fn two_labels_refusal(blocks: usize, taken: MachLabel, not_taken: MachLabel) -> 
     }
 }
 
-fn address_refusal(blocks: usize, dst: &Reg, label: MachLabel) -> Option<EmitError>
+fn address_refusal(blocks: u32, dst: &Reg, label: MachLabel) -> Option<EmitError>
     ensures { result ≡ first (unless (is_general dst.now) BadRegister) (label_cause blocks label) }
 {
     if general(dst) {
@@ -75,7 +77,7 @@ fn address_refusal(blocks: usize, dst: &Reg, label: MachLabel) -> Option<EmitErr
     }
 }
 
-fn indirect_refusal(blocks: usize, rn: Reg, targets: &[MachLabel]) -> Option<EmitError>
+fn indirect_refusal(blocks: u32, rn: Reg, targets: &[MachLabel]) -> Option<EmitError>
     ensures { result ≡ first (unless (is_general rn && is_nonzero rn) BadRegister) (labels_cause blocks targets.now) }
 {
     if branchable(rn) {
@@ -86,7 +88,7 @@ fn indirect_refusal(blocks: usize, rn: Reg, targets: &[MachLabel]) -> Option<Emi
 }
 
 fn table_refusal(
-    blocks: usize,
+    blocks: u32,
     index: &Reg,
     other: MachLabel,
     targets: &[MachLabel],
@@ -106,7 +108,7 @@ fn table_refusal(
 }
 
 // The first cause of an instruction that names a place, goes elsewhere or ends the run.
-fn branch_refusal(blocks: usize, depth: u32, inst: &Inst) -> Option<EmitError>
+fn branch_refusal(blocks: u32, depth: u32, inst: &Inst) -> Option<EmitError>
     ensures { result ≡ branch_cause blocks depth inst.now }
 {
     match inst {
@@ -135,38 +137,44 @@ fn branch_refusal(blocks: usize, depth: u32, inst: &Inst) -> Option<EmitError>
 }
 
 // The first cause of an instruction that isn't one machine instruction.
-fn memory_refusal(state: &EmitState, blocks: usize, depth: u32, inst: &Inst) -> Option<EmitError>
-    ensures { result ≡ memory_cause_or (memory (resolved_instruction state.now inst.now)) (branch_cause blocks depth inst.now) }
+fn memory_refusal(
+    state: &EmitState,
+    sink: &MachBuffer,
+    depth: u32,
+    inst: &Inst,
+) -> Option<EmitError>
+    ensures { result ≡ memory_cause_or (declared_in sink.now) (memory (resolved_instruction state.now inst.now)) (branch_cause sink.now.block_count depth inst.now) }
 {
     match find_memory(inst) {
-        Some(found) => found.refusal(state),
-        None => branch_refusal(blocks, depth, inst),
+        Some(found) => found.refusal(sink, state),
+        None => branch_refusal(sink.block_count(), depth, inst),
     }
 }
 
 // The first cause of an instruction whose facility is there.
 #[tactic(auto, using(crate::proofs::Single::some_other, crate::proofs::Single::none_other))]
-fn other_refusal(state: &EmitState, blocks: usize, depth: u32, inst: &Inst) -> Option<EmitError>
-    ensures { result ≡ cause_or (alone inst.now) (memory_cause_or (memory (resolved_instruction state.now inst.now)) (branch_cause blocks depth inst.now)) }
+fn other_refusal(state: &EmitState, sink: &MachBuffer, depth: u32, inst: &Inst) -> Option<EmitError>
+    ensures { result ≡ cause_or (alone inst.now) (memory_cause_or (declared_in sink.now) (memory (resolved_instruction state.now inst.now)) (branch_cause sink.now.block_count depth inst.now)) }
 {
     match find_alone(inst) {
         Some(found) => refusal_unless(found.fine, EmitError::BadRegister),
-        None => memory_refusal(state, blocks, depth, inst),
+        None => memory_refusal(state, sink, depth, inst),
     }
 }
 
-/// The first cause of an instruction that is no `Loop` in a state of emission, inside so many loops, where the machine has these facilities.
+/// The first cause of an instruction that is no `Loop` in a state of emission, inside so many loops, where the machine has these facilities and
+/// the buffer tells the blocks and the constants.
 pub fn instruction_refusal(
     flags: IsaFlags,
     state: &EmitState,
-    blocks: usize,
+    sink: &MachBuffer,
     depth: u32,
     inst: &Inst,
 ) -> Option<EmitError>
-    ensures { result ≡ instruction_cause flags blocks depth (resolved_instruction state.now inst.now) }
+    ensures { result ≡ instruction_cause flags (declared_in sink.now) depth (resolved_instruction state.now inst.now) }
 {
     if flags.has(inst.available_in_isa()) {
-        other_refusal(state, blocks, depth, inst)
+        other_refusal(state, sink, depth, inst)
     } else {
         Some(EmitError::MissingFacility)
     }

@@ -6,7 +6,7 @@ ghost use Rattle.s390x_steps.specs.Memory.{memory};
 ghost use Rattle.s390x_steps.specs.Resolved.{resolved_instruction};
 ghost use Rattle.s390x_steps.specs.Tree.{empty, graft, tree};
 ghost use Rattle.s390x_steps.specs.Sizes.{instruction_size, tree_size};
-ghost use Rattle.s390x_steps.specs.Causes.{first, draws, nesting_cause, numbers_cause, memory_cause_or, instruction_cause, tree_cause, instruction_draws, leaf_cause};
+ghost use Rattle.s390x_steps.specs.Causes.{Declared, first, declared_in, draws, nesting_cause, numbers_cause, memory_cause_or, instruction_cause, tree_cause, instruction_draws, leaf_cause};
 ghost use Rattle.s390x_steps.specs.Ranges.{InRange, AllInRange, IsMask};
 ghost use Rattle.s390x_emit_int.specs.Emission.{branch_size, memory_size_or};
 ghost use Rattle.s390x_emit_int.specs.Totals.{IsCounted, Adds, limit};
@@ -15,6 +15,7 @@ use crate::alone::find_alone;
 use crate::causes::instruction_refusal;
 use crate::memory::find_memory;
 use s390x_base::EmitError;
+use s390x_buffer::MachBuffer;
 use s390x_inst::{EmitState, Inst, IsaFlags};
 
 const LIMIT: u64 = 2147483648;
@@ -60,7 +61,7 @@ fn branch_size(inst: &Inst) -> u64
 
 // The size of an instruction that isn't one machine instruction, counted up to the limit of code.
 fn other_size(state: &EmitState, inst: &Inst) -> u64
-    ensures value { memory_cause_or (memory (resolved_instruction state.now inst.now)) None ≡ None → min limit result ≡ min limit (memory_size_or (memory (resolved_instruction state.now inst.now)) (branch_size inst.now)) }
+    ensures value { (D : Declared) → memory_cause_or D (memory (resolved_instruction state.now inst.now)) None ≡ None → min limit result ≡ min limit (memory_size_or (memory (resolved_instruction state.now inst.now)) (branch_size inst.now)) }
     ensures few { result ≤ limit }
 {
     match find_memory(inst) {
@@ -71,7 +72,7 @@ fn other_size(state: &EmitState, inst: &Inst) -> u64
 
 // The size of an instruction that no cause refuses, counted up to the limit of code.
 fn size_of(state: &EmitState, inst: &Inst) -> u64
-    ensures value { (flags : IsaFlags) (blocks depth : ℕ) → instruction_cause flags blocks depth (resolved_instruction state.now inst.now) ≡ None → min limit result ≡ min limit (instruction_size (resolved_instruction state.now inst.now)) }
+    ensures value { (flags : IsaFlags) (D : Declared) (depth : ℕ) → instruction_cause flags D depth (resolved_instruction state.now inst.now) ≡ None → min limit result ≡ min limit (instruction_size (resolved_instruction state.now inst.now)) }
     ensures few { result ≤ limit }
 {
     match find_alone(inst) {
@@ -118,15 +119,15 @@ fn add(t: Totals, labels: u64, bytes: u64) -> Result<Totals, EmitError>
 fn check_leaf(
     flags: IsaFlags,
     state: &EmitState,
-    blocks: usize,
+    sink: &MachBuffer,
     t: Totals,
     depth: u32,
     inst: &Inst,
 ) -> Result<Totals, EmitError>
     requires { IsCounted t }
-    ensures { MatchResult result (λ r. (leaf_cause flags blocks t.labels depth (resolved_instruction state.now inst.now) ≡ None) × Adds t r (instruction_draws (resolved_instruction state.now inst.now)) (instruction_size (resolved_instruction state.now inst.now))) (λ e. leaf_cause flags blocks t.labels depth (resolved_instruction state.now inst.now) ≡ Some e) }
+    ensures { MatchResult result (λ r. (leaf_cause flags (declared_in sink.now) t.labels depth (resolved_instruction state.now inst.now) ≡ None) × Adds t r (instruction_draws (resolved_instruction state.now inst.now)) (instruction_size (resolved_instruction state.now inst.now))) (λ e. leaf_cause flags (declared_in sink.now) t.labels depth (resolved_instruction state.now inst.now) ≡ Some e) }
 {
-    match instruction_refusal(flags, state, blocks, depth, inst) {
+    match instruction_refusal(flags, state, sink, depth, inst) {
         Some(error) => Err(error),
         None => add(t, draws(inst), size_of(state, inst)),
     }
@@ -144,22 +145,22 @@ fn open_loop(t: Totals, depth: u32) -> Result<Totals, EmitError>
     }
 }
 
-/// The first cause among the members of a block or a loop, inside so many loops, or what they add.
+/// The first cause among the members of a block or a loop, inside so many loops, by the buffer's blocks and constants; or what they add.
 #[cycle(checking)]
 pub fn check_members(
     flags: IsaFlags,
     state: &EmitState,
-    blocks: usize,
+    sink: &MachBuffer,
     t: Totals,
     depth: u32,
     insts: &[Inst],
 ) -> Result<Totals, EmitError>
     requires { IsCounted t }
-    ensures { MatchResult result (λ r. (tree_cause flags blocks t.labels depth (tree state.now insts.now) ≡ None) × Adds t r (draws (tree state.now insts.now)) (tree_size (tree state.now insts.now))) (λ e. tree_cause flags blocks t.labels depth (tree state.now insts.now) ≡ Some e) }
+    ensures { MatchResult result (λ r. (tree_cause flags (declared_in sink.now) t.labels depth (tree state.now insts.now) ≡ None) × Adds t r (draws (tree state.now insts.now)) (tree_size (tree state.now insts.now))) (λ e. tree_cause flags (declared_in sink.now) t.labels depth (tree state.now insts.now) ≡ Some e) }
 {
     let mut sum = t;
     for inst in insts {
-        sum = check_inst(flags, state, blocks, sum, depth, inst)?;
+        sum = check_inst(flags, state, sink, sum, depth, inst)?;
     }
     Ok(sum)
 }
@@ -169,17 +170,17 @@ pub fn check_members(
 pub fn check_inst(
     flags: IsaFlags,
     state: &EmitState,
-    blocks: usize,
+    sink: &MachBuffer,
     t: Totals,
     depth: u32,
     inst: &Inst,
 ) -> Result<Totals, EmitError>
     requires { IsCounted t }
-    ensures { MatchResult result (λ r. (tree_cause flags blocks t.labels depth (graft state.now inst.now empty) ≡ None) × Adds t r (draws (graft state.now inst.now empty)) (tree_size (graft state.now inst.now empty))) (λ e. tree_cause flags blocks t.labels depth (graft state.now inst.now empty) ≡ Some e) }
+    ensures { MatchResult result (λ r. (tree_cause flags (declared_in sink.now) t.labels depth (graft state.now inst.now empty) ≡ None) × Adds t r (draws (graft state.now inst.now empty)) (tree_size (graft state.now inst.now empty))) (λ e. tree_cause flags (declared_in sink.now) t.labels depth (graft state.now inst.now empty) ≡ Some e) }
 {
     match inst {
-        Inst::Loop { body, .. } => check_loop(flags, state, blocks, t, depth, body),
-        _ => check_leaf(flags, state, blocks, t, depth, inst),
+        Inst::Loop { body, .. } => check_loop(flags, state, sink, t, depth, body),
+        _ => check_leaf(flags, state, sink, t, depth, inst),
     }
 }
 
@@ -187,15 +188,15 @@ pub fn check_inst(
 fn check_loop(
     flags: IsaFlags,
     state: &EmitState,
-    blocks: usize,
+    sink: &MachBuffer,
     t: Totals,
     depth: u32,
     body: &[Inst],
 ) -> Result<Totals, EmitError>
     requires { IsCounted t }
-    ensures { MatchResult result (λ r. (first (first (nesting_cause depth) (numbers_cause t.labels 2)) (tree_cause flags blocks (t.labels + 2) (depth + 1) (tree state.now body.now)) ≡ None) × Adds t r (2 + draws (tree state.now body.now)) (tree_size (tree state.now body.now) + 6)) (λ e. first (first (nesting_cause depth) (numbers_cause t.labels 2)) (tree_cause flags blocks (t.labels + 2) (depth + 1) (tree state.now body.now)) ≡ Some e) }
+    ensures { MatchResult result (λ r. (first (first (nesting_cause depth) (numbers_cause t.labels 2)) (tree_cause flags (declared_in sink.now) (t.labels + 2) (depth + 1) (tree state.now body.now)) ≡ None) × Adds t r (2 + draws (tree state.now body.now)) (tree_size (tree state.now body.now) + 6)) (λ e. first (first (nesting_cause depth) (numbers_cause t.labels 2)) (tree_cause flags (declared_in sink.now) (t.labels + 2) (depth + 1) (tree state.now body.now)) ≡ Some e) }
 {
     let opened = open_loop(t, depth)?;
-    let inner = check_members(flags, state, blocks, opened, depth + 1, body)?;
+    let inner = check_members(flags, state, sink, opened, depth + 1, body)?;
     add(inner, 0, 6)
 }

@@ -93,7 +93,7 @@ fn refusal(sink: &MachBuffer, flags: IsaFlags, state: &EmitState, inst: &Inst) -
         labels: sink.label_count(),
         bytes: u64::from(sink.cur_offset()),
     };
-    match check_inst(flags, state, sink.block_count() as usize, used, 0, inst) {
+    match check_inst(flags, state, sink, used, 0, inst) {
         Ok(sum) if sum.bytes < LIMIT => None,
         Ok(_) => Some(EmitError::LabelOutOfRange),
         Err(error) => Some(error),
@@ -115,8 +115,8 @@ pub trait MachInstEmit {
 impl MachInstEmit for Inst {
     /// Appends the instruction. The state's stack map is dropped, all else of it stays.
     ///
-    /// Refused by `Failed` where the buffer bears the mark, then by the first cause of its steps, where the buffer tells how many blocks and
-    /// labels there are, and last by `LabelOutOfRange` where the length would reach 2^31. A refused call marks the buffer and leaves what stood in
+    /// Refused by `Failed` where the buffer bears the mark, then by the first cause of its steps, where the buffer tells the blocks, the
+    /// constants and the labels, and last by `LabelOutOfRange` where the length would reach 2^31. A refused call marks the buffer and leaves what stood in
     /// it, and the state as it was (cranelift-codegen, `emit.rs`).
     fn emit(
         &self,

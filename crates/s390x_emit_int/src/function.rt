@@ -2,10 +2,10 @@
 
 ghost use Rattle.std.specs.Prelude.{◌≡◌, ℕ, ◌+◌, ◌<◌, ◌≤◌, ◌⊎◌, OnOk, length, map, min, get_or, None, Some, MatchResult, nat_lt};
 ghost use Rattle.s390x_base.specs.declared.error.EmitError.TheVariants.{NoMemory, LabelOutOfRange, BadStackState};
-ghost use Rattle.s390x_buffer.specs.State.{constant_of, new_cause, put_cause, limit};
+ghost use Rattle.s390x_buffer.specs.State.{constant_of, new_cause, put_cause, fresh, limit};
 ghost use Rattle.s390x_buffer.specs.Constants.{constants_end};
 ghost use Rattle.s390x_inst.specs.declared.state.IsaFlags.{IsaFlags};
-ghost use Rattle.s390x_steps.specs.Causes.{first, unless, blocks_cause};
+ghost use Rattle.s390x_steps.specs.Causes.{unless, declared_in, blocks_cause};
 ghost use Rattle.s390x_steps.specs.Sizes.{blocks_size};
 ghost use Rattle.s390x_emit_int.specs.Emission.{function_pieces};
 ghost use Rattle.s390x_steps.specs.Ranges.{BlocksInRange};
@@ -31,20 +31,21 @@ fn start_refusal(state: &EmitState) -> Option<EmitError>
     }
 }
 
-// The first cause in the blocks, with so many labels in use, or what they add.
+// The first cause in the blocks, by what the buffer tells, or what they add.
 fn check_blocks(
     flags: IsaFlags,
     state: &EmitState,
+    sink: &MachBuffer,
     blocks: &[Block],
-    labels: u64,
 ) -> Result<Totals, EmitError>
-    requires { labels ≤ 4294967296 }
-    ensures { MatchResult result (λ r. (blocks_cause flags (length blocks.now) labels (map (tree_of state.now) blocks.now) ≡ None) × (min limit r.bytes ≡ min limit (blocks_size (map (tree_of state.now) blocks.now))) × (r.bytes ≤ limit)) (λ e. blocks_cause flags (length blocks.now) labels (map (tree_of state.now) blocks.now) ≡ Some e) }
+    ensures { MatchResult result (λ r. (blocks_cause flags (declared_in sink.now) (length sink.now.labels) (map (tree_of state.now) blocks.now) ≡ None) × (min limit r.bytes ≡ min limit (blocks_size (map (tree_of state.now) blocks.now))) × (r.bytes ≤ limit)) (λ e. blocks_cause flags (declared_in sink.now) (length sink.now.labels) (map (tree_of state.now) blocks.now) ≡ Some e) }
 {
-    let count = blocks.len();
-    let mut sum = Totals { labels, bytes: 0 };
+    let mut sum = Totals {
+        labels: sink.label_count(),
+        bytes: 0,
+    };
     for block in blocks {
-        sum = check_members(flags, state, count, sum, 0, &block.insts)?;
+        sum = check_members(flags, state, sink, sum, 0, &block.insts)?;
     }
     Ok(sum)
 }
@@ -68,7 +69,7 @@ fn emit_blocks(sink: &mut MachBuffer, state: &EmitState, blocks: &[Block]) -> Re
     requires room { HasRoom sink.old }
     requires free { (l : ℕ) → l < length blocks.now → get_or sink.old.labels l None ≡ None }
     ensures answer { OnOk result (sink.new ≡ run sink.old (function_pieces (length sink.old.labels) 0 (map (tree_of state.now) blocks.now))) }
-    ensures lacks { (flags : IsaFlags) → put_cause sink.old (blocks_size (map (tree_of state.now) blocks.now)) ≡ None → blocks_cause flags (length blocks.now) (length sink.old.labels) (map (tree_of state.now) blocks.now) ≡ None → LacksMemory result }
+    ensures lacks { (flags : IsaFlags) → put_cause sink.old (blocks_size (map (tree_of state.now) blocks.now)) ≡ None → blocks_cause flags (declared_in sink.old) (length sink.old.labels) (map (tree_of state.now) blocks.now) ≡ None → LacksMemory result }
     ensures ranges { OnOk result (BlocksInRange (map (tree_of state.now) blocks.now)) }
 {
     let mut label: u32 = 0;
@@ -82,17 +83,16 @@ fn emit_blocks(sink: &mut MachBuffer, state: &EmitState, blocks: &[Block]) -> Re
 
 // No cause stands: the finished code is the function's image.
 fn emit_checked(
-    alloc: Global,
+    mut sink: MachBuffer,
     function: &AllocatedFunction,
     state: &EmitState,
     flags: IsaFlags,
-    count: u32,
 ) -> Result<MachBufferFinalized, EmitError>
-    requires count { count ≡ length function.now.blocks.items }
+    requires few { length function.now.blocks.items ≤ 4294967295 }
+    requires fresh { sink ≡ fresh (length function.now.blocks.items) (constants_of function.now) }
     requires fine { checked_cause flags (trees_of state.now function.now) (constants_of function.now) ≡ None }
     ensures { MatchResult result (λ f. IsImage (trees_of state.now function.now) (constants_of function.now) f × BlocksInRange (trees_of state.now function.now)) (λ e. e ≡ NoMemory) }
 {
-    let mut sink = MachBuffer::new(alloc, count, &function.constants)?;
     emit_blocks(&mut sink, state, &function.blocks)?;
     sink.finish()
 }
@@ -111,33 +111,31 @@ fn block_count(function: &AllocatedFunction) -> Result<u32, EmitError>
     }
 }
 
-// The first cause among the constants, the steps and the length.
+// The first cause among the steps and the length, in a new buffer.
 fn check_function(
+    sink: &MachBuffer,
     function: &AllocatedFunction,
     state: &EmitState,
     flags: IsaFlags,
-    count: u32,
 ) -> Result<(), EmitError>
-    requires count { count ≡ length function.now.blocks.items }
+    requires new { new_cause (length function.now.blocks.items) (constants_of function.now) ≡ None }
+    requires fresh { sink.now ≡ fresh (length function.now.blocks.items) (constants_of function.now) }
     ensures { MatchResult result (λ _. checked_cause flags (trees_of state.now function.now) (constants_of function.now) ≡ None) (λ e. checked_cause flags (trees_of state.now function.now) (constants_of function.now) ≡ Some e) }
 {
-    let constants = &function.constants;
-    if !all_aligned(constants) {
-        return Err(EmitError::BadAlignment);
-    }
-    if constants.len() as u64 >= 4294967296 - u64::from(count) {
-        return Err(EmitError::LabelOutOfRange);
-    }
-    let sum = check_blocks(
-        flags,
-        state,
-        &function.blocks,
-        u64::from(count) + constants.len() as u64,
-    )?;
-    match length_refusal(sum.bytes, constants) {
+    let sum = check_blocks(flags, state, sink, &function.blocks)?;
+    match length_refusal(sum.bytes, &function.constants) {
         Some(error) => Err(error),
         None => Ok(()),
     }
+}
+
+// A buffer for the blocks and the constants.
+fn new_buffer(alloc: Global, function: &AllocatedFunction) -> Result<MachBuffer, EmitError>
+    ensures answer { MatchResult result (λ b. (new_cause (length function.now.blocks.items) (constants_of function.now) ≡ None) × (b ≡ fresh (length function.now.blocks.items) (constants_of function.now))) (λ e. (e ≡ NoMemory) ⊎ (new_cause (length function.now.blocks.items) (constants_of function.now) ≡ Some e)) }
+    ensures few { OnOk result (length function.now.blocks.items ≤ 4294967295) }
+{
+    let count = block_count(function)?;
+    MachBuffer::new(alloc, count, &function.constants)
 }
 
 /// Emits a function: binds each block's label, emits its members, and finishes the code with the constants behind it.
@@ -155,7 +153,7 @@ pub fn emit_function(
     if let Some(error) = start_refusal(&state) {
         return Err(error);
     }
-    let count = block_count(function)?;
-    check_function(function, &state, info.isa_flags, count)?;
-    emit_checked(alloc, function, &state, info.isa_flags, count)
+    let sink = new_buffer(alloc, function)?;
+    check_function(&sink, function, &state, info.isa_flags)?;
+    emit_checked(sink, function, &state, info.isa_flags)
 }

@@ -1,7 +1,7 @@
 //! Emitting one instruction that is no `Loop`.
 #![tactic(auto, using(s390x_buffer::proofs::Keeping::keeps_on, s390x_buffer::proofs::Keeping::keeps_same))]
 
-ghost use Rattle.std.specs.Prelude.{◌≡◌, ℕ, ◌<◌, ◌&&◌, ◌||◌, not, [], ◌∷◌, None, true, length, OnOk};
+ghost use Rattle.std.specs.Prelude.{◌≡◌, ℕ, ◌<◌, ◌&&◌, [], ◌∷◌, None, true, length, OnOk};
 ghost use Rattle.s390x_base.specs.Regs.{number_of};
 ghost use Rattle.s390x_buffer.specs.Keeps.{Keeps};
 ghost use Rattle.s390x_buffer.specs.State.{put_cause};
@@ -9,7 +9,7 @@ ghost use Rattle.s390x_steps.specs.MachineInstruction.{format_e, rr, ril_c, byte
 ghost use Rattle.s390x_steps.specs.Parts.{Row, Trapping, Branch, ToBlock, Relative, row_part, stopping, memory_parts, parts_size};
 ghost use Rattle.s390x_inst.specs.Emission.{Emission};
 ghost use Rattle.s390x_inst.specs.declared.state.IsaFlags.{IsaFlags};
-ghost use Rattle.s390x_steps.specs.Causes.{branch_cause, memory_cause, instruction_cause, numbers_cause, instruction_draws, leaf_cause};
+ghost use Rattle.s390x_steps.specs.Causes.{declared_in, branch_cause, memory_cause, instruction_cause, numbers_cause, instruction_draws, leaf_cause};
 ghost use Rattle.s390x_steps.specs.General.{is_general, is_nonzero};
 ghost use Rattle.s390x_steps.specs.Sizes.{instruction_size};
 ghost use Rattle.s390x_emit_int.specs.Alone.{instruction_of, can_encode};
@@ -21,7 +21,7 @@ ghost use Rattle.s390x_steps.specs.Ranges.{InRange, MaskInRange, OperandInRange,
 ghost use Rattle.s390x_steps.specs.Alone.{alone};
 ghost use Rattle.s390x_steps.specs.Operands.{resolved};
 ghost use Rattle.s390x_steps.specs.Resolved.{resolved_instruction};
-ghost use Rattle.s390x_address.specs.Rows.{memory_of, in_state, rows_encode};
+ghost use Rattle.s390x_address.specs.Rows.{memory_of, in_state, may_encode};
 
 use crate::alone::{RegisterRow, find_alone};
 use crate::memory::find_memory;
@@ -230,8 +230,9 @@ fn emit_memory(
     state: &EmitState,
     found: &MemoryInst,
 ) -> Result<(), EmitError>
+    requires { may_encode found.now ≡ true }
     ensures answer { OnOk result (sink.new ≡ run sink.old (part_pieces (memory_parts (in_state state.now (memory_of found.now))))) }
-    ensures lacks { put_cause sink.old (parts_size (memory_parts (in_state state.now (memory_of found.now)))) ≡ None → memory_cause (in_state state.now (memory_of found.now)) ≡ None → (not found.now.fine || rows_encode found.now.rows) ≡ true → LacksMemory result }
+    ensures lacks { put_cause sink.old (parts_size (memory_parts (in_state state.now (memory_of found.now)))) ≡ None → memory_cause (declared_in sink.old) (in_state state.now (memory_of found.now)) ≡ None → LacksMemory result }
     ensures range { OperandInRange (resolved state.now found.now.operand) }
     ensures kept { Keeps sink.old sink.new }
 {
@@ -249,7 +250,7 @@ fn emit_other(
     requires alone { None ≡ alone inst.now }
     requires room { HasRoom sink.old }
     ensures answer { OnOk result (sink.new ≡ run sink.old (leaf_pieces (length sink.old.labels) after.0 (resolved_instruction state.now inst.now))) }
-    ensures lacks { (flags : IsaFlags) (depth : ℕ) → MembersPassed sink.old after.0 depth (instruction_size (resolved_instruction state.now inst.now)) (leaf_cause flags sink.old.block_count (length sink.old.labels) depth (resolved_instruction state.now inst.now)) → LacksMemory result }
+    ensures lacks { (flags : IsaFlags) (depth : ℕ) → MembersPassed sink.old after.0 depth (instruction_size (resolved_instruction state.now inst.now)) (leaf_cause flags (declared_in sink.old) (length sink.old.labels) depth (resolved_instruction state.now inst.now)) → LacksMemory result }
     ensures range { OnOk result (InRange (resolved_instruction state.now inst.now)) }
     ensures kept { Keeps sink.old sink.new }
 {
@@ -268,7 +269,7 @@ pub fn emit_leaf(
 ) -> Result<(), EmitError>
     requires { HasRoom sink.old }
     ensures answer { OnOk result (sink.new ≡ run sink.old (leaf_pieces (length sink.old.labels) after.0 (resolved_instruction state.now inst.now))) }
-    ensures lacks { (flags : IsaFlags) (depth : ℕ) → MembersPassed sink.old after.0 depth (instruction_size (resolved_instruction state.now inst.now)) (leaf_cause flags sink.old.block_count (length sink.old.labels) depth (resolved_instruction state.now inst.now)) → LacksMemory result }
+    ensures lacks { (flags : IsaFlags) (depth : ℕ) → MembersPassed sink.old after.0 depth (instruction_size (resolved_instruction state.now inst.now)) (leaf_cause flags (declared_in sink.old) (length sink.old.labels) depth (resolved_instruction state.now inst.now)) → LacksMemory result }
     ensures range { OnOk result (InRange (resolved_instruction state.now inst.now)) }
     ensures kept { Keeps sink.old sink.new }
 {

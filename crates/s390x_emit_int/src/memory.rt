@@ -1,17 +1,18 @@
 //! Instructions with a memory operand: their machine rows.
-ghost use Rattle.std.specs.Prelude.{◌≡◌, ◌&&◌, ◌||◌, not, true, IfSome};
+ghost use Rattle.std.specs.Prelude.{◌≡◌, ◌&&◌, true, Some, IfSome};
 ghost use Rattle.std.specs.Option.{option_map};
-ghost use Rattle.s390x_address.specs.Rows.{memory_of, form_of, rows_encode, takes_general};
+ghost use Rattle.s390x_address.specs.Rows.{memory_of, form_of, relative_encodes, rows_encode, may_encode, takes_general, has_12_bits};
 ghost use Rattle.s390x_steps.specs.General.{low_halfword};
-ghost use Rattle.s390x_steps.specs.Memory.{load, store, store_immediate, SilForm, is_range, holds_scratch, multiple, load_and_operate, compare_and_swap, memory};
+ghost use Rattle.s390x_steps.specs.Memory.{load, store, store_immediate, SilForm, is_range, multiple, load_and_operate, compare_and_swap, memory};
 ghost use Rattle.s390x_steps.specs.Storage.{alu_rx, alu_rxy, cmp_rx, cmp_rxy, cmp_ril, atomic_rsy};
 ghost use Rattle.s390x_emit_int.specs.Memory.{storage_group};
 ghost use Rattle.s390x_emit_int.specs.declared.memory.StorageGroup.TheVariants.{Loads, Stores, Operators};
 
-use crate::alone::{general, is_reused, number, two_general};
+use crate::alone::{is_reused, two_general};
 use crate::bits::low_byte;
+use s390x_address::emitters::{holds_scratch, number};
 use s390x_address::forms::is_numbered;
-use s390x_address::memory::MemoryInst;
+use s390x_address::memory::{MemoryInst, general};
 use s390x_address::rows::StorageRows;
 use s390x_base::Reg;
 use s390x_inst::{ALUOp, CmpOp, Inst, MemArg};
@@ -33,9 +34,9 @@ fn load(
     ril: Option<u16>,
     operand: MemArg,
 ) -> Option<MemoryInst>
-    requires { (takes_general rx && takes_general rxy) ≡ true }
+    requires { (takes_general rx && takes_general rxy && has_12_bits ril) ≡ true }
     ensures row { option_map memory_of result ≡ load rd rx rxy ril operand }
-    ensures encodes { IfSome result (λ x. (not x.fine || rows_encode x.rows) ≡ true) }
+    ensures encodes { IfSome result (λ x. may_encode x ≡ true) }
 {
     Some(MemoryInst {
         rows: StorageRows::OneRegister {
@@ -60,9 +61,9 @@ fn store(
     ril: Option<u16>,
     operand: MemArg,
 ) -> Option<MemoryInst>
-    requires { (takes_general rx && takes_general rxy) ≡ true }
+    requires { (takes_general rx && takes_general rxy && has_12_bits ril) ≡ true }
     ensures row { option_map memory_of result ≡ store rd rx rxy ril operand }
-    ensures encodes { IfSome result (λ x. (not x.fine || rows_encode x.rows) ≡ true) }
+    ensures encodes { IfSome result (λ x. may_encode x ≡ true) }
 {
     Some(MemoryInst {
         rows: StorageRows::OneRegister {
@@ -82,7 +83,7 @@ fn store(
 #[tactic(auto, using(crate::proofs::Storing::register_encodes))]
 fn load_address(rd: Reg, operand: MemArg) -> Option<MemoryInst>
     ensures row { option_map memory_of result ≡ memory (Inst.LoadAddr rd operand) }
-    ensures encodes { IfSome result (λ x. (not x.fine || rows_encode x.rows) ≡ true) }
+    ensures encodes { IfSome result (λ x. may_encode x ≡ true) }
 {
     Some(MemoryInst {
         rows: StorageRows::OneRegister {
@@ -100,7 +101,7 @@ fn load_address(rd: Reg, operand: MemArg) -> Option<MemoryInst>
 
 fn find_load(inst: &Inst) -> Option<MemoryInst>
     ensures row { storage_group inst.now ≡ Loads → option_map memory_of result ≡ memory inst.now }
-    ensures encodes { IfSome result (λ x. (not x.fine || rows_encode x.rows) ≡ true) }
+    ensures encodes { IfSome result (λ x. may_encode x ≡ true) }
 {
     match inst {
         Inst::Load32 { rd, mem } => load(rd.to_reg(), Some(0x58), Some(0xe358), Some(0xc4d), *mem),
@@ -131,9 +132,9 @@ fn find_load(inst: &Inst) -> Option<MemoryInst>
 
 // A store of an immediate.
 fn store_immediate(rows: StorageRows, operand: MemArg) -> Option<MemoryInst>
-    requires { rows_encode rows ≡ true }
+    requires { (relative_encodes rows && rows_encode rows) ≡ true }
     ensures row { option_map memory_of result ≡ store_immediate (form_of rows) operand }
-    ensures encodes { IfSome result (λ x. (not x.fine || rows_encode x.rows) ≡ true) }
+    ensures encodes { IfSome result (λ x. may_encode x ≡ true) }
 {
     Some(MemoryInst {
         rows,
@@ -146,14 +147,14 @@ fn store_immediate(rows: StorageRows, operand: MemArg) -> Option<MemoryInst>
 
 fn store_halfword(imm: i16, sil: u16, operand: MemArg) -> Option<MemoryInst>
     ensures row { option_map memory_of result ≡ store_immediate (SilForm (low_halfword imm) sil) operand }
-    ensures encodes { IfSome result (λ x. (not x.fine || rows_encode x.rows) ≡ true) }
+    ensures encodes { IfSome result (λ x. may_encode x ≡ true) }
 {
     store_immediate(StorageRows::Halfword { imm, sil }, operand)
 }
 
 fn find_store(inst: &Inst) -> Option<MemoryInst>
     ensures row { storage_group inst.now ≡ Stores → option_map memory_of result ≡ memory inst.now }
-    ensures encodes { IfSome result (λ x. (not x.fine || rows_encode x.rows) ≡ true) }
+    ensures encodes { IfSome result (λ x. may_encode x ≡ true) }
 {
     match inst {
         Inst::Store8 { rd, mem } => store(*rd, Some(0x42), Some(0xe372), None, *mem),
@@ -265,7 +266,8 @@ fn cmp_rxy(op: CmpOp) -> Option<u16>
 }
 
 fn cmp_ril(op: CmpOp) -> u16
-    ensures { result ≡ cmp_ril op }
+    ensures value { result ≡ cmp_ril op }
+    ensures short { has_12_bits (Some result) ≡ true }
 {
     match op {
         CmpOp::CmpS32 => 0xc6d,
@@ -303,7 +305,7 @@ fn atomic_rsy(op: ALUOp) -> Option<u16>
 #[tactic(auto, using(crate::proofs::Storing::reused_encodes))]
 fn operate(op: ALUOp, rd: Reg, ri: Reg, operand: MemArg) -> Option<MemoryInst>
     ensures row { option_map memory_of result ≡ memory (Inst.AluRX op rd ri operand) }
-    ensures encodes { IfSome result (λ x. (not x.fine || rows_encode x.rows) ≡ true) }
+    ensures encodes { IfSome result (λ x. may_encode x ≡ true) }
 {
     let rx = alu_rx(op);
     let rxy = alu_rxy(op);
@@ -328,7 +330,7 @@ fn operate(op: ALUOp, rd: Reg, ri: Reg, operand: MemArg) -> Option<MemoryInst>
 #[tactic(auto, using(crate::proofs::Storing::register_encodes))]
 fn compare(op: CmpOp, rn: Reg, operand: MemArg) -> Option<MemoryInst>
     ensures row { option_map memory_of result ≡ memory (Inst.CmpRX op rn operand) }
-    ensures encodes { IfSome result (λ x. (not x.fine || rows_encode x.rows) ≡ true) }
+    ensures encodes { IfSome result (λ x. may_encode x ≡ true) }
 {
     Some(MemoryInst {
         rows: StorageRows::OneRegister {
@@ -351,18 +353,11 @@ fn is_range(first: &Reg, last: &Reg) -> bool
     two_general(first, last) && number(first) <= number(last)
 }
 
-// Whether `%r1` is one of the registers.
-fn holds_scratch(first: &Reg, last: &Reg) -> bool
-    ensures { result ≡ holds_scratch first.now last.now }
-{
-    number(first) <= 1 && 1 <= number(last)
-}
-
 // Registers that are loaded or stored one after another.
 #[tactic(auto, using(crate::proofs::Storing::range_encodes))]
 fn multiple(rt: Reg, rt2: Reg, rsy: u16, reads_scratch: bool, operand: MemArg) -> Option<MemoryInst>
     ensures row { option_map memory_of result ≡ multiple rt rt2 rsy reads_scratch operand }
-    ensures encodes { IfSome result (λ x. (not x.fine || rows_encode x.rows) ≡ true) }
+    ensures encodes { IfSome result (λ x. may_encode x ≡ true) }
 {
     Some(MemoryInst {
         rows: StorageRows::TwoRegisters {
@@ -382,7 +377,7 @@ fn multiple(rt: Reg, rt2: Reg, rsy: u16, reads_scratch: bool, operand: MemArg) -
 #[tactic(auto, using(crate::proofs::Storing::two_encode))]
 fn load_and_operate(op: ALUOp, rd: Reg, rn: Reg, operand: MemArg) -> Option<MemoryInst>
     ensures row { option_map memory_of result ≡ load_and_operate (atomic_rsy op) rd rn operand }
-    ensures encodes { IfSome result (λ x. (not x.fine || rows_encode x.rows) ≡ true) }
+    ensures encodes { IfSome result (λ x. may_encode x ≡ true) }
 {
     match atomic_rsy(op) {
         Some(opcode) => Some(MemoryInst {
@@ -412,7 +407,7 @@ fn compare_and_swap(
     operand: MemArg,
 ) -> Option<MemoryInst>
     ensures row { option_map memory_of result ≡ compare_and_swap rs rsy rd ri rn operand }
-    ensures encodes { IfSome result (λ x. (not x.fine || rows_encode x.rows) ≡ true) }
+    ensures encodes { IfSome result (λ x. may_encode x ≡ true) }
 {
     Some(MemoryInst {
         rows: StorageRows::TwoRegisters {
@@ -430,7 +425,7 @@ fn compare_and_swap(
 
 fn find_operator(inst: &Inst) -> Option<MemoryInst>
     ensures row { storage_group inst.now ≡ Operators → option_map memory_of result ≡ memory inst.now }
-    ensures encodes { IfSome result (λ x. (not x.fine || rows_encode x.rows) ≡ true) }
+    ensures encodes { IfSome result (λ x. may_encode x ≡ true) }
 {
     match inst {
         Inst::AluRX {
@@ -518,7 +513,7 @@ fn find_storage_group(inst: &Inst) -> StorageGroup
 /// The machine rows and the operand of an instruction with a memory operand, where it is one that is built.
 pub fn find_memory(inst: &Inst) -> Option<MemoryInst>
     ensures row { option_map memory_of result ≡ memory inst.now }
-    ensures encodes { IfSome result (λ x. (not x.fine || rows_encode x.rows) ≡ true) }
+    ensures encodes { IfSome result (λ x. may_encode x ≡ true) }
 {
     match find_storage_group(inst) {
         StorageGroup::Loads => find_load(inst),

@@ -1,15 +1,19 @@
 -- What a field says when it is read: the target, or the distance that its half stands for.
-use Rattle.std.proofs.Common.{◌≡◌, ℕ, suc, ◌*◌, ◌/◌, ◌%◌, ◌^◌, ◌<◌, refl, ap, ◌∙◌, arith}
-use Rattle.std.specs.Prelude.{ℤ, pos, negsuc, ◌*ℤ◌, ◌-ℤ◌, Bool, true, false, cond, Option, Some, None}
+use Rattle.std.proofs.Common.{◌≡◌, ℕ, suc, ◌*◌, ◌/◌, ◌%◌, ◌^◌, ◌<◌, refl, sym, ap, ◌∙◌, arith}
+use Rattle.std.specs.Prelude.{◌+◌, ℤ, pos, negsuc, ◌+ℤ◌, ◌*ℤ◌, ◌-ℤ◌, Bool, true, false, cond, Option, Some, None}
 use Rattle.std.specs.Int.{w32, w64, cast_signed, cast_unsigned, from_be_bytes}
 use Rattle.std.specs.Int.RustNames.{int_div, int_rem, FitsSigned}
 use Rattle.std.proofs.lemmas.Int.{to_z-of_z, ints}
 use Rattle.std.proofs.lemmas.Nat.{from_be_bytes-to_be_bytes_4, from_be_bytes-to_be_bytes_8}
+use Rattle.s390x_base.specs.declared.ir.ExternalName.{ExternalName}
+use Rattle.s390x_base.specs.declared.ir.Reloc.TheVariants.{S390xPCRel32Dbl}
+use Rattle.s390x_image.specs.Symbols.{Symbols, address_of}
+use Rattle.s390x_image.specs.Values.{symbol_value, symbol_distance}
 use Rattle.s390x_image.specs.declared.error.LinkError.{LinkError}
 use Rattle.s390x_image.specs.declared.error.LinkError.TheVariants.{AddressOverflow, OddSymbol, TooFar}
 use Rattle.std.proofs.lemmas.Bool.Decides.{Decides-int_eq}
-use Rattle.s390x_image.specs.Fields.{half_field, target_field}
-use Rattle.s390x_image.specs.Causes.{first, is_address, is_even, is_signed_word, absolute_cause, half_cause, relative_cause}
+use Rattle.s390x_image.specs.Fields.{half_field, target_field, address_or_zero}
+use Rattle.s390x_image.specs.Causes.{first, is_address, is_even, is_signed_word, absolute_cause, half_cause, relative_cause, symbol_cause, reloc_cause}
 
 one_test : (a : Bool) (e : LinkError) → cond a None (Some e) ≡ None → a ≡ true
 one_test true e h = refl
@@ -62,3 +66,38 @@ absolute_back target h =
     let test = one_test (is_address target) AddressOverflow h in
     let small : cast_unsigned w64 target < 2 ^ 64 = address_bits target test in
     ap pos (from_be_bytes-to_be_bytes_8 (cast_unsigned w64 target) small) ∙ in_range target test
+
+earlier : (o p : Option LinkError) → first o p ≡ None → o ≡ None
+earlier None p h = refl
+earlier (Some e) p h = cc
+
+-- twice a half, from a place on, is a value that a doubleword holds
+abbrev pub LeadsTo : (place half value : ℕ) → Type 0
+LeadsTo place half value = (half < 2 ^ 32) × (value < 2 ^ 64) × (pos place +ℤ pos 2 *ℤ cast_signed w32 half ≡ pos value)
+
+leads : (base place address : ℕ) (offset : ℤ) → relative_cause (pos address +ℤ (offset +ℤ pos 2)) (pos address +ℤ (offset +ℤ pos 2) -ℤ pos (base + (place + 2))) ≡ None →
+    LeadsTo (base + place) (cast_unsigned w32 (int_div (pos address +ℤ offset -ℤ pos (base + place)) (pos 2))) (cast_unsigned w64 (pos address +ℤ offset))
+leads base place address offset h =
+    let sum : ℤ = pos address +ℤ (offset +ℤ pos 2) in
+    let far : ℤ = sum -ℤ pos (base + (place + 2)) in
+    let target : ℤ = pos address +ℤ offset in
+    let distance : ℤ = target -ℤ pos (base + place) in
+    let as_far : far ≡ distance = omega (arith, ints) in
+    let at : sum -ℤ pos 2 ≡ target = omega (arith, ints) in
+    let test : is_address target ≡ true = ap is_address (sym at) ∙ one_test (is_address (sum -ℤ pos 2)) AddressOverflow (earlier (absolute_cause (sum -ℤ pos 2)) (half_cause far) h) in
+    let tests = two_tests (is_even distance) (is_signed_word (int_div distance (pos 2))) TooFar OddSymbol (ap half_cause (sym as_far) ∙ second (absolute_cause (sum -ℤ pos 2)) (half_cause far) h) in
+    let fits = word_fits (int_div distance (pos 2)) tests.1 in
+    let whole : pos (cast_unsigned w64 target) ≡ target = in_range target test in
+    let back : pos 2 *ℤ cast_signed w32 (cast_unsigned w32 (int_div distance (pos 2))) ≡ distance = ap (λ (z : ℤ). pos 2 *ℤ z) (to_z-of_z w32 (int_div distance (pos 2)) fits) ∙ twice_half distance tests.0 in
+    let there : pos (base + place) +ℤ distance ≡ target = omega (arith, ints) in
+    (word_bits (int_div distance (pos 2)) fits, address_bits target test, ap (λ (z : ℤ). pos (base + place) +ℤ z) back ∙ there ∙ sym whole)
+
+leads_from : (base : ℕ) (place : ℕ) (name : ExternalName) (offset : ℤ) (o : Option ℕ) → symbol_cause base (record { offset = place + 2; kind = S390xPCRel32Dbl; name = name; addend = offset +ℤ pos 2 }) o ≡ None →
+    LeadsTo (base + place) (cast_unsigned w32 (int_div (pos (address_or_zero o) +ℤ offset -ℤ pos (base + place)) (pos 2))) (cast_unsigned w64 (pos (address_or_zero o) +ℤ offset))
+leads_from base place name offset None h = cc
+leads_from base place name offset (Some address) h = leads base place address offset h
+
+-- where the field can be filled that stands two bytes behind an instruction's beginning, its distance leads from there to the symbol plus the offset
+pub distance_leads : (base : ℕ) (table : Symbols) (place : ℕ) (name : ExternalName) (offset : ℤ) → reloc_cause base table (record { offset = place + 2; kind = S390xPCRel32Dbl; name = name; addend = offset +ℤ pos 2 }) ≡ None →
+    LeadsTo (base + place) (symbol_distance base table place name offset) (symbol_value table name offset)
+distance_leads base table place name offset h = leads_from base place name offset (address_of table name) h

@@ -1,11 +1,15 @@
 //! Facts about the image that the crates above cite.
-ghost use Rattle.std.specs.Prelude.{◌≡◌, ℕ, ◌+◌, ◌<◌, ℤ, pos, ◌*ℤ◌, None, List, ◌∷◌, ◌++◌, length, slice_index};
+ghost use Rattle.std.specs.Prelude.{◌≡◌, ℕ, ◌+◌, ◌<◌, ℤ, pos, ◌+ℤ◌, ◌*ℤ◌, None, List, ◌∷◌, ◌++◌, length, slice_index};
 ghost use Rattle.std.specs.List.{All};
 ghost use Rattle.std.specs.Int.{w32, w64, cast_signed, from_be_bytes};
 ghost use Rattle.s390x_buffer.specs.declared.entries.RelocEntry.{RelocEntry};
 ghost use Rattle.s390x_image.specs.Symbols.{Symbols};
 ghost use Rattle.s390x_image.specs.Fields.{LiesIn, IsOutside, field_length, field, half_field, target_field, filled};
-ghost use Rattle.s390x_image.specs.Causes.{relative_cause, absolute_cause};
+ghost use Rattle.s390x_base.specs.declared.ir.ExternalName.{ExternalName};
+ghost use Rattle.s390x_base.specs.declared.ir.Reloc.TheVariants.{S390xPCRel32Dbl};
+ghost use Rattle.s390x_image.specs.Causes.{relative_cause, absolute_cause, reloc_cause};
+ghost use Rattle.s390x_image.specs.ReadingBack.{LeadsTo};
+ghost use Rattle.s390x_image.specs.Values.{symbol_value, symbol_distance};
 
 /// A byte of a relocation's field is that of the field where no later relocation has it.
 pub fn fields_stand()
@@ -20,4 +24,10 @@ pub fn relative_fields_read_back()
 /// The doubleword at an absolute field is symbol plus addend.
 pub fn absolute_fields_read_back()
     ensures { (target : ℤ) → absolute_cause target ≡ None → pos (from_be_bytes w64 (target_field target)) ≡ target }
+{}
+
+/// Where the field can be filled that stands two bytes behind an instruction's beginning, twice what it holds, as a signed
+/// word, leads from there to the symbol plus the offset.
+pub fn relative_distances_lead()
+    ensures { (base : ℕ) (table : Symbols) (place : ℕ) (name : ExternalName) (offset : ℤ) → reloc_cause base table (record { offset = place + 2; kind = S390xPCRel32Dbl; name = name; addend = offset +ℤ pos 2 }) ≡ None → LeadsTo (base + place) (symbol_distance base table place name offset) (symbol_value table name offset) }
 {}

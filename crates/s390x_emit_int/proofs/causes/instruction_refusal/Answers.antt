@@ -11,6 +11,7 @@ use Rattle.s390x_emit_int.proofs.causes.instruction_refusal.Goals as goal
 pub returns-then-has : goal.returns-then-has
 returns-then-has c =
     let i = c.args.inst.now in
-    let later = cause_or (alone i) (memory_cause_or (memory (resolved_instruction c.args.state.now i)) (branch_cause c.args.blocks c.args.depth i)) in
+    let D = declared_in c.args.sink.now in
+    let later = cause_or (alone i) (memory_cause_or D (memory (resolved_instruction c.args.state.now i)) (branch_cause D.blocks c.args.depth i)) in
     let there = ap (has_facility c.args.flags) (sym c.available_in_isa.ensures) ∙ sym c.has.ensures ∙ c.if-has.true in
-    c.other_refusal.ensures ∙ sym (ap (λ t. first (unless t MissingFacility) later) there) ∙ cause_resolved c.args.flags c.args.state.now c.args.blocks c.args.depth i
+    c.other_refusal.ensures ∙ sym (ap (λ t. first (unless t MissingFacility) later) there) ∙ cause_resolved c.args.flags c.args.state.now D c.args.depth i

@@ -7,9 +7,9 @@ use Rattle.s390x_emit_int.proofs.Resolving.{found_memory, no_memory}
 use Rattle.s390x_emit_int.proofs.check.other_size.Goals as goal
 
 pub returns-in-Some-clause-value : goal.returns-in-Some-clause-value
-returns-in-Some-clause-value c = λ none.
+returns-in-Some-clause-value c = λ D none.
     let m = found_memory c.args.state.now c.args.inst.now (memory_of c.in-Some.found) c.in-Some.ensures.row in
-    ap (min limit) (c.size.ensures.value (sym (ap (λ o. memory_cause_or o None) m) ∙ none) ∙ sym (ap (λ o. memory_size_or o (branch_size c.args.inst.now)) m))
+    ap (min limit) (c.size.ensures.value D (sym (ap (λ o. memory_cause_or D o None) m) ∙ none) ∙ sym (ap (λ o. memory_size_or o (branch_size c.args.inst.now)) m))
 
 pub returns-in-None-clause-value : goal.returns-in-None-clause-value
-returns-in-None-clause-value c = λ none. c.branch_size.ensures.value ∙ ap (min limit) (sym (ap (λ o. memory_size_or o (branch_size c.args.inst.now)) (no_memory c.args.state.now c.args.inst.now c.in-None.ensures.row)))
+returns-in-None-clause-value c = λ D none. c.branch_size.ensures.value ∙ ap (min limit) (sym (ap (λ o. memory_size_or o (branch_size c.args.inst.now)) (no_memory c.args.state.now c.args.inst.now c.in-None.ensures.row)))

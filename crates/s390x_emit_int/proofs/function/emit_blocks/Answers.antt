@@ -1,4 +1,5 @@
 use Rattle.std.proofs.Common.{◌≡◌, ◌∙◌, ◌<◌, ap, sym, subst, length, arith}
+use Rattle.s390x_steps.specs.Causes.{declared_in}
 use Rattle.s390x_steps.specs.Tree.{tree}
 use Rattle.s390x_emit_int.specs.Room.{TreePassed}
 use Rattle.s390x_emit_int.specs.Emission.{pieces}
@@ -22,7 +23,7 @@ loop-block-preserved c =
     record {
       rest = block_more c.args.state.now c.args.blocks.now k v s s1 s2 _ (omega arith) c.block-item.is e1 e2 c.loop-block.invariant.rest;
       ranges = λ f. c.loop-block.invariant.ranges (block_ranges c.args.state.now c.args.blocks.now k v c.deref.result.now (omega arith) c.block-item.is c.deref.ensures.value c.in_ok-emit_members.ensures.ranges f);
-      passed = λ flags put cause. others_passed c.args.state.now flags c.args.blocks.now k (length c.args.blocks.now) v s s1 s2 (omega arith) c.block-item.is e1 e2 (c.loop-block.invariant.passed flags put cause);
+      passed = λ flags put cause. others_passed c.args.state.now flags c.args.blocks.now k (declared_in c.args.sink.now) v s s1 s2 (omega arith) c.block-item.is e1 e2 (c.loop-block.invariant.passed flags put cause);
       label = omega (arith, c.loop-block.invariant.label);
       count = c.emit_members.ensures.kept.block_count ∙ c.bind_label.ensures.kept.block_count ∙ c.loop-block.invariant.count;
       room = block_room k (tree_of c.args.state.now v) s s1 s2 c.loop-block.invariant.room e1 e2;
@@ -43,6 +44,6 @@ returns-in_err-emit_members-clause-lacks c = λ flags put cause.
     let s1 = c.bind_label.new.self in
     let v = c.block-item.result in
     let e1 : s1 ≡ apply s (Bind k) = c.in_ok-bind_label.ensures.answer.1 ∙ ap (λ l. apply s (Bind l)) c.loop-block.invariant.label in
-    let p : TreePassed flags s1 0 0 (tree_of c.args.state.now v) = block_passed c.args.state.now flags c.args.blocks.now k (length c.args.blocks.now) v s s1 (omega arith) c.block-item.is e1 c.loop-block.invariant.count (omega arith) c.loop-block.invariant.room (c.loop-block.invariant.passed flags put cause) in
+    let p : TreePassed flags s1 0 0 (tree_of c.args.state.now v) = block_passed c.args.state.now flags c.args.blocks.now k (declared_in c.args.sink.now) v s s1 (omega arith) c.block-item.is e1 (omega (arith, c.loop-block.invariant.count)) c.loop-block.invariant.room (c.loop-block.invariant.passed flags put cause) in
     let q : TreePassed flags s1 0 0 (tree c.args.state.now c.deref.result.now) = subst (λ l. TreePassed flags s1 0 0 (tree c.args.state.now l)) (sym c.deref.ensures.value) p in
     lacks_again c.from_residual-in_err-emit_members.result _ c.from_residual-in_err-emit_members.ensures.1 (c.in_err-emit_members.ensures.lacks flags 0 q)

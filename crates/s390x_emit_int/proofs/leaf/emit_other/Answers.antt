@@ -22,7 +22,7 @@ returns-in-Some-clause-lacks c = λ flags depth p.
     let i = c.args.inst.now in
     let x = memory_of c.in-Some.found in
     let f = memory_passed flags c.args.sink.now c.args.after.0 depth (resolved_instruction e i) (in_state e x) (c.requires.alone ∙ sym (alone_resolved e i)) (found_memory e i x c.in-Some.ensures.row) p in
-    c.emit_memory.ensures.lacks f.0 f.1 c.in-Some.ensures.encodes
+    c.emit_memory.ensures.lacks f.0 f.1
 
 pub returns-in-Some-clause-range : goal.returns-in-Some-clause-range
 returns-in-Some-clause-range c = on_ok c.emit_memory.result c.emit_memory.ensures.answer (λ h. memory_range c.args.state.now c.args.inst.now (memory_of c.in-Some.found) c.in-Some.ensures.row c.emit_memory.ensures.range)

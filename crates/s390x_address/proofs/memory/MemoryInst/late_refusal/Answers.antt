@@ -1,10 +1,10 @@
 use Rattle.std.proofs.Common.{◌≡◌, ◌&&◌, not, None, Some, sym, ap, ◌∙◌}
-use Rattle.s390x_base.specs.declared.error.EmitError.TheVariants.{ScratchConflict}
-use Rattle.s390x_steps.specs.Causes.{unless, is_helped, operand_cause}
+use Rattle.s390x_base.specs.declared.error.EmitError.TheVariants.{ScratchConflict, OffsetOutOfRange}
+use Rattle.s390x_steps.specs.Causes.{first, unless, is_helped, operand_cause}
 use Rattle.s390x_steps.specs.Memory.{type_of}
 use Rattle.s390x_steps.specs.Operands.{finalized}
 use Rattle.s390x_address.specs.Rows.{memory_of, in_state}
-use Rattle.s390x_address.proofs.Planning.{resolved_form}
+use Rattle.s390x_address.proofs.Planning.{resolved_form, resolved_addend}
 use Rattle.s390x_address.proofs.Refusing.{late_ok, late_err}
 use Rattle.s390x_address.proofs.memory.MemoryInst.late_refusal.Goals as goal
 
@@ -13,9 +13,11 @@ returns-in-Ok c =
     let x = in_state c.args.state.now (memory_of c.args.self.now) in
     let forms : c.forms.result ≡ type_of x.form x.accesses = c.forms.ensures in
     let cause : operand_cause (type_of x.form x.accesses) x.operand ≡ None = ap (λ mi. operand_cause mi x.operand) (sym forms) ∙ c.in-Ok.ensures.0 in
-    c.scratch_refusal.ensures
-    ∙ ap (λ t. unless (not (x.reads_scratch && t)) ScratchConflict) (c.is_helped.ensures ∙ ap (λ f. is_helped f.helpers) c.in-Ok.ensures.1)
-    ∙ ap (λ mi. unless (not (x.reads_scratch && is_helped (finalized mi x.operand).helpers)) ScratchConflict) forms
+    let m = c.args.self.now.operand in
+    c.helped_refusal.ensures
+    ∙ ap (λ t. first (unless (not (x.reads_scratch && t)) ScratchConflict) (unless c.addend_fits.result OffsetOutOfRange)) (c.is_helped.ensures ∙ ap (λ f. is_helped f.helpers) c.in-Ok.ensures.1)
+    ∙ ap (λ mi. first (unless (not (x.reads_scratch && is_helped (finalized mi x.operand).helpers)) ScratchConflict) (unless c.addend_fits.result OffsetOutOfRange)) forms
+    ∙ ap (λ t. first (unless (not (x.reads_scratch && is_helped (finalized (type_of x.form x.accesses) x.operand).helpers)) ScratchConflict) (unless t OffsetOutOfRange)) (c.addend_fits.ensures ∙ sym (resolved_addend c.args.state.now m))
     ∙ sym (late_ok x cause)
 
 pub returns-in-Err : goal.returns-in-Err
