@@ -381,61 +381,26 @@ fn wrong(alloc: Global, steps: &[LaneStep]) -> Result<Option<usize>, NoMemory> {
 }
 
 #[test]
-fn sums(rt: HostRuntime) -> Result<(), Fail> {
+fn arithmetic(rt: HostRuntime) -> Result<(), Fail> {
     assert_eq!(rt; wrong(rt.alloc(), &SUMS)?, None);
-    Ok(())
-}
-
-#[test]
-fn bounds(rt: HostRuntime) -> Result<(), Fail> {
     assert_eq!(rt; wrong(rt.alloc(), &BOUNDS)?, None);
-    Ok(())
-}
-
-#[test]
-fn counts(rt: HostRuntime) -> Result<(), Fail> {
     assert_eq!(rt; wrong(rt.alloc(), &COUNTS)?, None);
+    assert_eq!(rt; wrong(rt.alloc(), &DIVISIONS)?, None);
     Ok(())
 }
 
 #[test]
 fn places(rt: HostRuntime) -> Result<(), Fail> {
     assert_eq!(rt; wrong(rt.alloc(), &PLACES)?, None);
-    Ok(())
-}
-
-#[test]
-fn shifts(rt: HostRuntime) -> Result<(), Fail> {
     assert_eq!(rt; wrong(rt.alloc(), &SHIFTS)?, None);
-    Ok(())
-}
-
-#[test]
-fn immediates(rt: HostRuntime) -> Result<(), Fail> {
     assert_eq!(rt; wrong(rt.alloc(), &IMMEDIATES)?, None);
     Ok(())
 }
 
 #[test]
-fn divisions(rt: HostRuntime) -> Result<(), Fail> {
-    assert_eq!(rt; wrong(rt.alloc(), &DIVISIONS)?, None);
-    Ok(())
-}
-
-#[test]
-fn comparisons(rt: HostRuntime) -> Result<(), Fail> {
+fn comparisons_and_registers(rt: HostRuntime) -> Result<(), Fail> {
     assert_eq!(rt; wrong(rt.alloc(), &COMPARISONS)?, None);
-    Ok(())
-}
-
-#[test]
-fn orders(rt: HostRuntime) -> Result<(), Fail> {
     assert_eq!(rt; wrong(rt.alloc(), &ORDERS)?, None);
-    Ok(())
-}
-
-#[test]
-fn uppers(rt: HostRuntime) -> Result<(), Fail> {
     assert_eq!(rt; wrong(rt.alloc(), &UPPERS)?, None);
     Ok(())
 }

@@ -185,7 +185,7 @@ const TRAP: StepEnd = StepEnd::Stopped(StopKind::CompareTrap, PLACE);
 const OPERATION: StepEnd = StepEnd::Stopped(StopKind::Operation, PLACE);
 
 #[rattlefmt::skip]
-const STOPS: [Stop; 31] = [
+const STOPS: [Stop; 38] = [
     Stop { code: 0, first: 0, second: 0, end: OPERATION }, // 0000
     Stop { code: 0x0001_0000_0000_0000, first: 0, second: 0, end: OPERATION }, // 0001
     Stop { code: 0xb987_0092_0000_0000, first: 0, second: 0, end: SPECIFICATION }, // dlgr %r9: the odd register before the divisor
@@ -217,6 +217,13 @@ const STOPS: [Stop; 31] = [
     Stop { code: 0xec10_ffff_8072_0000, first: 0xffff_ffff, second: 0, end: TRAP }, // cit equal to -1
     Stop { code: 0xec10_ffff_8071_0000, first: 0xffff, second: 0, end: TRAP }, // clgit equal to 65535
     Stop { code: 0xe310_5008_0062_0000, first: 0, second: 0, end: StepEnd::NoRow }, // lxah
+    Stop { code: 0xe310_5008_0063_0000, first: 0, second: 0, end: StepEnd::NoRow }, // llxah
+    Stop { code: 0xe310_5008_0064_0000, first: 0, second: 0, end: StepEnd::NoRow }, // lxaf
+    Stop { code: 0xe310_5008_0065_0000, first: 0, second: 0, end: StepEnd::NoRow }, // llxaf
+    Stop { code: 0xe310_5008_0066_0000, first: 0, second: 0, end: StepEnd::NoRow }, // lxag
+    Stop { code: 0xe310_5008_0067_0000, first: 0, second: 0, end: StepEnd::NoRow }, // llxag
+    Stop { code: 0xe310_5008_0068_0000, first: 0, second: 0, end: StepEnd::NoRow }, // lxaq
+    Stop { code: 0xe310_5008_0069_0000, first: 0, second: 0, end: StepEnd::NoRow }, // llxaq
 ];
 
 /// The number of the first step that doesn't end so, or that changes something.
@@ -244,31 +251,16 @@ fn stops(rt: HostRuntime) -> Result<(), Fail> {
 }
 
 /// Comparisons that don't trap: the same rows where the mask doesn't select the outcome.
-const PASSES: [Stop; 4] = [
-    Stop {
-        code: 0xb961_4012_0000_0000,
-        first: MOST,
-        second: 1,
-        end: StepEnd::Went,
-    },
-    Stop {
-        code: 0xb960_8012_0000_0000,
-        first: 0x1_0000_0005,
-        second: 5,
-        end: StepEnd::Went,
-    },
-    Stop {
-        code: 0xec10_ffff_8070_0000,
-        first: 0xffff_ffff,
-        second: 0,
-        end: StepEnd::Went,
-    },
-    Stop {
-        code: 0xec10_ffff_8073_0000,
-        first: 0xffff_ffff,
-        second: 0,
-        end: StepEnd::Went,
-    },
+#[rattlefmt::skip]
+const PASSES: [Stop; 8] = [
+    Stop { code: 0xb961_4012_0000_0000, first: MOST, second: 1, end: StepEnd::Went }, // clgrt low
+    Stop { code: 0xb960_8012_0000_0000, first: 0x1_0000_0005, second: 5, end: StepEnd::Went }, // cgrt equal
+    Stop { code: 0xb972_6012_0000_0000, first: 0x1_0000_0005, second: 5, end: StepEnd::Went }, // crt unequal
+    Stop { code: 0xb973_c012_0000_0000, first: 0xffff_ffff, second: 1, end: StepEnd::Went }, // clrt not high
+    Stop { code: 0xec10_ffff_8070_0000, first: 0xffff_ffff, second: 0, end: StepEnd::Went }, // cgit equal to -1
+    Stop { code: 0xec10_ffff_6071_0000, first: 0xffff, second: 0, end: StepEnd::Went }, // clgit unequal to 65535
+    Stop { code: 0xec10_ffff_6072_0000, first: 0xffff_ffff, second: 0, end: StepEnd::Went }, // cit unequal to -1
+    Stop { code: 0xec10_ffff_8073_0000, first: 0xffff_ffff, second: 0, end: StepEnd::Went }, // clfit equal to 65535
 ];
 
 /// The number of the first comparison that traps, or that changes a register or the condition code.

@@ -40,7 +40,7 @@ struct ExtractStep {
 
 /// Loads, moves to a vector register, and elements from a general register.
 #[rattlefmt::skip]
-const LOADS: [LoadStep; 44] = [
+const LOADS: [LoadStep; 46] = [
     LoadStep { code: 0xe710501000060000, target: 1, known: ALL, result: 0xf0e1d2c3b4a5968778695a4b3c2d1e0f }, // vl
     LoadStep { code: 0xe7f6500808060000, target: 31, known: ALL, result: 0xf0e1d2c3b4a5968778695a4b3c2d1e0f }, // vl to %v31, with an index
     LoadStep { code: 0xe710501f00050000, target: 1, known: ALL, result: 0xf0f0f0f0f0f0f0f0f0f0f0f0f0f0f0f }, // vlrepb
@@ -78,6 +78,8 @@ const LOADS: [LoadStep; 44] = [
     LoadStep { code: 0x2812000000000000, target: 1, known: LEFT_64, result: 0xf0e1d2c3b4a596870000000000000000 }, // ldr of %v2
     LoadStep { code: 0x28f2000000000000, target: 15, known: LEFT_64, result: 0xf0e1d2c3b4a596870000000000000000 }, // ldr to %v15
     LoadStep { code: 0xb3c1001200000000, target: 1, known: LEFT_64, result: 0x11223344556677880000000000000000 }, // ldgr of %r2
+    LoadStep { code: 0xe710501110020000, target: 1, known: ALL, result: 0x1020304050607e1d2c3b4a5968778 }, // vleg 1 of an odd address
+    LoadStep { code: 0x6810501300000000, target: 1, known: LEFT_64, result: 0xc3b4a5968778695a0000000000000000 }, // ld of an odd address
     LoadStep { code: 0xe712600000620000, target: 1, known: ALL, result: 0x11223344556677880000000000000008 }, // vlvgp of %r2 and %r6
     LoadStep { code: 0xe7f6200008620000, target: 31, known: ALL, result: 0x81122334455667788 }, // vlvgp to %v31
     LoadStep { code: 0xe712000500220000, target: 1, known: ALL, result: 0x102030488060708090a0b0c0d0e0f }, // vlvgb 5
@@ -89,7 +91,7 @@ const LOADS: [LoadStep; 44] = [
 
 /// Stores.
 #[rattlefmt::skip]
-const STORES: [StoreStep; 26] = [
+const STORES: [StoreStep; 28] = [
     StoreStep { code: 0xe7105010000e0000, stored: 0x102030405060708090a0b0c0d0e0f }, // vst
     StoreStep { code: 0xe7465008080e0000, stored: 0xff21fe42fd63fc84fba5fac6f9e7f8 }, // vst of %v20, with an index
     StoreStep { code: 0xe6105010100e0000, stored: 0x10003020504070609080b0a0d0c0f0e }, // vstbrh
@@ -112,6 +114,8 @@ const STORES: [StoreStep; 26] = [
     StoreStep { code: 0xe610501c300b0000, stored: 0xf0e1d2c3b4a5968778695a4b0f0e0d0c }, // vstebrf 3
     StoreStep { code: 0xe6105018100a0000, stored: 0xf0e1d2c3b4a596870f0e0d0c0b0a0908 }, // vstebrg 1
     StoreStep { code: 0xe7465010180b0000, stored: 0xf0e1d2c3b4a5968742fd63fc3c2d1e0f }, // vstef 1 of %v20
+    StoreStep { code: 0xe7105011300b0000, stored: 0xf00c0d0e0fa5968778695a4b3c2d1e0f }, // vstef 3 to an odd address
+    StoreStep { code: 0x6010501500000000, stored: 0xf0e1d2c3b400010203040506072d1e0f }, // std to an odd address
     StoreStep { code: 0x7010501c00000000, stored: 0xf0e1d2c3b4a5968778695a4b00010203 }, // ste
     StoreStep { code: 0xed107f1cff660000, stored: 0xf0e1d2c3b4a5968778695a4b00010203 }, // stey
     StoreStep { code: 0x6010501800000000, stored: 0xf0e1d2c3b4a596870001020304050607 }, // std
@@ -337,26 +341,10 @@ fn wrong_division(alloc: Global, divisions: &[(u64, u128)]) -> Result<Option<usi
 }
 
 #[test]
-fn loads(rt: HostRuntime) -> Result<(), Fail> {
+fn transfers(rt: HostRuntime) -> Result<(), Fail> {
     assert_eq!(rt; wrong_load(rt.alloc(), &LOADS)?, None);
-    Ok(())
-}
-
-#[test]
-fn stores(rt: HostRuntime) -> Result<(), Fail> {
     assert_eq!(rt; wrong_store(rt.alloc(), &STORES)?, None);
-    Ok(())
-}
-
-#[test]
-fn extracts(rt: HostRuntime) -> Result<(), Fail> {
     assert_eq!(rt; wrong_extract(rt.alloc(), &EXTRACTS)?, None);
-    Ok(())
-}
-
-#[test]
-fn zero_divisors(rt: HostRuntime) -> Result<(), Fail> {
-    assert_eq!(rt; wrong_division(rt.alloc(), &ZERO_DIVISORS)?, None);
     Ok(())
 }
 
@@ -364,6 +352,7 @@ fn zero_divisors(rt: HostRuntime) -> Result<(), Fail> {
 fn vector_stops(rt: HostRuntime) -> Result<(), Fail> {
     let access = StepEnd::Stopped(StopKind::Access, PLACE);
     let operation = StepEnd::Stopped(StopKind::Operation, PLACE);
+    assert_eq!(rt; wrong_division(rt.alloc(), &ZERO_DIVISORS)?, None);
     assert_eq!(rt; wrong_end(rt.alloc(), &INACCESSIBLE, access)?, None);
     assert_eq!(rt; wrong_end(rt.alloc(), &OPEN, StepEnd::NoRow)?, None);
     assert_eq!(rt; wrong_end(rt.alloc(), &ROWLESS, operation)?, None);
