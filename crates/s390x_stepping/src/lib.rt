@@ -13,3 +13,5 @@ mod stops;
 mod vector_step;
 #[cfg(test)]
 mod vectors;
+#[cfg(test)]
+mod wrapping;

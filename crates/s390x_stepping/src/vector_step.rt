@@ -64,12 +64,13 @@ pub fn vector_machine(third: u128) -> Machine {
     machine
 }
 
-/// The 16 bytes; one that isn't accessible counts as zero.
-pub fn operand(memory: &FlatMemory) -> u128 {
+/// The 16 bytes from an address on; one that isn't accessible counts as zero.
+pub fn sixteen_bytes(memory: &FlatMemory, address: u64) -> u128 {
     let mut bytes = [0u8; 16];
     for i in 0..16u64 {
-        if memory.has(OPERAND + i) {
-            bytes[i as usize] = memory.get(OPERAND + i);
+        let at = address.wrapping_add(i);
+        if memory.has(at) {
+            bytes[i as usize] = memory.get(at);
         }
     }
     u128::from_be_bytes(bytes)
@@ -91,7 +92,7 @@ pub fn holds(alloc: Global, step: &VectorStep) -> Result<bool, NoMemory> {
             && machine.vregs == vregs
             && machine.cc == step.cc
             && machine.place == PLACE.wrapping_add(length(step.code))
-            && operand(&memory) == step.stored,
+            && sixteen_bytes(&memory, OPERAND) == step.stored,
     )
 }
 
@@ -103,5 +104,5 @@ pub fn ends(alloc: Global, code: u64, third: u128, end: StepEnd) -> Result<bool,
     let vregs = machine.vregs;
     let ended = machine.step(&mut memory) == end;
     let same = machine.regs == regs && machine.vregs == vregs && machine.cc == 1;
-    Ok(ended && same && machine.place == PLACE && operand(&memory) == SECOND)
+    Ok(ended && same && machine.place == PLACE && sixteen_bytes(&memory, OPERAND) == SECOND)
 }
