@@ -1,6 +1,8 @@
-//! Tests of the machine's step: each row on general registers and memory, each kind of stop, and the order of the stops.
+//! Tests of the machine's step: each row, each kind of stop, and the order of the stops.
 #![tactic(auto)]
 
+#[cfg(test)]
+mod lanes;
 #[cfg(test)]
 mod rows;
 #[cfg(test)]
@@ -8,4 +10,8 @@ mod step;
 #[cfg(test)]
 mod stops;
 #[cfg(test)]
+mod vector_step;
+#[cfg(test)]
 mod vectors;
+#[cfg(test)]
+mod wrapping;

@@ -62,7 +62,7 @@ pub fn doubleword<M: Memory>(memory: &M, address: u64) -> u64 {
 }
 
 /// How many bytes an instruction has, by its first two bits.
-fn length(code: u64) -> u64 {
+pub fn length(code: u64) -> u64 {
     if code < 0x4000_0000_0000_0000 {
         2
     } else if code < 0xc000_0000_0000_0000 {

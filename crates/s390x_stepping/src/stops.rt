@@ -6,7 +6,7 @@ use s390x_buffer::{MachBufferFinalized, TrapEntry};
 use s390x_machine::codes::code_at;
 use s390x_machine::machine::Machine;
 use s390x_machine::step::StepEnd;
-use s390x_operations::StopKind;
+use s390x_operations::{ConditionCode, StopKind};
 use std::alloc::{AllocError, Global};
 use std::test::Fail;
 
@@ -76,7 +76,7 @@ struct BranchStep {
 }
 
 #[rattlefmt::skip]
-const BRANCHES: [BranchStep; 9] = [
+const BRANCHES: [BranchStep; 16] = [
     BranchStep { code: 0x0742_0000_0000_0000, place: 0x5002, link: 0 }, // bcr 4
     BranchStep { code: 0x0782_0000_0000_0000, place: 0x1002, link: 0 }, // bcr 8
     BranchStep { code: 0x07f0_0000_0000_0000, place: 0x1002, link: 0 }, // bcr 15, %r0
@@ -86,6 +86,13 @@ const BRANCHES: [BranchStep; 9] = [
     BranchStep { code: 0x0de2_0000_0000_0000, place: 0x5002, link: 0x1002 }, // basr
     BranchStep { code: 0x0de0_0000_0000_0000, place: 0x1002, link: 0x1002 }, // basr %r14, %r0
     BranchStep { code: 0xc0e5_0000_0010_0000, place: 0x1020, link: 0x1006 }, // brasl
+    BranchStep { code: 0xa744_0010_0000_0000, place: 0x1020, link: 0 }, // brc 4
+    BranchStep { code: 0xa7f4_fffe_0000_0000, place: 0xffc, link: 0 }, // brc 15, backwards
+    BranchStep { code: 0xa7b4_0010_0000_0000, place: 0x1004, link: 0 }, // brc 11
+    BranchStep { code: 0xa704_0010_0000_0000, place: 0x1004, link: 0 }, // brc 0
+    BranchStep { code: 0xa7f4_7fff_0000_0000, place: 0x10ffe, link: 0 }, // brc 15, as far as it goes
+    BranchStep { code: 0xa7f4_8000_0000_0000, place: 0xffff_ffff_ffff_1000, link: 0 }, // brc 15, as far backwards
+    BranchStep { code: 0xa7e5_0010_0000_0000, place: 0x1020, link: 0x1004 }, // bras
 ];
 
 /// The number of the first branch that isn't as it is told.
@@ -110,6 +117,53 @@ fn branches(rt: HostRuntime) -> Result<(), Fail> {
     Ok(())
 }
 
+/// BRC, BRCL and BCR under the mask 0, and the two places that they lead to: 0x5002 is in %r2.
+#[rattlefmt::skip]
+const CONDITIONAL: [(u64, u64, u64); 3] = [
+    (0xa704_0010_0000_0000, 0x1020, 0x1004), // brc
+    (0xc004_0000_0010_0000, 0x1020, 0x1006), // brcl
+    (0x0702_0000_0000_0000, 0x5002, 0x1002), // bcr
+];
+
+/// The condition codes, and the bit of the mask for each.
+const CODES: [(ConditionCode, u64); 4] = [
+    (ConditionCode::Code0, 8),
+    (ConditionCode::Code1, 4),
+    (ConditionCode::Code2, 2),
+    (ConditionCode::Code3, 1),
+];
+
+/// Where a branch leads from a condition code.
+fn place_after(alloc: Global, code: u64, from: ConditionCode) -> Result<u64, NoMemory> {
+    let mut memory = memory_with(alloc, code, 0)?;
+    let mut machine = machine_with(0, 0x5002, 0);
+    machine.set_condition_code(from);
+    let went = machine.step(&mut memory) == StepEnd::Went;
+    Ok(if went { machine.place } else { 0 })
+}
+
+/// The first mask under which a branch isn't taken exactly at the condition codes of its bits.
+fn wrong_mask(alloc: Global, branch: (u64, u64, u64)) -> Result<Option<u64>, NoMemory> {
+    for mask in 0..16u64 {
+        for i in 0..CODES.len() {
+            let (from, bit) = CODES[i];
+            let place = if mask & bit != 0 { branch.1 } else { branch.2 };
+            if place_after(alloc, branch.0 | mask << 52, from)? != place {
+                return Ok(Some(mask));
+            }
+        }
+    }
+    Ok(None)
+}
+
+#[test]
+fn masks(rt: HostRuntime) -> Result<(), Fail> {
+    for i in 0..CONDITIONAL.len() {
+        assert_eq!(rt; wrong_mask(rt.alloc(), CONDITIONAL[i])?, None);
+    }
+    Ok(())
+}
+
 /// How a step ends that leaves everything as it was: %r1 and %r2 have two values, the pair %r8 and %r9 has 2 and the first, and the doubleword
 /// at 0x2008 has the second. Bytes 0x1000 to 0x1007 and 0x2008 to 0x200f are accessible.
 #[derive(Clone, Copy)]
@@ -131,7 +185,7 @@ const TRAP: StepEnd = StepEnd::Stopped(StopKind::CompareTrap, PLACE);
 const OPERATION: StepEnd = StepEnd::Stopped(StopKind::Operation, PLACE);
 
 #[rattlefmt::skip]
-const STOPS: [Stop; 31] = [
+const STOPS: [Stop; 38] = [
     Stop { code: 0, first: 0, second: 0, end: OPERATION }, // 0000
     Stop { code: 0x0001_0000_0000_0000, first: 0, second: 0, end: OPERATION }, // 0001
     Stop { code: 0xb987_0092_0000_0000, first: 0, second: 0, end: SPECIFICATION }, // dlgr %r9: the odd register before the divisor
@@ -163,6 +217,13 @@ const STOPS: [Stop; 31] = [
     Stop { code: 0xec10_ffff_8072_0000, first: 0xffff_ffff, second: 0, end: TRAP }, // cit equal to -1
     Stop { code: 0xec10_ffff_8071_0000, first: 0xffff, second: 0, end: TRAP }, // clgit equal to 65535
     Stop { code: 0xe310_5008_0062_0000, first: 0, second: 0, end: StepEnd::NoRow }, // lxah
+    Stop { code: 0xe310_5008_0063_0000, first: 0, second: 0, end: StepEnd::NoRow }, // llxah
+    Stop { code: 0xe310_5008_0064_0000, first: 0, second: 0, end: StepEnd::NoRow }, // lxaf
+    Stop { code: 0xe310_5008_0065_0000, first: 0, second: 0, end: StepEnd::NoRow }, // llxaf
+    Stop { code: 0xe310_5008_0066_0000, first: 0, second: 0, end: StepEnd::NoRow }, // lxag
+    Stop { code: 0xe310_5008_0067_0000, first: 0, second: 0, end: StepEnd::NoRow }, // llxag
+    Stop { code: 0xe310_5008_0068_0000, first: 0, second: 0, end: StepEnd::NoRow }, // lxaq
+    Stop { code: 0xe310_5008_0069_0000, first: 0, second: 0, end: StepEnd::NoRow }, // llxaq
 ];
 
 /// The number of the first step that doesn't end so, or that changes something.
@@ -190,31 +251,16 @@ fn stops(rt: HostRuntime) -> Result<(), Fail> {
 }
 
 /// Comparisons that don't trap: the same rows where the mask doesn't select the outcome.
-const PASSES: [Stop; 4] = [
-    Stop {
-        code: 0xb961_4012_0000_0000,
-        first: MOST,
-        second: 1,
-        end: StepEnd::Went,
-    },
-    Stop {
-        code: 0xb960_8012_0000_0000,
-        first: 0x1_0000_0005,
-        second: 5,
-        end: StepEnd::Went,
-    },
-    Stop {
-        code: 0xec10_ffff_8070_0000,
-        first: 0xffff_ffff,
-        second: 0,
-        end: StepEnd::Went,
-    },
-    Stop {
-        code: 0xec10_ffff_8073_0000,
-        first: 0xffff_ffff,
-        second: 0,
-        end: StepEnd::Went,
-    },
+#[rattlefmt::skip]
+const PASSES: [Stop; 8] = [
+    Stop { code: 0xb961_4012_0000_0000, first: MOST, second: 1, end: StepEnd::Went }, // clgrt low
+    Stop { code: 0xb960_8012_0000_0000, first: 0x1_0000_0005, second: 5, end: StepEnd::Went }, // cgrt equal
+    Stop { code: 0xb972_6012_0000_0000, first: 0x1_0000_0005, second: 5, end: StepEnd::Went }, // crt unequal
+    Stop { code: 0xb973_c012_0000_0000, first: 0xffff_ffff, second: 1, end: StepEnd::Went }, // clrt not high
+    Stop { code: 0xec10_ffff_8070_0000, first: 0xffff_ffff, second: 0, end: StepEnd::Went }, // cgit equal to -1
+    Stop { code: 0xec10_ffff_6071_0000, first: 0xffff, second: 0, end: StepEnd::Went }, // clgit unequal to 65535
+    Stop { code: 0xec10_ffff_6072_0000, first: 0xffff_ffff, second: 0, end: StepEnd::Went }, // cit unequal to -1
+    Stop { code: 0xec10_ffff_8073_0000, first: 0xffff_ffff, second: 0, end: StepEnd::Went }, // clfit equal to 65535
 ];
 
 /// The number of the first comparison that traps, or that changes a register or the condition code.

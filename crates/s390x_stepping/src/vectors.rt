@@ -1,119 +1,339 @@
-//! Rows on vector registers and memory, or general registers: expected values were computed from the Principles of Operation, chapter 21.
+//! Rows on vector registers and memory, or general registers, and the stops of vector rows. The expected values were computed apart from this
+//! program, from the definitions of the Principles of Operation, chapters 9, 20 and 21.
 
-use crate::step::{PLACE, machine_with};
+use crate::step::PLACE;
+use crate::vector_step::{ALL, FIRST, SECOND, VectorStep, ends, holds};
 use s390x_base::NoMemory;
-use s390x_machine::flat::FlatMemory;
-use s390x_machine::machine::Machine;
-use s390x_machine::memory::Memory;
 use s390x_machine::step::StepEnd;
 use s390x_operations::StopKind;
 use std::alloc::Global;
 use std::test::Fail;
 
-/// What %v1 has before a step.
-const FIRST: u128 = 0x102030405060708090a0b0c0d0e0f;
+/// The left 32 bits of a register.
+const LEFT_32: u128 = 0xffffffff000000000000000000000000;
 
-/// What %v2 and the 16 bytes at 0x2010 have.
-const SECOND: u128 = 0xf0e1d2c3b4a5968778695a4b3c2d1e0f;
+/// The left 64 bits of a register.
+const LEFT_64: u128 = 0xffffffffffffffff0000000000000000;
 
-/// What %r2 has.
-const GENERAL: u64 = 0x1122334455667788;
-
-/// The place of the 16 bytes.
-const OPERAND: u64 = 0x2010;
-
-/// An instruction, left-justified in eight bytes, and the step that it makes from the condition code 1: %v3 has the third value before it, and
-/// after it the target has the result, every other vector register what it had, the 16 bytes are what is stored, and %r1 has the general value.
+/// A step after which a vector register has the result in the known bits, and all else is as it was.
 #[derive(Clone, Copy)]
-struct VectorStep {
+struct LoadStep {
     code: u64,
-    third: u128,
     target: u8,
+    known: u128,
     result: u128,
-    stored: u128,
-    general: u64,
-    cc: u8,
 }
 
-/// Loads, stores, moves, a sum, a comparison and a shift.
+/// A step after which the 16 bytes are what is stored, and all else is as it was.
+#[derive(Clone, Copy)]
+struct StoreStep {
+    code: u64,
+    stored: u128,
+}
+
+/// A step after which %r1 has the general value, and all else is as it was.
+#[derive(Clone, Copy)]
+struct ExtractStep {
+    code: u64,
+    general: u64,
+}
+
+/// Loads, moves to a vector register, and elements from a general register.
 #[rattlefmt::skip]
-const STEPS: [VectorStep; 31] = [
-    VectorStep { code: 0xe710501000060000, third: 0xf1e2d3c4b5a69788796a5b4c3d2e1f0, target: 1, result: 0xf0e1d2c3b4a5968778695a4b3c2d1e0f, stored: 0xf0e1d2c3b4a5968778695a4b3c2d1e0f, general: 0x0, cc: 1 }, // vl
-    VectorStep { code: 0xe7105010000e0000, third: 0xf1e2d3c4b5a69788796a5b4c3d2e1f0, target: 1, result: 0x102030405060708090a0b0c0d0e0f, stored: 0x102030405060708090a0b0c0d0e0f, general: 0x0, cc: 1 }, // vst
-    VectorStep { code: 0xe610501010060000, third: 0xf1e2d3c4b5a69788796a5b4c3d2e1f0, target: 1, result: 0xe1f0c3d2a5b4879669784b5a2d3c0f1e, stored: 0xf0e1d2c3b4a5968778695a4b3c2d1e0f, general: 0x0, cc: 1 }, // vlbr of 16 bits
-    VectorStep { code: 0xe610501020060000, third: 0xf1e2d3c4b5a69788796a5b4c3d2e1f0, target: 1, result: 0xc3d2e1f08796a5b44b5a69780f1e2d3c, stored: 0xf0e1d2c3b4a5968778695a4b3c2d1e0f, general: 0x0, cc: 1 }, // vlbr of 32 bits
-    VectorStep { code: 0xe610501030060000, third: 0xf1e2d3c4b5a69788796a5b4c3d2e1f0, target: 1, result: 0x8796a5b4c3d2e1f00f1e2d3c4b5a6978, stored: 0xf0e1d2c3b4a5968778695a4b3c2d1e0f, general: 0x0, cc: 1 }, // vlbr of 64 bits
-    VectorStep { code: 0xe610501040060000, third: 0xf1e2d3c4b5a69788796a5b4c3d2e1f0, target: 1, result: 0xf1e2d3c4b5a69788796a5b4c3d2e1f0, stored: 0xf0e1d2c3b4a5968778695a4b3c2d1e0f, general: 0x0, cc: 1 }, // vlbr of 128 bits
-    VectorStep { code: 0xe610501010070000, third: 0xf1e2d3c4b5a69788796a5b4c3d2e1f0, target: 1, result: 0x1e0f3c2d5a4b78699687b4a5d2c3f0e1, stored: 0xf0e1d2c3b4a5968778695a4b3c2d1e0f, general: 0x0, cc: 1 }, // vler of 16 bits
-    VectorStep { code: 0xe6105010100f0000, third: 0xf1e2d3c4b5a69788796a5b4c3d2e1f0, target: 1, result: 0x102030405060708090a0b0c0d0e0f, stored: 0xe0f0c0d0a0b08090607040502030001, general: 0x0, cc: 1 }, // vster of 16 bits
-    VectorStep { code: 0xe610501020070000, third: 0xf1e2d3c4b5a69788796a5b4c3d2e1f0, target: 1, result: 0x3c2d1e0f78695a4bb4a59687f0e1d2c3, stored: 0xf0e1d2c3b4a5968778695a4b3c2d1e0f, general: 0x0, cc: 1 }, // vler of 32 bits
-    VectorStep { code: 0xe6105010200f0000, third: 0xf1e2d3c4b5a69788796a5b4c3d2e1f0, target: 1, result: 0x102030405060708090a0b0c0d0e0f, stored: 0xc0d0e0f08090a0b0405060700010203, general: 0x0, cc: 1 }, // vster of 32 bits
-    VectorStep { code: 0xe610501030070000, third: 0xf1e2d3c4b5a69788796a5b4c3d2e1f0, target: 1, result: 0x78695a4b3c2d1e0ff0e1d2c3b4a59687, stored: 0xf0e1d2c3b4a5968778695a4b3c2d1e0f, general: 0x0, cc: 1 }, // vler of 64 bits
-    VectorStep { code: 0xe6105010300f0000, third: 0xf1e2d3c4b5a69788796a5b4c3d2e1f0, target: 1, result: 0x102030405060708090a0b0c0d0e0f, stored: 0x8090a0b0c0d0e0f0001020304050607, general: 0x0, cc: 1 }, // vster of 64 bits
-    VectorStep { code: 0xe710501000050000, third: 0xf1e2d3c4b5a69788796a5b4c3d2e1f0, target: 1, result: 0xf0f0f0f0f0f0f0f0f0f0f0f0f0f0f0f0, stored: 0xf0e1d2c3b4a5968778695a4b3c2d1e0f, general: 0x0, cc: 1 }, // vlrep of 8 bits
-    VectorStep { code: 0xe710501010050000, third: 0xf1e2d3c4b5a69788796a5b4c3d2e1f0, target: 1, result: 0xf0e1f0e1f0e1f0e1f0e1f0e1f0e1f0e1, stored: 0xf0e1d2c3b4a5968778695a4b3c2d1e0f, general: 0x0, cc: 1 }, // vlrep of 16 bits
-    VectorStep { code: 0xe710501020050000, third: 0xf1e2d3c4b5a69788796a5b4c3d2e1f0, target: 1, result: 0xf0e1d2c3f0e1d2c3f0e1d2c3f0e1d2c3, stored: 0xf0e1d2c3b4a5968778695a4b3c2d1e0f, general: 0x0, cc: 1 }, // vlrep of 32 bits
-    VectorStep { code: 0xe710501030050000, third: 0xf1e2d3c4b5a69788796a5b4c3d2e1f0, target: 1, result: 0xf0e1d2c3b4a59687f0e1d2c3b4a59687, stored: 0xf0e1d2c3b4a5968778695a4b3c2d1e0f, general: 0x0, cc: 1 }, // vlrep of 64 bits
-    VectorStep { code: 0xe710501030010000, third: 0xf1e2d3c4b5a69788796a5b4c3d2e1f0, target: 1, result: 0x102030405f0e108090a0b0c0d0e0f, stored: 0xf0e1d2c3b4a5968778695a4b3c2d1e0f, general: 0x0, cc: 1 }, // vleh 3
-    VectorStep { code: 0xe610501030010000, third: 0xf1e2d3c4b5a69788796a5b4c3d2e1f0, target: 1, result: 0x102030405e1f008090a0b0c0d0e0f, stored: 0xf0e1d2c3b4a5968778695a4b3c2d1e0f, general: 0x0, cc: 1 }, // vlebrh 3
-    VectorStep { code: 0xe7105010f0080000, third: 0xf1e2d3c4b5a69788796a5b4c3d2e1f0, target: 1, result: 0x102030405060708090a0b0c0d0e0f, stored: 0xfe1d2c3b4a5968778695a4b3c2d1e0f, general: 0x0, cc: 1 }, // vsteb 15
-    VectorStep { code: 0xe6105010200b0000, third: 0xf1e2d3c4b5a69788796a5b4c3d2e1f0, target: 1, result: 0x102030405060708090a0b0c0d0e0f, stored: 0xb0a0908b4a5968778695a4b3c2d1e0f, general: 0x0, cc: 1 }, // vstebrf 2
-    VectorStep { code: 0x6010501000000000, third: 0xf1e2d3c4b5a69788796a5b4c3d2e1f0, target: 1, result: 0x102030405060708090a0b0c0d0e0f, stored: 0x102030405060778695a4b3c2d1e0f, general: 0x0, cc: 1 }, // std
-    VectorStep { code: 0x7010501000000000, third: 0xf1e2d3c4b5a69788796a5b4c3d2e1f0, target: 1, result: 0x102030405060708090a0b0c0d0e0f, stored: 0x10203b4a5968778695a4b3c2d1e0f, general: 0x0, cc: 1 }, // ste
-    VectorStep { code: 0xb3cd001200000000, third: 0xf1e2d3c4b5a69788796a5b4c3d2e1f0, target: 1, result: 0x102030405060708090a0b0c0d0e0f, stored: 0xf0e1d2c3b4a5968778695a4b3c2d1e0f, general: 0xf0e1d2c3b4a59687, cc: 1 }, // lgdr
-    VectorStep { code: 0xe712600000620000, third: 0xf1e2d3c4b5a69788796a5b4c3d2e1f0, target: 1, result: 0x11223344556677880000000000000008, stored: 0xf0e1d2c3b4a5968778695a4b3c2d1e0f, general: 0x0, cc: 1 }, // vlvgp of %r2 and %r6
-    VectorStep { code: 0xe712000320220000, third: 0xf1e2d3c4b5a69788796a5b4c3d2e1f0, target: 1, result: 0x102030405060708090a0b55667788, stored: 0xf0e1d2c3b4a5968778695a4b3c2d1e0f, general: 0x0, cc: 1 }, // vlvgf 3
-    VectorStep { code: 0xe712000120210000, third: 0xf1e2d3c4b5a69788796a5b4c3d2e1f0, target: 1, result: 0x102030405060708090a0b0c0d0e0f, stored: 0xf0e1d2c3b4a5968778695a4b3c2d1e0f, general: 0xb4a59687, cc: 1 }, // vlgvf 1
-    VectorStep { code: 0xe712300020f30000, third: 0xf1e2d3c4b5a69788796a5b4c3d2e1f0, target: 1, result: 0xffffffffffffffffffffffffffffffff, stored: 0xf0e1d2c3b4a5968778695a4b3c2d1e0f, general: 0x0, cc: 1 }, // vaf
-    VectorStep { code: 0xe712300028f30000, third: 0xf1e2d3c4b5a69788796a5b4c3d2e1f0, target: 17, result: 0xffffffffffffffffffffffffffffffff, stored: 0xf0e1d2c3b4a5968778695a4b3c2d1e0f, general: 0x0, cc: 1 }, // vaf to %v17
-    VectorStep { code: 0xe712301020f80000, third: 0xf0e1d2c3b4a5968778695a4b3c2d1e0f, target: 1, result: 0xffffffffffffffffffffffffffffffff, stored: 0xf0e1d2c3b4a5968778695a4b3c2d1e0f, general: 0x0, cc: 0 }, // vceqfs of all
-    VectorStep { code: 0xe712301020f80000, third: 0xf1e2d3c4b5a69788796a5b4c3d2e1f0, target: 1, result: 0x0, stored: 0xf0e1d2c3b4a5968778695a4b3c2d1e0f, general: 0x0, cc: 3 }, // vceqfs of none
-    VectorStep { code: 0xe712000400300000, third: 0xf1e2d3c4b5a69788796a5b4c3d2e1f0, target: 1, result: 0x102030405060708090a0b0c0d0e0f0, stored: 0xf0e1d2c3b4a5968778695a4b3c2d1e0f, general: 0x0, cc: 1 }, // veslb 4
+const LOADS: [LoadStep; 46] = [
+    LoadStep { code: 0xe710501000060000, target: 1, known: ALL, result: 0xf0e1d2c3b4a5968778695a4b3c2d1e0f }, // vl
+    LoadStep { code: 0xe7f6500808060000, target: 31, known: ALL, result: 0xf0e1d2c3b4a5968778695a4b3c2d1e0f }, // vl to %v31, with an index
+    LoadStep { code: 0xe710501f00050000, target: 1, known: ALL, result: 0xf0f0f0f0f0f0f0f0f0f0f0f0f0f0f0f }, // vlrepb
+    LoadStep { code: 0xe710501e10050000, target: 1, known: ALL, result: 0x1e0f1e0f1e0f1e0f1e0f1e0f1e0f1e0f }, // vlreph
+    LoadStep { code: 0xe710501c20050000, target: 1, known: ALL, result: 0x3c2d1e0f3c2d1e0f3c2d1e0f3c2d1e0f }, // vlrepf
+    LoadStep { code: 0xe710501830050000, target: 1, known: ALL, result: 0x78695a4b3c2d1e0f78695a4b3c2d1e0f }, // vlrepg
+    LoadStep { code: 0xe610501e10050000, target: 1, known: ALL, result: 0xf1e0f1e0f1e0f1e0f1e0f1e0f1e0f1e }, // vlbrreph
+    LoadStep { code: 0xe610501c20050000, target: 1, known: ALL, result: 0xf1e2d3c0f1e2d3c0f1e2d3c0f1e2d3c }, // vlbrrepf
+    LoadStep { code: 0xe610501830050000, target: 1, known: ALL, result: 0xf1e2d3c4b5a69780f1e2d3c4b5a6978 }, // vlbrrepg
+    LoadStep { code: 0xe610501010060000, target: 1, known: ALL, result: 0xe1f0c3d2a5b4879669784b5a2d3c0f1e }, // vlbrh
+    LoadStep { code: 0xe610501020060000, target: 1, known: ALL, result: 0xc3d2e1f08796a5b44b5a69780f1e2d3c }, // vlbrf
+    LoadStep { code: 0xe610501030060000, target: 1, known: ALL, result: 0x8796a5b4c3d2e1f00f1e2d3c4b5a6978 }, // vlbrg
+    LoadStep { code: 0xe610501040060000, target: 1, known: ALL, result: 0xf1e2d3c4b5a69788796a5b4c3d2e1f0 }, // vlbrq
+    LoadStep { code: 0xe610501010070000, target: 1, known: ALL, result: 0x1e0f3c2d5a4b78699687b4a5d2c3f0e1 }, // vlerh
+    LoadStep { code: 0xe610501020070000, target: 1, known: ALL, result: 0x3c2d1e0f78695a4bb4a59687f0e1d2c3 }, // vlerf
+    LoadStep { code: 0xe610501030070000, target: 1, known: ALL, result: 0x78695a4b3c2d1e0ff0e1d2c3b4a59687 }, // vlerg
+    LoadStep { code: 0xe710501fd0000000, target: 1, known: ALL, result: 0x102030405060708090a0b0c0f0e0f }, // vleb 13
+    LoadStep { code: 0xe710501e30010000, target: 1, known: ALL, result: 0x1020304051e0f08090a0b0c0d0e0f }, // vleh 3
+    LoadStep { code: 0xe710501810020000, target: 1, known: ALL, result: 0x102030405060778695a4b3c2d1e0f }, // vleg 1
+    LoadStep { code: 0xe710501c20030000, target: 1, known: ALL, result: 0x10203040506073c2d1e0f0c0d0e0f }, // vlef 2
+    LoadStep { code: 0xe710501000000000, target: 1, known: ALL, result: 0xf00102030405060708090a0b0c0d0e0f }, // vleb 0
+    LoadStep { code: 0xe710501000010000, target: 1, known: ALL, result: 0xf0e102030405060708090a0b0c0d0e0f }, // vleh 0
+    LoadStep { code: 0xe710501000020000, target: 1, known: ALL, result: 0xf0e1d2c3b4a5968708090a0b0c0d0e0f }, // vleg 0
+    LoadStep { code: 0xe710501000030000, target: 1, known: ALL, result: 0xf0e1d2c30405060708090a0b0c0d0e0f }, // vlef 0
+    LoadStep { code: 0xe610501e70010000, target: 1, known: ALL, result: 0x102030405060708090a0b0c0d0f1e }, // vlebrh 7
+    LoadStep { code: 0xe610501810020000, target: 1, known: ALL, result: 0x10203040506070f1e2d3c4b5a6978 }, // vlebrg 1
+    LoadStep { code: 0xe610501c30030000, target: 1, known: ALL, result: 0x102030405060708090a0b0f1e2d3c }, // vlebrf 3
+    LoadStep { code: 0xe610501800020000, target: 1, known: ALL, result: 0xf1e2d3c4b5a697808090a0b0c0d0e0f }, // vlebrg 0
+    LoadStep { code: 0xe716501018030000, target: 17, known: ALL, result: 0xfffefdfc78695a4bf7f6f5f4f3f2f1f0 }, // vlef 1 of %v17
+    LoadStep { code: 0x7810501c00000000, target: 1, known: LEFT_32, result: 0x3c2d1e0f000000000000000000000000 }, // le
+    LoadStep { code: 0xed107f1cff640000, target: 1, known: LEFT_32, result: 0x3c2d1e0f000000000000000000000000 }, // ley
+    LoadStep { code: 0x6810501800000000, target: 1, known: LEFT_64, result: 0x78695a4b3c2d1e0f0000000000000000 }, // ld
+    LoadStep { code: 0xed167f10ff650000, target: 1, known: LEFT_64, result: 0x78695a4b3c2d1e0f0000000000000000 }, // ldy, with an index
+    LoadStep { code: 0x3812000000000000, target: 1, known: LEFT_32, result: 0xf0e1d2c3000000000000000000000000 }, // ler of %v2
+    LoadStep { code: 0x2812000000000000, target: 1, known: LEFT_64, result: 0xf0e1d2c3b4a596870000000000000000 }, // ldr of %v2
+    LoadStep { code: 0x28f2000000000000, target: 15, known: LEFT_64, result: 0xf0e1d2c3b4a596870000000000000000 }, // ldr to %v15
+    LoadStep { code: 0xb3c1001200000000, target: 1, known: LEFT_64, result: 0x11223344556677880000000000000000 }, // ldgr of %r2
+    LoadStep { code: 0xe710501110020000, target: 1, known: ALL, result: 0x1020304050607e1d2c3b4a5968778 }, // vleg 1 of an odd address
+    LoadStep { code: 0x6810501300000000, target: 1, known: LEFT_64, result: 0xc3b4a5968778695a0000000000000000 }, // ld of an odd address
+    LoadStep { code: 0xe712600000620000, target: 1, known: ALL, result: 0x11223344556677880000000000000008 }, // vlvgp of %r2 and %r6
+    LoadStep { code: 0xe7f6200008620000, target: 31, known: ALL, result: 0x81122334455667788 }, // vlvgp to %v31
+    LoadStep { code: 0xe712000500220000, target: 1, known: ALL, result: 0x102030488060708090a0b0c0d0e0f }, // vlvgb 5
+    LoadStep { code: 0xe712000710220000, target: 1, known: ALL, result: 0x102030405060708090a0b0c0d7788 }, // vlvgh 7
+    LoadStep { code: 0xe712000220220000, target: 1, known: ALL, result: 0x1020304050607556677880c0d0e0f }, // vlvgf 2
+    LoadStep { code: 0xe712000130220000, target: 1, known: ALL, result: 0x10203040506071122334455667788 }, // vlvgg 1
+    LoadStep { code: 0xe712600308220000, target: 17, known: ALL, result: 0xfffefdfcfbfaf9f8f7f6f588f3f2f1f0 }, // vlvgb 3(%r6) of %v17
 ];
 
-/// A memory with an instruction and 16 bytes.
-fn memory_with(alloc: Global, code: u64) -> Result<FlatMemory, NoMemory> {
-    let mut memory = FlatMemory::new(alloc);
-    memory.add_region(PLACE, &code.to_be_bytes())?;
-    memory.add_region(OPERAND, &SECOND.to_be_bytes())?;
-    Ok(memory)
-}
+/// Stores.
+#[rattlefmt::skip]
+const STORES: [StoreStep; 28] = [
+    StoreStep { code: 0xe7105010000e0000, stored: 0x102030405060708090a0b0c0d0e0f }, // vst
+    StoreStep { code: 0xe7465008080e0000, stored: 0xff21fe42fd63fc84fba5fac6f9e7f8 }, // vst of %v20, with an index
+    StoreStep { code: 0xe6105010100e0000, stored: 0x10003020504070609080b0a0d0c0f0e }, // vstbrh
+    StoreStep { code: 0xe6105010200e0000, stored: 0x3020100070605040b0a09080f0e0d0c }, // vstbrf
+    StoreStep { code: 0xe6105010300e0000, stored: 0x7060504030201000f0e0d0c0b0a0908 }, // vstbrg
+    StoreStep { code: 0xe6105010400e0000, stored: 0xf0e0d0c0b0a09080706050403020100 }, // vstbrq
+    StoreStep { code: 0xe6105010100f0000, stored: 0xe0f0c0d0a0b08090607040502030001 }, // vsterh
+    StoreStep { code: 0xe6105010200f0000, stored: 0xc0d0e0f08090a0b0405060700010203 }, // vsterf
+    StoreStep { code: 0xe6105010300f0000, stored: 0x8090a0b0c0d0e0f0001020304050607 }, // vsterg
+    StoreStep { code: 0xe710501fd0080000, stored: 0xf0e1d2c3b4a5968778695a4b3c2d1e0d }, // vsteb 13
+    StoreStep { code: 0xe710501e30090000, stored: 0xf0e1d2c3b4a5968778695a4b3c2d0607 }, // vsteh 3
+    StoreStep { code: 0xe7105018100a0000, stored: 0xf0e1d2c3b4a5968708090a0b0c0d0e0f }, // vsteg 1
+    StoreStep { code: 0xe710501c200b0000, stored: 0xf0e1d2c3b4a5968778695a4b08090a0b }, // vstef 2
+    StoreStep { code: 0xe710501010080000, stored: 0x1e1d2c3b4a5968778695a4b3c2d1e0f }, // vsteb 1
+    StoreStep { code: 0xe710501000090000, stored: 0x1d2c3b4a5968778695a4b3c2d1e0f }, // vsteh 0
+    StoreStep { code: 0xe7105010000a0000, stored: 0x102030405060778695a4b3c2d1e0f }, // vsteg 0
+    StoreStep { code: 0xe7105010000b0000, stored: 0x10203b4a5968778695a4b3c2d1e0f }, // vstef 0
+    StoreStep { code: 0xe610501e70090000, stored: 0xf0e1d2c3b4a5968778695a4b3c2d0f0e }, // vstebrh 7
+    StoreStep { code: 0xe6105018000a0000, stored: 0xf0e1d2c3b4a596870706050403020100 }, // vstebrg 0
+    StoreStep { code: 0xe610501c300b0000, stored: 0xf0e1d2c3b4a5968778695a4b0f0e0d0c }, // vstebrf 3
+    StoreStep { code: 0xe6105018100a0000, stored: 0xf0e1d2c3b4a596870f0e0d0c0b0a0908 }, // vstebrg 1
+    StoreStep { code: 0xe7465010180b0000, stored: 0xf0e1d2c3b4a5968742fd63fc3c2d1e0f }, // vstef 1 of %v20
+    StoreStep { code: 0xe7105011300b0000, stored: 0xf00c0d0e0fa5968778695a4b3c2d1e0f }, // vstef 3 to an odd address
+    StoreStep { code: 0x6010501500000000, stored: 0xf0e1d2c3b400010203040506072d1e0f }, // std to an odd address
+    StoreStep { code: 0x7010501c00000000, stored: 0xf0e1d2c3b4a5968778695a4b00010203 }, // ste
+    StoreStep { code: 0xed107f1cff660000, stored: 0xf0e1d2c3b4a5968778695a4b00010203 }, // stey
+    StoreStep { code: 0x6010501800000000, stored: 0xf0e1d2c3b4a596870001020304050607 }, // std
+    StoreStep { code: 0xed167f10ff670000, stored: 0xf0e1d2c3b4a596870001020304050607 }, // stdy, with an index
+];
 
-/// A machine with three vector registers and %r2.
-fn vector_machine(third: u128) -> Machine {
-    let mut machine = machine_with(0, GENERAL, 0);
-    machine.vregs[1] = FIRST;
-    machine.vregs[2] = SECOND;
-    machine.vregs[3] = third;
-    machine
-}
+/// Elements to a general register.
+#[rattlefmt::skip]
+const EXTRACTS: [ExtractStep; 7] = [
+    ExtractStep { code: 0xe712000400210000, general: 0xb4 }, // vlgvb 4
+    ExtractStep { code: 0xe712000510210000, general: 0x5a4b }, // vlgvh 5
+    ExtractStep { code: 0xe712000120210000, general: 0xb4a59687 }, // vlgvf 1
+    ExtractStep { code: 0xe712000130210000, general: 0x78695a4b3c2d1e0f }, // vlgvg 1
+    ExtractStep { code: 0xe712600700210000, general: 0xf }, // vlgvb 7(%r6)
+    ExtractStep { code: 0xe712000314210000, general: 0x6978 }, // vlgvh 3 of %v18
+    ExtractStep { code: 0xb3cd001200000000, general: 0xf0e1d2c3b4a59687 }, // lgdr
+];
 
-/// The 16 bytes.
-fn operand(memory: &FlatMemory) -> u128 {
-    let mut bytes = [0u8; 16];
-    for i in 0..16u64 {
-        if memory.has(OPERAND + i) {
-            bytes[i as usize] = memory.get(OPERAND + i);
+/// Divisions with a divisor of zero in one lane.
+#[rattlefmt::skip]
+const ZERO_DIVISORS: [(u64, u128); 12] = [
+    (0xe712300020b00000, 0x1000000010000000100000000), // vdlf
+    (0xe712300020b10000, 0x1000000010000000100000000), // vrlf
+    (0xe712300020b20000, 0x1000000010000000100000000), // vdf
+    (0xe712300020b30000, 0x1000000010000000100000000), // vrf
+    (0xe712300030b00000, 0x1), // vdlg
+    (0xe712300030b10000, 0x1), // vrlg
+    (0xe712300030b20000, 0x1), // vdg
+    (0xe712300030b30000, 0x1), // vrg
+    (0xe712300040b00000, 0x0), // vdlq
+    (0xe712300040b10000, 0x0), // vrlq
+    (0xe712300040b20000, 0x0), // vdq
+    (0xe712300040b30000, 0x0), // vrq
+];
+
+/// Accesses of which the first or the last byte isn't accessible.
+#[rattlefmt::skip]
+const INACCESSIBLE: [u64; 35] = [
+    0xe710501100060000, // vl
+    0xe710500f000e0000, // vst
+    0xe710502000050000, // vlrepb
+    0xe710501f10050000, // vlreph
+    0xe710501d20050000, // vlrepf
+    0xe710501930050000, // vlrepg
+    0xe610501f10050000, // vlbrreph
+    0xe610501d20050000, // vlbrrepf
+    0xe610501930050000, // vlbrrepg
+    0xe610501140060000, // vlbrq
+    0xe610500f30070000, // vlerg
+    0xe6105011100e0000, // vstbrh
+    0xe610500f200f0000, // vsterf
+    0xe710502000000000, // vleb
+    0xe710501f00010000, // vleh
+    0xe710501d00030000, // vlef
+    0xe710501900020000, // vleg
+    0xe710502000080000, // vsteb
+    0xe710501f00090000, // vsteh
+    0xe710501d000b0000, // vstef
+    0xe7105019000a0000, // vsteg
+    0xe610501f00010000, // vlebrh
+    0xe610501d00030000, // vlebrf
+    0xe610501900020000, // vlebrg
+    0xe610501f00090000, // vstebrh
+    0xe610501d000b0000, // vstebrf
+    0xe6105019000a0000, // vstebrg
+    0x7810501d00000000, // le
+    0x6810501900000000, // ld
+    0x7010501d00000000, // ste
+    0x6010501900000000, // std
+    0xed10501d00640000, // ley
+    0xed10500f00650000, // ldy
+    0xed10500f00660000, // stey
+    0xed10501900670000, // stdy
+];
+
+/// Rows that the step doesn't compute.
+#[rattlefmt::skip]
+const OPEN: [u64; 5] = [
+    0xe712300040890000, // vblend
+    0xe712300040880000, // veval 0
+    0xe71230ff40880000, // veval 255
+    0xe712300040a10000, // vmlhq
+    0xe712300040a30000, // vmhq
+];
+
+/// Vector bytes of no row: a mask, a lane or a bit number that the row doesn't allow, or a bit of no field.
+#[rattlefmt::skip]
+const ROWLESS: [u64; 57] = [
+    0xe712300050f30000, // va of code 5
+    0xe712300030f10000, // vacc of code 3
+    0xe712300000f50000, // vscbi of code 0
+    0xe712300040a40000, // vmle of code 4
+    0xe712300010b00000, // vdl of code 1
+    0xe712300050b30000, // vr of code 5
+    0xe712301020b20000, // vdf with a last mask of 1
+    0xe712300050f80000, // vceq of code 5
+    0xe712302000fb0000, // vchb with a last mask of 2
+    0xe712300000940000, // vpk of code 0
+    0xe712300040970000, // vpks of code 4
+    0xe712300040600000, // vmrl of code 4
+    0xe712000040500000, // vpopct of code 4
+    0xe712000050530000, // vclz of code 5
+    0xe712000040d60000, // vupl of code 4
+    0xe712000020db0000, // vec of code 2
+    0xe712000050d90000, // vecl of code 5
+    0xe712000010560000, // vlr with a mask of 1
+    0xe712300010680000, // vn with a mask of 1
+    0xe712300020840000, // vpdi 2
+    0xe712300100850000, // vbperm with a mask of 1
+    0xe712310040890000, // vblend with a mask of 1
+    0xe7123001408c0000, // vperm with a mask of 1
+    0xe7123100408d0000, // vsel with a mask of 1
+    0xe712000140300000, // vesl of code 4
+    0xe712000040220000, // vlvg of code 4
+    0xe712000040210000, // vlgv of code 4
+    0xe710000580410000, // vleih 8
+    0xe710000520420000, // vleig 2
+    0xe710000540430000, // vleif 4
+    0xe710000510440000, // vgbm with a mask of 1
+    0xe710000540450000, // vrepi of code 4
+    0xe710080100460000, // vgmb 8, 1
+    0xe710012020460000, // vgmf 1, 32
+    0xe710010240460000, // vgm of code 4
+    0xe7120010004d0000, // vrepb 16
+    0xe7120002304d0000, // vrepg 2
+    0xe710501010060000, // vl with a mask of 1
+    0xe7105010400e0000, // vst with a mask of 4
+    0xe710501040050000, // vlrep of code 4
+    0xe610501000050000, // vlbrrep of code 0
+    0xe610501000060000, // vlbr of code 0
+    0xe610501040070000, // vler of code 4
+    0xe6105010500e0000, // vstbr of code 5
+    0xe6105010000f0000, // vster of code 0
+    0xe710501080010000, // vleh 8
+    0xe610501020020000, // vlebrg 2
+    0xe7105010400b0000, // vstef 4
+    0xe610501080090000, // vstebrh 8
+    0xe712010000560000, // vlr with a bit of no field
+    0xe712000002560000, // vlr with a bit for a third vector register
+    0xe712300021f30000, // vaf with a bit for a fourth vector register
+    0xe712000024220000, // vlvgf with a bit for a second vector register
+    0xe710501004060000, // vl with a bit for a second vector register
+    0xe710501000040000, // e704
+    0xe610501000040000, // e604
+    0xb3c1011200000000, // ldgr with a bit of no field
+];
+
+/// The number of the first load that isn't as it is told.
+fn wrong_load(alloc: Global, steps: &[LoadStep]) -> Result<Option<usize>, NoMemory> {
+    for i in 0..steps.len() {
+        let step = VectorStep {
+            code: steps[i].code,
+            third: 0,
+            target: steps[i].target,
+            known: steps[i].known,
+            result: steps[i].result,
+            stored: SECOND,
+            general: 0,
+            cc: 1,
+        };
+        if !holds(alloc, &step)? {
+            return Ok(Some(i));
         }
     }
-    u128::from_be_bytes(bytes)
+    Ok(None)
 }
 
-/// Whether a step is as it is told.
-fn holds(alloc: Global, step: &VectorStep) -> Result<bool, NoMemory> {
-    let mut memory = memory_with(alloc, step.code)?;
-    let mut machine = vector_machine(step.third);
-    let mut vregs = machine.vregs;
-    vregs[(step.target % 32) as usize] = step.result;
-    let went = machine.step(&mut memory) == StepEnd::Went;
-    let registers = machine.vregs == vregs && machine.regs[1] == step.general;
-    Ok(went && registers && machine.cc == step.cc && operand(&memory) == step.stored)
+/// The step of a row that changes no vector register.
+fn step_without_result(code: u64, stored: u128, general: u64) -> VectorStep {
+    VectorStep {
+        code,
+        third: 0,
+        target: 1,
+        known: ALL,
+        result: FIRST,
+        stored,
+        general,
+        cc: 1,
+    }
 }
 
-/// The number of the first step that isn't as it is told.
-fn wrong(alloc: Global, steps: &[VectorStep]) -> Result<Option<usize>, NoMemory> {
+/// The number of the first store that isn't as it is told.
+fn wrong_store(alloc: Global, steps: &[StoreStep]) -> Result<Option<usize>, NoMemory> {
     for i in 0..steps.len() {
-        if !holds(alloc, &steps[i])? {
+        let step = step_without_result(steps[i].code, steps[i].stored, 0);
+        if !holds(alloc, &step)? {
+            return Ok(Some(i));
+        }
+    }
+    Ok(None)
+}
+
+/// The number of the first extraction that isn't as it is told.
+fn wrong_extract(alloc: Global, steps: &[ExtractStep]) -> Result<Option<usize>, NoMemory> {
+    for i in 0..steps.len() {
+        let step = step_without_result(steps[i].code, SECOND, steps[i].general);
+        if !holds(alloc, &step)? {
+            return Ok(Some(i));
+        }
+    }
+    Ok(None)
+}
+
+/// The number of the first instruction that doesn't end so, or that changes something.
+fn wrong_end(alloc: Global, codes: &[u64], end: StepEnd) -> Result<Option<usize>, NoMemory> {
+    for i in 0..codes.len() {
+        if !ends(alloc, codes[i], 0, end)? {
+            return Ok(Some(i));
+        }
+    }
+    Ok(None)
+}
+
+/// The number of the first division that doesn't stop, or that changes something.
+fn wrong_division(alloc: Global, divisions: &[(u64, u128)]) -> Result<Option<usize>, NoMemory> {
+    let end = StepEnd::Stopped(StopKind::Divide, PLACE);
+    for i in 0..divisions.len() {
+        if !ends(alloc, divisions[i].0, divisions[i].1, end)? {
             return Ok(Some(i));
         }
     }
@@ -121,25 +341,20 @@ fn wrong(alloc: Global, steps: &[VectorStep]) -> Result<Option<usize>, NoMemory>
 }
 
 #[test]
-fn vectors(rt: HostRuntime) -> Result<(), Fail> {
-    assert_eq!(rt; wrong(rt.alloc(), &STEPS)?, None);
+fn transfers(rt: HostRuntime) -> Result<(), Fail> {
+    assert_eq!(rt; wrong_load(rt.alloc(), &LOADS)?, None);
+    assert_eq!(rt; wrong_store(rt.alloc(), &STORES)?, None);
+    assert_eq!(rt; wrong_extract(rt.alloc(), &EXTRACTS)?, None);
     Ok(())
-}
-
-/// How a step ends.
-fn end_of(alloc: Global, code: u64) -> Result<StepEnd, NoMemory> {
-    let mut memory = memory_with(alloc, code)?;
-    Ok(vector_machine(0).step(&mut memory))
 }
 
 #[test]
 fn vector_stops(rt: HostRuntime) -> Result<(), Fail> {
-    let divide = end_of(rt.alloc(), 0xe712_3000_20b2_0000)?;
-    assert!(rt; divide == StepEnd::Stopped(StopKind::Divide, PLACE));
-    let access = end_of(rt.alloc(), 0xe710_5011_0006_0000)?;
-    assert!(rt; access == StepEnd::Stopped(StopKind::Access, PLACE));
-    // VBLEND and a high product of 128-bit elements.
-    assert!(rt; end_of(rt.alloc(), 0xe712_3000_4089_0000)? == StepEnd::NoRow);
-    assert!(rt; end_of(rt.alloc(), 0xe712_3000_40a1_0000)? == StepEnd::NoRow);
+    let access = StepEnd::Stopped(StopKind::Access, PLACE);
+    let operation = StepEnd::Stopped(StopKind::Operation, PLACE);
+    assert_eq!(rt; wrong_division(rt.alloc(), &ZERO_DIVISORS)?, None);
+    assert_eq!(rt; wrong_end(rt.alloc(), &INACCESSIBLE, access)?, None);
+    assert_eq!(rt; wrong_end(rt.alloc(), &OPEN, StepEnd::NoRow)?, None);
+    assert_eq!(rt; wrong_end(rt.alloc(), &ROWLESS, operation)?, None);
     Ok(())
 }
