@@ -35,10 +35,10 @@ pub doubleword_room : (s s1 : State) → put_cause s 18 ≡ None → s1 ≡ run 
 unfolding length_of
 doubleword_room s s1 room e = room_behind s s1 (Row (ri_b 0xa75 1 6) ∷ []) 18 8 room e (omega arith)
 
-pub load_room : (s s1 s2 : State) (name : ExternalName) (offset : ℤ) → put_cause s 18 ≡ None → s1 ≡ run s (part_pieces (Row (ri_b 0xa75 1 6) ∷ [])) → s2 ≡ apply s1 (PutReloc (to_be_bytes w64 0) Abs8 name offset) → put_cause s2 6 ≡ None
+pub load_room : (s s1 s2 : State) (name : ExternalName) (offset : ℤ) → put_cause s 18 ≡ None → s1 ≡ run s (part_pieces (Row (ri_b 0xa75 1 6) ∷ [])) → s2 ≡ apply s1 (PutReloc (to_be_bytes w64 0) 0 Abs8 name offset) → put_cause s2 6 ≡ None
 unfolding length_of
 load_room s s1 s2 name offset room e f =
-    room_behind s s2 (Row (ri_b 0xa75 1 6) ∷ SymbolValue name offset ∷ []) 18 6 room (f ∙ ap (λ x. apply x (PutReloc (to_be_bytes w64 0) Abs8 name offset)) e) (omega arith)
+    room_behind s s2 (Row (ri_b 0xa75 1 6) ∷ SymbolValue name offset ∷ []) 18 6 room (f ∙ ap (λ x. apply x (PutReloc (to_be_bytes w64 0) 0 Abs8 name offset)) e) (omega arith)
 
 -- what the check let pass of the instruction
 pub symbol_passed : (s : State) (after depth : ℕ) (i : Inst) (rd : Reg) (reloc : SymbolReloc) → i ≡ LoadSymbolReloc rd reloc → MembersPassed s after depth (branch_size i) (branch_cause s.block_count depth i) → (put_cause s 18 ≡ None) × (is_general rd ≡ true)

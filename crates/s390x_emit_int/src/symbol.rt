@@ -31,7 +31,7 @@ fn put_branch_over(sink: &mut MachBuffer) -> Result<(), EmitError>
 
 // A doubleword of zeros, which linking fills with a symbol's address plus an offset.
 fn put_symbol(sink: &mut MachBuffer, name: ExternalName, offset: i64) -> Result<(), EmitError>
-    ensures answer { OnOk result (sink.new ≡ apply sink.old (PutReloc (to_be_bytes w64 0) Abs8 name offset)) }
+    ensures answer { OnOk result (sink.new ≡ apply sink.old (PutReloc (to_be_bytes w64 0) 0 Abs8 name offset)) }
     ensures lacks { put_cause sink.old 8 ≡ None → LacksMemory result }
     ensures kept { Keeps sink.old sink.new }
 {
@@ -41,7 +41,7 @@ fn put_symbol(sink: &mut MachBuffer, name: ExternalName, offset: i64) -> Result<
 
 // The doubleword that a relocation fills.
 fn put_reloc(sink: &mut MachBuffer, symbol_reloc: &SymbolReloc) -> Result<(), EmitError>
-    ensures answer { OnOk result (sink.new ≡ apply sink.old (PutReloc (to_be_bytes w64 0) Abs8 (name_in symbol_reloc.now) (offset_in symbol_reloc.now))) }
+    ensures answer { OnOk result (sink.new ≡ apply sink.old (PutReloc (to_be_bytes w64 0) 0 Abs8 (name_in symbol_reloc.now) (offset_in symbol_reloc.now))) }
     ensures lacks { put_cause sink.old 8 ≡ None → LacksMemory result }
     ensures kept { Keeps sink.old sink.new }
 {
