@@ -1,6 +1,5 @@
 use Rattle.std.proofs.Common.{◌≡◌, None, sym, ap, ◌∙◌, min}
 use Rattle.s390x_steps.specs.Alone.{alone}
-use Rattle.s390x_steps.specs.Causes.{branch_cause}
 use Rattle.s390x_steps.specs.Memory.{memory}
 use Rattle.s390x_steps.specs.Resolved.{resolved_instruction}
 use Rattle.s390x_emit_int.specs.Alone.{alone_of}
