@@ -32,4 +32,5 @@ pub mod Accessing
 pub mod Storing
 pub mod Resolving
 pub mod Linked
+pub mod Linking
 pub mod Example

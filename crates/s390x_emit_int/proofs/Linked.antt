@@ -1,227 +1,30 @@
 -- Emitted and linked code runs as typed.
-use Rattle.std.proofs.Common.{◌≡◌, ℕ, zero, suc, ◌+◌, ◌%◌, ◌^◌, ◌<◌, ◌≤◌, List, [], ◌∷◌, ◌++◌, length, get_or, Bool, true, false, cond, ◌&&◌, max, Option, None, Some, refl, sym, ap, ◌∙◌, subst, arith, eqb-true, slice_get, length-append}
-use Rattle.std.specs.Prelude.{pos, ◌+ℤ◌, ◌*ℤ◌}
-use Rattle.std.specs.Int.{w32, cast_signed}
-use Rattle.std.proofs.lemmas.Bool.{leb-true}
-use Rattle.std.proofs.lemmas.List.{length-map}
+use Rattle.std.proofs.Common.{◌≡◌, ℕ, ◌+◌, List, length, None}
 use Rattle.s390x_inst.specs.declared.state.IsaFlags.{IsaFlags}
-use Rattle.s390x_buffer.specs.State.{Constant, is_alignment, all_aligned, new_cause}
-use Rattle.s390x_buffer.specs.Constants.{constant_starts, constant_bytes, constants_end, greatest_align}
+use Rattle.s390x_buffer.specs.State.{Constant, new_cause}
 use Rattle.s390x_buffer.specs.declared.entries.MachBufferFinalized.{MachBufferFinalized}
-use Rattle.s390x_buffer.specs.declared.entries.RelocEntry.{RelocEntry}
-use Rattle.s390x_buffer.proofs.Placing.{length-constant_bytes}
-use Rattle.s390x_image.specs.Causes.{first as first_link, base_cause, reloc_cause, relocs_cause, link_cause}
+use Rattle.s390x_image.specs.Causes.{link_cause}
 use Rattle.s390x_image.specs.Fields.{filled}
-use Rattle.s390x_image.specs.Values.{symbol_value, symbol_distance}
-use Rattle.s390x_image.specs.ReadingBack.{distance_leads}
 use Rattle.s390x_image.specs.Symbols.{Symbols}
-use Rattle.s390x_image.specs.declared.error.LinkError.{LinkError}
-use Rattle.s390x_operations.specs.Numbers.{low}
-use Rattle.s390x_operations.specs.State.{CodeImage, sum64}
-use Rattle.s390x_operations.specs.declared.size.Size.TheVariants.{Doubleword}
-use Rattle.s390x_machine.specs.Layout.{Layout}
-use Rattle.s390x_machine.specs.Placed.{PartReaches, PartsReach, ConstantStands}
-use Rattle.s390x_machine.specs.Functions.{function_layout, StandsAsCode}
+use Rattle.s390x_operations.specs.State.{CodeImage}
+use Rattle.s390x_machine.specs.Functions.{function_layout}
 use Rattle.s390x_machine.proofs.Functions.{function_placed}
 use Rattle.s390x_machine.proofs.Instructions.{block_holds}
 use Rattle.s390x_machine.proofs.Checked.{checked_steps}
 use Rattle.s390x_steps.specs.Ranges.{BlocksInRange}
 use Rattle.s390x_steps.specs.Tree.{Tree}
-use Rattle.s390x_steps.specs.Steps.{Step, step_count, steps_of, steps_from, function_steps}
-use Rattle.s390x_steps.specs.Parts.{Part, RelativeSymbol, part_size, parts_size, step_parts}
-use Rattle.s390x_steps.specs.Image.{place, places, unlinked, function_code}
-use Rattle.s390x_steps.specs.Relocs.{part_relocs, parts_relocs, step_relocs, relocs_from, function_relocs}
-use Rattle.s390x_steps.specs.Sizes.{blocks_size}
-use Rattle.s390x_steps.specs.Causes.{first, aligns_of, declared_of, blocks_cause}
+use Rattle.s390x_steps.specs.Causes.{first, declared_of, blocks_cause}
 use Rattle.s390x_steps.proofs.Causes.{first_left, first_right}
-use Rattle.s390x_emit_int.specs.Bound.{Follows}
 use Rattle.s390x_emit_int.specs.Function.{checked_cause, length_cause, IsImage}
 use Rattle.s390x_emit_int.specs.Headline.{linked, RunsAsTyped}
-use Rattle.s390x_emit_int.proofs.Constants.{IsAlignment, byte, halfword, word, doubleword, quadword, alignment_of, aligned_constants, starts_of, greatest_ge}
-use Rattle.s390x_emit_int.proofs.Filling.{function_filled, linked_length, code_length}
-use Rattle.s390x_emit_int.proofs.Functions.{place_follows, place_zero}
-use Rattle.s390x_emit_int.proofs.Joining.{total, total_append, steps_total}
-
-first_of_links : (a b : Option LinkError) → first_link a b ≡ None → a ≡ None
-first_of_links None b h = refl
-first_of_links (Some e) b h = h
-
--- two tests that passed
-pub two_passed : {E : Type 0} (s t : Bool) (d e : E) → cond s (cond t None (Some d)) (Some e) ≡ None → (s ≡ true) × (t ≡ true)
-two_passed true true d e h = (refl, refl)
-two_passed true false d e h = absurd (cc)
-two_passed false t d e h = absurd (cc)
-
--- an alignment that code may have
-pub data IsCodeAlignment (a : ℕ) : Type 0 where
-  four : a ≡ 4 → IsCodeAlignment a
-  eight : a ≡ 8 → IsCodeAlignment a
-  sixteen : a ≡ 16 → IsCodeAlignment a
-
--- it stays one, whatever a constant asks for
-max_four : (x : ℕ) → is_alignment x ≡ true → IsCodeAlignment (max 4 x)
-max_four x h = greater (alignment_of x h)
-  where
-    greater : IsAlignment x → IsCodeAlignment (max 4 x)
-    greater (byte e) = four (omega arith)
-    greater (halfword e) = four (omega arith)
-    greater (word e) = four (omega arith)
-    greater (doubleword e) = eight (omega arith)
-    greater (quadword e) = sixteen (omega arith)
-
-max_of : (a x : ℕ) → IsCodeAlignment a → IsCodeAlignment (max 4 x) → IsCodeAlignment (max a x)
-max_of a x (four e) (four f) = four (omega arith)
-max_of a x (four e) (eight f) = eight (omega arith)
-max_of a x (four e) (sixteen f) = sixteen (omega arith)
-max_of a x (eight e) (four f) = eight (omega arith)
-max_of a x (eight e) (eight f) = eight (omega arith)
-max_of a x (eight e) (sixteen f) = sixteen (omega arith)
-max_of a x (sixteen e) (four f) = sixteen (omega arith)
-max_of a x (sixteen e) (eight f) = sixteen (omega arith)
-max_of a x (sixteen e) (sixteen f) = sixteen (omega arith)
-
-both : (s t : Bool) → (s && t) ≡ true → (s ≡ true) × (t ≡ true)
-both true t h = (refl, h)
-both false t h = absurd (cc)
-
-greatest : (a : ℕ) (cs : List Constant) → IsCodeAlignment a → all_aligned cs ≡ true → IsCodeAlignment (greatest_align a cs)
-greatest a [] h all = h
-greatest a (c ∷ cs) h all =
-    let p = both (is_alignment c.align) (all_aligned cs) all in
-    greatest (max a c.align) cs (max_of a c.align h (max_four c.align p.0)) p.1
-
-even_base : (base a : ℕ) → IsCodeAlignment a → base % a ≡ 0 → base % 2 ≡ 0
-even_base base a (four e) h = let k : base % 4 ≡ 0 = subst (λ x. base % x ≡ 0) e h in omega arith
-even_base base a (eight e) h = let k : base % 8 ≡ 0 = subst (λ x. base % x ≡ 0) e h in omega arith
-even_base base a (sixteen e) h = let k : base % 16 ≡ 0 = subst (λ x. base % x ≡ 0) e h in omega arith
-
--- ---- constants stand on their boundaries
-
--- the image's base is on the boundary of each constant
-base_on : (base a g : ℕ) → IsAlignment a → IsCodeAlignment g → a ≤ g → base % g ≡ 0 → base % a ≡ 0
-base_on base a g (byte e) of le h = subst (λ x. base % x ≡ 0) (sym e) (omega arith)
-base_on base a g (halfword e) of le h = subst (λ x. base % x ≡ 0) (sym e) (even_base base g of h)
-base_on base a g (word e) (four f) le h = let k : base % 4 ≡ 0 = subst (λ x. base % x ≡ 0) f h in subst (λ x. base % x ≡ 0) (sym e) k
-base_on base a g (word e) (eight f) le h = let k : base % 8 ≡ 0 = subst (λ x. base % x ≡ 0) f h in let j : base % 4 ≡ 0 = omega arith in subst (λ x. base % x ≡ 0) (sym e) j
-base_on base a g (word e) (sixteen f) le h = let k : base % 16 ≡ 0 = subst (λ x. base % x ≡ 0) f h in let j : base % 4 ≡ 0 = omega arith in subst (λ x. base % x ≡ 0) (sym e) j
-base_on base a g (doubleword e) (four f) le h = absurd (omega arith)
-base_on base a g (doubleword e) (eight f) le h = let k : base % 8 ≡ 0 = subst (λ x. base % x ≡ 0) f h in subst (λ x. base % x ≡ 0) (sym e) k
-base_on base a g (doubleword e) (sixteen f) le h = let k : base % 16 ≡ 0 = subst (λ x. base % x ≡ 0) f h in let j : base % 8 ≡ 0 = omega arith in subst (λ x. base % x ≡ 0) (sym e) j
-base_on base a g (quadword e) (four f) le h = absurd (omega arith)
-base_on base a g (quadword e) (eight f) le h = absurd (omega arith)
-base_on base a g (quadword e) (sixteen f) le h = let k : base % 16 ≡ 0 = subst (λ x. base % x ≡ 0) f h in subst (λ x. base % x ≡ 0) (sym e) k
-
--- and so is a sum with a place that is, modulo 2 ^ 64
-sum_on : (base start a : ℕ) → IsAlignment a → base % a ≡ 0 → start % a ≡ 0 → sum64 base start % a ≡ 0
-sum_on base start a (byte e) h k = subst (λ x. sum64 base start % x ≡ 0) (sym e) (omega arith)
-sum_on base start a (halfword e) h k = let i : base % 2 ≡ 0 = subst (λ x. base % x ≡ 0) e h in let j : start % 2 ≡ 0 = subst (λ x. start % x ≡ 0) e k in let l : sum64 base start % 2 ≡ 0 = omega arith in subst (λ x. sum64 base start % x ≡ 0) (sym e) l
-sum_on base start a (word e) h k = let i : base % 4 ≡ 0 = subst (λ x. base % x ≡ 0) e h in let j : start % 4 ≡ 0 = subst (λ x. start % x ≡ 0) e k in let l : sum64 base start % 4 ≡ 0 = omega arith in subst (λ x. sum64 base start % x ≡ 0) (sym e) l
-sum_on base start a (doubleword e) h k = let i : base % 8 ≡ 0 = subst (λ x. base % x ≡ 0) e h in let j : start % 8 ≡ 0 = subst (λ x. start % x ≡ 0) e k in let l : sum64 base start % 8 ≡ 0 = omega arith in subst (λ x. sum64 base start % x ≡ 0) (sym e) l
-sum_on base start a (quadword e) h k = let i : base % 16 ≡ 0 = subst (λ x. base % x ≡ 0) e h in let j : start % 16 ≡ 0 = subst (λ x. start % x ≡ 0) e k in let l : sum64 base start % 16 ≡ 0 = omega arith in subst (λ x. sum64 base start % x ≡ 0) (sym e) l
-
--- ---- distances lead to symbols
-
-second_of_links : (a b : Option LinkError) → first_link a b ≡ None → b ≡ None
-second_of_links None b h = h
-second_of_links (Some e) b h = absurd (cc)
-
-links_none : (a b : Option LinkError) → a ≡ None → b ≡ None → first_link a b ≡ None
-links_none a b ha hb = ap (λ x. first_link x b) ha ∙ hb
-
-low_small : (n : ℕ) → n < 2 ^ 64 → low Doubleword (pos n) ≡ n
-low_small n h = omega arith
-
--- how many bytes the steps have
-blocks_total : (ts : List Tree) (k : ℕ) → total (steps_from k ts) ≡ blocks_size ts
-blocks_total [] k = refl
-blocks_total (t ∷ ts) k = omega (arith, total_append (steps_of k 0 t) (steps_from (k + step_count t) ts), steps_total t k 0, blocks_total ts (k + step_count t))
-
-module _ (symbols : Symbols) (base : ℕ) where
-  first_relocs : (rs qs : List RelocEntry) → relocs_cause base symbols (rs ++ qs) ≡ None → relocs_cause base symbols rs ≡ None
-  first_relocs [] qs h = refl
-  first_relocs (r ∷ rs) qs h = links_none (reloc_cause base symbols r) (relocs_cause base symbols rs) (first_of_links _ _ h) (first_relocs rs qs (second_of_links (reloc_cause base symbols r) _ h))
-
-  last_relocs : (rs qs : List RelocEntry) → relocs_cause base symbols (rs ++ qs) ≡ None → relocs_cause base symbols qs ≡ None
-  last_relocs [] qs h = h
-  last_relocs (r ∷ rs) qs h = last_relocs rs qs (second_of_links (reloc_cause base symbols r) _ h)
-
-  module _ (ts : List Tree) (cs : List Constant) (bytes : List ℕ) where
-    abbrev here : Layout
-    here = function_layout (linked symbols base ts cs) ts (record { base = base; bytes = bytes })
-
-    part_reaches : (part : Part) (p : ℕ) → base + (p + part_size part) ≤ 2 ^ 64 → relocs_cause base symbols (part_relocs p part) ≡ None → PartReaches here p part
-    part_reaches (RelativeSymbol opcode register name offset) p room h =
-        let leads = distance_leads base symbols p name offset (first_of_links _ _ h) in
-        let at : sum64 base p ≡ base + p = omega arith in
-        (
-          leads.0,
-          ap (λ n. low Doubleword (pos n +ℤ pos 2 *ℤ cast_signed w32 (symbol_distance base symbols p name offset))) at ∙ ap (low Doubleword) leads.2 ∙ low_small (symbol_value symbols name offset) leads.1,
-        )
-    part_reaches part p room h = tt
-
-    parts_reach : (parts : List Part) (p : ℕ) → base + (p + parts_size parts) ≤ 2 ^ 64 → relocs_cause base symbols (parts_relocs p parts) ≡ None → PartsReach here p parts
-    parts_reach [] p room h = tt
-    parts_reach (part ∷ parts) p room h =
-        let rs = part_relocs p part in
-        let qs = parts_relocs (p + part_size part) parts in
-        (part_reaches part p (omega arith) (first_relocs rs qs h), parts_reach parts (p + part_size part) (omega arith) (last_relocs rs qs h))
-
-    steps_reach : (at : ℕ → ℕ) (ss : List Step) (k j : ℕ) (s : Step) → Follows at k ss → base + (at k + total ss) ≤ 2 ^ 64 → relocs_cause base symbols (relocs_from at k ss) ≡ None → slice_get ss j ≡ Some s → PartsReach here (at (k + j)) (step_parts s)
-    steps_reach at [] k j s follow room h e = absurd (cc)
-    steps_reach at (x ∷ ss) k zero s follow room h e =
-        let same : x ≡ s = cc in
-        let z : k ≡ k + 0 = omega arith in
-        subst (λ n. PartsReach here (at n) (step_parts s)) z
-        (subst (λ y. PartsReach here (at k) (step_parts y)) same (parts_reach (step_parts x) (at k) (omega arith) (first_relocs (step_relocs (at k) x) (relocs_from at (k + 1) ss) h)))
-    steps_reach at (x ∷ ss) k (suc j) s follow room h e =
-        let z : k + 1 + j ≡ k + suc j = omega arith in
-        subst (λ n. PartsReach here (at n) (step_parts s)) z
-        (steps_reach at ss (k + 1) j s follow.1 (omega (arith, follow.0, room)) (last_relocs (step_relocs (at k) x) (relocs_from at (k + 1) ss) h) e)
-
-    constant_stands : (c : ℕ) → c < length cs → all_aligned cs ≡ true → base % greatest_align 4 cs ≡ 0 → length bytes ≡ constants_end (blocks_size ts) cs → ConstantStands here c
-    constant_stands c lt all multiple ends =
-        let start = get_or (constant_starts (blocks_size ts) cs) c 0 in
-        let align = get_or (aligns_of cs) c 0 in
-        let s = starts_of cs (blocks_size ts) c all lt in
-        let kind = alignment_of align s.alignment in
-        record {
-          within = omega (arith, s.below, ends);
-          even = s.on.0;
-          alignment = s.alignment;
-          aligned = sum_on base start align kind (base_on base align (greatest_align 4 cs) kind (greatest 4 cs (four refl) all) (greatest_ge cs 4 c lt) multiple) s.on.1;
-        }
+use Rattle.s390x_emit_int.proofs.Linking.{stands_as_code}
 
 pub runs_as_typed : (flags : IsaFlags) (ts : List Tree) (cs : List Constant) (f : MachBufferFinalized) (base : ℕ) (symbols : Symbols) → checked_cause flags ts cs ≡ None → BlocksInRange ts → IsImage ts cs f → link_cause f base symbols ≡ None → RunsAsTyped symbols ts cs (record { base = base; bytes = filled base symbols f.relocs.items f.bytes.items })
 runs_as_typed flags ts cs f base symbols fine ranges image links b lt =
-    let ss = function_steps ts in
-    let constants = constant_bytes (blocks_size ts) cs in
     let outside = linked symbols base ts cs in
-    let before = function_code (unlinked ts cs) ts in
     let code : CodeImage = record { base = base; bytes = filled base symbols f.relocs.items f.bytes.items } in
-    let is : code.bytes ≡ function_code outside ts ++ constants = ap (λ rs. filled base symbols rs f.bytes.items) image.relocs ∙ ap (filled base symbols (function_relocs ts)) image.bytes ∙ function_filled base symbols ts cs constants in
-    let size : length code.bytes ≡ length f.bytes.items = ap length is ∙ linked_length (unlinked ts cs) outside ts constants ∙ ap length (sym image.bytes) in
-    let whole : length f.bytes.items ≡ total ss + length constants = ap length image.bytes ∙ length-append before constants ∙ ap (λ n. n + length constants) (code_length (places (unlinked ts cs) ts) 0 ss) in
-    let ends : length code.bytes ≡ constants_end (blocks_size ts) cs = size ∙ whole ∙ ap (λ n. n + length constants) (blocks_total ts 0) ∙ length-constant_bytes (blocks_size ts) cs in
     let n = length ts + length cs in
     let D = declared_of ts cs in
-    let declared : new_cause (length ts) cs ≡ None = first_left _ _ fine in
-    let aligned : all_aligned cs ≡ true = aligned_constants _ _ _ declared in
     let checked : blocks_cause flags D n ts ≡ None = first_left _ _ (first_right (new_cause (length ts) cs) (first (blocks_cause flags D n ts) (length_cause ts cs)) fine) in
-    let causes = base_cause f.alignment (length f.bytes.items) base in
-    let two = two_passed _ _ _ _ (first_of_links causes (relocs_cause base symbols f.relocs.items) links) in
-    let multiple : base % greatest_align 4 cs ≡ 0 = ap (λ a. base % a) (sym image.alignment) ∙ eqb-true (base % f.alignment) 0 two.0 in
-    let below : base + length f.bytes.items ≤ 18446744073709551616 = leb-true (base + length f.bytes.items) 18446744073709551616 two.1 in
-    let filling : relocs_cause base symbols (function_relocs ts) ≡ None = ap (relocs_cause base symbols) (sym image.relocs) ∙ second_of_links causes (relocs_cause base symbols f.relocs.items) links in
-    let stands : StandsAsCode outside ts code = record {
-      constants = constants;
-      bytes = is;
-      even = even_base base (greatest_align 4 cs) (greatest 4 cs (four refl) aligned) multiple;
-      fits = omega (arith, size, below);
-      short = omega (arith, size, image.short);
-      fine = checked_steps flags outside ts n code checked ranges;
-      reached = λ k s e.
-          let z : 0 + k ≡ k = omega arith in
-          subst (λ j. PartsReach (function_layout outside ts code) (place ss j) (step_parts s)) z (steps_reach symbols base ts cs code.bytes (place ss) ss 0 k s (place_follows ss) (omega (arith, place_zero ss, whole, below)) filling e);
-      stand = λ c h. constant_stands symbols base ts cs code.bytes c (omega (arith, length-map cs (λ (c : Constant). c.align), h)) aligned multiple ends;
-    } in
+    let stands = stands_as_code flags ts cs f base symbols fine image links (λ image. checked_steps flags outside ts n image checked ranges) in
     block_holds (function_layout outside ts code) (function_placed outside ts code stands) b lt

@@ -9,7 +9,7 @@ use Rattle.s390x_steps.specs.MachineInstruction.{ril_c, bytes_of}
 use Rattle.s390x_steps.specs.Parts.{Part, Row, Trapping, Branch, Relative, RelativeConstant, RelativeSymbol, SymbolValue, TrapHere, TableWord, ToBlock, ToStep, table_words, instruction_parts}
 use Rattle.s390x_steps.specs.Image.{step_places}
 use Rattle.s390x_steps.specs.Sizes.{instruction_size}
-use Rattle.s390x_steps.specs.Causes.{instruction_draws, draws}
+use Rattle.s390x_steps.specs.Causes.{declared_in, instruction_draws, draws}
 use Rattle.s390x_emit_int.specs.Pieces.{Piece, Put, PutTrapping, PutReloc, Link, LinkConstant, Step, Draw, Bind, apply, run}
 use Rattle.s390x_emit_int.specs.Emission.{part_pieces, leaf_pieces, back_pieces, pieces}
 use Rattle.s390x_emit_int.specs.Resolve.{put_length}
@@ -133,3 +133,18 @@ same_run (LinkConstant c bs ∷ ps) s = let r = same_run ps (apply s (LinkConsta
 same_run (Step ∷ ps) s = let r = same_run ps (apply s Step) in record { call_sites = r.call_sites; try_call_sites = r.try_call_sites; patchable_sites = r.patchable_sites; stack_maps = r.stack_maps; block_count = r.block_count; constants = r.constants; failed = r.failed }
 same_run (Draw ∷ ps) s = let r = same_run ps (apply s Draw) in record { call_sites = r.call_sites; try_call_sites = r.try_call_sites; patchable_sites = r.patchable_sites; stack_maps = r.stack_maps; block_count = r.block_count; constants = r.constants; failed = r.failed }
 same_run (Bind l ∷ ps) s = let r = same_run ps (apply s (Bind l)) in record { call_sites = r.call_sites; try_call_sites = r.try_call_sites; patchable_sites = r.patchable_sites; stack_maps = r.stack_maps; block_count = r.block_count; constants = r.constants; failed = r.failed }
+
+-- what instructions may name stays the same
+declared_applied : (x : Piece) (s : State) → declared_in (apply s x) ≡ declared_in s
+declared_applied (Put bs) s = refl
+declared_applied (PutReloc bs byte kind name addend) s = refl
+declared_applied (PutTrapping bs byte code) s = refl
+declared_applied (Link k l bs) s = refl
+declared_applied (LinkConstant c bs) s = refl
+declared_applied Step s = refl
+declared_applied Draw s = refl
+declared_applied (Bind l) s = refl
+
+pub declared_run : (ps : List Piece) (s : State) → declared_in (run s ps) ≡ declared_in s
+declared_run [] s = refl
+declared_run (x ∷ ps) s = declared_run ps (apply s x) ∙ declared_applied x s

@@ -7,7 +7,7 @@ use Rattle.s390x_image.specs.Symbols.{no_symbols}
 use Rattle.s390x_steps.specs.Ranges.{BlocksInRange}
 use Rattle.s390x_operations.specs.State.{CodeImage, Lies}
 use Rattle.s390x_machine.specs.Machine.{Run}
-use Rattle.s390x_machine.specs.Layout.{block_place}
+use Rattle.s390x_machine.specs.Layout.{Layout, block_place}
 use Rattle.s390x_machine.specs.Functions.{function_layout}
 use Rattle.s390x_machine.specs.Example.{trees, core, turns}
 use Rattle.s390x_emit_int.specs.Function.{checked_cause, IsImage}
@@ -16,6 +16,10 @@ use Rattle.s390x_emit_int.specs.Headline.{linked}
 -- finished code at 4096
 abbrev pub linked_at_4096 : MachBufferFinalized → CodeImage
 linked_at_4096 code = record { base = 4096; bytes = code.bytes.items }
+
+-- its layout there
+abbrev pub layout_at_4096 : MachBufferFinalized → Layout
+layout_at_4096 code = function_layout (linked no_symbols 4096 trees []) trees (linked_at_4096 code)
 
 -- The function of two blocks has no cause, this is its finished code, and linking has no cause; the code lies in memory, and a run of the machine
 -- from the first block goes round the loop, leaves it and returns.
@@ -26,4 +30,4 @@ pub record LinkedLoopRuns : Type 0 where
   pub finished : IsImage trees [] code
   pub linked : link_cause code 4096 no_symbols ≡ None
   pub lies : Lies (linked_at_4096 code) core.memory
-  pub run : Run (linked_at_4096 code) (record { core = core; place = block_place (function_layout (linked no_symbols 4096 trees []) trees (linked_at_4096 code)) 0 }) turns
+  pub run : Run (linked_at_4096 code) (record { core = core; place = block_place (layout_at_4096 code) 0 }) turns

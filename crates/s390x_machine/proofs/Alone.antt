@@ -1,7 +1,7 @@
 -- The rows of the instructions that are one machine instruction on registers and immediates: each is listed, and does its instruction's operation.
 use Rattle.std.proofs.Common.{◌≡◌, ℕ, ◌%◌, ◌==◌, ◌&&◌, ◌<◌, List, [], ◌∷◌, get_or, Option, Some, None, Bool, true, false, cond, refl, ap, ◌∙◌, subst, arith, nat_lt, ltb-true, pos, ◌^◌}
 use Rattle.s390x_format.specs.declared.kind.FormatKind.{FormatKind}
-use Rattle.s390x_format.specs.declared.kind.FormatKind.TheVariants.{Rr, Rre, RrfAb, RiA, RieD, RilA}
+use Rattle.s390x_format.specs.declared.kind.FormatKind.TheVariants.{Rr, Rre, RrfAb, RiA, RieD, RilA, RilB}
 use Rattle.s390x_format.specs.declared.row.Allowed.{Allowed}
 use Rattle.s390x_format.specs.declared.row.Allowed.TheVariants.{Any, FirstMask}
 use Rattle.s390x_format.specs.Formats.{length_of, layout_of}
@@ -21,7 +21,7 @@ use Rattle.s390x_inst.specs.declared.ops.UnaryOp.{UnaryOp}
 use Rattle.s390x_inst.specs.declared.ops.UnaryOp.TheVariants as U
 use Rattle.s390x_steps.specs.Opcodes.{alu_three, alu_two, cmp_two, unary_two, alu_halfword, alu_three_halfword, alu_signed_word, alu_unsigned_word, cmp_halfword, cmp_signed_word, cmp_unsigned_word}
 use Rattle.s390x_steps.specs.Alone.{two_operands}
-use Rattle.s390x_steps.specs.MachineInstruction.{MachineInstruction, bytes_of, size_of, rr, rre, rrf_ab, ri_a, rie_d, ril_a}
+use Rattle.s390x_steps.specs.MachineInstruction.{MachineInstruction, bytes_of, size_of, rr, rre, rrf_ab, ri_a, rie_d, ril_a, ril_b}
 use Rattle.s390x_operations.specs.State.{Registers, Core, State, sum64}
 use Rattle.s390x_operations.specs.Effects.{CodeAfter, Refines}
 use Rattle.s390x_operations.specs.declared.stop.ConditionCode.{ConditionCode}
@@ -46,7 +46,7 @@ use Rattle.s390x_machine.specs.Layout.{Layout}
 use Rattle.s390x_machine.specs.Placed.{AllPlaced}
 use Rattle.s390x_machine.proofs.Decoding.{encoded_length}
 use Rattle.s390x_machine.proofs.Fetching.{StandsAt, row_at}
-use Rattle.s390x_machine.proofs.Rows.{fits_rr, fits_rre, fits_rrf_ab, fits_ri_a, fits_rie_d, fits_ril_a}
+use Rattle.s390x_machine.proofs.Rows.{fits_rr, fits_rre, fits_rrf_ab, fits_ri_a, fits_rie_d, fits_ril_a, fits_ril_b}
 use Rattle.s390x_machine.proofs.Simulation.{RowAt}
 
 -- a register as the second operand of a row
@@ -296,11 +296,14 @@ single_pair : (meaning : Meaning) (f : Fields) → names_pair meaning ≡ false 
 single_pair meaning f e = ap (λ b. b && (register_field f 0 % 2 == 1)) e
 
 -- what is fetched does the row's action
-acts_as_meant : (m : MachineInstruction) (meaning : Meaning) (operation : Registers → Operation) → meaning_of (decoded_of m.format m.slots).row.opcode ≡ Some meaning → is_odd_pair meaning (fields_of m.format m.slots) ≡ false → ((r : Registers) (p : ℕ) → action meaning (fields_of m.format m.slots) r p ≡ Perform (operation r)) → (s : State) (event : Event) (t : State) → FetchedActs (Found (decoded_of m.format m.slots)) s event t → Acts (Perform (operation s.core.registers)) (size_of m) s event t
-acts_as_meant m meaning operation means even does s event t h =
+pub acts_there : (m : MachineInstruction) (meaning : Meaning) (operation : Registers → Operation) → meaning_of (decoded_of m.format m.slots).row.opcode ≡ Some meaning → is_odd_pair meaning (fields_of m.format m.slots) ≡ false → (s : State) (event : Event) (t : State) → action meaning (fields_of m.format m.slots) s.core.registers s.place ≡ Perform (operation s.core.registers) → FetchedActs (Found (decoded_of m.format m.slots)) s event t → Acts (Perform (operation s.core.registers)) (size_of m) s event t
+acts_there m meaning operation means even s event t does h =
     let meant : RowActs (Some meaning) (fields_of m.format m.slots) (length_of m.format) s event t = subst (λ o. RowActs o (fields_of m.format m.slots) (length_of m.format) s event t) means h in
     let acts : Acts (action meaning (fields_of m.format m.slots) s.core.registers s.place) (size_of m) s event t = subst (λ b. PairActs b (action meaning (fields_of m.format m.slots) s.core.registers s.place) (size_of m) s event t) even meant in
-    subst (λ a. Acts a (size_of m) s event t) (does s.core.registers s.place) acts
+    subst (λ a. Acts a (size_of m) s event t) does acts
+
+acts_as_meant : (m : MachineInstruction) (meaning : Meaning) (operation : Registers → Operation) → meaning_of (decoded_of m.format m.slots).row.opcode ≡ Some meaning → is_odd_pair meaning (fields_of m.format m.slots) ≡ false → ((r : Registers) (p : ℕ) → action meaning (fields_of m.format m.slots) r p ≡ Perform (operation r)) → (s : State) (event : Event) (t : State) → FetchedActs (Found (decoded_of m.format m.slots)) s event t → Acts (Perform (operation s.core.registers)) (size_of m) s event t
+acts_as_meant m meaning operation means even does s event t h = acts_there m meaning operation means even s event t (does s.core.registers s.place) h
 
 -- the first byte of a row's bytes tells how many they are
 pub row_tells : (kind : FormatKind) (allowed : Allowed) (opcode : ℕ) (fields : List ℕ) → 0 < opcode → Lists opcode kind allowed → SlotsFit (layout_of kind) (opcode ∷ fields) → is_allowed allowed (opcode ∷ fields) ≡ true → fetch_length_of (get_or (bytes_of (record { format = kind; slots = opcode ∷ fields })) 0 0) ≡ length_of kind
@@ -348,6 +351,13 @@ module _ (L : Layout) (all : AllPlaced L) (offset : ℕ) (even : offset % 2 ≡ 
   meant_at kind allowed opcode fields meaning operation row fit allows does s =
       let x : MachineInstruction = record { format = kind; slots = opcode ∷ fields } in
       row_at L offset x (λ r. Perform (operation r)) all.even even all.fits s fit (listed machine_rows kind x.slots row.some (row.lists.0, row.lists.1, ap (λ a. is_allowed a x.slots) row.lists.2 ∙ allows)) (λ state event t at h. acts_as_meant x meaning operation row.means (single_pair meaning (fields_of x.format x.slots) row.single) does state event t h)
+
+  -- a row of a register and a distance, whose action at its place is an operation
+  pub relative_at : (opcode register half : ℕ) (meaning : Meaning) (operation : Registers → Operation) → OpcodeRow RilB 4096 opcode meaning → register < 16 → half < 2 ^ 32 → ((r : Registers) → action meaning (fields_of RilB (ril_b opcode register half).slots) r (sum64 L.image.base offset) ≡ Perform (operation r)) → StandsAt L.image offset (bytes_of (ril_b opcode register half)) → RowAt L (sum64 L.image.base offset) (λ r. Perform (operation r)) (length_of RilB)
+  relative_at opcode register half meaning operation row few small does s =
+      let x = ril_b opcode register half in
+      row_at L offset x (λ r. Perform (operation r)) all.even even all.fits s (fits_ril_b opcode register half row.few few small) (listed machine_rows RilB x.slots row.some (row.lists.0, row.lists.1, ap (λ a. is_allowed a x.slots) row.lists.2)) (λ state event t at h.
+      acts_there x meaning operation row.means (single_pair meaning (fields_of RilB x.slots) row.single) state event t (ap (λ p. action meaning (fields_of RilB x.slots) state.core.registers p) at ∙ does state.core.registers) h)
 
   -- any row that names an even pair
   pub pair_at : (kind : FormatKind) (allowed : Allowed) (opcode : ℕ) (fields : List ℕ) (meaning : Meaning) (operation : Registers → Operation) → PairRow kind allowed opcode meaning → is_odd_pair meaning (fields_of kind (opcode ∷ fields)) ≡ false → SlotsFit (layout_of kind) (opcode ∷ fields) → is_allowed allowed (opcode ∷ fields) ≡ true → ((r : Registers) (p : ℕ) → action meaning (fields_of kind (opcode ∷ fields)) r p ≡ Perform (operation r)) → StandsAt L.image offset (bytes_of (record { format = kind; slots = opcode ∷ fields })) → RowAt L (sum64 L.image.base offset) (λ r. Perform (operation r)) (length_of kind)

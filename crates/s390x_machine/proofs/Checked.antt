@@ -1,7 +1,6 @@
 -- Steps that emission lets pass are fine.
 use Rattle.std.proofs.Common.{◌≡◌, ℕ, zero, suc, ◌+◌, ◌<◌, ◌≤◌, List, [], ◌∷◌, ◌++◌, length, Option, Some, None, Bool, true, false, ◌&&◌, IsTrue, refl, sym, ap, ◌∙◌, subst, arith, length-append, slice_get, ltb-true}
-use Rattle.s390x_base.specs.declared.ir.ExternalName.{ExternalName}
-use Rattle.std.specs.Prelude.{ℤ, nat_lt, not}
+use Rattle.std.specs.Prelude.{nat_lt, not}
 use Rattle.std.proofs.lemmas.Bool.{and_parts}
 use Rattle.s390x_inst.specs.declared.state.IsaFlags.{IsaFlags}
 use Rattle.s390x_base.specs.declared.ir.MachLabel.{MachLabel}
@@ -9,48 +8,46 @@ use Rattle.s390x_base.specs.declared.error.EmitError.{EmitError}
 use Rattle.s390x_base.specs.declared.error.EmitError.TheVariants.{BadOperator, BadRegister, ScratchConflict, OffsetOutOfRange, UnboundLabel}
 use Rattle.s390x_inst.specs.declared.inst.Inst.{Inst}
 use Rattle.s390x_inst.specs.declared.inst.Inst.TheVariants.{Jump, CondBr, IndirectBr, Ret, CondBreak, Nop0, LabelAddress, LoadSymbolReloc, Trap, TrapIf, Debugtrap, JTSequence}
-use Rattle.s390x_steps.specs.Causes.{first, unless, facility_cause, label_cause, labels_cause, cause_or, loses_scratch, memory_cause_or, instruction_cause, numbers_cause, nesting_cause, draws, tree_cause, blocks_cause, leaf_cause, instruction_draws}
+use Rattle.s390x_steps.specs.Causes.{first, unless, facility_cause, label_cause, labels_cause, cause_or, loses_scratch, addend_fits, place_cause, memory_cause_or, instruction_cause, numbers_cause, nesting_cause, draws, tree_cause, blocks_cause, leaf_cause, instruction_draws}
 use Rattle.s390x_steps.specs.Alone.{Alone, alone}
 use Rattle.s390x_steps.specs.General.{is_general, is_nonzero, is_scratch}
 use Rattle.s390x_steps.specs.Memory.{MemoryInstruction, memory, type_of}
-use Rattle.s390x_steps.specs.Operands.{has_form, is_relative, operand_general, offset_fits}
+use Rattle.s390x_steps.specs.Operands.{has_form, operand_general, offset_fits}
 use Rattle.s390x_steps.specs.Ranges.{MemoryInRange, InRange, AllInRange, BlocksInRange}
+use Rattle.s390x_steps.specs.Rows.{Outside}
 use Rattle.s390x_steps.specs.Tree.{Tree, empty, leaf, looped}
 use Rattle.s390x_steps.specs.Steps.{Step, Opening, Back, step_count, step_of, steps_of, steps_from, function_steps}
 use Rattle.s390x_operations.specs.State.{CodeImage}
 use Rattle.s390x_machine.specs.Functions.{function_layout}
-use Rattle.s390x_machine.specs.Layout.{Layout}
+use Rattle.s390x_machine.specs.Layout.{Layout, declared}
 use Rattle.s390x_machine.specs.Placed.{IsBlock, AreBlocks, FineOr, FineMemoryOr, IsFine}
 use Rattle.s390x_machine.proofs.Functions.{count_of}
-
-first_none : (a b : Option EmitError) → first a b ≡ None → (a ≡ None) × (b ≡ None)
-first_none None b e = (refl, e)
-first_none (Some x) b e = absurd (cc)
-
-unless_none : (h : Bool) (x : EmitError) → unless h x ≡ None → IsTrue h
-unless_none true x e = refl
-unless_none false x e = absurd (cc)
-
-fine_alone : (o : Option Alone) (m : Option MemoryInstruction) → cause_or o (memory_cause_or m (Some BadOperator)) ≡ None → MemoryInRange m → FineOr o (FineMemoryOr m ⊥)
-fine_alone None None e range = absurd (cc)
-fine_alone None (Some x) e range =
-    let form = has_form (type_of x.form x.accesses) x.operand && not (is_relative x.operand) in
-    let registers = x.fine && operand_general x.operand in
-    let scratch = unless (not (loses_scratch x)) ScratchConflict in
-    let offset = unless (offset_fits x.operand) OffsetOutOfRange in
-    let a = first_none (unless form BadOperator) (first (unless registers BadRegister) (first scratch offset)) e in
-    let b = first_none (unless registers BadRegister) (first scratch offset) a.1 in
-    let c = first_none scratch offset b.1 in
-    record {
-      form = unless_none form BadOperator a.0;
-      registers = unless_none registers BadRegister b.0;
-      kept = unless_none (not (loses_scratch x)) ScratchConflict c.0;
-      offset = unless_none (offset_fits x.operand) OffsetOutOfRange c.1;
-      range = range;
-    }
-fine_alone (Some x) m e range = unless_none x.fine BadRegister e
+use Rattle.s390x_machine.proofs.Relative.{first_none, unless_none, label_known}
 
 module _ (L : Layout) where
+  fine_alone : (o : Option Alone) (m : Option MemoryInstruction) → cause_or o (memory_cause_or (declared L) m (Some BadOperator)) ≡ None → MemoryInRange m → FineOr o (FineMemoryOr L m ⊥)
+  fine_alone None None e range = absurd (cc)
+  fine_alone None (Some x) e range =
+      let form = has_form (type_of x.form x.accesses) x.operand in
+      let registers = x.fine && operand_general x.operand in
+      let scratch = unless (not (loses_scratch x)) ScratchConflict in
+      let fits = offset_fits x.operand && addend_fits x.operand in
+      let offset = unless fits OffsetOutOfRange in
+      let place = place_cause (declared L) x in
+      let a = first_none (unless form BadOperator) (first (unless registers BadRegister) (first (first scratch offset) place)) e in
+      let b = first_none (unless registers BadRegister) (first (first scratch offset) place) a.1 in
+      let c = first_none (first scratch offset) place b.1 in
+      let d = first_none scratch offset c.0 in
+      record {
+        form = unless_none form BadOperator a.0;
+        registers = unless_none registers BadRegister b.0;
+        kept = unless_none (not (loses_scratch x)) ScratchConflict d.0;
+        offset = (and_parts (offset_fits x.operand) (addend_fits x.operand) (unless_none fits OffsetOutOfRange d.1)).0;
+        range = range;
+        place = c.1;
+      }
+  fine_alone (Some x) m e range = unless_none x.fine BadRegister e
+
   block_of : (l : MachLabel) → label_cause L.block_count l ≡ None → IsBlock L l.0
   block_of l e = ltb-true l.0 L.block_count (unless_none (nat_lt l.0 L.block_count) UnboundLabel e)
 
@@ -59,7 +56,7 @@ module _ (L : Layout) where
   blocks_of (l ∷ ls) e = let parts = first_none (label_cause L.block_count l) (labels_cause L.block_count ls) e in (block_of l parts.0, blocks_of ls parts.1)
 
   -- an instruction, in so many loops, the innermost of which ends at a step
-  fine_step : (flags : IsaFlags) (depth after : ℕ) (i : Inst) → instruction_cause flags L.block_count depth i ≡ None → InRange i → (0 < depth → after ≤ length L.steps) → IsFine L (step_of after i)
+  fine_step : (flags : IsaFlags) (depth after : ℕ) (i : Inst) → instruction_cause flags (declared L) depth i ≡ None → InRange i → (0 < depth → after ≤ length L.steps) → IsFine L (step_of after i)
   fine_step flags depth after (Jump dest) e range le = block_of dest e
   fine_step flags depth after (CondBr taken not_taken mask) e range le = let parts = first_none (label_cause L.block_count taken) (label_cause L.block_count not_taken) e in (block_of taken parts.0, block_of not_taken parts.1, range.0)
   fine_step flags depth after (IndirectBr rn targets) e range le =
@@ -82,7 +79,7 @@ module _ (L : Layout) where
   fine_step flags depth after (Trap code) e range le = tt
   fine_step flags depth after (TrapIf mask code) e range le = range.0
   fine_step flags depth after Debugtrap e range le = tt
-  fine_step flags depth after i e range le = fine_alone (alone i) (memory i) (first_none (facility_cause flags i) (cause_or (alone i) (memory_cause_or (memory i) (Some BadOperator))) e).1 range.1
+  fine_step flags depth after i e range le = fine_alone (alone i) (memory i) (first_none (facility_cause flags i) (cause_or (alone i) (memory_cause_or (declared L) (memory i) (Some BadOperator))) e).1 range.1
 
   -- each of some steps is fine
   AllFine : List Step → Type 0
@@ -99,36 +96,36 @@ module _ (L : Layout) where
   fine_append (x ∷ xs) ys a b zero s e = a zero s e
   fine_append (x ∷ xs) ys a b (suc j) s e = fine_append xs ys (λ i t h. a (suc i) t h) b j s e
 
-  fine_tree : (flags : IsaFlags) (k after n depth : ℕ) (t : Tree) → tree_cause flags L.block_count n depth t ≡ None → AllInRange t → (0 < depth → after ≤ length L.steps) → k + step_count t ≤ length L.steps → AllFine (steps_of k after t)
+  fine_tree : (flags : IsaFlags) (k after n depth : ℕ) (t : Tree) → tree_cause flags (declared L) n depth t ≡ None → AllInRange t → (0 < depth → after ≤ length L.steps) → k + step_count t ≤ length L.steps → AllFine (steps_of k after t)
   unfolding AllFine
   fine_tree flags k after n depth empty e range le within = λ j s h. absurd (cc)
   fine_tree flags k after n depth (leaf i rest) e range le within =
-      let parts = first_none (leaf_cause flags L.block_count n depth i) (tree_cause flags L.block_count (n + instruction_draws i) depth rest) e in
-      let own = first_none (instruction_cause flags L.block_count depth i) (numbers_cause n (instruction_draws i)) parts.0 in
+      let parts = first_none (leaf_cause flags (declared L) n depth i) (tree_cause flags (declared L) (n + instruction_draws i) depth rest) e in
+      let own = first_none (instruction_cause flags (declared L) depth i) (numbers_cause n (instruction_draws i)) parts.0 in
       fine_cons (step_of after i) (steps_of (k + 1) after rest) (fine_step flags depth after i own.0 range.0 le) (fine_tree flags (k + 1) after (n + instruction_draws i) depth rest parts.1 range.1 le (omega arith))
   fine_tree flags k after n depth (looped mask members rest) e range le within =
-      let a = first_none (first (first (nesting_cause depth) (numbers_cause n 2)) (tree_cause flags L.block_count (n + 2) (depth + 1) members)) (tree_cause flags L.block_count (n + 2 + draws members) depth rest) e in
-      let b = first_none (first (nesting_cause depth) (numbers_cause n 2)) (tree_cause flags L.block_count (n + 2) (depth + 1) members) a.0 in
+      let a = first_none (first (first (nesting_cause depth) (numbers_cause n 2)) (tree_cause flags (declared L) (n + 2) (depth + 1) members)) (tree_cause flags (declared L) (n + 2 + draws members) depth rest) e in
+      let b = first_none (first (nesting_cause depth) (numbers_cause n 2)) (tree_cause flags (declared L) (n + 2) (depth + 1) members) a.0 in
       let end = k + 2 + step_count members in
       let tail : AllFine (Back mask (k + 1) ∷ steps_of end after rest) = fine_cons (Back mask (k + 1)) (steps_of end after rest) (range.0, omega arith) (fine_tree flags end after (n + 2 + draws members) depth rest a.1 range.2 le (omega arith)) in
       fine_cons Opening (steps_of (k + 1) end members ++ (Back mask (k + 1) ∷ steps_of end after rest)) tt
       (fine_append (steps_of (k + 1) end members) (Back mask (k + 1) ∷ steps_of end after rest) (fine_tree flags (k + 1) end (n + 2) (depth + 1) members b.1 range.1 (λ d. omega arith) (omega arith)) tail)
 
-  fine_blocks : (flags : IsaFlags) (k n : ℕ) (ts : List Tree) → blocks_cause flags L.block_count n ts ≡ None → BlocksInRange ts → k + length (steps_from k ts) ≤ length L.steps → AllFine (steps_from k ts)
+  fine_blocks : (flags : IsaFlags) (k n : ℕ) (ts : List Tree) → blocks_cause flags (declared L) n ts ≡ None → BlocksInRange ts → k + length (steps_from k ts) ≤ length L.steps → AllFine (steps_from k ts)
   unfolding AllFine
   fine_blocks flags k n [] e range within = λ j s h. absurd (cc)
   fine_blocks flags k n (t ∷ ts) e range within =
-      let parts = first_none (tree_cause flags L.block_count n 0 t) (blocks_cause flags L.block_count (n + draws t) ts) e in
+      let parts = first_none (tree_cause flags (declared L) n 0 t) (blocks_cause flags (declared L) (n + draws t) ts) e in
       let counted = count_of k 0 t in
       let joined = length-append (steps_of k 0 t) (steps_from (k + step_count t) ts) in
       fine_append (steps_of k 0 t) (steps_from (k + step_count t) ts) (fine_tree flags k 0 n 0 t parts.0 range.0 (λ d. absurd (omega arith)) (omega (arith, counted, joined))) (fine_blocks flags (k + step_count t) (n + draws t) ts parts.1 range.1 (omega (arith, counted, joined)))
 
-  pub fine_function : (flags : IsaFlags) (n : ℕ) (ts : List Tree) → L.steps ≡ function_steps ts → blocks_cause flags L.block_count n ts ≡ None → BlocksInRange ts → (k : ℕ) (s : Step) → slice_get L.steps k ≡ Some s → IsFine L s
+  pub fine_function : (flags : IsaFlags) (n : ℕ) (ts : List Tree) → L.steps ≡ function_steps ts → blocks_cause flags (declared L) n ts ≡ None → BlocksInRange ts → (k : ℕ) (s : Step) → slice_get L.steps k ≡ Some s → IsFine L s
   unfolding AllFine
   fine_function flags n ts same e range k s h =
       let within : 0 + length (steps_from 0 ts) ≤ length L.steps = omega (arith, ap length same) in
       fine_blocks flags 0 n ts e range within k s (ap (λ ss. slice_get ss k) (sym same) ∙ h)
 
 -- the steps of a function that has no cause of refusal
-pub checked_steps : (flags : IsaFlags) (value : ExternalName → ℤ → ℕ) (ts : List Tree) (n : ℕ) (image : CodeImage) → blocks_cause flags (length ts) n ts ≡ None → BlocksInRange ts → (k : ℕ) (s : Step) → slice_get (function_steps ts) k ≡ Some s → IsFine (function_layout value ts image) s
-checked_steps flags value ts n image e range = fine_function (function_layout value ts image) flags n ts refl e range
+pub checked_steps : (flags : IsaFlags) (outside : Outside) (ts : List Tree) (n : ℕ) (image : CodeImage) → blocks_cause flags (record { blocks = length ts; aligns = outside.aligns }) n ts ≡ None → BlocksInRange ts → (k : ℕ) (s : Step) → slice_get (function_steps ts) k ≡ Some s → IsFine (function_layout outside ts image) s
+checked_steps flags outside ts n image e range = fine_function (function_layout outside ts image) flags n ts refl e range

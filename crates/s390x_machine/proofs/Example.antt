@@ -1,5 +1,8 @@
 -- The function of two blocks meets the premises, and its run is one of the machine.
-use Rattle.std.proofs.Common.{false, ◌≡◌, ℕ, ◌%◌, [], ◌∷◌, ◌++◌, None, refl, sym, subst, arith}
+use Rattle.std.proofs.Common.{false, zero, suc, slice_get, Some, ◌≡◌, ℕ, ◌%◌, [], ◌∷◌, ◌++◌, None, refl, sym, subst, arith}
+use Rattle.s390x_base.specs.Registers.{general}
+use Rattle.s390x_base.specs.declared.regs.Reg.TheVariants.{Real}
+use Rattle.s390x_inst.specs.declared.inst.Inst.TheVariants.{CondBr, Ret}
 use Rattle.s390x_inst.specs.declared.state.IsaFlags.{IsaFlags}
 use Rattle.s390x_format.specs.declared.kind.FormatKind.TheVariants.{Rr, Rre, RilC}
 use Rattle.s390x_format.specs.Layout.{number, bits, SlotsFit}
@@ -8,26 +11,29 @@ use Rattle.s390x_format.specs.Reading.{be_bytes}
 use Rattle.s390x_format.specs.Fetch.{machine_rows}
 use Rattle.s390x_format.specs.Encoded.{IsEncoded, decoded_of}
 use Rattle.s390x_steps.specs.Causes.{blocks_cause}
-use Rattle.s390x_steps.specs.Image.{linked_code}
+use Rattle.s390x_steps.specs.Image.{unlinked, place, function_code}
 use Rattle.s390x_steps.specs.MachineInstruction.{MachineInstruction, bytes_of, rr, rre, ril_c}
+use Rattle.s390x_steps.specs.Parts.{step_parts}
 use Rattle.s390x_steps.specs.Ranges.{BlocksInRange}
+use Rattle.s390x_steps.specs.Steps.{Step, Plain, function_steps}
+use Rattle.s390x_machine.specs.Placed.{PartsReach}
 use Rattle.s390x_operations.specs.State.{State, Lies, sum64}
 use Rattle.s390x_machine.specs.Fetch.{Found}
-use Rattle.s390x_machine.specs.Functions.{StandsAsCode}
+use Rattle.s390x_machine.specs.Functions.{function_layout, StandsAsCode}
 use Rattle.s390x_machine.specs.Meanings.{meaning_in, meaning_of}
 use Rattle.s390x_machine.specs.Machine.{Event, Went, FetchedActs, MachineStep}
-use Rattle.s390x_machine.specs.Example.{unlinked, image, trees, core, once, twice, LoopRuns}
+use Rattle.s390x_machine.specs.Example.{image, label, adds, trees, core, once, twice, LoopRuns}
 use Rattle.s390x_machine.proofs.Checked.{checked_steps}
 use Rattle.s390x_machine.proofs.Fetching.{StandsAt, found_at}
 use Rattle.s390x_machine.proofs.Rows.{fits_rr, fits_rre, fits_ril_c, agr_listed, bcr_listed, brcl_listed}
 
 -- the bytes are the function's code, as emission gives it
-code : image.bytes ≡ linked_code unlinked trees ++ []
+code : image.bytes ≡ function_code (unlinked trees []) trees ++ []
 unfolding number bits layout_of length_of be_bytes
 code = refl
 
 -- emission has no cause against it, and its mask is that of a condition
-pub checked : (flags : IsaFlags) → blocks_cause flags 2 2 trees ≡ None
+pub checked : (flags : IsaFlags) → blocks_cause flags (record { blocks = 2; aligns = [] }) 2 trees ≡ None
 checked flags = refl
 
 -- a machine of the base alone
@@ -37,14 +43,23 @@ base = record { has_mie3 = false; has_mie4 = false; has_vxrs_ext2 = false; has_v
 pub ranges : BlocksInRange trees
 ranges = (((tt, tt), ((omega arith, omega arith), tt)), (((tt, tt), tt), tt))
 
-pub stands : StandsAsCode unlinked trees image
+-- no symbol is named
+reaches : (k : ℕ) (s : Step) → slice_get (function_steps trees) k ≡ Some s → PartsReach (function_layout (unlinked trees []) trees image) (place (function_steps trees) k) (step_parts s)
+reaches zero s e = let same : Plain adds ≡ s = cc in subst (λ x. PartsReach (function_layout (unlinked trees []) trees image) (place (function_steps trees) zero) (step_parts x)) same (tt, tt)
+reaches (suc zero) s e = let same : Plain (CondBr (label 0) (label 1) 4) ≡ s = cc in subst (λ x. PartsReach (function_layout (unlinked trees []) trees image) (place (function_steps trees) (suc zero)) (step_parts x)) same (tt, (tt, tt))
+reaches (suc (suc zero)) s e = let same : Plain (Ret (Real (general 14))) ≡ s = cc in subst (λ x. PartsReach (function_layout (unlinked trees []) trees image) (place (function_steps trees) (suc (suc zero))) (step_parts x)) same (tt, tt)
+reaches (suc (suc (suc k))) s e = absurd (cc)
+
+pub stands : StandsAsCode (unlinked trees []) trees image
 stands = record {
   constants = [];
   bytes = code;
   even = refl;
   fits = omega arith;
   short = omega arith;
-  fine = checked_steps base unlinked trees 2 image (checked base) ranges;
+  fine = checked_steps base (unlinked trees []) trees 2 image (checked base) ranges;
+  reached = reaches;
+  stand = λ c lt. absurd (omega arith);
 }
 
 pub lies : Lies image core.memory

@@ -1,7 +1,9 @@
 -- An instruction with an operand in memory runs as its step: its operand stands in its access as it is, or helpers put an offset or an address into
 -- `%r1` first.
-use Rattle.std.proofs.Common.{◌≡◌, ℕ, ◌+◌, ◌%◌, ◌^◌, ◌<◌, ◌≤◌, List, [], ◌∷◌, ◌++◌, Option, Some, None, Bool, true, false, cond, not, ◌&&◌, ◌||◌, ◌==◌, IsTrue, refl, sym, ap, ◌∙◌, subst, arith, slice_get}
-use Rattle.std.specs.Prelude.{ℤ, pos, negsuc, ◌+ℤ◌, ◌≤ℤ◌, unsigned_abs}
+use Rattle.std.proofs.Common.{◌⊎◌, ◌≡◌, ℕ, ◌+◌, ◌%◌, ◌^◌, ◌<◌, ◌≤◌, List, [], ◌∷◌, ◌++◌, Option, Some, None, Bool, true, false, cond, not, ◌&&◌, ◌||◌, ◌==◌, IsTrue, refl, sym, ap, ◌∙◌, subst, arith, slice_get}
+use Rattle.std.specs.Prelude.{ℤ, pos, negsuc, ◌+ℤ◌, ◌*ℤ◌, ◌≤ℤ◌, unsigned_abs}
+use Rattle.std.specs.Int.{cast_signed}
+use mir.Syntax.{w32}
 use Rattle.std.proofs.lemmas.Bool.{and_parts, eqb-true}
 use Rattle.std.proofs.lemmas.Int.{ints}
 use Rattle.std.proofs.lemmas.Option.{slice_get_within}
@@ -9,6 +11,7 @@ use Rattle.s390x_base.specs.Regs.{number_of}
 use Rattle.s390x_base.specs.declared.regs.Reg.{Reg}
 use Rattle.s390x_base.specs.declared.ir.MachMemFlags.{MachMemFlags}
 use Rattle.s390x_base.specs.declared.trap.TrapKind.{TrapKind}
+use Rattle.s390x_inst.specs.Memory.{flags_of}
 use Rattle.s390x_inst.specs.declared.args.MemArg.{MemArg}
 use Rattle.s390x_inst.specs.declared.args.MemArg.TheVariants.{BXD12, BXD20, Label, Constant, Symbol, RegOffset, InitialSPOffset, IncomingArgOffset, OutgoingArgOffset, SlotOffset, SpillOffset}
 use Rattle.s390x_inst.specs.declared.inst.Inst.TheVariants.{Mov64SImm32, LoadAddr}
@@ -18,35 +21,37 @@ use Rattle.s390x_steps.specs.MachineInstruction.{size_of, ril_a}
 use Rattle.s390x_steps.specs.Memory.{MemoryInstruction, StorageForm, RxForm, RsForm, SiForm, SilForm, type_of, storage_row, address_form, fault_code}
 use Rattle.s390x_steps.specs.Ranges.{OperandInRange}
 use Rattle.s390x_steps.specs.Operands.{Finalized, offset_fits, no_register, scratch, is_numbered, fits_12, fits_20, fits_32, addressed, with_widened, widened, finalized, has_form, is_relative, loses_base, operand_general}
-use Rattle.s390x_steps.specs.Causes.{is_helped}
-use Rattle.s390x_steps.specs.Parts.{Row, access_parts, finalized_parts, memory_parts, step_parts}
+use Rattle.s390x_steps.specs.Causes.{is_helped, bound_cause, alignment_cause, boundary}
+use Rattle.s390x_steps.specs.Parts.{Row, operand_parts, finalized_parts, memory_parts, step_parts}
 use Rattle.s390x_steps.specs.Steps.{Step}
 use Rattle.s390x_steps.specs.declared.mem_inst_type.MemInstType.{MemInstType}
-use Rattle.s390x_operations.specs.State.{Registers, Core, put, sum64}
+use Rattle.s390x_operations.specs.State.{Registers, put, sum64}
 use Rattle.s390x_machine.specs.declared.meaning.Action.TheVariants.{Perform}
-use Rattle.s390x_operations.specs.Effects.{Refines}
+use Rattle.s390x_operations.specs.Effects.{Refines, refused, MayRefuse}
+use Rattle.s390x_operations.specs.declared.effect.Effect.{Effect}
+use Rattle.s390x_operations.specs.declared.effect.Effect.TheVariants.{Compute, Compare, Store}
+use Rattle.s390x_operations.specs.declared.stop.StopKind.{StopKind}
 use Rattle.s390x_operations.specs.declared.effect.CodeRule.TheVariants.{Kept}
 use Rattle.s390x_operations.specs.declared.effect.Operation.{Operation}
 use Rattle.s390x_operations.specs.declared.operator.Operator.TheVariants.{Move}
 use Rattle.s390x_machine.specs.Computations.{doubleword, signed_word, on_doublewords, on_immediate}
 use Rattle.s390x_machine.specs.Forms.{Performs, Unbuilt, form_or, performed_at, access_code}
-use Rattle.s390x_machine.specs.Layout.{Layout}
+use Rattle.s390x_machine.specs.Layout.{Layout, declared, block_place, constant_place}
 use Rattle.s390x_machine.specs.Machine.{Turn}
 use Rattle.s390x_machine.specs.Match.{StepRuns}
 use Rattle.s390x_machine.specs.Operands.{indexed, based, address_part}
-use Rattle.s390x_machine.specs.Placed.{Placed, AllPlaced, IsFineMemory}
-use Rattle.s390x_machine.specs.Storage.{address_of, needs_scratch, loads_address}
+use Rattle.s390x_machine.specs.Placed.{Placed, AllPlaced, PartsReach, IsFineMemory}
+use Rattle.s390x_machine.specs.Storage.{address_of, needs_scratch, loads_address, aligned_where, aligned_effect}
 use Rattle.s390x_machine.specs.Typed.{loosened, form_of, form_at}
-use Rattle.s390x_machine.proofs.Addresses.{sum_more}
+use Rattle.s390x_machine.proofs.Addresses.{sum_below}
 use Rattle.s390x_machine.proofs.Alone.{lgfi_row, word_at}
 use Rattle.s390x_machine.proofs.Operands.{short_12, short_20, short_32, word_bits, displacement_bits, based_indexed, put_twice, not_scratch, zero_test, low_below, loaded_address, far_offset}
 use Rattle.s390x_machine.proofs.Rows.{general_number}
 use Rattle.s390x_machine.proofs.Simulation.{Inside, Simulates, ValuesCoded, at_start, general_step}
 use Rattle.s390x_machine.proofs.Standing.{offset_even}
+use Rattle.s390x_machine.proofs.Accessing.{direct, after_address, after_offset, after_both}
+use Rattle.s390x_machine.proofs.Relative.{RelativeForm, RelativeDoes, Distant, first_none, label_known, constant_known, to_label, to_constant, to_symbol, distant_stands}
 use Rattle.s390x_machine.proofs.Storage.{FormDoes, IndexedForm, MayIndex, Stands, stands_12, stands_20, LastRow, step_rows_before, moved, helper_then}
-
-pub itself : (op : Operation) → Refines op op
-itself op = record { access = refl; refused = refl; may_refuse = λ kind h. h; results = λ c r h. h; code = λ c code h. h }
 
 may_none : (form : StorageForm) → MayIndex form 0
 may_none (RxForm register short long relative) = tt
@@ -94,68 +99,20 @@ not_lost : (lost other : Bool) → IsTrue (not (lost || other)) → lost ≡ fal
 not_lost true other e = absurd (cc)
 not_lost false other e = refl
 
-module _ (L : Layout) (all : AllPlaced L) (k : ℕ) (s : Step) (at : slice_get L.steps k ≡ Some s) (placed : Placed L k s) (load : IndexedForm 1 (Some 0x41) (Some 0xe371) (loads_address 1)) (form : StorageForm) (accesses : Bool) (operation : ℕ → Registers → Operation) (does : FormDoes form operation) (code : Option TrapKind) (never : (a : ℕ) (r : Registers) → ValuesCoded (operation a r) (access_code code)) where
+-- an aligned operand brings about no other stop by its values
+aligned_values : (effect : Effect) (kind : StopKind) → (refused (aligned_effect effect) ≡ Some kind) ⊎ MayRefuse (aligned_effect effect) kind → (refused effect ≡ Some kind) ⊎ MayRefuse effect kind
+aligned_values (Compute operator size target first second) kind h = h
+aligned_values (Compare sign size first second) kind h = h
+aligned_values (Store width stored destination) kind h = h
+aligned_values effect kind h = h
+
+aligned_coded : (aligned : Bool) (op : Operation) (code : StopKind → Option TrapKind) → ValuesCoded op code → ValuesCoded (aligned_where aligned op) code
+aligned_coded false op code h = h
+aligned_coded true op code h = λ kind by. h kind (aligned_values op.effect kind by)
+
+module _ (L : Layout) (all : AllPlaced L) (k : ℕ) (s : Step) (at : slice_get L.steps k ≡ Some s) (placed : Placed L k s) (load : IndexedForm 1 (Some 0x41) (Some 0xe371) (loads_address 1)) (larl : RelativeForm 1 (Some 0xc00) (loads_address 1)) (form : StorageForm) (accesses : Bool) (operation : ℕ → Registers → Operation) (does : FormDoes form operation) (relative : RelativeDoes form accesses operation) (code : Option TrapKind) (never : (a : ℕ) (r : Registers) → ValuesCoded (operation a r) (access_code code)) where
   mi : MemInstType
   mi = type_of form accesses
-
-  even : L.places.step k % 2 ≡ 0
-  even = offset_even L all k (omega (arith, slice_get_within L.steps k s at))
-
-  -- the access ends the step
-  last_runs : (needs : Bool) (v : ℕ) (address to : Registers → ℕ) (operand : MemArg) (st : Stands L form operand operation to) (c : Core) (g : List Turn) (p : ℕ) → form_at L k ≡ Some (Performs needs (λ r. operation (address r) r) (access_code code)) → LastRow L k st.m code p → Inside L k c g (loosened needs v c.registers) (sum64 L.image.base p) → Refines (operation (to (loosened needs v c.registers)) (loosened needs v c.registers)) (operation (address c.registers) c.registers) → Simulates L k c g (loosened needs v c.registers) (sum64 L.image.base p)
-  last_runs needs v address to operand st c g p is last i refines =
-      general_step L k c g (sum64 L.image.base p) (λ r. Perform (operation (to r) r)) (size_of st.m) needs v (λ r. operation (address r) r) (access_code code) is i (st.row p last.even last.stands) refines (sum_more L.image.base p (size_of st.m) ∙ ap (sum64 L.image.base) (sym last.next)) last.coded (never (address c.registers) c.registers)
-
-  -- no helper
-  direct : (address : Registers → ℕ) (operand : MemArg) → Stands L form operand operation address → form_at L k ≡ Some (Performs false (λ r. operation (address r) r) (access_code code)) → step_parts s ≡ access_parts (storage_row form operand) code → StepRuns L k
-  direct address operand st is parts c lies =
-      let b = step_rows_before L all k s at placed [] st.m code st.some (parts ∙ ap (λ m. access_parts m code) st.is) in
-      last_runs false 0 address address operand st c [] (L.places.step k) is b (at_start L k c (record { offset = L.places.step k; above = omega arith; below = omega (arith, b.next, st.some); is = refl }) lies) (itself (operation (address c.registers) c.registers))
-
-  -- the address is loaded first
-  after_address : (address : Registers → ℕ) (first operand : MemArg) → Stands L (address_form scratch) first (loads_address 1) address → Stands L form operand operation (λ r. indexed r 1 0 (pos 0)) → ((r : Registers) → address r < 2 ^ 64) → ((a : ℕ) (r : Registers) (v : ℕ) → Refines (operation a (put r 1 v)) (operation a r)) → form_at L k ≡ Some (Performs true (λ r. operation (address r) r) (access_code code)) → step_parts s ≡ (access_parts (storage_row (address_form scratch) first) None ++ []) ++ access_parts (storage_row form operand) code → StepRuns L k
-  after_address address first operand hst st small ignores is parts c lies =
-      let is_rows = parts ∙ ap (λ m. (access_parts m None ++ []) ++ access_parts (storage_row form operand) code) hst.is ∙ ap (λ m. Row hst.m ∷ access_parts m code) st.is in
-      let b = step_rows_before L all k s at placed (hst.m ∷ []) st.m code st.some is_rows in
-      let next = b.1.next in
-      let w = address c.registers % 2 ^ 64 in
-      helper_then L all k c [] c.registers (L.places.step k) hst.m doubleword address refl (at_start L k c (record { offset = L.places.step k; above = omega arith; below = omega (arith, next, hst.some); is = refl }) lies) (omega arith) (omega arith) (omega (arith, next, st.some)) (hst.row (L.places.step k) even b.0) (λ g n i.
-      last_runs true w address (λ r. indexed r 1 0 (pos 0)) operand st c g (L.places.step k + size_of hst.m) is b.1 i
-      (subst (λ a. Refines (operation a (put c.registers 1 w)) (operation (address c.registers) c.registers)) (sym (loaded_address c.registers (address c.registers) (small c.registers))) (ignores (address c.registers) c.registers w)))
-
-  -- the offset is loaded first, and stands as the index
-  after_offset : (reg : Reg) (off : ℤ) (operand : MemArg) → (number_of reg == 1) ≡ false → negsuc 2147483647 ≤ℤ off → off ≤ℤ pos 2147483647 → Stands L form operand operation (λ r. indexed r (number_of reg) 1 (pos 0)) → ((a : ℕ) (r : Registers) (v : ℕ) → Refines (operation a (put r 1 v)) (operation a r)) → form_at L k ≡ Some (Performs true (λ r. operation (based r (number_of reg) off) r) (access_code code)) → step_parts s ≡ Row (ril_a 0xc01 1 (low_word off)) ∷ access_parts (storage_row form operand) code → StepRuns L k
-  unfolding length_of
-  after_offset reg off operand other least most st ignores is parts c lies =
-      let h = ril_a 0xc01 1 (low_word off) in
-      let b = step_rows_before L all k s at placed (h ∷ []) st.m code st.some (parts ∙ ap (λ m. Row h ∷ access_parts m code) st.is) in
-      let next = b.1.next in
-      let w = moved L all k signed_word (low_word off) in
-      let same : indexed (put c.registers 1 w) (number_of reg) 1 (pos 0) ≡ based c.registers (number_of reg) off = far_offset c.registers (number_of reg) off other least most in
-      helper_then L all k c [] c.registers (L.places.step k) h signed_word (λ r. low_word off) refl (at_start L k c (record { offset = L.places.step k; above = omega arith; below = omega (arith, next); is = refl }) lies) (omega arith) (omega arith) (omega (arith, next, st.some)) (word_at L all (L.places.step k) even 0xc01 (on_immediate (on_doublewords Move) signed_word) Kept lgfi_row 1 (low_word off) (omega arith) (word_bits off) b.0) (λ g n i.
-      last_runs true w (λ r. based r (number_of reg) off) (λ r. indexed r (number_of reg) 1 (pos 0)) operand st c g (L.places.step k + size_of h) is b.1 i
-      (subst (λ a. Refines (operation a (put c.registers 1 w)) (operation (based c.registers (number_of reg) off) c.registers)) (sym same) (ignores (based c.registers (number_of reg) off) c.registers w)))
-
-  -- the offset is loaded, and then the address
-  after_both : (reg : Reg) (off : ℤ) (first operand : MemArg) → (number_of reg == 1) ≡ false → negsuc 2147483647 ≤ℤ off → off ≤ℤ pos 2147483647 → Stands L (address_form scratch) first (loads_address 1) (λ r. indexed r (number_of reg) 1 (pos 0)) → Stands L form operand operation (λ r. indexed r 1 0 (pos 0)) → ((a : ℕ) (r : Registers) (v : ℕ) → Refines (operation a (put r 1 v)) (operation a r)) → form_at L k ≡ Some (Performs true (λ r. operation (based r (number_of reg) off) r) (access_code code)) → step_parts s ≡ (Row (ril_a 0xc01 1 (low_word off)) ∷ (access_parts (storage_row (address_form scratch) first) None ++ [])) ++ access_parts (storage_row form operand) code → StepRuns L k
-  unfolding length_of
-  after_both reg off first operand other least most hst st ignores is parts c lies =
-      let h = ril_a 0xc01 1 (low_word off) in
-      let is_rows = parts ∙ ap (λ m. (Row h ∷ (access_parts m None ++ [])) ++ access_parts (storage_row form operand) code) hst.is ∙ ap (λ m. Row h ∷ Row hst.m ∷ access_parts m code) st.is in
-      let b = step_rows_before L all k s at placed (h ∷ hst.m ∷ []) st.m code st.some is_rows in
-      let next = b.1.1.next in
-      let v = moved L all k signed_word (low_word off) in
-      let r1 = put c.registers 1 v in
-      let a = based c.registers (number_of reg) off in
-      let same : indexed r1 (number_of reg) 1 (pos 0) ≡ a = far_offset c.registers (number_of reg) off other least most in
-      let w = indexed r1 (number_of reg) 1 (pos 0) % 2 ^ 64 in
-      let small : a < 2 ^ 64 = low_below (pos (address_part c.registers (number_of reg)) +ℤ off) in
-      let there : indexed (put c.registers 1 w) 1 0 (pos 0) ≡ a = ap (λ x. indexed (put c.registers 1 (x % 2 ^ 64)) 1 0 (pos 0)) same ∙ loaded_address c.registers a small in
-      helper_then L all k c [] c.registers (L.places.step k) h signed_word (λ r. low_word off) refl (at_start L k c (record { offset = L.places.step k; above = omega arith; below = omega (arith, next); is = refl }) lies) (omega arith) (omega arith) (omega (arith, next, st.some)) (word_at L all (L.places.step k) even 0xc01 (on_immediate (on_doublewords Move) signed_word) Kept lgfi_row 1 (low_word off) (omega arith) (word_bits off) b.0) (λ g n i.
-      helper_then L all k c g r1 (L.places.step k + size_of h) hst.m doubleword (λ r. indexed r (number_of reg) 1 (pos 0)) refl i (omega (arith, n)) (omega arith) (omega (arith, next, st.some)) (hst.row (L.places.step k + size_of h) (omega (arith, even)) b.1.0) (λ g2 n2.
-      subst (λ r. Inside L k c g2 r (sum64 L.image.base (L.places.step k + size_of h + size_of hst.m)) → Simulates L k c g2 r (sum64 L.image.base (L.places.step k + size_of h + size_of hst.m))) (sym (put_twice c.registers v w)) (λ i2.
-      last_runs true w (λ r. based r (number_of reg) off) (λ r. indexed r 1 0 (pos 0)) operand st c g2 (L.places.step k + size_of h + size_of hst.m) is b.1.1 i2
-      (subst (λ x. Refines (operation x (put c.registers 1 w)) (operation a c.registers)) (sym there) (ignores a c.registers w)))))
 
   -- ---- the operand that stands in the access
 
@@ -199,10 +156,10 @@ module _ (L : Layout) (all : AllPlaced L) (k : ℕ) (s : Step) (at : slice_get L
     indexed_12 base index d flags general le false e ready =
         let g = and_parts (is_general base) (is_general index) general in
         let may = may_index form accesses (is_numbered 0 index) (number_of index) e (λ z. eqb-true (number_of index) 0 (sym (zero_test index g.1) ∙ z)) in
-        direct (λ r. indexed r (number_of base) (number_of index) (pos d)) (widened (type_of form accesses) (BXD12 base index d flags)) (short_stands base index d flags have (general_number base g.0) (general_number index g.1) may le) ready.0 ready.1
+        direct L all k s at placed form operation code never (λ r. indexed r (number_of base) (number_of index) (pos d)) (widened (type_of form accesses) (BXD12 base index d flags)) (short_stands base index d flags have (general_number base g.0) (general_number index g.1) may le) ready.0 ready.1
     indexed_12 base index d flags general le true e ready =
         let g = and_parts (is_general base) (is_general index) general in
-        after_address (λ r. indexed r (number_of base) (number_of index) (pos d)) (BXD12 base index d flags) (widened (type_of form accesses) (BXD12 scratch no_register 0 flags)) (loads_12 base index d flags (general_number base g.0) (general_number index g.1) le) (loaded_stands flags have) (λ r. low_below (pos (address_part r (number_of base) + address_part r (number_of index)) +ℤ pos d)) (ignores (not_read lost reads ready.2)) ready.0 ready.1
+        after_address L all k s at placed form operation code never (λ r. indexed r (number_of base) (number_of index) (pos d)) (BXD12 base index d flags) (widened (type_of form accesses) (BXD12 scratch no_register 0 flags)) (loads_12 base index d flags (general_number base g.0) (general_number index g.1) le) (loaded_stands flags have) (λ r. low_below (pos (address_part r (number_of base) + address_part r (number_of index)) +ℤ pos d)) (ignores (not_read lost reads ready.2)) ready.0 ready.1
 
     indexed_20 : (base index : Reg) (z : ℤ) (flags : MachMemFlags) → IsTrue (is_general base && is_general index) → negsuc 524287 ≤ℤ z → z ≤ℤ pos 524287 → (t : Bool) → (not (type_of form accesses).have_d20 || (not (type_of form accesses).have_index && not (is_numbered 0 index))) ≡ t → Ready t (λ r. indexed r (number_of base) (number_of index) z) (cond t (record { helpers = LoadAddr scratch (BXD20 base index z flags) ∷ []; operand = BXD12 scratch no_register 0 flags }) (record { helpers = []; operand = BXD20 base index z flags })) → StepRuns L k
     unfolding Ready mi
@@ -210,34 +167,47 @@ module _ (L : Layout) (all : AllPlaced L) (k : ℕ) (s : Step) (at : slice_get L
         let g = and_parts (is_general base) (is_general index) general in
         let parts = neither (not (type_of form accesses).have_d20) (not (type_of form accesses).have_index && not (is_numbered 0 index)) e in
         let may = may_index form accesses (is_numbered 0 index) (number_of index) parts.1 (λ y. eqb-true (number_of index) 0 (sym (zero_test index g.1) ∙ y)) in
-        direct (λ r. indexed r (number_of base) (number_of index) z) (BXD20 base index z flags) (stands_20 L all operation form does accesses (not_not (type_of form accesses).have_d20 parts.0) base index z flags (general_number base g.0) (general_number index g.1) may least most (displacement_bits z)) ready.0 ready.1
+        direct L all k s at placed form operation code never (λ r. indexed r (number_of base) (number_of index) z) (BXD20 base index z flags) (stands_20 L all operation form does accesses (not_not (type_of form accesses).have_d20 parts.0) base index z flags (general_number base g.0) (general_number index g.1) may least most (displacement_bits z)) ready.0 ready.1
     indexed_20 base index z flags general least most true e ready =
         let g = and_parts (is_general base) (is_general index) general in
-        after_address (λ r. indexed r (number_of base) (number_of index) z) (BXD20 base index z flags) (widened (type_of form accesses) (BXD12 scratch no_register 0 flags)) (loads_20 base index z flags (general_number base g.0) (general_number index g.1) least most) (loaded_stands flags have) (λ r. low_below (pos (address_part r (number_of base) + address_part r (number_of index)) +ℤ z)) (ignores (not_read lost reads ready.2)) ready.0 ready.1
+        after_address L all k s at placed form operation code never (λ r. indexed r (number_of base) (number_of index) z) (BXD20 base index z flags) (widened (type_of form accesses) (BXD12 scratch no_register 0 flags)) (loads_20 base index z flags (general_number base g.0) (general_number index g.1) least most) (loaded_stands flags have) (λ r. low_below (pos (address_part r (number_of base) + address_part r (number_of index)) +ℤ z)) (ignores (not_read lost reads ready.2)) ready.0 ready.1
 
     -- an offset past all displacements
     far : (reg : Reg) (off : ℤ) (flags : MachMemFlags) → IsTrue (is_general reg) → (number_of reg == 1) ≡ false → negsuc 2147483647 ≤ℤ off → off ≤ℤ pos 2147483647 → (t : Bool) → (not (type_of form accesses).have_index && true) ≡ t → Ready true (λ r. based r (number_of reg) off) (cond t (record { helpers = Mov64SImm32 scratch off ∷ LoadAddr scratch (BXD12 reg scratch 0 flags) ∷ []; operand = BXD12 scratch no_register 0 flags }) (record { helpers = Mov64SImm32 scratch off ∷ []; operand = BXD12 reg scratch 0 flags })) → StepRuns L k
     unfolding Ready mi
     far reg off flags general other least most false e ready =
-        after_offset reg off (widened (type_of form accesses) (BXD12 reg scratch 0 flags)) other least most (short_stands reg scratch 0 flags have (general_number reg general) (omega arith) (may_index form accesses false 1 e (λ z. absurd (cc))) (omega arith)) (ignores (not_read lost reads ready.2)) ready.0 ready.1
+        after_offset L all k s at placed form operation code never reg off (widened (type_of form accesses) (BXD12 reg scratch 0 flags)) other least most (short_stands reg scratch 0 flags have (general_number reg general) (omega arith) (may_index form accesses false 1 e (λ z. absurd (cc))) (omega arith)) (ignores (not_read lost reads ready.2)) ready.0 ready.1
     far reg off flags general other least most true e ready =
-        after_both reg off (BXD12 reg scratch 0 flags) (widened (type_of form accesses) (BXD12 scratch no_register 0 flags)) other least most (loads_12 reg scratch 0 flags (general_number reg general) (omega arith) (omega arith)) (loaded_stands flags have) (ignores (not_read lost reads ready.2)) ready.0 ready.1
+        after_both L all k s at placed form operation code never reg off (BXD12 reg scratch 0 flags) (widened (type_of form accesses) (BXD12 scratch no_register 0 flags)) other least most (loads_12 reg scratch 0 flags (general_number reg general) (omega arith) (omega arith)) (loaded_stands flags have) (ignores (not_read lost reads ready.2)) ready.0 ready.1
 
-  operand_runs : (mem : MemArg) (reads : Bool) → (reads ≡ false → (a : ℕ) (r : Registers) (v : ℕ) → Refines (operation a (put r 1 v)) (operation a r)) → IsTrue (has_form (type_of form accesses) mem && not (is_relative mem)) → IsTrue (operand_general mem) → IsTrue (not (loses_base mem || (reads && is_helped (finalized (type_of form accesses) mem).helpers))) → IsTrue (offset_fits mem) → OperandInRange mem →
-      ((address : Registers → ℕ) → address_of mem ≡ Some address → form_at L k ≡ Some (Performs (needs_scratch (type_of form accesses) mem) (λ r. operation (address r) r) (access_code code))) → step_parts s ≡ finalized_parts form code (finalized (type_of form accesses) mem) → StepRuns L k
+  -- an operand relative to the instruction
+  distant_runs : (mem : MemArg) (address : ℕ) → Distant L mem address → (reads : Bool) → (reads ≡ false → (a : ℕ) (r : Registers) (v : ℕ) → Refines (operation a (put r 1 v)) (operation a r)) → (flags : MachMemFlags) (t : Bool) → (t ≡ false → (type_of form accesses).have_pcrel ≡ true) →
+      (t ≡ true → step_parts s ≡ (operand_parts (address_form scratch) None mem ++ []) ++ operand_parts form code (widened (type_of form accesses) (BXD12 scratch no_register 0 flags)) → address < 2 ^ 64) → ((type_of form accesses).have_d12 || (type_of form accesses).have_d20 || (true && not t)) ≡ true → IsTrue (not (false || (reads && is_helped (with_widened (type_of form accesses) (cond t (record { helpers = LoadAddr scratch mem ∷ []; operand = BXD12 scratch no_register 0 flags }) (record { helpers = []; operand = mem }))).helpers))) →
+      form_at L k ≡ Some (Performs t (λ r. aligned_where (accesses && not t) (operation address r)) (access_code code)) → step_parts s ≡ finalized_parts form code (with_widened (type_of form accesses) (cond t (record { helpers = LoadAddr scratch mem ∷ []; operand = BXD12 scratch no_register 0 flags }) (record { helpers = []; operand = mem }))) → StepRuns L k
+  unfolding mi
+  distant_runs mem address d reads ignores flags false pcrel small has kept is parts =
+      let aligned : ℕ → Registers → Operation = λ a r. aligned_where accesses (operation a r) in
+      direct L all k s at placed form aligned code (λ a r. aligned_coded accesses (operation a r) (access_code code) (never a r)) (λ r. address) mem (distant_stands L all form accesses operation relative (pcrel refl) mem address d)
+      (is ∙ ap (λ b. Some (Performs false (λ r. aligned_where b (operation address r)) (access_code code))) (and_true accesses)) (parts ∙ ap (λ m. operand_parts form code m) (d.widens (type_of form accesses)))
+  distant_runs mem address d reads ignores flags true pcrel small has kept is parts =
+      after_address L all k s at placed form operation code never (λ r. address) mem (widened (type_of form accesses) (BXD12 scratch no_register 0 flags)) (distant_stands L all (address_form scratch) false (loads_address 1) larl refl mem address d) (loaded_stands flags (sym (or_false ((type_of form accesses).have_d12 || (type_of form accesses).have_d20)) ∙ has)) (λ r. small refl parts) (ignores (not_read false reads kept))
+      (is ∙ ap (λ b. Some (Performs true (λ r. aligned_where b (operation address r)) (access_code code))) (and_false accesses)) parts
+
+  operand_runs : (mem : MemArg) (reads : Bool) → (reads ≡ false → (a : ℕ) (r : Registers) (v : ℕ) → Refines (operation a (put r 1 v)) (operation a r)) → IsTrue (has_form (type_of form accesses) mem) → IsTrue (operand_general mem) → IsTrue (not (loses_base mem || (reads && is_helped (finalized (type_of form accesses) mem).helpers))) → IsTrue (offset_fits mem) → OperandInRange mem → bound_cause (declared L) mem ≡ None →
+      ((address : Registers → ℕ) → address_of L mem ≡ Some address → form_at L k ≡ Some (Performs (needs_scratch (type_of form accesses) mem) (λ r. aligned_where (is_relative mem && (accesses && not (needs_scratch (type_of form accesses) mem))) (operation (address r) r)) (access_code code))) → step_parts s ≡ finalized_parts form code (finalized (type_of form accesses) mem) → StepRuns L k
   unfolding Ready
-  operand_runs (BXD12 base index d flags) reads ignores has general kept fits range is parts =
-      let have = sym (or_false ((type_of form accesses).have_d12 || (type_of form accesses).have_d20)) ∙ (and_parts ((type_of form accesses).have_d12 || (type_of form accesses).have_d20 || false) true has).0 in
+  operand_runs (BXD12 base index d flags) reads ignores has general kept fits range bound is parts =
+      let have = sym (or_false ((type_of form accesses).have_d12 || (type_of form accesses).have_d20)) ∙ has in
       let zero = zero_test index (and_parts (is_general base) (is_general index) general).1 in
       indexed_12 false reads ignores have base index d flags general range (not (type_of form accesses).have_index && not (is_numbered 0 index)) refl
       (is (λ r. indexed r (number_of base) (number_of index) (pos d)) refl ∙ ap (λ b. Some (Performs (not (type_of form accesses).have_index && not b) (λ r. operation (indexed r (number_of base) (number_of index) (pos d)) r) (access_code code))) (sym zero), parts, kept)
-  operand_runs (BXD20 base index z flags) reads ignores has general kept fits range is parts =
-      let have = sym (or_false ((type_of form accesses).have_d12 || (type_of form accesses).have_d20)) ∙ (and_parts ((type_of form accesses).have_d12 || (type_of form accesses).have_d20 || false) true has).0 in
+  operand_runs (BXD20 base index z flags) reads ignores has general kept fits range bound is parts =
+      let have = sym (or_false ((type_of form accesses).have_d12 || (type_of form accesses).have_d20)) ∙ has in
       let zero = zero_test index (and_parts (is_general base) (is_general index) general).1 in
       indexed_20 false reads ignores have base index z flags general range.0 range.1 (not (type_of form accesses).have_d20 || (not (type_of form accesses).have_index && not (is_numbered 0 index))) refl
       (is (λ r. indexed r (number_of base) (number_of index) z) refl ∙ ap (λ b. Some (Performs (not (type_of form accesses).have_d20 || (not (type_of form accesses).have_index && not b)) (λ r. operation (indexed r (number_of base) (number_of index) z) r) (access_code code))) (sym zero), parts, kept)
-  operand_runs (RegOffset reg off flags) reads ignores has general kept fits range is parts =
-      let have = sym (or_false ((type_of form accesses).have_d12 || (type_of form accesses).have_d20)) ∙ (and_parts ((type_of form accesses).have_d12 || (type_of form accesses).have_d20 || false) true has).0 in
+  operand_runs (RegOffset reg off flags) reads ignores has general kept fits range bound is parts =
+      let have = sym (or_false ((type_of form accesses).have_d12 || (type_of form accesses).have_d20)) ∙ has in
       go have (fits_12 off) refl (fits_20 off) refl (fits_32 off) refl (is (λ r. based r (number_of reg) off) refl) parts kept fits
     where
       near : Bool → Bool → Bool → Finalized
@@ -266,19 +236,26 @@ module _ (L : Layout) (all : AllPlaced L) (k : ℕ) (s : Step) (at : slice_get L
           let lost = not_lost (is_numbered 1 reg && true) (reads && is_helped (addressed (type_of form accesses) (near false false true)).helpers) kept2 in
           far (is_numbered 1 reg && true) reads ignores have reg off flags general (not_scratch reg general (sym (and_true (is_numbered 1 reg)) ∙ lost)) z.0 z.1 (not (type_of form accesses).have_index && true) refl (is2, parts2, kept2)
       go have false e12 false e20 false e32 is2 parts2 kept2 fits2 = absurd (cc)
-  operand_runs (Label target) reads ignores has general kept fits range is parts = let no = (and_parts (has_form (type_of form accesses) (Label target)) false has).1 in absurd (cc)
-  operand_runs (Constant constant) reads ignores has general kept fits range is parts = let no = (and_parts (has_form (type_of form accesses) (Constant constant)) false has).1 in absurd (cc)
-  operand_runs (Symbol name offset flags) reads ignores has general kept fits range is parts = let no = (and_parts (has_form (type_of form accesses) (Symbol name offset flags)) false has).1 in absurd (cc)
-  operand_runs (InitialSPOffset off) reads ignores has general kept fits range is parts = absurd range
-  operand_runs (IncomingArgOffset off) reads ignores has general kept fits range is parts = absurd range
-  operand_runs (OutgoingArgOffset off) reads ignores has general kept fits range is parts = absurd range
-  operand_runs (SlotOffset off) reads ignores has general kept fits range is parts = absurd range
-  operand_runs (SpillOffset off) reads ignores has general kept fits range is parts = absurd range
+  operand_runs (Label target) reads ignores has general kept fits range bound is parts =
+      distant_runs (Label target) (block_place L target.0) (to_label L all target (label_known L target bound)) reads ignores (flags_of (Label target)) (not (type_of form accesses).have_pcrel) (λ e. not_not (type_of form accesses).have_pcrel e) (λ e parts2. sum_below L.image.base (L.places.block target.0)) has kept (is (λ r. block_place L target.0) refl) parts
+  operand_runs (Constant c) reads ignores has general kept fits range bound is parts =
+      distant_runs (Constant c) (constant_place L c.0) (to_constant L all c (constant_known L c bound)) reads ignores (flags_of (Constant c)) (not (type_of form accesses).have_pcrel) (λ e. not_not (type_of form accesses).have_pcrel e) (λ e parts2. sum_below L.image.base (L.places.outside.constant c.0)) has kept (is (λ r. constant_place L c.0) refl) parts
+  operand_runs (Symbol name offset flags) reads ignores has general kept fits range bound is parts =
+      distant_runs (Symbol name offset flags) (L.places.outside.symbol_value name offset) (to_symbol L name offset flags) reads ignores flags (not (type_of form accesses).have_pcrel || (not flags.aligned && not (type_of form accesses).have_unaligned_pcrel)) (λ e.
+      not_not (type_of form accesses).have_pcrel (neither (not (type_of form accesses).have_pcrel) (not flags.aligned && not (type_of form accesses).have_unaligned_pcrel) e).0) (λ e parts2.
+      let r = subst (λ ps. PartsReach L (L.places.step k) ps) parts2 placed.reached in
+      let half = L.places.outside.symbol_distance (L.places.step k) name offset in
+      subst (λ n. n < 2 ^ 64) r.0.1 (low_below (pos (sum64 L.image.base (L.places.step k)) +ℤ pos 2 *ℤ cast_signed w32 half))) has kept (is (λ r. L.places.outside.symbol_value name offset) refl) parts
+  operand_runs (InitialSPOffset off) reads ignores has general kept fits range bound is parts = absurd range
+  operand_runs (IncomingArgOffset off) reads ignores has general kept fits range bound is parts = absurd range
+  operand_runs (OutgoingArgOffset off) reads ignores has general kept fits range bound is parts = absurd range
+  operand_runs (SlotOffset off) reads ignores has general kept fits range bound is parts = absurd range
+  operand_runs (SpillOffset off) reads ignores has general kept fits range bound is parts = absurd range
 
 -- an instruction with an operand in memory runs as its step, where emission's rows have the forms that the step knows
-pub memory_runs : (L : Layout) (all : AllPlaced L) (k : ℕ) (s : Step) (at : slice_get L.steps k ≡ Some s) (placed : Placed L k s) (load : IndexedForm 1 (Some 0x41) (Some 0xe371) (loads_address 1)) (x : MemoryInstruction) (forms : MemInstType) (operation : ℕ → Registers → Operation) → FormDoes x.form operation → ((a : ℕ) (r : Registers) → ValuesCoded (operation a r) (access_code (fault_code x))) → (x.reads_scratch ≡ false → (a : ℕ) (r : Registers) (v : ℕ) → Refines (operation a (put r 1 v)) (operation a r)) →
-    forms ≡ type_of x.form x.accesses → form_of L (Some s) ≡ Some (form_or (performed_at (record { operand = x.operand; forms = forms; accesses = x.accesses; operation = operation }) (address_of x.operand)) Unbuilt) → step_parts s ≡ memory_parts x → IsFineMemory x → StepRuns L k
-memory_runs L all k s at placed load x forms operation does never ignores same formed parts fine =
-    operand_runs L all k s at placed load x.form x.accesses operation does (fault_code x) never x.operand x.reads_scratch ignores fine.form (and_parts x.fine (operand_general x.operand) fine.registers).1 fine.kept fine.offset fine.range (λ address e.
+pub memory_runs : (L : Layout) (all : AllPlaced L) (k : ℕ) (s : Step) (at : slice_get L.steps k ≡ Some s) (placed : Placed L k s) (load : IndexedForm 1 (Some 0x41) (Some 0xe371) (loads_address 1)) (larl : RelativeForm 1 (Some 0xc00) (loads_address 1)) (x : MemoryInstruction) (forms : MemInstType) (operation : ℕ → Registers → Operation) → FormDoes x.form operation → RelativeDoes x.form x.accesses operation → ((a : ℕ) (r : Registers) → ValuesCoded (operation a r) (access_code (fault_code x))) → (x.reads_scratch ≡ false → (a : ℕ) (r : Registers) (v : ℕ) → Refines (operation a (put r 1 v)) (operation a r)) →
+    forms ≡ type_of x.form x.accesses → form_of L (Some s) ≡ Some (form_or (performed_at (record { operand = x.operand; forms = forms; accesses = x.accesses; operation = operation }) (address_of L x.operand)) Unbuilt) → step_parts s ≡ memory_parts x → IsFineMemory L x → StepRuns L k
+memory_runs L all k s at placed load larl x forms operation does relative never ignores same formed parts fine =
+    operand_runs L all k s at placed load larl x.form x.accesses operation does relative (fault_code x) never x.operand x.reads_scratch ignores fine.form (and_parts x.fine (operand_general x.operand) fine.registers).1 fine.kept fine.offset fine.range (first_none (bound_cause (declared L) x.operand) (alignment_cause (declared L) (boundary x) x.operand) fine.place).0 (λ address e.
     ap (form_of L) at ∙ formed ∙ ap (λ a. Some (form_or (performed_at (record { operand = x.operand; forms = forms; accesses = x.accesses; operation = operation }) a) Unbuilt)) e
-    ∙ ap (λ mi. Some (Performs (needs_scratch mi x.operand) (λ r. operation (address r) r) (access_code (fault_code x)))) same) parts
+    ∙ ap (λ mi. Some (Performs (needs_scratch mi x.operand) (λ r. aligned_where (is_relative x.operand && (x.accesses && not (needs_scratch mi x.operand))) (operation (address r) r)) (access_code (fault_code x)))) same) parts

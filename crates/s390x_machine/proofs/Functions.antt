@@ -1,12 +1,10 @@
 -- The layout of a function whose code stands at the beginning of an image.
 use Rattle.std.proofs.Common.{◌≡◌, ℕ, zero, suc, ◌+◌, ◌≤◌, List, [], ◌∷◌, ◌++◌, length, Some, refl, sym, ap, ◌∙◌, arith, append_assoc, length-append, slice_get}
-use Rattle.std.specs.Prelude.{ℤ}
-use Rattle.s390x_base.specs.declared.ir.ExternalName.{ExternalName}
 use Rattle.s390x_steps.specs.Tree.{Tree, empty, leaf, looped}
 use Rattle.s390x_steps.specs.Steps.{Step, Back, step_count, steps_of, steps_from, function_steps, first_step}
 use Rattle.s390x_steps.specs.Parts.{step_size}
-use Rattle.s390x_steps.specs.Rows.{Places, step_bytes}
-use Rattle.s390x_steps.specs.Image.{place, linked_places, code}
+use Rattle.s390x_steps.specs.Rows.{Outside, Places, step_bytes}
+use Rattle.s390x_steps.specs.Image.{place, places, code}
 use Rattle.s390x_steps.proofs.Traps.{step_codes}
 use Rattle.s390x_operations.specs.State.{CodeImage}
 use Rattle.s390x_machine.specs.Placed.{AllPlaced}
@@ -62,26 +60,28 @@ first_within k (t ∷ ts) zero = omega arith
 first_within k (t ∷ ts) (suc b) =
     omega (arith, length-append (steps_of k 0 t) (steps_from (k + step_count t) ts), count_of k 0 t, first_within (k + step_count t) ts b)
 
-pub function_placed : (value : ExternalName → ℤ → ℕ) (ts : List Tree) (image : CodeImage) → StandsAsCode value ts image → AllPlaced (function_layout value ts image)
-function_placed value ts image h = record {
+pub function_placed : (outside : Outside) (ts : List Tree) (image : CodeImage) → StandsAsCode outside ts image → AllPlaced (function_layout outside ts image)
+function_placed outside ts image h = record {
   even = h.even;
   fits = h.fits;
   short = h.short;
   begins = place_first (function_steps ts);
   steps = λ k s e.
-      let c = cut (linked_places value ts) 0 (function_steps ts) k s e in
+      let c = cut (places outside ts) 0 (function_steps ts) k s e in
       let z : 0 + k ≡ k = omega arith in
       record {
         earlier = c.earlier;
         later = c.later ++ h.constants;
         offset = sym c.offset;
-        bytes = h.bytes ∙ ap (λ l. l ++ h.constants) (c.bytes ∙ ap (λ n. c.earlier ++ (step_bytes (linked_places value ts) ((linked_places value ts).step n) s ++ c.later)) z)
-            ∙ append_assoc c.earlier (step_bytes (linked_places value ts) ((linked_places value ts).step k) s ++ c.later) h.constants
-            ∙ ap (λ l. c.earlier ++ l) (append_assoc (step_bytes (linked_places value ts) ((linked_places value ts).step k) s) c.later h.constants);
+        bytes = h.bytes ∙ ap (λ l. l ++ h.constants) (c.bytes ∙ ap (λ n. c.earlier ++ (step_bytes (places outside ts) ((places outside ts).step n) s ++ c.later)) z)
+            ∙ append_assoc c.earlier (step_bytes (places outside ts) ((places outside ts).step k) s ++ c.later) h.constants
+            ∙ ap (λ l. c.earlier ++ l) (append_assoc (step_bytes (places outside ts) ((places outside ts).step k) s) c.later h.constants);
         size = place_next (function_steps ts) k s e;
         traps = step_codes ts k s e;
         fine = h.fine k s e;
+        reached = h.reached k s e;
       };
   first_steps = λ b is. first_within 0 ts b;
   blocks = λ b is. refl;
+  constants = h.stand;
 }

@@ -70,7 +70,7 @@ use Rattle.s390x_machine.specs.Layout.{Layout, place, block_place, InStep}
 use Rattle.s390x_machine.specs.Placed.{Placed, AllPlaced, IsBlock, AreBlocks, FineOr, IsFineInstruction, IsFine}
 use Rattle.s390x_machine.proofs.Fetching.{StandsAt}
 use Rattle.s390x_machine.proofs.Simulation.{RowAt, DoesAs, Coded, ValuesCoded, at_start, general_step}
-use Rattle.s390x_machine.proofs.Standing.{PartsStand, step_stands, offset_even, offset_small, inside_at, inside_first, next_place, block_at}
+use Rattle.s390x_machine.proofs.Standing.{PartsStand, step_stands, offset_even, offset_small, block_even, block_small, inside_at, inside_first, next_place, block_at}
 use Rattle.s390x_machine.proofs.Stops.{never_by_values, division_coded, logical_division_coded, comparison_coded}
 use Rattle.s390x_machine.proofs.Addresses.{sum_more}
 use Rattle.s390x_machine.proofs.Operands.{halfword_bits, word_bits, displacement_bits}
@@ -83,6 +83,7 @@ use Rattle.s390x_machine.proofs.Bits.{immediate_at, part_rows, half_rows, load_p
 use Rattle.s390x_machine.proofs.Alone.{TwoRow, ThreeRow, TwoRows, ThreeRows, second_register, computed, register_fields, alu_three_rows, alu_two_rows, cmp_rows, unary_rows, lgr_row, lr_row, two_at, three_at, OpcodeRows, compared, halfword_rows, three_halfword_rows, signed_word_rows, unsigned_word_rows, cmp_halfword_rows, cmp_signed_word_rows, cmp_unsigned_word_rows, iilf_row, lhi_row, lghi_row, lgfi_row, halfword_at, word_at, three_halfword_at, compare_halfword_at, compare_word_at, loosens, three_looser, two_looser, none_but_zero, PairRow, pair_at, Meant, meant_at, row_tells, ri_a_at, ril_a_at, low_small}
 use Rattle.s390x_steps.specs.Storage.{alu_rx, alu_rxy, cmp_rx, cmp_rxy, cmp_ril, atomic_rsy}
 use Rattle.s390x_machine.specs.Storage.{byte, signed_byte, reversed_bytes, indexed_forms, based_forms, alu_forms, cmp_forms}
+use Rattle.s390x_machine.proofs.RelativeRows.{relative_load_32, relative_load_32_zero_16, relative_load_32_signed_16, relative_load_64, relative_load_64_zero_16, relative_load_64_signed_16, relative_load_64_zero_32, relative_load_64_signed_32, relative_store_16, relative_store_32, relative_store_64, cmp_relative_rows}
 use Rattle.s390x_machine.proofs.StorageRows.{load_32, load_32_zero_8, load_32_signed_8, load_32_zero_16, load_32_signed_16, load_64, load_64_zero_8, load_64_signed_8, load_64_zero_16, load_64_signed_16, load_64_zero_32, load_64_signed_32, load_reversed_16, load_reversed_32, load_reversed_64, store_8, store_16, store_32, store_64, store_reversed_16, store_reversed_32, store_reversed_64, store_immediate_16, store_immediate_32, store_immediate_64, swap_32, swap_64, alu_same, cmp_same, alu_short_rows, alu_long_rows, cmp_short_rows, cmp_long_rows, atomic_rows}
 use Rattle.s390x_machine.proofs.StorageSteps.{loads, loads_an_address, stores, stores_a_byte, stores_an_immediate, loads_registers, stores_registers, computes_in_memory, compares_in_memory, operates, swaps}
 use Rattle.s390x_machine.proofs.Branches.{jump_runs, TwoBranches, choose_runs, leads_runs, returns_runs, address_runs}
@@ -579,19 +580,12 @@ module _ (L : Layout) (all : AllPlaced L) (k : ℕ) (s : Step) (at : slice_get L
   idle_runs is parts =
       immediate_runs (rr 0x07 0 7) idles (λ r. never_by_values (idles r) no_code refl (λ kind h. h)) is parts (omega arith) (λ st. idle_branch L (place L k) (length_of Rr) (λ r. r.general 7) (bcr_at L all (L.places.step k) even 0 7 (omega arith) (omega arith) (λ e. absurd (cc)) st))
 
-  -- a block's offset is that of its first step
-  block_even : (b : ℕ) → IsBlock L b → L.places.block b % 2 ≡ 0
-  block_even b is = ap (λ n. n % 2) (all.blocks b is) ∙ offset_even L all (L.first_step b) (all.first_steps b is)
-
-  block_small : (b : ℕ) → IsBlock L b → L.places.block b < 2 ^ 31
-  block_small b is = omega (arith, all.blocks b is, offset_small L all (L.first_step b) (all.first_steps b is))
-
   goto_runs : (b : ℕ) → form_of L (Some s) ≡ Some (GoesTo b) → step_parts s ≡ Branch 15 (ToBlock b) ∷ [] → IsBlock L b → StepRuns L k
   unfolding length_of
   goto_runs b is parts known =
       let rows = subst (λ ps. PartsStand L (L.places.step k) ps) parts (step_stands L k s placed) in
       let size : L.places.step (suc k) ≡ L.places.step k + 6 = placed.size ∙ ap (λ ps. L.places.step k + parts_size ps) parts in
-      jump_runs L k b (λ r. BranchAction 15 (block_place L b)) 6 (block_place L b) (formed _ is) (brcl_at L all (L.places.step k) even 15 (L.places.block b) (omega arith) small (block_even b known) (block_small b known) rows.0) (λ r. refl) (block_at L all b known) (inside_first L k 6 size (omega arith))
+      jump_runs L k b (λ r. BranchAction 15 (block_place L b)) 6 (block_place L b) (formed _ is) (brcl_at L all (L.places.step k) even 15 (L.places.block b) (omega arith) small (block_even L all b known) (block_small L all b known) rows.0) (λ r. refl) (block_at L all b known) (inside_first L k 6 size (omega arith))
 
   condbr_runs : (mask a b : ℕ) → form_of L (Some s) ≡ Some (Chooses mask a b) → step_parts s ≡ Branch mask (ToBlock a) ∷ Branch 15 (ToBlock b) ∷ [] → mask < 16 → IsBlock L a → IsBlock L b → StepRuns L k
   unfolding length_of
@@ -604,8 +598,8 @@ module _ (L : Layout) (all : AllPlaced L) (k : ℕ) (s : Step) (at : slice_get L
       let two : TwoBranches L k mask a b = record {
         size = 6;
         second_size = 6;
-        first = brcl_at L all o even mask (L.places.block a) lm small (block_even a known_a) (block_small a known_a) rows.0;
-        second = subst (λ q. RowAt L q (λ r. BranchAction 15 (block_place L b)) 6) (sym p) (brcl_at L all (o + 6) (omega (arith, even)) 15 (L.places.block b) (omega arith) (omega (arith, size, bound, all.short)) (block_even b known_b) (block_small b known_b) rows.1.0);
+        first = brcl_at L all o even mask (L.places.block a) lm small (block_even L all a known_a) (block_small L all a known_a) rows.0;
+        second = subst (λ q. RowAt L q (λ r. BranchAction 15 (block_place L b)) 6) (sym p) (brcl_at L all (o + 6) (omega (arith, even)) 15 (L.places.block b) (omega arith) (omega (arith, size, bound, all.short)) (block_even L all b known_b) (block_small L all b known_b) rows.1.0);
         here = inside_first L k 12 size (omega arith);
         here_second = inside_at L k 6 12 size (omega arith);
         first_target = block_at L all a known_a;
@@ -620,7 +614,7 @@ module _ (L : Layout) (all : AllPlaced L) (k : ℕ) (s : Step) (at : slice_get L
       let rows = subst (λ ps. PartsStand L (L.places.step k) ps) parts (step_stands L k s placed) in
       let size : L.places.step (suc k) ≡ L.places.step k + 6 = placed.size ∙ ap (λ ps. L.places.step k + parts_size ps) parts in
       let operation = computes_immediate Kept (on_doublewords Move) d d (block_place L b) in
-      row_alone L k operation no_code (λ r. Perform (operation r)) 6 (formed _ is) (larl_at L all (L.places.step k) even d (L.places.block b) ld small (block_even b known) (block_small b known) rows.0) (λ r. exactly (operation r)) (uncoded L (place L k)) (computes_immediate_always Kept (on_doublewords Move) d d (block_place L b)) size (omega arith)
+      row_alone L k operation no_code (λ r. Perform (operation r)) 6 (formed _ is) (larl_at L all (L.places.step k) even d (L.places.block b) ld small (block_even L all b known) (block_small L all b known) rows.0) (λ r. exactly (operation r)) (uncoded L (place L k)) (computes_immediate_always Kept (on_doublewords Move) d d (block_place L b)) size (omega arith)
 
   -- a jump by a table
   jump_by_table_runs : (index mask other : ℕ) (targets : List MachLabel) → form_of L (Some s) ≡ Some (GoesByTable index mask other targets) → step_parts s ≡ table_parts index mask other targets → index < 16 → (index ≡ 0 → ⊥) → (index ≡ 1 → ⊥) → mask < 16 → IsBlock L other → AreBlocks L targets → StepRuns L k
@@ -637,7 +631,7 @@ module _ (L : Layout) (all : AllPlaced L) (k : ℕ) (s : Step) (at : slice_get L
       let seven : 7 ≡ half_distance (o + 6) (o + 20) = omega arith in
       let bound = Rattle.s390x_machine.proofs.Standing.step_within L k s placed in
       let rows : TableRows L k index mask other (o + 20) targets = record {
-        first = brcl_at L all o even mask (L.places.block other) lm small (block_even other known) (block_small other known) stands.0;
+        first = brcl_at L all o even mask (L.places.block other) lm small (block_even L all other known) (block_small L all other known) stands.0;
         second = subst (λ p. RowAt L p (λ r. Perform (computes_immediate Kept (on_doublewords Move) 1 1 (sum64 base (o + 20)) r)) 6) e2 (larl_at L all (o + 6) (omega (arith, even)) 1 (o + 20) (omega arith) (omega (arith, size, bound, all.short)) (omega (arith, even)) (omega (arith, size, bound, all.short)) (subst (λ h. StandsAt L.image (o + 6) (bytes_of (ril_b 0xc00 1 h))) seven stands.1.0));
         third = subst (λ p. RowAt L p (λ r. Perform (adds_word index r)) 6) e3 (agf_at L all (o + 6 + 6) (omega (arith, even)) index li stands.1.1.0);
         fourth = subst (λ p. RowAt L p (λ r. BranchAction 15 (r.general 1)) 2) e4 (bcr_at L all (o + 6 + 6 + 6) (omega (arith, even)) 15 1 (omega arith) (omega arith) (λ e. absurd (omega arith)) stands.1.1.1.0);
@@ -653,7 +647,7 @@ module _ (L : Layout) (all : AllPlaced L) (k : ℕ) (s : Step) (at : slice_get L
             let w1 : StandsAt L.image (o + 20 + 4 * j) (word_bytes (table_distance (o + 20 + 4 * j) (0 + 4 * j) (L.places.block l.0))) = subst (λ q. StandsAt L.image (q + 4 * j) (word_bytes (table_distance (q + 4 * j) (0 + 4 * j) (L.places.block l.0)))) z w in
             let w2 : StandsAt L.image (o + 20 + 4 * j) (word_bytes (table_distance (o + 20 + 4 * j) (4 * j) (L.places.block l.0))) = subst (λ b. StandsAt L.image (o + 20 + 4 * j) (word_bytes (table_distance (o + 20 + 4 * j) b (L.places.block l.0)))) n w1 in
             let block : IsBlock L l.0 = listed_block L targets are j l e in
-            record { stands = w2; near = omega (arith, within_image L (o + 20 + 4 * j) _ w2, all.short); small = block_small l.0 block; known = block_at L all l.0 block };
+            record { stands = w2; near = omega (arith, within_image L (o + 20 + 4 * j) _ w2, all.short); small = block_small L all l.0 block; known = block_at L all l.0 block };
         nonzero = nonzero;
         not_scratch = not_scratch;
       } in
@@ -811,29 +805,29 @@ instruction_runs L all k (LoadSymbolReloc rd reloc) at p fine = load_symbol_runs
 instruction_runs L all k (Trap code) at p fine = always_traps L all k (Plain (Trap code)) at p code refl refl
 instruction_runs L all k (TrapIf mask code) at p fine = traps_where L all k (Plain (TrapIf mask code)) at p mask code refl refl (small_mask mask fine)
 instruction_runs L all k Debugtrap at p fine = debug_stops L all k (Plain Debugtrap) at p refl refl
-instruction_runs L all k (Load32 rd mem) at p fine = loads L all k (Plain (Load32 rd mem)) at p Word word (Some 0x58) (Some 0xe358) (Some 0xc4d) load_32 rd mem (indexed_forms true true true) (refl, refl, refl, fine)
-instruction_runs L all k (Load32ZExt8 rd mem) at p fine = loads L all k (Plain (Load32ZExt8 rd mem)) at p Word byte None (Some 0xe394) None load_32_zero_8 rd mem (indexed_forms false true false) (refl, refl, refl, fine)
-instruction_runs L all k (Load32SExt8 rd mem) at p fine = loads L all k (Plain (Load32SExt8 rd mem)) at p Word signed_byte None (Some 0xe376) None load_32_signed_8 rd mem (indexed_forms false true false) (refl, refl, refl, fine)
-instruction_runs L all k (Load32ZExt16 rd mem) at p fine = loads L all k (Plain (Load32ZExt16 rd mem)) at p Word halfword None (Some 0xe395) (Some 0xc42) load_32_zero_16 rd mem (indexed_forms false true true) (refl, refl, refl, fine)
-instruction_runs L all k (Load32SExt16 rd mem) at p fine = loads L all k (Plain (Load32SExt16 rd mem)) at p Word signed_halfword (Some 0x48) (Some 0xe378) (Some 0xc45) load_32_signed_16 rd mem (indexed_forms true true true) (refl, refl, refl, fine)
-instruction_runs L all k (Load64 rd mem) at p fine = loads L all k (Plain (Load64 rd mem)) at p Doubleword doubleword None (Some 0xe304) (Some 0xc48) load_64 rd mem (indexed_forms false true true) (refl, refl, refl, fine)
-instruction_runs L all k (Load64ZExt8 rd mem) at p fine = loads L all k (Plain (Load64ZExt8 rd mem)) at p Doubleword byte None (Some 0xe390) None load_64_zero_8 rd mem (indexed_forms false true false) (refl, refl, refl, fine)
-instruction_runs L all k (Load64SExt8 rd mem) at p fine = loads L all k (Plain (Load64SExt8 rd mem)) at p Doubleword signed_byte None (Some 0xe377) None load_64_signed_8 rd mem (indexed_forms false true false) (refl, refl, refl, fine)
-instruction_runs L all k (Load64ZExt16 rd mem) at p fine = loads L all k (Plain (Load64ZExt16 rd mem)) at p Doubleword halfword None (Some 0xe391) (Some 0xc46) load_64_zero_16 rd mem (indexed_forms false true true) (refl, refl, refl, fine)
-instruction_runs L all k (Load64SExt16 rd mem) at p fine = loads L all k (Plain (Load64SExt16 rd mem)) at p Doubleword signed_halfword None (Some 0xe315) (Some 0xc44) load_64_signed_16 rd mem (indexed_forms false true true) (refl, refl, refl, fine)
-instruction_runs L all k (Load64ZExt32 rd mem) at p fine = loads L all k (Plain (Load64ZExt32 rd mem)) at p Doubleword word None (Some 0xe316) (Some 0xc4e) load_64_zero_32 rd mem (indexed_forms false true true) (refl, refl, refl, fine)
-instruction_runs L all k (Load64SExt32 rd mem) at p fine = loads L all k (Plain (Load64SExt32 rd mem)) at p Doubleword signed_word None (Some 0xe314) (Some 0xc4c) load_64_signed_32 rd mem (indexed_forms false true true) (refl, refl, refl, fine)
-instruction_runs L all k (LoadRev16 rd mem) at p fine = loads L all k (Plain (LoadRev16 rd mem)) at p Halfword (reversed_bytes Bits16) None (Some 0xe31f) None load_reversed_16 rd mem (indexed_forms false true false) (refl, refl, refl, fine)
-instruction_runs L all k (LoadRev32 rd mem) at p fine = loads L all k (Plain (LoadRev32 rd mem)) at p Word (reversed_bytes Bits32) None (Some 0xe31e) None load_reversed_32 rd mem (indexed_forms false true false) (refl, refl, refl, fine)
-instruction_runs L all k (LoadRev64 rd mem) at p fine = loads L all k (Plain (LoadRev64 rd mem)) at p Doubleword (reversed_bytes Bits64) None (Some 0xe30f) None load_reversed_64 rd mem (indexed_forms false true false) (refl, refl, refl, fine)
+instruction_runs L all k (Load32 rd mem) at p fine = loads L all k (Plain (Load32 rd mem)) at p Word word (Some 0x58) (Some 0xe358) (Some 0xc4d) load_32 relative_load_32 rd mem (indexed_forms true true true) (refl, refl, refl, fine)
+instruction_runs L all k (Load32ZExt8 rd mem) at p fine = loads L all k (Plain (Load32ZExt8 rd mem)) at p Word byte None (Some 0xe394) None load_32_zero_8 tt rd mem (indexed_forms false true false) (refl, refl, refl, fine)
+instruction_runs L all k (Load32SExt8 rd mem) at p fine = loads L all k (Plain (Load32SExt8 rd mem)) at p Word signed_byte None (Some 0xe376) None load_32_signed_8 tt rd mem (indexed_forms false true false) (refl, refl, refl, fine)
+instruction_runs L all k (Load32ZExt16 rd mem) at p fine = loads L all k (Plain (Load32ZExt16 rd mem)) at p Word halfword None (Some 0xe395) (Some 0xc42) load_32_zero_16 relative_load_32_zero_16 rd mem (indexed_forms false true true) (refl, refl, refl, fine)
+instruction_runs L all k (Load32SExt16 rd mem) at p fine = loads L all k (Plain (Load32SExt16 rd mem)) at p Word signed_halfword (Some 0x48) (Some 0xe378) (Some 0xc45) load_32_signed_16 relative_load_32_signed_16 rd mem (indexed_forms true true true) (refl, refl, refl, fine)
+instruction_runs L all k (Load64 rd mem) at p fine = loads L all k (Plain (Load64 rd mem)) at p Doubleword doubleword None (Some 0xe304) (Some 0xc48) load_64 relative_load_64 rd mem (indexed_forms false true true) (refl, refl, refl, fine)
+instruction_runs L all k (Load64ZExt8 rd mem) at p fine = loads L all k (Plain (Load64ZExt8 rd mem)) at p Doubleword byte None (Some 0xe390) None load_64_zero_8 tt rd mem (indexed_forms false true false) (refl, refl, refl, fine)
+instruction_runs L all k (Load64SExt8 rd mem) at p fine = loads L all k (Plain (Load64SExt8 rd mem)) at p Doubleword signed_byte None (Some 0xe377) None load_64_signed_8 tt rd mem (indexed_forms false true false) (refl, refl, refl, fine)
+instruction_runs L all k (Load64ZExt16 rd mem) at p fine = loads L all k (Plain (Load64ZExt16 rd mem)) at p Doubleword halfword None (Some 0xe391) (Some 0xc46) load_64_zero_16 relative_load_64_zero_16 rd mem (indexed_forms false true true) (refl, refl, refl, fine)
+instruction_runs L all k (Load64SExt16 rd mem) at p fine = loads L all k (Plain (Load64SExt16 rd mem)) at p Doubleword signed_halfword None (Some 0xe315) (Some 0xc44) load_64_signed_16 relative_load_64_signed_16 rd mem (indexed_forms false true true) (refl, refl, refl, fine)
+instruction_runs L all k (Load64ZExt32 rd mem) at p fine = loads L all k (Plain (Load64ZExt32 rd mem)) at p Doubleword word None (Some 0xe316) (Some 0xc4e) load_64_zero_32 relative_load_64_zero_32 rd mem (indexed_forms false true true) (refl, refl, refl, fine)
+instruction_runs L all k (Load64SExt32 rd mem) at p fine = loads L all k (Plain (Load64SExt32 rd mem)) at p Doubleword signed_word None (Some 0xe314) (Some 0xc4c) load_64_signed_32 relative_load_64_signed_32 rd mem (indexed_forms false true true) (refl, refl, refl, fine)
+instruction_runs L all k (LoadRev16 rd mem) at p fine = loads L all k (Plain (LoadRev16 rd mem)) at p Halfword (reversed_bytes Bits16) None (Some 0xe31f) None load_reversed_16 tt rd mem (indexed_forms false true false) (refl, refl, refl, fine)
+instruction_runs L all k (LoadRev32 rd mem) at p fine = loads L all k (Plain (LoadRev32 rd mem)) at p Word (reversed_bytes Bits32) None (Some 0xe31e) None load_reversed_32 tt rd mem (indexed_forms false true false) (refl, refl, refl, fine)
+instruction_runs L all k (LoadRev64 rd mem) at p fine = loads L all k (Plain (LoadRev64 rd mem)) at p Doubleword (reversed_bytes Bits64) None (Some 0xe30f) None load_reversed_64 tt rd mem (indexed_forms false true false) (refl, refl, refl, fine)
 instruction_runs L all k (LoadAddr rd mem) at p fine = loads_an_address L all k (Plain (LoadAddr rd mem)) at p rd mem (record { have_d12 = true; have_d20 = true; have_pcrel = true; have_unaligned_pcrel = true; have_index = true }) (refl, refl, refl, fine)
-instruction_runs L all k (Store8 rd mem) at p fine = stores L all k (Plain (Store8 rd mem)) at p byte (Some 0x42) (Some 0xe372) None store_8 rd mem (indexed_forms true true false) (refl, refl, refl, fine)
-instruction_runs L all k (Store16 rd mem) at p fine = stores L all k (Plain (Store16 rd mem)) at p halfword (Some 0x40) (Some 0xe370) (Some 0xc47) store_16 rd mem (indexed_forms true true true) (refl, refl, refl, fine)
-instruction_runs L all k (Store32 rd mem) at p fine = stores L all k (Plain (Store32 rd mem)) at p word (Some 0x50) (Some 0xe350) (Some 0xc4f) store_32 rd mem (indexed_forms true true true) (refl, refl, refl, fine)
-instruction_runs L all k (Store64 rd mem) at p fine = stores L all k (Plain (Store64 rd mem)) at p doubleword None (Some 0xe324) (Some 0xc4b) store_64 rd mem (indexed_forms false true true) (refl, refl, refl, fine)
-instruction_runs L all k (StoreRev16 rd mem) at p fine = stores L all k (Plain (StoreRev16 rd mem)) at p (reversed_bytes Bits16) None (Some 0xe33f) None store_reversed_16 rd mem (indexed_forms false true false) (refl, refl, refl, fine)
-instruction_runs L all k (StoreRev32 rd mem) at p fine = stores L all k (Plain (StoreRev32 rd mem)) at p (reversed_bytes Bits32) None (Some 0xe33e) None store_reversed_32 rd mem (indexed_forms false true false) (refl, refl, refl, fine)
-instruction_runs L all k (StoreRev64 rd mem) at p fine = stores L all k (Plain (StoreRev64 rd mem)) at p (reversed_bytes Bits64) None (Some 0xe32f) None store_reversed_64 rd mem (indexed_forms false true false) (refl, refl, refl, fine)
+instruction_runs L all k (Store8 rd mem) at p fine = stores L all k (Plain (Store8 rd mem)) at p byte (Some 0x42) (Some 0xe372) None store_8 tt rd mem (indexed_forms true true false) (refl, refl, refl, fine)
+instruction_runs L all k (Store16 rd mem) at p fine = stores L all k (Plain (Store16 rd mem)) at p halfword (Some 0x40) (Some 0xe370) (Some 0xc47) store_16 relative_store_16 rd mem (indexed_forms true true true) (refl, refl, refl, fine)
+instruction_runs L all k (Store32 rd mem) at p fine = stores L all k (Plain (Store32 rd mem)) at p word (Some 0x50) (Some 0xe350) (Some 0xc4f) store_32 relative_store_32 rd mem (indexed_forms true true true) (refl, refl, refl, fine)
+instruction_runs L all k (Store64 rd mem) at p fine = stores L all k (Plain (Store64 rd mem)) at p doubleword None (Some 0xe324) (Some 0xc4b) store_64 relative_store_64 rd mem (indexed_forms false true true) (refl, refl, refl, fine)
+instruction_runs L all k (StoreRev16 rd mem) at p fine = stores L all k (Plain (StoreRev16 rd mem)) at p (reversed_bytes Bits16) None (Some 0xe33f) None store_reversed_16 tt rd mem (indexed_forms false true false) (refl, refl, refl, fine)
+instruction_runs L all k (StoreRev32 rd mem) at p fine = stores L all k (Plain (StoreRev32 rd mem)) at p (reversed_bytes Bits32) None (Some 0xe33e) None store_reversed_32 tt rd mem (indexed_forms false true false) (refl, refl, refl, fine)
+instruction_runs L all k (StoreRev64 rd mem) at p fine = stores L all k (Plain (StoreRev64 rd mem)) at p (reversed_bytes Bits64) None (Some 0xe32f) None store_reversed_64 tt rd mem (indexed_forms false true false) (refl, refl, refl, fine)
 instruction_runs L all k (StoreImm8 imm mem) at p fine = stores_a_byte L all k (Plain (StoreImm8 imm mem)) at p imm mem (based_forms true true) (refl, refl, refl, fine)
 instruction_runs L all k (StoreImm16 imm mem) at p fine = stores_an_immediate L all k (Plain (StoreImm16 imm mem)) at p Bits16 0xe544 (low_halfword imm) (halfword_bits imm) store_immediate_16 mem (based_forms true false) (refl, refl, refl, fine)
 instruction_runs L all k (StoreImm32SExt16 imm mem) at p fine = stores_an_immediate L all k (Plain (StoreImm32SExt16 imm mem)) at p Bits32 0xe54c (low_halfword imm) (halfword_bits imm) store_immediate_32 mem (based_forms true false) (refl, refl, refl, fine)
@@ -842,7 +836,7 @@ instruction_runs L all k (LoadMultiple64 rt rt2 mem) at p fine = loads_registers
 instruction_runs L all k (StoreMultiple64 rt rt2 mem) at p fine = stores_registers L all k (Plain (StoreMultiple64 rt rt2 mem)) at p rt rt2 mem (based_forms false true) (refl, refl, refl, fine)
 instruction_runs L all k (AluRX op rd ri mem) at p fine =
     computes_in_memory L all k (Plain (AluRX op rd ri mem)) at p (is_some (alu_rx op) || is_some (alu_rxy op)) (alu_computation op) (alu_two_rule op) (alu_rx op) (alu_rxy op) (alu_short_rows op) (alu_long_rows op) rd ri mem (alu_forms op) (alu_same op (number_of rd)) (refl, refl, fine)
-instruction_runs L all k (CmpRX op rn mem) at p fine = compares_in_memory L all k (Plain (CmpRX op rn mem)) at p (comparison op) (cmp_rx op) (cmp_rxy op) (Some (cmp_ril op)) (cmp_short_rows op) (cmp_long_rows op) rn mem (cmp_forms op) (cmp_same op (number_of rn), refl, refl, fine)
+instruction_runs L all k (CmpRX op rn mem) at p fine = compares_in_memory L all k (Plain (CmpRX op rn mem)) at p (comparison op) (cmp_rx op) (cmp_rxy op) (Some (cmp_ril op)) (cmp_short_rows op) (cmp_long_rows op) (cmp_relative_rows op) rn mem (cmp_forms op) (cmp_same op (number_of rn), refl, refl, fine)
 instruction_runs L all k (AtomicRmw op rd rn mem) at p fine = operates L all k (Plain (AtomicRmw op rd rn mem)) at p (alu_computation op) (atomic_rsy op) (atomic_rows op) rd rn mem (based_forms false true) (λ opcode. refl) (refl, refl, fine)
 instruction_runs L all k (AtomicCas32 rd ri rn mem) at p fine = swaps L all k (Plain (AtomicCas32 rd ri rn mem)) at p Word (Some 0xba) (Some 0xeb14) swap_32 rd ri rn mem (based_forms true true) (refl, refl, refl, fine)
 instruction_runs L all k (AtomicCas64 rd ri rn mem) at p fine = swaps L all k (Plain (AtomicCas64 rd ri rn mem)) at p Doubleword None (Some 0xeb30) swap_64 rd ri rn mem (based_forms false true) (refl, refl, refl, fine)

@@ -1,6 +1,11 @@
 pub mod Addresses
 pub mod Operands
 pub mod Checked
+pub mod Accessing
+pub mod Aligned
+pub mod Relative
+pub mod RelativeExample
+pub mod RelativeRows
 pub mod Composites
 pub mod Decoding
 pub mod Fetching

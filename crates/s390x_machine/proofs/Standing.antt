@@ -4,7 +4,7 @@ use Rattle.s390x_format.specs.Formats.{length_of}
 use Rattle.s390x_format.proofs.Encoding.{encode-length}
 use Rattle.s390x_steps.specs.MachineInstruction.{ril_b, ril_c}
 use Rattle.s390x_steps.specs.Steps.{Step}
-use Rattle.s390x_steps.specs.Parts.{Part, Row, Trapping, Branch, Relative, SymbolValue, TrapHere, TableWord, part_size, parts_size, step_parts, step_size}
+use Rattle.s390x_steps.specs.Parts.{Part, Row, Trapping, Branch, Relative, RelativeConstant, RelativeSymbol, SymbolValue, TrapHere, TableWord, part_size, parts_size, step_parts, step_size}
 use Rattle.s390x_steps.specs.Rows.{Places, target_place, half_distance, part_bytes, parts_bytes, step_bytes}
 use Rattle.s390x_operations.specs.State.{sum64}
 use Rattle.s390x_machine.specs.Layout.{Layout, place, block_place, InStep}
@@ -19,6 +19,8 @@ part_length P p (Row m) = encode-length m.format m.slots
 part_length P p (Trapping m byte code) = encode-length m.format m.slots
 part_length P p (Branch mask target) = let m = ril_c 0xc04 mask (half_distance p (target_place P target)) in encode-length m.format m.slots
 part_length P p (Relative opcode register target) = let m = ril_b opcode register (half_distance p (target_place P target)) in encode-length m.format m.slots
+part_length P p (RelativeConstant opcode register c) = let m = ril_b opcode register (half_distance p (P.outside.constant c)) in encode-length m.format m.slots
+part_length P p (RelativeSymbol opcode register name offset) = let m = ril_b opcode register (P.outside.symbol_distance p name offset) in encode-length m.format m.slots
 part_length P p (SymbolValue name offset) = refl
 part_length P p (TrapHere code) = refl
 part_length P p (TableWord before target) = refl
@@ -34,9 +36,14 @@ parts_even (Row m ∷ parts) = omega (arith, size_even m.format, parts_even part
 parts_even (Trapping m byte code ∷ parts) = omega (arith, size_even m.format, parts_even parts)
 parts_even (Branch mask target ∷ parts) = omega (arith, parts_even parts)
 parts_even (Relative opcode register target ∷ parts) = omega (arith, parts_even parts)
+parts_even (RelativeConstant opcode register c ∷ parts) = omega (arith, parts_even parts)
+parts_even (RelativeSymbol opcode register name offset ∷ parts) = omega (arith, parts_even parts)
 parts_even (SymbolValue name offset ∷ parts) = omega (arith, parts_even parts)
 parts_even (TrapHere code ∷ parts) = omega (arith, parts_even parts)
 parts_even (TableWord before target ∷ parts) = omega (arith, parts_even parts)
+
+pub part_even : (part : Part) → part_size part % 2 ≡ 0
+part_even part = omega (arith, parts_even (part ∷ []))
 
 pub step_even : (s : Step) → step_size s % 2 ≡ 0
 step_even s = parts_even (step_parts s)
@@ -95,6 +102,13 @@ step_stands L k s p =
     subst (λ n. PartsStand L n (step_parts s)) (sym p.offset) (parts_stand L p.earlier p.later (step_parts s) e)
 
 -- ---- places
+
+-- a block's offset is that of its first step
+pub block_even : (L : Layout) → AllPlaced L → (b : ℕ) → IsBlock L b → L.places.block b % 2 ≡ 0
+block_even L all b is = ap (λ n. n % 2) (all.blocks b is) ∙ offset_even L all (L.first_step b) (all.first_steps b is)
+
+pub block_small : (L : Layout) → AllPlaced L → (b : ℕ) → IsBlock L b → L.places.block b < 2 ^ 31
+block_small L all b is = omega (arith, all.blocks b is, offset_small L all (L.first_step b) (all.first_steps b is))
 
 -- the place after some bytes of a step
 pub inside_at : (L : Layout) (k n size : ℕ) → L.places.step (suc k) ≡ L.places.step k + size → n < size → InStep L k (sum64 (place L k) n)

@@ -14,13 +14,13 @@ use Rattle.s390x_format.specs.declared.kind.FormatKind.TheVariants.{Rx, Rxy, Rs,
 use Rattle.s390x_format.specs.declared.row.Allowed.TheVariants.{Any}
 use Rattle.s390x_format.specs.Formats.{length_of}
 use Rattle.s390x_format.specs.View.{fields_of, disp_of}
-use Rattle.s390x_format.proofs.Encoding.{encode-length}
 use Rattle.s390x_steps.specs.General.{low_12, low_displacement}
-use Rattle.s390x_steps.specs.MachineInstruction.{MachineInstruction, bytes_of, size_of, rx, rxy, rs, rsy, si, siy, sil}
-use Rattle.s390x_steps.specs.Memory.{StorageForm, RxForm, RsForm, SiForm, SilForm, type_of, storage_row}
-use Rattle.s390x_steps.specs.Parts.{Part, Row, parts_size, access_parts, step_parts}
+use Rattle.s390x_steps.specs.MachineInstruction.{MachineInstruction, rx, rxy, rs, rsy, si, siy, sil}
+use Rattle.s390x_steps.specs.Memory.{StorageForm, RxForm, RsForm, SiForm, SilForm, type_of}
+use Rattle.s390x_steps.specs.Parts.{Part, Row, Trapping, TrapHere, part_size, parts_size, access_parts, operand_parts, step_parts}
+use Rattle.s390x_steps.specs.Rows.{part_bytes}
 use Rattle.s390x_steps.specs.Steps.{Step}
-use Rattle.s390x_steps.specs.Traps.{parts_traps, first_code}
+use Rattle.s390x_steps.specs.Traps.{part_traps, parts_traps, first_code}
 use Rattle.s390x_operations.specs.State.{Registers, Core, put, sum64}
 use Rattle.s390x_operations.specs.Bits.{extended}
 use Rattle.s390x_operations.specs.declared.effect.CodeRule.TheVariants.{Kept}
@@ -37,15 +37,15 @@ use Rattle.s390x_machine.specs.Layout.{Layout}
 use Rattle.s390x_machine.specs.Machine.{Turn}
 use Rattle.s390x_machine.specs.Meanings.{action}
 use Rattle.s390x_machine.specs.Operands.{indexed, based}
-use Rattle.s390x_machine.specs.Placed.{Placed, AllPlaced}
+use Rattle.s390x_machine.specs.Placed.{Placed, AllPlaced, PartReaches, PartsReach}
 use Rattle.s390x_machine.proofs.Addresses.{sum_more}
 use Rattle.s390x_machine.proofs.Alone.{Meant, OpcodeRow, OpcodeRows, meant_at}
 use Rattle.s390x_machine.proofs.Composites.{row_then, compute_changes}
-use Rattle.s390x_machine.proofs.Fetching.{StandsAt, size_even}
+use Rattle.s390x_machine.proofs.Fetching.{StandsAt}
 use Rattle.s390x_machine.proofs.Operands.{read_12, read_20, bits_12, based_indexed}
 use Rattle.s390x_machine.proofs.Rows.{fits_rx, fits_rxy, fits_rs, fits_rsy, fits_si, fits_siy, fits_sil}
 use Rattle.s390x_machine.proofs.Simulation.{RowAt, Inside, Simulates, Coded}
-use Rattle.s390x_machine.proofs.Standing.{PartsStand, step_stands, offset_even}
+use Rattle.s390x_machine.proofs.Standing.{PartsStand, part_length, part_even, step_stands, offset_even}
 use Rattle.s390x_machine.proofs.Trapping.{within_image}
 
 -- ---- rows with an operand in memory
@@ -96,12 +96,25 @@ FormDoes (SilForm bits opcode) operation = HalfwordForm bits opcode operation
 as_meant : (kind : FormatKind) (digits opcode : ℕ) (meaning : Meaning) → digits ≤ 65536 → OpcodeRow kind digits opcode meaning → Meant kind Any opcode meaning
 as_meant kind digits opcode meaning le row = record { some = row.some; few = omega (arith, row.few, le); lists = row.lists; means = row.means; single = row.single }
 
+-- ---- the parts of an access
+
+-- the row, with the code of its faults at its first byte where they have one
+abbrev pub access_of : Option TrapKind → Part → List Part
+access_of None part = part ∷ []
+access_of (Some code) (Row m) = Trapping m 0 code ∷ []
+access_of (Some code) part = TrapHere code ∷ part ∷ []
+
+pub access_row : (m : MachineInstruction) (code : Option TrapKind) → access_parts (Some m) code ≡ access_of code (Row m)
+access_row m None = refl
+access_row m (Some code) = refl
+
 -- an operand that stands in a row as it is, and the address there
 pub record Stands (L : Layout) (form : StorageForm) (operand : MemArg) (operation : ℕ → Registers → Operation) (address : Registers → ℕ) : Type 0 where
-  pub m : MachineInstruction
-  pub is : storage_row form operand ≡ Some m
-  pub some : 0 < size_of m
-  pub row : (offset : ℕ) → offset % 2 ≡ 0 → StandsAt L.image offset (bytes_of m) → RowAt L (sum64 L.image.base offset) (λ r. Perform (operation (address r) r)) (size_of m)
+  pub part : Part
+  pub is : (code : Option TrapKind) → operand_parts form code operand ≡ access_of code part
+  pub some : 0 < part_size part
+  pub untrapped : (p : ℕ) → part_traps p part ≡ []
+  pub row : (offset : ℕ) → offset % 2 ≡ 0 → StandsAt L.image offset (part_bytes L.places offset part) → PartReaches L offset part → RowAt L (sum64 L.image.base offset) (λ r. Perform (operation (address r) r)) (part_size part)
 
 -- an index may stand there, or there is none
 abbrev pub MayIndex : StorageForm → ℕ → Type 0
@@ -119,32 +132,36 @@ module _ (L : Layout) (all : AllPlaced L) (operation : ℕ → Registers → Ope
   unfolding length_of
   stands_12 (RxForm register None long relative) does accesses have base index d flags lb li may le = absurd (cc)
   stands_12 (RxForm register (Some opcode) long relative) does accesses have base index d flags lb li may le = record {
-    m = rx opcode register (number_of base) (number_of index) (low_12 d);
-    is = refl;
+    part = Row (rx opcode register (number_of base) (number_of index) (low_12 d));
+    is = λ code. access_row (rx opcode register (number_of base) (number_of index) (low_12 d)) code;
     some = omega arith;
-    row = λ offset even st. meant_at L all offset even Rx Any opcode (register ∷ number_of base ∷ number_of index ∷ 0 ∷ 0 ∷ 0 ∷ 0 ∷ 0 ∷ low_12 d ∷ []) does.meaning (λ r. operation (indexed r (number_of base) (number_of index) (pos d)) r) (as_meant Rx 256 opcode does.meaning (omega arith) does.short_rows) (fits_rx opcode register (number_of base) (number_of index) (low_12 d) does.short_rows.few does.few lb li (bits_12 d)) refl (λ r p.
+    untrapped = λ p. refl;
+    row = λ offset even st reaches. meant_at L all offset even Rx Any opcode (register ∷ number_of base ∷ number_of index ∷ 0 ∷ 0 ∷ 0 ∷ 0 ∷ 0 ∷ low_12 d ∷ []) does.meaning (λ r. operation (indexed r (number_of base) (number_of index) (pos d)) r) (as_meant Rx 256 opcode does.meaning (omega arith) does.short_rows) (fits_rx opcode register (number_of base) (number_of index) (low_12 d) does.short_rows.few does.few lb li (bits_12 d)) refl (λ r p.
         does.acts Rx opcode (number_of base) (number_of index) (low_12 d) r p ∙ ap (λ z. Perform (operation (indexed r (number_of base) (number_of index) z) r)) (read_12 d le)) st;
   }
   stands_12 (RsForm first second None long) does accesses have base index d flags lb li may le = absurd (cc)
   stands_12 (RsForm first second (Some opcode) long) does accesses have base index d flags lb li may le = record {
-    m = rs opcode first second (number_of base) (low_12 d);
-    is = refl;
+    part = Row (rs opcode first second (number_of base) (low_12 d));
+    is = λ code. access_row (rs opcode first second (number_of base) (low_12 d)) code;
     some = omega arith;
-    row = λ offset even st. meant_at L all offset even Rs Any opcode (first ∷ second ∷ number_of base ∷ 0 ∷ 0 ∷ 0 ∷ 0 ∷ 0 ∷ low_12 d ∷ []) does.meaning (λ r. operation (indexed r (number_of base) (number_of index) (pos d)) r) (as_meant Rs 256 opcode does.meaning (omega arith) does.short_rows) (fits_rs opcode first second (number_of base) (low_12 d) does.short_rows.few does.few does.few_second lb (bits_12 d)) refl (λ r p.
+    untrapped = λ p. refl;
+    row = λ offset even st reaches. meant_at L all offset even Rs Any opcode (first ∷ second ∷ number_of base ∷ 0 ∷ 0 ∷ 0 ∷ 0 ∷ 0 ∷ low_12 d ∷ []) does.meaning (λ r. operation (indexed r (number_of base) (number_of index) (pos d)) r) (as_meant Rs 256 opcode does.meaning (omega arith) does.short_rows) (fits_rs opcode first second (number_of base) (low_12 d) does.short_rows.few does.few does.few_second lb (bits_12 d)) refl (λ r p.
         does.acts Rs opcode (number_of base) (low_12 d) r p ∙ unindexed r (number_of base) (number_of index) (low_12 d) (pos d) (read_12 d le) may) st;
   }
   stands_12 (SiForm imm opcode long) does accesses have base index d flags lb li may le = record {
-    m = si opcode (number_of base) (low_12 d) imm;
-    is = refl;
+    part = Row (si opcode (number_of base) (low_12 d) imm);
+    is = λ code. access_row (si opcode (number_of base) (low_12 d) imm) code;
     some = omega arith;
-    row = λ offset even st. meant_at L all offset even Si Any opcode (number_of base ∷ 0 ∷ 0 ∷ 0 ∷ imm ∷ 0 ∷ 0 ∷ 0 ∷ low_12 d ∷ []) does.meaning (λ r. operation (indexed r (number_of base) (number_of index) (pos d)) r) (as_meant Si 256 opcode does.meaning (omega arith) does.short_row) (fits_si opcode (number_of base) (low_12 d) imm does.short_row.few lb (bits_12 d) does.few) refl (λ r p.
+    untrapped = λ p. refl;
+    row = λ offset even st reaches. meant_at L all offset even Si Any opcode (number_of base ∷ 0 ∷ 0 ∷ 0 ∷ imm ∷ 0 ∷ 0 ∷ 0 ∷ low_12 d ∷ []) does.meaning (λ r. operation (indexed r (number_of base) (number_of index) (pos d)) r) (as_meant Si 256 opcode does.meaning (omega arith) does.short_row) (fits_si opcode (number_of base) (low_12 d) imm does.short_row.few lb (bits_12 d) does.few) refl (λ r p.
         does.acts Si opcode (number_of base) (low_12 d) r p ∙ unindexed r (number_of base) (number_of index) (low_12 d) (pos d) (read_12 d le) may) st;
   }
   stands_12 (SilForm bits opcode) does accesses have base index d flags lb li may le = record {
-    m = sil opcode (number_of base) (low_12 d) bits;
-    is = refl;
+    part = Row (sil opcode (number_of base) (low_12 d) bits);
+    is = λ code. access_row (sil opcode (number_of base) (low_12 d) bits) code;
     some = omega arith;
-    row = λ offset even st. meant_at L all offset even Sil Any opcode (number_of base ∷ 0 ∷ 0 ∷ 0 ∷ 0 ∷ 0 ∷ 0 ∷ bits ∷ low_12 d ∷ []) does.meaning (λ r. operation (indexed r (number_of base) (number_of index) (pos d)) r) (as_meant Sil 65536 opcode does.meaning (omega arith) does.row) (fits_sil opcode (number_of base) (low_12 d) bits does.row.few lb (bits_12 d) does.few) refl (λ r p.
+    untrapped = λ p. refl;
+    row = λ offset even st reaches. meant_at L all offset even Sil Any opcode (number_of base ∷ 0 ∷ 0 ∷ 0 ∷ 0 ∷ 0 ∷ 0 ∷ bits ∷ low_12 d ∷ []) does.meaning (λ r. operation (indexed r (number_of base) (number_of index) (pos d)) r) (as_meant Sil 65536 opcode does.meaning (omega arith) does.row) (fits_sil opcode (number_of base) (low_12 d) bits does.row.few lb (bits_12 d) does.few) refl (λ r p.
         does.acts (number_of base) (low_12 d) r p ∙ unindexed r (number_of base) (number_of index) (low_12 d) (pos d) (read_12 d le) may) st;
   }
 
@@ -152,48 +169,73 @@ module _ (L : Layout) (all : AllPlaced L) (operation : ℕ → Registers → Ope
   unfolding length_of
   stands_20 (RxForm register short None relative) does accesses have base index z flags lb li may least most lz = absurd (cc)
   stands_20 (RxForm register short (Some opcode) relative) does accesses have base index z flags lb li may least most lz = record {
-    m = rxy opcode register (number_of base) (number_of index) (low_displacement z);
-    is = refl;
+    part = Row (rxy opcode register (number_of base) (number_of index) (low_displacement z));
+    is = λ code. access_row (rxy opcode register (number_of base) (number_of index) (low_displacement z)) code;
     some = omega arith;
-    row = λ offset even st. meant_at L all offset even Rxy Any opcode (register ∷ number_of base ∷ number_of index ∷ 0 ∷ 0 ∷ 0 ∷ 0 ∷ 0 ∷ low_displacement z ∷ []) does.meaning (λ r. operation (indexed r (number_of base) (number_of index) z) r) (as_meant Rxy 65536 opcode does.meaning (omega arith) does.long_rows) (fits_rxy opcode register (number_of base) (number_of index) (low_displacement z) does.long_rows.few does.few lb li lz) refl (λ r p.
+    untrapped = λ p. refl;
+    row = λ offset even st reaches. meant_at L all offset even Rxy Any opcode (register ∷ number_of base ∷ number_of index ∷ 0 ∷ 0 ∷ 0 ∷ 0 ∷ 0 ∷ low_displacement z ∷ []) does.meaning (λ r. operation (indexed r (number_of base) (number_of index) z) r) (as_meant Rxy 65536 opcode does.meaning (omega arith) does.long_rows) (fits_rxy opcode register (number_of base) (number_of index) (low_displacement z) does.long_rows.few does.few lb li lz) refl (λ r p.
         does.acts Rxy opcode (number_of base) (number_of index) (low_displacement z) r p ∙ ap (λ y. Perform (operation (indexed r (number_of base) (number_of index) y) r)) (read_20 z least most)) st;
   }
   stands_20 (RsForm first second short None) does accesses have base index z flags lb li may least most lz = absurd (cc)
   stands_20 (RsForm first second short (Some opcode)) does accesses have base index z flags lb li may least most lz = record {
-    m = rsy opcode first second (number_of base) (low_displacement z);
-    is = refl;
+    part = Row (rsy opcode first second (number_of base) (low_displacement z));
+    is = λ code. access_row (rsy opcode first second (number_of base) (low_displacement z)) code;
     some = omega arith;
-    row = λ offset even st. meant_at L all offset even Rsy Any opcode (first ∷ second ∷ number_of base ∷ 0 ∷ 0 ∷ 0 ∷ 0 ∷ 0 ∷ low_displacement z ∷ []) does.meaning (λ r. operation (indexed r (number_of base) (number_of index) z) r) (as_meant Rsy 65536 opcode does.meaning (omega arith) does.long_rows) (fits_rsy opcode first second (number_of base) (low_displacement z) does.long_rows.few does.few does.few_second lb lz) refl (λ r p.
+    untrapped = λ p. refl;
+    row = λ offset even st reaches. meant_at L all offset even Rsy Any opcode (first ∷ second ∷ number_of base ∷ 0 ∷ 0 ∷ 0 ∷ 0 ∷ 0 ∷ low_displacement z ∷ []) does.meaning (λ r. operation (indexed r (number_of base) (number_of index) z) r) (as_meant Rsy 65536 opcode does.meaning (omega arith) does.long_rows) (fits_rsy opcode first second (number_of base) (low_displacement z) does.long_rows.few does.few does.few_second lb lz) refl (λ r p.
         does.acts Rsy opcode (number_of base) (low_displacement z) r p ∙ unindexed r (number_of base) (number_of index) (low_displacement z) z (read_20 z least most) may) st;
   }
   stands_20 (SiForm imm short opcode) does accesses have base index z flags lb li may least most lz = record {
-    m = siy opcode (number_of base) (low_displacement z) imm;
-    is = refl;
+    part = Row (siy opcode (number_of base) (low_displacement z) imm);
+    is = λ code. access_row (siy opcode (number_of base) (low_displacement z) imm) code;
     some = omega arith;
-    row = λ offset even st. meant_at L all offset even Siy Any opcode (number_of base ∷ 0 ∷ 0 ∷ 0 ∷ imm ∷ 0 ∷ 0 ∷ 0 ∷ low_displacement z ∷ []) does.meaning (λ r. operation (indexed r (number_of base) (number_of index) z) r) (as_meant Siy 65536 opcode does.meaning (omega arith) does.long_row) (fits_siy opcode (number_of base) (low_displacement z) imm does.long_row.few lb lz does.few) refl (λ r p.
+    untrapped = λ p. refl;
+    row = λ offset even st reaches. meant_at L all offset even Siy Any opcode (number_of base ∷ 0 ∷ 0 ∷ 0 ∷ imm ∷ 0 ∷ 0 ∷ 0 ∷ low_displacement z ∷ []) does.meaning (λ r. operation (indexed r (number_of base) (number_of index) z) r) (as_meant Siy 65536 opcode does.meaning (omega arith) does.long_row) (fits_siy opcode (number_of base) (low_displacement z) imm does.long_row.few lb lz does.few) refl (λ r p.
         does.acts Siy opcode (number_of base) (low_displacement z) r p ∙ unindexed r (number_of base) (number_of index) (low_displacement z) z (read_20 z least most) may) st;
   }
   stands_20 (SilForm bits opcode) does accesses have base index z flags lb li may least most lz = absurd (cc)
 
 -- ---- the bytes of a step: rows, and then an access
 
--- rows without traps
-abbrev pub as_rows : List MachineInstruction → List Part
-as_rows [] = []
-as_rows (m ∷ ms) = Row m ∷ as_rows ms
+-- parts without traps
+abbrev pub Untrapped : List Part → Type 0
+Untrapped [] = Unit {0}
+Untrapped (h ∷ hs) = ((p : ℕ) → part_traps p h ≡ []) × Untrapped hs
 
 -- the step's last row, at an offset; the table has the code of its faults
-pub record LastRow (L : Layout) (k : ℕ) (m : MachineInstruction) (code : Option TrapKind) (o : ℕ) : Type 0 where
+pub record LastRow (L : Layout) (k : ℕ) (part : Part) (code : Option TrapKind) (o : ℕ) : Type 0 where
   pub even : o % 2 ≡ 0
   pub above : L.places.step k ≤ o
-  pub stands : StandsAt L.image o (bytes_of m)
-  pub next : L.places.step (suc k) ≡ o + size_of m
+  pub stands : StandsAt L.image o (part_bytes L.places o part)
+  pub reaches : PartReaches L o part
+  pub next : L.places.step (suc k) ≡ o + part_size part
   pub coded : Coded L (sum64 L.image.base o) (access_code code)
 
 -- rows before it
-abbrev pub RowsBefore : Layout → ℕ → List MachineInstruction → MachineInstruction → Option TrapKind → ℕ → Type 0
-RowsBefore L k [] m code o = LastRow L k m code o
-RowsBefore L k (h ∷ hs) m code o = StandsAt L.image o (bytes_of h) × RowsBefore L k hs m code (o + size_of h)
+abbrev pub RowsBefore : Layout → ℕ → List Part → Part → Option TrapKind → ℕ → Type 0
+RowsBefore L k [] part code o = LastRow L k part code o
+RowsBefore L k (h ∷ hs) part code o = (StandsAt L.image o (part_bytes L.places o h) × PartReaches L o h) × RowsBefore L k hs part code (o + part_size h)
+
+-- a row whose faults have a code
+record CodedAccess (L : Layout) (part : Part) (code : TrapKind) (o : ℕ) (parts : List Part) : Type 0 where
+  stands : StandsAt L.image o (part_bytes L.places o part)
+  reaches : PartReaches L o part
+  size : parts_size parts ≡ part_size part
+  first : first_code (parts_traps o parts) o ≡ Some code
+
+trapped_here : (L : Layout) (part : Part) (code : TrapKind) (o : ℕ) → PartsStand L o (TrapHere code ∷ part ∷ []) → PartsReach L o (TrapHere code ∷ part ∷ []) → CodedAccess L part code o (TrapHere code ∷ part ∷ [])
+trapped_here L part code o stands reaches =
+    let z : o + 0 ≡ o = omega arith in
+    record {
+      stands = subst (λ n. StandsAt L.image n (part_bytes L.places n part)) z stands.1.0;
+      reaches = subst (λ n. PartReaches L n part) z reaches.1.0;
+      size = omega arith;
+      first = ap (λ t. cond t (Some code) (first_code (part_traps (o + 0) part ++ []) o)) (eq-eqb o o refl);
+    }
+
+coded_access : (L : Layout) (part : Part) (code : TrapKind) (o : ℕ) → PartsStand L o (access_of (Some code) part) → PartsReach L o (access_of (Some code) part) → CodedAccess L part code o (access_of (Some code) part)
+coded_access L (Row m) code o stands reaches = record { stands = stands.0; reaches = tt; size = omega arith; first = ap (λ t. cond t (Some code) None) (eq-eqb (o + 0) o (omega arith)) }
+coded_access L part code o stands reaches = trapped_here L part code o stands reaches
 
 uncoded_access : (kind : StopKind) (n : TrapKind) → access_code None kind ≡ Some n → ⊥
 uncoded_access Stop.Operation n e = absurd (cc)
@@ -220,26 +262,31 @@ module _ (L : Layout) (all : AllPlaced L) (k : ℕ) where
       go Stop.Divide n e = absurd (cc)
       go Stop.CompareTrap n e = absurd (cc)
 
-  last_row : (m : MachineInstruction) (code : Option TrapKind) (o : ℕ) → o % 2 ≡ 0 → L.places.step k ≤ o → 0 < size_of m → PartsStand L o (access_parts (Some m) code) → L.places.step (suc k) ≡ o + parts_size (access_parts (Some m) code) → ((q : ℕ) → L.places.step k ≤ q → q < L.places.step (suc k) → o ≤ q → first_code L.traps q ≡ first_code (parts_traps o (access_parts (Some m) code)) q) → LastRow L k m code o
-  last_row m None o even above some stands next traps = record { even = even; above = above; stands = stands.0; next = omega (arith, next); coded = λ kind n e. absurd (uncoded_access kind n e) }
-  last_row m (Some x) o even above some stands next traps = record {
-    even = even;
-    above = above;
-    stands = stands.0;
-    next = omega (arith, next);
-    coded = access_coded o (bytes_of m) stands.0 (omega (arith, encode-length m.format m.slots, some)) x (traps o above (omega (arith, next, some)) (omega arith) ∙ ap (λ t. cond t (Some x) None) (eq-eqb (o + 0) o (omega arith)));
-  }
+  last_row : (part : Part) (code : Option TrapKind) (o : ℕ) → o % 2 ≡ 0 → L.places.step k ≤ o → 0 < part_size part → PartsStand L o (access_of code part) → PartsReach L o (access_of code part) → L.places.step (suc k) ≡ o + parts_size (access_of code part) → ((q : ℕ) → L.places.step k ≤ q → q < L.places.step (suc k) → o ≤ q → first_code L.traps q ≡ first_code (parts_traps o (access_of code part)) q) → LastRow L k part code o
+  last_row part None o even above some stands reaches next traps =
+      record { even = even; above = above; stands = stands.0; reaches = reaches.0; next = omega (arith, next); coded = λ kind n e. absurd (uncoded_access kind n e) }
+  last_row part (Some x) o even above some stands reaches next traps =
+      let a = coded_access L part x o stands reaches in
+      record {
+        even = even;
+        above = above;
+        stands = a.stands;
+        reaches = a.reaches;
+        next = next ∙ ap (λ n. o + n) a.size;
+        coded = access_coded o (part_bytes L.places o part) a.stands (omega (arith, part_length L.places o part, some)) x (traps o above (omega (arith, next, a.size, some)) (omega arith) ∙ a.first);
+      }
 
-  rows_before : (hs : List MachineInstruction) (m : MachineInstruction) (code : Option TrapKind) (o : ℕ) → o % 2 ≡ 0 → L.places.step k ≤ o → 0 < size_of m → PartsStand L o (as_rows hs ++ access_parts (Some m) code) → L.places.step (suc k) ≡ o + parts_size (as_rows hs ++ access_parts (Some m) code) → ((q : ℕ) → L.places.step k ≤ q → q < L.places.step (suc k) → o ≤ q → first_code L.traps q ≡ first_code (parts_traps o (as_rows hs ++ access_parts (Some m) code)) q) → RowsBefore L k hs m code o
-  rows_before [] m code o even above some stands next traps = last_row m code o even above some stands next traps
-  rows_before (h ∷ hs) m code o even above some stands next traps =
-      (stands.0, rows_before hs m code (o + size_of h) (omega (arith, even, size_even h.format)) (omega (arith, above)) some stands.1 (omega (arith, next)) (λ q a b c. traps q a b (omega (arith, c))))
+  rows_before : (hs : List Part) → Untrapped hs → (part : Part) (code : Option TrapKind) (o : ℕ) → o % 2 ≡ 0 → L.places.step k ≤ o → 0 < part_size part → PartsStand L o (hs ++ access_of code part) → PartsReach L o (hs ++ access_of code part) → L.places.step (suc k) ≡ o + parts_size (hs ++ access_of code part) → ((q : ℕ) → L.places.step k ≤ q → q < L.places.step (suc k) → o ≤ q → first_code L.traps q ≡ first_code (parts_traps o (hs ++ access_of code part)) q) → RowsBefore L k hs part code o
+  rows_before [] none part code o even above some stands reaches next traps = last_row part code o even above some stands reaches next traps
+  rows_before (h ∷ hs) none part code o even above some stands reaches next traps =
+      ((stands.0, reaches.0), rows_before hs none.1 part code (o + part_size h) (omega (arith, even, part_even h)) (omega (arith, above)) some stands.1 reaches.1 (omega (arith, next)) (λ q a b c. traps q a b (omega (arith, c)) ∙ ap (λ ts. first_code (ts ++ parts_traps (o + part_size h) (hs ++ access_of code part)) q) (none.0 o)))
 
-  pub step_rows_before : (s : Step) → slice_get L.steps k ≡ Some s → Placed L k s → (hs : List MachineInstruction) (m : MachineInstruction) (code : Option TrapKind) → 0 < size_of m → step_parts s ≡ as_rows hs ++ access_parts (Some m) code → RowsBefore L k hs m code (L.places.step k)
-  step_rows_before s at p hs m code some is =
+  pub step_rows_before : (s : Step) → slice_get L.steps k ≡ Some s → Placed L k s → (hs : List Part) → Untrapped hs → (part : Part) (code : Option TrapKind) → 0 < part_size part → step_parts s ≡ hs ++ access_of code part → RowsBefore L k hs part code (L.places.step k)
+  step_rows_before s at p hs none part code some is =
       let o = L.places.step k in
-      rows_before hs m code o (offset_even L all k (omega (arith, slice_get_within L.steps k s at))) (omega arith) some
+      rows_before hs none part code o (offset_even L all k (omega (arith, slice_get_within L.steps k s at))) (omega arith) some
       (subst (λ ps. PartsStand L o ps) is (step_stands L k s p))
+      (subst (λ ps. PartsReach L o ps) is p.reached)
       (p.size ∙ ap (λ ps. o + parts_size ps) is)
       (λ q a b c. p.traps q a b ∙ ap (λ ps. first_code (parts_traps o ps) q) is)
 
@@ -249,9 +296,9 @@ module _ (L : Layout) (all : AllPlaced L) (k : ℕ) where
   abbrev pub moved : Second → ℕ → ℕ
   moved s x = extended s.sign s.width Doubleword x
 
-  pub helper_then : (c : Core) (g : List Turn) (r : Registers) (o : ℕ) (h : MachineInstruction) (s : Second) (bits : Registers → ℕ) → s.reversed ≡ false → Inside L k c g r (sum64 L.image.base o) → length g ≤ 2 → L.places.step k ≤ o + size_of h → o + size_of h < L.places.step (suc k) → RowAt L (sum64 L.image.base o) (λ q. Perform (computes_immediate Kept (with_second Move Doubleword s) 1 1 (bits q) q)) (size_of h) →
-      ((hs : List Turn) → length hs ≡ suc (length g) → Inside L k c hs (put r 1 (moved s (bits r))) (sum64 L.image.base (o + size_of h)) → Simulates L k c hs (put r 1 (moved s (bits r))) (sum64 L.image.base (o + size_of h))) → Simulates L k c g r (sum64 L.image.base o)
-  helper_then c g r o h s bits plain i few above below row go =
-      row_then L k c g r (sum64 L.image.base o) (λ q. Perform (computes_immediate Kept (with_second Move Doubleword s) 1 1 (bits q) q)) (size_of h) (put r 1 (moved s (bits r))) i few (record { offset = o + size_of h; above = above; below = below; is = sum_more L.image.base o (size_of h) }) row
-      (subst (λ b. Rattle.s390x_machine.proofs.Composites.ChangesTo (Perform (computes_immediate Kept (with_second Move Doubleword (record { width = s.width; sign = s.sign; reversed = b })) 1 1 (bits r) r)) (size_of h) r (sum64 L.image.base o) (put r 1 (moved s (bits r)))) (sym plain) (compute_changes Move Doubleword 1 (r.general 1) (bits r) s.width s.sign false (size_of h) (sum64 L.image.base o) r c.memory))
-      (λ hs n. subst (λ q. Inside L k c hs (put r 1 (moved s (bits r))) q → Simulates L k c hs (put r 1 (moved s (bits r))) q) (sym (sum_more L.image.base o (size_of h))) (go hs n))
+  pub helper_then : (c : Core) (g : List Turn) (r : Registers) (o : ℕ) (size : ℕ) (s : Second) (bits : Registers → ℕ) → s.reversed ≡ false → Inside L k c g r (sum64 L.image.base o) → length g ≤ 2 → L.places.step k ≤ o + size → o + size < L.places.step (suc k) → RowAt L (sum64 L.image.base o) (λ q. Perform (computes_immediate Kept (with_second Move Doubleword s) 1 1 (bits q) q)) (size) →
+      ((hs : List Turn) → length hs ≡ suc (length g) → Inside L k c hs (put r 1 (moved s (bits r))) (sum64 L.image.base (o + size)) → Simulates L k c hs (put r 1 (moved s (bits r))) (sum64 L.image.base (o + size))) → Simulates L k c g r (sum64 L.image.base o)
+  helper_then c g r o size s bits plain i few above below row go =
+      row_then L k c g r (sum64 L.image.base o) (λ q. Perform (computes_immediate Kept (with_second Move Doubleword s) 1 1 (bits q) q)) (size) (put r 1 (moved s (bits r))) i few (record { offset = o + size; above = above; below = below; is = sum_more L.image.base o (size) }) row
+      (subst (λ b. Rattle.s390x_machine.proofs.Composites.ChangesTo (Perform (computes_immediate Kept (with_second Move Doubleword (record { width = s.width; sign = s.sign; reversed = b })) 1 1 (bits r) r)) (size) r (sum64 L.image.base o) (put r 1 (moved s (bits r)))) (sym plain) (compute_changes Move Doubleword 1 (r.general 1) (bits r) s.width s.sign false (size) (sum64 L.image.base o) r c.memory))
+      (λ hs n. subst (λ q. Inside L k c hs (put r 1 (moved s (bits r))) q → Simulates L k c hs (put r 1 (moved s (bits r))) q) (sym (sum_more L.image.base o (size))) (go hs n))

@@ -1,6 +1,5 @@
 -- A function of two blocks in memory at 4096, and a run of it. The first block adds `%r4` to `%r2` and begins again where the sum is negative; the second one returns.
-use Rattle.s390x_base.specs.declared.ir.ExternalName.{ExternalName}
-use Rattle.std.specs.Prelude.{ℕ, ℤ, ◌-◌, List, [], ◌∷◌, None, if◌then◌else◌, ◌==◌, slice_index}
+use Rattle.std.specs.Prelude.{ℕ, ◌-◌, List, [], ◌∷◌, None, if◌then◌else◌, ◌==◌, slice_index}
 use Rattle.s390x_base.specs.Registers.{general}
 use Rattle.s390x_base.specs.declared.regs.Reg.TheVariants.{Real}
 use Rattle.s390x_base.specs.declared.ir.MachLabel.{MachLabel}
@@ -8,6 +7,7 @@ use Rattle.s390x_inst.specs.declared.ops.ALUOp.TheVariants.{Add64}
 use Rattle.s390x_inst.specs.declared.inst.Inst.{Inst}
 use Rattle.s390x_inst.specs.declared.inst.Inst.TheVariants.{AluRRR, CondBr, Ret}
 use Rattle.s390x_steps.specs.Tree.{Tree, empty, leaf}
+use Rattle.s390x_steps.specs.Image.{unlinked}
 use Rattle.s390x_operations.specs.State.{Registers, Core, CodeImage, is_within, Lies, put, coded}
 use Rattle.s390x_operations.specs.declared.stop.ConditionCode.TheVariants.{Code0, Code1}
 use Rattle.s390x_machine.specs.Machine.{Turn, Went, Run}
@@ -28,10 +28,6 @@ label n = record { 0 = n }
 -- `%r4` is added to `%r2`
 abbrev pub adds : Inst
 adds = AluRRR Add64 (Real (general 2)) (Real (general 2)) (Real (general 4))
-
--- no symbol is named
-abbrev pub unlinked : ExternalName → ℤ → ℕ
-unlinked name offset = 0
 
 -- the two blocks
 abbrev pub trees : List Tree
@@ -72,4 +68,4 @@ turns = turn once 4100 ∷ turn once 4096 ∷ turn twice 4100 ∷ turn twice 410
 
 -- the image is the function's code and lies in memory, and the machine runs so from the first block
 abbrev pub LoopRuns : Type 0
-LoopRuns = StandsAsCode unlinked trees image × Lies image core.memory × Run image (record { core = core; place = block_place (function_layout unlinked trees image) 0 }) turns
+LoopRuns = StandsAsCode (unlinked trees []) trees image × Lies image core.memory × Run image (record { core = core; place = block_place (function_layout (unlinked trees []) trees image) 0 }) turns

@@ -1,11 +1,11 @@
 -- What helpers have to do: they write `%r1` alone, and leave the operand's address as it was (cranelift-codegen, `mem_finalize` in `emit.rs`).
-use Rattle.std.specs.Prelude.{◌≡◌, ℕ, true, false, ◌⊎◌, List, [], ◌∷◌, Option, Some, IsTrue}
+use Rattle.std.specs.Prelude.{◌≡◌, ℕ, ◌^◌, ◌<◌, true, false, ◌⊎◌, List, [], ◌∷◌, Option, Some, IsTrue}
 use Rattle.s390x_base.specs.Regs.{number_of}
 use Rattle.s390x_base.specs.declared.regs.Reg.{Reg}
 use Rattle.s390x_inst.specs.declared.args.MemArg.{MemArg}
 use Rattle.s390x_inst.specs.declared.args.MemArg.TheVariants.{BXD12, BXD20, Label, Constant, Symbol}
 use Rattle.s390x_inst.specs.declared.inst.Inst.{Inst}
-use Rattle.s390x_steps.specs.Operands.{finalized, is_relative, loses_base, operand_general, offset_fits}
+use Rattle.s390x_steps.specs.Operands.{finalized, loses_base, operand_general, offset_fits}
 use Rattle.s390x_steps.specs.Ranges.{OperandInRange}
 use Rattle.s390x_steps.specs.declared.mem_inst_type.MemInstType.{MemInstType}
 use Rattle.s390x_operations.specs.State.{Registers, Core}
@@ -30,12 +30,18 @@ abbrev pub IsSameAddress : Option (Registers → ℕ) → Registers → Option (
 IsSameAddress (Some a) r (Some b) q = a r ≡ b q
 IsSameAddress _ r _ q = ⊥
 
--- an operand that names a place that stands, or has real registers and an offset of 32 bits, and whose base isn't overwritten
-pub record IsReached (m : MemArg) : Type 0 where
+-- what a symbol that an operand names has is an address
+abbrev pub HasAddress : Layout → MemArg → Type 0
+HasAddress L (Symbol name offset flags) = L.places.outside.symbol_value name offset < 2 ^ 64
+HasAddress L m = Unit {0}
+
+-- an operand that names a place, or has real registers and an offset of 32 bits, and whose base isn't overwritten
+pub record IsReached (L : Layout) (m : MemArg) : Type 0 where
   pub general : IsTrue (operand_general m)
   pub fits : IsTrue (offset_fits m)
   pub kept : loses_base m ≡ false
   pub range : OperandInRange m
+  pub address : HasAddress L m
 
 -- after the helpers the operand of the access has the address that the given one had before, and only `%r1` has changed, where it is needed
 abbrev pub HelpersKeep : Layout → MemInstType → MemArg → Type 0

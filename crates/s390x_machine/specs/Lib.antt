@@ -1,3 +1,4 @@
+pub mod Aligned
 pub mod Codes
 pub mod Computations
 pub mod Example
@@ -12,6 +13,7 @@ pub mod Meanings
 pub mod Operands
 pub mod Placed
 pub mod Regions
+pub mod RelativeExample
 pub mod Sound
 pub mod State
 pub mod Storage

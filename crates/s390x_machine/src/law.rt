@@ -1,26 +1,30 @@
 //! The laws of the typed steps and the machine.
-ghost use Rattle.std.specs.Prelude.{◌≡◌, ℕ, List, length, Option, Some, None, IsTrue, slice_get, ℤ};
-ghost use Rattle.s390x_base.specs.declared.ir.ExternalName.{ExternalName};
-ghost use Rattle.s390x_base.specs.declared.trap.TrapKind.{TrapKind};
+ghost use Rattle.std.specs.Prelude.{◌≡◌, ℕ, List, length, Option, Some, None, IsTrue, slice_get};
 ghost use Rattle.s390x_inst.specs.declared.state.IsaFlags.{IsaFlags};
+ghost use Rattle.s390x_steps.specs.Rows.{Outside};
 ghost use Rattle.s390x_steps.specs.Tree.{Tree};
-ghost use Rattle.s390x_operations.specs.declared.stop.StopKind.{StopKind};
 ghost use Rattle.s390x_machine.specs.Functions.{function_layout, StandsAsCode};
 ghost use Rattle.s390x_steps.specs.Causes.{blocks_cause};
 ghost use Rattle.s390x_steps.specs.Ranges.{OperandInRange, BlocksInRange};
 ghost use Rattle.s390x_steps.specs.Steps.{Step, function_steps};
 ghost use Rattle.s390x_machine.specs.Layout.{Layout};
-ghost use Rattle.s390x_machine.specs.Placed.{AllPlaced, IsBlock, IsFine};
+ghost use Rattle.s390x_machine.specs.Placed.{AllPlaced, IsBlock, IsFine, IsFineMemory, FineMemoryOr};
 ghost use Rattle.s390x_machine.specs.Match.{StepRuns, StepHolds, EveryRun, EveryBlockRun};
 ghost use Rattle.s390x_machine.specs.Fetch.{Fetched, Fetches};
 ghost use Rattle.s390x_operations.specs.State.{CodeImage, Memory};
 ghost use Rattle.s390x_machine.specs.Example.{LoopRuns};
+ghost use Rattle.s390x_machine.specs.RelativeExample.{RelativeRuns};
 ghost use Rattle.s390x_inst.specs.declared.args.MemArg.{MemArg};
-ghost use Rattle.s390x_steps.specs.Causes.{is_helped};
+ghost use Rattle.s390x_inst.specs.declared.inst.Inst.{Inst};
+ghost use Rattle.s390x_steps.specs.Causes.{is_helped, boundary};
 ghost use Rattle.s390x_steps.specs.Operands.{finalized, has_form, operand_general, offset_fits};
 ghost use Rattle.s390x_steps.specs.declared.mem_inst_type.MemInstType.{MemInstType};
-ghost use Rattle.s390x_machine.specs.Storage.{needs_scratch};
-ghost use Rattle.s390x_machine.specs.Helpers.{IsBased, HelpersKeep, TakesOperand};
+ghost use Rattle.s390x_machine.specs.Storage.{address_of, needs_scratch, operand_step};
+ghost use Rattle.s390x_machine.specs.Aligned.{IsOwn, OwnOperand, IsOnBoundary, relative_row_of, StepAccesses, NeverMisaligned};
+ghost use Rattle.s390x_machine.specs.Forms.{performed_in_memory};
+ghost use Rattle.s390x_steps.specs.Memory.{MemoryInstruction, memory};
+ghost use Rattle.s390x_steps.specs.Storage.{relative_bytes};
+ghost use Rattle.s390x_machine.specs.Helpers.{IsReached, HelpersKeep, TakesOperand};
 
 /// Wherever a step's bytes lie in an image at their place, every machine run from there is allowed by at most that step, or begins with a run of at most four turns that is that step.
 pub fn each_step()
@@ -34,12 +38,12 @@ pub fn each_step_tells()
 
 /// Where an image begins with a function's code, and emission lets each step pass, the premises hold of the function's layout.
 pub fn code_is_placed()
-    ensures { (value : ExternalName → ℤ → ℕ) (ts : List Tree) (image : CodeImage) → StandsAsCode value ts image → AllPlaced (function_layout value ts image) }
+    ensures { (outside : Outside) (ts : List Tree) (image : CodeImage) → StandsAsCode outside ts image → AllPlaced (function_layout outside ts image) }
 {}
 
 /// Emission lets each step pass of a function that has no cause of refusal, with n labels in use.
 pub fn checked_steps_are_fine()
-    ensures { (flags : IsaFlags) (value : ExternalName → ℤ → ℕ) (ts : List Tree) (n : ℕ) (image : CodeImage) → blocks_cause flags (length ts) n ts ≡ None → BlocksInRange ts → (k : ℕ) (s : Step) → slice_get (function_steps ts) k ≡ Some s → IsFine (function_layout value ts image) s }
+    ensures { (flags : IsaFlags) (outside : Outside) (ts : List Tree) (n : ℕ) (image : CodeImage) → blocks_cause flags (record { blocks = length ts; aligns = outside.aligns }) n ts ≡ None → BlocksInRange ts → (k : ℕ) (s : Step) → slice_get (function_steps ts) k ≡ Some s → IsFine (function_layout outside ts image) s }
 {}
 
 /// Every machine run from a step's place, in every state in which the image lies in memory and under every list of others' writes, is allowed by the typed steps.
@@ -62,6 +66,11 @@ pub fn a_loop_runs()
     ensures { LoopRuns }
 {}
 
+/// They can also be met with a constant and a symbol that are named by their distances: the code in memory, and a run that loads both.
+pub fn a_constant_is_loaded()
+    ensures { RelativeRuns }
+{}
+
 /// Helpers come before an access exactly where its step needs `%r1`.
 pub fn helpers_where_needed()
     ensures { (mi : MemInstType) (m : MemArg) → IsTrue (operand_general m) → IsTrue (offset_fits m) → is_helped (finalized mi m).helpers ≡ needs_scratch mi m }
@@ -69,10 +78,25 @@ pub fn helpers_where_needed()
 
 /// Helpers change nothing but `%r1`, and behind them the operand of the access has the address that the given one had before them.
 pub fn helpers_keep_the_address()
-    ensures { (L : Layout) (mi : MemInstType) (m : MemArg) → IsBased m → HelpersKeep L mi m }
+    ensures { (L : Layout) (mi : MemInstType) (m : MemArg) → IsReached L m → HelpersKeep L mi m }
 {}
 
 /// Where the rows have a form for an operand, the one that stands in the access is of a form that they take, and its displacement lies in its range.
 pub fn access_takes_its_operand()
     ensures { (mi : MemInstType) (m : MemArg) → IsTrue (has_form mi m) → IsTrue (operand_general m) → IsTrue (offset_fits m) → OperandInRange m → TakesOperand mi (finalized mi m).operand × OperandInRange (finalized mi m).operand }
+{}
+
+/// A block or a constant that an instruction names relative to itself stands on the boundary that emission asks of it.
+pub fn relative_accesses_are_aligned()
+    ensures { (L : Layout) → AllPlaced L → (x : MemoryInstruction) → IsFineMemory L x → IsOwn x.operand → IsOnBoundary (address_of L x.operand) (boundary x) }
+{}
+
+/// An access that has a row relative to the instruction reads or stores as many bytes as are told of that row's opcode.
+pub fn relative_rows_access_their_bytes()
+    ensures { (i : Inst) (opcode : ℕ) → relative_row_of (memory i) ≡ Some opcode → StepAccesses (operand_step i) (relative_bytes opcode) }
+{}
+
+/// The typed step of an access that has a row relative to the instruction never stops by alignment where it names a block or a constant.
+pub fn relative_accesses_never_misalign()
+    ensures { (L : Layout) → AllPlaced L → (i : Inst) (opcode : ℕ) → relative_row_of (memory i) ≡ Some opcode → FineMemoryOr L (memory i) ⊥ → OwnOperand (memory i) → NeverMisaligned (performed_in_memory L i) }
 {}

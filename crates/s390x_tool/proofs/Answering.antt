@@ -86,15 +86,15 @@ abbrev pub RunsWhereLinked : Type 0
 RunsWhereLinked =
     (flags : IsaFlags) (ts : List Tree) (cs : List Constant) (f : MachBufferFinalized) (base : ℕ) (symbols : Symbols)
     → checked_cause flags ts cs ≡ None → BlocksInRange ts → IsImage ts cs f → link_cause f base symbols ≡ None
-    → RunsAsTyped symbols ts (record { base = base; bytes = filled base symbols f.relocs.items f.bytes.items })
+    → RunsAsTyped symbols ts cs (record { base = base; bytes = filled base symbols f.relocs.items f.bytes.items })
 
 -- it holds of a job's image
 pub image_runs : RunsWhereLinked → (base : ℕ) (j : Job) (bytes : List ℕ) → IsImageAt base j bytes
-    → RunsAsTyped (symbols_of j) (trees_of j.state j.function) (record { base = base; bytes = bytes })
+    → RunsAsTyped (symbols_of j) (trees_of j.state j.function) (constants_of j.function) (record { base = base; bytes = bytes })
 image_runs law base j bytes image =
     let runs = law j.info.isa_flags (trees_of j.state j.function) (constants_of j.function) image.code base (symbols_of j)
     (second_none (start_cause j.state) _ image.is.valid) image.is.ranges image.is.emitted image.linked in
-    let P : List ℕ → Type 0 = λ bs. RunsAsTyped (symbols_of j) (trees_of j.state j.function) (record { base = base; bytes = bs }) in
+    let P : List ℕ → Type 0 = λ bs. RunsAsTyped (symbols_of j) (trees_of j.state j.function) (constants_of j.function) (record { base = base; bytes = bs }) in
     subst P (sym image.filled) runs
 
 -- the image in hex is the reply

@@ -15,7 +15,7 @@ use Rattle.s390x_inst.specs.declared.inst.Inst.TheVariants.{AluRRR, AluRR, AluRR
 use Rattle.s390x_inst.specs.declared.vec_inst.VecInst.{VecInst}
 use Rattle.s390x_inst.specs.declared.vec_inst.VecInst.TheVariants as V
 use Rattle.s390x_steps.specs.MachineInstruction.{rr}
-use Rattle.s390x_steps.specs.Causes.{first, unless, labels_cause, table_cause, instruction_cause, instruction_draws}
+use Rattle.s390x_steps.specs.Causes.{Declared, first, unless, labels_cause, table_cause, instruction_cause, instruction_draws}
 use Rattle.s390x_steps.specs.General.{is_general, is_nonzero}
 use Rattle.s390x_steps.specs.Parts.{Part, Row, table_parts, step_parts}
 use Rattle.s390x_steps.specs.Steps.{step_of}
@@ -208,11 +208,11 @@ reading name fields = Other
 abbrev pub line_reading : Line → Reading
 line_reading l = reading l.name l.fields
 
-abbrev pub reading_cause : IsaFlags → (blocks depth : ℕ) → Reading → Option EmitError
-reading_cause flags blocks depth (Whole i) = instruction_cause flags blocks depth i
-reading_cause flags blocks depth (Picks rn targets) = first (unless (is_general rn && is_nonzero rn) BadRegister) (labels_cause blocks targets)
-reading_cause flags blocks depth (Jumps index other mask targets) = table_cause blocks index other targets
-reading_cause flags blocks depth Other = Some BadOperator
+abbrev pub reading_cause : IsaFlags → Declared → (depth : ℕ) → Reading → Option EmitError
+reading_cause flags D depth (Whole i) = instruction_cause flags D depth i
+reading_cause flags D depth (Picks rn targets) = first (unless (is_general rn && is_nonzero rn) BadRegister) (labels_cause D.blocks targets)
+reading_cause flags D depth (Jumps index other mask targets) = table_cause D.blocks index other targets
+reading_cause flags D depth Other = Some BadOperator
 
 -- how many labels it draws
 abbrev pub reading_draws : Reading → ℕ
@@ -238,9 +238,9 @@ vector_reading : (v : VecInst) → Whole (Vector v) ≡ line_reading (vector_lin
 vector_reading (V.VecRR op rd rn) = refl
 vector_reading v = refl
 
-pub cause_read : (flags : IsaFlags) (blocks depth : ℕ) (i : Inst) → instruction_cause flags blocks depth i ≡ reading_cause flags blocks depth (line_reading (inst_line i))
-cause_read flags blocks depth (Vector v) = ap (reading_cause flags blocks depth) (vector_reading v)
-cause_read flags blocks depth i = refl
+pub cause_read : (flags : IsaFlags) (D : Declared) (depth : ℕ) (i : Inst) → instruction_cause flags D depth i ≡ reading_cause flags D depth (line_reading (inst_line i))
+cause_read flags D depth (Vector v) = ap (reading_cause flags D depth) (vector_reading v)
+cause_read flags D depth i = refl
 
 pub draws_read : (i : Inst) → instruction_draws i ≡ reading_draws (line_reading (inst_line i))
 draws_read (Vector v) = ap reading_draws (vector_reading v)

@@ -8,9 +8,10 @@ use Rattle.s390x_buffer.specs.State.{Constant, new_cause, limit}
 use Rattle.s390x_buffer.specs.Constants.{constant_starts, constant_bytes, constants_end}
 use Rattle.s390x_buffer.specs.declared.entries.MachBufferFinalized.{MachBufferFinalized}
 use Rattle.s390x_steps.specs.Tree.{Tree}
-use Rattle.s390x_steps.specs.Causes.{first, unless}
+use Rattle.s390x_steps.specs.Causes.{Declared, aligns_of, first, unless}
+use Rattle.s390x_steps.specs.Sizes.{blocks_size}
 use Rattle.s390x_steps.specs.Ranges.{BlocksInRange}
-use Rattle.s390x_steps.specs.Image.{function_code}
+use Rattle.s390x_steps.specs.Image.{unlinked, function_code}
 use Rattle.s390x_emit_int.specs.Function.{IsImage, start_cause, checked_cause, length_cause, trees_of, constants_of}
 use Rattle.s390x_job.specs.Jobs.{IsJob}
 use Rattle.s390x_job.specs.Same.{SameJob}
@@ -20,7 +21,7 @@ use Rattle.s390x_image.specs.Symbols.{no_symbols}
 use Rattle.s390x_tool.specs.Answers.{IsCode, Links, cause_of, with_symbols}
 use Rattle.s390x_tool.specs.declared.words.Command.{Command}
 use Rattle.s390x_tool.specs.declared.words.Command.TheVariants.{Image, Emit}
-use Rattle.s390x_tool.proofs.SameTree.{LineTree, lines_tree, line_blocks_cause, line_blocks_size, line_ranges, parts_code, line_places, line_steps_from, same_blocks_cause, same_function_code, same_starts, same_block_starts, same_blocks_size, parts_places, line_block_places, ranges_to, ranges_from, each_traps, same_function_traps, each_relocs, same_function_relocs}
+use Rattle.s390x_tool.proofs.SameTree.{LineTree, lines_tree, line_blocks_cause, line_blocks_size, line_ranges, parts_code, line_at, line_places, line_outside, line_steps_from, same_blocks_cause, same_function_code, same_starts, same_block_starts, same_blocks_size, parts_places, line_block_places, ranges_to, ranges_from, each_traps, same_function_traps, each_relocs, same_function_relocs}
 use Rattle.s390x_tool.proofs.SameLines.{found, with_flags, with_frame, frame_of, Said, job_found}
 use Rattle.s390x_tool.proofs.Frameless.{raw_block, resolved_lines, blocks_resolved}
 use Rattle.s390x_inst.specs.State.{fresh}
@@ -50,17 +51,22 @@ pub same_symbols : (j k : Job) → IsJob j → IsJob k → SameJob j k → j.sym
 same_symbols j k a b e =
     sym (append-nil j.symbols.items) ∙ ap (λ f. f.symbols) (same_found j k a b e) ∙ append-nil k.symbols.items
 
+-- what instructions may name
+abbrev line_declared : (blocks : ℕ) → List Constant → Declared
+line_declared blocks cs = record { blocks = blocks; aligns = aligns_of cs }
+
 -- the causes after the state's
 abbrev line_checked : IsaFlags → List LineTree → List Constant → Option EmitError
 line_checked flags ts cs =
     first (new_cause (length ts) cs)
-    (first (line_blocks_cause flags (length ts) (length ts + length cs) ts) (unless (nat_lt (constants_end (line_blocks_size ts) cs) limit) LabelOutOfRange))
+    (first (line_blocks_cause flags (line_declared (length ts) cs) (length ts + length cs) ts) (unless (nat_lt (constants_end (line_blocks_size ts) cs) limit) LabelOutOfRange))
 
 same_checked : (flags : IsaFlags) (ts : List Tree) (cs : List Constant) → checked_cause flags ts cs ≡ line_checked flags (map lines_tree ts) cs
 same_checked flags ts cs =
-    ap (λ o. first (new_cause (length ts) cs) (first o (length_cause ts cs))) (same_blocks_cause flags (length ts) (length ts + length cs) ts)
-    ∙ ap (λ n. first (new_cause (length ts) cs) (first (line_blocks_cause flags (length ts) (length ts + length cs) (map lines_tree ts)) (unless (nat_lt (constants_end n cs) limit) LabelOutOfRange))) (same_blocks_size ts)
-    ∙ ap (λ n. first (new_cause n cs) (first (line_blocks_cause flags n (n + length cs) (map lines_tree ts)) (unless (nat_lt (constants_end (line_blocks_size (map lines_tree ts)) cs) limit) LabelOutOfRange))) (sym (length-map ts lines_tree))
+    let D = line_declared (length ts) cs in
+    ap (λ o. first (new_cause (length ts) cs) (first o (length_cause ts cs))) (same_blocks_cause flags D (length ts + length cs) ts)
+    ∙ ap (λ n. first (new_cause (length ts) cs) (first (line_blocks_cause flags D (length ts + length cs) (map lines_tree ts)) (unless (nat_lt (constants_end n cs) limit) LabelOutOfRange))) (same_blocks_size ts)
+    ∙ ap (λ n. first (new_cause n cs) (first (line_blocks_cause flags (line_declared n cs) (n + length cs) (map lines_tree ts)) (unless (nat_lt (constants_end (line_blocks_size (map lines_tree ts)) cs) limit) LabelOutOfRange))) (sym (length-map ts lines_tree))
 
 start_none : (j : Job) → IsJob j → start_cause j.state ≡ None
 start_none j is = ap start_cause is.state
@@ -81,19 +87,22 @@ same_cause j k a b e =
 same_ranges : (ts us : List Tree) → map lines_tree ts ≡ map lines_tree us → BlocksInRange ts → BlocksInRange us
 same_ranges ts us e h = ranges_from us (subst line_ranges e (ranges_to ts h))
 
-same_bytes : (ts us : List Tree) → map lines_tree ts ≡ map lines_tree us → function_code ts ≡ function_code us
-same_bytes ts us e = same_function_code ts ∙ ap (λ ls. parts_code (line_places ls) 0 (line_steps_from 0 ls)) e ∙ sym (same_function_code us)
+same_bytes : (ts us : List Tree) (cs : List Constant) → map lines_tree ts ≡ map lines_tree us → function_code (unlinked ts cs) ts ≡ function_code (unlinked us cs) us
+same_bytes ts us cs e = same_function_code ts cs ∙ ap (λ ls. parts_code (line_places (line_outside ls cs) ls) 0 (line_steps_from 0 ls)) e ∙ sym (same_function_code us cs)
+
+same_sizes : (ts us : List Tree) → map lines_tree ts ≡ map lines_tree us → blocks_size ts ≡ blocks_size us
+same_sizes ts us e = same_blocks_size ts ∙ ap line_blocks_size e ∙ sym (same_blocks_size us)
 
 same_image : (ts us : List Tree) (cs : List Constant) (f : MachBufferFinalized) → map lines_tree ts ≡ map lines_tree us → IsImage ts cs f → IsImage us cs f
 same_image ts us cs f e h =
-    let bytes = same_bytes ts us e in
+    let size = same_sizes ts us e in
     record {
-      bytes = h.bytes ∙ ap (λ bs. bs ++ constant_bytes (length bs) cs) bytes;
-      block_starts = h.block_starts ∙ same_block_starts ts ∙ ap (λ ls. line_block_places (line_places ls).step 0 ls) e ∙ sym (same_block_starts us);
-      constant_starts = h.constant_starts ∙ ap (λ bs. constant_starts (length bs) cs) bytes;
-      starts = h.starts ∙ same_starts ts ∙ ap (λ ls. parts_places (line_places ls).step 0 (line_steps_from 0 ls)) e ∙ sym (same_starts us);
-      relocs = h.relocs ∙ same_function_relocs ts ∙ ap (λ ls. each_relocs (line_places ls).step 0 (line_steps_from 0 ls)) e ∙ sym (same_function_relocs us);
-      traps = h.traps ∙ same_function_traps ts ∙ ap (λ ls. each_traps (line_places ls).step 0 (line_steps_from 0 ls)) e ∙ sym (same_function_traps us);
+      bytes = h.bytes ∙ ap (λ bs. bs ++ constant_bytes (blocks_size ts) cs) (same_bytes ts us cs e) ∙ ap (λ n. function_code (unlinked us cs) us ++ constant_bytes n cs) size;
+      block_starts = h.block_starts ∙ same_block_starts ts ∙ ap (λ ls. line_block_places (line_at ls) 0 ls) e ∙ sym (same_block_starts us);
+      constant_starts = h.constant_starts ∙ ap (λ n. constant_starts n cs) size;
+      starts = h.starts ∙ same_starts ts ∙ ap (λ ls. parts_places (line_at ls) 0 (line_steps_from 0 ls)) e ∙ sym (same_starts us);
+      relocs = h.relocs ∙ same_function_relocs ts ∙ ap (λ ls. each_relocs (line_at ls) 0 (line_steps_from 0 ls)) e ∙ sym (same_function_relocs us);
+      traps = h.traps ∙ same_function_traps ts ∙ ap (λ ls. each_traps (line_at ls) 0 (line_steps_from 0 ls)) e ∙ sym (same_function_traps us);
       call_sites = h.call_sites;
       try_call_sites = h.try_call_sites;
       patchable_sites = h.patchable_sites;

@@ -1,17 +1,19 @@
 -- What emission reads of a function stands in the lines of its blocks.
-use Rattle.std.proofs.Common.{◌≡◌, ℕ, zero, suc, ◌+◌, List, [], ◌∷◌, ◌++◌, map, Option, None, refl, ap, ◌∙◌}
+use Rattle.std.proofs.Common.{◌≡◌, ℕ, zero, suc, ◌+◌, List, [], ◌∷◌, ◌++◌, map, get_or, Option, None, refl, ap, ◌∙◌}
 use Rattle.std.proofs.Math.Path.{fun_ext}
 use Rattle.std.proofs.lemmas.List.{map-append}
 use Rattle.s390x_inst.specs.declared.state.IsaFlags.{IsaFlags}
 use Rattle.s390x_base.specs.declared.error.EmitError.{EmitError}
+use Rattle.s390x_buffer.specs.State.{Constant}
+use Rattle.s390x_buffer.specs.Constants.{constant_starts}
 use Rattle.s390x_buffer.specs.declared.entries.TrapEntry.{TrapEntry}
 use Rattle.s390x_steps.specs.Tree.{Tree, empty, leaf, looped}
-use Rattle.s390x_steps.specs.Causes.{first, instruction_draws, draws, nesting_cause, numbers_cause, tree_cause, blocks_cause}
+use Rattle.s390x_steps.specs.Causes.{Declared, aligns_of, first, instruction_draws, draws, nesting_cause, numbers_cause, tree_cause, blocks_cause}
 use Rattle.s390x_steps.specs.Parts.{Part, Branch, ToStep, step_parts, parts_size}
 use Rattle.s390x_steps.specs.Steps.{Step, step_count, steps_of, steps_from, function_steps, first_step}
 use Rattle.s390x_steps.specs.Sizes.{tree_size, blocks_size}
-use Rattle.s390x_steps.specs.Rows.{Places, parts_bytes}
-use Rattle.s390x_steps.specs.Image.{place, function_places, code, function_code, step_places, block_places}
+use Rattle.s390x_steps.specs.Rows.{Outside, Places, parts_bytes}
+use Rattle.s390x_steps.specs.Image.{place, places, unlinked, code, function_code, step_places, block_places}
 use Rattle.s390x_buffer.specs.declared.entries.RelocEntry.{RelocEntry}
 use Rattle.s390x_steps.specs.Relocs.{parts_relocs, relocs_from, function_relocs}
 use Rattle.s390x_steps.specs.Traps.{parts_traps, traps_from, function_traps}
@@ -43,36 +45,36 @@ same_draws (leaf i rest) = let a = draws_read i in let b = same_draws rest in cc
 same_draws (looped mask members rest) = let a = same_draws members in let b = same_draws rest in cc
 
 -- the first cause
-abbrev pub line_cause : IsaFlags → (blocks n depth : ℕ) → LineTree → Option EmitError
-line_cause flags blocks n depth none = None
-line_cause flags blocks n depth (one l rest) =
-    first (first (reading_cause flags blocks depth (line_reading l)) (numbers_cause n (reading_draws (line_reading l)))) (line_cause flags blocks (n + reading_draws (line_reading l)) depth rest)
-line_cause flags blocks n depth (around mask members rest) =
-    first (first (first (nesting_cause depth) (numbers_cause n 2)) (line_cause flags blocks (n + 2) (depth + 1) members)) (line_cause flags blocks (n + 2 + line_draws members) depth rest)
+abbrev pub line_cause : IsaFlags → Declared → (n depth : ℕ) → LineTree → Option EmitError
+line_cause flags D n depth none = None
+line_cause flags D n depth (one l rest) =
+    first (first (reading_cause flags D depth (line_reading l)) (numbers_cause n (reading_draws (line_reading l)))) (line_cause flags D (n + reading_draws (line_reading l)) depth rest)
+line_cause flags D n depth (around mask members rest) =
+    first (first (first (nesting_cause depth) (numbers_cause n 2)) (line_cause flags D (n + 2) (depth + 1) members)) (line_cause flags D (n + 2 + line_draws members) depth rest)
 
-same_tree_cause : (flags : IsaFlags) (blocks n depth : ℕ) (t : Tree) → tree_cause flags blocks n depth t ≡ line_cause flags blocks n depth (lines_tree t)
-same_tree_cause flags blocks n depth empty = refl
-same_tree_cause flags blocks n depth (leaf i rest) =
+same_tree_cause : (flags : IsaFlags) (D : Declared) (n depth : ℕ) (t : Tree) → tree_cause flags D n depth t ≡ line_cause flags D n depth (lines_tree t)
+same_tree_cause flags D n depth empty = refl
+same_tree_cause flags D n depth (leaf i rest) =
     let r = line_reading (inst_line i) in
-    ap (λ o. first (first o (numbers_cause n (instruction_draws i))) (tree_cause flags blocks (n + instruction_draws i) depth rest)) (cause_read flags blocks depth i)
-    ∙ ap (λ d. first (first (reading_cause flags blocks depth r) (numbers_cause n d)) (tree_cause flags blocks (n + d) depth rest)) (draws_read i)
-    ∙ ap (first (first (reading_cause flags blocks depth r) (numbers_cause n (reading_draws r)))) (same_tree_cause flags blocks (n + reading_draws r) depth rest)
-same_tree_cause flags blocks n depth (looped mask members rest) =
+    ap (λ o. first (first o (numbers_cause n (instruction_draws i))) (tree_cause flags D (n + instruction_draws i) depth rest)) (cause_read flags D depth i)
+    ∙ ap (λ d. first (first (reading_cause flags D depth r) (numbers_cause n d)) (tree_cause flags D (n + d) depth rest)) (draws_read i)
+    ∙ ap (first (first (reading_cause flags D depth r) (numbers_cause n (reading_draws r)))) (same_tree_cause flags D (n + reading_draws r) depth rest)
+same_tree_cause flags D n depth (looped mask members rest) =
     let own = first (nesting_cause depth) (numbers_cause n 2) in
-    ap (λ o. first (first own o) (tree_cause flags blocks (n + 2 + draws members) depth rest)) (same_tree_cause flags blocks (n + 2) (depth + 1) members)
-    ∙ ap (first (first own (line_cause flags blocks (n + 2) (depth + 1) (lines_tree members)))) (same_tree_cause flags blocks (n + 2 + draws members) depth rest)
-    ∙ ap (λ d. first (first own (line_cause flags blocks (n + 2) (depth + 1) (lines_tree members))) (line_cause flags blocks (n + 2 + d) depth (lines_tree rest))) (same_draws members)
+    ap (λ o. first (first own o) (tree_cause flags D (n + 2 + draws members) depth rest)) (same_tree_cause flags D (n + 2) (depth + 1) members)
+    ∙ ap (first (first own (line_cause flags D (n + 2) (depth + 1) (lines_tree members)))) (same_tree_cause flags D (n + 2 + draws members) depth rest)
+    ∙ ap (λ d. first (first own (line_cause flags D (n + 2) (depth + 1) (lines_tree members))) (line_cause flags D (n + 2 + d) depth (lines_tree rest))) (same_draws members)
 
-abbrev pub line_blocks_cause : IsaFlags → (blocks n : ℕ) → List LineTree → Option EmitError
-line_blocks_cause flags blocks n [] = None
-line_blocks_cause flags blocks n (t ∷ ts) = first (line_cause flags blocks n 0 t) (line_blocks_cause flags blocks (n + line_draws t) ts)
+abbrev pub line_blocks_cause : IsaFlags → Declared → (n : ℕ) → List LineTree → Option EmitError
+line_blocks_cause flags D n [] = None
+line_blocks_cause flags D n (t ∷ ts) = first (line_cause flags D n 0 t) (line_blocks_cause flags D (n + line_draws t) ts)
 
-pub same_blocks_cause : (flags : IsaFlags) (blocks n : ℕ) (ts : List Tree) → blocks_cause flags blocks n ts ≡ line_blocks_cause flags blocks n (map lines_tree ts)
-same_blocks_cause flags blocks n [] = refl
-same_blocks_cause flags blocks n (t ∷ ts) =
-    ap (λ o. first o (blocks_cause flags blocks (n + draws t) ts)) (same_tree_cause flags blocks n 0 t)
-    ∙ ap (first (line_cause flags blocks n 0 (lines_tree t))) (same_blocks_cause flags blocks (n + draws t) ts)
-    ∙ ap (λ d. first (line_cause flags blocks n 0 (lines_tree t)) (line_blocks_cause flags blocks (n + d) (map lines_tree ts))) (same_draws t)
+pub same_blocks_cause : (flags : IsaFlags) (D : Declared) (n : ℕ) (ts : List Tree) → blocks_cause flags D n ts ≡ line_blocks_cause flags D n (map lines_tree ts)
+same_blocks_cause flags D n [] = refl
+same_blocks_cause flags D n (t ∷ ts) =
+    ap (λ o. first o (blocks_cause flags D (n + draws t) ts)) (same_tree_cause flags D n 0 t)
+    ∙ ap (first (line_cause flags D n 0 (lines_tree t))) (same_blocks_cause flags D (n + draws t) ts)
+    ∙ ap (λ d. first (line_cause flags D n 0 (lines_tree t)) (line_blocks_cause flags D (n + d) (map lines_tree ts))) (same_draws t)
 
 -- steps
 abbrev pub line_count : LineTree → ℕ
@@ -140,90 +142,23 @@ same_place [] k = refl
 same_place (s ∷ ss) zero = refl
 same_place (s ∷ ss) (suc k) = ap (λ n. parts_size (step_parts s) + n) (same_place ss k)
 
-abbrev pub line_places : List LineTree → Places
-line_places ts = record { step = parts_place (line_steps_from 0 ts); block = λ b. parts_place (line_steps_from 0 ts) (line_first_step ts b); symbol_value = λ name offset. 0 }
+abbrev pub line_at : List LineTree → ℕ → ℕ
+line_at ts = parts_place (line_steps_from 0 ts)
 
 same_step_place : (ts : List Tree) (k : ℕ) → place (function_steps ts) k ≡ parts_place (line_steps_from 0 (map lines_tree ts)) k
 same_step_place ts k = same_place (function_steps ts) k ∙ ap (λ ps. parts_place ps k) (same_steps_from 0 ts)
 
-same_places : (ts : List Tree) → function_places ts ≡ line_places (map lines_tree ts)
-same_places ts =
-    let at : place (function_steps ts) ≡ parts_place (line_steps_from 0 (map lines_tree ts)) = fun_ext (same_step_place ts) in
+same_at : (ts : List Tree) → place (function_steps ts) ≡ parts_place (line_steps_from 0 (map lines_tree ts))
+same_at ts = fun_ext (same_step_place ts)
+
+abbrev pub line_places : Outside → List LineTree → Places
+line_places outside ts = record { step = parts_place (line_steps_from 0 ts); block = λ b. parts_place (line_steps_from 0 ts) (line_first_step ts b); outside = outside }
+
+same_places : (outside : Outside) (ts : List Tree) → places outside ts ≡ line_places outside (map lines_tree ts)
+same_places outside ts =
     let first : first_step ts ≡ line_first_step (map lines_tree ts) = fun_ext (same_first_step ts) in
-    ap (λ p. record { step = p; block = λ b. p (first_step ts b); symbol_value = λ name offset. 0 }) at
-    ∙ ap (λ f. record { step = parts_place (line_steps_from 0 (map lines_tree ts)); block = λ b. parts_place (line_steps_from 0 (map lines_tree ts)) (f b); symbol_value = λ name offset. 0 }) first
-
--- bytes
-abbrev pub parts_code : Places → ℕ → List (List Part) → List ℕ
-parts_code P k [] = []
-parts_code P k (p ∷ ps) = parts_bytes P (P.step k) p ++ parts_code P (k + 1) ps
-
-same_code : (P : Places) (k : ℕ) (ss : List Step) → code P k ss ≡ parts_code P k (map step_parts ss)
-same_code P k [] = refl
-same_code P k (s ∷ ss) = ap (λ bs. parts_bytes P (P.step k) (step_parts s) ++ bs) (same_code P (k + 1) ss)
-
-pub same_function_code : (ts : List Tree) → function_code ts ≡ parts_code (line_places (map lines_tree ts)) 0 (line_steps_from 0 (map lines_tree ts))
-same_function_code ts =
-    same_code (function_places ts) 0 (function_steps ts)
-    ∙ ap (λ P. parts_code P 0 (map step_parts (function_steps ts))) (same_places ts)
-    ∙ ap (parts_code (line_places (map lines_tree ts)) 0) (same_steps_from 0 ts)
-
-abbrev pub parts_places : (ℕ → ℕ) → ℕ → List (List Part) → List ℕ
-parts_places at k [] = []
-parts_places at k (p ∷ ps) = at k ∷ parts_places at (k + 1) ps
-
-same_step_places : (at : ℕ → ℕ) (k : ℕ) (ss : List Step) → step_places at k ss ≡ parts_places at k (map step_parts ss)
-same_step_places at k [] = refl
-same_step_places at k (s ∷ ss) = ap (λ ps. at k ∷ ps) (same_step_places at (k + 1) ss)
-
-pub same_starts : (ts : List Tree) → step_places (function_places ts).step 0 (function_steps ts) ≡ parts_places (line_places (map lines_tree ts)).step 0 (line_steps_from 0 (map lines_tree ts))
-same_starts ts =
-    same_step_places (function_places ts).step 0 (function_steps ts)
-    ∙ ap (λ P. parts_places P.step 0 (map step_parts (function_steps ts))) (same_places ts)
-    ∙ ap (parts_places (line_places (map lines_tree ts)).step 0) (same_steps_from 0 ts)
-
--- the traps that the parts of each step record
-abbrev pub each_traps : (ℕ → ℕ) → ℕ → List (List Part) → List TrapEntry
-each_traps at k [] = []
-each_traps at k (p ∷ ps) = parts_traps (at k) p ++ each_traps at (k + 1) ps
-
-same_traps : (at : ℕ → ℕ) (k : ℕ) (ss : List Step) → traps_from at k ss ≡ each_traps at k (map step_parts ss)
-same_traps at k [] = refl
-same_traps at k (s ∷ ss) = ap (λ es. parts_traps (at k) (step_parts s) ++ es) (same_traps at (k + 1) ss)
-
-pub same_function_traps : (ts : List Tree) → function_traps ts ≡ each_traps (line_places (map lines_tree ts)).step 0 (line_steps_from 0 (map lines_tree ts))
-same_function_traps ts =
-    same_traps (function_places ts).step 0 (function_steps ts)
-    ∙ ap (λ P. each_traps P.step 0 (map step_parts (function_steps ts))) (same_places ts)
-    ∙ ap (each_traps (line_places (map lines_tree ts)).step 0) (same_steps_from 0 ts)
-
--- the relocations that the parts of each step have
-abbrev pub each_relocs : (ℕ → ℕ) → ℕ → List (List Part) → List RelocEntry
-each_relocs at k [] = []
-each_relocs at k (p ∷ ps) = parts_relocs (at k) p ++ each_relocs at (k + 1) ps
-
-same_relocs : (at : ℕ → ℕ) (k : ℕ) (ss : List Step) → relocs_from at k ss ≡ each_relocs at k (map step_parts ss)
-same_relocs at k [] = refl
-same_relocs at k (s ∷ ss) = ap (λ es. parts_relocs (at k) (step_parts s) ++ es) (same_relocs at (k + 1) ss)
-
-pub same_function_relocs : (ts : List Tree) → function_relocs ts ≡ each_relocs (line_places (map lines_tree ts)).step 0 (line_steps_from 0 (map lines_tree ts))
-same_function_relocs ts =
-    same_relocs (function_places ts).step 0 (function_steps ts)
-    ∙ ap (λ P. each_relocs P.step 0 (map step_parts (function_steps ts))) (same_places ts)
-    ∙ ap (each_relocs (line_places (map lines_tree ts)).step 0) (same_steps_from 0 ts)
-
-abbrev pub line_block_places : (ℕ → ℕ) → ℕ → List LineTree → List ℕ
-line_block_places at k [] = []
-line_block_places at k (t ∷ ts) = at k ∷ line_block_places at (k + line_count t) ts
-
-same_block_places : (at : ℕ → ℕ) (k : ℕ) (ts : List Tree) → block_places at k ts ≡ line_block_places at k (map lines_tree ts)
-same_block_places at k [] = refl
-same_block_places at k (t ∷ ts) =
-    ap (λ ps. at k ∷ ps) (same_block_places at (k + step_count t) ts ∙ ap (λ n. line_block_places at (k + n) (map lines_tree ts)) (same_count t))
-
-pub same_block_starts : (ts : List Tree) → block_places (function_places ts).step 0 ts ≡ line_block_places (line_places (map lines_tree ts)).step 0 (map lines_tree ts)
-same_block_starts ts =
-    same_block_places (function_places ts).step 0 ts ∙ ap (λ P. line_block_places P.step 0 (map lines_tree ts)) (same_places ts)
+    ap (λ p. record { step = p; block = λ b. p (first_step ts b); outside = outside }) (same_at ts)
+    ∙ ap (λ f. record { step = parts_place (line_steps_from 0 (map lines_tree ts)); block = λ b. parts_place (line_steps_from 0 (map lines_tree ts)) (f b); outside = outside }) first
 
 -- sizes
 abbrev pub line_size : LineTree → ℕ
@@ -244,6 +179,89 @@ line_blocks_size (t ∷ ts) = line_size t + line_blocks_size ts
 pub same_blocks_size : (ts : List Tree) → blocks_size ts ≡ line_blocks_size (map lines_tree ts)
 same_blocks_size [] = refl
 same_blocks_size (t ∷ ts) = let a = same_size t in let b = same_blocks_size ts in cc
+
+-- what stands outside the steps before linking
+abbrev pub behind : (size : ℕ) → List Constant → Outside
+behind size cs = record { constant = λ c. get_or (constant_starts size cs) c 0; aligns = aligns_of cs; symbol_value = λ name offset. 0; symbol_distance = λ place name offset. 0 }
+
+abbrev pub line_outside : List LineTree → List Constant → Outside
+line_outside ts cs = behind (line_blocks_size ts) cs
+
+same_outside : (ts : List Tree) (cs : List Constant) → unlinked ts cs ≡ line_outside (map lines_tree ts) cs
+same_outside ts cs = ap (λ n. behind n cs) (same_blocks_size ts)
+
+-- bytes
+abbrev pub parts_code : Places → ℕ → List (List Part) → List ℕ
+parts_code P k [] = []
+parts_code P k (p ∷ ps) = parts_bytes P (P.step k) p ++ parts_code P (k + 1) ps
+
+same_code : (P : Places) (k : ℕ) (ss : List Step) → code P k ss ≡ parts_code P k (map step_parts ss)
+same_code P k [] = refl
+same_code P k (s ∷ ss) = ap (λ bs. parts_bytes P (P.step k) (step_parts s) ++ bs) (same_code P (k + 1) ss)
+
+pub same_function_code : (ts : List Tree) (cs : List Constant) → function_code (unlinked ts cs) ts ≡ parts_code (line_places (line_outside (map lines_tree ts) cs) (map lines_tree ts)) 0 (line_steps_from 0 (map lines_tree ts))
+same_function_code ts cs =
+    ap (λ o. function_code o ts) (same_outside ts cs)
+    ∙ same_code (places (line_outside (map lines_tree ts) cs) ts) 0 (function_steps ts)
+    ∙ ap (λ P. parts_code P 0 (map step_parts (function_steps ts))) (same_places (line_outside (map lines_tree ts) cs) ts)
+    ∙ ap (parts_code (line_places (line_outside (map lines_tree ts) cs) (map lines_tree ts)) 0) (same_steps_from 0 ts)
+
+abbrev pub parts_places : (ℕ → ℕ) → ℕ → List (List Part) → List ℕ
+parts_places at k [] = []
+parts_places at k (p ∷ ps) = at k ∷ parts_places at (k + 1) ps
+
+same_step_places : (at : ℕ → ℕ) (k : ℕ) (ss : List Step) → step_places at k ss ≡ parts_places at k (map step_parts ss)
+same_step_places at k [] = refl
+same_step_places at k (s ∷ ss) = ap (λ ps. at k ∷ ps) (same_step_places at (k + 1) ss)
+
+pub same_starts : (ts : List Tree) → step_places (place (function_steps ts)) 0 (function_steps ts) ≡ parts_places (line_at (map lines_tree ts)) 0 (line_steps_from 0 (map lines_tree ts))
+same_starts ts =
+    same_step_places (place (function_steps ts)) 0 (function_steps ts)
+    ∙ ap (λ at. parts_places at 0 (map step_parts (function_steps ts))) (same_at ts)
+    ∙ ap (parts_places (line_at (map lines_tree ts)) 0) (same_steps_from 0 ts)
+
+-- the traps that the parts of each step record
+abbrev pub each_traps : (ℕ → ℕ) → ℕ → List (List Part) → List TrapEntry
+each_traps at k [] = []
+each_traps at k (p ∷ ps) = parts_traps (at k) p ++ each_traps at (k + 1) ps
+
+same_traps : (at : ℕ → ℕ) (k : ℕ) (ss : List Step) → traps_from at k ss ≡ each_traps at k (map step_parts ss)
+same_traps at k [] = refl
+same_traps at k (s ∷ ss) = ap (λ es. parts_traps (at k) (step_parts s) ++ es) (same_traps at (k + 1) ss)
+
+pub same_function_traps : (ts : List Tree) → function_traps ts ≡ each_traps (line_at (map lines_tree ts)) 0 (line_steps_from 0 (map lines_tree ts))
+same_function_traps ts =
+    same_traps (place (function_steps ts)) 0 (function_steps ts)
+    ∙ ap (λ at. each_traps at 0 (map step_parts (function_steps ts))) (same_at ts)
+    ∙ ap (each_traps (line_at (map lines_tree ts)) 0) (same_steps_from 0 ts)
+
+-- the relocations that the parts of each step have
+abbrev pub each_relocs : (ℕ → ℕ) → ℕ → List (List Part) → List RelocEntry
+each_relocs at k [] = []
+each_relocs at k (p ∷ ps) = parts_relocs (at k) p ++ each_relocs at (k + 1) ps
+
+same_relocs : (at : ℕ → ℕ) (k : ℕ) (ss : List Step) → relocs_from at k ss ≡ each_relocs at k (map step_parts ss)
+same_relocs at k [] = refl
+same_relocs at k (s ∷ ss) = ap (λ es. parts_relocs (at k) (step_parts s) ++ es) (same_relocs at (k + 1) ss)
+
+pub same_function_relocs : (ts : List Tree) → function_relocs ts ≡ each_relocs (line_at (map lines_tree ts)) 0 (line_steps_from 0 (map lines_tree ts))
+same_function_relocs ts =
+    same_relocs (place (function_steps ts)) 0 (function_steps ts)
+    ∙ ap (λ at. each_relocs at 0 (map step_parts (function_steps ts))) (same_at ts)
+    ∙ ap (each_relocs (line_at (map lines_tree ts)) 0) (same_steps_from 0 ts)
+
+abbrev pub line_block_places : (ℕ → ℕ) → ℕ → List LineTree → List ℕ
+line_block_places at k [] = []
+line_block_places at k (t ∷ ts) = at k ∷ line_block_places at (k + line_count t) ts
+
+same_block_places : (at : ℕ → ℕ) (k : ℕ) (ts : List Tree) → block_places at k ts ≡ line_block_places at k (map lines_tree ts)
+same_block_places at k [] = refl
+same_block_places at k (t ∷ ts) =
+    ap (λ ps. at k ∷ ps) (same_block_places at (k + step_count t) ts ∙ ap (λ n. line_block_places at (k + n) (map lines_tree ts)) (same_count t))
+
+pub same_block_starts : (ts : List Tree) → block_places (place (function_steps ts)) 0 ts ≡ line_block_places (line_at (map lines_tree ts)) 0 (map lines_tree ts)
+same_block_starts ts =
+    same_block_places (place (function_steps ts)) 0 ts ∙ ap (λ at. line_block_places at 0 (map lines_tree ts)) (same_at ts)
 
 -- ranges
 abbrev pub line_range : LineTree → Type 0

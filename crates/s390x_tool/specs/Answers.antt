@@ -59,7 +59,7 @@ pub record IsImageAt (base : ℕ) (j : Job) (bytes : List ℕ) : Type 0 where
 pub record IsImageText (base : ℕ) (j : Job) (text : List ℕ) : Type 0 where
   pub bytes : List ℕ
   pub image : IsImageAt base j bytes
-  pub runs : RunsAsTyped (symbols_of j) (trees_of j.state j.function) (record { base = base; bytes = bytes })
+  pub runs : RunsAsTyped (symbols_of j) (trees_of j.state j.function) (constants_of j.function) (record { base = base; bytes = bytes })
   pub spelled : text ≡ line (encode_lower bytes)
 
 -- emission refuses the job's function by its first cause

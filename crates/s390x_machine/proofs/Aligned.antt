@@ -1,0 +1,233 @@
+-- Accesses of operands relative to the instruction stand on the boundary of their bytes.
+use Rattle.std.proofs.Common.{◌≡◌, ℕ, ◌+◌, ◌%◌, ◌^◌, ◌≤◌, inl, inr, ◌⊎◌, length, Option, Some, None, Bool, true, false, cond, ◌||◌, is_some, get_or, IsTrue, refl, sym, ap, ◌∙◌, subst, arith}
+use Rattle.std.specs.Prelude.{nat_eq, nat_le, ◌&&◌, not}
+use Rattle.std.proofs.lemmas.Bool.{eq-eqb, eqb-true, leb-true}
+use Rattle.s390x_base.specs.Regs.{number_of}
+use Rattle.s390x_base.specs.declared.regs.Reg.{Reg}
+use Rattle.s390x_steps.specs.General.{is_general}
+use Rattle.s390x_base.specs.declared.error.EmitError.TheVariants.{BadAlignment}
+use Rattle.s390x_buffer.specs.State.{is_alignment}
+use Rattle.s390x_inst.specs.declared.args.MemArg.{MemArg}
+use Rattle.s390x_inst.specs.declared.args.MemArg.TheVariants.{Label, Constant}
+use Rattle.s390x_inst.specs.declared.inst.Inst.{Inst}
+use Rattle.s390x_inst.specs.declared.inst.Inst.TheVariants.{AluRX, CmpRX, Load32, Load32ZExt8, Load32SExt8, Load32ZExt16, Load32SExt16, Load64, Load64ZExt8, Load64SExt8, Load64ZExt16, Load64SExt16, Load64ZExt32, Load64SExt32, LoadRev16, LoadRev32, LoadRev64, Store8, Store16, Store32, Store64, StoreRev16, StoreRev32, StoreRev64, StoreImm8, StoreImm16, StoreImm32SExt16, StoreImm64SExt16, LoadMultiple64, StoreMultiple64, LoadAddr, AtomicRmw, AtomicCas32, AtomicCas64}
+use Rattle.s390x_inst.specs.declared.ops.CmpOp.{CmpOp}
+use Rattle.s390x_inst.specs.declared.ops.CmpOp.TheVariants as C
+use Rattle.s390x_steps.specs.Causes.{unless, bound_cause, relative_access, boundary, alignment_cause}
+use Rattle.s390x_steps.specs.Memory.{StorageForm, RxForm, MemoryInstruction, memory, type_of, operate, load_and_operate}
+use Rattle.s390x_steps.specs.Operands.{is_numbered, is_relative, needs_address}
+use Rattle.s390x_steps.specs.Storage.{alu_rx, alu_rxy, cmp_rx, cmp_rxy, cmp_ril, atomic_rsy, relative_bytes}
+use Rattle.s390x_steps.specs.declared.mem_inst_type.MemInstType.{MemInstType}
+use Rattle.s390x_operations.specs.State.{Registers, reaches, sum64}
+use Rattle.s390x_operations.specs.Access.{is_misaligned, reach_fault, fault}
+use Rattle.s390x_operations.specs.Effects.{access}
+use Rattle.s390x_operations.specs.declared.effect.Operation.{Operation}
+use Rattle.s390x_operations.specs.declared.size.Size.TheVariants.{Word, Doubleword}
+use Rattle.s390x_operations.specs.declared.stop.StopKind.TheVariants.{Access, Specification}
+use Rattle.s390x_machine.specs.Aligned.{IsOwn, OwnOperand, IsOnBoundary, relative_row_of, StepAccesses, NeverMisaligned}
+use Rattle.s390x_machine.specs.Computations.{word, signed_word, signed_halfword, halfword, doubleword, comparison}
+use Rattle.s390x_machine.specs.Forms.{performed_at, performed_in_memory}
+use Rattle.s390x_machine.specs.Layout.{Layout, declared, constant_place}
+use Rattle.s390x_machine.specs.Placed.{AllPlaced, IsFineMemory, FineMemoryOr}
+use Rattle.s390x_machine.specs.Storage.{address_of, operand_step, indexed_forms, cmp_forms, loads_at, stores_at, compares_at, aligned_effect, aligned_where}
+use Rattle.s390x_machine.proofs.Relative.{first_none, unless_none, label_known, constant_known}
+use Rattle.s390x_machine.proofs.Standing.{block_even}
+
+-- ---- boundaries
+
+-- one of the numbers of bytes that an access has
+IsPower : ℕ → Type 0
+IsPower n = (n ≡ 1) ⊎ ((n ≡ 2) ⊎ ((n ≡ 4) ⊎ (n ≡ 8)))
+
+bytes_power : (halfword doubleword : Bool) → IsPower (cond halfword 2 (cond doubleword 8 4))
+unfolding IsPower
+bytes_power true doubleword = inr (inl refl)
+bytes_power false true = inr (inr (inr refl))
+bytes_power false false = inr (inr (inl refl))
+
+access_power : (access : Bool) (n : ℕ) → IsPower n → IsPower (cond access n 1)
+unfolding IsPower
+access_power true n power = power
+access_power false n power = inl refl
+
+boundary_power : (form : StorageForm) (mi : MemInstType) (accesses : Bool) (m : MemArg) → IsPower (relative_access form mi accesses m)
+unfolding IsPower
+boundary_power (RxForm register short long (Some opcode)) mi accesses m = access_power (accesses && is_relative m && not (needs_address mi m)) (relative_bytes opcode) (bytes_power _ _)
+boundary_power (RxForm register short long None) mi accesses m = inl refl
+boundary_power form mi accesses m = inl refl
+
+-- a multiple of a power of two is one of each smaller one
+on_1 : (a b : ℕ) → IsPower b → b ≤ 1 → a % b ≡ 0
+unfolding IsPower
+on_1 a b (inl e) le = subst (λ n. a % n ≡ 0) (sym e) (omega arith)
+on_1 a b (inr (inl e)) le = absurd (omega (arith, e, le))
+on_1 a b (inr (inr (inl e))) le = absurd (omega (arith, e, le))
+on_1 a b (inr (inr (inr e))) le = absurd (omega (arith, e, le))
+
+on_2 : (a b : ℕ) → IsPower b → b ≤ 2 → a % 2 ≡ 0 → a % b ≡ 0
+unfolding IsPower
+on_2 a b (inl e) le h = subst (λ n. a % n ≡ 0) (sym e) (omega arith)
+on_2 a b (inr (inl e)) le h = subst (λ n. a % n ≡ 0) (sym e) h
+on_2 a b (inr (inr (inl e))) le h = absurd (omega (arith, e, le))
+on_2 a b (inr (inr (inr e))) le h = absurd (omega (arith, e, le))
+
+on_4 : (a b : ℕ) → IsPower b → b ≤ 4 → a % 4 ≡ 0 → a % b ≡ 0
+unfolding IsPower
+on_4 a b (inr (inr (inl e))) le h = subst (λ n. a % n ≡ 0) (sym e) h
+on_4 a b (inl e) le h = subst (λ n. a % n ≡ 0) (sym e) (omega arith)
+on_4 a b (inr (inl e)) le h = subst (λ n. a % n ≡ 0) (sym e) (omega (arith, h))
+on_4 a b (inr (inr (inr e))) le h = absurd (omega (arith, e, le))
+
+on_8 : (a b : ℕ) → IsPower b → a % 8 ≡ 0 → a % b ≡ 0
+unfolding IsPower
+on_8 a b (inl e) h = subst (λ n. a % n ≡ 0) (sym e) (omega arith)
+on_8 a b (inr (inl e)) h = subst (λ n. a % n ≡ 0) (sym e) (omega (arith, h))
+on_8 a b (inr (inr (inl e))) h = subst (λ n. a % n ≡ 0) (sym e) (omega (arith, h))
+on_8 a b (inr (inr (inr e))) h = subst (λ n. a % n ≡ 0) (sym e) h
+
+either_of : (a b : Bool) → IsTrue (a || b) → IsTrue a ⊎ IsTrue b
+either_of true b h = inl refl
+either_of false b h = inr h
+
+on_alignment : (a b align : ℕ) → IsPower b → b ≤ align → IsTrue (is_alignment align) → a % align ≡ 0 → a % b ≡ 0
+on_alignment a b align power le is h = sixteen (either_of (nat_eq align 1 || nat_eq align 2 || nat_eq align 4 || nat_eq align 8) (nat_eq align 16) is)
+  where
+    two : IsTrue (nat_eq align 1) ⊎ IsTrue (nat_eq align 2) → a % b ≡ 0
+    two (inl e) = on_1 a b power (omega (arith, le, eqb-true align 1 e))
+    two (inr e) = on_2 a b power (omega (arith, le, eqb-true align 2 e)) (subst (λ n. a % n ≡ 0) (eqb-true align 2 e) h)
+
+    four : IsTrue (nat_eq align 1 || nat_eq align 2) ⊎ IsTrue (nat_eq align 4) → a % b ≡ 0
+    four (inl e) = two (either_of (nat_eq align 1) (nat_eq align 2) e)
+    four (inr e) = on_4 a b power (omega (arith, le, eqb-true align 4 e)) (subst (λ n. a % n ≡ 0) (eqb-true align 4 e) h)
+
+    eight : IsTrue (nat_eq align 1 || nat_eq align 2 || nat_eq align 4) ⊎ IsTrue (nat_eq align 8) → a % b ≡ 0
+    eight (inl e) = four (either_of (nat_eq align 1 || nat_eq align 2) (nat_eq align 4) e)
+    eight (inr e) = on_8 a b power (subst (λ n. a % n ≡ 0) (eqb-true align 8 e) h)
+
+    sixteen : IsTrue (nat_eq align 1 || nat_eq align 2 || nat_eq align 4 || nat_eq align 8) ⊎ IsTrue (nat_eq align 16) → a % b ≡ 0
+    sixteen (inl e) = eight (either_of (nat_eq align 1 || nat_eq align 2 || nat_eq align 4) (nat_eq align 8) e)
+    sixteen (inr e) = let wide : a % 16 ≡ 0 = subst (λ n. a % n ≡ 0) (eqb-true align 16 e) h in on_8 a b power (omega (arith, wide))
+
+sum_even : (base o : ℕ) → base % 2 ≡ 0 → o % 2 ≡ 0 → sum64 base o % 2 ≡ 0
+sum_even base o eb eo = omega (arith, eb, eo)
+
+-- blocks stand at even places, constants on their boundaries
+own_on_boundary : (L : Layout) → AllPlaced L → (m : MemArg) (b : ℕ) → IsOwn m → IsPower b → bound_cause (declared L) m ≡ None → alignment_cause (declared L) b m ≡ None → IsOnBoundary (address_of L m) b
+own_on_boundary L all (Label target) b own power bound aligned =
+    λ r. on_2 (sum64 L.image.base (L.places.block target.0)) b power (leb-true b 2 (unless_none (nat_le b 2) BadAlignment aligned)) (sum_even L.image.base (L.places.block target.0) all.even (block_even L all target.0 (label_known L target bound)))
+own_on_boundary L all (Constant c) b own power bound aligned =
+    let stands = all.constants c.0 (constant_known L c bound) in
+    let align = get_or L.places.outside.aligns c.0 0 in
+    λ r. on_alignment (constant_place L c.0) b align power (leb-true b align (unless_none (nat_le b align) BadAlignment aligned)) stands.alignment stands.aligned
+own_on_boundary L all m b own power bound aligned = absurd own
+
+pub on_boundary : (L : Layout) → AllPlaced L → (x : MemoryInstruction) → IsFineMemory L x → IsOwn x.operand → IsOnBoundary (address_of L x.operand) (boundary x)
+on_boundary L all x fine own =
+    let checked = first_none (bound_cause (declared L) x.operand) (alignment_cause (declared L) (boundary x) x.operand) fine.place in
+    own_on_boundary L all x.operand (boundary x) own (boundary_power x.form (type_of x.form x.accesses) x.accesses x.operand) checked.0 checked.1
+
+-- ---- bytes
+
+-- operators on a register and memory have no such row
+no_operate : (have : Bool) (short long : Option ℕ) (rd ri : Reg) (mem : MemArg) (opcode : ℕ) → relative_row_of (operate have short long rd ri mem) ≡ Some opcode → ⊥
+no_operate true short long rd ri mem opcode e = absurd (cc)
+no_operate false short long rd ri mem opcode e = absurd (cc)
+
+no_load_and_operate : (o : Option ℕ) (rd rn : Reg) (mem : MemArg) (opcode : ℕ) → relative_row_of (load_and_operate o rd rn mem) ≡ Some opcode → ⊥
+no_load_and_operate (Some x) rd rn mem opcode e = absurd (cc)
+no_load_and_operate None rd rn mem opcode e = absurd (cc)
+
+pub bytes_accessed : (i : Inst) (opcode : ℕ) → relative_row_of (memory i) ≡ Some opcode → StepAccesses (operand_step i) (relative_bytes opcode)
+bytes_accessed (Load32 rd mem) opcode e = let same : 0xc4d ≡ opcode = cc in subst (λ o. StepAccesses (operand_step (Load32 rd mem)) (relative_bytes o)) same (λ address r. (refl, refl))
+bytes_accessed (Load32ZExt16 rd mem) opcode e = let same : 0xc42 ≡ opcode = cc in subst (λ o. StepAccesses (operand_step (Load32ZExt16 rd mem)) (relative_bytes o)) same (λ address r. (refl, refl))
+bytes_accessed (Load32SExt16 rd mem) opcode e = let same : 0xc45 ≡ opcode = cc in subst (λ o. StepAccesses (operand_step (Load32SExt16 rd mem)) (relative_bytes o)) same (λ address r. (refl, refl))
+bytes_accessed (Load64 rd mem) opcode e = let same : 0xc48 ≡ opcode = cc in subst (λ o. StepAccesses (operand_step (Load64 rd mem)) (relative_bytes o)) same (λ address r. (refl, refl))
+bytes_accessed (Load64ZExt16 rd mem) opcode e = let same : 0xc46 ≡ opcode = cc in subst (λ o. StepAccesses (operand_step (Load64ZExt16 rd mem)) (relative_bytes o)) same (λ address r. (refl, refl))
+bytes_accessed (Load64SExt16 rd mem) opcode e = let same : 0xc44 ≡ opcode = cc in subst (λ o. StepAccesses (operand_step (Load64SExt16 rd mem)) (relative_bytes o)) same (λ address r. (refl, refl))
+bytes_accessed (Load64ZExt32 rd mem) opcode e = let same : 0xc4e ≡ opcode = cc in subst (λ o. StepAccesses (operand_step (Load64ZExt32 rd mem)) (relative_bytes o)) same (λ address r. (refl, refl))
+bytes_accessed (Load64SExt32 rd mem) opcode e = let same : 0xc4c ≡ opcode = cc in subst (λ o. StepAccesses (operand_step (Load64SExt32 rd mem)) (relative_bytes o)) same (λ address r. (refl, refl))
+bytes_accessed (Store16 rd mem) opcode e = let same : 0xc47 ≡ opcode = cc in subst (λ o. StepAccesses (operand_step (Store16 rd mem)) (relative_bytes o)) same (λ address r. (refl, refl))
+bytes_accessed (Store32 rd mem) opcode e = let same : 0xc4f ≡ opcode = cc in subst (λ o. StepAccesses (operand_step (Store32 rd mem)) (relative_bytes o)) same (λ address r. (refl, refl))
+bytes_accessed (Store64 rd mem) opcode e = let same : 0xc4b ≡ opcode = cc in subst (λ o. StepAccesses (operand_step (Store64 rd mem)) (relative_bytes o)) same (λ address r. (refl, refl))
+bytes_accessed (CmpRX C.CmpS32 rn mem) opcode e = let same : 0xc6d ≡ opcode = cc in subst (λ o. StepAccesses (operand_step (CmpRX C.CmpS32 rn mem)) (relative_bytes o)) same (λ address r. (refl, refl))
+bytes_accessed (CmpRX C.CmpS32Ext16 rn mem) opcode e = let same : 0xc65 ≡ opcode = cc in subst (λ o. StepAccesses (operand_step (CmpRX C.CmpS32Ext16 rn mem)) (relative_bytes o)) same (λ address r. (refl, refl))
+bytes_accessed (CmpRX C.CmpS64 rn mem) opcode e = let same : 0xc68 ≡ opcode = cc in subst (λ o. StepAccesses (operand_step (CmpRX C.CmpS64 rn mem)) (relative_bytes o)) same (λ address r. (refl, refl))
+bytes_accessed (CmpRX C.CmpS64Ext16 rn mem) opcode e = let same : 0xc64 ≡ opcode = cc in subst (λ o. StepAccesses (operand_step (CmpRX C.CmpS64Ext16 rn mem)) (relative_bytes o)) same (λ address r. (refl, refl))
+bytes_accessed (CmpRX C.CmpS64Ext32 rn mem) opcode e = let same : 0xc6c ≡ opcode = cc in subst (λ o. StepAccesses (operand_step (CmpRX C.CmpS64Ext32 rn mem)) (relative_bytes o)) same (λ address r. (refl, refl))
+bytes_accessed (CmpRX C.CmpL32 rn mem) opcode e = let same : 0xc6f ≡ opcode = cc in subst (λ o. StepAccesses (operand_step (CmpRX C.CmpL32 rn mem)) (relative_bytes o)) same (λ address r. (refl, refl))
+bytes_accessed (CmpRX C.CmpL32Ext16 rn mem) opcode e = let same : 0xc67 ≡ opcode = cc in subst (λ o. StepAccesses (operand_step (CmpRX C.CmpL32Ext16 rn mem)) (relative_bytes o)) same (λ address r. (refl, refl))
+bytes_accessed (CmpRX C.CmpL64 rn mem) opcode e = let same : 0xc6a ≡ opcode = cc in subst (λ o. StepAccesses (operand_step (CmpRX C.CmpL64 rn mem)) (relative_bytes o)) same (λ address r. (refl, refl))
+bytes_accessed (CmpRX C.CmpL64Ext16 rn mem) opcode e = let same : 0xc66 ≡ opcode = cc in subst (λ o. StepAccesses (operand_step (CmpRX C.CmpL64Ext16 rn mem)) (relative_bytes o)) same (λ address r. (refl, refl))
+bytes_accessed (CmpRX C.CmpL64Ext32 rn mem) opcode e = let same : 0xc6e ≡ opcode = cc in subst (λ o. StepAccesses (operand_step (CmpRX C.CmpL64Ext32 rn mem)) (relative_bytes o)) same (λ address r. (refl, refl))
+bytes_accessed (AluRX op rd ri mem) opcode e = absurd (no_operate (is_some (alu_rx op) || is_some (alu_rxy op)) (alu_rx op) (alu_rxy op) rd ri mem opcode e)
+bytes_accessed (AtomicRmw op rd rn mem) opcode e = absurd (no_load_and_operate (atomic_rsy op) rd rn mem opcode e)
+bytes_accessed i opcode e = absurd (cc)
+
+-- ---- no stop by alignment
+
+-- n bytes at a multiple of n
+reached_at_multiple : (a n : ℕ) (has : ℕ → Bool) → a % n ≡ 0 → reach_fault (is_misaligned true a n) has a n ≡ Some Specification → ⊥
+reached_at_multiple a n has h e = go (reaches has a n) (sym (ap (λ b. cond (not b) (Some Specification) (cond (reaches has a n) None (Some Access))) (eq-eqb (a % n) 0 h)) ∙ e)
+  where
+    go : (b : Bool) → cond b None (Some Access) ≡ Some Specification → ⊥
+    go true h = absurd (cc)
+    go false h = absurd (cc)
+
+-- an operation whose aligned access has so many bytes at its address
+abbrev AlignedBytes : (ℕ → Registers → Operation) → (size : ℕ) → Type 0
+AlignedBytes operation size = (a : ℕ) (r : Registers) (has : ℕ → Bool) → fault (access (aligned_effect (operation a r).effect)) has ≡ reach_fault (is_misaligned true a size) has a size
+
+-- comparisons have the form, and these bytes
+cmp_relative : (op : CmpOp) → (cmp_forms op).have_pcrel ≡ true
+cmp_relative C.CmpS32 = refl
+cmp_relative C.CmpS32Ext16 = refl
+cmp_relative C.CmpS64 = refl
+cmp_relative C.CmpS64Ext16 = refl
+cmp_relative C.CmpS64Ext32 = refl
+cmp_relative C.CmpL32 = refl
+cmp_relative C.CmpL32Ext16 = refl
+cmp_relative C.CmpL64 = refl
+cmp_relative C.CmpL64Ext16 = refl
+cmp_relative C.CmpL64Ext32 = refl
+
+cmp_bytes : (op : CmpOp) (n : ℕ) → AlignedBytes (compares_at (comparison op) n) (relative_bytes (cmp_ril op))
+cmp_bytes C.CmpS32 n a r has = refl
+cmp_bytes C.CmpS32Ext16 n a r has = refl
+cmp_bytes C.CmpS64 n a r has = refl
+cmp_bytes C.CmpS64Ext16 n a r has = refl
+cmp_bytes C.CmpS64Ext32 n a r has = refl
+cmp_bytes C.CmpL32 n a r has = refl
+cmp_bytes C.CmpL32Ext16 n a r has = refl
+cmp_bytes C.CmpL64 n a r has = refl
+cmp_bytes C.CmpL64Ext16 n a r has = refl
+cmp_bytes C.CmpL64Ext32 n a r has = refl
+
+module _ (L : Layout) (all : AllPlaced L) where
+  -- an operand at an address, where the rows have its form
+  stands_aligned : (size a : ℕ) (operation : ℕ → Registers → Operation) (have : Bool) → have ≡ true → AlignedBytes operation size → a % size ≡ 0 → (r : Registers) (has : ℕ → Bool) → fault (access (aligned_where (not (not have)) (operation a r)).effect) has ≡ Some Specification → ⊥
+  stands_aligned size a operation false have bytes multiple r has e = absurd (cc)
+  stands_aligned size a operation true have bytes multiple r has e = reached_at_multiple a size has multiple (sym (bytes a r has) ∙ e)
+
+  own_never : (register : ℕ) (short long : Option ℕ) (opcode : ℕ) (m : MemArg) (fits reads : Bool) → IsFineMemory L (record { form = RxForm register short long (Some opcode); operand = m; accesses = true; fine = fits; reads_scratch = reads }) → IsOwn m → (forms : MemInstType) (operation : ℕ → Registers → Operation) → forms.have_pcrel ≡ true → AlignedBytes operation (relative_bytes opcode) → NeverMisaligned (performed_at (record { operand = m; forms = forms; accesses = true; operation = operation }) (address_of L m))
+  own_never register short long opcode (Label target) fits reads fine own forms operation have bytes =
+      λ r has e. stands_aligned (relative_bytes opcode) (sum64 L.image.base (L.places.block target.0)) operation forms.have_pcrel have bytes (on_boundary L all (record { form = RxForm register short long (Some opcode); operand = Label target; accesses = true; fine = fits; reads_scratch = reads }) fine own r) r has e
+  own_never register short long opcode (Constant c) fits reads fine own forms operation have bytes =
+      λ r has e. stands_aligned (relative_bytes opcode) (constant_place L c.0) operation forms.have_pcrel have bytes (on_boundary L all (record { form = RxForm register short long (Some opcode); operand = Constant c; accesses = true; fine = fits; reads_scratch = reads }) fine own r) r has e
+  own_never register short long opcode m fits reads fine own forms operation have bytes = absurd own
+
+  pub never_misaligned : (i : Inst) (opcode : ℕ) → relative_row_of (memory i) ≡ Some opcode → FineMemoryOr L (memory i) ⊥ → OwnOperand (memory i) → NeverMisaligned (performed_in_memory L i)
+  never_misaligned (Load32 rd mem) opcode e fine own = own_never (number_of rd) (Some 0x58) (Some 0xe358) 0xc4d mem (is_general rd) false fine own (indexed_forms true true true) (loads_at Word word (number_of rd)) refl (λ a r has. refl)
+  never_misaligned (Load32ZExt16 rd mem) opcode e fine own = own_never (number_of rd) None (Some 0xe395) 0xc42 mem (is_general rd) false fine own (indexed_forms false true true) (loads_at Word halfword (number_of rd)) refl (λ a r has. refl)
+  never_misaligned (Load32SExt16 rd mem) opcode e fine own = own_never (number_of rd) (Some 0x48) (Some 0xe378) 0xc45 mem (is_general rd) false fine own (indexed_forms true true true) (loads_at Word signed_halfword (number_of rd)) refl (λ a r has. refl)
+  never_misaligned (Load64 rd mem) opcode e fine own = own_never (number_of rd) None (Some 0xe304) 0xc48 mem (is_general rd) false fine own (indexed_forms false true true) (loads_at Doubleword doubleword (number_of rd)) refl (λ a r has. refl)
+  never_misaligned (Load64ZExt16 rd mem) opcode e fine own = own_never (number_of rd) None (Some 0xe391) 0xc46 mem (is_general rd) false fine own (indexed_forms false true true) (loads_at Doubleword halfword (number_of rd)) refl (λ a r has. refl)
+  never_misaligned (Load64SExt16 rd mem) opcode e fine own = own_never (number_of rd) None (Some 0xe315) 0xc44 mem (is_general rd) false fine own (indexed_forms false true true) (loads_at Doubleword signed_halfword (number_of rd)) refl (λ a r has. refl)
+  never_misaligned (Load64ZExt32 rd mem) opcode e fine own = own_never (number_of rd) None (Some 0xe316) 0xc4e mem (is_general rd) false fine own (indexed_forms false true true) (loads_at Doubleword word (number_of rd)) refl (λ a r has. refl)
+  never_misaligned (Load64SExt32 rd mem) opcode e fine own = own_never (number_of rd) None (Some 0xe314) 0xc4c mem (is_general rd) false fine own (indexed_forms false true true) (loads_at Doubleword signed_word (number_of rd)) refl (λ a r has. refl)
+  never_misaligned (Store16 rd mem) opcode e fine own = own_never (number_of rd) (Some 0x40) (Some 0xe370) 0xc47 mem (is_general rd) (is_numbered 1 rd) fine own (indexed_forms true true true) (stores_at halfword (number_of rd)) refl (λ a r has. refl)
+  never_misaligned (Store32 rd mem) opcode e fine own = own_never (number_of rd) (Some 0x50) (Some 0xe350) 0xc4f mem (is_general rd) (is_numbered 1 rd) fine own (indexed_forms true true true) (stores_at word (number_of rd)) refl (λ a r has. refl)
+  never_misaligned (Store64 rd mem) opcode e fine own = own_never (number_of rd) None (Some 0xe324) 0xc4b mem (is_general rd) (is_numbered 1 rd) fine own (indexed_forms false true true) (stores_at doubleword (number_of rd)) refl (λ a r has. refl)
+  never_misaligned (CmpRX op rn mem) opcode e fine own = own_never (number_of rn) (cmp_rx op) (cmp_rxy op) (cmp_ril op) mem (is_general rn) (is_numbered 1 rn) fine own (cmp_forms op) (compares_at (comparison op) (number_of rn)) (cmp_relative op) (cmp_bytes op (number_of rn))
+  never_misaligned (AluRX op rd ri mem) opcode e fine own = absurd (no_operate (is_some (alu_rx op) || is_some (alu_rxy op)) (alu_rx op) (alu_rxy op) rd ri mem opcode e)
+  never_misaligned (AtomicRmw op rd rn mem) opcode e fine own = absurd (no_load_and_operate (atomic_rsy op) rd rn mem opcode e)
+  never_misaligned i opcode e fine own = absurd (cc)

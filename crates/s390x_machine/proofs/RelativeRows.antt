@@ -1,0 +1,90 @@
+-- The rows that are relative to the instruction: each is listed, and does its instruction's operation.
+use Rattle.std.proofs.Common.{◌≡◌, ℕ, Option, Some, None, refl, arith}
+use Rattle.s390x_inst.specs.declared.ops.CmpOp.{CmpOp}
+use Rattle.s390x_inst.specs.declared.ops.CmpOp.TheVariants as C
+use Rattle.s390x_format.specs.declared.kind.FormatKind.TheVariants.{RilB}
+use Rattle.s390x_format.specs.Lookup.{row_for}
+use Rattle.s390x_format.specs.Fetch.{machine_rows}
+use Rattle.s390x_steps.specs.Storage.{cmp_ril}
+use Rattle.s390x_operations.specs.declared.size.Size.{Size}
+use Rattle.s390x_operations.specs.declared.size.Size.TheVariants.{Word, Doubleword}
+use Rattle.s390x_operations.specs.declared.operator.Operator.TheVariants.{Move}
+use Rattle.s390x_operations.specs.declared.effect.CodeRule.TheVariants.{Kept}
+use Rattle.s390x_machine.specs.declared.meaning.Meaning.{Meaning}
+use Rattle.s390x_machine.specs.declared.meaning.Meaning.TheVariants.{Compute, Compare, Store}
+use Rattle.s390x_machine.specs.declared.meaning.Shape.TheVariants.{Relative, RelativeAddress}
+use Rattle.s390x_machine.specs.Computations.{Second, word, signed_word, signed_halfword, halfword, doubleword, comparison}
+use Rattle.s390x_machine.specs.Meanings.{meaning_in, meaning_of}
+use Rattle.s390x_machine.proofs.Alone.{OpcodeRow, OpcodeRows, second_register}
+
+-- the row of an instruction, where it has one
+abbrev pub RelativeRows : Option ℕ → Meaning → Type 0
+RelativeRows opcode meaning = OpcodeRows RilB 4096 opcode meaning
+
+-- what a load and a store do
+abbrev pub relative_loading : Size → Second → Meaning
+relative_loading size s = Compute Move size (second_register Relative s) Kept
+
+abbrev pub relative_storing : Second → Meaning
+relative_storing s = Store (second_register Relative s)
+
+pub relative_address_row : RelativeRows (Some 0xc00) (Compute Move Doubleword (second_register RelativeAddress doubleword) Kept)
+unfolding machine_rows row_for meaning_in meaning_of
+relative_address_row = record { some = omega arith; few = omega arith; lists = (refl, refl, refl); means = refl; single = refl }
+
+pub relative_load_32 : RelativeRows (Some 0xc4d) (relative_loading Word word)
+unfolding machine_rows row_for meaning_in meaning_of
+relative_load_32 = record { some = omega arith; few = omega arith; lists = (refl, refl, refl); means = refl; single = refl }
+
+pub relative_load_32_zero_16 : RelativeRows (Some 0xc42) (relative_loading Word halfword)
+unfolding machine_rows row_for meaning_in meaning_of
+relative_load_32_zero_16 = record { some = omega arith; few = omega arith; lists = (refl, refl, refl); means = refl; single = refl }
+
+pub relative_load_32_signed_16 : RelativeRows (Some 0xc45) (relative_loading Word signed_halfword)
+unfolding machine_rows row_for meaning_in meaning_of
+relative_load_32_signed_16 = record { some = omega arith; few = omega arith; lists = (refl, refl, refl); means = refl; single = refl }
+
+pub relative_load_64 : RelativeRows (Some 0xc48) (relative_loading Doubleword doubleword)
+unfolding machine_rows row_for meaning_in meaning_of
+relative_load_64 = record { some = omega arith; few = omega arith; lists = (refl, refl, refl); means = refl; single = refl }
+
+pub relative_load_64_zero_16 : RelativeRows (Some 0xc46) (relative_loading Doubleword halfword)
+unfolding machine_rows row_for meaning_in meaning_of
+relative_load_64_zero_16 = record { some = omega arith; few = omega arith; lists = (refl, refl, refl); means = refl; single = refl }
+
+pub relative_load_64_signed_16 : RelativeRows (Some 0xc44) (relative_loading Doubleword signed_halfword)
+unfolding machine_rows row_for meaning_in meaning_of
+relative_load_64_signed_16 = record { some = omega arith; few = omega arith; lists = (refl, refl, refl); means = refl; single = refl }
+
+pub relative_load_64_zero_32 : RelativeRows (Some 0xc4e) (relative_loading Doubleword word)
+unfolding machine_rows row_for meaning_in meaning_of
+relative_load_64_zero_32 = record { some = omega arith; few = omega arith; lists = (refl, refl, refl); means = refl; single = refl }
+
+pub relative_load_64_signed_32 : RelativeRows (Some 0xc4c) (relative_loading Doubleword signed_word)
+unfolding machine_rows row_for meaning_in meaning_of
+relative_load_64_signed_32 = record { some = omega arith; few = omega arith; lists = (refl, refl, refl); means = refl; single = refl }
+
+pub relative_store_16 : RelativeRows (Some 0xc47) (relative_storing halfword)
+unfolding machine_rows row_for meaning_in meaning_of
+relative_store_16 = record { some = omega arith; few = omega arith; lists = (refl, refl, refl); means = refl; single = refl }
+
+pub relative_store_32 : RelativeRows (Some 0xc4f) (relative_storing word)
+unfolding machine_rows row_for meaning_in meaning_of
+relative_store_32 = record { some = omega arith; few = omega arith; lists = (refl, refl, refl); means = refl; single = refl }
+
+pub relative_store_64 : RelativeRows (Some 0xc4b) (relative_storing doubleword)
+unfolding machine_rows row_for meaning_in meaning_of
+relative_store_64 = record { some = omega arith; few = omega arith; lists = (refl, refl, refl); means = refl; single = refl }
+
+pub cmp_relative_rows : (op : CmpOp) → RelativeRows (Some (cmp_ril op)) (Compare (comparison op).sign (comparison op).size (second_register Relative (comparison op).second))
+unfolding machine_rows row_for meaning_in meaning_of
+cmp_relative_rows C.CmpS32 = record { some = omega arith; few = omega arith; lists = (refl, refl, refl); means = refl; single = refl }
+cmp_relative_rows C.CmpS32Ext16 = record { some = omega arith; few = omega arith; lists = (refl, refl, refl); means = refl; single = refl }
+cmp_relative_rows C.CmpS64 = record { some = omega arith; few = omega arith; lists = (refl, refl, refl); means = refl; single = refl }
+cmp_relative_rows C.CmpS64Ext16 = record { some = omega arith; few = omega arith; lists = (refl, refl, refl); means = refl; single = refl }
+cmp_relative_rows C.CmpS64Ext32 = record { some = omega arith; few = omega arith; lists = (refl, refl, refl); means = refl; single = refl }
+cmp_relative_rows C.CmpL32 = record { some = omega arith; few = omega arith; lists = (refl, refl, refl); means = refl; single = refl }
+cmp_relative_rows C.CmpL32Ext16 = record { some = omega arith; few = omega arith; lists = (refl, refl, refl); means = refl; single = refl }
+cmp_relative_rows C.CmpL64 = record { some = omega arith; few = omega arith; lists = (refl, refl, refl); means = refl; single = refl }
+cmp_relative_rows C.CmpL64Ext16 = record { some = omega arith; few = omega arith; lists = (refl, refl, refl); means = refl; single = refl }
+cmp_relative_rows C.CmpL64Ext32 = record { some = omega arith; few = omega arith; lists = (refl, refl, refl); means = refl; single = refl }

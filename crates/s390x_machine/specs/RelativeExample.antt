@@ -1,0 +1,78 @@
+-- A function of one block in memory at 4096 that loads its constant and the address of a symbol, both by their distances, and returns; and a run of it.
+use Rattle.std.specs.Prelude.{ℕ, ◌-◌, ◌/◌, pos, List, [], ◌∷◌, None, if◌then◌else◌, ◌==◌, slice_index}
+use Rattle.s390x_base.specs.Registers.{general}
+use Rattle.s390x_base.specs.declared.regs.Reg.TheVariants.{Real}
+use Rattle.s390x_buffer.specs.State.{Constant as DeclaredConstant}
+use Rattle.s390x_inst.specs.Memory.{trusted}
+use Rattle.s390x_inst.specs.declared.args.MemArg.TheVariants.{Constant, Symbol}
+use Rattle.s390x_inst.specs.declared.inst.Inst.{Inst}
+use Rattle.s390x_inst.specs.declared.inst.Inst.TheVariants.{Load32, LoadAddr, Ret}
+use Rattle.s390x_steps.specs.Tree.{Tree, empty, leaf}
+use Rattle.s390x_steps.specs.Causes.{aligns_of}
+use Rattle.s390x_steps.specs.Image.{constant_place}
+use Rattle.s390x_steps.specs.Rows.{Outside}
+use Rattle.s390x_operations.specs.State.{Registers, Core, CodeImage, is_within, Lies, put}
+use Rattle.s390x_operations.specs.declared.stop.ConditionCode.TheVariants.{Code0}
+use Rattle.s390x_machine.specs.Machine.{Turn, Went, Run}
+use Rattle.s390x_machine.specs.Layout.{block_place}
+use Rattle.s390x_machine.specs.Functions.{function_layout, StandsAsCode}
+
+-- lrl %r2, the word behind the code; larl %r3, 8192; br %r14; two bytes without use, and the word, 42: as an assembler gives them
+abbrev pub image : CodeImage
+image = record {
+  base = 4096;
+  bytes = 0xc4 ∷ 0x2d ∷ 0x00 ∷ 0x00 ∷ 0x00 ∷ 0x08 ∷ 0xc0 ∷ 0x30 ∷ 0x00 ∷ 0x00 ∷ 0x07 ∷ 0xfd ∷ 0x07 ∷ 0xfe ∷ 0x00 ∷ 0x00 ∷ 0x00 ∷ 0x00 ∷ 0x00 ∷ 0x2a ∷ [];
+}
+
+-- the constant
+abbrev pub constants : List DeclaredConstant
+constants = record { bytes = 0 ∷ 0 ∷ 0 ∷ 42 ∷ []; align = 4 } ∷ []
+
+-- the constant into `%r2`
+abbrev pub loads : Inst
+loads = Load32 (Real (general 2)) (Constant (record { 0 = 0 }))
+
+-- the symbol's address into `%r3`
+abbrev pub names : Inst
+names = LoadAddr (Real (general 3)) (Symbol (record { 0 = 1 }) (pos 0) trusted)
+
+-- the block
+abbrev pub trees : List Tree
+trees = leaf loads (leaf names (leaf (Ret (Real (general 14))) empty)) ∷ []
+
+-- the constant stands behind the code, and the symbol at 8192
+abbrev pub outside : Outside
+outside = record {
+  constant = constant_place trees constants;
+  aligns = aligns_of constants;
+  symbol_value = λ name offset. 8192;
+  symbol_distance = λ place name offset. (4096 - place) / 2;
+}
+
+-- `%r14` is 8192
+abbrev pub registers : Registers
+registers = record { general = λ i. if i == 14 then 8192 else 0; vector = λ i. 0; access = λ i. 0; code = Code0 }
+
+-- the image and nothing else is accessible
+abbrev pub core : Core
+core = record { registers = registers; memory = record { has = λ a. is_within image a; get = λ a. slice_index image.bytes (a - 4096) } }
+
+-- `%r2` is the constant
+abbrev pub with_constant : Core
+with_constant = record { registers = put registers 2 42; memory = core.memory }
+
+-- `%r3` is the symbol's address too
+abbrev pub with_both : Core
+with_both = record { registers = put with_constant.registers 3 8192; memory = core.memory }
+
+-- a turn without writes of others that stores nothing, after which the core and the place are these
+abbrev pub turn : Core → ℕ → Turn
+turn c place = record { writes = []; event = Went None; after = record { core = c; place = place } }
+
+-- the load, the address, and back to the caller
+abbrev pub turns : List Turn
+turns = turn with_constant 4102 ∷ turn with_both 4108 ∷ turn with_both 8192 ∷ []
+
+-- the image is the function's code and lies in memory, and the machine runs so from the block
+abbrev pub RelativeRuns : Type 0
+RelativeRuns = StandsAsCode outside trees image × Lies image core.memory × Run image (record { core = core; place = block_place (function_layout outside trees image) 0 }) turns
