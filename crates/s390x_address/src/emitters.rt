@@ -20,7 +20,8 @@ use s390x_buffer::MachBuffer;
 use s390x_inst::{EmitInfo, EmitState, MemArg};
 use std::alloc::Global;
 
-const LIMIT: u64 = 2147483648;
+/// Code ends below this length.
+pub const LIMIT: u64 = 2147483648;
 
 // Emits the instruction, where no cause refuses it and it fits in the buffer.
 fn emit_checked(

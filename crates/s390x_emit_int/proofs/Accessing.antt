@@ -1,5 +1,5 @@
 -- The parts of an instruction with a memory operand as pieces: what they do to a buffer.
-use Rattle.std.proofs.Common.{◌≡◌, ℕ, ◌+◌, List, [], ◌∷◌, ◌++◌, length, refl, sym, ap, ap₂, ◌∙◌, arith, append-nil}
+use Rattle.std.proofs.Common.{◌≡◌, ◌+◌, List, [], ◌∷◌, ◌++◌, length, refl, ap, ap₂, ◌∙◌, arith, append-nil}
 use Rattle.s390x_base.specs.declared.trap.TrapKind.{TrapKind}
 use Rattle.s390x_buffer.specs.State.{State}
 use Rattle.s390x_steps.specs.Parts.{Part, Row, Trapping, Relative, RelativeConstant, RelativeSymbol, TrapHere, ToBlock}

@@ -6,7 +6,7 @@ use Rattle.s390x_base.specs.declared.error.EmitError.{EmitError}
 use Rattle.s390x_inst.specs.declared.inst.Inst.{Inst}
 use Rattle.s390x_steps.specs.Tree.{Tree, empty, leaf, looped, graft, tree}
 use Rattle.s390x_steps.specs.Sizes.{instruction_size, tree_size}
-use Rattle.s390x_steps.specs.Causes.{Declared, first, draws, nesting_cause, numbers_cause, instruction_draws, leaf_cause, tree_cause}
+use Rattle.s390x_steps.specs.Causes.{Declared, first, draws, nesting_cause, numbers_cause, instruction_cause, instruction_draws, leaf_cause, tree_cause}
 use Rattle.s390x_steps.proofs.Trees.{behind, graft_draws, graft_size}
 use Rattle.s390x_steps.proofs.Causes.{first_none, graft_cause}
 use Rattle.s390x_emit_int.specs.Totals.{Adds, limit}
@@ -59,3 +59,17 @@ leaf_answer flags D depth t i x (Ok r) e p = (
   },
 )
 leaf_answer flags D depth t i x (Err d) e p = ap (tree_cause flags D t.labels depth) e ∙ first_none _ ∙ p
+
+-- an instruction without a cause adds its labels, unless their numbers are too many
+pub no_cause : (flags : IsaFlags) (D : Declared) (depth : ℕ) (t : Totals) (i : Inst) (labels bytes : ℕ) (result : Result Totals EmitError) → instruction_cause flags D depth i ≡ None → labels ≡ instruction_draws i → min limit bytes ≡ min limit (instruction_size i) →
+    MatchResult result (λ r. (numbers_cause t.labels labels ≡ None) × Adds t r labels bytes) (λ e. numbers_cause t.labels labels ≡ Some e) →
+    MatchResult result (λ r. (leaf_cause flags D t.labels depth i ≡ None) × Adds t r (instruction_draws i) (instruction_size i)) (λ e. leaf_cause flags D t.labels depth i ≡ Some e)
+no_cause flags D depth t i labels bytes (Ok r) none draws size p = (
+  ap (λ o. first o (numbers_cause t.labels (instruction_draws i))) none ∙ sym (ap (numbers_cause t.labels) draws) ∙ p.0,
+  record {
+    counted = p.1.counted;
+    labels = omega (arith, p.1.labels, draws);
+    bytes = p.1.bytes ∙ (omega (arith, size));
+  },
+)
+no_cause flags D depth t i labels bytes (Err e) none draws size p = ap (λ o. first o (numbers_cause t.labels (instruction_draws i))) none ∙ sym (ap (numbers_cause t.labels) draws) ∙ p

@@ -1,12 +1,12 @@
 -- Where constants stand: at even places, on their boundaries, and below their end.
-use Rattle.std.proofs.Common.{◌≡◌, ℕ, zero, suc, ◌+◌, ◌%◌, ◌<◌, ◌≤◌, inl, inr, List, [], ◌∷◌, ◌++◌, length, map, get_or, take, drop, Bool, true, false, cond, ◌||◌, nat_eq, max, Option, None, Some, refl, sym, ap, ◌∙◌, subst, arith, eqb-true, length-append, length-take}
+use Rattle.std.proofs.Common.{◌≡◌, ℕ, zero, suc, ◌+◌, ◌%◌, ◌<◌, ◌≤◌, inl, inr, List, [], ◌∷◌, ◌++◌, length, map, get_or, take, drop, Bool, true, false, cond, ◌||◌, nat_eq, max, Option, None, Some, refl, sym, ap, ◌∙◌, subst, arith, eqb-true, length-take}
 use Rattle.std.proofs.lemmas.Bool.{and_parts, or_cases}
 use Rattle.std.proofs.lemmas.List.{length-map, get_or_append_left, get_or-append-add}
 use Rattle.s390x_base.specs.declared.error.EmitError.{EmitError}
 use Rattle.s390x_buffer.specs.State.{Constant, is_alignment, all_aligned}
 use Rattle.s390x_buffer.specs.Constants.{round_up, constant_start, constant_starts, constants_end, greatest_align}
 use Rattle.s390x_buffer.specs.Finish.{bind_constants}
-use Rattle.s390x_buffer.proofs.Placing.{start-ge, end-ge}
+use Rattle.s390x_buffer.proofs.Placing.{end-ge}
 use Rattle.s390x_steps.specs.Causes.{aligns_of}
 
 -- an alignment that a constant may have

@@ -1,5 +1,5 @@
 -- After a check that found no cause, a buffer can be finished.
-use Rattle.std.proofs.Common.{◌≡◌, ℕ, ◌+◌, ◌-◌, ◌%◌, ◌<◌, ◌≤◌, ◌⊎◌, inl, inr, List, [], ◌∷◌, length, get_or, Bool, true, cond, nat_lt, nat_le, nat_eq, Option, Result, Ok, Err, MatchResult, refl, sym, ap, ◌∙◌, subst, arith, length-append, None, Some}
+use Rattle.std.proofs.Common.{◌≡◌, ℕ, ◌+◌, ◌-◌, ◌%◌, ◌<◌, ◌≤◌, inl, inr, List, [], ◌∷◌, length, get_or, Bool, true, cond, nat_lt, nat_le, nat_eq, Option, Result, Ok, Err, MatchResult, refl, sym, ap, ◌∙◌, subst, arith, length-append, None, Some}
 use Rattle.std.specs.Prelude.{is_some}
 use Rattle.std.proofs.lemmas.Bool.{cases_lt, and_from, ltb-true, lt-ltb, le-leb, eq-eqb}
 use Rattle.std.proofs.lemmas.List.{length-map, length-replicate}
@@ -22,9 +22,8 @@ use Rattle.s390x_steps.specs.Causes.{declared_of, draws, blocks_cause}
 use Rattle.s390x_steps.specs.Sizes.{blocks_size}
 use Rattle.s390x_steps.proofs.Causes.{first_left, first_right, unless_true}
 use Rattle.s390x_emit_int.specs.Function.{checked_cause, length_cause}
-use Rattle.s390x_emit_int.specs.Pieces.{Piece, apply, run, Put, PutTrapping, PutReloc, Link, LinkConstant, Step, Draw, Bind}
+use Rattle.s390x_emit_int.specs.Pieces.{run}
 use Rattle.s390x_emit_int.specs.Emission.{pieces, function_pieces}
-use Rattle.s390x_emit_int.specs.Resolve.{put_length}
 use Rattle.s390x_emit_int.specs.Bound.{TreesName}
 use Rattle.s390x_emit_int.proofs.Constants.{aligned_constants, starts_of, middle_label}
 use Rattle.s390x_emit_int.proofs.Closing.{blocks_closed, drawn_closed}

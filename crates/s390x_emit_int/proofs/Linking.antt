@@ -29,7 +29,7 @@ use Rattle.s390x_steps.specs.Rows.{Outside}
 use Rattle.s390x_steps.specs.Image.{place, places, unlinked, function_code}
 use Rattle.s390x_steps.specs.Relocs.{part_relocs, parts_relocs, step_relocs, relocs_from, function_relocs}
 use Rattle.s390x_steps.specs.Sizes.{blocks_size}
-use Rattle.s390x_steps.specs.Causes.{first, aligns_of}
+use Rattle.s390x_steps.specs.Causes.{aligns_of}
 use Rattle.s390x_steps.proofs.Causes.{first_left}
 use Rattle.s390x_emit_int.specs.Bound.{Follows}
 use Rattle.s390x_emit_int.specs.Function.{checked_cause, IsImage}

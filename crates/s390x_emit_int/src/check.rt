@@ -14,11 +14,10 @@ ghost use Rattle.s390x_emit_int.specs.Totals.{IsCounted, Adds, limit};
 use crate::alone::find_alone;
 use crate::causes::instruction_refusal;
 use crate::memory::find_memory;
+use s390x_address::emitters::LIMIT;
 use s390x_base::EmitError;
 use s390x_buffer::MachBuffer;
 use s390x_inst::{EmitState, Inst, IsaFlags};
-
-const LIMIT: u64 = 2147483648;
 
 /// How many label numbers are in use, and how many bytes the steps have, counted up to the limit of code.
 #[derive(Clone, Copy, PartialEq, Eq, Debug)]

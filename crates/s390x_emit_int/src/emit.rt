@@ -13,13 +13,11 @@ ghost use Rattle.s390x_emit_int.specs.Room.{HasRoom, LacksMemory};
 
 use crate::check::{Totals, check_inst};
 use crate::tree::emit_inst;
+use s390x_address::emitters::LIMIT;
 use s390x_base::{EmitError, MachLabel, TrapCode};
 use s390x_buffer::MachBuffer;
 use s390x_inst::{EmitInfo, EmitState, Inst, IsaFlags};
 use std::alloc::Global;
-
-// Code ends below this length.
-const LIMIT: u64 = 2147483648;
 
 /// Appends bytes. Refused by `Failed` where the buffer bears the mark, and by `LabelOutOfRange` where the length would reach 2^31;
 /// the buffer is marked then (cranelift-codegen, `emit.rs`, `put`).

@@ -11,6 +11,8 @@ mod buffer_tables;
 mod decoder;
 #[cfg(test)]
 mod emit;
+#[cfg(test)]
+mod relative;
 
 #[cfg(test)]
 mod tests {

@@ -2,7 +2,7 @@ use Rattle.std.proofs.Common.{sym, ap, ◌∙◌}
 use Rattle.s390x_base.specs.declared.error.EmitError.TheVariants.{MissingFacility}
 use Rattle.s390x_inst.specs.Facilities.{has_facility}
 use Rattle.s390x_steps.specs.Alone.{alone}
-use Rattle.s390x_steps.specs.Causes.{first, unless, cause_or, memory_cause_or, branch_cause}
+use Rattle.s390x_steps.specs.Causes.{first, unless, declared_in, cause_or, memory_cause_or, branch_cause}
 use Rattle.s390x_steps.specs.Memory.{memory}
 use Rattle.s390x_steps.specs.Resolved.{resolved_instruction}
 use Rattle.s390x_emit_int.proofs.Resolving.{cause_resolved}

@@ -1,6 +1,5 @@
 use Rattle.std.proofs.Common.{◌≡◌, None, sym, ap, ◌∙◌, min}
 use Rattle.s390x_steps.specs.Alone.{alone}
-use Rattle.s390x_steps.specs.Causes.{branch_cause}
 use Rattle.s390x_steps.specs.Memory.{memory}
 use Rattle.s390x_steps.specs.Resolved.{resolved_instruction}
 use Rattle.s390x_emit_int.specs.Alone.{alone_of}
@@ -21,5 +20,5 @@ returns-in-None-clause-value c = λ flags D depth none.
     let i = c.args.inst.now in
     let j = resolved_instruction c.args.state.now i in
     let e : None ≡ alone j = c.in-None.ensures.row ∙ sym (alone_resolved c.args.state.now i) in
-    let free = or_none D (memory j) (branch_cause D.blocks depth j) (none_cause flags D depth j e none) in
+    let free = or_none D (memory j) _ (none_cause flags D depth j e none) in
     c.other_size.ensures.value D free ∙ ap (min limit) (ap (memory_size_or (memory j)) (sym (size_resolved c.args.state.now i)) ∙ sym (none_size j e))
