@@ -1,5 +1,5 @@
 -- Two jobs with the same lines have the same causes, the same code and the same symbols.
-use Rattle.std.proofs.Common.{◌≡◌, ◌+◌, ◌++◌, List, map, length, Option, None, sym, ap, ◌∙◌, subst, append-nil, nat_lt}
+use Rattle.std.proofs.Common.{◌≡◌, ℕ, ◌+◌, ◌++◌, List, map, length, Option, None, sym, ap, ◌∙◌, subst, append-nil, nat_lt}
 use Rattle.std.proofs.lemmas.List.{length-map}
 use Rattle.s390x_inst.specs.declared.state.IsaFlags.{IsaFlags}
 use Rattle.s390x_base.specs.declared.error.EmitError.{EmitError}
