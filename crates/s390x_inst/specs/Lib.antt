@@ -1,5 +1,6 @@
 pub mod Constructors
 pub mod Emission
 pub mod Facilities
+pub mod Frames
 pub mod Memory
 pub mod State

@@ -1,6 +1,7 @@
 //! Typed instructions of the s390x back end, their operators, operands and emission state.
 #![tactic(auto)]
 
+pub mod abi;
 pub mod args;
 pub mod calls;
 pub mod facility;
@@ -12,6 +13,7 @@ pub mod state;
 pub mod vec_inst;
 pub mod vec_ops;
 
+pub use abi::{gen_retval_loads, gen_tail_epilogue};
 pub use args::MemArg;
 pub use calls::{
     ArgPair, CallArgPair, CallConv, CallInfo, CallInstDest, CallRetPair, RetLocation, RetPair,
