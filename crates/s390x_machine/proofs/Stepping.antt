@@ -22,7 +22,7 @@ pub no_unknown : (d : Decoded) → Unknown ≡ Found d → ⊥
 no_unknown d e = cc
 
 -- what was found; else a given one
-found_or : Decoded → Fetched → Decoded
+abbrev found_or : Decoded → Fetched → Decoded
 found_or d Misplaced = d
 found_or d Missing = d
 found_or d Unknown = d
@@ -51,15 +51,15 @@ row_acts s d meaning odd event t h is pair acts = record {
 pub no_meaning_stops : (s : State) (d : Decoded) → IsFound s.core.memory s.place d → meaning_of d.row.opcode ≡ None → Steps s (Stopped Operation s.place) s
 no_meaning_stops s d h is = (
   λ (o : IsOpen s).
-    let same : d ≡ o.found = found_alike d o.found (one_thing s.core.memory s.place (Found d) (Found o.found) h o.at) in
-    let says : is_open None d.fields s.core.registers ≡ true = sym (ap (λ (m : Option Meaning). is_open m d.fields s.core.registers) is) ∙ ap (λ (e : Decoded). is_open (meaning_of e.row.opcode) e.fields s.core.registers) same ∙ o.says_nothing in
-    true≢false (sym says),
+      let same : d ≡ o.found = found_alike d o.found (one_thing s.core.memory s.place (Found d) (Found o.found) h o.at) in
+      let says : is_open None d.fields s.core.registers ≡ true = sym (ap (λ (m : Option Meaning). is_open m d.fields s.core.registers) is) ∙ ap (λ (e : Decoded). is_open (meaning_of e.row.opcode) e.fields s.core.registers) same ∙ o.says_nothing in
+      true≢false (sym says),
   record {
     fetched = Found d;
     fetches = h;
     acts = subst (λ (m : Option Meaning). RowActs m d.fields (length_of d.row.format) s (Stops' Operation) s) (sym is) (refl, refl);
   },
-  refl
+  refl,
 )
 
 pub odd_pair_stops : (s : State) (d : Decoded) (meaning : Meaning) → IsFound s.core.memory s.place d → meaning_of d.row.opcode ≡ Some meaning → is_odd_pair meaning d.fields ≡ true → MachineStep s (Stops' Specification) s
