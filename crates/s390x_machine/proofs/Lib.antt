@@ -14,6 +14,7 @@ pub mod Frame
 pub mod Functions
 pub mod Helpers
 pub mod Induction
+pub mod RowMeanings
 pub mod Multiples
 pub mod Numbers
 pub mod Simulation

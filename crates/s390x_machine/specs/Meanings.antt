@@ -221,6 +221,6 @@ unfoldable pub meaning_in : List RowMeaning → ℕ → Option Meaning
 meaning_in [] opcode = None
 meaning_in (row ∷ rows) opcode = if row.opcode == opcode then Some row.meaning else meaning_in rows opcode
 
--- the meaning of an opcode; none of one that isn't built yet
+-- the meaning of an opcode; none of one that no row has
 unfoldable pub meaning_of : ℕ → Option Meaning
 meaning_of opcode = meaning_in MEANINGS opcode

@@ -1,5 +1,5 @@
 -- What a step of the machine as a program answers.
-use Rattle.std.specs.Prelude.{◌≡◌, ℕ, Bool, true, IsTrue, Option, Some, None}
+use Rattle.std.specs.Prelude.{◌≡◌, ℕ, Bool, true, false, IsTrue, Option, Some, None}
 use Rattle.s390x_format.specs.declared.decoder.Decoded.{Decoded}
 use Rattle.s390x_format.specs.declared.fields.Fields.{Fields}
 use Rattle.s390x_operations.specs.Access.{deposit}
@@ -40,9 +40,9 @@ Executes action size s Went t = Acts action size s (GoesOn (stored_by action s.c
 Executes action size s (Stopped kind place) t = Acts action size s (Stops' kind) t × (place ≡ s.place)
 Executes action size s NoRow t = ⊥
 
--- nothing is said of what a row does, or it leaves its result free
+-- a row leaves its result free, or it isn't computed
 abbrev pub is_open : Option Meaning → Fields → Registers → Bool
-is_open None f r = true
+is_open None f r = false
 is_open (Some meaning) f r = is_free meaning f r
 
 -- the instruction at the state's place is of a row that is open in this sense

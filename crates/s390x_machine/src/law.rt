@@ -1,5 +1,5 @@
 //! The laws of the typed steps and the machine.
-ghost use Rattle.std.specs.Prelude.{◌≡◌, ℕ, List, length, Option, Some, None, IsTrue, slice_get};
+ghost use Rattle.std.specs.Prelude.{◌≡◌, ℕ, List, length, Option, Some, None, is_some, true, IsTrue, slice_get};
 ghost use Rattle.s390x_inst.specs.declared.state.IsaFlags.{IsaFlags};
 ghost use Rattle.s390x_steps.specs.Rows.{Outside};
 ghost use Rattle.s390x_steps.specs.Tree.{Tree};
@@ -11,6 +11,9 @@ ghost use Rattle.s390x_machine.specs.Layout.{Layout};
 ghost use Rattle.s390x_machine.specs.Placed.{AllPlaced, IsBlock, IsFine, IsFineMemory, FineMemoryOr};
 ghost use Rattle.s390x_machine.specs.Match.{StepRuns, StepHolds, EveryRun, EveryBlockRun};
 ghost use Rattle.s390x_machine.specs.Fetch.{Fetched, Fetches};
+ghost use Rattle.s390x_machine.specs.Meanings.{meaning_of};
+ghost use Rattle.s390x_format.specs.Fetch.{IsFetch};
+ghost use Rattle.s390x_format.specs.declared.decoder.Decoded.{Decoded};
 ghost use Rattle.s390x_operations.specs.State.{CodeImage, Memory};
 ghost use Rattle.s390x_machine.specs.Example.{LoopRuns};
 ghost use Rattle.s390x_machine.specs.RelativeExample.{RelativeRuns};
@@ -59,6 +62,11 @@ pub fn every_block_run()
 /// What stands at a place is one thing: no bytes belong to two machine rows.
 pub fn one_instruction()
     ensures { (m : Memory) (p : ℕ) (f g : Fetched) → Fetches m p f → Fetches m p g → f ≡ g }
+{}
+
+/// Each row of the table has a meaning.
+pub fn each_row_has_a_meaning()
+    ensures { (bytes : List ℕ) (d : Decoded) → IsFetch bytes d → is_some (meaning_of d.row.opcode) ≡ true }
 {}
 
 /// The premises can be met: the code of a function of two blocks in memory, and a run of it that goes round a loop, leaves it and returns.

@@ -44,7 +44,7 @@ fn meaning_in(rows: &[RowMeaning], opcode: u16) -> Option<Meaning>
     None
 }
 
-/// The meaning of an opcode; none of one that isn't built.
+/// The meaning of an opcode; none of one that no row has.
 #[tactic(auto, unfolding(crate::specs::Meanings::meaning_of))]
 fn meaning_of(opcode: u16) -> Option<Meaning>
     ensures { result ≡ meaning_of opcode }
@@ -155,7 +155,7 @@ fn row_step<M: Memory>(machine: &mut Machine, memory: &mut M, decoded: &Decoded)
     ensures { Steps (state_of machine.old (M.held memory.old) (M.byte memory.old)) result (state_of machine.new (M.held memory.new) (M.byte memory.new)) }
 {
     match meaning_of(decoded.row.opcode) {
-        None => StepEnd::NoRow,
+        None => StepEnd::Stopped(StopKind::Operation, machine.place),
         Some(meaning) => meaning_step(machine, memory, decoded, meaning),
     }
 }
@@ -168,8 +168,8 @@ impl Machine {
     /// that applies, in this order: `Specification` where the place is odd, `Access` where a byte of the instruction isn't accessible,
     /// `Operation` where no row has its bytes, `Specification` where a row of an even-odd pair names an odd register, and where an operand that
     /// has to be aligned isn't, `Access` where a byte of the operand isn't accessible, and `Divide` or `CompareTrap` where the values bring
-    /// them about. The carried number is the instruction's place. `NoRow` comes exactly at a row whose result is free (LXA, LLXA, VBLEND, VEVAL), at
-    /// a high product of 128-bit elements, and where a row's meaning isn't built, and then everything is as before.
+    /// them about. The carried number is the instruction's place. `NoRow` comes exactly at a row whose result is free (LXA, LLXA, VBLEND, VEVAL) and
+    /// at a high product of 128-bit elements, and then everything is as before.
     pub fn step<M: Memory>(&mut self, memory: &mut M) -> StepEnd
         ensures { Steps (state_of self.old (M.held memory.old) (M.byte memory.old)) result (state_of self.new (M.held memory.new) (M.byte memory.new)) }
     {
