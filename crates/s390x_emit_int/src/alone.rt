@@ -122,7 +122,7 @@ pub struct Alone {
 impl RegisterRow {
     /// Its bytes. `BadRegister` where a register can't be encoded, and no other refusal.
     pub fn code(&self) -> Result<Code, EmitError>
-        ensures { MatchResult result (λ code. code ≡ bytes_of (instruction_of self.now)) (λ _. can_encode self.now ≡ false) }
+        ensures { MatchResult result (λ code. code ≡ bytes_of (instruction_of self.now)) (λ e. (e ≡ EmitError.BadRegister) × (can_encode self.now ≡ false)) }
     {
         match self {
             RegisterRow::Rr { opcode, r1, r2 } => enc_rr(u16::from(*opcode), *r1, *r2),

@@ -1,7 +1,7 @@
 //! Emitting one instruction, or bytes, into a buffer of the caller's.
 #![tactic(auto, using(s390x_buffer::proofs::Keeping::keeps_on, s390x_buffer::proofs::Keeping::keeps_same))]
 
-ghost use Rattle.std.specs.Prelude.{◌≡◌, ◌+◌, ◌-◌, ◌<◌, ◌≤◌, ◌⊎◌, length, MatchResult, IsTrue, OnOk, None, Some, true};
+ghost use Rattle.std.specs.Prelude.{◌≡◌, ◌+◌, ◌-◌, ◌<◌, ◌≤◌, ◌⊎◌, length, MatchResult, IsTrue, OnErr, OnOk, None, Some, true};
 ghost use Rattle.s390x_base.specs.declared.error.EmitError.TheVariants.{NoMemory};
 ghost use Rattle.s390x_buffer.specs.Keeps.{Keeps};
 ghost use Rattle.s390x_buffer.specs.State.{Blames, marked, put_cause};
@@ -100,14 +100,17 @@ fn refusal(sink: &MachBuffer, flags: IsaFlags, state: &EmitState, inst: &Inst) -
 
 /// What writes itself into a buffer.
 pub trait MachInstEmit {
-    /// Appends itself to the buffer, with its traps, relocations, labels and the places of its steps but the first.
+    /// Appends itself to the buffer, with its traps, relocations, labels and the places of its steps but the first. What stood in the buffer
+    /// before still stands there. A refused call marks the buffer, and leaves the state as it was.
     fn emit(
         &self,
         alloc: Global,
         sink: &mut MachBuffer,
         emit_info: &EmitInfo,
         state: &mut EmitState,
-    ) -> Result<(), EmitError>;
+    ) -> Result<(), EmitError>
+        ensures refused { OnErr result (IsTrue sink.new.failed × (state.new ≡ state.old)) }
+        ensures kept { Keeps sink.old sink.new };
 }
 
 impl MachInstEmit for Inst {
@@ -124,6 +127,7 @@ impl MachInstEmit for Inst {
         state: &mut EmitState,
     ) -> Result<(), EmitError>
         ensures answer { MatchResult result (λ _. (emit_cause emit_info.now.isa_flags sink.old (graft state.old self.now empty) ≡ None) × (sink.new ≡ run sink.old (own_pieces (length sink.old.labels) 0 (graft state.old self.now empty))) × (state.new ≡ record state.old { stack_map = None })) (λ e. ((e ≡ NoMemory) ⊎ (emit_cause emit_info.now.isa_flags sink.old (graft state.old self.now empty) ≡ Some e)) × IsTrue sink.new.failed × (state.new ≡ state.old)) }
+        ensures refused { OnErr result (IsTrue sink.new.failed × (state.new ≡ state.old)) }
         ensures few { is_short self.now ≡ true → OnOk result (length sink.new.bytes ≤ length sink.old.bytes + 44) }
         ensures kept { Keeps sink.old sink.new }
     {

@@ -13,4 +13,4 @@ returns-in-Rxy c =
     let i = c.in-Rxy in
     matched _ _ _ _ c.enc_rxy.result c.enc_rxy.ensures
     (λ code p. p.1.bytes_are ∙ ap (λ d. encode Rxy (slots i.opcode (number_of i.r1 ∷ number_of i.b2 ∷ number_of i.x2 ∷ []) [] 0 d)) c.low_displacement.ensures.value ∙ ap (λ row. bytes_of (instruction_of row)) (sym i.is))
-    (λ e p. ap can_encode i.is ∙ p.1)
+    (λ e p. (p.0, ap can_encode i.is ∙ p.1))

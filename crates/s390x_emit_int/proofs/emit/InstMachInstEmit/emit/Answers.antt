@@ -15,3 +15,6 @@ returns-in-Err-clause-answer c =
 
 pub returns-in-Err-clause-kept : goal.returns-in-Err-clause-kept
 returns-in-Err-clause-kept c = keeps_on _ _ _ c.emit_inst.ensures.kept (keeps_mark _ _ c.fail-in-Err.ensures)
+
+pub returns-in-Err-clause-refused : goal.returns-in-Err-clause-refused
+returns-in-Err-clause-refused c = (subst (λ s. IsTrue s.failed) (sym c.fail-in-Err.ensures) refl, refl)
