@@ -6,7 +6,7 @@ use Rattle.s390x_buffer.specs.State.{State, put_cause, limit}
 use Rattle.s390x_inst.specs.declared.function.Block.{Block}
 use Rattle.s390x_steps.specs.Tree.{Tree}
 use Rattle.s390x_steps.specs.Sizes.{blocks_size}
-use Rattle.s390x_steps.specs.Causes.{Declared, declared_in, draws, tree_cause, blocks_cause}
+use Rattle.s390x_steps.specs.Causes.{Declared, declared_in, draws, tree_cause, blocks_cause, block_cause}
 use Rattle.s390x_steps.proofs.Causes.{first_left, first_right}
 use Rattle.s390x_emit_int.specs.Pieces.{Bind, apply, run}
 use Rattle.s390x_emit_int.specs.Emission.{pieces}
@@ -31,7 +31,7 @@ split_at state bs k v lt at =
     ap (map (tree_of state)) (drop-cons bs k v lt ∙ ap (λ x. x ∷ drop (suc k) bs) (sym at) ∙ ap (λ m. v ∷ drop m bs) k1)
 
 -- the next block
-pub block_passed : (state : Emission) (flags : IsaFlags) (bs : List Block) (k : ℕ) (D : Declared) (v : Block) (s s1 : State) → k < length bs → v ≡ get_or bs k v → s1 ≡ apply s (Bind k) → k < s.block_count → HasRoom s → BlocksPassed flags s D (map (tree_of state) (drop k bs)) → TreePassed flags s1 0 0 (tree_of state v)
+pub block_passed : (state : Emission) (flags : IsaFlags) (bs : List Block) (k : ℕ) (D : Declared) (v : Block) (s s1 : State) → k < length bs → v ≡ get_or bs k v → s1 ≡ apply s (Bind k) → k < s.block_count → HasRoom s → BlocksPassed flags s D (map (tree_of state) (drop k bs)) → TreePassed flags s1 0 0 0 (tree_of state v)
 block_passed state flags bs k D v s s1 lt at e below room p =
     let t = tree_of state v in
     let rest = map (tree_of state) (drop (k + 1) bs) in
@@ -42,7 +42,7 @@ block_passed state flags bs k D v s s1 lt at e below room p =
       blocks = omega (arith, o.blocks, o.labels, room);
       label = λ d. omega (arith, below, o.labels, room);
       short = omega (arith, o.bytes, q.short);
-      passed = ap (λ E. tree_cause flags E (length s1.labels) 0 t) (turns_declared s s1 0 0 o ∙ q.declared) ∙ ap (λ m. tree_cause flags D m 0 t) (o.labels ∙ (omega arith)) ∙ first_left (tree_cause flags D (length s.labels) 0 t) _ q.passed;
+      passed = ap (λ E. tree_cause flags E (length s1.labels) 0 0 t) (turns_declared s s1 0 0 o ∙ q.declared) ∙ ap (λ m. tree_cause flags D m 0 0 t) (o.labels ∙ (omega arith)) ∙ first_left (tree_cause flags D (length s.labels) 0 0 t) _ (first_left (block_cause flags D (length s.labels) t) _ q.passed);
     }
 
 -- and those behind it
@@ -58,5 +58,5 @@ others_passed state flags bs k D v s s1 s2 lt at e1 e2 p =
       unmarked = m.unmarked ∙ o.unmarked ∙ q.unmarked;
       declared = turns_declared s1 s2 _ _ m ∙ turns_declared s s1 0 0 o ∙ q.declared;
       short = omega (arith, o.bytes, m.bytes, q.short);
-      passed = ap (λ n. blocks_cause flags D n rest) labels ∙ first_right (tree_cause flags D (length s.labels) 0 t) _ q.passed;
+      passed = ap (λ n. blocks_cause flags D n rest) labels ∙ first_right (block_cause flags D (length s.labels) t) _ q.passed;
     }

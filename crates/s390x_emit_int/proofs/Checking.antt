@@ -1,13 +1,14 @@
 -- The check goes on from member to member.
-use Rattle.std.proofs.Common.{◌≡◌, ℕ, Result, Ok, Err, MatchResult, ◌+◌, ◌<◌, min, drop, get_or, length, List, None, Some, sym, ap, ◌∙◌, arith}
+use Rattle.std.proofs.Common.{◌≡◌, ℕ, Result, Ok, Err, MatchResult, ◌+◌, ◌<◌, min, drop, get_or, length, List, None, Some, sym, ap, ◌∙◌, arith, subst}
 use Rattle.s390x_inst.specs.Emission.{Emission}
 use Rattle.s390x_inst.specs.declared.state.IsaFlags.{IsaFlags}
 use Rattle.s390x_base.specs.declared.error.EmitError.{EmitError}
 use Rattle.s390x_inst.specs.declared.inst.Inst.{Inst}
 use Rattle.s390x_steps.specs.Tree.{Tree, empty, leaf, looped, graft, tree}
 use Rattle.s390x_steps.specs.Sizes.{instruction_size, tree_size}
-use Rattle.s390x_steps.specs.Causes.{Declared, first, draws, nesting_cause, numbers_cause, instruction_cause, instruction_draws, leaf_cause, tree_cause}
-use Rattle.s390x_steps.proofs.Trees.{behind, graft_draws, graft_size}
+use Rattle.s390x_steps.specs.Stack.{nominal_after, state_after}
+use Rattle.s390x_steps.specs.Causes.{Declared, first, draws, nesting_cause, numbers_cause, instruction_cause, instruction_draws, leaf_cause, tree_cause, nominal_behind}
+use Rattle.s390x_steps.proofs.Trees.{behind, graft_draws, graft_size, graft_behind}
 use Rattle.s390x_steps.proofs.Causes.{first_none, graft_cause}
 use Rattle.s390x_emit_int.specs.Totals.{Adds, limit}
 use Rattle.s390x_emit_int.specs.declared.check.Totals.{Totals}
@@ -16,27 +17,31 @@ capped : (a b x : ℕ) → min limit a ≡ min limit b → min limit (a + x) ≡
 capped a b x h = omega arith
 
 -- what is left after a member, with what was counted, comes to what was left before it
-pub record GoesOn (flags : IsaFlags) (D : Declared) (depth : ℕ) (sum r : Totals) (rest all : Tree) : Type 0 where
-  pub cause : tree_cause flags D r.labels depth rest ≡ tree_cause flags D sum.labels depth all
+pub record GoesOn (flags : IsaFlags) (D : Declared) (depth : ℕ) (sum r : Totals) (before behind : ℕ) (rest all : Tree) : Type 0 where
+  pub cause : tree_cause flags D r.labels behind depth rest ≡ tree_cause flags D sum.labels before depth all
   pub labels : r.labels + draws rest ≡ sum.labels + draws all
   pub bytes : min limit (r.bytes + tree_size rest) ≡ min limit (sum.bytes + tree_size all)
+  pub nominal : nominal_behind behind rest ≡ nominal_behind before all
 
-pub goes_on : (state : Emission) (flags : IsaFlags) (D : Declared) (depth : ℕ) (sum r : Totals) (is : List Inst) (k : ℕ) (i : Inst) → k < length is → i ≡ get_or is k i → tree_cause flags D sum.labels depth (graft state i empty) ≡ None → Adds sum r (draws (graft state i empty)) (tree_size (graft state i empty)) → GoesOn flags D depth sum r (tree state (drop (k + 1) is)) (tree state (drop k is))
-goes_on state flags D depth sum r is k i lt at none adds =
-    let rest = tree state (drop (k + 1) is) in
+pub goes_on : (state next : Emission) (flags : IsaFlags) (D : Declared) (depth : ℕ) (sum r : Totals) (is : List Inst) (k : ℕ) (i : Inst) → k < length is → i ≡ get_or is k i → next ≡ state_after state i → tree_cause flags D sum.labels state.nominal depth (graft state i empty) ≡ None → Adds sum r (draws (graft state i empty)) (tree_size (graft state i empty)) → GoesOn flags D depth sum r state.nominal next.nominal (tree next (drop (k + 1) is)) (tree state (drop k is))
+goes_on state next flags D depth sum r is k i lt at on none adds =
+    let m = nominal_after state.nominal i in
+    let rest = tree (state_after state i) (drop (k + 1) is) in
     let b = behind state is k i lt at in
-    record {
-      cause = ap (λ m. tree_cause flags D m depth rest) adds.labels ∙ ap (λ o. first o (tree_cause flags D (sum.labels + draws (graft state i empty)) depth rest)) (sym none) ∙ sym (graft_cause flags state D sum.labels depth i rest) ∙ ap (λ t. tree_cause flags D sum.labels depth t) (sym b);
+    let there : GoesOn flags D depth sum r state.nominal m rest (tree state (drop k is)) = record {
+      cause = ap (λ l. tree_cause flags D l m depth rest) adds.labels ∙ ap (λ o. first o (tree_cause flags D (sum.labels + draws (graft state i empty)) m depth rest)) (sym none) ∙ sym (graft_cause flags state D sum.labels state.nominal depth i rest) ∙ ap (λ t. tree_cause flags D sum.labels state.nominal depth t) (sym b);
       labels = omega (arith, adds.labels, graft_draws state i rest, ap draws b);
       bytes = capped r.bytes (sum.bytes + tree_size (graft state i empty)) (tree_size rest) adds.bytes ∙ ap (λ m. min limit m) (omega (arith, graft_size state i rest, ap tree_size b));
-    }
+      nominal = sym (graft_behind state state.nominal i rest) ∙ ap (nominal_behind state.nominal) (sym b);
+    } in
+    subst (λ (e : Emission). GoesOn flags D depth sum r state.nominal e.nominal (tree e (drop (k + 1) is)) (tree state (drop k is))) (sym on) there
 
 -- a loop's answer is that of its tree
-pub loop_answer : (flags : IsaFlags) (D : Declared) (depth : ℕ) (t : Totals) (mask : ℕ) (x members : Tree) (result : Result Totals EmitError) → x ≡ looped mask members empty →
-    MatchResult result (λ r. (first (first (nesting_cause depth) (numbers_cause t.labels 2)) (tree_cause flags D (t.labels + 2) (depth + 1) members) ≡ None) × Adds t r (2 + draws members) (tree_size members + 6)) (λ e. first (first (nesting_cause depth) (numbers_cause t.labels 2)) (tree_cause flags D (t.labels + 2) (depth + 1) members) ≡ Some e) →
-    MatchResult result (λ r. (tree_cause flags D t.labels depth x ≡ None) × Adds t r (draws x) (tree_size x)) (λ e. tree_cause flags D t.labels depth x ≡ Some e)
-loop_answer flags D depth t mask x members (Ok r) e p =
-    let z = ap (tree_cause flags D t.labels depth) e ∙ first_none (first (first (nesting_cause depth) (numbers_cause t.labels 2)) (tree_cause flags D (t.labels + 2) (depth + 1) members)) in (
+pub loop_answer : (flags : IsaFlags) (D : Declared) (nominal depth : ℕ) (t : Totals) (mask : ℕ) (x members : Tree) (result : Result Totals EmitError) → x ≡ looped mask members empty →
+    MatchResult result (λ r. (first (first (nesting_cause depth) (numbers_cause t.labels 2)) (tree_cause flags D (t.labels + 2) nominal (depth + 1) members) ≡ None) × Adds t r (2 + draws members) (tree_size members + 6)) (λ e. first (first (nesting_cause depth) (numbers_cause t.labels 2)) (tree_cause flags D (t.labels + 2) nominal (depth + 1) members) ≡ Some e) →
+    MatchResult result (λ r. (tree_cause flags D t.labels nominal depth x ≡ None) × Adds t r (draws x) (tree_size x)) (λ e. tree_cause flags D t.labels nominal depth x ≡ Some e)
+loop_answer flags D nominal depth t mask x members (Ok r) e p =
+    let z = ap (tree_cause flags D t.labels nominal depth) e ∙ first_none (first (first (nesting_cause depth) (numbers_cause t.labels 2)) (tree_cause flags D (t.labels + 2) nominal (depth + 1) members)) in (
       z ∙ p.0,
       record {
         counted = p.1.counted;
@@ -44,27 +49,27 @@ loop_answer flags D depth t mask x members (Ok r) e p =
         bytes = p.1.bytes ∙ ap (λ m. min limit m) (omega (arith, ap tree_size e));
       },
     )
-loop_answer flags D depth t mask x members (Err d) e p = ap (tree_cause flags D t.labels depth) e ∙ first_none _ ∙ p
+loop_answer flags D nominal depth t mask x members (Err d) e p = ap (tree_cause flags D t.labels nominal depth) e ∙ first_none _ ∙ p
 
 -- so is that of an instruction that is no loop
-pub leaf_answer : (flags : IsaFlags) (D : Declared) (depth : ℕ) (t : Totals) (i : Inst) (x : Tree) (result : Result Totals EmitError) → x ≡ leaf i empty →
-    MatchResult result (λ r. (leaf_cause flags D t.labels depth i ≡ None) × Adds t r (instruction_draws i) (instruction_size i)) (λ e. leaf_cause flags D t.labels depth i ≡ Some e) →
-    MatchResult result (λ r. (tree_cause flags D t.labels depth x ≡ None) × Adds t r (draws x) (tree_size x)) (λ e. tree_cause flags D t.labels depth x ≡ Some e)
-leaf_answer flags D depth t i x (Ok r) e p = (
-  ap (tree_cause flags D t.labels depth) e ∙ first_none (leaf_cause flags D t.labels depth i) ∙ p.0,
+pub leaf_answer : (flags : IsaFlags) (D : Declared) (nominal depth : ℕ) (t : Totals) (i : Inst) (x : Tree) (result : Result Totals EmitError) → x ≡ leaf i empty →
+    MatchResult result (λ r. (leaf_cause flags D t.labels nominal depth i ≡ None) × Adds t r (instruction_draws i) (instruction_size i)) (λ e. leaf_cause flags D t.labels nominal depth i ≡ Some e) →
+    MatchResult result (λ r. (tree_cause flags D t.labels nominal depth x ≡ None) × Adds t r (draws x) (tree_size x)) (λ e. tree_cause flags D t.labels nominal depth x ≡ Some e)
+leaf_answer flags D nominal depth t i x (Ok r) e p = (
+  ap (tree_cause flags D t.labels nominal depth) e ∙ first_none (leaf_cause flags D t.labels nominal depth i) ∙ p.0,
   record {
     counted = p.1.counted;
     labels = omega (arith, p.1.labels, ap draws e);
     bytes = p.1.bytes ∙ ap (λ m. min limit m) (omega (arith, ap tree_size e));
   },
 )
-leaf_answer flags D depth t i x (Err d) e p = ap (tree_cause flags D t.labels depth) e ∙ first_none _ ∙ p
+leaf_answer flags D nominal depth t i x (Err d) e p = ap (tree_cause flags D t.labels nominal depth) e ∙ first_none _ ∙ p
 
 -- an instruction without a cause adds its labels, unless their numbers are too many
-pub no_cause : (flags : IsaFlags) (D : Declared) (depth : ℕ) (t : Totals) (i : Inst) (labels bytes : ℕ) (result : Result Totals EmitError) → instruction_cause flags D depth i ≡ None → labels ≡ instruction_draws i → min limit bytes ≡ min limit (instruction_size i) →
+pub no_cause : (flags : IsaFlags) (D : Declared) (nominal depth : ℕ) (t : Totals) (i : Inst) (labels bytes : ℕ) (result : Result Totals EmitError) → instruction_cause flags D nominal depth i ≡ None → labels ≡ instruction_draws i → min limit bytes ≡ min limit (instruction_size i) →
     MatchResult result (λ r. (numbers_cause t.labels labels ≡ None) × Adds t r labels bytes) (λ e. numbers_cause t.labels labels ≡ Some e) →
-    MatchResult result (λ r. (leaf_cause flags D t.labels depth i ≡ None) × Adds t r (instruction_draws i) (instruction_size i)) (λ e. leaf_cause flags D t.labels depth i ≡ Some e)
-no_cause flags D depth t i labels bytes (Ok r) none draws size p = (
+    MatchResult result (λ r. (leaf_cause flags D t.labels nominal depth i ≡ None) × Adds t r (instruction_draws i) (instruction_size i)) (λ e. leaf_cause flags D t.labels nominal depth i ≡ Some e)
+no_cause flags D nominal depth t i labels bytes (Ok r) none draws size p = (
   ap (λ o. first o (numbers_cause t.labels (instruction_draws i))) none ∙ sym (ap (numbers_cause t.labels) draws) ∙ p.0,
   record {
     counted = p.1.counted;
@@ -72,4 +77,4 @@ no_cause flags D depth t i labels bytes (Ok r) none draws size p = (
     bytes = p.1.bytes ∙ (omega (arith, size));
   },
 )
-no_cause flags D depth t i labels bytes (Err e) none draws size p = ap (λ o. first o (numbers_cause t.labels (instruction_draws i))) none ∙ sym (ap (numbers_cause t.labels) draws) ∙ p
+no_cause flags D nominal depth t i labels bytes (Err e) none draws size p = ap (λ o. first o (numbers_cause t.labels (instruction_draws i))) none ∙ sym (ap (numbers_cause t.labels) draws) ∙ p

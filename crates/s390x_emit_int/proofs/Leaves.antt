@@ -84,9 +84,9 @@ return_passed s after depth i r e p =
     (put_none s 2 p.unmarked (omega (arith, p.short)), unless_true (is_general r && is_nonzero r) BadRegister cause)
 
 -- an instruction that is one machine instruction
-pub alone_passed : (flags : IsaFlags) (s : State) (after depth : ℕ) (i : Inst) (x : Alone) → Some x ≡ alone i → MembersPassed s after depth (instruction_size i) (leaf_cause flags (declared_in s) (length s.labels) depth i) → (put_cause s (size_of x.row) ≡ None) × (x.fine ≡ true)
-alone_passed flags s after depth i x e p =
-    (put_none s (size_of x.row) p.unmarked (omega (arith, p.short, some_size i x e)), unless_true x.fine BadRegister (some_cause flags (declared_in s) depth i x e (first_left _ _ p.passed)))
+pub alone_passed : (flags : IsaFlags) (s : State) (after nominal depth : ℕ) (i : Inst) (x : Alone) → Some x ≡ alone i → MembersPassed s after depth (instruction_size i) (leaf_cause flags (declared_in s) (length s.labels) nominal depth i) → (put_cause s (size_of x.row) ≡ None) × (x.fine ≡ true)
+alone_passed flags s after nominal depth i x e p =
+    (put_none s (size_of x.row) p.unmarked (omega (arith, p.short, some_size i x e)), unless_true x.fine BadRegister (some_cause flags (declared_in s) nominal depth i x e (first_left _ _ p.passed)))
 
 -- the address of a block
 pub address_passed : (s : State) (after depth : ℕ) (i : Inst) (dst : Reg) (l : MachLabel) → i ≡ LabelAddress dst l → MembersPassed s after depth (branch_size i) (branch_cause s.block_count depth i) → Passed s l.0 6 None × (is_general dst ≡ true)
@@ -116,20 +116,20 @@ unfolding length_of
 debug_passed s after depth i e p = let size : branch_size i ≡ 2 = ap branch_size e in put_none s 2 p.unmarked (omega (arith, p.short, size))
 
 -- an instruction with a memory operand
-pub memory_passed : (flags : IsaFlags) (s : State) (after depth : ℕ) (i : Inst) (x : MemoryInstruction) → None ≡ alone i → memory i ≡ Some x → MembersPassed s after depth (instruction_size i) (leaf_cause flags (declared_in s) (length s.labels) depth i) → (put_cause s (parts_size (memory_parts x)) ≡ None) × (memory_cause (declared_in s) x ≡ None)
-memory_passed flags s after depth i x e m p =
-    let own = first_left (instruction_cause flags (declared_in s) depth i) _ p.passed in
+pub memory_passed : (flags : IsaFlags) (s : State) (after nominal depth : ℕ) (i : Inst) (x : MemoryInstruction) → None ≡ alone i → memory i ≡ Some x → MembersPassed s after depth (instruction_size i) (leaf_cause flags (declared_in s) (length s.labels) nominal depth i) → (put_cause s (parts_size (memory_parts x)) ≡ None) × (memory_cause (declared_in s) x ≡ None)
+memory_passed flags s after nominal depth i x e m p =
+    let own = first_left (instruction_cause flags (declared_in s) nominal depth i) _ p.passed in
     let size : instruction_size i ≡ parts_size (memory_parts x) = none_size i e ∙ ap (λ o. memory_size_or o (branch_size i)) m in
-    (put_none s (parts_size (memory_parts x)) p.unmarked (omega (arith, p.short, size)), sym (ap (λ o. memory_cause_or (declared_in s) o (branch_cause s.block_count depth i)) m) ∙ none_cause flags (declared_in s) depth i e own)
+    (put_none s (parts_size (memory_parts x)) p.unmarked (omega (arith, p.short, size)), sym (ap (λ o. memory_cause_or (declared_in s) o (branch_cause s.block_count depth i)) m) ∙ none_cause flags (declared_in s) nominal depth i e own)
 
 -- and one that has none, by itself and before its operand was resolved
-pub other_passed : (flags : IsaFlags) (e : Emission) (s : State) (after depth : ℕ) (i : Inst) → None ≡ alone i → None ≡ memory i → MembersPassed s after depth (instruction_size (resolved_instruction e i)) (leaf_cause flags (declared_in s) (length s.labels) depth (resolved_instruction e i)) → MembersPassed s after depth (branch_size i) (branch_cause s.block_count depth i) × (numbers_cause (length s.labels) (instruction_draws i) ≡ None)
-other_passed flags e s after depth i a m p =
+pub other_passed : (flags : IsaFlags) (e : Emission) (s : State) (after nominal depth : ℕ) (i : Inst) → None ≡ alone i → None ≡ memory i → MembersPassed s after depth (instruction_size (resolved_instruction e i)) (leaf_cause flags (declared_in s) (length s.labels) nominal depth (resolved_instruction e i)) → MembersPassed s after depth (branch_size i) (branch_cause s.block_count depth i) × (numbers_cause (length s.labels) (instruction_draws i) ≡ None)
+other_passed flags e s after nominal depth i a m p =
     let j = resolved_instruction e i in
-    let own = first_left (instruction_cause flags (declared_in s) depth j) _ p.passed in
+    let own = first_left (instruction_cause flags (declared_in s) nominal depth j) _ p.passed in
     let alone_none : None ≡ alone j = a ∙ sym (alone_resolved e i) in
     let size : instruction_size j ≡ branch_size i = none_size j alone_none ∙ ap (λ o. memory_size_or o (branch_size j)) (no_memory e i m) ∙ size_resolved e i in
-    let cause = sym (ap (λ o. memory_cause_or (declared_in s) o (branch_cause s.block_count depth j)) (no_memory e i m)) ∙ none_cause flags (declared_in s) depth j alone_none own in (
+    let cause = sym (ap (λ o. memory_cause_or (declared_in s) o (branch_cause s.block_count depth j)) (no_memory e i m)) ∙ none_cause flags (declared_in s) nominal depth j alone_none own in (
       record { unmarked = p.unmarked; blocks = p.blocks; label = p.label; short = omega (arith, p.short, size); passed = sym (branch_resolved e s.block_count depth i) ∙ cause },
-      ap (numbers_cause (length s.labels)) (sym (draws_resolved e i)) ∙ first_right (instruction_cause flags (declared_in s) depth j) _ p.passed,
+      ap (numbers_cause (length s.labels)) (sym (draws_resolved e i)) ∙ first_right (instruction_cause flags (declared_in s) nominal depth j) _ p.passed,
     )

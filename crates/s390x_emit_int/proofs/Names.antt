@@ -20,7 +20,8 @@ use Rattle.s390x_steps.specs.Parts.{Part, parts_or, memory_or, memory_parts, tra
 use Rattle.s390x_steps.specs.Memory.{StorageForm, RxForm, MemoryInstruction, memory, type_of, storage_row, address_form, fault_code}
 use Rattle.s390x_steps.specs.Alone.{Alone, alone, stop_code}
 use Rattle.s390x_steps.specs.General.{is_general, is_nonzero, is_scratch}
-use Rattle.s390x_steps.specs.Causes.{Declared, first, unless, label_cause, labels_cause, bound_cause, late_cause, memory_cause, branch_cause, memory_cause_or, cause_or, facility_cause, instruction_cause, leaf_cause, instruction_draws, draws, nesting_cause, numbers_cause, tree_cause, blocks_cause}
+use Rattle.s390x_steps.specs.Stack.{nominal_after}
+use Rattle.s390x_steps.specs.Causes.{Declared, first, unless, label_cause, labels_cause, bound_cause, late_cause, memory_cause, branch_cause, memory_cause_or, cause_or, facility_cause, instruction_cause, leaf_cause, instruction_draws, draws, nesting_cause, numbers_cause, tree_cause, blocks_cause, stack_cause, block_cause}
 use Rattle.s390x_steps.proofs.Causes.{first_left, first_right, unless_true}
 use Rattle.s390x_emit_int.specs.Bound.{PartsName, TreeNames, TreesName}
 
@@ -139,28 +140,31 @@ words_name : (blocks constants before : ℕ) (ls : List MachLabel) → labels_ca
 words_name blocks constants before [] h = tt
 words_name blocks constants before (l ∷ ls) h = (label_below blocks l (first_left _ _ h), words_name blocks constants (before + 4) ls (first_right (label_cause blocks l) _ h))
 
-leaf_names : (flags : IsaFlags) (D : Declared) (depth : ℕ) (i : Inst) → instruction_cause flags D depth i ≡ None → PartsName D.blocks (length D.aligns) (instruction_parts i)
-leaf_names flags D depth (Jump dest) h = (label_below D.blocks dest h, tt)
-leaf_names flags D depth (CondBr taken not_taken mask) h = (label_below D.blocks taken (first_left _ _ h), (label_below D.blocks not_taken (first_right (label_cause D.blocks taken) _ h), tt))
-leaf_names flags D depth (IndirectBr rn targets) h = (tt, tt)
-leaf_names flags D depth (Ret link) h = (tt, tt)
-leaf_names flags D depth (JTSequence ridx other mask targets) h =
+leaf_names : (flags : IsaFlags) (D : Declared) (nominal depth : ℕ) (i : Inst) → instruction_cause flags D nominal depth i ≡ None → PartsName D.blocks (length D.aligns) (instruction_parts i)
+leaf_names flags D nominal depth (Jump dest) h = (label_below D.blocks dest h, tt)
+leaf_names flags D nominal depth (CondBr taken not_taken mask) h = (label_below D.blocks taken (first_left _ _ h), (label_below D.blocks not_taken (first_right (label_cause D.blocks taken) _ h), tt))
+leaf_names flags D nominal depth (IndirectBr rn targets) h = (tt, tt)
+leaf_names flags D nominal depth (Ret link) h = (tt, tt)
+leaf_names flags D nominal depth (JTSequence ridx other mask targets) h =
     let named = first_right (unless (not (is_scratch ridx)) ScratchConflict) _ (first_right (unless (is_general ridx && is_nonzero ridx) BadRegister) _ h) in
     (label_below D.blocks other (first_left _ _ named), (tt, (tt, (tt, words_name D.blocks (length D.aligns) 0 targets.items (first_right (label_cause D.blocks other) _ named)))))
-leaf_names flags D depth (LabelAddress dst label) h = (label_below D.blocks label (first_right (unless (is_general dst) BadRegister) _ h), tt)
-leaf_names flags D depth (LoadSymbolReloc rd reloc) h = (tt, (tt, (tt, tt)))
-leaf_names flags D depth (Trap code) h = (tt, tt)
-leaf_names flags D depth (TrapIf mask code) h = (tt, tt)
-leaf_names flags D depth Debugtrap h = (tt, tt)
-leaf_names flags D depth i h = alone_names D (alone i) (stop_code i) (memory i) (branch_cause D.blocks depth i) (first_right (facility_cause flags i) _ h)
+leaf_names flags D nominal depth (LabelAddress dst label) h = (label_below D.blocks label (first_right (unless (is_general dst) BadRegister) _ h), tt)
+leaf_names flags D nominal depth (LoadSymbolReloc rd reloc) h = (tt, (tt, (tt, tt)))
+leaf_names flags D nominal depth (Trap code) h = (tt, tt)
+leaf_names flags D nominal depth (TrapIf mask code) h = (tt, tt)
+leaf_names flags D nominal depth Debugtrap h = (tt, tt)
+leaf_names flags D nominal depth i h = alone_names D (alone i) (stop_code i) (memory i) (branch_cause D.blocks depth i) (first_right (stack_cause nominal depth i) _ (first_right (facility_cause flags i) _ h))
 
-pub tree_names : (flags : IsaFlags) (D : Declared) (n depth : ℕ) (t : Tree) → tree_cause flags D n depth t ≡ None → TreeNames D.blocks (length D.aligns) t
-tree_names flags D n depth empty h = tt
-tree_names flags D n depth (leaf i rest) h = (leaf_names flags D depth i (first_left _ _ (first_left _ _ h)), tree_names flags D (n + instruction_draws i) depth rest (first_right (leaf_cause flags D n depth i) _ h))
-tree_names flags D n depth (looped mask members rest) h =
-    let inner = first_left _ _ h in
-    (tree_names flags D (n + 2) (depth + 1) members (first_right (first (nesting_cause depth) (numbers_cause n 2)) _ inner), tree_names flags D (n + 2 + draws members) depth rest (first_right (first (first (nesting_cause depth) (numbers_cause n 2)) (tree_cause flags D (n + 2) (depth + 1) members)) _ h))
+pub tree_names : (flags : IsaFlags) (D : Declared) (n nominal depth : ℕ) (t : Tree) → tree_cause flags D n nominal depth t ≡ None → TreeNames D.blocks (length D.aligns) t
+tree_names flags D n nominal depth empty h = tt
+tree_names flags D n nominal depth (leaf i rest) h =
+    (leaf_names flags D nominal depth i (first_left _ _ (first_left _ _ h)), tree_names flags D (n + instruction_draws i) (nominal_after nominal i) depth rest (first_right (leaf_cause flags D n nominal depth i) _ h))
+tree_names flags D n nominal depth (looped mask members rest) h =
+    let inner = first_left _ _ h in (
+      tree_names flags D (n + 2) nominal (depth + 1) members (first_right (first (nesting_cause depth) (numbers_cause n 2)) _ inner),
+      tree_names flags D (n + 2 + draws members) nominal depth rest (first_right (first (first (nesting_cause depth) (numbers_cause n 2)) (tree_cause flags D (n + 2) nominal (depth + 1) members)) _ h),
+    )
 
 pub all_names : (flags : IsaFlags) (D : Declared) (n : ℕ) (ts : List Tree) → blocks_cause flags D n ts ≡ None → TreesName D.blocks (length D.aligns) ts
 all_names flags D n [] h = tt
-all_names flags D n (t ∷ ts) h = (tree_names flags D n 0 t (first_left _ _ h), all_names flags D (n + draws t) ts (first_right (tree_cause flags D n 0 t) _ h))
+all_names flags D n (t ∷ ts) h = (tree_names flags D n 0 0 t (first_left _ _ (first_left _ _ h)), all_names flags D (n + draws t) ts (first_right (block_cause flags D n t) _ h))

@@ -8,7 +8,8 @@ use Rattle.s390x_buffer.specs.State.{State, Constant, label_limit}
 use Rattle.s390x_inst.specs.declared.inst.Inst.{Inst}
 use Rattle.s390x_steps.specs.Tree.{Tree, empty, leaf, looped, graft, tree}
 use Rattle.s390x_steps.specs.Sizes.{instruction_size, tree_size}
-use Rattle.s390x_steps.specs.Causes.{Declared, first, aligns_of, declared_in, draws, nesting_cause, numbers_cause, leaf_cause, tree_cause}
+use Rattle.s390x_steps.specs.Stack.{nominal_after, state_after}
+use Rattle.s390x_steps.specs.Causes.{Declared, first, aligns_of, declared_in, draws, nesting_cause, numbers_cause, leaf_cause, tree_cause, stack_cause}
 use Rattle.s390x_steps.proofs.Trees.{behind, graft_size}
 use Rattle.s390x_steps.proofs.Causes.{first_left, first_right, unless_true, graft_cause}
 use Rattle.s390x_emit_int.specs.Pieces.{Step, Draw, Bind, apply, run}
@@ -16,6 +17,7 @@ use Rattle.s390x_emit_int.specs.Emission.{branch, pieces, own_pieces}
 use Rattle.s390x_emit_int.specs.Room.{Passed, MembersPassed, TreePassed}
 use Rattle.s390x_emit_int.proofs.Runs.{tree_grows, length-branch}
 use Rattle.s390x_emit_int.proofs.Starts.{same_run}
+use Rattle.s390x_emit_int.proofs.Resolving.{no_stack_cause}
 use Rattle.s390x_emit_int.proofs.Trees.{graft_run}
 
 -- from s to t so many labels were drawn and so many bytes put, and no mark was set
@@ -52,55 +54,61 @@ tree_turns s t n after x en e =
     record { unmarked = ap (λ x. x.failed) e ∙ same.failed; blocks = ap (λ x. x.block_count) e ∙ same.block_count; constants = ap (λ x. x.constants) e ∙ same.constants; labels = ap (λ x. length x.labels) e ∙ g.labels; bytes = ap (λ x. length x.bytes) e ∙ g.bytes }
 
 -- an instruction that is no loop, alone
-pub leaf_passed : (flags : IsaFlags) (s : State) (after depth : ℕ) (i : Inst) (x : Tree) → x ≡ leaf i empty → TreePassed flags s after depth x → MembersPassed s after depth (instruction_size i) (leaf_cause flags (declared_in s) (length s.labels) depth i)
-leaf_passed flags s after depth i x e p =
-    let q : TreePassed flags s after depth (leaf i empty) = subst (TreePassed flags s after depth) e p in
+pub leaf_passed : (flags : IsaFlags) (s : State) (after nominal depth : ℕ) (i : Inst) (x : Tree) → x ≡ leaf i empty → TreePassed flags s after nominal depth x → MembersPassed s after depth (instruction_size i) (leaf_cause flags (declared_in s) (length s.labels) nominal depth i)
+leaf_passed flags s after nominal depth i x e p =
+    let q : TreePassed flags s after nominal depth (leaf i empty) = subst (TreePassed flags s after nominal depth) e p in
     record { unmarked = q.unmarked; blocks = q.blocks; label = q.label; short = omega (arith, q.short); passed = first_left _ _ q.passed }
 
 -- the next member
-pub member_passed : (state : Emission) (flags : IsaFlags) (s s1 : State) (after depth : ℕ) (is : List Inst) (k : ℕ) (i : Inst) → k < length is → i ≡ get_or is k i → s1 ≡ apply s Step → TreePassed flags s after depth (tree state (drop k is)) → TreePassed flags s1 after depth (graft state i empty)
+pub member_passed : (state : Emission) (flags : IsaFlags) (s s1 : State) (after depth : ℕ) (is : List Inst) (k : ℕ) (i : Inst) → k < length is → i ≡ get_or is k i → s1 ≡ apply s Step → TreePassed flags s after state.nominal depth (tree state (drop k is)) → TreePassed flags s1 after state.nominal depth (graft state i empty)
 member_passed state flags s s1 after depth is k i lt at e p =
-    let rest = tree state (drop (k + 1) is) in
-    let q : TreePassed flags s after depth (graft state i rest) = subst (TreePassed flags s after depth) (behind state is k i lt at) p in
-    let here : TreePassed flags (apply s Step) after depth (graft state i empty) = record {
+    let rest = tree (state_after state i) (drop (k + 1) is) in
+    let q : TreePassed flags s after state.nominal depth (graft state i rest) = subst (TreePassed flags s after state.nominal depth) (behind state is k i lt at) p in
+    let here : TreePassed flags (apply s Step) after state.nominal depth (graft state i empty) = record {
       unmarked = q.unmarked;
       blocks = q.blocks;
       label = q.label;
       short = omega (arith, q.short, graft_size state i rest);
-      passed = first_left _ _ (sym (graft_cause flags state (declared_in s) (length s.labels) depth i rest) ∙ q.passed);
+      passed = first_left _ _ (sym (graft_cause flags state (declared_in s) (length s.labels) state.nominal depth i rest) ∙ q.passed);
     } in
-    subst (λ x. TreePassed flags x after depth (graft state i empty)) (sym e) here
+    subst (λ x. TreePassed flags x after state.nominal depth (graft state i empty)) (sym e) here
 
 -- and those behind it
-pub others_passed : (state : Emission) (flags : IsaFlags) (s s1 s2 : State) (after depth : ℕ) (is : List Inst) (k : ℕ) (i : Inst) → k < length is → i ≡ get_or is k i → s1 ≡ apply s Step → s2 ≡ run s1 (own_pieces (length s1.labels) after (graft state i empty)) → TreePassed flags s after depth (tree state (drop k is)) → TreePassed flags s2 after depth (tree state (drop (k + 1) is))
+pub others_passed : (state : Emission) (flags : IsaFlags) (s s1 s2 : State) (after depth : ℕ) (is : List Inst) (k : ℕ) (i : Inst) → k < length is → i ≡ get_or is k i → s1 ≡ apply s Step → s2 ≡ run s1 (own_pieces (length s1.labels) after (graft state i empty)) → TreePassed flags s after state.nominal depth (tree state (drop k is)) → TreePassed flags s2 after (nominal_after state.nominal i) depth (tree (state_after state i) (drop (k + 1) is))
 others_passed state flags s s1 s2 after depth is k i lt at e1 e2 p =
     let n = length s.labels in
-    let rest = tree state (drop (k + 1) is) in
-    let q : TreePassed flags s after depth (graft state i rest) = subst (TreePassed flags s after depth) (behind state is k i lt at) p in
+    let rest = tree (state_after state i) (drop (k + 1) is) in
+    let q : TreePassed flags s after state.nominal depth (graft state i rest) = subst (TreePassed flags s after state.nominal depth) (behind state is k i lt at) p in
     let e2' : s2 ≡ run (apply s Step) (own_pieces n after (graft state i empty)) = e2 ∙ ap (λ x. run x (own_pieces (length x.labels) after (graft state i empty))) e1 in
     let t = tree_turns s s2 n after (graft state i empty) refl (e2' ∙ sym (graft_run state i empty s n after)) in
-    let cause : tree_cause flags (declared_in s) (n + draws (graft state i empty)) depth rest ≡ None = first_right (tree_cause flags (declared_in s) n depth (graft state i empty)) _ (sym (graft_cause flags state (declared_in s) n depth i rest) ∙ q.passed) in
+    let m = nominal_after state.nominal i in
+    let cause : tree_cause flags (declared_in s) (n + draws (graft state i empty)) m depth rest ≡ None = first_right (tree_cause flags (declared_in s) n state.nominal depth (graft state i empty)) _ (sym (graft_cause flags state (declared_in s) n state.nominal depth i rest) ∙ q.passed) in
     record {
       unmarked = t.unmarked ∙ q.unmarked;
       blocks = omega (arith, t.blocks, t.labels, q.blocks);
       label = λ d. omega (arith, t.labels, q.label d);
       short = omega (arith, t.bytes, q.short, graft_size state i rest);
-      passed = ap (λ D. tree_cause flags D (length s2.labels) depth rest) (turns_declared s s2 _ _ t) ∙ ap (λ m. tree_cause flags (declared_in s) m depth rest) t.labels ∙ cause;
+      passed = ap (λ D. tree_cause flags D (length s2.labels) m depth rest) (turns_declared s s2 _ _ t) ∙ ap (λ l. tree_cause flags (declared_in s) l m depth rest) t.labels ∙ cause;
     }
 
+-- a member has no cause by the stack sizes
+pub member_stack : (state : Emission) (flags : IsaFlags) (s : State) (after depth : ℕ) (is : List Inst) (k : ℕ) (i : Inst) → k < length is → i ≡ get_or is k i → TreePassed flags s after state.nominal depth (tree state (drop k is)) → stack_cause state.nominal depth i ≡ None
+member_stack state flags s after depth is k i lt at p =
+    no_stack_cause flags state (declared_in (apply s Step)) (length s.labels) state.nominal depth i (member_passed state flags s (apply s Step) after depth is k i lt at refl p).passed
+
 -- a loop has two labels left, and its members pass
-pub record LoopPassed (flags : IsaFlags) (s : State) (depth : ℕ) (members : Tree) : Type 0 where
+pub record LoopPassed (flags : IsaFlags) (s : State) (nominal depth : ℕ) (members : Tree) : Type 0 where
   pub unmarked : s.failed ≡ false
   pub blocks : s.block_count ≤ length s.labels
   pub drawn : length s.labels + 2 ≤ label_limit
   pub short : length s.bytes + (tree_size members + 6) < 2147483648
-  pub passed : tree_cause flags (declared_in s) (length s.labels + 2) (depth + 1) members ≡ None
+  pub passed : tree_cause flags (declared_in s) (length s.labels + 2) nominal (depth + 1) members ≡ None
 
-pub loop_passed : (flags : IsaFlags) (s : State) (after depth mask : ℕ) (members : Tree) → TreePassed flags s after depth (looped mask members empty) → LoopPassed flags s depth members
-loop_passed flags s after depth mask members p =
+pub loop_passed : (flags : IsaFlags) (s : State) (after nominal depth mask : ℕ) (members : Tree) → TreePassed flags s after nominal depth (looped mask members empty) → LoopPassed flags s nominal depth members
+loop_passed flags s after nominal depth mask members p =
     let n = length s.labels in
     let opens = first (nesting_cause depth) (numbers_cause n 2) in
-    let inner = tree_cause flags (declared_in s) (n + 2) (depth + 1) members in
+    let inner = tree_cause flags (declared_in s) (n + 2) nominal (depth + 1) members in
     let both : first opens inner ≡ None = first_left _ _ p.passed in
     let numbers : numbers_cause n 2 ≡ None = first_right (nesting_cause depth) _ (first_left _ _ both) in
     let lt : n + 2 < 4294967297 = ltb-true (n + 2) 4294967297 (unless_true (nat_lt (n + 2) 4294967297) LabelOutOfRange numbers) in
@@ -112,13 +120,13 @@ loop_passed flags s after depth mask members p =
       passed = first_right opens inner both;
     }
 
-pub inner_passed : (flags : IsaFlags) (s so : State) (depth end k : ℕ) (members : Tree) → LoopPassed flags s depth members → Turns s so 2 0 → end < length so.labels → TreePassed flags so end (depth + 1) members
-inner_passed flags s so depth end k members p t lt = record {
+pub inner_passed : (flags : IsaFlags) (s so : State) (nominal depth end k : ℕ) (members : Tree) → LoopPassed flags s nominal depth members → Turns s so 2 0 → end < length so.labels → TreePassed flags so end nominal (depth + 1) members
+inner_passed flags s so nominal depth end k members p t lt = record {
   unmarked = t.unmarked ∙ p.unmarked;
   blocks = omega (arith, t.blocks, t.labels, p.blocks);
   label = λ d. lt;
   short = omega (arith, t.bytes, p.short);
-  passed = ap (λ D. tree_cause flags D (length so.labels) (depth + 1) members) (turns_declared s so 2 0 t) ∙ ap (λ m. tree_cause flags (declared_in s) m (depth + 1) members) t.labels ∙ p.passed;
+  passed = ap (λ D. tree_cause flags D (length so.labels) nominal (depth + 1) members) (turns_declared s so 2 0 t) ∙ ap (λ m. tree_cause flags (declared_in s) m nominal (depth + 1) members) t.labels ∙ p.passed;
 }
 
 pub turns_on : (s t u : State) (k m k' m' : ℕ) → Turns s t k m → Turns t u k' m' → Turns s u (k + k') (m + m')
@@ -150,8 +158,8 @@ body_turns s sa sb so sc sd start end members ea eb eo ec ed =
     }
 
 -- the back branch
-pub back_passed : (flags : IsaFlags) (s sd : State) (start depth : ℕ) (members : Tree) → LoopPassed flags s depth members → Turns s sd (2 + draws members) (tree_size members) → start ≡ length s.labels → Passed sd start 6 None
-back_passed flags s sd start depth members l t e = record {
+pub back_passed : (flags : IsaFlags) (s sd : State) (start nominal depth : ℕ) (members : Tree) → LoopPassed flags s nominal depth members → Turns s sd (2 + draws members) (tree_size members) → start ≡ length s.labels → Passed sd start 6 None
+back_passed flags s sd start nominal depth members l t e = record {
   unmarked = t.unmarked ∙ l.unmarked;
   blocks = omega (arith, t.blocks, t.labels, l.blocks);
   label = omega (arith, t.labels, e);

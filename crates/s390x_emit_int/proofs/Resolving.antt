@@ -7,16 +7,18 @@ use Rattle.s390x_inst.specs.Facilities.{facility_of}
 use Rattle.s390x_base.specs.declared.error.EmitError.{EmitError}
 use Rattle.s390x_inst.specs.declared.args.MemArg.{MemArg}
 use Rattle.s390x_inst.specs.declared.inst.Inst.{Inst}
-use Rattle.s390x_inst.specs.declared.inst.Inst.TheVariants.{AluRX, CmpRX, Load32, Load32ZExt8, Load32SExt8, Load32ZExt16, Load32SExt16, Load64, Load64ZExt8, Load64SExt8, Load64ZExt16, Load64SExt16, Load64ZExt32, Load64SExt32, LoadRev16, LoadRev32, LoadRev64, LoadAddr, Store8, Store16, Store32, Store64, StoreRev16, StoreRev32, StoreRev64, StoreImm8, StoreImm16, StoreImm32SExt16, StoreImm64SExt16, LoadMultiple64, StoreMultiple64, AtomicRmw, AtomicCas32, AtomicCas64, CondBr, JTSequence, CondBreak, TrapIf}
+use Rattle.s390x_inst.specs.declared.inst.Inst.TheVariants.{AluRX, CmpRX, Load32, Load32ZExt8, Load32SExt8, Load32ZExt16, Load32SExt16, Load64, Load64ZExt8, Load64SExt8, Load64ZExt16, Load64SExt16, Load64ZExt32, Load64SExt32, LoadRev16, LoadRev32, LoadRev64, LoadAddr, Store8, Store16, Store32, Store64, StoreRev16, StoreRev32, StoreRev64, StoreImm8, StoreImm16, StoreImm32SExt16, StoreImm64SExt16, LoadMultiple64, StoreMultiple64, AtomicRmw, AtomicCas32, AtomicCas64, CondBr, JTSequence, CondBreak, TrapIf, AllocateArgs}
 use Rattle.s390x_inst.specs.declared.state.IsaFlags.{IsaFlags}
 use Rattle.s390x_steps.specs.Alone.{Alone, alone, stop_code}
-use Rattle.s390x_steps.specs.Causes.{Declared, first, facility_cause, cause_or, memory_cause_or, branch_cause, instruction_cause, instruction_draws}
+use Rattle.s390x_steps.specs.Causes.{Declared, first, facility_cause, cause_or, memory_cause_or, branch_cause, instruction_cause, instruction_draws, stack_cause, tree_cause}
 use Rattle.s390x_steps.specs.Memory.{MemoryInstruction, operate, load_and_operate, memory}
 use Rattle.s390x_steps.specs.Operands.{resolved}
 use Rattle.s390x_steps.specs.Ranges.{MaskInRange, OperandInRange, MemoryInRange, InRange}
 use Rattle.s390x_steps.specs.Resolved.{resolved_instruction}
 use Rattle.s390x_steps.specs.Storage.{alu_rx, alu_rxy, atomic_rsy}
 use Rattle.s390x_address.specs.Rows.{in_state}
+use Rattle.s390x_steps.specs.Tree.{empty, graft}
+use Rattle.s390x_steps.proofs.Causes.{first_left}
 use Rattle.s390x_emit_int.specs.Emission.{branch_pieces, branch_size}
 
 pub alone_resolved : (e : Emission) (i : Inst) → alone (resolved_instruction e i) ≡ alone i
@@ -68,9 +70,14 @@ pub no_memory : (e : Emission) (i : Inst) → None ≡ memory i → memory (reso
 no_memory e i h = memory_resolved e i ∙ ap (option_map (in_state e)) (sym h)
 
 -- the first cause by the parts that the code looks at
-pub cause_resolved : (flags : IsaFlags) (e : Emission) (D : Declared) (depth : ℕ) (i : Inst) → first (facility_cause flags i) (cause_or (alone i) (memory_cause_or D (memory (resolved_instruction e i)) (branch_cause D.blocks depth i))) ≡ instruction_cause flags D depth (resolved_instruction e i)
-cause_resolved flags e D depth (CondBreak mask) = refl
-cause_resolved flags e D depth i = refl
+pub cause_resolved : (flags : IsaFlags) (e : Emission) (D : Declared) (nominal depth : ℕ) (i : Inst) → first (facility_cause flags i) (first (stack_cause nominal depth i) (cause_or (alone i) (memory_cause_or D (memory (resolved_instruction e i)) (branch_cause D.blocks depth i)))) ≡ instruction_cause flags D nominal depth (resolved_instruction e i)
+cause_resolved flags e D nominal depth (CondBreak mask) = refl
+cause_resolved flags e D nominal depth i = refl
+
+-- a member without a cause has none by the stack sizes
+pub no_stack_cause : (flags : IsaFlags) (e : Emission) (D : Declared) (n nominal depth : ℕ) (i : Inst) → tree_cause flags D n nominal depth (graft e i empty) ≡ None → stack_cause nominal depth i ≡ None
+no_stack_cause flags e D n nominal depth (AllocateArgs size) h = first_left _ _ (first_left _ _ (first_left _ _ h))
+no_stack_cause flags e D n nominal depth i h = refl
 
 -- ---- ranges
 

@@ -146,9 +146,9 @@ three_tests true c b h = absurd (cc)
 three_tests false c b h = (refl, first_left c _ h, unless_true b LabelOutOfRange (first_right c _ h))
 
 -- where no cause stands, the instruction passes
-pub emit_passed : (flags : IsaFlags) (s : State) (x : Tree) → HasRoom s → emit_cause flags s x ≡ None → TreePassed flags s 0 0 x
-emit_passed flags s x room h =
-    let t = three_tests s.failed (tree_cause flags (declared_in s) (length s.labels) 0 x) (nat_lt (length s.bytes + tree_size x) limit) h in
+pub emit_passed : (flags : IsaFlags) (nominal : ℕ) (s : State) (x : Tree) → HasRoom s → emit_cause flags nominal s x ≡ None → TreePassed flags s 0 nominal 0 x
+emit_passed flags nominal s x room h =
+    let t = three_tests s.failed (tree_cause flags (declared_in s) (length s.labels) nominal 0 x) (nat_lt (length s.bytes + tree_size x) limit) h in
     record {
       unmarked = t.0;
       blocks = omega (arith, room);

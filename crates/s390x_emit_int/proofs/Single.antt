@@ -10,7 +10,7 @@ use Rattle.s390x_steps.specs.Alone.{Alone, alone, stop_code}
 use Rattle.s390x_steps.specs.MachineInstruction.{MachineInstruction, size_of}
 use Rattle.s390x_steps.specs.Parts.{Part, branch_parts, memory_parts, row_part, parts_or, memory_or, parts_size}
 use Rattle.s390x_steps.specs.Memory.{MemoryInstruction, memory}
-use Rattle.s390x_steps.specs.Causes.{Declared, unless, facility_cause, branch_cause, cause_or, memory_cause_or, instruction_cause}
+use Rattle.s390x_steps.specs.Causes.{Declared, unless, facility_cause, branch_cause, cause_or, memory_cause_or, instruction_cause, stack_cause}
 use Rattle.s390x_steps.proofs.Causes.{first_right}
 use Rattle.s390x_steps.specs.Sizes.{instruction_size}
 use Rattle.s390x_emit_int.specs.Emission.{part_pieces, branch_pieces, branch_size, memory_size_or, leaf_pieces}
@@ -36,15 +36,15 @@ some_other others i x e = ap (λ o. cause_or o others) (sym e)
 pub none_other : (others : Option EmitError) (i : Inst) → None ≡ alone i → cause_or (alone i) others ≡ others
 none_other others i e = ap (λ o. cause_or o others) (sym e)
 
--- an instruction without a cause has none behind its facility
-pub behind_facility : (flags : IsaFlags) (D : Declared) (depth : ℕ) (i : Inst) → instruction_cause flags D depth i ≡ None → cause_or (alone i) (memory_cause_or D (memory i) (branch_cause D.blocks depth i)) ≡ None
-behind_facility flags D depth i h = first_right (facility_cause flags i) (cause_or (alone i) (memory_cause_or D (memory i) (branch_cause D.blocks depth i))) h
+-- an instruction without a cause has none behind its facility and its stack sizes
+pub behind_facility : (flags : IsaFlags) (D : Declared) (nominal depth : ℕ) (i : Inst) → instruction_cause flags D nominal depth i ≡ None → cause_or (alone i) (memory_cause_or D (memory i) (branch_cause D.blocks depth i)) ≡ None
+behind_facility flags D nominal depth i h = first_right (stack_cause nominal depth i) _ (first_right (facility_cause flags i) _ h)
 
-pub some_cause : (flags : IsaFlags) (D : Declared) (depth : ℕ) (i : Inst) (x : Alone) → Some x ≡ alone i → instruction_cause flags D depth i ≡ None → unless x.fine BadRegister ≡ None
-some_cause flags D depth i x e h = sym (some_other (memory_cause_or D (memory i) (branch_cause D.blocks depth i)) i x e) ∙ behind_facility flags D depth i h
+pub some_cause : (flags : IsaFlags) (D : Declared) (nominal depth : ℕ) (i : Inst) (x : Alone) → Some x ≡ alone i → instruction_cause flags D nominal depth i ≡ None → unless x.fine BadRegister ≡ None
+some_cause flags D nominal depth i x e h = sym (some_other (memory_cause_or D (memory i) (branch_cause D.blocks depth i)) i x e) ∙ behind_facility flags D nominal depth i h
 
-pub none_cause : (flags : IsaFlags) (D : Declared) (depth : ℕ) (i : Inst) → None ≡ alone i → instruction_cause flags D depth i ≡ None → memory_cause_or D (memory i) (branch_cause D.blocks depth i) ≡ None
-none_cause flags D depth i e h = sym (none_other (memory_cause_or D (memory i) (branch_cause D.blocks depth i)) i e) ∙ behind_facility flags D depth i h
+pub none_cause : (flags : IsaFlags) (D : Declared) (nominal depth : ℕ) (i : Inst) → None ≡ alone i → instruction_cause flags D nominal depth i ≡ None → memory_cause_or D (memory i) (branch_cause D.blocks depth i) ≡ None
+none_cause flags D nominal depth i e h = sym (none_other (memory_cause_or D (memory i) (branch_cause D.blocks depth i)) i e) ∙ behind_facility flags D nominal depth i h
 
 row_size : (m : MachineInstruction) (code : Option TrapKind) → parts_size (row_part m code ∷ []) ≡ size_of m
 row_size m None = omega arith

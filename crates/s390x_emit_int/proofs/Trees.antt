@@ -7,6 +7,7 @@ use Rattle.s390x_buffer.specs.State.{State}
 use Rattle.s390x_inst.specs.declared.inst.Inst.{Inst}
 use Rattle.s390x_inst.specs.declared.inst.Inst.TheVariants.{Loop'}
 use Rattle.s390x_steps.specs.Resolved.{resolved_instruction}
+use Rattle.s390x_steps.specs.Stack.{state_after}
 use Rattle.s390x_steps.specs.Tree.{Tree, empty, leaf, looped, graft, row_tree, tree}
 use Rattle.s390x_steps.specs.Causes.{instruction_draws, draws}
 use Rattle.s390x_emit_int.specs.Pieces.{Step, Draw, Bind, apply, run}
@@ -44,18 +45,19 @@ cons_of is k i lt at =
     drop-cons is k i lt ∙ ap (λ x. x ∷ drop (suc k) is) (sym at) ∙ ap (λ m. i ∷ drop m is) k1
 
 -- one more member
-pub more : (state : Emission) (is : List Inst) (k : ℕ) (i : Inst) (s s1 s2 r : State) (after : ℕ) → k < length is → i ≡ get_or is k i → s1 ≡ apply s Step → s2 ≡ run s1 (own_pieces (length s1.labels) after (graft state i empty)) → run s (pieces (length s.labels) after (tree state (drop k is))) ≡ r → run s2 (pieces (length s2.labels) after (tree state (drop (k + 1) is))) ≡ r
+pub more : (state : Emission) (is : List Inst) (k : ℕ) (i : Inst) (s s1 s2 r : State) (after : ℕ) → k < length is → i ≡ get_or is k i → s1 ≡ apply s Step → s2 ≡ run s1 (own_pieces (length s1.labels) after (graft state i empty)) → run s (pieces (length s.labels) after (tree state (drop k is))) ≡ r → run s2 (pieces (length s2.labels) after (tree (state_after state i) (drop (k + 1) is))) ≡ r
 more state is k i s s1 s2 r after lt at e1 e2 h =
     let n = length s.labels in
     let rest = drop (k + 1) is in
+    let next = state_after state i in
     let e2' : s2 ≡ run (apply s Step) (own_pieces n after (graft state i empty)) = e2 ∙ ap (λ x. run x (own_pieces (length x.labels) after (graft state i empty))) e1 in
     let alone : s2 ≡ run s (pieces n after (graft state i empty)) = e2' ∙ sym (graft_run state i empty s n after) in
     let len : length s2.labels ≡ n + draws (graft state i empty) = ap (λ x. length x.labels) alone ∙ (tree_grows (graft state i empty) s n after refl).labels in
-    ap (λ m. run s2 (pieces m after (tree state rest))) len ∙ ap (λ x. run x (pieces (n + draws (graft state i empty)) after (tree state rest))) e2' ∙ sym (graft_run state i (tree state rest) s n after) ∙ ap (λ l. run s (pieces n after (tree state l))) (sym (cons_of is k i lt at)) ∙ h
+    ap (λ m. run s2 (pieces m after (tree next rest))) len ∙ ap (λ x. run x (pieces (n + draws (graft state i empty)) after (tree next rest))) e2' ∙ sym (graft_run state i (tree next rest) s n after) ∙ ap (λ l. run s (pieces n after (tree state l))) (sym (cons_of is k i lt at)) ∙ h
 
 -- and its numbers are in range
-pub more_ranges : (state : Emission) (is : List Inst) (k : ℕ) (i : Inst) → k < length is → i ≡ get_or is k i → AllInRange (graft state i empty) → AllInRange (tree state (drop (k + 1) is)) → AllInRange (tree state (drop k is))
-more_ranges state is k i lt at f rest = subst (λ l. AllInRange (tree state l)) (sym (cons_of is k i lt at)) (graft_ranges state i (tree state (drop (k + 1) is)) f rest)
+pub more_ranges : (state : Emission) (is : List Inst) (k : ℕ) (i : Inst) → k < length is → i ≡ get_or is k i → AllInRange (graft state i empty) → AllInRange (tree (state_after state i) (drop (k + 1) is)) → AllInRange (tree state (drop k is))
+more_ranges state is k i lt at f rest = subst (λ l. AllInRange (tree state l)) (sym (cons_of is k i lt at)) (graft_ranges state i (tree (state_after state i) (drop (k + 1) is)) f rest)
 
 opened_end : (s : State) → get_or (opened s).labels (length s.labels + 1) None ≡ None
 opened_end s =

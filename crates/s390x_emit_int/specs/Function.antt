@@ -18,7 +18,7 @@ use Rattle.s390x_steps.specs.Relocs.{function_relocs}
 use Rattle.s390x_steps.specs.Sizes.{blocks_size}
 use Rattle.s390x_steps.specs.Causes.{first, unless, declared_of, blocks_cause}
 
--- a block as a tree, in a state of emission: the stack sizes are the same all over a function
+-- a block as a tree, from a state of emission on
 abbrev pub tree_of : Emission → Block → Tree
 tree_of e b = tree e b.insts.items
 

@@ -1,5 +1,5 @@
 -- Emitting one instruction into a buffer of the caller's (cranelift-codegen, `emit.rs`).
-use Rattle.std.specs.Prelude.{◌+◌, length, cond, nat_lt, Bool, true, false, Option, Some}
+use Rattle.std.specs.Prelude.{ℕ, ◌+◌, length, cond, nat_lt, Bool, true, false, Option, Some}
 use Rattle.s390x_base.specs.declared.error.EmitError.{EmitError}
 use Rattle.s390x_base.specs.declared.error.EmitError.TheVariants.{LabelOutOfRange, Failed}
 use Rattle.s390x_inst.specs.declared.inst.Inst.{Inst}
@@ -10,10 +10,10 @@ use Rattle.s390x_steps.specs.Tree.{Tree}
 use Rattle.s390x_steps.specs.Sizes.{tree_size}
 use Rattle.s390x_steps.specs.Causes.{first, unless, declared_in, tree_cause}
 
--- why an instruction isn't emitted into a buffer: its mark, the first cause of the instruction's steps by the buffer's blocks and labels, and last the length
-abbrev pub emit_cause : IsaFlags → State → Tree → Option EmitError
-emit_cause flags s t =
-    cond s.failed (Some Failed) (first (tree_cause flags (declared_in s) (length s.labels) 0 t) (unless (nat_lt (length s.bytes + tree_size t) limit) LabelOutOfRange))
+-- why an instruction isn't emitted into a buffer at a nominal size: its mark, the first cause of the instruction's steps by the buffer's blocks and labels, and last the length
+abbrev pub emit_cause : IsaFlags → (nominal : ℕ) → State → Tree → Option EmitError
+emit_cause flags nominal s t =
+    cond s.failed (Some Failed) (first (tree_cause flags (declared_in s) (length s.labels) nominal 0 t) (unless (nat_lt (length s.bytes + tree_size t) limit) LabelOutOfRange))
 
 -- neither members nor targets nor the instructions of a call come with it, so that its bytes are few
 abbrev pub is_short : Inst → Bool

@@ -29,9 +29,9 @@ pub record MembersPassed (s : State) (after depth bytes : ℕ) (cause : Option E
   pub short : length s.bytes + bytes < limit
   pub passed : cause ≡ None
 
--- the same of a tree
-abbrev pub TreePassed : IsaFlags → State → (after depth : ℕ) → Tree → Type 0
-TreePassed flags s after depth t = MembersPassed s after depth (tree_size t) (tree_cause flags (declared_in s) (length s.labels) depth t)
+-- the same of a tree at a nominal size
+abbrev pub TreePassed : IsaFlags → State → (after nominal depth : ℕ) → Tree → Type 0
+TreePassed flags s after nominal depth t = MembersPassed s after depth (tree_size t) (tree_cause flags (declared_in s) (length s.labels) nominal depth t)
 
 -- an error is want of memory
 abbrev pub LacksMemory : {T : Type 0} → Result T EmitError → Type 0

@@ -5,7 +5,7 @@ ghost use Rattle.s390x_base.specs.Regs.{number_of};
 ghost use Rattle.s390x_steps.specs.General.{is_general, reuses, low_halfword, low_word, low_displacement};
 ghost use Rattle.s390x_steps.specs.MachineInstruction.{bytes_of, size_of};
 ghost use Rattle.s390x_steps.specs.Opcodes.{alu_three, alu_two, cmp_two, unary_two, alu_halfword, alu_three_halfword, alu_signed_word, alu_unsigned_word, cmp_halfword, cmp_signed_word, cmp_unsigned_word};
-ghost use Rattle.s390x_steps.specs.Alone.{alone, alone_with, two_operands, two_row, unary_row, three_row, halfword_row, word_row, three_halfword_row};
+ghost use Rattle.s390x_steps.specs.Alone.{alone, alone_with, two_operands, two_row, unary_row, three_row, halfword_row, word_row, three_halfword_row, allocate_row};
 ghost use Rattle.s390x_emit_int.specs.Alone.{instruction_of, alone_of, opcode_of, group_of, can_encode, encodes, takes_general};
 ghost use Rattle.s390x_emit_int.specs.declared.alone.Group.TheVariants.{Arithmetic};
 
@@ -15,7 +15,7 @@ use crate::opcode::ShortOpcode;
 use crate::stops::find_stop;
 use s390x_address::emitters::number;
 use s390x_address::memory::general;
-use s390x_base::{Code, EmitError, Reg, SImm20};
+use s390x_base::{Code, EmitError, Reg, SImm20, gpr};
 use s390x_enc::{
     enc_ri_a, enc_rie_a, enc_rie_d, enc_rie_f, enc_rie_g, enc_ril_a, enc_rr, enc_rre, enc_rrf_ab,
     enc_rrf_cde, enc_rsy, enc_rxy,
@@ -601,6 +601,26 @@ pub fn alone_with(fine: bool, row: Option<RegisterRow>) -> Option<Alone>
     }
 }
 
+// So many bytes are taken from the stack pointer: their number is added with a minus sign where that fits, else it is subtracted.
+fn allocate_row(size: u32) -> Option<RegisterRow>
+    ensures row { option_map instruction_of result ≡ Some (allocate_row size) }
+    ensures encodes { encodes true result ≡ true }
+{
+    if size < 32768 {
+        Some(RegisterRow::RiA {
+            opcode: short(0xa7b),
+            r1: gpr(15),
+            imm: bits_of_halfword(-(size as i16)),
+        })
+    } else {
+        Some(RegisterRow::RilA {
+            opcode: short(0xc24),
+            r1: gpr(15),
+            imm: bits_of_unsigned(size),
+        })
+    }
+}
+
 #[tactic(auto, using(crate::proofs::Encoding::alu_two_general, crate::proofs::Encoding::cmp_two_general, crate::proofs::Encoding::reused_encodes, crate::proofs::Encoding::reused_pair_encodes))]
 // The machine instruction of arithmetic and comparisons.
 fn find_arithmetic(inst: &Inst) -> Option<Alone>
@@ -684,6 +704,7 @@ fn find_arithmetic(inst: &Inst) -> Option<Alone>
                 bits_of_unsigned(*imm),
             ),
         ),
+        Inst::AllocateArgs { size } => alone_with(true, allocate_row(*size)),
         _ => None,
     }
 }

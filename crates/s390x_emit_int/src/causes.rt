@@ -1,7 +1,7 @@
 //! Why an instruction is refused.
 ghost use Rattle.std.specs.Prelude.{◌≡◌, ◌≤◌, ◌&&◌, None, Some};
 ghost use Rattle.s390x_base.specs.declared.error.EmitError.TheVariants.{BadRegister, UnboundLabel};
-ghost use Rattle.s390x_steps.specs.Causes.{first, unless, declared_in, label_cause, labels_cause, cause_or, memory_cause_or, branch_cause, instruction_cause, table_cause};
+ghost use Rattle.s390x_steps.specs.Causes.{first, unless, declared_in, label_cause, labels_cause, cause_or, memory_cause_or, branch_cause, instruction_cause, stack_cause, table_cause};
 ghost use Rattle.s390x_steps.specs.Memory.{memory};
 ghost use Rattle.s390x_steps.specs.Resolved.{resolved_instruction};
 ghost use Rattle.s390x_steps.specs.Alone.{alone};
@@ -9,6 +9,7 @@ ghost use Rattle.s390x_steps.specs.General.{is_general, is_nonzero, is_scratch};
 
 use crate::alone::find_alone;
 use crate::memory::find_memory;
+use crate::stack::stack_refusal;
 use s390x_address::memory::general;
 use s390x_base::{EmitError, MachLabel, Reg, RegClass};
 use s390x_buffer::MachBuffer;
@@ -34,7 +35,8 @@ fn is_scratch(r: Reg) -> bool
     }
 }
 
-fn refusal_unless(holds: bool, error: EmitError) -> Option<EmitError>
+/// None where a test holds, else this error.
+pub fn refusal_unless(holds: bool, error: EmitError) -> Option<EmitError>
     ensures { result ≡ unless holds error }
 {
     if holds { None } else { Some(error) }
@@ -127,7 +129,14 @@ fn branch_refusal(blocks: u32, depth: u32, inst: &Inst) -> Option<EmitError>
             ..
         } => table_refusal(blocks, ridx, *default, targets),
         Inst::CondBreak { .. } => refusal_unless(0 < depth, EmitError::BreakOutsideLoop),
-        Inst::Nop0 | Inst::Trap { .. } | Inst::TrapIf { .. } | Inst::Debugtrap => None,
+        Inst::Nop0
+        | Inst::Trap { .. }
+        | Inst::TrapIf { .. }
+        | Inst::Debugtrap
+        | Inst::Args { .. }
+        | Inst::Rets { .. }
+        | Inst::DummyUse { .. }
+        | Inst::SequencePoint => None,
         Inst::LabelAddress { dst, label } => address_refusal(blocks, &dst.to_reg(), *label),
         Inst::LoadSymbolReloc { rd, .. } => {
             refusal_unless(general(&rd.to_reg()), EmitError::BadRegister)
@@ -162,6 +171,16 @@ fn other_refusal(state: &EmitState, sink: &MachBuffer, depth: u32, inst: &Inst) 
     }
 }
 
+// The same, behind the cause by the stack sizes.
+fn later_refusal(state: &EmitState, sink: &MachBuffer, depth: u32, inst: &Inst) -> Option<EmitError>
+    ensures { result ≡ first (stack_cause state.now.nominal depth inst.now) (cause_or (alone inst.now) (memory_cause_or (declared_in sink.now) (memory (resolved_instruction state.now inst.now)) (branch_cause sink.now.block_count depth inst.now))) }
+{
+    match stack_refusal(state, depth, inst) {
+        Some(error) => Some(error),
+        None => other_refusal(state, sink, depth, inst),
+    }
+}
+
 /// The first cause of an instruction that is no `Loop` in a state of emission, inside so many loops, where the machine has these facilities and
 /// the buffer tells the blocks and the constants.
 pub fn instruction_refusal(
@@ -171,10 +190,10 @@ pub fn instruction_refusal(
     depth: u32,
     inst: &Inst,
 ) -> Option<EmitError>
-    ensures { result ≡ instruction_cause flags (declared_in sink.now) depth (resolved_instruction state.now inst.now) }
+    ensures { result ≡ instruction_cause flags (declared_in sink.now) state.now.nominal depth (resolved_instruction state.now inst.now) }
 {
     if flags.has(inst.available_in_isa()) {
-        other_refusal(state, sink, depth, inst)
+        later_refusal(state, sink, depth, inst)
     } else {
         Some(EmitError::MissingFacility)
     }

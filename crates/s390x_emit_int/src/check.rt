@@ -6,18 +6,20 @@ ghost use Rattle.s390x_steps.specs.Memory.{memory};
 ghost use Rattle.s390x_steps.specs.Resolved.{resolved_instruction};
 ghost use Rattle.s390x_steps.specs.Tree.{empty, graft, tree};
 ghost use Rattle.s390x_steps.specs.Sizes.{instruction_size, tree_size};
-ghost use Rattle.s390x_steps.specs.Causes.{Declared, first, declared_in, draws, nesting_cause, numbers_cause, memory_cause_or, instruction_cause, tree_cause, instruction_draws, leaf_cause};
+ghost use Rattle.s390x_steps.specs.Causes.{Declared, first, declared_in, draws, nesting_cause, numbers_cause, memory_cause_or, instruction_cause, tree_cause, block_cause, nominal_behind, instruction_draws, leaf_cause};
 ghost use Rattle.s390x_steps.specs.Ranges.{InRange, AllInRange, IsMask};
 ghost use Rattle.s390x_emit_int.specs.Emission.{branch_size, memory_size_or};
+ghost use Rattle.s390x_emit_int.specs.Function.{tree_of};
 ghost use Rattle.s390x_emit_int.specs.Totals.{IsCounted, Adds, limit};
 
 use crate::alone::find_alone;
 use crate::causes::instruction_refusal;
 use crate::memory::find_memory;
+use crate::stack::{advance, end_refusal};
 use s390x_address::emitters::LIMIT;
 use s390x_base::EmitError;
 use s390x_buffer::MachBuffer;
-use s390x_inst::{EmitState, Inst, IsaFlags};
+use s390x_inst::{Block, EmitState, Inst, IsaFlags};
 
 /// How many label numbers are in use, and how many bytes the steps have, counted up to the limit of code.
 #[derive(Clone, Copy, PartialEq, Eq, Debug)]
@@ -71,7 +73,7 @@ fn other_size(state: &EmitState, inst: &Inst) -> u64
 
 // The size of an instruction that no cause refuses, counted up to the limit of code.
 fn size_of(state: &EmitState, inst: &Inst) -> u64
-    ensures value { (flags : IsaFlags) (D : Declared) (depth : ℕ) → instruction_cause flags D depth (resolved_instruction state.now inst.now) ≡ None → min limit result ≡ min limit (instruction_size (resolved_instruction state.now inst.now)) }
+    ensures value { (flags : IsaFlags) (D : Declared) (nominal depth : ℕ) → instruction_cause flags D nominal depth (resolved_instruction state.now inst.now) ≡ None → min limit result ≡ min limit (instruction_size (resolved_instruction state.now inst.now)) }
     ensures few { result ≤ limit }
 {
     match find_alone(inst) {
@@ -124,7 +126,7 @@ fn check_leaf(
     inst: &Inst,
 ) -> Result<Totals, EmitError>
     requires { IsCounted t }
-    ensures { MatchResult result (λ r. (leaf_cause flags (declared_in sink.now) t.labels depth (resolved_instruction state.now inst.now) ≡ None) × Adds t r (instruction_draws (resolved_instruction state.now inst.now)) (instruction_size (resolved_instruction state.now inst.now))) (λ e. leaf_cause flags (declared_in sink.now) t.labels depth (resolved_instruction state.now inst.now) ≡ Some e) }
+    ensures { MatchResult result (λ r. (leaf_cause flags (declared_in sink.now) t.labels state.now.nominal depth (resolved_instruction state.now inst.now) ≡ None) × Adds t r (instruction_draws (resolved_instruction state.now inst.now)) (instruction_size (resolved_instruction state.now inst.now))) (λ e. leaf_cause flags (declared_in sink.now) t.labels state.now.nominal depth (resolved_instruction state.now inst.now) ≡ Some e) }
 {
     match instruction_refusal(flags, state, sink, depth, inst) {
         Some(error) => Err(error),
@@ -144,22 +146,24 @@ fn open_loop(t: Totals, depth: u32) -> Result<Totals, EmitError>
     }
 }
 
-/// The first cause among the members of a block or a loop, inside so many loops, by the buffer's blocks and constants; or what they add.
+/// The first cause among the members of a block or a loop, inside so many loops, by the buffer's blocks and constants; or what they add. The state is
+/// then the one behind them.
 #[cycle(checking)]
 pub fn check_members(
     flags: IsaFlags,
-    state: &EmitState,
+    state: &mut EmitState,
     sink: &MachBuffer,
     t: Totals,
     depth: u32,
     insts: &[Inst],
 ) -> Result<Totals, EmitError>
     requires { IsCounted t }
-    ensures { MatchResult result (λ r. (tree_cause flags (declared_in sink.now) t.labels depth (tree state.now insts.now) ≡ None) × Adds t r (draws (tree state.now insts.now)) (tree_size (tree state.now insts.now))) (λ e. tree_cause flags (declared_in sink.now) t.labels depth (tree state.now insts.now) ≡ Some e) }
+    ensures { MatchResult result (λ r. (tree_cause flags (declared_in sink.now) t.labels state.old.nominal depth (tree state.old insts.now) ≡ None) × Adds t r (draws (tree state.old insts.now)) (tree_size (tree state.old insts.now)) × (state.new.nominal ≡ nominal_behind state.old.nominal (tree state.old insts.now))) (λ e. tree_cause flags (declared_in sink.now) t.labels state.old.nominal depth (tree state.old insts.now) ≡ Some e) }
 {
     let mut sum = t;
     for inst in insts {
         sum = check_inst(flags, state, sink, sum, depth, inst)?;
+        advance(state, inst)?;
     }
     Ok(sum)
 }
@@ -175,7 +179,7 @@ pub fn check_inst(
     inst: &Inst,
 ) -> Result<Totals, EmitError>
     requires { IsCounted t }
-    ensures { MatchResult result (λ r. (tree_cause flags (declared_in sink.now) t.labels depth (graft state.now inst.now empty) ≡ None) × Adds t r (draws (graft state.now inst.now empty)) (tree_size (graft state.now inst.now empty))) (λ e. tree_cause flags (declared_in sink.now) t.labels depth (graft state.now inst.now empty) ≡ Some e) }
+    ensures { MatchResult result (λ r. (tree_cause flags (declared_in sink.now) t.labels state.now.nominal depth (graft state.now inst.now empty) ≡ None) × Adds t r (draws (graft state.now inst.now empty)) (tree_size (graft state.now inst.now empty))) (λ e. tree_cause flags (declared_in sink.now) t.labels state.now.nominal depth (graft state.now inst.now empty) ≡ Some e) }
 {
     match inst {
         Inst::Loop { body, .. } => check_loop(flags, state, sink, t, depth, body),
@@ -193,9 +197,30 @@ fn check_loop(
     body: &[Inst],
 ) -> Result<Totals, EmitError>
     requires { IsCounted t }
-    ensures { MatchResult result (λ r. (first (first (nesting_cause depth) (numbers_cause t.labels 2)) (tree_cause flags (declared_in sink.now) (t.labels + 2) (depth + 1) (tree state.now body.now)) ≡ None) × Adds t r (2 + draws (tree state.now body.now)) (tree_size (tree state.now body.now) + 6)) (λ e. first (first (nesting_cause depth) (numbers_cause t.labels 2)) (tree_cause flags (declared_in sink.now) (t.labels + 2) (depth + 1) (tree state.now body.now)) ≡ Some e) }
+    ensures { MatchResult result (λ r. (first (first (nesting_cause depth) (numbers_cause t.labels 2)) (tree_cause flags (declared_in sink.now) (t.labels + 2) state.now.nominal (depth + 1) (tree state.now body.now)) ≡ None) × Adds t r (2 + draws (tree state.now body.now)) (tree_size (tree state.now body.now) + 6)) (λ e. first (first (nesting_cause depth) (numbers_cause t.labels 2)) (tree_cause flags (declared_in sink.now) (t.labels + 2) state.now.nominal (depth + 1) (tree state.now body.now)) ≡ Some e) }
 {
     let opened = open_loop(t, depth)?;
-    let inner = check_members(flags, state, sink, opened, depth + 1, body)?;
+    let mut inside = *state;
+    let inner = check_members(flags, &mut inside, sink, opened, depth + 1, body)?;
     add(inner, 0, 6)
+}
+
+/// The first cause of a block that begins at the nominal size 0, or what it adds.
+pub fn check_block(
+    flags: IsaFlags,
+    state: &EmitState,
+    sink: &MachBuffer,
+    t: Totals,
+    block: &Block,
+) -> Result<Totals, EmitError>
+    requires counted { IsCounted t }
+    requires start { state.now.nominal ≡ 0 }
+    ensures { MatchResult result (λ r. (block_cause flags (declared_in sink.now) t.labels (tree_of state.now block.now) ≡ None) × Adds t r (draws (tree_of state.now block.now)) (tree_size (tree_of state.now block.now))) (λ e. block_cause flags (declared_in sink.now) t.labels (tree_of state.now block.now) ≡ Some e) }
+{
+    let mut behind = *state;
+    let sum = check_members(flags, &mut behind, sink, t, 0, &block.insts)?;
+    match end_refusal(&behind) {
+        Some(error) => Err(error),
+        None => Ok(sum),
+    }
 }

@@ -9,9 +9,12 @@ ghost use Rattle.s390x_steps.specs.Tree.{empty, graft};
 ghost use Rattle.s390x_emit_int.specs.Emission.{own_pieces};
 ghost use Rattle.s390x_emit_int.specs.Instruction.{emit_cause, is_short};
 ghost use Rattle.s390x_emit_int.specs.Pieces.{Put, PutTrapping, apply, run};
-ghost use Rattle.s390x_emit_int.specs.Room.{HasRoom, LacksMemory};
+ghost use Rattle.s390x_emit_int.specs.Room.{HasRoom, TreePassed, LacksMemory};
+ghost use Rattle.s390x_inst.specs.declared.state.IsaFlags.{IsaFlags};
+ghost use Rattle.s390x_steps.specs.Stack.{state_after};
 
 use crate::check::{Totals, check_inst};
+use crate::stack::advance;
 use crate::tree::emit_inst;
 use s390x_address::emitters::LIMIT;
 use s390x_base::{EmitError, MachLabel, TrapCode};
@@ -81,7 +84,7 @@ pub fn put_with_trap(
 
 // Why an instruction can't be emitted into this buffer.
 fn refusal(sink: &MachBuffer, flags: IsaFlags, state: &EmitState, inst: &Inst) -> Option<EmitError>
-    ensures cause { result ≡ emit_cause flags sink.now (graft state.now inst.now empty) }
+    ensures cause { result ≡ emit_cause flags state.now.nominal sink.now (graft state.now inst.now empty) }
     ensures room { result ≡ None → HasRoom sink.now }
 {
     if sink.is_failed() {
@@ -96,6 +99,21 @@ fn refusal(sink: &MachBuffer, flags: IsaFlags, state: &EmitState, inst: &Inst) -
         Ok(_) => Some(EmitError::LabelOutOfRange),
         Err(error) => Some(error),
     }
+}
+
+// Appends an instruction, and goes on behind it.
+fn emit_and_advance(
+    sink: &mut MachBuffer,
+    state: &mut EmitState,
+    inst: &Inst,
+) -> Result<(), EmitError>
+    requires { HasRoom sink.old }
+    ensures answer { MatchResult result (λ _. (sink.new ≡ run sink.old (own_pieces (length sink.old.labels) 0 (graft state.old inst.now empty))) × (state.new ≡ state_after state.old inst.now)) (λ _. state.new ≡ state.old) }
+    ensures lacks { (flags : IsaFlags) → TreePassed flags sink.old 0 state.old.nominal 0 (graft state.old inst.now empty) → LacksMemory result }
+    ensures kept { Keeps sink.old sink.new }
+{
+    emit_inst(sink, state, inst, MachLabel(0))?;
+    advance(state, inst)
 }
 
 /// What writes itself into a buffer.
@@ -114,7 +132,7 @@ pub trait MachInstEmit {
 }
 
 impl MachInstEmit for Inst {
-    /// Appends the instruction. The state's stack map is dropped, all else of it stays.
+    /// Appends the instruction. The state's stack map is dropped, and `AllocateArgs` has added its size to the nominal one; all else of the state stays.
     ///
     /// Refused by `Failed` where the buffer bears the mark, then by the first cause of its steps, where the buffer tells the blocks, the
     /// constants and the labels, and last by `LabelOutOfRange` where the length would reach 2^31. A refused call marks the buffer and leaves what stood in
@@ -126,7 +144,7 @@ impl MachInstEmit for Inst {
         emit_info: &EmitInfo,
         state: &mut EmitState,
     ) -> Result<(), EmitError>
-        ensures answer { MatchResult result (λ _. (emit_cause emit_info.now.isa_flags sink.old (graft state.old self.now empty) ≡ None) × (sink.new ≡ run sink.old (own_pieces (length sink.old.labels) 0 (graft state.old self.now empty))) × (state.new ≡ record state.old { stack_map = None })) (λ e. ((e ≡ NoMemory) ⊎ (emit_cause emit_info.now.isa_flags sink.old (graft state.old self.now empty) ≡ Some e)) × IsTrue sink.new.failed × (state.new ≡ state.old)) }
+        ensures answer { MatchResult result (λ _. (emit_cause emit_info.now.isa_flags state.old.nominal sink.old (graft state.old self.now empty) ≡ None) × (sink.new ≡ run sink.old (own_pieces (length sink.old.labels) 0 (graft state.old self.now empty))) × (state.new ≡ record (state_after state.old self.now) { stack_map = None })) (λ e. ((e ≡ NoMemory) ⊎ (emit_cause emit_info.now.isa_flags state.old.nominal sink.old (graft state.old self.now empty) ≡ Some e)) × IsTrue sink.new.failed × (state.new ≡ state.old)) }
         ensures refused { OnErr result (IsTrue sink.new.failed × (state.new ≡ state.old)) }
         ensures few { is_short self.now ≡ true → OnOk result (length sink.new.bytes ≤ length sink.old.bytes + 44) }
         ensures kept { Keeps sink.old sink.new }
@@ -135,7 +153,7 @@ impl MachInstEmit for Inst {
             sink.fail();
             return Err(error);
         }
-        match emit_inst(sink, state, self, MachLabel(0)) {
+        match emit_and_advance(sink, state, self) {
             Ok(()) => {
                 state.clear_post_insn();
                 Ok(())

@@ -13,7 +13,7 @@ ghost use Rattle.s390x_emit_int.specs.Function.{tree_of, trees_of, constants_of,
 ghost use Rattle.s390x_emit_int.specs.Pieces.{run};
 ghost use Rattle.s390x_emit_int.specs.Room.{HasRoom, LacksMemory};
 
-use crate::check::{Totals, check_members};
+use crate::check::{Totals, check_block};
 use crate::tree::emit_members;
 use s390x_base::{ConstantData, EmitError, MachLabel};
 use s390x_buffer::{MachBuffer, MachBufferFinalized, all_aligned, constants_fit};
@@ -38,6 +38,7 @@ fn check_blocks(
     sink: &MachBuffer,
     blocks: &[Block],
 ) -> Result<Totals, EmitError>
+    requires start { state.now.nominal ≡ 0 }
     ensures { MatchResult result (λ r. (blocks_cause flags (declared_in sink.now) (length sink.now.labels) (map (tree_of state.now) blocks.now) ≡ None) × (min limit r.bytes ≡ min limit (blocks_size (map (tree_of state.now) blocks.now))) × (r.bytes ≤ limit)) (λ e. blocks_cause flags (declared_in sink.now) (length sink.now.labels) (map (tree_of state.now) blocks.now) ≡ Some e) }
 {
     let mut sum = Totals {
@@ -45,7 +46,7 @@ fn check_blocks(
         bytes: 0,
     };
     for block in blocks {
-        sum = check_members(flags, state, sink, sum, 0, &block.insts)?;
+        sum = check_block(flags, state, sink, sum, block)?;
     }
     Ok(sum)
 }
@@ -64,6 +65,7 @@ fn length_refusal(bytes: u64, constants: &[ConstantData]) -> Option<EmitError>
 
 // Each block's label is bound before its members.
 fn emit_blocks(sink: &mut MachBuffer, state: &EmitState, blocks: &[Block]) -> Result<(), EmitError>
+    requires start { state.now.nominal ≡ 0 }
     requires few { length blocks.now ≤ 4294967295 }
     requires count { sink.old.block_count ≡ length blocks.now }
     requires room { HasRoom sink.old }
@@ -88,6 +90,7 @@ fn emit_checked(
     state: &EmitState,
     flags: IsaFlags,
 ) -> Result<MachBufferFinalized, EmitError>
+    requires start { state.now.nominal ≡ 0 }
     requires few { length function.now.blocks.items ≤ 4294967295 }
     requires fresh { sink ≡ fresh (length function.now.blocks.items) (constants_of function.now) }
     requires fine { checked_cause flags (trees_of state.now function.now) (constants_of function.now) ≡ None }
@@ -118,6 +121,7 @@ fn check_function(
     state: &EmitState,
     flags: IsaFlags,
 ) -> Result<(), EmitError>
+    requires start { state.now.nominal ≡ 0 }
     requires new { new_cause (length function.now.blocks.items) (constants_of function.now) ≡ None }
     requires fresh { sink.now ≡ fresh (length function.now.blocks.items) (constants_of function.now) }
     ensures { MatchResult result (λ _. checked_cause flags (trees_of state.now function.now) (constants_of function.now) ≡ None) (λ e. checked_cause flags (trees_of state.now function.now) (constants_of function.now) ≡ Some e) }
@@ -141,7 +145,8 @@ fn new_buffer(alloc: Global, function: &AllocatedFunction) -> Result<MachBuffer,
 /// Emits a function: binds each block's label, emits its members, and finishes the code with the constants behind it.
 ///
 /// Refused by the first cause in this order: the state's sizes (`BadStackState`), the constants' alignments (`BadAlignment`),
-/// the count of blocks and constants (`LabelOutOfRange`), each step in order (first of all `MissingFacility`), the length (`LabelOutOfRange`).
+/// the count of blocks and constants (`LabelOutOfRange`), each step in order (first of all `MissingFacility`) and behind
+/// each block's last step the nominal size that isn't 0 (`BadStackState`), the length (`LabelOutOfRange`).
 pub fn emit_function(
     alloc: Global,
     function: &AllocatedFunction,

@@ -189,7 +189,11 @@ fn emit_branch(sink: &mut MachBuffer, inst: &Inst, after: MachLabel) -> Result<(
             targets,
         } => emit_table(sink, *ridx, *default_cond, *default, targets),
         Inst::CondBreak { cond } => emit_break(sink, *cond, after),
-        Inst::Nop0 => Ok(()),
+        Inst::Nop0
+        | Inst::Args { .. }
+        | Inst::Rets { .. }
+        | Inst::DummyUse { .. }
+        | Inst::SequencePoint => Ok(()),
         Inst::LabelAddress { dst, label } => emit_address(sink, dst.to_reg(), *label),
         Inst::LoadSymbolReloc { rd, symbol_reloc } => {
             emit_symbol_load(sink, rd.to_reg(), symbol_reloc)
@@ -250,7 +254,7 @@ fn emit_other(
     requires alone { None ≡ alone inst.now }
     requires room { HasRoom sink.old }
     ensures answer { OnOk result (sink.new ≡ run sink.old (leaf_pieces (length sink.old.labels) after.0 (resolved_instruction state.now inst.now))) }
-    ensures lacks { (flags : IsaFlags) (depth : ℕ) → MembersPassed sink.old after.0 depth (instruction_size (resolved_instruction state.now inst.now)) (leaf_cause flags (declared_in sink.old) (length sink.old.labels) depth (resolved_instruction state.now inst.now)) → LacksMemory result }
+    ensures lacks { (flags : IsaFlags) (depth : ℕ) → MembersPassed sink.old after.0 depth (instruction_size (resolved_instruction state.now inst.now)) (leaf_cause flags (declared_in sink.old) (length sink.old.labels) state.now.nominal depth (resolved_instruction state.now inst.now)) → LacksMemory result }
     ensures range { OnOk result (InRange (resolved_instruction state.now inst.now)) }
     ensures kept { Keeps sink.old sink.new }
 {
@@ -269,7 +273,7 @@ pub fn emit_leaf(
 ) -> Result<(), EmitError>
     requires { HasRoom sink.old }
     ensures answer { OnOk result (sink.new ≡ run sink.old (leaf_pieces (length sink.old.labels) after.0 (resolved_instruction state.now inst.now))) }
-    ensures lacks { (flags : IsaFlags) (depth : ℕ) → MembersPassed sink.old after.0 depth (instruction_size (resolved_instruction state.now inst.now)) (leaf_cause flags (declared_in sink.old) (length sink.old.labels) depth (resolved_instruction state.now inst.now)) → LacksMemory result }
+    ensures lacks { (flags : IsaFlags) (depth : ℕ) → MembersPassed sink.old after.0 depth (instruction_size (resolved_instruction state.now inst.now)) (leaf_cause flags (declared_in sink.old) (length sink.old.labels) state.now.nominal depth (resolved_instruction state.now inst.now)) → LacksMemory result }
     ensures range { OnOk result (InRange (resolved_instruction state.now inst.now)) }
     ensures kept { Keeps sink.old sink.new }
 {

@@ -13,6 +13,7 @@ pub mod leaf;
 pub mod memory;
 pub mod moves;
 pub mod opcode;
+pub mod stack;
 pub mod stops;
 pub mod symbol;
 pub mod table;

@@ -11,6 +11,7 @@ ghost use Rattle.s390x_steps.specs.Ranges.{AllInRange};
 ghost use Rattle.s390x_emit_int.specs.Room.{HasRoom, TreePassed, LacksMemory};
 
 use crate::leaf::{emit_leaf, put_branch};
+use crate::stack::advance;
 use s390x_base::{Cond, EmitError, MachLabel};
 use s390x_buffer::MachBuffer;
 use s390x_inst::{EmitState, Inst};
@@ -25,13 +26,15 @@ pub fn emit_members(
 ) -> Result<(), EmitError>
     requires { HasRoom sink.old }
     ensures answer { OnOk result (sink.new ≡ run sink.old (pieces (length sink.old.labels) after.0 (tree state.now insts.now))) }
-    ensures lacks { (flags : IsaFlags) (depth : ℕ) → TreePassed flags sink.old after.0 depth (tree state.now insts.now) → LacksMemory result }
+    ensures lacks { (flags : IsaFlags) (depth : ℕ) → TreePassed flags sink.old after.0 state.now.nominal depth (tree state.now insts.now) → LacksMemory result }
     ensures ranges { OnOk result (AllInRange (tree state.now insts.now)) }
     ensures kept { Keeps sink.old sink.new }
 {
+    let mut here = *state;
     for inst in insts {
         sink.start_step()?;
-        emit_inst(sink, state, inst, after)?;
+        emit_inst(sink, &here, inst, after)?;
+        advance(&mut here, inst)?;
     }
     Ok(())
 }
@@ -46,7 +49,7 @@ pub fn emit_inst(
 ) -> Result<(), EmitError>
     requires { HasRoom sink.old }
     ensures answer { OnOk result (sink.new ≡ run sink.old (own_pieces (length sink.old.labels) after.0 (graft state.now inst.now empty))) }
-    ensures lacks { (flags : IsaFlags) (depth : ℕ) → TreePassed flags sink.old after.0 depth (graft state.now inst.now empty) → LacksMemory result }
+    ensures lacks { (flags : IsaFlags) (depth : ℕ) → TreePassed flags sink.old after.0 state.now.nominal depth (graft state.now inst.now empty) → LacksMemory result }
     ensures ranges { OnOk result (AllInRange (graft state.now inst.now empty)) }
     ensures kept { Keeps sink.old sink.new }
 {
@@ -65,7 +68,7 @@ fn emit_loop(
 ) -> Result<(), EmitError>
     requires { HasRoom sink.old }
     ensures answer { OnOk result (sink.new ≡ run sink.old (own_pieces (length sink.old.labels) 0 (looped cond (tree state.now body.now) empty))) }
-    ensures lacks { (flags : IsaFlags) (depth after : ℕ) → TreePassed flags sink.old after depth (looped cond (tree state.now body.now) empty) → LacksMemory result }
+    ensures lacks { (flags : IsaFlags) (depth after : ℕ) → TreePassed flags sink.old after state.now.nominal depth (looped cond (tree state.now body.now) empty) → LacksMemory result }
     ensures ranges { OnOk result (AllInRange (looped cond (tree state.now body.now) empty)) }
     ensures kept { Keeps sink.old sink.new }
 {

@@ -1,14 +1,15 @@
 -- Steps that emission lets pass are fine.
 use Rattle.std.proofs.Common.{◌≡◌, ℕ, zero, suc, ◌+◌, ◌<◌, ◌≤◌, List, [], ◌∷◌, ◌++◌, length, Option, Some, None, ◌&&◌, refl, sym, ap, ◌∙◌, subst, arith, length-append, slice_get, ltb-true}
-use Rattle.std.specs.Prelude.{nat_lt, not}
+use Rattle.std.specs.Prelude.{nat_eq, nat_lt, not}
 use Rattle.std.proofs.lemmas.Bool.{and_parts}
 use Rattle.s390x_inst.specs.declared.state.IsaFlags.{IsaFlags}
 use Rattle.s390x_base.specs.declared.ir.MachLabel.{MachLabel}
 use Rattle.s390x_base.specs.declared.error.EmitError.{EmitError}
-use Rattle.s390x_base.specs.declared.error.EmitError.TheVariants.{BadOperator, BadRegister, ScratchConflict, OffsetOutOfRange, UnboundLabel}
+use Rattle.s390x_base.specs.declared.error.EmitError.TheVariants.{BadOperator, BadRegister, ScratchConflict, OffsetOutOfRange, UnboundLabel, BadStackState}
 use Rattle.s390x_inst.specs.declared.inst.Inst.{Inst}
-use Rattle.s390x_inst.specs.declared.inst.Inst.TheVariants.{Jump, CondBr, IndirectBr, Ret, CondBreak, Nop0, LabelAddress, LoadSymbolReloc, Trap, TrapIf, Debugtrap, JTSequence}
-use Rattle.s390x_steps.specs.Causes.{first, unless, facility_cause, label_cause, labels_cause, cause_or, loses_scratch, addend_fits, place_cause, memory_cause_or, instruction_cause, numbers_cause, nesting_cause, draws, tree_cause, blocks_cause, leaf_cause, instruction_draws}
+use Rattle.s390x_inst.specs.declared.inst.Inst.TheVariants.{Jump, CondBr, IndirectBr, Ret, CondBreak, Nop0, LabelAddress, LoadSymbolReloc, Trap, TrapIf, Debugtrap, JTSequence, AllocateArgs, Args, Rets, DummyUse, SequencePoint}
+use Rattle.s390x_steps.specs.Stack.{nominal_after}
+use Rattle.s390x_steps.specs.Causes.{first, unless, facility_cause, label_cause, labels_cause, cause_or, loses_scratch, addend_fits, place_cause, memory_cause_or, instruction_cause, numbers_cause, nesting_cause, draws, tree_cause, block_cause, blocks_cause, nominal_behind, leaf_cause, instruction_draws}
 use Rattle.s390x_steps.specs.Alone.{Alone, alone}
 use Rattle.s390x_steps.specs.General.{is_general, is_nonzero, is_scratch}
 use Rattle.s390x_steps.specs.Memory.{MemoryInstruction, memory, type_of}
@@ -56,30 +57,35 @@ module _ (L : Layout) where
   blocks_of (l ∷ ls) e = let parts = first_none (label_cause L.block_count l) (labels_cause L.block_count ls) e in (block_of l parts.0, blocks_of ls parts.1)
 
   -- an instruction, in so many loops, the innermost of which ends at a step
-  fine_step : (flags : IsaFlags) (depth after : ℕ) (i : Inst) → instruction_cause flags (declared L) depth i ≡ None → InRange i → (0 < depth → after ≤ length L.steps) → IsFine L (step_of after i)
-  fine_step flags depth after (Jump dest) e range le = block_of dest e
-  fine_step flags depth after (CondBr taken not_taken mask) e range le = let parts = first_none (label_cause L.block_count taken) (label_cause L.block_count not_taken) e in (block_of taken parts.0, block_of not_taken parts.1, range.0)
-  fine_step flags depth after (IndirectBr rn targets) e range le =
+  fine_step : (flags : IsaFlags) (nominal depth after : ℕ) (i : Inst) → instruction_cause flags (declared L) nominal depth i ≡ None → InRange i → (0 < depth → after ≤ length L.steps) → IsFine L (step_of after i)
+  fine_step flags nominal depth after (Jump dest) e range le = block_of dest e
+  fine_step flags nominal depth after (CondBr taken not_taken mask) e range le = let parts = first_none (label_cause L.block_count taken) (label_cause L.block_count not_taken) e in (block_of taken parts.0, block_of not_taken parts.1, range.0)
+  fine_step flags nominal depth after (IndirectBr rn targets) e range le =
       let parts = first_none (unless (is_general rn && is_nonzero rn) BadRegister) (labels_cause L.block_count targets.items) e in
       let regs = and_parts (is_general rn) (is_nonzero rn) (unless_none (is_general rn && is_nonzero rn) BadRegister parts.0) in
       (regs.0, regs.1, blocks_of targets.items parts.1)
-  fine_step flags depth after (Ret link) e range le = and_parts (is_general link) (is_nonzero link) (unless_none (is_general link && is_nonzero link) BadRegister e)
-  fine_step flags depth after (JTSequence ridx other mask targets) e range le =
+  fine_step flags nominal depth after (Ret link) e range le = and_parts (is_general link) (is_nonzero link) (unless_none (is_general link && is_nonzero link) BadRegister e)
+  fine_step flags nominal depth after (JTSequence ridx other mask targets) e range le =
       let registers = first_none (unless (is_general ridx && is_nonzero ridx) BadRegister) (first (unless (not (is_scratch ridx)) ScratchConflict) (first (label_cause L.block_count other) (labels_cause L.block_count targets.items))) e in
       let scratch = first_none (unless (not (is_scratch ridx)) ScratchConflict) (first (label_cause L.block_count other) (labels_cause L.block_count targets.items)) registers.1 in
       let labels = first_none (label_cause L.block_count other) (labels_cause L.block_count targets.items) scratch.1 in
       let general = and_parts (is_general ridx) (is_nonzero ridx) (unless_none (is_general ridx && is_nonzero ridx) BadRegister registers.0) in
       (general.0, general.1, unless_none (not (is_scratch ridx)) ScratchConflict scratch.0, block_of other labels.0, blocks_of targets.items labels.1, range.0)
-  fine_step flags depth after (CondBreak mask) e range le = (range.0, le (ltb-true 0 depth (unless_none (nat_lt 0 depth) Rattle.s390x_base.specs.declared.error.EmitError.TheVariants.BreakOutsideLoop e)))
-  fine_step flags depth after Nop0 e range le = tt
-  fine_step flags depth after (LabelAddress dst label) e range le =
+  fine_step flags nominal depth after (CondBreak mask) e range le = (range.0, le (ltb-true 0 depth (unless_none (nat_lt 0 depth) Rattle.s390x_base.specs.declared.error.EmitError.TheVariants.BreakOutsideLoop e)))
+  fine_step flags nominal depth after Nop0 e range le = tt
+  fine_step flags nominal depth after (Args args) e range le = tt
+  fine_step flags nominal depth after (Rets rets) e range le = tt
+  fine_step flags nominal depth after (DummyUse reg) e range le = tt
+  fine_step flags nominal depth after SequencePoint e range le = tt
+  fine_step flags nominal depth after (AllocateArgs size) e range le = refl
+  fine_step flags nominal depth after (LabelAddress dst label) e range le =
       let parts = first_none (unless (is_general dst) BadRegister) (label_cause L.block_count label) e in
       (unless_none (is_general dst) BadRegister parts.0, block_of label parts.1)
-  fine_step flags depth after (LoadSymbolReloc rd reloc) e range le = unless_none (is_general rd) BadRegister e
-  fine_step flags depth after (Trap code) e range le = tt
-  fine_step flags depth after (TrapIf mask code) e range le = range.0
-  fine_step flags depth after Debugtrap e range le = tt
-  fine_step flags depth after i e range le = fine_alone (alone i) (memory i) (first_none (facility_cause flags i) (cause_or (alone i) (memory_cause_or (declared L) (memory i) (Some BadOperator))) e).1 range.1
+  fine_step flags nominal depth after (LoadSymbolReloc rd reloc) e range le = unless_none (is_general rd) BadRegister e
+  fine_step flags nominal depth after (Trap code) e range le = tt
+  fine_step flags nominal depth after (TrapIf mask code) e range le = range.0
+  fine_step flags nominal depth after Debugtrap e range le = tt
+  fine_step flags nominal depth after i e range le = fine_alone (alone i) (memory i) (first_none (facility_cause flags i) (cause_or (alone i) (memory_cause_or (declared L) (memory i) (Some BadOperator))) e).1 range.1
 
   -- each of some steps is fine
   AllFine : List Step → Type 0
@@ -96,29 +102,30 @@ module _ (L : Layout) where
   fine_append (x ∷ xs) ys a b zero s e = a zero s e
   fine_append (x ∷ xs) ys a b (suc j) s e = fine_append xs ys (λ i t h. a (suc i) t h) b j s e
 
-  fine_tree : (flags : IsaFlags) (k after n depth : ℕ) (t : Tree) → tree_cause flags (declared L) n depth t ≡ None → AllInRange t → (0 < depth → after ≤ length L.steps) → k + step_count t ≤ length L.steps → AllFine (steps_of k after t)
+  fine_tree : (flags : IsaFlags) (k after n nominal depth : ℕ) (t : Tree) → tree_cause flags (declared L) n nominal depth t ≡ None → AllInRange t → (0 < depth → after ≤ length L.steps) → k + step_count t ≤ length L.steps → AllFine (steps_of k after t)
   unfolding AllFine
-  fine_tree flags k after n depth empty e range le within = λ j s h. absurd (cc)
-  fine_tree flags k after n depth (leaf i rest) e range le within =
-      let parts = first_none (leaf_cause flags (declared L) n depth i) (tree_cause flags (declared L) (n + instruction_draws i) depth rest) e in
-      let own = first_none (instruction_cause flags (declared L) depth i) (numbers_cause n (instruction_draws i)) parts.0 in
-      fine_cons (step_of after i) (steps_of (k + 1) after rest) (fine_step flags depth after i own.0 range.0 le) (fine_tree flags (k + 1) after (n + instruction_draws i) depth rest parts.1 range.1 le (omega arith))
-  fine_tree flags k after n depth (looped mask members rest) e range le within =
-      let a = first_none (first (first (nesting_cause depth) (numbers_cause n 2)) (tree_cause flags (declared L) (n + 2) (depth + 1) members)) (tree_cause flags (declared L) (n + 2 + draws members) depth rest) e in
-      let b = first_none (first (nesting_cause depth) (numbers_cause n 2)) (tree_cause flags (declared L) (n + 2) (depth + 1) members) a.0 in
+  fine_tree flags k after n nominal depth empty e range le within = λ j s h. absurd (cc)
+  fine_tree flags k after n nominal depth (leaf i rest) e range le within =
+      let parts = first_none (leaf_cause flags (declared L) n nominal depth i) (tree_cause flags (declared L) (n + instruction_draws i) (nominal_after nominal i) depth rest) e in
+      let own = first_none (instruction_cause flags (declared L) nominal depth i) (numbers_cause n (instruction_draws i)) parts.0 in
+      fine_cons (step_of after i) (steps_of (k + 1) after rest) (fine_step flags nominal depth after i own.0 range.0 le) (fine_tree flags (k + 1) after (n + instruction_draws i) (nominal_after nominal i) depth rest parts.1 range.1 le (omega arith))
+  fine_tree flags k after n nominal depth (looped mask members rest) e range le within =
+      let a = first_none (first (first (nesting_cause depth) (numbers_cause n 2)) (tree_cause flags (declared L) (n + 2) nominal (depth + 1) members)) (tree_cause flags (declared L) (n + 2 + draws members) nominal depth rest) e in
+      let b = first_none (first (nesting_cause depth) (numbers_cause n 2)) (tree_cause flags (declared L) (n + 2) nominal (depth + 1) members) a.0 in
       let end = k + 2 + step_count members in
-      let tail : AllFine (Back mask (k + 1) ∷ steps_of end after rest) = fine_cons (Back mask (k + 1)) (steps_of end after rest) (range.0, omega arith) (fine_tree flags end after (n + 2 + draws members) depth rest a.1 range.2 le (omega arith)) in
+      let tail : AllFine (Back mask (k + 1) ∷ steps_of end after rest) = fine_cons (Back mask (k + 1)) (steps_of end after rest) (range.0, omega arith) (fine_tree flags end after (n + 2 + draws members) nominal depth rest a.1 range.2 le (omega arith)) in
       fine_cons Opening (steps_of (k + 1) end members ++ (Back mask (k + 1) ∷ steps_of end after rest)) tt
-      (fine_append (steps_of (k + 1) end members) (Back mask (k + 1) ∷ steps_of end after rest) (fine_tree flags (k + 1) end (n + 2) (depth + 1) members b.1 range.1 (λ d. omega arith) (omega arith)) tail)
+      (fine_append (steps_of (k + 1) end members) (Back mask (k + 1) ∷ steps_of end after rest) (fine_tree flags (k + 1) end (n + 2) nominal (depth + 1) members b.1 range.1 (λ d. omega arith) (omega arith)) tail)
 
   fine_blocks : (flags : IsaFlags) (k n : ℕ) (ts : List Tree) → blocks_cause flags (declared L) n ts ≡ None → BlocksInRange ts → k + length (steps_from k ts) ≤ length L.steps → AllFine (steps_from k ts)
   unfolding AllFine
   fine_blocks flags k n [] e range within = λ j s h. absurd (cc)
   fine_blocks flags k n (t ∷ ts) e range within =
-      let parts = first_none (tree_cause flags (declared L) n 0 t) (blocks_cause flags (declared L) (n + draws t) ts) e in
+      let parts = first_none (block_cause flags (declared L) n t) (blocks_cause flags (declared L) (n + draws t) ts) e in
+      let members = first_none (tree_cause flags (declared L) n 0 0 t) (unless (nat_eq (nominal_behind 0 t) 0) BadStackState) parts.0 in
       let counted = count_of k 0 t in
       let joined = length-append (steps_of k 0 t) (steps_from (k + step_count t) ts) in
-      fine_append (steps_of k 0 t) (steps_from (k + step_count t) ts) (fine_tree flags k 0 n 0 t parts.0 range.0 (λ d. absurd (omega arith)) (omega (arith, counted, joined))) (fine_blocks flags (k + step_count t) (n + draws t) ts parts.1 range.1 (omega (arith, counted, joined)))
+      fine_append (steps_of k 0 t) (steps_from (k + step_count t) ts) (fine_tree flags k 0 n 0 0 t members.0 range.0 (λ d. absurd (omega arith)) (omega (arith, counted, joined))) (fine_blocks flags (k + step_count t) (n + draws t) ts parts.1 range.1 (omega (arith, counted, joined)))
 
   pub fine_function : (flags : IsaFlags) (n : ℕ) (ts : List Tree) → L.steps ≡ function_steps ts → blocks_cause flags (declared L) n ts ≡ None → BlocksInRange ts → (k : ℕ) (s : Step) → slice_get L.steps k ≡ Some s → IsFine L s
   unfolding AllFine

@@ -1,6 +1,6 @@
 -- Each built step runs as its typed step, and so every run is allowed.
 use Rattle.std.proofs.Common.{◌≡◌, ℕ, suc, ◌+◌, ◌%◌, ◌==◌, ◌^◌, ◌<◌, ◌≤◌, [], ◌∷◌, length, get_or, Option, Some, None, Bool, true, false, cond, ◌&&◌, ◌||◌, is_some, IsTrue, refl, sym, ap, ◌∙◌, subst, arith, slice_get, eqb-true, nat_lt, nat_eq, ℤ, pos, negsuc, List, ◌*◌, ◌-◌, ltb-true}
-use Rattle.std.specs.Prelude.{◌-ℤ◌}
+use Rattle.std.specs.Prelude.{◌-ℤ◌, neg_ℤ}
 use Rattle.std.proofs.lemmas.Bool.{and_parts}
 use Rattle.std.proofs.lemmas.Option.{slice_get_within}
 use Rattle.s390x_base.specs.Regs.{number_of, is_int, is_pair}
@@ -9,6 +9,7 @@ use Rattle.s390x_base.specs.declared.regs.Reg.TheVariants.{Real, Virtual}
 use Rattle.s390x_base.specs.declared.trap.TrapKind.{TrapKind}
 use Rattle.s390x_base.specs.declared.trap.TrapKind.TheVariants.{IntegerDivisionByZero}
 use Rattle.s390x_inst.specs.declared.ops.ALUOp.{ALUOp}
+use Rattle.s390x_inst.specs.declared.ops.ALUOp.TheVariants as A
 use Rattle.s390x_inst.specs.declared.ops.UnaryOp.TheVariants as U
 use Rattle.s390x_inst.specs.declared.ops.ShiftOp.{ShiftOp}
 use Rattle.s390x_inst.specs.declared.ops.RxSBGOp.{RxSBGOp}
@@ -16,7 +17,7 @@ use Rattle.s390x_inst.specs.declared.ops.RxSBGOp.TheVariants as R
 use Rattle.s390x_base.specs.declared.ir.MachLabel.{MachLabel}
 use Rattle.s390x_inst.specs.declared.calls.SymbolReloc.{SymbolReloc}
 use Rattle.s390x_inst.specs.declared.inst.Inst.{Inst}
-use Rattle.s390x_inst.specs.declared.inst.Inst.TheVariants.{AluRRR, AluRR, AluRRSImm16, AluRSImm16, AluRSImm32, AluRUImm32, UnaryRR, CmpRR, CmpRSImm16, CmpRSImm32, CmpRUImm32, Mov64, MovPReg, Mov32, Mov32Imm, Mov32SImm16, Mov64SImm16, Mov64SImm32, AluRUImm16Shifted, AluRUImm32Shifted, SMulWide, UMulWide, Flogr, ShiftRR, RxSBG, RxSBGTest, Mov64UImm16Shifted, Mov64UImm32Shifted, Insert64UImm16Shifted, Insert64UImm32Shifted, CMov32, CMov64, CMov32SImm16, CMov64SImm16, Extend, LoadAR, InsertAR, LoadIndexedAddr, LoadLogicalIndexedAddr, Fence, Nop0, Nop2, Jump, CondBr, IndirectBr, Ret, LabelAddress, LoadSymbolReloc, Trap, TrapIf, Debugtrap, SDivMod32, SDivMod64, UDivMod32, UDivMod64, CmpTrapRR, CmpTrapRSImm16, CmpTrapRUImm16, AluRX, CmpRX, Load32, Load32ZExt8, Load32SExt8, Load32ZExt16, Load32SExt16, Load64, Load64ZExt8, Load64SExt8, Load64ZExt16, Load64SExt16, Load64ZExt32, Load64SExt32, LoadRev16, LoadRev32, LoadRev64, Store8, Store16, Store32, Store64, StoreRev16, StoreRev32, StoreRev64, StoreImm8, StoreImm16, StoreImm32SExt16, StoreImm64SExt16, LoadMultiple64, StoreMultiple64, LoadAddr, AtomicRmw, AtomicCas32, AtomicCas64, JTSequence}
+use Rattle.s390x_inst.specs.declared.inst.Inst.TheVariants.{AluRRR, AluRR, AluRRSImm16, AluRSImm16, AluRSImm32, AluRUImm32, UnaryRR, CmpRR, CmpRSImm16, CmpRSImm32, CmpRUImm32, Mov64, MovPReg, Mov32, Mov32Imm, Mov32SImm16, Mov64SImm16, Mov64SImm32, AluRUImm16Shifted, AluRUImm32Shifted, SMulWide, UMulWide, Flogr, ShiftRR, RxSBG, RxSBGTest, Mov64UImm16Shifted, Mov64UImm32Shifted, Insert64UImm16Shifted, Insert64UImm32Shifted, CMov32, CMov64, CMov32SImm16, CMov64SImm16, Extend, LoadAR, InsertAR, LoadIndexedAddr, LoadLogicalIndexedAddr, Fence, Nop0, Nop2, Jump, CondBr, IndirectBr, Ret, LabelAddress, LoadSymbolReloc, Trap, TrapIf, Debugtrap, SDivMod32, SDivMod64, UDivMod32, UDivMod64, CmpTrapRR, CmpTrapRSImm16, CmpTrapRUImm16, AluRX, CmpRX, Load32, Load32ZExt8, Load32SExt8, Load32ZExt16, Load32SExt16, Load64, Load64ZExt8, Load64SExt8, Load64ZExt16, Load64SExt16, Load64ZExt32, Load64SExt32, LoadRev16, LoadRev32, LoadRev64, Store8, Store16, Store32, Store64, StoreRev16, StoreRev32, StoreRev64, StoreImm8, StoreImm16, StoreImm32SExt16, StoreImm64SExt16, LoadMultiple64, StoreMultiple64, LoadAddr, AtomicRmw, AtomicCas32, AtomicCas64, JTSequence, AllocateArgs, Args, Rets, DummyUse, SequencePoint}
 use Rattle.s390x_format.specs.Formats.{length_of, layout_of}
 use Rattle.s390x_format.specs.Layout.{SlotsFit}
 use Rattle.s390x_format.specs.Rows.{is_allowed, fetch_length_of}
@@ -28,7 +29,7 @@ use Rattle.s390x_format.specs.declared.kind.FormatKind.{FormatKind}
 use Rattle.s390x_format.specs.declared.kind.FormatKind.TheVariants.{Rr, Rre, RrfAb, RrfCde, RiA, RieA, RieD, RieF, RieG, RilA, Rsy, Rxy}
 use Rattle.s390x_steps.specs.General.{is_general, is_even_pair, reuses, reuses_pair, low_halfword, low_word, low_byte, four_bits, low_displacement, rotation, is_access}
 use Rattle.s390x_steps.specs.Opcodes.{alu_three, alu_two, cmp_two, unary_two, alu_halfword, alu_three_halfword, alu_signed_word, alu_unsigned_word, cmp_halfword, cmp_trap, cmp_trap_signed, cmp_trap_unsigned, cmp_signed_word, cmp_unsigned_word, alu_part, alu_half, load_part, load_half, insert_part, insert_half, extend_two, shift_storage, rotate_then, rotate_then_test, indexed_opcode, logical_indexed_opcode}
-use Rattle.s390x_steps.specs.Alone.{alone_with, two_operands, two_row, three_row, halfword_row, word_row, three_halfword_row, rotated_row, masked_row, masked_halfword_row, indexed_row}
+use Rattle.s390x_steps.specs.Alone.{alone_with, allocate_row, two_operands, two_row, three_row, halfword_row, word_row, three_halfword_row, rotated_row, masked_row, masked_halfword_row, indexed_row}
 use Rattle.s390x_steps.specs.Ranges.{IsMask}
 use Rattle.s390x_steps.specs.MachineInstruction.{MachineInstruction, bytes_of, size_of, format_e, rr, rre, rrf_ab, rrf_cde, ri_a, rie_a, rie_d, rie_f, rie_g, ril_a, ril_b, ril_c, rsy}
 use Rattle.s390x_steps.specs.Steps.{Step, Plain, Opening, Back, Break}
@@ -41,7 +42,7 @@ use Rattle.s390x_operations.specs.declared.stop.ConditionCode.TheVariants.{Code0
 use Rattle.s390x_operations.specs.Effects.{Refines, refused, MayRefuse, is_selected}
 use Rattle.s390x_operations.specs.declared.effect.Operation.{Operation}
 use Rattle.s390x_operations.specs.declared.effect.CodeRule.{CodeRule}
-use Rattle.s390x_operations.specs.declared.effect.CodeRule.TheVariants.{Kept, Set}
+use Rattle.s390x_operations.specs.declared.effect.CodeRule.TheVariants.{Kept, Set, Unstated}
 use Rattle.s390x_operations.specs.Bits.{selection, extended}
 use Rattle.s390x_lanes.specs.declared.operation.Signedness.TheVariants.{Signed}
 use Rattle.s390x_operations.specs.declared.size.Size.{Size}
@@ -58,7 +59,7 @@ use Rattle.s390x_machine.specs.declared.meaning.Meaning.TheVariants.{Compare, Mo
 use Rattle.s390x_machine.specs.declared.meaning.Shape.TheVariants.{Register, ThreeRegisters, Immediate, ThreeImmediate, AccessRegister}
 use Rattle.s390x_machine.specs.declared.meaning.Action.{Action}
 use Rattle.s390x_machine.specs.declared.meaning.Action.TheVariants.{Perform, Branch as BranchAction}
-use Rattle.s390x_machine.specs.Computations.{Computation, Comparison, alu_computation, alu_three_rule, alu_two_rule, unary_computation, unary_rule, comparison, on_words, on_doublewords, word, signed_word, halfword, signed_halfword, on_immediate, compares_on_immediate, computes, compares, computes_immediate, compares_immediate, Second, with_rule, operand_of, doubleword, part_mask, half_mask, on_selected, part_operator, at_half, inserts_half, extension, shift_operator, shift_size, shift_rule, shift_computation, shifts, rotate_operator, rotate_rule, rotates_into, rotates_to_test, multiplies_signed, multiplies_logical, divides_signed, divides_logical, compares_and_traps, compares_immediate_and_traps, finds_leftmost, idles, puts_any, copies_access, moves_where, moves_immediate_where}
+use Rattle.s390x_machine.specs.Computations.{Computation, Comparison, alu_computation, alu_three_rule, alu_two_rule, unary_computation, unary_rule, comparison, on_words, on_doublewords, word, signed_word, halfword, signed_halfword, on_immediate, compares_on_immediate, computes, compares, computes_immediate, compares_immediate, Second, with_rule, operand_of, doubleword, part_mask, half_mask, on_selected, part_operator, at_half, inserts_half, extension, shift_operator, shift_size, shift_rule, shift_computation, shifts, rotate_operator, rotate_rule, rotates_into, rotates_to_test, multiplies_signed, multiplies_logical, divides_signed, divides_logical, compares_and_traps, compares_immediate_and_traps, finds_leftmost, idles, puts_any, copies_access, moves_where, moves_immediate_where, takes_from_stack}
 use Rattle.s390x_machine.specs.Operands.{value_in, based, rotated_operand, performed_where}
 use Rattle.s390x_machine.specs.Forms.{Form, Performs, GoesTo, Chooses, GoesByTable, Leads, TrapsAlways, TrapsWhere, DebugStops, Silent, linked_value, no_code, division_code, comparison_code}
 use Rattle.s390x_format.specs.declared.fields.Fields.{Fields}
@@ -80,6 +81,7 @@ use Rattle.s390x_machine.proofs.Tables.{adds_word, agf_at, TableRows, table_runs
 use Rattle.s390x_machine.proofs.Trapping.{within_image, entry_found, IsLate, division_late, comparison_late, late_code, stops_at, zeros, zero_and_one, zeros_behind}
 use Rattle.s390x_machine.proofs.Rows.{general_number, nonzero_number, unscratched_number, bcr_at, brcl_at, fits_rr, fits_rre, fits_rrf_ab, fits_rrf_cde, fits_rie_a, fits_rie_f, fits_rie_g, fits_rsy, fits_rxy, larl_at}
 use Rattle.s390x_machine.proofs.Bits.{immediate_at, part_rows, half_rows, load_part_rows, load_half_rows, insert_part_rows, iihf_row, extends, extend_rows, ear_row, shift_meaning, shift_rows, rotate_allows, rotate_rows, any_mask, locr_row, locgr_row, lochi_row, locghi_row, popcnt_row, AnyRows, indexed_rows, logical_indexed_rows, mgrk_row, mlgr_row, flogr_row, dsgfr_row, dsgr_row, dlr_row, dlgr_row, MeantRows, trap_rows, trap_signed_rows, trap_unsigned_rows, bcr_row, below, not_below, mask_allowed, rotation_allowed, test_allowed}
+use Rattle.s390x_machine.proofs.Allocating.{adds_negated}
 use Rattle.s390x_machine.proofs.Alone.{TwoRow, ThreeRow, TwoRows, ThreeRows, second_register, computed, register_fields, alu_three_rows, alu_two_rows, cmp_rows, unary_rows, lgr_row, lr_row, two_at, three_at, OpcodeRows, compared, halfword_rows, three_halfword_rows, signed_word_rows, unsigned_word_rows, cmp_halfword_rows, cmp_signed_word_rows, cmp_unsigned_word_rows, iilf_row, lhi_row, lghi_row, lgfi_row, halfword_at, word_at, three_halfword_at, compare_halfword_at, compare_word_at, loosens, three_looser, two_looser, none_but_zero, PairRow, pair_at, Meant, meant_at, row_tells, ri_a_at, ril_a_at, low_small}
 use Rattle.s390x_steps.specs.Storage.{alu_rx, alu_rxy, cmp_rx, cmp_rxy, cmp_ril, atomic_rsy}
 use Rattle.s390x_machine.specs.Storage.{byte, signed_byte, reversed_bytes, indexed_forms, based_forms, alu_forms, cmp_forms}
@@ -282,6 +284,30 @@ module _ (L : Layout) (all : AllPlaced L) (k : ℕ) (s : Step) (at : slice_get L
   immediate_runs m operation never is parts some at_row =
       let one = one_row L k s placed m parts in
       row_alone L k operation no_code (λ r. Perform (operation r)) (size_of m) (formed _ is) (at_row one.stands) (λ r. exactly (operation r)) (uncoded L (place L k)) never one.size some
+
+  -- one that is as free as the step's operation, or less
+  looser_runs : (m : MachineInstruction) (does operation : Registers → Operation) → ((r : Registers) → Refines (does r) (operation r)) → NeverStops operation → form_of L (Some s) ≡ Some (Performs false operation no_code) → step_parts s ≡ Row m ∷ [] → 0 < size_of m → (StandsAt L.image (L.places.step k) (bytes_of m) → RowAt L (place L k) (λ r. Perform (does r)) (size_of m)) → StepRuns L k
+  looser_runs m does operation refines never is parts some at_row =
+      let one = one_row L k s placed m parts in
+      row_alone L k operation no_code (λ r. Perform (does r)) (size_of m) (formed _ is) (at_row one.stands) refines (uncoded L (place L k)) never one.size some
+
+  -- bytes are taken from the stack pointer: their number is added with a minus sign, or it is subtracted
+  allocate_runs : (size : ℕ) → form_of L (Some s) ≡ Some (Performs false (takes_from_stack size) no_code) → step_parts s ≡ Row (allocate_row size) ∷ [] → StepRuns L k
+  unfolding length_of
+  allocate_runs size is parts = go (nat_lt size 32768) refl parts
+    where
+      never : NeverStops (takes_from_stack size)
+      never = computes_immediate_always Unstated (on_immediate (alu_computation A.SubLogical64) word) 15 15 (low_word (pos size))
+
+      go : (fits : Bool) → nat_lt size 32768 ≡ fits → step_parts s ≡ Row (cond fits (ri_a 0xa7b 15 (low_halfword (neg_ℤ (pos size)))) (ril_a 0xc24 15 (low_word (pos size)))) ∷ [] → StepRuns L k
+      go true e is_row =
+          let bits = low_halfword (neg_ℤ (pos size)) in
+          let adds = on_immediate (alu_computation A.Add64) signed_halfword in
+          looser_runs (ri_a 0xa7b 15 bits) (computes_immediate Set adds 15 15 bits) (takes_from_stack size) (adds_negated size (ltb-true size 32768 e)) never is is_row (omega arith) (λ st. halfword_at L all (L.places.step k) even 0xa7b adds Set (halfword_rows A.Add64) 15 bits (omega arith) (halfword_bits (neg_ℤ (pos size))) st)
+      go false e is_row =
+          let bits = low_word (pos size) in
+          let subtracts = on_immediate (alu_computation A.SubLogical64) word in
+          looser_runs (ril_a 0xc24 15 bits) (computes_immediate Set subtracts 15 15 bits) (takes_from_stack size) (λ r. loosens _ Set Unstated tt) never is is_row (omega arith) (λ st. word_at L all (L.places.step k) even 0xc24 subtracts Set (unsigned_word_rows A.SubLogical64) 15 bits (omega arith) (word_bits (pos size)) st)
 
   -- an operator with an immediate of 16 bits, or of 32, where it has a row
   one_of_halfword : (fine : Bool) (o : Option ℕ) (c : Computation) (rule : CodeRule) → OpcodeRows RiA 4096 o (computed c Immediate rule) → (d bits : ℕ) → form_of L (Some s) ≡ Some (Performs false (computes_immediate rule c d d bits) no_code) → step_parts s ≡ parts_or (alone_with fine (halfword_row o d bits)) None [] → FineOr (alone_with fine (halfword_row o d bits)) ⊥ → (IsTrue fine → d < 16) → bits < 2 ^ 16 → StepRuns L k
@@ -787,9 +813,14 @@ instruction_runs L all k (LoadIndexedAddr rd base index offset size) at p fine =
     any_runs L all k (Plain (LoadIndexedAddr rd base index offset size)) at p (is_general rd && is_general base && is_general index) (indexed_opcode size) (indexed_rows size) (number_of rd) (number_of base) (number_of index) (low_displacement offset) refl refl fine (three_small rd base index) (displacement_bits offset)
 instruction_runs L all k (LoadLogicalIndexedAddr rd base index offset size) at p fine =
     any_runs L all k (Plain (LoadLogicalIndexedAddr rd base index offset size)) at p (is_general rd && is_general base && is_general index) (logical_indexed_opcode size) (logical_indexed_rows size) (number_of rd) (number_of base) (number_of index) (low_displacement offset) refl refl fine (three_small rd base index) (displacement_bits offset)
+instruction_runs L all k (AllocateArgs size) at p fine = allocate_runs L all k (Plain (AllocateArgs size)) at p size refl refl
 instruction_runs L all k Fence at p fine = fence_runs L all k (Plain Fence) at p refl refl
 instruction_runs L all k Nop2 at p fine = idle_runs L all k (Plain Nop2) at p refl refl
 instruction_runs L all k Nop0 at p fine = opening_runs L all k (Plain Nop0) at p refl refl
+instruction_runs L all k (Args args) at p fine = opening_runs L all k (Plain (Args args)) at p refl refl
+instruction_runs L all k (Rets rets) at p fine = opening_runs L all k (Plain (Rets rets)) at p refl refl
+instruction_runs L all k (DummyUse reg) at p fine = opening_runs L all k (Plain (DummyUse reg)) at p refl refl
+instruction_runs L all k SequencePoint at p fine = opening_runs L all k (Plain SequencePoint) at p refl refl
 instruction_runs L all k (Jump dest) at p fine = goto_runs L all k (Plain (Jump dest)) at p dest.0 refl refl fine
 instruction_runs L all k (CondBr taken not_taken mask) at p fine = condbr_runs L all k (Plain (CondBr taken not_taken mask)) at p mask taken.0 not_taken.0 refl refl (small_mask mask fine.2) fine.0 fine.1
 instruction_runs L all k (IndirectBr rn targets) at p fine =

@@ -1,4 +1,5 @@
 pub mod Addresses
+pub mod Allocating
 pub mod Operands
 pub mod Checked
 pub mod Accessing

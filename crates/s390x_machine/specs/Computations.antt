@@ -35,6 +35,7 @@ use Rattle.s390x_operations.specs.declared.effect.Effect.TheVariants.{Compute, C
 use Rattle.s390x_operations.specs.declared.effect.CodeRule.{CodeRule}
 use Rattle.s390x_operations.specs.declared.effect.CodeRule.TheVariants.{Kept, Set, Unstated}
 use Rattle.s390x_operations.specs.declared.effect.Operation.{Operation}
+use Rattle.s390x_steps.specs.General.{low_word}
 use Rattle.s390x_machine.specs.Operands.{value_in, based, rotated_operand, performed_where}
 
 -- which bits of the second operand are read, and how they are extended to the operation's size
@@ -211,6 +212,10 @@ on_immediate c second = record { operator = c.operator; size = c.size; second = 
 -- the same comparison with an immediate, whose bits are read like this
 abbrev pub compares_on_immediate : Comparison → Second → Comparison
 compares_on_immediate c second = record { sign = c.sign; size = c.size; second = second }
+
+-- so many bytes are taken from the stack pointer, `%r15`. The condition code is unstated
+abbrev pub takes_from_stack : (size : ℕ) → Registers → Operation
+takes_from_stack size = computes_immediate Unstated (on_immediate (on_doublewords (O.Logical L.Subtract)) word) 15 15 (low_word (pos size))
 
 -- ---- parts of a register
 

@@ -6,7 +6,7 @@ use Rattle.s390x_base.specs.declared.ir.MachLabel.{MachLabel}
 use Rattle.s390x_base.specs.declared.trap.TrapKind.{TrapKind}
 use Rattle.s390x_base.specs.declared.trap.TrapKind.TheVariants.{IntegerDivisionByZero}
 use Rattle.s390x_inst.specs.declared.inst.Inst.{Inst}
-use Rattle.s390x_inst.specs.declared.inst.Inst.TheVariants.{AluRRR, AluRR, AluRRSImm16, AluRSImm16, AluRSImm32, AluRUImm32, AluRUImm16Shifted, AluRUImm32Shifted, SMulWide, UMulWide, Flogr, ShiftRR, RxSBG, RxSBGTest, UnaryRR, CmpRR, CmpRSImm16, CmpRSImm32, CmpRUImm32, Mov64, MovPReg, Mov32, Mov32Imm, Mov32SImm16, Mov64SImm16, Mov64SImm32, Mov64UImm16Shifted, Mov64UImm32Shifted, Insert64UImm16Shifted, Insert64UImm32Shifted, CMov32, CMov64, CMov32SImm16, CMov64SImm16, Extend, LoadAR, InsertAR, LoadIndexedAddr, LoadLogicalIndexedAddr, Fence, Nop0, Nop2, Jump, CondBr, IndirectBr, Ret, JTSequence, LabelAddress, LoadSymbolReloc, Trap, TrapIf, Debugtrap, SDivMod32, SDivMod64, UDivMod32, UDivMod64, CmpTrapRR, CmpTrapRSImm16, CmpTrapRUImm16}
+use Rattle.s390x_inst.specs.declared.inst.Inst.TheVariants.{AluRRR, AluRR, AluRRSImm16, AluRSImm16, AluRSImm32, AluRUImm32, AluRUImm16Shifted, AluRUImm32Shifted, SMulWide, UMulWide, Flogr, ShiftRR, RxSBG, RxSBGTest, UnaryRR, CmpRR, CmpRSImm16, CmpRSImm32, CmpRUImm32, Mov64, MovPReg, Mov32, Mov32Imm, Mov32SImm16, Mov64SImm16, Mov64SImm32, Mov64UImm16Shifted, Mov64UImm32Shifted, Insert64UImm16Shifted, Insert64UImm32Shifted, CMov32, CMov64, CMov32SImm16, CMov64SImm16, Extend, LoadAR, InsertAR, LoadIndexedAddr, LoadLogicalIndexedAddr, Fence, Nop0, Nop2, Jump, CondBr, IndirectBr, Ret, JTSequence, LabelAddress, LoadSymbolReloc, Trap, TrapIf, Debugtrap, SDivMod32, SDivMod64, UDivMod32, UDivMod64, CmpTrapRR, CmpTrapRSImm16, CmpTrapRUImm16, AllocateArgs, Args, Rets, DummyUse, SequencePoint}
 use Rattle.s390x_operations.specs.State.{Registers}
 use Rattle.s390x_operations.specs.declared.operator.Operator.TheVariants.{Move}
 use Rattle.s390x_operations.specs.declared.size.Size.TheVariants.{Word, Doubleword}
@@ -16,7 +16,7 @@ use Rattle.s390x_operations.specs.declared.effect.CodeRule.TheVariants.{Kept, Se
 use Rattle.s390x_operations.specs.declared.effect.Operation.{Operation}
 use Rattle.s390x_operations.specs.declared.stop.StopKind.{StopKind}
 use Rattle.s390x_operations.specs.declared.stop.StopKind.TheVariants.{Access, Specification, Divide, CompareTrap}
-use Rattle.s390x_machine.specs.Computations.{computes, compares, alu_computation, alu_three_rule, alu_two_rule, unary_computation, unary_rule, comparison, on_words, on_doublewords, word, signed_word, signed_halfword, on_immediate, compares_on_immediate, computes_immediate, compares_immediate, doubleword, part_mask, on_selected, part_operator, at_part, at_half, half_mask, inserts_half, extension, shifts, rotates_into, rotates_to_test, multiplies_signed, multiplies_logical, divides_signed, divides_logical, compares_and_traps, compares_immediate_and_traps, finds_leftmost, idles, puts_any, copies_access, moves_where, moves_immediate_where}
+use Rattle.s390x_machine.specs.Computations.{computes, compares, alu_computation, alu_three_rule, alu_two_rule, unary_computation, unary_rule, comparison, on_words, on_doublewords, word, signed_word, signed_halfword, on_immediate, compares_on_immediate, computes_immediate, compares_immediate, doubleword, part_mask, on_selected, part_operator, at_part, at_half, half_mask, inserts_half, extension, shifts, rotates_into, rotates_to_test, multiplies_signed, multiplies_logical, divides_signed, divides_logical, compares_and_traps, compares_immediate_and_traps, finds_leftmost, idles, puts_any, copies_access, moves_where, moves_immediate_where, takes_from_stack}
 use Rattle.s390x_machine.specs.Storage.{address_of, needs_scratch, aligned_where, is_relative_access, OperandStep, operand_step}
 use Rattle.s390x_inst.specs.Memory.{flags_of}
 use Rattle.s390x_inst.specs.declared.calls.SymbolReloc.{SymbolReloc}
@@ -147,6 +147,7 @@ performed L (CMov32SImm16 rd mask ri imm) = on_registers (moves_immediate_where 
 performed L (CMov64SImm16 rd mask ri imm) = on_registers (moves_immediate_where Doubleword (four_bits mask) (number_of rd) (low_halfword imm))
 performed L (LoadIndexedAddr rd base index offset size) = on_registers (puts_any (number_of rd))
 performed L (LoadLogicalIndexedAddr rd base index offset size) = on_registers (puts_any (number_of rd))
+performed L (AllocateArgs size) = on_registers (takes_from_stack size)
 performed L Fence = on_registers idles
 performed L Nop2 = on_registers idles
 performed L (LabelAddress dst label) = on_registers (computes_immediate Kept (on_doublewords Move) (number_of dst) (number_of dst) (block_place L label.0))
@@ -180,6 +181,10 @@ branch_form (IndirectBr rn targets) = GoesByAddress (number_of rn) targets.items
 branch_form (Ret link) = Returns (number_of link)
 branch_form (JTSequence ridx other mask targets) = GoesByTable (number_of ridx) mask other.0 targets.items
 branch_form Nop0 = Silent
+branch_form (Args args) = Silent
+branch_form (Rets rets) = Silent
+branch_form (DummyUse reg) = Silent
+branch_form SequencePoint = Silent
 branch_form (Trap code) = TrapsAlways code
 branch_form (TrapIf mask code) = TrapsWhere mask code
 branch_form Debugtrap = DebugStops

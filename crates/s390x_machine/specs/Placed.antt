@@ -4,7 +4,7 @@ use Rattle.std.specs.Int.{w32, cast_signed}
 use Rattle.s390x_buffer.specs.State.{is_alignment}
 use Rattle.s390x_base.specs.declared.ir.MachLabel.{MachLabel}
 use Rattle.s390x_inst.specs.declared.inst.Inst.{Inst}
-use Rattle.s390x_inst.specs.declared.inst.Inst.TheVariants.{Jump, CondBr, IndirectBr, Ret, JTSequence, Nop0, LabelAddress, LoadSymbolReloc, Trap, TrapIf, Debugtrap}
+use Rattle.s390x_inst.specs.declared.inst.Inst.TheVariants.{Jump, CondBr, IndirectBr, Ret, JTSequence, Nop0, LabelAddress, LoadSymbolReloc, Trap, TrapIf, Debugtrap, Args, Rets, DummyUse, SequencePoint}
 use Rattle.s390x_steps.specs.Alone.{Alone, alone}
 use Rattle.s390x_steps.specs.General.{is_general, is_nonzero, is_scratch}
 use Rattle.s390x_steps.specs.Causes.{loses_scratch, place_cause}
@@ -39,6 +39,10 @@ IsFineBranch L (Ret link) = IsTrue (is_general link) × IsTrue (is_nonzero link)
 IsFineBranch L (JTSequence ridx other mask targets) =
     IsTrue (is_general ridx) × IsTrue (is_nonzero ridx) × IsTrue (not (is_scratch ridx)) × IsBlock L other.0 × AreBlocks L targets.items × IsMask mask
 IsFineBranch L Nop0 = Unit {0}
+IsFineBranch L (Args args) = Unit {0}
+IsFineBranch L (Rets rets) = Unit {0}
+IsFineBranch L (DummyUse reg) = Unit {0}
+IsFineBranch L SequencePoint = Unit {0}
 IsFineBranch L (LabelAddress dst label) = IsTrue (is_general dst) × IsBlock L label.0
 IsFineBranch L (LoadSymbolReloc rd reloc) = IsTrue (is_general rd)
 IsFineBranch L (Trap code) = Unit {0}

@@ -2,7 +2,7 @@
 use s390x_base::{Cond, EmitError, TrapCode, gpr, writable_gpr};
 use s390x_buffer::{MachBuffer, TrapEntry};
 use s390x_emit_int::{MachInstEmit, put, put_with_trap};
-use s390x_inst::{ALUOp, EmitInfo, EmitState, Inst, IsaFlags, MachInstEmitState};
+use s390x_inst::{ALUOp, EmitInfo, EmitState, Inst, IsaFlags, MachInstEmitState, MemArg};
 use std::alloc::Global;
 use std::test::Fail;
 
@@ -75,6 +75,58 @@ fn a_trap_is_recorded_at_the_last_byte(rt: HostRuntime) -> Result<(), Fail> {
             offset: 5,
             code: TrapCode::INTEGER_DIVISION_BY_ZERO
         }]
+        .as_slice()
+    );
+    Ok(())
+}
+
+#[test]
+fn arguments_lie_below_the_frame(rt: HostRuntime) -> Result<(), Fail> {
+    let alloc = rt.alloc();
+    let mut sink = MachBuffer::new(alloc, 0, &[])?;
+    let mut state = EmitState::default();
+    state.pre_safepoint(Some(7));
+    let info = EmitInfo::new(IsaFlags::default());
+    Inst::AllocateArgs { size: 32 }.emit(alloc, &mut sink, &info, &mut state)?;
+    assert_eq!(rt; state.nominal(), 32);
+    assert_eq!(rt; state.take_stack_map(), None);
+    Inst::Load64 {
+        rd: writable_gpr(2),
+        mem: MemArg::SpillOffset { off: 8 },
+    }
+    .emit(alloc, &mut sink, &info, &mut state)?;
+    assert_eq!(rt; state.nominal(), 32);
+    let again = Inst::AllocateArgs { size: 0 }.emit(alloc, &mut sink, &info, &mut state);
+    assert_eq!(rt; again.err(), Some(EmitError::BadStackState));
+    assert_eq!(rt; state.nominal(), 32);
+    assert!(rt; sink.is_failed());
+    Ok(())
+}
+
+#[test]
+fn sizes_past_16_bits_are_subtracted(rt: HostRuntime) -> Result<(), Fail> {
+    let alloc = rt.alloc();
+    let mut sink = MachBuffer::new(alloc, 0, &[])?;
+    let info = EmitInfo::new(IsaFlags::default());
+    for size in [32, 32767, 32768, 4294967295] {
+        let mut state = EmitState::default();
+        Inst::AllocateArgs { size }.emit(alloc, &mut sink, &info, &mut state)?;
+        assert_eq!(rt; state.nominal(), size);
+    }
+    let mut state = EmitState::default();
+    state.set_nominal(32);
+    Inst::Load64 {
+        rd: writable_gpr(2),
+        mem: MemArg::SpillOffset { off: 8 },
+    }
+    .emit(alloc, &mut sink, &info, &mut state)?;
+    let code = sink.finish()?;
+    assert_eq!(rt;
+        code.bytes.as_slice(),
+        [
+            0xa7, 0xfb, 0xff, 0xe0, 0xa7, 0xfb, 0x80, 0x01, 0xc2, 0xf4, 0x00, 0x00, 0x80, 0x00,
+            0xc2, 0xf4, 0xff, 0xff, 0xff, 0xff, 0xe3, 0x20, 0xf0, 0x28, 0x00, 0x04
+        ]
         .as_slice()
     );
     Ok(())

@@ -3,17 +3,18 @@ use Rattle.std.proofs.Common.{◌≡◌, ℕ, suc, ◌+◌, ◌<◌, ◌≤◌, 
 use Rattle.std.proofs.lemmas.List.{drop_all}
 use Rattle.s390x_steps.specs.Tree.{Tree, empty, leaf, looped, graft, row_tree, tree}
 use Rattle.s390x_steps.specs.Resolved.{resolved_instruction}
-use Rattle.s390x_steps.specs.Causes.{draws}
+use Rattle.s390x_steps.specs.Stack.{nominal_after, state_after}
+use Rattle.s390x_steps.specs.Causes.{draws, nominal_behind}
 use Rattle.s390x_steps.specs.Sizes.{tree_size}
 use Rattle.s390x_inst.specs.Emission.{Emission}
 use Rattle.s390x_inst.specs.declared.inst.Inst.{Inst, Row_of-Inst, end_of-Inst, more_of-Inst, items-the_row-Inst, items_hidden-the_row-Inst-0, roll-out-Inst}
-use Rattle.s390x_inst.specs.declared.inst.Inst.TheVariants.{Loop'}
+use Rattle.s390x_inst.specs.declared.inst.Inst.TheVariants.{Loop', AllocateArgs}
 use Rattle.s390x_inst.specs.declared.inst.Inst.TheBlock.{hidden-the_row-Inst-0}
 use Rattle.s390x_inst.specs.declared.inst.Inst.TheViews as V
 
 pub row-tree : (e : Emission) {n : _} (k : Row_of-Inst n) → row_tree e k ≡ tree e (items-the_row-Inst n k)
 row-tree e end_of-Inst = refl
-row-tree e (more_of-Inst i rest) = ap (λ t. graft e i t) (row-tree e rest)
+row-tree e (more_of-Inst i rest) = ap (λ t. graft e i t) (row-tree (state_after e i) rest)
 
 pub graft_loop : (e : Emission) (i : Inst) (mask : ℕ) (v : Vec Inst Global) (s : List Inst) (rest : Tree) → i ≡ V.Loop mask v → s ≡ v.items → graft e i rest ≡ looped mask (tree e s) rest
 graft_loop e i mask v s rest is at =
@@ -21,7 +22,7 @@ graft_loop e i mask v s rest is at =
     ∙ ap (λ t. looped mask t rest) (row-tree e (hidden-the_row-Inst-0 v) ∙ ap (tree e) (items_hidden-the_row-Inst-0 v) ∙ ap (tree e) (sym at))
 
 -- a member and those behind it
-pub behind : (e : Emission) (is : List Inst) (k : ℕ) (i : Inst) → k < length is → i ≡ get_or is k i → tree e (drop k is) ≡ graft e i (tree e (drop (k + 1) is))
+pub behind : (e : Emission) (is : List Inst) (k : ℕ) (i : Inst) → k < length is → i ≡ get_or is k i → tree e (drop k is) ≡ graft e i (tree (state_after e i) (drop (k + 1) is))
 behind e is k i lt at =
     let k1 : suc k ≡ k + 1 = omega arith in
     ap (tree e) (drop-cons is k i lt ∙ ap (λ x. x ∷ drop (suc k) is) (sym at) ∙ ap (λ m. i ∷ drop m is) k1)
@@ -29,6 +30,16 @@ behind e is k i lt at =
 -- where the index has passed the last, nothing is left
 pub drained : (e : Emission) (is : List Inst) (k : ℕ) → length is ≤ k → tree e (drop k is) ≡ empty
 drained e is k h = ap (tree e) (drop_all k is h)
+
+-- an instruction does to the nominal size what it does without frame operands
+pub nominal_resolved : (e : Emission) (nominal : ℕ) (i : Inst) → nominal_after nominal (resolved_instruction e i) ≡ nominal_after nominal i
+nominal_resolved e nominal (AllocateArgs size) = refl
+nominal_resolved e nominal i = refl
+
+-- the nominal size behind a member and those behind it
+pub graft_behind : (e : Emission) (nominal : ℕ) (i : Inst) (rest : Tree) → nominal_behind nominal (graft e i rest) ≡ nominal_behind (nominal_after nominal i) rest
+graft_behind e nominal (Loop' mask body all) rest = refl
+graft_behind e nominal i rest = ap (λ n. nominal_behind n rest) (nominal_resolved e nominal i)
 
 pub graft_draws : (e : Emission) (i : Inst) (rest : Tree) → draws (graft e i rest) ≡ draws (graft e i empty) + draws rest
 graft_draws e (Loop' mask body all) rest = omega arith

@@ -1,11 +1,11 @@
 -- Instructions that are one machine instruction on general registers and immediates (cranelift-codegen, `emit.rs`).
-use Rattle.std.specs.Prelude.{ℕ, ◌+◌, pos, Bool, true, cond, ◌&&◌, nat_eq, nat_lt, Option, Some, None}
+use Rattle.std.specs.Prelude.{ℕ, ◌+◌, pos, neg_ℤ, Bool, true, cond, ◌&&◌, nat_eq, nat_lt, Option, Some, None}
 use Rattle.s390x_base.specs.Regs.{number_of}
 use Rattle.s390x_base.specs.declared.regs.Reg.TheVariants.{Real}
 use Rattle.s390x_base.specs.declared.trap.TrapKind.{TrapKind}
 use Rattle.s390x_base.specs.declared.trap.TrapKind.TheVariants.{IntegerDivisionByZero}
 use Rattle.s390x_inst.specs.declared.inst.Inst.{Inst}
-use Rattle.s390x_inst.specs.declared.inst.Inst.TheVariants.{AluRRR, AluRR, AluRRSImm16, AluRSImm16, AluRSImm32, AluRUImm32, AluRUImm16Shifted, AluRUImm32Shifted, SMulWide, UMulWide, Flogr, ShiftRR, RxSBG, RxSBGTest, UnaryRR, CmpRR, CmpRSImm16, CmpRSImm32, CmpRUImm32, Mov64, MovPReg, Mov32, Mov32Imm, Mov32SImm16, Mov64SImm16, Mov64SImm32, Mov64UImm16Shifted, Mov64UImm32Shifted, Insert64UImm16Shifted, Insert64UImm32Shifted, CMov32, CMov64, CMov32SImm16, CMov64SImm16, Extend, LoadAR, InsertAR, LoadIndexedAddr, LoadLogicalIndexedAddr, Fence, Nop2, SDivMod32, SDivMod64, UDivMod32, UDivMod64, CmpTrapRR, CmpTrapRSImm16, CmpTrapRUImm16}
+use Rattle.s390x_inst.specs.declared.inst.Inst.TheVariants.{AluRRR, AluRR, AluRRSImm16, AluRSImm16, AluRSImm32, AluRUImm32, AluRUImm16Shifted, AluRUImm32Shifted, SMulWide, UMulWide, Flogr, ShiftRR, RxSBG, RxSBGTest, UnaryRR, CmpRR, CmpRSImm16, CmpRSImm32, CmpRUImm32, Mov64, MovPReg, Mov32, Mov32Imm, Mov32SImm16, Mov64SImm16, Mov64SImm32, Mov64UImm16Shifted, Mov64UImm32Shifted, Insert64UImm16Shifted, Insert64UImm32Shifted, CMov32, CMov64, CMov32SImm16, CMov64SImm16, Extend, LoadAR, InsertAR, LoadIndexedAddr, LoadLogicalIndexedAddr, AllocateArgs, Fence, Nop2, SDivMod32, SDivMod64, UDivMod32, UDivMod64, CmpTrapRR, CmpTrapRSImm16, CmpTrapRUImm16}
 use Rattle.s390x_inst.specs.declared.ops.UnaryOp.{UnaryOp}
 use Rattle.s390x_inst.specs.declared.ops.UnaryOp.TheVariants.{PopcntByte, PopcntReg}
 use Rattle.s390x_steps.specs.General.{is_general, is_even_pair, reuses, reuses_pair, low_halfword, low_word, four_bits, low_displacement, low_byte, rotation, is_access}
@@ -74,6 +74,10 @@ abbrev pub indexed_row : Option ℕ → (d base index displacement : ℕ) → Op
 indexed_row None d base index displacement = None
 indexed_row (Some opcode) d base index displacement = Some (rxy opcode d base index displacement)
 
+-- so many bytes are taken from the stack pointer: ADD HALFWORD IMMEDIATE of the size with a minus sign where it fits, else SUBTRACT LOGICAL IMMEDIATE
+abbrev pub allocate_row : (size : ℕ) → MachineInstruction
+allocate_row size = cond (nat_lt size 32768) (ri_a 0xa7b 15 (low_halfword (neg_ℤ (pos size)))) (ril_a 0xc24 15 (low_word (pos size)))
+
 -- with these registers; none where there is no row
 abbrev pub alone_with : Bool → Option MachineInstruction → Option Alone
 alone_with fine None = None
@@ -133,6 +137,7 @@ alone (LoadIndexedAddr rd base index offset size) =
     alone_with (is_general rd && is_general base && is_general index) (indexed_row (indexed_opcode size) (number_of rd) (number_of base) (number_of index) (low_displacement offset))
 alone (LoadLogicalIndexedAddr rd base index offset size) =
     alone_with (is_general rd && is_general base && is_general index) (indexed_row (logical_indexed_opcode size) (number_of rd) (number_of base) (number_of index) (low_displacement offset))
+alone (AllocateArgs size) = Some (record { row = allocate_row size; fine = true })
 -- BRANCH ON CONDITION to no address, and under a mask that selects nothing
 alone Fence = Some (record { row = rr 0x07 14 0; fine = true })
 alone Nop2 = Some (record { row = rr 0x07 0 7; fine = true })

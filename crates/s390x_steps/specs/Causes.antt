@@ -1,20 +1,21 @@
 -- Why emission refuses an instruction: the first cause, in the order of the steps.
-use Rattle.std.specs.Prelude.{ℕ, ◌+◌, pos, ◌+ℤ◌, List, [], ◌∷◌, length, map, get_or, Bool, true, false, cond, not, ◌&&◌, ◌||◌, nat_le, nat_lt, Option, Some, None}
+use Rattle.std.specs.Prelude.{ℕ, ◌+◌, pos, ◌+ℤ◌, List, [], ◌∷◌, length, map, get_or, Bool, true, false, cond, not, ◌&&◌, ◌||◌, nat_eq, nat_le, nat_lt, Option, Some, None}
 use Rattle.s390x_base.specs.declared.ir.MachLabel.{MachLabel}
 use Rattle.s390x_base.specs.declared.regs.Reg.{Reg}
 use Rattle.s390x_base.specs.declared.error.EmitError.{EmitError}
-use Rattle.s390x_base.specs.declared.error.EmitError.TheVariants.{MissingFacility, BadOperator, BadRegister, ScratchConflict, OffsetOutOfRange, BreakOutsideLoop, UnboundLabel, BadAlignment, LabelOutOfRange}
+use Rattle.s390x_base.specs.declared.error.EmitError.TheVariants.{MissingFacility, BadOperator, BadRegister, ScratchConflict, OffsetOutOfRange, BreakOutsideLoop, BadStackState, UnboundLabel, BadAlignment, LabelOutOfRange}
 use Rattle.s390x_buffer.specs.State.{State, Constant as DeclaredConstant}
 use Rattle.s390x_inst.specs.declared.args.MemArg.{MemArg}
 use Rattle.s390x_inst.specs.declared.args.MemArg.TheVariants.{Label, Constant, Symbol}
 use Rattle.s390x_inst.specs.declared.inst.Inst.{Inst}
-use Rattle.s390x_inst.specs.declared.inst.Inst.TheVariants.{Jump, CondBr, IndirectBr, Ret, JTSequence, CondBreak, Nop0, LabelAddress, LoadSymbolReloc, Trap, TrapIf, Debugtrap}
+use Rattle.s390x_inst.specs.declared.inst.Inst.TheVariants.{Jump, CondBr, IndirectBr, Ret, JTSequence, CondBreak, Nop0, LabelAddress, LoadSymbolReloc, Trap, TrapIf, Debugtrap, AllocateArgs, Args, Rets, DummyUse, SequencePoint}
 use Rattle.s390x_inst.specs.declared.state.IsaFlags.{IsaFlags}
 use Rattle.s390x_inst.specs.Facilities.{facility_of, has_facility}
 use Rattle.s390x_steps.specs.General.{is_general, is_nonzero, is_scratch}
 use Rattle.s390x_steps.specs.Alone.{Alone, alone}
 use Rattle.s390x_steps.specs.Operands.{finalized, is_relative, has_form, needs_address, fits_32, loses_base, offset_fits, operand_general}
 use Rattle.s390x_steps.specs.Memory.{StorageForm, RxForm, MemoryInstruction, memory, type_of}
+use Rattle.s390x_steps.specs.Stack.{nominal_after}
 use Rattle.s390x_steps.specs.Storage.{relative_bytes}
 use Rattle.s390x_steps.specs.declared.mem_inst_type.MemInstType.{MemInstType}
 use Rattle.s390x_steps.specs.Tree.{Tree, empty, leaf, looped}
@@ -56,6 +57,10 @@ branch_cause blocks depth (LoadSymbolReloc rd reloc) = unless (is_general rd) Ba
 branch_cause blocks depth (Trap code) = None
 branch_cause blocks depth (TrapIf mask code) = None
 branch_cause blocks depth Debugtrap = None
+branch_cause blocks depth (Args args) = None
+branch_cause blocks depth (Rets rets) = None
+branch_cause blocks depth (DummyUse reg) = None
+branch_cause blocks depth SequencePoint = None
 branch_cause blocks depth _ = Some BadOperator
 
 -- the causes of an operand: no row has a form for it, its offset is loaded over its base, its exact offset doesn't fit 32 bits
@@ -144,9 +149,16 @@ cause_or (Some x) others = unless x.fine BadRegister
 abbrev pub facility_cause : IsaFlags → Inst → Option EmitError
 facility_cause flags i = unless (has_facility flags (facility_of i)) MissingFacility
 
--- the causes of an instruction that is no `Loop`, inside so many loops: its facility first
-abbrev pub instruction_cause : IsaFlags → Declared → (depth : ℕ) → Inst → Option EmitError
-instruction_cause flags D depth i = first (facility_cause flags i) (cause_or (alone i) (memory_cause_or D (memory i) (branch_cause D.blocks depth i)))
+-- a cause: arguments are allocated where some already are, or in a loop
+abbrev pub stack_cause : (nominal depth : ℕ) → Inst → Option EmitError
+stack_cause nominal depth (AllocateArgs size) = unless (nat_eq nominal 0 && nat_eq depth 0) BadStackState
+stack_cause nominal depth _ = None
+
+-- the causes of an instruction that is no `Loop`, at a nominal size and inside so many loops: its facility first. What has a cause by the stack sizes
+-- has none of the later ones
+abbrev pub instruction_cause : IsaFlags → Declared → (nominal depth : ℕ) → Inst → Option EmitError
+instruction_cause flags D nominal depth i =
+    first (facility_cause flags i) (first (stack_cause nominal depth i) (cause_or (alone i) (memory_cause_or D (memory i) (branch_cause D.blocks depth i))))
 
 -- label numbers end below 2 ^ 32; n are in use, and so many more are drawn
 abbrev pub numbers_cause : (n more : ℕ) → Option EmitError
@@ -158,8 +170,8 @@ instruction_draws (JTSequence ridx other mask targets) = 1
 instruction_draws _ = 0
 
 -- the causes of an instruction that is no `Loop`, with n labels in use: its own, and the numbers of the labels that it draws
-abbrev pub leaf_cause : IsaFlags → Declared → (n depth : ℕ) → Inst → Option EmitError
-leaf_cause flags D n depth i = first (instruction_cause flags D depth i) (numbers_cause n (instruction_draws i))
+abbrev pub leaf_cause : IsaFlags → Declared → (n nominal depth : ℕ) → Inst → Option EmitError
+leaf_cause flags D n nominal depth i = first (instruction_cause flags D nominal depth i) (numbers_cause n (instruction_draws i))
 
 -- how many labels a tree draws: two for each loop, and one for each table
 abbrev pub draws : Tree → ℕ
@@ -171,14 +183,27 @@ draws (looped mask members rest) = 2 + draws members + draws rest
 abbrev pub nesting_cause : ℕ → Option EmitError
 nesting_cause depth = unless (nat_lt depth 8) BadOperator
 
--- the first cause in a tree, inside so many loops, with n labels in use
-abbrev pub tree_cause : IsaFlags → Declared → (n depth : ℕ) → Tree → Option EmitError
-tree_cause flags D n depth empty = None
-tree_cause flags D n depth (leaf i rest) = first (leaf_cause flags D n depth i) (tree_cause flags D (n + instruction_draws i) depth rest)
-tree_cause flags D n depth (looped mask members rest) =
-    first (first (first (nesting_cause depth) (numbers_cause n 2)) (tree_cause flags D (n + 2) (depth + 1) members)) (tree_cause flags D (n + 2 + draws members) depth rest)
+-- the nominal size behind a tree; in a loop it doesn't change
+abbrev pub nominal_behind : (nominal : ℕ) → Tree → ℕ
+nominal_behind nominal empty = nominal
+nominal_behind nominal (leaf i rest) = nominal_behind (nominal_after nominal i) rest
+nominal_behind nominal (looped mask members rest) = nominal_behind nominal rest
+
+-- the first cause in a tree, at a nominal size and inside so many loops, with n labels in use
+abbrev pub tree_cause : IsaFlags → Declared → (n nominal depth : ℕ) → Tree → Option EmitError
+tree_cause flags D n nominal depth empty = None
+tree_cause flags D n nominal depth (leaf i rest) =
+    first (leaf_cause flags D n nominal depth i) (tree_cause flags D (n + instruction_draws i) (nominal_after nominal i) depth rest)
+tree_cause flags D n nominal depth (looped mask members rest) =
+    first
+    (first (first (nesting_cause depth) (numbers_cause n 2)) (tree_cause flags D (n + 2) nominal (depth + 1) members))
+    (tree_cause flags D (n + 2 + draws members) nominal depth rest)
+
+-- the causes of a block, which begins at the nominal size 0 and has to end there
+abbrev pub block_cause : IsaFlags → Declared → (n : ℕ) → Tree → Option EmitError
+block_cause flags D n t = first (tree_cause flags D n 0 0 t) (unless (nat_eq (nominal_behind 0 t) 0) BadStackState)
 
 -- the first cause in the blocks
 abbrev pub blocks_cause : IsaFlags → Declared → (n : ℕ) → List Tree → Option EmitError
 blocks_cause flags D n [] = None
-blocks_cause flags D n (t ∷ ts) = first (tree_cause flags D n 0 t) (blocks_cause flags D (n + draws t) ts)
+blocks_cause flags D n (t ∷ ts) = first (block_cause flags D n t) (blocks_cause flags D (n + draws t) ts)

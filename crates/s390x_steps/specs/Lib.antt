@@ -11,6 +11,7 @@ pub mod Ranges
 pub mod Resolved
 pub mod Rows
 pub mod Sizes
+pub mod Stack
 pub mod Steps
 pub mod Storage
 pub mod Relocs

@@ -5,6 +5,7 @@ use Rattle.s390x_inst.specs.Emission.{Emission}
 use Rattle.s390x_inst.specs.declared.inst.Inst.{Inst, Row_of-Inst, end_of-Inst, more_of-Inst}
 use Rattle.s390x_inst.specs.declared.inst.Inst.TheVariants.{Loop'}
 use Rattle.s390x_steps.specs.Resolved.{resolved_instruction}
+use Rattle.s390x_steps.specs.Stack.{state_after}
 
 -- instructions in order, each loop with its members
 pub data Tree : Type 0 where
@@ -21,9 +22,9 @@ abbrev mutual
   -- the members of a loop, as a tree
   pub row_tree : Emission → {m : _} → Row_of-Inst m → Tree
   row_tree e end_of-Inst = empty
-  row_tree e (more_of-Inst i rest) = graft e i (row_tree e rest)
+  row_tree e (more_of-Inst i rest) = graft e i (row_tree (state_after e i) rest)
 
--- the members of a block or of a loop; the stack sizes are the same all over a function
+-- the members of a block or of a loop, each in the state behind those before it
 abbrev pub tree : Emission → List Inst → Tree
 tree e [] = empty
-tree e (i ∷ is) = graft e i (tree e is)
+tree e (i ∷ is) = graft e i (tree (state_after e i) is)

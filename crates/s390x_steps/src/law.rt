@@ -5,6 +5,7 @@ ghost use Rattle.s390x_inst.specs.Emission.{Emission};
 ghost use Rattle.s390x_inst.specs.declared.inst.Inst.{Inst};
 ghost use Rattle.s390x_inst.specs.declared.state.IsaFlags.{IsaFlags};
 ghost use Rattle.s390x_steps.specs.Tree.{Tree, empty, graft, tree};
+ghost use Rattle.s390x_steps.specs.Stack.{nominal_after};
 ghost use Rattle.s390x_steps.specs.Causes.{Declared, tree_cause, first, draws};
 ghost use Rattle.s390x_steps.specs.Steps.{Step, function_steps};
 ghost use Rattle.s390x_steps.specs.Image.{place};
@@ -12,7 +13,7 @@ ghost use Rattle.s390x_steps.specs.Traps.{step_traps, function_traps, first_code
 
 /// A member's cause comes before those of the members behind it.
 pub fn members_in_order()
-    ensures { (flags : IsaFlags) (e : Emission) (D : Declared) (n depth : ℕ) (i : Inst) (rest : Tree) → tree_cause flags D n depth (graft e i rest) ≡ first (tree_cause flags D n depth (graft e i empty)) (tree_cause flags D (n + draws (graft e i empty)) depth rest) }
+    ensures { (flags : IsaFlags) (e : Emission) (D : Declared) (n nominal depth : ℕ) (i : Inst) (rest : Tree) → tree_cause flags D n nominal depth (graft e i rest) ≡ first (tree_cause flags D n nominal depth (graft e i empty)) (tree_cause flags D (n + draws (graft e i empty)) (nominal_after nominal i) depth rest) }
 {}
 
 /// Inside the bytes of a step the table of traps has what the step recorded there: its code where it recorded one, and no code elsewhere.

@@ -1,5 +1,5 @@
 -- Trees of instructions as they are given, and the lines of those without frame operands.
-use Rattle.std.proofs.Common.{◌≡◌, List, [], ◌∷◌, map, refl, ap₂}
+use Rattle.std.proofs.Common.{◌≡◌, List, [], ◌∷◌, map, refl, ap, ap₂, ◌∙◌}
 use Rattle.s390x_inst.specs.Emission.{Emission}
 use Rattle.s390x_inst.specs.declared.function.Block.{Block}
 use Rattle.s390x_inst.specs.declared.inst.Inst.{Inst, Row_of-Inst, end_of-Inst, more_of-Inst}
@@ -15,6 +15,8 @@ use Rattle.s390x_lines.specs.Line.{Line}
 use Rattle.s390x_lines.specs.Instructions.{inst_line, vector_line}
 use Rattle.s390x_lines.specs.declared.name.LineName.{LineName}
 use Rattle.s390x_lines.specs.declared.name.LineName.TheVariants as N
+use Rattle.s390x_steps.specs.Stack.{state_after}
+use Rattle.s390x_tool.proofs.SameInstruction.{line_reading, reading_after, nominal_read}
 use Rattle.s390x_tool.proofs.SameTree.{LineTree, none, one, around, lines_tree}
 
 abbrev mutual
@@ -47,9 +49,14 @@ resolved_fields e name fs = map (resolved_field e) fs
 abbrev pub resolved_line : Emission → Line → Line
 resolved_line e l = record { name = l.name; fields = resolved_fields e l.name l.fields }
 
+-- the state behind a line
+abbrev pub line_after : Emission → Line → Emission
+line_after e l = record e { nominal = reading_after e.nominal (line_reading l) }
+
+-- each line in the state behind those before it
 abbrev pub resolved_lines : Emission → LineTree → LineTree
 resolved_lines e none = none
-resolved_lines e (one l rest) = one (resolved_line e l) (resolved_lines e rest)
+resolved_lines e (one l rest) = one (resolved_line e l) (resolved_lines (line_after e l) rest)
 resolved_lines e (around mask members rest) = around mask (resolved_lines e members) (resolved_lines e rest)
 
 vector_resolved : (e : Emission) (v : VecInst) → vector_line v ≡ resolved_line e (vector_line v)
@@ -62,17 +69,17 @@ inst_resolved e (Vector v) = vector_resolved e v
 inst_resolved e i = refl
 
 mutual
-  graft_resolved : (e : Emission) (i : Inst) (t u : Tree) → lines_tree t ≡ resolved_lines e (lines_tree u) → lines_tree (graft e i t) ≡ resolved_lines e (lines_tree (raw_graft i u))
+  graft_resolved : (e : Emission) (i : Inst) (t u : Tree) → lines_tree t ≡ resolved_lines (state_after e i) (lines_tree u) → lines_tree (graft e i t) ≡ resolved_lines e (lines_tree (raw_graft i u))
   graft_resolved e (Loop' mask body all) t u h = ap₂ (around mask) (row_resolved e all) h
-  graft_resolved e i t u h = ap₂ one (inst_resolved e i) h
+  graft_resolved e i t u h = ap₂ one (inst_resolved e i) (h ∙ ap (λ n. resolved_lines (record e { nominal = n }) (lines_tree u)) (nominal_read e.nominal i))
 
   row_resolved : (e : Emission) {m : _} (r : Row_of-Inst m) → lines_tree (row_tree e r) ≡ resolved_lines e (lines_tree (raw_row r))
   row_resolved e end_of-Inst = refl
-  row_resolved e (more_of-Inst i rest) = graft_resolved e i (row_tree e rest) (raw_row rest) (row_resolved e rest)
+  row_resolved e (more_of-Inst i rest) = graft_resolved e i (row_tree (state_after e i) rest) (raw_row rest) (row_resolved (state_after e i) rest)
 
 tree_resolved : (e : Emission) (is : List Inst) → lines_tree (tree e is) ≡ resolved_lines e (lines_tree (raw_tree is))
 tree_resolved e [] = refl
-tree_resolved e (i ∷ is) = graft_resolved e i (tree e is) (raw_tree is) (tree_resolved e is)
+tree_resolved e (i ∷ is) = graft_resolved e i (tree (state_after e i) is) (raw_tree is) (tree_resolved (state_after e i) is)
 
 -- the lines of blocks without frame operands
 pub blocks_resolved : (e : Emission) (bs : List Block) → map lines_tree (map (tree_of e) bs) ≡ map (resolved_lines e) (map lines_tree (map raw_block bs))

@@ -11,7 +11,7 @@ use Rattle.s390x_base.specs.declared.imms.UImm32Shifted.{UImm32Shifted}
 use Rattle.s390x_base.specs.declared.error.EmitError.{EmitError}
 use Rattle.s390x_base.specs.declared.error.EmitError.TheVariants.{BadOperator, BadRegister}
 use Rattle.s390x_inst.specs.declared.inst.Inst.{Inst}
-use Rattle.s390x_inst.specs.declared.inst.Inst.TheVariants.{AluRRR, AluRR, AluRRSImm16, AluRSImm16, AluRSImm32, AluRUImm32, UnaryRR, CmpRR, CmpRSImm16, CmpRSImm32, CmpRUImm32, Mov64, MovPReg, Mov32, Mov32Imm, Mov32SImm16, Mov64SImm16, Mov64SImm32, AluRUImm16Shifted, AluRUImm32Shifted, ShiftRR, RxSBG, RxSBGTest, Mov64UImm16Shifted, Mov64UImm32Shifted, Insert64UImm16Shifted, Insert64UImm32Shifted, CMov32, CMov64, CMov32SImm16, CMov64SImm16, Extend, LoadAR, InsertAR, SMulWide, UMulWide, Flogr, Fence, Nop0, Nop2, LoadIndexedAddr, LoadLogicalIndexedAddr, Jump, CondBr, Ret, CondBreak, Vector, LabelAddress, LoadSymbolReloc, SDivMod32, SDivMod64, UDivMod32, UDivMod64, CmpTrapRR, CmpTrapRSImm16, CmpTrapRUImm16, Trap, TrapIf, Debugtrap, AluRX, CmpRX, Load32, Load32ZExt8, Load32SExt8, Load32ZExt16, Load32SExt16, Load64, Load64ZExt8, Load64SExt8, Load64ZExt16, Load64SExt16, Load64ZExt32, Load64SExt32, LoadRev16, LoadRev32, LoadRev64, Store8, Store16, Store32, Store64, StoreRev16, StoreRev32, StoreRev64, LoadAddr, StoreImm8, StoreImm16, StoreImm32SExt16, StoreImm64SExt16, LoadMultiple64, StoreMultiple64, AtomicRmw, AtomicCas32, AtomicCas64}
+use Rattle.s390x_inst.specs.declared.inst.Inst.TheVariants.{AluRRR, AluRR, AluRRSImm16, AluRSImm16, AluRSImm32, AluRUImm32, UnaryRR, CmpRR, CmpRSImm16, CmpRSImm32, CmpRUImm32, Mov64, MovPReg, Mov32, Mov32Imm, Mov32SImm16, Mov64SImm16, Mov64SImm32, AluRUImm16Shifted, AluRUImm32Shifted, ShiftRR, RxSBG, RxSBGTest, Mov64UImm16Shifted, Mov64UImm32Shifted, Insert64UImm16Shifted, Insert64UImm32Shifted, CMov32, CMov64, CMov32SImm16, CMov64SImm16, Extend, LoadAR, InsertAR, SMulWide, UMulWide, Flogr, Fence, Nop0, Nop2, LoadIndexedAddr, LoadLogicalIndexedAddr, Jump, CondBr, Ret, CondBreak, Vector, LabelAddress, LoadSymbolReloc, SDivMod32, SDivMod64, UDivMod32, UDivMod64, CmpTrapRR, CmpTrapRSImm16, CmpTrapRUImm16, Trap, TrapIf, Debugtrap, AluRX, CmpRX, Load32, Load32ZExt8, Load32SExt8, Load32ZExt16, Load32SExt16, Load64, Load64ZExt8, Load64SExt8, Load64ZExt16, Load64SExt16, Load64ZExt32, Load64SExt32, LoadRev16, LoadRev32, LoadRev64, Store8, Store16, Store32, Store64, StoreRev16, StoreRev32, StoreRev64, LoadAddr, StoreImm8, StoreImm16, StoreImm32SExt16, StoreImm64SExt16, LoadMultiple64, StoreMultiple64, AtomicRmw, AtomicCas32, AtomicCas64, AllocateArgs, DummyUse, SequencePoint}
 use Rattle.s390x_inst.specs.declared.vec_inst.VecInst.{VecInst}
 use Rattle.s390x_inst.specs.declared.vec_inst.VecInst.TheVariants as V
 use Rattle.s390x_steps.specs.MachineInstruction.{rr}
@@ -20,7 +20,7 @@ use Rattle.s390x_steps.specs.General.{is_general, is_nonzero}
 use Rattle.s390x_steps.specs.Parts.{Part, Row, table_parts, step_parts}
 use Rattle.s390x_steps.specs.Steps.{step_of}
 use Rattle.s390x_steps.specs.Ranges.{IsMask, InRange}
-use Rattle.s390x_fields.specs.Fields.{Field, FAlu, FUnary, FCmp, FShift, FRxsbg, FReg, FReal, FInteger, FNatural, FShifted, FPair, FTrap, FBool, FReloc, FLabels, FCond, FMemory, FVecBinary, FVecCompare, FVecElementCompare, FVecShift, FVecUnary}
+use Rattle.s390x_fields.specs.Fields.{Field, FAlu, FUnary, FCmp, FShift, FRxsbg, FReg, FReal, FInteger, FNatural, FShifted, FPair, FTrap, FBool, FReloc, FLabels, FCond, FArgs, FRets, FMemory, FVecBinary, FVecCompare, FVecElementCompare, FVecShift, FVecUnary}
 use Rattle.s390x_lines.specs.Line.{Line}
 use Rattle.s390x_lines.specs.Instructions.{inst_line, vector_line}
 use Rattle.s390x_lines.specs.declared.inst_name.IntegerName.TheVariants as IntegerIs
@@ -28,14 +28,16 @@ use Rattle.s390x_lines.specs.declared.inst_name.ControlName.TheVariants as Contr
 use Rattle.s390x_lines.specs.declared.inst_name.MemoryName.TheVariants as MemoryIs
 use Rattle.s390x_lines.specs.declared.inst_name.VectorName.TheVariants as VectorIs
 use Rattle.s390x_lines.specs.declared.name.LineName.{LineName}
+use Rattle.s390x_steps.specs.Stack.{nominal_after}
 use Rattle.s390x_lines.specs.declared.name.LineName.TheVariants as N
 
 -- What emission reads of an instruction: all of one without lists; of one with lists, their items instead of the vectors
--- that hold them; of one that isn't built yet and needs no facility, nothing.
+-- that hold them, but nothing of one that only names registers; of one that isn't built yet and needs no facility, nothing.
 pub data Reading : Type 0 where
   Whole : Inst → Reading
   Picks : Reg → List MachLabel → Reading
   Jumps : (index : Reg) → (other : MachLabel) → (mask : ℕ) → List MachLabel → Reading
+  Names : Reading
   Other : Reading
 
 abbrev pub named : ℕ → MachLabel
@@ -102,6 +104,11 @@ reading (N.Integer IntegerIs.CmpTrapRUImm16) (FCmp op ∷ FReg rn ∷ FNatural w
 reading (N.Control ControlIs.Fence) [] = Whole Fence
 reading (N.Control ControlIs.Nop0) [] = Whole Nop0
 reading (N.Control ControlIs.Nop2) [] = Whole Nop2
+reading (N.Control ControlIs.AllocateArgs) (FNatural w size ∷ []) = Whole (AllocateArgs size)
+reading (N.Control ControlIs.Args) (FArgs args ∷ []) = Names
+reading (N.Control ControlIs.Rets) (FRets rets ∷ []) = Names
+reading (N.Control ControlIs.DummyUse) (FReg reg ∷ []) = Whole (DummyUse reg)
+reading (N.Control ControlIs.SequencePoint) [] = Whole SequencePoint
 reading (N.Control ControlIs.Jump) (FNatural w dest ∷ []) = Whole (Jump (named dest))
 reading (N.Control ControlIs.CondBr) (FNatural v taken ∷ FNatural w not_taken ∷ FCond mask ∷ []) = Whole (CondBr (named taken) (named not_taken) mask)
 reading (N.Control ControlIs.IndirectBr) (FReg rn ∷ FLabels targets ∷ []) = Picks rn targets
@@ -208,17 +215,24 @@ reading name fields = Other
 abbrev pub line_reading : Line → Reading
 line_reading l = reading l.name l.fields
 
-abbrev pub reading_cause : IsaFlags → Declared → (depth : ℕ) → Reading → Option EmitError
-reading_cause flags D depth (Whole i) = instruction_cause flags D depth i
-reading_cause flags D depth (Picks rn targets) = first (unless (is_general rn && is_nonzero rn) BadRegister) (labels_cause D.blocks targets)
-reading_cause flags D depth (Jumps index other mask targets) = table_cause D.blocks index other targets
-reading_cause flags D depth Other = Some BadOperator
+abbrev pub reading_cause : IsaFlags → Declared → (nominal depth : ℕ) → Reading → Option EmitError
+reading_cause flags D m depth (Whole i) = instruction_cause flags D m depth i
+reading_cause flags D m depth (Picks rn targets) = first (unless (is_general rn && is_nonzero rn) BadRegister) (labels_cause D.blocks targets)
+reading_cause flags D m depth (Jumps index other mask targets) = table_cause D.blocks index other targets
+reading_cause flags D m depth Names = None
+reading_cause flags D m depth Other = Some BadOperator
+
+-- the nominal size behind it
+abbrev pub reading_after : ℕ → Reading → ℕ
+reading_after m (Whole i) = nominal_after m i
+reading_after m _ = m
 
 -- how many labels it draws
 abbrev pub reading_draws : Reading → ℕ
 reading_draws (Whole i) = instruction_draws i
 reading_draws (Picks rn targets) = 0
 reading_draws (Jumps index other mask targets) = 1
+reading_draws Names = 0
 reading_draws Other = 0
 
 -- the parts of the step in a loop that ends at the step `after`
@@ -226,21 +240,27 @@ abbrev pub reading_parts : ℕ → Reading → List Part
 reading_parts after (Whole i) = step_parts (step_of after i)
 reading_parts after (Picks rn targets) = Row (rr 0x07 15 (number_of rn)) ∷ []
 reading_parts after (Jumps index other mask targets) = table_parts (number_of index) mask other.0 targets
+reading_parts after Names = []
 reading_parts after Other = []
 
 abbrev pub reading_range : Reading → Type 0
 reading_range (Whole i) = InRange i
 reading_range (Picks rn targets) = Unit {0} × Unit {0}
 reading_range (Jumps index other mask targets) = IsMask mask × Unit {0}
+reading_range Names = Unit {0} × Unit {0}
 reading_range Other = Unit {0} × Unit {0}
 
 vector_reading : (v : VecInst) → Whole (Vector v) ≡ line_reading (vector_line v)
 vector_reading (V.VecRR op rd rn) = refl
 vector_reading v = refl
 
-pub cause_read : (flags : IsaFlags) (D : Declared) (depth : ℕ) (i : Inst) → instruction_cause flags D depth i ≡ reading_cause flags D depth (line_reading (inst_line i))
-cause_read flags D depth (Vector v) = ap (reading_cause flags D depth) (vector_reading v)
-cause_read flags D depth i = refl
+pub cause_read : (flags : IsaFlags) (D : Declared) (m depth : ℕ) (i : Inst) → instruction_cause flags D m depth i ≡ reading_cause flags D m depth (line_reading (inst_line i))
+cause_read flags D m depth (Vector v) = ap (reading_cause flags D m depth) (vector_reading v)
+cause_read flags D m depth i = refl
+
+pub nominal_read : (m : ℕ) (i : Inst) → nominal_after m i ≡ reading_after m (line_reading (inst_line i))
+nominal_read m (Vector v) = ap (reading_after m) (vector_reading v)
+nominal_read m i = refl
 
 pub draws_read : (i : Inst) → instruction_draws i ≡ reading_draws (line_reading (inst_line i))
 draws_read (Vector v) = ap reading_draws (vector_reading v)

@@ -1,5 +1,5 @@
 -- What emission reads of a function stands in the lines of its blocks.
-use Rattle.std.proofs.Common.{◌≡◌, ℕ, zero, suc, ◌+◌, List, [], ◌∷◌, ◌++◌, map, get_or, Option, None, refl, ap, ◌∙◌}
+use Rattle.std.proofs.Common.{◌≡◌, ℕ, zero, suc, ◌+◌, List, [], ◌∷◌, ◌++◌, map, get_or, Option, None, refl, ap, ◌∙◌, nat_eq}
 use Rattle.std.proofs.Math.Path.{fun_ext}
 use Rattle.std.proofs.lemmas.List.{map-append}
 use Rattle.s390x_inst.specs.declared.state.IsaFlags.{IsaFlags}
@@ -8,7 +8,7 @@ use Rattle.s390x_buffer.specs.State.{Constant}
 use Rattle.s390x_buffer.specs.Constants.{constant_starts}
 use Rattle.s390x_buffer.specs.declared.entries.TrapEntry.{TrapEntry}
 use Rattle.s390x_steps.specs.Tree.{Tree, empty, leaf, looped}
-use Rattle.s390x_steps.specs.Causes.{Declared, aligns_of, first, instruction_draws, draws, nesting_cause, numbers_cause, tree_cause, blocks_cause}
+use Rattle.s390x_steps.specs.Causes.{Declared, aligns_of, first, instruction_draws, draws, nesting_cause, numbers_cause, tree_cause, blocks_cause, unless, block_cause, nominal_behind}
 use Rattle.s390x_steps.specs.Parts.{Part, Branch, ToStep, step_parts, parts_size}
 use Rattle.s390x_steps.specs.Steps.{Step, step_count, steps_of, steps_from, function_steps, first_step}
 use Rattle.s390x_steps.specs.Sizes.{tree_size, blocks_size}
@@ -20,7 +20,9 @@ use Rattle.s390x_steps.specs.Traps.{parts_traps, traps_from, function_traps}
 use Rattle.s390x_steps.specs.Ranges.{IsMask, AllInRange, BlocksInRange}
 use Rattle.s390x_lines.specs.Line.{Line}
 use Rattle.s390x_lines.specs.Instructions.{inst_line}
-use Rattle.s390x_tool.proofs.SameInstruction.{line_reading, reading_cause, reading_draws, draws_read, reading_parts, reading_range, cause_read, parts_read, range_read, range_back}
+use Rattle.s390x_steps.specs.Stack.{nominal_after}
+use Rattle.s390x_base.specs.declared.error.EmitError.TheVariants.{BadStackState}
+use Rattle.s390x_tool.proofs.SameInstruction.{line_reading, reading_cause, reading_draws, draws_read, reading_parts, reading_range, cause_read, parts_read, range_read, range_back, nominal_read, reading_after}
 
 -- a tree with lines in place of instructions
 pub data LineTree : Type 0 where
@@ -45,36 +47,58 @@ same_draws (leaf i rest) = let a = draws_read i in let b = same_draws rest in cc
 same_draws (looped mask members rest) = let a = same_draws members in let b = same_draws rest in cc
 
 -- the first cause
-abbrev pub line_cause : IsaFlags → Declared → (n depth : ℕ) → LineTree → Option EmitError
-line_cause flags D n depth none = None
-line_cause flags D n depth (one l rest) =
-    first (first (reading_cause flags D depth (line_reading l)) (numbers_cause n (reading_draws (line_reading l)))) (line_cause flags D (n + reading_draws (line_reading l)) depth rest)
-line_cause flags D n depth (around mask members rest) =
-    first (first (first (nesting_cause depth) (numbers_cause n 2)) (line_cause flags D (n + 2) (depth + 1) members)) (line_cause flags D (n + 2 + line_draws members) depth rest)
+abbrev pub line_cause : IsaFlags → Declared → (n nominal depth : ℕ) → LineTree → Option EmitError
+line_cause flags D n m depth none = None
+line_cause flags D n m depth (one l rest) =
+    first
+    (first (reading_cause flags D m depth (line_reading l)) (numbers_cause n (reading_draws (line_reading l))))
+    (line_cause flags D (n + reading_draws (line_reading l)) (reading_after m (line_reading l)) depth rest)
+line_cause flags D n m depth (around mask members rest) =
+    first (first (first (nesting_cause depth) (numbers_cause n 2)) (line_cause flags D (n + 2) m (depth + 1) members)) (line_cause flags D (n + 2 + line_draws members) m depth rest)
 
-same_tree_cause : (flags : IsaFlags) (D : Declared) (n depth : ℕ) (t : Tree) → tree_cause flags D n depth t ≡ line_cause flags D n depth (lines_tree t)
-same_tree_cause flags D n depth empty = refl
-same_tree_cause flags D n depth (leaf i rest) =
+same_tree_cause : (flags : IsaFlags) (D : Declared) (n m depth : ℕ) (t : Tree) → tree_cause flags D n m depth t ≡ line_cause flags D n m depth (lines_tree t)
+same_tree_cause flags D n m depth empty = refl
+same_tree_cause flags D n m depth (leaf i rest) =
     let r = line_reading (inst_line i) in
-    ap (λ o. first (first o (numbers_cause n (instruction_draws i))) (tree_cause flags D (n + instruction_draws i) depth rest)) (cause_read flags D depth i)
-    ∙ ap (λ d. first (first (reading_cause flags D depth r) (numbers_cause n d)) (tree_cause flags D (n + d) depth rest)) (draws_read i)
-    ∙ ap (first (first (reading_cause flags D depth r) (numbers_cause n (reading_draws r)))) (same_tree_cause flags D (n + reading_draws r) depth rest)
-same_tree_cause flags D n depth (looped mask members rest) =
+    ap (λ o. first (first o (numbers_cause n (instruction_draws i))) (tree_cause flags D (n + instruction_draws i) (nominal_after m i) depth rest)) (cause_read flags D m depth i)
+    ∙ ap (λ d. first (first (reading_cause flags D m depth r) (numbers_cause n d)) (tree_cause flags D (n + d) (nominal_after m i) depth rest)) (draws_read i)
+    ∙ ap (λ l. first (first (reading_cause flags D m depth r) (numbers_cause n (reading_draws r))) (tree_cause flags D (n + reading_draws r) l depth rest)) (nominal_read m i)
+    ∙ ap (first (first (reading_cause flags D m depth r) (numbers_cause n (reading_draws r)))) (same_tree_cause flags D (n + reading_draws r) (reading_after m r) depth rest)
+same_tree_cause flags D n m depth (looped mask members rest) =
     let own = first (nesting_cause depth) (numbers_cause n 2) in
-    ap (λ o. first (first own o) (tree_cause flags D (n + 2 + draws members) depth rest)) (same_tree_cause flags D (n + 2) (depth + 1) members)
-    ∙ ap (first (first own (line_cause flags D (n + 2) (depth + 1) (lines_tree members)))) (same_tree_cause flags D (n + 2 + draws members) depth rest)
-    ∙ ap (λ d. first (first own (line_cause flags D (n + 2) (depth + 1) (lines_tree members))) (line_cause flags D (n + 2 + d) depth (lines_tree rest))) (same_draws members)
+    ap (λ o. first (first own o) (tree_cause flags D (n + 2 + draws members) m depth rest)) (same_tree_cause flags D (n + 2) m (depth + 1) members)
+    ∙ ap (first (first own (line_cause flags D (n + 2) m (depth + 1) (lines_tree members)))) (same_tree_cause flags D (n + 2 + draws members) m depth rest)
+    ∙ ap (λ d. first (first own (line_cause flags D (n + 2) m (depth + 1) (lines_tree members))) (line_cause flags D (n + 2 + d) m depth (lines_tree rest))) (same_draws members)
+
+-- the nominal size behind them
+abbrev pub line_behind : ℕ → LineTree → ℕ
+line_behind m none = m
+line_behind m (one l rest) = line_behind (reading_after m (line_reading l)) rest
+line_behind m (around mask members rest) = line_behind m rest
+
+same_behind : (m : ℕ) (t : Tree) → nominal_behind m t ≡ line_behind m (lines_tree t)
+same_behind m empty = refl
+same_behind m (leaf i rest) = ap (λ n. nominal_behind n rest) (nominal_read m i) ∙ same_behind (reading_after m (line_reading (inst_line i))) rest
+same_behind m (looped mask members rest) = same_behind m rest
+
+abbrev pub line_block_cause : IsaFlags → Declared → (n : ℕ) → LineTree → Option EmitError
+line_block_cause flags D n t = first (line_cause flags D n 0 0 t) (unless (nat_eq (line_behind 0 t) 0) BadStackState)
+
+same_block_cause : (flags : IsaFlags) (D : Declared) (n : ℕ) (t : Tree) → block_cause flags D n t ≡ line_block_cause flags D n (lines_tree t)
+same_block_cause flags D n t =
+    ap (λ o. first o (unless (nat_eq (nominal_behind 0 t) 0) BadStackState)) (same_tree_cause flags D n 0 0 t)
+    ∙ ap (λ m. first (line_cause flags D n 0 0 (lines_tree t)) (unless (nat_eq m 0) BadStackState)) (same_behind 0 t)
 
 abbrev pub line_blocks_cause : IsaFlags → Declared → (n : ℕ) → List LineTree → Option EmitError
 line_blocks_cause flags D n [] = None
-line_blocks_cause flags D n (t ∷ ts) = first (line_cause flags D n 0 t) (line_blocks_cause flags D (n + line_draws t) ts)
+line_blocks_cause flags D n (t ∷ ts) = first (line_block_cause flags D n t) (line_blocks_cause flags D (n + line_draws t) ts)
 
 pub same_blocks_cause : (flags : IsaFlags) (D : Declared) (n : ℕ) (ts : List Tree) → blocks_cause flags D n ts ≡ line_blocks_cause flags D n (map lines_tree ts)
 same_blocks_cause flags D n [] = refl
 same_blocks_cause flags D n (t ∷ ts) =
-    ap (λ o. first o (blocks_cause flags D (n + draws t) ts)) (same_tree_cause flags D n 0 t)
-    ∙ ap (first (line_cause flags D n 0 (lines_tree t))) (same_blocks_cause flags D (n + draws t) ts)
-    ∙ ap (λ d. first (line_cause flags D n 0 (lines_tree t)) (line_blocks_cause flags D (n + d) (map lines_tree ts))) (same_draws t)
+    ap (λ o. first o (blocks_cause flags D (n + draws t) ts)) (same_block_cause flags D n t)
+    ∙ ap (first (line_block_cause flags D n (lines_tree t))) (same_blocks_cause flags D (n + draws t) ts)
+    ∙ ap (λ d. first (line_block_cause flags D n (lines_tree t)) (line_blocks_cause flags D (n + d) (map lines_tree ts))) (same_draws t)
 
 -- steps
 abbrev pub line_count : LineTree → ℕ

@@ -16,6 +16,8 @@ mod register_rows;
 #[cfg(test)]
 mod relative_rows;
 pub mod reply;
+#[cfg(test)]
+mod stack_rows;
 pub mod standard;
 pub mod status;
 #[cfg(test)]

@@ -1,6 +1,7 @@
 //! Jobs whose instructions have operands in memory, go by tables, or name symbols.
 use crate::Status;
 use crate::relative_rows::{PLACE_JOBS, RELATIVE_ROWS};
+use crate::stack_rows::STACK_JOBS;
 use crate::tests::{GOOD, expect, expect_rows};
 use std::test::Fail;
 
@@ -175,6 +176,16 @@ fn operands_relative_to_the_instruction(rt: HostRuntime) -> Result<(), Fail> {
 #[test]
 fn places(rt: HostRuntime) -> Result<(), Fail> {
     for (words, job, status, told) in PLACE_JOBS {
+        let input = Vec::from_slice(rt.alloc(), job.as_bytes())?;
+        expect(&rt, words, input, GOOD, (status, told))?;
+    }
+    Ok(())
+}
+
+/// Arguments that are allocated, and lines without code.
+#[test]
+fn stack_sizes(rt: HostRuntime) -> Result<(), Fail> {
+    for (words, job, status, told) in STACK_JOBS {
         let input = Vec::from_slice(rt.alloc(), job.as_bytes())?;
         expect(&rt, words, input, GOOD, (status, told))?;
     }

@@ -9,5 +9,5 @@ pub returns-in-None : goal.returns-in-None
 returns-in-None c =
     let D = declared_in c.args.sink.now in
     let j = resolved_instruction c.args.state.now c.args.inst.now in
-    let none : instruction_cause c.args.flags D c.args.depth j ≡ None = sym c.in-None.ensures in
-    no_cause c.args.flags D c.args.depth c.args.t j c.draws.result c.size_of.result c.add.result none (c.draws.ensures.value ∙ sym (draws_resolved c.args.state.now c.args.inst.now)) (c.size_of.ensures.value c.args.flags D c.args.depth none) c.add.ensures
+    let none : instruction_cause c.args.flags D c.args.state.now.nominal c.args.depth j ≡ None = sym c.in-None.ensures in
+    no_cause c.args.flags D c.args.state.now.nominal c.args.depth c.args.t j c.draws.result c.size_of.result c.add.result none (c.draws.ensures.value ∙ sym (draws_resolved c.args.state.now c.args.inst.now)) (c.size_of.ensures.value c.args.flags D c.args.state.now.nominal c.args.depth none) c.add.ensures

@@ -11,14 +11,14 @@ use Rattle.s390x_emit_int.proofs.check.size_of.Goals as goal
 
 -- the size of the row that was found
 pub returns-in-Some-clause-value : goal.returns-in-Some-clause-value
-returns-in-Some-clause-value c = λ flags D depth none.
+returns-in-Some-clause-value c = λ flags D nominal depth none.
     let j = resolved_instruction c.args.state.now c.args.inst.now in
     ap (min limit) (c.size.ensures.value ∙ sym (some_size j (alone_of c.in-Some.found) (c.in-Some.ensures.row ∙ sym (alone_resolved c.args.state.now c.args.inst.now))))
 
 pub returns-in-None-clause-value : goal.returns-in-None-clause-value
-returns-in-None-clause-value c = λ flags D depth none.
+returns-in-None-clause-value c = λ flags D nominal depth none.
     let i = c.args.inst.now in
     let j = resolved_instruction c.args.state.now i in
     let e : None ≡ alone j = c.in-None.ensures.row ∙ sym (alone_resolved c.args.state.now i) in
-    let free = or_none D (memory j) _ (none_cause flags D depth j e none) in
+    let free = or_none D (memory j) _ (none_cause flags D nominal depth j e none) in
     c.other_size.ensures.value D free ∙ ap (min limit) (ap (memory_size_or (memory j)) (sym (size_resolved c.args.state.now i)) ∙ sym (none_size j e))

@@ -44,6 +44,7 @@ returns-in_err-emit_members-clause-lacks c = λ flags put cause.
     let s1 = c.bind_label.new.self in
     let v = c.block-item.result in
     let e1 : s1 ≡ apply s (Bind k) = c.in_ok-bind_label.ensures.answer.1 ∙ ap (λ l. apply s (Bind l)) c.loop-block.invariant.label in
-    let p : TreePassed flags s1 0 0 (tree_of c.args.state.now v) = block_passed c.args.state.now flags c.args.blocks.now k (declared_in c.args.sink.now) v s s1 (omega arith) c.block-item.is e1 (omega (arith, c.loop-block.invariant.count)) c.loop-block.invariant.room (c.loop-block.invariant.passed flags put cause) in
-    let q : TreePassed flags s1 0 0 (tree c.args.state.now c.deref.result.now) = subst (λ l. TreePassed flags s1 0 0 (tree c.args.state.now l)) (sym c.deref.ensures.value) p in
-    lacks_again c.from_residual-in_err-emit_members.result _ c.from_residual-in_err-emit_members.ensures.1 (c.in_err-emit_members.ensures.lacks flags 0 q)
+    let p : TreePassed flags s1 0 0 0 (tree_of c.args.state.now v) = block_passed c.args.state.now flags c.args.blocks.now k (declared_in c.args.sink.now) v s s1 (omega arith) c.block-item.is e1 (omega (arith, c.loop-block.invariant.count)) c.loop-block.invariant.room (c.loop-block.invariant.passed flags put cause) in
+    let q : TreePassed flags s1 0 0 0 (tree c.args.state.now c.deref.result.now) = subst (λ l. TreePassed flags s1 0 0 0 (tree c.args.state.now l)) (sym c.deref.ensures.value) p in
+    let r : TreePassed flags s1 0 c.args.state.now.nominal 0 (tree c.args.state.now c.deref.result.now) = subst (λ m. TreePassed flags s1 0 m 0 (tree c.args.state.now c.deref.result.now)) (sym c.requires.start) q in
+    lacks_again c.from_residual-in_err-emit_members.result _ c.from_residual-in_err-emit_members.ensures.1 (c.in_err-emit_members.ensures.lacks flags 0 r)

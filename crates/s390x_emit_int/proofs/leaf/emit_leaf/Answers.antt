@@ -16,7 +16,7 @@ pub returns-in-Some-clause-lacks : goal.returns-in-Some-clause-lacks
 returns-in-Some-clause-lacks c = λ flags depth p.
     let j = resolved_instruction c.args.state.now c.args.inst.now in
     let row = c.in-Some.ensures.row ∙ sym (alone_resolved c.args.state.now c.args.inst.now) in
-    let f = alone_passed flags c.args.sink.now c.args.after.0 depth j (alone_of c.in-Some.found) row p in
+    let f = alone_passed flags c.args.sink.now c.args.after.0 c.args.state.now.nominal depth j (alone_of c.in-Some.found) row p in
     c.emit_alone.ensures.lacks f.0 (follows c.in-Some.found.fine (can_encode c.in-Some.found.row) c.in-Some.ensures.encodes f.1)
 
 pub returns-in-Some-clause-answer : goal.returns-in-Some-clause-answer

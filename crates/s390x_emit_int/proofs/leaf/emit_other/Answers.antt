@@ -21,7 +21,7 @@ returns-in-Some-clause-lacks c = λ flags depth p.
     let e = c.args.state.now in
     let i = c.args.inst.now in
     let x = memory_of c.in-Some.found in
-    let f = memory_passed flags c.args.sink.now c.args.after.0 depth (resolved_instruction e i) (in_state e x) (c.requires.alone ∙ sym (alone_resolved e i)) (found_memory e i x c.in-Some.ensures.row) p in
+    let f = memory_passed flags c.args.sink.now c.args.after.0 c.args.state.now.nominal depth (resolved_instruction e i) (in_state e x) (c.requires.alone ∙ sym (alone_resolved e i)) (found_memory e i x c.in-Some.ensures.row) p in
     c.emit_memory.ensures.lacks f.0 f.1
 
 pub returns-in-Some-clause-range : goal.returns-in-Some-clause-range
@@ -36,7 +36,7 @@ returns-in-None-clause-answer c =
 
 pub returns-in-None-clause-lacks : goal.returns-in-None-clause-lacks
 returns-in-None-clause-lacks c = λ flags depth p.
-    let f = other_passed flags c.args.state.now c.args.sink.now c.args.after.0 depth c.args.inst.now c.requires.alone c.in-None.ensures.row p in
+    let f = other_passed flags c.args.state.now c.args.sink.now c.args.after.0 c.args.state.now.nominal depth c.args.inst.now c.requires.alone c.in-None.ensures.row p in
     c.emit_branch.ensures.lacks depth f.0 f.1
 
 pub returns-in-None-clause-range : goal.returns-in-None-clause-range

@@ -1,16 +1,18 @@
-use Rattle.std.proofs.Common.{length, arith, ap, sym, ◌∙◌, subst}
+use Rattle.std.proofs.Common.{length, arith, ap, sym, ◌∙◌, subst, drop, ◌+◌, ◌≡◌}
 use Rattle.s390x_buffer.proofs.Keeping.{keeps_on}
 use Rattle.s390x_steps.specs.Resolved.{resolved_instruction}
 use Rattle.s390x_steps.specs.Tree.{empty, looped, tree}
 use Rattle.s390x_steps.proofs.Trees.{graft_loop, not_loop}
 use Rattle.s390x_emit_int.specs.Room.{TreePassed}
 use Rattle.s390x_emit_int.specs.Pieces.{run}
-use Rattle.s390x_emit_int.specs.Emission.{own_pieces}
+use Rattle.s390x_emit_int.specs.Emission.{own_pieces, pieces}
 use Rattle.s390x_steps.specs.Ranges.{AllInRange}
 use Rattle.s390x_emit_int.proofs.Trees.{more, more_ranges, more_room, loop_states}
 use Rattle.s390x_emit_int.proofs.Answering.{on_ok, on_both}
 use Rattle.s390x_emit_int.proofs.Lacking.{blames_none, lacks_again, lacks_call, mark_none, label_none}
-use Rattle.s390x_emit_int.proofs.Passing.{leaf_passed, member_passed, others_passed, loop_passed, members_unmarked, body_turns, back_passed, end_below}
+use Rattle.s390x_emit_int.proofs.Passing.{leaf_passed, member_passed, others_passed, loop_passed, members_unmarked, body_turns, back_passed, end_below, member_stack}
+use Rattle.s390x_steps.specs.Stack.{state_after}
+use Rattle.s390x_inst.specs.Emission.{Emission}
 use Rattle.s390x_emit_int.proofs.tree.+members.Goals as goal
 
 pub emit_inst-returns-in-Loop-clause-answer : goal.emit_inst-returns-in-Loop-clause-answer
@@ -36,22 +38,35 @@ emit_inst-returns-in_default-clause-ranges t c =
 pub emit_inst-returns-in-Loop-clause-lacks : goal.emit_inst-returns-in-Loop-clause-lacks
 emit_inst-returns-in-Loop-clause-lacks t c =
     let g = graft_loop c.args.state.now c.args.inst.now c.in-Loop.cond c.in-Loop.body c.deref.result.now empty c.in-Loop.is c.deref.ensures.value in
-    λ flags depth p. c.emit_loop.ensures.lacks flags depth c.args.after.0 (subst (TreePassed flags c.args.sink.now c.args.after.0 depth) g p)
+    λ flags depth p. c.emit_loop.ensures.lacks flags depth c.args.after.0 (subst (TreePassed flags c.args.sink.now c.args.after.0 c.args.state.now.nominal depth) g p)
 
 pub emit_inst-returns-in_default-clause-lacks : goal.emit_inst-returns-in_default-clause-lacks
 emit_inst-returns-in_default-clause-lacks t c =
     let g = not_loop c.args.state.now c.args.inst.now c.in_default.not-Loop in
-    λ flags depth p. c.emit_leaf.ensures.lacks flags depth (leaf_passed flags c.args.sink.now c.args.after.0 depth (resolved_instruction c.args.state.now c.args.inst.now) _ g p)
+    λ flags depth p. c.emit_leaf.ensures.lacks flags depth (leaf_passed flags c.args.sink.now c.args.after.0 c.args.state.now.nominal depth (resolved_instruction c.args.state.now c.args.inst.now) _ g p)
 
 pub emit_members-loop-inst-preserved : goal.emit_members-loop-inst-preserved
 emit_members-loop-inst-preserved t c =
+    let here = c.loop-inst.here in
+    let on : c.advance.new.state ≡ state_after here c.inst-item.result = c.in_ok-advance.ensures in
+    let s2 = c.emit_inst.new.sink in
+    let after = c.args.after.0 in
     record {
       kept = keeps_on _ _ _ c.loop-inst.invariant.kept (keeps_on _ _ _ c.start_step.ensures.kept c.emit_inst.ensures.kept);
-      room = more_room c.args.state.now c.inst-item.result c.loop-inst.sink c.start_step.new.self c.emit_inst.new.sink c.args.after.0 c.loop-inst.invariant.room c.in_ok-start_step.ensures.answer.1 c.in_ok-emit_inst.ensures.answer;
-      rest = more c.args.state.now c.args.insts.now c.loop-inst.inst-index c.inst-item.result c.loop-inst.sink c.start_step.new.self c.emit_inst.new.sink _ c.args.after.0 (omega arith) c.inst-item.is c.in_ok-start_step.ensures.answer.1 c.in_ok-emit_inst.ensures.answer c.loop-inst.invariant.rest;
-      passed = λ flags depth p. others_passed c.args.state.now flags c.loop-inst.sink c.start_step.new.self c.emit_inst.new.sink c.args.after.0 depth c.args.insts.now c.loop-inst.inst-index c.inst-item.result (omega arith) c.inst-item.is c.in_ok-start_step.ensures.answer.1 c.in_ok-emit_inst.ensures.answer (c.loop-inst.invariant.passed flags depth p);
-      ranges = λ f. c.loop-inst.invariant.ranges (more_ranges c.args.state.now c.args.insts.now c.loop-inst.inst-index c.inst-item.result (omega arith) c.inst-item.is c.in_ok-emit_inst.ensures.ranges f);
+      room = more_room here c.inst-item.result c.loop-inst.sink c.start_step.new.self s2 after c.loop-inst.invariant.room c.in_ok-start_step.ensures.answer.1 c.in_ok-emit_inst.ensures.answer;
+      rest = ap (λ e. run s2 (pieces (length s2.labels) after (tree e (drop (c.loop-inst.inst-index + 1) c.args.insts.now)))) on ∙ more here c.args.insts.now c.loop-inst.inst-index c.inst-item.result c.loop-inst.sink c.start_step.new.self s2 _ after (omega arith) c.inst-item.is c.in_ok-start_step.ensures.answer.1 c.in_ok-emit_inst.ensures.answer c.loop-inst.invariant.rest;
+      passed = λ flags depth p. subst (λ (e : Emission). TreePassed flags s2 after e.nominal depth (tree e (drop (c.loop-inst.inst-index + 1) c.args.insts.now))) (sym on) (others_passed here flags c.loop-inst.sink c.start_step.new.self s2 after depth c.args.insts.now c.loop-inst.inst-index c.inst-item.result (omega arith) c.inst-item.is c.in_ok-start_step.ensures.answer.1 c.in_ok-emit_inst.ensures.answer (c.loop-inst.invariant.passed flags depth p));
+      ranges = λ f. c.loop-inst.invariant.ranges (more_ranges here c.args.insts.now c.loop-inst.inst-index c.inst-item.result (omega arith) c.inst-item.is c.in_ok-emit_inst.ensures.ranges (subst (λ e. AllInRange (tree e (drop (c.loop-inst.inst-index + 1) c.args.insts.now))) on f));
     }
+
+pub emit_members-returns-in_err-advance-clause-kept : goal.emit_members-returns-in_err-advance-clause-kept
+emit_members-returns-in_err-advance-clause-kept t c = keeps_on _ _ _ c.loop-inst.invariant.kept (keeps_on _ _ _ c.start_step.ensures.kept c.emit_inst.ensures.kept)
+
+pub emit_members-returns-in_err-advance-clause-lacks : goal.emit_members-returns-in_err-advance-clause-lacks
+emit_members-returns-in_err-advance-clause-lacks t c = λ flags depth p.
+    let none = member_stack c.loop-inst.here flags c.loop-inst.sink c.args.after.0 depth c.args.insts.now c.loop-inst.inst-index c.inst-item.result (omega arith) c.inst-item.is (c.loop-inst.invariant.passed flags depth p) in
+    let some = c.in_err-advance.ensures.0 depth in
+    absurd (cc)
 
 pub emit_members-returns-in_err-emit_inst-clause-kept : goal.emit_members-returns-in_err-emit_inst-clause-kept
 emit_members-returns-in_err-emit_inst-clause-kept t c = keeps_on _ _ _ c.loop-inst.invariant.kept (keeps_on _ _ _ c.start_step.ensures.kept c.emit_inst.ensures.kept)
@@ -71,18 +86,18 @@ emit_loop-returns-clause-kept t c =
 
 pub emit_members-returns-in_err-emit_inst-clause-lacks : goal.emit_members-returns-in_err-emit_inst-clause-lacks
 emit_members-returns-in_err-emit_inst-clause-lacks t c = λ flags depth p.
-    lacks_again c.from_residual-in_err-emit_inst.result _ c.from_residual-in_err-emit_inst.ensures.1 (c.in_err-emit_inst.ensures.lacks flags depth (member_passed c.args.state.now flags c.loop-inst.sink c.start_step.new.self c.args.after.0 depth c.args.insts.now c.loop-inst.inst-index c.inst-item.result (omega arith) c.inst-item.is c.in_ok-start_step.ensures.answer.1 (c.loop-inst.invariant.passed flags depth p)))
+    lacks_again c.from_residual-in_err-emit_inst.result _ c.from_residual-in_err-emit_inst.ensures.1 (c.in_err-emit_inst.ensures.lacks flags depth (member_passed c.loop-inst.here flags c.loop-inst.sink c.start_step.new.self c.args.after.0 depth c.args.insts.now c.loop-inst.inst-index c.inst-item.result (omega arith) c.inst-item.is c.in_ok-start_step.ensures.answer.1 (c.loop-inst.invariant.passed flags depth p)))
 
 pub emit_loop-returns-in_err-start_step-clause-lacks : goal.emit_loop-returns-in_err-start_step-clause-lacks
 emit_loop-returns-in_err-start_step-clause-lacks t c = λ flags depth after p.
-    let l = loop_passed flags c.args.sink.now after depth c.args.cond (tree c.args.state.now c.args.body.now) p in
+    let l = loop_passed flags c.args.sink.now after c.args.state.now.nominal depth c.args.cond (tree c.args.state.now c.args.body.now) p in
     lacks_again c.from_residual-in_err-start_step.result _ c.from_residual-in_err-start_step.ensures.1 (blames_none _ _ (mark_none c.emit_members.new.sink (members_unmarked c.args.sink.now c.get_label.new.self c.get_label-2.new.self c.bind_label.new.self c.emit_members.new.sink c.in_ok-start.start.0 c.in_ok-end.end.0 (tree c.args.state.now c.args.body.now) c.in_ok-start.ensures.answer.2 c.in_ok-end.ensures.answer.2 c.in_ok-bind_label.ensures.answer.1 c.in_ok-emit_members.ensures.answer ∙ l.unmarked)) c.in_err-start_step.ensures.answer.0)
 
 pub emit_loop-returns-in_err-put_branch-clause-lacks : goal.emit_loop-returns-in_err-put_branch-clause-lacks
 emit_loop-returns-in_err-put_branch-clause-lacks t c = λ flags depth after p.
-    let l = loop_passed flags c.args.sink.now after depth c.args.cond (tree c.args.state.now c.args.body.now) p in
+    let l = loop_passed flags c.args.sink.now after c.args.state.now.nominal depth c.args.cond (tree c.args.state.now c.args.body.now) p in
     let b = body_turns c.args.sink.now c.get_label.new.self c.get_label-2.new.self c.bind_label.new.self c.emit_members.new.sink c.start_step.new.self c.in_ok-start.start.0 c.in_ok-end.end.0 (tree c.args.state.now c.args.body.now) c.in_ok-start.ensures.answer.2 c.in_ok-end.ensures.answer.2 c.in_ok-bind_label.ensures.answer.1 c.in_ok-emit_members.ensures.answer c.in_ok-start_step.ensures.answer.1 in
-    lacks_again c.from_residual-in_err-put_branch.result _ c.from_residual-in_err-put_branch.ensures.1 (c.in_err-put_branch.ensures.lacks (back_passed flags c.args.sink.now c.start_step.new.self c.in_ok-start.start.0 depth (tree c.args.state.now c.args.body.now) l b c.in_ok-start.ensures.answer.1))
+    lacks_again c.from_residual-in_err-put_branch.result _ c.from_residual-in_err-put_branch.ensures.1 (c.in_err-put_branch.ensures.lacks (back_passed flags c.args.sink.now c.start_step.new.self c.in_ok-start.start.0 c.args.state.now.nominal depth (tree c.args.state.now c.args.body.now) l b c.in_ok-start.ensures.answer.1))
 
 pub emit_loop-returns-in_err-put_branch-clause-kept : goal.emit_loop-returns-in_err-put_branch-clause-kept
 emit_loop-returns-in_err-put_branch-clause-kept t c =
@@ -90,7 +105,7 @@ emit_loop-returns-in_err-put_branch-clause-kept t c =
 
 pub emit_loop-returns-clause-lacks : goal.emit_loop-returns-clause-lacks
 emit_loop-returns-clause-lacks t c = λ flags depth after p.
-    let l = loop_passed flags c.args.sink.now after depth c.args.cond (tree c.args.state.now c.args.body.now) p in
+    let l = loop_passed flags c.args.sink.now after c.args.state.now.nominal depth c.args.cond (tree c.args.state.now c.args.body.now) p in
     let b = body_turns c.args.sink.now c.get_label.new.self c.get_label-2.new.self c.bind_label.new.self c.emit_members.new.sink c.start_step.new.self c.in_ok-start.start.0 c.in_ok-end.end.0 (tree c.args.state.now c.args.body.now) c.in_ok-start.ensures.answer.2 c.in_ok-end.ensures.answer.2 c.in_ok-bind_label.ensures.answer.1 c.in_ok-emit_members.ensures.answer c.in_ok-start_step.ensures.answer.1 in
     let end = end_below c.args.sink.now c.get_label.new.self c.start_step.new.self c.put_branch.new.sink c.bits-mask.result c.in_ok-start.start.0 c.in_ok-end.end.0 depth (tree c.args.state.now c.args.body.now) c.in_ok-start.ensures.answer.2 c.in_ok-end.ensures.answer.1 b c.in_ok-put_branch.ensures.answer in
     lacks_call _ _ _ c.bind_label-2.result c.bind_label-2.ensures.answer (label_none c.put_branch.new.sink c.in_ok-end.end.0 (ap (λ x. x.failed) c.in_ok-put_branch.ensures.answer ∙ b.unmarked ∙ l.unmarked) end)

@@ -12,7 +12,7 @@ abbrev pub invariant-emit_members-loop-inst : goal.invariant-emit_members-loop-i
 invariant-emit_members-loop-inst l = record {
   kept : Keeps l.initial.sink l.sink;
   room : HasRoom l.sink;
-  rest : run l.sink (pieces (length l.sink.labels) l.after.0 (tree l.state (drop l.inst-index l.insts))) ≡ run l.initial.sink (pieces (length l.initial.sink.labels) l.after.0 (tree l.state l.insts));
-  passed : (flags : IsaFlags) (depth : ℕ) → TreePassed flags l.initial.sink l.after.0 depth (tree l.state l.insts) → TreePassed flags l.sink l.after.0 depth (tree l.state (drop l.inst-index l.insts));
-  ranges : AllInRange (tree l.state (drop l.inst-index l.insts)) → AllInRange (tree l.state l.insts);
+  rest : run l.sink (pieces (length l.sink.labels) l.after.0 (tree l.here (drop l.inst-index l.insts))) ≡ run l.initial.sink (pieces (length l.initial.sink.labels) l.after.0 (tree l.state l.insts));
+  passed : (flags : IsaFlags) (depth : ℕ) → TreePassed flags l.initial.sink l.after.0 l.state.nominal depth (tree l.state l.insts) → TreePassed flags l.sink l.after.0 l.here.nominal depth (tree l.here (drop l.inst-index l.insts));
+  ranges : AllInRange (tree l.here (drop l.inst-index l.insts)) → AllInRange (tree l.state l.insts);
 }

@@ -5,16 +5,16 @@ use Rattle.s390x_emit_int.proofs.Short.{puts_few, emit_passed}
 use Rattle.s390x_emit_int.proofs.emit.InstMachInstEmit.emit.Goals as goal
 
 pub returns-in-Ok-clause-few : goal.returns-in-Ok-clause-few
-returns-in-Ok-clause-few c = λ short. puts_few c.args.state.now c.args.self.now c.args.sink.now c.emit_inst.new.sink short c.in-Ok.ensures.answer
+returns-in-Ok-clause-few c = λ short. puts_few c.args.state.now c.args.self.now c.args.sink.now c.emit_and_advance.new.sink short c.in-Ok.ensures.answer.0
 
 -- after the checks an error is want of memory
 pub returns-in-Err-clause-answer : goal.returns-in-Err-clause-answer
 returns-in-Err-clause-answer c =
-    let passed = emit_passed c.args.emit_info.now.isa_flags c.args.sink.now (graft c.args.state.now c.args.self.now empty) (c.refusal.ensures.room c.in_default.is) (sym c.refusal.ensures.cause ∙ c.in_default.is) in
-    (inl (c.in-Err.ensures.lacks c.args.emit_info.now.isa_flags 0 passed), subst (λ s. IsTrue s.failed) (sym c.fail-in-Err.ensures) refl, refl)
+    let passed = emit_passed c.args.emit_info.now.isa_flags c.args.state.now.nominal c.args.sink.now (graft c.args.state.now c.args.self.now empty) (c.refusal.ensures.room c.in_default.is) (sym c.refusal.ensures.cause ∙ c.in_default.is) in
+    (inl (c.in-Err.ensures.lacks c.args.emit_info.now.isa_flags passed), subst (λ s. IsTrue s.failed) (sym c.fail-in-Err.ensures) refl, c.in-Err.ensures.answer)
 
 pub returns-in-Err-clause-kept : goal.returns-in-Err-clause-kept
-returns-in-Err-clause-kept c = keeps_on _ _ _ c.emit_inst.ensures.kept (keeps_mark _ _ c.fail-in-Err.ensures)
+returns-in-Err-clause-kept c = keeps_on _ _ _ c.emit_and_advance.ensures.kept (keeps_mark _ _ c.fail-in-Err.ensures)
 
 pub returns-in-Err-clause-refused : goal.returns-in-Err-clause-refused
-returns-in-Err-clause-refused c = (subst (λ s. IsTrue s.failed) (sym c.fail-in-Err.ensures) refl, refl)
+returns-in-Err-clause-refused c = (subst (λ s. IsTrue s.failed) (sym c.fail-in-Err.ensures) refl, c.in-Err.ensures.answer)
