@@ -1,1 +1,4 @@
+pub mod Calls
+pub mod Operands
+pub mod Requests
 pub mod Visits
