@@ -9,7 +9,9 @@ use crate::constraint::OperandError;
 use crate::report::{report_nothing, report_use};
 use crate::visitor::OperandVisitor;
 use s390x_base::{PRegSet, Reg, Writable};
-use s390x_inst::{ArgPair, CallArgPair, CallInfo, CallInstDest, CallRetPair, RetLocation, RetPair, ReturnCallInfo};
+use s390x_inst::{
+    ArgPair, CallArgPair, CallInfo, CallInstDest, CallRetPair, RetLocation, RetPair, ReturnCallInfo,
+};
 
 /// Reports an input in a register that has to be real.
 pub fn report_placed_use<V: OperandVisitor>(

@@ -2,13 +2,12 @@
 ghost use Rattle.s390x_operands.specs.Requests.{Reports};
 ghost use Rattle.s390x_operands.specs.Operands.{control_requests};
 
+use crate::calls::{report_arguments, report_call, report_results, report_return_call};
 use crate::constraint::OperandError;
-use crate::calls::report_arguments;
-use crate::calls::report_call;
-use crate::calls::report_results;
-use crate::calls::report_return_call;
+use crate::report::{
+    report_nothing, report_output, report_output_scratch, report_use_scratch, report_uses,
+};
 use crate::vectors::report_vector;
-use crate::report::{report_nothing, report_output, report_output_scratch, report_use_scratch, report_uses};
 use crate::visitor::OperandVisitor;
 use s390x_inst::Inst;
 

@@ -6,6 +6,7 @@ pub mod calls;
 pub mod constraint;
 pub mod control;
 pub mod list;
+pub mod mach_inst;
 pub mod moves;
 pub mod multiple;
 pub mod operands;
@@ -16,4 +17,5 @@ pub mod visitor;
 
 pub use constraint::{OperandConstraint, OperandError, OperandKind, OperandPos, Reported};
 pub use list::OperandList;
+pub use mach_inst::{CallType, MachInst};
 pub use visitor::{DenyReuseVisitor, OperandVisitor};

@@ -13,11 +13,7 @@ use s390x_base::{PReg, Reg, RegPair, Writable, WritableRegPair, gpr_preg};
 use s390x_inst::MemArg;
 
 /// Reports a register that is read.
-pub fn report_use<V: OperandVisitor>(
-    v: &mut V,
-    denied: bool,
-    reg: &Reg,
-) -> Result<(), OperandError>
+pub fn report_use<V: OperandVisitor>(v: &mut V, denied: bool, reg: &Reg) -> Result<(), OperandError>
     ensures { Reports denied (used reg.now ∷ []) (V.items v.old) (V.items v.new) (V.denies v.old) (V.denies v.new) result }
 {
     v.reg_use(*reg)
@@ -49,10 +45,7 @@ pub fn report_reuse<V: OperandVisitor>(
 }
 
 /// Reports the register that emission may overwrite.
-pub fn report_scratch<V: OperandVisitor>(
-    v: &mut V,
-    denied: bool,
-) -> Result<(), OperandError>
+pub fn report_scratch<V: OperandVisitor>(v: &mut V, denied: bool) -> Result<(), OperandError>
     ensures { Reports denied (scratch ∷ []) (V.items v.old) (V.items v.new) (V.denies v.old) (V.denies v.new) result }
 {
     v.reg_fixed_nonallocatable(gpr_preg(1))

@@ -33,33 +33,32 @@ pub fn report_storage<V: OperandVisitor>(
         | Inst::LoadRev16 { rd, mem }
         | Inst::LoadRev32 { rd, mem }
         | Inst::LoadRev64 { rd, mem }
-        | Inst::LoadAddr { rd, mem } => {
-            report_output_from(v, denied, rd, &[], mem)
-        }
+        | Inst::LoadAddr { rd, mem } => { report_output_from(v, denied, rd, &[], mem) }
         Inst::Store8 { rd, mem }
         | Inst::Store16 { rd, mem }
         | Inst::Store32 { rd, mem }
         | Inst::Store64 { rd, mem }
         | Inst::StoreRev16 { rd, mem }
         | Inst::StoreRev32 { rd, mem }
-        | Inst::StoreRev64 { rd, mem } => {
-            report_inputs(v, denied, &[*rd], mem)
-        }
+        | Inst::StoreRev64 { rd, mem } => { report_inputs(v, denied, &[*rd], mem) }
         Inst::StoreImm8 { mem, .. }
         | Inst::StoreImm16 { mem, .. }
         | Inst::StoreImm32SExt16 { mem, .. }
-        | Inst::StoreImm64SExt16 { mem, .. } => {
-            report_inputs(v, denied, &[], mem)
+        | Inst::StoreImm64SExt16 { mem, .. } => { report_inputs(v, denied, &[], mem) }
+        Inst::LoadIndexedAddr {
+            rd,
+            base,
+            index,
+            ..
         }
-        Inst::LoadIndexedAddr { rd, base, index, .. }
-        | Inst::LoadLogicalIndexedAddr { rd, base, index, .. } => {
-            report_output(v, denied, rd, &[*base, *index])
-        }
-        Inst::AtomicRmw { rd, rn, mem, .. } => {
-            report_output_from(v, denied, rd, &[*rn], mem)
-        }
-        Inst::AtomicCas32 { rd, ri, rn, mem }
-        | Inst::AtomicCas64 { rd, ri, rn, mem } => {
+        | Inst::LoadLogicalIndexedAddr {
+            rd,
+            base,
+            index,
+            ..
+        } => { report_output(v, denied, rd, &[*base, *index]) }
+        Inst::AtomicRmw { rd, rn, mem, .. } => { report_output_from(v, denied, rd, &[*rn], mem) }
+        Inst::AtomicCas32 { rd, ri, rn, mem } | Inst::AtomicCas64 { rd, ri, rn, mem } => {
             report_reused_from(v, denied, rd, &[*ri, *rn], mem)
         }
         Inst::LoadMultiple64 { rt, rt2, mem } => {

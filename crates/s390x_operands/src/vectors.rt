@@ -3,7 +3,10 @@ ghost use Rattle.s390x_operands.specs.Requests.{Reports};
 ghost use Rattle.s390x_operands.specs.Operands.{register_vector_requests, vector_requests};
 
 use crate::constraint::OperandError;
-use crate::report::{report_inputs, report_nothing, report_output, report_output_from, report_reused, report_reused_from, report_uses};
+use crate::report::{
+    report_inputs, report_nothing, report_output, report_output_from, report_reused,
+    report_reused_from, report_uses,
+};
 use crate::visitor::OperandVisitor;
 use s390x_inst::VecInst;
 
@@ -39,11 +42,8 @@ pub fn report_vector<V: OperandVisitor>(
         | VecInst::VecStoreElt32Rev { rd, mem }
         | VecInst::VecStoreElt64Rev { rd, mem }
         | VecInst::VecStoreLane { rd, mem, .. }
-        | VecInst::VecStoreLaneRev { rd, mem, .. } => {
-            report_inputs(v, denied, &[*rd], mem)
-        }
-        VecInst::VecLoadLane { rd, ri, mem, .. }
-        | VecInst::VecLoadLaneRev { rd, ri, mem, .. } => {
+        | VecInst::VecStoreLaneRev { rd, mem, .. } => { report_inputs(v, denied, &[*rd], mem) }
+        VecInst::VecLoadLane { rd, ri, mem, .. } | VecInst::VecLoadLaneRev { rd, ri, mem, .. } => {
             report_reused_from(v, denied, rd, &[*ri], mem)
         }
         _ => report_register_vector(v, denied, inst),
@@ -63,54 +63,56 @@ pub fn report_register_vector<V: OperandVisitor>(
         | VecInst::VecPermuteDWImm { rd, rn, rm, .. }
         | VecInst::VecIntCmp { rd, rn, rm, .. }
         | VecInst::VecIntCmpS { rd, rn, rm, .. }
-        | VecInst::MovToVec128 { rd, rn, rm } => {
-            report_output(v, denied, rd, &[*rn, *rm])
-        }
+        | VecInst::MovToVec128 { rd, rn, rm } => { report_output(v, denied, rd, &[*rn, *rm]) }
         VecInst::VecRR { rd, rn, .. }
         | VecInst::VecMov { rd, rn }
         | VecInst::FpuMove32 { rd, rn }
         | VecInst::FpuMove64 { rd, rn }
         | VecInst::VecReplicateLane { rd, rn, .. }
-        | VecInst::VecEltRev { rd, rn, .. } => {
-            report_output(v, denied, rd, &[*rn])
-        }
-        VecInst::VecShiftRR { rd, rn, shift_reg, .. } => {
-            report_output(v, denied, rd, &[*rn, *shift_reg])
-        }
+        | VecInst::VecEltRev { rd, rn, .. } => { report_output(v, denied, rd, &[*rn]) }
+        VecInst::VecShiftRR {
+            rd,
+            rn,
+            shift_reg,
+            ..
+        } => { report_output(v, denied, rd, &[*rn, *shift_reg]) }
         VecInst::VecSelect { rd, rn, rm, ra }
         | VecInst::VecPermute { rd, rn, rm, ra }
         | VecInst::VecBlend { rd, rn, rm, ra }
         | VecInst::VecEvaluate { rd, rn, rm, ra, .. } => {
             report_output(v, denied, rd, &[*rn, *rm, *ra])
         }
-        VecInst::VecIntEltCmp { rn, rm, .. } => {
-            report_uses(v, denied, &[*rn, *rm])
-        }
-        VecInst::VecInt128SCmpHi { tmp, rn, rm }
-        | VecInst::VecInt128UCmpHi { tmp, rn, rm } => {
+        VecInst::VecIntEltCmp { rn, rm, .. } => { report_uses(v, denied, &[*rn, *rm]) }
+        VecInst::VecInt128SCmpHi { tmp, rn, rm } | VecInst::VecInt128UCmpHi { tmp, rn, rm } => {
             report_output(v, denied, tmp, &[*rn, *rm])
         }
         VecInst::FpuCMov32 { rd, ri, rm, .. }
         | VecInst::FpuCMov64 { rd, ri, rm, .. }
-        | VecInst::VecCMov { rd, ri, rm, .. } => {
-            report_reused(v, denied, rd, &[*ri, *rm])
-        }
+        | VecInst::VecCMov { rd, ri, rm, .. } => { report_reused(v, denied, rd, &[*ri, *rm]) }
         VecInst::VecImmByteMask { rd, .. }
         | VecInst::VecImmBitMask { rd, .. }
         | VecInst::VecImmReplicate { rd, .. }
-        | VecInst::VecInsertLaneImmUndef { rd, .. } => {
-            report_output(v, denied, rd, &[])
+        | VecInst::VecInsertLaneImmUndef { rd, .. } => { report_output(v, denied, rd, &[]) }
+        VecInst::VecInsertLane {
+            rd,
+            ri,
+            rn,
+            lane_reg,
+            ..
+        } => { report_reused(v, denied, rd, &[*ri, *rn, *lane_reg]) }
+        VecInst::VecInsertLaneUndef {
+            rd,
+            rn,
+            lane_reg,
+            ..
         }
-        VecInst::VecInsertLane { rd, ri, rn, lane_reg, .. } => {
-            report_reused(v, denied, rd, &[*ri, *rn, *lane_reg])
-        }
-        VecInst::VecInsertLaneUndef { rd, rn, lane_reg, .. }
-        | VecInst::VecExtractLane { rd, rn, lane_reg, .. } => {
-            report_output(v, denied, rd, &[*rn, *lane_reg])
-        }
-        VecInst::VecInsertLaneImm { rd, ri, .. } => {
-            report_reused(v, denied, rd, &[*ri])
-        }
+        | VecInst::VecExtractLane {
+            rd,
+            rn,
+            lane_reg,
+            ..
+        } => { report_output(v, denied, rd, &[*rn, *lane_reg]) }
+        VecInst::VecInsertLaneImm { rd, ri, .. } => { report_reused(v, denied, rd, &[*ri]) }
         VecInst::VecLoad { .. }
         | VecInst::VecLoadRev { .. }
         | VecInst::VecLoadByte16Rev { .. }
