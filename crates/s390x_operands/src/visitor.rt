@@ -132,6 +132,7 @@ pub trait OperandVisitor {
 }
 
 /// A visitor that passes items on in order, and denies a `Reuse` where `deny_reuse` is true or the inner visitor denies.
+#[derive(Drop)]
 pub struct DenyReuseVisitor<'a, T> {
     pub inner: &'a mut T,
     pub deny_reuse: bool,
