@@ -12,7 +12,7 @@ pub struct PRegSet {
 }
 
 impl PRegSet {
-    ghost use Rattle.s390x_base.specs.Sets.{has};
+    ghost use Rattle.s390x_base.specs.Sets.{has, with_register};
 
     /// The set without a register.
     pub fn empty() -> PRegSet
@@ -26,6 +26,7 @@ impl PRegSet {
 
     /// Adds the register.
     pub fn add(&mut self, reg: PReg)
+        ensures value { self.new ≡ with_register self.old reg }
         ensures added { has self.new reg ≡ true }
         ensures others { (r : RealRegister) → r ≢ reg → has self.new r ≡ has self.old r }
     {

@@ -1,0 +1,4 @@
+pub mod Reporting
+pub mod Looping
+pub mod Members
+pub mod Public

@@ -1,0 +1,5 @@
+pub mod Calls
+pub mod Operands
+pub mod Queries
+pub mod Requests
+pub mod Visits

@@ -1,0 +1,210 @@
+-- The operands of each instruction: outputs first, inputs in the order of the fields, memory last (cranelift-codegen, `mod.rs`, `get_operands`).
+use Rattle.std.specs.Prelude.{ℕ, Bool, true, false, ◌||◌, List, [], ◌∷◌, ◌++◌, map, Option, Some, None}
+use Rattle.s390x_base.specs.declared.regs.Reg.{Reg}
+use Rattle.s390x_inst.specs.declared.inst.Inst.{Inst, Row_of-Inst, end_of-Inst, more_of-Inst}
+use Rattle.s390x_inst.specs.declared.inst.Inst.TheVariants.{Loop', IndirectBr, JTSequence, Call, ReturnCall, LoadSymbolReloc, LabelAddress, Args, Rets, DummyUse, Vector, AluRRR, AluRRSImm16, AluRR, AluRX, AluRSImm16, AluRSImm32, AluRUImm32, AluRUImm16Shifted, AluRUImm32Shifted, SMulWide, UMulWide, SDivMod32, SDivMod64, UDivMod32, UDivMod64, Flogr, ShiftRR, RxSBG, RxSBGTest, UnaryRR, CmpRR, CmpRX, CmpRSImm16, CmpRSImm32, CmpRUImm32, CmpTrapRR, CmpTrapRSImm16, CmpTrapRUImm16, Mov64, MovPReg, Mov32, Mov32Imm, Mov32SImm16, Mov64SImm16, Mov64SImm32, Mov64UImm16Shifted, Mov64UImm32Shifted, Insert64UImm16Shifted, Insert64UImm32Shifted, CMov32, CMov64, CMov32SImm16, CMov64SImm16, Extend, LoadAR, InsertAR, Load32, Load32ZExt8, Load32SExt8, Load32ZExt16, Load32SExt16, Load64, Load64ZExt8, Load64SExt8, Load64ZExt16, Load64SExt16, Load64ZExt32, Load64SExt32, LoadRev16, LoadRev32, LoadRev64, Store8, Store16, Store32, Store64, StoreRev16, StoreRev32, StoreRev64, StoreImm8, StoreImm16, StoreImm32SExt16, StoreImm64SExt16, LoadMultiple64, StoreMultiple64, LoadAddr, LoadIndexedAddr, LoadLogicalIndexedAddr, AtomicRmw, AtomicCas32, AtomicCas64}
+use Rattle.s390x_inst.specs.declared.vec_inst.VecInst.{VecInst}
+use Rattle.s390x_inst.specs.declared.vec_inst.VecInst.TheVariants.{VecRRR, VecRR, VecShiftRR, VecSelect, VecPermute, VecBlend, VecEvaluate, VecPermuteDWImm, VecIntCmp, VecIntCmpS, VecIntEltCmp, VecInt128SCmpHi, VecInt128UCmpHi, VecLoad, VecLoadRev, VecLoadByte16Rev, VecLoadByte32Rev, VecLoadByte64Rev, VecLoadElt16Rev, VecLoadElt32Rev, VecLoadElt64Rev, VecStore, VecStoreRev, VecStoreByte16Rev, VecStoreByte32Rev, VecStoreByte64Rev, VecStoreElt16Rev, VecStoreElt32Rev, VecStoreElt64Rev, VecLoadReplicate, VecLoadReplicateRev, VecLoadLane, VecLoadLaneRev, VecLoadLaneUndef, VecLoadLaneRevUndef, VecStoreLane, VecStoreLaneRev, VecMov, FpuMove32, FpuMove64, FpuCMov32, FpuCMov64, VecCMov, MovToVec128, VecImmByteMask, VecImmBitMask, VecImmReplicate, VecInsertLane, VecInsertLaneUndef, VecExtractLane, VecInsertLaneImm, VecInsertLaneImmUndef, VecReplicateLane, VecEltRev}
+use Rattle.s390x_operands.specs.declared.constraint.OperandError.{OperandError}
+use Rattle.s390x_operands.specs.declared.constraint.Reported.{Reported}
+use Rattle.s390x_operands.specs.declared.constraint.Reported.TheVariants.{Fixed}
+use Rattle.s390x_operands.specs.Requests.{items_of, cause_of, used, defined, reused, fixed_use, fixed_def, scratch, memory_requests, range_requests}
+use Rattle.s390x_operands.specs.Calls.{call_requests, return_call_requests, incoming, outgoing}
+
+-- what is reported of vector instructions on registers and immediates
+abbrev pub register_vector_requests : VecInst → List (Option Reported)
+register_vector_requests (VecRRR op rd rn rm) = defined rd ∷ used rn ∷ used rm ∷ []
+register_vector_requests (VecRR op rd rn) = defined rd ∷ used rn ∷ []
+register_vector_requests (VecShiftRR shift_op rd rn shift_imm shift_reg) = defined rd ∷ used rn ∷ used shift_reg ∷ []
+register_vector_requests (VecSelect rd rn rm ra) = defined rd ∷ used rn ∷ used rm ∷ used ra ∷ []
+register_vector_requests (VecPermute rd rn rm ra) = defined rd ∷ used rn ∷ used rm ∷ used ra ∷ []
+register_vector_requests (VecBlend rd rn rm ra) = defined rd ∷ used rn ∷ used rm ∷ used ra ∷ []
+register_vector_requests (VecEvaluate imm rd rn rm ra) = defined rd ∷ used rn ∷ used rm ∷ used ra ∷ []
+register_vector_requests (VecPermuteDWImm rd rn rm idx1 idx2) = defined rd ∷ used rn ∷ used rm ∷ []
+register_vector_requests (VecIntCmp op rd rn rm) = defined rd ∷ used rn ∷ used rm ∷ []
+register_vector_requests (VecIntCmpS op rd rn rm) = defined rd ∷ used rn ∷ used rm ∷ []
+register_vector_requests (VecIntEltCmp op rn rm) = used rn ∷ used rm ∷ []
+register_vector_requests (VecInt128SCmpHi tmp rn rm) = defined tmp ∷ used rn ∷ used rm ∷ []
+register_vector_requests (VecInt128UCmpHi tmp rn rm) = defined tmp ∷ used rn ∷ used rm ∷ []
+register_vector_requests (VecMov rd rn) = defined rd ∷ used rn ∷ []
+register_vector_requests (FpuMove32 rd rn) = defined rd ∷ used rn ∷ []
+register_vector_requests (FpuMove64 rd rn) = defined rd ∷ used rn ∷ []
+register_vector_requests (FpuCMov32 rd cond ri rm) = reused rd ∷ used ri ∷ used rm ∷ []
+register_vector_requests (FpuCMov64 rd cond ri rm) = reused rd ∷ used ri ∷ used rm ∷ []
+register_vector_requests (VecCMov rd cond ri rm) = reused rd ∷ used ri ∷ used rm ∷ []
+register_vector_requests (MovToVec128 rd rn rm) = defined rd ∷ used rn ∷ used rm ∷ []
+register_vector_requests (VecImmByteMask rd mask) = defined rd ∷ []
+register_vector_requests (VecImmBitMask size rd start_bit end_bit) = defined rd ∷ []
+register_vector_requests (VecImmReplicate size rd imm) = defined rd ∷ []
+register_vector_requests (VecInsertLane size rd ri rn lane_imm lane_reg) = reused rd ∷ used ri ∷ used rn ∷ used lane_reg ∷ []
+register_vector_requests (VecInsertLaneUndef size rd rn lane_imm lane_reg) = defined rd ∷ used rn ∷ used lane_reg ∷ []
+register_vector_requests (VecExtractLane size rd rn lane_imm lane_reg) = defined rd ∷ used rn ∷ used lane_reg ∷ []
+register_vector_requests (VecInsertLaneImm size rd ri imm lane_imm) = reused rd ∷ used ri ∷ []
+register_vector_requests (VecInsertLaneImmUndef size rd imm lane_imm) = defined rd ∷ []
+register_vector_requests (VecReplicateLane size rd rn lane_imm) = defined rd ∷ used rn ∷ []
+register_vector_requests (VecEltRev lane_count rd rn) = defined rd ∷ used rn ∷ []
+register_vector_requests _ = []
+
+-- what is reported of vector instructions
+abbrev pub vector_requests : VecInst → List (Option Reported)
+vector_requests (VecLoad rd mem) = defined rd ∷ memory_requests mem
+vector_requests (VecLoadRev rd mem) = defined rd ∷ memory_requests mem
+vector_requests (VecLoadByte16Rev rd mem) = defined rd ∷ memory_requests mem
+vector_requests (VecLoadByte32Rev rd mem) = defined rd ∷ memory_requests mem
+vector_requests (VecLoadByte64Rev rd mem) = defined rd ∷ memory_requests mem
+vector_requests (VecLoadElt16Rev rd mem) = defined rd ∷ memory_requests mem
+vector_requests (VecLoadElt32Rev rd mem) = defined rd ∷ memory_requests mem
+vector_requests (VecLoadElt64Rev rd mem) = defined rd ∷ memory_requests mem
+vector_requests (VecStore rd mem) = used rd ∷ memory_requests mem
+vector_requests (VecStoreRev rd mem) = used rd ∷ memory_requests mem
+vector_requests (VecStoreByte16Rev rd mem) = used rd ∷ memory_requests mem
+vector_requests (VecStoreByte32Rev rd mem) = used rd ∷ memory_requests mem
+vector_requests (VecStoreByte64Rev rd mem) = used rd ∷ memory_requests mem
+vector_requests (VecStoreElt16Rev rd mem) = used rd ∷ memory_requests mem
+vector_requests (VecStoreElt32Rev rd mem) = used rd ∷ memory_requests mem
+vector_requests (VecStoreElt64Rev rd mem) = used rd ∷ memory_requests mem
+vector_requests (VecLoadReplicate size rd mem) = defined rd ∷ memory_requests mem
+vector_requests (VecLoadReplicateRev size rd mem) = defined rd ∷ memory_requests mem
+vector_requests (VecLoadLane size rd ri mem lane_imm) = reused rd ∷ used ri ∷ memory_requests mem
+vector_requests (VecLoadLaneRev size rd ri mem lane_imm) = reused rd ∷ used ri ∷ memory_requests mem
+vector_requests (VecLoadLaneUndef size rd mem lane_imm) = defined rd ∷ memory_requests mem
+vector_requests (VecLoadLaneRevUndef size rd mem lane_imm) = defined rd ∷ memory_requests mem
+vector_requests (VecStoreLane size rd mem lane_imm) = used rd ∷ memory_requests mem
+vector_requests (VecStoreLaneRev size rd mem lane_imm) = used rd ∷ memory_requests mem
+vector_requests v = register_vector_requests v
+
+-- what is reported of branches, calls and the rest
+abbrev pub control_requests : Inst → List (Option Reported)
+control_requests (IndirectBr rn targets) = used rn ∷ []
+control_requests (JTSequence ridx default default_cond targets) = used ridx ∷ scratch ∷ []
+control_requests (Call link info) = call_requests link info
+control_requests (ReturnCall info) = return_call_requests info
+control_requests (LoadSymbolReloc rd symbol_reloc) = defined rd ∷ scratch ∷ []
+control_requests (LabelAddress dst label) = defined dst ∷ []
+control_requests (Args args) = map incoming args.items
+control_requests (Rets rets) = map outgoing rets.items
+control_requests (DummyUse reg) = used reg ∷ []
+control_requests (Vector v) = vector_requests v
+control_requests _ = []
+
+-- what is reported of loads, stores and addresses
+abbrev pub storage_requests : Inst → List (Option Reported)
+storage_requests (Load32 rd mem) = defined rd ∷ memory_requests mem
+storage_requests (Load32ZExt8 rd mem) = defined rd ∷ memory_requests mem
+storage_requests (Load32SExt8 rd mem) = defined rd ∷ memory_requests mem
+storage_requests (Load32ZExt16 rd mem) = defined rd ∷ memory_requests mem
+storage_requests (Load32SExt16 rd mem) = defined rd ∷ memory_requests mem
+storage_requests (Load64 rd mem) = defined rd ∷ memory_requests mem
+storage_requests (Load64ZExt8 rd mem) = defined rd ∷ memory_requests mem
+storage_requests (Load64SExt8 rd mem) = defined rd ∷ memory_requests mem
+storage_requests (Load64ZExt16 rd mem) = defined rd ∷ memory_requests mem
+storage_requests (Load64SExt16 rd mem) = defined rd ∷ memory_requests mem
+storage_requests (Load64ZExt32 rd mem) = defined rd ∷ memory_requests mem
+storage_requests (Load64SExt32 rd mem) = defined rd ∷ memory_requests mem
+storage_requests (LoadRev16 rd mem) = defined rd ∷ memory_requests mem
+storage_requests (LoadRev32 rd mem) = defined rd ∷ memory_requests mem
+storage_requests (LoadRev64 rd mem) = defined rd ∷ memory_requests mem
+storage_requests (Store8 rd mem) = used rd ∷ memory_requests mem
+storage_requests (Store16 rd mem) = used rd ∷ memory_requests mem
+storage_requests (Store32 rd mem) = used rd ∷ memory_requests mem
+storage_requests (Store64 rd mem) = used rd ∷ memory_requests mem
+storage_requests (StoreRev16 rd mem) = used rd ∷ memory_requests mem
+storage_requests (StoreRev32 rd mem) = used rd ∷ memory_requests mem
+storage_requests (StoreRev64 rd mem) = used rd ∷ memory_requests mem
+storage_requests (StoreImm8 imm mem) = memory_requests mem
+storage_requests (StoreImm16 imm mem) = memory_requests mem
+storage_requests (StoreImm32SExt16 imm mem) = memory_requests mem
+storage_requests (StoreImm64SExt16 imm mem) = memory_requests mem
+storage_requests (LoadMultiple64 rt rt2 mem) = memory_requests mem ++ range_requests rt rt2
+storage_requests (StoreMultiple64 rt rt2 mem) = memory_requests mem ++ range_requests rt rt2
+storage_requests (LoadAddr rd mem) = defined rd ∷ memory_requests mem
+storage_requests (LoadIndexedAddr rd base index offset size) = defined rd ∷ used base ∷ used index ∷ []
+storage_requests (LoadLogicalIndexedAddr rd base index offset size) = defined rd ∷ used base ∷ used index ∷ []
+storage_requests (AtomicRmw alu_op rd rn mem) = defined rd ∷ used rn ∷ memory_requests mem
+storage_requests (AtomicCas32 rd ri rn mem) = reused rd ∷ used ri ∷ used rn ∷ memory_requests mem
+storage_requests (AtomicCas64 rd ri rn mem) = reused rd ∷ used ri ∷ used rn ∷ memory_requests mem
+storage_requests i = control_requests i
+
+-- what is reported of moves between registers, and of immediates
+abbrev pub move_requests : Inst → List (Option Reported)
+move_requests (Mov64 rd rm) = defined rd ∷ used rm ∷ []
+move_requests (MovPReg rd rm) = defined rd ∷ Some (Fixed rm) ∷ []
+move_requests (Mov32 rd rm) = defined rd ∷ used rm ∷ []
+move_requests (Mov32Imm rd imm) = defined rd ∷ []
+move_requests (Mov32SImm16 rd imm) = defined rd ∷ []
+move_requests (Mov64SImm16 rd imm) = defined rd ∷ []
+move_requests (Mov64SImm32 rd imm) = defined rd ∷ []
+move_requests (Mov64UImm16Shifted rd imm) = defined rd ∷ []
+move_requests (Mov64UImm32Shifted rd imm) = defined rd ∷ []
+move_requests (Insert64UImm16Shifted rd ri imm) = reused rd ∷ used ri ∷ []
+move_requests (Insert64UImm32Shifted rd ri imm) = reused rd ∷ used ri ∷ []
+move_requests (CMov32 rd cond ri rm) = reused rd ∷ used ri ∷ used rm ∷ []
+move_requests (CMov64 rd cond ri rm) = reused rd ∷ used ri ∷ used rm ∷ []
+move_requests (CMov32SImm16 rd cond ri imm) = reused rd ∷ used ri ∷ []
+move_requests (CMov64SImm16 rd cond ri imm) = reused rd ∷ used ri ∷ []
+move_requests (Extend rd rn signed from_bits to_bits) = defined rd ∷ used rn ∷ []
+move_requests (LoadAR rd ar) = defined rd ∷ []
+move_requests (InsertAR rd ri ar) = reused rd ∷ used ri ∷ []
+move_requests i = storage_requests i
+
+-- what is reported of operators, products, divisions, shifts, rotations and comparisons
+abbrev pub arithmetic_requests : Inst → List (Option Reported)
+arithmetic_requests (AluRRR alu_op rd rn rm) = defined rd ∷ used rn ∷ used rm ∷ []
+arithmetic_requests (AluRRSImm16 alu_op rd rn imm) = defined rd ∷ used rn ∷ []
+arithmetic_requests (AluRR alu_op rd ri rm) = reused rd ∷ used ri ∷ used rm ∷ []
+arithmetic_requests (AluRX alu_op rd ri mem) = reused rd ∷ used ri ∷ memory_requests mem
+arithmetic_requests (AluRSImm16 alu_op rd ri imm) = reused rd ∷ used ri ∷ []
+arithmetic_requests (AluRSImm32 alu_op rd ri imm) = reused rd ∷ used ri ∷ []
+arithmetic_requests (AluRUImm32 alu_op rd ri imm) = reused rd ∷ used ri ∷ []
+arithmetic_requests (AluRUImm16Shifted alu_op rd ri imm) = reused rd ∷ used ri ∷ []
+arithmetic_requests (AluRUImm32Shifted alu_op rd ri imm) = reused rd ∷ used ri ∷ []
+arithmetic_requests (SMulWide rd rn rm) = used rn ∷ used rm ∷ fixed_def rd.hi 2 ∷ fixed_def rd.lo 3 ∷ []
+arithmetic_requests (UMulWide rd ri rn) = used rn ∷ fixed_def rd.hi 2 ∷ fixed_def rd.lo 3 ∷ fixed_use ri 3 ∷ []
+arithmetic_requests (SDivMod32 rd ri rn) = used rn ∷ fixed_def rd.hi 2 ∷ fixed_def rd.lo 3 ∷ fixed_use ri 3 ∷ []
+arithmetic_requests (SDivMod64 rd ri rn) = used rn ∷ fixed_def rd.hi 2 ∷ fixed_def rd.lo 3 ∷ fixed_use ri 3 ∷ []
+arithmetic_requests (UDivMod32 rd ri rn) = used rn ∷ fixed_def rd.hi 2 ∷ fixed_def rd.lo 3 ∷ fixed_use ri.hi 2 ∷ fixed_use ri.lo 3 ∷ []
+arithmetic_requests (UDivMod64 rd ri rn) = used rn ∷ fixed_def rd.hi 2 ∷ fixed_def rd.lo 3 ∷ fixed_use ri.hi 2 ∷ fixed_use ri.lo 3 ∷ []
+arithmetic_requests (Flogr rd rn) = used rn ∷ fixed_def rd.hi 2 ∷ fixed_def rd.lo 3 ∷ []
+arithmetic_requests (ShiftRR shift_op rd rn shift_imm shift_reg) = defined rd ∷ used rn ∷ used shift_reg ∷ []
+arithmetic_requests (RxSBG op rd ri rn start_bit end_bit rotate_amt) = reused rd ∷ used ri ∷ used rn ∷ []
+arithmetic_requests (RxSBGTest op rd rn start_bit end_bit rotate_amt) = used rd ∷ used rn ∷ []
+arithmetic_requests (UnaryRR op rd rn) = defined rd ∷ used rn ∷ []
+arithmetic_requests (CmpRR op rn rm) = used rn ∷ used rm ∷ []
+arithmetic_requests (CmpRX op rn mem) = used rn ∷ memory_requests mem
+arithmetic_requests (CmpRSImm16 op rn imm) = used rn ∷ []
+arithmetic_requests (CmpRSImm32 op rn imm) = used rn ∷ []
+arithmetic_requests (CmpRUImm32 op rn imm) = used rn ∷ []
+arithmetic_requests (CmpTrapRR op rn rm cond trap_code) = used rn ∷ used rm ∷ []
+arithmetic_requests (CmpTrapRSImm16 op rn imm cond trap_code) = used rn ∷ []
+arithmetic_requests (CmpTrapRUImm16 op rn imm cond trap_code) = used rn ∷ []
+arithmetic_requests i = move_requests i
+
+-- an instruction reports its operands in order, a `Loop` those of its members in order
+abbrev mutual
+  -- of an instruction. A `Loop` has its members twice: `all` is read, and `body` is ignored
+  pub requests : Inst → List (Option Reported)
+  requests (Loop' mask body all) = row_requests all
+  requests i = arithmetic_requests i
+
+  -- of the members of a loop
+  pub row_requests : {m : _} → Row_of-Inst m → List (Option Reported)
+  row_requests end_of-Inst = []
+  row_requests (more_of-Inst i rest) = requests i ++ row_requests rest
+
+-- the same of members in a list
+abbrev pub members_requests : List Inst → List (Option Reported)
+members_requests [] = []
+members_requests (i ∷ is) = requests i ++ members_requests is
+
+-- the list of an instruction
+abbrev pub operands : Inst → List Reported
+operands i = items_of (requests i)
+
+-- a reuse inside a `Loop` is denied, whoever is told
+abbrev pub is_loop : Inst → Bool
+is_loop (Loop' mask body all) = true
+is_loop _ = false
+
+-- the first cause by which the operands of an instruction aren't reported, want of memory aside
+abbrev pub operands_cause : (denies : Bool) → Inst → Option OperandError
+operands_cause denies i = cause_of (is_loop i || denies) (requests i)

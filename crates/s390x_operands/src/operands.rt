@@ -1,0 +1,35 @@
+//! Reporting the operands of any instruction.
+ghost use Rattle.std.specs.Prelude.{◌||◌, true};
+ghost use Rattle.s390x_operands.specs.Requests.{Reports};
+ghost use Rattle.s390x_operands.specs.Operands.{is_loop, requests, members_requests};
+
+use crate::arithmetic::report_arithmetic;
+use crate::constraint::OperandError;
+use crate::visitor::OperandVisitor;
+use s390x_inst::Inst;
+
+/// Reports the operands of the members of a loop, where a reuse is denied.
+#[cycle(members)]
+fn report_members<V: OperandVisitor>(v: &mut V, insts: &[Inst]) -> Result<(), OperandError>
+    ensures { Reports true (members_requests insts.now) (V.items v.old) (V.items v.new) (V.denies v.old) (V.denies v.new) result }
+{
+    for inst in insts {
+        report_inst(v, true, inst)?;
+    }
+    Ok(())
+}
+
+/// Reports the operands of an instruction.
+#[cycle(members)]
+pub fn report_inst<V: OperandVisitor>(
+    v: &mut V,
+    denied: bool,
+    inst: &Inst,
+) -> Result<(), OperandError>
+    ensures { Reports (is_loop inst.now || denied) (requests inst.now) (V.items v.old) (V.items v.new) (V.denies v.old) (V.denies v.new) result }
+{
+    match inst {
+        Inst::Loop { body, .. } => report_members(v, body),
+        _ => report_arithmetic(v, denied, inst),
+    }
+}

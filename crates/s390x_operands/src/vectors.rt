@@ -1,0 +1,141 @@
+//! Reporting the operands of vector instructions.
+ghost use Rattle.s390x_operands.specs.Requests.{Reports};
+ghost use Rattle.s390x_operands.specs.Operands.{register_vector_requests, vector_requests};
+
+use crate::constraint::OperandError;
+use crate::report::{
+    report_inputs, report_nothing, report_output, report_output_from, report_reused,
+    report_reused_from, report_uses,
+};
+use crate::visitor::OperandVisitor;
+use s390x_inst::VecInst;
+
+/// Reports the operands of a vector instruction.
+pub fn report_vector<V: OperandVisitor>(
+    v: &mut V,
+    denied: bool,
+    inst: &VecInst,
+) -> Result<(), OperandError>
+    ensures { Reports denied (vector_requests inst.now) (V.items v.old) (V.items v.new) (V.denies v.old) (V.denies v.new) result }
+{
+    match inst {
+        VecInst::VecLoad { rd, mem }
+        | VecInst::VecLoadRev { rd, mem }
+        | VecInst::VecLoadByte16Rev { rd, mem }
+        | VecInst::VecLoadByte32Rev { rd, mem }
+        | VecInst::VecLoadByte64Rev { rd, mem }
+        | VecInst::VecLoadElt16Rev { rd, mem }
+        | VecInst::VecLoadElt32Rev { rd, mem }
+        | VecInst::VecLoadElt64Rev { rd, mem }
+        | VecInst::VecLoadReplicate { rd, mem, .. }
+        | VecInst::VecLoadReplicateRev { rd, mem, .. }
+        | VecInst::VecLoadLaneUndef { rd, mem, .. }
+        | VecInst::VecLoadLaneRevUndef { rd, mem, .. } => {
+            report_output_from(v, denied, rd, &[], mem)
+        }
+        VecInst::VecStore { rd, mem }
+        | VecInst::VecStoreRev { rd, mem }
+        | VecInst::VecStoreByte16Rev { rd, mem }
+        | VecInst::VecStoreByte32Rev { rd, mem }
+        | VecInst::VecStoreByte64Rev { rd, mem }
+        | VecInst::VecStoreElt16Rev { rd, mem }
+        | VecInst::VecStoreElt32Rev { rd, mem }
+        | VecInst::VecStoreElt64Rev { rd, mem }
+        | VecInst::VecStoreLane { rd, mem, .. }
+        | VecInst::VecStoreLaneRev { rd, mem, .. } => { report_inputs(v, denied, &[*rd], mem) }
+        VecInst::VecLoadLane { rd, ri, mem, .. } | VecInst::VecLoadLaneRev { rd, ri, mem, .. } => {
+            report_reused_from(v, denied, rd, &[*ri], mem)
+        }
+        _ => report_register_vector(v, denied, inst),
+    }
+}
+
+/// Reports the operands of a vector instruction without memory.
+pub fn report_register_vector<V: OperandVisitor>(
+    v: &mut V,
+    denied: bool,
+    inst: &VecInst,
+) -> Result<(), OperandError>
+    ensures { Reports denied (register_vector_requests inst.now) (V.items v.old) (V.items v.new) (V.denies v.old) (V.denies v.new) result }
+{
+    match inst {
+        VecInst::VecRRR { rd, rn, rm, .. }
+        | VecInst::VecPermuteDWImm { rd, rn, rm, .. }
+        | VecInst::VecIntCmp { rd, rn, rm, .. }
+        | VecInst::VecIntCmpS { rd, rn, rm, .. }
+        | VecInst::MovToVec128 { rd, rn, rm } => { report_output(v, denied, rd, &[*rn, *rm]) }
+        VecInst::VecRR { rd, rn, .. }
+        | VecInst::VecMov { rd, rn }
+        | VecInst::FpuMove32 { rd, rn }
+        | VecInst::FpuMove64 { rd, rn }
+        | VecInst::VecReplicateLane { rd, rn, .. }
+        | VecInst::VecEltRev { rd, rn, .. } => { report_output(v, denied, rd, &[*rn]) }
+        VecInst::VecShiftRR {
+            rd,
+            rn,
+            shift_reg,
+            ..
+        } => { report_output(v, denied, rd, &[*rn, *shift_reg]) }
+        VecInst::VecSelect { rd, rn, rm, ra }
+        | VecInst::VecPermute { rd, rn, rm, ra }
+        | VecInst::VecBlend { rd, rn, rm, ra }
+        | VecInst::VecEvaluate { rd, rn, rm, ra, .. } => {
+            report_output(v, denied, rd, &[*rn, *rm, *ra])
+        }
+        VecInst::VecIntEltCmp { rn, rm, .. } => { report_uses(v, denied, &[*rn, *rm]) }
+        VecInst::VecInt128SCmpHi { tmp, rn, rm } | VecInst::VecInt128UCmpHi { tmp, rn, rm } => {
+            report_output(v, denied, tmp, &[*rn, *rm])
+        }
+        VecInst::FpuCMov32 { rd, ri, rm, .. }
+        | VecInst::FpuCMov64 { rd, ri, rm, .. }
+        | VecInst::VecCMov { rd, ri, rm, .. } => { report_reused(v, denied, rd, &[*ri, *rm]) }
+        VecInst::VecImmByteMask { rd, .. }
+        | VecInst::VecImmBitMask { rd, .. }
+        | VecInst::VecImmReplicate { rd, .. }
+        | VecInst::VecInsertLaneImmUndef { rd, .. } => { report_output(v, denied, rd, &[]) }
+        VecInst::VecInsertLane {
+            rd,
+            ri,
+            rn,
+            lane_reg,
+            ..
+        } => { report_reused(v, denied, rd, &[*ri, *rn, *lane_reg]) }
+        VecInst::VecInsertLaneUndef {
+            rd,
+            rn,
+            lane_reg,
+            ..
+        }
+        | VecInst::VecExtractLane {
+            rd,
+            rn,
+            lane_reg,
+            ..
+        } => { report_output(v, denied, rd, &[*rn, *lane_reg]) }
+        VecInst::VecInsertLaneImm { rd, ri, .. } => { report_reused(v, denied, rd, &[*ri]) }
+        VecInst::VecLoad { .. }
+        | VecInst::VecLoadRev { .. }
+        | VecInst::VecLoadByte16Rev { .. }
+        | VecInst::VecLoadByte32Rev { .. }
+        | VecInst::VecLoadByte64Rev { .. }
+        | VecInst::VecLoadElt16Rev { .. }
+        | VecInst::VecLoadElt32Rev { .. }
+        | VecInst::VecLoadElt64Rev { .. }
+        | VecInst::VecStore { .. }
+        | VecInst::VecStoreRev { .. }
+        | VecInst::VecStoreByte16Rev { .. }
+        | VecInst::VecStoreByte32Rev { .. }
+        | VecInst::VecStoreByte64Rev { .. }
+        | VecInst::VecStoreElt16Rev { .. }
+        | VecInst::VecStoreElt32Rev { .. }
+        | VecInst::VecStoreElt64Rev { .. }
+        | VecInst::VecLoadReplicate { .. }
+        | VecInst::VecLoadReplicateRev { .. }
+        | VecInst::VecLoadLane { .. }
+        | VecInst::VecLoadLaneRev { .. }
+        | VecInst::VecLoadLaneUndef { .. }
+        | VecInst::VecLoadLaneRevUndef { .. }
+        | VecInst::VecStoreLane { .. }
+        | VecInst::VecStoreLaneRev { .. } => report_nothing(v, denied),
+    }
+}
