@@ -165,7 +165,12 @@ fn put_vectors(alloc: Global, out: &mut String, values: &[u128]) -> Result<(), A
     Ok(())
 }
 
-fn put_registers(alloc: Global, out: &mut String, registers: &StartRegs) -> Result<(), AllocError>
+/// Appends a line for each register that doesn't hold zero.
+pub fn put_registers(
+    alloc: Global,
+    out: &mut String,
+    registers: &StartRegs,
+) -> Result<(), AllocError>
     ensures { OnOk result (string_bytes out.new ≡ string_bytes out.old ++ lines_text (registers_lines registers.now)) }
 {
     put_generals(alloc, out, &registers.general)?;

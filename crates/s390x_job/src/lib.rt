@@ -12,7 +12,7 @@ mod read_line;
 mod reader;
 
 pub use job::{Job, LineError, MemLine, StartRegs, SymbolLine};
-pub use jobs::lines_of_job;
+pub use jobs::{lines_of_job, put_registers};
 pub use lines::read_lines;
 
 #[cfg(test)]

@@ -1,6 +1,7 @@
 -- From the replies of the parts to the answer.
-use Rattle.std.proofs.Common.{◌≡◌, ℕ, ◌⊎◌, inl, inr, List, Some, None, sym, ◌∙◌, refl, subst}
-use Rattle.std.specs.Prelude.{codes, ◌++◌, Option}
+use Rattle.std.proofs.Common.{◌≡◌, ℕ, ◌⊎◌, inl, inr, List, Some, None, sym, ◌∙◌, refl, subst, ap, ap₂, arith, Bool, true, false, cond, ◌+◌, ◌≤◌, ◌%◌, ◌^◌, length, string_bytes, Result, Ok, Err}
+use Rattle.std.specs.Prelude.{codes, ◌++◌, Option, IfOk, MatchResult, nat_eq, nat_le}
+use Rattle.std.proofs.lemmas.Bool.{leb-true}
 use Rattle.std.specs.Fmt.{decimal}
 use Rattle.hex.specs.Hex.{encode_lower}
 use Rattle.s390x_inst.specs.declared.state.IsaFlags.{IsaFlags}
@@ -13,20 +14,25 @@ use Rattle.s390x_steps.specs.Ranges.{BlocksInRange}
 use Rattle.s390x_steps.specs.Tree.{Tree}
 use Rattle.s390x_emit_int.specs.Function.{IsImage, checked_cause, start_cause, trees_of, constants_of}
 use Rattle.s390x_emit_int.specs.Headline.{RunsAsTyped}
-use Rattle.s390x_image.specs.Causes.{link_cause}
+use Rattle.s390x_image.specs.Causes.{link_cause, base_cause, relocs_cause, first as first_cause}
 use Rattle.s390x_image.specs.Fields.{filled}
 use Rattle.s390x_image.specs.Symbols.{Symbols}
+use Rattle.s390x_image.specs.declared.image.Image.{Image as LinkedImage}
 use Rattle.s390x_image.specs.declared.error.LinkError.{LinkError}
 use Rattle.s390x_image.specs.declared.error.LinkError.TheVariants as link
+use Rattle.s390x_image.specs.declared.error.LinkError.TheVariants.{ImageTooHigh, MisalignedBase}
+use Rattle.s390x_base.specs.declared.error.NoMemory.{NoMemory}
+use Rattle.std.specs.declared.string.String.{String}
+use Rattle.s390x_execution.specs.Text.{IsRunText}
 use Rattle.s390x_job.specs.Jobs.{text_of_job, IsJob}
 use Rattle.s390x_job.specs.Same.{SameJob}
 use Rattle.s390x_job.specs.Completions.{pieces, IsFirstWrong}
 use Rattle.s390x_job.specs.declared.job.Job.{Job}
 use Rattle.s390x_tool.specs.Lines.{line, IsMade, IsRefusal, IsLinkRefusal}
 use Rattle.s390x_tool.specs.Emitted.{emit_text}
-use Rattle.s390x_tool.specs.Answers.{IsAnswer, IsCode, IsEmitReply, IsImageAt, IsImageReply, IsJobReply, cause_of, link_cause_of, symbols_of}
+use Rattle.s390x_tool.specs.Answers.{IsAnswer, IsCode, IsEmitReply, IsImageAt, IsImageReply, IsJobReply, IsLinked, IsRunReply, cause_of, link_cause_of, symbols_of}
 use Rattle.s390x_tool.specs.declared.words.Command.{Command}
-use Rattle.s390x_tool.specs.declared.words.Command.TheVariants.{Image, Emit}
+use Rattle.s390x_tool.specs.declared.words.Command.TheVariants.{Image, Emit, Run}
 use Rattle.s390x_tool.specs.declared.status.Status.{Status}
 use Rattle.s390x_tool.specs.declared.status.Status.TheVariants as status
 
@@ -39,6 +45,9 @@ answer_of_job (Image base) input s text j is spelled only reply = record { job =
 answer_of_job Emit input status.Syntax text j is spelled only reply = absurd reply
 answer_of_job Emit input status.NoMemory text j is spelled only reply = reply
 answer_of_job Emit input s text j is spelled only reply = record { job = j; is = is; spelled = spelled; one = only; reply = reply }
+answer_of_job (Run base steps) input status.Syntax text j is spelled only reply = absurd reply
+answer_of_job (Run base steps) input status.NoMemory text j is spelled only reply = reply
+answer_of_job (Run base steps) input s text j is spelled only reply = record { job = j; is = is; spelled = spelled; one = only; reply = reply }
 
 -- a syntax error is the answer
 pub answer_of_syntax : (command : Command) (input : List ℕ) (s : Status) (text : List ℕ) (number : ℕ)
@@ -62,6 +71,13 @@ emit_reply_of_refusal j e s text (inl short) (inl refusal) = absurd (refusal.0 s
 emit_reply_of_refusal j e s text (inr cause) (inl refusal) = rw refusal.1 (record { error = e; cause = cause; spelled = refusal.2 })
 emit_reply_of_refusal j e s text cause (inr short) = rw short.1 short.2
 
+-- to `run` too
+pub run_reply_of_refusal : (base steps : ℕ) (j : Job) (e : EmitError) (s : Status) (text : List ℕ)
+    → (e ≡ error.NoMemory) ⊎ (cause_of j ≡ Some e) → IsRefusal e s text → IsRunReply base steps j s text
+run_reply_of_refusal base steps j e s text (inl short) (inl refusal) = absurd (refusal.0 short)
+run_reply_of_refusal base steps j e s text (inr cause) (inl refusal) = rw refusal.1 (record { error = e; cause = cause; spelled = refusal.2 })
+run_reply_of_refusal base steps j e s text cause (inr short) = rw short.1 short.2
+
 -- the code with its tables is the reply to `emit`
 pub reply_of_code : (j : Job) (code : MachBufferFinalized) (s : Status) (text : List ℕ)
     → IsCode j code → IsMade status.Ok (emit_text code) s text → IsEmitReply j s text
@@ -75,6 +91,45 @@ reply_of_link_refusal base j code e s text is (inl short) (inl refusal) = absurd
 reply_of_link_refusal base j code e s text is (inr cause) (inl refusal) =
     rw refusal.1 (record { code = code; is = is; error = e; cause = cause; spelled = refusal.2 })
 reply_of_link_refusal base j code e s text is cause (inr short) = rw short.1 short.2
+
+-- to `run` too
+pub run_reply_of_link_refusal : (base steps : ℕ) (j : Job) (code : MachBufferFinalized) (e : LinkError) (s : Status) (text : List ℕ)
+    → IsCode j code → (e ≡ link.NoMemory) ⊎ (link_cause_of base j code ≡ Some e) → IsLinkRefusal e s text → IsRunReply base steps j s text
+run_reply_of_link_refusal base steps j code e s text is (inl short) (inl refusal) = absurd (refusal.0 short)
+run_reply_of_link_refusal base steps j code e s text is (inr cause) (inl refusal) =
+    rw refusal.1 (record { code = code; is = is; error = e; cause = cause; spelled = refusal.2 })
+run_reply_of_link_refusal base steps j code e s text is cause (inr short) = rw short.1 short.2
+
+-- the text of the execution is the reply, where there is memory for it
+pub run_reply_of_text : {Z : Type 0} (base steps : ℕ) (j : Job) (code : MachBufferFinalized) (bytes : List ℕ) (r : Result (String Z) NoMemory) (s : Status) (text : List ℕ)
+    → IsCode j code → IsLinked base j code bytes → IfOk r (λ t. IsRunText base steps j code bytes (string_bytes t))
+    → MatchResult r (λ t. (s ≡ status.Ok) × (text ≡ string_bytes t)) (λ e. (s ≡ status.NoMemory) × (text ≡ line (codes "no memory"))) → IsRunReply base steps j s text
+run_reply_of_text base steps j code bytes (Ok t) s text is linked told made =
+    rw made.0 (record { code = code; is = is; bytes = bytes; image = linked; spelled = subst (λ l. IsRunText base steps j code bytes l) (sym made.1) told })
+run_reply_of_text base steps j code bytes (Err e) s text is linked told made = rw made.0 made.1
+
+-- what linking answers, where it doesn't refuse
+pub linked_by : (base : ℕ) (j : Job) (code : MachBufferFinalized) (r : Result LinkedImage LinkError) {E : LinkError → Type 0}
+    → MatchResult r (λ image. (link_cause_of base j code ≡ None) × (image.base ≡ base) × (image.bytes.items ≡ filled base (symbols_of j) code.relocs.items code.bytes.items)) E
+    → IfOk r (λ image. IsLinked base j code image.bytes.items)
+linked_by base j code (Ok image) h = record { linked = h.0; filled = h.2 }
+linked_by base j code (Err e) h = tt
+
+-- an image ends at 2 ^ 64 or before, where linking has no cause
+pub linked_fits : (base : ℕ) (j : Job) (code : MachBufferFinalized) (bytes : List ℕ) → IsLinked base j code bytes → length bytes ≡ length code.bytes.items → base + length bytes ≤ 2 ^ 64
+linked_fits base j code bytes linked same =
+    let none = first_none (base_cause code.alignment (length code.bytes.items) base) (relocs_cause base (symbols_of j) code.relocs.items) linked.linked in
+    let low = base_fits code.alignment (length code.bytes.items) base (nat_eq (base % code.alignment) 0) (nat_le (base + length code.bytes.items) 18446744073709551616) refl refl none in
+    omega (arith, low, same)
+  where
+    first_none : (a b : Option LinkError) → first_cause a b ≡ None → a ≡ None
+    first_none None b e = refl
+    first_none (Some x) b e = absurd cc
+
+    base_fits : (alignment size base : ℕ) (even within : Bool) → nat_eq (base % alignment) 0 ≡ even → nat_le (base + size) 18446744073709551616 ≡ within → base_cause alignment size base ≡ None → base + size ≤ 18446744073709551616
+    base_fits alignment size base false within a b e = let no = sym (ap (λ x. cond x (cond (nat_le (base + size) 18446744073709551616) None (Some ImageTooHigh)) (Some MisalignedBase)) a) ∙ e in absurd cc
+    base_fits alignment size base true false a b e = let no = sym (ap₂ (λ x y. cond x (cond y None (Some ImageTooHigh)) (Some MisalignedBase)) a b) ∙ e in absurd cc
+    base_fits alignment size base true true a b e = leb-true (base + size) 18446744073709551616 b
 
 -- that the second of two causes isn't there either
 second_none : (a b : Option EmitError) → first a b ≡ None → b ≡ None

@@ -1,5 +1,5 @@
 -- An accepted input is done, unless memory doesn't suffice.
-use Rattle.std.proofs.Common.{◌≡◌, ℕ, ◌≤◌, ◌⊎◌, inl, inr, List, [], length, refl, sym, ap, ◌∙◌, arith, get_or, append-nil, length-append, subst, Some, None}
+use Rattle.std.proofs.Common.{◌≡◌, ℕ, ◌≤◌, ◌⊎◌, inl, inr, List, [], length, refl, sym, ap, ap₂, ◌∙◌, arith, get_or, append-nil, length-append, subst, Some, None}
 use Rattle.std.specs.Prelude.{Option}
 use Rattle.std.proofs.lemmas.Fmt.{decimal_injective}
 use Rattle.std.specs.Io.KnownBytes.{Consumes, IsAtEnd}
@@ -10,7 +10,7 @@ use Rattle.s390x_tool.specs.Answers.{IsAccepted, IsJobReply, Links, cause_of}
 use Rattle.s390x_tool.proofs.SameJob.{same_cause, same_links}
 use Rattle.s390x_tool.specs.Replies.{Found, IsReply, IsDelivered}
 use Rattle.s390x_tool.specs.declared.words.Command.{Command}
-use Rattle.s390x_tool.specs.declared.words.Command.TheVariants.{Image, Emit}
+use Rattle.s390x_tool.specs.declared.words.Command.TheVariants.{Image, Emit, Run}
 use Rattle.s390x_tool.specs.declared.status.Status.{Status}
 use Rattle.s390x_tool.specs.declared.status.Status.TheVariants as status
 
@@ -37,10 +37,18 @@ same_command words (Image b) (Image c) first second =
 same_command words (Image b) Emit first second = absurd (omega (arith, ap length (sym first.spelled ∙ second.spelled)))
 same_command words Emit (Image c) first second = absurd (omega (arith, ap length (sym first.spelled ∙ second.spelled)))
 same_command words Emit Emit first second = refl
+same_command words (Image b) (Run c n) first second = absurd (omega (arith, ap length (sym first.spelled ∙ second.spelled)))
+same_command words Emit (Run c n) first second = absurd (omega (arith, ap length (sym first.spelled ∙ second.spelled)))
+same_command words (Run b m) (Image c) first second = absurd (omega (arith, ap length (sym first.spelled ∙ second.spelled)))
+same_command words (Run b m) Emit first second = absurd (omega (arith, ap length (sym first.spelled ∙ second.spelled)))
+same_command words (Run b m) (Run c n) first second =
+    let same = sym first.spelled ∙ second.spelled in
+    ap₂ Run (decimal_injective b c first.range.0 second.range.0 (ap (λ ws. get_or ws 1 []) same)) (decimal_injective m n (omega (arith, first.range.1)) (omega (arith, second.range.1)) (ap (λ ws. get_or ws 2 []) same))
 
 refused_not : (command : Command) (j : Job) (text : List ℕ) → IsJobReply command j status.Refused text → cause_of j ≡ None → ⊥
 refused_not (Image base) j text reply valid = let cause = reply.cause in cc
 refused_not Emit j text reply valid = let cause = reply.cause in cc
+refused_not (Run base steps) j text reply valid = let cause = reply.cause in cc
 
 linked_not : (command : Command) (j : Job) (text : List ℕ) → Links command j → IsJobReply command j status.LinkRefused text → ⊥
 linked_not (Image base) j text links reply =
@@ -48,6 +56,10 @@ linked_not (Image base) j text links reply =
     let none = links reply.code reply.is in
     cc
 linked_not Emit j text links reply = absurd reply
+linked_not (Run base steps) j text links reply =
+    let cause = reply.cause in
+    let none = links reply.code reply.is in
+    cc
 
 -- the reply to an accepted input
 completed_reply : (f : Found) (s : Status) (text : List ℕ) (command : Command) (input : List ℕ)

@@ -20,7 +20,7 @@ use Rattle.s390x_image.specs.Causes.{link_cause}
 use Rattle.s390x_image.specs.Symbols.{no_symbols}
 use Rattle.s390x_tool.specs.Answers.{IsCode, Links, cause_of, with_symbols}
 use Rattle.s390x_tool.specs.declared.words.Command.{Command}
-use Rattle.s390x_tool.specs.declared.words.Command.TheVariants.{Image, Emit}
+use Rattle.s390x_tool.specs.declared.words.Command.TheVariants.{Image, Emit, Run}
 use Rattle.s390x_tool.proofs.SameTree.{LineTree, lines_tree, line_blocks_cause, line_blocks_size, line_ranges, parts_code, line_at, line_places, line_outside, line_steps_from, same_blocks_cause, same_function_code, same_starts, same_block_starts, same_blocks_size, parts_places, line_block_places, ranges_to, ranges_from, each_traps, same_function_traps, each_relocs, same_function_relocs}
 use Rattle.s390x_tool.proofs.SameLines.{found, with_flags, with_frame, frame_of, Said, job_found}
 use Rattle.s390x_tool.proofs.Frameless.{raw_block, resolved_lines, blocks_resolved}
@@ -125,3 +125,5 @@ pub same_links : (command : Command) (j k : Job) → IsJob j → IsJob k → Sam
 same_links (Image base) j k a b e links =
     λ code is. ap (λ ss. link_cause code base (with_symbols no_symbols ss)) (same_symbols j k a b e) ∙ links code (same_code j k code a b e is)
 same_links Emit j k a b e links = tt
+same_links (Run base steps) j k a b e links =
+    λ code is. ap (λ ss. link_cause code base (with_symbols no_symbols ss)) (same_symbols j k a b e) ∙ links code (same_code j k code a b e is)

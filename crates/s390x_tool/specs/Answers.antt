@@ -16,10 +16,11 @@ use Rattle.s390x_job.specs.Same.{SameJob}
 use Rattle.s390x_job.specs.Completions.{pieces, IsFirstWrong}
 use Rattle.s390x_job.specs.declared.job.Job.{Job}
 use Rattle.s390x_job.specs.declared.job.SymbolLine.{SymbolLine}
+use Rattle.s390x_execution.specs.Text.{IsRunText}
 use Rattle.s390x_tool.specs.Emitted.{emit_text}
 use Rattle.s390x_tool.specs.Lines.{line, error_name, link_error_name}
 use Rattle.s390x_tool.specs.declared.words.Command.{Command}
-use Rattle.s390x_tool.specs.declared.words.Command.TheVariants.{Image, Emit}
+use Rattle.s390x_tool.specs.declared.words.Command.TheVariants.{Image, Emit, Run}
 use Rattle.s390x_tool.specs.declared.status.Status.{Status}
 use Rattle.s390x_tool.specs.declared.status.Status.TheVariants as status
 
@@ -97,10 +98,32 @@ IsEmitReply j status.Refused text = IsRefused j text
 IsEmitReply j status.NoMemory text = text ≡ line (codes "no memory")
 IsEmitReply j s text = ⊥
 
+-- the image of a job's code at a base: linking has no cause to refuse it, and its relocations' fields are filled
+pub record IsLinked (base : ℕ) (j : Job) (code : MachBufferFinalized) (bytes : List ℕ) : Type 0 where
+  pub linked : link_cause_of base j code ≡ None
+  pub filled : bytes ≡ filled base (symbols_of j) code.relocs.items code.bytes.items
+
+-- The text of `run`: the machine takes at most so many steps, from the base on, with the job's registers and memory and its image in memory.
+pub record IsExecuted (base steps : ℕ) (j : Job) (text : List ℕ) : Type 0 where
+  pub code : MachBufferFinalized
+  pub is : IsCode j code
+  pub bytes : List ℕ
+  pub image : IsLinked base j code bytes
+  pub spelled : IsRunText base steps j code bytes text
+
+-- the reply of `run` to a job
+abbrev pub IsRunReply : (base steps : ℕ) → Job → Status → List ℕ → Type 0
+IsRunReply base steps j status.Ok text = IsExecuted base steps j text
+IsRunReply base steps j status.Refused text = IsRefused j text
+IsRunReply base steps j status.LinkRefused text = IsLinkRefused base j text
+IsRunReply base steps j status.NoMemory text = text ≡ line (codes "no memory")
+IsRunReply base steps j s text = ⊥
+
 -- the reply of a command to a job
 abbrev pub IsJobReply : Command → Job → Status → List ℕ → Type 0
 IsJobReply (Image base) j s text = IsImageReply base j s text
 IsJobReply Emit j s text = IsEmitReply j s text
+IsJobReply (Run base steps) j s text = IsRunReply base steps j s text
 
 -- the input is the text of a job, the only one, and this is the command's reply to it
 pub record IsJobAnswer (command : Command) (input : List ℕ) (s : Status) (text : List ℕ) : Type 0 where
@@ -127,6 +150,7 @@ IsAnswer command input s text = IsJobAnswer command input s text
 abbrev pub Links : Command → Job → Type 0
 Links (Image base) j = (code : MachBufferFinalized) → IsCode j code → link_cause_of base j code ≡ None
 Links Emit j = Unit {0}
+Links (Run base steps) j = (code : MachBufferFinalized) → IsCode j code → link_cause_of base j code ≡ None
 
 -- The input is the text of a job, which neither emission nor the command's linking has a cause to refuse.
 pub record IsAccepted (command : Command) (input : List ℕ) : Type 0 where

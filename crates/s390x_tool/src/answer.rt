@@ -1,16 +1,20 @@
 //! The answer to a command and its whole input.
-ghost use Rattle.std.specs.Prelude.{◌≡◌, ◌<◌, length, IfOk};
+ghost use Rattle.std.specs.Prelude.{◌≡◌, ◌<◌, ◌⊎◌, length, IfOk, IfErr, Some, None};
 ghost use Rattle.std.specs.Cow.{cow_str_bytes};
 ghost use Rattle.s390x_image.specs.Symbols.{no_symbols};
-ghost use Rattle.s390x_tool.specs.Answers.{IsAnswer, IsCode, IsEmitReply, IsImageReply, IsJobReply, with_symbols};
+ghost use Rattle.s390x_job.specs.Jobs.{IsJob};
+ghost use Rattle.s390x_tool.specs.Answers.{IsAnswer, IsCode, IsEmitReply, IsImageReply, IsJobReply, IsLinked, IsRunReply, link_cause_of, with_symbols};
 
-use crate::reply::{Reply, in_hex, link_refused, no_memory, refused, syntax, with_tables};
+use crate::reply::{
+    Reply, in_hex, link_refused, no_memory, refused, syntax, with_tables, with_text,
+};
 use crate::words::Command;
 use s390x_base::NoMemory;
 use s390x_buffer::MachBufferFinalized;
 use s390x_emit_int::emit_function;
 use s390x_emit_int::headline::linked_code_runs_as_typed;
-use s390x_image::{SymbolTable, link};
+use s390x_execution::run_text;
+use s390x_image::{Image, LinkError, SymbolTable, link};
 use s390x_job::{Job, LineError, SymbolLine, read_lines};
 use std::alloc::Global;
 
@@ -28,11 +32,13 @@ pub fn answer(alloc: Global, command: Command, input: &[u8]) -> Reply
 
 // The command's reply to a job.
 fn reply_to_job(alloc: Global, command: Command, job: &Job) -> Reply
+    requires { IsJob job.now }
     ensures { IsJobReply command job.now result.status (cow_str_bytes result.text) }
 {
     match command {
         Command::Image { base } => image(alloc, base, job),
         Command::Emit => emit(alloc, job),
+        Command::Run { base, steps } => execution(alloc, base, steps, job),
     }
 }
 
@@ -61,14 +67,53 @@ fn linked(alloc: Global, base: u64, job: &Job, code: &MachBufferFinalized) -> Re
     requires { IsCode job.now code.now }
     ensures { IsImageReply base job.now result.status (cow_str_bytes result.text) }
 {
-    let Ok(symbols) = symbol_table(alloc, &job.symbols) else {
-        return no_memory();
-    };
-    match link(alloc, code, base, &symbols) {
+    match link_job(alloc, base, job, code) {
         Ok(image) => {
             linked_code_runs_as_typed();
             in_hex(alloc, &image.bytes)
         }
+        Err(error) => link_refused(error),
+    }
+}
+
+// The image of the job's code at the base, with the job's symbols.
+fn link_job(
+    alloc: Global,
+    base: u64,
+    job: &Job,
+    code: &MachBufferFinalized,
+) -> Result<Image, LinkError>
+    requires { IsCode job.now code.now }
+    ensures linked { IfOk result (λ image. IsLinked base job.now code.now image.bytes.items) }
+    ensures base { IfOk result (λ image. image.base ≡ base) }
+    ensures size { IfOk result (λ image. length image.bytes.items ≡ length code.now.bytes.items) }
+    ensures refused { IfErr result (λ e. (e ≡ LinkError.NoMemory) ⊎ (link_cause_of base job.now code.now ≡ Some e)) }
+{
+    match symbol_table(alloc, &job.symbols) {
+        Ok(symbols) => link(alloc, code, base, &symbols),
+        Err(_) => Err(LinkError::NoMemory),
+    }
+}
+
+// What the machine does with the job's image at the base.
+fn execution(alloc: Global, base: u64, steps: u32, job: &Job) -> Reply
+    requires { IsJob job.now }
+    ensures { IsRunReply base steps job.now result.status (cow_str_bytes result.text) }
+{
+    match emit_function(alloc, &job.function, &job.info, job.state) {
+        Ok(code) => executed(alloc, base, steps, job, &code),
+        Err(error) => refused(error),
+    }
+}
+
+// What the machine does with the image of the job's code at the base.
+fn executed(alloc: Global, base: u64, steps: u32, job: &Job, code: &MachBufferFinalized) -> Reply
+    requires job { IsJob job.now }
+    requires code { IsCode job.now code.now }
+    ensures { IsRunReply base steps job.now result.status (cow_str_bytes result.text) }
+{
+    match link_job(alloc, base, job, code) {
+        Ok(image) => with_text(run_text(alloc, job, code, &image, steps)),
         Err(error) => link_refused(error),
     }
 }

@@ -4,6 +4,8 @@
 pub mod answer;
 mod emitted;
 pub mod ends;
+#[cfg(test)]
+mod execution_tests;
 pub mod in_memory;
 pub mod input;
 #[cfg(test)]

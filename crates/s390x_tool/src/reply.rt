@@ -1,5 +1,5 @@
 //! Replies: a status, and the text that is written with it.
-ghost use Rattle.std.specs.Prelude.{◌≡◌, ◌++◌, codes, IfOk, OnErr, string_bytes};
+ghost use Rattle.std.specs.Prelude.{◌≡◌, ◌++◌, codes, IfOk, MatchResult, OnErr, string_bytes};
 ghost use Rattle.std.specs.Cow.{cow_str_bytes};
 ghost use Rattle.std.specs.Fmt.{decimal};
 ghost use Rattle.hex.specs.Hex.{encode_lower};
@@ -8,7 +8,7 @@ ghost use Rattle.s390x_tool.specs.Lines.{line, error_name, link_error_name, IsLi
 
 use crate::emitted::emitted_text;
 use crate::status::Status;
-use s390x_base::EmitError;
+use s390x_base::{EmitError, NoMemory};
 use s390x_buffer::MachBufferFinalized;
 use s390x_image::LinkError;
 use std::alloc::{AllocError, Global};
@@ -82,6 +82,19 @@ pub fn with_tables(alloc: Global, code: &MachBufferFinalized) -> Reply
     ensures { IsMade Status.Ok (emit_text code.now) result.status (cow_str_bytes result.text) }
 {
     made(Status::Ok, emitted_text(alloc, code))
+}
+
+/// The reply with a text that was made, or that memory doesn't suffice for.
+pub fn with_text(text: Result<String, NoMemory>) -> Reply
+    ensures { MatchResult text (λ t. (result.status ≡ Status.Ok) × (cow_str_bytes result.text ≡ string_bytes t)) (λ _. (result.status ≡ Status.NoMemory) × (cow_str_bytes result.text ≡ line (codes "no memory"))) }
+{
+    match text {
+        Ok(text) => Reply {
+            status: Status::Ok,
+            text: CowStr::Owned(text),
+        },
+        Err(_) => no_memory(),
+    }
 }
 
 /// The reply to a job that emission refuses.

@@ -82,6 +82,16 @@ fn words_that_are_no_command(rt: HostRuntime) -> Result<(), Fail> {
         "emit 4096",
         "emit ",
         "Emit",
+        "run",
+        "run 4096",
+        "run 4096 1000001",
+        "run 04096 1",
+        "run 4096 01",
+        "run 4096 1 1",
+        "run 18446744073709551616 1",
+        "run 4096 -1",
+        "run 4096 ",
+        "image 4096 1",
     ] {
         expect(
             &rt,

@@ -1,7 +1,7 @@
 //! The words after the program's name.
-ghost use Rattle.std.specs.Prelude.{◌≡◌, ◌≢◌, ℕ, ◌^◌, ◌<◌, ◌↔◌, IsTrue, IfSome, IfNone};
+ghost use Rattle.std.specs.Prelude.{◌≡◌, ◌≢◌, ℕ, ◌^◌, ◌<◌, ◌≤◌, ◌↔◌, IsTrue, IfSome, IfNone};
 ghost use Rattle.std.specs.Fmt.{decimal};
-ghost use Rattle.s390x_tool.specs.Words.{IsForm, IsImage, IsNoForm, IsPlain, texts};
+ghost use Rattle.s390x_tool.specs.Words.{IsForm, IsImage, IsNoForm, IsPlain, IsRun, texts};
 
 /// What the program is asked for.
 #[derive(Clone, Copy, PartialEq, Eq, Debug)]
@@ -10,7 +10,12 @@ pub enum Command {
     Image { base: u64 },
     /// The code of the job with its tables.
     Emit,
+    /// What the machine does with the job's image at this base, in at most so many steps.
+    Run { base: u64, steps: u32 },
 }
+
+/// The most steps that a command may ask for.
+const MOST_STEPS: u64 = 1_000_000;
 
 /// The command of these words, where they are one.
 pub fn read_words(words: &[String]) -> Option<Command>
@@ -20,6 +25,7 @@ pub fn read_words(words: &[String]) -> Option<Command>
     match words {
         [name] if name.as_str() == "emit" => Some(Command::Emit),
         [name, base] if name.as_str() == "image" => read_image(base.as_str()),
+        [name, base, steps] if name.as_str() == "run" => read_run(base.as_str(), steps.as_str()),
         _ => None,
     }
 }
@@ -31,6 +37,20 @@ fn read_image(word: &str) -> Option<Command>
 {
     let base = read_number(word)?;
     Some(Command::Image { base })
+}
+
+// The command `run` with these words behind it.
+fn read_run(first: &str, second: &str) -> Option<Command>
+    ensures some { IfSome result (λ command. IsRun first.now second.now command) }
+    ensures none { IfNone result ((base steps : ℕ) → base < 2 ^ 64 → steps ≤ 1000000 → first.now ≡ decimal base → second.now ≡ decimal steps → ⊥) }
+{
+    let base = read_number(first)?;
+    let steps = read_number(second)?;
+    if steps > MOST_STEPS {
+        return None;
+    }
+    let steps = steps as u32;
+    Some(Command::Run { base, steps })
 }
 
 // The number below 2^64 that this word writes, in decimal without leading zeros.

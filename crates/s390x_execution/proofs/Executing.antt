@@ -1,0 +1,114 @@
+-- Steps of the machine: a stop leaves the state as it was, and no step changes what is accessible.
+use Rattle.std.proofs.Common.{◌≡◌, ℕ, zero, suc, ◌+◌, ◌<◌, Bool, true, false, Option, Some, None, List, refl, sym, ap, ◌∙◌, subst, arith}
+use Rattle.s390x_format.specs.Formats.{length_of}
+use Rattle.s390x_format.specs.declared.decoder.Decoded.{Decoded}
+use Rattle.s390x_format.specs.declared.fields.Fields.{Fields}
+use Rattle.s390x_operations.specs.State.{State, Memory, Core, Deposit}
+use Rattle.s390x_operations.specs.declared.stop.StopKind.{StopKind}
+use Rattle.s390x_machine.specs.Fetch.{Fetches}
+use Rattle.s390x_machine.specs.declared.fetch.Fetched.{Fetched}
+use Rattle.s390x_machine.specs.declared.fetch.Fetched.TheVariants.{Misplaced, Missing, Unknown, Found}
+use Rattle.s390x_machine.specs.Machine.{Went as GoesOn, Stopped as Stops', Acts, PairActs, RowActs, FetchedActs}
+use Rattle.s390x_machine.specs.Meanings.{action, is_odd_pair, meaning_of}
+use Rattle.s390x_machine.specs.Step.{IsOpen, Steps, is_open}
+use Rattle.s390x_machine.specs.declared.meaning.Meaning.{Meaning}
+use Rattle.s390x_machine.specs.declared.meaning.Action.{Action}
+use Rattle.s390x_machine.specs.declared.meaning.Action.TheVariants.{Perform, Branch, BranchAndSave}
+use Rattle.s390x_machine.specs.declared.step.StepEnd.TheVariants.{Went, Stopped as Stops, NoRow as HasNoRow}
+use Rattle.s390x_execution.specs.Execution.{Walks, Ends, IsExecution, IsStepped, GoesFurther}
+use Rattle.s390x_execution.specs.declared.execution.End.{End}
+use Rattle.s390x_execution.specs.declared.execution.End.TheVariants.{Limit, Stopped, NoRow}
+use Rattle.s390x_execution.specs.declared.execution.Execution.{Execution}
+
+-- a row without a meaning is open
+open_row : (s : State) (d : Decoded) → Fetches s.core.memory s.place (Found d) → meaning_of d.row.opcode ≡ None → IsOpen s
+open_row s d at none = record {
+  found = d;
+  at = at;
+  says_nothing = ap (λ (m : Option Meaning). is_open m d.fields s.core.registers) none;
+}
+
+-- ---- a stop
+
+action_keeps : (a : Action) (size : ℕ) (s : State) (kind : StopKind) (t : State) → Acts a size s (Stops' kind) t → t ≡ s
+action_keeps (Perform op) size s kind t h = h.1
+action_keeps (Branch mask target) size s kind t h = absurd h
+action_keeps (BranchAndSave link target) size s kind t h = absurd h
+
+pair_keeps : (odd : Bool) (a : Action) (size : ℕ) (s : State) (kind : StopKind) (t : State) → PairActs odd a size s (Stops' kind) t → t ≡ s
+pair_keeps true a size s kind t h = h.1
+pair_keeps false a size s kind t h = action_keeps a size s kind t h
+
+row_keeps : (m : Option Meaning) (f : Fields) (size : ℕ) (s : State) (kind : StopKind) (t : State) → (m ≡ None → ⊥) → RowActs m f size s (Stops' kind) t → t ≡ s
+row_keeps None f size s kind t some h = absurd (some refl)
+row_keeps (Some m) f size s kind t some h = pair_keeps (is_odd_pair m f) (action m f s.core.registers s.place) size s kind t h
+
+fetched_keeps : (f : Fetched) (s : State) (kind : StopKind) (t : State) → (IsOpen s → ⊥) → Fetches s.core.memory s.place f → FetchedActs f s (Stops' kind) t → t ≡ s
+fetched_keeps Misplaced s kind t closed at h = h.1
+fetched_keeps Missing s kind t closed at h = h.1
+fetched_keeps Unknown s kind t closed at h = h.1
+fetched_keeps (Found d) s kind t closed at h = row_keeps (meaning_of d.row.opcode) d.fields (length_of d.row.format) s kind t (λ none. closed (open_row s d at none)) h
+
+-- a step that stops leaves the state as it was
+pub stop_keeps : (s : State) (kind : StopKind) (place : ℕ) (t : State) → Steps s (Stops kind place) t → t ≡ s
+stop_keeps s kind place t h = fetched_keeps h.1.fetched s kind t h.0 h.1.fetches h.1.acts
+
+-- ---- what is accessible
+
+same_has : (s t : State) → t ≡ s → t.core.memory.has ≡ s.core.memory.has
+same_has s t e = ap (λ (u : State). u.core.memory.has) e
+
+action_has : (a : Action) (size : ℕ) (s : State) (x : Option Deposit) (t : State) → Acts a size s (GoesOn x) t → t.core.memory.has ≡ s.core.memory.has
+action_has (Perform op) size s x t h = ap (λ (m : Memory). m.has) h.0.memory
+action_has (Branch mask target) size s x t h = ap (λ (c : Core). c.memory.has) h.0
+action_has (BranchAndSave link target) size s x t h = ap (λ (u : State). u.core.memory.has) h.0
+
+pair_has : (odd : Bool) (a : Action) (size : ℕ) (s : State) (x : Option Deposit) (t : State) → PairActs odd a size s (GoesOn x) t → t.core.memory.has ≡ s.core.memory.has
+pair_has true a size s x t h = same_has s t h.1
+pair_has false a size s x t h = action_has a size s x t h
+
+row_has : (m : Option Meaning) (f : Fields) (size : ℕ) (s : State) (x : Option Deposit) (t : State) → (m ≡ None → ⊥) → RowActs m f size s (GoesOn x) t → t.core.memory.has ≡ s.core.memory.has
+row_has None f size s x t some h = absurd (some refl)
+row_has (Some m) f size s x t some h = pair_has (is_odd_pair m f) (action m f s.core.registers s.place) size s x t h
+
+fetched_has : (f : Fetched) (s : State) (x : Option Deposit) (t : State) → (IsOpen s → ⊥) → Fetches s.core.memory s.place f → FetchedActs f s (GoesOn x) t → t.core.memory.has ≡ s.core.memory.has
+fetched_has Misplaced s x t closed at h = same_has s t h.1
+fetched_has Missing s x t closed at h = same_has s t h.1
+fetched_has Unknown s x t closed at h = same_has s t h.1
+fetched_has (Found d) s x t closed at h = row_has (meaning_of d.row.opcode) d.fields (length_of d.row.format) s x t (λ none. closed (open_row s d at none)) h
+
+pub step_has : (s t : State) → Steps s Went t → t.core.memory.has ≡ s.core.memory.has
+step_has s t h = fetched_has h.1.goes.fetched s h.1.stored t h.0 h.1.goes.fetches h.1.goes.acts
+
+pub walk_has : (n : ℕ) (s t : State) → Walks n s t → t.core.memory.has ≡ s.core.memory.has
+walk_has zero s t h = same_has s t h
+walk_has (suc n) s t h = step_has h.before t h.goes ∙ walk_has n s h.before h.reached
+
+-- ---- executions
+
+-- where one step was to go and didn't, more were to go
+pub ends_before : (steps went : ℕ) (t : State) (e : End) → went < steps → Ends 1 0 t e → Ends steps went t e
+ends_before steps went t Limit lt h = absurd (omega (arith, h))
+ends_before steps went t (Stopped kind place) lt h = (lt, h.1)
+ends_before steps went t (NoRow place) lt h = (lt, h.1, h.2)
+
+-- the step behind those that went isn't one of them
+pub broken_off : (steps went : ℕ) (s before t : State) (e : End) → went < steps → Walks went s before → IsStepped before t (Some e) → IsExecution steps s t (record { went = went; end = e })
+broken_off steps went s before t e lt walked h = record {
+  walked = subst (λ (u : State). Walks went s u) (sym h.0) walked;
+  ended = ends_before steps went t e lt h.1;
+}
+
+pub walks_further : (went : ℕ) (s before t : State) → Walks went s before → Steps before Went t → Walks (went + 1) s t
+walks_further went s before t walked goes =
+    let next : suc went ≡ went + 1 = omega arith in
+    subst (λ n. Walks n s t) next (record { before = before; reached = walked; goes = goes })
+
+-- a stop, and a row that isn't computed
+pub stopped_at : (s : State) (kind : StopKind) (place : ℕ) (t : State) → Steps s (Stops kind place) t → IsStepped s t (Some (Stopped kind place))
+stopped_at s kind place t h =
+    let same = stop_keeps s kind place t h in
+    (same, (omega arith, subst (λ (u : State). Steps u (Stops kind place) t) (sym same) h))
+
+pub no_row_at : (s t : State) → Steps s HasNoRow t → IsStepped s t (Some (NoRow t.place))
+no_row_at s t h = (h.1, (omega arith, subst (λ (u : State). Steps u HasNoRow t) (sym h.1) h, refl))

@@ -1,0 +1,4 @@
+pub mod Executing
+pub mod Fitting
+pub mod Reporting
+pub mod Starting

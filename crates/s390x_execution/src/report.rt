@@ -1,0 +1,221 @@
+//! The text of an execution.
+ghost use Rattle.std.specs.Prelude.{◌≡◌, ℕ, Bool, ◌+◌, ◌^◌, ◌<◌, ◌≤◌, ◌++◌, IfOk, IsTrue, OnOk, length, map, string_bytes};
+ghost use Rattle.s390x_operations.specs.State.{bytes_at, sum64};
+ghost use Rattle.s390x_operations.specs.Effects.{number_of_code};
+ghost use Rattle.s390x_machine.specs.State.{memory_of, registers_of, state_of};
+ghost use Rattle.s390x_job.specs.Jobs.{IsJob, lines_text};
+ghost use Rattle.s390x_execution.specs.Text.{AllHeld, IsRunText, code_from, code_text, content_lines, end_line, execution_text, kind_text, region_line, status_lines, went_line};
+
+use crate::execution::{End, Execution, execute};
+use crate::start::{start_machine, start_memory};
+use s390x_base::{NoMemory, TrapCode};
+use s390x_buffer::MachBufferFinalized;
+use s390x_image::Image;
+use s390x_job::{Job, MemLine, StartRegs, put_registers};
+use s390x_lines::name::LineName;
+use s390x_lines::put_line::line2;
+use s390x_machine::codes::code_at;
+use s390x_machine::machine::Machine;
+use s390x_machine::memory::Memory;
+use s390x_operations::{ConditionCode, StopKind};
+use s390x_words::atoms::put_trap;
+use std::alloc::{AllocError, Global};
+
+/// Executes a job's image, by at most so many steps, and tells how it went.
+///
+/// The machine starts at the image's base with the job's registers; the memory has the job's regions, and the image over them.
+/// The lines of the text: `went W` with the number of steps that went; `limit` where all of them went, else
+/// `stop KIND PLACE CODE` where the next step stops (`CODE` is that of the table of traps, `-` for none and for a place outside
+/// the image), or `norow PLACE` at a row that isn't computed; `place P`; `cc C`; and then, as in the text of a job,
+/// `reg R V` for each register that isn't zero, and `mem ADDRESS HEX` for each of the job's regions, with what the memory holds.
+/// `NoMemory` comes for want of memory alone.
+pub fn run_text(
+    alloc: Global,
+    job: &Job,
+    code: &MachBufferFinalized,
+    image: &Image,
+    steps: u32,
+) -> Result<String, NoMemory>
+    requires job { IsJob job.now }
+    requires image { image.now.base + length image.now.bytes.items ≤ 2 ^ 64 }
+    requires short { length code.now.bytes.items ≤ 2 ^ 32 }
+    ensures { IfOk result (λ text. IsRunText image.now.base steps job.now code.now image.now.bytes.items (string_bytes text)) }
+{
+    let mut memory = start_memory(alloc, &job.memory, image)?;
+    let mut machine = start_machine(image.base, &job.registers);
+    let execution = execute(&mut machine, &mut memory, steps);
+    match reported(
+        alloc,
+        image.base,
+        code,
+        &job.memory,
+        &execution,
+        &machine,
+        &memory,
+    ) {
+        Ok(text) => Ok(text),
+        Err(_) => Err(NoMemory),
+    }
+}
+
+// The text of an execution that ended so.
+fn reported<M: Memory>(
+    alloc: Global,
+    base: u64,
+    code: &MachBufferFinalized,
+    regions: &[MemLine],
+    execution: &Execution,
+    machine: &Machine,
+    memory: &M,
+) -> Result<String, AllocError>
+    requires short { length code.now.bytes.items ≤ 2 ^ 32 }
+    requires held { AllHeld (M.held memory.now) regions.now }
+    ensures { IfOk result (λ text. string_bytes text ≡ execution_text base code.now regions.now execution.now (state_of machine.now (M.held memory.now) (M.byte memory.now))) }
+{
+    let mut out = String::new(alloc);
+    put_went(&mut out, execution.went)?;
+    put_end(&mut out, base, code, execution.end)?;
+    put_status(&mut out, machine)?;
+    put_contents(alloc, &mut out, regions, machine, memory)?;
+    Ok(out)
+}
+
+// How many steps went.
+fn put_went(out: &mut String, went: u32) -> Result<(), AllocError>
+    ensures { OnOk result (string_bytes out.new ≡ string_bytes out.old ++ went_line went) }
+{
+    writeln!(out, "went {went}")
+}
+
+// How the execution ended.
+fn put_end(
+    out: &mut String,
+    base: u64,
+    code: &MachBufferFinalized,
+    end: End,
+) -> Result<(), AllocError>
+    requires { length code.now.bytes.items ≤ 2 ^ 32 }
+    ensures { OnOk result (string_bytes out.new ≡ string_bytes out.old ++ end_line base code.now end) }
+{
+    match end {
+        End::Limit => out.push_str("limit\n"),
+        End::Stopped { kind, place } => {
+            let name = kind_name(kind);
+            write!(out, "stop {name} {place} ")?;
+            put_code(out, stop_code(base, code, kind, place))?;
+            out.push_str("\n")
+        }
+        End::NoRow { place } => writeln!(out, "norow {place}"),
+    }
+}
+
+// The name of a kind of stop.
+fn kind_name(kind: StopKind) -> &'static str
+    ensures { result.now ≡ kind_text kind }
+{
+    match kind {
+        StopKind::Operation => "Operation",
+        StopKind::Access => "Access",
+        StopKind::Specification => "Specification",
+        StopKind::Divide => "Divide",
+        StopKind::CompareTrap => "CompareTrap",
+    }
+}
+
+// The code of a stop at a place, in code that stands at a base.
+fn stop_code(base: u64, code: &MachBufferFinalized, kind: StopKind, place: u64) -> Option<TrapCode>
+    requires { length code.now.bytes.items ≤ 2 ^ 32 }
+    ensures { result ≡ code_from base code.now kind place }
+{
+    if place < base {
+        return None;
+    }
+    match u32::try_from(place - base) {
+        Ok(offset) => code_at(code, offset, kind),
+        Err(_) => None,
+    }
+}
+
+// The name of a trap code, `-` for none.
+fn put_code(out: &mut String, code: Option<TrapCode>) -> Result<(), AllocError>
+    ensures { OnOk result (string_bytes out.new ≡ string_bytes out.old ++ code_text code) }
+{
+    match code {
+        Some(code) => put_trap(out, code),
+        None => out.push_str("-"),
+    }
+}
+
+// The place and the condition code.
+fn put_status(out: &mut String, machine: &Machine) -> Result<(), AllocError>
+    ensures { (held : ℕ → Bool) (byte : ℕ → ℕ) → OnOk result (string_bytes out.new ≡ string_bytes out.old ++ status_lines (state_of machine.now held byte)) }
+{
+    let place = machine.place;
+    let code = code_number(machine.condition_code());
+    write!(out, "place {place}\ncc {code}\n")
+}
+
+// The number of a condition code.
+fn code_number(code: ConditionCode) -> u8
+    ensures { result ≡ number_of_code code }
+{
+    match code {
+        ConditionCode::Code0 => 0,
+        ConditionCode::Code1 => 1,
+        ConditionCode::Code2 => 2,
+        ConditionCode::Code3 => 3,
+    }
+}
+
+// The registers that aren't zero, and the regions.
+fn put_contents<M: Memory>(
+    alloc: Global,
+    out: &mut String,
+    regions: &[MemLine],
+    machine: &Machine,
+    memory: &M,
+) -> Result<(), AllocError>
+    requires { AllHeld (M.held memory.now) regions.now }
+    ensures { OnOk result (string_bytes out.new ≡ string_bytes out.old ++ lines_text (content_lines regions.now (state_of machine.now (M.held memory.now) (M.byte memory.now)))) }
+{
+    let general = machine.regs;
+    let vector = machine.vregs;
+    let registers = StartRegs { general, vector };
+    put_registers(alloc, out, &registers)?;
+    put_regions(alloc, out, regions, memory)
+}
+
+// The regions, with what the memory holds.
+fn put_regions<M: Memory>(
+    alloc: Global,
+    out: &mut String,
+    regions: &[MemLine],
+    memory: &M,
+) -> Result<(), AllocError>
+    requires { AllHeld (M.held memory.now) regions.now }
+    ensures { OnOk result (string_bytes out.new ≡ string_bytes out.old ++ lines_text (map (region_line (memory_of (M.held memory.now) (M.byte memory.now))) regions.now)) }
+{
+    for region in regions {
+        let bytes = bytes_held(alloc, memory, region.address, region.bytes.len())?;
+        line2(alloc, out, LineName::MemoryLine, &region.address, &bytes)?;
+        out.push_str("\n")?;
+    }
+    Ok(())
+}
+
+// So many bytes from an address on.
+fn bytes_held<M: Memory>(
+    alloc: Global,
+    memory: &M,
+    address: u64,
+    count: usize,
+) -> Result<Vec<u8>, AllocError>
+    requires { (i : ℕ) → i < count → IsTrue (M.held memory.now (sum64 address i)) }
+    ensures { IfOk result (λ bytes. bytes.items ≡ bytes_at (M.byte memory.now) address count) }
+{
+    let mut bytes = Vec::new(alloc);
+    for i in 0..count {
+        bytes.push(memory.get(address.wrapping_add(i as u64)))?;
+    }
+    Ok(bytes)
+}
