@@ -109,11 +109,11 @@ run_reply_of_text base steps j code bytes (Ok t) s text is linked told made =
 run_reply_of_text base steps j code bytes (Err e) s text is linked told made = rw made.0 made.1
 
 -- what linking answers, where it doesn't refuse
-pub linked_by : (base : ℕ) (j : Job) (code : MachBufferFinalized) (r : Result LinkedImage LinkError) {E : LinkError → Type 0}
+pub linked_by : (base : ℕ) (j : Job) (code : MachBufferFinalized) (r : Result LinkedImage LinkError) (E : LinkError → Type 0)
     → MatchResult r (λ image. (link_cause_of base j code ≡ None) × (image.base ≡ base) × (image.bytes.items ≡ filled base (symbols_of j) code.relocs.items code.bytes.items)) E
     → IfOk r (λ image. IsLinked base j code image.bytes.items)
-linked_by base j code (Ok image) h = record { linked = h.0; filled = h.2 }
-linked_by base j code (Err e) h = tt
+linked_by base j code (Ok image) E h = record { linked = h.0; filled = h.2 }
+linked_by base j code (Err e) E h = tt
 
 -- an image ends at 2 ^ 64 or before, where linking has no cause
 pub linked_fits : (base : ℕ) (j : Job) (code : MachBufferFinalized) (bytes : List ℕ) → IsLinked base j code bytes → length bytes ≡ length code.bytes.items → base + length bytes ≤ 2 ^ 64

@@ -7,8 +7,8 @@ returns-in-Ok c =
     let told = rw c.in-Ok.ensures.base at c.run_text.ensures in
     run_reply_of_text c.args.base c.args.steps c.args.job.now c.args.code.now c.in-Ok.image.bytes.items c.run_text.result _ _ c.requires.code c.in-Ok.ensures.linked told c.with_text.ensures
 
-pub returns : goal.returns
-returns c =
+pub returns-in-Err : goal.returns-in-Err
+returns-in-Err c =
     run_reply_of_link_refusal c.args.base c.args.steps c.args.job.now c.args.code.now c.in-Err.error _ _ c.requires.code c.in-Err.ensures.refused c.link_refused.ensures
 
 pub run_text-requires-clause-image : goal.run_text-requires-clause-image

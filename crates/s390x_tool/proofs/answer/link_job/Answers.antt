@@ -9,7 +9,7 @@ use Rattle.s390x_tool.proofs.answer.link_job.Goals as goal
 pub returns-in-Ok-clause-linked : goal.returns-in-Ok-clause-linked
 returns-in-Ok-clause-linked c =
     let symbols = c.in-Ok.ensures ∙ ap (with_symbols no_symbols) c.deref.ensures.value in
-    linked_by c.args.base c.args.job.now c.args.code.now c.link.result (rw symbols at c.link.ensures.answer)
+    linked_by c.args.base c.args.job.now c.args.code.now c.link.result _ (rw symbols at c.link.ensures.answer)
 
 pub link-requires : goal.link-requires
 link-requires c = relocs_lie (trees_of c.args.job.now.state c.args.job.now.function) (constants_of c.args.job.now.function) c.args.code.now c.requires.emitted
