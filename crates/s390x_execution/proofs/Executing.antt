@@ -5,12 +5,11 @@ use Rattle.s390x_format.specs.declared.decoder.Decoded.{Decoded}
 use Rattle.s390x_format.specs.declared.fields.Fields.{Fields}
 use Rattle.s390x_operations.specs.State.{State, Memory, Core, Deposit}
 use Rattle.s390x_operations.specs.declared.stop.StopKind.{StopKind}
-use Rattle.s390x_machine.specs.Fetch.{Fetches}
 use Rattle.s390x_machine.specs.declared.fetch.Fetched.{Fetched}
 use Rattle.s390x_machine.specs.declared.fetch.Fetched.TheVariants.{Misplaced, Missing, Unknown, Found}
 use Rattle.s390x_machine.specs.Machine.{Went as GoesOn, Stopped as Stops', Acts, PairActs, RowActs, FetchedActs}
 use Rattle.s390x_machine.specs.Meanings.{action, is_odd_pair, meaning_of}
-use Rattle.s390x_machine.specs.Step.{IsOpen, Steps, is_open}
+use Rattle.s390x_machine.specs.Step.{Steps}
 use Rattle.s390x_machine.specs.declared.meaning.Meaning.{Meaning}
 use Rattle.s390x_machine.specs.declared.meaning.Action.{Action}
 use Rattle.s390x_machine.specs.declared.meaning.Action.TheVariants.{Perform, Branch, BranchAndSave}
@@ -19,14 +18,6 @@ use Rattle.s390x_execution.specs.Execution.{Walks, Ends, IsExecution, IsStepped,
 use Rattle.s390x_execution.specs.declared.execution.End.{End}
 use Rattle.s390x_execution.specs.declared.execution.End.TheVariants.{Limit, Stopped, NoRow}
 use Rattle.s390x_execution.specs.declared.execution.Execution.{Execution}
-
--- a row without a meaning is open
-open_row : (s : State) (d : Decoded) → Fetches s.core.memory s.place (Found d) → meaning_of d.row.opcode ≡ None → IsOpen s
-open_row s d at none = record {
-  found = d;
-  at = at;
-  says_nothing = ap (λ (m : Option Meaning). is_open m d.fields s.core.registers) none;
-}
 
 -- ---- a stop
 
@@ -39,19 +30,19 @@ pair_keeps : (odd : Bool) (a : Action) (size : ℕ) (s : State) (kind : StopKind
 pair_keeps true a size s kind t h = h.1
 pair_keeps false a size s kind t h = action_keeps a size s kind t h
 
-row_keeps : (m : Option Meaning) (f : Fields) (size : ℕ) (s : State) (kind : StopKind) (t : State) → (m ≡ None → ⊥) → RowActs m f size s (Stops' kind) t → t ≡ s
-row_keeps None f size s kind t some h = absurd (some refl)
-row_keeps (Some m) f size s kind t some h = pair_keeps (is_odd_pair m f) (action m f s.core.registers s.place) size s kind t h
+row_keeps : (m : Option Meaning) (f : Fields) (size : ℕ) (s : State) (kind : StopKind) (t : State) → RowActs m f size s (Stops' kind) t → t ≡ s
+row_keeps None f size s kind t h = h.1
+row_keeps (Some m) f size s kind t h = pair_keeps (is_odd_pair m f) (action m f s.core.registers s.place) size s kind t h
 
-fetched_keeps : (f : Fetched) (s : State) (kind : StopKind) (t : State) → (IsOpen s → ⊥) → Fetches s.core.memory s.place f → FetchedActs f s (Stops' kind) t → t ≡ s
-fetched_keeps Misplaced s kind t closed at h = h.1
-fetched_keeps Missing s kind t closed at h = h.1
-fetched_keeps Unknown s kind t closed at h = h.1
-fetched_keeps (Found d) s kind t closed at h = row_keeps (meaning_of d.row.opcode) d.fields (length_of d.row.format) s kind t (λ none. closed (open_row s d at none)) h
+fetched_keeps : (f : Fetched) (s : State) (kind : StopKind) (t : State) → FetchedActs f s (Stops' kind) t → t ≡ s
+fetched_keeps Misplaced s kind t h = h.1
+fetched_keeps Missing s kind t h = h.1
+fetched_keeps Unknown s kind t h = h.1
+fetched_keeps (Found d) s kind t h = row_keeps (meaning_of d.row.opcode) d.fields (length_of d.row.format) s kind t h
 
 -- a step that stops leaves the state as it was
 pub stop_keeps : (s : State) (kind : StopKind) (place : ℕ) (t : State) → Steps s (Stops kind place) t → t ≡ s
-stop_keeps s kind place t h = fetched_keeps h.1.fetched s kind t h.0 h.1.fetches h.1.acts
+stop_keeps s kind place t h = fetched_keeps h.1.fetched s kind t h.1.acts
 
 -- ---- what is accessible
 
@@ -67,18 +58,18 @@ pair_has : (odd : Bool) (a : Action) (size : ℕ) (s : State) (x : Option Deposi
 pair_has true a size s x t h = same_has s t h.1
 pair_has false a size s x t h = action_has a size s x t h
 
-row_has : (m : Option Meaning) (f : Fields) (size : ℕ) (s : State) (x : Option Deposit) (t : State) → (m ≡ None → ⊥) → RowActs m f size s (GoesOn x) t → t.core.memory.has ≡ s.core.memory.has
-row_has None f size s x t some h = absurd (some refl)
-row_has (Some m) f size s x t some h = pair_has (is_odd_pair m f) (action m f s.core.registers s.place) size s x t h
+row_has : (m : Option Meaning) (f : Fields) (size : ℕ) (s : State) (x : Option Deposit) (t : State) → RowActs m f size s (GoesOn x) t → t.core.memory.has ≡ s.core.memory.has
+row_has None f size s x t h = same_has s t h.1
+row_has (Some m) f size s x t h = pair_has (is_odd_pair m f) (action m f s.core.registers s.place) size s x t h
 
-fetched_has : (f : Fetched) (s : State) (x : Option Deposit) (t : State) → (IsOpen s → ⊥) → Fetches s.core.memory s.place f → FetchedActs f s (GoesOn x) t → t.core.memory.has ≡ s.core.memory.has
-fetched_has Misplaced s x t closed at h = same_has s t h.1
-fetched_has Missing s x t closed at h = same_has s t h.1
-fetched_has Unknown s x t closed at h = same_has s t h.1
-fetched_has (Found d) s x t closed at h = row_has (meaning_of d.row.opcode) d.fields (length_of d.row.format) s x t (λ none. closed (open_row s d at none)) h
+fetched_has : (f : Fetched) (s : State) (x : Option Deposit) (t : State) → FetchedActs f s (GoesOn x) t → t.core.memory.has ≡ s.core.memory.has
+fetched_has Misplaced s x t h = same_has s t h.1
+fetched_has Missing s x t h = same_has s t h.1
+fetched_has Unknown s x t h = same_has s t h.1
+fetched_has (Found d) s x t h = row_has (meaning_of d.row.opcode) d.fields (length_of d.row.format) s x t h
 
 pub step_has : (s t : State) → Steps s Went t → t.core.memory.has ≡ s.core.memory.has
-step_has s t h = fetched_has h.1.goes.fetched s h.1.stored t h.0 h.1.goes.fetches h.1.goes.acts
+step_has s t h = fetched_has h.1.goes.fetched s h.1.stored t h.1.goes.acts
 
 pub walk_has : (n : ℕ) (s t : State) → Walks n s t → t.core.memory.has ≡ s.core.memory.has
 walk_has zero s t h = same_has s t h
