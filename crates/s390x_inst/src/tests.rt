@@ -429,25 +429,22 @@ fn steps_of(alloc: Global, insts: &[Inst]) -> Result<Vec<Step>, AllocError> {
     Ok(steps)
 }
 
-fn result_on_stack(number: u8, off: i64) -> CallRetPair
-    requires { number < 16 }
-{
-    CallRetPair {
-        vreg: writable_gpr(number),
-        location: RetLocation::Stack(off, ValueType::I64),
-    }
-}
-
 #[test]
 fn loads_of_results(rt: HostRuntime) -> Result<(), Fail> {
     let alloc = rt.alloc();
     let mut defs = Vec::new(alloc);
-    defs.push(result_on_stack(2, 8))?;
+    defs.push(CallRetPair {
+        vreg: writable_gpr(2),
+        location: RetLocation::Stack(8, ValueType::I64),
+    })?;
     defs.push(CallRetPair {
         vreg: writable_gpr(3),
         location: RetLocation::Reg(gpr(3), ValueType::I64),
     })?;
-    defs.push(result_on_stack(4, 16))?;
+    defs.push(CallRetPair {
+        vreg: writable_gpr(4),
+        location: RetLocation::Stack(16, ValueType::I64),
+    })?;
     let info = CallInfo {
         dest: CallInstDest::Direct {
             name: ExternalName(1),
