@@ -27,12 +27,13 @@ fn at(reg: Reg) -> MemArg {
     MemArg::reg_plus_off(reg, 0, MachMemFlags::trusted())
 }
 
-fn add(rd: Reg, rm: Reg) -> Inst {
+/// The sum of two virtual registers, in the first of them.
+fn add(sum: u32, other: u32) -> Inst {
     Inst::AluRR {
         alu_op: ALUOp::Add64,
-        rd: Writable::from_reg(rd),
-        ri: rd,
-        rm,
+        rd: Writable::from_reg(int(sum)),
+        ri: int(sum),
+        rm: int(other),
     }
 }
 
@@ -78,7 +79,7 @@ fn retry(alloc: Global) -> Result<Inst, AllocError> {
 #[test]
 fn operators_and_loads(rt: HostRuntime) -> Result<(), Fail> {
     let mut list = OperandList::new(rt.alloc());
-    assert_eq!(rt; add(int(0), int(1)).get_operands(&mut list), Ok(()));
+    assert_eq!(rt; add(0, 1).get_operands(&mut list), Ok(()));
     let load = Inst::Load64 {
         rd: writable_gpr(2),
         mem: at(int(3)),
@@ -128,7 +129,7 @@ fn a_loop_of_real_registers(rt: HostRuntime) -> Result<(), Fail> {
 fn refusals(rt: HostRuntime) -> Result<(), Fail> {
     let mut list = OperandList::new(rt.alloc());
     let mut body = Vec::new(rt.alloc());
-    body.push(add(int(2), int(4)))?;
+    body.push(add(2, 4))?;
     let looped = Inst::Loop {
         cond: Cond::from_mask(4),
         body,

@@ -9,6 +9,6 @@ returns-in-Ok c =
     (record { code = c.args.code.now; is = c.requires; linked = image.linked; filled = c.deref.ensures.value ∙ image.filled })
     c.in_hex.ensures
 
-pub returns : goal.returns
-returns c =
+pub returns-in-Err : goal.returns-in-Err
+returns-in-Err c =
     reply_of_link_refusal c.args.base c.args.job.now c.args.code.now c.in-Err.error _ _ c.requires c.in-Err.ensures.refused c.link_refused.ensures
