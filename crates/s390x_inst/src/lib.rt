@@ -28,6 +28,3 @@ pub use state::{
 };
 pub use vec_inst::VecInst;
 pub use vec_ops::{VecBinaryOp, VecIntCmpOp, VecIntEltCmpOp, VecShiftOp, VecUnaryOp};
-
-#[cfg(test)]
-mod tests;

@@ -1,6 +1,6 @@
 //! Jobs that the machine executes.
-use crate::Status;
-use crate::tests::{GOOD, expect};
+use crate::runs::{GOOD, expect};
+use s390x_tool::Status;
 use std::test::Fail;
 
 /// An addition: its registers start with 5 and 7, and its return goes to 0.
@@ -106,7 +106,7 @@ const EXECUTIONS: [(&str, &str, Status, &str); 14] = [
 
 /// Executions that reach their limit, stop, or come to a row that isn't computed.
 #[test]
-fn executions(rt: HostRuntime) -> Result<(), Fail> {
+fn executions_end_as_written(rt: HostRuntime) -> Result<(), Fail> {
     for (words, job, status, told) in EXECUTIONS {
         let input = Vec::from_slice(rt.alloc(), job.as_bytes())?;
         expect(&rt, words, input, GOOD, (status, told))?;

@@ -1,13 +1,13 @@
-//! Tests with bytes from outside.
-use crate::row::MachineRow;
+//! The formats and the decoder on an assembler's bytes.
 use crate::samples::SAMPLES;
-use crate::table::MACHINE_ROWS;
-use crate::{
+use s390x_base::Code;
+use s390x_format::row::MachineRow;
+use s390x_format::table::MACHINE_ROWS;
+use s390x_format::{
     E, Format, FormatKind, RiA, RiB, RiC, RieA, RieD, RieF, RieG, RilA, RilB, RilC, Rr, Rre, RrfAb,
     RrfCde, Rs, Rsy, Rx, Rxy, Si, Sil, Siy, VriA, VriB, VriC, VriK, VrrA, VrrB, VrrC, VrrD, VrrE,
     VrrF, VrsA, VrsB, VrsC, Vrx, decode, fetch_length,
 };
-use s390x_base::Code;
 use std::process::Abort;
 use std::test::Fail;
 
@@ -79,7 +79,7 @@ fn reads_and_writes(rt: &impl Abort, rows: &[MachineRow], samples: &[u8]) -> Res
 }
 
 #[test]
-fn every_row_reads_and_writes(rt: HostRuntime) -> Result<(), Fail> {
+fn every_row_is_read_and_written_again(rt: HostRuntime) -> Result<(), Fail> {
     reads_and_writes(&rt, &MACHINE_ROWS, &SAMPLES)
 }
 

@@ -1,5 +1,5 @@
 //! Operands that are relative to the instruction: lines with their code as an assembler gives it, and whole jobs.
-use crate::Status;
+use s390x_tool::Status;
 
 /// Every row that takes an address relative to the instruction, where the symbol stands at 65536 and the first line's code at 4096.
 #[rattlefmt::skip]

@@ -1,5 +1,5 @@
 //! Jobs that allocate arguments of calls, and lines without code.
-use crate::Status;
+use s390x_tool::Status;
 
 /// Words, a job, and how it ends.
 #[rattlefmt::skip]

@@ -1,8 +1,7 @@
 //! Whole texts, read and printed back, and texts that are none.
 
-use crate::job::LineError;
-use crate::{lines_of_job, read_lines};
 use s390x_base::NoMemory;
+use s390x_job::{LineError, lines_of_job, read_lines};
 use std::alloc::{AllocError, Global};
 
 #[derive(Debug, Drop)]

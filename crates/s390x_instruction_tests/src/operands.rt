@@ -1,11 +1,11 @@
-//! The operands of a few instructions.
+//! The operands of a few instructions, and those that are refused.
 
-use crate::{
+use s390x_base::{Cond, MachMemFlags, Reg, RegClass, Writable, gpr, gpr_preg, writable_gpr};
+use s390x_inst::{ALUOp, Inst, MemArg, VecInst};
+use s390x_operands::{
     DenyReuseVisitor, MachInst, OperandConstraint, OperandError, OperandKind, OperandList,
     OperandPos, Reported,
 };
-use s390x_base::{Cond, MachMemFlags, Reg, RegClass, Writable, gpr, gpr_preg, writable_gpr};
-use s390x_inst::{ALUOp, Inst, MemArg, VecInst};
 use std::alloc::{AllocError, Global};
 use std::test::Fail;
 
@@ -77,7 +77,7 @@ fn retry(alloc: Global) -> Result<Inst, AllocError> {
 }
 
 #[test]
-fn operators_and_loads(rt: HostRuntime) -> Result<(), Fail> {
+fn operands_are_reported_in_order(rt: HostRuntime) -> Result<(), Fail> {
     let mut list = OperandList::new(rt.alloc());
     assert_eq!(rt; add(0, 1).get_operands(&mut list), Ok(()));
     let load = Inst::Load64 {
@@ -109,7 +109,7 @@ fn operators_and_loads(rt: HostRuntime) -> Result<(), Fail> {
 }
 
 #[test]
-fn a_loop_of_real_registers(rt: HostRuntime) -> Result<(), Fail> {
+fn a_loop_reports_its_members(rt: HostRuntime) -> Result<(), Fail> {
     let mut list = OperandList::new(rt.alloc());
     let mut visitor = DenyReuseVisitor {
         inner: &mut list,
@@ -126,7 +126,7 @@ fn a_loop_of_real_registers(rt: HostRuntime) -> Result<(), Fail> {
 }
 
 #[test]
-fn refusals(rt: HostRuntime) -> Result<(), Fail> {
+fn reuse_in_a_loop_and_virtual_ranges_are_refused(rt: HostRuntime) -> Result<(), Fail> {
     let mut list = OperandList::new(rt.alloc());
     let mut body = Vec::new(rt.alloc());
     body.push(add(2, 4))?;

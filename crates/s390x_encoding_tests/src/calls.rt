@@ -1,12 +1,12 @@
-//! Each call once, with the bytes that an assembler gives.
-use crate::{
+//! Each encoding call once, with the bytes that an assembler gives.
+use s390x_base::{Code, EmitError, Reg, RegClass, gpr, vr};
+use s390x_enc::{
     enc_e, enc_ri_a, enc_ri_b, enc_ri_c, enc_rie_a, enc_rie_d, enc_rie_f, enc_rie_g, enc_ril_a,
     enc_ril_b, enc_ril_c, enc_rr, enc_rre, enc_rrf_ab, enc_rrf_cde, enc_rs, enc_rsy, enc_rx,
     enc_rxy, enc_si, enc_sil, enc_siy, enc_vri_a, enc_vri_b, enc_vri_c, enc_vri_k, enc_vrr_a,
     enc_vrr_b, enc_vrr_c, enc_vrr_d, enc_vrr_e, enc_vrr_f, enc_vrs_a, enc_vrs_b, enc_vrs_c,
     enc_vrx, rxb,
 };
-use s390x_base::{Code, EmitError, Reg, RegClass, gpr, vr};
 use std::process::Abort;
 
 fn is(rt: &impl Abort, answer: Result<Code, EmitError>, bytes: &[u8]) {

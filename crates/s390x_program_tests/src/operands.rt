@@ -1,13 +1,13 @@
 //! Jobs whose instructions have operands in memory, go by tables, or name symbols.
-use crate::Status;
 use crate::relative_rows::{PLACE_JOBS, RELATIVE_ROWS};
+use crate::runs::{GOOD, expect, expect_rows};
 use crate::stack_rows::STACK_JOBS;
-use crate::tests::{GOOD, expect, expect_rows};
+use s390x_tool::Status;
 use std::test::Fail;
 
 /// Jobs whose operands are refused, or lie in a frame, or whose accesses have traps.
 #[test]
-fn operands(rt: HostRuntime) -> Result<(), Fail> {
+fn operands_are_finalized_or_refused(rt: HostRuntime) -> Result<(), Fail> {
     for (words, job, status, told) in [
         (
             "image 4096",
@@ -71,7 +71,7 @@ fn operands(rt: HostRuntime) -> Result<(), Fail> {
 }
 
 #[test]
-fn jumps_by_tables(rt: HostRuntime) -> Result<(), Fail> {
+fn tables_lead_to_blocks(rt: HostRuntime) -> Result<(), Fail> {
     for (input, status, told) in [
         (
             "block\nJTSequence %r2 1 2 [1,2]\nblock\nRet %r14\nblock\nRet %r14\nend\n",
@@ -116,7 +116,7 @@ fn jumps_by_tables(rt: HostRuntime) -> Result<(), Fail> {
 }
 
 #[test]
-fn loads_of_symbols(rt: HostRuntime) -> Result<(), Fail> {
+fn symbols_are_loaded(rt: HostRuntime) -> Result<(), Fail> {
     for (words, job, status, told) in [
         (
             "image 4096",
@@ -168,13 +168,13 @@ fn loads_of_symbols(rt: HostRuntime) -> Result<(), Fail> {
 }
 
 #[test]
-fn operands_relative_to_the_instruction(rt: HostRuntime) -> Result<(), Fail> {
+fn operands_relative_to_the_instruction_have_their_code(rt: HostRuntime) -> Result<(), Fail> {
     expect_rows(&rt, &RELATIVE_ROWS)
 }
 
 /// Operands that name blocks, constants and symbols.
 #[test]
-fn places(rt: HostRuntime) -> Result<(), Fail> {
+fn blocks_constants_and_symbols_are_operands(rt: HostRuntime) -> Result<(), Fail> {
     for (words, job, status, told) in PLACE_JOBS {
         let input = Vec::from_slice(rt.alloc(), job.as_bytes())?;
         expect(&rt, words, input, GOOD, (status, told))?;
@@ -184,7 +184,7 @@ fn places(rt: HostRuntime) -> Result<(), Fail> {
 
 /// Arguments that are allocated, and lines without code.
 #[test]
-fn stack_sizes(rt: HostRuntime) -> Result<(), Fail> {
+fn stack_sizes_move_frame_operands(rt: HostRuntime) -> Result<(), Fail> {
     for (words, job, status, told) in STACK_JOBS {
         let input = Vec::from_slice(rt.alloc(), job.as_bytes())?;
         expect(&rt, words, input, GOOD, (status, told))?;

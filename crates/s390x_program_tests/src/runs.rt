@@ -1,12 +1,8 @@
 //! Whole runs over sources and sinks in memory.
-use crate::emitted::emitted_text;
+
 use crate::memory_rows::{ACCESS_ROWS, HELPED_ROWS, OFFSET_ROWS, OPERAND_ROWS};
 use crate::register_rows::{ARITHMETIC_ROWS, BIT_ROWS, MOVE_ROWS, STOP_ROWS};
-use crate::{BytesSink, BytesSource, Status, run};
-use s390x_base::{ExternalName, Reloc, TrapCode};
-use s390x_buffer::{
-    HandlerEntry, MachBufferFinalized, MapEntry, PatchEntry, RelocEntry, TrapEntry, TryEntry,
-};
+use s390x_tool::{BytesSink, BytesSource, Status, run};
 use std::alloc::Global;
 use std::process::Abort;
 use std::test::Fail;
@@ -66,7 +62,7 @@ pub fn expect<R: Abort + AllocGlobal>(
 }
 
 #[test]
-fn words_that_are_no_command(rt: HostRuntime) -> Result<(), Fail> {
+fn words_that_are_no_command_are_refused(rt: HostRuntime) -> Result<(), Fail> {
     for words in [
         "",
         "image",
@@ -105,7 +101,7 @@ fn words_that_are_no_command(rt: HostRuntime) -> Result<(), Fail> {
 }
 
 #[test]
-fn reads_that_fail(rt: HostRuntime) -> Result<(), Fail> {
+fn a_failed_read_ends_the_run(rt: HostRuntime) -> Result<(), Fail> {
     for failing_read in 1..6 {
         let input = Vec::from_slice(rt.alloc(), ADD.as_bytes())?;
         let wanted = if failing_read < 3 {
@@ -128,7 +124,7 @@ fn reads_that_fail(rt: HostRuntime) -> Result<(), Fail> {
 }
 
 #[test]
-fn writes_that_fail(rt: HostRuntime) -> Result<(), Fail> {
+fn a_failed_write_ends_the_run(rt: HostRuntime) -> Result<(), Fail> {
     for (failing_write, told) in [
         (1, ""),
         (2, "b90"),
@@ -148,7 +144,7 @@ fn writes_that_fail(rt: HostRuntime) -> Result<(), Fail> {
 }
 
 #[test]
-fn images(rt: HostRuntime) -> Result<(), Fail> {
+fn images_are_written_or_refused(rt: HostRuntime) -> Result<(), Fail> {
     for (words, input, status, told) in [
         ("image 4096", ADD, Status::Ok, "b9040023b908002407fe\n"),
         (
@@ -309,42 +305,42 @@ pub fn expect_rows<R: Abort + AllocGlobal>(rt: &R, rows: &[(&str, &str)]) -> Res
 }
 
 #[test]
-fn operators(rt: HostRuntime) -> Result<(), Fail> {
+fn operators_have_their_code(rt: HostRuntime) -> Result<(), Fail> {
     expect_rows(&rt, &ARITHMETIC_ROWS)
 }
 
 #[test]
-fn parts_shifts_and_pairs(rt: HostRuntime) -> Result<(), Fail> {
+fn parts_shifts_and_pairs_have_their_code(rt: HostRuntime) -> Result<(), Fail> {
     expect_rows(&rt, &BIT_ROWS)
 }
 
 #[test]
-fn traps_and_divisions(rt: HostRuntime) -> Result<(), Fail> {
+fn traps_and_divisions_have_their_code(rt: HostRuntime) -> Result<(), Fail> {
     expect_rows(&rt, &STOP_ROWS)
 }
 
 #[test]
-fn moves_and_comparisons(rt: HostRuntime) -> Result<(), Fail> {
+fn moves_and_comparisons_have_their_code(rt: HostRuntime) -> Result<(), Fail> {
     expect_rows(&rt, &MOVE_ROWS)
 }
 
 #[test]
-fn operators_on_memory(rt: HostRuntime) -> Result<(), Fail> {
+fn operators_on_memory_have_their_code(rt: HostRuntime) -> Result<(), Fail> {
     expect_rows(&rt, &OPERAND_ROWS)
 }
 
 #[test]
-fn loads_and_stores(rt: HostRuntime) -> Result<(), Fail> {
+fn loads_and_stores_have_their_code(rt: HostRuntime) -> Result<(), Fail> {
     expect_rows(&rt, &ACCESS_ROWS)
 }
 
 #[test]
-fn helpers_before_accesses(rt: HostRuntime) -> Result<(), Fail> {
+fn helpers_come_before_accesses(rt: HostRuntime) -> Result<(), Fail> {
     expect_rows(&rt, &HELPED_ROWS)
 }
 
 #[test]
-fn offsets(rt: HostRuntime) -> Result<(), Fail> {
+fn offsets_are_put_where_they_fit(rt: HostRuntime) -> Result<(), Fail> {
     expect_rows(&rt, &OFFSET_ROWS)
 }
 
@@ -362,7 +358,7 @@ fn nested(alloc: Global, loops: usize) -> Result<Vec<u8>, Fail> {
 }
 
 #[test]
-fn nested_loops(rt: HostRuntime) -> Result<(), Fail> {
+fn nested_loops_have_a_limit(rt: HostRuntime) -> Result<(), Fail> {
     for (loops, status, told) in [
         (9, Status::Refused, "refused BadOperator\n"),
         (10, Status::Syntax, "syntax 11\n"),
@@ -374,7 +370,7 @@ fn nested_loops(rt: HostRuntime) -> Result<(), Fail> {
 }
 
 #[test]
-fn codes(rt: HostRuntime) -> Result<(), Fail> {
+fn codes_are_written_with_their_tables(rt: HostRuntime) -> Result<(), Fail> {
     for (input, status, told) in [
         (
             ADD,
@@ -425,103 +421,8 @@ fn codes(rt: HostRuntime) -> Result<(), Fail> {
     Ok(())
 }
 
-/// Relocations of each kind.
-fn relocs(alloc: Global) -> Result<Vec<RelocEntry>, Fail> {
-    let mut relocs = Vec::new(alloc);
-    for (offset, kind, name, addend) in [
-        (2, Reloc::S390xPLTRel32Dbl, 1, 2),
-        (8, Reloc::S390xPCRel32Dbl, 4294967295, -6),
-        (16, Reloc::Abs8, 0, -9223372036854775808),
-    ] {
-        let name = ExternalName(name);
-        relocs.push(RelocEntry {
-            offset,
-            kind,
-            name,
-            addend,
-        })?;
-    }
-    Ok(relocs)
-}
-
-/// Traps of each code.
-fn traps(alloc: Global, user: TrapCode) -> Result<Vec<TrapEntry>, Fail> {
-    let mut traps = Vec::new(alloc);
-    for (offset, code) in [
-        (0, TrapCode::STACK_OVERFLOW),
-        (1, TrapCode::INTEGER_OVERFLOW),
-        (2, TrapCode::HEAP_OUT_OF_BOUNDS),
-        (3, TrapCode::INTEGER_DIVISION_BY_ZERO),
-        (3, TrapCode::BAD_CONVERSION_TO_INTEGER),
-        (4, user),
-    ] {
-        traps.push(TrapEntry { offset, code })?;
-    }
-    Ok(traps)
-}
-
-/// Calls with two handlers, with one and with none.
-fn tries(alloc: Global) -> Result<Vec<TryEntry>, Fail> {
-    let tagged = HandlerEntry {
-        tag: Some(7),
-        offset: 14,
-    };
-    let other = HandlerEntry {
-        tag: None,
-        offset: 14,
-    };
-    let mut tries = Vec::new(alloc);
-    for handlers in [
-        Vec::from_slice(alloc, &[tagged, other])?,
-        Vec::from_slice(alloc, &[other])?,
-        Vec::new(alloc),
-    ] {
-        tries.push(TryEntry {
-            offset: 6,
-            frame: 160,
-            handlers,
-        })?;
-    }
-    Ok(tries)
-}
-
-/// A code with entries of each kind.
-fn full_code(alloc: Global, user: TrapCode) -> Result<MachBufferFinalized, Fail> {
-    Ok(MachBufferFinalized {
-        bytes: Vec::from_slice(alloc, &[0x07, 0xfe, 0x0a])?,
-        block_starts: Vec::from_slice(alloc, &[0, 12])?,
-        constant_starts: Vec::from_slice(alloc, &[2])?,
-        starts: Vec::from_slice(alloc, &[0, 6])?,
-        relocs: relocs(alloc)?,
-        traps: traps(alloc, user)?,
-        call_sites: Vec::from_slice(alloc, &[6, 4294967295])?,
-        try_call_sites: tries(alloc)?,
-        patchable_sites: Vec::from_slice(alloc, &[PatchEntry { offset: 6, len: 2 }])?,
-        stack_maps: Vec::from_slice(alloc, &[MapEntry { offset: 6, map: 9 }])?,
-        alignment: 16,
-    })
-}
-
 #[test]
-fn every_kind_of_entry(rt: HostRuntime) -> Result<(), Fail> {
-    let Some(user) = TrapCode::user(7) else {
-        return Err(Fail::from("no code"));
-    };
-    let code = full_code(rt.alloc(), user)?;
-    assert_eq!(rt;
-        emitted_text(rt.alloc(), &code)?.as_str(),
-        "code 07fe0a\nalign 16\nblock 0 0\nblock 1 12\nconst 0 2\n\
-         reloc 2 PLTRel32Dbl u1 2\nreloc 8 PCRel32Dbl u4294967295 -6\nreloc 16 Abs8 u0 -9223372036854775808\n\
-         trap 0 stk_ovf\ntrap 1 int_ovf\ntrap 2 heap_oob\ntrap 3 int_divz\ntrap 3 bad_toint\ntrap 4 user7\n\
-         call 6\ncall 4294967295\n\
-         try 6 160 [7:14,*:14]\ntry 6 160 [*:14]\ntry 6 160 []\n\
-         patch 6 2\nmap 6 9\n"
-    );
-    Ok(())
-}
-
-#[test]
-fn the_longest_input(rt: HostRuntime) -> Result<(), Fail> {
+fn the_input_has_a_limit(rt: HostRuntime) -> Result<(), Fail> {
     let input = vec![in rt.alloc(); 0u8; 16_777_216]?;
     expect(&rt, "image 0", input, GOOD, (Status::Syntax, "syntax 1\n"))?;
     let input = vec![in rt.alloc(); 0u8; 16_777_217]?;

@@ -1,11 +1,11 @@
-//! Worked images.
+//! Worked images, and what linking refuses.
 ghost use Rattle.std.specs.Prelude.{◌≤◌, IfOk, length};
 ghost use Rattle.std.specs.List.{All};
 ghost use Rattle.s390x_image.specs.Fields.{LiesIn};
 
-use crate::{Image, LinkError, SymbolTable, link};
 use s390x_base::{ExternalName, Reloc};
 use s390x_buffer::{MachBufferFinalized, RelocEntry};
+use s390x_image::{Image, LinkError, SymbolTable, link};
 use std::alloc::{AllocError, Global};
 use std::test::Fail;
 
@@ -68,7 +68,7 @@ fn linked(
 }
 
 #[test]
-fn links(rt: HostRuntime) -> Result<(), Fail> {
+fn fields_are_filled_or_linking_is_refused(rt: HostRuntime) -> Result<(), Fail> {
     let alloc = rt.alloc();
     let call = [0, 0, 0, 0, 8, 0, 0, 0, 0, 0, 0, 0, 0, 0, 0, 0];
     let absolute = [0, 0, 0, 0, 0, 0, 0, 0, 0, 1, 0, 0, 0, 0, 0, 0];
