@@ -4,6 +4,7 @@
 pub mod abi;
 pub mod args;
 pub mod calls;
+pub mod defaults;
 pub mod facility;
 pub mod function;
 pub mod inst;
