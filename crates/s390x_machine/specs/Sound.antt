@@ -104,22 +104,6 @@ is_vector_field Row.InsertElement i = i == 0
 is_vector_field Row.ExtractElement i = i == 2
 is_vector_field _ i = false
 
--- the row names a vector register
-abbrev pub is_vector : Meaning → Bool
-is_vector (Row.Elements opcode) = true
-is_vector (Row.ShiftElements opcode) = true
-is_vector (Row.LoadVector storage) = true
-is_vector (Row.StoreVector storage) = true
-is_vector (Row.LoadLeft size) = true
-is_vector (Row.StoreLeft size) = true
-is_vector (Row.MoveLeft size) = true
-is_vector Row.RegisterToLeft = true
-is_vector Row.LeftToRegister = true
-is_vector Row.JoinRegisters = true
-is_vector Row.InsertElement = true
-is_vector Row.ExtractElement = true
-is_vector _ = false
-
 -- how many registers there are of the kind that a field names
 abbrev pub register_bound : Bool → ℕ
 register_bound true = 32
@@ -164,6 +148,11 @@ pub record CanPerform (meaning : Meaning) (f : Fields) : Type 0 where
   pub registers : HasRegisters meaning f
   pub room : IsRoomy meaning f
   pub element : HasElement meaning f
+
+-- the step can perform what a row means with these fields
+pub record FieldsFit (meaning : Meaning) (f : Fields) : Type 0 where
+  pub can : CanPerform meaning f
+  pub paired : IsPaired meaning f
 
 -- an operation on vectors whose result isn't computed
 abbrev pub is_uncomputed : Option VectorOperation → Bool
