@@ -1,5 +1,5 @@
 -- What the machine's step needs of an operation so that registers can hold its results: numbers of registers that there are, and values of its size.
--- Each row with a meaning gives it (`are_performed`).
+-- Each row gives it (`are_performed`).
 use Rattle.std.specs.Prelude.{◌≡◌, ℕ, suc, ◌+◌, ◌==◌, ◌||◌, not, ℤ, pos, ◌*◌, ◌%◌, ◌^◌, ◌<◌, ◌≤◌, Bool, true, false, ◌&&◌, nat_le, nat_lt, List, [], ◌∷◌, Option, Some, None, IsTrue}
 use Rattle.s390x_format.specs.declared.fields.Fields.{Fields}
 use Rattle.s390x_format.specs.declared.kind.FormatKind.{FormatKind}
@@ -223,9 +223,9 @@ fits_field meaning format i = nat_le (width_of (suc i) (layout_of format)) (regi
 abbrev pub has_registers : Meaning → FormatKind → Bool
 has_registers meaning format = fits_field meaning format 0 && fits_field meaning format 1 && fits_field meaning format 2 && fits_field meaning format 3
 
--- the step can perform what a row means, if it means something
+-- the step can perform what a row means, and each row means something
 abbrev pub is_performed : Option Meaning → FormatKind → Allowed → Bool
-is_performed None format allowed = true
+is_performed None format allowed = false
 is_performed (Some meaning) format allowed = is_meant meaning format && has_registers meaning format && has_element meaning allowed
 
 -- the step can perform each row
