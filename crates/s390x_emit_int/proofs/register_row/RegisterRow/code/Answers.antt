@@ -6,7 +6,7 @@ use Rattle.s390x_format.specs.Encoded.{slots}
 use Rattle.s390x_steps.specs.MachineInstruction.{bytes_of}
 use Rattle.s390x_emit_int.specs.Alone.{instruction_of, can_encode}
 use Rattle.s390x_emit_int.proofs.Encoding.{matched}
-use Rattle.s390x_emit_int.proofs.alone.RegisterRow.code.Goals as goal
+use Rattle.s390x_emit_int.proofs.register_row.RegisterRow.code.Goals as goal
 
 pub returns-in-Rxy : goal.returns-in-Rxy
 returns-in-Rxy c =
