@@ -54,5 +54,7 @@ register_encodes r rx_opcode rxy_opcode ril_opcode h k = and_from (has_12_bits r
     let p = and_parts (takes_general rx_opcode) (takes_general rxy_opcode) h in
     and_from (is_general r && takes_general rx_opcode) (takes_general rxy_opcode) (and_from (is_general r) (takes_general rx_opcode) (one_general r g) p.0) p.1))
 
-pub two_encode : (a b : Reg) → (not (checked_general a && checked_general b) || (is_general a && is_general b)) ≡ true
-two_encode a b = implied (checked_general a && checked_general b) _ (λ g. let p = and_parts (checked_general a) (checked_general b) g in and_from (is_general a) (is_general b) (one_general a p.0) (one_general b p.1))
+pub two_encode : (a b : Reg) (t : Bool) → (not (checked_general a && checked_general b && t) || (is_general a && is_general b)) ≡ true
+two_encode a b t = implied (checked_general a && checked_general b && t) _ (λ g.
+    let p = and_parts (checked_general a) (checked_general b) (and_parts (checked_general a && checked_general b) t g).0 in
+    and_from (is_general a) (is_general b) (one_general a p.0) (one_general b p.1))

@@ -1,5 +1,5 @@
 -- The emitters of operands: what they read besides the operand, and why they refuse.
-use Rattle.std.specs.Prelude.{ℕ, ℤ, Bool, true, false, cond, not, ◌&&◌, ◌||◌, nat_eq, Option, Some, None}
+use Rattle.std.specs.Prelude.{ℕ, ℤ, Bool, true, false, cond, not, ◌&&◌, ◌||◌, nat_eq, nat_le, Option, Some, None}
 use Rattle.s390x_base.specs.Regs.{number_of}
 use Rattle.s390x_base.specs.declared.regs.Reg.{Reg}
 use Rattle.s390x_base.specs.declared.error.EmitError.{EmitError}
@@ -46,10 +46,19 @@ reads_registers (Some opcode) rd rn =
     (cond (nat_eq opcode 0xeb24) (holds_scratch rd rn)
     (cond (nat_eq opcode 0xeb14 || nat_eq opcode 0xeb30) (is_numbered 1 rd || is_numbered 1 rn) (is_numbered 1 rn)))
 
+-- the rows of a multiple load and a multiple store, which name the registers from the first to the last
+abbrev pub is_multiple : Option ℕ → Bool
+is_multiple None = false
+is_multiple (Some opcode) = nat_eq opcode 0xeb04 || nat_eq opcode 0xeb24
+
+-- both registers are real Int ones, and of a multiple load or store the first isn't above the last
+abbrev pub pair_valid : Option ℕ → (rd rn : Reg) → Bool
+pair_valid rsy_opcode rd rn = is_general rd && is_general rn && (not (is_multiple rsy_opcode) || nat_le (number_of rd) (number_of rn))
+
 -- two registers and an operand
 abbrev pub two_registers : (rd rn : Reg) → (rs_opcode rsy_opcode : Option ℕ) → (accesses : Bool) → MemArg → MemoryInstruction
 two_registers rd rn rs_opcode rsy_opcode accesses mem =
-    record { form = RsForm (number_of rd) (number_of rn) rs_opcode rsy_opcode; operand = mem; accesses = accesses; fine = is_general rd && is_general rn; reads_scratch = reads_registers rsy_opcode rd rn }
+    record { form = RsForm (number_of rd) (number_of rn) rs_opcode rsy_opcode; operand = mem; accesses = accesses; fine = pair_valid rsy_opcode rd rn; reads_scratch = reads_registers rsy_opcode rd rn }
 
 -- an immediate of 16 bits and an operand
 abbrev pub halfword_immediate : (imm : ℤ) → (sil_opcode : ℕ) → (accesses : Bool) → MemArg → MemoryInstruction

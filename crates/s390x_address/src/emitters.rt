@@ -9,7 +9,7 @@ ghost use Rattle.s390x_base.specs.Regs.{number_of};
 ghost use Rattle.s390x_steps.specs.Memory.{holds_scratch};
 ghost use Rattle.s390x_steps.specs.Parts.{memory_parts};
 ghost use Rattle.s390x_address.specs.Appended.{appended};
-ghost use Rattle.s390x_address.specs.Emitters.{emit_cause, loads_register, reads_register, reads_registers, one_register, two_registers, byte_immediate, halfword_immediate};
+ghost use Rattle.s390x_address.specs.Emitters.{emit_cause, loads_register, reads_register, reads_registers, is_multiple, pair_valid, one_register, two_registers, byte_immediate, halfword_immediate};
 ghost use Rattle.s390x_address.specs.Rows.{memory_of, in_state, may_encode, takes_general, has_12_bits};
 
 use crate::forms::is_numbered;
@@ -151,6 +151,23 @@ fn reads_registers(opcode_rsy: Option<u16>, rd: &Reg, rn: &Reg) -> bool
     }
 }
 
+// Whether the rows are those of a multiple load or a multiple store.
+fn is_multiple(opcode_rsy: Option<u16>) -> bool
+    ensures { result ≡ is_multiple opcode_rsy }
+{
+    match opcode_rsy {
+        Some(opcode) => opcode == 0xeb04 || opcode == 0xeb24,
+        None => false,
+    }
+}
+
+// Whether two registers may stand in the rows.
+fn is_valid_pair(opcode_rsy: Option<u16>, rd: &Reg, rn: &Reg) -> bool
+    ensures { result ≡ pair_valid opcode_rsy rd.now rn.now }
+{
+    general(rd) && general(rn) && (!is_multiple(opcode_rsy) || number(rd) <= number(rn))
+}
+
 /// Emits a row of format RX, RXY or RIL-B with a register and an operand, behind the helpers of the operand; where `add_trap` is true, the row
 /// accesses memory, and the flags' trap is recorded at it. The row of format RIL-B takes a label, a constant or a symbol, whose distance the
 /// buffer's end or, for a symbol, linking fills in.
@@ -196,7 +213,8 @@ pub fn mem_emit(
     emit_marking(&found, sink, state)
 }
 
-/// Emits a row of format RS or RSY with two registers and an operand, as `mem_emit` does; there is no index and no relative form.
+/// Emits a row of format RS or RSY with two registers and an operand, as `mem_emit` does; there is no index and no relative form. A multiple load or
+/// store (`0xeb04`, `0xeb24`) whose first register is above its last is refused by `BadRegister`, as `Inst::emit` does.
 #[tactic(auto, using(crate::proofs::Encoding::two_encode))]
 pub fn mem_rs_emit(
     _alloc: Global,
@@ -225,7 +243,7 @@ pub fn mem_rs_emit(
         },
         operand: *mem,
         accesses: add_trap,
-        fine: general(&rd) && general(&rn),
+        fine: is_valid_pair(opcode_rsy, &rd, &rn),
         reads_scratch: reads_registers(opcode_rsy, &rd, &rn),
     };
     emit_marking(&found, sink, state)

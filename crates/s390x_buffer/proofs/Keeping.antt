@@ -1,8 +1,8 @@
 -- What each change keeps, and that keeping goes on.
-use Rattle.std.proofs.Common.{◌≡◌, ℕ, zero, suc, ◌≢◌, List, [], ◌∷◌, ◌++◌, get_or, set, Option, Some, None, refl, sym, ap, ◌∙◌, subst}
-use Rattle.std.proofs.lemmas.List.{get_or-set_other}
+use Rattle.std.proofs.Common.{◌≡◌, ℕ, zero, suc, ◌+◌, ◌<◌, ◌≤◌, ◌≢◌, List, [], ◌∷◌, ◌++◌, length, get_or, set, Option, Some, None, refl, sym, ap, ◌∙◌, subst, arith}
+use Rattle.std.proofs.lemmas.List.{get_or-set_other, length-append, length-set}
 use Rattle.s390x_buffer.specs.State.{State, TryCallSite, marked}
-use Rattle.s390x_buffer.specs.Keeps.{Keeps, IsPrefix}
+use Rattle.s390x_buffer.specs.Keeps.{Keeps, KeepsEntries, KeepsOthers, IsPrefix}
 use Rattle.s390x_buffer.specs.declared.entries.LabelFixup.{LabelFixup}
 use Rattle.s390x_buffer.specs.declared.entries.TrapEntry.{TrapEntry}
 use Rattle.s390x_buffer.specs.declared.entries.RelocEntry.{RelocEntry}
@@ -25,8 +25,11 @@ prefix_on (x ∷ xs) (y ∷ ys) (z ∷ zs) p q =
     let r : IsPrefix xs zs = prefix_on xs ys zs (cc) (cc) in
     cc
 
-pub keeps_same : (s : State) → Keeps s s
-keeps_same s = record {
+same_count : (n : ℕ) → n ≤ n
+same_count n = omega arith
+
+entries_same : (s : State) → KeepsEntries s s
+entries_same s = record {
   bytes = prefix_refl s.bytes;
   uses = prefix_refl s.uses;
   traps = prefix_refl s.traps;
@@ -36,16 +39,19 @@ keeps_same s = record {
   patchable_sites = prefix_refl s.patchable_sites;
   stack_maps = prefix_refl s.stack_maps;
   starts = prefix_refl s.starts;
-  labels = λ l p h. h;
+  label_count = same_count (length s.labels);
   block_count = refl;
   constants = refl;
 }
 
-pub keeps_mark : (s t : State) → t ≡ marked s → Keeps s t
-keeps_mark s t e = subst (Keeps s) (sym e) (record (keeps_same s) { block_count = refl })
+pub keeps_same : (s : State) → Keeps s s
+keeps_same s = record { entries = entries_same s; labels = λ l lt. refl }
 
-pub keeps_on : (s t u : State) → Keeps s t → Keeps t u → Keeps s u
-keeps_on s t u a b = record {
+pub keeps_mark : (s t : State) → t ≡ marked s → Keeps s t
+keeps_mark s t e = subst (Keeps s) (sym e) (record { entries = record (entries_same s) { block_count = refl }; labels = λ l lt. refl })
+
+entries_on : (s t u : State) → KeepsEntries s t → KeepsEntries t u → KeepsEntries s u
+entries_on s t u a b = record {
   bytes = prefix_on _ t.bytes _ a.bytes b.bytes;
   uses = prefix_on _ t.uses _ a.uses b.uses;
   traps = prefix_on _ t.traps _ a.traps b.traps;
@@ -55,50 +61,70 @@ keeps_on s t u a b = record {
   patchable_sites = prefix_on _ t.patchable_sites _ a.patchable_sites b.patchable_sites;
   stack_maps = prefix_on _ t.stack_maps _ a.stack_maps b.stack_maps;
   starts = prefix_on _ t.starts _ a.starts b.starts;
-  labels = λ l p h. b.labels l p (a.labels l p h);
+  label_count = omega (arith, a.label_count, b.label_count);
   block_count = b.block_count ∙ a.block_count;
   constants = b.constants ∙ a.constants;
 }
 
+pub keeps_on : (s t u : State) → Keeps s t → Keeps t u → Keeps s u
+keeps_on s t u a b = record {
+  entries = entries_on s t u a.entries b.entries;
+  labels = λ l lt. b.labels l (omega (arith, lt, a.entries.label_count)) ∙ a.labels l lt;
+}
+
+other_label : (n label l : ℕ) → n ≤ label → l < n → l ≢ label
+other_label n label l le lt e = omega (arith, le, lt, e)
+
+-- where a label is bound that the first buffer didn't have
+pub keeps_bound : (s t u : State) (label : ℕ) → Keeps s t → length s.labels ≤ label → KeepsOthers label t u → Keeps s u
+keeps_bound s t u label a new b = record {
+  entries = entries_on s t u a.entries b.entries;
+  labels = λ l lt. b.labels l (omega (arith, lt, a.entries.label_count)) (other_label (length s.labels) label l new lt) ∙ a.labels l lt;
+}
+
 pub keeps_bytes : (s : State) (xs : List ℕ) → Keeps s (record s { bytes = s.bytes ++ xs })
-keeps_bytes s xs = record (keeps_same s) { bytes = prefix_more s.bytes xs }
+keeps_bytes s xs = record { entries = record (entries_same s) { bytes = prefix_more s.bytes xs }; labels = λ l lt. refl }
 
 pub keeps_uses : (s : State) (xs : List LabelFixup) → Keeps s (record s { uses = s.uses ++ xs })
-keeps_uses s xs = record (keeps_same s) { uses = prefix_more s.uses xs }
+keeps_uses s xs = record { entries = record (entries_same s) { uses = prefix_more s.uses xs }; labels = λ l lt. refl }
 
 pub keeps_traps : (s : State) (xs : List TrapEntry) → Keeps s (record s { traps = s.traps ++ xs })
-keeps_traps s xs = record (keeps_same s) { traps = prefix_more s.traps xs }
+keeps_traps s xs = record { entries = record (entries_same s) { traps = prefix_more s.traps xs }; labels = λ l lt. refl }
 
 pub keeps_relocs : (s : State) (xs : List RelocEntry) → Keeps s (record s { relocs = s.relocs ++ xs })
-keeps_relocs s xs = record (keeps_same s) { relocs = prefix_more s.relocs xs }
+keeps_relocs s xs = record { entries = record (entries_same s) { relocs = prefix_more s.relocs xs }; labels = λ l lt. refl }
 
 pub keeps_call_sites : (s : State) (xs : List ℕ) → Keeps s (record s { call_sites = s.call_sites ++ xs })
-keeps_call_sites s xs = record (keeps_same s) { call_sites = prefix_more s.call_sites xs }
+keeps_call_sites s xs = record { entries = record (entries_same s) { call_sites = prefix_more s.call_sites xs }; labels = λ l lt. refl }
 
 pub keeps_try_call_sites : (s : State) (xs : List TryCallSite) → Keeps s (record s { try_call_sites = s.try_call_sites ++ xs })
-keeps_try_call_sites s xs = record (keeps_same s) { try_call_sites = prefix_more s.try_call_sites xs }
+keeps_try_call_sites s xs = record { entries = record (entries_same s) { try_call_sites = prefix_more s.try_call_sites xs }; labels = λ l lt. refl }
 
 pub keeps_patchable_sites : (s : State) (xs : List PatchEntry) → Keeps s (record s { patchable_sites = s.patchable_sites ++ xs })
-keeps_patchable_sites s xs = record (keeps_same s) { patchable_sites = prefix_more s.patchable_sites xs }
+keeps_patchable_sites s xs = record { entries = record (entries_same s) { patchable_sites = prefix_more s.patchable_sites xs }; labels = λ l lt. refl }
 
 pub keeps_stack_maps : (s : State) (xs : List MapEntry) → Keeps s (record s { stack_maps = s.stack_maps ++ xs })
-keeps_stack_maps s xs = record (keeps_same s) { stack_maps = prefix_more s.stack_maps xs }
+keeps_stack_maps s xs = record { entries = record (entries_same s) { stack_maps = prefix_more s.stack_maps xs }; labels = λ l lt. refl }
 
 pub keeps_starts : (s : State) (xs : List ℕ) → Keeps s (record s { starts = s.starts ++ xs })
-keeps_starts s xs = record (keeps_same s) { starts = prefix_more s.starts xs }
+keeps_starts s xs = record { entries = record (entries_same s) { starts = prefix_more s.starts xs }; labels = λ l lt. refl }
 
-drawn_kept : (ls : List (Option ℕ)) (l p : ℕ) → get_or ls l None ≡ Some p → get_or (ls ++ None ∷ []) l None ≡ Some p
-drawn_kept [] l p h = absurd (cc)
-drawn_kept (x ∷ ls) zero p h = h
-drawn_kept (x ∷ ls) (suc l) p h = drawn_kept ls l p h
+drawn_kept : (ls : List (Option ℕ)) (l : ℕ) → l < length ls → get_or (ls ++ None ∷ []) l None ≡ get_or ls l None
+drawn_kept [] l lt = absurd (omega (arith, lt))
+drawn_kept (x ∷ ls) zero lt = refl
+drawn_kept (x ∷ ls) (suc l) lt = drawn_kept ls l (omega (arith, lt))
+
+more_labels : (ls : List (Option ℕ)) → length ls ≤ length (ls ++ None ∷ [])
+more_labels ls = omega (arith, length-append ls (None ∷ []))
 
 pub keeps_draw : (s : State) → Keeps s (record s { labels = s.labels ++ None ∷ [] })
-keeps_draw s = record (keeps_same s) { labels = drawn_kept s.labels }
+keeps_draw s = record { entries = record (entries_same s) { label_count = more_labels s.labels }; labels = drawn_kept s.labels }
 
-bound_kept : (ls : List (Option ℕ)) (b : ℕ) (v : Option ℕ) (l p : ℕ) → get_or ls b None ≡ None → get_or ls l None ≡ Some p → get_or (set ls b v) l None ≡ Some p
-bound_kept ls b v l p free h =
-    let ne : l ≢ b = λ e. absurd (let c : get_or ls b None ≡ Some p = ap (λ m. get_or ls m None) (sym e) ∙ h in cc) in
-    get_or-set_other ls b l v None ne ∙ h
+as_many : (ls : List (Option ℕ)) (b : ℕ) (v : Option ℕ) → length ls ≤ length (set ls b v)
+as_many ls b v = omega (arith, length-set ls b v)
 
-pub keeps_bind : (s : State) (b : ℕ) (v : Option ℕ) → get_or s.labels b None ≡ None → Keeps s (record s { labels = set s.labels b v })
-keeps_bind s b v free = record (keeps_same s) { labels = λ l p h. bound_kept s.labels b v l p free h }
+pub keeps_bind : (s : State) (b : ℕ) (v : Option ℕ) → KeepsOthers b s (record s { labels = set s.labels b v })
+keeps_bind s b v = record { entries = record (entries_same s) { label_count = as_many s.labels b v }; labels = λ l lt other. get_or-set_other s.labels b l v None other }
+
+pub others_mark : (s t : State) (b : ℕ) → t ≡ marked s → KeepsOthers b s t
+others_mark s t b e = let k = keeps_mark s t e in record { entries = k.entries; labels = λ l lt other. k.labels l lt }

@@ -3,7 +3,7 @@ ghost use Rattle.std.specs.Prelude.{◌≡◌, ◌+◌, ◌<◌, ◌≤◌, ◌+
 ghost use Rattle.std.specs.Int.{to_be_bytes, w32, w64};
 ghost use Rattle.s390x_buffer.specs.Branches.{BranchesLead};
 ghost use Rattle.s390x_buffer.specs.Finish.{length_cause, patch_cause, finish_cause, BlamesEither, Finished};
-ghost use Rattle.s390x_buffer.specs.Keeps.{Keeps};
+ghost use Rattle.s390x_buffer.specs.Keeps.{Keeps, KeepsOthers};
 ghost use Rattle.s390x_buffer.specs.State.{State, Blames, marked, mark_cause, put_cause, draw_cause, label_cause, handlers_cause, labels_below, constant_cause, new_cause, fresh, constant_of, constant_label, is_alignment, all_aligned, IsNoConstant, align_of, limit, label_limit};
 
 use crate::entries::{
@@ -315,7 +315,7 @@ impl MachBuffer {
         requires unbound { get_or self.old.labels label.0 None ≡ None }
         requires no_constant { IsNoConstant self.old label.0 }
         ensures answer { MatchResult result (λ _. (label_cause self.old label.0 ≡ None) × (self.new ≡ record self.old { labels = set self.old.labels label.0 (Some (length self.old.bytes)) })) (λ e. Blames (label_cause self.old label.0) e × (self.new ≡ marked self.old)) }
-        ensures kept { Keeps self.old self.new }
+        ensures kept { KeepsOthers label.0 self.old self.new }
     {
         if self.failed {
             return self.refuse(EmitError::Failed);

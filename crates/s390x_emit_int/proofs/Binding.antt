@@ -2,6 +2,8 @@
 use Rattle.std.proofs.Common.{◌≡◌, ℕ, ◌+◌, ◌<◌, ◌≤◌, ◌≢◌, [], ◌∷◌, ◌++◌, length, get_or, sym, ap, ◌∙◌, subst, arith, length-append, length-set, None, Some}
 use Rattle.std.proofs.lemmas.List.{get_or-set_other, get_or-set_same}
 use Rattle.s390x_buffer.specs.State.{State}
+use Rattle.s390x_buffer.specs.Keeps.{Keeps, KeepsOthers}
+use Rattle.s390x_buffer.proofs.Keeping.{keeps_on, keeps_bound}
 use Rattle.s390x_buffer.specs.Patch.{place_in, place_of}
 use Rattle.s390x_base.specs.Regs.{number_of}
 use Rattle.s390x_inst.specs.declared.inst.Inst.{Inst}
@@ -84,3 +86,7 @@ tree_bound (looped mask members rest) s n after off e tells =
     let outer = tree_bound rest s3 (n0 + 2 + draws members) after off n3 (λ l low hi. tellsu l (omega arith) hi) in
     let b3 : length s3.bytes ≡ length s.bytes + tree_size members + 6 = omega (arith, g3.bytes) in
     subst (λ x. Bound off x (length s.bytes) (looped mask members rest)) (sym e) (start_at, end_at, inner, subst (λ m. Bound off (n0 + 2 + draws members) m rest) b3 outer)
+
+-- a label that is drawn first, and bound behind another one, is none of those that stood
+pub bound_kept : (s first second bound : State) (label : ℕ) → Keeps s first → Keeps first second → label ≡ length s.labels → KeepsOthers label second bound → Keeps s bound
+bound_kept s first second bound label a b e k = keeps_bound s second bound label (keeps_on s first second a b) (omega (arith, e)) k

@@ -25,7 +25,6 @@ use std::alloc::Global;
 /// Appends bytes. Refused by `Failed` where the buffer bears the mark, and by `LabelOutOfRange` where the length would reach 2^31;
 /// the buffer is marked then (cranelift-codegen, `emit.rs`, `put`).
 pub fn put(sink: &mut MachBuffer, enc: &[u8]) -> Result<(), EmitError>
-    requires { 0 < length enc.now }
     ensures answer { MatchResult result (λ _. (put_cause sink.old (length enc.now) ≡ None) × (sink.new ≡ apply sink.old (Put enc.now))) (λ e. Blames (put_cause sink.old (length enc.now)) e × (sink.new ≡ marked sink.old)) }
     ensures kept { Keeps sink.old sink.new }
 {

@@ -25,7 +25,7 @@ loop-block-preserved c =
       ranges = λ f. c.loop-block.invariant.ranges (block_ranges c.args.state.now c.args.blocks.now k v c.deref.result.now (omega arith) c.block-item.is c.deref.ensures.value c.in_ok-emit_members.ensures.ranges f);
       passed = λ flags put cause. others_passed c.args.state.now flags c.args.blocks.now k (declared_in c.args.sink.now) v s s1 s2 (omega arith) c.block-item.is e1 e2 (c.loop-block.invariant.passed flags put cause);
       label = omega (arith, c.loop-block.invariant.label);
-      count = c.emit_members.ensures.kept.block_count ∙ c.bind_label.ensures.kept.block_count ∙ c.loop-block.invariant.count;
+      count = c.emit_members.ensures.kept.entries.block_count ∙ c.bind_label.ensures.kept.entries.block_count ∙ c.loop-block.invariant.count;
       room = block_room k (tree_of c.args.state.now v) s s1 s2 c.loop-block.invariant.room e1 e2;
       free = next.free;
     }

@@ -1,5 +1,6 @@
 use Rattle.std.proofs.Common.{length, arith, ap, sym, ◌∙◌, subst, drop, ◌+◌, ◌≡◌}
-use Rattle.s390x_buffer.proofs.Keeping.{keeps_on}
+use Rattle.s390x_buffer.proofs.Keeping.{keeps_on, keeps_bound}
+use Rattle.s390x_emit_int.proofs.Binding.{bound_kept}
 use Rattle.s390x_steps.specs.Resolved.{resolved_instruction}
 use Rattle.s390x_steps.specs.Tree.{empty, looped, tree}
 use Rattle.s390x_steps.proofs.Trees.{graft_loop, not_loop}
@@ -82,7 +83,9 @@ emit_loop-returns-clause-answer t c =
 
 pub emit_loop-returns-clause-kept : goal.emit_loop-returns-clause-kept
 emit_loop-returns-clause-kept t c =
-    keeps_on _ _ _ c.get_label.ensures.kept (keeps_on _ _ _ c.get_label-2.ensures.kept (keeps_on _ _ _ c.bind_label.ensures.kept (keeps_on _ _ _ c.emit_members.ensures.kept (keeps_on _ _ _ c.start_step.ensures.kept (keeps_on _ _ _ c.put_branch.ensures.kept c.bind_label-2.ensures.kept)))))
+    let begun = bound_kept c.args.sink.now c.get_label.new.self c.get_label-2.new.self c.bind_label.new.self c.in_ok-start.start.0 c.get_label.ensures.kept c.get_label-2.ensures.kept c.in_ok-start.ensures.answer.1 c.bind_label.ensures.kept in
+    let branched = keeps_on _ _ _ begun (keeps_on _ _ _ c.emit_members.ensures.kept (keeps_on _ _ _ c.start_step.ensures.kept c.put_branch.ensures.kept)) in
+    keeps_bound _ _ _ _ branched (omega (arith, c.get_label.ensures.kept.entries.label_count, c.in_ok-end.ensures.answer.1)) c.bind_label-2.ensures.kept
 
 pub emit_members-returns-in_err-emit_inst-clause-lacks : goal.emit_members-returns-in_err-emit_inst-clause-lacks
 emit_members-returns-in_err-emit_inst-clause-lacks t c = λ flags depth p.
@@ -101,7 +104,21 @@ emit_loop-returns-in_err-put_branch-clause-lacks t c = λ flags depth after p.
 
 pub emit_loop-returns-in_err-put_branch-clause-kept : goal.emit_loop-returns-in_err-put_branch-clause-kept
 emit_loop-returns-in_err-put_branch-clause-kept t c =
-    keeps_on _ _ _ c.get_label.ensures.kept (keeps_on _ _ _ c.get_label-2.ensures.kept (keeps_on _ _ _ c.bind_label.ensures.kept (keeps_on _ _ _ c.emit_members.ensures.kept (keeps_on _ _ _ c.start_step.ensures.kept c.put_branch.ensures.kept))))
+    let begun = bound_kept c.args.sink.now c.get_label.new.self c.get_label-2.new.self c.bind_label.new.self c.in_ok-start.start.0 c.get_label.ensures.kept c.get_label-2.ensures.kept c.in_ok-start.ensures.answer.1 c.bind_label.ensures.kept in
+    keeps_on _ _ _ begun (keeps_on _ _ _ c.emit_members.ensures.kept (keeps_on _ _ _ c.start_step.ensures.kept c.put_branch.ensures.kept))
+
+pub emit_loop-returns-in_err-start_step-clause-kept : goal.emit_loop-returns-in_err-start_step-clause-kept
+emit_loop-returns-in_err-start_step-clause-kept t c =
+    let begun = bound_kept c.args.sink.now c.get_label.new.self c.get_label-2.new.self c.bind_label.new.self c.in_ok-start.start.0 c.get_label.ensures.kept c.get_label-2.ensures.kept c.in_ok-start.ensures.answer.1 c.bind_label.ensures.kept in
+    keeps_on _ _ _ begun (keeps_on _ _ _ c.emit_members.ensures.kept c.start_step.ensures.kept)
+
+pub emit_loop-returns-in_err-emit_members-clause-kept : goal.emit_loop-returns-in_err-emit_members-clause-kept
+emit_loop-returns-in_err-emit_members-clause-kept t c =
+    let begun = bound_kept c.args.sink.now c.get_label.new.self c.get_label-2.new.self c.bind_label.new.self c.in_ok-start.start.0 c.get_label.ensures.kept c.get_label-2.ensures.kept c.in_ok-start.ensures.answer.1 c.bind_label.ensures.kept in
+    keeps_on _ _ _ begun c.emit_members.ensures.kept
+
+pub emit_loop-returns-in_err-bind_label-clause-kept : goal.emit_loop-returns-in_err-bind_label-clause-kept
+emit_loop-returns-in_err-bind_label-clause-kept t c = bound_kept c.args.sink.now c.get_label.new.self c.get_label-2.new.self c.bind_label.new.self c.in_ok-start.start.0 c.get_label.ensures.kept c.get_label-2.ensures.kept c.in_ok-start.ensures.answer.1 c.bind_label.ensures.kept
 
 pub emit_loop-returns-clause-lacks : goal.emit_loop-returns-clause-lacks
 emit_loop-returns-clause-lacks t c = λ flags depth after p.
