@@ -47,8 +47,15 @@ entries_same s = record {
 pub keeps_same : (s : State) → Keeps s s
 keeps_same s = record { entries = entries_same s; labels = λ l lt. refl }
 
+entries_mark : (s : State) → KeepsEntries s (marked s)
+entries_mark s = record {
+  bytes = prefix_refl s.bytes; uses = prefix_refl s.uses; traps = prefix_refl s.traps; relocs = prefix_refl s.relocs; call_sites = prefix_refl s.call_sites;
+  try_call_sites = prefix_refl s.try_call_sites; patchable_sites = prefix_refl s.patchable_sites; stack_maps = prefix_refl s.stack_maps; starts = prefix_refl s.starts;
+  label_count = same_count (length s.labels); block_count = refl; constants = refl;
+}
+
 pub keeps_mark : (s t : State) → t ≡ marked s → Keeps s t
-keeps_mark s t e = subst (Keeps s) (sym e) (record { entries = record (entries_same s) { block_count = refl }; labels = λ l lt. refl })
+keeps_mark s t e = subst (Keeps s) (sym e) (record { entries = entries_mark s; labels = λ l lt. refl })
 
 entries_on : (s t u : State) → KeepsEntries s t → KeepsEntries t u → KeepsEntries s u
 entries_on s t u a b = record {
@@ -82,32 +89,95 @@ keeps_bound s t u label a new b = record {
   labels = λ l lt. b.labels l (omega (arith, lt, a.entries.label_count)) (other_label (length s.labels) label l new lt) ∙ a.labels l lt;
 }
 
+entries_bytes : (s : State) (xs : List ℕ) → KeepsEntries s (record s { bytes = s.bytes ++ xs })
+entries_bytes s xs = record {
+  bytes = prefix_more s.bytes xs; uses = prefix_refl s.uses; traps = prefix_refl s.traps; relocs = prefix_refl s.relocs; call_sites = prefix_refl s.call_sites;
+  try_call_sites = prefix_refl s.try_call_sites; patchable_sites = prefix_refl s.patchable_sites; stack_maps = prefix_refl s.stack_maps; starts = prefix_refl s.starts;
+  label_count = same_count (length s.labels); block_count = refl; constants = refl;
+}
+
 pub keeps_bytes : (s : State) (xs : List ℕ) → Keeps s (record s { bytes = s.bytes ++ xs })
-keeps_bytes s xs = record { entries = record (entries_same s) { bytes = prefix_more s.bytes xs }; labels = λ l lt. refl }
+keeps_bytes s xs = record { entries = entries_bytes s xs; labels = λ l lt. refl }
+
+entries_uses : (s : State) (xs : List LabelFixup) → KeepsEntries s (record s { uses = s.uses ++ xs })
+entries_uses s xs = record {
+  bytes = prefix_refl s.bytes; uses = prefix_more s.uses xs; traps = prefix_refl s.traps; relocs = prefix_refl s.relocs; call_sites = prefix_refl s.call_sites;
+  try_call_sites = prefix_refl s.try_call_sites; patchable_sites = prefix_refl s.patchable_sites; stack_maps = prefix_refl s.stack_maps; starts = prefix_refl s.starts;
+  label_count = same_count (length s.labels); block_count = refl; constants = refl;
+}
 
 pub keeps_uses : (s : State) (xs : List LabelFixup) → Keeps s (record s { uses = s.uses ++ xs })
-keeps_uses s xs = record { entries = record (entries_same s) { uses = prefix_more s.uses xs }; labels = λ l lt. refl }
+keeps_uses s xs = record { entries = entries_uses s xs; labels = λ l lt. refl }
+
+entries_traps : (s : State) (xs : List TrapEntry) → KeepsEntries s (record s { traps = s.traps ++ xs })
+entries_traps s xs = record {
+  bytes = prefix_refl s.bytes; uses = prefix_refl s.uses; traps = prefix_more s.traps xs; relocs = prefix_refl s.relocs; call_sites = prefix_refl s.call_sites;
+  try_call_sites = prefix_refl s.try_call_sites; patchable_sites = prefix_refl s.patchable_sites; stack_maps = prefix_refl s.stack_maps; starts = prefix_refl s.starts;
+  label_count = same_count (length s.labels); block_count = refl; constants = refl;
+}
 
 pub keeps_traps : (s : State) (xs : List TrapEntry) → Keeps s (record s { traps = s.traps ++ xs })
-keeps_traps s xs = record { entries = record (entries_same s) { traps = prefix_more s.traps xs }; labels = λ l lt. refl }
+keeps_traps s xs = record { entries = entries_traps s xs; labels = λ l lt. refl }
+
+entries_relocs : (s : State) (xs : List RelocEntry) → KeepsEntries s (record s { relocs = s.relocs ++ xs })
+entries_relocs s xs = record {
+  bytes = prefix_refl s.bytes; uses = prefix_refl s.uses; traps = prefix_refl s.traps; relocs = prefix_more s.relocs xs; call_sites = prefix_refl s.call_sites;
+  try_call_sites = prefix_refl s.try_call_sites; patchable_sites = prefix_refl s.patchable_sites; stack_maps = prefix_refl s.stack_maps; starts = prefix_refl s.starts;
+  label_count = same_count (length s.labels); block_count = refl; constants = refl;
+}
 
 pub keeps_relocs : (s : State) (xs : List RelocEntry) → Keeps s (record s { relocs = s.relocs ++ xs })
-keeps_relocs s xs = record { entries = record (entries_same s) { relocs = prefix_more s.relocs xs }; labels = λ l lt. refl }
+keeps_relocs s xs = record { entries = entries_relocs s xs; labels = λ l lt. refl }
+
+entries_call_sites : (s : State) (xs : List ℕ) → KeepsEntries s (record s { call_sites = s.call_sites ++ xs })
+entries_call_sites s xs = record {
+  bytes = prefix_refl s.bytes; uses = prefix_refl s.uses; traps = prefix_refl s.traps; relocs = prefix_refl s.relocs; call_sites = prefix_more s.call_sites xs;
+  try_call_sites = prefix_refl s.try_call_sites; patchable_sites = prefix_refl s.patchable_sites; stack_maps = prefix_refl s.stack_maps; starts = prefix_refl s.starts;
+  label_count = same_count (length s.labels); block_count = refl; constants = refl;
+}
 
 pub keeps_call_sites : (s : State) (xs : List ℕ) → Keeps s (record s { call_sites = s.call_sites ++ xs })
-keeps_call_sites s xs = record { entries = record (entries_same s) { call_sites = prefix_more s.call_sites xs }; labels = λ l lt. refl }
+keeps_call_sites s xs = record { entries = entries_call_sites s xs; labels = λ l lt. refl }
+
+entries_try_call_sites : (s : State) (xs : List TryCallSite) → KeepsEntries s (record s { try_call_sites = s.try_call_sites ++ xs })
+entries_try_call_sites s xs = record {
+  bytes = prefix_refl s.bytes; uses = prefix_refl s.uses; traps = prefix_refl s.traps; relocs = prefix_refl s.relocs; call_sites = prefix_refl s.call_sites;
+  try_call_sites = prefix_more s.try_call_sites xs; patchable_sites = prefix_refl s.patchable_sites; stack_maps = prefix_refl s.stack_maps; starts = prefix_refl s.starts;
+  label_count = same_count (length s.labels); block_count = refl; constants = refl;
+}
 
 pub keeps_try_call_sites : (s : State) (xs : List TryCallSite) → Keeps s (record s { try_call_sites = s.try_call_sites ++ xs })
-keeps_try_call_sites s xs = record { entries = record (entries_same s) { try_call_sites = prefix_more s.try_call_sites xs }; labels = λ l lt. refl }
+keeps_try_call_sites s xs = record { entries = entries_try_call_sites s xs; labels = λ l lt. refl }
+
+entries_patchable_sites : (s : State) (xs : List PatchEntry) → KeepsEntries s (record s { patchable_sites = s.patchable_sites ++ xs })
+entries_patchable_sites s xs = record {
+  bytes = prefix_refl s.bytes; uses = prefix_refl s.uses; traps = prefix_refl s.traps; relocs = prefix_refl s.relocs; call_sites = prefix_refl s.call_sites;
+  try_call_sites = prefix_refl s.try_call_sites; patchable_sites = prefix_more s.patchable_sites xs; stack_maps = prefix_refl s.stack_maps; starts = prefix_refl s.starts;
+  label_count = same_count (length s.labels); block_count = refl; constants = refl;
+}
 
 pub keeps_patchable_sites : (s : State) (xs : List PatchEntry) → Keeps s (record s { patchable_sites = s.patchable_sites ++ xs })
-keeps_patchable_sites s xs = record { entries = record (entries_same s) { patchable_sites = prefix_more s.patchable_sites xs }; labels = λ l lt. refl }
+keeps_patchable_sites s xs = record { entries = entries_patchable_sites s xs; labels = λ l lt. refl }
+
+entries_stack_maps : (s : State) (xs : List MapEntry) → KeepsEntries s (record s { stack_maps = s.stack_maps ++ xs })
+entries_stack_maps s xs = record {
+  bytes = prefix_refl s.bytes; uses = prefix_refl s.uses; traps = prefix_refl s.traps; relocs = prefix_refl s.relocs; call_sites = prefix_refl s.call_sites;
+  try_call_sites = prefix_refl s.try_call_sites; patchable_sites = prefix_refl s.patchable_sites; stack_maps = prefix_more s.stack_maps xs; starts = prefix_refl s.starts;
+  label_count = same_count (length s.labels); block_count = refl; constants = refl;
+}
 
 pub keeps_stack_maps : (s : State) (xs : List MapEntry) → Keeps s (record s { stack_maps = s.stack_maps ++ xs })
-keeps_stack_maps s xs = record { entries = record (entries_same s) { stack_maps = prefix_more s.stack_maps xs }; labels = λ l lt. refl }
+keeps_stack_maps s xs = record { entries = entries_stack_maps s xs; labels = λ l lt. refl }
+
+entries_starts : (s : State) (xs : List ℕ) → KeepsEntries s (record s { starts = s.starts ++ xs })
+entries_starts s xs = record {
+  bytes = prefix_refl s.bytes; uses = prefix_refl s.uses; traps = prefix_refl s.traps; relocs = prefix_refl s.relocs; call_sites = prefix_refl s.call_sites;
+  try_call_sites = prefix_refl s.try_call_sites; patchable_sites = prefix_refl s.patchable_sites; stack_maps = prefix_refl s.stack_maps; starts = prefix_more s.starts xs;
+  label_count = same_count (length s.labels); block_count = refl; constants = refl;
+}
 
 pub keeps_starts : (s : State) (xs : List ℕ) → Keeps s (record s { starts = s.starts ++ xs })
-keeps_starts s xs = record { entries = record (entries_same s) { starts = prefix_more s.starts xs }; labels = λ l lt. refl }
+keeps_starts s xs = record { entries = entries_starts s xs; labels = λ l lt. refl }
 
 drawn_kept : (ls : List (Option ℕ)) (l : ℕ) → l < length ls → get_or (ls ++ None ∷ []) l None ≡ get_or ls l None
 drawn_kept [] l lt = absurd (omega (arith, lt))
@@ -117,14 +187,28 @@ drawn_kept (x ∷ ls) (suc l) lt = drawn_kept ls l (omega (arith, lt))
 more_labels : (ls : List (Option ℕ)) → length ls ≤ length (ls ++ None ∷ [])
 more_labels ls = omega (arith, length-append ls (None ∷ []))
 
+entries_draw : (s : State) → KeepsEntries s (record s { labels = s.labels ++ None ∷ [] })
+entries_draw s = record {
+  bytes = prefix_refl s.bytes; uses = prefix_refl s.uses; traps = prefix_refl s.traps; relocs = prefix_refl s.relocs; call_sites = prefix_refl s.call_sites;
+  try_call_sites = prefix_refl s.try_call_sites; patchable_sites = prefix_refl s.patchable_sites; stack_maps = prefix_refl s.stack_maps; starts = prefix_refl s.starts;
+  label_count = more_labels s.labels; block_count = refl; constants = refl;
+}
+
 pub keeps_draw : (s : State) → Keeps s (record s { labels = s.labels ++ None ∷ [] })
-keeps_draw s = record { entries = record (entries_same s) { label_count = more_labels s.labels }; labels = drawn_kept s.labels }
+keeps_draw s = record { entries = entries_draw s; labels = drawn_kept s.labels }
 
 as_many : (ls : List (Option ℕ)) (b : ℕ) (v : Option ℕ) → length ls ≤ length (set ls b v)
 as_many ls b v = omega (arith, length-set ls b v)
 
+entries_bind : (s : State) (b : ℕ) (v : Option ℕ) → KeepsEntries s (record s { labels = set s.labels b v })
+entries_bind s b v = record {
+  bytes = prefix_refl s.bytes; uses = prefix_refl s.uses; traps = prefix_refl s.traps; relocs = prefix_refl s.relocs; call_sites = prefix_refl s.call_sites;
+  try_call_sites = prefix_refl s.try_call_sites; patchable_sites = prefix_refl s.patchable_sites; stack_maps = prefix_refl s.stack_maps; starts = prefix_refl s.starts;
+  label_count = as_many s.labels b v; block_count = refl; constants = refl;
+}
+
 pub keeps_bind : (s : State) (b : ℕ) (v : Option ℕ) → KeepsOthers b s (record s { labels = set s.labels b v })
-keeps_bind s b v = record { entries = record (entries_same s) { label_count = as_many s.labels b v }; labels = λ l lt other. get_or-set_other s.labels b l v None other }
+keeps_bind s b v = record { entries = entries_bind s b v; labels = λ l lt other. get_or-set_other s.labels b l v None other }
 
 pub others_mark : (s t : State) (b : ℕ) → t ≡ marked s → KeepsOthers b s t
 others_mark s t b e = let k = keeps_mark s t e in record { entries = k.entries; labels = λ l lt other. k.labels l lt }
