@@ -122,7 +122,8 @@ Stands D f = AllStand D f.helpers × (may_stand D f.operand ≡ true)
 based_stands : (reg : Reg) → is_general reg ≡ true → (is_general reg && true && true) ≡ true
 based_stands reg h = and_from (is_general reg && true) true (and_from (is_general reg) true h refl) refl
 
-chosen_stands : (D : Declared) (reg : Reg) (off : ℤ) (flags : MachMemFlags) (a b c : Bool) → is_general reg ≡ true → Stands D (cond a (record { helpers = []; operand = BXD12 reg no_register (unsigned_abs off) flags }) (cond b (record { helpers = []; operand = BXD20 reg no_register off flags }) (cond c (record { helpers = Mov64SImm32 scratch off ∷ []; operand = BXD12 reg scratch 0 flags }) (record { helpers = []; operand = RegOffset reg off flags }))))
+chosen_stands : (D : Declared) (reg : Reg) (off : ℤ) (flags : MachMemFlags) (a b c : Bool) → is_general reg ≡ true →
+    Stands D (cond a (record { helpers = []; operand = BXD12 reg no_register (unsigned_abs off) flags }) (cond b (record { helpers = []; operand = BXD20 reg no_register off flags }) (cond c (record { helpers = Mov64SImm32 scratch off ∷ []; operand = BXD12 reg scratch 0 flags }) (record { helpers = []; operand = RegOffset reg off flags }))))
 unfolding AllStand helper_stands
 chosen_stands D reg off flags true b c h = (tt, based_stands reg h)
 chosen_stands D reg off flags false true c h = (tt, based_stands reg h)

@@ -41,5 +41,5 @@ impl EmitError {
 }
 
 /// The error of a call that refuses for want of memory alone.
-#[derive(Clone, Copy, PartialEq, Eq, Debug)]
+#[derive(Clone, Copy, Debug)]
 pub struct NoMemory;

@@ -143,7 +143,7 @@ impl MachMemFlags {
 }
 
 /// A constant that stands behind the code.
-#[derive(Debug, Drop)]
+#[derive(Drop)]
 pub struct ConstantData {
     pub bytes: Vec<u8>,
     /// The alignment in bytes: 1, 2, 4, 8 or 16.

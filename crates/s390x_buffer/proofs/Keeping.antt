@@ -26,10 +26,23 @@ prefix_on (x ∷ xs) (y ∷ ys) (z ∷ zs) p q =
     cc
 
 pub keeps_same : (s : State) → Keeps s s
-keeps_same s = record { bytes = prefix_refl s.bytes; uses = prefix_refl s.uses; traps = prefix_refl s.traps; relocs = prefix_refl s.relocs; call_sites = prefix_refl s.call_sites; try_call_sites = prefix_refl s.try_call_sites; patchable_sites = prefix_refl s.patchable_sites; stack_maps = prefix_refl s.stack_maps; starts = prefix_refl s.starts; labels = λ l p h. h; block_count = refl; constants = refl }
+keeps_same s = record {
+  bytes = prefix_refl s.bytes;
+  uses = prefix_refl s.uses;
+  traps = prefix_refl s.traps;
+  relocs = prefix_refl s.relocs;
+  call_sites = prefix_refl s.call_sites;
+  try_call_sites = prefix_refl s.try_call_sites;
+  patchable_sites = prefix_refl s.patchable_sites;
+  stack_maps = prefix_refl s.stack_maps;
+  starts = prefix_refl s.starts;
+  labels = λ l p h. h;
+  block_count = refl;
+  constants = refl;
+}
 
 pub keeps_mark : (s t : State) → t ≡ marked s → Keeps s t
-keeps_mark s t e = subst (Keeps s) (sym e) (record { bytes = prefix_refl s.bytes; uses = prefix_refl s.uses; traps = prefix_refl s.traps; relocs = prefix_refl s.relocs; call_sites = prefix_refl s.call_sites; try_call_sites = prefix_refl s.try_call_sites; patchable_sites = prefix_refl s.patchable_sites; stack_maps = prefix_refl s.stack_maps; starts = prefix_refl s.starts; labels = λ l p h. h; block_count = refl; constants = refl })
+keeps_mark s t e = subst (Keeps s) (sym e) (record (keeps_same s) { block_count = refl })
 
 pub keeps_on : (s t u : State) → Keeps s t → Keeps t u → Keeps s u
 keeps_on s t u a b = record {
@@ -48,31 +61,31 @@ keeps_on s t u a b = record {
 }
 
 pub keeps_bytes : (s : State) (xs : List ℕ) → Keeps s (record s { bytes = s.bytes ++ xs })
-keeps_bytes s xs = record { bytes = prefix_more s.bytes xs; uses = prefix_refl s.uses; traps = prefix_refl s.traps; relocs = prefix_refl s.relocs; call_sites = prefix_refl s.call_sites; try_call_sites = prefix_refl s.try_call_sites; patchable_sites = prefix_refl s.patchable_sites; stack_maps = prefix_refl s.stack_maps; starts = prefix_refl s.starts; labels = λ l p h. h; block_count = refl; constants = refl }
+keeps_bytes s xs = record (keeps_same s) { bytes = prefix_more s.bytes xs }
 
 pub keeps_uses : (s : State) (xs : List LabelFixup) → Keeps s (record s { uses = s.uses ++ xs })
-keeps_uses s xs = record { bytes = prefix_refl s.bytes; uses = prefix_more s.uses xs; traps = prefix_refl s.traps; relocs = prefix_refl s.relocs; call_sites = prefix_refl s.call_sites; try_call_sites = prefix_refl s.try_call_sites; patchable_sites = prefix_refl s.patchable_sites; stack_maps = prefix_refl s.stack_maps; starts = prefix_refl s.starts; labels = λ l p h. h; block_count = refl; constants = refl }
+keeps_uses s xs = record (keeps_same s) { uses = prefix_more s.uses xs }
 
 pub keeps_traps : (s : State) (xs : List TrapEntry) → Keeps s (record s { traps = s.traps ++ xs })
-keeps_traps s xs = record { bytes = prefix_refl s.bytes; uses = prefix_refl s.uses; traps = prefix_more s.traps xs; relocs = prefix_refl s.relocs; call_sites = prefix_refl s.call_sites; try_call_sites = prefix_refl s.try_call_sites; patchable_sites = prefix_refl s.patchable_sites; stack_maps = prefix_refl s.stack_maps; starts = prefix_refl s.starts; labels = λ l p h. h; block_count = refl; constants = refl }
+keeps_traps s xs = record (keeps_same s) { traps = prefix_more s.traps xs }
 
 pub keeps_relocs : (s : State) (xs : List RelocEntry) → Keeps s (record s { relocs = s.relocs ++ xs })
-keeps_relocs s xs = record { bytes = prefix_refl s.bytes; uses = prefix_refl s.uses; traps = prefix_refl s.traps; relocs = prefix_more s.relocs xs; call_sites = prefix_refl s.call_sites; try_call_sites = prefix_refl s.try_call_sites; patchable_sites = prefix_refl s.patchable_sites; stack_maps = prefix_refl s.stack_maps; starts = prefix_refl s.starts; labels = λ l p h. h; block_count = refl; constants = refl }
+keeps_relocs s xs = record (keeps_same s) { relocs = prefix_more s.relocs xs }
 
 pub keeps_call_sites : (s : State) (xs : List ℕ) → Keeps s (record s { call_sites = s.call_sites ++ xs })
-keeps_call_sites s xs = record { bytes = prefix_refl s.bytes; uses = prefix_refl s.uses; traps = prefix_refl s.traps; relocs = prefix_refl s.relocs; call_sites = prefix_more s.call_sites xs; try_call_sites = prefix_refl s.try_call_sites; patchable_sites = prefix_refl s.patchable_sites; stack_maps = prefix_refl s.stack_maps; starts = prefix_refl s.starts; labels = λ l p h. h; block_count = refl; constants = refl }
+keeps_call_sites s xs = record (keeps_same s) { call_sites = prefix_more s.call_sites xs }
 
 pub keeps_try_call_sites : (s : State) (xs : List TryCallSite) → Keeps s (record s { try_call_sites = s.try_call_sites ++ xs })
-keeps_try_call_sites s xs = record { bytes = prefix_refl s.bytes; uses = prefix_refl s.uses; traps = prefix_refl s.traps; relocs = prefix_refl s.relocs; call_sites = prefix_refl s.call_sites; try_call_sites = prefix_more s.try_call_sites xs; patchable_sites = prefix_refl s.patchable_sites; stack_maps = prefix_refl s.stack_maps; starts = prefix_refl s.starts; labels = λ l p h. h; block_count = refl; constants = refl }
+keeps_try_call_sites s xs = record (keeps_same s) { try_call_sites = prefix_more s.try_call_sites xs }
 
 pub keeps_patchable_sites : (s : State) (xs : List PatchEntry) → Keeps s (record s { patchable_sites = s.patchable_sites ++ xs })
-keeps_patchable_sites s xs = record { bytes = prefix_refl s.bytes; uses = prefix_refl s.uses; traps = prefix_refl s.traps; relocs = prefix_refl s.relocs; call_sites = prefix_refl s.call_sites; try_call_sites = prefix_refl s.try_call_sites; patchable_sites = prefix_more s.patchable_sites xs; stack_maps = prefix_refl s.stack_maps; starts = prefix_refl s.starts; labels = λ l p h. h; block_count = refl; constants = refl }
+keeps_patchable_sites s xs = record (keeps_same s) { patchable_sites = prefix_more s.patchable_sites xs }
 
 pub keeps_stack_maps : (s : State) (xs : List MapEntry) → Keeps s (record s { stack_maps = s.stack_maps ++ xs })
-keeps_stack_maps s xs = record { bytes = prefix_refl s.bytes; uses = prefix_refl s.uses; traps = prefix_refl s.traps; relocs = prefix_refl s.relocs; call_sites = prefix_refl s.call_sites; try_call_sites = prefix_refl s.try_call_sites; patchable_sites = prefix_refl s.patchable_sites; stack_maps = prefix_more s.stack_maps xs; starts = prefix_refl s.starts; labels = λ l p h. h; block_count = refl; constants = refl }
+keeps_stack_maps s xs = record (keeps_same s) { stack_maps = prefix_more s.stack_maps xs }
 
 pub keeps_starts : (s : State) (xs : List ℕ) → Keeps s (record s { starts = s.starts ++ xs })
-keeps_starts s xs = record { bytes = prefix_refl s.bytes; uses = prefix_refl s.uses; traps = prefix_refl s.traps; relocs = prefix_refl s.relocs; call_sites = prefix_refl s.call_sites; try_call_sites = prefix_refl s.try_call_sites; patchable_sites = prefix_refl s.patchable_sites; stack_maps = prefix_refl s.stack_maps; starts = prefix_more s.starts xs; labels = λ l p h. h; block_count = refl; constants = refl }
+keeps_starts s xs = record (keeps_same s) { starts = prefix_more s.starts xs }
 
 drawn_kept : (ls : List (Option ℕ)) (l p : ℕ) → get_or ls l None ≡ Some p → get_or (ls ++ None ∷ []) l None ≡ Some p
 drawn_kept [] l p h = absurd (cc)
@@ -80,7 +93,7 @@ drawn_kept (x ∷ ls) zero p h = h
 drawn_kept (x ∷ ls) (suc l) p h = drawn_kept ls l p h
 
 pub keeps_draw : (s : State) → Keeps s (record s { labels = s.labels ++ None ∷ [] })
-keeps_draw s = record { bytes = prefix_refl s.bytes; uses = prefix_refl s.uses; traps = prefix_refl s.traps; relocs = prefix_refl s.relocs; call_sites = prefix_refl s.call_sites; try_call_sites = prefix_refl s.try_call_sites; patchable_sites = prefix_refl s.patchable_sites; stack_maps = prefix_refl s.stack_maps; starts = prefix_refl s.starts; labels = drawn_kept s.labels; block_count = refl; constants = refl }
+keeps_draw s = record (keeps_same s) { labels = drawn_kept s.labels }
 
 bound_kept : (ls : List (Option ℕ)) (b : ℕ) (v : Option ℕ) (l p : ℕ) → get_or ls b None ≡ None → get_or ls l None ≡ Some p → get_or (set ls b v) l None ≡ Some p
 bound_kept ls b v l p free h =
@@ -88,4 +101,4 @@ bound_kept ls b v l p free h =
     get_or-set_other ls b l v None ne ∙ h
 
 pub keeps_bind : (s : State) (b : ℕ) (v : Option ℕ) → get_or s.labels b None ≡ None → Keeps s (record s { labels = set s.labels b v })
-keeps_bind s b v free = record { bytes = prefix_refl s.bytes; uses = prefix_refl s.uses; traps = prefix_refl s.traps; relocs = prefix_refl s.relocs; call_sites = prefix_refl s.call_sites; try_call_sites = prefix_refl s.try_call_sites; patchable_sites = prefix_refl s.patchable_sites; stack_maps = prefix_refl s.stack_maps; starts = prefix_refl s.starts; labels = λ l p h. bound_kept s.labels b v l p free h; block_count = refl; constants = refl }
+keeps_bind s b v free = record (keeps_same s) { labels = λ l p h. bound_kept s.labels b v l p free h }

@@ -4,7 +4,7 @@ use crate::label_use::LabelUse;
 use s390x_base::{Addend, CodeOffset, ExternalName, MachLabel, Reloc, TrapCode};
 
 /// A use of a label at an offset, to be patched at the end.
-#[derive(Clone, Copy, PartialEq, Eq, Debug)]
+#[derive(Clone, Copy)]
 pub struct LabelFixup {
     pub kind: LabelUse,
     pub offset: CodeOffset,
@@ -12,7 +12,7 @@ pub struct LabelFixup {
 }
 
 /// A handler of a call with a try: a tag, or none for the default, and where it stands.
-#[derive(Clone, Copy, PartialEq, Eq, Debug)]
+#[derive(Clone, Copy)]
 pub struct TryHandler {
     pub tag: Option<u32>,
     pub label: MachLabel,
@@ -27,7 +27,7 @@ pub struct TrySite {
 }
 
 /// A relocation of the bytes at an offset.
-#[derive(Clone, Copy, PartialEq, Eq, Debug)]
+#[derive(Clone, Copy, PartialEq, Debug)]
 pub struct RelocEntry {
     pub offset: CodeOffset,
     pub kind: Reloc,
@@ -36,14 +36,14 @@ pub struct RelocEntry {
 }
 
 /// A trap at an offset.
-#[derive(Clone, Copy, PartialEq, Eq, Debug)]
+#[derive(Clone, Copy, PartialEq, Debug)]
 pub struct TrapEntry {
     pub offset: CodeOffset,
     pub code: TrapCode,
 }
 
 /// A call with a try, by its return place.
-#[derive(Debug, Drop)]
+#[derive(Drop)]
 pub struct TryEntry {
     pub offset: CodeOffset,
     pub frame: u64,
@@ -51,28 +51,28 @@ pub struct TryEntry {
 }
 
 /// A handler of a call with a try, by its offset; 0 where its label was never bound.
-#[derive(Clone, Copy, PartialEq, Eq, Debug)]
+#[derive(Clone, Copy, PartialEq, Debug)]
 pub struct HandlerEntry {
     pub tag: Option<u32>,
     pub offset: CodeOffset,
 }
 
 /// A patchable call, by its return place and its length in bytes.
-#[derive(Clone, Copy, PartialEq, Eq, Debug)]
+#[derive(Clone, Copy, PartialEq, Debug)]
 pub struct PatchEntry {
     pub offset: CodeOffset,
     pub len: u32,
 }
 
 /// A stack map at an offset.
-#[derive(Clone, Copy, PartialEq, Eq, Debug)]
+#[derive(Clone, Copy, PartialEq, Debug)]
 pub struct MapEntry {
     pub offset: CodeOffset,
     pub map: u32,
 }
 
 /// The finished code with its constants, and its tables in the order of the calls that made them.
-#[derive(Debug, Drop)]
+#[derive(Drop)]
 pub struct MachBufferFinalized {
     /// The code, and the constants behind it.
     pub bytes: Vec<u8>,

@@ -22,7 +22,7 @@ use Rattle.s390x_base.specs.Regs.{is_pair}
 use Rattle.s390x_steps.specs.General.{is_general, is_even_pair, reuses, reuses_pair}
 use Rattle.s390x_steps.specs.Opcodes.{alu_two, cmp_two, unary_two}
 use Rattle.s390x_emit_int.specs.Alone.{can_encode, encodes, takes_general}
-use Rattle.s390x_emit_int.specs.declared.alone.RegisterRow.{RegisterRow}
+use Rattle.s390x_emit_int.specs.declared.register_row.RegisterRow.{RegisterRow}
 
 -- a test with a weaker one behind it
 pub implied : (s t : Bool) → (s ≡ true → t ≡ true) → (not s || t) ≡ true

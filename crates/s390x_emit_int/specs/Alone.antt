@@ -2,13 +2,15 @@
 use Rattle.std.specs.Prelude.{ℕ, Bool, true, not, ◌&&◌, ◌||◌, Option, None, Some}
 use Rattle.s390x_base.specs.Regs.{number_of}
 use Rattle.s390x_inst.specs.declared.inst.Inst.{Inst}
-use Rattle.s390x_inst.specs.declared.inst.Inst.TheVariants.{AluRUImm16Shifted, AluRUImm32Shifted, SMulWide, UMulWide, Flogr, ShiftRR, RxSBG, RxSBGTest, Mov64, MovPReg, Mov32, Mov32Imm, Mov32SImm16, Mov64SImm16, Mov64SImm32, Mov64UImm16Shifted, Mov64UImm32Shifted, Insert64UImm16Shifted, Insert64UImm32Shifted, CMov32, CMov64, CMov32SImm16, CMov64SImm16, Extend, LoadAR, InsertAR, LoadIndexedAddr, LoadLogicalIndexedAddr, Fence, Nop2, SDivMod32, SDivMod64, UDivMod32, UDivMod64, CmpTrapRR, CmpTrapRSImm16, CmpTrapRUImm16}
+use Rattle.s390x_inst.specs.declared.inst.Inst.TheVariants.{AluRUImm16Shifted, AluRUImm32Shifted, SMulWide, UMulWide, Flogr, ShiftRR, RxSBG, RxSBGTest}
+use Rattle.s390x_inst.specs.declared.inst.Inst.TheVariants.{Mov64, MovPReg, Mov32, Mov32Imm, Mov32SImm16, Mov64SImm16, Mov64SImm32, Mov64UImm16Shifted, Mov64UImm32Shifted, Insert64UImm16Shifted, Insert64UImm32Shifted, CMov32, CMov64, CMov32SImm16, CMov64SImm16, Extend}
+use Rattle.s390x_inst.specs.declared.inst.Inst.TheVariants.{LoadAR, InsertAR, LoadIndexedAddr, LoadLogicalIndexedAddr, Fence, Nop2, SDivMod32, SDivMod64, UDivMod32, UDivMod64, CmpTrapRR, CmpTrapRSImm16, CmpTrapRUImm16}
 use Rattle.s390x_steps.specs.MachineInstruction.{MachineInstruction, rr, rre, rrf_ab, rrf_cde, ri_a, rie_a, rie_d, rie_f, rie_g, ril_a, rsy, rxy}
 use Rattle.s390x_steps.specs.General.{four_bits, low_displacement}
 use Rattle.s390x_enc.specs.Operands.{is_general, is_first_float, is_second_float, may_stand_first, may_stand_second}
 use Rattle.s390x_steps.specs.Alone.{Alone}
-use Rattle.s390x_emit_int.specs.declared.alone.RegisterRow.{RegisterRow}
-use Rattle.s390x_emit_int.specs.declared.alone.RegisterRow.TheVariants.{Rr, Rre, RrfAb, RrfCde, RiA, RieA, RieD, RieF, RieG, RilA, Rsy, Rxy}
+use Rattle.s390x_emit_int.specs.declared.register_row.RegisterRow.{RegisterRow}
+use Rattle.s390x_emit_int.specs.declared.register_row.RegisterRow.TheVariants.{Rr, Rre, RrfAb, RrfCde, RiA, RieA, RieD, RieF, RieG, RilA, Rsy, Rxy}
 use Rattle.s390x_emit_int.specs.declared.alone.Group.{Group}
 use Rattle.s390x_emit_int.specs.declared.alone.Group.TheVariants.{Arithmetic, Bits, Moves, Stops}
 use Rattle.s390x_emit_int.specs.declared.opcode.ShortOpcode.{ShortOpcode}

@@ -10,11 +10,12 @@ ghost use Rattle.s390x_emit_int.specs.Alone.{instruction_of, alone_of, opcode_of
 ghost use Rattle.s390x_emit_int.specs.declared.alone.Group.TheVariants.{Bits};
 
 use crate::alone::{
-    Alone, RegisterRow, alone_with, bits_of_unsigned, bits_of_unsigned_halfword, halfword_row,
-    is_reused, short, three_general, two_general, word_row,
+    Alone, alone_with, bits_of_unsigned, bits_of_unsigned_halfword, is_reused, three_general,
+    two_general,
 };
 use crate::moves::{of_four, of_two};
 use crate::opcode::ShortOpcode;
+use crate::register_row::{RegisterRow, halfword_row, short, word_row};
 use s390x_address::memory::general;
 use s390x_base::{Reg, WritableRegPair, valid_regpair};
 use s390x_inst::{ALUOp, Inst, RxSBGOp, ShiftOp};

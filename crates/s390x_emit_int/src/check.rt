@@ -22,7 +22,7 @@ use s390x_buffer::MachBuffer;
 use s390x_inst::{Block, EmitState, Inst, IsaFlags};
 
 /// How many label numbers are in use, and how many bytes the steps have, counted up to the limit of code.
-#[derive(Clone, Copy, PartialEq, Eq, Debug)]
+#[derive(Clone, Copy)]
 pub struct Totals {
     pub labels: u64,
     pub bytes: u64,
@@ -126,7 +126,7 @@ fn check_leaf(
     inst: &Inst,
 ) -> Result<Totals, EmitError>
     requires { IsCounted t }
-    ensures { MatchResult result (λ r. (leaf_cause flags (declared_in sink.now) t.labels state.now.nominal depth (resolved_instruction state.now inst.now) ≡ None) × Adds t r (instruction_draws (resolved_instruction state.now inst.now)) (instruction_size (resolved_instruction state.now inst.now))) (λ e. leaf_cause flags (declared_in sink.now) t.labels state.now.nominal depth (resolved_instruction state.now inst.now) ≡ Some e) }
+    ensures { let j = resolved_instruction state.now inst.now in let cause = leaf_cause flags (declared_in sink.now) t.labels state.now.nominal depth j in MatchResult result (λ r. (cause ≡ None) × Adds t r (instruction_draws j) (instruction_size j)) (λ e. cause ≡ Some e) }
 {
     match instruction_refusal(flags, state, sink, depth, inst) {
         Some(error) => Err(error),
@@ -158,7 +158,7 @@ pub fn check_members(
     insts: &[Inst],
 ) -> Result<Totals, EmitError>
     requires { IsCounted t }
-    ensures { MatchResult result (λ r. (tree_cause flags (declared_in sink.now) t.labels state.old.nominal depth (tree state.old insts.now) ≡ None) × Adds t r (draws (tree state.old insts.now)) (tree_size (tree state.old insts.now)) × (state.new.nominal ≡ nominal_behind state.old.nominal (tree state.old insts.now))) (λ e. tree_cause flags (declared_in sink.now) t.labels state.old.nominal depth (tree state.old insts.now) ≡ Some e) }
+    ensures { let members = tree state.old insts.now in let cause = tree_cause flags (declared_in sink.now) t.labels state.old.nominal depth members in MatchResult result (λ r. (cause ≡ None) × Adds t r (draws members) (tree_size members) × (state.new.nominal ≡ nominal_behind state.old.nominal members)) (λ e. cause ≡ Some e) }
 {
     let mut sum = t;
     for inst in insts {
@@ -197,7 +197,7 @@ fn check_loop(
     body: &[Inst],
 ) -> Result<Totals, EmitError>
     requires { IsCounted t }
-    ensures { MatchResult result (λ r. (first (first (nesting_cause depth) (numbers_cause t.labels 2)) (tree_cause flags (declared_in sink.now) (t.labels + 2) state.now.nominal (depth + 1) (tree state.now body.now)) ≡ None) × Adds t r (2 + draws (tree state.now body.now)) (tree_size (tree state.now body.now) + 6)) (λ e. first (first (nesting_cause depth) (numbers_cause t.labels 2)) (tree_cause flags (declared_in sink.now) (t.labels + 2) state.now.nominal (depth + 1) (tree state.now body.now)) ≡ Some e) }
+    ensures { let members = tree state.now body.now in let cause = first (first (nesting_cause depth) (numbers_cause t.labels 2)) (tree_cause flags (declared_in sink.now) (t.labels + 2) state.now.nominal (depth + 1) members) in MatchResult result (λ r. (cause ≡ None) × Adds t r (2 + draws members) (tree_size members + 6)) (λ e. cause ≡ Some e) }
 {
     let opened = open_loop(t, depth)?;
     let mut inside = *state;

@@ -144,7 +144,9 @@ impl MachInstEmit for Inst {
         emit_info: &EmitInfo,
         state: &mut EmitState,
     ) -> Result<(), EmitError>
-        ensures answer { MatchResult result (λ _. (emit_cause emit_info.now.isa_flags state.old.nominal sink.old (graft state.old self.now empty) ≡ None) × (sink.new ≡ run sink.old (own_pieces (length sink.old.labels) 0 (graft state.old self.now empty))) × (state.new ≡ record (state_after state.old self.now) { stack_map = None })) (λ e. ((e ≡ NoMemory) ⊎ (emit_cause emit_info.now.isa_flags state.old.nominal sink.old (graft state.old self.now empty) ≡ Some e)) × IsTrue sink.new.failed × (state.new ≡ state.old)) }
+        ensures answer { let step = graft state.old self.now empty in
+            let cause = emit_cause emit_info.now.isa_flags state.old.nominal sink.old step in
+            MatchResult result (λ _. (cause ≡ None) × (sink.new ≡ run sink.old (own_pieces (length sink.old.labels) 0 step)) × (state.new ≡ record (state_after state.old self.now) { stack_map = None })) (λ e. ((e ≡ NoMemory) ⊎ (cause ≡ Some e)) × IsTrue sink.new.failed × (state.new ≡ state.old)) }
         ensures refused { OnErr result (IsTrue sink.new.failed × (state.new ≡ state.old)) }
         ensures few { is_short self.now ≡ true → OnOk result (length sink.new.bytes ≤ length sink.old.bytes + 44) }
         ensures kept { Keeps sink.old sink.new }

@@ -153,7 +153,7 @@ pub fn emit_function(
     info: &EmitInfo,
     state: EmitState,
 ) -> Result<MachBufferFinalized, EmitError>
-    ensures { MatchResult result (λ f. (function_cause info.now.isa_flags (trees_of state function.now) (constants_of function.now) state ≡ None) × IsImage (trees_of state function.now) (constants_of function.now) f × BlocksInRange (trees_of state function.now)) (λ e. (e ≡ NoMemory) ⊎ (function_cause info.now.isa_flags (trees_of state function.now) (constants_of function.now) state ≡ Some e)) }
+    ensures { let trees = trees_of state function.now in let cause = function_cause info.now.isa_flags trees (constants_of function.now) state in MatchResult result (λ f. (cause ≡ None) × IsImage trees (constants_of function.now) f × BlocksInRange trees) (λ e. (e ≡ NoMemory) ⊎ (cause ≡ Some e)) }
 {
     if let Some(error) = start_refusal(&state) {
         return Err(error);

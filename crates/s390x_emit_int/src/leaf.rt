@@ -23,8 +23,9 @@ ghost use Rattle.s390x_steps.specs.Operands.{resolved};
 ghost use Rattle.s390x_steps.specs.Resolved.{resolved_instruction};
 ghost use Rattle.s390x_address.specs.Rows.{memory_of, in_state, may_encode};
 
-use crate::alone::{RegisterRow, find_alone};
+use crate::alone::find_alone;
 use crate::memory::find_memory;
+use crate::register_row::RegisterRow;
 use crate::stops::stop_code;
 use crate::symbol::emit_symbol_load;
 use crate::table::emit_table;

@@ -2,6 +2,7 @@
 #![tactic(auto)]
 
 pub mod alone;
+pub mod arithmetic;
 pub mod bits;
 pub mod causes;
 pub mod check;
@@ -13,6 +14,7 @@ pub mod leaf;
 pub mod memory;
 pub mod moves;
 pub mod opcode;
+pub mod register_row;
 pub mod stack;
 pub mod stops;
 pub mod symbol;

@@ -1,5 +1,5 @@
 //! Instructions with a memory operand: their machine rows.
-ghost use Rattle.std.specs.Prelude.{◌≡◌, ◌&&◌, true, Some, IfSome};
+ghost use Rattle.std.specs.Prelude.{◌≡◌, ◌&&◌, if◌then◌else◌, true, Some, IfSome};
 ghost use Rattle.std.specs.Option.{option_map};
 ghost use Rattle.s390x_address.specs.Rows.{memory_of, form_of, relative_encodes, rows_encode, may_encode, takes_general, has_12_bits};
 ghost use Rattle.s390x_steps.specs.General.{low_halfword};
@@ -18,15 +18,42 @@ use s390x_base::Reg;
 use s390x_inst::{ALUOp, CmpOp, Inst, MemArg};
 
 /// Which part of the code knows the rows of an instruction with a memory operand.
-#[derive(Clone, Copy, PartialEq, Eq, Debug)]
+#[derive(Clone, Copy)]
 pub enum StorageGroup {
     Loads,
     Stores,
     Operators,
 }
 
-// A load into a register, which is written alone.
+// An access by one register.
 #[tactic(auto, using(crate::proofs::Storing::register_encodes))]
+fn access(
+    stores: bool,
+    register: Reg,
+    rx: Option<u8>,
+    rxy: Option<u16>,
+    ril: Option<u16>,
+    operand: MemArg,
+) -> Option<MemoryInst>
+    requires { (takes_general rx && takes_general rxy && has_12_bits ril) ≡ true }
+    ensures row { option_map memory_of result ≡ if stores then store register rx rxy ril operand else load register rx rxy ril operand }
+    ensures encodes { IfSome result (λ x. may_encode x ≡ true) }
+{
+    Some(MemoryInst {
+        rows: StorageRows::OneRegister {
+            register,
+            rx,
+            rxy,
+            ril,
+        },
+        operand,
+        accesses: true,
+        fine: general(&register),
+        reads_scratch: stores && is_numbered(1, &register),
+    })
+}
+
+// A load into a register, which is written alone.
 fn load(
     rd: Reg,
     rx: Option<u8>,
@@ -38,22 +65,10 @@ fn load(
     ensures row { option_map memory_of result ≡ load rd rx rxy ril operand }
     ensures encodes { IfSome result (λ x. may_encode x ≡ true) }
 {
-    Some(MemoryInst {
-        rows: StorageRows::OneRegister {
-            register: rd,
-            rx,
-            rxy,
-            ril,
-        },
-        operand,
-        accesses: true,
-        fine: general(&rd),
-        reads_scratch: false,
-    })
+    access(false, rd, rx, rxy, ril, operand)
 }
 
 // A store of a register.
-#[tactic(auto, using(crate::proofs::Storing::register_encodes))]
 fn store(
     rd: Reg,
     rx: Option<u8>,
@@ -65,18 +80,7 @@ fn store(
     ensures row { option_map memory_of result ≡ store rd rx rxy ril operand }
     ensures encodes { IfSome result (λ x. may_encode x ≡ true) }
 {
-    Some(MemoryInst {
-        rows: StorageRows::OneRegister {
-            register: rd,
-            rx,
-            rxy,
-            ril,
-        },
-        operand,
-        accesses: true,
-        fine: general(&rd),
-        reads_scratch: is_numbered(1, &rd),
-    })
+    access(true, rd, rx, rxy, ril, operand)
 }
 
 // The address of the operand.

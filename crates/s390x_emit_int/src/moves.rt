@@ -10,10 +10,11 @@ ghost use Rattle.s390x_emit_int.specs.Alone.{instruction_of, alone_of, opcode_of
 ghost use Rattle.s390x_emit_int.specs.declared.alone.Group.TheVariants.{Moves};
 
 use crate::alone::{
-    Alone, RegisterRow, alone_with, bits_of_halfword, bits_of_unsigned, bits_of_unsigned_halfword,
-    bits_of_word, halfword_row, is_reused, short, three_general, two_general, two_row, word_row,
+    Alone, alone_with, bits_of_halfword, bits_of_unsigned, bits_of_unsigned_halfword, bits_of_word,
+    is_reused, three_general, two_general,
 };
 use crate::opcode::ShortOpcode;
+use crate::register_row::{RegisterRow, halfword_row, short, two_row, word_row};
 use s390x_address::memory::general;
 use s390x_base::{Cond, Reg, SImm20, gpr};
 use s390x_inst::Inst;

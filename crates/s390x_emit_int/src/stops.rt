@@ -9,10 +9,10 @@ ghost use Rattle.s390x_emit_int.specs.Alone.{instruction_of, alone_of, group_of,
 ghost use Rattle.s390x_emit_int.specs.declared.alone.Group.TheVariants.{Stops};
 
 use crate::alone::{
-    Alone, RegisterRow, alone_with, bits_of_halfword, bits_of_unsigned_halfword, is_reused,
-    two_general,
+    Alone, alone_with, bits_of_halfword, bits_of_unsigned_halfword, is_reused, two_general,
 };
 use crate::bits::{is_even_pair, pair_row};
+use crate::register_row::RegisterRow;
 use s390x_address::memory::general;
 use s390x_base::{Cond, Reg, RegPair, TrapCode, WritableRegPair};
 use s390x_inst::{CmpOp, Inst};

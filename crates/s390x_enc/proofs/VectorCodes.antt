@@ -56,7 +56,8 @@ unfolding length_of
 vri_k_is o i5 v1 v2 v3 v4 code h_o h_i5 h_v1 h_v2 h_v3 h_v4 e =
     record {
       fit = fields_from VriK (slots o (v1 ∷ v2 ∷ v3 ∷ v4 ∷ []) (i5 ∷ []) 0 0) refl (h_o, (h_v1, (h_v2, (h_v3, (h_v4, (h_i5, (lit< tt, (lit< tt, (lit< tt, (lit< tt, tt))))))))));
-      bytes_are = e ∙ sym (six_bytes (number (layout_of VriK) (slots o (v1 ∷ v2 ∷ v3 ∷ v4 ∷ []) (i5 ∷ []) 0 0)) (o / 256) (v1 % 16 * 16 + v2 % 16) (v3 % 16 * 16 + 0) i5 (v4 % 16 * 16 + (8 * (v1 / 16) + 4 * (v2 / 16) + 2 * (v3 / 16) + (v4 / 16))) (o % 256) (omega arith) (omega arith) (omega arith) (omega arith) (omega arith) (omega arith) (vri_k_number o i5 v1 v2 v3 v4 h_o h_i5 h_v1 h_v2 h_v3 h_v4));
+      bytes_are = e ∙ sym (six_bytes (number (layout_of VriK) (slots o (v1 ∷ v2 ∷ v3 ∷ v4 ∷ []) (i5 ∷ []) 0 0)) (o / 256) (v1 % 16 * 16 + v2 % 16) (v3 % 16 * 16 + 0) i5 (v4 % 16 * 16 + (8 * (v1 / 16) + 4 * (v2 / 16) + 2 * (v3 / 16) + (v4 / 16))) (o % 256)
+          (omega arith) (omega arith) (omega arith) (omega arith) (omega arith) (omega arith) (vri_k_number o i5 v1 v2 v3 v4 h_o h_i5 h_v1 h_v2 h_v3 h_v4));
     }
 
 vrr_a_number : (o v1 v2 m3 m4 m5 : ℕ) → o < 2 ^ 16 → v1 < 2 ^ 5 → v2 < 2 ^ 5 → m3 < 2 ^ 4 → m4 < 2 ^ 4 → m5 < 2 ^ 4 →
@@ -82,7 +83,8 @@ unfolding length_of
 vrr_b_is o v1 v2 v3 m4 m5 code h_o h_v1 h_v2 h_v3 h_m4 h_m5 e =
     record {
       fit = fields_from VrrB (slots o (v1 ∷ v2 ∷ v3 ∷ []) (m4 ∷ m5 ∷ []) 0 0) refl (h_o, (h_v1, (h_v2, (h_v3, (lit< tt, (h_m4, (h_m5, (lit< tt, (lit< tt, (lit< tt, tt))))))))));
-      bytes_are = e ∙ sym (six_bytes (number (layout_of VrrB) (slots o (v1 ∷ v2 ∷ v3 ∷ []) (m4 ∷ m5 ∷ []) 0 0)) (o / 256) (v1 % 16 * 16 + v2 % 16) (v3 % 16 * 16 + 0) (m5 * 16 + 0) (m4 * 16 + (8 * (v1 / 16) + 4 * (v2 / 16) + 2 * (v3 / 16) + 0)) (o % 256) (omega arith) (omega arith) (omega arith) (omega arith) (omega arith) (omega arith) (vrr_b_number o v1 v2 v3 m4 m5 h_o h_v1 h_v2 h_v3 h_m4 h_m5));
+      bytes_are = e ∙ sym (six_bytes (number (layout_of VrrB) (slots o (v1 ∷ v2 ∷ v3 ∷ []) (m4 ∷ m5 ∷ []) 0 0)) (o / 256) (v1 % 16 * 16 + v2 % 16) (v3 % 16 * 16 + 0) (m5 * 16 + 0) (m4 * 16 + (8 * (v1 / 16) + 4 * (v2 / 16) + 2 * (v3 / 16) + 0)) (o % 256)
+          (omega arith) (omega arith) (omega arith) (omega arith) (omega arith) (omega arith) (vrr_b_number o v1 v2 v3 m4 m5 h_o h_v1 h_v2 h_v3 h_m4 h_m5));
     }
 
 vrr_c_number : (o v1 v2 v3 m4 m5 m6 : ℕ) → o < 2 ^ 16 → v1 < 2 ^ 5 → v2 < 2 ^ 5 → v3 < 2 ^ 5 → m4 < 2 ^ 4 → m5 < 2 ^ 4 → m6 < 2 ^ 4 →
@@ -95,7 +97,8 @@ unfolding length_of
 vrr_c_is o v1 v2 v3 m4 m5 m6 code h_o h_v1 h_v2 h_v3 h_m4 h_m5 h_m6 e =
     record {
       fit = fields_from VrrC (slots o (v1 ∷ v2 ∷ v3 ∷ []) (m4 ∷ m5 ∷ m6 ∷ []) 0 0) refl (h_o, (h_v1, (h_v2, (h_v3, (lit< tt, (h_m4, (h_m5, (h_m6, (lit< tt, (lit< tt, tt))))))))));
-      bytes_are = e ∙ sym (six_bytes (number (layout_of VrrC) (slots o (v1 ∷ v2 ∷ v3 ∷ []) (m4 ∷ m5 ∷ m6 ∷ []) 0 0)) (o / 256) (v1 % 16 * 16 + v2 % 16) (v3 % 16 * 16 + 0) (m6 * 16 + m5) (m4 * 16 + (8 * (v1 / 16) + 4 * (v2 / 16) + 2 * (v3 / 16) + 0)) (o % 256) (omega arith) (omega arith) (omega arith) (omega arith) (omega arith) (omega arith) (vrr_c_number o v1 v2 v3 m4 m5 m6 h_o h_v1 h_v2 h_v3 h_m4 h_m5 h_m6));
+      bytes_are = e ∙ sym (six_bytes (number (layout_of VrrC) (slots o (v1 ∷ v2 ∷ v3 ∷ []) (m4 ∷ m5 ∷ m6 ∷ []) 0 0)) (o / 256) (v1 % 16 * 16 + v2 % 16) (v3 % 16 * 16 + 0) (m6 * 16 + m5) (m4 * 16 + (8 * (v1 / 16) + 4 * (v2 / 16) + 2 * (v3 / 16) + 0)) (o % 256)
+          (omega arith) (omega arith) (omega arith) (omega arith) (omega arith) (omega arith) (vrr_c_number o v1 v2 v3 m4 m5 m6 h_o h_v1 h_v2 h_v3 h_m4 h_m5 h_m6));
     }
 
 vrr_d_number : (o v1 v2 v3 v4 m5 m6 : ℕ) → o < 2 ^ 16 → v1 < 2 ^ 5 → v2 < 2 ^ 5 → v3 < 2 ^ 5 → v4 < 2 ^ 5 → m5 < 2 ^ 4 → m6 < 2 ^ 4 →
@@ -108,7 +111,8 @@ unfolding length_of
 vrr_d_is o v1 v2 v3 v4 m5 m6 code h_o h_v1 h_v2 h_v3 h_v4 h_m5 h_m6 e =
     record {
       fit = fields_from VrrD (slots o (v1 ∷ v2 ∷ v3 ∷ v4 ∷ []) (m5 ∷ m6 ∷ []) 0 0) refl (h_o, (h_v1, (h_v2, (h_v3, (h_v4, (h_m5, (h_m6, (lit< tt, (lit< tt, (lit< tt, tt))))))))));
-      bytes_are = e ∙ sym (six_bytes (number (layout_of VrrD) (slots o (v1 ∷ v2 ∷ v3 ∷ v4 ∷ []) (m5 ∷ m6 ∷ []) 0 0)) (o / 256) (v1 % 16 * 16 + v2 % 16) (v3 % 16 * 16 + m5) (m6 * 16 + 0) (v4 % 16 * 16 + (8 * (v1 / 16) + 4 * (v2 / 16) + 2 * (v3 / 16) + (v4 / 16))) (o % 256) (omega arith) (omega arith) (omega arith) (omega arith) (omega arith) (omega arith) (vrr_d_number o v1 v2 v3 v4 m5 m6 h_o h_v1 h_v2 h_v3 h_v4 h_m5 h_m6));
+      bytes_are = e ∙ sym (six_bytes (number (layout_of VrrD) (slots o (v1 ∷ v2 ∷ v3 ∷ v4 ∷ []) (m5 ∷ m6 ∷ []) 0 0)) (o / 256) (v1 % 16 * 16 + v2 % 16) (v3 % 16 * 16 + m5) (m6 * 16 + 0) (v4 % 16 * 16 + (8 * (v1 / 16) + 4 * (v2 / 16) + 2 * (v3 / 16) + (v4 / 16))) (o % 256)
+          (omega arith) (omega arith) (omega arith) (omega arith) (omega arith) (omega arith) (vrr_d_number o v1 v2 v3 v4 m5 m6 h_o h_v1 h_v2 h_v3 h_v4 h_m5 h_m6));
     }
 
 vrr_e_number : (o v1 v2 v3 v4 m5 m6 : ℕ) → o < 2 ^ 16 → v1 < 2 ^ 5 → v2 < 2 ^ 5 → v3 < 2 ^ 5 → v4 < 2 ^ 5 → m5 < 2 ^ 4 → m6 < 2 ^ 4 →
@@ -121,7 +125,8 @@ unfolding length_of
 vrr_e_is o v1 v2 v3 v4 m5 m6 code h_o h_v1 h_v2 h_v3 h_v4 h_m5 h_m6 e =
     record {
       fit = fields_from VrrE (slots o (v1 ∷ v2 ∷ v3 ∷ v4 ∷ []) (m5 ∷ m6 ∷ []) 0 0) refl (h_o, (h_v1, (h_v2, (h_v3, (h_v4, (h_m5, (h_m6, (lit< tt, (lit< tt, (lit< tt, tt))))))))));
-      bytes_are = e ∙ sym (six_bytes (number (layout_of VrrE) (slots o (v1 ∷ v2 ∷ v3 ∷ v4 ∷ []) (m5 ∷ m6 ∷ []) 0 0)) (o / 256) (v1 % 16 * 16 + v2 % 16) (v3 % 16 * 16 + m6) (0 * 16 + m5) (v4 % 16 * 16 + (8 * (v1 / 16) + 4 * (v2 / 16) + 2 * (v3 / 16) + (v4 / 16))) (o % 256) (omega arith) (omega arith) (omega arith) (omega arith) (omega arith) (omega arith) (vrr_e_number o v1 v2 v3 v4 m5 m6 h_o h_v1 h_v2 h_v3 h_v4 h_m5 h_m6));
+      bytes_are = e ∙ sym (six_bytes (number (layout_of VrrE) (slots o (v1 ∷ v2 ∷ v3 ∷ v4 ∷ []) (m5 ∷ m6 ∷ []) 0 0)) (o / 256) (v1 % 16 * 16 + v2 % 16) (v3 % 16 * 16 + m6) (0 * 16 + m5) (v4 % 16 * 16 + (8 * (v1 / 16) + 4 * (v2 / 16) + 2 * (v3 / 16) + (v4 / 16))) (o % 256)
+          (omega arith) (omega arith) (omega arith) (omega arith) (omega arith) (omega arith) (vrr_e_number o v1 v2 v3 v4 m5 m6 h_o h_v1 h_v2 h_v3 h_v4 h_m5 h_m6));
     }
 
 vrr_f_number : (o v1 r2 r3 : ℕ) → o < 2 ^ 16 → v1 < 2 ^ 5 → r2 < 2 ^ 4 → r3 < 2 ^ 4 →
@@ -147,7 +152,8 @@ unfolding length_of
 vrs_a_is o v1 b2 d2 v3 m4 code h_o h_v1 h_b2 h_d2 h_v3 h_m4 e =
     record {
       fit = fields_from VrsA (slots o (v1 ∷ b2 ∷ v3 ∷ []) (m4 ∷ []) 0 d2) refl (h_o, (h_v1, (h_b2, (h_v3, (lit< tt, (h_m4, (lit< tt, (lit< tt, (lit< tt, (h_d2, tt))))))))));
-      bytes_are = e ∙ sym (six_bytes (number (layout_of VrsA) (slots o (v1 ∷ b2 ∷ v3 ∷ []) (m4 ∷ []) 0 d2)) (o / 256) (v1 % 16 * 16 + v3 % 16) (b2 * 16 + d2 / 256) (d2 % 256) (m4 * 16 + (8 * (v1 / 16) + 4 * (v3 / 16) + 2 * 0 + 0)) (o % 256) (omega arith) (omega arith) (omega arith) (omega arith) (omega arith) (omega arith) (vrs_a_number o v1 b2 d2 v3 m4 h_o h_v1 h_b2 h_d2 h_v3 h_m4));
+      bytes_are = e ∙ sym (six_bytes (number (layout_of VrsA) (slots o (v1 ∷ b2 ∷ v3 ∷ []) (m4 ∷ []) 0 d2)) (o / 256) (v1 % 16 * 16 + v3 % 16) (b2 * 16 + d2 / 256) (d2 % 256) (m4 * 16 + (8 * (v1 / 16) + 4 * (v3 / 16) + 2 * 0 + 0)) (o % 256)
+          (omega arith) (omega arith) (omega arith) (omega arith) (omega arith) (omega arith) (vrs_a_number o v1 b2 d2 v3 m4 h_o h_v1 h_b2 h_d2 h_v3 h_m4));
     }
 
 vrs_b_number : (o v1 b2 d2 r3 m4 : ℕ) → o < 2 ^ 16 → v1 < 2 ^ 5 → b2 < 2 ^ 4 → d2 < 2 ^ 12 → r3 < 2 ^ 4 → m4 < 2 ^ 4 →

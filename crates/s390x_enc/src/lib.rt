@@ -5,8 +5,6 @@ mod bytes;
 pub mod integer;
 pub mod operands;
 pub mod storage;
-#[cfg(test)]
-mod tests;
 pub mod vector;
 
 pub use integer::{

@@ -31,7 +31,7 @@ pair_keeps true a size s kind t h = h.1
 pair_keeps false a size s kind t h = action_keeps a size s kind t h
 
 row_keeps : (m : Option Meaning) (f : Fields) (size : ℕ) (s : State) (kind : StopKind) (t : State) → RowActs m f size s (Stops' kind) t → t ≡ s
-row_keeps None f size s kind t h = h.1
+row_keeps None f size s kind t h = absurd h
 row_keeps (Some m) f size s kind t h = pair_keeps (is_odd_pair m f) (action m f s.core.registers s.place) size s kind t h
 
 fetched_keeps : (f : Fetched) (s : State) (kind : StopKind) (t : State) → FetchedActs f s (Stops' kind) t → t ≡ s
@@ -59,7 +59,7 @@ pair_has true a size s x t h = same_has s t h.1
 pair_has false a size s x t h = action_has a size s x t h
 
 row_has : (m : Option Meaning) (f : Fields) (size : ℕ) (s : State) (x : Option Deposit) (t : State) → RowActs m f size s (GoesOn x) t → t.core.memory.has ≡ s.core.memory.has
-row_has None f size s x t h = same_has s t h.1
+row_has None f size s x t h = absurd h
 row_has (Some m) f size s x t h = pair_has (is_odd_pair m f) (action m f s.core.registers s.place) size s x t h
 
 fetched_has : (f : Fetched) (s : State) (x : Option Deposit) (t : State) → FetchedActs f s (GoesOn x) t → t.core.memory.has ≡ s.core.memory.has

@@ -8,7 +8,7 @@ use s390x_machine::step::StepEnd;
 use s390x_operations::StopKind;
 
 /// How an execution ends.
-#[derive(Clone, Copy, PartialEq, Eq, Debug)]
+#[derive(Clone, Copy)]
 pub enum End {
     /// As many steps went as were asked for.
     Limit,
@@ -19,7 +19,7 @@ pub enum End {
 }
 
 /// How many steps went, and how the execution ended behind them.
-#[derive(Clone, Copy, PartialEq, Eq, Debug)]
+#[derive(Clone, Copy)]
 pub struct Execution {
     pub went: u32,
     pub end: End,

@@ -11,7 +11,8 @@ use Rattle.s390x_words.specs.Sets.{members, is_in}
 use Rattle.s390x_words.specs.Calls.{target_text, target_of, result_text, result_of, IsResult, arg_text, arg_of, IsArg, ret_text, ret_of, IsRet, use_text, use_of, IsUse, label_text, label_of, IsLabel}
 use Rattle.s390x_words.specs.Bytes.{bytes_text, bytes_of, value_text, value_of, facilities_text, facilities_of}
 use Rattle.s390x_words.specs.Operators.{alu_text, cmp_text, shift_text, rxsbg_text, unary_text, vec_binary_text, vec_unary_text, vec_shift_text, vec_compare_text, vec_element_compare_text, convention_text}
-use Rattle.s390x_fields.specs.Fields.{option_text, IsOption, option_of, Field, KStart, FReg, FReal, FPair, FBool, FNatural, FInteger, FShifted, FMemory, FCond, FTrap, FLabels, FArgs, FRets, FUses, FDefs, FSet, FTarget, FTry, FOption, FReloc, FName, FBytes, FStart, FFlags, FAlu, FCmp, FShift, FRxsbg, FUnary, FVecBinary, FVecUnary, FVecShift, FVecCompare, FVecElementCompare, FConvention, kind_of, spell, IsField, value_as, after_as}
+use Rattle.s390x_fields.specs.Fields.{option_text, IsOption, option_of, Field, KStart, FReg, FReal, FPair, FBool, FNatural, FInteger, FShifted, FMemory, FCond, FTrap, FLabels, FArgs, FRets, FUses, FDefs, FSet, FTarget, FTry, FOption, FReloc, FName, FBytes, FStart, FFlags, FAlu, FCmp, FShift, FRxsbg}
+use Rattle.s390x_fields.specs.Fields.{FUnary, FVecBinary, FVecUnary, FVecShift, FVecCompare, FVecElementCompare, FConvention, kind_of, spell, IsField, value_as, after_as}
 use Rattle.s390x_inst.specs.declared.ops.ALUOp.TheVariants as ALUOpIs
 use Rattle.s390x_inst.specs.declared.ops.CmpOp.TheVariants as CmpOpIs
 use Rattle.s390x_inst.specs.declared.ops.ShiftOp.TheVariants as ShiftOpIs

@@ -1,9 +1,9 @@
 //! A place in a line, and the words from there on.
-ghost use Rattle.std.specs.Prelude.{◌≡◌, drop, slice_index};
+ghost use Rattle.std.specs.Prelude.{◌≡◌, drop};
 ghost use Rattle.s390x_words.specs.Marks.{word, after_word};
 
 use s390x_words::marks::{back, front};
-use s390x_words::number::{first, tail};
+use s390x_words::number::tail;
 use std::marker::Model;
 
 /// A place in a line. Contracts see it as the bytes that are left.
@@ -40,13 +40,6 @@ impl<'a> Cursor<'a> {
         ensures { self.new ≡ drop n self.old }
     {
         self.left = tail(self.left, n);
-    }
-
-    /// The next byte, or 0.
-    pub fn peek(&self) -> u8
-        ensures { result ≡ slice_index self.now 0 }
-    {
-        first(self.left)
     }
 
     /// The word after one mark.

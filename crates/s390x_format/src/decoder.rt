@@ -14,7 +14,7 @@ use std::marker::Brand;
 use std::sync::ledger::{Blank, Ledger};
 
 /// An instruction: its row, and its operands.
-#[derive(Clone, Copy, Drop)]
+#[derive(Clone, Copy)]
 pub struct Decoded {
     pub row: Row,
     pub fields: Fields,

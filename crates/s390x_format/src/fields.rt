@@ -8,7 +8,7 @@ use crate::kind::FormatKind;
 use crate::reading::Reading;
 
 /// The operands of an instruction. What its format lacks is 0.
-#[derive(Clone, Copy, Drop)]
+#[derive(Clone, Copy)]
 pub struct Fields {
     /// Register numbers, in the order of the arguments of the format's encoding call.
     pub regs: [u8; 4],
@@ -21,7 +21,7 @@ pub struct Fields {
 }
 
 /// How the bits of an immediate are read.
-#[derive(Clone, Copy, Drop)]
+#[derive(Clone, Copy)]
 pub enum Imm {
     /// As an unsigned number.
     Unsigned,

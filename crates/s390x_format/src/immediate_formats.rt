@@ -5,7 +5,7 @@
 ghost use Rattle.std.specs.Prelude.{◌^◌, ◌<◌};
 
 /// RI-A: `ab`, r1 c, i2.
-#[derive(Clone, Copy, Drop)]
+#[derive(Drop)]
 pub struct RiA {
     /// Opcode.
     pub opcode: u16,
@@ -19,7 +19,7 @@ pub struct RiA {
 }
 
 /// RIE-A: `ab`, r1 0, i2, m3 0, `cd`.
-#[derive(Clone, Copy, Drop)]
+#[derive(Drop)]
 pub struct RieA {
     /// Opcode.
     pub opcode: u16,
@@ -36,7 +36,7 @@ pub struct RieA {
 }
 
 /// RIE-D: `ab`, r1 r3, i2, 00, `cd`.
-#[derive(Clone, Copy, Drop)]
+#[derive(Drop)]
 pub struct RieD {
     /// Opcode.
     pub opcode: u16,
@@ -53,7 +53,7 @@ pub struct RieD {
 }
 
 /// RIE-F: `ab`, r1 r2, i3, i4, i5, `cd`.
-#[derive(Clone, Copy, Drop)]
+#[derive(Drop)]
 pub struct RieF {
     /// Opcode.
     pub opcode: u16,
@@ -76,7 +76,7 @@ pub struct RieF {
 }
 
 /// RIE-G: `ab`, r1 m3, i2, 00, `cd`.
-#[derive(Clone, Copy, Drop)]
+#[derive(Drop)]
 pub struct RieG {
     /// Opcode.
     pub opcode: u16,
@@ -93,7 +93,7 @@ pub struct RieG {
 }
 
 /// RIL-A: `ab`, r1 c, i2.
-#[derive(Clone, Copy, Drop)]
+#[derive(Drop)]
 pub struct RilA {
     /// Opcode.
     pub opcode: u16,

@@ -9,7 +9,7 @@ use crate::steps::Steps;
 use std::sync::ledger::Ledger;
 
 /// Where an opcode goes on after the first byte.
-#[derive(Clone, Copy, Drop)]
+#[derive(Clone, Copy)]
 pub enum RestPlace {
     /// It has eight bits.
     Nowhere,
@@ -22,7 +22,7 @@ pub enum RestPlace {
 }
 
 /// The rows with one first byte: those from `start` up to `end`.
-#[derive(Clone, Copy, Drop)]
+#[derive(Clone, Copy)]
 pub struct FirstByte {
     pub rest: RestPlace,
     pub start: usize,

@@ -15,7 +15,7 @@ use crate::layout::{
 
 /// The formats, by their names in the manual. Where several of them have the same places, one name
 /// stands for them: RRF-a and RRF-b, RRF-c to RRF-e, RS-a, RX-a and so on.
-#[derive(Clone, Copy, Drop, PartialEq, Eq, Debug)]
+#[derive(Clone, Copy, PartialEq, Debug)]
 pub enum FormatKind {
     E,
     RiA,

@@ -28,7 +28,7 @@ pub const ZERO: u8 = 10;
 
 /// Some neighbouring bits of an instruction: `width` bits of the value in `slot`, from its bit
 /// `low` on, where bit 0 is the least significant one.
-#[derive(Clone, Copy, Drop)]
+#[derive(Clone, Copy)]
 pub struct Part {
     pub slot: u8,
     pub low: u8,

@@ -14,16 +14,12 @@ pub mod reading;
 pub mod register_formats;
 mod register_impls;
 pub mod row;
-#[cfg(test)]
-mod samples;
 pub mod signed_formats;
 mod signed_impls;
 pub mod steps;
 pub mod storage_formats;
 mod storage_impls;
 pub mod table;
-#[cfg(test)]
-mod tests;
 pub mod vector_formats;
 mod vector_impls;
 

@@ -13,7 +13,7 @@ use crate::steps::Steps;
 use std::sync::ledger::Ledger;
 
 /// A row and the values in its slots.
-#[derive(Clone, Copy, Drop)]
+#[derive(Drop)]
 pub struct Reading {
     pub row: Row,
     pub slots: [u32; 10],

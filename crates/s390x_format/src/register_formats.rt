@@ -5,7 +5,7 @@
 ghost use Rattle.std.specs.Prelude.{◌^◌, ◌<◌};
 
 /// E: `ab cd`.
-#[derive(Clone, Copy, Drop)]
+#[derive(Drop)]
 pub struct E {
     /// Opcode.
     pub opcode: u16,
@@ -13,7 +13,7 @@ pub struct E {
 }
 
 /// RR: `ab`, r1 r2.
-#[derive(Clone, Copy, Drop)]
+#[derive(Drop)]
 pub struct Rr {
     /// Opcode.
     pub opcode: u16,
@@ -27,7 +27,7 @@ pub struct Rr {
 }
 
 /// RRE: `ab cd`, 00, r1 r2.
-#[derive(Clone, Copy, Drop)]
+#[derive(Drop)]
 pub struct Rre {
     /// Opcode.
     pub opcode: u16,
@@ -41,7 +41,7 @@ pub struct Rre {
 }
 
 /// RRF-AB: `ab cd`, r3 m4, r1 r2.
-#[derive(Clone, Copy, Drop)]
+#[derive(Drop)]
 pub struct RrfAb {
     /// Opcode.
     pub opcode: u16,
@@ -61,7 +61,7 @@ pub struct RrfAb {
 }
 
 /// RRF-CDE: `ab cd`, m3 m4, r1 r2.
-#[derive(Clone, Copy, Drop)]
+#[derive(Drop)]
 pub struct RrfCde {
     /// Opcode.
     pub opcode: u16,

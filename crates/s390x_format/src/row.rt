@@ -5,7 +5,7 @@ ghost use Rattle.s390x_format.specs.Rows.{is_allowed};
 use crate::kind::FormatKind;
 
 /// Which masks and immediates of 8 bits a row allows. Bytes with others have no row.
-#[derive(Clone, Copy, Drop)]
+#[derive(Clone, Copy)]
 pub enum Allowed {
     /// Any.
     Any,
@@ -30,7 +30,7 @@ pub enum Allowed {
 }
 
 /// A row of the table: an opcode with its format, and what it allows.
-#[derive(Clone, Copy, Drop)]
+#[derive(Clone, Copy)]
 pub struct MachineRow {
     pub format: FormatKind,
     pub opcode: u16,
@@ -38,7 +38,7 @@ pub struct MachineRow {
 }
 
 /// A row by its format and opcode.
-#[derive(Clone, Copy, Drop, PartialEq, Eq, Debug)]
+#[derive(Clone, Copy, PartialEq, Debug)]
 pub struct Row {
     pub format: FormatKind,
     pub opcode: u16,

@@ -7,7 +7,7 @@ ghost use mir.Syntax.{w16, w32};
 ghost use Rattle.s390x_format.specs.Distances.{half_of, distance_of, signed_of, unsigned_of};
 
 /// RI-B: `ab`, r1 c, h.
-#[derive(Clone, Copy, Drop)]
+#[derive(Drop)]
 pub struct RiB {
     /// Opcode.
     pub opcode: u16,
@@ -22,7 +22,7 @@ pub struct RiB {
 }
 
 /// RI-C: `ab`, m1 c, h.
-#[derive(Clone, Copy, Drop)]
+#[derive(Drop)]
 pub struct RiC {
     /// Opcode.
     pub opcode: u16,
@@ -37,7 +37,7 @@ pub struct RiC {
 }
 
 /// RIL-B: `ab`, r1 c, h.
-#[derive(Clone, Copy, Drop)]
+#[derive(Drop)]
 pub struct RilB {
     /// Opcode.
     pub opcode: u16,
@@ -52,7 +52,7 @@ pub struct RilB {
 }
 
 /// RIL-C: `ab`, m1 c, h.
-#[derive(Clone, Copy, Drop)]
+#[derive(Drop)]
 pub struct RilC {
     /// Opcode.
     pub opcode: u16,
@@ -67,7 +67,7 @@ pub struct RilC {
 }
 
 /// SIL: `ab cd`, b1 d, i2.
-#[derive(Clone, Copy, Drop)]
+#[derive(Drop)]
 pub struct Sil {
     /// Opcode.
     pub opcode: u16,

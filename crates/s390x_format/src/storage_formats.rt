@@ -5,7 +5,7 @@
 ghost use Rattle.std.specs.Prelude.{◌^◌, ◌<◌};
 
 /// RS: `ab`, r1 r3, b2 d.
-#[derive(Clone, Copy, Drop)]
+#[derive(Drop)]
 pub struct Rs {
     /// Opcode.
     pub opcode: u16,
@@ -25,7 +25,7 @@ pub struct Rs {
 }
 
 /// RSY: `ab`, r1 r3, b2 dl, dh, `cd`.
-#[derive(Clone, Copy, Drop)]
+#[derive(Drop)]
 pub struct Rsy {
     /// Opcode.
     pub opcode: u16,
@@ -45,7 +45,7 @@ pub struct Rsy {
 }
 
 /// RX: `ab`, r1 x2, b2 d.
-#[derive(Clone, Copy, Drop)]
+#[derive(Drop)]
 pub struct Rx {
     /// Opcode.
     pub opcode: u16,
@@ -65,7 +65,7 @@ pub struct Rx {
 }
 
 /// RXY: `ab`, r1 x2, b2 dl, dh, `cd`.
-#[derive(Clone, Copy, Drop)]
+#[derive(Drop)]
 pub struct Rxy {
     /// Opcode.
     pub opcode: u16,
@@ -85,7 +85,7 @@ pub struct Rxy {
 }
 
 /// SI: `ab`, i2, b1 d.
-#[derive(Clone, Copy, Drop)]
+#[derive(Drop)]
 pub struct Si {
     /// Opcode.
     pub opcode: u16,
@@ -102,7 +102,7 @@ pub struct Si {
 }
 
 /// SIY: `ab`, i2, b1 dl, dh, `cd`.
-#[derive(Clone, Copy, Drop)]
+#[derive(Drop)]
 pub struct Siy {
     /// Opcode.
     pub opcode: u16,

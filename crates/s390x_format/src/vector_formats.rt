@@ -5,7 +5,7 @@
 ghost use Rattle.std.specs.Prelude.{◌^◌, ◌<◌};
 
 /// VRI-A: `ab`, v1 0, i2, m3 x, `cd`.
-#[derive(Clone, Copy, Drop)]
+#[derive(Drop)]
 pub struct VriA {
     /// Opcode.
     pub opcode: u16,
@@ -22,7 +22,7 @@ pub struct VriA {
 }
 
 /// VRI-B: `ab`, v1 0, i2, i3, m4 x, `cd`.
-#[derive(Clone, Copy, Drop)]
+#[derive(Drop)]
 pub struct VriB {
     /// Opcode.
     pub opcode: u16,
@@ -42,7 +42,7 @@ pub struct VriB {
 }
 
 /// VRI-C: `ab`, v1 v3, i2, m4 x, `cd`.
-#[derive(Clone, Copy, Drop)]
+#[derive(Drop)]
 pub struct VriC {
     /// Opcode.
     pub opcode: u16,
@@ -62,7 +62,7 @@ pub struct VriC {
 }
 
 /// VRI-K: `ab`, v1 v2, v3 0, i5, v4 x, `cd`.
-#[derive(Clone, Copy, Drop)]
+#[derive(Drop)]
 pub struct VriK {
     /// Opcode.
     pub opcode: u16,
@@ -85,7 +85,7 @@ pub struct VriK {
 }
 
 /// VRR-A: `ab`, v1 v2, 00, m5 m4, m3 x, `cd`.
-#[derive(Clone, Copy, Drop)]
+#[derive(Drop)]
 pub struct VrrA {
     /// Opcode.
     pub opcode: u16,
@@ -108,7 +108,7 @@ pub struct VrrA {
 }
 
 /// VRR-B: `ab`, v1 v2, v3 0, m5 0, m4 x, `cd`.
-#[derive(Clone, Copy, Drop)]
+#[derive(Drop)]
 pub struct VrrB {
     /// Opcode.
     pub opcode: u16,
@@ -131,7 +131,7 @@ pub struct VrrB {
 }
 
 /// VRR-C: `ab`, v1 v2, v3 0, m6 m5, m4 x, `cd`.
-#[derive(Clone, Copy, Drop)]
+#[derive(Drop)]
 pub struct VrrC {
     /// Opcode.
     pub opcode: u16,
@@ -157,7 +157,7 @@ pub struct VrrC {
 }
 
 /// VRR-D: `ab`, v1 v2, v3 m5, m6 0, v4 x, `cd`.
-#[derive(Clone, Copy, Drop)]
+#[derive(Drop)]
 pub struct VrrD {
     /// Opcode.
     pub opcode: u16,
@@ -183,7 +183,7 @@ pub struct VrrD {
 }
 
 /// VRR-E: `ab`, v1 v2, v3 m6, 0 m5, v4 x, `cd`.
-#[derive(Clone, Copy, Drop)]
+#[derive(Drop)]
 pub struct VrrE {
     /// Opcode.
     pub opcode: u16,
@@ -209,7 +209,7 @@ pub struct VrrE {
 }
 
 /// VRR-F: `ab`, v1 r2, r3 0, 00, 0 x, `cd`.
-#[derive(Clone, Copy, Drop)]
+#[derive(Drop)]
 pub struct VrrF {
     /// Opcode.
     pub opcode: u16,
@@ -226,7 +226,7 @@ pub struct VrrF {
 }
 
 /// VRS-A: `ab`, v1 v3, b2 d, m4 x, `cd`.
-#[derive(Clone, Copy, Drop)]
+#[derive(Drop)]
 pub struct VrsA {
     /// Opcode.
     pub opcode: u16,
@@ -249,7 +249,7 @@ pub struct VrsA {
 }
 
 /// VRS-B: `ab`, v1 r3, b2 d, m4 x, `cd`.
-#[derive(Clone, Copy, Drop)]
+#[derive(Drop)]
 pub struct VrsB {
     /// Opcode.
     pub opcode: u16,
@@ -272,7 +272,7 @@ pub struct VrsB {
 }
 
 /// VRS-C: `ab`, r1 v3, b2 d, m4 x, `cd`.
-#[derive(Clone, Copy, Drop)]
+#[derive(Drop)]
 pub struct VrsC {
     /// Opcode.
     pub opcode: u16,
@@ -295,7 +295,7 @@ pub struct VrsC {
 }
 
 /// VRX: `ab`, v1 x2, b2 d, m3 x, `cd`.
-#[derive(Clone, Copy, Drop)]
+#[derive(Drop)]
 pub struct Vrx {
     /// Opcode.
     pub opcode: u16,

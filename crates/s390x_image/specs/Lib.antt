@@ -2,6 +2,5 @@ pub mod Errors
 pub mod Symbols
 pub mod Fields
 pub mod Causes
-pub mod Filled
 pub mod ReadingBack
 pub mod Values

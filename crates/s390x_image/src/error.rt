@@ -5,7 +5,7 @@ ghost use Rattle.s390x_image.specs.Errors.{number_of_link_error};
 use thiserror::Error;
 
 /// Why code is not linked at a base. The displayed text is the variant's name.
-#[derive(Clone, Copy, PartialEq, Eq, Debug, Error)]
+#[derive(Clone, Copy, PartialEq, Debug, Error)]
 pub enum LinkError {
     /// The base isn't a multiple of the code's alignment.
     #[error("MisalignedBase")]

@@ -1,7 +1,7 @@
 //! The image.
 
 /// The bytes of code at an address.
-#[derive(Debug, Drop)]
+#[derive(Drop)]
 pub struct Image {
     /// The address of the first byte.
     pub base: u64,

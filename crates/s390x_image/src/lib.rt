@@ -12,6 +12,3 @@ pub use error::LinkError;
 pub use image::Image;
 pub use linking::link;
 pub use symbols::SymbolTable;
-
-#[cfg(test)]
-mod tests;

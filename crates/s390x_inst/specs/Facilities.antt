@@ -16,7 +16,8 @@ use Rattle.s390x_inst.specs.declared.vec_ops.VecIntCmpOp.TheVariants.{CmpEq128, 
 use Rattle.s390x_inst.specs.declared.inst.Inst.{Inst}
 use Rattle.s390x_inst.specs.declared.inst.Inst.TheVariants.{AluRRR, UnaryRR, LoadIndexedAddr, LoadLogicalIndexedAddr, Vector}
 use Rattle.s390x_inst.specs.declared.vec_inst.VecInst.{VecInst}
-use Rattle.s390x_inst.specs.declared.vec_inst.VecInst.TheVariants.{VecRRR, VecRR, VecIntCmp, VecIntCmpS, VecIntEltCmp, VecBlend, VecEvaluate, VecLoadRev, VecLoadByte16Rev, VecLoadByte32Rev, VecLoadByte64Rev, VecLoadElt16Rev, VecLoadElt32Rev, VecLoadElt64Rev, VecStoreRev, VecStoreByte16Rev, VecStoreByte32Rev, VecStoreByte64Rev, VecStoreElt16Rev, VecStoreElt32Rev, VecStoreElt64Rev, VecLoadReplicateRev, VecLoadLaneRev, VecLoadLaneRevUndef, VecStoreLaneRev}
+use Rattle.s390x_inst.specs.declared.vec_inst.VecInst.TheVariants.{VecRRR, VecRR, VecIntCmp, VecIntCmpS, VecIntEltCmp, VecBlend, VecEvaluate, VecLoadRev, VecLoadByte16Rev, VecLoadByte32Rev, VecLoadByte64Rev, VecLoadElt16Rev, VecLoadElt32Rev, VecLoadElt64Rev, VecStoreRev, VecStoreByte16Rev}
+use Rattle.s390x_inst.specs.declared.vec_inst.VecInst.TheVariants.{VecStoreByte32Rev, VecStoreByte64Rev, VecStoreElt16Rev, VecStoreElt32Rev, VecStoreElt64Rev, VecLoadReplicateRev, VecLoadLaneRev, VecLoadLaneRevUndef, VecStoreLaneRev}
 
 -- of the form of three registers
 abbrev pub alu_facility : ALUOp → InstructionSet

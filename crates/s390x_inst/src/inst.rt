@@ -8,7 +8,6 @@ use s390x_base::{
     Cond, MachLabel, PReg, Reg, RegPair, SImm20, TrapCode, UImm16Shifted, UImm32Shifted, Writable,
     WritableRegPair,
 };
-use std::fmt;
 
 /// A typed instruction.
 ///
@@ -592,17 +591,4 @@ pub enum Inst {
     // Vector instructions.
     /// An instruction on vector or float registers.
     Vector(VecInst),
-}
-
-impl Default for Inst {
-    /// Nothing: what stands in the unused places of a list.
-    fn default() -> Inst {
-        Inst::Nop0
-    }
-}
-
-impl fmt::Debug for Inst {
-    fn fmt<W: fmt::Write>(&self, f: &mut fmt::Formatter<W>) -> fmt::Result {
-        f.write_str("Inst")
-    }
 }

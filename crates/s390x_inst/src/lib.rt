@@ -4,6 +4,7 @@
 pub mod abi;
 pub mod args;
 pub mod calls;
+pub mod defaults;
 pub mod facility;
 pub mod function;
 pub mod inst;
@@ -28,6 +29,3 @@ pub use state::{
 };
 pub use vec_inst::VecInst;
 pub use vec_ops::{VecBinaryOp, VecIntCmpOp, VecIntEltCmpOp, VecShiftOp, VecUnaryOp};
-
-#[cfg(test)]
-mod tests;

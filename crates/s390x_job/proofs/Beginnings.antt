@@ -252,7 +252,8 @@ module _ (rank bound : ℕ) (b : Beginning) (h : IsBeginning rank bound b) where
         | inr l ↦ let z = h.next_registers l.0 in record { general_zero = λ i k. z.general_zero i (omega (arith, l.1)); vector_zero = λ i k. z.vector_zero i (omega (arith, l.1)) }
       ]
 
-  registers_next : (x : RealRegister) (v first : ℕ) (r : StartRegs) → register_place x ≡ first → (v == 0) ≡ false → may_follow rank bound 4 first ≡ true → IsFull b.conv b.layout r → IsZeroFrom (first + 1) r → registers_lines r ≡ registers_lines b.registers ++ register_line x v ∷ [] → IsNext (beginning_lines b) (Header rank bound) (register_line x v) (Begun (record b { registers = r }) S.Registers (first + 1))
+  registers_next : (x : RealRegister) (v first : ℕ) (r : StartRegs) → register_place x ≡ first → (v == 0) ≡ false → may_follow rank bound 4 first ≡ true → IsFull b.conv b.layout r →
+      IsZeroFrom (first + 1) r → registers_lines r ≡ registers_lines b.registers ++ register_line x v ∷ [] → IsNext (beginning_lines b) (Header rank bound) (register_line x v) (Begun (record b { registers = r }) S.Registers (first + 1))
   registers_next x v first r p n f full z e =
       let m = h.no_memory (omega (arith, at_most 4 first f)) in
       let tail = map memory_line b.memory.items in
@@ -279,14 +280,20 @@ module _ (rank bound : ℕ) (b : Beginning) (h : IsBeginning rank bound b) where
       let g = b.registers.general in
       let rest = no_starts vector 0 b.registers.vector (λ j. z.vector_zero j (omega arith)) in
       let one = one_start general 0 g i v (omega (arith, h.full.general_count)) (λ j k. z.general_zero j k) n ∙ ap (λ m. start_lines general 0 g ++ register_line (general m) v ∷ []) (zero-add i) in
-      registers_next (general i) v i (record b.registers { general = set g i v }) (zero-add i) n f (record { frame = h.full.frame; general_count = length-set g i v ∙ h.full.general_count; vector_count = h.full.vector_count }) (record { general_zero = zero_after g i v z.general_zero; vector_zero = λ j k. z.vector_zero j (omega arith) }) (ap (λ t. t ++ start_lines vector 0 b.registers.vector) one ∙ more1 (register_line (general i) v) (start_lines general 0 g) (start_lines vector 0 b.registers.vector) rest)
+      registers_next (general i) v i (record b.registers { general = set g i v }) (zero-add i) n f
+      (record { frame = h.full.frame; general_count = length-set g i v ∙ h.full.general_count; vector_count = h.full.vector_count })
+      (record { general_zero = zero_after g i v z.general_zero; vector_zero = λ j k. z.vector_zero j (omega arith) })
+      (ap (λ t. t ++ start_lines vector 0 b.registers.vector) one ∙ more1 (register_line (general i) v) (start_lines general 0 g) (start_lines vector 0 b.registers.vector) rest)
 
   pub vector_next : (i v : ℕ) → i < 32 → (v == 0) ≡ false → may_follow rank bound 4 (16 + i) ≡ true → IsNext (beginning_lines b) (Header rank bound) (register_line (vector i) v) (Begun (record b { registers = record b.registers { vector = set b.registers.vector i v } }) S.Registers (16 + i + 1))
   vector_next i v small n f =
       let z = zeros (16 + i) f in
       let g = b.registers.vector in
       let one = one_start vector 0 g i v (omega (arith, h.full.vector_count)) (λ j k. z.vector_zero j (omega arith)) n ∙ ap (λ m. start_lines vector 0 g ++ register_line (vector m) v ∷ []) (zero-add i) in
-      registers_next (vector i) v (16 + i) (record b.registers { vector = set g i v }) refl n f (record { frame = h.full.frame; general_count = h.full.general_count; vector_count = length-set g i v ∙ h.full.vector_count }) (record { general_zero = λ j k. z.general_zero j (omega arith); vector_zero = λ j k. zero_after g i v (λ a c. z.vector_zero a (omega arith)) j (omega arith) }) (ap (λ t. start_lines general 0 b.registers.general ++ t) one ∙ sym (append_assoc (start_lines general 0 b.registers.general) (start_lines vector 0 g) (register_line (vector i) v ∷ [])))
+      registers_next (vector i) v (16 + i) (record b.registers { vector = set g i v }) refl n f
+      (record { frame = h.full.frame; general_count = h.full.general_count; vector_count = length-set g i v ∙ h.full.vector_count })
+      (record { general_zero = λ j k. z.general_zero j (omega arith); vector_zero = λ j k. zero_after g i v (λ a c. z.vector_zero a (omega arith)) j (omega arith) })
+      (ap (λ t. start_lines general 0 b.registers.general ++ t) one ∙ sym (append_assoc (start_lines general 0 b.registers.general) (start_lines vector 0 g) (register_line (vector i) v ∷ [])))
 
 -- no line is told yet
 abbrev is_zeros : List ℕ → Bool

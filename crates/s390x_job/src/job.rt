@@ -5,28 +5,28 @@ use s390x_inst::{AllocatedFunction, CallConv, EmitInfo, EmitState};
 use thiserror::Error;
 
 /// The address of a symbol.
-#[derive(Clone, Copy, PartialEq, Eq, Debug)]
+#[derive(Clone, Copy)]
 pub struct SymbolLine {
     pub name: ExternalName,
     pub address: u64,
 }
 
 /// What the registers hold when a run starts.
-#[derive(Clone, Copy, PartialEq, Eq, Debug)]
+#[derive(Clone, Copy)]
 pub struct StartRegs {
     pub general: [u64; 16],
     pub vector: [u128; 32],
 }
 
 /// What a region of memory holds when a run starts.
-#[derive(Debug, Drop)]
+#[derive(Drop)]
 pub struct MemLine {
     pub address: u64,
     pub bytes: Vec<u8>,
 }
 
 /// A function and all that its emission, its linking and its run need.
-#[derive(Debug, Drop)]
+#[derive(Drop)]
 pub struct Job {
     pub function: AllocatedFunction,
     pub info: EmitInfo,

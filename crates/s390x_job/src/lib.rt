@@ -14,6 +14,3 @@ mod reader;
 pub use job::{Job, LineError, MemLine, StartRegs, SymbolLine};
 pub use jobs::{lines_of_job, put_registers};
 pub use lines::read_lines;
-
-#[cfg(test)]
-mod tests;

@@ -13,8 +13,6 @@ mod products;
 pub mod results;
 pub mod size;
 pub mod step;
-#[cfg(test)]
-mod tests;
 mod unary;
 
 pub use step::{LaneEnd, lane_step};

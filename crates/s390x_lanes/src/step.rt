@@ -11,7 +11,7 @@ use crate::operation::VectorOperation;
 use crate::results;
 
 /// How a step of a vector row ends.
-#[derive(Clone, Copy, PartialEq, Eq, Debug)]
+#[derive(Clone, Copy, PartialEq, Debug)]
 pub enum LaneEnd {
     /// The new value of the first operand, and the condition code where the row sets one.
     Value { value: u128, code: Option<u8> },

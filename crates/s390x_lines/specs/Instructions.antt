@@ -168,7 +168,10 @@ inst_line (I.Ret link) = record { name = N.Control ControlIs.Ret; fields = FReg 
 inst_line (I.JTSequence ridx default default_cond targets) = record { name = N.Control ControlIs.JTSequence; fields = FReg ridx ∷ FNatural W32 default.0 ∷ FCond default_cond ∷ FLabels targets.items ∷ [] }
 inst_line (I.Loop' cond body members) = record { name = N.Loop; fields = FCond cond ∷ [] }
 inst_line (I.CondBreak cond) = record { name = N.Control ControlIs.CondBreak; fields = FCond cond ∷ [] }
-inst_line (I.Call link info) = record { name = N.Control ControlIs.Call; fields = FReg link ∷ FTarget info.dest ∷ FUses info.uses.items ∷ FDefs info.defs.items ∷ FSet (members (has info.clobbers)) ∷ FNatural W32 info.callee_pop_size ∷ FConvention info.caller_conv ∷ FConvention info.callee_conv ∷ FTry (try_part info.try_call_info) ∷ FBool info.patchable ∷ FOption W32 info.stack_map ∷ [] }
+inst_line (I.Call link info) = record {
+  name = N.Control ControlIs.Call;
+  fields = FReg link ∷ FTarget info.dest ∷ FUses info.uses.items ∷ FDefs info.defs.items ∷ FSet (members (has info.clobbers)) ∷ FNatural W32 info.callee_pop_size ∷ FConvention info.caller_conv ∷ FConvention info.callee_conv ∷ FTry (try_part info.try_call_info) ∷ FBool info.patchable ∷ FOption W32 info.stack_map ∷ [];
+}
 inst_line (I.ReturnCall info) = record { name = N.Control ControlIs.ReturnCall; fields = FTarget info.dest ∷ FUses info.uses.items ∷ FNatural W32 info.callee_pop_size ∷ [] }
 inst_line (I.AllocateArgs size) = record { name = N.Control ControlIs.AllocateArgs; fields = FNatural W32 size ∷ [] }
 inst_line (I.LoadSymbolReloc rd symbol_reloc) = record { name = N.Control ControlIs.LoadSymbolReloc; fields = FReg rd ∷ FReloc symbol_reloc ∷ [] }

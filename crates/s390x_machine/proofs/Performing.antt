@@ -1,4 +1,4 @@
--- The step can perform each row that has a meaning.
+-- The step can perform each row.
 use Rattle.std.proofs.Common.{◌≡◌, ℕ, zero, suc, ◌+◌, ◌*◌, ◌^◌, ◌<◌, ◌≤◌, Bool, true, false, ◌&&◌, ◌==◌, List, [], ◌∷◌, length, get_or, Option, Some, slice_index, refl, sym, ap, ◌∙◌, subst, arith, lit<, mod-eq_of_lt}
 use Rattle.std.specs.Prelude.{nat_le, nat_lt}
 use Rattle.std.proofs.lemmas.Bool.{and_parts, leb-true}
@@ -236,7 +236,7 @@ three true true false h = cc
 three true false c h = cc
 three false b c h = cc
 
--- what is fetched of a row with a meaning can be performed
+-- what is fetched can be performed
 pub can_perform : (bytes : List ℕ) (d : Decoded) (meaning : Meaning) → IsFetch bytes d → meaning_of d.row.opcode ≡ Some meaning → CanPerform meaning d.fields
 unfolding machine_rows
 can_perform bytes d meaning h is =

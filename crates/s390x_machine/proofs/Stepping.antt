@@ -3,12 +3,12 @@ use Rattle.std.proofs.Common.{◌≡◌, Bool, true, false, Option, None, Some, 
 use Rattle.s390x_format.specs.Formats.{length_of}
 use Rattle.s390x_format.specs.declared.decoder.Decoded.{Decoded}
 use Rattle.s390x_operations.specs.State.{State}
-use Rattle.s390x_operations.specs.declared.stop.StopKind.TheVariants.{Operation, Specification}
+use Rattle.s390x_operations.specs.declared.stop.StopKind.TheVariants.{Specification}
 use Rattle.s390x_machine.specs.Fetch.{Fetched, Misplaced, Missing, Unknown, Found, Fetches, IsFound}
 use Rattle.s390x_machine.specs.Machine.{Event, PairActs, RowActs, MachineStep, Went as GoesOn, Stopped as Stops'}
 use Rattle.s390x_machine.specs.Meanings.{action, is_odd_pair, meaning_of}
 use Rattle.s390x_machine.specs.Sound.{is_free}
-use Rattle.s390x_machine.specs.Step.{IsOpen, Executes, Steps, is_open, stored_by}
+use Rattle.s390x_machine.specs.Step.{IsOpen, Executes, Steps, stored_by}
 use Rattle.s390x_machine.specs.declared.meaning.Meaning.{Meaning}
 use Rattle.s390x_machine.specs.declared.step.StepEnd.{StepEnd}
 use Rattle.s390x_machine.specs.declared.step.StepEnd.TheVariants.{Went, Stopped, NoRow}
@@ -31,11 +31,17 @@ found_or d (Found e) = e
 found_alike : (d e : Decoded) → Found d ≡ Found e → d ≡ e
 found_alike d e same = ap (λ (f : Fetched). found_or d f) same
 
+-- what a row means; else a given meaning
+abbrev meaning_or : Meaning → Option Meaning → Meaning
+meaning_or m None = m
+meaning_or m (Some n) = n
+
 -- the row that is found isn't open where it means something that isn't free
 pub not_open : (s : State) (d : Decoded) (meaning : Meaning) → IsFound s.core.memory s.place d → meaning_of d.row.opcode ≡ Some meaning → is_free meaning d.fields s.core.registers ≡ false → IsOpen s → ⊥
 not_open s d meaning h is free o =
     let same : d ≡ o.found = found_alike d o.found (one_thing s.core.memory s.place (Found d) (Found o.found) h o.at) in
-    let says : is_open (Some meaning) d.fields s.core.registers ≡ true = sym (ap (λ (m : Option Meaning). is_open m d.fields s.core.registers) is) ∙ ap (λ (e : Decoded). is_open (meaning_of e.row.opcode) e.fields s.core.registers) same ∙ o.says_nothing in
+    let one : meaning ≡ o.meaning = ap (meaning_or meaning) (sym is ∙ ap (λ (e : Decoded). meaning_of e.row.opcode) same ∙ o.means) in
+    let says : is_free meaning d.fields s.core.registers ≡ true = ap (λ (m : Meaning). is_free m d.fields s.core.registers) one ∙ ap (λ (e : Decoded). is_free o.meaning e.fields s.core.registers) same ∙ o.says_nothing in
     true≢false (sym says ∙ free)
 
 -- a machine step at the row that is found
@@ -46,21 +52,6 @@ row_acts s d meaning odd event t h is pair acts = record {
   fetches = h;
   acts = subst (λ (m : Option Meaning). RowActs m d.fields (length_of d.row.format) s event t) (sym is) (subst (λ (b : Bool). PairActs b (action meaning d.fields s.core.registers s.place) (length_of d.row.format) s event t) (sym pair) acts);
 }
-
--- a row without a meaning stops
-pub no_meaning_stops : (s : State) (d : Decoded) → IsFound s.core.memory s.place d → meaning_of d.row.opcode ≡ None → Steps s (Stopped Operation s.place) s
-no_meaning_stops s d h is = (
-  λ (o : IsOpen s).
-      let same : d ≡ o.found = found_alike d o.found (one_thing s.core.memory s.place (Found d) (Found o.found) h o.at) in
-      let says : is_open None d.fields s.core.registers ≡ true = sym (ap (λ (m : Option Meaning). is_open m d.fields s.core.registers) is) ∙ ap (λ (e : Decoded). is_open (meaning_of e.row.opcode) e.fields s.core.registers) same ∙ o.says_nothing in
-      true≢false (sym says),
-  record {
-    fetched = Found d;
-    fetches = h;
-    acts = subst (λ (m : Option Meaning). RowActs m d.fields (length_of d.row.format) s (Stops' Operation) s) (sym is) (refl, refl);
-  },
-  refl,
-)
 
 pub odd_pair_stops : (s : State) (d : Decoded) (meaning : Meaning) → IsFound s.core.memory s.place d → meaning_of d.row.opcode ≡ Some meaning → is_odd_pair meaning d.fields ≡ true → MachineStep s (Stops' Specification) s
 odd_pair_stops s d meaning h is pair = row_acts s d meaning true (Stops' Specification) s h is pair (refl, refl)

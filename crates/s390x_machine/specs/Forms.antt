@@ -6,7 +6,9 @@ use Rattle.s390x_base.specs.declared.ir.MachLabel.{MachLabel}
 use Rattle.s390x_base.specs.declared.trap.TrapKind.{TrapKind}
 use Rattle.s390x_base.specs.declared.trap.TrapKind.TheVariants.{IntegerDivisionByZero}
 use Rattle.s390x_inst.specs.declared.inst.Inst.{Inst}
-use Rattle.s390x_inst.specs.declared.inst.Inst.TheVariants.{AluRRR, AluRR, AluRRSImm16, AluRSImm16, AluRSImm32, AluRUImm32, AluRUImm16Shifted, AluRUImm32Shifted, SMulWide, UMulWide, Flogr, ShiftRR, RxSBG, RxSBGTest, UnaryRR, CmpRR, CmpRSImm16, CmpRSImm32, CmpRUImm32, Mov64, MovPReg, Mov32, Mov32Imm, Mov32SImm16, Mov64SImm16, Mov64SImm32, Mov64UImm16Shifted, Mov64UImm32Shifted, Insert64UImm16Shifted, Insert64UImm32Shifted, CMov32, CMov64, CMov32SImm16, CMov64SImm16, Extend, LoadAR, InsertAR, LoadIndexedAddr, LoadLogicalIndexedAddr, Fence, Nop0, Nop2, Jump, CondBr, IndirectBr, Ret, JTSequence, LabelAddress, LoadSymbolReloc, Trap, TrapIf, Debugtrap, SDivMod32, SDivMod64, UDivMod32, UDivMod64, CmpTrapRR, CmpTrapRSImm16, CmpTrapRUImm16, AllocateArgs, Args, Rets, DummyUse, SequencePoint}
+use Rattle.s390x_inst.specs.declared.inst.Inst.TheVariants.{AluRRR, AluRR, AluRRSImm16, AluRSImm16, AluRSImm32, AluRUImm32, AluRUImm16Shifted, AluRUImm32Shifted, SMulWide, UMulWide, Flogr, ShiftRR, RxSBG, RxSBGTest, UnaryRR, CmpRR, CmpRSImm16, CmpRSImm32, CmpRUImm32}
+use Rattle.s390x_inst.specs.declared.inst.Inst.TheVariants.{Mov64, MovPReg, Mov32, Mov32Imm, Mov32SImm16, Mov64SImm16, Mov64SImm32, Mov64UImm16Shifted, Mov64UImm32Shifted, Insert64UImm16Shifted, Insert64UImm32Shifted, CMov32, CMov64, CMov32SImm16, CMov64SImm16, Extend, LoadAR, InsertAR, LoadIndexedAddr, LoadLogicalIndexedAddr, Fence, Nop0, Nop2}
+use Rattle.s390x_inst.specs.declared.inst.Inst.TheVariants.{Jump, CondBr, IndirectBr, Ret, JTSequence, LabelAddress, LoadSymbolReloc, Trap, TrapIf, Debugtrap, SDivMod32, SDivMod64, UDivMod32, UDivMod64, CmpTrapRR, CmpTrapRSImm16, CmpTrapRUImm16, AllocateArgs, Args, Rets, DummyUse, SequencePoint}
 use Rattle.s390x_operations.specs.State.{Registers}
 use Rattle.s390x_operations.specs.declared.operator.Operator.TheVariants.{Move}
 use Rattle.s390x_operations.specs.declared.size.Size.TheVariants.{Word, Doubleword}
@@ -16,7 +18,8 @@ use Rattle.s390x_operations.specs.declared.effect.CodeRule.TheVariants.{Kept, Se
 use Rattle.s390x_operations.specs.declared.effect.Operation.{Operation}
 use Rattle.s390x_operations.specs.declared.stop.StopKind.{StopKind}
 use Rattle.s390x_operations.specs.declared.stop.StopKind.TheVariants.{Access, Specification, Divide, CompareTrap}
-use Rattle.s390x_machine.specs.Computations.{computes, compares, alu_computation, alu_three_rule, alu_two_rule, unary_computation, unary_rule, comparison, on_words, on_doublewords, word, signed_word, signed_halfword, on_immediate, compares_on_immediate, computes_immediate, compares_immediate, doubleword, part_mask, on_selected, part_operator, at_part, at_half, half_mask, inserts_half, extension, shifts, rotates_into, rotates_to_test, multiplies_signed, multiplies_logical, divides_signed, divides_logical, compares_and_traps, compares_immediate_and_traps, finds_leftmost, idles, puts_any, copies_access, moves_where, moves_immediate_where, takes_from_stack}
+use Rattle.s390x_machine.specs.Computations.{computes, compares, alu_computation, alu_three_rule, alu_two_rule, unary_computation, unary_rule, comparison, on_words, on_doublewords, word, signed_word, signed_halfword, on_immediate, compares_on_immediate, computes_immediate, compares_immediate, doubleword}
+use Rattle.s390x_machine.specs.Computations.{part_mask, on_selected, part_operator, at_part, at_half, half_mask, inserts_half, extension, shifts, rotates_into, rotates_to_test, multiplies_signed, multiplies_logical, divides_signed, divides_logical, compares_and_traps, compares_immediate_and_traps, finds_leftmost, idles, puts_any, copies_access, moves_where, moves_immediate_where, takes_from_stack}
 use Rattle.s390x_machine.specs.Storage.{address_of, needs_scratch, aligned_where, is_relative_access, OperandStep, operand_step}
 use Rattle.s390x_inst.specs.Memory.{flags_of}
 use Rattle.s390x_inst.specs.declared.calls.SymbolReloc.{SymbolReloc}

@@ -38,9 +38,9 @@ abbrev pub PairActs : Bool → Action → ℕ → State → Event → State → 
 PairActs true a size s event t = StopsAs Stop.Specification s event t
 PairActs false a size s event t = Acts a size s event t
 
--- a row without a meaning would stop as bytes of no row do; each row has one
+-- what the row means is done; each row means something (`each_row_has_a_meaning`)
 abbrev pub RowActs : Option Meaning → Fields → ℕ → State → Event → State → Type 0
-RowActs None f size s event t = StopsAs Stop.Operation s event t
+RowActs None f size s event t = ⊥
 RowActs (Some meaning) f size s event t = PairActs (is_odd_pair meaning f) (action meaning f s.core.registers s.place) size s event t
 
 -- the order of stops: odd place, instruction bytes, row, odd pair; then those of the operation

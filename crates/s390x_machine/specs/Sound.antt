@@ -1,5 +1,5 @@
 -- What the machine's step needs of an operation so that registers can hold its results: numbers of registers that there are, and values of its size.
--- Each row with a meaning gives it (`are_performed`).
+-- Each row gives it (`are_performed`).
 use Rattle.std.specs.Prelude.{◌≡◌, ℕ, suc, ◌+◌, ◌==◌, ◌||◌, not, ℤ, pos, ◌*◌, ◌%◌, ◌^◌, ◌<◌, ◌≤◌, Bool, true, false, ◌&&◌, nat_le, nat_lt, List, [], ◌∷◌, Option, Some, None, IsTrue}
 use Rattle.s390x_format.specs.declared.fields.Fields.{Fields}
 use Rattle.s390x_format.specs.declared.kind.FormatKind.{FormatKind}
@@ -104,22 +104,6 @@ is_vector_field Row.InsertElement i = i == 0
 is_vector_field Row.ExtractElement i = i == 2
 is_vector_field _ i = false
 
--- the row names a vector register
-abbrev pub is_vector : Meaning → Bool
-is_vector (Row.Elements opcode) = true
-is_vector (Row.ShiftElements opcode) = true
-is_vector (Row.LoadVector storage) = true
-is_vector (Row.StoreVector storage) = true
-is_vector (Row.LoadLeft size) = true
-is_vector (Row.StoreLeft size) = true
-is_vector (Row.MoveLeft size) = true
-is_vector Row.RegisterToLeft = true
-is_vector Row.LeftToRegister = true
-is_vector Row.JoinRegisters = true
-is_vector Row.InsertElement = true
-is_vector Row.ExtractElement = true
-is_vector _ = false
-
 -- how many registers there are of the kind that a field names
 abbrev pub register_bound : Bool → ℕ
 register_bound true = 32
@@ -164,6 +148,11 @@ pub record CanPerform (meaning : Meaning) (f : Fields) : Type 0 where
   pub registers : HasRegisters meaning f
   pub room : IsRoomy meaning f
   pub element : HasElement meaning f
+
+-- the step can perform what a row means with these fields
+pub record FieldsFit (meaning : Meaning) (f : Fields) : Type 0 where
+  pub can : CanPerform meaning f
+  pub paired : IsPaired meaning f
 
 -- an operation on vectors whose result isn't computed
 abbrev pub is_uncomputed : Option VectorOperation → Bool
@@ -234,9 +223,9 @@ fits_field meaning format i = nat_le (width_of (suc i) (layout_of format)) (regi
 abbrev pub has_registers : Meaning → FormatKind → Bool
 has_registers meaning format = fits_field meaning format 0 && fits_field meaning format 1 && fits_field meaning format 2 && fits_field meaning format 3
 
--- the step can perform what a row means, if it means something
+-- the step can perform what a row means, and each row means something
 abbrev pub is_performed : Option Meaning → FormatKind → Allowed → Bool
-is_performed None format allowed = true
+is_performed None format allowed = false
 is_performed (Some meaning) format allowed = is_meant meaning format && has_registers meaning format && has_element meaning allowed
 
 -- the step can perform each row

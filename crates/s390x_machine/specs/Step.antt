@@ -1,9 +1,8 @@
 -- What a step of the machine as a program answers.
-use Rattle.std.specs.Prelude.{◌≡◌, ℕ, Bool, true, false, IsTrue, Option, Some, None}
+use Rattle.std.specs.Prelude.{◌≡◌, ℕ, IsTrue, Option, Some, None}
 use Rattle.s390x_format.specs.declared.decoder.Decoded.{Decoded}
-use Rattle.s390x_format.specs.declared.fields.Fields.{Fields}
 use Rattle.s390x_operations.specs.Access.{deposit}
-use Rattle.s390x_operations.specs.State.{Registers, State, Memory, Core, Deposit}
+use Rattle.s390x_operations.specs.State.{State, Memory, Core, Deposit}
 use Rattle.s390x_operations.specs.Effects.{access, Goes, Stops}
 use Rattle.s390x_operations.specs.declared.stop.StopKind.{StopKind}
 use Rattle.s390x_operations.specs.declared.effect.Operation.{Operation}
@@ -12,8 +11,6 @@ use Rattle.s390x_machine.specs.Machine.{Went as GoesOn, Stopped as Stops', Acts,
 use Rattle.s390x_machine.specs.Meanings.{meaning_of}
 use Rattle.s390x_machine.specs.Sound.{is_free}
 use Rattle.s390x_machine.specs.declared.meaning.Meaning.{Meaning}
-use Rattle.s390x_machine.specs.declared.meaning.RowMeaning.{RowMeaning}
-use Rattle.s390x_machine.specs.declared.meaning.Meaning.TheVariants.{PutAny}
 use Rattle.s390x_machine.specs.declared.meaning.Action.{Action}
 use Rattle.s390x_machine.specs.declared.meaning.Action.TheVariants.{Perform, Branch, BranchAndSave}
 use Rattle.s390x_machine.specs.declared.step.StepEnd.{StepEnd}
@@ -23,10 +20,6 @@ use Rattle.s390x_machine.specs.declared.step.StepEnd.TheVariants.{Went, Stopped,
 abbrev pub Performs : Operation → Core → Option StopKind → Core → Type 0
 Performs op c None t = Goes op c t
 Performs op c (Some kind) t = Stops op c.memory.has kind × (t ≡ c)
-
--- what a read past the end of the meanings gives
-abbrev pub no_meaning : RowMeaning
-no_meaning = record { opcode = 0; meaning = PutAny }
 
 -- what an action stores
 abbrev pub stored_by : Action → Memory → Option Deposit
@@ -40,16 +33,13 @@ Executes action size s Went t = Acts action size s (GoesOn (stored_by action s.c
 Executes action size s (Stopped kind place) t = Acts action size s (Stops' kind) t × (place ≡ s.place)
 Executes action size s NoRow t = ⊥
 
--- a row leaves its result free, or it isn't computed
-abbrev pub is_open : Option Meaning → Fields → Registers → Bool
-is_open None f r = false
-is_open (Some meaning) f r = is_free meaning f r
-
--- the instruction at the state's place is of a row that is open in this sense
+-- the instruction at the state's place is of a row that leaves its result free, or whose result isn't computed
 pub record IsOpen (s : State) : Type 0 where
   pub found : Decoded
   pub at : IsFound s.core.memory s.place found
-  pub says_nothing : IsTrue (is_open (meaning_of found.row.opcode) found.fields s.core.registers)
+  pub meaning : Meaning
+  pub means : meaning_of found.row.opcode ≡ Some meaning
+  pub says_nothing : IsTrue (is_free meaning found.fields s.core.registers)
 
 -- the machine goes, storing something or nothing
 pub record GoesTo (s t : State) : Type 0 where

@@ -1,6 +1,6 @@
 //! Numbers in memory, and the faults of accesses.
 
-ghost use Rattle.std.specs.Prelude.{◌≡◌, ◌<◌, ◌≤◌, ◌*◌, ◌^◌, true, IsTrue, Option, Some};
+ghost use Rattle.std.specs.Prelude.{◌≡◌, ℕ, ◌<◌, ◌≤◌, ◌*◌, ◌^◌, true, IsTrue, Option, Some};
 ghost use Rattle.s390x_operations.specs.Bits.{bytes};
 ghost use Rattle.s390x_operations.specs.Numbers.{whole};
 ghost use Rattle.s390x_operations.specs.State.{number_at, bytes_to, write_get, reaches};
@@ -93,11 +93,11 @@ pub fn found<M: Memory>(memory: &M, size: Size, address: u64) -> u64
 }
 
 /// Whether an operand that has to be aligned stands at no multiple of its size.
-fn is_misaligned(aligned: bool, address: u64, n: u64) -> bool
+fn is_misaligned(address: u64, n: u64) -> bool
     requires { 0 < n }
-    ensures { result ≡ is_misaligned aligned address n }
+    ensures { result ≡ is_misaligned true address n }
 {
-    aligned && address % n != 0
+    address % n != 0
 }
 
 /// The fault of so many bytes: they are misaligned, or else one isn't accessible.
@@ -113,27 +113,16 @@ fn reach_fault<M: Memory>(memory: &M, misaligned: bool, address: u64, n: u64) ->
     }
 }
 
-/// The fault of an operand of so many bytes.
-fn source_fault<M: Memory>(memory: &M, source: Source, n: u64) -> Option<StopKind>
+/// The fault of an operand of so many bytes, whether it is read or stored.
+fn operand_fault<M: Memory>(memory: &M, operand: Source, n: u64) -> Option<StopKind>
     requires { 0 < n }
-    ensures { result ≡ fault (source_access source n) (M.held memory.now) }
+    ensures read { result ≡ fault (source_access operand n) (M.held memory.now) }
+    ensures stored { (value : ℕ) → result ≡ fault (store_access operand n value) (M.held memory.now) }
 {
-    match source {
+    match operand {
         Source::Value(_) => None,
-        Source::Memory(a) => reach_fault(memory, is_misaligned(false, a, n), a, n),
-        Source::AlignedMemory(a) => reach_fault(memory, is_misaligned(true, a, n), a, n),
-    }
-}
-
-/// The fault of a store of so many bytes.
-fn store_fault<M: Memory>(memory: &M, destination: Source, n: u64, value: u64) -> Option<StopKind>
-    requires { 0 < n }
-    ensures { result ≡ fault (store_access destination n value) (M.held memory.now) }
-{
-    match destination {
-        Source::Value(_) => None,
-        Source::Memory(a) => reach_fault(memory, is_misaligned(false, a, n), a, n),
-        Source::AlignedMemory(a) => reach_fault(memory, is_misaligned(true, a, n), a, n),
+        Source::Memory(a) => reach_fault(memory, false, a, n),
+        Source::AlignedMemory(a) => reach_fault(memory, is_misaligned(a, n), a, n),
     }
 }
 
@@ -142,7 +131,7 @@ fn locked_fault<M: Memory>(memory: &M, size: Size, address: u64) -> Option<StopK
     ensures { result ≡ reach_fault (is_misaligned true address (bytes (width_of size))) (M.held memory.now) address (bytes (width_of size)) }
 {
     let n = size_in_bytes(size);
-    reach_fault(memory, is_misaligned(true, address, n), address, n)
+    reach_fault(memory, is_misaligned(address, n), address, n)
 }
 
 /// The fault of an effect's access: alignment first, then accessibility.
@@ -152,19 +141,19 @@ pub fn access_fault<M: Memory>(memory: &M, effect: &Effect) -> Option<StopKind>
 {
     match *effect {
         Effect::Compute { second, .. } => {
-            source_fault(memory, second.source, bytes(second.width) as u64)
+            operand_fault(memory, second.source, bytes(second.width) as u64)
         }
         Effect::Test { second, .. } => {
-            source_fault(memory, second.source, bytes(second.width) as u64)
+            operand_fault(memory, second.source, bytes(second.width) as u64)
         }
         Effect::Compare { second, .. } => {
-            source_fault(memory, second.source, bytes(second.width) as u64)
+            operand_fault(memory, second.source, bytes(second.width) as u64)
         }
         Effect::Store {
             width,
-            value,
             destination,
-        } => { store_fault(memory, destination, bytes(width) as u64, value) }
+            ..
+        } => { operand_fault(memory, destination, bytes(width) as u64) }
         Effect::LoadAndOperate { size, address, .. } => locked_fault(memory, size, address),
         Effect::CompareAndSwap { size, address, .. } => locked_fault(memory, size, address),
         Effect::LoadMultiple { count, address, .. } => {

@@ -155,8 +155,8 @@ fn row_step<M: Memory>(machine: &mut Machine, memory: &mut M, decoded: &Decoded)
     ensures { Steps (state_of machine.old (M.held memory.old) (M.byte memory.old)) result (state_of machine.new (M.held memory.new) (M.byte memory.new)) }
 {
     match meaning_of(decoded.row.opcode) {
-        None => StepEnd::Stopped(StopKind::Operation, machine.place),
         Some(meaning) => meaning_step(machine, memory, decoded, meaning),
+        None => unreachable!(),
     }
 }
 

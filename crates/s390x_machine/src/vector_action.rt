@@ -5,11 +5,11 @@ ghost use Rattle.s390x_lanes.specs.Size.{bits, lane_count};
 ghost use Rattle.s390x_lanes.specs.Lanes.{lane};
 ghost use Rattle.s390x_lanes.specs.Opcodes.{is_operation};
 ghost use Rattle.s390x_operations.specs.Vectors.{layout_bytes, loaded};
-ghost use Rattle.s390x_machine.specs.Meanings.{register_field, indexed_address, performs, element_size, left_bits, layout_of, on_elements, moves_value, action};
+ghost use Rattle.s390x_machine.specs.Meanings.{register_field, performs, element_size, left_bits, layout_of, on_elements, moves_value, action};
 ghost use Rattle.s390x_machine.specs.State.{registers_of};
-ghost use Rattle.s390x_machine.specs.Sound.{IsPaired, IsSoundAction, IsMeant, HasRegisters, HasElement, IsRoomy, is_free, is_uncomputed, is_vector, shift_amount};
+ghost use Rattle.s390x_machine.specs.Sound.{FieldsFit, IsSoundAction, is_free, is_uncomputed, shift_amount};
 
-use crate::action::{address_part, based, performs, value_in, whole_operand};
+use crate::field_values::{based, indexed_address, performs, value_in, whole_operand};
 use crate::machine::Machine;
 use crate::meaning::{Action, Meaning, VectorStorage};
 use s390x_compute::vectors::loaded;
@@ -18,7 +18,6 @@ use s390x_lanes::lane::element;
 use s390x_lanes::lookup::{operation, size_from};
 use s390x_lanes::operation::VectorOperation;
 use s390x_lanes::size::ElementSize;
-use s390x_operations::signed::low;
 use s390x_operations::{CodeRule, Effect, Operator, Size, VectorLayout};
 
 /// The element size that the first mask tells.
@@ -97,9 +96,9 @@ fn on_elements(operation: Option<VectorOperation>, target: u8, values: [u128; 4]
 }
 
 /// Vector register r1 gets what the row makes of the vector registers that it names.
-fn elements(machine: &Machine, fields: &Fields, opcode: u16) -> Action
+pub fn elements(machine: &Machine, fields: &Fields, opcode: u16) -> Action
     requires determined { IsFalse (is_free (Meaning.Elements opcode) fields.now (registers_of machine.now)) }
-    requires registers { HasRegisters (Meaning.Elements opcode) fields.now }
+    requires fit { FieldsFit (Meaning.Elements opcode) fields.now }
     ensures value { result ≡ action (Meaning.Elements opcode) fields.now (registers_of machine.now) machine.now.place }
     ensures sound { IsSoundAction result }
 {
@@ -125,9 +124,9 @@ pub fn shift_amount(machine: &Machine, fields: &Fields) -> i64
 }
 
 /// The same of vector register r3, by the amount at base r2 plus a displacement.
-fn shift_elements(machine: &Machine, fields: &Fields, opcode: u16) -> Action
+pub fn shift_elements(machine: &Machine, fields: &Fields, opcode: u16) -> Action
     requires determined { IsFalse (is_free (Meaning.ShiftElements opcode) fields.now (registers_of machine.now)) }
-    requires registers { HasRegisters (Meaning.ShiftElements opcode) fields.now }
+    requires fit { FieldsFit (Meaning.ShiftElements opcode) fields.now }
     ensures value { result ≡ action (Meaning.ShiftElements opcode) fields.now (registers_of machine.now) machine.now.place }
     ensures sound { IsSoundAction result }
 {
@@ -144,20 +143,9 @@ fn shift_elements(machine: &Machine, fields: &Fields, opcode: u16) -> Action
     )
 }
 
-/// A base plus an index plus a displacement, where r1 is a vector register.
-fn vector_address(machine: &Machine, fields: &Fields) -> u64
-    requires base { register_field fields.now 1 < 16 }
-    requires index { register_field fields.now 2 < 16 }
-    ensures { result ≡ indexed_address fields.now (registers_of machine.now) }
-{
-    let base = address_part(machine, fields.regs[1]);
-    let sum = base as u128 + address_part(machine, fields.regs[2]) as u128;
-    low(Size::Doubleword, sum as i128 + fields.disp as i128)
-}
-
 /// Vector register r1 gets what is in memory.
-fn load_vector(machine: &Machine, fields: &Fields, storage: VectorStorage) -> Action
-    requires registers { HasRegisters (Meaning.LoadVector storage) fields.now }
+pub fn load_vector(machine: &Machine, fields: &Fields, storage: VectorStorage) -> Action
+    requires { FieldsFit (Meaning.LoadVector storage) fields.now }
     ensures value { result ≡ action (Meaning.LoadVector storage) fields.now (registers_of machine.now) machine.now.place }
     ensures sound { IsSoundAction result }
 {
@@ -168,14 +156,14 @@ fn load_vector(machine: &Machine, fields: &Fields, storage: VectorStorage) -> Ac
             target: fields.regs[0],
             old: machine.vector(fields.regs[0]),
             known: u128::MAX,
-            address: vector_address(machine, fields),
+            address: indexed_address(machine, fields),
         },
     )
 }
 
 /// What is in vector register r1 goes to memory.
-fn store_vector(machine: &Machine, fields: &Fields, storage: VectorStorage) -> Action
-    requires registers { HasRegisters (Meaning.StoreVector storage) fields.now }
+pub fn store_vector(machine: &Machine, fields: &Fields, storage: VectorStorage) -> Action
+    requires { FieldsFit (Meaning.StoreVector storage) fields.now }
     ensures value { result ≡ action (Meaning.StoreVector storage) fields.now (registers_of machine.now) machine.now.place }
     ensures sound { IsSoundAction result }
 {
@@ -184,14 +172,14 @@ fn store_vector(machine: &Machine, fields: &Fields, storage: VectorStorage) -> A
         Effect::StoreVector {
             layout: layout_of(storage, fields),
             value: machine.vector(fields.regs[0]),
-            address: vector_address(machine, fields),
+            address: indexed_address(machine, fields),
         },
     )
 }
 
 /// The leftmost element of vector register r1 gets that in memory.
-fn load_left(machine: &Machine, fields: &Fields, size: ElementSize) -> Action
-    requires registers { HasRegisters (Meaning.LoadLeft size) fields.now }
+pub fn load_left(machine: &Machine, fields: &Fields, size: ElementSize) -> Action
+    requires { FieldsFit (Meaning.LoadLeft size) fields.now }
     ensures value { result ≡ action (Meaning.LoadLeft size) fields.now (registers_of machine.now) machine.now.place }
     ensures sound { IsSoundAction result }
 {
@@ -202,14 +190,14 @@ fn load_left(machine: &Machine, fields: &Fields, size: ElementSize) -> Action
             target: fields.regs[0],
             old: machine.vector(fields.regs[0]),
             known: left_bits(size),
-            address: vector_address(machine, fields),
+            address: indexed_address(machine, fields),
         },
     )
 }
 
 /// The leftmost element of vector register r1 goes to memory.
-fn store_left(machine: &Machine, fields: &Fields, size: ElementSize) -> Action
-    requires registers { HasRegisters (Meaning.StoreLeft size) fields.now }
+pub fn store_left(machine: &Machine, fields: &Fields, size: ElementSize) -> Action
+    requires { FieldsFit (Meaning.StoreLeft size) fields.now }
     ensures value { result ≡ action (Meaning.StoreLeft size) fields.now (registers_of machine.now) machine.now.place }
     ensures sound { IsSoundAction result }
 {
@@ -218,14 +206,14 @@ fn store_left(machine: &Machine, fields: &Fields, size: ElementSize) -> Action
         Effect::StoreVector {
             layout: VectorLayout::Element(size, 0, false),
             value: machine.vector(fields.regs[0]),
-            address: vector_address(machine, fields),
+            address: indexed_address(machine, fields),
         },
     )
 }
 
 /// The leftmost element of vector register r1 gets that of r2.
-fn move_left(machine: &Machine, fields: &Fields, size: ElementSize) -> Action
-    requires registers { HasRegisters (Meaning.MoveLeft size) fields.now }
+pub fn move_left(machine: &Machine, fields: &Fields, size: ElementSize) -> Action
+    requires { FieldsFit (Meaning.MoveLeft size) fields.now }
     ensures value { result ≡ action (Meaning.MoveLeft size) fields.now (registers_of machine.now) machine.now.place }
     ensures sound { IsSoundAction result }
 {
@@ -263,8 +251,8 @@ fn moves_value(machine: &Machine, fields: &Fields, value: u64) -> Action
 }
 
 /// The leftmost 64 bits of vector register r1 get register r2.
-fn register_to_left(machine: &Machine, fields: &Fields) -> Action
-    requires registers { HasRegisters Meaning.RegisterToLeft fields.now }
+pub fn register_to_left(machine: &Machine, fields: &Fields) -> Action
+    requires { FieldsFit Meaning.RegisterToLeft fields.now }
     ensures value { result ≡ action Meaning.RegisterToLeft fields.now (registers_of machine.now) machine.now.place }
     ensures sound { IsSoundAction result }
 {
@@ -282,8 +270,8 @@ fn element_of(size: ElementSize, value: u128, index: u32) -> u64
 }
 
 /// Register r1 gets the leftmost 64 bits of vector register r2.
-fn left_to_register(machine: &Machine, fields: &Fields) -> Action
-    requires registers { HasRegisters Meaning.LeftToRegister fields.now }
+pub fn left_to_register(machine: &Machine, fields: &Fields) -> Action
+    requires { FieldsFit Meaning.LeftToRegister fields.now }
     ensures value { result ≡ action Meaning.LeftToRegister fields.now (registers_of machine.now) machine.now.place }
     ensures sound { IsSoundAction result }
 {
@@ -292,8 +280,8 @@ fn left_to_register(machine: &Machine, fields: &Fields) -> Action
 }
 
 /// Vector register r1 gets registers r2 and r3, one behind the other.
-fn join_registers(machine: &Machine, fields: &Fields) -> Action
-    requires registers { HasRegisters Meaning.JoinRegisters fields.now }
+pub fn join_registers(machine: &Machine, fields: &Fields) -> Action
+    requires { FieldsFit Meaning.JoinRegisters fields.now }
     ensures value { result ≡ action Meaning.JoinRegisters fields.now (registers_of machine.now) machine.now.place }
     ensures sound { IsSoundAction result }
 {
@@ -332,8 +320,8 @@ fn inserted(size: ElementSize, old: u128, index: u64, x: u64) -> u128
 }
 
 /// The element of vector register r1 at base r2 plus a displacement gets the lowest bits of register r3.
-fn insert_element(machine: &Machine, fields: &Fields) -> Action
-    requires registers { HasRegisters Meaning.InsertElement fields.now }
+pub fn insert_element(machine: &Machine, fields: &Fields) -> Action
+    requires { FieldsFit Meaning.InsertElement fields.now }
     ensures value { result ≡ action Meaning.InsertElement fields.now (registers_of machine.now) machine.now.place }
     ensures sound { IsSoundAction result }
 {
@@ -353,9 +341,8 @@ fn insert_element(machine: &Machine, fields: &Fields) -> Action
 }
 
 /// Register r1 gets the element of vector register r3 at base r2 plus a displacement.
-fn extract_element(machine: &Machine, fields: &Fields) -> Action
-    requires registers { HasRegisters Meaning.ExtractElement fields.now }
-    requires element { HasElement Meaning.ExtractElement fields.now }
+pub fn extract_element(machine: &Machine, fields: &Fields) -> Action
+    requires { FieldsFit Meaning.ExtractElement fields.now }
     ensures value { result ≡ action Meaning.ExtractElement fields.now (registers_of machine.now) machine.now.place }
     ensures sound { IsSoundAction result }
 {
@@ -371,34 +358,5 @@ fn extract_element(machine: &Machine, fields: &Fields) -> Action
                 target: fields.regs[0],
             },
         )
-    }
-}
-
-/// What a row on vector registers does.
-pub fn vector_action(machine: &Machine, meaning: Meaning, fields: &Fields) -> Action
-    requires determined { IsFalse (is_free meaning fields.now (registers_of machine.now)) }
-    requires meant { IsMeant meaning }
-    requires registers { HasRegisters meaning fields.now }
-    requires paired { IsPaired meaning fields.now }
-    requires room { IsRoomy meaning fields.now }
-    requires element { HasElement meaning fields.now }
-    requires is_vector { IsTrue (is_vector meaning) }
-    ensures value { result ≡ action meaning fields.now (registers_of machine.now) machine.now.place }
-    ensures sound { IsSoundAction result }
-{
-    match meaning {
-        Meaning::Elements(opcode) => elements(machine, fields, opcode),
-        Meaning::ShiftElements(opcode) => shift_elements(machine, fields, opcode),
-        Meaning::LoadVector(storage) => load_vector(machine, fields, storage),
-        Meaning::StoreVector(storage) => store_vector(machine, fields, storage),
-        Meaning::LoadLeft(size) => load_left(machine, fields, size),
-        Meaning::StoreLeft(size) => store_left(machine, fields, size),
-        Meaning::MoveLeft(size) => move_left(machine, fields, size),
-        Meaning::RegisterToLeft => register_to_left(machine, fields),
-        Meaning::LeftToRegister => left_to_register(machine, fields),
-        Meaning::JoinRegisters => join_registers(machine, fields),
-        Meaning::InsertElement => insert_element(machine, fields),
-        Meaning::ExtractElement => extract_element(machine, fields),
-        _ => performs(CodeRule::Kept, Effect::Nothing),
     }
 }

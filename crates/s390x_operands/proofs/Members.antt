@@ -8,7 +8,7 @@ use Rattle.s390x_inst.specs.declared.inst.Inst.TheViews as V
 use Rattle.s390x_operands.specs.declared.constraint.OperandError.{OperandError}
 use Rattle.s390x_operands.specs.declared.constraint.Reported.{Reported}
 use Rattle.s390x_operands.specs.Requests.{Passes, Refuses, Reports}
-use Rattle.s390x_operands.specs.Operands.{requests, row_requests, members_requests, arithmetic_requests, is_loop}
+use Rattle.s390x_operands.specs.Operands.{requests, row_requests, members_requests, leaf_requests, is_loop}
 use Rattle.s390x_operands.proofs.Reporting.{reports_then, refused_before, passes_none}
 use Rattle.s390x_operands.proofs.Looping.{cons_of}
 
@@ -23,7 +23,7 @@ requests_loop i mask v s is at =
 pub looped : (i : Inst) (mask : ℕ) (v : Vec Inst Global) → i ≡ V.Loop mask v → is_loop i ≡ true
 looped i mask v is = ap is_loop is
 
-pub requests_other : (i : Inst) → ((m : ℕ) (v : Vec Inst Global) → i ≡ V.Loop m v → ⊥) → requests i ≡ arithmetic_requests i
+pub requests_other : (i : Inst) → ((m : ℕ) (v : Vec Inst Global) → i ≡ V.Loop m v → ⊥) → requests i ≡ leaf_requests i
 unfolding V.roll-Inst denote.Hole.Carrier.roll V.out-Inst denote.Hole.Carrier.out
 requests_other (Loop' mask body all) h = absurd (h mask _ (sym (roll-out-Inst (Loop' mask body all))))
 requests_other i h = refl
@@ -38,7 +38,7 @@ pub reports_loop : (i : Inst) (mask : ℕ) (v : Vec Inst Global) (s : List Inst)
 reports_loop i mask v s a d₀ d₁ l m r is at p =
     subst (λ b. Reports (b || a) (requests i) l m d₀ d₁ r) (sym (looped i mask v is)) (subst (λ xs. Reports true xs l m d₀ d₁ r) (sym (requests_loop i mask v s is at)) p)
 
-pub reports_other : (i : Inst) (a d₀ d₁ : Bool) (l m : List Reported) (r : Result (Unit {0}) OperandError) → ((k : ℕ) (v : Vec Inst Global) → i ≡ V.Loop k v → ⊥) → Reports a (arithmetic_requests i) l m d₀ d₁ r → Reports (is_loop i || a) (requests i) l m d₀ d₁ r
+pub reports_other : (i : Inst) (a d₀ d₁ : Bool) (l m : List Reported) (r : Result (Unit {0}) OperandError) → ((k : ℕ) (v : Vec Inst Global) → i ≡ V.Loop k v → ⊥) → Reports a (leaf_requests i) l m d₀ d₁ r → Reports (is_loop i || a) (requests i) l m d₀ d₁ r
 reports_other i a d₀ d₁ l m r h p =
     subst (λ b. Reports (b || a) (requests i) l m d₀ d₁ r) (sym (not_looped i h)) (subst (λ xs. Reports a xs l m d₀ d₁ r) (sym (requests_other i h)) p)
 

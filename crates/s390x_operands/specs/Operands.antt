@@ -2,9 +2,16 @@
 use Rattle.std.specs.Prelude.{ℕ, Bool, true, false, ◌||◌, List, [], ◌∷◌, ◌++◌, map, Option, Some, None}
 use Rattle.s390x_base.specs.declared.regs.Reg.{Reg}
 use Rattle.s390x_inst.specs.declared.inst.Inst.{Inst, Row_of-Inst, end_of-Inst, more_of-Inst}
-use Rattle.s390x_inst.specs.declared.inst.Inst.TheVariants.{Loop', IndirectBr, JTSequence, Call, ReturnCall, LoadSymbolReloc, LabelAddress, Args, Rets, DummyUse, Vector, AluRRR, AluRRSImm16, AluRR, AluRX, AluRSImm16, AluRSImm32, AluRUImm32, AluRUImm16Shifted, AluRUImm32Shifted, SMulWide, UMulWide, SDivMod32, SDivMod64, UDivMod32, UDivMod64, Flogr, ShiftRR, RxSBG, RxSBGTest, UnaryRR, CmpRR, CmpRX, CmpRSImm16, CmpRSImm32, CmpRUImm32, CmpTrapRR, CmpTrapRSImm16, CmpTrapRUImm16, Mov64, MovPReg, Mov32, Mov32Imm, Mov32SImm16, Mov64SImm16, Mov64SImm32, Mov64UImm16Shifted, Mov64UImm32Shifted, Insert64UImm16Shifted, Insert64UImm32Shifted, CMov32, CMov64, CMov32SImm16, CMov64SImm16, Extend, LoadAR, InsertAR, Load32, Load32ZExt8, Load32SExt8, Load32ZExt16, Load32SExt16, Load64, Load64ZExt8, Load64SExt8, Load64ZExt16, Load64SExt16, Load64ZExt32, Load64SExt32, LoadRev16, LoadRev32, LoadRev64, Store8, Store16, Store32, Store64, StoreRev16, StoreRev32, StoreRev64, StoreImm8, StoreImm16, StoreImm32SExt16, StoreImm64SExt16, LoadMultiple64, StoreMultiple64, LoadAddr, LoadIndexedAddr, LoadLogicalIndexedAddr, AtomicRmw, AtomicCas32, AtomicCas64}
+use Rattle.s390x_inst.specs.declared.inst.Inst.TheVariants.{Loop', IndirectBr, JTSequence, Call, ReturnCall, LoadSymbolReloc, LabelAddress, Args, Rets, DummyUse, Vector, AluRRR, AluRRSImm16, AluRR, AluRX, AluRSImm16, AluRSImm32, AluRUImm32, AluRUImm16Shifted, AluRUImm32Shifted, SMulWide, UMulWide}
+use Rattle.s390x_inst.specs.declared.inst.Inst.TheVariants.{SDivMod32, SDivMod64, UDivMod32, UDivMod64, Flogr, ShiftRR, RxSBG, RxSBGTest, UnaryRR, CmpRR, CmpRX, CmpRSImm16, CmpRSImm32, CmpRUImm32, CmpTrapRR, CmpTrapRSImm16, CmpTrapRUImm16, Mov64, MovPReg, Mov32, Mov32Imm, Mov32SImm16, Mov64SImm16}
+use Rattle.s390x_inst.specs.declared.inst.Inst.TheVariants.{Mov64SImm32, Mov64UImm16Shifted, Mov64UImm32Shifted, Insert64UImm16Shifted, Insert64UImm32Shifted, CMov32, CMov64, CMov32SImm16, CMov64SImm16, Extend, LoadAR, InsertAR, Load32, Load32ZExt8, Load32SExt8, Load32ZExt16, Load32SExt16, Load64}
+use Rattle.s390x_inst.specs.declared.inst.Inst.TheVariants.{Load64ZExt8, Load64SExt8, Load64ZExt16, Load64SExt16, Load64ZExt32, Load64SExt32, LoadRev16, LoadRev32, LoadRev64, Store8, Store16, Store32, Store64, StoreRev16, StoreRev32, StoreRev64, StoreImm8, StoreImm16, StoreImm32SExt16, StoreImm64SExt16}
+use Rattle.s390x_inst.specs.declared.inst.Inst.TheVariants.{LoadMultiple64, StoreMultiple64, LoadAddr, LoadIndexedAddr, LoadLogicalIndexedAddr, AtomicRmw, AtomicCas32, AtomicCas64}
 use Rattle.s390x_inst.specs.declared.vec_inst.VecInst.{VecInst}
-use Rattle.s390x_inst.specs.declared.vec_inst.VecInst.TheVariants.{VecRRR, VecRR, VecShiftRR, VecSelect, VecPermute, VecBlend, VecEvaluate, VecPermuteDWImm, VecIntCmp, VecIntCmpS, VecIntEltCmp, VecInt128SCmpHi, VecInt128UCmpHi, VecLoad, VecLoadRev, VecLoadByte16Rev, VecLoadByte32Rev, VecLoadByte64Rev, VecLoadElt16Rev, VecLoadElt32Rev, VecLoadElt64Rev, VecStore, VecStoreRev, VecStoreByte16Rev, VecStoreByte32Rev, VecStoreByte64Rev, VecStoreElt16Rev, VecStoreElt32Rev, VecStoreElt64Rev, VecLoadReplicate, VecLoadReplicateRev, VecLoadLane, VecLoadLaneRev, VecLoadLaneUndef, VecLoadLaneRevUndef, VecStoreLane, VecStoreLaneRev, VecMov, FpuMove32, FpuMove64, FpuCMov32, FpuCMov64, VecCMov, MovToVec128, VecImmByteMask, VecImmBitMask, VecImmReplicate, VecInsertLane, VecInsertLaneUndef, VecExtractLane, VecInsertLaneImm, VecInsertLaneImmUndef, VecReplicateLane, VecEltRev}
+use Rattle.s390x_inst.specs.declared.vec_inst.VecInst.TheVariants.{VecRRR, VecRR, VecShiftRR, VecSelect, VecPermute, VecBlend, VecEvaluate, VecPermuteDWImm, VecIntCmp, VecIntCmpS, VecIntEltCmp, VecInt128SCmpHi, VecInt128UCmpHi, VecLoad, VecLoadRev, VecLoadByte16Rev, VecLoadByte32Rev, VecLoadByte64Rev}
+use Rattle.s390x_inst.specs.declared.vec_inst.VecInst.TheVariants.{VecLoadElt16Rev, VecLoadElt32Rev, VecLoadElt64Rev, VecStore, VecStoreRev, VecStoreByte16Rev, VecStoreByte32Rev, VecStoreByte64Rev, VecStoreElt16Rev, VecStoreElt32Rev, VecStoreElt64Rev, VecLoadReplicate, VecLoadReplicateRev, VecLoadLane}
+use Rattle.s390x_inst.specs.declared.vec_inst.VecInst.TheVariants.{VecLoadLaneRev, VecLoadLaneUndef, VecLoadLaneRevUndef, VecStoreLane, VecStoreLaneRev, VecMov, FpuMove32, FpuMove64, FpuCMov32, FpuCMov64, VecCMov, MovToVec128, VecImmByteMask, VecImmBitMask, VecImmReplicate, VecInsertLane}
+use Rattle.s390x_inst.specs.declared.vec_inst.VecInst.TheVariants.{VecInsertLaneUndef, VecExtractLane, VecInsertLaneImm, VecInsertLaneImmUndef, VecReplicateLane, VecEltRev}
 use Rattle.s390x_operands.specs.declared.constraint.OperandError.{OperandError}
 use Rattle.s390x_operands.specs.declared.constraint.Reported.{Reported}
 use Rattle.s390x_operands.specs.declared.constraint.Reported.TheVariants.{Fixed}
@@ -148,43 +155,43 @@ move_requests (InsertAR rd ri ar) = reused rd ∷ used ri ∷ []
 move_requests i = storage_requests i
 
 -- what is reported of operators, products, divisions, shifts, rotations and comparisons
-abbrev pub arithmetic_requests : Inst → List (Option Reported)
-arithmetic_requests (AluRRR alu_op rd rn rm) = defined rd ∷ used rn ∷ used rm ∷ []
-arithmetic_requests (AluRRSImm16 alu_op rd rn imm) = defined rd ∷ used rn ∷ []
-arithmetic_requests (AluRR alu_op rd ri rm) = reused rd ∷ used ri ∷ used rm ∷ []
-arithmetic_requests (AluRX alu_op rd ri mem) = reused rd ∷ used ri ∷ memory_requests mem
-arithmetic_requests (AluRSImm16 alu_op rd ri imm) = reused rd ∷ used ri ∷ []
-arithmetic_requests (AluRSImm32 alu_op rd ri imm) = reused rd ∷ used ri ∷ []
-arithmetic_requests (AluRUImm32 alu_op rd ri imm) = reused rd ∷ used ri ∷ []
-arithmetic_requests (AluRUImm16Shifted alu_op rd ri imm) = reused rd ∷ used ri ∷ []
-arithmetic_requests (AluRUImm32Shifted alu_op rd ri imm) = reused rd ∷ used ri ∷ []
-arithmetic_requests (SMulWide rd rn rm) = used rn ∷ used rm ∷ fixed_def rd.hi 2 ∷ fixed_def rd.lo 3 ∷ []
-arithmetic_requests (UMulWide rd ri rn) = used rn ∷ fixed_def rd.hi 2 ∷ fixed_def rd.lo 3 ∷ fixed_use ri 3 ∷ []
-arithmetic_requests (SDivMod32 rd ri rn) = used rn ∷ fixed_def rd.hi 2 ∷ fixed_def rd.lo 3 ∷ fixed_use ri 3 ∷ []
-arithmetic_requests (SDivMod64 rd ri rn) = used rn ∷ fixed_def rd.hi 2 ∷ fixed_def rd.lo 3 ∷ fixed_use ri 3 ∷ []
-arithmetic_requests (UDivMod32 rd ri rn) = used rn ∷ fixed_def rd.hi 2 ∷ fixed_def rd.lo 3 ∷ fixed_use ri.hi 2 ∷ fixed_use ri.lo 3 ∷ []
-arithmetic_requests (UDivMod64 rd ri rn) = used rn ∷ fixed_def rd.hi 2 ∷ fixed_def rd.lo 3 ∷ fixed_use ri.hi 2 ∷ fixed_use ri.lo 3 ∷ []
-arithmetic_requests (Flogr rd rn) = used rn ∷ fixed_def rd.hi 2 ∷ fixed_def rd.lo 3 ∷ []
-arithmetic_requests (ShiftRR shift_op rd rn shift_imm shift_reg) = defined rd ∷ used rn ∷ used shift_reg ∷ []
-arithmetic_requests (RxSBG op rd ri rn start_bit end_bit rotate_amt) = reused rd ∷ used ri ∷ used rn ∷ []
-arithmetic_requests (RxSBGTest op rd rn start_bit end_bit rotate_amt) = used rd ∷ used rn ∷ []
-arithmetic_requests (UnaryRR op rd rn) = defined rd ∷ used rn ∷ []
-arithmetic_requests (CmpRR op rn rm) = used rn ∷ used rm ∷ []
-arithmetic_requests (CmpRX op rn mem) = used rn ∷ memory_requests mem
-arithmetic_requests (CmpRSImm16 op rn imm) = used rn ∷ []
-arithmetic_requests (CmpRSImm32 op rn imm) = used rn ∷ []
-arithmetic_requests (CmpRUImm32 op rn imm) = used rn ∷ []
-arithmetic_requests (CmpTrapRR op rn rm cond trap_code) = used rn ∷ used rm ∷ []
-arithmetic_requests (CmpTrapRSImm16 op rn imm cond trap_code) = used rn ∷ []
-arithmetic_requests (CmpTrapRUImm16 op rn imm cond trap_code) = used rn ∷ []
-arithmetic_requests i = move_requests i
+abbrev pub leaf_requests : Inst → List (Option Reported)
+leaf_requests (AluRRR alu_op rd rn rm) = defined rd ∷ used rn ∷ used rm ∷ []
+leaf_requests (AluRRSImm16 alu_op rd rn imm) = defined rd ∷ used rn ∷ []
+leaf_requests (AluRR alu_op rd ri rm) = reused rd ∷ used ri ∷ used rm ∷ []
+leaf_requests (AluRX alu_op rd ri mem) = reused rd ∷ used ri ∷ memory_requests mem
+leaf_requests (AluRSImm16 alu_op rd ri imm) = reused rd ∷ used ri ∷ []
+leaf_requests (AluRSImm32 alu_op rd ri imm) = reused rd ∷ used ri ∷ []
+leaf_requests (AluRUImm32 alu_op rd ri imm) = reused rd ∷ used ri ∷ []
+leaf_requests (AluRUImm16Shifted alu_op rd ri imm) = reused rd ∷ used ri ∷ []
+leaf_requests (AluRUImm32Shifted alu_op rd ri imm) = reused rd ∷ used ri ∷ []
+leaf_requests (SMulWide rd rn rm) = used rn ∷ used rm ∷ fixed_def rd.hi 2 ∷ fixed_def rd.lo 3 ∷ []
+leaf_requests (UMulWide rd ri rn) = used rn ∷ fixed_def rd.hi 2 ∷ fixed_def rd.lo 3 ∷ fixed_use ri 3 ∷ []
+leaf_requests (SDivMod32 rd ri rn) = used rn ∷ fixed_def rd.hi 2 ∷ fixed_def rd.lo 3 ∷ fixed_use ri 3 ∷ []
+leaf_requests (SDivMod64 rd ri rn) = used rn ∷ fixed_def rd.hi 2 ∷ fixed_def rd.lo 3 ∷ fixed_use ri 3 ∷ []
+leaf_requests (UDivMod32 rd ri rn) = used rn ∷ fixed_def rd.hi 2 ∷ fixed_def rd.lo 3 ∷ fixed_use ri.hi 2 ∷ fixed_use ri.lo 3 ∷ []
+leaf_requests (UDivMod64 rd ri rn) = used rn ∷ fixed_def rd.hi 2 ∷ fixed_def rd.lo 3 ∷ fixed_use ri.hi 2 ∷ fixed_use ri.lo 3 ∷ []
+leaf_requests (Flogr rd rn) = used rn ∷ fixed_def rd.hi 2 ∷ fixed_def rd.lo 3 ∷ []
+leaf_requests (ShiftRR shift_op rd rn shift_imm shift_reg) = defined rd ∷ used rn ∷ used shift_reg ∷ []
+leaf_requests (RxSBG op rd ri rn start_bit end_bit rotate_amt) = reused rd ∷ used ri ∷ used rn ∷ []
+leaf_requests (RxSBGTest op rd rn start_bit end_bit rotate_amt) = used rd ∷ used rn ∷ []
+leaf_requests (UnaryRR op rd rn) = defined rd ∷ used rn ∷ []
+leaf_requests (CmpRR op rn rm) = used rn ∷ used rm ∷ []
+leaf_requests (CmpRX op rn mem) = used rn ∷ memory_requests mem
+leaf_requests (CmpRSImm16 op rn imm) = used rn ∷ []
+leaf_requests (CmpRSImm32 op rn imm) = used rn ∷ []
+leaf_requests (CmpRUImm32 op rn imm) = used rn ∷ []
+leaf_requests (CmpTrapRR op rn rm cond trap_code) = used rn ∷ used rm ∷ []
+leaf_requests (CmpTrapRSImm16 op rn imm cond trap_code) = used rn ∷ []
+leaf_requests (CmpTrapRUImm16 op rn imm cond trap_code) = used rn ∷ []
+leaf_requests i = move_requests i
 
 -- an instruction reports its operands in order, a `Loop` those of its members in order
 abbrev mutual
   -- of an instruction. A `Loop` has its members twice: `all` is read, and `body` is ignored
   pub requests : Inst → List (Option Reported)
   requests (Loop' mask body all) = row_requests all
-  requests i = arithmetic_requests i
+  requests i = leaf_requests i
 
   -- of the members of a loop
   pub row_requests : {m : _} → Row_of-Inst m → List (Option Reported)

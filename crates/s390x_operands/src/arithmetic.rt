@@ -1,6 +1,6 @@
 //! Reporting the operands of operators.
 ghost use Rattle.s390x_operands.specs.Requests.{Reports};
-ghost use Rattle.s390x_operands.specs.Operands.{arithmetic_requests};
+ghost use Rattle.s390x_operands.specs.Operands.{leaf_requests};
 
 use crate::constraint::OperandError;
 use crate::moves::report_move;
@@ -17,7 +17,7 @@ pub fn report_arithmetic<V: OperandVisitor>(
     denied: bool,
     inst: &Inst,
 ) -> Result<(), OperandError>
-    ensures { Reports denied (arithmetic_requests inst.now) (V.items v.old) (V.items v.new) (V.denies v.old) (V.denies v.new) result }
+    ensures { Reports denied (leaf_requests inst.now) (V.items v.old) (V.items v.new) (V.denies v.old) (V.denies v.new) result }
 {
     match inst {
         Inst::AluRRR { rd, rn, rm, .. } => { report_output(v, denied, rd, &[*rn, *rm]) }

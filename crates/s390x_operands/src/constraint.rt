@@ -3,7 +3,7 @@
 use s390x_base::{PReg, PRegSet, Reg};
 
 /// Where an operand may stand.
-#[derive(Clone, Copy, PartialEq, Eq, Debug)]
+#[derive(Clone, Copy, PartialEq)]
 pub enum OperandConstraint {
     /// In a register or on the stack.
     Any,
@@ -16,21 +16,21 @@ pub enum OperandConstraint {
 }
 
 /// Whether an operand is written or read.
-#[derive(Clone, Copy, PartialEq, Eq, Debug)]
+#[derive(Clone, Copy, PartialEq)]
 pub enum OperandKind {
     Def,
     Use,
 }
 
 /// When an operand is written or read: before the instruction's effects, or after them.
-#[derive(Clone, Copy, PartialEq, Eq, Debug)]
+#[derive(Clone, Copy, PartialEq)]
 pub enum OperandPos {
     Early,
     Late,
 }
 
 /// Why the operands of an instruction can't be reported.
-#[derive(Clone, Copy, PartialEq, Eq, Debug)]
+#[derive(Clone, Copy, PartialEq, Debug)]
 pub enum OperandError {
     /// An output that has to be an input stands where that is denied, as in a `Loop`.
     ReuseInLoop,
@@ -41,7 +41,7 @@ pub enum OperandError {
 }
 
 /// One item of what an instruction reports.
-#[derive(Clone, Copy, PartialEq, Eq, Debug)]
+#[derive(Clone, Copy, PartialEq)]
 pub enum Reported {
     /// A register to be placed, or one that is placed already where its constraint names it.
     Operand {

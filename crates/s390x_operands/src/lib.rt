@@ -19,6 +19,3 @@ pub use constraint::{OperandConstraint, OperandError, OperandKind, OperandPos, R
 pub use list::OperandList;
 pub use mach_inst::{CallType, MachInst};
 pub use visitor::{DenyReuseVisitor, OperandVisitor};
-
-#[cfg(test)]
-mod tests;

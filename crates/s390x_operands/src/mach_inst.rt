@@ -12,7 +12,7 @@ use s390x_base::{MachLabel, Reg, Writable};
 use s390x_inst::{Inst, VecInst};
 
 /// Whether an instruction calls, and how.
-#[derive(Clone, Copy, PartialEq, Eq, Debug)]
+#[derive(Clone, Copy)]
 pub enum CallType {
     /// It calls nothing.
     None,

@@ -152,7 +152,7 @@ pub enum Effect {
 }
 
 /// What becomes of the condition code.
-#[derive(Clone, Copy, PartialEq, Eq, Debug)]
+#[derive(Clone, Copy)]
 pub enum CodeRule {
     /// It stays.
     Kept,

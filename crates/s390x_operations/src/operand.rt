@@ -24,7 +24,7 @@ pub struct Operand {
 }
 
 /// The values of an even-odd pair of registers.
-#[derive(Clone, Copy, PartialEq, Eq, Debug)]
+#[derive(Clone, Copy)]
 pub struct Pair {
     pub high: u64,
     pub low: u64,

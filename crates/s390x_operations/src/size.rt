@@ -1,7 +1,7 @@
 //! Sizes of operations and widths of operands.
 
 /// The part of a general register that an operation works on.
-#[derive(Clone, Copy, PartialEq, Eq, Debug)]
+#[derive(Clone, Copy)]
 pub enum Size {
     /// Bits 48 to 63: the others stay.
     Halfword,
@@ -12,7 +12,7 @@ pub enum Size {
 }
 
 /// How many bits an operand has before it is extended.
-#[derive(Clone, Copy, PartialEq, Eq, Debug)]
+#[derive(Clone, Copy)]
 pub enum Width {
     Bits8,
     Bits16,

@@ -1,7 +1,7 @@
 //! Condition codes, and why an instruction stops.
 
 /// A condition code (Principles of Operation, chapter 4, "Condition code").
-#[derive(Clone, Copy, PartialEq, Eq, Debug)]
+#[derive(Clone, Copy)]
 pub enum ConditionCode {
     Code0,
     Code1,

@@ -2,7 +2,7 @@
 
 /// Type(s) of memory instructions available for finalizing an operand: which displacements, relative forms and registers the machine
 /// rows of an instruction have.
-#[derive(Clone, Copy, PartialEq, Eq, Debug)]
+#[derive(Clone, Copy)]
 pub struct MemInstType {
     /// An unsigned displacement of 12 bits.
     pub have_d12: bool,

@@ -5,7 +5,7 @@ ghost use Rattle.std.specs.Io.KnownBytes.{ReadConsumes, WriteAppends};
 ghost use Rattle.s390x_tool.specs.Causes.{HasCause};
 
 /// A read or a write failed. The count of faults of its source or sink tells of it.
-#[derive(Clone, Copy, PartialEq, Eq, Debug)]
+#[derive(Clone, Copy)]
 pub struct Failed;
 
 /// Where a job is read from.

@@ -14,7 +14,7 @@ pub const MOST_BYTES: usize = 16_777_216;
 const PIECE: usize = 65_536;
 
 /// Why the input isn't there.
-#[derive(Clone, Copy, PartialEq, Eq, Debug)]
+#[derive(Clone, Copy)]
 pub enum InputError {
     /// A read failed.
     Fault,

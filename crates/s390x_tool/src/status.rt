@@ -3,7 +3,7 @@ ghost use Rattle.std.specs.Prelude.{◌≡◌};
 ghost use Rattle.s390x_tool.specs.Status.{number_of_status};
 
 /// How `run` ended.
-#[derive(Clone, Copy, PartialEq, Eq, Debug)]
+#[derive(Clone, Copy, PartialEq, Debug)]
 pub enum Status {
     /// All done, and the whole text written.
     Ok = 0,

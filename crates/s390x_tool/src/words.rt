@@ -4,7 +4,7 @@ ghost use Rattle.std.specs.Fmt.{decimal};
 ghost use Rattle.s390x_tool.specs.Words.{IsForm, IsImage, IsNoForm, IsPlain, IsRun, texts};
 
 /// What the program is asked for.
-#[derive(Clone, Copy, PartialEq, Eq, Debug)]
+#[derive(Clone, Copy)]
 pub enum Command {
     /// The image of the job, linked at this base.
     Image { base: u64 },

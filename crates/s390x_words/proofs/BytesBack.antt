@@ -160,4 +160,6 @@ facility_feed false name h = tt
 pub facilities-feed : (f : IsaFlags) → Avoids (10 ∷ []) (facilities_text f)
 facilities-feed f =
     let bad = 10 ∷ [] in
-    Avoids-append bad (facility_text f.has_mie3 (codes "mie3")) _ (facility_feed f.has_mie3 (codes "mie3") (Avoids-test bad (codes "mie3") refl)) (Avoids-append bad (facility_text f.has_mie4 (codes "mie4")) _ (facility_feed f.has_mie4 (codes "mie4") (Avoids-test bad (codes "mie4") refl)) (Avoids-append bad (facility_text f.has_vxrs_ext2 (codes "vxrs_ext2")) _ (facility_feed f.has_vxrs_ext2 (codes "vxrs_ext2") (Avoids-test bad (codes "vxrs_ext2") refl)) (facility_feed f.has_vxrs_ext3 (codes "vxrs_ext3") (Avoids-test bad (codes "vxrs_ext3") refl))))
+    Avoids-append bad (facility_text f.has_mie3 (codes "mie3")) _ (facility_feed f.has_mie3 (codes "mie3") (Avoids-test bad (codes "mie3") refl))
+    (Avoids-append bad (facility_text f.has_mie4 (codes "mie4")) _ (facility_feed f.has_mie4 (codes "mie4") (Avoids-test bad (codes "mie4") refl))
+    (Avoids-append bad (facility_text f.has_vxrs_ext2 (codes "vxrs_ext2")) _ (facility_feed f.has_vxrs_ext2 (codes "vxrs_ext2") (Avoids-test bad (codes "vxrs_ext2") refl)) (facility_feed f.has_vxrs_ext3 (codes "vxrs_ext3") (Avoids-test bad (codes "vxrs_ext3") refl))))

@@ -19,7 +19,7 @@ use Rattle.s390x_inst.specs.declared.calls.TryCallInfo.{TryCallInfo}
 use Rattle.s390x_inst.specs.declared.calls.SymbolReloc.{SymbolReloc}
 use Rattle.s390x_inst.specs.declared.calls.SymbolReloc.TheVariants.{Absolute}
 use Rattle.s390x_base.specs.declared.regs.Reg.{Reg}
-use Rattle.s390x_words.specs.Marks.{word, after_word, past}
+use Rattle.s390x_words.specs.Marks.{equals_sign, at_sign, colon, word, after_word, past}
 use Rattle.s390x_words.specs.Numbers.{natural_of, integer_of, IsBelow, signed_limit, W32, S64}
 use Rattle.s390x_words.specs.Found.{found}
 use Rattle.s390x_words.specs.Operators.{type_text}
@@ -57,12 +57,12 @@ reloc_of s =
 
 -- a pair of registers: `vreg=preg`
 abbrev pub pair_text : Reg → Reg → List ℕ
-pair_text v p = reg_text v ++ (61 ∷ reg_text p)
+pair_text v p = reg_text v ++ (equals_sign ∷ reg_text p)
 
 -- where a result comes back, and its type: `=preg:I64` or `=@OFFSET:I64`
 abbrev pub location_text : RetLocation → List ℕ
-location_text (L.Reg r ty) = 61 ∷ (reg_text r ++ (58 ∷ type_text ty))
-location_text (L.Stack off ty) = 61 ∷ 64 ∷ (signed_decimal off ++ (58 ∷ type_text ty))
+location_text (L.Reg r ty) = equals_sign ∷ (reg_text r ++ (colon ∷ type_text ty))
+location_text (L.Stack off ty) = equals_sign ∷ at_sign ∷ (signed_decimal off ++ (colon ∷ type_text ty))
 
 -- a result of a call: `vreg=preg:I64` or `vreg=@OFFSET:I64`
 abbrev pub result_text : CallRetPair → List ℕ
@@ -93,8 +93,8 @@ result_of s = record { vreg = reg_of (word s); location = location_of (after_wor
 
 -- handlers: `TAG:LABEL`, or `*:LABEL` for all tags
 abbrev pub handler_text : TryCallHandler → List ℕ
-handler_text (Tag tag label) = decimal tag ++ (58 ∷ decimal label.0)
-handler_text (Default label) = (42 ∷ []) ++ (58 ∷ decimal label.0)
+handler_text (Tag tag label) = decimal tag ++ (colon ∷ decimal label.0)
+handler_text (Default label) = (42 ∷ []) ++ (colon ∷ decimal label.0)
 
 -- its tag and its label have 32 bits
 abbrev pub IsHandler : TryCallHandler → Type 0

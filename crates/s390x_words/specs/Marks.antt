@@ -10,6 +10,18 @@ among x (y ∷ s) = (x == y) || among x s
 abbrev pub is_mark : ℕ → Bool
 is_mark x = among x (10 ∷ codes " ()[],:/=!@")
 
+-- `=`, before the register that a value stands in
+abbrev pub equals_sign : ℕ
+equals_sign = 61
+
+-- `@`, before an offset in the stack
+abbrev pub at_sign : ℕ
+at_sign = 64
+
+-- `:`, before the type or the block that something has
+abbrev pub colon : ℕ
+colon = 58
+
 -- the bytes before the first mark
 abbrev pub before_mark : List ℕ → List ℕ
 before_mark [] = []

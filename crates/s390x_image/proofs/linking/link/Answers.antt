@@ -1,7 +1,7 @@
 use Rattle.std.proofs.Common.{◌≡◌, ℕ, List, ◌++◌, length, take, drop, get_or, ap, ◌∙◌, arith}
 use Rattle.std.proofs.lemmas.Grind.{common_steps}
 use Rattle.s390x_image.specs.Fields.{filled}
-use Rattle.s390x_image.specs.Filled.{filled-outside}
+use Rattle.s390x_image.proofs.Filled.{filled-outside}
 use Rattle.s390x_image.proofs.linking.link.Goals as goal
 
 pub returns-clause-others : goal.returns-clause-others

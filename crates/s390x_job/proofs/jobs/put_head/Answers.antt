@@ -16,4 +16,6 @@ returns c =
     let g = c.in_ok-put_frames.ensures ∙ ap (λ l. string_bytes c.put_flags.new.out ++ lines_text (frame_lines j.conv l)) c.frame_layout.ensures in
     let k = c.in_ok-put_constants.ensures ∙ ap (λ xs. string_bytes c.put_frames.new.out ++ lines_text (map constant_line xs)) c.deref.ensures.value in
     let s = c.in_ok-put_symbols.ensures ∙ ap (λ xs. string_bytes c.put_constants.new.out ++ lines_text (map symbol_line xs)) c.deref-2.ensures.value in
-    on_ok c.put_regions.result (λ e. two_texts fs (gs ++ (cs ++ (ss ++ (rs ++ ms)))) _ _ _ c.in_ok-put_flags.ensures (two_texts gs (cs ++ (ss ++ (rs ++ ms))) _ _ _ g (two_texts cs (ss ++ (rs ++ ms)) _ _ _ k (two_texts ss (rs ++ ms) _ _ _ s (two_texts rs ms _ _ _ c.in_ok-put_registers.ensures (e ∙ ap (λ xs. string_bytes c.put_registers.new.out ++ lines_text (map memory_line xs)) c.deref-3.ensures.value)))))) c.put_regions.ensures
+    on_ok c.put_regions.result (λ e. two_texts fs (gs ++ (cs ++ (ss ++ (rs ++ ms)))) _ _ _ c.in_ok-put_flags.ensures
+    (two_texts gs (cs ++ (ss ++ (rs ++ ms))) _ _ _ g (two_texts cs (ss ++ (rs ++ ms)) _ _ _ k
+    (two_texts ss (rs ++ ms) _ _ _ s (two_texts rs ms _ _ _ c.in_ok-put_registers.ensures (e ∙ ap (λ xs. string_bytes c.put_registers.new.out ++ lines_text (map memory_line xs)) c.deref-3.ensures.value)))))) c.put_regions.ensures

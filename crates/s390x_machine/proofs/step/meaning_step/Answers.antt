@@ -14,15 +14,6 @@ returns-then-is_odd_pair g c =
     let odd = sym c.is_odd_pair.ensures ∙ c.if-is_odd_pair.true in
     (not_open s c.args.decoded.now c.args.meaning c.requires.found c.requires.is free, odd_pair_stops s c.args.decoded.now c.args.meaning c.requires.found c.requires.is odd, refl)
 
-pub action-action-requires-clause-meant : goal.action-action-requires-clause-meant
-action-action-requires-clause-meant g c = (can_perform _ c.args.decoded.now c.args.meaning c.requires.found.row c.requires.is).meant
-
-pub action-action-requires-clause-registers : goal.action-action-requires-clause-registers
-action-action-requires-clause-registers g c = (can_perform _ c.args.decoded.now c.args.meaning c.requires.found.row c.requires.is).registers
-
-pub action-action-requires-clause-room : goal.action-action-requires-clause-room
-action-action-requires-clause-room g c = (can_perform _ c.args.decoded.now c.args.meaning c.requires.found.row c.requires.is).room
-
 pub returns : goal.returns
 returns g c =
     let s = state_of c.args.machine.now (g.M.Memory.held c.args.memory.now) (g.M.Memory.byte c.args.memory.now) in
@@ -34,8 +25,8 @@ returns g c =
     let y = subst (λ (n : ℕ). Executes (action c.args.meaning d.fields s.core.registers s.place) n s c.execute.result t) c.length.ensures x in
     executed s d c.args.meaning c.execute.result t c.requires.found c.requires.is free odd y
 
-pub action-action-requires-clause-element : goal.action-action-requires-clause-element
-action-action-requires-clause-element g c = (can_perform _ c.args.decoded.now c.args.meaning c.requires.found.row c.requires.is).element
-
 pub is_free-requires : goal.is_free-requires
 is_free-requires g c = (can_perform _ c.args.decoded.now c.args.meaning c.requires.found.row c.requires.is).registers
+
+pub action-action-requires-clause-fit : goal.action-action-requires-clause-fit
+action-action-requires-clause-fit g c = record { can = can_perform _ c.args.decoded.now c.args.meaning c.requires.found.row c.requires.is; paired = search rules }

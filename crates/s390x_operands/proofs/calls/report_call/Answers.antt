@@ -12,8 +12,12 @@ returns-in_err-report_call_arguments g c =
 
 pub returns-in_err-report_call_results : goal.returns-in_err-report_call_results
 returns-in_err-report_call_results g c =
-    reports_then _ _ _ _ _ _ _ _ _ _ c.in_ok-report_destination.ensures (reports_then _ _ _ _ _ _ _ _ _ _ (passes_same _ _ _ (map argument c.args.info.now.uses.items) _ _ _ c.in_ok-report_call_arguments.ensures (ap (map argument) (sym c.deref.ensures.value))) (refused_before _ _ _ _ _ _ _ _ c.from_residual-in_err-report_call_results.result c.from_residual-in_err-report_call_results.ensures.1 (refuses_same _ _ _ (map call_result c.args.info.now.defs.items) _ _ _ _ c.in_err-report_call_results.ensures (ap (map call_result) (sym c.deref-2.ensures.value)))))
+    reports_then _ _ _ _ _ _ _ _ _ _ c.in_ok-report_destination.ensures
+    (reports_then _ _ _ _ _ _ _ _ _ _ (passes_same _ _ _ (map argument c.args.info.now.uses.items) _ _ _ c.in_ok-report_call_arguments.ensures (ap (map argument) (sym c.deref.ensures.value)))
+    (refused_before _ _ _ _ _ _ _ _ c.from_residual-in_err-report_call_results.result c.from_residual-in_err-report_call_results.ensures.1 (refuses_same _ _ _ (map call_result c.args.info.now.defs.items) _ _ _ _ c.in_err-report_call_results.ensures (ap (map call_result) (sym c.deref-2.ensures.value)))))
 
 pub returns : goal.returns
 returns g c =
-    reports_then _ _ _ _ _ _ _ _ _ _ c.in_ok-report_destination.ensures (reports_then _ _ _ _ _ _ _ _ _ _ (passes_same _ _ _ (map argument c.args.info.now.uses.items) _ _ _ c.in_ok-report_call_arguments.ensures (ap (map argument) (sym c.deref.ensures.value))) (reports_then _ _ _ _ _ _ _ _ _ _ (passes_same _ _ _ (map call_result c.args.info.now.defs.items) _ _ _ c.in_ok-report_call_results.ensures (ap (map call_result) (sym c.deref-2.ensures.value))) c.report_clobbers.ensures))
+    reports_then _ _ _ _ _ _ _ _ _ _ c.in_ok-report_destination.ensures
+    (reports_then _ _ _ _ _ _ _ _ _ _ (passes_same _ _ _ (map argument c.args.info.now.uses.items) _ _ _ c.in_ok-report_call_arguments.ensures (ap (map argument) (sym c.deref.ensures.value)))
+    (reports_then _ _ _ _ _ _ _ _ _ _ (passes_same _ _ _ (map call_result c.args.info.now.defs.items) _ _ _ c.in_ok-report_call_results.ensures (ap (map call_result) (sym c.deref-2.ensures.value))) c.report_clobbers.ensures))

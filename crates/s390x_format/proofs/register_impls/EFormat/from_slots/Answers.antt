@@ -11,4 +11,13 @@ invariant_of-result c = record { opcode_fits = slot_fits KindE c.args.slots.now 
 
 pub returns : goal.returns
 returns c =
-    ten_same c.args.slots.now _ _ _ _ _ _ _ _ _ _ c.requires.0 refl (omega (arith, slot_fits KindE c.args.slots.now 1 (lit< tt) c.requires)) (omega (arith, slot_fits KindE c.args.slots.now 2 (lit< tt) c.requires)) (omega (arith, slot_fits KindE c.args.slots.now 3 (lit< tt) c.requires)) (omega (arith, slot_fits KindE c.args.slots.now 4 (lit< tt) c.requires)) (omega (arith, slot_fits KindE c.args.slots.now 5 (lit< tt) c.requires)) (omega (arith, slot_fits KindE c.args.slots.now 6 (lit< tt) c.requires)) (omega (arith, slot_fits KindE c.args.slots.now 7 (lit< tt) c.requires)) (omega (arith, slot_fits KindE c.args.slots.now 8 (lit< tt) c.requires)) (omega (arith, slot_fits KindE c.args.slots.now 9 (lit< tt) c.requires))
+    ten_same c.args.slots.now _ _ _ _ _ _ _ _ _ _ c.requires.0 refl
+    (omega (arith, slot_fits KindE c.args.slots.now 1 (lit< tt) c.requires))
+    (omega (arith, slot_fits KindE c.args.slots.now 2 (lit< tt) c.requires))
+    (omega (arith, slot_fits KindE c.args.slots.now 3 (lit< tt) c.requires))
+    (omega (arith, slot_fits KindE c.args.slots.now 4 (lit< tt) c.requires))
+    (omega (arith, slot_fits KindE c.args.slots.now 5 (lit< tt) c.requires))
+    (omega (arith, slot_fits KindE c.args.slots.now 6 (lit< tt) c.requires))
+    (omega (arith, slot_fits KindE c.args.slots.now 7 (lit< tt) c.requires))
+    (omega (arith, slot_fits KindE c.args.slots.now 8 (lit< tt) c.requires))
+    (omega (arith, slot_fits KindE c.args.slots.now 9 (lit< tt) c.requires))

@@ -36,4 +36,11 @@ returns c =
     let f : c.from.result ≡ to_z w16 (get_or c.args.slots.now 8 0) = omega (arith, ints) in
     let d : to_z w64 (of_z w64 (pos 2 *ℤ to_z w64 (of_z w64 c.from.result))) ≡ pos 2 *ℤ c.from.result = omega (arith, ints) in
     let e : to_z w64 (of_z w64 (pos 2 *ℤ to_z w64 (of_z w64 c.from.result))) ≡ distance_of w16 (get_or c.args.slots.now 8 0) = d ∙ ap (λ (z : ℤ). pos 2 *ℤ z) f in
-    ten_same c.args.slots.now _ _ _ _ _ _ _ _ _ _ c.requires.0 refl refl (omega (arith, slot_fits KindRiB c.args.slots.now 2 (lit< tt) c.requires)) (omega (arith, slot_fits KindRiB c.args.slots.now 3 (lit< tt) c.requires)) (omega (arith, slot_fits KindRiB c.args.slots.now 4 (lit< tt) c.requires)) (omega (arith, slot_fits KindRiB c.args.slots.now 5 (lit< tt) c.requires)) (omega (arith, slot_fits KindRiB c.args.slots.now 6 (lit< tt) c.requires)) (omega (arith, slot_fits KindRiB c.args.slots.now 7 (lit< tt) c.requires)) (ap (half_of w16) e ∙ half16_back (get_or c.args.slots.now 8 0) h) (omega (arith, slot_fits KindRiB c.args.slots.now 9 (lit< tt) c.requires))
+    ten_same c.args.slots.now _ _ _ _ _ _ _ _ _ _ c.requires.0 refl refl
+    (omega (arith, slot_fits KindRiB c.args.slots.now 2 (lit< tt) c.requires))
+    (omega (arith, slot_fits KindRiB c.args.slots.now 3 (lit< tt) c.requires))
+    (omega (arith, slot_fits KindRiB c.args.slots.now 4 (lit< tt) c.requires))
+    (omega (arith, slot_fits KindRiB c.args.slots.now 5 (lit< tt) c.requires))
+    (omega (arith, slot_fits KindRiB c.args.slots.now 6 (lit< tt) c.requires))
+    (omega (arith, slot_fits KindRiB c.args.slots.now 7 (lit< tt) c.requires)) (ap (half_of w16) e ∙ half16_back (get_or c.args.slots.now 8 0) h)
+    (omega (arith, slot_fits KindRiB c.args.slots.now 9 (lit< tt) c.requires))

@@ -32,4 +32,10 @@ pub returns : goal.returns
 returns c =
     let h : get_or c.args.slots.now 8 0 < 2 ^ 16 = slot_fits KindSil c.args.slots.now 8 (lit< tt) c.requires in
     let e : to_z w16 (of_z w16 c.cast_signed.result) ≡ signed_of w16 (get_or c.args.slots.now 8 0) = omega (arith, ints) in
-    ten_same c.args.slots.now _ _ _ _ _ _ _ _ _ _ c.requires.0 refl refl (omega (arith, slot_fits KindSil c.args.slots.now 2 (lit< tt) c.requires)) (omega (arith, slot_fits KindSil c.args.slots.now 3 (lit< tt) c.requires)) (omega (arith, slot_fits KindSil c.args.slots.now 4 (lit< tt) c.requires)) (omega (arith, slot_fits KindSil c.args.slots.now 5 (lit< tt) c.requires)) (omega (arith, slot_fits KindSil c.args.slots.now 6 (lit< tt) c.requires)) (omega (arith, slot_fits KindSil c.args.slots.now 7 (lit< tt) c.requires)) (ap (unsigned_of w16) e ∙ of_z-to_z w16 (get_or c.args.slots.now 8 0) h) refl
+    ten_same c.args.slots.now _ _ _ _ _ _ _ _ _ _ c.requires.0 refl refl
+    (omega (arith, slot_fits KindSil c.args.slots.now 2 (lit< tt) c.requires))
+    (omega (arith, slot_fits KindSil c.args.slots.now 3 (lit< tt) c.requires))
+    (omega (arith, slot_fits KindSil c.args.slots.now 4 (lit< tt) c.requires))
+    (omega (arith, slot_fits KindSil c.args.slots.now 5 (lit< tt) c.requires))
+    (omega (arith, slot_fits KindSil c.args.slots.now 6 (lit< tt) c.requires))
+    (omega (arith, slot_fits KindSil c.args.slots.now 7 (lit< tt) c.requires)) (ap (unsigned_of w16) e ∙ of_z-to_z w16 (get_or c.args.slots.now 8 0) h) refl

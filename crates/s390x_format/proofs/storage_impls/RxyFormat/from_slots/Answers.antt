@@ -26,4 +26,9 @@ invariant_of-result c = record {
 
 pub returns : goal.returns
 returns c =
-    ten_same c.args.slots.now _ _ _ _ _ _ _ _ _ _ c.requires.0 refl refl refl refl (omega (arith, slot_fits KindRxy c.args.slots.now 4 (lit< tt) c.requires)) (omega (arith, slot_fits KindRxy c.args.slots.now 5 (lit< tt) c.requires)) (omega (arith, slot_fits KindRxy c.args.slots.now 6 (lit< tt) c.requires)) (omega (arith, slot_fits KindRxy c.args.slots.now 7 (lit< tt) c.requires)) (omega (arith, slot_fits KindRxy c.args.slots.now 8 (lit< tt) c.requires)) refl
+    ten_same c.args.slots.now _ _ _ _ _ _ _ _ _ _ c.requires.0 refl refl refl refl
+    (omega (arith, slot_fits KindRxy c.args.slots.now 4 (lit< tt) c.requires))
+    (omega (arith, slot_fits KindRxy c.args.slots.now 5 (lit< tt) c.requires))
+    (omega (arith, slot_fits KindRxy c.args.slots.now 6 (lit< tt) c.requires))
+    (omega (arith, slot_fits KindRxy c.args.slots.now 7 (lit< tt) c.requires))
+    (omega (arith, slot_fits KindRxy c.args.slots.now 8 (lit< tt) c.requires)) refl

@@ -29,4 +29,9 @@ invariant_of-result c = record {
 
 pub returns : goal.returns
 returns c =
-    ten_same c.args.slots.now _ _ _ _ _ _ _ _ _ _ c.requires.0 refl refl refl (omega (arith, slot_fits KindVriC c.args.slots.now 3 (lit< tt) c.requires)) (omega (arith, slot_fits KindVriC c.args.slots.now 4 (lit< tt) c.requires)) refl (omega (arith, slot_fits KindVriC c.args.slots.now 6 (lit< tt) c.requires)) (omega (arith, slot_fits KindVriC c.args.slots.now 7 (lit< tt) c.requires)) refl (omega (arith, slot_fits KindVriC c.args.slots.now 9 (lit< tt) c.requires))
+    ten_same c.args.slots.now _ _ _ _ _ _ _ _ _ _ c.requires.0 refl refl refl
+    (omega (arith, slot_fits KindVriC c.args.slots.now 3 (lit< tt) c.requires))
+    (omega (arith, slot_fits KindVriC c.args.slots.now 4 (lit< tt) c.requires)) refl
+    (omega (arith, slot_fits KindVriC c.args.slots.now 6 (lit< tt) c.requires))
+    (omega (arith, slot_fits KindVriC c.args.slots.now 7 (lit< tt) c.requires)) refl
+    (omega (arith, slot_fits KindVriC c.args.slots.now 9 (lit< tt) c.requires))

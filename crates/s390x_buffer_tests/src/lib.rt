@@ -1,0 +1,9 @@
+//! Tests of the buffer and of linking.
+#![tactic(auto)]
+
+#[cfg(test)]
+mod linking;
+#[cfg(test)]
+mod tables;
+#[cfg(test)]
+mod uses;

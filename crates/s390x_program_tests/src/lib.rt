@@ -1,0 +1,19 @@
+//! Tests of the program: whole runs over sources and sinks in memory.
+#![tactic(auto)]
+
+#[cfg(test)]
+mod entries;
+#[cfg(test)]
+mod executions;
+#[cfg(test)]
+mod memory_rows;
+#[cfg(test)]
+mod operands;
+#[cfg(test)]
+mod register_rows;
+#[cfg(test)]
+mod relative_rows;
+#[cfg(test)]
+mod runs;
+#[cfg(test)]
+mod stack_rows;
