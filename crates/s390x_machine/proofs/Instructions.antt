@@ -67,7 +67,7 @@ use Rattle.s390x_machine.specs.Meanings.{action, count_operator, names_pair, is_
 use Rattle.s390x_machine.specs.Typed.{At, FormStep, form_of, form_at}
 use Rattle.s390x_machine.specs.Match.{EveryRunFrom, EveryRun, EveryBlockRun}
 use Rattle.s390x_machine.specs.OneStep.{StepRuns, StepHolds, silent}
-use Rattle.s390x_machine.specs.Machine.{Run, Event, Went, Stopped, Acts}
+use Rattle.s390x_machine.specs.Machine.{Event, Went, Stopped, Acts}
 use Rattle.s390x_machine.specs.Layout.{Layout, place, block_place, InStep}
 use Rattle.s390x_machine.specs.Placed.{Placed, AllPlaced, IsBlock, AreBlocks, FineOr, IsFineInstruction, IsFine}
 use Rattle.s390x_machine.proofs.Fetching.{StandsAt}
