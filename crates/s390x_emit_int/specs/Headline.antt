@@ -16,7 +16,7 @@ abbrev pub linked : Symbols → (base : ℕ) → List Tree → List Constant →
 linked symbols base ts cs = record { constant = constant_place ts cs; aligns = aligns_of cs; symbol_value = symbol_value symbols; symbol_distance = symbol_distance base symbols }
 
 -- Symbols have these addresses. From the start of any block, in every state in which the image lies in memory at its base, and under every list of others' writes,
--- every run of the machine does only what the typed instructions allow, until it returns or a typed step is wrong. The codes of stops are those of
--- the function's table of traps.
+-- every run of the machine does only what the typed instructions allow, until it returns, stops by a trap or at a `Debugtrap`, or a typed step is wrong.
+-- The codes of stops are those of the function's table of traps.
 abbrev pub RunsAsTyped : Symbols → List Tree → List Constant → CodeImage → Type 0
 RunsAsTyped symbols ts cs image = (b : ℕ) → b < length ts → EveryBlockRun (function_layout (linked symbols image.base ts cs) ts image) b

@@ -14,7 +14,7 @@ ghost use Rattle.s390x_emit_int.specs.Example.{LinkedLoopRuns};
 
 /// Where emission finds no cause and linking none, a machine that fetches the linked code at the base does only what the typed
 /// instructions allow, from any block's start, in every state in which the code lies in memory, and under every list of
-/// others' writes, until it returns or a typed step is wrong.
+/// others' writes, until it returns, stops by a trap or at a `Debugtrap`, or a typed step is wrong.
 pub fn linked_code_runs_as_typed()
     ensures { (flags : IsaFlags) (ts : List Tree) (cs : List Constant) (f : MachBufferFinalized) (base : ℕ) (symbols : Symbols) → checked_cause flags ts cs ≡ None → BlocksInRange ts → IsImage ts cs f → link_cause f base symbols ≡ None → RunsAsTyped symbols ts cs (record { base = base; bytes = filled base symbols f.relocs.items f.bytes.items }) }
 {}

@@ -1,3 +1,4 @@
+pub mod TrapCodes
 pub mod Executing
 pub mod Fitting
 pub mod Reporting

@@ -1,5 +1,5 @@
 -- The text of an execution: how many steps went, how it ended, and the state then.
-use Rattle.std.specs.Prelude.{◌≡◌, ℕ, zero, suc, ◌-◌, nat_le, if◌then◌else◌, List, [], ◌∷◌, ◌++◌, map, length, codes, Option, Some, None, ◌<◌, Bool, IsTrue}
+use Rattle.std.specs.Prelude.{◌≡◌, ℕ, zero, suc, List, [], ◌∷◌, ◌++◌, map, length, codes, Option, Some, None, ◌<◌, Bool, IsTrue}
 use Rattle.std.specs.Fmt.{decimal}
 use Rattle.s390x_base.specs.declared.trap.TrapKind.{TrapKind}
 use Rattle.s390x_buffer.specs.declared.entries.MachBufferFinalized.{MachBufferFinalized}
@@ -7,7 +7,7 @@ use Rattle.s390x_operations.specs.State.{Registers, Memory, State, bytes_at, sum
 use Rattle.s390x_operations.specs.Effects.{number_of_code}
 use Rattle.s390x_operations.specs.declared.stop.StopKind.{StopKind}
 use Rattle.s390x_operations.specs.declared.stop.StopKind.TheVariants as stop
-use Rattle.s390x_machine.specs.Codes.{stop_code}
+use Rattle.s390x_machine.specs.Codes.{trap_code_at}
 use Rattle.s390x_words.specs.Atoms.{trap_text}
 use Rattle.s390x_words.specs.Numbers.{W64}
 use Rattle.s390x_fields.specs.Fields.{FNatural, FBytes}
@@ -40,14 +40,10 @@ abbrev pub code_text : Option TrapKind → List ℕ
 code_text None = codes "-"
 code_text (Some code) = trap_text code
 
--- the code of a stop at a place, in code that stands at a base; none for a place outside it
-abbrev pub code_from : ℕ → MachBufferFinalized → StopKind → ℕ → Option TrapKind
-code_from base code kind place = if nat_le base place then stop_code code.bytes.items code.traps.items (place - base) kind else None
-
 -- `limit`, `stop KIND PLACE CODE` or `norow PLACE`
 abbrev pub end_line : ℕ → MachBufferFinalized → End → List ℕ
 end_line base code Limit = codes "limit" ++ 10 ∷ []
-end_line base code (Stopped kind place) = codes "stop " ++ (kind_text kind ++ (32 ∷ (decimal place ++ (32 ∷ (code_text (code_from base code kind place) ++ 10 ∷ [])))))
+end_line base code (Stopped kind place) = codes "stop " ++ (kind_text kind ++ (32 ∷ (decimal place ++ (32 ∷ (code_text (trap_code_at (record { base = base; bytes = code.bytes.items }) code.traps.items place kind) ++ 10 ∷ [])))))
 end_line base code (NoRow place) = codes "norow " ++ (decimal place ++ 10 ∷ [])
 
 -- `place P`

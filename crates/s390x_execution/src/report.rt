@@ -2,9 +2,10 @@
 ghost use Rattle.std.specs.Prelude.{◌≡◌, ℕ, Bool, ◌+◌, ◌^◌, ◌<◌, ◌≤◌, ◌++◌, IfOk, IsTrue, OnOk, length, map, string_bytes};
 ghost use Rattle.s390x_operations.specs.State.{bytes_at, sum64};
 ghost use Rattle.s390x_operations.specs.Effects.{number_of_code};
+ghost use Rattle.s390x_machine.specs.Codes.{trap_code_at};
 ghost use Rattle.s390x_machine.specs.State.{memory_of, registers_of, state_of};
 ghost use Rattle.s390x_job.specs.Jobs.{IsJob, lines_text};
-ghost use Rattle.s390x_execution.specs.Text.{AllHeld, IsRunText, code_from, code_text, content_lines, end_line, execution_text, kind_text, region_line, status_lines, went_line};
+ghost use Rattle.s390x_execution.specs.Text.{AllHeld, IsRunText, code_text, content_lines, end_line, execution_text, kind_text, region_line, status_lines, went_line};
 
 use crate::execution::{End, Execution, execute};
 use crate::start::{start_machine, start_memory};
@@ -123,9 +124,10 @@ fn kind_name(kind: StopKind) -> &'static str
 }
 
 // The code of a stop at a place, in code that stands at a base.
+#[tactic(auto, using(crate::proofs::TrapCodes::code_below, crate::proofs::TrapCodes::code_moved, crate::proofs::TrapCodes::code_past))]
 fn stop_code(base: u64, code: &MachBufferFinalized, kind: StopKind, place: u64) -> Option<TrapCode>
     requires { length code.now.bytes.items ≤ 2 ^ 32 }
-    ensures { result ≡ code_from base code.now kind place }
+    ensures { result ≡ trap_code_at (record { base = base; bytes = code.now.bytes.items }) code.now.traps.items place kind }
 {
     if place < base {
         return None;

@@ -23,7 +23,7 @@ use Rattle.s390x_machine.specs.Computations.{doubleword, signed_word, on_doublew
 use Rattle.s390x_machine.specs.Forms.{Performs, access_code}
 use Rattle.s390x_machine.specs.Layout.{Layout}
 use Rattle.s390x_machine.specs.Machine.{Turn}
-use Rattle.s390x_machine.specs.Match.{StepRuns}
+use Rattle.s390x_machine.specs.OneStep.{StepRuns}
 use Rattle.s390x_machine.specs.Operands.{indexed, based, address_part}
 use Rattle.s390x_machine.specs.Placed.{Placed, AllPlaced}
 use Rattle.s390x_machine.specs.Storage.{loads_address}

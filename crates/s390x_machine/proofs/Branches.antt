@@ -10,7 +10,8 @@ use Rattle.s390x_machine.specs.declared.meaning.Action.TheVariants.{Branch}
 use Rattle.s390x_machine.specs.Machine.{Went, Turn, Run, all_writes}
 use Rattle.s390x_machine.specs.Forms.{Form, GoesTo, Chooses, GoesByAddress, Leads, Returns}
 use Rattle.s390x_machine.specs.Typed.{Returned, At, Ended, IsTarget, FormStep, FormWrong, TypedStep, form_at, form_deposit, typed_deposit}
-use Rattle.s390x_machine.specs.Match.{start, Runs, lost, Loses, StepRuns}
+use Rattle.s390x_machine.specs.Match.{start}
+use Rattle.s390x_machine.specs.OneStep.{Runs, lost, Loses, StepRuns}
 use Rattle.s390x_machine.specs.Layout.{Layout, place, block_place, InStep}
 use Rattle.s390x_machine.specs.Placed.{AllPlaced, IsBlock, AreBlocks}
 use Rattle.s390x_machine.proofs.Simulation.{RowAt, mid, Inside, Simulates, at_start, Turned, further, resume, branch, done, ended}
@@ -102,7 +103,7 @@ returns_runs L k n size is row here c lies =
     branch L k c [] c.registers (place L k) (λ r. Branch 15 (r.general n)) size 15 (c.registers.general n) (at_start L k c here lies) row refl (λ t rest u e lands run.
     let x = written (all_writes (t ∷ [])) c in
     let target = c.registers.general n in
-    ended L k c (t ∷ []) rest (Returned target) x (omega arith) (e, tt) (subst (λ f. FormStep L f k x (Ended (Returned target)) x) (sym is) (refl, refl))
+    ended L k c (t ∷ []) rest (Returned target) x here (omega arith) (e, tt) (subst (λ f. FormStep L f k x (Ended (Returned target)) x) (sym is) (refl, refl))
     (lands ∙ ap (λ b. mid c c.registers (all_writes (t ∷ [])) (cond b target (sum64 (place L k) size))) (selected_always c.registers.code)))
 
 -- ---- a branch to the address in a register

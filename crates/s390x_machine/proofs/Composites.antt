@@ -1,8 +1,8 @@
 -- Steps of several rows, and steps that end a run.
-use Rattle.std.proofs.Common.{◌≡◌, ℕ, suc, ◌≤◌, inl, inr, List, [], ◌∷◌, ◌++◌, length, Option, Some, None, Bool, true, false, cond, not, refl, sym, ap, ◌∙◌, subst, arith, length-append}
+use Rattle.std.proofs.Common.{◌≡◌, ℕ, suc, ◌≤◌, inl, inr, List, [], ◌∷◌, ◌++◌, length, Option, Some, None, Bool, true, false, cond, not, IsTrue, refl, sym, ap, ◌∙◌, subst, arith, length-append}
 use Rattle.s390x_base.specs.declared.trap.TrapKind.{TrapKind}
 use Rattle.s390x_lanes.specs.declared.operation.Signedness.{Signedness}
-use Rattle.s390x_operations.specs.State.{Registers, Memory, Core, State, CodeImage, coded, put, Write, written, sum64, Lies, deposited}
+use Rattle.s390x_operations.specs.State.{Registers, Memory, Core, State, CodeImage, coded, put, Write, written, sum64, Lies, is_within, deposited}
 use Rattle.s390x_operations.specs.Access.{Untouched, fault, deposit}
 use Rattle.s390x_operations.specs.Values.{value, taken}
 use Rattle.s390x_operations.specs.Effects.{access, refused, MayRefuse, is_selected, Goes, put_sized}
@@ -21,7 +21,9 @@ use Rattle.s390x_machine.specs.Machine.{Event, Went, Stopped, Acts, MachineStep,
 use Rattle.s390x_machine.specs.Forms.{PerformsWhere, TrapsAlways, TrapsWhere, DebugStops, Calls}
 use Rattle.s390x_machine.specs.Computations.{with_rule}
 use Rattle.s390x_machine.specs.Typed.{Ending, Trapped, DebugStopped, Called, At, Ended, FormStep, WhereStep, TypedStep, form_at, typed_deposit}
-use Rattle.s390x_machine.specs.Match.{start, code_at_place, Closes, Runs, StepRuns}
+use Rattle.s390x_machine.specs.Codes.{trap_code_at}
+use Rattle.s390x_machine.specs.Match.{start, Closes}
+use Rattle.s390x_machine.specs.OneStep.{Runs, StepRuns}
 use Rattle.s390x_machine.specs.Layout.{Layout, place, InStep}
 use Rattle.s390x_machine.proofs.Frame.{lies_written}
 use Rattle.s390x_machine.proofs.Simulation.{RowAt, mid, Inside, Simulates, at_start, peel, Turned, turned, further, resume, branch, done, ended, DoesAs, acts_as}
@@ -121,27 +123,28 @@ where_runs L k mask operation is s c lies =
 
 -- ---- traps
 
--- wherever the image lies in memory, the machine stops at this place by Operation, and the table has this code for it, if any
+-- wherever the image lies in memory, the machine stops at this place of it by Operation, and the table has this code for it, if any
 pub record StopsAt (L : Layout) (p : ℕ) (code : Option TrapKind) : Type 0 where
   pub stops : (s : State) → s.place ≡ p → Lies L.image s.core.memory → (event : Event) (t : State) → MachineStep s event t → event ≡ Stopped OperationStop
-  pub coded : code_at_place L p OperationStop ≡ code
+  pub within : IsTrue (is_within L.image p)
+  pub coded : trap_code_at L.image L.traps p OperationStop ≡ code
 
 -- how a run ends at such a stop: by a trap, or where it has no code by a debug stop
 abbrev stopped : Option TrapKind → Ending
 stopped None = DebugStopped
 stopped (Some n) = Trapped n
 
-closes_there : (L : Layout) (code : Option TrapKind) (x : Core) (s : State) (t : Turn) (rest : List Turn) → s.core ≡ x → t.event ≡ Stopped OperationStop → code_at_place L s.place OperationStop ≡ code → Closes L (Ended (stopped code)) x s (t ∷ rest)
-closes_there L None x s t rest same e coded = (same, (e, coded))
-closes_there L (Some n) x s t rest same e coded = (same, (OperationStop, e, coded))
+closes_there : (L : Layout) (code : Option TrapKind) (x : Core) (s : State) (t : Turn) (rest : List Turn) → s.core ≡ x → t.event ≡ Stopped OperationStop → IsTrue (is_within L.image s.place) → trap_code_at L.image L.traps s.place OperationStop ≡ code → Closes L (Ended (stopped code)) x s (t ∷ rest)
+closes_there L None x s t rest same e within coded = (same, (e, within, coded))
+closes_there L (Some n) x s t rest same e within coded = (same, (OperationStop, e, coded))
 
 stop_there : (L : Layout) (k : ℕ) (code : Option TrapKind) (c : Core) (g : List Turn) (p : ℕ) → Inside L k c g c.registers p → StopsAt L p code → ((h : List Turn) → TypedStep L k (written (all_writes h) c) (Ended (stopped code)) (written (all_writes h) c)) → Simulates L k c g c.registers p
 stop_there L k code c g p i at step =
     peel L k c g c.registers p i (λ t s rest run.
     let l = lies_written L.image _ _ t.writes i.lies s.may in
     let e = at.stops (before (mid c c.registers (all_writes g) p) t) refl l t.event t.after s.goes in
-    ended L k c g (t ∷ rest) (stopped code) (written (all_writes g) c) (omega (arith, i.few)) i.quiet (step g)
-    (closes_there L code (written (all_writes g) c) (after_all (start L k c) g) t rest (ap (λ (x : State). x.core) i.lands) e (subst (λ (x : State). code_at_place L x.place OperationStop ≡ code) (sym i.lands) at.coded)))
+    ended L k c g (t ∷ rest) (stopped code) (written (all_writes g) c) i.here (omega (arith, i.few)) i.quiet (step g)
+    (closes_there L code (written (all_writes g) c) (after_all (start L k c) g) t rest (ap (λ (x : State). x.core) i.lands) e (subst (λ (x : State). IsTrue (is_within L.image x.place)) (sym i.lands) at.within) (subst (λ (x : State). trap_code_at L.image L.traps x.place OperationStop ≡ code) (sym i.lands) at.coded)))
 
 pub trap_runs : (L : Layout) (k : ℕ) (code : TrapKind) → form_at L k ≡ Some (TrapsAlways code) → StopsAt L (place L k) (Some code) → InStep L k (place L k) → StepRuns L k
 trap_runs L k code is at here c lies =
@@ -193,4 +196,4 @@ call_runs L k link size target is row next here c lies =
     let x : Core = record { registers = put c.registers link (place L (suc k)); memory = y.memory } in
     let went = saves c c.registers (all_writes (t ∷ [])) (place L k) link (target c.registers) size t.event t.after u.acts in
     let at = went.1 ∙ ap (λ q. mid c (put c.registers link q) (all_writes (t ∷ [])) (target c.registers)) next in
-    ended L k c (t ∷ []) rest (Called (target c.registers)) x (omega arith) (went.0, tt) (subst (λ f. FormStep L f k y (Ended (Called (target c.registers))) x) (sym is) (refl, refl)) at)
+    ended L k c (t ∷ []) rest (Called (target c.registers)) x here (omega arith) (went.0, tt) (subst (λ f. FormStep L f k y (Ended (Called (target c.registers))) x) (sym is) (refl, refl)) at)

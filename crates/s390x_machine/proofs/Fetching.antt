@@ -30,7 +30,7 @@ unfolding length_of
 size_some E = omega arith
 size_some _ = omega arith
 
-is_within_at : (image : CodeImage) (i : ℕ) → i < length image.bytes → IsTrue (is_within image (image.base + i))
+pub is_within_at : (image : CodeImage) (i : ℕ) → i < length image.bytes → IsTrue (is_within image (image.base + i))
 is_within_at image i lt =
     let a : image.base ≤ image.base + i = omega arith in
     let b : image.base + i < image.base + length image.bytes = omega arith in

@@ -30,7 +30,7 @@ use Rattle.s390x_operations.specs.declared.stop.StopKind.{StopKind}
 use Rattle.s390x_operations.specs.declared.effect.Operation.{Operation}
 use Rattle.s390x_machine.specs.Forms.{Performs, Unbuilt, form_or, performed_at, access_code}
 use Rattle.s390x_machine.specs.Layout.{Layout, declared, block_place, constant_place}
-use Rattle.s390x_machine.specs.Match.{StepRuns}
+use Rattle.s390x_machine.specs.OneStep.{StepRuns}
 use Rattle.s390x_machine.specs.Operands.{indexed, based, address_part}
 use Rattle.s390x_machine.specs.Placed.{Placed, AllPlaced, PartsReach, IsFineMemory}
 use Rattle.s390x_machine.specs.Storage.{address_of, needs_scratch, loads_address, aligned_where, aligned_effect}

@@ -7,8 +7,9 @@ use Rattle.s390x_steps.specs.Steps.{Step}
 use Rattle.s390x_machine.specs.Machine.{Turn, Run, after_all, all_writes}
 use Rattle.s390x_machine.specs.Forms.{Form, Performs}
 use Rattle.s390x_machine.specs.Typed.{Ending, Ended, At, touches_image, TypedStep, Wrong, form_of, form_at, form_deposit, FormWrong}
-use Rattle.s390x_machine.specs.Match.{Quiet, joined, start, Closes, Allowed, EveryRunOfTurns, OneStep, here, on, StepHolds, Runs, waits, silent, goes, stops, ends, lost, StepRuns}
-use Rattle.s390x_machine.specs.Layout.{Layout}
+use Rattle.s390x_machine.specs.Match.{IsGroup, Quiet, joined, start, Closes, Allowed, EveryRun}
+use Rattle.s390x_machine.specs.OneStep.{OneStep, here, on, StepHolds, Runs, waits, silent, goes, stops, ends, lost, StepRuns}
+use Rattle.s390x_machine.specs.Layout.{Layout, InStep}
 use Rattle.s390x_machine.proofs.Frame.{apart_of}
 
 pub run_after : (L : Layout) (s : State) (g rest : List Turn) → Run L.image s (g ++ rest) → Run L.image (after_all s g) rest
@@ -20,42 +21,41 @@ after_append s [] h = refl
 after_append s (x ∷ g) h = after_append x.after g h
 
 -- a step, and what is allowed after it
-step_then : (L : Layout) (k : ℕ) (c : Core) (turns g rest : List Turn) → turns ≡ g ++ rest → length g ≤ 4 → (j : ℕ) (t : Core) → TypedStep L k (written (all_writes g) c) (At j) t → after_all (start L k c) g ≡ start L j t → Allowed L j t rest → Allowed L k c turns
-step_then L k c turns g rest split small j t step lands a = record {
+step_then : (L : Layout) (k : ℕ) (c : Core) (turns g rest : List Turn) → turns ≡ g ++ rest → IsGroup L k 4 g → (j : ℕ) (t : Core) → TypedStep L k (written (all_writes g) c) (At j) t → after_all (start L k c) g ≡ start L j t → Allowed L j (start L j t) rest → Allowed L k (start L k c) turns
+step_then L k c turns g rest split group j t step lands a = record {
   groups = g ∷ a.groups;
   rest = a.rest;
   split = split ∙ ap (λ l. g ++ l) a.split ∙ sym (append_assoc g (joined a.groups) a.rest);
-  small = (small, a.small);
   position = a.position;
   core = a.core;
-  run = (At j, t, step, a.run);
+  run = (group, At j, t, step, a.run);
   closes = subst (λ s. Closes L a.position a.core s a.rest) (sym (after_append (start L k c) g (joined a.groups) ∙ ap (λ s. after_all s (joined a.groups)) lands)) a.closes;
 }
 
-combine : (L : Layout) (k : ℕ) (c : Core) (turns : List Turn) → Run L.image (start L k c) turns → OneStep L k c turns → ((j : ℕ) (t : Core) → Lies L.image t.memory → (rest : List Turn) → Run L.image (start L j t) rest → length rest < length turns → Allowed L j t rest) → ((t : Core) → Lies L.image t.memory → (rest : List Turn) → Run L.image (start L (suc k) t) rest → length rest ≤ length turns → suc k ≤ length L.steps → Allowed L (suc k) t rest) → Allowed L k c turns
+combine : (L : Layout) (k : ℕ) (c : Core) (turns : List Turn) → Run L.image (start L k c) turns → OneStep L k c turns → ((j : ℕ) (t : Core) → Lies L.image t.memory → (rest : List Turn) → Run L.image (start L j t) rest → length rest < length turns → Allowed L j (start L j t) rest) → ((t : Core) → Lies L.image t.memory → (rest : List Turn) → Run L.image (start L (suc k) t) rest → length rest ≤ length turns → suc k ≤ length L.steps → Allowed L (suc k) (start L (suc k) t) rest) → Allowed L k (start L k c) turns
 combine L k c turns r (here a le) shorter without = a
-combine L k c turns r (on g rest split small j t step lands lies (inl pos)) shorter without =
+combine L k c turns r (on g rest split group j t step lands lies (inl pos)) shorter without =
     let r' = subst (λ s. Run L.image s rest) lands (run_after L (start L k c) g rest (subst (λ l. Run L.image (start L k c) l) split r)) in
     let lt : length rest < length turns = omega (arith, ap length split, length-append g rest) in
-    step_then L k c turns g rest split small j t step lands (shorter j t lies rest r' lt)
-combine L k c turns r (on g rest split small j t step lands lies (inr e)) shorter without =
+    step_then L k c turns g rest split group j t step lands (shorter j t lies rest r' lt)
+combine L k c turns r (on g rest split group j t step lands lies (inr e)) shorter without =
     let r' = subst (λ s. Run L.image s rest) lands (run_after L (start L k c) g rest (subst (λ l. Run L.image (start L k c) l) split r)) in
     let le : length rest ≤ length turns = omega (arith, ap length split, length-append g rest) in
-    step_then L k c turns g rest split small j t step lands (subst (λ i. Allowed L i t rest) (sym e.0) (without t lies rest (subst (λ i. Run L.image (start L i t) rest) e.0 r') le e.1))
+    step_then L k c turns g rest split group j t step lands (subst (λ i. Allowed L i (start L i t) rest) (sym e.0) (without t lies rest (subst (λ i. Run L.image (start L i t) rest) e.0 r') le e.1))
 
 module _ (L : Layout) (holds : (k : ℕ) → StepHolds L k) where
-  inner : (n : ℕ) → ((j : ℕ) (t : Core) → Lies L.image t.memory → (rest : List Turn) → Run L.image (start L j t) rest → length rest < n → Allowed L j t rest) → (d k : ℕ) (c : Core) → Lies L.image c.memory → (turns : List Turn) → Run L.image (start L k c) turns → length turns ≤ n → length L.steps ≤ k + d → Allowed L k c turns
+  inner : (n : ℕ) → ((j : ℕ) (t : Core) → Lies L.image t.memory → (rest : List Turn) → Run L.image (start L j t) rest → length rest < n → Allowed L j (start L j t) rest) → (d k : ℕ) (c : Core) → Lies L.image c.memory → (turns : List Turn) → Run L.image (start L k c) turns → length turns ≤ n → length L.steps ≤ k + d → Allowed L k (start L k c) turns
   inner n shorter zero k c lies turns r le far =
       combine L k c turns r (holds k c lies turns r) (λ j t l rest q lt. shorter j t l rest q (omega arith)) (λ t l rest q le' below. absurd (omega arith))
   inner n shorter (suc d) k c lies turns r le far =
       combine L k c turns r (holds k c lies turns r) (λ j t l rest q lt. shorter j t l rest q (omega arith)) (λ t l rest q le' below. inner n shorter d (suc k) t l rest q (omega arith) (omega arith))
 
-  outer : (n k : ℕ) (c : Core) → Lies L.image c.memory → (turns : List Turn) → Run L.image (start L k c) turns → length turns < n → Allowed L k c turns
+  outer : (n k : ℕ) (c : Core) → Lies L.image c.memory → (turns : List Turn) → Run L.image (start L k c) turns → length turns < n → Allowed L k (start L k c) turns
   outer zero k c lies turns r lt = absurd (omega arith)
   outer (suc n) k c lies turns r lt = inner n (outer n) (length L.steps) k c lies turns r (omega arith) (omega arith)
 
-  pub every_run_of_turns : (k : ℕ) → EveryRunOfTurns L k
-  every_run_of_turns k c lies turns r = outer (suc (length turns)) k c lies turns r (omega arith)
+  pub every_run_from : (k : ℕ) → EveryRun L k
+  every_run_from k c lies turns r = outer (suc (length turns)) k c lies turns r (omega arith)
 
 -- past the last step the typed run is wrong
 past_end : (L : Layout) (k : ℕ) (c : Core) (turns : List Turn) → slice_get L.steps k ≡ None → OneStep L k c turns
@@ -63,7 +63,6 @@ past_end L k c turns e = here (record {
   groups = [];
   rest = turns;
   split = refl;
-  small = tt;
   position = At k;
   core = c;
   run = (refl, refl);
@@ -75,8 +74,8 @@ by_instruction L holds k None e c lies turns r = past_end L k c turns e
 by_instruction L holds k (Some i) e c lies turns r = holds k i e c lies turns r
 
 -- the same, of a proof for each instruction
-pub turns_of : (L : Layout) → ((k : ℕ) (i : Step) → slice_get L.steps k ≡ Some i → StepHolds L k) → (k : ℕ) → EveryRunOfTurns L k
-turns_of L holds k = every_run_of_turns L (λ j. by_instruction L holds j (slice_get L.steps j) refl) k
+pub turns_of : (L : Layout) → ((k : ℕ) (i : Step) → slice_get L.steps k ≡ Some i → StepHolds L k) → (k : ℕ) → EveryRun L k
+turns_of L holds k = every_run_from L (λ j. by_instruction L holds j (slice_get L.steps j) refl) k
 
 -- ---- a step by itself, from what the machine does
 
@@ -94,37 +93,39 @@ apart_form image (Some (Performs needs operation code)) c ws e = apart_of image 
 apart_form image (Some _) c ws e = tt
 apart_form image None c ws e = tt
 
-stays_here : (L : Layout) (k : ℕ) (c : Core) (turns : List Turn) → Wrong L k c ⊎ ((length turns ≤ 3) × Quiet turns) → OneStep L k c turns
+-- a step that has a byte may take any few turns
+pub group_within : (L : Layout) (k most : ℕ) (g : List Turn) {p : ℕ} → InStep L k p → length g ≤ most → IsGroup L k most g
+group_within L k most g at few = (few, λ e. absurd (omega (arith, at.above, at.below, e)))
+
+stays_here : (L : Layout) (k : ℕ) (c : Core) (turns : List Turn) → Wrong L k c ⊎ (IsGroup L k 3 turns × Quiet turns) → OneStep L k c turns
 stays_here L k c turns w = here (record {
   groups = [];
   rest = turns;
   split = refl;
-  small = tt;
   position = At k;
   core = c;
   run = (refl, refl);
   closes = (refl, w);
 }) (omega arith)
 
-stays_ended : (L : Layout) (k : ℕ) (c : Core) (g rest : List Turn) (e : Ending) (x : Core) → length g ≤ 4 → TypedStep L k (written (all_writes g) c) (Ended e) x → Closes L (Ended e) x (after_all (start L k c) g) rest → OneStep L k c (g ++ rest)
-stays_ended L k c g rest e x few step closes = here (record {
+stays_ended : (L : Layout) (k : ℕ) (c : Core) (g rest : List Turn) (e : Ending) (x : Core) → IsGroup L k 4 g → TypedStep L k (written (all_writes g) c) (Ended e) x → Closes L (Ended e) x (after_all (start L k c) g) rest → OneStep L k c (g ++ rest)
+stays_ended L k c g rest e x group step closes = here (record {
   groups = g ∷ [];
   rest = rest;
   split = ap (λ l. l ++ rest) (sym (append-nil g));
-  small = (few, tt);
   position = Ended e;
   core = x;
-  run = (Ended e, x, step, (refl, refl));
+  run = (group, Ended e, x, step, (refl, refl));
   closes = subst (λ l. Closes L (Ended e) x (after_all (start L k c) l) rest) (sym (append-nil g)) closes;
 }) (omega arith)
 
 weaker : (L : Layout) (k : ℕ) (c : Core) (turns : List Turn) → Lies L.image c.memory → IsFalse (form_into L.image (form_at L k) c) → Runs L k c turns → OneStep L k c turns
-weaker L k c turns lies out (waits few quiet at) = stays_here L k c turns (inr (few, quiet))
-weaker L k c turns lies out (silent step below same) = on [] turns refl (omega arith) (suc k) c step (ap (λ q. record { core = c; place = q }) same) lies (inr (refl, below))
-weaker L k c turns lies out (goes h rest t split few quiet j x step e m lands l) =
-    on (h ++ t ∷ []) rest (split ∙ sym (append_assoc h (t ∷ []) rest)) (omega (arith, length-append h (t ∷ []))) j x step (after_append (start L k c) h (t ∷ []) ∙ lands) (l (apart_form L.image (form_at L k) c (all_writes (h ++ t ∷ [])) out)) (inl (omega (arith, length-append h (t ∷ []))))
+weaker L k c turns lies out (waits few quiet at) = stays_here L k c turns (inr (group_within L k 3 turns at few, quiet))
+weaker L k c turns lies out (silent step below same) = on [] turns refl (omega arith, λ e. refl) (suc k) c step (ap (λ q. record { core = c; place = q }) same) lies (inr (refl, below))
+weaker L k c turns lies out (goes h rest t split group quiet j x step e m lands l) =
+    on (h ++ t ∷ []) rest (split ∙ sym (append_assoc h (t ∷ []) rest)) group j x step (after_append (start L k c) h (t ∷ []) ∙ lands) (l (apart_form L.image (form_at L k) c (all_writes (h ++ t ∷ [])) out)) (inl (omega (arith, length-append h (t ∷ []))))
 weaker L k c turns lies out (stops h rest t kind split quiet e w) = stays_here L k c turns (inl w)
-weaker L k c turns lies out (ends g rest split few quiet e x step closes) = subst (λ l. OneStep L k c l) (sym split) (stays_ended L k c g rest e x few step closes)
+weaker L k c turns lies out (ends g rest split group quiet e x step closes) = subst (λ l. OneStep L k c l) (sym split) (stays_ended L k c g rest e x group step closes)
 weaker L k c turns lies out (lost w form) = stays_here L k c turns (inl w)
 
 unless_into : (L : Layout) (k : ℕ) (c : Core) (turns : List Turn) → Lies L.image c.memory → Runs L k c turns → (b : Bool) → form_into L.image (form_at L k) c ≡ b → OneStep L k c turns

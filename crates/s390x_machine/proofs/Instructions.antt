@@ -65,8 +65,9 @@ use Rattle.s390x_machine.specs.Forms.{Form, Performs, GoesTo, Chooses, GoesByTab
 use Rattle.s390x_format.specs.declared.fields.Fields.{Fields}
 use Rattle.s390x_machine.specs.Meanings.{action, count_operator, names_pair, is_odd_pair, register_field}
 use Rattle.s390x_machine.specs.Typed.{At, FormStep, form_of, form_at}
-use Rattle.s390x_machine.specs.Match.{StepRuns, StepHolds, EveryRunOfTurns, EveryBlockRun, silent}
-use Rattle.s390x_machine.specs.Machine.{Run, Event, Went, Stopped, Acts}
+use Rattle.s390x_machine.specs.Match.{EveryRunFrom, EveryRun, EveryBlockRun}
+use Rattle.s390x_machine.specs.OneStep.{StepRuns, StepHolds, silent}
+use Rattle.s390x_machine.specs.Machine.{Event, Went, Stopped, Acts}
 use Rattle.s390x_machine.specs.Layout.{Layout, place, block_place, InStep}
 use Rattle.s390x_machine.specs.Placed.{Placed, AllPlaced, IsBlock, AreBlocks, FineOr, IsFineInstruction, IsFine}
 use Rattle.s390x_machine.proofs.Fetching.{StandsAt}
@@ -887,10 +888,9 @@ pub step_holds : (L : Layout) → AllPlaced L → (k : ℕ) (s : Step) → slice
 step_holds L all k s at = one_step L k (step_runs_placed L all k s at)
 
 -- every run
-pub turns_hold : (L : Layout) → AllPlaced L → (k : ℕ) → EveryRunOfTurns L k
-turns_hold L all = turns_of L (λ k s at. step_holds L all k s at)
+pub runs_hold : (L : Layout) → AllPlaced L → (k : ℕ) → EveryRun L k
+runs_hold L all = turns_of L (λ k s at. step_holds L all k s at)
 
 -- from each block's start
 pub block_holds : (L : Layout) → AllPlaced L → (b : ℕ) → IsBlock L b → EveryBlockRun L b
-block_holds L all b is c lies entries n turns len under run =
-    turns_hold L all (L.first_step b) c lies turns (subst (λ p. Run L.image (record { core = c; place = p }) turns) (block_at L all b is) run)
+block_holds L all b is = subst (λ p. EveryRunFrom L p (L.first_step b)) (sym (block_at L all b is)) (runs_hold L all (L.first_step b))

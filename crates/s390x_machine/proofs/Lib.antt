@@ -2,6 +2,7 @@ pub mod Addresses
 pub mod Allocating
 pub mod Operands
 pub mod Checked
+pub mod TrapCodes
 pub mod Accessing
 pub mod Aligned
 pub mod Relative

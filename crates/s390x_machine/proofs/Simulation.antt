@@ -11,10 +11,12 @@ use Rattle.s390x_machine.specs.declared.meaning.Action.TheVariants.{Perform, Bra
 use Rattle.s390x_machine.specs.Machine.{Event, Went, Stopped, Acts, MachineStep, Turn, before, Takes, Run, after_all, all_writes}
 use Rattle.s390x_machine.specs.Forms.{Performs}
 use Rattle.s390x_machine.specs.Typed.{Ending, Trapped, At, Ended, loosened, loosen, goes_on, traps, OperationWrong, faults_uncoded, FormStep, FormWrong, TypedStep, form_at, form_deposit, typed_deposit}
-use Rattle.s390x_machine.specs.Match.{Quiet, start, code_at_place, Closes, Runs, waits, goes, ends, stops}
+use Rattle.s390x_machine.specs.Codes.{trap_code_at}
+use Rattle.s390x_machine.specs.Match.{Quiet, start, Closes}
+use Rattle.s390x_machine.specs.OneStep.{Runs, waits, goes, ends, stops}
 use Rattle.s390x_machine.specs.Layout.{Layout, place, InStep}
 use Rattle.s390x_machine.proofs.Frame.{lies_written, lies_deposited, written_append}
-use Rattle.s390x_machine.proofs.Induction.{after_append}
+use Rattle.s390x_machine.proofs.Induction.{after_append, group_within}
 
 -- wherever the image lies in memory, a step of the machine at this place does this action, of an instruction of so many bytes
 abbrev pub RowAt : Layout → ℕ → (Registers → Action) → ℕ → Type 0
@@ -96,11 +98,11 @@ branch_goes c r ws p mask target size (Stopped kind) t h = absurd h
 -- the step is done, at another step
 pub done : (L : Layout) (k : ℕ) (c : Core) (g : List Turn) (r : Registers) (p : ℕ) (act : Registers → Action) (size : ℕ) (t : Turn) (rest : List Turn) (j : ℕ) (x : Core) → Inside L k c g r p → Turned L c g r p act size t → t.event ≡ Went (typed_deposit L k (written (all_writes (g ++ t ∷ [])) c)) → t.after ≡ start L j x → (Apart L.image (typed_deposit L k (written (all_writes (g ++ t ∷ [])) c)) → Lies L.image x.memory) → TypedStep L k (written (all_writes (g ++ t ∷ [])) c) (At j) x → Runs L k c (g ++ t ∷ rest)
 done L k c g r p act size t rest j x i u e lands lies step =
-    goes g rest t refl i.few i.quiet j x step e (ap (λ (s : State). (before s t).core.memory) i.lands ∙ sym u.memory) lands lies
+    goes g rest t refl (group_within L k 4 (g ++ t ∷ []) i.here (omega (arith, i.few, length-append g (t ∷ [])))) i.quiet j x step e (ap (λ (s : State). (before s t).core.memory) i.lands ∙ sym u.memory) lands lies
 
 -- the step ends the run
-pub ended : (L : Layout) (k : ℕ) (c : Core) (g rest : List Turn) (e : Ending) (x : Core) → length g ≤ 4 → Quiet g → TypedStep L k (written (all_writes g) c) (Ended e) x → Closes L (Ended e) x (after_all (start L k c) g) rest → Runs L k c (g ++ rest)
-ended L k c g rest e x few quiet step closes = ends g rest refl few quiet e x step closes
+pub ended : (L : Layout) (k : ℕ) (c : Core) (g rest : List Turn) (e : Ending) (x : Core) {p : ℕ} → InStep L k p → length g ≤ 4 → Quiet g → TypedStep L k (written (all_writes g) c) (Ended e) x → Closes L (Ended e) x (after_all (start L k c) g) rest → Runs L k c (g ++ rest)
+ended L k c g rest e x here few quiet step closes = ends g rest refl (group_within L k 4 g here few) quiet e x step closes
 
 -- a branch: what follows when it is taken, and when it isn't
 pub branch : (L : Layout) (k : ℕ) (c : Core) (g : List Turn) (r : Registers) (p : ℕ) (act : Registers → Action) (size mask target : ℕ) → Inside L k c g r p → RowAt L p act size → act r ≡ Branch mask target → ((t : Turn) (rest : List Turn) → Turned L c g r p act size t → t.event ≡ Went None → t.after ≡ mid c r (all_writes (g ++ t ∷ [])) (if is_selected mask r.code then target else sum64 p size) → Run L.image t.after rest → Runs L k c (g ++ t ∷ rest)) → Simulates L k c g r p
@@ -140,7 +142,7 @@ acts_as (BranchAndSave link target) op size s event t f h = absurd f
 
 -- the tables have an operation's codes at a place
 abbrev pub Coded : Layout → ℕ → (StopKind → Option TrapKind) → Type 0
-Coded L p code = (kind : StopKind) (n : TrapKind) → code kind ≡ Some n → code_at_place L p kind ≡ Some n
+Coded L p code = (kind : StopKind) (n : TrapKind) → code kind ≡ Some n → trap_code_at L.image L.traps p kind ≡ Some n
 
 -- each stop that the operation's values may bring about has a code; a fault of its access may have none
 abbrev pub ValuesCoded : Operation → (StopKind → Option TrapKind) → Type 0
@@ -161,7 +163,7 @@ stop_ends L k c g rest t p needs v operation code (Some n) kind is i at coded e 
     let x = loosen needs v (written (all_writes g) c) in
     let step : TypedStep L k (written (all_writes g) c) (Ended (Trapped n)) x = subst (λ f. FormStep L f k (written (all_writes g) c) (Ended (Trapped n)) x) (sym is) (traps v kind n h some refl refl) in
     let few : length g ≤ 4 = omega (arith, i.few) in
-    ended L k c g (t ∷ rest) (Trapped n) x few i.quiet step (ap (λ (s : State). s.core) i.lands, (kind, e, subst (λ (s : State). code_at_place L s.place kind ≡ Some n) (sym i.lands) (at kind n some)))
+    ended L k c g (t ∷ rest) (Trapped n) x i.here few i.quiet step (ap (λ (s : State). s.core) i.lands, (kind, e, subst (λ (s : State). trap_code_at L.image L.traps s.place kind ≡ Some n) (sym i.lands) (at kind n some)))
 
 row_turn : (L : Layout) (k : ℕ) (c : Core) (g rest : List Turn) (t : Turn) (p : ℕ) (act : Registers → Action) (size : ℕ) (needs : Bool) (v : ℕ) (operation : Registers → Operation) (code : StopKind → Option TrapKind) → form_at L k ≡ Some (Performs needs operation code) → Inside L k c g (loosened needs v c.registers) p → Turned L c g (loosened needs v c.registers) p act size t → sum64 p size ≡ place L (suc k) → Coded L p code → ValuesCoded (operation c.registers) code → (event : Event) → t.event ≡ event → Acts (Perform (operation c.registers)) size (mid c (loosened needs v c.registers) (all_writes (g ++ t ∷ [])) p) event t.after → Runs L k c (g ++ t ∷ rest)
 row_turn L k c g rest t p act size needs v operation code is i u next at coded (Went x) e acts =

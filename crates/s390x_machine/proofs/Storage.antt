@@ -46,7 +46,7 @@ use Rattle.s390x_machine.proofs.Operands.{read_12, read_20, bits_12, based_index
 use Rattle.s390x_machine.proofs.Rows.{fits_rx, fits_rxy, fits_rs, fits_rsy, fits_si, fits_siy, fits_sil}
 use Rattle.s390x_machine.proofs.Simulation.{RowAt, Inside, Simulates, Coded}
 use Rattle.s390x_machine.proofs.Standing.{PartsStand, part_length, part_even, step_stands, offset_even}
-use Rattle.s390x_machine.proofs.Trapping.{within_image}
+use Rattle.s390x_machine.proofs.Trapping.{code_within, within_image}
 
 -- ---- rows with an operand in memory
 
@@ -249,15 +249,12 @@ module _ (L : Layout) (all : AllPlaced L) (k : ℕ) where
   access_coded : (o : ℕ) (bytes : List ℕ) → StandsAt L.image o bytes → 0 < length bytes → (x : TrapKind) → first_code L.traps o ≡ Some x → Coded L (sum64 L.image.base o) (access_code (Some x))
   access_coded o bytes s some x found = go
     where
-      back : sum64 L.image.base o - L.image.base ≡ o
-      back = omega (arith, all.fits, within_image L o bytes s, some)
-
-      here : first_code L.traps (sum64 L.image.base o - L.image.base) ≡ Some x
-      here = ap (first_code L.traps) back ∙ found
+      inside : o < length L.image.bytes
+      inside = omega (arith, within_image L o bytes s, some)
 
       go : Coded L (sum64 L.image.base o) (access_code (Some x))
-      go Stop.Access n e = here ∙ e
-      go Stop.Specification n e = here ∙ e
+      go Stop.Access n e = code_within L all.fits o inside Stop.Access ∙ found ∙ e
+      go Stop.Specification n e = code_within L all.fits o inside Stop.Specification ∙ found ∙ e
       go Stop.Operation n e = absurd (cc)
       go Stop.Divide n e = absurd (cc)
       go Stop.CompareTrap n e = absurd (cc)

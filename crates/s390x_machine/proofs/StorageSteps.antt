@@ -33,7 +33,7 @@ use Rattle.s390x_machine.specs.declared.meaning.Action.TheVariants.{Perform}
 use Rattle.s390x_machine.specs.Computations.{Second, Computation, Comparison, doubleword, with_rule}
 use Rattle.s390x_machine.specs.Forms.{Unbuilt, form_or, performed_at, access_code}
 use Rattle.s390x_machine.specs.Layout.{Layout}
-use Rattle.s390x_machine.specs.Match.{StepRuns}
+use Rattle.s390x_machine.specs.OneStep.{StepRuns}
 use Rattle.s390x_machine.specs.Meanings.{register_count}
 use Rattle.s390x_machine.specs.Operands.{value_in, based, values_from}
 use Rattle.s390x_machine.specs.Placed.{Placed, AllPlaced, IsFineMemory, FineMemoryOr}

@@ -24,7 +24,7 @@ use Rattle.s390x_machine.specs.Meanings.{meaning_in, meaning_of}
 use Rattle.s390x_machine.specs.Machine.{Went, Stopped, Turn, Acts, all_writes}
 use Rattle.s390x_machine.specs.Forms.{Performs, no_code}
 use Rattle.s390x_machine.specs.Typed.{At, goes_on, FormStep, TypedStep, form_at}
-use Rattle.s390x_machine.specs.Match.{StepRuns}
+use Rattle.s390x_machine.specs.OneStep.{StepRuns}
 use Rattle.s390x_machine.specs.Layout.{Layout, place, InStep}
 use Rattle.s390x_machine.specs.Placed.{AllPlaced}
 use Rattle.s390x_machine.proofs.Addresses.{sum_more, moved, unmoved}

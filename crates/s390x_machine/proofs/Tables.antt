@@ -34,7 +34,8 @@ use Rattle.s390x_machine.specs.Meanings.{meaning_in, meaning_of}
 use Rattle.s390x_machine.specs.Machine.{Went, Stopped, Turn, Run, all_writes}
 use Rattle.s390x_machine.specs.Forms.{GoesByTable}
 use Rattle.s390x_machine.specs.Typed.{At, loosen, table_target, TableStep, TableWrong, FormStep, FormWrong, TypedStep, form_at}
-use Rattle.s390x_machine.specs.Match.{start, Runs, lost, Loses}
+use Rattle.s390x_machine.specs.Match.{start}
+use Rattle.s390x_machine.specs.OneStep.{Runs, lost, Loses}
 use Rattle.s390x_machine.specs.Layout.{Layout, place, block_place, InStep}
 use Rattle.s390x_machine.specs.Placed.{AllPlaced, IsBlock, AreBlocks}
 use Rattle.s390x_machine.proofs.Addresses.{sum_more, unmoved}

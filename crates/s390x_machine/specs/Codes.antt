@@ -1,15 +1,20 @@
--- The code of a stop at a place of finished code (cranelift-codegen, `buffer.rs`: the table of traps).
-use Rattle.std.specs.Prelude.{ℕ, nat_lt, if◌then◌else◌, List, length, Option, None}
+-- The trap code of a stop at a place of finished code (cranelift-codegen, `buffer.rs`: the table of traps).
+use Rattle.std.specs.Prelude.{ℕ, ◌+◌, ◌-◌, if◌then◌else◌, List, Option, None, slice_index}
 use Rattle.s390x_base.specs.declared.trap.TrapKind.{TrapKind}
 use Rattle.s390x_buffer.specs.declared.entries.TrapEntry.{TrapEntry}
+use Rattle.s390x_format.specs.Rows.{fetch_length_of}
 use Rattle.s390x_steps.specs.Traps.{first_code}
+use Rattle.s390x_operations.specs.State.{CodeImage, is_within}
 use Rattle.s390x_operations.specs.declared.stop.StopKind.{StopKind}
-use Rattle.s390x_machine.specs.Layout.{code_offset}
+use Rattle.s390x_operations.specs.declared.stop.StopKind.TheVariants.{Access, Specification}
 
--- the offset of the code of a stop at an offset, in code of these bytes
-abbrev pub offset_of : List ℕ → ℕ → StopKind → ℕ
-offset_of bytes place kind = code_offset (record { base = 0; bytes = bytes }) place kind
+-- the offset at which the table has the code of a stop at an offset: that itself for the fault of an access, and that of the instruction's last byte
+-- for another stop. The first byte tells how many there are
+abbrev pub code_offset : List ℕ → ℕ → StopKind → ℕ
+code_offset bytes offset Access = offset
+code_offset bytes offset Specification = offset
+code_offset bytes offset kind = offset + (fetch_length_of (slice_index bytes offset) - 1)
 
--- the code of the first entry there; none where the place is past the bytes
-abbrev pub stop_code : List ℕ → List TrapEntry → ℕ → StopKind → Option TrapKind
-stop_code bytes traps place kind = if nat_lt place (length bytes) then first_code traps (offset_of bytes place kind) else None
+-- the code that the table has for a stop at a place of the image: that of the first entry there; none where the place is outside the image
+abbrev pub trap_code_at : CodeImage → List TrapEntry → ℕ → StopKind → Option TrapKind
+trap_code_at image traps place kind = if is_within image place then first_code traps (code_offset image.bytes (place - image.base) kind) else None

@@ -1,15 +1,10 @@
 -- What both sides are told of a function: its image, its typed steps, and where they stand.
-use Rattle.std.specs.Prelude.{◌≡◌, ℕ, suc, ◌+◌, ◌-◌, ◌<◌, ◌≤◌, List, Option, slice_index}
-use Rattle.s390x_base.specs.declared.trap.TrapKind.{TrapKind}
+use Rattle.std.specs.Prelude.{◌≡◌, ℕ, suc, ◌<◌, ◌≤◌, List}
 use Rattle.s390x_buffer.specs.declared.entries.TrapEntry.{TrapEntry}
-use Rattle.s390x_format.specs.Rows.{fetch_length_of}
 use Rattle.s390x_steps.specs.Causes.{Declared}
 use Rattle.s390x_steps.specs.Steps.{Step}
 use Rattle.s390x_steps.specs.Rows.{Places}
-use Rattle.s390x_steps.specs.Traps.{first_code}
 use Rattle.s390x_operations.specs.State.{CodeImage, sum64}
-use Rattle.s390x_operations.specs.declared.stop.StopKind.{StopKind}
-use Rattle.s390x_operations.specs.declared.stop.StopKind.TheVariants.{Access, Specification}
 
 -- places and offsets are counted in bytes: places from address 0, offsets from the image's base
 pub record Layout : Type 0 where
@@ -24,17 +19,6 @@ pub record Layout : Type 0 where
   pub first_step : ℕ → ℕ
   -- the table of traps
   pub traps : List TrapEntry
-
--- the offset at which the table has the code of a stop at an offset: that itself for the fault of an access, and that of the instruction's last byte
--- for another stop. The first byte tells how many there are
-abbrev pub code_offset : CodeImage → ℕ → StopKind → ℕ
-code_offset image offset Access = offset
-code_offset image offset Specification = offset
-code_offset image offset kind = offset + (fetch_length_of (slice_index image.bytes offset) - 1)
-
--- the code that the table has for a stop at an offset: that of the first entry there
-abbrev pub code_at : Layout → ℕ → StopKind → Option TrapKind
-code_at L offset kind = first_code L.traps (code_offset L.image offset kind)
 
 -- where a step stands
 abbrev pub place : Layout → ℕ → ℕ

@@ -10,6 +10,7 @@ pub mod Layout
 pub mod Machine
 pub mod Match
 pub mod Meanings
+pub mod OneStep
 pub mod Operands
 pub mod Placed
 pub mod Regions

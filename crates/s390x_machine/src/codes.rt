@@ -2,7 +2,7 @@
 
 ghost use Rattle.std.specs.Prelude.{◌≡◌, ◌<◌, length};
 ghost use Rattle.s390x_steps.specs.Traps.{first_code as first_code_of};
-ghost use Rattle.s390x_machine.specs.Codes.{offset_of, stop_code};
+ghost use Rattle.s390x_machine.specs.Codes.{code_offset, trap_code_at};
 
 use s390x_base::TrapCode;
 use s390x_buffer::MachBufferFinalized;
@@ -25,7 +25,7 @@ fn first_code(entries: &[TrapEntry], offset: u64) -> Option<TrapCode>
 /// The offset at which the table has the code of a stop at a place.
 fn offset_of(bytes: &[u8], place: u32, kind: StopKind) -> u64
     requires { place < length bytes.now }
-    ensures { result ≡ offset_of bytes.now place kind }
+    ensures { result ≡ code_offset bytes.now place kind }
 {
     match kind {
         StopKind::Access => place as u64,
@@ -37,8 +37,9 @@ fn offset_of(bytes: &[u8], place: u32, kind: StopKind) -> u64
 /// The code that the table of traps has for a stop of the machine at a place of the code, an offset in its bytes: for `Access` and
 /// `Specification` that of the first entry at the place, for another kind that of the first entry at the last byte of the instruction there.
 /// None where there is no such entry or no such place.
+#[tactic(auto, using(crate::proofs::TrapCodes::code_here, crate::proofs::TrapCodes::code_past))]
 pub fn code_at(code: &MachBufferFinalized, place: u32, kind: StopKind) -> Option<TrapCode>
-    ensures { result ≡ stop_code code.now.bytes.items code.now.traps.items place kind }
+    ensures { result ≡ trap_code_at (record { base = 0; bytes = code.now.bytes.items }) code.now.traps.items place kind }
 {
     if place as usize >= code.bytes.len() {
         return None;

@@ -9,7 +9,8 @@ ghost use Rattle.s390x_steps.specs.Ranges.{OperandInRange, BlocksInRange};
 ghost use Rattle.s390x_steps.specs.Steps.{Step, function_steps};
 ghost use Rattle.s390x_machine.specs.Layout.{Layout};
 ghost use Rattle.s390x_machine.specs.Placed.{AllPlaced, IsBlock, IsFine, IsFineMemory, FineMemoryOr};
-ghost use Rattle.s390x_machine.specs.Match.{StepRuns, StepHolds, EveryRun, EveryBlockRun};
+ghost use Rattle.s390x_machine.specs.Match.{EveryRun, EveryBlockRun};
+ghost use Rattle.s390x_machine.specs.OneStep.{StepRuns, StepHolds};
 ghost use Rattle.s390x_machine.specs.Fetch.{Fetched, Fetches};
 ghost use Rattle.s390x_machine.specs.Meanings.{meaning_of};
 ghost use Rattle.s390x_format.specs.Fetch.{IsFetch};
@@ -29,7 +30,7 @@ ghost use Rattle.s390x_steps.specs.Memory.{MemoryInstruction, memory};
 ghost use Rattle.s390x_steps.specs.Storage.{relative_bytes};
 ghost use Rattle.s390x_machine.specs.Helpers.{IsReached, HelpersKeep, TakesOperand};
 
-/// Wherever a step's bytes lie in an image at their place, every machine run from there is allowed by at most that step, or begins with a run of at most four turns that is that step.
+/// Wherever a step's bytes lie in an image at their place, every machine run from there is allowed by at most that step, or begins with a group of turns that is that step.
 pub fn each_step()
     ensures { (L : Layout) → AllPlaced L → (k : ℕ) (s : Step) → slice_get L.steps k ≡ Some s → StepHolds L k }
 {}
