@@ -23,7 +23,8 @@ pub record GoesOn (flags : IsaFlags) (D : Declared) (depth : ℕ) (sum r : Total
   pub bytes : min limit (r.bytes + tree_size rest) ≡ min limit (sum.bytes + tree_size all)
   pub nominal : nominal_behind behind rest ≡ nominal_behind before all
 
-pub goes_on : (state next : Emission) (flags : IsaFlags) (D : Declared) (depth : ℕ) (sum r : Totals) (is : List Inst) (k : ℕ) (i : Inst) → k < length is → i ≡ get_or is k i → next ≡ state_after state i → tree_cause flags D sum.labels state.nominal depth (graft state i empty) ≡ None → Adds sum r (draws (graft state i empty)) (tree_size (graft state i empty)) → GoesOn flags D depth sum r state.nominal next.nominal (tree next (drop (k + 1) is)) (tree state (drop k is))
+pub goes_on : (state next : Emission) (flags : IsaFlags) (D : Declared) (depth : ℕ) (sum r : Totals) (is : List Inst) (k : ℕ) (i : Inst) → k < length is → i ≡ get_or is k i → next ≡ state_after state i → tree_cause flags D sum.labels state.nominal depth (graft state i empty) ≡ None →
+    Adds sum r (draws (graft state i empty)) (tree_size (graft state i empty)) → GoesOn flags D depth sum r state.nominal next.nominal (tree next (drop (k + 1) is)) (tree state (drop k is))
 goes_on state next flags D depth sum r is k i lt at on none adds =
     let m = nominal_after state.nominal i in
     let rest = tree (state_after state i) (drop (k + 1) is) in

@@ -123,7 +123,8 @@ memory_passed flags s after nominal depth i x e m p =
     (put_none s (parts_size (memory_parts x)) p.unmarked (omega (arith, p.short, size)), sym (ap (λ o. memory_cause_or (declared_in s) o (branch_cause s.block_count depth i)) m) ∙ none_cause flags (declared_in s) nominal depth i e own)
 
 -- and one that has none, by itself and before its operand was resolved
-pub other_passed : (flags : IsaFlags) (e : Emission) (s : State) (after nominal depth : ℕ) (i : Inst) → None ≡ alone i → None ≡ memory i → MembersPassed s after depth (instruction_size (resolved_instruction e i)) (leaf_cause flags (declared_in s) (length s.labels) nominal depth (resolved_instruction e i)) → MembersPassed s after depth (branch_size i) (branch_cause s.block_count depth i) × (numbers_cause (length s.labels) (instruction_draws i) ≡ None)
+pub other_passed : (flags : IsaFlags) (e : Emission) (s : State) (after nominal depth : ℕ) (i : Inst) → None ≡ alone i → None ≡ memory i →
+    MembersPassed s after depth (instruction_size (resolved_instruction e i)) (leaf_cause flags (declared_in s) (length s.labels) nominal depth (resolved_instruction e i)) → MembersPassed s after depth (branch_size i) (branch_cause s.block_count depth i) × (numbers_cause (length s.labels) (instruction_draws i) ≡ None)
 other_passed flags e s after nominal depth i a m p =
     let j = resolved_instruction e i in
     let own = first_left (instruction_cause flags (declared_in s) nominal depth j) _ p.passed in

@@ -192,7 +192,8 @@ abbrev pub AllFine : Outside → List Tree → CodeImage → Type 0
 AllFine outside ts image = (k : ℕ) (s : Step) → slice_get (function_steps ts) k ≡ Some s → IsFine (function_layout outside ts image) s
 
 -- linked code stands as the machine layer asks, where each step is fine
-pub stands_as_code : (flags : IsaFlags) (ts : List Tree) (cs : List Constant) (f : MachBufferFinalized) (base : ℕ) (symbols : Symbols) → checked_cause flags ts cs ≡ None → IsImage ts cs f → link_cause f base symbols ≡ None → ((image : CodeImage) → AllFine (linked symbols base ts cs) ts image) → StandsAsCode (linked symbols base ts cs) ts (record { base = base; bytes = filled base symbols f.relocs.items f.bytes.items })
+pub stands_as_code : (flags : IsaFlags) (ts : List Tree) (cs : List Constant) (f : MachBufferFinalized) (base : ℕ) (symbols : Symbols) → checked_cause flags ts cs ≡ None → IsImage ts cs f → link_cause f base symbols ≡ None → ((image : CodeImage) → AllFine (linked symbols base ts cs) ts image) →
+    StandsAsCode (linked symbols base ts cs) ts (record { base = base; bytes = filled base symbols f.relocs.items f.bytes.items })
 stands_as_code flags ts cs f base symbols fine image links fine_steps =
     let ss = function_steps ts in
     let constants = constant_bytes (blocks_size ts) cs in

@@ -74,7 +74,8 @@ member_passed state flags s s1 after depth is k i lt at e p =
     subst (λ x. TreePassed flags x after state.nominal depth (graft state i empty)) (sym e) here
 
 -- and those behind it
-pub others_passed : (state : Emission) (flags : IsaFlags) (s s1 s2 : State) (after depth : ℕ) (is : List Inst) (k : ℕ) (i : Inst) → k < length is → i ≡ get_or is k i → s1 ≡ apply s Step → s2 ≡ run s1 (own_pieces (length s1.labels) after (graft state i empty)) → TreePassed flags s after state.nominal depth (tree state (drop k is)) → TreePassed flags s2 after (nominal_after state.nominal i) depth (tree (state_after state i) (drop (k + 1) is))
+pub others_passed : (state : Emission) (flags : IsaFlags) (s s1 s2 : State) (after depth : ℕ) (is : List Inst) (k : ℕ) (i : Inst) → k < length is → i ≡ get_or is k i → s1 ≡ apply s Step → s2 ≡ run s1 (own_pieces (length s1.labels) after (graft state i empty)) →
+    TreePassed flags s after state.nominal depth (tree state (drop k is)) → TreePassed flags s2 after (nominal_after state.nominal i) depth (tree (state_after state i) (drop (k + 1) is))
 others_passed state flags s s1 s2 after depth is k i lt at e1 e2 p =
     let n = length s.labels in
     let rest = tree (state_after state i) (drop (k + 1) is) in

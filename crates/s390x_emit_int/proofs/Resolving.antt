@@ -7,7 +7,7 @@ use Rattle.s390x_inst.specs.Facilities.{facility_of}
 use Rattle.s390x_base.specs.declared.error.EmitError.{EmitError}
 use Rattle.s390x_inst.specs.declared.args.MemArg.{MemArg}
 use Rattle.s390x_inst.specs.declared.inst.Inst.{Inst}
-use Rattle.s390x_inst.specs.declared.inst.Inst.TheVariants.{AluRX, CmpRX, Load32, Load32ZExt8, Load32SExt8, Load32ZExt16, Load32SExt16, Load64, Load64ZExt8, Load64SExt8, Load64ZExt16, Load64SExt16, Load64ZExt32, Load64SExt32, LoadRev16, LoadRev32, LoadRev64, LoadAddr, Store8, Store16, Store32, Store64, StoreRev16, StoreRev32, StoreRev64, StoreImm8, StoreImm16, StoreImm32SExt16, StoreImm64SExt16, LoadMultiple64, StoreMultiple64, AtomicRmw, AtomicCas32, AtomicCas64, CondBr, JTSequence, CondBreak, TrapIf, AllocateArgs}
+use Rattle.s390x_inst.specs.declared.inst.Inst.TheVariants.{AluRX, AtomicRmw, CondBr, JTSequence, CondBreak, TrapIf, AllocateArgs}
 use Rattle.s390x_inst.specs.declared.state.IsaFlags.{IsaFlags}
 use Rattle.s390x_steps.specs.Alone.{Alone, alone, stop_code}
 use Rattle.s390x_steps.specs.Causes.{Declared, first, facility_cause, cause_or, memory_cause_or, branch_cause, instruction_cause, instruction_draws, stack_cause, tree_cause}
@@ -85,42 +85,31 @@ mask_resolved : (e : Emission) (i : Inst) → MaskInRange i → MaskInRange (res
 mask_resolved e (CondBreak mask) h = h
 mask_resolved e i h = h
 
+-- whether there are both
+have_both : Option MemoryInstruction → Option Alone → Bool
+have_both None a = false
+have_both (Some x) None = false
+have_both (Some x) (Some y) = true
+
+not_alone : (o : Option MemoryInstruction) → have_both o None ≡ false
+unfolding have_both
+not_alone None = refl
+not_alone (Some x) = refl
+
+never_both : (i : Inst) → have_both (memory i) (alone i) ≡ false
+unfolding have_both
+never_both (AluRX op rd ri mem) = not_alone (memory (AluRX op rd ri mem))
+never_both (AtomicRmw op rd rn mem) = not_alone (memory (AtomicRmw op rd rn mem))
+never_both i = refl
+
+without_operand : (o : Option MemoryInstruction) (a : Option Alone) (x : Alone) → Some x ≡ a → have_both o a ≡ false → MemoryInRange o
+unfolding have_both
+without_operand None a x e h = tt
+without_operand (Some y) None x e h = absurd (cc)
+without_operand (Some y) (Some z) x e h = absurd (cc)
+
 alone_memory : (i : Inst) (x : Alone) → Some x ≡ alone i → MemoryInRange (memory i)
-alone_memory (AluRX op rd ri mem) x e = absurd (cc)
-alone_memory (CmpRX op rn mem) x e = absurd (cc)
-alone_memory (Load32 rd mem) x e = absurd (cc)
-alone_memory (Load32ZExt8 rd mem) x e = absurd (cc)
-alone_memory (Load32SExt8 rd mem) x e = absurd (cc)
-alone_memory (Load32ZExt16 rd mem) x e = absurd (cc)
-alone_memory (Load32SExt16 rd mem) x e = absurd (cc)
-alone_memory (Load64 rd mem) x e = absurd (cc)
-alone_memory (Load64ZExt8 rd mem) x e = absurd (cc)
-alone_memory (Load64SExt8 rd mem) x e = absurd (cc)
-alone_memory (Load64ZExt16 rd mem) x e = absurd (cc)
-alone_memory (Load64SExt16 rd mem) x e = absurd (cc)
-alone_memory (Load64ZExt32 rd mem) x e = absurd (cc)
-alone_memory (Load64SExt32 rd mem) x e = absurd (cc)
-alone_memory (LoadRev16 rd mem) x e = absurd (cc)
-alone_memory (LoadRev32 rd mem) x e = absurd (cc)
-alone_memory (LoadRev64 rd mem) x e = absurd (cc)
-alone_memory (LoadAddr rd mem) x e = absurd (cc)
-alone_memory (Store8 rd mem) x e = absurd (cc)
-alone_memory (Store16 rd mem) x e = absurd (cc)
-alone_memory (Store32 rd mem) x e = absurd (cc)
-alone_memory (Store64 rd mem) x e = absurd (cc)
-alone_memory (StoreRev16 rd mem) x e = absurd (cc)
-alone_memory (StoreRev32 rd mem) x e = absurd (cc)
-alone_memory (StoreRev64 rd mem) x e = absurd (cc)
-alone_memory (StoreImm8 imm mem) x e = absurd (cc)
-alone_memory (StoreImm16 imm mem) x e = absurd (cc)
-alone_memory (StoreImm32SExt16 imm mem) x e = absurd (cc)
-alone_memory (StoreImm64SExt16 imm mem) x e = absurd (cc)
-alone_memory (LoadMultiple64 rt rt2 mem) x e = absurd (cc)
-alone_memory (StoreMultiple64 rt rt2 mem) x e = absurd (cc)
-alone_memory (AtomicRmw op rd rn mem) x e = absurd (cc)
-alone_memory (AtomicCas32 rd ri rn mem) x e = absurd (cc)
-alone_memory (AtomicCas64 rd ri rn mem) x e = absurd (cc)
-alone_memory i x e = tt
+alone_memory i x e = without_operand (memory i) (alone i) x e (never_both i)
 
 alone_mask : (i : Inst) (x : Alone) → Some x ≡ alone i → MaskInRange i
 alone_mask (CondBr taken not_taken mask) x e = absurd (cc)

@@ -205,7 +205,8 @@ known_block blocks index other targets h =
     ltb-true other.0 blocks (unless_true (nat_lt other.0 blocks) UnboundLabel (first_left _ _ named))
 
 -- what the check let pass of the instruction
-pub jump_passed : (s : State) (after depth : ℕ) (i : Inst) (index : Reg) (other : MachLabel) (mask : ℕ) (targets : Vec MachLabel Global) → i ≡ JTSequence index other mask targets → MembersPassed s after depth (branch_size i) (branch_cause s.block_count depth i) → numbers_cause (length s.labels) (instruction_draws i) ≡ None → Passed s other.0 (20 + 4 * length targets.items) (table_cause s.block_count index other targets.items) × (numbers_cause (length s.labels) 1 ≡ None)
+pub jump_passed : (s : State) (after depth : ℕ) (i : Inst) (index : Reg) (other : MachLabel) (mask : ℕ) (targets : Vec MachLabel Global) → i ≡ JTSequence index other mask targets → MembersPassed s after depth (branch_size i) (branch_cause s.block_count depth i) →
+    numbers_cause (length s.labels) (instruction_draws i) ≡ None → Passed s other.0 (20 + 4 * length targets.items) (table_cause s.block_count index other targets.items) × (numbers_cause (length s.labels) 1 ≡ None)
 jump_passed s after depth i index other mask targets e p drawn =
     let size : branch_size i ≡ 20 + 4 * length targets.items = ap branch_size e ∙ table_bytes (number_of index) mask other.0 targets.items in
     let cause : table_cause s.block_count index other targets.items ≡ None = sym (ap (branch_cause s.block_count depth) e) ∙ p.passed in

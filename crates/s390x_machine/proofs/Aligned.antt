@@ -208,7 +208,8 @@ module _ (L : Layout) (all : AllPlaced L) where
   stands_aligned size a operation false have bytes multiple r has e = absurd (cc)
   stands_aligned size a operation true have bytes multiple r has e = reached_at_multiple a size has multiple (sym (bytes a r has) ∙ e)
 
-  own_never : (register : ℕ) (short long : Option ℕ) (opcode : ℕ) (m : MemArg) (fits reads : Bool) → IsFineMemory L (record { form = RxForm register short long (Some opcode); operand = m; accesses = true; fine = fits; reads_scratch = reads }) → IsOwn m → (forms : MemInstType) (operation : ℕ → Registers → Operation) → forms.have_pcrel ≡ true → AlignedBytes operation (relative_bytes opcode) → NeverMisaligned (performed_at (record { operand = m; forms = forms; accesses = true; operation = operation }) (address_of L m))
+  own_never : (register : ℕ) (short long : Option ℕ) (opcode : ℕ) (m : MemArg) (fits reads : Bool) → IsFineMemory L (record { form = RxForm register short long (Some opcode); operand = m; accesses = true; fine = fits; reads_scratch = reads }) → IsOwn m →
+      (forms : MemInstType) (operation : ℕ → Registers → Operation) → forms.have_pcrel ≡ true → AlignedBytes operation (relative_bytes opcode) → NeverMisaligned (performed_at (record { operand = m; forms = forms; accesses = true; operation = operation }) (address_of L m))
   own_never register short long opcode (Label target) fits reads fine own forms operation have bytes =
       λ r has e. stands_aligned (relative_bytes opcode) (sum64 L.image.base (L.places.block target.0)) operation forms.have_pcrel have bytes (on_boundary L all (record { form = RxForm register short long (Some opcode); operand = Label target; accesses = true; fine = fits; reads_scratch = reads }) fine own r) r has e
   own_never register short long opcode (Constant c) fits reads fine own forms operation have bytes =

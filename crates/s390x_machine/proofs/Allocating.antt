@@ -7,7 +7,7 @@ use Rattle.s390x_operations.specs.Numbers.{low, signed}
 use Rattle.s390x_operations.specs.Signed.{signed_value}
 use Rattle.s390x_operations.specs.Unsigned.{logical_value}
 use Rattle.s390x_operations.specs.Bits.{extended}
-use Rattle.s390x_operations.specs.State.{Registers, Core, coded}
+use Rattle.s390x_operations.specs.State.{Registers, coded}
 use Rattle.s390x_operations.specs.Effects.{Refines, put_sized}
 use Rattle.s390x_operations.specs.declared.size.Size.TheVariants.{Doubleword}
 use Rattle.s390x_operations.specs.declared.size.Width.TheVariants.{Bits16, Bits32}
@@ -15,7 +15,7 @@ use Rattle.s390x_lanes.specs.declared.operation.Signedness.TheVariants.{Signed, 
 use Rattle.s390x_operations.specs.declared.operator.Operator.TheVariants as O
 use Rattle.s390x_operations.specs.declared.operator.SignedOperator.TheVariants.{Add}
 use Rattle.s390x_operations.specs.declared.operator.LogicalOperator.TheVariants.{Subtract}
-use Rattle.s390x_operations.specs.declared.effect.CodeRule.TheVariants.{Set, Unstated}
+use Rattle.s390x_operations.specs.declared.effect.CodeRule.TheVariants.{Set}
 use Rattle.s390x_steps.specs.General.{low_halfword, low_word}
 use Rattle.s390x_machine.specs.Computations.{computes_immediate, on_immediate, on_doublewords, signed_halfword, takes_from_stack}
 

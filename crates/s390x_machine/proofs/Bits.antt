@@ -29,9 +29,10 @@ use Rattle.s390x_machine.specs.declared.meaning.Meaning.{Meaning}
 use Rattle.s390x_machine.specs.declared.meaning.Meaning.TheVariants.{Compute, MoveWhere, CountOnes, RotateThen, MultiplySigned, MultiplyLogical, DivideSigned, DivideLogical, CompareAndTrap, CompareImmediateAndTrap, FindLeftmostOne, PutAny, BranchToRegister}
 use Rattle.s390x_machine.specs.declared.meaning.SecondOperand.{SecondOperand}
 use Rattle.s390x_machine.specs.declared.meaning.Shape.TheVariants.{Register, Immediate, ShiftedImmediate, Amount, AccessRegister}
-use Rattle.s390x_machine.specs.Computations.{Computation, comparison, word, doubleword, signed_halfword, on_words, on_doublewords, on_selected, with_second, extended_second, extension, part_mask, half_mask, part_operator, shift_operator, shift_size, shift_rule, rotate_operator, rotate_rule}
+use Rattle.s390x_machine.specs.Computations.{Second, Computation, comparison, word, doubleword, signed_halfword, on_words, on_doublewords, on_selected, with_second, extended_second, extension, part_mask, half_mask, part_operator, shift_operator, shift_size, shift_rule, rotate_operator, rotate_rule}
 use Rattle.s390x_machine.specs.Meanings.{meaning_in, meaning_of}
-use Rattle.s390x_machine.proofs.Alone.{none_but_zero, PairRow, Meant, TwoRow, TwoRows, OpcodeRow, OpcodeRows, second_register, computed}
+use Rattle.s390x_machine.proofs.Listing.{Agrees, PairRow, rows, none_but_zero, TwoRow, TwoRows, OpcodeRow, OpcodeRows, Meant, MeantRows}
+use Rattle.s390x_machine.proofs.Alone.{second_register, computed}
 
 -- ---- parts and halves
 
@@ -71,37 +72,37 @@ by_four kind digits a b c d meaning zeroth first second third n = go (nat_eq n 0
 
 pub part_rows : (op : ALUOp) (shift : ℕ) → OpcodeRows RiA 4096 (alu_part op shift) (immediate_at (on_selected (part_operator op) (part_mask shift)) (16 * shift) Set)
 unfolding machine_rows row_for meaning_in meaning_of
-part_rows A.And32 shift = by_two RiA 4096 0xa57 0xa56 (λ n. immediate_at (on_selected Select.And (part_mask n)) (16 * n) Set) (record { some = omega arith; few = omega arith; lists = (refl, refl, refl); means = refl; single = refl }) (record { some = omega arith; few = omega arith; lists = (refl, refl, refl); means = refl; single = refl }) shift
-part_rows A.And64 shift = by_four RiA 4096 0xa57 0xa56 0xa55 0xa54 (λ n. immediate_at (on_selected Select.And (part_mask n)) (16 * n) Set) (record { some = omega arith; few = omega arith; lists = (refl, refl, refl); means = refl; single = refl }) (record { some = omega arith; few = omega arith; lists = (refl, refl, refl); means = refl; single = refl }) (record { some = omega arith; few = omega arith; lists = (refl, refl, refl); means = refl; single = refl }) (record { some = omega arith; few = omega arith; lists = (refl, refl, refl); means = refl; single = refl }) shift
-part_rows A.Orr32 shift = by_two RiA 4096 0xa5b 0xa5a (λ n. immediate_at (on_selected Select.Or (part_mask n)) (16 * n) Set) (record { some = omega arith; few = omega arith; lists = (refl, refl, refl); means = refl; single = refl }) (record { some = omega arith; few = omega arith; lists = (refl, refl, refl); means = refl; single = refl }) shift
-part_rows A.Orr64 shift = by_four RiA 4096 0xa5b 0xa5a 0xa59 0xa58 (λ n. immediate_at (on_selected Select.Or (part_mask n)) (16 * n) Set) (record { some = omega arith; few = omega arith; lists = (refl, refl, refl); means = refl; single = refl }) (record { some = omega arith; few = omega arith; lists = (refl, refl, refl); means = refl; single = refl }) (record { some = omega arith; few = omega arith; lists = (refl, refl, refl); means = refl; single = refl }) (record { some = omega arith; few = omega arith; lists = (refl, refl, refl); means = refl; single = refl }) shift
+part_rows A.And32 shift = by_two RiA 4096 0xa57 0xa56 (λ n. immediate_at (on_selected Select.And (part_mask n)) (16 * n) Set) (record { is = refl }, refl) (record { is = refl }, refl) shift
+part_rows A.And64 shift = by_four RiA 4096 0xa57 0xa56 0xa55 0xa54 (λ n. immediate_at (on_selected Select.And (part_mask n)) (16 * n) Set) (record { is = refl }, refl) (record { is = refl }, refl) (record { is = refl }, refl) (record { is = refl }, refl) shift
+part_rows A.Orr32 shift = by_two RiA 4096 0xa5b 0xa5a (λ n. immediate_at (on_selected Select.Or (part_mask n)) (16 * n) Set) (record { is = refl }, refl) (record { is = refl }, refl) shift
+part_rows A.Orr64 shift = by_four RiA 4096 0xa5b 0xa5a 0xa59 0xa58 (λ n. immediate_at (on_selected Select.Or (part_mask n)) (16 * n) Set) (record { is = refl }, refl) (record { is = refl }, refl) (record { is = refl }, refl) (record { is = refl }, refl) shift
 part_rows _ shift = tt
 
 pub half_rows : (op : ALUOp) (shift : ℕ) → OpcodeRows RilA 4096 (alu_half op shift) (immediate_at (on_selected (part_operator op) (half_mask shift)) (32 * shift) Set)
 unfolding machine_rows row_for meaning_in meaning_of
-half_rows A.And32 shift = by_one RilA 4096 0xc0b (λ n. immediate_at (on_selected Select.And (half_mask n)) (32 * n) Set) (record { some = omega arith; few = omega arith; lists = (refl, refl, refl); means = refl; single = refl }) shift
-half_rows A.And64 shift = by_two RilA 4096 0xc0b 0xc0a (λ n. immediate_at (on_selected Select.And (half_mask n)) (32 * n) Set) (record { some = omega arith; few = omega arith; lists = (refl, refl, refl); means = refl; single = refl }) (record { some = omega arith; few = omega arith; lists = (refl, refl, refl); means = refl; single = refl }) shift
-half_rows A.Orr32 shift = by_one RilA 4096 0xc0d (λ n. immediate_at (on_selected Select.Or (half_mask n)) (32 * n) Set) (record { some = omega arith; few = omega arith; lists = (refl, refl, refl); means = refl; single = refl }) shift
-half_rows A.Orr64 shift = by_two RilA 4096 0xc0d 0xc0c (λ n. immediate_at (on_selected Select.Or (half_mask n)) (32 * n) Set) (record { some = omega arith; few = omega arith; lists = (refl, refl, refl); means = refl; single = refl }) (record { some = omega arith; few = omega arith; lists = (refl, refl, refl); means = refl; single = refl }) shift
-half_rows A.Xor32 shift = by_one RilA 4096 0xc07 (λ n. immediate_at (on_selected Select.Xor (half_mask n)) (32 * n) Set) (record { some = omega arith; few = omega arith; lists = (refl, refl, refl); means = refl; single = refl }) shift
-half_rows A.Xor64 shift = by_two RilA 4096 0xc07 0xc06 (λ n. immediate_at (on_selected Select.Xor (half_mask n)) (32 * n) Set) (record { some = omega arith; few = omega arith; lists = (refl, refl, refl); means = refl; single = refl }) (record { some = omega arith; few = omega arith; lists = (refl, refl, refl); means = refl; single = refl }) shift
+half_rows A.And32 shift = by_one RilA 4096 0xc0b (λ n. immediate_at (on_selected Select.And (half_mask n)) (32 * n) Set) (record { is = refl }, refl) shift
+half_rows A.And64 shift = by_two RilA 4096 0xc0b 0xc0a (λ n. immediate_at (on_selected Select.And (half_mask n)) (32 * n) Set) (record { is = refl }, refl) (record { is = refl }, refl) shift
+half_rows A.Orr32 shift = by_one RilA 4096 0xc0d (λ n. immediate_at (on_selected Select.Or (half_mask n)) (32 * n) Set) (record { is = refl }, refl) shift
+half_rows A.Orr64 shift = by_two RilA 4096 0xc0d 0xc0c (λ n. immediate_at (on_selected Select.Or (half_mask n)) (32 * n) Set) (record { is = refl }, refl) (record { is = refl }, refl) shift
+half_rows A.Xor32 shift = by_one RilA 4096 0xc07 (λ n. immediate_at (on_selected Select.Xor (half_mask n)) (32 * n) Set) (record { is = refl }, refl) shift
+half_rows A.Xor64 shift = by_two RilA 4096 0xc07 0xc06 (λ n. immediate_at (on_selected Select.Xor (half_mask n)) (32 * n) Set) (record { is = refl }, refl) (record { is = refl }, refl) shift
 half_rows _ shift = tt
 
 pub load_part_rows : (shift : ℕ) → OpcodeRows RiA 4096 (load_part shift) (immediate_at (on_doublewords Move) (16 * shift) Kept)
 unfolding machine_rows row_for meaning_in meaning_of
-load_part_rows shift = by_four RiA 4096 0xa5f 0xa5e 0xa5d 0xa5c (λ n. immediate_at (on_doublewords Move) (16 * n) Kept) (record { some = omega arith; few = omega arith; lists = (refl, refl, refl); means = refl; single = refl }) (record { some = omega arith; few = omega arith; lists = (refl, refl, refl); means = refl; single = refl }) (record { some = omega arith; few = omega arith; lists = (refl, refl, refl); means = refl; single = refl }) (record { some = omega arith; few = omega arith; lists = (refl, refl, refl); means = refl; single = refl }) shift
+load_part_rows shift = by_four RiA 4096 0xa5f 0xa5e 0xa5d 0xa5c (λ n. immediate_at (on_doublewords Move) (16 * n) Kept) (record { is = refl }, refl) (record { is = refl }, refl) (record { is = refl }, refl) (record { is = refl }, refl) shift
 
 pub load_half_rows : (shift : ℕ) → OpcodeRows RilA 4096 (load_half shift) (immediate_at (on_doublewords Move) (32 * shift) Kept)
 unfolding machine_rows row_for meaning_in meaning_of
-load_half_rows shift = by_two RilA 4096 0xc0f 0xc0e (λ n. immediate_at (on_doublewords Move) (32 * n) Kept) (record { some = omega arith; few = omega arith; lists = (refl, refl, refl); means = refl; single = refl }) (record { some = omega arith; few = omega arith; lists = (refl, refl, refl); means = refl; single = refl }) shift
+load_half_rows shift = by_two RilA 4096 0xc0f 0xc0e (λ n. immediate_at (on_doublewords Move) (32 * n) Kept) (record { is = refl }, refl) (record { is = refl }, refl) shift
 
 pub insert_part_rows : (shift : ℕ) → OpcodeRows RiA 4096 (insert_part shift) (immediate_at (on_selected Select.Insert (part_mask shift)) (16 * shift) Kept)
 unfolding machine_rows row_for meaning_in meaning_of
-insert_part_rows shift = by_four RiA 4096 0xa53 0xa52 0xa51 0xa50 (λ n. immediate_at (on_selected Select.Insert (part_mask n)) (16 * n) Kept) (record { some = omega arith; few = omega arith; lists = (refl, refl, refl); means = refl; single = refl }) (record { some = omega arith; few = omega arith; lists = (refl, refl, refl); means = refl; single = refl }) (record { some = omega arith; few = omega arith; lists = (refl, refl, refl); means = refl; single = refl }) (record { some = omega arith; few = omega arith; lists = (refl, refl, refl); means = refl; single = refl }) shift
+insert_part_rows shift = by_four RiA 4096 0xa53 0xa52 0xa51 0xa50 (λ n. immediate_at (on_selected Select.Insert (part_mask n)) (16 * n) Kept) (record { is = refl }, refl) (record { is = refl }, refl) (record { is = refl }, refl) (record { is = refl }, refl) shift
 
 pub iihf_row : OpcodeRow RilA 4096 0xc08 (immediate_at (on_selected Select.Insert (half_mask 1)) 32 Kept)
 unfolding machine_rows row_for meaning_in meaning_of
-iihf_row = record { some = omega arith; few = omega arith; lists = (refl, refl, refl); means = refl; single = refl }
+iihf_row = (record { is = refl }, refl)
 
 -- ---- extensions
 
@@ -109,26 +110,41 @@ iihf_row = record { some = omega arith; few = omega arith; lists = (refl, refl, 
 abbrev pub extends : (signed : Bool) → (from to : ℕ) → Meaning
 extends signed from to = computed (extension signed from to) Register Kept
 
-pub word_rows : (signed one eight sixteen : Bool) → TwoRows (cond one (Some 0xb926) (cond eight (Some (cond signed 0xb926 0xb994)) (cond sixteen (Some (cond signed 0xb927 0xb995)) None))) (computed (with_second Move Word (record { width = cond one Bits8 (cond eight Bits8 (cond sixteen Bits16 Bits32)); sign = cond one Signed (cond signed Signed Unsigned); reversed = false })) Register Kept)
+-- how a narrower number is read
+abbrev narrower : (signed one eight sixteen : Bool) → Second
+narrower signed one eight sixteen = record {
+  width = cond one Bits8 (cond eight Bits8 (cond sixteen Bits16 Bits32));
+  sign = cond one Signed (cond signed Signed Unsigned);
+  reversed = false;
+}
+
+abbrev word_opcode : (signed one eight sixteen : Bool) → Option ℕ
+word_opcode signed one eight sixteen = cond one (Some 0xb926) (cond eight (Some (cond signed 0xb926 0xb994)) (cond sixteen (Some (cond signed 0xb927 0xb995)) None))
+
+abbrev doubleword_opcode : (signed one eight sixteen thirty_two : Bool) → Option ℕ
+doubleword_opcode signed one eight sixteen thirty_two =
+    cond one (Some 0xb906) (cond eight (Some (cond signed 0xb906 0xb984)) (cond sixteen (Some (cond signed 0xb907 0xb985)) (cond thirty_two (Some (cond signed 0xb914 0xb916)) None)))
+
+word_rows : (signed one eight sixteen : Bool) → TwoRows (word_opcode signed one eight sixteen) (computed (with_second Move Word (narrower signed one eight sixteen)) Register Kept)
 unfolding machine_rows row_for meaning_in meaning_of
-word_rows true true eight sixteen = record { some = omega arith; few = omega arith; lists = (refl, refl, refl); means = refl; single = refl }
-word_rows false true eight sixteen = record { some = omega arith; few = omega arith; lists = (refl, refl, refl); means = refl; single = refl }
-word_rows true false true sixteen = record { some = omega arith; few = omega arith; lists = (refl, refl, refl); means = refl; single = refl }
-word_rows false false true sixteen = record { some = omega arith; few = omega arith; lists = (refl, refl, refl); means = refl; single = refl }
-word_rows true false false true = record { some = omega arith; few = omega arith; lists = (refl, refl, refl); means = refl; single = refl }
-word_rows false false false true = record { some = omega arith; few = omega arith; lists = (refl, refl, refl); means = refl; single = refl }
+word_rows true true eight sixteen = (record { is = refl }, refl)
+word_rows false true eight sixteen = (record { is = refl }, refl)
+word_rows true false true sixteen = (record { is = refl }, refl)
+word_rows false false true sixteen = (record { is = refl }, refl)
+word_rows true false false true = (record { is = refl }, refl)
+word_rows false false false true = (record { is = refl }, refl)
 word_rows signed false false false = tt
 
-pub doubleword_rows : (signed one eight sixteen thirty_two : Bool) → TwoRows (cond one (Some 0xb906) (cond eight (Some (cond signed 0xb906 0xb984)) (cond sixteen (Some (cond signed 0xb907 0xb985)) (cond thirty_two (Some (cond signed 0xb914 0xb916)) None)))) (computed (with_second Move Doubleword (record { width = cond one Bits8 (cond eight Bits8 (cond sixteen Bits16 Bits32)); sign = cond one Signed (cond signed Signed Unsigned); reversed = false })) Register Kept)
+doubleword_rows : (signed one eight sixteen thirty_two : Bool) → TwoRows (doubleword_opcode signed one eight sixteen thirty_two) (computed (with_second Move Doubleword (narrower signed one eight sixteen)) Register Kept)
 unfolding machine_rows row_for meaning_in meaning_of
-doubleword_rows true true eight sixteen more = record { some = omega arith; few = omega arith; lists = (refl, refl, refl); means = refl; single = refl }
-doubleword_rows false true eight sixteen more = record { some = omega arith; few = omega arith; lists = (refl, refl, refl); means = refl; single = refl }
-doubleword_rows true false true sixteen more = record { some = omega arith; few = omega arith; lists = (refl, refl, refl); means = refl; single = refl }
-doubleword_rows false false true sixteen more = record { some = omega arith; few = omega arith; lists = (refl, refl, refl); means = refl; single = refl }
-doubleword_rows true false false true more = record { some = omega arith; few = omega arith; lists = (refl, refl, refl); means = refl; single = refl }
-doubleword_rows false false false true more = record { some = omega arith; few = omega arith; lists = (refl, refl, refl); means = refl; single = refl }
-doubleword_rows true false false false true = record { some = omega arith; few = omega arith; lists = (refl, refl, refl); means = refl; single = refl }
-doubleword_rows false false false false true = record { some = omega arith; few = omega arith; lists = (refl, refl, refl); means = refl; single = refl }
+doubleword_rows true true eight sixteen more = (record { is = refl }, refl)
+doubleword_rows false true eight sixteen more = (record { is = refl }, refl)
+doubleword_rows true false true sixteen more = (record { is = refl }, refl)
+doubleword_rows false false true sixteen more = (record { is = refl }, refl)
+doubleword_rows true false false true more = (record { is = refl }, refl)
+doubleword_rows false false false true more = (record { is = refl }, refl)
+doubleword_rows true false false false true = (record { is = refl }, refl)
+doubleword_rows false false false false true = (record { is = refl }, refl)
 doubleword_rows signed false false false false = tt
 
 sized_rows : (signed : Bool) (from : ℕ) (to_word to_doubleword : Bool) → TwoRows (cond to_word (extend_to_word signed from) (cond to_doubleword (extend_to_doubleword signed from) None)) (computed (with_second Move (cond to_word Word Doubleword) (extended_second signed from)) Register Kept)
@@ -141,7 +157,7 @@ extend_rows signed from to = sized_rows signed from (nat_eq to 32) (nat_eq to 64
 
 pub ear_row : TwoRow 0xb24f (computed (on_words Move) AccessRegister Kept)
 unfolding machine_rows row_for meaning_in meaning_of
-ear_row = record { some = omega arith; few = omega arith; lists = (refl, refl, refl); means = refl; single = refl }
+ear_row = (record { is = refl }, refl)
 
 -- ---- shifts
 
@@ -150,14 +166,11 @@ shift_meaning op = Compute (Shift (shift_operator op)) (shift_size op) (record {
 
 pub shift_rows : (op : ShiftOp) → Meant Rsy Any (shift_storage op) (shift_meaning op)
 unfolding machine_rows row_for meaning_in meaning_of
-shift_rows S.RotL32 = record { some = omega arith; few = omega arith; lists = (refl, refl, refl); means = refl; single = refl }
-shift_rows S.RotL64 = record { some = omega arith; few = omega arith; lists = (refl, refl, refl); means = refl; single = refl }
-shift_rows S.LShL32 = record { some = omega arith; few = omega arith; lists = (refl, refl, refl); means = refl; single = refl }
-shift_rows S.LShL64 = record { some = omega arith; few = omega arith; lists = (refl, refl, refl); means = refl; single = refl }
-shift_rows S.LShR32 = record { some = omega arith; few = omega arith; lists = (refl, refl, refl); means = refl; single = refl }
-shift_rows S.LShR64 = record { some = omega arith; few = omega arith; lists = (refl, refl, refl); means = refl; single = refl }
-shift_rows S.AShR32 = record { some = omega arith; few = omega arith; lists = (refl, refl, refl); means = refl; single = refl }
-shift_rows S.AShR64 = record { some = omega arith; few = omega arith; lists = (refl, refl, refl); means = refl; single = refl }
+shift_rows op = rows (λ n. Rsy) Any 65536 (Some (shift_storage op)) (shift_meaning op) refl (agrees op)
+  where
+    agrees : (op : ShiftOp) → Agrees (λ n. Rsy) Any 65536 (Some (shift_storage op)) (shift_meaning op)
+    agrees S.RotL32 = refl
+    agrees _ = refl
 
 -- ---- rotations
 
@@ -168,47 +181,43 @@ rotate_allows _ = RotateBitsOrTest
 
 pub rotate_rows : (op : RxSBGOp) → Meant RieF (rotate_allows op) (rotate_then op) (RotateThen (rotate_operator op) (rotate_rule op))
 unfolding machine_rows row_for meaning_in meaning_of
-rotate_rows R.Insert = record { some = omega arith; few = omega arith; lists = (refl, refl, refl); means = refl; single = refl }
-rotate_rows R.And = record { some = omega arith; few = omega arith; lists = (refl, refl, refl); means = refl; single = refl }
-rotate_rows R.Or = record { some = omega arith; few = omega arith; lists = (refl, refl, refl); means = refl; single = refl }
-rotate_rows R.Xor = record { some = omega arith; few = omega arith; lists = (refl, refl, refl); means = refl; single = refl }
+rotate_rows op = rows (λ n. RieF) (rotate_allows op) 65536 (Some (rotate_then op)) (RotateThen (rotate_operator op) (rotate_rule op)) refl (agrees op)
+  where
+    agrees : (op : RxSBGOp) → Agrees (λ n. RieF) (rotate_allows op) 65536 (Some (rotate_then op)) (RotateThen (rotate_operator op) (rotate_rule op))
+    agrees R.Insert = refl
+    agrees _ = refl
 
 -- ---- pairs
 
 pub mgrk_row : PairRow RrfAb none_but_zero 0xb9ec MultiplySigned
 unfolding machine_rows row_for meaning_in meaning_of
-mgrk_row = record { some = omega arith; few = omega arith; lists = (refl, refl, refl); means = refl }
+mgrk_row = record { is = refl }
 
 pub mlgr_row : PairRow Rre Any 0xb986 MultiplyLogical
 unfolding machine_rows row_for meaning_in meaning_of
-mlgr_row = record { some = omega arith; few = omega arith; lists = (refl, refl, refl); means = refl }
+mlgr_row = record { is = refl }
 
 pub flogr_row : PairRow Rre Any 0xb983 FindLeftmostOne
 unfolding machine_rows row_for meaning_in meaning_of
-flogr_row = record { some = omega arith; few = omega arith; lists = (refl, refl, refl); means = refl }
+flogr_row = record { is = refl }
 
 -- ---- divisions, and comparisons that trap
 
 pub dsgfr_row : PairRow Rre Any 0xb91d (DivideSigned Bits32)
 unfolding machine_rows row_for meaning_in meaning_of
-dsgfr_row = record { some = omega arith; few = omega arith; lists = (refl, refl, refl); means = refl }
+dsgfr_row = record { is = refl }
 
 pub dsgr_row : PairRow Rre Any 0xb90d (DivideSigned Bits64)
 unfolding machine_rows row_for meaning_in meaning_of
-dsgr_row = record { some = omega arith; few = omega arith; lists = (refl, refl, refl); means = refl }
+dsgr_row = record { is = refl }
 
 pub dlr_row : PairRow Rre Any 0xb997 (DivideLogical Word)
 unfolding machine_rows row_for meaning_in meaning_of
-dlr_row = record { some = omega arith; few = omega arith; lists = (refl, refl, refl); means = refl }
+dlr_row = record { is = refl }
 
 pub dlgr_row : PairRow Rre Any 0xb987 (DivideLogical Doubleword)
 unfolding machine_rows row_for meaning_in meaning_of
-dlgr_row = record { some = omega arith; few = omega arith; lists = (refl, refl, refl); means = refl }
-
--- the rows of an operator, where it has some
-abbrev pub MeantRows : FormatKind → Allowed → Option ℕ → Meaning → Type 0
-MeantRows kind allowed None meaning = Unit {0}
-MeantRows kind allowed (Some opcode) meaning = Meant kind allowed opcode meaning
+dlgr_row = record { is = refl }
 
 -- what a comparison that traps does, of registers and of an immediate
 abbrev pub trapped : CmpOp → Meaning
@@ -219,23 +228,27 @@ immediate_trapped op = CompareImmediateAndTrap (comparison op).sign (comparison 
 
 pub trap_rows : (op : CmpOp) → MeantRows RrfCde (FirstMask 0 15) (cmp_trap op) (trapped op)
 unfolding machine_rows row_for meaning_in meaning_of
-trap_rows C.CmpS32 = record { some = omega arith; few = omega arith; lists = (refl, refl, refl); means = refl; single = refl }
-trap_rows C.CmpS64 = record { some = omega arith; few = omega arith; lists = (refl, refl, refl); means = refl; single = refl }
-trap_rows C.CmpL32 = record { some = omega arith; few = omega arith; lists = (refl, refl, refl); means = refl; single = refl }
-trap_rows C.CmpL64 = record { some = omega arith; few = omega arith; lists = (refl, refl, refl); means = refl; single = refl }
-trap_rows _ = tt
+trap_rows op = rows (λ n. RrfCde) (FirstMask 0 15) 65536 (cmp_trap op) (trapped op) refl (agrees op)
+  where
+    agrees : (op : CmpOp) → Agrees (λ n. RrfCde) (FirstMask 0 15) 65536 (cmp_trap op) (trapped op)
+    agrees C.CmpS32 = refl
+    agrees _ = refl
 
 pub trap_signed_rows : (op : CmpOp) → MeantRows RieA Any (cmp_trap_signed op) (immediate_trapped op)
 unfolding machine_rows row_for meaning_in meaning_of
-trap_signed_rows C.CmpS32 = record { some = omega arith; few = omega arith; lists = (refl, refl, refl); means = refl; single = refl }
-trap_signed_rows C.CmpS64 = record { some = omega arith; few = omega arith; lists = (refl, refl, refl); means = refl; single = refl }
-trap_signed_rows _ = tt
+trap_signed_rows op = rows (λ n. RieA) Any 65536 (cmp_trap_signed op) (immediate_trapped op) refl (agrees op)
+  where
+    agrees : (op : CmpOp) → Agrees (λ n. RieA) Any 65536 (cmp_trap_signed op) (immediate_trapped op)
+    agrees C.CmpS32 = refl
+    agrees _ = refl
 
 pub trap_unsigned_rows : (op : CmpOp) → MeantRows RieA Any (cmp_trap_unsigned op) (immediate_trapped op)
 unfolding machine_rows row_for meaning_in meaning_of
-trap_unsigned_rows C.CmpL32 = record { some = omega arith; few = omega arith; lists = (refl, refl, refl); means = refl; single = refl }
-trap_unsigned_rows C.CmpL64 = record { some = omega arith; few = omega arith; lists = (refl, refl, refl); means = refl; single = refl }
-trap_unsigned_rows _ = tt
+trap_unsigned_rows op = rows (λ n. RieA) Any 65536 (cmp_trap_unsigned op) (immediate_trapped op) refl (agrees op)
+  where
+    agrees : (op : CmpOp) → Agrees (λ n. RieA) Any 65536 (cmp_trap_unsigned op) (immediate_trapped op)
+    agrees C.CmpL32 = refl
+    agrees _ = refl
 
 -- ---- conditional moves, and counts of ones
 
@@ -244,49 +257,48 @@ any_mask = FirstMask 0 15
 
 pub locr_row : Meant RrfCde any_mask 0xb9f2 (MoveWhere Word (second_register Register word))
 unfolding machine_rows row_for meaning_in meaning_of
-locr_row = record { some = omega arith; few = omega arith; lists = (refl, refl, refl); means = refl; single = refl }
+locr_row = (record { is = refl }, refl)
 
 pub locgr_row : Meant RrfCde any_mask 0xb9e2 (MoveWhere Doubleword (second_register Register doubleword))
 unfolding machine_rows row_for meaning_in meaning_of
-locgr_row = record { some = omega arith; few = omega arith; lists = (refl, refl, refl); means = refl; single = refl }
+locgr_row = (record { is = refl }, refl)
 
 pub lochi_row : Meant RieG Any 0xec42 (MoveWhere Word (second_register Immediate signed_halfword))
 unfolding machine_rows row_for meaning_in meaning_of
-lochi_row = record { some = omega arith; few = omega arith; lists = (refl, refl, refl); means = refl; single = refl }
+lochi_row = (record { is = refl }, refl)
 
 pub locghi_row : Meant RieG Any 0xec46 (MoveWhere Doubleword (second_register Immediate signed_halfword))
 unfolding machine_rows row_for meaning_in meaning_of
-locghi_row = record { some = omega arith; few = omega arith; lists = (refl, refl, refl); means = refl; single = refl }
+locghi_row = (record { is = refl }, refl)
 
 pub popcnt_row : Meant RrfCde CountMode 0xb9e1 CountOnes
 unfolding machine_rows row_for meaning_in meaning_of
-popcnt_row = record { some = omega arith; few = omega arith; lists = (refl, refl, refl); means = refl; single = refl }
+popcnt_row = (record { is = refl }, refl)
 
 pub bcr_row : Meant Rr Any 0x07 BranchToRegister
 unfolding machine_rows row_for meaning_in meaning_of
-bcr_row = record { some = omega arith; few = omega arith; lists = (refl, refl, refl); means = refl; single = refl }
+bcr_row = (record { is = refl }, refl)
 
 -- ---- indexed addresses
 
 -- a row that puts any value, where there is one
 abbrev pub AnyRows : Option ℕ → Type 0
-AnyRows None = Unit {0}
-AnyRows (Some opcode) = Meant Rxy Any opcode PutAny
+AnyRows o = MeantRows Rxy Any o PutAny
 
 any_rows : (one two three four : Bool) → AnyRows (cond one (Some 0xe362) (cond two (Some 0xe364) (cond three (Some 0xe366) (cond four (Some 0xe368) None))))
 unfolding machine_rows row_for meaning_in meaning_of
-any_rows true two three four = record { some = omega arith; few = omega arith; lists = (refl, refl, refl); means = refl; single = refl }
-any_rows false true three four = record { some = omega arith; few = omega arith; lists = (refl, refl, refl); means = refl; single = refl }
-any_rows false false true four = record { some = omega arith; few = omega arith; lists = (refl, refl, refl); means = refl; single = refl }
-any_rows false false false true = record { some = omega arith; few = omega arith; lists = (refl, refl, refl); means = refl; single = refl }
+any_rows true two three four = (record { is = refl }, refl)
+any_rows false true three four = (record { is = refl }, refl)
+any_rows false false true four = (record { is = refl }, refl)
+any_rows false false false true = (record { is = refl }, refl)
 any_rows false false false false = tt
 
 logical_any_rows : (one two three four : Bool) → AnyRows (cond one (Some 0xe363) (cond two (Some 0xe365) (cond three (Some 0xe367) (cond four (Some 0xe369) None))))
 unfolding machine_rows row_for meaning_in meaning_of
-logical_any_rows true two three four = record { some = omega arith; few = omega arith; lists = (refl, refl, refl); means = refl; single = refl }
-logical_any_rows false true three four = record { some = omega arith; few = omega arith; lists = (refl, refl, refl); means = refl; single = refl }
-logical_any_rows false false true four = record { some = omega arith; few = omega arith; lists = (refl, refl, refl); means = refl; single = refl }
-logical_any_rows false false false true = record { some = omega arith; few = omega arith; lists = (refl, refl, refl); means = refl; single = refl }
+logical_any_rows true two three four = (record { is = refl }, refl)
+logical_any_rows false true three four = (record { is = refl }, refl)
+logical_any_rows false false true four = (record { is = refl }, refl)
+logical_any_rows false false false true = (record { is = refl }, refl)
 logical_any_rows false false false false = tt
 
 pub indexed_rows : (size : ℕ) → AnyRows (indexed_opcode size)

@@ -59,7 +59,8 @@ pub record TwoBranches (L : Layout) (k mask a b : ℕ) : Type 0 where
   pub first_target : block_place L a ≡ place L (L.first_step a)
   pub second_target : block_place L b ≡ place L (L.first_step b)
 
-chosen : (L : Layout) (k mask a b : ℕ) → form_at L k ≡ Some (Chooses mask a b) → (two : TwoBranches L k mask a b) → (c : Core) (t : Turn) (rest : List Turn) → Inside L k c [] c.registers (place L k) → Turned L c [] c.registers (place L k) (λ r. Branch mask (block_place L a)) two.size t → t.event ≡ Went None → (taken : Bool) → is_selected mask c.registers.code ≡ taken → t.after ≡ mid c c.registers (all_writes (t ∷ [])) (cond taken (block_place L a) (sum64 (place L k) two.size)) → Run L.image t.after rest → Runs L k c (t ∷ rest)
+chosen : (L : Layout) (k mask a b : ℕ) → form_at L k ≡ Some (Chooses mask a b) → (two : TwoBranches L k mask a b) → (c : Core) (t : Turn) (rest : List Turn) → Inside L k c [] c.registers (place L k) → Turned L c [] c.registers (place L k) (λ r. Branch mask (block_place L a)) two.size t →
+    t.event ≡ Went None → (taken : Bool) → is_selected mask c.registers.code ≡ taken → t.after ≡ mid c c.registers (all_writes (t ∷ [])) (cond taken (block_place L a) (sum64 (place L k) two.size)) → Run L.image t.after rest → Runs L k c (t ∷ rest)
 chosen L k mask a b is two c t rest i u e true sel lands run =
     let y = written (all_writes (t ∷ [])) c in
     let at : t.after ≡ start L (L.first_step a) y = lands ∙ ap (λ q. mid c c.registers (all_writes (t ∷ [])) q) two.first_target in
@@ -82,7 +83,8 @@ leads_step : (L : Layout) (k mask j : ℕ) → form_at L k ≡ Some (Leads mask 
 leads_step L k mask j is c taken e x same =
     subst (λ f. FormStep L f k x (cond taken (At j) (At (suc k))) x) (sym is) (ap (λ b. cond b (At j) (At (suc k))) (sym e) ∙ ap (λ (r : Registers). cond (is_selected mask r.code) (At j) (At (suc k))) (sym same), refl)
 
-led : (L : Layout) (k mask j target size : ℕ) (act : Registers → Action) → form_at L k ≡ Some (Leads mask j) → target ≡ place L j → sum64 (place L k) size ≡ place L (suc k) → (c : Core) (t : Turn) (rest : List Turn) → Inside L k c [] c.registers (place L k) → Turned L c [] c.registers (place L k) act size t → t.event ≡ Went None → (taken : Bool) → is_selected mask c.registers.code ≡ taken → t.after ≡ mid c c.registers (all_writes (t ∷ [])) (cond taken target (sum64 (place L k) size)) → Runs L k c (t ∷ rest)
+led : (L : Layout) (k mask j target size : ℕ) (act : Registers → Action) → form_at L k ≡ Some (Leads mask j) → target ≡ place L j → sum64 (place L k) size ≡ place L (suc k) → (c : Core) (t : Turn) (rest : List Turn) → Inside L k c [] c.registers (place L k) →
+    Turned L c [] c.registers (place L k) act size t → t.event ≡ Went None → (taken : Bool) → is_selected mask c.registers.code ≡ taken → t.after ≡ mid c c.registers (all_writes (t ∷ [])) (cond taken target (sum64 (place L k) size)) → Runs L k c (t ∷ rest)
 led L k mask j target size act is there next c t rest i u e true sel at =
     let y = written (all_writes (t ∷ [])) c in
     done L k c [] c.registers (place L k) act size t rest j y i u (e ∙ ap Went (sym (stores_none L k (Leads mask j) (λ z. refl) is y))) (at ∙ ap (λ q. mid c c.registers (all_writes (t ∷ [])) q) there) (λ out. u.lies) (leads_step L k mask j is c true sel y refl)

@@ -98,7 +98,8 @@ pub record Skipping (L : Layout) (k mask : ℕ) (operation : Registers → Opera
   pub never_refused : (r : Registers) → refused (operation r).effect ≡ None
   pub never_stops : (r : Registers) (kind : StopKind) → MayRefuse (operation r).effect kind → ⊥
 
-skipped : (L : Layout) (k mask : ℕ) (operation : Registers → Operation) → form_at L k ≡ Some (PerformsWhere mask operation) → (s : Skipping L k mask operation) → (c : Core) (t : Turn) (rest : List Turn) → Inside L k c [] c.registers (place L k) → Turned L c [] c.registers (place L k) (λ r. Branch s.inverse (place L (suc k))) s.size t → t.event ≡ Went None → (moved : Bool) → is_selected mask c.registers.code ≡ moved → t.after ≡ mid c c.registers (all_writes (t ∷ [])) (cond (not moved) (place L (suc k)) (sum64 (place L k) s.size)) → Run L.image t.after rest → Runs L k c (t ∷ rest)
+skipped : (L : Layout) (k mask : ℕ) (operation : Registers → Operation) → form_at L k ≡ Some (PerformsWhere mask operation) → (s : Skipping L k mask operation) → (c : Core) (t : Turn) (rest : List Turn) → Inside L k c [] c.registers (place L k) →
+    Turned L c [] c.registers (place L k) (λ r. Branch s.inverse (place L (suc k))) s.size t → t.event ≡ Went None → (moved : Bool) → is_selected mask c.registers.code ≡ moved → t.after ≡ mid c c.registers (all_writes (t ∷ [])) (cond (not moved) (place L (suc k)) (sum64 (place L k) s.size)) → Run L.image t.after rest → Runs L k c (t ∷ rest)
 skipped L k mask operation is s c t rest i u e false sel at run =
     let y = written (all_writes (t ∷ [])) c in
     let step : TypedStep L k y (At (suc k)) y = subst (λ f. FormStep L f k y (At (suc k)) y) (sym is) (subst (λ m. WhereStep m (operation c.registers) k y (At (suc k)) y) (sym sel) (refl, refl)) in
@@ -168,7 +169,8 @@ pub record BranchesInto (L : Layout) (k mask : ℕ) (code : TrapKind) : Type 0 w
   pub here_target : InStep L k target
   pub next : sum64 (place L k) size ≡ place L (suc k)
 
-trapped : (L : Layout) (k mask : ℕ) (code : TrapKind) → form_at L k ≡ Some (TrapsWhere mask code) → (b : BranchesInto L k mask code) → (c : Core) (t : Turn) (rest : List Turn) → Inside L k c [] c.registers (place L k) → Turned L c [] c.registers (place L k) (λ r. Branch mask b.target) b.size t → t.event ≡ Went None → (taken : Bool) → is_selected mask c.registers.code ≡ taken → t.after ≡ mid c c.registers (all_writes (t ∷ [])) (cond taken b.target (sum64 (place L k) b.size)) → Run L.image t.after rest → Runs L k c (t ∷ rest)
+trapped : (L : Layout) (k mask : ℕ) (code : TrapKind) → form_at L k ≡ Some (TrapsWhere mask code) → (b : BranchesInto L k mask code) → (c : Core) (t : Turn) (rest : List Turn) → Inside L k c [] c.registers (place L k) → Turned L c [] c.registers (place L k) (λ r. Branch mask b.target) b.size t →
+    t.event ≡ Went None → (taken : Bool) → is_selected mask c.registers.code ≡ taken → t.after ≡ mid c c.registers (all_writes (t ∷ [])) (cond taken b.target (sum64 (place L k) b.size)) → Run L.image t.after rest → Runs L k c (t ∷ rest)
 trapped L k mask code is b c t rest i u e false sel at run =
     let y = written (all_writes (t ∷ [])) c in
     done L k c [] c.registers (place L k) _ b.size t rest (suc k) y i u (e ∙ ap Went (sym (stores_none L k (TrapsWhere mask code) (λ z. refl) is y))) (at ∙ ap (λ q. mid c c.registers (all_writes (t ∷ [])) q) b.next) (λ out. u.lies) (trap_step L k mask code is c false sel (t ∷ []))

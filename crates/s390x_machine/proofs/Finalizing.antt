@@ -1,6 +1,6 @@
 -- An instruction with an operand in memory runs as its step: its operand stands in its access as it is, or helpers put an offset or an address into
 -- `%r1` first.
-use Rattle.std.proofs.Common.{◌⊎◌, ◌≡◌, ℕ, ◌+◌, ◌^◌, ◌<◌, ◌≤◌, [], ◌∷◌, ◌++◌, Option, Some, None, Bool, true, false, cond, not, ◌&&◌, ◌||◌, ◌==◌, IsTrue, refl, sym, ap, ◌∙◌, subst, arith, slice_get}
+use Rattle.std.proofs.Common.{◌⊎◌, ◌≡◌, ℕ, ◌+◌, ◌^◌, ◌<◌, ◌≤◌, [], ◌∷◌, ◌++◌, Option, Some, None, Bool, true, false, cond, not, ◌&&◌, ◌||◌, ◌==◌, IsTrue, refl, sym, ap, ◌∙◌, subst, arith}
 use Rattle.std.specs.Prelude.{ℤ, pos, negsuc, ◌+ℤ◌, ◌*ℤ◌, ◌≤ℤ◌, unsigned_abs}
 use Rattle.std.specs.Int.{cast_signed}
 use mir.Syntax.{w32}
@@ -32,13 +32,14 @@ use Rattle.s390x_machine.specs.Forms.{Performs, Unbuilt, form_or, performed_at, 
 use Rattle.s390x_machine.specs.Layout.{Layout, declared, block_place, constant_place}
 use Rattle.s390x_machine.specs.OneStep.{StepRuns}
 use Rattle.s390x_machine.specs.Operands.{indexed, based, address_part}
-use Rattle.s390x_machine.specs.Placed.{Placed, AllPlaced, PartsReach, IsFineMemory}
+use Rattle.s390x_machine.specs.Placed.{PartsReach, IsFineMemory}
 use Rattle.s390x_machine.specs.Storage.{address_of, needs_scratch, loads_address, aligned_where, aligned_effect}
 use Rattle.s390x_machine.specs.Typed.{form_of, form_at}
 use Rattle.s390x_machine.proofs.Addresses.{sum_below}
 use Rattle.s390x_machine.proofs.Operands.{short_12, short_20, short_32, displacement_bits, based_indexed, not_scratch, zero_test, low_below}
 use Rattle.s390x_machine.proofs.Rows.{general_number}
 use Rattle.s390x_machine.proofs.Simulation.{ValuesCoded}
+use Rattle.s390x_machine.proofs.Built.{StepAt}
 use Rattle.s390x_machine.proofs.Accessing.{direct, after_address, after_offset, after_both}
 use Rattle.s390x_machine.proofs.Relative.{RelativeForm, RelativeDoes, Distant, first_none, label_known, constant_known, to_label, to_constant, to_symbol, distant_stands}
 use Rattle.s390x_machine.proofs.Storage.{FormDoes, IndexedForm, MayIndex, Stands, stands_12, stands_20}
@@ -100,104 +101,120 @@ aligned_coded : (aligned : Bool) (op : Operation) (code : StopKind → Option Tr
 aligned_coded false op code h = h
 aligned_coded true op code h = λ kind by. h kind (aligned_values op.effect kind by)
 
-module _ (L : Layout) (all : AllPlaced L) (k : ℕ) (s : Step) (at : slice_get L.steps k ≡ Some s) (placed : Placed L k s) (load : IndexedForm 1 (Some 0x41) (Some 0xe371) (loads_address 1)) (larl : RelativeForm 1 (Some 0xc00) (loads_address 1)) (form : StorageForm) (accesses : Bool) (operation : ℕ → Registers → Operation) (does : FormDoes form operation) (relative : RelativeDoes form accesses operation) (code : Option TrapKind) (never : (a : ℕ) (r : Registers) → ValuesCoded (operation a r) (access_code code)) where
-  mi : MemInstType
+-- the helper's rows
+abbrev pub LoadsAddress : Type 0
+LoadsAddress = IndexedForm 1 (Some 0x41) (Some 0xe371) (loads_address 1)
+
+abbrev pub LoadsRelative : Type 0
+LoadsRelative = RelativeForm 1 (Some 0xc00) (loads_address 1)
+
+-- the address that an operand with a base and an index has
+abbrev there : (base index : Reg) (z : ℤ) → Registers → ℕ
+there base index z = λ r. indexed r (number_of base) (number_of index) z
+
+module _ {L : Layout} {k : ℕ} {s : Step} (b : StepAt L k s) (load : LoadsAddress) (larl : LoadsRelative) (form : StorageForm) (accesses : Bool) (operation : ℕ → Registers → Operation) (does : FormDoes form operation) (relative : RelativeDoes form accesses operation) (code : Option TrapKind) (never : (a : ℕ) (r : Registers) → ValuesCoded (operation a r) (access_code code)) where
+  abbrev mi : MemInstType
   mi = type_of form accesses
 
   -- ---- the operand that stands in the access
 
   -- a displacement of 12 bits, in a row of 12 bits or of 20
-  short_stands : (base index : Reg) (d : ℕ) (flags : MachMemFlags) → (mi.have_d12 || mi.have_d20) ≡ true → number_of base < 16 → number_of index < 16 → MayIndex form (number_of index) → d ≤ 4095 → Stands L form (widened mi (BXD12 base index d flags)) operation (λ r. indexed r (number_of base) (number_of index) (pos d))
-  unfolding mi
-  short_stands base index d flags have lb li may le = go (type_of form accesses).have_d12 (type_of form accesses).have_d20 refl refl have
+  short_stands : (base index : Reg) (d : ℕ) (flags : MachMemFlags) → (mi.have_d12 || mi.have_d20) ≡ true → number_of base < 16 → number_of index < 16 → MayIndex form (number_of index) → d ≤ 4095 → Stands L form (widened mi (BXD12 base index d flags)) operation (there base index (pos d))
+  short_stands base index d flags have lb li may le = go mi.have_d12 mi.have_d20 refl refl have
     where
-      go : (short long : Bool) → (type_of form accesses).have_d12 ≡ short → (type_of form accesses).have_d20 ≡ long → (short || long) ≡ true → Stands L form (cond (not (type_of form accesses).have_d12 && (type_of form accesses).have_d20) (BXD20 base index (pos d) flags) (BXD12 base index d flags)) operation (λ r. indexed r (number_of base) (number_of index) (pos d))
+      go : (short long : Bool) → mi.have_d12 ≡ short → mi.have_d20 ≡ long → (short || long) ≡ true → Stands L form (cond (not mi.have_d12 && mi.have_d20) (BXD20 base index (pos d) flags) (BXD12 base index d flags)) operation (there base index (pos d))
       go true long e f h =
-          subst (λ b. Stands L form (cond (not b && (type_of form accesses).have_d20) (BXD20 base index (pos d) flags) (BXD12 base index d flags)) operation (λ r. indexed r (number_of base) (number_of index) (pos d))) (sym e)
-          (stands_12 L all operation form does accesses e base index d flags lb li may le)
+          subst (λ b. Stands L form (cond (not b && mi.have_d20) (BXD20 base index (pos d) flags) (BXD12 base index d flags)) operation (there base index (pos d))) (sym e)
+          (stands_12 L b.all operation form does accesses e base index d flags lb li may le)
       go false true e f h =
-          subst (λ b. Stands L form (cond (not b && (type_of form accesses).have_d20) (BXD20 base index (pos d) flags) (BXD12 base index d flags)) operation (λ r. indexed r (number_of base) (number_of index) (pos d))) (sym e)
-          (subst (λ b. Stands L form (cond b (BXD20 base index (pos d) flags) (BXD12 base index d flags)) operation (λ r. indexed r (number_of base) (number_of index) (pos d))) (sym f)
-          (stands_20 L all operation form does accesses f base index (pos d) flags lb li may (omega (arith, ints)) (omega (arith, le, ints)) (displacement_bits (pos d))))
+          subst (λ b. Stands L form (cond (not b && mi.have_d20) (BXD20 base index (pos d) flags) (BXD12 base index d flags)) operation (there base index (pos d))) (sym e)
+          (subst (λ b. Stands L form (cond b (BXD20 base index (pos d) flags) (BXD12 base index d flags)) operation (there base index (pos d))) (sym f)
+          (stands_20 L b.all operation form does accesses f base index (pos d) flags lb li may (omega (arith, ints)) (omega (arith, le, ints)) (displacement_bits (pos d))))
       go false false e f h = absurd (cc)
 
   -- the helper's operand, of 12 bits and of 20
-  loads_12 : (base index : Reg) (d : ℕ) (flags : MachMemFlags) → number_of base < 16 → number_of index < 16 → d ≤ 4095 → Stands L (address_form scratch) (BXD12 base index d flags) (loads_address 1) (λ r. indexed r (number_of base) (number_of index) (pos d))
-  loads_12 base index d flags lb li le = stands_12 L all (loads_address 1) (address_form scratch) load false refl base index d flags lb li tt le
+  loads_12 : (base index : Reg) (d : ℕ) (flags : MachMemFlags) → number_of base < 16 → number_of index < 16 → d ≤ 4095 → Stands L (address_form scratch) (BXD12 base index d flags) (loads_address 1) (there base index (pos d))
+  loads_12 base index d flags lb li le = stands_12 L b.all (loads_address 1) (address_form scratch) load false refl base index d flags lb li tt le
 
-  loads_20 : (base index : Reg) (z : ℤ) (flags : MachMemFlags) → number_of base < 16 → number_of index < 16 → negsuc 524287 ≤ℤ z → z ≤ℤ pos 524287 → Stands L (address_form scratch) (BXD20 base index z flags) (loads_address 1) (λ r. indexed r (number_of base) (number_of index) z)
-  loads_20 base index z flags lb li least most = stands_20 L all (loads_address 1) (address_form scratch) load false refl base index z flags lb li tt least most (displacement_bits z)
+  loads_20 : (base index : Reg) (z : ℤ) (flags : MachMemFlags) → number_of base < 16 → number_of index < 16 → negsuc 524287 ≤ℤ z → z ≤ℤ pos 524287 → Stands L (address_form scratch) (BXD20 base index z flags) (loads_address 1) (there base index z)
+  loads_20 base index z flags lb li least most = stands_20 L b.all (loads_address 1) (address_form scratch) load false refl base index z flags lb li tt least most (displacement_bits z)
 
   -- the operand after a helper that loads the address
   loaded_stands : (flags : MachMemFlags) → (mi.have_d12 || mi.have_d20) ≡ true → Stands L form (widened mi (BXD12 scratch no_register 0 flags)) operation (λ r. indexed r 1 0 (pos 0))
-  unfolding mi
   loaded_stands flags have = short_stands scratch no_register 0 flags have (omega arith) (omega arith) (may_none form) (omega arith)
 
   -- ---- each form of an operand
 
-  module _ (lost reads : Bool) (ignores : reads ≡ false → (a : ℕ) (r : Registers) (v : ℕ) → Refines (operation a (put r 1 v)) (operation a r)) (have : ((type_of form accesses).have_d12 || (type_of form accesses).have_d20) ≡ true) where
+  module _ (lost reads : Bool) (ignores : reads ≡ false → (a : ℕ) (r : Registers) (v : ℕ) → Refines (operation a (put r 1 v)) (operation a r)) (have : (mi.have_d12 || mi.have_d20) ≡ true) where
     -- what is known of the step, by its operand with its helpers
     Ready : Bool → (Registers → ℕ) → Finalized → Type 0
     Ready needs address f =
-        (form_at L k ≡ Some (Performs needs (λ r. operation (address r) r) (access_code code))) × (step_parts s ≡ finalized_parts form code (with_widened (type_of form accesses) f)) × IsTrue (not (lost || (reads && is_helped f.helpers)))
+        (form_at L k ≡ Some (Performs needs (λ r. operation (address r) r) (access_code code))) × (step_parts s ≡ finalized_parts form code (with_widened mi f)) × IsTrue (not (lost || (reads && is_helped f.helpers)))
 
-    indexed_12 : (base index : Reg) (d : ℕ) (flags : MachMemFlags) → IsTrue (is_general base && is_general index) → d ≤ 4095 → (t : Bool) → (not (type_of form accesses).have_index && not (is_numbered 0 index)) ≡ t → Ready t (λ r. indexed r (number_of base) (number_of index) (pos d)) (cond t (record { helpers = LoadAddr scratch (BXD12 base index d flags) ∷ []; operand = BXD12 scratch no_register 0 flags }) (record { helpers = []; operand = BXD12 base index d flags })) → StepRuns L k
-    unfolding Ready mi
+    indexed_12 : (base index : Reg) (d : ℕ) (flags : MachMemFlags) → IsTrue (is_general base && is_general index) → d ≤ 4095 → (t : Bool) → (not mi.have_index && not (is_numbered 0 index)) ≡ t →
+        Ready t (there base index (pos d)) (cond t (record { helpers = LoadAddr scratch (BXD12 base index d flags) ∷ []; operand = BXD12 scratch no_register 0 flags }) (record { helpers = []; operand = BXD12 base index d flags })) → StepRuns L k
+    unfolding Ready
     indexed_12 base index d flags general le false e ready =
         let g = and_parts (is_general base) (is_general index) general in
         let may = may_index form accesses (is_numbered 0 index) (number_of index) e (λ z. eqb-true (number_of index) 0 (sym (zero_test index g.1) ∙ z)) in
-        direct L all k s at placed form operation code never (λ r. indexed r (number_of base) (number_of index) (pos d)) (widened (type_of form accesses) (BXD12 base index d flags)) (short_stands base index d flags have (general_number base g.0) (general_number index g.1) may le) ready.0 ready.1
+        direct b form operation code never (there base index (pos d)) (widened mi (BXD12 base index d flags)) (short_stands base index d flags have (general_number base g.0) (general_number index g.1) may le) ready.0 ready.1
     indexed_12 base index d flags general le true e ready =
         let g = and_parts (is_general base) (is_general index) general in
-        after_address L all k s at placed form operation code never (λ r. indexed r (number_of base) (number_of index) (pos d)) (BXD12 base index d flags) (widened (type_of form accesses) (BXD12 scratch no_register 0 flags)) (loads_12 base index d flags (general_number base g.0) (general_number index g.1) le) (loaded_stands flags have) (λ r. low_below (pos (address_part r (number_of base) + address_part r (number_of index)) +ℤ pos d)) (ignores (not_read lost reads ready.2)) ready.0 ready.1
+        after_address b form operation code never (there base index (pos d)) (BXD12 base index d flags) (widened mi (BXD12 scratch no_register 0 flags))
+        (loads_12 base index d flags (general_number base g.0) (general_number index g.1) le) (loaded_stands flags have) (λ r. low_below (pos (address_part r (number_of base) + address_part r (number_of index)) +ℤ pos d)) (ignores (not_read lost reads ready.2)) ready.0 ready.1
 
-    indexed_20 : (base index : Reg) (z : ℤ) (flags : MachMemFlags) → IsTrue (is_general base && is_general index) → negsuc 524287 ≤ℤ z → z ≤ℤ pos 524287 → (t : Bool) → (not (type_of form accesses).have_d20 || (not (type_of form accesses).have_index && not (is_numbered 0 index))) ≡ t → Ready t (λ r. indexed r (number_of base) (number_of index) z) (cond t (record { helpers = LoadAddr scratch (BXD20 base index z flags) ∷ []; operand = BXD12 scratch no_register 0 flags }) (record { helpers = []; operand = BXD20 base index z flags })) → StepRuns L k
-    unfolding Ready mi
+    indexed_20 : (base index : Reg) (z : ℤ) (flags : MachMemFlags) → IsTrue (is_general base && is_general index) → negsuc 524287 ≤ℤ z → z ≤ℤ pos 524287 → (t : Bool) → (not mi.have_d20 || (not mi.have_index && not (is_numbered 0 index))) ≡ t →
+        Ready t (there base index z) (cond t (record { helpers = LoadAddr scratch (BXD20 base index z flags) ∷ []; operand = BXD12 scratch no_register 0 flags }) (record { helpers = []; operand = BXD20 base index z flags })) → StepRuns L k
+    unfolding Ready
     indexed_20 base index z flags general least most false e ready =
         let g = and_parts (is_general base) (is_general index) general in
-        let parts = neither (not (type_of form accesses).have_d20) (not (type_of form accesses).have_index && not (is_numbered 0 index)) e in
+        let parts = neither (not mi.have_d20) (not mi.have_index && not (is_numbered 0 index)) e in
         let may = may_index form accesses (is_numbered 0 index) (number_of index) parts.1 (λ y. eqb-true (number_of index) 0 (sym (zero_test index g.1) ∙ y)) in
-        direct L all k s at placed form operation code never (λ r. indexed r (number_of base) (number_of index) z) (BXD20 base index z flags) (stands_20 L all operation form does accesses (not_not (type_of form accesses).have_d20 parts.0) base index z flags (general_number base g.0) (general_number index g.1) may least most (displacement_bits z)) ready.0 ready.1
+        direct b form operation code never (there base index z) (BXD20 base index z flags) (stands_20 L b.all operation form does accesses (not_not mi.have_d20 parts.0) base index z flags (general_number base g.0) (general_number index g.1) may least most (displacement_bits z)) ready.0 ready.1
     indexed_20 base index z flags general least most true e ready =
         let g = and_parts (is_general base) (is_general index) general in
-        after_address L all k s at placed form operation code never (λ r. indexed r (number_of base) (number_of index) z) (BXD20 base index z flags) (widened (type_of form accesses) (BXD12 scratch no_register 0 flags)) (loads_20 base index z flags (general_number base g.0) (general_number index g.1) least most) (loaded_stands flags have) (λ r. low_below (pos (address_part r (number_of base) + address_part r (number_of index)) +ℤ z)) (ignores (not_read lost reads ready.2)) ready.0 ready.1
+        after_address b form operation code never (there base index z) (BXD20 base index z flags) (widened mi (BXD12 scratch no_register 0 flags))
+        (loads_20 base index z flags (general_number base g.0) (general_number index g.1) least most) (loaded_stands flags have) (λ r. low_below (pos (address_part r (number_of base) + address_part r (number_of index)) +ℤ z)) (ignores (not_read lost reads ready.2)) ready.0 ready.1
 
     -- an offset past all displacements
-    far : (reg : Reg) (off : ℤ) (flags : MachMemFlags) → IsTrue (is_general reg) → (number_of reg == 1) ≡ false → negsuc 2147483647 ≤ℤ off → off ≤ℤ pos 2147483647 → (t : Bool) → (not (type_of form accesses).have_index && true) ≡ t → Ready true (λ r. based r (number_of reg) off) (cond t (record { helpers = Mov64SImm32 scratch off ∷ LoadAddr scratch (BXD12 reg scratch 0 flags) ∷ []; operand = BXD12 scratch no_register 0 flags }) (record { helpers = Mov64SImm32 scratch off ∷ []; operand = BXD12 reg scratch 0 flags })) → StepRuns L k
-    unfolding Ready mi
+    far : (reg : Reg) (off : ℤ) (flags : MachMemFlags) → IsTrue (is_general reg) → (number_of reg == 1) ≡ false → negsuc 2147483647 ≤ℤ off → off ≤ℤ pos 2147483647 → (t : Bool) → (not mi.have_index && true) ≡ t →
+        Ready true (λ r. based r (number_of reg) off) (cond t (record { helpers = Mov64SImm32 scratch off ∷ LoadAddr scratch (BXD12 reg scratch 0 flags) ∷ []; operand = BXD12 scratch no_register 0 flags }) (record { helpers = Mov64SImm32 scratch off ∷ []; operand = BXD12 reg scratch 0 flags })) → StepRuns L k
+    unfolding Ready
     far reg off flags general other least most false e ready =
-        after_offset L all k s at placed form operation code never reg off (widened (type_of form accesses) (BXD12 reg scratch 0 flags)) other least most (short_stands reg scratch 0 flags have (general_number reg general) (omega arith) (may_index form accesses false 1 e (λ z. absurd (cc))) (omega arith)) (ignores (not_read lost reads ready.2)) ready.0 ready.1
+        after_offset b form operation code never reg off (widened mi (BXD12 reg scratch 0 flags)) other least most (short_stands reg scratch 0 flags have (general_number reg general) (omega arith) (may_index form accesses false 1 e (λ z. absurd (cc))) (omega arith)) (ignores (not_read lost reads ready.2)) ready.0 ready.1
     far reg off flags general other least most true e ready =
-        after_both L all k s at placed form operation code never reg off (BXD12 reg scratch 0 flags) (widened (type_of form accesses) (BXD12 scratch no_register 0 flags)) other least most (loads_12 reg scratch 0 flags (general_number reg general) (omega arith) (omega arith)) (loaded_stands flags have) (ignores (not_read lost reads ready.2)) ready.0 ready.1
+        after_both b form operation code never reg off (BXD12 reg scratch 0 flags) (widened mi (BXD12 scratch no_register 0 flags)) other least most (loads_12 reg scratch 0 flags (general_number reg general) (omega arith) (omega arith)) (loaded_stands flags have) (ignores (not_read lost reads ready.2)) ready.0 ready.1
 
   -- an operand relative to the instruction
-  distant_runs : (mem : MemArg) (address : ℕ) → Distant L mem address → (reads : Bool) → (reads ≡ false → (a : ℕ) (r : Registers) (v : ℕ) → Refines (operation a (put r 1 v)) (operation a r)) → (flags : MachMemFlags) (t : Bool) → (t ≡ false → (type_of form accesses).have_pcrel ≡ true) →
-      (t ≡ true → step_parts s ≡ (operand_parts (address_form scratch) None mem ++ []) ++ operand_parts form code (widened (type_of form accesses) (BXD12 scratch no_register 0 flags)) → address < 2 ^ 64) → ((type_of form accesses).have_d12 || (type_of form accesses).have_d20 || (true && not t)) ≡ true → IsTrue (not (false || (reads && is_helped (with_widened (type_of form accesses) (cond t (record { helpers = LoadAddr scratch mem ∷ []; operand = BXD12 scratch no_register 0 flags }) (record { helpers = []; operand = mem }))).helpers))) →
-      form_at L k ≡ Some (Performs t (λ r. aligned_where (accesses && not t) (operation address r)) (access_code code)) → step_parts s ≡ finalized_parts form code (with_widened (type_of form accesses) (cond t (record { helpers = LoadAddr scratch mem ∷ []; operand = BXD12 scratch no_register 0 flags }) (record { helpers = []; operand = mem }))) → StepRuns L k
-  unfolding mi
+  distant_runs : (mem : MemArg) (address : ℕ) → Distant L mem address → (reads : Bool) → (reads ≡ false → (a : ℕ) (r : Registers) (v : ℕ) → Refines (operation a (put r 1 v)) (operation a r)) → (flags : MachMemFlags) (t : Bool) → (t ≡ false → mi.have_pcrel ≡ true) →
+      (t ≡ true → step_parts s ≡ (operand_parts (address_form scratch) None mem ++ []) ++ operand_parts form code (widened mi (BXD12 scratch no_register 0 flags)) → address < 2 ^ 64) → (mi.have_d12 || mi.have_d20 || (true && not t)) ≡ true →
+      IsTrue (not (false || (reads && is_helped (with_widened mi (cond t (record { helpers = LoadAddr scratch mem ∷ []; operand = BXD12 scratch no_register 0 flags }) (record { helpers = []; operand = mem }))).helpers))) →
+      form_at L k ≡ Some (Performs t (λ r. aligned_where (accesses && not t) (operation address r)) (access_code code)) → step_parts s ≡ finalized_parts form code (with_widened mi (cond t (record { helpers = LoadAddr scratch mem ∷ []; operand = BXD12 scratch no_register 0 flags }) (record { helpers = []; operand = mem }))) → StepRuns L k
   distant_runs mem address d reads ignores flags false pcrel small has kept is parts =
       let aligned : ℕ → Registers → Operation = λ a r. aligned_where accesses (operation a r) in
-      direct L all k s at placed form aligned code (λ a r. aligned_coded accesses (operation a r) (access_code code) (never a r)) (λ r. address) mem (distant_stands L all form accesses operation relative (pcrel refl) mem address d)
-      (is ∙ ap (λ b. Some (Performs false (λ r. aligned_where b (operation address r)) (access_code code))) (and_true accesses)) (parts ∙ ap (λ m. operand_parts form code m) (d.widens (type_of form accesses)))
+      direct b form aligned code (λ a r. aligned_coded accesses (operation a r) (access_code code) (never a r)) (λ r. address) mem (distant_stands L b.all form accesses operation relative (pcrel refl) mem address d)
+      (is ∙ ap (λ b. Some (Performs false (λ r. aligned_where b (operation address r)) (access_code code))) (and_true accesses)) (parts ∙ ap (λ m. operand_parts form code m) (d.widens mi))
   distant_runs mem address d reads ignores flags true pcrel small has kept is parts =
-      after_address L all k s at placed form operation code never (λ r. address) mem (widened (type_of form accesses) (BXD12 scratch no_register 0 flags)) (distant_stands L all (address_form scratch) false (loads_address 1) larl refl mem address d) (loaded_stands flags (sym (or_false ((type_of form accesses).have_d12 || (type_of form accesses).have_d20)) ∙ has)) (λ r. small refl parts) (ignores (not_read false reads kept))
+      after_address b form operation code never (λ r. address) mem (widened mi (BXD12 scratch no_register 0 flags))
+      (distant_stands L b.all (address_form scratch) false (loads_address 1) larl refl mem address d) (loaded_stands flags (sym (or_false (mi.have_d12 || mi.have_d20)) ∙ has)) (λ r. small refl parts) (ignores (not_read false reads kept))
       (is ∙ ap (λ b. Some (Performs true (λ r. aligned_where b (operation address r)) (access_code code))) (and_false accesses)) parts
 
-  operand_runs : (mem : MemArg) (reads : Bool) → (reads ≡ false → (a : ℕ) (r : Registers) (v : ℕ) → Refines (operation a (put r 1 v)) (operation a r)) → IsTrue (has_form (type_of form accesses) mem) → IsTrue (operand_general mem) → IsTrue (not (loses_base mem || (reads && is_helped (finalized (type_of form accesses) mem).helpers))) → IsTrue (offset_fits mem) → OperandInRange mem → bound_cause (declared L) mem ≡ None →
-      ((address : Registers → ℕ) → address_of L mem ≡ Some address → form_at L k ≡ Some (Performs (needs_scratch (type_of form accesses) mem) (λ r. aligned_where (is_relative mem && (accesses && not (needs_scratch (type_of form accesses) mem))) (operation (address r) r)) (access_code code))) → step_parts s ≡ finalized_parts form code (finalized (type_of form accesses) mem) → StepRuns L k
+  operand_runs : (mem : MemArg) (reads : Bool) → (reads ≡ false → (a : ℕ) (r : Registers) (v : ℕ) → Refines (operation a (put r 1 v)) (operation a r)) → IsTrue (has_form mi mem) → IsTrue (operand_general mem) →
+      IsTrue (not (loses_base mem || (reads && is_helped (finalized mi mem).helpers))) → IsTrue (offset_fits mem) → OperandInRange mem → bound_cause (declared L) mem ≡ None →
+      ((address : Registers → ℕ) → address_of L mem ≡ Some address → form_at L k ≡ Some (Performs (needs_scratch mi mem) (λ r. aligned_where (is_relative mem && (accesses && not (needs_scratch mi mem))) (operation (address r) r)) (access_code code))) → step_parts s ≡ finalized_parts form code (finalized mi mem) → StepRuns L k
   unfolding Ready
   operand_runs (BXD12 base index d flags) reads ignores has general kept fits range bound is parts =
-      let have = sym (or_false ((type_of form accesses).have_d12 || (type_of form accesses).have_d20)) ∙ has in
+      let have = sym (or_false (mi.have_d12 || mi.have_d20)) ∙ has in
       let zero = zero_test index (and_parts (is_general base) (is_general index) general).1 in
-      indexed_12 false reads ignores have base index d flags general range (not (type_of form accesses).have_index && not (is_numbered 0 index)) refl
-      (is (λ r. indexed r (number_of base) (number_of index) (pos d)) refl ∙ ap (λ b. Some (Performs (not (type_of form accesses).have_index && not b) (λ r. operation (indexed r (number_of base) (number_of index) (pos d)) r) (access_code code))) (sym zero), parts, kept)
+      indexed_12 false reads ignores have base index d flags general range (not mi.have_index && not (is_numbered 0 index)) refl
+      (is (there base index (pos d)) refl ∙ ap (λ b. Some (Performs (not mi.have_index && not b) (λ r. operation (indexed r (number_of base) (number_of index) (pos d)) r) (access_code code))) (sym zero), parts, kept)
   operand_runs (BXD20 base index z flags) reads ignores has general kept fits range bound is parts =
-      let have = sym (or_false ((type_of form accesses).have_d12 || (type_of form accesses).have_d20)) ∙ has in
+      let have = sym (or_false (mi.have_d12 || mi.have_d20)) ∙ has in
       let zero = zero_test index (and_parts (is_general base) (is_general index) general).1 in
-      indexed_20 false reads ignores have base index z flags general range.0 range.1 (not (type_of form accesses).have_d20 || (not (type_of form accesses).have_index && not (is_numbered 0 index))) refl
-      (is (λ r. indexed r (number_of base) (number_of index) z) refl ∙ ap (λ b. Some (Performs (not (type_of form accesses).have_d20 || (not (type_of form accesses).have_index && not b)) (λ r. operation (indexed r (number_of base) (number_of index) z) r) (access_code code))) (sym zero), parts, kept)
+      indexed_20 false reads ignores have base index z flags general range.0 range.1 (not mi.have_d20 || (not mi.have_index && not (is_numbered 0 index))) refl
+      (is (there base index z) refl ∙ ap (λ b. Some (Performs (not mi.have_d20 || (not mi.have_index && not b)) (λ r. operation (indexed r (number_of base) (number_of index) z) r) (access_code code))) (sym zero), parts, kept)
   operand_runs (RegOffset reg off flags) reads ignores has general kept fits range bound is parts =
-      let have = sym (or_false ((type_of form accesses).have_d12 || (type_of form accesses).have_d20)) ∙ has in
+      let have = sym (or_false (mi.have_d12 || mi.have_d20)) ∙ has in
       go have (fits_12 off) refl (fits_20 off) refl (fits_32 off) refl (is (λ r. based r (number_of reg) off) refl) parts kept fits
     where
       near : Bool → Bool → Bool → Finalized
@@ -209,31 +226,41 @@ module _ (L : Layout) (all : AllPlaced L) (k : ℕ) (s : Step) (at : slice_get L
       moves : (needs : Bool) (a b : Registers → ℕ) → ((r : Registers) → a r ≡ b r) → Some (Performs needs (λ r. operation (a r) r) (access_code code)) ≡ Some (Performs needs (λ r. operation (b r) r) (access_code code))
       moves needs a b e = ap (λ (x : Registers → ℕ). Some (Performs needs (λ r. operation (x r) r) (access_code code))) (λ i r. e r i)
 
-      go : ((type_of form accesses).have_d12 || (type_of form accesses).have_d20) ≡ true → (t12 : Bool) → fits_12 off ≡ t12 → (t20 : Bool) → fits_20 off ≡ t20 → (t32 : Bool) → fits_32 off ≡ t32 → form_at L k ≡ Some (Performs (not t12 && not (t20 && (type_of form accesses).have_d20)) (λ r. operation (based r (number_of reg) off) r) (access_code code)) → step_parts s ≡ finalized_parts form code (with_widened (type_of form accesses) (addressed (type_of form accesses) (near t12 t20 t32))) → IsTrue (not ((is_numbered 1 reg && (t32 && not t12 && not t20)) || (reads && is_helped (addressed (type_of form accesses) (near t12 t20 t32)).helpers))) → IsTrue t32 → StepRuns L k
+      go : (mi.have_d12 || mi.have_d20) ≡ true → (t12 : Bool) → fits_12 off ≡ t12 → (t20 : Bool) → fits_20 off ≡ t20 → (t32 : Bool) → fits_32 off ≡ t32 →
+          form_at L k ≡ Some (Performs (not t12 && not (t20 && mi.have_d20)) (λ r. operation (based r (number_of reg) off) r) (access_code code)) →
+          step_parts s ≡ finalized_parts form code (with_widened mi (addressed mi (near t12 t20 t32))) → IsTrue (not ((is_numbered 1 reg && (t32 && not t12 && not t20)) || (reads && is_helped (addressed mi (near t12 t20 t32)).helpers))) → IsTrue t32 → StepRuns L k
       go have true e12 t20 e20 t32 e32 is2 parts2 kept2 fits2 =
           let n = short_12 off e12 in
           let same : unsigned_abs off ≡ n.0 = ap unsigned_abs n.1 in
           let le : unsigned_abs off ≤ 4095 = omega (arith, same, n.2) in
           let is_pos : off ≡ pos (unsigned_abs off) = n.1 ∙ ap pos (sym same) in
-          indexed_12 (is_numbered 1 reg && (t32 && false && not t20)) reads ignores have reg no_register (unsigned_abs off) flags (and_true (is_general reg) ∙ general) le (not (type_of form accesses).have_index && false) refl
-          (is2 ∙ moves false (λ r. based r (number_of reg) off) (λ r. indexed r (number_of reg) 0 (pos (unsigned_abs off))) (λ r. ap (based r (number_of reg)) is_pos ∙ sym (based_indexed r (number_of reg) (pos (unsigned_abs off)))) ∙ ap (λ b. Some (Performs b (λ r. operation (indexed r (number_of reg) 0 (pos (unsigned_abs off))) r) (access_code code))) (sym (and_false (not (type_of form accesses).have_index))), parts2, kept2)
+          indexed_12 (is_numbered 1 reg && (t32 && false && not t20)) reads ignores have reg no_register (unsigned_abs off) flags (and_true (is_general reg) ∙ general) le (not mi.have_index && false) refl (
+            is2 ∙ moves false (λ r. based r (number_of reg) off) (λ r. indexed r (number_of reg) 0 (pos (unsigned_abs off))) (λ r. ap (based r (number_of reg)) is_pos ∙ sym (based_indexed r (number_of reg) (pos (unsigned_abs off))))
+                ∙ ap (λ b. Some (Performs b (λ r. operation (indexed r (number_of reg) 0 (pos (unsigned_abs off))) r) (access_code code))) (sym (and_false (not mi.have_index))),
+            parts2,
+            kept2,
+          )
       go have false e12 true e20 t32 e32 is2 parts2 kept2 fits2 =
           let z = short_20 off e20 in
-          indexed_20 (is_numbered 1 reg && (t32 && true && false)) reads ignores have reg no_register off flags (and_true (is_general reg) ∙ general) z.0 z.1 (not (type_of form accesses).have_d20 || (not (type_of form accesses).have_index && false)) refl
-          (is2 ∙ moves (not (type_of form accesses).have_d20) (λ r. based r (number_of reg) off) (λ r. indexed r (number_of reg) 0 off) (λ r. sym (based_indexed r (number_of reg) off)) ∙ ap (λ b. Some (Performs b (λ r. operation (indexed r (number_of reg) 0 off) r) (access_code code))) (sym (ap (λ b. not (type_of form accesses).have_d20 || b) (and_false (not (type_of form accesses).have_index)) ∙ or_false (not (type_of form accesses).have_d20))), parts2, kept2)
+          indexed_20 (is_numbered 1 reg && (t32 && true && false)) reads ignores have reg no_register off flags (and_true (is_general reg) ∙ general) z.0 z.1 (not mi.have_d20 || (not mi.have_index && false)) refl (
+            is2 ∙ moves (not mi.have_d20) (λ r. based r (number_of reg) off) (λ r. indexed r (number_of reg) 0 off) (λ r. sym (based_indexed r (number_of reg) off))
+                ∙ ap (λ b. Some (Performs b (λ r. operation (indexed r (number_of reg) 0 off) r) (access_code code))) (sym (ap (λ b. not mi.have_d20 || b) (and_false (not mi.have_index)) ∙ or_false (not mi.have_d20))),
+            parts2,
+            kept2,
+          )
       go have false e12 false e20 true e32 is2 parts2 kept2 fits2 =
           let z = short_32 off e32 in
-          let lost = not_lost (is_numbered 1 reg && true) (reads && is_helped (addressed (type_of form accesses) (near false false true)).helpers) kept2 in
-          far (is_numbered 1 reg && true) reads ignores have reg off flags general (not_scratch reg general (sym (and_true (is_numbered 1 reg)) ∙ lost)) z.0 z.1 (not (type_of form accesses).have_index && true) refl (is2, parts2, kept2)
+          let lost = not_lost (is_numbered 1 reg && true) (reads && is_helped (addressed mi (near false false true)).helpers) kept2 in
+          far (is_numbered 1 reg && true) reads ignores have reg off flags general (not_scratch reg general (sym (and_true (is_numbered 1 reg)) ∙ lost)) z.0 z.1 (not mi.have_index && true) refl (is2, parts2, kept2)
       go have false e12 false e20 false e32 is2 parts2 kept2 fits2 = absurd (cc)
   operand_runs (Label target) reads ignores has general kept fits range bound is parts =
-      distant_runs (Label target) (block_place L target.0) (to_label L all target (label_known L target bound)) reads ignores (flags_of (Label target)) (not (type_of form accesses).have_pcrel) (λ e. not_not (type_of form accesses).have_pcrel e) (λ e parts2. sum_below L.image.base (L.places.block target.0)) has kept (is (λ r. block_place L target.0) refl) parts
+      distant_runs (Label target) (block_place L target.0) (to_label L b.all target (label_known L target bound)) reads ignores (flags_of (Label target)) (not mi.have_pcrel) (λ e. not_not mi.have_pcrel e) (λ e parts2. sum_below L.image.base (L.places.block target.0)) has kept (is (λ r. block_place L target.0) refl) parts
   operand_runs (Constant c) reads ignores has general kept fits range bound is parts =
-      distant_runs (Constant c) (constant_place L c.0) (to_constant L all c (constant_known L c bound)) reads ignores (flags_of (Constant c)) (not (type_of form accesses).have_pcrel) (λ e. not_not (type_of form accesses).have_pcrel e) (λ e parts2. sum_below L.image.base (L.places.outside.constant c.0)) has kept (is (λ r. constant_place L c.0) refl) parts
+      distant_runs (Constant c) (constant_place L c.0) (to_constant L b.all c (constant_known L c bound)) reads ignores (flags_of (Constant c)) (not mi.have_pcrel) (λ e. not_not mi.have_pcrel e) (λ e parts2. sum_below L.image.base (L.places.outside.constant c.0)) has kept (is (λ r. constant_place L c.0) refl) parts
   operand_runs (Symbol name offset flags) reads ignores has general kept fits range bound is parts =
-      distant_runs (Symbol name offset flags) (L.places.outside.symbol_value name offset) (to_symbol L name offset flags) reads ignores flags (not (type_of form accesses).have_pcrel || (not flags.aligned && not (type_of form accesses).have_unaligned_pcrel)) (λ e.
-      not_not (type_of form accesses).have_pcrel (neither (not (type_of form accesses).have_pcrel) (not flags.aligned && not (type_of form accesses).have_unaligned_pcrel) e).0) (λ e parts2.
-      let r = subst (λ ps. PartsReach L (L.places.step k) ps) parts2 placed.reached in
+      distant_runs (Symbol name offset flags) (L.places.outside.symbol_value name offset) (to_symbol L name offset flags) reads ignores flags (not mi.have_pcrel || (not flags.aligned && not mi.have_unaligned_pcrel)) (λ e.
+      not_not mi.have_pcrel (neither (not mi.have_pcrel) (not flags.aligned && not mi.have_unaligned_pcrel) e).0) (λ e parts2.
+      let r = subst (λ ps. PartsReach L (L.places.step k) ps) parts2 b.placed.reached in
       let half = L.places.outside.symbol_distance (L.places.step k) name offset in
       subst (λ n. n < 2 ^ 64) r.0.1 (low_below (pos (sum64 L.image.base (L.places.step k)) +ℤ pos 2 *ℤ cast_signed w32 half))) has kept (is (λ r. L.places.outside.symbol_value name offset) refl) parts
   operand_runs (InitialSPOffset off) reads ignores has general kept fits range bound is parts = absurd range
@@ -243,9 +270,11 @@ module _ (L : Layout) (all : AllPlaced L) (k : ℕ) (s : Step) (at : slice_get L
   operand_runs (SpillOffset off) reads ignores has general kept fits range bound is parts = absurd range
 
 -- an instruction with an operand in memory runs as its step, where emission's rows have the forms that the step knows
-pub memory_runs : (L : Layout) (all : AllPlaced L) (k : ℕ) (s : Step) (at : slice_get L.steps k ≡ Some s) (placed : Placed L k s) (load : IndexedForm 1 (Some 0x41) (Some 0xe371) (loads_address 1)) (larl : RelativeForm 1 (Some 0xc00) (loads_address 1)) (x : MemoryInstruction) (forms : MemInstType) (operation : ℕ → Registers → Operation) → FormDoes x.form operation → RelativeDoes x.form x.accesses operation → ((a : ℕ) (r : Registers) → ValuesCoded (operation a r) (access_code (fault_code x))) → (x.reads_scratch ≡ false → (a : ℕ) (r : Registers) (v : ℕ) → Refines (operation a (put r 1 v)) (operation a r)) →
+pub memory_runs : {L : Layout} {k : ℕ} {s : Step} (b : StepAt L k s) (load : LoadsAddress) (larl : LoadsRelative) (x : MemoryInstruction) (forms : MemInstType) (operation : ℕ → Registers → Operation) →
+    FormDoes x.form operation → RelativeDoes x.form x.accesses operation → ((a : ℕ) (r : Registers) → ValuesCoded (operation a r) (access_code (fault_code x))) → (x.reads_scratch ≡ false → (a : ℕ) (r : Registers) (v : ℕ) → Refines (operation a (put r 1 v)) (operation a r)) →
     forms ≡ type_of x.form x.accesses → form_of L (Some s) ≡ Some (form_or (performed_at (record { operand = x.operand; forms = forms; accesses = x.accesses; operation = operation }) (address_of L x.operand)) Unbuilt) → step_parts s ≡ memory_parts x → IsFineMemory L x → StepRuns L k
-memory_runs L all k s at placed load larl x forms operation does relative never ignores same formed parts fine =
-    operand_runs L all k s at placed load larl x.form x.accesses operation does relative (fault_code x) never x.operand x.reads_scratch ignores fine.form (and_parts x.fine (operand_general x.operand) fine.registers).1 fine.kept fine.offset fine.range (first_none (bound_cause (declared L) x.operand) (alignment_cause (declared L) (boundary x) x.operand) fine.place).0 (λ address e.
-    ap (form_of L) at ∙ formed ∙ ap (λ a. Some (form_or (performed_at (record { operand = x.operand; forms = forms; accesses = x.accesses; operation = operation }) a) Unbuilt)) e
+memory_runs {L = L} b load larl x forms operation does relative never ignores same formed parts fine =
+    operand_runs b load larl x.form x.accesses operation does relative (fault_code x) never x.operand x.reads_scratch ignores fine.form
+    (and_parts x.fine (operand_general x.operand) fine.registers).1 fine.kept fine.offset fine.range (first_none (bound_cause (declared L) x.operand) (alignment_cause (declared L) (boundary x) x.operand) fine.place).0 (λ address e.
+    ap (form_of L) b.at ∙ formed ∙ ap (λ a. Some (form_or (performed_at (record { operand = x.operand; forms = forms; accesses = x.accesses; operation = operation }) a) Unbuilt)) e
     ∙ ap (λ mi. Some (Performs (needs_scratch mi x.operand) (λ r. aligned_where (is_relative x.operand && (x.accesses && not (needs_scratch mi x.operand))) (operation (address r) r)) (access_code (fault_code x)))) same) parts

@@ -135,7 +135,8 @@ module _ (L : Layout) (mi : MemInstType) where
       let e = h.2 ∙ address_goes a c h.0 h.1 in
       (same_loaded L mi flags (λ r. indexed r (number_of base) (number_of index) z) c t (low_below (pos (address_part c.registers (number_of base) + address_part c.registers (number_of index)) +ℤ z)) e, a % 2 ^ 64, e)
 
-  keeps_far : (reg : Reg) (off : ℤ) (flags : MachMemFlags) → (number_of reg == 1) ≡ false → negsuc 2147483647 ≤ℤ off → off ≤ℤ pos 2147483647 → (t : Bool) → Keeps L true (λ r. based r (number_of reg) off) (with_widened mi (cond t (record { helpers = Mov64SImm32 scratch off ∷ LoadAddr scratch (BXD12 reg scratch 0 flags) ∷ []; operand = BXD12 scratch no_register 0 flags }) (record { helpers = Mov64SImm32 scratch off ∷ []; operand = BXD12 reg scratch 0 flags })))
+  keeps_far : (reg : Reg) (off : ℤ) (flags : MachMemFlags) → (number_of reg == 1) ≡ false → negsuc 2147483647 ≤ℤ off → off ≤ℤ pos 2147483647 → (t : Bool) →
+      Keeps L true (λ r. based r (number_of reg) off) (with_widened mi (cond t (record { helpers = Mov64SImm32 scratch off ∷ LoadAddr scratch (BXD12 reg scratch 0 flags) ∷ []; operand = BXD12 scratch no_register 0 flags }) (record { helpers = Mov64SImm32 scratch off ∷ []; operand = BXD12 reg scratch 0 flags })))
   keeps_far reg off flags other least most false c t h =
       let v = extended Signed Bits32 Doubleword (low_word off) in
       let e = h.2 ∙ offset_goes (low_word off) c h.0 h.1 in
@@ -154,7 +155,8 @@ module _ (L : Layout) (mi : MemInstType) where
       (same_loaded L mi flags (λ r. based r (number_of reg) off) c t (low_below (pos (address_part c.registers (number_of reg)) +ℤ off)) e, w, e)
 
   -- a place, whose address is loaded where the rows have no form for it
-  keeps_place : (m : MemArg) (flags : MachMemFlags) (a : ℕ) → address_of L m ≡ Some (λ r. a) → widened mi m ≡ m → ((x y : Core) → OperationGoes (instruction_form L (LoadAddr scratch m)) x y → Goes (loads_address 1 a x.registers) x y) → a < 2 ^ 64 → (t : Bool) → Keeps L t (λ r. a) (with_widened mi (cond t (record { helpers = LoadAddr scratch m ∷ []; operand = BXD12 scratch no_register 0 flags }) (record { helpers = []; operand = m })))
+  keeps_place : (m : MemArg) (flags : MachMemFlags) (a : ℕ) → address_of L m ≡ Some (λ r. a) → widened mi m ≡ m → ((x y : Core) → OperationGoes (instruction_form L (LoadAddr scratch m)) x y → Goes (loads_address 1 a x.registers) x y) → a < 2 ^ 64 → (t : Bool) →
+      Keeps L t (λ r. a) (with_widened mi (cond t (record { helpers = LoadAddr scratch m ∷ []; operand = BXD12 scratch no_register 0 flags }) (record { helpers = []; operand = m })))
   keeps_place m flags a here same loads small false c t e = (subst (λ o. IsSameAddress o t.registers (Some (λ r. a)) c.registers) (sym (ap (address_of L) same ∙ here)) refl, 0, e)
   keeps_place m flags a here same loads small true c t h =
       let e = h.2 ∙ address_goes a c h.0 (loads c h.0 h.1) in
@@ -233,12 +235,14 @@ module _ (mi : MemInstType) where
   loaded_taken : (flags : MachMemFlags) → (mi.have_d12 || mi.have_d20) ≡ true → Stands mi (widened mi (BXD12 scratch no_register 0 flags))
   loaded_taken flags have = short_taken scratch no_register 0 flags have (inr refl) (omega arith)
 
-  taken_12 : (base index : Reg) (d : ℕ) (flags : MachMemFlags) (helpers : List Inst) → (mi.have_d12 || mi.have_d20) ≡ true → IsTrue (is_general index) → d ≤ 4095 → (t : Bool) → (not mi.have_index && not (is_numbered 0 index)) ≡ t → Stands mi (with_widened mi (cond t (record { helpers = helpers; operand = BXD12 scratch no_register 0 flags }) (record { helpers = []; operand = BXD12 base index d flags }))).operand
+  taken_12 : (base index : Reg) (d : ℕ) (flags : MachMemFlags) (helpers : List Inst) → (mi.have_d12 || mi.have_d20) ≡ true → IsTrue (is_general index) → d ≤ 4095 → (t : Bool) → (not mi.have_index && not (is_numbered 0 index)) ≡ t →
+      Stands mi (with_widened mi (cond t (record { helpers = helpers; operand = BXD12 scratch no_register 0 flags }) (record { helpers = []; operand = BXD12 base index d flags }))).operand
   taken_12 base index d flags helpers have general le true e = loaded_taken flags have
   taken_12 base index d flags helpers have general le false e =
       short_taken base index d flags have (takes_index mi.have_index (is_numbered 0 index) (number_of index) e (λ z. eqb-true (number_of index) 0 (sym (zero_test index general) ∙ z))) le
 
-  taken_20 : (base index : Reg) (z : ℤ) (flags : MachMemFlags) (helpers : List Inst) → (mi.have_d12 || mi.have_d20) ≡ true → IsTrue (is_general index) → negsuc 524287 ≤ℤ z → z ≤ℤ pos 524287 → (t : Bool) → (not mi.have_d20 || (not mi.have_index && not (is_numbered 0 index))) ≡ t → Stands mi (with_widened mi (cond t (record { helpers = helpers; operand = BXD12 scratch no_register 0 flags }) (record { helpers = []; operand = BXD20 base index z flags }))).operand
+  taken_20 : (base index : Reg) (z : ℤ) (flags : MachMemFlags) (helpers : List Inst) → (mi.have_d12 || mi.have_d20) ≡ true → IsTrue (is_general index) → negsuc 524287 ≤ℤ z → z ≤ℤ pos 524287 → (t : Bool) → (not mi.have_d20 || (not mi.have_index && not (is_numbered 0 index))) ≡ t →
+      Stands mi (with_widened mi (cond t (record { helpers = helpers; operand = BXD12 scratch no_register 0 flags }) (record { helpers = []; operand = BXD20 base index z flags }))).operand
   unfolding Stands
   taken_20 base index z flags helpers have general least most true e = loaded_taken flags have
   taken_20 base index z flags helpers have general least most false e =

@@ -34,6 +34,14 @@ pub mod Reaching
 pub mod Reading
 pub mod Regions
 pub mod Rows
+pub mod Listing
+pub mod RegisterNumbers
+pub mod Built
+pub mod OnRegisters
+pub mod OnImmediates
+pub mod Rotating
+pub mod StoppingSteps
+pub mod Leading
 pub mod Alone
 pub mod Bits
 pub mod Branches

@@ -34,7 +34,8 @@ use Rattle.s390x_machine.specs.Meanings.{action}
 use Rattle.s390x_machine.specs.Placed.{AllPlaced, IsBlock, PartReaches}
 use Rattle.s390x_machine.specs.Storage.{aligned_where}
 use Rattle.s390x_machine.proofs.Addresses.{lands}
-use Rattle.s390x_machine.proofs.Alone.{OpcodeRows, relative_at}
+use Rattle.s390x_machine.proofs.Listing.{OpcodeRows}
+use Rattle.s390x_machine.proofs.Alone.{relative_at}
 use Rattle.s390x_machine.proofs.Fetching.{StandsAt}
 use Rattle.s390x_machine.proofs.Simulation.{RowAt}
 use Rattle.s390x_machine.proofs.Standing.{part_length, block_even, block_small}
@@ -144,7 +145,8 @@ to_symbol L name offset flags = record {
 -- ---- an operand in its row
 
 -- the row at a place
-distant_row : (L : Layout) (all : AllPlaced L) (mem : MemArg) (address : ℕ) (d : Distant L mem address) (register opcode : ℕ) (operation : ℕ → Registers → Operation) → RelativeForm register (Some opcode) operation → (offset : ℕ) → offset % 2 ≡ 0 → StandsAt L.image offset (part_bytes L.places offset (d.part opcode register)) → PartReaches L offset (d.part opcode register) → RowAt L (sum64 L.image.base offset) (λ r. Perform (operation address r)) (part_size (d.part opcode register))
+distant_row : (L : Layout) (all : AllPlaced L) (mem : MemArg) (address : ℕ) (d : Distant L mem address) (register opcode : ℕ) (operation : ℕ → Registers → Operation) → RelativeForm register (Some opcode) operation → (offset : ℕ) → offset % 2 ≡ 0 →
+    StandsAt L.image offset (part_bytes L.places offset (d.part opcode register)) → PartReaches L offset (d.part opcode register) → RowAt L (sum64 L.image.base offset) (λ r. Perform (operation address r)) (part_size (d.part opcode register))
 unfolding length_of
 distant_row L all mem address d register opcode operation form offset even stands reaches =
     let size = d.size opcode register in

@@ -1,8 +1,9 @@
 -- The rows that are relative to the instruction: each is listed, and does its instruction's operation.
-use Rattle.std.proofs.Common.{ℕ, Option, Some, refl, arith}
+use Rattle.std.proofs.Common.{ℕ, Option, Some, refl}
 use Rattle.s390x_inst.specs.declared.ops.CmpOp.{CmpOp}
 use Rattle.s390x_inst.specs.declared.ops.CmpOp.TheVariants as C
 use Rattle.s390x_format.specs.declared.kind.FormatKind.TheVariants.{RilB}
+use Rattle.s390x_format.specs.declared.row.Allowed.TheVariants.{Any}
 use Rattle.s390x_format.specs.Lookup.{row_for}
 use Rattle.s390x_format.specs.Fetch.{machine_rows}
 use Rattle.s390x_steps.specs.Storage.{cmp_ril}
@@ -11,11 +12,12 @@ use Rattle.s390x_operations.specs.declared.size.Size.TheVariants.{Word, Doublewo
 use Rattle.s390x_operations.specs.declared.operator.Operator.TheVariants.{Move}
 use Rattle.s390x_operations.specs.declared.effect.CodeRule.TheVariants.{Kept}
 use Rattle.s390x_machine.specs.declared.meaning.Meaning.{Meaning}
-use Rattle.s390x_machine.specs.declared.meaning.Meaning.TheVariants.{Compute, Compare, Store}
+use Rattle.s390x_machine.specs.declared.meaning.Meaning.TheVariants.{Compute, Store}
 use Rattle.s390x_machine.specs.declared.meaning.Shape.TheVariants.{Relative, RelativeAddress}
 use Rattle.s390x_machine.specs.Computations.{Second, word, signed_word, signed_halfword, halfword, doubleword, comparison}
 use Rattle.s390x_machine.specs.Meanings.{meaning_in, meaning_of}
-use Rattle.s390x_machine.proofs.Alone.{OpcodeRows, second_register}
+use Rattle.s390x_machine.proofs.Listing.{Agrees, rows, OpcodeRows}
+use Rattle.s390x_machine.proofs.Alone.{compared_with, second_register}
 
 -- the row of an instruction, where it has one
 abbrev pub RelativeRows : Option ℕ → Meaning → Type 0
@@ -30,61 +32,56 @@ relative_storing s = Store (second_register Relative s)
 
 pub relative_address_row : RelativeRows (Some 0xc00) (Compute Move Doubleword (second_register RelativeAddress doubleword) Kept)
 unfolding machine_rows row_for meaning_in meaning_of
-relative_address_row = record { some = omega arith; few = omega arith; lists = (refl, refl, refl); means = refl; single = refl }
+relative_address_row = (record { is = refl }, refl)
 
 pub relative_load_32 : RelativeRows (Some 0xc4d) (relative_loading Word word)
 unfolding machine_rows row_for meaning_in meaning_of
-relative_load_32 = record { some = omega arith; few = omega arith; lists = (refl, refl, refl); means = refl; single = refl }
+relative_load_32 = (record { is = refl }, refl)
 
 pub relative_load_32_zero_16 : RelativeRows (Some 0xc42) (relative_loading Word halfword)
 unfolding machine_rows row_for meaning_in meaning_of
-relative_load_32_zero_16 = record { some = omega arith; few = omega arith; lists = (refl, refl, refl); means = refl; single = refl }
+relative_load_32_zero_16 = (record { is = refl }, refl)
 
 pub relative_load_32_signed_16 : RelativeRows (Some 0xc45) (relative_loading Word signed_halfword)
 unfolding machine_rows row_for meaning_in meaning_of
-relative_load_32_signed_16 = record { some = omega arith; few = omega arith; lists = (refl, refl, refl); means = refl; single = refl }
+relative_load_32_signed_16 = (record { is = refl }, refl)
 
 pub relative_load_64 : RelativeRows (Some 0xc48) (relative_loading Doubleword doubleword)
 unfolding machine_rows row_for meaning_in meaning_of
-relative_load_64 = record { some = omega arith; few = omega arith; lists = (refl, refl, refl); means = refl; single = refl }
+relative_load_64 = (record { is = refl }, refl)
 
 pub relative_load_64_zero_16 : RelativeRows (Some 0xc46) (relative_loading Doubleword halfword)
 unfolding machine_rows row_for meaning_in meaning_of
-relative_load_64_zero_16 = record { some = omega arith; few = omega arith; lists = (refl, refl, refl); means = refl; single = refl }
+relative_load_64_zero_16 = (record { is = refl }, refl)
 
 pub relative_load_64_signed_16 : RelativeRows (Some 0xc44) (relative_loading Doubleword signed_halfword)
 unfolding machine_rows row_for meaning_in meaning_of
-relative_load_64_signed_16 = record { some = omega arith; few = omega arith; lists = (refl, refl, refl); means = refl; single = refl }
+relative_load_64_signed_16 = (record { is = refl }, refl)
 
 pub relative_load_64_zero_32 : RelativeRows (Some 0xc4e) (relative_loading Doubleword word)
 unfolding machine_rows row_for meaning_in meaning_of
-relative_load_64_zero_32 = record { some = omega arith; few = omega arith; lists = (refl, refl, refl); means = refl; single = refl }
+relative_load_64_zero_32 = (record { is = refl }, refl)
 
 pub relative_load_64_signed_32 : RelativeRows (Some 0xc4c) (relative_loading Doubleword signed_word)
 unfolding machine_rows row_for meaning_in meaning_of
-relative_load_64_signed_32 = record { some = omega arith; few = omega arith; lists = (refl, refl, refl); means = refl; single = refl }
+relative_load_64_signed_32 = (record { is = refl }, refl)
 
 pub relative_store_16 : RelativeRows (Some 0xc47) (relative_storing halfword)
 unfolding machine_rows row_for meaning_in meaning_of
-relative_store_16 = record { some = omega arith; few = omega arith; lists = (refl, refl, refl); means = refl; single = refl }
+relative_store_16 = (record { is = refl }, refl)
 
 pub relative_store_32 : RelativeRows (Some 0xc4f) (relative_storing word)
 unfolding machine_rows row_for meaning_in meaning_of
-relative_store_32 = record { some = omega arith; few = omega arith; lists = (refl, refl, refl); means = refl; single = refl }
+relative_store_32 = (record { is = refl }, refl)
 
 pub relative_store_64 : RelativeRows (Some 0xc4b) (relative_storing doubleword)
 unfolding machine_rows row_for meaning_in meaning_of
-relative_store_64 = record { some = omega arith; few = omega arith; lists = (refl, refl, refl); means = refl; single = refl }
+relative_store_64 = (record { is = refl }, refl)
 
-pub cmp_relative_rows : (op : CmpOp) → RelativeRows (Some (cmp_ril op)) (Compare (comparison op).sign (comparison op).size (second_register Relative (comparison op).second))
+pub cmp_relative_rows : (op : CmpOp) → RelativeRows (Some (cmp_ril op)) (compared_with Relative (comparison op))
 unfolding machine_rows row_for meaning_in meaning_of
-cmp_relative_rows C.CmpS32 = record { some = omega arith; few = omega arith; lists = (refl, refl, refl); means = refl; single = refl }
-cmp_relative_rows C.CmpS32Ext16 = record { some = omega arith; few = omega arith; lists = (refl, refl, refl); means = refl; single = refl }
-cmp_relative_rows C.CmpS64 = record { some = omega arith; few = omega arith; lists = (refl, refl, refl); means = refl; single = refl }
-cmp_relative_rows C.CmpS64Ext16 = record { some = omega arith; few = omega arith; lists = (refl, refl, refl); means = refl; single = refl }
-cmp_relative_rows C.CmpS64Ext32 = record { some = omega arith; few = omega arith; lists = (refl, refl, refl); means = refl; single = refl }
-cmp_relative_rows C.CmpL32 = record { some = omega arith; few = omega arith; lists = (refl, refl, refl); means = refl; single = refl }
-cmp_relative_rows C.CmpL32Ext16 = record { some = omega arith; few = omega arith; lists = (refl, refl, refl); means = refl; single = refl }
-cmp_relative_rows C.CmpL64 = record { some = omega arith; few = omega arith; lists = (refl, refl, refl); means = refl; single = refl }
-cmp_relative_rows C.CmpL64Ext16 = record { some = omega arith; few = omega arith; lists = (refl, refl, refl); means = refl; single = refl }
-cmp_relative_rows C.CmpL64Ext32 = record { some = omega arith; few = omega arith; lists = (refl, refl, refl); means = refl; single = refl }
+cmp_relative_rows op = rows (λ n. RilB) Any 4096 (Some (cmp_ril op)) (compared_with Relative (comparison op)) refl (agrees op)
+  where
+    agrees : (op : CmpOp) → Agrees (λ n. RilB) Any 4096 (Some (cmp_ril op)) (compared_with Relative (comparison op))
+    agrees C.CmpS32 = refl
+    agrees _ = refl

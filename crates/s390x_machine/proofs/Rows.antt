@@ -146,7 +146,8 @@ module _ (L : Layout) (all : AllPlaced L) (offset : ℕ) (even : offset % 2 ≡ 
   unfolding meaning_in meaning_of
   bcr_at mask b lm lb some s = row_at L offset (rr 0x07 mask b) (λ r. Branch mask (r.general b)) all.even even all.fits s (fits_rr 0x07 mask b (omega arith) lm lb) (bcr_listed mask b) (λ state event t at h. taken (b == 0) refl state event t h)
     where
-      taken : (n : Bool) → (b == 0) ≡ n → (state : State) (event : Event) (t : State) → Acts (cond n (performs Rattle.s390x_operations.specs.declared.effect.CodeRule.TheVariants.Kept Rattle.s390x_operations.specs.declared.effect.Effect.TheVariants.Nothing) (Branch mask (state.core.registers.general b))) (length_of Rr) state event t → Acts (Branch mask (state.core.registers.general b)) (length_of Rr) state event t
+      taken : (n : Bool) → (b == 0) ≡ n → (state : State) (event : Event) (t : State) →
+          Acts (cond n (performs Rattle.s390x_operations.specs.declared.effect.CodeRule.TheVariants.Kept Rattle.s390x_operations.specs.declared.effect.Effect.TheVariants.Nothing) (Branch mask (state.core.registers.general b))) (length_of Rr) state event t → Acts (Branch mask (state.core.registers.general b)) (length_of Rr) state event t
       taken true e state event t h = absurd (some (Rattle.std.proofs.Common.eqb-true b 0 e))
       taken false e state event t h = h
 

@@ -11,7 +11,6 @@ use Rattle.s390x_inst.specs.declared.args.MemArg.{MemArg}
 use Rattle.s390x_inst.specs.declared.args.MemArg.TheVariants.{BXD12, BXD20}
 use Rattle.s390x_format.specs.declared.kind.FormatKind.{FormatKind}
 use Rattle.s390x_format.specs.declared.kind.FormatKind.TheVariants.{Rx, Rxy, Rs, Rsy, Si, Siy, Sil}
-use Rattle.s390x_format.specs.declared.row.Allowed.TheVariants.{Any}
 use Rattle.s390x_format.specs.Formats.{length_of}
 use Rattle.s390x_format.specs.View.{fields_of, disp_of}
 use Rattle.s390x_steps.specs.General.{low_12, low_displacement}
@@ -39,8 +38,9 @@ use Rattle.s390x_machine.specs.Meanings.{action}
 use Rattle.s390x_machine.specs.Operands.{indexed, based}
 use Rattle.s390x_machine.specs.Placed.{Placed, AllPlaced, PartReaches, PartsReach}
 use Rattle.s390x_machine.proofs.Addresses.{sum_more}
-use Rattle.s390x_machine.proofs.Alone.{Meant, OpcodeRow, OpcodeRows, meant_at}
-use Rattle.s390x_machine.proofs.Composites.{row_then, compute_changes}
+use Rattle.s390x_machine.proofs.Listing.{OpcodeRow, OpcodeRows, few_digits}
+use Rattle.s390x_machine.proofs.Alone.{meant_at}
+use Rattle.s390x_machine.proofs.Composites.{ChangesTo, row_then, compute_changes}
 use Rattle.s390x_machine.proofs.Fetching.{StandsAt}
 use Rattle.s390x_machine.proofs.Operands.{read_12, read_20, bits_12, based_indexed}
 use Rattle.s390x_machine.proofs.Rows.{fits_rx, fits_rxy, fits_rs, fits_rsy, fits_si, fits_siy, fits_sil}
@@ -93,9 +93,6 @@ FormDoes (RsForm first second short long) operation = BasedForm first second sho
 FormDoes (SiForm imm short long) operation = ByteForm imm short long operation
 FormDoes (SilForm bits opcode) operation = HalfwordForm bits opcode operation
 
-as_meant : (kind : FormatKind) (digits opcode : ℕ) (meaning : Meaning) → digits ≤ 65536 → OpcodeRow kind digits opcode meaning → Meant kind Any opcode meaning
-as_meant kind digits opcode meaning le row = record { some = row.some; few = omega (arith, row.few, le); lists = row.lists; means = row.means; single = row.single }
-
 -- ---- the parts of an access
 
 -- the row, with the code of its faults at its first byte where they have one
@@ -136,7 +133,7 @@ module _ (L : Layout) (all : AllPlaced L) (operation : ℕ → Registers → Ope
     is = λ code. access_row (rx opcode register (number_of base) (number_of index) (low_12 d)) code;
     some = omega arith;
     untrapped = λ p. refl;
-    row = λ offset even st reaches. meant_at L all offset even Rx Any opcode (register ∷ number_of base ∷ number_of index ∷ 0 ∷ 0 ∷ 0 ∷ 0 ∷ 0 ∷ low_12 d ∷ []) does.meaning (λ r. operation (indexed r (number_of base) (number_of index) (pos d)) r) (as_meant Rx 256 opcode does.meaning (omega arith) does.short_rows) (fits_rx opcode register (number_of base) (number_of index) (low_12 d) does.short_rows.few does.few lb li (bits_12 d)) refl (λ r p.
+    row = λ offset even st reaches. meant_at L all offset even (rx opcode register (number_of base) (number_of index) (low_12 d)) does.meaning (λ r. operation (indexed r (number_of base) (number_of index) (pos d)) r) does.short_rows (fits_rx opcode register (number_of base) (number_of index) (low_12 d) (few_digits does.short_rows.0) does.few lb li (bits_12 d)) refl (λ r p.
         does.acts Rx opcode (number_of base) (number_of index) (low_12 d) r p ∙ ap (λ z. Perform (operation (indexed r (number_of base) (number_of index) z) r)) (read_12 d le)) st;
   }
   stands_12 (RsForm first second None long) does accesses have base index d flags lb li may le = absurd (cc)
@@ -145,7 +142,7 @@ module _ (L : Layout) (all : AllPlaced L) (operation : ℕ → Registers → Ope
     is = λ code. access_row (rs opcode first second (number_of base) (low_12 d)) code;
     some = omega arith;
     untrapped = λ p. refl;
-    row = λ offset even st reaches. meant_at L all offset even Rs Any opcode (first ∷ second ∷ number_of base ∷ 0 ∷ 0 ∷ 0 ∷ 0 ∷ 0 ∷ low_12 d ∷ []) does.meaning (λ r. operation (indexed r (number_of base) (number_of index) (pos d)) r) (as_meant Rs 256 opcode does.meaning (omega arith) does.short_rows) (fits_rs opcode first second (number_of base) (low_12 d) does.short_rows.few does.few does.few_second lb (bits_12 d)) refl (λ r p.
+    row = λ offset even st reaches. meant_at L all offset even (rs opcode first second (number_of base) (low_12 d)) does.meaning (λ r. operation (indexed r (number_of base) (number_of index) (pos d)) r) does.short_rows (fits_rs opcode first second (number_of base) (low_12 d) (few_digits does.short_rows.0) does.few does.few_second lb (bits_12 d)) refl (λ r p.
         does.acts Rs opcode (number_of base) (low_12 d) r p ∙ unindexed r (number_of base) (number_of index) (low_12 d) (pos d) (read_12 d le) may) st;
   }
   stands_12 (SiForm imm opcode long) does accesses have base index d flags lb li may le = record {
@@ -153,7 +150,7 @@ module _ (L : Layout) (all : AllPlaced L) (operation : ℕ → Registers → Ope
     is = λ code. access_row (si opcode (number_of base) (low_12 d) imm) code;
     some = omega arith;
     untrapped = λ p. refl;
-    row = λ offset even st reaches. meant_at L all offset even Si Any opcode (number_of base ∷ 0 ∷ 0 ∷ 0 ∷ imm ∷ 0 ∷ 0 ∷ 0 ∷ low_12 d ∷ []) does.meaning (λ r. operation (indexed r (number_of base) (number_of index) (pos d)) r) (as_meant Si 256 opcode does.meaning (omega arith) does.short_row) (fits_si opcode (number_of base) (low_12 d) imm does.short_row.few lb (bits_12 d) does.few) refl (λ r p.
+    row = λ offset even st reaches. meant_at L all offset even (si opcode (number_of base) (low_12 d) imm) does.meaning (λ r. operation (indexed r (number_of base) (number_of index) (pos d)) r) does.short_row (fits_si opcode (number_of base) (low_12 d) imm (few_digits does.short_row.0) lb (bits_12 d) does.few) refl (λ r p.
         does.acts Si opcode (number_of base) (low_12 d) r p ∙ unindexed r (number_of base) (number_of index) (low_12 d) (pos d) (read_12 d le) may) st;
   }
   stands_12 (SilForm bits opcode) does accesses have base index d flags lb li may le = record {
@@ -161,11 +158,12 @@ module _ (L : Layout) (all : AllPlaced L) (operation : ℕ → Registers → Ope
     is = λ code. access_row (sil opcode (number_of base) (low_12 d) bits) code;
     some = omega arith;
     untrapped = λ p. refl;
-    row = λ offset even st reaches. meant_at L all offset even Sil Any opcode (number_of base ∷ 0 ∷ 0 ∷ 0 ∷ 0 ∷ 0 ∷ 0 ∷ bits ∷ low_12 d ∷ []) does.meaning (λ r. operation (indexed r (number_of base) (number_of index) (pos d)) r) (as_meant Sil 65536 opcode does.meaning (omega arith) does.row) (fits_sil opcode (number_of base) (low_12 d) bits does.row.few lb (bits_12 d) does.few) refl (λ r p.
+    row = λ offset even st reaches. meant_at L all offset even (sil opcode (number_of base) (low_12 d) bits) does.meaning (λ r. operation (indexed r (number_of base) (number_of index) (pos d)) r) does.row (fits_sil opcode (number_of base) (low_12 d) bits (few_digits does.row.0) lb (bits_12 d) does.few) refl (λ r p.
         does.acts (number_of base) (low_12 d) r p ∙ unindexed r (number_of base) (number_of index) (low_12 d) (pos d) (read_12 d le) may) st;
   }
 
-  pub stands_20 : (form : StorageForm) → FormDoes form operation → (accesses : Bool) → (type_of form accesses).have_d20 ≡ true → (base index : Reg) (z : ℤ) (flags : MachMemFlags) → number_of base < 16 → number_of index < 16 → MayIndex form (number_of index) → negsuc 524287 ≤ℤ z → z ≤ℤ pos 524287 → low_displacement z < 2 ^ 20 → Stands L form (BXD20 base index z flags) operation (λ r. indexed r (number_of base) (number_of index) z)
+  pub stands_20 : (form : StorageForm) → FormDoes form operation → (accesses : Bool) → (type_of form accesses).have_d20 ≡ true → (base index : Reg) (z : ℤ) (flags : MachMemFlags) → number_of base < 16 → number_of index < 16 → MayIndex form (number_of index) → negsuc 524287 ≤ℤ z → z ≤ℤ pos 524287 →
+      low_displacement z < 2 ^ 20 → Stands L form (BXD20 base index z flags) operation (λ r. indexed r (number_of base) (number_of index) z)
   unfolding length_of
   stands_20 (RxForm register short None relative) does accesses have base index z flags lb li may least most lz = absurd (cc)
   stands_20 (RxForm register short (Some opcode) relative) does accesses have base index z flags lb li may least most lz = record {
@@ -173,7 +171,7 @@ module _ (L : Layout) (all : AllPlaced L) (operation : ℕ → Registers → Ope
     is = λ code. access_row (rxy opcode register (number_of base) (number_of index) (low_displacement z)) code;
     some = omega arith;
     untrapped = λ p. refl;
-    row = λ offset even st reaches. meant_at L all offset even Rxy Any opcode (register ∷ number_of base ∷ number_of index ∷ 0 ∷ 0 ∷ 0 ∷ 0 ∷ 0 ∷ low_displacement z ∷ []) does.meaning (λ r. operation (indexed r (number_of base) (number_of index) z) r) (as_meant Rxy 65536 opcode does.meaning (omega arith) does.long_rows) (fits_rxy opcode register (number_of base) (number_of index) (low_displacement z) does.long_rows.few does.few lb li lz) refl (λ r p.
+    row = λ offset even st reaches. meant_at L all offset even (rxy opcode register (number_of base) (number_of index) (low_displacement z)) does.meaning (λ r. operation (indexed r (number_of base) (number_of index) z) r) does.long_rows (fits_rxy opcode register (number_of base) (number_of index) (low_displacement z) (few_digits does.long_rows.0) does.few lb li lz) refl (λ r p.
         does.acts Rxy opcode (number_of base) (number_of index) (low_displacement z) r p ∙ ap (λ y. Perform (operation (indexed r (number_of base) (number_of index) y) r)) (read_20 z least most)) st;
   }
   stands_20 (RsForm first second short None) does accesses have base index z flags lb li may least most lz = absurd (cc)
@@ -182,7 +180,7 @@ module _ (L : Layout) (all : AllPlaced L) (operation : ℕ → Registers → Ope
     is = λ code. access_row (rsy opcode first second (number_of base) (low_displacement z)) code;
     some = omega arith;
     untrapped = λ p. refl;
-    row = λ offset even st reaches. meant_at L all offset even Rsy Any opcode (first ∷ second ∷ number_of base ∷ 0 ∷ 0 ∷ 0 ∷ 0 ∷ 0 ∷ low_displacement z ∷ []) does.meaning (λ r. operation (indexed r (number_of base) (number_of index) z) r) (as_meant Rsy 65536 opcode does.meaning (omega arith) does.long_rows) (fits_rsy opcode first second (number_of base) (low_displacement z) does.long_rows.few does.few does.few_second lb lz) refl (λ r p.
+    row = λ offset even st reaches. meant_at L all offset even (rsy opcode first second (number_of base) (low_displacement z)) does.meaning (λ r. operation (indexed r (number_of base) (number_of index) z) r) does.long_rows (fits_rsy opcode first second (number_of base) (low_displacement z) (few_digits does.long_rows.0) does.few does.few_second lb lz) refl (λ r p.
         does.acts Rsy opcode (number_of base) (low_displacement z) r p ∙ unindexed r (number_of base) (number_of index) (low_displacement z) z (read_20 z least most) may) st;
   }
   stands_20 (SiForm imm short opcode) does accesses have base index z flags lb li may least most lz = record {
@@ -190,7 +188,7 @@ module _ (L : Layout) (all : AllPlaced L) (operation : ℕ → Registers → Ope
     is = λ code. access_row (siy opcode (number_of base) (low_displacement z) imm) code;
     some = omega arith;
     untrapped = λ p. refl;
-    row = λ offset even st reaches. meant_at L all offset even Siy Any opcode (number_of base ∷ 0 ∷ 0 ∷ 0 ∷ imm ∷ 0 ∷ 0 ∷ 0 ∷ low_displacement z ∷ []) does.meaning (λ r. operation (indexed r (number_of base) (number_of index) z) r) (as_meant Siy 65536 opcode does.meaning (omega arith) does.long_row) (fits_siy opcode (number_of base) (low_displacement z) imm does.long_row.few lb lz does.few) refl (λ r p.
+    row = λ offset even st reaches. meant_at L all offset even (siy opcode (number_of base) (low_displacement z) imm) does.meaning (λ r. operation (indexed r (number_of base) (number_of index) z) r) does.long_row (fits_siy opcode (number_of base) (low_displacement z) imm (few_digits does.long_row.0) lb lz does.few) refl (λ r p.
         does.acts Siy opcode (number_of base) (low_displacement z) r p ∙ unindexed r (number_of base) (number_of index) (low_displacement z) z (read_20 z least most) may) st;
   }
   stands_20 (SilForm bits opcode) does accesses have base index z flags lb li may least most lz = absurd (cc)
@@ -259,7 +257,8 @@ module _ (L : Layout) (all : AllPlaced L) (k : ℕ) where
       go Stop.Divide n e = absurd (cc)
       go Stop.CompareTrap n e = absurd (cc)
 
-  last_row : (part : Part) (code : Option TrapKind) (o : ℕ) → o % 2 ≡ 0 → L.places.step k ≤ o → 0 < part_size part → PartsStand L o (access_of code part) → PartsReach L o (access_of code part) → L.places.step (suc k) ≡ o + parts_size (access_of code part) → ((q : ℕ) → L.places.step k ≤ q → q < L.places.step (suc k) → o ≤ q → first_code L.traps q ≡ first_code (parts_traps o (access_of code part)) q) → LastRow L k part code o
+  last_row : (part : Part) (code : Option TrapKind) (o : ℕ) → o % 2 ≡ 0 → L.places.step k ≤ o → 0 < part_size part → PartsStand L o (access_of code part) → PartsReach L o (access_of code part) → L.places.step (suc k) ≡ o + parts_size (access_of code part) →
+      ((q : ℕ) → L.places.step k ≤ q → q < L.places.step (suc k) → o ≤ q → first_code L.traps q ≡ first_code (parts_traps o (access_of code part)) q) → LastRow L k part code o
   last_row part None o even above some stands reaches next traps =
       record { even = even; above = above; stands = stands.0; reaches = reaches.0; next = omega (arith, next); coded = λ kind n e. absurd (uncoded_access kind n e) }
   last_row part (Some x) o even above some stands reaches next traps =
@@ -273,7 +272,8 @@ module _ (L : Layout) (all : AllPlaced L) (k : ℕ) where
         coded = access_coded o (part_bytes L.places o part) a.stands (omega (arith, part_length L.places o part, some)) x (traps o above (omega (arith, next, a.size, some)) (omega arith) ∙ a.first);
       }
 
-  rows_before : (hs : List Part) → Untrapped hs → (part : Part) (code : Option TrapKind) (o : ℕ) → o % 2 ≡ 0 → L.places.step k ≤ o → 0 < part_size part → PartsStand L o (hs ++ access_of code part) → PartsReach L o (hs ++ access_of code part) → L.places.step (suc k) ≡ o + parts_size (hs ++ access_of code part) → ((q : ℕ) → L.places.step k ≤ q → q < L.places.step (suc k) → o ≤ q → first_code L.traps q ≡ first_code (parts_traps o (hs ++ access_of code part)) q) → RowsBefore L k hs part code o
+  rows_before : (hs : List Part) → Untrapped hs → (part : Part) (code : Option TrapKind) (o : ℕ) → o % 2 ≡ 0 → L.places.step k ≤ o → 0 < part_size part → PartsStand L o (hs ++ access_of code part) → PartsReach L o (hs ++ access_of code part) →
+      L.places.step (suc k) ≡ o + parts_size (hs ++ access_of code part) → ((q : ℕ) → L.places.step k ≤ q → q < L.places.step (suc k) → o ≤ q → first_code L.traps q ≡ first_code (parts_traps o (hs ++ access_of code part)) q) → RowsBefore L k hs part code o
   rows_before [] none part code o even above some stands reaches next traps = last_row part code o even above some stands reaches next traps
   rows_before (h ∷ hs) none part code o even above some stands reaches next traps =
       ((stands.0, reaches.0), rows_before hs none.1 part code (o + part_size h) (omega (arith, even, part_even h)) (omega (arith, above)) some stands.1 reaches.1 (omega (arith, next)) (λ q a b c. traps q a b (omega (arith, c)) ∙ ap (λ ts. first_code (ts ++ parts_traps (o + part_size h) (hs ++ access_of code part)) q) (none.0 o)))
@@ -297,5 +297,5 @@ module _ (L : Layout) (all : AllPlaced L) (k : ℕ) where
       ((hs : List Turn) → length hs ≡ suc (length g) → Inside L k c hs (put r 1 (moved s (bits r))) (sum64 L.image.base (o + size)) → Simulates L k c hs (put r 1 (moved s (bits r))) (sum64 L.image.base (o + size))) → Simulates L k c g r (sum64 L.image.base o)
   helper_then c g r o size s bits plain i few above below row go =
       row_then L k c g r (sum64 L.image.base o) (λ q. Perform (computes_immediate Kept (with_second Move Doubleword s) 1 1 (bits q) q)) (size) (put r 1 (moved s (bits r))) i few (record { offset = o + size; above = above; below = below; is = sum_more L.image.base o (size) }) row
-      (subst (λ b. Rattle.s390x_machine.proofs.Composites.ChangesTo (Perform (computes_immediate Kept (with_second Move Doubleword (record { width = s.width; sign = s.sign; reversed = b })) 1 1 (bits r) r)) (size) r (sum64 L.image.base o) (put r 1 (moved s (bits r)))) (sym plain) (compute_changes Move Doubleword 1 (r.general 1) (bits r) s.width s.sign false (size) (sum64 L.image.base o) r c.memory))
+      (subst (λ b. ChangesTo (Perform (computes_immediate Kept (with_second Move Doubleword (record { width = s.width; sign = s.sign; reversed = b })) 1 1 (bits r) r)) (size) r (sum64 L.image.base o) (put r 1 (moved s (bits r)))) (sym plain) (compute_changes Move Doubleword 1 (r.general 1) (bits r) s.width s.sign false (size) (sum64 L.image.base o) r c.memory))
       (λ hs n. subst (λ q. Inside L k c hs (put r 1 (moved s (bits r))) q → Simulates L k c hs (put r 1 (moved s (bits r))) q) (sym (sum_more L.image.base o (size))) (go hs n))

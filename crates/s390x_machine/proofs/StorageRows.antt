@@ -1,10 +1,11 @@
 -- The rows of the instructions with an operand in memory: each is listed, and does its instruction's operation.
-use Rattle.std.proofs.Common.{◌≡◌, ℕ, Option, Some, None, true, ◌||◌, is_some, refl, arith}
+use Rattle.std.proofs.Common.{◌≡◌, ℕ, Option, Some, None, true, ◌||◌, is_some, refl}
 use Rattle.s390x_inst.specs.declared.ops.ALUOp.{ALUOp}
 use Rattle.s390x_inst.specs.declared.ops.ALUOp.TheVariants as A
 use Rattle.s390x_inst.specs.declared.ops.CmpOp.{CmpOp}
 use Rattle.s390x_inst.specs.declared.ops.CmpOp.TheVariants as C
 use Rattle.s390x_format.specs.declared.kind.FormatKind.TheVariants.{Rx, Rxy, Rs, Rsy, Si, Siy, Sil}
+use Rattle.s390x_format.specs.declared.row.Allowed.TheVariants.{Any}
 use Rattle.s390x_format.specs.Lookup.{row_for}
 use Rattle.s390x_format.specs.Fetch.{machine_rows}
 use Rattle.s390x_steps.specs.Storage.{alu_rx, alu_rxy, cmp_rx, cmp_rxy, cmp_ril, atomic_rsy}
@@ -15,12 +16,13 @@ use Rattle.s390x_operations.specs.declared.size.Width.TheVariants.{Bits16, Bits3
 use Rattle.s390x_operations.specs.declared.operator.Operator.TheVariants.{Move}
 use Rattle.s390x_operations.specs.declared.effect.CodeRule.TheVariants.{Kept}
 use Rattle.s390x_machine.specs.declared.meaning.Meaning.{Meaning}
-use Rattle.s390x_machine.specs.declared.meaning.Meaning.TheVariants.{Compute, Compare, Store, StoreByte, StoreImmediate, LoadMultiple, StoreMultiple, LoadAndOperate, CompareAndSwap}
+use Rattle.s390x_machine.specs.declared.meaning.Meaning.TheVariants.{Compute, Store, StoreByte, StoreImmediate, LoadMultiple, StoreMultiple, LoadAndOperate, CompareAndSwap}
 use Rattle.s390x_machine.specs.declared.meaning.Shape.TheVariants.{Indexed, IndexedAddress}
 use Rattle.s390x_machine.specs.Computations.{Second, word, signed_word, signed_halfword, halfword, doubleword, alu_computation, alu_two_rule, comparison}
 use Rattle.s390x_machine.specs.Storage.{byte, signed_byte, reversed_bytes, alu_forms, cmp_forms}
 use Rattle.s390x_machine.specs.Meanings.{meaning_in, meaning_of}
-use Rattle.s390x_machine.proofs.Alone.{OpcodeRow, OpcodeRows, computed, second_register}
+use Rattle.s390x_machine.proofs.Listing.{Agrees, rows, OpcodeRow, OpcodeRows}
+use Rattle.s390x_machine.proofs.Alone.{computed, compared_with, second_register}
 
 -- the rows of 12 and of 20 bits of an instruction with a register
 abbrev pub IndexedRows : (short long : Option ℕ) → Meaning → Type 0
@@ -41,212 +43,173 @@ storing s = Store (second_register Indexed s)
 
 pub load_32 : IndexedRows (Some 0x58) (Some 0xe358) (loading Word word)
 unfolding machine_rows row_for meaning_in meaning_of
-load_32 = (record { some = omega arith; few = omega arith; lists = (refl, refl, refl); means = refl; single = refl }, record { some = omega arith; few = omega arith; lists = (refl, refl, refl); means = refl; single = refl })
+load_32 = ((record { is = refl }, refl), (record { is = refl }, refl))
 
 pub load_32_zero_8 : IndexedRows None (Some 0xe394) (loading Word byte)
 unfolding machine_rows row_for meaning_in meaning_of
-load_32_zero_8 = (tt, record { some = omega arith; few = omega arith; lists = (refl, refl, refl); means = refl; single = refl })
+load_32_zero_8 = (tt, (record { is = refl }, refl))
 
 pub load_32_signed_8 : IndexedRows None (Some 0xe376) (loading Word signed_byte)
 unfolding machine_rows row_for meaning_in meaning_of
-load_32_signed_8 = (tt, record { some = omega arith; few = omega arith; lists = (refl, refl, refl); means = refl; single = refl })
+load_32_signed_8 = (tt, (record { is = refl }, refl))
 
 pub load_32_zero_16 : IndexedRows None (Some 0xe395) (loading Word halfword)
 unfolding machine_rows row_for meaning_in meaning_of
-load_32_zero_16 = (tt, record { some = omega arith; few = omega arith; lists = (refl, refl, refl); means = refl; single = refl })
+load_32_zero_16 = (tt, (record { is = refl }, refl))
 
 pub load_32_signed_16 : IndexedRows (Some 0x48) (Some 0xe378) (loading Word signed_halfword)
 unfolding machine_rows row_for meaning_in meaning_of
-load_32_signed_16 = (record { some = omega arith; few = omega arith; lists = (refl, refl, refl); means = refl; single = refl }, record { some = omega arith; few = omega arith; lists = (refl, refl, refl); means = refl; single = refl })
+load_32_signed_16 = ((record { is = refl }, refl), (record { is = refl }, refl))
 
 pub load_64 : IndexedRows None (Some 0xe304) (loading Doubleword doubleword)
 unfolding machine_rows row_for meaning_in meaning_of
-load_64 = (tt, record { some = omega arith; few = omega arith; lists = (refl, refl, refl); means = refl; single = refl })
+load_64 = (tt, (record { is = refl }, refl))
 
 pub load_64_zero_8 : IndexedRows None (Some 0xe390) (loading Doubleword byte)
 unfolding machine_rows row_for meaning_in meaning_of
-load_64_zero_8 = (tt, record { some = omega arith; few = omega arith; lists = (refl, refl, refl); means = refl; single = refl })
+load_64_zero_8 = (tt, (record { is = refl }, refl))
 
 pub load_64_signed_8 : IndexedRows None (Some 0xe377) (loading Doubleword signed_byte)
 unfolding machine_rows row_for meaning_in meaning_of
-load_64_signed_8 = (tt, record { some = omega arith; few = omega arith; lists = (refl, refl, refl); means = refl; single = refl })
+load_64_signed_8 = (tt, (record { is = refl }, refl))
 
 pub load_64_zero_16 : IndexedRows None (Some 0xe391) (loading Doubleword halfword)
 unfolding machine_rows row_for meaning_in meaning_of
-load_64_zero_16 = (tt, record { some = omega arith; few = omega arith; lists = (refl, refl, refl); means = refl; single = refl })
+load_64_zero_16 = (tt, (record { is = refl }, refl))
 
 pub load_64_signed_16 : IndexedRows None (Some 0xe315) (loading Doubleword signed_halfword)
 unfolding machine_rows row_for meaning_in meaning_of
-load_64_signed_16 = (tt, record { some = omega arith; few = omega arith; lists = (refl, refl, refl); means = refl; single = refl })
+load_64_signed_16 = (tt, (record { is = refl }, refl))
 
 pub load_64_zero_32 : IndexedRows None (Some 0xe316) (loading Doubleword word)
 unfolding machine_rows row_for meaning_in meaning_of
-load_64_zero_32 = (tt, record { some = omega arith; few = omega arith; lists = (refl, refl, refl); means = refl; single = refl })
+load_64_zero_32 = (tt, (record { is = refl }, refl))
 
 pub load_64_signed_32 : IndexedRows None (Some 0xe314) (loading Doubleword signed_word)
 unfolding machine_rows row_for meaning_in meaning_of
-load_64_signed_32 = (tt, record { some = omega arith; few = omega arith; lists = (refl, refl, refl); means = refl; single = refl })
+load_64_signed_32 = (tt, (record { is = refl }, refl))
 
 pub load_reversed_16 : IndexedRows None (Some 0xe31f) (loading Halfword (reversed_bytes Bits16))
 unfolding machine_rows row_for meaning_in meaning_of
-load_reversed_16 = (tt, record { some = omega arith; few = omega arith; lists = (refl, refl, refl); means = refl; single = refl })
+load_reversed_16 = (tt, (record { is = refl }, refl))
 
 pub load_reversed_32 : IndexedRows None (Some 0xe31e) (loading Word (reversed_bytes Bits32))
 unfolding machine_rows row_for meaning_in meaning_of
-load_reversed_32 = (tt, record { some = omega arith; few = omega arith; lists = (refl, refl, refl); means = refl; single = refl })
+load_reversed_32 = (tt, (record { is = refl }, refl))
 
 pub load_reversed_64 : IndexedRows None (Some 0xe30f) (loading Doubleword (reversed_bytes Bits64))
 unfolding machine_rows row_for meaning_in meaning_of
-load_reversed_64 = (tt, record { some = omega arith; few = omega arith; lists = (refl, refl, refl); means = refl; single = refl })
+load_reversed_64 = (tt, (record { is = refl }, refl))
 
 pub load_address : IndexedRows (Some 0x41) (Some 0xe371) (Compute Move Doubleword (second_register IndexedAddress doubleword) Kept)
 unfolding machine_rows row_for meaning_in meaning_of
-load_address = (record { some = omega arith; few = omega arith; lists = (refl, refl, refl); means = refl; single = refl }, record { some = omega arith; few = omega arith; lists = (refl, refl, refl); means = refl; single = refl })
+load_address = ((record { is = refl }, refl), (record { is = refl }, refl))
 
 -- ---- stores
 
 pub store_8 : IndexedRows (Some 0x42) (Some 0xe372) (storing byte)
 unfolding machine_rows row_for meaning_in meaning_of
-store_8 = (record { some = omega arith; few = omega arith; lists = (refl, refl, refl); means = refl; single = refl }, record { some = omega arith; few = omega arith; lists = (refl, refl, refl); means = refl; single = refl })
+store_8 = ((record { is = refl }, refl), (record { is = refl }, refl))
 
 pub store_16 : IndexedRows (Some 0x40) (Some 0xe370) (storing halfword)
 unfolding machine_rows row_for meaning_in meaning_of
-store_16 = (record { some = omega arith; few = omega arith; lists = (refl, refl, refl); means = refl; single = refl }, record { some = omega arith; few = omega arith; lists = (refl, refl, refl); means = refl; single = refl })
+store_16 = ((record { is = refl }, refl), (record { is = refl }, refl))
 
 pub store_32 : IndexedRows (Some 0x50) (Some 0xe350) (storing word)
 unfolding machine_rows row_for meaning_in meaning_of
-store_32 = (record { some = omega arith; few = omega arith; lists = (refl, refl, refl); means = refl; single = refl }, record { some = omega arith; few = omega arith; lists = (refl, refl, refl); means = refl; single = refl })
+store_32 = ((record { is = refl }, refl), (record { is = refl }, refl))
 
 pub store_64 : IndexedRows None (Some 0xe324) (storing doubleword)
 unfolding machine_rows row_for meaning_in meaning_of
-store_64 = (tt, record { some = omega arith; few = omega arith; lists = (refl, refl, refl); means = refl; single = refl })
+store_64 = (tt, (record { is = refl }, refl))
 
 pub store_reversed_16 : IndexedRows None (Some 0xe33f) (storing (reversed_bytes Bits16))
 unfolding machine_rows row_for meaning_in meaning_of
-store_reversed_16 = (tt, record { some = omega arith; few = omega arith; lists = (refl, refl, refl); means = refl; single = refl })
+store_reversed_16 = (tt, (record { is = refl }, refl))
 
 pub store_reversed_32 : IndexedRows None (Some 0xe33e) (storing (reversed_bytes Bits32))
 unfolding machine_rows row_for meaning_in meaning_of
-store_reversed_32 = (tt, record { some = omega arith; few = omega arith; lists = (refl, refl, refl); means = refl; single = refl })
+store_reversed_32 = (tt, (record { is = refl }, refl))
 
 pub store_reversed_64 : IndexedRows None (Some 0xe32f) (storing (reversed_bytes Bits64))
 unfolding machine_rows row_for meaning_in meaning_of
-store_reversed_64 = (tt, record { some = omega arith; few = omega arith; lists = (refl, refl, refl); means = refl; single = refl })
+store_reversed_64 = (tt, (record { is = refl }, refl))
 
 pub store_byte : OpcodeRow Si 256 0x92 StoreByte × OpcodeRow Siy 65536 0xeb52 StoreByte
 unfolding machine_rows row_for meaning_in meaning_of
-store_byte = (record { some = omega arith; few = omega arith; lists = (refl, refl, refl); means = refl; single = refl }, record { some = omega arith; few = omega arith; lists = (refl, refl, refl); means = refl; single = refl })
+store_byte = ((record { is = refl }, refl), (record { is = refl }, refl))
 
 pub store_immediate_16 : OpcodeRow Sil 65536 0xe544 (StoreImmediate Bits16)
 unfolding machine_rows row_for meaning_in meaning_of
-store_immediate_16 = record { some = omega arith; few = omega arith; lists = (refl, refl, refl); means = refl; single = refl }
+store_immediate_16 = (record { is = refl }, refl)
 
 pub store_immediate_32 : OpcodeRow Sil 65536 0xe54c (StoreImmediate Bits32)
 unfolding machine_rows row_for meaning_in meaning_of
-store_immediate_32 = record { some = omega arith; few = omega arith; lists = (refl, refl, refl); means = refl; single = refl }
+store_immediate_32 = (record { is = refl }, refl)
 
 pub store_immediate_64 : OpcodeRow Sil 65536 0xe548 (StoreImmediate Bits64)
 unfolding machine_rows row_for meaning_in meaning_of
-store_immediate_64 = record { some = omega arith; few = omega arith; lists = (refl, refl, refl); means = refl; single = refl }
+store_immediate_64 = (record { is = refl }, refl)
 
 -- ---- two registers
 
 pub load_multiple : BasedRows None (Some 0xeb04) LoadMultiple
 unfolding machine_rows row_for meaning_in meaning_of
-load_multiple = (tt, record { some = omega arith; few = omega arith; lists = (refl, refl, refl); means = refl; single = refl })
+load_multiple = (tt, (record { is = refl }, refl))
 
 pub store_multiple : BasedRows None (Some 0xeb24) StoreMultiple
 unfolding machine_rows row_for meaning_in meaning_of
-store_multiple = (tt, record { some = omega arith; few = omega arith; lists = (refl, refl, refl); means = refl; single = refl })
+store_multiple = (tt, (record { is = refl }, refl))
 
 pub swap_32 : BasedRows (Some 0xba) (Some 0xeb14) (CompareAndSwap Word)
 unfolding machine_rows row_for meaning_in meaning_of
-swap_32 = (record { some = omega arith; few = omega arith; lists = (refl, refl, refl); means = refl; single = refl }, record { some = omega arith; few = omega arith; lists = (refl, refl, refl); means = refl; single = refl })
+swap_32 = ((record { is = refl }, refl), (record { is = refl }, refl))
 
 pub swap_64 : BasedRows None (Some 0xeb30) (CompareAndSwap Doubleword)
 unfolding machine_rows row_for meaning_in meaning_of
-swap_64 = (tt, record { some = omega arith; few = omega arith; lists = (refl, refl, refl); means = refl; single = refl })
+swap_64 = (tt, (record { is = refl }, refl))
 
 -- ---- operators
 
 pub alu_short_rows : (op : ALUOp) → OpcodeRows Rx 256 (alu_rx op) (computed (alu_computation op) Indexed (alu_two_rule op))
 unfolding machine_rows row_for meaning_in meaning_of
-alu_short_rows A.Add32 = record { some = omega arith; few = omega arith; lists = (refl, refl, refl); means = refl; single = refl }
-alu_short_rows A.Add32Ext16 = record { some = omega arith; few = omega arith; lists = (refl, refl, refl); means = refl; single = refl }
-alu_short_rows A.AddLogical32 = record { some = omega arith; few = omega arith; lists = (refl, refl, refl); means = refl; single = refl }
-alu_short_rows A.Sub32 = record { some = omega arith; few = omega arith; lists = (refl, refl, refl); means = refl; single = refl }
-alu_short_rows A.Sub32Ext16 = record { some = omega arith; few = omega arith; lists = (refl, refl, refl); means = refl; single = refl }
-alu_short_rows A.SubLogical32 = record { some = omega arith; few = omega arith; lists = (refl, refl, refl); means = refl; single = refl }
-alu_short_rows A.Mul32 = record { some = omega arith; few = omega arith; lists = (refl, refl, refl); means = refl; single = refl }
-alu_short_rows A.Mul32Ext16 = record { some = omega arith; few = omega arith; lists = (refl, refl, refl); means = refl; single = refl }
-alu_short_rows A.And32 = record { some = omega arith; few = omega arith; lists = (refl, refl, refl); means = refl; single = refl }
-alu_short_rows A.Orr32 = record { some = omega arith; few = omega arith; lists = (refl, refl, refl); means = refl; single = refl }
-alu_short_rows A.Xor32 = record { some = omega arith; few = omega arith; lists = (refl, refl, refl); means = refl; single = refl }
-alu_short_rows _ = tt
+alu_short_rows op = rows (λ n. Rx) Any 256 (alu_rx op) (computed (alu_computation op) Indexed (alu_two_rule op)) refl (agrees op)
+  where
+    agrees : (op : ALUOp) → Agrees (λ n. Rx) Any 256 (alu_rx op) (computed (alu_computation op) Indexed (alu_two_rule op))
+    agrees A.Add32 = refl
+    agrees _ = refl
 
 pub alu_long_rows : (op : ALUOp) → OpcodeRows Rxy 65536 (alu_rxy op) (computed (alu_computation op) Indexed (alu_two_rule op))
 unfolding machine_rows row_for meaning_in meaning_of
-alu_long_rows A.Add32 = record { some = omega arith; few = omega arith; lists = (refl, refl, refl); means = refl; single = refl }
-alu_long_rows A.Add32Ext16 = record { some = omega arith; few = omega arith; lists = (refl, refl, refl); means = refl; single = refl }
-alu_long_rows A.Add64 = record { some = omega arith; few = omega arith; lists = (refl, refl, refl); means = refl; single = refl }
-alu_long_rows A.Add64Ext16 = record { some = omega arith; few = omega arith; lists = (refl, refl, refl); means = refl; single = refl }
-alu_long_rows A.Add64Ext32 = record { some = omega arith; few = omega arith; lists = (refl, refl, refl); means = refl; single = refl }
-alu_long_rows A.AddLogical32 = record { some = omega arith; few = omega arith; lists = (refl, refl, refl); means = refl; single = refl }
-alu_long_rows A.AddLogical64 = record { some = omega arith; few = omega arith; lists = (refl, refl, refl); means = refl; single = refl }
-alu_long_rows A.AddLogical64Ext32 = record { some = omega arith; few = omega arith; lists = (refl, refl, refl); means = refl; single = refl }
-alu_long_rows A.Sub32 = record { some = omega arith; few = omega arith; lists = (refl, refl, refl); means = refl; single = refl }
-alu_long_rows A.Sub32Ext16 = record { some = omega arith; few = omega arith; lists = (refl, refl, refl); means = refl; single = refl }
-alu_long_rows A.Sub64 = record { some = omega arith; few = omega arith; lists = (refl, refl, refl); means = refl; single = refl }
-alu_long_rows A.Sub64Ext16 = record { some = omega arith; few = omega arith; lists = (refl, refl, refl); means = refl; single = refl }
-alu_long_rows A.Sub64Ext32 = record { some = omega arith; few = omega arith; lists = (refl, refl, refl); means = refl; single = refl }
-alu_long_rows A.SubLogical32 = record { some = omega arith; few = omega arith; lists = (refl, refl, refl); means = refl; single = refl }
-alu_long_rows A.SubLogical64 = record { some = omega arith; few = omega arith; lists = (refl, refl, refl); means = refl; single = refl }
-alu_long_rows A.SubLogical64Ext32 = record { some = omega arith; few = omega arith; lists = (refl, refl, refl); means = refl; single = refl }
-alu_long_rows A.Mul32 = record { some = omega arith; few = omega arith; lists = (refl, refl, refl); means = refl; single = refl }
-alu_long_rows A.Mul32Ext16 = record { some = omega arith; few = omega arith; lists = (refl, refl, refl); means = refl; single = refl }
-alu_long_rows A.Mul64 = record { some = omega arith; few = omega arith; lists = (refl, refl, refl); means = refl; single = refl }
-alu_long_rows A.Mul64Ext16 = record { some = omega arith; few = omega arith; lists = (refl, refl, refl); means = refl; single = refl }
-alu_long_rows A.Mul64Ext32 = record { some = omega arith; few = omega arith; lists = (refl, refl, refl); means = refl; single = refl }
-alu_long_rows A.And32 = record { some = omega arith; few = omega arith; lists = (refl, refl, refl); means = refl; single = refl }
-alu_long_rows A.And64 = record { some = omega arith; few = omega arith; lists = (refl, refl, refl); means = refl; single = refl }
-alu_long_rows A.Orr32 = record { some = omega arith; few = omega arith; lists = (refl, refl, refl); means = refl; single = refl }
-alu_long_rows A.Orr64 = record { some = omega arith; few = omega arith; lists = (refl, refl, refl); means = refl; single = refl }
-alu_long_rows A.Xor32 = record { some = omega arith; few = omega arith; lists = (refl, refl, refl); means = refl; single = refl }
-alu_long_rows A.Xor64 = record { some = omega arith; few = omega arith; lists = (refl, refl, refl); means = refl; single = refl }
-alu_long_rows _ = tt
+alu_long_rows op = rows (λ n. Rxy) Any 65536 (alu_rxy op) (computed (alu_computation op) Indexed (alu_two_rule op)) refl (agrees op)
+  where
+    agrees : (op : ALUOp) → Agrees (λ n. Rxy) Any 65536 (alu_rxy op) (computed (alu_computation op) Indexed (alu_two_rule op))
+    agrees A.Add32 = refl
+    agrees _ = refl
 
-pub cmp_short_rows : (op : CmpOp) → OpcodeRows Rx 256 (cmp_rx op) (Compare (comparison op).sign (comparison op).size (second_register Indexed (comparison op).second))
+pub cmp_short_rows : (op : CmpOp) → OpcodeRows Rx 256 (cmp_rx op) (compared_with Indexed (comparison op))
 unfolding machine_rows row_for meaning_in meaning_of
-cmp_short_rows C.CmpS32 = record { some = omega arith; few = omega arith; lists = (refl, refl, refl); means = refl; single = refl }
-cmp_short_rows C.CmpS32Ext16 = record { some = omega arith; few = omega arith; lists = (refl, refl, refl); means = refl; single = refl }
-cmp_short_rows C.CmpL32 = record { some = omega arith; few = omega arith; lists = (refl, refl, refl); means = refl; single = refl }
-cmp_short_rows _ = tt
+cmp_short_rows op = rows (λ n. Rx) Any 256 (cmp_rx op) (compared_with Indexed (comparison op)) refl (agrees op)
+  where
+    agrees : (op : CmpOp) → Agrees (λ n. Rx) Any 256 (cmp_rx op) (compared_with Indexed (comparison op))
+    agrees C.CmpS32 = refl
+    agrees _ = refl
 
-pub cmp_long_rows : (op : CmpOp) → OpcodeRows Rxy 65536 (cmp_rxy op) (Compare (comparison op).sign (comparison op).size (second_register Indexed (comparison op).second))
+pub cmp_long_rows : (op : CmpOp) → OpcodeRows Rxy 65536 (cmp_rxy op) (compared_with Indexed (comparison op))
 unfolding machine_rows row_for meaning_in meaning_of
-cmp_long_rows C.CmpS32 = record { some = omega arith; few = omega arith; lists = (refl, refl, refl); means = refl; single = refl }
-cmp_long_rows C.CmpS32Ext16 = record { some = omega arith; few = omega arith; lists = (refl, refl, refl); means = refl; single = refl }
-cmp_long_rows C.CmpS64 = record { some = omega arith; few = omega arith; lists = (refl, refl, refl); means = refl; single = refl }
-cmp_long_rows C.CmpS64Ext16 = record { some = omega arith; few = omega arith; lists = (refl, refl, refl); means = refl; single = refl }
-cmp_long_rows C.CmpS64Ext32 = record { some = omega arith; few = omega arith; lists = (refl, refl, refl); means = refl; single = refl }
-cmp_long_rows C.CmpL32 = record { some = omega arith; few = omega arith; lists = (refl, refl, refl); means = refl; single = refl }
-cmp_long_rows C.CmpL64 = record { some = omega arith; few = omega arith; lists = (refl, refl, refl); means = refl; single = refl }
-cmp_long_rows C.CmpL64Ext32 = record { some = omega arith; few = omega arith; lists = (refl, refl, refl); means = refl; single = refl }
-cmp_long_rows _ = tt
+cmp_long_rows op = rows (λ n. Rxy) Any 65536 (cmp_rxy op) (compared_with Indexed (comparison op)) refl (agrees op)
+  where
+    agrees : (op : CmpOp) → Agrees (λ n. Rxy) Any 65536 (cmp_rxy op) (compared_with Indexed (comparison op))
+    agrees C.CmpS32 = refl
+    agrees _ = refl
 
 pub atomic_rows : (op : ALUOp) → OpcodeRows Rsy 65536 (atomic_rsy op) (LoadAndOperate (alu_computation op).operator (alu_computation op).size)
 unfolding machine_rows row_for meaning_in meaning_of
-atomic_rows A.Add32 = record { some = omega arith; few = omega arith; lists = (refl, refl, refl); means = refl; single = refl }
-atomic_rows A.Add64 = record { some = omega arith; few = omega arith; lists = (refl, refl, refl); means = refl; single = refl }
-atomic_rows A.AddLogical32 = record { some = omega arith; few = omega arith; lists = (refl, refl, refl); means = refl; single = refl }
-atomic_rows A.AddLogical64 = record { some = omega arith; few = omega arith; lists = (refl, refl, refl); means = refl; single = refl }
-atomic_rows A.And32 = record { some = omega arith; few = omega arith; lists = (refl, refl, refl); means = refl; single = refl }
-atomic_rows A.And64 = record { some = omega arith; few = omega arith; lists = (refl, refl, refl); means = refl; single = refl }
-atomic_rows A.Orr32 = record { some = omega arith; few = omega arith; lists = (refl, refl, refl); means = refl; single = refl }
-atomic_rows A.Orr64 = record { some = omega arith; few = omega arith; lists = (refl, refl, refl); means = refl; single = refl }
-atomic_rows A.Xor32 = record { some = omega arith; few = omega arith; lists = (refl, refl, refl); means = refl; single = refl }
-atomic_rows A.Xor64 = record { some = omega arith; few = omega arith; lists = (refl, refl, refl); means = refl; single = refl }
-atomic_rows _ = tt
+atomic_rows op = rows (λ n. Rsy) Any 65536 (atomic_rsy op) (LoadAndOperate (alu_computation op).operator (alu_computation op).size) refl (agrees op)
+  where
+    agrees : (op : ALUOp) → Agrees (λ n. Rsy) Any 65536 (atomic_rsy op) (LoadAndOperate (alu_computation op).operator (alu_computation op).size)
+    agrees A.Add32 = refl
+    agrees _ = refl
 
 -- ---- the forms of an operand that the step knows are those of the rows
 

@@ -1,0 +1,176 @@
+-- A step of a layout at its place: its parts as rows, and how one row that does its operation is the step.
+use Rattle.std.proofs.Common.{◌≡◌, ℕ, suc, ◌+◌, ◌-◌, ◌%◌, ◌^◌, ◌<◌, ◌≤◌, [], ◌∷◌, List, length, get_or, slice_index, Option, Some, None, Bool, true, false, refl, sym, ap, ◌∙◌, subst, arith, slice_get, nat_lt, ltb-true}
+use Rattle.std.proofs.lemmas.Option.{slice_get_within}
+use Rattle.s390x_base.specs.declared.trap.TrapKind.{TrapKind}
+use Rattle.s390x_format.specs.Formats.{length_of, layout_of}
+use Rattle.s390x_format.specs.Layout.{SlotsFit}
+use Rattle.s390x_format.specs.Rows.{is_allowed, fetch_length_of}
+use Rattle.s390x_format.proofs.Encoding.{encode-length}
+use Rattle.s390x_format.specs.View.{fields_of}
+use Rattle.s390x_format.specs.declared.row.Allowed.{Allowed}
+use Rattle.s390x_format.specs.declared.kind.FormatKind.{FormatKind}
+use Rattle.s390x_format.specs.declared.kind.FormatKind.TheVariants.{Rr}
+use Rattle.s390x_steps.specs.Alone.{alone_with}
+use Rattle.s390x_steps.specs.MachineInstruction.{MachineInstruction, bytes_of, size_of}
+use Rattle.s390x_steps.specs.Steps.{Step}
+use Rattle.s390x_steps.specs.Parts.{Part, Row, Trapping, parts_size, parts_or, step_parts, stopping}
+use Rattle.s390x_steps.specs.Traps.{parts_traps, first_code}
+use Rattle.s390x_operations.specs.State.{Registers}
+use Rattle.s390x_operations.specs.Effects.{Refines, refused, MayRefuse}
+use Rattle.s390x_operations.specs.declared.effect.Operation.{Operation}
+use Rattle.s390x_operations.specs.declared.effect.CodeRule.{CodeRule}
+use Rattle.s390x_operations.specs.declared.stop.StopKind.{StopKind}
+use Rattle.s390x_machine.specs.declared.meaning.Meaning.{Meaning}
+use Rattle.s390x_machine.specs.declared.meaning.Action.{Action}
+use Rattle.s390x_machine.specs.declared.meaning.Action.TheVariants.{Perform}
+use Rattle.s390x_machine.specs.Computations.{Computation, Comparison, computes, compares, computes_immediate, compares_immediate}
+use Rattle.s390x_machine.specs.Forms.{Form, Performs, no_code}
+use Rattle.s390x_machine.specs.Layout.{Layout, place}
+use Rattle.s390x_machine.specs.OneStep.{StepRuns}
+use Rattle.s390x_machine.specs.Meanings.{register_field}
+use Rattle.s390x_machine.specs.Operands.{performed_where}
+use Rattle.s390x_machine.specs.Placed.{Placed, AllPlaced, FineOr}
+use Rattle.s390x_machine.specs.Typed.{form_of, form_at}
+use Rattle.s390x_machine.proofs.Alone.{Doing, DoesThere, meant_at, pair_at}
+use Rattle.s390x_machine.proofs.Fetching.{StandsAt}
+use Rattle.s390x_machine.proofs.Listing.{ListedRow, PairRow}
+use Rattle.s390x_machine.proofs.RegisterNumbers.{even_pair}
+use Rattle.s390x_machine.proofs.Simulation.{RowAt, DoesAs, Coded, ValuesCoded, at_start, general_step}
+use Rattle.s390x_machine.proofs.Standing.{PartsStand, step_stands, offset_even, offset_small, inside_first, next_place}
+use Rattle.s390x_machine.proofs.Stops.{never_by_values}
+use Rattle.s390x_machine.proofs.Trapping.{IsLate, entry_found, late_code}
+
+-- each machine instruction has bytes
+pub some_bytes : (kind : FormatKind) → 0 < length_of kind
+unfolding length_of
+some_bytes kind = ltb-true 0 (length_of kind) (some kind)
+  where
+    some : (kind : FormatKind) → nat_lt 0 (length_of kind) ≡ true
+    some Rr = refl
+    some _ = refl
+
+-- ---- operations that stop by no values
+
+pub exactly : (op : Operation) → Refines op op
+exactly op = record { access = refl; refused = refl; may_refuse = λ kind h. h; results = λ c r h. h; code = λ c code h. h }
+
+pub uncoded : (L : Layout) (p : ℕ) → Coded L p no_code
+uncoded L p kind n e = absurd (cc)
+
+abbrev pub NeverStops : (Registers → Operation) → Type 0
+NeverStops operation = (r : Registers) → ValuesCoded (operation r) no_code
+
+pub computes_always : (rule : CodeRule) (c : Computation) (d n m : ℕ) → NeverStops (computes rule c d n m)
+computes_always rule c d n m r = never_by_values (computes rule c d n m r) no_code refl (λ kind h. h)
+
+pub computes_immediate_always : (rule : CodeRule) (c : Computation) (d n bits : ℕ) → NeverStops (computes_immediate rule c d n bits)
+computes_immediate_always rule c d n bits r = never_by_values (computes_immediate rule c d n bits r) no_code refl (λ kind h. h)
+
+pub compares_always : (c : Comparison) (n m : ℕ) → NeverStops (compares c n m)
+compares_always c n m r = never_by_values (compares c n m r) no_code refl (λ kind h. h)
+
+pub compares_immediate_always : (c : Comparison) (n bits : ℕ) → NeverStops (compares_immediate c n bits)
+compares_immediate_always c n bits r = never_by_values (compares_immediate c n bits r) no_code refl (λ kind h. h)
+
+pub where_never : (selected : Bool) (op : Operation) (code : StopKind → Option TrapKind) → refused op.effect ≡ None → ((kind : StopKind) → MayRefuse op.effect kind → ⊥) → ValuesCoded (performed_where selected op) code
+where_never true op code none free = never_by_values op code none free
+where_never false op code none free = never_by_values (performed_where false op) code refl (λ kind h. h)
+
+-- ---- the rows of a step of one part
+
+pub record OneRow (L : Layout) (k : ℕ) (m : MachineInstruction) : Type 0 where
+  pub stands : StandsAt L.image (L.places.step k) (bytes_of m)
+  pub size : L.places.step (suc k) ≡ L.places.step k + size_of m
+
+-- the same of a row with a trap recorded at one of its bytes, where the table has its code
+pub record Recorded (L : Layout) (k : ℕ) (m : MachineInstruction) (byte : ℕ) (code : TrapKind) : Type 0 where
+  pub row : OneRow L k m
+  pub found : first_code L.traps (L.places.step k + byte) ≡ Some code
+
+-- a step of a layout whose bytes stand at its place
+pub record StepAt (L : Layout) (k : ℕ) (s : Step) : Type 0 where
+  pub all : AllPlaced L
+  pub at : slice_get L.steps k ≡ Some s
+  pub placed : Placed L k s
+
+-- a step that is this operation, and one row
+abbrev pub IsRow : Layout → Step → MachineInstruction → (Registers → Operation) → Type 0
+IsRow L s x operation = (form_of L (Some s) ≡ Some (Performs false operation no_code)) × (step_parts s ≡ Row x ∷ [])
+
+-- one that may have a row
+abbrev pub IsAlone : Layout → Step → (fine : Bool) → Option MachineInstruction → (Registers → Operation) → Type 0
+IsAlone L s fine o operation =
+    (form_of L (Some s) ≡ Some (Performs false operation no_code)) × (step_parts s ≡ parts_or (alone_with fine o) None []) × FineOr (alone_with fine o) ⊥
+
+module _ {L : Layout} {k : ℕ} {s : Step} (b : StepAt L k s) where
+  pub step_within : suc k ≤ length L.steps
+  step_within = slice_get_within L.steps k s b.at
+
+  pub step_even : L.places.step k % 2 ≡ 0
+  step_even = offset_even L b.all k (omega (arith, step_within))
+
+  pub step_small : L.places.step k < 2 ^ 31
+  step_small = offset_small L b.all k (omega (arith, step_within))
+
+  pub step_form : (f : Form) → form_of L (Some s) ≡ Some f → form_at L k ≡ Some f
+  step_form f e = ap (form_of L) b.at ∙ e
+
+  -- its parts stand one behind another, and fill it
+  pub stand_as : (parts : List Part) → step_parts s ≡ parts → PartsStand L (L.places.step k) parts
+  stand_as parts is = subst (λ ps. PartsStand L (L.places.step k) ps) is (step_stands L k s b.placed)
+
+  pub size_as : (parts : List Part) → step_parts s ≡ parts → L.places.step (suc k) ≡ L.places.step k + parts_size parts
+  size_as parts is = b.placed.size ∙ ap (λ ps. L.places.step k + parts_size ps) is
+
+  pub one_row : (m : MachineInstruction) → step_parts s ≡ Row m ∷ [] → OneRow L k m
+  one_row m is =
+      let size : parts_size (Row m ∷ []) ≡ size_of m = omega arith in
+      record { stands = (stand_as (Row m ∷ []) is).0; size = size_as (Row m ∷ []) is ∙ ap (λ n. L.places.step k + n) size }
+
+  pub one_recorded : (m : MachineInstruction) (byte : ℕ) (code : TrapKind) → step_parts s ≡ Trapping m byte code ∷ [] → byte < size_of m → Recorded L k m byte code
+  one_recorded m byte code is lt =
+      let o = L.places.step k in
+      let size : parts_size (Trapping m byte code ∷ []) ≡ size_of m = omega arith in
+      let next = size_as (Trapping m byte code ∷ []) is ∙ ap (λ n. o + n) size in
+      record {
+        row = record { stands = (stand_as (Trapping m byte code ∷ []) is).0; size = next };
+        found = b.placed.traps (o + byte) (omega arith) (omega (arith, next, lt)) ∙ ap (λ ps. first_code (parts_traps o ps) (o + byte)) is ∙ entry_found (o + byte) code;
+      }
+
+  -- a row by itself, which does the step's operation
+  pub row_alone : (operation : Registers → Operation) (code : StopKind → Option TrapKind) (act : Registers → Action) (size : ℕ) → form_of L (Some s) ≡ Some (Performs false operation code) → RowAt L (place L k) act size → ((r : Registers) → DoesAs (act r) (operation r)) →
+      Coded L (place L k) code → ((r : Registers) → ValuesCoded (operation r) code) → L.places.step (suc k) ≡ L.places.step k + size → 0 < size → StepRuns L k
+  row_alone operation code act size is row does at coded e some c lies =
+      general_step L k c [] (place L k) act size false 0 operation code (step_form _ is) (at_start L k c (inside_first L k size e some) lies) row (does c.registers) (next_place L k size e) at (coded c.registers)
+
+  -- one that is as free as the step's operation, or less
+  pub looser_runs : (x : MachineInstruction) (does operation : Registers → Operation) → ((r : Registers) → Refines (does r) (operation r)) → NeverStops operation → IsRow L s x operation → DoesThere L b.all (L.places.step k) step_even x does → StepRuns L k
+  looser_runs x does operation refines never is at_row =
+      let one = one_row x is.1 in
+      row_alone operation no_code (λ r. Perform (does r)) (size_of x) is.0 (at_row one.stands) refines (uncoded L (place L k)) never one.size (some_bytes x.format)
+
+  pub row_runs : (x : MachineInstruction) (operation : Registers → Operation) → NeverStops operation → IsRow L s x operation → DoesThere L b.all (L.places.step k) step_even x operation → StepRuns L k
+  row_runs x operation never is at_row = looser_runs x operation operation (λ r. exactly (operation r)) never is at_row
+
+  -- any row whose action is the step's operation
+  pub meant_runs : {allowed : Allowed} {digits : ℕ} (x : MachineInstruction) (meaning : Meaning) (operation : Registers → Operation) → NeverStops operation → IsRow L s x operation → ListedRow x.format allowed digits (slice_index x.slots 0) meaning → SlotsFit (layout_of x.format) x.slots → is_allowed allowed x.slots ≡ true → Doing (fields_of x.format x.slots) meaning operation → StepRuns L k
+  meant_runs x meaning operation never is row fit allows acts = row_runs x operation never is (λ st. meant_at L b.all (L.places.step k) step_even x meaning operation row fit allows acts st)
+
+  -- a row of an even pair whose action is the step's operation
+  pub pair_runs : {allowed : Allowed} (x : MachineInstruction) (meaning : Meaning) (operation : Registers → Operation) → NeverStops operation → IsRow L s x operation → PairRow x.format allowed (slice_index x.slots 0) meaning → register_field (fields_of x.format x.slots) 0 % 2 ≡ 0 →
+      SlotsFit (layout_of x.format) x.slots → is_allowed allowed x.slots ≡ true → Doing (fields_of x.format x.slots) meaning operation → StepRuns L k
+  pair_runs x meaning operation never is row is_even fit allows acts =
+      row_runs x operation never is (λ st. pair_at L b.all (L.places.step k) step_even x meaning operation row (even_pair meaning (fields_of x.format x.slots) is_even) fit allows acts st)
+
+  -- a row by itself, whose stop has a code at its last byte
+  pub coded_runs : (x : MachineInstruction) (operation : Registers → Operation) (code : StopKind → Option TrapKind) (n : TrapKind) → ((r : Registers) → ValuesCoded (operation r) code) → ((kind : StopKind) (y : TrapKind) → code kind ≡ Some y → IsLate L kind × (y ≡ n)) →
+      form_of L (Some s) ≡ Some (Performs false operation code) → step_parts s ≡ stopping x n ∷ [] → fetch_length_of (get_or (bytes_of x) 0 0) ≡ size_of x → DoesThere L b.all (L.places.step k) step_even x operation → StepRuns L k
+  coded_runs x operation code n values late is parts tells at_row =
+      let o = L.places.step k in
+      let some : 0 < size_of x = some_bytes x.format in
+      let one = one_recorded x (size_of x - 1) n parts (omega (arith, some)) in
+      let long : 0 < length (bytes_of x) = omega (arith, encode-length x.format x.slots, some) in
+      let coded : Coded L (place L k) code = λ kind y e.
+      let h = late kind y e in
+      late_code L b.all.fits o (bytes_of x) one.row.stands long kind h.0 ∙ ap (λ n. first_code L.traps (o + (n - 1))) tells ∙ one.found ∙ ap Some (sym h.1) in
+      row_alone operation code (λ r. Perform (operation r)) (size_of x) is (at_row one.row.stands) (λ r. exactly (operation r)) coded values one.row.size some
