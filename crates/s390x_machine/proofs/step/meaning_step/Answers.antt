@@ -1,4 +1,4 @@
-use Rattle.std.proofs.Common.{ℕ, refl, sym, ◌∙◌, subst}
+use Rattle.std.proofs.Common.{ℕ, refl, rules, sym, ◌∙◌, subst}
 use Rattle.s390x_machine.specs.Meanings.{action}
 use Rattle.s390x_machine.specs.State.{state_of}
 use Rattle.s390x_machine.specs.Step.{Executes}
