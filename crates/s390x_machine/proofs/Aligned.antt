@@ -180,27 +180,11 @@ AlignedBytes operation size = (a : ℕ) (r : Registers) (has : ℕ → Bool) →
 -- comparisons have the form, and these bytes
 cmp_relative : (op : CmpOp) → (cmp_forms op).have_pcrel ≡ true
 cmp_relative C.CmpS32 = refl
-cmp_relative C.CmpS32Ext16 = refl
-cmp_relative C.CmpS64 = refl
-cmp_relative C.CmpS64Ext16 = refl
-cmp_relative C.CmpS64Ext32 = refl
-cmp_relative C.CmpL32 = refl
-cmp_relative C.CmpL32Ext16 = refl
-cmp_relative C.CmpL64 = refl
-cmp_relative C.CmpL64Ext16 = refl
-cmp_relative C.CmpL64Ext32 = refl
+cmp_relative _ = refl
 
 cmp_bytes : (op : CmpOp) (n : ℕ) → AlignedBytes (compares_at (comparison op) n) (relative_bytes (cmp_ril op))
 cmp_bytes C.CmpS32 n a r has = refl
-cmp_bytes C.CmpS32Ext16 n a r has = refl
-cmp_bytes C.CmpS64 n a r has = refl
-cmp_bytes C.CmpS64Ext16 n a r has = refl
-cmp_bytes C.CmpS64Ext32 n a r has = refl
-cmp_bytes C.CmpL32 n a r has = refl
-cmp_bytes C.CmpL32Ext16 n a r has = refl
-cmp_bytes C.CmpL64 n a r has = refl
-cmp_bytes C.CmpL64Ext16 n a r has = refl
-cmp_bytes C.CmpL64Ext32 n a r has = refl
+cmp_bytes _ n a r has = refl
 
 module _ (L : Layout) (all : AllPlaced L) where
   -- an operand at an address, where the rows have its form

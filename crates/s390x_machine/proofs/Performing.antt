@@ -28,7 +28,7 @@ use Rattle.s390x_operations.specs.declared.size.Width.TheVariants.{Bits8, Bits16
 use Rattle.s390x_machine.specs.Meanings.{register_field, meaning_of, meaning_in}
 use Rattle.s390x_machine.specs.Sound.{IsMeant, IsRoomy, HasRoom, HasRegisters, HasElement, CanPerform, register_bits, register_bound, is_vector_field, fits_field, has_registers, is_small, has_element, is_performed, are_performed, is_meant, is_within, is_unsigned, has_room, fits_operand}
 use Rattle.s390x_machine.specs.declared.meaning.Shape.{Shape}
-use Rattle.s390x_machine.specs.declared.meaning.Shape.TheVariants.{Register, ThreeRegisters, Indexed, IndexedAddress, Relative, RelativeAddress, Immediate, ThreeImmediate, ShiftedImmediate, Amount, AccessRegister}
+use Rattle.s390x_machine.specs.declared.meaning.Shape.TheVariants.{ShiftedImmediate}
 use Rattle.s390x_machine.specs.declared.meaning.SecondOperand.{SecondOperand}
 use Rattle.s390x_machine.specs.declared.meaning.Meaning.{Meaning}
 use Rattle.s390x_machine.specs.declared.meaning.Meaning.TheVariants.{Compute, Compare, MoveWhere, CountOnes, RotateThen, MultiplySigned, MultiplyLogical, DivideSigned, DivideLogical, CompareAndTrap, CompareImmediateAndTrap, FindLeftmostOne, PutAny, BranchToRegister, BranchRelative, Store, StoreByte, StoreImmediate, LoadMultiple, StoreMultiple, LoadAndOperate, CompareAndSwap}
@@ -121,16 +121,7 @@ room (ShiftedImmediate n) format slots h fit =
     let outer = and_parts (nat_lt n 64 && nat_le (n + w) 64) (is_unsigned (imm_class_of format)) h in
     let inner = and_parts (nat_lt n 64) (nat_le (n + w) 64) outer.0 in
     (leb-true (suc n) 64 inner.0, room_left (imm_class_of format) n w (slice_index slots 8) outer.1 (leb-true (n + w) 64 inner.1) (fit.1 8 (lit< tt)))
-room Register format slots h fit = tt
-room ThreeRegisters format slots h fit = tt
-room Indexed format slots h fit = tt
-room IndexedAddress format slots h fit = tt
-room Relative format slots h fit = tt
-room RelativeAddress format slots h fit = tt
-room Immediate format slots h fit = tt
-room ThreeImmediate format slots h fit = tt
-room Amount format slots h fit = tt
-room AccessRegister format slots h fit = tt
+room shape format slots h fit = tt
 
 -- ---- widths
 
@@ -195,41 +186,7 @@ meant ExtractElement format slots h fit = (tt, tt)
 
 element : (meaning : Meaning) (format : FormatKind) (allowed : Allowed) (slots : List ℕ) → has_element meaning allowed ≡ true → is_allowed allowed slots ≡ true → HasElement meaning (fields_of format slots)
 element ExtractElement format allowed slots h ok = small_mask allowed slots h ok
-element (Compute operator size second rule) format allowed slots h ok = tt
-element (Compare sign size second) format allowed slots h ok = tt
-element (MoveWhere size second) format allowed slots h ok = tt
-element (Store destination) format allowed slots h ok = tt
-element CountOnes format allowed slots h ok = tt
-element (RotateThen operator rule) format allowed slots h ok = tt
-element MultiplySigned format allowed slots h ok = tt
-element MultiplyLogical format allowed slots h ok = tt
-element (DivideSigned width) format allowed slots h ok = tt
-element (DivideLogical size) format allowed slots h ok = tt
-element (CompareAndTrap sign size) format allowed slots h ok = tt
-element (CompareImmediateAndTrap sign size) format allowed slots h ok = tt
-element FindLeftmostOne format allowed slots h ok = tt
-element PutAny format allowed slots h ok = tt
-element BranchToRegister format allowed slots h ok = tt
-element BranchRelative format allowed slots h ok = tt
-element StoreByte format allowed slots h ok = tt
-element (StoreImmediate width) format allowed slots h ok = tt
-element LoadMultiple format allowed slots h ok = tt
-element StoreMultiple format allowed slots h ok = tt
-element (LoadAndOperate operator size) format allowed slots h ok = tt
-element (CompareAndSwap size) format allowed slots h ok = tt
-element BranchAndSaveToRegister format allowed slots h ok = tt
-element BranchAndSaveRelative format allowed slots h ok = tt
-element (Elements opcode) format allowed slots h ok = tt
-element (ShiftElements opcode) format allowed slots h ok = tt
-element (LoadVector storage) format allowed slots h ok = tt
-element (StoreVector storage) format allowed slots h ok = tt
-element (LoadLeft size) format allowed slots h ok = tt
-element (StoreLeft size) format allowed slots h ok = tt
-element (MoveLeft size) format allowed slots h ok = tt
-element RegisterToLeft format allowed slots h ok = tt
-element LeftToRegister format allowed slots h ok = tt
-element JoinRegisters format allowed slots h ok = tt
-element InsertElement format allowed slots h ok = tt
+element meaning format allowed slots h ok = tt
 
 three : (a b c : Bool) → (a && b && c) ≡ true → (a ≡ true) × (b ≡ true) × (c ≡ true)
 three true true true h = (refl, refl, refl)

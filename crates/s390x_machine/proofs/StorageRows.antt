@@ -1,5 +1,5 @@
 -- The rows of the instructions with an operand in memory: each is listed, and does its instruction's operation.
-use Rattle.std.proofs.Common.{◌≡◌, ℕ, Option, Some, None, true, ◌||◌, is_some, refl}
+use Rattle.std.proofs.Common.{◌≡◌, ℕ, Option, Some, None, true, ◌||◌, is_some, refl, cond, subst}
 use Rattle.s390x_inst.specs.declared.ops.ALUOp.{ALUOp}
 use Rattle.s390x_inst.specs.declared.ops.ALUOp.TheVariants as A
 use Rattle.s390x_inst.specs.declared.ops.CmpOp.{CmpOp}
@@ -214,43 +214,12 @@ atomic_rows op = rows (λ n. Rsy) Any 65536 (atomic_rsy op) (LoadAndOperate (alu
 -- ---- the forms of an operand that the step knows are those of the rows
 
 pub alu_same : (op : ALUOp) (d : ℕ) → (is_some (alu_rx op) || is_some (alu_rxy op)) ≡ true → alu_forms op ≡ type_of (RxForm d (alu_rx op) (alu_rxy op) None) true
-alu_same A.Add32 d e = refl
-alu_same A.Add32Ext16 d e = refl
-alu_same A.Add64 d e = refl
-alu_same A.Add64Ext16 d e = refl
-alu_same A.Add64Ext32 d e = refl
-alu_same A.AddLogical32 d e = refl
-alu_same A.AddLogical64 d e = refl
-alu_same A.AddLogical64Ext32 d e = refl
-alu_same A.Sub32 d e = refl
-alu_same A.Sub32Ext16 d e = refl
-alu_same A.Sub64 d e = refl
-alu_same A.Sub64Ext16 d e = refl
-alu_same A.Sub64Ext32 d e = refl
-alu_same A.SubLogical32 d e = refl
-alu_same A.SubLogical64 d e = refl
-alu_same A.SubLogical64Ext32 d e = refl
-alu_same A.Mul32 d e = refl
-alu_same A.Mul32Ext16 d e = refl
-alu_same A.Mul64 d e = refl
-alu_same A.Mul64Ext16 d e = refl
-alu_same A.Mul64Ext32 d e = refl
-alu_same A.And32 d e = refl
-alu_same A.And64 d e = refl
-alu_same A.Orr32 d e = refl
-alu_same A.Orr64 d e = refl
-alu_same A.Xor32 d e = refl
-alu_same A.Xor64 d e = refl
-alu_same _ d e = absurd (cc)
+alu_same op d e = subst (λ b. cond b (alu_forms op) (alu_forms op) ≡ cond b (type_of (RxForm d (alu_rx op) (alu_rxy op) None) true) (alu_forms op)) e (same op)
+  where
+    same : (op : ALUOp) → cond (is_some (alu_rx op) || is_some (alu_rxy op)) (alu_forms op) (alu_forms op) ≡ cond (is_some (alu_rx op) || is_some (alu_rxy op)) (type_of (RxForm d (alu_rx op) (alu_rxy op) None) true) (alu_forms op)
+    same A.Add32 = refl
+    same _ = refl
 
 pub cmp_same : (op : CmpOp) (n : ℕ) → cmp_forms op ≡ type_of (RxForm n (cmp_rx op) (cmp_rxy op) (Some (cmp_ril op))) true
 cmp_same C.CmpS32 n = refl
-cmp_same C.CmpS32Ext16 n = refl
-cmp_same C.CmpS64 n = refl
-cmp_same C.CmpS64Ext16 n = refl
-cmp_same C.CmpS64Ext32 n = refl
-cmp_same C.CmpL32 n = refl
-cmp_same C.CmpL32Ext16 n = refl
-cmp_same C.CmpL64 n = refl
-cmp_same C.CmpL64Ext16 n = refl
-cmp_same C.CmpL64Ext32 n = refl
+cmp_same _ n = refl
