@@ -3,25 +3,25 @@ use Rattle.std.proofs.Common.{◌≡◌, ℕ, ℤ, pos, negsuc, Bool, true, not,
 use Rattle.std.specs.Int.{cast_unsigned, cast_signed}
 use Rattle.std.proofs.lemmas.Int.{ints, to_z-of_z}
 use Rattle.s390x_base.specs.declared.error.EmitError.{EmitError}
-use Rattle.s390x_steps.specs.General.{low_halfword, is_general as checked_general}
+use Rattle.s390x_typed_steps.specs.General.{low_halfword, is_general as checked_general}
 use Rattle.std.proofs.lemmas.Bool.{and_parts, and_from, not-true}
 use Rattle.s390x_base.specs.Regs.{is_int}
 use Rattle.s390x_base.specs.declared.regs.Reg.{Reg}
 use Rattle.s390x_base.specs.declared.regs.Reg.TheVariants.{Real, Virtual}
 use Rattle.s390x_base.specs.declared.regs.RegClass.{RegClass}
 use Rattle.s390x_base.specs.declared.regs.RegClass.TheVariants.{Int, Float}
-use Rattle.s390x_enc.specs.Operands.{is_general, is_int as class_encodes, is_first_float, is_float, may_stand_first}
-use Rattle.s390x_address.specs.Rows.{takes_general, has_12_bits}
+use Rattle.s390x_enc.specs.Operands.{is_general_class, is_int_class as class_encodes, is_first_float, is_float, may_stand_first}
+use Rattle.s390x_address.specs.Rows.{rows_take_general, has_12_bits}
 
-pub indexed_encodes : (opcode : ℕ) (r1 b2 x2 : Reg) → (is_general r1 && takes_general (Some opcode)) ≡ true → (is_general b2 && is_general x2) ≡ true → (may_stand_first opcode r1 && is_general b2 && is_general x2) ≡ true
+pub indexed_encodes : (opcode : ℕ) (r1 b2 x2 : Reg) → (is_general_class r1 && rows_take_general (Some opcode)) ≡ true → (is_general_class b2 && is_general_class x2) ≡ true → (may_stand_first opcode r1 && is_general_class b2 && is_general_class x2) ≡ true
 indexed_encodes opcode r1 b2 x2 h k =
-    let p = and_parts (is_general r1) (not (is_first_float opcode)) h in
-    let q = and_parts (is_general b2) (is_general x2) k in
-    let first : may_stand_first opcode r1 ≡ true = ap (λ t. cond t (is_float r1) (is_general r1)) (not-true (is_first_float opcode) p.1) ∙ p.0 in
-    and_from (may_stand_first opcode r1 && is_general b2) (is_general x2) (and_from (may_stand_first opcode r1) (is_general b2) first q.0) q.1
+    let p = and_parts (is_general_class r1) (not (is_first_float opcode)) h in
+    let q = and_parts (is_general_class b2) (is_general_class x2) k in
+    let first : may_stand_first opcode r1 ≡ true = ap (λ t. cond t (is_float r1) (is_general_class r1)) (not-true (is_first_float opcode) p.1) ∙ p.0 in
+    and_from (may_stand_first opcode r1 && is_general_class b2) (is_general_class x2) (and_from (may_stand_first opcode r1) (is_general_class b2) first q.0) q.1
 
-pub ranged_encodes : (r1 r3 b2 : Reg) → (is_general r1 && is_general r3) ≡ true → is_general b2 ≡ true → (is_general r1 && is_general r3 && is_general b2) ≡ true
-ranged_encodes r1 r3 b2 h k = and_from (is_general r1 && is_general r3) (is_general b2) h k
+pub ranged_encodes : (r1 r3 b2 : Reg) → (is_general_class r1 && is_general_class r3) ≡ true → is_general_class b2 ≡ true → (is_general_class r1 && is_general_class r3 && is_general_class b2) ≡ true
+ranged_encodes r1 r3 b2 h k = and_from (is_general_class r1 && is_general_class r3) (is_general_class b2) h k
 
 -- what both answers say, in other words
 pub matched : {T : Type 0} (P P' : T → Type 0) (Q Q' : EmitError → Type 0) (r : Result T EmitError) → MatchResult r P Q → ((x : T) → P x → P' x) → ((e : EmitError) → Q e → Q' e) → MatchResult r P' Q'
@@ -41,7 +41,7 @@ class_general Int t h = refl
 class_general Float t h = absurd (cc)
 
 -- a real Int register can be encoded
-one_general : (r : Reg) → checked_general r ≡ true → is_general r ≡ true
+one_general : (r : Reg) → checked_general r ≡ true → is_general_class r ≡ true
 one_general (Real r) h = class_general r.class _ h
 one_general (Virtual num class) h = absurd (cc)
 
@@ -49,12 +49,12 @@ implied : (s t : Bool) → (s ≡ true → t ≡ true) → (not s || t) ≡ true
 implied true t h = h refl
 implied false t h = refl
 
-pub register_encodes : (r : Reg) (rx_opcode rxy_opcode ril_opcode : Option ℕ) → (takes_general rx_opcode && takes_general rxy_opcode) ≡ true → has_12_bits ril_opcode ≡ true → (has_12_bits ril_opcode && (not (checked_general r) || (is_general r && takes_general rx_opcode && takes_general rxy_opcode))) ≡ true
+pub register_encodes : (r : Reg) (rx_opcode rxy_opcode ril_opcode : Option ℕ) → (rows_take_general rx_opcode && rows_take_general rxy_opcode) ≡ true → has_12_bits ril_opcode ≡ true → (has_12_bits ril_opcode && (not (checked_general r) || (is_general_class r && rows_take_general rx_opcode && rows_take_general rxy_opcode))) ≡ true
 register_encodes r rx_opcode rxy_opcode ril_opcode h k = and_from (has_12_bits ril_opcode) _ k (implied (checked_general r) _ (λ g.
-    let p = and_parts (takes_general rx_opcode) (takes_general rxy_opcode) h in
-    and_from (is_general r && takes_general rx_opcode) (takes_general rxy_opcode) (and_from (is_general r) (takes_general rx_opcode) (one_general r g) p.0) p.1))
+    let p = and_parts (rows_take_general rx_opcode) (rows_take_general rxy_opcode) h in
+    and_from (is_general_class r && rows_take_general rx_opcode) (rows_take_general rxy_opcode) (and_from (is_general_class r) (rows_take_general rx_opcode) (one_general r g) p.0) p.1))
 
-pub two_encode : (a b : Reg) (t : Bool) → (not (checked_general a && checked_general b && t) || (is_general a && is_general b)) ≡ true
+pub two_encode : (a b : Reg) (t : Bool) → (not (checked_general a && checked_general b && t) || (is_general_class a && is_general_class b)) ≡ true
 two_encode a b t = implied (checked_general a && checked_general b && t) _ (λ g.
     let p = and_parts (checked_general a) (checked_general b) (and_parts (checked_general a && checked_general b) t g).0 in
-    and_from (is_general a) (is_general b) (one_general a p.0) (one_general b p.1))
+    and_from (is_general_class a) (is_general_class b) (one_general a p.0) (one_general b p.1))

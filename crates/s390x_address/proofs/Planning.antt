@@ -4,10 +4,10 @@ use Rattle.s390x_inst.specs.Emission.{Emission}
 use Rattle.s390x_inst.specs.Memory.{flags_of}
 use Rattle.s390x_inst.specs.declared.args.MemArg.{MemArg}
 use Rattle.s390x_inst.specs.declared.args.MemArg.TheVariants.{BXD12}
-use Rattle.s390x_steps.specs.Causes.{Declared, first, bound_cause, alignment_cause, addend_fits, relative_access}
-use Rattle.s390x_steps.specs.Memory.{StorageForm, RxForm}
-use Rattle.s390x_steps.specs.Operands.{resolved, has_form}
-use Rattle.s390x_steps.specs.declared.mem_inst_type.MemInstType.{MemInstType}
+use Rattle.s390x_typed_steps.specs.Causes.{Declared, first_emit_cause, bound_cause, alignment_cause, addend_fits, relative_access}
+use Rattle.s390x_typed_steps.specs.Memory.{StorageForm, RxForm}
+use Rattle.s390x_typed_steps.specs.Operands.{resolved, has_form}
+use Rattle.s390x_typed_steps.specs.declared.mem_inst_type.MemInstType.{MemInstType}
 
 -- a frame operand has the forms of an offset
 pub resolved_form : (mi : MemInstType) (e : Emission) (m : MemArg) → has_form mi (resolved e m) ≡ has_form mi m
@@ -25,7 +25,7 @@ resolved_addend e (BXD12 base index disp flags) = refl
 resolved_addend e m = refl
 
 -- it names no place
-pub resolved_place : (D : Declared) (boundary : ℕ) (e : Emission) (m : MemArg) → first (bound_cause D (resolved e m)) (alignment_cause D boundary (resolved e m)) ≡ first (bound_cause D m) (alignment_cause D boundary m)
+pub resolved_place : (D : Declared) (boundary : ℕ) (e : Emission) (m : MemArg) → first_emit_cause (bound_cause D (resolved e m)) (alignment_cause D boundary (resolved e m)) ≡ first_emit_cause (bound_cause D m) (alignment_cause D boundary m)
 resolved_place D boundary e (BXD12 base index disp flags) = refl
 resolved_place D boundary e m = refl
 

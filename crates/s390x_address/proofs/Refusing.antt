@@ -10,13 +10,13 @@ use Rattle.s390x_inst.specs.declared.args.MemArg.{MemArg}
 use Rattle.s390x_inst.specs.declared.args.MemArg.TheVariants.{BXD12, BXD20, Label, Constant, RegOffset}
 use Rattle.s390x_inst.specs.declared.inst.Inst.{Inst}
 use Rattle.s390x_inst.specs.declared.inst.Inst.TheVariants.{Mov64SImm32, LoadAddr}
-use Rattle.s390x_steps.specs.Causes.{Declared, first, unless, is_helped, operand_cause, late_cause, addend_fits, bound_cause, place_cause, memory_cause}
-use Rattle.s390x_steps.specs.General.{is_general}
-use Rattle.s390x_steps.specs.Memory.{MemoryInstruction, type_of}
-use Rattle.s390x_steps.specs.Operands.{Finalized, scratch, no_register, fits_12, fits_20, fits_32, with_offset, displaced, needs_address, addressed, widened, with_widened, finalized, has_form, loses_base, offset_fits, operand_general}
-use Rattle.s390x_steps.specs.declared.mem_inst_type.MemInstType.{MemInstType}
-use Rattle.s390x_steps.proofs.Causes.{first_left, first_right, unless_true}
-use Rattle.s390x_address.specs.Plans.{far_helper, address_helper, finalized_of, offset_cause, is_bound, may_stand, address_stands, plan_stands}
+use Rattle.s390x_typed_steps.specs.Causes.{Declared, first_emit_cause, unless, is_helped, operand_cause, late_cause, addend_fits, bound_cause, target_cause, memory_cause}
+use Rattle.s390x_typed_steps.specs.General.{is_general}
+use Rattle.s390x_typed_steps.specs.Memory.{MemoryInstruction, type_of}
+use Rattle.s390x_typed_steps.specs.Operands.{Finalized, scratch, no_register, fits_12, fits_20, fits_32, with_offset, displaced, needs_address, addressed, widened, with_widened, finalized, has_form, loses_base, offset_fits, operand_general}
+use Rattle.s390x_typed_steps.specs.declared.mem_inst_type.MemInstType.{MemInstType}
+use Rattle.s390x_typed_steps.proofs.Causes.{first_left, first_right, unless_true}
+use Rattle.s390x_address.specs.Plans.{far_helper, address_helper, finalized_of, offset_cause, is_bound_operand, may_stand, address_stands, plan_stands}
 use Rattle.s390x_address.specs.declared.plan.Plan.{Plan}
 
 -- ---- an offset past 32 bits has no helper
@@ -51,33 +51,33 @@ unfit_unhelped mi m h = absurd (cc)
 
 -- ---- the causes of the operand
 
-late_of : (b t fits more : Bool) → first (unless (not b) ScratchConflict) (unless fits OffsetOutOfRange) ≡ None → first (unless (not (b || t)) ScratchConflict) (unless (fits && more) OffsetOutOfRange) ≡ first (unless (not t) ScratchConflict) (unless more OffsetOutOfRange)
+late_of : (b t fits more : Bool) → first_emit_cause (unless (not b) ScratchConflict) (unless fits OffsetOutOfRange) ≡ None → first_emit_cause (unless (not (b || t)) ScratchConflict) (unless (fits && more) OffsetOutOfRange) ≡ first_emit_cause (unless (not t) ScratchConflict) (unless more OffsetOutOfRange)
 late_of true t fits more h = absurd (cc)
 late_of false t true more h = refl
 late_of false t false more h = absurd (cc)
 
 -- where the operand has no cause, it is left whether %r1 is read behind a helper, and whether an addend fits
-pub late_ok : (x : MemoryInstruction) → operand_cause (type_of x.form x.accesses) x.operand ≡ None → late_cause x ≡ first (unless (not (x.reads_scratch && is_helped (finalized (type_of x.form x.accesses) x.operand).helpers)) ScratchConflict) (unless (addend_fits x.operand) OffsetOutOfRange)
+pub late_ok : (x : MemoryInstruction) → operand_cause (type_of x.form x.accesses) x.operand ≡ None → late_cause x ≡ first_emit_cause (unless (not (x.reads_scratch && is_helped (finalized (type_of x.form x.accesses) x.operand).helpers)) ScratchConflict) (unless (addend_fits x.operand) OffsetOutOfRange)
 late_ok x h = late_of (loses_base x.operand) _ (offset_fits x.operand) (addend_fits x.operand) (first_right (unless (has_form (type_of x.form x.accesses) x.operand) BadOperator) _ h)
 
-late_unlike : (b reads helped fits more : Bool) (e : EmitError) → (fits ≡ false → helped ≡ false) → first (unless (not b) ScratchConflict) (unless fits OffsetOutOfRange) ≡ Some e → first (unless (not (b || (reads && helped))) ScratchConflict) (unless (fits && more) OffsetOutOfRange) ≡ Some e
+late_unlike : (b reads helped fits more : Bool) (e : EmitError) → (fits ≡ false → helped ≡ false) → first_emit_cause (unless (not b) ScratchConflict) (unless fits OffsetOutOfRange) ≡ Some e → first_emit_cause (unless (not (b || (reads && helped))) ScratchConflict) (unless (fits && more) OffsetOutOfRange) ≡ Some e
 late_unlike true reads helped fits more e f h = h
 late_unlike false reads helped true more e f h = absurd (cc)
-late_unlike false true helped false more e f h = ap (λ t. first (unless (not t) ScratchConflict) (Some OffsetOutOfRange)) (f refl) ∙ h
+late_unlike false true helped false more e f h = ap (λ t. first_emit_cause (unless (not t) ScratchConflict) (Some OffsetOutOfRange)) (f refl) ∙ h
 late_unlike false false helped false more e f h = h
 
 -- where it has one behind that of its rows, this is the cause
 pub late_err : (x : MemoryInstruction) (e : EmitError) → has_form (type_of x.form x.accesses) x.operand ≡ true → operand_cause (type_of x.form x.accesses) x.operand ≡ Some e → late_cause x ≡ Some e
 late_err x e form h =
     let mi = type_of x.form x.accesses in
-    late_unlike (loses_base x.operand) x.reads_scratch _ (offset_fits x.operand) (addend_fits x.operand) e (unfit_unhelped mi x.operand) (sym (ap (λ t. first (unless t BadOperator) (offset_cause x.operand)) form) ∙ h)
+    late_unlike (loses_base x.operand) x.reads_scratch _ (offset_fits x.operand) (addend_fits x.operand) e (unfit_unhelped mi x.operand) (sym (ap (λ t. first_emit_cause (unless t BadOperator) (offset_cause x.operand)) form) ∙ h)
 
-of_late : (b t fits more : Bool) → first (unless (not (b || t)) ScratchConflict) (unless (fits && more) OffsetOutOfRange) ≡ None → first (unless (not b) ScratchConflict) (unless fits OffsetOutOfRange) ≡ None
+of_late : (b t fits more : Bool) → first_emit_cause (unless (not (b || t)) ScratchConflict) (unless (fits && more) OffsetOutOfRange) ≡ None → first_emit_cause (unless (not b) ScratchConflict) (unless fits OffsetOutOfRange) ≡ None
 of_late true t fits more h = absurd (cc)
 of_late false t true more h = refl
 of_late false t false more h = first_right (unless (not t) ScratchConflict) (Some OffsetOutOfRange) h
 
-bound_true : (D : Declared) (m : MemArg) → bound_cause D m ≡ None → is_bound D m ≡ true
+bound_true : (D : Declared) (m : MemArg) → bound_cause D m ≡ None → is_bound_operand D m ≡ true
 bound_true D (Label target) h = unless_true (nat_lt target.0 D.blocks) UnboundLabel h
 bound_true D (Constant c) h = unless_true (nat_lt c.0 (length D.aligns)) UnboundLabel h
 bound_true D m h = refl
@@ -85,7 +85,7 @@ bound_true D m h = refl
 -- an instruction that isn't refused has an operand without a cause that can stand in it, and general registers
 pub record Passes (D : Declared) (x : MemoryInstruction) : Type 0 where
   pub operand : operand_cause (type_of x.form x.accesses) x.operand ≡ None
-  pub fine : x.fine ≡ true
+  pub operands_valid : x.operands_valid ≡ true
   pub stands : may_stand D x.operand ≡ true
 
 pub passes : (D : Declared) (x : MemoryInstruction) → memory_cause D x ≡ None → Passes D x
@@ -93,15 +93,15 @@ passes D x h =
     let mi = type_of x.form x.accesses in
     let form = unless_true (has_form mi x.operand) BadOperator (first_left _ _ h) in
     let later = first_right (unless (has_form mi x.operand) BadOperator) _ h in
-    let registers = unless_true (x.fine && operand_general x.operand) BadRegister (first_left _ _ later) in
-    let last = first_right (unless (x.fine && operand_general x.operand) BadRegister) (first (late_cause x) (place_cause D x)) later in
-    let late = first_left (late_cause x) (place_cause D x) last in
-    let place = first_right (late_cause x) (place_cause D x) last in
-    let both = and_parts x.fine (operand_general x.operand) registers in
+    let registers = unless_true (x.operands_valid && operand_general x.operand) BadRegister (first_left _ _ later) in
+    let last = first_right (unless (x.operands_valid && operand_general x.operand) BadRegister) (first_emit_cause (late_cause x) (target_cause D x)) later in
+    let late = first_left (late_cause x) (target_cause D x) last in
+    let place = first_right (late_cause x) (target_cause D x) last in
+    let both = and_parts x.operands_valid (operand_general x.operand) registers in
     record {
-      operand = ap (λ t. first (unless t BadOperator) (offset_cause x.operand)) form ∙ of_late (loses_base x.operand) _ (offset_fits x.operand) (addend_fits x.operand) late;
-      fine = both.0;
-      stands = and_from (operand_general x.operand) (is_bound D x.operand) both.1 (bound_true D x.operand (first_left (bound_cause D x.operand) _ place));
+      operand = ap (λ t. first_emit_cause (unless t BadOperator) (offset_cause x.operand)) form ∙ of_late (loses_base x.operand) _ (offset_fits x.operand) (addend_fits x.operand) late;
+      operands_valid = both.0;
+      stands = and_from (operand_general x.operand) (is_bound_operand D x.operand) both.1 (bound_true D x.operand (first_left (bound_cause D x.operand) _ place));
     }
 
 -- ---- what was planned can stand

@@ -1,8 +1,8 @@
 -- How many bytes the parts of an instruction with a memory operand have.
 use Rattle.std.proofs.Common.{◌≡◌, ◌+◌, ◌++◌, Option, ap, arith}
 use Rattle.s390x_base.specs.declared.trap.TrapKind.{TrapKind}
-use Rattle.s390x_steps.specs.Memory.{StorageForm}
-use Rattle.s390x_steps.specs.Parts.{operand_parts, helpers_parts, finalized_parts, parts_size}
+use Rattle.s390x_typed_steps.specs.Memory.{StorageForm}
+use Rattle.s390x_typed_steps.specs.Parts.{operand_parts, helpers_parts, finalized_parts, parts_size}
 use Rattle.s390x_address.specs.Plans.{far_helper, address_helper, finalized_of}
 use Rattle.s390x_address.specs.declared.plan.Plan.{Plan}
 use Rattle.s390x_address.proofs.Lacking.{size_append, helpers_append}

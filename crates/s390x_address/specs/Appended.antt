@@ -1,14 +1,14 @@
 -- What the emission of an instruction with a memory operand does to a buffer.
 use Rattle.std.specs.Prelude.{◌+◌, pos, ◌+ℤ◌, List, [], ◌∷◌, ◌++◌, length}
 use Rattle.s390x_base.specs.declared.ir.Reloc.TheVariants.{S390xPCRel32Dbl}
-use Rattle.s390x_buffer.specs.State.{State, constant_label}
+use Rattle.s390x_buffer.specs.State.{BufferState, constant_label}
 use Rattle.s390x_buffer.specs.declared.label_use.LabelUse.TheVariants.{BranchRIL}
-use Rattle.s390x_steps.specs.MachineInstruction.{bytes_of, ril_b}
-use Rattle.s390x_steps.specs.Parts.{Part, Row, Trapping, Relative, RelativeConstant, RelativeSymbol, TrapHere, ToBlock}
+use Rattle.s390x_typed_steps.specs.MachineInstruction.{bytes_of, ril_b}
+use Rattle.s390x_typed_steps.specs.Parts.{CodePart, Row, Trapping, Relative, RelativeConstant, RelativeSymbol, TrapHere, ToBlock}
 
 -- The buffer with a part behind its bytes: a machine instruction, with the trap that is recorded at one of its bytes, the use of a label that is
 -- patched from its first byte on, or the relocation of its field, two bytes on; or the trap alone. Another part changes nothing here
-abbrev pub with_part : State → Part → State
+abbrev pub with_part : BufferState → CodePart → BufferState
 with_part s (Row m) = record s { bytes = s.bytes ++ bytes_of m }
 with_part s (Trapping m byte code) = record s { bytes = s.bytes ++ bytes_of m; traps = s.traps ++ record { offset = length s.bytes + byte; code = code } ∷ [] }
 with_part s (Relative opcode register (ToBlock b)) =
@@ -21,6 +21,6 @@ with_part s (TrapHere code) = record s { traps = s.traps ++ record { offset = le
 with_part s _ = s
 
 -- the same of parts, in order
-abbrev pub appended : State → List Part → State
+abbrev pub appended : BufferState → List CodePart → BufferState
 appended s [] = s
 appended s (part ∷ parts) = appended (with_part s part) parts

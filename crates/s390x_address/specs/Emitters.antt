@@ -3,17 +3,17 @@ use Rattle.std.specs.Prelude.{ℕ, ℤ, Bool, true, false, cond, not, ◌&&◌, 
 use Rattle.s390x_base.specs.Regs.{number_of}
 use Rattle.s390x_base.specs.declared.regs.Reg.{Reg}
 use Rattle.s390x_base.specs.declared.error.EmitError.{EmitError}
-use Rattle.s390x_buffer.specs.State.{State, mark_cause, put_cause}
+use Rattle.s390x_buffer.specs.State.{BufferState, mark_cause, put_cause}
 use Rattle.s390x_inst.specs.declared.args.MemArg.{MemArg}
-use Rattle.s390x_steps.specs.Causes.{first, declared_in, memory_cause}
-use Rattle.s390x_steps.specs.General.{is_general, low_halfword}
-use Rattle.s390x_steps.specs.Memory.{MemoryInstruction, RxForm, RsForm, SiForm, SilForm, holds_scratch}
-use Rattle.s390x_steps.specs.Operands.{is_numbered}
-use Rattle.s390x_steps.specs.Parts.{memory_parts, parts_size}
+use Rattle.s390x_typed_steps.specs.Causes.{first_emit_cause, declared_in, memory_cause}
+use Rattle.s390x_typed_steps.specs.General.{is_general, low_halfword}
+use Rattle.s390x_typed_steps.specs.Memory.{MemoryInstruction, RxForm, RsForm, SiForm, SilForm, holds_scratch}
+use Rattle.s390x_typed_steps.specs.Operands.{is_numbered}
+use Rattle.s390x_typed_steps.specs.Parts.{memory_parts, parts_size}
 
 -- the buffer's mark, then the causes of the instruction by the buffer's blocks and constants, then its length
-abbrev pub emit_cause : State → MemoryInstruction → Option EmitError
-emit_cause s x = first (mark_cause s) (first (memory_cause (declared_in s) x) (put_cause s (parts_size (memory_parts x))))
+abbrev pub access_cause : BufferState → MemoryInstruction → Option EmitError
+access_cause s x = first_emit_cause (mark_cause s) (first_emit_cause (memory_cause (declared_in s) x) (put_cause s (parts_size (memory_parts x))))
 
 -- the rows of loads and of LOAD ADDRESS, which write their register and don't read it, with displacements of 20 bits
 abbrev pub loads_register : ℕ → Bool
@@ -30,12 +30,12 @@ reads_register (Some opcode) = not (loads_register opcode)
 -- a register and an operand
 abbrev pub one_register : Reg → (rx_opcode rxy_opcode ril_opcode : Option ℕ) → (accesses : Bool) → MemArg → MemoryInstruction
 one_register rd rx_opcode rxy_opcode ril_opcode accesses mem =
-    record { form = RxForm (number_of rd) rx_opcode rxy_opcode ril_opcode; operand = mem; accesses = accesses; fine = is_general rd; reads_scratch = reads_register rxy_opcode && is_numbered 1 rd }
+    record { form = RxForm (number_of rd) rx_opcode rxy_opcode ril_opcode; operand = mem; accesses = accesses; operands_valid = is_general rd; reads_scratch = reads_register rxy_opcode && is_numbered 1 rd }
 
 -- an immediate of 8 bits and an operand
 abbrev pub byte_immediate : (imm si_opcode siy_opcode : ℕ) → (accesses : Bool) → MemArg → MemoryInstruction
 byte_immediate imm si_opcode siy_opcode accesses mem =
-    record { form = SiForm imm si_opcode siy_opcode; operand = mem; accesses = accesses; fine = true; reads_scratch = false }
+    record { form = SiForm imm si_opcode siy_opcode; operand = mem; accesses = accesses; operands_valid = true; reads_scratch = false }
 
 -- what reads %r1 of two registers: a multiple load none, a multiple store the registers from the first to the last, a compare and swap both,
 -- another row that changes memory the second one
@@ -58,9 +58,9 @@ pair_valid rsy_opcode rd rn = is_general rd && is_general rn && (not (is_multipl
 -- two registers and an operand
 abbrev pub two_registers : (rd rn : Reg) → (rs_opcode rsy_opcode : Option ℕ) → (accesses : Bool) → MemArg → MemoryInstruction
 two_registers rd rn rs_opcode rsy_opcode accesses mem =
-    record { form = RsForm (number_of rd) (number_of rn) rs_opcode rsy_opcode; operand = mem; accesses = accesses; fine = pair_valid rsy_opcode rd rn; reads_scratch = reads_registers rsy_opcode rd rn }
+    record { form = RsForm (number_of rd) (number_of rn) rs_opcode rsy_opcode; operand = mem; accesses = accesses; operands_valid = pair_valid rsy_opcode rd rn; reads_scratch = reads_registers rsy_opcode rd rn }
 
 -- an immediate of 16 bits and an operand
 abbrev pub halfword_immediate : (imm : ℤ) → (sil_opcode : ℕ) → (accesses : Bool) → MemArg → MemoryInstruction
 halfword_immediate imm sil_opcode accesses mem =
-    record { form = SilForm (low_halfword imm) sil_opcode; operand = mem; accesses = accesses; fine = true; reads_scratch = false }
+    record { form = SilForm (low_halfword imm) sil_opcode; operand = mem; accesses = accesses; operands_valid = true; reads_scratch = false }

@@ -6,8 +6,8 @@ use Rattle.s390x_inst.specs.declared.args.MemArg.{MemArg}
 use Rattle.s390x_inst.specs.declared.args.MemArg.TheVariants.{Label, Constant}
 use Rattle.s390x_inst.specs.declared.inst.Inst.{Inst}
 use Rattle.s390x_inst.specs.declared.inst.Inst.TheVariants.{Mov64SImm32, LoadAddr}
-use Rattle.s390x_steps.specs.Operands.{Finalized, scratch, loses_base, offset_fits, operand_general}
-use Rattle.s390x_steps.specs.Causes.{Declared, first, unless}
+use Rattle.s390x_typed_steps.specs.Operands.{Finalized, scratch, loses_base, offset_fits, operand_general}
+use Rattle.s390x_typed_steps.specs.Causes.{Declared, first_emit_cause, unless}
 use Rattle.s390x_address.specs.declared.plan.Plan.{Plan}
 
 -- the helper that loads an offset, where there is one
@@ -26,17 +26,17 @@ finalized_of p = record { helpers = far_helper p.far ++ address_helper p.address
 
 -- the causes of an offset: it is loaded over its base, or doesn't fit 32 bits
 abbrev pub offset_cause : MemArg → Option EmitError
-offset_cause m = first (unless (not (loses_base m)) ScratchConflict) (unless (offset_fits m) OffsetOutOfRange)
+offset_cause m = first_emit_cause (unless (not (loses_base m)) ScratchConflict) (unless (offset_fits m) OffsetOutOfRange)
 
 -- the operand's label is a block's, its constant is declared
-abbrev pub is_bound : Declared → MemArg → Bool
-is_bound D (Label target) = nat_lt target.0 D.blocks
-is_bound D (Constant c) = nat_lt c.0 (length D.aligns)
-is_bound D m = true
+abbrev pub is_bound_operand : Declared → MemArg → Bool
+is_bound_operand D (Label target) = nat_lt target.0 D.blocks
+is_bound_operand D (Constant c) = nat_lt c.0 (length D.aligns)
+is_bound_operand D m = true
 
 -- an operand can stand in an instruction: so it is, and its registers are real Int ones
 abbrev pub may_stand : Declared → MemArg → Bool
-may_stand D m = operand_general m && is_bound D m
+may_stand D m = operand_general m && is_bound_operand D m
 
 -- the operand whose address is loaded can, where there is one
 abbrev pub address_stands : Declared → Option MemArg → Bool

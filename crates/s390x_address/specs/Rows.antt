@@ -2,11 +2,11 @@
 use Rattle.std.specs.Prelude.{ℕ, Bool, true, not, ◌&&◌, ◌||◌, nat_lt, Option, Some, None}
 use Rattle.s390x_base.specs.Regs.{number_of}
 use Rattle.s390x_inst.specs.Emission.{Emission}
-use Rattle.s390x_enc.specs.Operands.{is_general, is_first_float, may_stand_first}
-use Rattle.s390x_steps.specs.General.{low_displacement, low_12, low_halfword}
-use Rattle.s390x_steps.specs.MachineInstruction.{MachineInstruction, rx, rxy, rs, rsy, si, siy, sil}
-use Rattle.s390x_steps.specs.Operands.{resolved}
-use Rattle.s390x_steps.specs.Memory.{StorageForm, RxForm, RsForm, SiForm, SilForm, MemoryInstruction}
+use Rattle.s390x_enc.specs.Operands.{is_general_class, is_first_float, may_stand_first}
+use Rattle.s390x_typed_steps.specs.General.{low_displacement, low_12, low_halfword}
+use Rattle.s390x_typed_steps.specs.MachineInstruction.{MachineInstruction, rx, rxy, rs, rsy, si, siy, sil}
+use Rattle.s390x_typed_steps.specs.Operands.{resolved}
+use Rattle.s390x_typed_steps.specs.Memory.{StorageForm, RxForm, RsForm, SiForm, SilForm, MemoryInstruction}
 use Rattle.s390x_address.specs.declared.rows.StorageRow.{StorageRow}
 use Rattle.s390x_address.specs.declared.rows.StorageRow.TheVariants.{Rx, Rxy, Rs, Rsy, Si, Siy, Sil}
 use Rattle.s390x_address.specs.declared.rows.StorageRows.{StorageRows}
@@ -25,30 +25,30 @@ row_of (Sil opcode b1 disp imm) = sil opcode (number_of b1) (low_12 disp) (low_h
 
 -- the registers may stand where the row has them
 abbrev pub row_encodes : StorageRow → Bool
-row_encodes (Rx opcode r1 b2 x2 disp) = may_stand_first opcode r1 && is_general b2 && is_general x2
-row_encodes (Rxy opcode r1 b2 x2 disp) = may_stand_first opcode r1 && is_general b2 && is_general x2
-row_encodes (Rs opcode r1 r3 b2 disp) = is_general r1 && is_general r3 && is_general b2
-row_encodes (Rsy opcode r1 r3 b2 disp) = is_general r1 && is_general r3 && is_general b2
-row_encodes (Si opcode b1 disp imm) = is_general b1
-row_encodes (Siy opcode b1 disp imm) = is_general b1
-row_encodes (Sil opcode b1 disp imm) = is_general b1
+row_encodes (Rx opcode r1 b2 x2 disp) = may_stand_first opcode r1 && is_general_class b2 && is_general_class x2
+row_encodes (Rxy opcode r1 b2 x2 disp) = may_stand_first opcode r1 && is_general_class b2 && is_general_class x2
+row_encodes (Rs opcode r1 r3 b2 disp) = is_general_class r1 && is_general_class r3 && is_general_class b2
+row_encodes (Rsy opcode r1 r3 b2 disp) = is_general_class r1 && is_general_class r3 && is_general_class b2
+row_encodes (Si opcode b1 disp imm) = is_general_class b1
+row_encodes (Siy opcode b1 disp imm) = is_general_class b1
+row_encodes (Sil opcode b1 disp imm) = is_general_class b1
 
 -- the rows by format
-abbrev pub form_of : StorageRows → StorageForm
-form_of (OneRegister register rx_opcode rxy_opcode ril_opcode) = RxForm (number_of register) rx_opcode rxy_opcode ril_opcode
-form_of (TwoRegisters first second rs_opcode rsy_opcode) = RsForm (number_of first) (number_of second) rs_opcode rsy_opcode
-form_of (Byte imm si_opcode siy_opcode) = SiForm imm si_opcode siy_opcode
-form_of (Halfword imm sil_opcode) = SilForm (low_halfword imm) sil_opcode
+abbrev pub storage_form_of : StorageRows → StorageForm
+storage_form_of (OneRegister register rx_opcode rxy_opcode ril_opcode) = RxForm (number_of register) rx_opcode rxy_opcode ril_opcode
+storage_form_of (TwoRegisters first second rs_opcode rsy_opcode) = RsForm (number_of first) (number_of second) rs_opcode rsy_opcode
+storage_form_of (Byte imm si_opcode siy_opcode) = SiForm imm si_opcode siy_opcode
+storage_form_of (Halfword imm sil_opcode) = SilForm (low_halfword imm) sil_opcode
 
 -- the opcode's first register operand is a general one; no opcode has any
-abbrev pub takes_general : Option ℕ → Bool
-takes_general None = true
-takes_general (Some opcode) = not (is_first_float opcode)
+abbrev pub rows_take_general : Option ℕ → Bool
+rows_take_general None = true
+rows_take_general (Some opcode) = not (is_first_float opcode)
 
 -- the registers of the rows, but for the operand's, may stand there
 abbrev pub rows_encode : StorageRows → Bool
-rows_encode (OneRegister register rx_opcode rxy_opcode ril_opcode) = is_general register && takes_general rx_opcode && takes_general rxy_opcode
-rows_encode (TwoRegisters first second rs_opcode rsy_opcode) = is_general first && is_general second
+rows_encode (OneRegister register rx_opcode rxy_opcode ril_opcode) = is_general_class register && rows_take_general rx_opcode && rows_take_general rxy_opcode
+rows_encode (TwoRegisters first second rs_opcode rsy_opcode) = is_general_class first && is_general_class second
 rows_encode (Byte imm si_opcode siy_opcode) = true
 rows_encode (Halfword imm sil_opcode) = true
 
@@ -64,12 +64,12 @@ relative_encodes _ = true
 
 -- its rows can be encoded, where its registers may stand there
 abbrev pub may_encode : MemoryInst → Bool
-may_encode x = relative_encodes x.rows && (not x.fine || rows_encode x.rows)
+may_encode x = relative_encodes x.rows && (not x.operands_valid || rows_encode x.rows)
 
 -- an instruction with a memory operand
-abbrev pub memory_of : MemoryInst → MemoryInstruction
-memory_of x = record { form = form_of x.rows; operand = x.operand; accesses = x.accesses; fine = x.fine; reads_scratch = x.reads_scratch }
+abbrev pub memory_instruction_of : MemoryInst → MemoryInstruction
+memory_instruction_of x = record { form = storage_form_of x.rows; operand = x.operand; accesses = x.accesses; operands_valid = x.operands_valid; reads_scratch = x.reads_scratch }
 
 -- the same without a frame operand
 abbrev pub in_state : Emission → MemoryInstruction → MemoryInstruction
-in_state e x = record { form = x.form; operand = resolved e x.operand; accesses = x.accesses; fine = x.fine; reads_scratch = x.reads_scratch }
+in_state e x = record { form = x.form; operand = resolved e x.operand; accesses = x.accesses; operands_valid = x.operands_valid; reads_scratch = x.reads_scratch }

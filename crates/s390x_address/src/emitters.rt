@@ -1,16 +1,16 @@
 //! The emitters of operands, by the formats of the rows.
-#![tactic(auto, using(s390x_buffer::proofs::Keeping::keeps_on, s390x_buffer::proofs::Keeping::keeps_same))]
+#![tactic(auto, using(s390x_buffer::proofs::Keeping::extends_on, s390x_buffer::proofs::Keeping::extends_same))]
 
 ghost use Rattle.std.specs.Prelude.{◌≡◌, ◌<◌, ◌⊎◌, ◌&&◌, true, None, Some, MatchResult, IfSome, IfErr, IsTrue};
 ghost use Rattle.s390x_base.specs.declared.error.EmitError.TheVariants.{NoMemory};
-ghost use Rattle.s390x_buffer.specs.Keeps.{Keeps};
-ghost use Rattle.s390x_steps.specs.Operands.{is_numbered};
+ghost use Rattle.s390x_buffer.specs.Extends.{Extends};
+ghost use Rattle.s390x_typed_steps.specs.Operands.{is_numbered};
 ghost use Rattle.s390x_base.specs.Regs.{number_of};
-ghost use Rattle.s390x_steps.specs.Memory.{holds_scratch};
-ghost use Rattle.s390x_steps.specs.Parts.{memory_parts};
+ghost use Rattle.s390x_typed_steps.specs.Memory.{holds_scratch};
+ghost use Rattle.s390x_typed_steps.specs.Parts.{memory_parts};
 ghost use Rattle.s390x_address.specs.Appended.{appended};
-ghost use Rattle.s390x_address.specs.Emitters.{emit_cause, loads_register, reads_register, reads_registers, is_multiple, pair_valid, one_register, two_registers, byte_immediate, halfword_immediate};
-ghost use Rattle.s390x_address.specs.Rows.{memory_of, in_state, may_encode, takes_general, has_12_bits};
+ghost use Rattle.s390x_address.specs.Emitters.{access_cause, loads_register, reads_register, reads_registers, is_multiple, pair_valid, one_register, two_registers, byte_immediate, halfword_immediate};
+ghost use Rattle.s390x_address.specs.Rows.{memory_instruction_of, in_state, may_encode, rows_take_general, has_12_bits};
 
 use crate::forms::is_numbered;
 use crate::memory::{MemoryInst, general};
@@ -30,13 +30,13 @@ fn emit_checked(
     state: &EmitState,
 ) -> Result<(), EmitError>
     requires { may_encode found.now ≡ true }
-    ensures answer { MatchResult result (λ _. (emit_cause sink.old (in_state state.now (memory_of found.now)) ≡ None) × (sink.new ≡ appended sink.old (memory_parts (in_state state.now (memory_of found.now))))) (λ e. (e ≡ NoMemory) ⊎ (emit_cause sink.old (in_state state.now (memory_of found.now)) ≡ Some e)) }
-    ensures kept { Keeps sink.old sink.new }
+    ensures answer { MatchResult result (λ _. (access_cause sink.old (in_state state.now (memory_instruction_of found.now)) ≡ None) × (sink.new ≡ appended sink.old (memory_parts (in_state state.now (memory_instruction_of found.now))))) (λ e. (e ≡ NoMemory) ⊎ (access_cause sink.old (in_state state.now (memory_instruction_of found.now)) ≡ Some e)) }
+    ensures kept { Extends sink.old sink.new }
 {
     if sink.is_failed() {
         return Err(EmitError::Failed);
     }
-    if let Some(error) = found.refusal(sink, state) {
+    if let Some(error) = found.cause(sink, state) {
         return Err(error);
     }
     if u64::from(sink.cur_offset()) + found.size(state) >= LIMIT {
@@ -52,9 +52,9 @@ fn emit_marking(
     state: &EmitState,
 ) -> Result<(), EmitError>
     requires { may_encode found.now ≡ true }
-    ensures answer { MatchResult result (λ _. (emit_cause sink.old (in_state state.now (memory_of found.now)) ≡ None) × (sink.new ≡ appended sink.old (memory_parts (in_state state.now (memory_of found.now))))) (λ e. (e ≡ NoMemory) ⊎ (emit_cause sink.old (in_state state.now (memory_of found.now)) ≡ Some e)) }
-    ensures marked { IfErr result (λ _. IsTrue sink.new.failed) }
-    ensures kept { Keeps sink.old sink.new }
+    ensures answer { MatchResult result (λ _. (access_cause sink.old (in_state state.now (memory_instruction_of found.now)) ≡ None) × (sink.new ≡ appended sink.old (memory_parts (in_state state.now (memory_instruction_of found.now))))) (λ e. (e ≡ NoMemory) ⊎ (access_cause sink.old (in_state state.now (memory_instruction_of found.now)) ≡ Some e)) }
+    ensures poisoned { IfErr result (λ _. IsTrue sink.new.failed) }
+    ensures kept { Extends sink.old sink.new }
 {
     match emit_checked(found, sink, state) {
         Ok(()) => Ok(()),
@@ -191,11 +191,11 @@ pub fn mem_emit(
     state: &mut EmitState,
 ) -> Result<(), EmitError>
     requires short { IfSome opcode_rx (λ o. o < 256) }
-    requires integer { (takes_general opcode_rx && takes_general opcode_rxy) ≡ true }
+    requires integer { (rows_take_general opcode_rx && rows_take_general opcode_rxy) ≡ true }
     requires relative { has_12_bits opcode_ril ≡ true }
-    ensures answer { MatchResult result (λ _. (emit_cause sink.old (in_state state.old (one_register rd opcode_rx opcode_rxy opcode_ril add_trap mem.now)) ≡ None) × (sink.new ≡ appended sink.old (memory_parts (in_state state.old (one_register rd opcode_rx opcode_rxy opcode_ril add_trap mem.now))))) (λ e. (e ≡ NoMemory) ⊎ (emit_cause sink.old (in_state state.old (one_register rd opcode_rx opcode_rxy opcode_ril add_trap mem.now)) ≡ Some e)) }
-    ensures marked { IfErr result (λ _. IsTrue sink.new.failed) }
-    ensures kept { Keeps sink.old sink.new }
+    ensures answer { MatchResult result (λ _. (access_cause sink.old (in_state state.old (one_register rd opcode_rx opcode_rxy opcode_ril add_trap mem.now)) ≡ None) × (sink.new ≡ appended sink.old (memory_parts (in_state state.old (one_register rd opcode_rx opcode_rxy opcode_ril add_trap mem.now))))) (λ e. (e ≡ NoMemory) ⊎ (access_cause sink.old (in_state state.old (one_register rd opcode_rx opcode_rxy opcode_ril add_trap mem.now)) ≡ Some e)) }
+    ensures poisoned { IfErr result (λ _. IsTrue sink.new.failed) }
+    ensures kept { Extends sink.old sink.new }
     ensures state { state.new ≡ state.old }
 {
     let found = MemoryInst {
@@ -207,7 +207,7 @@ pub fn mem_emit(
         },
         operand: *mem,
         accesses: add_trap,
-        fine: general(&rd),
+        operands_valid: general(&rd),
         reads_scratch: reads_register(opcode_rxy) && is_scratch(&rd),
     };
     emit_marking(&found, sink, state)
@@ -229,9 +229,9 @@ pub fn mem_rs_emit(
     state: &mut EmitState,
 ) -> Result<(), EmitError>
     requires { IfSome opcode_rs (λ o. o < 256) }
-    ensures answer { MatchResult result (λ _. (emit_cause sink.old (in_state state.old (two_registers rd rn opcode_rs opcode_rsy add_trap mem.now)) ≡ None) × (sink.new ≡ appended sink.old (memory_parts (in_state state.old (two_registers rd rn opcode_rs opcode_rsy add_trap mem.now))))) (λ e. (e ≡ NoMemory) ⊎ (emit_cause sink.old (in_state state.old (two_registers rd rn opcode_rs opcode_rsy add_trap mem.now)) ≡ Some e)) }
-    ensures marked { IfErr result (λ _. IsTrue sink.new.failed) }
-    ensures kept { Keeps sink.old sink.new }
+    ensures answer { MatchResult result (λ _. (access_cause sink.old (in_state state.old (two_registers rd rn opcode_rs opcode_rsy add_trap mem.now)) ≡ None) × (sink.new ≡ appended sink.old (memory_parts (in_state state.old (two_registers rd rn opcode_rs opcode_rsy add_trap mem.now))))) (λ e. (e ≡ NoMemory) ⊎ (access_cause sink.old (in_state state.old (two_registers rd rn opcode_rs opcode_rsy add_trap mem.now)) ≡ Some e)) }
+    ensures poisoned { IfErr result (λ _. IsTrue sink.new.failed) }
+    ensures kept { Extends sink.old sink.new }
     ensures state { state.new ≡ state.old }
 {
     let found = MemoryInst {
@@ -243,7 +243,7 @@ pub fn mem_rs_emit(
         },
         operand: *mem,
         accesses: add_trap,
-        fine: is_valid_pair(opcode_rsy, &rd, &rn),
+        operands_valid: is_valid_pair(opcode_rsy, &rd, &rn),
         reads_scratch: reads_registers(opcode_rsy, &rd, &rn),
     };
     emit_marking(&found, sink, state)
@@ -262,9 +262,9 @@ pub fn mem_imm8_emit(
     state: &mut EmitState,
 ) -> Result<(), EmitError>
     requires { opcode_si < 256 }
-    ensures answer { MatchResult result (λ _. (emit_cause sink.old (in_state state.old (byte_immediate imm opcode_si opcode_siy add_trap mem.now)) ≡ None) × (sink.new ≡ appended sink.old (memory_parts (in_state state.old (byte_immediate imm opcode_si opcode_siy add_trap mem.now))))) (λ e. (e ≡ NoMemory) ⊎ (emit_cause sink.old (in_state state.old (byte_immediate imm opcode_si opcode_siy add_trap mem.now)) ≡ Some e)) }
-    ensures marked { IfErr result (λ _. IsTrue sink.new.failed) }
-    ensures kept { Keeps sink.old sink.new }
+    ensures answer { MatchResult result (λ _. (access_cause sink.old (in_state state.old (byte_immediate imm opcode_si opcode_siy add_trap mem.now)) ≡ None) × (sink.new ≡ appended sink.old (memory_parts (in_state state.old (byte_immediate imm opcode_si opcode_siy add_trap mem.now))))) (λ e. (e ≡ NoMemory) ⊎ (access_cause sink.old (in_state state.old (byte_immediate imm opcode_si opcode_siy add_trap mem.now)) ≡ Some e)) }
+    ensures poisoned { IfErr result (λ _. IsTrue sink.new.failed) }
+    ensures kept { Extends sink.old sink.new }
     ensures state { state.new ≡ state.old }
 {
     let found = MemoryInst {
@@ -275,7 +275,7 @@ pub fn mem_imm8_emit(
         },
         operand: *mem,
         accesses: add_trap,
-        fine: true,
+        operands_valid: true,
         reads_scratch: false,
     };
     emit_marking(&found, sink, state)
@@ -293,9 +293,9 @@ pub fn mem_imm16_emit(
     _emit_info: &EmitInfo,
     state: &mut EmitState,
 ) -> Result<(), EmitError>
-    ensures answer { MatchResult result (λ _. (emit_cause sink.old (in_state state.old (halfword_immediate imm opcode_sil add_trap mem.now)) ≡ None) × (sink.new ≡ appended sink.old (memory_parts (in_state state.old (halfword_immediate imm opcode_sil add_trap mem.now))))) (λ e. (e ≡ NoMemory) ⊎ (emit_cause sink.old (in_state state.old (halfword_immediate imm opcode_sil add_trap mem.now)) ≡ Some e)) }
-    ensures marked { IfErr result (λ _. IsTrue sink.new.failed) }
-    ensures kept { Keeps sink.old sink.new }
+    ensures answer { MatchResult result (λ _. (access_cause sink.old (in_state state.old (halfword_immediate imm opcode_sil add_trap mem.now)) ≡ None) × (sink.new ≡ appended sink.old (memory_parts (in_state state.old (halfword_immediate imm opcode_sil add_trap mem.now))))) (λ e. (e ≡ NoMemory) ⊎ (access_cause sink.old (in_state state.old (halfword_immediate imm opcode_sil add_trap mem.now)) ≡ Some e)) }
+    ensures poisoned { IfErr result (λ _. IsTrue sink.new.failed) }
+    ensures kept { Extends sink.old sink.new }
     ensures state { state.new ≡ state.old }
 {
     let found = MemoryInst {
@@ -305,7 +305,7 @@ pub fn mem_imm16_emit(
         },
         operand: *mem,
         accesses: add_trap,
-        fine: true,
+        operands_valid: true,
         reads_scratch: false,
     };
     emit_marking(&found, sink, state)

@@ -1,14 +1,14 @@
 //! Finalizing an operand.
 ghost use Rattle.std.specs.Prelude.{◌≡◌, ◌++◌, None, Some, MatchResult};
 ghost use Rattle.smallvec.specs.SmallVec.{HasRoomFor};
-ghost use Rattle.s390x_steps.specs.Operands.{resolved, finalized};
-ghost use Rattle.s390x_steps.specs.Causes.{operand_cause};
+ghost use Rattle.s390x_typed_steps.specs.Operands.{resolved, finalized};
+ghost use Rattle.s390x_typed_steps.specs.Causes.{operand_cause};
 ghost use Rattle.s390x_address.specs.Plans.{far_helper, address_helper};
 
 use crate::plan::plan_operand;
 use s390x_base::{EmitError, writable_spilltmp_reg};
 use s390x_inst::{EmitState, Inst, MemArg};
-use s390x_steps::MemInstType;
+use s390x_typed_steps::MemInstType;
 use smallvec::SmallVec;
 use std::alloc::Global;
 

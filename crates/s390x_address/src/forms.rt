@@ -1,10 +1,10 @@
 //! What the machine rows of an instruction take as an operand.
 ghost use Rattle.std.specs.Prelude.{◌≡◌, ◌&&◌, not};
-ghost use Rattle.s390x_steps.specs.Operands.{is_numbered, needs_address, is_relative, has_form, widened};
+ghost use Rattle.s390x_typed_steps.specs.Operands.{is_numbered, needs_address, is_relative, has_form, widened};
 
 use s390x_base::{Reg, RegClass, SImm20};
 use s390x_inst::MemArg;
-use s390x_steps::MemInstType;
+use s390x_typed_steps::MemInstType;
 
 /// Whether it is the real general register of a number.
 pub fn is_numbered(number: u8, r: &Reg) -> bool

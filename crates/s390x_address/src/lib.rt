@@ -11,4 +11,4 @@ pub mod rows;
 
 pub use emitters::{mem_emit, mem_imm8_emit, mem_imm16_emit, mem_rs_emit};
 pub use finalize::mem_finalize;
-pub use s390x_steps::MemInstType;
+pub use s390x_typed_steps::MemInstType;

@@ -1,31 +1,31 @@
 //! Instructions with a memory operand: why one is refused, and its emission.
-#![tactic(auto, using(s390x_buffer::proofs::Keeping::keeps_on, s390x_buffer::proofs::Keeping::keeps_same))]
+#![tactic(auto, using(s390x_buffer::proofs::Keeping::extends_on, s390x_buffer::proofs::Keeping::extends_same))]
 
 ghost use Rattle.std.specs.Prelude.{◌≡◌, ◌≤◌, ◌+◌, [], ◌∷◌, ◌++◌, ◌&&◌, not, true, None, Some, Option, length, OnOk, IfErr};
 ghost use Rattle.s390x_base.specs.declared.error.EmitError.TheVariants.{NoMemory, ScratchConflict, OffsetOutOfRange};
 ghost use Rattle.s390x_base.specs.declared.trap.TrapKind.{TrapKind};
-ghost use Rattle.s390x_buffer.specs.Keeps.{Keeps};
+ghost use Rattle.s390x_buffer.specs.Extends.{Extends};
 ghost use Rattle.s390x_buffer.specs.State.{put_cause};
 ghost use Rattle.std.specs.Option.{option_map};
-ghost use Rattle.s390x_steps.specs.Causes.{Declared, first, unless, declared_in, memory_cause, late_cause, place_cause, boundary};
-ghost use Rattle.s390x_steps.specs.General.{is_general, low_word};
-ghost use Rattle.s390x_steps.specs.MachineInstruction.{size_of};
-ghost use Rattle.s390x_steps.specs.Memory.{type_of, storage_row, fault_code, address_form};
-ghost use Rattle.s390x_steps.specs.Operands.{has_form, operand_general, scratch};
-ghost use Rattle.s390x_steps.specs.Parts.{access_parts, operand_parts, helpers_parts, finalized_parts, memory_parts, parts_size};
+ghost use Rattle.s390x_typed_steps.specs.Causes.{Declared, first_emit_cause, unless, declared_in, memory_cause, late_cause, target_cause, boundary};
+ghost use Rattle.s390x_typed_steps.specs.General.{is_general, low_word};
+ghost use Rattle.s390x_typed_steps.specs.MachineInstruction.{size_of};
+ghost use Rattle.s390x_typed_steps.specs.Memory.{type_of, storage_row, fault_code, address_form};
+ghost use Rattle.s390x_typed_steps.specs.Operands.{has_form, operand_general, scratch};
+ghost use Rattle.s390x_typed_steps.specs.Parts.{access_parts, operand_parts, helpers_parts, finalized_parts, memory_parts, parts_size};
 ghost use Rattle.s390x_address.specs.Appended.{appended};
 ghost use Rattle.s390x_address.specs.Plans.{far_helper, address_helper, finalized_of, may_stand, address_stands, plan_stands};
-ghost use Rattle.s390x_address.specs.Rows.{row_of, row_encodes, form_of, relative_encodes, rows_encode, may_encode, memory_of, in_state};
+ghost use Rattle.s390x_address.specs.Rows.{row_of, row_encodes, storage_form_of, relative_encodes, rows_encode, may_encode, memory_instruction_of, in_state};
 
 use crate::forms::{has_form, is_relative, needs_address};
 use crate::plan::{Plan, plan_operand};
-use crate::relative::{addend_fits, place_refusal, put_relative, relative_bytes, relative_size};
+use crate::relative::{addend_fits, put_relative, relative_bytes, relative_size, target_cause};
 use crate::rows::{StorageRow, StorageRows};
 use s390x_base::{Code, EmitError, Reg, RegClass, TrapCode, spilltmp_reg};
 use s390x_buffer::MachBuffer;
 use s390x_enc::enc_ril_a;
 use s390x_inst::{EmitState, MemArg};
-use s390x_steps::MemInstType;
+use s390x_typed_steps::MemInstType;
 
 /// An instruction with a memory operand: its machine rows, and the registers that it names.
 #[derive(Clone, Copy)]
@@ -35,7 +35,7 @@ pub struct MemoryInst {
     /// Whether it accesses memory; else it loads an address.
     pub accesses: bool,
     /// Whether its registers, but for the operand's, may stand there.
-    pub fine: bool,
+    pub operands_valid: bool,
     /// Whether it reads `%r1`, which helpers write.
     pub reads_scratch: bool,
 }
@@ -67,7 +67,7 @@ fn is_general_operand(mem: &MemArg) -> bool
 fn put_trapping(sink: &mut MachBuffer, code: &Code, trap_code: TrapCode) -> Result<(), EmitError>
     ensures answer { OnOk result (sink.new ≡ record sink.old { bytes = sink.old.bytes ++ code.now; traps = sink.old.traps ++ record { offset = length sink.old.bytes; code = trap_code } ∷ [] }) }
     ensures lacks { put_cause sink.old (length code.now) ≡ None → IfErr result (λ e. e ≡ NoMemory) }
-    ensures kept { Keeps sink.old sink.new }
+    ensures kept { Extends sink.old sink.new }
 {
     sink.add_trap(trap_code)?;
     sink.put_code(code)
@@ -77,7 +77,7 @@ fn put_trapping(sink: &mut MachBuffer, code: &Code, trap_code: TrapCode) -> Resu
 fn put_far(sink: &mut MachBuffer, far: Option<i32>) -> Result<(), EmitError>
     ensures answer { OnOk result (sink.new ≡ appended sink.old (helpers_parts (far_helper far))) }
     ensures lacks { put_cause sink.old (parts_size (helpers_parts (far_helper far))) ≡ None → IfErr result (λ e. e ≡ NoMemory) }
-    ensures kept { Keeps sink.old sink.new }
+    ensures kept { Extends sink.old sink.new }
 {
     match far {
         Some(off) => put_offset(sink, off),
@@ -95,7 +95,7 @@ fn bits_of_word(off: i32) -> u32
 fn put_offset(sink: &mut MachBuffer, off: i32) -> Result<(), EmitError>
     ensures answer { OnOk result (sink.new ≡ appended sink.old (helpers_parts (far_helper (Some off)))) }
     ensures lacks { put_cause sink.old 6 ≡ None → IfErr result (λ e. e ≡ NoMemory) }
-    ensures kept { Keeps sink.old sink.new }
+    ensures kept { Extends sink.old sink.new }
 {
     let code = enc_ril_a(0xc01, spilltmp_reg(), bits_of_word(off))?;
     sink.put_code(&code)
@@ -108,9 +108,9 @@ fn put_access(
     operand: &MemArg,
     trap_code: Option<TrapCode>,
 ) -> Result<(), EmitError>
-    ensures answer { OnOk result (sink.new ≡ appended sink.old (access_parts (storage_row (form_of rows.now) operand.now) trap_code)) }
-    ensures lacks { put_cause sink.old (parts_size (access_parts (storage_row (form_of rows.now) operand.now) trap_code)) ≡ None → rows_encode rows.now ≡ true → operand_general operand.now ≡ true → IfErr result (λ e. e ≡ NoMemory) }
-    ensures kept { Keeps sink.old sink.new }
+    ensures answer { OnOk result (sink.new ≡ appended sink.old (access_parts (storage_row (storage_form_of rows.now) operand.now) trap_code)) }
+    ensures lacks { put_cause sink.old (parts_size (access_parts (storage_row (storage_form_of rows.now) operand.now) trap_code)) ≡ None → rows_encode rows.now ≡ true → operand_general operand.now ≡ true → IfErr result (λ e. e ≡ NoMemory) }
+    ensures kept { Extends sink.old sink.new }
 {
     match rows.row(operand) {
         Some(row) => put_storage_row(sink, &row, trap_code),
@@ -125,7 +125,7 @@ fn put_storage_row(
 ) -> Result<(), EmitError>
     ensures answer { OnOk result (sink.new ≡ appended sink.old (access_parts (Some (row_of row.now)) trap_code)) }
     ensures lacks { put_cause sink.old (size_of (row_of row.now)) ≡ None → row_encodes row.now ≡ true → IfErr result (λ e. e ≡ NoMemory) }
-    ensures kept { Keeps sink.old sink.new }
+    ensures kept { Extends sink.old sink.new }
 {
     let code = row.code()?;
     match trap_code {
@@ -142,9 +142,9 @@ fn put_operand(
     trap_code: Option<TrapCode>,
 ) -> Result<(), EmitError>
     requires { relative_encodes rows.now ≡ true }
-    ensures answer { OnOk result (sink.new ≡ appended sink.old (operand_parts (form_of rows.now) trap_code operand.now)) }
-    ensures lacks { put_cause sink.old (parts_size (operand_parts (form_of rows.now) trap_code operand.now)) ≡ None → rows_encode rows.now ≡ true → may_stand (declared_in sink.old) operand.now ≡ true → IfErr result (λ e. e ≡ NoMemory) }
-    ensures kept { Keeps sink.old sink.new }
+    ensures answer { OnOk result (sink.new ≡ appended sink.old (operand_parts (storage_form_of rows.now) trap_code operand.now)) }
+    ensures lacks { put_cause sink.old (parts_size (operand_parts (storage_form_of rows.now) trap_code operand.now)) ≡ None → rows_encode rows.now ≡ true → may_stand (declared_in sink.old) operand.now ≡ true → IfErr result (λ e. e ≡ NoMemory) }
+    ensures kept { Extends sink.old sink.new }
 {
     if is_relative(operand) {
         put_relative(sink, rows, operand, trap_code)
@@ -157,7 +157,7 @@ fn put_operand(
 fn put_address(sink: &mut MachBuffer, address: Option<MemArg>) -> Result<(), EmitError>
     ensures answer { OnOk result (sink.new ≡ appended sink.old (helpers_parts (address_helper address))) }
     ensures lacks { put_cause sink.old (parts_size (helpers_parts (address_helper address))) ≡ None → address_stands (declared_in sink.old) address ≡ true → IfErr result (λ e. e ≡ NoMemory) }
-    ensures kept { Keeps sink.old sink.new }
+    ensures kept { Extends sink.old sink.new }
 {
     match address {
         Some(mem) => put_operand(sink, &address_rows(), &mem, None),
@@ -167,7 +167,7 @@ fn put_address(sink: &mut MachBuffer, address: Option<MemArg>) -> Result<(), Emi
 
 // The rows of LOAD ADDRESS into `%r1`.
 fn address_rows() -> StorageRows
-    ensures form { form_of result ≡ address_form scratch }
+    ensures form { storage_form_of result ≡ address_form scratch }
     ensures encodes { rows_encode result ≡ true }
     ensures relative { relative_encodes result ≡ true }
 {
@@ -187,9 +187,9 @@ fn put_plan(
     trap_code: Option<TrapCode>,
 ) -> Result<(), EmitError>
     requires { relative_encodes rows.now ≡ true }
-    ensures answer { OnOk result (sink.new ≡ appended sink.old (finalized_parts (form_of rows.now) trap_code (finalized_of plan.now))) }
-    ensures lacks { put_cause sink.old (parts_size (finalized_parts (form_of rows.now) trap_code (finalized_of plan.now))) ≡ None → rows_encode rows.now ≡ true → plan_stands (declared_in sink.old) plan.now ≡ true → IfErr result (λ e. e ≡ NoMemory) }
-    ensures kept { Keeps sink.old sink.new }
+    ensures answer { OnOk result (sink.new ≡ appended sink.old (finalized_parts (storage_form_of rows.now) trap_code (finalized_of plan.now))) }
+    ensures lacks { put_cause sink.old (parts_size (finalized_parts (storage_form_of rows.now) trap_code (finalized_of plan.now))) ≡ None → rows_encode rows.now ≡ true → plan_stands (declared_in sink.old) plan.now ≡ true → IfErr result (λ e. e ≡ NoMemory) }
+    ensures kept { Extends sink.old sink.new }
 {
     put_far(sink, plan.far)?;
     put_address(sink, plan.address)?;
@@ -209,7 +209,7 @@ fn row_size(row: Option<StorageRow>) -> u64
 
 // How many bytes the access has of an operand that stands in it as it is.
 fn operand_size(rows: &StorageRows, operand: &MemArg) -> u64
-    ensures value { (code : Option TrapKind) → result ≡ parts_size (operand_parts (form_of rows.now) code operand.now) }
+    ensures value { (code : Option TrapKind) → result ≡ parts_size (operand_parts (storage_form_of rows.now) code operand.now) }
     ensures few { result ≤ 6 }
 {
     if is_relative(operand) {
@@ -242,8 +242,8 @@ fn address_size(address: Option<MemArg>) -> u64
 }
 
 // `%r1` can't be read behind a helper; an addend has to fit 32 bits.
-fn helped_refusal(reads: bool, helped: bool, fits: bool) -> Option<EmitError>
-    ensures { result ≡ first (unless (not (reads && helped)) ScratchConflict) (unless fits OffsetOutOfRange) }
+fn helped_cause(reads: bool, helped: bool, fits: bool) -> Option<EmitError>
+    ensures { result ≡ first_emit_cause (unless (not (reads && helped)) ScratchConflict) (unless fits OffsetOutOfRange) }
 {
     if reads && helped {
         Some(EmitError::ScratchConflict)
@@ -257,14 +257,14 @@ fn helped_refusal(reads: bool, helped: bool, fits: bool) -> Option<EmitError>
 impl MemoryInst {
     // Which forms of an operand its rows take.
     fn forms(&self) -> MemInstType
-        ensures { result ≡ type_of (form_of self.now.rows) self.now.accesses }
+        ensures { result ≡ type_of (storage_form_of self.now.rows) self.now.accesses }
     {
         self.rows.forms(self.accesses)
     }
 
     // The code of its access's faults, where they have one.
     fn fault_code(&self) -> Option<TrapCode>
-        ensures { result ≡ fault_code (memory_of self.now) }
+        ensures { result ≡ fault_code (memory_instruction_of self.now) }
     {
         if self.accesses {
             self.operand.get_flags().trap_code()
@@ -274,12 +274,12 @@ impl MemoryInst {
     }
 
     // The cause of an operand that has a form, whose registers are general ones.
-    fn late_refusal(&self, state: &EmitState) -> Option<EmitError>
-        requires { has_form (type_of (form_of self.now.rows) self.now.accesses) self.now.operand ≡ true }
-        ensures { result ≡ late_cause (in_state state.now (memory_of self.now)) }
+    fn late_cause(&self, state: &EmitState) -> Option<EmitError>
+        requires { has_form (type_of (storage_form_of self.now.rows) self.now.accesses) self.now.operand ≡ true }
+        ensures { result ≡ late_cause (in_state state.now (memory_instruction_of self.now)) }
     {
         match plan_operand(&self.operand, state, self.forms()) {
-            Ok(plan) => helped_refusal(
+            Ok(plan) => helped_cause(
                 self.reads_scratch,
                 plan.is_helped(),
                 addend_fits(&self.operand),
@@ -290,7 +290,7 @@ impl MemoryInst {
 
     // The boundary on which an operand has to stand that is relative to its access; 1 for another one.
     fn boundary(&self) -> u32
-        ensures { result ≡ boundary (memory_of self.now) }
+        ensures { result ≡ boundary (memory_instruction_of self.now) }
     {
         match self.rows {
             StorageRows::OneRegister {
@@ -311,13 +311,13 @@ impl MemoryInst {
     }
 
     // The causes behind those of the rows and the registers.
-    fn last_refusal(&self, sink: &MachBuffer, state: &EmitState) -> Option<EmitError>
-        requires { has_form (type_of (form_of self.now.rows) self.now.accesses) self.now.operand ≡ true }
-        ensures { result ≡ first (late_cause (in_state state.now (memory_of self.now))) (place_cause (declared_in sink.now) (in_state state.now (memory_of self.now))) }
+    fn last_cause(&self, sink: &MachBuffer, state: &EmitState) -> Option<EmitError>
+        requires { has_form (type_of (storage_form_of self.now.rows) self.now.accesses) self.now.operand ≡ true }
+        ensures { result ≡ first_emit_cause (late_cause (in_state state.now (memory_instruction_of self.now))) (target_cause (declared_in sink.now) (in_state state.now (memory_instruction_of self.now))) }
     {
-        match self.late_refusal(state) {
+        match self.late_cause(state) {
             Some(error) => Some(error),
-            None => place_refusal(sink, &self.operand, self.boundary()),
+            None => target_cause(sink, &self.operand, self.boundary()),
         }
     }
 
@@ -326,21 +326,21 @@ impl MemoryInst {
     /// 32 bits (`OffsetOutOfRange`), a label names no block or a constant isn't declared (`UnboundLabel`), or it doesn't tell by its alignment that
     /// it stands where an access relative to the instruction needs it: such an access of a label has at most two bytes, one of a constant at most
     /// its alignment (`BadAlignment`).
-    pub fn refusal(&self, sink: &MachBuffer, state: &EmitState) -> Option<EmitError>
-        ensures { result ≡ memory_cause (declared_in sink.now) (in_state state.now (memory_of self.now)) }
+    pub fn cause(&self, sink: &MachBuffer, state: &EmitState) -> Option<EmitError>
+        ensures { result ≡ memory_cause (declared_in sink.now) (in_state state.now (memory_instruction_of self.now)) }
     {
         if !has_form(self.forms(), &self.operand) {
             Some(EmitError::BadOperator)
-        } else if !(self.fine && is_general_operand(&self.operand)) {
+        } else if !(self.operands_valid && is_general_operand(&self.operand)) {
             Some(EmitError::BadRegister)
         } else {
-            self.last_refusal(sink, state)
+            self.last_cause(sink, state)
         }
     }
 
     /// How many bytes it has with its helpers, where no cause refuses it.
     pub fn size(&self, state: &EmitState) -> u64
-        ensures value { (D : Declared) → memory_cause D (in_state state.now (memory_of self.now)) ≡ None → result ≡ parts_size (memory_parts (in_state state.now (memory_of self.now))) }
+        ensures value { (D : Declared) → memory_cause D (in_state state.now (memory_instruction_of self.now)) ≡ None → result ≡ parts_size (memory_parts (in_state state.now (memory_instruction_of self.now))) }
         ensures few { result ≤ 18 }
     {
         match plan_operand(&self.operand, state, self.forms()) {
@@ -354,12 +354,12 @@ impl MemoryInst {
     }
 
     /// Appends the helpers, and then the access with the trap of its faults. It answers want of memory, or the buffer's refusal, or a cause of
-    /// `refusal`.
+    /// `cause`.
     pub fn emit(&self, sink: &mut MachBuffer, state: &EmitState) -> Result<(), EmitError>
         requires { may_encode self.now ≡ true }
-        ensures answer { OnOk result (sink.new ≡ appended sink.old (memory_parts (in_state state.now (memory_of self.now)))) }
-        ensures lacks { put_cause sink.old (parts_size (memory_parts (in_state state.now (memory_of self.now)))) ≡ None → memory_cause (declared_in sink.old) (in_state state.now (memory_of self.now)) ≡ None → IfErr result (λ e. e ≡ NoMemory) }
-        ensures kept { Keeps sink.old sink.new }
+        ensures answer { OnOk result (sink.new ≡ appended sink.old (memory_parts (in_state state.now (memory_instruction_of self.now)))) }
+        ensures lacks { put_cause sink.old (parts_size (memory_parts (in_state state.now (memory_instruction_of self.now)))) ≡ None → memory_cause (declared_in sink.old) (in_state state.now (memory_instruction_of self.now)) ≡ None → IfErr result (λ e. e ≡ NoMemory) }
+        ensures kept { Extends sink.old sink.new }
     {
         match plan_operand(&self.operand, state, self.forms()) {
             Ok(plan) => put_plan(sink, &self.rows, &plan, self.fault_code()),

@@ -4,14 +4,14 @@ ghost use Rattle.s390x_base.specs.declared.error.EmitError.TheVariants.{ScratchC
 ghost use Rattle.s390x_inst.specs.Memory.{trusted};
 ghost use Rattle.s390x_inst.specs.declared.args.MemArg.TheVariants.{RegOffset, BXD12};
 ghost use Rattle.s390x_inst.specs.declared.inst.Inst.TheVariants.{Mov64SImm32};
-ghost use Rattle.s390x_steps.specs.Operands.{is_numbered, scratch, stack_pointer, frame_size, in_frame, resolved, fits_12, fits_20, fits_32, with_offset, displaced, addressed, with_widened, finalized};
-ghost use Rattle.s390x_steps.specs.Causes.{operand_cause, is_helped};
+ghost use Rattle.s390x_typed_steps.specs.Operands.{is_numbered, scratch, stack_pointer, frame_size, in_frame, resolved, fits_12, fits_20, fits_32, with_offset, displaced, addressed, with_widened, finalized};
+ghost use Rattle.s390x_typed_steps.specs.Causes.{operand_cause, is_helped};
 ghost use Rattle.s390x_address.specs.Plans.{finalized_of, offset_cause};
 
 use crate::forms::{has_form, is_numbered, needs_address, widen};
 use s390x_base::{EmitError, MachMemFlags, Reg, SImm20, UImm12, spilltmp_reg, stack_reg, zero_reg};
 use s390x_inst::{EmitState, MachInstEmitState, MemArg, REG_SAVE_AREA_SIZE};
-use s390x_steps::MemInstType;
+use s390x_typed_steps::MemInstType;
 
 /// The helpers before an access, each of which writes `%r1` alone, and the operand of the access.
 #[derive(Clone, Copy)]

@@ -1,22 +1,22 @@
 //! Operands that are relative to the instruction: why one is refused for the place that it names, and its access.
-#![tactic(auto, using(s390x_buffer::proofs::Keeping::keeps_on, s390x_buffer::proofs::Keeping::keeps_same))]
+#![tactic(auto, using(s390x_buffer::proofs::Keeping::extends_on, s390x_buffer::proofs::Keeping::extends_same))]
 
 ghost use Rattle.std.specs.Prelude.{◌≡◌, ℕ, ◌+◌, ◌≤◌, ◌<◌, [], ◌∷◌, ◌++◌, true, None, Some, Option, length, nat_le, OnOk, IfErr};
 ghost use Rattle.s390x_base.specs.Regs.{number_of};
 ghost use Rattle.s390x_base.specs.declared.error.EmitError.TheVariants.{NoMemory, BadAlignment};
 ghost use Rattle.s390x_base.specs.declared.trap.TrapKind.{TrapKind};
-ghost use Rattle.s390x_buffer.specs.Keeps.{Keeps};
+ghost use Rattle.s390x_buffer.specs.Extends.{Extends};
 ghost use Rattle.s390x_buffer.specs.State.{put_cause};
 ghost use Rattle.s390x_buffer.specs.declared.label_use.LabelUse.TheVariants.{BranchRIL};
-ghost use Rattle.s390x_enc.specs.Operands.{is_general};
+ghost use Rattle.s390x_enc.specs.Operands.{is_general_class};
 ghost use Rattle.s390x_inst.specs.declared.args.MemArg.TheVariants.{Constant};
-ghost use Rattle.s390x_steps.specs.Causes.{first, unless, declared_in, label_cause, bound_cause, alignment_cause, addend_fits};
-ghost use Rattle.s390x_steps.specs.Memory.{RxForm};
-ghost use Rattle.s390x_steps.specs.Parts.{Relative, RelativeConstant, RelativeSymbol, ToBlock, trap_here, relative_part, relative_parts, parts_size};
-ghost use Rattle.s390x_steps.specs.Storage.{relative_bytes};
+ghost use Rattle.s390x_typed_steps.specs.Causes.{first_emit_cause, unless, declared_in, target_label_cause, bound_cause, alignment_cause, addend_fits};
+ghost use Rattle.s390x_typed_steps.specs.Memory.{RxForm};
+ghost use Rattle.s390x_typed_steps.specs.Parts.{Relative, RelativeConstant, RelativeSymbol, ToBlock, trap_here, relative_part, relative_parts, parts_size};
+ghost use Rattle.s390x_typed_steps.specs.Storage.{relative_bytes};
 ghost use Rattle.s390x_address.specs.Appended.{with_part, appended};
-ghost use Rattle.s390x_address.specs.Plans.{is_bound};
-ghost use Rattle.s390x_address.specs.Rows.{form_of, relative_encodes, rows_encode};
+ghost use Rattle.s390x_address.specs.Plans.{is_bound_operand};
+ghost use Rattle.s390x_address.specs.Rows.{storage_form_of, relative_encodes, rows_encode};
 
 use crate::rows::StorageRows;
 use s390x_base::{Code, EmitError, ExternalName, MachLabel, Reg, Reloc, TrapCode, VCodeConstant};
@@ -47,8 +47,8 @@ pub fn relative_bytes(opcode: u16) -> u32
 }
 
 // A label that names no block, or that would have to stand on a greater boundary than an even place.
-fn label_refusal(sink: &MachBuffer, target: MachLabel, boundary: u32) -> Option<EmitError>
-    ensures { result ≡ first (label_cause sink.now.block_count target) (unless (nat_le boundary 2) BadAlignment) }
+fn label_cause(sink: &MachBuffer, target: MachLabel, boundary: u32) -> Option<EmitError>
+    ensures { result ≡ first_emit_cause (target_label_cause sink.now.block_count target) (unless (nat_le boundary 2) BadAlignment) }
 {
     if target.0 >= sink.block_count() {
         Some(EmitError::UnboundLabel)
@@ -60,8 +60,8 @@ fn label_refusal(sink: &MachBuffer, target: MachLabel, boundary: u32) -> Option<
 }
 
 // A constant that isn't declared, or not on this boundary.
-fn constant_refusal(sink: &MachBuffer, constant: VCodeConstant, boundary: u32) -> Option<EmitError>
-    ensures { result ≡ first (bound_cause (declared_in sink.now) (Constant constant)) (alignment_cause (declared_in sink.now) boundary (Constant constant)) }
+fn constant_cause(sink: &MachBuffer, constant: VCodeConstant, boundary: u32) -> Option<EmitError>
+    ensures { result ≡ first_emit_cause (bound_cause (declared_in sink.now) (Constant constant)) (alignment_cause (declared_in sink.now) boundary (Constant constant)) }
 {
     match sink.constant_align(constant) {
         Some(align) => {
@@ -77,12 +77,12 @@ fn constant_refusal(sink: &MachBuffer, constant: VCodeConstant, boundary: u32) -
 
 /// The first cause of the place that an operand names, which has to stand on a boundary: a label names no block or a constant isn't declared
 /// (`UnboundLabel`), nothing tells that it stands there (`BadAlignment`).
-pub fn place_refusal(sink: &MachBuffer, operand: &MemArg, boundary: u32) -> Option<EmitError>
-    ensures { result ≡ first (bound_cause (declared_in sink.now) operand.now) (alignment_cause (declared_in sink.now) boundary operand.now) }
+pub fn target_cause(sink: &MachBuffer, operand: &MemArg, boundary: u32) -> Option<EmitError>
+    ensures { result ≡ first_emit_cause (bound_cause (declared_in sink.now) operand.now) (alignment_cause (declared_in sink.now) boundary operand.now) }
 {
     match operand {
-        MemArg::Label { target } => label_refusal(sink, *target, boundary),
-        MemArg::Constant { constant } => constant_refusal(sink, *constant, boundary),
+        MemArg::Label { target } => label_cause(sink, *target, boundary),
+        MemArg::Constant { constant } => constant_cause(sink, *constant, boundary),
         _ => None,
     }
 }
@@ -101,7 +101,7 @@ pub fn addend_fits(operand: &MemArg) -> bool
 pub fn put_trap(sink: &mut MachBuffer, trap_code: Option<TrapCode>) -> Result<(), EmitError>
     ensures answer { OnOk result (sink.new ≡ appended sink.old (trap_here trap_code)) }
     ensures lacks { put_cause sink.old 0 ≡ None → IfErr result (λ e. e ≡ NoMemory) }
-    ensures kept { Keeps sink.old sink.new }
+    ensures kept { Extends sink.old sink.new }
 {
     match trap_code {
         Some(code) => sink.add_trap(code),
@@ -113,7 +113,7 @@ pub fn put_trap(sink: &mut MachBuffer, trap_code: Option<TrapCode>) -> Result<()
 fn put_linked(sink: &mut MachBuffer, code: &Code, label: MachLabel) -> Result<(), EmitError>
     ensures answer { OnOk result (sink.new ≡ record sink.old { bytes = sink.old.bytes ++ code.now; uses = sink.old.uses ++ record { kind = BranchRIL; offset = length sink.old.bytes; label = label } ∷ [] }) }
     ensures lacks { put_cause sink.old (length code.now) ≡ None → label.0 < length sink.old.labels → IfErr result (λ e. e ≡ NoMemory) }
-    ensures kept { Keeps sink.old sink.new }
+    ensures kept { Extends sink.old sink.new }
 {
     let offset = sink.cur_offset();
     sink.use_label_at_offset(offset, label, LabelUse::BranchRIL)?;
@@ -129,8 +129,8 @@ fn put_to_label(
 ) -> Result<(), EmitError>
     requires { opcode < 4096 }
     ensures answer { OnOk result (sink.new ≡ with_part sink.old (Relative opcode (number_of register) (ToBlock label.0))) }
-    ensures lacks { put_cause sink.old 6 ≡ None → is_general register ≡ true → label.0 < length sink.old.labels → IfErr result (λ e. e ≡ NoMemory) }
-    ensures kept { Keeps sink.old sink.new }
+    ensures lacks { put_cause sink.old 6 ≡ None → is_general_class register ≡ true → label.0 < length sink.old.labels → IfErr result (λ e. e ≡ NoMemory) }
+    ensures kept { Extends sink.old sink.new }
 {
     let code = enc_ril_b(opcode, register, 0)?;
     put_linked(sink, &code, label)
@@ -145,8 +145,8 @@ fn put_to_constant(
 ) -> Result<(), EmitError>
     requires { opcode < 4096 }
     ensures answer { OnOk result (sink.new ≡ with_part sink.old (RelativeConstant opcode (number_of register) constant.0)) }
-    ensures lacks { put_cause sink.old 6 ≡ None → is_general register ≡ true → constant.0 < length sink.old.constants → sink.old.block_count + length sink.old.constants ≤ length sink.old.labels → IfErr result (λ e. e ≡ NoMemory) }
-    ensures kept { Keeps sink.old sink.new }
+    ensures lacks { put_cause sink.old 6 ≡ None → is_general_class register ≡ true → constant.0 < length sink.old.constants → sink.old.block_count + length sink.old.constants ≤ length sink.old.labels → IfErr result (λ e. e ≡ NoMemory) }
+    ensures kept { Extends sink.old sink.new }
 {
     let label = sink.get_label_for_constant(constant)?;
     put_to_label(sink, opcode, register, label)
@@ -162,8 +162,8 @@ fn put_to_symbol(
 ) -> Result<(), EmitError>
     requires { opcode < 4096 }
     ensures answer { OnOk result (sink.new ≡ with_part sink.old (RelativeSymbol opcode (number_of register) name offset)) }
-    ensures lacks { put_cause sink.old 6 ≡ None → is_general register ≡ true → IfErr result (λ e. e ≡ NoMemory) }
-    ensures kept { Keeps sink.old sink.new }
+    ensures lacks { put_cause sink.old 6 ≡ None → is_general_class register ≡ true → IfErr result (λ e. e ≡ NoMemory) }
+    ensures kept { Extends sink.old sink.new }
 {
     let code = enc_ril_b(opcode, register, 0)?;
     let field = sink.cur_offset() + 2;
@@ -188,8 +188,8 @@ fn put_row(
 ) -> Result<(), EmitError>
     requires { opcode < 4096 }
     ensures answer { OnOk result (sink.new ≡ appended sink.old (relative_part opcode (number_of register) operand.now)) }
-    ensures lacks { put_cause sink.old (parts_size (relative_part opcode (number_of register) operand.now)) ≡ None → is_general register ≡ true → is_bound (declared_in sink.old) operand.now ≡ true → IfErr result (λ e. e ≡ NoMemory) }
-    ensures kept { Keeps sink.old sink.new }
+    ensures lacks { put_cause sink.old (parts_size (relative_part opcode (number_of register) operand.now)) ≡ None → is_general_class register ≡ true → is_bound_operand (declared_in sink.old) operand.now ≡ true → IfErr result (λ e. e ≡ NoMemory) }
+    ensures kept { Extends sink.old sink.new }
 {
     read_labels(sink);
     match operand {
@@ -212,8 +212,8 @@ fn put_trapping_row(
 ) -> Result<(), EmitError>
     requires { opcode < 4096 }
     ensures answer { OnOk result (sink.new ≡ appended sink.old (trap_here trap_code ++ relative_part opcode (number_of register) operand.now)) }
-    ensures lacks { put_cause sink.old (parts_size (trap_here trap_code ++ relative_part opcode (number_of register) operand.now)) ≡ None → is_general register ≡ true → is_bound (declared_in sink.old) operand.now ≡ true → IfErr result (λ e. e ≡ NoMemory) }
-    ensures kept { Keeps sink.old sink.new }
+    ensures lacks { put_cause sink.old (parts_size (trap_here trap_code ++ relative_part opcode (number_of register) operand.now)) ≡ None → is_general_class register ≡ true → is_bound_operand (declared_in sink.old) operand.now ≡ true → IfErr result (λ e. e ≡ NoMemory) }
+    ensures kept { Extends sink.old sink.new }
 {
     put_trap(sink, trap_code)?;
     put_row(sink, opcode, register, operand)
@@ -227,9 +227,9 @@ pub fn put_relative(
     trap_code: Option<TrapCode>,
 ) -> Result<(), EmitError>
     requires { relative_encodes rows.now ≡ true }
-    ensures answer { OnOk result (sink.new ≡ appended sink.old (relative_parts (form_of rows.now) trap_code operand.now)) }
-    ensures lacks { put_cause sink.old (parts_size (relative_parts (form_of rows.now) trap_code operand.now)) ≡ None → rows_encode rows.now ≡ true → is_bound (declared_in sink.old) operand.now ≡ true → IfErr result (λ e. e ≡ NoMemory) }
-    ensures kept { Keeps sink.old sink.new }
+    ensures answer { OnOk result (sink.new ≡ appended sink.old (relative_parts (storage_form_of rows.now) trap_code operand.now)) }
+    ensures lacks { put_cause sink.old (parts_size (relative_parts (storage_form_of rows.now) trap_code operand.now)) ≡ None → rows_encode rows.now ≡ true → is_bound_operand (declared_in sink.old) operand.now ≡ true → IfErr result (λ e. e ≡ NoMemory) }
+    ensures kept { Extends sink.old sink.new }
 {
     match rows {
         StorageRows::OneRegister {
@@ -254,7 +254,7 @@ fn row_size(operand: &MemArg) -> u64
 
 /// How many bytes the access has.
 pub fn relative_size(rows: &StorageRows, operand: &MemArg) -> u64
-    ensures value { (code : Option TrapKind) → result ≡ parts_size (relative_parts (form_of rows.now) code operand.now) }
+    ensures value { (code : Option TrapKind) → result ≡ parts_size (relative_parts (storage_form_of rows.now) code operand.now) }
     ensures few { result ≤ 6 }
 {
     match rows {

@@ -3,18 +3,18 @@ ghost use Rattle.std.specs.Prelude.{◌≡◌, ◌≤◌, ◌<◌, ◌&&◌, tru
 ghost use Rattle.std.specs.Option.{option_map};
 ghost use Rattle.s390x_base.specs.Regs.{number_of};
 ghost use Rattle.s390x_base.specs.declared.ir.MachMemFlags.{MachMemFlags};
-ghost use Rattle.s390x_enc.specs.Operands.{is_general};
+ghost use Rattle.s390x_enc.specs.Operands.{is_general_class};
 ghost use Rattle.s390x_inst.specs.declared.args.MemArg.TheVariants.{BXD12, BXD20};
-ghost use Rattle.s390x_steps.specs.General.{low_displacement, low_12};
-ghost use Rattle.s390x_steps.specs.MachineInstruction.{bytes_of, size_of, rx, rxy, rs, rsy};
-ghost use Rattle.s390x_steps.specs.Memory.{type_of, of_opcode, storage_row};
-ghost use Rattle.s390x_steps.specs.Operands.{operand_general};
-ghost use Rattle.s390x_address.specs.Rows.{row_of, row_encodes, rows_encode, form_of, takes_general};
+ghost use Rattle.s390x_typed_steps.specs.General.{low_displacement, low_12};
+ghost use Rattle.s390x_typed_steps.specs.MachineInstruction.{bytes_of, size_of, rx, rxy, rs, rsy};
+ghost use Rattle.s390x_typed_steps.specs.Memory.{type_of, of_opcode, storage_row};
+ghost use Rattle.s390x_typed_steps.specs.Operands.{operand_general};
+ghost use Rattle.s390x_address.specs.Rows.{row_of, row_encodes, rows_encode, storage_form_of, rows_take_general};
 
 use s390x_base::{Code, EmitError, Reg, SImm20, UImm12};
 use s390x_enc::{enc_rs, enc_rsy, enc_rx, enc_rxy, enc_si, enc_sil, enc_siy};
 use s390x_inst::MemArg;
-use s390x_steps::MemInstType;
+use s390x_typed_steps::MemInstType;
 
 /// A machine instruction with an operand in memory, in its format.
 #[derive(Clone, Copy)]
@@ -187,7 +187,7 @@ impl StorageRow {
 #[tactic(auto, using(crate::proofs::Encoding::indexed_encodes))]
 fn rx_row(opcode: Option<u8>, r1: Reg, b2: Reg, x2: Reg, disp: UImm12) -> Option<StorageRow>
     ensures row { option_map row_of result ≡ of_opcode (λ o. rx o (number_of r1) (number_of b2) (number_of x2) (low_12 disp)) opcode }
-    ensures encodes { (is_general r1 && takes_general opcode) ≡ true → (is_general b2 && is_general x2) ≡ true → IfSome result (λ row. row_encodes row ≡ true) }
+    ensures encodes { (is_general_class r1 && rows_take_general opcode) ≡ true → (is_general_class b2 && is_general_class x2) ≡ true → IfSome result (λ row. row_encodes row ≡ true) }
 {
     match opcode {
         Some(opcode) => Some(StorageRow::Rx {
@@ -204,7 +204,7 @@ fn rx_row(opcode: Option<u8>, r1: Reg, b2: Reg, x2: Reg, disp: UImm12) -> Option
 #[tactic(auto, using(crate::proofs::Encoding::indexed_encodes))]
 fn rxy_row(opcode: Option<u16>, r1: Reg, b2: Reg, x2: Reg, disp: SImm20) -> Option<StorageRow>
     ensures row { option_map row_of result ≡ of_opcode (λ o. rxy o (number_of r1) (number_of b2) (number_of x2) (low_displacement disp)) opcode }
-    ensures encodes { (is_general r1 && takes_general opcode) ≡ true → (is_general b2 && is_general x2) ≡ true → IfSome result (λ row. row_encodes row ≡ true) }
+    ensures encodes { (is_general_class r1 && rows_take_general opcode) ≡ true → (is_general_class b2 && is_general_class x2) ≡ true → IfSome result (λ row. row_encodes row ≡ true) }
 {
     match opcode {
         Some(opcode) => Some(StorageRow::Rxy {
@@ -221,7 +221,7 @@ fn rxy_row(opcode: Option<u16>, r1: Reg, b2: Reg, x2: Reg, disp: SImm20) -> Opti
 #[tactic(auto, using(crate::proofs::Encoding::ranged_encodes))]
 fn rs_row(opcode: Option<u8>, r1: Reg, r3: Reg, b2: Reg, disp: UImm12) -> Option<StorageRow>
     ensures row { option_map row_of result ≡ of_opcode (λ o. rs o (number_of r1) (number_of r3) (number_of b2) (low_12 disp)) opcode }
-    ensures encodes { (is_general r1 && is_general r3) ≡ true → is_general b2 ≡ true → IfSome result (λ row. row_encodes row ≡ true) }
+    ensures encodes { (is_general_class r1 && is_general_class r3) ≡ true → is_general_class b2 ≡ true → IfSome result (λ row. row_encodes row ≡ true) }
 {
     match opcode {
         Some(opcode) => Some(StorageRow::Rs {
@@ -238,7 +238,7 @@ fn rs_row(opcode: Option<u8>, r1: Reg, r3: Reg, b2: Reg, disp: UImm12) -> Option
 #[tactic(auto, using(crate::proofs::Encoding::ranged_encodes))]
 fn rsy_row(opcode: Option<u16>, r1: Reg, r3: Reg, b2: Reg, disp: SImm20) -> Option<StorageRow>
     ensures row { option_map row_of result ≡ of_opcode (λ o. rsy o (number_of r1) (number_of r3) (number_of b2) (low_displacement disp)) opcode }
-    ensures encodes { (is_general r1 && is_general r3) ≡ true → is_general b2 ≡ true → IfSome result (λ row. row_encodes row ≡ true) }
+    ensures encodes { (is_general_class r1 && is_general_class r3) ≡ true → is_general_class b2 ≡ true → IfSome result (λ row. row_encodes row ≡ true) }
 {
     match opcode {
         Some(opcode) => Some(StorageRow::Rsy {
@@ -255,7 +255,7 @@ fn rsy_row(opcode: Option<u16>, r1: Reg, r3: Reg, b2: Reg, disp: SImm20) -> Opti
 impl StorageRows {
     /// Which forms of an operand the rows take, in an instruction that accesses memory or loads an address.
     pub fn forms(&self, accesses: bool) -> MemInstType
-        ensures { result ≡ type_of (form_of self.now) accesses }
+        ensures { result ≡ type_of (storage_form_of self.now) accesses }
     {
         match self {
             StorageRows::OneRegister { rx, rxy, ril, .. } => MemInstType {
@@ -291,8 +291,8 @@ impl StorageRows {
 
     // The row at a displacement of 12 bits.
     fn short_row(&self, base: Reg, index: Reg, disp: UImm12) -> Option<StorageRow>
-        ensures row { (flags : MachMemFlags) → option_map row_of result ≡ storage_row (form_of self.now) (BXD12 base index disp flags) }
-        ensures encodes { rows_encode self.now ≡ true → (is_general base && is_general index) ≡ true → IfSome result (λ row. row_encodes row ≡ true) }
+        ensures row { (flags : MachMemFlags) → option_map row_of result ≡ storage_row (storage_form_of self.now) (BXD12 base index disp flags) }
+        ensures encodes { rows_encode self.now ≡ true → (is_general_class base && is_general_class index) ≡ true → IfSome result (λ row. row_encodes row ≡ true) }
     {
         match self {
             StorageRows::OneRegister { register, rx, .. } => rx_row(
@@ -321,8 +321,8 @@ impl StorageRows {
 
     // The row at a displacement of 20 bits.
     fn long_row(&self, base: Reg, index: Reg, disp: SImm20) -> Option<StorageRow>
-        ensures row { (flags : MachMemFlags) → option_map row_of result ≡ storage_row (form_of self.now) (BXD20 base index disp flags) }
-        ensures encodes { rows_encode self.now ≡ true → (is_general base && is_general index) ≡ true → IfSome result (λ row. row_encodes row ≡ true) }
+        ensures row { (flags : MachMemFlags) → option_map row_of result ≡ storage_row (storage_form_of self.now) (BXD20 base index disp flags) }
+        ensures encodes { rows_encode self.now ≡ true → (is_general_class base && is_general_class index) ≡ true → IfSome result (λ row. row_encodes row ≡ true) }
     {
         match self {
             StorageRows::OneRegister { register, rxy, .. } => rxy_row(
@@ -346,7 +346,7 @@ impl StorageRows {
 
     /// The row at an operand that stands in it as it is, where there is one.
     pub fn row(&self, operand: &MemArg) -> Option<StorageRow>
-        ensures row { option_map row_of result ≡ storage_row (form_of self.now) operand.now }
+        ensures row { option_map row_of result ≡ storage_row (storage_form_of self.now) operand.now }
         ensures encodes { rows_encode self.now ≡ true → operand_general operand.now ≡ true → IfSome result (λ row. row_encodes row ≡ true) }
     {
         match operand {

@@ -1,8 +1,8 @@
 -- What each change keeps, and that keeping goes on.
 use Rattle.std.proofs.Common.{◌≡◌, ℕ, zero, suc, ◌+◌, ◌<◌, ◌≤◌, ◌≢◌, List, [], ◌∷◌, ◌++◌, length, get_or, set, Option, Some, None, refl, sym, ap, ◌∙◌, subst, arith}
 use Rattle.std.proofs.lemmas.List.{get_or-set_other, length-append, length-set}
-use Rattle.s390x_buffer.specs.State.{State, TryCallSite, marked}
-use Rattle.s390x_buffer.specs.Keeps.{Keeps, KeepsEntries, KeepsOthers, IsPrefix}
+use Rattle.s390x_buffer.specs.State.{BufferState, TryCallSite, poisoned}
+use Rattle.s390x_buffer.specs.Extends.{Extends, KeepsEntries, KeepsOthers, IsPrefix}
 use Rattle.s390x_buffer.specs.declared.entries.LabelFixup.{LabelFixup}
 use Rattle.s390x_buffer.specs.declared.entries.TrapEntry.{TrapEntry}
 use Rattle.s390x_buffer.specs.declared.entries.RelocEntry.{RelocEntry}
@@ -28,7 +28,7 @@ prefix_on (x ∷ xs) (y ∷ ys) (z ∷ zs) p q =
 same_count : (n : ℕ) → n ≤ n
 same_count n = omega arith
 
-entries_same : (s : State) → KeepsEntries s s
+entries_same : (s : BufferState) → KeepsEntries s s
 entries_same s = record {
   bytes = prefix_refl s.bytes;
   uses = prefix_refl s.uses;
@@ -44,20 +44,29 @@ entries_same s = record {
   constants = refl;
 }
 
-pub keeps_same : (s : State) → Keeps s s
-keeps_same s = record { entries = entries_same s; labels = λ l lt. refl }
+pub extends_same : (s : BufferState) → Extends s s
+extends_same s = record { entries = entries_same s; labels = λ l lt. refl }
 
-entries_mark : (s : State) → KeepsEntries s (marked s)
+entries_mark : (s : BufferState) → KeepsEntries s (poisoned s)
 entries_mark s = record {
-  bytes = prefix_refl s.bytes; uses = prefix_refl s.uses; traps = prefix_refl s.traps; relocs = prefix_refl s.relocs; call_sites = prefix_refl s.call_sites;
-  try_call_sites = prefix_refl s.try_call_sites; patchable_sites = prefix_refl s.patchable_sites; stack_maps = prefix_refl s.stack_maps; starts = prefix_refl s.starts;
-  label_count = same_count (length s.labels); block_count = refl; constants = refl;
+  bytes = prefix_refl s.bytes;
+  uses = prefix_refl s.uses;
+  traps = prefix_refl s.traps;
+  relocs = prefix_refl s.relocs;
+  call_sites = prefix_refl s.call_sites;
+  try_call_sites = prefix_refl s.try_call_sites;
+  patchable_sites = prefix_refl s.patchable_sites;
+  stack_maps = prefix_refl s.stack_maps;
+  starts = prefix_refl s.starts;
+  label_count = same_count (length s.labels);
+  block_count = refl;
+  constants = refl;
 }
 
-pub keeps_mark : (s t : State) → t ≡ marked s → Keeps s t
-keeps_mark s t e = subst (Keeps s) (sym e) (record { entries = entries_mark s; labels = λ l lt. refl })
+pub extends_mark : (s t : BufferState) → t ≡ poisoned s → Extends s t
+extends_mark s t e = subst (Extends s) (sym e) (record { entries = entries_mark s; labels = λ l lt. refl })
 
-entries_on : (s t u : State) → KeepsEntries s t → KeepsEntries t u → KeepsEntries s u
+entries_on : (s t u : BufferState) → KeepsEntries s t → KeepsEntries t u → KeepsEntries s u
 entries_on s t u a b = record {
   bytes = prefix_on _ t.bytes _ a.bytes b.bytes;
   uses = prefix_on _ t.uses _ a.uses b.uses;
@@ -73,8 +82,8 @@ entries_on s t u a b = record {
   constants = b.constants ∙ a.constants;
 }
 
-pub keeps_on : (s t u : State) → Keeps s t → Keeps t u → Keeps s u
-keeps_on s t u a b = record {
+pub extends_on : (s t u : BufferState) → Extends s t → Extends t u → Extends s u
+extends_on s t u a b = record {
   entries = entries_on s t u a.entries b.entries;
   labels = λ l lt. b.labels l (omega (arith, lt, a.entries.label_count)) ∙ a.labels l lt;
 }
@@ -83,101 +92,182 @@ other_label : (n label l : ℕ) → n ≤ label → l < n → l ≢ label
 other_label n label l le lt e = omega (arith, le, lt, e)
 
 -- where a label is bound that the first buffer didn't have
-pub keeps_bound : (s t u : State) (label : ℕ) → Keeps s t → length s.labels ≤ label → KeepsOthers label t u → Keeps s u
+pub keeps_bound : (s t u : BufferState) (label : ℕ) → Extends s t → length s.labels ≤ label → KeepsOthers label t u → Extends s u
 keeps_bound s t u label a new b = record {
   entries = entries_on s t u a.entries b.entries;
   labels = λ l lt. b.labels l (omega (arith, lt, a.entries.label_count)) (other_label (length s.labels) label l new lt) ∙ a.labels l lt;
 }
 
-entries_bytes : (s : State) (xs : List ℕ) → KeepsEntries s (record s { bytes = s.bytes ++ xs })
+entries_bytes : (s : BufferState) (xs : List ℕ) → KeepsEntries s (record s { bytes = s.bytes ++ xs })
 entries_bytes s xs = record {
-  bytes = prefix_more s.bytes xs; uses = prefix_refl s.uses; traps = prefix_refl s.traps; relocs = prefix_refl s.relocs; call_sites = prefix_refl s.call_sites;
-  try_call_sites = prefix_refl s.try_call_sites; patchable_sites = prefix_refl s.patchable_sites; stack_maps = prefix_refl s.stack_maps; starts = prefix_refl s.starts;
-  label_count = same_count (length s.labels); block_count = refl; constants = refl;
+  bytes = prefix_more s.bytes xs;
+  uses = prefix_refl s.uses;
+  traps = prefix_refl s.traps;
+  relocs = prefix_refl s.relocs;
+  call_sites = prefix_refl s.call_sites;
+  try_call_sites = prefix_refl s.try_call_sites;
+  patchable_sites = prefix_refl s.patchable_sites;
+  stack_maps = prefix_refl s.stack_maps;
+  starts = prefix_refl s.starts;
+  label_count = same_count (length s.labels);
+  block_count = refl;
+  constants = refl;
 }
 
-pub keeps_bytes : (s : State) (xs : List ℕ) → Keeps s (record s { bytes = s.bytes ++ xs })
-keeps_bytes s xs = record { entries = entries_bytes s xs; labels = λ l lt. refl }
+pub extends_bytes : (s : BufferState) (xs : List ℕ) → Extends s (record s { bytes = s.bytes ++ xs })
+extends_bytes s xs = record { entries = entries_bytes s xs; labels = λ l lt. refl }
 
-entries_uses : (s : State) (xs : List LabelFixup) → KeepsEntries s (record s { uses = s.uses ++ xs })
+entries_uses : (s : BufferState) (xs : List LabelFixup) → KeepsEntries s (record s { uses = s.uses ++ xs })
 entries_uses s xs = record {
-  bytes = prefix_refl s.bytes; uses = prefix_more s.uses xs; traps = prefix_refl s.traps; relocs = prefix_refl s.relocs; call_sites = prefix_refl s.call_sites;
-  try_call_sites = prefix_refl s.try_call_sites; patchable_sites = prefix_refl s.patchable_sites; stack_maps = prefix_refl s.stack_maps; starts = prefix_refl s.starts;
-  label_count = same_count (length s.labels); block_count = refl; constants = refl;
+  bytes = prefix_refl s.bytes;
+  uses = prefix_more s.uses xs;
+  traps = prefix_refl s.traps;
+  relocs = prefix_refl s.relocs;
+  call_sites = prefix_refl s.call_sites;
+  try_call_sites = prefix_refl s.try_call_sites;
+  patchable_sites = prefix_refl s.patchable_sites;
+  stack_maps = prefix_refl s.stack_maps;
+  starts = prefix_refl s.starts;
+  label_count = same_count (length s.labels);
+  block_count = refl;
+  constants = refl;
 }
 
-pub keeps_uses : (s : State) (xs : List LabelFixup) → Keeps s (record s { uses = s.uses ++ xs })
-keeps_uses s xs = record { entries = entries_uses s xs; labels = λ l lt. refl }
+pub extends_uses : (s : BufferState) (xs : List LabelFixup) → Extends s (record s { uses = s.uses ++ xs })
+extends_uses s xs = record { entries = entries_uses s xs; labels = λ l lt. refl }
 
-entries_traps : (s : State) (xs : List TrapEntry) → KeepsEntries s (record s { traps = s.traps ++ xs })
+entries_traps : (s : BufferState) (xs : List TrapEntry) → KeepsEntries s (record s { traps = s.traps ++ xs })
 entries_traps s xs = record {
-  bytes = prefix_refl s.bytes; uses = prefix_refl s.uses; traps = prefix_more s.traps xs; relocs = prefix_refl s.relocs; call_sites = prefix_refl s.call_sites;
-  try_call_sites = prefix_refl s.try_call_sites; patchable_sites = prefix_refl s.patchable_sites; stack_maps = prefix_refl s.stack_maps; starts = prefix_refl s.starts;
-  label_count = same_count (length s.labels); block_count = refl; constants = refl;
+  bytes = prefix_refl s.bytes;
+  uses = prefix_refl s.uses;
+  traps = prefix_more s.traps xs;
+  relocs = prefix_refl s.relocs;
+  call_sites = prefix_refl s.call_sites;
+  try_call_sites = prefix_refl s.try_call_sites;
+  patchable_sites = prefix_refl s.patchable_sites;
+  stack_maps = prefix_refl s.stack_maps;
+  starts = prefix_refl s.starts;
+  label_count = same_count (length s.labels);
+  block_count = refl;
+  constants = refl;
 }
 
-pub keeps_traps : (s : State) (xs : List TrapEntry) → Keeps s (record s { traps = s.traps ++ xs })
-keeps_traps s xs = record { entries = entries_traps s xs; labels = λ l lt. refl }
+pub extends_traps : (s : BufferState) (xs : List TrapEntry) → Extends s (record s { traps = s.traps ++ xs })
+extends_traps s xs = record { entries = entries_traps s xs; labels = λ l lt. refl }
 
-entries_relocs : (s : State) (xs : List RelocEntry) → KeepsEntries s (record s { relocs = s.relocs ++ xs })
+entries_relocs : (s : BufferState) (xs : List RelocEntry) → KeepsEntries s (record s { relocs = s.relocs ++ xs })
 entries_relocs s xs = record {
-  bytes = prefix_refl s.bytes; uses = prefix_refl s.uses; traps = prefix_refl s.traps; relocs = prefix_more s.relocs xs; call_sites = prefix_refl s.call_sites;
-  try_call_sites = prefix_refl s.try_call_sites; patchable_sites = prefix_refl s.patchable_sites; stack_maps = prefix_refl s.stack_maps; starts = prefix_refl s.starts;
-  label_count = same_count (length s.labels); block_count = refl; constants = refl;
+  bytes = prefix_refl s.bytes;
+  uses = prefix_refl s.uses;
+  traps = prefix_refl s.traps;
+  relocs = prefix_more s.relocs xs;
+  call_sites = prefix_refl s.call_sites;
+  try_call_sites = prefix_refl s.try_call_sites;
+  patchable_sites = prefix_refl s.patchable_sites;
+  stack_maps = prefix_refl s.stack_maps;
+  starts = prefix_refl s.starts;
+  label_count = same_count (length s.labels);
+  block_count = refl;
+  constants = refl;
 }
 
-pub keeps_relocs : (s : State) (xs : List RelocEntry) → Keeps s (record s { relocs = s.relocs ++ xs })
-keeps_relocs s xs = record { entries = entries_relocs s xs; labels = λ l lt. refl }
+pub extends_relocs : (s : BufferState) (xs : List RelocEntry) → Extends s (record s { relocs = s.relocs ++ xs })
+extends_relocs s xs = record { entries = entries_relocs s xs; labels = λ l lt. refl }
 
-entries_call_sites : (s : State) (xs : List ℕ) → KeepsEntries s (record s { call_sites = s.call_sites ++ xs })
+entries_call_sites : (s : BufferState) (xs : List ℕ) → KeepsEntries s (record s { call_sites = s.call_sites ++ xs })
 entries_call_sites s xs = record {
-  bytes = prefix_refl s.bytes; uses = prefix_refl s.uses; traps = prefix_refl s.traps; relocs = prefix_refl s.relocs; call_sites = prefix_more s.call_sites xs;
-  try_call_sites = prefix_refl s.try_call_sites; patchable_sites = prefix_refl s.patchable_sites; stack_maps = prefix_refl s.stack_maps; starts = prefix_refl s.starts;
-  label_count = same_count (length s.labels); block_count = refl; constants = refl;
+  bytes = prefix_refl s.bytes;
+  uses = prefix_refl s.uses;
+  traps = prefix_refl s.traps;
+  relocs = prefix_refl s.relocs;
+  call_sites = prefix_more s.call_sites xs;
+  try_call_sites = prefix_refl s.try_call_sites;
+  patchable_sites = prefix_refl s.patchable_sites;
+  stack_maps = prefix_refl s.stack_maps;
+  starts = prefix_refl s.starts;
+  label_count = same_count (length s.labels);
+  block_count = refl;
+  constants = refl;
 }
 
-pub keeps_call_sites : (s : State) (xs : List ℕ) → Keeps s (record s { call_sites = s.call_sites ++ xs })
-keeps_call_sites s xs = record { entries = entries_call_sites s xs; labels = λ l lt. refl }
+pub extends_call_sites : (s : BufferState) (xs : List ℕ) → Extends s (record s { call_sites = s.call_sites ++ xs })
+extends_call_sites s xs = record { entries = entries_call_sites s xs; labels = λ l lt. refl }
 
-entries_try_call_sites : (s : State) (xs : List TryCallSite) → KeepsEntries s (record s { try_call_sites = s.try_call_sites ++ xs })
+entries_try_call_sites : (s : BufferState) (xs : List TryCallSite) → KeepsEntries s (record s { try_call_sites = s.try_call_sites ++ xs })
 entries_try_call_sites s xs = record {
-  bytes = prefix_refl s.bytes; uses = prefix_refl s.uses; traps = prefix_refl s.traps; relocs = prefix_refl s.relocs; call_sites = prefix_refl s.call_sites;
-  try_call_sites = prefix_more s.try_call_sites xs; patchable_sites = prefix_refl s.patchable_sites; stack_maps = prefix_refl s.stack_maps; starts = prefix_refl s.starts;
-  label_count = same_count (length s.labels); block_count = refl; constants = refl;
+  bytes = prefix_refl s.bytes;
+  uses = prefix_refl s.uses;
+  traps = prefix_refl s.traps;
+  relocs = prefix_refl s.relocs;
+  call_sites = prefix_refl s.call_sites;
+  try_call_sites = prefix_more s.try_call_sites xs;
+  patchable_sites = prefix_refl s.patchable_sites;
+  stack_maps = prefix_refl s.stack_maps;
+  starts = prefix_refl s.starts;
+  label_count = same_count (length s.labels);
+  block_count = refl;
+  constants = refl;
 }
 
-pub keeps_try_call_sites : (s : State) (xs : List TryCallSite) → Keeps s (record s { try_call_sites = s.try_call_sites ++ xs })
-keeps_try_call_sites s xs = record { entries = entries_try_call_sites s xs; labels = λ l lt. refl }
+pub extends_try_call_sites : (s : BufferState) (xs : List TryCallSite) → Extends s (record s { try_call_sites = s.try_call_sites ++ xs })
+extends_try_call_sites s xs = record { entries = entries_try_call_sites s xs; labels = λ l lt. refl }
 
-entries_patchable_sites : (s : State) (xs : List PatchEntry) → KeepsEntries s (record s { patchable_sites = s.patchable_sites ++ xs })
+entries_patchable_sites : (s : BufferState) (xs : List PatchEntry) → KeepsEntries s (record s { patchable_sites = s.patchable_sites ++ xs })
 entries_patchable_sites s xs = record {
-  bytes = prefix_refl s.bytes; uses = prefix_refl s.uses; traps = prefix_refl s.traps; relocs = prefix_refl s.relocs; call_sites = prefix_refl s.call_sites;
-  try_call_sites = prefix_refl s.try_call_sites; patchable_sites = prefix_more s.patchable_sites xs; stack_maps = prefix_refl s.stack_maps; starts = prefix_refl s.starts;
-  label_count = same_count (length s.labels); block_count = refl; constants = refl;
+  bytes = prefix_refl s.bytes;
+  uses = prefix_refl s.uses;
+  traps = prefix_refl s.traps;
+  relocs = prefix_refl s.relocs;
+  call_sites = prefix_refl s.call_sites;
+  try_call_sites = prefix_refl s.try_call_sites;
+  patchable_sites = prefix_more s.patchable_sites xs;
+  stack_maps = prefix_refl s.stack_maps;
+  starts = prefix_refl s.starts;
+  label_count = same_count (length s.labels);
+  block_count = refl;
+  constants = refl;
 }
 
-pub keeps_patchable_sites : (s : State) (xs : List PatchEntry) → Keeps s (record s { patchable_sites = s.patchable_sites ++ xs })
-keeps_patchable_sites s xs = record { entries = entries_patchable_sites s xs; labels = λ l lt. refl }
+pub extends_patchable_sites : (s : BufferState) (xs : List PatchEntry) → Extends s (record s { patchable_sites = s.patchable_sites ++ xs })
+extends_patchable_sites s xs = record { entries = entries_patchable_sites s xs; labels = λ l lt. refl }
 
-entries_stack_maps : (s : State) (xs : List MapEntry) → KeepsEntries s (record s { stack_maps = s.stack_maps ++ xs })
+entries_stack_maps : (s : BufferState) (xs : List MapEntry) → KeepsEntries s (record s { stack_maps = s.stack_maps ++ xs })
 entries_stack_maps s xs = record {
-  bytes = prefix_refl s.bytes; uses = prefix_refl s.uses; traps = prefix_refl s.traps; relocs = prefix_refl s.relocs; call_sites = prefix_refl s.call_sites;
-  try_call_sites = prefix_refl s.try_call_sites; patchable_sites = prefix_refl s.patchable_sites; stack_maps = prefix_more s.stack_maps xs; starts = prefix_refl s.starts;
-  label_count = same_count (length s.labels); block_count = refl; constants = refl;
+  bytes = prefix_refl s.bytes;
+  uses = prefix_refl s.uses;
+  traps = prefix_refl s.traps;
+  relocs = prefix_refl s.relocs;
+  call_sites = prefix_refl s.call_sites;
+  try_call_sites = prefix_refl s.try_call_sites;
+  patchable_sites = prefix_refl s.patchable_sites;
+  stack_maps = prefix_more s.stack_maps xs;
+  starts = prefix_refl s.starts;
+  label_count = same_count (length s.labels);
+  block_count = refl;
+  constants = refl;
 }
 
-pub keeps_stack_maps : (s : State) (xs : List MapEntry) → Keeps s (record s { stack_maps = s.stack_maps ++ xs })
-keeps_stack_maps s xs = record { entries = entries_stack_maps s xs; labels = λ l lt. refl }
+pub extends_stack_maps : (s : BufferState) (xs : List MapEntry) → Extends s (record s { stack_maps = s.stack_maps ++ xs })
+extends_stack_maps s xs = record { entries = entries_stack_maps s xs; labels = λ l lt. refl }
 
-entries_starts : (s : State) (xs : List ℕ) → KeepsEntries s (record s { starts = s.starts ++ xs })
+entries_starts : (s : BufferState) (xs : List ℕ) → KeepsEntries s (record s { starts = s.starts ++ xs })
 entries_starts s xs = record {
-  bytes = prefix_refl s.bytes; uses = prefix_refl s.uses; traps = prefix_refl s.traps; relocs = prefix_refl s.relocs; call_sites = prefix_refl s.call_sites;
-  try_call_sites = prefix_refl s.try_call_sites; patchable_sites = prefix_refl s.patchable_sites; stack_maps = prefix_refl s.stack_maps; starts = prefix_more s.starts xs;
-  label_count = same_count (length s.labels); block_count = refl; constants = refl;
+  bytes = prefix_refl s.bytes;
+  uses = prefix_refl s.uses;
+  traps = prefix_refl s.traps;
+  relocs = prefix_refl s.relocs;
+  call_sites = prefix_refl s.call_sites;
+  try_call_sites = prefix_refl s.try_call_sites;
+  patchable_sites = prefix_refl s.patchable_sites;
+  stack_maps = prefix_refl s.stack_maps;
+  starts = prefix_more s.starts xs;
+  label_count = same_count (length s.labels);
+  block_count = refl;
+  constants = refl;
 }
 
-pub keeps_starts : (s : State) (xs : List ℕ) → Keeps s (record s { starts = s.starts ++ xs })
-keeps_starts s xs = record { entries = entries_starts s xs; labels = λ l lt. refl }
+pub extends_starts : (s : BufferState) (xs : List ℕ) → Extends s (record s { starts = s.starts ++ xs })
+extends_starts s xs = record { entries = entries_starts s xs; labels = λ l lt. refl }
 
 drawn_kept : (ls : List (Option ℕ)) (l : ℕ) → l < length ls → get_or (ls ++ None ∷ []) l None ≡ get_or ls l None
 drawn_kept [] l lt = absurd (omega (arith, lt))
@@ -187,28 +277,46 @@ drawn_kept (x ∷ ls) (suc l) lt = drawn_kept ls l (omega (arith, lt))
 more_labels : (ls : List (Option ℕ)) → length ls ≤ length (ls ++ None ∷ [])
 more_labels ls = omega (arith, length-append ls (None ∷ []))
 
-entries_draw : (s : State) → KeepsEntries s (record s { labels = s.labels ++ None ∷ [] })
+entries_draw : (s : BufferState) → KeepsEntries s (record s { labels = s.labels ++ None ∷ [] })
 entries_draw s = record {
-  bytes = prefix_refl s.bytes; uses = prefix_refl s.uses; traps = prefix_refl s.traps; relocs = prefix_refl s.relocs; call_sites = prefix_refl s.call_sites;
-  try_call_sites = prefix_refl s.try_call_sites; patchable_sites = prefix_refl s.patchable_sites; stack_maps = prefix_refl s.stack_maps; starts = prefix_refl s.starts;
-  label_count = more_labels s.labels; block_count = refl; constants = refl;
+  bytes = prefix_refl s.bytes;
+  uses = prefix_refl s.uses;
+  traps = prefix_refl s.traps;
+  relocs = prefix_refl s.relocs;
+  call_sites = prefix_refl s.call_sites;
+  try_call_sites = prefix_refl s.try_call_sites;
+  patchable_sites = prefix_refl s.patchable_sites;
+  stack_maps = prefix_refl s.stack_maps;
+  starts = prefix_refl s.starts;
+  label_count = more_labels s.labels;
+  block_count = refl;
+  constants = refl;
 }
 
-pub keeps_draw : (s : State) → Keeps s (record s { labels = s.labels ++ None ∷ [] })
-keeps_draw s = record { entries = entries_draw s; labels = drawn_kept s.labels }
+pub extends_draw : (s : BufferState) → Extends s (record s { labels = s.labels ++ None ∷ [] })
+extends_draw s = record { entries = entries_draw s; labels = drawn_kept s.labels }
 
 as_many : (ls : List (Option ℕ)) (b : ℕ) (v : Option ℕ) → length ls ≤ length (set ls b v)
 as_many ls b v = omega (arith, length-set ls b v)
 
-entries_bind : (s : State) (b : ℕ) (v : Option ℕ) → KeepsEntries s (record s { labels = set s.labels b v })
+entries_bind : (s : BufferState) (b : ℕ) (v : Option ℕ) → KeepsEntries s (record s { labels = set s.labels b v })
 entries_bind s b v = record {
-  bytes = prefix_refl s.bytes; uses = prefix_refl s.uses; traps = prefix_refl s.traps; relocs = prefix_refl s.relocs; call_sites = prefix_refl s.call_sites;
-  try_call_sites = prefix_refl s.try_call_sites; patchable_sites = prefix_refl s.patchable_sites; stack_maps = prefix_refl s.stack_maps; starts = prefix_refl s.starts;
-  label_count = as_many s.labels b v; block_count = refl; constants = refl;
+  bytes = prefix_refl s.bytes;
+  uses = prefix_refl s.uses;
+  traps = prefix_refl s.traps;
+  relocs = prefix_refl s.relocs;
+  call_sites = prefix_refl s.call_sites;
+  try_call_sites = prefix_refl s.try_call_sites;
+  patchable_sites = prefix_refl s.patchable_sites;
+  stack_maps = prefix_refl s.stack_maps;
+  starts = prefix_refl s.starts;
+  label_count = as_many s.labels b v;
+  block_count = refl;
+  constants = refl;
 }
 
-pub keeps_bind : (s : State) (b : ℕ) (v : Option ℕ) → KeepsOthers b s (record s { labels = set s.labels b v })
-keeps_bind s b v = record { entries = entries_bind s b v; labels = λ l lt other. get_or-set_other s.labels b l v None other }
+pub extends_bind : (s : BufferState) (b : ℕ) (v : Option ℕ) → KeepsOthers b s (record s { labels = set s.labels b v })
+extends_bind s b v = record { entries = entries_bind s b v; labels = λ l lt other. get_or-set_other s.labels b l v None other }
 
-pub others_mark : (s t : State) (b : ℕ) → t ≡ marked s → KeepsOthers b s t
-others_mark s t b e = let k = keeps_mark s t e in record { entries = k.entries; labels = λ l lt other. k.labels l lt }
+pub others_mark : (s t : BufferState) (b : ℕ) → t ≡ poisoned s → KeepsOthers b s t
+others_mark s t b e = let k = extends_mark s t e in record { entries = k.entries; labels = λ l lt other. k.labels l lt }

@@ -1,7 +1,7 @@
 -- What finishing gives.
 use Rattle.std.specs.Prelude.{◌≡◌, ℕ, ◌+◌, ◌<◌, List, ◌++◌, length, map, take, drop, Option, Some, None, cond, nat_lt, ◌⊎◌}
-use Rattle.s390x_buffer.specs.State.{State, Constant, TryCallSite, limit}
-use Rattle.s390x_buffer.specs.Patch.{first, uses_cause, patch_all, place_in, place_of}
+use Rattle.s390x_buffer.specs.State.{BufferState, Constant, TryCallSite, limit}
+use Rattle.s390x_buffer.specs.Patch.{first_use_cause, uses_cause, patch_all, offset_of_label, bound_offset}
 use Rattle.s390x_buffer.specs.Constants.{constant_starts, constant_bytes, constants_end, greatest_align}
 use Rattle.s390x_buffer.specs.declared.entries.TryHandler.{TryHandler}
 use Rattle.s390x_buffer.specs.declared.entries.HandlerEntry.{HandlerEntry}
@@ -10,7 +10,7 @@ use Rattle.s390x_buffer.specs.declared.entries.MachBufferFinalized.{MachBufferFi
 use Rattle.s390x_base.specs.declared.error.EmitError.{EmitError}
 use Rattle.s390x_base.specs.declared.error.EmitError.TheVariants.{LabelOutOfRange, Failed, NoMemory}
 
--- a call with a try, its handlers by their places
+-- a call with a try, its handlers by their offsets
 pub record PlacedTryCallSite : Type 0 where
   pub offset : ℕ
   pub frame : ℕ
@@ -20,20 +20,20 @@ pub record PlacedTryCallSite : Type 0 where
 abbrev pub entry_of : TryEntry → PlacedTryCallSite
 entry_of e = record { offset = e.offset; frame = e.frame; handlers = e.handlers.items }
 
--- a handler with the place of its label
-abbrev pub placed_handler : (ℕ → ℕ) → TryHandler → HandlerEntry
-placed_handler off h = record { tag = h.tag; offset = off h.label.0 }
+-- a handler with the offset of its label
+abbrev pub bound_handler : (ℕ → ℕ) → TryHandler → HandlerEntry
+bound_handler off h = record { tag = h.tag; offset = off h.label.0 }
 
--- a call with a try, its handlers with their places
-abbrev pub placed_site : (ℕ → ℕ) → TryCallSite → PlacedTryCallSite
-placed_site off s = record { offset = s.offset; frame = s.frame; handlers = map (placed_handler off) s.handlers }
+-- a call with a try, its handlers with their offsets
+abbrev pub bound_site : (ℕ → ℕ) → TryCallSite → PlacedTryCallSite
+bound_site off s = record { offset = s.offset; frame = s.frame; handlers = map (bound_handler off) s.handlers }
 
 -- where the constants start
-abbrev pub starts_of_constants : State → List ℕ
+abbrev pub starts_of_constants : BufferState → List ℕ
 starts_of_constants s = constant_starts (length s.bytes) s.constants
 
 -- the length of the code with the constants
-abbrev pub finished_length : State → ℕ
+abbrev pub finished_length : BufferState → ℕ
 finished_length s = constants_end (length s.bytes) s.constants
 
 -- the labels, those of the constants bound to where these start
@@ -41,7 +41,7 @@ abbrev pub bind_constants : ℕ → List ℕ → List (Option ℕ) → List (Opt
 bind_constants n starts labels = take n labels ++ (map Some starts ++ drop (n + length starts) labels)
 
 -- a buffer's labels when it is finished
-abbrev pub final_labels : State → List (Option ℕ)
+abbrev pub final_labels : BufferState → List (Option ℕ)
 final_labels s = bind_constants s.block_count (starts_of_constants s) s.labels
 
 -- bytes with the constants behind them, before any use is patched
@@ -49,40 +49,40 @@ abbrev pub with_constants : List ℕ → List Constant → List ℕ
 with_constants bs cs = bs ++ constant_bytes (length bs) cs
 
 -- a buffer's bytes and constants, before any use is patched
-abbrev pub unpatched : State → List ℕ
+abbrev pub unpatched : BufferState → List ℕ
 unpatched s = with_constants s.bytes s.constants
 
 -- why a buffer can't be finished, before any memory is taken: the mark, then the length
-abbrev pub length_cause : State → Option EmitError
+abbrev pub length_cause : BufferState → Option EmitError
 length_cause s = cond s.failed (Some Failed) (cond (nat_lt (finished_length s) limit) None (Some LabelOutOfRange))
 
 -- why its uses can't be patched
-abbrev pub patch_cause : State → Option EmitError
+abbrev pub patch_cause : BufferState → Option EmitError
 patch_cause s = uses_cause (final_labels s) s.uses (unpatched s)
 
 -- why a buffer can't be finished: the mark, the length, then the uses in order
-abbrev pub finish_cause : State → Option EmitError
-finish_cause s = first (length_cause s) (patch_cause s)
+abbrev pub finish_cause : BufferState → Option EmitError
+finish_cause s = first_use_cause (length_cause s) (patch_cause s)
 
 -- an error is the first cause, where that is told before memory is taken; else want of memory may come before the second
-abbrev pub BlamesEither : Option EmitError → Option EmitError → EmitError → Type 0
-BlamesEither (Some c) later e = e ≡ c
-BlamesEither None later e = (e ≡ NoMemory) ⊎ (later ≡ Some e)
+abbrev pub FailsWithEither : Option EmitError → Option EmitError → EmitError → Type 0
+FailsWithEither (Some c) later e = e ≡ c
+FailsWithEither None later e = (e ≡ NoMemory) ⊎ (later ≡ Some e)
 
 -- where the first n labels stand
-abbrev pub places_of : List (Option ℕ) → ℕ → List ℕ
-places_of labels n = map place_of (take n labels)
+abbrev pub offsets_of : List (Option ℕ) → ℕ → List ℕ
+offsets_of labels n = map bound_offset (take n labels)
 
 -- the bytes that were put and the constants, each use patched, and the tables as they were added
-pub record Finished (s : State) (f : MachBufferFinalized) : Type 0 where
-  pub bytes : f.bytes.items ≡ patch_all (place_in (final_labels s)) s.uses (unpatched s)
-  pub block_starts : f.block_starts.items ≡ places_of s.labels s.block_count
+pub record Finished (s : BufferState) (f : MachBufferFinalized) : Type 0 where
+  pub bytes : f.bytes.items ≡ patch_all (offset_of_label (final_labels s)) s.uses (unpatched s)
+  pub block_starts : f.block_starts.items ≡ offsets_of s.labels s.block_count
   pub constant_starts : f.constant_starts.items ≡ starts_of_constants s
   pub starts : f.starts.items ≡ s.starts
   pub relocs : f.relocs.items ≡ s.relocs
   pub traps : f.traps.items ≡ s.traps
   pub call_sites : f.call_sites.items ≡ s.call_sites
-  pub try_call_sites : map entry_of f.try_call_sites.items ≡ map (placed_site (place_in (final_labels s))) s.try_call_sites
+  pub try_call_sites : map entry_of f.try_call_sites.items ≡ map (bound_site (offset_of_label (final_labels s))) s.try_call_sites
   pub patchable_sites : f.patchable_sites.items ≡ s.patchable_sites
   pub stack_maps : f.stack_maps.items ≡ s.stack_maps
   pub alignment : f.alignment ≡ greatest_align 4 s.constants

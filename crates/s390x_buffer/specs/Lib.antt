@@ -1,5 +1,5 @@
 pub mod State
-pub mod Keeps
+pub mod Extends
 pub mod Patch
 pub mod Relocs
 pub mod Constants

@@ -15,20 +15,20 @@ abbrev pub set4 : List ℕ → ℕ → ℕ → List ℕ
 set4 bs o v = set (set (set (set bs o (v / 16777216 % 256)) (o + 1) (v / 65536 % 256)) (o + 2) (v / 256 % 256)) (o + 3) (v % 256)
 
 -- the number of two bytes of a list
-abbrev pub halfword : List ℕ → ℕ → ℕ
-halfword bs o = slice_index bs o * 256 + slice_index bs (o + 1)
+abbrev pub halfword_from : List ℕ → ℕ → ℕ
+halfword_from bs o = slice_index bs o * 256 + slice_index bs (o + 1)
 
 -- the number of four bytes of a list
-abbrev pub word : List ℕ → ℕ → ℕ
-word bs o = slice_index bs o * 16777216 + slice_index bs (o + 1) * 65536 + slice_index bs (o + 2) * 256 + slice_index bs (o + 3)
+abbrev pub word_from : List ℕ → ℕ → ℕ
+word_from bs o = slice_index bs o * 16777216 + slice_index bs (o + 1) * 65536 + slice_index bs (o + 2) * 256 + slice_index bs (o + 3)
 
--- the distance from a place to a target, modulo 2 ^ 32
-abbrev pub distance : ℕ → ℕ → ℕ
-distance place target = (4294967296 + target - place) % 4294967296
+-- the distance from an offset to a target, modulo 2 ^ 32
+abbrev pub distance_between : ℕ → ℕ → ℕ
+distance_between offset target = (4294967296 + target - offset) % 4294967296
 
 -- half of the distance, modulo 2 ^ 32. 8589934592 is 2 ^ 33, added so that the subtraction doesn't stop at 0
-abbrev pub half : ℕ → ℕ → ℕ
-half place target = (8589934592 + target - place) / 2 % 4294967296
+abbrev pub half_between : ℕ → ℕ → ℕ
+half_between offset target = (8589934592 + target - offset) / 2 % 4294967296
 
 -- the greatest distance of a use
 abbrev pub max_pos_range : LabelUse → ℕ
@@ -51,16 +51,16 @@ patch_size BranchRIL = 6
 patch_size PCRel32 = 4
 patch_size PCRel32Dbl = 4
 
--- what a use of a target makes of a list in which it begins at an index; the place is its offset in the code
+-- what a use of a target makes of a list in which it begins at an index; the offset is its offset in the code
 abbrev pub patch : LabelUse → ℕ → ℕ → ℕ → List ℕ → List ℕ
-patch BranchRI at place target bs = set2 bs (at + 2) (half place target)
-patch BranchRIL at place target bs = set4 bs (at + 2) (half place target)
-patch PCRel32 at place target bs = set4 bs at ((word bs at + distance place target) % 4294967296)
-patch PCRel32Dbl at place target bs = set4 bs at ((word bs at + half place target + 1) % 4294967296)
+patch BranchRI at offset target bs = set2 bs (at + 2) (half_between offset target)
+patch BranchRIL at offset target bs = set4 bs (at + 2) (half_between offset target)
+patch PCRel32 at offset target bs = set4 bs at ((word_from bs at + distance_between offset target) % 4294967296)
+patch PCRel32Dbl at offset target bs = set4 bs at ((word_from bs at + half_between offset target + 1) % 4294967296)
 
--- the distance from a place to a target is even and in the range of a use
+-- the distance from an offset to a target is even and in the range of a use
 abbrev pub is_in_reach : LabelUse → ℕ → ℕ → Bool
-is_in_reach k place target = nat_eq ((place + target) % 2) 0 && (nat_le target (place + max_pos_range k) && nat_le place (target + max_neg_range k))
+is_in_reach k offset target = nat_eq ((offset + target) % 2) 0 && (nat_le target (offset + max_pos_range k) && nat_le offset (target + max_neg_range k))
 
 -- a word as a signed number, plus 2 ^ 31
 abbrev pub flipped : ℕ → ℕ
@@ -68,19 +68,19 @@ flipped w = (w + 2147483648) % 4294967296
 
 -- a signed word plus the distance is a signed word again; only PCRel32 asks for it
 abbrev pub sum_fits : LabelUse → ℕ → ℕ → ℕ → Bool
-sum_fits BranchRI w place target = true
-sum_fits BranchRIL w place target = true
-sum_fits PCRel32 w place target = nat_le place (flipped w + target) && nat_lt (flipped w + target) (place + 4294967296)
-sum_fits PCRel32Dbl w place target = true
+sum_fits BranchRI w offset target = true
+sum_fits BranchRIL w offset target = true
+sum_fits PCRel32 w offset target = nat_le offset (flipped w + target) && nat_lt (flipped w + target) (offset + 4294967296)
+sum_fits PCRel32Dbl w offset target = true
 
 -- a label's place; 0 for one that isn't bound
-abbrev pub place_of : Option ℕ → ℕ
-place_of None = 0
-place_of (Some p) = p
+abbrev pub bound_offset : Option ℕ → ℕ
+bound_offset None = 0
+bound_offset (Some p) = p
 
--- the place of the label of a number
-abbrev pub place_in : List (Option ℕ) → ℕ → ℕ
-place_in labels l = place_of (get_or labels l None)
+-- the offset of the label of a number
+abbrev pub offset_of_label : List (Option ℕ) → ℕ → ℕ
+offset_of_label labels l = bound_offset (get_or labels l None)
 
 -- whether the label of a number is bound
 abbrev pub is_bound : List (Option ℕ) → ℕ → Bool
@@ -97,18 +97,18 @@ patch_all off (u ∷ us) bs = patch_all off us (patch_use off u bs)
 
 -- whether a use of a target can be patched into bytes: in reach, with a sum that fits, and within the bytes
 abbrev pub can_patch : LabelUse → ℕ → ℕ → List ℕ → Bool
-can_patch k place target bs = is_in_reach k place target && (sum_fits k (word bs place) place target && nat_le (place + patch_size k) (length bs))
+can_patch k offset target bs = is_in_reach k offset target && (sum_fits k (word_from bs offset) offset target && nat_le (offset + patch_size k) (length bs))
 
 -- why a use can't be patched into bytes
 abbrev pub use_cause : List (Option ℕ) → List ℕ → LabelFixup → Option EmitError
-use_cause labels bs u = cond (is_bound labels u.label.0) (cond (can_patch u.kind u.offset (place_in labels u.label.0) bs) None (Some LabelOutOfRange)) (Some UnboundLabel)
+use_cause labels bs u = cond (is_bound labels u.label.0) (cond (can_patch u.kind u.offset (offset_of_label labels u.label.0) bs) None (Some LabelOutOfRange)) (Some UnboundLabel)
 
 -- the first of two causes
-abbrev pub first : Option EmitError → Option EmitError → Option EmitError
-first None o = o
-first (Some e) o = Some e
+abbrev pub first_use_cause : Option EmitError → Option EmitError → Option EmitError
+first_use_cause None o = o
+first_use_cause (Some e) o = Some e
 
 -- the first use that can't be patched, each judged on the bytes that the earlier ones left
 abbrev pub uses_cause : List (Option ℕ) → List LabelFixup → List ℕ → Option EmitError
 uses_cause labels [] bs = None
-uses_cause labels (u ∷ us) bs = first (use_cause labels bs u) (uses_cause labels us (patch_use (place_in labels) u bs))
+uses_cause labels (u ∷ us) bs = first_use_cause (use_cause labels bs u) (uses_cause labels us (patch_use (offset_of_label labels) u bs))

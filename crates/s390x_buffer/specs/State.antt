@@ -31,9 +31,9 @@ pub record TryCallSite : Type 0 where
 abbrev pub site_of : TrySite → TryCallSite
 site_of s = record { offset = s.offset; frame = s.frame; handlers = s.handlers.items }
 
--- what was put, bound, used and recorded: the labels are the places where they are bound,
+-- what was put, bound, used and recorded: the labels are the offsets where they are bound,
 -- first those of the blocks, then those of the constants, then those that were drawn
-pub record State : Type 0 where
+pub record BufferState : Type 0 where
   pub bytes : List ℕ
   pub labels : List (Option ℕ)
   pub uses : List LabelFixup
@@ -49,8 +49,8 @@ pub record State : Type 0 where
   pub failed : Bool
 
 -- a buffer to which nothing was put
-abbrev pub fresh : ℕ → List Constant → State
-fresh n cs = record {
+abbrev pub fresh_buffer : ℕ → List Constant → BufferState
+fresh_buffer n cs = record {
   bytes = [];
   labels = replicate (n + length cs) None;
   uses = [];
@@ -67,13 +67,13 @@ fresh n cs = record {
 }
 
 -- a refused call leaves the mark, and all else as it was
-abbrev pub marked : State → State
-marked s = record s { failed = true }
+abbrev pub poisoned : BufferState → BufferState
+poisoned s = record s { failed = true }
 
 -- an error is the cause where there is one, else want of memory
-abbrev pub Blames : Option EmitError → EmitError → Type 0
-Blames None e = e ≡ NoMemory
-Blames (Some c) e = e ≡ c
+abbrev pub FailsWith : Option EmitError → EmitError → Type 0
+FailsWith None e = e ≡ NoMemory
+FailsWith (Some c) e = e ≡ c
 
 -- code ends below 2 ^ 31
 abbrev pub limit : ℕ
@@ -84,19 +84,19 @@ abbrev pub label_limit : ℕ
 label_limit = 4294967296
 
 -- a call that is refused for the mark alone
-abbrev pub mark_cause : State → Option EmitError
+abbrev pub mark_cause : BufferState → Option EmitError
 mark_cause s = cond s.failed (Some Failed) None
 
 -- a call that appends so many bytes
-abbrev pub put_cause : State → ℕ → Option EmitError
+abbrev pub put_cause : BufferState → ℕ → Option EmitError
 put_cause s n = cond s.failed (Some Failed) (cond (nat_lt (length s.bytes + n) limit) None (Some LabelOutOfRange))
 
 -- a call that takes the next label
-abbrev pub draw_cause : State → Option EmitError
+abbrev pub draw_cause : BufferState → Option EmitError
 draw_cause s = cond s.failed (Some Failed) (cond (nat_lt (length s.labels) label_limit) None (Some LabelOutOfRange))
 
 -- a call that names a label
-abbrev pub label_cause : State → ℕ → Option EmitError
+abbrev pub label_cause : BufferState → ℕ → Option EmitError
 label_cause s l = cond s.failed (Some Failed) (cond (nat_lt l (length s.labels)) None (Some UnboundLabel))
 
 -- whether each handler's label is one of so many
@@ -105,11 +105,11 @@ labels_below n [] = true
 labels_below n (h ∷ hs) = nat_lt h.label.0 n && labels_below n hs
 
 -- a call that names the labels of handlers
-abbrev pub handlers_cause : State → List TryHandler → Option EmitError
+abbrev pub handlers_cause : BufferState → List TryHandler → Option EmitError
 handlers_cause s hs = cond s.failed (Some Failed) (cond (labels_below (length s.labels) hs) None (Some UnboundLabel))
 
 -- a call that names a constant
-abbrev pub constant_cause : State → ℕ → Option EmitError
+abbrev pub constant_cause : BufferState → ℕ → Option EmitError
 constant_cause s c = cond s.failed (Some Failed) (cond (nat_lt c (length s.constants)) None (Some UnboundLabel))
 
 -- an alignment that a constant may have
@@ -126,13 +126,13 @@ abbrev pub new_cause : ℕ → List Constant → Option EmitError
 new_cause n cs = cond (all_aligned cs) (cond (nat_lt (n + length cs) label_limit) None (Some LabelOutOfRange)) (Some BadAlignment)
 
 -- the label of a constant
-abbrev pub constant_label : State → ℕ → ℕ
+abbrev pub constant_label : BufferState → ℕ → ℕ
 constant_label s c = s.block_count + c
 
 -- a label that isn't a constant's
-abbrev pub IsNoConstant : State → ℕ → Type 0
+abbrev pub IsNoConstant : BufferState → ℕ → Type 0
 IsNoConstant s l = (s.block_count ≤ l) → (s.block_count + length s.constants ≤ l)
 
 -- the declared alignment of a constant
-abbrev pub align_of : State → ℕ → Option ℕ
+abbrev pub align_of : BufferState → ℕ → Option ℕ
 align_of s c = slice_get (map (λ (d : Constant). d.align) s.constants) c

@@ -1,7 +1,7 @@
 -- What patching adds to words, and which bytes it leaves.
 use Rattle.std.specs.Prelude.{◌≡◌, ℕ, ◌+◌, ◌%◌, ◌<◌, ◌≤◌, List, ◌∷◌, ◌++◌, ◌⊎◌, All, length, slice_index}
-use Rattle.s390x_buffer.specs.State.{State}
-use Rattle.s390x_buffer.specs.Patch.{word, distance, half, place_in}
+use Rattle.s390x_buffer.specs.State.{BufferState}
+use Rattle.s390x_buffer.specs.Patch.{word_from, distance_between, half_between, offset_of_label}
 use Rattle.s390x_buffer.specs.Finish.{final_labels, unpatched}
 use Rattle.s390x_buffer.specs.Branches.{field_start, field_end, IsApart}
 use Rattle.s390x_buffer.specs.declared.entries.LabelFixup.{LabelFixup}
@@ -12,17 +12,17 @@ use Rattle.s390x_buffer.specs.declared.label_use.LabelUse.TheVariants.{BranchRI,
 abbrev pub IsSum : LabelUse → ℕ → ℕ → List ℕ → List ℕ → Type 0
 IsSum BranchRI o target old new = Unit {0}
 IsSum BranchRIL o target old new = Unit {0}
-IsSum PCRel32 o target old new = word new o ≡ (word old o + distance o target) % 4294967296
-IsSum PCRel32Dbl o target old new = word new o ≡ (word old o + half o target + 1) % 4294967296
+IsSum PCRel32 o target old new = word_from new o ≡ (word_from old o + distance_between o target) % 4294967296
+IsSum PCRel32Dbl o target old new = word_from new o ≡ (word_from old o + half_between o target + 1) % 4294967296
 
 -- each patched word that shares no byte with another use is the sum of what was put there and the distance
-abbrev pub SumsStand : State → List ℕ → Type 0
-SumsStand s bs = (before after : List LabelFixup) (u : LabelFixup) → s.uses ≡ before ++ u ∷ after → All (IsApart u) before → All (IsApart u) after → IsSum u.kind u.offset (place_in (final_labels s) u.label.0) (unpatched s) bs
+abbrev pub SumsStand : BufferState → List ℕ → Type 0
+SumsStand s bs = (before after : List LabelFixup) (u : LabelFixup) → s.uses ≡ before ++ u ∷ after → All (IsApart u) before → All (IsApart u) after → IsSum u.kind u.offset (offset_of_label (final_labels s) u.label.0) (unpatched s) bs
 
 -- a use leaves the byte with this index
 abbrev pub Leaves : ℕ → LabelFixup → Type 0
 Leaves i u = (i < field_start u.kind u.offset) ⊎ (field_end u.kind u.offset ≤ i)
 
 -- there are as many bytes as were put and the constants take, and each that no use patches is the one that was put, or a constant's
-abbrev pub OthersStand : State → List ℕ → Type 0
+abbrev pub OthersStand : BufferState → List ℕ → Type 0
 OthersStand s bs = (length bs ≡ length (unpatched s)) × ((i : ℕ) → All (Leaves i) s.uses → slice_index bs i ≡ slice_index (unpatched s) i)

@@ -2,9 +2,9 @@
 ghost use Rattle.std.specs.Prelude.{◌≡◌, ◌+◌, ◌<◌, ◌≤◌, ◌++◌, ◌∷◌, [], Some, None, true, false, length, map, set, get_or, replicate, MatchResult, IfOk};
 ghost use Rattle.std.specs.Int.{to_be_bytes, w32, w64};
 ghost use Rattle.s390x_buffer.specs.Branches.{BranchesLead};
-ghost use Rattle.s390x_buffer.specs.Finish.{length_cause, patch_cause, finish_cause, BlamesEither, Finished};
-ghost use Rattle.s390x_buffer.specs.Keeps.{Keeps, KeepsOthers};
-ghost use Rattle.s390x_buffer.specs.State.{State, Blames, marked, mark_cause, put_cause, draw_cause, label_cause, handlers_cause, labels_below, constant_cause, new_cause, fresh, constant_of, constant_label, is_alignment, all_aligned, IsNoConstant, align_of, limit, label_limit};
+ghost use Rattle.s390x_buffer.specs.Finish.{length_cause, patch_cause, finish_cause, FailsWithEither, Finished};
+ghost use Rattle.s390x_buffer.specs.Extends.{Extends, KeepsOthers};
+ghost use Rattle.s390x_buffer.specs.State.{BufferState, FailsWith, poisoned, mark_cause, put_cause, draw_cause, label_cause, handlers_cause, labels_below, constant_cause, new_cause, fresh_buffer, constant_of, constant_label, is_alignment, all_aligned, IsNoConstant, align_of, limit, label_limit};
 
 use crate::entries::{
     LabelFixup, MachBufferFinalized, MapEntry, PatchEntry, RelocEntry, TrapEntry, TryHandler,
@@ -50,9 +50,9 @@ pub struct MachBuffer {
 
 impl Model for MachBuffer {
     ghost use Rattle.std.specs.Prelude.{◌+◌, ◌<◌, ◌≤◌, length as list_length, map as list_map};
-    ghost use Rattle.s390x_buffer.specs.State.{State, constant_of, site_of, limit, label_limit};
+    ghost use Rattle.s390x_buffer.specs.State.{BufferState, constant_of, site_of, limit, label_limit};
 
-    ghost Value = { State };
+    ghost Value = { BufferState };
 
     ghost view = { λ b. record { bytes = b.bytes.items; labels = b.labels.items; uses = b.uses.items; traps = b.traps.items; relocs = b.relocs.items; call_sites = b.call_sites.items; try_call_sites = list_map site_of b.try_call_sites.items; patchable_sites = b.patchable_sites.items; stack_maps = b.stack_maps.items; starts = b.starts.items; block_count = b.block_count; constants = list_map constant_of b.constants.items; failed = b.failed } };
 
@@ -68,7 +68,7 @@ impl MachBuffer {
         block_count: u32,
         constants: &[ConstantData],
     ) -> Result<MachBuffer, EmitError>
-        ensures { MatchResult result (λ b. (new_cause block_count (map constant_of constants.now) ≡ None) × (b ≡ fresh block_count (map constant_of constants.now))) (λ e. Blames (new_cause block_count (map constant_of constants.now)) e) }
+        ensures { MatchResult result (λ b. (new_cause block_count (map constant_of constants.now) ≡ None) × (b ≡ fresh_buffer block_count (map constant_of constants.now))) (λ e. FailsWith (new_cause block_count (map constant_of constants.now)) e) }
     {
         if !all_aligned(constants) {
             return Err(EmitError::BadAlignment);
@@ -146,14 +146,14 @@ impl MachBuffer {
 
     /// Marks the buffer.
     pub fn fail(&mut self)
-        ensures { self.new ≡ marked self.old }
+        ensures { self.new ≡ poisoned self.old }
     {
         self.failed = true;
     }
 
     // A refusal: the mark stands from now on.
     fn refuse(&mut self, e: EmitError) -> Result<(), EmitError>
-        ensures { MatchResult result (λ _. false ≡ true) (λ x. (x ≡ e) × (self.new ≡ marked self.old)) }
+        ensures { MatchResult result (λ _. false ≡ true) (λ x. (x ≡ e) × (self.new ≡ poisoned self.old)) }
     {
         self.fail();
         Err(e)
@@ -161,8 +161,8 @@ impl MachBuffer {
 
     /// Appends bytes. Refused by `LabelOutOfRange` where the length would reach 2^31.
     pub fn put(&mut self, bytes: &[u8]) -> Result<(), EmitError>
-        ensures answer { MatchResult result (λ _. (put_cause self.old (length bytes.now) ≡ None) × (self.new ≡ record self.old { bytes = self.old.bytes ++ bytes.now })) (λ e. Blames (put_cause self.old (length bytes.now)) e × (self.new ≡ marked self.old)) }
-        ensures kept { Keeps self.old self.new }
+        ensures answer { MatchResult result (λ _. (put_cause self.old (length bytes.now) ≡ None) × (self.new ≡ record self.old { bytes = self.old.bytes ++ bytes.now })) (λ e. FailsWith (put_cause self.old (length bytes.now)) e × (self.new ≡ poisoned self.old)) }
+        ensures kept { Extends self.old self.new }
     {
         if self.failed {
             return self.refuse(EmitError::Failed);
@@ -178,16 +178,16 @@ impl MachBuffer {
 
     /// Appends a byte. Refused by `LabelOutOfRange` where the length would reach 2^31.
     pub fn put1(&mut self, value: u8) -> Result<(), EmitError>
-        ensures answer { MatchResult result (λ _. (put_cause self.old 1 ≡ None) × (self.new ≡ record self.old { bytes = self.old.bytes ++ value ∷ [] })) (λ e. Blames (put_cause self.old 1) e × (self.new ≡ marked self.old)) }
-        ensures kept { Keeps self.old self.new }
+        ensures answer { MatchResult result (λ _. (put_cause self.old 1 ≡ None) × (self.new ≡ record self.old { bytes = self.old.bytes ++ value ∷ [] })) (λ e. FailsWith (put_cause self.old 1) e × (self.new ≡ poisoned self.old)) }
+        ensures kept { Extends self.old self.new }
     {
         self.put(&[value])
     }
 
     /// Appends four bytes, the most significant first. Refused by `LabelOutOfRange` where the length would reach 2^31.
     pub fn put4(&mut self, value: u32) -> Result<(), EmitError>
-        ensures answer { MatchResult result (λ _. (put_cause self.old 4 ≡ None) × (self.new ≡ record self.old { bytes = self.old.bytes ++ to_be_bytes w32 value })) (λ e. Blames (put_cause self.old 4) e × (self.new ≡ marked self.old)) }
-        ensures kept { Keeps self.old self.new }
+        ensures answer { MatchResult result (λ _. (put_cause self.old 4 ≡ None) × (self.new ≡ record self.old { bytes = self.old.bytes ++ to_be_bytes w32 value })) (λ e. FailsWith (put_cause self.old 4) e × (self.new ≡ poisoned self.old)) }
+        ensures kept { Extends self.old self.new }
     {
         let word = value.to_be_bytes();
         self.put(&word)
@@ -195,8 +195,8 @@ impl MachBuffer {
 
     /// Appends eight bytes, the most significant first. Refused by `LabelOutOfRange` where the length would reach 2^31.
     pub fn put8(&mut self, value: u64) -> Result<(), EmitError>
-        ensures answer { MatchResult result (λ _. (put_cause self.old 8 ≡ None) × (self.new ≡ record self.old { bytes = self.old.bytes ++ to_be_bytes w64 value })) (λ e. Blames (put_cause self.old 8) e × (self.new ≡ marked self.old)) }
-        ensures kept { Keeps self.old self.new }
+        ensures answer { MatchResult result (λ _. (put_cause self.old 8 ≡ None) × (self.new ≡ record self.old { bytes = self.old.bytes ++ to_be_bytes w64 value })) (λ e. FailsWith (put_cause self.old 8) e × (self.new ≡ poisoned self.old)) }
+        ensures kept { Extends self.old self.new }
     {
         let doubleword = value.to_be_bytes();
         self.put(&doubleword)
@@ -204,16 +204,16 @@ impl MachBuffer {
 
     /// Appends the code of an instruction. Refused by `LabelOutOfRange` where the length would reach 2^31.
     pub fn put_code(&mut self, code: &Code) -> Result<(), EmitError>
-        ensures answer { MatchResult result (λ _. (put_cause self.old (length code.now) ≡ None) × (self.new ≡ record self.old { bytes = self.old.bytes ++ code.now })) (λ e. Blames (put_cause self.old (length code.now)) e × (self.new ≡ marked self.old)) }
-        ensures kept { Keeps self.old self.new }
+        ensures answer { MatchResult result (λ _. (put_cause self.old (length code.now) ≡ None) × (self.new ≡ record self.old { bytes = self.old.bytes ++ code.now })) (λ e. FailsWith (put_cause self.old (length code.now)) e × (self.new ≡ poisoned self.old)) }
+        ensures kept { Extends self.old self.new }
     {
         self.put(code.bytes())
     }
 
     /// Records a trap at the current offset.
     pub fn add_trap(&mut self, code: TrapCode) -> Result<(), EmitError>
-        ensures answer { MatchResult result (λ _. (mark_cause self.old ≡ None) × (self.new ≡ record self.old { traps = self.old.traps ++ record { offset = length self.old.bytes; code = code } ∷ [] })) (λ e. Blames (mark_cause self.old) e × (self.new ≡ marked self.old)) }
-        ensures kept { Keeps self.old self.new }
+        ensures answer { MatchResult result (λ _. (mark_cause self.old ≡ None) × (self.new ≡ record self.old { traps = self.old.traps ++ record { offset = length self.old.bytes; code = code } ∷ [] })) (λ e. FailsWith (mark_cause self.old) e × (self.new ≡ poisoned self.old)) }
+        ensures kept { Extends self.old self.new }
     {
         if self.failed {
             return self.refuse(EmitError::Failed);
@@ -232,8 +232,8 @@ impl MachBuffer {
         name: ExternalName,
         addend: Addend,
     ) -> Result<(), EmitError>
-        ensures answer { MatchResult result (λ _. (mark_cause self.old ≡ None) × (self.new ≡ record self.old { relocs = self.old.relocs ++ record { offset = length self.old.bytes; kind = kind; name = name; addend = addend } ∷ [] })) (λ e. Blames (mark_cause self.old) e × (self.new ≡ marked self.old)) }
-        ensures kept { Keeps self.old self.new }
+        ensures answer { MatchResult result (λ _. (mark_cause self.old ≡ None) × (self.new ≡ record self.old { relocs = self.old.relocs ++ record { offset = length self.old.bytes; kind = kind; name = name; addend = addend } ∷ [] })) (λ e. FailsWith (mark_cause self.old) e × (self.new ≡ poisoned self.old)) }
+        ensures kept { Extends self.old self.new }
     {
         let offset = self.cur_offset();
         self.add_reloc_at_offset(offset, kind, name, addend)
@@ -247,8 +247,8 @@ impl MachBuffer {
         name: ExternalName,
         addend: Addend,
     ) -> Result<(), EmitError>
-        ensures answer { MatchResult result (λ _. (mark_cause self.old ≡ None) × (self.new ≡ record self.old { relocs = self.old.relocs ++ record { offset = offset; kind = kind; name = name; addend = addend } ∷ [] })) (λ e. Blames (mark_cause self.old) e × (self.new ≡ marked self.old)) }
-        ensures kept { Keeps self.old self.new }
+        ensures answer { MatchResult result (λ _. (mark_cause self.old ≡ None) × (self.new ≡ record self.old { relocs = self.old.relocs ++ record { offset = offset; kind = kind; name = name; addend = addend } ∷ [] })) (λ e. FailsWith (mark_cause self.old) e × (self.new ≡ poisoned self.old)) }
+        ensures kept { Extends self.old self.new }
     {
         if self.failed {
             return self.refuse(EmitError::Failed);
@@ -270,8 +270,8 @@ impl MachBuffer {
 
     /// The next unused label. Refused by `LabelOutOfRange` where its number would pass 4294967295.
     pub fn get_label(&mut self) -> Result<MachLabel, EmitError>
-        ensures answer { MatchResult result (λ l. (draw_cause self.old ≡ None) × (l.0 ≡ length self.old.labels) × (self.new ≡ record self.old { labels = self.old.labels ++ None ∷ [] })) (λ e. Blames (draw_cause self.old) e × (self.new ≡ marked self.old)) }
-        ensures kept { Keeps self.old self.new }
+        ensures answer { MatchResult result (λ l. (draw_cause self.old ≡ None) × (l.0 ≡ length self.old.labels) × (self.new ≡ record self.old { labels = self.old.labels ++ None ∷ [] })) (λ e. FailsWith (draw_cause self.old) e × (self.new ≡ poisoned self.old)) }
+        ensures kept { Extends self.old self.new }
     {
         if self.failed {
             self.failed = true;
@@ -296,8 +296,8 @@ impl MachBuffer {
         &mut self,
         constant: VCodeConstant,
     ) -> Result<MachLabel, EmitError>
-        ensures answer { MatchResult result (λ l. (constant_cause self.old constant.0 ≡ None) × (l.0 ≡ constant_label self.old constant.0) × (self.new ≡ self.old)) (λ e. Blames (constant_cause self.old constant.0) e × (self.new ≡ marked self.old)) }
-        ensures kept { Keeps self.old self.new }
+        ensures answer { MatchResult result (λ l. (constant_cause self.old constant.0 ≡ None) × (l.0 ≡ constant_label self.old constant.0) × (self.new ≡ self.old)) (λ e. FailsWith (constant_cause self.old constant.0) e × (self.new ≡ poisoned self.old)) }
+        ensures kept { Extends self.old self.new }
     {
         if self.failed {
             self.failed = true;
@@ -314,7 +314,7 @@ impl MachBuffer {
     pub fn bind_label(&mut self, label: MachLabel) -> Result<(), EmitError>
         requires unbound { get_or self.old.labels label.0 None ≡ None }
         requires no_constant { IsNoConstant self.old label.0 }
-        ensures answer { MatchResult result (λ _. (label_cause self.old label.0 ≡ None) × (self.new ≡ record self.old { labels = set self.old.labels label.0 (Some (length self.old.bytes)) })) (λ e. Blames (label_cause self.old label.0) e × (self.new ≡ marked self.old)) }
+        ensures answer { MatchResult result (λ _. (label_cause self.old label.0 ≡ None) × (self.new ≡ record self.old { labels = set self.old.labels label.0 (Some (length self.old.bytes)) })) (λ e. FailsWith (label_cause self.old label.0) e × (self.new ≡ poisoned self.old)) }
         ensures kept { KeepsOthers label.0 self.old self.new }
     {
         if self.failed {
@@ -335,8 +335,8 @@ impl MachBuffer {
         label: MachLabel,
         kind: LabelUse,
     ) -> Result<(), EmitError>
-        ensures answer { MatchResult result (λ _. (label_cause self.old label.0 ≡ None) × (self.new ≡ record self.old { uses = self.old.uses ++ record { kind = kind; offset = offset; label = label } ∷ [] })) (λ e. Blames (label_cause self.old label.0) e × (self.new ≡ marked self.old)) }
-        ensures kept { Keeps self.old self.new }
+        ensures answer { MatchResult result (λ _. (label_cause self.old label.0 ≡ None) × (self.new ≡ record self.old { uses = self.old.uses ++ record { kind = kind; offset = offset; label = label } ∷ [] })) (λ e. FailsWith (label_cause self.old label.0) e × (self.new ≡ poisoned self.old)) }
+        ensures kept { Extends self.old self.new }
     {
         if self.failed {
             return self.refuse(EmitError::Failed);
@@ -357,8 +357,8 @@ impl MachBuffer {
 
     /// Records a call's site at the current offset.
     pub fn add_call_site(&mut self) -> Result<(), EmitError>
-        ensures answer { MatchResult result (λ _. (mark_cause self.old ≡ None) × (self.new ≡ record self.old { call_sites = self.old.call_sites ++ length self.old.bytes ∷ [] })) (λ e. Blames (mark_cause self.old) e × (self.new ≡ marked self.old)) }
-        ensures kept { Keeps self.old self.new }
+        ensures answer { MatchResult result (λ _. (mark_cause self.old ≡ None) × (self.new ≡ record self.old { call_sites = self.old.call_sites ++ length self.old.bytes ∷ [] })) (λ e. FailsWith (mark_cause self.old) e × (self.new ≡ poisoned self.old)) }
+        ensures kept { Extends self.old self.new }
     {
         if self.failed {
             return self.refuse(EmitError::Failed);
@@ -372,14 +372,14 @@ impl MachBuffer {
 
     /// Records the site of a call with a try at the current offset, with its frame's size in bytes and its handlers.
     /// Refused by `UnboundLabel` where a handler's label isn't this buffer's.
-    #[tactic(auto, using(crate::proofs::Keeping::keeps_mark, crate::proofs::Keeping::keeps_try_call_sites))]
+    #[tactic(auto, using(crate::proofs::Keeping::extends_mark, crate::proofs::Keeping::extends_try_call_sites))]
     pub fn add_try_call_site(
         &mut self,
         frame: u64,
         handlers: &[TryHandler],
     ) -> Result<(), EmitError>
-        ensures answer { MatchResult result (λ _. (handlers_cause self.old handlers.now ≡ None) × (self.new ≡ record self.old { try_call_sites = self.old.try_call_sites ++ record { offset = length self.old.bytes; frame = frame; handlers = handlers.now } ∷ [] })) (λ e. Blames (handlers_cause self.old handlers.now) e × (self.new ≡ marked self.old)) }
-        ensures kept { Keeps self.old self.new }
+        ensures answer { MatchResult result (λ _. (handlers_cause self.old handlers.now ≡ None) × (self.new ≡ record self.old { try_call_sites = self.old.try_call_sites ++ record { offset = length self.old.bytes; frame = frame; handlers = handlers.now } ∷ [] })) (λ e. FailsWith (handlers_cause self.old handlers.now) e × (self.new ≡ poisoned self.old)) }
+        ensures kept { Extends self.old self.new }
     {
         if self.failed {
             return self.refuse(EmitError::Failed);
@@ -405,8 +405,8 @@ impl MachBuffer {
 
     /// Records the site of a patchable call of so many bytes at the current offset.
     pub fn add_patchable_call_site(&mut self, len: u32) -> Result<(), EmitError>
-        ensures answer { MatchResult result (λ _. (mark_cause self.old ≡ None) × (self.new ≡ record self.old { patchable_sites = self.old.patchable_sites ++ record { offset = length self.old.bytes; len = len } ∷ [] })) (λ e. Blames (mark_cause self.old) e × (self.new ≡ marked self.old)) }
-        ensures kept { Keeps self.old self.new }
+        ensures answer { MatchResult result (λ _. (mark_cause self.old ≡ None) × (self.new ≡ record self.old { patchable_sites = self.old.patchable_sites ++ record { offset = length self.old.bytes; len = len } ∷ [] })) (λ e. FailsWith (mark_cause self.old) e × (self.new ≡ poisoned self.old)) }
+        ensures kept { Extends self.old self.new }
     {
         if self.failed {
             return self.refuse(EmitError::Failed);
@@ -420,8 +420,8 @@ impl MachBuffer {
 
     /// Records a stack map at an offset.
     pub fn push_user_stack_map(&mut self, offset: CodeOffset, map: u32) -> Result<(), EmitError>
-        ensures answer { MatchResult result (λ _. (mark_cause self.old ≡ None) × (self.new ≡ record self.old { stack_maps = self.old.stack_maps ++ record { offset = offset; map = map } ∷ [] })) (λ e. Blames (mark_cause self.old) e × (self.new ≡ marked self.old)) }
-        ensures kept { Keeps self.old self.new }
+        ensures answer { MatchResult result (λ _. (mark_cause self.old ≡ None) × (self.new ≡ record self.old { stack_maps = self.old.stack_maps ++ record { offset = offset; map = map } ∷ [] })) (λ e. FailsWith (mark_cause self.old) e × (self.new ≡ poisoned self.old)) }
+        ensures kept { Extends self.old self.new }
     {
         if self.failed {
             return self.refuse(EmitError::Failed);
@@ -434,8 +434,8 @@ impl MachBuffer {
 
     /// The current offset is where the next step starts.
     pub fn start_step(&mut self) -> Result<(), EmitError>
-        ensures answer { MatchResult result (λ _. (mark_cause self.old ≡ None) × (self.new ≡ record self.old { starts = self.old.starts ++ length self.old.bytes ∷ [] })) (λ e. Blames (mark_cause self.old) e × (self.new ≡ marked self.old)) }
-        ensures kept { Keeps self.old self.new }
+        ensures answer { MatchResult result (λ _. (mark_cause self.old ≡ None) × (self.new ≡ record self.old { starts = self.old.starts ++ length self.old.bytes ∷ [] })) (λ e. FailsWith (mark_cause self.old) e × (self.new ≡ poisoned self.old)) }
+        ensures kept { Extends self.old self.new }
     {
         if self.failed {
             return self.refuse(EmitError::Failed);
@@ -455,7 +455,7 @@ impl MachBuffer {
     /// `PCRel32` sum leaves signed 32 bits, or its bytes lie past the end.
     #[tactic(auto, using(crate::proofs::Branching::branches_lead))]
     pub fn finish(self) -> Result<MachBufferFinalized, EmitError>
-        ensures answer { MatchResult result (λ f. (finish_cause self ≡ None) × Finished self f) (λ e. BlamesEither (length_cause self) (patch_cause self) e) }
+        ensures answer { MatchResult result (λ f. (finish_cause self ≡ None) × Finished self f) (λ e. FailsWithEither (length_cause self) (patch_cause self) e) }
         ensures branches { IfOk result (λ f. BranchesLead self f.bytes.items) }
     {
         if self.failed {
@@ -533,7 +533,7 @@ pub fn all_aligned(constants: &[ConstantData]) -> bool
     true
 }
 
-// So many labels without a place.
+// So many labels without an offset.
 fn unbound(alloc: Global, count: u64) -> Result<Vec<Option<CodeOffset>>, AllocError>
     ensures { IfOk result (λ v. v.items ≡ replicate count None) }
 {

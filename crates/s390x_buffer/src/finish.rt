@@ -2,12 +2,12 @@
 ghost use Rattle.std.specs.Prelude.{◌≡◌, ◌+◌, ◌≤◌, ◌<◌, ◌++◌, ◌⊎◌, None, Some, MatchResult, length, map, IfOk, nat_lt, max, ◌^◌, ◌-◌};
 ghost use Rattle.s390x_base.specs.declared.error.EmitError.TheVariants.{NoMemory};
 ghost use Rattle.s390x_buffer.specs.State.{constant_of, site_of, limit};
-ghost use Rattle.s390x_buffer.specs.Patch.{place_in, patch_all, uses_cause};
+ghost use Rattle.s390x_buffer.specs.Patch.{offset_of_label, patch_all, uses_cause};
 ghost use Rattle.s390x_buffer.specs.Constants.{round_up, constant_start, constant_starts, constants_end, padded, constant_bytes, greatest_align};
-ghost use Rattle.s390x_buffer.specs.Finish.{bind_constants, with_constants, places_of, entry_of, placed_handler, placed_site};
+ghost use Rattle.s390x_buffer.specs.Finish.{bind_constants, with_constants, offsets_of, entry_of, bound_handler, bound_site};
 
 use crate::entries::{HandlerEntry, LabelFixup, TryEntry, TryHandler, TrySite};
-use crate::patch::{label_place, patch_uses};
+use crate::patch::{offset_of_label, patch_uses};
 use s390x_base::{CodeOffset, ConstantData, EmitError};
 use std::alloc::{AllocError, Global};
 
@@ -103,7 +103,7 @@ pub fn place_and_patch(
 ) -> Result<Vec<CodeOffset>, EmitError>
     requires fits { constants_end (length bytes.old.items) (map constant_of constants.now) < limit }
     requires labels { block_count + length constants.now ≤ length labels.old.items }
-    ensures { let starts = constant_starts (length bytes.old.items) (map constant_of constants.now) in let all = bind_constants block_count starts labels.old.items in let unpatched = with_constants bytes.old.items (map constant_of constants.now) in MatchResult result (λ v. (uses_cause all uses.now unpatched ≡ None) × (v.items ≡ starts) × (labels.new.items ≡ all) × (bytes.new.items ≡ patch_all (place_in all) uses.now unpatched)) (λ e. (e ≡ NoMemory) ⊎ (uses_cause all uses.now unpatched ≡ Some e)) }
+    ensures { let starts = constant_starts (length bytes.old.items) (map constant_of constants.now) in let all = bind_constants block_count starts labels.old.items in let unpatched = with_constants bytes.old.items (map constant_of constants.now) in MatchResult result (λ v. (uses_cause all uses.now unpatched ≡ None) × (v.items ≡ starts) × (labels.new.items ≡ all) × (bytes.new.items ≡ patch_all (offset_of_label all) uses.now unpatched)) (λ e. (e ≡ NoMemory) ⊎ (uses_cause all uses.now unpatched ≡ Some e)) }
 {
     let Ok(starts) = append_constants(alloc, bytes, constants) else {
         return Err(EmitError::NoMemory);
@@ -133,7 +133,7 @@ pub fn starts_of(
     count: u32,
 ) -> Result<Vec<CodeOffset>, AllocError>
     requires { count ≤ length labels.now }
-    ensures { IfOk result (λ v. v.items ≡ places_of labels.now count) }
+    ensures { IfOk result (λ v. v.items ≡ offsets_of labels.now count) }
 {
     let mut starts = Vec::new(alloc);
     for l in &labels[..count as usize] {
@@ -142,29 +142,29 @@ pub fn starts_of(
     Ok(starts)
 }
 
-// The handlers, by their places.
+// The handlers, by their offsets.
 fn place_handlers(
     alloc: Global,
     labels: &[Option<CodeOffset>],
     handlers: &[TryHandler],
 ) -> Result<Vec<HandlerEntry>, AllocError>
-    ensures { IfOk result (λ v. v.items ≡ map (placed_handler (place_in labels.now)) handlers.now) }
+    ensures { IfOk result (λ v. v.items ≡ map (bound_handler (offset_of_label labels.now)) handlers.now) }
 {
     let mut entries = Vec::new(alloc);
     for h in handlers {
-        let offset = label_place(labels, h.label.0);
+        let offset = offset_of_label(labels, h.label.0);
         entries.push(HandlerEntry { tag: h.tag, offset })?;
     }
     Ok(entries)
 }
 
-/// The calls with a try, their handlers by their places.
+/// The calls with a try, their handlers by their offsets.
 pub fn place_try_sites(
     alloc: Global,
     labels: &[Option<CodeOffset>],
     sites: &[TrySite],
 ) -> Result<Vec<TryEntry>, AllocError>
-    ensures { IfOk result (λ v. map entry_of v.items ≡ map (placed_site (place_in labels.now)) (map site_of sites.now)) }
+    ensures { IfOk result (λ v. map entry_of v.items ≡ map (bound_site (offset_of_label labels.now)) (map site_of sites.now)) }
 {
     let mut entries = Vec::new(alloc);
     for s in sites {

@@ -50,9 +50,9 @@ impl MachInstLabelUse for LabelUse {
     ghost use Rattle.std.specs.Prelude.{◌&&◌, nat_eq};
     ghost use Rattle.s390x_buffer.specs.Patch.{patch as patch_bytes, is_in_reach, patch_size as size_of_use};
 
-    ghost can_patch = { λ k n place target. nat_eq n (size_of_use k) && is_in_reach k place target };
+    ghost can_patch = { λ k n offset target. nat_eq n (size_of_use k) && is_in_reach k offset target };
 
-    ghost patched = { λ k place target bs. patch_bytes k 0 place target bs };
+    ghost patched = { λ k offset target bs. patch_bytes k 0 offset target bs };
 
     const ALIGN: CodeOffset = 2;
 

@@ -1,6 +1,6 @@
 //! Patching the uses of labels.
 ghost use Rattle.std.specs.Prelude.{◌≡◌, ◌+◌, ◌≤◌, ◌<◌, None, Some, true, length, MatchResult, IsTrue};
-ghost use Rattle.s390x_buffer.specs.Patch.{set2, set4, word, half, distance, patch, patch_all, place_in, is_bound, is_in_reach, sum_fits, can_patch, use_cause, uses_cause, max_pos_range, max_neg_range, patch_size};
+ghost use Rattle.s390x_buffer.specs.Patch.{set2, set4, word_from, half_between, distance_between, patch, patch_all, offset_of_label, is_bound, is_in_reach, sum_fits, can_patch, use_cause, uses_cause, max_pos_range, max_neg_range, patch_size};
 
 use crate::entries::LabelFixup;
 use crate::label_use::LabelUse;
@@ -30,7 +30,7 @@ fn write4(bytes: &mut [u8], at: usize, value: u32)
 // The word there.
 fn read4(bytes: &[u8], at: usize) -> u64
     requires { at + 4 ≤ length bytes.now }
-    ensures value { result ≡ word bytes.now at }
+    ensures value { result ≡ word_from bytes.now at }
     ensures fits { result < 4294967296 }
 {
     u64::from(bytes[at]) * 16777216
@@ -40,41 +40,41 @@ fn read4(bytes: &[u8], at: usize) -> u64
 }
 
 // Half the distance, modulo 2^32.
-fn half_between(place: CodeOffset, target: CodeOffset) -> u32
-    ensures { result ≡ half place target }
+fn half_between(offset: CodeOffset, target: CodeOffset) -> u32
+    ensures { result ≡ half_between offset target }
 {
-    ((8589934592 + u64::from(target) - u64::from(place)) / 2 % 4294967296) as u32
+    ((8589934592 + u64::from(target) - u64::from(offset)) / 2 % 4294967296) as u32
 }
 
 // The distance, modulo 2^32.
-fn distance_between(place: CodeOffset, target: CodeOffset) -> u32
-    ensures { result ≡ distance place target }
+fn distance_between(offset: CodeOffset, target: CodeOffset) -> u32
+    ensures { result ≡ distance_between offset target }
 {
-    ((4294967296 + u64::from(target) - u64::from(place)) % 4294967296) as u32
+    ((4294967296 + u64::from(target) - u64::from(offset)) % 4294967296) as u32
 }
 
-/// Patches a use of a target into bytes in which it begins at an index; the place is its offset in the code.
-pub fn patch_at(bytes: &mut [u8], at: usize, kind: LabelUse, place: CodeOffset, target: CodeOffset)
+/// Patches a use of a target into bytes in which it begins at an index; the offset is its offset in the code.
+pub fn patch_at(bytes: &mut [u8], at: usize, kind: LabelUse, offset: CodeOffset, target: CodeOffset)
     requires { at + patch_size kind ≤ length bytes.old }
-    ensures { bytes.new ≡ patch kind at place target bytes.old }
+    ensures { bytes.new ≡ patch kind at offset target bytes.old }
 {
     match kind {
-        LabelUse::BranchRI => write2(bytes, at + 2, half_between(place, target)),
-        LabelUse::BranchRIL => write4(bytes, at + 2, half_between(place, target)),
+        LabelUse::BranchRI => write2(bytes, at + 2, half_between(offset, target)),
+        LabelUse::BranchRIL => write4(bytes, at + 2, half_between(offset, target)),
         LabelUse::PCRel32 => {
-            let sum = (read4(bytes, at) + u64::from(distance_between(place, target))) % 4294967296;
+            let sum = (read4(bytes, at) + u64::from(distance_between(offset, target))) % 4294967296;
             write4(bytes, at, sum as u32)
         }
         LabelUse::PCRel32Dbl => {
-            let sum = (read4(bytes, at) + u64::from(half_between(place, target)) + 1) % 4294967296;
+            let sum = (read4(bytes, at) + u64::from(half_between(offset, target)) + 1) % 4294967296;
             write4(bytes, at, sum as u32)
         }
     }
 }
 
 /// Where the label stands; 0 where it was never bound.
-pub fn label_place(labels: &[Option<CodeOffset>], label: u32) -> CodeOffset
-    ensures { result ≡ place_in labels.now label }
+pub fn offset_of_label(labels: &[Option<CodeOffset>], label: u32) -> CodeOffset
+    ensures { result ≡ offset_of_label labels.now label }
 {
     if (label as usize) < labels.len() {
         labels[label as usize].unwrap_or(0)
@@ -95,48 +95,48 @@ fn label_bound(labels: &[Option<CodeOffset>], label: u32) -> bool
 }
 
 // Whether the distance is even and in the range of the use.
-fn reaches(kind: LabelUse, place: CodeOffset, target: CodeOffset) -> bool
-    ensures { result ≡ is_in_reach kind place target }
+fn reaches(kind: LabelUse, offset: CodeOffset, target: CodeOffset) -> bool
+    ensures { result ≡ is_in_reach kind offset target }
 {
-    let (place, target) = (u64::from(place), u64::from(target));
-    (place + target) % 2 == 0
-        && target <= place + u64::from(kind.max_pos_range())
-        && place <= target + u64::from(kind.max_neg_range())
+    let (offset, target) = (u64::from(offset), u64::from(target));
+    (offset + target) % 2 == 0
+        && target <= offset + u64::from(kind.max_pos_range())
+        && offset <= target + u64::from(kind.max_neg_range())
 }
 
 // Whether the sum of a table's word and the distance is a signed word.
-fn fits_sum(kind: LabelUse, word: u64, place: CodeOffset, target: CodeOffset) -> bool
+fn fits_sum(kind: LabelUse, word: u64, offset: CodeOffset, target: CodeOffset) -> bool
     requires { word < 4294967296 }
-    ensures { result ≡ sum_fits kind word place target }
+    ensures { result ≡ sum_fits kind word offset target }
 {
     match kind {
         LabelUse::PCRel32 => {
             let sum = (word + 2147483648) % 4294967296 + u64::from(target);
-            u64::from(place) <= sum && sum < u64::from(place) + 4294967296
+            u64::from(offset) <= sum && sum < u64::from(offset) + 4294967296
         }
         _ => true,
     }
 }
 
 // Whether the use of a target can be patched into the bytes.
-fn is_patchable(bytes: &[u8], kind: LabelUse, place: CodeOffset, target: CodeOffset) -> bool
-    ensures { result ≡ can_patch kind place target bytes.now }
+fn is_patchable(bytes: &[u8], kind: LabelUse, offset: CodeOffset, target: CodeOffset) -> bool
+    ensures { result ≡ can_patch kind offset target bytes.now }
 {
-    if u64::from(place) + u64::from(kind.patch_size()) > bytes.len() as u64 {
+    if u64::from(offset) + u64::from(kind.patch_size()) > bytes.len() as u64 {
         return false;
     }
-    let word = read4(bytes, place as usize);
-    reaches(kind, place, target) && fits_sum(kind, word, place, target)
+    let word = read4(bytes, offset as usize);
+    reaches(kind, offset, target) && fits_sum(kind, word, offset, target)
 }
 
 // Why the use can't be patched.
-fn use_refusal(bytes: &[u8], labels: &[Option<CodeOffset>], fixup: LabelFixup) -> Option<EmitError>
+fn use_cause(bytes: &[u8], labels: &[Option<CodeOffset>], fixup: LabelFixup) -> Option<EmitError>
     ensures { result ≡ use_cause labels.now bytes.now fixup }
 {
     if !label_bound(labels, fixup.label.0) {
         return Some(EmitError::UnboundLabel);
     }
-    let target = label_place(labels, fixup.label.0);
+    let target = offset_of_label(labels, fixup.label.0);
     if !is_patchable(bytes, fixup.kind, fixup.offset, target) {
         return Some(EmitError::LabelOutOfRange);
     }
@@ -152,13 +152,13 @@ pub fn patch_uses(
     labels: &[Option<CodeOffset>],
     uses: &[LabelFixup],
 ) -> Result<(), EmitError>
-    ensures { MatchResult result (λ _. (uses_cause labels.now uses.now bytes.old ≡ None) × (bytes.new ≡ patch_all (place_in labels.now) uses.now bytes.old)) (λ e. uses_cause labels.now uses.now bytes.old ≡ Some e) }
+    ensures { MatchResult result (λ _. (uses_cause labels.now uses.now bytes.old ≡ None) × (bytes.new ≡ patch_all (offset_of_label labels.now) uses.now bytes.old)) (λ e. uses_cause labels.now uses.now bytes.old ≡ Some e) }
 {
     for u in uses {
-        if let Some(e) = use_refusal(bytes, labels, *u) {
+        if let Some(e) = use_cause(bytes, labels, *u) {
             return Err(e);
         }
-        let target = label_place(labels, u.label.0);
+        let target = offset_of_label(labels, u.label.0);
         patch_at(bytes, u.offset as usize, u.kind, u.offset, target);
     }
     Ok(())

@@ -6,8 +6,8 @@ use Rattle.s390x_buffer.specs.declared.label_use.LabelUse.TheVariants.{BranchRIL
 use Rattle.s390x_format.specs.Formats.{length_of, layout_of}
 use Rattle.s390x_format.specs.Layout.{number, bits}
 use Rattle.s390x_format.specs.Reading.{be_bytes}
-use Rattle.s390x_steps.specs.MachineInstruction.{ril_b, ril_c, bytes_of}
-use Rattle.s390x_steps.specs.Rows.{half_distance, table_distance, word_bytes}
+use Rattle.s390x_typed_steps.specs.MachineInstruction.{ril_b, ril_c, bytes_of}
+use Rattle.s390x_typed_steps.specs.Rows.{half_distance, table_distance, word_bytes}
 
 -- c0, the mask beside 4, and a word
 abbrev with_word : (m h : ℕ) → ℕ

@@ -3,17 +3,17 @@ use Rattle.std.proofs.Common.{◌≡◌, ℕ, ◌+◌, ◌<◌, ◌≤◌, ◌�
 use Rattle.std.specs.Prelude.{is_some}
 use Rattle.std.proofs.lemmas.Bool.{cases_lt, cases_eq}
 use Rattle.std.proofs.lemmas.List.{get_or-set_other, get_or-set_same}
-use Rattle.s390x_buffer.specs.State.{State}
+use Rattle.s390x_buffer.specs.State.{BufferState}
 use Rattle.s390x_buffer.specs.Patch.{is_bound}
 use Rattle.s390x_base.specs.Regs.{number_of}
 use Rattle.s390x_inst.specs.declared.inst.Inst.{Inst}
 use Rattle.s390x_inst.specs.declared.inst.Inst.TheVariants.{JTSequence}
-use Rattle.s390x_steps.specs.Tree.{Tree, empty, leaf, looped}
-use Rattle.s390x_steps.specs.Sizes.{instruction_size, tree_size}
-use Rattle.s390x_steps.specs.Causes.{instruction_draws, draws}
-use Rattle.s390x_steps.specs.MachineInstruction.{ril_c, bytes_of}
-use Rattle.s390x_emit_int.specs.Pieces.{apply, run, Step}
-use Rattle.s390x_emit_int.specs.Emission.{leaf_pieces, back_pieces, pieces, function_pieces}
+use Rattle.s390x_typed_steps.specs.Tree.{Tree, empty, leaf, loop_node}
+use Rattle.s390x_typed_steps.specs.Sizes.{instruction_size, tree_size}
+use Rattle.s390x_typed_steps.specs.Causes.{instruction_fresh_labels, fresh_labels}
+use Rattle.s390x_typed_steps.specs.MachineInstruction.{ril_c, bytes_of}
+use Rattle.s390x_emit_int.specs.Fragments.{apply, apply_all, StartStep}
+use Rattle.s390x_emit_int.specs.Emission.{leaf_fragments, back_fragments, fragments, function_fragments}
 use Rattle.s390x_emit_int.proofs.Runs.{Grows, grows_on, run-append, leaf_grows, step_grows, table_label, tree_grows, opened, opened_labels, opened_grows, body_run, loop_run, end_grows}
 use Rattle.s390x_emit_int.proofs.Binding.{opened_start}
 use Rattle.s390x_emit_int.proofs.Functions.{bound_state, block_state, block_grows, block_labels, later}
@@ -27,46 +27,46 @@ set_bound labels k l p lt h =
     ]
 
 -- so is the label that an instruction draws
-leaf_closed : (i : Inst) (s : State) (n after l : ℕ) → n ≡ length s.labels → n ≤ l → l < n + instruction_draws i → is_bound (run s (leaf_pieces n after i)).labels l ≡ true
+leaf_closed : (i : Inst) (s : BufferState) (n after l : ℕ) → n ≡ length s.labels → n ≤ l → l < n + instruction_fresh_labels i → is_bound (apply_all s (leaf_fragments n after i)).labels l ≡ true
 leaf_closed (JTSequence ridx other mask targets) s n after l e lo hi =
     let same : l ≡ n = omega arith in
-    let pieces = leaf_pieces n after (JTSequence ridx other mask targets) in
-    ap (is_bound (run s pieces).labels) same ∙ ap is_some (table_label s n (number_of ridx) mask other.0 targets.items e)
+    let fragments = leaf_fragments n after (JTSequence ridx other mask targets) in
+    ap (is_bound (apply_all s fragments).labels) same ∙ ap is_some (table_label s n (number_of ridx) mask other.0 targets.items e)
 leaf_closed i s n after l e lo hi = absurd (omega arith)
 
 -- the labels that a tree draws, from number n on, are bound behind it
-pub tree_closed : (t : Tree) (s : State) (n after l : ℕ) → n ≡ length s.labels → n ≤ l → l < length (run s (pieces n after t)).labels → is_bound (run s (pieces n after t)).labels l ≡ true
+pub tree_closed : (t : Tree) (s : BufferState) (n after l : ℕ) → n ≡ length s.labels → n ≤ l → l < length (apply_all s (fragments n after t)).labels → is_bound (apply_all s (fragments n after t)).labels l ≡ true
 tree_closed empty s n after l e lo hi = absurd (omega arith)
 tree_closed (leaf i rest) s n after l e lo hi =
-    let s1 = apply s Step in
-    let s2 = run s1 (leaf_pieces n after i) in
-    let n' = n + instruction_draws i in
-    let g : Grows s s2 (instruction_draws i) (instruction_size i) = step_grows s s2 _ _ (leaf_grows i s1 n after e) in
+    let s1 = apply s StartStep in
+    let s2 = apply_all s1 (leaf_fragments n after i) in
+    let n' = n + instruction_fresh_labels i in
+    let g : Grows s s2 (instruction_fresh_labels i) (instruction_size i) = step_grows s s2 _ _ (leaf_grows i s1 n after e) in
     let n2 : n' ≡ length s2.labels = omega (arith, g.labels) in
-    let whole : run s (pieces n after (leaf i rest)) ≡ run s2 (pieces n' after rest) = run-append s1 (leaf_pieces n after i) (pieces n' after rest) in
-    let hi2 : l < length (run s2 (pieces n' after rest)).labels = omega (arith, hi, ap (λ x. length x.labels) whole) in
+    let whole : apply_all s (fragments n after (leaf i rest)) ≡ apply_all s2 (fragments n' after rest) = run-append s1 (leaf_fragments n after i) (fragments n' after rest) in
+    let hi2 : l < length (apply_all s2 (fragments n' after rest)).labels = omega (arith, hi, ap (λ x. length x.labels) whole) in
     ap (λ x. is_bound x.labels l) whole ∙ elim (cases_lt l n') [
       | inl lt ↦ ap is_some ((tree_grows rest s2 n' after n2).kept l (omega (arith, n2))) ∙ leaf_closed i s1 n after l e lo lt
       | inr ge ↦ tree_closed rest s2 n' after l n2 ge hi2
     ]
-tree_closed (looped mask members rest) s n after l e lo hi =
+tree_closed (loop_node mask members rest) s n after l e lo hi =
     let n0 = length s.labels in
-    let s1 = apply s Step in
+    let s1 = apply s StartStep in
     let o = opened s1 in
     let s2 = body_run s1 members in
     let s3 = loop_run s1 mask members in
     let gb = tree_grows members o (n0 + 2) (n0 + 1) (sym (opened_labels s1)) in
     let g2 = grows_on s1 o s2 _ _ _ _ (opened_grows s1) gb in
-    let g3 = end_grows s1 s2 mask (draws members) (0 + tree_size members) g2 in
-    let pr = pieces (n0 + 2 + draws members) after rest in
-    let n3 : n0 + 2 + draws members ≡ length s3.labels = omega (arith, g3.labels) in
-    let gr = tree_grows rest s3 (n0 + 2 + draws members) after n3 in
-    let u = run s3 pr in
-    let first : run s (pieces n after (looped mask members rest)) ≡ run s (pieces n0 after (looped mask members rest)) = ap (λ x. run s (pieces x after (looped mask members rest))) e in
-    let second : run s (pieces n0 after (looped mask members rest)) ≡ u = run-append o (pieces (n0 + 2) (n0 + 1) members) (back_pieces n0 mask ++ pr) ∙ run-append s2 (back_pieces n0 mask) pr in
+    let g3 = end_grows s1 s2 mask (fresh_labels members) (0 + tree_size members) g2 in
+    let pr = fragments (n0 + 2 + fresh_labels members) after rest in
+    let n3 : n0 + 2 + fresh_labels members ≡ length s3.labels = omega (arith, g3.labels) in
+    let gr = tree_grows rest s3 (n0 + 2 + fresh_labels members) after n3 in
+    let u = apply_all s3 pr in
+    let first : apply_all s (fragments n after (loop_node mask members rest)) ≡ apply_all s (fragments n0 after (loop_node mask members rest)) = ap (λ x. apply_all s (fragments x after (loop_node mask members rest))) e in
+    let second : apply_all s (fragments n0 after (loop_node mask members rest)) ≡ u = run-append o (fragments (n0 + 2) (n0 + 1) members) (back_fragments n0 mask ++ pr) ∙ run-append s2 (back_fragments n0 mask) pr in
     let whole = first ∙ second in
     let hiu : l < length u.labels = omega (arith, hi, ap (λ x. length x.labels) whole) in
-    let l2 : length s2.labels ≡ n0 + (2 + draws members) = g2.labels in
+    let l2 : length s2.labels ≡ n0 + (2 + fresh_labels members) = g2.labels in
     let long = length-set s2.labels (n0 + 1) (Some (length (s2.bytes ++ bytes_of (ril_c 0xc04 mask 0)))) in
     let start_in : n0 < length o.labels = omega (arith, opened_labels s1) in
     let inner : (j : ℕ) → n0 ≤ j → j < length s2.labels → j ≢ n0 + 1 → is_bound s2.labels j ≡ true = λ j low high ne.
@@ -76,39 +76,39 @@ tree_closed (looped mask members rest) s n after l e lo hi =
     ] in
     ap (λ x. is_bound x.labels l) whole ∙ elim (cases_lt l (length s3.labels)) [
       | inl lt ↦ ap is_some (gr.kept l lt) ∙ set_bound s2.labels (n0 + 1) l _ (omega (arith, long, lt)) (inner l (omega (arith, e, lo)) (omega (arith, long, lt)))
-      | inr ge ↦ tree_closed rest s3 (n0 + 2 + draws members) after l n3 (omega (arith, n3)) hiu
+      | inr ge ↦ tree_closed rest s3 (n0 + 2 + fresh_labels members) after l n3 (omega (arith, n3)) hiu
     ]
 
 -- the labels of blocks
-pub blocks_closed : (ts : List Tree) (s : State) (n b l : ℕ) → n ≡ length s.labels → b + length ts ≤ n → b ≤ l → l < b + length ts → is_bound (run s (function_pieces n b ts)).labels l ≡ true
+pub blocks_closed : (ts : List Tree) (s : BufferState) (n b l : ℕ) → n ≡ length s.labels → b + length ts ≤ n → b ≤ l → l < b + length ts → is_bound (apply_all s (function_fragments n b ts)).labels l ≡ true
 blocks_closed [] s n b l e room lo hi = absurd (omega arith)
 blocks_closed (t ∷ ts) s n b l e room lo hi =
     let s2 = block_state s n b t in
-    let rest = function_pieces (n + draws t) (b + 1) ts in
+    let rest = function_fragments (n + fresh_labels t) (b + 1) ts in
     let n2 = block_labels t s n b e in
     let g = block_grows t s n b e in
     let long = length-set s.labels b (Some (length s.bytes)) in
-    let whole = run-append (bound_state s b) (pieces n 0 t) rest in
+    let whole = run-append (bound_state s b) (fragments n 0 t) rest in
     let in0 : b < length s.labels = omega (arith, e) in
     let in1 : b < length (bound_state s b).labels = omega (arith, long, e) in
-    let here : is_bound (run s2 rest).labels b ≡ true = ap is_some (later ts s2 (n + draws t) (b + 1) b n2 (omega arith) (inl (omega arith)) ∙ g.kept b in1 ∙ get_or-set_same s.labels b (Some (length s.bytes)) None in0) in
+    let here : is_bound (apply_all s2 rest).labels b ≡ true = ap is_some (later ts s2 (n + fresh_labels t) (b + 1) b n2 (omega arith) (inl (omega arith)) ∙ g.kept b in1 ∙ get_or-set_same s.labels b (Some (length s.bytes)) None in0) in
     ap (λ x. is_bound x.labels l) whole ∙ elim (cases_eq l b) [
-      | inl at ↦ ap (is_bound (run s2 rest).labels) at ∙ here
-      | inr not ↦ blocks_closed ts s2 (n + draws t) (b + 1) l n2 (omega arith) (omega arith) (omega arith)
+      | inl at ↦ ap (is_bound (apply_all s2 rest).labels) at ∙ here
+      | inr not ↦ blocks_closed ts s2 (n + fresh_labels t) (b + 1) l n2 (omega arith) (omega arith) (omega arith)
     ]
 
 -- the labels that the blocks' loops draw
-pub drawn_closed : (ts : List Tree) (s : State) (n b l : ℕ) → n ≡ length s.labels → b + length ts ≤ n → n ≤ l → l < length (run s (function_pieces n b ts)).labels → is_bound (run s (function_pieces n b ts)).labels l ≡ true
+pub drawn_closed : (ts : List Tree) (s : BufferState) (n b l : ℕ) → n ≡ length s.labels → b + length ts ≤ n → n ≤ l → l < length (apply_all s (function_fragments n b ts)).labels → is_bound (apply_all s (function_fragments n b ts)).labels l ≡ true
 drawn_closed [] s n b l e room lo hi = absurd (omega arith)
 drawn_closed (t ∷ ts) s n b l e room lo hi =
     let s1 = bound_state s b in
     let s2 = block_state s n b t in
-    let rest = function_pieces (n + draws t) (b + 1) ts in
+    let rest = function_fragments (n + fresh_labels t) (b + 1) ts in
     let n2 = block_labels t s n b e in
     let long = length-set s.labels b (Some (length s.bytes)) in
-    let whole = run-append s1 (pieces n 0 t) rest in
-    let hiu : l < length (run s2 rest).labels = omega (arith, hi, ap (λ x. length x.labels) whole) in
-    ap (λ x. is_bound x.labels l) whole ∙ elim (cases_lt l (n + draws t)) [
-      | inl lt ↦ ap is_some (later ts s2 (n + draws t) (b + 1) l n2 lt (inr (omega arith))) ∙ tree_closed t s1 n 0 l (e ∙ sym long) lo (omega (arith, n2))
-      | inr ge ↦ drawn_closed ts s2 (n + draws t) (b + 1) l n2 (omega arith) ge hiu
+    let whole = run-append s1 (fragments n 0 t) rest in
+    let hiu : l < length (apply_all s2 rest).labels = omega (arith, hi, ap (λ x. length x.labels) whole) in
+    ap (λ x. is_bound x.labels l) whole ∙ elim (cases_lt l (n + fresh_labels t)) [
+      | inl lt ↦ ap is_some (later ts s2 (n + fresh_labels t) (b + 1) l n2 lt (inr (omega arith))) ∙ tree_closed t s1 n 0 l (e ∙ sym long) lo (omega (arith, n2))
+      | inr ge ↦ drawn_closed ts s2 (n + fresh_labels t) (b + 1) l n2 (omega arith) ge hiu
     ]

@@ -7,7 +7,7 @@ use Rattle.s390x_buffer.specs.State.{Constant, is_alignment, all_aligned}
 use Rattle.s390x_buffer.specs.Constants.{round_up, constant_start, constant_starts, constants_end, greatest_align}
 use Rattle.s390x_buffer.specs.Finish.{bind_constants}
 use Rattle.s390x_buffer.proofs.Placing.{end-ge}
-use Rattle.s390x_steps.specs.Causes.{aligns_of}
+use Rattle.s390x_typed_steps.specs.Causes.{aligns_of}
 
 -- an alignment that a constant may have
 pub data IsAlignment (a : ℕ) : Type 0 where
@@ -71,13 +71,13 @@ starts_of (x ∷ cs) n (suc c) all lt =
 -- ---- the code's alignment
 
 -- no constant asks for more
-greatest_keeps : (a : ℕ) (cs : List Constant) → a ≤ greatest_align a cs
-greatest_keeps a [] = omega arith
-greatest_keeps a (c ∷ cs) = omega (arith, greatest_keeps (max a c.align) cs)
+greatest_extends : (a : ℕ) (cs : List Constant) → a ≤ greatest_align a cs
+greatest_extends a [] = omega arith
+greatest_extends a (c ∷ cs) = omega (arith, greatest_extends (max a c.align) cs)
 
 pub greatest_ge : (cs : List Constant) (a c : ℕ) → c < length cs → get_or (aligns_of cs) c 0 ≤ greatest_align a cs
 greatest_ge [] a c lt = absurd (omega arith)
-greatest_ge (x ∷ cs) a zero lt = omega (arith, greatest_keeps (max a x.align) cs)
+greatest_ge (x ∷ cs) a zero lt = omega (arith, greatest_extends (max a x.align) cs)
 greatest_ge (x ∷ cs) a (suc c) lt = greatest_ge cs (max a x.align) c (omega arith)
 
 -- ---- the constants' labels

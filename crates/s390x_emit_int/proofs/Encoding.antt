@@ -10,7 +10,7 @@ use Rattle.s390x_base.specs.declared.regs.Reg.{Reg}
 use Rattle.s390x_base.specs.declared.regs.RegPair.{RegPair}
 use Rattle.s390x_base.specs.declared.regs.WritableRegPair.{WritableRegPair}
 use Rattle.s390x_base.specs.declared.regs.Reg.TheVariants.{Real, Virtual}
-use Rattle.s390x_enc.specs.Operands.{is_first_float, is_second_float, is_float, may_stand_first, may_stand_second, is_general as encodes_general, is_int as encodes_int}
+use Rattle.s390x_enc.specs.Operands.{is_first_float, is_second_float, is_float, may_stand_first, may_stand_second, is_general_class as encodes_general, is_int_class as encodes_int}
 use Rattle.s390x_inst.specs.declared.ops.ALUOp.{ALUOp}
 use Rattle.s390x_inst.specs.declared.ops.ALUOp.TheVariants.{Add32}
 use Rattle.s390x_inst.specs.declared.ops.CmpOp.{CmpOp}
@@ -19,9 +19,9 @@ use Rattle.s390x_inst.specs.declared.ops.UnaryOp.{UnaryOp}
 use Rattle.s390x_inst.specs.declared.ops.UnaryOp.TheVariants.{Abs32}
 use Rattle.s390x_base.specs.Registers.{general}
 use Rattle.s390x_base.specs.Regs.{is_pair}
-use Rattle.s390x_steps.specs.General.{is_general, is_even_pair, reuses, reuses_pair}
-use Rattle.s390x_steps.specs.Opcodes.{alu_two, cmp_two, unary_two}
-use Rattle.s390x_emit_int.specs.Alone.{can_encode, encodes, takes_general}
+use Rattle.s390x_typed_steps.specs.General.{is_general, is_even_pair, reuses, reuses_pair}
+use Rattle.s390x_typed_steps.specs.Opcodes.{alu_two, cmp_two, unary_two}
+use Rattle.s390x_emit_int.specs.SingleInstruction.{can_encode, encodes, takes_general}
 use Rattle.s390x_emit_int.specs.declared.register_row.RegisterRow.{RegisterRow}
 
 -- a test with a weaker one behind it

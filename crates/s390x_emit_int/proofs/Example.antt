@@ -6,7 +6,7 @@ use Rattle.s390x_format.specs.Reading.{be_bytes}
 use Rattle.s390x_buffer.specs.declared.entries.MachBufferFinalized.{MachBufferFinalized}
 use Rattle.s390x_machine.specs.Example.{image, trees}
 use Rattle.s390x_machine.proofs.Example.{ranges, loop_runs}
-use Rattle.s390x_emit_int.specs.Function.{IsImage}
+use Rattle.s390x_emit_int.specs.Function.{IsFinishedCode}
 use Rattle.s390x_emit_int.specs.Example.{LinkedLoopRuns}
 
 -- a vector of these
@@ -28,7 +28,7 @@ code = record {
   alignment = 4;
 }
 
-finished : IsImage trees [] code
+finished : IsFinishedCode trees [] code
 unfolding vec code number bits layout_of length_of be_bytes
 finished = record {
   bytes = refl;

@@ -13,21 +13,21 @@ use Rattle.s390x_image.specs.Symbols.{Symbols, address_of}
 use Rattle.s390x_base.specs.declared.ir.Reloc.TheVariants.{S390xPCRel32Dbl}
 use Rattle.s390x_image.specs.Fields.{address_or_zero, stored, filled, LiesIn}
 use Rattle.s390x_image.specs.Values.{symbol_value, symbol_distance}
-use Rattle.s390x_steps.specs.Tree.{Tree}
-use Rattle.s390x_steps.specs.Steps.{Step, function_steps}
-use Rattle.s390x_steps.specs.Parts.{Part, Row, Trapping, Branch, Relative, RelativeConstant, RelativeSymbol, SymbolValue, TrapHere, TableWord, ToBlock, ToStep, part_size, parts_size, step_parts}
-use Rattle.s390x_steps.specs.MachineInstruction.{ril_b, bytes_of}
-use Rattle.s390x_steps.specs.Sizes.{blocks_size}
-use Rattle.s390x_steps.specs.Rows.{Outside, Places, part_bytes, parts_bytes, step_bytes}
-use Rattle.s390x_steps.specs.Relocs.{part_relocs, parts_relocs, step_relocs, relocs_from, function_relocs}
-use Rattle.s390x_steps.specs.Image.{place, places, unlinked, code, function_code}
+use Rattle.s390x_typed_steps.specs.Tree.{Tree}
+use Rattle.s390x_typed_steps.specs.Steps.{Step, function_steps}
+use Rattle.s390x_typed_steps.specs.Parts.{CodePart, Row, Trapping, Branch, Relative, RelativeConstant, RelativeSymbol, SymbolValue, TrapHere, TableWord, ToBlock, ToStep, part_size, parts_size, step_parts}
+use Rattle.s390x_typed_steps.specs.MachineInstruction.{ril_b, bytes_of}
+use Rattle.s390x_typed_steps.specs.Sizes.{blocks_size}
+use Rattle.s390x_typed_steps.specs.Rows.{LinkEnvironment, Offsets, part_bytes, parts_bytes, step_bytes}
+use Rattle.s390x_typed_steps.specs.Relocs.{part_relocs, parts_relocs, step_relocs, relocs_from, function_relocs}
+use Rattle.s390x_typed_steps.specs.Image.{step_offset, offsets, unlinked, code, function_code}
 use Rattle.s390x_machine.proofs.Standing.{part_length, step_length}
 use Rattle.s390x_buffer.specs.State.{Constant}
 use Rattle.s390x_buffer.specs.Constants.{constant_bytes}
 use Rattle.s390x_buffer.specs.declared.entries.MachBufferFinalized.{MachBufferFinalized}
-use Rattle.s390x_emit_int.specs.Function.{IsImage}
+use Rattle.s390x_emit_int.specs.Function.{IsFinishedCode}
 use Rattle.s390x_emit_int.specs.Headline.{linked}
-use Rattle.s390x_emit_int.specs.Bound.{Follows}
+use Rattle.s390x_emit_int.specs.Bound.{StepsFollow}
 use Rattle.s390x_emit_int.proofs.Branches.{relative_head, relative_split}
 use Rattle.s390x_emit_int.proofs.Functions.{place_follows, place_zero}
 use Rattle.s390x_emit_int.proofs.Joining.{total}
@@ -70,7 +70,7 @@ relative_filled base table opcode register p name offset earlier later e =
     ∙ new
 
 module _ (base : ℕ) (table : Symbols) (ts : List Tree) (cs : List Constant) where
-  part_filled : (part : Part) (p : ℕ) (earlier later : List ℕ) → p ≡ length earlier → filled base table (part_relocs p part) (earlier ++ (part_bytes (places (unlinked ts cs) ts) p part ++ later)) ≡ earlier ++ (part_bytes (places (linked table base ts cs) ts) p part ++ later)
+  part_filled : (part : CodePart) (p : ℕ) (earlier later : List ℕ) → p ≡ length earlier → filled base table (part_relocs p part) (earlier ++ (part_bytes (offsets (unlinked ts cs) ts) p part ++ later)) ≡ earlier ++ (part_bytes (offsets (linked table base ts cs) ts) p part ++ later)
   part_filled (Row m) p earlier later e = refl
   part_filled (Trapping m byte code) p earlier later e = refl
   part_filled (Branch mask (ToBlock b)) p earlier later e = refl
@@ -84,15 +84,15 @@ module _ (base : ℕ) (table : Symbols) (ts : List Tree) (cs : List Constant) wh
   part_filled (TableWord before (ToStep k)) p earlier later e = refl
   part_filled (SymbolValue name offset) p earlier later e = stored_between earlier (to_be_bytes w64 0) (to_be_bytes w64 (symbol_value table name offset)) later p e refl
 
-  parts_filled : (parts : List Part) (p : ℕ) (earlier later : List ℕ) → p ≡ length earlier → filled base table (parts_relocs p parts) (earlier ++ (parts_bytes (places (unlinked ts cs) ts) p parts ++ later)) ≡ earlier ++ (parts_bytes (places (linked table base ts cs) ts) p parts ++ later)
+  parts_filled : (parts : List CodePart) (p : ℕ) (earlier later : List ℕ) → p ≡ length earlier → filled base table (parts_relocs p parts) (earlier ++ (parts_bytes (offsets (unlinked ts cs) ts) p parts ++ later)) ≡ earlier ++ (parts_bytes (offsets (linked table base ts cs) ts) p parts ++ later)
   parts_filled [] p earlier later e = refl
   parts_filled (part ∷ parts) p earlier later e =
       let q = p + part_size part in
-      let old = part_bytes (places (unlinked ts cs) ts) p part in
-      let new = part_bytes (places (linked table base ts cs) ts) p part in
-      let old_rest = parts_bytes (places (unlinked ts cs) ts) q parts in
-      let new_rest = parts_bytes (places (linked table base ts cs) ts) q parts in
-      let at : q ≡ length (earlier ++ new) = omega (arith, e, length-append earlier new, part_length (places (linked table base ts cs) ts) p part) in
+      let old = part_bytes (offsets (unlinked ts cs) ts) p part in
+      let new = part_bytes (offsets (linked table base ts cs) ts) p part in
+      let old_rest = parts_bytes (offsets (unlinked ts cs) ts) q parts in
+      let new_rest = parts_bytes (offsets (linked table base ts cs) ts) q parts in
+      let at : q ≡ length (earlier ++ new) = omega (arith, e, length-append earlier new, part_length (offsets (linked table base ts cs) ts) p part) in
       let rs = parts_relocs q parts in
       filled_append base table (part_relocs p part) rs (earlier ++ ((old ++ old_rest) ++ later))
       ∙ ap (λ l. filled base table rs (filled base table (part_relocs p part) (earlier ++ l))) (append_assoc old old_rest later)
@@ -102,17 +102,17 @@ module _ (base : ℕ) (table : Symbols) (ts : List Tree) (cs : List Constant) wh
       ∙ append_assoc earlier new (new_rest ++ later)
       ∙ ap (λ l. earlier ++ l) (sym (append_assoc new new_rest later))
 
-  steps_filled : (ss : List Step) (k : ℕ) (earlier later : List ℕ) → place (function_steps ts) k ≡ length earlier → Follows (place (function_steps ts)) k ss →
-      filled base table (relocs_from (place (function_steps ts)) k ss) (earlier ++ (code (places (unlinked ts cs) ts) k ss ++ later)) ≡ earlier ++ (code (places (linked table base ts cs) ts) k ss ++ later)
+  steps_filled : (ss : List Step) (k : ℕ) (earlier later : List ℕ) → step_offset (function_steps ts) k ≡ length earlier → StepsFollow (step_offset (function_steps ts)) k ss →
+      filled base table (relocs_from (step_offset (function_steps ts)) k ss) (earlier ++ (code (offsets (unlinked ts cs) ts) k ss ++ later)) ≡ earlier ++ (code (offsets (linked table base ts cs) ts) k ss ++ later)
   steps_filled [] k earlier later e follow = refl
   steps_filled (s ∷ ss) k earlier later e follow =
-      let p = place (function_steps ts) k in
-      let old = step_bytes (places (unlinked ts cs) ts) p s in
-      let new = step_bytes (places (linked table base ts cs) ts) p s in
-      let old_rest = code (places (unlinked ts cs) ts) (k + 1) ss in
-      let new_rest = code (places (linked table base ts cs) ts) (k + 1) ss in
-      let at : place (function_steps ts) (k + 1) ≡ length (earlier ++ new) = omega (arith, follow.0, e, length-append earlier new, step_length (places (linked table base ts cs) ts) p s) in
-      let rs = relocs_from (place (function_steps ts)) (k + 1) ss in
+      let p = step_offset (function_steps ts) k in
+      let old = step_bytes (offsets (unlinked ts cs) ts) p s in
+      let new = step_bytes (offsets (linked table base ts cs) ts) p s in
+      let old_rest = code (offsets (unlinked ts cs) ts) (k + 1) ss in
+      let new_rest = code (offsets (linked table base ts cs) ts) (k + 1) ss in
+      let at : step_offset (function_steps ts) (k + 1) ≡ length (earlier ++ new) = omega (arith, follow.0, e, length-append earlier new, step_length (offsets (linked table base ts cs) ts) p s) in
+      let rs = relocs_from (step_offset (function_steps ts)) (k + 1) ss in
       filled_append base table (step_relocs p s) rs (earlier ++ ((old ++ old_rest) ++ later))
       ∙ ap (λ l. filled base table rs (filled base table (step_relocs p s) (earlier ++ l))) (append_assoc old old_rest later)
       ∙ ap (filled base table rs) (parts_filled (step_parts s) p earlier (old_rest ++ later) e)
@@ -125,21 +125,21 @@ module _ (base : ℕ) (table : Symbols) (ts : List Tree) (cs : List Constant) wh
   function_filled constants = steps_filled (function_steps ts) 0 [] constants (place_zero (function_steps ts)) (place_follows (function_steps ts))
 
 -- linking leaves the length
-pub code_length : (P : Places) (k : ℕ) (ss : List Step) → length (code P k ss) ≡ total ss
+pub code_length : (P : Offsets) (k : ℕ) (ss : List Step) → length (code P k ss) ≡ total ss
 code_length P k [] = refl
 code_length P k (s ∷ ss) = omega (arith, length-append (step_bytes P (P.step k) s) (code P (k + 1) ss), step_length P (P.step k) s, code_length P (k + 1) ss)
 
-pub linked_length : (before after : Outside) (ts : List Tree) (constants : List ℕ) → length (function_code after ts ++ constants) ≡ length (function_code before ts ++ constants)
+pub linked_length : (before after : LinkEnvironment) (ts : List Tree) (constants : List ℕ) → length (function_code after ts ++ constants) ≡ length (function_code before ts ++ constants)
 linked_length before after ts constants =
-    omega (arith, length-append (function_code after ts) constants, length-append (function_code before ts) constants, code_length (places after ts) 0 (function_steps ts), code_length (places before ts) 0 (function_steps ts))
+    omega (arith, length-append (function_code after ts) constants, length-append (function_code before ts) constants, code_length (offsets after ts) 0 (function_steps ts), code_length (offsets before ts) 0 (function_steps ts))
 
 -- ---- the fields lie in the code
 
-parts_lie : (parts : List Part) (p n : ℕ) → p + parts_size parts ≤ n → All (LiesIn n) (parts_relocs p parts)
+parts_lie : (parts : List CodePart) (p n : ℕ) → p + parts_size parts ≤ n → All (LiesIn n) (parts_relocs p parts)
 parts_lie [] p n le = All-nil (LiesIn n)
 parts_lie (part ∷ parts) p n le = All-append (LiesIn n) (part_relocs p part) (parts_relocs (p + part_size part) parts) (part_lies part p n (omega arith)) (parts_lie parts (p + part_size part) n (omega arith))
   where
-    part_lies : (part : Part) (p n : ℕ) → p + part_size part ≤ n → All (LiesIn n) (part_relocs p part)
+    part_lies : (part : CodePart) (p n : ℕ) → p + part_size part ≤ n → All (LiesIn n) (part_relocs p part)
     part_lies (SymbolValue name offset) p n le = All-push (LiesIn n) [] _ (All-nil (LiesIn n)) le
     part_lies (RelativeConstant opcode register c) p n le = All-nil (LiesIn n)
     part_lies (RelativeSymbol opcode register name offset) p n le = All-push (LiesIn n) [] _ (All-nil (LiesIn n)) (omega arith)
@@ -150,16 +150,16 @@ parts_lie (part ∷ parts) p n le = All-append (LiesIn n) (part_relocs p part) (
     part_lies (TrapHere code) p n le = All-nil (LiesIn n)
     part_lies (TableWord before target) p n le = All-nil (LiesIn n)
 
-steps_lie : (at : ℕ → ℕ) (k n : ℕ) (ss : List Step) → Follows at k ss → at k + total ss ≤ n → All (LiesIn n) (relocs_from at k ss)
+steps_lie : (at : ℕ → ℕ) (k n : ℕ) (ss : List Step) → StepsFollow at k ss → at k + total ss ≤ n → All (LiesIn n) (relocs_from at k ss)
 steps_lie at k n [] follow le = All-nil (LiesIn n)
 steps_lie at k n (s ∷ ss) follow le =
     All-append (LiesIn n) (step_relocs (at k) s) (relocs_from at (k + 1) ss) (parts_lie (step_parts s) (at k) n (omega arith)) (steps_lie at (k + 1) n ss follow.1 (omega (arith, follow.0)))
 
-pub relocs_lie : (ts : List Tree) (cs : List Constant) (f : MachBufferFinalized) → IsImage ts cs f → All (LiesIn (length f.bytes.items)) f.relocs.items
+pub relocs_lie : (ts : List Tree) (cs : List Constant) (f : MachBufferFinalized) → IsFinishedCode ts cs f → All (LiesIn (length f.bytes.items)) f.relocs.items
 relocs_lie ts cs f image =
     let ss = function_steps ts in
     let constants = constant_bytes (blocks_size ts) cs in
     let code = function_code (unlinked ts cs) ts in
     let n = length f.bytes.items in
-    let size : total ss ≤ n = omega (arith, ap length image.bytes, length-append code constants, code_length (places (unlinked ts cs) ts) 0 ss) in
-    subst (All (LiesIn n)) (sym image.relocs) (steps_lie (place ss) 0 n ss (place_follows ss) (omega (arith, place_zero ss)))
+    let size : total ss ≤ n = omega (arith, ap length image.bytes, length-append code constants, code_length (offsets (unlinked ts cs) ts) 0 ss) in
+    subst (All (LiesIn n)) (sym image.relocs) (steps_lie (step_offset ss) 0 n ss (place_follows ss) (omega (arith, place_zero ss)))

@@ -7,23 +7,23 @@ use Rattle.std.proofs.lemmas.List.Elements.{All-replicate, All-get_or}
 use Rattle.s390x_inst.specs.declared.state.IsaFlags.{IsaFlags}
 use Rattle.s390x_base.specs.declared.error.EmitError.{EmitError}
 use Rattle.s390x_base.specs.declared.error.EmitError.TheVariants.{LabelOutOfRange, UnboundLabel, Failed, NoMemory}
-use Rattle.s390x_buffer.specs.State.{State, Constant, fresh, limit, all_aligned, new_cause, put_cause}
-use Rattle.s390x_buffer.specs.Patch.{first as first_use, place_of, place_in, is_bound, word, flipped, sum_fits, is_in_reach, can_patch, use_cause, uses_cause, patch, patch_size, patch_use}
+use Rattle.s390x_buffer.specs.State.{BufferState, Constant, fresh_buffer, limit, all_aligned, new_cause, put_cause}
+use Rattle.s390x_buffer.specs.Patch.{first_use_cause as first_use, bound_offset, offset_of_label, is_bound, word_from, flipped, sum_fits, is_in_reach, can_patch, use_cause, uses_cause, patch, patch_size, patch_use}
 use Rattle.s390x_buffer.specs.Branches.{field_end}
 use Rattle.s390x_buffer.proofs.Branching.{patch_other}
 use Rattle.s390x_buffer.specs.Constants.{constant_starts, constant_bytes, constants_end}
-use Rattle.s390x_buffer.specs.Finish.{final_labels, finished_length, starts_of_constants, unpatched, length_cause as long_cause, patch_cause, BlamesEither, finish_cause}
+use Rattle.s390x_buffer.specs.Finish.{final_labels, finished_length, starts_of_constants, unpatched, length_cause as long_cause, patch_cause, FailsWithEither, finish_cause}
 use Rattle.s390x_buffer.specs.declared.entries.LabelFixup.{LabelFixup}
 use Rattle.s390x_buffer.specs.declared.label_use.LabelUse.{LabelUse}
 use Rattle.s390x_buffer.specs.declared.label_use.LabelUse.TheVariants.{BranchRI, BranchRIL, PCRel32, PCRel32Dbl}
 use Rattle.s390x_buffer.proofs.Placing.{length-constant_bytes, end-ge}
-use Rattle.s390x_steps.specs.Tree.{Tree}
-use Rattle.s390x_steps.specs.Causes.{declared_of, draws, blocks_cause}
-use Rattle.s390x_steps.specs.Sizes.{blocks_size}
-use Rattle.s390x_steps.proofs.Causes.{first_left, first_right, unless_true}
-use Rattle.s390x_emit_int.specs.Function.{checked_cause, length_cause}
-use Rattle.s390x_emit_int.specs.Pieces.{run}
-use Rattle.s390x_emit_int.specs.Emission.{pieces, function_pieces}
+use Rattle.s390x_typed_steps.specs.Tree.{Tree}
+use Rattle.s390x_typed_steps.specs.Causes.{declared_of, fresh_labels, blocks_cause}
+use Rattle.s390x_typed_steps.specs.Sizes.{blocks_size}
+use Rattle.s390x_typed_steps.proofs.Causes.{first_left, first_right, unless_true}
+use Rattle.s390x_emit_int.specs.Function.{checked_cause, code_length_cause}
+use Rattle.s390x_emit_int.specs.Fragments.{apply_all}
+use Rattle.s390x_emit_int.specs.Emission.{fragments, function_fragments}
 use Rattle.s390x_emit_int.specs.Bound.{TreesName}
 use Rattle.s390x_emit_int.proofs.Constants.{aligned_constants, starts_of, middle_label}
 use Rattle.s390x_emit_int.proofs.Closing.{blocks_closed, drawn_closed}
@@ -31,18 +31,18 @@ use Rattle.s390x_emit_int.proofs.Functions.{block_state, bound_state, block_labe
 use Rattle.s390x_emit_int.proofs.Imaging.{bytes_run, low_label, high_label, length-starts}
 use Rattle.s390x_emit_int.proofs.Lacking.{put_none}
 use Rattle.s390x_emit_int.proofs.Names.{all_names}
-use Rattle.s390x_emit_int.proofs.Orderly.{AllSound, all_draws, function_sound, Stands, BearsUse, UsesStand, SameFrom, uses_still, same_append, Orderly, orderly_run}
+use Rattle.s390x_emit_int.proofs.Orderly.{AllSound, all_fresh_labels, function_sound, Stands, BearsUse, UsesStand, SameFrom, uses_still, same_append, Orderly, orderly_run}
 use Rattle.s390x_emit_int.proofs.Patching.{length-patch}
 use Rattle.s390x_emit_int.proofs.Runs.{run-append}
 use Rattle.s390x_emit_int.proofs.Starts.{Same, same_run}
 
 -- how many labels there are in the end
-labels_run : (ts : List Tree) (s : State) (n b : ℕ) → n ≡ length s.labels → length (run s (function_pieces n b ts)).labels ≡ n + all_draws ts
+labels_run : (ts : List Tree) (s : BufferState) (n b : ℕ) → n ≡ length s.labels → length (apply_all s (function_fragments n b ts)).labels ≡ n + all_fresh_labels ts
 labels_run [] s n b e = omega arith
 labels_run (t ∷ ts) s n b e =
     let n2 = block_labels t s n b e in
-    ap (λ x. length x.labels) (run-append (bound_state s b) (pieces n 0 t) (function_pieces (n + draws t) (b + 1) ts))
-    ∙ labels_run ts (block_state s n b t) (n + draws t) (b + 1) n2
+    ap (λ x. length x.labels) (run-append (bound_state s b) (fragments n 0 t) (function_fragments (n + fresh_labels t) (b + 1) ts))
+    ∙ labels_run ts (block_state s n b t) (n + fresh_labels t) (b + 1) n2
     ∙ (omega arith)
 
 -- a use between even places in code below the limit
@@ -56,7 +56,7 @@ use_reaches BranchRIL place target bs bears even_place even_target near within s
     let reach : is_in_reach BranchRIL place target ≡ true = and_from _ _ even (and_from _ _ up down) in
     and_from (is_in_reach BranchRIL place target) _ reach (and_from true _ refl inside)
 use_reaches PCRel32 place target bs bears even_place even_target near within short =
-    let w : ℕ = word bs place in
+    let w : ℕ = word_from bs place in
     let even : nat_eq ((place + target) % 2) 0 ≡ true = eq-eqb ((place + target) % 2) 0 (omega arith) in
     let up : nat_le target (place + 2147483647) ≡ true = le-leb target (place + 2147483647) (omega arith) in
     let down : nat_le place (target + 2147483648) ≡ true = le-leb place (target + 2147483648) (omega arith) in
@@ -68,11 +68,11 @@ use_reaches PCRel32 place target bs bears even_place even_target near within sho
     and_from (is_in_reach PCRel32 place target) _ reach (and_from (sum_fits PCRel32 w place target) _ (and_from _ _ low high) inside)
 use_reaches PCRel32Dbl place target bs bears even_place even_target near within short = absurd bears
 
--- a label that a use may name stands at an even place below the limit
+-- a label that a use may name stands at an even offset below the limit
 pub record CanBeUsed (labels : List (Option ℕ)) (l : ℕ) : Type 0 where
   pub bound : is_bound labels l ≡ true
-  pub even : place_in labels l % 2 ≡ 0
-  pub near : place_in labels l < limit
+  pub even : offset_of_label labels l % 2 ≡ 0
+  pub near : offset_of_label labels l < limit
 
 none_of : (a b : Bool) → a ≡ true → b ≡ true → cond a (cond b None (Some LabelOutOfRange)) (Some UnboundLabel) ≡ None
 none_of a b ha hb = ap (λ x. cond x (cond b None (Some LabelOutOfRange)) (Some UnboundLabel)) ha ∙ ap (λ x. cond x None (Some LabelOutOfRange)) hb
@@ -91,16 +91,16 @@ patch_leaves kind place target bs = (omega (arith, length-patch kind place place
     ends PCRel32Dbl place i h = h
 
 uses_fine : (May : ℕ → Type 0) (labels : List (Option ℕ)) (us : List LabelFixup) (from : ℕ) (bs : List ℕ) → ((l : ℕ) → May l → CanBeUsed labels l) → UsesStand May bs from us → length bs < limit → uses_cause labels us bs ≡ None
-uses_fine May labels [] from bs fine all short = refl
-uses_fine May labels (u ∷ us) from bs fine all short =
+uses_fine May labels [] from bs operands_valid all short = refl
+uses_fine May labels (u ∷ us) from bs operands_valid all short =
     let h = all.0 in
-    let l = fine u.label.0 h.label in
-    let long = length-patch u.kind u.offset u.offset (place_in labels u.label.0) bs in
-    let here : use_cause labels bs u ≡ None = none_of (is_bound labels u.label.0) _ l.bound (use_reaches u.kind u.offset (place_in labels u.label.0) bs h.bears h.even l.even l.near h.within short) in
+    let l = operands_valid u.label.0 h.label in
+    let long = length-patch u.kind u.offset u.offset (offset_of_label labels u.label.0) bs in
+    let here : use_cause labels bs u ≡ None = none_of (is_bound labels u.label.0) _ l.bound (use_reaches u.kind u.offset (offset_of_label labels u.label.0) bs h.bears h.even l.even l.near h.within short) in
     let n = u.offset + patch_size u.kind in
-    both_none _ _ here (uses_fine May labels us n (patch_use (place_in labels) u bs) fine (uses_still May us n n bs (patch_use (place_in labels) u bs) (patch_leaves u.kind u.offset (place_in labels u.label.0) bs) (omega arith) all.1) (omega (arith, long)))
+    both_none _ _ here (uses_fine May labels us n (patch_use (offset_of_label labels) u bs) operands_valid (uses_still May us n n bs (patch_use (offset_of_label labels) u bs) (patch_leaves u.kind u.offset (offset_of_label labels u.label.0) bs) (omega arith) all.1) (omega (arith, long)))
 
-stands_place : (n : ℕ) (o : Option ℕ) → Stands n o → (place_of o % 2 ≡ 0) × (place_of o ≤ n)
+stands_place : (n : ℕ) (o : Option ℕ) → Stands n o → (bound_offset o % 2 ≡ 0) × (bound_offset o ≤ n)
 stands_place n None h = (refl, omega arith)
 stands_place n (Some p) h = h
 
@@ -108,7 +108,7 @@ stands_place n (Some p) h = h
 used_of : (labels all : List (Option ℕ)) (l n : ℕ) → get_or all l None ≡ get_or labels l None → is_bound labels l ≡ true → Stands n (get_or labels l None) → n < limit → CanBeUsed all l
 used_of labels all l n e bound stands lt =
     let p = stands_place n (get_or labels l None) stands in
-    let same : place_in all l ≡ place_in labels l = ap place_of e in
+    let same : offset_of_label all l ≡ offset_of_label labels l = ap bound_offset e in
     record {
       bound = ap is_some e ∙ bound;
       even = ap (λ x. x % 2) same ∙ p.0;
@@ -119,7 +119,7 @@ used_of labels all l n e bound stands lt =
 constant_used : (cs : List Constant) (n c : ℕ) (labels : List (Option ℕ)) (l : ℕ) → all_aligned cs ≡ true → c < length cs → get_or labels l None ≡ Some (get_or (constant_starts n cs) c 0) → constants_end n cs < limit → CanBeUsed labels l
 constant_used cs n c labels l all lt e below =
     let s = starts_of cs n c all lt in
-    let same : place_in labels l ≡ get_or (constant_starts n cs) c 0 = ap place_of e in
+    let same : offset_of_label labels l ≡ get_or (constant_starts n cs) c 0 = ap bound_offset e in
     record {
       bound = ap is_some e;
       even = ap (λ x. x % 2) same ∙ s.on.0;
@@ -130,28 +130,28 @@ constant_used cs n c labels l all lt e below =
 abbrev pub IsNamed : (count : ℕ) → ℕ → Type 0
 IsNamed count l = l < count
 
-pub record CanFinish (u : State) : Type 0 where
+pub record CanFinish (u : BufferState) : Type 0 where
   pub short : long_cause u ≡ None
   pub patched : patch_cause u ≡ None
 
-pub can_finish : (flags : IsaFlags) (ts : List Tree) (cs : List Constant) (u : State) → u ≡ run (fresh (length ts) cs) (function_pieces (length ts + length cs) 0 ts) → checked_cause flags ts cs ≡ None → CanFinish u
-can_finish flags ts cs u0 is fine =
+pub can_finish : (flags : IsaFlags) (ts : List Tree) (cs : List Constant) (u : BufferState) → u ≡ apply_all (fresh_buffer (length ts) cs) (function_fragments (length ts + length cs) 0 ts) → checked_cause flags ts cs ≡ None → CanFinish u
+can_finish flags ts cs u0 is operands_valid =
     let b = length ts in
     let n = b + length cs in
-    let s0 = fresh b cs in
-    let ps = function_pieces n 0 ts in
-    let u = run s0 ps in
-    let rest = first_right (new_cause b cs) _ fine in
-    let aligned : all_aligned cs ≡ true = aligned_constants _ _ _ (first_left (new_cause b cs) _ fine) in
+    let s0 = fresh_buffer b cs in
+    let ps = function_fragments n 0 ts in
+    let u = apply_all s0 ps in
+    let rest = first_right (new_cause b cs) _ operands_valid in
+    let aligned : all_aligned cs ≡ true = aligned_constants _ _ _ (first_left (new_cause b cs) _ operands_valid) in
     let blocks : blocks_cause flags (declared_of ts cs) n ts ≡ None = first_left _ _ rest in
-    let long : length_cause ts cs ≡ None = first_right (blocks_cause flags (declared_of ts cs) n ts) _ rest in
+    let long : code_length_cause ts cs ≡ None = first_right (blocks_cause flags (declared_of ts cs) n ts) _ rest in
     let same : Same s0 u = same_run ps s0 in
     let drawn : length s0.labels ≡ n = length-replicate n None in
-    let count : length u.labels ≡ n + all_draws ts = labels_run ts s0 n 0 (sym drawn) in
+    let count : length u.labels ≡ n + all_fresh_labels ts = labels_run ts s0 n 0 (sym drawn) in
     let size : length u.bytes ≡ blocks_size ts = bytes_run ps s0 ∙ (omega (arith, function_put ts n 0)) in
     let ends : finished_length u ≡ constants_end (blocks_size ts) cs = ap (λ x. constants_end (length u.bytes) x) same.constants ∙ ap (λ m. constants_end m cs) size in
     let below : constants_end (blocks_size ts) cs < limit = ltb-true (constants_end (blocks_size ts) cs) limit (unless_true (nat_lt (constants_end (blocks_size ts) cs) limit) LabelOutOfRange long) in
-    let May = IsNamed (n + all_draws ts) in
+    let May = IsNamed (n + all_fresh_labels ts) in
     let names : TreesName b (length cs) ts = subst (λ k. TreesName b k ts) (length-map cs (λ (c : Constant). c.align)) (all_names flags (declared_of ts cs) n ts blocks) in
     let sound : AllSound May b 0 ps = function_sound May ts n 0 b (length cs) names (λ l lt. omega arith) (λ c lt. omega arith) (λ l lo hi. hi) (omega arith) in
     let begins : Orderly May s0 = record { even = refl; labels = All-replicate (Stands 0) n None tt; uses = tt } in
@@ -173,7 +173,7 @@ can_finish flags ts cs u0 is fine =
     ∙ ap (λ m. Some (get_or (constant_starts m u.constants) c 0)) size
     ∙ ap (λ x. Some (get_or (constant_starts (blocks_size ts) x) c 0)) same.constants in
     constant_used cs (blocks_size ts) c (final_labels u) (b + c) aligned lt bound below in
-    let fresh_one : (l : ℕ) → n ≤ l → l < n + all_draws ts → CanBeUsed (final_labels u) l = λ l lo hi.
+    let fresh_one : (l : ℕ) → n ≤ l → l < n + all_fresh_labels ts → CanBeUsed (final_labels u) l = λ l lo hi.
     used_of u.labels (final_labels u) l (length u.bytes) (high_label u.block_count (starts_of_constants u) u.labels l (omega (arith, held, starts, lo)) enough) (drawn_closed ts s0 n 0 l (sym drawn) (omega arith) lo (omega (arith, count, hi))) (stands l (omega (arith, count, hi))) near in
     let named : (l : ℕ) → May l → CanBeUsed (final_labels u) l = λ l may.
     elim (cases_lt l b) [
@@ -189,19 +189,19 @@ can_finish flags ts cs u0 is fine =
     } in
     subst CanFinish (sym is) done
 
-pub always_finishes : (flags : IsaFlags) (ts : List Tree) (cs : List Constant) → checked_cause flags ts cs ≡ None → finish_cause (run (fresh (length ts) cs) (function_pieces (length ts + length cs) 0 ts)) ≡ None
-always_finishes flags ts cs fine = let f = can_finish flags ts cs _ refl fine in both_none _ _ f.short f.patched
+pub always_finishes : (flags : IsaFlags) (ts : List Tree) (cs : List Constant) → checked_cause flags ts cs ≡ None → finish_cause (apply_all (fresh_buffer (length ts) cs) (function_fragments (length ts + length cs) 0 ts)) ≡ None
+always_finishes flags ts cs operands_valid = let f = can_finish flags ts cs _ refl operands_valid in both_none _ _ f.short f.patched
 
 -- finishing answers the code, or want of memory
-pub finished_or_lacks : {T : Type 0} (P R : T → Type 0) (a b : Option EmitError) (r : Result T EmitError) → MatchResult r P (λ e. BlamesEither a b e) → a ≡ None → b ≡ None → ((x : T) → P x → R x) → MatchResult r R (λ e. e ≡ NoMemory)
+pub finished_or_lacks : {T : Type 0} (P R : T → Type 0) (a b : Option EmitError) (r : Result T EmitError) → MatchResult r P (λ e. FailsWithEither a b e) → a ≡ None → b ≡ None → ((x : T) → P x → R x) → MatchResult r R (λ e. e ≡ NoMemory)
 finished_or_lacks P R a b (Ok x) m ha hb f = f x m
 finished_or_lacks P R None b (Err e) m ha hb f = elim m [ inl h ↦ h | inr h ↦ absurd (let g : None ≡ Some e = sym hb ∙ h in cc) ]
 finished_or_lacks P R (Some c) b (Err e) m ha hb f = absurd (cc)
 
 -- at the beginning there is room for all
-pub fresh_takes : (flags : IsaFlags) (ts : List Tree) (cs : List Constant) → checked_cause flags ts cs ≡ None → put_cause (fresh (length ts) cs) (blocks_size ts) ≡ None
-fresh_takes flags ts cs fine =
-    let rest = first_right (new_cause (length ts) cs) _ fine in
-    let long : length_cause ts cs ≡ None = first_right (blocks_cause flags (declared_of ts cs) (length ts + length cs) ts) _ rest in
+pub fresh_takes : (flags : IsaFlags) (ts : List Tree) (cs : List Constant) → checked_cause flags ts cs ≡ None → put_cause (fresh_buffer (length ts) cs) (blocks_size ts) ≡ None
+fresh_takes flags ts cs operands_valid =
+    let rest = first_right (new_cause (length ts) cs) _ operands_valid in
+    let long : code_length_cause ts cs ≡ None = first_right (blocks_cause flags (declared_of ts cs) (length ts + length cs) ts) _ rest in
     let below : constants_end (blocks_size ts) cs < limit = ltb-true (constants_end (blocks_size ts) cs) limit (unless_true (nat_lt (constants_end (blocks_size ts) cs) limit) LabelOutOfRange long) in
-    put_none (fresh (length ts) cs) (blocks_size ts) refl (omega (arith, below, end-ge (blocks_size ts) cs))
+    put_none (fresh_buffer (length ts) cs) (blocks_size ts) refl (omega (arith, below, end-ge (blocks_size ts) cs))

@@ -3,25 +3,25 @@ use Rattle.std.proofs.Common.{◌≡◌, ℕ, suc, ◌+◌, ◌-◌, ◌<◌, �
 use Rattle.std.proofs.lemmas.List.{length-map, length-replicate, get_or_append_left, get_or-append-add, get_or-take, get_or-drop}
 use Rattle.s390x_inst.specs.Emission.{Emission}
 use Rattle.s390x_inst.specs.declared.state.IsaFlags.{IsaFlags}
-use Rattle.s390x_buffer.specs.State.{State, Constant, fresh, constant_label}
-use Rattle.s390x_buffer.specs.Patch.{place_in, place_of}
+use Rattle.s390x_buffer.specs.State.{BufferState, Constant, fresh_buffer, constant_label}
+use Rattle.s390x_buffer.specs.Patch.{offset_of_label, bound_offset}
 use Rattle.s390x_buffer.specs.Constants.{constant_start, constant_starts, constant_bytes, constants_end, greatest_align}
-use Rattle.s390x_buffer.specs.Finish.{Finished, bind_constants, final_labels, starts_of_constants, placed_site}
+use Rattle.s390x_buffer.specs.Finish.{Finished, bind_constants, final_labels, starts_of_constants, bound_site}
 use Rattle.s390x_buffer.specs.declared.entries.MachBufferFinalized.{MachBufferFinalized}
 use Rattle.s390x_inst.specs.declared.function.Block.{Block}
-use Rattle.s390x_steps.specs.Tree.{Tree, tree}
-use Rattle.s390x_steps.specs.Ranges.{AllInRange, BlocksInRange}
+use Rattle.s390x_typed_steps.specs.Tree.{Tree, tree}
+use Rattle.s390x_typed_steps.specs.Ranges.{AllInRange, BlocksInRange}
 use Rattle.s390x_emit_int.specs.Room.{HasRoom}
 use Rattle.s390x_inst.specs.declared.inst.Inst.{Inst}
-use Rattle.s390x_steps.specs.Steps.{function_steps, first_step}
-use Rattle.s390x_steps.specs.Image.{place, places, constant_place, unlinked, function_code}
-use Rattle.s390x_steps.specs.Sizes.{blocks_size}
-use Rattle.s390x_steps.specs.Causes.{declared_of, draws, blocks_cause}
-use Rattle.s390x_emit_int.specs.Pieces.{Piece, apply, run, Put, PutTrapping, PutReloc, Link, LinkConstant, Step, Draw, Bind}
-use Rattle.s390x_emit_int.specs.Emission.{pieces, function_pieces}
-use Rattle.s390x_emit_int.specs.Resolve.{resolve, put_length, Wide, Within}
+use Rattle.s390x_typed_steps.specs.Steps.{function_steps, first_step}
+use Rattle.s390x_typed_steps.specs.Image.{step_offset, offsets, constant_offset, unlinked, function_code}
+use Rattle.s390x_typed_steps.specs.Sizes.{blocks_size}
+use Rattle.s390x_typed_steps.specs.Causes.{declared_of, fresh_labels, blocks_cause}
+use Rattle.s390x_emit_int.specs.Fragments.{Fragment, apply, apply_all, Put, PutTrapping, PutReloc, Link, LinkConstant, StartStep, Draw, Bind}
+use Rattle.s390x_emit_int.specs.Emission.{fragments, function_fragments}
+use Rattle.s390x_emit_int.specs.Resolve.{resolve, put_length, Wide, UsesWithin}
 use Rattle.s390x_emit_int.specs.Bound.{TreesName, AllBound}
-use Rattle.s390x_emit_int.specs.Function.{IsImage, tree_of}
+use Rattle.s390x_emit_int.specs.Function.{IsFinishedCode, tree_of}
 use Rattle.s390x_emit_int.proofs.Runs.{run-append}
 use Rattle.s390x_emit_int.proofs.Patching.{patched, patched_run, all_left, length-patch_all, within_more, within_append}
 use Rattle.s390x_emit_int.proofs.Names.{all_names}
@@ -35,19 +35,19 @@ use Rattle.s390x_buffer.specs.declared.label_use.LabelUse.TheVariants.{BranchRIL
 use Rattle.s390x_buffer.proofs.Placing.{length-constant_bytes}
 
 -- how long the bytes become
-pub bytes_run : (ps : List Piece) (s : State) → length (run s ps).bytes ≡ length s.bytes + put_length ps
+pub bytes_run : (ps : List Fragment) (s : BufferState) → length (apply_all s ps).bytes ≡ length s.bytes + put_length ps
 bytes_run [] s = omega arith
 bytes_run (Put bs ∷ ps) s = omega (arith, bytes_run ps (apply s (Put bs)), length-append s.bytes bs)
 bytes_run (PutReloc bs byte kind name addend ∷ ps) s = omega (arith, bytes_run ps (apply s (PutReloc bs byte kind name addend)), length-append s.bytes bs)
 bytes_run (PutTrapping bs byte code ∷ ps) s = omega (arith, bytes_run ps (apply s (PutTrapping bs byte code)), length-append s.bytes bs)
 bytes_run (Link k l bs ∷ ps) s = omega (arith, bytes_run ps (apply s (Link k l bs)), length-append s.bytes bs)
 bytes_run (LinkConstant c bs ∷ ps) s = omega (arith, bytes_run ps (apply s (LinkConstant c bs)), length-append s.bytes bs)
-bytes_run (Step ∷ ps) s = bytes_run ps (apply s Step)
+bytes_run (StartStep ∷ ps) s = bytes_run ps (apply s StartStep)
 bytes_run (Draw ∷ ps) s = bytes_run ps (apply s Draw)
 bytes_run (Bind l ∷ ps) s = bytes_run ps (apply s (Bind l))
 
 -- the uses lie within the bytes
-within_run : (ps : List Piece) (s : State) → Within (length s.bytes) s.uses → Wide ps → Within (length (run s ps).bytes) (run s ps).uses
+within_run : (ps : List Fragment) (s : BufferState) → UsesWithin (length s.bytes) s.uses → Wide ps → UsesWithin (length (apply_all s ps).bytes) (apply_all s ps).uses
 within_run [] s w h = w
 within_run (Put bs ∷ ps) s w h =
     let n = length-append s.bytes bs in
@@ -66,7 +66,7 @@ within_run (LinkConstant c bs ∷ ps) s w h =
     let n = length-append s.bytes bs in
     let u : LabelFixup = record { kind = BranchRIL; offset = length s.bytes; label = record { 0 = constant_label s c } } in
     within_run ps (apply s (LinkConstant c bs)) (within_append (length (s.bytes ++ bs)) s.uses u (within_more (length s.bytes) (length (s.bytes ++ bs)) s.uses (omega (arith, n)) w) (omega (arith, n, h.0))) h.1
-within_run (Step ∷ ps) s w h = within_run ps (apply s Step) w h
+within_run (StartStep ∷ ps) s w h = within_run ps (apply s StartStep) w h
 within_run (Draw ∷ ps) s w h = within_run ps (apply s Draw) w h
 within_run (Bind l ∷ ps) s w h = within_run ps (apply s (Bind l)) w h
 
@@ -96,51 +96,51 @@ pub length-starts : (n : ℕ) (cs : List Constant) → length (constant_starts n
 length-starts n [] = refl
 length-starts n (c ∷ cs) = ap suc (length-starts (constant_start n c + length c.bytes) cs)
 
-code_is : (ts : List Tree) (cs : List Constant) (off : ℕ → ℕ) (n : ℕ) → ((l : ℕ) → l < length ts → off l ≡ (places (unlinked ts cs) ts).block l) → ((c : ℕ) → c < length cs → off (length ts + c) ≡ constant_place ts cs c) →
-    TreesName (length ts) (length cs) ts → AllBound off n 0 (place (function_steps ts) 0) ts → resolve (length ts) off 0 (function_pieces n 0 ts) ≡ function_code (unlinked ts cs) ts
+code_is : (ts : List Tree) (cs : List Constant) (off : ℕ → ℕ) (n : ℕ) → ((l : ℕ) → l < length ts → off l ≡ (offsets (unlinked ts cs) ts).block l) → ((c : ℕ) → c < length cs → off (length ts + c) ≡ constant_offset ts cs c) →
+    TreesName (length ts) (length cs) ts → AllBound off n 0 (step_offset (function_steps ts) 0) ts → resolve (length ts) off 0 (function_fragments n 0 ts) ≡ function_code (unlinked ts cs) ts
 code_is [] cs off n agree held names bound = refl
 code_is (t ∷ ts) cs off n agree held names bound =
     let all = function_steps (t ∷ ts) in
-    ap (λ m. resolve (length (t ∷ ts)) off m (function_pieces n 0 (t ∷ ts))) (sym (place_zero all))
-    ∙ function_join (t ∷ ts) off (places (unlinked (t ∷ ts) cs) (t ∷ ts)) (length (t ∷ ts)) (length cs) n 0 0 (agree, held, λ name offset. refl, λ p name offset. refl) names bound (place_follows all) bound.0
+    ap (λ m. resolve (length (t ∷ ts)) off m (function_fragments n 0 (t ∷ ts))) (sym (place_zero all))
+    ∙ function_join (t ∷ ts) off (offsets (unlinked (t ∷ ts) cs) (t ∷ ts)) (length (t ∷ ts)) (length cs) n 0 0 (agree, held, λ name offset. refl, λ p name offset. refl) names bound (place_follows all) bound.0
 
 -- what was emitted, as one buffer has it
-pub record Emitted (flags : IsaFlags) (ts : List Tree) (cs : List Constant) (u : State) : Type 0 where
-  pub is : u ≡ run (fresh (length ts) cs) (function_pieces (length ts + length cs) 0 ts)
-  pub fine : blocks_cause flags (declared_of ts cs) (length ts + length cs) ts ≡ None
+pub record Emitted (flags : IsaFlags) (ts : List Tree) (cs : List Constant) (u : BufferState) : Type 0 where
+  pub is : u ≡ apply_all (fresh_buffer (length ts) cs) (function_fragments (length ts + length cs) 0 ts)
+  pub operands_valid : blocks_cause flags (declared_of ts cs) (length ts + length cs) ts ≡ None
 
-pub image_of : (flags : IsaFlags) (ts : List Tree) (cs : List Constant) (u : State) (f : MachBufferFinalized) → Emitted flags ts cs u → Finished u f → IsImage ts cs f
+pub image_of : (flags : IsaFlags) (ts : List Tree) (cs : List Constant) (u : BufferState) (f : MachBufferFinalized) → Emitted flags ts cs u → Finished u f → IsFinishedCode ts cs f
 image_of flags ts cs u0 f emitted fin0 =
     let b = length ts in
     let n = b + length cs in
-    let s0 = fresh b cs in
-    let ps = function_pieces n 0 ts in
-    let u = run s0 ps in
+    let s0 = fresh_buffer b cs in
+    let ps = function_fragments n 0 ts in
+    let u = apply_all s0 ps in
     let fin : Finished u f = subst (λ x. Finished x f) emitted.is fin0 in
     let same : Same s0 u = same_run ps s0 in
-    let off = place_in (final_labels u) in
+    let off = offset_of_label (final_labels u) in
     let all = function_steps ts in
-    let at = place all in
+    let at = step_offset all in
     let follow = place_follows all in
     let drawn : length s0.labels ≡ n = length-replicate n None in
     let long : n ≤ length u.labels = longer ts s0 n 0 (sym drawn) in
     let count : u.block_count ≡ b = same.block_count in
     let starts : length (starts_of_constants u) ≡ length cs = length-starts (length u.bytes) u.constants ∙ ap length same.constants in
     let enough : u.block_count ≤ length u.labels = omega arith in
-    let blocks : TellsBlocks off 0 b u = λ l lo hi. let lt : l < u.block_count = omega arith in ap place_of (low_label u.block_count (starts_of_constants u) u.labels l lt enough) in
-    let tells : (l : ℕ) → n ≤ l → l < length u.labels → off l ≡ place_in u.labels l = λ l lo hi. let le : u.block_count + length (starts_of_constants u) ≤ l = omega arith in ap place_of (high_label u.block_count (starts_of_constants u) u.labels l le enough) in
+    let blocks : TellsBlocks off 0 b u = λ l lo hi. let lt : l < u.block_count = omega arith in ap bound_offset (low_label u.block_count (starts_of_constants u) u.labels l lt enough) in
+    let tells : (l : ℕ) → n ≤ l → l < length u.labels → off l ≡ offset_of_label u.labels l = λ l lo hi. let le : u.block_count + length (starts_of_constants u) ≤ l = omega arith in ap bound_offset (high_label u.block_count (starts_of_constants u) u.labels l le enough) in
     let bound0 : AllBound off n 0 0 ts = all_bound ts s0 n 0 off (sym drawn) (omega arith) blocks tells in
     let bound : AllBound off n 0 (at 0) ts = subst (λ m. AllBound off n 0 m ts) (sym (place_zero all)) bound0 in
-    let agree : (l : ℕ) → l < b → off l ≡ (places (unlinked ts cs) ts).block l = λ l h. ap off (sym (zero-add l)) ∙ block_at ts off at n 0 0 l bound follow h ∙ ap at (zero-add (first_step ts l)) in
+    let agree : (l : ℕ) → l < b → off l ≡ (offsets (unlinked ts cs) ts).block l = λ l h. ap off (sym (zero-add l)) ∙ block_at ts off at n 0 0 l bound follow h ∙ ap at (zero-add (first_step ts l)) in
     let wide : Wide ps = function_wide ts n 0 in
-    let within : Within (length u.bytes) u.uses = within_run ps s0 tt wide in
+    let within : UsesWithin (length u.bytes) u.uses = within_run ps s0 tt wide in
     let size : length u.bytes ≡ blocks_size ts = bytes_run ps s0 ∙ omega (arith, function_put ts n 0) in
-    let held : (c : ℕ) → c < length cs → off (b + c) ≡ constant_place ts cs c = λ c h.
+    let held : (c : ℕ) → c < length cs → off (b + c) ≡ constant_offset ts cs c = λ c h.
     ap (λ m. off (m + c)) (sym count)
-    ∙ ap place_of (middle_label u.block_count (starts_of_constants u) u.labels c (omega (arith, starts)) enough)
+    ∙ ap bound_offset (middle_label u.block_count (starts_of_constants u) u.labels c (omega (arith, starts)) enough)
     ∙ ap (λ m. get_or (constant_starts m u.constants) c 0) size
     ∙ ap (λ x. get_or (constant_starts (blocks_size ts) x) c 0) same.constants in
-    let names : TreesName b (length cs) ts = subst (λ k. TreesName b k ts) (length-map cs (λ (c : Constant). c.align)) (all_names flags (declared_of ts cs) n ts emitted.fine) in
+    let names : TreesName b (length cs) ts = subst (λ k. TreesName b k ts) (length-map cs (λ (c : Constant). c.align)) (all_names flags (declared_of ts cs) n ts emitted.operands_valid) in
     let code = function_code (unlinked ts cs) ts in
     let body : patched off u ≡ code = patched_run ps s0 off tt wide ∙ code_is ts cs off n agree held names bound in
     let sized : length code ≡ blocks_size ts = ap length (sym body) ∙ length-patch_all off u.uses u.bytes ∙ size in
@@ -149,24 +149,24 @@ image_of flags ts cs u0 f emitted fin0 =
     record {
       short = omega (arith, ends, fin.small);
       bytes = whole;
-      block_starts = fin.block_starts ∙ ap (λ m. map place_of (take m u.labels)) count ∙ places_upto b 0 u.labels off (omega arith) blocks ∙ blocks_upto ts off at n 0 0 bound follow;
+      block_starts = fin.block_starts ∙ ap (λ m. map bound_offset (take m u.labels)) count ∙ places_upto b 0 u.labels off (omega arith) blocks ∙ blocks_upto ts off at n 0 0 bound follow;
       constant_starts = fin.constant_starts ∙ ap (λ m. constant_starts m u.constants) size ∙ ap (λ x. constant_starts (blocks_size ts) x) same.constants;
       starts = fin.starts ∙ starts_run ps s0 ∙ ap (λ m. marks m ps) (sym (place_zero all)) ∙ function_marks ts at n 0 0 follow;
       relocs = fin.relocs ∙ relocs_run ps s0 ∙ ap (λ m. relocated m ps) (sym (place_zero all)) ∙ function_relocated ts at n 0 0 follow;
       traps = fin.traps ∙ traps_run ps s0 ∙ ap (λ m. recorded m ps) (sym (place_zero all)) ∙ function_recorded ts at n 0 0 follow;
       call_sites = fin.call_sites ∙ same.call_sites;
-      try_call_sites = fin.try_call_sites ∙ ap (λ x. map (placed_site off) x) same.try_call_sites;
+      try_call_sites = fin.try_call_sites ∙ ap (λ x. map (bound_site off) x) same.try_call_sites;
       patchable_sites = fin.patchable_sites ∙ same.patchable_sites;
       stack_maps = fin.stack_maps ∙ same.stack_maps;
       alignment = fin.alignment ∙ ap (λ x. greatest_align 4 x) same.constants;
     }
 
-block_is : (s s1 s2 : State) (k : ℕ) (t : Tree) → s1 ≡ apply s (Bind k) → s2 ≡ run s1 (pieces (length s1.labels) 0 t) → s2 ≡ block_state s (length s.labels) k t
+block_is : (s s1 s2 : BufferState) (k : ℕ) (t : Tree) → s1 ≡ apply s (Bind k) → s2 ≡ apply_all s1 (fragments (length s1.labels) 0 t) → s2 ≡ block_state s (length s.labels) k t
 block_is s s1 s2 k t e1 e2 =
-    e2 ∙ ap (λ x. run x (pieces (length x.labels) 0 t)) e1 ∙ ap (λ m. run (bound_state s k) (pieces m 0 t)) (length-set s.labels k (Some (length s.bytes)))
+    e2 ∙ ap (λ x. apply_all x (fragments (length x.labels) 0 t)) e1 ∙ ap (λ m. apply_all (bound_state s k) (fragments m 0 t)) (length-set s.labels k (Some (length s.bytes)))
 
 -- one more block
-pub block_more : (state : Emission) (bs : List Block) (k : ℕ) (v : Block) (s s1 s2 r : State) → k < length bs → v ≡ get_or bs k v → s1 ≡ apply s (Bind k) → s2 ≡ run s1 (pieces (length s1.labels) 0 (tree_of state v)) → run s (function_pieces (length s.labels) k (map (tree_of state) (drop k bs))) ≡ r → run s2 (function_pieces (length s2.labels) (k + 1) (map (tree_of state) (drop (k + 1) bs))) ≡ r
+pub block_more : (state : Emission) (bs : List Block) (k : ℕ) (v : Block) (s s1 s2 r : BufferState) → k < length bs → v ≡ get_or bs k v → s1 ≡ apply s (Bind k) → s2 ≡ apply_all s1 (fragments (length s1.labels) 0 (tree_of state v)) → apply_all s (function_fragments (length s.labels) k (map (tree_of state) (drop k bs))) ≡ r → apply_all s2 (function_fragments (length s2.labels) (k + 1) (map (tree_of state) (drop (k + 1) bs))) ≡ r
 block_more state bs k v s s1 s2 r lt at e1 e2 h =
     let n = length s.labels in
     let t = tree_of state v in
@@ -174,32 +174,32 @@ block_more state bs k v s s1 s2 r lt at e1 e2 h =
     let k1 : suc k ≡ k + 1 = omega arith in
     let cons : drop k bs ≡ v ∷ rest = drop-cons bs k v lt ∙ ap (λ x. x ∷ drop (suc k) bs) (sym at) ∙ ap (λ m. v ∷ drop m bs) k1 in
     let e2' : s2 ≡ block_state s n k t = block_is s s1 s2 k t e1 e2 in
-    let len : length s2.labels ≡ n + draws t = ap (λ x. length x.labels) e2' ∙ sym (block_labels t s n k refl) in
-    ap (λ m. run s2 (function_pieces m (k + 1) (map (tree_of state) rest))) len
-    ∙ ap (λ x. run x (function_pieces (n + draws t) (k + 1) (map (tree_of state) rest))) e2'
-    ∙ sym (run-append (bound_state s k) (pieces n 0 t) (function_pieces (n + draws t) (k + 1) (map (tree_of state) rest)))
-    ∙ ap (λ l. run s (function_pieces n k (map (tree_of state) l))) (sym cons)
+    let len : length s2.labels ≡ n + fresh_labels t = ap (λ x. length x.labels) e2' ∙ sym (block_labels t s n k refl) in
+    ap (λ m. apply_all s2 (function_fragments m (k + 1) (map (tree_of state) rest))) len
+    ∙ ap (λ x. apply_all x (function_fragments (n + fresh_labels t) (k + 1) (map (tree_of state) rest))) e2'
+    ∙ sym (run-append (bound_state s k) (fragments n 0 t) (function_fragments (n + fresh_labels t) (k + 1) (map (tree_of state) rest)))
+    ∙ ap (λ l. apply_all s (function_fragments n k (map (tree_of state) l))) (sym cons)
     ∙ h
 
-pub record NextBlock (s2 : State) (k n : ℕ) : Type 0 where
+pub record NextBlock (s2 : BufferState) (k n : ℕ) : Type 0 where
   pub drawn : n ≤ length s2.labels
   pub free : (j : ℕ) → k + 1 ≤ j → j < n → get_or s2.labels j None ≡ None
 
-pub next_free : (k m : ℕ) (t : Tree) (s s1 s2 : State) → m ≤ length s.labels → ((j : ℕ) → k ≤ j → j < m → get_or s.labels j None ≡ None) → s1 ≡ apply s (Bind k) → s2 ≡ run s1 (pieces (length s1.labels) 0 t) → NextBlock s2 k m
+pub next_free : (k m : ℕ) (t : Tree) (s s1 s2 : BufferState) → m ≤ length s.labels → ((j : ℕ) → k ≤ j → j < m → get_or s.labels j None ≡ None) → s1 ≡ apply s (Bind k) → s2 ≡ apply_all s1 (fragments (length s1.labels) 0 t) → NextBlock s2 k m
 next_free k m t s s1 s2 room free e1 e2 =
     let n = length s.labels in
     let e2' : s2 ≡ block_state s n k t = block_is s s1 s2 k t e1 e2 in
-    let len : length s2.labels ≡ n + draws t = ap (λ x. length x.labels) e2' ∙ sym (block_labels t s n k refl) in
+    let len : length s2.labels ≡ n + fresh_labels t = ap (λ x. length x.labels) e2' ∙ sym (block_labels t s n k refl) in
     record {
       drawn = omega (arith, len);
       free = λ j lo hi. let ne : j ≢ k = omega arith in ap (λ x. get_or x.labels j None) e2' ∙ block_kept t s n k j refl (omega arith) ne ∙ free j (omega arith) hi;
     }
 
-pub block_room : (k : ℕ) (t : Tree) (s s1 s2 : State) → HasRoom s → s1 ≡ apply s (Bind k) → s2 ≡ run s1 (pieces (length s1.labels) 0 t) → HasRoom s2
+pub block_room : (k : ℕ) (t : Tree) (s s1 s2 : BufferState) → HasRoom s → s1 ≡ apply s (Bind k) → s2 ≡ apply_all s1 (fragments (length s1.labels) 0 t) → HasRoom s2
 block_room k t s s1 s2 room e1 e2 =
     let n = length s.labels in
     let e2' : s2 ≡ block_state s n k t = block_is s s1 s2 k t e1 e2 in
-    let same : Same s (block_state s n k t) = same_run (Bind k ∷ pieces n 0 t) s in
+    let same : Same s (block_state s n k t) = same_run (Bind k ∷ fragments n 0 t) s in
     subst HasRoom (sym e2') (omega (arith, block_labels t s n k refl, same.block_count, ap length same.constants))
 
 pub block_ranges : (state : Emission) (bs : List Block) (k : ℕ) (v : Block) (members : List Inst) → k < length bs → v ≡ get_or bs k v → members ≡ v.insts.items → AllInRange (tree state members) → BlocksInRange (map (tree_of state) (drop (k + 1) bs)) → BlocksInRange (map (tree_of state) (drop k bs))

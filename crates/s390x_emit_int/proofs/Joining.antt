@@ -1,4 +1,4 @@
--- The pieces, resolved, are the code of the typed steps.
+-- The fragments, resolved, are the code of the typed steps.
 use Rattle.std.proofs.Common.{◌≡◌, ℕ, suc, ◌+◌, ◌<◌, List, [], ◌∷◌, ◌++◌, length, refl, sym, ap, ◌∙◌, subst, arith, length-append, append_assoc, append-nil, add-zero, add_assoc}
 use Rattle.std.specs.Prelude.{ℤ}
 use Rattle.std.specs.Int.{w64, to_be_bytes}
@@ -9,44 +9,44 @@ use Rattle.s390x_inst.specs.declared.inst.Inst.{Inst}
 use Rattle.s390x_inst.specs.declared.inst.Inst.TheVariants.{CondBreak, JTSequence}
 use Rattle.s390x_base.specs.Regs.{number_of}
 use Rattle.s390x_base.specs.declared.ir.MachLabel.{MachLabel}
-use Rattle.s390x_steps.specs.Tree.{Tree, empty, leaf, looped}
-use Rattle.s390x_steps.specs.Steps.{Step as TypedStep, Back, step_count, step_of, steps_of}
-use Rattle.s390x_steps.specs.MachineInstruction.{rr, ril_b, ril_c, rxy, bytes_of, size_of}
-use Rattle.s390x_steps.specs.Parts.{Part, Row, Trapping, Branch, Relative, RelativeConstant, RelativeSymbol, SymbolValue, TrapHere, TableWord, ToBlock, ToStep, table_words, table_parts, instruction_parts, parts_size, step_size}
-use Rattle.s390x_steps.specs.Rows.{Places, half_distance, table_distance, word_bytes, parts_bytes, step_bytes}
-use Rattle.s390x_steps.specs.Image.{code}
-use Rattle.s390x_steps.specs.Sizes.{instruction_size, tree_size}
-use Rattle.s390x_steps.specs.Causes.{instruction_draws, draws}
-use Rattle.s390x_emit_int.specs.Pieces.{Piece, Put, PutTrapping, PutReloc, Link, LinkConstant, Step, Draw, Bind}
-use Rattle.s390x_emit_int.specs.Emission.{part_pieces, table_pieces, leaf_pieces, back_pieces, pieces}
+use Rattle.s390x_typed_steps.specs.Tree.{Tree, empty, leaf, loop_node}
+use Rattle.s390x_typed_steps.specs.Steps.{Step as TypedStep, Back, step_count, step_of, steps_of}
+use Rattle.s390x_typed_steps.specs.MachineInstruction.{rr, ril_b, ril_c, rxy, bytes_of, size_of}
+use Rattle.s390x_typed_steps.specs.Parts.{CodePart, Row, Trapping, Branch, Relative, RelativeConstant, RelativeSymbol, SymbolValue, TrapHere, TableWord, ToBlock, ToStep, table_words, table_parts, instruction_parts, parts_size, step_size}
+use Rattle.s390x_typed_steps.specs.Rows.{Offsets, half_distance, table_distance, word_bytes, parts_bytes, step_bytes}
+use Rattle.s390x_typed_steps.specs.Image.{code}
+use Rattle.s390x_typed_steps.specs.Sizes.{instruction_size, tree_size}
+use Rattle.s390x_typed_steps.specs.Causes.{instruction_fresh_labels, fresh_labels}
+use Rattle.s390x_emit_int.specs.Fragments.{Fragment, Put, PutTrapping, PutReloc, Link, LinkConstant, StartStep, Draw, Bind}
+use Rattle.s390x_emit_int.specs.Emission.{part_fragments, table_fragments, leaf_fragments, back_fragments, fragments}
 use Rattle.s390x_emit_int.specs.Resolve.{resolve, put_length}
-use Rattle.s390x_emit_int.specs.Bound.{LeafBound, Bound, Follows, PartsName, TreeNames}
+use Rattle.s390x_emit_int.specs.Bound.{LeafBound, Bound, StepsFollow, PartsName, TreeNames}
 use Rattle.s390x_emit_int.proofs.Branches.{patched_branch, patched_relative, patched_word}
 use Rattle.s390x_emit_int.proofs.Runs.{length-bytes, length-branch, size-relative, length-relative}
 
-pub resolve-append : (blocks : ℕ) (off : ℕ → ℕ) (a b : List Piece) (p : ℕ) → resolve blocks off p (a ++ b) ≡ resolve blocks off p a ++ resolve blocks off (p + put_length a) b
+pub resolve-append : (blocks : ℕ) (off : ℕ → ℕ) (a b : List Fragment) (p : ℕ) → resolve blocks off p (a ++ b) ≡ resolve blocks off p a ++ resolve blocks off (p + put_length a) b
 resolve-append blocks off [] b p = ap (λ m. resolve blocks off m b) (sym (add-zero p))
 resolve-append blocks off (Put bs ∷ a) b p = ap (λ l. bs ++ l) (resolve-append blocks off a b (p + length bs)) ∙ sym (append_assoc bs _ _) ∙ ap (λ m. (bs ++ resolve blocks off (p + length bs) a) ++ resolve blocks off m b) (add_assoc p (length bs) (put_length a))
 resolve-append blocks off (PutReloc bs byte kind name addend ∷ a) b p = ap (λ l. bs ++ l) (resolve-append blocks off a b (p + length bs)) ∙ sym (append_assoc bs _ _) ∙ ap (λ m. (bs ++ resolve blocks off (p + length bs) a) ++ resolve blocks off m b) (add_assoc p (length bs) (put_length a))
 resolve-append blocks off (PutTrapping bs byte code ∷ a) b p = ap (λ l. bs ++ l) (resolve-append blocks off a b (p + length bs)) ∙ sym (append_assoc bs _ _) ∙ ap (λ m. (bs ++ resolve blocks off (p + length bs) a) ++ resolve blocks off m b) (add_assoc p (length bs) (put_length a))
 resolve-append blocks off (Link k l bs ∷ a) b p = ap (λ x. patch k 0 p (off l) bs ++ x) (resolve-append blocks off a b (p + length bs)) ∙ sym (append_assoc (patch k 0 p (off l) bs) _ _) ∙ ap (λ m. (patch k 0 p (off l) bs ++ resolve blocks off (p + length bs) a) ++ resolve blocks off m b) (add_assoc p (length bs) (put_length a))
 resolve-append blocks off (LinkConstant c bs ∷ a) b p = ap (λ x. patch BranchRIL 0 p (off (blocks + c)) bs ++ x) (resolve-append blocks off a b (p + length bs)) ∙ sym (append_assoc (patch BranchRIL 0 p (off (blocks + c)) bs) _ _) ∙ ap (λ m. (patch BranchRIL 0 p (off (blocks + c)) bs ++ resolve blocks off (p + length bs) a) ++ resolve blocks off m b) (add_assoc p (length bs) (put_length a))
-resolve-append blocks off (Step ∷ a) b p = resolve-append blocks off a b p
+resolve-append blocks off (StartStep ∷ a) b p = resolve-append blocks off a b p
 resolve-append blocks off (Draw ∷ a) b p = resolve-append blocks off a b p
 resolve-append blocks off (Bind l ∷ a) b p = resolve-append blocks off a b p
 
-pub put_append : (a b : List Piece) → put_length (a ++ b) ≡ put_length a + put_length b
+pub put_append : (a b : List Fragment) → put_length (a ++ b) ≡ put_length a + put_length b
 put_append [] b = omega arith
 put_append (Put bs ∷ a) b = omega (arith, put_append a b)
 put_append (PutReloc bs byte kind name addend ∷ a) b = omega (arith, put_append a b)
 put_append (PutTrapping bs byte code ∷ a) b = omega (arith, put_append a b)
 put_append (Link k l bs ∷ a) b = omega (arith, put_append a b)
 put_append (LinkConstant c bs ∷ a) b = omega (arith, put_append a b)
-put_append (Step ∷ a) b = put_append a b
+put_append (StartStep ∷ a) b = put_append a b
 put_append (Draw ∷ a) b = put_append a b
 put_append (Bind l ∷ a) b = put_append a b
 
-parts_put : (parts : List Part) → put_length (part_pieces parts) ≡ parts_size parts
+parts_put : (parts : List CodePart) → put_length (part_fragments parts) ≡ parts_size parts
 parts_put [] = refl
 parts_put (Row m ∷ parts) = omega (arith, length-bytes m, parts_put parts)
 parts_put (Trapping m byte code ∷ parts) = omega (arith, length-bytes m, parts_put parts)
@@ -61,66 +61,66 @@ parts_put (TrapHere code ∷ parts) = omega (arith, parts_put parts)
 parts_put (TableWord before (ToBlock b) ∷ parts) = omega (arith, parts_put parts)
 parts_put (TableWord before (ToStep k) ∷ parts) = omega (arith, parts_put parts)
 
-table_put : (n index mask other : ℕ) (targets : List MachLabel) → put_length (table_pieces n index mask other targets) ≡ parts_size (table_parts index mask other targets)
+table_put : (n index mask other : ℕ) (targets : List MachLabel) → put_length (table_fragments n index mask other targets) ≡ parts_size (table_parts index mask other targets)
 table_put n index mask other targets =
     omega (arith, length-branch mask, length-relative 0xc00 1, length-bytes (rxy 0xe318 1 1 index 0), length-bytes (rr 0x07 15 1), parts_put (table_words 0 targets), length-bytes (ril_b 0xc00 1 7), size-relative 0xc00 1 7)
 
-pub leaf_put : (n after : ℕ) (i : Inst) → put_length (leaf_pieces n after i) ≡ instruction_size i
+pub leaf_put : (n after : ℕ) (i : Inst) → put_length (leaf_fragments n after i) ≡ instruction_size i
 leaf_put n after (CondBreak mask) = omega (arith, length-branch mask)
 leaf_put n after (JTSequence ridx other mask targets) = table_put n (number_of ridx) mask other.0 targets.items
 leaf_put n after i = parts_put (instruction_parts i)
 
-pub tree_put : (n after : ℕ) (t : Tree) → put_length (pieces n after t) ≡ tree_size t
+pub tree_put : (n after : ℕ) (t : Tree) → put_length (fragments n after t) ≡ tree_size t
 tree_put n after empty = refl
-tree_put n after (leaf i rest) = put_append (leaf_pieces n after i) (pieces (n + instruction_draws i) after rest) ∙ omega (arith, leaf_put n after i, tree_put (n + instruction_draws i) after rest)
-tree_put n after (looped mask members rest) =
-    let r = pieces (n + 2 + draws members) after rest in
-    put_append (pieces (n + 2) (n + 1) members) (back_pieces n mask ++ r) ∙ omega (arith, length-branch mask, tree_put (n + 2) (n + 1) members, tree_put (n + 2 + draws members) after rest)
+tree_put n after (leaf i rest) = put_append (leaf_fragments n after i) (fragments (n + instruction_fresh_labels i) after rest) ∙ omega (arith, leaf_put n after i, tree_put (n + instruction_fresh_labels i) after rest)
+tree_put n after (loop_node mask members rest) =
+    let r = fragments (n + 2 + fresh_labels members) after rest in
+    put_append (fragments (n + 2) (n + 1) members) (back_fragments n mask ++ r) ∙ omega (arith, length-branch mask, tree_put (n + 2) (n + 1) members, tree_put (n + 2 + fresh_labels members) after rest)
 
 -- labels of blocks and of constants stand at their places, and nothing is linked
-abbrev pub Agrees : (ℕ → ℕ) → Places → (count constants : ℕ) → Type 0
+abbrev pub Agrees : (ℕ → ℕ) → Offsets → (count constants : ℕ) → Type 0
 Agrees off P count constants =
-    ((l : ℕ) → l < count → off l ≡ P.block l) × ((c : ℕ) → c < constants → off (count + c) ≡ P.outside.constant c)
-    × ((name : ExternalName) (offset : ℤ) → P.outside.symbol_value name offset ≡ 0) × ((p : ℕ) (name : ExternalName) (offset : ℤ) → P.outside.symbol_distance p name offset ≡ 0)
+    ((l : ℕ) → l < count → off l ≡ P.block l) × ((c : ℕ) → c < constants → off (count + c) ≡ P.environment.constant c)
+    × ((name : ExternalName) (offset : ℤ) → P.environment.symbol_value name offset ≡ 0) × ((p : ℕ) (name : ExternalName) (offset : ℤ) → P.environment.symbol_distance p name offset ≡ 0)
 
--- the parts of an instruction, at a place
-parts_join : (parts : List Part) (off : ℕ → ℕ) (P : Places) (count constants p : ℕ) → Agrees off P count constants → PartsName count constants parts → resolve count off p (part_pieces parts) ≡ parts_bytes P p parts
+-- the parts of an instruction, at an offset
+parts_join : (parts : List CodePart) (off : ℕ → ℕ) (P : Offsets) (count constants p : ℕ) → Agrees off P count constants → PartsName count constants parts → resolve count off p (part_fragments parts) ≡ parts_bytes P p parts
 parts_join [] off P count constants p agree names = refl
 parts_join (Row m ∷ parts) off P count constants p agree names =
-    ap (λ n. bytes_of m ++ resolve count off (p + n) (part_pieces parts)) (length-bytes m) ∙ ap (λ l. bytes_of m ++ l) (parts_join parts off P count constants (p + size_of m) agree names.1)
+    ap (λ n. bytes_of m ++ resolve count off (p + n) (part_fragments parts)) (length-bytes m) ∙ ap (λ l. bytes_of m ++ l) (parts_join parts off P count constants (p + size_of m) agree names.1)
 parts_join (Trapping m byte code ∷ parts) off P count constants p agree names =
-    ap (λ n. bytes_of m ++ resolve count off (p + n) (part_pieces parts)) (length-bytes m) ∙ ap (λ l. bytes_of m ++ l) (parts_join parts off P count constants (p + size_of m) agree names.1)
+    ap (λ n. bytes_of m ++ resolve count off (p + n) (part_fragments parts)) (length-bytes m) ∙ ap (λ l. bytes_of m ++ l) (parts_join parts off P count constants (p + size_of m) agree names.1)
 parts_join (Branch mask (ToBlock b) ∷ parts) off P count constants p agree names =
-    ap (λ l. l ++ resolve count off (p + length (bytes_of (ril_c 0xc04 mask 0))) (part_pieces parts)) (patched_branch mask p (off b))
-    ∙ ap (λ x. bytes_of (ril_c 0xc04 mask (half_distance p x)) ++ resolve count off (p + length (bytes_of (ril_c 0xc04 mask 0))) (part_pieces parts)) (agree.0 b names.0)
-    ∙ ap (λ n. bytes_of (ril_c 0xc04 mask (half_distance p (P.block b))) ++ resolve count off (p + n) (part_pieces parts)) (length-branch mask)
+    ap (λ l. l ++ resolve count off (p + length (bytes_of (ril_c 0xc04 mask 0))) (part_fragments parts)) (patched_branch mask p (off b))
+    ∙ ap (λ x. bytes_of (ril_c 0xc04 mask (half_distance p x)) ++ resolve count off (p + length (bytes_of (ril_c 0xc04 mask 0))) (part_fragments parts)) (agree.0 b names.0)
+    ∙ ap (λ n. bytes_of (ril_c 0xc04 mask (half_distance p (P.block b))) ++ resolve count off (p + n) (part_fragments parts)) (length-branch mask)
     ∙ ap (λ l. bytes_of (ril_c 0xc04 mask (half_distance p (P.block b))) ++ l) (parts_join parts off P count constants (p + 6) agree names.1)
 parts_join (Branch mask (ToStep k) ∷ parts) off P count constants p agree names = absurd names.0
 parts_join (Relative opcode register (ToBlock b) ∷ parts) off P count constants p agree names =
     let bare = bytes_of (ril_b opcode register 0) in
-    ap (λ l. l ++ resolve count off (p + length bare) (part_pieces parts)) (patched_relative opcode register p (off b))
-    ∙ ap (λ x. bytes_of (ril_b opcode register (half_distance p x)) ++ resolve count off (p + length bare) (part_pieces parts)) (agree.0 b names.0)
-    ∙ ap (λ n. bytes_of (ril_b opcode register (half_distance p (P.block b))) ++ resolve count off (p + n) (part_pieces parts)) (length-relative opcode register)
+    ap (λ l. l ++ resolve count off (p + length bare) (part_fragments parts)) (patched_relative opcode register p (off b))
+    ∙ ap (λ x. bytes_of (ril_b opcode register (half_distance p x)) ++ resolve count off (p + length bare) (part_fragments parts)) (agree.0 b names.0)
+    ∙ ap (λ n. bytes_of (ril_b opcode register (half_distance p (P.block b))) ++ resolve count off (p + n) (part_fragments parts)) (length-relative opcode register)
     ∙ ap (λ l. bytes_of (ril_b opcode register (half_distance p (P.block b))) ++ l) (parts_join parts off P count constants (p + 6) agree names.1)
 parts_join (Relative opcode register (ToStep k) ∷ parts) off P count constants p agree names = absurd names.0
 parts_join (RelativeConstant opcode register c ∷ parts) off P count constants p agree names =
     let bare = bytes_of (ril_b opcode register 0) in
-    let full = bytes_of (ril_b opcode register (half_distance p (P.outside.constant c))) in
-    ap (λ l. l ++ resolve count off (p + length bare) (part_pieces parts)) (patched_relative opcode register p (off (count + c)))
-    ∙ ap (λ x. bytes_of (ril_b opcode register (half_distance p x)) ++ resolve count off (p + length bare) (part_pieces parts)) (agree.1 c names.0)
-    ∙ ap (λ n. full ++ resolve count off (p + n) (part_pieces parts)) (length-relative opcode register)
+    let full = bytes_of (ril_b opcode register (half_distance p (P.environment.constant c))) in
+    ap (λ l. l ++ resolve count off (p + length bare) (part_fragments parts)) (patched_relative opcode register p (off (count + c)))
+    ∙ ap (λ x. bytes_of (ril_b opcode register (half_distance p x)) ++ resolve count off (p + length bare) (part_fragments parts)) (agree.1 c names.0)
+    ∙ ap (λ n. full ++ resolve count off (p + n) (part_fragments parts)) (length-relative opcode register)
     ∙ ap (λ l. full ++ l) (parts_join parts off P count constants (p + 6) agree names.1)
 parts_join (RelativeSymbol opcode register name offset ∷ parts) off P count constants p agree names =
-    let full = bytes_of (ril_b opcode register (P.outside.symbol_distance p name offset)) in
-    ap (λ h. bytes_of (ril_b opcode register h) ++ resolve count off (p + length (bytes_of (ril_b opcode register 0))) (part_pieces parts)) (sym (agree.3 p name offset))
-    ∙ ap (λ n. full ++ resolve count off (p + n) (part_pieces parts)) (length-relative opcode register)
+    let full = bytes_of (ril_b opcode register (P.environment.symbol_distance p name offset)) in
+    ap (λ h. bytes_of (ril_b opcode register h) ++ resolve count off (p + length (bytes_of (ril_b opcode register 0))) (part_fragments parts)) (sym (agree.3 p name offset))
+    ∙ ap (λ n. full ++ resolve count off (p + n) (part_fragments parts)) (length-relative opcode register)
     ∙ ap (λ l. full ++ l) (parts_join parts off P count constants (p + 6) agree names.1)
 parts_join (SymbolValue name offset ∷ parts) off P count constants p agree names =
-    ap (λ v. to_be_bytes w64 v ++ resolve count off (p + 8) (part_pieces parts)) (sym (agree.2 name offset)) ∙ ap (λ l. to_be_bytes w64 (P.outside.symbol_value name offset) ++ l) (parts_join parts off P count constants (p + 8) agree names.1)
+    ap (λ v. to_be_bytes w64 v ++ resolve count off (p + 8) (part_fragments parts)) (sym (agree.2 name offset)) ∙ ap (λ l. to_be_bytes w64 (P.environment.symbol_value name offset) ++ l) (parts_join parts off P count constants (p + 8) agree names.1)
 parts_join (TrapHere code ∷ parts) off P count constants p agree names = parts_join parts off P count constants (p + 0) agree names.1
 parts_join (TableWord before (ToBlock b) ∷ parts) off P count constants p agree names =
-    ap (λ l. l ++ resolve count off (p + 4) (part_pieces parts)) (patched_word before p (off b))
-    ∙ ap (λ x. word_bytes (table_distance p before x) ++ resolve count off (p + 4) (part_pieces parts)) (agree.0 b names.0)
+    ap (λ l. l ++ resolve count off (p + 4) (part_fragments parts)) (patched_word before p (off b))
+    ∙ ap (λ x. word_bytes (table_distance p before x) ++ resolve count off (p + 4) (part_fragments parts)) (agree.0 b names.0)
     ∙ ap (λ l. word_bytes (table_distance p before (P.block b)) ++ l) (parts_join parts off P count constants (p + 4) agree names.1)
 parts_join (TableWord before (ToStep k) ∷ parts) off P count constants p agree names = absurd names.0
 
@@ -128,8 +128,8 @@ parts_join (TableWord before (ToStep k) ∷ parts) off P count constants p agree
 seven_halfwords : (p : ℕ) → half_distance (p + 6) (p + 20) ≡ 7
 seven_halfwords p = omega arith
 
-table_join : (off : ℕ → ℕ) (P : Places) (count constants n p index mask other : ℕ) (targets : List MachLabel) → Agrees off P count constants → PartsName count constants (table_parts index mask other targets) → off n ≡ p + 20 →
-    resolve count off p (table_pieces n index mask other targets) ≡ parts_bytes P p (table_parts index mask other targets)
+table_join : (off : ℕ → ℕ) (P : Offsets) (count constants n p index mask other : ℕ) (targets : List MachLabel) → Agrees off P count constants → PartsName count constants (table_parts index mask other targets) → off n ≡ p + 20 →
+    resolve count off p (table_fragments n index mask other targets) ≡ parts_bytes P p (table_parts index mask other targets)
 table_join off P count constants n p index mask other targets agree names at =
     let words = table_words 0 targets in
     let agf = rxy 0xe318 1 1 index 0 in
@@ -137,7 +137,7 @@ table_join off P count constants n p index mask other targets agree names at =
     let bare = bytes_of (ril_c 0xc04 mask 0) in
     let relative = bytes_of (ril_b 0xc00 1 0) in
     let sizes : p + 6 + size_of (ril_b 0xc00 1 7) + size_of agf + size_of bcr ≡ p + length bare + length relative + length (bytes_of agf) + length (bytes_of bcr) = omega (arith, length-branch mask, length-relative 0xc00 1, size-relative 0xc00 1 7, length-bytes agf, length-bytes bcr) in
-    let behind : ℕ → List ℕ = λ q. bytes_of agf ++ (bytes_of bcr ++ resolve count off q (part_pieces words)) in
+    let behind : ℕ → List ℕ = λ q. bytes_of agf ++ (bytes_of bcr ++ resolve count off q (part_fragments words)) in
     let q = p + length bare + length relative + length (bytes_of agf) + length (bytes_of bcr) in
     let q' = p + 6 + size_of (ril_b 0xc00 1 7) + size_of agf + size_of bcr in
     ap (λ l. l ++ (patch BranchRIL 0 (p + length bare) (off n) relative ++ behind q)) (patched_branch mask p (off other) ∙ ap (λ x. bytes_of (ril_c 0xc04 mask (half_distance p x))) (agree.0 other names.0))
@@ -150,7 +150,7 @@ table_join off P count constants n p index mask other targets agree names at =
     ∙ ap (λ m. bytes_of (ril_c 0xc04 mask (half_distance p (P.block other))) ++ (bytes_of (ril_b 0xc00 1 7) ++ behind m)) (sym sizes)
     ∙ ap (λ l. bytes_of (ril_c 0xc04 mask (half_distance p (P.block other))) ++ (bytes_of (ril_b 0xc00 1 7) ++ (bytes_of agf ++ (bytes_of bcr ++ l)))) (parts_join words off P count constants q' agree names.1.1.1.1)
 
-pub leaf_join : (i : Inst) (off : ℕ → ℕ) (P : Places) (count constants n after end p : ℕ) → Agrees off P count constants → PartsName count constants (instruction_parts i) → LeafBound off n p i → off after ≡ P.step end → resolve count off p (leaf_pieces n after i) ≡ step_bytes P p (step_of end i)
+pub leaf_join : (i : Inst) (off : ℕ → ℕ) (P : Offsets) (count constants n after end p : ℕ) → Agrees off P count constants → PartsName count constants (instruction_parts i) → LeafBound off n p i → off after ≡ P.step end → resolve count off p (leaf_fragments n after i) ≡ step_bytes P p (step_of end i)
 leaf_join (JTSequence ridx other mask targets) off P count constants n after end p agree names at e = table_join off P count constants n p (number_of ridx) mask other.0 targets.items agree names at
 leaf_join (CondBreak mask) off P count constants n after end p agree names at e =
     append-nil (patch BranchRIL 0 p (off after) (bytes_of (ril_c 0xc04 mask 0))) ∙ patched_branch mask p (off after) ∙ ap (λ x. bytes_of (ril_c 0xc04 mask (half_distance p x))) e ∙ sym (append-nil (bytes_of (ril_c 0xc04 mask (half_distance p (P.step end)))))
@@ -172,33 +172,33 @@ size_of_step e i = refl
 pub steps_total : (t : Tree) (k e : ℕ) → total (steps_of k e t) ≡ tree_size t
 steps_total empty k e = refl
 steps_total (leaf i rest) k e = omega (arith, size_of_step e i, steps_total rest (k + 1) e)
-steps_total (looped mask members rest) k e =
+steps_total (loop_node mask members rest) k e =
     let r = steps_of (k + 2 + step_count members) e rest in
     omega (arith, total_append (steps_of (k + 1) (k + 2 + step_count members) members) (Back mask (k + 1) ∷ r), steps_total members (k + 1) (k + 2 + step_count members), steps_total rest (k + 2 + step_count members) e)
 
 pub steps_length : (t : Tree) (k e : ℕ) → length (steps_of k e t) ≡ step_count t
 steps_length empty k e = refl
 steps_length (leaf i rest) k e = omega (arith, steps_length rest (k + 1) e)
-steps_length (looped mask members rest) k e =
+steps_length (loop_node mask members rest) k e =
     let r = steps_of (k + 2 + step_count members) e rest in
     let l = length-append (steps_of (k + 1) (k + 2 + step_count members) members) (Back mask (k + 1) ∷ r) in
     omega (arith, l, steps_length members (k + 1) (k + 2 + step_count members), steps_length rest (k + 2 + step_count members) e)
 
-pub code_append : (P : Places) (a b : List TypedStep) (k : ℕ) → code P k (a ++ b) ≡ code P k a ++ code P (k + length a) b
+pub code_append : (P : Offsets) (a b : List TypedStep) (k : ℕ) → code P k (a ++ b) ≡ code P k a ++ code P (k + length a) b
 code_append P [] b k = ap (λ m. code P m b) (sym (add-zero k))
 code_append P (s ∷ a) b k =
     let e : k + 1 + length a ≡ k + suc (length a) = omega arith in
     ap (λ l. step_bytes P (P.step k) s ++ l) (code_append P a b (k + 1)) ∙ sym (append_assoc (step_bytes P (P.step k) s) _ _) ∙ ap (λ m. (step_bytes P (P.step k) s ++ code P (k + 1) a) ++ code P m b) e
 
-pub follows_left : (at : ℕ → ℕ) (a b : List TypedStep) (k : ℕ) → Follows at k (a ++ b) → Follows at k a
+pub follows_left : (at : ℕ → ℕ) (a b : List TypedStep) (k : ℕ) → StepsFollow at k (a ++ b) → StepsFollow at k a
 follows_left at [] b k h = tt
 follows_left at (s ∷ a) b k h = (h.0, follows_left at a b (k + 1) h.1)
 
-pub follows_right : (at : ℕ → ℕ) (a b : List TypedStep) (k m : ℕ) → k + length a ≡ m → Follows at k (a ++ b) → Follows at m b
-follows_right at [] b k m e h = subst (λ x. Follows at x b) (sym (add-zero k) ∙ e) h
+pub follows_right : (at : ℕ → ℕ) (a b : List TypedStep) (k m : ℕ) → k + length a ≡ m → StepsFollow at k (a ++ b) → StepsFollow at m b
+follows_right at [] b k m e h = subst (λ x. StepsFollow at x b) (sym (add-zero k) ∙ e) h
 follows_right at (s ∷ a) b k m e h = follows_right at a b (k + 1) m (omega arith) h.1
 
-pub follows_end : (at : ℕ → ℕ) (a : List TypedStep) (k m : ℕ) → k + length a ≡ m → Follows at k a → at m ≡ at k + total a
+pub follows_end : (at : ℕ → ℕ) (a : List TypedStep) (k m : ℕ) → k + length a ≡ m → StepsFollow at k a → at m ≡ at k + total a
 follows_end at [] k m e h = ap at (sym e ∙ add-zero k) ∙ sym (add-zero (at k))
 follows_end at (s ∷ a) k m e h = follows_end at a (k + 1) m (omega arith) h.1 ∙ omega (arith, h.0)
 
@@ -207,10 +207,10 @@ pub record LoopPlaces (at : ℕ → ℕ) (k e : ℕ) (members rest : Tree) : Typ
   pub start : at (k + 1) ≡ at k
   pub turn : at (k + 1 + step_count members) ≡ at k + tree_size members
   pub next : at (k + 2 + step_count members) ≡ at k + tree_size members + 6
-  pub inner : Follows at (k + 1) (steps_of (k + 1) (k + 2 + step_count members) members)
-  pub outer : Follows at (k + 2 + step_count members) (steps_of (k + 2 + step_count members) e rest)
+  pub inner : StepsFollow at (k + 1) (steps_of (k + 1) (k + 2 + step_count members) members)
+  pub outer : StepsFollow at (k + 2 + step_count members) (steps_of (k + 2 + step_count members) e rest)
 
-pub loop_places : (at : ℕ → ℕ) (k e mask : ℕ) (members rest : Tree) → Follows at k (steps_of k e (looped mask members rest)) → LoopPlaces at k e members rest
+pub loop_places : (at : ℕ → ℕ) (k e mask : ℕ) (members rest : Tree) → StepsFollow at k (steps_of k e (loop_node mask members rest)) → LoopPlaces at k e members rest
 loop_places at k e mask members rest follow =
     let fb = steps_of (k + 1) (k + 2 + step_count members) members in
     let fr = steps_of (k + 2 + step_count members) e rest in
@@ -225,49 +225,49 @@ loop_places at k e mask members rest follow =
       turn = turn;
       next = ap at (sym k2) ∙ right.0 ∙ ap (λ m. m + 6) turn;
       inner = inner;
-      outer = subst (λ m. Follows at m fr) k2 right.1;
+      outer = subst (λ m. StepsFollow at m fr) k2 right.1;
     }
 
-pub tree_join : (t : Tree) (off : ℕ → ℕ) (P : Places) (blocks constants n after k e : ℕ) → Agrees off P blocks constants → TreeNames blocks constants t → Bound off n (P.step k) t → Follows P.step k (steps_of k e t) → off after ≡ P.step e → resolve blocks off (P.step k) (pieces n after t) ≡ code P k (steps_of k e t)
+pub tree_join : (t : Tree) (off : ℕ → ℕ) (P : Offsets) (blocks constants n after k e : ℕ) → Agrees off P blocks constants → TreeNames blocks constants t → Bound off n (P.step k) t → StepsFollow P.step k (steps_of k e t) → off after ≡ P.step e → resolve blocks off (P.step k) (fragments n after t) ≡ code P k (steps_of k e t)
 tree_join empty off P blocks constants n after k e agree names bound follow oe = refl
 tree_join (leaf i rest) off P blocks constants n after k e agree names bound follow oe =
     let p = P.step k in
     let next : P.step (k + 1) ≡ p + instruction_size i = follow.0 ∙ ap (λ m. p + m) (size_of_step e i) in
-    let n' = n + instruction_draws i in
-    let ps = pieces n' after rest in
+    let n' = n + instruction_fresh_labels i in
+    let ps = fragments n' after rest in
     let here = leaf_join i off P blocks constants n after e p agree names.0 bound.0 oe in
     let there = tree_join rest off P blocks constants n' after (k + 1) e agree names.1 (subst (λ m. Bound off n' m rest) (sym next) bound.1) follow.1 oe in
-    resolve-append blocks off (leaf_pieces n after i) ps p
-    ∙ ap (λ m. resolve blocks off p (leaf_pieces n after i) ++ resolve blocks off (p + m) ps) (leaf_put n after i)
-    ∙ ap (λ m. resolve blocks off p (leaf_pieces n after i) ++ resolve blocks off m ps) (sym next)
+    resolve-append blocks off (leaf_fragments n after i) ps p
+    ∙ ap (λ m. resolve blocks off p (leaf_fragments n after i) ++ resolve blocks off (p + m) ps) (leaf_put n after i)
+    ∙ ap (λ m. resolve blocks off p (leaf_fragments n after i) ++ resolve blocks off m ps) (sym next)
     ∙ ap (λ l. l ++ resolve blocks off (P.step (k + 1)) ps) here
     ∙ ap (λ l. step_bytes P p (step_of e i) ++ l) there
-tree_join (looped mask members rest) off P blocks constants n after k e agree names bound follow oe =
+tree_join (loop_node mask members rest) off P blocks constants n after k e agree names bound follow oe =
     let at = P.step in
     let p = at k in
     let k1 = k + 1 + step_count members in
     let k2 = k + 2 + step_count members in
     let fb = steps_of (k + 1) k2 members in
     let fr = steps_of k2 e rest in
-    let pb = pieces (n + 2) (n + 1) members in
-    let pr = pieces (n + 2 + draws members) after rest in
+    let pb = fragments (n + 2) (n + 1) members in
+    let pr = fragments (n + 2 + fresh_labels members) after rest in
     let b0 = bytes_of (ril_c 0xc04 mask 0) in
     let w : LoopPlaces at k e members rest = loop_places at k e mask members rest follow in
     let inner = tree_join members off P blocks constants (n + 2) (n + 1) (k + 1) k2 agree names.0 (subst (λ m. Bound off (n + 2) m members) (sym w.start) bound.2) w.inner (bound.1 ∙ sym w.next) in
-    let outer = tree_join rest off P blocks constants (n + 2 + draws members) after k2 e agree names.1 (subst (λ m. Bound off (n + 2 + draws members) m rest) (sym w.next) bound.3) w.outer oe in
+    let outer = tree_join rest off P blocks constants (n + 2 + fresh_labels members) after k2 e agree names.1 (subst (λ m. Bound off (n + 2 + fresh_labels members) m rest) (sym w.next) bound.3) w.outer oe in
     let back_off : off n ≡ at (k + 1) = bound.0 ∙ sym w.start in
     let lb : k + 1 + length fb ≡ k1 = ap (λ m. k + 1 + m) (steps_length members (k + 1) k2) in
     let k12 : k1 + 1 ≡ k2 = omega arith in
     let after_back : p + tree_size members + length b0 ≡ at k2 = ap (λ m. p + tree_size members + m) (length-branch mask) ∙ sym w.next in
-    let tail : resolve blocks off (p + tree_size members) (back_pieces n mask ++ pr) ≡ bytes_of (ril_c 0xc04 mask (half_distance (at k1) (at (k + 1)))) ++ code P k2 fr =
+    let tail : resolve blocks off (p + tree_size members) (back_fragments n mask ++ pr) ≡ bytes_of (ril_c 0xc04 mask (half_distance (at k1) (at (k + 1)))) ++ code P k2 fr =
     ap (λ l. l ++ resolve blocks off (p + tree_size members + length b0) pr) (patched_branch mask (p + tree_size members) (off n))
     ∙ ap (λ m. bytes_of (ril_c 0xc04 mask (half_distance m (off n))) ++ resolve blocks off (p + tree_size members + length b0) pr) (sym w.turn)
     ∙ ap (λ m. bytes_of (ril_c 0xc04 mask (half_distance (at k1) m)) ++ resolve blocks off (p + tree_size members + length b0) pr) back_off
     ∙ ap (λ m. bytes_of (ril_c 0xc04 mask (half_distance (at k1) (at (k + 1)))) ++ resolve blocks off m pr) after_back
     ∙ ap (λ l. bytes_of (ril_c 0xc04 mask (half_distance (at k1) (at (k + 1)))) ++ l) outer in
-    let left : resolve blocks off p (pieces n after (looped mask members rest)) ≡ code P (k + 1) fb ++ (bytes_of (ril_c 0xc04 mask (half_distance (at k1) (at (k + 1)))) ++ code P k2 fr) =
-    resolve-append blocks off pb (back_pieces n mask ++ pr) p
-    ∙ ap (λ m. resolve blocks off p pb ++ resolve blocks off (p + m) (back_pieces n mask ++ pr)) (tree_put (n + 2) (n + 1) members)
+    let left : resolve blocks off p (fragments n after (loop_node mask members rest)) ≡ code P (k + 1) fb ++ (bytes_of (ril_c 0xc04 mask (half_distance (at k1) (at (k + 1)))) ++ code P k2 fr) =
+    resolve-append blocks off pb (back_fragments n mask ++ pr) p
+    ∙ ap (λ m. resolve blocks off p pb ++ resolve blocks off (p + m) (back_fragments n mask ++ pr)) (tree_put (n + 2) (n + 1) members)
     ∙ ap (λ l. resolve blocks off p pb ++ l) tail
     ∙ ap (λ l. l ++ (bytes_of (ril_c 0xc04 mask (half_distance (at k1) (at (k + 1)))) ++ code P k2 fr)) (ap (λ m. resolve blocks off m pb) (sym w.start) ∙ inner) in
     let right : code P (k + 1) (fb ++ Back mask (k + 1) ∷ fr) ≡ code P (k + 1) fb ++ (bytes_of (ril_c 0xc04 mask (half_distance (at k1) (at (k + 1)))) ++ code P k2 fr) =

@@ -3,17 +3,17 @@ use Rattle.std.proofs.Common.{◌≡◌, ℕ, ◌+◌, ◌<◌, Bool, true, fals
 use Rattle.std.proofs.lemmas.Bool.{ltb-true, lt-ltb}
 use Rattle.s390x_base.specs.declared.error.EmitError.{EmitError}
 use Rattle.s390x_base.specs.declared.error.EmitError.TheVariants.{NoMemory, LabelOutOfRange, UnboundLabel, Failed}
-use Rattle.s390x_buffer.specs.State.{State, Blames, mark_cause, put_cause, draw_cause, label_cause, limit, label_limit}
+use Rattle.s390x_buffer.specs.State.{BufferState, FailsWith, mark_cause, put_cause, draw_cause, label_cause, limit, label_limit}
 use Rattle.s390x_emit_int.specs.Room.{LacksMemory}
 
-pub blames_none : (c : Option EmitError) (e : EmitError) → c ≡ None → Blames c e → e ≡ NoMemory
-blames_none None e h b = b
-blames_none (Some x) e h b = absurd (cc)
+pub fails_with_none : (c : Option EmitError) (e : EmitError) → c ≡ None → FailsWith c e → e ≡ NoMemory
+fails_with_none None e h b = b
+fails_with_none (Some x) e h b = absurd (cc)
 
 -- a call's answer, where its cause doesn't stand
-pub lacks_call : {T : Type 0} (P : T → Type 0) (Q : EmitError → Type 0) (c : Option EmitError) (r : Result T EmitError) → MatchResult r P (λ e. Blames c e × Q e) → c ≡ None → LacksMemory r
+pub lacks_call : {T : Type 0} (P : T → Type 0) (Q : EmitError → Type 0) (c : Option EmitError) (r : Result T EmitError) → MatchResult r P (λ e. FailsWith c e × Q e) → c ≡ None → LacksMemory r
 lacks_call P Q c (Ok x) m h = tt
-lacks_call P Q c (Err e) m h = blames_none c e h m.0
+lacks_call P Q c (Err e) m h = fails_with_none c e h m.0
 
 -- an answer by the stack sizes, where they have no cause inside so many loops
 pub lacks_stack : {T : Type 0} (P : T → Type 0) (Q : EmitError → Type 0) (cause : ℕ → Option EmitError) (depth : ℕ) (r : Result T EmitError) → MatchResult r P (λ e. ((d : ℕ) → cause d ≡ Some e) × Q e) → cause depth ≡ None → LacksMemory r
@@ -35,16 +35,16 @@ mark_of f o h = ap (λ b. cond b (Some Failed) o) h
 test_of : (t : Bool) (e : EmitError) → t ≡ true → cond t None (Some e) ≡ None
 test_of t e h = ap (λ b. cond b None (Some e)) h
 
-pub mark_none : (s : State) → s.failed ≡ false → mark_cause s ≡ None
+pub mark_none : (s : BufferState) → s.failed ≡ false → mark_cause s ≡ None
 mark_none s h = mark_of s.failed None h
 
-pub put_none : (s : State) (n : ℕ) → s.failed ≡ false → length s.bytes + n < limit → put_cause s n ≡ None
+pub put_none : (s : BufferState) (n : ℕ) → s.failed ≡ false → length s.bytes + n < limit → put_cause s n ≡ None
 put_none s n h lt = mark_of s.failed _ h ∙ test_of (nat_lt (length s.bytes + n) limit) LabelOutOfRange (lt-ltb (length s.bytes + n) limit lt)
 
-pub draw_none : (s : State) → s.failed ≡ false → length s.labels < label_limit → draw_cause s ≡ None
+pub draw_none : (s : BufferState) → s.failed ≡ false → length s.labels < label_limit → draw_cause s ≡ None
 draw_none s h lt = mark_of s.failed _ h ∙ test_of (nat_lt (length s.labels) label_limit) LabelOutOfRange (lt-ltb (length s.labels) label_limit lt)
 
-pub label_none : (s : State) (l : ℕ) → s.failed ≡ false → l < length s.labels → label_cause s l ≡ None
+pub label_none : (s : BufferState) (l : ℕ) → s.failed ≡ false → l < length s.labels → label_cause s l ≡ None
 label_none s l h lt = mark_of s.failed _ h ∙ test_of (nat_lt l (length s.labels)) UnboundLabel (lt-ltb l (length s.labels) lt)
 
 two_tests : (f t : Bool) (d e : EmitError) → cond f (Some d) (cond t None (Some e)) ≡ None → (f ≡ false) × (t ≡ true)
@@ -53,5 +53,5 @@ two_tests false true d e h = (refl, refl)
 two_tests false false d e h = absurd (cc)
 
 -- what a buffer is in which so many bytes can be put
-pub put_parts : (s : State) (n : ℕ) → put_cause s n ≡ None → (s.failed ≡ false) × (length s.bytes + n < limit)
+pub put_parts : (s : BufferState) (n : ℕ) → put_cause s n ≡ None → (s.failed ≡ false) × (length s.bytes + n < limit)
 put_parts s n h = let t = two_tests s.failed (nat_lt (length s.bytes + n) limit) Failed LabelOutOfRange h in (t.0, ltb-true (length s.bytes + n) limit t.1)

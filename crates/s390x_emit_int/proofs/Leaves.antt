@@ -2,42 +2,42 @@
 use Rattle.std.proofs.Common.{◌≡◌, ℕ, ◌+◌, ◌-◌, ◌<◌, ◌&&◌, List, length, None, Some, true, refl, sym, ap, ◌∙◌, arith, length-append, nat_lt, ltb-true, Vec, Global}
 use Rattle.s390x_inst.specs.Emission.{Emission}
 use Rattle.s390x_inst.specs.declared.state.IsaFlags.{IsaFlags}
-use Rattle.s390x_steps.specs.Memory.{MemoryInstruction, memory}
-use Rattle.s390x_steps.specs.Parts.{memory_parts, parts_size}
-use Rattle.s390x_steps.specs.Resolved.{resolved_instruction}
+use Rattle.s390x_typed_steps.specs.Memory.{MemoryInstruction, memory}
+use Rattle.s390x_typed_steps.specs.Parts.{memory_parts, parts_size}
+use Rattle.s390x_typed_steps.specs.Resolved.{resolved_instruction}
 use Rattle.s390x_base.specs.declared.error.EmitError.TheVariants.{BadRegister, UnboundLabel}
 use Rattle.s390x_base.specs.declared.ir.MachLabel.{MachLabel}
 use Rattle.s390x_base.specs.declared.regs.Reg.{Reg}
 use Rattle.s390x_base.specs.declared.trap.TrapKind.{TrapKind}
-use Rattle.s390x_buffer.specs.State.{State, put_cause}
+use Rattle.s390x_buffer.specs.State.{BufferState, put_cause}
 use Rattle.s390x_format.specs.declared.kind.FormatKind.TheVariants.{E, RiB, Rr, RilB, RilC}
 use Rattle.s390x_format.specs.Formats.{length_of}
 use Rattle.s390x_format.specs.Reading.{encode}
 use Rattle.s390x_format.proofs.Encoding.{encode-length}
 use Rattle.s390x_inst.specs.declared.inst.Inst.{Inst}
 use Rattle.s390x_inst.specs.declared.inst.Inst.TheVariants.{IndirectBr, Ret, LabelAddress, Trap, TrapIf, Debugtrap}
-use Rattle.s390x_steps.specs.Alone.{Alone, alone}
-use Rattle.s390x_steps.specs.General.{is_general, is_nonzero}
-use Rattle.s390x_steps.specs.MachineInstruction.{format_e, rr, size_of}
-use Rattle.s390x_steps.specs.Sizes.{instruction_size}
-use Rattle.s390x_steps.specs.Causes.{unless, declared_in, branch_cause, memory_cause, memory_cause_or, instruction_cause, leaf_cause, numbers_cause, instruction_draws}
-use Rattle.s390x_steps.proofs.Causes.{first_left, first_right, unless_true}
-use Rattle.s390x_emit_int.specs.Pieces.{apply}
+use Rattle.s390x_typed_steps.specs.SingleInstruction.{SingleInstruction, single_instruction}
+use Rattle.s390x_typed_steps.specs.General.{is_general, is_nonzero}
+use Rattle.s390x_typed_steps.specs.MachineInstruction.{format_e, rr, size_of}
+use Rattle.s390x_typed_steps.specs.Sizes.{instruction_size}
+use Rattle.s390x_typed_steps.specs.Causes.{unless, declared_in, branch_cause, memory_cause, memory_cause_or, instruction_cause, leaf_cause, numbers_cause, instruction_fresh_labels}
+use Rattle.s390x_typed_steps.proofs.Causes.{first_left, first_right, unless_true}
+use Rattle.s390x_emit_int.specs.Fragments.{apply}
 use Rattle.s390x_emit_int.specs.Emission.{branch, branch_size, memory_size_or}
 use Rattle.s390x_emit_int.specs.Room.{Passed, MembersPassed}
-use Rattle.s390x_emit_int.proofs.Resolving.{alone_resolved, no_memory, branch_resolved, size_resolved, draws_resolved}
+use Rattle.s390x_emit_int.proofs.Resolving.{single_resolved, no_memory, branch_resolved, size_resolved, fresh_labels_resolved}
 use Rattle.s390x_emit_int.proofs.Lacking.{put_none}
 use Rattle.s390x_emit_int.proofs.Runs.{length-branch}
 use Rattle.s390x_emit_int.proofs.Single.{some_cause, none_cause, some_size, none_size}
 
 -- behind a branch
-pub branch_passed : (s s1 : State) (mask first second : ℕ) → s1 ≡ apply s (branch mask first) → Passed s first 12 None → second < length s.labels → Passed s1 second 6 None
+pub branch_passed : (s s1 : BufferState) (mask first second : ℕ) → s1 ≡ apply s (branch mask first) → Passed s first 12 None → second < length s.labels → Passed s1 second 6 None
 branch_passed s s1 mask first second e p lt =
     let labels : length s1.labels ≡ length s.labels = ap (λ x. length x.labels) e in
     let blocks : s1.block_count ≡ s.block_count = ap (λ x. x.block_count) e in
     let bytes : length s1.bytes ≡ length s.bytes + 6 = ap (λ x. length x.bytes) e ∙ length-append s.bytes _ ∙ ap (λ m. length s.bytes + m) (length-branch mask) in
     record {
-      unmarked = ap (λ x. x.failed) e ∙ p.unmarked;
+      unpoisoned = ap (λ x. x.failed) e ∙ p.unpoisoned;
       blocks = omega (arith, p.blocks);
       label = omega arith;
       short = omega (arith, p.short);
@@ -69,33 +69,33 @@ unfolding length_of
 size-rr opcode a b = refl
 
 -- a branch to the address in a register
-pub indirect_passed : (s : State) (after depth : ℕ) (i : Inst) (r : Reg) (ts : Vec MachLabel Global) → i ≡ IndirectBr r ts → MembersPassed s after depth (branch_size i) (branch_cause s.block_count depth i) → (put_cause s 2 ≡ None) × ((is_general r && is_nonzero r) ≡ true)
+pub indirect_passed : (s : BufferState) (after depth : ℕ) (i : Inst) (r : Reg) (ts : Vec MachLabel Global) → i ≡ IndirectBr r ts → MembersPassed s after depth (branch_size i) (branch_cause s.block_count depth i) → (put_cause s 2 ≡ None) × ((is_general r && is_nonzero r) ≡ true)
 unfolding length_of
 indirect_passed s after depth i r ts e p =
     let size : branch_size i ≡ 2 = ap branch_size e in
     let cause = sym (ap (branch_cause s.block_count depth) e) ∙ p.passed in
-    (put_none s 2 p.unmarked (omega (arith, p.short)), unless_true (is_general r && is_nonzero r) BadRegister (first_left _ _ cause))
+    (put_none s 2 p.unpoisoned (omega (arith, p.short)), unless_true (is_general r && is_nonzero r) BadRegister (first_left _ _ cause))
 
-pub return_passed : (s : State) (after depth : ℕ) (i : Inst) (r : Reg) → i ≡ Ret r → MembersPassed s after depth (branch_size i) (branch_cause s.block_count depth i) → (put_cause s 2 ≡ None) × ((is_general r && is_nonzero r) ≡ true)
+pub return_passed : (s : BufferState) (after depth : ℕ) (i : Inst) (r : Reg) → i ≡ Ret r → MembersPassed s after depth (branch_size i) (branch_cause s.block_count depth i) → (put_cause s 2 ≡ None) × ((is_general r && is_nonzero r) ≡ true)
 unfolding length_of
 return_passed s after depth i r e p =
     let size : branch_size i ≡ 2 = ap branch_size e in
     let cause = sym (ap (branch_cause s.block_count depth) e) ∙ p.passed in
-    (put_none s 2 p.unmarked (omega (arith, p.short)), unless_true (is_general r && is_nonzero r) BadRegister cause)
+    (put_none s 2 p.unpoisoned (omega (arith, p.short)), unless_true (is_general r && is_nonzero r) BadRegister cause)
 
 -- an instruction that is one machine instruction
-pub alone_passed : (flags : IsaFlags) (s : State) (after nominal depth : ℕ) (i : Inst) (x : Alone) → Some x ≡ alone i → MembersPassed s after depth (instruction_size i) (leaf_cause flags (declared_in s) (length s.labels) nominal depth i) → (put_cause s (size_of x.row) ≡ None) × (x.fine ≡ true)
-alone_passed flags s after nominal depth i x e p =
-    (put_none s (size_of x.row) p.unmarked (omega (arith, p.short, some_size i x e)), unless_true x.fine BadRegister (some_cause flags (declared_in s) nominal depth i x e (first_left _ _ p.passed)))
+pub single_passed : (flags : IsaFlags) (s : BufferState) (after nominal depth : ℕ) (i : Inst) (x : SingleInstruction) → Some x ≡ single_instruction i → MembersPassed s after depth (instruction_size i) (leaf_cause flags (declared_in s) (length s.labels) nominal depth i) → (put_cause s (size_of x.row) ≡ None) × (x.operands_valid ≡ true)
+single_passed flags s after nominal depth i x e p =
+    (put_none s (size_of x.row) p.unpoisoned (omega (arith, p.short, some_size i x e)), unless_true x.operands_valid BadRegister (some_cause flags (declared_in s) nominal depth i x e (first_left _ _ p.passed)))
 
 -- the address of a block
-pub address_passed : (s : State) (after depth : ℕ) (i : Inst) (dst : Reg) (l : MachLabel) → i ≡ LabelAddress dst l → MembersPassed s after depth (branch_size i) (branch_cause s.block_count depth i) → Passed s l.0 6 None × (is_general dst ≡ true)
+pub address_passed : (s : BufferState) (after depth : ℕ) (i : Inst) (dst : Reg) (l : MachLabel) → i ≡ LabelAddress dst l → MembersPassed s after depth (branch_size i) (branch_cause s.block_count depth i) → Passed s l.0 6 None × (is_general dst ≡ true)
 unfolding length_of
 address_passed s after depth i dst l e p =
     let size : branch_size i ≡ 6 = ap branch_size e in
     let cause = sym (ap (branch_cause s.block_count depth) e) ∙ p.passed in
     let below : l.0 < s.block_count = ltb-true l.0 s.block_count (unless_true (nat_lt l.0 s.block_count) UnboundLabel (first_right (unless (is_general dst) BadRegister) _ cause)) in
-    (record { unmarked = p.unmarked; blocks = p.blocks; label = omega (arith, below, p.blocks); short = omega (arith, p.short, size); passed = refl }, unless_true (is_general dst) BadRegister (first_left _ _ cause))
+    (record { unpoisoned = p.unpoisoned; blocks = p.blocks; label = omega (arith, below, p.blocks); short = omega (arith, p.short, size); passed = refl }, unless_true (is_general dst) BadRegister (first_left _ _ cause))
 
 -- the last byte of two
 pub last_of_e : (opcode : ℕ) → size_of (format_e opcode) - 1 ≡ 1
@@ -103,34 +103,34 @@ unfolding length_of
 last_of_e opcode = refl
 
 -- instructions that end the run
-pub trap_passed : (s : State) (after depth : ℕ) (i : Inst) (code : TrapKind) → i ≡ Trap code → MembersPassed s after depth (branch_size i) (branch_cause s.block_count depth i) → put_cause s 2 ≡ None
+pub trap_passed : (s : BufferState) (after depth : ℕ) (i : Inst) (code : TrapKind) → i ≡ Trap code → MembersPassed s after depth (branch_size i) (branch_cause s.block_count depth i) → put_cause s 2 ≡ None
 unfolding length_of
-trap_passed s after depth i code e p = let size : branch_size i ≡ 2 = ap branch_size e in put_none s 2 p.unmarked (omega (arith, p.short, size))
+trap_passed s after depth i code e p = let size : branch_size i ≡ 2 = ap branch_size e in put_none s 2 p.unpoisoned (omega (arith, p.short, size))
 
-pub trap_if_passed : (s : State) (after depth : ℕ) (i : Inst) (mask : ℕ) (code : TrapKind) → i ≡ TrapIf mask code → MembersPassed s after depth (branch_size i) (branch_cause s.block_count depth i) → put_cause s 6 ≡ None
+pub trap_if_passed : (s : BufferState) (after depth : ℕ) (i : Inst) (mask : ℕ) (code : TrapKind) → i ≡ TrapIf mask code → MembersPassed s after depth (branch_size i) (branch_cause s.block_count depth i) → put_cause s 6 ≡ None
 unfolding length_of
-trap_if_passed s after depth i mask code e p = let size : branch_size i ≡ 6 = ap branch_size e in put_none s 6 p.unmarked (omega (arith, p.short, size))
+trap_if_passed s after depth i mask code e p = let size : branch_size i ≡ 6 = ap branch_size e in put_none s 6 p.unpoisoned (omega (arith, p.short, size))
 
-pub debug_passed : (s : State) (after depth : ℕ) (i : Inst) → i ≡ Debugtrap → MembersPassed s after depth (branch_size i) (branch_cause s.block_count depth i) → put_cause s 2 ≡ None
+pub debug_passed : (s : BufferState) (after depth : ℕ) (i : Inst) → i ≡ Debugtrap → MembersPassed s after depth (branch_size i) (branch_cause s.block_count depth i) → put_cause s 2 ≡ None
 unfolding length_of
-debug_passed s after depth i e p = let size : branch_size i ≡ 2 = ap branch_size e in put_none s 2 p.unmarked (omega (arith, p.short, size))
+debug_passed s after depth i e p = let size : branch_size i ≡ 2 = ap branch_size e in put_none s 2 p.unpoisoned (omega (arith, p.short, size))
 
 -- an instruction with a memory operand
-pub memory_passed : (flags : IsaFlags) (s : State) (after nominal depth : ℕ) (i : Inst) (x : MemoryInstruction) → None ≡ alone i → memory i ≡ Some x → MembersPassed s after depth (instruction_size i) (leaf_cause flags (declared_in s) (length s.labels) nominal depth i) → (put_cause s (parts_size (memory_parts x)) ≡ None) × (memory_cause (declared_in s) x ≡ None)
+pub memory_passed : (flags : IsaFlags) (s : BufferState) (after nominal depth : ℕ) (i : Inst) (x : MemoryInstruction) → None ≡ single_instruction i → memory i ≡ Some x → MembersPassed s after depth (instruction_size i) (leaf_cause flags (declared_in s) (length s.labels) nominal depth i) → (put_cause s (parts_size (memory_parts x)) ≡ None) × (memory_cause (declared_in s) x ≡ None)
 memory_passed flags s after nominal depth i x e m p =
     let own = first_left (instruction_cause flags (declared_in s) nominal depth i) _ p.passed in
     let size : instruction_size i ≡ parts_size (memory_parts x) = none_size i e ∙ ap (λ o. memory_size_or o (branch_size i)) m in
-    (put_none s (parts_size (memory_parts x)) p.unmarked (omega (arith, p.short, size)), sym (ap (λ o. memory_cause_or (declared_in s) o (branch_cause s.block_count depth i)) m) ∙ none_cause flags (declared_in s) nominal depth i e own)
+    (put_none s (parts_size (memory_parts x)) p.unpoisoned (omega (arith, p.short, size)), sym (ap (λ o. memory_cause_or (declared_in s) o (branch_cause s.block_count depth i)) m) ∙ none_cause flags (declared_in s) nominal depth i e own)
 
 -- and one that has none, by itself and before its operand was resolved
-pub other_passed : (flags : IsaFlags) (e : Emission) (s : State) (after nominal depth : ℕ) (i : Inst) → None ≡ alone i → None ≡ memory i →
-    MembersPassed s after depth (instruction_size (resolved_instruction e i)) (leaf_cause flags (declared_in s) (length s.labels) nominal depth (resolved_instruction e i)) → MembersPassed s after depth (branch_size i) (branch_cause s.block_count depth i) × (numbers_cause (length s.labels) (instruction_draws i) ≡ None)
+pub other_passed : (flags : IsaFlags) (e : Emission) (s : BufferState) (after nominal depth : ℕ) (i : Inst) → None ≡ single_instruction i → None ≡ memory i →
+    MembersPassed s after depth (instruction_size (resolved_instruction e i)) (leaf_cause flags (declared_in s) (length s.labels) nominal depth (resolved_instruction e i)) → MembersPassed s after depth (branch_size i) (branch_cause s.block_count depth i) × (numbers_cause (length s.labels) (instruction_fresh_labels i) ≡ None)
 other_passed flags e s after nominal depth i a m p =
     let j = resolved_instruction e i in
     let own = first_left (instruction_cause flags (declared_in s) nominal depth j) _ p.passed in
-    let alone_none : None ≡ alone j = a ∙ sym (alone_resolved e i) in
-    let size : instruction_size j ≡ branch_size i = none_size j alone_none ∙ ap (λ o. memory_size_or o (branch_size j)) (no_memory e i m) ∙ size_resolved e i in
-    let cause = sym (ap (λ o. memory_cause_or (declared_in s) o (branch_cause s.block_count depth j)) (no_memory e i m)) ∙ none_cause flags (declared_in s) nominal depth j alone_none own in (
-      record { unmarked = p.unmarked; blocks = p.blocks; label = p.label; short = omega (arith, p.short, size); passed = sym (branch_resolved e s.block_count depth i) ∙ cause },
-      ap (numbers_cause (length s.labels)) (sym (draws_resolved e i)) ∙ first_right (instruction_cause flags (declared_in s) nominal depth j) _ p.passed,
+    let single_none : None ≡ single_instruction j = a ∙ sym (single_resolved e i) in
+    let size : instruction_size j ≡ branch_size i = none_size j single_none ∙ ap (λ o. memory_size_or o (branch_size j)) (no_memory e i m) ∙ size_resolved e i in
+    let cause = sym (ap (λ o. memory_cause_or (declared_in s) o (branch_cause s.block_count depth j)) (no_memory e i m)) ∙ none_cause flags (declared_in s) nominal depth j single_none own in (
+      record { unpoisoned = p.unpoisoned; blocks = p.blocks; label = p.label; short = omega (arith, p.short, size); passed = sym (branch_resolved e s.block_count depth i) ∙ cause },
+      ap (numbers_cause (length s.labels)) (sym (fresh_labels_resolved e i)) ∙ first_right (instruction_cause flags (declared_in s) nominal depth j) _ p.passed,
     )

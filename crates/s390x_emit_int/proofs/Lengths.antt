@@ -5,7 +5,7 @@ use Rattle.s390x_base.specs.declared.error.EmitError.TheVariants.{LabelOutOfRang
 use Rattle.s390x_buffer.specs.State.{Constant, limit}
 use Rattle.s390x_buffer.specs.Constants.{constants_end}
 use Rattle.s390x_buffer.proofs.Placing.{end-ge}
-use Rattle.s390x_steps.specs.Causes.{unless}
+use Rattle.s390x_typed_steps.specs.Causes.{unless}
 
 not_less : (a b : ℕ) → b ≤ a → (t : Bool) → nat_lt a b ≡ t → t ≡ false
 not_less a b h true e = absurd (let lt : a < b = ltb-true a b e in omega arith)

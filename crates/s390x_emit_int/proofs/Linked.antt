@@ -11,20 +11,20 @@ use Rattle.s390x_machine.specs.Functions.{function_layout}
 use Rattle.s390x_machine.proofs.Functions.{function_placed}
 use Rattle.s390x_machine.proofs.Instructions.{block_holds}
 use Rattle.s390x_machine.proofs.Checked.{checked_steps}
-use Rattle.s390x_steps.specs.Ranges.{BlocksInRange}
-use Rattle.s390x_steps.specs.Tree.{Tree}
-use Rattle.s390x_steps.specs.Causes.{first, declared_of, blocks_cause}
-use Rattle.s390x_steps.proofs.Causes.{first_left, first_right}
-use Rattle.s390x_emit_int.specs.Function.{checked_cause, length_cause, IsImage}
+use Rattle.s390x_typed_steps.specs.Ranges.{BlocksInRange}
+use Rattle.s390x_typed_steps.specs.Tree.{Tree}
+use Rattle.s390x_typed_steps.specs.Causes.{first_emit_cause, declared_of, blocks_cause}
+use Rattle.s390x_typed_steps.proofs.Causes.{first_left, first_right}
+use Rattle.s390x_emit_int.specs.Function.{checked_cause, code_length_cause, IsFinishedCode}
 use Rattle.s390x_emit_int.specs.Headline.{linked, RunsAsTyped}
 use Rattle.s390x_emit_int.proofs.Linking.{stands_as_code}
 
-pub runs_as_typed : (flags : IsaFlags) (ts : List Tree) (cs : List Constant) (f : MachBufferFinalized) (base : ℕ) (symbols : Symbols) → checked_cause flags ts cs ≡ None → BlocksInRange ts → IsImage ts cs f → link_cause f base symbols ≡ None → RunsAsTyped symbols ts cs (record { base = base; bytes = filled base symbols f.relocs.items f.bytes.items })
-runs_as_typed flags ts cs f base symbols fine ranges image links b lt =
-    let outside = linked symbols base ts cs in
+pub runs_as_typed : (flags : IsaFlags) (ts : List Tree) (cs : List Constant) (f : MachBufferFinalized) (base : ℕ) (symbols : Symbols) → checked_cause flags ts cs ≡ None → BlocksInRange ts → IsFinishedCode ts cs f → link_cause f base symbols ≡ None → RunsAsTyped symbols ts cs (record { base = base; bytes = filled base symbols f.relocs.items f.bytes.items })
+runs_as_typed flags ts cs f base symbols operands_valid ranges image links b lt =
+    let environment = linked symbols base ts cs in
     let code : CodeImage = record { base = base; bytes = filled base symbols f.relocs.items f.bytes.items } in
     let n = length ts + length cs in
     let D = declared_of ts cs in
-    let checked : blocks_cause flags D n ts ≡ None = first_left _ _ (first_right (new_cause (length ts) cs) (first (blocks_cause flags D n ts) (length_cause ts cs)) fine) in
-    let stands = stands_as_code flags ts cs f base symbols fine image links (λ image. checked_steps flags outside ts n image checked ranges) in
-    block_holds (function_layout outside ts code) (function_placed outside ts code stands) b lt
+    let checked : blocks_cause flags D n ts ≡ None = first_left _ _ (first_right (new_cause (length ts) cs) (first_emit_cause (blocks_cause flags D n ts) (code_length_cause ts cs)) operands_valid) in
+    let stands = stands_as_code flags ts cs f base symbols operands_valid image links (λ image. checked_steps flags environment ts n image checked ranges) in
+    block_holds (function_layout environment ts code) (function_placed environment ts code stands) b lt

@@ -10,29 +10,29 @@ use Rattle.s390x_buffer.specs.Constants.{constant_starts, constant_bytes, consta
 use Rattle.s390x_buffer.specs.declared.entries.MachBufferFinalized.{MachBufferFinalized}
 use Rattle.s390x_buffer.specs.declared.entries.RelocEntry.{RelocEntry}
 use Rattle.s390x_buffer.proofs.Placing.{length-constant_bytes}
-use Rattle.s390x_image.specs.Causes.{first as first_link, base_cause, reloc_cause, relocs_cause, link_cause}
+use Rattle.s390x_image.specs.Causes.{first_link_cause as first_link, base_cause, reloc_cause, relocs_cause, link_cause}
 use Rattle.s390x_image.specs.Fields.{filled}
 use Rattle.s390x_image.specs.Values.{symbol_value, symbol_distance}
 use Rattle.s390x_image.specs.ReadingBack.{distance_leads}
 use Rattle.s390x_image.specs.Symbols.{Symbols}
 use Rattle.s390x_image.specs.declared.error.LinkError.{LinkError}
 use Rattle.s390x_operations.specs.Numbers.{low}
-use Rattle.s390x_operations.specs.State.{CodeImage, sum64}
+use Rattle.s390x_operations.specs.State.{CodeImage, wrapping_add64}
 use Rattle.s390x_operations.specs.declared.size.Size.TheVariants.{Doubleword}
 use Rattle.s390x_machine.specs.Layout.{Layout}
-use Rattle.s390x_machine.specs.Placed.{IsFine, PartReaches, PartsReach, ConstantStands}
+use Rattle.s390x_machine.specs.CodeAt.{IsValidStep, PartReaches, PartsReach, ConstantStands}
 use Rattle.s390x_machine.specs.Functions.{function_layout, StandsAsCode}
-use Rattle.s390x_steps.specs.Tree.{Tree}
-use Rattle.s390x_steps.specs.Steps.{Step, step_count, steps_of, steps_from, function_steps}
-use Rattle.s390x_steps.specs.Parts.{Part, RelativeSymbol, part_size, parts_size, step_parts}
-use Rattle.s390x_steps.specs.Rows.{Outside}
-use Rattle.s390x_steps.specs.Image.{place, places, unlinked, function_code}
-use Rattle.s390x_steps.specs.Relocs.{part_relocs, parts_relocs, step_relocs, relocs_from, function_relocs}
-use Rattle.s390x_steps.specs.Sizes.{blocks_size}
-use Rattle.s390x_steps.specs.Causes.{aligns_of}
-use Rattle.s390x_steps.proofs.Causes.{first_left}
-use Rattle.s390x_emit_int.specs.Bound.{Follows}
-use Rattle.s390x_emit_int.specs.Function.{checked_cause, IsImage}
+use Rattle.s390x_typed_steps.specs.Tree.{Tree}
+use Rattle.s390x_typed_steps.specs.Steps.{Step, step_count, steps_of, steps_from, function_steps}
+use Rattle.s390x_typed_steps.specs.Parts.{CodePart, RelativeSymbol, part_size, parts_size, step_parts}
+use Rattle.s390x_typed_steps.specs.Rows.{LinkEnvironment}
+use Rattle.s390x_typed_steps.specs.Image.{step_offset, offsets, unlinked, function_code}
+use Rattle.s390x_typed_steps.specs.Relocs.{part_relocs, parts_relocs, step_relocs, relocs_from, function_relocs}
+use Rattle.s390x_typed_steps.specs.Sizes.{blocks_size}
+use Rattle.s390x_typed_steps.specs.Causes.{aligns_of}
+use Rattle.s390x_typed_steps.proofs.Causes.{first_left}
+use Rattle.s390x_emit_int.specs.Bound.{StepsFollow}
+use Rattle.s390x_emit_int.specs.Function.{checked_cause, IsFinishedCode}
 use Rattle.s390x_emit_int.specs.Headline.{linked}
 use Rattle.s390x_emit_int.proofs.Constants.{IsAlignment, byte, halfword, word, doubleword, quadword, alignment_of, aligned_constants, starts_of, greatest_ge}
 use Rattle.s390x_emit_int.proofs.Filling.{function_filled, linked_length, code_length}
@@ -109,12 +109,12 @@ base_on base a g (quadword e) (eight f) le h = absurd (omega arith)
 base_on base a g (quadword e) (sixteen f) le h = let k : base % 16 ≡ 0 = subst (λ x. base % x ≡ 0) f h in subst (λ x. base % x ≡ 0) (sym e) k
 
 -- and so is a sum with a place that is, modulo 2 ^ 64
-sum_on : (base start a : ℕ) → IsAlignment a → base % a ≡ 0 → start % a ≡ 0 → sum64 base start % a ≡ 0
-sum_on base start a (byte e) h k = subst (λ x. sum64 base start % x ≡ 0) (sym e) (omega arith)
-sum_on base start a (halfword e) h k = let i : base % 2 ≡ 0 = subst (λ x. base % x ≡ 0) e h in let j : start % 2 ≡ 0 = subst (λ x. start % x ≡ 0) e k in let l : sum64 base start % 2 ≡ 0 = omega arith in subst (λ x. sum64 base start % x ≡ 0) (sym e) l
-sum_on base start a (word e) h k = let i : base % 4 ≡ 0 = subst (λ x. base % x ≡ 0) e h in let j : start % 4 ≡ 0 = subst (λ x. start % x ≡ 0) e k in let l : sum64 base start % 4 ≡ 0 = omega arith in subst (λ x. sum64 base start % x ≡ 0) (sym e) l
-sum_on base start a (doubleword e) h k = let i : base % 8 ≡ 0 = subst (λ x. base % x ≡ 0) e h in let j : start % 8 ≡ 0 = subst (λ x. start % x ≡ 0) e k in let l : sum64 base start % 8 ≡ 0 = omega arith in subst (λ x. sum64 base start % x ≡ 0) (sym e) l
-sum_on base start a (quadword e) h k = let i : base % 16 ≡ 0 = subst (λ x. base % x ≡ 0) e h in let j : start % 16 ≡ 0 = subst (λ x. start % x ≡ 0) e k in let l : sum64 base start % 16 ≡ 0 = omega arith in subst (λ x. sum64 base start % x ≡ 0) (sym e) l
+sum_on : (base start a : ℕ) → IsAlignment a → base % a ≡ 0 → start % a ≡ 0 → wrapping_add64 base start % a ≡ 0
+sum_on base start a (byte e) h k = subst (λ x. wrapping_add64 base start % x ≡ 0) (sym e) (omega arith)
+sum_on base start a (halfword e) h k = let i : base % 2 ≡ 0 = subst (λ x. base % x ≡ 0) e h in let j : start % 2 ≡ 0 = subst (λ x. start % x ≡ 0) e k in let l : wrapping_add64 base start % 2 ≡ 0 = omega arith in subst (λ x. wrapping_add64 base start % x ≡ 0) (sym e) l
+sum_on base start a (word e) h k = let i : base % 4 ≡ 0 = subst (λ x. base % x ≡ 0) e h in let j : start % 4 ≡ 0 = subst (λ x. start % x ≡ 0) e k in let l : wrapping_add64 base start % 4 ≡ 0 = omega arith in subst (λ x. wrapping_add64 base start % x ≡ 0) (sym e) l
+sum_on base start a (doubleword e) h k = let i : base % 8 ≡ 0 = subst (λ x. base % x ≡ 0) e h in let j : start % 8 ≡ 0 = subst (λ x. start % x ≡ 0) e k in let l : wrapping_add64 base start % 8 ≡ 0 = omega arith in subst (λ x. wrapping_add64 base start % x ≡ 0) (sym e) l
+sum_on base start a (quadword e) h k = let i : base % 16 ≡ 0 = subst (λ x. base % x ≡ 0) e h in let j : start % 16 ≡ 0 = subst (λ x. start % x ≡ 0) e k in let l : wrapping_add64 base start % 16 ≡ 0 = omega arith in subst (λ x. wrapping_add64 base start % x ≡ 0) (sym e) l
 
 -- ---- distances lead to symbols
 
@@ -146,23 +146,23 @@ module _ (symbols : Symbols) (base : ℕ) where
     abbrev here : Layout
     here = function_layout (linked symbols base ts cs) ts (record { base = base; bytes = bytes })
 
-    part_reaches : (part : Part) (p : ℕ) → base + (p + part_size part) ≤ 2 ^ 64 → relocs_cause base symbols (part_relocs p part) ≡ None → PartReaches here p part
+    part_reaches : (part : CodePart) (p : ℕ) → base + (p + part_size part) ≤ 2 ^ 64 → relocs_cause base symbols (part_relocs p part) ≡ None → PartReaches here p part
     part_reaches (RelativeSymbol opcode register name offset) p room h =
         let leads = distance_leads base symbols p name offset (first_of_links _ _ h) in
-        let at : sum64 base p ≡ base + p = omega arith in (
+        let at : wrapping_add64 base p ≡ base + p = omega arith in (
           leads.0,
           ap (λ n. low Doubleword (pos n +ℤ pos 2 *ℤ cast_signed w32 (symbol_distance base symbols p name offset))) at ∙ ap (low Doubleword) leads.2 ∙ low_small (symbol_value symbols name offset) leads.1,
         )
     part_reaches part p room h = tt
 
-    parts_reach : (parts : List Part) (p : ℕ) → base + (p + parts_size parts) ≤ 2 ^ 64 → relocs_cause base symbols (parts_relocs p parts) ≡ None → PartsReach here p parts
+    parts_reach : (parts : List CodePart) (p : ℕ) → base + (p + parts_size parts) ≤ 2 ^ 64 → relocs_cause base symbols (parts_relocs p parts) ≡ None → PartsReach here p parts
     parts_reach [] p room h = tt
     parts_reach (part ∷ parts) p room h =
         let rs = part_relocs p part in
         let qs = parts_relocs (p + part_size part) parts in
         (part_reaches part p (omega arith) (first_relocs rs qs h), parts_reach parts (p + part_size part) (omega arith) (last_relocs rs qs h))
 
-    steps_reach : (at : ℕ → ℕ) (ss : List Step) (k j : ℕ) (s : Step) → Follows at k ss → base + (at k + total ss) ≤ 2 ^ 64 → relocs_cause base symbols (relocs_from at k ss) ≡ None → slice_get ss j ≡ Some s → PartsReach here (at (k + j)) (step_parts s)
+    steps_reach : (at : ℕ → ℕ) (ss : List Step) (k j : ℕ) (s : Step) → StepsFollow at k ss → base + (at k + total ss) ≤ 2 ^ 64 → relocs_cause base symbols (relocs_from at k ss) ≡ None → slice_get ss j ≡ Some s → PartsReach here (at (k + j)) (step_parts s)
     steps_reach at [] k j s follow room h e = absurd (cc)
     steps_reach at (x ∷ ss) k zero s follow room h e =
         let same : x ≡ s = cc in
@@ -188,23 +188,23 @@ module _ (symbols : Symbols) (base : ℕ) where
         }
 
 -- each step is one that emission lets pass
-abbrev pub AllFine : Outside → List Tree → CodeImage → Type 0
-AllFine outside ts image = (k : ℕ) (s : Step) → slice_get (function_steps ts) k ≡ Some s → IsFine (function_layout outside ts image) s
+abbrev pub AllValid : LinkEnvironment → List Tree → CodeImage → Type 0
+AllValid environment ts image = (k : ℕ) (s : Step) → slice_get (function_steps ts) k ≡ Some s → IsValidStep (function_layout environment ts image) s
 
 -- linked code stands as the machine layer asks, where each step is fine
-pub stands_as_code : (flags : IsaFlags) (ts : List Tree) (cs : List Constant) (f : MachBufferFinalized) (base : ℕ) (symbols : Symbols) → checked_cause flags ts cs ≡ None → IsImage ts cs f → link_cause f base symbols ≡ None → ((image : CodeImage) → AllFine (linked symbols base ts cs) ts image) →
+pub stands_as_code : (flags : IsaFlags) (ts : List Tree) (cs : List Constant) (f : MachBufferFinalized) (base : ℕ) (symbols : Symbols) → checked_cause flags ts cs ≡ None → IsFinishedCode ts cs f → link_cause f base symbols ≡ None → ((image : CodeImage) → AllValid (linked symbols base ts cs) ts image) →
     StandsAsCode (linked symbols base ts cs) ts (record { base = base; bytes = filled base symbols f.relocs.items f.bytes.items })
-stands_as_code flags ts cs f base symbols fine image links fine_steps =
+stands_as_code flags ts cs f base symbols operands_valid image links valid_steps =
     let ss = function_steps ts in
     let constants = constant_bytes (blocks_size ts) cs in
-    let outside = linked symbols base ts cs in
+    let environment = linked symbols base ts cs in
     let before = function_code (unlinked ts cs) ts in
     let code : CodeImage = record { base = base; bytes = filled base symbols f.relocs.items f.bytes.items } in
-    let is : code.bytes ≡ function_code outside ts ++ constants = ap (λ rs. filled base symbols rs f.bytes.items) image.relocs ∙ ap (filled base symbols (function_relocs ts)) image.bytes ∙ function_filled base symbols ts cs constants in
-    let size : length code.bytes ≡ length f.bytes.items = ap length is ∙ linked_length (unlinked ts cs) outside ts constants ∙ ap length (sym image.bytes) in
-    let whole : length f.bytes.items ≡ total ss + length constants = ap length image.bytes ∙ length-append before constants ∙ ap (λ n. n + length constants) (code_length (places (unlinked ts cs) ts) 0 ss) in
+    let is : code.bytes ≡ function_code environment ts ++ constants = ap (λ rs. filled base symbols rs f.bytes.items) image.relocs ∙ ap (filled base symbols (function_relocs ts)) image.bytes ∙ function_filled base symbols ts cs constants in
+    let size : length code.bytes ≡ length f.bytes.items = ap length is ∙ linked_length (unlinked ts cs) environment ts constants ∙ ap length (sym image.bytes) in
+    let whole : length f.bytes.items ≡ total ss + length constants = ap length image.bytes ∙ length-append before constants ∙ ap (λ n. n + length constants) (code_length (offsets (unlinked ts cs) ts) 0 ss) in
     let ends : length code.bytes ≡ constants_end (blocks_size ts) cs = size ∙ whole ∙ ap (λ n. n + length constants) (blocks_total ts 0) ∙ length-constant_bytes (blocks_size ts) cs in
-    let declared : new_cause (length ts) cs ≡ None = first_left _ _ fine in
+    let declared : new_cause (length ts) cs ≡ None = first_left _ _ operands_valid in
     let aligned : all_aligned cs ≡ true = aligned_constants _ _ _ declared in
     let causes = base_cause f.alignment (length f.bytes.items) base in
     let two = two_passed _ _ _ _ (first_of_links causes (relocs_cause base symbols f.relocs.items) links) in
@@ -217,9 +217,9 @@ stands_as_code flags ts cs f base symbols fine image links fine_steps =
       even = even_base base (greatest_align 4 cs) (greatest 4 cs (four refl) aligned) multiple;
       fits = omega (arith, size, below);
       short = omega (arith, size, image.short);
-      fine = fine_steps code;
+      operands_valid = valid_steps code;
       reached = λ k s e.
           let z : 0 + k ≡ k = omega arith in
-          subst (λ j. PartsReach (function_layout outside ts code) (place ss j) (step_parts s)) z (steps_reach symbols base ts cs code.bytes (place ss) ss 0 k s (place_follows ss) (omega (arith, place_zero ss, whole, below)) filling e);
+          subst (λ j. PartsReach (function_layout environment ts code) (step_offset ss j) (step_parts s)) z (steps_reach symbols base ts cs code.bytes (step_offset ss) ss 0 k s (place_follows ss) (omega (arith, place_zero ss, whole, below)) filling e);
       stand = λ c h. constant_stands symbols base ts cs code.bytes c (omega (arith, length-map cs (λ (c : Constant). c.align), h)) aligned multiple ends;
     }

@@ -12,23 +12,23 @@ use Rattle.s390x_inst.specs.Memory.{flags_of}
 use Rattle.s390x_inst.specs.declared.args.MemArg.{MemArg}
 use Rattle.s390x_inst.specs.declared.args.MemArg.TheVariants.{BXD12, BXD20, RegOffset, Label, Constant, Symbol}
 use Rattle.s390x_inst.specs.declared.inst.Inst.TheVariants.{Mov64SImm32, LoadAddr, Jump, CondBr, IndirectBr, Ret, JTSequence, LabelAddress, LoadSymbolReloc, Trap, TrapIf, Debugtrap}
-use Rattle.s390x_steps.specs.Tree.{Tree, empty, leaf, looped}
-use Rattle.s390x_steps.specs.MachineInstruction.{MachineInstruction}
-use Rattle.s390x_steps.specs.Operands.{Finalized, finalized, displaced, addressed, widened, needs_address, scratch, no_register, is_relative, has_form, operand_general, fits_12, fits_20, fits_32}
-use Rattle.s390x_steps.specs.declared.mem_inst_type.MemInstType.{MemInstType}
-use Rattle.s390x_steps.specs.Parts.{Part, parts_or, memory_or, memory_parts, trap_here, relative_part, relative_parts, access_parts, operand_parts, helper_parts, helpers_parts, instruction_parts, table_words}
-use Rattle.s390x_steps.specs.Memory.{StorageForm, RxForm, MemoryInstruction, memory, type_of, storage_row, address_form, fault_code}
-use Rattle.s390x_steps.specs.Alone.{Alone, alone, stop_code}
-use Rattle.s390x_steps.specs.General.{is_general, is_nonzero, is_scratch}
-use Rattle.s390x_steps.specs.Stack.{nominal_after}
-use Rattle.s390x_steps.specs.Causes.{Declared, first, unless, label_cause, labels_cause, bound_cause, late_cause, memory_cause, branch_cause, memory_cause_or, cause_or, facility_cause, instruction_cause, leaf_cause, instruction_draws, draws, nesting_cause, numbers_cause, tree_cause, blocks_cause, stack_cause, block_cause}
-use Rattle.s390x_steps.proofs.Causes.{first_left, first_right, unless_true}
+use Rattle.s390x_typed_steps.specs.Tree.{Tree, empty, leaf, loop_node}
+use Rattle.s390x_typed_steps.specs.MachineInstruction.{MachineInstruction}
+use Rattle.s390x_typed_steps.specs.Operands.{Finalized, finalized, displaced, addressed, widened, needs_address, scratch, no_register, is_relative, has_form, operand_general, fits_12, fits_20, fits_32}
+use Rattle.s390x_typed_steps.specs.declared.mem_inst_type.MemInstType.{MemInstType}
+use Rattle.s390x_typed_steps.specs.Parts.{CodePart, parts_or, memory_or, memory_parts, trap_here, relative_part, relative_parts, access_parts, operand_parts, helper_parts, helpers_parts, instruction_parts, table_words}
+use Rattle.s390x_typed_steps.specs.Memory.{StorageForm, RxForm, MemoryInstruction, memory, type_of, storage_row, address_form, fault_code}
+use Rattle.s390x_typed_steps.specs.SingleInstruction.{SingleInstruction, single_instruction, stop_code}
+use Rattle.s390x_typed_steps.specs.General.{is_general, is_nonzero, is_scratch}
+use Rattle.s390x_typed_steps.specs.Stack.{nominal_after}
+use Rattle.s390x_typed_steps.specs.Causes.{Declared, first_emit_cause, unless, target_label_cause, labels_cause, bound_cause, late_cause, memory_cause, branch_cause, memory_cause_or, cause_or, facility_cause, instruction_cause, leaf_cause, instruction_fresh_labels, fresh_labels, nesting_cause, numbers_cause, tree_cause, blocks_cause, stack_cause, block_cause}
+use Rattle.s390x_typed_steps.proofs.Causes.{first_left, first_right, unless_true}
 use Rattle.s390x_emit_int.specs.Bound.{PartsName, TreeNames, TreesName}
 
-label_below : (blocks : ℕ) (l : MachLabel) → label_cause blocks l ≡ None → l.0 < blocks
+label_below : (blocks : ℕ) (l : MachLabel) → target_label_cause blocks l ≡ None → l.0 < blocks
 label_below blocks l h = ltb-true l.0 blocks (unless_true (nat_lt l.0 blocks) UnboundLabel h)
 
-names_append : (blocks constants : ℕ) (a b : List Part) → PartsName blocks constants a → PartsName blocks constants b → PartsName blocks constants (a ++ b)
+names_append : (blocks constants : ℕ) (a b : List CodePart) → PartsName blocks constants a → PartsName blocks constants b → PartsName blocks constants (a ++ b)
 names_append blocks constants [] b h k = k
 names_append blocks constants (part ∷ a) b h k = (h.0, names_append blocks constants a b h.1 k)
 
@@ -82,7 +82,7 @@ module _ (D : Declared) where
       record { helpers = f.helpers; operand = widened_operand mi (addressed mi (displaced m)).operand f.operand }
 
   -- the same of parts
-  abbrev Named : List Part → Type 0
+  abbrev Named : List CodePart → Type 0
   Named parts = PartsName D.blocks (length D.aligns) parts
 
   access_named : (o : Option MachineInstruction) (code : Option TrapKind) → Named (access_parts o code)
@@ -104,7 +104,7 @@ module _ (D : Declared) where
   form_named (RxForm register rx_opcode rxy_opcode (Some opcode)) code m h = names_append D.blocks (length D.aligns) (trap_here code) (relative_part opcode register m) (trap_named code) (relative_named opcode register m h)
   form_named form code m h = tt
 
-  either_named : (b : Bool) (x y : List Part) → Named x → Named y → Named (cond b x y)
+  either_named : (b : Bool) (x y : List CodePart) → Named x → Named y → Named (cond b x y)
   either_named true x y h k = h
   either_named false x y h k = k
 
@@ -122,7 +122,7 @@ module _ (D : Declared) where
 
   memory_named : (x : MemoryInstruction) → memory_cause D x ≡ None → Named (memory_parts x)
   memory_named x h =
-      let placed = first_right (late_cause x) _ (first_right (unless (x.fine && operand_general x.operand) BadRegister) _ (first_right (unless (has_form (type_of x.form x.accesses) x.operand) BadOperator) _ h)) in
+      let placed = first_right (late_cause x) _ (first_right (unless (x.operands_valid && operand_general x.operand) BadRegister) _ (first_right (unless (has_form (type_of x.form x.accesses) x.operand) BadOperator) _ h)) in
       let f = finalized (type_of x.form x.accesses) x.operand in
       let b = final_bound (type_of x.form x.accesses) x.operand (first_left _ _ placed) in
       names_append D.blocks (length D.aligns) (helpers_parts f.helpers) (operand_parts x.form (fault_code x) f.operand) (helpers_named f.helpers b.helpers) (operand_named x.form (fault_code x) f.operand b.operand)
@@ -131,40 +131,40 @@ module _ (D : Declared) where
   memory_names None last h = tt
   memory_names (Some x) last h = memory_named x h
 
-  alone_names : (o : Option Alone) (code : Option TrapKind) (m : Option MemoryInstruction) (last : Option EmitError) → cause_or o (memory_cause_or D m last) ≡ None → Named (parts_or o code (memory_or m []))
-  alone_names None code m last h = memory_names m last h
-  alone_names (Some x) None m last h = (tt, tt)
-  alone_names (Some x) (Some code) m last h = (tt, tt)
+  single_names : (o : Option SingleInstruction) (code : Option TrapKind) (m : Option MemoryInstruction) (last : Option EmitError) → cause_or o (memory_cause_or D m last) ≡ None → Named (parts_or o code (memory_or m []))
+  single_names None code m last h = memory_names m last h
+  single_names (Some x) None m last h = (tt, tt)
+  single_names (Some x) (Some code) m last h = (tt, tt)
 
 words_name : (blocks constants before : ℕ) (ls : List MachLabel) → labels_cause blocks ls ≡ None → PartsName blocks constants (table_words before ls)
 words_name blocks constants before [] h = tt
-words_name blocks constants before (l ∷ ls) h = (label_below blocks l (first_left _ _ h), words_name blocks constants (before + 4) ls (first_right (label_cause blocks l) _ h))
+words_name blocks constants before (l ∷ ls) h = (label_below blocks l (first_left _ _ h), words_name blocks constants (before + 4) ls (first_right (target_label_cause blocks l) _ h))
 
 leaf_names : (flags : IsaFlags) (D : Declared) (nominal depth : ℕ) (i : Inst) → instruction_cause flags D nominal depth i ≡ None → PartsName D.blocks (length D.aligns) (instruction_parts i)
 leaf_names flags D nominal depth (Jump dest) h = (label_below D.blocks dest h, tt)
-leaf_names flags D nominal depth (CondBr taken not_taken mask) h = (label_below D.blocks taken (first_left _ _ h), (label_below D.blocks not_taken (first_right (label_cause D.blocks taken) _ h), tt))
+leaf_names flags D nominal depth (CondBr taken not_taken mask) h = (label_below D.blocks taken (first_left _ _ h), (label_below D.blocks not_taken (first_right (target_label_cause D.blocks taken) _ h), tt))
 leaf_names flags D nominal depth (IndirectBr rn targets) h = (tt, tt)
 leaf_names flags D nominal depth (Ret link) h = (tt, tt)
 leaf_names flags D nominal depth (JTSequence ridx other mask targets) h =
     let named = first_right (unless (not (is_scratch ridx)) ScratchConflict) _ (first_right (unless (is_general ridx && is_nonzero ridx) BadRegister) _ h) in
-    (label_below D.blocks other (first_left _ _ named), (tt, (tt, (tt, words_name D.blocks (length D.aligns) 0 targets.items (first_right (label_cause D.blocks other) _ named)))))
+    (label_below D.blocks other (first_left _ _ named), (tt, (tt, (tt, words_name D.blocks (length D.aligns) 0 targets.items (first_right (target_label_cause D.blocks other) _ named)))))
 leaf_names flags D nominal depth (LabelAddress dst label) h = (label_below D.blocks label (first_right (unless (is_general dst) BadRegister) _ h), tt)
 leaf_names flags D nominal depth (LoadSymbolReloc rd reloc) h = (tt, (tt, (tt, tt)))
 leaf_names flags D nominal depth (Trap code) h = (tt, tt)
 leaf_names flags D nominal depth (TrapIf mask code) h = (tt, tt)
 leaf_names flags D nominal depth Debugtrap h = (tt, tt)
-leaf_names flags D nominal depth i h = alone_names D (alone i) (stop_code i) (memory i) (branch_cause D.blocks depth i) (first_right (stack_cause nominal depth i) _ (first_right (facility_cause flags i) _ h))
+leaf_names flags D nominal depth i h = single_names D (single_instruction i) (stop_code i) (memory i) (branch_cause D.blocks depth i) (first_right (stack_cause nominal depth i) _ (first_right (facility_cause flags i) _ h))
 
 pub tree_names : (flags : IsaFlags) (D : Declared) (n nominal depth : ℕ) (t : Tree) → tree_cause flags D n nominal depth t ≡ None → TreeNames D.blocks (length D.aligns) t
 tree_names flags D n nominal depth empty h = tt
 tree_names flags D n nominal depth (leaf i rest) h =
-    (leaf_names flags D nominal depth i (first_left _ _ (first_left _ _ h)), tree_names flags D (n + instruction_draws i) (nominal_after nominal i) depth rest (first_right (leaf_cause flags D n nominal depth i) _ h))
-tree_names flags D n nominal depth (looped mask members rest) h =
+    (leaf_names flags D nominal depth i (first_left _ _ (first_left _ _ h)), tree_names flags D (n + instruction_fresh_labels i) (nominal_after nominal i) depth rest (first_right (leaf_cause flags D n nominal depth i) _ h))
+tree_names flags D n nominal depth (loop_node mask members rest) h =
     let inner = first_left _ _ h in (
-      tree_names flags D (n + 2) nominal (depth + 1) members (first_right (first (nesting_cause depth) (numbers_cause n 2)) _ inner),
-      tree_names flags D (n + 2 + draws members) nominal depth rest (first_right (first (first (nesting_cause depth) (numbers_cause n 2)) (tree_cause flags D (n + 2) nominal (depth + 1) members)) _ h),
+      tree_names flags D (n + 2) nominal (depth + 1) members (first_right (first_emit_cause (nesting_cause depth) (numbers_cause n 2)) _ inner),
+      tree_names flags D (n + 2 + fresh_labels members) nominal depth rest (first_right (first_emit_cause (first_emit_cause (nesting_cause depth) (numbers_cause n 2)) (tree_cause flags D (n + 2) nominal (depth + 1) members)) _ h),
     )
 
 pub all_names : (flags : IsaFlags) (D : Declared) (n : ℕ) (ts : List Tree) → blocks_cause flags D n ts ≡ None → TreesName D.blocks (length D.aligns) ts
 all_names flags D n [] h = tt
-all_names flags D n (t ∷ ts) h = (tree_names flags D n 0 0 t (first_left _ _ (first_left _ _ h)), all_names flags D (n + draws t) ts (first_right (block_cause flags D n t) _ h))
+all_names flags D n (t ∷ ts) h = (tree_names flags D n 0 0 t (first_left _ _ (first_left _ _ h)), all_names flags D (n + fresh_labels t) ts (first_right (block_cause flags D n t) _ h))

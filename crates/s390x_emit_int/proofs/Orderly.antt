@@ -1,5 +1,5 @@
--- Emission's pieces keep a buffer in order: its length is even, each bound label stands at an even place, and each use, of a label that may be used,
--- stands at an even place behind those before it.
+-- Emission's fragments keep a buffer in order: its length is even, each bound label stands at an even offset, and each use, of a label that may be used,
+-- stands at an even offset behind those before it.
 use Rattle.std.proofs.Common.{◌≡◌, ℕ, ◌+◌, ◌%◌, ◌<◌, ◌≤◌, List, [], ◌∷◌, ◌++◌, length, get_or, Bool, true, false, cond, Option, refl, sym, ap, ◌∙◌, subst, arith, length-append, None, Some}
 use Rattle.std.specs.List.{All}
 use Rattle.std.proofs.lemmas.List.{get_or_append_left}
@@ -7,8 +7,8 @@ use Rattle.std.proofs.lemmas.List.Elements.{All-push, All-set, All-weaker}
 use Rattle.s390x_base.specs.Regs.{number_of}
 use Rattle.s390x_base.specs.declared.ir.MachLabel.{MachLabel}
 use Rattle.s390x_base.specs.declared.trap.TrapKind.{TrapKind}
-use Rattle.s390x_buffer.specs.State.{State, constant_label}
-use Rattle.s390x_buffer.specs.Patch.{word, patch_size}
+use Rattle.s390x_buffer.specs.State.{BufferState, constant_label}
+use Rattle.s390x_buffer.specs.Patch.{word_from, patch_size}
 use Rattle.s390x_buffer.specs.declared.entries.LabelFixup.{LabelFixup}
 use Rattle.s390x_buffer.specs.declared.label_use.LabelUse.{LabelUse}
 use Rattle.s390x_buffer.specs.declared.label_use.LabelUse.TheVariants.{BranchRI, BranchRIL, PCRel32, PCRel32Dbl}
@@ -20,16 +20,16 @@ use Rattle.s390x_inst.specs.declared.inst.Inst.{Inst}
 use Rattle.s390x_inst.specs.declared.args.MemArg.{MemArg}
 use Rattle.s390x_inst.specs.declared.args.MemArg.TheVariants.{Label, Constant, Symbol}
 use Rattle.s390x_inst.specs.declared.inst.Inst.TheVariants.{Mov64SImm32, LoadAddr, Jump, CondBr, IndirectBr, Ret, JTSequence, CondBreak, LabelAddress, LoadSymbolReloc, Trap, TrapIf, Debugtrap}
-use Rattle.s390x_steps.specs.Tree.{Tree, empty, leaf, looped}
-use Rattle.s390x_steps.specs.Causes.{instruction_draws, draws}
-use Rattle.s390x_steps.specs.Alone.{Alone, alone, stop_code}
-use Rattle.s390x_steps.specs.MachineInstruction.{MachineInstruction, rr, rxy, bytes_of, size_of}
-use Rattle.s390x_steps.specs.Rows.{word_bytes}
-use Rattle.s390x_steps.specs.Parts.{Part, Row, Trapping, Branch, Relative, RelativeConstant, RelativeSymbol, TableWord, ToBlock, ToStep, table_words, branch_parts, row_part, parts_or, instruction_parts, memory_or, memory_parts, trap_here, relative_part, relative_parts, access_parts, operand_parts, helper_parts, helpers_parts, SymbolValue, TrapHere}
-use Rattle.s390x_steps.specs.Memory.{StorageForm, RxForm, MemoryInstruction, memory, type_of, storage_row, address_form, fault_code}
-use Rattle.s390x_steps.specs.Operands.{is_relative, finalized}
-use Rattle.s390x_emit_int.specs.Pieces.{Piece, apply, run, Put, PutTrapping, Link, LinkConstant, Step, Draw, Bind, PutReloc}
-use Rattle.s390x_emit_int.specs.Emission.{part_pieces, leaf_pieces, back_pieces, pieces, function_pieces}
+use Rattle.s390x_typed_steps.specs.Tree.{Tree, empty, leaf, loop_node}
+use Rattle.s390x_typed_steps.specs.Causes.{instruction_fresh_labels, fresh_labels}
+use Rattle.s390x_typed_steps.specs.SingleInstruction.{SingleInstruction, single_instruction, stop_code}
+use Rattle.s390x_typed_steps.specs.MachineInstruction.{MachineInstruction, rr, rxy, bytes_of, size_of}
+use Rattle.s390x_typed_steps.specs.Rows.{word_bytes}
+use Rattle.s390x_typed_steps.specs.Parts.{CodePart, Row, Trapping, Branch, Relative, RelativeConstant, RelativeSymbol, TableWord, ToBlock, ToStep, table_words, branch_parts, row_part, parts_or, instruction_parts, memory_or, memory_parts, trap_here, relative_part, relative_parts, access_parts, operand_parts, helper_parts, helpers_parts, SymbolValue, TrapHere}
+use Rattle.s390x_typed_steps.specs.Memory.{StorageForm, RxForm, MemoryInstruction, memory, type_of, storage_row, address_form, fault_code}
+use Rattle.s390x_typed_steps.specs.Operands.{is_relative, finalized}
+use Rattle.s390x_emit_int.specs.Fragments.{Fragment, apply, apply_all, Put, PutTrapping, Link, LinkConstant, StartStep, Draw, Bind, PutReloc}
+use Rattle.s390x_emit_int.specs.Emission.{part_fragments, leaf_fragments, back_fragments, fragments, function_fragments}
 use Rattle.s390x_emit_int.specs.Resolve.{put_length}
 use Rattle.s390x_emit_int.specs.Bound.{PartsName, TreeNames, TreesName}
 use Rattle.s390x_emit_int.proofs.Patching.{word_right}
@@ -47,22 +47,22 @@ even_bytes m = ap (λ n. n % 2) (length-bytes m) ∙ even_length m.format
 abbrev pub LinkSound : LabelUse → (place : ℕ) → List ℕ → Type 0
 LinkSound BranchRI p bs = ⊥
 LinkSound BranchRIL p bs = length bs ≡ 6
-LinkSound PCRel32 p bs = (length bs ≡ 4) × (word bs 0 ≤ p)
+LinkSound PCRel32 p bs = (length bs ≡ 4) × (word_from bs 0 ≤ p)
 LinkSound PCRel32Dbl p bs = ⊥
 
--- a piece at a place or behind it, whose bytes come in pairs, and whose use is one of a label that may be used. So many blocks have labels before
+-- a fragment at an offset or behind it, whose bytes come in pairs, and whose use is one of a label that may be used. So many blocks have labels before
 -- the constants
-abbrev pub Sound : (ℕ → Type 0) → (blocks place : ℕ) → Piece → Type 0
+abbrev pub Sound : (ℕ → Type 0) → (blocks place : ℕ) → Fragment → Type 0
 Sound May blocks p (Put bs) = length bs % 2 ≡ 0
 Sound May blocks p (PutReloc bs byte kind name addend) = length bs % 2 ≡ 0
 Sound May blocks p (PutTrapping bs byte code) = length bs % 2 ≡ 0
 Sound May blocks p (Link kind l bs) = LinkSound kind p bs × May l
 Sound May blocks p (LinkConstant c bs) = LinkSound BranchRIL p bs × May (blocks + c)
-Sound May blocks p Step = Unit {0}
+Sound May blocks p StartStep = Unit {0}
 Sound May blocks p Draw = Unit {0}
 Sound May blocks p (Bind l) = Unit {0}
 
-abbrev pub AllSound : (ℕ → Type 0) → (blocks place : ℕ) → List Piece → Type 0
+abbrev pub AllSound : (ℕ → Type 0) → (blocks place : ℕ) → List Fragment → Type 0
 AllSound May blocks p [] = Unit {0}
 AllSound May blocks p (x ∷ xs) = Sound May blocks p x × AllSound May blocks (p + put_length (x ∷ [])) xs
 
@@ -72,26 +72,26 @@ link_later BranchRIL p q bs le h = h
 link_later PCRel32 p q bs le h = (h.0, omega (arith, h.1))
 link_later PCRel32Dbl p q bs le h = h
 
-later_sound : (May : ℕ → Type 0) (blocks p q : ℕ) (x : Piece) → p ≤ q → Sound May blocks p x → Sound May blocks q x
+later_sound : (May : ℕ → Type 0) (blocks p q : ℕ) (x : Fragment) → p ≤ q → Sound May blocks p x → Sound May blocks q x
 later_sound May blocks p q (Put bs) le h = h
 later_sound May blocks p q (PutReloc bs byte kind name addend) le h = h
 later_sound May blocks p q (PutTrapping bs byte code) le h = h
 later_sound May blocks p q (Link kind l bs) le h = (link_later kind p q bs le h.0, h.1)
 later_sound May blocks p q (LinkConstant c bs) le h = (link_later BranchRIL p q bs le h.0, h.1)
-later_sound May blocks p q Step le h = h
+later_sound May blocks p q StartStep le h = h
 later_sound May blocks p q Draw le h = h
 later_sound May blocks p q (Bind l) le h = h
 
-all_later : (May : ℕ → Type 0) (xs : List Piece) (blocks p q : ℕ) → p ≤ q → AllSound May blocks p xs → AllSound May blocks q xs
+all_later : (May : ℕ → Type 0) (xs : List Fragment) (blocks p q : ℕ) → p ≤ q → AllSound May blocks p xs → AllSound May blocks q xs
 all_later May [] blocks p q le h = h
 all_later May (x ∷ xs) blocks p q le h = (later_sound May blocks p q x le h.0, all_later May xs blocks (p + put_length (x ∷ [])) (q + put_length (x ∷ [])) (omega arith) h.1)
 
-sound_append : (May : ℕ → Type 0) (a b : List Piece) (blocks p : ℕ) → AllSound May blocks p a → AllSound May blocks 0 b → AllSound May blocks p (a ++ b)
+sound_append : (May : ℕ → Type 0) (a b : List Fragment) (blocks p : ℕ) → AllSound May blocks p a → AllSound May blocks 0 b → AllSound May blocks p (a ++ b)
 sound_append May [] b blocks p h k = all_later May b blocks 0 p (omega arith) k
 sound_append May (x ∷ a) b blocks p h k = (h.0, sound_append May a b blocks (p + put_length (x ∷ [])) h.1 k)
 
--- no table begins before the first of the parts, which stands at a place
-abbrev pub TablesBegin : (place : ℕ) → List Part → Type 0
+-- no table begins before the first of the parts, which stands at an offset
+abbrev pub TablesBegin : (place : ℕ) → List CodePart → Type 0
 TablesBegin p [] = Unit {0}
 TablesBegin p (TableWord before target ∷ parts) = (before ≤ p) × TablesBegin (p + 4) parts
 TablesBegin p (SymbolValue name offset ∷ parts) = TablesBegin (p + 8) parts
@@ -106,29 +106,29 @@ TablesBegin p (RelativeSymbol opcode register name offset ∷ parts) = TablesBeg
 word_sound : (before p : ℕ) → before ≤ p → LinkSound PCRel32 p (word_bytes before)
 word_sound before p le = (refl, omega arith)
 
-parts_sound : (May : ℕ → Type 0) (parts : List Part) (blocks constants p : ℕ) → PartsName blocks constants parts → TablesBegin p parts → ((l : ℕ) → l < blocks → May l) → ((c : ℕ) → c < constants → May (blocks + c)) → AllSound May blocks p (part_pieces parts)
+parts_sound : (May : ℕ → Type 0) (parts : List CodePart) (blocks constants p : ℕ) → PartsName blocks constants parts → TablesBegin p parts → ((l : ℕ) → l < blocks → May l) → ((c : ℕ) → c < constants → May (blocks + c)) → AllSound May blocks p (part_fragments parts)
 parts_sound May [] blocks constants p names begin may held = tt
-parts_sound May (Row m ∷ parts) blocks constants p names begin may held = (even_bytes m, all_later May (part_pieces parts) blocks (p + size_of m) _ (omega (arith, length-bytes m)) (parts_sound May parts blocks constants (p + size_of m) names.1 begin may held))
-parts_sound May (Trapping m byte code ∷ parts) blocks constants p names begin may held = (even_bytes m, all_later May (part_pieces parts) blocks (p + size_of m) _ (omega (arith, length-bytes m)) (parts_sound May parts blocks constants (p + size_of m) names.1 begin may held))
-parts_sound May (Branch mask (ToBlock b) ∷ parts) blocks constants p names begin may held = ((length-branch mask, may b names.0), all_later May (part_pieces parts) blocks (p + 6) _ (omega (arith, length-branch mask)) (parts_sound May parts blocks constants (p + 6) names.1 begin may held))
+parts_sound May (Row m ∷ parts) blocks constants p names begin may held = (even_bytes m, all_later May (part_fragments parts) blocks (p + size_of m) _ (omega (arith, length-bytes m)) (parts_sound May parts blocks constants (p + size_of m) names.1 begin may held))
+parts_sound May (Trapping m byte code ∷ parts) blocks constants p names begin may held = (even_bytes m, all_later May (part_fragments parts) blocks (p + size_of m) _ (omega (arith, length-bytes m)) (parts_sound May parts blocks constants (p + size_of m) names.1 begin may held))
+parts_sound May (Branch mask (ToBlock b) ∷ parts) blocks constants p names begin may held = ((length-branch mask, may b names.0), all_later May (part_fragments parts) blocks (p + 6) _ (omega (arith, length-branch mask)) (parts_sound May parts blocks constants (p + 6) names.1 begin may held))
 parts_sound May (Branch mask (ToStep k) ∷ parts) blocks constants p names begin may held = absurd names.0
 parts_sound May (Relative opcode register (ToBlock b) ∷ parts) blocks constants p names begin may held =
-    ((length-relative opcode register, may b names.0), all_later May (part_pieces parts) blocks (p + 6) _ (omega (arith, length-relative opcode register)) (parts_sound May parts blocks constants (p + 6) names.1 begin may held))
+    ((length-relative opcode register, may b names.0), all_later May (part_fragments parts) blocks (p + 6) _ (omega (arith, length-relative opcode register)) (parts_sound May parts blocks constants (p + 6) names.1 begin may held))
 parts_sound May (Relative opcode register (ToStep k) ∷ parts) blocks constants p names begin may held = absurd names.0
 parts_sound May (RelativeConstant opcode register c ∷ parts) blocks constants p names begin may held =
-    ((length-relative opcode register, held c names.0), all_later May (part_pieces parts) blocks (p + 6) _ (omega (arith, length-relative opcode register)) (parts_sound May parts blocks constants (p + 6) names.1 begin may held))
+    ((length-relative opcode register, held c names.0), all_later May (part_fragments parts) blocks (p + 6) _ (omega (arith, length-relative opcode register)) (parts_sound May parts blocks constants (p + 6) names.1 begin may held))
 parts_sound May (RelativeSymbol opcode register name offset ∷ parts) blocks constants p names begin may held =
-    (omega (arith, length-relative opcode register), all_later May (part_pieces parts) blocks (p + 6) _ (omega (arith, length-relative opcode register)) (parts_sound May parts blocks constants (p + 6) names.1 begin may held))
-parts_sound May (SymbolValue name offset ∷ parts) blocks constants p names begin may held = (refl, all_later May (part_pieces parts) blocks (p + 8) _ (omega arith) (parts_sound May parts blocks constants (p + 8) names.1 begin may held))
-parts_sound May (TrapHere code ∷ parts) blocks constants p names begin may held = (refl, all_later May (part_pieces parts) blocks (p + 0) _ (omega arith) (parts_sound May parts blocks constants (p + 0) names.1 begin may held))
-parts_sound May (TableWord before (ToBlock b) ∷ parts) blocks constants p names begin may held = ((word_sound before p begin.0, may b names.0), all_later May (part_pieces parts) blocks (p + 4) _ (omega arith) (parts_sound May parts blocks constants (p + 4) names.1 begin.1 may held))
+    (omega (arith, length-relative opcode register), all_later May (part_fragments parts) blocks (p + 6) _ (omega (arith, length-relative opcode register)) (parts_sound May parts blocks constants (p + 6) names.1 begin may held))
+parts_sound May (SymbolValue name offset ∷ parts) blocks constants p names begin may held = (refl, all_later May (part_fragments parts) blocks (p + 8) _ (omega arith) (parts_sound May parts blocks constants (p + 8) names.1 begin may held))
+parts_sound May (TrapHere code ∷ parts) blocks constants p names begin may held = (refl, all_later May (part_fragments parts) blocks (p + 0) _ (omega arith) (parts_sound May parts blocks constants (p + 0) names.1 begin may held))
+parts_sound May (TableWord before (ToBlock b) ∷ parts) blocks constants p names begin may held = ((word_sound before p begin.0, may b names.0), all_later May (part_fragments parts) blocks (p + 4) _ (omega arith) (parts_sound May parts blocks constants (p + 4) names.1 begin.1 may held))
 parts_sound May (TableWord before (ToStep k) ∷ parts) blocks constants p names begin may held = absurd names.0
 
 row_begins : (m : MachineInstruction) (code : Option TrapKind) → TablesBegin 0 (row_part m code ∷ [])
 row_begins m None = tt
 row_begins m (Some code) = tt
 
-begins_or : (o : Option Alone) (code : Option TrapKind) (others : List Part) → TablesBegin 0 others → TablesBegin 0 (parts_or o code others)
+begins_or : (o : Option SingleInstruction) (code : Option TrapKind) (others : List CodePart) → TablesBegin 0 others → TablesBegin 0 (parts_or o code others)
 begins_or None code others h = h
 begins_or (Some x) code others h = row_begins x.row code
 
@@ -152,12 +152,12 @@ branch_begins i = tt
 -- ---- an instruction with a memory operand has no words of a table
 
 -- no word of a table
-unfoldable NoWords : List Part → Type 0
+unfoldable NoWords : List CodePart → Type 0
 NoWords [] = Unit {0}
 NoWords (TableWord before target ∷ parts) = ⊥
 NoWords (_ ∷ parts) = NoWords parts
 
-wordless_append : (a b : List Part) → NoWords a → NoWords b → NoWords (a ++ b)
+wordless_append : (a b : List CodePart) → NoWords a → NoWords b → NoWords (a ++ b)
 unfolding NoWords
 wordless_append [] b h k = k
 wordless_append (TableWord before target ∷ a) b h k = absurd h
@@ -186,7 +186,7 @@ unfolding NoWords
 relative_wordless (RxForm register rx_opcode rxy_opcode (Some opcode)) code m = wordless_append (trap_here code) (relative_part opcode register m) (trap_wordless code) (part_wordless opcode register m)
 relative_wordless form code m = tt
 
-either_wordless : (b : Bool) (x y : List Part) → NoWords x → NoWords y → NoWords (cond b x y)
+either_wordless : (b : Bool) (x y : List CodePart) → NoWords x → NoWords y → NoWords (cond b x y)
 either_wordless true x y h k = h
 either_wordless false x y h k = k
 
@@ -209,7 +209,7 @@ memory_wordless x =
     let f = finalized (type_of x.form x.accesses) x.operand in
     wordless_append (helpers_parts f.helpers) (operand_parts x.form (fault_code x) f.operand) (helpers_wordless f.helpers) (operand_wordless x.form (fault_code x) f.operand)
 
-all_begin : (n : ℕ) (parts : List Part) → NoWords parts → TablesBegin n parts
+all_begin : (n : ℕ) (parts : List CodePart) → NoWords parts → TablesBegin n parts
 unfolding NoWords
 all_begin n [] h = tt
 all_begin n (TableWord before target ∷ parts) h = absurd h
@@ -222,11 +222,11 @@ all_begin n (Relative opcode register target ∷ parts) h = all_begin (n + 6) pa
 all_begin n (RelativeConstant opcode register c ∷ parts) h = all_begin (n + 6) parts h
 all_begin n (RelativeSymbol opcode register name offset ∷ parts) h = all_begin (n + 6) parts h
 
-memory_begins : (o : Option MemoryInstruction) (others : List Part) → TablesBegin 0 others → TablesBegin 0 (memory_or o others)
+memory_begins : (o : Option MemoryInstruction) (others : List CodePart) → TablesBegin 0 others → TablesBegin 0 (memory_or o others)
 memory_begins None others h = h
 memory_begins (Some x) others h = all_begin 0 (memory_parts x) (memory_wordless x)
 
-leaf_sound : (May : ℕ → Type 0) (i : Inst) (n after blocks constants : ℕ) → PartsName blocks constants (instruction_parts i) → ((l : ℕ) → l < blocks → May l) → ((c : ℕ) → c < constants → May (blocks + c)) → ((l : ℕ) → n ≤ l → l < n + instruction_draws i → May l) → May after → AllSound May blocks 0 (leaf_pieces n after i)
+leaf_sound : (May : ℕ → Type 0) (i : Inst) (n after blocks constants : ℕ) → PartsName blocks constants (instruction_parts i) → ((l : ℕ) → l < blocks → May l) → ((c : ℕ) → c < constants → May (blocks + c)) → ((l : ℕ) → n ≤ l → l < n + instruction_fresh_labels i → May l) → May after → AllSound May blocks 0 (leaf_fragments n after i)
 leaf_sound May (CondBreak mask) n after blocks constants names may held drawn here = ((length-branch mask, here), tt)
 leaf_sound May (JTSequence ridx other mask targets) n after blocks constants names may held drawn here = (
   tt,
@@ -238,36 +238,36 @@ leaf_sound May (JTSequence ridx other mask targets) n after blocks constants nam
     ),
   ),
 )
-leaf_sound May i n after blocks constants names may held drawn here = parts_sound May (instruction_parts i) blocks constants 0 names (begins_or (alone i) (stop_code i) (memory_or (memory i) (branch_parts i)) (memory_begins (memory i) (branch_parts i) (branch_begins i))) may held
+leaf_sound May i n after blocks constants names may held drawn here = parts_sound May (instruction_parts i) blocks constants 0 names (begins_or (single_instruction i) (stop_code i) (memory_or (memory i) (branch_parts i)) (memory_begins (memory i) (branch_parts i) (branch_begins i))) may held
 
-pub tree_sound : (May : ℕ → Type 0) (t : Tree) (n after blocks constants : ℕ) → TreeNames blocks constants t → ((l : ℕ) → l < blocks → May l) → ((c : ℕ) → c < constants → May (blocks + c)) → ((l : ℕ) → n ≤ l → l < n + draws t → May l) → May after → AllSound May blocks 0 (pieces n after t)
+pub tree_sound : (May : ℕ → Type 0) (t : Tree) (n after blocks constants : ℕ) → TreeNames blocks constants t → ((l : ℕ) → l < blocks → May l) → ((c : ℕ) → c < constants → May (blocks + c)) → ((l : ℕ) → n ≤ l → l < n + fresh_labels t → May l) → May after → AllSound May blocks 0 (fragments n after t)
 tree_sound May empty n after blocks constants names may held drawn here = tt
 tree_sound May (leaf i rest) n after blocks constants names may held drawn here = (
   tt,
-  sound_append May (leaf_pieces n after i) (pieces (n + instruction_draws i) after rest) blocks 0
+  sound_append May (leaf_fragments n after i) (fragments (n + instruction_fresh_labels i) after rest) blocks 0
       (leaf_sound May i n after blocks constants names.0 may held (λ l lo hi. drawn l lo (omega arith)) here)
-      (tree_sound May rest (n + instruction_draws i) after blocks constants names.1 may held (λ l lo hi. drawn l (omega arith) (omega arith)) here),
+      (tree_sound May rest (n + instruction_fresh_labels i) after blocks constants names.1 may held (λ l lo hi. drawn l (omega arith) (omega arith)) here),
 )
-tree_sound May (looped mask members rest) n after blocks constants names may held drawn here =
-    let r = pieces (n + 2 + draws members) after rest in
+tree_sound May (loop_node mask members rest) n after blocks constants names may held drawn here =
+    let r = fragments (n + 2 + fresh_labels members) after rest in
     let inner = tree_sound May members (n + 2) (n + 1) blocks constants names.0 may held (λ l lo hi. drawn l (omega arith) (omega arith)) (drawn (n + 1) (omega arith) (omega arith)) in
-    let outer = tree_sound May rest (n + 2 + draws members) after blocks constants names.1 may held (λ l lo hi. drawn l (omega arith) (omega arith)) here in
-    let back : AllSound May blocks 0 (back_pieces n mask ++ r) = (tt, ((length-branch mask, drawn n (omega arith) (omega arith)), (tt, all_later May r blocks 0 _ (omega arith) outer))) in
-    (tt, (tt, (tt, (tt, sound_append May (pieces (n + 2) (n + 1) members) (back_pieces n mask ++ r) blocks 0 inner back))))
+    let outer = tree_sound May rest (n + 2 + fresh_labels members) after blocks constants names.1 may held (λ l lo hi. drawn l (omega arith) (omega arith)) here in
+    let back : AllSound May blocks 0 (back_fragments n mask ++ r) = (tt, ((length-branch mask, drawn n (omega arith) (omega arith)), (tt, all_later May r blocks 0 _ (omega arith) outer))) in
+    (tt, (tt, (tt, (tt, sound_append May (fragments (n + 2) (n + 1) members) (back_fragments n mask ++ r) blocks 0 inner back))))
 
 -- how many labels the blocks draw
-abbrev pub all_draws : List Tree → ℕ
-all_draws [] = 0
-all_draws (t ∷ ts) = draws t + all_draws ts
+abbrev pub all_fresh_labels : List Tree → ℕ
+all_fresh_labels [] = 0
+all_fresh_labels (t ∷ ts) = fresh_labels t + all_fresh_labels ts
 
-pub function_sound : (May : ℕ → Type 0) (ts : List Tree) (n b blocks constants : ℕ) → TreesName blocks constants ts → ((l : ℕ) → l < blocks → May l) → ((c : ℕ) → c < constants → May (blocks + c)) → ((l : ℕ) → n ≤ l → l < n + all_draws ts → May l) → b + length ts ≤ blocks → AllSound May blocks 0 (function_pieces n b ts)
+pub function_sound : (May : ℕ → Type 0) (ts : List Tree) (n b blocks constants : ℕ) → TreesName blocks constants ts → ((l : ℕ) → l < blocks → May l) → ((c : ℕ) → c < constants → May (blocks + c)) → ((l : ℕ) → n ≤ l → l < n + all_fresh_labels ts → May l) → b + length ts ≤ blocks → AllSound May blocks 0 (function_fragments n b ts)
 function_sound May [] n b blocks constants names may held drawn room = tt
 function_sound May (t ∷ ts) n b blocks constants names may held drawn room =
     let here = tree_sound May t n 0 blocks constants names.0 may held (λ l lo hi. drawn l (omega arith) (omega arith)) (may 0 (omega arith)) in
-    let there = function_sound May ts (n + draws t) (b + 1) blocks constants names.1 may held (λ l lo hi. drawn l (omega arith) (omega arith)) (omega arith) in
-    (tt, sound_append May (pieces n 0 t) (function_pieces (n + draws t) (b + 1) ts) blocks 0 here there)
+    let there = function_sound May ts (n + fresh_labels t) (b + 1) blocks constants names.1 may held (λ l lo hi. drawn l (omega arith) (omega arith)) (omega arith) in
+    (tt, sound_append May (fragments n 0 t) (function_fragments (n + fresh_labels t) (b + 1) ts) blocks 0 here there)
 
--- where a label stands, if it does: at an even place in so many bytes
+-- where a label stands, if it does: at an even offset in so many bytes
 abbrev pub Stands : ℕ → Option ℕ → Type 0
 Stands n None = Unit {0}
 Stands n (Some p) = (p % 2 ≡ 0) × (p ≤ n)
@@ -276,10 +276,10 @@ Stands n (Some p) = (p % 2 ≡ 0) × (p ≤ n)
 abbrev pub BearsUse : LabelUse → (offset : ℕ) → List ℕ → Type 0
 BearsUse BranchRI o bs = ⊥
 BearsUse BranchRIL o bs = Unit {0}
-BearsUse PCRel32 o bs = word bs o ≤ o
+BearsUse PCRel32 o bs = word_from bs o ≤ o
 BearsUse PCRel32Dbl o bs = ⊥
 
--- a use from a place on that can be patched once its label stands
+-- a use from an offset on that can be patched once its label stands
 pub record IsUse (May : ℕ → Type 0) (bs : List ℕ) (from : ℕ) (u : LabelFixup) : Type 0 where
   pub behind : from ≤ u.offset
   pub even : u.offset % 2 ≡ 0
@@ -300,7 +300,7 @@ bears_still : (kind : LabelUse) (n o : ℕ) (old new : List ℕ) → SameFrom n 
 bears_still BranchRI n o old new same le within h = h
 bears_still BranchRIL n o old new same le within h = h
 bears_still PCRel32 n o old new same le within h =
-    let e : word new o ≡ word old o = same_word o new old (λ i lo hi. same.1 i (omega arith) (omega arith)) in
+    let e : word_from new o ≡ word_from old o = same_word o new old (λ i lo hi. same.1 i (omega arith) (omega arith)) in
     omega (arith, e, h)
 bears_still PCRel32Dbl n o old new same le within h = h
 
@@ -324,7 +324,7 @@ one_more_use May [] from old new u same le h last = (record { behind = omega (ar
 one_more_use May (v ∷ us) from old new u same le h last =
     (use_still May 0 from old new v same (omega arith) h.0, one_more_use May us (v.offset + patch_size v.kind) old new u same h.0.within h.1 last)
 
-pub record Orderly (May : ℕ → Type 0) (s : State) : Type 0 where
+pub record Orderly (May : ℕ → Type 0) (s : BufferState) : Type 0 where
   pub even : length s.bytes % 2 ≡ 0
   pub labels : All (Stands (length s.bytes)) s.labels
   pub uses : UsesStand May s.bytes 0 s.uses
@@ -350,7 +350,7 @@ link_size BranchRIL p bs h = (h, omega (arith, h))
 link_size PCRel32 p bs h = (h.0, omega (arith, h.0))
 link_size PCRel32Dbl p bs h = absurd h
 
-orderly_step : (May : ℕ → Type 0) (x : Piece) (s : State) (blocks p : ℕ) → s.block_count ≡ blocks → p ≤ length s.bytes → Sound May blocks p x → Orderly May s → Orderly May (apply s x)
+orderly_step : (May : ℕ → Type 0) (x : Fragment) (s : BufferState) (blocks p : ℕ) → s.block_count ≡ blocks → p ≤ length s.bytes → Sound May blocks p x → Orderly May s → Orderly May (apply s x)
 orderly_step May (Put bs) s blocks p count le sound h =
     let n = length-append s.bytes bs in
     record {
@@ -402,31 +402,31 @@ orderly_step May (LinkConstant c bs) s blocks p count le sound h =
         label = subst (λ n. May (n + c)) (sym count) sound.1;
       });
     }
-orderly_step May Step s blocks p count le sound h = record { even = h.even; labels = h.labels; uses = h.uses }
+orderly_step May StartStep s blocks p count le sound h = record { even = h.even; labels = h.labels; uses = h.uses }
 orderly_step May Draw s blocks p count le sound h = record { even = h.even; labels = All-push (Stands (length s.bytes)) s.labels None h.labels tt; uses = h.uses }
 orderly_step May (Bind l) s blocks p count le sound h = record { even = h.even; labels = All-set (Stands (length s.bytes)) s.labels l (Some (length s.bytes)) (h.even, omega arith) h.labels; uses = h.uses }
 
-applied_length : (x : Piece) (s : State) → length (apply s x).bytes ≡ length s.bytes + put_length (x ∷ [])
+applied_length : (x : Fragment) (s : BufferState) → length (apply s x).bytes ≡ length s.bytes + put_length (x ∷ [])
 applied_length (Put bs) s = omega (arith, length-append s.bytes bs)
 applied_length (PutReloc bs byte kind name addend) s = omega (arith, length-append s.bytes bs)
 applied_length (PutTrapping bs byte code) s = omega (arith, length-append s.bytes bs)
 applied_length (Link kind l bs) s = omega (arith, length-append s.bytes bs)
 applied_length (LinkConstant c bs) s = omega (arith, length-append s.bytes bs)
-applied_length Step s = omega arith
+applied_length StartStep s = omega arith
 applied_length Draw s = omega arith
 applied_length (Bind l) s = omega arith
 
-applied_count : (x : Piece) (s : State) → (apply s x).block_count ≡ s.block_count
+applied_count : (x : Fragment) (s : BufferState) → (apply s x).block_count ≡ s.block_count
 applied_count (Put bs) s = refl
 applied_count (PutReloc bs byte kind name addend) s = refl
 applied_count (PutTrapping bs byte code) s = refl
 applied_count (Link kind l bs) s = refl
 applied_count (LinkConstant c bs) s = refl
-applied_count Step s = refl
+applied_count StartStep s = refl
 applied_count Draw s = refl
 applied_count (Bind l) s = refl
 
-pub orderly_run : (May : ℕ → Type 0) (xs : List Piece) (s : State) (blocks p : ℕ) → s.block_count ≡ blocks → p ≤ length s.bytes → AllSound May blocks p xs → Orderly May s → Orderly May (run s xs)
+pub orderly_run : (May : ℕ → Type 0) (xs : List Fragment) (s : BufferState) (blocks p : ℕ) → s.block_count ≡ blocks → p ≤ length s.bytes → AllSound May blocks p xs → Orderly May s → Orderly May (apply_all s xs)
 orderly_run May [] s blocks p count le sound h = h
 orderly_run May (x ∷ xs) s blocks p count le sound h =
     orderly_run May xs (apply s x) blocks (p + put_length (x ∷ [])) (applied_count x s ∙ count) (omega (arith, applied_length x s)) sound.1 (orderly_step May x s blocks p count le sound.0 h)

@@ -4,25 +4,25 @@ use Rattle.std.proofs.lemmas.Bool.{ltb-true}
 use Rattle.s390x_inst.specs.Emission.{Emission}
 use Rattle.s390x_inst.specs.declared.state.IsaFlags.{IsaFlags}
 use Rattle.s390x_base.specs.declared.error.EmitError.TheVariants.{LabelOutOfRange}
-use Rattle.s390x_buffer.specs.State.{State, Constant, label_limit}
+use Rattle.s390x_buffer.specs.State.{BufferState, Constant, label_limit}
 use Rattle.s390x_inst.specs.declared.inst.Inst.{Inst}
-use Rattle.s390x_steps.specs.Tree.{Tree, empty, leaf, looped, graft, tree}
-use Rattle.s390x_steps.specs.Sizes.{instruction_size, tree_size}
-use Rattle.s390x_steps.specs.Stack.{nominal_after, state_after}
-use Rattle.s390x_steps.specs.Causes.{Declared, first, aligns_of, declared_in, draws, nesting_cause, numbers_cause, leaf_cause, tree_cause, stack_cause}
-use Rattle.s390x_steps.proofs.Trees.{behind, graft_size}
-use Rattle.s390x_steps.proofs.Causes.{first_left, first_right, unless_true, graft_cause}
-use Rattle.s390x_emit_int.specs.Pieces.{Step, Draw, Bind, apply, run}
-use Rattle.s390x_emit_int.specs.Emission.{branch, pieces, own_pieces}
+use Rattle.s390x_typed_steps.specs.Tree.{Tree, empty, leaf, loop_node, prepend, tree}
+use Rattle.s390x_typed_steps.specs.Sizes.{instruction_size, tree_size}
+use Rattle.s390x_typed_steps.specs.Stack.{nominal_after, state_after}
+use Rattle.s390x_typed_steps.specs.Causes.{Declared, first_emit_cause, aligns_of, declared_in, fresh_labels, nesting_cause, numbers_cause, leaf_cause, tree_cause, stack_cause}
+use Rattle.s390x_typed_steps.proofs.Trees.{behind, prepend_size}
+use Rattle.s390x_typed_steps.proofs.Causes.{first_left, first_right, unless_true, prepend_cause}
+use Rattle.s390x_emit_int.specs.Fragments.{StartStep, Draw, Bind, apply, apply_all}
+use Rattle.s390x_emit_int.specs.Emission.{branch, fragments, own_fragments}
 use Rattle.s390x_emit_int.specs.Room.{Passed, MembersPassed, TreePassed}
 use Rattle.s390x_emit_int.proofs.Runs.{tree_grows, length-branch}
 use Rattle.s390x_emit_int.proofs.Starts.{same_run}
 use Rattle.s390x_emit_int.proofs.Resolving.{no_stack_cause}
-use Rattle.s390x_emit_int.proofs.Trees.{graft_run}
+use Rattle.s390x_emit_int.proofs.Trees.{prepend_run}
 
 -- from s to t so many labels were drawn and so many bytes put, and no mark was set
-pub record Turns (s t : State) (k m : ℕ) : Type 0 where
-  pub unmarked : t.failed ≡ s.failed
+pub record Turns (s t : BufferState) (k m : ℕ) : Type 0 where
+  pub unpoisoned : t.failed ≡ s.failed
   pub blocks : t.block_count ≡ s.block_count
   pub constants : t.constants ≡ s.constants
   pub labels : length t.labels ≡ length s.labels + k
@@ -32,118 +32,118 @@ abbrev declared_by : ℕ → List Constant → Declared
 declared_by n cs = record { blocks = n; aligns = aligns_of cs }
 
 -- what is declared stays
-pub turns_declared : (s t : State) (k m : ℕ) → Turns s t k m → declared_in t ≡ declared_in s
+pub turns_declared : (s t : BufferState) (k m : ℕ) → Turns s t k m → declared_in t ≡ declared_in s
 turns_declared s t k m u = ap₂ declared_by u.blocks u.constants
 
-pub step_turns : (s t : State) → t ≡ apply s Step → Turns s t 0 0
-step_turns s t e = record { unmarked = ap (λ x. x.failed) e; blocks = ap (λ x. x.block_count) e; constants = ap (λ x. x.constants) e; labels = omega (arith, ap (λ x. length x.labels) e); bytes = omega (arith, ap (λ x. length x.bytes) e) }
+pub step_turns : (s t : BufferState) → t ≡ apply s StartStep → Turns s t 0 0
+step_turns s t e = record { unpoisoned = ap (λ x. x.failed) e; blocks = ap (λ x. x.block_count) e; constants = ap (λ x. x.constants) e; labels = omega (arith, ap (λ x. length x.labels) e); bytes = omega (arith, ap (λ x. length x.bytes) e) }
 
-pub draw_turns : (s t : State) → t ≡ apply s Draw → Turns s t 1 0
-draw_turns s t e = record { unmarked = ap (λ x. x.failed) e; blocks = ap (λ x. x.block_count) e; constants = ap (λ x. x.constants) e; labels = ap (λ x. length x.labels) e ∙ length-append s.labels (None ∷ []); bytes = omega (arith, ap (λ x. length x.bytes) e) }
+pub draw_turns : (s t : BufferState) → t ≡ apply s Draw → Turns s t 1 0
+draw_turns s t e = record { unpoisoned = ap (λ x. x.failed) e; blocks = ap (λ x. x.block_count) e; constants = ap (λ x. x.constants) e; labels = ap (λ x. length x.labels) e ∙ length-append s.labels (None ∷ []); bytes = omega (arith, ap (λ x. length x.bytes) e) }
 
-pub bind_turns : (s t : State) (l : ℕ) → t ≡ apply s (Bind l) → Turns s t 0 0
-bind_turns s t l e = record { unmarked = ap (λ x. x.failed) e; blocks = ap (λ x. x.block_count) e; constants = ap (λ x. x.constants) e; labels = ap (λ x. length x.labels) e ∙ length-set s.labels l _ ∙ (omega arith); bytes = omega (arith, ap (λ x. length x.bytes) e) }
+pub bind_turns : (s t : BufferState) (l : ℕ) → t ≡ apply s (Bind l) → Turns s t 0 0
+bind_turns s t l e = record { unpoisoned = ap (λ x. x.failed) e; blocks = ap (λ x. x.block_count) e; constants = ap (λ x. x.constants) e; labels = ap (λ x. length x.labels) e ∙ length-set s.labels l _ ∙ (omega arith); bytes = omega (arith, ap (λ x. length x.bytes) e) }
 
-pub branch_turns : (s t : State) (mask l : ℕ) → t ≡ apply s (branch mask l) → Turns s t 0 6
-branch_turns s t mask l e = record { unmarked = ap (λ x. x.failed) e; blocks = ap (λ x. x.block_count) e; constants = ap (λ x. x.constants) e; labels = omega (arith, ap (λ x. length x.labels) e); bytes = ap (λ x. length x.bytes) e ∙ length-append s.bytes _ ∙ ap (λ m. length s.bytes + m) (length-branch mask) }
+pub branch_turns : (s t : BufferState) (mask l : ℕ) → t ≡ apply s (branch mask l) → Turns s t 0 6
+branch_turns s t mask l e = record { unpoisoned = ap (λ x. x.failed) e; blocks = ap (λ x. x.block_count) e; constants = ap (λ x. x.constants) e; labels = omega (arith, ap (λ x. length x.labels) e); bytes = ap (λ x. length x.bytes) e ∙ length-append s.bytes _ ∙ ap (λ m. length s.bytes + m) (length-branch mask) }
 
-pub tree_turns : (s t : State) (n after : ℕ) (x : Tree) → n ≡ length s.labels → t ≡ run s (pieces n after x) → Turns s t (draws x) (tree_size x)
+pub tree_turns : (s t : BufferState) (n after : ℕ) (x : Tree) → n ≡ length s.labels → t ≡ apply_all s (fragments n after x) → Turns s t (fresh_labels x) (tree_size x)
 tree_turns s t n after x en e =
     let g = tree_grows x s n after en in
-    let same = same_run (pieces n after x) s in
-    record { unmarked = ap (λ x. x.failed) e ∙ same.failed; blocks = ap (λ x. x.block_count) e ∙ same.block_count; constants = ap (λ x. x.constants) e ∙ same.constants; labels = ap (λ x. length x.labels) e ∙ g.labels; bytes = ap (λ x. length x.bytes) e ∙ g.bytes }
+    let same = same_run (fragments n after x) s in
+    record { unpoisoned = ap (λ x. x.failed) e ∙ same.failed; blocks = ap (λ x. x.block_count) e ∙ same.block_count; constants = ap (λ x. x.constants) e ∙ same.constants; labels = ap (λ x. length x.labels) e ∙ g.labels; bytes = ap (λ x. length x.bytes) e ∙ g.bytes }
 
 -- an instruction that is no loop, alone
-pub leaf_passed : (flags : IsaFlags) (s : State) (after nominal depth : ℕ) (i : Inst) (x : Tree) → x ≡ leaf i empty → TreePassed flags s after nominal depth x → MembersPassed s after depth (instruction_size i) (leaf_cause flags (declared_in s) (length s.labels) nominal depth i)
+pub leaf_passed : (flags : IsaFlags) (s : BufferState) (after nominal depth : ℕ) (i : Inst) (x : Tree) → x ≡ leaf i empty → TreePassed flags s after nominal depth x → MembersPassed s after depth (instruction_size i) (leaf_cause flags (declared_in s) (length s.labels) nominal depth i)
 leaf_passed flags s after nominal depth i x e p =
     let q : TreePassed flags s after nominal depth (leaf i empty) = subst (TreePassed flags s after nominal depth) e p in
-    record { unmarked = q.unmarked; blocks = q.blocks; label = q.label; short = omega (arith, q.short); passed = first_left _ _ q.passed }
+    record { unpoisoned = q.unpoisoned; blocks = q.blocks; label = q.label; short = omega (arith, q.short); passed = first_left _ _ q.passed }
 
 -- the next member
-pub member_passed : (state : Emission) (flags : IsaFlags) (s s1 : State) (after depth : ℕ) (is : List Inst) (k : ℕ) (i : Inst) → k < length is → i ≡ get_or is k i → s1 ≡ apply s Step → TreePassed flags s after state.nominal depth (tree state (drop k is)) → TreePassed flags s1 after state.nominal depth (graft state i empty)
+pub member_passed : (state : Emission) (flags : IsaFlags) (s s1 : BufferState) (after depth : ℕ) (is : List Inst) (k : ℕ) (i : Inst) → k < length is → i ≡ get_or is k i → s1 ≡ apply s StartStep → TreePassed flags s after state.nominal depth (tree state (drop k is)) → TreePassed flags s1 after state.nominal depth (prepend state i empty)
 member_passed state flags s s1 after depth is k i lt at e p =
     let rest = tree (state_after state i) (drop (k + 1) is) in
-    let q : TreePassed flags s after state.nominal depth (graft state i rest) = subst (TreePassed flags s after state.nominal depth) (behind state is k i lt at) p in
-    let here : TreePassed flags (apply s Step) after state.nominal depth (graft state i empty) = record {
-      unmarked = q.unmarked;
+    let q : TreePassed flags s after state.nominal depth (prepend state i rest) = subst (TreePassed flags s after state.nominal depth) (behind state is k i lt at) p in
+    let here : TreePassed flags (apply s StartStep) after state.nominal depth (prepend state i empty) = record {
+      unpoisoned = q.unpoisoned;
       blocks = q.blocks;
       label = q.label;
-      short = omega (arith, q.short, graft_size state i rest);
-      passed = first_left _ _ (sym (graft_cause flags state (declared_in s) (length s.labels) state.nominal depth i rest) ∙ q.passed);
+      short = omega (arith, q.short, prepend_size state i rest);
+      passed = first_left _ _ (sym (prepend_cause flags state (declared_in s) (length s.labels) state.nominal depth i rest) ∙ q.passed);
     } in
-    subst (λ x. TreePassed flags x after state.nominal depth (graft state i empty)) (sym e) here
+    subst (λ x. TreePassed flags x after state.nominal depth (prepend state i empty)) (sym e) here
 
 -- and those behind it
-pub others_passed : (state : Emission) (flags : IsaFlags) (s s1 s2 : State) (after depth : ℕ) (is : List Inst) (k : ℕ) (i : Inst) → k < length is → i ≡ get_or is k i → s1 ≡ apply s Step → s2 ≡ run s1 (own_pieces (length s1.labels) after (graft state i empty)) →
+pub others_passed : (state : Emission) (flags : IsaFlags) (s s1 s2 : BufferState) (after depth : ℕ) (is : List Inst) (k : ℕ) (i : Inst) → k < length is → i ≡ get_or is k i → s1 ≡ apply s StartStep → s2 ≡ apply_all s1 (own_fragments (length s1.labels) after (prepend state i empty)) →
     TreePassed flags s after state.nominal depth (tree state (drop k is)) → TreePassed flags s2 after (nominal_after state.nominal i) depth (tree (state_after state i) (drop (k + 1) is))
 others_passed state flags s s1 s2 after depth is k i lt at e1 e2 p =
     let n = length s.labels in
     let rest = tree (state_after state i) (drop (k + 1) is) in
-    let q : TreePassed flags s after state.nominal depth (graft state i rest) = subst (TreePassed flags s after state.nominal depth) (behind state is k i lt at) p in
-    let e2' : s2 ≡ run (apply s Step) (own_pieces n after (graft state i empty)) = e2 ∙ ap (λ x. run x (own_pieces (length x.labels) after (graft state i empty))) e1 in
-    let t = tree_turns s s2 n after (graft state i empty) refl (e2' ∙ sym (graft_run state i empty s n after)) in
+    let q : TreePassed flags s after state.nominal depth (prepend state i rest) = subst (TreePassed flags s after state.nominal depth) (behind state is k i lt at) p in
+    let e2' : s2 ≡ apply_all (apply s StartStep) (own_fragments n after (prepend state i empty)) = e2 ∙ ap (λ x. apply_all x (own_fragments (length x.labels) after (prepend state i empty))) e1 in
+    let t = tree_turns s s2 n after (prepend state i empty) refl (e2' ∙ sym (prepend_run state i empty s n after)) in
     let m = nominal_after state.nominal i in
-    let cause : tree_cause flags (declared_in s) (n + draws (graft state i empty)) m depth rest ≡ None = first_right (tree_cause flags (declared_in s) n state.nominal depth (graft state i empty)) _ (sym (graft_cause flags state (declared_in s) n state.nominal depth i rest) ∙ q.passed) in
+    let cause : tree_cause flags (declared_in s) (n + fresh_labels (prepend state i empty)) m depth rest ≡ None = first_right (tree_cause flags (declared_in s) n state.nominal depth (prepend state i empty)) _ (sym (prepend_cause flags state (declared_in s) n state.nominal depth i rest) ∙ q.passed) in
     record {
-      unmarked = t.unmarked ∙ q.unmarked;
+      unpoisoned = t.unpoisoned ∙ q.unpoisoned;
       blocks = omega (arith, t.blocks, t.labels, q.blocks);
       label = λ d. omega (arith, t.labels, q.label d);
-      short = omega (arith, t.bytes, q.short, graft_size state i rest);
+      short = omega (arith, t.bytes, q.short, prepend_size state i rest);
       passed = ap (λ D. tree_cause flags D (length s2.labels) m depth rest) (turns_declared s s2 _ _ t) ∙ ap (λ l. tree_cause flags (declared_in s) l m depth rest) t.labels ∙ cause;
     }
 
 -- a member has no cause by the stack sizes
-pub member_stack : (state : Emission) (flags : IsaFlags) (s : State) (after depth : ℕ) (is : List Inst) (k : ℕ) (i : Inst) → k < length is → i ≡ get_or is k i → TreePassed flags s after state.nominal depth (tree state (drop k is)) → stack_cause state.nominal depth i ≡ None
+pub member_stack : (state : Emission) (flags : IsaFlags) (s : BufferState) (after depth : ℕ) (is : List Inst) (k : ℕ) (i : Inst) → k < length is → i ≡ get_or is k i → TreePassed flags s after state.nominal depth (tree state (drop k is)) → stack_cause state.nominal depth i ≡ None
 member_stack state flags s after depth is k i lt at p =
-    no_stack_cause flags state (declared_in (apply s Step)) (length s.labels) state.nominal depth i (member_passed state flags s (apply s Step) after depth is k i lt at refl p).passed
+    no_stack_cause flags state (declared_in (apply s StartStep)) (length s.labels) state.nominal depth i (member_passed state flags s (apply s StartStep) after depth is k i lt at refl p).passed
 
 -- a loop has two labels left, and its members pass
-pub record LoopPassed (flags : IsaFlags) (s : State) (nominal depth : ℕ) (members : Tree) : Type 0 where
-  pub unmarked : s.failed ≡ false
+pub record LoopPassed (flags : IsaFlags) (s : BufferState) (nominal depth : ℕ) (members : Tree) : Type 0 where
+  pub unpoisoned : s.failed ≡ false
   pub blocks : s.block_count ≤ length s.labels
   pub drawn : length s.labels + 2 ≤ label_limit
   pub short : length s.bytes + (tree_size members + 6) < 2147483648
   pub passed : tree_cause flags (declared_in s) (length s.labels + 2) nominal (depth + 1) members ≡ None
 
-pub loop_passed : (flags : IsaFlags) (s : State) (after nominal depth mask : ℕ) (members : Tree) → TreePassed flags s after nominal depth (looped mask members empty) → LoopPassed flags s nominal depth members
+pub loop_passed : (flags : IsaFlags) (s : BufferState) (after nominal depth mask : ℕ) (members : Tree) → TreePassed flags s after nominal depth (loop_node mask members empty) → LoopPassed flags s nominal depth members
 loop_passed flags s after nominal depth mask members p =
     let n = length s.labels in
-    let opens = first (nesting_cause depth) (numbers_cause n 2) in
+    let opens = first_emit_cause (nesting_cause depth) (numbers_cause n 2) in
     let inner = tree_cause flags (declared_in s) (n + 2) nominal (depth + 1) members in
-    let both : first opens inner ≡ None = first_left _ _ p.passed in
+    let both : first_emit_cause opens inner ≡ None = first_left _ _ p.passed in
     let numbers : numbers_cause n 2 ≡ None = first_right (nesting_cause depth) _ (first_left _ _ both) in
     let lt : n + 2 < 4294967297 = ltb-true (n + 2) 4294967297 (unless_true (nat_lt (n + 2) 4294967297) LabelOutOfRange numbers) in
     record {
-      unmarked = p.unmarked;
+      unpoisoned = p.unpoisoned;
       blocks = p.blocks;
       drawn = omega arith;
       short = omega (arith, p.short);
       passed = first_right opens inner both;
     }
 
-pub inner_passed : (flags : IsaFlags) (s so : State) (nominal depth end k : ℕ) (members : Tree) → LoopPassed flags s nominal depth members → Turns s so 2 0 → end < length so.labels → TreePassed flags so end nominal (depth + 1) members
+pub inner_passed : (flags : IsaFlags) (s so : BufferState) (nominal depth end k : ℕ) (members : Tree) → LoopPassed flags s nominal depth members → Turns s so 2 0 → end < length so.labels → TreePassed flags so end nominal (depth + 1) members
 inner_passed flags s so nominal depth end k members p t lt = record {
-  unmarked = t.unmarked ∙ p.unmarked;
+  unpoisoned = t.unpoisoned ∙ p.unpoisoned;
   blocks = omega (arith, t.blocks, t.labels, p.blocks);
   label = λ d. lt;
   short = omega (arith, t.bytes, p.short);
   passed = ap (λ D. tree_cause flags D (length so.labels) nominal (depth + 1) members) (turns_declared s so 2 0 t) ∙ ap (λ m. tree_cause flags (declared_in s) m nominal (depth + 1) members) t.labels ∙ p.passed;
 }
 
-pub turns_on : (s t u : State) (k m k' m' : ℕ) → Turns s t k m → Turns t u k' m' → Turns s u (k + k') (m + m')
+pub turns_on : (s t u : BufferState) (k m k' m' : ℕ) → Turns s t k m → Turns t u k' m' → Turns s u (k + k') (m + m')
 turns_on s t u k m k' m' a b = record {
-  unmarked = b.unmarked ∙ a.unmarked;
+  unpoisoned = b.unpoisoned ∙ a.unpoisoned;
   blocks = b.blocks ∙ a.blocks;
   constants = b.constants ∙ a.constants;
   labels = omega (arith, a.labels, b.labels);
   bytes = omega (arith, a.bytes, b.bytes);
 }
 
-pub members_unmarked : (s sa sb so sc : State) (start end : ℕ) (members : Tree) → sa ≡ apply s Draw → sb ≡ apply sa Draw → so ≡ apply sb (Bind start) → sc ≡ run so (pieces (length so.labels) end members) → sc.failed ≡ s.failed
-members_unmarked s sa sb so sc start end members ea eb eo ec = (tree_turns so sc (length so.labels) end members refl ec).unmarked ∙ (bind_turns sb so start eo).unmarked ∙ (draw_turns sa sb eb).unmarked ∙ (draw_turns s sa ea).unmarked
+pub members_unpoisoned : (s sa sb so sc : BufferState) (start end : ℕ) (members : Tree) → sa ≡ apply s Draw → sb ≡ apply sa Draw → so ≡ apply sb (Bind start) → sc ≡ apply_all so (fragments (length so.labels) end members) → sc.failed ≡ s.failed
+members_unpoisoned s sa sb so sc start end members ea eb eo ec = (tree_turns so sc (length so.labels) end members refl ec).unpoisoned ∙ (bind_turns sb so start eo).unpoisoned ∙ (draw_turns sa sb eb).unpoisoned ∙ (draw_turns s sa ea).unpoisoned
 
 -- up to a loop's back branch
-pub body_turns : (s sa sb so sc sd : State) (start end : ℕ) (members : Tree) → sa ≡ apply s Draw → sb ≡ apply sa Draw → so ≡ apply sb (Bind start) → sc ≡ run so (pieces (length so.labels) end members) → sd ≡ apply sc Step → Turns s sd (2 + draws members) (tree_size members)
+pub body_turns : (s sa sb so sc sd : BufferState) (start end : ℕ) (members : Tree) → sa ≡ apply s Draw → sb ≡ apply sa Draw → so ≡ apply sb (Bind start) → sc ≡ apply_all so (fragments (length so.labels) end members) → sd ≡ apply sc StartStep → Turns s sd (2 + fresh_labels members) (tree_size members)
 body_turns s sa sb so sc sd start end members ea eb eo ec ed =
     let a = draw_turns s sa ea in
     let b = draw_turns sa sb eb in
@@ -151,7 +151,7 @@ body_turns s sa sb so sc sd start end members ea eb eo ec ed =
     let m = tree_turns so sc (length so.labels) end members refl ec in
     let d = step_turns sc sd ed in
     record {
-      unmarked = d.unmarked ∙ m.unmarked ∙ o.unmarked ∙ b.unmarked ∙ a.unmarked;
+      unpoisoned = d.unpoisoned ∙ m.unpoisoned ∙ o.unpoisoned ∙ b.unpoisoned ∙ a.unpoisoned;
       blocks = d.blocks ∙ m.blocks ∙ o.blocks ∙ b.blocks ∙ a.blocks;
       constants = d.constants ∙ m.constants ∙ o.constants ∙ b.constants ∙ a.constants;
       labels = omega (arith, a.labels, b.labels, o.labels, m.labels, d.labels);
@@ -159,9 +159,9 @@ body_turns s sa sb so sc sd start end members ea eb eo ec ed =
     }
 
 -- the back branch
-pub back_passed : (flags : IsaFlags) (s sd : State) (start nominal depth : ℕ) (members : Tree) → LoopPassed flags s nominal depth members → Turns s sd (2 + draws members) (tree_size members) → start ≡ length s.labels → Passed sd start 6 None
+pub back_passed : (flags : IsaFlags) (s sd : BufferState) (start nominal depth : ℕ) (members : Tree) → LoopPassed flags s nominal depth members → Turns s sd (2 + fresh_labels members) (tree_size members) → start ≡ length s.labels → Passed sd start 6 None
 back_passed flags s sd start nominal depth members l t e = record {
-  unmarked = t.unmarked ∙ l.unmarked;
+  unpoisoned = t.unpoisoned ∙ l.unpoisoned;
   blocks = omega (arith, t.blocks, t.labels, l.blocks);
   label = omega (arith, t.labels, e);
   short = omega (arith, t.bytes, l.short);
@@ -169,7 +169,7 @@ back_passed flags s sd start nominal depth members l t e = record {
 }
 
 -- the label behind the loop
-pub end_below : (s sa sd se : State) (mask start end depth : ℕ) (members : Tree) → sa ≡ apply s Draw → end ≡ length sa.labels → Turns s sd (2 + draws members) (tree_size members) → se ≡ apply sd (branch mask start) → end < length se.labels
+pub end_below : (s sa sd se : BufferState) (mask start end depth : ℕ) (members : Tree) → sa ≡ apply s Draw → end ≡ length sa.labels → Turns s sd (2 + fresh_labels members) (tree_size members) → se ≡ apply sd (branch mask start) → end < length se.labels
 end_below s sa sd se mask start end depth members ea een t ee =
     let a = draw_turns s sa ea in
     let g = branch_turns sd se mask start ee in

@@ -1,13 +1,13 @@
--- Patching what was put gives each piece at its place.
+-- Patching what was put gives each fragment at its offset.
 use Rattle.std.proofs.Common.{◌≡◌, ℕ, ◌+◌, ◌-◌, ◌/◌, ◌%◌, ◌<◌, ◌≤◌, List, [], ◌∷◌, ◌++◌, length, get_or, set, refl, sym, ap, ◌∙◌, subst, arith, length-append, length-set, append_assoc, append-nil, add-zero, get_or-append-add}
 use Rattle.std.proofs.lemmas.List.{set-append_left, set-append_right, get_or_append_left}
-use Rattle.s390x_buffer.specs.State.{State, constant_label}
-use Rattle.s390x_buffer.specs.Patch.{patch, patch_size, set2, set4, word, half, distance, patch_use, patch_all}
+use Rattle.s390x_buffer.specs.State.{BufferState, constant_label}
+use Rattle.s390x_buffer.specs.Patch.{patch, patch_size, set2, set4, word_from, half_between, distance_between, patch_use, patch_all}
 use Rattle.s390x_buffer.specs.declared.entries.LabelFixup.{LabelFixup}
 use Rattle.s390x_buffer.specs.declared.label_use.LabelUse.{LabelUse}
 use Rattle.s390x_buffer.specs.declared.label_use.LabelUse.TheVariants.{BranchRI, BranchRIL, PCRel32Dbl, PCRel32}
-use Rattle.s390x_emit_int.specs.Pieces.{Piece, apply, run, Put, PutTrapping, PutReloc, Link, LinkConstant, Step, Draw, Bind}
-use Rattle.s390x_emit_int.specs.Resolve.{resolve, Wide, Within}
+use Rattle.s390x_emit_int.specs.Fragments.{Fragment, apply, apply_all, Put, PutTrapping, PutReloc, Link, LinkConstant, StartStep, Draw, Bind}
+use Rattle.s390x_emit_int.specs.Resolve.{resolve, Wide, UsesWithin}
 
 set4_left : (bs x : List ℕ) (o v : ℕ) → o + 4 ≤ length bs → set4 (bs ++ x) o v ≡ set4 bs o v ++ x
 set4_left bs x o v h =
@@ -53,7 +53,7 @@ length-set2 bs o v = simp (length-set)
 length-set4 : (bs : List ℕ) (o v : ℕ) → length (set4 bs o v) ≡ length bs
 length-set4 bs o v = simp (length-set)
 
-word_left : (bs x : List ℕ) (o : ℕ) → o + 4 ≤ length bs → word (bs ++ x) o ≡ word bs o
+word_left : (bs x : List ℕ) (o : ℕ) → o + 4 ≤ length bs → word_from (bs ++ x) o ≡ word_from bs o
 word_left bs x o h =
     let e0 = get_or_append_left bs x 0 o (omega arith) in
     let e1 = get_or_append_left bs x 0 (o + 1) (omega arith) in
@@ -61,7 +61,7 @@ word_left bs x o h =
     let e3 = get_or_append_left bs x 0 (o + 3) (omega arith) in
     cc
 
-pub word_right : (r bs : List ℕ) → word (r ++ bs) (length r) ≡ word bs 0
+pub word_right : (r bs : List ℕ) → word_from (r ++ bs) (length r) ≡ word_from bs 0
 word_right r bs =
     let e0 : get_or (r ++ bs) (length r) 0 ≡ get_or bs 0 0 = ap (λ k. get_or (r ++ bs) k 0) (sym (add-zero (length r))) ∙ get_or-append-add r bs 0 0 in
     let e1 = get_or-append-add r bs 1 0 in
@@ -78,46 +78,46 @@ length-patch PCRel32 at place target bs = length-set4 bs _ _
 patch_left : (k : LabelUse) (at place target : ℕ) (bs x : List ℕ) → at + patch_size k ≤ length bs → patch k at place target (bs ++ x) ≡ patch k at place target bs ++ x
 patch_left BranchRI at place target bs x h = set2_left bs x (at + 2) _ (omega arith)
 patch_left BranchRIL at place target bs x h = set4_left bs x (at + 2) _ (omega arith)
-patch_left PCRel32Dbl at place target bs x h = ap (λ w. set4 (bs ++ x) at ((w + half place target + 1) % 4294967296)) (word_left bs x at h) ∙ set4_left bs x at _ h
-patch_left PCRel32 at place target bs x h = ap (λ w. set4 (bs ++ x) at ((w + distance place target) % 4294967296)) (word_left bs x at h) ∙ set4_left bs x at _ h
+patch_left PCRel32Dbl at place target bs x h = ap (λ w. set4 (bs ++ x) at ((w + half_between place target + 1) % 4294967296)) (word_left bs x at h) ∙ set4_left bs x at _ h
+patch_left PCRel32 at place target bs x h = ap (λ w. set4 (bs ++ x) at ((w + distance_between place target) % 4294967296)) (word_left bs x at h) ∙ set4_left bs x at _ h
 
 patch_right : (k : LabelUse) (place target : ℕ) (r bs : List ℕ) → patch k (length r) place target (r ++ bs) ≡ r ++ patch k 0 place target bs
 patch_right BranchRI place target r bs = set2_right r bs 2 _
 patch_right BranchRIL place target r bs = set4_right r bs 2 _
 patch_right PCRel32Dbl place target r bs =
     let z : length r ≡ length r + 0 = omega arith in
-    ap (λ w. set4 (r ++ bs) (length r) ((w + half place target + 1) % 4294967296)) (word_right r bs) ∙ ap (λ o. set4 (r ++ bs) o ((word bs 0 + half place target + 1) % 4294967296)) z ∙ set4_right r bs 0 _
+    ap (λ w. set4 (r ++ bs) (length r) ((w + half_between place target + 1) % 4294967296)) (word_right r bs) ∙ ap (λ o. set4 (r ++ bs) o ((word_from bs 0 + half_between place target + 1) % 4294967296)) z ∙ set4_right r bs 0 _
 patch_right PCRel32 place target r bs =
     let z : length r ≡ length r + 0 = omega arith in
-    ap (λ w. set4 (r ++ bs) (length r) ((w + distance place target) % 4294967296)) (word_right r bs) ∙ ap (λ o. set4 (r ++ bs) o ((word bs 0 + distance place target) % 4294967296)) z ∙ set4_right r bs 0 _
+    ap (λ w. set4 (r ++ bs) (length r) ((w + distance_between place target) % 4294967296)) (word_right r bs) ∙ ap (λ o. set4 (r ++ bs) o ((word_from bs 0 + distance_between place target) % 4294967296)) z ∙ set4_right r bs 0 _
 
 pub length-patch_all : (off : ℕ → ℕ) (us : List LabelFixup) (bs : List ℕ) → length (patch_all off us bs) ≡ length bs
 length-patch_all off [] bs = refl
 length-patch_all off (u ∷ us) bs = length-patch_all off us (patch_use off u bs) ∙ length-patch u.kind u.offset u.offset (off u.label.0) bs
 
-pub all_left : (off : ℕ → ℕ) (us : List LabelFixup) (bs x : List ℕ) → Within (length bs) us → patch_all off us (bs ++ x) ≡ patch_all off us bs ++ x
+pub all_left : (off : ℕ → ℕ) (us : List LabelFixup) (bs x : List ℕ) → UsesWithin (length bs) us → patch_all off us (bs ++ x) ≡ patch_all off us bs ++ x
 all_left off [] bs x w = refl
 all_left off (u ∷ us) bs x w =
     ap (λ l. patch_all off us l) (patch_left u.kind u.offset u.offset (off u.label.0) bs x w.0)
-    ∙ all_left off us (patch_use off u bs) x (subst (λ n. Within n us) (sym (length-patch u.kind u.offset u.offset (off u.label.0) bs)) w.1)
+    ∙ all_left off us (patch_use off u bs) x (subst (λ n. UsesWithin n us) (sym (length-patch u.kind u.offset u.offset (off u.label.0) bs)) w.1)
 
 all_more : (off : ℕ → ℕ) (us : List LabelFixup) (u : LabelFixup) (bs : List ℕ) → patch_all off (us ++ u ∷ []) bs ≡ patch_use off u (patch_all off us bs)
 all_more off [] u bs = refl
 all_more off (v ∷ us) u bs = all_more off us u (patch_use off v bs)
 
-pub within_more : (n m : ℕ) (us : List LabelFixup) → n ≤ m → Within n us → Within m us
+pub within_more : (n m : ℕ) (us : List LabelFixup) → n ≤ m → UsesWithin n us → UsesWithin m us
 within_more n m [] h w = tt
 within_more n m (u ∷ us) h w = (omega (arith, w.0), within_more n m us h w.1)
 
-pub within_append : (n : ℕ) (us : List LabelFixup) (u : LabelFixup) → Within n us → u.offset + patch_size u.kind ≤ n → Within n (us ++ u ∷ [])
+pub within_append : (n : ℕ) (us : List LabelFixup) (u : LabelFixup) → UsesWithin n us → u.offset + patch_size u.kind ≤ n → UsesWithin n (us ++ u ∷ [])
 within_append n [] u w h = (h, tt)
 within_append n (v ∷ us) u w h = (w.0, within_append n us u w.1 h)
 
 -- the bytes of a state, patched
-abbrev pub patched : (ℕ → ℕ) → State → List ℕ
+abbrev pub patched : (ℕ → ℕ) → BufferState → List ℕ
 patched off s = patch_all off s.uses s.bytes
 
-pub patched_run : (ps : List Piece) (s : State) (off : ℕ → ℕ) → Within (length s.bytes) s.uses → Wide ps → patched off (run s ps) ≡ patched off s ++ resolve s.block_count off (length s.bytes) ps
+pub patched_run : (ps : List Fragment) (s : BufferState) (off : ℕ → ℕ) → UsesWithin (length s.bytes) s.uses → Wide ps → patched off (apply_all s ps) ≡ patched off s ++ resolve s.block_count off (length s.bytes) ps
 patched_run [] s off w h = sym (append-nil (patched off s))
 patched_run (Put bs ∷ ps) s off w h =
     let s1 = apply s (Put bs) in
@@ -173,6 +173,6 @@ patched_run (LinkConstant c bs ∷ ps) s off w h =
     ∙ ap (λ x. x ++ resolve s.block_count off (length s1.bytes) ps) here
     ∙ append_assoc (patched off s) (patch BranchRIL 0 p (off (constant_label s c)) bs) (resolve s.block_count off (length s1.bytes) ps)
     ∙ ap (λ m. patched off s ++ (patch BranchRIL 0 p (off (constant_label s c)) bs ++ resolve s.block_count off m ps)) n
-patched_run (Step ∷ ps) s off w h = patched_run ps (apply s Step) off w h
+patched_run (StartStep ∷ ps) s off w h = patched_run ps (apply s StartStep) off w h
 patched_run (Draw ∷ ps) s off w h = patched_run ps (apply s Draw) off w h
 patched_run (Bind l ∷ ps) s off w h = patched_run ps (apply s (Bind l)) off w h

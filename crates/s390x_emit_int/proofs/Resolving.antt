@@ -9,21 +9,21 @@ use Rattle.s390x_inst.specs.declared.args.MemArg.{MemArg}
 use Rattle.s390x_inst.specs.declared.inst.Inst.{Inst}
 use Rattle.s390x_inst.specs.declared.inst.Inst.TheVariants.{AluRX, AtomicRmw, CondBr, JTSequence, CondBreak, TrapIf, AllocateArgs}
 use Rattle.s390x_inst.specs.declared.state.IsaFlags.{IsaFlags}
-use Rattle.s390x_steps.specs.Alone.{Alone, alone, stop_code}
-use Rattle.s390x_steps.specs.Causes.{Declared, first, facility_cause, cause_or, memory_cause_or, branch_cause, instruction_cause, instruction_draws, stack_cause, tree_cause}
-use Rattle.s390x_steps.specs.Memory.{MemoryInstruction, operate, load_and_operate, memory}
-use Rattle.s390x_steps.specs.Operands.{resolved}
-use Rattle.s390x_steps.specs.Ranges.{MaskInRange, OperandInRange, MemoryInRange, InRange}
-use Rattle.s390x_steps.specs.Resolved.{resolved_instruction}
-use Rattle.s390x_steps.specs.Storage.{alu_rx, alu_rxy, atomic_rsy}
+use Rattle.s390x_typed_steps.specs.SingleInstruction.{SingleInstruction, single_instruction, stop_code}
+use Rattle.s390x_typed_steps.specs.Causes.{Declared, first_emit_cause, facility_cause, cause_or, memory_cause_or, branch_cause, instruction_cause, instruction_fresh_labels, stack_cause, tree_cause}
+use Rattle.s390x_typed_steps.specs.Memory.{MemoryInstruction, operate, load_and_operate, memory}
+use Rattle.s390x_typed_steps.specs.Operands.{resolved}
+use Rattle.s390x_typed_steps.specs.Ranges.{MaskInRange, OperandInRange, MemoryInRange, InRange}
+use Rattle.s390x_typed_steps.specs.Resolved.{resolved_instruction}
+use Rattle.s390x_typed_steps.specs.Storage.{alu_rx, alu_rxy, atomic_rsy}
 use Rattle.s390x_address.specs.Rows.{in_state}
-use Rattle.s390x_steps.specs.Tree.{empty, graft}
-use Rattle.s390x_steps.proofs.Causes.{first_left}
-use Rattle.s390x_emit_int.specs.Emission.{branch_pieces, branch_size}
+use Rattle.s390x_typed_steps.specs.Tree.{empty, prepend}
+use Rattle.s390x_typed_steps.proofs.Causes.{first_left}
+use Rattle.s390x_emit_int.specs.Emission.{branch_fragments, branch_size}
 
-pub alone_resolved : (e : Emission) (i : Inst) → alone (resolved_instruction e i) ≡ alone i
-alone_resolved e (CondBreak mask) = refl
-alone_resolved e i = refl
+pub single_resolved : (e : Emission) (i : Inst) → single_instruction (resolved_instruction e i) ≡ single_instruction i
+single_resolved e (CondBreak mask) = refl
+single_resolved e i = refl
 
 pub stop_resolved : (e : Emission) (i : Inst) → stop_code (resolved_instruction e i) ≡ stop_code i
 stop_resolved e (CondBreak mask) = refl
@@ -37,13 +37,13 @@ pub branch_resolved : (e : Emission) (blocks depth : ℕ) (i : Inst) → branch_
 branch_resolved e blocks depth (CondBreak mask) = refl
 branch_resolved e blocks depth i = refl
 
-pub pieces_resolved : (e : Emission) (n after : ℕ) (i : Inst) → branch_pieces n after (resolved_instruction e i) ≡ branch_pieces n after i
-pieces_resolved e n after (CondBreak mask) = refl
-pieces_resolved e n after i = refl
+pub fragments_resolved : (e : Emission) (n after : ℕ) (i : Inst) → branch_fragments n after (resolved_instruction e i) ≡ branch_fragments n after i
+fragments_resolved e n after (CondBreak mask) = refl
+fragments_resolved e n after i = refl
 
-pub draws_resolved : (e : Emission) (i : Inst) → instruction_draws (resolved_instruction e i) ≡ instruction_draws i
-draws_resolved e (CondBreak mask) = refl
-draws_resolved e i = refl
+pub fresh_labels_resolved : (e : Emission) (i : Inst) → instruction_fresh_labels (resolved_instruction e i) ≡ instruction_fresh_labels i
+fresh_labels_resolved e (CondBreak mask) = refl
+fresh_labels_resolved e i = refl
 
 pub size_resolved : (e : Emission) (i : Inst) → branch_size (resolved_instruction e i) ≡ branch_size i
 size_resolved e (CondBreak mask) = refl
@@ -70,12 +70,12 @@ pub no_memory : (e : Emission) (i : Inst) → None ≡ memory i → memory (reso
 no_memory e i h = memory_resolved e i ∙ ap (option_map (in_state e)) (sym h)
 
 -- the first cause by the parts that the code looks at
-pub cause_resolved : (flags : IsaFlags) (e : Emission) (D : Declared) (nominal depth : ℕ) (i : Inst) → first (facility_cause flags i) (first (stack_cause nominal depth i) (cause_or (alone i) (memory_cause_or D (memory (resolved_instruction e i)) (branch_cause D.blocks depth i)))) ≡ instruction_cause flags D nominal depth (resolved_instruction e i)
+pub cause_resolved : (flags : IsaFlags) (e : Emission) (D : Declared) (nominal depth : ℕ) (i : Inst) → first_emit_cause (facility_cause flags i) (first_emit_cause (stack_cause nominal depth i) (cause_or (single_instruction i) (memory_cause_or D (memory (resolved_instruction e i)) (branch_cause D.blocks depth i)))) ≡ instruction_cause flags D nominal depth (resolved_instruction e i)
 cause_resolved flags e D nominal depth (CondBreak mask) = refl
 cause_resolved flags e D nominal depth i = refl
 
 -- a member without a cause has none by the stack sizes
-pub no_stack_cause : (flags : IsaFlags) (e : Emission) (D : Declared) (n nominal depth : ℕ) (i : Inst) → tree_cause flags D n nominal depth (graft e i empty) ≡ None → stack_cause nominal depth i ≡ None
+pub no_stack_cause : (flags : IsaFlags) (e : Emission) (D : Declared) (n nominal depth : ℕ) (i : Inst) → tree_cause flags D n nominal depth (prepend e i empty) ≡ None → stack_cause nominal depth i ≡ None
 no_stack_cause flags e D n nominal depth (AllocateArgs size) h = first_left _ _ (first_left _ _ (first_left _ _ h))
 no_stack_cause flags e D n nominal depth i h = refl
 
@@ -86,7 +86,7 @@ mask_resolved e (CondBreak mask) h = h
 mask_resolved e i h = h
 
 -- whether there are both
-have_both : Option MemoryInstruction → Option Alone → Bool
+have_both : Option MemoryInstruction → Option SingleInstruction → Bool
 have_both None a = false
 have_both (Some x) None = false
 have_both (Some x) (Some y) = true
@@ -96,31 +96,31 @@ unfolding have_both
 not_alone None = refl
 not_alone (Some x) = refl
 
-never_both : (i : Inst) → have_both (memory i) (alone i) ≡ false
+never_both : (i : Inst) → have_both (memory i) (single_instruction i) ≡ false
 unfolding have_both
 never_both (AluRX op rd ri mem) = not_alone (memory (AluRX op rd ri mem))
 never_both (AtomicRmw op rd rn mem) = not_alone (memory (AtomicRmw op rd rn mem))
 never_both i = refl
 
-without_operand : (o : Option MemoryInstruction) (a : Option Alone) (x : Alone) → Some x ≡ a → have_both o a ≡ false → MemoryInRange o
+without_operand : (o : Option MemoryInstruction) (a : Option SingleInstruction) (x : SingleInstruction) → Some x ≡ a → have_both o a ≡ false → MemoryInRange o
 unfolding have_both
 without_operand None a x e h = tt
 without_operand (Some y) None x e h = absurd (cc)
 without_operand (Some y) (Some z) x e h = absurd (cc)
 
-alone_memory : (i : Inst) (x : Alone) → Some x ≡ alone i → MemoryInRange (memory i)
-alone_memory i x e = without_operand (memory i) (alone i) x e (never_both i)
+single_memory : (i : Inst) (x : SingleInstruction) → Some x ≡ single_instruction i → MemoryInRange (memory i)
+single_memory i x e = without_operand (memory i) (single_instruction i) x e (never_both i)
 
-alone_mask : (i : Inst) (x : Alone) → Some x ≡ alone i → MaskInRange i
-alone_mask (CondBr taken not_taken mask) x e = absurd (cc)
-alone_mask (JTSequence ridx other mask targets) x e = absurd (cc)
-alone_mask (CondBreak mask) x e = absurd (cc)
-alone_mask (TrapIf mask code) x e = absurd (cc)
-alone_mask i x e = tt
+single_mask : (i : Inst) (x : SingleInstruction) → Some x ≡ single_instruction i → MaskInRange i
+single_mask (CondBr taken not_taken mask) x e = absurd (cc)
+single_mask (JTSequence ridx other mask targets) x e = absurd (cc)
+single_mask (CondBreak mask) x e = absurd (cc)
+single_mask (TrapIf mask code) x e = absurd (cc)
+single_mask i x e = tt
 
 -- an instruction that is one machine instruction on registers has no masks and no displacements
-pub alone_range : (i : Inst) (x : Alone) → Some x ≡ alone i → InRange i
-alone_range i x e = (alone_mask i x e, alone_memory i x e)
+pub single_range : (i : Inst) (x : SingleInstruction) → Some x ≡ single_instruction i → InRange i
+single_range i x e = (single_mask i x e, single_memory i x e)
 
 memory_mask : (i : Inst) (x : MemoryInstruction) → Some x ≡ memory i → MaskInRange i
 memory_mask (CondBr taken not_taken mask) x e = absurd (cc)

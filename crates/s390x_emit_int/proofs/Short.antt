@@ -11,29 +11,29 @@ use Rattle.s390x_inst.specs.declared.args.MemArg.{MemArg}
 use Rattle.s390x_inst.specs.declared.args.MemArg.TheVariants.{Label, RegOffset}
 use Rattle.s390x_inst.specs.declared.inst.Inst.TheVariants.{Loop', JTSequence, Mov64SImm32, LoadAddr, CondBreak, Jump, CondBr, IndirectBr, Ret, LabelAddress, LoadSymbolReloc, Trap, TrapIf, Debugtrap}
 use Rattle.s390x_inst.specs.declared.state.IsaFlags.{IsaFlags}
-use Rattle.s390x_buffer.specs.State.{State, limit}
-use Rattle.s390x_steps.specs.Alone.{Alone, alone, stop_code}
-use Rattle.s390x_steps.specs.MachineInstruction.{MachineInstruction}
-use Rattle.s390x_steps.specs.Memory.{StorageForm, RxForm, MemoryInstruction, memory, type_of, storage_row, address_form, fault_code}
-use Rattle.s390x_steps.specs.Operands.{Finalized, finalized, is_relative, displaced, needs_address, fits_12, fits_20, fits_32}
-use Rattle.s390x_steps.specs.Resolved.{resolved_instruction}
-use Rattle.s390x_steps.specs.Parts.{Part, branch_parts, row_part, access_parts, trap_here, relative_part, relative_parts, operand_parts, helper_parts, helpers_parts, memory_parts, memory_or, parts_or, parts_size}
-use Rattle.s390x_steps.specs.Sizes.{instruction_size, tree_size}
-use Rattle.s390x_steps.specs.Tree.{Tree, empty, leaf, graft}
-use Rattle.s390x_steps.specs.Causes.{first, unless, declared_in, tree_cause}
-use Rattle.s390x_steps.proofs.Causes.{first_left, first_right, unless_true}
+use Rattle.s390x_buffer.specs.State.{BufferState, limit}
+use Rattle.s390x_typed_steps.specs.SingleInstruction.{SingleInstruction, single_instruction, stop_code}
+use Rattle.s390x_typed_steps.specs.MachineInstruction.{MachineInstruction}
+use Rattle.s390x_typed_steps.specs.Memory.{StorageForm, RxForm, MemoryInstruction, memory, type_of, storage_row, address_form, fault_code}
+use Rattle.s390x_typed_steps.specs.Operands.{Finalized, finalized, is_relative, displaced, needs_address, fits_12, fits_20, fits_32}
+use Rattle.s390x_typed_steps.specs.Resolved.{resolved_instruction}
+use Rattle.s390x_typed_steps.specs.Parts.{CodePart, branch_parts, row_part, access_parts, trap_here, relative_part, relative_parts, operand_parts, helper_parts, helpers_parts, memory_parts, memory_or, parts_or, parts_size}
+use Rattle.s390x_typed_steps.specs.Sizes.{instruction_size, tree_size}
+use Rattle.s390x_typed_steps.specs.Tree.{Tree, empty, leaf, prepend}
+use Rattle.s390x_typed_steps.specs.Causes.{first_emit_cause, unless, declared_in, tree_cause}
+use Rattle.s390x_typed_steps.proofs.Causes.{first_left, first_right, unless_true}
 use Rattle.s390x_address.proofs.Lacking.{size_append}
-use Rattle.s390x_emit_int.specs.Pieces.{run}
-use Rattle.s390x_emit_int.specs.Emission.{own_pieces}
+use Rattle.s390x_emit_int.specs.Fragments.{apply_all}
+use Rattle.s390x_emit_int.specs.Emission.{own_fragments}
 use Rattle.s390x_emit_int.specs.Instruction.{emit_cause, is_short}
 use Rattle.s390x_emit_int.specs.Room.{HasRoom, TreePassed}
 use Rattle.s390x_emit_int.proofs.Runs.{leaf_grows}
 
-row_few : (x : Alone) (code : Option TrapKind) → parts_size (row_part x.row code ∷ []) ≤ 44
+row_few : (x : SingleInstruction) (code : Option TrapKind) → parts_size (row_part x.row code ∷ []) ≤ 44
 row_few x None = let small = length_small x.row.format in omega (arith, small)
 row_few x (Some code) = let small = length_small x.row.format in omega (arith, small)
 
-few_or : (o : Option Alone) (code : Option TrapKind) (others : List Part) → parts_size others ≤ 44 → parts_size (parts_or o code others) ≤ 44
+few_or : (o : Option SingleInstruction) (code : Option TrapKind) (others : List CodePart) → parts_size others ≤ 44 → parts_size (parts_or o code others) ≤ 44
 few_or None code others h = h
 few_or (Some x) code others h = row_few x code
 
@@ -42,7 +42,7 @@ access_few None code = omega arith
 access_few (Some m) None = let small = length_small m.format in omega (arith, small)
 access_few (Some m) (Some code) = let small = length_small m.format in omega (arith, small)
 
-trapping_few : (code : Option TrapKind) (parts : List Part) → parts_size (trap_here code ++ parts) ≡ parts_size parts
+trapping_few : (code : Option TrapKind) (parts : List CodePart) → parts_size (trap_here code ++ parts) ≡ parts_size parts
 trapping_few None parts = refl
 trapping_few (Some code) parts = omega arith
 
@@ -54,7 +54,7 @@ form_few : (form : StorageForm) (code : Option TrapKind) (m : MemArg) → parts_
 form_few (RxForm register rx_opcode rxy_opcode (Some opcode)) code m = let few = relative_few opcode register m in omega (arith, trapping_few code (relative_part opcode register m), few)
 form_few form code m = omega arith
 
-either_few : (t : Bool) (a b : List Part) → parts_size a ≤ 6 → parts_size b ≤ 6 → parts_size (cond t a b) ≤ 6
+either_few : (t : Bool) (a b : List CodePart) → parts_size a ≤ 6 → parts_size b ≤ 6 → parts_size (cond t a b) ≤ 6
 either_few true a b h k = h
 either_few false a b h k = k
 
@@ -100,7 +100,7 @@ memory_few x =
     let both = size_append (helpers_parts (finalized mi x.operand).helpers) (operand_parts x.form (fault_code x) (finalized mi x.operand).operand) in
     omega (arith, two, helpers, access, both)
 
-memory_few_or : (o : Option MemoryInstruction) (others : List Part) → parts_size others ≤ 44 → parts_size (memory_or o others) ≤ 44
+memory_few_or : (o : Option MemoryInstruction) (others : List CodePart) → parts_size others ≤ 44 → parts_size (memory_or o others) ≤ 44
 memory_few_or None others h = h
 memory_few_or (Some x) others h = memory_few x
 
@@ -120,37 +120,37 @@ branch_few i h = omega arith
 
 instruction_few : (i : Inst) → is_short i ≡ true → instruction_size i ≤ 44
 instruction_few (CondBreak mask) h = omega arith
-instruction_few i h = few_or (alone i) (stop_code i) (memory_or (memory i) (branch_parts i)) (memory_few_or (memory i) (branch_parts i) (branch_few i h))
+instruction_few i h = few_or (single_instruction i) (stop_code i) (memory_or (memory i) (branch_parts i)) (memory_few_or (memory i) (branch_parts i) (branch_few i h))
 
 short_resolved : (state : Emission) (i : Inst) → is_short (resolved_instruction state i) ≡ is_short i
 short_resolved state (CondBreak mask) = refl
 short_resolved state i = refl
 
 -- an instruction that is no loop
-short_leaf : (state : Emission) (i : Inst) → is_short i ≡ true → graft state i empty ≡ leaf (resolved_instruction state i) empty
+short_leaf : (state : Emission) (i : Inst) → is_short i ≡ true → prepend state i empty ≡ leaf (resolved_instruction state i) empty
 short_leaf state (Loop' mask body all) h = absurd (cc)
 short_leaf state i h = refl
 
 -- a short instruction puts few bytes
-pub puts_few : (state : Emission) (i : Inst) (s t : State) → is_short i ≡ true → t ≡ run s (own_pieces (length s.labels) 0 (graft state i empty)) → length t.bytes ≤ length s.bytes + 44
+pub puts_few : (state : Emission) (i : Inst) (s t : BufferState) → is_short i ≡ true → t ≡ apply_all s (own_fragments (length s.labels) 0 (prepend state i empty)) → length t.bytes ≤ length s.bytes + 44
 puts_few state i s t h e =
     let j = resolved_instruction state i in
-    let is : t ≡ run s (own_pieces (length s.labels) 0 (leaf j empty)) = e ∙ ap (λ x. run s (own_pieces (length s.labels) 0 x)) (short_leaf state i h) in
+    let is : t ≡ apply_all s (own_fragments (length s.labels) 0 (leaf j empty)) = e ∙ ap (λ x. apply_all s (own_fragments (length s.labels) 0 x)) (short_leaf state i h) in
     let g = leaf_grows j s (length s.labels) 0 refl in
     let few = instruction_few j (short_resolved state i ∙ h) in
     let bytes = ap (λ x. length x.bytes) is in
     omega (arith, g.bytes, few, bytes)
 
-three_tests : (f : Bool) (c : Option EmitError) (b : Bool) → cond f (Some Failed) (first c (unless b LabelOutOfRange)) ≡ None → (f ≡ false) × (c ≡ None) × (b ≡ true)
+three_tests : (f : Bool) (c : Option EmitError) (b : Bool) → cond f (Some Failed) (first_emit_cause c (unless b LabelOutOfRange)) ≡ None → (f ≡ false) × (c ≡ None) × (b ≡ true)
 three_tests true c b h = absurd (cc)
 three_tests false c b h = (refl, first_left c _ h, unless_true b LabelOutOfRange (first_right c _ h))
 
 -- where no cause stands, the instruction passes
-pub emit_passed : (flags : IsaFlags) (nominal : ℕ) (s : State) (x : Tree) → HasRoom s → emit_cause flags nominal s x ≡ None → TreePassed flags s 0 nominal 0 x
+pub emit_passed : (flags : IsaFlags) (nominal : ℕ) (s : BufferState) (x : Tree) → HasRoom s → emit_cause flags nominal s x ≡ None → TreePassed flags s 0 nominal 0 x
 emit_passed flags nominal s x room h =
     let t = three_tests s.failed (tree_cause flags (declared_in s) (length s.labels) nominal 0 x) (nat_lt (length s.bytes + tree_size x) limit) h in
     record {
-      unmarked = t.0;
+      unpoisoned = t.0;
       blocks = omega (arith, room);
       label = λ d. omega (arith, d);
       short = ltb-true (length s.bytes + tree_size x) limit t.2;

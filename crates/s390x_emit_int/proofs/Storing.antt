@@ -3,29 +3,29 @@ use Rattle.std.proofs.Common.{◌≡◌, ℕ, true, not, ◌&&◌, ◌||◌, Opt
 use Rattle.std.proofs.lemmas.Bool.{and_parts, and_from}
 use Rattle.s390x_base.specs.Regs.{number_of}
 use Rattle.s390x_base.specs.declared.regs.Reg.{Reg}
-use Rattle.s390x_enc.specs.Operands.{is_general as encodes_general}
-use Rattle.s390x_steps.specs.General.{is_general, reuses}
-use Rattle.s390x_steps.specs.Memory.{is_range}
-use Rattle.s390x_address.specs.Rows.{takes_general, has_12_bits}
+use Rattle.s390x_enc.specs.Operands.{is_general_class as encodes_general}
+use Rattle.s390x_typed_steps.specs.General.{is_general, reuses}
+use Rattle.s390x_typed_steps.specs.Memory.{is_range}
+use Rattle.s390x_address.specs.Rows.{rows_take_general, has_12_bits}
 use Rattle.s390x_emit_int.proofs.Encoding.{implied, one_general}
 
-opcodes_encode : (r : Reg) (rx rxy : Option ℕ) → (takes_general rx && takes_general rxy) ≡ true → encodes_general r ≡ true → (encodes_general r && takes_general rx && takes_general rxy) ≡ true
+opcodes_encode : (r : Reg) (rx rxy : Option ℕ) → (rows_take_general rx && rows_take_general rxy) ≡ true → encodes_general r ≡ true → (encodes_general r && rows_take_general rx && rows_take_general rxy) ≡ true
 opcodes_encode r rx rxy h g =
-    let p = and_parts (takes_general rx) (takes_general rxy) h in
-    and_from (encodes_general r && takes_general rx) (takes_general rxy) (and_from (encodes_general r) (takes_general rx) g p.0) p.1
+    let p = and_parts (rows_take_general rx) (rows_take_general rxy) h in
+    and_from (encodes_general r && rows_take_general rx) (rows_take_general rxy) (and_from (encodes_general r) (rows_take_general rx) g p.0) p.1
 
 -- one register
-pub register_encodes : (r : Reg) (rx rxy ril : Option ℕ) → (takes_general rx && takes_general rxy && has_12_bits ril) ≡ true → (has_12_bits ril && (not (is_general r) || (encodes_general r && takes_general rx && takes_general rxy))) ≡ true
+pub register_encodes : (r : Reg) (rx rxy ril : Option ℕ) → (rows_take_general rx && rows_take_general rxy && has_12_bits ril) ≡ true → (has_12_bits ril && (not (is_general r) || (encodes_general r && rows_take_general rx && rows_take_general rxy))) ≡ true
 register_encodes r rx rxy ril h =
-    let p = and_parts (takes_general rx && takes_general rxy) (has_12_bits ril) h in
+    let p = and_parts (rows_take_general rx && rows_take_general rxy) (has_12_bits ril) h in
     and_from (has_12_bits ril) _ p.1 (implied (is_general r) _ (λ g. opcodes_encode r rx rxy p.0 (one_general r g)))
 
 reused_general : (a b : Reg) → reuses a b ≡ true → is_general a ≡ true
 reused_general a b h = let p = and_parts (is_general a && is_general b) (nat_eq (number_of a) (number_of b)) h in (and_parts (is_general a) (is_general b) p.0).0
 
 -- one that is an input too
-pub reused_encodes : (a b : Reg) (rx rxy : Option ℕ) → takes_general rx ≡ true → takes_general rxy ≡ true → (not (reuses a b) || (encodes_general a && takes_general rx && takes_general rxy)) ≡ true
-reused_encodes a b rx rxy h k = implied (reuses a b) _ (λ g. opcodes_encode a rx rxy (and_from (takes_general rx) (takes_general rxy) h k) (one_general a (reused_general a b g)))
+pub reused_encodes : (a b : Reg) (rx rxy : Option ℕ) → rows_take_general rx ≡ true → rows_take_general rxy ≡ true → (not (reuses a b) || (encodes_general a && rows_take_general rx && rows_take_general rxy)) ≡ true
+reused_encodes a b rx rxy h k = implied (reuses a b) _ (λ g. opcodes_encode a rx rxy (and_from (rows_take_general rx) (rows_take_general rxy) h k) (one_general a (reused_general a b g)))
 
 pair_general : (a b : Reg) → is_general a ≡ true → is_general b ≡ true → (encodes_general a && encodes_general b) ≡ true
 pair_general a b h k = and_from (encodes_general a) (encodes_general b) (one_general a h) (one_general b k)

@@ -4,13 +4,13 @@ use Rattle.s390x_inst.specs.declared.state.IsaFlags.{IsaFlags}
 use Rattle.s390x_buffer.specs.declared.entries.MachBufferFinalized.{MachBufferFinalized}
 use Rattle.s390x_image.specs.Causes.{link_cause}
 use Rattle.s390x_image.specs.Symbols.{no_symbols}
-use Rattle.s390x_steps.specs.Ranges.{BlocksInRange}
-use Rattle.s390x_operations.specs.State.{CodeImage, Lies}
+use Rattle.s390x_typed_steps.specs.Ranges.{BlocksInRange}
+use Rattle.s390x_operations.specs.State.{CodeImage, IsLoaded}
 use Rattle.s390x_machine.specs.Machine.{Run}
-use Rattle.s390x_machine.specs.Layout.{Layout, block_place}
+use Rattle.s390x_machine.specs.Layout.{Layout, block_address}
 use Rattle.s390x_machine.specs.Functions.{function_layout}
-use Rattle.s390x_machine.specs.Example.{trees, core, turns}
-use Rattle.s390x_emit_int.specs.Function.{checked_cause, IsImage}
+use Rattle.s390x_machine.specs.Example.{trees, core, trace}
+use Rattle.s390x_emit_int.specs.Function.{checked_cause, IsFinishedCode}
 use Rattle.s390x_emit_int.specs.Headline.{linked}
 
 -- finished code at 4096
@@ -27,7 +27,7 @@ pub record LinkedLoopRuns : Type 0 where
   pub code : MachBufferFinalized
   pub checked : (flags : IsaFlags) → checked_cause flags trees [] ≡ None
   pub masks : BlocksInRange trees
-  pub finished : IsImage trees [] code
+  pub finished : IsFinishedCode trees [] code
   pub linked : link_cause code 4096 no_symbols ≡ None
-  pub lies : Lies (linked_at_4096 code) core.memory
-  pub run : Run (linked_at_4096 code) (record { core = core; place = block_place (layout_at_4096 code) 0 }) turns
+  pub lies : IsLoaded (linked_at_4096 code) core.memory
+  pub run : Run (linked_at_4096 code) (record { core = core; address = block_address (layout_at_4096 code) 0 }) trace

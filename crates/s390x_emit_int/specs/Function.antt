@@ -10,13 +10,13 @@ use Rattle.s390x_buffer.specs.State.{Constant, constant_of, new_cause, limit}
 use Rattle.s390x_buffer.specs.Constants.{constant_starts, constant_bytes, constants_end, greatest_align}
 use Rattle.s390x_buffer.specs.Finish.{entry_of}
 use Rattle.s390x_buffer.specs.declared.entries.MachBufferFinalized.{MachBufferFinalized}
-use Rattle.s390x_steps.specs.Tree.{Tree, tree}
-use Rattle.s390x_steps.specs.Steps.{function_steps}
-use Rattle.s390x_steps.specs.Image.{place, unlinked, function_code, step_places, block_places}
-use Rattle.s390x_steps.specs.Traps.{function_traps}
-use Rattle.s390x_steps.specs.Relocs.{function_relocs}
-use Rattle.s390x_steps.specs.Sizes.{blocks_size}
-use Rattle.s390x_steps.specs.Causes.{first, unless, declared_of, blocks_cause}
+use Rattle.s390x_typed_steps.specs.Tree.{Tree, tree}
+use Rattle.s390x_typed_steps.specs.Steps.{function_steps}
+use Rattle.s390x_typed_steps.specs.Image.{step_offset, unlinked, function_code, step_offsets, block_offsets}
+use Rattle.s390x_typed_steps.specs.Traps.{function_traps}
+use Rattle.s390x_typed_steps.specs.Relocs.{function_relocs}
+use Rattle.s390x_typed_steps.specs.Sizes.{blocks_size}
+use Rattle.s390x_typed_steps.specs.Causes.{first_emit_cause, unless, declared_of, blocks_cause}
 
 -- a block as a tree, from a state of emission on
 abbrev pub tree_of : Emission → Block → Tree
@@ -32,11 +32,11 @@ constants_of f = map constant_of f.constants.items
 
 -- The finished code and its tables: the bytes of the steps and then the constants, where each block, constant and step starts, and the steps' traps and relocations.
 -- No instruction that is built has a site, so these tables are empty.
-pub record IsImage (ts : List Tree) (cs : List Constant) (f : MachBufferFinalized) : Type 0 where
+pub record IsFinishedCode (ts : List Tree) (cs : List Constant) (f : MachBufferFinalized) : Type 0 where
   pub bytes : f.bytes.items ≡ function_code (unlinked ts cs) ts ++ constant_bytes (blocks_size ts) cs
-  pub block_starts : f.block_starts.items ≡ block_places (place (function_steps ts)) 0 ts
+  pub block_starts : f.block_starts.items ≡ block_offsets (step_offset (function_steps ts)) 0 ts
   pub constant_starts : f.constant_starts.items ≡ constant_starts (blocks_size ts) cs
-  pub starts : f.starts.items ≡ step_places (place (function_steps ts)) 0 (function_steps ts)
+  pub starts : f.starts.items ≡ step_offsets (step_offset (function_steps ts)) 0 (function_steps ts)
   pub relocs : f.relocs.items ≡ function_relocs ts
   pub traps : f.traps.items ≡ function_traps ts
   pub call_sites : f.call_sites.items ≡ []
@@ -51,13 +51,13 @@ abbrev pub start_cause : Emission → Option EmitError
 start_cause e = unless (nat_eq e.nominal 0 && nat_eq e.outgoing 0) BadStackState
 
 -- the code with its constants ends below the limit
-abbrev pub length_cause : List Tree → List Constant → Option EmitError
-length_cause ts cs = unless (nat_lt (constants_end (blocks_size ts) cs) limit) LabelOutOfRange
+abbrev pub code_length_cause : List Tree → List Constant → Option EmitError
+code_length_cause ts cs = unless (nat_lt (constants_end (blocks_size ts) cs) limit) LabelOutOfRange
 
 -- The constants' alignments, the count of blocks and constants, the steps in order, the length.
 abbrev pub checked_cause : IsaFlags → List Tree → List Constant → Option EmitError
-checked_cause flags ts cs = first (new_cause (length ts) cs) (first (blocks_cause flags (declared_of ts cs) (length ts + length cs) ts) (length_cause ts cs))
+checked_cause flags ts cs = first_emit_cause (new_cause (length ts) cs) (first_emit_cause (blocks_cause flags (declared_of ts cs) (length ts + length cs) ts) (code_length_cause ts cs))
 
 -- The first cause of a function: the state, and then these.
 abbrev pub function_cause : IsaFlags → List Tree → List Constant → Emission → Option EmitError
-function_cause flags ts cs e = first (start_cause e) (checked_cause flags ts cs)
+function_cause flags ts cs e = first_emit_cause (start_cause e) (checked_cause flags ts cs)

@@ -2,35 +2,35 @@
 use Rattle.std.specs.Prelude.{◌≡◌, ℕ, ◌+◌, ◌<◌, ◌≤◌, length, Option, None, Result, IfErr, false}
 use Rattle.s390x_base.specs.declared.error.EmitError.{EmitError}
 use Rattle.s390x_base.specs.declared.error.EmitError.TheVariants.{NoMemory}
-use Rattle.s390x_buffer.specs.State.{State, limit}
+use Rattle.s390x_buffer.specs.State.{BufferState, limit}
 use Rattle.s390x_inst.specs.declared.state.IsaFlags.{IsaFlags}
-use Rattle.s390x_steps.specs.Tree.{Tree}
-use Rattle.s390x_steps.specs.Sizes.{tree_size}
-use Rattle.s390x_steps.specs.Causes.{declared_in, tree_cause}
+use Rattle.s390x_typed_steps.specs.Tree.{Tree}
+use Rattle.s390x_typed_steps.specs.Sizes.{tree_size}
+use Rattle.s390x_typed_steps.specs.Causes.{declared_in, tree_cause}
 
 -- the labels of a buffer come in this order: the blocks', the constants', those that were drawn
-abbrev pub HasRoom : State → Type 0
+abbrev pub HasRoom : BufferState → Type 0
 HasRoom s = s.block_count + length s.constants ≤ length s.labels
 
 -- What the check let pass goes into the buffer: no cause stands, the buffer bears no mark, its blocks and the label behind the innermost loop
 -- are among its labels, and so many more bytes end below the limit of code.
-pub record Passed (s : State) (after bytes : ℕ) (cause : Option EmitError) : Type 0 where
-  pub unmarked : s.failed ≡ false
+pub record Passed (s : BufferState) (after bytes : ℕ) (cause : Option EmitError) : Type 0 where
+  pub unpoisoned : s.failed ≡ false
   pub blocks : s.block_count ≤ length s.labels
   pub label : after < length s.labels
   pub short : length s.bytes + bytes < limit
   pub passed : cause ≡ None
 
 -- The same of members inside so many loops: a label behind the innermost loop is needed only where there is a loop.
-pub record MembersPassed (s : State) (after depth bytes : ℕ) (cause : Option EmitError) : Type 0 where
-  pub unmarked : s.failed ≡ false
+pub record MembersPassed (s : BufferState) (after depth bytes : ℕ) (cause : Option EmitError) : Type 0 where
+  pub unpoisoned : s.failed ≡ false
   pub blocks : s.block_count ≤ length s.labels
   pub label : 0 < depth → after < length s.labels
   pub short : length s.bytes + bytes < limit
   pub passed : cause ≡ None
 
 -- the same of a tree at a nominal size
-abbrev pub TreePassed : IsaFlags → State → (after nominal depth : ℕ) → Tree → Type 0
+abbrev pub TreePassed : IsaFlags → BufferState → (after nominal depth : ℕ) → Tree → Type 0
 TreePassed flags s after nominal depth t = MembersPassed s after depth (tree_size t) (tree_cause flags (declared_in s) (length s.labels) nominal depth t)
 
 -- an error is want of memory

@@ -3,16 +3,16 @@ use Rattle.std.specs.Prelude.{◌≡◌, ℕ, ◌+◌, ◌≤◌, min}
 use Rattle.s390x_emit_int.specs.declared.check.Totals.{Totals}
 
 -- code ends below 2 ^ 31
-abbrev pub limit : ℕ
-limit = 2147483648
+abbrev pub code_limit : ℕ
+code_limit = 2147483648
 
 -- at most 2 ^ 32 label numbers are in use, and the bytes are counted up to the limit
 pub record IsCounted (t : Totals) : Type 0 where
   pub labels : t.labels ≤ 4294967296
-  pub bytes : t.bytes ≤ limit
+  pub bytes : t.bytes ≤ code_limit
 
 -- after so many more labels and bytes
 pub record Adds (t r : Totals) (labels_more bytes_more : ℕ) : Type 0 where
   pub counted : IsCounted r
   pub labels : r.labels ≡ t.labels + labels_more
-  pub bytes : min limit r.bytes ≡ min limit (t.bytes + bytes_more)
+  pub bytes : min code_limit r.bytes ≡ min code_limit (t.bytes + bytes_more)

@@ -2,18 +2,18 @@
 ghost use Rattle.std.specs.Prelude.{◌≡◌, ◌&&◌, true, Some, IfSome};
 ghost use Rattle.std.specs.Option.{option_map};
 ghost use Rattle.s390x_base.specs.Regs.{number_of};
-ghost use Rattle.s390x_steps.specs.General.{is_general};
-ghost use Rattle.s390x_steps.specs.Opcodes.{alu_three, alu_two, cmp_two, unary_two, alu_halfword, alu_three_halfword, alu_signed_word, alu_unsigned_word, cmp_halfword, cmp_signed_word, cmp_unsigned_word};
-ghost use Rattle.s390x_steps.specs.Alone.{alone, unary_row, three_row, three_halfword_row, allocate_row};
-ghost use Rattle.s390x_emit_int.specs.Alone.{instruction_of, alone_of, opcode_of, group_of, encodes, takes_general};
-ghost use Rattle.s390x_emit_int.specs.declared.alone.Group.TheVariants.{Arithmetic};
+ghost use Rattle.s390x_typed_steps.specs.General.{is_general};
+ghost use Rattle.s390x_typed_steps.specs.Opcodes.{alu_three, alu_two, cmp_two, unary_two, alu_halfword, alu_three_halfword, alu_signed_word, alu_unsigned_word, cmp_halfword, cmp_signed_word, cmp_unsigned_word};
+ghost use Rattle.s390x_typed_steps.specs.SingleInstruction.{single_instruction, unary_row, three_row, three_halfword_row, allocate_row};
+ghost use Rattle.s390x_emit_int.specs.SingleInstruction.{instruction_of, single_of, opcode_of, group_of, encodes, takes_general};
+ghost use Rattle.s390x_emit_int.specs.declared.single_instruction.Group.TheVariants.{Arithmetic};
 
-use crate::alone::{
-    Alone, alone_with, bits_of_halfword, bits_of_unsigned, bits_of_word, is_reused, same_number,
-    three_general, two_general,
-};
 use crate::opcode::ShortOpcode;
 use crate::register_row::{RegisterRow, halfword_row, short, two_operands, two_row, word_row};
+use crate::single_instruction::{
+    CheckedRow, bits_of_halfword, bits_of_unsigned, bits_of_word, is_reused, same_number,
+    single_with, three_general, two_general,
+};
 use s390x_address::memory::general;
 use s390x_base::{Reg, gpr};
 use s390x_inst::{ALUOp, CmpOp, Inst, UnaryOp};
@@ -312,24 +312,24 @@ fn allocate_row(size: u32) -> Option<RegisterRow>
 
 // The machine instruction of arithmetic and comparisons.
 #[tactic(auto, using(crate::proofs::Encoding::alu_two_general, crate::proofs::Encoding::cmp_two_general, crate::proofs::Encoding::reused_encodes, crate::proofs::Encoding::reused_pair_encodes))]
-pub fn find_arithmetic(inst: &Inst) -> Option<Alone>
-    ensures row { group_of inst.now ≡ Arithmetic → option_map alone_of result ≡ alone inst.now }
-    ensures encodes { IfSome result (λ x. encodes x.fine (Some x.row) ≡ true) }
+pub fn find_arithmetic(inst: &Inst) -> Option<CheckedRow>
+    ensures row { group_of inst.now ≡ Arithmetic → option_map single_of result ≡ single_instruction inst.now }
+    ensures encodes { IfSome result (λ x. encodes x.operands_valid (Some x.row) ≡ true) }
 {
     match inst {
-        Inst::AluRRR { alu_op, rd, rn, rm } => alone_with(
+        Inst::AluRRR { alu_op, rd, rn, rm } => single_with(
             three_general(&rd.to_reg(), rn, rm),
             three_row(*alu_op, rd.to_reg(), *rn, *rm),
         ),
-        Inst::AluRR { alu_op, rd, ri, rm } => alone_with(
+        Inst::AluRR { alu_op, rd, ri, rm } => single_with(
             is_reused(&rd.to_reg(), ri) && general(rm),
             two_row(two_opcode(*alu_op), rd.to_reg(), *rm),
         ),
-        Inst::UnaryRR { op, rd, rn } => alone_with(
+        Inst::UnaryRR { op, rd, rn } => single_with(
             two_general(&rd.to_reg(), rn),
             unary_row(*op, rd.to_reg(), *rn),
         ),
-        Inst::CmpRR { op, rn, rm } => alone_with(
+        Inst::CmpRR { op, rn, rm } => single_with(
             two_general(rn, rm),
             two_row(compare_opcode(*op), *rn, *rm),
         ),
@@ -338,7 +338,7 @@ pub fn find_arithmetic(inst: &Inst) -> Option<Alone>
             rd,
             rn,
             imm,
-        } => alone_with(
+        } => single_with(
             two_general(&rd.to_reg(), rn),
             three_halfword_row(*alu_op, rd.to_reg(), *rn, bits_of_halfword(*imm)),
         ),
@@ -347,7 +347,7 @@ pub fn find_arithmetic(inst: &Inst) -> Option<Alone>
             rd,
             ri,
             imm,
-        } => alone_with(
+        } => single_with(
             is_reused(&rd.to_reg(), ri),
             halfword_row(
                 halfword_opcode(*alu_op),
@@ -360,7 +360,7 @@ pub fn find_arithmetic(inst: &Inst) -> Option<Alone>
             rd,
             ri,
             imm,
-        } => alone_with(
+        } => single_with(
             is_reused(&rd.to_reg(), ri),
             word_row(signed_word_opcode(*alu_op), rd.to_reg(), bits_of_word(*imm)),
         ),
@@ -369,7 +369,7 @@ pub fn find_arithmetic(inst: &Inst) -> Option<Alone>
             rd,
             ri,
             imm,
-        } => alone_with(
+        } => single_with(
             is_reused(&rd.to_reg(), ri),
             word_row(
                 unsigned_word_opcode(*alu_op),
@@ -377,15 +377,15 @@ pub fn find_arithmetic(inst: &Inst) -> Option<Alone>
                 bits_of_unsigned(*imm),
             ),
         ),
-        Inst::CmpRSImm16 { op, rn, imm } => alone_with(
+        Inst::CmpRSImm16 { op, rn, imm } => single_with(
             general(rn),
             halfword_row(compare_halfword_opcode(*op), *rn, bits_of_halfword(*imm)),
         ),
-        Inst::CmpRSImm32 { op, rn, imm } => alone_with(
+        Inst::CmpRSImm32 { op, rn, imm } => single_with(
             general(rn),
             word_row(compare_signed_word_opcode(*op), *rn, bits_of_word(*imm)),
         ),
-        Inst::CmpRUImm32 { op, rn, imm } => alone_with(
+        Inst::CmpRUImm32 { op, rn, imm } => single_with(
             general(rn),
             word_row(
                 compare_unsigned_word_opcode(*op),
@@ -393,7 +393,7 @@ pub fn find_arithmetic(inst: &Inst) -> Option<Alone>
                 bits_of_unsigned(*imm),
             ),
         ),
-        Inst::AllocateArgs { size } => alone_with(true, allocate_row(*size)),
+        Inst::AllocateArgs { size } => single_with(true, allocate_row(*size)),
         _ => None,
     }
 }

@@ -2,20 +2,20 @@
 ghost use Rattle.std.specs.Prelude.{◌≡◌, ◌+◌, ◌<◌, ◌&&◌, true, Some, IfSome, nat_lt, nat_eq};
 ghost use Rattle.std.specs.Option.{option_map};
 ghost use Rattle.s390x_base.specs.Regs.{number_of};
-ghost use Rattle.s390x_steps.specs.General.{is_general, is_even_pair, reuses, rotation, low_byte};
-ghost use Rattle.s390x_steps.specs.MachineInstruction.{rre, rrf_ab, rsy};
-ghost use Rattle.s390x_steps.specs.Opcodes.{of_one, alu_part, alu_half, shift_storage, rotate_then, rotate_then_test};
-ghost use Rattle.s390x_steps.specs.Alone.{alone, rotated_row};
-ghost use Rattle.s390x_emit_int.specs.Alone.{instruction_of, alone_of, opcode_of, group_of, encodes, takes_general};
-ghost use Rattle.s390x_emit_int.specs.declared.alone.Group.TheVariants.{Bits};
+ghost use Rattle.s390x_typed_steps.specs.General.{is_general, is_even_pair, reuses, rotation, low_byte};
+ghost use Rattle.s390x_typed_steps.specs.MachineInstruction.{rre, rrf_ab, rsy};
+ghost use Rattle.s390x_typed_steps.specs.Opcodes.{of_one, alu_part, alu_half, shift_opcode, rotate_then, rotate_then_test};
+ghost use Rattle.s390x_typed_steps.specs.SingleInstruction.{single_instruction, rotated_row};
+ghost use Rattle.s390x_emit_int.specs.SingleInstruction.{instruction_of, single_of, opcode_of, group_of, encodes, takes_general};
+ghost use Rattle.s390x_emit_int.specs.declared.single_instruction.Group.TheVariants.{Bits};
 
-use crate::alone::{
-    Alone, alone_with, bits_of_unsigned, bits_of_unsigned_halfword, is_reused, three_general,
-    two_general,
-};
 use crate::moves::{of_four, of_two};
 use crate::opcode::ShortOpcode;
 use crate::register_row::{RegisterRow, halfword_row, short, word_row};
+use crate::single_instruction::{
+    CheckedRow, bits_of_unsigned, bits_of_unsigned_halfword, is_reused, single_with, three_general,
+    two_general,
+};
 use s390x_address::memory::general;
 use s390x_base::{Reg, WritableRegPair, valid_regpair};
 use s390x_inst::{ALUOp, Inst, RxSBGOp, ShiftOp};
@@ -56,7 +56,7 @@ fn half_opcode(op: ALUOp, shift: u8) -> Option<ShortOpcode>
 }
 
 fn shift_opcode(op: ShiftOp) -> u16
-    ensures { result ≡ shift_storage op }
+    ensures { result ≡ shift_opcode op }
 {
     match op {
         ShiftOp::RotL32 => 0xeb1d,
@@ -156,7 +156,7 @@ fn tested_row(op: RxSBGOp, rd: Reg, rn: Reg, bits: Selection) -> Option<Register
 #[tactic(auto, using(crate::proofs::Encoding::three_encode))]
 fn shift_row(op: ShiftOp, rd: Reg, rn: Reg, amount: u8, register: Reg) -> Option<RegisterRow>
     ensures encodes { encodes (is_general rd && is_general rn && is_general register) result ≡ true }
-    ensures row { option_map instruction_of result ≡ Some (rsy (shift_storage op) (number_of rd) (number_of rn) (number_of register) (low_byte amount)) }
+    ensures row { option_map instruction_of result ≡ Some (rsy (shift_opcode op) (number_of rd) (number_of rn) (number_of register) (low_byte amount)) }
 {
     Some(RegisterRow::Rsy {
         opcode: shift_opcode(op),
@@ -205,9 +205,9 @@ pub fn pair_row(opcode: u16, pair: Reg, rn: Reg) -> Option<RegisterRow>
 
 #[tactic(auto, using(crate::proofs::Encoding::reused_encodes, crate::proofs::Encoding::reused_pair_encodes, crate::proofs::Encoding::even_encodes, crate::proofs::Encoding::even_two_encodes, crate::proofs::Encoding::even_reused_encodes))]
 /// The machine instruction of a shift, a rotation, an operator on part of a register or one on a pair.
-pub fn find_bits(inst: &Inst) -> Option<Alone>
-    ensures row { group_of inst.now ≡ Bits → option_map alone_of result ≡ alone inst.now }
-    ensures encodes { IfSome result (λ x. encodes x.fine (Some x.row) ≡ true) }
+pub fn find_bits(inst: &Inst) -> Option<CheckedRow>
+    ensures row { group_of inst.now ≡ Bits → option_map single_of result ≡ single_instruction inst.now }
+    ensures encodes { IfSome result (λ x. encodes x.operands_valid (Some x.row) ≡ true) }
 {
     match inst {
         Inst::AluRUImm16Shifted {
@@ -215,7 +215,7 @@ pub fn find_bits(inst: &Inst) -> Option<Alone>
             rd,
             ri,
             imm,
-        } => alone_with(
+        } => single_with(
             is_reused(&rd.to_reg(), ri),
             halfword_row(
                 part_opcode(*alu_op, imm.shift),
@@ -228,7 +228,7 @@ pub fn find_bits(inst: &Inst) -> Option<Alone>
             rd,
             ri,
             imm,
-        } => alone_with(
+        } => single_with(
             is_reused(&rd.to_reg(), ri),
             word_row(
                 half_opcode(*alu_op, imm.shift),
@@ -242,7 +242,7 @@ pub fn find_bits(inst: &Inst) -> Option<Alone>
             rn,
             shift_imm,
             shift_reg,
-        } => alone_with(
+        } => single_with(
             three_general(&rd.to_reg(), rn, shift_reg),
             shift_row(*shift_op, rd.to_reg(), *rn, *shift_imm, *shift_reg),
         ),
@@ -254,7 +254,7 @@ pub fn find_bits(inst: &Inst) -> Option<Alone>
             start_bit,
             end_bit,
             rotate_amt,
-        } => alone_with(
+        } => single_with(
             is_reused(&rd.to_reg(), ri) && general(rn),
             rotated_row(
                 rotate_opcode(*op),
@@ -274,7 +274,7 @@ pub fn find_bits(inst: &Inst) -> Option<Alone>
             start_bit,
             end_bit,
             rotate_amt,
-        } => alone_with(
+        } => single_with(
             two_general(rd, rn),
             tested_row(
                 *op,
@@ -287,15 +287,15 @@ pub fn find_bits(inst: &Inst) -> Option<Alone>
                 },
             ),
         ),
-        Inst::SMulWide { rd, rn, rm } => alone_with(
+        Inst::SMulWide { rd, rn, rm } => single_with(
             is_even_pair(rd) && general(rn) && general(rm),
             product_row(rd.hi.to_reg(), *rn, *rm),
         ),
-        Inst::UMulWide { rd, ri, rn } => alone_with(
+        Inst::UMulWide { rd, ri, rn } => single_with(
             is_even_pair(rd) && is_reused(&rd.lo.to_reg(), ri) && general(rn),
             pair_row(0xb986, rd.hi.to_reg(), *rn),
         ),
-        Inst::Flogr { rd, rn } => alone_with(
+        Inst::Flogr { rd, rn } => single_with(
             is_even_pair(rd) && general(rn),
             pair_row(0xb983, rd.hi.to_reg(), *rn),
         ),

@@ -1,15 +1,15 @@
 //! Why an instruction is refused.
 ghost use Rattle.std.specs.Prelude.{◌≡◌, ◌≤◌, ◌&&◌, None, Some};
 ghost use Rattle.s390x_base.specs.declared.error.EmitError.TheVariants.{BadRegister, UnboundLabel};
-ghost use Rattle.s390x_steps.specs.Causes.{first, unless, declared_in, label_cause, labels_cause, cause_or, memory_cause_or, branch_cause, instruction_cause, stack_cause, table_cause};
-ghost use Rattle.s390x_steps.specs.Memory.{memory};
-ghost use Rattle.s390x_steps.specs.Resolved.{resolved_instruction};
-ghost use Rattle.s390x_steps.specs.Alone.{alone};
-ghost use Rattle.s390x_steps.specs.General.{is_general, is_nonzero, is_scratch};
+ghost use Rattle.s390x_typed_steps.specs.Causes.{first_emit_cause, unless, declared_in, target_label_cause, labels_cause, cause_or, memory_cause_or, branch_cause, instruction_cause, stack_cause, table_cause};
+ghost use Rattle.s390x_typed_steps.specs.Memory.{memory};
+ghost use Rattle.s390x_typed_steps.specs.Resolved.{resolved_instruction};
+ghost use Rattle.s390x_typed_steps.specs.SingleInstruction.{single_instruction};
+ghost use Rattle.s390x_typed_steps.specs.General.{is_general, is_nonzero, is_scratch};
 
-use crate::alone::find_alone;
 use crate::memory::find_memory;
-use crate::stack::stack_refusal;
+use crate::single_instruction::find_single_instruction;
+use crate::stack::stack_cause;
 use s390x_address::memory::general;
 use s390x_base::{EmitError, MachLabel, Reg, RegClass};
 use s390x_buffer::MachBuffer;
@@ -36,60 +36,60 @@ fn is_scratch(r: Reg) -> bool
 }
 
 /// None where a test holds, else this error.
-pub fn refusal_unless(holds: bool, error: EmitError) -> Option<EmitError>
+pub fn cause_unless(holds: bool, error: EmitError) -> Option<EmitError>
     ensures { result ≡ unless holds error }
 {
     if holds { None } else { Some(error) }
 }
 
-fn label_refusal(blocks: u32, label: MachLabel) -> Option<EmitError>
-    ensures { result ≡ label_cause blocks label }
+fn label_cause(blocks: u32, label: MachLabel) -> Option<EmitError>
+    ensures { result ≡ target_label_cause blocks label }
 {
-    refusal_unless(label.0 < blocks, EmitError::UnboundLabel)
+    cause_unless(label.0 < blocks, EmitError::UnboundLabel)
 }
 
-fn labels_refusal(blocks: u32, labels: &[MachLabel]) -> Option<EmitError>
+fn labels_cause(blocks: u32, labels: &[MachLabel]) -> Option<EmitError>
     ensures { result ≡ labels_cause blocks labels.now }
 {
     for label in labels {
-        let refusal = label_refusal(blocks, *label);
-        if refusal.is_some() {
-            return refusal;
+        let cause = label_cause(blocks, *label);
+        if cause.is_some() {
+            return cause;
         }
     }
     None
 }
 
-fn two_labels_refusal(blocks: u32, taken: MachLabel, not_taken: MachLabel) -> Option<EmitError>
-    ensures { result ≡ first (label_cause blocks taken) (label_cause blocks not_taken) }
+fn two_labels_cause(blocks: u32, taken: MachLabel, not_taken: MachLabel) -> Option<EmitError>
+    ensures { result ≡ first_emit_cause (target_label_cause blocks taken) (target_label_cause blocks not_taken) }
 {
-    match label_refusal(blocks, taken) {
+    match label_cause(blocks, taken) {
         Some(error) => Some(error),
-        None => label_refusal(blocks, not_taken),
+        None => label_cause(blocks, not_taken),
     }
 }
 
-fn address_refusal(blocks: u32, dst: &Reg, label: MachLabel) -> Option<EmitError>
-    ensures { result ≡ first (unless (is_general dst.now) BadRegister) (label_cause blocks label) }
+fn address_cause(blocks: u32, dst: &Reg, label: MachLabel) -> Option<EmitError>
+    ensures { result ≡ first_emit_cause (unless (is_general dst.now) BadRegister) (target_label_cause blocks label) }
 {
     if general(dst) {
-        label_refusal(blocks, label)
+        label_cause(blocks, label)
     } else {
         Some(EmitError::BadRegister)
     }
 }
 
-fn indirect_refusal(blocks: u32, rn: Reg, targets: &[MachLabel]) -> Option<EmitError>
-    ensures { result ≡ first (unless (is_general rn && is_nonzero rn) BadRegister) (labels_cause blocks targets.now) }
+fn indirect_cause(blocks: u32, rn: Reg, targets: &[MachLabel]) -> Option<EmitError>
+    ensures { result ≡ first_emit_cause (unless (is_general rn && is_nonzero rn) BadRegister) (labels_cause blocks targets.now) }
 {
     if branchable(rn) {
-        labels_refusal(blocks, targets)
+        labels_cause(blocks, targets)
     } else {
         Some(EmitError::BadRegister)
     }
 }
 
-fn table_refusal(
+fn table_cause(
     blocks: u32,
     index: &Reg,
     other: MachLabel,
@@ -103,32 +103,32 @@ fn table_refusal(
     if is_scratch(*index) {
         return Some(EmitError::ScratchConflict);
     }
-    match label_refusal(blocks, other) {
+    match label_cause(blocks, other) {
         Some(error) => Some(error),
-        None => labels_refusal(blocks, targets),
+        None => labels_cause(blocks, targets),
     }
 }
 
 // The first cause of an instruction that names a place, goes elsewhere or ends the run.
-fn branch_refusal(blocks: u32, depth: u32, inst: &Inst) -> Option<EmitError>
+fn branch_cause(blocks: u32, depth: u32, inst: &Inst) -> Option<EmitError>
     ensures { result ≡ branch_cause blocks depth inst.now }
 {
     match inst {
-        Inst::Jump { dest } => label_refusal(blocks, *dest),
+        Inst::Jump { dest } => label_cause(blocks, *dest),
         Inst::CondBr {
             taken,
             not_taken,
             ..
-        } => two_labels_refusal(blocks, *taken, *not_taken),
-        Inst::IndirectBr { rn, targets } => indirect_refusal(blocks, *rn, targets),
-        Inst::Ret { link } => refusal_unless(branchable(*link), EmitError::BadRegister),
+        } => two_labels_cause(blocks, *taken, *not_taken),
+        Inst::IndirectBr { rn, targets } => indirect_cause(blocks, *rn, targets),
+        Inst::Ret { link } => cause_unless(branchable(*link), EmitError::BadRegister),
         Inst::JTSequence {
             ridx,
             default,
             targets,
             ..
-        } => table_refusal(blocks, ridx, *default, targets),
-        Inst::CondBreak { .. } => refusal_unless(0 < depth, EmitError::BreakOutsideLoop),
+        } => table_cause(blocks, ridx, *default, targets),
+        Inst::CondBreak { .. } => cause_unless(0 < depth, EmitError::BreakOutsideLoop),
         Inst::Nop0
         | Inst::Trap { .. }
         | Inst::TrapIf { .. }
@@ -137,53 +137,48 @@ fn branch_refusal(blocks: u32, depth: u32, inst: &Inst) -> Option<EmitError>
         | Inst::Rets { .. }
         | Inst::DummyUse { .. }
         | Inst::SequencePoint => None,
-        Inst::LabelAddress { dst, label } => address_refusal(blocks, &dst.to_reg(), *label),
+        Inst::LabelAddress { dst, label } => address_cause(blocks, &dst.to_reg(), *label),
         Inst::LoadSymbolReloc { rd, .. } => {
-            refusal_unless(general(&rd.to_reg()), EmitError::BadRegister)
+            cause_unless(general(&rd.to_reg()), EmitError::BadRegister)
         }
         _ => Some(EmitError::BadOperator),
     }
 }
 
 // The first cause of an instruction that isn't one machine instruction.
-fn memory_refusal(
-    state: &EmitState,
-    sink: &MachBuffer,
-    depth: u32,
-    inst: &Inst,
-) -> Option<EmitError>
+fn memory_cause(state: &EmitState, sink: &MachBuffer, depth: u32, inst: &Inst) -> Option<EmitError>
     ensures { result ≡ memory_cause_or (declared_in sink.now) (memory (resolved_instruction state.now inst.now)) (branch_cause sink.now.block_count depth inst.now) }
 {
     match find_memory(inst) {
-        Some(found) => found.refusal(sink, state),
-        None => branch_refusal(sink.block_count(), depth, inst),
+        Some(found) => found.cause(sink, state),
+        None => branch_cause(sink.block_count(), depth, inst),
     }
 }
 
 // The first cause of an instruction whose facility is there.
 #[tactic(auto, using(crate::proofs::Single::some_other, crate::proofs::Single::none_other))]
-fn other_refusal(state: &EmitState, sink: &MachBuffer, depth: u32, inst: &Inst) -> Option<EmitError>
-    ensures { result ≡ cause_or (alone inst.now) (memory_cause_or (declared_in sink.now) (memory (resolved_instruction state.now inst.now)) (branch_cause sink.now.block_count depth inst.now)) }
+fn other_cause(state: &EmitState, sink: &MachBuffer, depth: u32, inst: &Inst) -> Option<EmitError>
+    ensures { result ≡ cause_or (single_instruction inst.now) (memory_cause_or (declared_in sink.now) (memory (resolved_instruction state.now inst.now)) (branch_cause sink.now.block_count depth inst.now)) }
 {
-    match find_alone(inst) {
-        Some(found) => refusal_unless(found.fine, EmitError::BadRegister),
-        None => memory_refusal(state, sink, depth, inst),
+    match find_single_instruction(inst) {
+        Some(found) => cause_unless(found.operands_valid, EmitError::BadRegister),
+        None => memory_cause(state, sink, depth, inst),
     }
 }
 
 // The same, behind the cause by the stack sizes.
-fn later_refusal(state: &EmitState, sink: &MachBuffer, depth: u32, inst: &Inst) -> Option<EmitError>
-    ensures { result ≡ first (stack_cause state.now.nominal depth inst.now) (cause_or (alone inst.now) (memory_cause_or (declared_in sink.now) (memory (resolved_instruction state.now inst.now)) (branch_cause sink.now.block_count depth inst.now))) }
+fn later_cause(state: &EmitState, sink: &MachBuffer, depth: u32, inst: &Inst) -> Option<EmitError>
+    ensures { result ≡ first_emit_cause (stack_cause state.now.nominal depth inst.now) (cause_or (single_instruction inst.now) (memory_cause_or (declared_in sink.now) (memory (resolved_instruction state.now inst.now)) (branch_cause sink.now.block_count depth inst.now))) }
 {
-    match stack_refusal(state, depth, inst) {
+    match stack_cause(state, depth, inst) {
         Some(error) => Some(error),
-        None => other_refusal(state, sink, depth, inst),
+        None => other_cause(state, sink, depth, inst),
     }
 }
 
 /// The first cause of an instruction that is no `Loop` in a state of emission, inside so many loops, where the machine has these facilities and
 /// the buffer tells the blocks and the constants.
-pub fn instruction_refusal(
+pub fn instruction_cause(
     flags: IsaFlags,
     state: &EmitState,
     sink: &MachBuffer,
@@ -193,7 +188,7 @@ pub fn instruction_refusal(
     ensures { result ≡ instruction_cause flags (declared_in sink.now) state.now.nominal depth (resolved_instruction state.now inst.now) }
 {
     if flags.has(inst.available_in_isa()) {
-        later_refusal(state, sink, depth, inst)
+        later_cause(state, sink, depth, inst)
     } else {
         Some(EmitError::MissingFacility)
     }

@@ -2,20 +2,20 @@
 //! refused for it while an earlier cause may follow.
 ghost use Rattle.std.specs.Prelude.{◌≡◌, ℕ, ◌+◌, ◌≤◌, ◌<◌, min, None, Some, MatchResult, ◌*◌};
 ghost use Rattle.s390x_inst.specs.declared.state.IsaFlags.{IsaFlags};
-ghost use Rattle.s390x_steps.specs.Memory.{memory};
-ghost use Rattle.s390x_steps.specs.Resolved.{resolved_instruction};
-ghost use Rattle.s390x_steps.specs.Tree.{empty, graft, tree};
-ghost use Rattle.s390x_steps.specs.Sizes.{instruction_size, tree_size};
-ghost use Rattle.s390x_steps.specs.Causes.{Declared, first, declared_in, draws, nesting_cause, numbers_cause, memory_cause_or, instruction_cause, tree_cause, block_cause, nominal_behind, instruction_draws, leaf_cause};
-ghost use Rattle.s390x_steps.specs.Ranges.{InRange, AllInRange, IsMask};
+ghost use Rattle.s390x_typed_steps.specs.Memory.{memory};
+ghost use Rattle.s390x_typed_steps.specs.Resolved.{resolved_instruction};
+ghost use Rattle.s390x_typed_steps.specs.Tree.{empty, prepend, tree};
+ghost use Rattle.s390x_typed_steps.specs.Sizes.{instruction_size, tree_size};
+ghost use Rattle.s390x_typed_steps.specs.Causes.{Declared, first_emit_cause, declared_in, fresh_labels, nesting_cause, numbers_cause, memory_cause_or, instruction_cause, tree_cause, block_cause, nominal_behind, instruction_fresh_labels, leaf_cause};
+ghost use Rattle.s390x_typed_steps.specs.Ranges.{InRange, AllInRange, IsConditionMask};
 ghost use Rattle.s390x_emit_int.specs.Emission.{branch_size, memory_size_or};
 ghost use Rattle.s390x_emit_int.specs.Function.{tree_of};
-ghost use Rattle.s390x_emit_int.specs.Totals.{IsCounted, Adds, limit};
+ghost use Rattle.s390x_emit_int.specs.Totals.{IsCounted, Adds, code_limit};
 
-use crate::alone::find_alone;
-use crate::causes::instruction_refusal;
+use crate::causes::instruction_cause;
 use crate::memory::find_memory;
-use crate::stack::{advance, end_refusal};
+use crate::single_instruction::find_single_instruction;
+use crate::stack::{advance, end_cause};
 use s390x_address::emitters::LIMIT;
 use s390x_base::EmitError;
 use s390x_buffer::MachBuffer;
@@ -30,8 +30,8 @@ pub struct Totals {
 
 // The size of a jump by a table with so many words, counted up to the limit of code.
 fn table_size(count: usize) -> u64
-    ensures value { min limit result ≡ min limit (20 + 4 * count) }
-    ensures few { result ≤ limit }
+    ensures value { min code_limit result ≡ min code_limit (20 + 4 * count) }
+    ensures few { result ≤ code_limit }
 {
     if count < 536870912 {
         let size = 20 + 4 * count as u64;
@@ -44,8 +44,8 @@ fn table_size(count: usize) -> u64
 // The size of an instruction that names a place, goes elsewhere or ends the run, counted up to the limit of code.
 #[tactic(auto, unfolding(s390x_format::specs::Formats::length_of))]
 fn branch_size(inst: &Inst) -> u64
-    ensures value { min limit result ≡ min limit (branch_size inst.now) }
-    ensures few { result ≤ limit }
+    ensures value { min code_limit result ≡ min code_limit (branch_size inst.now) }
+    ensures few { result ≤ code_limit }
 {
     match inst {
         Inst::Jump { .. }
@@ -62,8 +62,8 @@ fn branch_size(inst: &Inst) -> u64
 
 // The size of an instruction that isn't one machine instruction, counted up to the limit of code.
 fn other_size(state: &EmitState, inst: &Inst) -> u64
-    ensures value { (D : Declared) → memory_cause_or D (memory (resolved_instruction state.now inst.now)) None ≡ None → min limit result ≡ min limit (memory_size_or (memory (resolved_instruction state.now inst.now)) (branch_size inst.now)) }
-    ensures few { result ≤ limit }
+    ensures value { (D : Declared) → memory_cause_or D (memory (resolved_instruction state.now inst.now)) None ≡ None → min code_limit result ≡ min code_limit (memory_size_or (memory (resolved_instruction state.now inst.now)) (branch_size inst.now)) }
+    ensures few { result ≤ code_limit }
 {
     match find_memory(inst) {
         Some(found) => found.size(state),
@@ -73,18 +73,18 @@ fn other_size(state: &EmitState, inst: &Inst) -> u64
 
 // The size of an instruction that no cause refuses, counted up to the limit of code.
 fn size_of(state: &EmitState, inst: &Inst) -> u64
-    ensures value { (flags : IsaFlags) (D : Declared) (nominal depth : ℕ) → instruction_cause flags D nominal depth (resolved_instruction state.now inst.now) ≡ None → min limit result ≡ min limit (instruction_size (resolved_instruction state.now inst.now)) }
-    ensures few { result ≤ limit }
+    ensures value { (flags : IsaFlags) (D : Declared) (nominal depth : ℕ) → instruction_cause flags D nominal depth (resolved_instruction state.now inst.now) ≡ None → min code_limit result ≡ min code_limit (instruction_size (resolved_instruction state.now inst.now)) }
+    ensures few { result ≤ code_limit }
 {
-    match find_alone(inst) {
+    match find_single_instruction(inst) {
         Some(found) => found.row.size(),
         None => other_size(state, inst),
     }
 }
 
 // How many labels an instruction draws that is no `Loop`.
-fn draws(inst: &Inst) -> u64
-    ensures value { result ≡ instruction_draws inst.now }
+fn fresh_labels(inst: &Inst) -> u64
+    ensures value { result ≡ instruction_fresh_labels inst.now }
     ensures few { result ≤ 2 }
 {
     match inst {
@@ -97,7 +97,7 @@ fn draws(inst: &Inst) -> u64
 fn add(t: Totals, labels: u64, bytes: u64) -> Result<Totals, EmitError>
     requires counted { IsCounted t }
     requires few { labels ≤ 2 }
-    requires short { bytes ≤ limit }
+    requires short { bytes ≤ code_limit }
     ensures { MatchResult result (λ r. (numbers_cause t.labels labels ≡ None) × Adds t r labels bytes) (λ e. numbers_cause t.labels labels ≡ Some e) }
 {
     if t.labels + labels > 4294967296 {
@@ -126,18 +126,18 @@ fn check_leaf(
     inst: &Inst,
 ) -> Result<Totals, EmitError>
     requires { IsCounted t }
-    ensures { let j = resolved_instruction state.now inst.now in let cause = leaf_cause flags (declared_in sink.now) t.labels state.now.nominal depth j in MatchResult result (λ r. (cause ≡ None) × Adds t r (instruction_draws j) (instruction_size j)) (λ e. cause ≡ Some e) }
+    ensures { let j = resolved_instruction state.now inst.now in let cause = leaf_cause flags (declared_in sink.now) t.labels state.now.nominal depth j in MatchResult result (λ r. (cause ≡ None) × Adds t r (instruction_fresh_labels j) (instruction_size j)) (λ e. cause ≡ Some e) }
 {
-    match instruction_refusal(flags, state, sink, depth, inst) {
+    match instruction_cause(flags, state, sink, depth, inst) {
         Some(error) => Err(error),
-        None => add(t, draws(inst), size_of(state, inst)),
+        None => add(t, fresh_labels(inst), size_of(state, inst)),
     }
 }
 
 // A loop opens: its nesting, and its two labels.
 fn open_loop(t: Totals, depth: u32) -> Result<Totals, EmitError>
     requires { IsCounted t }
-    ensures { MatchResult result (λ r. (first (nesting_cause depth) (numbers_cause t.labels 2) ≡ None) × Adds t r 2 0 × (depth < 8)) (λ e. first (nesting_cause depth) (numbers_cause t.labels 2) ≡ Some e) }
+    ensures { MatchResult result (λ r. (first_emit_cause (nesting_cause depth) (numbers_cause t.labels 2) ≡ None) × Adds t r 2 0 × (depth < 8)) (λ e. first_emit_cause (nesting_cause depth) (numbers_cause t.labels 2) ≡ Some e) }
 {
     if depth < 8 {
         add(t, 2, 0)
@@ -158,7 +158,7 @@ pub fn check_members(
     insts: &[Inst],
 ) -> Result<Totals, EmitError>
     requires { IsCounted t }
-    ensures { let members = tree state.old insts.now in let cause = tree_cause flags (declared_in sink.now) t.labels state.old.nominal depth members in MatchResult result (λ r. (cause ≡ None) × Adds t r (draws members) (tree_size members) × (state.new.nominal ≡ nominal_behind state.old.nominal members)) (λ e. cause ≡ Some e) }
+    ensures { let members = tree state.old insts.now in let cause = tree_cause flags (declared_in sink.now) t.labels state.old.nominal depth members in MatchResult result (λ r. (cause ≡ None) × Adds t r (fresh_labels members) (tree_size members) × (state.new.nominal ≡ nominal_behind state.old.nominal members)) (λ e. cause ≡ Some e) }
 {
     let mut sum = t;
     for inst in insts {
@@ -179,7 +179,7 @@ pub fn check_inst(
     inst: &Inst,
 ) -> Result<Totals, EmitError>
     requires { IsCounted t }
-    ensures { MatchResult result (λ r. (tree_cause flags (declared_in sink.now) t.labels state.now.nominal depth (graft state.now inst.now empty) ≡ None) × Adds t r (draws (graft state.now inst.now empty)) (tree_size (graft state.now inst.now empty))) (λ e. tree_cause flags (declared_in sink.now) t.labels state.now.nominal depth (graft state.now inst.now empty) ≡ Some e) }
+    ensures { MatchResult result (λ r. (tree_cause flags (declared_in sink.now) t.labels state.now.nominal depth (prepend state.now inst.now empty) ≡ None) × Adds t r (fresh_labels (prepend state.now inst.now empty)) (tree_size (prepend state.now inst.now empty))) (λ e. tree_cause flags (declared_in sink.now) t.labels state.now.nominal depth (prepend state.now inst.now empty) ≡ Some e) }
 {
     match inst {
         Inst::Loop { body, .. } => check_loop(flags, state, sink, t, depth, body),
@@ -197,7 +197,7 @@ fn check_loop(
     body: &[Inst],
 ) -> Result<Totals, EmitError>
     requires { IsCounted t }
-    ensures { let members = tree state.now body.now in let cause = first (first (nesting_cause depth) (numbers_cause t.labels 2)) (tree_cause flags (declared_in sink.now) (t.labels + 2) state.now.nominal (depth + 1) members) in MatchResult result (λ r. (cause ≡ None) × Adds t r (2 + draws members) (tree_size members + 6)) (λ e. cause ≡ Some e) }
+    ensures { let members = tree state.now body.now in let cause = first_emit_cause (first_emit_cause (nesting_cause depth) (numbers_cause t.labels 2)) (tree_cause flags (declared_in sink.now) (t.labels + 2) state.now.nominal (depth + 1) members) in MatchResult result (λ r. (cause ≡ None) × Adds t r (2 + fresh_labels members) (tree_size members + 6)) (λ e. cause ≡ Some e) }
 {
     let opened = open_loop(t, depth)?;
     let mut inside = *state;
@@ -215,11 +215,11 @@ pub fn check_block(
 ) -> Result<Totals, EmitError>
     requires counted { IsCounted t }
     requires start { state.now.nominal ≡ 0 }
-    ensures { MatchResult result (λ r. (block_cause flags (declared_in sink.now) t.labels (tree_of state.now block.now) ≡ None) × Adds t r (draws (tree_of state.now block.now)) (tree_size (tree_of state.now block.now))) (λ e. block_cause flags (declared_in sink.now) t.labels (tree_of state.now block.now) ≡ Some e) }
+    ensures { MatchResult result (λ r. (block_cause flags (declared_in sink.now) t.labels (tree_of state.now block.now) ≡ None) × Adds t r (fresh_labels (tree_of state.now block.now)) (tree_size (tree_of state.now block.now))) (λ e. block_cause flags (declared_in sink.now) t.labels (tree_of state.now block.now) ≡ Some e) }
 {
     let mut behind = *state;
     let sum = check_members(flags, &mut behind, sink, t, 0, &block.insts)?;
-    match end_refusal(&behind) {
+    match end_cause(&behind) {
         Some(error) => Err(error),
         None => Ok(sum),
     }

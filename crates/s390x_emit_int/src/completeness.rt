@@ -1,14 +1,14 @@
 //! What the check of causes lets pass can be finished.
 ghost use Rattle.std.specs.Prelude.{◌≡◌, ◌+◌, List, None, length};
-ghost use Rattle.s390x_buffer.specs.State.{Constant, fresh};
+ghost use Rattle.s390x_buffer.specs.State.{Constant, fresh_buffer};
 ghost use Rattle.s390x_buffer.specs.Finish.{finish_cause};
 ghost use Rattle.s390x_inst.specs.declared.state.IsaFlags.{IsaFlags};
-ghost use Rattle.s390x_steps.specs.Tree.{Tree};
-ghost use Rattle.s390x_emit_int.specs.Emission.{function_pieces};
+ghost use Rattle.s390x_typed_steps.specs.Tree.{Tree};
+ghost use Rattle.s390x_emit_int.specs.Emission.{function_fragments};
 ghost use Rattle.s390x_emit_int.specs.Function.{checked_cause};
-ghost use Rattle.s390x_emit_int.specs.Pieces.{run};
+ghost use Rattle.s390x_emit_int.specs.Fragments.{apply_all};
 
 /// Where the check finds no cause, none keeps the buffer that emission makes from being finished.
 pub fn checked_functions_finish()
-    ensures { (flags : IsaFlags) (ts : List Tree) (cs : List Constant) → checked_cause flags ts cs ≡ None → finish_cause (run (fresh (length ts) cs) (function_pieces (length ts + length cs) 0 ts)) ≡ None }
+    ensures { (flags : IsaFlags) (ts : List Tree) (cs : List Constant) → checked_cause flags ts cs ≡ None → finish_cause (apply_all (fresh_buffer (length ts) cs) (function_fragments (length ts + length cs) 0 ts)) ≡ None }
 {}

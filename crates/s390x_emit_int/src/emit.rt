@@ -1,17 +1,17 @@
 //! Emitting one instruction, or bytes, into a buffer of the caller's.
-#![tactic(auto, using(s390x_buffer::proofs::Keeping::keeps_on, s390x_buffer::proofs::Keeping::keeps_same))]
+#![tactic(auto, using(s390x_buffer::proofs::Keeping::extends_on, s390x_buffer::proofs::Keeping::extends_same))]
 
 ghost use Rattle.std.specs.Prelude.{◌≡◌, ◌+◌, ◌-◌, ◌<◌, ◌≤◌, ◌⊎◌, length, MatchResult, IsTrue, OnErr, OnOk, None, Some, true};
 ghost use Rattle.s390x_base.specs.declared.error.EmitError.TheVariants.{NoMemory};
-ghost use Rattle.s390x_buffer.specs.Keeps.{Keeps};
-ghost use Rattle.s390x_buffer.specs.State.{Blames, marked, put_cause};
-ghost use Rattle.s390x_steps.specs.Tree.{empty, graft};
-ghost use Rattle.s390x_emit_int.specs.Emission.{own_pieces};
+ghost use Rattle.s390x_buffer.specs.Extends.{Extends};
+ghost use Rattle.s390x_buffer.specs.State.{FailsWith, poisoned, put_cause};
+ghost use Rattle.s390x_typed_steps.specs.Tree.{empty, prepend};
+ghost use Rattle.s390x_emit_int.specs.Emission.{own_fragments};
 ghost use Rattle.s390x_emit_int.specs.Instruction.{emit_cause, is_short};
-ghost use Rattle.s390x_emit_int.specs.Pieces.{Put, PutTrapping, apply, run};
+ghost use Rattle.s390x_emit_int.specs.Fragments.{Put, PutTrapping, apply, apply_all};
 ghost use Rattle.s390x_emit_int.specs.Room.{HasRoom, TreePassed, LacksMemory};
 ghost use Rattle.s390x_inst.specs.declared.state.IsaFlags.{IsaFlags};
-ghost use Rattle.s390x_steps.specs.Stack.{state_after};
+ghost use Rattle.s390x_typed_steps.specs.Stack.{state_after};
 
 use crate::check::{Totals, check_inst};
 use crate::stack::advance;
@@ -25,14 +25,14 @@ use std::alloc::Global;
 /// Appends bytes. Refused by `Failed` where the buffer bears the mark, and by `LabelOutOfRange` where the length would reach 2^31;
 /// the buffer is marked then (cranelift-codegen, `emit.rs`, `put`).
 pub fn put(sink: &mut MachBuffer, enc: &[u8]) -> Result<(), EmitError>
-    ensures answer { MatchResult result (λ _. (put_cause sink.old (length enc.now) ≡ None) × (sink.new ≡ apply sink.old (Put enc.now))) (λ e. Blames (put_cause sink.old (length enc.now)) e × (sink.new ≡ marked sink.old)) }
-    ensures kept { Keeps sink.old sink.new }
+    ensures answer { MatchResult result (λ _. (put_cause sink.old (length enc.now) ≡ None) × (sink.new ≡ apply sink.old (Put enc.now))) (λ e. FailsWith (put_cause sink.old (length enc.now)) e × (sink.new ≡ poisoned sink.old)) }
+    ensures kept { Extends sink.old sink.new }
 {
     sink.put(enc)
 }
 
 // Why so many bytes can't be appended.
-fn put_refusal(sink: &MachBuffer, size: usize) -> Option<EmitError>
+fn put_cause(sink: &MachBuffer, size: usize) -> Option<EmitError>
     ensures { result ≡ put_cause sink.now size }
 {
     if sink.is_failed() {
@@ -49,7 +49,7 @@ fn put_trapped(sink: &mut MachBuffer, enc: &[u8], trap_code: TrapCode) -> Result
     requires some { 0 < length enc.now }
     ensures answer { OnOk result (sink.new ≡ apply sink.old (PutTrapping enc.now (length enc.now - 1) trap_code)) }
     ensures lacks { put_cause sink.old (length enc.now) ≡ None → LacksMemory result }
-    ensures kept { Keeps sink.old sink.new }
+    ensures kept { Extends sink.old sink.new }
 {
     let last = enc.len() - 1;
     sink.put(&enc[..last])?;
@@ -66,9 +66,9 @@ pub fn put_with_trap(
 ) -> Result<(), EmitError>
     requires { 0 < length enc.now }
     ensures answer { MatchResult result (λ _. (put_cause sink.old (length enc.now) ≡ None) × (sink.new ≡ apply sink.old (PutTrapping enc.now (length enc.now - 1) trap_code))) (λ e. ((e ≡ NoMemory) ⊎ (put_cause sink.old (length enc.now) ≡ Some e)) × IsTrue sink.new.failed) }
-    ensures kept { Keeps sink.old sink.new }
+    ensures kept { Extends sink.old sink.new }
 {
-    if let Some(error) = put_refusal(sink, enc.len()) {
+    if let Some(error) = put_cause(sink, enc.len()) {
         sink.fail();
         return Err(error);
     }
@@ -82,8 +82,8 @@ pub fn put_with_trap(
 }
 
 // Why an instruction can't be emitted into this buffer.
-fn refusal(sink: &MachBuffer, flags: IsaFlags, state: &EmitState, inst: &Inst) -> Option<EmitError>
-    ensures cause { result ≡ emit_cause flags state.now.nominal sink.now (graft state.now inst.now empty) }
+fn cause(sink: &MachBuffer, flags: IsaFlags, state: &EmitState, inst: &Inst) -> Option<EmitError>
+    ensures cause { result ≡ emit_cause flags state.now.nominal sink.now (prepend state.now inst.now empty) }
     ensures room { result ≡ None → HasRoom sink.now }
 {
     if sink.is_failed() {
@@ -107,9 +107,9 @@ fn emit_and_advance(
     inst: &Inst,
 ) -> Result<(), EmitError>
     requires { HasRoom sink.old }
-    ensures answer { MatchResult result (λ _. (sink.new ≡ run sink.old (own_pieces (length sink.old.labels) 0 (graft state.old inst.now empty))) × (state.new ≡ state_after state.old inst.now)) (λ _. state.new ≡ state.old) }
-    ensures lacks { (flags : IsaFlags) → TreePassed flags sink.old 0 state.old.nominal 0 (graft state.old inst.now empty) → LacksMemory result }
-    ensures kept { Keeps sink.old sink.new }
+    ensures answer { MatchResult result (λ _. (sink.new ≡ apply_all sink.old (own_fragments (length sink.old.labels) 0 (prepend state.old inst.now empty))) × (state.new ≡ state_after state.old inst.now)) (λ _. state.new ≡ state.old) }
+    ensures lacks { (flags : IsaFlags) → TreePassed flags sink.old 0 state.old.nominal 0 (prepend state.old inst.now empty) → LacksMemory result }
+    ensures kept { Extends sink.old sink.new }
 {
     emit_inst(sink, state, inst, MachLabel(0))?;
     advance(state, inst)
@@ -127,7 +127,7 @@ pub trait MachInstEmit {
         state: &mut EmitState,
     ) -> Result<(), EmitError>
         ensures refused { OnErr result (IsTrue sink.new.failed × (state.new ≡ state.old)) }
-        ensures kept { Keeps sink.old sink.new };
+        ensures kept { Extends sink.old sink.new };
 }
 
 impl MachInstEmit for Inst {
@@ -143,14 +143,14 @@ impl MachInstEmit for Inst {
         emit_info: &EmitInfo,
         state: &mut EmitState,
     ) -> Result<(), EmitError>
-        ensures answer { let step = graft state.old self.now empty in
+        ensures answer { let step = prepend state.old self.now empty in
             let cause = emit_cause emit_info.now.isa_flags state.old.nominal sink.old step in
-            MatchResult result (λ _. (cause ≡ None) × (sink.new ≡ run sink.old (own_pieces (length sink.old.labels) 0 step)) × (state.new ≡ record (state_after state.old self.now) { stack_map = None })) (λ e. ((e ≡ NoMemory) ⊎ (cause ≡ Some e)) × IsTrue sink.new.failed × (state.new ≡ state.old)) }
+            MatchResult result (λ _. (cause ≡ None) × (sink.new ≡ apply_all sink.old (own_fragments (length sink.old.labels) 0 step)) × (state.new ≡ record (state_after state.old self.now) { stack_map = None })) (λ e. ((e ≡ NoMemory) ⊎ (cause ≡ Some e)) × IsTrue sink.new.failed × (state.new ≡ state.old)) }
         ensures refused { OnErr result (IsTrue sink.new.failed × (state.new ≡ state.old)) }
         ensures few { is_short self.now ≡ true → OnOk result (length sink.new.bytes ≤ length sink.old.bytes + 44) }
-        ensures kept { Keeps sink.old sink.new }
+        ensures kept { Extends sink.old sink.new }
     {
-        if let Some(error) = refusal(sink, emit_info.isa_flags, state, self) {
+        if let Some(error) = cause(sink, emit_info.isa_flags, state, self) {
             sink.fail();
             return Err(error);
         }

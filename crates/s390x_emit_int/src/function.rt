@@ -2,15 +2,15 @@
 
 ghost use Rattle.std.specs.Prelude.{◌≡◌, ℕ, ◌+◌, ◌<◌, ◌≤◌, ◌⊎◌, OnOk, length, map, min, get_or, None, Some, MatchResult, nat_lt};
 ghost use Rattle.s390x_base.specs.declared.error.EmitError.TheVariants.{NoMemory, LabelOutOfRange, BadStackState};
-ghost use Rattle.s390x_buffer.specs.State.{constant_of, new_cause, put_cause, fresh, limit};
+ghost use Rattle.s390x_buffer.specs.State.{constant_of, new_cause, put_cause, fresh_buffer, limit};
 ghost use Rattle.s390x_buffer.specs.Constants.{constants_end};
 ghost use Rattle.s390x_inst.specs.declared.state.IsaFlags.{IsaFlags};
-ghost use Rattle.s390x_steps.specs.Causes.{unless, declared_in, blocks_cause};
-ghost use Rattle.s390x_steps.specs.Sizes.{blocks_size};
-ghost use Rattle.s390x_emit_int.specs.Emission.{function_pieces};
-ghost use Rattle.s390x_steps.specs.Ranges.{BlocksInRange};
-ghost use Rattle.s390x_emit_int.specs.Function.{tree_of, trees_of, constants_of, IsImage, start_cause, checked_cause, function_cause};
-ghost use Rattle.s390x_emit_int.specs.Pieces.{run};
+ghost use Rattle.s390x_typed_steps.specs.Causes.{unless, declared_in, blocks_cause};
+ghost use Rattle.s390x_typed_steps.specs.Sizes.{blocks_size};
+ghost use Rattle.s390x_emit_int.specs.Emission.{function_fragments};
+ghost use Rattle.s390x_typed_steps.specs.Ranges.{BlocksInRange};
+ghost use Rattle.s390x_emit_int.specs.Function.{tree_of, trees_of, constants_of, IsFinishedCode, start_cause, checked_cause, function_cause};
+ghost use Rattle.s390x_emit_int.specs.Fragments.{apply_all};
 ghost use Rattle.s390x_emit_int.specs.Room.{HasRoom, LacksMemory};
 
 use crate::check::{Totals, check_block};
@@ -21,7 +21,7 @@ use s390x_inst::{AllocatedFunction, Block, EmitInfo, EmitState, IsaFlags};
 use std::alloc::Global;
 
 // The stack sizes at the beginning have to be 0.
-fn start_refusal(state: &EmitState) -> Option<EmitError>
+fn start_cause(state: &EmitState) -> Option<EmitError>
     ensures { result ≡ start_cause state.now }
 {
     if state.nominal() == 0 && state.outgoing() == 0 {
@@ -52,7 +52,7 @@ fn check_blocks(
 }
 
 // Whether the code, of which so many bytes were counted, ends below the limit with its constants.
-fn length_refusal(bytes: u64, constants: &[ConstantData]) -> Option<EmitError>
+fn length_cause(bytes: u64, constants: &[ConstantData]) -> Option<EmitError>
     requires { bytes ≤ limit }
     ensures { (size : ℕ) → min limit bytes ≡ min limit size → result ≡ unless (nat_lt (constants_end size (map constant_of constants.now)) limit) LabelOutOfRange }
 {
@@ -70,7 +70,7 @@ fn emit_blocks(sink: &mut MachBuffer, state: &EmitState, blocks: &[Block]) -> Re
     requires count { sink.old.block_count ≡ length blocks.now }
     requires room { HasRoom sink.old }
     requires free { (l : ℕ) → l < length blocks.now → get_or sink.old.labels l None ≡ None }
-    ensures answer { OnOk result (sink.new ≡ run sink.old (function_pieces (length sink.old.labels) 0 (map (tree_of state.now) blocks.now))) }
+    ensures answer { OnOk result (sink.new ≡ apply_all sink.old (function_fragments (length sink.old.labels) 0 (map (tree_of state.now) blocks.now))) }
     ensures lacks { (flags : IsaFlags) → put_cause sink.old (blocks_size (map (tree_of state.now) blocks.now)) ≡ None → blocks_cause flags (declared_in sink.old) (length sink.old.labels) (map (tree_of state.now) blocks.now) ≡ None → LacksMemory result }
     ensures ranges { OnOk result (BlocksInRange (map (tree_of state.now) blocks.now)) }
 {
@@ -92,9 +92,9 @@ fn emit_checked(
 ) -> Result<MachBufferFinalized, EmitError>
     requires start { state.now.nominal ≡ 0 }
     requires few { length function.now.blocks.items ≤ 4294967295 }
-    requires fresh { sink ≡ fresh (length function.now.blocks.items) (constants_of function.now) }
-    requires fine { checked_cause flags (trees_of state.now function.now) (constants_of function.now) ≡ None }
-    ensures { MatchResult result (λ f. IsImage (trees_of state.now function.now) (constants_of function.now) f × BlocksInRange (trees_of state.now function.now)) (λ e. e ≡ NoMemory) }
+    requires fresh { sink ≡ fresh_buffer (length function.now.blocks.items) (constants_of function.now) }
+    requires operands_valid { checked_cause flags (trees_of state.now function.now) (constants_of function.now) ≡ None }
+    ensures { MatchResult result (λ f. IsFinishedCode (trees_of state.now function.now) (constants_of function.now) f × BlocksInRange (trees_of state.now function.now)) (λ e. e ≡ NoMemory) }
 {
     emit_blocks(&mut sink, state, &function.blocks)?;
     sink.finish()
@@ -123,11 +123,11 @@ fn check_function(
 ) -> Result<(), EmitError>
     requires start { state.now.nominal ≡ 0 }
     requires new { new_cause (length function.now.blocks.items) (constants_of function.now) ≡ None }
-    requires fresh { sink.now ≡ fresh (length function.now.blocks.items) (constants_of function.now) }
+    requires fresh { sink.now ≡ fresh_buffer (length function.now.blocks.items) (constants_of function.now) }
     ensures { MatchResult result (λ _. checked_cause flags (trees_of state.now function.now) (constants_of function.now) ≡ None) (λ e. checked_cause flags (trees_of state.now function.now) (constants_of function.now) ≡ Some e) }
 {
     let sum = check_blocks(flags, state, sink, &function.blocks)?;
-    match length_refusal(sum.bytes, &function.constants) {
+    match length_cause(sum.bytes, &function.constants) {
         Some(error) => Err(error),
         None => Ok(()),
     }
@@ -135,7 +135,7 @@ fn check_function(
 
 // A buffer for the blocks and the constants.
 fn new_buffer(alloc: Global, function: &AllocatedFunction) -> Result<MachBuffer, EmitError>
-    ensures answer { MatchResult result (λ b. (new_cause (length function.now.blocks.items) (constants_of function.now) ≡ None) × (b ≡ fresh (length function.now.blocks.items) (constants_of function.now))) (λ e. (e ≡ NoMemory) ⊎ (new_cause (length function.now.blocks.items) (constants_of function.now) ≡ Some e)) }
+    ensures answer { MatchResult result (λ b. (new_cause (length function.now.blocks.items) (constants_of function.now) ≡ None) × (b ≡ fresh_buffer (length function.now.blocks.items) (constants_of function.now))) (λ e. (e ≡ NoMemory) ⊎ (new_cause (length function.now.blocks.items) (constants_of function.now) ≡ Some e)) }
     ensures few { OnOk result (length function.now.blocks.items ≤ 4294967295) }
 {
     let count = block_count(function)?;
@@ -153,9 +153,9 @@ pub fn emit_function(
     info: &EmitInfo,
     state: EmitState,
 ) -> Result<MachBufferFinalized, EmitError>
-    ensures { let trees = trees_of state function.now in let cause = function_cause info.now.isa_flags trees (constants_of function.now) state in MatchResult result (λ f. (cause ≡ None) × IsImage trees (constants_of function.now) f × BlocksInRange trees) (λ e. (e ≡ NoMemory) ⊎ (cause ≡ Some e)) }
+    ensures { let trees = trees_of state function.now in let cause = function_cause info.now.isa_flags trees (constants_of function.now) state in MatchResult result (λ f. (cause ≡ None) × IsFinishedCode trees (constants_of function.now) f × BlocksInRange trees) (λ e. (e ≡ NoMemory) ⊎ (cause ≡ Some e)) }
 {
-    if let Some(error) = start_refusal(&state) {
+    if let Some(error) = start_cause(&state) {
         return Err(error);
     }
     let sink = new_buffer(alloc, function)?;

@@ -5,10 +5,10 @@ ghost use Rattle.s390x_buffer.specs.declared.entries.MachBufferFinalized.{MachBu
 ghost use Rattle.s390x_image.specs.Causes.{link_cause};
 ghost use Rattle.s390x_image.specs.Fields.{filled};
 ghost use Rattle.s390x_image.specs.Symbols.{Symbols};
-ghost use Rattle.s390x_steps.specs.Ranges.{BlocksInRange};
+ghost use Rattle.s390x_typed_steps.specs.Ranges.{BlocksInRange};
 ghost use Rattle.s390x_inst.specs.declared.state.IsaFlags.{IsaFlags};
-ghost use Rattle.s390x_steps.specs.Tree.{Tree};
-ghost use Rattle.s390x_emit_int.specs.Function.{checked_cause, IsImage};
+ghost use Rattle.s390x_typed_steps.specs.Tree.{Tree};
+ghost use Rattle.s390x_emit_int.specs.Function.{checked_cause, IsFinishedCode};
 ghost use Rattle.s390x_emit_int.specs.Headline.{RunsAsTyped};
 ghost use Rattle.s390x_emit_int.specs.Example.{LinkedLoopRuns};
 
@@ -16,7 +16,7 @@ ghost use Rattle.s390x_emit_int.specs.Example.{LinkedLoopRuns};
 /// instructions allow, from any block's start, in every state in which the code lies in memory, and under every list of
 /// others' writes, until it returns, stops by a trap or at a `Debugtrap`, or a typed step is wrong.
 pub fn linked_code_runs_as_typed()
-    ensures { (flags : IsaFlags) (ts : List Tree) (cs : List Constant) (f : MachBufferFinalized) (base : ℕ) (symbols : Symbols) → checked_cause flags ts cs ≡ None → BlocksInRange ts → IsImage ts cs f → link_cause f base symbols ≡ None → RunsAsTyped symbols ts cs (record { base = base; bytes = filled base symbols f.relocs.items f.bytes.items }) }
+    ensures { (flags : IsaFlags) (ts : List Tree) (cs : List Constant) (f : MachBufferFinalized) (base : ℕ) (symbols : Symbols) → checked_cause flags ts cs ≡ None → BlocksInRange ts → IsFinishedCode ts cs f → link_cause f base symbols ≡ None → RunsAsTyped symbols ts cs (record { base = base; bytes = filled base symbols f.relocs.items f.bytes.items }) }
 {}
 
 /// The premises can be met: by the finished code of a function of two blocks, linked at 4096 and lying in memory there. The

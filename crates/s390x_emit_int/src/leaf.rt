@@ -1,31 +1,31 @@
 //! Emitting one instruction that is no `Loop`.
-#![tactic(auto, using(s390x_buffer::proofs::Keeping::keeps_on, s390x_buffer::proofs::Keeping::keeps_same))]
+#![tactic(auto, using(s390x_buffer::proofs::Keeping::extends_on, s390x_buffer::proofs::Keeping::extends_same))]
 
 ghost use Rattle.std.specs.Prelude.{◌≡◌, ℕ, ◌<◌, ◌&&◌, [], ◌∷◌, None, true, length, OnOk};
 ghost use Rattle.s390x_base.specs.Regs.{number_of};
-ghost use Rattle.s390x_buffer.specs.Keeps.{Keeps};
+ghost use Rattle.s390x_buffer.specs.Extends.{Extends};
 ghost use Rattle.s390x_buffer.specs.State.{put_cause};
-ghost use Rattle.s390x_steps.specs.MachineInstruction.{format_e, rr, ril_c, bytes_of, size_of};
-ghost use Rattle.s390x_steps.specs.Parts.{Row, Trapping, Branch, ToBlock, Relative, row_part, stopping, memory_parts, parts_size};
+ghost use Rattle.s390x_typed_steps.specs.MachineInstruction.{format_e, rr, ril_c, bytes_of, size_of};
+ghost use Rattle.s390x_typed_steps.specs.Parts.{Row, Trapping, Branch, ToBlock, Relative, row_part, stopping, memory_parts, parts_size};
 ghost use Rattle.s390x_inst.specs.Emission.{Emission};
 ghost use Rattle.s390x_inst.specs.declared.state.IsaFlags.{IsaFlags};
-ghost use Rattle.s390x_steps.specs.Causes.{declared_in, branch_cause, memory_cause, instruction_cause, numbers_cause, instruction_draws, leaf_cause};
-ghost use Rattle.s390x_steps.specs.General.{is_general, is_nonzero};
-ghost use Rattle.s390x_steps.specs.Sizes.{instruction_size};
-ghost use Rattle.s390x_emit_int.specs.Alone.{instruction_of, can_encode};
-ghost use Rattle.s390x_emit_int.specs.Pieces.{Put, PutTrapping, apply, run, Link};
-ghost use Rattle.s390x_emit_int.specs.Emission.{branch, part_pieces, branch_pieces, branch_size, leaf_pieces};
+ghost use Rattle.s390x_typed_steps.specs.Causes.{declared_in, branch_cause, memory_cause, instruction_cause, numbers_cause, instruction_fresh_labels, leaf_cause};
+ghost use Rattle.s390x_typed_steps.specs.General.{is_general, is_nonzero};
+ghost use Rattle.s390x_typed_steps.specs.Sizes.{instruction_size};
+ghost use Rattle.s390x_emit_int.specs.SingleInstruction.{instruction_of, can_encode};
+ghost use Rattle.s390x_emit_int.specs.Fragments.{Put, PutTrapping, apply, apply_all, Link};
+ghost use Rattle.s390x_emit_int.specs.Emission.{branch, part_fragments, branch_fragments, branch_size, leaf_fragments};
 ghost use Rattle.s390x_emit_int.specs.Room.{Passed, MembersPassed, LacksMemory, HasRoom};
 ghost use Rattle.s390x_buffer.specs.declared.label_use.LabelUse.TheVariants.{BranchRIL};
-ghost use Rattle.s390x_steps.specs.Ranges.{InRange, MaskInRange, OperandInRange, IsMask};
-ghost use Rattle.s390x_steps.specs.Alone.{alone};
-ghost use Rattle.s390x_steps.specs.Operands.{resolved};
-ghost use Rattle.s390x_steps.specs.Resolved.{resolved_instruction};
-ghost use Rattle.s390x_address.specs.Rows.{memory_of, in_state, may_encode};
+ghost use Rattle.s390x_typed_steps.specs.Ranges.{InRange, MaskInRange, OperandInRange, IsConditionMask};
+ghost use Rattle.s390x_typed_steps.specs.SingleInstruction.{single_instruction};
+ghost use Rattle.s390x_typed_steps.specs.Operands.{resolved};
+ghost use Rattle.s390x_typed_steps.specs.Resolved.{resolved_instruction};
+ghost use Rattle.s390x_address.specs.Rows.{memory_instruction_of, in_state, may_encode};
 
-use crate::alone::find_alone;
 use crate::memory::find_memory;
 use crate::register_row::RegisterRow;
+use crate::single_instruction::find_single_instruction;
 use crate::stops::stop_code;
 use crate::symbol::emit_symbol_load;
 use crate::table::emit_table;
@@ -39,7 +39,7 @@ use s390x_inst::{EmitState, Inst, MemArg};
 fn put_with_distance(sink: &mut MachBuffer, code: &Code, label: MachLabel) -> Result<(), EmitError>
     ensures answer { OnOk result (sink.new ≡ apply sink.old (Link BranchRIL label.0 code.now)) }
     ensures lacks { Passed sink.old label.0 6 None → length code.now ≡ 6 → LacksMemory result }
-    ensures kept { Keeps sink.old sink.new }
+    ensures kept { Extends sink.old sink.new }
 {
     let offset = sink.cur_offset();
     sink.use_label_at_offset(offset, label, LabelUse::BranchRIL)?;
@@ -51,7 +51,7 @@ pub fn put_branch(sink: &mut MachBuffer, mask: u8, label: MachLabel) -> Result<(
     requires { mask < 16 }
     ensures answer { OnOk result (sink.new ≡ apply sink.old (branch mask label.0)) }
     ensures lacks { Passed sink.old label.0 6 None → LacksMemory result }
-    ensures kept { Keeps sink.old sink.new }
+    ensures kept { Extends sink.old sink.new }
 {
     let code = enc_ril_c(0xc04, mask, 0)?;
     put_with_distance(sink, &code, label)
@@ -59,9 +59,9 @@ pub fn put_branch(sink: &mut MachBuffer, mask: u8, label: MachLabel) -> Result<(
 
 /// BRANCH ON CONDITION to the address in a register, always.
 pub fn emit_branch_register(sink: &mut MachBuffer, rn: Reg) -> Result<(), EmitError>
-    ensures answer { OnOk result (sink.new ≡ run sink.old (part_pieces (Row (rr 0x07 15 (number_of rn)) ∷ []))) }
+    ensures answer { OnOk result (sink.new ≡ apply_all sink.old (part_fragments (Row (rr 0x07 15 (number_of rn)) ∷ []))) }
     ensures lacks { put_cause sink.old 2 ≡ None → (is_general rn && is_nonzero rn) ≡ true → LacksMemory result }
-    ensures kept { Keeps sink.old sink.new }
+    ensures kept { Extends sink.old sink.new }
 {
     let code = enc_rr(0x07, gpr(15), rn)?;
     sink.put_code(&code)
@@ -69,9 +69,9 @@ pub fn emit_branch_register(sink: &mut MachBuffer, rn: Reg) -> Result<(), EmitEr
 
 /// LOAD ADDRESS RELATIVE LONG of a label into a register; the buffer's end fills the distance in.
 pub fn emit_address(sink: &mut MachBuffer, dst: Reg, label: MachLabel) -> Result<(), EmitError>
-    ensures answer { OnOk result (sink.new ≡ run sink.old (part_pieces (Relative 0xc00 (number_of dst) (ToBlock label.0) ∷ []))) }
+    ensures answer { OnOk result (sink.new ≡ apply_all sink.old (part_fragments (Relative 0xc00 (number_of dst) (ToBlock label.0) ∷ []))) }
     ensures lacks { Passed sink.old label.0 6 None → is_general dst ≡ true → LacksMemory result }
-    ensures kept { Keeps sink.old sink.new }
+    ensures kept { Extends sink.old sink.new }
 {
     let code = enc_ril_b(0xc00, dst, 0)?;
     put_with_distance(sink, &code, label)
@@ -87,7 +87,7 @@ fn put_trapping(
     requires { byte < length code.now }
     ensures answer { OnOk result (sink.new ≡ apply sink.old (PutTrapping code.now byte trap_code)) }
     ensures lacks { put_cause sink.old (length code.now) ≡ None → LacksMemory result }
-    ensures kept { Keeps sink.old sink.new }
+    ensures kept { Extends sink.old sink.new }
 {
     let bytes = code.bytes();
     sink.put(&bytes[..byte])?;
@@ -97,9 +97,9 @@ fn put_trapping(
 
 // Bytes that are no instruction, with a trap.
 fn emit_trap(sink: &mut MachBuffer, trap_code: TrapCode) -> Result<(), EmitError>
-    ensures answer { OnOk result (sink.new ≡ run sink.old (part_pieces (stopping (format_e 0) trap_code ∷ []))) }
+    ensures answer { OnOk result (sink.new ≡ apply_all sink.old (part_fragments (stopping (format_e 0) trap_code ∷ []))) }
     ensures lacks { put_cause sink.old 2 ≡ None → LacksMemory result }
-    ensures kept { Keeps sink.old sink.new }
+    ensures kept { Extends sink.old sink.new }
 {
     let code = enc_e(0x0000)?;
     put_trapping(sink, &code, 1, trap_code)
@@ -107,10 +107,10 @@ fn emit_trap(sink: &mut MachBuffer, trap_code: TrapCode) -> Result<(), EmitError
 
 // A branch under a condition to its own place plus 2, where no instruction stands and a trap is recorded.
 fn emit_trap_if(sink: &mut MachBuffer, cond: Cond, trap_code: TrapCode) -> Result<(), EmitError>
-    ensures answer { OnOk result (sink.new ≡ run sink.old (part_pieces (Trapping (ril_c 0xc04 cond 1) 3 trap_code ∷ []))) }
+    ensures answer { OnOk result (sink.new ≡ apply_all sink.old (part_fragments (Trapping (ril_c 0xc04 cond 1) 3 trap_code ∷ []))) }
     ensures lacks { put_cause sink.old 6 ≡ None → LacksMemory result }
-    ensures range { IsMask cond }
-    ensures kept { Keeps sink.old sink.new }
+    ensures range { IsConditionMask cond }
+    ensures kept { Extends sink.old sink.new }
 {
     let code = enc_ril_c(0xc04, cond.bits(), 2)?;
     put_trapping(sink, &code, 3, trap_code)
@@ -118,9 +118,9 @@ fn emit_trap_if(sink: &mut MachBuffer, cond: Cond, trap_code: TrapCode) -> Resul
 
 // Bytes that are no instruction, without a trap.
 fn emit_debug_trap(sink: &mut MachBuffer) -> Result<(), EmitError>
-    ensures answer { OnOk result (sink.new ≡ run sink.old (part_pieces (Row (format_e 1) ∷ []))) }
+    ensures answer { OnOk result (sink.new ≡ apply_all sink.old (part_fragments (Row (format_e 1) ∷ []))) }
     ensures lacks { put_cause sink.old 2 ≡ None → LacksMemory result }
-    ensures kept { Keeps sink.old sink.new }
+    ensures kept { Extends sink.old sink.new }
 {
     let code = enc_e(0x0001)?;
     sink.put_code(&code)
@@ -132,10 +132,10 @@ fn emit_two_branches(
     not_taken: MachLabel,
     cond: Cond,
 ) -> Result<(), EmitError>
-    ensures answer { OnOk result (sink.new ≡ run sink.old (part_pieces (Branch cond (ToBlock taken.0) ∷ Branch 15 (ToBlock not_taken.0) ∷ []))) }
+    ensures answer { OnOk result (sink.new ≡ apply_all sink.old (part_fragments (Branch cond (ToBlock taken.0) ∷ Branch 15 (ToBlock not_taken.0) ∷ []))) }
     ensures lacks { Passed sink.old taken.0 12 None → not_taken.0 < length sink.old.labels → LacksMemory result }
-    ensures range { IsMask cond }
-    ensures kept { Keeps sink.old sink.new }
+    ensures range { IsConditionMask cond }
+    ensures kept { Extends sink.old sink.new }
 {
     put_branch(sink, cond.bits(), taken)?;
     put_branch(sink, 15, not_taken)
@@ -144,21 +144,21 @@ fn emit_two_branches(
 fn emit_break(sink: &mut MachBuffer, cond: Cond, after: MachLabel) -> Result<(), EmitError>
     ensures answer { OnOk result (sink.new ≡ apply sink.old (branch cond after.0)) }
     ensures lacks { Passed sink.old after.0 6 None → LacksMemory result }
-    ensures range { IsMask cond }
-    ensures kept { Keeps sink.old sink.new }
+    ensures range { IsConditionMask cond }
+    ensures kept { Extends sink.old sink.new }
 {
     put_branch(sink, cond.bits(), after)
 }
 
 // A machine instruction; where its stop has a code, a trap is recorded at its last byte.
-fn emit_alone(
+fn emit_single_instruction(
     sink: &mut MachBuffer,
     row: &RegisterRow,
     trap_code: Option<TrapCode>,
 ) -> Result<(), EmitError>
-    ensures answer { OnOk result (sink.new ≡ run sink.old (part_pieces (row_part (instruction_of row.now) trap_code ∷ []))) }
+    ensures answer { OnOk result (sink.new ≡ apply_all sink.old (part_fragments (row_part (instruction_of row.now) trap_code ∷ []))) }
     ensures lacks { put_cause sink.old (size_of (instruction_of row.now)) ≡ None → can_encode row.now ≡ true → LacksMemory result }
-    ensures kept { Keeps sink.old sink.new }
+    ensures kept { Extends sink.old sink.new }
 {
     let code = row.code()?;
     match trap_code {
@@ -169,10 +169,10 @@ fn emit_alone(
 
 fn emit_branch(sink: &mut MachBuffer, inst: &Inst, after: MachLabel) -> Result<(), EmitError>
     requires { HasRoom sink.old }
-    ensures answer { OnOk result (sink.new ≡ run sink.old (branch_pieces (length sink.old.labels) after.0 inst.now)) }
-    ensures lacks { (depth : ℕ) → MembersPassed sink.old after.0 depth (branch_size inst.now) (branch_cause sink.old.block_count depth inst.now) → numbers_cause (length sink.old.labels) (instruction_draws inst.now) ≡ None → LacksMemory result }
+    ensures answer { OnOk result (sink.new ≡ apply_all sink.old (branch_fragments (length sink.old.labels) after.0 inst.now)) }
+    ensures lacks { (depth : ℕ) → MembersPassed sink.old after.0 depth (branch_size inst.now) (branch_cause sink.old.block_count depth inst.now) → numbers_cause (length sink.old.labels) (instruction_fresh_labels inst.now) ≡ None → LacksMemory result }
     ensures range { OnOk result (MaskInRange inst.now) }
-    ensures kept { Keeps sink.old sink.new }
+    ensures kept { Extends sink.old sink.new }
 {
     match inst {
         Inst::Jump { dest } => put_branch(sink, 15, *dest),
@@ -236,10 +236,10 @@ fn emit_memory(
     found: &MemoryInst,
 ) -> Result<(), EmitError>
     requires { may_encode found.now ≡ true }
-    ensures answer { OnOk result (sink.new ≡ run sink.old (part_pieces (memory_parts (in_state state.now (memory_of found.now))))) }
-    ensures lacks { put_cause sink.old (parts_size (memory_parts (in_state state.now (memory_of found.now)))) ≡ None → memory_cause (declared_in sink.old) (in_state state.now (memory_of found.now)) ≡ None → LacksMemory result }
+    ensures answer { OnOk result (sink.new ≡ apply_all sink.old (part_fragments (memory_parts (in_state state.now (memory_instruction_of found.now))))) }
+    ensures lacks { put_cause sink.old (parts_size (memory_parts (in_state state.now (memory_instruction_of found.now)))) ≡ None → memory_cause (declared_in sink.old) (in_state state.now (memory_instruction_of found.now)) ≡ None → LacksMemory result }
     ensures range { OperandInRange (resolved state.now found.now.operand) }
-    ensures kept { Keeps sink.old sink.new }
+    ensures kept { Extends sink.old sink.new }
 {
     read_displacement(&found.operand);
     found.emit(sink, state)
@@ -252,12 +252,12 @@ fn emit_other(
     inst: &Inst,
     after: MachLabel,
 ) -> Result<(), EmitError>
-    requires alone { None ≡ alone inst.now }
+    requires single_instruction { None ≡ single_instruction inst.now }
     requires room { HasRoom sink.old }
-    ensures answer { OnOk result (sink.new ≡ run sink.old (leaf_pieces (length sink.old.labels) after.0 (resolved_instruction state.now inst.now))) }
+    ensures answer { OnOk result (sink.new ≡ apply_all sink.old (leaf_fragments (length sink.old.labels) after.0 (resolved_instruction state.now inst.now))) }
     ensures lacks { (flags : IsaFlags) (depth : ℕ) → MembersPassed sink.old after.0 depth (instruction_size (resolved_instruction state.now inst.now)) (leaf_cause flags (declared_in sink.old) (length sink.old.labels) state.now.nominal depth (resolved_instruction state.now inst.now)) → LacksMemory result }
     ensures range { OnOk result (InRange (resolved_instruction state.now inst.now)) }
-    ensures kept { Keeps sink.old sink.new }
+    ensures kept { Extends sink.old sink.new }
 {
     match find_memory(inst) {
         Some(found) => emit_memory(sink, state, &found),
@@ -273,13 +273,13 @@ pub fn emit_leaf(
     after: MachLabel,
 ) -> Result<(), EmitError>
     requires { HasRoom sink.old }
-    ensures answer { OnOk result (sink.new ≡ run sink.old (leaf_pieces (length sink.old.labels) after.0 (resolved_instruction state.now inst.now))) }
+    ensures answer { OnOk result (sink.new ≡ apply_all sink.old (leaf_fragments (length sink.old.labels) after.0 (resolved_instruction state.now inst.now))) }
     ensures lacks { (flags : IsaFlags) (depth : ℕ) → MembersPassed sink.old after.0 depth (instruction_size (resolved_instruction state.now inst.now)) (leaf_cause flags (declared_in sink.old) (length sink.old.labels) state.now.nominal depth (resolved_instruction state.now inst.now)) → LacksMemory result }
     ensures range { OnOk result (InRange (resolved_instruction state.now inst.now)) }
-    ensures kept { Keeps sink.old sink.new }
+    ensures kept { Extends sink.old sink.new }
 {
-    match find_alone(inst) {
-        Some(found) => emit_alone(sink, &found.row, stop_code(inst)),
+    match find_single_instruction(inst) {
+        Some(found) => emit_single_instruction(sink, &found.row, stop_code(inst)),
         None => emit_other(sink, state, inst, after),
     }
 }

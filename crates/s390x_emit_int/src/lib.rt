@@ -1,7 +1,6 @@
 //! Emission: from typed instructions to finished code.
 #![tactic(auto)]
 
-pub mod alone;
 pub mod arithmetic;
 pub mod bits;
 pub mod causes;
@@ -15,6 +14,7 @@ pub mod memory;
 pub mod moves;
 pub mod opcode;
 pub mod register_row;
+pub mod single_instruction;
 pub mod stack;
 pub mod stops;
 pub mod symbol;

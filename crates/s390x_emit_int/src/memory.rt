@@ -1,15 +1,15 @@
 //! Instructions with a memory operand: their machine rows.
 ghost use Rattle.std.specs.Prelude.{◌≡◌, ◌&&◌, if◌then◌else◌, true, Some, IfSome};
 ghost use Rattle.std.specs.Option.{option_map};
-ghost use Rattle.s390x_address.specs.Rows.{memory_of, form_of, relative_encodes, rows_encode, may_encode, takes_general, has_12_bits};
-ghost use Rattle.s390x_steps.specs.General.{low_halfword};
-ghost use Rattle.s390x_steps.specs.Memory.{load, store, store_immediate, SilForm, is_range, multiple, load_and_operate, compare_and_swap, memory};
-ghost use Rattle.s390x_steps.specs.Storage.{alu_rx, alu_rxy, cmp_rx, cmp_rxy, cmp_ril, atomic_rsy};
+ghost use Rattle.s390x_address.specs.Rows.{memory_instruction_of, storage_form_of, relative_encodes, rows_encode, may_encode, rows_take_general, has_12_bits};
+ghost use Rattle.s390x_typed_steps.specs.General.{low_halfword};
+ghost use Rattle.s390x_typed_steps.specs.Memory.{load, store, store_immediate, SilForm, is_range, multiple, load_and_operate, compare_and_swap, memory};
+ghost use Rattle.s390x_typed_steps.specs.Storage.{alu_rx, alu_rxy, cmp_rx, cmp_rxy, cmp_ril, atomic_rsy};
 ghost use Rattle.s390x_emit_int.specs.Memory.{storage_group};
 ghost use Rattle.s390x_emit_int.specs.declared.memory.StorageGroup.TheVariants.{Loads, Stores, Operators};
 
-use crate::alone::{is_reused, two_general};
 use crate::bits::low_byte;
+use crate::single_instruction::{is_reused, two_general};
 use s390x_address::emitters::{holds_scratch, number};
 use s390x_address::forms::is_numbered;
 use s390x_address::memory::{MemoryInst, general};
@@ -35,8 +35,8 @@ fn access(
     ril: Option<u16>,
     operand: MemArg,
 ) -> Option<MemoryInst>
-    requires { (takes_general rx && takes_general rxy && has_12_bits ril) ≡ true }
-    ensures row { option_map memory_of result ≡ if stores then store register rx rxy ril operand else load register rx rxy ril operand }
+    requires { (rows_take_general rx && rows_take_general rxy && has_12_bits ril) ≡ true }
+    ensures row { option_map memory_instruction_of result ≡ if stores then store register rx rxy ril operand else load register rx rxy ril operand }
     ensures encodes { IfSome result (λ x. may_encode x ≡ true) }
 {
     Some(MemoryInst {
@@ -48,7 +48,7 @@ fn access(
         },
         operand,
         accesses: true,
-        fine: general(&register),
+        operands_valid: general(&register),
         reads_scratch: stores && is_numbered(1, &register),
     })
 }
@@ -61,8 +61,8 @@ fn load(
     ril: Option<u16>,
     operand: MemArg,
 ) -> Option<MemoryInst>
-    requires { (takes_general rx && takes_general rxy && has_12_bits ril) ≡ true }
-    ensures row { option_map memory_of result ≡ load rd rx rxy ril operand }
+    requires { (rows_take_general rx && rows_take_general rxy && has_12_bits ril) ≡ true }
+    ensures row { option_map memory_instruction_of result ≡ load rd rx rxy ril operand }
     ensures encodes { IfSome result (λ x. may_encode x ≡ true) }
 {
     access(false, rd, rx, rxy, ril, operand)
@@ -76,8 +76,8 @@ fn store(
     ril: Option<u16>,
     operand: MemArg,
 ) -> Option<MemoryInst>
-    requires { (takes_general rx && takes_general rxy && has_12_bits ril) ≡ true }
-    ensures row { option_map memory_of result ≡ store rd rx rxy ril operand }
+    requires { (rows_take_general rx && rows_take_general rxy && has_12_bits ril) ≡ true }
+    ensures row { option_map memory_instruction_of result ≡ store rd rx rxy ril operand }
     ensures encodes { IfSome result (λ x. may_encode x ≡ true) }
 {
     access(true, rd, rx, rxy, ril, operand)
@@ -86,7 +86,7 @@ fn store(
 // The address of the operand.
 #[tactic(auto, using(crate::proofs::Storing::register_encodes))]
 fn load_address(rd: Reg, operand: MemArg) -> Option<MemoryInst>
-    ensures row { option_map memory_of result ≡ memory (Inst.LoadAddr rd operand) }
+    ensures row { option_map memory_instruction_of result ≡ memory (Inst.LoadAddr rd operand) }
     ensures encodes { IfSome result (λ x. may_encode x ≡ true) }
 {
     Some(MemoryInst {
@@ -98,13 +98,13 @@ fn load_address(rd: Reg, operand: MemArg) -> Option<MemoryInst>
         },
         operand,
         accesses: false,
-        fine: general(&rd),
+        operands_valid: general(&rd),
         reads_scratch: false,
     })
 }
 
 fn find_load(inst: &Inst) -> Option<MemoryInst>
-    ensures row { storage_group inst.now ≡ Loads → option_map memory_of result ≡ memory inst.now }
+    ensures row { storage_group inst.now ≡ Loads → option_map memory_instruction_of result ≡ memory inst.now }
     ensures encodes { IfSome result (λ x. may_encode x ≡ true) }
 {
     match inst {
@@ -137,27 +137,27 @@ fn find_load(inst: &Inst) -> Option<MemoryInst>
 // A store of an immediate.
 fn store_immediate(rows: StorageRows, operand: MemArg) -> Option<MemoryInst>
     requires { (relative_encodes rows && rows_encode rows) ≡ true }
-    ensures row { option_map memory_of result ≡ store_immediate (form_of rows) operand }
+    ensures row { option_map memory_instruction_of result ≡ store_immediate (storage_form_of rows) operand }
     ensures encodes { IfSome result (λ x. may_encode x ≡ true) }
 {
     Some(MemoryInst {
         rows,
         operand,
         accesses: true,
-        fine: true,
+        operands_valid: true,
         reads_scratch: false,
     })
 }
 
 fn store_halfword(imm: i16, sil: u16, operand: MemArg) -> Option<MemoryInst>
-    ensures row { option_map memory_of result ≡ store_immediate (SilForm (low_halfword imm) sil) operand }
+    ensures row { option_map memory_instruction_of result ≡ store_immediate (SilForm (low_halfword imm) sil) operand }
     ensures encodes { IfSome result (λ x. may_encode x ≡ true) }
 {
     store_immediate(StorageRows::Halfword { imm, sil }, operand)
 }
 
 fn find_store(inst: &Inst) -> Option<MemoryInst>
-    ensures row { storage_group inst.now ≡ Stores → option_map memory_of result ≡ memory inst.now }
+    ensures row { storage_group inst.now ≡ Stores → option_map memory_instruction_of result ≡ memory inst.now }
     ensures encodes { IfSome result (λ x. may_encode x ≡ true) }
 {
     match inst {
@@ -186,7 +186,7 @@ fn find_store(inst: &Inst) -> Option<MemoryInst>
 // The opcodes of an operator's rows with an operand in memory.
 fn alu_rx(op: ALUOp) -> Option<u8>
     ensures value { result ≡ alu_rx op }
-    ensures general { takes_general result ≡ true }
+    ensures general { rows_take_general result ≡ true }
 {
     match op {
         ALUOp::Add32 => Some(0x5a),
@@ -206,7 +206,7 @@ fn alu_rx(op: ALUOp) -> Option<u8>
 
 fn alu_rxy(op: ALUOp) -> Option<u16>
     ensures value { result ≡ alu_rxy op }
-    ensures general { takes_general result ≡ true }
+    ensures general { rows_take_general result ≡ true }
 {
     match op {
         ALUOp::Add32 => Some(0xe35a),
@@ -242,7 +242,7 @@ fn alu_rxy(op: ALUOp) -> Option<u16>
 
 fn cmp_rx(op: CmpOp) -> Option<u8>
     ensures value { result ≡ cmp_rx op }
-    ensures general { takes_general result ≡ true }
+    ensures general { rows_take_general result ≡ true }
 {
     match op {
         CmpOp::CmpS32 => Some(0x59),
@@ -254,7 +254,7 @@ fn cmp_rx(op: CmpOp) -> Option<u8>
 
 fn cmp_rxy(op: CmpOp) -> Option<u16>
     ensures value { result ≡ cmp_rxy op }
-    ensures general { takes_general result ≡ true }
+    ensures general { rows_take_general result ≡ true }
 {
     match op {
         CmpOp::CmpS32 => Some(0xe359),
@@ -308,7 +308,7 @@ fn atomic_rsy(op: ALUOp) -> Option<u16>
 // An operator on a register and an operand in memory, where it has a row.
 #[tactic(auto, using(crate::proofs::Storing::reused_encodes))]
 fn operate(op: ALUOp, rd: Reg, ri: Reg, operand: MemArg) -> Option<MemoryInst>
-    ensures row { option_map memory_of result ≡ memory (Inst.AluRX op rd ri operand) }
+    ensures row { option_map memory_instruction_of result ≡ memory (Inst.AluRX op rd ri operand) }
     ensures encodes { IfSome result (λ x. may_encode x ≡ true) }
 {
     let rx = alu_rx(op);
@@ -325,7 +325,7 @@ fn operate(op: ALUOp, rd: Reg, ri: Reg, operand: MemArg) -> Option<MemoryInst>
         },
         operand,
         accesses: true,
-        fine: is_reused(&rd, &ri),
+        operands_valid: is_reused(&rd, &ri),
         reads_scratch: is_numbered(1, &ri),
     })
 }
@@ -333,7 +333,7 @@ fn operate(op: ALUOp, rd: Reg, ri: Reg, operand: MemArg) -> Option<MemoryInst>
 // A comparison of a register with an operand in memory.
 #[tactic(auto, using(crate::proofs::Storing::register_encodes))]
 fn compare(op: CmpOp, rn: Reg, operand: MemArg) -> Option<MemoryInst>
-    ensures row { option_map memory_of result ≡ memory (Inst.CmpRX op rn operand) }
+    ensures row { option_map memory_instruction_of result ≡ memory (Inst.CmpRX op rn operand) }
     ensures encodes { IfSome result (λ x. may_encode x ≡ true) }
 {
     Some(MemoryInst {
@@ -345,7 +345,7 @@ fn compare(op: CmpOp, rn: Reg, operand: MemArg) -> Option<MemoryInst>
         },
         operand,
         accesses: true,
-        fine: general(&rn),
+        operands_valid: general(&rn),
         reads_scratch: is_numbered(1, &rn),
     })
 }
@@ -360,7 +360,7 @@ fn is_range(first: &Reg, last: &Reg) -> bool
 // Registers that are loaded or stored one after another.
 #[tactic(auto, using(crate::proofs::Storing::range_encodes))]
 fn multiple(rt: Reg, rt2: Reg, rsy: u16, reads_scratch: bool, operand: MemArg) -> Option<MemoryInst>
-    ensures row { option_map memory_of result ≡ multiple rt rt2 rsy reads_scratch operand }
+    ensures row { option_map memory_instruction_of result ≡ multiple rt rt2 rsy reads_scratch operand }
     ensures encodes { IfSome result (λ x. may_encode x ≡ true) }
 {
     Some(MemoryInst {
@@ -372,7 +372,7 @@ fn multiple(rt: Reg, rt2: Reg, rsy: u16, reads_scratch: bool, operand: MemArg) -
         },
         operand,
         accesses: true,
-        fine: is_range(&rt, &rt2),
+        operands_valid: is_range(&rt, &rt2),
         reads_scratch,
     })
 }
@@ -380,7 +380,7 @@ fn multiple(rt: Reg, rt2: Reg, rsy: u16, reads_scratch: bool, operand: MemArg) -
 // An operand in memory that is changed in one access, where the operator has a row.
 #[tactic(auto, using(crate::proofs::Storing::two_encode))]
 fn load_and_operate(op: ALUOp, rd: Reg, rn: Reg, operand: MemArg) -> Option<MemoryInst>
-    ensures row { option_map memory_of result ≡ load_and_operate (atomic_rsy op) rd rn operand }
+    ensures row { option_map memory_instruction_of result ≡ load_and_operate (atomic_rsy op) rd rn operand }
     ensures encodes { IfSome result (λ x. may_encode x ≡ true) }
 {
     match atomic_rsy(op) {
@@ -393,7 +393,7 @@ fn load_and_operate(op: ALUOp, rd: Reg, rn: Reg, operand: MemArg) -> Option<Memo
             },
             operand,
             accesses: true,
-            fine: two_general(&rd, &rn),
+            operands_valid: two_general(&rd, &rn),
             reads_scratch: is_numbered(1, &rn),
         }),
         None => None,
@@ -410,7 +410,7 @@ fn compare_and_swap(
     rn: Reg,
     operand: MemArg,
 ) -> Option<MemoryInst>
-    ensures row { option_map memory_of result ≡ compare_and_swap rs rsy rd ri rn operand }
+    ensures row { option_map memory_instruction_of result ≡ compare_and_swap rs rsy rd ri rn operand }
     ensures encodes { IfSome result (λ x. may_encode x ≡ true) }
 {
     Some(MemoryInst {
@@ -422,13 +422,13 @@ fn compare_and_swap(
         },
         operand,
         accesses: true,
-        fine: is_reused(&rd, &ri) && general(&rn),
+        operands_valid: is_reused(&rd, &ri) && general(&rn),
         reads_scratch: is_numbered(1, &ri) || is_numbered(1, &rn),
     })
 }
 
 fn find_operator(inst: &Inst) -> Option<MemoryInst>
-    ensures row { storage_group inst.now ≡ Operators → option_map memory_of result ≡ memory inst.now }
+    ensures row { storage_group inst.now ≡ Operators → option_map memory_instruction_of result ≡ memory inst.now }
     ensures encodes { IfSome result (λ x. may_encode x ≡ true) }
 {
     match inst {
@@ -516,7 +516,7 @@ fn find_storage_group(inst: &Inst) -> StorageGroup
 
 /// The machine rows and the operand of an instruction with a memory operand, where it is one that is built.
 pub fn find_memory(inst: &Inst) -> Option<MemoryInst>
-    ensures row { option_map memory_of result ≡ memory inst.now }
+    ensures row { option_map memory_instruction_of result ≡ memory inst.now }
     ensures encodes { IfSome result (λ x. may_encode x ≡ true) }
 {
     match find_storage_group(inst) {

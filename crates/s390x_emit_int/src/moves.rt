@@ -2,19 +2,19 @@
 ghost use Rattle.std.specs.Prelude.{◌≡◌, ◌<◌, ◌&&◌, true, Some, IfSome};
 ghost use Rattle.std.specs.Option.{option_map};
 ghost use Rattle.s390x_base.specs.Regs.{number_of};
-ghost use Rattle.s390x_steps.specs.General.{is_general, is_access, reuses, four_bits, low_halfword, low_displacement};
-ghost use Rattle.s390x_steps.specs.MachineInstruction.{rr, rrf_cde, rie_g};
-ghost use Rattle.s390x_steps.specs.Opcodes.{of_two, of_four, load_part, load_half, insert_part, insert_half, extend_to_word, extend_to_doubleword, extend_two, indexed_opcode, logical_indexed_opcode};
-ghost use Rattle.s390x_steps.specs.Alone.{alone, alone_with, two_row, indexed_row};
-ghost use Rattle.s390x_emit_int.specs.Alone.{instruction_of, alone_of, opcode_of, group_of, encodes, takes_general};
-ghost use Rattle.s390x_emit_int.specs.declared.alone.Group.TheVariants.{Moves};
+ghost use Rattle.s390x_typed_steps.specs.General.{is_general, is_access, reuses, four_bits, low_halfword, low_displacement};
+ghost use Rattle.s390x_typed_steps.specs.MachineInstruction.{rr, rrf_cde, rie_g};
+ghost use Rattle.s390x_typed_steps.specs.Opcodes.{of_two, of_four, load_part, load_half, insert_part, insert_half, extend_to_word, extend_to_doubleword, extend_two, indexed_opcode, logical_indexed_opcode};
+ghost use Rattle.s390x_typed_steps.specs.SingleInstruction.{single_instruction, single_with, two_row, indexed_row};
+ghost use Rattle.s390x_emit_int.specs.SingleInstruction.{instruction_of, single_of, opcode_of, group_of, encodes, takes_general};
+ghost use Rattle.s390x_emit_int.specs.declared.single_instruction.Group.TheVariants.{Moves};
 
-use crate::alone::{
-    Alone, alone_with, bits_of_halfword, bits_of_unsigned, bits_of_unsigned_halfword, bits_of_word,
-    is_reused, three_general, two_general,
-};
 use crate::opcode::ShortOpcode;
 use crate::register_row::{RegisterRow, halfword_row, short, two_row, word_row};
+use crate::single_instruction::{
+    CheckedRow, bits_of_halfword, bits_of_unsigned, bits_of_unsigned_halfword, bits_of_word,
+    is_reused, single_with, three_general, two_general,
+};
 use s390x_address::memory::general;
 use s390x_base::{Cond, Reg, SImm20, gpr};
 use s390x_inst::Inst;
@@ -197,40 +197,40 @@ fn branch_nowhere(mask: u8, target: u8) -> Option<RegisterRow>
 
 #[tactic(auto, using(crate::proofs::Encoding::reused_encodes, crate::proofs::Encoding::reused_pair_encodes, crate::proofs::Encoding::first_encodes, crate::proofs::Encoding::reused_tested_encodes))]
 /// The machine instruction of a move, or of one that does nothing.
-pub fn find_move(inst: &Inst) -> Option<Alone>
-    ensures row { group_of inst.now ≡ Moves → option_map alone_of result ≡ alone inst.now }
-    ensures encodes { IfSome result (λ x. encodes x.fine (Some x.row) ≡ true) }
+pub fn find_move(inst: &Inst) -> Option<CheckedRow>
+    ensures row { group_of inst.now ≡ Moves → option_map single_of result ≡ single_instruction inst.now }
+    ensures encodes { IfSome result (λ x. encodes x.operands_valid (Some x.row) ≡ true) }
 {
     match inst {
-        Inst::Mov64 { rd, rm } => alone_with(
+        Inst::Mov64 { rd, rm } => single_with(
             two_general(&rd.to_reg(), rm),
             two_row(Some(0xb904), rd.to_reg(), *rm),
         ),
-        Inst::MovPReg { rd, rm } => alone_with(
+        Inst::MovPReg { rd, rm } => single_with(
             two_general(&rd.to_reg(), &Reg::Real(*rm)),
             two_row(Some(0xb904), rd.to_reg(), Reg::Real(*rm)),
         ),
-        Inst::Mov32 { rd, rm } => alone_with(
+        Inst::Mov32 { rd, rm } => single_with(
             two_general(&rd.to_reg(), rm),
             two_row(Some(0x18), rd.to_reg(), *rm),
         ),
-        Inst::Mov32Imm { rd, imm } => alone_with(
+        Inst::Mov32Imm { rd, imm } => single_with(
             general(&rd.to_reg()),
             word_row(Some(short(0xc09)), rd.to_reg(), bits_of_unsigned(*imm)),
         ),
-        Inst::Mov32SImm16 { rd, imm } => alone_with(
+        Inst::Mov32SImm16 { rd, imm } => single_with(
             general(&rd.to_reg()),
             halfword_row(Some(short(0xa78)), rd.to_reg(), bits_of_halfword(*imm)),
         ),
-        Inst::Mov64SImm16 { rd, imm } => alone_with(
+        Inst::Mov64SImm16 { rd, imm } => single_with(
             general(&rd.to_reg()),
             halfword_row(Some(short(0xa79)), rd.to_reg(), bits_of_halfword(*imm)),
         ),
-        Inst::Mov64SImm32 { rd, imm } => alone_with(
+        Inst::Mov64SImm32 { rd, imm } => single_with(
             general(&rd.to_reg()),
             word_row(Some(short(0xc01)), rd.to_reg(), bits_of_word(*imm)),
         ),
-        Inst::Mov64UImm16Shifted { rd, imm } => alone_with(
+        Inst::Mov64UImm16Shifted { rd, imm } => single_with(
             general(&rd.to_reg()),
             halfword_row(
                 of_four(0xa5f, 0xa5e, 0xa5d, 0xa5c, imm.shift),
@@ -238,7 +238,7 @@ pub fn find_move(inst: &Inst) -> Option<Alone>
                 bits_of_unsigned_halfword(imm.bits),
             ),
         ),
-        Inst::Mov64UImm32Shifted { rd, imm } => alone_with(
+        Inst::Mov64UImm32Shifted { rd, imm } => single_with(
             general(&rd.to_reg()),
             word_row(
                 of_two(0xc0f, 0xc0e, imm.shift),
@@ -246,7 +246,7 @@ pub fn find_move(inst: &Inst) -> Option<Alone>
                 bits_of_unsigned(imm.bits),
             ),
         ),
-        Inst::Insert64UImm16Shifted { rd, ri, imm } => alone_with(
+        Inst::Insert64UImm16Shifted { rd, ri, imm } => single_with(
             is_reused(&rd.to_reg(), ri),
             halfword_row(
                 of_four(0xa53, 0xa52, 0xa51, 0xa50, imm.shift),
@@ -254,7 +254,7 @@ pub fn find_move(inst: &Inst) -> Option<Alone>
                 bits_of_unsigned_halfword(imm.bits),
             ),
         ),
-        Inst::Insert64UImm32Shifted { rd, ri, imm } => alone_with(
+        Inst::Insert64UImm32Shifted { rd, ri, imm } => single_with(
             is_reused(&rd.to_reg(), ri),
             word_row(
                 of_two(0xc09, 0xc08, imm.shift),
@@ -262,19 +262,19 @@ pub fn find_move(inst: &Inst) -> Option<Alone>
                 bits_of_unsigned(imm.bits),
             ),
         ),
-        Inst::CMov32 { rd, cond, ri, rm } => alone_with(
+        Inst::CMov32 { rd, cond, ri, rm } => single_with(
             is_reused(&rd.to_reg(), ri) && general(rm),
             conditional(0xb9f2, rd.to_reg(), *rm, *cond),
         ),
-        Inst::CMov64 { rd, cond, ri, rm } => alone_with(
+        Inst::CMov64 { rd, cond, ri, rm } => single_with(
             is_reused(&rd.to_reg(), ri) && general(rm),
             conditional(0xb9e2, rd.to_reg(), *rm, *cond),
         ),
-        Inst::CMov32SImm16 { rd, cond, ri, imm } => alone_with(
+        Inst::CMov32SImm16 { rd, cond, ri, imm } => single_with(
             is_reused(&rd.to_reg(), ri),
             conditional_immediate(0xec42, rd.to_reg(), *imm, *cond),
         ),
-        Inst::CMov64SImm16 { rd, cond, ri, imm } => alone_with(
+        Inst::CMov64SImm16 { rd, cond, ri, imm } => single_with(
             is_reused(&rd.to_reg(), ri),
             conditional_immediate(0xec46, rd.to_reg(), *imm, *cond),
         ),
@@ -284,7 +284,7 @@ pub fn find_move(inst: &Inst) -> Option<Alone>
             signed,
             from_bits,
             to_bits,
-        } => alone_with(
+        } => single_with(
             two_general(&rd.to_reg(), rn),
             two_row(
                 extend_opcode(*signed, *from_bits, *to_bits),
@@ -292,11 +292,11 @@ pub fn find_move(inst: &Inst) -> Option<Alone>
                 *rn,
             ),
         ),
-        Inst::LoadAR { rd, ar } => alone_with(
+        Inst::LoadAR { rd, ar } => single_with(
             general(&rd.to_reg()) && access(*ar),
             access_row(rd.to_reg(), *ar),
         ),
-        Inst::InsertAR { rd, ri, ar } => alone_with(
+        Inst::InsertAR { rd, ri, ar } => single_with(
             is_reused(&rd.to_reg(), ri) && access(*ar),
             access_row(rd.to_reg(), *ar),
         ),
@@ -306,7 +306,7 @@ pub fn find_move(inst: &Inst) -> Option<Alone>
             index,
             offset,
             size,
-        } => alone_with(
+        } => single_with(
             three_general(&rd.to_reg(), base, index),
             indexed_row(indexed_opcode(*size), rd.to_reg(), *base, *index, *offset),
         ),
@@ -316,7 +316,7 @@ pub fn find_move(inst: &Inst) -> Option<Alone>
             index,
             offset,
             size,
-        } => alone_with(
+        } => single_with(
             three_general(&rd.to_reg(), base, index),
             indexed_row(
                 logical_indexed_opcode(*size),
@@ -326,8 +326,8 @@ pub fn find_move(inst: &Inst) -> Option<Alone>
                 *offset,
             ),
         ),
-        Inst::Fence => alone_with(true, branch_nowhere(14, 0)),
-        Inst::Nop2 => alone_with(true, branch_nowhere(0, 7)),
+        Inst::Fence => single_with(true, branch_nowhere(14, 0)),
+        Inst::Nop2 => single_with(true, branch_nowhere(0, 7)),
         _ => None,
     }
 }

@@ -2,10 +2,10 @@
 ghost use Rattle.std.specs.Prelude.{◌≡◌, ◌≤◌, ◌<◌, ◌&&◌, true, false, Some, MatchResult};
 ghost use Rattle.std.specs.Option.{option_map};
 ghost use Rattle.s390x_base.specs.Regs.{number_of};
-ghost use Rattle.s390x_steps.specs.General.{is_general, low_displacement};
-ghost use Rattle.s390x_steps.specs.MachineInstruction.{bytes_of, size_of};
-ghost use Rattle.s390x_steps.specs.Alone.{two_operands, two_row, halfword_row, word_row};
-ghost use Rattle.s390x_emit_int.specs.Alone.{instruction_of, opcode_of, can_encode, encodes, takes_general};
+ghost use Rattle.s390x_typed_steps.specs.General.{is_general, low_displacement};
+ghost use Rattle.s390x_typed_steps.specs.MachineInstruction.{bytes_of, size_of};
+ghost use Rattle.s390x_typed_steps.specs.SingleInstruction.{two_operands, two_row, halfword_row, word_row};
+ghost use Rattle.s390x_emit_int.specs.SingleInstruction.{instruction_of, opcode_of, can_encode, encodes, takes_general};
 
 use crate::opcode::ShortOpcode;
 use s390x_base::{Code, EmitError, Reg, SImm20};

@@ -1,19 +1,19 @@
 //! The stack sizes along the instructions of a block.
 ghost use Rattle.std.specs.Prelude.{◌≡◌, ℕ, None, Some, MatchResult, nat_eq};
 ghost use Rattle.s390x_base.specs.declared.error.EmitError.TheVariants.{BadStackState};
-ghost use Rattle.s390x_steps.specs.Causes.{stack_cause, unless};
-ghost use Rattle.s390x_steps.specs.Stack.{state_after};
+ghost use Rattle.s390x_typed_steps.specs.Causes.{stack_cause, unless};
+ghost use Rattle.s390x_typed_steps.specs.Stack.{state_after};
 
-use crate::causes::refusal_unless;
+use crate::causes::cause_unless;
 use s390x_base::EmitError;
 use s390x_inst::{EmitState, Inst};
 
 /// Why an instruction can't stand at these stack sizes, inside so many loops: `AllocateArgs` needs the nominal size 0, and no loop around it.
-pub fn stack_refusal(state: &EmitState, depth: u32, inst: &Inst) -> Option<EmitError>
+pub fn stack_cause(state: &EmitState, depth: u32, inst: &Inst) -> Option<EmitError>
     ensures { result ≡ stack_cause state.now.nominal depth inst.now }
 {
     match inst {
-        Inst::AllocateArgs { .. } => refusal_unless(
+        Inst::AllocateArgs { .. } => cause_unless(
             state.nominal() == 0 && depth == 0,
             EmitError::BadStackState,
         ),
@@ -39,8 +39,8 @@ pub fn advance(state: &mut EmitState, inst: &Inst) -> Result<(), EmitError>
 }
 
 /// Why a block can't end at these stack sizes.
-pub fn end_refusal(state: &EmitState) -> Option<EmitError>
+pub fn end_cause(state: &EmitState) -> Option<EmitError>
     ensures { result ≡ unless (nat_eq state.now.nominal 0) BadStackState }
 {
-    refusal_unless(state.nominal() == 0, EmitError::BadStackState)
+    cause_unless(state.nominal() == 0, EmitError::BadStackState)
 }

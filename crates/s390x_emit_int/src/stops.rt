@@ -2,17 +2,17 @@
 ghost use Rattle.std.specs.Prelude.{◌≡◌, ◌&&◌, true, Some, IfSome};
 ghost use Rattle.std.specs.Option.{option_map};
 ghost use Rattle.s390x_base.specs.Regs.{number_of};
-ghost use Rattle.s390x_steps.specs.General.{is_general, reuses_pair, four_bits};
-ghost use Rattle.s390x_steps.specs.Opcodes.{cmp_trap, cmp_trap_signed, cmp_trap_unsigned};
-ghost use Rattle.s390x_steps.specs.Alone.{alone, stop_code, masked_row, masked_halfword_row};
-ghost use Rattle.s390x_emit_int.specs.Alone.{instruction_of, alone_of, group_of, encodes};
-ghost use Rattle.s390x_emit_int.specs.declared.alone.Group.TheVariants.{Stops};
+ghost use Rattle.s390x_typed_steps.specs.General.{is_general, reuses_pair, four_bits};
+ghost use Rattle.s390x_typed_steps.specs.Opcodes.{cmp_trap, cmp_trap_signed, cmp_trap_unsigned};
+ghost use Rattle.s390x_typed_steps.specs.SingleInstruction.{single_instruction, stop_code, masked_row, masked_halfword_row};
+ghost use Rattle.s390x_emit_int.specs.SingleInstruction.{instruction_of, single_of, group_of, encodes};
+ghost use Rattle.s390x_emit_int.specs.declared.single_instruction.Group.TheVariants.{Stops};
 
-use crate::alone::{
-    Alone, alone_with, bits_of_halfword, bits_of_unsigned_halfword, is_reused, two_general,
-};
 use crate::bits::{is_even_pair, pair_row};
 use crate::register_row::RegisterRow;
+use crate::single_instruction::{
+    CheckedRow, bits_of_halfword, bits_of_unsigned_halfword, is_reused, single_with, two_general,
+};
 use s390x_address::memory::general;
 use s390x_base::{Cond, Reg, RegPair, TrapCode, WritableRegPair};
 use s390x_inst::{CmpOp, Inst};
@@ -90,24 +90,24 @@ fn is_reused_pair(output: &WritableRegPair, input: &RegPair) -> bool
 
 #[tactic(auto, using(crate::proofs::Encoding::even_reused_encodes, crate::proofs::Encoding::even_reused_pair_encodes))]
 /// The machine instruction of a division or of a comparison that traps.
-pub fn find_stop(inst: &Inst) -> Option<Alone>
-    ensures row { group_of inst.now ≡ Stops → option_map alone_of result ≡ alone inst.now }
-    ensures encodes { IfSome result (λ x. encodes x.fine (Some x.row) ≡ true) }
+pub fn find_stop(inst: &Inst) -> Option<CheckedRow>
+    ensures row { group_of inst.now ≡ Stops → option_map single_of result ≡ single_instruction inst.now }
+    ensures encodes { IfSome result (λ x. encodes x.operands_valid (Some x.row) ≡ true) }
 {
     match inst {
-        Inst::SDivMod32 { rd, ri, rn } => alone_with(
+        Inst::SDivMod32 { rd, ri, rn } => single_with(
             is_even_pair(rd) && is_reused(&rd.lo.to_reg(), ri) && general(rn),
             pair_row(0xb91d, rd.hi.to_reg(), *rn),
         ),
-        Inst::SDivMod64 { rd, ri, rn } => alone_with(
+        Inst::SDivMod64 { rd, ri, rn } => single_with(
             is_even_pair(rd) && is_reused(&rd.lo.to_reg(), ri) && general(rn),
             pair_row(0xb90d, rd.hi.to_reg(), *rn),
         ),
-        Inst::UDivMod32 { rd, ri, rn } => alone_with(
+        Inst::UDivMod32 { rd, ri, rn } => single_with(
             is_even_pair(rd) && is_reused_pair(rd, ri) && general(rn),
             pair_row(0xb997, rd.hi.to_reg(), *rn),
         ),
-        Inst::UDivMod64 { rd, ri, rn } => alone_with(
+        Inst::UDivMod64 { rd, ri, rn } => single_with(
             is_even_pair(rd) && is_reused_pair(rd, ri) && general(rn),
             pair_row(0xb987, rd.hi.to_reg(), *rn),
         ),
@@ -117,7 +117,7 @@ pub fn find_stop(inst: &Inst) -> Option<Alone>
             rm,
             cond,
             ..
-        } => alone_with(
+        } => single_with(
             two_general(rn, rm),
             masked_row(compare_opcode(*op), *rn, *rm, *cond),
         ),
@@ -127,7 +127,7 @@ pub fn find_stop(inst: &Inst) -> Option<Alone>
             imm,
             cond,
             ..
-        } => alone_with(
+        } => single_with(
             general(rn),
             masked_halfword_row(
                 compare_signed_opcode(*op),
@@ -142,7 +142,7 @@ pub fn find_stop(inst: &Inst) -> Option<Alone>
             imm,
             cond,
             ..
-        } => alone_with(
+        } => single_with(
             general(rn),
             masked_halfword_row(
                 compare_unsigned_opcode(*op),

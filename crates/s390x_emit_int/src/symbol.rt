@@ -1,17 +1,17 @@
 //! Emitting the load of a symbol's address.
-#![tactic(auto, using(s390x_buffer::proofs::Keeping::keeps_on, s390x_buffer::proofs::Keeping::keeps_same))]
+#![tactic(auto, using(s390x_buffer::proofs::Keeping::extends_on, s390x_buffer::proofs::Keeping::extends_same))]
 
 ghost use Rattle.std.specs.Prelude.{◌≡◌, [], ◌∷◌, None, true, OnOk};
 ghost use Rattle.std.specs.Int.{w64, to_be_bytes};
 ghost use Rattle.s390x_base.specs.Regs.{number_of};
 ghost use Rattle.s390x_base.specs.declared.ir.Reloc.TheVariants.{Abs8};
-ghost use Rattle.s390x_buffer.specs.Keeps.{Keeps};
+ghost use Rattle.s390x_buffer.specs.Extends.{Extends};
 ghost use Rattle.s390x_buffer.specs.State.{put_cause};
-ghost use Rattle.s390x_steps.specs.MachineInstruction.{ri_b, rxy};
-ghost use Rattle.s390x_steps.specs.Parts.{Row, name_in, offset_in, symbol_parts};
-ghost use Rattle.s390x_steps.specs.General.{is_general};
-ghost use Rattle.s390x_emit_int.specs.Pieces.{PutReloc, apply, run};
-ghost use Rattle.s390x_emit_int.specs.Emission.{part_pieces};
+ghost use Rattle.s390x_typed_steps.specs.MachineInstruction.{ri_b, rxy};
+ghost use Rattle.s390x_typed_steps.specs.Parts.{Row, name_in, offset_in, symbol_parts};
+ghost use Rattle.s390x_typed_steps.specs.General.{is_general};
+ghost use Rattle.s390x_emit_int.specs.Fragments.{PutReloc, apply, apply_all};
+ghost use Rattle.s390x_emit_int.specs.Emission.{part_fragments};
 ghost use Rattle.s390x_emit_int.specs.Room.{LacksMemory};
 
 use s390x_base::{EmitError, ExternalName, Reg, Reloc, gpr};
@@ -21,9 +21,9 @@ use s390x_inst::SymbolReloc;
 
 // BRANCH RELATIVE AND SAVE over the doubleword behind it, whose address goes into `%r1`.
 fn put_branch_over(sink: &mut MachBuffer) -> Result<(), EmitError>
-    ensures answer { OnOk result (sink.new ≡ run sink.old (part_pieces (Row (ri_b 0xa75 1 6) ∷ []))) }
+    ensures answer { OnOk result (sink.new ≡ apply_all sink.old (part_fragments (Row (ri_b 0xa75 1 6) ∷ []))) }
     ensures lacks { put_cause sink.old 4 ≡ None → LacksMemory result }
-    ensures kept { Keeps sink.old sink.new }
+    ensures kept { Extends sink.old sink.new }
 {
     let code = enc_ri_b(0xa75, gpr(1), 12)?;
     sink.put_code(&code)
@@ -33,7 +33,7 @@ fn put_branch_over(sink: &mut MachBuffer) -> Result<(), EmitError>
 fn put_symbol(sink: &mut MachBuffer, name: ExternalName, offset: i64) -> Result<(), EmitError>
     ensures answer { OnOk result (sink.new ≡ apply sink.old (PutReloc (to_be_bytes w64 0) 0 Abs8 name offset)) }
     ensures lacks { put_cause sink.old 8 ≡ None → LacksMemory result }
-    ensures kept { Keeps sink.old sink.new }
+    ensures kept { Extends sink.old sink.new }
 {
     sink.add_reloc(Reloc::Abs8, name, offset)?;
     sink.put8(0)
@@ -43,7 +43,7 @@ fn put_symbol(sink: &mut MachBuffer, name: ExternalName, offset: i64) -> Result<
 fn put_reloc(sink: &mut MachBuffer, symbol_reloc: &SymbolReloc) -> Result<(), EmitError>
     ensures answer { OnOk result (sink.new ≡ apply sink.old (PutReloc (to_be_bytes w64 0) 0 Abs8 (name_in symbol_reloc.now) (offset_in symbol_reloc.now))) }
     ensures lacks { put_cause sink.old 8 ≡ None → LacksMemory result }
-    ensures kept { Keeps sink.old sink.new }
+    ensures kept { Extends sink.old sink.new }
 {
     match symbol_reloc {
         SymbolReloc::Absolute { name, offset } => put_symbol(sink, *name, *offset),
@@ -52,9 +52,9 @@ fn put_reloc(sink: &mut MachBuffer, symbol_reloc: &SymbolReloc) -> Result<(), Em
 
 // LOAD (64) of the doubleword at the address in `%r1`.
 fn put_load(sink: &mut MachBuffer, rd: Reg) -> Result<(), EmitError>
-    ensures answer { OnOk result (sink.new ≡ run sink.old (part_pieces (Row (rxy 0xe304 (number_of rd) 1 0 0) ∷ []))) }
+    ensures answer { OnOk result (sink.new ≡ apply_all sink.old (part_fragments (Row (rxy 0xe304 (number_of rd) 1 0 0) ∷ []))) }
     ensures lacks { put_cause sink.old 6 ≡ None → is_general rd ≡ true → LacksMemory result }
-    ensures kept { Keeps sink.old sink.new }
+    ensures kept { Extends sink.old sink.new }
 {
     let code = enc_rxy(0xe304, rd, gpr(1), gpr(0), 0)?;
     sink.put_code(&code)
@@ -66,9 +66,9 @@ pub fn emit_symbol_load(
     rd: Reg,
     symbol_reloc: &SymbolReloc,
 ) -> Result<(), EmitError>
-    ensures answer { OnOk result (sink.new ≡ run sink.old (part_pieces (symbol_parts (number_of rd) symbol_reloc.now))) }
+    ensures answer { OnOk result (sink.new ≡ apply_all sink.old (part_fragments (symbol_parts (number_of rd) symbol_reloc.now))) }
     ensures lacks { put_cause sink.old 18 ≡ None → is_general rd ≡ true → LacksMemory result }
-    ensures kept { Keeps sink.old sink.new }
+    ensures kept { Extends sink.old sink.new }
 {
     put_branch_over(sink)?;
     put_reloc(sink, symbol_reloc)?;

@@ -1,17 +1,17 @@
 //! Emitting a jump by a table.
-#![tactic(auto, using(s390x_buffer::proofs::Keeping::keeps_on, s390x_buffer::proofs::Keeping::keeps_same))]
+#![tactic(auto, using(s390x_buffer::proofs::Keeping::extends_on, s390x_buffer::proofs::Keeping::extends_same))]
 
 ghost use Rattle.std.specs.Prelude.{◌≡◌, ℕ, ◌+◌, ◌*◌, ◌<◌, [], ◌∷◌, None, true, length, OnOk};
 ghost use Rattle.s390x_base.specs.Regs.{number_of};
-ghost use Rattle.s390x_buffer.specs.Keeps.{Keeps};
+ghost use Rattle.s390x_buffer.specs.Extends.{Extends};
 ghost use Rattle.s390x_buffer.specs.State.{put_cause};
-ghost use Rattle.s390x_steps.specs.MachineInstruction.{rxy};
-ghost use Rattle.s390x_steps.specs.Parts.{Row, table_words};
-ghost use Rattle.s390x_steps.specs.Causes.{labels_cause, table_cause, numbers_cause};
-ghost use Rattle.s390x_steps.specs.General.{is_general};
-ghost use Rattle.s390x_steps.specs.Ranges.{IsMask};
-ghost use Rattle.s390x_emit_int.specs.Pieces.{apply, run};
-ghost use Rattle.s390x_emit_int.specs.Emission.{table_word, table_rows, table_pieces, part_pieces};
+ghost use Rattle.s390x_typed_steps.specs.MachineInstruction.{rxy};
+ghost use Rattle.s390x_typed_steps.specs.Parts.{Row, table_words};
+ghost use Rattle.s390x_typed_steps.specs.Causes.{labels_cause, table_cause, numbers_cause};
+ghost use Rattle.s390x_typed_steps.specs.General.{is_general};
+ghost use Rattle.s390x_typed_steps.specs.Ranges.{IsConditionMask};
+ghost use Rattle.s390x_emit_int.specs.Fragments.{apply, apply_all};
+ghost use Rattle.s390x_emit_int.specs.Emission.{table_word, table_rows, table_fragments, part_fragments};
 ghost use Rattle.s390x_emit_int.specs.Room.{HasRoom, Passed, LacksMemory};
 
 use crate::leaf::{emit_address, emit_branch_register, put_branch};
@@ -23,7 +23,7 @@ use s390x_enc::enc_rxy;
 fn put_word(sink: &mut MachBuffer, before: u32, label: MachLabel) -> Result<(), EmitError>
     ensures answer { OnOk result (sink.new ≡ apply sink.old (table_word before label.0)) }
     ensures lacks { Passed sink.old label.0 4 None → LacksMemory result }
-    ensures kept { Keeps sink.old sink.new }
+    ensures kept { Extends sink.old sink.new }
 {
     let offset = sink.cur_offset();
     sink.use_label_at_offset(offset, label, LabelUse::PCRel32)?;
@@ -32,9 +32,9 @@ fn put_word(sink: &mut MachBuffer, before: u32, label: MachLabel) -> Result<(), 
 
 // The words of a table that begins here.
 fn put_words(sink: &mut MachBuffer, targets: &[MachLabel]) -> Result<(), EmitError>
-    ensures answer { OnOk result (sink.new ≡ run sink.old (part_pieces (table_words 0 targets.now))) }
+    ensures answer { OnOk result (sink.new ≡ apply_all sink.old (part_fragments (table_words 0 targets.now))) }
     ensures lacks { (after : ℕ) → Passed sink.old after (4 * length targets.now) (labels_cause sink.old.block_count targets.now) → LacksMemory result }
-    ensures kept { Keeps sink.old sink.new }
+    ensures kept { Extends sink.old sink.new }
 {
     let table = sink.cur_offset();
     for target in targets {
@@ -46,9 +46,9 @@ fn put_words(sink: &mut MachBuffer, targets: &[MachLabel]) -> Result<(), EmitErr
 
 // ADD (64 from 32 bits) of the word at an index behind `%r1` to `%r1`.
 fn put_word_sum(sink: &mut MachBuffer, index: Reg) -> Result<(), EmitError>
-    ensures answer { OnOk result (sink.new ≡ run sink.old (part_pieces (Row (rxy 0xe318 1 1 (number_of index) 0) ∷ []))) }
+    ensures answer { OnOk result (sink.new ≡ apply_all sink.old (part_fragments (Row (rxy 0xe318 1 1 (number_of index) 0) ∷ []))) }
     ensures lacks { put_cause sink.old 6 ≡ None → is_general index ≡ true → LacksMemory result }
-    ensures kept { Keeps sink.old sink.new }
+    ensures kept { Extends sink.old sink.new }
 {
     let code = enc_rxy(0xe318, gpr(1), gpr(1), index, 0)?;
     sink.put_code(&code)
@@ -63,9 +63,9 @@ fn put_table_rows(
     other: MachLabel,
 ) -> Result<(), EmitError>
     requires { mask < 16 }
-    ensures answer { OnOk result (sink.new ≡ run sink.old (table_rows table.0 (number_of index) mask other.0)) }
+    ensures answer { OnOk result (sink.new ≡ apply_all sink.old (table_rows table.0 (number_of index) mask other.0)) }
     ensures lacks { Passed sink.old other.0 20 None → table.0 < length sink.old.labels → is_general index ≡ true → LacksMemory result }
-    ensures kept { Keeps sink.old sink.new }
+    ensures kept { Extends sink.old sink.new }
 {
     put_branch(sink, mask, other)?;
     emit_address(sink, gpr(1), table)?;
@@ -82,10 +82,10 @@ pub fn emit_table(
     targets: &[MachLabel],
 ) -> Result<(), EmitError>
     requires { HasRoom sink.old }
-    ensures answer { OnOk result (sink.new ≡ run sink.old (table_pieces (length sink.old.labels) (number_of index) cond other.0 targets.now)) }
+    ensures answer { OnOk result (sink.new ≡ apply_all sink.old (table_fragments (length sink.old.labels) (number_of index) cond other.0 targets.now)) }
     ensures lacks { (after : ℕ) → Passed sink.old after (20 + 4 * length targets.now) (table_cause sink.old.block_count index other targets.now) → numbers_cause (length sink.old.labels) 1 ≡ None → LacksMemory result }
-    ensures range { IsMask cond }
-    ensures kept { Keeps sink.old sink.new }
+    ensures range { IsConditionMask cond }
+    ensures kept { Extends sink.old sink.new }
 {
     let mask = cond.bits();
     let table = sink.get_label()?;

@@ -1,13 +1,13 @@
 //! Emitting lists of instructions, with the members of loops.
-#![tactic(auto, using(s390x_buffer::proofs::Keeping::keeps_on, s390x_buffer::proofs::Keeping::keeps_same))]
+#![tactic(auto, using(s390x_buffer::proofs::Keeping::extends_on, s390x_buffer::proofs::Keeping::extends_same))]
 
 ghost use Rattle.std.specs.Prelude.{◌≡◌, ℕ, OnOk, length};
-ghost use Rattle.s390x_buffer.specs.Keeps.{Keeps};
+ghost use Rattle.s390x_buffer.specs.Extends.{Extends};
 ghost use Rattle.s390x_inst.specs.declared.state.IsaFlags.{IsaFlags};
-ghost use Rattle.s390x_steps.specs.Tree.{empty, looped, graft, tree};
-ghost use Rattle.s390x_emit_int.specs.Pieces.{run};
-ghost use Rattle.s390x_emit_int.specs.Emission.{pieces, own_pieces};
-ghost use Rattle.s390x_steps.specs.Ranges.{AllInRange};
+ghost use Rattle.s390x_typed_steps.specs.Tree.{empty, loop_node, prepend, tree};
+ghost use Rattle.s390x_emit_int.specs.Fragments.{apply_all};
+ghost use Rattle.s390x_emit_int.specs.Emission.{fragments, own_fragments};
+ghost use Rattle.s390x_typed_steps.specs.Ranges.{AllInRange};
 ghost use Rattle.s390x_emit_int.specs.Room.{HasRoom, TreePassed, LacksMemory};
 
 use crate::leaf::{emit_leaf, put_branch};
@@ -25,10 +25,10 @@ pub fn emit_members(
     after: MachLabel,
 ) -> Result<(), EmitError>
     requires { HasRoom sink.old }
-    ensures answer { OnOk result (sink.new ≡ run sink.old (pieces (length sink.old.labels) after.0 (tree state.now insts.now))) }
+    ensures answer { OnOk result (sink.new ≡ apply_all sink.old (fragments (length sink.old.labels) after.0 (tree state.now insts.now))) }
     ensures lacks { (flags : IsaFlags) (depth : ℕ) → TreePassed flags sink.old after.0 state.now.nominal depth (tree state.now insts.now) → LacksMemory result }
     ensures ranges { OnOk result (AllInRange (tree state.now insts.now)) }
-    ensures kept { Keeps sink.old sink.new }
+    ensures kept { Extends sink.old sink.new }
 {
     let mut here = *state;
     for inst in insts {
@@ -48,10 +48,10 @@ pub fn emit_inst(
     after: MachLabel,
 ) -> Result<(), EmitError>
     requires { HasRoom sink.old }
-    ensures answer { OnOk result (sink.new ≡ run sink.old (own_pieces (length sink.old.labels) after.0 (graft state.now inst.now empty))) }
-    ensures lacks { (flags : IsaFlags) (depth : ℕ) → TreePassed flags sink.old after.0 state.now.nominal depth (graft state.now inst.now empty) → LacksMemory result }
-    ensures ranges { OnOk result (AllInRange (graft state.now inst.now empty)) }
-    ensures kept { Keeps sink.old sink.new }
+    ensures answer { OnOk result (sink.new ≡ apply_all sink.old (own_fragments (length sink.old.labels) after.0 (prepend state.now inst.now empty))) }
+    ensures lacks { (flags : IsaFlags) (depth : ℕ) → TreePassed flags sink.old after.0 state.now.nominal depth (prepend state.now inst.now empty) → LacksMemory result }
+    ensures ranges { OnOk result (AllInRange (prepend state.now inst.now empty)) }
+    ensures kept { Extends sink.old sink.new }
 {
     match inst {
         Inst::Loop { cond, body } => emit_loop(sink, state, *cond, body),
@@ -67,10 +67,10 @@ fn emit_loop(
     body: &[Inst],
 ) -> Result<(), EmitError>
     requires { HasRoom sink.old }
-    ensures answer { OnOk result (sink.new ≡ run sink.old (own_pieces (length sink.old.labels) 0 (looped cond (tree state.now body.now) empty))) }
-    ensures lacks { (flags : IsaFlags) (depth after : ℕ) → TreePassed flags sink.old after state.now.nominal depth (looped cond (tree state.now body.now) empty) → LacksMemory result }
-    ensures ranges { OnOk result (AllInRange (looped cond (tree state.now body.now) empty)) }
-    ensures kept { Keeps sink.old sink.new }
+    ensures answer { OnOk result (sink.new ≡ apply_all sink.old (own_fragments (length sink.old.labels) 0 (loop_node cond (tree state.now body.now) empty))) }
+    ensures lacks { (flags : IsaFlags) (depth after : ℕ) → TreePassed flags sink.old after state.now.nominal depth (loop_node cond (tree state.now body.now) empty) → LacksMemory result }
+    ensures ranges { OnOk result (AllInRange (loop_node cond (tree state.now body.now) empty)) }
+    ensures kept { Extends sink.old sink.new }
 {
     let mask = cond.bits();
     let start = sink.get_label()?;

@@ -7,14 +7,14 @@ use Rattle.s390x_base.specs.declared.regs.RegClass.TheVariants.{Int, Float}
 use Rattle.s390x_base.specs.Regs.{number_of}
 
 -- the class of general registers
-abbrev pub is_int : RegClass → Bool
-is_int Int = true
-is_int Float = false
+abbrev pub is_int_class : RegClass → Bool
+is_int_class Int = true
+is_int_class Float = false
 
 -- a real Int register
-abbrev pub is_general : Reg → Bool
-is_general (Real r) = is_int r.class
-is_general (Virtual n c) = false
+abbrev pub is_general_class : Reg → Bool
+is_general_class (Real r) = is_int_class r.class
+is_general_class (Virtual n c) = false
 
 -- the class of vector and float registers
 abbrev pub is_float_class : RegClass → Bool
@@ -44,11 +44,11 @@ is_second_float o = (o == 0x28) || (o == 0x38) || (o == 0xb3cd)
 
 -- the register may stand first in an instruction with this opcode, on general and float registers
 abbrev pub may_stand_first : ℕ → Reg → Bool
-may_stand_first o r = cond (is_first_float o) (is_float r) (is_general r)
+may_stand_first o r = cond (is_first_float o) (is_float r) (is_general_class r)
 
 -- the register may stand second there
 abbrev pub may_stand_second : ℕ → Reg → Bool
-may_stand_second o r = cond (is_second_float o) (is_float r) (is_general r)
+may_stand_second o r = cond (is_second_float o) (is_float r) (is_general_class r)
 
 -- the bit above the four low ones of a register's number, where a register is given
 abbrev pub high_bit : Option Reg → ℕ

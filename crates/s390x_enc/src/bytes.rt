@@ -6,7 +6,7 @@ ghost use mir.Syntax.{w16};
 use s390x_base::Code;
 
 /// The byte with these two halves.
-pub fn halves(high: u8, low: u8) -> u8
+pub fn nibbles(high: u8, low: u8) -> u8
     requires high { high < 2 ^ 4 }
     requires low { low < 2 ^ 4 }
     ensures value { result ≡ high * 16 + low }

@@ -13,9 +13,9 @@ ghost use Rattle.s390x_base.specs.declared.error.EmitError.{EmitError};
 ghost use Rattle.s390x_base.specs.Regs.{number_of};
 ghost use Rattle.s390x_format.specs.declared.kind.FormatKind.{FormatKind};
 ghost use Rattle.s390x_format.specs.Encoded.{slots, IsCode};
-ghost use Rattle.s390x_enc.specs.Operands.{is_general, may_stand_first, may_stand_second};
+ghost use Rattle.s390x_enc.specs.Operands.{is_general_class, may_stand_first, may_stand_second};
 
-use crate::bytes::{four, half16, half32, halves, high_half, low_half, lower, six, two, upper};
+use crate::bytes::{four, half16, half32, high_half, low_half, lower, nibbles, six, two, upper};
 use crate::operands::{first, general, second};
 use s390x_base::{Code, EmitError, Reg};
 
@@ -29,12 +29,12 @@ pub fn enc_e(opcode: u16) -> Result<Code, EmitError>
 /// RI-A: `ab`, r1 c, i2.
 pub fn enc_ri_a(opcode: u16, r1: Reg, i2: u16) -> Result<Code, EmitError>
     requires { opcode < 2 ^ 12 }
-    ensures { let ok = is_general r1 in MatchResult result (λ code. (ok ≡ true) × IsCode FormatKind.RiA (slots opcode (number_of r1 ∷ []) [] i2 0) code) (λ e. (e ≡ EmitError.BadRegister) × (ok ≡ false)) }
+    ensures { let ok = is_general_class r1 in MatchResult result (λ code. (ok ≡ true) × IsCode FormatKind.RiA (slots opcode (number_of r1 ∷ []) [] i2 0) code) (λ e. (e ≡ EmitError.BadRegister) × (ok ≡ false)) }
 {
     let n1 = general(r1)?;
     Ok(four(
         (opcode / 16) as u8,
-        halves(n1, (opcode % 16) as u8),
+        nibbles(n1, (opcode % 16) as u8),
         upper(i2),
         lower(i2),
     ))
@@ -46,13 +46,13 @@ pub fn enc_ri_b(opcode: u16, r1: Reg, ri2: i32) -> Result<Code, EmitError>
     requires low { negsuc 65535 ≤ℤ ri2 }
     requires high { ri2 ≤ℤ pos 65534 }
     requires even { int_rem ri2 (pos 2) ≡ pos 0 }
-    ensures { let ok = is_general r1 in MatchResult result (λ code. (ok ≡ true) × IsCode FormatKind.RiB (slots opcode (number_of r1 ∷ []) [] (half_of w16 ri2) 0) code) (λ e. (e ≡ EmitError.BadRegister) × (ok ≡ false)) }
+    ensures { let ok = is_general_class r1 in MatchResult result (λ code. (ok ≡ true) × IsCode FormatKind.RiB (slots opcode (number_of r1 ∷ []) [] (half_of w16 ri2) 0) code) (λ e. (e ≡ EmitError.BadRegister) × (ok ≡ false)) }
 {
     let n1 = general(r1)?;
     let half = half16(ri2);
     Ok(four(
         (opcode / 16) as u8,
-        halves(n1, (opcode % 16) as u8),
+        nibbles(n1, (opcode % 16) as u8),
         upper(half),
         lower(half),
     ))
@@ -70,7 +70,7 @@ pub fn enc_ri_c(opcode: u16, m1: u8, ri2: i32) -> Result<Code, EmitError>
     let half = half16(ri2);
     Ok(four(
         (opcode / 16) as u8,
-        halves(m1, (opcode % 16) as u8),
+        nibbles(m1, (opcode % 16) as u8),
         upper(half),
         lower(half),
     ))
@@ -79,28 +79,28 @@ pub fn enc_ri_c(opcode: u16, m1: u8, ri2: i32) -> Result<Code, EmitError>
 /// RIE-A: `ab`, r1 0, i2, m3 0, `cd`.
 pub fn enc_rie_a(opcode: u16, r1: Reg, i2: u16, m3: u8) -> Result<Code, EmitError>
     requires { m3 < 16 }
-    ensures { let ok = is_general r1 in MatchResult result (λ code. (ok ≡ true) × IsCode FormatKind.RieA (slots opcode (number_of r1 ∷ []) (m3 ∷ []) i2 0) code) (λ e. (e ≡ EmitError.BadRegister) × (ok ≡ false)) }
+    ensures { let ok = is_general_class r1 in MatchResult result (λ code. (ok ≡ true) × IsCode FormatKind.RieA (slots opcode (number_of r1 ∷ []) (m3 ∷ []) i2 0) code) (λ e. (e ≡ EmitError.BadRegister) × (ok ≡ false)) }
 {
     let n1 = general(r1)?;
     Ok(six([
         upper(opcode),
-        halves(n1, 0),
+        nibbles(n1, 0),
         upper(i2),
         lower(i2),
-        halves(m3, 0),
+        nibbles(m3, 0),
         lower(opcode),
     ]))
 }
 
 /// RIE-D: `ab`, r1 r3, i2, 00, `cd`.
 pub fn enc_rie_d(opcode: u16, r1: Reg, r3: Reg, i2: u16) -> Result<Code, EmitError>
-    ensures { let ok = is_general r1 && is_general r3 in MatchResult result (λ code. (ok ≡ true) × IsCode FormatKind.RieD (slots opcode (number_of r1 ∷ number_of r3 ∷ []) [] i2 0) code) (λ e. (e ≡ EmitError.BadRegister) × (ok ≡ false)) }
+    ensures { let ok = is_general_class r1 && is_general_class r3 in MatchResult result (λ code. (ok ≡ true) × IsCode FormatKind.RieD (slots opcode (number_of r1 ∷ number_of r3 ∷ []) [] i2 0) code) (λ e. (e ≡ EmitError.BadRegister) × (ok ≡ false)) }
 {
     let n1 = general(r1)?;
     let n3 = general(r3)?;
     Ok(six([
         upper(opcode),
-        halves(n1, n3),
+        nibbles(n1, n3),
         upper(i2),
         lower(i2),
         0,
@@ -110,22 +110,22 @@ pub fn enc_rie_d(opcode: u16, r1: Reg, r3: Reg, i2: u16) -> Result<Code, EmitErr
 
 /// RIE-F: `ab`, r1 r2, i3, i4, i5, `cd`.
 pub fn enc_rie_f(opcode: u16, r1: Reg, r2: Reg, i3: u8, i4: u8, i5: u8) -> Result<Code, EmitError>
-    ensures { let ok = is_general r1 && is_general r2 in MatchResult result (λ code. (ok ≡ true) × IsCode FormatKind.RieF (slots opcode (number_of r1 ∷ number_of r2 ∷ []) (i3 ∷ i4 ∷ i5 ∷ []) 0 0) code) (λ e. (e ≡ EmitError.BadRegister) × (ok ≡ false)) }
+    ensures { let ok = is_general_class r1 && is_general_class r2 in MatchResult result (λ code. (ok ≡ true) × IsCode FormatKind.RieF (slots opcode (number_of r1 ∷ number_of r2 ∷ []) (i3 ∷ i4 ∷ i5 ∷ []) 0 0) code) (λ e. (e ≡ EmitError.BadRegister) × (ok ≡ false)) }
 {
     let n1 = general(r1)?;
     let n2 = general(r2)?;
-    Ok(six([upper(opcode), halves(n1, n2), i3, i4, i5, lower(opcode)]))
+    Ok(six([upper(opcode), nibbles(n1, n2), i3, i4, i5, lower(opcode)]))
 }
 
 /// RIE-G: `ab`, r1 m3, i2, 00, `cd`.
 pub fn enc_rie_g(opcode: u16, r1: Reg, i2: u16, m3: u8) -> Result<Code, EmitError>
     requires { m3 < 16 }
-    ensures { let ok = is_general r1 in MatchResult result (λ code. (ok ≡ true) × IsCode FormatKind.RieG (slots opcode (number_of r1 ∷ []) (m3 ∷ []) i2 0) code) (λ e. (e ≡ EmitError.BadRegister) × (ok ≡ false)) }
+    ensures { let ok = is_general_class r1 in MatchResult result (λ code. (ok ≡ true) × IsCode FormatKind.RieG (slots opcode (number_of r1 ∷ []) (m3 ∷ []) i2 0) code) (λ e. (e ≡ EmitError.BadRegister) × (ok ≡ false)) }
 {
     let n1 = general(r1)?;
     Ok(six([
         upper(opcode),
-        halves(n1, m3),
+        nibbles(n1, m3),
         upper(i2),
         lower(i2),
         0,
@@ -136,12 +136,12 @@ pub fn enc_rie_g(opcode: u16, r1: Reg, i2: u16, m3: u8) -> Result<Code, EmitErro
 /// RIL-A: `ab`, r1 c, i2.
 pub fn enc_ril_a(opcode: u16, r1: Reg, i2: u32) -> Result<Code, EmitError>
     requires { opcode < 2 ^ 12 }
-    ensures { let ok = is_general r1 in MatchResult result (λ code. (ok ≡ true) × IsCode FormatKind.RilA (slots opcode (number_of r1 ∷ []) [] i2 0) code) (λ e. (e ≡ EmitError.BadRegister) × (ok ≡ false)) }
+    ensures { let ok = is_general_class r1 in MatchResult result (λ code. (ok ≡ true) × IsCode FormatKind.RilA (slots opcode (number_of r1 ∷ []) [] i2 0) code) (λ e. (e ≡ EmitError.BadRegister) × (ok ≡ false)) }
 {
     let n1 = general(r1)?;
     Ok(six([
         (opcode / 16) as u8,
-        halves(n1, (opcode % 16) as u8),
+        nibbles(n1, (opcode % 16) as u8),
         upper(high_half(i2)),
         lower(high_half(i2)),
         upper(low_half(i2)),
@@ -153,13 +153,13 @@ pub fn enc_ril_a(opcode: u16, r1: Reg, i2: u32) -> Result<Code, EmitError>
 pub fn enc_ril_b(opcode: u16, r1: Reg, ri2: u32) -> Result<Code, EmitError>
     requires opcode { opcode < 2 ^ 12 }
     requires even { ri2 % 2 ≡ 0 }
-    ensures { let ok = is_general r1 in MatchResult result (λ code. (ok ≡ true) × IsCode FormatKind.RilB (slots opcode (number_of r1 ∷ []) [] (ri2 / 2) 0) code) (λ e. (e ≡ EmitError.BadRegister) × (ok ≡ false)) }
+    ensures { let ok = is_general_class r1 in MatchResult result (λ code. (ok ≡ true) × IsCode FormatKind.RilB (slots opcode (number_of r1 ∷ []) [] (ri2 / 2) 0) code) (λ e. (e ≡ EmitError.BadRegister) × (ok ≡ false)) }
 {
     let n1 = general(r1)?;
     let half = half32(ri2);
     Ok(six([
         (opcode / 16) as u8,
-        halves(n1, (opcode % 16) as u8),
+        nibbles(n1, (opcode % 16) as u8),
         upper(high_half(half)),
         lower(high_half(half)),
         upper(low_half(half)),
@@ -177,7 +177,7 @@ pub fn enc_ril_c(opcode: u16, m1: u8, ri2: u32) -> Result<Code, EmitError>
     let half = half32(ri2);
     Ok(six([
         (opcode / 16) as u8,
-        halves(m1, (opcode % 16) as u8),
+        nibbles(m1, (opcode % 16) as u8),
         upper(high_half(half)),
         lower(high_half(half)),
         upper(low_half(half)),
@@ -192,7 +192,7 @@ pub fn enc_rr(opcode: u16, r1: Reg, r2: Reg) -> Result<Code, EmitError>
 {
     let n1 = first(opcode, r1)?;
     let n2 = second(opcode, r2)?;
-    Ok(two(lower(opcode), halves(n1, n2)))
+    Ok(two(lower(opcode), nibbles(n1, n2)))
 }
 
 /// RRE: `ab cd`, 00, r1 r2.
@@ -201,27 +201,37 @@ pub fn enc_rre(opcode: u16, r1: Reg, r2: Reg) -> Result<Code, EmitError>
 {
     let n1 = first(opcode, r1)?;
     let n2 = second(opcode, r2)?;
-    Ok(four(upper(opcode), lower(opcode), 0, halves(n1, n2)))
+    Ok(four(upper(opcode), lower(opcode), 0, nibbles(n1, n2)))
 }
 
 /// RRF-AB: `ab cd`, r3 m4, r1 r2.
 pub fn enc_rrf_ab(opcode: u16, r1: Reg, r2: Reg, r3: Reg, m4: u8) -> Result<Code, EmitError>
     requires { m4 < 16 }
-    ensures { let ok = is_general r1 && is_general r2 && is_general r3 in MatchResult result (λ code. (ok ≡ true) × IsCode FormatKind.RrfAb (slots opcode (number_of r1 ∷ number_of r2 ∷ number_of r3 ∷ []) (m4 ∷ []) 0 0) code) (λ e. (e ≡ EmitError.BadRegister) × (ok ≡ false)) }
+    ensures { let ok = is_general_class r1 && is_general_class r2 && is_general_class r3 in MatchResult result (λ code. (ok ≡ true) × IsCode FormatKind.RrfAb (slots opcode (number_of r1 ∷ number_of r2 ∷ number_of r3 ∷ []) (m4 ∷ []) 0 0) code) (λ e. (e ≡ EmitError.BadRegister) × (ok ≡ false)) }
 {
     let n1 = general(r1)?;
     let n2 = general(r2)?;
     let n3 = general(r3)?;
-    Ok(four(upper(opcode), lower(opcode), halves(n3, m4), halves(n1, n2)))
+    Ok(four(
+        upper(opcode),
+        lower(opcode),
+        nibbles(n3, m4),
+        nibbles(n1, n2),
+    ))
 }
 
 /// RRF-CDE: `ab cd`, m3 m4, r1 r2.
 pub fn enc_rrf_cde(opcode: u16, r1: Reg, r2: Reg, m3: u8, m4: u8) -> Result<Code, EmitError>
     requires m3 { m3 < 16 }
     requires m4 { m4 < 16 }
-    ensures { let ok = is_general r1 && is_general r2 in MatchResult result (λ code. (ok ≡ true) × IsCode FormatKind.RrfCde (slots opcode (number_of r1 ∷ number_of r2 ∷ []) (m3 ∷ m4 ∷ []) 0 0) code) (λ e. (e ≡ EmitError.BadRegister) × (ok ≡ false)) }
+    ensures { let ok = is_general_class r1 && is_general_class r2 in MatchResult result (λ code. (ok ≡ true) × IsCode FormatKind.RrfCde (slots opcode (number_of r1 ∷ number_of r2 ∷ []) (m3 ∷ m4 ∷ []) 0 0) code) (λ e. (e ≡ EmitError.BadRegister) × (ok ≡ false)) }
 {
     let n1 = general(r1)?;
     let n2 = general(r2)?;
-    Ok(four(upper(opcode), lower(opcode), halves(m3, m4), halves(n1, n2)))
+    Ok(four(
+        upper(opcode),
+        lower(opcode),
+        nibbles(m3, m4),
+        nibbles(n1, n2),
+    ))
 }

@@ -1,14 +1,14 @@
 //! Register operands as the numbers that stand in an instruction.
 ghost use Rattle.std.specs.Prelude.{◌≡◌, ◌≢◌, ◌+◌, ◌*◌, ◌/◌, ◌%◌, ◌^◌, ◌<◌, true, false, MatchResult, MatchOption};
 ghost use Rattle.s390x_base.specs.Regs.{number_of};
-ghost use Rattle.s390x_enc.specs.Operands.{is_general, is_float, is_vector, is_first_float, is_second_float, may_stand_first, may_stand_second, high_bit, is_vector_or_none, rxb_of};
+ghost use Rattle.s390x_enc.specs.Operands.{is_general_class, is_float, is_vector, is_first_float, is_second_float, may_stand_first, may_stand_second, high_bit, is_vector_or_none, rxb_of};
 ghost use Rattle.s390x_base.specs.declared.error.EmitError.{EmitError};
 
 use s390x_base::{EmitError, Reg, RegClass};
 
 /// The number of a general register.
 pub fn general(r: Reg) -> Result<u8, EmitError>
-    ensures { MatchResult result (λ n. (is_general r ≡ true) × (n ≡ number_of r) × (n < 2 ^ 4)) (λ e. (e ≡ EmitError.BadRegister) × (is_general r ≡ false)) }
+    ensures { MatchResult result (λ n. (is_general_class r ≡ true) × (n ≡ number_of r) × (n < 2 ^ 4)) (λ e. (e ≡ EmitError.BadRegister) × (is_general_class r ≡ false)) }
 {
     match r {
         Reg::Real(preg) => {

@@ -12,9 +12,9 @@ ghost use Rattle.s390x_base.specs.declared.error.EmitError.{EmitError};
 ghost use Rattle.s390x_base.specs.Regs.{number_of};
 ghost use Rattle.s390x_format.specs.declared.kind.FormatKind.{FormatKind};
 ghost use Rattle.s390x_format.specs.Encoded.{slots, IsCode};
-ghost use Rattle.s390x_enc.specs.Operands.{is_general, may_stand_first};
+ghost use Rattle.s390x_enc.specs.Operands.{is_general_class, may_stand_first};
 
-use crate::bytes::{four, halves, lower, six, upper};
+use crate::bytes::{four, lower, nibbles, six, upper};
 use crate::operands::{first, general};
 use s390x_base::{Code, EmitError, Reg};
 
@@ -22,15 +22,15 @@ use s390x_base::{Code, EmitError, Reg};
 pub fn enc_rs(opcode: u16, r1: Reg, r3: Reg, b2: Reg, d2: u32) -> Result<Code, EmitError>
     requires opcode { opcode < 2 ^ 8 }
     requires d2 { d2 < 4096 }
-    ensures { let ok = is_general r1 && is_general r3 && is_general b2 in MatchResult result (λ code. (ok ≡ true) × IsCode FormatKind.Rs (slots opcode (number_of r1 ∷ number_of r3 ∷ number_of b2 ∷ []) [] 0 d2) code) (λ e. (e ≡ EmitError.BadRegister) × (ok ≡ false)) }
+    ensures { let ok = is_general_class r1 && is_general_class r3 && is_general_class b2 in MatchResult result (λ code. (ok ≡ true) × IsCode FormatKind.Rs (slots opcode (number_of r1 ∷ number_of r3 ∷ number_of b2 ∷ []) [] 0 d2) code) (λ e. (e ≡ EmitError.BadRegister) × (ok ≡ false)) }
 {
     let n1 = general(r1)?;
     let n3 = general(r3)?;
     let base = general(b2)?;
     Ok(four(
         lower(opcode),
-        halves(n1, n3),
-        halves(base, (d2 / 256) as u8),
+        nibbles(n1, n3),
+        nibbles(base, (d2 / 256) as u8),
         (d2 % 256) as u8,
     ))
 }
@@ -38,15 +38,15 @@ pub fn enc_rs(opcode: u16, r1: Reg, r3: Reg, b2: Reg, d2: u32) -> Result<Code, E
 /// RSY: `ab`, r1 r3, b2 dl, dh, `cd`.
 pub fn enc_rsy(opcode: u16, r1: Reg, r3: Reg, b2: Reg, d2: u32) -> Result<Code, EmitError>
     requires { d2 < 1048576 }
-    ensures { let ok = is_general r1 && is_general r3 && is_general b2 in MatchResult result (λ code. (ok ≡ true) × IsCode FormatKind.Rsy (slots opcode (number_of r1 ∷ number_of r3 ∷ number_of b2 ∷ []) [] 0 d2) code) (λ e. (e ≡ EmitError.BadRegister) × (ok ≡ false)) }
+    ensures { let ok = is_general_class r1 && is_general_class r3 && is_general_class b2 in MatchResult result (λ code. (ok ≡ true) × IsCode FormatKind.Rsy (slots opcode (number_of r1 ∷ number_of r3 ∷ number_of b2 ∷ []) [] 0 d2) code) (λ e. (e ≡ EmitError.BadRegister) × (ok ≡ false)) }
 {
     let n1 = general(r1)?;
     let n3 = general(r3)?;
     let base = general(b2)?;
     Ok(six([
         upper(opcode),
-        halves(n1, n3),
-        halves(base, (d2 % 4096 / 256) as u8),
+        nibbles(n1, n3),
+        nibbles(base, (d2 % 4096 / 256) as u8),
         (d2 % 256) as u8,
         (d2 / 4096) as u8,
         lower(opcode),
@@ -57,15 +57,15 @@ pub fn enc_rsy(opcode: u16, r1: Reg, r3: Reg, b2: Reg, d2: u32) -> Result<Code, 
 pub fn enc_rx(opcode: u16, r1: Reg, b2: Reg, x2: Reg, d2: u32) -> Result<Code, EmitError>
     requires opcode { opcode < 2 ^ 8 }
     requires d2 { d2 < 4096 }
-    ensures { let ok = may_stand_first opcode r1 && is_general b2 && is_general x2 in MatchResult result (λ code. (ok ≡ true) × IsCode FormatKind.Rx (slots opcode (number_of r1 ∷ number_of b2 ∷ number_of x2 ∷ []) [] 0 d2) code) (λ e. (e ≡ EmitError.BadRegister) × (ok ≡ false)) }
+    ensures { let ok = may_stand_first opcode r1 && is_general_class b2 && is_general_class x2 in MatchResult result (λ code. (ok ≡ true) × IsCode FormatKind.Rx (slots opcode (number_of r1 ∷ number_of b2 ∷ number_of x2 ∷ []) [] 0 d2) code) (λ e. (e ≡ EmitError.BadRegister) × (ok ≡ false)) }
 {
     let n1 = first(opcode, r1)?;
     let base = general(b2)?;
     let index = general(x2)?;
     Ok(four(
         lower(opcode),
-        halves(n1, index),
-        halves(base, (d2 / 256) as u8),
+        nibbles(n1, index),
+        nibbles(base, (d2 / 256) as u8),
         (d2 % 256) as u8,
     ))
 }
@@ -73,15 +73,15 @@ pub fn enc_rx(opcode: u16, r1: Reg, b2: Reg, x2: Reg, d2: u32) -> Result<Code, E
 /// RXY: `ab`, r1 x2, b2 dl, dh, `cd`.
 pub fn enc_rxy(opcode: u16, r1: Reg, b2: Reg, x2: Reg, d2: u32) -> Result<Code, EmitError>
     requires { d2 < 1048576 }
-    ensures { let ok = may_stand_first opcode r1 && is_general b2 && is_general x2 in MatchResult result (λ code. (ok ≡ true) × IsCode FormatKind.Rxy (slots opcode (number_of r1 ∷ number_of b2 ∷ number_of x2 ∷ []) [] 0 d2) code) (λ e. (e ≡ EmitError.BadRegister) × (ok ≡ false)) }
+    ensures { let ok = may_stand_first opcode r1 && is_general_class b2 && is_general_class x2 in MatchResult result (λ code. (ok ≡ true) × IsCode FormatKind.Rxy (slots opcode (number_of r1 ∷ number_of b2 ∷ number_of x2 ∷ []) [] 0 d2) code) (λ e. (e ≡ EmitError.BadRegister) × (ok ≡ false)) }
 {
     let n1 = first(opcode, r1)?;
     let base = general(b2)?;
     let index = general(x2)?;
     Ok(six([
         upper(opcode),
-        halves(n1, index),
-        halves(base, (d2 % 4096 / 256) as u8),
+        nibbles(n1, index),
+        nibbles(base, (d2 % 4096 / 256) as u8),
         (d2 % 256) as u8,
         (d2 / 4096) as u8,
         lower(opcode),
@@ -92,13 +92,13 @@ pub fn enc_rxy(opcode: u16, r1: Reg, b2: Reg, x2: Reg, d2: u32) -> Result<Code, 
 pub fn enc_si(opcode: u16, b1: Reg, d1: u32, i2: u8) -> Result<Code, EmitError>
     requires opcode { opcode < 2 ^ 8 }
     requires d1 { d1 < 4096 }
-    ensures { let ok = is_general b1 in MatchResult result (λ code. (ok ≡ true) × IsCode FormatKind.Si (slots opcode (number_of b1 ∷ []) (i2 ∷ []) 0 d1) code) (λ e. (e ≡ EmitError.BadRegister) × (ok ≡ false)) }
+    ensures { let ok = is_general_class b1 in MatchResult result (λ code. (ok ≡ true) × IsCode FormatKind.Si (slots opcode (number_of b1 ∷ []) (i2 ∷ []) 0 d1) code) (λ e. (e ≡ EmitError.BadRegister) × (ok ≡ false)) }
 {
     let base = general(b1)?;
     Ok(four(
         lower(opcode),
         i2,
-        halves(base, (d1 / 256) as u8),
+        nibbles(base, (d1 / 256) as u8),
         (d1 % 256) as u8,
     ))
 }
@@ -106,14 +106,14 @@ pub fn enc_si(opcode: u16, b1: Reg, d1: u32, i2: u8) -> Result<Code, EmitError>
 /// SIL: `ab cd`, b1 d, i2.
 pub fn enc_sil(opcode: u16, b1: Reg, d1: u32, i2: i16) -> Result<Code, EmitError>
     requires { d1 < 4096 }
-    ensures { let ok = is_general b1 in MatchResult result (λ code. (ok ≡ true) × IsCode FormatKind.Sil (slots opcode (number_of b1 ∷ []) [] (cast_unsigned w16 i2) d1) code) (λ e. (e ≡ EmitError.BadRegister) × (ok ≡ false)) }
+    ensures { let ok = is_general_class b1 in MatchResult result (λ code. (ok ≡ true) × IsCode FormatKind.Sil (slots opcode (number_of b1 ∷ []) [] (cast_unsigned w16 i2) d1) code) (λ e. (e ≡ EmitError.BadRegister) × (ok ≡ false)) }
 {
     let base = general(b1)?;
     let bits = i2.cast_unsigned();
     Ok(six([
         upper(opcode),
         lower(opcode),
-        halves(base, (d1 / 256) as u8),
+        nibbles(base, (d1 / 256) as u8),
         (d1 % 256) as u8,
         upper(bits),
         lower(bits),
@@ -123,13 +123,13 @@ pub fn enc_sil(opcode: u16, b1: Reg, d1: u32, i2: i16) -> Result<Code, EmitError
 /// SIY: `ab`, i2, b1 dl, dh, `cd`.
 pub fn enc_siy(opcode: u16, b1: Reg, d1: u32, i2: u8) -> Result<Code, EmitError>
     requires { d1 < 1048576 }
-    ensures { let ok = is_general b1 in MatchResult result (λ code. (ok ≡ true) × IsCode FormatKind.Siy (slots opcode (number_of b1 ∷ []) (i2 ∷ []) 0 d1) code) (λ e. (e ≡ EmitError.BadRegister) × (ok ≡ false)) }
+    ensures { let ok = is_general_class b1 in MatchResult result (λ code. (ok ≡ true) × IsCode FormatKind.Siy (slots opcode (number_of b1 ∷ []) (i2 ∷ []) 0 d1) code) (λ e. (e ≡ EmitError.BadRegister) × (ok ≡ false)) }
 {
     let base = general(b1)?;
     Ok(six([
         upper(opcode),
         i2,
-        halves(base, (d1 % 4096 / 256) as u8),
+        nibbles(base, (d1 % 4096 / 256) as u8),
         (d1 % 256) as u8,
         (d1 / 4096) as u8,
         lower(opcode),

@@ -10,9 +10,9 @@ ghost use Rattle.s390x_base.specs.declared.error.EmitError.{EmitError};
 ghost use Rattle.s390x_base.specs.Regs.{number_of};
 ghost use Rattle.s390x_format.specs.declared.kind.FormatKind.{FormatKind};
 ghost use Rattle.s390x_format.specs.Encoded.{slots, IsCode};
-ghost use Rattle.s390x_enc.specs.Operands.{is_general, is_vector};
+ghost use Rattle.s390x_enc.specs.Operands.{is_general_class, is_vector};
 
-use crate::bytes::{halves, lower, six, upper};
+use crate::bytes::{lower, nibbles, six, upper};
 use crate::operands::{general, high_bits, vector};
 use s390x_base::{Code, EmitError, Reg};
 
@@ -25,10 +25,10 @@ pub fn enc_vri_a(opcode: u16, v1: Reg, i2: u16, m3: u8) -> Result<Code, EmitErro
     let x = high_bits(n1, 0, 0, 0);
     Ok(six([
         upper(opcode),
-        halves(n1 % 16, 0),
+        nibbles(n1 % 16, 0),
         upper(i2),
         lower(i2),
-        halves(m3, x),
+        nibbles(m3, x),
         lower(opcode),
     ]))
 }
@@ -42,10 +42,10 @@ pub fn enc_vri_b(opcode: u16, v1: Reg, i2: u8, i3: u8, m4: u8) -> Result<Code, E
     let x = high_bits(n1, 0, 0, 0);
     Ok(six([
         upper(opcode),
-        halves(n1 % 16, 0),
+        nibbles(n1 % 16, 0),
         i2,
         i3,
-        halves(m4, x),
+        nibbles(m4, x),
         lower(opcode),
     ]))
 }
@@ -60,10 +60,10 @@ pub fn enc_vri_c(opcode: u16, v1: Reg, i2: u16, v3: Reg, m4: u8) -> Result<Code,
     let x = high_bits(n1, n3, 0, 0);
     Ok(six([
         upper(opcode),
-        halves(n1 % 16, n3 % 16),
+        nibbles(n1 % 16, n3 % 16),
         upper(i2),
         lower(i2),
-        halves(m4, x),
+        nibbles(m4, x),
         lower(opcode),
     ]))
 }
@@ -79,10 +79,10 @@ pub fn enc_vri_k(opcode: u16, i5: u8, v1: Reg, v2: Reg, v3: Reg, v4: Reg) -> Res
     let x = high_bits(n1, n2, n3, n4);
     Ok(six([
         upper(opcode),
-        halves(n1 % 16, n2 % 16),
-        halves(n3 % 16, 0),
+        nibbles(n1 % 16, n2 % 16),
+        nibbles(n3 % 16, 0),
         i5,
-        halves(n4 % 16, x),
+        nibbles(n4 % 16, x),
         lower(opcode),
     ]))
 }
@@ -99,10 +99,10 @@ pub fn enc_vrr_a(opcode: u16, v1: Reg, v2: Reg, m3: u8, m4: u8, m5: u8) -> Resul
     let x = high_bits(n1, n2, 0, 0);
     Ok(six([
         upper(opcode),
-        halves(n1 % 16, n2 % 16),
+        nibbles(n1 % 16, n2 % 16),
         0,
-        halves(m5, m4),
-        halves(m3, x),
+        nibbles(m5, m4),
+        nibbles(m3, x),
         lower(opcode),
     ]))
 }
@@ -119,10 +119,10 @@ pub fn enc_vrr_b(opcode: u16, v1: Reg, v2: Reg, v3: Reg, m4: u8, m5: u8) -> Resu
     let x = high_bits(n1, n2, n3, 0);
     Ok(six([
         upper(opcode),
-        halves(n1 % 16, n2 % 16),
-        halves(n3 % 16, 0),
-        halves(m5, 0),
-        halves(m4, x),
+        nibbles(n1 % 16, n2 % 16),
+        nibbles(n3 % 16, 0),
+        nibbles(m5, 0),
+        nibbles(m4, x),
         lower(opcode),
     ]))
 }
@@ -148,10 +148,10 @@ pub fn enc_vrr_c(
     let x = high_bits(n1, n2, n3, 0);
     Ok(six([
         upper(opcode),
-        halves(n1 % 16, n2 % 16),
-        halves(n3 % 16, 0),
-        halves(m6, m5),
-        halves(m4, x),
+        nibbles(n1 % 16, n2 % 16),
+        nibbles(n3 % 16, 0),
+        nibbles(m6, m5),
+        nibbles(m4, x),
         lower(opcode),
     ]))
 }
@@ -177,10 +177,10 @@ pub fn enc_vrr_d(
     let x = high_bits(n1, n2, n3, n4);
     Ok(six([
         upper(opcode),
-        halves(n1 % 16, n2 % 16),
-        halves(n3 % 16, m5),
-        halves(m6, 0),
-        halves(n4 % 16, x),
+        nibbles(n1 % 16, n2 % 16),
+        nibbles(n3 % 16, m5),
+        nibbles(m6, 0),
+        nibbles(n4 % 16, x),
         lower(opcode),
     ]))
 }
@@ -206,17 +206,17 @@ pub fn enc_vrr_e(
     let x = high_bits(n1, n2, n3, n4);
     Ok(six([
         upper(opcode),
-        halves(n1 % 16, n2 % 16),
-        halves(n3 % 16, m6),
-        halves(0, m5),
-        halves(n4 % 16, x),
+        nibbles(n1 % 16, n2 % 16),
+        nibbles(n3 % 16, m6),
+        nibbles(0, m5),
+        nibbles(n4 % 16, x),
         lower(opcode),
     ]))
 }
 
 /// VRR-F: `ab`, v1 r2, r3 0, 00, 0 x, `cd`.
 pub fn enc_vrr_f(opcode: u16, v1: Reg, r2: Reg, r3: Reg) -> Result<Code, EmitError>
-    ensures { let ok = is_vector v1 && is_general r2 && is_general r3 in MatchResult result (λ code. (ok ≡ true) × IsCode FormatKind.VrrF (slots opcode (number_of v1 ∷ number_of r2 ∷ number_of r3 ∷ []) [] 0 0) code) (λ e. (e ≡ EmitError.BadRegister) × (ok ≡ false)) }
+    ensures { let ok = is_vector v1 && is_general_class r2 && is_general_class r3 in MatchResult result (λ code. (ok ≡ true) × IsCode FormatKind.VrrF (slots opcode (number_of v1 ∷ number_of r2 ∷ number_of r3 ∷ []) [] 0 0) code) (λ e. (e ≡ EmitError.BadRegister) × (ok ≡ false)) }
 {
     let n1 = vector(v1)?;
     let n2 = general(r2)?;
@@ -224,10 +224,10 @@ pub fn enc_vrr_f(opcode: u16, v1: Reg, r2: Reg, r3: Reg) -> Result<Code, EmitErr
     let x = high_bits(n1, 0, 0, 0);
     Ok(six([
         upper(opcode),
-        halves(n1 % 16, n2),
-        halves(n3, 0),
+        nibbles(n1 % 16, n2),
+        nibbles(n3, 0),
         0,
-        halves(0, x),
+        nibbles(0, x),
         lower(opcode),
     ]))
 }
@@ -236,7 +236,7 @@ pub fn enc_vrr_f(opcode: u16, v1: Reg, r2: Reg, r3: Reg) -> Result<Code, EmitErr
 pub fn enc_vrs_a(opcode: u16, v1: Reg, b2: Reg, d2: u32, v3: Reg, m4: u8) -> Result<Code, EmitError>
     requires d2 { d2 < 4096 }
     requires m4 { m4 < 16 }
-    ensures { let ok = is_vector v1 && is_general b2 && is_vector v3 in MatchResult result (λ code. (ok ≡ true) × IsCode FormatKind.VrsA (slots opcode (number_of v1 ∷ number_of b2 ∷ number_of v3 ∷ []) (m4 ∷ []) 0 d2) code) (λ e. (e ≡ EmitError.BadRegister) × (ok ≡ false)) }
+    ensures { let ok = is_vector v1 && is_general_class b2 && is_vector v3 in MatchResult result (λ code. (ok ≡ true) × IsCode FormatKind.VrsA (slots opcode (number_of v1 ∷ number_of b2 ∷ number_of v3 ∷ []) (m4 ∷ []) 0 d2) code) (λ e. (e ≡ EmitError.BadRegister) × (ok ≡ false)) }
 {
     let n1 = vector(v1)?;
     let base = general(b2)?;
@@ -244,10 +244,10 @@ pub fn enc_vrs_a(opcode: u16, v1: Reg, b2: Reg, d2: u32, v3: Reg, m4: u8) -> Res
     let x = high_bits(n1, n3, 0, 0);
     Ok(six([
         upper(opcode),
-        halves(n1 % 16, n3 % 16),
-        halves(base, (d2 / 256) as u8),
+        nibbles(n1 % 16, n3 % 16),
+        nibbles(base, (d2 / 256) as u8),
         (d2 % 256) as u8,
-        halves(m4, x),
+        nibbles(m4, x),
         lower(opcode),
     ]))
 }
@@ -256,7 +256,7 @@ pub fn enc_vrs_a(opcode: u16, v1: Reg, b2: Reg, d2: u32, v3: Reg, m4: u8) -> Res
 pub fn enc_vrs_b(opcode: u16, v1: Reg, b2: Reg, d2: u32, r3: Reg, m4: u8) -> Result<Code, EmitError>
     requires d2 { d2 < 4096 }
     requires m4 { m4 < 16 }
-    ensures { let ok = is_vector v1 && is_general b2 && is_general r3 in MatchResult result (λ code. (ok ≡ true) × IsCode FormatKind.VrsB (slots opcode (number_of v1 ∷ number_of b2 ∷ number_of r3 ∷ []) (m4 ∷ []) 0 d2) code) (λ e. (e ≡ EmitError.BadRegister) × (ok ≡ false)) }
+    ensures { let ok = is_vector v1 && is_general_class b2 && is_general_class r3 in MatchResult result (λ code. (ok ≡ true) × IsCode FormatKind.VrsB (slots opcode (number_of v1 ∷ number_of b2 ∷ number_of r3 ∷ []) (m4 ∷ []) 0 d2) code) (λ e. (e ≡ EmitError.BadRegister) × (ok ≡ false)) }
 {
     let n1 = vector(v1)?;
     let base = general(b2)?;
@@ -264,10 +264,10 @@ pub fn enc_vrs_b(opcode: u16, v1: Reg, b2: Reg, d2: u32, r3: Reg, m4: u8) -> Res
     let x = high_bits(n1, 0, 0, 0);
     Ok(six([
         upper(opcode),
-        halves(n1 % 16, n3),
-        halves(base, (d2 / 256) as u8),
+        nibbles(n1 % 16, n3),
+        nibbles(base, (d2 / 256) as u8),
         (d2 % 256) as u8,
-        halves(m4, x),
+        nibbles(m4, x),
         lower(opcode),
     ]))
 }
@@ -276,7 +276,7 @@ pub fn enc_vrs_b(opcode: u16, v1: Reg, b2: Reg, d2: u32, r3: Reg, m4: u8) -> Res
 pub fn enc_vrs_c(opcode: u16, r1: Reg, b2: Reg, d2: u32, v3: Reg, m4: u8) -> Result<Code, EmitError>
     requires d2 { d2 < 4096 }
     requires m4 { m4 < 16 }
-    ensures { let ok = is_general r1 && is_general b2 && is_vector v3 in MatchResult result (λ code. (ok ≡ true) × IsCode FormatKind.VrsC (slots opcode (number_of r1 ∷ number_of b2 ∷ number_of v3 ∷ []) (m4 ∷ []) 0 d2) code) (λ e. (e ≡ EmitError.BadRegister) × (ok ≡ false)) }
+    ensures { let ok = is_general_class r1 && is_general_class b2 && is_vector v3 in MatchResult result (λ code. (ok ≡ true) × IsCode FormatKind.VrsC (slots opcode (number_of r1 ∷ number_of b2 ∷ number_of v3 ∷ []) (m4 ∷ []) 0 d2) code) (λ e. (e ≡ EmitError.BadRegister) × (ok ≡ false)) }
 {
     let n1 = general(r1)?;
     let base = general(b2)?;
@@ -284,10 +284,10 @@ pub fn enc_vrs_c(opcode: u16, r1: Reg, b2: Reg, d2: u32, v3: Reg, m4: u8) -> Res
     let x = high_bits(0, n3, 0, 0);
     Ok(six([
         upper(opcode),
-        halves(n1, n3 % 16),
-        halves(base, (d2 / 256) as u8),
+        nibbles(n1, n3 % 16),
+        nibbles(base, (d2 / 256) as u8),
         (d2 % 256) as u8,
-        halves(m4, x),
+        nibbles(m4, x),
         lower(opcode),
     ]))
 }
@@ -296,7 +296,7 @@ pub fn enc_vrs_c(opcode: u16, r1: Reg, b2: Reg, d2: u32, v3: Reg, m4: u8) -> Res
 pub fn enc_vrx(opcode: u16, v1: Reg, b2: Reg, x2: Reg, d2: u32, m3: u8) -> Result<Code, EmitError>
     requires d2 { d2 < 4096 }
     requires m3 { m3 < 16 }
-    ensures { let ok = is_vector v1 && is_general b2 && is_general x2 in MatchResult result (λ code. (ok ≡ true) × IsCode FormatKind.Vrx (slots opcode (number_of v1 ∷ number_of b2 ∷ number_of x2 ∷ []) (m3 ∷ []) 0 d2) code) (λ e. (e ≡ EmitError.BadRegister) × (ok ≡ false)) }
+    ensures { let ok = is_vector v1 && is_general_class b2 && is_general_class x2 in MatchResult result (λ code. (ok ≡ true) × IsCode FormatKind.Vrx (slots opcode (number_of v1 ∷ number_of b2 ∷ number_of x2 ∷ []) (m3 ∷ []) 0 d2) code) (λ e. (e ≡ EmitError.BadRegister) × (ok ≡ false)) }
 {
     let n1 = vector(v1)?;
     let base = general(b2)?;
@@ -304,10 +304,10 @@ pub fn enc_vrx(opcode: u16, v1: Reg, b2: Reg, x2: Reg, d2: u32, m3: u8) -> Resul
     let x = high_bits(n1, 0, 0, 0);
     Ok(six([
         upper(opcode),
-        halves(n1 % 16, index),
-        halves(base, (d2 / 256) as u8),
+        nibbles(n1 % 16, index),
+        nibbles(base, (d2 / 256) as u8),
         (d2 % 256) as u8,
-        halves(m3, x),
+        nibbles(m3, x),
         lower(opcode),
     ]))
 }

@@ -3,16 +3,16 @@ use Rattle.std.proofs.Common.{◌≡◌, ℕ, zero, suc, ◌+◌, ◌<◌, Bool,
 use Rattle.s390x_format.specs.Formats.{length_of}
 use Rattle.s390x_format.specs.declared.decoder.Decoded.{Decoded}
 use Rattle.s390x_format.specs.declared.fields.Fields.{Fields}
-use Rattle.s390x_operations.specs.State.{State, Memory, Core, Deposit}
+use Rattle.s390x_operations.specs.State.{State, Memory, Core, StoreEvent}
 use Rattle.s390x_operations.specs.declared.stop.StopKind.{StopKind}
 use Rattle.s390x_machine.specs.declared.fetch.Fetched.{Fetched}
 use Rattle.s390x_machine.specs.declared.fetch.Fetched.TheVariants.{Misplaced, Missing, Unknown, Found}
-use Rattle.s390x_machine.specs.Machine.{Went as GoesOn, Stopped as Stops', Acts, PairActs, RowActs, FetchedActs}
-use Rattle.s390x_machine.specs.Meanings.{action, is_odd_pair, meaning_of}
+use Rattle.s390x_machine.specs.Machine.{Executed, Interrupted, ActionStep, OddPairStep, RowStep, FetchedStep}
+use Rattle.s390x_machine.specs.Semantics.{action, is_odd_pair, semantics_of}
 use Rattle.s390x_machine.specs.Step.{Steps}
-use Rattle.s390x_machine.specs.declared.meaning.Meaning.{Meaning}
-use Rattle.s390x_machine.specs.declared.meaning.Action.{Action}
-use Rattle.s390x_machine.specs.declared.meaning.Action.TheVariants.{Perform, Branch, BranchAndSave}
+use Rattle.s390x_machine.specs.declared.semantics.RowSemantics.{RowSemantics}
+use Rattle.s390x_machine.specs.declared.semantics.Action.{Action}
+use Rattle.s390x_machine.specs.declared.semantics.Action.TheVariants.{Perform, Branch, BranchAndSave}
 use Rattle.s390x_machine.specs.declared.step.StepEnd.TheVariants.{Went, Stopped as Stops, NoRow as HasNoRow}
 use Rattle.s390x_execution.specs.Execution.{Walks, Ends, IsExecution, IsStepped, GoesFurther}
 use Rattle.s390x_execution.specs.declared.execution.End.{End}
@@ -21,24 +21,24 @@ use Rattle.s390x_execution.specs.declared.execution.Execution.{Execution}
 
 -- ---- a stop
 
-action_keeps : (a : Action) (size : ℕ) (s : State) (kind : StopKind) (t : State) → Acts a size s (Stops' kind) t → t ≡ s
+action_keeps : (a : Action) (size : ℕ) (s : State) (kind : StopKind) (t : State) → ActionStep a size s (Interrupted kind) t → t ≡ s
 action_keeps (Perform op) size s kind t h = h.1
 action_keeps (Branch mask target) size s kind t h = absurd h
 action_keeps (BranchAndSave link target) size s kind t h = absurd h
 
-pair_keeps : (odd : Bool) (a : Action) (size : ℕ) (s : State) (kind : StopKind) (t : State) → PairActs odd a size s (Stops' kind) t → t ≡ s
+pair_keeps : (odd : Bool) (a : Action) (size : ℕ) (s : State) (kind : StopKind) (t : State) → OddPairStep odd a size s (Interrupted kind) t → t ≡ s
 pair_keeps true a size s kind t h = h.1
 pair_keeps false a size s kind t h = action_keeps a size s kind t h
 
-row_keeps : (m : Option Meaning) (f : Fields) (size : ℕ) (s : State) (kind : StopKind) (t : State) → RowActs m f size s (Stops' kind) t → t ≡ s
+row_keeps : (m : Option RowSemantics) (f : Fields) (size : ℕ) (s : State) (kind : StopKind) (t : State) → RowStep m f size s (Interrupted kind) t → t ≡ s
 row_keeps None f size s kind t h = absurd h
-row_keeps (Some m) f size s kind t h = pair_keeps (is_odd_pair m f) (action m f s.core.registers s.place) size s kind t h
+row_keeps (Some m) f size s kind t h = pair_keeps (is_odd_pair m f) (action m f s.core.registers s.address) size s kind t h
 
-fetched_keeps : (f : Fetched) (s : State) (kind : StopKind) (t : State) → FetchedActs f s (Stops' kind) t → t ≡ s
+fetched_keeps : (f : Fetched) (s : State) (kind : StopKind) (t : State) → FetchedStep f s (Interrupted kind) t → t ≡ s
 fetched_keeps Misplaced s kind t h = h.1
 fetched_keeps Missing s kind t h = h.1
 fetched_keeps Unknown s kind t h = h.1
-fetched_keeps (Found d) s kind t h = row_keeps (meaning_of d.row.opcode) d.fields (length_of d.row.format) s kind t h
+fetched_keeps (Found d) s kind t h = row_keeps (semantics_of d.row.opcode) d.fields (length_of d.row.format) s kind t h
 
 -- a step that stops leaves the state as it was
 pub stop_keeps : (s : State) (kind : StopKind) (place : ℕ) (t : State) → Steps s (Stops kind place) t → t ≡ s
@@ -49,24 +49,24 @@ stop_keeps s kind place t h = fetched_keeps h.1.fetched s kind t h.1.acts
 same_has : (s t : State) → t ≡ s → t.core.memory.has ≡ s.core.memory.has
 same_has s t e = ap (λ (u : State). u.core.memory.has) e
 
-action_has : (a : Action) (size : ℕ) (s : State) (x : Option Deposit) (t : State) → Acts a size s (GoesOn x) t → t.core.memory.has ≡ s.core.memory.has
+action_has : (a : Action) (size : ℕ) (s : State) (x : Option StoreEvent) (t : State) → ActionStep a size s (Executed x) t → t.core.memory.has ≡ s.core.memory.has
 action_has (Perform op) size s x t h = ap (λ (m : Memory). m.has) h.0.memory
 action_has (Branch mask target) size s x t h = ap (λ (c : Core). c.memory.has) h.0
 action_has (BranchAndSave link target) size s x t h = ap (λ (u : State). u.core.memory.has) h.0
 
-pair_has : (odd : Bool) (a : Action) (size : ℕ) (s : State) (x : Option Deposit) (t : State) → PairActs odd a size s (GoesOn x) t → t.core.memory.has ≡ s.core.memory.has
+pair_has : (odd : Bool) (a : Action) (size : ℕ) (s : State) (x : Option StoreEvent) (t : State) → OddPairStep odd a size s (Executed x) t → t.core.memory.has ≡ s.core.memory.has
 pair_has true a size s x t h = same_has s t h.1
 pair_has false a size s x t h = action_has a size s x t h
 
-row_has : (m : Option Meaning) (f : Fields) (size : ℕ) (s : State) (x : Option Deposit) (t : State) → RowActs m f size s (GoesOn x) t → t.core.memory.has ≡ s.core.memory.has
+row_has : (m : Option RowSemantics) (f : Fields) (size : ℕ) (s : State) (x : Option StoreEvent) (t : State) → RowStep m f size s (Executed x) t → t.core.memory.has ≡ s.core.memory.has
 row_has None f size s x t h = absurd h
-row_has (Some m) f size s x t h = pair_has (is_odd_pair m f) (action m f s.core.registers s.place) size s x t h
+row_has (Some m) f size s x t h = pair_has (is_odd_pair m f) (action m f s.core.registers s.address) size s x t h
 
-fetched_has : (f : Fetched) (s : State) (x : Option Deposit) (t : State) → FetchedActs f s (GoesOn x) t → t.core.memory.has ≡ s.core.memory.has
+fetched_has : (f : Fetched) (s : State) (x : Option StoreEvent) (t : State) → FetchedStep f s (Executed x) t → t.core.memory.has ≡ s.core.memory.has
 fetched_has Misplaced s x t h = same_has s t h.1
 fetched_has Missing s x t h = same_has s t h.1
 fetched_has Unknown s x t h = same_has s t h.1
-fetched_has (Found d) s x t h = row_has (meaning_of d.row.opcode) d.fields (length_of d.row.format) s x t h
+fetched_has (Found d) s x t h = row_has (semantics_of d.row.opcode) d.fields (length_of d.row.format) s x t h
 
 pub step_has : (s t : State) → Steps s Went t → t.core.memory.has ≡ s.core.memory.has
 step_has s t h = fetched_has h.1.goes.fetched s h.1.stored t h.1.goes.acts
@@ -101,5 +101,5 @@ stopped_at s kind place t h =
     let same = stop_keeps s kind place t h in
     (same, (omega arith, subst (λ (u : State). Steps u (Stops kind place) t) (sym same) h))
 
-pub no_row_at : (s t : State) → Steps s HasNoRow t → IsStepped s t (Some (NoRow t.place))
+pub no_row_at : (s t : State) → Steps s HasNoRow t → IsStepped s t (Some (NoRow t.address))
 no_row_at s t h = (h.1, (omega arith, subst (λ (u : State). Steps u HasNoRow t) (sym h.1) h, refl))

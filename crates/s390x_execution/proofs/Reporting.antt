@@ -2,26 +2,26 @@
 use Rattle.std.proofs.Common.{◌≡◌, ℕ, zero, suc, ◌+◌, ◌<◌, ◌≤◌, ◌^◌, List, [], ◌∷◌, ◌++◌, ◌-◌, map, length, get_or, drop, slice_index, refl, sym, ap, ap₂, ◌∙◌, subst, arith, append_assoc, Bool, IsTrue}
 use Rattle.std.specs.Prelude.{Result, Ok, Err, OnOk}
 use Rattle.std.proofs.lemmas.List.{drop_more}
-use Rattle.s390x_operations.specs.State.{Registers, sum64, bytes_from}
+use Rattle.s390x_operations.specs.State.{Registers, wrapping_add64, bytes_from}
 use Rattle.s390x_machine.specs.State.{memory_of, registers_of, state_of}
 use Rattle.s390x_machine.specs.declared.machine.Machine.{Machine}
 use Rattle.s390x_job.proofs.Texts.{two_texts}
 use Rattle.s390x_job.specs.Jobs.{lines_text, registers_lines}
 use Rattle.s390x_job.specs.declared.job.MemLine.{MemLine}
 use Rattle.s390x_job.specs.declared.job.StartRegs.{StartRegs}
-use Rattle.s390x_execution.specs.Text.{AllHeld, content_lines, region_line, registers_held, values_from}
+use Rattle.s390x_execution.specs.Text.{AllHeld, content_lines, region_line, registers_held, values_between}
 
 -- the values of a list from its first one on are its items
-shifted : (x : ℕ) (xs : List ℕ) (i n : ℕ) → values_from (λ k. slice_index (x ∷ xs) k) (suc i) n ≡ values_from (λ k. slice_index xs k) i n
+shifted : (x : ℕ) (xs : List ℕ) (i n : ℕ) → values_between (λ k. slice_index (x ∷ xs) k) (suc i) n ≡ values_between (λ k. slice_index xs k) i n
 shifted x xs i zero = refl
 shifted x xs i (suc n) = ap (λ l. slice_index xs i ∷ l) (shifted x xs (suc i) n)
 
-items_from : (xs : List ℕ) → values_from (λ k. slice_index xs k) 0 (length xs) ≡ xs
+items_from : (xs : List ℕ) → values_between (λ k. slice_index xs k) 0 (length xs) ≡ xs
 items_from [] = refl
 items_from (x ∷ xs) = ap (λ l. x ∷ l) (shifted x xs 0 (length xs) ∙ items_from xs)
 
-pub values_are : (xs : List ℕ) (n : ℕ) → length xs ≡ n → values_from (λ k. slice_index xs k) 0 n ≡ xs
-values_are xs n e = ap (λ k. values_from (λ i. slice_index xs i) 0 k) (sym e) ∙ items_from xs
+pub values_are : (xs : List ℕ) (n : ℕ) → length xs ≡ n → values_between (λ k. slice_index xs k) 0 n ≡ xs
+values_are xs n e = ap (λ k. values_between (λ i. slice_index xs i) 0 k) (sym e) ∙ items_from xs
 
 -- four parts of a text, the first in an empty one
 pub four_parts : (w x y z old a b c new : List ℕ) → old ≡ [] → a ≡ old ++ w → b ≡ a ++ x → c ≡ b ++ y → new ≡ c ++ z → new ≡ w ++ (x ++ (y ++ z))
@@ -31,13 +31,13 @@ four_parts w x y z old a b c new empty p q r s =
 
 -- the region that stands next is accessible, and so are those behind it
 pub held_next : (has : ℕ → Bool) (rs : List MemLine) (i : ℕ) (d : MemLine) → i < length rs → d ≡ get_or rs i d → AllHeld has (drop i rs)
-    → ((k : ℕ) → k < length d.bytes.items → IsTrue (has (sum64 d.address k))) × AllHeld has (drop (i + 1) rs)
+    → ((k : ℕ) → k < length d.bytes.items → IsTrue (has (wrapping_add64 d.address k))) × AllHeld has (drop (i + 1) rs)
 held_next has rs i d lt at held =
     let both = subst (AllHeld has) (drop_more rs i d lt) held in
-    (subst (λ (r : MemLine). (k : ℕ) → k < length r.bytes.items → IsTrue (has (sum64 r.address k))) (sym at) both.0, both.1)
+    (subst (λ (r : MemLine). (k : ℕ) → k < length r.bytes.items → IsTrue (has (wrapping_add64 r.address k))) (sym at) both.0, both.1)
 
 -- one more byte
-pub bytes_more : (f : ℕ → ℕ) (a i count v : ℕ) (old new whole : List ℕ) → i < count → new ≡ old ++ v ∷ [] → v ≡ f (sum64 a i)
+pub bytes_more : (f : ℕ → ℕ) (a i count v : ℕ) (old new whole : List ℕ) → i < count → new ≡ old ++ v ∷ [] → v ≡ f (wrapping_add64 a i)
     → old ++ bytes_from f a i (count - i) ≡ whole → new ++ bytes_from f a (i + 1) (count - (i + 1)) ≡ whole
 bytes_more f a i count v old new whole lt pushed is h =
     let left : count - i ≡ suc (count - (i + 1)) = omega arith in

@@ -3,10 +3,10 @@ use Rattle.std.proofs.Common.{◌≡◌, ℕ, zero, suc, ◌+◌, ◌-◌, ◌<�
 use Rattle.std.specs.Prelude.{nat_le, nat_lt}
 use Rattle.std.proofs.lemmas.List.{drop_more}
 use Rattle.std.proofs.lemmas.Bool.{or_parts}
-use Rattle.s390x_operations.specs.State.{Registers, Memory, sum64}
+use Rattle.s390x_operations.specs.State.{Registers, Memory, wrapping_add64}
 use Rattle.s390x_operations.specs.declared.stop.ConditionCode.{ConditionCode}
 use Rattle.s390x_machine.specs.Regions.{contains, covers, held_in, byte_in, is_held, byte_of}
-use Rattle.s390x_machine.specs.State.{memory_of, registers_of, fresh}
+use Rattle.s390x_machine.specs.State.{memory_of, registers_of, fresh_registers}
 use Rattle.s390x_machine.specs.declared.flat.Region.{Region}
 use Rattle.s390x_machine.specs.declared.flat.FlatMemory.{FlatMemory}
 use Rattle.s390x_job.specs.declared.job.MemLine.{MemLine}
@@ -47,7 +47,7 @@ regions_fit rs i d lt at fit =
     (subst (λ (r : MemLine). r.address + length r.bytes.items ≤ 2 ^ 64) (sym at) both.0, both.1)
 
 -- the registers of a fresh machine with other general and vector ones
-pub registers_started : (general vector access : List ℕ) (code : ConditionCode) (r : StartRegs) → (λ i. slice_index access i) ≡ fresh.access → code ≡ fresh.code → general ≡ r.general → vector ≡ r.vector
+pub registers_started : (general vector access : List ℕ) (code : ConditionCode) (r : StartRegs) → (λ i. slice_index access i) ≡ fresh_registers.access → code ≡ fresh_registers.code → general ≡ r.general → vector ≡ r.vector
     → (record { general = λ i. slice_index general i; vector = λ i. slice_index vector i; access = λ i. slice_index access i; code = code }) ≡ start_registers r
 registers_started general vector access code r zeros zero_code g v =
     ap₂ (λ (a : ℕ → ℕ) (c : ConditionCode). record { general = λ i. slice_index general i; vector = λ i. slice_index vector i; access = a; code = c }) zeros zero_code
@@ -68,20 +68,20 @@ still_held (r ∷ rs) m a h = still_held rs (with_bytes r.address r.bytes.items 
     or_true true = refl
     or_true false = refl
 
-region_held : (r : MemLine) (m : Memory) (i : ℕ) → r.address + length r.bytes.items ≤ 2 ^ 64 → i < length r.bytes.items → IsTrue ((with_bytes r.address r.bytes.items m).has (sum64 r.address i))
+region_held : (r : MemLine) (m : Memory) (i : ℕ) → r.address + length r.bytes.items ≤ 2 ^ 64 → i < length r.bytes.items → IsTrue ((with_bytes r.address r.bytes.items m).has (wrapping_add64 r.address i))
 region_held r m i fits lt =
-    let same : sum64 r.address i ≡ r.address + i = omega arith in
+    let same : wrapping_add64 r.address i ≡ r.address + i = omega arith in
     ap (λ a. covers r.address r.bytes.items a || m.has a) same ∙ ap (λ b. b || m.has (r.address + i)) (covers_own r.address r.bytes.items i lt)
 
 regions_held : (rs : List MemLine) (m : Memory) → AllRegionsFit rs → AllHeld (with_regions rs m).has rs
 regions_held [] m fit = tt
 regions_held (r ∷ rs) m fit =
-    (λ i lt. still_held rs (with_bytes r.address r.bytes.items m) (sum64 r.address i) (region_held r m i fit.0 lt), regions_held rs (with_bytes r.address r.bytes.items m) fit.1)
+    (λ i lt. still_held rs (with_bytes r.address r.bytes.items m) (wrapping_add64 r.address i) (region_held r m i fit.0 lt), regions_held rs (with_bytes r.address r.bytes.items m) fit.1)
 
 under_image : (rs : List MemLine) (base : ℕ) (image : List ℕ) (m : Memory) → AllHeld m.has rs → AllHeld (with_bytes base image m).has rs
 under_image [] base image m h = tt
 under_image (r ∷ rs) base image m h =
-    (λ i lt. ap (λ b. covers base image (sum64 r.address i) || b) (h.0 i lt) ∙ or_true (covers base image (sum64 r.address i)), under_image rs base image m h.1)
+    (λ i lt. ap (λ b. covers base image (wrapping_add64 r.address i) || b) (h.0 i lt) ∙ or_true (covers base image (wrapping_add64 r.address i)), under_image rs base image m h.1)
   where
     or_true : (b : Bool) → (b || true) ≡ true
     or_true true = refl

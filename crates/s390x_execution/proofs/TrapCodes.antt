@@ -3,7 +3,7 @@ use Rattle.std.proofs.Common.{◌≡◌, ℕ, ◌+◌, ◌-◌, ◌<◌, ◌≤�
 use Rattle.std.specs.Prelude.{nat_le, nat_lt}
 use Rattle.std.proofs.lemmas.Bool.{lt-leb}
 use Rattle.s390x_buffer.specs.declared.entries.TrapEntry.{TrapEntry}
-use Rattle.s390x_steps.specs.Traps.{first_code}
+use Rattle.s390x_typed_steps.specs.Traps.{first_code}
 use Rattle.s390x_operations.specs.State.{is_within}
 use Rattle.s390x_operations.specs.declared.stop.StopKind.{StopKind}
 use Rattle.s390x_machine.specs.Codes.{code_offset, trap_code_at}

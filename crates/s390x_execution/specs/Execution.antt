@@ -23,8 +23,8 @@ Walks (suc n) s t = GoesFurther (Walks n s) t
 -- step is a stop of this kind, or is at a row that is open. Of the three no two hold at once.
 abbrev pub Ends : ℕ → ℕ → State → End → Type 0
 Ends steps went t Limit = went ≡ steps
-Ends steps went t (Stopped kind place) = (went < steps) × Steps t (Stops kind place) t
-Ends steps went t (NoRow place) = (went < steps) × Steps t HasNoRow t × (place ≡ t.place)
+Ends steps went t (Stopped kind address) = (went < steps) × Steps t (Stops kind address) t
+Ends steps went t (NoRow address) = (went < steps) × Steps t HasNoRow t × (address ≡ t.address)
 
 -- a step went from one state to the other; or it didn't, and so an execution ends that had one step to go
 abbrev pub IsStepped : State → State → Option End → Type 0

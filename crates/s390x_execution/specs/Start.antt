@@ -32,7 +32,7 @@ start_registers r = record { general = λ i. slice_index r.general i; vector = �
 
 -- the state in which an image starts: at its base, with these registers and regions
 abbrev pub start_state : StartRegs → List MemLine → ℕ → List ℕ → State
-start_state registers regions base image = record { core = record { registers = start_registers registers; memory = start_memory regions base image }; place = base }
+start_state registers regions base image = record { core = record { registers = start_registers registers; memory = start_memory regions base image }; address = base }
 
 -- each region ends at 2 ^ 64 or before
 abbrev pub AllRegionsFit : List MemLine → Type 0

@@ -1,11 +1,11 @@
 //! The text of an execution.
 ghost use Rattle.std.specs.Prelude.{◌≡◌, ℕ, Bool, ◌+◌, ◌^◌, ◌<◌, ◌≤◌, ◌++◌, IfOk, IsTrue, OnOk, length, map, string_bytes};
-ghost use Rattle.s390x_operations.specs.State.{bytes_at, sum64};
+ghost use Rattle.s390x_operations.specs.State.{bytes_at, wrapping_add64};
 ghost use Rattle.s390x_operations.specs.Effects.{number_of_code};
 ghost use Rattle.s390x_machine.specs.Codes.{trap_code_at};
 ghost use Rattle.s390x_machine.specs.State.{memory_of, registers_of, state_of};
 ghost use Rattle.s390x_job.specs.Jobs.{IsJob, lines_text};
-ghost use Rattle.s390x_execution.specs.Text.{AllHeld, IsRunText, code_text, content_lines, end_line, execution_text, kind_text, region_line, status_lines, went_line};
+ghost use Rattle.s390x_execution.specs.Text.{AllHeld, IsRunText, code_text, content_lines, execution_end_line, execution_text, stop_kind_text, region_line, status_lines, went_line};
 
 use crate::execution::{End, Execution, execute};
 use crate::start::{start_machine, start_memory};
@@ -96,7 +96,7 @@ fn put_end(
     end: End,
 ) -> Result<(), AllocError>
     requires { length code.now.bytes.items ≤ 2 ^ 32 }
-    ensures { OnOk result (string_bytes out.new ≡ string_bytes out.old ++ end_line base code.now end) }
+    ensures { OnOk result (string_bytes out.new ≡ string_bytes out.old ++ execution_end_line base code.now end) }
 {
     match end {
         End::Limit => out.push_str("limit\n"),
@@ -112,7 +112,7 @@ fn put_end(
 
 // The name of a kind of stop.
 fn kind_name(kind: StopKind) -> &'static str
-    ensures { result.now ≡ kind_text kind }
+    ensures { result.now ≡ stop_kind_text kind }
 {
     match kind {
         StopKind::Operation => "Operation",
@@ -212,7 +212,7 @@ fn bytes_held<M: Memory>(
     address: u64,
     count: usize,
 ) -> Result<Vec<u8>, AllocError>
-    requires { (i : ℕ) → i < count → IsTrue (M.held memory.now (sum64 address i)) }
+    requires { (i : ℕ) → i < count → IsTrue (M.held memory.now (wrapping_add64 address i)) }
     ensures { IfOk result (λ bytes. bytes.items ≡ bytes_at (M.byte memory.now) address count) }
 {
     let mut bytes = Vec::new(alloc);

@@ -13,8 +13,8 @@ use Rattle.s390x_base.specs.declared.regs.RegClass.TheVariants.{Int, Float}
 use Rattle.s390x_base.specs.declared.trap.TrapKind.TheVariants.{User}
 use Rattle.s390x_words.specs.Marks.{word, after_word}
 use Rattle.s390x_words.specs.Numbers.{Width, W8, W12, W16, W32, W64, width_bits, SignedWidth, signed_limit, IsBelow, decimal_from, decimal_of, natural_of, minus_of, plus_of, signed_below, integer_of, S8, S16, S20, S32, S64}
-use Rattle.s390x_words.specs.Found.{found}
-use Rattle.s390x_words.specs.Atoms.{real_of, reg_of, IsReg, mask_of, IsMask, user_number_of, trap_of, suffix_of, IsSuffix}
+use Rattle.s390x_words.specs.Found.{found_by_name}
+use Rattle.s390x_words.specs.Atoms.{real_register_of, reg_of, IsReg, mask_of, IsMask, user_number_of, trap_of, suffix_of, IsSuffix}
 use Rattle.s390x_words.specs.Memory.{IsMemory, memory_with, form_text}
 use Rattle.s390x_words.specs.declared.memory.MemoryForm.{MemoryForm}
 use Rattle.s390x_words.specs.declared.memory.MemoryForm.TheVariants as F
@@ -22,8 +22,8 @@ use Rattle.s390x_words.specs.declared.memory.TheConstants.{ALL_FORMS}
 use Rattle.s390x_words.specs.Lists.{AllItems, elements, list_of, begins_element}
 use Rattle.s390x_words.specs.Marks.{upto}
 use Rattle.s390x_words.specs.Sets.{is_in}
-use Rattle.s390x_words.specs.Calls.{IsTarget, target_of, IsLocation, IsResult, location_of, result_of, IsHandler, handler_of, IsTry, try_of, arg_of, IsArg, ret_of, IsRet, use_of, IsUse, label_of, IsLabel}
-use Rattle.s390x_words.specs.Bytes.{bytes_of, decoded, hex_from, digit_of, value_limit, value_of}
+use Rattle.s390x_words.specs.Calls.{IsCallTarget, call_target_of, IsLocation, IsResult, location_of, call_result_of, IsHandler, handler_of, IsTry, try_of, arg_of, IsArg, ret_of, IsRet, use_of, IsUse, label_of, IsLabel}
+use Rattle.s390x_words.specs.Bytes.{bytes_of_text, decoded, hex_from, digit_of, value_limit, value_of}
 use Rattle.s390x_fields.specs.Fields.{IsOption, option_of, Kind, KAlu, KArgs, KBool, KBytes, KCmp, KCond, KConvention, KDefs, KFlags, KInteger, KLabels, KMemory, KName, KNatural, KOption, KPair, KReal, KReg, KReloc, KRets, KRxsbg, KSet, KShift, KShifted, KStart, KTarget, KTrap, KTry, KUnary, KUses, KVecBinary, KVecCompare, KVecElementCompare, KVecShift, KVecUnary, kind_of, IsField, value_as}
 use Rattle.s390x_words.proofs.Members.{either}
 use Rattle.s390x_words.proofs.Registers.{members-again}
@@ -82,7 +82,7 @@ limit_some S64 = omega arith
 integer_ok : (w : SignedWidth) (s : List ℕ) → IsBelow (signed_limit w) (integer_of w s)
 integer_ok w s = signed_ok (signed_limit w) s (limit_some w)
 
-real_ok : (w : List ℕ) → IsRegister (real_of w)
+real_ok : (w : List ℕ) → IsRegister (real_register_of w)
 real_ok w = elim (either (slice_index w 1 == 118)) [ inl e ↦ rw e (omega arith) | inr e ↦ rw e (omega arith) ]
 
 reg_ok : (w : List ℕ) → IsReg (reg_of w)
@@ -142,7 +142,7 @@ list_ok : {A : Type 0} (P : A → Type 0) (reading : List ℕ → A) → ((s : L
 list_ok P reading h s =
     elim (either (length (upto 93 s) == 1)) [ inl e ↦ rw e tt | inr e ↦ rw e (elements_ok P reading h (upto 93 s)) ]
 
-target_ok : (w : List ℕ) → IsTarget (target_of w)
+target_ok : (w : List ℕ) → IsCallTarget (call_target_of w)
 target_ok w = elim (either (slice_index w 0 == 37)) [ inl e ↦ rw e (reg_ok w) | inr e ↦ rw e (natural_ok W32 (drop 1 w)) ]
 
 location_ok : (s : List ℕ) → IsLocation (location_of s)
@@ -175,7 +175,7 @@ decoded_ok : (s : List ℕ) (r : Result (List ℕ) FromHexError) → decode_of s
 decoded_ok s (Ok bs) h = (decode_of-ok s bs h).3
 decoded_ok s (Err e) h = no_bytes
 
-bytes_ok : (w : List ℕ) → IsBytes (bytes_of w)
+bytes_ok : (w : List ℕ) → IsBytes (bytes_of_text w)
 bytes_ok w = elim (either (bytes_eq w (codes "-"))) [ inl e ↦ rw e no_bytes | inr e ↦ rw e (decoded_ok w (decode_of w) refl) ]
 
 pub value-ok : (k : Kind) (s : List ℕ) → IsField (value_as k s)
@@ -197,22 +197,22 @@ value-ok KBool s = tt
 value-ok (KNatural w) s = natural_ok w (word s)
 value-ok (KInteger w) s = integer_ok w (word s)
 value-ok (KShifted w) s = (natural_ok w (word s), natural_ok W8 (word (after_word s)))
-value-ok KMemory s = memory_shape_ok (found form_text ALL_FORMS (word s) F.BXD12) (after_word s)
+value-ok KMemory s = memory_shape_ok (found_by_name form_text ALL_FORMS (word s) F.BXD12) (after_word s)
 value-ok KCond s = mask_ok (word s)
 value-ok KTrap s = trap_ok (word s)
 value-ok KLabels s = list_ok IsLabel label_of (λ t. natural_ok W32 (word t)) (drop 1 s)
 value-ok KArgs s = list_ok IsArg arg_of (λ t. (reg_ok (word t), reg_ok (word (after_word t)))) (drop 1 s)
 value-ok KRets s = list_ok IsRet ret_of (λ t. (reg_ok (word t), reg_ok (word (after_word t)))) (drop 1 s)
 value-ok KUses s = list_ok IsUse use_of (λ t. (reg_ok (word t), reg_ok (word (after_word t)))) (drop 1 s)
-value-ok KDefs s = list_ok IsResult result_of (λ t. (reg_ok (word t), location_ok (after_word t))) (drop 1 s)
-value-ok KSet s = members-again (is_in (list_of (λ t. real_of (word t)) (drop 1 s)))
+value-ok KDefs s = list_ok IsResult call_result_of (λ t. (reg_ok (word t), location_ok (after_word t))) (drop 1 s)
+value-ok KSet s = members-again (is_in (list_of (λ t. real_register_of (word t)) (drop 1 s)))
 value-ok KTarget s = target_ok (word s)
 value-ok KTry s = try_ok s
 value-ok (KOption w) s = option_ok w (word s)
 value-ok KReloc s = (natural_ok W32 (drop 1 (word (after_word s))), integer_ok S64 (word (after_word (after_word s))))
 value-ok KName s = natural_ok W32 (drop 1 (word s))
 value-ok KBytes s = bytes_ok (word s)
-value-ok KStart s = (real_ok (word s), value_small (real_of (word s)).class (word (after_word s)))
+value-ok KStart s = (real_ok (word s), value_small (real_register_of (word s)).class (word (after_word s)))
 value-ok KFlags s = tt
 
 pub value-kind : (k : Kind) (s : List ℕ) → kind_of (value_as k s) ≡ k

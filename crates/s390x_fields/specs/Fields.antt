@@ -18,13 +18,13 @@ use Rattle.s390x_inst.specs.declared.calls.SymbolReloc.{SymbolReloc}
 use Rattle.s390x_inst.specs.declared.state.IsaFlags.{IsaFlags}
 use Rattle.s390x_words.specs.Marks.{word, after_word, past}
 use Rattle.s390x_words.specs.Numbers.{Width, width_bits, SignedWidth, signed_limit, IsBelow, natural_of, integer_of, W8}
-use Rattle.s390x_words.specs.Found.{found}
-use Rattle.s390x_words.specs.Atoms.{real_text, real_of, reg_text, reg_of, IsReg, mask_of, IsMask, trap_text, trap_of, bool_text, bool_of, name_of}
-use Rattle.s390x_words.specs.Memory.{memory_text, memory_of, IsMemory}
+use Rattle.s390x_words.specs.Found.{found_by_name}
+use Rattle.s390x_words.specs.Atoms.{real_text, real_register_of, reg_text, reg_of, IsReg, mask_of, IsMask, trap_text, trap_of, bool_text, bool_of, name_of}
+use Rattle.s390x_words.specs.Memory.{memory_text, memory_operand_of, IsMemory}
 use Rattle.s390x_words.specs.Lists.{list_text, list_of, AllItems}
-use Rattle.s390x_words.specs.Sets.{members, is_in}
-use Rattle.s390x_words.specs.Calls.{target_text, target_of, IsTarget, reloc_text, reloc_of, IsReloc, result_text, result_of, IsResult, TryPart, try_text, try_of, after_try, IsTry, arg_text, IsArg, arg_of, ret_text, IsRet, ret_of, use_text, IsUse, use_of, label_text, IsLabel, label_of}
-use Rattle.s390x_words.specs.Bytes.{bytes_text, bytes_of, value_text, value_limit, value_of, facilities_text, facilities_of}
+use Rattle.s390x_words.specs.Sets.{members_of, is_in}
+use Rattle.s390x_words.specs.Calls.{target_text, call_target_of, IsCallTarget, reloc_text, reloc_of, IsReloc, result_text, call_result_of, IsResult, TryPart, try_text, try_of, after_try, IsTry, arg_text, IsArg, arg_of, ret_text, IsRet, ret_of, use_text, IsUse, use_of, label_text, IsLabel, label_of}
+use Rattle.s390x_words.specs.Bytes.{bytes_text, bytes_of_text, value_text, value_limit, value_of, facilities_text, facilities_of}
 use Rattle.s390x_words.specs.Operators.{alu_text, cmp_text, shift_text, rxsbg_text, unary_text, vec_binary_text, vec_unary_text, vec_shift_text, vec_compare_text, vec_element_compare_text, convention_text}
 use Rattle.s390x_inst.specs.declared.ops.ALUOp.{ALUOp}
 use Rattle.s390x_inst.specs.declared.ops.ALUOp.TheVariants as ALUOpIs
@@ -245,8 +245,8 @@ IsField (FArgs xs) = AllItems IsArg xs
 IsField (FRets xs) = AllItems IsRet xs
 IsField (FUses xs) = AllItems IsUse xs
 IsField (FDefs xs) = AllItems IsResult xs
-IsField (FSet rs) = rs ≡ members (is_in rs)
-IsField (FTarget d) = IsTarget d
+IsField (FSet rs) = rs ≡ members_of (is_in rs)
+IsField (FTarget d) = IsCallTarget d
 IsField (FTry t) = IsTry t
 IsField (FOption w o) = IsOption w o
 IsField (FReloc x) = IsReloc x
@@ -258,39 +258,39 @@ IsField (FFlags f) = Unit {0}
 -- the field of a kind that a text begins with; where none stands there, some field of the kind
 abbrev pub value_as : Kind → List ℕ → Field
 value_as KReg s = FReg (reg_of (word s))
-value_as KReal s = FReal (real_of (word s))
+value_as KReal s = FReal (real_register_of (word s))
 value_as KPair s = FPair (reg_of (word s)) (reg_of (word (after_word s)))
-value_as KAlu s = FAlu (found alu_text ALL_ALU (word s) ALUOpIs.Add32)
-value_as KCmp s = FCmp (found cmp_text ALL_CMP (word s) CmpOpIs.CmpS32)
-value_as KShift s = FShift (found shift_text ALL_SHIFT (word s) ShiftOpIs.RotL32)
-value_as KRxsbg s = FRxsbg (found rxsbg_text ALL_RXSBG (word s) RxSBGOpIs.Insert)
-value_as KUnary s = FUnary (found unary_text ALL_UNARY (word s) UnaryOpIs.Abs32)
-value_as KVecBinary s = FVecBinary (found vec_binary_text ALL_VEC_BINARY (word s) VecBinaryOpIs.Add8x16)
-value_as KVecUnary s = FVecUnary (found vec_unary_text ALL_VEC_UNARY (word s) VecUnaryOpIs.Abs8x16)
-value_as KVecShift s = FVecShift (found vec_shift_text ALL_VEC_SHIFT (word s) VecShiftOpIs.RotL8x16)
-value_as KVecCompare s = FVecCompare (found vec_compare_text ALL_VEC_COMPARE (word s) VecIntCmpOpIs.CmpEq8x16)
-value_as KVecElementCompare s = FVecElementCompare (found vec_element_compare_text ALL_VEC_ELEMENT_COMPARE (word s) VecIntEltCmpOpIs.SCmp128)
-value_as KConvention s = FConvention (found convention_text ALL_CONVENTION (word s) CallConvIs.Fast)
+value_as KAlu s = FAlu (found_by_name alu_text ALL_ALU (word s) ALUOpIs.Add32)
+value_as KCmp s = FCmp (found_by_name cmp_text ALL_CMP (word s) CmpOpIs.CmpS32)
+value_as KShift s = FShift (found_by_name shift_text ALL_SHIFT (word s) ShiftOpIs.RotL32)
+value_as KRxsbg s = FRxsbg (found_by_name rxsbg_text ALL_RXSBG (word s) RxSBGOpIs.Insert)
+value_as KUnary s = FUnary (found_by_name unary_text ALL_UNARY (word s) UnaryOpIs.Abs32)
+value_as KVecBinary s = FVecBinary (found_by_name vec_binary_text ALL_VEC_BINARY (word s) VecBinaryOpIs.Add8x16)
+value_as KVecUnary s = FVecUnary (found_by_name vec_unary_text ALL_VEC_UNARY (word s) VecUnaryOpIs.Abs8x16)
+value_as KVecShift s = FVecShift (found_by_name vec_shift_text ALL_VEC_SHIFT (word s) VecShiftOpIs.RotL8x16)
+value_as KVecCompare s = FVecCompare (found_by_name vec_compare_text ALL_VEC_COMPARE (word s) VecIntCmpOpIs.CmpEq8x16)
+value_as KVecElementCompare s = FVecElementCompare (found_by_name vec_element_compare_text ALL_VEC_ELEMENT_COMPARE (word s) VecIntEltCmpOpIs.SCmp128)
+value_as KConvention s = FConvention (found_by_name convention_text ALL_CONVENTION (word s) CallConvIs.Fast)
 value_as KBool s = FBool (bool_of (word s))
 value_as (KNatural w) s = FNatural w (natural_of w (word s))
 value_as (KInteger w) s = FInteger w (integer_of w (word s))
 value_as (KShifted w) s = FShifted w (natural_of w (word s)) (natural_of W8 (word (after_word s)))
-value_as KMemory s = FMemory (memory_of s)
+value_as KMemory s = FMemory (memory_operand_of s)
 value_as KCond s = FCond (mask_of (word s))
 value_as KTrap s = FTrap (trap_of (word s))
 value_as KLabels s = FLabels (list_of label_of (drop 1 s))
 value_as KArgs s = FArgs (list_of arg_of (drop 1 s))
 value_as KRets s = FRets (list_of ret_of (drop 1 s))
 value_as KUses s = FUses (list_of use_of (drop 1 s))
-value_as KDefs s = FDefs (list_of result_of (drop 1 s))
-value_as KSet s = FSet (members (is_in (list_of (λ s. real_of (word s)) (drop 1 s))))
-value_as KTarget s = FTarget (target_of (word s))
+value_as KDefs s = FDefs (list_of call_result_of (drop 1 s))
+value_as KSet s = FSet (members_of (is_in (list_of (λ s. real_register_of (word s)) (drop 1 s))))
+value_as KTarget s = FTarget (call_target_of (word s))
 value_as KTry s = FTry (try_of s)
 value_as (KOption w) s = FOption w (option_of w (word s))
 value_as KReloc s = FReloc (reloc_of s)
 value_as KName s = FName (name_of (word s))
-value_as KBytes s = FBytes (bytes_of (word s))
-value_as KStart s = FStart (real_of (word s)) (value_of (real_of (word s)).class (word (after_word s)))
+value_as KBytes s = FBytes (bytes_of_text (word s))
+value_as KStart s = FStart (real_register_of (word s)) (value_of (real_register_of (word s)).class (word (after_word s)))
 value_as KFlags s = FFlags (facilities_of s)
 
 -- what follows the field of a kind that a text begins with

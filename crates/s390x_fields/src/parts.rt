@@ -3,7 +3,7 @@ ghost use Rattle.s390x_base.specs.Registers.{general, vector};
 ghost use Rattle.s390x_base.specs.Sets.{has};
 ghost use Rattle.s390x_words.specs.Numbers.{W8, W16, W32, W64, S8, S16, S20, S32};
 ghost use Rattle.s390x_words.specs.Calls.{try_part};
-ghost use Rattle.s390x_words.specs.Sets.{members};
+ghost use Rattle.s390x_words.specs.Sets.{members_of};
 ghost use Rattle.s390x_fields.specs.Fields.{FAlu, FArgs, FBool, FBytes, FCmp, FCond, FConvention, FDefs, FFlags, FInteger, FLabels, FMemory, FName, FNatural, FOption, FPair, FReal, FReg, FReloc, FRets, FRxsbg, FSet, FShift, FShifted, FStart, FTarget, FTrap, FTry, FUnary, FUses, FVecBinary, FVecCompare, FVecElementCompare, FVecShift, FVecUnary};
 
 use crate::part::Part;
@@ -359,7 +359,7 @@ impl Part for Vec<CallRetPair> {
 }
 
 impl Part for PRegSet {
-    ghost field = { λ p. FSet (members (has p)) };
+    ghost field = { λ p. FSet (members_of (has p)) };
 
     fn put(&self, alloc: Global, out: &mut String) -> Result<(), AllocError> {
         put(out, " ")?;

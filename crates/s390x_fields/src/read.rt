@@ -4,14 +4,14 @@ ghost use Rattle.s390x_base.specs.Registers.{general, vector};
 ghost use Rattle.s390x_base.specs.Sets.{has};
 ghost use Rattle.s390x_words.specs.Marks.{word, after_word, past};
 ghost use Rattle.s390x_words.specs.Numbers.{natural_of, integer_of, W8, W16, W32, W64, S8, S16, S20, S32};
-ghost use Rattle.s390x_words.specs.Found.{found};
+ghost use Rattle.s390x_words.specs.Found.{found_by_name};
 ghost use Rattle.s390x_words.specs.Operators.{alu_text, cmp_text, shift_text, rxsbg_text, unary_text, vec_binary_text, vec_unary_text, vec_shift_text, vec_compare_text, vec_element_compare_text, convention_text};
-ghost use Rattle.s390x_words.specs.Atoms.{real_of, reg_of, mask_of, trap_of, bool_of, name_of};
-ghost use Rattle.s390x_words.specs.Memory.{memory_of};
+ghost use Rattle.s390x_words.specs.Atoms.{real_register_of, reg_of, mask_of, trap_of, bool_of, name_of};
+ghost use Rattle.s390x_words.specs.Memory.{memory_operand_of};
 ghost use Rattle.s390x_words.specs.Lists.{list_of};
-ghost use Rattle.s390x_words.specs.Sets.{members, is_in};
-ghost use Rattle.s390x_words.specs.Calls.{target_of, reloc_of, result_of, try_part, try_of, after_try, arg_of, ret_of, use_of, label_of};
-ghost use Rattle.s390x_words.specs.Bytes.{bytes_of, value_of, facilities_of};
+ghost use Rattle.s390x_words.specs.Sets.{members_of, is_in};
+ghost use Rattle.s390x_words.specs.Calls.{call_target_of, reloc_of, call_result_of, try_part, try_of, after_try, arg_of, ret_of, use_of, label_of};
+ghost use Rattle.s390x_words.specs.Bytes.{bytes_of_text, value_of, facilities_of};
 ghost use Rattle.s390x_fields.specs.Fields.{option_of};
 
 use crate::cursor::Cursor;
@@ -57,77 +57,77 @@ impl<'a> Cursor<'a> {
     }
 
     pub fn real(&mut self) -> PReg
-        ensures value { result ≡ real_of (word self.old) }
+        ensures value { result ≡ real_register_of (word self.old) }
         ensures after { self.new ≡ after_word self.old }
     {
         real(self.word())
     }
 
     pub fn alu(&mut self) -> ALUOp
-        ensures value { result ≡ found alu_text ALL_ALU (word self.old) ALUOp.Add32 }
+        ensures value { result ≡ found_by_name alu_text ALL_ALU (word self.old) ALUOp.Add32 }
         ensures after { self.new ≡ after_word self.old }
     {
         find(&ALL_ALU, self.word(), ALUOp::Add32)
     }
 
     pub fn cmp(&mut self) -> CmpOp
-        ensures value { result ≡ found cmp_text ALL_CMP (word self.old) CmpOp.CmpS32 }
+        ensures value { result ≡ found_by_name cmp_text ALL_CMP (word self.old) CmpOp.CmpS32 }
         ensures after { self.new ≡ after_word self.old }
     {
         find(&ALL_CMP, self.word(), CmpOp::CmpS32)
     }
 
     pub fn shift_op(&mut self) -> ShiftOp
-        ensures value { result ≡ found shift_text ALL_SHIFT (word self.old) ShiftOp.RotL32 }
+        ensures value { result ≡ found_by_name shift_text ALL_SHIFT (word self.old) ShiftOp.RotL32 }
         ensures after { self.new ≡ after_word self.old }
     {
         find(&ALL_SHIFT, self.word(), ShiftOp::RotL32)
     }
 
     pub fn rxsbg(&mut self) -> RxSBGOp
-        ensures value { result ≡ found rxsbg_text ALL_RXSBG (word self.old) RxSBGOp.Insert }
+        ensures value { result ≡ found_by_name rxsbg_text ALL_RXSBG (word self.old) RxSBGOp.Insert }
         ensures after { self.new ≡ after_word self.old }
     {
         find(&ALL_RXSBG, self.word(), RxSBGOp::Insert)
     }
 
     pub fn unary(&mut self) -> UnaryOp
-        ensures value { result ≡ found unary_text ALL_UNARY (word self.old) UnaryOp.Abs32 }
+        ensures value { result ≡ found_by_name unary_text ALL_UNARY (word self.old) UnaryOp.Abs32 }
         ensures after { self.new ≡ after_word self.old }
     {
         find(&ALL_UNARY, self.word(), UnaryOp::Abs32)
     }
 
     pub fn vec_binary(&mut self) -> VecBinaryOp
-        ensures value { result ≡ found vec_binary_text ALL_VEC_BINARY (word self.old) VecBinaryOp.Add8x16 }
+        ensures value { result ≡ found_by_name vec_binary_text ALL_VEC_BINARY (word self.old) VecBinaryOp.Add8x16 }
         ensures after { self.new ≡ after_word self.old }
     {
         find(&ALL_VEC_BINARY, self.word(), VecBinaryOp::Add8x16)
     }
 
     pub fn vec_unary(&mut self) -> VecUnaryOp
-        ensures value { result ≡ found vec_unary_text ALL_VEC_UNARY (word self.old) VecUnaryOp.Abs8x16 }
+        ensures value { result ≡ found_by_name vec_unary_text ALL_VEC_UNARY (word self.old) VecUnaryOp.Abs8x16 }
         ensures after { self.new ≡ after_word self.old }
     {
         find(&ALL_VEC_UNARY, self.word(), VecUnaryOp::Abs8x16)
     }
 
     pub fn vec_shift_op(&mut self) -> VecShiftOp
-        ensures value { result ≡ found vec_shift_text ALL_VEC_SHIFT (word self.old) VecShiftOp.RotL8x16 }
+        ensures value { result ≡ found_by_name vec_shift_text ALL_VEC_SHIFT (word self.old) VecShiftOp.RotL8x16 }
         ensures after { self.new ≡ after_word self.old }
     {
         find(&ALL_VEC_SHIFT, self.word(), VecShiftOp::RotL8x16)
     }
 
     pub fn vec_compare(&mut self) -> VecIntCmpOp
-        ensures value { result ≡ found vec_compare_text ALL_VEC_COMPARE (word self.old) VecIntCmpOp.CmpEq8x16 }
+        ensures value { result ≡ found_by_name vec_compare_text ALL_VEC_COMPARE (word self.old) VecIntCmpOp.CmpEq8x16 }
         ensures after { self.new ≡ after_word self.old }
     {
         find(&ALL_VEC_COMPARE, self.word(), VecIntCmpOp::CmpEq8x16)
     }
 
     pub fn vec_element_compare(&mut self) -> VecIntEltCmpOp
-        ensures value { result ≡ found vec_element_compare_text ALL_VEC_ELEMENT_COMPARE (word self.old) VecIntEltCmpOp.SCmp128 }
+        ensures value { result ≡ found_by_name vec_element_compare_text ALL_VEC_ELEMENT_COMPARE (word self.old) VecIntEltCmpOp.SCmp128 }
         ensures after { self.new ≡ after_word self.old }
     {
         find(
@@ -138,7 +138,7 @@ impl<'a> Cursor<'a> {
     }
 
     pub fn convention(&mut self) -> CallConv
-        ensures value { result ≡ found convention_text ALL_CONVENTION (word self.old) CallConv.Fast }
+        ensures value { result ≡ found_by_name convention_text ALL_CONVENTION (word self.old) CallConv.Fast }
         ensures after { self.new ≡ after_word self.old }
     {
         find(&ALL_CONVENTION, self.word(), CallConv::Fast)
@@ -236,7 +236,7 @@ impl<'a> Cursor<'a> {
     }
 
     pub fn target(&mut self) -> CallInstDest
-        ensures value { result ≡ target_of (word self.old) }
+        ensures value { result ≡ call_target_of (word self.old) }
         ensures after { self.new ≡ after_word self.old }
     {
         target(self.word())
@@ -287,7 +287,7 @@ impl<'a> Cursor<'a> {
     }
 
     pub fn memory(&mut self) -> MemArg
-        ensures value { result ≡ memory_of self.old }
+        ensures value { result ≡ memory_operand_of self.old }
         ensures after { self.new ≡ past 41 self.old }
     {
         let value = memory(self.rest());
@@ -341,7 +341,7 @@ impl<'a> Cursor<'a> {
     }
 
     pub fn defs(&mut self, alloc: Global) -> Result<Vec<CallRetPair>, AllocError>
-        ensures value { IfOk result (λ v. v.items ≡ list_of result_of (drop 1 self.old)) }
+        ensures value { IfOk result (λ v. v.items ≡ list_of call_result_of (drop 1 self.old)) }
         ensures after { self.new ≡ past 93 self.old }
     {
         let value = list(alloc, tail(self.rest(), 1));
@@ -350,7 +350,7 @@ impl<'a> Cursor<'a> {
     }
 
     pub fn reals(&mut self, alloc: Global) -> Result<Vec<PReg>, AllocError>
-        ensures value { IfOk result (λ v. v.items ≡ list_of (λ s. real_of (word s)) (drop 1 self.old)) }
+        ensures value { IfOk result (λ v. v.items ≡ list_of (λ s. real_register_of (word s)) (drop 1 self.old)) }
         ensures after { self.new ≡ past 93 self.old }
     {
         let value = list(alloc, tail(self.rest(), 1));
@@ -359,7 +359,7 @@ impl<'a> Cursor<'a> {
     }
 
     pub fn set(&mut self, alloc: Global) -> Result<PRegSet, AllocError>
-        ensures value { IfOk result (λ p. members (has p) ≡ members (is_in (list_of (λ s. real_of (word s)) (drop 1 self.old)))) }
+        ensures value { IfOk result (λ p. members_of (has p) ≡ members_of (is_in (list_of (λ s. real_register_of (word s)) (drop 1 self.old)))) }
         ensures after { self.new ≡ past 93 self.old }
     {
         let members = self.reals(alloc)?;
@@ -410,7 +410,7 @@ impl<'a> Cursor<'a> {
     }
 
     pub fn bytes(&mut self, alloc: Global) -> Result<Vec<u8>, AllocError>
-        ensures value { IfOk result (λ v. v.items ≡ bytes_of (word self.old)) }
+        ensures value { IfOk result (λ v. v.items ≡ bytes_of_text (word self.old)) }
         ensures after { self.new ≡ after_word self.old }
     {
         bytes(alloc, self.word())

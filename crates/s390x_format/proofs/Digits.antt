@@ -6,7 +6,7 @@ use Rattle.std.proofs.Math.Nat.{div-one, mod-eq_of_lt, mod-one, zero-div, zero-m
 use Rattle.std.proofs.lemmas.Nat.{mod_below, shr_high, mod_low}
 use Rattle.std.proofs.lemmas.Bool.{and_parts, or_cases, cases_lt, ltb-true, or_left, or_right, lt-ltb}
 use Rattle.s390x_format.specs.declared.layout.Part.{Part}
-use Rattle.s390x_format.specs.Layout.{bits, piece, number, field, parts_of, is_whole, width_of, zero_bits}
+use Rattle.s390x_format.specs.Layout.{bits, piece, number, field, parts_of, is_whole, width_of_part, zero_bits}
 use Rattle.s390x_format.proofs.Packing.{digit_lt, regroup, number_lt, piece_lt}
 
 -- the digits of a number at the parts of slot k
@@ -101,7 +101,7 @@ whole_has (p ∷ q ∷ []) (d ∷ e ∷ []) w f =
     ]
 whole_has (p ∷ q ∷ r ∷ qs) ds w f = cc
 
-pub field_lt : (ps : List Part) (n k : ℕ) → is_whole (parts_of k ps) ≡ true → field ps n k < 2 ^ width_of k ps
+pub field_lt : (ps : List Part) (n k : ℕ) → is_whole (parts_of k ps) ≡ true → field ps n k < 2 ^ width_of_part k ps
 field_lt ps n k w = rw (field-join ps n k) (whole_has (parts_of k ps) (digits_in k ps n) w (digits_fit ps n k)).0
 
 zero_piece : (p : Part) → piece 0 p ≡ 0
@@ -120,14 +120,14 @@ unfolding HasDigits
 has_tail p ps d ds v true h = h.1
 has_tail p ps d ds v false h = h
 
-pub number_back : (ps : List Part) (n : ℕ) (fs : List ℕ) → ((k : ℕ) → k < 10 → HasDigits (parts_of k ps) (digits_in k ps n) (get_or fs k 0)) →
+pub number_round_trip : (ps : List Part) (n : ℕ) (fs : List ℕ) → ((k : ℕ) → k < 10 → HasDigits (parts_of k ps) (digits_in k ps n) (get_or fs k 0)) →
     length fs ≡ 10 → zero_bits ps n ≡ true → number ps fs ≡ n % 2 ^ bits ps
 unfolding number bits zero_bits parts_of digits_in
-number_back [] n fs h len z = sym (mod-one n)
-number_back (p ∷ ps) n fs h len z =
+number_round_trip [] n fs h len z = sym (mod-one n)
+number_round_trip (p ∷ ps) n fs h len z =
     let t = and_parts (nat_lt p.slot 10 || (n / 2 ^ bits ps % 2 ^ p.width == 0)) (zero_bits ps n) z in
     let tail : number ps fs ≡ n % 2 ^ bits ps =
-    number_back ps n fs (λ k lt. has_tail p (parts_of k ps) (n / 2 ^ bits ps % 2 ^ p.width) (digits_in k ps n) (get_or fs k 0) (p.slot == k) (h k lt)) len t.1 in
+    number_round_trip ps n fs (λ k lt. has_tail p (parts_of k ps) (n / 2 ^ bits ps % 2 ^ p.width) (digits_in k ps n) (get_or fs k 0) (p.slot == k) (h k lt)) len t.1 in
     let head : piece (get_or fs p.slot 0) p ≡ n / 2 ^ bits ps % 2 ^ p.width =
     elim (cases_lt p.slot 10) [
       | inl lt ↦ here_has p (parts_of p.slot ps) (n / 2 ^ bits ps % 2 ^ p.width) (digits_in p.slot ps n) (get_or fs p.slot 0) (p.slot == p.slot) (eq-eqb p.slot p.slot refl) (h p.slot lt)
@@ -163,6 +163,6 @@ zero_of ps fs len = ap (zero_bits ps) (sym (zero-add (number ps fs)) ∙ ap (λ 
 pub back : (ps : List Part) (n : ℕ) (fs : List ℕ) → ((k : ℕ) → k < 10 → is_whole (parts_of k ps) ≡ true) → ((k : ℕ) → k < 10 → get_or fs k 0 ≡ field ps n k) →
     length fs ≡ 10 → n < 2 ^ bits ps → zero_bits ps n ≡ true → number ps fs ≡ n
 back ps n fs w h len lt z =
-    number_back ps n fs
+    number_round_trip ps n fs
     (λ k l. subst (HasDigits (parts_of k ps) (digits_in k ps n)) (sym (h k l ∙ field-join ps n k)) (whole_has (parts_of k ps) (digits_in k ps n) (w k l) (digits_fit ps n k)).1)
     len z ∙ mod-eq_of_lt lt

@@ -6,7 +6,7 @@ use Rattle.std.proofs.lemmas.Nat.{mod_below, mul-add-lt, shr_high, mod_low}
 use Rattle.std.proofs.lemmas.Bool.{and_parts, or_cases, cases_eq}
 use Rattle.std.proofs.Math.Nat.{mod-eq_of_lt}
 use Rattle.s390x_format.specs.declared.layout.Part.{Part}
-use Rattle.s390x_format.specs.Layout.{bits, piece, number, field, parts_of, is_whole, width_of, is_layout, is_narrow, slots_ok}
+use Rattle.s390x_format.specs.Layout.{bits, piece, number, field, parts_of, is_whole, width_of_part, is_layout, is_narrow, slots_ok}
 
 pub piece_lt : (v : ℕ) (p : Part) → piece v p < 2 ^ p.width
 piece_lt v p = mod_below (v / 2 ^ p.low) (2 ^ p.width) (pow_pos p.width)
@@ -81,7 +81,7 @@ pieces_whole (p ∷ q ∷ []) v w h =
     ]
 pieces_whole (p ∷ q ∷ r ∷ qs) v w h = cc
 
-pub field-number : (ps : List Part) (fs : List ℕ) (k : ℕ) → is_whole (parts_of k ps) ≡ true → get_or fs k 0 < 2 ^ width_of k ps → field ps (number ps fs) k ≡ get_or fs k 0
+pub field-number : (ps : List Part) (fs : List ℕ) (k : ℕ) → is_whole (parts_of k ps) ≡ true → get_or fs k 0 < 2 ^ width_of_part k ps → field ps (number ps fs) k ≡ get_or fs k 0
 field-number ps fs k w h =
     ap (λ (z : ℕ). field ps z k) (sym (zero-add (number ps fs)) ∙ ap (λ (z : ℕ). z + number ps fs) (sym (zero-mul (2 ^ bits ps)))) ∙ field-at ps 0 fs k ∙ gather-pieces ps fs k ∙ pieces_whole (parts_of k ps) (get_or fs k 0) w h
 
@@ -100,18 +100,18 @@ layout_bits ps h =
 pub layout_narrow : (ps : List Part) → is_layout ps ≡ true → is_narrow ps ≡ true
 layout_narrow ps h = (and_parts ((bits ps == 16) || (bits ps == 32) || (bits ps == 48)) (is_narrow ps) (and_parts _ (slots_ok 10 ps) h).0).1
 
-slots_at : (n k : ℕ) (ps : List Part) → slots_ok n ps ≡ true → k < n → (is_whole (parts_of k ps) ≡ true) × (width_of k ps ≤ 32)
+slots_at : (n k : ℕ) (ps : List Part) → slots_ok n ps ≡ true → k < n → (is_whole (parts_of k ps) ≡ true) × (width_of_part k ps ≤ 32)
 unfolding slots_ok
 slots_at zero k ps h lt = absurd (omega arith)
 slots_at (suc n) k ps h lt =
-    let t = and_parts (is_whole (parts_of n ps) && nat_le (width_of n ps) 32) (slots_ok n ps) h in
-    let s = and_parts (is_whole (parts_of n ps)) (nat_le (width_of n ps) 32) t.0 in
+    let t = and_parts (is_whole (parts_of n ps) && nat_le (width_of_part n ps) 32) (slots_ok n ps) h in
+    let s = and_parts (is_whole (parts_of n ps)) (nat_le (width_of_part n ps) 32) t.0 in
     elim (cases_eq k n) [
-      | inl e ↦ subst (λ (j : ℕ). (is_whole (parts_of j ps) ≡ true) × (width_of j ps ≤ 32)) (sym e) (s.0, leb-true (width_of n ps) 32 s.1)
+      | inl e ↦ subst (λ (j : ℕ). (is_whole (parts_of j ps) ≡ true) × (width_of_part j ps ≤ 32)) (sym e) (s.0, leb-true (width_of_part n ps) 32 s.1)
       | inr ne ↦ slots_at n k ps t.1 (omega arith)
     ]
 
-pub layout_slot : (ps : List Part) (k : ℕ) → is_layout ps ≡ true → k < 10 → (is_whole (parts_of k ps) ≡ true) × (width_of k ps ≤ 32)
+pub layout_slot : (ps : List Part) (k : ℕ) → is_layout ps ≡ true → k < 10 → (is_whole (parts_of k ps) ≡ true) × (width_of_part k ps ≤ 32)
 layout_slot ps k h lt = slots_at 10 k ps (and_parts _ (slots_ok 10 ps) h).1 lt
 
 pub narrow_at : (ps : List Part) (i : ℕ) (d : Part) → is_narrow ps ≡ true → i < length ps → ((get_or ps i d).low ≤ 31) × ((get_or ps i d).width ≤ 32)

@@ -3,7 +3,7 @@ use Rattle.std.proofs.Common.{◌≡◌, ℕ, zero, suc, ◌+◌, ◌*◌, ◌/�
 use Rattle.std.proofs.Math.Seq.{take-append_seam}
 use Rattle.s390x_format.specs.declared.kind.FormatKind.{FormatKind}
 use Rattle.s390x_format.specs.declared.kind.FormatKind.TheVariants.{RiA, RiB, RiC, RilA, RilB, RilC}
-use Rattle.s390x_format.specs.Layout.{SlotsFit, number, bits, parts_of, width_of}
+use Rattle.s390x_format.specs.Layout.{SlotsFit, number, bits, parts_of, width_of_part}
 use Rattle.s390x_format.specs.Formats.{layout_of, length_of}
 use Rattle.s390x_format.specs.Reading.{be_bytes, encode}
 use Rattle.s390x_format.specs.Encoded.{slots, IsCode, immediate_bytes}
@@ -24,7 +24,7 @@ number_split RilB o rs ms h d pos lt = omega arith
 number_split RilC o rs ms h d pos lt = omega arith
 number_split _ o rs ms h d pos lt = absurd (omega arith)
 
-width_split : (kind : FormatKind) → 0 < immediate_bytes kind → width_of 8 (layout_of kind) ≡ 8 * immediate_bytes kind
+width_split : (kind : FormatKind) → 0 < immediate_bytes kind → width_of_part 8 (layout_of kind) ≡ 8 * immediate_bytes kind
 unfolding bits parts_of layout_of
 width_split RiA pos = refl
 width_split RiB pos = refl
@@ -68,11 +68,11 @@ encode_split RilB o rs ms h d pos lt = ap (be_bytes 6) (number_split RilB o rs m
 encode_split RilC o rs ms h d pos lt = ap (be_bytes 6) (number_split RilC o rs ms h d pos lt) ∙ six_split (front RilC o rs ms d) h lt
 encode_split _ o rs ms h d pos lt = absurd (omega arith)
 
-refit : (kind : FormatKind) (o : ℕ) (rs ms : List ℕ) (h h' d : ℕ) → h' < 2 ^ width_of 8 (layout_of kind) → SlotsFit (layout_of kind) (slots o rs ms h d) →
+refit : (kind : FormatKind) (o : ℕ) (rs ms : List ℕ) (h h' d : ℕ) → h' < 2 ^ width_of_part 8 (layout_of kind) → SlotsFit (layout_of kind) (slots o rs ms h d) →
     SlotsFit (layout_of kind) (slots o rs ms h' d)
 refit kind o rs ms h h' d new old = (refl, each)
   where
-    each : (k : ℕ) → k < 10 → get_or (slots o rs ms h' d) k 0 < 2 ^ width_of k (layout_of kind)
+    each : (k : ℕ) → k < 10 → get_or (slots o rs ms h' d) k 0 < 2 ^ width_of_part k (layout_of kind)
     each zero lt = old.1 0 lt
     each (suc zero) lt = old.1 1 lt
     each (suc (suc zero)) lt = old.1 2 lt
@@ -89,7 +89,7 @@ refit kind o rs ms h h' d new old = (refl, each)
 pub code_patched : (kind : FormatKind) (o : ℕ) (rs ms : List ℕ) (h h' d : ℕ) (bytes : List ℕ) → 0 < immediate_bytes kind → h' < 2 ^ (8 * immediate_bytes kind) →
     IsCode kind (slots o rs ms h d) bytes → IsCode kind (slots o rs ms h' d) (take 2 bytes ++ be_bytes (immediate_bytes kind) h')
 code_patched kind o rs ms h h' d bytes pos lt c =
-    let w : width_of 8 (layout_of kind) ≡ 8 * immediate_bytes kind = width_split kind pos in
+    let w : width_of_part 8 (layout_of kind) ≡ 8 * immediate_bytes kind = width_split kind pos in
     let old : h < 2 ^ (8 * immediate_bytes kind) = subst (λ (k : ℕ). h < 2 ^ k) w (c.fit.1 8 (lit< tt)) in
     let two : length (be_bytes 2 (front kind o rs ms d)) ≡ 2 = (be_number-be_bytes 2 (front kind o rs ms d)).0 in
     let same : bytes ≡ be_bytes 2 (front kind o rs ms d) ++ be_bytes (immediate_bytes kind) h = c.bytes_are ∙ encode_split kind o rs ms h d pos old in

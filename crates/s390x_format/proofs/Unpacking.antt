@@ -3,7 +3,7 @@ use Rattle.std.proofs.Common.{◌≡◌, ℕ, zero, suc, ◌+◌, ◌*◌, ◌/�
 use Rattle.std.proofs.Math.Pow.{pow_pos, pow_mono}
 use Rattle.std.proofs.lemmas.Nat.{mod_below}
 use Rattle.s390x_format.specs.declared.layout.Part.{Part}
-use Rattle.s390x_format.specs.Layout.{bits, field, width_of, is_layout}
+use Rattle.s390x_format.specs.Layout.{bits, field, width_of_part, is_layout}
 use Rattle.s390x_format.proofs.Packing.{layout_bits, layout_slot}
 use Rattle.s390x_format.proofs.Digits.{field_lt}
 
@@ -48,8 +48,8 @@ pub sum_small : (ps : List Part) (n i x : ℕ) (d : Part) → is_layout ps ≡ t
 sum_small ps n i x d ok lt s e =
     let k : ℕ = (get_or ps i d).slot in
     let w = layout_slot ps k ok s in
-    let low : field ps n k < 2 ^ width_of k ps = field_lt ps n k w.0 in
-    let small : 2 ^ width_of k ps ≤ 2 ^ 32 = pow_mono w.1 in
+    let low : field ps n k < 2 ^ width_of_part k ps = field_lt ps n k w.0 in
+    let small : 2 ^ width_of_part k ps ≤ 2 ^ 32 = pow_mono w.1 in
     let f : field (drop i ps) n k ≡ n / 2 ^ bits (drop (i + 1) ps) % 2 ^ (get_or ps i d).width * 2 ^ (get_or ps i d).low + field (drop (i + 1) ps) n k =
     field_at ps n k i d lt ∙ ap (λ (y : ℕ). y + field (drop (i + 1) ps) n k) (if_true (k == k) _ (eq-eqb k k refl)) in
     omega arith

@@ -3,7 +3,7 @@ use Rattle.std.proofs.Common.{◌≡◌, ℕ, zero, suc, ◌^◌, ◌<◌, List,
 use Rattle.std.proofs.lemmas.List.{same_lists, get_or_default}
 use Rattle.s390x_format.specs.declared.kind.FormatKind.{FormatKind}
 use Rattle.s390x_format.specs.declared.kind.FormatKind.TheVariants.{E}
-use Rattle.s390x_format.specs.Layout.{bits, parts_of, width_of, SlotsFit}
+use Rattle.s390x_format.specs.Layout.{bits, parts_of, width_of_part, SlotsFit}
 use Rattle.s390x_format.specs.Formats.{layout_of}
 use Rattle.s390x_format.specs.Widths.{widths_of}
 
@@ -21,7 +21,7 @@ all_at (w ∷ ws) [] h k lt = absurd h
 all_at (w ∷ ws) (v ∷ vs) h zero lt = h.0
 all_at (w ∷ ws) (v ∷ vs) h (suc k) lt = all_at ws vs h.1 k (omega arith)
 
-widths_are : (f : FormatKind) → width_of 0 (layout_of f) ∷ width_of 1 (layout_of f) ∷ width_of 2 (layout_of f) ∷ width_of 3 (layout_of f) ∷ width_of 4 (layout_of f) ∷ width_of 5 (layout_of f) ∷ width_of 6 (layout_of f) ∷ width_of 7 (layout_of f) ∷ width_of 8 (layout_of f) ∷ width_of 9 (layout_of f) ∷ [] ≡ widths_of f
+widths_are : (f : FormatKind) → width_of_part 0 (layout_of f) ∷ width_of_part 1 (layout_of f) ∷ width_of_part 2 (layout_of f) ∷ width_of_part 3 (layout_of f) ∷ width_of_part 4 (layout_of f) ∷ width_of_part 5 (layout_of f) ∷ width_of_part 6 (layout_of f) ∷ width_of_part 7 (layout_of f) ∷ width_of_part 8 (layout_of f) ∷ width_of_part 9 (layout_of f) ∷ [] ≡ widths_of f
 unfolding bits parts_of layout_of
 widths_are E = refl
 widths_are _ = refl
@@ -39,8 +39,8 @@ pick h (suc (suc (suc (suc (suc (suc (suc (suc zero)))))))) lt = refl
 pick h (suc (suc (suc (suc (suc (suc (suc (suc (suc zero))))))))) lt = refl
 pick h (suc (suc (suc (suc (suc (suc (suc (suc (suc (suc k)))))))))) lt = absurd (omega arith)
 
-width_at : (f : FormatKind) (k : ℕ) → k < 10 → get_or (widths_of f) k 0 ≡ width_of k (layout_of f)
-width_at f k lt = ap (λ (ws : List ℕ). get_or ws k 0) (sym (widths_are f)) ∙ pick (λ j. width_of j (layout_of f)) k lt
+width_at : (f : FormatKind) (k : ℕ) → k < 10 → get_or (widths_of f) k 0 ≡ width_of_part k (layout_of f)
+width_at f k lt = ap (λ (ws : List ℕ). get_or ws k 0) (sym (widths_are f)) ∙ pick (λ j. width_of_part j (layout_of f)) k lt
 
 pub fields_from : (f : FormatKind) (fs : List ℕ) → length fs ≡ 10 → AllFit (widths_of f) fs → SlotsFit (layout_of f) fs
 fields_from f fs len h = (len, λ k lt. subst (λ (w : ℕ). get_or fs k 0 < 2 ^ w) (width_at f k lt) (all_at (widths_of f) fs h k (omega arith)))

@@ -27,8 +27,8 @@ parts_of k [] = []
 parts_of k (p ∷ ps) = if p.slot == k then p ∷ parts_of k ps else parts_of k ps
 
 -- the bits of the value in slot k
-abbrev pub width_of : ℕ → List Part → ℕ
-width_of k ps = bits (parts_of k ps)
+abbrev pub width_of_part : ℕ → List Part → ℕ
+width_of_part k ps = bits (parts_of k ps)
 
 -- the parts are one value, whole
 unfoldable pub is_whole : List Part → Bool
@@ -40,7 +40,7 @@ is_whole (p ∷ q ∷ r ∷ ps) = false
 -- the value of each slot below k is whole, and has at most 32 bits
 unfoldable pub slots_ok : ℕ → List Part → Bool
 slots_ok zero ps = true
-slots_ok (suc k) ps = is_whole (parts_of k ps) && (nat_le (width_of k ps) 32) && slots_ok k ps
+slots_ok (suc k) ps = is_whole (parts_of k ps) && (nat_le (width_of_part k ps) 32) && slots_ok k ps
 
 -- no part begins above bit 31 of its value, and none has more than 32 bits
 unfoldable pub is_narrow : List Part → Bool
@@ -53,7 +53,7 @@ is_layout ps = ((bits ps == 16) || (bits ps == 32) || (bits ps == 48)) && is_nar
 
 -- ten values, each in the bits that the layout has for it
 abbrev pub SlotsFit : List Part → List ℕ → Type 0
-SlotsFit ps fs = (length fs ≡ 10) × ((k : ℕ) → k < 10 → slice_index fs k < 2 ^ width_of k ps)
+SlotsFit ps fs = (length fs ≡ 10) × ((k : ℕ) → k < 10 → slice_index fs k < 2 ^ width_of_part k ps)
 
 -- the bits of no field are zero
 unfoldable pub zero_bits : List Part → ℕ → Bool

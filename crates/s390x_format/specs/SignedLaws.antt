@@ -4,7 +4,7 @@ use Rattle.std.specs.Coded.{le_prop}
 use mathlib.Core.HLevel.{is_prop→PathP}
 use lib.IntN.{ℤ_set}
 use mir.Syntax.{w16, w32}
-use Rattle.s390x_format.specs.Distances.{half_of, distance_of, signed_of, unsigned_of}
+use Rattle.s390x_format.specs.Distances.{half_of, signed_distance, signed_of, unsigned_of}
 use Rattle.s390x_format.specs.Layout.{SlotsFit}
 use Rattle.s390x_format.specs.Formats.{layout_of}
 use Rattle.s390x_format.specs.Fits.{fields_from}
@@ -23,7 +23,7 @@ ri_b_same s t e =
     let p_opcode : s.opcode ≡ t.opcode = ap (λ (xs : List ℕ). get_or xs 0 0) e in
     let p_r1 : s.r1 ≡ t.r1 = ap (λ (xs : List ℕ). get_or xs 1 0) e in
     let p_half : half_of w16 s.ri2 ≡ half_of w16 t.ri2 = ap (λ (xs : List ℕ). get_or xs 8 0) e in
-    let p_ri2 : s.ri2 ≡ t.ri2 = sym s.ri2_fits ∙ ap (distance_of w16) p_half ∙ t.ri2_fits in
+    let p_ri2 : s.ri2 ≡ t.ri2 = sym s.ri2_fits ∙ ap (signed_distance w16) p_half ∙ t.ri2_fits in
     λ i. record {
       opcode = p_opcode i;
       r1 = p_r1 i;
@@ -31,7 +31,7 @@ ri_b_same s t e =
       opcode_fits = is_prop→PathP (λ j. p_opcode j < 2 ^ 12) (λ j. le_prop) s.opcode_fits t.opcode_fits i;
       r1_fits = is_prop→PathP (λ j. p_r1 j < 2 ^ 4) (λ j. le_prop) s.r1_fits t.r1_fits i;
       half_fits = is_prop→PathP (λ j. half_of w16 (p_ri2 j) < 2 ^ 16) (λ j. le_prop) s.half_fits t.half_fits i;
-      ri2_fits = is_prop→PathP (λ j. distance_of w16 (half_of w16 (p_ri2 j)) ≡ p_ri2 j) (λ j. ℤ_set (distance_of w16 (half_of w16 (p_ri2 j))) (p_ri2 j)) s.ri2_fits t.ri2_fits i;
+      ri2_fits = is_prop→PathP (λ j. signed_distance w16 (half_of w16 (p_ri2 j)) ≡ p_ri2 j) (λ j. ℤ_set (signed_distance w16 (half_of w16 (p_ri2 j))) (p_ri2 j)) s.ri2_fits t.ri2_fits i;
     }
 
 pub ri_c_fit : (s : RiC) → SlotsFit (layout_of KindRiC) (s.opcode ∷ 0 ∷ 0 ∷ 0 ∷ 0 ∷ s.m1 ∷ 0 ∷ 0 ∷ half_of w16 s.ri2 ∷ 0 ∷ [])
@@ -42,7 +42,7 @@ ri_c_same s t e =
     let p_opcode : s.opcode ≡ t.opcode = ap (λ (xs : List ℕ). get_or xs 0 0) e in
     let p_m1 : s.m1 ≡ t.m1 = ap (λ (xs : List ℕ). get_or xs 5 0) e in
     let p_half : half_of w16 s.ri2 ≡ half_of w16 t.ri2 = ap (λ (xs : List ℕ). get_or xs 8 0) e in
-    let p_ri2 : s.ri2 ≡ t.ri2 = sym s.ri2_fits ∙ ap (distance_of w16) p_half ∙ t.ri2_fits in
+    let p_ri2 : s.ri2 ≡ t.ri2 = sym s.ri2_fits ∙ ap (signed_distance w16) p_half ∙ t.ri2_fits in
     λ i. record {
       opcode = p_opcode i;
       m1 = p_m1 i;
@@ -50,7 +50,7 @@ ri_c_same s t e =
       opcode_fits = is_prop→PathP (λ j. p_opcode j < 2 ^ 12) (λ j. le_prop) s.opcode_fits t.opcode_fits i;
       m1_fits = is_prop→PathP (λ j. p_m1 j < 2 ^ 4) (λ j. le_prop) s.m1_fits t.m1_fits i;
       half_fits = is_prop→PathP (λ j. half_of w16 (p_ri2 j) < 2 ^ 16) (λ j. le_prop) s.half_fits t.half_fits i;
-      ri2_fits = is_prop→PathP (λ j. distance_of w16 (half_of w16 (p_ri2 j)) ≡ p_ri2 j) (λ j. ℤ_set (distance_of w16 (half_of w16 (p_ri2 j))) (p_ri2 j)) s.ri2_fits t.ri2_fits i;
+      ri2_fits = is_prop→PathP (λ j. signed_distance w16 (half_of w16 (p_ri2 j)) ≡ p_ri2 j) (λ j. ℤ_set (signed_distance w16 (half_of w16 (p_ri2 j))) (p_ri2 j)) s.ri2_fits t.ri2_fits i;
     }
 
 pub ril_b_fit : (s : RilB) → SlotsFit (layout_of KindRilB) (s.opcode ∷ s.r1 ∷ 0 ∷ 0 ∷ 0 ∷ 0 ∷ 0 ∷ 0 ∷ half_of w32 s.ri2 ∷ 0 ∷ [])
@@ -61,7 +61,7 @@ ril_b_same s t e =
     let p_opcode : s.opcode ≡ t.opcode = ap (λ (xs : List ℕ). get_or xs 0 0) e in
     let p_r1 : s.r1 ≡ t.r1 = ap (λ (xs : List ℕ). get_or xs 1 0) e in
     let p_half : half_of w32 s.ri2 ≡ half_of w32 t.ri2 = ap (λ (xs : List ℕ). get_or xs 8 0) e in
-    let p_ri2 : s.ri2 ≡ t.ri2 = sym s.ri2_fits ∙ ap (distance_of w32) p_half ∙ t.ri2_fits in
+    let p_ri2 : s.ri2 ≡ t.ri2 = sym s.ri2_fits ∙ ap (signed_distance w32) p_half ∙ t.ri2_fits in
     λ i. record {
       opcode = p_opcode i;
       r1 = p_r1 i;
@@ -69,7 +69,7 @@ ril_b_same s t e =
       opcode_fits = is_prop→PathP (λ j. p_opcode j < 2 ^ 12) (λ j. le_prop) s.opcode_fits t.opcode_fits i;
       r1_fits = is_prop→PathP (λ j. p_r1 j < 2 ^ 4) (λ j. le_prop) s.r1_fits t.r1_fits i;
       half_fits = is_prop→PathP (λ j. half_of w32 (p_ri2 j) < 2 ^ 32) (λ j. le_prop) s.half_fits t.half_fits i;
-      ri2_fits = is_prop→PathP (λ j. distance_of w32 (half_of w32 (p_ri2 j)) ≡ p_ri2 j) (λ j. ℤ_set (distance_of w32 (half_of w32 (p_ri2 j))) (p_ri2 j)) s.ri2_fits t.ri2_fits i;
+      ri2_fits = is_prop→PathP (λ j. signed_distance w32 (half_of w32 (p_ri2 j)) ≡ p_ri2 j) (λ j. ℤ_set (signed_distance w32 (half_of w32 (p_ri2 j))) (p_ri2 j)) s.ri2_fits t.ri2_fits i;
     }
 
 pub ril_c_fit : (s : RilC) → SlotsFit (layout_of KindRilC) (s.opcode ∷ 0 ∷ 0 ∷ 0 ∷ 0 ∷ s.m1 ∷ 0 ∷ 0 ∷ half_of w32 s.ri2 ∷ 0 ∷ [])
@@ -80,7 +80,7 @@ ril_c_same s t e =
     let p_opcode : s.opcode ≡ t.opcode = ap (λ (xs : List ℕ). get_or xs 0 0) e in
     let p_m1 : s.m1 ≡ t.m1 = ap (λ (xs : List ℕ). get_or xs 5 0) e in
     let p_half : half_of w32 s.ri2 ≡ half_of w32 t.ri2 = ap (λ (xs : List ℕ). get_or xs 8 0) e in
-    let p_ri2 : s.ri2 ≡ t.ri2 = sym s.ri2_fits ∙ ap (distance_of w32) p_half ∙ t.ri2_fits in
+    let p_ri2 : s.ri2 ≡ t.ri2 = sym s.ri2_fits ∙ ap (signed_distance w32) p_half ∙ t.ri2_fits in
     λ i. record {
       opcode = p_opcode i;
       m1 = p_m1 i;
@@ -88,7 +88,7 @@ ril_c_same s t e =
       opcode_fits = is_prop→PathP (λ j. p_opcode j < 2 ^ 12) (λ j. le_prop) s.opcode_fits t.opcode_fits i;
       m1_fits = is_prop→PathP (λ j. p_m1 j < 2 ^ 4) (λ j. le_prop) s.m1_fits t.m1_fits i;
       half_fits = is_prop→PathP (λ j. half_of w32 (p_ri2 j) < 2 ^ 32) (λ j. le_prop) s.half_fits t.half_fits i;
-      ri2_fits = is_prop→PathP (λ j. distance_of w32 (half_of w32 (p_ri2 j)) ≡ p_ri2 j) (λ j. ℤ_set (distance_of w32 (half_of w32 (p_ri2 j))) (p_ri2 j)) s.ri2_fits t.ri2_fits i;
+      ri2_fits = is_prop→PathP (λ j. signed_distance w32 (half_of w32 (p_ri2 j)) ≡ p_ri2 j) (λ j. ℤ_set (signed_distance w32 (half_of w32 (p_ri2 j))) (p_ri2 j)) s.ri2_fits t.ri2_fits i;
     }
 
 pub sil_fit : (s : Sil) → SlotsFit (layout_of KindSil) (s.opcode ∷ s.b1 ∷ 0 ∷ 0 ∷ 0 ∷ 0 ∷ 0 ∷ 0 ∷ unsigned_of w16 s.i2 ∷ s.d1 ∷ [])

@@ -38,7 +38,7 @@ pub fn number_of(bytes: &[u8]) -> u64
     requires { length bytes.now ≤ 6 }
     ensures value { result ≡ be_number bytes.now }
     ensures below { result < 2 ^ (8 * length bytes.now) }
-    ensures back { be_bytes (length bytes.now) result ≡ bytes.now }
+    ensures round_trip { be_bytes (length bytes.now) result ≡ bytes.now }
 {
     let mut n: u64 = 0;
     for b in bytes {

@@ -4,7 +4,7 @@
 //! fits its place in the format.
 ghost use Rattle.std.specs.Prelude.{◌≡◌, ◌^◌, ◌<◌};
 ghost use mir.Syntax.{w16, w32};
-ghost use Rattle.s390x_format.specs.Distances.{half_of, distance_of, signed_of, unsigned_of};
+ghost use Rattle.s390x_format.specs.Distances.{half_of, signed_distance, signed_of, unsigned_of};
 
 /// RI-B: `ab`, r1 c, h.
 #[derive(Drop)]
@@ -18,7 +18,7 @@ pub struct RiB {
     ghost opcode_fits: { opcode < 2 ^ 12 },
     ghost r1_fits: { r1 < 2 ^ 4 },
     ghost half_fits: { half_of w16 ri2 < 2 ^ 16 },
-    ghost ri2_fits: { distance_of w16 (half_of w16 ri2) ≡ ri2 },
+    ghost ri2_fits: { signed_distance w16 (half_of w16 ri2) ≡ ri2 },
 }
 
 /// RI-C: `ab`, m1 c, h.
@@ -33,7 +33,7 @@ pub struct RiC {
     ghost opcode_fits: { opcode < 2 ^ 12 },
     ghost m1_fits: { m1 < 2 ^ 4 },
     ghost half_fits: { half_of w16 ri2 < 2 ^ 16 },
-    ghost ri2_fits: { distance_of w16 (half_of w16 ri2) ≡ ri2 },
+    ghost ri2_fits: { signed_distance w16 (half_of w16 ri2) ≡ ri2 },
 }
 
 /// RIL-B: `ab`, r1 c, h.
@@ -48,7 +48,7 @@ pub struct RilB {
     ghost opcode_fits: { opcode < 2 ^ 12 },
     ghost r1_fits: { r1 < 2 ^ 4 },
     ghost half_fits: { half_of w32 ri2 < 2 ^ 32 },
-    ghost ri2_fits: { distance_of w32 (half_of w32 ri2) ≡ ri2 },
+    ghost ri2_fits: { signed_distance w32 (half_of w32 ri2) ≡ ri2 },
 }
 
 /// RIL-C: `ab`, m1 c, h.
@@ -63,7 +63,7 @@ pub struct RilC {
     ghost opcode_fits: { opcode < 2 ^ 12 },
     ghost m1_fits: { m1 < 2 ^ 4 },
     ghost half_fits: { half_of w32 ri2 < 2 ^ 32 },
-    ghost ri2_fits: { distance_of w32 (half_of w32 ri2) ≡ ri2 },
+    ghost ri2_fits: { signed_distance w32 (half_of w32 ri2) ≡ ri2 },
 }
 
 /// SIL: `ab cd`, b1 d, i2.

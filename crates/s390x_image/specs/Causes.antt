@@ -9,12 +9,12 @@ use Rattle.s390x_buffer.specs.declared.entries.MachBufferFinalized.{MachBufferFi
 use Rattle.s390x_image.specs.declared.error.LinkError.{LinkError}
 use Rattle.s390x_image.specs.declared.error.LinkError.TheVariants.{MisalignedBase, ImageTooHigh, UndefinedSymbol, AddressOverflow, OddSymbol, TooFar}
 use Rattle.s390x_image.specs.Symbols.{Symbols, address_of}
-use Rattle.s390x_image.specs.Fields.{target_of, distance_of}
+use Rattle.s390x_image.specs.Fields.{target_of, field_distance}
 
 -- the first of two causes
-abbrev pub first : Option LinkError → Option LinkError → Option LinkError
-first None later = later
-first (Some e) later = Some e
+abbrev pub first_link_cause : Option LinkError → Option LinkError → Option LinkError
+first_link_cause None later = later
+first_link_cause (Some e) later = Some e
 
 -- the base is a multiple of the alignment, and the image ends at 2 ^ 64 or before
 abbrev pub base_cause : (alignment size base : ℕ) → Option LinkError
@@ -43,7 +43,7 @@ half_cause distance = cond (is_even distance) (cond (is_signed_word (int_div dis
 
 -- the field stands 2 bytes behind the address that it counts from
 abbrev pub relative_cause : (target distance : ℤ) → Option LinkError
-relative_cause target distance = first (absolute_cause (target -ℤ pos 2)) (half_cause distance)
+relative_cause target distance = first_link_cause (absolute_cause (target -ℤ pos 2)) (half_cause distance)
 
 -- why a relocation of this kind can't store its target
 abbrev pub field_cause : Reloc → (target distance : ℤ) → Option LinkError
@@ -54,7 +54,7 @@ field_cause Abs8 target distance = absolute_cause target
 -- why a relocation's field can't be filled, where its symbol has this address or none
 abbrev pub symbol_cause : ℕ → RelocEntry → Option ℕ → Option LinkError
 symbol_cause base r None = Some UndefinedSymbol
-symbol_cause base r (Some symbol) = field_cause r.kind (target_of symbol r) (distance_of base symbol r)
+symbol_cause base r (Some symbol) = field_cause r.kind (target_of symbol r) (field_distance base symbol r)
 
 -- why a relocation's field can't be filled
 abbrev pub reloc_cause : ℕ → Symbols → RelocEntry → Option LinkError
@@ -63,8 +63,8 @@ reloc_cause base table r = symbol_cause base r (address_of table r.name)
 -- the first cause among the relocations, in order
 abbrev pub relocs_cause : ℕ → Symbols → List RelocEntry → Option LinkError
 relocs_cause base table [] = None
-relocs_cause base table (r ∷ rs) = first (reloc_cause base table r) (relocs_cause base table rs)
+relocs_cause base table (r ∷ rs) = first_link_cause (reloc_cause base table r) (relocs_cause base table rs)
 
 -- why code can't be linked at a base: the base, then each relocation
 abbrev pub link_cause : MachBufferFinalized → ℕ → Symbols → Option LinkError
-link_cause code base table = first (base_cause code.alignment (length code.bytes.items) base) (relocs_cause base table code.relocs.items)
+link_cause code base table = first_link_cause (base_cause code.alignment (length code.bytes.items) base) (relocs_cause base table code.relocs.items)

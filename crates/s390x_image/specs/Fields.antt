@@ -26,8 +26,8 @@ abbrev pub target_of : ℕ → RelocEntry → ℤ
 target_of symbol r = pos symbol +ℤ r.addend
 
 -- symbol plus addend less the field's address
-abbrev pub distance_of : ℕ → ℕ → RelocEntry → ℤ
-distance_of base symbol r = target_of symbol r -ℤ pos (base + r.offset)
+abbrev pub field_distance : ℕ → ℕ → RelocEntry → ℤ
+field_distance base symbol r = target_of symbol r -ℤ pos (base + r.offset)
 
 -- half of a distance as a signed word, the most significant byte first
 abbrev pub half_field : ℤ → List ℕ
@@ -49,8 +49,8 @@ address_or_zero None = 0
 address_or_zero (Some address) = address
 
 -- the bytes that a relocation stores
-abbrev pub field : ℕ → Symbols → RelocEntry → List ℕ
-field base table r = let symbol = address_or_zero (address_of table r.name) in field_of r.kind (target_of symbol r) (distance_of base symbol r)
+abbrev pub field_bytes : ℕ → Symbols → RelocEntry → List ℕ
+field_bytes base table r = let symbol = address_or_zero (address_of table r.name) in field_of r.kind (target_of symbol r) (field_distance base symbol r)
 
 -- bytes with others in their place from an index on
 abbrev pub stored : List ℕ → ℕ → List ℕ → List ℕ
@@ -58,7 +58,7 @@ stored bytes at new = take at bytes ++ (new ++ drop (at + length new) bytes)
 
 -- bytes with a relocation's field filled
 abbrev pub fill : ℕ → ℕ → RelocEntry → List ℕ → List ℕ
-fill base symbol r bytes = stored bytes r.offset (field_of r.kind (target_of symbol r) (distance_of base symbol r))
+fill base symbol r bytes = stored bytes r.offset (field_of r.kind (target_of symbol r) (field_distance base symbol r))
 
 -- bytes with the relocations' fields filled, one after another
 abbrev pub filled : ℕ → Symbols → List RelocEntry → List ℕ → List ℕ

@@ -13,7 +13,7 @@ use Rattle.s390x_image.specs.declared.error.LinkError.{LinkError}
 use Rattle.s390x_image.specs.declared.error.LinkError.TheVariants.{AddressOverflow, OddSymbol, TooFar}
 use Rattle.std.proofs.lemmas.Bool.Decides.{Decides-int_eq}
 use Rattle.s390x_image.specs.Fields.{half_field, target_field, address_or_zero}
-use Rattle.s390x_image.specs.Causes.{first, is_address, is_even, is_signed_word, absolute_cause, half_cause, relative_cause, symbol_cause, reloc_cause}
+use Rattle.s390x_image.specs.Causes.{first_link_cause, is_address, is_even, is_signed_word, absolute_cause, half_cause, relative_cause, symbol_cause, reloc_cause}
 
 one_test : (a : Bool) (e : LinkError) → cond a None (Some e) ≡ None → a ≡ true
 one_test true e h = refl
@@ -24,7 +24,7 @@ two_tests true true e f h = (refl, refl)
 two_tests true false e f h = cc
 two_tests false b e f h = cc
 
-second : (o p : Option LinkError) → first o p ≡ None → p ≡ None
+second : (o p : Option LinkError) → first_link_cause o p ≡ None → p ≡ None
 second None p h = h
 second (Some e) p h = cc
 
@@ -44,9 +44,9 @@ word_bits : (z : ℤ) → FitsSigned w32 z → cast_unsigned w32 z < 2 ^ 32
 word_bits z h = omega (arith, ints)
 
 -- the word at a relative field, doubled, is the distance
-pub relative_back : (target distance : ℤ) → relative_cause target distance ≡ None →
+pub relative_round_trip : (target distance : ℤ) → relative_cause target distance ≡ None →
     pos 2 *ℤ cast_signed w32 (from_be_bytes w32 (half_field distance)) ≡ distance
-relative_back target distance h =
+relative_round_trip target distance h =
     let tests = two_tests (is_even distance) (is_signed_word (int_div distance (pos 2))) TooFar OddSymbol (second (absolute_cause (target -ℤ pos 2)) (half_cause distance) h) in
     let fits = word_fits (int_div distance (pos 2)) tests.1 in
     let small : cast_unsigned w32 (int_div distance (pos 2)) < 2 ^ 32 = word_bits (int_div distance (pos 2)) fits in
@@ -61,27 +61,27 @@ in_range : (z : ℤ) → is_address z ≡ true → pos (cast_unsigned w64 z) ≡
 in_range z h = grind (arith, ints)
 
 -- the doubleword at an absolute field is the target
-pub absolute_back : (target : ℤ) → absolute_cause target ≡ None → pos (from_be_bytes w64 (target_field target)) ≡ target
-absolute_back target h =
+pub absolute_round_trip : (target : ℤ) → absolute_cause target ≡ None → pos (from_be_bytes w64 (target_field target)) ≡ target
+absolute_round_trip target h =
     let test = one_test (is_address target) AddressOverflow h in
     let small : cast_unsigned w64 target < 2 ^ 64 = address_bits target test in
     ap pos (from_be_bytes-to_be_bytes_8 (cast_unsigned w64 target) small) ∙ in_range target test
 
-earlier : (o p : Option LinkError) → first o p ≡ None → o ≡ None
+earlier : (o p : Option LinkError) → first_link_cause o p ≡ None → o ≡ None
 earlier None p h = refl
 earlier (Some e) p h = cc
 
 -- twice a half, from a place on, is a value that a doubleword holds
-abbrev pub LeadsTo : (place half value : ℕ) → Type 0
-LeadsTo place half value = (half < 2 ^ 32) × (value < 2 ^ 64) × (pos place +ℤ pos 2 *ℤ cast_signed w32 half ≡ pos value)
+abbrev pub LeadsTo : (origin half value : ℕ) → Type 0
+LeadsTo origin half value = (half < 2 ^ 32) × (value < 2 ^ 64) × (pos origin +ℤ pos 2 *ℤ cast_signed w32 half ≡ pos value)
 
-leads : (base place address : ℕ) (offset : ℤ) → relative_cause (pos address +ℤ (offset +ℤ pos 2)) (pos address +ℤ (offset +ℤ pos 2) -ℤ pos (base + (place + 2))) ≡ None →
-    LeadsTo (base + place) (cast_unsigned w32 (int_div (pos address +ℤ offset -ℤ pos (base + place)) (pos 2))) (cast_unsigned w64 (pos address +ℤ offset))
-leads base place address offset h =
+leads : (base origin address : ℕ) (offset : ℤ) → relative_cause (pos address +ℤ (offset +ℤ pos 2)) (pos address +ℤ (offset +ℤ pos 2) -ℤ pos (base + (origin + 2))) ≡ None →
+    LeadsTo (base + origin) (cast_unsigned w32 (int_div (pos address +ℤ offset -ℤ pos (base + origin)) (pos 2))) (cast_unsigned w64 (pos address +ℤ offset))
+leads base origin address offset h =
     let sum : ℤ = pos address +ℤ (offset +ℤ pos 2) in
-    let far : ℤ = sum -ℤ pos (base + (place + 2)) in
+    let far : ℤ = sum -ℤ pos (base + (origin + 2)) in
     let target : ℤ = pos address +ℤ offset in
-    let distance : ℤ = target -ℤ pos (base + place) in
+    let distance : ℤ = target -ℤ pos (base + origin) in
     let as_far : far ≡ distance = omega (arith, ints) in
     let at : sum -ℤ pos 2 ≡ target = omega (arith, ints) in
     let test : is_address target ≡ true = ap is_address (sym at) ∙ one_test (is_address (sum -ℤ pos 2)) AddressOverflow (earlier (absolute_cause (sum -ℤ pos 2)) (half_cause far) h) in
@@ -89,15 +89,15 @@ leads base place address offset h =
     let fits = word_fits (int_div distance (pos 2)) tests.1 in
     let whole : pos (cast_unsigned w64 target) ≡ target = in_range target test in
     let back : pos 2 *ℤ cast_signed w32 (cast_unsigned w32 (int_div distance (pos 2))) ≡ distance = ap (λ (z : ℤ). pos 2 *ℤ z) (to_z-of_z w32 (int_div distance (pos 2)) fits) ∙ twice_half distance tests.0 in
-    let there : pos (base + place) +ℤ distance ≡ target = omega (arith, ints) in
-    (word_bits (int_div distance (pos 2)) fits, address_bits target test, ap (λ (z : ℤ). pos (base + place) +ℤ z) back ∙ there ∙ sym whole)
+    let there : pos (base + origin) +ℤ distance ≡ target = omega (arith, ints) in
+    (word_bits (int_div distance (pos 2)) fits, address_bits target test, ap (λ (z : ℤ). pos (base + origin) +ℤ z) back ∙ there ∙ sym whole)
 
-leads_from : (base : ℕ) (place : ℕ) (name : ExternalName) (offset : ℤ) (o : Option ℕ) → symbol_cause base (record { offset = place + 2; kind = S390xPCRel32Dbl; name = name; addend = offset +ℤ pos 2 }) o ≡ None →
-    LeadsTo (base + place) (cast_unsigned w32 (int_div (pos (address_or_zero o) +ℤ offset -ℤ pos (base + place)) (pos 2))) (cast_unsigned w64 (pos (address_or_zero o) +ℤ offset))
-leads_from base place name offset None h = cc
-leads_from base place name offset (Some address) h = leads base place address offset h
+leads_from : (base : ℕ) (origin : ℕ) (name : ExternalName) (offset : ℤ) (o : Option ℕ) → symbol_cause base (record { offset = origin + 2; kind = S390xPCRel32Dbl; name = name; addend = offset +ℤ pos 2 }) o ≡ None →
+    LeadsTo (base + origin) (cast_unsigned w32 (int_div (pos (address_or_zero o) +ℤ offset -ℤ pos (base + origin)) (pos 2))) (cast_unsigned w64 (pos (address_or_zero o) +ℤ offset))
+leads_from base origin name offset None h = cc
+leads_from base origin name offset (Some address) h = leads base origin address offset h
 
 -- where the field can be filled that stands two bytes behind an instruction's beginning, its distance leads from there to the symbol plus the offset
-pub distance_leads : (base : ℕ) (table : Symbols) (place : ℕ) (name : ExternalName) (offset : ℤ) → reloc_cause base table (record { offset = place + 2; kind = S390xPCRel32Dbl; name = name; addend = offset +ℤ pos 2 }) ≡ None →
-    LeadsTo (base + place) (symbol_distance base table place name offset) (symbol_value table name offset)
-distance_leads base table place name offset h = leads_from base place name offset (address_of table name) h
+pub distance_leads : (base : ℕ) (table : Symbols) (origin : ℕ) (name : ExternalName) (offset : ℤ) → reloc_cause base table (record { offset = origin + 2; kind = S390xPCRel32Dbl; name = name; addend = offset +ℤ pos 2 }) ≡ None →
+    LeadsTo (base + origin) (symbol_distance base table origin name offset) (symbol_value table name offset)
+distance_leads base table origin name offset h = leads_from base origin name offset (address_of table name) h

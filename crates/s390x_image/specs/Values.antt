@@ -11,5 +11,5 @@ abbrev pub symbol_value : Symbols → ExternalName → ℤ → ℕ
 symbol_value table name offset = cast_unsigned w64 (pos (address_or_zero (address_of table name)) +ℤ offset)
 
 -- half of the distance from a place in an image at a base to a symbol plus an offset, as an unsigned word
-abbrev pub symbol_distance : (base : ℕ) → Symbols → (place : ℕ) → ExternalName → ℤ → ℕ
-symbol_distance base table place name offset = cast_unsigned w32 (int_div (pos (address_or_zero (address_of table name)) +ℤ offset -ℤ pos (base + place)) (pos 2))
+abbrev pub symbol_distance : (base : ℕ) → Symbols → (origin : ℕ) → ExternalName → ℤ → ℕ
+symbol_distance base table origin name offset = cast_unsigned w32 (int_div (pos (address_or_zero (address_of table name)) +ℤ offset -ℤ pos (base + origin)) (pos 2))

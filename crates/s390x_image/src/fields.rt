@@ -2,7 +2,7 @@
 ghost use Rattle.std.specs.Prelude.{◌≡◌, ◌+◌, ◌≤◌, pos, ◌-ℤ◌, Some, None, MatchResult, length};
 ghost use Rattle.std.specs.List.{All};
 ghost use Rattle.std.specs.Int.RustNames.{int_div};
-ghost use Rattle.s390x_image.specs.Fields.{LiesIn, target_of, distance_of, stored, fill, filled, half_field, target_field, address_or_zero};
+ghost use Rattle.s390x_image.specs.Fields.{LiesIn, target_of, field_distance, stored, fill, filled, half_field, target_field, address_or_zero};
 ghost use Rattle.s390x_image.specs.Symbols.{address_of};
 ghost use Rattle.s390x_image.specs.Causes.{absolute_cause, half_cause, relative_cause, symbol_cause, reloc_cause, relocs_cause};
 
@@ -20,7 +20,7 @@ fn target(symbol: u64, reloc: RelocEntry) -> i128
 
 /// Symbol plus addend less the field's address.
 fn distance(base: u64, symbol: u64, reloc: RelocEntry) -> i128
-    ensures { result ≡ distance_of base symbol reloc }
+    ensures { result ≡ field_distance base symbol reloc }
 {
     target(symbol, reloc) - i128::from(base) - i128::from(reloc.offset)
 }

@@ -4,7 +4,7 @@ ghost use Rattle.std.specs.List.{All};
 ghost use Rattle.std.specs.Int.{w32, w64, cast_signed, from_be_bytes};
 ghost use Rattle.s390x_buffer.specs.declared.entries.RelocEntry.{RelocEntry};
 ghost use Rattle.s390x_image.specs.Symbols.{Symbols};
-ghost use Rattle.s390x_image.specs.Fields.{LiesIn, IsOutside, field_length, field, half_field, target_field, filled};
+ghost use Rattle.s390x_image.specs.Fields.{LiesIn, IsOutside, field_length, field_bytes, half_field, target_field, filled};
 ghost use Rattle.s390x_base.specs.declared.ir.ExternalName.{ExternalName};
 ghost use Rattle.s390x_base.specs.declared.ir.Reloc.TheVariants.{S390xPCRel32Dbl};
 ghost use Rattle.s390x_image.specs.Causes.{relative_cause, absolute_cause, reloc_cause};
@@ -13,7 +13,7 @@ ghost use Rattle.s390x_image.specs.Values.{symbol_value, symbol_distance};
 
 /// A byte of a relocation's field is that of the field where no later relocation has it.
 pub fn fields_stand()
-    ensures { (base : ℕ) (table : Symbols) (earlier : List RelocEntry) (r : RelocEntry) (later : List RelocEntry) (bytes : List ℕ) (j : ℕ) → All (LiesIn (length bytes)) (earlier ++ r ∷ later) → j < field_length r.kind → All (IsOutside (r.offset + j)) later → slice_index (filled base table (earlier ++ r ∷ later) bytes) (r.offset + j) ≡ slice_index (field base table r) j }
+    ensures { (base : ℕ) (table : Symbols) (earlier : List RelocEntry) (r : RelocEntry) (later : List RelocEntry) (bytes : List ℕ) (j : ℕ) → All (LiesIn (length bytes)) (earlier ++ r ∷ later) → j < field_length r.kind → All (IsOutside (r.offset + j)) later → slice_index (filled base table (earlier ++ r ∷ later) bytes) (r.offset + j) ≡ slice_index (field_bytes base table r) j }
 {}
 
 /// The signed word at a relative field, doubled, is symbol plus addend less the field's address.
@@ -29,5 +29,5 @@ pub fn absolute_fields_read_back()
 /// Where the field can be filled that stands two bytes behind an instruction's beginning, twice what it holds, as a signed
 /// word, leads from there to the symbol plus the offset.
 pub fn relative_distances_lead()
-    ensures { (base : ℕ) (table : Symbols) (place : ℕ) (name : ExternalName) (offset : ℤ) → reloc_cause base table (record { offset = place + 2; kind = S390xPCRel32Dbl; name = name; addend = offset +ℤ pos 2 }) ≡ None → LeadsTo (base + place) (symbol_distance base table place name offset) (symbol_value table name offset) }
+    ensures { (base : ℕ) (table : Symbols) (origin : ℕ) (name : ExternalName) (offset : ℤ) → reloc_cause base table (record { offset = origin + 2; kind = S390xPCRel32Dbl; name = name; addend = offset +ℤ pos 2 }) ≡ None → LeadsTo (base + origin) (symbol_distance base table origin name offset) (symbol_value table name offset) }
 {}

@@ -12,5 +12,5 @@ incoming_size layout Tail = 0
 incoming_size layout SystemV = layout.incoming_args_size
 
 -- no sizes but the incoming arguments', and no stack map
-abbrev pub fresh : FrameLayout → CallConv → Emission
-fresh layout conv = record { nominal = 0; outgoing = 0; incoming = incoming_size layout conv; stack_map = None; layout = layout }
+abbrev pub fresh_emission : FrameLayout → CallConv → Emission
+fresh_emission layout conv = record { nominal = 0; outgoing = 0; incoming = incoming_size layout conv; stack_map = None; layout = layout }

@@ -1,6 +1,6 @@
 //! Frames, facilities and the state of emission.
 ghost use Rattle.std.specs.Prelude.{◌≡◌, ◌+◌, None};
-ghost use Rattle.s390x_inst.specs.State.{fresh};
+ghost use Rattle.s390x_inst.specs.State.{fresh_emission};
 
 use crate::calls::CallConv;
 use std::marker::Model;
@@ -93,7 +93,7 @@ pub trait MachInstEmitState {
 impl MachInstEmitState for EmitState {
     /// No sizes and no stack map; the incoming arguments are those of the layout, but for the convention `Tail`.
     fn new(layout: FrameLayout, conv: CallConv) -> EmitState
-        ensures { result ≡ fresh layout conv }
+        ensures { result ≡ fresh_emission layout conv }
     {
         let incoming_args_size = match conv {
             CallConv::Tail => 0,

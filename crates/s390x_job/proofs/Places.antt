@@ -3,12 +3,12 @@ use Rattle.std.proofs.Common.{◌≡◌, ℕ, ◌<◌, Bool, true, false, refl, 
 use Rattle.std.specs.Prelude.{◌==◌}
 use Rattle.std.proofs.lemmas.Bool.Decides.{nat_tests}
 use Rattle.s390x_job.specs.Grammar.{AtEnd}
-use Rattle.s390x_job.specs.Builds.{place_of}
+use Rattle.s390x_job.specs.Builds.{grammar_place}
 use Rattle.s390x_job.specs.declared.job.Job.{Job}
 use Rattle.s390x_job.specs.declared.build.State.{State}
 use Rattle.s390x_job.specs.declared.build.State.TheVariants.{Head, Inside, Done}
 
-pub not_done : (s : State) → ((j : Job) → s ≡ Done j → ⊥) → place_of s ≡ AtEnd → ⊥
+pub not_done : (s : State) → ((j : Job) → s ≡ Done j → ⊥) → grammar_place s ≡ AtEnd → ⊥
 not_done (Head x y z) h e = cc
 not_done (Inside b) h e = cc
 not_done (Done j) h e = h j refl

@@ -9,11 +9,11 @@ use Rattle.s390x_job.specs.Jobs.{lines_text, AllLines, job_lines, text_of_job, I
 use Rattle.s390x_job.specs.declared.job.Job.{Job}
 use Rattle.s390x_job.specs.Builds.{IsWhole}
 use Rattle.s390x_lines.proofs.Frees.{upto-free, past-free, line-free}
-use Rattle.s390x_lines.proofs.Back.{line-back}
+use Rattle.s390x_lines.proofs.RoundTrip.{line-round_trip}
 
 -- two lines with one text are one
 pub one_line : (k l : Line) → IsLine k → IsLine l → line_text k ≡ line_text l → k ≡ l
-one_line k l a b e = sym (line-back k a) ∙ ap line_of e ∙ line-back l b
+one_line k l a b e = sym (line-round_trip k a) ∙ ap line_of e ∙ line-round_trip l b
 
 pub run_append : (ls : List Line) (o : Option Place) (ms : List Line) → run o (ls ++ ms) ≡ run (run o ls) ms
 run_append ls None ms = refl

@@ -4,7 +4,7 @@ use Rattle.s390x_lines.specs.Line.{Line}
 use Rattle.s390x_job.specs.Items.{block_line, loop_line}
 use Rattle.s390x_job.specs.Jobs.{IsTold, insts_lines, blocks_lines, flags_lines, frame_lines, head_lines, job_lines}
 use Rattle.s390x_job.specs.Grammar.{Place, Header, Within, AtEnd, next, class}
-use Rattle.s390x_inst.specs.State.{fresh}
+use Rattle.s390x_inst.specs.State.{fresh_emission}
 use Rattle.s390x_inst.specs.declared.calls.CallConv.{CallConv}
 use Rattle.s390x_inst.specs.declared.state.FrameLayout.{FrameLayout}
 use Rattle.s390x_job.specs.declared.job.StartRegs.{StartRegs}
@@ -48,10 +48,10 @@ rank_of S.Registers = 4
 rank_of S.Memory = 5
 
 -- where a half-built job is in the order of lines
-abbrev pub place_of : State → Place
-place_of (Head b stage bound) = Header (rank_of stage) bound
-place_of (Inside b) = Within (length b.loops.items)
-place_of (Done j) = AtEnd
+abbrev pub grammar_place : State → Place
+grammar_place (Head b stage bound) = Header (rank_of stage) bound
+grammar_place (Inside b) = Within (length b.loops.items)
+grammar_place (Done j) = AtEnd
 
 -- both files have all their registers, and a frame without a line is the plain one
 pub record IsFull (conv : CallConv) (layout : FrameLayout) (r : StartRegs) : Type 0 where
@@ -78,20 +78,20 @@ pub record IsBeginning (rank bound : ℕ) (b : Beginning) : Type 0 where
 
 -- a finished job has the state at the beginning of a function, and all registers
 pub record IsWhole (j : Job) : Type 0 where
-  pub state : j.state ≡ fresh j.state.layout j.conv
+  pub state : j.state ≡ fresh_emission j.state.layout j.conv
   pub full : IsFull j.conv j.state.layout j.registers
 
 -- what holds of a half-built job
-abbrev pub IsState : State → Type 0
-IsState (Head b stage bound) = IsBeginning (rank_of stage) bound b
-IsState (Inside b) = IsFull b.beginning.conv b.beginning.layout b.beginning.registers
-IsState (Done j) = IsWhole j
+abbrev pub IsBuildState : State → Type 0
+IsBuildState (Head b stage bound) = IsBeginning (rank_of stage) bound b
+IsBuildState (Inside b) = IsFull b.beginning.conv b.beginning.layout b.beginning.registers
+IsBuildState (Done j) = IsWhole j
 
 -- the state after one more line, behind the lines so far
 pub record IsNext (ls : List Line) (p : Place) (l : Line) (s : State) : Type 0 where
-  pub state : IsState s
+  pub state : IsBuildState s
   pub lines : state_lines s ≡ ls ++ l ∷ []
-  pub place : next p (class l) ≡ Some (place_of s)
+  pub place : next p (class l) ≡ Some (grammar_place s)
 
 -- the state after one more line, or none where it may not stand there
 abbrev pub Follows : List Line → Place → Line → Option State → Type 0

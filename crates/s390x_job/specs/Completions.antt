@@ -29,9 +29,9 @@ closes [] = 0
 closes (w ∷ ws) = if bytes_eq w (codes "endloop") then closes ws + 1 else closes ws
 
 -- whether the last line is `end`
-abbrev pub ends : Bool → List (List ℕ) → Bool
-ends b [] = b
-ends b (w ∷ ws) = ends (bytes_eq w (codes "end")) ws
+abbrev pub ends_job : Bool → List (List ℕ) → Bool
+ends_job b [] = b
+ends_job b (w ∷ ws) = ends_job (bytes_eq w (codes "end")) ws
 
 -- so many lines `endloop`, and a line `end`
 abbrev pub closing : ℕ → List ℕ
@@ -40,7 +40,7 @@ closing (suc n) = codes "endloop" ++ (10 ∷ closing n)
 
 -- the text that these lines lack: none behind a line `end`; else an `endloop` for each loop that is open, and `end`
 abbrev pub ending : List (List ℕ) → List ℕ
-ending ws = if ends false ws then [] else closing (opens ws - closes ws)
+ending ws = if ends_job false ws then [] else closing (opens ws - closes ws)
 
 -- the text of lines, completed
 abbrev pub completion : List (List ℕ) → List ℕ

@@ -15,9 +15,9 @@ pub record IsStuck (bytes : List ℕ) (k : ℕ) : Type 0 where
   pub above : (m : ℕ) → k < m → m ≤ length (pieces bytes) → IsText (completion (take m (pieces bytes))) → ⊥
 
 -- what was found is so: the job has this text, or no job has it and no completion of more lines is one
-abbrev pub IsFound : List ℕ → Found → Type 0
-IsFound bytes (Whole j) = IsJob j × (text_of_job j ≡ bytes)
-IsFound bytes (Stuck k) = IsStuck bytes k
+abbrev pub IsReadJob : List ℕ → Found → Type 0
+IsReadJob bytes (Whole j) = IsJob j × (text_of_job j ≡ bytes)
+IsReadJob bytes (Stuck k) = IsStuck bytes k
 
 -- `Syntax` exactly where no job has this text, with the line by completions
 abbrev pub IsError : List ℕ → LineError → Type 0

@@ -12,10 +12,10 @@ use Rattle.s390x_lines.specs.declared.name.LineName.TheVariants as N
 -- what a line is: a line before the blocks has a rank, a first number and the number past it
 pub data Class : Type 0 where
   Head : ℕ → ℕ → ℕ → Class
-  Opening : Class
+  OpenBlock : Class
   OpenLoop : Class
   CloseLoop : Class
-  Ending : Class
+  CloseJob : Class
   Instruction : Class
   Never : Class
 
@@ -56,22 +56,22 @@ memory_class (FNatural w address ∷ FBytes bytes ∷ fs) = region_class address
 memory_class _ = Never
 
 -- the class of a line of this name with these fields
-abbrev pub class_of : LineName → List Field → Class
-class_of N.FlagsLine fs = flags_class fs
-class_of N.FrameLine fs = frame_class fs
-class_of N.ConstantLine fs = Head 2 0 0
-class_of N.SymbolLine fs = symbol_class fs
-class_of N.RegisterLine fs = register_class fs
-class_of N.MemoryLine fs = memory_class fs
-class_of N.BlockLine fs = Opening
-class_of N.Loop fs = OpenLoop
-class_of N.EndLoopLine fs = CloseLoop
-class_of N.EndLine fs = Ending
-class_of n fs = Instruction
+abbrev pub line_class : LineName → List Field → Class
+line_class N.FlagsLine fs = flags_class fs
+line_class N.FrameLine fs = frame_class fs
+line_class N.ConstantLine fs = Head 2 0 0
+line_class N.SymbolLine fs = symbol_class fs
+line_class N.RegisterLine fs = register_class fs
+line_class N.MemoryLine fs = memory_class fs
+line_class N.BlockLine fs = OpenBlock
+line_class N.Loop fs = OpenLoop
+line_class N.EndLoopLine fs = CloseLoop
+line_class N.EndLine fs = CloseJob
+line_class n fs = Instruction
 
 -- the class of a line
 abbrev pub class : Line → Class
-class l = class_of l.name l.fields
+class l = line_class l.name l.fields
 
 -- where a job is: before its blocks, behind a line of a rank and with a bound for the next one's first number;
 -- in a block with so many open loops; or at its end
@@ -87,8 +87,8 @@ may_follow rank bound r first = nat_lt rank r || ((rank == r) && nat_le bound fi
 -- the place after one more line
 abbrev pub next : Place → Class → Option Place
 next (Header rank bound) (Head r first past) = if may_follow rank bound r first then Some (Header r past) else None
-next (Header rank bound) Opening = Some (Within 0)
-next (Header rank bound) Ending = Some AtEnd
+next (Header rank bound) OpenBlock = Some (Within 0)
+next (Header rank bound) CloseJob = Some AtEnd
 next (Header rank bound) OpenLoop = None
 next (Header rank bound) CloseLoop = None
 next (Header rank bound) Instruction = None
@@ -97,11 +97,11 @@ next (Within d) (Head r first past) = None
 next (Within d) Never = None
 next (Within d) OpenLoop = if nat_lt d 9 then Some (Within (suc d)) else None
 next (Within d) Instruction = Some (Within d)
-next (Within zero) Opening = Some (Within 0)
-next (Within zero) Ending = Some AtEnd
+next (Within zero) OpenBlock = Some (Within 0)
+next (Within zero) CloseJob = Some AtEnd
 next (Within zero) CloseLoop = None
-next (Within (suc d)) Opening = None
-next (Within (suc d)) Ending = None
+next (Within (suc d)) OpenBlock = None
+next (Within (suc d)) CloseJob = None
 next (Within (suc d)) CloseLoop = Some (Within d)
 next AtEnd c = None
 

@@ -3,7 +3,7 @@ use Rattle.std.specs.Prelude.{◌≡◌, ℕ, suc, List, [], ◌∷◌, ◌++◌
 use Rattle.std.specs.Str.{bytes_eq}
 use Rattle.s390x_base.specs.Registers.{RealRegister, general, vector}
 use Rattle.s390x_base.specs.declared.ir.ConstantData.{ConstantData}
-use Rattle.s390x_inst.specs.State.{fresh}
+use Rattle.s390x_inst.specs.State.{fresh_emission}
 use Rattle.s390x_inst.specs.declared.calls.CallConv.{CallConv}
 use Rattle.s390x_inst.specs.declared.calls.CallConv.TheVariants.{SystemV}
 use Rattle.s390x_inst.specs.declared.state.FrameLayout.{FrameLayout}
@@ -96,7 +96,7 @@ AllLines (l ∷ ls) = IsLine l × AllLines ls
 pub record IsJob (j : Job) : Type 0 where
   pub lines : AllLines (job_lines j)
   pub order : run (Some (Header 0 0)) (job_lines j) ≡ Some AtEnd
-  pub state : j.state ≡ fresh j.state.layout j.conv
+  pub state : j.state ≡ fresh_emission j.state.layout j.conv
   pub frame : IsTold j.conv j.state.layout
   pub general_count : length j.registers.general ≡ 16
   pub vector_count : length j.registers.vector ≡ 32

@@ -7,7 +7,7 @@ ghost use Rattle.s390x_job.specs.Items.{item_line, IsItem, flags_line, frame_lin
 ghost use Rattle.s390x_job.specs.Grammar.{Place, next, class, Header, Within, AtEnd, Instruction, may_follow, Class};
 ghost use Rattle.s390x_job.specs.Jobs.{job_lines, blocks_lines};
 ghost use Rattle.s390x_lines.specs.Instructions.{inst_line};
-ghost use Rattle.s390x_job.specs.Builds.{state_lines, beginning_lines, body_lines, place_of, rank_of, IsState, IsBeginning, IsFull, IsWhole, Follows};
+ghost use Rattle.s390x_job.specs.Builds.{state_lines, beginning_lines, body_lines, grammar_place, rank_of, IsBuildState, IsBeginning, IsFull, IsWhole, Follows};
 ghost use Rattle.s390x_job.specs.declared.build.State.{State};
 
 use crate::heading::{is_plain_flags, is_plain_frame};
@@ -71,9 +71,9 @@ pub enum State {
 
 /// No line is told yet.
 pub fn start(alloc: Global) -> State
-    ensures state { IsState result }
+    ensures state { IsBuildState result }
     ensures lines { state_lines result ≡ [] }
-    ensures place { place_of result ≡ Header 0 0 }
+    ensures place { grammar_place result ≡ Header 0 0 }
 {
     let beginning = Beginning {
         flags: IsaFlags {
@@ -250,9 +250,9 @@ fn head_memory(
 
 fn head_end(alloc: Global, b: Beginning) -> State
     requires { IsFull b.conv b.layout b.registers }
-    ensures whole { IsState result }
+    ensures whole { IsBuildState result }
     ensures lines { state_lines result ≡ beginning_lines b ++ end_line ∷ [] }
-    ensures place { place_of result ≡ AtEnd }
+    ensures place { grammar_place result ≡ AtEnd }
 {
     State::Done(job_of(b, Vec::new(alloc)))
 }
@@ -465,8 +465,8 @@ fn inside(alloc: Global, b: Body, i: Item) -> Result<Option<State>, AllocError>
 /// The state after one more line, or none where the line may not stand there.
 pub fn push(alloc: Global, state: State, i: Item) -> Result<Option<State>, AllocError>
     requires item { IsItem i }
-    requires state { IsState state }
-    ensures { IfOk result (Follows (state_lines state) (place_of state) (item_line i)) }
+    requires state { IsBuildState state }
+    ensures { IfOk result (Follows (state_lines state) (grammar_place state) (item_line i)) }
 {
     match state {
         State::Head(b, stage, bound) => head(alloc, b, stage, bound, i),

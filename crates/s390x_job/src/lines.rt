@@ -2,11 +2,11 @@
 
 ghost use Rattle.std.specs.Prelude.{◌≡◌, ℕ, ◌+◌, ◌-◌, ◌<◌, ◌≤◌, ◌++◌, ◌∷◌, [], IfOk, IfErr, OnOk, map, take, length, codes, false, Decides, MatchResult};
 ghost use Rattle.std.specs.Str.{bytes_eq};
-ghost use Rattle.s390x_job.specs.Errors.{IsFound, IsError};
+ghost use Rattle.s390x_job.specs.Errors.{IsReadJob, IsError};
 ghost use Rattle.s390x_job.specs.Jobs.{text_of_job, IsJob};
 ghost use Rattle.s390x_job.specs.Same.{SameJob};
 ghost use Rattle.s390x_job.specs.declared.job.Job.{Job};
-ghost use Rattle.s390x_job.specs.Completions.{pieces, joined, opens, closes, ends, ending, closing, completion, IsText, IsFirstWrong};
+ghost use Rattle.s390x_job.specs.Completions.{pieces, joined, opens, closes, ends_job, ending, closing, completion, IsText, IsFirstWrong};
 
 use crate::build::{State, push, start};
 use crate::job::{Job, LineError};
@@ -93,7 +93,7 @@ fn count_closes(ws: &[&[u8]]) -> usize
 }
 
 fn ended(ws: &[&[u8]]) -> bool
-    ensures { result ≡ ends false (map (λ w. w.now) ws.now) }
+    ensures { result ≡ ends_job false (map (λ w. w.now) ws.now) }
 {
     let mut b = false;
     for w in ws {
@@ -165,7 +165,7 @@ pub fn line_number(alloc: Global, ws: &[&[u8]], top: usize) -> Result<usize, All
 /// The job whose text this is. Where there is none, a number of its lines: no more of them can be completed to a job's text.
 pub fn find_job(alloc: Global, bytes: &[u8]) -> Result<Found, AllocError>
     requires { length bytes.now < 4294967295 }
-    ensures { IfOk result (IsFound bytes.now) }
+    ensures { IfOk result (IsReadJob bytes.now) }
 {
     let mut state = start(alloc);
     let mut text = String::new(alloc);

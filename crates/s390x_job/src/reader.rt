@@ -3,7 +3,7 @@ ghost use Rattle.std.specs.Prelude.{◌≡◌, ◌≢◌, List, ℕ, IfOk, Match
 ghost use Rattle.s390x_lines.specs.Line.{Line, IsLine, line_text, line_of};
 ghost use Rattle.s390x_job.specs.Items.{item_line, IsItem};
 ghost use Rattle.s390x_job.specs.Jobs.{text_of_job, IsJob};
-ghost use Rattle.s390x_job.specs.Builds.{IsState};
+ghost use Rattle.s390x_job.specs.Builds.{IsBuildState};
 ghost use Rattle.s390x_job.specs.declared.job.Job.{Job};
 
 use crate::build::{State, push, start};

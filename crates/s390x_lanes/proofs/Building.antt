@@ -4,7 +4,7 @@ use Rattle.std.proofs.Math.Pow.{pow_pos, pow-add}
 use Rattle.std.proofs.Math.Nat.{div-one, mul-zero, mul-suc, mul-add, add_comm, mul-le-mul_left}
 use Rattle.s390x_lanes.specs.declared.size.ElementSize.{ElementSize}
 use Rattle.s390x_lanes.specs.declared.size.ElementSize.TheVariants.{Byte, Halfword, Word, Doubleword, Quadword}
-use Rattle.s390x_lanes.specs.Size.{bits, lane_count}
+use Rattle.s390x_lanes.specs.Size.{element_bits, lane_count}
 use Rattle.s390x_lanes.proofs.Powers.{pow_le}
 use Rattle.std.proofs.lemmas.Nat.{mod_below, shr_high, mod_low, shr-shr}
 use Rattle.s390x_lanes.specs.Lanes.{lane, from_lanes}
@@ -47,7 +47,7 @@ lane-from_lanes w n i f e h b =
     rw t (build_at w n (n - (i + 1)) f b i (omega arith))
 
 -- ---- a step of the loop that builds
-pub whole : (s : ElementSize) → bits s * lane_count s ≡ 128
+pub whole : (s : ElementSize) → element_bits s * lane_count s ≡ 128
 whole Byte = refl
 whole Halfword = refl
 whole Word = refl

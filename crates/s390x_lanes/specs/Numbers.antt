@@ -7,9 +7,9 @@ use Rattle.s390x_lanes.specs.declared.operation.Signedness.{Signedness}
 use Rattle.s390x_lanes.specs.declared.operation.Signedness.TheVariants.{Unsigned, Signed}
 
 -- the number that an element of w bits holds
-abbrev pub number : Signedness → ℕ → ℕ → ℤ
-number Unsigned w x = pos x
-number Signed w x = if nat_lt x (2 ^ (w - 1)) then pos x else negsuc (2 ^ w - 1 - x)
+abbrev pub element_number : Signedness → ℕ → ℕ → ℤ
+element_number Unsigned w x = pos x
+element_number Signed w x = if nat_lt x (2 ^ (w - 1)) then pos x else negsuc (2 ^ w - 1 - x)
 
 -- the element of w bits that holds a number modulo 2 ^ w
 abbrev pub wrapped : ℕ → ℤ → ℕ

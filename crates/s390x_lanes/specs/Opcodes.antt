@@ -1,7 +1,7 @@
 -- Which operation an opcode, masks and an immediate are. The masks are the masks and 8-bit immediates of the row's format in
 -- the order of its operands, and the immediate is its 16-bit one, or the amount of an element shift; what a format lacks is 0.
 use Rattle.std.specs.Prelude.{ℕ, ◌/◌, ◌%◌, ◌^◌, Bool, true, false, nat_lt, nat_le, ◌==◌, ◌&&◌, List, [], ◌∷◌, slice_index, Option, None, Some, ℤ, pos, negsuc, if◌then◌else◌}
-use Rattle.s390x_lanes.specs.Size.{bits, lane_count, size_of_code, narrower_of_code}
+use Rattle.s390x_lanes.specs.Size.{element_bits, lane_count, size_of_code, narrower_of_code}
 use Rattle.s390x_lanes.specs.declared.size.ElementSize.TheVariants.{Quadword}
 use Rattle.s390x_lanes.specs.declared.operation.VectorOperation.{VectorOperation}
 use Rattle.s390x_lanes.specs.declared.operation.VectorOperation.TheVariants as O
@@ -46,28 +46,28 @@ operation_from Blend a b c k = O.Blend
 operation_from Evaluate a b c k = O.Evaluate a
 
 -- a mask from the row's least to its greatest
-abbrev pub is_within : OpcodeRow → ℕ → Bool
-is_within row m = nat_le row.least m && nat_le m row.greatest
+abbrev pub is_mask_within : OpcodeRow → ℕ → Bool
+is_mask_within row m = nat_le row.least m && nat_le m row.greatest
 
 -- the masks and the immediate that a row of a kind may have: one mask from least to greatest, and all that the kind doesn't name 0
 abbrev pub kind_allows : RowKind → OpcodeRow → ℕ → ℕ → ℕ → ℕ → Bool
-kind_allows (Compare comparison) row a b c k = is_within row a && nat_le b 1 && (c == 0) && (k == 0)
-kind_allows (ShiftElements operator) row a b c k = is_within row a && (b == 0) && (c == 0) && nat_lt k 64
-kind_allows Replicate row a b c k = is_within row a && (b == 0) && (c == 0)
-kind_allows ByteMask row a b c k = is_within row a && (b == 0) && (c == 0)
-kind_allows (InsertImmediate size) row a b c k = is_within row a && (b == 0) && (c == 0)
-kind_allows ReplicateImmediate row a b c k = is_within row a && (b == 0) && (c == 0)
-kind_allows BitMask row a b c k = is_within row c && (k == 0)
-kind_allows _ row a b c k = is_within row a && (b == 0) && (c == 0) && (k == 0)
+kind_allows (Compare comparison) row a b c k = is_mask_within row a && nat_le b 1 && (c == 0) && (k == 0)
+kind_allows (ShiftElements operator) row a b c k = is_mask_within row a && (b == 0) && (c == 0) && nat_lt k 64
+kind_allows Replicate row a b c k = is_mask_within row a && (b == 0) && (c == 0)
+kind_allows ByteMask row a b c k = is_mask_within row a && (b == 0) && (c == 0)
+kind_allows (InsertImmediate size) row a b c k = is_mask_within row a && (b == 0) && (c == 0)
+kind_allows ReplicateImmediate row a b c k = is_mask_within row a && (b == 0) && (c == 0)
+kind_allows BitMask row a b c k = is_mask_within row c && (k == 0)
+kind_allows _ row a b c k = is_mask_within row a && (b == 0) && (c == 0) && (k == 0)
 
 -- the element sizes, lane numbers and bit numbers of an operation
 abbrev pub is_operation : VectorOperation → Bool
-is_operation (O.MultiplyPairs sign parity size) = nat_le (bits size) 64
-is_operation (O.Pack narrowing size) = nat_le (bits size) 64
-is_operation (O.Merge half size) = nat_le (bits size) 64
-is_operation (O.Unpack sign half size) = nat_le (bits size) 64
+is_operation (O.MultiplyPairs sign parity size) = nat_le (element_bits size) 64
+is_operation (O.Pack narrowing size) = nat_le (element_bits size) 64
+is_operation (O.Merge half size) = nat_le (element_bits size) 64
+is_operation (O.Unpack sign half size) = nat_le (element_bits size) 64
 is_operation (O.Replicate size index) = nat_lt index (lane_count size)
-is_operation (O.BitMask size start end) = nat_le (bits size) 64 && nat_lt start (bits size) && nat_lt end (bits size)
+is_operation (O.BitMask size start end) = nat_le (element_bits size) 64 && nat_lt start (element_bits size) && nat_lt end (element_bits size)
 is_operation (O.PermuteDoublewords a b) = nat_lt a 2 && nat_lt b 2
 is_operation (O.InsertImmediate size value index) = nat_lt index (lane_count size)
 is_operation _ = true
@@ -104,7 +104,7 @@ operation_of opcode masks imm = operation_in OPCODES opcode masks imm
 
 -- the stepper computes it: not Blend, Evaluate or a high product of 128-bit elements
 abbrev pub is_computed : VectorOperation → Bool
-is_computed (O.MultiplyHigh sign size) = nat_le (bits size) 64
+is_computed (O.MultiplyHigh sign size) = nat_le (element_bits size) 64
 is_computed O.Blend = false
 is_computed (O.Evaluate table) = false
 is_computed _ = true
@@ -119,5 +119,5 @@ abbrev pub computed_operation : ℕ → List ℕ → ℤ → Option VectorOperat
 computed_operation opcode masks imm = where_computed (operation_of opcode masks imm)
 
 -- stands past the end of a table
-abbrev pub no_row : OpcodeRow
-no_row = record { opcode = 0; kind = Binary Add; least = 0; greatest = 0 }
+abbrev pub no_opcode_row : OpcodeRow
+no_opcode_row = record { opcode = 0; kind = Binary Add; least = 0; greatest = 0 }

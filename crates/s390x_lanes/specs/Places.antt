@@ -2,7 +2,7 @@
 -- Source: z/Architecture Principles of Operation, vector support instructions.
 use Rattle.std.specs.Prelude.{ℕ, ◌+◌, ◌-◌, ◌*◌, ◌/◌, ◌%◌, ◌^◌, nat_lt, nat_le, ◌==◌, bit_and, bit_or, if◌then◌else◌}
 use Rattle.s390x_lanes.specs.Lanes.{lane, from_lanes}
-use Rattle.s390x_lanes.specs.Elements.{product, narrowed, widened, shifted, complement}
+use Rattle.s390x_lanes.specs.Elements.{product, narrowed, element_widened, element_shifted, element_complement}
 use Rattle.s390x_lanes.specs.declared.operation.Signedness.{Signedness}
 use Rattle.s390x_lanes.specs.declared.operation.ShiftOperator.{ShiftOperator}
 use Rattle.s390x_lanes.specs.declared.operation.Narrowing.{Narrowing}
@@ -35,7 +35,7 @@ merged_lane half w n x y i = if i % 2 == 0 then lane w x (i / 2 + first_of_half 
 
 -- the left or the right half of 2 * n lanes, each in 2 * w bits
 abbrev pub unpacked_lane : Signedness → Half → ℕ → ℕ → ℕ → ℕ → ℕ
-unpacked_lane sign half w n x i = widened sign w (lane w x (i + first_of_half half n))
+unpacked_lane sign half w n x i = element_widened sign w (lane w x (i + first_of_half half n))
 
 -- byte i is ones where bit i of the 16-bit mask is one, bits numbered from the left
 abbrev pub byte_of_mask : ℕ → ℕ → ℕ
@@ -49,7 +49,7 @@ bit_mask w a b =
 
 -- the bits of x where z has ones, those of y elsewhere
 abbrev pub selected : ℕ → ℕ → ℕ → ℕ
-selected x y z = bit_or (bit_and x z) (bit_and y (complement 128 z))
+selected x y z = bit_or (bit_and x z) (bit_and y (element_complement 128 z))
 
 -- byte k of x followed by y
 abbrev pub byte_of_both : ℕ → ℕ → ℕ → ℕ
@@ -65,7 +65,7 @@ chosen_doubleword a b x y i = if i == 0 then lane 64 x a else lane 64 y b
 
 -- lane i, shifted by the amount modulo the lane's width
 abbrev pub shifted_lane : ShiftOperator → ℕ → ℕ → ℕ → ℕ → ℕ
-shifted_lane operator w k x i = shifted operator w (lane w x i) (k % w)
+shifted_lane operator w k x i = element_shifted operator w (lane w x i) (k % w)
 
 -- the count of a shift by bytes: bits 1 to 4 of byte 7
 abbrev pub shift_byte_count : ℕ → ℕ

@@ -5,12 +5,12 @@ use Rattle.s390x_lanes.specs.declared.size.ElementSize.{ElementSize}
 use Rattle.s390x_lanes.specs.declared.size.ElementSize.TheVariants.{Byte, Halfword, Word, Doubleword, Quadword}
 
 -- how many bits an element has
-abbrev pub bits : ElementSize → ℕ
-bits Byte = 8
-bits Halfword = 16
-bits Word = 32
-bits Doubleword = 64
-bits Quadword = 128
+abbrev pub element_bits : ElementSize → ℕ
+element_bits Byte = 8
+element_bits Halfword = 16
+element_bits Word = 32
+element_bits Doubleword = 64
+element_bits Quadword = 128
 
 -- how many elements a register has
 abbrev pub lane_count : ElementSize → ℕ

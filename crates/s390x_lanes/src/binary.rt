@@ -4,7 +4,7 @@
 ghost use Rattle.std.specs.Prelude.{◌≡◌, ℕ, ◌+◌, ◌-◌, ◌*◌, ◌/◌, ◌%◌, ◌^◌, ◌<◌, ◌≤◌, pos, ◌-ℤ◌};
 ghost use Rattle.s390x_lanes.specs.Numbers.{wrapped};
 ghost use Rattle.s390x_lanes.specs.Encoding.{rounded_mean};
-ghost use Rattle.s390x_lanes.specs.Elements.{binary_result, average as average_of, compares};
+ghost use Rattle.s390x_lanes.specs.Elements.{binary_result, average as average_of, elements_compare};
 
 use crate::lane::ones;
 use crate::number::{bias, lower};
@@ -96,7 +96,7 @@ pub(crate) fn compare(comparison: Comparison, w: u32, x: u128, y: u128) -> bool
     requires high { w ≤ 128 }
     requires x_fits { x < 2 ^ w }
     requires y_fits { y < 2 ^ w }
-    ensures { result ≡ compares comparison w x y }
+    ensures { result ≡ elements_compare comparison w x y }
 {
     match comparison {
         Comparison::Equal => x == y,

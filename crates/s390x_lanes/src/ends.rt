@@ -2,7 +2,7 @@
 #![tactic(auto)]
 
 ghost use Rattle.std.specs.Prelude.{◌≡◌, ℕ, ◌+◌, ◌-◌, ◌*◌, ◌/◌, ◌%◌, ◌^◌, ◌<◌, ◌≤◌};
-ghost use Rattle.s390x_lanes.specs.Size.{bits, lane_count};
+ghost use Rattle.s390x_lanes.specs.Size.{element_bits, lane_count};
 ghost use Rattle.s390x_lanes.specs.Lanes.{lane as lane_of, some_lane, every_lane};
 ghost use Rattle.s390x_lanes.specs.Relation.{lane_compares, lanes_code as lanes_code_of, order_code as order_code_of, code_of, lane_is_zero, lane_overflows, divides_by_zero as divides_by_zero_of, division_overflows as division_overflows_of};
 
@@ -16,7 +16,7 @@ use crate::size::ElementSize;
 /// Whether some lanes compare.
 #[tactic(auto, using(crate::proofs::LaneTests::some_none, crate::proofs::LaneTests::some_more))]
 pub(crate) fn some_compare(comparison: Comparison, size: ElementSize, x: u128, y: u128) -> bool
-    ensures { result ≡ some_lane (lane_count size) (lane_compares comparison (bits size) x y) }
+    ensures { result ≡ some_lane (lane_count size) (lane_compares comparison (element_bits size) x y) }
 {
     let mut some = false;
     for i in 0..size.lane_count() {
@@ -33,7 +33,7 @@ pub(crate) fn some_compare(comparison: Comparison, size: ElementSize, x: u128, y
 /// Whether all lanes compare.
 #[tactic(auto, using(crate::proofs::LaneTests::every_none, crate::proofs::LaneTests::every_more))]
 pub(crate) fn every_compare(comparison: Comparison, size: ElementSize, x: u128, y: u128) -> bool
-    ensures { result ≡ every_lane (lane_count size) (lane_compares comparison (bits size) x y) }
+    ensures { result ≡ every_lane (lane_count size) (lane_compares comparison (element_bits size) x y) }
 {
     let mut every = true;
     for i in 0..size.lane_count() {
@@ -49,7 +49,7 @@ pub(crate) fn every_compare(comparison: Comparison, size: ElementSize, x: u128, 
 
 /// The code of a comparison: 0 all, 1 some, 3 none.
 pub(crate) fn lanes_code(comparison: Comparison, size: ElementSize, x: u128, y: u128) -> u8
-    ensures { result ≡ lanes_code_of comparison (bits size) (lane_count size) x y }
+    ensures { result ≡ lanes_code_of comparison (element_bits size) (lane_count size) x y }
 {
     if every_compare(comparison, size, x, y) {
         0
@@ -62,7 +62,7 @@ pub(crate) fn lanes_code(comparison: Comparison, size: ElementSize, x: u128, y: 
 
 /// The code of two elements: 0 equal, 1 first low, 2 first high.
 pub(crate) fn order_code(sign: Signedness, size: ElementSize, x: u128, y: u128) -> u8
-    ensures { result ≡ order_code_of sign (bits size) (lane_of (bits size) x 0) (lane_of (bits size) y 0) }
+    ensures { result ≡ order_code_of sign (element_bits size) (lane_of (element_bits size) x 0) (lane_of (element_bits size) y 0) }
 {
     let a = element(size, x, 0);
     let b = element(size, y, 0);
@@ -99,7 +99,7 @@ pub fn code(operation: VectorOperation, first: u128, second: u128, third: u128) 
 /// Whether some lane is zero.
 #[tactic(auto, using(crate::proofs::LaneTests::some_none, crate::proofs::LaneTests::some_more))]
 pub(crate) fn some_zero(size: ElementSize, y: u128) -> bool
-    ensures { result ≡ some_lane (lane_count size) (lane_is_zero (bits size) y) }
+    ensures { result ≡ some_lane (lane_count size) (lane_is_zero (element_bits size) y) }
 {
     let mut some = false;
     for i in 0..size.lane_count() {
@@ -111,7 +111,7 @@ pub(crate) fn some_zero(size: ElementSize, y: u128) -> bool
 /// Whether some quotient doesn't fit.
 #[tactic(auto, using(crate::proofs::LaneTests::some_none, crate::proofs::LaneTests::some_more))]
 pub(crate) fn some_overflow(sign: Signedness, size: ElementSize, x: u128, y: u128) -> bool
-    ensures { result ≡ some_lane (lane_count size) (lane_overflows sign (bits size) x y) }
+    ensures { result ≡ some_lane (lane_count size) (lane_overflows sign (element_bits size) x y) }
 {
     let mut some = false;
     for i in 0..size.lane_count() {

@@ -2,7 +2,7 @@
 #![tactic(auto)]
 
 ghost use Rattle.std.specs.Prelude.{◌≡◌, ℕ, ◌+◌, ◌-◌, ◌*◌, ◌^◌, ◌<◌, ◌≤◌};
-ghost use Rattle.s390x_lanes.specs.Size.{bits, lane_count};
+ghost use Rattle.s390x_lanes.specs.Size.{element_bits, lane_count};
 ghost use Rattle.s390x_lanes.specs.Lanes.{lane as lane_of};
 
 use crate::size::ElementSize;
@@ -29,8 +29,8 @@ pub(crate) fn lane(w: u32, x: u128, i: u32) -> u128
 /// Element `i` of `x`.
 pub fn element(size: ElementSize, x: u128, i: u32) -> u128
     requires { i < lane_count size }
-    ensures value { result ≡ lane_of (bits size) x i }
-    ensures fits { result < 2 ^ bits size }
+    ensures value { result ≡ lane_of (element_bits size) x i }
+    ensures fits { result < 2 ^ element_bits size }
 {
     lane(size.bits(), x, i)
 }

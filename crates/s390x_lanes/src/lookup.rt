@@ -3,7 +3,7 @@
 
 ghost use Rattle.std.specs.Prelude.{◌≡◌, ℕ, ◌+◌, ◌-◌, ◌*◌, ◌/◌, ◌%◌, ◌^◌, ◌<◌, ◌≤◌, IsTrue, MatchOption};
 ghost use Rattle.s390x_lanes.specs.Size.{size_of_code, narrower_of_code};
-ghost use Rattle.s390x_lanes.specs.Opcodes.{row_in, operation_from, is_within, kind_allows, is_operation, is_computed, where_operation, row_operation, immediate_bits as immediate_bits_of, operation_in, operation_of};
+ghost use Rattle.s390x_lanes.specs.Opcodes.{row_in, operation_from, is_mask_within, kind_allows, is_operation, is_computed, where_operation, row_operation, immediate_bits as immediate_bits_of, operation_in, operation_of};
 
 use crate::opcodes::{OPCODES, OpcodeRow, RowKind};
 use crate::operation::VectorOperation;
@@ -117,7 +117,7 @@ fn checked(operation: VectorOperation) -> Option<VectorOperation>
 
 /// Whether a mask lies from the row's least to its greatest.
 fn within(row: OpcodeRow, mask: u8) -> bool
-    ensures { result ≡ is_within row mask }
+    ensures { result ≡ is_mask_within row mask }
 {
     row.least <= mask && mask <= row.greatest
 }

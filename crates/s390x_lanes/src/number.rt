@@ -2,7 +2,7 @@
 #![tactic(auto)]
 
 ghost use Rattle.std.specs.Prelude.{◌≡◌, ℕ, ◌+◌, ◌-◌, ◌*◌, ◌^◌, ◌<◌, ◌≤◌};
-ghost use Rattle.s390x_lanes.specs.Numbers.{number, wrapped};
+ghost use Rattle.s390x_lanes.specs.Numbers.{element_number, wrapped};
 ghost use Rattle.s390x_lanes.specs.Encoding.{biased, sign_extended, negated, magnitude};
 ghost use Rattle.s390x_lanes.specs.Elements.{is_lower};
 

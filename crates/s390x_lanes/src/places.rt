@@ -2,7 +2,7 @@
 #![tactic(auto)]
 
 ghost use Rattle.std.specs.Prelude.{◌≡◌, ℕ, ◌+◌, ◌-◌, ◌*◌, ◌/◌, ◌%◌, ◌^◌, ◌<◌, ◌≤◌};
-ghost use Rattle.s390x_lanes.specs.Size.{bits, lane_count, wider};
+ghost use Rattle.s390x_lanes.specs.Size.{element_bits, lane_count, wider};
 ghost use Rattle.s390x_lanes.specs.Places.{lane_of_pair, first_of_half, pair_product, packed_lane, merged_lane, unpacked_lane, byte_of_mask, bit_mask, selected, permuted_byte, chosen_doubleword, shifted_lane, shift_byte_count, chosen_bit, chosen_bits};
 
 use crate::lane::{append, element, lane, ones};
@@ -44,10 +44,10 @@ pub(crate) fn multiply_pair(
     y: u128,
     i: u32,
 ) -> u128
-    requires narrow { bits size ≤ 64 }
+    requires narrow { element_bits size ≤ 64 }
     requires inside { i < lane_count (wider size) }
-    ensures value { result ≡ pair_product sign parity (bits size) x y i }
-    ensures fits { result < 2 ^ bits (wider size) }
+    ensures value { result ≡ pair_product sign parity (element_bits size) x y i }
+    ensures fits { result < 2 ^ element_bits (wider size) }
 {
     let k = pair_lane(parity, i);
     multiply(sign, size.bits(), element(size, x, k), element(size, y, k))
@@ -55,10 +55,10 @@ pub(crate) fn multiply_pair(
 
 /// A lane of two registers, in half its bits.
 pub(crate) fn pack(narrowing: Narrowing, size: ElementSize, x: u128, y: u128, i: u32) -> u128
-    requires narrow { bits size ≤ 64 }
+    requires narrow { element_bits size ≤ 64 }
     requires inside { i < lane_count size }
-    ensures value { result ≡ packed_lane narrowing (bits size) (lane_count (wider size)) x y i }
-    ensures fits { result < 2 ^ bits size }
+    ensures value { result ≡ packed_lane narrowing (element_bits size) (lane_count (wider size)) x y i }
+    ensures fits { result < 2 ^ element_bits size }
 {
     let lanes = size.wider().lane_count();
     let v = if i < lanes {
@@ -71,10 +71,10 @@ pub(crate) fn pack(narrowing: Narrowing, size: ElementSize, x: u128, y: u128, i:
 
 /// A lane of two halves, alternating.
 pub(crate) fn merge(half: Half, size: ElementSize, x: u128, y: u128, i: u32) -> u128
-    requires narrow { bits size ≤ 64 }
+    requires narrow { element_bits size ≤ 64 }
     requires inside { i < lane_count size }
-    ensures value { result ≡ merged_lane half (bits size) (lane_count (wider size)) x y i }
-    ensures fits { result < 2 ^ bits size }
+    ensures value { result ≡ merged_lane half (element_bits size) (lane_count (wider size)) x y i }
+    ensures fits { result < 2 ^ element_bits size }
 {
     let k = i / 2 + first_lane(half, size.wider().lane_count());
     if i % 2 == 0 {
@@ -86,10 +86,10 @@ pub(crate) fn merge(half: Half, size: ElementSize, x: u128, y: u128, i: u32) -> 
 
 /// A lane of a half, in twice its bits.
 pub(crate) fn unpack(sign: Signedness, half: Half, size: ElementSize, x: u128, i: u32) -> u128
-    requires narrow { bits size ≤ 64 }
+    requires narrow { element_bits size ≤ 64 }
     requires inside { i < lane_count (wider size) }
-    ensures value { result ≡ unpacked_lane sign half (bits size) (lane_count (wider size)) x i }
-    ensures fits { result < 2 ^ bits (wider size) }
+    ensures value { result ≡ unpacked_lane sign half (element_bits size) (lane_count (wider size)) x i }
+    ensures fits { result < 2 ^ element_bits (wider size) }
 {
     let k = i + first_lane(half, size.wider().lane_count());
     widen(sign, size.bits(), element(size, x, k))
@@ -164,8 +164,8 @@ pub(crate) fn shift_element(
     i: u32,
 ) -> u128
     requires { i < lane_count size }
-    ensures value { result ≡ shifted_lane operator (bits size) amount x i }
-    ensures fits { result < 2 ^ bits size }
+    ensures value { result ≡ shifted_lane operator (element_bits size) amount x i }
+    ensures fits { result < 2 ^ element_bits size }
 {
     shift(
         operator,

@@ -2,10 +2,10 @@
 #![tactic(auto)]
 
 ghost use Rattle.std.specs.Prelude.{◌≡◌, ℕ, ◌+◌, ◌-◌, ◌*◌, ◌/◌, ◌%◌, ◌^◌, ◌<◌, ◌≤◌, ◌==◌, IsTrue, if◌then◌else◌};
-ghost use Rattle.s390x_lanes.specs.Size.{bits, lane_count, wider};
-ghost use Rattle.s390x_lanes.specs.Results.{result_size as result_size_of, result_lane as lane_of_result, result_of};
+ghost use Rattle.s390x_lanes.specs.Size.{element_bits, lane_count, wider};
+ghost use Rattle.s390x_lanes.specs.Results.{result_size as result_size_of, result_lane as lane_of_result, vector_result};
 ghost use Rattle.s390x_lanes.specs.Lanes.{lane as lane_of};
-ghost use Rattle.s390x_lanes.specs.Elements.{compares, immediate as immediate_of};
+ghost use Rattle.s390x_lanes.specs.Elements.{elements_compare, immediate as immediate_of};
 ghost use Rattle.s390x_lanes.specs.Opcodes.{is_operation, is_computed};
 
 use crate::binary::{binary, compare};
@@ -61,8 +61,8 @@ pub(crate) fn compared_lane(
     i: u32,
 ) -> u128
     requires { i < lane_count size }
-    ensures value { result ≡ (if compares comparison (bits size) (lane_of (bits size) x i) (lane_of (bits size) y i) then 2 ^ bits size - 1 else 0) }
-    ensures fits { result < 2 ^ bits size }
+    ensures value { result ≡ (if elements_compare comparison (element_bits size) (lane_of (element_bits size) x i) (lane_of (element_bits size) y i) then 2 ^ element_bits size - 1 else 0) }
+    ensures fits { result < 2 ^ element_bits size }
 {
     if compare(
         comparison,
@@ -79,8 +79,8 @@ pub(crate) fn compared_lane(
 /// The immediate at `index`, else lane `i` of `x`.
 pub(crate) fn inserted_lane(size: ElementSize, value: u16, index: u32, x: u128, i: u32) -> u128
     requires { i < lane_count size }
-    ensures value { result ≡ (if i == index then immediate_of (bits size) value else lane_of (bits size) x i) }
-    ensures fits { result < 2 ^ bits size }
+    ensures value { result ≡ (if i == index then immediate_of (element_bits size) value else lane_of (element_bits size) x i) }
+    ensures fits { result < 2 ^ element_bits size }
 {
     if i == index {
         immediate(size.bits(), value)
@@ -96,7 +96,7 @@ pub(crate) fn result_lane(operation: VectorOperation, first: u128, second: u128,
     requires is_computed { IsTrue (is_computed operation) }
     requires inside { i < lane_count (result_size_of operation) }
     ensures value { result ≡ lane_of_result operation first second third fourth i }
-    ensures fits { result < 2 ^ bits (result_size_of operation) }
+    ensures fits { result < 2 ^ element_bits (result_size_of operation) }
 {
     match operation {
         VectorOperation::Binary { operator, size } => binary(operator, size.bits(), element(size, second, i), element(size, third, i)),
@@ -137,7 +137,7 @@ pub fn result(
 ) -> u128
     requires is_operation { IsTrue (is_operation operation) }
     requires is_computed { IsTrue (is_computed operation) }
-    ensures { result ≡ result_of operation first second third fourth }
+    ensures { result ≡ vector_result operation first second third fourth }
 {
     let size = result_size(operation);
     let w = size.bits();

@@ -2,7 +2,7 @@
 #![tactic(auto)]
 
 ghost use Rattle.std.specs.Prelude.{◌≡◌};
-ghost use Rattle.s390x_lanes.specs.Size.{bits, lane_count, wider};
+ghost use Rattle.s390x_lanes.specs.Size.{element_bits, lane_count, wider};
 
 /// The size of an element, in the order of the element-size codes 0 to 4 (z/Architecture
 /// Principles of Operation, vector overview).
@@ -18,7 +18,7 @@ pub enum ElementSize {
 impl ElementSize {
     /// How many bits an element has.
     pub fn bits(self) -> u32
-        ensures { result ≡ bits self }
+        ensures { result ≡ element_bits self }
     {
         match self {
             ElementSize::Byte => 8,

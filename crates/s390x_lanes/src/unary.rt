@@ -3,9 +3,9 @@
 
 ghost use Rattle.std.specs.Prelude.{◌≡◌, ℕ, ◌+◌, ◌-◌, ◌*◌, ◌/◌, ◌%◌, ◌^◌, ◌<◌, ◌≤◌, bit_or};
 ghost use lib.Count.{count_leading_zeros, count_trailing_zeros};
-ghost use Rattle.s390x_lanes.specs.Numbers.{number, wrapped, saturated};
+ghost use Rattle.s390x_lanes.specs.Numbers.{element_number, wrapped, saturated};
 ghost use Rattle.s390x_lanes.specs.Encoding.{shifted_right, saturated_bits};
-ghost use Rattle.s390x_lanes.specs.Elements.{unary_result, shifted, narrowed, widened, immediate as immediate_of};
+ghost use Rattle.s390x_lanes.specs.Elements.{unary_result, element_shifted, narrowed, element_widened, immediate as immediate_of};
 
 use crate::lane::ones;
 use crate::number::{absolute, negate, sign_bit, sign_extend};
@@ -73,7 +73,7 @@ pub(crate) fn shift(operator: ShiftOperator, w: u32, x: u128, amount: u32) -> u1
     requires high { w ≤ 128 }
     requires fits { x < 2 ^ w }
     requires below { amount < w }
-    ensures value { result ≡ shifted operator w x amount }
+    ensures value { result ≡ element_shifted operator w x amount }
     ensures fits { result < 2 ^ w }
 {
     let all = ones(w);
@@ -126,7 +126,7 @@ pub(crate) fn saturate(sign: Signedness, w: u32, x: u128) -> u128
     requires low { 0 < w }
     requires high { w ≤ 64 }
     requires fits { x < 2 ^ (2 * w) }
-    ensures value { result ≡ wrapped w (saturated sign w (number sign (2 * w) x)) }
+    ensures value { result ≡ wrapped w (saturated sign w (element_number sign (2 * w) x)) }
     ensures fits { result < 2 ^ w }
 {
     match sign {
@@ -140,7 +140,7 @@ pub(crate) fn widen(sign: Signedness, w: u32, x: u128) -> u128
     requires low { 0 < w }
     requires high { w ≤ 64 }
     requires fits { x < 2 ^ w }
-    ensures value { result ≡ widened sign w x }
+    ensures value { result ≡ element_widened sign w x }
     ensures fits { result < 2 ^ (2 * w) }
 {
     match sign {

@@ -5,7 +5,7 @@ use Rattle.s390x_words.specs.Marks.{upto, past}
 use Rattle.s390x_lines.specs.Line.{Line, line_text, IsLine}
 use Rattle.s390x_words.proofs.Members.{number-self, or-false}
 use Rattle.s390x_words.proofs.Avoids.{Avoids}
-use Rattle.s390x_lines.proofs.Back.{line-feed}
+use Rattle.s390x_lines.proofs.RoundTrip.{line-feed}
 
 -- no byte of the text is c
 abbrev pub Free : ℕ → List ℕ → Type 0

@@ -3,7 +3,7 @@ use Rattle.std.specs.Prelude.{[], ◌∷◌}
 use Rattle.s390x_base.specs.Sets.{has}
 use Rattle.s390x_words.specs.Numbers.{W8, W16, W32, W64, S8, S16, S20, S32}
 use Rattle.s390x_words.specs.Calls.{try_part}
-use Rattle.s390x_words.specs.Sets.{members}
+use Rattle.s390x_words.specs.Sets.{members_of}
 use Rattle.s390x_fields.specs.Fields.{FAlu, FArgs, FBool, FCmp, FCond, FConvention, FDefs, FInteger, FLabels, FMemory, FNatural, FOption, FPair, FReal, FReg, FReloc, FRets, FRxsbg, FSet, FShift, FShifted, FTarget, FTrap, FTry, FUnary, FUses, FVecBinary, FVecCompare, FVecElementCompare, FVecShift, FVecUnary}
 use Rattle.s390x_lines.specs.Line.{Line}
 use Rattle.s390x_lines.specs.declared.inst_name.IntegerName.TheVariants as IntegerIs
@@ -166,11 +166,11 @@ inst_line (I.CondBr taken not_taken cond) = record { name = N.Control ControlIs.
 inst_line (I.IndirectBr rn targets) = record { name = N.Control ControlIs.IndirectBr; fields = FReg rn ∷ FLabels targets.items ∷ [] }
 inst_line (I.Ret link) = record { name = N.Control ControlIs.Ret; fields = FReg link ∷ [] }
 inst_line (I.JTSequence ridx default default_cond targets) = record { name = N.Control ControlIs.JTSequence; fields = FReg ridx ∷ FNatural W32 default.0 ∷ FCond default_cond ∷ FLabels targets.items ∷ [] }
-inst_line (I.Loop' cond body members) = record { name = N.Loop; fields = FCond cond ∷ [] }
+inst_line (I.Loop' cond body members_of) = record { name = N.Loop; fields = FCond cond ∷ [] }
 inst_line (I.CondBreak cond) = record { name = N.Control ControlIs.CondBreak; fields = FCond cond ∷ [] }
 inst_line (I.Call link info) = record {
   name = N.Control ControlIs.Call;
-  fields = FReg link ∷ FTarget info.dest ∷ FUses info.uses.items ∷ FDefs info.defs.items ∷ FSet (members (has info.clobbers)) ∷ FNatural W32 info.callee_pop_size ∷ FConvention info.caller_conv ∷ FConvention info.callee_conv ∷ FTry (try_part info.try_call_info) ∷ FBool info.patchable ∷ FOption W32 info.stack_map ∷ [];
+  fields = FReg link ∷ FTarget info.dest ∷ FUses info.uses.items ∷ FDefs info.defs.items ∷ FSet (members_of (has info.clobbers)) ∷ FNatural W32 info.callee_pop_size ∷ FConvention info.caller_conv ∷ FConvention info.callee_conv ∷ FTry (try_part info.try_call_info) ∷ FBool info.patchable ∷ FOption W32 info.stack_map ∷ [];
 }
 inst_line (I.ReturnCall info) = record { name = N.Control ControlIs.ReturnCall; fields = FTarget info.dest ∷ FUses info.uses.items ∷ FNatural W32 info.callee_pop_size ∷ [] }
 inst_line (I.AllocateArgs size) = record { name = N.Control ControlIs.AllocateArgs; fields = FNatural W32 size ∷ [] }

@@ -1,7 +1,7 @@
 -- A line: a name and a list of fields.
 use Rattle.std.specs.Prelude.{◌≡◌, ℕ, List, [], ◌∷◌, ◌++◌}
 use Rattle.s390x_words.specs.Marks.{before_mark, from_mark}
-use Rattle.s390x_words.specs.Found.{found}
+use Rattle.s390x_words.specs.Found.{found_by_name}
 use Rattle.s390x_lines.specs.Names.{name_text}
 use Rattle.s390x_fields.specs.Fields.{Field, Kind, kind_of, spell, IsField, value_as, after_as}
 use Rattle.s390x_lines.specs.Kinds.{kinds}
@@ -39,14 +39,14 @@ pub record IsLine (l : Line) : Type 0 where
   pub fields_fit : AllFields l.fields
 
 -- the fields of these kinds that are read from a text, one after another
-abbrev pub fields_of : List Kind → List ℕ → List Field
-fields_of [] s = []
-fields_of (k ∷ ks) s = value_as k s ∷ fields_of ks (after_as k s)
+abbrev pub line_fields_of : List Kind → List ℕ → List Field
+line_fields_of [] s = []
+line_fields_of (k ∷ ks) s = value_as k s ∷ line_fields_of ks (after_as k s)
 
 -- the line of a name, with the fields that are read from a text
 abbrev pub line_with : LineName → List ℕ → Line
-line_with n s = record { name = n; fields = fields_of (kinds n) s }
+line_with n s = record { name = n; fields = line_fields_of (kinds n) s }
 
 -- the line that is read from a text: its name stands before the first mark, and a word that is no name counts as `end`
 abbrev pub line_of : List ℕ → Line
-line_of s = line_with (found name_text ALL_NAMES (before_mark s) N.EndLine) (from_mark s)
+line_of s = line_with (found_by_name name_text ALL_NAMES (before_mark s) N.EndLine) (from_mark s)

@@ -1,5 +1,5 @@
 //! The names of instructions' lines, in groups.
-ghost use Rattle.s390x_lines.specs.Names.{integer_text, memory_text, control_text, vector_text};
+ghost use Rattle.s390x_lines.specs.Names.{integer_text, memory_name_text, control_text, vector_name_text};
 
 use s390x_words::word::Word;
 
@@ -234,7 +234,7 @@ impl Word for IntegerName {
 }
 
 impl Word for MemoryName {
-    ghost spelling = { memory_text };
+    ghost spelling = { memory_name_text };
 
     fn text(self) -> &'static str {
         match self {
@@ -307,7 +307,7 @@ impl Word for ControlName {
 }
 
 impl Word for VectorName {
-    ghost spelling = { vector_text };
+    ghost spelling = { vector_name_text };
 
     fn text(self) -> &'static str {
         match self {

@@ -4,7 +4,7 @@ use Rattle.std.specs.Prelude.{nat_eq, nat_le, ◌&&◌, not}
 use Rattle.std.proofs.lemmas.Bool.{eq-eqb, eqb-true, leb-true}
 use Rattle.s390x_base.specs.Regs.{number_of}
 use Rattle.s390x_base.specs.declared.regs.Reg.{Reg}
-use Rattle.s390x_steps.specs.General.{is_general}
+use Rattle.s390x_typed_steps.specs.General.{is_general}
 use Rattle.s390x_base.specs.declared.error.EmitError.TheVariants.{BadAlignment}
 use Rattle.s390x_buffer.specs.State.{is_alignment}
 use Rattle.s390x_inst.specs.declared.args.MemArg.{MemArg}
@@ -13,23 +13,23 @@ use Rattle.s390x_inst.specs.declared.inst.Inst.{Inst}
 use Rattle.s390x_inst.specs.declared.inst.Inst.TheVariants.{AluRX, CmpRX, Load32, Load32ZExt16, Load32SExt16, Load64, Load64ZExt16, Load64SExt16, Load64ZExt32, Load64SExt32, Store16, Store32, Store64, AtomicRmw}
 use Rattle.s390x_inst.specs.declared.ops.CmpOp.{CmpOp}
 use Rattle.s390x_inst.specs.declared.ops.CmpOp.TheVariants as C
-use Rattle.s390x_steps.specs.Causes.{bound_cause, relative_access, boundary, alignment_cause}
-use Rattle.s390x_steps.specs.Memory.{StorageForm, RxForm, MemoryInstruction, memory, type_of, operate, load_and_operate}
-use Rattle.s390x_steps.specs.Operands.{is_numbered, is_relative, needs_address}
-use Rattle.s390x_steps.specs.Storage.{alu_rx, alu_rxy, cmp_rx, cmp_rxy, cmp_ril, atomic_rsy, relative_bytes}
-use Rattle.s390x_steps.specs.declared.mem_inst_type.MemInstType.{MemInstType}
-use Rattle.s390x_operations.specs.State.{Registers, reaches, sum64}
+use Rattle.s390x_typed_steps.specs.Causes.{bound_cause, relative_access, boundary, alignment_cause}
+use Rattle.s390x_typed_steps.specs.Memory.{StorageForm, RxForm, MemoryInstruction, memory, type_of, operate, load_and_operate}
+use Rattle.s390x_typed_steps.specs.Operands.{is_numbered, is_relative, needs_address}
+use Rattle.s390x_typed_steps.specs.Storage.{alu_rx, alu_rxy, cmp_rx, cmp_rxy, cmp_ril, atomic_rsy, relative_bytes}
+use Rattle.s390x_typed_steps.specs.declared.mem_inst_type.MemInstType.{MemInstType}
+use Rattle.s390x_operations.specs.State.{Registers, reaches, wrapping_add64}
 use Rattle.s390x_operations.specs.Access.{is_misaligned, reach_fault, fault}
 use Rattle.s390x_operations.specs.Effects.{access}
 use Rattle.s390x_operations.specs.declared.effect.Operation.{Operation}
 use Rattle.s390x_operations.specs.declared.size.Size.TheVariants.{Word, Doubleword}
 use Rattle.s390x_operations.specs.declared.stop.StopKind.TheVariants.{Access, Specification}
 use Rattle.s390x_machine.specs.Aligned.{IsOwn, OwnOperand, IsOnBoundary, relative_row_of, StepAccesses, NeverMisaligned}
-use Rattle.s390x_machine.specs.Computations.{word, signed_word, signed_halfword, halfword, doubleword, comparison}
-use Rattle.s390x_machine.specs.Forms.{performed_at, performed_in_memory}
-use Rattle.s390x_machine.specs.Layout.{Layout, declared, constant_place}
-use Rattle.s390x_machine.specs.Placed.{AllPlaced, IsFineMemory, FineMemoryOr}
-use Rattle.s390x_machine.specs.Storage.{address_of, operand_step, indexed_forms, cmp_forms, loads_at, stores_at, compares_at, aligned_effect, aligned_where}
+use Rattle.s390x_machine.specs.Computations.{unsigned_word, signed_word, signed_halfword, unsigned_halfword, doubleword, comparison}
+use Rattle.s390x_machine.specs.StepKinds.{performed_at, performed_in_memory}
+use Rattle.s390x_machine.specs.Layout.{Layout, declared, constant_address}
+use Rattle.s390x_machine.specs.CodeAt.{AllCodeAt, IsValidMemory, ValidMemoryOr}
+use Rattle.s390x_machine.specs.Storage.{operand_address, operand_step, indexed_forms, cmp_forms, loads_at, stores_at, compares_at, aligned_effect, aligned_where}
 use Rattle.s390x_machine.proofs.Relative.{first_none, unless_none, label_known, constant_known}
 use Rattle.s390x_machine.proofs.Standing.{block_even}
 
@@ -108,22 +108,22 @@ on_alignment a b align power le is h = sixteen (either_of (nat_eq align 1 || nat
     sixteen (inl e) = eight (either_of (nat_eq align 1 || nat_eq align 2 || nat_eq align 4) (nat_eq align 8) e)
     sixteen (inr e) = let wide : a % 16 ≡ 0 = subst (λ n. a % n ≡ 0) (eqb-true align 16 e) h in on_8 a b power (omega (arith, wide))
 
-sum_even : (base o : ℕ) → base % 2 ≡ 0 → o % 2 ≡ 0 → sum64 base o % 2 ≡ 0
+sum_even : (base o : ℕ) → base % 2 ≡ 0 → o % 2 ≡ 0 → wrapping_add64 base o % 2 ≡ 0
 sum_even base o eb eo = omega (arith, eb, eo)
 
 -- blocks stand at even places, constants on their boundaries
-own_on_boundary : (L : Layout) → AllPlaced L → (m : MemArg) (b : ℕ) → IsOwn m → IsPower b → bound_cause (declared L) m ≡ None → alignment_cause (declared L) b m ≡ None → IsOnBoundary (address_of L m) b
+own_on_boundary : (L : Layout) → AllCodeAt L → (m : MemArg) (b : ℕ) → IsOwn m → IsPower b → bound_cause (declared L) m ≡ None → alignment_cause (declared L) b m ≡ None → IsOnBoundary (operand_address L m) b
 own_on_boundary L all (Label target) b own power bound aligned =
-    λ r. on_2 (sum64 L.image.base (L.places.block target.0)) b power (leb-true b 2 (unless_none (nat_le b 2) BadAlignment aligned)) (sum_even L.image.base (L.places.block target.0) all.even (block_even L all target.0 (label_known L target bound)))
+    λ r. on_2 (wrapping_add64 L.image.base (L.offsets.block target.0)) b power (leb-true b 2 (unless_none (nat_le b 2) BadAlignment aligned)) (sum_even L.image.base (L.offsets.block target.0) all.even (block_even L all target.0 (label_known L target bound)))
 own_on_boundary L all (Constant c) b own power bound aligned =
     let stands = all.constants c.0 (constant_known L c bound) in
-    let align = get_or L.places.outside.aligns c.0 0 in
-    λ r. on_alignment (constant_place L c.0) b align power (leb-true b align (unless_none (nat_le b align) BadAlignment aligned)) stands.alignment stands.aligned
+    let align = get_or L.offsets.environment.aligns c.0 0 in
+    λ r. on_alignment (constant_address L c.0) b align power (leb-true b align (unless_none (nat_le b align) BadAlignment aligned)) stands.alignment stands.aligned
 own_on_boundary L all m b own power bound aligned = absurd own
 
-pub on_boundary : (L : Layout) → AllPlaced L → (x : MemoryInstruction) → IsFineMemory L x → IsOwn x.operand → IsOnBoundary (address_of L x.operand) (boundary x)
-on_boundary L all x fine own =
-    let checked = first_none (bound_cause (declared L) x.operand) (alignment_cause (declared L) (boundary x) x.operand) fine.place in
+pub on_boundary : (L : Layout) → AllCodeAt L → (x : MemoryInstruction) → IsValidMemory L x → IsOwn x.operand → IsOnBoundary (operand_address L x.operand) (boundary x)
+on_boundary L all x operands_valid own =
+    let checked = first_none (bound_cause (declared L) x.operand) (alignment_cause (declared L) (boundary x) x.operand) operands_valid.target in
     own_on_boundary L all x.operand (boundary x) own (boundary_power x.form (type_of x.form x.accesses) x.accesses x.operand) checked.0 checked.1
 
 -- ---- bytes
@@ -186,33 +186,33 @@ cmp_bytes : (op : CmpOp) (n : ℕ) → AlignedBytes (compares_at (comparison op)
 cmp_bytes C.CmpS32 n a r has = refl
 cmp_bytes _ n a r has = refl
 
-module _ (L : Layout) (all : AllPlaced L) where
+module _ (L : Layout) (all : AllCodeAt L) where
   -- an operand at an address, where the rows have its form
   stands_aligned : (size a : ℕ) (operation : ℕ → Registers → Operation) (have : Bool) → have ≡ true → AlignedBytes operation size → a % size ≡ 0 → (r : Registers) (has : ℕ → Bool) → fault (access (aligned_where (not (not have)) (operation a r)).effect) has ≡ Some Specification → ⊥
   stands_aligned size a operation false have bytes multiple r has e = absurd (cc)
   stands_aligned size a operation true have bytes multiple r has e = reached_at_multiple a size has multiple (sym (bytes a r has) ∙ e)
 
-  own_never : (register : ℕ) (short long : Option ℕ) (opcode : ℕ) (m : MemArg) (fits reads : Bool) → IsFineMemory L (record { form = RxForm register short long (Some opcode); operand = m; accesses = true; fine = fits; reads_scratch = reads }) → IsOwn m →
-      (forms : MemInstType) (operation : ℕ → Registers → Operation) → forms.have_pcrel ≡ true → AlignedBytes operation (relative_bytes opcode) → NeverMisaligned (performed_at (record { operand = m; forms = forms; accesses = true; operation = operation }) (address_of L m))
-  own_never register short long opcode (Label target) fits reads fine own forms operation have bytes =
-      λ r has e. stands_aligned (relative_bytes opcode) (sum64 L.image.base (L.places.block target.0)) operation forms.have_pcrel have bytes (on_boundary L all (record { form = RxForm register short long (Some opcode); operand = Label target; accesses = true; fine = fits; reads_scratch = reads }) fine own r) r has e
-  own_never register short long opcode (Constant c) fits reads fine own forms operation have bytes =
-      λ r has e. stands_aligned (relative_bytes opcode) (constant_place L c.0) operation forms.have_pcrel have bytes (on_boundary L all (record { form = RxForm register short long (Some opcode); operand = Constant c; accesses = true; fine = fits; reads_scratch = reads }) fine own r) r has e
-  own_never register short long opcode m fits reads fine own forms operation have bytes = absurd own
+  own_never : (register : ℕ) (short long : Option ℕ) (opcode : ℕ) (m : MemArg) (fits reads : Bool) → IsValidMemory L (record { form = RxForm register short long (Some opcode); operand = m; accesses = true; operands_valid = fits; reads_scratch = reads }) → IsOwn m →
+      (forms : MemInstType) (operation : ℕ → Registers → Operation) → forms.have_pcrel ≡ true → AlignedBytes operation (relative_bytes opcode) → NeverMisaligned (performed_at (record { operand = m; forms = forms; accesses = true; operation = operation }) (operand_address L m))
+  own_never register short long opcode (Label target) fits reads operands_valid own forms operation have bytes =
+      λ r has e. stands_aligned (relative_bytes opcode) (wrapping_add64 L.image.base (L.offsets.block target.0)) operation forms.have_pcrel have bytes (on_boundary L all (record { form = RxForm register short long (Some opcode); operand = Label target; accesses = true; operands_valid = fits; reads_scratch = reads }) operands_valid own r) r has e
+  own_never register short long opcode (Constant c) fits reads operands_valid own forms operation have bytes =
+      λ r has e. stands_aligned (relative_bytes opcode) (constant_address L c.0) operation forms.have_pcrel have bytes (on_boundary L all (record { form = RxForm register short long (Some opcode); operand = Constant c; accesses = true; operands_valid = fits; reads_scratch = reads }) operands_valid own r) r has e
+  own_never register short long opcode m fits reads operands_valid own forms operation have bytes = absurd own
 
-  pub never_misaligned : (i : Inst) (opcode : ℕ) → relative_row_of (memory i) ≡ Some opcode → FineMemoryOr L (memory i) ⊥ → OwnOperand (memory i) → NeverMisaligned (performed_in_memory L i)
-  never_misaligned (Load32 rd mem) opcode e fine own = own_never (number_of rd) (Some 0x58) (Some 0xe358) 0xc4d mem (is_general rd) false fine own (indexed_forms true true true) (loads_at Word word (number_of rd)) refl (λ a r has. refl)
-  never_misaligned (Load32ZExt16 rd mem) opcode e fine own = own_never (number_of rd) None (Some 0xe395) 0xc42 mem (is_general rd) false fine own (indexed_forms false true true) (loads_at Word halfword (number_of rd)) refl (λ a r has. refl)
-  never_misaligned (Load32SExt16 rd mem) opcode e fine own = own_never (number_of rd) (Some 0x48) (Some 0xe378) 0xc45 mem (is_general rd) false fine own (indexed_forms true true true) (loads_at Word signed_halfword (number_of rd)) refl (λ a r has. refl)
-  never_misaligned (Load64 rd mem) opcode e fine own = own_never (number_of rd) None (Some 0xe304) 0xc48 mem (is_general rd) false fine own (indexed_forms false true true) (loads_at Doubleword doubleword (number_of rd)) refl (λ a r has. refl)
-  never_misaligned (Load64ZExt16 rd mem) opcode e fine own = own_never (number_of rd) None (Some 0xe391) 0xc46 mem (is_general rd) false fine own (indexed_forms false true true) (loads_at Doubleword halfword (number_of rd)) refl (λ a r has. refl)
-  never_misaligned (Load64SExt16 rd mem) opcode e fine own = own_never (number_of rd) None (Some 0xe315) 0xc44 mem (is_general rd) false fine own (indexed_forms false true true) (loads_at Doubleword signed_halfword (number_of rd)) refl (λ a r has. refl)
-  never_misaligned (Load64ZExt32 rd mem) opcode e fine own = own_never (number_of rd) None (Some 0xe316) 0xc4e mem (is_general rd) false fine own (indexed_forms false true true) (loads_at Doubleword word (number_of rd)) refl (λ a r has. refl)
-  never_misaligned (Load64SExt32 rd mem) opcode e fine own = own_never (number_of rd) None (Some 0xe314) 0xc4c mem (is_general rd) false fine own (indexed_forms false true true) (loads_at Doubleword signed_word (number_of rd)) refl (λ a r has. refl)
-  never_misaligned (Store16 rd mem) opcode e fine own = own_never (number_of rd) (Some 0x40) (Some 0xe370) 0xc47 mem (is_general rd) (is_numbered 1 rd) fine own (indexed_forms true true true) (stores_at halfword (number_of rd)) refl (λ a r has. refl)
-  never_misaligned (Store32 rd mem) opcode e fine own = own_never (number_of rd) (Some 0x50) (Some 0xe350) 0xc4f mem (is_general rd) (is_numbered 1 rd) fine own (indexed_forms true true true) (stores_at word (number_of rd)) refl (λ a r has. refl)
-  never_misaligned (Store64 rd mem) opcode e fine own = own_never (number_of rd) None (Some 0xe324) 0xc4b mem (is_general rd) (is_numbered 1 rd) fine own (indexed_forms false true true) (stores_at doubleword (number_of rd)) refl (λ a r has. refl)
-  never_misaligned (CmpRX op rn mem) opcode e fine own = own_never (number_of rn) (cmp_rx op) (cmp_rxy op) (cmp_ril op) mem (is_general rn) (is_numbered 1 rn) fine own (cmp_forms op) (compares_at (comparison op) (number_of rn)) (cmp_relative op) (cmp_bytes op (number_of rn))
-  never_misaligned (AluRX op rd ri mem) opcode e fine own = absurd (no_operate (is_some (alu_rx op) || is_some (alu_rxy op)) (alu_rx op) (alu_rxy op) rd ri mem opcode e)
-  never_misaligned (AtomicRmw op rd rn mem) opcode e fine own = absurd (no_load_and_operate (atomic_rsy op) rd rn mem opcode e)
-  never_misaligned i opcode e fine own = absurd (cc)
+  pub never_misaligned : (i : Inst) (opcode : ℕ) → relative_row_of (memory i) ≡ Some opcode → ValidMemoryOr L (memory i) ⊥ → OwnOperand (memory i) → NeverMisaligned (performed_in_memory L i)
+  never_misaligned (Load32 rd mem) opcode e operands_valid own = own_never (number_of rd) (Some 0x58) (Some 0xe358) 0xc4d mem (is_general rd) false operands_valid own (indexed_forms true true true) (loads_at Word unsigned_word (number_of rd)) refl (λ a r has. refl)
+  never_misaligned (Load32ZExt16 rd mem) opcode e operands_valid own = own_never (number_of rd) None (Some 0xe395) 0xc42 mem (is_general rd) false operands_valid own (indexed_forms false true true) (loads_at Word unsigned_halfword (number_of rd)) refl (λ a r has. refl)
+  never_misaligned (Load32SExt16 rd mem) opcode e operands_valid own = own_never (number_of rd) (Some 0x48) (Some 0xe378) 0xc45 mem (is_general rd) false operands_valid own (indexed_forms true true true) (loads_at Word signed_halfword (number_of rd)) refl (λ a r has. refl)
+  never_misaligned (Load64 rd mem) opcode e operands_valid own = own_never (number_of rd) None (Some 0xe304) 0xc48 mem (is_general rd) false operands_valid own (indexed_forms false true true) (loads_at Doubleword doubleword (number_of rd)) refl (λ a r has. refl)
+  never_misaligned (Load64ZExt16 rd mem) opcode e operands_valid own = own_never (number_of rd) None (Some 0xe391) 0xc46 mem (is_general rd) false operands_valid own (indexed_forms false true true) (loads_at Doubleword unsigned_halfword (number_of rd)) refl (λ a r has. refl)
+  never_misaligned (Load64SExt16 rd mem) opcode e operands_valid own = own_never (number_of rd) None (Some 0xe315) 0xc44 mem (is_general rd) false operands_valid own (indexed_forms false true true) (loads_at Doubleword signed_halfword (number_of rd)) refl (λ a r has. refl)
+  never_misaligned (Load64ZExt32 rd mem) opcode e operands_valid own = own_never (number_of rd) None (Some 0xe316) 0xc4e mem (is_general rd) false operands_valid own (indexed_forms false true true) (loads_at Doubleword unsigned_word (number_of rd)) refl (λ a r has. refl)
+  never_misaligned (Load64SExt32 rd mem) opcode e operands_valid own = own_never (number_of rd) None (Some 0xe314) 0xc4c mem (is_general rd) false operands_valid own (indexed_forms false true true) (loads_at Doubleword signed_word (number_of rd)) refl (λ a r has. refl)
+  never_misaligned (Store16 rd mem) opcode e operands_valid own = own_never (number_of rd) (Some 0x40) (Some 0xe370) 0xc47 mem (is_general rd) (is_numbered 1 rd) operands_valid own (indexed_forms true true true) (stores_at unsigned_halfword (number_of rd)) refl (λ a r has. refl)
+  never_misaligned (Store32 rd mem) opcode e operands_valid own = own_never (number_of rd) (Some 0x50) (Some 0xe350) 0xc4f mem (is_general rd) (is_numbered 1 rd) operands_valid own (indexed_forms true true true) (stores_at unsigned_word (number_of rd)) refl (λ a r has. refl)
+  never_misaligned (Store64 rd mem) opcode e operands_valid own = own_never (number_of rd) None (Some 0xe324) 0xc4b mem (is_general rd) (is_numbered 1 rd) operands_valid own (indexed_forms false true true) (stores_at doubleword (number_of rd)) refl (λ a r has. refl)
+  never_misaligned (CmpRX op rn mem) opcode e operands_valid own = own_never (number_of rn) (cmp_rx op) (cmp_rxy op) (cmp_ril op) mem (is_general rn) (is_numbered 1 rn) operands_valid own (cmp_forms op) (compares_at (comparison op) (number_of rn)) (cmp_relative op) (cmp_bytes op (number_of rn))
+  never_misaligned (AluRX op rd ri mem) opcode e operands_valid own = absurd (no_operate (is_some (alu_rx op) || is_some (alu_rxy op)) (alu_rx op) (alu_rxy op) rd ri mem opcode e)
+  never_misaligned (AtomicRmw op rd rn mem) opcode e operands_valid own = absurd (no_load_and_operate (atomic_rsy op) rd rn mem opcode e)
+  never_misaligned i opcode e operands_valid own = absurd (cc)

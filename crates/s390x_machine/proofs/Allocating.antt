@@ -7,8 +7,8 @@ use Rattle.s390x_operations.specs.Numbers.{low, signed}
 use Rattle.s390x_operations.specs.Signed.{signed_value}
 use Rattle.s390x_operations.specs.Unsigned.{logical_value}
 use Rattle.s390x_operations.specs.Bits.{extended}
-use Rattle.s390x_operations.specs.State.{Registers, coded}
-use Rattle.s390x_operations.specs.Effects.{Refines, put_sized}
+use Rattle.s390x_operations.specs.State.{Registers, with_code}
+use Rattle.s390x_operations.specs.Effects.{Refines, set_sized}
 use Rattle.s390x_operations.specs.declared.size.Size.TheVariants.{Doubleword}
 use Rattle.s390x_operations.specs.declared.size.Width.TheVariants.{Bits16, Bits32}
 use Rattle.s390x_lanes.specs.declared.operation.Signedness.TheVariants.{Signed, Unsigned}
@@ -16,7 +16,7 @@ use Rattle.s390x_operations.specs.declared.operator.Operator.TheVariants as O
 use Rattle.s390x_operations.specs.declared.operator.SignedOperator.TheVariants.{Add}
 use Rattle.s390x_operations.specs.declared.operator.LogicalOperator.TheVariants.{Subtract}
 use Rattle.s390x_operations.specs.declared.effect.CodeRule.TheVariants.{Set}
-use Rattle.s390x_steps.specs.General.{low_halfword, low_word}
+use Rattle.s390x_typed_steps.specs.General.{low_halfword, low_word}
 use Rattle.s390x_machine.specs.Computations.{computes_immediate, on_immediate, on_doublewords, signed_halfword, takes_from_stack}
 
 -- the bits of a number with a minus sign
@@ -66,6 +66,6 @@ adds_negated size lt r = record {
   access = refl;
   refused = refl;
   may_refuse = λ kind h. h;
-  results = λ c t h. h ∙ ap (λ v. coded t.code (put_sized Doubleword c.registers 15 v)) (same_value (r.general 15) size lt);
+  results = λ c t h. h ∙ ap (λ v. with_code t.code (set_sized Doubleword c.registers 15 v)) (same_value (r.general 15) size lt);
   code = λ c code h. tt;
 }

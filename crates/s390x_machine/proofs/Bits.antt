@@ -17,61 +17,61 @@ use Rattle.s390x_inst.specs.declared.ops.RxSBGOp.{RxSBGOp}
 use Rattle.s390x_inst.specs.declared.ops.RxSBGOp.TheVariants as R
 use Rattle.s390x_lanes.specs.declared.operation.Signedness.TheVariants.{Signed, Unsigned}
 use Rattle.s390x_format.specs.declared.kind.FormatKind.{FormatKind}
-use Rattle.s390x_steps.specs.Opcodes.{cmp_trap, cmp_trap_signed, cmp_trap_unsigned, of_one, of_two, of_four, alu_part, alu_half, load_part, load_half, insert_part, extend_to_word, extend_to_doubleword, extend_two, shift_storage, rotate_then, indexed_opcode, logical_indexed_opcode}
-use Rattle.s390x_steps.specs.MachineInstruction.{rrf_cde, rie_f}
+use Rattle.s390x_typed_steps.specs.Opcodes.{cmp_trap, cmp_trap_signed, cmp_trap_unsigned, of_one, of_two, of_four, alu_part, alu_half, load_part, load_half, insert_part, extend_to_word, extend_to_doubleword, extend_two, shift_opcode, rotate_then, indexed_opcode, logical_indexed_opcode}
+use Rattle.s390x_typed_steps.specs.MachineInstruction.{rrf_cde, rie_f}
 use Rattle.s390x_operations.specs.declared.effect.CodeRule.{CodeRule}
 use Rattle.s390x_operations.specs.declared.effect.CodeRule.TheVariants.{Kept, Set}
 use Rattle.s390x_operations.specs.declared.operator.Operator.TheVariants.{Move, Shift}
 use Rattle.s390x_operations.specs.declared.operator.SelectedBitsOperator.TheVariants as Select
 use Rattle.s390x_operations.specs.declared.size.Size.TheVariants.{Word, Doubleword}
 use Rattle.s390x_operations.specs.declared.size.Width.TheVariants.{Bits8, Bits16, Bits32, Bits64}
-use Rattle.s390x_machine.specs.declared.meaning.Meaning.{Meaning}
-use Rattle.s390x_machine.specs.declared.meaning.Meaning.TheVariants.{Compute, MoveWhere, CountOnes, RotateThen, MultiplySigned, MultiplyLogical, DivideSigned, DivideLogical, CompareAndTrap, CompareImmediateAndTrap, FindLeftmostOne, PutAny, BranchToRegister}
-use Rattle.s390x_machine.specs.declared.meaning.SecondOperand.{SecondOperand}
-use Rattle.s390x_machine.specs.declared.meaning.Shape.TheVariants.{Register, Immediate, ShiftedImmediate, Amount, AccessRegister}
-use Rattle.s390x_machine.specs.Computations.{Second, Computation, comparison, word, doubleword, signed_halfword, on_words, on_doublewords, on_selected, with_second, extended_second, extension, part_mask, half_mask, part_operator, shift_operator, shift_size, shift_rule, rotate_operator, rotate_rule}
-use Rattle.s390x_machine.specs.Meanings.{meaning_in, meaning_of}
+use Rattle.s390x_machine.specs.declared.semantics.RowSemantics.{RowSemantics}
+use Rattle.s390x_machine.specs.declared.semantics.RowSemantics.TheVariants.{Compute, MoveWhere, CountOnes, RotateThen, MultiplySigned, MultiplyLogical, DivideSigned, DivideLogical, CompareAndTrap, CompareImmediateAndTrap, FindLeftmostOne, Havoc, BranchToRegister}
+use Rattle.s390x_machine.specs.declared.semantics.SecondOperand.{SecondOperand}
+use Rattle.s390x_machine.specs.declared.semantics.OperandSource.TheVariants.{Register, Immediate, ShiftedImmediate, Amount, AccessRegister}
+use Rattle.s390x_machine.specs.Computations.{Second, Computation, comparison, unsigned_word, doubleword, signed_halfword, on_words, on_doublewords, on_selected, with_second, extended_second, extension, part_mask, half_mask, part_operator, shift_operator, shift_size, shift_rule, rotate_operator, rotate_rule}
+use Rattle.s390x_machine.specs.Semantics.{semantics_in, semantics_of}
 use Rattle.s390x_machine.proofs.Listing.{Agrees, PairRow, rows, none_but_zero, TwoRow, TwoRows, OpcodeRow, OpcodeRows, Meant, MeantRows}
-use Rattle.s390x_machine.proofs.Alone.{second_register, computed}
+use Rattle.s390x_machine.proofs.SingleInstruction.{second_register, computed}
 
 -- ---- parts and halves
 
 -- the immediate so many bits further to the left
 abbrev pub at_bit : ℕ → SecondOperand
-at_bit n = record { shape = ShiftedImmediate n; width = Bits64; sign = Unsigned; reversed = false }
+at_bit n = record { operand_source = ShiftedImmediate n; width = Bits64; sign = Unsigned; reversed = false }
 
 -- what a row does with an immediate at a place
-abbrev pub immediate_at : Computation → ℕ → CodeRule → Meaning
+abbrev pub immediate_at : Computation → ℕ → CodeRule → RowSemantics
 immediate_at c n rule = Compute c.operator c.size (at_bit n) rule
 
 -- one, two or four rows by their number, each with its meaning
-by_one : (kind : FormatKind) (digits a : ℕ) (meaning : ℕ → Meaning) → OpcodeRow kind digits a (meaning 0) → (n : ℕ) → OpcodeRows kind digits (of_one a n) (meaning n)
-by_one kind digits a meaning zeroth n = go (nat_eq n 0) refl
+by_one : (kind : FormatKind) (digits a : ℕ) (semantics : ℕ → RowSemantics) → OpcodeRow kind digits a (semantics 0) → (n : ℕ) → OpcodeRows kind digits (of_one a n) (semantics n)
+by_one kind digits a semantics zeroth n = go (nat_eq n 0) refl
   where
-    go : (t : Bool) → nat_eq n 0 ≡ t → OpcodeRows kind digits (cond t (Some a) None) (meaning n)
-    go true e = subst (λ i. OpcodeRow kind digits a (meaning i)) (sym (eqb-true n 0 e)) zeroth
+    go : (t : Bool) → nat_eq n 0 ≡ t → OpcodeRows kind digits (cond t (Some a) None) (semantics n)
+    go true e = subst (λ i. OpcodeRow kind digits a (semantics i)) (sym (eqb-true n 0 e)) zeroth
     go false e = tt
 
-by_two : (kind : FormatKind) (digits a b : ℕ) (meaning : ℕ → Meaning) → OpcodeRow kind digits a (meaning 0) → OpcodeRow kind digits b (meaning 1) → (n : ℕ) → OpcodeRows kind digits (of_two a b n) (meaning n)
-by_two kind digits a b meaning zeroth first n = go (nat_eq n 0) refl (nat_eq n 1) refl
+by_two : (kind : FormatKind) (digits a b : ℕ) (semantics : ℕ → RowSemantics) → OpcodeRow kind digits a (semantics 0) → OpcodeRow kind digits b (semantics 1) → (n : ℕ) → OpcodeRows kind digits (of_two a b n) (semantics n)
+by_two kind digits a b semantics zeroth first n = go (nat_eq n 0) refl (nat_eq n 1) refl
   where
-    go : (t : Bool) → nat_eq n 0 ≡ t → (u : Bool) → nat_eq n 1 ≡ u → OpcodeRows kind digits (cond t (Some a) (cond u (Some b) None)) (meaning n)
-    go true e u f = subst (λ i. OpcodeRow kind digits a (meaning i)) (sym (eqb-true n 0 e)) zeroth
-    go false e true f = subst (λ i. OpcodeRow kind digits b (meaning i)) (sym (eqb-true n 1 f)) first
+    go : (t : Bool) → nat_eq n 0 ≡ t → (u : Bool) → nat_eq n 1 ≡ u → OpcodeRows kind digits (cond t (Some a) (cond u (Some b) None)) (semantics n)
+    go true e u f = subst (λ i. OpcodeRow kind digits a (semantics i)) (sym (eqb-true n 0 e)) zeroth
+    go false e true f = subst (λ i. OpcodeRow kind digits b (semantics i)) (sym (eqb-true n 1 f)) first
     go false e false f = tt
 
-by_four : (kind : FormatKind) (digits a b c d : ℕ) (meaning : ℕ → Meaning) → OpcodeRow kind digits a (meaning 0) → OpcodeRow kind digits b (meaning 1) → OpcodeRow kind digits c (meaning 2) → OpcodeRow kind digits d (meaning 3) → (n : ℕ) → OpcodeRows kind digits (of_four a b c d n) (meaning n)
-by_four kind digits a b c d meaning zeroth first second third n = go (nat_eq n 0) refl (nat_eq n 1) refl (nat_eq n 2) refl (nat_eq n 3) refl
+by_four : (kind : FormatKind) (digits a b c d : ℕ) (semantics : ℕ → RowSemantics) → OpcodeRow kind digits a (semantics 0) → OpcodeRow kind digits b (semantics 1) → OpcodeRow kind digits c (semantics 2) → OpcodeRow kind digits d (semantics 3) → (n : ℕ) → OpcodeRows kind digits (of_four a b c d n) (semantics n)
+by_four kind digits a b c d semantics zeroth first second third n = go (nat_eq n 0) refl (nat_eq n 1) refl (nat_eq n 2) refl (nat_eq n 3) refl
   where
-    go : (t : Bool) → nat_eq n 0 ≡ t → (u : Bool) → nat_eq n 1 ≡ u → (v : Bool) → nat_eq n 2 ≡ v → (w : Bool) → nat_eq n 3 ≡ w → OpcodeRows kind digits (cond t (Some a) (cond u (Some b) (cond v (Some c) (cond w (Some d) None)))) (meaning n)
-    go true e u f v g w h = subst (λ i. OpcodeRow kind digits a (meaning i)) (sym (eqb-true n 0 e)) zeroth
-    go false e true f v g w h = subst (λ i. OpcodeRow kind digits b (meaning i)) (sym (eqb-true n 1 f)) first
-    go false e false f true g w h = subst (λ i. OpcodeRow kind digits c (meaning i)) (sym (eqb-true n 2 g)) second
-    go false e false f false g true h = subst (λ i. OpcodeRow kind digits d (meaning i)) (sym (eqb-true n 3 h)) third
+    go : (t : Bool) → nat_eq n 0 ≡ t → (u : Bool) → nat_eq n 1 ≡ u → (v : Bool) → nat_eq n 2 ≡ v → (w : Bool) → nat_eq n 3 ≡ w → OpcodeRows kind digits (cond t (Some a) (cond u (Some b) (cond v (Some c) (cond w (Some d) None)))) (semantics n)
+    go true e u f v g w h = subst (λ i. OpcodeRow kind digits a (semantics i)) (sym (eqb-true n 0 e)) zeroth
+    go false e true f v g w h = subst (λ i. OpcodeRow kind digits b (semantics i)) (sym (eqb-true n 1 f)) first
+    go false e false f true g w h = subst (λ i. OpcodeRow kind digits c (semantics i)) (sym (eqb-true n 2 g)) second
+    go false e false f false g true h = subst (λ i. OpcodeRow kind digits d (semantics i)) (sym (eqb-true n 3 h)) third
     go false e false f false g false h = tt
 
 pub part_rows : (op : ALUOp) (shift : ℕ) → OpcodeRows RiA 4096 (alu_part op shift) (immediate_at (on_selected (part_operator op) (part_mask shift)) (16 * shift) Set)
-unfolding machine_rows row_for meaning_in meaning_of
+unfolding machine_rows row_for semantics_in semantics_of
 part_rows A.And32 shift = by_two RiA 4096 0xa57 0xa56 (λ n. immediate_at (on_selected Select.And (part_mask n)) (16 * n) Set) (record { is = refl }, refl) (record { is = refl }, refl) shift
 part_rows A.And64 shift = by_four RiA 4096 0xa57 0xa56 0xa55 0xa54 (λ n. immediate_at (on_selected Select.And (part_mask n)) (16 * n) Set) (record { is = refl }, refl) (record { is = refl }, refl) (record { is = refl }, refl) (record { is = refl }, refl) shift
 part_rows A.Orr32 shift = by_two RiA 4096 0xa5b 0xa5a (λ n. immediate_at (on_selected Select.Or (part_mask n)) (16 * n) Set) (record { is = refl }, refl) (record { is = refl }, refl) shift
@@ -79,7 +79,7 @@ part_rows A.Orr64 shift = by_four RiA 4096 0xa5b 0xa5a 0xa59 0xa58 (λ n. immedi
 part_rows _ shift = tt
 
 pub half_rows : (op : ALUOp) (shift : ℕ) → OpcodeRows RilA 4096 (alu_half op shift) (immediate_at (on_selected (part_operator op) (half_mask shift)) (32 * shift) Set)
-unfolding machine_rows row_for meaning_in meaning_of
+unfolding machine_rows row_for semantics_in semantics_of
 half_rows A.And32 shift = by_one RilA 4096 0xc0b (λ n. immediate_at (on_selected Select.And (half_mask n)) (32 * n) Set) (record { is = refl }, refl) shift
 half_rows A.And64 shift = by_two RilA 4096 0xc0b 0xc0a (λ n. immediate_at (on_selected Select.And (half_mask n)) (32 * n) Set) (record { is = refl }, refl) (record { is = refl }, refl) shift
 half_rows A.Orr32 shift = by_one RilA 4096 0xc0d (λ n. immediate_at (on_selected Select.Or (half_mask n)) (32 * n) Set) (record { is = refl }, refl) shift
@@ -89,25 +89,25 @@ half_rows A.Xor64 shift = by_two RilA 4096 0xc07 0xc06 (λ n. immediate_at (on_s
 half_rows _ shift = tt
 
 pub load_part_rows : (shift : ℕ) → OpcodeRows RiA 4096 (load_part shift) (immediate_at (on_doublewords Move) (16 * shift) Kept)
-unfolding machine_rows row_for meaning_in meaning_of
+unfolding machine_rows row_for semantics_in semantics_of
 load_part_rows shift = by_four RiA 4096 0xa5f 0xa5e 0xa5d 0xa5c (λ n. immediate_at (on_doublewords Move) (16 * n) Kept) (record { is = refl }, refl) (record { is = refl }, refl) (record { is = refl }, refl) (record { is = refl }, refl) shift
 
 pub load_half_rows : (shift : ℕ) → OpcodeRows RilA 4096 (load_half shift) (immediate_at (on_doublewords Move) (32 * shift) Kept)
-unfolding machine_rows row_for meaning_in meaning_of
+unfolding machine_rows row_for semantics_in semantics_of
 load_half_rows shift = by_two RilA 4096 0xc0f 0xc0e (λ n. immediate_at (on_doublewords Move) (32 * n) Kept) (record { is = refl }, refl) (record { is = refl }, refl) shift
 
 pub insert_part_rows : (shift : ℕ) → OpcodeRows RiA 4096 (insert_part shift) (immediate_at (on_selected Select.Insert (part_mask shift)) (16 * shift) Kept)
-unfolding machine_rows row_for meaning_in meaning_of
+unfolding machine_rows row_for semantics_in semantics_of
 insert_part_rows shift = by_four RiA 4096 0xa53 0xa52 0xa51 0xa50 (λ n. immediate_at (on_selected Select.Insert (part_mask n)) (16 * n) Kept) (record { is = refl }, refl) (record { is = refl }, refl) (record { is = refl }, refl) (record { is = refl }, refl) shift
 
 pub iihf_row : OpcodeRow RilA 4096 0xc08 (immediate_at (on_selected Select.Insert (half_mask 1)) 32 Kept)
-unfolding machine_rows row_for meaning_in meaning_of
+unfolding machine_rows row_for semantics_in semantics_of
 iihf_row = (record { is = refl }, refl)
 
 -- ---- extensions
 
--- the meaning of an extension
-abbrev pub extends : (signed : Bool) → (from to : ℕ) → Meaning
+-- the semantics of an extension
+abbrev pub extends : (signed : Bool) → (from to : ℕ) → RowSemantics
 extends signed from to = computed (extension signed from to) Register Kept
 
 -- how a narrower number is read
@@ -126,7 +126,7 @@ doubleword_opcode signed one eight sixteen thirty_two =
     cond one (Some 0xb906) (cond eight (Some (cond signed 0xb906 0xb984)) (cond sixteen (Some (cond signed 0xb907 0xb985)) (cond thirty_two (Some (cond signed 0xb914 0xb916)) None)))
 
 word_rows : (signed one eight sixteen : Bool) → TwoRows (word_opcode signed one eight sixteen) (computed (with_second Move Word (narrower signed one eight sixteen)) Register Kept)
-unfolding machine_rows row_for meaning_in meaning_of
+unfolding machine_rows row_for semantics_in semantics_of
 word_rows true true eight sixteen = (record { is = refl }, refl)
 word_rows false true eight sixteen = (record { is = refl }, refl)
 word_rows true false true sixteen = (record { is = refl }, refl)
@@ -136,7 +136,7 @@ word_rows false false false true = (record { is = refl }, refl)
 word_rows signed false false false = tt
 
 doubleword_rows : (signed one eight sixteen thirty_two : Bool) → TwoRows (doubleword_opcode signed one eight sixteen thirty_two) (computed (with_second Move Doubleword (narrower signed one eight sixteen)) Register Kept)
-unfolding machine_rows row_for meaning_in meaning_of
+unfolding machine_rows row_for semantics_in semantics_of
 doubleword_rows true true eight sixteen more = (record { is = refl }, refl)
 doubleword_rows false true eight sixteen more = (record { is = refl }, refl)
 doubleword_rows true false true sixteen more = (record { is = refl }, refl)
@@ -156,19 +156,19 @@ pub extend_rows : (signed : Bool) (from to : ℕ) → TwoRows (extend_two signed
 extend_rows signed from to = sized_rows signed from (nat_eq to 32) (nat_eq to 64)
 
 pub ear_row : TwoRow 0xb24f (computed (on_words Move) AccessRegister Kept)
-unfolding machine_rows row_for meaning_in meaning_of
+unfolding machine_rows row_for semantics_in semantics_of
 ear_row = (record { is = refl }, refl)
 
 -- ---- shifts
 
-abbrev pub shift_meaning : ShiftOp → Meaning
-shift_meaning op = Compute (Shift (shift_operator op)) (shift_size op) (record { shape = Amount; width = Bits8; sign = Unsigned; reversed = false }) (shift_rule op)
+abbrev pub shift_semantics : ShiftOp → RowSemantics
+shift_semantics op = Compute (Shift (shift_operator op)) (shift_size op) (record { operand_source = Amount; width = Bits8; sign = Unsigned; reversed = false }) (shift_rule op)
 
-pub shift_rows : (op : ShiftOp) → Meant Rsy Any (shift_storage op) (shift_meaning op)
-unfolding machine_rows row_for meaning_in meaning_of
-shift_rows op = rows (λ n. Rsy) Any 65536 (Some (shift_storage op)) (shift_meaning op) refl (agrees op)
+pub shift_rows : (op : ShiftOp) → Meant Rsy Any (shift_opcode op) (shift_semantics op)
+unfolding machine_rows row_for semantics_in semantics_of
+shift_rows op = rows (λ n. Rsy) Any 65536 (Some (shift_opcode op)) (shift_semantics op) refl (agrees op)
   where
-    agrees : (op : ShiftOp) → Agrees (λ n. Rsy) Any 65536 (Some (shift_storage op)) (shift_meaning op)
+    agrees : (op : ShiftOp) → Agrees (λ n. Rsy) Any 65536 (Some (shift_opcode op)) (shift_semantics op)
     agrees S.RotL32 = refl
     agrees _ = refl
 
@@ -180,7 +180,7 @@ rotate_allows R.Insert = RotateBits
 rotate_allows _ = RotateBitsOrTest
 
 pub rotate_rows : (op : RxSBGOp) → Meant RieF (rotate_allows op) (rotate_then op) (RotateThen (rotate_operator op) (rotate_rule op))
-unfolding machine_rows row_for meaning_in meaning_of
+unfolding machine_rows row_for semantics_in semantics_of
 rotate_rows op = rows (λ n. RieF) (rotate_allows op) 65536 (Some (rotate_then op)) (RotateThen (rotate_operator op) (rotate_rule op)) refl (agrees op)
   where
     agrees : (op : RxSBGOp) → Agrees (λ n. RieF) (rotate_allows op) 65536 (Some (rotate_then op)) (RotateThen (rotate_operator op) (rotate_rule op))
@@ -190,44 +190,44 @@ rotate_rows op = rows (λ n. RieF) (rotate_allows op) 65536 (Some (rotate_then o
 -- ---- pairs
 
 pub mgrk_row : PairRow RrfAb none_but_zero 0xb9ec MultiplySigned
-unfolding machine_rows row_for meaning_in meaning_of
+unfolding machine_rows row_for semantics_in semantics_of
 mgrk_row = record { is = refl }
 
 pub mlgr_row : PairRow Rre Any 0xb986 MultiplyLogical
-unfolding machine_rows row_for meaning_in meaning_of
+unfolding machine_rows row_for semantics_in semantics_of
 mlgr_row = record { is = refl }
 
 pub flogr_row : PairRow Rre Any 0xb983 FindLeftmostOne
-unfolding machine_rows row_for meaning_in meaning_of
+unfolding machine_rows row_for semantics_in semantics_of
 flogr_row = record { is = refl }
 
 -- ---- divisions, and comparisons that trap
 
 pub dsgfr_row : PairRow Rre Any 0xb91d (DivideSigned Bits32)
-unfolding machine_rows row_for meaning_in meaning_of
+unfolding machine_rows row_for semantics_in semantics_of
 dsgfr_row = record { is = refl }
 
 pub dsgr_row : PairRow Rre Any 0xb90d (DivideSigned Bits64)
-unfolding machine_rows row_for meaning_in meaning_of
+unfolding machine_rows row_for semantics_in semantics_of
 dsgr_row = record { is = refl }
 
 pub dlr_row : PairRow Rre Any 0xb997 (DivideLogical Word)
-unfolding machine_rows row_for meaning_in meaning_of
+unfolding machine_rows row_for semantics_in semantics_of
 dlr_row = record { is = refl }
 
 pub dlgr_row : PairRow Rre Any 0xb987 (DivideLogical Doubleword)
-unfolding machine_rows row_for meaning_in meaning_of
+unfolding machine_rows row_for semantics_in semantics_of
 dlgr_row = record { is = refl }
 
 -- what a comparison that traps does, of registers and of an immediate
-abbrev pub trapped : CmpOp → Meaning
+abbrev pub trapped : CmpOp → RowSemantics
 trapped op = CompareAndTrap (comparison op).sign (comparison op).size
 
-abbrev pub immediate_trapped : CmpOp → Meaning
+abbrev pub immediate_trapped : CmpOp → RowSemantics
 immediate_trapped op = CompareImmediateAndTrap (comparison op).sign (comparison op).size
 
 pub trap_rows : (op : CmpOp) → MeantRows RrfCde (FirstMask 0 15) (cmp_trap op) (trapped op)
-unfolding machine_rows row_for meaning_in meaning_of
+unfolding machine_rows row_for semantics_in semantics_of
 trap_rows op = rows (λ n. RrfCde) (FirstMask 0 15) 65536 (cmp_trap op) (trapped op) refl (agrees op)
   where
     agrees : (op : CmpOp) → Agrees (λ n. RrfCde) (FirstMask 0 15) 65536 (cmp_trap op) (trapped op)
@@ -235,7 +235,7 @@ trap_rows op = rows (λ n. RrfCde) (FirstMask 0 15) 65536 (cmp_trap op) (trapped
     agrees _ = refl
 
 pub trap_signed_rows : (op : CmpOp) → MeantRows RieA Any (cmp_trap_signed op) (immediate_trapped op)
-unfolding machine_rows row_for meaning_in meaning_of
+unfolding machine_rows row_for semantics_in semantics_of
 trap_signed_rows op = rows (λ n. RieA) Any 65536 (cmp_trap_signed op) (immediate_trapped op) refl (agrees op)
   where
     agrees : (op : CmpOp) → Agrees (λ n. RieA) Any 65536 (cmp_trap_signed op) (immediate_trapped op)
@@ -243,7 +243,7 @@ trap_signed_rows op = rows (λ n. RieA) Any 65536 (cmp_trap_signed op) (immediat
     agrees _ = refl
 
 pub trap_unsigned_rows : (op : CmpOp) → MeantRows RieA Any (cmp_trap_unsigned op) (immediate_trapped op)
-unfolding machine_rows row_for meaning_in meaning_of
+unfolding machine_rows row_for semantics_in semantics_of
 trap_unsigned_rows op = rows (λ n. RieA) Any 65536 (cmp_trap_unsigned op) (immediate_trapped op) refl (agrees op)
   where
     agrees : (op : CmpOp) → Agrees (λ n. RieA) Any 65536 (cmp_trap_unsigned op) (immediate_trapped op)
@@ -255,38 +255,38 @@ trap_unsigned_rows op = rows (λ n. RieA) Any 65536 (cmp_trap_unsigned op) (imme
 abbrev pub any_mask : Allowed
 any_mask = FirstMask 0 15
 
-pub locr_row : Meant RrfCde any_mask 0xb9f2 (MoveWhere Word (second_register Register word))
-unfolding machine_rows row_for meaning_in meaning_of
+pub locr_row : Meant RrfCde any_mask 0xb9f2 (MoveWhere Word (second_register Register unsigned_word))
+unfolding machine_rows row_for semantics_in semantics_of
 locr_row = (record { is = refl }, refl)
 
 pub locgr_row : Meant RrfCde any_mask 0xb9e2 (MoveWhere Doubleword (second_register Register doubleword))
-unfolding machine_rows row_for meaning_in meaning_of
+unfolding machine_rows row_for semantics_in semantics_of
 locgr_row = (record { is = refl }, refl)
 
 pub lochi_row : Meant RieG Any 0xec42 (MoveWhere Word (second_register Immediate signed_halfword))
-unfolding machine_rows row_for meaning_in meaning_of
+unfolding machine_rows row_for semantics_in semantics_of
 lochi_row = (record { is = refl }, refl)
 
 pub locghi_row : Meant RieG Any 0xec46 (MoveWhere Doubleword (second_register Immediate signed_halfword))
-unfolding machine_rows row_for meaning_in meaning_of
+unfolding machine_rows row_for semantics_in semantics_of
 locghi_row = (record { is = refl }, refl)
 
 pub popcnt_row : Meant RrfCde CountMode 0xb9e1 CountOnes
-unfolding machine_rows row_for meaning_in meaning_of
+unfolding machine_rows row_for semantics_in semantics_of
 popcnt_row = (record { is = refl }, refl)
 
 pub bcr_row : Meant Rr Any 0x07 BranchToRegister
-unfolding machine_rows row_for meaning_in meaning_of
+unfolding machine_rows row_for semantics_in semantics_of
 bcr_row = (record { is = refl }, refl)
 
 -- ---- indexed addresses
 
 -- a row that puts any value, where there is one
 abbrev pub AnyRows : Option ℕ → Type 0
-AnyRows o = MeantRows Rxy Any o PutAny
+AnyRows o = MeantRows Rxy Any o Havoc
 
 any_rows : (one two three four : Bool) → AnyRows (cond one (Some 0xe362) (cond two (Some 0xe364) (cond three (Some 0xe366) (cond four (Some 0xe368) None))))
-unfolding machine_rows row_for meaning_in meaning_of
+unfolding machine_rows row_for semantics_in semantics_of
 any_rows true two three four = (record { is = refl }, refl)
 any_rows false true three four = (record { is = refl }, refl)
 any_rows false false true four = (record { is = refl }, refl)
@@ -294,7 +294,7 @@ any_rows false false false true = (record { is = refl }, refl)
 any_rows false false false false = tt
 
 logical_any_rows : (one two three four : Bool) → AnyRows (cond one (Some 0xe363) (cond two (Some 0xe365) (cond three (Some 0xe367) (cond four (Some 0xe369) None))))
-unfolding machine_rows row_for meaning_in meaning_of
+unfolding machine_rows row_for semantics_in semantics_of
 logical_any_rows true two three four = (record { is = refl }, refl)
 logical_any_rows false true three four = (record { is = refl }, refl)
 logical_any_rows false false true four = (record { is = refl }, refl)

@@ -10,28 +10,28 @@ use Rattle.s390x_format.specs.View.{fields_of}
 use Rattle.s390x_format.specs.declared.row.Allowed.{Allowed}
 use Rattle.s390x_format.specs.declared.kind.FormatKind.{FormatKind}
 use Rattle.s390x_format.specs.declared.kind.FormatKind.TheVariants.{Rr}
-use Rattle.s390x_steps.specs.Alone.{alone_with}
-use Rattle.s390x_steps.specs.MachineInstruction.{MachineInstruction, bytes_of, size_of}
-use Rattle.s390x_steps.specs.Steps.{Step}
-use Rattle.s390x_steps.specs.Parts.{Part, Row, Trapping, parts_size, parts_or, step_parts, stopping}
-use Rattle.s390x_steps.specs.Traps.{parts_traps, first_code}
+use Rattle.s390x_typed_steps.specs.SingleInstruction.{single_with}
+use Rattle.s390x_typed_steps.specs.MachineInstruction.{MachineInstruction, bytes_of, size_of}
+use Rattle.s390x_typed_steps.specs.Steps.{Step}
+use Rattle.s390x_typed_steps.specs.Parts.{CodePart, Row, Trapping, parts_size, parts_or, step_parts, stopping}
+use Rattle.s390x_typed_steps.specs.Traps.{parts_traps, first_code}
 use Rattle.s390x_operations.specs.State.{Registers}
 use Rattle.s390x_operations.specs.Effects.{Refines, refused, MayRefuse}
 use Rattle.s390x_operations.specs.declared.effect.Operation.{Operation}
 use Rattle.s390x_operations.specs.declared.effect.CodeRule.{CodeRule}
 use Rattle.s390x_operations.specs.declared.stop.StopKind.{StopKind}
-use Rattle.s390x_machine.specs.declared.meaning.Meaning.{Meaning}
-use Rattle.s390x_machine.specs.declared.meaning.Action.{Action}
-use Rattle.s390x_machine.specs.declared.meaning.Action.TheVariants.{Perform}
+use Rattle.s390x_machine.specs.declared.semantics.RowSemantics.{RowSemantics}
+use Rattle.s390x_machine.specs.declared.semantics.Action.{Action}
+use Rattle.s390x_machine.specs.declared.semantics.Action.TheVariants.{Perform}
 use Rattle.s390x_machine.specs.Computations.{Computation, Comparison, computes, compares, computes_immediate, compares_immediate}
-use Rattle.s390x_machine.specs.Forms.{Form, Performs, no_code}
-use Rattle.s390x_machine.specs.Layout.{Layout, place}
+use Rattle.s390x_machine.specs.StepKinds.{StepKind, Performs, no_code}
+use Rattle.s390x_machine.specs.Layout.{Layout, step_address}
 use Rattle.s390x_machine.specs.OneStep.{StepRuns}
-use Rattle.s390x_machine.specs.Meanings.{register_field}
+use Rattle.s390x_machine.specs.Semantics.{register_field}
 use Rattle.s390x_machine.specs.Operands.{performed_where}
-use Rattle.s390x_machine.specs.Placed.{Placed, AllPlaced, FineOr}
-use Rattle.s390x_machine.specs.Typed.{form_of, form_at}
-use Rattle.s390x_machine.proofs.Alone.{Doing, DoesThere, meant_at, pair_at}
+use Rattle.s390x_machine.specs.CodeAt.{CodeAt, AllCodeAt, OperandsValidOr}
+use Rattle.s390x_machine.specs.Typed.{kind_of_step, kind_at}
+use Rattle.s390x_machine.proofs.SingleInstruction.{Doing, DoesThere, meant_at, pair_at}
 use Rattle.s390x_machine.proofs.Fetching.{StandsAt}
 use Rattle.s390x_machine.proofs.Listing.{ListedRow, PairRow}
 use Rattle.s390x_machine.proofs.RegisterNumbers.{even_pair}
@@ -79,57 +79,57 @@ where_never false op code none free = never_by_values (performed_where false op)
 -- ---- the rows of a step of one part
 
 pub record OneRow (L : Layout) (k : ℕ) (m : MachineInstruction) : Type 0 where
-  pub stands : StandsAt L.image (L.places.step k) (bytes_of m)
-  pub size : L.places.step (suc k) ≡ L.places.step k + size_of m
+  pub stands : StandsAt L.image (L.offsets.step k) (bytes_of m)
+  pub size : L.offsets.step (suc k) ≡ L.offsets.step k + size_of m
 
 -- the same of a row with a trap recorded at one of its bytes, where the table has its code
 pub record Recorded (L : Layout) (k : ℕ) (m : MachineInstruction) (byte : ℕ) (code : TrapKind) : Type 0 where
   pub row : OneRow L k m
-  pub found : first_code L.traps (L.places.step k + byte) ≡ Some code
+  pub found : first_code L.traps (L.offsets.step k + byte) ≡ Some code
 
 -- a step of a layout whose bytes stand at its place
 pub record StepAt (L : Layout) (k : ℕ) (s : Step) : Type 0 where
-  pub all : AllPlaced L
+  pub all : AllCodeAt L
   pub at : slice_get L.steps k ≡ Some s
-  pub placed : Placed L k s
+  pub placed : CodeAt L k s
 
 -- a step that is this operation, and one row
 abbrev pub IsRow : Layout → Step → MachineInstruction → (Registers → Operation) → Type 0
-IsRow L s x operation = (form_of L (Some s) ≡ Some (Performs false operation no_code)) × (step_parts s ≡ Row x ∷ [])
+IsRow L s x operation = (kind_of_step L (Some s) ≡ Some (Performs false operation no_code)) × (step_parts s ≡ Row x ∷ [])
 
 -- one that may have a row
-abbrev pub IsAlone : Layout → Step → (fine : Bool) → Option MachineInstruction → (Registers → Operation) → Type 0
-IsAlone L s fine o operation =
-    (form_of L (Some s) ≡ Some (Performs false operation no_code)) × (step_parts s ≡ parts_or (alone_with fine o) None []) × FineOr (alone_with fine o) ⊥
+abbrev pub IsAlone : Layout → Step → (operands_valid : Bool) → Option MachineInstruction → (Registers → Operation) → Type 0
+IsAlone L s operands_valid o operation =
+    (kind_of_step L (Some s) ≡ Some (Performs false operation no_code)) × (step_parts s ≡ parts_or (single_with operands_valid o) None []) × OperandsValidOr (single_with operands_valid o) ⊥
 
 module _ {L : Layout} {k : ℕ} {s : Step} (b : StepAt L k s) where
   pub step_within : suc k ≤ length L.steps
   step_within = slice_get_within L.steps k s b.at
 
-  pub step_even : L.places.step k % 2 ≡ 0
+  pub step_even : L.offsets.step k % 2 ≡ 0
   step_even = offset_even L b.all k (omega (arith, step_within))
 
-  pub step_small : L.places.step k < 2 ^ 31
+  pub step_small : L.offsets.step k < 2 ^ 31
   step_small = offset_small L b.all k (omega (arith, step_within))
 
-  pub step_form : (f : Form) → form_of L (Some s) ≡ Some f → form_at L k ≡ Some f
-  step_form f e = ap (form_of L) b.at ∙ e
+  pub step_form : (f : StepKind) → kind_of_step L (Some s) ≡ Some f → kind_at L k ≡ Some f
+  step_form f e = ap (kind_of_step L) b.at ∙ e
 
   -- its parts stand one behind another, and fill it
-  pub stand_as : (parts : List Part) → step_parts s ≡ parts → PartsStand L (L.places.step k) parts
-  stand_as parts is = subst (λ ps. PartsStand L (L.places.step k) ps) is (step_stands L k s b.placed)
+  pub stand_as : (parts : List CodePart) → step_parts s ≡ parts → PartsStand L (L.offsets.step k) parts
+  stand_as parts is = subst (λ ps. PartsStand L (L.offsets.step k) ps) is (step_stands L k s b.placed)
 
-  pub size_as : (parts : List Part) → step_parts s ≡ parts → L.places.step (suc k) ≡ L.places.step k + parts_size parts
-  size_as parts is = b.placed.size ∙ ap (λ ps. L.places.step k + parts_size ps) is
+  pub size_as : (parts : List CodePart) → step_parts s ≡ parts → L.offsets.step (suc k) ≡ L.offsets.step k + parts_size parts
+  size_as parts is = b.placed.size ∙ ap (λ ps. L.offsets.step k + parts_size ps) is
 
   pub one_row : (m : MachineInstruction) → step_parts s ≡ Row m ∷ [] → OneRow L k m
   one_row m is =
       let size : parts_size (Row m ∷ []) ≡ size_of m = omega arith in
-      record { stands = (stand_as (Row m ∷ []) is).0; size = size_as (Row m ∷ []) is ∙ ap (λ n. L.places.step k + n) size }
+      record { stands = (stand_as (Row m ∷ []) is).0; size = size_as (Row m ∷ []) is ∙ ap (λ n. L.offsets.step k + n) size }
 
   pub one_recorded : (m : MachineInstruction) (byte : ℕ) (code : TrapKind) → step_parts s ≡ Trapping m byte code ∷ [] → byte < size_of m → Recorded L k m byte code
   one_recorded m byte code is lt =
-      let o = L.places.step k in
+      let o = L.offsets.step k in
       let size : parts_size (Trapping m byte code ∷ []) ≡ size_of m = omega arith in
       let next = size_as (Trapping m byte code ∷ []) is ∙ ap (λ n. o + n) size in
       record {
@@ -138,39 +138,39 @@ module _ {L : Layout} {k : ℕ} {s : Step} (b : StepAt L k s) where
       }
 
   -- a row by itself, which does the step's operation
-  pub row_alone : (operation : Registers → Operation) (code : StopKind → Option TrapKind) (act : Registers → Action) (size : ℕ) → form_of L (Some s) ≡ Some (Performs false operation code) → RowAt L (place L k) act size → ((r : Registers) → DoesAs (act r) (operation r)) →
-      Coded L (place L k) code → ((r : Registers) → ValuesCoded (operation r) code) → L.places.step (suc k) ≡ L.places.step k + size → 0 < size → StepRuns L k
-  row_alone operation code act size is row does at coded e some c lies =
-      general_step L k c [] (place L k) act size false 0 operation code (step_form _ is) (at_start L k c (inside_first L k size e some) lies) row (does c.registers) (next_place L k size e) at (coded c.registers)
+  pub row_alone : (operation : Registers → Operation) (code : StopKind → Option TrapKind) (act : Registers → Action) (size : ℕ) → kind_of_step L (Some s) ≡ Some (Performs false operation code) → RowAt L (step_address L k) act size → ((r : Registers) → DoesAs (act r) (operation r)) →
+      Coded L (step_address L k) code → ((r : Registers) → ValuesCoded (operation r) code) → L.offsets.step (suc k) ≡ L.offsets.step k + size → 0 < size → StepRuns L k
+  row_alone operation code act size is row does at with_code e some c is_loaded =
+      general_step L k c [] (step_address L k) act size false 0 operation code (step_form _ is) (at_start L k c (inside_first L k size e some) is_loaded) row (does c.registers) (next_place L k size e) at (with_code c.registers)
 
   -- one that is as free as the step's operation, or less
-  pub looser_runs : (x : MachineInstruction) (does operation : Registers → Operation) → ((r : Registers) → Refines (does r) (operation r)) → NeverStops operation → IsRow L s x operation → DoesThere L b.all (L.places.step k) step_even x does → StepRuns L k
+  pub looser_runs : (x : MachineInstruction) (does operation : Registers → Operation) → ((r : Registers) → Refines (does r) (operation r)) → NeverStops operation → IsRow L s x operation → DoesThere L b.all (L.offsets.step k) step_even x does → StepRuns L k
   looser_runs x does operation refines never is at_row =
       let one = one_row x is.1 in
-      row_alone operation no_code (λ r. Perform (does r)) (size_of x) is.0 (at_row one.stands) refines (uncoded L (place L k)) never one.size (some_bytes x.format)
+      row_alone operation no_code (λ r. Perform (does r)) (size_of x) is.0 (at_row one.stands) refines (uncoded L (step_address L k)) never one.size (some_bytes x.format)
 
-  pub row_runs : (x : MachineInstruction) (operation : Registers → Operation) → NeverStops operation → IsRow L s x operation → DoesThere L b.all (L.places.step k) step_even x operation → StepRuns L k
+  pub row_runs : (x : MachineInstruction) (operation : Registers → Operation) → NeverStops operation → IsRow L s x operation → DoesThere L b.all (L.offsets.step k) step_even x operation → StepRuns L k
   row_runs x operation never is at_row = looser_runs x operation operation (λ r. exactly (operation r)) never is at_row
 
   -- any row whose action is the step's operation
-  pub meant_runs : {allowed : Allowed} {digits : ℕ} (x : MachineInstruction) (meaning : Meaning) (operation : Registers → Operation) → NeverStops operation → IsRow L s x operation → ListedRow x.format allowed digits (slice_index x.slots 0) meaning → SlotsFit (layout_of x.format) x.slots → is_allowed allowed x.slots ≡ true → Doing (fields_of x.format x.slots) meaning operation → StepRuns L k
-  meant_runs x meaning operation never is row fit allows acts = row_runs x operation never is (λ st. meant_at L b.all (L.places.step k) step_even x meaning operation row fit allows acts st)
+  pub meant_runs : {allowed : Allowed} {digits : ℕ} (x : MachineInstruction) (semantics : RowSemantics) (operation : Registers → Operation) → NeverStops operation → IsRow L s x operation → ListedRow x.format allowed digits (slice_index x.slots 0) semantics → SlotsFit (layout_of x.format) x.slots → is_allowed allowed x.slots ≡ true → Doing (fields_of x.format x.slots) semantics operation → StepRuns L k
+  meant_runs x semantics operation never is row fit allows acts = row_runs x operation never is (λ st. meant_at L b.all (L.offsets.step k) step_even x semantics operation row fit allows acts st)
 
   -- a row of an even pair whose action is the step's operation
-  pub pair_runs : {allowed : Allowed} (x : MachineInstruction) (meaning : Meaning) (operation : Registers → Operation) → NeverStops operation → IsRow L s x operation → PairRow x.format allowed (slice_index x.slots 0) meaning → register_field (fields_of x.format x.slots) 0 % 2 ≡ 0 →
-      SlotsFit (layout_of x.format) x.slots → is_allowed allowed x.slots ≡ true → Doing (fields_of x.format x.slots) meaning operation → StepRuns L k
-  pair_runs x meaning operation never is row is_even fit allows acts =
-      row_runs x operation never is (λ st. pair_at L b.all (L.places.step k) step_even x meaning operation row (even_pair meaning (fields_of x.format x.slots) is_even) fit allows acts st)
+  pub pair_runs : {allowed : Allowed} (x : MachineInstruction) (semantics : RowSemantics) (operation : Registers → Operation) → NeverStops operation → IsRow L s x operation → PairRow x.format allowed (slice_index x.slots 0) semantics → register_field (fields_of x.format x.slots) 0 % 2 ≡ 0 →
+      SlotsFit (layout_of x.format) x.slots → is_allowed allowed x.slots ≡ true → Doing (fields_of x.format x.slots) semantics operation → StepRuns L k
+  pair_runs x semantics operation never is row is_even fit allows acts =
+      row_runs x operation never is (λ st. pair_at L b.all (L.offsets.step k) step_even x semantics operation row (even_pair semantics (fields_of x.format x.slots) is_even) fit allows acts st)
 
   -- a row by itself, whose stop has a code at its last byte
   pub coded_runs : (x : MachineInstruction) (operation : Registers → Operation) (code : StopKind → Option TrapKind) (n : TrapKind) → ((r : Registers) → ValuesCoded (operation r) code) → ((kind : StopKind) (y : TrapKind) → code kind ≡ Some y → IsLate L kind × (y ≡ n)) →
-      form_of L (Some s) ≡ Some (Performs false operation code) → step_parts s ≡ stopping x n ∷ [] → fetch_length_of (get_or (bytes_of x) 0 0) ≡ size_of x → DoesThere L b.all (L.places.step k) step_even x operation → StepRuns L k
+      kind_of_step L (Some s) ≡ Some (Performs false operation code) → step_parts s ≡ stopping x n ∷ [] → fetch_length_of (get_or (bytes_of x) 0 0) ≡ size_of x → DoesThere L b.all (L.offsets.step k) step_even x operation → StepRuns L k
   coded_runs x operation code n values late is parts tells at_row =
-      let o = L.places.step k in
+      let o = L.offsets.step k in
       let some : 0 < size_of x = some_bytes x.format in
       let one = one_recorded x (size_of x - 1) n parts (omega (arith, some)) in
       let long : 0 < length (bytes_of x) = omega (arith, encode-length x.format x.slots, some) in
-      let coded : Coded L (place L k) code = λ kind y e.
+      let with_code : Coded L (step_address L k) code = λ kind y e.
       let h = late kind y e in
       late_code L b.all.fits o (bytes_of x) one.row.stands long kind h.0 ∙ ap (λ n. first_code L.traps (o + (n - 1))) tells ∙ one.found ∙ ap Some (sym h.1) in
-      row_alone operation code (λ r. Perform (operation r)) (size_of x) is (at_row one.row.stands) (λ r. exactly (operation r)) coded values one.row.size some
+      row_alone operation code (λ r. Perform (operation r)) (size_of x) is (at_row one.row.stands) (λ r. exactly (operation r)) with_code values one.row.size some

@@ -8,36 +8,36 @@ use Rattle.s390x_base.specs.declared.error.EmitError.{EmitError}
 use Rattle.s390x_base.specs.declared.error.EmitError.TheVariants.{BadOperator, BadRegister, ScratchConflict, OffsetOutOfRange, UnboundLabel, BadStackState}
 use Rattle.s390x_inst.specs.declared.inst.Inst.{Inst}
 use Rattle.s390x_inst.specs.declared.inst.Inst.TheVariants.{Jump, CondBr, IndirectBr, Ret, CondBreak, Nop0, LabelAddress, LoadSymbolReloc, Trap, TrapIf, Debugtrap, JTSequence, AllocateArgs, Args, Rets, DummyUse, SequencePoint}
-use Rattle.s390x_steps.specs.Stack.{nominal_after}
-use Rattle.s390x_steps.specs.Causes.{first, unless, facility_cause, label_cause, labels_cause, cause_or, loses_scratch, addend_fits, place_cause, memory_cause_or, instruction_cause, numbers_cause, nesting_cause, draws, tree_cause, block_cause, blocks_cause, nominal_behind, leaf_cause, instruction_draws}
-use Rattle.s390x_steps.specs.Alone.{Alone, alone}
-use Rattle.s390x_steps.specs.General.{is_general, is_nonzero, is_scratch}
-use Rattle.s390x_steps.specs.Memory.{MemoryInstruction, memory, type_of}
-use Rattle.s390x_steps.specs.Operands.{has_form, operand_general, offset_fits}
-use Rattle.s390x_steps.specs.Ranges.{MemoryInRange, InRange, AllInRange, BlocksInRange}
-use Rattle.s390x_steps.specs.Rows.{Outside}
-use Rattle.s390x_steps.specs.Tree.{Tree, empty, leaf, looped}
-use Rattle.s390x_steps.specs.Steps.{Step, Opening, Back, step_count, step_of, steps_of, steps_from, function_steps}
+use Rattle.s390x_typed_steps.specs.Stack.{nominal_after}
+use Rattle.s390x_typed_steps.specs.Causes.{first_emit_cause, unless, facility_cause, target_label_cause, labels_cause, cause_or, loses_scratch, addend_fits, target_cause, memory_cause_or, instruction_cause, numbers_cause, nesting_cause, fresh_labels, tree_cause, block_cause, blocks_cause, nominal_behind, leaf_cause, instruction_fresh_labels}
+use Rattle.s390x_typed_steps.specs.SingleInstruction.{SingleInstruction, single_instruction}
+use Rattle.s390x_typed_steps.specs.General.{is_general, is_nonzero, is_scratch}
+use Rattle.s390x_typed_steps.specs.Memory.{MemoryInstruction, memory, type_of}
+use Rattle.s390x_typed_steps.specs.Operands.{has_form, operand_general, offset_fits}
+use Rattle.s390x_typed_steps.specs.Ranges.{MemoryInRange, InRange, AllInRange, BlocksInRange}
+use Rattle.s390x_typed_steps.specs.Rows.{LinkEnvironment}
+use Rattle.s390x_typed_steps.specs.Tree.{Tree, empty, leaf, loop_node}
+use Rattle.s390x_typed_steps.specs.Steps.{Step, Opening, Back, step_count, step_of, steps_of, steps_from, function_steps}
 use Rattle.s390x_operations.specs.State.{CodeImage}
 use Rattle.s390x_machine.specs.Functions.{function_layout}
 use Rattle.s390x_machine.specs.Layout.{Layout, declared}
-use Rattle.s390x_machine.specs.Placed.{IsBlock, AreBlocks, FineOr, FineMemoryOr, IsFine}
+use Rattle.s390x_machine.specs.CodeAt.{IsBlock, AreBlocks, OperandsValidOr, ValidMemoryOr, IsValidStep}
 use Rattle.s390x_machine.proofs.Functions.{count_of}
 use Rattle.s390x_machine.proofs.Relative.{first_none, unless_none}
 
 module _ (L : Layout) where
-  fine_alone : (o : Option Alone) (m : Option MemoryInstruction) → cause_or o (memory_cause_or (declared L) m (Some BadOperator)) ≡ None → MemoryInRange m → FineOr o (FineMemoryOr L m ⊥)
-  fine_alone None None e range = absurd (cc)
-  fine_alone None (Some x) e range =
+  valid_single : (o : Option SingleInstruction) (m : Option MemoryInstruction) → cause_or o (memory_cause_or (declared L) m (Some BadOperator)) ≡ None → MemoryInRange m → OperandsValidOr o (ValidMemoryOr L m ⊥)
+  valid_single None None e range = absurd (cc)
+  valid_single None (Some x) e range =
       let form = has_form (type_of x.form x.accesses) x.operand in
-      let registers = x.fine && operand_general x.operand in
+      let registers = x.operands_valid && operand_general x.operand in
       let scratch = unless (not (loses_scratch x)) ScratchConflict in
       let fits = offset_fits x.operand && addend_fits x.operand in
       let offset = unless fits OffsetOutOfRange in
-      let place = place_cause (declared L) x in
-      let a = first_none (unless form BadOperator) (first (unless registers BadRegister) (first (first scratch offset) place)) e in
-      let b = first_none (unless registers BadRegister) (first (first scratch offset) place) a.1 in
-      let c = first_none (first scratch offset) place b.1 in
+      let place = target_cause (declared L) x in
+      let a = first_none (unless form BadOperator) (first_emit_cause (unless registers BadRegister) (first_emit_cause (first_emit_cause scratch offset) place)) e in
+      let b = first_none (unless registers BadRegister) (first_emit_cause (first_emit_cause scratch offset) place) a.1 in
+      let c = first_none (first_emit_cause scratch offset) place b.1 in
       let d = first_none scratch offset c.0 in
       record {
         form = unless_none form BadOperator a.0;
@@ -45,94 +45,94 @@ module _ (L : Layout) where
         kept = unless_none (not (loses_scratch x)) ScratchConflict d.0;
         offset = (and_parts (offset_fits x.operand) (addend_fits x.operand) (unless_none fits OffsetOutOfRange d.1)).0;
         range = range;
-        place = c.1;
+        target = c.1;
       }
-  fine_alone (Some x) m e range = unless_none x.fine BadRegister e
+  valid_single (Some x) m e range = unless_none x.operands_valid BadRegister e
 
-  block_of : (l : MachLabel) → label_cause L.block_count l ≡ None → IsBlock L l.0
+  block_of : (l : MachLabel) → target_label_cause L.block_count l ≡ None → IsBlock L l.0
   block_of l e = ltb-true l.0 L.block_count (unless_none (nat_lt l.0 L.block_count) UnboundLabel e)
 
   blocks_of : (ls : List MachLabel) → labels_cause L.block_count ls ≡ None → AreBlocks L ls
   blocks_of [] e = tt
-  blocks_of (l ∷ ls) e = let parts = first_none (label_cause L.block_count l) (labels_cause L.block_count ls) e in (block_of l parts.0, blocks_of ls parts.1)
+  blocks_of (l ∷ ls) e = let parts = first_none (target_label_cause L.block_count l) (labels_cause L.block_count ls) e in (block_of l parts.0, blocks_of ls parts.1)
 
   -- an instruction, in so many loops, the innermost of which ends at a step
-  fine_step : (flags : IsaFlags) (nominal depth after : ℕ) (i : Inst) → instruction_cause flags (declared L) nominal depth i ≡ None → InRange i → (0 < depth → after ≤ length L.steps) → IsFine L (step_of after i)
-  fine_step flags nominal depth after (Jump dest) e range le = block_of dest e
-  fine_step flags nominal depth after (CondBr taken not_taken mask) e range le = let parts = first_none (label_cause L.block_count taken) (label_cause L.block_count not_taken) e in (block_of taken parts.0, block_of not_taken parts.1, range.0)
-  fine_step flags nominal depth after (IndirectBr rn targets) e range le =
+  valid_step : (flags : IsaFlags) (nominal depth after : ℕ) (i : Inst) → instruction_cause flags (declared L) nominal depth i ≡ None → InRange i → (0 < depth → after ≤ length L.steps) → IsValidStep L (step_of after i)
+  valid_step flags nominal depth after (Jump dest) e range le = block_of dest e
+  valid_step flags nominal depth after (CondBr taken not_taken mask) e range le = let parts = first_none (target_label_cause L.block_count taken) (target_label_cause L.block_count not_taken) e in (block_of taken parts.0, block_of not_taken parts.1, range.0)
+  valid_step flags nominal depth after (IndirectBr rn targets) e range le =
       let parts = first_none (unless (is_general rn && is_nonzero rn) BadRegister) (labels_cause L.block_count targets.items) e in
       let regs = and_parts (is_general rn) (is_nonzero rn) (unless_none (is_general rn && is_nonzero rn) BadRegister parts.0) in
       (regs.0, regs.1, blocks_of targets.items parts.1)
-  fine_step flags nominal depth after (Ret link) e range le = and_parts (is_general link) (is_nonzero link) (unless_none (is_general link && is_nonzero link) BadRegister e)
-  fine_step flags nominal depth after (JTSequence ridx other mask targets) e range le =
-      let registers = first_none (unless (is_general ridx && is_nonzero ridx) BadRegister) (first (unless (not (is_scratch ridx)) ScratchConflict) (first (label_cause L.block_count other) (labels_cause L.block_count targets.items))) e in
-      let scratch = first_none (unless (not (is_scratch ridx)) ScratchConflict) (first (label_cause L.block_count other) (labels_cause L.block_count targets.items)) registers.1 in
-      let labels = first_none (label_cause L.block_count other) (labels_cause L.block_count targets.items) scratch.1 in
+  valid_step flags nominal depth after (Ret link) e range le = and_parts (is_general link) (is_nonzero link) (unless_none (is_general link && is_nonzero link) BadRegister e)
+  valid_step flags nominal depth after (JTSequence ridx other mask targets) e range le =
+      let registers = first_none (unless (is_general ridx && is_nonzero ridx) BadRegister) (first_emit_cause (unless (not (is_scratch ridx)) ScratchConflict) (first_emit_cause (target_label_cause L.block_count other) (labels_cause L.block_count targets.items))) e in
+      let scratch = first_none (unless (not (is_scratch ridx)) ScratchConflict) (first_emit_cause (target_label_cause L.block_count other) (labels_cause L.block_count targets.items)) registers.1 in
+      let labels = first_none (target_label_cause L.block_count other) (labels_cause L.block_count targets.items) scratch.1 in
       let general = and_parts (is_general ridx) (is_nonzero ridx) (unless_none (is_general ridx && is_nonzero ridx) BadRegister registers.0) in
       (general.0, general.1, unless_none (not (is_scratch ridx)) ScratchConflict scratch.0, block_of other labels.0, blocks_of targets.items labels.1, range.0)
-  fine_step flags nominal depth after (CondBreak mask) e range le = (range.0, le (ltb-true 0 depth (unless_none (nat_lt 0 depth) Rattle.s390x_base.specs.declared.error.EmitError.TheVariants.BreakOutsideLoop e)))
-  fine_step flags nominal depth after Nop0 e range le = tt
-  fine_step flags nominal depth after (Args args) e range le = tt
-  fine_step flags nominal depth after (Rets rets) e range le = tt
-  fine_step flags nominal depth after (DummyUse reg) e range le = tt
-  fine_step flags nominal depth after SequencePoint e range le = tt
-  fine_step flags nominal depth after (AllocateArgs size) e range le = refl
-  fine_step flags nominal depth after (LabelAddress dst label) e range le =
-      let parts = first_none (unless (is_general dst) BadRegister) (label_cause L.block_count label) e in
+  valid_step flags nominal depth after (CondBreak mask) e range le = (range.0, le (ltb-true 0 depth (unless_none (nat_lt 0 depth) Rattle.s390x_base.specs.declared.error.EmitError.TheVariants.BreakOutsideLoop e)))
+  valid_step flags nominal depth after Nop0 e range le = tt
+  valid_step flags nominal depth after (Args args) e range le = tt
+  valid_step flags nominal depth after (Rets rets) e range le = tt
+  valid_step flags nominal depth after (DummyUse reg) e range le = tt
+  valid_step flags nominal depth after SequencePoint e range le = tt
+  valid_step flags nominal depth after (AllocateArgs size) e range le = refl
+  valid_step flags nominal depth after (LabelAddress dst label) e range le =
+      let parts = first_none (unless (is_general dst) BadRegister) (target_label_cause L.block_count label) e in
       (unless_none (is_general dst) BadRegister parts.0, block_of label parts.1)
-  fine_step flags nominal depth after (LoadSymbolReloc rd reloc) e range le = unless_none (is_general rd) BadRegister e
-  fine_step flags nominal depth after (Trap code) e range le = tt
-  fine_step flags nominal depth after (TrapIf mask code) e range le = range.0
-  fine_step flags nominal depth after Debugtrap e range le = tt
-  fine_step flags nominal depth after i e range le = fine_alone (alone i) (memory i) (first_none (facility_cause flags i) (cause_or (alone i) (memory_cause_or (declared L) (memory i) (Some BadOperator))) e).1 range.1
+  valid_step flags nominal depth after (LoadSymbolReloc rd reloc) e range le = unless_none (is_general rd) BadRegister e
+  valid_step flags nominal depth after (Trap code) e range le = tt
+  valid_step flags nominal depth after (TrapIf mask code) e range le = range.0
+  valid_step flags nominal depth after Debugtrap e range le = tt
+  valid_step flags nominal depth after i e range le = valid_single (single_instruction i) (memory i) (first_none (facility_cause flags i) (cause_or (single_instruction i) (memory_cause_or (declared L) (memory i) (Some BadOperator))) e).1 range.1
 
   -- each of some steps is fine
-  AllFine : List Step → Type 0
-  AllFine ss = (j : ℕ) (s : Step) → slice_get ss j ≡ Some s → IsFine L s
+  AllValid : List Step → Type 0
+  AllValid ss = (j : ℕ) (s : Step) → slice_get ss j ≡ Some s → IsValidStep L s
 
-  fine_cons : (x : Step) (ss : List Step) → IsFine L x → AllFine ss → AllFine (x ∷ ss)
-  unfolding AllFine
-  fine_cons x ss h all zero s e = let same : x ≡ s = cc in subst (λ y. IsFine L y) same h
-  fine_cons x ss h all (suc j) s e = all j s e
+  valid_cons : (x : Step) (ss : List Step) → IsValidStep L x → AllValid ss → AllValid (x ∷ ss)
+  unfolding AllValid
+  valid_cons x ss h all zero s e = let same : x ≡ s = cc in subst (λ y. IsValidStep L y) same h
+  valid_cons x ss h all (suc j) s e = all j s e
 
-  fine_append : (xs ys : List Step) → AllFine xs → AllFine ys → AllFine (xs ++ ys)
-  unfolding AllFine
-  fine_append [] ys a b j s e = b j s e
-  fine_append (x ∷ xs) ys a b zero s e = a zero s e
-  fine_append (x ∷ xs) ys a b (suc j) s e = fine_append xs ys (λ i t h. a (suc i) t h) b j s e
+  valid_append : (xs ys : List Step) → AllValid xs → AllValid ys → AllValid (xs ++ ys)
+  unfolding AllValid
+  valid_append [] ys a b j s e = b j s e
+  valid_append (x ∷ xs) ys a b zero s e = a zero s e
+  valid_append (x ∷ xs) ys a b (suc j) s e = valid_append xs ys (λ i t h. a (suc i) t h) b j s e
 
-  fine_tree : (flags : IsaFlags) (k after n nominal depth : ℕ) (t : Tree) → tree_cause flags (declared L) n nominal depth t ≡ None → AllInRange t → (0 < depth → after ≤ length L.steps) → k + step_count t ≤ length L.steps → AllFine (steps_of k after t)
-  unfolding AllFine
-  fine_tree flags k after n nominal depth empty e range le within = λ j s h. absurd (cc)
-  fine_tree flags k after n nominal depth (leaf i rest) e range le within =
-      let parts = first_none (leaf_cause flags (declared L) n nominal depth i) (tree_cause flags (declared L) (n + instruction_draws i) (nominal_after nominal i) depth rest) e in
-      let own = first_none (instruction_cause flags (declared L) nominal depth i) (numbers_cause n (instruction_draws i)) parts.0 in
-      fine_cons (step_of after i) (steps_of (k + 1) after rest) (fine_step flags nominal depth after i own.0 range.0 le) (fine_tree flags (k + 1) after (n + instruction_draws i) (nominal_after nominal i) depth rest parts.1 range.1 le (omega arith))
-  fine_tree flags k after n nominal depth (looped mask members rest) e range le within =
-      let a = first_none (first (first (nesting_cause depth) (numbers_cause n 2)) (tree_cause flags (declared L) (n + 2) nominal (depth + 1) members)) (tree_cause flags (declared L) (n + 2 + draws members) nominal depth rest) e in
-      let b = first_none (first (nesting_cause depth) (numbers_cause n 2)) (tree_cause flags (declared L) (n + 2) nominal (depth + 1) members) a.0 in
+  valid_tree : (flags : IsaFlags) (k after n nominal depth : ℕ) (t : Tree) → tree_cause flags (declared L) n nominal depth t ≡ None → AllInRange t → (0 < depth → after ≤ length L.steps) → k + step_count t ≤ length L.steps → AllValid (steps_of k after t)
+  unfolding AllValid
+  valid_tree flags k after n nominal depth empty e range le within = λ j s h. absurd (cc)
+  valid_tree flags k after n nominal depth (leaf i rest) e range le within =
+      let parts = first_none (leaf_cause flags (declared L) n nominal depth i) (tree_cause flags (declared L) (n + instruction_fresh_labels i) (nominal_after nominal i) depth rest) e in
+      let own = first_none (instruction_cause flags (declared L) nominal depth i) (numbers_cause n (instruction_fresh_labels i)) parts.0 in
+      valid_cons (step_of after i) (steps_of (k + 1) after rest) (valid_step flags nominal depth after i own.0 range.0 le) (valid_tree flags (k + 1) after (n + instruction_fresh_labels i) (nominal_after nominal i) depth rest parts.1 range.1 le (omega arith))
+  valid_tree flags k after n nominal depth (loop_node mask members rest) e range le within =
+      let a = first_none (first_emit_cause (first_emit_cause (nesting_cause depth) (numbers_cause n 2)) (tree_cause flags (declared L) (n + 2) nominal (depth + 1) members)) (tree_cause flags (declared L) (n + 2 + fresh_labels members) nominal depth rest) e in
+      let b = first_none (first_emit_cause (nesting_cause depth) (numbers_cause n 2)) (tree_cause flags (declared L) (n + 2) nominal (depth + 1) members) a.0 in
       let end = k + 2 + step_count members in
-      let tail : AllFine (Back mask (k + 1) ∷ steps_of end after rest) = fine_cons (Back mask (k + 1)) (steps_of end after rest) (range.0, omega arith) (fine_tree flags end after (n + 2 + draws members) nominal depth rest a.1 range.2 le (omega arith)) in
-      fine_cons Opening (steps_of (k + 1) end members ++ (Back mask (k + 1) ∷ steps_of end after rest)) tt
-      (fine_append (steps_of (k + 1) end members) (Back mask (k + 1) ∷ steps_of end after rest) (fine_tree flags (k + 1) end (n + 2) nominal (depth + 1) members b.1 range.1 (λ d. omega arith) (omega arith)) tail)
+      let tail : AllValid (Back mask (k + 1) ∷ steps_of end after rest) = valid_cons (Back mask (k + 1)) (steps_of end after rest) (range.0, omega arith) (valid_tree flags end after (n + 2 + fresh_labels members) nominal depth rest a.1 range.2 le (omega arith)) in
+      valid_cons Opening (steps_of (k + 1) end members ++ (Back mask (k + 1) ∷ steps_of end after rest)) tt
+      (valid_append (steps_of (k + 1) end members) (Back mask (k + 1) ∷ steps_of end after rest) (valid_tree flags (k + 1) end (n + 2) nominal (depth + 1) members b.1 range.1 (λ d. omega arith) (omega arith)) tail)
 
-  fine_blocks : (flags : IsaFlags) (k n : ℕ) (ts : List Tree) → blocks_cause flags (declared L) n ts ≡ None → BlocksInRange ts → k + length (steps_from k ts) ≤ length L.steps → AllFine (steps_from k ts)
-  unfolding AllFine
-  fine_blocks flags k n [] e range within = λ j s h. absurd (cc)
-  fine_blocks flags k n (t ∷ ts) e range within =
-      let parts = first_none (block_cause flags (declared L) n t) (blocks_cause flags (declared L) (n + draws t) ts) e in
+  valid_blocks : (flags : IsaFlags) (k n : ℕ) (ts : List Tree) → blocks_cause flags (declared L) n ts ≡ None → BlocksInRange ts → k + length (steps_from k ts) ≤ length L.steps → AllValid (steps_from k ts)
+  unfolding AllValid
+  valid_blocks flags k n [] e range within = λ j s h. absurd (cc)
+  valid_blocks flags k n (t ∷ ts) e range within =
+      let parts = first_none (block_cause flags (declared L) n t) (blocks_cause flags (declared L) (n + fresh_labels t) ts) e in
       let members = first_none (tree_cause flags (declared L) n 0 0 t) (unless (nat_eq (nominal_behind 0 t) 0) BadStackState) parts.0 in
       let counted = count_of k 0 t in
       let joined = length-append (steps_of k 0 t) (steps_from (k + step_count t) ts) in
-      fine_append (steps_of k 0 t) (steps_from (k + step_count t) ts) (fine_tree flags k 0 n 0 0 t members.0 range.0 (λ d. absurd (omega arith)) (omega (arith, counted, joined))) (fine_blocks flags (k + step_count t) (n + draws t) ts parts.1 range.1 (omega (arith, counted, joined)))
+      valid_append (steps_of k 0 t) (steps_from (k + step_count t) ts) (valid_tree flags k 0 n 0 0 t members.0 range.0 (λ d. absurd (omega arith)) (omega (arith, counted, joined))) (valid_blocks flags (k + step_count t) (n + fresh_labels t) ts parts.1 range.1 (omega (arith, counted, joined)))
 
-  pub fine_function : (flags : IsaFlags) (n : ℕ) (ts : List Tree) → L.steps ≡ function_steps ts → blocks_cause flags (declared L) n ts ≡ None → BlocksInRange ts → (k : ℕ) (s : Step) → slice_get L.steps k ≡ Some s → IsFine L s
-  unfolding AllFine
-  fine_function flags n ts same e range k s h =
+  pub valid_function : (flags : IsaFlags) (n : ℕ) (ts : List Tree) → L.steps ≡ function_steps ts → blocks_cause flags (declared L) n ts ≡ None → BlocksInRange ts → (k : ℕ) (s : Step) → slice_get L.steps k ≡ Some s → IsValidStep L s
+  unfolding AllValid
+  valid_function flags n ts same e range k s h =
       let within : 0 + length (steps_from 0 ts) ≤ length L.steps = omega (arith, ap length same) in
-      fine_blocks flags 0 n ts e range within k s (ap (λ ss. slice_get ss k) (sym same) ∙ h)
+      valid_blocks flags 0 n ts e range within k s (ap (λ ss. slice_get ss k) (sym same) ∙ h)
 
 -- the steps of a function that has no cause of refusal
-pub checked_steps : (flags : IsaFlags) (outside : Outside) (ts : List Tree) (n : ℕ) (image : CodeImage) → blocks_cause flags (record { blocks = length ts; aligns = outside.aligns }) n ts ≡ None → BlocksInRange ts → (k : ℕ) (s : Step) → slice_get (function_steps ts) k ≡ Some s → IsFine (function_layout outside ts image) s
-checked_steps flags outside ts n image e range = fine_function (function_layout outside ts image) flags n ts refl e range
+pub checked_steps : (flags : IsaFlags) (environment : LinkEnvironment) (ts : List Tree) (n : ℕ) (image : CodeImage) → blocks_cause flags (record { blocks = length ts; aligns = environment.aligns }) n ts ≡ None → BlocksInRange ts → (k : ℕ) (s : Step) → slice_get (function_steps ts) k ≡ Some s → IsValidStep (function_layout environment ts image) s
+checked_steps flags environment ts n image e range = valid_function (function_layout environment ts image) flags n ts refl e range

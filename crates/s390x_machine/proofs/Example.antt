@@ -10,18 +10,18 @@ use Rattle.s390x_format.specs.Formats.{layout_of, length_of}
 use Rattle.s390x_format.specs.Reading.{be_bytes}
 use Rattle.s390x_format.specs.Fetch.{machine_rows}
 use Rattle.s390x_format.specs.Encoded.{IsEncoded, decoded_of}
-use Rattle.s390x_steps.specs.Causes.{blocks_cause}
-use Rattle.s390x_steps.specs.Image.{unlinked, place, function_code}
-use Rattle.s390x_steps.specs.MachineInstruction.{MachineInstruction, bytes_of, rr, rre, ril_c}
-use Rattle.s390x_steps.specs.Parts.{step_parts}
-use Rattle.s390x_steps.specs.Ranges.{BlocksInRange}
-use Rattle.s390x_steps.specs.Steps.{Step, Plain, function_steps}
-use Rattle.s390x_machine.specs.Placed.{PartsReach}
-use Rattle.s390x_operations.specs.State.{State, Lies, sum64}
+use Rattle.s390x_typed_steps.specs.Causes.{blocks_cause}
+use Rattle.s390x_typed_steps.specs.Image.{unlinked, step_offset, function_code}
+use Rattle.s390x_typed_steps.specs.MachineInstruction.{MachineInstruction, bytes_of, rr, rre, ril_c}
+use Rattle.s390x_typed_steps.specs.Parts.{step_parts}
+use Rattle.s390x_typed_steps.specs.Ranges.{BlocksInRange}
+use Rattle.s390x_typed_steps.specs.Steps.{Step, Plain, function_steps}
+use Rattle.s390x_machine.specs.CodeAt.{PartsReach}
+use Rattle.s390x_operations.specs.State.{State, IsLoaded, wrapping_add64}
 use Rattle.s390x_machine.specs.Fetch.{Found}
 use Rattle.s390x_machine.specs.Functions.{function_layout, StandsAsCode}
-use Rattle.s390x_machine.specs.Meanings.{meaning_in, meaning_of}
-use Rattle.s390x_machine.specs.Machine.{Event, Went, FetchedActs, MachineStep}
+use Rattle.s390x_machine.specs.Semantics.{semantics_in, semantics_of}
+use Rattle.s390x_machine.specs.Machine.{Event, Executed, FetchedStep, MachineStep}
 use Rattle.s390x_machine.specs.Example.{image, label, adds, trees, core, once, twice, LoopRuns}
 use Rattle.s390x_machine.proofs.Checked.{checked_steps}
 use Rattle.s390x_machine.proofs.Fetching.{StandsAt, found_at}
@@ -44,10 +44,10 @@ pub ranges : BlocksInRange trees
 ranges = (((tt, tt), ((omega arith, omega arith), tt)), (((tt, tt), tt), tt))
 
 -- no symbol is named
-reaches : (k : ℕ) (s : Step) → slice_get (function_steps trees) k ≡ Some s → PartsReach (function_layout (unlinked trees []) trees image) (place (function_steps trees) k) (step_parts s)
-reaches zero s e = let same : Plain adds ≡ s = cc in subst (λ x. PartsReach (function_layout (unlinked trees []) trees image) (place (function_steps trees) zero) (step_parts x)) same (tt, tt)
-reaches (suc zero) s e = let same : Plain (CondBr (label 0) (label 1) 4) ≡ s = cc in subst (λ x. PartsReach (function_layout (unlinked trees []) trees image) (place (function_steps trees) (suc zero)) (step_parts x)) same (tt, (tt, tt))
-reaches (suc (suc zero)) s e = let same : Plain (Ret (Real (general 14))) ≡ s = cc in subst (λ x. PartsReach (function_layout (unlinked trees []) trees image) (place (function_steps trees) (suc (suc zero))) (step_parts x)) same (tt, tt)
+reaches : (k : ℕ) (s : Step) → slice_get (function_steps trees) k ≡ Some s → PartsReach (function_layout (unlinked trees []) trees image) (step_offset (function_steps trees) k) (step_parts s)
+reaches zero s e = let same : Plain adds ≡ s = cc in subst (λ x. PartsReach (function_layout (unlinked trees []) trees image) (step_offset (function_steps trees) zero) (step_parts x)) same (tt, tt)
+reaches (suc zero) s e = let same : Plain (CondBr (label 0) (label 1) 4) ≡ s = cc in subst (λ x. PartsReach (function_layout (unlinked trees []) trees image) (step_offset (function_steps trees) (suc zero)) (step_parts x)) same (tt, (tt, tt))
+reaches (suc (suc zero)) s e = let same : Plain (Ret (Real (general 14))) ≡ s = cc in subst (λ x. PartsReach (function_layout (unlinked trees []) trees image) (step_offset (function_steps trees) (suc (suc zero))) (step_parts x)) same (tt, tt)
 reaches (suc (suc (suc k))) s e = absurd (cc)
 
 pub stands : StandsAsCode (unlinked trees []) trees image
@@ -57,20 +57,20 @@ stands = record {
   even = refl;
   fits = omega arith;
   short = omega arith;
-  fine = checked_steps base (unlinked trees []) trees 2 image (checked base) ranges;
+  operands_valid = checked_steps base (unlinked trees []) trees 2 image (checked base) ranges;
   reached = reaches;
   stand = λ c lt. absurd (omega arith);
 }
 
-pub lies : Lies image core.memory
-lies = record { has = λ a h. h; get = λ a h. refl }
+pub is_loaded : IsLoaded image core.memory
+is_loaded = record { has = λ a h. h; get = λ a h. refl }
 
 -- ---- the run
 
-step_at : (m : MachineInstruction) (o : ℕ) (s : State) (event : Event) (t : State) → o % 2 ≡ 0 → s.core.memory ≡ core.memory → s.place ≡ sum64 4096 o → StandsAt image o (bytes_of m) → SlotsFit (layout_of m.format) m.slots → IsEncoded machine_rows m.format m.slots → FetchedActs (Found (decoded_of m.format m.slots)) s event t → MachineStep s event t
+step_at : (m : MachineInstruction) (o : ℕ) (s : State) (event : Event) (t : State) → o % 2 ≡ 0 → s.core.memory ≡ core.memory → s.address ≡ wrapping_add64 4096 o → StandsAt image o (bytes_of m) → SlotsFit (layout_of m.format) m.slots → IsEncoded machine_rows m.format m.slots → FetchedStep (Found (decoded_of m.format m.slots)) s event t → MachineStep s event t
 step_at m o s event t even memory at stands fit listed acts = record {
   fetched = Found (decoded_of m.format m.slots);
-  fetches = subst (λ p. Rattle.s390x_machine.specs.Fetch.IsFound s.core.memory p (decoded_of m.format m.slots)) (sym at) (found_at image s.core.memory o m.format m.slots refl even (omega arith) (subst (λ x. Lies image x) (sym memory) lies) stands fit listed);
+  fetches = subst (λ p. Rattle.s390x_machine.specs.Fetch.IsFound s.core.memory p (decoded_of m.format m.slots)) (sym at) (found_at image s.core.memory o m.format m.slots refl even (omega arith) (subst (λ x. IsLoaded image x) (sym memory) is_loaded) stands fit listed);
   acts = acts;
 }
 
@@ -90,34 +90,34 @@ return_stands : StandsAt image 16 (bytes_of (rr 0x07 15 14))
 unfolding number bits layout_of length_of be_bytes
 return_stands = record { earlier = 0xb9 ∷ 0x08 ∷ 0x00 ∷ 0x24 ∷ 0xc0 ∷ 0x44 ∷ 0xff ∷ 0xff ∷ 0xff ∷ 0xfe ∷ 0xc0 ∷ 0xf4 ∷ 0x00 ∷ 0x00 ∷ 0x00 ∷ 0x03 ∷ []; later = []; at = refl; is = refl }
 
-add_step : (s t : State) → s.core.memory ≡ core.memory → s.place ≡ 4096 → FetchedActs (Found (decoded_of Rre (rre 0xb908 2 4).slots)) s (Went None) t → MachineStep s (Went None) t
-add_step s t memory at acts = step_at (rre 0xb908 2 4) 0 s (Went None) t refl memory at add_stands (fits_rre 0xb908 2 4 (omega arith) (omega arith) (omega arith)) (agr_listed 2 4) acts
+add_step : (s t : State) → s.core.memory ≡ core.memory → s.address ≡ 4096 → FetchedStep (Found (decoded_of Rre (rre 0xb908 2 4).slots)) s (Executed None) t → MachineStep s (Executed None) t
+add_step s t memory at acts = step_at (rre 0xb908 2 4) 0 s (Executed None) t refl memory at add_stands (fits_rre 0xb908 2 4 (omega arith) (omega arith) (omega arith)) (agr_listed 2 4) acts
 
-first_step_taken : (s t : State) → s.core.memory ≡ core.memory → s.place ≡ 4100 → FetchedActs (Found (decoded_of RilC (ril_c 0xc04 4 4294967294).slots)) s (Went None) t → MachineStep s (Went None) t
-first_step_taken s t memory at acts = step_at (ril_c 0xc04 4 4294967294) 4 s (Went None) t refl memory at first_stands (fits_ril_c 0xc04 4 4294967294 (omega arith) (omega arith) (omega arith)) (brcl_listed 4 4294967294) acts
+first_step_taken : (s t : State) → s.core.memory ≡ core.memory → s.address ≡ 4100 → FetchedStep (Found (decoded_of RilC (ril_c 0xc04 4 4294967294).slots)) s (Executed None) t → MachineStep s (Executed None) t
+first_step_taken s t memory at acts = step_at (ril_c 0xc04 4 4294967294) 4 s (Executed None) t refl memory at first_stands (fits_ril_c 0xc04 4 4294967294 (omega arith) (omega arith) (omega arith)) (brcl_listed 4 4294967294) acts
 
-second_step : (s t : State) → s.core.memory ≡ core.memory → s.place ≡ 4106 → FetchedActs (Found (decoded_of RilC (ril_c 0xc04 15 3).slots)) s (Went None) t → MachineStep s (Went None) t
-second_step s t memory at acts = step_at (ril_c 0xc04 15 3) 10 s (Went None) t refl memory at second_stands (fits_ril_c 0xc04 15 3 (omega arith) (omega arith) (omega arith)) (brcl_listed 15 3) acts
+second_step : (s t : State) → s.core.memory ≡ core.memory → s.address ≡ 4106 → FetchedStep (Found (decoded_of RilC (ril_c 0xc04 15 3).slots)) s (Executed None) t → MachineStep s (Executed None) t
+second_step s t memory at acts = step_at (ril_c 0xc04 15 3) 10 s (Executed None) t refl memory at second_stands (fits_ril_c 0xc04 15 3 (omega arith) (omega arith) (omega arith)) (brcl_listed 15 3) acts
 
-return_step : (s t : State) → s.core.memory ≡ core.memory → s.place ≡ 4112 → FetchedActs (Found (decoded_of Rr (rr 0x07 15 14).slots)) s (Went None) t → MachineStep s (Went None) t
-return_step s t memory at acts = step_at (rr 0x07 15 14) 16 s (Went None) t refl memory at return_stands (fits_rr 0x07 15 14 (omega arith) (omega arith) (omega arith)) (bcr_listed 15 14) acts
+return_step : (s t : State) → s.core.memory ≡ core.memory → s.address ≡ 4112 → FetchedStep (Found (decoded_of Rr (rr 0x07 15 14).slots)) s (Executed None) t → MachineStep s (Executed None) t
+return_step s t memory at acts = step_at (rr 0x07 15 14) 16 s (Executed None) t refl memory at return_stands (fits_rr 0x07 15 14 (omega arith) (omega arith) (omega arith)) (bcr_listed 15 14) acts
 
 pub loop_runs : LoopRuns
-unfolding length_of meaning_in meaning_of
+unfolding length_of semantics_in semantics_of
 loop_runs = (
   stands,
-  lies,
+  is_loaded,
   (
-    record { may = tt; goes = add_step (record { core = core; place = 4096 }) (record { core = once; place = 4100 }) refl refl (record { reached = refl; allowed = refl; results = refl; code = refl; memory = refl }, refl, refl) },
+    record { may = tt; goes = add_step (record { core = core; address = 4096 }) (record { core = once; address = 4100 }) refl refl (record { reached = refl; allowed = refl; results = refl; code = refl; memory = refl }, refl, refl) },
     (
-      record { may = tt; goes = first_step_taken (record { core = once; place = 4100 }) (record { core = once; place = 4096 }) refl refl (refl, refl, refl) },
+      record { may = tt; goes = first_step_taken (record { core = once; address = 4100 }) (record { core = once; address = 4096 }) refl refl (refl, refl, refl) },
       (
-        record { may = tt; goes = add_step (record { core = once; place = 4096 }) (record { core = twice; place = 4100 }) refl refl (record { reached = refl; allowed = refl; results = refl; code = refl; memory = refl }, refl, refl) },
+        record { may = tt; goes = add_step (record { core = once; address = 4096 }) (record { core = twice; address = 4100 }) refl refl (record { reached = refl; allowed = refl; results = refl; code = refl; memory = refl }, refl, refl) },
         (
-          record { may = tt; goes = first_step_taken (record { core = twice; place = 4100 }) (record { core = twice; place = 4106 }) refl refl (refl, refl, refl) },
+          record { may = tt; goes = first_step_taken (record { core = twice; address = 4100 }) (record { core = twice; address = 4106 }) refl refl (refl, refl, refl) },
           (
-            record { may = tt; goes = second_step (record { core = twice; place = 4106 }) (record { core = twice; place = 4112 }) refl refl (refl, refl, refl) },
-            (record { may = tt; goes = return_step (record { core = twice; place = 4112 }) (record { core = twice; place = 8192 }) refl refl (refl, refl, refl) }, tt),
+            record { may = tt; goes = second_step (record { core = twice; address = 4106 }) (record { core = twice; address = 4112 }) refl refl (refl, refl, refl) },
+            (record { may = tt; goes = return_step (record { core = twice; address = 4112 }) (record { core = twice; address = 8192 }) refl refl (refl, refl, refl) }, tt),
           ),
         ),
       ),

@@ -14,27 +14,27 @@ use Rattle.s390x_inst.specs.Memory.{flags_of}
 use Rattle.s390x_inst.specs.declared.args.MemArg.{MemArg}
 use Rattle.s390x_inst.specs.declared.args.MemArg.TheVariants.{BXD12, BXD20, Label, Constant, Symbol, RegOffset, InitialSPOffset, IncomingArgOffset, OutgoingArgOffset, SlotOffset, SpillOffset}
 use Rattle.s390x_inst.specs.declared.inst.Inst.TheVariants.{Mov64SImm32, LoadAddr}
-use Rattle.s390x_steps.specs.General.{is_general}
-use Rattle.s390x_steps.specs.Memory.{MemoryInstruction, StorageForm, RxForm, RsForm, SiForm, SilForm, type_of, address_form, fault_code}
-use Rattle.s390x_steps.specs.Ranges.{OperandInRange}
-use Rattle.s390x_steps.specs.Operands.{Finalized, offset_fits, no_register, scratch, is_numbered, fits_12, fits_20, fits_32, addressed, with_widened, widened, finalized, has_form, is_relative, loses_base, operand_general}
-use Rattle.s390x_steps.specs.Causes.{is_helped, bound_cause, alignment_cause, boundary}
-use Rattle.s390x_steps.specs.Parts.{operand_parts, finalized_parts, memory_parts, step_parts}
-use Rattle.s390x_steps.specs.Steps.{Step}
-use Rattle.s390x_steps.specs.declared.mem_inst_type.MemInstType.{MemInstType}
-use Rattle.s390x_operations.specs.State.{Registers, put, sum64}
+use Rattle.s390x_typed_steps.specs.General.{is_general}
+use Rattle.s390x_typed_steps.specs.Memory.{MemoryInstruction, StorageForm, RxForm, RsForm, SiForm, SilForm, type_of, address_form, fault_code}
+use Rattle.s390x_typed_steps.specs.Ranges.{OperandInRange}
+use Rattle.s390x_typed_steps.specs.Operands.{Finalized, offset_fits, no_register, scratch, is_numbered, fits_12, fits_20, fits_32, addressed, with_widened, widened, finalized, has_form, is_relative, loses_base, operand_general}
+use Rattle.s390x_typed_steps.specs.Causes.{is_helped, bound_cause, alignment_cause, boundary}
+use Rattle.s390x_typed_steps.specs.Parts.{operand_parts, finalized_parts, memory_parts, step_parts}
+use Rattle.s390x_typed_steps.specs.Steps.{Step}
+use Rattle.s390x_typed_steps.specs.declared.mem_inst_type.MemInstType.{MemInstType}
+use Rattle.s390x_operations.specs.State.{Registers, set_general, wrapping_add64}
 use Rattle.s390x_operations.specs.Effects.{Refines, refused, MayRefuse}
 use Rattle.s390x_operations.specs.declared.effect.Effect.{Effect}
 use Rattle.s390x_operations.specs.declared.effect.Effect.TheVariants.{Compute, Compare, Store}
 use Rattle.s390x_operations.specs.declared.stop.StopKind.{StopKind}
 use Rattle.s390x_operations.specs.declared.effect.Operation.{Operation}
-use Rattle.s390x_machine.specs.Forms.{Performs, Unbuilt, form_or, performed_at, access_code}
-use Rattle.s390x_machine.specs.Layout.{Layout, declared, block_place, constant_place}
+use Rattle.s390x_machine.specs.StepKinds.{Performs, Unsupported, form_or, performed_at, access_code}
+use Rattle.s390x_machine.specs.Layout.{Layout, declared, block_address, constant_address}
 use Rattle.s390x_machine.specs.OneStep.{StepRuns}
 use Rattle.s390x_machine.specs.Operands.{indexed, based, address_part}
-use Rattle.s390x_machine.specs.Placed.{PartsReach, IsFineMemory}
-use Rattle.s390x_machine.specs.Storage.{address_of, needs_scratch, loads_address, aligned_where, aligned_effect}
-use Rattle.s390x_machine.specs.Typed.{form_of, form_at}
+use Rattle.s390x_machine.specs.CodeAt.{PartsReach, IsValidMemory}
+use Rattle.s390x_machine.specs.Storage.{operand_address, needs_scratch, loads_address, aligned_where, aligned_effect}
+use Rattle.s390x_machine.specs.Typed.{kind_of_step, kind_at}
 use Rattle.s390x_machine.proofs.Addresses.{sum_below}
 use Rattle.s390x_machine.proofs.Operands.{short_12, short_20, short_32, displacement_bits, based_indexed, not_scratch, zero_test, low_below}
 use Rattle.s390x_machine.proofs.Rows.{general_number}
@@ -81,12 +81,12 @@ neither true b e = absurd (cc)
 neither false b e = (refl, e)
 
 -- an access after a helper doesn't read %r1
-not_read : (lost reads : Bool) → IsTrue (not (lost || (reads && true))) → reads ≡ false
+not_read : (stuck reads : Bool) → IsTrue (not (stuck || (reads && true))) → reads ≡ false
 not_read true reads e = absurd (cc)
 not_read false true e = absurd (cc)
 not_read false false e = refl
 
-not_lost : (lost other : Bool) → IsTrue (not (lost || other)) → lost ≡ false
+not_lost : (stuck other : Bool) → IsTrue (not (stuck || other)) → stuck ≡ false
 not_lost true other e = absurd (cc)
 not_lost false other e = refl
 
@@ -145,11 +145,11 @@ module _ {L : Layout} {k : ℕ} {s : Step} (b : StepAt L k s) (load : LoadsAddre
 
   -- ---- each form of an operand
 
-  module _ (lost reads : Bool) (ignores : reads ≡ false → (a : ℕ) (r : Registers) (v : ℕ) → Refines (operation a (put r 1 v)) (operation a r)) (have : (mi.have_d12 || mi.have_d20) ≡ true) where
+  module _ (stuck reads : Bool) (ignores : reads ≡ false → (a : ℕ) (r : Registers) (v : ℕ) → Refines (operation a (set_general r 1 v)) (operation a r)) (have : (mi.have_d12 || mi.have_d20) ≡ true) where
     -- what is known of the step, by its operand with its helpers
     Ready : Bool → (Registers → ℕ) → Finalized → Type 0
     Ready needs address f =
-        (form_at L k ≡ Some (Performs needs (λ r. operation (address r) r) (access_code code))) × (step_parts s ≡ finalized_parts form code (with_widened mi f)) × IsTrue (not (lost || (reads && is_helped f.helpers)))
+        (kind_at L k ≡ Some (Performs needs (λ r. operation (address r) r) (access_code code))) × (step_parts s ≡ finalized_parts form code (with_widened mi f)) × IsTrue (not (stuck || (reads && is_helped f.helpers)))
 
     indexed_12 : (base index : Reg) (d : ℕ) (flags : MachMemFlags) → IsTrue (is_general base && is_general index) → d ≤ 4095 → (t : Bool) → (not mi.have_index && not (is_numbered 0 index)) ≡ t →
         Ready t (there base index (pos d)) (cond t (record { helpers = LoadAddr scratch (BXD12 base index d flags) ∷ []; operand = BXD12 scratch no_register 0 flags }) (record { helpers = []; operand = BXD12 base index d flags })) → StepRuns L k
@@ -161,7 +161,7 @@ module _ {L : Layout} {k : ℕ} {s : Step} (b : StepAt L k s) (load : LoadsAddre
     indexed_12 base index d flags general le true e ready =
         let g = and_parts (is_general base) (is_general index) general in
         after_address b form operation code never (there base index (pos d)) (BXD12 base index d flags) (widened mi (BXD12 scratch no_register 0 flags))
-        (loads_12 base index d flags (general_number base g.0) (general_number index g.1) le) (loaded_stands flags have) (λ r. low_below (pos (address_part r (number_of base) + address_part r (number_of index)) +ℤ pos d)) (ignores (not_read lost reads ready.2)) ready.0 ready.1
+        (loads_12 base index d flags (general_number base g.0) (general_number index g.1) le) (loaded_stands flags have) (λ r. low_below (pos (address_part r (number_of base) + address_part r (number_of index)) +ℤ pos d)) (ignores (not_read stuck reads ready.2)) ready.0 ready.1
 
     indexed_20 : (base index : Reg) (z : ℤ) (flags : MachMemFlags) → IsTrue (is_general base && is_general index) → negsuc 524287 ≤ℤ z → z ≤ℤ pos 524287 → (t : Bool) → (not mi.have_d20 || (not mi.have_index && not (is_numbered 0 index))) ≡ t →
         Ready t (there base index z) (cond t (record { helpers = LoadAddr scratch (BXD20 base index z flags) ∷ []; operand = BXD12 scratch no_register 0 flags }) (record { helpers = []; operand = BXD20 base index z flags })) → StepRuns L k
@@ -174,22 +174,22 @@ module _ {L : Layout} {k : ℕ} {s : Step} (b : StepAt L k s) (load : LoadsAddre
     indexed_20 base index z flags general least most true e ready =
         let g = and_parts (is_general base) (is_general index) general in
         after_address b form operation code never (there base index z) (BXD20 base index z flags) (widened mi (BXD12 scratch no_register 0 flags))
-        (loads_20 base index z flags (general_number base g.0) (general_number index g.1) least most) (loaded_stands flags have) (λ r. low_below (pos (address_part r (number_of base) + address_part r (number_of index)) +ℤ z)) (ignores (not_read lost reads ready.2)) ready.0 ready.1
+        (loads_20 base index z flags (general_number base g.0) (general_number index g.1) least most) (loaded_stands flags have) (λ r. low_below (pos (address_part r (number_of base) + address_part r (number_of index)) +ℤ z)) (ignores (not_read stuck reads ready.2)) ready.0 ready.1
 
     -- an offset past all displacements
     far : (reg : Reg) (off : ℤ) (flags : MachMemFlags) → IsTrue (is_general reg) → (number_of reg == 1) ≡ false → negsuc 2147483647 ≤ℤ off → off ≤ℤ pos 2147483647 → (t : Bool) → (not mi.have_index && true) ≡ t →
         Ready true (λ r. based r (number_of reg) off) (cond t (record { helpers = Mov64SImm32 scratch off ∷ LoadAddr scratch (BXD12 reg scratch 0 flags) ∷ []; operand = BXD12 scratch no_register 0 flags }) (record { helpers = Mov64SImm32 scratch off ∷ []; operand = BXD12 reg scratch 0 flags })) → StepRuns L k
     unfolding Ready
     far reg off flags general other least most false e ready =
-        after_offset b form operation code never reg off (widened mi (BXD12 reg scratch 0 flags)) other least most (short_stands reg scratch 0 flags have (general_number reg general) (omega arith) (may_index form accesses false 1 e (λ z. absurd (cc))) (omega arith)) (ignores (not_read lost reads ready.2)) ready.0 ready.1
+        after_offset b form operation code never reg off (widened mi (BXD12 reg scratch 0 flags)) other least most (short_stands reg scratch 0 flags have (general_number reg general) (omega arith) (may_index form accesses false 1 e (λ z. absurd (cc))) (omega arith)) (ignores (not_read stuck reads ready.2)) ready.0 ready.1
     far reg off flags general other least most true e ready =
-        after_both b form operation code never reg off (BXD12 reg scratch 0 flags) (widened mi (BXD12 scratch no_register 0 flags)) other least most (loads_12 reg scratch 0 flags (general_number reg general) (omega arith) (omega arith)) (loaded_stands flags have) (ignores (not_read lost reads ready.2)) ready.0 ready.1
+        after_both b form operation code never reg off (BXD12 reg scratch 0 flags) (widened mi (BXD12 scratch no_register 0 flags)) other least most (loads_12 reg scratch 0 flags (general_number reg general) (omega arith) (omega arith)) (loaded_stands flags have) (ignores (not_read stuck reads ready.2)) ready.0 ready.1
 
   -- an operand relative to the instruction
-  distant_runs : (mem : MemArg) (address : ℕ) → Distant L mem address → (reads : Bool) → (reads ≡ false → (a : ℕ) (r : Registers) (v : ℕ) → Refines (operation a (put r 1 v)) (operation a r)) → (flags : MachMemFlags) (t : Bool) → (t ≡ false → mi.have_pcrel ≡ true) →
+  distant_runs : (mem : MemArg) (address : ℕ) → Distant L mem address → (reads : Bool) → (reads ≡ false → (a : ℕ) (r : Registers) (v : ℕ) → Refines (operation a (set_general r 1 v)) (operation a r)) → (flags : MachMemFlags) (t : Bool) → (t ≡ false → mi.have_pcrel ≡ true) →
       (t ≡ true → step_parts s ≡ (operand_parts (address_form scratch) None mem ++ []) ++ operand_parts form code (widened mi (BXD12 scratch no_register 0 flags)) → address < 2 ^ 64) → (mi.have_d12 || mi.have_d20 || (true && not t)) ≡ true →
       IsTrue (not (false || (reads && is_helped (with_widened mi (cond t (record { helpers = LoadAddr scratch mem ∷ []; operand = BXD12 scratch no_register 0 flags }) (record { helpers = []; operand = mem }))).helpers))) →
-      form_at L k ≡ Some (Performs t (λ r. aligned_where (accesses && not t) (operation address r)) (access_code code)) → step_parts s ≡ finalized_parts form code (with_widened mi (cond t (record { helpers = LoadAddr scratch mem ∷ []; operand = BXD12 scratch no_register 0 flags }) (record { helpers = []; operand = mem }))) → StepRuns L k
+      kind_at L k ≡ Some (Performs t (λ r. aligned_where (accesses && not t) (operation address r)) (access_code code)) → step_parts s ≡ finalized_parts form code (with_widened mi (cond t (record { helpers = LoadAddr scratch mem ∷ []; operand = BXD12 scratch no_register 0 flags }) (record { helpers = []; operand = mem }))) → StepRuns L k
   distant_runs mem address d reads ignores flags false pcrel small has kept is parts =
       let aligned : ℕ → Registers → Operation = λ a r. aligned_where accesses (operation a r) in
       direct b form aligned code (λ a r. aligned_coded accesses (operation a r) (access_code code) (never a r)) (λ r. address) mem (distant_stands L b.all form accesses operation relative (pcrel refl) mem address d)
@@ -199,9 +199,9 @@ module _ {L : Layout} {k : ℕ} {s : Step} (b : StepAt L k s) (load : LoadsAddre
       (distant_stands L b.all (address_form scratch) false (loads_address 1) larl refl mem address d) (loaded_stands flags (sym (or_false (mi.have_d12 || mi.have_d20)) ∙ has)) (λ r. small refl parts) (ignores (not_read false reads kept))
       (is ∙ ap (λ b. Some (Performs true (λ r. aligned_where b (operation address r)) (access_code code))) (and_false accesses)) parts
 
-  operand_runs : (mem : MemArg) (reads : Bool) → (reads ≡ false → (a : ℕ) (r : Registers) (v : ℕ) → Refines (operation a (put r 1 v)) (operation a r)) → IsTrue (has_form mi mem) → IsTrue (operand_general mem) →
+  operand_runs : (mem : MemArg) (reads : Bool) → (reads ≡ false → (a : ℕ) (r : Registers) (v : ℕ) → Refines (operation a (set_general r 1 v)) (operation a r)) → IsTrue (has_form mi mem) → IsTrue (operand_general mem) →
       IsTrue (not (loses_base mem || (reads && is_helped (finalized mi mem).helpers))) → IsTrue (offset_fits mem) → OperandInRange mem → bound_cause (declared L) mem ≡ None →
-      ((address : Registers → ℕ) → address_of L mem ≡ Some address → form_at L k ≡ Some (Performs (needs_scratch mi mem) (λ r. aligned_where (is_relative mem && (accesses && not (needs_scratch mi mem))) (operation (address r) r)) (access_code code))) → step_parts s ≡ finalized_parts form code (finalized mi mem) → StepRuns L k
+      ((address : Registers → ℕ) → operand_address L mem ≡ Some address → kind_at L k ≡ Some (Performs (needs_scratch mi mem) (λ r. aligned_where (is_relative mem && (accesses && not (needs_scratch mi mem))) (operation (address r) r)) (access_code code))) → step_parts s ≡ finalized_parts form code (finalized mi mem) → StepRuns L k
   unfolding Ready
   operand_runs (BXD12 base index d flags) reads ignores has general kept fits range bound is parts =
       let have = sym (or_false (mi.have_d12 || mi.have_d20)) ∙ has in
@@ -227,7 +227,7 @@ module _ {L : Layout} {k : ℕ} {s : Step} (b : StepAt L k s) (load : LoadsAddre
       moves needs a b e = ap (λ (x : Registers → ℕ). Some (Performs needs (λ r. operation (x r) r) (access_code code))) (λ i r. e r i)
 
       go : (mi.have_d12 || mi.have_d20) ≡ true → (t12 : Bool) → fits_12 off ≡ t12 → (t20 : Bool) → fits_20 off ≡ t20 → (t32 : Bool) → fits_32 off ≡ t32 →
-          form_at L k ≡ Some (Performs (not t12 && not (t20 && mi.have_d20)) (λ r. operation (based r (number_of reg) off) r) (access_code code)) →
+          kind_at L k ≡ Some (Performs (not t12 && not (t20 && mi.have_d20)) (λ r. operation (based r (number_of reg) off) r) (access_code code)) →
           step_parts s ≡ finalized_parts form code (with_widened mi (addressed mi (near t12 t20 t32))) → IsTrue (not ((is_numbered 1 reg && (t32 && not t12 && not t20)) || (reads && is_helped (addressed mi (near t12 t20 t32)).helpers))) → IsTrue t32 → StepRuns L k
       go have true e12 t20 e20 t32 e32 is2 parts2 kept2 fits2 =
           let n = short_12 off e12 in
@@ -250,19 +250,19 @@ module _ {L : Layout} {k : ℕ} {s : Step} (b : StepAt L k s) (load : LoadsAddre
           )
       go have false e12 false e20 true e32 is2 parts2 kept2 fits2 =
           let z = short_32 off e32 in
-          let lost = not_lost (is_numbered 1 reg && true) (reads && is_helped (addressed mi (near false false true)).helpers) kept2 in
-          far (is_numbered 1 reg && true) reads ignores have reg off flags general (not_scratch reg general (sym (and_true (is_numbered 1 reg)) ∙ lost)) z.0 z.1 (not mi.have_index && true) refl (is2, parts2, kept2)
+          let stuck = not_lost (is_numbered 1 reg && true) (reads && is_helped (addressed mi (near false false true)).helpers) kept2 in
+          far (is_numbered 1 reg && true) reads ignores have reg off flags general (not_scratch reg general (sym (and_true (is_numbered 1 reg)) ∙ stuck)) z.0 z.1 (not mi.have_index && true) refl (is2, parts2, kept2)
       go have false e12 false e20 false e32 is2 parts2 kept2 fits2 = absurd (cc)
   operand_runs (Label target) reads ignores has general kept fits range bound is parts =
-      distant_runs (Label target) (block_place L target.0) (to_label L b.all target (label_known L target bound)) reads ignores (flags_of (Label target)) (not mi.have_pcrel) (λ e. not_not mi.have_pcrel e) (λ e parts2. sum_below L.image.base (L.places.block target.0)) has kept (is (λ r. block_place L target.0) refl) parts
+      distant_runs (Label target) (block_address L target.0) (to_label L b.all target (label_known L target bound)) reads ignores (flags_of (Label target)) (not mi.have_pcrel) (λ e. not_not mi.have_pcrel e) (λ e parts2. sum_below L.image.base (L.offsets.block target.0)) has kept (is (λ r. block_address L target.0) refl) parts
   operand_runs (Constant c) reads ignores has general kept fits range bound is parts =
-      distant_runs (Constant c) (constant_place L c.0) (to_constant L b.all c (constant_known L c bound)) reads ignores (flags_of (Constant c)) (not mi.have_pcrel) (λ e. not_not mi.have_pcrel e) (λ e parts2. sum_below L.image.base (L.places.outside.constant c.0)) has kept (is (λ r. constant_place L c.0) refl) parts
+      distant_runs (Constant c) (constant_address L c.0) (to_constant L b.all c (constant_known L c bound)) reads ignores (flags_of (Constant c)) (not mi.have_pcrel) (λ e. not_not mi.have_pcrel e) (λ e parts2. sum_below L.image.base (L.offsets.environment.constant c.0)) has kept (is (λ r. constant_address L c.0) refl) parts
   operand_runs (Symbol name offset flags) reads ignores has general kept fits range bound is parts =
-      distant_runs (Symbol name offset flags) (L.places.outside.symbol_value name offset) (to_symbol L name offset flags) reads ignores flags (not mi.have_pcrel || (not flags.aligned && not mi.have_unaligned_pcrel)) (λ e.
+      distant_runs (Symbol name offset flags) (L.offsets.environment.symbol_value name offset) (to_symbol L name offset flags) reads ignores flags (not mi.have_pcrel || (not flags.aligned && not mi.have_unaligned_pcrel)) (λ e.
       not_not mi.have_pcrel (neither (not mi.have_pcrel) (not flags.aligned && not mi.have_unaligned_pcrel) e).0) (λ e parts2.
-      let r = subst (λ ps. PartsReach L (L.places.step k) ps) parts2 b.placed.reached in
-      let half = L.places.outside.symbol_distance (L.places.step k) name offset in
-      subst (λ n. n < 2 ^ 64) r.0.1 (low_below (pos (sum64 L.image.base (L.places.step k)) +ℤ pos 2 *ℤ cast_signed w32 half))) has kept (is (λ r. L.places.outside.symbol_value name offset) refl) parts
+      let r = subst (λ ps. PartsReach L (L.offsets.step k) ps) parts2 b.placed.reached in
+      let half = L.offsets.environment.symbol_distance (L.offsets.step k) name offset in
+      subst (λ n. n < 2 ^ 64) r.0.1 (low_below (pos (wrapping_add64 L.image.base (L.offsets.step k)) +ℤ pos 2 *ℤ cast_signed w32 half))) has kept (is (λ r. L.offsets.environment.symbol_value name offset) refl) parts
   operand_runs (InitialSPOffset off) reads ignores has general kept fits range bound is parts = absurd range
   operand_runs (IncomingArgOffset off) reads ignores has general kept fits range bound is parts = absurd range
   operand_runs (OutgoingArgOffset off) reads ignores has general kept fits range bound is parts = absurd range
@@ -271,10 +271,10 @@ module _ {L : Layout} {k : ℕ} {s : Step} (b : StepAt L k s) (load : LoadsAddre
 
 -- an instruction with an operand in memory runs as its step, where emission's rows have the forms that the step knows
 pub memory_runs : {L : Layout} {k : ℕ} {s : Step} (b : StepAt L k s) (load : LoadsAddress) (larl : LoadsRelative) (x : MemoryInstruction) (forms : MemInstType) (operation : ℕ → Registers → Operation) →
-    FormDoes x.form operation → RelativeDoes x.form x.accesses operation → ((a : ℕ) (r : Registers) → ValuesCoded (operation a r) (access_code (fault_code x))) → (x.reads_scratch ≡ false → (a : ℕ) (r : Registers) (v : ℕ) → Refines (operation a (put r 1 v)) (operation a r)) →
-    forms ≡ type_of x.form x.accesses → form_of L (Some s) ≡ Some (form_or (performed_at (record { operand = x.operand; forms = forms; accesses = x.accesses; operation = operation }) (address_of L x.operand)) Unbuilt) → step_parts s ≡ memory_parts x → IsFineMemory L x → StepRuns L k
-memory_runs {L = L} b load larl x forms operation does relative never ignores same formed parts fine =
-    operand_runs b load larl x.form x.accesses operation does relative (fault_code x) never x.operand x.reads_scratch ignores fine.form
-    (and_parts x.fine (operand_general x.operand) fine.registers).1 fine.kept fine.offset fine.range (first_none (bound_cause (declared L) x.operand) (alignment_cause (declared L) (boundary x) x.operand) fine.place).0 (λ address e.
-    ap (form_of L) b.at ∙ formed ∙ ap (λ a. Some (form_or (performed_at (record { operand = x.operand; forms = forms; accesses = x.accesses; operation = operation }) a) Unbuilt)) e
+    FormDoes x.form operation → RelativeDoes x.form x.accesses operation → ((a : ℕ) (r : Registers) → ValuesCoded (operation a r) (access_code (fault_code x))) → (x.reads_scratch ≡ false → (a : ℕ) (r : Registers) (v : ℕ) → Refines (operation a (set_general r 1 v)) (operation a r)) →
+    forms ≡ type_of x.form x.accesses → kind_of_step L (Some s) ≡ Some (form_or (performed_at (record { operand = x.operand; forms = forms; accesses = x.accesses; operation = operation }) (operand_address L x.operand)) Unsupported) → step_parts s ≡ memory_parts x → IsValidMemory L x → StepRuns L k
+memory_runs {L = L} b load larl x forms operation does relative never ignores same formed parts operands_valid =
+    operand_runs b load larl x.form x.accesses operation does relative (fault_code x) never x.operand x.reads_scratch ignores operands_valid.form
+    (and_parts x.operands_valid (operand_general x.operand) operands_valid.registers).1 operands_valid.kept operands_valid.offset operands_valid.range (first_none (bound_cause (declared L) x.operand) (alignment_cause (declared L) (boundary x) x.operand) operands_valid.target).0 (λ address e.
+    ap (kind_of_step L) b.at ∙ formed ∙ ap (λ a. Some (form_or (performed_at (record { operand = x.operand; forms = forms; accesses = x.accesses; operation = operation }) a) Unsupported)) e
     ∙ ap (λ mi. Some (Performs (needs_scratch mi x.operand) (λ r. aligned_where (is_relative x.operand && (x.accesses && not (needs_scratch mi x.operand))) (operation (address r) r)) (access_code (fault_code x)))) same) parts

@@ -3,8 +3,8 @@ use Rattle.std.proofs.Common.{◌⊎◌, inl, inr, ◌≤◌, arith, ◌≡◌, 
 use Rattle.std.specs.Prelude.{ℤ, pos, negsuc, ◌+ℤ◌, ◌≤ℤ◌, unsigned_abs}
 use Rattle.std.proofs.lemmas.Bool.{and_parts, eqb-true}
 use Rattle.std.proofs.lemmas.Int.{ints}
-use Rattle.s390x_steps.specs.Operands.{has_form}
-use Rattle.s390x_steps.specs.Ranges.{OperandInRange}
+use Rattle.s390x_typed_steps.specs.Operands.{has_form}
+use Rattle.s390x_typed_steps.specs.Ranges.{OperandInRange}
 use Rattle.s390x_inst.specs.Memory.{trusted}
 use Rattle.s390x_base.specs.Regs.{number_of}
 use Rattle.s390x_base.specs.declared.regs.Reg.{Reg}
@@ -14,27 +14,27 @@ use Rattle.s390x_inst.specs.declared.args.MemArg.{MemArg}
 use Rattle.s390x_inst.specs.declared.args.MemArg.TheVariants.{BXD12, BXD20, Label, Constant, Symbol, RegOffset, InitialSPOffset, IncomingArgOffset, OutgoingArgOffset, SlotOffset, SpillOffset}
 use Rattle.s390x_inst.specs.declared.inst.Inst.{Inst}
 use Rattle.s390x_inst.specs.declared.inst.Inst.TheVariants.{Mov64SImm32, LoadAddr}
-use Rattle.s390x_steps.specs.General.{is_general}
-use Rattle.s390x_steps.specs.Operands.{Finalized, no_register, scratch, is_numbered, fits_12, fits_20, fits_32, addressed, with_widened, finalized, operand_general, offset_fits}
-use Rattle.s390x_steps.specs.Causes.{is_helped}
-use Rattle.s390x_steps.specs.declared.mem_inst_type.MemInstType.{MemInstType}
-use Rattle.s390x_steps.specs.General.{low_word}
-use Rattle.s390x_steps.specs.Operands.{widened}
+use Rattle.s390x_typed_steps.specs.General.{is_general}
+use Rattle.s390x_typed_steps.specs.Operands.{Finalized, no_register, scratch, is_numbered, fits_12, fits_20, fits_32, addressed, with_widened, finalized, operand_general, offset_fits}
+use Rattle.s390x_typed_steps.specs.Causes.{is_helped}
+use Rattle.s390x_typed_steps.specs.declared.mem_inst_type.MemInstType.{MemInstType}
+use Rattle.s390x_typed_steps.specs.General.{low_word}
+use Rattle.s390x_typed_steps.specs.Operands.{widened}
 use Rattle.s390x_lanes.specs.declared.operation.Signedness.TheVariants.{Signed, Unsigned}
-use Rattle.s390x_operations.specs.State.{Registers, Core, State, put, sum64}
+use Rattle.s390x_operations.specs.State.{Registers, Core, State, set_general, wrapping_add64}
 use Rattle.s390x_operations.specs.Bits.{extended}
-use Rattle.s390x_operations.specs.Effects.{Goes}
+use Rattle.s390x_operations.specs.Effects.{MayExecute}
 use Rattle.s390x_operations.specs.declared.effect.CodeRule.TheVariants.{Kept}
 use Rattle.s390x_operations.specs.declared.operator.Operator.TheVariants.{Move}
 use Rattle.s390x_operations.specs.declared.size.Size.TheVariants.{Doubleword}
 use Rattle.s390x_operations.specs.declared.size.Width.TheVariants.{Bits32, Bits64}
 use Rattle.s390x_machine.specs.Computations.{signed_word, on_doublewords, on_immediate, computes_immediate}
-use Rattle.s390x_machine.specs.Helpers.{OperationGoes, HelpersGo, IsSameAddress, IsReached, HelpersKeep, TakesOperand, TakesIndex}
-use Rattle.s390x_machine.specs.Forms.{instruction_form}
-use Rattle.s390x_machine.specs.Layout.{Layout, block_place, constant_place}
-use Rattle.s390x_machine.specs.Machine.{Went}
+use Rattle.s390x_machine.specs.Helpers.{KindMayExecute, HelpersMayExecute, IsSameAddress, IsAddressable, HelpersKeep, TakesOperand, TakesIndex}
+use Rattle.s390x_machine.specs.StepKinds.{instruction_kind}
+use Rattle.s390x_machine.specs.Layout.{Layout, block_address, constant_address}
+use Rattle.s390x_machine.specs.Machine.{Executed}
 use Rattle.s390x_machine.specs.Operands.{address_part, indexed, based}
-use Rattle.s390x_machine.specs.Storage.{address_of, needs_scratch, loads_address}
+use Rattle.s390x_machine.specs.Storage.{operand_address, needs_scratch, loads_address}
 use Rattle.s390x_machine.specs.Typed.{loosen}
 use Rattle.s390x_machine.proofs.Addresses.{sum_below}
 use Rattle.s390x_machine.proofs.Composites.{compute_changes}
@@ -90,17 +90,17 @@ helped_where_needed mi (SpillOffset off) general fits = refl
 -- ---- what they keep
 
 -- a helper's step
-address_goes : (a : ℕ) (c t : Core) → Goes (loads_address 1 a c.registers) c t → t ≡ record { registers = put c.registers 1 (a % 2 ^ 64); memory = c.memory }
-address_goes a c t h =
-    ap (λ (x : State). x.core) (compute_changes Move Doubleword 1 (c.registers.general 1) a Bits64 Unsigned false 0 0 c.registers c.memory c.memory (Went None) (record { core = t; place = sum64 0 0 }) (h, refl, refl)).1
+address_executes : (a : ℕ) (c t : Core) → MayExecute (loads_address 1 a c.registers) c t → t ≡ record { registers = set_general c.registers 1 (a % 2 ^ 64); memory = c.memory }
+address_executes a c t h =
+    ap (λ (x : State). x.core) (compute_changes Move Doubleword 1 (c.registers.general 1) a Bits64 Unsigned false 0 0 c.registers c.memory c.memory (Executed None) (record { core = t; address = wrapping_add64 0 0 }) (h, refl, refl)).1
 
-offset_goes : (bits : ℕ) (c t : Core) → Goes (computes_immediate Kept (on_immediate (on_doublewords Move) signed_word) 1 1 bits c.registers) c t → t ≡ record { registers = put c.registers 1 (extended Signed Bits32 Doubleword bits); memory = c.memory }
-offset_goes bits c t h =
-    ap (λ (x : State). x.core) (compute_changes Move Doubleword 1 (c.registers.general 1) bits Bits32 Signed false 0 0 c.registers c.memory c.memory (Went None) (record { core = t; place = sum64 0 0 }) (h, refl, refl)).1
+offset_executes : (bits : ℕ) (c t : Core) → MayExecute (computes_immediate Kept (on_immediate (on_doublewords Move) signed_word) 1 1 bits c.registers) c t → t ≡ record { registers = set_general c.registers 1 (extended Signed Bits32 Doubleword bits); memory = c.memory }
+offset_executes bits c t h =
+    ap (λ (x : State). x.core) (compute_changes Move Doubleword 1 (c.registers.general 1) bits Bits32 Signed false 0 0 c.registers c.memory c.memory (Executed None) (record { core = t; address = wrapping_add64 0 0 }) (h, refl, refl)).1
 
 -- an operand with its helpers keeps an address
 abbrev Keeps : Layout → Bool → (Registers → ℕ) → Finalized → Type 0
-Keeps L needs address f = (c t : Core) → HelpersGo L f.helpers c t → IsSameAddress (address_of L f.operand) t.registers (Some address) c.registers × (v : ℕ) × (t ≡ loosen needs v c)
+Keeps L needs address f = (c t : Core) → HelpersMayExecute L f.helpers c t → IsSameAddress (operand_address L f.operand) t.registers (Some address) c.registers × (v : ℕ) × (t ≡ loosen needs v c)
 
 -- an address that is another one
 same_other : (o : Option (Registers → ℕ)) (r q : Registers) (a b : Registers → ℕ) → a q ≡ b q → IsSameAddress o r (Some a) q → IsSameAddress o r (Some b) q
@@ -108,15 +108,15 @@ same_other None r q a b e h = absurd h
 same_other (Some x) r q a b e h = h ∙ e
 
 -- a displacement of 12 bits, also as one of 20
-same_short : (L : Layout) (mi : MemInstType) (base index : Reg) (d : ℕ) (flags : MachMemFlags) (address : Registers → ℕ) (r q : Registers) → indexed r (number_of base) (number_of index) (pos d) ≡ address q → IsSameAddress (address_of L (widened mi (BXD12 base index d flags))) r (Some address) q
+same_short : (L : Layout) (mi : MemInstType) (base index : Reg) (d : ℕ) (flags : MachMemFlags) (address : Registers → ℕ) (r q : Registers) → indexed r (number_of base) (number_of index) (pos d) ≡ address q → IsSameAddress (operand_address L (widened mi (BXD12 base index d flags))) r (Some address) q
 same_short L mi base index d flags address r q e = go (not mi.have_d12 && mi.have_d20)
   where
-    go : (t : Bool) → IsSameAddress (address_of L (cond t (BXD20 base index (pos d) flags) (BXD12 base index d flags))) r (Some address) q
+    go : (t : Bool) → IsSameAddress (operand_address L (cond t (BXD20 base index (pos d) flags) (BXD12 base index d flags))) r (Some address) q
     go true = e
     go false = e
 
 -- an address in %r1
-same_loaded : (L : Layout) (mi : MemInstType) (flags : MachMemFlags) (address : Registers → ℕ) (c t : Core) → address c.registers < 2 ^ 64 → t ≡ record { registers = put c.registers 1 (address c.registers % 2 ^ 64); memory = c.memory } → IsSameAddress (address_of L (widened mi (BXD12 scratch no_register 0 flags))) t.registers (Some address) c.registers
+same_loaded : (L : Layout) (mi : MemInstType) (flags : MachMemFlags) (address : Registers → ℕ) (c t : Core) → address c.registers < 2 ^ 64 → t ≡ record { registers = set_general c.registers 1 (address c.registers % 2 ^ 64); memory = c.memory } → IsSameAddress (operand_address L (widened mi (BXD12 scratch no_register 0 flags))) t.registers (Some address) c.registers
 same_loaded L mi flags address c t small e =
     same_short L mi scratch no_register 0 flags address t.registers c.registers (ap (λ (x : Core). indexed x.registers 1 0 (pos 0)) e ∙ loaded_address c.registers (address c.registers) small)
 
@@ -125,51 +125,51 @@ module _ (L : Layout) (mi : MemInstType) where
   keeps_12 base index d flags false c t e = (same_short L mi base index d flags (λ r. indexed r (number_of base) (number_of index) (pos d)) t.registers c.registers (ap (λ (x : Core). indexed x.registers (number_of base) (number_of index) (pos d)) e), 0, e)
   keeps_12 base index d flags true c t h =
       let a = indexed c.registers (number_of base) (number_of index) (pos d) in
-      let e = h.2 ∙ address_goes a c h.0 h.1 in
+      let e = h.2 ∙ address_executes a c h.0 h.1 in
       (same_loaded L mi flags (λ r. indexed r (number_of base) (number_of index) (pos d)) c t (low_below (pos (address_part c.registers (number_of base) + address_part c.registers (number_of index)) +ℤ pos d)) e, a % 2 ^ 64, e)
 
   keeps_20 : (base index : Reg) (z : ℤ) (flags : MachMemFlags) (t : Bool) → Keeps L t (λ r. indexed r (number_of base) (number_of index) z) (with_widened mi (cond t (record { helpers = LoadAddr scratch (BXD20 base index z flags) ∷ []; operand = BXD12 scratch no_register 0 flags }) (record { helpers = []; operand = BXD20 base index z flags })))
   keeps_20 base index z flags false c t e = (ap (λ (x : Core). indexed x.registers (number_of base) (number_of index) z) e, 0, e)
   keeps_20 base index z flags true c t h =
       let a = indexed c.registers (number_of base) (number_of index) z in
-      let e = h.2 ∙ address_goes a c h.0 h.1 in
+      let e = h.2 ∙ address_executes a c h.0 h.1 in
       (same_loaded L mi flags (λ r. indexed r (number_of base) (number_of index) z) c t (low_below (pos (address_part c.registers (number_of base) + address_part c.registers (number_of index)) +ℤ z)) e, a % 2 ^ 64, e)
 
   keeps_far : (reg : Reg) (off : ℤ) (flags : MachMemFlags) → (number_of reg == 1) ≡ false → negsuc 2147483647 ≤ℤ off → off ≤ℤ pos 2147483647 → (t : Bool) →
       Keeps L true (λ r. based r (number_of reg) off) (with_widened mi (cond t (record { helpers = Mov64SImm32 scratch off ∷ LoadAddr scratch (BXD12 reg scratch 0 flags) ∷ []; operand = BXD12 scratch no_register 0 flags }) (record { helpers = Mov64SImm32 scratch off ∷ []; operand = BXD12 reg scratch 0 flags })))
   keeps_far reg off flags other least most false c t h =
       let v = extended Signed Bits32 Doubleword (low_word off) in
-      let e = h.2 ∙ offset_goes (low_word off) c h.0 h.1 in
+      let e = h.2 ∙ offset_executes (low_word off) c h.0 h.1 in
       (same_short L mi reg scratch 0 flags (λ r. based r (number_of reg) off) t.registers c.registers (ap (λ (x : Core). indexed x.registers (number_of reg) 1 (pos 0)) e ∙ far_offset c.registers (number_of reg) off other least most), v, e)
   keeps_far reg off flags other least most true c t h =
       let v = extended Signed Bits32 Doubleword (low_word off) in
-      let first = offset_goes (low_word off) c h.0 h.1 in
+      let first = offset_executes (low_word off) c h.0 h.1 in
       let x = h.2 in
       let a = indexed h.0.registers (number_of reg) 1 (pos 0) in
       let same : a ≡ based c.registers (number_of reg) off = ap (λ (y : Core). indexed y.registers (number_of reg) 1 (pos 0)) first ∙ far_offset c.registers (number_of reg) off other least most in
-      let second = x.2 ∙ address_goes a h.0 x.0 x.1 in
+      let second = x.2 ∙ address_executes a h.0 x.0 x.1 in
       let w = based c.registers (number_of reg) off % 2 ^ 64 in
-      let e : t ≡ record { registers = put c.registers 1 w; memory = c.memory } =
-      second ∙ ap (λ (y : Core). record { registers = put y.registers 1 (a % 2 ^ 64); memory = y.memory }) first ∙ ap (λ n. record { registers = put (put c.registers 1 v) 1 (n % 2 ^ 64); memory = c.memory }) same
+      let e : t ≡ record { registers = set_general c.registers 1 w; memory = c.memory } =
+      second ∙ ap (λ (y : Core). record { registers = set_general y.registers 1 (a % 2 ^ 64); memory = y.memory }) first ∙ ap (λ n. record { registers = set_general (set_general c.registers 1 v) 1 (n % 2 ^ 64); memory = c.memory }) same
       ∙ ap (λ (y : Registers). record { registers = y; memory = c.memory }) (put_twice c.registers v w) in
       (same_loaded L mi flags (λ r. based r (number_of reg) off) c t (low_below (pos (address_part c.registers (number_of reg)) +ℤ off)) e, w, e)
 
   -- a place, whose address is loaded where the rows have no form for it
-  keeps_place : (m : MemArg) (flags : MachMemFlags) (a : ℕ) → address_of L m ≡ Some (λ r. a) → widened mi m ≡ m → ((x y : Core) → OperationGoes (instruction_form L (LoadAddr scratch m)) x y → Goes (loads_address 1 a x.registers) x y) → a < 2 ^ 64 → (t : Bool) →
+  keeps_place : (m : MemArg) (flags : MachMemFlags) (a : ℕ) → operand_address L m ≡ Some (λ r. a) → widened mi m ≡ m → ((x y : Core) → KindMayExecute (instruction_kind L (LoadAddr scratch m)) x y → MayExecute (loads_address 1 a x.registers) x y) → a < 2 ^ 64 → (t : Bool) →
       Keeps L t (λ r. a) (with_widened mi (cond t (record { helpers = LoadAddr scratch m ∷ []; operand = BXD12 scratch no_register 0 flags }) (record { helpers = []; operand = m })))
-  keeps_place m flags a here same loads small false c t e = (subst (λ o. IsSameAddress o t.registers (Some (λ r. a)) c.registers) (sym (ap (address_of L) same ∙ here)) refl, 0, e)
+  keeps_place m flags a here same loads small false c t e = (subst (λ o. IsSameAddress o t.registers (Some (λ r. a)) c.registers) (sym (ap (operand_address L) same ∙ here)) refl, 0, e)
   keeps_place m flags a here same loads small true c t h =
-      let e = h.2 ∙ address_goes a c h.0 (loads c h.0 h.1) in
+      let e = h.2 ∙ address_executes a c h.0 (loads c h.0 h.1) in
       (same_loaded L mi flags (λ r. a) c t small e, a % 2 ^ 64, e)
 
-  pub helpers_keep : (m : MemArg) → IsReached L m → HelpersKeep L mi m
+  pub helpers_keep : (m : MemArg) → IsAddressable L m → HelpersKeep L mi m
   helpers_keep (BXD12 base index d flags) b c t h =
       let zero = zero_test index (and_parts (is_general base) (is_general index) b.general).1 in
-      subst (λ n. IsSameAddress (address_of L (finalized mi (BXD12 base index d flags)).operand) t.registers (address_of L (BXD12 base index d flags)) c.registers × (v : ℕ) × (t ≡ loosen (not mi.have_index && not n) v c)) zero
+      subst (λ n. IsSameAddress (operand_address L (finalized mi (BXD12 base index d flags)).operand) t.registers (operand_address L (BXD12 base index d flags)) c.registers × (v : ℕ) × (t ≡ loosen (not mi.have_index && not n) v c)) zero
       (keeps_12 base index d flags (not mi.have_index && not (is_numbered 0 index)) c t h)
   helpers_keep (BXD20 base index z flags) b c t h =
       let zero = zero_test index (and_parts (is_general base) (is_general index) b.general).1 in
-      subst (λ n. IsSameAddress (address_of L (finalized mi (BXD20 base index z flags)).operand) t.registers (address_of L (BXD20 base index z flags)) c.registers × (v : ℕ) × (t ≡ loosen (not mi.have_d20 || (not mi.have_index && not n)) v c)) zero
+      subst (λ n. IsSameAddress (operand_address L (finalized mi (BXD20 base index z flags)).operand) t.registers (operand_address L (BXD20 base index z flags)) c.registers × (v : ℕ) × (t ≡ loosen (not mi.have_d20 || (not mi.have_index && not n)) v c)) zero
       (keeps_20 base index z flags (not mi.have_d20 || (not mi.have_index && not (is_numbered 0 index))) c t h)
   helpers_keep (RegOffset reg off flags) b c t h = go (fits_12 off) refl (fits_20 off) refl (fits_32 off) refl b.fits b.kept h
     where
@@ -180,29 +180,29 @@ module _ (L : Layout) (mi : MemInstType) where
           (cond t32 (record { helpers = Mov64SImm32 scratch off ∷ []; operand = BXD12 reg scratch 0 flags }) (record { helpers = []; operand = RegOffset reg off flags })))
 
       Result : Bool → (Registers → ℕ) → Finalized → Type 0
-      Result needs address f = IsSameAddress (address_of L f.operand) t.registers (Some address) c.registers × (v : ℕ) × (t ≡ loosen needs v c)
+      Result needs address f = IsSameAddress (operand_address L f.operand) t.registers (Some address) c.registers × (v : ℕ) × (t ≡ loosen needs v c)
 
-      go : (t12 : Bool) → fits_12 off ≡ t12 → (t20 : Bool) → fits_20 off ≡ t20 → (t32 : Bool) → fits_32 off ≡ t32 → IsTrue t32 → (is_numbered 1 reg && (t32 && not t12 && not t20)) ≡ false → HelpersGo L (with_widened mi (addressed mi (near t12 t20 t32))).helpers c t → Result (not t12 && not (t20 && mi.have_d20)) (λ r. based r (number_of reg) off) (with_widened mi (addressed mi (near t12 t20 t32)))
+      go : (t12 : Bool) → fits_12 off ≡ t12 → (t20 : Bool) → fits_20 off ≡ t20 → (t32 : Bool) → fits_32 off ≡ t32 → IsTrue t32 → (is_numbered 1 reg && (t32 && not t12 && not t20)) ≡ false → HelpersMayExecute L (with_widened mi (addressed mi (near t12 t20 t32))).helpers c t → Result (not t12 && not (t20 && mi.have_d20)) (λ r. based r (number_of reg) off) (with_widened mi (addressed mi (near t12 t20 t32)))
       go true e12 t20 e20 t32 e32 fits kept g =
           let n = short_12 off e12 in
           let is_pos : off ≡ pos (unsigned_abs off) = n.1 ∙ ap pos (sym (ap unsigned_abs n.1)) in
           let same : based c.registers (number_of reg) off ≡ indexed c.registers (number_of reg) 0 (pos (unsigned_abs off)) = ap (based c.registers (number_of reg)) is_pos ∙ sym (based_indexed c.registers (number_of reg) (pos (unsigned_abs off))) in
           let x = keeps_12 reg no_register (unsigned_abs off) flags (not mi.have_index && false) c t g in
-          (same_other (address_of L (with_widened mi (addressed mi (near true t20 t32))).operand) t.registers c.registers (λ r. indexed r (number_of reg) 0 (pos (unsigned_abs off))) (λ r. based r (number_of reg) off) (sym same) x.0, x.1, subst (λ n. t ≡ loosen n x.1 c) (and_false (not mi.have_index)) x.2)
+          (same_other (operand_address L (with_widened mi (addressed mi (near true t20 t32))).operand) t.registers c.registers (λ r. indexed r (number_of reg) 0 (pos (unsigned_abs off))) (λ r. based r (number_of reg) off) (sym same) x.0, x.1, subst (λ n. t ≡ loosen n x.1 c) (and_false (not mi.have_index)) x.2)
       go false e12 true e20 t32 e32 fits kept g =
           let x = keeps_20 reg no_register off flags (not mi.have_d20 || (not mi.have_index && false)) c t g in
           let needs : (not mi.have_d20 || (not mi.have_index && false)) ≡ not mi.have_d20 = ap (λ n. not mi.have_d20 || n) (and_false (not mi.have_index)) ∙ or_false (not mi.have_d20) in
-          (same_other (address_of L (with_widened mi (addressed mi (near false true t32))).operand) t.registers c.registers (λ r. indexed r (number_of reg) 0 off) (λ r. based r (number_of reg) off) (based_indexed c.registers (number_of reg) off) x.0, x.1, subst (λ n. t ≡ loosen n x.1 c) needs x.2)
+          (same_other (operand_address L (with_widened mi (addressed mi (near false true t32))).operand) t.registers c.registers (λ r. indexed r (number_of reg) 0 off) (λ r. based r (number_of reg) off) (based_indexed c.registers (number_of reg) off) x.0, x.1, subst (λ n. t ≡ loosen n x.1 c) needs x.2)
       go false e12 false e20 true e32 fits kept g =
           let z = short_32 off e32 in
           keeps_far reg off flags (not_scratch reg b.general (sym (and_true (is_numbered 1 reg)) ∙ kept)) z.0 z.1 (not mi.have_index && true) c t g
       go false e12 false e20 false e32 fits kept g = absurd (cc)
   helpers_keep (Label target) b c t h =
-      keeps_place (Label target) (flags_of (Label target)) (block_place L target.0) refl refl (λ x y g. g) (sum_below L.image.base (L.places.block target.0)) (not mi.have_pcrel) c t h
+      keeps_place (Label target) (flags_of (Label target)) (block_address L target.0) refl refl (λ x y g. g) (sum_below L.image.base (L.offsets.block target.0)) (not mi.have_pcrel) c t h
   helpers_keep (Constant constant) b c t h =
-      keeps_place (Constant constant) (flags_of (Constant constant)) (constant_place L constant.0) refl refl (λ x y g. g) (sum_below L.image.base (L.places.outside.constant constant.0)) (not mi.have_pcrel) c t h
+      keeps_place (Constant constant) (flags_of (Constant constant)) (constant_address L constant.0) refl refl (λ x y g. g) (sum_below L.image.base (L.offsets.environment.constant constant.0)) (not mi.have_pcrel) c t h
   helpers_keep (Symbol name offset flags) b c t h =
-      keeps_place (Symbol name offset flags) flags (L.places.outside.symbol_value name offset) refl refl (λ x y g. g) b.address (not mi.have_pcrel || (not flags.aligned && not mi.have_unaligned_pcrel)) c t h
+      keeps_place (Symbol name offset flags) flags (L.offsets.environment.symbol_value name offset) refl refl (λ x y g. g) b.address (not mi.have_pcrel || (not flags.aligned && not mi.have_unaligned_pcrel)) c t h
   helpers_keep (InitialSPOffset off) b c t h = absurd b.range
   helpers_keep (IncomingArgOffset off) b c t h = absurd b.range
   helpers_keep (OutgoingArgOffset off) b c t h = absurd b.range

@@ -1,136 +1,136 @@
 -- From each step alone to every run: the generic induction.
 use Rattle.std.proofs.Common.{◌⊎◌, Bool, true, false, IsTrue, IsFalse, true≢false, append-nil, ◌≡◌, ℕ, zero, suc, ◌+◌, ◌<◌, ◌≤◌, inl, inr, List, [], ◌∷◌, ◌++◌, length, Option, Some, None, refl, sym, ap, ◌∙◌, subst, arith, append_assoc, length-append, slice_get}
-use Rattle.s390x_operations.specs.State.{Core, State, Write, written, Lies, CodeImage, Apart}
+use Rattle.s390x_operations.specs.State.{Core, State, Write, written, IsLoaded, CodeImage, IsDisjoint}
 use Rattle.s390x_operations.specs.Access.{stores_into}
 use Rattle.s390x_operations.specs.Effects.{access}
-use Rattle.s390x_steps.specs.Steps.{Step}
-use Rattle.s390x_machine.specs.Machine.{Turn, Run, after_all, all_writes}
-use Rattle.s390x_machine.specs.Forms.{Form, Performs}
-use Rattle.s390x_machine.specs.Typed.{Ending, Ended, At, touches_image, TypedStep, Wrong, form_of, form_at, form_deposit, FormWrong}
-use Rattle.s390x_machine.specs.Match.{IsGroup, Quiet, joined, start, Closes, Allowed, EveryRun}
-use Rattle.s390x_machine.specs.OneStep.{OneStep, here, on, StepHolds, Runs, waits, silent, goes, stops, ends, lost, StepRuns}
+use Rattle.s390x_typed_steps.specs.Steps.{Step}
+use Rattle.s390x_machine.specs.Machine.{Transition, Run, after_all, all_writes}
+use Rattle.s390x_machine.specs.StepKinds.{StepKind, Performs}
+use Rattle.s390x_machine.specs.Typed.{Ending, Ended, At, touches_image, TypedStep, Wrong, kind_of_step, kind_at, store_event_of_kind, KindWrong}
+use Rattle.s390x_machine.specs.Match.{IsGroup, IsSilent, concatenated, start, EndsMatch, Allowed, EveryRun}
+use Rattle.s390x_machine.specs.OneStep.{OneStep, here, on, StepHolds, Runs, waits, silent, goes, stops, ends, stuck, StepRuns}
 use Rattle.s390x_machine.specs.Layout.{Layout, InStep}
 use Rattle.s390x_machine.proofs.Frame.{apart_of}
 
-pub run_after : (L : Layout) (s : State) (g rest : List Turn) → Run L.image s (g ++ rest) → Run L.image (after_all s g) rest
+pub run_after : (L : Layout) (s : State) (g rest : List Transition) → Run L.image s (g ++ rest) → Run L.image (after_all s g) rest
 run_after L s [] rest r = r
 run_after L s (x ∷ g) rest r = run_after L x.after g rest r.1
 
-pub after_append : (s : State) (g h : List Turn) → after_all s (g ++ h) ≡ after_all (after_all s g) h
+pub after_append : (s : State) (g h : List Transition) → after_all s (g ++ h) ≡ after_all (after_all s g) h
 after_append s [] h = refl
 after_append s (x ∷ g) h = after_append x.after g h
 
 -- a step, and what is allowed after it
-step_then : (L : Layout) (k : ℕ) (c : Core) (turns g rest : List Turn) → turns ≡ g ++ rest → IsGroup L k 4 g → (j : ℕ) (t : Core) → TypedStep L k (written (all_writes g) c) (At j) t → after_all (start L k c) g ≡ start L j t → Allowed L j (start L j t) rest → Allowed L k (start L k c) turns
-step_then L k c turns g rest split group j t step lands a = record {
+step_then : (L : Layout) (k : ℕ) (c : Core) (trace g rest : List Transition) → trace ≡ g ++ rest → IsGroup L k 4 g → (j : ℕ) (t : Core) → TypedStep L k (written (all_writes g) c) (At j) t → after_all (start L k c) g ≡ start L j t → Allowed L j (start L j t) rest → Allowed L k (start L k c) trace
+step_then L k c trace g rest split group j t step lands a = record {
   groups = g ∷ a.groups;
   rest = a.rest;
-  split = split ∙ ap (λ l. g ++ l) a.split ∙ sym (append_assoc g (joined a.groups) a.rest);
+  split = split ∙ ap (λ l. g ++ l) a.split ∙ sym (append_assoc g (concatenated a.groups) a.rest);
   position = a.position;
   core = a.core;
   run = (group, At j, t, step, a.run);
-  closes = subst (λ s. Closes L a.position a.core s a.rest) (sym (after_append (start L k c) g (joined a.groups) ∙ ap (λ s. after_all s (joined a.groups)) lands)) a.closes;
+  ends_match = subst (λ s. EndsMatch L a.position a.core s a.rest) (sym (after_append (start L k c) g (concatenated a.groups) ∙ ap (λ s. after_all s (concatenated a.groups)) lands)) a.ends_match;
 }
 
-combine : (L : Layout) (k : ℕ) (c : Core) (turns : List Turn) → Run L.image (start L k c) turns → OneStep L k c turns → ((j : ℕ) (t : Core) → Lies L.image t.memory → (rest : List Turn) → Run L.image (start L j t) rest → length rest < length turns → Allowed L j (start L j t) rest) → ((t : Core) → Lies L.image t.memory → (rest : List Turn) → Run L.image (start L (suc k) t) rest → length rest ≤ length turns → suc k ≤ length L.steps → Allowed L (suc k) (start L (suc k) t) rest) → Allowed L k (start L k c) turns
-combine L k c turns r (here a le) shorter without = a
-combine L k c turns r (on g rest split group j t step lands lies (inl pos)) shorter without =
+combine : (L : Layout) (k : ℕ) (c : Core) (trace : List Transition) → Run L.image (start L k c) trace → OneStep L k c trace → ((j : ℕ) (t : Core) → IsLoaded L.image t.memory → (rest : List Transition) → Run L.image (start L j t) rest → length rest < length trace → Allowed L j (start L j t) rest) → ((t : Core) → IsLoaded L.image t.memory → (rest : List Transition) → Run L.image (start L (suc k) t) rest → length rest ≤ length trace → suc k ≤ length L.steps → Allowed L (suc k) (start L (suc k) t) rest) → Allowed L k (start L k c) trace
+combine L k c trace r (here a le) shorter without = a
+combine L k c trace r (on g rest split group j t step lands is_loaded (inl pos)) shorter without =
     let r' = subst (λ s. Run L.image s rest) lands (run_after L (start L k c) g rest (subst (λ l. Run L.image (start L k c) l) split r)) in
-    let lt : length rest < length turns = omega (arith, ap length split, length-append g rest) in
-    step_then L k c turns g rest split group j t step lands (shorter j t lies rest r' lt)
-combine L k c turns r (on g rest split group j t step lands lies (inr e)) shorter without =
+    let lt : length rest < length trace = omega (arith, ap length split, length-append g rest) in
+    step_then L k c trace g rest split group j t step lands (shorter j t is_loaded rest r' lt)
+combine L k c trace r (on g rest split group j t step lands is_loaded (inr e)) shorter without =
     let r' = subst (λ s. Run L.image s rest) lands (run_after L (start L k c) g rest (subst (λ l. Run L.image (start L k c) l) split r)) in
-    let le : length rest ≤ length turns = omega (arith, ap length split, length-append g rest) in
-    step_then L k c turns g rest split group j t step lands (subst (λ i. Allowed L i (start L i t) rest) (sym e.0) (without t lies rest (subst (λ i. Run L.image (start L i t) rest) e.0 r') le e.1))
+    let le : length rest ≤ length trace = omega (arith, ap length split, length-append g rest) in
+    step_then L k c trace g rest split group j t step lands (subst (λ i. Allowed L i (start L i t) rest) (sym e.0) (without t is_loaded rest (subst (λ i. Run L.image (start L i t) rest) e.0 r') le e.1))
 
 module _ (L : Layout) (holds : (k : ℕ) → StepHolds L k) where
-  inner : (n : ℕ) → ((j : ℕ) (t : Core) → Lies L.image t.memory → (rest : List Turn) → Run L.image (start L j t) rest → length rest < n → Allowed L j (start L j t) rest) → (d k : ℕ) (c : Core) → Lies L.image c.memory → (turns : List Turn) → Run L.image (start L k c) turns → length turns ≤ n → length L.steps ≤ k + d → Allowed L k (start L k c) turns
-  inner n shorter zero k c lies turns r le far =
-      combine L k c turns r (holds k c lies turns r) (λ j t l rest q lt. shorter j t l rest q (omega arith)) (λ t l rest q le' below. absurd (omega arith))
-  inner n shorter (suc d) k c lies turns r le far =
-      combine L k c turns r (holds k c lies turns r) (λ j t l rest q lt. shorter j t l rest q (omega arith)) (λ t l rest q le' below. inner n shorter d (suc k) t l rest q (omega arith) (omega arith))
+  inner : (n : ℕ) → ((j : ℕ) (t : Core) → IsLoaded L.image t.memory → (rest : List Transition) → Run L.image (start L j t) rest → length rest < n → Allowed L j (start L j t) rest) → (d k : ℕ) (c : Core) → IsLoaded L.image c.memory → (trace : List Transition) → Run L.image (start L k c) trace → length trace ≤ n → length L.steps ≤ k + d → Allowed L k (start L k c) trace
+  inner n shorter zero k c is_loaded trace r le far =
+      combine L k c trace r (holds k c is_loaded trace r) (λ j t l rest q lt. shorter j t l rest q (omega arith)) (λ t l rest q le' below. absurd (omega arith))
+  inner n shorter (suc d) k c is_loaded trace r le far =
+      combine L k c trace r (holds k c is_loaded trace r) (λ j t l rest q lt. shorter j t l rest q (omega arith)) (λ t l rest q le' below. inner n shorter d (suc k) t l rest q (omega arith) (omega arith))
 
-  outer : (n k : ℕ) (c : Core) → Lies L.image c.memory → (turns : List Turn) → Run L.image (start L k c) turns → length turns < n → Allowed L k (start L k c) turns
-  outer zero k c lies turns r lt = absurd (omega arith)
-  outer (suc n) k c lies turns r lt = inner n (outer n) (length L.steps) k c lies turns r (omega arith) (omega arith)
+  outer : (n k : ℕ) (c : Core) → IsLoaded L.image c.memory → (trace : List Transition) → Run L.image (start L k c) trace → length trace < n → Allowed L k (start L k c) trace
+  outer zero k c is_loaded trace r lt = absurd (omega arith)
+  outer (suc n) k c is_loaded trace r lt = inner n (outer n) (length L.steps) k c is_loaded trace r (omega arith) (omega arith)
 
   pub every_run_from : (k : ℕ) → EveryRun L k
-  every_run_from k c lies turns r = outer (suc (length turns)) k c lies turns r (omega arith)
+  every_run_from k c is_loaded trace r = outer (suc (length trace)) k c is_loaded trace r (omega arith)
 
 -- past the last step the typed run is wrong
-past_end : (L : Layout) (k : ℕ) (c : Core) (turns : List Turn) → slice_get L.steps k ≡ None → OneStep L k c turns
-past_end L k c turns e = here (record {
+past_end : (L : Layout) (k : ℕ) (c : Core) (trace : List Transition) → slice_get L.steps k ≡ None → OneStep L k c trace
+past_end L k c trace e = here (record {
   groups = [];
-  rest = turns;
+  rest = trace;
   split = refl;
   position = At k;
   core = c;
   run = (refl, refl);
-  closes = (refl, inl (subst (λ o. FormWrong L (form_of L o) c) (sym e) tt));
+  ends_match = (refl, inl (subst (λ o. KindWrong L (kind_of_step L o) c) (sym e) tt));
 }) (omega arith)
 
 by_instruction : (L : Layout) → ((k : ℕ) (i : Step) → slice_get L.steps k ≡ Some i → StepHolds L k) → (k : ℕ) (o : Option Step) → slice_get L.steps k ≡ o → StepHolds L k
-by_instruction L holds k None e c lies turns r = past_end L k c turns e
-by_instruction L holds k (Some i) e c lies turns r = holds k i e c lies turns r
+by_instruction L holds k None e c is_loaded trace r = past_end L k c trace e
+by_instruction L holds k (Some i) e c is_loaded trace r = holds k i e c is_loaded trace r
 
 -- the same, of a proof for each instruction
-pub turns_of : (L : Layout) → ((k : ℕ) (i : Step) → slice_get L.steps k ≡ Some i → StepHolds L k) → (k : ℕ) → EveryRun L k
-turns_of L holds k = every_run_from L (λ j. by_instruction L holds j (slice_get L.steps j) refl) k
+pub trace_of : (L : Layout) → ((k : ℕ) (i : Step) → slice_get L.steps k ≡ Some i → StepHolds L k) → (k : ℕ) → EveryRun L k
+trace_of L holds k = every_run_from L (λ j. by_instruction L holds j (slice_get L.steps j) refl) k
 
 -- ---- a step by itself, from what the machine does
 
-abbrev form_into : CodeImage → Option Form → Core → Bool
+abbrev form_into : CodeImage → Option StepKind → Core → Bool
 form_into image (Some (Performs needs operation code)) c = stores_into image (access (operation c.registers).effect)
 form_into image _ c = false
 
-wrong_into : (L : Layout) (o : Option Form) (c : Core) → IsTrue (form_into L.image o c) → FormWrong L o c
+wrong_into : (L : Layout) (o : Option StepKind) (c : Core) → IsTrue (form_into L.image o c) → KindWrong L o c
 wrong_into L (Some (Performs needs operation code)) c e = touches_image e
 wrong_into L (Some _) c e = absurd (true≢false (sym e))
 wrong_into L None c e = tt
 
-apart_form : (image : CodeImage) (o : Option Form) (c : Core) (ws : List Write) → IsFalse (form_into image o c) → Apart image (form_deposit o (written ws c))
+apart_form : (image : CodeImage) (o : Option StepKind) (c : Core) (ws : List Write) → IsFalse (form_into image o c) → IsDisjoint image (store_event_of_kind o (written ws c))
 apart_form image (Some (Performs needs operation code)) c ws e = apart_of image (access (operation c.registers).effect) (written ws c).memory e
 apart_form image (Some _) c ws e = tt
 apart_form image None c ws e = tt
 
 -- a step that has a byte may take any few turns
-pub group_within : (L : Layout) (k most : ℕ) (g : List Turn) {p : ℕ} → InStep L k p → length g ≤ most → IsGroup L k most g
+pub group_within : (L : Layout) (k most : ℕ) (g : List Transition) {p : ℕ} → InStep L k p → length g ≤ most → IsGroup L k most g
 group_within L k most g at few = (few, λ e. absurd (omega (arith, at.above, at.below, e)))
 
-stays_here : (L : Layout) (k : ℕ) (c : Core) (turns : List Turn) → Wrong L k c ⊎ (IsGroup L k 3 turns × Quiet turns) → OneStep L k c turns
-stays_here L k c turns w = here (record {
+stays_here : (L : Layout) (k : ℕ) (c : Core) (trace : List Transition) → Wrong L k c ⊎ (IsGroup L k 3 trace × IsSilent trace) → OneStep L k c trace
+stays_here L k c trace w = here (record {
   groups = [];
-  rest = turns;
+  rest = trace;
   split = refl;
   position = At k;
   core = c;
   run = (refl, refl);
-  closes = (refl, w);
+  ends_match = (refl, w);
 }) (omega arith)
 
-stays_ended : (L : Layout) (k : ℕ) (c : Core) (g rest : List Turn) (e : Ending) (x : Core) → IsGroup L k 4 g → TypedStep L k (written (all_writes g) c) (Ended e) x → Closes L (Ended e) x (after_all (start L k c) g) rest → OneStep L k c (g ++ rest)
-stays_ended L k c g rest e x group step closes = here (record {
+stays_ended : (L : Layout) (k : ℕ) (c : Core) (g rest : List Transition) (e : Ending) (x : Core) → IsGroup L k 4 g → TypedStep L k (written (all_writes g) c) (Ended e) x → EndsMatch L (Ended e) x (after_all (start L k c) g) rest → OneStep L k c (g ++ rest)
+stays_ended L k c g rest e x group step ends_match = here (record {
   groups = g ∷ [];
   rest = rest;
   split = ap (λ l. l ++ rest) (sym (append-nil g));
   position = Ended e;
   core = x;
   run = (group, Ended e, x, step, (refl, refl));
-  closes = subst (λ l. Closes L (Ended e) x (after_all (start L k c) l) rest) (sym (append-nil g)) closes;
+  ends_match = subst (λ l. EndsMatch L (Ended e) x (after_all (start L k c) l) rest) (sym (append-nil g)) ends_match;
 }) (omega arith)
 
-weaker : (L : Layout) (k : ℕ) (c : Core) (turns : List Turn) → Lies L.image c.memory → IsFalse (form_into L.image (form_at L k) c) → Runs L k c turns → OneStep L k c turns
-weaker L k c turns lies out (waits few quiet at) = stays_here L k c turns (inr (group_within L k 3 turns at few, quiet))
-weaker L k c turns lies out (silent step below same) = on [] turns refl (omega arith, λ e. refl) (suc k) c step (ap (λ q. record { core = c; place = q }) same) lies (inr (refl, below))
-weaker L k c turns lies out (goes h rest t split group quiet j x step e m lands l) =
-    on (h ++ t ∷ []) rest (split ∙ sym (append_assoc h (t ∷ []) rest)) group j x step (after_append (start L k c) h (t ∷ []) ∙ lands) (l (apart_form L.image (form_at L k) c (all_writes (h ++ t ∷ [])) out)) (inl (omega (arith, length-append h (t ∷ []))))
-weaker L k c turns lies out (stops h rest t kind split quiet e w) = stays_here L k c turns (inl w)
-weaker L k c turns lies out (ends g rest split group quiet e x step closes) = subst (λ l. OneStep L k c l) (sym split) (stays_ended L k c g rest e x group step closes)
-weaker L k c turns lies out (lost w form) = stays_here L k c turns (inl w)
+weaker : (L : Layout) (k : ℕ) (c : Core) (trace : List Transition) → IsLoaded L.image c.memory → IsFalse (form_into L.image (kind_at L k) c) → Runs L k c trace → OneStep L k c trace
+weaker L k c trace is_loaded out (waits few quiet at) = stays_here L k c trace (inr (group_within L k 3 trace at few, quiet))
+weaker L k c trace is_loaded out (silent step below same) = on [] trace refl (omega arith, λ e. refl) (suc k) c step (ap (λ q. record { core = c; address = q }) same) is_loaded (inr (refl, below))
+weaker L k c trace is_loaded out (goes h rest t split group quiet j x step e m lands l) =
+    on (h ++ t ∷ []) rest (split ∙ sym (append_assoc h (t ∷ []) rest)) group j x step (after_append (start L k c) h (t ∷ []) ∙ lands) (l (apart_form L.image (kind_at L k) c (all_writes (h ++ t ∷ [])) out)) (inl (omega (arith, length-append h (t ∷ []))))
+weaker L k c trace is_loaded out (stops h rest t kind split quiet e w) = stays_here L k c trace (inl w)
+weaker L k c trace is_loaded out (ends g rest split group quiet e x step ends_match) = subst (λ l. OneStep L k c l) (sym split) (stays_ended L k c g rest e x group step ends_match)
+weaker L k c trace is_loaded out (stuck w form) = stays_here L k c trace (inl w)
 
-unless_into : (L : Layout) (k : ℕ) (c : Core) (turns : List Turn) → Lies L.image c.memory → Runs L k c turns → (b : Bool) → form_into L.image (form_at L k) c ≡ b → OneStep L k c turns
-unless_into L k c turns lies r true e = stays_here L k c turns (inl (wrong_into L (form_at L k) c e))
-unless_into L k c turns lies r false e = weaker L k c turns lies e r
+unless_into : (L : Layout) (k : ℕ) (c : Core) (trace : List Transition) → IsLoaded L.image c.memory → Runs L k c trace → (b : Bool) → form_into L.image (kind_at L k) c ≡ b → OneStep L k c trace
+unless_into L k c trace is_loaded r true e = stays_here L k c trace (inl (wrong_into L (kind_at L k) c e))
+unless_into L k c trace is_loaded r false e = weaker L k c trace is_loaded e r
 
 pub one_step : (L : Layout) (k : ℕ) → StepRuns L k → StepHolds L k
-one_step L k runs c lies turns run = unless_into L k c turns lies (runs c lies turns run) _ refl
+one_step L k runs c is_loaded trace run = unless_into L k c trace is_loaded (runs c is_loaded trace run) _ refl

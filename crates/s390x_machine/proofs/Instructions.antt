@@ -11,34 +11,34 @@ use Rattle.s390x_inst.specs.declared.inst.Inst.TheVariants.{CmpTrapRSImm16, CmpT
 use Rattle.s390x_inst.specs.declared.inst.Inst.TheVariants.{StoreImm16, StoreImm32SExt16, StoreImm64SExt16, LoadMultiple64, StoreMultiple64, LoadAddr, AtomicRmw, AtomicCas32, AtomicCas64, JTSequence, AllocateArgs, Args, Rets, DummyUse, SequencePoint}
 use Rattle.s390x_format.specs.Formats.{length_of}
 use Rattle.s390x_format.specs.declared.kind.FormatKind.TheVariants.{Rr}
-use Rattle.s390x_steps.specs.General.{is_general, reuses, reuses_pair, low_halfword, low_word, four_bits, low_displacement, is_access}
-use Rattle.s390x_steps.specs.Opcodes.{alu_two, cmp_two, unary_two, alu_halfword, alu_three_halfword, alu_signed_word, alu_unsigned_word, cmp_halfword, cmp_trap, cmp_trap_signed, cmp_trap_unsigned, cmp_signed_word, cmp_unsigned_word, alu_part, alu_half, load_part, load_half, insert_part, extend_two, indexed_opcode, logical_indexed_opcode}
-use Rattle.s390x_steps.specs.Steps.{Step, Plain, Opening, Back, Break}
+use Rattle.s390x_typed_steps.specs.General.{is_general, reuses, reuses_pair, low_halfword, low_word, four_bits, low_displacement, is_access}
+use Rattle.s390x_typed_steps.specs.Opcodes.{alu_two, cmp_two, unary_two, alu_halfword, alu_three_halfword, alu_signed_word, alu_unsigned_word, cmp_halfword, cmp_trap, cmp_trap_signed, cmp_trap_unsigned, cmp_signed_word, cmp_unsigned_word, alu_part, alu_half, load_part, load_half, insert_part, extend_two, indexed_opcode, logical_indexed_opcode}
+use Rattle.s390x_typed_steps.specs.Steps.{Step, Plain, Opening, Back, Break}
 use Rattle.s390x_operations.specs.declared.effect.CodeRule.TheVariants.{Kept, Set}
 use Rattle.s390x_operations.specs.declared.size.Size.TheVariants.{Halfword, Word, Doubleword}
 use Rattle.s390x_operations.specs.declared.size.Width.TheVariants.{Bits16, Bits32, Bits64}
 use Rattle.s390x_operations.specs.declared.operator.SelectedBitsOperator.TheVariants as Select
 use Rattle.s390x_operations.specs.declared.operator.Operator.TheVariants.{Move, SelectedBits}
-use Rattle.s390x_machine.specs.declared.meaning.Meaning.TheVariants.{DivideSigned, DivideLogical}
-use Rattle.s390x_machine.specs.Computations.{alu_computation, alu_two_rule, unary_computation, unary_rule, comparison, on_words, on_doublewords, word, signed_word, halfword, signed_halfword, on_immediate, compares_on_immediate, doubleword, part_mask, half_mask, part_operator, extension, divides_signed, divides_logical}
-use Rattle.s390x_machine.specs.Typed.{form_of}
+use Rattle.s390x_machine.specs.declared.semantics.RowSemantics.TheVariants.{DivideSigned, DivideLogical}
+use Rattle.s390x_machine.specs.Computations.{alu_computation, alu_two_rule, unary_computation, unary_rule, comparison, on_words, on_doublewords, unsigned_word, signed_word, unsigned_halfword, signed_halfword, on_immediate, compares_on_immediate, doubleword, part_mask, half_mask, part_operator, extension, divides_signed, divides_logical}
+use Rattle.s390x_machine.specs.Typed.{kind_of_step}
 use Rattle.s390x_machine.specs.Match.{EveryRunFrom, EveryRun, EveryBlockRun}
 use Rattle.s390x_machine.specs.OneStep.{StepRuns, StepHolds}
 use Rattle.s390x_machine.specs.Layout.{Layout}
-use Rattle.s390x_machine.specs.Placed.{AllPlaced, IsBlock, IsFineInstruction, IsFine}
+use Rattle.s390x_machine.specs.CodeAt.{AllCodeAt, IsBlock, IsValidInstruction, IsValidStep}
 use Rattle.s390x_machine.proofs.Standing.{block_at}
 use Rattle.s390x_machine.proofs.Operands.{halfword_bits, word_bits, displacement_bits}
 use Rattle.s390x_machine.proofs.Rows.{general_number, nonzero_number, unscratched_number}
 use Rattle.s390x_machine.proofs.Bits.{part_rows, half_rows, load_part_rows, load_half_rows, insert_part_rows, extend_rows, locr_row, locgr_row, lochi_row, locghi_row, indexed_rows, logical_indexed_rows, dsgfr_row, dsgr_row, dlr_row, dlgr_row, trap_rows, trap_signed_rows, trap_unsigned_rows}
-use Rattle.s390x_machine.proofs.Alone.{alu_two_rows, cmp_rows, unary_rows, lgr_row, lr_row, halfword_rows, three_halfword_rows, signed_word_rows, unsigned_word_rows, cmp_halfword_rows, cmp_signed_word_rows, cmp_unsigned_word_rows, iilf_row, lhi_row, lghi_row, lgfi_row}
-use Rattle.s390x_steps.specs.Storage.{alu_rx, alu_rxy, cmp_rx, cmp_rxy, cmp_ril, atomic_rsy}
+use Rattle.s390x_machine.proofs.SingleInstruction.{alu_two_rows, cmp_rows, unary_rows, lgr_row, lr_row, halfword_rows, three_halfword_rows, signed_word_rows, unsigned_word_rows, cmp_halfword_rows, cmp_signed_word_rows, cmp_unsigned_word_rows, iilf_row, lhi_row, lghi_row, lgfi_row}
+use Rattle.s390x_typed_steps.specs.Storage.{alu_rx, alu_rxy, cmp_rx, cmp_rxy, cmp_ril, atomic_rsy}
 use Rattle.s390x_machine.specs.Storage.{byte, signed_byte, reversed_bytes, indexed_forms, based_forms, alu_forms, cmp_forms}
 use Rattle.s390x_machine.proofs.RelativeRows.{relative_load_32, relative_load_32_zero_16, relative_load_32_signed_16, relative_load_64, relative_load_64_zero_16, relative_load_64_signed_16, relative_load_64_zero_32, relative_load_64_signed_32, relative_store_16, relative_store_32, relative_store_64, cmp_relative_rows}
 use Rattle.s390x_machine.proofs.StorageRows.{load_32, load_32_zero_8, load_32_signed_8, load_32_zero_16, load_32_signed_16, load_64, load_64_zero_8, load_64_signed_8, load_64_zero_16, load_64_signed_16, load_64_zero_32, load_64_signed_32, load_reversed_16, load_reversed_32, load_reversed_64, store_8, store_16, store_32, store_64, store_reversed_16, store_reversed_32}
 use Rattle.s390x_machine.proofs.StorageRows.{store_reversed_64, store_immediate_16, store_immediate_32, store_immediate_64, swap_32, swap_64, alu_same, cmp_same, alu_short_rows, alu_long_rows, cmp_short_rows, cmp_long_rows, atomic_rows}
 use Rattle.s390x_machine.proofs.StorageSteps.{loads, loads_an_address, stores, stores_a_byte, stores_an_immediate, loads_registers, stores_registers, computes_in_memory, compares_in_memory, operates, swaps}
 use Rattle.s390x_machine.proofs.Branches.{returns_runs, address_runs}
-use Rattle.s390x_machine.proofs.Induction.{turns_of, one_step}
+use Rattle.s390x_machine.proofs.Induction.{trace_of, one_step}
 use Rattle.s390x_machine.proofs.Built.{StepAt}
 use Rattle.s390x_machine.proofs.OnRegisters.{computes_two, compares_two, copies_runs, alu_three_runs, move_where_runs, move_immediate_where_runs, signed_runs, logical_runs, leftmost_runs, count_runs, any_runs}
 use Rattle.s390x_machine.proofs.OnImmediates.{one_of_halfword, one_of_word, compare_of_halfword, compare_of_word, three_halfword_runs, placed_halfword, placed_word, inserted_half, allocate_runs}
@@ -49,180 +49,180 @@ use Rattle.s390x_machine.proofs.RegisterNumbers.{two_small, three_small, reused_
 
 -- ---- all of them
 
-instruction_runs : (L : Layout) (k : ℕ) (i : Inst) → StepAt L k (Plain i) → IsFineInstruction L i → StepRuns L k
-instruction_runs L k (AluRRR op rd rn rm) b fine =
-    alu_three_runs b op (number_of rd) (number_of rn) (number_of rm) (is_general rd && is_general rn && is_general rm) (refl, refl, fine) (three_small rd rn rm)
-instruction_runs L k (AluRR op rd ri rm) b fine =
-    computes_two b (reuses rd ri && is_general rm) (alu_two op) (alu_computation op) (alu_two_rule op) (alu_two_rows op) (number_of rd) (number_of rm) (refl, refl, fine) (reused_small rd ri rm)
-instruction_runs L k (UnaryRR U.PopcntByte rd rn) b fine =
-    count_runs b 0 (omega arith) refl (number_of rd) (number_of rn) (refl, refl) (two_small rd rn fine)
-instruction_runs L k (UnaryRR U.PopcntReg rd rn) b fine =
-    count_runs b 8 (omega arith) refl (number_of rd) (number_of rn) (refl, refl) (two_small rd rn fine)
-instruction_runs L k (UnaryRR op rd rn) b fine =
-    computes_two b (is_general rd && is_general rn) (unary_two op) (unary_computation op) (unary_rule op) (unary_rows op) (number_of rd) (number_of rn) (refl, refl, fine) (two_small rd rn)
-instruction_runs L k (CmpRR op rn rm) b fine =
-    compares_two b (is_general rn && is_general rm) (cmp_two op) (comparison op) (cmp_rows op) (number_of rn) (number_of rm) (refl, refl, fine) (two_small rn rm)
-instruction_runs L k (Mov64 rd rm) b fine =
-    computes_two b (is_general rd && is_general rm) (Some 0xb904) (on_doublewords Move) Kept lgr_row (number_of rd) (number_of rm) (refl, refl, fine) (two_small rd rm)
-instruction_runs L k (MovPReg rd rm) b fine =
-    computes_two b (is_general rd && is_general (Real rm)) (Some 0xb904) (on_doublewords Move) Kept lgr_row (number_of rd) (number_of (Real rm)) (refl, refl, fine) (two_small rd (Real rm))
-instruction_runs L k (Mov32 rd rm) b fine =
-    computes_two b (is_general rd && is_general rm) (Some 0x18) (on_words Move) Kept lr_row (number_of rd) (number_of rm) (refl, refl, fine) (two_small rd rm)
-instruction_runs L k (AluRRSImm16 op rd rn imm) b fine =
-    three_halfword_runs b (on_immediate (alu_computation op) signed_halfword) (alu_two_rule op) (number_of rd) (number_of rn) (low_halfword imm) (is_general rd && is_general rn) (alu_three_halfword op) (alu_halfword op) (three_halfword_rows op) (halfword_rows op) (refl, refl, fine) (two_small rd rn) (halfword_bits imm)
-instruction_runs L k (AluRSImm16 op rd ri imm) b fine =
-    one_of_halfword b (reuses rd ri) (alu_halfword op) (on_immediate (alu_computation op) signed_halfword) (alu_two_rule op) (halfword_rows op) (number_of rd) (low_halfword imm) (refl, refl, fine) (output_small rd ri) (halfword_bits imm)
-instruction_runs L k (AluRSImm32 op rd ri imm) b fine =
-    one_of_word b (reuses rd ri) (alu_signed_word op) (on_immediate (alu_computation op) signed_word) (alu_two_rule op) (signed_word_rows op) (number_of rd) (low_word imm) (refl, refl, fine) (output_small rd ri) (word_bits imm)
-instruction_runs L k (CmpRSImm16 op rn imm) b fine =
-    compare_of_halfword b (is_general rn) (cmp_halfword op) (compares_on_immediate (comparison op) signed_halfword) (cmp_halfword_rows op) (number_of rn) (low_halfword imm) (refl, refl, fine) (general_number rn) (halfword_bits imm)
-instruction_runs L k (CmpRSImm32 op rn imm) b fine =
-    compare_of_word b (is_general rn) (cmp_signed_word op) (compares_on_immediate (comparison op) signed_word) (cmp_signed_word_rows op) (number_of rn) (low_word imm) (refl, refl, fine) (general_number rn) (word_bits imm)
-instruction_runs L k (AluRUImm32 op rd ri imm) b fine =
-    one_of_word b (reuses rd ri) (alu_unsigned_word op) (on_immediate (alu_computation op) word) (alu_two_rule op) (unsigned_word_rows op) (number_of rd) (low_word (pos imm)) (refl, refl, fine) (output_small rd ri) (word_bits (pos imm))
-instruction_runs L k (CmpRUImm32 op rn imm) b fine =
-    compare_of_word b (is_general rn) (cmp_unsigned_word op) (compares_on_immediate (comparison op) word) (cmp_unsigned_word_rows op) (number_of rn) (low_word (pos imm)) (refl, refl, fine) (general_number rn) (word_bits (pos imm))
-instruction_runs L k (Mov32Imm rd imm) b fine =
-    one_of_word b (is_general rd) (Some 0xc09) (on_words Move) Kept iilf_row (number_of rd) (low_word (pos imm)) (refl, refl, fine) (general_number rd) (word_bits (pos imm))
-instruction_runs L k (Mov32SImm16 rd imm) b fine =
-    one_of_halfword b (is_general rd) (Some 0xa78) (on_immediate (on_words Move) signed_halfword) Kept lhi_row (number_of rd) (low_halfword imm) (refl, refl, fine) (general_number rd) (halfword_bits imm)
-instruction_runs L k (Mov64SImm16 rd imm) b fine =
-    one_of_halfword b (is_general rd) (Some 0xa79) (on_immediate (on_doublewords Move) signed_halfword) Kept lghi_row (number_of rd) (low_halfword imm) (refl, refl, fine) (general_number rd) (halfword_bits imm)
-instruction_runs L k (Mov64SImm32 rd imm) b fine =
-    one_of_word b (is_general rd) (Some 0xc01) (on_immediate (on_doublewords Move) signed_word) Kept lgfi_row (number_of rd) (low_word imm) (refl, refl, fine) (general_number rd) (word_bits imm)
-instruction_runs L k (AluRUImm16Shifted op rd ri imm) b fine =
-    placed_halfword b (reuses rd ri) (alu_part op imm.shift) (SelectedBits (part_operator op) (part_mask imm.shift)) Set (16 * imm.shift) (part_rows op imm.shift) (number_of rd) (low_halfword (pos imm.bits)) (refl, refl, fine) (output_small rd ri) (halfword_bits (pos imm.bits))
-instruction_runs L k (AluRUImm32Shifted op rd ri imm) b fine =
-    placed_word b (reuses rd ri) (alu_half op imm.shift) (SelectedBits (part_operator op) (half_mask imm.shift)) Set (32 * imm.shift) (half_rows op imm.shift) (number_of rd) (low_word (pos imm.bits)) (refl, refl, fine) (output_small rd ri) (word_bits (pos imm.bits))
-instruction_runs L k (Mov64UImm16Shifted rd imm) b fine =
-    placed_halfword b (is_general rd) (load_part imm.shift) Move Kept (16 * imm.shift) (load_part_rows imm.shift) (number_of rd) (low_halfword (pos imm.bits)) (refl, refl, fine) (general_number rd) (halfword_bits (pos imm.bits))
-instruction_runs L k (Mov64UImm32Shifted rd imm) b fine =
-    placed_word b (is_general rd) (load_half imm.shift) Move Kept (32 * imm.shift) (load_half_rows imm.shift) (number_of rd) (low_word (pos imm.bits)) (refl, refl, fine) (general_number rd) (word_bits (pos imm.bits))
-instruction_runs L k (Insert64UImm16Shifted rd ri imm) b fine =
-    placed_halfword b (reuses rd ri) (insert_part imm.shift) (SelectedBits Select.Insert (part_mask imm.shift)) Kept (16 * imm.shift) (insert_part_rows imm.shift) (number_of rd) (low_halfword (pos imm.bits)) (refl, refl, fine) (output_small rd ri) (halfword_bits (pos imm.bits))
-instruction_runs L k (Insert64UImm32Shifted rd ri imm) b fine =
-    inserted_half b (reuses rd ri) imm.shift (number_of rd) (low_word (pos imm.bits)) (refl, refl, fine) (output_small rd ri) (word_bits (pos imm.bits))
-instruction_runs L k (Extend rd rn signed from to) b fine =
-    computes_two b (is_general rd && is_general rn) (extend_two signed from to) (extension signed from to) Kept (extend_rows signed from to) (number_of rd) (number_of rn) (refl, refl, fine) (two_small rd rn)
-instruction_runs L k (LoadAR rd ar) b fine =
-    copies_runs b (is_general rd && is_access ar) (number_of rd) (four_bits ar) (refl, refl, fine) (λ h. access_small rd ar (general_number rd (and_parts (is_general rd) (is_access ar) h).0))
-instruction_runs L k (InsertAR rd ri ar) b fine =
-    copies_runs b (reuses rd ri && is_access ar) (number_of rd) (four_bits ar) (refl, refl, fine) (λ h. access_small rd ar (output_small rd ri (and_parts (reuses rd ri) (is_access ar) h).0))
-instruction_runs L k (ShiftRR op rd rn amount register) b fine =
-    shift_runs b op (number_of rd) (number_of rn) (number_of register) amount (refl, refl) (three_small rd rn register fine)
-instruction_runs L k (RxSBG op rd ri rn start end amount) b fine =
-    rotate_runs b op (reuses rd ri && is_general rn) (number_of rd) (number_of rn) start end amount (refl, refl, fine) (reused_small rd ri rn)
-instruction_runs L k (RxSBGTest op rd rn start end amount) b fine =
-    test_runs b op (is_general rd && is_general rn) (number_of rd) (number_of rn) start end amount (refl, refl, fine) (two_small rd rn)
-instruction_runs L k (SMulWide rd rn rm) b fine =
-    signed_runs b (number_of rd.hi) (number_of rn) (number_of rm) (refl, refl) (pair_small2 rd.hi rd.lo rn rm fine)
-instruction_runs L k (UMulWide rd ri rn) b fine =
-    logical_runs b (number_of rd.hi) (number_of rn) (refl, refl) (pair_tested_small rd.hi rd.lo rn (reuses rd.lo ri) fine)
-instruction_runs L k (Flogr rd rn) b fine =
-    leftmost_runs b (number_of rd.hi) (number_of rn) (refl, refl) (pair_small rd.hi rd.lo rn fine)
-instruction_runs L k (SDivMod32 rd ri rn) b fine =
-    divide_runs b 0xb91d (DivideSigned Bits32) dsgfr_row (divides_signed Bits32 (number_of rd.hi) (number_of rn)) (signed_coded Bits32 (number_of rd.hi) (number_of rn)) (number_of rd.hi) (number_of rn) (pair_tested_small rd.hi rd.lo rn (reuses rd.lo ri) fine) (λ r q. refl) (refl, refl)
-instruction_runs L k (SDivMod64 rd ri rn) b fine =
-    divide_runs b 0xb90d (DivideSigned Bits64) dsgr_row (divides_signed Bits64 (number_of rd.hi) (number_of rn)) (signed_coded Bits64 (number_of rd.hi) (number_of rn)) (number_of rd.hi) (number_of rn) (pair_tested_small rd.hi rd.lo rn (reuses rd.lo ri) fine) (λ r q. refl) (refl, refl)
-instruction_runs L k (UDivMod32 rd ri rn) b fine =
-    divide_runs b 0xb997 (DivideLogical Word) dlr_row (divides_logical Word (number_of rd.hi) (number_of rn)) (logical_coded Word (number_of rd.hi) (number_of rn)) (number_of rd.hi) (number_of rn) (pair_tested_small rd.hi rd.lo rn (reuses_pair rd ri) fine) (λ r q. refl) (refl, refl)
-instruction_runs L k (UDivMod64 rd ri rn) b fine =
-    divide_runs b 0xb987 (DivideLogical Doubleword) dlgr_row (divides_logical Doubleword (number_of rd.hi) (number_of rn)) (logical_coded Doubleword (number_of rd.hi) (number_of rn)) (number_of rd.hi) (number_of rn) (pair_tested_small rd.hi rd.lo rn (reuses_pair rd ri) fine) (λ r q. refl) (refl, refl)
-instruction_runs L k (CmpTrapRR op rn rm mask code) b fine =
-    compare_trap_runs b (is_general rn && is_general rm) (cmp_trap op) (comparison op) (trap_rows op) (number_of rn) (number_of rm) (four_bits mask) code (mask_bits mask) (refl, refl, fine) (two_small rn rm)
-instruction_runs L k (CmpTrapRSImm16 op rn imm mask code) b fine =
-    compare_immediate_trap_runs b (is_general rn) (cmp_trap_signed op) (comparison op) (trap_signed_rows op) (number_of rn) (low_halfword imm) (four_bits mask) code (halfword_bits imm) (mask_bits mask) (refl, refl, fine) (general_number rn)
-instruction_runs L k (CmpTrapRUImm16 op rn imm mask code) b fine =
-    compare_immediate_trap_runs b (is_general rn) (cmp_trap_unsigned op) (comparison op) (trap_unsigned_rows op) (number_of rn) (low_halfword (pos imm)) (four_bits mask) code (halfword_bits (pos imm)) (mask_bits mask) (refl, refl, fine) (general_number rn)
-instruction_runs L k (CMov32 rd mask ri rm) b fine =
-    move_where_runs b 0xb9f2 Word word locr_row mask (number_of rd) (number_of rm) (refl, refl) (reused_small rd ri rm fine)
-instruction_runs L k (CMov64 rd mask ri rm) b fine =
-    move_where_runs b 0xb9e2 Doubleword doubleword locgr_row mask (number_of rd) (number_of rm) (refl, refl) (reused_small rd ri rm fine)
-instruction_runs L k (CMov32SImm16 rd mask ri imm) b fine =
-    move_immediate_where_runs b 0xec42 Word lochi_row mask (number_of rd) (low_halfword imm) (refl, refl) (output_small rd ri fine) (halfword_bits imm)
-instruction_runs L k (CMov64SImm16 rd mask ri imm) b fine =
-    move_immediate_where_runs b 0xec46 Doubleword locghi_row mask (number_of rd) (low_halfword imm) (refl, refl) (output_small rd ri fine) (halfword_bits imm)
-instruction_runs L k (LoadIndexedAddr rd base index offset size) b fine =
-    any_runs b (is_general rd && is_general base && is_general index) (indexed_opcode size) (indexed_rows size) (number_of rd) (number_of base) (number_of index) (low_displacement offset) (refl, refl, fine) (three_small rd base index) (displacement_bits offset)
-instruction_runs L k (LoadLogicalIndexedAddr rd base index offset size) b fine =
-    any_runs b (is_general rd && is_general base && is_general index) (logical_indexed_opcode size) (logical_indexed_rows size) (number_of rd) (number_of base) (number_of index) (low_displacement offset) (refl, refl, fine) (three_small rd base index) (displacement_bits offset)
-instruction_runs L k (AllocateArgs size) b fine = allocate_runs b size (refl, refl)
-instruction_runs L k Fence b fine = fence_runs b (refl, refl)
-instruction_runs L k Nop2 b fine = idle_runs b (refl, refl)
-instruction_runs L k Nop0 b fine = opening_runs b refl refl
-instruction_runs L k (Args args) b fine = opening_runs b refl refl
-instruction_runs L k (Rets rets) b fine = opening_runs b refl refl
-instruction_runs L k (DummyUse reg) b fine = opening_runs b refl refl
-instruction_runs L k SequencePoint b fine = opening_runs b refl refl
-instruction_runs L k (Jump dest) b fine = goto_runs b dest.0 refl refl fine
-instruction_runs L k (CondBr taken not_taken mask) b fine = condbr_runs b mask taken.0 not_taken.0 refl refl (small_mask mask fine.2) fine.0 fine.1
-instruction_runs L k (IndirectBr rn targets) b fine =
-    let row = register_row b (number_of rn) refl (general_number rn fine.0) (nonzero_number rn fine.0 fine.1) in
-    address_runs L b.all k (number_of rn) (length_of Rr) targets.items (ap (form_of L) b.at) fine.2 row.0 row.1
-instruction_runs L k (Ret link) b fine =
-    let row = register_row b (number_of link) refl (general_number link fine.0) (nonzero_number link fine.0 fine.1) in
-    returns_runs L k (number_of link) (length_of Rr) (ap (form_of L) b.at) row.0 row.1
-instruction_runs L k (JTSequence ridx other mask targets) b fine =
-    jump_by_table_runs b (number_of ridx) mask other.0 targets.items refl refl (general_number ridx fine.0) (nonzero_number ridx fine.0 fine.1) (unscratched_number ridx fine.0 fine.2) (small_mask mask fine.5) fine.3 fine.4
-instruction_runs L k (LabelAddress dst label) b fine = label_runs b (number_of dst) label.0 refl refl (general_number dst fine.0) fine.1
-instruction_runs L k (LoadSymbolReloc rd reloc) b fine = load_symbol_runs b (number_of rd) reloc refl refl (general_number rd fine)
-instruction_runs L k (Trap code) b fine = always_traps b code refl refl
-instruction_runs L k (TrapIf mask code) b fine = traps_where b mask code refl refl (small_mask mask fine)
-instruction_runs L k Debugtrap b fine = debug_stops b refl refl
-instruction_runs L k (Load32 rd mem) b fine = loads b Word word (Some 0x58) (Some 0xe358) (Some 0xc4d) load_32 relative_load_32 rd mem (indexed_forms true true true) (refl, refl, refl, fine)
-instruction_runs L k (Load32ZExt8 rd mem) b fine = loads b Word byte None (Some 0xe394) None load_32_zero_8 tt rd mem (indexed_forms false true false) (refl, refl, refl, fine)
-instruction_runs L k (Load32SExt8 rd mem) b fine = loads b Word signed_byte None (Some 0xe376) None load_32_signed_8 tt rd mem (indexed_forms false true false) (refl, refl, refl, fine)
-instruction_runs L k (Load32ZExt16 rd mem) b fine = loads b Word halfword None (Some 0xe395) (Some 0xc42) load_32_zero_16 relative_load_32_zero_16 rd mem (indexed_forms false true true) (refl, refl, refl, fine)
-instruction_runs L k (Load32SExt16 rd mem) b fine = loads b Word signed_halfword (Some 0x48) (Some 0xe378) (Some 0xc45) load_32_signed_16 relative_load_32_signed_16 rd mem (indexed_forms true true true) (refl, refl, refl, fine)
-instruction_runs L k (Load64 rd mem) b fine = loads b Doubleword doubleword None (Some 0xe304) (Some 0xc48) load_64 relative_load_64 rd mem (indexed_forms false true true) (refl, refl, refl, fine)
-instruction_runs L k (Load64ZExt8 rd mem) b fine = loads b Doubleword byte None (Some 0xe390) None load_64_zero_8 tt rd mem (indexed_forms false true false) (refl, refl, refl, fine)
-instruction_runs L k (Load64SExt8 rd mem) b fine = loads b Doubleword signed_byte None (Some 0xe377) None load_64_signed_8 tt rd mem (indexed_forms false true false) (refl, refl, refl, fine)
-instruction_runs L k (Load64ZExt16 rd mem) b fine = loads b Doubleword halfword None (Some 0xe391) (Some 0xc46) load_64_zero_16 relative_load_64_zero_16 rd mem (indexed_forms false true true) (refl, refl, refl, fine)
-instruction_runs L k (Load64SExt16 rd mem) b fine = loads b Doubleword signed_halfword None (Some 0xe315) (Some 0xc44) load_64_signed_16 relative_load_64_signed_16 rd mem (indexed_forms false true true) (refl, refl, refl, fine)
-instruction_runs L k (Load64ZExt32 rd mem) b fine = loads b Doubleword word None (Some 0xe316) (Some 0xc4e) load_64_zero_32 relative_load_64_zero_32 rd mem (indexed_forms false true true) (refl, refl, refl, fine)
-instruction_runs L k (Load64SExt32 rd mem) b fine = loads b Doubleword signed_word None (Some 0xe314) (Some 0xc4c) load_64_signed_32 relative_load_64_signed_32 rd mem (indexed_forms false true true) (refl, refl, refl, fine)
-instruction_runs L k (LoadRev16 rd mem) b fine = loads b Halfword (reversed_bytes Bits16) None (Some 0xe31f) None load_reversed_16 tt rd mem (indexed_forms false true false) (refl, refl, refl, fine)
-instruction_runs L k (LoadRev32 rd mem) b fine = loads b Word (reversed_bytes Bits32) None (Some 0xe31e) None load_reversed_32 tt rd mem (indexed_forms false true false) (refl, refl, refl, fine)
-instruction_runs L k (LoadRev64 rd mem) b fine = loads b Doubleword (reversed_bytes Bits64) None (Some 0xe30f) None load_reversed_64 tt rd mem (indexed_forms false true false) (refl, refl, refl, fine)
-instruction_runs L k (LoadAddr rd mem) b fine = loads_an_address b rd mem (record { have_d12 = true; have_d20 = true; have_pcrel = true; have_unaligned_pcrel = true; have_index = true }) (refl, refl, refl, fine)
-instruction_runs L k (Store8 rd mem) b fine = stores b byte (Some 0x42) (Some 0xe372) None store_8 tt rd mem (indexed_forms true true false) (refl, refl, refl, fine)
-instruction_runs L k (Store16 rd mem) b fine = stores b halfword (Some 0x40) (Some 0xe370) (Some 0xc47) store_16 relative_store_16 rd mem (indexed_forms true true true) (refl, refl, refl, fine)
-instruction_runs L k (Store32 rd mem) b fine = stores b word (Some 0x50) (Some 0xe350) (Some 0xc4f) store_32 relative_store_32 rd mem (indexed_forms true true true) (refl, refl, refl, fine)
-instruction_runs L k (Store64 rd mem) b fine = stores b doubleword None (Some 0xe324) (Some 0xc4b) store_64 relative_store_64 rd mem (indexed_forms false true true) (refl, refl, refl, fine)
-instruction_runs L k (StoreRev16 rd mem) b fine = stores b (reversed_bytes Bits16) None (Some 0xe33f) None store_reversed_16 tt rd mem (indexed_forms false true false) (refl, refl, refl, fine)
-instruction_runs L k (StoreRev32 rd mem) b fine = stores b (reversed_bytes Bits32) None (Some 0xe33e) None store_reversed_32 tt rd mem (indexed_forms false true false) (refl, refl, refl, fine)
-instruction_runs L k (StoreRev64 rd mem) b fine = stores b (reversed_bytes Bits64) None (Some 0xe32f) None store_reversed_64 tt rd mem (indexed_forms false true false) (refl, refl, refl, fine)
-instruction_runs L k (StoreImm8 imm mem) b fine = stores_a_byte b imm mem (based_forms true true) (refl, refl, refl, fine)
-instruction_runs L k (StoreImm16 imm mem) b fine = stores_an_immediate b Bits16 0xe544 (low_halfword imm) (halfword_bits imm) store_immediate_16 mem (based_forms true false) (refl, refl, refl, fine)
-instruction_runs L k (StoreImm32SExt16 imm mem) b fine = stores_an_immediate b Bits32 0xe54c (low_halfword imm) (halfword_bits imm) store_immediate_32 mem (based_forms true false) (refl, refl, refl, fine)
-instruction_runs L k (StoreImm64SExt16 imm mem) b fine = stores_an_immediate b Bits64 0xe548 (low_halfword imm) (halfword_bits imm) store_immediate_64 mem (based_forms true false) (refl, refl, refl, fine)
-instruction_runs L k (LoadMultiple64 rt rt2 mem) b fine = loads_registers b rt rt2 mem (based_forms false true) (refl, refl, refl, fine)
-instruction_runs L k (StoreMultiple64 rt rt2 mem) b fine = stores_registers b rt rt2 mem (based_forms false true) (refl, refl, refl, fine)
-instruction_runs L k (AluRX op rd ri mem) b fine =
-    computes_in_memory b (is_some (alu_rx op) || is_some (alu_rxy op)) (alu_computation op) (alu_two_rule op) (alu_rx op) (alu_rxy op) (alu_short_rows op) (alu_long_rows op) rd ri mem (alu_forms op) (alu_same op (number_of rd)) (refl, refl, fine)
-instruction_runs L k (CmpRX op rn mem) b fine = compares_in_memory b (comparison op) (cmp_rx op) (cmp_rxy op) (Some (cmp_ril op)) (cmp_short_rows op) (cmp_long_rows op) (cmp_relative_rows op) rn mem (cmp_forms op) (cmp_same op (number_of rn), refl, refl, fine)
-instruction_runs L k (AtomicRmw op rd rn mem) b fine = operates b (alu_computation op) (atomic_rsy op) (atomic_rows op) rd rn mem (based_forms false true) (λ opcode. refl) (refl, refl, fine)
-instruction_runs L k (AtomicCas32 rd ri rn mem) b fine = swaps b Word (Some 0xba) (Some 0xeb14) swap_32 rd ri rn mem (based_forms true true) (refl, refl, refl, fine)
-instruction_runs L k (AtomicCas64 rd ri rn mem) b fine = swaps b Doubleword None (Some 0xeb30) swap_64 rd ri rn mem (based_forms false true) (refl, refl, refl, fine)
-instruction_runs L k _ b fine = absurd fine
+instruction_runs : (L : Layout) (k : ℕ) (i : Inst) → StepAt L k (Plain i) → IsValidInstruction L i → StepRuns L k
+instruction_runs L k (AluRRR op rd rn rm) b operands_valid =
+    alu_three_runs b op (number_of rd) (number_of rn) (number_of rm) (is_general rd && is_general rn && is_general rm) (refl, refl, operands_valid) (three_small rd rn rm)
+instruction_runs L k (AluRR op rd ri rm) b operands_valid =
+    computes_two b (reuses rd ri && is_general rm) (alu_two op) (alu_computation op) (alu_two_rule op) (alu_two_rows op) (number_of rd) (number_of rm) (refl, refl, operands_valid) (reused_small rd ri rm)
+instruction_runs L k (UnaryRR U.PopcntByte rd rn) b operands_valid =
+    count_runs b 0 (omega arith) refl (number_of rd) (number_of rn) (refl, refl) (two_small rd rn operands_valid)
+instruction_runs L k (UnaryRR U.PopcntReg rd rn) b operands_valid =
+    count_runs b 8 (omega arith) refl (number_of rd) (number_of rn) (refl, refl) (two_small rd rn operands_valid)
+instruction_runs L k (UnaryRR op rd rn) b operands_valid =
+    computes_two b (is_general rd && is_general rn) (unary_two op) (unary_computation op) (unary_rule op) (unary_rows op) (number_of rd) (number_of rn) (refl, refl, operands_valid) (two_small rd rn)
+instruction_runs L k (CmpRR op rn rm) b operands_valid =
+    compares_two b (is_general rn && is_general rm) (cmp_two op) (comparison op) (cmp_rows op) (number_of rn) (number_of rm) (refl, refl, operands_valid) (two_small rn rm)
+instruction_runs L k (Mov64 rd rm) b operands_valid =
+    computes_two b (is_general rd && is_general rm) (Some 0xb904) (on_doublewords Move) Kept lgr_row (number_of rd) (number_of rm) (refl, refl, operands_valid) (two_small rd rm)
+instruction_runs L k (MovPReg rd rm) b operands_valid =
+    computes_two b (is_general rd && is_general (Real rm)) (Some 0xb904) (on_doublewords Move) Kept lgr_row (number_of rd) (number_of (Real rm)) (refl, refl, operands_valid) (two_small rd (Real rm))
+instruction_runs L k (Mov32 rd rm) b operands_valid =
+    computes_two b (is_general rd && is_general rm) (Some 0x18) (on_words Move) Kept lr_row (number_of rd) (number_of rm) (refl, refl, operands_valid) (two_small rd rm)
+instruction_runs L k (AluRRSImm16 op rd rn imm) b operands_valid =
+    three_halfword_runs b (on_immediate (alu_computation op) signed_halfword) (alu_two_rule op) (number_of rd) (number_of rn) (low_halfword imm) (is_general rd && is_general rn) (alu_three_halfword op) (alu_halfword op) (three_halfword_rows op) (halfword_rows op) (refl, refl, operands_valid) (two_small rd rn) (halfword_bits imm)
+instruction_runs L k (AluRSImm16 op rd ri imm) b operands_valid =
+    one_of_halfword b (reuses rd ri) (alu_halfword op) (on_immediate (alu_computation op) signed_halfword) (alu_two_rule op) (halfword_rows op) (number_of rd) (low_halfword imm) (refl, refl, operands_valid) (output_small rd ri) (halfword_bits imm)
+instruction_runs L k (AluRSImm32 op rd ri imm) b operands_valid =
+    one_of_word b (reuses rd ri) (alu_signed_word op) (on_immediate (alu_computation op) signed_word) (alu_two_rule op) (signed_word_rows op) (number_of rd) (low_word imm) (refl, refl, operands_valid) (output_small rd ri) (word_bits imm)
+instruction_runs L k (CmpRSImm16 op rn imm) b operands_valid =
+    compare_of_halfword b (is_general rn) (cmp_halfword op) (compares_on_immediate (comparison op) signed_halfword) (cmp_halfword_rows op) (number_of rn) (low_halfword imm) (refl, refl, operands_valid) (general_number rn) (halfword_bits imm)
+instruction_runs L k (CmpRSImm32 op rn imm) b operands_valid =
+    compare_of_word b (is_general rn) (cmp_signed_word op) (compares_on_immediate (comparison op) signed_word) (cmp_signed_word_rows op) (number_of rn) (low_word imm) (refl, refl, operands_valid) (general_number rn) (word_bits imm)
+instruction_runs L k (AluRUImm32 op rd ri imm) b operands_valid =
+    one_of_word b (reuses rd ri) (alu_unsigned_word op) (on_immediate (alu_computation op) unsigned_word) (alu_two_rule op) (unsigned_word_rows op) (number_of rd) (low_word (pos imm)) (refl, refl, operands_valid) (output_small rd ri) (word_bits (pos imm))
+instruction_runs L k (CmpRUImm32 op rn imm) b operands_valid =
+    compare_of_word b (is_general rn) (cmp_unsigned_word op) (compares_on_immediate (comparison op) unsigned_word) (cmp_unsigned_word_rows op) (number_of rn) (low_word (pos imm)) (refl, refl, operands_valid) (general_number rn) (word_bits (pos imm))
+instruction_runs L k (Mov32Imm rd imm) b operands_valid =
+    one_of_word b (is_general rd) (Some 0xc09) (on_words Move) Kept iilf_row (number_of rd) (low_word (pos imm)) (refl, refl, operands_valid) (general_number rd) (word_bits (pos imm))
+instruction_runs L k (Mov32SImm16 rd imm) b operands_valid =
+    one_of_halfword b (is_general rd) (Some 0xa78) (on_immediate (on_words Move) signed_halfword) Kept lhi_row (number_of rd) (low_halfword imm) (refl, refl, operands_valid) (general_number rd) (halfword_bits imm)
+instruction_runs L k (Mov64SImm16 rd imm) b operands_valid =
+    one_of_halfword b (is_general rd) (Some 0xa79) (on_immediate (on_doublewords Move) signed_halfword) Kept lghi_row (number_of rd) (low_halfword imm) (refl, refl, operands_valid) (general_number rd) (halfword_bits imm)
+instruction_runs L k (Mov64SImm32 rd imm) b operands_valid =
+    one_of_word b (is_general rd) (Some 0xc01) (on_immediate (on_doublewords Move) signed_word) Kept lgfi_row (number_of rd) (low_word imm) (refl, refl, operands_valid) (general_number rd) (word_bits imm)
+instruction_runs L k (AluRUImm16Shifted op rd ri imm) b operands_valid =
+    placed_halfword b (reuses rd ri) (alu_part op imm.shift) (SelectedBits (part_operator op) (part_mask imm.shift)) Set (16 * imm.shift) (part_rows op imm.shift) (number_of rd) (low_halfword (pos imm.bits)) (refl, refl, operands_valid) (output_small rd ri) (halfword_bits (pos imm.bits))
+instruction_runs L k (AluRUImm32Shifted op rd ri imm) b operands_valid =
+    placed_word b (reuses rd ri) (alu_half op imm.shift) (SelectedBits (part_operator op) (half_mask imm.shift)) Set (32 * imm.shift) (half_rows op imm.shift) (number_of rd) (low_word (pos imm.bits)) (refl, refl, operands_valid) (output_small rd ri) (word_bits (pos imm.bits))
+instruction_runs L k (Mov64UImm16Shifted rd imm) b operands_valid =
+    placed_halfword b (is_general rd) (load_part imm.shift) Move Kept (16 * imm.shift) (load_part_rows imm.shift) (number_of rd) (low_halfword (pos imm.bits)) (refl, refl, operands_valid) (general_number rd) (halfword_bits (pos imm.bits))
+instruction_runs L k (Mov64UImm32Shifted rd imm) b operands_valid =
+    placed_word b (is_general rd) (load_half imm.shift) Move Kept (32 * imm.shift) (load_half_rows imm.shift) (number_of rd) (low_word (pos imm.bits)) (refl, refl, operands_valid) (general_number rd) (word_bits (pos imm.bits))
+instruction_runs L k (Insert64UImm16Shifted rd ri imm) b operands_valid =
+    placed_halfword b (reuses rd ri) (insert_part imm.shift) (SelectedBits Select.Insert (part_mask imm.shift)) Kept (16 * imm.shift) (insert_part_rows imm.shift) (number_of rd) (low_halfword (pos imm.bits)) (refl, refl, operands_valid) (output_small rd ri) (halfword_bits (pos imm.bits))
+instruction_runs L k (Insert64UImm32Shifted rd ri imm) b operands_valid =
+    inserted_half b (reuses rd ri) imm.shift (number_of rd) (low_word (pos imm.bits)) (refl, refl, operands_valid) (output_small rd ri) (word_bits (pos imm.bits))
+instruction_runs L k (Extend rd rn signed from to) b operands_valid =
+    computes_two b (is_general rd && is_general rn) (extend_two signed from to) (extension signed from to) Kept (extend_rows signed from to) (number_of rd) (number_of rn) (refl, refl, operands_valid) (two_small rd rn)
+instruction_runs L k (LoadAR rd ar) b operands_valid =
+    copies_runs b (is_general rd && is_access ar) (number_of rd) (four_bits ar) (refl, refl, operands_valid) (λ h. access_small rd ar (general_number rd (and_parts (is_general rd) (is_access ar) h).0))
+instruction_runs L k (InsertAR rd ri ar) b operands_valid =
+    copies_runs b (reuses rd ri && is_access ar) (number_of rd) (four_bits ar) (refl, refl, operands_valid) (λ h. access_small rd ar (output_small rd ri (and_parts (reuses rd ri) (is_access ar) h).0))
+instruction_runs L k (ShiftRR op rd rn amount register) b operands_valid =
+    shift_runs b op (number_of rd) (number_of rn) (number_of register) amount (refl, refl) (three_small rd rn register operands_valid)
+instruction_runs L k (RxSBG op rd ri rn start end amount) b operands_valid =
+    rotate_runs b op (reuses rd ri && is_general rn) (number_of rd) (number_of rn) start end amount (refl, refl, operands_valid) (reused_small rd ri rn)
+instruction_runs L k (RxSBGTest op rd rn start end amount) b operands_valid =
+    test_runs b op (is_general rd && is_general rn) (number_of rd) (number_of rn) start end amount (refl, refl, operands_valid) (two_small rd rn)
+instruction_runs L k (SMulWide rd rn rm) b operands_valid =
+    signed_runs b (number_of rd.hi) (number_of rn) (number_of rm) (refl, refl) (pair_small2 rd.hi rd.lo rn rm operands_valid)
+instruction_runs L k (UMulWide rd ri rn) b operands_valid =
+    logical_runs b (number_of rd.hi) (number_of rn) (refl, refl) (pair_tested_small rd.hi rd.lo rn (reuses rd.lo ri) operands_valid)
+instruction_runs L k (Flogr rd rn) b operands_valid =
+    leftmost_runs b (number_of rd.hi) (number_of rn) (refl, refl) (pair_small rd.hi rd.lo rn operands_valid)
+instruction_runs L k (SDivMod32 rd ri rn) b operands_valid =
+    divide_runs b 0xb91d (DivideSigned Bits32) dsgfr_row (divides_signed Bits32 (number_of rd.hi) (number_of rn)) (signed_coded Bits32 (number_of rd.hi) (number_of rn)) (number_of rd.hi) (number_of rn) (pair_tested_small rd.hi rd.lo rn (reuses rd.lo ri) operands_valid) (λ r q. refl) (refl, refl)
+instruction_runs L k (SDivMod64 rd ri rn) b operands_valid =
+    divide_runs b 0xb90d (DivideSigned Bits64) dsgr_row (divides_signed Bits64 (number_of rd.hi) (number_of rn)) (signed_coded Bits64 (number_of rd.hi) (number_of rn)) (number_of rd.hi) (number_of rn) (pair_tested_small rd.hi rd.lo rn (reuses rd.lo ri) operands_valid) (λ r q. refl) (refl, refl)
+instruction_runs L k (UDivMod32 rd ri rn) b operands_valid =
+    divide_runs b 0xb997 (DivideLogical Word) dlr_row (divides_logical Word (number_of rd.hi) (number_of rn)) (logical_coded Word (number_of rd.hi) (number_of rn)) (number_of rd.hi) (number_of rn) (pair_tested_small rd.hi rd.lo rn (reuses_pair rd ri) operands_valid) (λ r q. refl) (refl, refl)
+instruction_runs L k (UDivMod64 rd ri rn) b operands_valid =
+    divide_runs b 0xb987 (DivideLogical Doubleword) dlgr_row (divides_logical Doubleword (number_of rd.hi) (number_of rn)) (logical_coded Doubleword (number_of rd.hi) (number_of rn)) (number_of rd.hi) (number_of rn) (pair_tested_small rd.hi rd.lo rn (reuses_pair rd ri) operands_valid) (λ r q. refl) (refl, refl)
+instruction_runs L k (CmpTrapRR op rn rm mask code) b operands_valid =
+    compare_trap_runs b (is_general rn && is_general rm) (cmp_trap op) (comparison op) (trap_rows op) (number_of rn) (number_of rm) (four_bits mask) code (mask_bits mask) (refl, refl, operands_valid) (two_small rn rm)
+instruction_runs L k (CmpTrapRSImm16 op rn imm mask code) b operands_valid =
+    compare_immediate_trap_runs b (is_general rn) (cmp_trap_signed op) (comparison op) (trap_signed_rows op) (number_of rn) (low_halfword imm) (four_bits mask) code (halfword_bits imm) (mask_bits mask) (refl, refl, operands_valid) (general_number rn)
+instruction_runs L k (CmpTrapRUImm16 op rn imm mask code) b operands_valid =
+    compare_immediate_trap_runs b (is_general rn) (cmp_trap_unsigned op) (comparison op) (trap_unsigned_rows op) (number_of rn) (low_halfword (pos imm)) (four_bits mask) code (halfword_bits (pos imm)) (mask_bits mask) (refl, refl, operands_valid) (general_number rn)
+instruction_runs L k (CMov32 rd mask ri rm) b operands_valid =
+    move_where_runs b 0xb9f2 Word unsigned_word locr_row mask (number_of rd) (number_of rm) (refl, refl) (reused_small rd ri rm operands_valid)
+instruction_runs L k (CMov64 rd mask ri rm) b operands_valid =
+    move_where_runs b 0xb9e2 Doubleword doubleword locgr_row mask (number_of rd) (number_of rm) (refl, refl) (reused_small rd ri rm operands_valid)
+instruction_runs L k (CMov32SImm16 rd mask ri imm) b operands_valid =
+    move_immediate_where_runs b 0xec42 Word lochi_row mask (number_of rd) (low_halfword imm) (refl, refl) (output_small rd ri operands_valid) (halfword_bits imm)
+instruction_runs L k (CMov64SImm16 rd mask ri imm) b operands_valid =
+    move_immediate_where_runs b 0xec46 Doubleword locghi_row mask (number_of rd) (low_halfword imm) (refl, refl) (output_small rd ri operands_valid) (halfword_bits imm)
+instruction_runs L k (LoadIndexedAddr rd base index offset size) b operands_valid =
+    any_runs b (is_general rd && is_general base && is_general index) (indexed_opcode size) (indexed_rows size) (number_of rd) (number_of base) (number_of index) (low_displacement offset) (refl, refl, operands_valid) (three_small rd base index) (displacement_bits offset)
+instruction_runs L k (LoadLogicalIndexedAddr rd base index offset size) b operands_valid =
+    any_runs b (is_general rd && is_general base && is_general index) (logical_indexed_opcode size) (logical_indexed_rows size) (number_of rd) (number_of base) (number_of index) (low_displacement offset) (refl, refl, operands_valid) (three_small rd base index) (displacement_bits offset)
+instruction_runs L k (AllocateArgs size) b operands_valid = allocate_runs b size (refl, refl)
+instruction_runs L k Fence b operands_valid = fence_runs b (refl, refl)
+instruction_runs L k Nop2 b operands_valid = idle_runs b (refl, refl)
+instruction_runs L k Nop0 b operands_valid = opening_runs b refl refl
+instruction_runs L k (Args args) b operands_valid = opening_runs b refl refl
+instruction_runs L k (Rets rets) b operands_valid = opening_runs b refl refl
+instruction_runs L k (DummyUse reg) b operands_valid = opening_runs b refl refl
+instruction_runs L k SequencePoint b operands_valid = opening_runs b refl refl
+instruction_runs L k (Jump dest) b operands_valid = goto_runs b dest.0 refl refl operands_valid
+instruction_runs L k (CondBr taken not_taken mask) b operands_valid = condbr_runs b mask taken.0 not_taken.0 refl refl (small_mask mask operands_valid.2) operands_valid.0 operands_valid.1
+instruction_runs L k (IndirectBr rn targets) b operands_valid =
+    let row = register_row b (number_of rn) refl (general_number rn operands_valid.0) (nonzero_number rn operands_valid.0 operands_valid.1) in
+    address_runs L b.all k (number_of rn) (length_of Rr) targets.items (ap (kind_of_step L) b.at) operands_valid.2 row.0 row.1
+instruction_runs L k (Ret link) b operands_valid =
+    let row = register_row b (number_of link) refl (general_number link operands_valid.0) (nonzero_number link operands_valid.0 operands_valid.1) in
+    returns_runs L k (number_of link) (length_of Rr) (ap (kind_of_step L) b.at) row.0 row.1
+instruction_runs L k (JTSequence ridx other mask targets) b operands_valid =
+    jump_by_table_runs b (number_of ridx) mask other.0 targets.items refl refl (general_number ridx operands_valid.0) (nonzero_number ridx operands_valid.0 operands_valid.1) (unscratched_number ridx operands_valid.0 operands_valid.2) (small_mask mask operands_valid.5) operands_valid.3 operands_valid.4
+instruction_runs L k (LabelAddress dst label) b operands_valid = label_runs b (number_of dst) label.0 refl refl (general_number dst operands_valid.0) operands_valid.1
+instruction_runs L k (LoadSymbolReloc rd reloc) b operands_valid = load_symbol_runs b (number_of rd) reloc refl refl (general_number rd operands_valid)
+instruction_runs L k (Trap code) b operands_valid = always_traps b code refl refl
+instruction_runs L k (TrapIf mask code) b operands_valid = traps_where b mask code refl refl (small_mask mask operands_valid)
+instruction_runs L k Debugtrap b operands_valid = debug_stops b refl refl
+instruction_runs L k (Load32 rd mem) b operands_valid = loads b Word unsigned_word (Some 0x58) (Some 0xe358) (Some 0xc4d) load_32 relative_load_32 rd mem (indexed_forms true true true) (refl, refl, refl, operands_valid)
+instruction_runs L k (Load32ZExt8 rd mem) b operands_valid = loads b Word byte None (Some 0xe394) None load_32_zero_8 tt rd mem (indexed_forms false true false) (refl, refl, refl, operands_valid)
+instruction_runs L k (Load32SExt8 rd mem) b operands_valid = loads b Word signed_byte None (Some 0xe376) None load_32_signed_8 tt rd mem (indexed_forms false true false) (refl, refl, refl, operands_valid)
+instruction_runs L k (Load32ZExt16 rd mem) b operands_valid = loads b Word unsigned_halfword None (Some 0xe395) (Some 0xc42) load_32_zero_16 relative_load_32_zero_16 rd mem (indexed_forms false true true) (refl, refl, refl, operands_valid)
+instruction_runs L k (Load32SExt16 rd mem) b operands_valid = loads b Word signed_halfword (Some 0x48) (Some 0xe378) (Some 0xc45) load_32_signed_16 relative_load_32_signed_16 rd mem (indexed_forms true true true) (refl, refl, refl, operands_valid)
+instruction_runs L k (Load64 rd mem) b operands_valid = loads b Doubleword doubleword None (Some 0xe304) (Some 0xc48) load_64 relative_load_64 rd mem (indexed_forms false true true) (refl, refl, refl, operands_valid)
+instruction_runs L k (Load64ZExt8 rd mem) b operands_valid = loads b Doubleword byte None (Some 0xe390) None load_64_zero_8 tt rd mem (indexed_forms false true false) (refl, refl, refl, operands_valid)
+instruction_runs L k (Load64SExt8 rd mem) b operands_valid = loads b Doubleword signed_byte None (Some 0xe377) None load_64_signed_8 tt rd mem (indexed_forms false true false) (refl, refl, refl, operands_valid)
+instruction_runs L k (Load64ZExt16 rd mem) b operands_valid = loads b Doubleword unsigned_halfword None (Some 0xe391) (Some 0xc46) load_64_zero_16 relative_load_64_zero_16 rd mem (indexed_forms false true true) (refl, refl, refl, operands_valid)
+instruction_runs L k (Load64SExt16 rd mem) b operands_valid = loads b Doubleword signed_halfword None (Some 0xe315) (Some 0xc44) load_64_signed_16 relative_load_64_signed_16 rd mem (indexed_forms false true true) (refl, refl, refl, operands_valid)
+instruction_runs L k (Load64ZExt32 rd mem) b operands_valid = loads b Doubleword unsigned_word None (Some 0xe316) (Some 0xc4e) load_64_zero_32 relative_load_64_zero_32 rd mem (indexed_forms false true true) (refl, refl, refl, operands_valid)
+instruction_runs L k (Load64SExt32 rd mem) b operands_valid = loads b Doubleword signed_word None (Some 0xe314) (Some 0xc4c) load_64_signed_32 relative_load_64_signed_32 rd mem (indexed_forms false true true) (refl, refl, refl, operands_valid)
+instruction_runs L k (LoadRev16 rd mem) b operands_valid = loads b Halfword (reversed_bytes Bits16) None (Some 0xe31f) None load_reversed_16 tt rd mem (indexed_forms false true false) (refl, refl, refl, operands_valid)
+instruction_runs L k (LoadRev32 rd mem) b operands_valid = loads b Word (reversed_bytes Bits32) None (Some 0xe31e) None load_reversed_32 tt rd mem (indexed_forms false true false) (refl, refl, refl, operands_valid)
+instruction_runs L k (LoadRev64 rd mem) b operands_valid = loads b Doubleword (reversed_bytes Bits64) None (Some 0xe30f) None load_reversed_64 tt rd mem (indexed_forms false true false) (refl, refl, refl, operands_valid)
+instruction_runs L k (LoadAddr rd mem) b operands_valid = loads_an_address b rd mem (record { have_d12 = true; have_d20 = true; have_pcrel = true; have_unaligned_pcrel = true; have_index = true }) (refl, refl, refl, operands_valid)
+instruction_runs L k (Store8 rd mem) b operands_valid = stores b byte (Some 0x42) (Some 0xe372) None store_8 tt rd mem (indexed_forms true true false) (refl, refl, refl, operands_valid)
+instruction_runs L k (Store16 rd mem) b operands_valid = stores b unsigned_halfword (Some 0x40) (Some 0xe370) (Some 0xc47) store_16 relative_store_16 rd mem (indexed_forms true true true) (refl, refl, refl, operands_valid)
+instruction_runs L k (Store32 rd mem) b operands_valid = stores b unsigned_word (Some 0x50) (Some 0xe350) (Some 0xc4f) store_32 relative_store_32 rd mem (indexed_forms true true true) (refl, refl, refl, operands_valid)
+instruction_runs L k (Store64 rd mem) b operands_valid = stores b doubleword None (Some 0xe324) (Some 0xc4b) store_64 relative_store_64 rd mem (indexed_forms false true true) (refl, refl, refl, operands_valid)
+instruction_runs L k (StoreRev16 rd mem) b operands_valid = stores b (reversed_bytes Bits16) None (Some 0xe33f) None store_reversed_16 tt rd mem (indexed_forms false true false) (refl, refl, refl, operands_valid)
+instruction_runs L k (StoreRev32 rd mem) b operands_valid = stores b (reversed_bytes Bits32) None (Some 0xe33e) None store_reversed_32 tt rd mem (indexed_forms false true false) (refl, refl, refl, operands_valid)
+instruction_runs L k (StoreRev64 rd mem) b operands_valid = stores b (reversed_bytes Bits64) None (Some 0xe32f) None store_reversed_64 tt rd mem (indexed_forms false true false) (refl, refl, refl, operands_valid)
+instruction_runs L k (StoreImm8 imm mem) b operands_valid = stores_a_byte b imm mem (based_forms true true) (refl, refl, refl, operands_valid)
+instruction_runs L k (StoreImm16 imm mem) b operands_valid = stores_an_immediate b Bits16 0xe544 (low_halfword imm) (halfword_bits imm) store_immediate_16 mem (based_forms true false) (refl, refl, refl, operands_valid)
+instruction_runs L k (StoreImm32SExt16 imm mem) b operands_valid = stores_an_immediate b Bits32 0xe54c (low_halfword imm) (halfword_bits imm) store_immediate_32 mem (based_forms true false) (refl, refl, refl, operands_valid)
+instruction_runs L k (StoreImm64SExt16 imm mem) b operands_valid = stores_an_immediate b Bits64 0xe548 (low_halfword imm) (halfword_bits imm) store_immediate_64 mem (based_forms true false) (refl, refl, refl, operands_valid)
+instruction_runs L k (LoadMultiple64 rt rt2 mem) b operands_valid = loads_registers b rt rt2 mem (based_forms false true) (refl, refl, refl, operands_valid)
+instruction_runs L k (StoreMultiple64 rt rt2 mem) b operands_valid = stores_registers b rt rt2 mem (based_forms false true) (refl, refl, refl, operands_valid)
+instruction_runs L k (AluRX op rd ri mem) b operands_valid =
+    computes_in_memory b (is_some (alu_rx op) || is_some (alu_rxy op)) (alu_computation op) (alu_two_rule op) (alu_rx op) (alu_rxy op) (alu_short_rows op) (alu_long_rows op) rd ri mem (alu_forms op) (alu_same op (number_of rd)) (refl, refl, operands_valid)
+instruction_runs L k (CmpRX op rn mem) b operands_valid = compares_in_memory b (comparison op) (cmp_rx op) (cmp_rxy op) (Some (cmp_ril op)) (cmp_short_rows op) (cmp_long_rows op) (cmp_relative_rows op) rn mem (cmp_forms op) (cmp_same op (number_of rn), refl, refl, operands_valid)
+instruction_runs L k (AtomicRmw op rd rn mem) b operands_valid = operates b (alu_computation op) (atomic_rsy op) (atomic_rows op) rd rn mem (based_forms false true) (λ opcode. refl) (refl, refl, operands_valid)
+instruction_runs L k (AtomicCas32 rd ri rn mem) b operands_valid = swaps b Word (Some 0xba) (Some 0xeb14) swap_32 rd ri rn mem (based_forms true true) (refl, refl, refl, operands_valid)
+instruction_runs L k (AtomicCas64 rd ri rn mem) b operands_valid = swaps b Doubleword None (Some 0xeb30) swap_64 rd ri rn mem (based_forms false true) (refl, refl, refl, operands_valid)
+instruction_runs L k _ b operands_valid = absurd operands_valid
 
-pub step_runs : (L : Layout) (k : ℕ) (s : Step) → StepAt L k s → IsFine L s → StepRuns L k
-step_runs L k (Plain i) b fine = instruction_runs L k i b fine
-step_runs L k Opening b fine = opening_runs b refl refl
-step_runs L k (Back mask target) b fine = loop_runs b mask target refl refl (small_mask mask fine.0) fine.1
-step_runs L k (Break mask target) b fine = loop_runs b mask target refl refl (small_mask mask fine.0) fine.1
+pub step_runs : (L : Layout) (k : ℕ) (s : Step) → StepAt L k s → IsValidStep L s → StepRuns L k
+step_runs L k (Plain i) b operands_valid = instruction_runs L k i b operands_valid
+step_runs L k Opening b operands_valid = opening_runs b refl refl
+step_runs L k (Back mask target) b operands_valid = loop_runs b mask target refl refl (small_mask mask operands_valid.0) operands_valid.1
+step_runs L k (Break mask target) b operands_valid = loop_runs b mask target refl refl (small_mask mask operands_valid.0) operands_valid.1
 
-pub step_runs_placed : (L : Layout) → AllPlaced L → (k : ℕ) (s : Step) → slice_get L.steps k ≡ Some s → StepRuns L k
-step_runs_placed L all k s at = let p = all.steps k s at in step_runs L k s (record { all = all; at = at; placed = p }) p.fine
+pub step_runs_placed : (L : Layout) → AllCodeAt L → (k : ℕ) (s : Step) → slice_get L.steps k ≡ Some s → StepRuns L k
+step_runs_placed L all k s at = let p = all.steps k s at in step_runs L k s (record { all = all; at = at; placed = p }) p.operands_valid
 
 -- each step by itself
-pub step_holds : (L : Layout) → AllPlaced L → (k : ℕ) (s : Step) → slice_get L.steps k ≡ Some s → StepHolds L k
+pub step_holds : (L : Layout) → AllCodeAt L → (k : ℕ) (s : Step) → slice_get L.steps k ≡ Some s → StepHolds L k
 step_holds L all k s at = one_step L k (step_runs_placed L all k s at)
 
 -- every run
-pub runs_hold : (L : Layout) → AllPlaced L → (k : ℕ) → EveryRun L k
-runs_hold L all = turns_of L (λ k s at. step_holds L all k s at)
+pub runs_hold : (L : Layout) → AllCodeAt L → (k : ℕ) → EveryRun L k
+runs_hold L all = trace_of L (λ k s at. step_holds L all k s at)
 
 -- from each block's start
-pub block_holds : (L : Layout) → AllPlaced L → (b : ℕ) → IsBlock L b → EveryBlockRun L b
+pub block_holds : (L : Layout) → AllCodeAt L → (b : ℕ) → IsBlock L b → EveryBlockRun L b
 block_holds L all b is = subst (λ p. EveryRunFrom L p (L.first_step b)) (sym (block_at L all b is)) (runs_hold L all (L.first_step b))

@@ -16,7 +16,7 @@ pub mod Frame
 pub mod Functions
 pub mod Helpers
 pub mod Induction
-pub mod RowMeanings
+pub mod RowSemantics
 pub mod Multiples
 pub mod Numbers
 pub mod Simulation
@@ -42,7 +42,7 @@ pub mod OnImmediates
 pub mod Rotating
 pub mod StoppingSteps
 pub mod Leading
-pub mod Alone
+pub mod SingleInstruction
 pub mod Bits
 pub mod Branches
 pub mod Example

@@ -4,22 +4,22 @@ use Rattle.std.proofs.Math.Nat.{pow-le-pow_right}
 use Rattle.s390x_operations.specs.Numbers.{whole}
 use Rattle.s390x_operations.specs.Bits.{bytes}
 use Rattle.s390x_operations.specs.Values.{width_of}
-use Rattle.s390x_operations.specs.State.{update, sum64, number_at, bytes_to, write_get}
+use Rattle.s390x_operations.specs.State.{update, wrapping_add64, number_at, bytes_to, write_get}
 use Rattle.s390x_operations.specs.declared.size.Size.{Size}
 use Rattle.s390x_operations.specs.declared.size.Size.TheVariants.{Halfword, Word, Doubleword}
 
 pub number_none : (f : ℕ → ℕ) (a : ℕ) → number_at f a 0 ≡ 0
 number_none f a = refl
 
-pub number_more : (f : ℕ → ℕ) (a i : ℕ) → number_at f a (i + 1) ≡ number_at f a i * 256 + f (sum64 a i)
+pub number_more : (f : ℕ → ℕ) (a i : ℕ) → number_at f a (i + 1) ≡ number_at f a i * 256 + f (wrapping_add64 a i)
 number_more f a i = rw add-one refl
 
 pub store_none : (f : ℕ → ℕ) (a v : ℕ) → write_get (bytes_to a 0 v) f ≡ f
 store_none f a v = refl
 
-pub store_more : (f : ℕ → ℕ) (a i v : ℕ) → 0 < i → write_get (bytes_to a i v) f ≡ write_get (bytes_to a (i - 1) (v / 256)) (update f (sum64 a (i - 1)) (v % 256))
+pub store_more : (f : ℕ → ℕ) (a i v : ℕ) → 0 < i → write_get (bytes_to a i v) f ≡ write_get (bytes_to a (i - 1) (v / 256)) (update f (wrapping_add64 a (i - 1)) (v % 256))
 store_more f a zero v lt = absurd (omega arith)
-store_more f a (suc j) v lt = let e : j ≡ suc j - 1 = omega arith in ap (λ k. write_get (bytes_to a k (v / 256)) (update f (sum64 a k) (v % 256))) e
+store_more f a (suc j) v lt = let e : j ≡ suc j - 1 = omega arith in ap (λ k. write_get (bytes_to a k (v / 256)) (update f (wrapping_add64 a k) (v % 256))) e
 
 -- numbers of at most 8 bytes have 64 bits
 pub room : (n : ℕ) → n ≤ 8 → 256 ^ n ≤ 2 ^ 64

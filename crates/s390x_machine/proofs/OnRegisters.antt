@@ -4,11 +4,11 @@ use Rattle.s390x_inst.specs.declared.ops.ALUOp.{ALUOp}
 use Rattle.s390x_format.specs.Rows.{is_allowed}
 use Rattle.s390x_format.specs.declared.row.Allowed.TheVariants.{Any, CountMode}
 use Rattle.s390x_format.specs.declared.kind.FormatKind.TheVariants.{RieG, RrfCde}
-use Rattle.s390x_steps.specs.Alone.{two_operands, two_row, three_row, indexed_row}
-use Rattle.s390x_steps.specs.General.{four_bits}
-use Rattle.s390x_steps.specs.MachineInstruction.{rre, rrf_ab, rrf_cde, rie_g, rxy}
-use Rattle.s390x_steps.specs.Opcodes.{alu_three, alu_two}
-use Rattle.s390x_steps.specs.Steps.{Step}
+use Rattle.s390x_typed_steps.specs.SingleInstruction.{two_operands, two_row, three_row, indexed_row}
+use Rattle.s390x_typed_steps.specs.General.{four_bits}
+use Rattle.s390x_typed_steps.specs.MachineInstruction.{rre, rrf_ab, rrf_cde, rie_g, rxy}
+use Rattle.s390x_typed_steps.specs.Opcodes.{alu_three, alu_two}
+use Rattle.s390x_typed_steps.specs.Steps.{Step}
 use Rattle.s390x_operations.specs.State.{Registers}
 use Rattle.s390x_operations.specs.Effects.{Refines, is_selected}
 use Rattle.s390x_operations.specs.declared.effect.Operation.{Operation}
@@ -16,16 +16,16 @@ use Rattle.s390x_operations.specs.declared.effect.CodeRule.{CodeRule}
 use Rattle.s390x_operations.specs.declared.effect.CodeRule.TheVariants.{Kept, Set}
 use Rattle.s390x_operations.specs.declared.operator.Operator.TheVariants.{Move}
 use Rattle.s390x_operations.specs.declared.size.Size.{Size}
-use Rattle.s390x_machine.specs.declared.meaning.Meaning.{Meaning}
-use Rattle.s390x_machine.specs.declared.meaning.Meaning.TheVariants.{MoveWhere, CountOnes, MultiplySigned, MultiplyLogical, FindLeftmostOne, PutAny}
-use Rattle.s390x_machine.specs.declared.meaning.Shape.TheVariants.{Register, ThreeRegisters, Immediate, AccessRegister}
-use Rattle.s390x_machine.specs.declared.meaning.Action.TheVariants.{Perform}
-use Rattle.s390x_machine.specs.Computations.{Second, Computation, Comparison, alu_computation, alu_three_rule, alu_two_rule, computes, compares, copies_access, on_words, on_doublewords, signed_halfword, multiplies_signed, multiplies_logical, finds_leftmost, puts_any, moves_where, moves_immediate_where}
-use Rattle.s390x_machine.specs.Forms.{no_code}
+use Rattle.s390x_machine.specs.declared.semantics.RowSemantics.{RowSemantics}
+use Rattle.s390x_machine.specs.declared.semantics.RowSemantics.TheVariants.{MoveWhere, CountOnes, MultiplySigned, MultiplyLogical, FindLeftmostOne, Havoc}
+use Rattle.s390x_machine.specs.declared.semantics.OperandSource.TheVariants.{Register, ThreeRegisters, Immediate, AccessRegister}
+use Rattle.s390x_machine.specs.declared.semantics.Action.TheVariants.{Perform}
+use Rattle.s390x_machine.specs.Computations.{Second, Computation, Comparison, alu_computation, alu_three_rule, alu_two_rule, computes, compares, copies_access, on_words, on_doublewords, signed_halfword, multiplies_signed, multiplies_logical, finds_leftmost, havocs, moves_where, moves_immediate_where}
+use Rattle.s390x_machine.specs.StepKinds.{no_code}
 use Rattle.s390x_machine.specs.Layout.{Layout}
 use Rattle.s390x_machine.specs.OneStep.{StepRuns}
-use Rattle.s390x_machine.specs.Meanings.{count_operator}
-use Rattle.s390x_machine.proofs.Alone.{Doing, second_register, computed, compared_with, register_fields, alu_three_rows, alu_two_rows, two_at, three_at, loosens, three_looser, two_looser, low_small}
+use Rattle.s390x_machine.specs.Semantics.{count_operator}
+use Rattle.s390x_machine.proofs.SingleInstruction.{Doing, second_register, computed, compared_with, register_fields, alu_three_rows, alu_two_rows, two_at, three_at, loosens, three_looser, two_looser, low_small}
 use Rattle.s390x_machine.proofs.Bits.{any_mask, ear_row, popcnt_row, AnyRows, mgrk_row, mlgr_row, flogr_row, mask_allowed}
 use Rattle.s390x_machine.proofs.Built.{StepAt, IsRow, IsAlone, NeverStops, computes_always, compares_always, where_never, step_even, looser_runs, row_runs, meant_runs, pair_runs}
 use Rattle.s390x_machine.proofs.Listing.{few_digits, TwoRow, TwoRows, ThreeRow, ThreeRows, Meant}
@@ -37,21 +37,21 @@ module _ {L : Layout} {k : ℕ} {s : Step} (b : StepAt L k s) where
   -- ---- two registers, and three
 
   -- one row of two registers, where its operator has one
-  pub one_of_two : (fine : Bool) (o : Option ℕ) (meaning : Meaning) → TwoRows o meaning → (operation : Registers → Operation) (d m : ℕ) → IsAlone L s fine (two_row o d m) operation → (IsTrue fine → (d < 16) × (m < 16)) → Doing (register_fields d m 0) meaning operation → NeverStops operation → StepRuns L k
-  one_of_two fine None meaning row operation d m is small acts never = absurd is.2
-  one_of_two fine (Some opcode) meaning row operation d m is small acts never =
+  pub one_of_two : (operands_valid : Bool) (o : Option ℕ) (semantics : RowSemantics) → TwoRows o semantics → (operation : Registers → Operation) (d m : ℕ) → IsAlone L s operands_valid (two_row o d m) operation → (IsTrue operands_valid → (d < 16) × (m < 16)) → Doing (register_fields d m 0) semantics operation → NeverStops operation → StepRuns L k
+  one_of_two operands_valid None semantics row operation d m is small acts never = absurd is.2
+  one_of_two operands_valid (Some opcode) semantics row operation d m is small acts never =
       let l = small is.2 in
-      row_runs b (two_operands opcode d m) operation never (is.0, is.1) (λ st. two_at L b.all (L.places.step k) (step_even b) opcode meaning row operation d m l.0 l.1 acts st)
+      row_runs b (two_operands opcode d m) operation never (is.0, is.1) (λ st. two_at L b.all (L.offsets.step k) (step_even b) opcode semantics row operation d m l.0 l.1 acts st)
 
-  pub computes_two : (fine : Bool) (o : Option ℕ) (c : Computation) (rule : CodeRule) → TwoRows o (computed c Register rule) → (d m : ℕ) → IsAlone L s fine (two_row o d m) (computes rule c d d m) → (IsTrue fine → (d < 16) × (m < 16)) → StepRuns L k
-  computes_two fine o c rule row d m is small = one_of_two fine o (computed c Register rule) row (computes rule c d d m) d m is small (λ r p. refl) (computes_always rule c d d m)
+  pub computes_two : (operands_valid : Bool) (o : Option ℕ) (c : Computation) (rule : CodeRule) → TwoRows o (computed c Register rule) → (d m : ℕ) → IsAlone L s operands_valid (two_row o d m) (computes rule c d d m) → (IsTrue operands_valid → (d < 16) × (m < 16)) → StepRuns L k
+  computes_two operands_valid o c rule row d m is small = one_of_two operands_valid o (computed c Register rule) row (computes rule c d d m) d m is small (λ r p. refl) (computes_always rule c d d m)
 
-  pub compares_two : (fine : Bool) (o : Option ℕ) (c : Comparison) → TwoRows o (compared_with Register c) → (n m : ℕ) → IsAlone L s fine (two_row o n m) (compares c n m) → (IsTrue fine → (n < 16) × (m < 16)) → StepRuns L k
-  compares_two fine o c row n m is small = one_of_two fine o (compared_with Register c) row (compares c n m) n m is small (λ r p. refl) (compares_always c n m)
+  pub compares_two : (operands_valid : Bool) (o : Option ℕ) (c : Comparison) → TwoRows o (compared_with Register c) → (n m : ℕ) → IsAlone L s operands_valid (two_row o n m) (compares c n m) → (IsTrue operands_valid → (n < 16) × (m < 16)) → StepRuns L k
+  compares_two operands_valid o c row n m is small = one_of_two operands_valid o (compared_with Register c) row (compares c n m) n m is small (λ r p. refl) (compares_always c n m)
 
   -- a copy of an access register
-  pub copies_runs : (fine : Bool) (d a : ℕ) → IsAlone L s fine (two_row (Some 0xb24f) d a) (copies_access d a) → (IsTrue fine → (d < 16) × (a < 16)) → StepRuns L k
-  copies_runs fine d a is small = one_of_two fine (Some 0xb24f) (computed (on_words Move) AccessRegister Kept) ear_row (copies_access d a) d a is small (λ r p. refl) (λ r. never_by_values (copies_access d a r) no_code refl (λ kind h. h))
+  pub copies_runs : (operands_valid : Bool) (d a : ℕ) → IsAlone L s operands_valid (two_row (Some 0xb24f) d a) (copies_access d a) → (IsTrue operands_valid → (d < 16) × (a < 16)) → StepRuns L k
+  copies_runs operands_valid d a is small = one_of_two operands_valid (Some 0xb24f) (computed (on_words Move) AccessRegister Kept) ear_row (copies_access d a) d a is small (λ r p. refl) (λ r. never_by_values (copies_access d a r) no_code refl (λ kind h. h))
 
   -- an operator on three registers: its row of three, or that of two where the first input is the output
   module _ (op : ALUOp) (d n m : ℕ) where
@@ -62,7 +62,7 @@ module _ {L : Layout} {k : ℕ} {s : Step} (b : StepAt L k s) where
     by_three opcode row is l =
         let c = alu_computation op in
         looser_runs b (rrf_ab opcode d n m 0) (computes Set c d n m) does_op (λ r. loosens _ Set (alu_three_rule op) (three_looser op)) (computes_always (alu_three_rule op) c d n m) is (λ st.
-        three_at L b.all (L.places.step k) (step_even b) opcode (computed c ThreeRegisters Set) row (computes Set c d n m) d n m l.0 l.1 l.2 (λ r p. refl) st)
+        three_at L b.all (L.offsets.step k) (step_even b) opcode (computed c ThreeRegisters Set) row (computes Set c d n m) d n m l.0 l.1 l.2 (λ r p. refl) st)
 
     by_two : (three two : ℕ) → alu_three op ≡ Some three → d ≡ n → TwoRow two (computed (alu_computation op) Register (alu_two_rule op)) → IsRow L s (two_operands two d m) does_op → (d < 16) × (n < 16) × (m < 16) → StepRuns L k
     by_two three two some same row is l =
@@ -70,16 +70,16 @@ module _ {L : Layout} {k : ℕ} {s : Step} (b : StepAt L k s) where
         let does = computes (alu_two_rule op) c d d m in
         let refines : (r : Registers) → Refines (does r) (does_op r) = λ r. subst (λ i. Refines (does r) (computes (alu_three_rule op) c d i m r)) same (loosens _ (alu_two_rule op) (alu_three_rule op) (two_looser op three some)) in
         looser_runs b (two_operands two d m) does does_op refines (computes_always (alu_three_rule op) c d n m) is (λ st.
-        two_at L b.all (L.places.step k) (step_even b) two (computed c Register (alu_two_rule op)) row does d m l.0 l.2 (λ r p. refl) st)
+        two_at L b.all (L.offsets.step k) (step_even b) two (computed c Register (alu_two_rule op)) row does d m l.0 l.2 (λ r p. refl) st)
 
-    pub alu_three_runs : (fine : Bool) → IsAlone L s fine (three_row (alu_three op) (alu_two op) d n m) does_op → (IsTrue fine → (d < 16) × (n < 16) × (m < 16)) → StepRuns L k
-    alu_three_runs fine is small = go (alu_three op) refl (alu_three_rows op) (alu_two op) (alu_two_rows op) is
+    pub alu_three_runs : (operands_valid : Bool) → IsAlone L s operands_valid (three_row (alu_three op) (alu_two op) d n m) does_op → (IsTrue operands_valid → (d < 16) × (n < 16) × (m < 16)) → StepRuns L k
+    alu_three_runs operands_valid is small = go (alu_three op) refl (alu_three_rows op) (alu_two op) (alu_two_rows op) is
       where
-        either : (same : Bool) → nat_eq d n ≡ same → (three : ℕ) → alu_three op ≡ Some three → ThreeRow three (computed (alu_computation op) ThreeRegisters Set) → (two : ℕ) → TwoRow two (computed (alu_computation op) Register (alu_two_rule op)) → IsRow L s (cond same (two_operands two d m) (rrf_ab three d n m 0)) does_op → IsTrue fine → StepRuns L k
+        either : (same : Bool) → nat_eq d n ≡ same → (three : ℕ) → alu_three op ≡ Some three → ThreeRow three (computed (alu_computation op) ThreeRegisters Set) → (two : ℕ) → TwoRow two (computed (alu_computation op) Register (alu_two_rule op)) → IsRow L s (cond same (two_operands two d m) (rrf_ab three d n m 0)) does_op → IsTrue operands_valid → StepRuns L k
         either true e three some row two row2 is h = by_two three two some (eqb-true d n e) row2 is (small h)
         either false e three some row two row2 is h = by_three three row is (small h)
 
-        go : (three : Option ℕ) → alu_three op ≡ three → ThreeRows three (computed (alu_computation op) ThreeRegisters Set) → (two : Option ℕ) → TwoRows two (computed (alu_computation op) Register (alu_two_rule op)) → IsAlone L s fine (three_row three two d n m) does_op → StepRuns L k
+        go : (three : Option ℕ) → alu_three op ≡ three → ThreeRows three (computed (alu_computation op) ThreeRegisters Set) → (two : Option ℕ) → TwoRows two (computed (alu_computation op) Register (alu_two_rule op)) → IsAlone L s operands_valid (three_row three two d n m) does_op → StepRuns L k
         go None some row two row2 is = absurd is.2
         go (Some three) some row None row2 is = by_three three row (is.0, is.1) (small is.2)
         go (Some three) some row (Some two) row2 is = either (nat_eq d n) refl three some row two row2 (is.0, is.1) is.2
@@ -119,8 +119,8 @@ module _ {L : Layout} {k : ℕ} {s : Step} (b : StepAt L k s) where
       meant_runs b (rrf_cde 0xb9e1 d n mode 0) CountOnes op (computes_always Set (on_doublewords (count_operator mode)) d d n) is popcnt_row (fits_rrf_cde 0xb9e1 d n mode (omega arith) l.0 l.1 few) allowed (λ r p. refl)
 
   -- an indexed address, whose result is free
-  pub any_runs : (fine : Bool) (o : Option ℕ) → AnyRows o → (d base index displacement : ℕ) → IsAlone L s fine (indexed_row o d base index displacement) (puts_any d) → (IsTrue fine → (d < 16) × (base < 16) × (index < 16)) → displacement < 2 ^ 20 → StepRuns L k
-  any_runs fine None row d base index displacement is small ld = absurd is.2
-  any_runs fine (Some opcode) row d base index displacement is small ld =
+  pub any_runs : (operands_valid : Bool) (o : Option ℕ) → AnyRows o → (d base index displacement : ℕ) → IsAlone L s operands_valid (indexed_row o d base index displacement) (havocs d) → (IsTrue operands_valid → (d < 16) × (base < 16) × (index < 16)) → displacement < 2 ^ 20 → StepRuns L k
+  any_runs operands_valid None row d base index displacement is small ld = absurd is.2
+  any_runs operands_valid (Some opcode) row d base index displacement is small ld =
       let l = small is.2 in
-      meant_runs b (rxy opcode d base index displacement) PutAny (puts_any d) (λ r. never_by_values (puts_any d r) no_code refl (λ kind h. h)) (is.0, is.1) row (fits_rxy opcode d base index displacement (few_digits row.0) l.0 l.1 l.2 ld) refl (λ r p. refl)
+      meant_runs b (rxy opcode d base index displacement) Havoc (havocs d) (λ r. never_by_values (havocs d r) no_code refl (λ kind h. h)) (is.0, is.1) row (fits_rxy opcode d base index displacement (few_digits row.0) l.0 l.1 l.2 ld) refl (λ r p. refl)

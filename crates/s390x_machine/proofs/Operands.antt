@@ -12,18 +12,18 @@ use Rattle.s390x_base.specs.Regs.{number_of, is_int}
 use Rattle.s390x_base.specs.declared.regs.Reg.{Reg}
 use Rattle.s390x_base.specs.declared.regs.Reg.TheVariants.{Real, Virtual}
 use Rattle.s390x_format.specs.View.{disp_of}
-use Rattle.s390x_steps.specs.General.{is_general, low_word, low_displacement, low_12, low_halfword}
-use Rattle.s390x_steps.specs.Operands.{is_numbered, fits_12, fits_20, fits_32}
+use Rattle.s390x_typed_steps.specs.General.{is_general, low_word, low_displacement, low_12, low_halfword}
+use Rattle.s390x_typed_steps.specs.Operands.{is_numbered, fits_12, fits_20, fits_32}
 use Rattle.s390x_lanes.specs.declared.operation.Signedness.TheVariants.{Signed}
 use Rattle.s390x_operations.specs.Bits.{extended}
 use Rattle.s390x_operations.specs.Numbers.{low}
-use Rattle.s390x_operations.specs.State.{Registers, put}
+use Rattle.s390x_operations.specs.State.{Registers, set_general}
 use Rattle.s390x_operations.specs.declared.size.Size.TheVariants.{Doubleword}
 use Rattle.s390x_operations.specs.declared.size.Width.TheVariants.{Bits32}
 use Rattle.s390x_machine.specs.Operands.{address_part, indexed, based}
 use Rattle.s390x_machine.specs.Storage.{signed_immediate}
 use Rattle.s390x_machine.proofs.Addresses.{low_of}
-use Rattle.s390x_machine.proofs.Alone.{low_small}
+use Rattle.s390x_machine.proofs.SingleInstruction.{low_small}
 use Rattle.s390x_machine.proofs.Bits.{below, not_below}
 
 -- ---- ranges
@@ -87,10 +87,10 @@ pub based_indexed : (r : Registers) (base : ℕ) (d : ℤ) → indexed r base 0 
 based_indexed r base d = let e : address_part r base + 0 ≡ address_part r base = omega arith in ap (λ n. low Doubleword (pos n +ℤ d)) e
 
 -- a register of another number stays
-pub other_kept : (r : Registers) (v i : ℕ) → (i == 1) ≡ false → (put r 1 v).general i ≡ r.general i
+pub other_kept : (r : Registers) (v i : ℕ) → (i == 1) ≡ false → (set_general r 1 v).general i ≡ r.general i
 other_kept r v i e = ap (λ t. cond t v (r.general i)) e
 
-part_kept : (r : Registers) (v i : ℕ) → (i == 1) ≡ false → address_part (put r 1 v) i ≡ address_part r i
+part_kept : (r : Registers) (v i : ℕ) → (i == 1) ≡ false → address_part (set_general r 1 v) i ≡ address_part r i
 part_kept r v i e = ap (λ x. if i == 0 then 0 else x) (other_kept r v i e)
 
 twice : (t : Bool) (v w f : ℕ) → cond t w (cond t v f) ≡ cond t w f
@@ -98,7 +98,7 @@ twice true v w f = refl
 twice false v w f = refl
 
 -- the last value that a register gets stays
-pub put_twice : (r : Registers) (v w : ℕ) → put (put r 1 v) 1 w ≡ put r 1 w
+pub put_twice : (r : Registers) (v w : ℕ) → set_general (set_general r 1 v) 1 w ≡ set_general r 1 w
 put_twice r v w = λ i. record r { general = λ k. twice (k == 1) v w (r.general k) i }
 
 -- a general register that isn't %r1
@@ -118,7 +118,7 @@ low_below (pos a) = omega arith
 low_below (negsuc a) = omega arith
 
 -- an address that stands in %r1
-pub loaded_address : (r : Registers) (a : ℕ) → a < 2 ^ 64 → indexed (put r 1 (a % 2 ^ 64)) 1 0 (pos 0) ≡ a
+pub loaded_address : (r : Registers) (a : ℕ) → a < 2 ^ 64 → indexed (set_general r 1 (a % 2 ^ 64)) 1 0 (pos 0) ≡ a
 loaded_address r a lt =
     let e : a % 2 ^ 64 + 0 + 0 ≡ a = omega (arith, lt) in
     ap (λ n. low Doubleword (pos n)) e ∙ low_small a lt
@@ -143,7 +143,7 @@ loaded_offset x (negsuc a) least most =
     ap (λ y. low Doubleword (pos (x + y) +ℤ pos 0)) value ∙ low_of (pos n +ℤ pos 0) (n + 2 ^ 64) left ∙ add-mod_right n (2 ^ 64) ∙ sym (low_of (pos x +ℤ negsuc a) n right)
 
 -- a register plus an offset that stands in %r1
-pub far_offset : (r : Registers) (base : ℕ) (off : ℤ) → (base == 1) ≡ false → negsuc 2147483647 ≤ℤ off → off ≤ℤ pos 2147483647 → indexed (put r 1 (extended Signed Bits32 Doubleword (low_word off))) base 1 (pos 0) ≡ based r base off
+pub far_offset : (r : Registers) (base : ℕ) (off : ℤ) → (base == 1) ≡ false → negsuc 2147483647 ≤ℤ off → off ≤ℤ pos 2147483647 → indexed (set_general r 1 (extended Signed Bits32 Doubleword (low_word off))) base 1 (pos 0) ≡ based r base off
 far_offset r base off other least most =
     let v = extended Signed Bits32 Doubleword (low_word off) in
     ap (λ x. low Doubleword (pos (x + v) +ℤ pos 0)) (part_kept r v base other) ∙ loaded_offset (address_part r base) off least most

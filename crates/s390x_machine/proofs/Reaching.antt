@@ -1,20 +1,20 @@
 -- Accessible bytes, one after another.
 use Rattle.std.proofs.Common.{◌≡◌, ℕ, zero, suc, ◌+◌, ◌<◌, Bool, true, ◌&&◌, IsTrue, inl, inr, refl, arith, add-one, subst}
 use Rattle.std.proofs.lemmas.Bool.{cases_lt, and_parts}
-use Rattle.s390x_operations.specs.State.{sum64, reaches}
+use Rattle.s390x_operations.specs.State.{wrapping_add64, reaches}
 
 pub reaches_none : (has : ℕ → Bool) (a : ℕ) → reaches has a 0 ≡ true
 reaches_none has a = refl
 
-pub reaches_more : (has : ℕ → Bool) (a i : ℕ) → reaches has a (i + 1) ≡ (has (sum64 a i) && reaches has a i)
+pub reaches_more : (has : ℕ → Bool) (a i : ℕ) → reaches has a (i + 1) ≡ (has (wrapping_add64 a i) && reaches has a i)
 reaches_more has a i = rw add-one refl
 
 -- one of them
-pub reached_at : (has : ℕ → Bool) (a n i : ℕ) → IsTrue (reaches has a n) → i < n → IsTrue (has (sum64 a i))
+pub reached_at : (has : ℕ → Bool) (a n i : ℕ) → IsTrue (reaches has a n) → i < n → IsTrue (has (wrapping_add64 a i))
 reached_at has a zero i h lt = absurd (omega arith)
 reached_at has a (suc n) i h lt =
-    let parts = and_parts (has (sum64 a n)) (reaches has a n) h in
+    let parts = and_parts (has (wrapping_add64 a n)) (reaches has a n) h in
     elim (cases_lt i n) [
       | inl less ↦ reached_at has a n i parts.1 less
-      | inr more ↦ let e : n ≡ i = omega arith in subst (λ k. IsTrue (has (sum64 a k))) e parts.0
+      | inr more ↦ let e : n ≡ i = omega arith in subst (λ k. IsTrue (has (wrapping_add64 a k))) e parts.0
     ]

@@ -5,10 +5,10 @@ use Rattle.s390x_base.specs.Regs.{number_of, is_int, is_pair}
 use Rattle.s390x_base.specs.declared.regs.Reg.{Reg}
 use Rattle.s390x_base.specs.declared.regs.Reg.TheVariants.{Real, Virtual}
 use Rattle.s390x_format.specs.declared.fields.Fields.{Fields}
-use Rattle.s390x_steps.specs.General.{is_general, is_even_pair, reuses, four_bits, rotation}
-use Rattle.s390x_steps.specs.Ranges.{IsMask}
-use Rattle.s390x_machine.specs.declared.meaning.Meaning.{Meaning}
-use Rattle.s390x_machine.specs.Meanings.{names_pair, is_odd_pair, register_field}
+use Rattle.s390x_typed_steps.specs.General.{is_general, is_even_pair, reuses, four_bits, rotation}
+use Rattle.s390x_typed_steps.specs.Ranges.{IsConditionMask}
+use Rattle.s390x_machine.specs.declared.semantics.RowSemantics.{RowSemantics}
+use Rattle.s390x_machine.specs.Semantics.{names_pair, is_odd_pair, register_field}
 use Rattle.s390x_machine.proofs.Rows.{general_number}
 
 pub two_small : (a b : Reg) → IsTrue (is_general a && is_general b) → (number_of a < 16) × (number_of b < 16)
@@ -42,8 +42,8 @@ pub access_small : (output : Reg) (a : ℕ) → number_of output < 16 → (numbe
 access_small output a lt = (lt, omega arith)
 
 -- a pair that is even isn't odd
-pub even_pair : (meaning : Meaning) (f : Fields) → register_field f 0 % 2 ≡ 0 → is_odd_pair meaning f ≡ false
-even_pair meaning f e = go (names_pair meaning)
+pub even_pair : (semantics : RowSemantics) (f : Fields) → register_field f 0 % 2 ≡ 0 → is_odd_pair semantics f ≡ false
+even_pair semantics f e = go (names_pair semantics)
   where
     go : (b : Bool) → (b && (register_field f 0 % 2 == 1)) ≡ false
     go true = ap (λ n. n == 1) e
@@ -77,5 +77,5 @@ pair_tested_small high low other test t =
     let q = pair_even high low (and_parts (is_even_pair high low) test p.0).0 in
     (q.0, q.1, general_number other p.1)
 
-pub small_mask : (mask : ℕ) → IsMask mask → mask < 16
+pub small_mask : (mask : ℕ) → IsConditionMask mask → mask < 16
 small_mask mask m = omega (arith, m.1)

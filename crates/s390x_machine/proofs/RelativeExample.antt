@@ -12,25 +12,25 @@ use Rattle.s390x_format.specs.Reading.{be_bytes}
 use Rattle.s390x_format.specs.Fetch.{machine_rows}
 use Rattle.s390x_format.specs.Encoded.{IsEncoded, decoded_of}
 use Rattle.s390x_format.proofs.Encoding.{listed}
-use Rattle.s390x_steps.specs.Causes.{blocks_cause}
-use Rattle.s390x_steps.specs.Image.{place, function_code}
-use Rattle.s390x_steps.specs.MachineInstruction.{MachineInstruction, bytes_of, rr, ril_b}
-use Rattle.s390x_steps.specs.Parts.{step_parts}
-use Rattle.s390x_steps.specs.Ranges.{BlocksInRange}
-use Rattle.s390x_steps.specs.Steps.{Step, Plain, function_steps}
-use Rattle.s390x_operations.specs.State.{State, Lies, sum64}
+use Rattle.s390x_typed_steps.specs.Causes.{blocks_cause}
+use Rattle.s390x_typed_steps.specs.Image.{step_offset, function_code}
+use Rattle.s390x_typed_steps.specs.MachineInstruction.{MachineInstruction, bytes_of, rr, ril_b}
+use Rattle.s390x_typed_steps.specs.Parts.{step_parts}
+use Rattle.s390x_typed_steps.specs.Ranges.{BlocksInRange}
+use Rattle.s390x_typed_steps.specs.Steps.{Step, Plain, function_steps}
+use Rattle.s390x_operations.specs.State.{State, IsLoaded, wrapping_add64}
 use Rattle.s390x_machine.specs.Fetch.{Found}
 use Rattle.s390x_machine.specs.Functions.{function_layout, StandsAsCode}
-use Rattle.s390x_machine.specs.Meanings.{meaning_in, meaning_of}
-use Rattle.s390x_machine.specs.Machine.{Event, Went, FetchedActs, MachineStep}
-use Rattle.s390x_machine.specs.Placed.{PartsReach, ConstantStands}
-use Rattle.s390x_machine.specs.RelativeExample.{image, loads, names, trees, outside, core, with_constant, with_both, RelativeRuns}
+use Rattle.s390x_machine.specs.Semantics.{semantics_in, semantics_of}
+use Rattle.s390x_machine.specs.Machine.{Event, Executed, FetchedStep, MachineStep}
+use Rattle.s390x_machine.specs.CodeAt.{PartsReach, ConstantStands}
+use Rattle.s390x_machine.specs.RelativeExample.{image, loads, names, trees, environment, core, with_constant, with_both, RelativeRuns}
 use Rattle.s390x_machine.proofs.Checked.{checked_steps}
 use Rattle.s390x_machine.proofs.Fetching.{StandsAt, found_at}
 use Rattle.s390x_machine.proofs.Rows.{fits_rr, fits_ril_b, bcr_listed, larl_listed}
 
 -- the bytes are the function's code, and then two bytes without use and the constant
-code : image.bytes ≡ function_code outside trees ++ (0 ∷ 0 ∷ 0 ∷ 0 ∷ 0 ∷ 42 ∷ [])
+code : image.bytes ≡ function_code environment trees ++ (0 ∷ 0 ∷ 0 ∷ 0 ∷ 0 ∷ 42 ∷ [])
 unfolding number bits layout_of length_of be_bytes
 code = refl
 
@@ -46,41 +46,41 @@ ranges : BlocksInRange trees
 ranges = (((tt, tt), ((tt, tt), ((tt, tt), tt))), tt)
 
 -- the symbol's distance leads to it
-reaches : (k : ℕ) (s : Step) → slice_get (function_steps trees) k ≡ Some s → PartsReach (function_layout outside trees image) (place (function_steps trees) k) (step_parts s)
+reaches : (k : ℕ) (s : Step) → slice_get (function_steps trees) k ≡ Some s → PartsReach (function_layout environment trees image) (step_offset (function_steps trees) k) (step_parts s)
 unfolding length_of
-reaches zero s e = let same : Plain loads ≡ s = cc in subst (λ x. PartsReach (function_layout outside trees image) (place (function_steps trees) zero) (step_parts x)) same (tt, tt)
-reaches (suc zero) s e = let same : Plain names ≡ s = cc in subst (λ x. PartsReach (function_layout outside trees image) (place (function_steps trees) (suc zero)) (step_parts x)) same ((omega arith, refl), tt)
-reaches (suc (suc zero)) s e = let same : Plain (Ret (Real (general 14))) ≡ s = cc in subst (λ x. PartsReach (function_layout outside trees image) (place (function_steps trees) (suc (suc zero))) (step_parts x)) same (tt, tt)
+reaches zero s e = let same : Plain loads ≡ s = cc in subst (λ x. PartsReach (function_layout environment trees image) (step_offset (function_steps trees) zero) (step_parts x)) same (tt, tt)
+reaches (suc zero) s e = let same : Plain names ≡ s = cc in subst (λ x. PartsReach (function_layout environment trees image) (step_offset (function_steps trees) (suc zero)) (step_parts x)) same ((omega arith, refl), tt)
+reaches (suc (suc zero)) s e = let same : Plain (Ret (Real (general 14))) ≡ s = cc in subst (λ x. PartsReach (function_layout environment trees image) (step_offset (function_steps trees) (suc (suc zero))) (step_parts x)) same (tt, tt)
 reaches (suc (suc (suc k))) s e = absurd (cc)
 
 -- the constant stands on its boundary
-constant_stands : (c : ℕ) → c < 1 → ConstantStands (function_layout outside trees image) c
+constant_stands : (c : ℕ) → c < 1 → ConstantStands (function_layout environment trees image) c
 unfolding length_of
 constant_stands c lt =
     let first : 0 ≡ c = omega (arith, lt) in
-    subst (λ n. ConstantStands (function_layout outside trees image) n) first (record { within = omega arith; even = refl; alignment = refl; aligned = refl })
+    subst (λ n. ConstantStands (function_layout environment trees image) n) first (record { within = omega arith; even = refl; alignment = refl; aligned = refl })
 
-stands : StandsAsCode outside trees image
+stands : StandsAsCode environment trees image
 stands = record {
   constants = 0 ∷ 0 ∷ 0 ∷ 0 ∷ 0 ∷ 42 ∷ [];
   bytes = code;
   even = refl;
   fits = omega arith;
   short = omega arith;
-  fine = checked_steps base outside trees 2 image (checked base) ranges;
+  operands_valid = checked_steps base environment trees 2 image (checked base) ranges;
   reached = reaches;
   stand = constant_stands;
 }
 
-lies : Lies image core.memory
-lies = record { has = λ a h. h; get = λ a h. refl }
+is_loaded : IsLoaded image core.memory
+is_loaded = record { has = λ a h. h; get = λ a h. refl }
 
 -- ---- the run
 
-step_at : (m : MachineInstruction) (o : ℕ) (s : State) (event : Event) (t : State) → o % 2 ≡ 0 → s.core.memory ≡ core.memory → s.place ≡ sum64 4096 o → StandsAt image o (bytes_of m) → SlotsFit (layout_of m.format) m.slots → IsEncoded machine_rows m.format m.slots → FetchedActs (Found (decoded_of m.format m.slots)) s event t → MachineStep s event t
+step_at : (m : MachineInstruction) (o : ℕ) (s : State) (event : Event) (t : State) → o % 2 ≡ 0 → s.core.memory ≡ core.memory → s.address ≡ wrapping_add64 4096 o → StandsAt image o (bytes_of m) → SlotsFit (layout_of m.format) m.slots → IsEncoded machine_rows m.format m.slots → FetchedStep (Found (decoded_of m.format m.slots)) s event t → MachineStep s event t
 step_at m o s event t even memory at stands fit listed acts = record {
   fetched = Found (decoded_of m.format m.slots);
-  fetches = subst (λ p. Rattle.s390x_machine.specs.Fetch.IsFound s.core.memory p (decoded_of m.format m.slots)) (sym at) (found_at image s.core.memory o m.format m.slots refl even (omega arith) (subst (λ x. Lies image x) (sym memory) lies) stands fit listed);
+  fetches = subst (λ p. Rattle.s390x_machine.specs.Fetch.IsFound s.core.memory p (decoded_of m.format m.slots)) (sym at) (found_at image s.core.memory o m.format m.slots refl even (omega arith) (subst (λ x. IsLoaded image x) (sym memory) is_loaded) stands fit listed);
   acts = acts;
 }
 
@@ -100,25 +100,25 @@ lrl_listed : (a half : ℕ) → IsEncoded machine_rows RilB (ril_b 0xc4d a half)
 unfolding machine_rows row_for
 lrl_listed a half = listed machine_rows RilB (ril_b 0xc4d a half).slots (omega arith) (refl, refl, refl)
 
-load_step : (s t : State) → s.core.memory ≡ core.memory → s.place ≡ 4096 → FetchedActs (Found (decoded_of RilB (ril_b 0xc4d 2 8).slots)) s (Went None) t → MachineStep s (Went None) t
-load_step s t memory at acts = step_at (ril_b 0xc4d 2 8) 0 s (Went None) t refl memory at load_stands (fits_ril_b 0xc4d 2 8 (omega arith) (omega arith) (omega arith)) (lrl_listed 2 8) acts
+load_step : (s t : State) → s.core.memory ≡ core.memory → s.address ≡ 4096 → FetchedStep (Found (decoded_of RilB (ril_b 0xc4d 2 8).slots)) s (Executed None) t → MachineStep s (Executed None) t
+load_step s t memory at acts = step_at (ril_b 0xc4d 2 8) 0 s (Executed None) t refl memory at load_stands (fits_ril_b 0xc4d 2 8 (omega arith) (omega arith) (omega arith)) (lrl_listed 2 8) acts
 
-address_step : (s t : State) → s.core.memory ≡ core.memory → s.place ≡ 4102 → FetchedActs (Found (decoded_of RilB (ril_b 0xc00 3 2045).slots)) s (Went None) t → MachineStep s (Went None) t
-address_step s t memory at acts = step_at (ril_b 0xc00 3 2045) 6 s (Went None) t refl memory at address_stands (fits_ril_b 0xc00 3 2045 (omega arith) (omega arith) (omega arith)) (larl_listed 3 2045) acts
+address_step : (s t : State) → s.core.memory ≡ core.memory → s.address ≡ 4102 → FetchedStep (Found (decoded_of RilB (ril_b 0xc00 3 2045).slots)) s (Executed None) t → MachineStep s (Executed None) t
+address_step s t memory at acts = step_at (ril_b 0xc00 3 2045) 6 s (Executed None) t refl memory at address_stands (fits_ril_b 0xc00 3 2045 (omega arith) (omega arith) (omega arith)) (larl_listed 3 2045) acts
 
-return_step : (s t : State) → s.core.memory ≡ core.memory → s.place ≡ 4108 → FetchedActs (Found (decoded_of Rr (rr 0x07 15 14).slots)) s (Went None) t → MachineStep s (Went None) t
-return_step s t memory at acts = step_at (rr 0x07 15 14) 12 s (Went None) t refl memory at return_stands (fits_rr 0x07 15 14 (omega arith) (omega arith) (omega arith)) (bcr_listed 15 14) acts
+return_step : (s t : State) → s.core.memory ≡ core.memory → s.address ≡ 4108 → FetchedStep (Found (decoded_of Rr (rr 0x07 15 14).slots)) s (Executed None) t → MachineStep s (Executed None) t
+return_step s t memory at acts = step_at (rr 0x07 15 14) 12 s (Executed None) t refl memory at return_stands (fits_rr 0x07 15 14 (omega arith) (omega arith) (omega arith)) (bcr_listed 15 14) acts
 
 pub relative_runs : RelativeRuns
-unfolding length_of meaning_in meaning_of
+unfolding length_of semantics_in semantics_of
 relative_runs = (
   stands,
-  lies,
+  is_loaded,
   (
-    record { may = tt; goes = load_step (record { core = core; place = 4096 }) (record { core = with_constant; place = 4102 }) refl refl (record { reached = refl; allowed = refl; results = refl; code = refl; memory = refl }, refl, refl) },
+    record { may = tt; goes = load_step (record { core = core; address = 4096 }) (record { core = with_constant; address = 4102 }) refl refl (record { reached = refl; allowed = refl; results = refl; code = refl; memory = refl }, refl, refl) },
     (
-      record { may = tt; goes = address_step (record { core = with_constant; place = 4102 }) (record { core = with_both; place = 4108 }) refl refl (record { reached = refl; allowed = refl; results = refl; code = refl; memory = refl }, refl, refl) },
-      (record { may = tt; goes = return_step (record { core = with_both; place = 4108 }) (record { core = with_both; place = 8192 }) refl refl (refl, refl, refl) }, tt),
+      record { may = tt; goes = address_step (record { core = with_constant; address = 4102 }) (record { core = with_both; address = 4108 }) refl refl (record { reached = refl; allowed = refl; results = refl; code = refl; memory = refl }, refl, refl) },
+      (record { may = tt; goes = return_step (record { core = with_both; address = 4108 }) (record { core = with_both; address = 8192 }) refl refl (refl, refl, refl) }, tt),
     ),
   ),
 )

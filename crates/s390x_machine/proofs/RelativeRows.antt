@@ -6,80 +6,80 @@ use Rattle.s390x_format.specs.declared.kind.FormatKind.TheVariants.{RilB}
 use Rattle.s390x_format.specs.declared.row.Allowed.TheVariants.{Any}
 use Rattle.s390x_format.specs.Lookup.{row_for}
 use Rattle.s390x_format.specs.Fetch.{machine_rows}
-use Rattle.s390x_steps.specs.Storage.{cmp_ril}
+use Rattle.s390x_typed_steps.specs.Storage.{cmp_ril}
 use Rattle.s390x_operations.specs.declared.size.Size.{Size}
 use Rattle.s390x_operations.specs.declared.size.Size.TheVariants.{Word, Doubleword}
 use Rattle.s390x_operations.specs.declared.operator.Operator.TheVariants.{Move}
 use Rattle.s390x_operations.specs.declared.effect.CodeRule.TheVariants.{Kept}
-use Rattle.s390x_machine.specs.declared.meaning.Meaning.{Meaning}
-use Rattle.s390x_machine.specs.declared.meaning.Meaning.TheVariants.{Compute, Store}
-use Rattle.s390x_machine.specs.declared.meaning.Shape.TheVariants.{Relative, RelativeAddress}
-use Rattle.s390x_machine.specs.Computations.{Second, word, signed_word, signed_halfword, halfword, doubleword, comparison}
-use Rattle.s390x_machine.specs.Meanings.{meaning_in, meaning_of}
+use Rattle.s390x_machine.specs.declared.semantics.RowSemantics.{RowSemantics}
+use Rattle.s390x_machine.specs.declared.semantics.RowSemantics.TheVariants.{Compute, Store}
+use Rattle.s390x_machine.specs.declared.semantics.OperandSource.TheVariants.{Relative, RelativeAddress}
+use Rattle.s390x_machine.specs.Computations.{Second, unsigned_word, signed_word, signed_halfword, unsigned_halfword, doubleword, comparison}
+use Rattle.s390x_machine.specs.Semantics.{semantics_in, semantics_of}
 use Rattle.s390x_machine.proofs.Listing.{Agrees, rows, OpcodeRows}
-use Rattle.s390x_machine.proofs.Alone.{compared_with, second_register}
+use Rattle.s390x_machine.proofs.SingleInstruction.{compared_with, second_register}
 
 -- the row of an instruction, where it has one
-abbrev pub RelativeRows : Option ℕ → Meaning → Type 0
-RelativeRows opcode meaning = OpcodeRows RilB 4096 opcode meaning
+abbrev pub RelativeRows : Option ℕ → RowSemantics → Type 0
+RelativeRows opcode semantics = OpcodeRows RilB 4096 opcode semantics
 
 -- what a load and a store do
-abbrev pub relative_loading : Size → Second → Meaning
+abbrev pub relative_loading : Size → Second → RowSemantics
 relative_loading size s = Compute Move size (second_register Relative s) Kept
 
-abbrev pub relative_storing : Second → Meaning
+abbrev pub relative_storing : Second → RowSemantics
 relative_storing s = Store (second_register Relative s)
 
 pub relative_address_row : RelativeRows (Some 0xc00) (Compute Move Doubleword (second_register RelativeAddress doubleword) Kept)
-unfolding machine_rows row_for meaning_in meaning_of
+unfolding machine_rows row_for semantics_in semantics_of
 relative_address_row = (record { is = refl }, refl)
 
-pub relative_load_32 : RelativeRows (Some 0xc4d) (relative_loading Word word)
-unfolding machine_rows row_for meaning_in meaning_of
+pub relative_load_32 : RelativeRows (Some 0xc4d) (relative_loading Word unsigned_word)
+unfolding machine_rows row_for semantics_in semantics_of
 relative_load_32 = (record { is = refl }, refl)
 
-pub relative_load_32_zero_16 : RelativeRows (Some 0xc42) (relative_loading Word halfword)
-unfolding machine_rows row_for meaning_in meaning_of
+pub relative_load_32_zero_16 : RelativeRows (Some 0xc42) (relative_loading Word unsigned_halfword)
+unfolding machine_rows row_for semantics_in semantics_of
 relative_load_32_zero_16 = (record { is = refl }, refl)
 
 pub relative_load_32_signed_16 : RelativeRows (Some 0xc45) (relative_loading Word signed_halfword)
-unfolding machine_rows row_for meaning_in meaning_of
+unfolding machine_rows row_for semantics_in semantics_of
 relative_load_32_signed_16 = (record { is = refl }, refl)
 
 pub relative_load_64 : RelativeRows (Some 0xc48) (relative_loading Doubleword doubleword)
-unfolding machine_rows row_for meaning_in meaning_of
+unfolding machine_rows row_for semantics_in semantics_of
 relative_load_64 = (record { is = refl }, refl)
 
-pub relative_load_64_zero_16 : RelativeRows (Some 0xc46) (relative_loading Doubleword halfword)
-unfolding machine_rows row_for meaning_in meaning_of
+pub relative_load_64_zero_16 : RelativeRows (Some 0xc46) (relative_loading Doubleword unsigned_halfword)
+unfolding machine_rows row_for semantics_in semantics_of
 relative_load_64_zero_16 = (record { is = refl }, refl)
 
 pub relative_load_64_signed_16 : RelativeRows (Some 0xc44) (relative_loading Doubleword signed_halfword)
-unfolding machine_rows row_for meaning_in meaning_of
+unfolding machine_rows row_for semantics_in semantics_of
 relative_load_64_signed_16 = (record { is = refl }, refl)
 
-pub relative_load_64_zero_32 : RelativeRows (Some 0xc4e) (relative_loading Doubleword word)
-unfolding machine_rows row_for meaning_in meaning_of
+pub relative_load_64_zero_32 : RelativeRows (Some 0xc4e) (relative_loading Doubleword unsigned_word)
+unfolding machine_rows row_for semantics_in semantics_of
 relative_load_64_zero_32 = (record { is = refl }, refl)
 
 pub relative_load_64_signed_32 : RelativeRows (Some 0xc4c) (relative_loading Doubleword signed_word)
-unfolding machine_rows row_for meaning_in meaning_of
+unfolding machine_rows row_for semantics_in semantics_of
 relative_load_64_signed_32 = (record { is = refl }, refl)
 
-pub relative_store_16 : RelativeRows (Some 0xc47) (relative_storing halfword)
-unfolding machine_rows row_for meaning_in meaning_of
+pub relative_store_16 : RelativeRows (Some 0xc47) (relative_storing unsigned_halfword)
+unfolding machine_rows row_for semantics_in semantics_of
 relative_store_16 = (record { is = refl }, refl)
 
-pub relative_store_32 : RelativeRows (Some 0xc4f) (relative_storing word)
-unfolding machine_rows row_for meaning_in meaning_of
+pub relative_store_32 : RelativeRows (Some 0xc4f) (relative_storing unsigned_word)
+unfolding machine_rows row_for semantics_in semantics_of
 relative_store_32 = (record { is = refl }, refl)
 
 pub relative_store_64 : RelativeRows (Some 0xc4b) (relative_storing doubleword)
-unfolding machine_rows row_for meaning_in meaning_of
+unfolding machine_rows row_for semantics_in semantics_of
 relative_store_64 = (record { is = refl }, refl)
 
 pub cmp_relative_rows : (op : CmpOp) → RelativeRows (Some (cmp_ril op)) (compared_with Relative (comparison op))
-unfolding machine_rows row_for meaning_in meaning_of
+unfolding machine_rows row_for semantics_in semantics_of
 cmp_relative_rows op = rows (λ n. RilB) Any 4096 (Some (cmp_ril op)) (compared_with Relative (comparison op)) refl (agrees op)
   where
     agrees : (op : CmpOp) → Agrees (λ n. RilB) Any 4096 (Some (cmp_ril op)) (compared_with Relative (comparison op))

@@ -7,11 +7,11 @@ use Rattle.s390x_inst.specs.declared.ops.RxSBGOp.{RxSBGOp}
 use Rattle.s390x_inst.specs.declared.ops.RxSBGOp.TheVariants as R
 use Rattle.s390x_format.specs.Rows.{is_allowed}
 use Rattle.s390x_format.specs.declared.row.Allowed.TheVariants.{RotateBitsOrTest}
-use Rattle.s390x_steps.specs.Alone.{rotated_row}
-use Rattle.s390x_steps.specs.General.{low_byte, rotation}
-use Rattle.s390x_steps.specs.MachineInstruction.{MachineInstruction, rie_f, rsy}
-use Rattle.s390x_steps.specs.Opcodes.{shift_storage, rotate_then, rotate_then_test}
-use Rattle.s390x_steps.specs.Steps.{Step}
+use Rattle.s390x_typed_steps.specs.SingleInstruction.{rotated_row}
+use Rattle.s390x_typed_steps.specs.General.{low_byte, rotation}
+use Rattle.s390x_typed_steps.specs.MachineInstruction.{MachineInstruction, rie_f, rsy}
+use Rattle.s390x_typed_steps.specs.Opcodes.{shift_opcode, rotate_then, rotate_then_test}
+use Rattle.s390x_typed_steps.specs.Steps.{Step}
 use Rattle.s390x_operations.specs.Bits.{selection}
 use Rattle.s390x_operations.specs.State.{Registers}
 use Rattle.s390x_operations.specs.declared.effect.CodeRule.TheVariants.{Set}
@@ -19,14 +19,14 @@ use Rattle.s390x_operations.specs.declared.effect.Effect.TheVariants as Effect
 use Rattle.s390x_operations.specs.declared.effect.Operation.{Operation}
 use Rattle.s390x_operations.specs.declared.operator.Operator.TheVariants.{Shift, SelectedBits}
 use Rattle.s390x_operations.specs.declared.size.Size.TheVariants.{Doubleword}
-use Rattle.s390x_machine.specs.declared.meaning.Action.TheVariants.{Perform}
-use Rattle.s390x_machine.specs.declared.meaning.Meaning.TheVariants.{RotateThen}
+use Rattle.s390x_machine.specs.declared.semantics.Action.TheVariants.{Perform}
+use Rattle.s390x_machine.specs.declared.semantics.RowSemantics.TheVariants.{RotateThen}
 use Rattle.s390x_machine.specs.Computations.{with_rule, operand_of, shift_operator, shift_size, shift_rule, shift_computation, shifts, rotate_operator, rotate_rule, rotates_into, rotates_to_test}
-use Rattle.s390x_machine.specs.Forms.{no_code}
+use Rattle.s390x_machine.specs.StepKinds.{no_code}
 use Rattle.s390x_machine.specs.Layout.{Layout}
 use Rattle.s390x_machine.specs.OneStep.{StepRuns}
 use Rattle.s390x_machine.specs.Operands.{value_in, based, rotated_operand}
-use Rattle.s390x_machine.proofs.Bits.{shift_meaning, shift_rows, rotate_allows, rotate_rows, below, not_below, rotation_allowed, test_allowed}
+use Rattle.s390x_machine.proofs.Bits.{shift_semantics, shift_rows, rotate_allows, rotate_rows, below, not_below, rotation_allowed, test_allowed}
 use Rattle.s390x_machine.proofs.Built.{StepAt, IsRow, IsAlone, meant_runs}
 use Rattle.s390x_machine.proofs.Listing.{few_digits}
 use Rattle.s390x_machine.proofs.RegisterNumbers.{rotation_small}
@@ -41,14 +41,14 @@ abbrev compared_only : RxSBGOp → (d n start end amount : ℕ) → Registers �
 compared_only op d n start end amount r = with_rule Set (Effect.Test (SelectedBits (rotate_operator op) (selection (start - 128) end)) Doubleword (r.general d) (rotated_operand r n amount))
 
 module _ {L : Layout} {k : ℕ} {s : Step} (b : StepAt L k s) where
-  pub shift_runs : (op : ShiftOp) (d n base amount : ℕ) → IsRow L s (rsy (shift_storage op) d n base (low_byte amount)) (shifts op d n base (low_byte amount)) → (d < 16) × (n < 16) × (base < 16) → StepRuns L k
+  pub shift_runs : (op : ShiftOp) (d n base amount : ℕ) → IsRow L s (rsy (shift_opcode op) d n base (low_byte amount)) (shifts op d n base (low_byte amount)) → (d < 16) × (n < 16) × (base < 16) → StepRuns L k
   shift_runs op d n base amount is l =
       let byte : low_byte amount < 2 ^ 19 = omega arith in
-      meant_runs b (rsy (shift_storage op) d n base (low_byte amount)) (shift_meaning op) (shifts op d n base (low_byte amount)) (λ r. never_by_values (shifts op d n base (low_byte amount) r) no_code refl (λ kind h. h)) is (shift_rows op) (fits_rsy (shift_storage op) d n base (low_byte amount) (few_digits (shift_rows op).0) l.0 l.1 l.2 (omega arith)) refl (λ r p.
+      meant_runs b (rsy (shift_opcode op) d n base (low_byte amount)) (shift_semantics op) (shifts op d n base (low_byte amount)) (λ r. never_by_values (shifts op d n base (low_byte amount) r) no_code refl (λ kind h. h)) is (shift_rows op) (fits_rsy (shift_opcode op) d n base (low_byte amount) (few_digits (shift_rows op).0) l.0 l.1 l.2 (omega arith)) refl (λ r p.
       ap (λ t. Perform (with_rule (shift_rule op) (Effect.Compute (Shift (shift_operator op)) (shift_size op) d (value_in (shift_size op) r n) (operand_of (shift_computation op).second (based r base (cond t (pos (low_byte amount)) (pos (low_byte amount) -ℤ pos (2 ^ 20)))))))) (below (low_byte amount) (2 ^ 19) byte))
 
-  pub rotate_runs : (op : RxSBGOp) (fine : Bool) (d n start end : ℕ) (amount : ℤ) → IsAlone L s fine (rotated_row (Some (rotate_then op)) d n start end start (rotation amount)) (rotates_into op d n start end (rotation amount)) → (IsTrue fine → (d < 16) × (n < 16)) → StepRuns L k
-  rotate_runs op fine d n start end amount is small = go (nat_lt start 64 && nat_lt end 64) refl is
+  pub rotate_runs : (op : RxSBGOp) (operands_valid : Bool) (d n start end : ℕ) (amount : ℤ) → IsAlone L s operands_valid (rotated_row (Some (rotate_then op)) d n start end start (rotation amount)) (rotates_into op d n start end (rotation amount)) → (IsTrue operands_valid → (d < 16) × (n < 16)) → StepRuns L k
+  rotate_runs op operands_valid d n start end amount is small = go (nat_lt start 64 && nat_lt end 64) refl is
     where
       am : ℕ
       am = rotation amount
@@ -56,7 +56,7 @@ module _ {L : Layout} {k : ℕ} {s : Step} (b : StepAt L k s) where
       x : MachineInstruction
       x = rie_f (rotate_then op) d n start end am
 
-      go : (t : Bool) → (nat_lt start 64 && nat_lt end 64) ≡ t → IsAlone L s fine (cond t (Some x) None) (rotates_into op d n start end am) → StepRuns L k
+      go : (t : Bool) → (nat_lt start 64 && nat_lt end 64) ≡ t → IsAlone L s operands_valid (cond t (Some x) None) (rotates_into op d n start end am) → StepRuns L k
       go false e is2 = absurd is2.2
       go true e is2 =
           let l = small is2.2 in
@@ -68,8 +68,8 @@ module _ {L : Layout} {k : ℕ} {s : Step} (b : StepAt L k s) where
           ap (λ t. cond t (Perform (rotated op d n start end am r)) (Perform (compared_only op d n start end am r))) (below start 64 ls))
 
   -- the same for the code alone
-  tested : (op : RxSBGOp) → rotate_allows op ≡ RotateBitsOrTest → (fine : Bool) (d n start end : ℕ) (amount : ℤ) → IsAlone L s fine (rotated_row (Some (rotate_then op)) d n start end (start + 128) (rotation amount)) (rotates_to_test op d n start end (rotation amount)) → (IsTrue fine → (d < 16) × (n < 16)) → StepRuns L k
-  tested op tests_alone fine d n start end amount is small = go (nat_lt start 64 && nat_lt end 64) refl is
+  tested : (op : RxSBGOp) → rotate_allows op ≡ RotateBitsOrTest → (operands_valid : Bool) (d n start end : ℕ) (amount : ℤ) → IsAlone L s operands_valid (rotated_row (Some (rotate_then op)) d n start end (start + 128) (rotation amount)) (rotates_to_test op d n start end (rotation amount)) → (IsTrue operands_valid → (d < 16) × (n < 16)) → StepRuns L k
+  tested op tests_alone operands_valid d n start end amount is small = go (nat_lt start 64 && nat_lt end 64) refl is
     where
       am : ℕ
       am = rotation amount
@@ -77,7 +77,7 @@ module _ {L : Layout} {k : ℕ} {s : Step} (b : StepAt L k s) where
       x : MachineInstruction
       x = rie_f (rotate_then op) d n (start + 128) end am
 
-      go : (t : Bool) → (nat_lt start 64 && nat_lt end 64) ≡ t → IsAlone L s fine (cond t (Some x) None) (rotates_to_test op d n start end am) → StepRuns L k
+      go : (t : Bool) → (nat_lt start 64 && nat_lt end 64) ≡ t → IsAlone L s operands_valid (cond t (Some x) None) (rotates_to_test op d n start end am) → StepRuns L k
       go false e is2 = absurd is2.2
       go true e is2 =
           let l = small is2.2 in
@@ -90,8 +90,8 @@ module _ {L : Layout} {k : ℕ} {s : Step} (b : StepAt L k s) where
           meant_runs b x (RotateThen (rotate_operator op) (rotate_rule op)) (rotates_to_test op d n start end am) (λ r. never_by_values (rotates_to_test op d n start end am r) no_code refl (λ kind h. h)) (is2.0, is2.1) (rotate_rows op) fit allowed (λ r p.
           ap (λ t. cond t (Perform (rotated op d n (start + 128) end am r)) (Perform (compared_only op d n (start + 128) end am r))) (not_below (start + 128) 64 (omega arith)) ∙ ap (λ i. Perform (rotates_to_test op d n i end am r)) back)
 
-  pub test_runs : (op : RxSBGOp) (fine : Bool) (d n start end : ℕ) (amount : ℤ) → IsAlone L s fine (rotated_row (rotate_then_test op) d n start end (start + 128) (rotation amount)) (rotates_to_test op d n start end (rotation amount)) → (IsTrue fine → (d < 16) × (n < 16)) → StepRuns L k
-  test_runs R.Insert fine d n start end amount is small = absurd is.2
-  test_runs R.And fine d n start end amount is small = tested R.And refl fine d n start end amount is small
-  test_runs R.Or fine d n start end amount is small = tested R.Or refl fine d n start end amount is small
-  test_runs R.Xor fine d n start end amount is small = tested R.Xor refl fine d n start end amount is small
+  pub test_runs : (op : RxSBGOp) (operands_valid : Bool) (d n start end : ℕ) (amount : ℤ) → IsAlone L s operands_valid (rotated_row (rotate_then_test op) d n start end (start + 128) (rotation amount)) (rotates_to_test op d n start end (rotation amount)) → (IsTrue operands_valid → (d < 16) × (n < 16)) → StepRuns L k
+  test_runs R.Insert operands_valid d n start end amount is small = absurd is.2
+  test_runs R.And operands_valid d n start end amount is small = tested R.And refl operands_valid d n start end amount is small
+  test_runs R.Or operands_valid d n start end amount is small = tested R.Or refl operands_valid d n start end amount is small
+  test_runs R.Xor operands_valid d n start end amount is small = tested R.Xor refl operands_valid d n start end amount is small

@@ -15,7 +15,7 @@ use Rattle.s390x_operations.specs.declared.effect.Effect.TheVariants.{CompareAnd
 use Rattle.s390x_operations.specs.declared.effect.CodeRule.{CodeRule}
 use Rattle.s390x_operations.specs.declared.effect.Operation.{Operation}
 use Rattle.s390x_machine.specs.Computations.{with_rule}
-use Rattle.s390x_machine.specs.Forms.{division_code, comparison_code}
+use Rattle.s390x_machine.specs.StepKinds.{division_code, comparison_code}
 use Rattle.s390x_machine.proofs.Simulation.{ValuesCoded}
 
 -- an operation whose values bring about no stop

@@ -13,14 +13,14 @@ use Rattle.s390x_format.specs.declared.kind.FormatKind.{FormatKind}
 use Rattle.s390x_format.specs.declared.kind.FormatKind.TheVariants.{Rx, Rxy, Rs, Rsy, Si, Siy, Sil}
 use Rattle.s390x_format.specs.Formats.{length_of}
 use Rattle.s390x_format.specs.View.{fields_of, disp_of}
-use Rattle.s390x_steps.specs.General.{low_12, low_displacement}
-use Rattle.s390x_steps.specs.MachineInstruction.{MachineInstruction, rx, rxy, rs, rsy, si, siy, sil}
-use Rattle.s390x_steps.specs.Memory.{StorageForm, RxForm, RsForm, SiForm, SilForm, type_of}
-use Rattle.s390x_steps.specs.Parts.{Part, Row, Trapping, TrapHere, part_size, parts_size, access_parts, operand_parts, step_parts}
-use Rattle.s390x_steps.specs.Rows.{part_bytes}
-use Rattle.s390x_steps.specs.Steps.{Step}
-use Rattle.s390x_steps.specs.Traps.{part_traps, parts_traps, first_code}
-use Rattle.s390x_operations.specs.State.{Registers, Core, put, sum64}
+use Rattle.s390x_typed_steps.specs.General.{low_12, low_displacement}
+use Rattle.s390x_typed_steps.specs.MachineInstruction.{MachineInstruction, rx, rxy, rs, rsy, si, siy, sil}
+use Rattle.s390x_typed_steps.specs.Memory.{StorageForm, RxForm, RsForm, SiForm, SilForm, type_of}
+use Rattle.s390x_typed_steps.specs.Parts.{CodePart, Row, Trapping, TrapHere, part_size, parts_size, access_parts, operand_parts, step_parts}
+use Rattle.s390x_typed_steps.specs.Rows.{part_bytes}
+use Rattle.s390x_typed_steps.specs.Steps.{Step}
+use Rattle.s390x_typed_steps.specs.Traps.{part_traps, parts_traps, first_code}
+use Rattle.s390x_operations.specs.State.{Registers, Core, set_general, wrapping_add64}
 use Rattle.s390x_operations.specs.Bits.{extended}
 use Rattle.s390x_operations.specs.declared.effect.CodeRule.TheVariants.{Kept}
 use Rattle.s390x_operations.specs.declared.effect.Operation.{Operation}
@@ -28,18 +28,18 @@ use Rattle.s390x_operations.specs.declared.operator.Operator.TheVariants.{Move}
 use Rattle.s390x_operations.specs.declared.size.Size.TheVariants.{Doubleword}
 use Rattle.s390x_operations.specs.declared.stop.StopKind.{StopKind}
 use Rattle.s390x_operations.specs.declared.stop.StopKind.TheVariants as Stop
-use Rattle.s390x_machine.specs.declared.meaning.Meaning.{Meaning}
-use Rattle.s390x_machine.specs.declared.meaning.Action.TheVariants.{Perform}
+use Rattle.s390x_machine.specs.declared.semantics.RowSemantics.{RowSemantics}
+use Rattle.s390x_machine.specs.declared.semantics.Action.TheVariants.{Perform}
 use Rattle.s390x_machine.specs.Computations.{Second, with_second, computes_immediate}
-use Rattle.s390x_machine.specs.Forms.{access_code}
+use Rattle.s390x_machine.specs.StepKinds.{access_code}
 use Rattle.s390x_machine.specs.Layout.{Layout}
-use Rattle.s390x_machine.specs.Machine.{Turn}
-use Rattle.s390x_machine.specs.Meanings.{action}
+use Rattle.s390x_machine.specs.Machine.{Transition}
+use Rattle.s390x_machine.specs.Semantics.{action}
 use Rattle.s390x_machine.specs.Operands.{indexed, based}
-use Rattle.s390x_machine.specs.Placed.{Placed, AllPlaced, PartReaches, PartsReach}
+use Rattle.s390x_machine.specs.CodeAt.{CodeAt, AllCodeAt, PartReaches, PartsReach}
 use Rattle.s390x_machine.proofs.Addresses.{sum_more}
 use Rattle.s390x_machine.proofs.Listing.{OpcodeRow, OpcodeRows, few_digits}
-use Rattle.s390x_machine.proofs.Alone.{meant_at}
+use Rattle.s390x_machine.proofs.SingleInstruction.{meant_at}
 use Rattle.s390x_machine.proofs.Composites.{ChangesTo, row_then, compute_changes}
 use Rattle.s390x_machine.proofs.Fetching.{StandsAt}
 use Rattle.s390x_machine.proofs.Operands.{read_12, read_20, bits_12, based_indexed}
@@ -51,41 +51,41 @@ use Rattle.s390x_machine.proofs.Trapping.{code_within, within_image}
 -- ---- rows with an operand in memory
 
 -- the action of a row with a base, an index and a displacement
-abbrev pub IndexedActs : (register : ℕ) → Meaning → (ℕ → Registers → Operation) → Type 0
-IndexedActs register meaning operation = (kind : FormatKind) (opcode base index d : ℕ) (r : Registers) (p : ℕ) →
-    action meaning (fields_of kind (opcode ∷ register ∷ base ∷ index ∷ 0 ∷ 0 ∷ 0 ∷ 0 ∷ 0 ∷ d ∷ [])) r p ≡ Perform (operation (indexed r base index (disp_of d)) r)
+abbrev pub IndexedStep : (register : ℕ) → RowSemantics → (ℕ → Registers → Operation) → Type 0
+IndexedStep register semantics operation = (kind : FormatKind) (opcode base index d : ℕ) (r : Registers) (p : ℕ) →
+    action semantics (fields_of kind (opcode ∷ register ∷ base ∷ index ∷ 0 ∷ 0 ∷ 0 ∷ 0 ∷ 0 ∷ d ∷ [])) r p ≡ Perform (operation (indexed r base index (disp_of d)) r)
 
 -- the rows of an instruction with a register, and what they do with the memory at an address
 pub record IndexedForm (register : ℕ) (short long : Option ℕ) (operation : ℕ → Registers → Operation) : Type 0 where
   pub few : register < 16
-  pub meaning : Meaning
-  pub short_rows : OpcodeRows Rx 256 short meaning
-  pub long_rows : OpcodeRows Rxy 65536 long meaning
-  pub acts : IndexedActs register meaning operation
+  pub semantics : RowSemantics
+  pub short_rows : OpcodeRows Rx 256 short semantics
+  pub long_rows : OpcodeRows Rxy 65536 long semantics
+  pub acts : IndexedStep register semantics operation
 
 -- with two registers and no index
 pub record BasedForm (first second : ℕ) (short long : Option ℕ) (operation : ℕ → Registers → Operation) : Type 0 where
   pub few : first < 16
   pub few_second : second < 16
-  pub meaning : Meaning
-  pub short_rows : OpcodeRows Rs 256 short meaning
-  pub long_rows : OpcodeRows Rsy 65536 long meaning
-  pub acts : (kind : FormatKind) (opcode base d : ℕ) (r : Registers) (p : ℕ) → action meaning (fields_of kind (opcode ∷ first ∷ second ∷ base ∷ 0 ∷ 0 ∷ 0 ∷ 0 ∷ 0 ∷ d ∷ [])) r p ≡ Perform (operation (based r base (disp_of d)) r)
+  pub semantics : RowSemantics
+  pub short_rows : OpcodeRows Rs 256 short semantics
+  pub long_rows : OpcodeRows Rsy 65536 long semantics
+  pub acts : (kind : FormatKind) (opcode base d : ℕ) (r : Registers) (p : ℕ) → action semantics (fields_of kind (opcode ∷ first ∷ second ∷ base ∷ 0 ∷ 0 ∷ 0 ∷ 0 ∷ 0 ∷ d ∷ [])) r p ≡ Perform (operation (based r base (disp_of d)) r)
 
 -- with an immediate of 8 bits
 pub record ByteForm (imm short long : ℕ) (operation : ℕ → Registers → Operation) : Type 0 where
   pub few : imm < 256
-  pub meaning : Meaning
-  pub short_row : OpcodeRow Si 256 short meaning
-  pub long_row : OpcodeRow Siy 65536 long meaning
-  pub acts : (kind : FormatKind) (opcode base d : ℕ) (r : Registers) (p : ℕ) → action meaning (fields_of kind (opcode ∷ base ∷ 0 ∷ 0 ∷ 0 ∷ imm ∷ 0 ∷ 0 ∷ 0 ∷ d ∷ [])) r p ≡ Perform (operation (based r base (disp_of d)) r)
+  pub semantics : RowSemantics
+  pub short_row : OpcodeRow Si 256 short semantics
+  pub long_row : OpcodeRow Siy 65536 long semantics
+  pub acts : (kind : FormatKind) (opcode base d : ℕ) (r : Registers) (p : ℕ) → action semantics (fields_of kind (opcode ∷ base ∷ 0 ∷ 0 ∷ 0 ∷ imm ∷ 0 ∷ 0 ∷ 0 ∷ d ∷ [])) r p ≡ Perform (operation (based r base (disp_of d)) r)
 
 -- with the bits of an immediate of 16 bits
 pub record HalfwordForm (bits opcode : ℕ) (operation : ℕ → Registers → Operation) : Type 0 where
   pub few : bits < 2 ^ 16
-  pub meaning : Meaning
-  pub row : OpcodeRow Sil 65536 opcode meaning
-  pub acts : (base d : ℕ) (r : Registers) (p : ℕ) → action meaning (fields_of Sil (opcode ∷ base ∷ 0 ∷ 0 ∷ 0 ∷ 0 ∷ 0 ∷ 0 ∷ bits ∷ d ∷ [])) r p ≡ Perform (operation (based r base (disp_of d)) r)
+  pub semantics : RowSemantics
+  pub row : OpcodeRow Sil 65536 opcode semantics
+  pub acts : (base d : ℕ) (r : Registers) (p : ℕ) → action semantics (fields_of Sil (opcode ∷ base ∷ 0 ∷ 0 ∷ 0 ∷ 0 ∷ 0 ∷ 0 ∷ bits ∷ d ∷ [])) r p ≡ Perform (operation (based r base (disp_of d)) r)
 
 abbrev pub FormDoes : StorageForm → (ℕ → Registers → Operation) → Type 0
 FormDoes (RxForm register short long relative) operation = IndexedForm register short long operation
@@ -96,7 +96,7 @@ FormDoes (SilForm bits opcode) operation = HalfwordForm bits opcode operation
 -- ---- the parts of an access
 
 -- the row, with the code of its faults at its first byte where they have one
-abbrev pub access_of : Option TrapKind → Part → List Part
+abbrev pub access_of : Option TrapKind → CodePart → List CodePart
 access_of None part = part ∷ []
 access_of (Some code) (Row m) = Trapping m 0 code ∷ []
 access_of (Some code) part = TrapHere code ∷ part ∷ []
@@ -107,11 +107,11 @@ access_row m (Some code) = refl
 
 -- an operand that stands in a row as it is, and the address there
 pub record Stands (L : Layout) (form : StorageForm) (operand : MemArg) (operation : ℕ → Registers → Operation) (address : Registers → ℕ) : Type 0 where
-  pub part : Part
+  pub part : CodePart
   pub is : (code : Option TrapKind) → operand_parts form code operand ≡ access_of code part
   pub some : 0 < part_size part
   pub untrapped : (p : ℕ) → part_traps p part ≡ []
-  pub row : (offset : ℕ) → offset % 2 ≡ 0 → StandsAt L.image offset (part_bytes L.places offset part) → PartReaches L offset part → RowAt L (sum64 L.image.base offset) (λ r. Perform (operation (address r) r)) (part_size part)
+  pub row : (offset : ℕ) → offset % 2 ≡ 0 → StandsAt L.image offset (part_bytes L.offsets offset part) → PartReaches L offset part → RowAt L (wrapping_add64 L.image.base offset) (λ r. Perform (operation (address r) r)) (part_size part)
 
 -- an index may stand there, or there is none
 abbrev pub MayIndex : StorageForm → ℕ → Type 0
@@ -120,7 +120,7 @@ MayIndex (RsForm first second short long) index = index ≡ 0
 MayIndex (SiForm imm short long) index = index ≡ 0
 MayIndex (SilForm bits opcode) index = index ≡ 0
 
-module _ (L : Layout) (all : AllPlaced L) (operation : ℕ → Registers → Operation) where
+module _ (L : Layout) (all : AllCodeAt L) (operation : ℕ → Registers → Operation) where
   -- a row of a base and a displacement does it, where there is no index
   unindexed : (r : Registers) (base index n : ℕ) (z : ℤ) → disp_of n ≡ z → index ≡ 0 → Perform (operation (based r base (disp_of n)) r) ≡ Perform (operation (indexed r base index z) r)
   unindexed r base index n z e none = ap (λ a. Perform (operation a r)) (ap (based r base) e ∙ sym (based_indexed r base z) ∙ ap (λ i. indexed r base i z) (sym none))
@@ -133,7 +133,7 @@ module _ (L : Layout) (all : AllPlaced L) (operation : ℕ → Registers → Ope
     is = λ code. access_row (rx opcode register (number_of base) (number_of index) (low_12 d)) code;
     some = omega arith;
     untrapped = λ p. refl;
-    row = λ offset even st reaches. meant_at L all offset even (rx opcode register (number_of base) (number_of index) (low_12 d)) does.meaning (λ r. operation (indexed r (number_of base) (number_of index) (pos d)) r) does.short_rows (fits_rx opcode register (number_of base) (number_of index) (low_12 d) (few_digits does.short_rows.0) does.few lb li (bits_12 d)) refl (λ r p.
+    row = λ offset even st reaches. meant_at L all offset even (rx opcode register (number_of base) (number_of index) (low_12 d)) does.semantics (λ r. operation (indexed r (number_of base) (number_of index) (pos d)) r) does.short_rows (fits_rx opcode register (number_of base) (number_of index) (low_12 d) (few_digits does.short_rows.0) does.few lb li (bits_12 d)) refl (λ r p.
         does.acts Rx opcode (number_of base) (number_of index) (low_12 d) r p ∙ ap (λ z. Perform (operation (indexed r (number_of base) (number_of index) z) r)) (read_12 d le)) st;
   }
   stands_12 (RsForm first second None long) does accesses have base index d flags lb li may le = absurd (cc)
@@ -142,7 +142,7 @@ module _ (L : Layout) (all : AllPlaced L) (operation : ℕ → Registers → Ope
     is = λ code. access_row (rs opcode first second (number_of base) (low_12 d)) code;
     some = omega arith;
     untrapped = λ p. refl;
-    row = λ offset even st reaches. meant_at L all offset even (rs opcode first second (number_of base) (low_12 d)) does.meaning (λ r. operation (indexed r (number_of base) (number_of index) (pos d)) r) does.short_rows (fits_rs opcode first second (number_of base) (low_12 d) (few_digits does.short_rows.0) does.few does.few_second lb (bits_12 d)) refl (λ r p.
+    row = λ offset even st reaches. meant_at L all offset even (rs opcode first second (number_of base) (low_12 d)) does.semantics (λ r. operation (indexed r (number_of base) (number_of index) (pos d)) r) does.short_rows (fits_rs opcode first second (number_of base) (low_12 d) (few_digits does.short_rows.0) does.few does.few_second lb (bits_12 d)) refl (λ r p.
         does.acts Rs opcode (number_of base) (low_12 d) r p ∙ unindexed r (number_of base) (number_of index) (low_12 d) (pos d) (read_12 d le) may) st;
   }
   stands_12 (SiForm imm opcode long) does accesses have base index d flags lb li may le = record {
@@ -150,7 +150,7 @@ module _ (L : Layout) (all : AllPlaced L) (operation : ℕ → Registers → Ope
     is = λ code. access_row (si opcode (number_of base) (low_12 d) imm) code;
     some = omega arith;
     untrapped = λ p. refl;
-    row = λ offset even st reaches. meant_at L all offset even (si opcode (number_of base) (low_12 d) imm) does.meaning (λ r. operation (indexed r (number_of base) (number_of index) (pos d)) r) does.short_row (fits_si opcode (number_of base) (low_12 d) imm (few_digits does.short_row.0) lb (bits_12 d) does.few) refl (λ r p.
+    row = λ offset even st reaches. meant_at L all offset even (si opcode (number_of base) (low_12 d) imm) does.semantics (λ r. operation (indexed r (number_of base) (number_of index) (pos d)) r) does.short_row (fits_si opcode (number_of base) (low_12 d) imm (few_digits does.short_row.0) lb (bits_12 d) does.few) refl (λ r p.
         does.acts Si opcode (number_of base) (low_12 d) r p ∙ unindexed r (number_of base) (number_of index) (low_12 d) (pos d) (read_12 d le) may) st;
   }
   stands_12 (SilForm bits opcode) does accesses have base index d flags lb li may le = record {
@@ -158,7 +158,7 @@ module _ (L : Layout) (all : AllPlaced L) (operation : ℕ → Registers → Ope
     is = λ code. access_row (sil opcode (number_of base) (low_12 d) bits) code;
     some = omega arith;
     untrapped = λ p. refl;
-    row = λ offset even st reaches. meant_at L all offset even (sil opcode (number_of base) (low_12 d) bits) does.meaning (λ r. operation (indexed r (number_of base) (number_of index) (pos d)) r) does.row (fits_sil opcode (number_of base) (low_12 d) bits (few_digits does.row.0) lb (bits_12 d) does.few) refl (λ r p.
+    row = λ offset even st reaches. meant_at L all offset even (sil opcode (number_of base) (low_12 d) bits) does.semantics (λ r. operation (indexed r (number_of base) (number_of index) (pos d)) r) does.row (fits_sil opcode (number_of base) (low_12 d) bits (few_digits does.row.0) lb (bits_12 d) does.few) refl (λ r p.
         does.acts (number_of base) (low_12 d) r p ∙ unindexed r (number_of base) (number_of index) (low_12 d) (pos d) (read_12 d le) may) st;
   }
 
@@ -171,7 +171,7 @@ module _ (L : Layout) (all : AllPlaced L) (operation : ℕ → Registers → Ope
     is = λ code. access_row (rxy opcode register (number_of base) (number_of index) (low_displacement z)) code;
     some = omega arith;
     untrapped = λ p. refl;
-    row = λ offset even st reaches. meant_at L all offset even (rxy opcode register (number_of base) (number_of index) (low_displacement z)) does.meaning (λ r. operation (indexed r (number_of base) (number_of index) z) r) does.long_rows (fits_rxy opcode register (number_of base) (number_of index) (low_displacement z) (few_digits does.long_rows.0) does.few lb li lz) refl (λ r p.
+    row = λ offset even st reaches. meant_at L all offset even (rxy opcode register (number_of base) (number_of index) (low_displacement z)) does.semantics (λ r. operation (indexed r (number_of base) (number_of index) z) r) does.long_rows (fits_rxy opcode register (number_of base) (number_of index) (low_displacement z) (few_digits does.long_rows.0) does.few lb li lz) refl (λ r p.
         does.acts Rxy opcode (number_of base) (number_of index) (low_displacement z) r p ∙ ap (λ y. Perform (operation (indexed r (number_of base) (number_of index) y) r)) (read_20 z least most)) st;
   }
   stands_20 (RsForm first second short None) does accesses have base index z flags lb li may least most lz = absurd (cc)
@@ -180,7 +180,7 @@ module _ (L : Layout) (all : AllPlaced L) (operation : ℕ → Registers → Ope
     is = λ code. access_row (rsy opcode first second (number_of base) (low_displacement z)) code;
     some = omega arith;
     untrapped = λ p. refl;
-    row = λ offset even st reaches. meant_at L all offset even (rsy opcode first second (number_of base) (low_displacement z)) does.meaning (λ r. operation (indexed r (number_of base) (number_of index) z) r) does.long_rows (fits_rsy opcode first second (number_of base) (low_displacement z) (few_digits does.long_rows.0) does.few does.few_second lb lz) refl (λ r p.
+    row = λ offset even st reaches. meant_at L all offset even (rsy opcode first second (number_of base) (low_displacement z)) does.semantics (λ r. operation (indexed r (number_of base) (number_of index) z) r) does.long_rows (fits_rsy opcode first second (number_of base) (low_displacement z) (few_digits does.long_rows.0) does.few does.few_second lb lz) refl (λ r p.
         does.acts Rsy opcode (number_of base) (low_displacement z) r p ∙ unindexed r (number_of base) (number_of index) (low_displacement z) z (read_20 z least most) may) st;
   }
   stands_20 (SiForm imm short opcode) does accesses have base index z flags lb li may least most lz = record {
@@ -188,7 +188,7 @@ module _ (L : Layout) (all : AllPlaced L) (operation : ℕ → Registers → Ope
     is = λ code. access_row (siy opcode (number_of base) (low_displacement z) imm) code;
     some = omega arith;
     untrapped = λ p. refl;
-    row = λ offset even st reaches. meant_at L all offset even (siy opcode (number_of base) (low_displacement z) imm) does.meaning (λ r. operation (indexed r (number_of base) (number_of index) z) r) does.long_row (fits_siy opcode (number_of base) (low_displacement z) imm (few_digits does.long_row.0) lb lz does.few) refl (λ r p.
+    row = λ offset even st reaches. meant_at L all offset even (siy opcode (number_of base) (low_displacement z) imm) does.semantics (λ r. operation (indexed r (number_of base) (number_of index) z) r) does.long_row (fits_siy opcode (number_of base) (low_displacement z) imm (few_digits does.long_row.0) lb lz does.few) refl (λ r p.
         does.acts Siy opcode (number_of base) (low_displacement z) r p ∙ unindexed r (number_of base) (number_of index) (low_displacement z) z (read_20 z least most) may) st;
   }
   stands_20 (SilForm bits opcode) does accesses have base index z flags lb li may least most lz = absurd (cc)
@@ -196,42 +196,42 @@ module _ (L : Layout) (all : AllPlaced L) (operation : ℕ → Registers → Ope
 -- ---- the bytes of a step: rows, and then an access
 
 -- parts without traps
-abbrev pub Untrapped : List Part → Type 0
+abbrev pub Untrapped : List CodePart → Type 0
 Untrapped [] = Unit {0}
 Untrapped (h ∷ hs) = ((p : ℕ) → part_traps p h ≡ []) × Untrapped hs
 
 -- the step's last row, at an offset; the table has the code of its faults
-pub record LastRow (L : Layout) (k : ℕ) (part : Part) (code : Option TrapKind) (o : ℕ) : Type 0 where
+pub record LastRow (L : Layout) (k : ℕ) (part : CodePart) (code : Option TrapKind) (o : ℕ) : Type 0 where
   pub even : o % 2 ≡ 0
-  pub above : L.places.step k ≤ o
-  pub stands : StandsAt L.image o (part_bytes L.places o part)
+  pub above : L.offsets.step k ≤ o
+  pub stands : StandsAt L.image o (part_bytes L.offsets o part)
   pub reaches : PartReaches L o part
-  pub next : L.places.step (suc k) ≡ o + part_size part
-  pub coded : Coded L (sum64 L.image.base o) (access_code code)
+  pub next : L.offsets.step (suc k) ≡ o + part_size part
+  pub with_code : Coded L (wrapping_add64 L.image.base o) (access_code code)
 
 -- rows before it
-abbrev pub RowsBefore : Layout → ℕ → List Part → Part → Option TrapKind → ℕ → Type 0
+abbrev pub RowsBefore : Layout → ℕ → List CodePart → CodePart → Option TrapKind → ℕ → Type 0
 RowsBefore L k [] part code o = LastRow L k part code o
-RowsBefore L k (h ∷ hs) part code o = (StandsAt L.image o (part_bytes L.places o h) × PartReaches L o h) × RowsBefore L k hs part code (o + part_size h)
+RowsBefore L k (h ∷ hs) part code o = (StandsAt L.image o (part_bytes L.offsets o h) × PartReaches L o h) × RowsBefore L k hs part code (o + part_size h)
 
 -- a row whose faults have a code
-record CodedAccess (L : Layout) (part : Part) (code : TrapKind) (o : ℕ) (parts : List Part) : Type 0 where
-  stands : StandsAt L.image o (part_bytes L.places o part)
+record CodedAccess (L : Layout) (part : CodePart) (code : TrapKind) (o : ℕ) (parts : List CodePart) : Type 0 where
+  stands : StandsAt L.image o (part_bytes L.offsets o part)
   reaches : PartReaches L o part
   size : parts_size parts ≡ part_size part
   first : first_code (parts_traps o parts) o ≡ Some code
 
-trapped_here : (L : Layout) (part : Part) (code : TrapKind) (o : ℕ) → PartsStand L o (TrapHere code ∷ part ∷ []) → PartsReach L o (TrapHere code ∷ part ∷ []) → CodedAccess L part code o (TrapHere code ∷ part ∷ [])
+trapped_here : (L : Layout) (part : CodePart) (code : TrapKind) (o : ℕ) → PartsStand L o (TrapHere code ∷ part ∷ []) → PartsReach L o (TrapHere code ∷ part ∷ []) → CodedAccess L part code o (TrapHere code ∷ part ∷ [])
 trapped_here L part code o stands reaches =
     let z : o + 0 ≡ o = omega arith in
     record {
-      stands = subst (λ n. StandsAt L.image n (part_bytes L.places n part)) z stands.1.0;
+      stands = subst (λ n. StandsAt L.image n (part_bytes L.offsets n part)) z stands.1.0;
       reaches = subst (λ n. PartReaches L n part) z reaches.1.0;
       size = omega arith;
       first = ap (λ t. cond t (Some code) (first_code (part_traps (o + 0) part ++ []) o)) (eq-eqb o o refl);
     }
 
-coded_access : (L : Layout) (part : Part) (code : TrapKind) (o : ℕ) → PartsStand L o (access_of (Some code) part) → PartsReach L o (access_of (Some code) part) → CodedAccess L part code o (access_of (Some code) part)
+coded_access : (L : Layout) (part : CodePart) (code : TrapKind) (o : ℕ) → PartsStand L o (access_of (Some code) part) → PartsReach L o (access_of (Some code) part) → CodedAccess L part code o (access_of (Some code) part)
 coded_access L (Row m) code o stands reaches = record { stands = stands.0; reaches = tt; size = omega arith; first = ap (λ t. cond t (Some code) None) (eq-eqb (o + 0) o (omega arith)) }
 coded_access L part code o stands reaches = trapped_here L part code o stands reaches
 
@@ -242,25 +242,25 @@ uncoded_access Stop.Specification n e = absurd (cc)
 uncoded_access Stop.Divide n e = absurd (cc)
 uncoded_access Stop.CompareTrap n e = absurd (cc)
 
-module _ (L : Layout) (all : AllPlaced L) (k : ℕ) where
+module _ (L : Layout) (all : AllCodeAt L) (k : ℕ) where
   -- the code of a fault stands at the access's first byte
-  access_coded : (o : ℕ) (bytes : List ℕ) → StandsAt L.image o bytes → 0 < length bytes → (x : TrapKind) → first_code L.traps o ≡ Some x → Coded L (sum64 L.image.base o) (access_code (Some x))
+  access_coded : (o : ℕ) (bytes : List ℕ) → StandsAt L.image o bytes → 0 < length bytes → (x : TrapKind) → first_code L.traps o ≡ Some x → Coded L (wrapping_add64 L.image.base o) (access_code (Some x))
   access_coded o bytes s some x found = go
     where
       inside : o < length L.image.bytes
       inside = omega (arith, within_image L o bytes s, some)
 
-      go : Coded L (sum64 L.image.base o) (access_code (Some x))
+      go : Coded L (wrapping_add64 L.image.base o) (access_code (Some x))
       go Stop.Access n e = code_within L all.fits o inside Stop.Access ∙ found ∙ e
       go Stop.Specification n e = code_within L all.fits o inside Stop.Specification ∙ found ∙ e
       go Stop.Operation n e = absurd (cc)
       go Stop.Divide n e = absurd (cc)
       go Stop.CompareTrap n e = absurd (cc)
 
-  last_row : (part : Part) (code : Option TrapKind) (o : ℕ) → o % 2 ≡ 0 → L.places.step k ≤ o → 0 < part_size part → PartsStand L o (access_of code part) → PartsReach L o (access_of code part) → L.places.step (suc k) ≡ o + parts_size (access_of code part) →
-      ((q : ℕ) → L.places.step k ≤ q → q < L.places.step (suc k) → o ≤ q → first_code L.traps q ≡ first_code (parts_traps o (access_of code part)) q) → LastRow L k part code o
+  last_row : (part : CodePart) (code : Option TrapKind) (o : ℕ) → o % 2 ≡ 0 → L.offsets.step k ≤ o → 0 < part_size part → PartsStand L o (access_of code part) → PartsReach L o (access_of code part) → L.offsets.step (suc k) ≡ o + parts_size (access_of code part) →
+      ((q : ℕ) → L.offsets.step k ≤ q → q < L.offsets.step (suc k) → o ≤ q → first_code L.traps q ≡ first_code (parts_traps o (access_of code part)) q) → LastRow L k part code o
   last_row part None o even above some stands reaches next traps =
-      record { even = even; above = above; stands = stands.0; reaches = reaches.0; next = omega (arith, next); coded = λ kind n e. absurd (uncoded_access kind n e) }
+      record { even = even; above = above; stands = stands.0; reaches = reaches.0; next = omega (arith, next); with_code = λ kind n e. absurd (uncoded_access kind n e) }
   last_row part (Some x) o even above some stands reaches next traps =
       let a = coded_access L part x o stands reaches in
       record {
@@ -269,18 +269,18 @@ module _ (L : Layout) (all : AllPlaced L) (k : ℕ) where
         stands = a.stands;
         reaches = a.reaches;
         next = next ∙ ap (λ n. o + n) a.size;
-        coded = access_coded o (part_bytes L.places o part) a.stands (omega (arith, part_length L.places o part, some)) x (traps o above (omega (arith, next, a.size, some)) (omega arith) ∙ a.first);
+        with_code = access_coded o (part_bytes L.offsets o part) a.stands (omega (arith, part_length L.offsets o part, some)) x (traps o above (omega (arith, next, a.size, some)) (omega arith) ∙ a.first);
       }
 
-  rows_before : (hs : List Part) → Untrapped hs → (part : Part) (code : Option TrapKind) (o : ℕ) → o % 2 ≡ 0 → L.places.step k ≤ o → 0 < part_size part → PartsStand L o (hs ++ access_of code part) → PartsReach L o (hs ++ access_of code part) →
-      L.places.step (suc k) ≡ o + parts_size (hs ++ access_of code part) → ((q : ℕ) → L.places.step k ≤ q → q < L.places.step (suc k) → o ≤ q → first_code L.traps q ≡ first_code (parts_traps o (hs ++ access_of code part)) q) → RowsBefore L k hs part code o
+  rows_before : (hs : List CodePart) → Untrapped hs → (part : CodePart) (code : Option TrapKind) (o : ℕ) → o % 2 ≡ 0 → L.offsets.step k ≤ o → 0 < part_size part → PartsStand L o (hs ++ access_of code part) → PartsReach L o (hs ++ access_of code part) →
+      L.offsets.step (suc k) ≡ o + parts_size (hs ++ access_of code part) → ((q : ℕ) → L.offsets.step k ≤ q → q < L.offsets.step (suc k) → o ≤ q → first_code L.traps q ≡ first_code (parts_traps o (hs ++ access_of code part)) q) → RowsBefore L k hs part code o
   rows_before [] none part code o even above some stands reaches next traps = last_row part code o even above some stands reaches next traps
   rows_before (h ∷ hs) none part code o even above some stands reaches next traps =
       ((stands.0, reaches.0), rows_before hs none.1 part code (o + part_size h) (omega (arith, even, part_even h)) (omega (arith, above)) some stands.1 reaches.1 (omega (arith, next)) (λ q a b c. traps q a b (omega (arith, c)) ∙ ap (λ ts. first_code (ts ++ parts_traps (o + part_size h) (hs ++ access_of code part)) q) (none.0 o)))
 
-  pub step_rows_before : (s : Step) → slice_get L.steps k ≡ Some s → Placed L k s → (hs : List Part) → Untrapped hs → (part : Part) (code : Option TrapKind) → 0 < part_size part → step_parts s ≡ hs ++ access_of code part → RowsBefore L k hs part code (L.places.step k)
+  pub step_rows_before : (s : Step) → slice_get L.steps k ≡ Some s → CodeAt L k s → (hs : List CodePart) → Untrapped hs → (part : CodePart) (code : Option TrapKind) → 0 < part_size part → step_parts s ≡ hs ++ access_of code part → RowsBefore L k hs part code (L.offsets.step k)
   step_rows_before s at p hs none part code some is =
-      let o = L.places.step k in
+      let o = L.offsets.step k in
       rows_before hs none part code o (offset_even L all k (omega (arith, slice_get_within L.steps k s at))) (omega arith) some
       (subst (λ ps. PartsStand L o ps) is (step_stands L k s p))
       (subst (λ ps. PartsReach L o ps) is p.reached)
@@ -293,9 +293,9 @@ module _ (L : Layout) (all : AllPlaced L) (k : ℕ) where
   abbrev pub moved : Second → ℕ → ℕ
   moved s x = extended s.sign s.width Doubleword x
 
-  pub helper_then : (c : Core) (g : List Turn) (r : Registers) (o : ℕ) (size : ℕ) (s : Second) (bits : Registers → ℕ) → s.reversed ≡ false → Inside L k c g r (sum64 L.image.base o) → length g ≤ 2 → L.places.step k ≤ o + size → o + size < L.places.step (suc k) → RowAt L (sum64 L.image.base o) (λ q. Perform (computes_immediate Kept (with_second Move Doubleword s) 1 1 (bits q) q)) (size) →
-      ((hs : List Turn) → length hs ≡ suc (length g) → Inside L k c hs (put r 1 (moved s (bits r))) (sum64 L.image.base (o + size)) → Simulates L k c hs (put r 1 (moved s (bits r))) (sum64 L.image.base (o + size))) → Simulates L k c g r (sum64 L.image.base o)
+  pub helper_then : (c : Core) (g : List Transition) (r : Registers) (o : ℕ) (size : ℕ) (s : Second) (bits : Registers → ℕ) → s.reversed ≡ false → Inside L k c g r (wrapping_add64 L.image.base o) → length g ≤ 2 → L.offsets.step k ≤ o + size → o + size < L.offsets.step (suc k) → RowAt L (wrapping_add64 L.image.base o) (λ q. Perform (computes_immediate Kept (with_second Move Doubleword s) 1 1 (bits q) q)) (size) →
+      ((hs : List Transition) → length hs ≡ suc (length g) → Inside L k c hs (set_general r 1 (moved s (bits r))) (wrapping_add64 L.image.base (o + size)) → Simulates L k c hs (set_general r 1 (moved s (bits r))) (wrapping_add64 L.image.base (o + size))) → Simulates L k c g r (wrapping_add64 L.image.base o)
   helper_then c g r o size s bits plain i few above below row go =
-      row_then L k c g r (sum64 L.image.base o) (λ q. Perform (computes_immediate Kept (with_second Move Doubleword s) 1 1 (bits q) q)) (size) (put r 1 (moved s (bits r))) i few (record { offset = o + size; above = above; below = below; is = sum_more L.image.base o (size) }) row
-      (subst (λ b. ChangesTo (Perform (computes_immediate Kept (with_second Move Doubleword (record { width = s.width; sign = s.sign; reversed = b })) 1 1 (bits r) r)) (size) r (sum64 L.image.base o) (put r 1 (moved s (bits r)))) (sym plain) (compute_changes Move Doubleword 1 (r.general 1) (bits r) s.width s.sign false (size) (sum64 L.image.base o) r c.memory))
-      (λ hs n. subst (λ q. Inside L k c hs (put r 1 (moved s (bits r))) q → Simulates L k c hs (put r 1 (moved s (bits r))) q) (sym (sum_more L.image.base o (size))) (go hs n))
+      row_then L k c g r (wrapping_add64 L.image.base o) (λ q. Perform (computes_immediate Kept (with_second Move Doubleword s) 1 1 (bits q) q)) (size) (set_general r 1 (moved s (bits r))) i few (record { offset = o + size; above = above; below = below; is = sum_more L.image.base o (size) }) row
+      (subst (λ b. ChangesTo (Perform (computes_immediate Kept (with_second Move Doubleword (record { width = s.width; sign = s.sign; reversed = b })) 1 1 (bits r) r)) (size) r (wrapping_add64 L.image.base o) (set_general r 1 (moved s (bits r)))) (sym plain) (compute_changes Move Doubleword 1 (r.general 1) (bits r) s.width s.sign false (size) (wrapping_add64 L.image.base o) r c.memory))
+      (λ hs n. subst (λ q. Inside L k c hs (set_general r 1 (moved s (bits r))) q → Simulates L k c hs (set_general r 1 (moved s (bits r))) q) (sym (sum_more L.image.base o (size))) (go hs n))

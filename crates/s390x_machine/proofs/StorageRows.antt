@@ -8,171 +8,171 @@ use Rattle.s390x_format.specs.declared.kind.FormatKind.TheVariants.{Rx, Rxy, Rs,
 use Rattle.s390x_format.specs.declared.row.Allowed.TheVariants.{Any}
 use Rattle.s390x_format.specs.Lookup.{row_for}
 use Rattle.s390x_format.specs.Fetch.{machine_rows}
-use Rattle.s390x_steps.specs.Storage.{alu_rx, alu_rxy, cmp_rx, cmp_rxy, cmp_ril, atomic_rsy}
-use Rattle.s390x_steps.specs.Memory.{RxForm, type_of}
+use Rattle.s390x_typed_steps.specs.Storage.{alu_rx, alu_rxy, cmp_rx, cmp_rxy, cmp_ril, atomic_rsy}
+use Rattle.s390x_typed_steps.specs.Memory.{RxForm, type_of}
 use Rattle.s390x_operations.specs.declared.size.Size.{Size}
 use Rattle.s390x_operations.specs.declared.size.Size.TheVariants.{Halfword, Word, Doubleword}
 use Rattle.s390x_operations.specs.declared.size.Width.TheVariants.{Bits16, Bits32, Bits64}
 use Rattle.s390x_operations.specs.declared.operator.Operator.TheVariants.{Move}
 use Rattle.s390x_operations.specs.declared.effect.CodeRule.TheVariants.{Kept}
-use Rattle.s390x_machine.specs.declared.meaning.Meaning.{Meaning}
-use Rattle.s390x_machine.specs.declared.meaning.Meaning.TheVariants.{Compute, Store, StoreByte, StoreImmediate, LoadMultiple, StoreMultiple, LoadAndOperate, CompareAndSwap}
-use Rattle.s390x_machine.specs.declared.meaning.Shape.TheVariants.{Indexed, IndexedAddress}
-use Rattle.s390x_machine.specs.Computations.{Second, word, signed_word, signed_halfword, halfword, doubleword, alu_computation, alu_two_rule, comparison}
+use Rattle.s390x_machine.specs.declared.semantics.RowSemantics.{RowSemantics}
+use Rattle.s390x_machine.specs.declared.semantics.RowSemantics.TheVariants.{Compute, Store, StoreByte, StoreImmediate, LoadMultiple, StoreMultiple, LoadAndOperate, CompareAndSwap}
+use Rattle.s390x_machine.specs.declared.semantics.OperandSource.TheVariants.{Indexed, IndexedAddress}
+use Rattle.s390x_machine.specs.Computations.{Second, unsigned_word, signed_word, signed_halfword, unsigned_halfword, doubleword, alu_computation, alu_two_rule, comparison}
 use Rattle.s390x_machine.specs.Storage.{byte, signed_byte, reversed_bytes, alu_forms, cmp_forms}
-use Rattle.s390x_machine.specs.Meanings.{meaning_in, meaning_of}
+use Rattle.s390x_machine.specs.Semantics.{semantics_in, semantics_of}
 use Rattle.s390x_machine.proofs.Listing.{Agrees, rows, OpcodeRow, OpcodeRows}
-use Rattle.s390x_machine.proofs.Alone.{computed, compared_with, second_register}
+use Rattle.s390x_machine.proofs.SingleInstruction.{computed, compared_with, second_register}
 
 -- the rows of 12 and of 20 bits of an instruction with a register
-abbrev pub IndexedRows : (short long : Option ℕ) → Meaning → Type 0
-IndexedRows short long meaning = OpcodeRows Rx 256 short meaning × OpcodeRows Rxy 65536 long meaning
+abbrev pub IndexedRows : (short long : Option ℕ) → RowSemantics → Type 0
+IndexedRows short long semantics = OpcodeRows Rx 256 short semantics × OpcodeRows Rxy 65536 long semantics
 
 -- the same with two registers and no index
-abbrev pub BasedRows : (short long : Option ℕ) → Meaning → Type 0
-BasedRows short long meaning = OpcodeRows Rs 256 short meaning × OpcodeRows Rsy 65536 long meaning
+abbrev pub BasedRows : (short long : Option ℕ) → RowSemantics → Type 0
+BasedRows short long semantics = OpcodeRows Rs 256 short semantics × OpcodeRows Rsy 65536 long semantics
 
 -- what a load and a store do
-abbrev pub loading : Size → Second → Meaning
+abbrev pub loading : Size → Second → RowSemantics
 loading size s = Compute Move size (second_register Indexed s) Kept
 
-abbrev pub storing : Second → Meaning
+abbrev pub storing : Second → RowSemantics
 storing s = Store (second_register Indexed s)
 
 -- ---- loads
 
-pub load_32 : IndexedRows (Some 0x58) (Some 0xe358) (loading Word word)
-unfolding machine_rows row_for meaning_in meaning_of
+pub load_32 : IndexedRows (Some 0x58) (Some 0xe358) (loading Word unsigned_word)
+unfolding machine_rows row_for semantics_in semantics_of
 load_32 = ((record { is = refl }, refl), (record { is = refl }, refl))
 
 pub load_32_zero_8 : IndexedRows None (Some 0xe394) (loading Word byte)
-unfolding machine_rows row_for meaning_in meaning_of
+unfolding machine_rows row_for semantics_in semantics_of
 load_32_zero_8 = (tt, (record { is = refl }, refl))
 
 pub load_32_signed_8 : IndexedRows None (Some 0xe376) (loading Word signed_byte)
-unfolding machine_rows row_for meaning_in meaning_of
+unfolding machine_rows row_for semantics_in semantics_of
 load_32_signed_8 = (tt, (record { is = refl }, refl))
 
-pub load_32_zero_16 : IndexedRows None (Some 0xe395) (loading Word halfword)
-unfolding machine_rows row_for meaning_in meaning_of
+pub load_32_zero_16 : IndexedRows None (Some 0xe395) (loading Word unsigned_halfword)
+unfolding machine_rows row_for semantics_in semantics_of
 load_32_zero_16 = (tt, (record { is = refl }, refl))
 
 pub load_32_signed_16 : IndexedRows (Some 0x48) (Some 0xe378) (loading Word signed_halfword)
-unfolding machine_rows row_for meaning_in meaning_of
+unfolding machine_rows row_for semantics_in semantics_of
 load_32_signed_16 = ((record { is = refl }, refl), (record { is = refl }, refl))
 
 pub load_64 : IndexedRows None (Some 0xe304) (loading Doubleword doubleword)
-unfolding machine_rows row_for meaning_in meaning_of
+unfolding machine_rows row_for semantics_in semantics_of
 load_64 = (tt, (record { is = refl }, refl))
 
 pub load_64_zero_8 : IndexedRows None (Some 0xe390) (loading Doubleword byte)
-unfolding machine_rows row_for meaning_in meaning_of
+unfolding machine_rows row_for semantics_in semantics_of
 load_64_zero_8 = (tt, (record { is = refl }, refl))
 
 pub load_64_signed_8 : IndexedRows None (Some 0xe377) (loading Doubleword signed_byte)
-unfolding machine_rows row_for meaning_in meaning_of
+unfolding machine_rows row_for semantics_in semantics_of
 load_64_signed_8 = (tt, (record { is = refl }, refl))
 
-pub load_64_zero_16 : IndexedRows None (Some 0xe391) (loading Doubleword halfword)
-unfolding machine_rows row_for meaning_in meaning_of
+pub load_64_zero_16 : IndexedRows None (Some 0xe391) (loading Doubleword unsigned_halfword)
+unfolding machine_rows row_for semantics_in semantics_of
 load_64_zero_16 = (tt, (record { is = refl }, refl))
 
 pub load_64_signed_16 : IndexedRows None (Some 0xe315) (loading Doubleword signed_halfword)
-unfolding machine_rows row_for meaning_in meaning_of
+unfolding machine_rows row_for semantics_in semantics_of
 load_64_signed_16 = (tt, (record { is = refl }, refl))
 
-pub load_64_zero_32 : IndexedRows None (Some 0xe316) (loading Doubleword word)
-unfolding machine_rows row_for meaning_in meaning_of
+pub load_64_zero_32 : IndexedRows None (Some 0xe316) (loading Doubleword unsigned_word)
+unfolding machine_rows row_for semantics_in semantics_of
 load_64_zero_32 = (tt, (record { is = refl }, refl))
 
 pub load_64_signed_32 : IndexedRows None (Some 0xe314) (loading Doubleword signed_word)
-unfolding machine_rows row_for meaning_in meaning_of
+unfolding machine_rows row_for semantics_in semantics_of
 load_64_signed_32 = (tt, (record { is = refl }, refl))
 
 pub load_reversed_16 : IndexedRows None (Some 0xe31f) (loading Halfword (reversed_bytes Bits16))
-unfolding machine_rows row_for meaning_in meaning_of
+unfolding machine_rows row_for semantics_in semantics_of
 load_reversed_16 = (tt, (record { is = refl }, refl))
 
 pub load_reversed_32 : IndexedRows None (Some 0xe31e) (loading Word (reversed_bytes Bits32))
-unfolding machine_rows row_for meaning_in meaning_of
+unfolding machine_rows row_for semantics_in semantics_of
 load_reversed_32 = (tt, (record { is = refl }, refl))
 
 pub load_reversed_64 : IndexedRows None (Some 0xe30f) (loading Doubleword (reversed_bytes Bits64))
-unfolding machine_rows row_for meaning_in meaning_of
+unfolding machine_rows row_for semantics_in semantics_of
 load_reversed_64 = (tt, (record { is = refl }, refl))
 
 pub load_address : IndexedRows (Some 0x41) (Some 0xe371) (Compute Move Doubleword (second_register IndexedAddress doubleword) Kept)
-unfolding machine_rows row_for meaning_in meaning_of
+unfolding machine_rows row_for semantics_in semantics_of
 load_address = ((record { is = refl }, refl), (record { is = refl }, refl))
 
 -- ---- stores
 
 pub store_8 : IndexedRows (Some 0x42) (Some 0xe372) (storing byte)
-unfolding machine_rows row_for meaning_in meaning_of
+unfolding machine_rows row_for semantics_in semantics_of
 store_8 = ((record { is = refl }, refl), (record { is = refl }, refl))
 
-pub store_16 : IndexedRows (Some 0x40) (Some 0xe370) (storing halfword)
-unfolding machine_rows row_for meaning_in meaning_of
+pub store_16 : IndexedRows (Some 0x40) (Some 0xe370) (storing unsigned_halfword)
+unfolding machine_rows row_for semantics_in semantics_of
 store_16 = ((record { is = refl }, refl), (record { is = refl }, refl))
 
-pub store_32 : IndexedRows (Some 0x50) (Some 0xe350) (storing word)
-unfolding machine_rows row_for meaning_in meaning_of
+pub store_32 : IndexedRows (Some 0x50) (Some 0xe350) (storing unsigned_word)
+unfolding machine_rows row_for semantics_in semantics_of
 store_32 = ((record { is = refl }, refl), (record { is = refl }, refl))
 
 pub store_64 : IndexedRows None (Some 0xe324) (storing doubleword)
-unfolding machine_rows row_for meaning_in meaning_of
+unfolding machine_rows row_for semantics_in semantics_of
 store_64 = (tt, (record { is = refl }, refl))
 
 pub store_reversed_16 : IndexedRows None (Some 0xe33f) (storing (reversed_bytes Bits16))
-unfolding machine_rows row_for meaning_in meaning_of
+unfolding machine_rows row_for semantics_in semantics_of
 store_reversed_16 = (tt, (record { is = refl }, refl))
 
 pub store_reversed_32 : IndexedRows None (Some 0xe33e) (storing (reversed_bytes Bits32))
-unfolding machine_rows row_for meaning_in meaning_of
+unfolding machine_rows row_for semantics_in semantics_of
 store_reversed_32 = (tt, (record { is = refl }, refl))
 
 pub store_reversed_64 : IndexedRows None (Some 0xe32f) (storing (reversed_bytes Bits64))
-unfolding machine_rows row_for meaning_in meaning_of
+unfolding machine_rows row_for semantics_in semantics_of
 store_reversed_64 = (tt, (record { is = refl }, refl))
 
 pub store_byte : OpcodeRow Si 256 0x92 StoreByte × OpcodeRow Siy 65536 0xeb52 StoreByte
-unfolding machine_rows row_for meaning_in meaning_of
+unfolding machine_rows row_for semantics_in semantics_of
 store_byte = ((record { is = refl }, refl), (record { is = refl }, refl))
 
 pub store_immediate_16 : OpcodeRow Sil 65536 0xe544 (StoreImmediate Bits16)
-unfolding machine_rows row_for meaning_in meaning_of
+unfolding machine_rows row_for semantics_in semantics_of
 store_immediate_16 = (record { is = refl }, refl)
 
 pub store_immediate_32 : OpcodeRow Sil 65536 0xe54c (StoreImmediate Bits32)
-unfolding machine_rows row_for meaning_in meaning_of
+unfolding machine_rows row_for semantics_in semantics_of
 store_immediate_32 = (record { is = refl }, refl)
 
 pub store_immediate_64 : OpcodeRow Sil 65536 0xe548 (StoreImmediate Bits64)
-unfolding machine_rows row_for meaning_in meaning_of
+unfolding machine_rows row_for semantics_in semantics_of
 store_immediate_64 = (record { is = refl }, refl)
 
 -- ---- two registers
 
 pub load_multiple : BasedRows None (Some 0xeb04) LoadMultiple
-unfolding machine_rows row_for meaning_in meaning_of
+unfolding machine_rows row_for semantics_in semantics_of
 load_multiple = (tt, (record { is = refl }, refl))
 
 pub store_multiple : BasedRows None (Some 0xeb24) StoreMultiple
-unfolding machine_rows row_for meaning_in meaning_of
+unfolding machine_rows row_for semantics_in semantics_of
 store_multiple = (tt, (record { is = refl }, refl))
 
 pub swap_32 : BasedRows (Some 0xba) (Some 0xeb14) (CompareAndSwap Word)
-unfolding machine_rows row_for meaning_in meaning_of
+unfolding machine_rows row_for semantics_in semantics_of
 swap_32 = ((record { is = refl }, refl), (record { is = refl }, refl))
 
 pub swap_64 : BasedRows None (Some 0xeb30) (CompareAndSwap Doubleword)
-unfolding machine_rows row_for meaning_in meaning_of
+unfolding machine_rows row_for semantics_in semantics_of
 swap_64 = (tt, (record { is = refl }, refl))
 
 -- ---- operators
 
 pub alu_short_rows : (op : ALUOp) → OpcodeRows Rx 256 (alu_rx op) (computed (alu_computation op) Indexed (alu_two_rule op))
-unfolding machine_rows row_for meaning_in meaning_of
+unfolding machine_rows row_for semantics_in semantics_of
 alu_short_rows op = rows (λ n. Rx) Any 256 (alu_rx op) (computed (alu_computation op) Indexed (alu_two_rule op)) refl (agrees op)
   where
     agrees : (op : ALUOp) → Agrees (λ n. Rx) Any 256 (alu_rx op) (computed (alu_computation op) Indexed (alu_two_rule op))
@@ -180,7 +180,7 @@ alu_short_rows op = rows (λ n. Rx) Any 256 (alu_rx op) (computed (alu_computati
     agrees _ = refl
 
 pub alu_long_rows : (op : ALUOp) → OpcodeRows Rxy 65536 (alu_rxy op) (computed (alu_computation op) Indexed (alu_two_rule op))
-unfolding machine_rows row_for meaning_in meaning_of
+unfolding machine_rows row_for semantics_in semantics_of
 alu_long_rows op = rows (λ n. Rxy) Any 65536 (alu_rxy op) (computed (alu_computation op) Indexed (alu_two_rule op)) refl (agrees op)
   where
     agrees : (op : ALUOp) → Agrees (λ n. Rxy) Any 65536 (alu_rxy op) (computed (alu_computation op) Indexed (alu_two_rule op))
@@ -188,7 +188,7 @@ alu_long_rows op = rows (λ n. Rxy) Any 65536 (alu_rxy op) (computed (alu_comput
     agrees _ = refl
 
 pub cmp_short_rows : (op : CmpOp) → OpcodeRows Rx 256 (cmp_rx op) (compared_with Indexed (comparison op))
-unfolding machine_rows row_for meaning_in meaning_of
+unfolding machine_rows row_for semantics_in semantics_of
 cmp_short_rows op = rows (λ n. Rx) Any 256 (cmp_rx op) (compared_with Indexed (comparison op)) refl (agrees op)
   where
     agrees : (op : CmpOp) → Agrees (λ n. Rx) Any 256 (cmp_rx op) (compared_with Indexed (comparison op))
@@ -196,7 +196,7 @@ cmp_short_rows op = rows (λ n. Rx) Any 256 (cmp_rx op) (compared_with Indexed (
     agrees _ = refl
 
 pub cmp_long_rows : (op : CmpOp) → OpcodeRows Rxy 65536 (cmp_rxy op) (compared_with Indexed (comparison op))
-unfolding machine_rows row_for meaning_in meaning_of
+unfolding machine_rows row_for semantics_in semantics_of
 cmp_long_rows op = rows (λ n. Rxy) Any 65536 (cmp_rxy op) (compared_with Indexed (comparison op)) refl (agrees op)
   where
     agrees : (op : CmpOp) → Agrees (λ n. Rxy) Any 65536 (cmp_rxy op) (compared_with Indexed (comparison op))
@@ -204,7 +204,7 @@ cmp_long_rows op = rows (λ n. Rxy) Any 65536 (cmp_rxy op) (compared_with Indexe
     agrees _ = refl
 
 pub atomic_rows : (op : ALUOp) → OpcodeRows Rsy 65536 (atomic_rsy op) (LoadAndOperate (alu_computation op).operator (alu_computation op).size)
-unfolding machine_rows row_for meaning_in meaning_of
+unfolding machine_rows row_for semantics_in semantics_of
 atomic_rows op = rows (λ n. Rsy) Any 65536 (atomic_rsy op) (LoadAndOperate (alu_computation op).operator (alu_computation op).size) refl (agrees op)
   where
     agrees : (op : ALUOp) → Agrees (λ n. Rsy) Any 65536 (atomic_rsy op) (LoadAndOperate (alu_computation op).operator (alu_computation op).size)

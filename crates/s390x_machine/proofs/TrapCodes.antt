@@ -2,7 +2,7 @@
 use Rattle.std.proofs.Common.{◌≡◌, ℕ, ◌+◌, ◌-◌, ◌<◌, ◌≤◌, Bool, true, false, ◌&&◌, cond, List, length, None, refl, ap, ap₂, ◌∙◌, arith, le-leb, lt-ltb, le-ltb}
 use Rattle.std.specs.Prelude.{nat_le}
 use Rattle.s390x_buffer.specs.declared.entries.TrapEntry.{TrapEntry}
-use Rattle.s390x_steps.specs.Traps.{first_code}
+use Rattle.s390x_typed_steps.specs.Traps.{first_code}
 use Rattle.s390x_operations.specs.State.{CodeImage}
 use Rattle.s390x_operations.specs.declared.stop.StopKind.{StopKind}
 use Rattle.s390x_machine.specs.Codes.{code_offset, trap_code_at}

@@ -7,17 +7,17 @@ use Rattle.s390x_format.specs.Formats.{layout_of, length_of}
 use Rattle.s390x_format.specs.Layout.{number, bits}
 use Rattle.s390x_format.specs.Reading.{be_bytes}
 use Rattle.s390x_format.specs.Rows.{fetch_length_of}
-use Rattle.s390x_steps.specs.MachineInstruction.{bytes_of, format_e, ril_c}
-use Rattle.s390x_steps.specs.Traps.{first_code}
-use Rattle.s390x_operations.specs.State.{sum64, is_within}
+use Rattle.s390x_typed_steps.specs.MachineInstruction.{bytes_of, format_e, ril_c}
+use Rattle.s390x_typed_steps.specs.Traps.{first_code}
+use Rattle.s390x_operations.specs.State.{wrapping_add64, is_within}
 use Rattle.s390x_operations.specs.declared.stop.StopKind.{StopKind}
 use Rattle.s390x_operations.specs.declared.stop.StopKind.TheVariants.{Operation as OperationStop, Access, Specification, Divide, CompareTrap}
 use Rattle.s390x_machine.specs.Fetch.{Unknown, Fetches}
-use Rattle.s390x_machine.specs.Machine.{StopsAs, FetchedActs}
+use Rattle.s390x_machine.specs.Machine.{InterruptsAs, FetchedStep}
 use Rattle.s390x_machine.specs.Codes.{code_offset, trap_code_at}
 use Rattle.s390x_machine.specs.Layout.{Layout}
-use Rattle.s390x_machine.specs.Forms.{division_code, comparison_code}
-use Rattle.s390x_machine.specs.Placed.{AllPlaced}
+use Rattle.s390x_machine.specs.StepKinds.{division_code, comparison_code}
+use Rattle.s390x_machine.specs.CodeAt.{AllCodeAt}
 use Rattle.s390x_machine.proofs.TrapCodes.{code_inside}
 use Rattle.s390x_machine.proofs.Fetching.{StandsAt, image_byte, is_within_at, nothing_at}
 use Rattle.s390x_machine.proofs.Composites.{StopsAt}
@@ -53,19 +53,19 @@ within_image L offset bytes s =
     omega (arith, n1, n2, n3, s.at)
 
 -- an offset of a byte of the image is that of a place in it
-pub place_within : (L : Layout) → L.image.base + length L.image.bytes ≤ 2 ^ 64 → (o : ℕ) → o < length L.image.bytes → IsTrue (is_within L.image (sum64 L.image.base o))
+pub place_within : (L : Layout) → L.image.base + length L.image.bytes ≤ 2 ^ 64 → (o : ℕ) → o < length L.image.bytes → IsTrue (is_within L.image (wrapping_add64 L.image.base o))
 place_within L fits o lt =
-    let same : L.image.base + o ≡ sum64 L.image.base o = omega (arith, fits, lt) in
+    let same : L.image.base + o ≡ wrapping_add64 L.image.base o = omega (arith, fits, lt) in
     subst (λ p. IsTrue (is_within L.image p)) same (is_within_at L.image o lt)
 
 -- the code there is that of the offset
-pub code_within : (L : Layout) → L.image.base + length L.image.bytes ≤ 2 ^ 64 → (o : ℕ) → o < length L.image.bytes → (kind : StopKind) → trap_code_at L.image L.traps (sum64 L.image.base o) kind ≡ first_code L.traps (code_offset L.image.bytes o kind)
+pub code_within : (L : Layout) → L.image.base + length L.image.bytes ≤ 2 ^ 64 → (o : ℕ) → o < length L.image.bytes → (kind : StopKind) → trap_code_at L.image L.traps (wrapping_add64 L.image.base o) kind ≡ first_code L.traps (code_offset L.image.bytes o kind)
 code_within L fits o lt kind =
-    let back : sum64 L.image.base o - L.image.base ≡ o = omega (arith, fits, lt) in
-    code_inside L.image L.traps (sum64 L.image.base o) kind (omega (arith, fits, lt)) (omega (arith, fits, lt)) ∙ ap (λ x. first_code L.traps (code_offset L.image.bytes x kind)) back
+    let back : wrapping_add64 L.image.base o - L.image.base ≡ o = omega (arith, fits, lt) in
+    code_inside L.image L.traps (wrapping_add64 L.image.base o) kind (omega (arith, fits, lt)) (omega (arith, fits, lt)) ∙ ap (λ x. first_code L.traps (code_offset L.image.bytes x kind)) back
 
 -- the code that the table has for a stop of the instruction whose bytes stand at an offset
-pub late_code : (L : Layout) → L.image.base + length L.image.bytes ≤ 2 ^ 64 → (offset : ℕ) (bytes : List ℕ) → StandsAt L.image offset bytes → 0 < length bytes → (kind : StopKind) → IsLate L kind → trap_code_at L.image L.traps (sum64 L.image.base offset) kind ≡ first_code L.traps (offset + (fetch_length_of (get_or bytes 0 0) - 1))
+pub late_code : (L : Layout) → L.image.base + length L.image.bytes ≤ 2 ^ 64 → (offset : ℕ) (bytes : List ℕ) → StandsAt L.image offset bytes → 0 < length bytes → (kind : StopKind) → IsLate L kind → trap_code_at L.image L.traps (wrapping_add64 L.image.base offset) kind ≡ first_code L.traps (offset + (fetch_length_of (get_or bytes 0 0) - 1))
 late_code L fits offset bytes s some kind late =
     let inside = within_image L offset bytes s in
     let z : offset ≡ offset + 0 = omega arith in
@@ -73,14 +73,14 @@ late_code L fits offset bytes s some kind late =
     code_within L fits offset (omega (arith, inside, some)) kind ∙ ap (first_code L.traps) (late offset) ∙ ap (λ b. first_code L.traps (offset + (fetch_length_of b - 1))) first
 
 -- the machine stops where a byte of zeros stands at an even place
-pub stops_at : (L : Layout) → AllPlaced L → (offset second : ℕ) (code : Option TrapKind) → offset % 2 ≡ 0 → StandsAt L.image offset (0 ∷ second ∷ []) → first_code L.traps (offset + 1) ≡ code → StopsAt L (sum64 L.image.base offset) code
+pub stops_at : (L : Layout) → AllCodeAt L → (offset second : ℕ) (code : Option TrapKind) → offset % 2 ≡ 0 → StandsAt L.image offset (0 ∷ second ∷ []) → first_code L.traps (offset + 1) ≡ code → StopsAt L (wrapping_add64 L.image.base offset) code
 stops_at L all offset second code even stands is = record {
-  stops = λ s at lies event t step.
-      let none : step.fetched ≡ Unknown = nothing_at L.image s.core.memory offset second all.even even all.fits lies stands step.fetched (subst (λ p. Fetches s.core.memory p step.fetched) at step.fetches) in
-      let acts : StopsAs OperationStop s event t = subst (λ f. FetchedActs f s event t) none step.acts in
+  stops = λ s at is_loaded event t step.
+      let none : step.fetched ≡ Unknown = nothing_at L.image s.core.memory offset second all.even even all.fits is_loaded stands step.fetched (subst (λ p. Fetches s.core.memory p step.fetched) at step.fetches) in
+      let acts : InterruptsAs OperationStop s event t = subst (λ f. FetchedStep f s event t) none step.acts in
       acts.0;
   within = place_within L all.fits offset (omega (arith, within_image L offset (0 ∷ second ∷ []) stands));
-  coded = late_code L all.fits offset (0 ∷ second ∷ []) stands (omega arith) OperationStop (λ o. refl) ∙ is;
+  with_code = late_code L all.fits offset (0 ∷ second ∷ []) stands (omega arith) OperationStop (λ o. refl) ∙ is;
 }
 
 -- ---- bytes

@@ -3,12 +3,12 @@
 use Rattle.std.specs.Prelude.{◌≡◌, ℕ, ◌%◌, Bool, true, Option, Some, None}
 use Rattle.s390x_inst.specs.declared.args.MemArg.{MemArg}
 use Rattle.s390x_inst.specs.declared.args.MemArg.TheVariants.{Label, Constant}
-use Rattle.s390x_steps.specs.Memory.{StorageForm, RxForm, MemoryInstruction}
+use Rattle.s390x_typed_steps.specs.Memory.{StorageForm, RxForm, MemoryInstruction}
 use Rattle.s390x_operations.specs.State.{Registers}
 use Rattle.s390x_operations.specs.Access.{Access, Reads, Stores, fault}
 use Rattle.s390x_operations.specs.Effects.{access}
 use Rattle.s390x_operations.specs.declared.stop.StopKind.TheVariants.{Specification}
-use Rattle.s390x_machine.specs.Forms.{Performed}
+use Rattle.s390x_machine.specs.StepKinds.{Performed}
 use Rattle.s390x_machine.specs.Storage.{OperandStep}
 
 -- the operand is a block or a constant of the function itself

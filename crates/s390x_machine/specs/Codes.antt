@@ -1,9 +1,9 @@
--- The trap code of a stop at a place of finished code (cranelift-codegen, `buffer.rs`: the table of traps).
+-- The trap code of a stop at an offset of finished code (cranelift-codegen, `buffer.rs`: the table of traps).
 use Rattle.std.specs.Prelude.{ℕ, ◌+◌, ◌-◌, if◌then◌else◌, List, Option, None, slice_index}
 use Rattle.s390x_base.specs.declared.trap.TrapKind.{TrapKind}
 use Rattle.s390x_buffer.specs.declared.entries.TrapEntry.{TrapEntry}
 use Rattle.s390x_format.specs.Rows.{fetch_length_of}
-use Rattle.s390x_steps.specs.Traps.{first_code}
+use Rattle.s390x_typed_steps.specs.Traps.{first_code}
 use Rattle.s390x_operations.specs.State.{CodeImage, is_within}
 use Rattle.s390x_operations.specs.declared.stop.StopKind.{StopKind}
 use Rattle.s390x_operations.specs.declared.stop.StopKind.TheVariants.{Access, Specification}
@@ -15,6 +15,6 @@ code_offset bytes offset Access = offset
 code_offset bytes offset Specification = offset
 code_offset bytes offset kind = offset + (fetch_length_of (slice_index bytes offset) - 1)
 
--- the code that the table has for a stop at a place of the image: that of the first entry there; none where the place is outside the image
+-- the code that the table has for a stop at an offset of the image: that of the first entry there; none where the offset is outside the image
 abbrev pub trap_code_at : CodeImage → List TrapEntry → ℕ → StopKind → Option TrapKind
-trap_code_at image traps place kind = if is_within image place then first_code traps (code_offset image.bytes (place - image.base) kind) else None
+trap_code_at image traps offset kind = if is_within image offset then first_code traps (code_offset image.bytes (offset - image.base) kind) else None

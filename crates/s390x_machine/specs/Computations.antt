@@ -31,11 +31,11 @@ use Rattle.s390x_operations.specs.declared.operator.BitOperator.TheVariants.{And
 use Rattle.s390x_operations.specs.declared.operator.SelectedBitsOperator.{SelectedBitsOperator}
 use Rattle.s390x_operations.specs.declared.operator.SelectedBitsOperator.TheVariants as Select
 use Rattle.s390x_operations.specs.declared.effect.Effect.{Effect}
-use Rattle.s390x_operations.specs.declared.effect.Effect.TheVariants.{Compute, Compare, CompareAndTrap, Test, MultiplyPair, DividePair, DivideLogicalPair, FindLeftmostOne, PutAny, Nothing}
+use Rattle.s390x_operations.specs.declared.effect.Effect.TheVariants.{Compute, Compare, CompareAndTrap, Test, MultiplyPair, DividePair, DivideLogicalPair, FindLeftmostOne, Havoc, Nothing}
 use Rattle.s390x_operations.specs.declared.effect.CodeRule.{CodeRule}
-use Rattle.s390x_operations.specs.declared.effect.CodeRule.TheVariants.{Kept, Set, Unstated}
+use Rattle.s390x_operations.specs.declared.effect.CodeRule.TheVariants.{Kept, Set, Unspecified}
 use Rattle.s390x_operations.specs.declared.effect.Operation.{Operation}
-use Rattle.s390x_steps.specs.General.{low_word}
+use Rattle.s390x_typed_steps.specs.General.{low_word}
 use Rattle.s390x_machine.specs.Operands.{value_in, based, rotated_operand, performed_where}
 
 -- which bits of the second operand are read, and how they are extended to the operation's size
@@ -45,8 +45,8 @@ pub record Second : Type 0 where
   pub reversed : Bool
 
 -- 32 bits, without a sign
-abbrev pub word : Second
-word = record { width = Bits32; sign = Unsigned; reversed = false }
+abbrev pub unsigned_word : Second
+unsigned_word = record { width = Bits32; sign = Unsigned; reversed = false }
 
 -- 32 bits, with their sign
 abbrev pub signed_word : Second
@@ -57,8 +57,8 @@ abbrev pub signed_halfword : Second
 signed_halfword = record { width = Bits16; sign = Signed; reversed = false }
 
 -- 16 bits, without a sign
-abbrev pub halfword : Second
-halfword = record { width = Bits16; sign = Unsigned; reversed = false }
+abbrev pub unsigned_halfword : Second
+unsigned_halfword = record { width = Bits16; sign = Unsigned; reversed = false }
 
 -- all 64 bits
 abbrev pub doubleword : Second
@@ -72,7 +72,7 @@ pub record Computation : Type 0 where
 
 -- on the right halves of registers
 abbrev pub on_words : Operator → Computation
-on_words operator = record { operator = operator; size = Word; second = word }
+on_words operator = record { operator = operator; size = Word; second = unsigned_word }
 
 -- on whole registers
 abbrev pub on_doublewords : Operator → Computation
@@ -91,7 +91,7 @@ alu_computation A.Add64Ext16 = with_second (O.Signed Add) Doubleword signed_half
 alu_computation A.Add64Ext32 = with_second (O.Signed Add) Doubleword signed_word
 alu_computation A.AddLogical32 = on_words (O.Logical L.Add)
 alu_computation A.AddLogical64 = on_doublewords (O.Logical L.Add)
-alu_computation A.AddLogical64Ext32 = with_second (O.Logical L.Add) Doubleword word
+alu_computation A.AddLogical64Ext32 = with_second (O.Logical L.Add) Doubleword unsigned_word
 alu_computation A.Sub32 = on_words (O.Signed Subtract)
 alu_computation A.Sub32Ext16 = with_second (O.Signed Subtract) Word signed_halfword
 alu_computation A.Sub64 = on_doublewords (O.Signed Subtract)
@@ -99,7 +99,7 @@ alu_computation A.Sub64Ext16 = with_second (O.Signed Subtract) Doubleword signed
 alu_computation A.Sub64Ext32 = with_second (O.Signed Subtract) Doubleword signed_word
 alu_computation A.SubLogical32 = on_words (O.Logical L.Subtract)
 alu_computation A.SubLogical64 = on_doublewords (O.Logical L.Subtract)
-alu_computation A.SubLogical64Ext32 = with_second (O.Logical L.Subtract) Doubleword word
+alu_computation A.SubLogical64Ext32 = with_second (O.Logical L.Subtract) Doubleword unsigned_word
 alu_computation A.Mul32 = on_words (O.Signed Multiply)
 alu_computation A.Mul32Ext16 = with_second (O.Signed Multiply) Word signed_halfword
 alu_computation A.Mul32CC = on_words (O.Signed Multiply)
@@ -126,8 +126,8 @@ alu_computation A.OrrNot64 = on_doublewords (O.Bit OrNot)
 
 -- the condition code with three operands: unstated after the products that have a form which keeps it
 abbrev pub alu_three_rule : ALUOp → CodeRule
-alu_three_rule A.Mul32 = Unstated
-alu_three_rule A.Mul64 = Unstated
+alu_three_rule A.Mul32 = Unspecified
+alu_three_rule A.Mul64 = Unspecified
 alu_three_rule _ = Set
 
 -- with two operands: products keep it
@@ -158,8 +158,8 @@ unary_computation U.Ctz64 = on_doublewords O.TrailingZeros
 abbrev pub unary_rule : UnaryOp → CodeRule
 unary_rule U.BSwap32 = Kept
 unary_rule U.BSwap64 = Kept
-unary_rule U.Clz64 = Unstated
-unary_rule U.Ctz64 = Unstated
+unary_rule U.Clz64 = Unspecified
+unary_rule U.Ctz64 = Unspecified
 unary_rule _ = Set
 
 -- a comparison of values of a size
@@ -170,16 +170,16 @@ pub record Comparison : Type 0 where
 
 -- how each comparison reads its operands
 abbrev pub comparison : CmpOp → Comparison
-comparison C.CmpS32 = record { sign = Signed; size = Word; second = word }
+comparison C.CmpS32 = record { sign = Signed; size = Word; second = unsigned_word }
 comparison C.CmpS32Ext16 = record { sign = Signed; size = Word; second = signed_halfword }
 comparison C.CmpS64 = record { sign = Signed; size = Doubleword; second = doubleword }
 comparison C.CmpS64Ext16 = record { sign = Signed; size = Doubleword; second = signed_halfword }
 comparison C.CmpS64Ext32 = record { sign = Signed; size = Doubleword; second = signed_word }
-comparison C.CmpL32 = record { sign = Unsigned; size = Word; second = word }
-comparison C.CmpL32Ext16 = record { sign = Unsigned; size = Word; second = halfword }
+comparison C.CmpL32 = record { sign = Unsigned; size = Word; second = unsigned_word }
+comparison C.CmpL32Ext16 = record { sign = Unsigned; size = Word; second = unsigned_halfword }
 comparison C.CmpL64 = record { sign = Unsigned; size = Doubleword; second = doubleword }
-comparison C.CmpL64Ext16 = record { sign = Unsigned; size = Doubleword; second = halfword }
-comparison C.CmpL64Ext32 = record { sign = Unsigned; size = Doubleword; second = word }
+comparison C.CmpL64Ext16 = record { sign = Unsigned; size = Doubleword; second = unsigned_halfword }
+comparison C.CmpL64Ext32 = record { sign = Unsigned; size = Doubleword; second = unsigned_word }
 
 -- an effect, with what becomes of the condition code
 abbrev pub with_rule : CodeRule → Effect → Operation
@@ -215,7 +215,7 @@ compares_on_immediate c second = record { sign = c.sign; size = c.size; second =
 
 -- so many bytes are taken from the stack pointer, `%r15`. The condition code is unstated
 abbrev pub takes_from_stack : (size : ℕ) → Registers → Operation
-takes_from_stack size = computes_immediate Unstated (on_immediate (on_doublewords (O.Logical L.Subtract)) word) 15 15 (low_word (pos size))
+takes_from_stack size = computes_immediate Unspecified (on_immediate (on_doublewords (O.Logical L.Subtract)) unsigned_word) 15 15 (low_word (pos size))
 
 -- ---- parts of a register
 
@@ -360,7 +360,7 @@ compares_immediate_and_traps c n bits mask r = with_rule Kept (CompareAndTrap c.
 
 -- the right half of register d becomes an access register
 abbrev pub copies_access : (d access : ℕ) → Registers → Operation
-copies_access d access r = with_rule Kept (Compute O.Move Word d (value_in Word r d) (operand_of word (r.access access)))
+copies_access d access r = with_rule Kept (Compute O.Move Word d (value_in Word r d) (operand_of unsigned_word (r.access access)))
 
 -- register d becomes register m where the mask selects the condition code
 abbrev pub moves_where : Size → Second → (mask d m : ℕ) → Registers → Operation
@@ -371,8 +371,8 @@ abbrev pub moves_immediate_where : Size → (mask d bits : ℕ) → Registers �
 moves_immediate_where size mask d bits r = performed_where (is_selected mask r.code) (with_rule Kept (Compute O.Move size d (value_in size r d) (operand_of signed_halfword bits)))
 
 -- register d becomes any value
-abbrev pub puts_any : (d : ℕ) → Registers → Operation
-puts_any d r = with_rule Kept (PutAny d)
+abbrev pub havocs : (d : ℕ) → Registers → Operation
+havocs d r = with_rule Kept (Havoc d)
 
 -- nothing
 abbrev pub idles : Registers → Operation

@@ -6,12 +6,12 @@ use Rattle.s390x_base.specs.declared.ir.MachLabel.{MachLabel}
 use Rattle.s390x_inst.specs.declared.ops.ALUOp.TheVariants.{Add64}
 use Rattle.s390x_inst.specs.declared.inst.Inst.{Inst}
 use Rattle.s390x_inst.specs.declared.inst.Inst.TheVariants.{AluRRR, CondBr, Ret}
-use Rattle.s390x_steps.specs.Tree.{Tree, empty, leaf}
-use Rattle.s390x_steps.specs.Image.{unlinked}
-use Rattle.s390x_operations.specs.State.{Registers, Core, CodeImage, is_within, Lies, put, coded}
+use Rattle.s390x_typed_steps.specs.Tree.{Tree, empty, leaf}
+use Rattle.s390x_typed_steps.specs.Image.{unlinked}
+use Rattle.s390x_operations.specs.State.{Registers, Core, CodeImage, is_within, IsLoaded, set_general, with_code}
 use Rattle.s390x_operations.specs.declared.stop.ConditionCode.TheVariants.{Code0, Code1}
-use Rattle.s390x_machine.specs.Machine.{Turn, Went, Run}
-use Rattle.s390x_machine.specs.Layout.{block_place}
+use Rattle.s390x_machine.specs.Machine.{Transition, Executed, Run}
+use Rattle.s390x_machine.specs.Layout.{block_address}
 use Rattle.s390x_machine.specs.Functions.{function_layout, StandsAsCode}
 
 -- agr %r2, %r4; jgl to the first block; jg to the second one; br %r14: as an assembler gives them
@@ -48,24 +48,24 @@ core = record { registers = registers; memory = record { has = λ a. is_within i
 
 -- `%r2` becomes a sum
 abbrev pub with_sum : ℕ → Registers → Registers
-with_sum x r = put r 2 x
+with_sum x r = set_general r 2 x
 
 -- after the first addition: the sum is -1
 abbrev pub once : Core
-once = record { registers = coded Code1 (with_sum 18446744073709551615 registers); memory = core.memory }
+once = record { registers = with_code Code1 (with_sum 18446744073709551615 registers); memory = core.memory }
 
 -- after the second one: the sum is 0
 abbrev pub twice : Core
-twice = record { registers = coded Code0 (with_sum 0 once.registers); memory = core.memory }
+twice = record { registers = with_code Code0 (with_sum 0 once.registers); memory = core.memory }
 
--- a turn without writes of others that stores nothing, after which the core and the place are these
-abbrev pub turn : Core → ℕ → Turn
-turn c place = record { writes = []; event = Went None; after = record { core = c; place = place } }
+-- a transition without writes of others that stores nothing, after which the core and the address are these
+abbrev pub transition : Core → ℕ → Transition
+transition c address = record { writes = []; event = Executed None; after = record { core = c; address = address } }
 
 -- -1 and round, 0 and on, to the second block, and back to the caller
-abbrev pub turns : List Turn
-turns = turn once 4100 ∷ turn once 4096 ∷ turn twice 4100 ∷ turn twice 4106 ∷ turn twice 4112 ∷ turn twice 8192 ∷ []
+abbrev pub trace : List Transition
+trace = transition once 4100 ∷ transition once 4096 ∷ transition twice 4100 ∷ transition twice 4106 ∷ transition twice 4112 ∷ transition twice 8192 ∷ []
 
 -- the image is the function's code and lies in memory, and the machine runs so from the first block
 abbrev pub LoopRuns : Type 0
-LoopRuns = StandsAsCode (unlinked trees []) trees image × Lies image core.memory × Run image (record { core = core; place = block_place (function_layout (unlinked trees []) trees image) 0 }) turns
+LoopRuns = StandsAsCode (unlinked trees []) trees image × IsLoaded image core.memory × Run image (record { core = core; address = block_address (function_layout (unlinked trees []) trees image) 0 }) trace

@@ -5,25 +5,25 @@ use Rattle.s390x_base.specs.declared.regs.Reg.{Reg}
 use Rattle.s390x_inst.specs.declared.args.MemArg.{MemArg}
 use Rattle.s390x_inst.specs.declared.args.MemArg.TheVariants.{BXD12, BXD20, Label, Constant, Symbol}
 use Rattle.s390x_inst.specs.declared.inst.Inst.{Inst}
-use Rattle.s390x_steps.specs.Operands.{finalized, loses_base, operand_general, offset_fits}
-use Rattle.s390x_steps.specs.Ranges.{OperandInRange}
-use Rattle.s390x_steps.specs.declared.mem_inst_type.MemInstType.{MemInstType}
+use Rattle.s390x_typed_steps.specs.Operands.{finalized, loses_base, operand_general, offset_fits}
+use Rattle.s390x_typed_steps.specs.Ranges.{OperandInRange}
+use Rattle.s390x_typed_steps.specs.declared.mem_inst_type.MemInstType.{MemInstType}
 use Rattle.s390x_operations.specs.State.{Registers, Core}
-use Rattle.s390x_operations.specs.Effects.{Goes}
-use Rattle.s390x_machine.specs.Forms.{Form, Performs, instruction_form}
+use Rattle.s390x_operations.specs.Effects.{MayExecute}
+use Rattle.s390x_machine.specs.StepKinds.{StepKind, Performs, instruction_kind}
 use Rattle.s390x_machine.specs.Layout.{Layout}
-use Rattle.s390x_machine.specs.Storage.{address_of, needs_scratch}
+use Rattle.s390x_machine.specs.Storage.{operand_address, needs_scratch}
 use Rattle.s390x_machine.specs.Typed.{loosen}
 
 -- an operation may go from one core to another
-abbrev pub OperationGoes : Form → Core → Core → Type 0
-OperationGoes (Performs needs operation code) c t = Goes (operation c.registers) c t
-OperationGoes _ c t = ⊥
+abbrev pub KindMayExecute : StepKind → Core → Core → Type 0
+KindMayExecute (Performs needs operation code) c t = MayExecute (operation c.registers) c t
+KindMayExecute _ c t = ⊥
 
 -- helpers may go from one core to another, one after another, each as an instruction of its own
-abbrev pub HelpersGo : Layout → List Inst → Core → Core → Type 0
-HelpersGo L [] c t = t ≡ c
-HelpersGo L (i ∷ is) c t = (mid : Core) × OperationGoes (instruction_form L i) c mid × HelpersGo L is mid t
+abbrev pub HelpersMayExecute : Layout → List Inst → Core → Core → Type 0
+HelpersMayExecute L [] c t = t ≡ c
+HelpersMayExecute L (i ∷ is) c t = (mid : Core) × KindMayExecute (instruction_kind L i) c mid × HelpersMayExecute L is mid t
 
 -- one operand's address with some registers is another's with others
 abbrev pub IsSameAddress : Option (Registers → ℕ) → Registers → Option (Registers → ℕ) → Registers → Type 0
@@ -32,11 +32,11 @@ IsSameAddress _ r _ q = ⊥
 
 -- the symbol that an operand names stands, with its offset, at an address below 2 ^ 64
 abbrev pub HasAddress : Layout → MemArg → Type 0
-HasAddress L (Symbol name offset flags) = L.places.outside.symbol_value name offset < 2 ^ 64
+HasAddress L (Symbol name offset flags) = L.offsets.environment.symbol_value name offset < 2 ^ 64
 HasAddress L m = Unit {0}
 
 -- an operand that names a place, or has real registers and an offset of 32 bits, and whose base isn't overwritten
-pub record IsReached (L : Layout) (m : MemArg) : Type 0 where
+pub record IsAddressable (L : Layout) (m : MemArg) : Type 0 where
   pub general : IsTrue (operand_general m)
   pub fits : IsTrue (offset_fits m)
   pub kept : loses_base m ≡ false
@@ -45,7 +45,7 @@ pub record IsReached (L : Layout) (m : MemArg) : Type 0 where
 
 -- after the helpers the operand of the access has the address that the given one had before, and only `%r1` has changed, where it is needed
 abbrev pub HelpersKeep : Layout → MemInstType → MemArg → Type 0
-HelpersKeep L mi m = (c t : Core) → HelpersGo L (finalized mi m).helpers c t → IsSameAddress (address_of L (finalized mi m).operand) t.registers (address_of L m) c.registers × (v : ℕ) × (t ≡ loosen (needs_scratch mi m) v c)
+HelpersKeep L mi m = (c t : Core) → HelpersMayExecute L (finalized mi m).helpers c t → IsSameAddress (operand_address L (finalized mi m).operand) t.registers (operand_address L m) c.registers × (v : ℕ) × (t ≡ loosen (needs_scratch mi m) v c)
 
 -- rows take this index: they have one, or it is none
 abbrev pub TakesIndex : MemInstType → Reg → Type 0

@@ -7,14 +7,14 @@ use Rattle.s390x_inst.specs.Memory.{trusted}
 use Rattle.s390x_inst.specs.declared.args.MemArg.TheVariants.{Constant, Symbol}
 use Rattle.s390x_inst.specs.declared.inst.Inst.{Inst}
 use Rattle.s390x_inst.specs.declared.inst.Inst.TheVariants.{Load32, LoadAddr, Ret}
-use Rattle.s390x_steps.specs.Tree.{Tree, empty, leaf}
-use Rattle.s390x_steps.specs.Causes.{aligns_of}
-use Rattle.s390x_steps.specs.Image.{constant_place}
-use Rattle.s390x_steps.specs.Rows.{Outside}
-use Rattle.s390x_operations.specs.State.{Registers, Core, CodeImage, is_within, Lies, put}
+use Rattle.s390x_typed_steps.specs.Tree.{Tree, empty, leaf}
+use Rattle.s390x_typed_steps.specs.Causes.{aligns_of}
+use Rattle.s390x_typed_steps.specs.Image.{constant_offset}
+use Rattle.s390x_typed_steps.specs.Rows.{LinkEnvironment}
+use Rattle.s390x_operations.specs.State.{Registers, Core, CodeImage, is_within, IsLoaded, set_general}
 use Rattle.s390x_operations.specs.declared.stop.ConditionCode.TheVariants.{Code0}
-use Rattle.s390x_machine.specs.Machine.{Turn, Went, Run}
-use Rattle.s390x_machine.specs.Layout.{block_place}
+use Rattle.s390x_machine.specs.Machine.{Transition, Executed, Run}
+use Rattle.s390x_machine.specs.Layout.{block_address}
 use Rattle.s390x_machine.specs.Functions.{function_layout, StandsAsCode}
 
 -- lrl %r2, the word behind the code; larl %r3, 8192; br %r14; two bytes without use, and the word, 42: as an assembler gives them
@@ -41,12 +41,12 @@ abbrev pub trees : List Tree
 trees = leaf loads (leaf names (leaf (Ret (Real (general 14))) empty)) ∷ []
 
 -- the constant stands behind the code, and the symbol at 8192
-abbrev pub outside : Outside
-outside = record {
-  constant = constant_place trees constants;
+abbrev pub environment : LinkEnvironment
+environment = record {
+  constant = constant_offset trees constants;
   aligns = aligns_of constants;
   symbol_value = λ name offset. 8192;
-  symbol_distance = λ place name offset. (4096 - place) / 2;
+  symbol_distance = λ address name offset. (4096 - address) / 2;
 }
 
 -- `%r14` is 8192
@@ -59,20 +59,20 @@ core = record { registers = registers; memory = record { has = λ a. is_within i
 
 -- `%r2` is the constant
 abbrev pub with_constant : Core
-with_constant = record { registers = put registers 2 42; memory = core.memory }
+with_constant = record { registers = set_general registers 2 42; memory = core.memory }
 
 -- `%r3` is the symbol's address too
 abbrev pub with_both : Core
-with_both = record { registers = put with_constant.registers 3 8192; memory = core.memory }
+with_both = record { registers = set_general with_constant.registers 3 8192; memory = core.memory }
 
--- a turn without writes of others that stores nothing, after which the core and the place are these
-abbrev pub turn : Core → ℕ → Turn
-turn c place = record { writes = []; event = Went None; after = record { core = c; place = place } }
+-- a transition without writes of others that stores nothing, after which the core and the address are these
+abbrev pub transition : Core → ℕ → Transition
+transition c address = record { writes = []; event = Executed None; after = record { core = c; address = address } }
 
 -- the load, the address, and back to the caller
-abbrev pub turns : List Turn
-turns = turn with_constant 4102 ∷ turn with_both 4108 ∷ turn with_both 8192 ∷ []
+abbrev pub trace : List Transition
+trace = transition with_constant 4102 ∷ transition with_both 4108 ∷ transition with_both 8192 ∷ []
 
 -- the image is the function's code and lies in memory, and the machine runs so from the block
 abbrev pub RelativeRuns : Type 0
-RelativeRuns = StandsAsCode outside trees image × Lies image core.memory × Run image (record { core = core; place = block_place (function_layout outside trees image) 0 }) turns
+RelativeRuns = StandsAsCode environment trees image × IsLoaded image core.memory × Run image (record { core = core; address = block_address (function_layout environment trees image) 0 }) trace

@@ -8,13 +8,13 @@ use Rattle.s390x_format.specs.declared.fields.Imm.TheVariants.{Unsigned}
 use Rattle.s390x_format.specs.declared.row.MachineRow.{MachineRow}
 use Rattle.s390x_format.specs.View.{imm_class_of}
 use Rattle.s390x_format.specs.Formats.{layout_of}
-use Rattle.s390x_format.specs.Layout.{width_of}
+use Rattle.s390x_format.specs.Layout.{width_of_part}
 use Rattle.s390x_operations.specs.Numbers.{whole, low}
-use Rattle.s390x_operations.specs.Bits.{bits, IsWithin}
-use Rattle.s390x_operations.specs.State.{Registers, Core, put, put_vector, number_at, reaches}
+use Rattle.s390x_operations.specs.Bits.{bits_of_width, IsWithin}
+use Rattle.s390x_operations.specs.State.{Registers, Core, set_general, set_vector, number_at, reaches}
 use Rattle.s390x_operations.specs.Effects.{results}
 use Rattle.s390x_operations.specs.Vectors.{layout_bytes, loaded}
-use Rattle.s390x_lanes.specs.Results.{result_of}
+use Rattle.s390x_lanes.specs.Results.{vector_result}
 use Rattle.s390x_lanes.specs.Opcodes.{is_operation, is_computed, operation_of}
 use Rattle.s390x_lanes.specs.declared.operation.VectorOperation.{VectorOperation}
 use Rattle.s390x_format.specs.declared.row.Allowed.{Allowed}
@@ -25,14 +25,14 @@ use Rattle.s390x_operations.specs.declared.size.Size.{Size}
 use Rattle.s390x_operations.specs.declared.size.Size.TheVariants.{Halfword, Word, Doubleword}
 use Rattle.s390x_operations.specs.declared.size.Width.{Width}
 use Rattle.s390x_operations.specs.declared.effect.Effect.{Effect}
-use Rattle.s390x_machine.specs.Meanings.{register_field, mask_field, names_pair, meaning_of}
-use Rattle.s390x_machine.specs.declared.meaning.Shape.{Shape}
-use Rattle.s390x_machine.specs.declared.meaning.Shape.TheVariants.{ShiftedImmediate}
-use Rattle.s390x_machine.specs.declared.meaning.SecondOperand.{SecondOperand}
-use Rattle.s390x_machine.specs.declared.meaning.Meaning.{Meaning}
-use Rattle.s390x_machine.specs.declared.meaning.Meaning.TheVariants as Row
-use Rattle.s390x_machine.specs.declared.meaning.Action.{Action}
-use Rattle.s390x_machine.specs.declared.meaning.Action.TheVariants.{Perform, Branch, BranchAndSave}
+use Rattle.s390x_machine.specs.Semantics.{register_field, mask_field, names_pair, semantics_of}
+use Rattle.s390x_machine.specs.declared.semantics.OperandSource.{OperandSource}
+use Rattle.s390x_machine.specs.declared.semantics.OperandSource.TheVariants.{ShiftedImmediate}
+use Rattle.s390x_machine.specs.declared.semantics.SecondOperand.{SecondOperand}
+use Rattle.s390x_machine.specs.declared.semantics.RowSemantics.{RowSemantics}
+use Rattle.s390x_machine.specs.declared.semantics.RowSemantics.TheVariants as Row
+use Rattle.s390x_machine.specs.declared.semantics.Action.{Action}
+use Rattle.s390x_machine.specs.declared.semantics.Action.TheVariants.{Perform, Branch, BranchAndSave}
 
 -- the bytes of an access are accessible
 abbrev pub is_reached : Access → (ℕ → Bool) → Bool
@@ -57,7 +57,7 @@ IsSound (Effect.LoadAndOperate operator size target second address) = (target < 
 IsSound (Effect.CompareAndSwap size target expected replacement address) = target < 16
 IsSound (Effect.LoadMultiple first_register count address) = (first_register < 16) × (count ≤ 16)
 IsSound (Effect.StoreMultiple values count address) = count ≤ 16
-IsSound (Effect.PutAny target) = target < 16
+IsSound (Effect.Havoc target) = target < 16
 IsSound (Effect.ComputeVector operation target first second third fourth) = (target < 32) × IsTrue (is_operation operation) × IsTrue (is_computed operation)
 IsSound (Effect.PutVector target known value) = (target < 32) × (value < 2 ^ 128)
 IsSound (Effect.LoadVector layout target old known address) = target < 32
@@ -66,15 +66,15 @@ IsSound (Effect.StoreVector layout value address) = Unit {0}
 -- the registers that the step gives, of those that an effect allows: where it may choose, a general register gets 0, and the bits that
 -- aren't known are those of the value
 abbrev pub outcome : Effect → Core → Registers
-outcome (Effect.PutAny target) c = put c.registers target 0
-outcome (Effect.ComputeVector operation target first second third fourth) c = put_vector c.registers target (result_of operation first second third fourth)
-outcome (Effect.PutVector target known value) c = put_vector c.registers target value
-outcome (Effect.LoadVector layout target old known address) c = put_vector c.registers target (loaded layout old (number_at c.memory.get address (layout_bytes layout)))
+outcome (Effect.Havoc target) c = set_general c.registers target 0
+outcome (Effect.ComputeVector operation target first second third fourth) c = set_vector c.registers target (vector_result operation first second third fourth)
+outcome (Effect.PutVector target known value) c = set_vector c.registers target value
+outcome (Effect.LoadVector layout target old known address) c = set_vector c.registers target (loaded layout old (number_at c.memory.get address (layout_bytes layout)))
 outcome effect c = results effect c
 
 -- a vector register can hold it
 abbrev pub HasOutcome : Effect → Core → Type 0
-HasOutcome (Effect.ComputeVector operation target first second third fourth) c = result_of operation first second third fourth < 2 ^ 128
+HasOutcome (Effect.ComputeVector operation target first second third fourth) c = vector_result operation first second third fourth < 2 ^ 128
 HasOutcome (Effect.LoadVector layout target old known address) c = loaded layout old (number_at c.memory.get address (layout_bytes layout)) < 2 ^ 128
 HasOutcome _ c = Unit {0}
 
@@ -89,7 +89,7 @@ abbrev pub AreGeneral : Fields → Type 0
 AreGeneral f = (i : ℕ) → register_field f i < 16
 
 -- this field names a vector register, of which there are 32
-abbrev pub is_vector_field : Meaning → ℕ → Bool
+abbrev pub is_vector_field : RowSemantics → ℕ → Bool
 is_vector_field (Row.Elements opcode) i = true
 is_vector_field (Row.ShiftElements opcode) i = (i == 0) || (i == 2)
 is_vector_field (Row.LoadVector storage) i = i == 0
@@ -110,49 +110,49 @@ register_bound true = 32
 register_bound false = 16
 
 -- the numbers of registers are those of registers of their kind
-abbrev pub HasRegisters : Meaning → Fields → Type 0
-HasRegisters meaning f = (i : ℕ) → register_field f i < register_bound (is_vector_field meaning i)
+abbrev pub HasRegisters : RowSemantics → Fields → Type 0
+HasRegisters semantics f = (i : ℕ) → register_field f i < register_bound (is_vector_field semantics i)
 
 -- a pair that the row names begins at an even register
-abbrev pub IsPaired : Meaning → Fields → Type 0
-IsPaired meaning f = IsTrue (names_pair meaning) → register_field f 0 % 2 ≡ 0
+abbrev pub IsPaired : RowSemantics → Fields → Type 0
+IsPaired semantics f = IsTrue (names_pair semantics) → register_field f 0 % 2 ≡ 0
 
 -- the widths of a row's operands don't exceed its size
-abbrev pub IsMeant : Meaning → Type 0
+abbrev pub IsMeant : RowSemantics → Type 0
 IsMeant (Row.Compute operator size second rule) = IsWithin second.width size
 IsMeant (Row.Compare sign size second) = IsWithin second.width size
 IsMeant (Row.MoveWhere size second) = IsWithin second.width size
 IsMeant _ = Unit {0}
 
 -- an immediate still has 64 bits further to the left
-abbrev pub HasRoom : Shape → Fields → Type 0
-HasRoom (ShiftedImmediate n) f = (n < 64) × (low Doubleword f.imm * 2 ^ n < 2 ^ 64)
-HasRoom _ f = Unit {0}
+abbrev pub ShiftFits : OperandSource → Fields → Type 0
+ShiftFits (ShiftedImmediate n) f = (n < 64) × (low Doubleword f.imm * 2 ^ n < 2 ^ 64)
+ShiftFits _ f = Unit {0}
 
 -- the same of a row's second operand
-abbrev pub IsRoomy : Meaning → Fields → Type 0
-IsRoomy (Row.Compute operator size second rule) f = HasRoom second.shape f
-IsRoomy (Row.Compare sign size second) f = HasRoom second.shape f
-IsRoomy (Row.MoveWhere size second) f = HasRoom second.shape f
-IsRoomy (Row.Store destination) f = HasRoom destination.shape f
+abbrev pub IsRoomy : RowSemantics → Fields → Type 0
+IsRoomy (Row.Compute operator size second rule) f = ShiftFits second.operand_source f
+IsRoomy (Row.Compare sign size second) f = ShiftFits second.operand_source f
+IsRoomy (Row.MoveWhere size second) f = ShiftFits second.operand_source f
+IsRoomy (Row.Store destination) f = ShiftFits destination.operand_source f
 IsRoomy _ f = Unit {0}
 
 -- an element that goes to a general register has at most 64 bits
-abbrev pub HasElement : Meaning → Fields → Type 0
+abbrev pub HasElement : RowSemantics → Fields → Type 0
 HasElement Row.ExtractElement f = mask_field f 0 ≤ 3
 HasElement _ f = Unit {0}
 
 -- all of it, but for the pair
-pub record CanPerform (meaning : Meaning) (f : Fields) : Type 0 where
-  pub meant : IsMeant meaning
-  pub registers : HasRegisters meaning f
-  pub room : IsRoomy meaning f
-  pub element : HasElement meaning f
+pub record CanPerform (semantics : RowSemantics) (f : Fields) : Type 0 where
+  pub meant : IsMeant semantics
+  pub registers : HasRegisters semantics f
+  pub room : IsRoomy semantics f
+  pub element : HasElement semantics f
 
 -- the step can perform what a row means with these fields
-pub record FieldsFit (meaning : Meaning) (f : Fields) : Type 0 where
-  pub can : CanPerform meaning f
-  pub paired : IsPaired meaning f
+pub record FieldsFit (semantics : RowSemantics) (f : Fields) : Type 0 where
+  pub can : CanPerform semantics f
+  pub paired : IsPaired semantics f
 
 -- an operation on vectors whose result isn't computed
 abbrev pub is_uncomputed : Option VectorOperation → Bool
@@ -164,8 +164,8 @@ abbrev pub shift_amount : Fields → Registers → ℤ
 shift_amount f r = pos (based r (register_field f 1) f.disp % 64)
 
 -- the row's result is free, or a high product of 128-bit elements: the step gives none
-abbrev pub is_free : Meaning → Fields → Registers → Bool
-is_free Row.PutAny f r = true
+abbrev pub is_free : RowSemantics → Fields → Registers → Bool
+is_free Row.Havoc f r = true
 is_free (Row.Elements opcode) f r = is_uncomputed (operation_of opcode f.masks f.imm)
 is_free (Row.ShiftElements opcode) f r = is_uncomputed (operation_of opcode f.masks (shift_amount f r))
 is_free _ f r = false
@@ -173,10 +173,10 @@ is_free _ f r = false
 -- ---- tests of a row, which the table of machine rows meets
 
 -- the size has as many bits as the width or more
-abbrev pub is_within : Width → Size → Bool
-is_within width Halfword = nat_le (bits width) 16
-is_within width Word = nat_le (bits width) 32
-is_within width Doubleword = true
+abbrev pub is_no_wider : Width → Size → Bool
+is_no_wider width Halfword = nat_le (bits_of_width width) 16
+is_no_wider width Word = nat_le (bits_of_width width) 32
+is_no_wider width Doubleword = true
 
 -- the bits of an immediate are read without a sign
 abbrev pub is_unsigned : Imm → Bool
@@ -184,20 +184,20 @@ is_unsigned Unsigned = true
 is_unsigned _ = false
 
 -- an immediate of the format, so many bits further to the left, has at most 64 bits
-abbrev pub has_room : Shape → FormatKind → Bool
-has_room (ShiftedImmediate n) format = nat_lt n 64 && nat_le (n + width_of 8 (layout_of format)) 64 && is_unsigned (imm_class_of format)
+abbrev pub has_room : OperandSource → FormatKind → Bool
+has_room (ShiftedImmediate n) format = nat_lt n 64 && nat_le (n + width_of_part 8 (layout_of format)) 64 && is_unsigned (imm_class_of format)
 has_room _ format = true
 
 -- the second operand has room in the format, and its width doesn't exceed the size
 abbrev pub fits_operand : SecondOperand → Size → FormatKind → Bool
-fits_operand second size format = is_within second.width size && has_room second.shape format
+fits_operand second size format = is_no_wider second.width size && has_room second.operand_source format
 
 -- the row's second operand fits
-abbrev pub is_meant : Meaning → FormatKind → Bool
+abbrev pub is_meant : RowSemantics → FormatKind → Bool
 is_meant (Row.Compute operator size second rule) format = fits_operand second size format
 is_meant (Row.Compare sign size second) format = fits_operand second size format
 is_meant (Row.MoveWhere size second) format = fits_operand second size format
-is_meant (Row.Store destination) format = has_room destination.shape format
+is_meant (Row.Store destination) format = has_room destination.operand_source format
 is_meant _ format = true
 
 -- the first mask is at most 3
@@ -206,7 +206,7 @@ is_small (FirstMask low high) = nat_le high 3
 is_small _ = false
 
 -- the row allows no element of 128 bits where one goes to a general register
-abbrev pub has_element : Meaning → Allowed → Bool
+abbrev pub has_element : RowSemantics → Allowed → Bool
 has_element Row.ExtractElement allowed = is_small allowed
 has_element _ allowed = true
 
@@ -216,19 +216,19 @@ register_bits true = 5
 register_bits false = 4
 
 -- field i of the format has no more bits than the number of a register of its kind
-abbrev pub fits_field : Meaning → FormatKind → ℕ → Bool
-fits_field meaning format i = nat_le (width_of (suc i) (layout_of format)) (register_bits (is_vector_field meaning i))
+abbrev pub fits_field : RowSemantics → FormatKind → ℕ → Bool
+fits_field semantics format i = nat_le (width_of_part (suc i) (layout_of format)) (register_bits (is_vector_field semantics i))
 
 -- the same of all four fields
-abbrev pub has_registers : Meaning → FormatKind → Bool
-has_registers meaning format = fits_field meaning format 0 && fits_field meaning format 1 && fits_field meaning format 2 && fits_field meaning format 3
+abbrev pub has_registers : RowSemantics → FormatKind → Bool
+has_registers semantics format = fits_field semantics format 0 && fits_field semantics format 1 && fits_field semantics format 2 && fits_field semantics format 3
 
 -- the step can perform what a row means, and each row means something
-abbrev pub is_performed : Option Meaning → FormatKind → Allowed → Bool
+abbrev pub is_performed : Option RowSemantics → FormatKind → Allowed → Bool
 is_performed None format allowed = false
-is_performed (Some meaning) format allowed = is_meant meaning format && has_registers meaning format && has_element meaning allowed
+is_performed (Some semantics) format allowed = is_meant semantics format && has_registers semantics format && has_element semantics allowed
 
 -- the step can perform each row
 unfoldable pub are_performed : List MachineRow → Bool
 are_performed [] = true
-are_performed (row ∷ rows) = is_performed (meaning_of row.opcode) row.format row.allowed && are_performed rows
+are_performed (row ∷ rows) = is_performed (semantics_of row.opcode) row.format row.allowed && are_performed rows

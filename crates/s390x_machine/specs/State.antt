@@ -13,14 +13,14 @@ memory_of held byte = record { has = held; get = byte }
 abbrev pub registers_of : Machine → Registers
 registers_of m = record { general = λ i. slice_index m.regs i; vector = λ i. slice_index m.vregs i; access = λ i. slice_index m.aregs i; code = code_numbered m.cc }
 
--- all of a machine's state but the place, with a memory of these accessible addresses and bytes
+-- all of a machine's state but the address, with a memory of these accessible addresses and bytes
 abbrev pub core_of : Machine → (ℕ → Bool) → (ℕ → ℕ) → Core
 core_of m held byte = record { registers = registers_of m; memory = memory_of held byte }
 
 -- the state of a machine with a memory of these accessible addresses and bytes
 abbrev pub state_of : Machine → (ℕ → Bool) → (ℕ → ℕ) → State
-state_of m held byte = record { core = record { registers = registers_of m; memory = memory_of held byte }; place = m.place }
+state_of m held byte = record { core = record { registers = registers_of m; memory = memory_of held byte }; address = m.place }
 
 -- all zero
-abbrev pub fresh : Registers
-fresh = record { general = λ i. 0; vector = λ i. 0; access = λ i. 0; code = Code0 }
+abbrev pub fresh_registers : Registers
+fresh_registers = record { general = λ i. 0; vector = λ i. 0; access = λ i. 0; code = Code0 }

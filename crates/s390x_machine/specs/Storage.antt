@@ -12,9 +12,9 @@ use Rattle.s390x_inst.specs.declared.inst.Inst.{Inst}
 use Rattle.s390x_inst.specs.declared.inst.Inst.TheVariants.{AluRX, CmpRX, Load32, Load32ZExt8, Load32SExt8, Load32ZExt16, Load32SExt16, Load64, Load64ZExt8, Load64SExt8, Load64ZExt16, Load64SExt16, Load64ZExt32, Load64SExt32, LoadRev16, LoadRev32, LoadRev64}
 use Rattle.s390x_inst.specs.declared.inst.Inst.TheVariants.{Store8, Store16, Store32, Store64, StoreRev16, StoreRev32, StoreRev64, StoreImm8, StoreImm16, StoreImm32SExt16, StoreImm64SExt16, LoadMultiple64, StoreMultiple64, LoadAddr, AtomicRmw, AtomicCas32, AtomicCas64}
 use Rattle.s390x_lanes.specs.declared.operation.Signedness.TheVariants.{Signed, Unsigned}
-use Rattle.s390x_steps.specs.General.{low_byte, low_halfword}
-use Rattle.s390x_steps.specs.Operands.{fits_12, fits_20, is_relative}
-use Rattle.s390x_steps.specs.declared.mem_inst_type.MemInstType.{MemInstType}
+use Rattle.s390x_typed_steps.specs.General.{low_byte, low_halfword}
+use Rattle.s390x_typed_steps.specs.Operands.{fits_12, fits_20, is_relative}
+use Rattle.s390x_typed_steps.specs.declared.mem_inst_type.MemInstType.{MemInstType}
 use Rattle.s390x_operations.specs.Bits.{extended}
 use Rattle.s390x_operations.specs.State.{Registers}
 use Rattle.s390x_operations.specs.Values.{ordered}
@@ -31,22 +31,22 @@ use Rattle.s390x_operations.specs.declared.effect.Effect.TheVariants.{Compute, C
 use Rattle.s390x_operations.specs.declared.effect.CodeRule.{CodeRule}
 use Rattle.s390x_operations.specs.declared.effect.CodeRule.TheVariants.{Kept, Set}
 use Rattle.s390x_operations.specs.declared.effect.Operation.{Operation}
-use Rattle.s390x_machine.specs.Computations.{Second, word, signed_word, signed_halfword, halfword, doubleword, Computation, alu_computation, alu_two_rule, Comparison, comparison, with_rule, operand_of}
-use Rattle.s390x_machine.specs.Layout.{Layout, block_place, constant_place}
+use Rattle.s390x_machine.specs.Computations.{Second, unsigned_word, signed_word, signed_halfword, unsigned_halfword, doubleword, Computation, alu_computation, alu_two_rule, Comparison, comparison, with_rule, operand_of}
+use Rattle.s390x_machine.specs.Layout.{Layout, block_address, constant_address}
 use Rattle.s390x_machine.specs.Operands.{value_in, based, indexed, values_from}
 
 -- ---- addresses
 
 -- The address of an operand at a step: base plus index plus displacement, a register plus an offset, or where a block, a constant or a symbol plus an
 -- offset stands. A step has no frame operands
-abbrev pub address_of : Layout → MemArg → Option (Registers → ℕ)
-address_of L (BXD12 base index disp flags) = Some (λ r. indexed r (number_of base) (number_of index) (pos disp))
-address_of L (BXD20 base index disp flags) = Some (λ r. indexed r (number_of base) (number_of index) disp)
-address_of L (RegOffset reg off flags) = Some (λ r. based r (number_of reg) off)
-address_of L (Label target) = Some (λ r. block_place L target.0)
-address_of L (Constant constant) = Some (λ r. constant_place L constant.0)
-address_of L (Symbol name offset flags) = Some (λ r. L.places.outside.symbol_value name offset)
-address_of L _ = None
+abbrev pub operand_address : Layout → MemArg → Option (Registers → ℕ)
+operand_address L (BXD12 base index disp flags) = Some (λ r. indexed r (number_of base) (number_of index) (pos disp))
+operand_address L (BXD20 base index disp flags) = Some (λ r. indexed r (number_of base) (number_of index) disp)
+operand_address L (RegOffset reg off flags) = Some (λ r. based r (number_of reg) off)
+operand_address L (Label target) = Some (λ r. block_address L target.0)
+operand_address L (Constant constant) = Some (λ r. constant_address L constant.0)
+operand_address L (Symbol name offset flags) = Some (λ r. L.offsets.environment.symbol_value name offset)
+operand_address L _ = None
 
 -- the right halves of registers
 abbrev pub is_word : Size → Bool
@@ -201,25 +201,25 @@ takes_address mem operation =
 abbrev pub operand_step : Inst → Option OperandStep
 operand_step (AluRX op rd ri mem) = accesses_at (alu_forms op) mem (computes_at (alu_two_rule op) (alu_computation op) (number_of rd))
 operand_step (CmpRX op rn mem) = accesses_at (cmp_forms op) mem (compares_at (comparison op) (number_of rn))
-operand_step (Load32 rd mem) = accesses_at (indexed_forms true true true) mem (loads_at Word word (number_of rd))
+operand_step (Load32 rd mem) = accesses_at (indexed_forms true true true) mem (loads_at Word unsigned_word (number_of rd))
 operand_step (Load32ZExt8 rd mem) = accesses_at (indexed_forms false true false) mem (loads_at Word byte (number_of rd))
 operand_step (Load32SExt8 rd mem) = accesses_at (indexed_forms false true false) mem (loads_at Word signed_byte (number_of rd))
-operand_step (Load32ZExt16 rd mem) = accesses_at (indexed_forms false true true) mem (loads_at Word halfword (number_of rd))
+operand_step (Load32ZExt16 rd mem) = accesses_at (indexed_forms false true true) mem (loads_at Word unsigned_halfword (number_of rd))
 operand_step (Load32SExt16 rd mem) = accesses_at (indexed_forms true true true) mem (loads_at Word signed_halfword (number_of rd))
 operand_step (Load64 rd mem) = accesses_at (indexed_forms false true true) mem (loads_at Doubleword doubleword (number_of rd))
 operand_step (Load64ZExt8 rd mem) = accesses_at (indexed_forms false true false) mem (loads_at Doubleword byte (number_of rd))
 operand_step (Load64SExt8 rd mem) = accesses_at (indexed_forms false true false) mem (loads_at Doubleword signed_byte (number_of rd))
-operand_step (Load64ZExt16 rd mem) = accesses_at (indexed_forms false true true) mem (loads_at Doubleword halfword (number_of rd))
+operand_step (Load64ZExt16 rd mem) = accesses_at (indexed_forms false true true) mem (loads_at Doubleword unsigned_halfword (number_of rd))
 operand_step (Load64SExt16 rd mem) = accesses_at (indexed_forms false true true) mem (loads_at Doubleword signed_halfword (number_of rd))
-operand_step (Load64ZExt32 rd mem) = accesses_at (indexed_forms false true true) mem (loads_at Doubleword word (number_of rd))
+operand_step (Load64ZExt32 rd mem) = accesses_at (indexed_forms false true true) mem (loads_at Doubleword unsigned_word (number_of rd))
 operand_step (Load64SExt32 rd mem) = accesses_at (indexed_forms false true true) mem (loads_at Doubleword signed_word (number_of rd))
 operand_step (LoadRev16 rd mem) = accesses_at (indexed_forms false true false) mem (loads_at Halfword (reversed_bytes Bits16) (number_of rd))
 operand_step (LoadRev32 rd mem) = accesses_at (indexed_forms false true false) mem (loads_at Word (reversed_bytes Bits32) (number_of rd))
 operand_step (LoadRev64 rd mem) = accesses_at (indexed_forms false true false) mem (loads_at Doubleword (reversed_bytes Bits64) (number_of rd))
 operand_step (LoadAddr rd mem) = takes_address mem (loads_address (number_of rd))
 operand_step (Store8 rd mem) = accesses_at (indexed_forms true true false) mem (stores_at byte (number_of rd))
-operand_step (Store16 rd mem) = accesses_at (indexed_forms true true true) mem (stores_at halfword (number_of rd))
-operand_step (Store32 rd mem) = accesses_at (indexed_forms true true true) mem (stores_at word (number_of rd))
+operand_step (Store16 rd mem) = accesses_at (indexed_forms true true true) mem (stores_at unsigned_halfword (number_of rd))
+operand_step (Store32 rd mem) = accesses_at (indexed_forms true true true) mem (stores_at unsigned_word (number_of rd))
 operand_step (Store64 rd mem) = accesses_at (indexed_forms false true true) mem (stores_at doubleword (number_of rd))
 operand_step (StoreRev16 rd mem) = accesses_at (indexed_forms false true false) mem (stores_at (reversed_bytes Bits16) (number_of rd))
 operand_step (StoreRev32 rd mem) = accesses_at (indexed_forms false true false) mem (stores_at (reversed_bytes Bits32) (number_of rd))

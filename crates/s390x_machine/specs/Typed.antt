@@ -2,15 +2,15 @@
 use Rattle.std.specs.Prelude.{◌≡◌, ℕ, suc, ◌/◌, ◌%◌, List, Option, Some, None, Bool, true, false, ◌==◌, if◌then◌else◌, slice_get, IsTrue}
 use Rattle.s390x_base.specs.declared.ir.MachLabel.{MachLabel}
 use Rattle.s390x_base.specs.declared.trap.TrapKind.{TrapKind}
-use Rattle.s390x_steps.specs.Steps.{Step}
-use Rattle.s390x_operations.specs.State.{Registers, Core, put, coded, CodeImage, Deposit}
-use Rattle.s390x_operations.specs.Access.{deposit, fault, stores_into}
-use Rattle.s390x_operations.specs.Effects.{access, is_selected, Goes, Stops}
+use Rattle.s390x_typed_steps.specs.Steps.{Step}
+use Rattle.s390x_operations.specs.State.{Registers, Core, set_general, with_code, CodeImage, StoreEvent}
+use Rattle.s390x_operations.specs.Access.{store_event, fault, stores_into}
+use Rattle.s390x_operations.specs.Effects.{access, is_selected, MayExecute, MayInterrupt}
 use Rattle.s390x_operations.specs.declared.stop.StopKind.{StopKind}
 use Rattle.s390x_operations.specs.declared.stop.ConditionCode.{ConditionCode}
 use Rattle.s390x_operations.specs.declared.effect.Operation.{Operation}
-use Rattle.s390x_machine.specs.Layout.{Layout, place, block_place}
-use Rattle.s390x_machine.specs.Forms.{Form, Performs, GoesTo, Chooses, GoesByAddress, Leads, GoesByTable, PerformsWhere, Returns, Calls, TailCalls, TrapsAlways, TrapsWhere, DebugStops, Silent, Unbuilt, form}
+use Rattle.s390x_machine.specs.Layout.{Layout, step_address, block_address}
+use Rattle.s390x_machine.specs.StepKinds.{StepKind, Performs, GoesTo, Chooses, GoesByAddress, Leads, GoesByTable, PerformsWhere, Returns, Calls, TailCalls, TrapsAlways, TrapsWhere, DebugStops, Silent, Unsupported, step_kind}
 
 -- how a run ends
 pub data Ending : Type 0 where
@@ -28,7 +28,7 @@ pub data Position : Type 0 where
 -- `%r1` may have any value where it is needed
 abbrev pub loosened : Bool → ℕ → Registers → Registers
 loosened false v r = r
-loosened true v r = put r 1 v
+loosened true v r = set_general r 1 v
 
 -- a core whose `%r1` may have any value where it is needed
 abbrev pub loosen : Bool → ℕ → Core → Core
@@ -36,8 +36,8 @@ loosen needs v c = record { registers = loosened needs v c.registers; memory = c
 
 -- an operation goes on to the next step, or it stops and ends by a trap with its code; a trap changes nothing but a needed `%r1`
 pub data OperationStep (needs : Bool) (op : Operation) (code : StopKind → Option TrapKind) (k : ℕ) (c : Core) (position : Position) (t : Core) : Type 0 where
-  goes_on : (v : ℕ) → Goes op (loosen needs v c) t → position ≡ At (suc k) → OperationStep needs op code k c position t
-  traps : (v : ℕ) (kind : StopKind) (n : TrapKind) → Stops op c.memory.has kind → code kind ≡ Some n → t ≡ loosen needs v c → position ≡ Ended (Trapped n) → OperationStep needs op code k c position t
+  goes_on : (v : ℕ) → MayExecute op (loosen needs v c) t → position ≡ At (suc k) → OperationStep needs op code k c position t
+  traps : (v : ℕ) (kind : StopKind) (n : TrapKind) → MayInterrupt op c.memory.has kind → code kind ≡ Some n → t ≡ loosen needs v c → position ≡ Ended (Trapped n) → OperationStep needs op code k c position t
 
 -- a listed block whose address this is
 pub record IsTarget (L : Layout) (targets : List MachLabel) (held b : ℕ) : Type 0 where
@@ -45,7 +45,7 @@ pub record IsTarget (L : Layout) (targets : List MachLabel) (held b : ℕ) : Typ
   pub label : MachLabel
   pub listed : slice_get targets index ≡ Some label
   pub number : label.0 ≡ b
-  pub address : held ≡ block_place L b
+  pub address : held ≡ block_address L b
 
 -- the j of a table index 4j, where there is a target j
 abbrev pub table_target : ℕ → List MachLabel → Option MachLabel
@@ -56,46 +56,46 @@ abbrev pub TableStep : Layout → Bool → Option MachLabel → (other : ℕ) �
 TableStep L true o other c position t = (v : ℕ) × (position ≡ At (L.first_step other)) × (t ≡ loosen true v c)
 TableStep L false None other c position t = ⊥
 TableStep L false (Some l) other c position t =
-    (v : ℕ) × (code : ConditionCode) × (position ≡ At (L.first_step l.0)) × (t ≡ record { registers = coded code (put c.registers 1 v); memory = c.memory })
+    (v : ℕ) × (code : ConditionCode) × (position ≡ At (L.first_step l.0)) × (t ≡ record { registers = with_code code (set_general c.registers 1 v); memory = c.memory })
 
 -- an operation under a mask is done where the mask selects the code; else nothing changes
 abbrev pub WhereStep : Bool → Operation → ℕ → Core → Position → Core → Type 0
-WhereStep true op k c position t = (position ≡ At (suc k)) × Goes op c t
+WhereStep true op k c position t = (position ≡ At (suc k)) × MayExecute op c t
 WhereStep false op k c position t = (position ≡ At (suc k)) × (t ≡ c)
 
--- a step of number k of a form
-abbrev pub FormStep : Layout → Option Form → ℕ → Core → Position → Core → Type 0
-FormStep L None k c position t = ⊥
-FormStep L (Some (Performs needs operation code)) k c position t = OperationStep needs (operation c.registers) code k c position t
-FormStep L (Some (GoesTo b)) k c position t = (position ≡ At (L.first_step b)) × (t ≡ c)
-FormStep L (Some (Chooses mask a b)) k c position t = (position ≡ At (if is_selected mask c.registers.code then L.first_step a else L.first_step b)) × (t ≡ c)
-FormStep L (Some (GoesByAddress r targets)) k c position t = (b : ℕ) × IsTarget L targets (c.registers.general r) b × (position ≡ At (L.first_step b)) × (t ≡ c)
-FormStep L (Some (Leads mask j)) k c position t = (position ≡ (if is_selected mask c.registers.code then At j else At (suc k))) × (t ≡ c)
-FormStep L (Some (GoesByTable index mask other targets)) k c position t =
+-- a step of number k of a kind
+abbrev pub KindStep : Layout → Option StepKind → ℕ → Core → Position → Core → Type 0
+KindStep L None k c position t = ⊥
+KindStep L (Some (Performs needs operation code)) k c position t = OperationStep needs (operation c.registers) code k c position t
+KindStep L (Some (GoesTo b)) k c position t = (position ≡ At (L.first_step b)) × (t ≡ c)
+KindStep L (Some (Chooses mask a b)) k c position t = (position ≡ At (if is_selected mask c.registers.code then L.first_step a else L.first_step b)) × (t ≡ c)
+KindStep L (Some (GoesByAddress r targets)) k c position t = (b : ℕ) × IsTarget L targets (c.registers.general r) b × (position ≡ At (L.first_step b)) × (t ≡ c)
+KindStep L (Some (Leads mask j)) k c position t = (position ≡ (if is_selected mask c.registers.code then At j else At (suc k))) × (t ≡ c)
+KindStep L (Some (GoesByTable index mask other targets)) k c position t =
     TableStep L (is_selected mask c.registers.code) (table_target (c.registers.general index) targets) other c position t
-FormStep L (Some (PerformsWhere mask operation)) k c position t = WhereStep (is_selected mask c.registers.code) (operation c.registers) k c position t
-FormStep L (Some (Returns r)) k c position t = (position ≡ Ended (Returned (c.registers.general r))) × (t ≡ c)
-FormStep L (Some (Calls link target)) k c position t =
-    (position ≡ Ended (Called (target c.registers))) × (t ≡ record { registers = put c.registers link (place L (suc k)); memory = c.memory })
-FormStep L (Some (TailCalls target)) k c position t = (position ≡ Ended (TailCalled (target c.registers))) × (t ≡ c)
-FormStep L (Some (TrapsAlways code)) k c position t = (position ≡ Ended (Trapped code)) × (t ≡ c)
-FormStep L (Some (TrapsWhere mask code)) k c position t = (position ≡ (if is_selected mask c.registers.code then Ended (Trapped code) else At (suc k))) × (t ≡ c)
-FormStep L (Some DebugStops) k c position t = (position ≡ Ended DebugStopped) × (t ≡ c)
-FormStep L (Some Silent) k c position t = (position ≡ At (suc k)) × (t ≡ c)
-FormStep L (Some Unbuilt) k c position t = ⊥
+KindStep L (Some (PerformsWhere mask operation)) k c position t = WhereStep (is_selected mask c.registers.code) (operation c.registers) k c position t
+KindStep L (Some (Returns r)) k c position t = (position ≡ Ended (Returned (c.registers.general r))) × (t ≡ c)
+KindStep L (Some (Calls link target)) k c position t =
+    (position ≡ Ended (Called (target c.registers))) × (t ≡ record { registers = set_general c.registers link (step_address L (suc k)); memory = c.memory })
+KindStep L (Some (TailCalls target)) k c position t = (position ≡ Ended (TailCalled (target c.registers))) × (t ≡ c)
+KindStep L (Some (TrapsAlways code)) k c position t = (position ≡ Ended (Trapped code)) × (t ≡ c)
+KindStep L (Some (TrapsWhere mask code)) k c position t = (position ≡ (if is_selected mask c.registers.code then Ended (Trapped code) else At (suc k))) × (t ≡ c)
+KindStep L (Some DebugStops) k c position t = (position ≡ Ended DebugStopped) × (t ≡ c)
+KindStep L (Some Silent) k c position t = (position ≡ At (suc k)) × (t ≡ c)
+KindStep L (Some Unsupported) k c position t = ⊥
 
--- the form of a step, if there is one
-abbrev pub form_of : Layout → Option Step → Option Form
-form_of L None = None
-form_of L (Some s) = Some (form L s)
+-- the kind of a step, if there is one
+abbrev pub kind_of_step : Layout → Option Step → Option StepKind
+kind_of_step L None = None
+kind_of_step L (Some s) = Some (step_kind L s)
 
--- the form of step k; none past the last step
-abbrev pub form_at : Layout → ℕ → Option Form
-form_at L k = form_of L (slice_get L.steps k)
+-- the kind of step k; none past the last step
+abbrev pub kind_at : Layout → ℕ → Option StepKind
+kind_at L k = kind_of_step L (slice_get L.steps k)
 
 -- step k may go from this core to this position and core
 abbrev pub TypedStep : Layout → ℕ → Core → Position → Core → Type 0
-TypedStep L k c position t = FormStep L (form_at L k) k c position t
+TypedStep L k c position t = KindStep L (kind_at L k) k c position t
 
 -- a fault of an access that has no code; or a store, or a locked access, whose operand has a byte of the image
 pub data OperationWrong (image : CodeImage) (op : Operation) (code : StopKind → Option TrapKind) (c : Core) : Type 0 where
@@ -109,22 +109,22 @@ TableWrong false None = Unit {0}
 TableWrong false (Some l) = ⊥
 
 -- past the last step; at an address or an index of no target; at a wrong operation
-abbrev pub FormWrong : Layout → Option Form → Core → Type 0
-FormWrong L None c = Unit {0}
-FormWrong L (Some (Performs needs operation code)) c = OperationWrong L.image (operation c.registers) code c
-FormWrong L (Some (GoesByAddress r targets)) c = (b : ℕ) → IsTarget L targets (c.registers.general r) b → ⊥
-FormWrong L (Some (GoesByTable index mask other targets)) c = TableWrong (is_selected mask c.registers.code) (table_target (c.registers.general index) targets)
-FormWrong L (Some _) c = ⊥
+abbrev pub KindWrong : Layout → Option StepKind → Core → Type 0
+KindWrong L None c = Unit {0}
+KindWrong L (Some (Performs needs operation code)) c = OperationWrong L.image (operation c.registers) code c
+KindWrong L (Some (GoesByAddress r targets)) c = (b : ℕ) → IsTarget L targets (c.registers.general r) b → ⊥
+KindWrong L (Some (GoesByTable index mask other targets)) c = TableWrong (is_selected mask c.registers.code) (table_target (c.registers.general index) targets)
+KindWrong L (Some _) c = ⊥
 
 -- step k is wrong at this core
 abbrev pub Wrong : Layout → ℕ → Core → Type 0
-Wrong L k c = FormWrong L (form_at L k) c
+Wrong L k c = KindWrong L (kind_at L k) c
 
 -- what a typed step stores
-abbrev pub form_deposit : Option Form → Core → Option Deposit
-form_deposit (Some (Performs needs operation code)) c = deposit (access (operation c.registers).effect) c.memory
-form_deposit _ c = None
+abbrev pub store_event_of_kind : Option StepKind → Core → Option StoreEvent
+store_event_of_kind (Some (Performs needs operation code)) c = store_event (access (operation c.registers).effect) c.memory
+store_event_of_kind _ c = None
 
 -- what step k stores, from this core
-abbrev pub typed_deposit : Layout → ℕ → Core → Option Deposit
-typed_deposit L k c = form_deposit (form_at L k) c
+abbrev pub typed_store_event : Layout → ℕ → Core → Option StoreEvent
+typed_store_event L k c = store_event_of_kind (kind_at L k) c

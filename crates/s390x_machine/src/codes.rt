@@ -1,7 +1,7 @@
 //! The code of a stop.
 
 ghost use Rattle.std.specs.Prelude.{◌≡◌, ◌<◌, length};
-ghost use Rattle.s390x_steps.specs.Traps.{first_code as first_code_of};
+ghost use Rattle.s390x_typed_steps.specs.Traps.{first_code as first_code_of};
 ghost use Rattle.s390x_machine.specs.Codes.{code_offset, trap_code_at};
 
 use s390x_base::TrapCode;

@@ -3,12 +3,12 @@
 ghost use Rattle.std.specs.Prelude.{◌≡◌, ◌<◌, ◌*◌, ◌^◌, false};
 ghost use Rattle.s390x_operations.specs.Numbers.{whole, low};
 ghost use Rattle.s390x_machine.specs.Operands.{value_in, address_part, based};
-ghost use Rattle.s390x_machine.specs.Meanings.{register_field, indexed_address, relative_address, first_register, source, operand, performs};
+ghost use Rattle.s390x_machine.specs.Semantics.{register_field, indexed_address, relative_address, first_register, source, operand, performs};
 ghost use Rattle.s390x_machine.specs.State.{registers_of};
-ghost use Rattle.s390x_machine.specs.Sound.{AreGeneral, HasRoom};
+ghost use Rattle.s390x_machine.specs.Sound.{AreGeneral, ShiftFits};
 
 use crate::machine::Machine;
-use crate::meaning::{Action, SecondOperand, Shape};
+use crate::semantics::{Action, OperandSource, SecondOperand};
 use s390x_format::Fields;
 use s390x_lanes::operation::Signedness;
 use s390x_operations::signed::low;
@@ -76,15 +76,15 @@ pub fn immediate(fields: &Fields) -> u64
 }
 
 /// The first operand's register.
-pub fn first_register(shape: Shape, fields: &Fields) -> u8
+pub fn first_register(operand_source: OperandSource, fields: &Fields) -> u8
     requires { AreGeneral fields.now }
-    ensures value { result ≡ first_register shape fields.now }
+    ensures value { result ≡ first_register operand_source fields.now }
     ensures there { result < 16 }
 {
-    match shape {
-        Shape::ThreeRegisters => fields.regs[1],
-        Shape::ThreeImmediate => fields.regs[1],
-        Shape::Amount => fields.regs[1],
+    match operand_source {
+        OperandSource::ThreeRegisters => fields.regs[1],
+        OperandSource::ThreeImmediate => fields.regs[1],
+        OperandSource::Amount => fields.regs[1],
         _ => fields.regs[0],
     }
 }
@@ -99,34 +99,36 @@ fn shifted_immediate(fields: &Fields, n: u8) -> u64
 }
 
 /// The second operand's value, or its address where it is in memory.
-pub fn source(machine: &Machine, shape: Shape, fields: &Fields) -> Source
+pub fn source(machine: &Machine, operand_source: OperandSource, fields: &Fields) -> Source
     requires general { AreGeneral fields.now }
-    requires room { HasRoom shape fields.now }
-    ensures { result ≡ source shape fields.now (registers_of machine.now) machine.now.place }
+    requires room { ShiftFits operand_source fields.now }
+    ensures { result ≡ source operand_source fields.now (registers_of machine.now) machine.now.place }
 {
-    match shape {
-        Shape::Register => Source::Value(machine.general(fields.regs[1])),
-        Shape::ThreeRegisters => Source::Value(machine.general(fields.regs[2])),
-        Shape::Indexed => Source::Memory(indexed_address(machine, fields)),
-        Shape::IndexedAddress => Source::Value(indexed_address(machine, fields)),
-        Shape::Relative => Source::AlignedMemory(relative_address(machine, fields)),
-        Shape::RelativeAddress => Source::Value(relative_address(machine, fields)),
-        Shape::Immediate => Source::Value(immediate(fields)),
-        Shape::ThreeImmediate => Source::Value(immediate(fields)),
-        Shape::ShiftedImmediate(n) => Source::Value(shifted_immediate(fields, n)),
-        Shape::Amount => Source::Value(based(machine, fields.regs[2], fields.disp)),
-        Shape::AccessRegister => Source::Value(machine.aregs[fields.regs[1] as usize] as u64),
+    match operand_source {
+        OperandSource::Register => Source::Value(machine.general(fields.regs[1])),
+        OperandSource::ThreeRegisters => Source::Value(machine.general(fields.regs[2])),
+        OperandSource::Indexed => Source::Memory(indexed_address(machine, fields)),
+        OperandSource::IndexedAddress => Source::Value(indexed_address(machine, fields)),
+        OperandSource::Relative => Source::AlignedMemory(relative_address(machine, fields)),
+        OperandSource::RelativeAddress => Source::Value(relative_address(machine, fields)),
+        OperandSource::Immediate => Source::Value(immediate(fields)),
+        OperandSource::ThreeImmediate => Source::Value(immediate(fields)),
+        OperandSource::ShiftedImmediate(n) => Source::Value(shifted_immediate(fields, n)),
+        OperandSource::Amount => Source::Value(based(machine, fields.regs[2], fields.disp)),
+        OperandSource::AccessRegister => Source::Value(
+            machine.aregs[fields.regs[1] as usize] as u64,
+        ),
     }
 }
 
 /// The second operand, and how it is read.
 pub fn operand(machine: &Machine, second: SecondOperand, fields: &Fields) -> Operand
     requires general { AreGeneral fields.now }
-    requires room { HasRoom second.shape fields.now }
+    requires room { ShiftFits second.operand_source fields.now }
     ensures { result ≡ operand second fields.now (registers_of machine.now) machine.now.place }
 {
     Operand {
-        source: source(machine, second.shape, fields),
+        source: source(machine, second.operand_source, fields),
         width: second.width,
         sign: second.sign,
         reversed: second.reversed,

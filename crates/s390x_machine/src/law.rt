@@ -1,18 +1,18 @@
 //! The laws of the typed steps and the machine.
 ghost use Rattle.std.specs.Prelude.{◌≡◌, ℕ, List, length, Option, Some, None, is_some, true, IsTrue, slice_get};
 ghost use Rattle.s390x_inst.specs.declared.state.IsaFlags.{IsaFlags};
-ghost use Rattle.s390x_steps.specs.Rows.{Outside};
-ghost use Rattle.s390x_steps.specs.Tree.{Tree};
+ghost use Rattle.s390x_typed_steps.specs.Rows.{LinkEnvironment};
+ghost use Rattle.s390x_typed_steps.specs.Tree.{Tree};
 ghost use Rattle.s390x_machine.specs.Functions.{function_layout, StandsAsCode};
-ghost use Rattle.s390x_steps.specs.Causes.{blocks_cause};
-ghost use Rattle.s390x_steps.specs.Ranges.{OperandInRange, BlocksInRange};
-ghost use Rattle.s390x_steps.specs.Steps.{Step, function_steps};
+ghost use Rattle.s390x_typed_steps.specs.Causes.{blocks_cause};
+ghost use Rattle.s390x_typed_steps.specs.Ranges.{OperandInRange, BlocksInRange};
+ghost use Rattle.s390x_typed_steps.specs.Steps.{Step, function_steps};
 ghost use Rattle.s390x_machine.specs.Layout.{Layout};
-ghost use Rattle.s390x_machine.specs.Placed.{AllPlaced, IsBlock, IsFine, IsFineMemory, FineMemoryOr};
+ghost use Rattle.s390x_machine.specs.CodeAt.{AllCodeAt, IsBlock, IsValidStep, IsValidMemory, ValidMemoryOr};
 ghost use Rattle.s390x_machine.specs.Match.{EveryRun, EveryBlockRun};
 ghost use Rattle.s390x_machine.specs.OneStep.{StepRuns, StepHolds};
 ghost use Rattle.s390x_machine.specs.Fetch.{Fetched, Fetches};
-ghost use Rattle.s390x_machine.specs.Meanings.{meaning_of};
+ghost use Rattle.s390x_machine.specs.Semantics.{semantics_of};
 ghost use Rattle.s390x_format.specs.Fetch.{IsFetch};
 ghost use Rattle.s390x_format.specs.declared.decoder.Decoded.{Decoded};
 ghost use Rattle.s390x_operations.specs.State.{CodeImage, Memory};
@@ -20,44 +20,44 @@ ghost use Rattle.s390x_machine.specs.Example.{LoopRuns};
 ghost use Rattle.s390x_machine.specs.RelativeExample.{RelativeRuns};
 ghost use Rattle.s390x_inst.specs.declared.args.MemArg.{MemArg};
 ghost use Rattle.s390x_inst.specs.declared.inst.Inst.{Inst};
-ghost use Rattle.s390x_steps.specs.Causes.{is_helped, boundary};
-ghost use Rattle.s390x_steps.specs.Operands.{finalized, has_form, operand_general, offset_fits};
-ghost use Rattle.s390x_steps.specs.declared.mem_inst_type.MemInstType.{MemInstType};
-ghost use Rattle.s390x_machine.specs.Storage.{address_of, needs_scratch, operand_step};
+ghost use Rattle.s390x_typed_steps.specs.Causes.{is_helped, boundary};
+ghost use Rattle.s390x_typed_steps.specs.Operands.{finalized, has_form, operand_general, offset_fits};
+ghost use Rattle.s390x_typed_steps.specs.declared.mem_inst_type.MemInstType.{MemInstType};
+ghost use Rattle.s390x_machine.specs.Storage.{operand_address, needs_scratch, operand_step};
 ghost use Rattle.s390x_machine.specs.Aligned.{IsOwn, OwnOperand, IsOnBoundary, relative_row_of, StepAccesses, NeverMisaligned};
-ghost use Rattle.s390x_machine.specs.Forms.{performed_in_memory};
-ghost use Rattle.s390x_steps.specs.Memory.{MemoryInstruction, memory};
-ghost use Rattle.s390x_steps.specs.Storage.{relative_bytes};
-ghost use Rattle.s390x_machine.specs.Helpers.{IsReached, HelpersKeep, TakesOperand};
+ghost use Rattle.s390x_machine.specs.StepKinds.{performed_in_memory};
+ghost use Rattle.s390x_typed_steps.specs.Memory.{MemoryInstruction, memory};
+ghost use Rattle.s390x_typed_steps.specs.Storage.{relative_bytes};
+ghost use Rattle.s390x_machine.specs.Helpers.{IsAddressable, HelpersKeep, TakesOperand};
 
-/// Wherever a step's bytes lie in an image at their place, every machine run from there is allowed by at most that step, or begins with a group of turns that is that step.
+/// Wherever a step's bytes lie in an image at their address, every machine run from there is allowed by at most that step, or begins with a group of transitions that is that step.
 pub fn each_step()
-    ensures { (L : Layout) → AllPlaced L → (k : ℕ) (s : Step) → slice_get L.steps k ≡ Some s → StepHolds L k }
+    ensures { (L : Layout) → AllCodeAt L → (k : ℕ) (s : Step) → slice_get L.steps k ≡ Some s → StepHolds L k }
 {}
 
 /// The same with all that the step stores and every stop told.
 pub fn each_step_tells()
-    ensures { (L : Layout) → AllPlaced L → (k : ℕ) (s : Step) → slice_get L.steps k ≡ Some s → StepRuns L k }
+    ensures { (L : Layout) → AllCodeAt L → (k : ℕ) (s : Step) → slice_get L.steps k ≡ Some s → StepRuns L k }
 {}
 
 /// Where an image begins with a function's code, and emission lets each step pass, the premises hold of the function's layout.
 pub fn code_is_placed()
-    ensures { (outside : Outside) (ts : List Tree) (image : CodeImage) → StandsAsCode outside ts image → AllPlaced (function_layout outside ts image) }
+    ensures { (environment : LinkEnvironment) (ts : List Tree) (image : CodeImage) → StandsAsCode environment ts image → AllCodeAt (function_layout environment ts image) }
 {}
 
 /// Emission lets each step pass of a function that has no cause of refusal, with n labels in use.
-pub fn checked_steps_are_fine()
-    ensures { (flags : IsaFlags) (outside : Outside) (ts : List Tree) (n : ℕ) (image : CodeImage) → blocks_cause flags (record { blocks = length ts; aligns = outside.aligns }) n ts ≡ None → BlocksInRange ts → (k : ℕ) (s : Step) → slice_get (function_steps ts) k ≡ Some s → IsFine (function_layout outside ts image) s }
+pub fn checked_steps_are_valid()
+    ensures { (flags : IsaFlags) (environment : LinkEnvironment) (ts : List Tree) (n : ℕ) (image : CodeImage) → blocks_cause flags (record { blocks = length ts; aligns = environment.aligns }) n ts ≡ None → BlocksInRange ts → (k : ℕ) (s : Step) → slice_get (function_steps ts) k ≡ Some s → IsValidStep (function_layout environment ts image) s }
 {}
 
 /// Every machine run from a step's place, in every state in which the image lies in memory and under every list of others' writes, is allowed by the typed steps.
 pub fn every_run()
-    ensures { (L : Layout) → AllPlaced L → (k : ℕ) → EveryRun L k }
+    ensures { (L : Layout) → AllCodeAt L → (k : ℕ) → EveryRun L k }
 {}
 
 /// The same from the start of each block.
 pub fn every_block_run()
-    ensures { (L : Layout) → AllPlaced L → (b : ℕ) → IsBlock L b → EveryBlockRun L b }
+    ensures { (L : Layout) → AllCodeAt L → (b : ℕ) → IsBlock L b → EveryBlockRun L b }
 {}
 
 /// What stands at a place is one thing: no bytes belong to two machine rows.
@@ -66,8 +66,8 @@ pub fn one_instruction()
 {}
 
 /// Each row of the table has a meaning.
-pub fn each_row_has_a_meaning()
-    ensures { (bytes : List ℕ) (d : Decoded) → IsFetch bytes d → is_some (meaning_of d.row.opcode) ≡ true }
+pub fn each_row_has_semantics()
+    ensures { (bytes : List ℕ) (d : Decoded) → IsFetch bytes d → is_some (semantics_of d.row.opcode) ≡ true }
 {}
 
 /// The premises can be met: the code of a function of two blocks in memory, and a run of it that goes round a loop, leaves it and returns.
@@ -87,7 +87,7 @@ pub fn helpers_where_needed()
 
 /// Helpers change nothing but `%r1`, and behind them the operand of the access has the address that the given one had before them.
 pub fn helpers_keep_the_address()
-    ensures { (L : Layout) (mi : MemInstType) (m : MemArg) → IsReached L m → HelpersKeep L mi m }
+    ensures { (L : Layout) (mi : MemInstType) (m : MemArg) → IsAddressable L m → HelpersKeep L mi m }
 {}
 
 /// Where the rows have a form for an operand, the one that stands in the access is of a form that they take, and its displacement lies in its range.
@@ -97,7 +97,7 @@ pub fn access_takes_its_operand()
 
 /// A block or a constant that an instruction names relative to itself stands on the boundary that emission asks of it.
 pub fn relative_accesses_are_aligned()
-    ensures { (L : Layout) → AllPlaced L → (x : MemoryInstruction) → IsFineMemory L x → IsOwn x.operand → IsOnBoundary (address_of L x.operand) (boundary x) }
+    ensures { (L : Layout) → AllCodeAt L → (x : MemoryInstruction) → IsValidMemory L x → IsOwn x.operand → IsOnBoundary (operand_address L x.operand) (boundary x) }
 {}
 
 /// An access that has a row relative to the instruction reads or stores as many bytes as are told of that row's opcode.
@@ -107,5 +107,5 @@ pub fn relative_rows_access_their_bytes()
 
 /// The typed step of an access that has a row relative to the instruction never stops by alignment where it names a block or a constant.
 pub fn relative_accesses_never_misalign()
-    ensures { (L : Layout) → AllPlaced L → (i : Inst) (opcode : ℕ) → relative_row_of (memory i) ≡ Some opcode → FineMemoryOr L (memory i) ⊥ → OwnOperand (memory i) → NeverMisaligned (performed_in_memory L i) }
+    ensures { (L : Layout) → AllCodeAt L → (i : Inst) (opcode : ℕ) → relative_row_of (memory i) ≡ Some opcode → ValidMemoryOr L (memory i) ⊥ → OwnOperand (memory i) → NeverMisaligned (performed_in_memory L i) }
 {}

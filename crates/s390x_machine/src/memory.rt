@@ -1,6 +1,6 @@
 //! Memory, as the machine sees it.
 ghost use Rattle.std.specs.Prelude.{◌≡◌, ℕ, Bool, ◌<◌, ◌≤◌, IsTrue, length, slice_index};
-ghost use Rattle.s390x_operations.specs.State.{update, sum64, reaches};
+ghost use Rattle.s390x_operations.specs.State.{update, wrapping_add64, reaches};
 
 /// Bytes at accessible addresses.
 pub trait Memory {
@@ -41,9 +41,9 @@ pub fn reaches<M: Memory>(memory: &M, address: u64, n: u64) -> bool
 /// So many bytes from an address on, at most six.
 pub fn leading_bytes<M: Memory>(memory: &M, address: u64, n: u64) -> [u8; 6]
     requires few { n ≤ 6 }
-    requires there { (i : ℕ) → i < n → IsTrue (M.held memory.now (sum64 address i)) }
+    requires there { (i : ℕ) → i < n → IsTrue (M.held memory.now (wrapping_add64 address i)) }
     ensures length { length result ≡ 6 }
-    ensures bytes { (i : ℕ) → i < n → slice_index result i ≡ M.byte memory.now (sum64 address i) }
+    ensures bytes { (i : ℕ) → i < n → slice_index result i ≡ M.byte memory.now (wrapping_add64 address i) }
 {
     let mut bytes = [0u8; 6];
     for i in 0..n {

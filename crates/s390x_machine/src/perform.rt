@@ -3,23 +3,25 @@
 ghost use Rattle.std.specs.Prelude.{◌≡◌, ◌<◌, ◌≤◌, ◌*◌, true, IsTrue, Option};
 ghost use Rattle.s390x_operations.specs.Numbers.{whole};
 ghost use Rattle.s390x_operations.specs.Bits.{bytes, IsWithin};
-ghost use Rattle.s390x_operations.specs.State.{number_at, reaches, coded, write_get, writes_of};
+ghost use Rattle.s390x_operations.specs.State.{number_at, reaches, with_code, write_get, writes_of};
 ghost use Rattle.s390x_operations.specs.Vectors.{layout_bytes, loaded};
-ghost use Rattle.s390x_operations.specs.Access.{deposit};
+ghost use Rattle.s390x_operations.specs.Access.{store_event};
 ghost use Rattle.s390x_operations.specs.Values.{raw, taken};
-ghost use Rattle.s390x_operations.specs.Effects.{source_access, store_access, access, is_selected, divide_stop, refused, MayRefuse, put_multiple, vector_code, code_numbered, effect_code, CodeAfter};
+ghost use Rattle.s390x_operations.specs.Effects.{source_access, store_access, access, is_selected, divide_stop, refused, MayRefuse, set_multiple, vector_code, code_numbered, effect_code, CodeAfter};
 ghost use Rattle.s390x_machine.specs.State.{memory_of, registers_of, core_of};
 ghost use Rattle.s390x_machine.specs.Sound.{is_reached, IsSound, outcome, HasOutcome};
-ghost use Rattle.s390x_machine.specs.Step.{Performs};
+ghost use Rattle.s390x_machine.specs.Step.{ExecutesOperation};
 
 use crate::access::{access_fault, found, load, load_wide, size_in_bytes, store, store_multiple};
 use crate::machine::Machine;
 use crate::memory::Memory;
-use s390x_compute::bits::leftmost;
-use s390x_compute::bytes::{bytes, extended};
-use s390x_compute::operate::{operate, ordered};
-use s390x_compute::unsigned::{compared, signed_division, unsigned_division, whole, wide_product};
-use s390x_compute::vectors::{layout_bytes, loaded, vector_stored};
+use s390x_arithmetic::bits::leftmost;
+use s390x_arithmetic::bytes::{bytes, extended};
+use s390x_arithmetic::operate::{operate, ordered};
+use s390x_arithmetic::unsigned::{
+    compared, signed_division, unsigned_division, whole, wide_product,
+};
+use s390x_arithmetic::vectors::{layout_bytes, loaded, vector_stored};
 use s390x_lanes::ends::{code, divides_by_zero, division_overflows};
 use s390x_lanes::results::result;
 use s390x_operations::{
@@ -155,7 +157,7 @@ fn put_multiple<M: Memory>(machine: &mut Machine, memory: &M, first: u8, address
     requires first { first < 16 }
     requires few { count ≤ 16 }
     requires there { IsTrue (reaches (M.held memory.now) address (8 * count)) }
-    ensures registers { registers_of machine.new ≡ put_multiple (registers_of machine.old) (M.byte memory.now) first address count }
+    ensures registers { registers_of machine.new ≡ set_multiple (registers_of machine.old) (M.byte memory.now) first address count }
     ensures place { machine.new.place ≡ machine.old.place }
 {
     for i in 0..count {
@@ -234,7 +236,7 @@ fn put_results<M: Memory>(machine: &mut Machine, memory: &M, effect: &Effect)
         } => {
             put_multiple(machine, memory, first_register, address, count);
         }
-        Effect::PutAny { target } => machine.put(target, 0),
+        Effect::Havoc { target } => machine.put(target, 0),
         Effect::ComputeVector {
             operation,
             target,
@@ -358,7 +360,7 @@ fn new_code<M: Memory>(machine: &Machine, memory: &M, op: &Operation) -> Conditi
     match op.rule {
         CodeRule::Set => effect_code(machine, memory, &op.effect),
         CodeRule::Kept => machine.condition_code(),
-        CodeRule::Unstated => machine.condition_code(),
+        CodeRule::Unspecified => machine.condition_code(),
     }
 }
 
@@ -366,7 +368,7 @@ fn new_code<M: Memory>(machine: &Machine, memory: &M, op: &Operation) -> Conditi
 fn store_value<M: Memory>(memory: &mut M, destination: Source, width: Width, value: u64)
     requires { IsTrue (is_reached (store_access destination (bytes width) value) (M.held memory.old)) }
     ensures same { M.held memory.new ≡ M.held memory.old }
-    ensures written { M.byte memory.new ≡ write_get (writes_of (deposit (store_access destination (bytes width) value) (memory_of (M.held memory.old) (M.byte memory.old)))) (M.byte memory.old) }
+    ensures written { M.byte memory.new ≡ write_get (writes_of (store_event (store_access destination (bytes width) value) (memory_of (M.held memory.old) (M.byte memory.old)))) (M.byte memory.old) }
 {
     match destination {
         Source::Value(_) => {}
@@ -380,7 +382,7 @@ fn put_stored<M: Memory>(memory: &mut M, effect: &Effect)
     requires sound { IsSound effect.now }
     requires there { IsTrue (is_reached (access effect.now) (M.held memory.old)) }
     ensures same { M.held memory.new ≡ M.held memory.old }
-    ensures written { M.byte memory.new ≡ write_get (writes_of (deposit (access effect.now) (memory_of (M.held memory.old) (M.byte memory.old)))) (M.byte memory.old) }
+    ensures written { M.byte memory.new ≡ write_get (writes_of (store_event (access effect.now) (memory_of (M.held memory.old) (M.byte memory.old)))) (M.byte memory.old) }
 {
     match *effect {
         Effect::Store {
@@ -434,11 +436,11 @@ fn put_stored<M: Memory>(memory: &mut M, effect: &Effect)
 fn act<M: Memory>(machine: &mut Machine, memory: &mut M, op: &Operation)
     requires sound { IsSound op.now.effect }
     requires there { IsTrue (is_reached (access op.now.effect) (M.held memory.old)) }
-    ensures registers { registers_of machine.new ≡ coded (registers_of machine.new).code (outcome op.now.effect (core_of machine.old (M.held memory.old) (M.byte memory.old))) }
+    ensures registers { registers_of machine.new ≡ with_code (registers_of machine.new).code (outcome op.now.effect (core_of machine.old (M.held memory.old) (M.byte memory.old))) }
     ensures fits { HasOutcome op.now.effect (core_of machine.old (M.held memory.old) (M.byte memory.old)) }
     ensures code { CodeAfter op.now.rule op.now.effect (core_of machine.old (M.held memory.old) (M.byte memory.old)) (registers_of machine.new).code }
     ensures same { M.held memory.new ≡ M.held memory.old }
-    ensures written { M.byte memory.new ≡ write_get (writes_of (deposit (access op.now.effect) (memory_of (M.held memory.old) (M.byte memory.old)))) (M.byte memory.old) }
+    ensures written { M.byte memory.new ≡ write_get (writes_of (store_event (access op.now.effect) (memory_of (M.held memory.old) (M.byte memory.old)))) (M.byte memory.old) }
     ensures place { machine.new.place ≡ machine.old.place }
 {
     let code = new_code(machine, memory, op);
@@ -450,7 +452,7 @@ fn act<M: Memory>(machine: &mut Machine, memory: &mut M, op: &Operation)
 /// An operation is done, or it stops: the fault of its access comes first, then what the values bring about.
 pub fn perform<M: Memory>(machine: &mut Machine, memory: &mut M, op: &Operation) -> Option<StopKind>
     requires { IsSound op.now.effect }
-    ensures core { Performs op.now (core_of machine.old (M.held memory.old) (M.byte memory.old)) result (core_of machine.new (M.held memory.new) (M.byte memory.new)) }
+    ensures core { ExecutesOperation op.now (core_of machine.old (M.held memory.old) (M.byte memory.old)) result (core_of machine.new (M.held memory.new) (M.byte memory.new)) }
     ensures place { machine.new.place ≡ machine.old.place }
 {
     let fault = access_fault(memory, &op.effect);

@@ -1,16 +1,16 @@
 //! What a row on general registers does with its fields; its second operand may be in memory.
 
 ghost use Rattle.std.specs.Prelude.{◌≡◌};
-ghost use Rattle.s390x_machine.specs.Meanings.{count_operator, action};
+ghost use Rattle.s390x_machine.specs.Semantics.{count_operator, action};
 ghost use Rattle.s390x_machine.specs.State.{registers_of};
 ghost use Rattle.s390x_machine.specs.Sound.{FieldsFit, IsSoundAction};
 
 use crate::field_values::{first_register, immediate, operand, performs, value_in, whole_operand};
 use crate::machine::Machine;
-use crate::meaning::{Action, Meaning, SecondOperand};
 use crate::perform::is_selected;
-use s390x_compute::bits::{rotated, selection};
-use s390x_compute::bytes::extended;
+use crate::semantics::{Action, RowSemantics, SecondOperand};
+use s390x_arithmetic::bits::{rotated, selection};
+use s390x_arithmetic::bytes::extended;
 use s390x_format::Fields;
 use s390x_lanes::operation::Signedness;
 use s390x_operations::{CodeRule, Effect, Operator, SelectedBitsOperator, Size, Width};
@@ -24,11 +24,11 @@ pub fn compute(
     second: SecondOperand,
     rule: CodeRule,
 ) -> Action
-    requires { FieldsFit (Meaning.Compute operator size second rule) fields.now }
-    ensures value { result ≡ action (Meaning.Compute operator size second rule) fields.now (registers_of machine.now) machine.now.place }
+    requires { FieldsFit (RowSemantics.Compute operator size second rule) fields.now }
+    ensures value { result ≡ action (RowSemantics.Compute operator size second rule) fields.now (registers_of machine.now) machine.now.place }
     ensures sound { IsSoundAction result }
 {
-    let first = value_in(machine, size, first_register(second.shape, fields));
+    let first = value_in(machine, size, first_register(second.operand_source, fields));
     performs(
         rule,
         Effect::Compute {
@@ -49,11 +49,11 @@ pub fn compare(
     size: Size,
     second: SecondOperand,
 ) -> Action
-    requires { FieldsFit (Meaning.Compare sign size second) fields.now }
-    ensures value { result ≡ action (Meaning.Compare sign size second) fields.now (registers_of machine.now) machine.now.place }
+    requires { FieldsFit (RowSemantics.Compare sign size second) fields.now }
+    ensures value { result ≡ action (RowSemantics.Compare sign size second) fields.now (registers_of machine.now) machine.now.place }
     ensures sound { IsSoundAction result }
 {
-    let first = value_in(machine, size, first_register(second.shape, fields));
+    let first = value_in(machine, size, first_register(second.operand_source, fields));
     performs(
         CodeRule::Set,
         Effect::Compare {
@@ -67,8 +67,8 @@ pub fn compare(
 
 /// Register r1 gets the second operand where the mask selects the condition code.
 pub fn move_where(machine: &Machine, fields: &Fields, size: Size, second: SecondOperand) -> Action
-    requires { FieldsFit (Meaning.MoveWhere size second) fields.now }
-    ensures value { result ≡ action (Meaning.MoveWhere size second) fields.now (registers_of machine.now) machine.now.place }
+    requires { FieldsFit (RowSemantics.MoveWhere size second) fields.now }
+    ensures value { result ≡ action (RowSemantics.MoveWhere size second) fields.now (registers_of machine.now) machine.now.place }
     ensures sound { IsSoundAction result }
 {
     if is_selected(fields.masks[0], machine.condition_code()) {
@@ -100,8 +100,8 @@ fn count_operator(mode: u8) -> Operator
 
 /// Register r1 gets how many ones each byte of r2 has, or all of it.
 pub fn count_ones(machine: &Machine, fields: &Fields) -> Action
-    requires { FieldsFit Meaning.CountOnes fields.now }
-    ensures value { result ≡ action Meaning.CountOnes fields.now (registers_of machine.now) machine.now.place }
+    requires { FieldsFit RowSemantics.CountOnes fields.now }
+    ensures value { result ≡ action RowSemantics.CountOnes fields.now (registers_of machine.now) machine.now.place }
     ensures sound { IsSoundAction result }
 {
     performs(
@@ -123,8 +123,8 @@ pub fn rotate_then(
     operator: SelectedBitsOperator,
     rule: CodeRule,
 ) -> Action
-    requires { FieldsFit (Meaning.RotateThen operator rule) fields.now }
-    ensures value { result ≡ action (Meaning.RotateThen operator rule) fields.now (registers_of machine.now) machine.now.place }
+    requires { FieldsFit (RowSemantics.RotateThen operator rule) fields.now }
+    ensures value { result ≡ action (RowSemantics.RotateThen operator rule) fields.now (registers_of machine.now) machine.now.place }
     ensures sound { IsSoundAction result }
 {
     let start = fields.masks[0];
@@ -162,8 +162,8 @@ pub fn rotate_then(
 
 /// The pair r1 gets the product of r2 and r3, with their signs.
 pub fn multiply_signed(machine: &Machine, fields: &Fields) -> Action
-    requires { FieldsFit Meaning.MultiplySigned fields.now }
-    ensures value { result ≡ action Meaning.MultiplySigned fields.now (registers_of machine.now) machine.now.place }
+    requires { FieldsFit RowSemantics.MultiplySigned fields.now }
+    ensures value { result ≡ action RowSemantics.MultiplySigned fields.now (registers_of machine.now) machine.now.place }
     ensures sound { IsSoundAction result }
 {
     performs(
@@ -179,8 +179,8 @@ pub fn multiply_signed(machine: &Machine, fields: &Fields) -> Action
 
 /// The pair r1 gets the product of its second register and r2, without signs.
 pub fn multiply_logical(machine: &Machine, fields: &Fields) -> Action
-    requires { FieldsFit Meaning.MultiplyLogical fields.now }
-    ensures value { result ≡ action Meaning.MultiplyLogical fields.now (registers_of machine.now) machine.now.place }
+    requires { FieldsFit RowSemantics.MultiplyLogical fields.now }
+    ensures value { result ≡ action RowSemantics.MultiplyLogical fields.now (registers_of machine.now) machine.now.place }
     ensures sound { IsSoundAction result }
 {
     performs(
@@ -196,8 +196,8 @@ pub fn multiply_logical(machine: &Machine, fields: &Fields) -> Action
 
 /// The pair r1 gets the remainder and the quotient of its second register by r2, with their signs.
 pub fn divide_signed(machine: &Machine, fields: &Fields, width: Width) -> Action
-    requires { FieldsFit (Meaning.DivideSigned width) fields.now }
-    ensures value { result ≡ action (Meaning.DivideSigned width) fields.now (registers_of machine.now) machine.now.place }
+    requires { FieldsFit (RowSemantics.DivideSigned width) fields.now }
+    ensures value { result ≡ action (RowSemantics.DivideSigned width) fields.now (registers_of machine.now) machine.now.place }
     ensures sound { IsSoundAction result }
 {
     let divisor = machine.general(fields.regs[1]);
@@ -213,8 +213,8 @@ pub fn divide_signed(machine: &Machine, fields: &Fields, width: Width) -> Action
 
 /// The pair r1 gets the remainder and the quotient of the number in its two parts by r2.
 pub fn divide_logical(machine: &Machine, fields: &Fields, size: Size) -> Action
-    requires { FieldsFit (Meaning.DivideLogical size) fields.now }
-    ensures value { result ≡ action (Meaning.DivideLogical size) fields.now (registers_of machine.now) machine.now.place }
+    requires { FieldsFit (RowSemantics.DivideLogical size) fields.now }
+    ensures value { result ≡ action (RowSemantics.DivideLogical size) fields.now (registers_of machine.now) machine.now.place }
     ensures sound { IsSoundAction result }
 {
     performs(
@@ -231,8 +231,8 @@ pub fn divide_logical(machine: &Machine, fields: &Fields, size: Size) -> Action
 
 /// A stop where the first mask selects the order of r1 and r2.
 pub fn compare_and_trap(machine: &Machine, fields: &Fields, sign: Signedness, size: Size) -> Action
-    requires { FieldsFit (Meaning.CompareAndTrap sign size) fields.now }
-    ensures value { result ≡ action (Meaning.CompareAndTrap sign size) fields.now (registers_of machine.now) machine.now.place }
+    requires { FieldsFit (RowSemantics.CompareAndTrap sign size) fields.now }
+    ensures value { result ≡ action (RowSemantics.CompareAndTrap sign size) fields.now (registers_of machine.now) machine.now.place }
     ensures sound { IsSoundAction result }
 {
     performs(
@@ -254,8 +254,8 @@ pub fn compare_immediate_and_trap(
     sign: Signedness,
     size: Size,
 ) -> Action
-    requires { FieldsFit (Meaning.CompareImmediateAndTrap sign size) fields.now }
-    ensures value { result ≡ action (Meaning.CompareImmediateAndTrap sign size) fields.now (registers_of machine.now) machine.now.place }
+    requires { FieldsFit (RowSemantics.CompareImmediateAndTrap sign size) fields.now }
+    ensures value { result ≡ action (RowSemantics.CompareImmediateAndTrap sign size) fields.now (registers_of machine.now) machine.now.place }
     ensures sound { IsSoundAction result }
 {
     performs(
@@ -272,8 +272,8 @@ pub fn compare_immediate_and_trap(
 
 /// The pair r1 gets the number of leading zeros of r2, and r2 without its leftmost one.
 pub fn find_leftmost_one(machine: &Machine, fields: &Fields) -> Action
-    requires { FieldsFit Meaning.FindLeftmostOne fields.now }
-    ensures value { result ≡ action Meaning.FindLeftmostOne fields.now (registers_of machine.now) machine.now.place }
+    requires { FieldsFit RowSemantics.FindLeftmostOne fields.now }
+    ensures value { result ≡ action RowSemantics.FindLeftmostOne fields.now (registers_of machine.now) machine.now.place }
     ensures sound { IsSoundAction result }
 {
     performs(
@@ -287,8 +287,8 @@ pub fn find_leftmost_one(machine: &Machine, fields: &Fields) -> Action
 
 /// A branch to the address in r2 under the mask r1; none for r2 = 0.
 pub fn branch_to_register(machine: &Machine, fields: &Fields) -> Action
-    requires { FieldsFit Meaning.BranchToRegister fields.now }
-    ensures value { result ≡ action Meaning.BranchToRegister fields.now (registers_of machine.now) machine.now.place }
+    requires { FieldsFit RowSemantics.BranchToRegister fields.now }
+    ensures value { result ≡ action RowSemantics.BranchToRegister fields.now (registers_of machine.now) machine.now.place }
     ensures sound { IsSoundAction result }
 {
     if fields.regs[1] == 0 {
@@ -303,8 +303,8 @@ pub fn branch_to_register(machine: &Machine, fields: &Fields) -> Action
 
 /// Register r1 gets the address of the next instruction; a branch to the address in r2, none for r2 = 0.
 pub fn branch_and_save(machine: &Machine, fields: &Fields) -> Action
-    requires { FieldsFit Meaning.BranchAndSaveToRegister fields.now }
-    ensures value { result ≡ action Meaning.BranchAndSaveToRegister fields.now (registers_of machine.now) machine.now.place }
+    requires { FieldsFit RowSemantics.BranchAndSaveToRegister fields.now }
+    ensures value { result ≡ action RowSemantics.BranchAndSaveToRegister fields.now (registers_of machine.now) machine.now.place }
     ensures sound { IsSoundAction result }
 {
     let target = if fields.regs[1] == 0 {

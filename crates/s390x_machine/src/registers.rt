@@ -3,9 +3,9 @@
 ghost use Rattle.std.specs.Prelude.{◌≡◌, ◌<◌, Option};
 ghost use Rattle.s390x_operations.specs.Numbers.{whole};
 ghost use Rattle.s390x_operations.specs.Unsigned.{IsPairBelow};
-ghost use Rattle.s390x_operations.specs.State.{put, put_vector, coded};
-ghost use Rattle.s390x_operations.specs.Effects.{merged, put_sized, put_pair, put_divided};
-ghost use Rattle.s390x_machine.specs.State.{registers_of, fresh};
+ghost use Rattle.s390x_operations.specs.State.{set_general, set_vector, with_code};
+ghost use Rattle.s390x_operations.specs.Effects.{merged, set_sized, set_pair, set_divided};
+ghost use Rattle.s390x_machine.specs.State.{registers_of, fresh_registers};
 
 use crate::machine::Machine;
 use s390x_operations::{ConditionCode, Pair, Size};
@@ -13,7 +13,7 @@ use s390x_operations::{ConditionCode, Pair, Size};
 impl Machine {
     /// A machine at a place. All else is zero.
     pub fn new(place: u64) -> Machine
-        ensures registers { registers_of result ≡ fresh }
+        ensures registers { registers_of result ≡ fresh_registers }
         ensures place { result.place ≡ place }
     {
         Machine {
@@ -39,7 +39,7 @@ impl Machine {
 
     /// The condition code becomes this one.
     pub fn set_condition_code(&mut self, code: ConditionCode)
-        ensures registers { registers_of self.new ≡ coded code (registers_of self.old) }
+        ensures registers { registers_of self.new ≡ with_code code (registers_of self.old) }
         ensures place { self.new.place ≡ self.old.place }
     {
         self.cc = match code {
@@ -53,7 +53,7 @@ impl Machine {
     /// A general register gets a value.
     pub fn put(&mut self, target: u8, value: u64)
         requires { target < 16 }
-        ensures registers { registers_of self.new ≡ put (registers_of self.old) target value }
+        ensures registers { registers_of self.new ≡ set_general (registers_of self.old) target value }
         ensures place { self.new.place ≡ self.old.place }
     {
         self.regs[target as usize] = value;
@@ -71,7 +71,7 @@ impl Machine {
     pub fn put_sized(&mut self, size: Size, target: u8, value: u64)
         requires there { target < 16 }
         requires below { value < whole size }
-        ensures registers { registers_of self.new ≡ put_sized size (registers_of self.old) target value }
+        ensures registers { registers_of self.new ≡ set_sized size (registers_of self.old) target value }
         ensures place { self.new.place ≡ self.old.place }
     {
         self.regs[target as usize] = merged(size, self.regs[target as usize], value);
@@ -88,7 +88,7 @@ impl Machine {
     /// A vector register gets a value.
     pub fn put_vector(&mut self, target: u8, value: u128)
         requires { target < 32 }
-        ensures registers { registers_of self.new ≡ put_vector (registers_of self.old) target value }
+        ensures registers { registers_of self.new ≡ set_vector (registers_of self.old) target value }
         ensures place { self.new.place ≡ self.old.place }
     {
         self.vregs[target as usize] = value;
@@ -99,7 +99,7 @@ impl Machine {
         requires there { pair < 15 }
         requires high_below { values.high < whole size }
         requires low_below { values.low < whole size }
-        ensures registers { registers_of self.new ≡ put_pair size (registers_of self.old) pair values }
+        ensures registers { registers_of self.new ≡ set_pair size (registers_of self.old) pair values }
         ensures place { self.new.place ≡ self.old.place }
     {
         self.put_sized(size, pair, values.high);
@@ -110,7 +110,7 @@ impl Machine {
     pub fn put_divided(&mut self, size: Size, pair: u8, values: Option<Pair>)
         requires there { pair < 15 }
         requires below { IsPairBelow size values }
-        ensures registers { registers_of self.new ≡ put_divided size (registers_of self.old) pair values }
+        ensures registers { registers_of self.new ≡ set_divided size (registers_of self.old) pair values }
         ensures place { self.new.place ≡ self.old.place }
     {
         if let Some(values) = values {

@@ -3,7 +3,7 @@
 ghost use Rattle.std.specs.Prelude.{◌≡◌, ◌<◌, ℕ, ◌==◌, List, Option, Some, get_or, length, true, false, IsTrue, IsFalse};
 ghost use Rattle.s390x_format.specs.Formats.{length_of};
 ghost use Rattle.s390x_machine.specs.Fetch.{IsFound};
-ghost use Rattle.s390x_machine.specs.Meanings.{action, names_pair, is_odd_pair, meaning_in, meaning_of};
+ghost use Rattle.s390x_machine.specs.Semantics.{action, names_pair, is_odd_pair, semantics_in, semantics_of};
 ghost use Rattle.s390x_machine.specs.State.{memory_of, registers_of, state_of};
 ghost use Rattle.s390x_machine.specs.Sound.{HasRegisters, IsSoundAction, is_free, is_uncomputed};
 ghost use Rattle.s390x_machine.specs.Step.{Executes, Steps};
@@ -11,9 +11,9 @@ ghost use Rattle.s390x_machine.specs.Step.{Executes, Steps};
 use crate::action::action;
 use crate::fetch::{Fetched, fetch};
 use crate::machine::Machine;
-use crate::meaning::{Action, MEANINGS, Meaning, RowMeaning};
 use crate::memory::Memory;
 use crate::perform::{is_selected, perform};
+use crate::semantics::{Action, OpcodeSemantics, ROW_SEMANTICS, RowSemantics};
 use crate::vector_action::shift_amount;
 use s390x_format::kind::length;
 use s390x_format::{Decoded, Fields};
@@ -32,45 +32,45 @@ pub enum StepEnd {
     NoRow,
 }
 
-/// The meaning that a list has for an opcode.
-fn meaning_in(rows: &[RowMeaning], opcode: u16) -> Option<Meaning>
-    ensures { result ≡ meaning_in rows.now opcode }
+/// The semantics that a list has for an opcode.
+fn semantics_in(rows: &[OpcodeSemantics], opcode: u16) -> Option<RowSemantics>
+    ensures { result ≡ semantics_in rows.now opcode }
 {
     for row in rows {
         if row.opcode == opcode {
-            return Some(row.meaning);
+            return Some(row.semantics);
         }
     }
     None
 }
 
-/// The meaning of an opcode; none of one that no row has.
-#[tactic(auto, unfolding(crate::specs::Meanings::meaning_of))]
-fn meaning_of(opcode: u16) -> Option<Meaning>
-    ensures { result ≡ meaning_of opcode }
+/// The semantics of an opcode; none of one that no row has.
+#[tactic(auto, unfolding(crate::specs::Meanings::semantics_of))]
+fn semantics_of(opcode: u16) -> Option<RowSemantics>
+    ensures { result ≡ semantics_of opcode }
 {
-    meaning_in(&MEANINGS, opcode)
+    semantics_in(&ROW_SEMANTICS, opcode)
 }
 
 /// Whether the row's r1 is the first of an even-odd pair.
-fn names_pair(meaning: Meaning) -> bool
-    ensures { result ≡ names_pair meaning }
+fn names_pair(semantics: RowSemantics) -> bool
+    ensures { result ≡ names_pair semantics }
 {
-    match meaning {
-        Meaning::MultiplySigned => true,
-        Meaning::MultiplyLogical => true,
-        Meaning::DivideSigned(_) => true,
-        Meaning::DivideLogical(_) => true,
-        Meaning::FindLeftmostOne => true,
+    match semantics {
+        RowSemantics::MultiplySigned => true,
+        RowSemantics::MultiplyLogical => true,
+        RowSemantics::DivideSigned(_) => true,
+        RowSemantics::DivideLogical(_) => true,
+        RowSemantics::FindLeftmostOne => true,
         _ => false,
     }
 }
 
 /// Whether the row names a pair that begins at an odd register.
-fn is_odd_pair(meaning: Meaning, fields: &Fields) -> bool
-    ensures { result ≡ is_odd_pair meaning fields.now }
+fn is_odd_pair(semantics: RowSemantics, fields: &Fields) -> bool
+    ensures { result ≡ is_odd_pair semantics fields.now }
 {
-    names_pair(meaning) && fields.regs[0] % 2 == 1
+    names_pair(semantics) && fields.regs[0] % 2 == 1
 }
 
 /// Whether an operation on vectors isn't computed.
@@ -84,14 +84,18 @@ fn is_uncomputed(operation: Option<VectorOperation>) -> bool
 }
 
 /// Whether the row leaves its result free, or is a high product of 128-bit elements.
-fn is_free(machine: &Machine, meaning: Meaning, fields: &Fields) -> bool
-    requires { HasRegisters meaning fields.now }
-    ensures { result ≡ is_free meaning fields.now (registers_of machine.now) }
+fn is_free(machine: &Machine, semantics: RowSemantics, fields: &Fields) -> bool
+    requires { HasRegisters semantics fields.now }
+    ensures { result ≡ is_free semantics fields.now (registers_of machine.now) }
 {
-    match meaning {
-        Meaning::PutAny => true,
-        Meaning::Elements(opcode) => is_uncomputed(operation(opcode, fields.masks, fields.imm)),
-        Meaning::ShiftElements(opcode) => {
+    match semantics {
+        RowSemantics::Havoc => true,
+        RowSemantics::Elements(opcode) => is_uncomputed(operation(
+            opcode,
+            fields.masks,
+            fields.imm,
+        )),
+        RowSemantics::ShiftElements(opcode) => {
             is_uncomputed(operation(opcode, fields.masks, shift_amount(machine, fields)))
         }
         _ => false,
@@ -129,23 +133,23 @@ fn execute<M: Memory>(machine: &mut Machine, memory: &mut M, action: &Action, si
 }
 
 /// The step at an instruction that was fetched, whose row means this.
-fn meaning_step<M: Memory>(
+fn semantics_step<M: Memory>(
     machine: &mut Machine,
     memory: &mut M,
     decoded: &Decoded,
-    meaning: Meaning,
+    semantics: RowSemantics,
 ) -> StepEnd
     requires found { IsFound (memory_of (M.held memory.old) (M.byte memory.old)) machine.old.place decoded.now }
-    requires is { meaning_of decoded.now.row.opcode ≡ Some meaning }
+    requires is { semantics_of decoded.now.row.opcode ≡ Some semantics }
     ensures { Steps (state_of machine.old (M.held memory.old) (M.byte memory.old)) result (state_of machine.new (M.held memory.new) (M.byte memory.new)) }
 {
-    if is_free(machine, meaning, &decoded.fields) {
+    if is_free(machine, semantics, &decoded.fields) {
         return StepEnd::NoRow;
     }
-    if is_odd_pair(meaning, &decoded.fields) {
+    if is_odd_pair(semantics, &decoded.fields) {
         return StepEnd::Stopped(StopKind::Specification, machine.place);
     }
-    let action = action(machine, meaning, &decoded.fields);
+    let action = action(machine, semantics, &decoded.fields);
     execute(machine, memory, &action, length(decoded.row.format) as u64)
 }
 
@@ -154,8 +158,8 @@ fn row_step<M: Memory>(machine: &mut Machine, memory: &mut M, decoded: &Decoded)
     requires { IsFound (memory_of (M.held memory.old) (M.byte memory.old)) machine.old.place decoded.now }
     ensures { Steps (state_of machine.old (M.held memory.old) (M.byte memory.old)) result (state_of machine.new (M.held memory.new) (M.byte memory.new)) }
 {
-    match meaning_of(decoded.row.opcode) {
-        Some(meaning) => meaning_step(machine, memory, decoded, meaning),
+    match semantics_of(decoded.row.opcode) {
+        Some(semantics) => semantics_step(machine, memory, decoded, semantics),
         None => unreachable!(),
     }
 }

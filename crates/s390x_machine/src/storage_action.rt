@@ -2,14 +2,14 @@
 
 ghost use Rattle.std.specs.Prelude.{◌≡◌, ◌<◌, ◌≤◌};
 ghost use Rattle.s390x_machine.specs.Operands.{values_from};
-ghost use Rattle.s390x_machine.specs.Meanings.{register_count, action};
+ghost use Rattle.s390x_machine.specs.Semantics.{registers_between, action};
 ghost use Rattle.s390x_machine.specs.State.{registers_of};
 ghost use Rattle.s390x_machine.specs.Sound.{FieldsFit, IsSoundAction};
 
 use crate::field_values::{based, immediate, performs, source, value_in};
 use crate::machine::Machine;
-use crate::meaning::{Action, Meaning, SecondOperand};
-use s390x_compute::operate::ordered;
+use crate::semantics::{Action, RowSemantics, SecondOperand};
+use s390x_arithmetic::operate::ordered;
 use s390x_format::Fields;
 use s390x_operations::{CodeRule, Effect, Operator, Size, Source, Width};
 
@@ -17,7 +17,7 @@ use s390x_operations::{CodeRule, Effect, Operator, Size, Source, Width};
 fn register_count(first: u8, last: u8) -> u8
     requires first_there { first < 16 }
     requires last_there { last < 16 }
-    ensures value { result ≡ register_count first last }
+    ensures value { result ≡ registers_between first last }
     ensures few { result ≤ 16 }
 {
     (last + 16 - first) % 16 + 1
@@ -50,8 +50,8 @@ fn values_from(machine: &Machine, first: u8) -> [u64; 16]
 
 /// Memory gets the lowest bits of r1.
 pub fn store(machine: &Machine, fields: &Fields, destination: SecondOperand) -> Action
-    requires { FieldsFit (Meaning.Store destination) fields.now }
-    ensures value { result ≡ action (Meaning.Store destination) fields.now (registers_of machine.now) machine.now.place }
+    requires { FieldsFit (RowSemantics.Store destination) fields.now }
+    ensures value { result ≡ action (RowSemantics.Store destination) fields.now (registers_of machine.now) machine.now.place }
     ensures sound { IsSoundAction result }
 {
     let value = machine.general(fields.regs[0]);
@@ -60,15 +60,15 @@ pub fn store(machine: &Machine, fields: &Fields, destination: SecondOperand) -> 
         Effect::Store {
             width: destination.width,
             value: ordered(destination.reversed, destination.width, value),
-            destination: source(machine, destination.shape, fields),
+            destination: source(machine, destination.operand_source, fields),
         },
     )
 }
 
 /// Memory gets the immediate of 8 bits.
 pub fn store_byte(machine: &Machine, fields: &Fields) -> Action
-    requires { FieldsFit Meaning.StoreByte fields.now }
-    ensures value { result ≡ action Meaning.StoreByte fields.now (registers_of machine.now) machine.now.place }
+    requires { FieldsFit RowSemantics.StoreByte fields.now }
+    ensures value { result ≡ action RowSemantics.StoreByte fields.now (registers_of machine.now) machine.now.place }
     ensures sound { IsSoundAction result }
 {
     performs(
@@ -83,8 +83,8 @@ pub fn store_byte(machine: &Machine, fields: &Fields) -> Action
 
 /// Memory gets the immediate of 16 bits, extended to this width with its sign.
 pub fn store_immediate(machine: &Machine, fields: &Fields, width: Width) -> Action
-    requires { FieldsFit (Meaning.StoreImmediate width) fields.now }
-    ensures value { result ≡ action (Meaning.StoreImmediate width) fields.now (registers_of machine.now) machine.now.place }
+    requires { FieldsFit (RowSemantics.StoreImmediate width) fields.now }
+    ensures value { result ≡ action (RowSemantics.StoreImmediate width) fields.now (registers_of machine.now) machine.now.place }
     ensures sound { IsSoundAction result }
 {
     performs(
@@ -99,8 +99,8 @@ pub fn store_immediate(machine: &Machine, fields: &Fields, width: Width) -> Acti
 
 /// The registers from r1 to r2 get the doublewords in memory.
 pub fn load_multiple(machine: &Machine, fields: &Fields) -> Action
-    requires { FieldsFit Meaning.LoadMultiple fields.now }
-    ensures value { result ≡ action Meaning.LoadMultiple fields.now (registers_of machine.now) machine.now.place }
+    requires { FieldsFit RowSemantics.LoadMultiple fields.now }
+    ensures value { result ≡ action RowSemantics.LoadMultiple fields.now (registers_of machine.now) machine.now.place }
     ensures sound { IsSoundAction result }
 {
     performs(
@@ -115,8 +115,8 @@ pub fn load_multiple(machine: &Machine, fields: &Fields) -> Action
 
 /// The registers from r1 to r2 go to doublewords in memory.
 pub fn store_multiple(machine: &Machine, fields: &Fields) -> Action
-    requires { FieldsFit Meaning.StoreMultiple fields.now }
-    ensures value { result ≡ action Meaning.StoreMultiple fields.now (registers_of machine.now) machine.now.place }
+    requires { FieldsFit RowSemantics.StoreMultiple fields.now }
+    ensures value { result ≡ action RowSemantics.StoreMultiple fields.now (registers_of machine.now) machine.now.place }
     ensures sound { IsSoundAction result }
 {
     performs(
@@ -136,8 +136,8 @@ pub fn load_and_operate(
     operator: Operator,
     size: Size,
 ) -> Action
-    requires { FieldsFit (Meaning.LoadAndOperate operator size) fields.now }
-    ensures value { result ≡ action (Meaning.LoadAndOperate operator size) fields.now (registers_of machine.now) machine.now.place }
+    requires { FieldsFit (RowSemantics.LoadAndOperate operator size) fields.now }
+    ensures value { result ≡ action (RowSemantics.LoadAndOperate operator size) fields.now (registers_of machine.now) machine.now.place }
     ensures sound { IsSoundAction result }
 {
     performs(
@@ -154,8 +154,8 @@ pub fn load_and_operate(
 
 /// The number in memory becomes r2 where it is r1, else r1 gets it.
 pub fn compare_and_swap(machine: &Machine, fields: &Fields, size: Size) -> Action
-    requires { FieldsFit (Meaning.CompareAndSwap size) fields.now }
-    ensures value { result ≡ action (Meaning.CompareAndSwap size) fields.now (registers_of machine.now) machine.now.place }
+    requires { FieldsFit (RowSemantics.CompareAndSwap size) fields.now }
+    ensures value { result ≡ action (RowSemantics.CompareAndSwap size) fields.now (registers_of machine.now) machine.now.place }
     ensures sound { IsSoundAction result }
 {
     performs(

@@ -1,18 +1,18 @@
 //! What a machine row on vector registers does with its fields.
 
 ghost use Rattle.std.specs.Prelude.{◌≡◌, ◌<◌, ◌≤◌, ◌+◌, ◌*◌, ◌%◌, ◌^◌, true, false, IsTrue, IsFalse, MatchOption, slice_index};
-ghost use Rattle.s390x_lanes.specs.Size.{bits, lane_count};
+ghost use Rattle.s390x_lanes.specs.Size.{element_bits, lane_count};
 ghost use Rattle.s390x_lanes.specs.Lanes.{lane};
 ghost use Rattle.s390x_lanes.specs.Opcodes.{is_operation};
 ghost use Rattle.s390x_operations.specs.Vectors.{layout_bytes, loaded};
-ghost use Rattle.s390x_machine.specs.Meanings.{register_field, performs, element_size, left_bits, layout_of, on_elements, moves_value, action};
+ghost use Rattle.s390x_machine.specs.Semantics.{register_field, performs, element_size, left_bits, vector_layout_of, on_elements, moves_value, action};
 ghost use Rattle.s390x_machine.specs.State.{registers_of};
 ghost use Rattle.s390x_machine.specs.Sound.{FieldsFit, IsSoundAction, is_free, is_uncomputed, shift_amount};
 
 use crate::field_values::{based, indexed_address, performs, value_in, whole_operand};
 use crate::machine::Machine;
-use crate::meaning::{Action, Meaning, VectorStorage};
-use s390x_compute::vectors::loaded;
+use crate::semantics::{Action, RowSemantics, VectorStorage};
+use s390x_arithmetic::vectors::loaded;
 use s390x_format::Fields;
 use s390x_lanes::lane::element;
 use s390x_lanes::lookup::{operation, size_from};
@@ -42,7 +42,7 @@ fn left_bits(size: ElementSize) -> u128
 
 /// Where an operand lies in memory and how, by the first mask.
 fn layout_of(storage: VectorStorage, fields: &Fields) -> VectorLayout
-    ensures { result ≡ layout_of storage fields.now }
+    ensures { result ≡ vector_layout_of storage fields.now }
 {
     match storage {
         VectorStorage::Whole => VectorLayout::Whole,
@@ -97,9 +97,9 @@ fn on_elements(operation: Option<VectorOperation>, target: u8, values: [u128; 4]
 
 /// Vector register r1 gets what the row makes of the vector registers that it names.
 pub fn elements(machine: &Machine, fields: &Fields, opcode: u16) -> Action
-    requires determined { IsFalse (is_free (Meaning.Elements opcode) fields.now (registers_of machine.now)) }
-    requires fit { FieldsFit (Meaning.Elements opcode) fields.now }
-    ensures value { result ≡ action (Meaning.Elements opcode) fields.now (registers_of machine.now) machine.now.place }
+    requires determined { IsFalse (is_free (RowSemantics.Elements opcode) fields.now (registers_of machine.now)) }
+    requires fit { FieldsFit (RowSemantics.Elements opcode) fields.now }
+    ensures value { result ≡ action (RowSemantics.Elements opcode) fields.now (registers_of machine.now) machine.now.place }
     ensures sound { IsSoundAction result }
 {
     let values = [
@@ -125,9 +125,9 @@ pub fn shift_amount(machine: &Machine, fields: &Fields) -> i64
 
 /// The same of vector register r3, by the amount at base r2 plus a displacement.
 pub fn shift_elements(machine: &Machine, fields: &Fields, opcode: u16) -> Action
-    requires determined { IsFalse (is_free (Meaning.ShiftElements opcode) fields.now (registers_of machine.now)) }
-    requires fit { FieldsFit (Meaning.ShiftElements opcode) fields.now }
-    ensures value { result ≡ action (Meaning.ShiftElements opcode) fields.now (registers_of machine.now) machine.now.place }
+    requires determined { IsFalse (is_free (RowSemantics.ShiftElements opcode) fields.now (registers_of machine.now)) }
+    requires fit { FieldsFit (RowSemantics.ShiftElements opcode) fields.now }
+    ensures value { result ≡ action (RowSemantics.ShiftElements opcode) fields.now (registers_of machine.now) machine.now.place }
     ensures sound { IsSoundAction result }
 {
     let values = [
@@ -145,8 +145,8 @@ pub fn shift_elements(machine: &Machine, fields: &Fields, opcode: u16) -> Action
 
 /// Vector register r1 gets what is in memory.
 pub fn load_vector(machine: &Machine, fields: &Fields, storage: VectorStorage) -> Action
-    requires { FieldsFit (Meaning.LoadVector storage) fields.now }
-    ensures value { result ≡ action (Meaning.LoadVector storage) fields.now (registers_of machine.now) machine.now.place }
+    requires { FieldsFit (RowSemantics.LoadVector storage) fields.now }
+    ensures value { result ≡ action (RowSemantics.LoadVector storage) fields.now (registers_of machine.now) machine.now.place }
     ensures sound { IsSoundAction result }
 {
     performs(
@@ -163,8 +163,8 @@ pub fn load_vector(machine: &Machine, fields: &Fields, storage: VectorStorage) -
 
 /// What is in vector register r1 goes to memory.
 pub fn store_vector(machine: &Machine, fields: &Fields, storage: VectorStorage) -> Action
-    requires { FieldsFit (Meaning.StoreVector storage) fields.now }
-    ensures value { result ≡ action (Meaning.StoreVector storage) fields.now (registers_of machine.now) machine.now.place }
+    requires { FieldsFit (RowSemantics.StoreVector storage) fields.now }
+    ensures value { result ≡ action (RowSemantics.StoreVector storage) fields.now (registers_of machine.now) machine.now.place }
     ensures sound { IsSoundAction result }
 {
     performs(
@@ -179,8 +179,8 @@ pub fn store_vector(machine: &Machine, fields: &Fields, storage: VectorStorage) 
 
 /// The leftmost element of vector register r1 gets that in memory.
 pub fn load_left(machine: &Machine, fields: &Fields, size: ElementSize) -> Action
-    requires { FieldsFit (Meaning.LoadLeft size) fields.now }
-    ensures value { result ≡ action (Meaning.LoadLeft size) fields.now (registers_of machine.now) machine.now.place }
+    requires { FieldsFit (RowSemantics.LoadLeft size) fields.now }
+    ensures value { result ≡ action (RowSemantics.LoadLeft size) fields.now (registers_of machine.now) machine.now.place }
     ensures sound { IsSoundAction result }
 {
     performs(
@@ -197,8 +197,8 @@ pub fn load_left(machine: &Machine, fields: &Fields, size: ElementSize) -> Actio
 
 /// The leftmost element of vector register r1 goes to memory.
 pub fn store_left(machine: &Machine, fields: &Fields, size: ElementSize) -> Action
-    requires { FieldsFit (Meaning.StoreLeft size) fields.now }
-    ensures value { result ≡ action (Meaning.StoreLeft size) fields.now (registers_of machine.now) machine.now.place }
+    requires { FieldsFit (RowSemantics.StoreLeft size) fields.now }
+    ensures value { result ≡ action (RowSemantics.StoreLeft size) fields.now (registers_of machine.now) machine.now.place }
     ensures sound { IsSoundAction result }
 {
     performs(
@@ -213,8 +213,8 @@ pub fn store_left(machine: &Machine, fields: &Fields, size: ElementSize) -> Acti
 
 /// The leftmost element of vector register r1 gets that of r2.
 pub fn move_left(machine: &Machine, fields: &Fields, size: ElementSize) -> Action
-    requires { FieldsFit (Meaning.MoveLeft size) fields.now }
-    ensures value { result ≡ action (Meaning.MoveLeft size) fields.now (registers_of machine.now) machine.now.place }
+    requires { FieldsFit (RowSemantics.MoveLeft size) fields.now }
+    ensures value { result ≡ action (RowSemantics.MoveLeft size) fields.now (registers_of machine.now) machine.now.place }
     ensures sound { IsSoundAction result }
 {
     puts_vector(
@@ -252,8 +252,8 @@ fn moves_value(machine: &Machine, fields: &Fields, value: u64) -> Action
 
 /// The leftmost 64 bits of vector register r1 get register r2.
 pub fn register_to_left(machine: &Machine, fields: &Fields) -> Action
-    requires { FieldsFit Meaning.RegisterToLeft fields.now }
-    ensures value { result ≡ action Meaning.RegisterToLeft fields.now (registers_of machine.now) machine.now.place }
+    requires { FieldsFit RowSemantics.RegisterToLeft fields.now }
+    ensures value { result ≡ action RowSemantics.RegisterToLeft fields.now (registers_of machine.now) machine.now.place }
     ensures sound { IsSoundAction result }
 {
     let value = joined(machine.general(fields.regs[1]), 0);
@@ -262,17 +262,17 @@ pub fn register_to_left(machine: &Machine, fields: &Fields) -> Action
 
 /// An element of at most 64 bits.
 fn element_of(size: ElementSize, value: u128, index: u32) -> u64
-    requires narrow { bits size ≤ 64 }
+    requires narrow { element_bits size ≤ 64 }
     requires inside { index < lane_count size }
-    ensures { result ≡ lane (bits size) value index }
+    ensures { result ≡ lane (element_bits size) value index }
 {
     element(size, value, index) as u64
 }
 
 /// Register r1 gets the leftmost 64 bits of vector register r2.
 pub fn left_to_register(machine: &Machine, fields: &Fields) -> Action
-    requires { FieldsFit Meaning.LeftToRegister fields.now }
-    ensures value { result ≡ action Meaning.LeftToRegister fields.now (registers_of machine.now) machine.now.place }
+    requires { FieldsFit RowSemantics.LeftToRegister fields.now }
+    ensures value { result ≡ action RowSemantics.LeftToRegister fields.now (registers_of machine.now) machine.now.place }
     ensures sound { IsSoundAction result }
 {
     let value = element_of(ElementSize::Doubleword, machine.vector(fields.regs[1]), 0);
@@ -281,8 +281,8 @@ pub fn left_to_register(machine: &Machine, fields: &Fields) -> Action
 
 /// Vector register r1 gets registers r2 and r3, one behind the other.
 pub fn join_registers(machine: &Machine, fields: &Fields) -> Action
-    requires { FieldsFit Meaning.JoinRegisters fields.now }
-    ensures value { result ≡ action Meaning.JoinRegisters fields.now (registers_of machine.now) machine.now.place }
+    requires { FieldsFit RowSemantics.JoinRegisters fields.now }
+    ensures value { result ≡ action RowSemantics.JoinRegisters fields.now (registers_of machine.now) machine.now.place }
     ensures sound { IsSoundAction result }
 {
     let value = joined(
@@ -294,7 +294,7 @@ pub fn join_registers(machine: &Machine, fields: &Fields) -> Action
 
 /// The lowest bits of a number, as many as an element has.
 fn low_bits(size: ElementSize, x: u64) -> u128
-    ensures value { result ≡ x % 2 ^ bits size }
+    ensures value { result ≡ x % 2 ^ element_bits size }
     ensures fits { result < 2 ^ (8 * layout_bytes (VectorLayout.Element size 0 false)) }
 {
     match size {
@@ -309,7 +309,7 @@ fn low_bits(size: ElementSize, x: u64) -> u128
 /// A register that held `old`, with a number at one place.
 fn inserted(size: ElementSize, old: u128, index: u64, x: u64) -> u128
     requires { index < lane_count size }
-    ensures value { result ≡ loaded (VectorLayout.Element size index false) old (x % 2 ^ bits size) }
+    ensures value { result ≡ loaded (VectorLayout.Element size index false) old (x % 2 ^ element_bits size) }
     ensures fits { result < 2 ^ 128 }
 {
     loaded(
@@ -321,8 +321,8 @@ fn inserted(size: ElementSize, old: u128, index: u64, x: u64) -> u128
 
 /// The element of vector register r1 at base r2 plus a displacement gets the lowest bits of register r3.
 pub fn insert_element(machine: &Machine, fields: &Fields) -> Action
-    requires { FieldsFit Meaning.InsertElement fields.now }
-    ensures value { result ≡ action Meaning.InsertElement fields.now (registers_of machine.now) machine.now.place }
+    requires { FieldsFit RowSemantics.InsertElement fields.now }
+    ensures value { result ≡ action RowSemantics.InsertElement fields.now (registers_of machine.now) machine.now.place }
     ensures sound { IsSoundAction result }
 {
     let size = element_size(fields);
@@ -342,8 +342,8 @@ pub fn insert_element(machine: &Machine, fields: &Fields) -> Action
 
 /// Register r1 gets the element of vector register r3 at base r2 plus a displacement.
 pub fn extract_element(machine: &Machine, fields: &Fields) -> Action
-    requires { FieldsFit Meaning.ExtractElement fields.now }
-    ensures value { result ≡ action Meaning.ExtractElement fields.now (registers_of machine.now) machine.now.place }
+    requires { FieldsFit RowSemantics.ExtractElement fields.now }
+    ensures value { result ≡ action RowSemantics.ExtractElement fields.now (registers_of machine.now) machine.now.place }
     ensures sound { IsSoundAction result }
 {
     let size = element_size(fields);
@@ -354,7 +354,7 @@ pub fn extract_element(machine: &Machine, fields: &Fields) -> Action
     } else {
         performs(
             CodeRule::Kept,
-            Effect::PutAny {
+            Effect::Havoc {
                 target: fields.regs[0],
             },
         )

@@ -6,18 +6,18 @@ use Rattle.s390x_operands.specs.declared.constraint.OperandConstraint.TheVariant
 use Rattle.s390x_operands.specs.declared.constraint.OperandError.{OperandError}
 use Rattle.s390x_operands.specs.declared.constraint.OperandError.TheVariants.{ReuseInLoop, NotReal, NoMemory}
 use Rattle.s390x_operands.specs.declared.constraint.Reported.{Reported}
-use Rattle.s390x_operands.specs.Visits.{Takes, Appends, IsAnswer, item_cause, is_reuse}
-use Rattle.s390x_operands.specs.Requests.{items_of, first, cause_of, Extends, Passes, Refuses, Reports}
+use Rattle.s390x_operands.specs.Visits.{Takes, Appends, IsVisitAnswer, item_cause, is_reuse}
+use Rattle.s390x_operands.specs.Requests.{items_of, first_operand_cause, cause_of, AppendsPrefix, Passes, Refuses, Reports}
 
 -- the first of no cause and another
-first-none : (c d : Option OperandError) → c ≡ None → d ≡ None → first c d ≡ None
-first-none c d p q = (ap (λ x. first x d) p) ∙ q
+first-none : (c d : Option OperandError) → c ≡ None → d ≡ None → first_operand_cause c d ≡ None
+first-none c d p q = (ap (λ x. first_operand_cause x d) p) ∙ q
 
-first-later : (c d : Option OperandError) (e : OperandError) → c ≡ None → d ≡ Some e → first c d ≡ Some e
-first-later c d e p q = (ap (λ x. first x d) p) ∙ q
+first-later : (c d : Option OperandError) (e : OperandError) → c ≡ None → d ≡ Some e → first_operand_cause c d ≡ Some e
+first-later c d e p q = (ap (λ x. first_operand_cause x d) p) ∙ q
 
-first-some : (c d : Option OperandError) (e : OperandError) → c ≡ Some e → first c d ≡ Some e
-first-some c d e p = ap (λ x. first x d) p
+first-some : (c d : Option OperandError) (e : OperandError) → c ≡ Some e → first_operand_cause c d ≡ Some e
+first-some c d e p = ap (λ x. first_operand_cause x d) p
 
 items-append : (xs ys : List (Option Reported)) → items_of (xs ++ ys) ≡ items_of xs ++ items_of ys
 items-append [] ys = refl
@@ -28,14 +28,14 @@ cause-later : (d : Bool) (xs ys : List (Option Reported)) → cause_of d xs ≡ 
 cause-later d [] ys h = refl
 cause-later d (None ∷ xs) ys h = absurd (cc)
 cause-later d (Some x ∷ xs) ys h =
-    let P : Option OperandError → Type 0 = λ c. first c (cause_of d xs) ≡ None → first c (cause_of d (xs ++ ys)) ≡ cause_of d ys
+    let P : Option OperandError → Type 0 = λ c. first_operand_cause c (cause_of d xs) ≡ None → first_operand_cause c (cause_of d (xs ++ ys)) ≡ cause_of d ys
     in elim (item_cause d x) as P [ None ↦ (λ g. cause-later d xs ys g) | Some e ↦ (λ g. absurd (cc)) ] h
 
 cause-earlier : (d : Bool) (xs ys : List (Option Reported)) (e : OperandError) → cause_of d xs ≡ Some e → cause_of d (xs ++ ys) ≡ Some e
 cause-earlier d [] ys e h = absurd (cc)
 cause-earlier d (None ∷ xs) ys e h = h
 cause-earlier d (Some x ∷ xs) ys e h =
-    let P : Option OperandError → Type 0 = λ c. first c (cause_of d xs) ≡ Some e → first c (cause_of d (xs ++ ys)) ≡ Some e
+    let P : Option OperandError → Type 0 = λ c. first_operand_cause c (cause_of d xs) ≡ Some e → first_operand_cause c (cause_of d (xs ++ ys)) ≡ Some e
     in elim (item_cause d x) as P [ None ↦ (λ g. cause-earlier d xs ys e g) | Some f ↦ (λ g. g) ] h
 
 -- one list of requests after another
@@ -53,10 +53,10 @@ refuses_then {a = a} {d₀ = d₀} {xs = xs} {ys = ys} {l = l} {e = e} p q =
       kept = q.kept ∙ p.kept;
       extended =
           record {
-            front = items_of xs ++ q.extended.front;
+            prefix = items_of xs ++ q.extended.prefix;
             rest = q.extended.rest;
-            appended = q.extended.appended ∙ (ap (λ k. k ++ q.extended.front) p.appended ∙ append_assoc l (items_of xs) q.extended.front);
-            parts = items-append xs ys ∙ (ap (λ k. items_of xs ++ k) q.extended.parts ∙ sym (append_assoc (items_of xs) q.extended.front q.extended.rest));
+            appended = q.extended.appended ∙ (ap (λ k. k ++ q.extended.prefix) p.appended ∙ append_assoc l (items_of xs) q.extended.prefix);
+            parts = items-append xs ys ∙ (ap (λ k. items_of xs ++ k) q.extended.parts ∙ sym (append_assoc (items_of xs) q.extended.prefix q.extended.rest));
           };
       cause = elim q.cause [ inl h ↦ inl h | inr h ↦ inr (cause-later (a || d₀) xs ys p.clear ∙ subst (λ d. cause_of (a || d) ys ≡ Some e) p.kept h) ];
     }
@@ -68,10 +68,10 @@ refuses_before a d₀ d₁ xs ys l m e p =
       kept = p.kept;
       extended =
           record {
-            front = p.extended.front;
+            prefix = p.extended.prefix;
             rest = p.extended.rest ++ items_of ys;
             appended = p.extended.appended;
-            parts = items-append xs ys ∙ (ap (λ k. k ++ items_of ys) p.extended.parts ∙ append_assoc p.extended.front p.extended.rest (items_of ys));
+            parts = items-append xs ys ∙ (ap (λ k. k ++ items_of ys) p.extended.parts ∙ append_assoc p.extended.prefix p.extended.rest (items_of ys));
           };
       cause = elim p.cause [ inl h ↦ inl h | inr h ↦ inr (cause-earlier (a || d₀) xs ys e h) ];
     }
@@ -90,7 +90,7 @@ passes_none a d l = record { kept = refl; clear = refl; appended = sym (append-n
 
 -- a request that has no item
 pub refuses_unreal : (a d : Bool) (l : List Reported) → Refuses a (None ∷ []) l l d d NotReal
-refuses_unreal a d l = record { kept = refl; extended = record { front = []; rest = []; appended = sym (append-nil l); parts = refl }; cause = inr refl }
+refuses_unreal a d l = record { kept = refl; extended = record { prefix = []; rest = []; appended = sym (append-nil l); parts = refl }; cause = inr refl }
 
 same-cause : (a d : Bool) (x : Reported) → (a && is_reuse x) ≡ false → item_cause d x ≡ item_cause (a || d) x
 same-cause false d x h = refl
@@ -109,7 +109,7 @@ reports_taken a d₀ d₁ x l m (Ok u) h k t =
 reports_taken a d₀ d₁ x l m (Err e) h k t =
     record {
       kept = k;
-      extended = record { front = []; rest = x ∷ []; appended = t.0 ∙ sym (append-nil l); parts = refl };
+      extended = record { prefix = []; rest = x ∷ []; appended = t.0 ∙ sym (append-nil l); parts = refl };
       cause = elim t.1 [ inl g ↦ inl g | inr g ↦ inr (first-some (item_cause (a || d₀) x) None e (sym (same-cause a d₀ x h) ∙ g)) ];
     }
 
@@ -118,8 +118,8 @@ pub refuses_denied : (a d : Bool) (x : Reported) (l : List Reported) → a ≡ t
 refuses_denied a d x l k h =
     record {
       kept = refl;
-      extended = record { front = []; rest = x ∷ []; appended = sym (append-nil l); parts = refl };
-      cause = inr (ap (λ b. first (cond ((b || d) && is_reuse x) (Some ReuseInLoop) None) None) k ∙ ap (λ b. first (cond (true && b) (Some ReuseInLoop) None) None) h);
+      extended = record { prefix = []; rest = x ∷ []; appended = sym (append-nil l); parts = refl };
+      cause = inr (ap (λ b. first_operand_cause (cond ((b || d) && is_reuse x) (Some ReuseInLoop) None) None) k ∙ ap (λ b. first_operand_cause (cond (true && b) (Some ReuseInLoop) None) None) h);
     }
 
 -- a refusal that is handed on

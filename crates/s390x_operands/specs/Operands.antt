@@ -15,7 +15,7 @@ use Rattle.s390x_inst.specs.declared.vec_inst.VecInst.TheVariants.{VecInsertLane
 use Rattle.s390x_operands.specs.declared.constraint.OperandError.{OperandError}
 use Rattle.s390x_operands.specs.declared.constraint.Reported.{Reported}
 use Rattle.s390x_operands.specs.declared.constraint.Reported.TheVariants.{Fixed}
-use Rattle.s390x_operands.specs.Requests.{items_of, cause_of, used, defined, reused, fixed_use, fixed_def, scratch, memory_requests, range_requests}
+use Rattle.s390x_operands.specs.Requests.{items_of, cause_of, used, defined, reused, fixed_use, fixed_def, scratch_request, memory_requests, range_requests}
 use Rattle.s390x_operands.specs.Calls.{call_requests, return_call_requests, incoming, outgoing}
 
 -- what is reported of vector instructions on registers and immediates
@@ -83,10 +83,10 @@ vector_requests v = register_vector_requests v
 -- what is reported of branches, calls and the rest
 abbrev pub control_requests : Inst → List (Option Reported)
 control_requests (IndirectBr rn targets) = used rn ∷ []
-control_requests (JTSequence ridx default default_cond targets) = used ridx ∷ scratch ∷ []
+control_requests (JTSequence ridx default default_cond targets) = used ridx ∷ scratch_request ∷ []
 control_requests (Call link info) = call_requests link info
 control_requests (ReturnCall info) = return_call_requests info
-control_requests (LoadSymbolReloc rd symbol_reloc) = defined rd ∷ scratch ∷ []
+control_requests (LoadSymbolReloc rd symbol_reloc) = defined rd ∷ scratch_request ∷ []
 control_requests (LabelAddress dst label) = defined dst ∷ []
 control_requests (Args args) = map incoming args.items
 control_requests (Rets rets) = map outgoing rets.items

@@ -22,22 +22,22 @@ items_of (None ∷ xs) = items_of xs
 items_of (Some x ∷ xs) = x ∷ items_of xs
 
 -- the first of two causes
-abbrev pub first : Option OperandError → Option OperandError → Option OperandError
-first None later = later
-first (Some e) later = Some e
+abbrev pub first_operand_cause : Option OperandError → Option OperandError → Option OperandError
+first_operand_cause None later = later
+first_operand_cause (Some e) later = Some e
 
 -- the first cause by which a request is refused, want of memory aside
 abbrev pub cause_of : (denies : Bool) → List (Option Reported) → Option OperandError
 cause_of denies [] = None
 cause_of denies (None ∷ xs) = Some NotReal
-cause_of denies (Some x ∷ xs) = first (item_cause denies x) (cause_of denies xs)
+cause_of denies (Some x ∷ xs) = first_operand_cause (item_cause denies x) (cause_of denies xs)
 
--- one list is another with the front of a third behind it
-pub record Extends (before after whole : List Reported) : Type 0 where
-  pub front : List Reported
+-- one list is another with a prefix of a third behind it
+pub record AppendsPrefix (before after whole : List Reported) : Type 0 where
+  pub prefix : List Reported
   pub rest : List Reported
-  pub appended : after ≡ before ++ front
-  pub parts : whole ≡ front ++ rest
+  pub appended : after ≡ before ++ prefix
+  pub parts : whole ≡ prefix ++ rest
 
 -- a visitor took all requests; none had a cause of refusal
 pub record Passes (denied : Bool) (xs : List (Option Reported)) (before after : List Reported) (denies denies' : Bool) : Type 0 where
@@ -45,10 +45,10 @@ pub record Passes (denied : Bool) (xs : List (Option Reported)) (before after : 
   pub clear : cause_of (denied || denies) xs ≡ None
   pub appended : after ≡ before ++ items_of xs
 
--- a visitor took a front of the requests, and then refused one for want of memory, or by the first cause
+-- a visitor took a prefix of the requests, and then refused one for want of memory, or by the first cause
 pub record Refuses (denied : Bool) (xs : List (Option Reported)) (before after : List Reported) (denies denies' : Bool) (e : OperandError) : Type 0 where
   pub kept : denies' ≡ denies
-  pub extended : Extends before after (items_of xs)
+  pub extended : AppendsPrefix before after (items_of xs)
   pub cause : (e ≡ NoMemory) ⊎ (cause_of (denied || denies) xs ≡ Some e)
 
 -- requests to a visitor that may deny by itself; reuse is denied to it where `denied` is true, too
@@ -68,8 +68,8 @@ abbrev pub reused : Reg → Option Reported
 reused r = Some (placed_or (Reuse 1) Def Late r)
 
 -- the register that emission may overwrite
-abbrev pub scratch : Option Reported
-scratch = Some (Fixed (general 1))
+abbrev pub scratch_request : Option Reported
+scratch_request = Some (Fixed (general 1))
 
 -- an input in the general register of a number
 abbrev pub fixed_use : Reg → ℕ → Option Reported
@@ -81,10 +81,10 @@ fixed_def r n = Some (Operand r (FixedReg (general n)) Def Late)
 
 -- the registers of a memory operand, and the one that an address may need
 abbrev pub memory_requests : MemArg → List (Option Reported)
-memory_requests (BXD12 base index disp flags) = used base ∷ used index ∷ scratch ∷ []
-memory_requests (BXD20 base index disp flags) = used base ∷ used index ∷ scratch ∷ []
-memory_requests (RegOffset reg off flags) = used reg ∷ scratch ∷ []
-memory_requests _ = scratch ∷ []
+memory_requests (BXD12 base index disp flags) = used base ∷ used index ∷ scratch_request ∷ []
+memory_requests (BXD20 base index disp flags) = used base ∷ used index ∷ scratch_request ∷ []
+memory_requests (RegOffset reg off flags) = used reg ∷ scratch_request ∷ []
+memory_requests _ = scratch_request ∷ []
 
 -- the general register of a number
 abbrev pub fixed_general : ℕ → Option Reported

@@ -31,9 +31,9 @@ abbrev pub item_cause : (denies : Bool) → Reported → Option OperandError
 item_cause denies x = cond (denies && is_reuse x) (Some ReuseInLoop) None
 
 -- an answer is want of memory, or by this cause
-abbrev pub IsAnswer : Option OperandError → Result (Unit {0}) OperandError → Type 0
-IsAnswer cause (Ok _) = cause ≡ None
-IsAnswer cause (Err e) = (e ≡ NoMemory) ⊎ (cause ≡ Some e)
+abbrev pub IsVisitAnswer : Option OperandError → Result (Unit {0}) OperandError → Type 0
+IsVisitAnswer cause (Ok _) = cause ≡ None
+IsVisitAnswer cause (Err e) = (e ≡ NoMemory) ⊎ (cause ≡ Some e)
 
 -- success appends the item, a refusal nothing
 abbrev pub Appends : Reported → (before after : List Reported) → Result (Unit {0}) OperandError → Type 0
@@ -42,4 +42,4 @@ Appends x before after (Err e) = after ≡ before
 
 -- one call of a visitor
 abbrev pub Takes : (denies : Bool) → Reported → (before after : List Reported) → Result (Unit {0}) OperandError → Type 0
-Takes denies x before after r = Appends x before after r × IsAnswer (item_cause denies x) r
+Takes denies x before after r = Appends x before after r × IsVisitAnswer (item_cause denies x) r

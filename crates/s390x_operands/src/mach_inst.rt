@@ -1,7 +1,7 @@
 //! What a register allocator asks of an instruction.
 ghost use Rattle.std.specs.Prelude.{◌≡◌, ◌++◌, OnOk, OnErr};
-ghost use Rattle.s390x_operands.specs.Visits.{IsAnswer};
-ghost use Rattle.s390x_operands.specs.Requests.{Extends};
+ghost use Rattle.s390x_operands.specs.Visits.{IsVisitAnswer};
+ghost use Rattle.s390x_operands.specs.Requests.{AppendsPrefix};
 ghost use Rattle.s390x_operands.specs.Operands.{operands, operands_cause};
 ghost use Rattle.s390x_operands.specs.Queries.{move_of, is_trap, is_args, is_safepoint, call_type_of};
 
@@ -55,11 +55,11 @@ impl MachInst for Inst {
     /// `ReuseInLoop` comes exactly where a virtual output that has to be an input stands in a `Loop`, or the visitor
     /// denies it; `NotReal` exactly where a register that has to be real is virtual: an end of a range of registers,
     /// the link of a call, the place of an argument or a result. The first in order decides. `NoMemory` is the
-    /// visitor's. A refused call leaves the visitor with a front of the operands.
+    /// visitor's. A refused call leaves the visitor with a prefix of the operands.
     fn get_operands<V: OperandVisitor>(&self, collector: &mut V) -> Result<(), OperandError>
         ensures list { OnOk result (V.items collector.new ≡ V.items collector.old ++ operands self.now) }
-        ensures front { OnErr result (Extends (V.items collector.old) (V.items collector.new) (operands self.now)) }
-        ensures cause { IsAnswer (operands_cause (V.denies collector.old) self.now) result }
+        ensures prefix { OnErr result (AppendsPrefix (V.items collector.old) (V.items collector.new) (operands self.now)) }
+        ensures cause { IsVisitAnswer (operands_cause (V.denies collector.old) self.now) result }
         ensures denies { V.denies collector.new ≡ V.denies collector.old }
     {
         report_inst(collector, false, self)

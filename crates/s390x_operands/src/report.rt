@@ -5,7 +5,7 @@
 
 ghost use Rattle.std.specs.Prelude.{◌≡◌, ◌<◌, ◌++◌, ◌∷◌, [], Some, map};
 ghost use Rattle.s390x_operands.specs.declared.constraint.Reported.TheVariants.{Fixed};
-ghost use Rattle.s390x_operands.specs.Requests.{Reports, used, defined, reused, scratch, fixed_use, fixed_def, memory_requests};
+ghost use Rattle.s390x_operands.specs.Requests.{Reports, used, defined, reused, scratch_request, fixed_use, fixed_def, memory_requests};
 
 use crate::constraint::OperandError;
 use crate::visitor::OperandVisitor;
@@ -46,7 +46,7 @@ pub fn report_reuse<V: OperandVisitor>(
 
 /// Reports the register that emission may overwrite.
 pub fn report_scratch<V: OperandVisitor>(v: &mut V, denied: bool) -> Result<(), OperandError>
-    ensures { Reports denied (scratch ∷ []) (V.items v.old) (V.items v.new) (V.denies v.old) (V.denies v.new) result }
+    ensures { Reports denied (scratch_request ∷ []) (V.items v.old) (V.items v.new) (V.denies v.old) (V.denies v.new) result }
 {
     v.reg_fixed_nonallocatable(gpr_preg(1))
 }
@@ -115,7 +115,7 @@ pub fn report_address<V: OperandVisitor>(
     denied: bool,
     registers: &[Reg],
 ) -> Result<(), OperandError>
-    ensures { Reports denied (map used registers.now ++ scratch ∷ []) (V.items v.old) (V.items v.new) (V.denies v.old) (V.denies v.new) result }
+    ensures { Reports denied (map used registers.now ++ scratch_request ∷ []) (V.items v.old) (V.items v.new) (V.denies v.old) (V.denies v.new) result }
 {
     report_uses(v, denied, registers)?;
     report_scratch(v, denied)
@@ -291,7 +291,7 @@ pub fn report_output_scratch<V: OperandVisitor>(
     denied: bool,
     rd: &Writable<Reg>,
 ) -> Result<(), OperandError>
-    ensures { Reports denied (defined rd.now ∷ scratch ∷ []) (V.items v.old) (V.items v.new) (V.denies v.old) (V.denies v.new) result }
+    ensures { Reports denied (defined rd.now ∷ scratch_request ∷ []) (V.items v.old) (V.items v.new) (V.denies v.old) (V.denies v.new) result }
 {
     report_def(v, denied, rd)?;
     report_scratch(v, denied)
@@ -303,7 +303,7 @@ pub fn report_use_scratch<V: OperandVisitor>(
     denied: bool,
     reg: &Reg,
 ) -> Result<(), OperandError>
-    ensures { Reports denied (used reg.now ∷ scratch ∷ []) (V.items v.old) (V.items v.new) (V.denies v.old) (V.denies v.new) result }
+    ensures { Reports denied (used reg.now ∷ scratch_request ∷ []) (V.items v.old) (V.items v.new) (V.denies v.old) (V.denies v.new) result }
 {
     report_use(v, denied, reg)?;
     report_scratch(v, denied)

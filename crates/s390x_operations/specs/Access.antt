@@ -1,6 +1,6 @@
 -- Data accesses: what an instruction reads or stores, when that faults, and what is stored. Each access is one step of the machine.
 use Rattle.std.specs.Prelude.{ℕ, ◌%◌, Option, Some, None, Bool, true, false, ◌==◌, not, ◌&&◌, if◌then◌else◌}
-use Rattle.s390x_operations.specs.State.{Memory, number_at, reaches, CodeImage, overlaps, Deposit}
+use Rattle.s390x_operations.specs.State.{Memory, number_at, reaches, CodeImage, overlaps, StoreEvent}
 use Rattle.s390x_operations.specs.Values.{value}
 use Rattle.s390x_operations.specs.declared.size.Size.{Size}
 use Rattle.s390x_operations.specs.declared.operator.Operator.{Operator}
@@ -40,16 +40,16 @@ fault (Stores aligned a n v) has = reach_fault (is_misaligned aligned a n) has a
 fault (Locks a n change) has = reach_fault (is_misaligned true a n) has a n
 
 -- the store of a number in n bytes from a, if there is one
-abbrev pub deposit_at : ℕ → ℕ → Option ℕ → Option Deposit
-deposit_at a n None = None
-deposit_at a n (Some v) = Some (record { address = a; size = n; value = v })
+abbrev pub store_event_at : ℕ → ℕ → Option ℕ → Option StoreEvent
+store_event_at a n None = None
+store_event_at a n (Some v) = Some (record { address = a; size = n; value = v })
 
 -- what the access stores, if it stores: an event, also where it changes no byte
-abbrev pub deposit : Access → Memory → Option Deposit
-deposit Untouched m = None
-deposit (Reads aligned a n) m = None
-deposit (Stores aligned a n v) m = deposit_at a n (Some v)
-deposit (Locks a n change) m = deposit_at a n (changed change (number_at m.get a n))
+abbrev pub store_event : Access → Memory → Option StoreEvent
+store_event Untouched m = None
+store_event (Reads aligned a n) m = None
+store_event (Stores aligned a n v) m = store_event_at a n (Some v)
+store_event (Locks a n change) m = store_event_at a n (changed change (number_at m.get a n))
 
 -- the operand of a store or of a locked access has a byte of the image
 abbrev pub stores_into : CodeImage → Access → Bool

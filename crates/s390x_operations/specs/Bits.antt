@@ -93,11 +93,11 @@ abbrev pub leftmost : ℕ → Pair
 leftmost x = record { high = leading_zeros w64 x; low = if x == 0 then 0 else x - 2 ^ (63 - leading_zeros w64 x) }
 
 -- how many bits a width has
-abbrev pub bits : Width → ℕ
-bits Bits8 = 8
-bits Bits16 = 16
-bits Bits32 = 32
-bits Bits64 = 64
+abbrev pub bits_of_width : Width → ℕ
+bits_of_width Bits8 = 8
+bits_of_width Bits16 = 16
+bits_of_width Bits32 = 32
+bits_of_width Bits64 = 64
 
 -- how many bytes a width has
 abbrev pub bytes : Width → ℕ
@@ -108,9 +108,9 @@ bytes Bits64 = 8
 
 -- the lowest bits of a number, extended to a size with zeros or with their sign
 abbrev pub extended : Signedness → Width → Size → ℕ → ℕ
-extended Unsigned width size x = x % 2 ^ bits width
-extended Signed width size x = if nat_lt (x % 2 ^ bits width) (2 ^ (bits width - 1)) then x % 2 ^ bits width else x % 2 ^ bits width + (whole size - 2 ^ bits width)
+extended Unsigned width size x = x % 2 ^ bits_of_width width
+extended Signed width size x = if nat_lt (x % 2 ^ bits_of_width width) (2 ^ (bits_of_width width - 1)) then x % 2 ^ bits_of_width width else x % 2 ^ bits_of_width width + (whole size - 2 ^ bits_of_width width)
 
 -- the size has that many bits or more
 abbrev pub IsWithin : Width → Size → Type 0
-IsWithin width size = 2 ^ bits width ≤ whole size
+IsWithin width size = 2 ^ bits_of_width width ≤ whole size

@@ -7,10 +7,10 @@ use Rattle.s390x_lanes.specs.Relation.{Gives, code_of as vector_code_of, divides
 use Rattle.s390x_operations.specs.Numbers.{whole, signed}
 use Rattle.s390x_operations.specs.Unsigned.{compared, wide_product, signed_division, unsigned_division}
 use Rattle.s390x_operations.specs.Bits.{bytes, leftmost}
-use Rattle.s390x_operations.specs.State.{Registers, Memory, Core, put, put_vector, coded, number_at, sum64, deposited}
+use Rattle.s390x_operations.specs.State.{Registers, Memory, Core, set_general, set_vector, with_code, number_at, wrapping_add64, after_store}
 use Rattle.s390x_operations.specs.Values.{value, code_of_value, taken, width_of}
 use Rattle.s390x_operations.specs.Vectors.{layout_bytes, loaded, vector_stored}
-use Rattle.s390x_operations.specs.Access.{Access, Untouched, Reads, Stores, Locks, Swaps, Operates, fault, deposit}
+use Rattle.s390x_operations.specs.Access.{Access, Untouched, Reads, Stores, Locks, Swaps, Operates, fault, store_event}
 use Rattle.s390x_operations.specs.declared.size.Size.{Size}
 use Rattle.s390x_operations.specs.declared.size.Size.TheVariants.{Halfword, Word, Doubleword}
 use Rattle.s390x_operations.specs.declared.stop.ConditionCode.{ConditionCode}
@@ -21,9 +21,9 @@ use Rattle.s390x_operations.specs.declared.operand.Source.{Source}
 use Rattle.s390x_operations.specs.declared.operand.Source.TheVariants.{Value, Memory as InMemory, AlignedMemory}
 use Rattle.s390x_operations.specs.declared.operand.Pair.{Pair}
 use Rattle.s390x_operations.specs.declared.effect.Effect.{Effect}
-use Rattle.s390x_operations.specs.declared.effect.Effect.TheVariants.{Compute, Test, Compare, CompareAndTrap, MultiplyPair, DividePair, DivideLogicalPair, FindLeftmostOne, Store, LoadAndOperate, CompareAndSwap, LoadMultiple, StoreMultiple, PutAny, ComputeVector, PutVector, LoadVector, StoreVector}
+use Rattle.s390x_operations.specs.declared.effect.Effect.TheVariants.{Compute, Test, Compare, CompareAndTrap, MultiplyPair, DividePair, DivideLogicalPair, FindLeftmostOne, Store, LoadAndOperate, CompareAndSwap, LoadMultiple, StoreMultiple, Havoc, ComputeVector, PutVector, LoadVector, StoreVector}
 use Rattle.s390x_operations.specs.declared.effect.CodeRule.{CodeRule}
-use Rattle.s390x_operations.specs.declared.effect.CodeRule.TheVariants.{Kept, Set, Unstated}
+use Rattle.s390x_operations.specs.declared.effect.CodeRule.TheVariants.{Kept, Set, Unspecified}
 use Rattle.s390x_operations.specs.declared.effect.Operation.{Operation}
 
 -- ---- condition codes as numbers
@@ -108,22 +108,22 @@ merged Word old x = old / 2 ^ 32 * 2 ^ 32 + x
 merged Doubleword old x = x
 
 -- a general register gets a value of a size
-abbrev pub put_sized : Size → Registers → ℕ → ℕ → Registers
-put_sized size r target x = put r target (merged size (r.general target) x)
+abbrev pub set_sized : Size → Registers → ℕ → ℕ → Registers
+set_sized size r target x = set_general r target (merged size (r.general target) x)
 
 -- an even-odd pair gets its two values
-abbrev pub put_pair : Size → Registers → ℕ → Pair → Registers
-put_pair size r pair p = put_sized size (put_sized size r pair p.high) (pair + 1) p.low
+abbrev pub set_pair : Size → Registers → ℕ → Pair → Registers
+set_pair size r pair p = set_sized size (set_sized size r pair p.high) (pair + 1) p.low
 
 -- an even-odd pair gets the result of a division, if there is one
-abbrev pub put_divided : Size → Registers → ℕ → Option Pair → Registers
-put_divided size r pair None = r
-put_divided size r pair (Some p) = put_pair size r pair p
+abbrev pub set_divided : Size → Registers → ℕ → Option Pair → Registers
+set_divided size r pair None = r
+set_divided size r pair (Some p) = set_pair size r pair p
 
 -- so many registers from one on, register 0 after 15, get doublewords
-abbrev pub put_multiple : Registers → (ℕ → ℕ) → ℕ → ℕ → ℕ → Registers
-put_multiple r f first address zero = r
-put_multiple r f first address (suc n) = put (put_multiple r f first address n) ((first + n) % 16) (number_at f (sum64 address (8 * n)) 8)
+abbrev pub set_multiple : Registers → (ℕ → ℕ) → ℕ → ℕ → ℕ → Registers
+set_multiple r f first address zero = r
+set_multiple r f first address (suc n) = set_general (set_multiple r f first address n) ((first + n) % 16) (number_at f (wrapping_add64 address (8 * n)) 8)
 
 -- the number that a sized access finds
 abbrev pub found : Size → Memory → ℕ → ℕ
@@ -131,25 +131,25 @@ found size m address = number_at m.get address (bytes (width_of size))
 
 -- the registers after it, but for the condition code, where nothing is free
 abbrev pub results : Effect → Core → Registers
-results (Compute operator size target first second) c = put_sized size c.registers target (value operator size first (taken size second c.memory))
-results (MultiplyPair sign pair first second) c = put_pair Doubleword c.registers pair (wide_product sign first second)
-results (DividePair pair dividend divisor) c = put_divided Doubleword c.registers pair (signed_division (signed Doubleword dividend) (signed Doubleword divisor))
-results (DivideLogicalPair size pair high low divisor) c = put_divided size c.registers pair (unsigned_division size (high * whole size + low) divisor)
-results (FindLeftmostOne pair x) c = put_pair Doubleword c.registers pair (leftmost x)
-results (LoadAndOperate operator size target second address) c = put_sized size c.registers target (found size c.memory address)
-results (CompareAndSwap size target expected replacement address) c = put_sized size c.registers target (found size c.memory address)
-results (LoadMultiple first_register count address) c = put_multiple c.registers c.memory.get first_register address count
+results (Compute operator size target first second) c = set_sized size c.registers target (value operator size first (taken size second c.memory))
+results (MultiplyPair sign pair first second) c = set_pair Doubleword c.registers pair (wide_product sign first second)
+results (DividePair pair dividend divisor) c = set_divided Doubleword c.registers pair (signed_division (signed Doubleword dividend) (signed Doubleword divisor))
+results (DivideLogicalPair size pair high low divisor) c = set_divided size c.registers pair (unsigned_division size (high * whole size + low) divisor)
+results (FindLeftmostOne pair x) c = set_pair Doubleword c.registers pair (leftmost x)
+results (LoadAndOperate operator size target second address) c = set_sized size c.registers target (found size c.memory address)
+results (CompareAndSwap size target expected replacement address) c = set_sized size c.registers target (found size c.memory address)
+results (LoadMultiple first_register count address) c = set_multiple c.registers c.memory.get first_register address count
 results _ c = c.registers
 
 -- these are the registers after it, but for the condition code
 abbrev pub Results : Effect → Core → Registers → Type 0
-Results (PutAny target) c r = (x : ℕ) × (x < 2 ^ 64) × (r ≡ coded r.code (put c.registers target x))
+Results (Havoc target) c r = (x : ℕ) × (x < 2 ^ 64) × (r ≡ with_code r.code (set_general c.registers target x))
 Results (ComputeVector operation target first second third fourth) c r =
-    (x : ℕ) × Gives operation first second third fourth x (vector_code_of operation first second third) × (r ≡ coded r.code (put_vector c.registers target x))
-Results (PutVector target known x) c r = (y : ℕ) × (y < 2 ^ 128) × (bit_and y known ≡ bit_and x known) × (r ≡ coded r.code (put_vector c.registers target y))
+    (x : ℕ) × Gives operation first second third fourth x (vector_code_of operation first second third) × (r ≡ with_code r.code (set_vector c.registers target x))
+Results (PutVector target known x) c r = (y : ℕ) × (y < 2 ^ 128) × (bit_and y known ≡ bit_and x known) × (r ≡ with_code r.code (set_vector c.registers target y))
 Results (LoadVector layout target old known address) c r =
-    (y : ℕ) × (y < 2 ^ 128) × (bit_and y known ≡ bit_and (loaded layout old (number_at c.memory.get address (layout_bytes layout))) known) × (r ≡ coded r.code (put_vector c.registers target y))
-Results effect c r = r ≡ coded r.code (results effect c)
+    (y : ℕ) × (y < 2 ^ 128) × (bit_and y known ≡ bit_and (loaded layout old (number_at c.memory.get address (layout_bytes layout))) known) × (r ≡ with_code r.code (set_vector c.registers target y))
+Results effect c r = r ≡ with_code r.code (results effect c)
 
 -- ---- condition codes
 
@@ -173,21 +173,21 @@ effect_code _ c = c.registers.code
 abbrev pub CodeAfter : CodeRule → Effect → Core → ConditionCode → Type 0
 CodeAfter Kept effect c code = code ≡ c.registers.code
 CodeAfter Set effect c code = code ≡ effect_code effect c
-CodeAfter Unstated effect c code = Unit {0}
+CodeAfter Unspecified effect c code = Unit {0}
 
 -- ---- operations
 
 -- it may go from one core to the other
-pub record Goes (op : Operation) (c t : Core) : Type 0 where
+pub record MayExecute (op : Operation) (c t : Core) : Type 0 where
   pub reached : fault (access op.effect) c.memory.has ≡ None
   pub allowed : refused op.effect ≡ None
   pub results : Results op.effect c t.registers
   pub code : CodeAfter op.rule op.effect c t.registers.code
-  pub memory : t.memory ≡ deposited (deposit (access op.effect) c.memory) c.memory
+  pub memory : t.memory ≡ after_store (store_event (access op.effect) c.memory) c.memory
 
 -- it may stop: the access's fault comes first, then what the values bring about. The bytes in memory don't count
-abbrev pub Stops : Operation → (ℕ → Bool) → StopKind → Type 0
-Stops op has kind = (fault (access op.effect) has ≡ Some kind) ⊎ ((fault (access op.effect) has ≡ None) × ((refused op.effect ≡ Some kind) ⊎ MayRefuse op.effect kind))
+abbrev pub MayInterrupt : Operation → (ℕ → Bool) → StopKind → Type 0
+MayInterrupt op has kind = (fault (access op.effect) has ≡ Some kind) ⊎ ((fault (access op.effect) has ≡ None) × ((refused op.effect ≡ Some kind) ⊎ MayRefuse op.effect kind))
 
 -- what the first operation does, the second allows: the same access and stops, and as free or freer results and codes
 pub record Refines (m op : Operation) : Type 0 where

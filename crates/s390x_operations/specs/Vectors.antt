@@ -1,6 +1,6 @@
 -- Vector operands in memory (Principles of Operation, chapter 21, "Vector support instructions").
 use Rattle.std.specs.Prelude.{ℕ, ◌-◌, ◌/◌, ◌==◌, if◌then◌else◌, Bool, true, false}
-use Rattle.s390x_lanes.specs.Size.{bits, lane_count}
+use Rattle.s390x_lanes.specs.Size.{element_bits, lane_count}
 use Rattle.s390x_lanes.specs.Lanes.{lane, from_lanes}
 use Rattle.s390x_lanes.specs.declared.size.ElementSize.{ElementSize}
 use Rattle.s390x_operations.specs.Bits.{reversed}
@@ -9,7 +9,7 @@ use Rattle.s390x_operations.specs.declared.effect.VectorLayout.TheVariants.{Whol
 
 -- an element, its bytes reversed where the flag says so
 abbrev pub element_value : Bool → ElementSize → ℕ → ℕ
-element_value true size x = reversed (bits size / 8) x
+element_value true size x = reversed (element_bits size / 8) x
 element_value false size x = x
 
 -- how many bytes lie in memory
@@ -17,30 +17,30 @@ abbrev pub layout_bytes : VectorLayout → ℕ
 layout_bytes Whole = 16
 layout_bytes (ReversedBytes size) = 16
 layout_bytes (ReversedElements size) = 16
-layout_bytes (Replicated size backwards) = bits size / 8
-layout_bytes (Element size index backwards) = bits size / 8
+layout_bytes (Replicated size backwards) = element_bits size / 8
+layout_bytes (Element size index backwards) = element_bits size / 8
 
 -- the elements of x, each with its bytes reversed
 abbrev pub with_reversed_bytes : ElementSize → ℕ → ℕ
-with_reversed_bytes size x = from_lanes (bits size) (lane_count size) (λ i. element_value true size (lane (bits size) x i))
+with_reversed_bytes size x = from_lanes (element_bits size) (lane_count size) (λ i. element_value true size (lane (element_bits size) x i))
 
 -- the elements of x in reverse order
 abbrev pub with_reversed_elements : ElementSize → ℕ → ℕ
-with_reversed_elements size x = from_lanes (bits size) (lane_count size) (λ i. lane (bits size) x (lane_count size - 1 - i))
+with_reversed_elements size x = from_lanes (element_bits size) (lane_count size) (λ i. lane (element_bits size) x (lane_count size - 1 - i))
 
 -- a register that held `old`, after a load of the number x
 abbrev pub loaded : VectorLayout → ℕ → ℕ → ℕ
 loaded Whole old x = x
 loaded (ReversedBytes size) old x = with_reversed_bytes size x
 loaded (ReversedElements size) old x = with_reversed_elements size x
-loaded (Replicated size backwards) old x = from_lanes (bits size) (lane_count size) (λ i. element_value backwards size x)
+loaded (Replicated size backwards) old x = from_lanes (element_bits size) (lane_count size) (λ i. element_value backwards size x)
 loaded (Element size index backwards) old x =
-    from_lanes (bits size) (lane_count size) (λ i. if i == index then element_value backwards size x else lane (bits size) old i)
+    from_lanes (element_bits size) (lane_count size) (λ i. if i == index then element_value backwards size x else lane (element_bits size) old i)
 
 -- the number that a store of a register's value puts into memory; nothing stores a replicated element
 abbrev pub vector_stored : VectorLayout → ℕ → ℕ
 vector_stored Whole x = x
 vector_stored (ReversedBytes size) x = with_reversed_bytes size x
 vector_stored (ReversedElements size) x = with_reversed_elements size x
-vector_stored (Replicated size backwards) x = element_value backwards size (lane (bits size) x 0)
-vector_stored (Element size index backwards) x = element_value backwards size (lane (bits size) x index)
+vector_stored (Replicated size backwards) x = element_value backwards size (lane (element_bits size) x 0)
+vector_stored (Element size index backwards) x = element_value backwards size (lane (element_bits size) x index)

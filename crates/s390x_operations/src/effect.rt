@@ -117,7 +117,7 @@ pub enum Effect {
         address: u64,
     },
     /// A general register gets any value.
-    PutAny {
+    Havoc {
         target: u8,
     },
     /// A vector register gets an operation's result.
@@ -159,7 +159,7 @@ pub enum CodeRule {
     /// It is that of the effect.
     Set,
     /// It may be any.
-    Unstated,
+    Unspecified,
 }
 
 /// An effect, and what becomes of the condition code.

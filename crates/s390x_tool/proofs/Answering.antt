@@ -9,12 +9,12 @@ use Rattle.s390x_base.specs.declared.error.EmitError.{EmitError}
 use Rattle.s390x_base.specs.declared.error.EmitError.TheVariants as error
 use Rattle.s390x_buffer.specs.declared.entries.MachBufferFinalized.{MachBufferFinalized}
 use Rattle.s390x_buffer.specs.State.{Constant}
-use Rattle.s390x_steps.specs.Causes.{first}
-use Rattle.s390x_steps.specs.Ranges.{BlocksInRange}
-use Rattle.s390x_steps.specs.Tree.{Tree}
-use Rattle.s390x_emit_int.specs.Function.{IsImage, checked_cause, start_cause, trees_of, constants_of}
+use Rattle.s390x_typed_steps.specs.Causes.{first_emit_cause}
+use Rattle.s390x_typed_steps.specs.Ranges.{BlocksInRange}
+use Rattle.s390x_typed_steps.specs.Tree.{Tree}
+use Rattle.s390x_emit_int.specs.Function.{IsFinishedCode, checked_cause, start_cause, trees_of, constants_of}
 use Rattle.s390x_emit_int.specs.Headline.{RunsAsTyped}
-use Rattle.s390x_image.specs.Causes.{link_cause, base_cause, relocs_cause, first as first_cause}
+use Rattle.s390x_image.specs.Causes.{link_cause, base_cause, relocs_cause, first_link_cause as first_cause}
 use Rattle.s390x_image.specs.Fields.{filled}
 use Rattle.s390x_image.specs.Symbols.{Symbols}
 use Rattle.s390x_image.specs.declared.image.Image.{Image as LinkedImage}
@@ -30,7 +30,7 @@ use Rattle.s390x_job.specs.Completions.{pieces, IsFirstWrong}
 use Rattle.s390x_job.specs.declared.job.Job.{Job}
 use Rattle.s390x_tool.specs.Lines.{line, IsMade, IsRefusal, IsLinkRefusal}
 use Rattle.s390x_tool.specs.Emitted.{emit_text}
-use Rattle.s390x_tool.specs.Answers.{IsAnswer, IsCode, IsEmitReply, IsImageAt, IsImageReply, IsJobReply, IsLinked, IsRunReply, cause_of, link_cause_of, symbols_of}
+use Rattle.s390x_tool.specs.Answers.{IsAnswer, IsCodeOfJob, IsEmitReply, IsImageAt, IsImageReply, IsJobReply, IsLinked, IsRunReply, job_cause, link_cause_of, symbols_of}
 use Rattle.s390x_tool.specs.declared.words.Command.{Command}
 use Rattle.s390x_tool.specs.declared.words.Command.TheVariants.{Image, Emit, Run}
 use Rattle.s390x_tool.specs.declared.status.Status.{Status}
@@ -53,56 +53,56 @@ answer_of_job (Run base steps) input s text j is spelled only reply = record { j
 pub answer_of_syntax : (command : Command) (input : List ℕ) (s : Status) (text : List ℕ) (number : ℕ)
     → ((j : Job) → IsJob j → text_of_job j ≡ input → ⊥) → IsFirstWrong (pieces input) number
     → IsMade status.Syntax (line (codes "syntax " ++ decimal number)) s text → IsAnswer command input s text
-answer_of_syntax command input s text number none first (inl made) =
-    rw made.0 (record { no_job = none; number = number; first = first; spelled = made.1 })
-answer_of_syntax command input s text number none first (inr short) = rw short.0 short.1
+answer_of_syntax command input s text number none first_emit_cause (inl made) =
+    rw made.0 (record { no_job = none; number = number; first = first_emit_cause; spelled = made.1 })
+answer_of_syntax command input s text number none first_emit_cause (inr short) = rw short.0 short.1
 
 -- a refusal of emission is the reply
-pub reply_of_refusal : (base : ℕ) (j : Job) (e : EmitError) (s : Status) (text : List ℕ)
-    → (e ≡ error.NoMemory) ⊎ (cause_of j ≡ Some e) → IsRefusal e s text → IsImageReply base j s text
-reply_of_refusal base j e s text (inl short) (inl refusal) = absurd (refusal.0 short)
-reply_of_refusal base j e s text (inr cause) (inl refusal) = rw refusal.1 (record { error = e; cause = cause; spelled = refusal.2 })
-reply_of_refusal base j e s text cause (inr short) = rw short.1 short.2
+pub reply_of_cause : (base : ℕ) (j : Job) (e : EmitError) (s : Status) (text : List ℕ)
+    → (e ≡ error.NoMemory) ⊎ (job_cause j ≡ Some e) → IsRefusal e s text → IsImageReply base j s text
+reply_of_cause base j e s text (inl short) (inl refusal) = absurd (refusal.0 short)
+reply_of_cause base j e s text (inr cause) (inl refusal) = rw refusal.1 (record { error = e; cause = cause; spelled = refusal.2 })
+reply_of_cause base j e s text cause (inr short) = rw short.1 short.2
 
 -- to `emit` too
-pub emit_reply_of_refusal : (j : Job) (e : EmitError) (s : Status) (text : List ℕ)
-    → (e ≡ error.NoMemory) ⊎ (cause_of j ≡ Some e) → IsRefusal e s text → IsEmitReply j s text
-emit_reply_of_refusal j e s text (inl short) (inl refusal) = absurd (refusal.0 short)
-emit_reply_of_refusal j e s text (inr cause) (inl refusal) = rw refusal.1 (record { error = e; cause = cause; spelled = refusal.2 })
-emit_reply_of_refusal j e s text cause (inr short) = rw short.1 short.2
+pub emit_reply_of_cause : (j : Job) (e : EmitError) (s : Status) (text : List ℕ)
+    → (e ≡ error.NoMemory) ⊎ (job_cause j ≡ Some e) → IsRefusal e s text → IsEmitReply j s text
+emit_reply_of_cause j e s text (inl short) (inl refusal) = absurd (refusal.0 short)
+emit_reply_of_cause j e s text (inr cause) (inl refusal) = rw refusal.1 (record { error = e; cause = cause; spelled = refusal.2 })
+emit_reply_of_cause j e s text cause (inr short) = rw short.1 short.2
 
 -- to `run` too
-pub run_reply_of_refusal : (base steps : ℕ) (j : Job) (e : EmitError) (s : Status) (text : List ℕ)
-    → (e ≡ error.NoMemory) ⊎ (cause_of j ≡ Some e) → IsRefusal e s text → IsRunReply base steps j s text
-run_reply_of_refusal base steps j e s text (inl short) (inl refusal) = absurd (refusal.0 short)
-run_reply_of_refusal base steps j e s text (inr cause) (inl refusal) = rw refusal.1 (record { error = e; cause = cause; spelled = refusal.2 })
-run_reply_of_refusal base steps j e s text cause (inr short) = rw short.1 short.2
+pub run_reply_of_cause : (base steps : ℕ) (j : Job) (e : EmitError) (s : Status) (text : List ℕ)
+    → (e ≡ error.NoMemory) ⊎ (job_cause j ≡ Some e) → IsRefusal e s text → IsRunReply base steps j s text
+run_reply_of_cause base steps j e s text (inl short) (inl refusal) = absurd (refusal.0 short)
+run_reply_of_cause base steps j e s text (inr cause) (inl refusal) = rw refusal.1 (record { error = e; cause = cause; spelled = refusal.2 })
+run_reply_of_cause base steps j e s text cause (inr short) = rw short.1 short.2
 
 -- the code with its tables is the reply to `emit`
 pub reply_of_code : (j : Job) (code : MachBufferFinalized) (s : Status) (text : List ℕ)
-    → IsCode j code → IsMade status.Ok (emit_text code) s text → IsEmitReply j s text
+    → IsCodeOfJob j code → IsMade status.Ok (emit_text code) s text → IsEmitReply j s text
 reply_of_code j code s text is (inl made) = rw made.0 (record { code = code; is = is; spelled = made.1 })
 reply_of_code j code s text is (inr short) = rw short.0 short.1
 
 -- a refusal of linking is the reply
-pub reply_of_link_refusal : (base : ℕ) (j : Job) (code : MachBufferFinalized) (e : LinkError) (s : Status) (text : List ℕ)
-    → IsCode j code → (e ≡ link.NoMemory) ⊎ (link_cause_of base j code ≡ Some e) → IsLinkRefusal e s text → IsImageReply base j s text
-reply_of_link_refusal base j code e s text is (inl short) (inl refusal) = absurd (refusal.0 short)
-reply_of_link_refusal base j code e s text is (inr cause) (inl refusal) =
+pub reply_of_link_cause : (base : ℕ) (j : Job) (code : MachBufferFinalized) (e : LinkError) (s : Status) (text : List ℕ)
+    → IsCodeOfJob j code → (e ≡ link.NoMemory) ⊎ (link_cause_of base j code ≡ Some e) → IsLinkRefusal e s text → IsImageReply base j s text
+reply_of_link_cause base j code e s text is (inl short) (inl refusal) = absurd (refusal.0 short)
+reply_of_link_cause base j code e s text is (inr cause) (inl refusal) =
     rw refusal.1 (record { code = code; is = is; error = e; cause = cause; spelled = refusal.2 })
-reply_of_link_refusal base j code e s text is cause (inr short) = rw short.1 short.2
+reply_of_link_cause base j code e s text is cause (inr short) = rw short.1 short.2
 
 -- to `run` too
-pub run_reply_of_link_refusal : (base steps : ℕ) (j : Job) (code : MachBufferFinalized) (e : LinkError) (s : Status) (text : List ℕ)
-    → IsCode j code → (e ≡ link.NoMemory) ⊎ (link_cause_of base j code ≡ Some e) → IsLinkRefusal e s text → IsRunReply base steps j s text
-run_reply_of_link_refusal base steps j code e s text is (inl short) (inl refusal) = absurd (refusal.0 short)
-run_reply_of_link_refusal base steps j code e s text is (inr cause) (inl refusal) =
+pub run_reply_of_link_cause : (base steps : ℕ) (j : Job) (code : MachBufferFinalized) (e : LinkError) (s : Status) (text : List ℕ)
+    → IsCodeOfJob j code → (e ≡ link.NoMemory) ⊎ (link_cause_of base j code ≡ Some e) → IsLinkRefusal e s text → IsRunReply base steps j s text
+run_reply_of_link_cause base steps j code e s text is (inl short) (inl refusal) = absurd (refusal.0 short)
+run_reply_of_link_cause base steps j code e s text is (inr cause) (inl refusal) =
     rw refusal.1 (record { code = code; is = is; error = e; cause = cause; spelled = refusal.2 })
-run_reply_of_link_refusal base steps j code e s text is cause (inr short) = rw short.1 short.2
+run_reply_of_link_cause base steps j code e s text is cause (inr short) = rw short.1 short.2
 
 -- the text of the execution is the reply, where there is memory for it
 pub run_reply_of_text : {Z : Type 0} (base steps : ℕ) (j : Job) (code : MachBufferFinalized) (bytes : List ℕ) (r : Result (String Z) NoMemory) (s : Status) (text : List ℕ)
-    → IsCode j code → IsLinked base j code bytes → IfOk r (λ t. IsRunText base steps j code bytes (string_bytes t))
+    → IsCodeOfJob j code → IsLinked base j code bytes → IfOk r (λ t. IsRunText base steps j code bytes (string_bytes t))
     → MatchResult r (λ t. (s ≡ status.Ok) × (text ≡ string_bytes t)) (λ e. (s ≡ status.NoMemory) × (text ≡ line (codes "no memory"))) → IsRunReply base steps j s text
 run_reply_of_text base steps j code bytes (Ok t) s text is linked told made =
     rw made.0 (record { code = code; is = is; bytes = bytes; image = linked; spelled = subst (λ l. IsRunText base steps j code bytes l) (sym made.1) told })
@@ -132,7 +132,7 @@ linked_fits base j code bytes linked same =
     base_fits alignment size base true true a b e = leb-true (base + size) 18446744073709551616 b
 
 -- that the second of two causes isn't there either
-second_none : (a b : Option EmitError) → first a b ≡ None → b ≡ None
+second_none : (a b : Option EmitError) → first_emit_cause a b ≡ None → b ≡ None
 second_none None b none = none
 second_none (Some e) b none = absurd cc
 
@@ -140,7 +140,7 @@ second_none (Some e) b none = absurd cc
 abbrev pub RunsWhereLinked : Type 0
 RunsWhereLinked =
     (flags : IsaFlags) (ts : List Tree) (cs : List Constant) (f : MachBufferFinalized) (base : ℕ) (symbols : Symbols)
-    → checked_cause flags ts cs ≡ None → BlocksInRange ts → IsImage ts cs f → link_cause f base symbols ≡ None
+    → checked_cause flags ts cs ≡ None → BlocksInRange ts → IsFinishedCode ts cs f → link_cause f base symbols ≡ None
     → RunsAsTyped symbols ts cs (record { base = base; bytes = filled base symbols f.relocs.items f.bytes.items })
 
 -- it holds of a job's image

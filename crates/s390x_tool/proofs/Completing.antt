@@ -4,9 +4,9 @@ use Rattle.std.specs.Prelude.{Option}
 use Rattle.std.proofs.lemmas.Fmt.{decimal_injective}
 use Rattle.std.specs.Io.KnownBytes.{Consumes, IsAtEnd}
 use Rattle.s390x_job.specs.declared.job.Job.{Job}
-use Rattle.s390x_tool.specs.Causes.{Rose}
+use Rattle.s390x_tool.specs.Causes.{FaultCountRose}
 use Rattle.s390x_tool.specs.Words.{IsForm}
-use Rattle.s390x_tool.specs.Answers.{IsAccepted, IsJobReply, Links, cause_of}
+use Rattle.s390x_tool.specs.Answers.{IsAccepted, IsJobReply, Links, job_cause}
 use Rattle.s390x_tool.proofs.SameJob.{same_cause, same_links}
 use Rattle.s390x_tool.specs.Replies.{Found, IsReply, IsDelivered}
 use Rattle.s390x_tool.specs.declared.words.Command.{Command}
@@ -45,7 +45,7 @@ same_command words (Run b m) (Run c n) first second =
     let same = sym first.spelled ∙ second.spelled in
     ap₂ Run (decimal_injective b c first.range.0 second.range.0 (ap (λ ws. get_or ws 1 []) same)) (decimal_injective m n (omega (arith, first.range.1)) (omega (arith, second.range.1)) (ap (λ ws. get_or ws 2 []) same))
 
-refused_not : (command : Command) (j : Job) (text : List ℕ) → IsJobReply command j status.Refused text → cause_of j ≡ None → ⊥
+refused_not : (command : Command) (j : Job) (text : List ℕ) → IsJobReply command j status.Refused text → job_cause j ≡ None → ⊥
 refused_not (Image base) j text reply valid = let cause = reply.cause in cc
 refused_not Emit j text reply valid = let cause = reply.cause in cc
 refused_not (Run base steps) j text reply valid = let cause = reply.cause in cc
@@ -63,7 +63,7 @@ linked_not (Run base steps) j text links reply =
 
 -- the reply to an accepted input
 completed_reply : (f : Found) (s : Status) (text : List ℕ) (command : Command) (input : List ℕ)
-    → IsReply f s text → IsForm f.words command → f.left ≡ Some input → IsAccepted command input → (Rose f.faults f.faults' → ⊥)
+    → IsReply f s text → IsForm f.words command → f.left ≡ Some input → IsAccepted command input → (FaultCountRose f.faults f.faults' → ⊥)
     → (s ≡ status.Ok) ⊎ (s ≡ status.NoMemory)
 completed_reply f status.Ok text command input reply form left accepted quiet = inl refl
 completed_reply f status.NoMemory text command input reply form left accepted quiet = inr refl
@@ -92,7 +92,7 @@ completed_reply f status.LinkRefused text command input reply form left accepted
 pub completed : (f : Found) (told told' : Option (List ℕ)) (faults faults' : ℕ) (s : Status) (text : List ℕ) (result : Status)
     → IsReply f s text → IsDelivered told told' faults faults' s text result
     → (command : Command) (input : List ℕ) → IsForm f.words command → f.left ≡ Some input → IsAccepted command input
-    → (Rose f.faults f.faults' → ⊥) → (Rose faults faults' → ⊥) → (result ≡ status.Ok) ⊎ (result ≡ status.NoMemory)
+    → (FaultCountRose f.faults f.faults' → ⊥) → (FaultCountRose faults faults' → ⊥) → (result ≡ status.Ok) ⊎ (result ≡ status.NoMemory)
 completed f told told' faults faults' s text result reply (inl whole) command input form left accepted quiet silent =
     rw (sym whole.0) at (completed_reply f s text command input reply form left accepted quiet)
 completed f told told' faults faults' s text result reply (inr part) command input form left accepted quiet silent = absurd (silent part.2)

@@ -1,33 +1,33 @@
 -- The text of several lines.
 use Rattle.std.proofs.Common.{◌≡◌, ℕ, List, [], ◌∷◌, ◌++◌, refl, sym, ap, ◌∙◌, append_assoc}
 use Rattle.std.specs.Prelude.{Result, Ok, Err, OnOk}
-use Rattle.s390x_tool.specs.Emitted.{lines_text}
+use Rattle.s390x_tool.specs.Emitted.{text_of_lines}
 
-pub lines_text_append : (a b : List (List ℕ)) → lines_text (a ++ b) ≡ lines_text a ++ lines_text b
+pub lines_text_append : (a b : List (List ℕ)) → text_of_lines (a ++ b) ≡ text_of_lines a ++ text_of_lines b
 lines_text_append [] b = refl
 lines_text_append (l ∷ a) b =
-    ap (λ t. l ++ (10 ∷ t)) (lines_text_append a b) ∙ sym (append_assoc l (10 ∷ lines_text a) (lines_text b))
+    ap (λ t. l ++ (10 ∷ t)) (lines_text_append a b) ∙ sym (append_assoc l (10 ∷ text_of_lines a) (text_of_lines b))
 
 -- lines x and y were written after what stood; the code named them x' and y'
 pub two_texts : (x x' y y' : List (List ℕ)) (old a new : List ℕ) → x' ≡ x → y' ≡ y
-    → a ≡ old ++ lines_text x' → new ≡ a ++ lines_text y' → new ≡ old ++ lines_text (x ++ y)
+    → a ≡ old ++ text_of_lines x' → new ≡ a ++ text_of_lines y' → new ≡ old ++ text_of_lines (x ++ y)
 two_texts x x' y y' old a new same_x same_y p q =
-    q ∙ ap (λ t. t ++ lines_text y') p ∙ append_assoc old (lines_text x') (lines_text y')
-    ∙ ap (λ t. old ++ (lines_text t ++ lines_text y')) same_x ∙ ap (λ t. old ++ (lines_text x ++ lines_text t)) same_y
+    q ∙ ap (λ t. t ++ text_of_lines y') p ∙ append_assoc old (text_of_lines x') (text_of_lines y')
+    ∙ ap (λ t. old ++ (text_of_lines t ++ text_of_lines y')) same_x ∙ ap (λ t. old ++ (text_of_lines x ++ text_of_lines t)) same_y
     ∙ ap (λ t. old ++ t) (sym (lines_text_append x y))
 
 pub three_texts : (x x' y y' z z' : List (List ℕ)) (old a b new : List ℕ) → x' ≡ x → y' ≡ y → z' ≡ z
-    → a ≡ old ++ lines_text x' → b ≡ a ++ lines_text y' → new ≡ b ++ lines_text z' → new ≡ old ++ lines_text (x ++ (y ++ z))
+    → a ≡ old ++ text_of_lines x' → b ≡ a ++ text_of_lines y' → new ≡ b ++ text_of_lines z' → new ≡ old ++ text_of_lines (x ++ (y ++ z))
 three_texts x x' y y' z z' old a b new same_x same_y same_z p q r =
     two_texts x x' (y ++ z) (y ++ z) old a new same_x refl p (two_texts y y' z z' a b new same_y same_z q r)
 
 -- four groups of lines, the first in an empty text
 pub four_texts : (w x y z : List (List ℕ)) (old a b c new : List ℕ) → old ≡ []
-    → a ≡ old ++ lines_text w → b ≡ a ++ lines_text x → c ≡ b ++ lines_text y → new ≡ c ++ lines_text z
-    → new ≡ lines_text (w ++ (x ++ (y ++ z)))
+    → a ≡ old ++ text_of_lines w → b ≡ a ++ text_of_lines x → c ≡ b ++ text_of_lines y → new ≡ c ++ text_of_lines z
+    → new ≡ text_of_lines (w ++ (x ++ (y ++ z)))
 four_texts w x y z old a b c new empty p q r s =
     two_texts w w (x ++ (y ++ z)) (x ++ (y ++ z)) old a new refl refl p (three_texts x x y y z z a b c new refl refl refl q r s)
-    ∙ ap (λ t. t ++ lines_text (w ++ (x ++ (y ++ z)))) empty
+    ∙ ap (λ t. t ++ text_of_lines (w ++ (x ++ (y ++ z)))) empty
 
 -- what holds where a call succeeds
 pub on_ok : {T E : Type 0} (r : Result T E) {P Q : Type 0} → (P → Q) → OnOk r P → OnOk r Q

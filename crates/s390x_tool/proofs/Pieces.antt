@@ -26,8 +26,8 @@ pub read_front : (at n : ℕ) (xs buf copied : List ℕ) → n ≡ min (length (
     → (drop at xs ≡ take n (copied ++ drop n buf) ++ drop (at + n) xs) × (n ≡ 0 → 0 < length (copied ++ drop n buf) → drop (at + n) xs ≡ [])
 read_front at n xs buf copied count same =
     let size : length copied ≡ n = ap length same ∙ length-take n (drop at xs) ∙ omega arith in
-    let front : take n (copied ++ drop n buf) ≡ copied = take_at copied (drop n buf) n size in
+    let prefix : take n (copied ++ drop n buf) ≡ copied = take_at copied (drop n buf) n size in
     let joined : length (copied ++ drop n buf) ≡ n + (length buf - n) = length-append copied (drop n buf) ∙ omega (arith, length-drop n buf) in (
-      sym (take-append-drop n (drop at xs)) ∙ rw (front, ← same) (ap (λ l. copied ++ l) (drop-drop n at xs)),
+      sym (take-append-drop n (drop at xs)) ∙ rw (prefix, ← same) (ap (λ l. copied ++ l) (drop-drop n at xs)),
       λ none room. nil_from_length _ (omega (arith, length-drop at xs, length-drop (at + n) xs)),
     )

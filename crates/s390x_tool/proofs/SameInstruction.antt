@@ -18,12 +18,12 @@ use Rattle.s390x_inst.specs.declared.inst.Inst.TheVariants.{Load32SExt8, Load32Z
 use Rattle.s390x_inst.specs.declared.inst.Inst.TheVariants.{StoreImm8, StoreImm16, StoreImm32SExt16, StoreImm64SExt16, LoadMultiple64, StoreMultiple64, AtomicRmw, AtomicCas32, AtomicCas64, AllocateArgs, DummyUse, SequencePoint}
 use Rattle.s390x_inst.specs.declared.vec_inst.VecInst.{VecInst}
 use Rattle.s390x_inst.specs.declared.vec_inst.VecInst.TheVariants as V
-use Rattle.s390x_steps.specs.MachineInstruction.{rr}
-use Rattle.s390x_steps.specs.Causes.{Declared, first, unless, labels_cause, table_cause, instruction_cause, instruction_draws}
-use Rattle.s390x_steps.specs.General.{is_general, is_nonzero}
-use Rattle.s390x_steps.specs.Parts.{Part, Row, table_parts, step_parts}
-use Rattle.s390x_steps.specs.Steps.{step_of}
-use Rattle.s390x_steps.specs.Ranges.{IsMask, InRange}
+use Rattle.s390x_typed_steps.specs.MachineInstruction.{rr}
+use Rattle.s390x_typed_steps.specs.Causes.{Declared, first_emit_cause, unless, labels_cause, table_cause, instruction_cause, instruction_fresh_labels}
+use Rattle.s390x_typed_steps.specs.General.{is_general, is_nonzero}
+use Rattle.s390x_typed_steps.specs.Parts.{CodePart, Row, table_parts, step_parts}
+use Rattle.s390x_typed_steps.specs.Steps.{step_of}
+use Rattle.s390x_typed_steps.specs.Ranges.{IsConditionMask, InRange}
 use Rattle.s390x_fields.specs.Fields.{Field, FAlu, FUnary, FCmp, FShift, FRxsbg, FReg, FReal, FInteger, FNatural, FShifted, FPair, FTrap, FBool, FReloc, FLabels, FCond, FArgs, FRets, FMemory, FVecBinary, FVecCompare, FVecElementCompare, FVecShift, FVecUnary}
 use Rattle.s390x_lines.specs.Line.{Line}
 use Rattle.s390x_lines.specs.Instructions.{inst_line, vector_line}
@@ -32,7 +32,7 @@ use Rattle.s390x_lines.specs.declared.inst_name.ControlName.TheVariants as Contr
 use Rattle.s390x_lines.specs.declared.inst_name.MemoryName.TheVariants as MemoryIs
 use Rattle.s390x_lines.specs.declared.inst_name.VectorName.TheVariants as VectorIs
 use Rattle.s390x_lines.specs.declared.name.LineName.{LineName}
-use Rattle.s390x_steps.specs.Stack.{nominal_after}
+use Rattle.s390x_typed_steps.specs.Stack.{nominal_after}
 use Rattle.s390x_lines.specs.declared.name.LineName.TheVariants as N
 
 -- What emission reads of an instruction: all of one without lists; of one with lists, their items instead of the vectors
@@ -221,7 +221,7 @@ line_reading l = reading l.name l.fields
 
 abbrev pub reading_cause : IsaFlags → Declared → (nominal depth : ℕ) → Reading → Option EmitError
 reading_cause flags D m depth (Whole i) = instruction_cause flags D m depth i
-reading_cause flags D m depth (Picks rn targets) = first (unless (is_general rn && is_nonzero rn) BadRegister) (labels_cause D.blocks targets)
+reading_cause flags D m depth (Picks rn targets) = first_emit_cause (unless (is_general rn && is_nonzero rn) BadRegister) (labels_cause D.blocks targets)
 reading_cause flags D m depth (Jumps index other mask targets) = table_cause D.blocks index other targets
 reading_cause flags D m depth Names = None
 reading_cause flags D m depth Other = Some BadOperator
@@ -232,15 +232,15 @@ reading_after m (Whole i) = nominal_after m i
 reading_after m _ = m
 
 -- how many labels it draws
-abbrev pub reading_draws : Reading → ℕ
-reading_draws (Whole i) = instruction_draws i
-reading_draws (Picks rn targets) = 0
-reading_draws (Jumps index other mask targets) = 1
-reading_draws Names = 0
-reading_draws Other = 0
+abbrev pub reading_fresh_labels : Reading → ℕ
+reading_fresh_labels (Whole i) = instruction_fresh_labels i
+reading_fresh_labels (Picks rn targets) = 0
+reading_fresh_labels (Jumps index other mask targets) = 1
+reading_fresh_labels Names = 0
+reading_fresh_labels Other = 0
 
 -- the parts of the step in a loop that ends at the step `after`
-abbrev pub reading_parts : ℕ → Reading → List Part
+abbrev pub reading_parts : ℕ → Reading → List CodePart
 reading_parts after (Whole i) = step_parts (step_of after i)
 reading_parts after (Picks rn targets) = Row (rr 0x07 15 (number_of rn)) ∷ []
 reading_parts after (Jumps index other mask targets) = table_parts (number_of index) mask other.0 targets
@@ -250,7 +250,7 @@ reading_parts after Other = []
 abbrev pub reading_range : Reading → Type 0
 reading_range (Whole i) = InRange i
 reading_range (Picks rn targets) = Unit {0} × Unit {0}
-reading_range (Jumps index other mask targets) = IsMask mask × Unit {0}
+reading_range (Jumps index other mask targets) = IsConditionMask mask × Unit {0}
 reading_range Names = Unit {0} × Unit {0}
 reading_range Other = Unit {0} × Unit {0}
 
@@ -266,9 +266,9 @@ pub nominal_read : (m : ℕ) (i : Inst) → nominal_after m i ≡ reading_after 
 nominal_read m (Vector v) = ap (reading_after m) (vector_reading v)
 nominal_read m i = refl
 
-pub draws_read : (i : Inst) → instruction_draws i ≡ reading_draws (line_reading (inst_line i))
-draws_read (Vector v) = ap reading_draws (vector_reading v)
-draws_read i = refl
+pub fresh_labels_read : (i : Inst) → instruction_fresh_labels i ≡ reading_fresh_labels (line_reading (inst_line i))
+fresh_labels_read (Vector v) = ap reading_fresh_labels (vector_reading v)
+fresh_labels_read i = refl
 
 pub parts_read : (after : ℕ) (i : Inst) → step_parts (step_of after i) ≡ reading_parts after (line_reading (inst_line i))
 parts_read after (Vector v) = ap (reading_parts after) (vector_reading v)
@@ -278,6 +278,6 @@ pub range_read : (i : Inst) → InRange i → reading_range (line_reading (inst_
 range_read (Vector v) h = subst reading_range (vector_reading v) h
 range_read i h = h
 
-pub range_back : (i : Inst) → reading_range (line_reading (inst_line i)) → InRange i
-range_back (Vector v) h = (tt, tt)
-range_back i h = h
+pub range_round_trip : (i : Inst) → reading_range (line_reading (inst_line i)) → InRange i
+range_round_trip (Vector v) h = (tt, tt)
+range_round_trip i h = h

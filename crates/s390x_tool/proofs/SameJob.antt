@@ -7,31 +7,31 @@ use Rattle.s390x_base.specs.declared.error.EmitError.TheVariants.{LabelOutOfRang
 use Rattle.s390x_buffer.specs.State.{Constant, new_cause, limit}
 use Rattle.s390x_buffer.specs.Constants.{constant_starts, constant_bytes, constants_end}
 use Rattle.s390x_buffer.specs.declared.entries.MachBufferFinalized.{MachBufferFinalized}
-use Rattle.s390x_steps.specs.Tree.{Tree}
-use Rattle.s390x_steps.specs.Causes.{Declared, aligns_of, first, unless}
-use Rattle.s390x_steps.specs.Sizes.{blocks_size}
-use Rattle.s390x_steps.specs.Ranges.{BlocksInRange}
-use Rattle.s390x_steps.specs.Image.{unlinked, function_code}
-use Rattle.s390x_emit_int.specs.Function.{IsImage, start_cause, checked_cause, length_cause, trees_of, constants_of}
+use Rattle.s390x_typed_steps.specs.Tree.{Tree}
+use Rattle.s390x_typed_steps.specs.Causes.{Declared, aligns_of, first_emit_cause, unless}
+use Rattle.s390x_typed_steps.specs.Sizes.{blocks_size}
+use Rattle.s390x_typed_steps.specs.Ranges.{BlocksInRange}
+use Rattle.s390x_typed_steps.specs.Image.{unlinked, function_code}
+use Rattle.s390x_emit_int.specs.Function.{IsFinishedCode, start_cause, checked_cause, code_length_cause, trees_of, constants_of}
 use Rattle.s390x_job.specs.Jobs.{IsJob}
 use Rattle.s390x_job.specs.Same.{SameJob}
 use Rattle.s390x_job.specs.declared.job.Job.{Job}
 use Rattle.s390x_image.specs.Causes.{link_cause}
 use Rattle.s390x_image.specs.Symbols.{no_symbols}
-use Rattle.s390x_tool.specs.Answers.{IsCode, Links, cause_of, with_symbols}
+use Rattle.s390x_tool.specs.Answers.{IsCodeOfJob, Links, job_cause, with_symbols}
 use Rattle.s390x_tool.specs.declared.words.Command.{Command}
 use Rattle.s390x_tool.specs.declared.words.Command.TheVariants.{Image, Emit, Run}
-use Rattle.s390x_tool.proofs.SameTree.{LineTree, lines_tree, line_blocks_cause, line_blocks_size, line_ranges, parts_code, line_at, line_places, line_outside, line_steps_from, same_blocks_cause, same_function_code, same_starts, same_block_starts, same_blocks_size, parts_places, line_block_places, ranges_to, ranges_from, each_traps, same_function_traps, each_relocs, same_function_relocs}
+use Rattle.s390x_tool.proofs.SameTree.{LineTree, lines_tree, line_blocks_cause, line_blocks_size, line_ranges, parts_code, line_at, line_places, line_environment, line_steps_from, same_blocks_cause, same_function_code, same_starts, same_block_starts, same_blocks_size, parts_places, line_block_places, ranges_to, ranges_from, each_traps, same_function_traps, each_relocs, same_function_relocs}
 use Rattle.s390x_tool.proofs.SameLines.{found, with_flags, with_frame, frame_of, Said, job_found}
 use Rattle.s390x_tool.proofs.Frameless.{raw_block, resolved_lines, blocks_resolved}
-use Rattle.s390x_inst.specs.State.{fresh}
+use Rattle.s390x_inst.specs.State.{fresh_emission}
 
 -- what two jobs share
 same_found : (j k : Job) → IsJob j → IsJob k → SameJob j k → with_flags j.info.isa_flags (with_frame (frame_of j) (Said j)) ≡ with_flags k.info.isa_flags (with_frame (frame_of k) (Said k))
 same_found j k a b e = sym (job_found j a.frame) ∙ ap found e ∙ job_found k b.frame
 
 pub same_state : (j k : Job) → IsJob j → IsJob k → SameJob j k → j.state ≡ k.state
-same_state j k a b e = a.state ∙ ap (λ f. fresh f.frame.layout f.frame.conv) (same_found j k a b e) ∙ sym b.state
+same_state j k a b e = a.state ∙ ap (λ f. fresh_emission f.frame.layout f.frame.conv) (same_found j k a b e) ∙ sym b.state
 
 pub same_blocks : (j k : Job) → IsJob j → IsJob k → SameJob j k → map lines_tree (trees_of j.state j.function) ≡ map lines_tree (trees_of k.state k.function)
 same_blocks j k a b e =
@@ -58,42 +58,42 @@ line_declared blocks cs = record { blocks = blocks; aligns = aligns_of cs }
 -- the causes after the state's
 abbrev line_checked : IsaFlags → List LineTree → List Constant → Option EmitError
 line_checked flags ts cs =
-    first (new_cause (length ts) cs)
-    (first (line_blocks_cause flags (line_declared (length ts) cs) (length ts + length cs) ts) (unless (nat_lt (constants_end (line_blocks_size ts) cs) limit) LabelOutOfRange))
+    first_emit_cause (new_cause (length ts) cs)
+    (first_emit_cause (line_blocks_cause flags (line_declared (length ts) cs) (length ts + length cs) ts) (unless (nat_lt (constants_end (line_blocks_size ts) cs) limit) LabelOutOfRange))
 
 same_checked : (flags : IsaFlags) (ts : List Tree) (cs : List Constant) → checked_cause flags ts cs ≡ line_checked flags (map lines_tree ts) cs
 same_checked flags ts cs =
     let D = line_declared (length ts) cs in
-    ap (λ o. first (new_cause (length ts) cs) (first o (length_cause ts cs))) (same_blocks_cause flags D (length ts + length cs) ts)
-    ∙ ap (λ n. first (new_cause (length ts) cs) (first (line_blocks_cause flags D (length ts + length cs) (map lines_tree ts)) (unless (nat_lt (constants_end n cs) limit) LabelOutOfRange))) (same_blocks_size ts)
-    ∙ ap (λ n. first (new_cause n cs) (first (line_blocks_cause flags (line_declared n cs) (n + length cs) (map lines_tree ts)) (unless (nat_lt (constants_end (line_blocks_size (map lines_tree ts)) cs) limit) LabelOutOfRange))) (sym (length-map ts lines_tree))
+    ap (λ o. first_emit_cause (new_cause (length ts) cs) (first_emit_cause o (code_length_cause ts cs))) (same_blocks_cause flags D (length ts + length cs) ts)
+    ∙ ap (λ n. first_emit_cause (new_cause (length ts) cs) (first_emit_cause (line_blocks_cause flags D (length ts + length cs) (map lines_tree ts)) (unless (nat_lt (constants_end n cs) limit) LabelOutOfRange))) (same_blocks_size ts)
+    ∙ ap (λ n. first_emit_cause (new_cause n cs) (first_emit_cause (line_blocks_cause flags (line_declared n cs) (n + length cs) (map lines_tree ts)) (unless (nat_lt (constants_end (line_blocks_size (map lines_tree ts)) cs) limit) LabelOutOfRange))) (sym (length-map ts lines_tree))
 
 start_none : (j : Job) → IsJob j → start_cause j.state ≡ None
 start_none j is = ap start_cause is.state
 
 -- they are refused by the same cause
-pub same_cause : (j k : Job) → IsJob j → IsJob k → SameJob j k → cause_of j ≡ cause_of k
+pub same_cause : (j k : Job) → IsJob j → IsJob k → SameJob j k → job_cause j ≡ job_cause k
 same_cause j k a b e =
     let f = j.info.isa_flags in
     let g = k.info.isa_flags in
-    ap (λ o. first o (checked_cause f (trees_of j.state j.function) (constants_of j.function))) (start_none j a)
+    ap (λ o. first_emit_cause o (checked_cause f (trees_of j.state j.function) (constants_of j.function))) (start_none j a)
     ∙ same_checked f (trees_of j.state j.function) (constants_of j.function)
     ∙ ap (λ ts. line_checked f ts (constants_of j.function)) (same_blocks j k a b e)
     ∙ ap (line_checked f (map lines_tree (trees_of k.state k.function))) (same_constants j k a b e)
     ∙ ap (λ x. line_checked x (map lines_tree (trees_of k.state k.function)) (constants_of k.function)) (same_flags j k a b e)
     ∙ sym (same_checked g (trees_of k.state k.function) (constants_of k.function))
-    ∙ ap (λ o. first o (checked_cause g (trees_of k.state k.function) (constants_of k.function))) (sym (start_none k b))
+    ∙ ap (λ o. first_emit_cause o (checked_cause g (trees_of k.state k.function) (constants_of k.function))) (sym (start_none k b))
 
 same_ranges : (ts us : List Tree) → map lines_tree ts ≡ map lines_tree us → BlocksInRange ts → BlocksInRange us
 same_ranges ts us e h = ranges_from us (subst line_ranges e (ranges_to ts h))
 
 same_bytes : (ts us : List Tree) (cs : List Constant) → map lines_tree ts ≡ map lines_tree us → function_code (unlinked ts cs) ts ≡ function_code (unlinked us cs) us
-same_bytes ts us cs e = same_function_code ts cs ∙ ap (λ ls. parts_code (line_places (line_outside ls cs) ls) 0 (line_steps_from 0 ls)) e ∙ sym (same_function_code us cs)
+same_bytes ts us cs e = same_function_code ts cs ∙ ap (λ ls. parts_code (line_places (line_environment ls cs) ls) 0 (line_steps_from 0 ls)) e ∙ sym (same_function_code us cs)
 
 same_sizes : (ts us : List Tree) → map lines_tree ts ≡ map lines_tree us → blocks_size ts ≡ blocks_size us
 same_sizes ts us e = same_blocks_size ts ∙ ap line_blocks_size e ∙ sym (same_blocks_size us)
 
-same_image : (ts us : List Tree) (cs : List Constant) (f : MachBufferFinalized) → map lines_tree ts ≡ map lines_tree us → IsImage ts cs f → IsImage us cs f
+same_image : (ts us : List Tree) (cs : List Constant) (f : MachBufferFinalized) → map lines_tree ts ≡ map lines_tree us → IsFinishedCode ts cs f → IsFinishedCode us cs f
 same_image ts us cs f e h =
     let size = same_sizes ts us e in
     record {
@@ -112,12 +112,12 @@ same_image ts us cs f e h =
     }
 
 -- a code of one is a code of the other
-pub same_code : (j k : Job) (code : MachBufferFinalized) → IsJob j → IsJob k → SameJob j k → IsCode j code → IsCode k code
+pub same_code : (j k : Job) (code : MachBufferFinalized) → IsJob j → IsJob k → SameJob j k → IsCodeOfJob j code → IsCodeOfJob k code
 same_code j k code a b e h =
     record {
       valid = sym (same_cause j k a b e) ∙ h.valid;
       ranges = same_ranges (trees_of j.state j.function) (trees_of k.state k.function) (same_blocks j k a b e) h.ranges;
-      emitted = subst (λ cs. IsImage (trees_of k.state k.function) cs code) (same_constants j k a b e) (same_image (trees_of j.state j.function) (trees_of k.state k.function) (constants_of j.function) code (same_blocks j k a b e) h.emitted);
+      emitted = subst (λ cs. IsFinishedCode (trees_of k.state k.function) cs code) (same_constants j k a b e) (same_image (trees_of j.state j.function) (trees_of k.state k.function) (constants_of j.function) code (same_blocks j k a b e) h.emitted);
     }
 
 -- what links of one links of the other

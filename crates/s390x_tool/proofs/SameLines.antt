@@ -14,7 +14,7 @@ use Rattle.s390x_inst.specs.declared.inst.Inst.TheVariants.{Loop', Vector}
 use Rattle.s390x_inst.specs.declared.vec_inst.VecInst.{VecInst}
 use Rattle.s390x_inst.specs.declared.vec_inst.VecInst.TheVariants.{VecRR}
 use Rattle.s390x_buffer.specs.State.{Constant, constant_of}
-use Rattle.s390x_steps.specs.Tree.{Tree}
+use Rattle.s390x_typed_steps.specs.Tree.{Tree}
 use Rattle.s390x_emit_int.specs.Function.{constants_of}
 use Rattle.s390x_fields.specs.Fields.{Field, FNatural, FBytes, FName, FCond, FFlags, FConvention, FOption}
 use Rattle.s390x_lines.specs.Line.{Line, spelled}
@@ -28,7 +28,7 @@ use Rattle.s390x_job.specs.declared.job.StartRegs.{StartRegs}
 use Rattle.s390x_job.specs.declared.job.SymbolLine.{SymbolLine}
 use Rattle.s390x_job.specs.declared.job.MemLine.{MemLine}
 use Rattle.s390x_tool.proofs.SameTree.{LineTree, none, one, around, lines_tree}
-use Rattle.s390x_tool.proofs.Frameless.{raw_graft, raw_row, raw_tree, raw_block}
+use Rattle.s390x_tool.proofs.Frameless.{raw_prepend, raw_row, raw_tree, raw_block}
 
 -- a convention and the layout of a frame
 pub record Frame : Type 0 where
@@ -124,7 +124,7 @@ vector_onto v f = refl
 
 mutual
   -- an instruction is read back before the siblings t
-  inst_found : (i : Inst) (t : Tree) (f : Found) (ls : List Line) → found ls ≡ with_siblings (lines_tree t) f → found (inst_lines i ++ ls) ≡ with_siblings (lines_tree (raw_graft i t)) f
+  inst_found : (i : Inst) (t : Tree) (f : Found) (ls : List Line) → found ls ≡ with_siblings (lines_tree t) f → found (inst_lines i ++ ls) ≡ with_siblings (lines_tree (raw_prepend i t)) f
   inst_found (Loop' mask body all) t f ls e =
       let inner : Found = record { siblings = none; outer = lines_tree t ∷ f.outer; blocks = f.blocks; constants = f.constants; symbols = f.symbols; flags = f.flags; frame = f.frame } in
       ap (λ x. found (loop_line mask ∷ x)) (append_assoc (row_lines all) (close_line ∷ []) ls)

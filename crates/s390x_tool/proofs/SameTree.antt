@@ -7,22 +7,22 @@ use Rattle.s390x_base.specs.declared.error.EmitError.{EmitError}
 use Rattle.s390x_buffer.specs.State.{Constant}
 use Rattle.s390x_buffer.specs.Constants.{constant_starts}
 use Rattle.s390x_buffer.specs.declared.entries.TrapEntry.{TrapEntry}
-use Rattle.s390x_steps.specs.Tree.{Tree, empty, leaf, looped}
-use Rattle.s390x_steps.specs.Causes.{Declared, aligns_of, first, instruction_draws, draws, nesting_cause, numbers_cause, tree_cause, blocks_cause, unless, block_cause, nominal_behind}
-use Rattle.s390x_steps.specs.Parts.{Part, Branch, ToStep, step_parts, parts_size}
-use Rattle.s390x_steps.specs.Steps.{Step, step_count, steps_of, steps_from, function_steps, first_step}
-use Rattle.s390x_steps.specs.Sizes.{tree_size, blocks_size}
-use Rattle.s390x_steps.specs.Rows.{Outside, Places, parts_bytes}
-use Rattle.s390x_steps.specs.Image.{place, places, unlinked, code, function_code, step_places, block_places}
+use Rattle.s390x_typed_steps.specs.Tree.{Tree, empty, leaf, loop_node}
+use Rattle.s390x_typed_steps.specs.Causes.{Declared, aligns_of, first_emit_cause, instruction_fresh_labels, fresh_labels, nesting_cause, numbers_cause, tree_cause, blocks_cause, unless, block_cause, nominal_behind}
+use Rattle.s390x_typed_steps.specs.Parts.{CodePart, Branch, ToStep, step_parts, parts_size}
+use Rattle.s390x_typed_steps.specs.Steps.{Step, step_count, steps_of, steps_from, function_steps, first_step}
+use Rattle.s390x_typed_steps.specs.Sizes.{tree_size, blocks_size}
+use Rattle.s390x_typed_steps.specs.Rows.{LinkEnvironment, Offsets, parts_bytes}
+use Rattle.s390x_typed_steps.specs.Image.{step_offset, offsets, unlinked, code, function_code, step_offsets, block_offsets}
 use Rattle.s390x_buffer.specs.declared.entries.RelocEntry.{RelocEntry}
-use Rattle.s390x_steps.specs.Relocs.{parts_relocs, relocs_from, function_relocs}
-use Rattle.s390x_steps.specs.Traps.{parts_traps, traps_from, function_traps}
-use Rattle.s390x_steps.specs.Ranges.{IsMask, AllInRange, BlocksInRange}
+use Rattle.s390x_typed_steps.specs.Relocs.{parts_relocs, relocs_from, function_relocs}
+use Rattle.s390x_typed_steps.specs.Traps.{parts_traps, traps_from, function_traps}
+use Rattle.s390x_typed_steps.specs.Ranges.{IsConditionMask, AllInRange, BlocksInRange}
 use Rattle.s390x_lines.specs.Line.{Line}
 use Rattle.s390x_lines.specs.Instructions.{inst_line}
-use Rattle.s390x_steps.specs.Stack.{nominal_after}
+use Rattle.s390x_typed_steps.specs.Stack.{nominal_after}
 use Rattle.s390x_base.specs.declared.error.EmitError.TheVariants.{BadStackState}
-use Rattle.s390x_tool.proofs.SameInstruction.{line_reading, reading_cause, reading_draws, draws_read, reading_parts, reading_range, cause_read, parts_read, range_read, range_back, nominal_read, reading_after}
+use Rattle.s390x_tool.proofs.SameInstruction.{line_reading, reading_cause, reading_fresh_labels, fresh_labels_read, reading_parts, reading_range, cause_read, parts_read, range_read, range_round_trip, nominal_read, reading_after}
 
 -- a tree with lines in place of instructions
 pub data LineTree : Type 0 where
@@ -33,42 +33,42 @@ pub data LineTree : Type 0 where
 abbrev pub lines_tree : Tree → LineTree
 lines_tree empty = none
 lines_tree (leaf i rest) = one (inst_line i) (lines_tree rest)
-lines_tree (looped mask members rest) = around mask (lines_tree members) (lines_tree rest)
+lines_tree (loop_node mask members rest) = around mask (lines_tree members) (lines_tree rest)
 
 -- labels drawn
-abbrev pub line_draws : LineTree → ℕ
-line_draws none = 0
-line_draws (one l rest) = reading_draws (line_reading l) + line_draws rest
-line_draws (around mask members rest) = 2 + line_draws members + line_draws rest
+abbrev pub line_fresh_labels : LineTree → ℕ
+line_fresh_labels none = 0
+line_fresh_labels (one l rest) = reading_fresh_labels (line_reading l) + line_fresh_labels rest
+line_fresh_labels (around mask members rest) = 2 + line_fresh_labels members + line_fresh_labels rest
 
-same_draws : (t : Tree) → draws t ≡ line_draws (lines_tree t)
-same_draws empty = refl
-same_draws (leaf i rest) = let a = draws_read i in let b = same_draws rest in cc
-same_draws (looped mask members rest) = let a = same_draws members in let b = same_draws rest in cc
+same_fresh_labels : (t : Tree) → fresh_labels t ≡ line_fresh_labels (lines_tree t)
+same_fresh_labels empty = refl
+same_fresh_labels (leaf i rest) = let a = fresh_labels_read i in let b = same_fresh_labels rest in cc
+same_fresh_labels (loop_node mask members rest) = let a = same_fresh_labels members in let b = same_fresh_labels rest in cc
 
 -- the first cause
 abbrev pub line_cause : IsaFlags → Declared → (n nominal depth : ℕ) → LineTree → Option EmitError
 line_cause flags D n m depth none = None
 line_cause flags D n m depth (one l rest) =
-    first
-    (first (reading_cause flags D m depth (line_reading l)) (numbers_cause n (reading_draws (line_reading l))))
-    (line_cause flags D (n + reading_draws (line_reading l)) (reading_after m (line_reading l)) depth rest)
+    first_emit_cause
+    (first_emit_cause (reading_cause flags D m depth (line_reading l)) (numbers_cause n (reading_fresh_labels (line_reading l))))
+    (line_cause flags D (n + reading_fresh_labels (line_reading l)) (reading_after m (line_reading l)) depth rest)
 line_cause flags D n m depth (around mask members rest) =
-    first (first (first (nesting_cause depth) (numbers_cause n 2)) (line_cause flags D (n + 2) m (depth + 1) members)) (line_cause flags D (n + 2 + line_draws members) m depth rest)
+    first_emit_cause (first_emit_cause (first_emit_cause (nesting_cause depth) (numbers_cause n 2)) (line_cause flags D (n + 2) m (depth + 1) members)) (line_cause flags D (n + 2 + line_fresh_labels members) m depth rest)
 
 same_tree_cause : (flags : IsaFlags) (D : Declared) (n m depth : ℕ) (t : Tree) → tree_cause flags D n m depth t ≡ line_cause flags D n m depth (lines_tree t)
 same_tree_cause flags D n m depth empty = refl
 same_tree_cause flags D n m depth (leaf i rest) =
     let r = line_reading (inst_line i) in
-    ap (λ o. first (first o (numbers_cause n (instruction_draws i))) (tree_cause flags D (n + instruction_draws i) (nominal_after m i) depth rest)) (cause_read flags D m depth i)
-    ∙ ap (λ d. first (first (reading_cause flags D m depth r) (numbers_cause n d)) (tree_cause flags D (n + d) (nominal_after m i) depth rest)) (draws_read i)
-    ∙ ap (λ l. first (first (reading_cause flags D m depth r) (numbers_cause n (reading_draws r))) (tree_cause flags D (n + reading_draws r) l depth rest)) (nominal_read m i)
-    ∙ ap (first (first (reading_cause flags D m depth r) (numbers_cause n (reading_draws r)))) (same_tree_cause flags D (n + reading_draws r) (reading_after m r) depth rest)
-same_tree_cause flags D n m depth (looped mask members rest) =
-    let own = first (nesting_cause depth) (numbers_cause n 2) in
-    ap (λ o. first (first own o) (tree_cause flags D (n + 2 + draws members) m depth rest)) (same_tree_cause flags D (n + 2) m (depth + 1) members)
-    ∙ ap (first (first own (line_cause flags D (n + 2) m (depth + 1) (lines_tree members)))) (same_tree_cause flags D (n + 2 + draws members) m depth rest)
-    ∙ ap (λ d. first (first own (line_cause flags D (n + 2) m (depth + 1) (lines_tree members))) (line_cause flags D (n + 2 + d) m depth (lines_tree rest))) (same_draws members)
+    ap (λ o. first_emit_cause (first_emit_cause o (numbers_cause n (instruction_fresh_labels i))) (tree_cause flags D (n + instruction_fresh_labels i) (nominal_after m i) depth rest)) (cause_read flags D m depth i)
+    ∙ ap (λ d. first_emit_cause (first_emit_cause (reading_cause flags D m depth r) (numbers_cause n d)) (tree_cause flags D (n + d) (nominal_after m i) depth rest)) (fresh_labels_read i)
+    ∙ ap (λ l. first_emit_cause (first_emit_cause (reading_cause flags D m depth r) (numbers_cause n (reading_fresh_labels r))) (tree_cause flags D (n + reading_fresh_labels r) l depth rest)) (nominal_read m i)
+    ∙ ap (first_emit_cause (first_emit_cause (reading_cause flags D m depth r) (numbers_cause n (reading_fresh_labels r)))) (same_tree_cause flags D (n + reading_fresh_labels r) (reading_after m r) depth rest)
+same_tree_cause flags D n m depth (loop_node mask members rest) =
+    let own = first_emit_cause (nesting_cause depth) (numbers_cause n 2) in
+    ap (λ o. first_emit_cause (first_emit_cause own o) (tree_cause flags D (n + 2 + fresh_labels members) m depth rest)) (same_tree_cause flags D (n + 2) m (depth + 1) members)
+    ∙ ap (first_emit_cause (first_emit_cause own (line_cause flags D (n + 2) m (depth + 1) (lines_tree members)))) (same_tree_cause flags D (n + 2 + fresh_labels members) m depth rest)
+    ∙ ap (λ d. first_emit_cause (first_emit_cause own (line_cause flags D (n + 2) m (depth + 1) (lines_tree members))) (line_cause flags D (n + 2 + d) m depth (lines_tree rest))) (same_fresh_labels members)
 
 -- the nominal size behind them
 abbrev pub line_behind : ℕ → LineTree → ℕ
@@ -79,26 +79,26 @@ line_behind m (around mask members rest) = line_behind m rest
 same_behind : (m : ℕ) (t : Tree) → nominal_behind m t ≡ line_behind m (lines_tree t)
 same_behind m empty = refl
 same_behind m (leaf i rest) = ap (λ n. nominal_behind n rest) (nominal_read m i) ∙ same_behind (reading_after m (line_reading (inst_line i))) rest
-same_behind m (looped mask members rest) = same_behind m rest
+same_behind m (loop_node mask members rest) = same_behind m rest
 
 abbrev pub line_block_cause : IsaFlags → Declared → (n : ℕ) → LineTree → Option EmitError
-line_block_cause flags D n t = first (line_cause flags D n 0 0 t) (unless (nat_eq (line_behind 0 t) 0) BadStackState)
+line_block_cause flags D n t = first_emit_cause (line_cause flags D n 0 0 t) (unless (nat_eq (line_behind 0 t) 0) BadStackState)
 
 same_block_cause : (flags : IsaFlags) (D : Declared) (n : ℕ) (t : Tree) → block_cause flags D n t ≡ line_block_cause flags D n (lines_tree t)
 same_block_cause flags D n t =
-    ap (λ o. first o (unless (nat_eq (nominal_behind 0 t) 0) BadStackState)) (same_tree_cause flags D n 0 0 t)
-    ∙ ap (λ m. first (line_cause flags D n 0 0 (lines_tree t)) (unless (nat_eq m 0) BadStackState)) (same_behind 0 t)
+    ap (λ o. first_emit_cause o (unless (nat_eq (nominal_behind 0 t) 0) BadStackState)) (same_tree_cause flags D n 0 0 t)
+    ∙ ap (λ m. first_emit_cause (line_cause flags D n 0 0 (lines_tree t)) (unless (nat_eq m 0) BadStackState)) (same_behind 0 t)
 
 abbrev pub line_blocks_cause : IsaFlags → Declared → (n : ℕ) → List LineTree → Option EmitError
 line_blocks_cause flags D n [] = None
-line_blocks_cause flags D n (t ∷ ts) = first (line_block_cause flags D n t) (line_blocks_cause flags D (n + line_draws t) ts)
+line_blocks_cause flags D n (t ∷ ts) = first_emit_cause (line_block_cause flags D n t) (line_blocks_cause flags D (n + line_fresh_labels t) ts)
 
 pub same_blocks_cause : (flags : IsaFlags) (D : Declared) (n : ℕ) (ts : List Tree) → blocks_cause flags D n ts ≡ line_blocks_cause flags D n (map lines_tree ts)
 same_blocks_cause flags D n [] = refl
 same_blocks_cause flags D n (t ∷ ts) =
-    ap (λ o. first o (blocks_cause flags D (n + draws t) ts)) (same_block_cause flags D n t)
-    ∙ ap (first (line_block_cause flags D n (lines_tree t))) (same_blocks_cause flags D (n + draws t) ts)
-    ∙ ap (λ d. first (line_block_cause flags D n (lines_tree t)) (line_blocks_cause flags D (n + d) (map lines_tree ts))) (same_draws t)
+    ap (λ o. first_emit_cause o (blocks_cause flags D (n + fresh_labels t) ts)) (same_block_cause flags D n t)
+    ∙ ap (first_emit_cause (line_block_cause flags D n (lines_tree t))) (same_blocks_cause flags D (n + fresh_labels t) ts)
+    ∙ ap (λ d. first_emit_cause (line_block_cause flags D n (lines_tree t)) (line_blocks_cause flags D (n + d) (map lines_tree ts))) (same_fresh_labels t)
 
 -- steps
 abbrev pub line_count : LineTree → ℕ
@@ -109,10 +109,10 @@ line_count (around mask members rest) = 2 + line_count members + line_count rest
 same_count : (t : Tree) → step_count t ≡ line_count (lines_tree t)
 same_count empty = refl
 same_count (leaf i rest) = ap (λ n. 1 + n) (same_count rest)
-same_count (looped mask members rest) = let a = same_count members in let b = same_count rest in cc
+same_count (loop_node mask members rest) = let a = same_count members in let b = same_count rest in cc
 
 -- the parts of each step
-abbrev pub line_steps : (k after : ℕ) → LineTree → List (List Part)
+abbrev pub line_steps : (k after : ℕ) → LineTree → List (List CodePart)
 line_steps k after none = []
 line_steps k after (one l rest) = reading_parts after (line_reading l) ∷ line_steps (k + 1) after rest
 line_steps k after (around mask members rest) =
@@ -123,7 +123,7 @@ same_steps k after empty = refl
 same_steps k after (leaf i rest) =
     ap (λ p. p ∷ map step_parts (steps_of (k + 1) after rest)) (parts_read after i)
     ∙ ap (λ ps. reading_parts after (line_reading (inst_line i)) ∷ ps) (same_steps (k + 1) after rest)
-same_steps k after (looped mask members rest) =
+same_steps k after (loop_node mask members rest) =
     let back = Branch mask (ToStep (k + 1)) ∷ [] in
     let n = step_count members in
     ap (λ ps. [] ∷ ps) (
@@ -133,7 +133,7 @@ same_steps k after (looped mask members rest) =
     ∙ ap (λ m. line_steps (k + 1) (k + 2 + m) (lines_tree members) ++ (back ∷ line_steps (k + 2 + m) after (lines_tree rest))) (same_count members)
     )
 
-abbrev pub line_steps_from : ℕ → List LineTree → List (List Part)
+abbrev pub line_steps_from : ℕ → List LineTree → List (List CodePart)
 line_steps_from k [] = []
 line_steps_from k (t ∷ ts) = line_steps k 0 t ++ line_steps_from (k + line_count t) ts
 
@@ -156,12 +156,12 @@ same_first_step (t ∷ ts) zero = refl
 same_first_step (t ∷ ts) (suc b) = let a = same_count t in let c = same_first_step ts b in cc
 
 -- places
-abbrev pub parts_place : List (List Part) → ℕ → ℕ
+abbrev pub parts_place : List (List CodePart) → ℕ → ℕ
 parts_place [] k = 0
 parts_place (p ∷ ps) zero = 0
 parts_place (p ∷ ps) (suc k) = parts_size p + parts_place ps k
 
-same_place : (ss : List Step) (k : ℕ) → place ss k ≡ parts_place (map step_parts ss) k
+same_place : (ss : List Step) (k : ℕ) → step_offset ss k ≡ parts_place (map step_parts ss) k
 same_place [] k = refl
 same_place (s ∷ ss) zero = refl
 same_place (s ∷ ss) (suc k) = ap (λ n. parts_size (step_parts s) + n) (same_place ss k)
@@ -169,20 +169,20 @@ same_place (s ∷ ss) (suc k) = ap (λ n. parts_size (step_parts s) + n) (same_p
 abbrev pub line_at : List LineTree → ℕ → ℕ
 line_at ts = parts_place (line_steps_from 0 ts)
 
-same_step_place : (ts : List Tree) (k : ℕ) → place (function_steps ts) k ≡ parts_place (line_steps_from 0 (map lines_tree ts)) k
+same_step_place : (ts : List Tree) (k : ℕ) → step_offset (function_steps ts) k ≡ parts_place (line_steps_from 0 (map lines_tree ts)) k
 same_step_place ts k = same_place (function_steps ts) k ∙ ap (λ ps. parts_place ps k) (same_steps_from 0 ts)
 
-same_at : (ts : List Tree) → place (function_steps ts) ≡ parts_place (line_steps_from 0 (map lines_tree ts))
+same_at : (ts : List Tree) → step_offset (function_steps ts) ≡ parts_place (line_steps_from 0 (map lines_tree ts))
 same_at ts = fun_ext (same_step_place ts)
 
-abbrev pub line_places : Outside → List LineTree → Places
-line_places outside ts = record { step = parts_place (line_steps_from 0 ts); block = λ b. parts_place (line_steps_from 0 ts) (line_first_step ts b); outside = outside }
+abbrev pub line_places : LinkEnvironment → List LineTree → Offsets
+line_places environment ts = record { step = parts_place (line_steps_from 0 ts); block = λ b. parts_place (line_steps_from 0 ts) (line_first_step ts b); environment = environment }
 
-same_places : (outside : Outside) (ts : List Tree) → places outside ts ≡ line_places outside (map lines_tree ts)
-same_places outside ts =
-    let first : first_step ts ≡ line_first_step (map lines_tree ts) = fun_ext (same_first_step ts) in
-    ap (λ p. record { step = p; block = λ b. p (first_step ts b); outside = outside }) (same_at ts)
-    ∙ ap (λ f. record { step = parts_place (line_steps_from 0 (map lines_tree ts)); block = λ b. parts_place (line_steps_from 0 (map lines_tree ts)) (f b); outside = outside }) first
+same_places : (environment : LinkEnvironment) (ts : List Tree) → offsets environment ts ≡ line_places environment (map lines_tree ts)
+same_places environment ts =
+    let first_emit_cause : first_step ts ≡ line_first_step (map lines_tree ts) = fun_ext (same_first_step ts) in
+    ap (λ p. record { step = p; block = λ b. p (first_step ts b); environment = environment }) (same_at ts)
+    ∙ ap (λ f. record { step = parts_place (line_steps_from 0 (map lines_tree ts)); block = λ b. parts_place (line_steps_from 0 (map lines_tree ts)) (f b); environment = environment }) first_emit_cause
 
 -- sizes
 abbrev pub line_size : LineTree → ℕ
@@ -194,7 +194,7 @@ same_size : (t : Tree) → tree_size t ≡ line_size (lines_tree t)
 same_size empty = refl
 same_size (leaf i rest) =
     ap (λ ps. parts_size ps + tree_size rest) (parts_read 0 i) ∙ ap (λ n. parts_size (reading_parts 0 (line_reading (inst_line i))) + n) (same_size rest)
-same_size (looped mask members rest) = let a = same_size members in let b = same_size rest in cc
+same_size (loop_node mask members rest) = let a = same_size members in let b = same_size rest in cc
 
 abbrev pub line_blocks_size : List LineTree → ℕ
 line_blocks_size [] = 0
@@ -205,47 +205,47 @@ same_blocks_size [] = refl
 same_blocks_size (t ∷ ts) = let a = same_size t in let b = same_blocks_size ts in cc
 
 -- what stands outside the steps before linking
-abbrev pub behind : (size : ℕ) → List Constant → Outside
-behind size cs = record { constant = λ c. get_or (constant_starts size cs) c 0; aligns = aligns_of cs; symbol_value = λ name offset. 0; symbol_distance = λ place name offset. 0 }
+abbrev pub behind : (size : ℕ) → List Constant → LinkEnvironment
+behind size cs = record { constant = λ c. get_or (constant_starts size cs) c 0; aligns = aligns_of cs; symbol_value = λ name offset. 0; symbol_distance = λ step_offset name offset. 0 }
 
-abbrev pub line_outside : List LineTree → List Constant → Outside
-line_outside ts cs = behind (line_blocks_size ts) cs
+abbrev pub line_environment : List LineTree → List Constant → LinkEnvironment
+line_environment ts cs = behind (line_blocks_size ts) cs
 
-same_outside : (ts : List Tree) (cs : List Constant) → unlinked ts cs ≡ line_outside (map lines_tree ts) cs
-same_outside ts cs = ap (λ n. behind n cs) (same_blocks_size ts)
+same_environment : (ts : List Tree) (cs : List Constant) → unlinked ts cs ≡ line_environment (map lines_tree ts) cs
+same_environment ts cs = ap (λ n. behind n cs) (same_blocks_size ts)
 
 -- bytes
-abbrev pub parts_code : Places → ℕ → List (List Part) → List ℕ
+abbrev pub parts_code : Offsets → ℕ → List (List CodePart) → List ℕ
 parts_code P k [] = []
 parts_code P k (p ∷ ps) = parts_bytes P (P.step k) p ++ parts_code P (k + 1) ps
 
-same_code : (P : Places) (k : ℕ) (ss : List Step) → code P k ss ≡ parts_code P k (map step_parts ss)
+same_code : (P : Offsets) (k : ℕ) (ss : List Step) → code P k ss ≡ parts_code P k (map step_parts ss)
 same_code P k [] = refl
 same_code P k (s ∷ ss) = ap (λ bs. parts_bytes P (P.step k) (step_parts s) ++ bs) (same_code P (k + 1) ss)
 
-pub same_function_code : (ts : List Tree) (cs : List Constant) → function_code (unlinked ts cs) ts ≡ parts_code (line_places (line_outside (map lines_tree ts) cs) (map lines_tree ts)) 0 (line_steps_from 0 (map lines_tree ts))
+pub same_function_code : (ts : List Tree) (cs : List Constant) → function_code (unlinked ts cs) ts ≡ parts_code (line_places (line_environment (map lines_tree ts) cs) (map lines_tree ts)) 0 (line_steps_from 0 (map lines_tree ts))
 same_function_code ts cs =
-    ap (λ o. function_code o ts) (same_outside ts cs)
-    ∙ same_code (places (line_outside (map lines_tree ts) cs) ts) 0 (function_steps ts)
-    ∙ ap (λ P. parts_code P 0 (map step_parts (function_steps ts))) (same_places (line_outside (map lines_tree ts) cs) ts)
-    ∙ ap (parts_code (line_places (line_outside (map lines_tree ts) cs) (map lines_tree ts)) 0) (same_steps_from 0 ts)
+    ap (λ o. function_code o ts) (same_environment ts cs)
+    ∙ same_code (offsets (line_environment (map lines_tree ts) cs) ts) 0 (function_steps ts)
+    ∙ ap (λ P. parts_code P 0 (map step_parts (function_steps ts))) (same_places (line_environment (map lines_tree ts) cs) ts)
+    ∙ ap (parts_code (line_places (line_environment (map lines_tree ts) cs) (map lines_tree ts)) 0) (same_steps_from 0 ts)
 
-abbrev pub parts_places : (ℕ → ℕ) → ℕ → List (List Part) → List ℕ
+abbrev pub parts_places : (ℕ → ℕ) → ℕ → List (List CodePart) → List ℕ
 parts_places at k [] = []
 parts_places at k (p ∷ ps) = at k ∷ parts_places at (k + 1) ps
 
-same_step_places : (at : ℕ → ℕ) (k : ℕ) (ss : List Step) → step_places at k ss ≡ parts_places at k (map step_parts ss)
+same_step_places : (at : ℕ → ℕ) (k : ℕ) (ss : List Step) → step_offsets at k ss ≡ parts_places at k (map step_parts ss)
 same_step_places at k [] = refl
 same_step_places at k (s ∷ ss) = ap (λ ps. at k ∷ ps) (same_step_places at (k + 1) ss)
 
-pub same_starts : (ts : List Tree) → step_places (place (function_steps ts)) 0 (function_steps ts) ≡ parts_places (line_at (map lines_tree ts)) 0 (line_steps_from 0 (map lines_tree ts))
+pub same_starts : (ts : List Tree) → step_offsets (step_offset (function_steps ts)) 0 (function_steps ts) ≡ parts_places (line_at (map lines_tree ts)) 0 (line_steps_from 0 (map lines_tree ts))
 same_starts ts =
-    same_step_places (place (function_steps ts)) 0 (function_steps ts)
+    same_step_places (step_offset (function_steps ts)) 0 (function_steps ts)
     ∙ ap (λ at. parts_places at 0 (map step_parts (function_steps ts))) (same_at ts)
     ∙ ap (parts_places (line_at (map lines_tree ts)) 0) (same_steps_from 0 ts)
 
 -- the traps that the parts of each step record
-abbrev pub each_traps : (ℕ → ℕ) → ℕ → List (List Part) → List TrapEntry
+abbrev pub each_traps : (ℕ → ℕ) → ℕ → List (List CodePart) → List TrapEntry
 each_traps at k [] = []
 each_traps at k (p ∷ ps) = parts_traps (at k) p ++ each_traps at (k + 1) ps
 
@@ -255,12 +255,12 @@ same_traps at k (s ∷ ss) = ap (λ es. parts_traps (at k) (step_parts s) ++ es)
 
 pub same_function_traps : (ts : List Tree) → function_traps ts ≡ each_traps (line_at (map lines_tree ts)) 0 (line_steps_from 0 (map lines_tree ts))
 same_function_traps ts =
-    same_traps (place (function_steps ts)) 0 (function_steps ts)
+    same_traps (step_offset (function_steps ts)) 0 (function_steps ts)
     ∙ ap (λ at. each_traps at 0 (map step_parts (function_steps ts))) (same_at ts)
     ∙ ap (each_traps (line_at (map lines_tree ts)) 0) (same_steps_from 0 ts)
 
 -- the relocations that the parts of each step have
-abbrev pub each_relocs : (ℕ → ℕ) → ℕ → List (List Part) → List RelocEntry
+abbrev pub each_relocs : (ℕ → ℕ) → ℕ → List (List CodePart) → List RelocEntry
 each_relocs at k [] = []
 each_relocs at k (p ∷ ps) = parts_relocs (at k) p ++ each_relocs at (k + 1) ps
 
@@ -270,7 +270,7 @@ same_relocs at k (s ∷ ss) = ap (λ es. parts_relocs (at k) (step_parts s) ++ e
 
 pub same_function_relocs : (ts : List Tree) → function_relocs ts ≡ each_relocs (line_at (map lines_tree ts)) 0 (line_steps_from 0 (map lines_tree ts))
 same_function_relocs ts =
-    same_relocs (place (function_steps ts)) 0 (function_steps ts)
+    same_relocs (step_offset (function_steps ts)) 0 (function_steps ts)
     ∙ ap (λ at. each_relocs at 0 (map step_parts (function_steps ts))) (same_at ts)
     ∙ ap (each_relocs (line_at (map lines_tree ts)) 0) (same_steps_from 0 ts)
 
@@ -278,30 +278,30 @@ abbrev pub line_block_places : (ℕ → ℕ) → ℕ → List LineTree → List 
 line_block_places at k [] = []
 line_block_places at k (t ∷ ts) = at k ∷ line_block_places at (k + line_count t) ts
 
-same_block_places : (at : ℕ → ℕ) (k : ℕ) (ts : List Tree) → block_places at k ts ≡ line_block_places at k (map lines_tree ts)
+same_block_places : (at : ℕ → ℕ) (k : ℕ) (ts : List Tree) → block_offsets at k ts ≡ line_block_places at k (map lines_tree ts)
 same_block_places at k [] = refl
 same_block_places at k (t ∷ ts) =
     ap (λ ps. at k ∷ ps) (same_block_places at (k + step_count t) ts ∙ ap (λ n. line_block_places at (k + n) (map lines_tree ts)) (same_count t))
 
-pub same_block_starts : (ts : List Tree) → block_places (place (function_steps ts)) 0 ts ≡ line_block_places (line_at (map lines_tree ts)) 0 (map lines_tree ts)
+pub same_block_starts : (ts : List Tree) → block_offsets (step_offset (function_steps ts)) 0 ts ≡ line_block_places (line_at (map lines_tree ts)) 0 (map lines_tree ts)
 same_block_starts ts =
-    same_block_places (place (function_steps ts)) 0 ts ∙ ap (λ at. line_block_places at 0 (map lines_tree ts)) (same_at ts)
+    same_block_places (step_offset (function_steps ts)) 0 ts ∙ ap (λ at. line_block_places at 0 (map lines_tree ts)) (same_at ts)
 
 -- ranges
 abbrev pub line_range : LineTree → Type 0
 line_range none = Unit {0}
 line_range (one l rest) = reading_range (line_reading l) × line_range rest
-line_range (around mask members rest) = IsMask mask × line_range members × line_range rest
+line_range (around mask members rest) = IsConditionMask mask × line_range members × line_range rest
 
 range_to : (t : Tree) → AllInRange t → line_range (lines_tree t)
 range_to empty h = tt
 range_to (leaf i rest) h = (range_read i h.0, range_to rest h.1)
-range_to (looped mask members rest) h = (h.0, range_to members h.1, range_to rest h.2)
+range_to (loop_node mask members rest) h = (h.0, range_to members h.1, range_to rest h.2)
 
 range_from : (t : Tree) → line_range (lines_tree t) → AllInRange t
 range_from empty h = tt
-range_from (leaf i rest) h = (range_back i h.0, range_from rest h.1)
-range_from (looped mask members rest) h = (h.0, range_from members h.1, range_from rest h.2)
+range_from (leaf i rest) h = (range_round_trip i h.0, range_from rest h.1)
+range_from (loop_node mask members rest) h = (h.0, range_from members h.1, range_from rest h.2)
 
 abbrev pub line_ranges : List LineTree → Type 0
 line_ranges [] = Unit {0}

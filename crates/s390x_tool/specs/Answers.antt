@@ -4,9 +4,9 @@ use Rattle.std.specs.Fmt.{decimal}
 use Rattle.hex.specs.Hex.{encode_lower}
 use Rattle.s390x_base.specs.declared.error.EmitError.{EmitError}
 use Rattle.s390x_buffer.specs.declared.entries.MachBufferFinalized.{MachBufferFinalized}
-use Rattle.s390x_emit_int.specs.Function.{IsImage, function_cause, trees_of, constants_of}
+use Rattle.s390x_emit_int.specs.Function.{IsFinishedCode, function_cause, trees_of, constants_of}
 use Rattle.s390x_emit_int.specs.Headline.{RunsAsTyped}
-use Rattle.s390x_steps.specs.Ranges.{BlocksInRange}
+use Rattle.s390x_typed_steps.specs.Ranges.{BlocksInRange}
 use Rattle.s390x_image.specs.declared.error.LinkError.{LinkError}
 use Rattle.s390x_image.specs.Causes.{link_cause}
 use Rattle.s390x_image.specs.Fields.{filled}
@@ -34,14 +34,14 @@ abbrev pub symbols_of : Job → Symbols
 symbols_of j = with_symbols no_symbols j.symbols.items
 
 -- the first cause by which emission refuses a job's function
-abbrev pub cause_of : Job → Option EmitError
-cause_of j = function_cause j.info.isa_flags (trees_of j.state j.function) (constants_of j.function) j.state
+abbrev pub job_cause : Job → Option EmitError
+job_cause j = function_cause j.info.isa_flags (trees_of j.state j.function) (constants_of j.function) j.state
 
 -- the code of a job's function, which isn't refused and whose numbers lie in their ranges
-pub record IsCode (j : Job) (code : MachBufferFinalized) : Type 0 where
-  pub valid : cause_of j ≡ None
+pub record IsCodeOfJob (j : Job) (code : MachBufferFinalized) : Type 0 where
+  pub valid : job_cause j ≡ None
   pub ranges : BlocksInRange (trees_of j.state j.function)
-  pub emitted : IsImage (trees_of j.state j.function) (constants_of j.function) code
+  pub emitted : IsFinishedCode (trees_of j.state j.function) (constants_of j.function) code
 
 -- the first cause by which linking refuses a job's code at a base
 abbrev pub link_cause_of : ℕ → Job → MachBufferFinalized → Option LinkError
@@ -50,7 +50,7 @@ link_cause_of base j code = link_cause code base (symbols_of j)
 -- the image of a job's function at a base: its code and constants, with the relocations' fields filled
 pub record IsImageAt (base : ℕ) (j : Job) (bytes : List ℕ) : Type 0 where
   pub code : MachBufferFinalized
-  pub is : IsCode j code
+  pub is : IsCodeOfJob j code
   pub linked : link_cause_of base j code ≡ None
   pub filled : bytes ≡ filled base (symbols_of j) code.relocs.items code.bytes.items
 
@@ -66,13 +66,13 @@ pub record IsImageText (base : ℕ) (j : Job) (text : List ℕ) : Type 0 where
 -- emission refuses the job's function by its first cause
 pub record IsRefused (j : Job) (text : List ℕ) : Type 0 where
   pub error : EmitError
-  pub cause : cause_of j ≡ Some error
+  pub cause : job_cause j ≡ Some error
   pub spelled : text ≡ line (codes "refused " ++ error_name error)
 
 -- linking refuses the job's code by its first cause
 pub record IsLinkRefused (base : ℕ) (j : Job) (text : List ℕ) : Type 0 where
   pub code : MachBufferFinalized
-  pub is : IsCode j code
+  pub is : IsCodeOfJob j code
   pub error : LinkError
   pub cause : link_cause_of base j code ≡ Some error
   pub spelled : text ≡ line (codes "link " ++ link_error_name error)
@@ -88,7 +88,7 @@ IsImageReply base j s text = ⊥
 -- the text of `emit`: the lines of the code of a job's function
 pub record IsEmitText (j : Job) (text : List ℕ) : Type 0 where
   pub code : MachBufferFinalized
-  pub is : IsCode j code
+  pub is : IsCodeOfJob j code
   pub spelled : text ≡ emit_text code
 
 -- the reply of `emit` to a job
@@ -106,7 +106,7 @@ pub record IsLinked (base : ℕ) (j : Job) (code : MachBufferFinalized) (bytes :
 -- The text of `run`: the machine takes at most so many steps, from the base on, with the job's registers and memory and its image in memory.
 pub record IsExecuted (base steps : ℕ) (j : Job) (text : List ℕ) : Type 0 where
   pub code : MachBufferFinalized
-  pub is : IsCode j code
+  pub is : IsCodeOfJob j code
   pub bytes : List ℕ
   pub image : IsLinked base j code bytes
   pub spelled : IsRunText base steps j code bytes text
@@ -148,9 +148,9 @@ IsAnswer command input s text = IsJobAnswer command input s text
 
 -- linking has no cause to refuse the job's code, where the command links it
 abbrev pub Links : Command → Job → Type 0
-Links (Image base) j = (code : MachBufferFinalized) → IsCode j code → link_cause_of base j code ≡ None
+Links (Image base) j = (code : MachBufferFinalized) → IsCodeOfJob j code → link_cause_of base j code ≡ None
 Links Emit j = Unit {0}
-Links (Run base steps) j = (code : MachBufferFinalized) → IsCode j code → link_cause_of base j code ≡ None
+Links (Run base steps) j = (code : MachBufferFinalized) → IsCodeOfJob j code → link_cause_of base j code ≡ None
 
 -- The input is the text of a job, which neither emission nor the command's linking has a cause to refuse.
 pub record IsAccepted (command : Command) (input : List ℕ) : Type 0 where
@@ -158,5 +158,5 @@ pub record IsAccepted (command : Command) (input : List ℕ) : Type 0 where
   pub job : Job
   pub is : IsJob job
   pub spelled : text_of_job job ≡ input
-  pub valid : cause_of job ≡ None
+  pub valid : job_cause job ≡ None
   pub links : Links command job

@@ -23,24 +23,24 @@ abbrev pub align_line : ℕ → List ℕ
 align_line n = codes "align " ++ decimal n
 
 -- a name, a number and an offset, as `block K OFFSET`
-abbrev pub place_line : List ℕ → ℕ → ℕ → List ℕ
-place_line name k offset = name ++ (32 ∷ (decimal k ++ (32 ∷ decimal offset)))
+abbrev pub numbered_line : List ℕ → ℕ → ℕ → List ℕ
+numbered_line name k offset = name ++ (32 ∷ (decimal k ++ (32 ∷ decimal offset)))
 
 -- a line for each offset, numbered from k on
 abbrev pub numbered : List ℕ → ℕ → List ℕ → List (List ℕ)
 numbered name k [] = []
-numbered name k (offset ∷ offsets) = place_line name k offset ∷ numbered name (k + 1) offsets
+numbered name k (offset ∷ offsets) = numbered_line name k offset ∷ numbered name (k + 1) offsets
 
 -- the name of a relocation's kind
-abbrev pub kind_text : Reloc → List ℕ
-kind_text S390xPCRel32Dbl = codes "PCRel32Dbl"
-kind_text S390xPLTRel32Dbl = codes "PLTRel32Dbl"
-kind_text Abs8 = codes "Abs8"
+abbrev pub reloc_kind_text : Reloc → List ℕ
+reloc_kind_text S390xPCRel32Dbl = codes "PCRel32Dbl"
+reloc_kind_text S390xPLTRel32Dbl = codes "PLTRel32Dbl"
+reloc_kind_text Abs8 = codes "Abs8"
 
 -- `reloc OFFSET KIND uN ADDEND`
 abbrev pub reloc_line : RelocEntry → List ℕ
 reloc_line e =
-    codes "reloc " ++ (decimal e.offset ++ (32 ∷ (kind_text e.kind ++ (codes " u" ++ (decimal e.name.0 ++ (32 ∷ signed_decimal e.addend))))))
+    codes "reloc " ++ (decimal e.offset ++ (32 ∷ (reloc_kind_text e.kind ++ (codes " u" ++ (decimal e.name.0 ++ (32 ∷ signed_decimal e.addend))))))
 
 -- `trap OFFSET CODE`
 abbrev pub trap_line : TrapEntry → List ℕ
@@ -56,13 +56,13 @@ tag_text None = codes "*"
 tag_text (Some tag) = decimal tag
 
 -- `TAG:OFFSET`
-abbrev pub handler_text : HandlerEntry → List ℕ
-handler_text h = tag_text h.tag ++ (58 ∷ decimal h.offset)
+abbrev pub handler_entry_text : HandlerEntry → List ℕ
+handler_entry_text h = tag_text h.tag ++ (58 ∷ decimal h.offset)
 
 -- `try OFFSET FRAME [TAG:OFFSET,*:OFFSET]`
 abbrev pub try_line : TryEntry → List ℕ
 try_line e =
-    codes "try " ++ (decimal e.offset ++ (32 ∷ (decimal e.frame ++ (32 ∷ list_text handler_text e.handlers.items))))
+    codes "try " ++ (decimal e.offset ++ (32 ∷ (decimal e.frame ++ (32 ∷ list_text handler_entry_text e.handlers.items))))
 
 -- `patch OFFSET LEN`
 abbrev pub patch_line : PatchEntry → List ℕ
@@ -73,12 +73,12 @@ abbrev pub map_line : MapEntry → List ℕ
 map_line e = codes "map " ++ (decimal e.offset ++ (32 ∷ decimal e.map))
 
 -- the lines of the bytes and the alignment
-abbrev pub head_lines : MachBufferFinalized → List (List ℕ)
-head_lines f = code_line f.bytes.items ∷ align_line f.alignment ∷ []
+abbrev pub code_head_lines : MachBufferFinalized → List (List ℕ)
+code_head_lines f = code_line f.bytes.items ∷ align_line f.alignment ∷ []
 
 -- the lines of blocks and constants
-abbrev pub start_lines : MachBufferFinalized → List (List ℕ)
-start_lines f = numbered (codes "block") 0 f.block_starts.items ++ numbered (codes "const") 0 f.constant_starts.items
+abbrev pub start_offset_lines : MachBufferFinalized → List (List ℕ)
+start_offset_lines f = numbered (codes "block") 0 f.block_starts.items ++ numbered (codes "const") 0 f.constant_starts.items
 
 -- the lines of relocations, traps and calls
 abbrev pub code_lines : MachBufferFinalized → List (List ℕ)
@@ -89,10 +89,10 @@ abbrev pub site_lines : MachBufferFinalized → List (List ℕ)
 site_lines f = map try_line f.try_call_sites.items ++ (map patch_line f.patchable_sites.items ++ map map_line f.stack_maps.items)
 
 -- each line with a line feed
-abbrev pub lines_text : List (List ℕ) → List ℕ
-lines_text [] = []
-lines_text (l ∷ ls) = l ++ (10 ∷ lines_text ls)
+abbrev pub text_of_lines : List (List ℕ) → List ℕ
+text_of_lines [] = []
+text_of_lines (l ∷ ls) = l ++ (10 ∷ text_of_lines ls)
 
 -- the text of a finished code: its bytes, its alignment, and its tables in order, each entry's line in the table's order
 abbrev pub emit_text : MachBufferFinalized → List ℕ
-emit_text f = lines_text (head_lines f ++ (start_lines f ++ (code_lines f ++ site_lines f)))
+emit_text f = text_of_lines (code_head_lines f ++ (start_offset_lines f ++ (code_lines f ++ site_lines f)))

@@ -18,10 +18,10 @@ pub record IsTooLong (left left' : Option (List ℕ)) : Type 0 where
   pub consumed : Consumes left left' taken
   pub long : length taken ≡ too_many
 
--- the sink was told a front of the text, and not all of it
+-- the sink was told a prefix of the text, and not all of it
 pub record IsCutShort (told told' : Option (List ℕ)) (text : List ℕ) : Type 0 where
   pub taken : List ℕ
   pub rest : List ℕ
-  pub front : text ≡ taken ++ rest
+  pub prefix : text ≡ taken ++ rest
   pub more : 0 < length rest
   pub appended : Appends told told' taken

@@ -1,7 +1,7 @@
 -- What is replied to the words and the input, and how it is written.
 use Rattle.std.specs.Prelude.{ℕ, ◌≡◌, List, codes, Option, ◌⊎◌}
 use Rattle.std.specs.Io.KnownBytes.{Appends}
-use Rattle.s390x_tool.specs.Causes.{Rose}
+use Rattle.s390x_tool.specs.Causes.{FaultCountRose}
 use Rattle.s390x_tool.specs.Ends.{IsRead, IsTooLong, IsCutShort}
 use Rattle.s390x_tool.specs.Words.{IsForm, IsNoForm}
 use Rattle.s390x_tool.specs.Answers.{IsAnswer}
@@ -28,7 +28,7 @@ pub record IsUsage (f : Found) : Type 0 where
 pub record IsReadFault (f : Found) : Type 0 where
   pub command : Command
   pub form : IsForm f.words command
-  pub rose : Rose f.faults f.faults'
+  pub rose : FaultCountRose f.faults f.faults'
 
 -- the words are a command, and too many bytes came
 pub record IsInputTooLong (f : Found) : Type 0 where
@@ -61,11 +61,11 @@ IsReply f status.NoMemory text = IsOutOfMemory f × (text ≡ line (codes "no me
 IsReply f status.WriteFault text = ⊥
 IsReply f s text = IsAnswered f s text
 
--- the whole text was written and the status is the reply's; or a write failed, and a front of the text was written
+-- the whole text was written and the status is the reply's; or a write failed, and a prefix of the text was written
 abbrev pub IsDelivered : Option (List ℕ) → Option (List ℕ) → ℕ → ℕ → Status → List ℕ → Status → Type 0
 IsDelivered told told' faults faults' s text result =
     ((result ≡ s) × Appends told told' text × (faults' ≡ faults))
-    ⊎ ((result ≡ status.WriteFault) × IsCutShort told told' text × Rose faults faults')
+    ⊎ ((result ≡ status.WriteFault) × IsCutShort told told' text × FaultCountRose faults faults')
 
 -- how a call ended: what was replied, and how it was written
 pub record IsEnded (f : Found) (told told' : Option (List ℕ)) (faults faults' : ℕ) (result : Status) : Type 0 where

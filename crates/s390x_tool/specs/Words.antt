@@ -24,7 +24,7 @@ pub record IsForm (words : List (List ℕ)) (command : Command) : Type 0 where
   pub range : IsInRange command
 
 -- the command is `image` with this second word
-pub record IsImage (word : List ℕ) (command : Command) : Type 0 where
+pub record IsImageWord (word : List ℕ) (command : Command) : Type 0 where
   pub base : ℕ
   pub named : command ≡ Image base
   pub spelled : word ≡ decimal base

@@ -3,7 +3,7 @@ ghost use Rattle.std.specs.Prelude.{◌≡◌, ◌<◌, ◌⊎◌, length, IfOk,
 ghost use Rattle.std.specs.Cow.{cow_str_bytes};
 ghost use Rattle.s390x_image.specs.Symbols.{no_symbols};
 ghost use Rattle.s390x_job.specs.Jobs.{IsJob};
-ghost use Rattle.s390x_tool.specs.Answers.{IsAnswer, IsCode, IsEmitReply, IsImageReply, IsJobReply, IsLinked, IsRunReply, link_cause_of, with_symbols};
+ghost use Rattle.s390x_tool.specs.Answers.{IsAnswer, IsCodeOfJob, IsEmitReply, IsImageReply, IsJobReply, IsLinked, IsRunReply, link_cause_of, with_symbols};
 
 use crate::reply::{
     Reply, in_hex, link_refused, no_memory, refused, syntax, with_tables, with_text,
@@ -64,7 +64,7 @@ fn image(alloc: Global, base: u64, job: &Job) -> Reply
 
 // The image of the job's code at the base.
 fn linked(alloc: Global, base: u64, job: &Job, code: &MachBufferFinalized) -> Reply
-    requires { IsCode job.now code.now }
+    requires { IsCodeOfJob job.now code.now }
     ensures { IsImageReply base job.now result.status (cow_str_bytes result.text) }
 {
     match link_job(alloc, base, job, code) {
@@ -83,7 +83,7 @@ fn link_job(
     job: &Job,
     code: &MachBufferFinalized,
 ) -> Result<Image, LinkError>
-    requires { IsCode job.now code.now }
+    requires { IsCodeOfJob job.now code.now }
     ensures linked { IfOk result (λ image. IsLinked base job.now code.now image.bytes.items) }
     ensures base { IfOk result (λ image. image.base ≡ base) }
     ensures size { IfOk result (λ image. length image.bytes.items ≡ length code.now.bytes.items) }
@@ -109,7 +109,7 @@ fn execution(alloc: Global, base: u64, steps: u32, job: &Job) -> Reply
 // What the machine does with the image of the job's code at the base.
 fn executed(alloc: Global, base: u64, steps: u32, job: &Job, code: &MachBufferFinalized) -> Reply
     requires job { IsJob job.now }
-    requires code { IsCode job.now code.now }
+    requires code { IsCodeOfJob job.now code.now }
     ensures { IsRunReply base steps job.now result.status (cow_str_bytes result.text) }
 {
     match link_job(alloc, base, job, code) {

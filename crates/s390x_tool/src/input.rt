@@ -1,7 +1,7 @@
 //! Reading the whole input.
 ghost use Rattle.std.specs.Prelude.{◌≡◌, ℕ, ◌+◌, ◌≤◌, ◌<◌, ◌++◌, List, length, vec_len, Ok, IfOk, IfErr, IsErrOf, ◌⊎◌};
 ghost use Rattle.std.specs.Io.KnownBytes.{Consumes, IsAtEnd};
-ghost use Rattle.s390x_tool.specs.Causes.{HasCause, Rose};
+ghost use Rattle.s390x_tool.specs.Causes.{HasCause, FaultCountRose};
 ghost use Rattle.s390x_tool.specs.Ends.{IsRead, IsTooLong, too_many};
 
 use crate::ends::{Failed, Source};
@@ -29,7 +29,7 @@ pub enum InputError {
 pub fn read_input<S: Source>(alloc: Global, source: &mut S) -> Result<Vec<u8>, InputError>
     ensures whole { IfOk result (λ input. IsRead (S.left source.old) (S.left source.new) input.items) }
     ensures too_long { IsErrOf result InputError.TooLong → IsTooLong (S.left source.old) (S.left source.new) }
-    ensures fault { IsErrOf result InputError.Fault → Rose (S.faults source.old) (S.faults source.new) }
+    ensures fault { IsErrOf result InputError.Fault → FaultCountRose (S.faults source.old) (S.faults source.new) }
     ensures no_fault { IsErrOf result InputError.Fault ⊎ (S.faults source.new ≡ S.faults source.old) }
     ensures later { S.faults source.old ≤ S.faults source.new }
 {
@@ -57,7 +57,7 @@ fn read_by_pieces<S: Source>(
     requires { 0 < length piece.old }
     ensures whole { IfOk result (λ input. IsRead (S.left source.old) (S.left source.new) input.items) }
     ensures too_long { IsErrOf result InputError.TooLong → IsTooLong (S.left source.old) (S.left source.new) }
-    ensures fault { IsErrOf result InputError.Fault → Rose (S.faults source.old) (S.faults source.new) }
+    ensures fault { IsErrOf result InputError.Fault → FaultCountRose (S.faults source.old) (S.faults source.new) }
     ensures no_fault { IsErrOf result InputError.Fault ⊎ (S.faults source.new ≡ S.faults source.old) }
     ensures later { S.faults source.old ≤ S.faults source.new }
 {
@@ -82,7 +82,7 @@ fn read_piece<S: Source>(
     ensures length { IfOk result (λ n. vec_len input.new ≡ vec_len input.old + n) }
     ensures appends { IfOk result (λ n. (came : List ℕ) × (input.new.items ≡ input.old.items ++ came) × Consumes (S.left source.old) (S.left source.new) came) }
     ensures end { IfOk result (λ n. n ≡ 0 → IsAtEnd (S.left source.new)) }
-    ensures fault { IsErrOf result InputError.Fault → Rose (S.faults source.old) (S.faults source.new) }
+    ensures fault { IsErrOf result InputError.Fault → FaultCountRose (S.faults source.old) (S.faults source.new) }
     ensures no_fault { IsErrOf result InputError.Fault ⊎ (S.faults source.new ≡ S.faults source.old) }
     ensures long { (result ≡ Err InputError.TooLong) → ⊥ }
     ensures later { S.faults source.old ≤ S.faults source.new }

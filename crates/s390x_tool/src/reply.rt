@@ -103,12 +103,12 @@ pub fn refused(error: EmitError) -> Reply
 {
     match error {
         EmitError::NoMemory => no_memory(),
-        _ => fixed(Status::Refused, refusal_line(error)),
+        _ => fixed(Status::Refused, cause_line(error)),
     }
 }
 
 // The line for a refusal of emission.
-fn refusal_line(error: EmitError) -> &'static str
+fn cause_line(error: EmitError) -> &'static str
     ensures { result.now ≡ line (codes "refused " ++ error_name error) }
 {
     match error {
@@ -133,12 +133,12 @@ pub fn link_refused(error: LinkError) -> Reply
 {
     match error {
         LinkError::NoMemory => no_memory(),
-        _ => fixed(Status::LinkRefused, link_refusal_line(error)),
+        _ => fixed(Status::LinkRefused, link_cause_line(error)),
     }
 }
 
 // The line for a refusal of linking.
-fn link_refusal_line(error: LinkError) -> &'static str
+fn link_cause_line(error: LinkError) -> &'static str
     ensures { result.now ≡ line (codes "link " ++ link_error_name error) }
 {
     match error {

@@ -3,7 +3,7 @@ ghost use Rattle.std.specs.Prelude.{◌≡◌, ◌<◌, ◌⊎◌, ℕ, List, So
 ghost use Rattle.s390x_tool.specs.declared.words.Command.{Command};
 ghost use Rattle.std.specs.Cow.{cow_str_bytes};
 ghost use Rattle.s390x_tool.specs.Answers.{IsAccepted};
-ghost use Rattle.s390x_tool.specs.Causes.{Rose};
+ghost use Rattle.s390x_tool.specs.Causes.{FaultCountRose};
 ghost use Rattle.s390x_tool.specs.Ends.{IsTooLong};
 ghost use Rattle.s390x_tool.specs.Replies.{IsDelivered, IsDone, IsEnded, IsReply};
 ghost use Rattle.s390x_tool.specs.Words.{IsForm, IsNoForm, texts};
@@ -25,7 +25,7 @@ pub fn run<S: Source, K: Sink>(
     source: &mut S,
     sink: &mut K,
 ) -> Status
-    // The words and the input have this reply, and its text was written whole, or else a front of it.
+    // The words and the input have this reply, and its text was written whole, or else a prefix of it.
     ensures ended { IsEnded (record { words = texts words.now; left = S.left source.old; left' = S.left source.new; faults = S.faults source.old; faults' = S.faults source.new })
         (K.told sink.old) (K.told sink.new) (K.faults sink.old) (K.faults sink.new) result }
     // At `Ok` the source held the text of one job, and the sink was told the command's text for it.
@@ -33,13 +33,13 @@ pub fn run<S: Source, K: Sink>(
         (K.told sink.old) (K.told sink.new) }
     // A job that neither emission nor linking has a cause to refuse is done, where no read and no write fails.
     ensures complete { (command : Command) (input : List ℕ) → IsForm (texts words.now) command → S.left source.old ≡ Some input → IsAccepted command input
-        → (Rose (S.faults source.old) (S.faults source.new) → ⊥) → (Rose (K.faults sink.old) (K.faults sink.new) → ⊥)
+        → (FaultCountRose (S.faults source.old) (S.faults source.new) → ⊥) → (FaultCountRose (K.faults sink.old) (K.faults sink.new) → ⊥)
         → (result ≡ Status.Ok) ⊎ (result ≡ Status.NoMemory) }
     ensures usage { result ≡ Status.Usage → IsNoForm (texts words.now) }
     ensures always_usage { IsNoForm (texts words.now) → (result ≡ Status.Usage) ⊎ (result ≡ Status.WriteFault) }
-    ensures read_fault { result ≡ Status.ReadFault → Rose (S.faults source.old) (S.faults source.new) }
+    ensures read_fault { result ≡ Status.ReadFault → FaultCountRose (S.faults source.old) (S.faults source.new) }
     ensures always_read_fault { S.faults source.old < S.faults source.new → (result ≡ Status.ReadFault) ⊎ (result ≡ Status.WriteFault) }
-    ensures write_fault { result ≡ Status.WriteFault → Rose (K.faults sink.old) (K.faults sink.new) }
+    ensures write_fault { result ≡ Status.WriteFault → FaultCountRose (K.faults sink.old) (K.faults sink.new) }
     ensures always_write_fault { K.faults sink.old < K.faults sink.new → result ≡ Status.WriteFault }
     ensures too_long { result ≡ Status.InputTooLong → IsTooLong (S.left source.old) (S.left source.new) }
 {

@@ -1,7 +1,7 @@
 //! The words after the program's name.
 ghost use Rattle.std.specs.Prelude.{◌≡◌, ◌≢◌, ℕ, ◌^◌, ◌<◌, ◌≤◌, ◌↔◌, IsTrue, IfSome, IfNone};
 ghost use Rattle.std.specs.Fmt.{decimal};
-ghost use Rattle.s390x_tool.specs.Words.{IsForm, IsImage, IsNoForm, IsPlain, IsRun, texts};
+ghost use Rattle.s390x_tool.specs.Words.{IsForm, IsImageWord, IsNoForm, IsPlain, IsRun, texts};
 
 /// What the program is asked for.
 #[derive(Clone, Copy)]
@@ -32,7 +32,7 @@ pub fn read_words(words: &[String]) -> Option<Command>
 
 // The command `image` with this second word.
 fn read_image(word: &str) -> Option<Command>
-    ensures some { IfSome result (λ command. IsImage word.now command) }
+    ensures some { IfSome result (λ command. IsImageWord word.now command) }
     ensures none { IfNone result ((base : ℕ) → base < 2 ^ 64 → word.now ≢ decimal base) }
 {
     let base = read_number(word)?;

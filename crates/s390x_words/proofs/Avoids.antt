@@ -52,37 +52,37 @@ abbrev pub marks : List ℕ
 marks = 10 ∷ 32 ∷ 40 ∷ 41 ∷ 91 ∷ 93 ∷ 44 ∷ 58 ∷ 47 ∷ 61 ∷ 33 ∷ 64 ∷ []
 
 -- a word
-abbrev pub Solid : List ℕ → Type 0
-Solid w = Avoids marks w
+abbrev pub IsOneWord : List ℕ → Type 0
+IsOneWord w = Avoids marks w
 
 -- a text that ends a word
 abbrev pub Ends : List ℕ → Type 0
 Ends [] = Unit {0}
 Ends (x ∷ s) = is_mark x ≡ true
 
-before-solid : (w r : List ℕ) → Solid w → Ends r → before_mark (w ++ r) ≡ w
-before-solid [] [] h e = refl
-before-solid [] (x ∷ r) h e = rw e refl
-before-solid (x ∷ w) r h e = rw h.0 (ap (λ l. x ∷ l) (before-solid w r h.1 e))
+before-one_word : (w r : List ℕ) → IsOneWord w → Ends r → before_mark (w ++ r) ≡ w
+before-one_word [] [] h e = refl
+before-one_word [] (x ∷ r) h e = rw e refl
+before-one_word (x ∷ w) r h e = rw h.0 (ap (λ l. x ∷ l) (before-one_word w r h.1 e))
 
-from-solid : (w r : List ℕ) → Solid w → Ends r → from_mark (w ++ r) ≡ r
-from-solid [] [] h e = refl
-from-solid [] (x ∷ r) h e = rw e refl
-from-solid (x ∷ w) r h e = rw h.0 (from-solid w r h.1 e)
+from-one_word : (w r : List ℕ) → IsOneWord w → Ends r → from_mark (w ++ r) ≡ r
+from-one_word [] [] h e = refl
+from-one_word [] (x ∷ r) h e = rw e refl
+from-one_word (x ∷ w) r h e = rw h.0 (from-one_word w r h.1 e)
 
-pub front-is : (w r : List ℕ) → Solid w → Ends r → before_mark (w ++ r) ≡ w
-front-is w r h e = before-solid w r h e
+pub front-is : (w r : List ℕ) → IsOneWord w → Ends r → before_mark (w ++ r) ≡ w
+front-is w r h e = before-one_word w r h e
 
-pub back-is : (w r : List ℕ) → Solid w → Ends r → from_mark (w ++ r) ≡ r
-back-is w r h e = from-solid w r h e
+pub back-is : (w r : List ℕ) → IsOneWord w → Ends r → from_mark (w ++ r) ≡ r
+back-is w r h e = from-one_word w r h e
 
-pub word-is : (x : ℕ) (w r : List ℕ) → Solid w → Ends r → word (x ∷ (w ++ r)) ≡ w
+pub word-is : (x : ℕ) (w r : List ℕ) → IsOneWord w → Ends r → word (x ∷ (w ++ r)) ≡ w
 unfolding word
-word-is x w r h e = before-solid w r h e
+word-is x w r h e = before-one_word w r h e
 
-pub after-is : (x : ℕ) (w r : List ℕ) → Solid w → Ends r → after_word (x ∷ (w ++ r)) ≡ r
+pub after-is : (x : ℕ) (w r : List ℕ) → IsOneWord w → Ends r → after_word (x ∷ (w ++ r)) ≡ r
 unfolding after_word
-after-is x w r h e = from-solid w r h e
+after-is x w r h e = from-one_word w r h e
 
 pub upto-is : (c : ℕ) (w r : List ℕ) → Avoids (c ∷ []) w → upto c (w ++ (c ∷ r)) ≡ w
 upto-is c [] r h = rw (number-self c) refl

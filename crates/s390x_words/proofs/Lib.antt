@@ -1,10 +1,10 @@
 pub mod Members
 pub mod Avoids
 pub mod Digits
-pub mod AtomsBack
+pub mod AtomsRoundTrip
 pub mod Lists
-pub mod MemoryBack
+pub mod MemoryRoundTrip
 pub mod Registers
-pub mod BytesBack
-pub mod CallsBack
-pub mod OperatorsBack
+pub mod BytesRoundTrip
+pub mod CallsRoundTrip
+pub mod OperatorsRoundTrip

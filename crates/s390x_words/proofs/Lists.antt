@@ -4,7 +4,7 @@ use Rattle.std.specs.Prelude.{◌==◌, if◌then◌else◌}
 use Rattle.std.proofs.lemmas.Bool.Decides.{nat_tests}
 use Rattle.s390x_words.specs.Marks.{upto, past}
 use Rattle.s390x_words.specs.Lists.{more_text, open_text, list_text, AllItems, elements, list_of}
-use Rattle.s390x_words.proofs.Avoids.{Avoids, Avoids-append, Avoids-fewer, marks, Solid, Ends, upto-is, past-is}
+use Rattle.s390x_words.proofs.Avoids.{Avoids, Avoids-append, Avoids-fewer, marks, IsOneWord, Ends, upto-is, past-is}
 
 -- the bytes that stand in no element
 abbrev pub bounds : List ℕ
@@ -13,8 +13,8 @@ bounds = 91 ∷ 44 ∷ 93 ∷ 10 ∷ []
 abbrev pub Inner : List ℕ → Type 0
 Inner w = Avoids bounds w
 
-pub Inner-solid : (w : List ℕ) → Solid w → Inner w
-Inner-solid w h = Avoids-fewer marks bounds refl w h
+pub Inner-one_word : (w : List ℕ) → IsOneWord w → Inner w
+Inner-one_word w h = Avoids-fewer marks bounds refl w h
 
 pub Inner-append : (a b : List ℕ) → Inner a → Inner b → Inner (a ++ b)
 Inner-append a b h k = Avoids-append bounds a b h k
@@ -34,12 +34,12 @@ module _ {A : Type 0} (spelling : A → List ℕ) (reading : List ℕ → A) (P 
   more_ends [] = tt
   more_ends (x ∷ xs) = refl
 
-  more_back : (xs : List A) → AllItems P xs → elements reading (more_text spelling xs) ≡ xs
-  more_back [] h = refl
-  more_back (x ∷ xs) h =
+  more_round_trip : (xs : List A) → AllItems P xs → elements reading (more_text spelling xs) ≡ xs
+  more_round_trip [] h = refl
+  more_round_trip (x ∷ xs) h =
       let a = law.reads x h.0 44 (more_text spelling xs) (more_ends xs) in
       let b = skip reading (spelling x) (more_text spelling xs) (Avoids-fewer bounds (91 ∷ 44 ∷ []) refl (spelling x) (law.inner x h.0)) in
-      rw (a, b) (ap (λ l. x ∷ l) (more_back xs h.1))
+      rw (a, b) (ap (λ l. x ∷ l) (more_round_trip xs h.1))
 
   more_avoids : (xs : List A) → AllItems P xs → Avoids (93 ∷ 10 ∷ []) (more_text spelling xs)
   more_avoids [] h = tt
@@ -62,17 +62,17 @@ module _ {A : Type 0} (spelling : A → List ℕ) (reading : List ℕ → A) (P 
   unfolding inside
   many g h = rw h refl
 
-  pub list-back : (xs : List A) → AllItems P xs → (r : List ℕ) → list_of reading (list_text spelling xs ++ r) ≡ xs
+  pub list-round_trip : (xs : List A) → AllItems P xs → (r : List ℕ) → list_of reading (list_text spelling xs ++ r) ≡ xs
   unfolding inside
-  list-back [] h r = refl
-  list-back (x ∷ xs) h r =
+  list-round_trip [] h r = refl
+  list-round_trip (x ∷ xs) h r =
       let w = open_text spelling (x ∷ xs) in
       let e = append_assoc w (93 ∷ []) r in
       let u : upto 93 (list_text spelling (x ∷ xs) ++ r) ≡ w = ap (upto 93) e ∙ upto-is 93 w r (Avoids-fewer (93 ∷ 10 ∷ []) (93 ∷ []) refl w (open_avoids (x ∷ xs) h)) in
       let a = law.reads x h.0 91 (more_text spelling xs) (more_ends xs) in
       let b = skip reading (spelling x) (more_text spelling xs) (Avoids-fewer bounds (91 ∷ 44 ∷ []) refl (spelling x) (law.inner x h.0)) in
       let n = not_empty (spelling x) (more_text spelling xs) (law.some x h.0) in
-      ap inside u ∙ many w n ∙ ap (λ y. y ∷ elements reading (spelling x ++ more_text spelling xs)) a ∙ ap (λ l. x ∷ l) (b ∙ more_back xs h.1)
+      ap inside u ∙ many w n ∙ ap (λ y. y ∷ elements reading (spelling x ++ more_text spelling xs)) a ∙ ap (λ l. x ∷ l) (b ∙ more_round_trip xs h.1)
 
   pub list-past : (xs : List A) → AllItems P xs → (r : List ℕ) → past 93 (list_text spelling xs ++ r) ≡ r
   list-past xs h r =

@@ -4,7 +4,7 @@ use Rattle.std.specs.Prelude.{◌==◌, ◌||◌, ◌&&◌, if◌then◌else◌}
 use Rattle.std.proofs.lemmas.Bool.Decides.{nat_tests}
 use Rattle.s390x_base.specs.Registers.{RealRegister, general, vector, IsRegister}
 use Rattle.s390x_words.specs.Lists.{AllItems}
-use Rattle.s390x_words.specs.Sets.{members_below, members, same_register, is_in}
+use Rattle.s390x_words.specs.Sets.{members_below, members_of, same_register, is_in}
 use Rattle.s390x_words.proofs.Members.{either, or-false}
 
 all_append : {A : Type 0} (P : A → Type 0) (a b : List A) → AllItems P a → AllItems P b → AllItems P (a ++ b)
@@ -25,8 +25,8 @@ all_vector has zero h = tt
 all_vector has (suc n) h =
     all_append IsRegister (members_below vector has n) _ (all_vector has n (omega arith)) (all_if (has (vector n)) (vector n) (omega arith))
 
-pub all_registers : (has : RealRegister → Bool) → AllItems IsRegister (members has)
-unfolding members
+pub all_registers : (has : RealRegister → Bool) → AllItems IsRegister (members_of has)
+unfolding members_of
 all_registers has =
     all_append IsRegister (members_below general has 16) (members_below vector has 32) (all_general has 16 (omega arith)) (all_vector has 32 (omega arith))
 
@@ -37,8 +37,8 @@ below_same of p q (suc n) h =
     let e = h n (omega arith) in
     ap (λ b. members_below of p n ++ (if b then of n ∷ [] else [])) e ∙ ap (λ l. l ++ (if q (of n) then of n ∷ [] else [])) (below_same of p q n (λ k l. h k (omega arith)))
 
-pub members-same : (p q : RealRegister → Bool) → ((k : ℕ) → k < 16 → p (general k) ≡ q (general k)) → ((k : ℕ) → k < 32 → p (vector k) ≡ q (vector k)) → members p ≡ members q
-unfolding members
+pub members-same : (p q : RealRegister → Bool) → ((k : ℕ) → k < 16 → p (general k) ≡ q (general k)) → ((k : ℕ) → k < 32 → p (vector k) ≡ q (vector k)) → members_of p ≡ members_of q
+unfolding members_of
 members-same p q g v =
     ap (λ l. l ++ members_below vector p 32) (below_same general p q 16 g) ∙ ap (λ l. members_below general q 16 ++ l) (below_same vector p q 32 v)
 
@@ -97,19 +97,19 @@ module _ (of : ℕ → RealRegister) (law : (k j : ℕ) → same_register (of k)
   other zero r h = refl
   other (suc n) r h = step n r ∙ rw (other n r h, h n) (and_false (has (of n)))
 
-pub general-in : (has : RealRegister → Bool) (k : ℕ) → k < 16 → is_in (members has) (general k) ≡ has (general k)
-unfolding members
+pub general-in : (has : RealRegister → Bool) (k : ℕ) → k < 16 → is_in (members_of has) (general k) ≡ has (general k)
+unfolding members_of
 general-in has k h =
     in_append (members_below general has 16) (members_below vector has 32) (general k)
     ∙ rw (within general (λ a b. refl) has 16 k h, other vector (λ a b. refl) has 32 (general k) (λ j. refl)) (or-false (has (general k)))
 
-pub vector-in : (has : RealRegister → Bool) (k : ℕ) → k < 32 → is_in (members has) (vector k) ≡ has (vector k)
-unfolding members
+pub vector-in : (has : RealRegister → Bool) (k : ℕ) → k < 32 → is_in (members_of has) (vector k) ≡ has (vector k)
+unfolding members_of
 vector-in has k h =
     in_append (members_below general has 16) (members_below vector has 32) (vector k)
     ∙ rw (other general (λ a b. refl) has 16 (vector k) (λ j. refl)) (within vector (λ a b. refl) has 32 k h)
 
 -- the members of the members are the members
-pub members-again : (has : RealRegister → Bool) → members has ≡ members (is_in (members has))
+pub members-again : (has : RealRegister → Bool) → members_of has ≡ members_of (is_in (members_of has))
 members-again has =
-    members-same has (is_in (members has)) (λ k h. sym (general-in has k h)) (λ k h. sym (vector-in has k h))
+    members-same has (is_in (members_of has)) (λ k h. sym (general-in has k h)) (λ k h. sym (vector-in has k h))

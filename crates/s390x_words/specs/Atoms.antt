@@ -39,8 +39,8 @@ IsReg (Real r) = IsRegister r
 IsReg (Virtual n c) = n < 4294967296
 
 -- the real register that a word spells
-abbrev pub real_of : List ℕ → RealRegister
-real_of w =
+abbrev pub real_register_of : List ℕ → RealRegister
+real_register_of w =
     if slice_index w 1 == 118 then vector (decimal_of (drop 2 w) % 32) else general (decimal_of (drop 2 w) % 16)
 
 -- the register that a word spells
@@ -48,7 +48,7 @@ abbrev pub reg_of : List ℕ → Reg
 reg_of w =
     if slice_index w 1 == 105 then Virtual (natural_of W32 (drop 2 w)) Int
     else if slice_index w 1 == 120 then Virtual (natural_of W32 (drop 2 w)) Float
-    else Real (real_of w)
+    else Real (real_register_of w)
 
 -- conditions: the mask, 1 to 14
 abbrev pub IsMask : ℕ → Type 0

@@ -21,8 +21,8 @@ decoded (Ok bs) = bs
 decoded (Err e) = []
 
 -- the bytes that a word spells; none for any other word
-abbrev pub bytes_of : List ℕ → List ℕ
-bytes_of w = if bytes_eq w (codes "-") then [] else decoded (decode_of w)
+abbrev pub bytes_of_text : List ℕ → List ℕ
+bytes_of_text w = if bytes_eq w (codes "-") then [] else decoded (decode_of w)
 
 -- so many hex digits, the last one of the least weight
 abbrev pub digits_text : ℕ → ℕ → List ℕ

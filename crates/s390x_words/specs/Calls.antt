@@ -21,7 +21,7 @@ use Rattle.s390x_inst.specs.declared.calls.SymbolReloc.TheVariants.{Absolute}
 use Rattle.s390x_base.specs.declared.regs.Reg.{Reg}
 use Rattle.s390x_words.specs.Marks.{equals_sign, at_sign, colon, word, after_word, past}
 use Rattle.s390x_words.specs.Numbers.{natural_of, integer_of, IsBelow, signed_limit, W32, S64}
-use Rattle.s390x_words.specs.Found.{found}
+use Rattle.s390x_words.specs.Found.{found_by_name}
 use Rattle.s390x_words.specs.Operators.{type_text}
 use Rattle.s390x_words.specs.Atoms.{reg_text, reg_of, IsReg, name_of}
 use Rattle.s390x_words.specs.Lists.{list_text, list_of, AllItems}
@@ -33,13 +33,13 @@ target_text (Direct name) = 117 ∷ decimal name.0
 target_text (Indirect reg) = reg_text reg
 
 -- its number lies in its range
-abbrev pub IsTarget : CallInstDest → Type 0
-IsTarget (Direct name) = name.0 < 4294967296
-IsTarget (Indirect reg) = IsReg reg
+abbrev pub IsCallTarget : CallInstDest → Type 0
+IsCallTarget (Direct name) = name.0 < 4294967296
+IsCallTarget (Indirect reg) = IsReg reg
 
 -- the target that a word spells
-abbrev pub target_of : List ℕ → CallInstDest
-target_of w = if slice_index w 0 == 37 then Indirect (reg_of w) else Direct (record { 0 = name_of w })
+abbrev pub call_target_of : List ℕ → CallInstDest
+call_target_of w = if slice_index w 0 == 37 then Indirect (reg_of w) else Direct (record { 0 = name_of w })
 
 -- what a relocation names: `Absolute(u1,0)`
 abbrev pub reloc_text : SymbolReloc → List ℕ
@@ -58,6 +58,16 @@ reloc_of s =
 -- a pair of registers: `vreg=preg`
 abbrev pub pair_text : Reg → Reg → List ℕ
 pair_text v p = reg_text v ++ (equals_sign ∷ reg_text p)
+
+-- the signs of a location
+abbrev pub equals_sign : ℕ
+equals_sign = 61
+
+abbrev pub colon : ℕ
+colon = 58
+
+abbrev pub at_sign : ℕ
+at_sign = 64
 
 -- where a result comes back, and its type: `=preg:I64` or `=@OFFSET:I64`
 abbrev pub location_text : RetLocation → List ℕ
@@ -78,18 +88,18 @@ abbrev pub IsResult : CallRetPair → Type 0
 IsResult d = IsReg d.vreg × IsLocation d.location
 
 -- the type that a word names; `I8` for any other word
-abbrev pub type_of : List ℕ → ValueType
-type_of w = found type_text ALL_TYPE w T.I8
+abbrev pub value_type_of : List ℕ → ValueType
+value_type_of w = found_by_name type_text ALL_TYPE w T.I8
 
 -- where a result comes back, and its type, read from the `=` on
 abbrev pub location_of : List ℕ → RetLocation
 location_of s =
-    if slice_index s 1 == 64 then L.Stack (integer_of S64 (word (drop 1 s))) (type_of (word (after_word (drop 1 s))))
-    else L.Reg (reg_of (word s)) (type_of (word (after_word s)))
+    if slice_index s 1 == 64 then L.Stack (integer_of S64 (word (drop 1 s))) (value_type_of (word (after_word (drop 1 s))))
+    else L.Reg (reg_of (word s)) (value_type_of (word (after_word s)))
 
 -- the result behind one mark
-abbrev pub result_of : List ℕ → CallRetPair
-result_of s = record { vreg = reg_of (word s); location = location_of (after_word s) }
+abbrev pub call_result_of : List ℕ → CallRetPair
+call_result_of s = record { vreg = reg_of (word s); location = location_of (after_word s) }
 
 -- handlers: `TAG:LABEL`, or `*:LABEL` for all tags
 abbrev pub handler_text : TryCallHandler → List ℕ

@@ -7,7 +7,7 @@ use Rattle.s390x_inst.specs.declared.args.MemArg.{MemArg}
 use Rattle.s390x_inst.specs.declared.args.MemArg.TheVariants as M
 use Rattle.s390x_words.specs.Marks.{word, after_word}
 use Rattle.s390x_words.specs.Numbers.{natural_of, integer_of, IsBelow, signed_limit, W12, W32, S20, S32, S64}
-use Rattle.s390x_words.specs.Found.{found}
+use Rattle.s390x_words.specs.Found.{found_by_name}
 use Rattle.s390x_words.specs.Atoms.{reg_text, reg_of, IsReg, access_text, access_of, IsSuffix, name_of}
 use Rattle.s390x_words.specs.declared.memory.MemoryForm.{MemoryForm}
 use Rattle.s390x_words.specs.declared.memory.MemoryForm.TheVariants as F
@@ -28,18 +28,18 @@ form_text F.SlotOffset = codes "SlotOffset"
 form_text F.SpillOffset = codes "SpillOffset"
 
 -- the form of an operand
-abbrev pub form_of : MemArg → MemoryForm
-form_of (M.BXD12 b x d f) = F.BXD12
-form_of (M.BXD20 b x d f) = F.BXD20
-form_of (M.Label t) = F.Label
-form_of (M.Constant c) = F.Constant
-form_of (M.Symbol n o f) = F.Symbol
-form_of (M.RegOffset r o f) = F.RegOffset
-form_of (M.InitialSPOffset o) = F.InitialSPOffset
-form_of (M.IncomingArgOffset o) = F.IncomingArgOffset
-form_of (M.OutgoingArgOffset o) = F.OutgoingArgOffset
-form_of (M.SlotOffset o) = F.SlotOffset
-form_of (M.SpillOffset o) = F.SpillOffset
+abbrev pub memory_form_of : MemArg → MemoryForm
+memory_form_of (M.BXD12 b x d f) = F.BXD12
+memory_form_of (M.BXD20 b x d f) = F.BXD20
+memory_form_of (M.Label t) = F.Label
+memory_form_of (M.Constant c) = F.Constant
+memory_form_of (M.Symbol n o f) = F.Symbol
+memory_form_of (M.RegOffset r o f) = F.RegOffset
+memory_form_of (M.InitialSPOffset o) = F.InitialSPOffset
+memory_form_of (M.IncomingArgOffset o) = F.IncomingArgOffset
+memory_form_of (M.OutgoingArgOffset o) = F.OutgoingArgOffset
+memory_form_of (M.SlotOffset o) = F.SlotOffset
+memory_form_of (M.SpillOffset o) = F.SpillOffset
 
 -- base, index, displacement and flags
 abbrev pub indexed_text : Reg → Reg → List ℕ → MachMemFlags → List ℕ
@@ -65,7 +65,7 @@ inside_text (M.SpillOffset o) = signed_decimal o
 
 -- the text of an operand
 abbrev pub memory_text : MemArg → List ℕ
-memory_text m = form_text (form_of m) ++ (40 ∷ (inside_text m ++ (41 ∷ [])))
+memory_text m = form_text (memory_form_of m) ++ (40 ∷ (inside_text m ++ (41 ∷ [])))
 
 -- the numbers of an operand lie in their ranges
 abbrev pub IsMemory : MemArg → Type 0
@@ -100,5 +100,5 @@ memory_with F.SlotOffset s = M.SlotOffset (integer_of S64 (word s))
 memory_with F.SpillOffset s = M.SpillOffset (integer_of S64 (word s))
 
 -- the operand behind one mark
-abbrev pub memory_of : List ℕ → MemArg
-memory_of s = memory_with (found form_text ALL_FORMS (word s) F.BXD12) (after_word s)
+abbrev pub memory_operand_of : List ℕ → MemArg
+memory_operand_of s = memory_with (found_by_name form_text ALL_FORMS (word s) F.BXD12) (after_word s)

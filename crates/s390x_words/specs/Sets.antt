@@ -10,8 +10,8 @@ members_below of has zero = []
 members_below of has (suc n) = members_below of has n ++ (if has (of n) then of n ∷ [] else [])
 
 -- the members of a set, general registers first, numbers rising
-unfoldable pub members : (RealRegister → Bool) → List RealRegister
-members has = members_below general has 16 ++ members_below vector has 32
+unfoldable pub members_of : (RealRegister → Bool) → List RealRegister
+members_of has = members_below general has 16 ++ members_below vector has 32
 
 -- whether two classes are the same
 abbrev pub same_class : RegClass → RegClass → Bool

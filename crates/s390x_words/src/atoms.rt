@@ -1,6 +1,6 @@
 //! Registers, numbers, conditions and trap codes as parts of a line.
 ghost use Rattle.std.specs.Prelude.{◌≡◌, ◌++◌, ◌∷◌, [], ◌<◌, OnOk, string_bytes, drop};
-ghost use Rattle.s390x_words.specs.Atoms.{real_text, real_of, reg_text, reg_of, mask_of, trap_text, trap_of, user_number_of, access_text, access_of, aligned_text, trap_suffix, suffix_of, bool_text, bool_of, name_of};
+ghost use Rattle.s390x_words.specs.Atoms.{real_text, real_register_of, reg_text, reg_of, mask_of, trap_text, trap_of, user_number_of, access_text, access_of, aligned_text, trap_suffix, suffix_of, bool_text, bool_of, name_of};
 ghost use Rattle.std.specs.Fmt.{decimal};
 
 use crate::marks::{after_word, word};
@@ -44,7 +44,7 @@ fn put_virtual(out: &mut String, num: u32, class: RegClass) -> Result<(), AllocE
 
 /// The real register of a word, some register for any other word.
 pub fn real(w: &[u8]) -> PReg
-    ensures { result ≡ real_of w.now }
+    ensures { result ≡ real_register_of w.now }
 {
     let number = natural(tail(w, 2));
     if second(w) == b'v' {

@@ -1,7 +1,7 @@
 //! Bytes and starting values in hex, and the facilities of the line `flags`.
 ghost use Rattle.std.specs.Prelude.{◌≡◌, ◌++◌, ◌∷◌, [], ◌+◌, ◌<◌, ◌^◌, OnOk, IfOk, string_bytes, slice_index, drop, codes};
 ghost use Rattle.hex.specs.Hex.{lower_digits};
-ghost use Rattle.s390x_words.specs.Bytes.{bytes_text, bytes_of, digits_text, vector_text, digit_of, hex_from, facility_text, facilities_text, facilities_of, is_next, after_next};
+ghost use Rattle.s390x_words.specs.Bytes.{bytes_text, bytes_of_text, digits_text, vector_text, digit_of, hex_from, facility_text, facilities_text, facilities_of, is_next, after_next};
 
 use crate::marks::{after_word, word};
 use crate::number::put;
@@ -21,7 +21,7 @@ pub fn put_bytes(alloc: Global, out: &mut String, bytes: &[u8]) -> Result<(), Al
 
 /// The bytes of a word, no bytes for any word without.
 pub fn bytes(alloc: Global, w: &[u8]) -> Result<Vec<u8>, AllocError>
-    ensures { IfOk result (λ v. v.items ≡ bytes_of w.now) }
+    ensures { IfOk result (λ v. v.items ≡ bytes_of_text w.now) }
 {
     if w == b"-".as_slice() {
         return Ok(Vec::new(alloc));

@@ -1,7 +1,7 @@
 //! The parts of calls: printing and reading.
 ghost use Rattle.std.specs.Prelude.{◌≡◌, ◌++◌, ◌∷◌, [], OnOk, IfOk, string_bytes};
-ghost use Rattle.s390x_words.specs.Calls.{arg_text, arg_of, ret_text, ret_of, use_text, use_of, label_text, label_of, target_text, target_of, reloc_text, reloc_of, pair_text, location_text, location_of, result_text, result_of, handler_text, handler_of, try_part, try_text, try_of, type_of};
-ghost use Rattle.s390x_words.specs.Atoms.{real_text, real_of};
+ghost use Rattle.s390x_words.specs.Calls.{arg_text, arg_of, ret_text, ret_of, use_text, use_of, label_text, label_of, target_text, call_target_of, reloc_text, reloc_of, pair_text, location_text, location_of, result_text, call_result_of, handler_text, handler_of, try_part, try_text, try_of, value_type_of};
+ghost use Rattle.s390x_words.specs.Atoms.{real_text, real_register_of};
 ghost use Rattle.s390x_words.specs.Marks.{word};
 
 use crate::atoms::{name, put_name, put_real, put_reg, real, reg, written};
@@ -29,7 +29,7 @@ pub fn put_target(out: &mut String, target: CallInstDest) -> Result<(), AllocErr
 
 /// The target of a word, some target for any other word.
 pub fn target(w: &[u8]) -> CallInstDest
-    ensures { result ≡ target_of w.now }
+    ensures { result ≡ call_target_of w.now }
 {
     if first(w) == b'%' {
         CallInstDest::Indirect { reg: reg(w) }
@@ -140,7 +140,7 @@ impl Element for MachLabel {
 impl Element for PReg {
     ghost spelling = { real_text };
 
-    ghost reading = { λ s. real_of (word s) };
+    ghost reading = { λ s. real_register_of (word s) };
 
     fn put(self, out: &mut String) -> Result<(), AllocError> {
         put_real(out, self)
@@ -171,7 +171,7 @@ fn put_location(out: &mut String, location: RetLocation) -> Result<(), AllocErro
 }
 
 fn value_type(w: &[u8]) -> ValueType
-    ensures { result ≡ type_of w.now }
+    ensures { result ≡ value_type_of w.now }
 {
     find(&ALL_TYPE, w, ValueType::I8)
 }
@@ -190,7 +190,7 @@ fn location(s: &[u8]) -> RetLocation
 impl Element for CallRetPair {
     ghost spelling = { result_text };
 
-    ghost reading = { result_of };
+    ghost reading = { call_result_of };
 
     fn put(self, out: &mut String) -> Result<(), AllocError> {
         put_reg(out, self.vreg.to_reg())?;

@@ -3,7 +3,7 @@ ghost use Rattle.std.specs.Prelude.{◌≡◌, ◌++◌, ◌∷◌, [], OnOk, st
 ghost use Rattle.std.specs.Fmt.{signed_decimal};
 ghost use Rattle.s390x_words.specs.Atoms.{reg_text, access_text};
 ghost use Rattle.s390x_words.specs.Numbers.{natural_of, integer_of, W12, S20};
-ghost use Rattle.s390x_words.specs.Memory.{form_text, form_of, inside_text, memory_text, memory_with, memory_of};
+ghost use Rattle.s390x_words.specs.Memory.{form_text, memory_form_of, inside_text, memory_text, memory_with, memory_operand_of};
 
 use crate::atoms::{access, name, put_access, put_name, put_reg, reg};
 use crate::marks::{after_word, word};
@@ -139,7 +139,7 @@ fn put_inside(out: &mut String, m: MemArg) -> Result<(), AllocError>
 }
 
 fn form(m: &MemArg) -> MemoryForm
-    ensures { result ≡ form_of m.now }
+    ensures { result ≡ memory_form_of m.now }
 {
     match m {
         MemArg::BXD12 { .. } => MemoryForm::BXD12,
@@ -267,7 +267,7 @@ fn memory_with(form: MemoryForm, s: &[u8]) -> MemArg
 
 /// The memory operand after one mark, some operand where none stands there.
 pub fn memory(s: &[u8]) -> MemArg
-    ensures { result ≡ memory_of s.now }
+    ensures { result ≡ memory_operand_of s.now }
 {
     memory_with(find(&ALL_FORMS, word(s), MemoryForm::BXD12), after_word(s))
 }

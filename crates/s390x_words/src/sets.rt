@@ -2,7 +2,7 @@
 ghost use Rattle.std.specs.Prelude.{◌≡◌, ◌++◌, ◌∷◌, [], IfOk, OnOk, if◌then◌else◌};
 ghost use Rattle.s390x_base.specs.Registers.{RealRegister, general, vector};
 ghost use Rattle.s390x_base.specs.Sets.{has};
-ghost use Rattle.s390x_words.specs.Sets.{members, members_below, is_in};
+ghost use Rattle.s390x_words.specs.Sets.{members_of, members_below, is_in};
 
 use s390x_base::{PReg, PRegSet, gpr_preg, vr_preg};
 use std::alloc::{AllocError, Global};
@@ -36,7 +36,7 @@ fn push_if(v: &mut Vec<PReg>, set: PRegSet, r: PReg) -> Result<(), AllocError>
 
 /// The members, general registers first, numbers rising.
 pub fn set_members(alloc: Global, set: PRegSet) -> Result<Vec<PReg>, AllocError>
-    ensures { IfOk result (λ v. v.items ≡ members (has set)) }
+    ensures { IfOk result (λ v. v.items ≡ members_of (has set)) }
 {
     let mut v = Vec::new(alloc);
     push_general(&mut v, set)?;

@@ -1,6 +1,6 @@
 //! Named values, and how they are spelled.
 ghost use Rattle.std.specs.Prelude.{◌≡◌, ℕ, List};
-ghost use Rattle.s390x_words.specs.Found.{found};
+ghost use Rattle.s390x_words.specs.Found.{found_by_name};
 
 /// A value that one word spells.
 pub trait Word: Copy {
@@ -13,7 +13,7 @@ pub trait Word: Copy {
 
 /// The first of `all` that the word spells, or `other`.
 pub fn find<T: Word>(all: &[T], word: &[u8], other: T) -> T
-    ensures { result ≡ found T.spelling all.now word.now other }
+    ensures { result ≡ found_by_name T.spelling all.now word.now other }
 {
     for x in all {
         if x.text().as_bytes() == word {

@@ -1,5 +1,5 @@
 use Rattle.std.proofs.Common.{sym, ap}
-use Rattle.s390x_steps.specs.Parts.{helpers_parts, parts_size}
+use Rattle.s390x_typed_steps.specs.Parts.{helpers_parts, parts_size}
 use Rattle.s390x_format.specs.Formats.{length_of}
 use Rattle.s390x_address.specs.Plans.{far_helper}
 use Rattle.s390x_address.proofs.memory.far_size.Goals as goal

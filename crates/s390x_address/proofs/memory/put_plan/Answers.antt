@@ -1,11 +1,11 @@
 use Rattle.std.proofs.Common.{◌+◌, ap, sym, ◌∙◌}
 use Rattle.std.proofs.lemmas.Bool.{and_parts}
 use Rattle.s390x_buffer.specs.State.{put_cause}
-use Rattle.s390x_buffer.proofs.Keeping.{keeps_on}
-use Rattle.s390x_steps.specs.Causes.{declared_in}
-use Rattle.s390x_steps.specs.Parts.{operand_parts, helpers_parts, parts_size}
+use Rattle.s390x_buffer.proofs.Keeping.{extends_on}
+use Rattle.s390x_typed_steps.specs.Causes.{declared_in}
+use Rattle.s390x_typed_steps.specs.Parts.{operand_parts, helpers_parts, parts_size}
 use Rattle.s390x_address.specs.Plans.{far_helper, address_helper, may_stand, address_stands}
-use Rattle.s390x_address.specs.Rows.{form_of}
+use Rattle.s390x_address.specs.Rows.{storage_form_of}
 use Rattle.s390x_address.proofs.Lacking.{lacks_again, put_first, put_others}
 use Rattle.s390x_address.proofs.Putting.{helpers_puts}
 use Rattle.s390x_address.proofs.Sizes.{plan_size}
@@ -15,7 +15,7 @@ pub returns-in_err-put_address-clause-lacks : goal.returns-in_err-put_address-cl
 returns-in_err-put_address-clause-lacks c = λ put encoded stands.
     let s = c.args.sink.now in
     let p = c.args.plan.now in
-    let form = form_of c.args.rows.now in
+    let form = storage_form_of c.args.rows.now in
     let far = parts_size (helpers_parts (far_helper p.far)) in
     let address = parts_size (helpers_parts (address_helper p.address)) in
     let access = parts_size (operand_parts form c.args.trap_code p.operand) in
@@ -31,7 +31,7 @@ returns-clause-lacks c = λ put encoded stands.
     let s = c.args.sink.now in
     let t = c.put_far.new.sink in
     let p = c.args.plan.now in
-    let form = form_of c.args.rows.now in
+    let form = storage_form_of c.args.rows.now in
     let far = parts_size (helpers_parts (far_helper p.far)) in
     let address = parts_size (helpers_parts (address_helper p.address)) in
     let access = parts_size (operand_parts form c.args.trap_code p.operand) in
@@ -45,4 +45,4 @@ returns-clause-lacks c = λ put encoded stands.
     c.put_operand.ensures.lacks last encoded (ap (λ E. may_stand E p.operand) (address_put.declared ∙ far_put.declared) ∙ both.1)
 
 pub returns-clause-kept : goal.returns-clause-kept
-returns-clause-kept c = keeps_on _ _ _ c.put_far.ensures.kept (keeps_on _ _ _ c.put_address.ensures.kept c.put_operand.ensures.kept)
+returns-clause-kept c = extends_on _ _ _ c.put_far.ensures.kept (extends_on _ _ _ c.put_address.ensures.kept c.put_operand.ensures.kept)

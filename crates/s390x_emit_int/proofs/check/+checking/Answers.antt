@@ -1,10 +1,10 @@
 use Rattle.std.proofs.Common.{◌∙◌, ◌+◌, sym, arith, drop}
 use Rattle.std.proofs.lemmas.Result.{err_from_is_err_and}
-use Rattle.s390x_steps.specs.Causes.{declared_in}
-use Rattle.s390x_steps.specs.Resolved.{resolved_instruction}
-use Rattle.s390x_steps.specs.Tree.{empty, graft, tree}
-use Rattle.s390x_steps.proofs.Trees.{graft_loop, not_loop}
-use Rattle.s390x_steps.proofs.Causes.{stops}
+use Rattle.s390x_typed_steps.specs.Causes.{declared_in}
+use Rattle.s390x_typed_steps.specs.Resolved.{resolved_instruction}
+use Rattle.s390x_typed_steps.specs.Tree.{empty, prepend, tree}
+use Rattle.s390x_typed_steps.proofs.Trees.{prepend_loop, not_loop}
+use Rattle.s390x_typed_steps.proofs.Causes.{stops}
 use Rattle.s390x_emit_int.proofs.Checking.{GoesOn, goes_on, loop_answer, leaf_answer}
 use Rattle.s390x_emit_int.proofs.Resolving.{no_stack_cause}
 use Rattle.s390x_emit_int.proofs.check.+checking.Goals as goal
@@ -38,7 +38,7 @@ check_members-returns-in_err-advance t c =
 
 pub check_inst-returns-in-Loop : goal.check_inst-returns-in-Loop
 check_inst-returns-in-Loop t c =
-    loop_answer c.args.flags (declared_in c.args.sink.now) c.args.state.now.nominal c.args.depth c.args.t c.in-Loop.cond (graft c.args.state.now c.args.inst.now empty) (tree c.args.state.now c.deref.result.now) c.check_loop.result (graft_loop c.args.state.now c.args.inst.now c.in-Loop.cond c.in-Loop.body c.deref.result.now empty c.in-Loop.is c.deref.ensures.value) c.check_loop.ensures
+    loop_answer c.args.flags (declared_in c.args.sink.now) c.args.state.now.nominal c.args.depth c.args.t c.in-Loop.cond (prepend c.args.state.now c.args.inst.now empty) (tree c.args.state.now c.deref.result.now) c.check_loop.result (prepend_loop c.args.state.now c.args.inst.now c.in-Loop.cond c.in-Loop.body c.deref.result.now empty c.in-Loop.is c.deref.ensures.value) c.check_loop.ensures
 
 pub check_inst-returns-in_default : goal.check_inst-returns-in_default
-check_inst-returns-in_default t c = leaf_answer c.args.flags (declared_in c.args.sink.now) c.args.state.now.nominal c.args.depth c.args.t (resolved_instruction c.args.state.now c.args.inst.now) (graft c.args.state.now c.args.inst.now empty) c.check_leaf.result (not_loop c.args.state.now c.args.inst.now c.in_default.not-Loop) c.check_leaf.ensures
+check_inst-returns-in_default t c = leaf_answer c.args.flags (declared_in c.args.sink.now) c.args.state.now.nominal c.args.depth c.args.t (resolved_instruction c.args.state.now c.args.inst.now) (prepend c.args.state.now c.args.inst.now empty) c.check_leaf.result (not_loop c.args.state.now c.args.inst.now c.in_default.not-Loop) c.check_leaf.ensures

@@ -1,13 +1,13 @@
 use Rattle.std.proofs.Common.{◌≡◌, ◌+◌, drop, length, min, map}
-use Rattle.s390x_steps.specs.Sizes.{blocks_size}
-use Rattle.s390x_steps.specs.Causes.{declared_in, blocks_cause}
+use Rattle.s390x_typed_steps.specs.Sizes.{blocks_size}
+use Rattle.s390x_typed_steps.specs.Causes.{declared_in, blocks_cause}
 use Rattle.s390x_emit_int.specs.Function.{tree_of}
-use Rattle.s390x_emit_int.specs.Totals.{IsCounted, limit}
+use Rattle.s390x_emit_int.specs.Totals.{IsCounted, code_limit}
 use Rattle.s390x_emit_int.proofs.function.check_blocks.Given as goal
 
 abbrev pub invariant-loop-block : goal.invariant-loop-block
 invariant-loop-block l = record {
   cause : blocks_cause l.fn.flags (declared_in l.fn.sink) l.sum.labels (map (tree_of l.fn.state) (drop l.block-index l.blocks)) ≡ blocks_cause l.fn.flags (declared_in l.fn.sink) (length l.fn.sink.labels) (map (tree_of l.fn.state) l.blocks);
-  bytes : min limit (l.sum.bytes + blocks_size (map (tree_of l.fn.state) (drop l.block-index l.blocks))) ≡ min limit (blocks_size (map (tree_of l.fn.state) l.blocks));
+  bytes : min code_limit (l.sum.bytes + blocks_size (map (tree_of l.fn.state) (drop l.block-index l.blocks))) ≡ min code_limit (blocks_size (map (tree_of l.fn.state) l.blocks));
   counted : IsCounted l.sum;
 }

@@ -1,8 +1,8 @@
 use Rattle.std.proofs.Common.{ap, sym, subst, ◌∙◌, ◌+◌, ◌*◌, length}
-use Rattle.s390x_steps.specs.Causes.{table_cause}
+use Rattle.s390x_typed_steps.specs.Causes.{table_cause}
 use Rattle.s390x_emit_int.specs.Room.{Passed}
 use Rattle.s390x_emit_int.proofs.Tables.{jump_passed}
-use Rattle.s390x_steps.specs.General.{is_general}
+use Rattle.s390x_typed_steps.specs.General.{is_general}
 use Rattle.s390x_emit_int.proofs.Symbols.{symbol_passed}
 use Rattle.s390x_emit_int.proofs.Leaves.{indirect_passed, return_passed, address_passed, trap_passed, trap_if_passed, debug_passed}
 use Rattle.s390x_emit_int.proofs.leaf.emit_branch.Goals as goal

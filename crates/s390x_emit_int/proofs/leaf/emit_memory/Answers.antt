@@ -1,6 +1,6 @@
 use Rattle.std.proofs.Common.{sym, ◌∙◌}
-use Rattle.s390x_steps.specs.Parts.{memory_parts}
-use Rattle.s390x_address.specs.Rows.{memory_of, in_state}
+use Rattle.s390x_typed_steps.specs.Parts.{memory_parts}
+use Rattle.s390x_address.specs.Rows.{memory_instruction_of, in_state}
 use Rattle.s390x_address.proofs.Putting.{memory_put}
 use Rattle.s390x_emit_int.proofs.Accessing.{parts_run}
 use Rattle.s390x_emit_int.proofs.Answering.{on_ok}
@@ -8,7 +8,7 @@ use Rattle.s390x_emit_int.proofs.leaf.emit_memory.Goals as goal
 
 pub returns-clause-answer : goal.returns-clause-answer
 returns-clause-answer c =
-    let x = in_state c.args.state.now (memory_of c.args.found.now) in
+    let x = in_state c.args.state.now (memory_instruction_of c.args.found.now) in
     on_ok c.emit.result c.emit.ensures.answer (λ e. e ∙ sym (parts_run (memory_parts x) c.args.sink.now (memory_put x)))
 
 pub returns-clause-range : goal.returns-clause-range

@@ -1,42 +1,42 @@
 use Rattle.std.proofs.Common.{ap, sym, length, ◌∙◌}
-use Rattle.s390x_steps.specs.Resolved.{resolved_instruction}
-use Rattle.s390x_address.specs.Rows.{memory_of, in_state}
-use Rattle.s390x_emit_int.specs.Pieces.{run}
+use Rattle.s390x_typed_steps.specs.Resolved.{resolved_instruction}
+use Rattle.s390x_address.specs.Rows.{memory_instruction_of, in_state}
+use Rattle.s390x_emit_int.specs.Fragments.{apply_all}
 use Rattle.s390x_emit_int.proofs.Answering.{on_ok}
-use Rattle.s390x_emit_int.proofs.Single.{memory_pieces, none_pieces}
+use Rattle.s390x_emit_int.proofs.Single.{memory_fragments, none_fragments}
 use Rattle.s390x_emit_int.proofs.Leaves.{memory_passed, other_passed}
-use Rattle.s390x_emit_int.proofs.Resolving.{alone_resolved, found_memory, no_memory, pieces_resolved, memory_range, branch_range}
+use Rattle.s390x_emit_int.proofs.Resolving.{single_resolved, found_memory, no_memory, fragments_resolved, memory_range, branch_range}
 use Rattle.s390x_emit_int.proofs.leaf.emit_other.Goals as goal
 
 pub returns-in-Some-clause-answer : goal.returns-in-Some-clause-answer
 returns-in-Some-clause-answer c =
     let e = c.args.state.now in
     let i = c.args.inst.now in
-    let x = memory_of c.in-Some.found in
-    let same = memory_pieces (resolved_instruction e i) (in_state e x) (length c.args.sink.now.labels) c.args.after.0 (c.requires.alone ∙ sym (alone_resolved e i)) (sym (found_memory e i x c.in-Some.ensures.row)) in
-    on_ok c.emit_memory.result c.emit_memory.ensures.answer (λ h. h ∙ ap (run c.args.sink.now) (sym same))
+    let x = memory_instruction_of c.in-Some.found in
+    let same = memory_fragments (resolved_instruction e i) (in_state e x) (length c.args.sink.now.labels) c.args.after.0 (c.requires.single_instruction ∙ sym (single_resolved e i)) (sym (found_memory e i x c.in-Some.ensures.row)) in
+    on_ok c.emit_memory.result c.emit_memory.ensures.answer (λ h. h ∙ ap (apply_all c.args.sink.now) (sym same))
 
 pub returns-in-Some-clause-lacks : goal.returns-in-Some-clause-lacks
 returns-in-Some-clause-lacks c = λ flags depth p.
     let e = c.args.state.now in
     let i = c.args.inst.now in
-    let x = memory_of c.in-Some.found in
-    let f = memory_passed flags c.args.sink.now c.args.after.0 c.args.state.now.nominal depth (resolved_instruction e i) (in_state e x) (c.requires.alone ∙ sym (alone_resolved e i)) (found_memory e i x c.in-Some.ensures.row) p in
+    let x = memory_instruction_of c.in-Some.found in
+    let f = memory_passed flags c.args.sink.now c.args.after.0 c.args.state.now.nominal depth (resolved_instruction e i) (in_state e x) (c.requires.single_instruction ∙ sym (single_resolved e i)) (found_memory e i x c.in-Some.ensures.row) p in
     c.emit_memory.ensures.lacks f.0 f.1
 
 pub returns-in-Some-clause-range : goal.returns-in-Some-clause-range
-returns-in-Some-clause-range c = on_ok c.emit_memory.result c.emit_memory.ensures.answer (λ h. memory_range c.args.state.now c.args.inst.now (memory_of c.in-Some.found) c.in-Some.ensures.row c.emit_memory.ensures.range)
+returns-in-Some-clause-range c = on_ok c.emit_memory.result c.emit_memory.ensures.answer (λ h. memory_range c.args.state.now c.args.inst.now (memory_instruction_of c.in-Some.found) c.in-Some.ensures.row c.emit_memory.ensures.range)
 
 pub returns-in-None-clause-answer : goal.returns-in-None-clause-answer
 returns-in-None-clause-answer c =
     let e = c.args.state.now in
     let i = c.args.inst.now in
-    let same = none_pieces (resolved_instruction e i) (length c.args.sink.now.labels) c.args.after.0 (c.requires.alone ∙ sym (alone_resolved e i)) (sym (no_memory e i c.in-None.ensures.row)) ∙ pieces_resolved e (length c.args.sink.now.labels) c.args.after.0 i in
-    on_ok c.emit_branch.result c.emit_branch.ensures.answer (λ h. h ∙ ap (run c.args.sink.now) (sym same))
+    let same = none_fragments (resolved_instruction e i) (length c.args.sink.now.labels) c.args.after.0 (c.requires.single_instruction ∙ sym (single_resolved e i)) (sym (no_memory e i c.in-None.ensures.row)) ∙ fragments_resolved e (length c.args.sink.now.labels) c.args.after.0 i in
+    on_ok c.emit_branch.result c.emit_branch.ensures.answer (λ h. h ∙ ap (apply_all c.args.sink.now) (sym same))
 
 pub returns-in-None-clause-lacks : goal.returns-in-None-clause-lacks
 returns-in-None-clause-lacks c = λ flags depth p.
-    let f = other_passed flags c.args.state.now c.args.sink.now c.args.after.0 c.args.state.now.nominal depth c.args.inst.now c.requires.alone c.in-None.ensures.row p in
+    let f = other_passed flags c.args.state.now c.args.sink.now c.args.after.0 c.args.state.now.nominal depth c.args.inst.now c.requires.single_instruction c.in-None.ensures.row p in
     c.emit_branch.ensures.lacks depth f.0 f.1
 
 pub returns-in-None-clause-range : goal.returns-in-None-clause-range

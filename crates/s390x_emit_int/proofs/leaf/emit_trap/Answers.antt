@@ -1,7 +1,7 @@
 use Rattle.std.proofs.Common.{sym, ap, ◌∙◌}
 use Rattle.s390x_buffer.specs.State.{put_cause}
-use Rattle.s390x_steps.specs.MachineInstruction.{format_e, bytes_of}
-use Rattle.s390x_emit_int.specs.Pieces.{PutTrapping, apply}
+use Rattle.s390x_typed_steps.specs.MachineInstruction.{format_e, bytes_of}
+use Rattle.s390x_emit_int.specs.Fragments.{PutTrapping, apply}
 use Rattle.s390x_emit_int.proofs.Answering.{on_ok}
 use Rattle.s390x_emit_int.proofs.Leaves.{length-e, last_of_e}
 use Rattle.s390x_emit_int.proofs.leaf.emit_trap.Goals as goal

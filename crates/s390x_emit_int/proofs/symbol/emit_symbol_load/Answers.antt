@@ -1,4 +1,4 @@
-use Rattle.s390x_steps.specs.Parts.{name_in, offset_in}
+use Rattle.s390x_typed_steps.specs.Parts.{name_in, offset_in}
 use Rattle.s390x_emit_int.proofs.Lacking.{lacks_again}
 use Rattle.s390x_emit_int.proofs.Symbols.{branch_room, doubleword_room, load_room}
 use Rattle.s390x_emit_int.proofs.symbol.emit_symbol_load.Goals as goal

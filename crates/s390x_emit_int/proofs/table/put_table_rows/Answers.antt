@@ -1,6 +1,6 @@
 use Rattle.std.proofs.Common.{ap, ◌&&◌}
 use Rattle.s390x_base.specs.Regs.{number_of}
-use Rattle.s390x_steps.specs.General.{is_general, is_nonzero}
+use Rattle.s390x_typed_steps.specs.General.{is_general, is_nonzero}
 use Rattle.s390x_emit_int.proofs.Lacking.{lacks_again}
 use Rattle.s390x_emit_int.proofs.Tables.{first_passed, second_passed, third_passed}
 use Rattle.s390x_emit_int.proofs.table.put_table_rows.Goals as goal

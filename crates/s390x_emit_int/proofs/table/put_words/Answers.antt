@@ -1,6 +1,6 @@
 use Rattle.std.proofs.Common.{◌≡◌, ◌*◌, ◌-◌, get_or, refl, arith}
 use Rattle.s390x_base.specs.declared.ir.MachLabel.{MachLabel}
-use Rattle.s390x_buffer.proofs.Keeping.{keeps_on}
+use Rattle.s390x_buffer.proofs.Keeping.{extends_on}
 use Rattle.s390x_emit_int.proofs.Lacking.{lacks_again}
 use Rattle.s390x_emit_int.proofs.Tables.{words_more, word_length, word_passed, words_passed}
 use Rattle.s390x_emit_int.proofs.table.put_words.Goals as goal
@@ -19,7 +19,7 @@ loop-target-preserved c =
     let at : before ≡ 4 * k = omega (arith, c.cur_offset.ensures.value, c.loop-target.invariant.place) in
     let long = word_length s s1 before (get_or ls k nothing).0 c.in_ok-put_word.ensures.answer in
     record {
-      kept = keeps_on _ _ _ c.loop-target.invariant.kept c.put_word.ensures.kept;
+      kept = extends_on _ _ _ c.loop-target.invariant.kept c.put_word.ensures.kept;
       place = omega (arith, long, c.loop-target.invariant.place);
       rest = words_more ls k before (get_or ls k nothing) nothing s s1 _ (omega arith) refl at c.in_ok-put_word.ensures.answer c.loop-target.invariant.rest;
       passed = λ after p. words_passed s s1 after before ls k (get_or ls k nothing) nothing (omega arith) refl c.in_ok-put_word.ensures.answer (c.loop-target.invariant.passed after p);

@@ -1,35 +1,35 @@
 use Rattle.std.proofs.Common.{length, arith, ap, sym, ◌∙◌, subst, drop, ◌+◌, ◌≡◌}
-use Rattle.s390x_buffer.proofs.Keeping.{keeps_on, keeps_bound}
+use Rattle.s390x_buffer.proofs.Keeping.{extends_on, keeps_bound}
 use Rattle.s390x_emit_int.proofs.Binding.{bound_kept}
-use Rattle.s390x_steps.specs.Resolved.{resolved_instruction}
-use Rattle.s390x_steps.specs.Tree.{empty, looped, tree}
-use Rattle.s390x_steps.proofs.Trees.{graft_loop, not_loop}
+use Rattle.s390x_typed_steps.specs.Resolved.{resolved_instruction}
+use Rattle.s390x_typed_steps.specs.Tree.{empty, loop_node, tree}
+use Rattle.s390x_typed_steps.proofs.Trees.{prepend_loop, not_loop}
 use Rattle.s390x_emit_int.specs.Room.{TreePassed}
-use Rattle.s390x_emit_int.specs.Pieces.{run}
-use Rattle.s390x_emit_int.specs.Emission.{own_pieces, pieces}
-use Rattle.s390x_steps.specs.Ranges.{AllInRange}
+use Rattle.s390x_emit_int.specs.Fragments.{apply_all}
+use Rattle.s390x_emit_int.specs.Emission.{own_fragments, fragments}
+use Rattle.s390x_typed_steps.specs.Ranges.{AllInRange}
 use Rattle.s390x_emit_int.proofs.Trees.{more, more_ranges, more_room, loop_states}
 use Rattle.s390x_emit_int.proofs.Answering.{on_ok, on_both}
-use Rattle.s390x_emit_int.proofs.Lacking.{blames_none, lacks_again, lacks_call, mark_none, label_none}
-use Rattle.s390x_emit_int.proofs.Passing.{leaf_passed, member_passed, others_passed, loop_passed, members_unmarked, body_turns, back_passed, end_below, member_stack}
-use Rattle.s390x_steps.specs.Stack.{state_after}
+use Rattle.s390x_emit_int.proofs.Lacking.{fails_with_none, lacks_again, lacks_call, mark_none, label_none}
+use Rattle.s390x_emit_int.proofs.Passing.{leaf_passed, member_passed, others_passed, loop_passed, members_unpoisoned, body_turns, back_passed, end_below, member_stack}
+use Rattle.s390x_typed_steps.specs.Stack.{state_after}
 use Rattle.s390x_inst.specs.Emission.{Emission}
 use Rattle.s390x_emit_int.proofs.tree.+members.Goals as goal
 
 pub emit_inst-returns-in-Loop-clause-answer : goal.emit_inst-returns-in-Loop-clause-answer
 emit_inst-returns-in-Loop-clause-answer t c =
-    let g = graft_loop c.args.state.now c.args.inst.now c.in-Loop.cond c.in-Loop.body c.deref.result.now empty c.in-Loop.is c.deref.ensures.value in
-    on_ok c.emit_loop.result c.emit_loop.ensures.answer (λ e. e ∙ ap (λ x. run c.args.sink.now (own_pieces (length c.args.sink.now.labels) c.args.after.0 x)) (sym g))
+    let g = prepend_loop c.args.state.now c.args.inst.now c.in-Loop.cond c.in-Loop.body c.deref.result.now empty c.in-Loop.is c.deref.ensures.value in
+    on_ok c.emit_loop.result c.emit_loop.ensures.answer (λ e. e ∙ ap (λ x. apply_all c.args.sink.now (own_fragments (length c.args.sink.now.labels) c.args.after.0 x)) (sym g))
 
 pub emit_inst-returns-in-Loop-clause-ranges : goal.emit_inst-returns-in-Loop-clause-ranges
 emit_inst-returns-in-Loop-clause-ranges t c =
-    let g = graft_loop c.args.state.now c.args.inst.now c.in-Loop.cond c.in-Loop.body c.deref.result.now empty c.in-Loop.is c.deref.ensures.value in
+    let g = prepend_loop c.args.state.now c.args.inst.now c.in-Loop.cond c.in-Loop.body c.deref.result.now empty c.in-Loop.is c.deref.ensures.value in
     on_ok c.emit_loop.result c.emit_loop.ensures.ranges (λ f. subst AllInRange (sym g) f)
 
 pub emit_inst-returns-in_default-clause-answer : goal.emit_inst-returns-in_default-clause-answer
 emit_inst-returns-in_default-clause-answer t c =
     let g = not_loop c.args.state.now c.args.inst.now c.in_default.not-Loop in
-    on_ok c.emit_leaf.result c.emit_leaf.ensures.answer (λ e. e ∙ ap (λ x. run c.args.sink.now (own_pieces (length c.args.sink.now.labels) c.args.after.0 x)) (sym g))
+    on_ok c.emit_leaf.result c.emit_leaf.ensures.answer (λ e. e ∙ ap (λ x. apply_all c.args.sink.now (own_fragments (length c.args.sink.now.labels) c.args.after.0 x)) (sym g))
 
 pub emit_inst-returns-in_default-clause-ranges : goal.emit_inst-returns-in_default-clause-ranges
 emit_inst-returns-in_default-clause-ranges t c =
@@ -38,7 +38,7 @@ emit_inst-returns-in_default-clause-ranges t c =
 
 pub emit_inst-returns-in-Loop-clause-lacks : goal.emit_inst-returns-in-Loop-clause-lacks
 emit_inst-returns-in-Loop-clause-lacks t c =
-    let g = graft_loop c.args.state.now c.args.inst.now c.in-Loop.cond c.in-Loop.body c.deref.result.now empty c.in-Loop.is c.deref.ensures.value in
+    let g = prepend_loop c.args.state.now c.args.inst.now c.in-Loop.cond c.in-Loop.body c.deref.result.now empty c.in-Loop.is c.deref.ensures.value in
     λ flags depth p. c.emit_loop.ensures.lacks flags depth c.args.after.0 (subst (TreePassed flags c.args.sink.now c.args.after.0 c.args.state.now.nominal depth) g p)
 
 pub emit_inst-returns-in_default-clause-lacks : goal.emit_inst-returns-in_default-clause-lacks
@@ -53,15 +53,15 @@ emit_members-loop-inst-preserved t c =
     let s2 = c.emit_inst.new.sink in
     let after = c.args.after.0 in
     record {
-      kept = keeps_on _ _ _ c.loop-inst.invariant.kept (keeps_on _ _ _ c.start_step.ensures.kept c.emit_inst.ensures.kept);
+      kept = extends_on _ _ _ c.loop-inst.invariant.kept (extends_on _ _ _ c.start_step.ensures.kept c.emit_inst.ensures.kept);
       room = more_room here c.inst-item.result c.loop-inst.sink c.start_step.new.self s2 after c.loop-inst.invariant.room c.in_ok-start_step.ensures.answer.1 c.in_ok-emit_inst.ensures.answer;
-      rest = ap (λ e. run s2 (pieces (length s2.labels) after (tree e (drop (c.loop-inst.inst-index + 1) c.args.insts.now)))) on ∙ more here c.args.insts.now c.loop-inst.inst-index c.inst-item.result c.loop-inst.sink c.start_step.new.self s2 _ after (omega arith) c.inst-item.is c.in_ok-start_step.ensures.answer.1 c.in_ok-emit_inst.ensures.answer c.loop-inst.invariant.rest;
+      rest = ap (λ e. apply_all s2 (fragments (length s2.labels) after (tree e (drop (c.loop-inst.inst-index + 1) c.args.insts.now)))) on ∙ more here c.args.insts.now c.loop-inst.inst-index c.inst-item.result c.loop-inst.sink c.start_step.new.self s2 _ after (omega arith) c.inst-item.is c.in_ok-start_step.ensures.answer.1 c.in_ok-emit_inst.ensures.answer c.loop-inst.invariant.rest;
       passed = λ flags depth p. subst (λ (e : Emission). TreePassed flags s2 after e.nominal depth (tree e (drop (c.loop-inst.inst-index + 1) c.args.insts.now))) (sym on) (others_passed here flags c.loop-inst.sink c.start_step.new.self s2 after depth c.args.insts.now c.loop-inst.inst-index c.inst-item.result (omega arith) c.inst-item.is c.in_ok-start_step.ensures.answer.1 c.in_ok-emit_inst.ensures.answer (c.loop-inst.invariant.passed flags depth p));
       ranges = λ f. c.loop-inst.invariant.ranges (more_ranges here c.args.insts.now c.loop-inst.inst-index c.inst-item.result (omega arith) c.inst-item.is c.in_ok-emit_inst.ensures.ranges (subst (λ e. AllInRange (tree e (drop (c.loop-inst.inst-index + 1) c.args.insts.now))) on f));
     }
 
 pub emit_members-returns-in_err-advance-clause-kept : goal.emit_members-returns-in_err-advance-clause-kept
-emit_members-returns-in_err-advance-clause-kept t c = keeps_on _ _ _ c.loop-inst.invariant.kept (keeps_on _ _ _ c.start_step.ensures.kept c.emit_inst.ensures.kept)
+emit_members-returns-in_err-advance-clause-kept t c = extends_on _ _ _ c.loop-inst.invariant.kept (extends_on _ _ _ c.start_step.ensures.kept c.emit_inst.ensures.kept)
 
 pub emit_members-returns-in_err-advance-clause-lacks : goal.emit_members-returns-in_err-advance-clause-lacks
 emit_members-returns-in_err-advance-clause-lacks t c = λ flags depth p.
@@ -70,7 +70,7 @@ emit_members-returns-in_err-advance-clause-lacks t c = λ flags depth p.
     absurd (cc)
 
 pub emit_members-returns-in_err-emit_inst-clause-kept : goal.emit_members-returns-in_err-emit_inst-clause-kept
-emit_members-returns-in_err-emit_inst-clause-kept t c = keeps_on _ _ _ c.loop-inst.invariant.kept (keeps_on _ _ _ c.start_step.ensures.kept c.emit_inst.ensures.kept)
+emit_members-returns-in_err-emit_inst-clause-kept t c = extends_on _ _ _ c.loop-inst.invariant.kept (extends_on _ _ _ c.start_step.ensures.kept c.emit_inst.ensures.kept)
 
 pub emit_loop-bind_label-requires-2-clause-unbound : goal.emit_loop-bind_label-requires-2-clause-unbound
 emit_loop-bind_label-requires-2-clause-unbound t c =
@@ -79,12 +79,12 @@ emit_loop-bind_label-requires-2-clause-unbound t c =
 pub emit_loop-returns-clause-answer : goal.emit_loop-returns-clause-answer
 emit_loop-returns-clause-answer t c =
     let l = loop_states c.args.sink.now c.get_label.new.self c.get_label-2.new.self c.bind_label.new.self c.emit_members.new.sink c.start_step.new.self c.put_branch.new.sink c.in_ok-start.start.0 c.in_ok-end.end.0 c.bits-mask.result (tree c.args.state.now c.args.body.now) c.in_ok-start.ensures.answer.1 c.in_ok-start.ensures.answer.2 c.in_ok-end.ensures.answer.1 c.in_ok-end.ensures.answer.2 c.in_ok-bind_label.ensures.answer.1 c.in_ok-emit_members.ensures.answer c.in_ok-start_step.ensures.answer.1 c.in_ok-put_branch.ensures.answer in
-    on_both _ c.bind_label-2.result c.bind_label-2.ensures.answer (λ p. l.after c.bind_label-2.new.self p.1 ∙ ap (λ m. run c.args.sink.now (own_pieces (length c.args.sink.now.labels) 0 (looped m (tree c.args.state.now c.args.body.now) empty))) c.bits-mask.ensures.value)
+    on_both _ c.bind_label-2.result c.bind_label-2.ensures.answer (λ p. l.after c.bind_label-2.new.self p.1 ∙ ap (λ m. apply_all c.args.sink.now (own_fragments (length c.args.sink.now.labels) 0 (loop_node m (tree c.args.state.now c.args.body.now) empty))) c.bits-mask.ensures.value)
 
 pub emit_loop-returns-clause-kept : goal.emit_loop-returns-clause-kept
 emit_loop-returns-clause-kept t c =
     let begun = bound_kept c.args.sink.now c.get_label.new.self c.get_label-2.new.self c.bind_label.new.self c.in_ok-start.start.0 c.get_label.ensures.kept c.get_label-2.ensures.kept c.in_ok-start.ensures.answer.1 c.bind_label.ensures.kept in
-    let branched = keeps_on _ _ _ begun (keeps_on _ _ _ c.emit_members.ensures.kept (keeps_on _ _ _ c.start_step.ensures.kept c.put_branch.ensures.kept)) in
+    let branched = extends_on _ _ _ begun (extends_on _ _ _ c.emit_members.ensures.kept (extends_on _ _ _ c.start_step.ensures.kept c.put_branch.ensures.kept)) in
     keeps_bound _ _ _ _ branched (omega (arith, c.get_label.ensures.kept.entries.label_count, c.in_ok-end.ensures.answer.1)) c.bind_label-2.ensures.kept
 
 pub emit_members-returns-in_err-emit_inst-clause-lacks : goal.emit_members-returns-in_err-emit_inst-clause-lacks
@@ -94,7 +94,7 @@ emit_members-returns-in_err-emit_inst-clause-lacks t c = λ flags depth p.
 pub emit_loop-returns-in_err-start_step-clause-lacks : goal.emit_loop-returns-in_err-start_step-clause-lacks
 emit_loop-returns-in_err-start_step-clause-lacks t c = λ flags depth after p.
     let l = loop_passed flags c.args.sink.now after c.args.state.now.nominal depth c.args.cond (tree c.args.state.now c.args.body.now) p in
-    lacks_again c.from_residual-in_err-start_step.result _ c.from_residual-in_err-start_step.ensures.1 (blames_none _ _ (mark_none c.emit_members.new.sink (members_unmarked c.args.sink.now c.get_label.new.self c.get_label-2.new.self c.bind_label.new.self c.emit_members.new.sink c.in_ok-start.start.0 c.in_ok-end.end.0 (tree c.args.state.now c.args.body.now) c.in_ok-start.ensures.answer.2 c.in_ok-end.ensures.answer.2 c.in_ok-bind_label.ensures.answer.1 c.in_ok-emit_members.ensures.answer ∙ l.unmarked)) c.in_err-start_step.ensures.answer.0)
+    lacks_again c.from_residual-in_err-start_step.result _ c.from_residual-in_err-start_step.ensures.1 (fails_with_none _ _ (mark_none c.emit_members.new.sink (members_unpoisoned c.args.sink.now c.get_label.new.self c.get_label-2.new.self c.bind_label.new.self c.emit_members.new.sink c.in_ok-start.start.0 c.in_ok-end.end.0 (tree c.args.state.now c.args.body.now) c.in_ok-start.ensures.answer.2 c.in_ok-end.ensures.answer.2 c.in_ok-bind_label.ensures.answer.1 c.in_ok-emit_members.ensures.answer ∙ l.unpoisoned)) c.in_err-start_step.ensures.answer.0)
 
 pub emit_loop-returns-in_err-put_branch-clause-lacks : goal.emit_loop-returns-in_err-put_branch-clause-lacks
 emit_loop-returns-in_err-put_branch-clause-lacks t c = λ flags depth after p.
@@ -105,17 +105,17 @@ emit_loop-returns-in_err-put_branch-clause-lacks t c = λ flags depth after p.
 pub emit_loop-returns-in_err-put_branch-clause-kept : goal.emit_loop-returns-in_err-put_branch-clause-kept
 emit_loop-returns-in_err-put_branch-clause-kept t c =
     let begun = bound_kept c.args.sink.now c.get_label.new.self c.get_label-2.new.self c.bind_label.new.self c.in_ok-start.start.0 c.get_label.ensures.kept c.get_label-2.ensures.kept c.in_ok-start.ensures.answer.1 c.bind_label.ensures.kept in
-    keeps_on _ _ _ begun (keeps_on _ _ _ c.emit_members.ensures.kept (keeps_on _ _ _ c.start_step.ensures.kept c.put_branch.ensures.kept))
+    extends_on _ _ _ begun (extends_on _ _ _ c.emit_members.ensures.kept (extends_on _ _ _ c.start_step.ensures.kept c.put_branch.ensures.kept))
 
 pub emit_loop-returns-in_err-start_step-clause-kept : goal.emit_loop-returns-in_err-start_step-clause-kept
 emit_loop-returns-in_err-start_step-clause-kept t c =
     let begun = bound_kept c.args.sink.now c.get_label.new.self c.get_label-2.new.self c.bind_label.new.self c.in_ok-start.start.0 c.get_label.ensures.kept c.get_label-2.ensures.kept c.in_ok-start.ensures.answer.1 c.bind_label.ensures.kept in
-    keeps_on _ _ _ begun (keeps_on _ _ _ c.emit_members.ensures.kept c.start_step.ensures.kept)
+    extends_on _ _ _ begun (extends_on _ _ _ c.emit_members.ensures.kept c.start_step.ensures.kept)
 
 pub emit_loop-returns-in_err-emit_members-clause-kept : goal.emit_loop-returns-in_err-emit_members-clause-kept
 emit_loop-returns-in_err-emit_members-clause-kept t c =
     let begun = bound_kept c.args.sink.now c.get_label.new.self c.get_label-2.new.self c.bind_label.new.self c.in_ok-start.start.0 c.get_label.ensures.kept c.get_label-2.ensures.kept c.in_ok-start.ensures.answer.1 c.bind_label.ensures.kept in
-    keeps_on _ _ _ begun c.emit_members.ensures.kept
+    extends_on _ _ _ begun c.emit_members.ensures.kept
 
 pub emit_loop-returns-in_err-bind_label-clause-kept : goal.emit_loop-returns-in_err-bind_label-clause-kept
 emit_loop-returns-in_err-bind_label-clause-kept t c = bound_kept c.args.sink.now c.get_label.new.self c.get_label-2.new.self c.bind_label.new.self c.in_ok-start.start.0 c.get_label.ensures.kept c.get_label-2.ensures.kept c.in_ok-start.ensures.answer.1 c.bind_label.ensures.kept
@@ -125,4 +125,4 @@ emit_loop-returns-clause-lacks t c = λ flags depth after p.
     let l = loop_passed flags c.args.sink.now after c.args.state.now.nominal depth c.args.cond (tree c.args.state.now c.args.body.now) p in
     let b = body_turns c.args.sink.now c.get_label.new.self c.get_label-2.new.self c.bind_label.new.self c.emit_members.new.sink c.start_step.new.self c.in_ok-start.start.0 c.in_ok-end.end.0 (tree c.args.state.now c.args.body.now) c.in_ok-start.ensures.answer.2 c.in_ok-end.ensures.answer.2 c.in_ok-bind_label.ensures.answer.1 c.in_ok-emit_members.ensures.answer c.in_ok-start_step.ensures.answer.1 in
     let end = end_below c.args.sink.now c.get_label.new.self c.start_step.new.self c.put_branch.new.sink c.bits-mask.result c.in_ok-start.start.0 c.in_ok-end.end.0 depth (tree c.args.state.now c.args.body.now) c.in_ok-start.ensures.answer.2 c.in_ok-end.ensures.answer.1 b c.in_ok-put_branch.ensures.answer in
-    lacks_call _ _ _ c.bind_label-2.result c.bind_label-2.ensures.answer (label_none c.put_branch.new.sink c.in_ok-end.end.0 (ap (λ x. x.failed) c.in_ok-put_branch.ensures.answer ∙ b.unmarked ∙ l.unmarked) end)
+    lacks_call _ _ _ c.bind_label-2.result c.bind_label-2.ensures.answer (label_none c.put_branch.new.sink c.in_ok-end.end.0 (ap (λ x. x.failed) c.in_ok-put_branch.ensures.answer ∙ b.unpoisoned ∙ l.unpoisoned) end)

@@ -16,8 +16,8 @@ loop-b-preserved c = sym (be_step c.args.bytes.now c.loop-b.b-index c.loop-b.n c
 pub returns-clause-value : goal.returns-clause-value
 returns-clause-value c = be_done c.args.bytes.now c.loop-b.b-index c.loop-b.n _ c.loop-b-test.false c.loop-b.invariant
 
-pub returns-clause-back : goal.returns-clause-back
-returns-clause-back c =
+pub returns-clause-round_trip : goal.returns-clause-round_trip
+returns-clause-round_trip c =
     let e : c.loop-b.n ≡ be_number c.args.bytes.now = be_done c.args.bytes.now c.loop-b.b-index c.loop-b.n _ c.loop-b-test.false c.loop-b.invariant in
     rw e (be_bytes-be_number c.args.bytes.now (λ i. omega (arith, c.type_inv.bytes i)))
 

@@ -1,12 +1,12 @@
 use Rattle.std.proofs.Common.{◌≡◌, ◌+◌, ◌≤◌, length}
-use Rattle.s390x_job.specs.Builds.{state_lines, place_of, IsState}
+use Rattle.s390x_job.specs.Builds.{state_lines, grammar_place, IsBuildState}
 use Rattle.s390x_job.proofs.Whole.{Inv}
 use Rattle.s390x_job.proofs.lines.find_job.Given as goal
 
 abbrev pub invariant-loop-rest : goal.invariant-loop-rest
 invariant-loop-rest l = record {
-  inv : Inv l.bytes (state_lines l.state) (place_of l.state) l.rest;
-  is_state : IsState l.state;
+  inv : Inv l.bytes (state_lines l.state) (grammar_place l.state) l.rest;
+  is_state : IsBuildState l.state;
   count : l.n ≡ length (state_lines l.state);
   small : l.n + length l.rest ≤ length l.bytes;
 }

@@ -1,8 +1,8 @@
 use Rattle.std.proofs.Common.{◌≡◌}
-use Rattle.s390x_lanes.specs.Size.{bits}
+use Rattle.s390x_lanes.specs.Size.{element_bits}
 use Rattle.s390x_lanes.specs.Lanes.{some_lane}
 use Rattle.s390x_lanes.specs.Relation.{lane_is_zero}
 use Rattle.s390x_lanes.proofs.ends.some_zero.Given as goal
 
 abbrev pub invariant-loop-i : goal.invariant-loop-i
-invariant-loop-i l = l.some ≡ some_lane l.i (lane_is_zero (bits l.size) l.y)
+invariant-loop-i l = l.some ≡ some_lane l.i (lane_is_zero (element_bits l.size) l.y)

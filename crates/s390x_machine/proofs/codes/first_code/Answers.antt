@@ -1,7 +1,7 @@
 use Rattle.std.proofs.Common.{◌≡◌, ◌≢◌, ℕ, suc, ◌<◌, ◌==◌, Bool, if◌then◌else◌, get_or, drop, drop-cons, List, length, Some, sym, ap, ◌∙◌, add-one, eq-eqb, ne_eqb}
 use Rattle.std.proofs.Math.ListN.{drop_of_length-le}
 use Rattle.s390x_buffer.specs.declared.entries.TrapEntry.{TrapEntry}
-use Rattle.s390x_steps.specs.Traps.{first_code}
+use Rattle.s390x_typed_steps.specs.Traps.{first_code}
 use Rattle.s390x_machine.proofs.codes.first_code.Goals as goal
 
 opened : (es : List TrapEntry) (offset i : ℕ) (z : TrapEntry) → i < length es → first_code (drop i es) offset ≡ (if (get_or es i z).offset == offset then Some (get_or es i z).code else first_code (drop (suc i) es) offset)

@@ -1,5 +1,5 @@
 use Rattle.std.proofs.Common.{◌≡◌, drop}
-use Rattle.s390x_steps.specs.Traps.{first_code}
+use Rattle.s390x_typed_steps.specs.Traps.{first_code}
 use Rattle.s390x_machine.proofs.codes.first_code.Given as goal
 
 abbrev pub invariant-loop-entry : goal.invariant-loop-entry

@@ -1,5 +1,5 @@
 use Rattle.std.proofs.Common.{arith}
-use Rattle.s390x_tool.proofs.Answering.{linked_fits, run_reply_of_link_refusal, run_reply_of_text}
+use Rattle.s390x_tool.proofs.Answering.{linked_fits, run_reply_of_link_cause, run_reply_of_text}
 use Rattle.s390x_tool.proofs.answer.executed.Goals as goal
 
 pub returns-in-Ok : goal.returns-in-Ok
@@ -9,7 +9,7 @@ returns-in-Ok c =
 
 pub returns-in-Err : goal.returns-in-Err
 returns-in-Err c =
-    run_reply_of_link_refusal c.args.base c.args.steps c.args.job.now c.args.code.now c.in-Err.error _ _ c.requires.code c.in-Err.ensures.refused c.link_refused.ensures
+    run_reply_of_link_cause c.args.base c.args.steps c.args.job.now c.args.code.now c.in-Err.error _ _ c.requires.code c.in-Err.ensures.refused c.link_refused.ensures
 
 pub run_text-requires-clause-image : goal.run_text-requires-clause-image
 run_text-requires-clause-image c =

@@ -1,5 +1,5 @@
 use Rattle.std.proofs.Common.{ap, ◌∙◌}
-use Rattle.s390x_tool.proofs.Answering.{reply_of_image, reply_of_link_refusal}
+use Rattle.s390x_tool.proofs.Answering.{reply_of_image, reply_of_link_cause}
 use Rattle.s390x_tool.proofs.answer.linked.Goals as goal
 
 pub returns-in-Ok : goal.returns-in-Ok
@@ -11,4 +11,4 @@ returns-in-Ok c =
 
 pub returns-in-Err : goal.returns-in-Err
 returns-in-Err c =
-    reply_of_link_refusal c.args.base c.args.job.now c.args.code.now c.in-Err.error _ _ c.requires c.in-Err.ensures.refused c.link_refused.ensures
+    reply_of_link_cause c.args.base c.args.job.now c.args.code.now c.in-Err.error _ _ c.requires c.in-Err.ensures.refused c.link_refused.ensures

@@ -2,7 +2,7 @@ use Rattle.std.proofs.Common.{◌≡◌, List, [], ◌∷◌, length, get_or, sy
 use Rattle.std.specs.Prelude.{Option, codes}
 use Rattle.std.specs.Fmt.{decimal}
 use Rattle.std.specs.Cmp.Lexicographic.{same_text}
-use Rattle.s390x_tool.specs.Words.{IsForm, IsImage, IsNoForm, IsRun, texts}
+use Rattle.s390x_tool.specs.Words.{IsForm, IsImageWord, IsNoForm, IsRun, texts}
 use Rattle.s390x_tool.specs.declared.words.Command.{Command}
 use Rattle.s390x_tool.specs.declared.words.Command.TheVariants.{Image, Emit, Run}
 use Rattle.s390x_tool.proofs.words.read_words.Goals as goal
@@ -51,7 +51,7 @@ IsNoForm-run words first second (Some command) same none = tt
 
 -- the word after `image` is the base
 IsForm-image : (words : List (List ℕ)) (word : List ℕ) (r : Option Command) → words ≡ codes "image" ∷ word ∷ []
-    → IfSome r (λ command. IsImage word command) → IfSome r (λ command. IsForm words command)
+    → IfSome r (λ command. IsImageWord word command) → IfSome r (λ command. IsForm words command)
 IsForm-image words word None same image = tt
 IsForm-image words word (Some command) same image =
     rw image.named (record { spelled = same ∙ ap (λ w. codes "image" ∷ w ∷ []) image.spelled; range = image.range })

@@ -1,13 +1,13 @@
 use Rattle.std.proofs.Common.{◌≡◌, Bool, true, false, None, Some, cond, sym, ap, subst, ◌∙◌, ◌||◌, not}
 use Rattle.std.proofs.lemmas.Bool.{and_parts}
 use Rattle.s390x_buffer.specs.State.{put_cause}
-use Rattle.s390x_steps.specs.Causes.{declared_in, operand_cause}
-use Rattle.s390x_steps.specs.Memory.{type_of, fault_code}
-use Rattle.s390x_steps.specs.Operands.{finalized}
-use Rattle.s390x_steps.specs.Parts.{finalized_parts, parts_size}
+use Rattle.s390x_typed_steps.specs.Causes.{declared_in, operand_cause}
+use Rattle.s390x_typed_steps.specs.Memory.{type_of, fault_code}
+use Rattle.s390x_typed_steps.specs.Operands.{finalized}
+use Rattle.s390x_typed_steps.specs.Parts.{finalized_parts, parts_size}
 use Rattle.s390x_address.specs.Appended.{appended}
 use Rattle.s390x_address.specs.Plans.{finalized_of}
-use Rattle.s390x_address.specs.Rows.{relative_encodes, rows_encode, memory_of, in_state}
+use Rattle.s390x_address.specs.Rows.{relative_encodes, rows_encode, memory_instruction_of, in_state}
 use Rattle.s390x_address.proofs.Planning.{resolved_flags, on_ok}
 use Rattle.s390x_address.proofs.Refusing.{Stands, passes, finalized_stands, plan_may_stand}
 use Rattle.s390x_address.proofs.memory.MemoryInst.emit.Goals as goal
@@ -15,7 +15,7 @@ use Rattle.s390x_address.proofs.memory.MemoryInst.emit.Goals as goal
 pub returns-in-Ok-clause-answer : goal.returns-in-Ok-clause-answer
 returns-in-Ok-clause-answer c =
     let s = c.args.sink.now in
-    let x = in_state c.args.state.now (memory_of c.args.self.now) in
+    let x = in_state c.args.state.now (memory_instruction_of c.args.self.now) in
     let p = c.in-Ok.plan in
     let forms : c.forms.result ≡ type_of x.form x.accesses = c.forms.ensures in
     let same : finalized_of p ≡ finalized (type_of x.form x.accesses) x.operand = c.in-Ok.ensures.1 ∙ ap (λ mi. finalized mi x.operand) forms in
@@ -29,7 +29,7 @@ follows false t h e = absurd (cc)
 pub returns-in-Ok-clause-lacks : goal.returns-in-Ok-clause-lacks
 returns-in-Ok-clause-lacks c = λ put none.
     let s = c.args.sink.now in
-    let x = in_state c.args.state.now (memory_of c.args.self.now) in
+    let x = in_state c.args.state.now (memory_instruction_of c.args.self.now) in
     let p = c.in-Ok.plan in
     let mi = type_of x.form x.accesses in
     let forms : c.forms.result ≡ mi = c.forms.ensures in
@@ -37,13 +37,13 @@ returns-in-Ok-clause-lacks c = λ put none.
     let code : c.fault_code.result ≡ fault_code x = c.fault_code.ensures ∙ ap (λ f. cond x.accesses f.trap None) (sym (resolved_flags c.args.state.now c.args.self.now.operand)) in
     let D = declared_in s in
     let free = passes D x none in
-    let encoded = (and_parts (relative_encodes c.args.self.now.rows) (not x.fine || rows_encode c.args.self.now.rows) c.requires).1 in
+    let encoded = (and_parts (relative_encodes c.args.self.now.rows) (not x.operands_valid || rows_encode c.args.self.now.rows) c.requires).1 in
     let size = ap (λ k. put_cause s (parts_size (finalized_parts x.form k (finalized_of p)))) code ∙ ap (λ f. put_cause s (parts_size (finalized_parts x.form (fault_code x) f))) same ∙ put in
-    c.put_plan.ensures.lacks size (follows x.fine (rows_encode c.args.self.now.rows) encoded free.fine) (plan_may_stand D p (subst (Stands D) (sym same) (finalized_stands D mi x.operand free.stands)))
+    c.put_plan.ensures.lacks size (follows x.operands_valid (rows_encode c.args.self.now.rows) encoded free.operands_valid) (plan_may_stand D p (subst (Stands D) (sym same) (finalized_stands D mi x.operand free.stands)))
 
 pub returns-in-Err-clause-lacks : goal.returns-in-Err-clause-lacks
 returns-in-Err-clause-lacks c = λ put none.
-    let x = in_state c.args.state.now (memory_of c.args.self.now) in
+    let x = in_state c.args.state.now (memory_instruction_of c.args.self.now) in
     let forms : c.forms.result ≡ type_of x.form x.accesses = c.forms.ensures in
     let p = passes (declared_in c.args.sink.now) x none in
     let clash : None ≡ Some c.in-Err.error = sym p.operand ∙ ap (λ mi. operand_cause mi x.operand) (sym forms) ∙ c.in-Err.ensures in

@@ -1,17 +1,17 @@
 use Rattle.std.proofs.Common.{◌≡◌, ◌+◌, None, Some, sym, ap, ◌∙◌, arith}
-use Rattle.s390x_steps.specs.Causes.{operand_cause}
-use Rattle.s390x_steps.specs.Memory.{type_of, fault_code}
-use Rattle.s390x_steps.specs.Operands.{finalized}
-use Rattle.s390x_steps.specs.Parts.{finalized_parts, parts_size}
+use Rattle.s390x_typed_steps.specs.Causes.{operand_cause}
+use Rattle.s390x_typed_steps.specs.Memory.{type_of, fault_code}
+use Rattle.s390x_typed_steps.specs.Operands.{finalized}
+use Rattle.s390x_typed_steps.specs.Parts.{finalized_parts, parts_size}
 use Rattle.s390x_address.specs.Plans.{finalized_of}
-use Rattle.s390x_address.specs.Rows.{memory_of, in_state}
+use Rattle.s390x_address.specs.Rows.{memory_instruction_of, in_state}
 use Rattle.s390x_address.proofs.Refusing.{passes}
 use Rattle.s390x_address.proofs.Sizes.{plan_size}
 use Rattle.s390x_address.proofs.memory.MemoryInst.size.Goals as goal
 
 pub returns-in-Ok-clause-value : goal.returns-in-Ok-clause-value
 returns-in-Ok-clause-value c = λ D none.
-    let x = in_state c.args.state.now (memory_of c.args.self.now) in
+    let x = in_state c.args.state.now (memory_instruction_of c.args.self.now) in
     let p = c.in-Ok.plan in
     let forms : c.forms.result ≡ type_of x.form x.accesses = c.forms.ensures in
     let same : finalized_of p ≡ finalized (type_of x.form x.accesses) x.operand = c.in-Ok.ensures.1 ∙ ap (λ mi. finalized mi x.operand) forms in
@@ -21,7 +21,7 @@ returns-in-Ok-clause-value c = λ D none.
 
 pub returns-in-Err-clause-value : goal.returns-in-Err-clause-value
 returns-in-Err-clause-value c = λ D none.
-    let x = in_state c.args.state.now (memory_of c.args.self.now) in
+    let x = in_state c.args.state.now (memory_instruction_of c.args.self.now) in
     let forms : c.forms.result ≡ type_of x.form x.accesses = c.forms.ensures in
     let p = passes D x none in
     let clash : None ≡ Some c.in-Err.field-0 = sym p.operand ∙ ap (λ mi. operand_cause mi x.operand) (sym forms) ∙ c.in-Err.ensures in

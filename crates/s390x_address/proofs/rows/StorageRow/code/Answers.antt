@@ -1,11 +1,11 @@
 use Rattle.std.proofs.Common.{rules, [], ◌∷◌, ◌&&◌, sym, ap, ◌∙◌}
 use Rattle.s390x_base.specs.Regs.{number_of}
-use Rattle.s390x_enc.specs.Operands.{is_general, may_stand_first}
+use Rattle.s390x_enc.specs.Operands.{is_general_class, may_stand_first}
 use Rattle.s390x_format.specs.declared.kind.FormatKind.TheVariants.{Rx, Rxy, Rs, Rsy, Si, Siy, Sil}
 use Rattle.s390x_format.specs.Reading.{encode}
 use Rattle.s390x_format.specs.Encoded.{slots}
-use Rattle.s390x_steps.specs.General.{low_halfword}
-use Rattle.s390x_steps.specs.MachineInstruction.{bytes_of}
+use Rattle.s390x_typed_steps.specs.General.{low_halfword}
+use Rattle.s390x_typed_steps.specs.MachineInstruction.{bytes_of}
 use Rattle.s390x_address.specs.Rows.{row_of, row_encodes}
 use Rattle.s390x_address.proofs.Encoding.{matched, halfword_bits}
 use Rattle.s390x_address.proofs.rows.StorageRow.code.Goals as goal
@@ -18,7 +18,7 @@ returns-in-Rx c =
     ∙ ap (λ o. encode Rx (slots o (number_of i.r1 ∷ number_of i.b2 ∷ number_of i.x2 ∷ []) [] 0 c.low_12.result)) c.from.ensures
     ∙ ap (λ d. encode Rx (slots i.opcode (number_of i.r1 ∷ number_of i.b2 ∷ number_of i.x2 ∷ []) [] 0 d)) c.low_12.ensures.value
     ∙ ap (λ row. bytes_of (row_of row)) (sym i.is))
-    (λ e p. ap row_encodes i.is ∙ ap (λ o. may_stand_first o i.r1 && is_general i.b2 && is_general i.x2) (sym c.from.ensures) ∙ p.1)
+    (λ e p. ap row_encodes i.is ∙ ap (λ o. may_stand_first o i.r1 && is_general_class i.b2 && is_general_class i.x2) (sym c.from.ensures) ∙ p.1)
 
 pub returns-in-Rxy : goal.returns-in-Rxy
 returns-in-Rxy c =

@@ -3,8 +3,8 @@ use Rattle.s390x_base.specs.Regs.{number_of}
 use Rattle.s390x_format.specs.declared.kind.FormatKind.TheVariants.{Rxy}
 use Rattle.s390x_format.specs.Reading.{encode}
 use Rattle.s390x_format.specs.Encoded.{slots}
-use Rattle.s390x_steps.specs.MachineInstruction.{bytes_of}
-use Rattle.s390x_emit_int.specs.Alone.{instruction_of, can_encode}
+use Rattle.s390x_typed_steps.specs.MachineInstruction.{bytes_of}
+use Rattle.s390x_emit_int.specs.SingleInstruction.{instruction_of, can_encode}
 use Rattle.s390x_emit_int.proofs.Encoding.{matched}
 use Rattle.s390x_emit_int.proofs.register_row.RegisterRow.code.Goals as goal
 

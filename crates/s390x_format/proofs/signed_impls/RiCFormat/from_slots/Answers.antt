@@ -5,7 +5,7 @@ use mir.Val.{to_z, of_z}
 use mir.Syntax.{w16, w64}
 use Rattle.s390x_format.specs.declared.kind.FormatKind.TheVariants.{RiC as KindRiC}
 use Rattle.s390x_format.specs.Fits.{slot_fits, ten_same}
-use Rattle.s390x_format.specs.Distances.{half_of, distance_of, half16_back}
+use Rattle.s390x_format.specs.Distances.{half_of, signed_distance, half16_round_trip}
 use Rattle.s390x_format.proofs.signed_impls.RiCFormat.from_slots.Goals as goal
 
 pub overflow_cast-slots : goal.overflow_cast-slots
@@ -22,12 +22,12 @@ invariant_of-result c =
     let h : get_or c.args.slots.now 8 0 < 2 ^ 16 = slot_fits KindRiC c.args.slots.now 8 (lit< tt) c.requires in
     let f : c.from.result ≡ to_z w16 (get_or c.args.slots.now 8 0) = omega (arith, ints) in
     let d : to_z w64 (of_z w64 (pos 2 *ℤ to_z w64 (of_z w64 c.from.result))) ≡ pos 2 *ℤ c.from.result = omega (arith, ints) in
-    let e : to_z w64 (of_z w64 (pos 2 *ℤ to_z w64 (of_z w64 c.from.result))) ≡ distance_of w16 (get_or c.args.slots.now 8 0) = d ∙ ap (λ (z : ℤ). pos 2 *ℤ z) f in
+    let e : to_z w64 (of_z w64 (pos 2 *ℤ to_z w64 (of_z w64 c.from.result))) ≡ signed_distance w16 (get_or c.args.slots.now 8 0) = d ∙ ap (λ (z : ℤ). pos 2 *ℤ z) f in
     record {
       opcode_fits = slot_fits KindRiC c.args.slots.now 0 (lit< tt) c.requires;
       m1_fits = slot_fits KindRiC c.args.slots.now 5 (lit< tt) c.requires;
-      half_fits = rw (e, half16_back (get_or c.args.slots.now 8 0) h) h;
-      ri2_fits = rw e (ap (distance_of w16) (half16_back (get_or c.args.slots.now 8 0) h));
+      half_fits = rw (e, half16_round_trip (get_or c.args.slots.now 8 0) h) h;
+      ri2_fits = rw e (ap (signed_distance w16) (half16_round_trip (get_or c.args.slots.now 8 0) h));
     }
 
 pub returns : goal.returns
@@ -35,12 +35,12 @@ returns c =
     let h : get_or c.args.slots.now 8 0 < 2 ^ 16 = slot_fits KindRiC c.args.slots.now 8 (lit< tt) c.requires in
     let f : c.from.result ≡ to_z w16 (get_or c.args.slots.now 8 0) = omega (arith, ints) in
     let d : to_z w64 (of_z w64 (pos 2 *ℤ to_z w64 (of_z w64 c.from.result))) ≡ pos 2 *ℤ c.from.result = omega (arith, ints) in
-    let e : to_z w64 (of_z w64 (pos 2 *ℤ to_z w64 (of_z w64 c.from.result))) ≡ distance_of w16 (get_or c.args.slots.now 8 0) = d ∙ ap (λ (z : ℤ). pos 2 *ℤ z) f in
+    let e : to_z w64 (of_z w64 (pos 2 *ℤ to_z w64 (of_z w64 c.from.result))) ≡ signed_distance w16 (get_or c.args.slots.now 8 0) = d ∙ ap (λ (z : ℤ). pos 2 *ℤ z) f in
     ten_same c.args.slots.now _ _ _ _ _ _ _ _ _ _ c.requires.0 refl
     (omega (arith, slot_fits KindRiC c.args.slots.now 1 (lit< tt) c.requires))
     (omega (arith, slot_fits KindRiC c.args.slots.now 2 (lit< tt) c.requires))
     (omega (arith, slot_fits KindRiC c.args.slots.now 3 (lit< tt) c.requires))
     (omega (arith, slot_fits KindRiC c.args.slots.now 4 (lit< tt) c.requires)) refl
     (omega (arith, slot_fits KindRiC c.args.slots.now 6 (lit< tt) c.requires))
-    (omega (arith, slot_fits KindRiC c.args.slots.now 7 (lit< tt) c.requires)) (ap (half_of w16) e ∙ half16_back (get_or c.args.slots.now 8 0) h)
+    (omega (arith, slot_fits KindRiC c.args.slots.now 7 (lit< tt) c.requires)) (ap (half_of w16) e ∙ half16_round_trip (get_or c.args.slots.now 8 0) h)
     (omega (arith, slot_fits KindRiC c.args.slots.now 9 (lit< tt) c.requires))

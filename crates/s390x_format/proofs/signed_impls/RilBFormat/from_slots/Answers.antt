@@ -5,7 +5,7 @@ use mir.Val.{to_z, of_z}
 use mir.Syntax.{w32, w64}
 use Rattle.s390x_format.specs.declared.kind.FormatKind.TheVariants.{RilB as KindRilB}
 use Rattle.s390x_format.specs.Fits.{slot_fits, ten_same}
-use Rattle.s390x_format.specs.Distances.{half_of, distance_of, half32_back}
+use Rattle.s390x_format.specs.Distances.{half_of, signed_distance, half32_round_trip}
 use Rattle.s390x_format.proofs.signed_impls.RilBFormat.from_slots.Goals as goal
 
 pub overflow_cast-result : goal.overflow_cast-result
@@ -19,12 +19,12 @@ invariant_of-result c =
     let h : get_or c.args.slots.now 8 0 < 2 ^ 32 = slot_fits KindRilB c.args.slots.now 8 (lit< tt) c.requires in
     let f : c.from.result ≡ to_z w32 (get_or c.args.slots.now 8 0) = omega (arith, ints) in
     let d : to_z w64 (of_z w64 (pos 2 *ℤ to_z w64 (of_z w64 c.from.result))) ≡ pos 2 *ℤ c.from.result = omega (arith, ints) in
-    let e : to_z w64 (of_z w64 (pos 2 *ℤ to_z w64 (of_z w64 c.from.result))) ≡ distance_of w32 (get_or c.args.slots.now 8 0) = d ∙ ap (λ (z : ℤ). pos 2 *ℤ z) f in
+    let e : to_z w64 (of_z w64 (pos 2 *ℤ to_z w64 (of_z w64 c.from.result))) ≡ signed_distance w32 (get_or c.args.slots.now 8 0) = d ∙ ap (λ (z : ℤ). pos 2 *ℤ z) f in
     record {
       opcode_fits = slot_fits KindRilB c.args.slots.now 0 (lit< tt) c.requires;
       r1_fits = slot_fits KindRilB c.args.slots.now 1 (lit< tt) c.requires;
-      half_fits = rw (e, half32_back (get_or c.args.slots.now 8 0) h) h;
-      ri2_fits = rw e (ap (distance_of w32) (half32_back (get_or c.args.slots.now 8 0) h));
+      half_fits = rw (e, half32_round_trip (get_or c.args.slots.now 8 0) h) h;
+      ri2_fits = rw e (ap (signed_distance w32) (half32_round_trip (get_or c.args.slots.now 8 0) h));
     }
 
 pub returns : goal.returns
@@ -32,12 +32,12 @@ returns c =
     let h : get_or c.args.slots.now 8 0 < 2 ^ 32 = slot_fits KindRilB c.args.slots.now 8 (lit< tt) c.requires in
     let f : c.from.result ≡ to_z w32 (get_or c.args.slots.now 8 0) = omega (arith, ints) in
     let d : to_z w64 (of_z w64 (pos 2 *ℤ to_z w64 (of_z w64 c.from.result))) ≡ pos 2 *ℤ c.from.result = omega (arith, ints) in
-    let e : to_z w64 (of_z w64 (pos 2 *ℤ to_z w64 (of_z w64 c.from.result))) ≡ distance_of w32 (get_or c.args.slots.now 8 0) = d ∙ ap (λ (z : ℤ). pos 2 *ℤ z) f in
+    let e : to_z w64 (of_z w64 (pos 2 *ℤ to_z w64 (of_z w64 c.from.result))) ≡ signed_distance w32 (get_or c.args.slots.now 8 0) = d ∙ ap (λ (z : ℤ). pos 2 *ℤ z) f in
     ten_same c.args.slots.now _ _ _ _ _ _ _ _ _ _ c.requires.0 refl refl
     (omega (arith, slot_fits KindRilB c.args.slots.now 2 (lit< tt) c.requires))
     (omega (arith, slot_fits KindRilB c.args.slots.now 3 (lit< tt) c.requires))
     (omega (arith, slot_fits KindRilB c.args.slots.now 4 (lit< tt) c.requires))
     (omega (arith, slot_fits KindRilB c.args.slots.now 5 (lit< tt) c.requires))
     (omega (arith, slot_fits KindRilB c.args.slots.now 6 (lit< tt) c.requires))
-    (omega (arith, slot_fits KindRilB c.args.slots.now 7 (lit< tt) c.requires)) (ap (half_of w32) e ∙ half32_back (get_or c.args.slots.now 8 0) h)
+    (omega (arith, slot_fits KindRilB c.args.slots.now 7 (lit< tt) c.requires)) (ap (half_of w32) e ∙ half32_round_trip (get_or c.args.slots.now 8 0) h)
     (omega (arith, slot_fits KindRilB c.args.slots.now 9 (lit< tt) c.requires))

@@ -7,5 +7,5 @@ use Rattle.s390x_machine.proofs.machine.Machine.step.Goals as goal
 pub returns-in-Unknown : goal.returns-in-Unknown
 returns-in-Unknown g c =
     let s = state_of c.args.self.now (g.M.Memory.held c.args.memory.now) (g.M.Memory.byte c.args.memory.now) in
-    let h = subst (λ (f : Fetched). Fetches s.core.memory s.place f) c.in-Unknown.is c.fetch.ensures in
+    let h = subst (λ (f : Fetched). Fetches s.core.memory s.address f) c.in-Unknown.is c.fetch.ensures in
     (not_found s Unknown h no_unknown, record { fetched = Unknown; fetches = h; acts = (refl, refl) }, refl)

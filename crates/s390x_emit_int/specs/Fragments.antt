@@ -1,0 +1,43 @@
+-- What emission does to a buffer, fragment by fragment.
+use Rattle.s390x_base.specs.declared.ir.ExternalName.{ExternalName}
+use Rattle.s390x_base.specs.declared.ir.Reloc.{Reloc}
+use Rattle.std.specs.Prelude.{ℕ, ℤ, ◌+◌, List, [], ◌∷◌, ◌++◌, length, Some, None, set}
+use Rattle.s390x_base.specs.declared.trap.TrapKind.{TrapKind}
+use Rattle.s390x_buffer.specs.State.{BufferState, constant_label}
+use Rattle.s390x_buffer.specs.declared.label_use.LabelUse.{LabelUse}
+use Rattle.s390x_buffer.specs.declared.label_use.LabelUse.TheVariants.{BranchRIL}
+
+-- one thing that emission does to a buffer
+pub data Fragment : Type 0 where
+  -- bytes
+  Put : List ℕ → Fragment
+  -- bytes, with a trap recorded at one of them
+  PutTrapping : List ℕ → (byte : ℕ) → TrapKind → Fragment
+  -- bytes, with a relocation recorded at one of them
+  PutReloc : List ℕ → (byte : ℕ) → Reloc → ExternalName → (addend : ℤ) → Fragment
+  -- bytes that a use of a label patches from their beginning on
+  Link : LabelUse → (label : ℕ) → List ℕ → Fragment
+  -- the same of a constant's label, by a distance like that of a branch
+  LinkConstant : (constant : ℕ) → List ℕ → Fragment
+  -- the offset of the next step
+  StartStep : Fragment
+  -- a label is drawn
+  Draw : Fragment
+  -- a label is bound here
+  Bind : (label : ℕ) → Fragment
+
+-- the buffer after a fragment
+abbrev pub apply : BufferState → Fragment → BufferState
+apply s (Put bs) = record s { bytes = s.bytes ++ bs }
+apply s (PutTrapping bs byte code) = record s { bytes = s.bytes ++ bs; traps = s.traps ++ record { offset = length s.bytes + byte; code = code } ∷ [] }
+apply s (PutReloc bs byte kind name addend) = record s { bytes = s.bytes ++ bs; relocs = s.relocs ++ record { offset = length s.bytes + byte; kind = kind; name = name; addend = addend } ∷ [] }
+apply s (Link kind l bs) = record s { bytes = s.bytes ++ bs; uses = s.uses ++ record { kind = kind; offset = length s.bytes; label = record { 0 = l } } ∷ [] }
+apply s (LinkConstant c bs) = record s { bytes = s.bytes ++ bs; uses = s.uses ++ record { kind = BranchRIL; offset = length s.bytes; label = record { 0 = constant_label s c } } ∷ [] }
+apply s StartStep = record s { starts = s.starts ++ length s.bytes ∷ [] }
+apply s Draw = record s { labels = s.labels ++ None ∷ [] }
+apply s (Bind l) = record s { labels = set s.labels l (Some (length s.bytes)) }
+
+-- the buffer after fragments, one after another
+abbrev pub apply_all : BufferState → List Fragment → BufferState
+apply_all s [] = s
+apply_all s (p ∷ ps) = apply_all (apply s p) ps

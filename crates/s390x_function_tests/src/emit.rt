@@ -1,0 +1,133 @@
+//! Instructions and bytes that are emitted into a buffer of the caller's.
+use s390x_base::{Cond, EmitError, TrapCode, gpr, writable_gpr};
+use s390x_buffer::{MachBuffer, TrapEntry};
+use s390x_emit_int::{MachInstEmit, put, put_with_trap};
+use s390x_inst::{ALUOp, EmitInfo, EmitState, Inst, IsaFlags, MachInstEmitState, MemArg};
+use std::alloc::Global;
+use std::test::Fail;
+
+fn add(alloc: Global) -> Result<Inst, Fail> {
+    let mut body = Vec::new(alloc);
+    body.push(Inst::AluRRR {
+        alu_op: ALUOp::Add32,
+        rd: writable_gpr(4),
+        rn: gpr(2),
+        rm: gpr(3),
+    })?;
+    Ok(Inst::Loop {
+        cond: Cond::from_mask(4),
+        body,
+    })
+}
+
+#[test]
+fn a_loop_is_emitted_alone(rt: HostRuntime) -> Result<(), Fail> {
+    let alloc = rt.alloc();
+    let mut sink = MachBuffer::new(alloc, 0, &[])?;
+    let mut state = EmitState::default();
+    state.pre_safepoint(Some(7));
+    let info = EmitInfo::new(IsaFlags::default());
+    add(alloc)?.emit(alloc, &mut sink, &info, &mut state)?;
+    assert_eq!(rt; state.take_stack_map(), None);
+    let code = sink.finish()?;
+    assert_eq!(rt;
+        code.bytes.as_slice(),
+        [0xb9, 0xf8, 0x30, 0x42, 0xc0, 0x44, 0xff, 0xff, 0xff, 0xfe].as_slice()
+    );
+    assert_eq!(rt; code.starts.as_slice(), [0, 4].as_slice());
+    Ok(())
+}
+
+#[test]
+fn a_cause_marks_the_buffer(rt: HostRuntime) -> Result<(), Fail> {
+    let alloc = rt.alloc();
+    let mut sink = MachBuffer::new(alloc, 0, &[])?;
+    let mut state = EmitState::default();
+    state.pre_safepoint(Some(7));
+    let info = EmitInfo::new(IsaFlags::default());
+    let refused = Inst::Ret { link: gpr(0) }.emit(alloc, &mut sink, &info, &mut state);
+    assert_eq!(rt; refused.err(), Some(EmitError::BadRegister));
+    assert!(rt; sink.is_failed());
+    assert_eq!(rt; state.take_stack_map(), Some(7));
+    let again = Inst::Nop2.emit(alloc, &mut sink, &info, &mut state);
+    assert_eq!(rt; again.err(), Some(EmitError::Failed));
+    assert_eq!(rt; put(&mut sink, &[7, 7]).err(), Some(EmitError::Failed));
+    Ok(())
+}
+
+#[test]
+fn a_trap_is_recorded_at_the_last_byte(rt: HostRuntime) -> Result<(), Fail> {
+    let mut sink = MachBuffer::new(rt.alloc(), 0, &[])?;
+    put(&mut sink, &[0x07, 0x07])?;
+    put_with_trap(
+        &mut sink,
+        &[0xb9, 0x0d, 0x00, 0x25],
+        TrapCode::INTEGER_DIVISION_BY_ZERO,
+    )?;
+    let code = sink.finish()?;
+    assert_eq!(rt;
+        code.bytes.as_slice(),
+        [0x07, 0x07, 0xb9, 0x0d, 0x00, 0x25].as_slice()
+    );
+    assert_eq!(rt;
+        code.traps.as_slice(),
+        [TrapEntry {
+            offset: 5,
+            code: TrapCode::INTEGER_DIVISION_BY_ZERO
+        }]
+        .as_slice()
+    );
+    Ok(())
+}
+
+#[test]
+fn arguments_lie_below_the_frame(rt: HostRuntime) -> Result<(), Fail> {
+    let alloc = rt.alloc();
+    let mut sink = MachBuffer::new(alloc, 0, &[])?;
+    let mut state = EmitState::default();
+    state.pre_safepoint(Some(7));
+    let info = EmitInfo::new(IsaFlags::default());
+    Inst::AllocateArgs { size: 32 }.emit(alloc, &mut sink, &info, &mut state)?;
+    assert_eq!(rt; state.nominal(), 32);
+    assert_eq!(rt; state.take_stack_map(), None);
+    Inst::Load64 {
+        rd: writable_gpr(2),
+        mem: MemArg::SpillOffset { off: 8 },
+    }
+    .emit(alloc, &mut sink, &info, &mut state)?;
+    assert_eq!(rt; state.nominal(), 32);
+    let again = Inst::AllocateArgs { size: 0 }.emit(alloc, &mut sink, &info, &mut state);
+    assert_eq!(rt; again.err(), Some(EmitError::BadStackState));
+    assert_eq!(rt; state.nominal(), 32);
+    assert!(rt; sink.is_failed());
+    Ok(())
+}
+
+#[test]
+fn sizes_past_16_bits_are_subtracted(rt: HostRuntime) -> Result<(), Fail> {
+    let alloc = rt.alloc();
+    let mut sink = MachBuffer::new(alloc, 0, &[])?;
+    let info = EmitInfo::new(IsaFlags::default());
+    for size in [32, 32767, 32768, 4294967295] {
+        let mut state = EmitState::default();
+        Inst::AllocateArgs { size }.emit(alloc, &mut sink, &info, &mut state)?;
+        assert_eq!(rt; state.nominal(), size);
+    }
+    let mut state = EmitState::default();
+    state.set_nominal(32);
+    Inst::Load64 {
+        rd: writable_gpr(2),
+        mem: MemArg::SpillOffset { off: 8 },
+    }
+    .emit(alloc, &mut sink, &info, &mut state)?;
+    let code = sink.finish()?;
+    assert_eq!(rt;
+        code.bytes.as_slice(),
+        [
+            0xa7, 0xfb, 0xff, 0xe0, 0xa7, 0xfb, 0x80, 0x01, 0xc2, 0xf4, 0x00, 0x00, 0x80, 0x00,
+            0xc2, 0xf4, 0xff, 0xff, 0xff, 0xff, 0xe3, 0x20, 0xf0, 0x28, 0x00, 0x04
+        ]
+        .as_slice()
+    );
+    Ok(())
+}

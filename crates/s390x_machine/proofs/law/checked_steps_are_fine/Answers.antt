@@ -1,5 +1,0 @@
-use Rattle.s390x_machine.proofs.Checked.{checked_steps}
-use Rattle.s390x_machine.proofs.law.checked_steps_are_fine.Goals as goal
-
-pub returns : goal.returns
-returns c = checked_steps

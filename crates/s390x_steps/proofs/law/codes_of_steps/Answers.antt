@@ -1,5 +1,0 @@
-use Rattle.s390x_steps.proofs.Traps.{step_codes}
-use Rattle.s390x_steps.proofs.law.codes_of_steps.Goals as goal
-
-pub returns : goal.returns
-returns c = step_codes

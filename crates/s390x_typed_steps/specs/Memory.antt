@@ -1,0 +1,163 @@
+-- Instructions with a memory operand: their machine rows by format, the operand, and the registers that they name (cranelift-codegen, `emit.rs`).
+use Rattle.std.specs.Prelude.{ℕ, Bool, true, false, cond, not, ◌&&◌, ◌||◌, nat_le, is_some, Option, Some, None}
+use Rattle.s390x_base.specs.Regs.{number_of}
+use Rattle.s390x_base.specs.declared.regs.Reg.{Reg}
+use Rattle.s390x_base.specs.declared.trap.TrapKind.{TrapKind}
+use Rattle.s390x_inst.specs.Memory.{flags_of}
+use Rattle.s390x_inst.specs.declared.args.MemArg.{MemArg}
+use Rattle.s390x_inst.specs.declared.args.MemArg.TheVariants.{BXD12, BXD20}
+use Rattle.s390x_inst.specs.declared.inst.Inst.{Inst}
+use Rattle.s390x_inst.specs.declared.inst.Inst.TheVariants.{AluRX, CmpRX, Load32, Load32ZExt8, Load32SExt8, Load32ZExt16, Load32SExt16, Load64, Load64ZExt8, Load64SExt8, Load64ZExt16, Load64SExt16, Load64ZExt32, Load64SExt32, LoadRev16, LoadRev32, LoadRev64, Store8, Store16, Store32, Store64}
+use Rattle.s390x_inst.specs.declared.inst.Inst.TheVariants.{StoreRev16, StoreRev32, StoreRev64, StoreImm8, StoreImm16, StoreImm32SExt16, StoreImm64SExt16, LoadMultiple64, StoreMultiple64, LoadAddr, AtomicRmw, AtomicCas32, AtomicCas64}
+use Rattle.s390x_typed_steps.specs.General.{is_general, reuses, low_byte, low_halfword, low_displacement, low_12}
+use Rattle.s390x_typed_steps.specs.MachineInstruction.{MachineInstruction, rx, rxy, rs, rsy, si, siy, sil}
+use Rattle.s390x_typed_steps.specs.Operands.{is_numbered}
+use Rattle.s390x_typed_steps.specs.Storage.{alu_rx, alu_rxy, cmp_rx, cmp_rxy, cmp_ril, atomic_rsy}
+use Rattle.s390x_typed_steps.specs.declared.mem_inst_type.MemInstType.{MemInstType}
+
+-- the machine rows that an instruction has for its operand, by format, and what else stands in them
+pub data StorageForm : Type 0 where
+  -- RX, RXY and RIL-B: a register
+  RxForm : (register : ℕ) (rx_opcode rxy_opcode ril_opcode : Option ℕ) → StorageForm
+  -- RS and RSY: two registers
+  RsForm : (first second : ℕ) (rs_opcode rsy_opcode : Option ℕ) → StorageForm
+  -- SI and SIY: an immediate of 8 bits
+  SiForm : (imm si_opcode siy_opcode : ℕ) → StorageForm
+  -- SIL: the bits of an immediate of 16 bits
+  SilForm : (bits sil_opcode : ℕ) → StorageForm
+
+-- its rows and its operand; whether it accesses memory, whether its own registers may stand there, and whether it reads %r1, which helpers write
+pub record MemoryInstruction : Type 0 where
+  pub form : StorageForm
+  pub operand : MemArg
+  pub accesses : Bool
+  pub operands_valid : Bool
+  pub reads_scratch : Bool
+
+-- which forms of an operand the rows take. A relative operand of an access has to be aligned
+abbrev pub type_of : StorageForm → (accesses : Bool) → MemInstType
+type_of (RxForm register rx_opcode rxy_opcode ril_opcode) accesses =
+    record { have_d12 = is_some rx_opcode; have_d20 = is_some rxy_opcode; have_pcrel = is_some ril_opcode; have_unaligned_pcrel = is_some ril_opcode && not accesses; have_index = true }
+type_of (RsForm first second rs_opcode rsy_opcode) accesses =
+    record { have_d12 = is_some rs_opcode; have_d20 = is_some rsy_opcode; have_pcrel = false; have_unaligned_pcrel = false; have_index = false }
+type_of (SiForm imm si_opcode siy_opcode) accesses =
+    record { have_d12 = true; have_d20 = true; have_pcrel = false; have_unaligned_pcrel = false; have_index = false }
+type_of (SilForm bits sil_opcode) accesses =
+    record { have_d12 = true; have_d20 = false; have_pcrel = false; have_unaligned_pcrel = false; have_index = false }
+
+-- the machine instruction of an opcode, where there is one
+abbrev pub of_opcode : (ℕ → MachineInstruction) → Option ℕ → Option MachineInstruction
+of_opcode row None = None
+of_opcode row (Some opcode) = Some (row opcode)
+
+-- the machine instruction at an operand that stands in it as it is: a base, a displacement, and in RX and RXY an index
+abbrev pub storage_row : StorageForm → MemArg → Option MachineInstruction
+storage_row (RxForm r rx_opcode rxy_opcode ril_opcode) (BXD12 base index disp flags) =
+    of_opcode (λ opcode. rx opcode r (number_of base) (number_of index) (low_12 disp)) rx_opcode
+storage_row (RxForm r rx_opcode rxy_opcode ril_opcode) (BXD20 base index disp flags) =
+    of_opcode (λ opcode. rxy opcode r (number_of base) (number_of index) (low_displacement disp)) rxy_opcode
+storage_row (RsForm r s rs_opcode rsy_opcode) (BXD12 base index disp flags) =
+    of_opcode (λ opcode. rs opcode r s (number_of base) (low_12 disp)) rs_opcode
+storage_row (RsForm r s rs_opcode rsy_opcode) (BXD20 base index disp flags) =
+    of_opcode (λ opcode. rsy opcode r s (number_of base) (low_displacement disp)) rsy_opcode
+storage_row (SiForm imm si_opcode siy_opcode) (BXD12 base index disp flags) = Some (si si_opcode (number_of base) (low_12 disp) imm)
+storage_row (SiForm imm si_opcode siy_opcode) (BXD20 base index disp flags) = Some (siy siy_opcode (number_of base) (low_displacement disp) imm)
+storage_row (SilForm bits sil_opcode) (BXD12 base index disp flags) = Some (sil sil_opcode (number_of base) (low_12 disp) bits)
+storage_row form operand = None
+
+-- ---- the instructions
+
+-- a load into a register, which is written alone
+abbrev pub load : Reg → (rx_opcode rxy_opcode ril_opcode : Option ℕ) → MemArg → Option MemoryInstruction
+load rd rx_opcode rxy_opcode ril_opcode mem =
+    Some (record { form = RxForm (number_of rd) rx_opcode rxy_opcode ril_opcode; operand = mem; accesses = true; operands_valid = is_general rd; reads_scratch = false })
+
+-- a store of a register
+abbrev pub store : Reg → (rx_opcode rxy_opcode ril_opcode : Option ℕ) → MemArg → Option MemoryInstruction
+store rd rx_opcode rxy_opcode ril_opcode mem =
+    Some (record { form = RxForm (number_of rd) rx_opcode rxy_opcode ril_opcode; operand = mem; accesses = true; operands_valid = is_general rd; reads_scratch = is_numbered 1 rd })
+
+-- a store of an immediate
+abbrev pub store_immediate : StorageForm → MemArg → Option MemoryInstruction
+store_immediate form mem = Some (record { form = form; operand = mem; accesses = true; operands_valid = true; reads_scratch = false })
+
+-- the rows of LOAD ADDRESS, which accesses nothing
+abbrev pub address_form : Reg → StorageForm
+address_form rd = RxForm (number_of rd) (Some 0x41) (Some 0xe371) (Some 0xc00)
+
+-- registers from the first to the last, in order
+abbrev pub is_range : (first last : Reg) → Bool
+is_range first last = is_general first && is_general last && nat_le (number_of first) (number_of last)
+
+-- %r1 is one of them
+abbrev pub holds_scratch : (first last : Reg) → Bool
+holds_scratch first last = nat_le (number_of first) 1 && nat_le 1 (number_of last)
+
+-- registers that are loaded or stored one after another
+abbrev pub multiple : (first last : Reg) → (rsy_opcode : ℕ) → (reads_scratch : Bool) → MemArg → Option MemoryInstruction
+multiple first last rsy_opcode reads_scratch mem =
+    Some (record { form = RsForm (number_of first) (number_of last) None (Some rsy_opcode); operand = mem; accesses = true; operands_valid = is_range first last; reads_scratch = reads_scratch })
+
+-- an operator on a register and an operand in memory; none where there is no row
+abbrev pub operate : Bool → Option ℕ → Option ℕ → (rd ri : Reg) → MemArg → Option MemoryInstruction
+operate false rx_opcode rxy_opcode rd ri mem = None
+operate true rx_opcode rxy_opcode rd ri mem =
+    Some (record { form = RxForm (number_of rd) rx_opcode rxy_opcode None; operand = mem; accesses = true; operands_valid = reuses rd ri; reads_scratch = is_numbered 1 ri })
+
+-- a comparison of a register with an operand in memory
+abbrev pub compare : Reg → Option ℕ → Option ℕ → ℕ → MemArg → Option MemoryInstruction
+compare rn rx_opcode rxy_opcode ril_opcode mem =
+    Some (record { form = RxForm (number_of rn) rx_opcode rxy_opcode (Some ril_opcode); operand = mem; accesses = true; operands_valid = is_general rn; reads_scratch = is_numbered 1 rn })
+
+-- an operand in memory that is changed in one access; none where there is no row
+abbrev pub load_and_operate : Option ℕ → (rd rn : Reg) → MemArg → Option MemoryInstruction
+load_and_operate None rd rn mem = None
+load_and_operate (Some opcode) rd rn mem =
+    Some (record { form = RsForm (number_of rd) (number_of rn) None (Some opcode); operand = mem; accesses = true; operands_valid = is_general rd && is_general rn; reads_scratch = is_numbered 1 rn })
+
+-- a comparison, and where it is equal a store, in one access
+abbrev pub compare_and_swap : Option ℕ → ℕ → (rd ri rn : Reg) → MemArg → Option MemoryInstruction
+compare_and_swap rs_opcode rsy_opcode rd ri rn mem =
+    Some (record { form = RsForm (number_of rd) (number_of rn) rs_opcode (Some rsy_opcode); operand = mem; accesses = true; operands_valid = reuses rd ri && is_general rn; reads_scratch = is_numbered 1 ri || is_numbered 1 rn })
+
+-- the machine rows and the operand of an instruction with a memory operand, where it is one that is built
+abbrev pub memory : Inst → Option MemoryInstruction
+memory (AluRX op rd ri mem) = operate (is_some (alu_rx op) || is_some (alu_rxy op)) (alu_rx op) (alu_rxy op) rd ri mem
+memory (CmpRX op rn mem) = compare rn (cmp_rx op) (cmp_rxy op) (cmp_ril op) mem
+memory (Load32 rd mem) = load rd (Some 0x58) (Some 0xe358) (Some 0xc4d) mem
+memory (Load32ZExt8 rd mem) = load rd None (Some 0xe394) None mem
+memory (Load32SExt8 rd mem) = load rd None (Some 0xe376) None mem
+memory (Load32ZExt16 rd mem) = load rd None (Some 0xe395) (Some 0xc42) mem
+memory (Load32SExt16 rd mem) = load rd (Some 0x48) (Some 0xe378) (Some 0xc45) mem
+memory (Load64 rd mem) = load rd None (Some 0xe304) (Some 0xc48) mem
+memory (Load64ZExt8 rd mem) = load rd None (Some 0xe390) None mem
+memory (Load64SExt8 rd mem) = load rd None (Some 0xe377) None mem
+memory (Load64ZExt16 rd mem) = load rd None (Some 0xe391) (Some 0xc46) mem
+memory (Load64SExt16 rd mem) = load rd None (Some 0xe315) (Some 0xc44) mem
+memory (Load64ZExt32 rd mem) = load rd None (Some 0xe316) (Some 0xc4e) mem
+memory (Load64SExt32 rd mem) = load rd None (Some 0xe314) (Some 0xc4c) mem
+memory (LoadRev16 rd mem) = load rd None (Some 0xe31f) None mem
+memory (LoadRev32 rd mem) = load rd None (Some 0xe31e) None mem
+memory (LoadRev64 rd mem) = load rd None (Some 0xe30f) None mem
+memory (Store8 rd mem) = store rd (Some 0x42) (Some 0xe372) None mem
+memory (Store16 rd mem) = store rd (Some 0x40) (Some 0xe370) (Some 0xc47) mem
+memory (Store32 rd mem) = store rd (Some 0x50) (Some 0xe350) (Some 0xc4f) mem
+memory (Store64 rd mem) = store rd None (Some 0xe324) (Some 0xc4b) mem
+memory (StoreRev16 rd mem) = store rd None (Some 0xe33f) None mem
+memory (StoreRev32 rd mem) = store rd None (Some 0xe33e) None mem
+memory (StoreRev64 rd mem) = store rd None (Some 0xe32f) None mem
+memory (StoreImm8 imm mem) = store_immediate (SiForm (low_byte imm) 0x92 0xeb52) mem
+memory (StoreImm16 imm mem) = store_immediate (SilForm (low_halfword imm) 0xe544) mem
+memory (StoreImm32SExt16 imm mem) = store_immediate (SilForm (low_halfword imm) 0xe54c) mem
+memory (StoreImm64SExt16 imm mem) = store_immediate (SilForm (low_halfword imm) 0xe548) mem
+memory (LoadMultiple64 rt rt2 mem) = multiple rt rt2 0xeb04 false mem
+memory (StoreMultiple64 rt rt2 mem) = multiple rt rt2 0xeb24 (holds_scratch rt rt2) mem
+memory (LoadAddr rd mem) = Some (record { form = address_form rd; operand = mem; accesses = false; operands_valid = is_general rd; reads_scratch = false })
+memory (AtomicRmw op rd rn mem) = load_and_operate (atomic_rsy op) rd rn mem
+memory (AtomicCas32 rd ri rn mem) = compare_and_swap (Some 0xba) 0xeb14 rd ri rn mem
+memory (AtomicCas64 rd ri rn mem) = compare_and_swap None 0xeb30 rd ri rn mem
+memory _ = None
+
+-- the code of the access's faults: that of the flags, where it accesses memory and they have one
+abbrev pub fault_code : MemoryInstruction → Option TrapKind
+fault_code x = cond x.accesses (flags_of x.operand).trap None

@@ -1,0 +1,46 @@
+-- The typed steps: a flat list that is numbered once, from 0.
+use Rattle.std.specs.Prelude.{ℕ, zero, suc, ◌+◌, List, [], ◌∷◌, ◌++◌}
+use Rattle.s390x_typed_steps.specs.Tree.{Tree, empty, leaf, loop_node}
+use Rattle.s390x_inst.specs.declared.inst.Inst.{Inst}
+use Rattle.s390x_inst.specs.declared.inst.Inst.TheVariants.{CondBreak}
+
+-- A `Loop` gives an opening step without bytes, the steps of its members, and a back branch to the step after the opening.
+-- A `CondBreak` in it goes to the step after that back branch. Every other instruction is one step.
+pub data Step : Type 0 where
+  Plain : Inst → Step
+  Opening : Step
+  Back : (mask target : ℕ) → Step
+  Break : (mask target : ℕ) → Step
+
+-- how many steps a tree has
+abbrev pub step_count : Tree → ℕ
+step_count empty = 0
+step_count (leaf i rest) = 1 + step_count rest
+step_count (loop_node mask members rest) = 2 + step_count members + step_count rest
+
+-- an instruction in a loop that ends at a step
+abbrev pub step_of : ℕ → Inst → Step
+step_of after (CondBreak mask) = Break mask after
+step_of after i = Plain i
+
+-- the steps from number k on, in a loop that ends at the step `after`
+abbrev pub steps_of : (k after : ℕ) → Tree → List Step
+steps_of k after empty = []
+steps_of k after (leaf i rest) = step_of after i ∷ steps_of (k + 1) after rest
+steps_of k after (loop_node mask members rest) =
+    Opening ∷ (steps_of (k + 1) (k + 2 + step_count members) members ++ (Back mask (k + 1) ∷ steps_of (k + 2 + step_count members) after rest))
+
+-- block by block, from number k on
+abbrev pub steps_from : ℕ → List Tree → List Step
+steps_from k [] = []
+steps_from k (t ∷ ts) = steps_of k 0 t ++ steps_from (k + step_count t) ts
+
+-- the steps of a function
+abbrev pub function_steps : List Tree → List Step
+function_steps ts = steps_from 0 ts
+
+-- the first step of a block; where the block is empty, the next step
+abbrev pub first_step : List Tree → ℕ → ℕ
+first_step [] b = 0
+first_step (t ∷ ts) zero = 0
+first_step (t ∷ ts) (suc b) = step_count t + first_step ts b

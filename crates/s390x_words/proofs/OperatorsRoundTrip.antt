@@ -1,0 +1,117 @@
+-- Operators and conventions: a name is found again, and is a word.
+use Rattle.std.proofs.Common.{◌≡◌, refl}
+use Rattle.s390x_words.specs.Found.{found_by_name}
+use Rattle.s390x_words.specs.Operators.{alu_text, cmp_text, shift_text, rxsbg_text, unary_text, vec_binary_text, vec_unary_text, vec_shift_text, vec_compare_text, vec_element_compare_text, convention_text}
+use Rattle.s390x_words.specs.declared.operators.TheConstants.{ALL_ALU, ALL_CMP, ALL_SHIFT, ALL_RXSBG, ALL_UNARY, ALL_CONVENTION}
+use Rattle.s390x_words.specs.declared.vector_operators.TheConstants.{ALL_VEC_BINARY, ALL_VEC_UNARY, ALL_VEC_SHIFT, ALL_VEC_COMPARE, ALL_VEC_ELEMENT_COMPARE}
+use Rattle.s390x_words.proofs.Avoids.{Avoids-test, marks, IsOneWord}
+use Rattle.s390x_inst.specs.declared.ops.ALUOp.{ALUOp}
+use Rattle.s390x_inst.specs.declared.ops.ALUOp.TheVariants as ALUOpIs
+use Rattle.s390x_inst.specs.declared.ops.CmpOp.{CmpOp}
+use Rattle.s390x_inst.specs.declared.ops.CmpOp.TheVariants as CmpOpIs
+use Rattle.s390x_inst.specs.declared.ops.ShiftOp.{ShiftOp}
+use Rattle.s390x_inst.specs.declared.ops.ShiftOp.TheVariants as ShiftOpIs
+use Rattle.s390x_inst.specs.declared.ops.RxSBGOp.{RxSBGOp}
+use Rattle.s390x_inst.specs.declared.ops.RxSBGOp.TheVariants as RxSBGOpIs
+use Rattle.s390x_inst.specs.declared.ops.UnaryOp.{UnaryOp}
+use Rattle.s390x_inst.specs.declared.ops.UnaryOp.TheVariants as UnaryOpIs
+use Rattle.s390x_inst.specs.declared.vec_ops.VecBinaryOp.{VecBinaryOp}
+use Rattle.s390x_inst.specs.declared.vec_ops.VecBinaryOp.TheVariants as VecBinaryOpIs
+use Rattle.s390x_inst.specs.declared.vec_ops.VecUnaryOp.{VecUnaryOp}
+use Rattle.s390x_inst.specs.declared.vec_ops.VecUnaryOp.TheVariants as VecUnaryOpIs
+use Rattle.s390x_inst.specs.declared.vec_ops.VecShiftOp.{VecShiftOp}
+use Rattle.s390x_inst.specs.declared.vec_ops.VecShiftOp.TheVariants as VecShiftOpIs
+use Rattle.s390x_inst.specs.declared.vec_ops.VecIntCmpOp.{VecIntCmpOp}
+use Rattle.s390x_inst.specs.declared.vec_ops.VecIntCmpOp.TheVariants as VecIntCmpOpIs
+use Rattle.s390x_inst.specs.declared.vec_ops.VecIntEltCmpOp.{VecIntEltCmpOp}
+use Rattle.s390x_inst.specs.declared.vec_ops.VecIntEltCmpOp.TheVariants as VecIntEltCmpOpIs
+use Rattle.s390x_inst.specs.declared.calls.CallConv.{CallConv}
+use Rattle.s390x_inst.specs.declared.calls.CallConv.TheVariants as CallConvIs
+
+pub alu-round_trip : (o : ALUOp) → found_by_name alu_text ALL_ALU (alu_text o) ALUOpIs.Add32 ≡ o
+alu-round_trip ALUOpIs.Add32 = refl
+alu-round_trip o = refl
+
+pub alu-one_word : (o : ALUOp) → IsOneWord (alu_text o)
+alu-one_word ALUOpIs.Add32 = Avoids-test marks (alu_text ALUOpIs.Add32) refl
+alu-one_word o = Avoids-test marks (alu_text o) refl
+
+pub cmp-round_trip : (o : CmpOp) → found_by_name cmp_text ALL_CMP (cmp_text o) CmpOpIs.CmpS32 ≡ o
+cmp-round_trip CmpOpIs.CmpS32 = refl
+cmp-round_trip o = refl
+
+pub cmp-one_word : (o : CmpOp) → IsOneWord (cmp_text o)
+cmp-one_word CmpOpIs.CmpS32 = Avoids-test marks (cmp_text CmpOpIs.CmpS32) refl
+cmp-one_word o = Avoids-test marks (cmp_text o) refl
+
+pub shift-round_trip : (o : ShiftOp) → found_by_name shift_text ALL_SHIFT (shift_text o) ShiftOpIs.RotL32 ≡ o
+shift-round_trip ShiftOpIs.RotL32 = refl
+shift-round_trip o = refl
+
+pub shift-one_word : (o : ShiftOp) → IsOneWord (shift_text o)
+shift-one_word ShiftOpIs.RotL32 = Avoids-test marks (shift_text ShiftOpIs.RotL32) refl
+shift-one_word o = Avoids-test marks (shift_text o) refl
+
+pub rxsbg-round_trip : (o : RxSBGOp) → found_by_name rxsbg_text ALL_RXSBG (rxsbg_text o) RxSBGOpIs.Insert ≡ o
+rxsbg-round_trip RxSBGOpIs.Insert = refl
+rxsbg-round_trip o = refl
+
+pub rxsbg-one_word : (o : RxSBGOp) → IsOneWord (rxsbg_text o)
+rxsbg-one_word RxSBGOpIs.Insert = Avoids-test marks (rxsbg_text RxSBGOpIs.Insert) refl
+rxsbg-one_word o = Avoids-test marks (rxsbg_text o) refl
+
+pub unary-round_trip : (o : UnaryOp) → found_by_name unary_text ALL_UNARY (unary_text o) UnaryOpIs.Abs32 ≡ o
+unary-round_trip UnaryOpIs.Abs32 = refl
+unary-round_trip o = refl
+
+pub unary-one_word : (o : UnaryOp) → IsOneWord (unary_text o)
+unary-one_word UnaryOpIs.Abs32 = Avoids-test marks (unary_text UnaryOpIs.Abs32) refl
+unary-one_word o = Avoids-test marks (unary_text o) refl
+
+pub vec_binary-round_trip : (o : VecBinaryOp) → found_by_name vec_binary_text ALL_VEC_BINARY (vec_binary_text o) VecBinaryOpIs.Add8x16 ≡ o
+vec_binary-round_trip VecBinaryOpIs.Add8x16 = refl
+vec_binary-round_trip o = refl
+
+pub vec_binary-one_word : (o : VecBinaryOp) → IsOneWord (vec_binary_text o)
+vec_binary-one_word VecBinaryOpIs.Add8x16 = Avoids-test marks (vec_binary_text VecBinaryOpIs.Add8x16) refl
+vec_binary-one_word o = Avoids-test marks (vec_binary_text o) refl
+
+pub vec_unary-round_trip : (o : VecUnaryOp) → found_by_name vec_unary_text ALL_VEC_UNARY (vec_unary_text o) VecUnaryOpIs.Abs8x16 ≡ o
+vec_unary-round_trip VecUnaryOpIs.Abs8x16 = refl
+vec_unary-round_trip o = refl
+
+pub vec_unary-one_word : (o : VecUnaryOp) → IsOneWord (vec_unary_text o)
+vec_unary-one_word VecUnaryOpIs.Abs8x16 = Avoids-test marks (vec_unary_text VecUnaryOpIs.Abs8x16) refl
+vec_unary-one_word o = Avoids-test marks (vec_unary_text o) refl
+
+pub vec_shift-round_trip : (o : VecShiftOp) → found_by_name vec_shift_text ALL_VEC_SHIFT (vec_shift_text o) VecShiftOpIs.RotL8x16 ≡ o
+vec_shift-round_trip VecShiftOpIs.RotL8x16 = refl
+vec_shift-round_trip o = refl
+
+pub vec_shift-one_word : (o : VecShiftOp) → IsOneWord (vec_shift_text o)
+vec_shift-one_word VecShiftOpIs.RotL8x16 = Avoids-test marks (vec_shift_text VecShiftOpIs.RotL8x16) refl
+vec_shift-one_word o = Avoids-test marks (vec_shift_text o) refl
+
+pub vec_compare-round_trip : (o : VecIntCmpOp) → found_by_name vec_compare_text ALL_VEC_COMPARE (vec_compare_text o) VecIntCmpOpIs.CmpEq8x16 ≡ o
+vec_compare-round_trip VecIntCmpOpIs.CmpEq8x16 = refl
+vec_compare-round_trip o = refl
+
+pub vec_compare-one_word : (o : VecIntCmpOp) → IsOneWord (vec_compare_text o)
+vec_compare-one_word VecIntCmpOpIs.CmpEq8x16 = Avoids-test marks (vec_compare_text VecIntCmpOpIs.CmpEq8x16) refl
+vec_compare-one_word o = Avoids-test marks (vec_compare_text o) refl
+
+pub vec_element_compare-round_trip : (o : VecIntEltCmpOp) → found_by_name vec_element_compare_text ALL_VEC_ELEMENT_COMPARE (vec_element_compare_text o) VecIntEltCmpOpIs.SCmp128 ≡ o
+vec_element_compare-round_trip VecIntEltCmpOpIs.SCmp128 = refl
+vec_element_compare-round_trip o = refl
+
+pub vec_element_compare-one_word : (o : VecIntEltCmpOp) → IsOneWord (vec_element_compare_text o)
+vec_element_compare-one_word VecIntEltCmpOpIs.SCmp128 = Avoids-test marks (vec_element_compare_text VecIntEltCmpOpIs.SCmp128) refl
+vec_element_compare-one_word o = Avoids-test marks (vec_element_compare_text o) refl
+
+pub convention-round_trip : (o : CallConv) → found_by_name convention_text ALL_CONVENTION (convention_text o) CallConvIs.Fast ≡ o
+convention-round_trip CallConvIs.Fast = refl
+convention-round_trip o = refl
+
+pub convention-one_word : (o : CallConv) → IsOneWord (convention_text o)
+convention-one_word CallConvIs.Fast = Avoids-test marks (convention_text CallConvIs.Fast) refl
+convention-one_word o = Avoids-test marks (convention_text o) refl
