@@ -59,16 +59,6 @@ reloc_of s =
 abbrev pub pair_text : Reg → Reg → List ℕ
 pair_text v p = reg_text v ++ (equals_sign ∷ reg_text p)
 
--- the signs of a location
-abbrev pub equals_sign : ℕ
-equals_sign = 61
-
-abbrev pub colon : ℕ
-colon = 58
-
-abbrev pub at_sign : ℕ
-at_sign = 64
-
 -- where a result comes back, and its type: `=preg:I64` or `=@OFFSET:I64`
 abbrev pub location_text : RetLocation → List ℕ
 location_text (L.Reg r ty) = equals_sign ∷ (reg_text r ++ (colon ∷ type_text ty))
