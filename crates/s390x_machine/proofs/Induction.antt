@@ -93,7 +93,7 @@ apart_form image (Some (Performs needs operation code)) c ws e = apart_of image 
 apart_form image (Some _) c ws e = tt
 apart_form image None c ws e = tt
 
--- a step that has a byte may take any few turns
+-- a step that has a byte may take any few transitions
 pub group_within : (L : Layout) (k most : ℕ) (g : List Transition) {p : ℕ} → InStep L k p → length g ≤ most → IsGroup L k most g
 group_within L k most g at few = (few, λ e. absurd (omega (arith, at.above, at.below, e)))
 

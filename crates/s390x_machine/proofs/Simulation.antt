@@ -1,4 +1,4 @@
--- Inside one step: the machine's turns, one row after another.
+-- Inside one step: the machine's transitions, one row after another.
 use Rattle.std.proofs.Common.{◌≡◌, ℕ, suc, ◌≤◌, ◌⊎◌, inl, inr, List, [], ◌∷◌, ◌++◌, length, Option, Some, None, Bool, if◌then◌else◌, refl, sym, ap, ◌∙◌, subst, arith, append_assoc, append-nil, length-append}
 use Rattle.s390x_base.specs.declared.trap.TrapKind.{TrapKind}
 use Rattle.s390x_operations.specs.State.{Registers, Memory, Core, with_code, State, Write, written, wrapping_add64, IsLoaded, IsDisjoint}
@@ -34,14 +34,14 @@ pub record Inside (L : Layout) (k : ℕ) (c : Core) (g : List Transition) (r : R
   pub lands : after_all (start L k c) g ≡ mid c r (all_writes g) p
   pub is_loaded : IsLoaded L.image (written (all_writes g) c).memory
 
--- whatever turns follow, the step runs
+-- whatever transitions follow, the step runs
 abbrev pub Simulates : Layout → ℕ → Core → List Transition → Registers → ℕ → Type 0
 Simulates L k c g r p = (trace : List Transition) → Run L.image (mid c r (all_writes g) p) trace → Runs L k c (g ++ trace)
 
 pub at_start : (L : Layout) (k : ℕ) (c : Core) → InStep L k (step_address L k) → IsLoaded L.image c.memory → Inside L k c [] c.registers (step_address L k)
 at_start L k c here is_loaded = record { few = omega arith; quiet = tt; here = here; lands = refl; is_loaded = is_loaded }
 
--- one more turn, or none
+-- one more transition, or none
 pub peel : (L : Layout) (k : ℕ) (c : Core) (g : List Transition) (r : Registers) (p : ℕ) → Inside L k c g r p → ((t : Transition) → EnvironmentStep L.image (mid c r (all_writes g) p) t → (rest : List Transition) → Run L.image t.after rest → Runs L k c (g ++ t ∷ rest)) → Simulates L k c g r p
 peel L k c g r p i go [] run = subst (λ l. Runs L k c l) (sym (append-nil g)) (waits i.few i.quiet (subst (λ (s : State). InStep L k s.address) (sym i.lands) i.here))
 peel L k c g r p i go (t ∷ rest) run = go t run.0 rest run.1

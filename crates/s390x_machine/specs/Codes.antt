@@ -15,6 +15,6 @@ code_offset bytes offset Access = offset
 code_offset bytes offset Specification = offset
 code_offset bytes offset kind = offset + (fetch_length_of (slice_index bytes offset) - 1)
 
--- the code that the table has for a stop at an offset of the image: that of the first entry there; none where the offset is outside the image
+-- the code that the table has for a stop at an address of the image: that of the first entry at its offset; none where the address is outside the image
 abbrev pub trap_code_at : CodeImage → List TrapEntry → ℕ → StopKind → Option TrapKind
-trap_code_at image traps offset kind = if is_within image offset then first_code traps (code_offset image.bytes (offset - image.base) kind) else None
+trap_code_at image traps address kind = if is_within image address then first_code traps (code_offset image.bytes (address - image.base) kind) else None

@@ -16,7 +16,7 @@ abbrev pub concatenated : List (List Transition) → List Transition
 concatenated [] = []
 concatenated (g ∷ gs) = g ++ concatenated gs
 
--- turns that step k may take: at most so many, and none where the step has no bytes
+-- transitions that step k may take: at most so many, and none where the step has no bytes
 abbrev pub IsGroup : Layout → (k most : ℕ) → List Transition → Type 0
 IsGroup L k most g = (length g ≤ most) × (L.offsets.step (suc k) ≡ L.offsets.step k → g ≡ [])
 
@@ -69,9 +69,10 @@ pub record Allowed (L : Layout) (k : ℕ) (s : State) (trace : List Transition) 
 -- ---- every run
 
 -- Every machine run from an address, of any length, in every state in which the image lies in memory, is allowed by the typed steps from step k.
--- The turns have others' writes before each step, so this is over every list of them
-abbrev pub EveryRunFrom : Layout → (step_address k : ℕ) → Type 0
-EveryRunFrom L p k = (c : Core) → IsLoaded L.image c.memory → (trace : List Transition) → Run L.image (record { core = c; address = p }) trace → Allowed L k (record { core = c; address = p }) trace
+-- The transitions have others' writes before each step, so this is over every list of them
+abbrev pub EveryRunFrom : Layout → (address k : ℕ) → Type 0
+EveryRunFrom L a k =
+    (c : Core) → IsLoaded L.image c.memory → (trace : List Transition) → Run L.image (record { core = c; address = a }) trace → Allowed L k (record { core = c; address = a }) trace
 
 -- from a step's address, by the steps from it
 abbrev pub EveryRun : Layout → ℕ → Type 0
