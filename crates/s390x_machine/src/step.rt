@@ -45,7 +45,7 @@ fn semantics_in(rows: &[OpcodeSemantics], opcode: u16) -> Option<RowSemantics>
 }
 
 /// The semantics of an opcode; none of one that no row has.
-#[tactic(auto, unfolding(crate::specs::Meanings::semantics_of))]
+#[tactic(auto, unfolding(crate::specs::Semantics::semantics_of))]
 fn semantics_of(opcode: u16) -> Option<RowSemantics>
     ensures { result ≡ semantics_of opcode }
 {

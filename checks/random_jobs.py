@@ -1,0 +1,391 @@
+"""Random jobs: functions of one to four blocks on registers and memory, with what registers and memory hold when they start.
+
+Registers: %r0 and %r2 to %r9 are read and written, %r10 is a small index, %r11 counts loops, %r12 and %r13 lead to regions, %r14 is where
+the function returns to, %r15 leads to its frame, and %r1 belongs to helpers.
+"""
+import emulator
+
+TARGETS = [0, 2, 3, 4, 5, 6, 7, 8, 9]
+SOURCES = [r for r in range(16) if r != 1]
+PAIRS = [(2, 3), (4, 5), (6, 7), (8, 9)]
+
+# The second region is named by %r13 plus this.
+FAR = 600000
+
+# How many bytes a region has, of a page of its own, and where the registers that lead to it point.
+REGION = 0x400
+MIDDLE = 0x200
+
+CODE_BASE = 0x100000
+
+# Where the regions of %r12, of %r13, of the symbol and of the frame begin.
+DATA, FAR_DATA, SYMBOL, FRAME = [0x1000000, 0x1000000, 0x120000000], 0x3000000, 0x5000000, 0x7000000
+
+# An instruction is its name and its fields. A word in capitals is drawn anew (`Words`); `=` is the target that was drawn last.
+INSTRUCTIONS = """
+AluRRR ALU3 T S S
+AluRRR ALU3 T S S
+AluRR ALU2 T = S
+AluRX ALUX T = M
+AluRX ALUX T = M
+AluRSImm16 ALUI16 T = I16
+AluRRSImm16 ADD T S I16
+AluRSImm32 ALUI16 T = I32
+AluRUImm32 LOGICAL T = U32
+AluRUImm16Shifted PART64 T = U16:N4
+AluRUImm16Shifted PART32 T = U16:N2
+AluRUImm32Shifted HALF64 T = U32:N2
+AluRUImm32Shifted HALF32 T = U32:0
+SMulWide P S S
+UMulWide P L S
+SDivMod32 P L D
+SDivMod64 P L D
+UDivMod32 P Q D
+UDivMod64 P Q D
+Flogr P S
+ShiftRR SHIFT T S U8 SN
+RxSBG RX T = S B B R8
+UnaryRR UNARY T S
+CmpRR CMP2 S S
+CmpRX CMPX S M
+CmpRX CMPREL S Y
+CmpRSImm16 CMPS S I16
+CmpRSImm32 CMPS S I32
+CmpRUImm32 CMPL S U32
+Mov64 T S
+MovPReg T REAL
+Mov32 T S
+Mov32Imm T U32
+Mov32SImm16 T I16
+Mov64SImm16 T I16
+Mov64SImm32 T I32
+Mov64UImm16Shifted T U16:N4
+Mov64UImm32Shifted T U32:N2
+Insert64UImm16Shifted T = U16:N4
+Insert64UImm32Shifted T = U32:N2
+CMov32 T C = S
+CMov64 T C = S
+CMov32SImm16 T C = I16
+CMov64SImm16 T C = I16
+Extend T S BOOL FROM1 TO
+Extend T S BOOL 32 64
+LoadAR T U4
+InsertAR T = U4
+Load32 T M
+Load32ZExt8 T M
+Load32SExt8 T M
+Load32ZExt16 T M
+Load32SExt16 T M
+Load64 T M
+Load64ZExt8 T M
+Load64SExt8 T M
+Load64ZExt16 T M
+Load64SExt16 T M
+Load64ZExt32 T M
+Load64SExt32 T M
+LoadRev16 T M
+LoadRev32 T M
+LoadRev64 T M
+Store8 S M
+Store16 S M
+Store32 S M
+Store64 S M
+StoreRev16 S M
+StoreRev32 S M
+StoreRev64 S M
+StoreImm8 U8 M
+StoreImm16 I16 M
+StoreImm32SExt16 I16 M
+StoreImm64SExt16 I16 M
+LoadMultiple64 FIRST LAST M
+StoreMultiple64 SFIRST SLAST M
+LoadAddr T M
+LoadSymbolReloc T Absolute(u1,I16)
+AtomicRmw ATOMIC T S A
+AtomicRmw ATOMIC T S A
+AtomicCas32 T = S A
+AtomicCas64 T = S A
+Fence
+Nop0
+Nop2
+""".split("\n")[1:-1]
+
+# Instructions that may end a function before its return, or that the emulator lacks or breaks down at; few, so that most functions go far.
+RARE = """
+CmpTrapRR CMPT S S C TRAP
+CmpTrapRSImm16 CMPS S I16 C TRAP
+CmpTrapRUImm16 CMPL S U16 C TRAP
+TrapIf C TRAP
+Trap TRAP
+Debugtrap
+Load64 T OUT
+Store32 S OUT
+UDivMod64 P Q S
+SDivMod32 P L S
+RxSBGTest RXTEST S S B B R8
+UnaryRR COUNT T S
+""".split("\n")[1:-1]
+
+
+def sized(names, sizes=("32", "64")):
+    return [name + size for name in names for size in sizes]
+
+
+ARITHMETIC = sized(["Add", "AddLogical", "Sub", "SubLogical", "Mul"])
+BITS = sized(["And", "Orr", "Xor"])
+EXTENDED = ["Add64Ext32", "AddLogical64Ext32", "Sub64Ext32", "SubLogical64Ext32", "Mul64Ext32"]
+HALFWORDS = ["Add32Ext16", "Add64Ext16", "Sub32Ext16", "Sub64Ext16", "Mul32Ext16", "Mul64Ext16"]
+MIE3 = sized(["NotAnd", "NotOrr", "NotXor", "AndNot", "OrrNot"])
+COMPARED = ["CmpS32", "CmpS64", "CmpL32", "CmpL64"]
+
+# What a word stands for, where it is one of a list.
+CHOICES = {
+    "ALU3": ARITHMETIC + ["Mul32CC", "Mul64CC"] + BITS + MIE3,
+    "ALU2": ARITHMETIC + BITS + EXTENDED,
+    "ALUX": ARITHMETIC + BITS + EXTENDED + HALFWORDS,
+    "ALUI16": sized(["Add", "Mul"]),
+    "ADD": sized(["Add"]),
+    "LOGICAL": sized(["AddLogical", "SubLogical"]),
+    "PART64": ["And64", "Orr64"],
+    "PART32": ["And32", "Orr32"],
+    "HALF64": sized(["And", "Orr", "Xor"], ("64",)),
+    "HALF32": sized(["And", "Orr", "Xor"], ("32",)),
+    "SHIFT": sized(["RotL", "LShL", "LShR", "AShR"]),
+    "RX": ["Insert", "And", "Or", "Xor"],
+    "RXTEST": ["And", "Or", "Xor"],
+    "UNARY": ["Abs32", "Abs64", "Abs64Ext32", "Neg32", "Neg64", "Neg64Ext32", "PopcntByte", "PopcntReg", "BSwap32", "BSwap64"],
+    "COUNT": ["Clz64", "Ctz64"],
+    "CMP2": COMPARED + ["CmpS64Ext32", "CmpL64Ext32"],
+    "CMPX": COMPARED + ["CmpS32Ext16", "CmpS64Ext16", "CmpS64Ext32", "CmpL64Ext32"],
+    "CMPREL": COMPARED + ["CmpS32Ext16", "CmpS64Ext16", "CmpL32Ext16", "CmpL64Ext16", "CmpS64Ext32", "CmpL64Ext32"],
+    "CMPT": COMPARED,
+    "CMPS": ["CmpS32", "CmpS64"],
+    "CMPL": ["CmpL32", "CmpL64"],
+    "ATOMIC": sized(["And", "Orr", "Xor", "Add", "AddLogical"]),
+    "BOOL": ["true", "false"],
+    "FROM1": ["1", "8", "16"],
+    "TO": ["32", "64"],
+    "TRAP": ["stk_ovf", "int_ovf", "heap_oob", "int_divz", "bad_toint", "user1", "user250"],
+    "REAL": [f"%r{r}" for r in SOURCES],
+}
+
+
+def interesting(rng, bits):
+    """A number whose bits tell: near a power of two, small, of repeated bytes, or any."""
+    kind = rng.randrange(6)
+    if kind == 0:
+        value = (1 << rng.randrange(bits)) + rng.choice([-1, 0, 1])
+    elif kind == 1:
+        value = -(1 << rng.randrange(bits)) + rng.choice([-1, 0, 1])
+    elif kind == 2:
+        value = rng.randrange(-9, 10)
+    elif kind == 3:
+        value = int.from_bytes(bytes([rng.choice([0, 1, 0x7f, 0x80, 0xff, rng.randrange(256)]) for _ in range(bits // 8)]), "big")
+    else:
+        value = rng.getrandbits(bits)
+    return value % (1 << bits)
+
+
+def signed(value, bits):
+    return value - (1 << bits) if value >> (bits - 1) else value
+
+
+class Words:
+    """What the words of an instruction stand for."""
+
+    def __init__(self, rng, constants):
+        self.rng = rng
+        self.constants = constants
+        self.target = self.pair = None
+
+    def line(self, template):
+        return " ".join(self.field(field) for field in template.split(" "))
+
+    def field(self, field):
+        if ":" in field:
+            return ":".join(self.field(part) for part in field.split(":"))
+        if field == "Absolute(u1,I16)":
+            return f"Absolute(u1,{self.number('I16')})"
+        if field in CHOICES:
+            return self.rng.choice(CHOICES[field])
+        if field[0] in "UIN" and field[1:].isdigit():
+            return self.number(field)
+        method = getattr(self, "word_" + field.replace("=", "same"), None)
+        return method() if method and field.isupper() or field == "=" else field
+
+    def number(self, field):
+        size = int(field[1:])
+        if field[0] == "N":
+            return str(self.rng.randrange(size))
+        if size < 8:
+            return str(self.rng.getrandbits(size))
+        value = interesting(self.rng, size)
+        return str(signed(value, size) if field[0] == "I" else value)
+
+    def word_T(self):
+        self.target = f"%r{self.rng.choice(TARGETS)}"
+        return self.target
+
+    def word_same(self):
+        return self.target
+
+    def word_S(self):
+        return f"%r{self.rng.choice(SOURCES)}"
+
+    def word_SN(self):
+        return f"%r{self.rng.choice([0, 0, 0] + SOURCES)}"
+
+    def word_D(self):
+        # A divisor that is seldom 0, and mostly great: %r12 to %r15 lead somewhere.
+        return f"%r{self.rng.choice([12, 13, 14, 15, 15, 12, 10, 2])}"
+
+    def word_P(self):
+        self.pair = self.rng.choice(PAIRS)
+        return self.word_Q()
+
+    def word_Q(self):
+        return f"%r{self.pair[0]}/%r{self.pair[1]}"
+
+    def word_L(self):
+        return f"%r{self.pair[1]}"
+
+    def word_B(self):
+        return str(self.rng.randrange(64))
+
+    def word_R8(self):
+        return str(self.rng.randrange(-128, 128))
+
+    def word_C(self):
+        return str(self.rng.randrange(1, 15))
+
+    def word_FIRST(self):
+        self.first = self.rng.randrange(2, 10)
+        return f"%r{self.first}"
+
+    def word_LAST(self):
+        return f"%r{self.rng.randrange(self.first, 10)}"
+
+    def word_SFIRST(self):
+        self.first = self.rng.randrange(2, 16)
+        return f"%r{self.first}"
+
+    def word_SLAST(self):
+        # It may go on at %r0, but not as far as %r1, which a helper may have changed.
+        return f"%r{self.rng.choice([0] + list(range(self.first, 16)))}"
+
+    def flags(self):
+        return self.rng.choice(["a", "u", "a!heap_oob", "u!user7"])
+
+    def word_M(self):
+        """An operand in a region, at any address."""
+        kind = self.rng.randrange(10)
+        if kind == 0 and self.constants:
+            return f"Constant({self.rng.randrange(self.constants)})"
+        if kind == 1:
+            return self.word_Y()
+        if kind == 2:
+            form = self.rng.choice(["InitialSPOffset", "IncomingArgOffset", "OutgoingArgOffset", "SlotOffset", "SpillOffset"])
+            return f"{form}({self.rng.randrange(-200, 200)})"
+        return self.indexed(1)
+
+    def word_A(self):
+        """One whose address is a multiple of 8."""
+        return self.indexed(8)
+
+    def indexed(self, unit):
+        offset = self.rng.randrange(-400, 200) // unit * unit
+        index = self.rng.choice(["%r0", "%r10"])
+        form = self.rng.randrange(4)
+        if form == 0:
+            return f"BXD12(%r12,{index},{offset % 200 // unit * unit},{self.flags()})"
+        if form == 1:
+            return f"BXD20(%r12,{index},{offset},{self.flags()})"
+        if form == 2:
+            return f"RegOffset(%r12,{offset},{self.flags()})"
+        return f"RegOffset(%r13,{FAR + offset},{self.flags()})"
+
+    def word_Y(self):
+        """One in the symbol's region, whose address is a multiple of 8."""
+        return f"Symbol(u1,{self.rng.randrange(-50, 50) * 8},{self.rng.choice(['a', 'u'])})"
+
+    def word_OUT(self):
+        return f"RegOffset(%r12,{self.rng.choice([3, -3, 200]) * emulator.PAGE},u!heap_oob)"
+
+
+class RandomJob:
+    """A job: its text, and what it starts with."""
+
+    def __init__(self, rng):
+        self.rng = rng
+        self.constants = rng.randrange(4)
+        self.words = Words(rng, self.constants)
+        data = rng.choice(DATA)
+        self.regions = sorted((address, self.region()) for address in [data, FAR_DATA, SYMBOL, FRAME])
+        self.general = [interesting(rng, 64) for _ in range(16)]
+        self.general[10] = rng.randrange(32) * 8
+        self.general[12] = data + MIDDLE
+        self.general[13] = FAR_DATA + MIDDLE - FAR
+        self.general[14] = emulator.RETURN
+        self.general[15] = FRAME + MIDDLE
+        self.vector = [rng.choice([0, interesting(rng, 128)]) for _ in range(32)]
+        heading, starts, blocks = self.heading(), self.starts(), self.blocks()
+        self.text = "\n".join(heading + starts + blocks + ["end", ""])
+        # Its image is the same without what registers and memory hold, and is read sooner.
+        self.code_text = "\n".join(heading + blocks + ["end", ""])
+
+    def region(self):
+        return b"".join(interesting(self.rng, 64).to_bytes(8, "big") for _ in range(REGION // 8))
+
+    def heading(self):
+        lines = ["flags mie3 mie4 vxrs_ext2 vxrs_ext3", f"frame SystemV {' '.join(str(8 * self.rng.randrange(4)) for _ in range(6))} - 0"]
+        for _ in range(self.constants):
+            lines.append(f"const 8 {self.rng.randbytes(64).hex()}")
+        return lines + [f"symbol u1 {SYMBOL + MIDDLE}"]
+
+    def starts(self):
+        lines = [f"reg %r{i} {value}" for i, value in enumerate(self.general) if value]
+        lines += [f"reg %v{i} {value:032x}" for i, value in enumerate(self.vector) if value]
+        return lines + [f"mem {address} {data.hex()}" for address, data in self.regions]
+
+    def blocks(self):
+        count = self.rng.randrange(1, 5)
+        lines = []
+        for k in range(count):
+            lines += ["block"] + self.members(self.rng.randrange(1, 9))
+            lines += ["Ret %r14"] if k == count - 1 else self.turn(k, count)
+        return lines
+
+    def members(self, count):
+        lines = []
+        for _ in range(count):
+            kind = self.rng.randrange(60)
+            if kind < 3:
+                lines += self.loop()
+            elif kind < 5:
+                lines.append(self.words.line(self.rng.choice(RARE)))
+            else:
+                lines.append(self.words.line(self.rng.choice(INSTRUCTIONS)))
+        return lines
+
+    def loop(self):
+        """A loop that goes round a few times: its last member counts down, and sets the code that goes on."""
+        body = [self.words.line(self.rng.choice(INSTRUCTIONS)) for _ in range(self.rng.randrange(1, 5))]
+        if self.rng.randrange(3) == 0:
+            body.append(f"CondBreak {self.words.word_C()}")
+        start = f"Mov64SImm16 %r11 {self.rng.randrange(1, 9)}"
+        return [start, "Loop 2"] + body + ["AluRSImm16 Add64 %r11 %r11 -1", "endloop"]
+
+    def turn(self, k, count):
+        """The end of a block, which leads to later ones."""
+        def later():
+            return self.rng.randrange(k + 1, count)
+
+        target = f"%r{self.rng.choice(TARGETS[1:])}"
+        return self.rng.choice([
+            [],
+            [f"Jump {later()}"],
+            [f"CondBr {later()} {later()} {self.words.word_C()}"],
+            [f"AluRUImm32Shifted And64 {target} {target} 3:0", f"CmpRUImm32 CmpL64 {target} 2",
+             f"JTSequence {target} {later()} 10 [{later()},{later()}]"],
+            [f"LabelAddress %r9 {k + 1}", f"IndirectBr %r9 [{k + 1}]"],
+        ])

@@ -1,0 +1,172 @@
+//! Reading a line: `BYTES HOW c=CODE rN=HEX vN=HEX mADDRESS=HEX .. > c=CODE ..`. It has an instruction's bytes, from where its step is known, what
+//! registers and memory hold before it, and what of that is another after it. Registers that aren't named are zero before it.
+ghost use Rattle.std.specs.Prelude.{◌<◌, ◌≤◌, length, IfOk};
+
+use crate::contents::Contents;
+use crate::known_step::KnownStep;
+use crate::region::Region;
+use s390x_machine::machine::Machine;
+use s390x_words::bytes::{bytes, hex_number};
+use s390x_words::marks::{after_word, back, front, word};
+use s390x_words::number::{first, natural, tail};
+use std::alloc::{AllocError, Global};
+
+/// Why a line isn't read.
+#[derive(Clone, Copy)]
+pub enum LineError {
+    /// It isn't of this form.
+    Unreadable,
+    /// No memory.
+    NoMemory,
+}
+
+impl From<AllocError> for LineError {
+    fn from(_: AllocError) -> LineError {
+        LineError::NoMemory
+    }
+}
+
+/// The address of the instruction.
+const PLACE: u64 = 0x1000;
+
+/// Reads a line.
+pub fn read_line(alloc: Global, line: &[u8]) -> Result<KnownStep, LineError> {
+    let source = back(line);
+    if word(source) != b"emulator".as_slice() && word(source) != b"manual".as_slice() {
+        return Err(LineError::Unreadable);
+    }
+    let code = hex_bytes(alloc, front(line))?;
+    let behind = PLACE.wrapping_add(code.len() as u64);
+    let mut before = Contents {
+        machine: Machine::new(PLACE),
+        regions: Vec::new(alloc),
+    };
+    put_region(&mut before, PLACE, code)?;
+    let rest = read_words(alloc, &mut before, after_word(source))?;
+    let mut after = before.copied(alloc)?;
+    after.machine.place = behind;
+    if first(rest) == b' ' && read_words(alloc, &mut after, after_word(rest))?.is_empty() {
+        Ok(KnownStep { before, after })
+    } else {
+        Err(LineError::Unreadable)
+    }
+}
+
+// Reads words up to `>` or to the end, and gives what follows them. The first one is the condition code.
+fn read_words<'a>(
+    alloc: Global,
+    contents: &mut Contents,
+    text: &'a [u8],
+) -> Result<&'a [u8], LineError> {
+    if word(text) != b"c".as_slice() {
+        return Err(LineError::Unreadable);
+    }
+    let mut rest = text;
+    for _ in 0..text.len() {
+        if rest.is_empty() || word(rest) == b">".as_slice() {
+            return Ok(rest);
+        }
+        let value = after_word(rest);
+        if first(rest) != b' ' || first(value) != b'=' {
+            return Err(LineError::Unreadable);
+        }
+        put_word(alloc, contents, word(rest), word(value))?;
+        rest = after_word(value);
+    }
+    Ok(rest)
+}
+
+// What is named gets a value.
+fn put_word(
+    alloc: Global,
+    contents: &mut Contents,
+    name: &[u8],
+    value: &[u8],
+) -> Result<(), LineError> {
+    let number = tail(name, 1);
+    match first(name) {
+        b'c' => {
+            contents.machine.cc = below(value, 4)? as u8;
+        }
+        b'r' => {
+            let register = below(number, 16)?;
+            contents.machine.regs[register] = doubleword(value)?;
+        }
+        b'v' => {
+            let register = below(number, 32)?;
+            contents.machine.vregs[register] = hex(value)?;
+        }
+        b'm' => {
+            let address = doubleword(number)?;
+            let bytes = hex_bytes(alloc, value)?;
+            put_region(contents, address, bytes)?;
+        }
+        _ => return Err(LineError::Unreadable),
+    }
+    Ok(())
+}
+
+// Memory has bytes from an address on.
+fn put_region(contents: &mut Contents, address: u64, bytes: Vec<u8>) -> Result<(), LineError> {
+    if u64::MAX - address < bytes.len() as u64 {
+        return Err(LineError::Unreadable);
+    }
+    match contents.regions.push(Region { address, bytes }) {
+        Ok(()) => Ok(()),
+        Err(_) => Err(LineError::NoMemory),
+    }
+}
+
+// A decimal number below a limit.
+fn below(word: &[u8], limit: usize) -> Result<usize, LineError>
+    ensures { IfOk result (λ n. n < limit) }
+{
+    if word.is_empty() || word.len() > 2 {
+        return Err(LineError::Unreadable);
+    }
+    for x in word {
+        if *x < b'0' || b'9' < *x {
+            return Err(LineError::Unreadable);
+        }
+    }
+    let number = natural(word) as usize;
+    if number < limit {
+        Ok(number)
+    } else {
+        Err(LineError::Unreadable)
+    }
+}
+
+// A hexadecimal number below 2^64.
+fn doubleword(word: &[u8]) -> Result<u64, LineError> {
+    u64::try_from(hex(word)?).map_err(|_| LineError::Unreadable)
+}
+
+// A hexadecimal number.
+fn hex(word: &[u8]) -> Result<u128, LineError> {
+    if is_hex(word) && word.len() <= 32 {
+        Ok(hex_number(word))
+    } else {
+        Err(LineError::Unreadable)
+    }
+}
+
+// Bytes in hexadecimal digits.
+fn hex_bytes(alloc: Global, word: &[u8]) -> Result<Vec<u8>, LineError> {
+    if is_hex(word) && word.len() % 2 == 0 {
+        Ok(bytes(alloc, word)?)
+    } else {
+        Err(LineError::Unreadable)
+    }
+}
+
+// Whether these are hexadecimal digits.
+fn is_hex(word: &[u8]) -> bool {
+    for x in word {
+        let is_digit = b'0' <= *x && *x <= b'9' || b'a' <= *x && *x <= b'f';
+        if !is_digit {
+            return false;
+        }
+    }
+    !word.is_empty()
+}
