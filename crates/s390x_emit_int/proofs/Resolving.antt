@@ -91,15 +91,15 @@ have_both None a = false
 have_both (Some x) None = false
 have_both (Some x) (Some y) = true
 
-not_alone : (o : Option MemoryInstruction) → have_both o None ≡ false
+not_single : (o : Option MemoryInstruction) → have_both o None ≡ false
 unfolding have_both
-not_alone None = refl
-not_alone (Some x) = refl
+not_single None = refl
+not_single (Some x) = refl
 
 never_both : (i : Inst) → have_both (memory i) (single_instruction i) ≡ false
 unfolding have_both
-never_both (AluRX op rd ri mem) = not_alone (memory (AluRX op rd ri mem))
-never_both (AtomicRmw op rd rn mem) = not_alone (memory (AtomicRmw op rd rn mem))
+never_both (AluRX op rd ri mem) = not_single (memory (AluRX op rd ri mem))
+never_both (AtomicRmw op rd rn mem) = not_single (memory (AtomicRmw op rd rn mem))
 never_both i = refl
 
 without_operand : (o : Option MemoryInstruction) (a : Option SingleInstruction) (x : SingleInstruction) → Some x ≡ a → have_both o a ≡ false → MemoryInRange o

@@ -98,8 +98,8 @@ abbrev pub IsRow : Layout → Step → MachineInstruction → (Registers → Ope
 IsRow L s x operation = (kind_of_step L (Some s) ≡ Some (Performs false operation no_code)) × (step_parts s ≡ Row x ∷ [])
 
 -- one that may have a row
-abbrev pub IsAlone : Layout → Step → (operands_valid : Bool) → Option MachineInstruction → (Registers → Operation) → Type 0
-IsAlone L s operands_valid o operation =
+abbrev pub IsSingle : Layout → Step → (operands_valid : Bool) → Option MachineInstruction → (Registers → Operation) → Type 0
+IsSingle L s operands_valid o operation =
     (kind_of_step L (Some s) ≡ Some (Performs false operation no_code)) × (step_parts s ≡ parts_or (single_with operands_valid o) None []) × OperandsValidOr (single_with operands_valid o) ⊥
 
 module _ {L : Layout} {k : ℕ} {s : Step} (b : StepAt L k s) where

@@ -28,7 +28,7 @@ use Rattle.s390x_operations.specs.declared.effect.Effect.{Effect}
 use Rattle.s390x_operations.specs.declared.effect.Effect.TheVariants.{Compute, Compare, Store}
 use Rattle.s390x_operations.specs.declared.stop.StopKind.{StopKind}
 use Rattle.s390x_operations.specs.declared.effect.Operation.{Operation}
-use Rattle.s390x_machine.specs.StepKinds.{Performs, Unsupported, form_or, performed_at, access_code}
+use Rattle.s390x_machine.specs.StepKinds.{Performs, Unsupported, kind_or, performed_at, access_code}
 use Rattle.s390x_machine.specs.Layout.{Layout, declared, block_address, constant_address}
 use Rattle.s390x_machine.specs.OneStep.{StepRuns}
 use Rattle.s390x_machine.specs.Operands.{indexed, based, address_part}
@@ -272,9 +272,9 @@ module _ {L : Layout} {k : ℕ} {s : Step} (b : StepAt L k s) (load : LoadsAddre
 -- an instruction with an operand in memory runs as its step, where emission's rows have the forms that the step knows
 pub memory_runs : {L : Layout} {k : ℕ} {s : Step} (b : StepAt L k s) (load : LoadsAddress) (larl : LoadsRelative) (x : MemoryInstruction) (forms : MemInstType) (operation : ℕ → Registers → Operation) →
     FormDoes x.form operation → RelativeDoes x.form x.accesses operation → ((a : ℕ) (r : Registers) → ValuesCoded (operation a r) (access_code (fault_code x))) → (x.reads_scratch ≡ false → (a : ℕ) (r : Registers) (v : ℕ) → Refines (operation a (set_general r 1 v)) (operation a r)) →
-    forms ≡ type_of x.form x.accesses → kind_of_step L (Some s) ≡ Some (form_or (performed_at (record { operand = x.operand; forms = forms; accesses = x.accesses; operation = operation }) (operand_address L x.operand)) Unsupported) → step_parts s ≡ memory_parts x → IsValidMemory L x → StepRuns L k
+    forms ≡ type_of x.form x.accesses → kind_of_step L (Some s) ≡ Some (kind_or (performed_at (record { operand = x.operand; forms = forms; accesses = x.accesses; operation = operation }) (operand_address L x.operand)) Unsupported) → step_parts s ≡ memory_parts x → IsValidMemory L x → StepRuns L k
 memory_runs {L = L} b load larl x forms operation does relative never ignores same formed parts operands_valid =
     operand_runs b load larl x.form x.accesses operation does relative (fault_code x) never x.operand x.reads_scratch ignores operands_valid.form
     (and_parts x.operands_valid (operand_general x.operand) operands_valid.registers).1 operands_valid.kept operands_valid.offset operands_valid.range (first_none (bound_cause (declared L) x.operand) (alignment_cause (declared L) (boundary x) x.operand) operands_valid.target).0 (λ address e.
-    ap (kind_of_step L) b.at ∙ formed ∙ ap (λ a. Some (form_or (performed_at (record { operand = x.operand; forms = forms; accesses = x.accesses; operation = operation }) a) Unsupported)) e
+    ap (kind_of_step L) b.at ∙ formed ∙ ap (λ a. Some (kind_or (performed_at (record { operand = x.operand; forms = forms; accesses = x.accesses; operation = operation }) a) Unsupported)) e
     ∙ ap (λ mi. Some (Performs (needs_scratch mi x.operand) (λ r. aligned_where (is_relative x.operand && (x.accesses && not (needs_scratch mi x.operand))) (operation (address r) r)) (access_code (fault_code x)))) same) parts

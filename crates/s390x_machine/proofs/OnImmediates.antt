@@ -21,29 +21,29 @@ use Rattle.s390x_machine.specs.OneStep.{StepRuns}
 use Rattle.s390x_machine.proofs.Allocating.{adds_negated}
 use Rattle.s390x_machine.proofs.SingleInstruction.{DoesThere, computed, compared, halfword_rows, unsigned_word_rows, iilf_row, halfword_at, word_at, three_halfword_at, compare_halfword_at, compare_word_at, loosens, ri_a_at, ril_a_at, low_small}
 use Rattle.s390x_machine.proofs.Bits.{immediate_at, iihf_row}
-use Rattle.s390x_machine.proofs.Built.{StepAt, IsRow, IsAlone, NeverStops, computes_immediate_always, compares_immediate_always, step_even, looser_runs, row_runs}
+use Rattle.s390x_machine.proofs.Built.{StepAt, IsRow, IsSingle, NeverStops, computes_immediate_always, compares_immediate_always, step_even, looser_runs, row_runs}
 use Rattle.s390x_machine.proofs.Listing.{OpcodeRow, OpcodeRows}
 use Rattle.s390x_machine.proofs.Operands.{halfword_bits, word_bits}
 
 module _ {L : Layout} {k : ℕ} {s : Step} (b : StepAt L k s) where
   -- ---- an operator, or a comparison, with an immediate of 16 bits or of 32, where it has a row
 
-  pub one_of_halfword : (operands_valid : Bool) (o : Option ℕ) (c : Computation) (rule : CodeRule) → OpcodeRows RiA 4096 o (computed c Immediate rule) → (d bits : ℕ) → IsAlone L s operands_valid (halfword_row o d bits) (computes_immediate rule c d d bits) → (IsTrue operands_valid → d < 16) → bits < 2 ^ 16 → StepRuns L k
+  pub one_of_halfword : (operands_valid : Bool) (o : Option ℕ) (c : Computation) (rule : CodeRule) → OpcodeRows RiA 4096 o (computed c Immediate rule) → (d bits : ℕ) → IsSingle L s operands_valid (halfword_row o d bits) (computes_immediate rule c d d bits) → (IsTrue operands_valid → d < 16) → bits < 2 ^ 16 → StepRuns L k
   one_of_halfword operands_valid None c rule row d bits is small lb = absurd is.2
   one_of_halfword operands_valid (Some opcode) c rule row d bits is small lb =
       row_runs b (ri_a opcode d bits) (computes_immediate rule c d d bits) (computes_immediate_always rule c d d bits) (is.0, is.1) (λ st. halfword_at L b.all (L.offsets.step k) (step_even b) opcode c rule row d bits (small is.2) lb st)
 
-  pub one_of_word : (operands_valid : Bool) (o : Option ℕ) (c : Computation) (rule : CodeRule) → OpcodeRows RilA 4096 o (computed c Immediate rule) → (d bits : ℕ) → IsAlone L s operands_valid (word_row o d bits) (computes_immediate rule c d d bits) → (IsTrue operands_valid → d < 16) → bits < 2 ^ 32 → StepRuns L k
+  pub one_of_word : (operands_valid : Bool) (o : Option ℕ) (c : Computation) (rule : CodeRule) → OpcodeRows RilA 4096 o (computed c Immediate rule) → (d bits : ℕ) → IsSingle L s operands_valid (word_row o d bits) (computes_immediate rule c d d bits) → (IsTrue operands_valid → d < 16) → bits < 2 ^ 32 → StepRuns L k
   one_of_word operands_valid None c rule row d bits is small lb = absurd is.2
   one_of_word operands_valid (Some opcode) c rule row d bits is small lb =
       row_runs b (ril_a opcode d bits) (computes_immediate rule c d d bits) (computes_immediate_always rule c d d bits) (is.0, is.1) (λ st. word_at L b.all (L.offsets.step k) (step_even b) opcode c rule row d bits (small is.2) lb st)
 
-  pub compare_of_halfword : (operands_valid : Bool) (o : Option ℕ) (c : Comparison) → OpcodeRows RiA 4096 o (compared c) → (n bits : ℕ) → IsAlone L s operands_valid (halfword_row o n bits) (compares_immediate c n bits) → (IsTrue operands_valid → n < 16) → bits < 2 ^ 16 → StepRuns L k
+  pub compare_of_halfword : (operands_valid : Bool) (o : Option ℕ) (c : Comparison) → OpcodeRows RiA 4096 o (compared c) → (n bits : ℕ) → IsSingle L s operands_valid (halfword_row o n bits) (compares_immediate c n bits) → (IsTrue operands_valid → n < 16) → bits < 2 ^ 16 → StepRuns L k
   compare_of_halfword operands_valid None c row n bits is small lb = absurd is.2
   compare_of_halfword operands_valid (Some opcode) c row n bits is small lb =
       row_runs b (ri_a opcode n bits) (compares_immediate c n bits) (compares_immediate_always c n bits) (is.0, is.1) (λ st. compare_halfword_at L b.all (L.offsets.step k) (step_even b) opcode c row n bits (small is.2) lb st)
 
-  pub compare_of_word : (operands_valid : Bool) (o : Option ℕ) (c : Comparison) → OpcodeRows RilA 4096 o (compared c) → (n bits : ℕ) → IsAlone L s operands_valid (word_row o n bits) (compares_immediate c n bits) → (IsTrue operands_valid → n < 16) → bits < 2 ^ 32 → StepRuns L k
+  pub compare_of_word : (operands_valid : Bool) (o : Option ℕ) (c : Comparison) → OpcodeRows RilA 4096 o (compared c) → (n bits : ℕ) → IsSingle L s operands_valid (word_row o n bits) (compares_immediate c n bits) → (IsTrue operands_valid → n < 16) → bits < 2 ^ 32 → StepRuns L k
   compare_of_word operands_valid None c row n bits is small lb = absurd is.2
   compare_of_word operands_valid (Some opcode) c row n bits is small lb =
       row_runs b (ril_a opcode n bits) (compares_immediate c n bits) (compares_immediate_always c n bits) (is.0, is.1) (λ st. compare_word_at L b.all (L.offsets.step k) (step_even b) opcode c row n bits (small is.2) lb st)
@@ -59,7 +59,7 @@ module _ {L : Layout} {k : ℕ} {s : Step} (b : StepAt L k s) where
         row_runs b (ri_a two d bits) (computes_immediate rule c d n bits) (computes_immediate_always rule c d n bits) is (subst (λ o. DoesThere L b.all (L.offsets.step k) (step_even b) (ri_a two d bits) o) op (λ st.
         halfword_at L b.all (L.offsets.step k) (step_even b) two c rule row d bits ld lb st))
 
-    pub three_halfword_runs : (operands_valid : Bool) (three two : Option ℕ) → OpcodeRows RieD 65536 three (computed c ThreeImmediate rule) → OpcodeRows RiA 4096 two (computed c Immediate rule) → IsAlone L s operands_valid (three_halfword_row three two d n bits) (computes_immediate rule c d n bits) → (IsTrue operands_valid → (d < 16) × (n < 16)) → bits < 2 ^ 16 → StepRuns L k
+    pub three_halfword_runs : (operands_valid : Bool) (three two : Option ℕ) → OpcodeRows RieD 65536 three (computed c ThreeImmediate rule) → OpcodeRows RiA 4096 two (computed c Immediate rule) → IsSingle L s operands_valid (three_halfword_row three two d n bits) (computes_immediate rule c d n bits) → (IsTrue operands_valid → (d < 16) × (n < 16)) → bits < 2 ^ 16 → StepRuns L k
     three_halfword_runs operands_valid None two row3 row2 is small lb = absurd is.2
     three_halfword_runs operands_valid (Some three) None row3 row2 is small lb = by_three three row3 (is.0, is.1) (small is.2) lb
     three_halfword_runs operands_valid (Some three) (Some two) row3 row2 is small lb = go (nat_eq d n) refl (is.0, is.1)
@@ -70,14 +70,14 @@ module _ {L : Layout} {k : ℕ} {s : Step} (b : StepAt L k s) where
 
   -- ---- an immediate at its place in the register
 
-  pub placed_halfword : (operands_valid : Bool) (o : Option ℕ) (operator : Operator) (rule : CodeRule) (n : ℕ) → OpcodeRows RiA 4096 o (immediate_at (on_doublewords operator) n rule) → (d bits : ℕ) → IsAlone L s operands_valid (halfword_row o d bits) (computes_immediate rule (on_doublewords operator) d d (bits * 2 ^ n)) → (IsTrue operands_valid → d < 16) → bits < 2 ^ 16 → StepRuns L k
+  pub placed_halfword : (operands_valid : Bool) (o : Option ℕ) (operator : Operator) (rule : CodeRule) (n : ℕ) → OpcodeRows RiA 4096 o (immediate_at (on_doublewords operator) n rule) → (d bits : ℕ) → IsSingle L s operands_valid (halfword_row o d bits) (computes_immediate rule (on_doublewords operator) d d (bits * 2 ^ n)) → (IsTrue operands_valid → d < 16) → bits < 2 ^ 16 → StepRuns L k
   placed_halfword operands_valid None operator rule n row d bits is small lb = absurd is.2
   placed_halfword operands_valid (Some opcode) operator rule n row d bits is small lb =
       let c = on_doublewords operator in
       let op = computes_immediate rule c d d (bits * 2 ^ n) in
       row_runs b (ri_a opcode d bits) op (computes_immediate_always rule c d d (bits * 2 ^ n)) (is.0, is.1) (λ st. ri_a_at L b.all (L.offsets.step k) (step_even b) opcode (immediate_at c n rule) row op d bits (small is.2) lb (λ r p. ap (λ x. Perform (computes_immediate rule c d d (x * 2 ^ n) r)) (low_small bits (omega (arith, lb)))) st)
 
-  pub placed_word : (operands_valid : Bool) (o : Option ℕ) (operator : Operator) (rule : CodeRule) (n : ℕ) → OpcodeRows RilA 4096 o (immediate_at (on_doublewords operator) n rule) → (d bits : ℕ) → IsAlone L s operands_valid (word_row o d bits) (computes_immediate rule (on_doublewords operator) d d (bits * 2 ^ n)) → (IsTrue operands_valid → d < 16) → bits < 2 ^ 32 → StepRuns L k
+  pub placed_word : (operands_valid : Bool) (o : Option ℕ) (operator : Operator) (rule : CodeRule) (n : ℕ) → OpcodeRows RilA 4096 o (immediate_at (on_doublewords operator) n rule) → (d bits : ℕ) → IsSingle L s operands_valid (word_row o d bits) (computes_immediate rule (on_doublewords operator) d d (bits * 2 ^ n)) → (IsTrue operands_valid → d < 16) → bits < 2 ^ 32 → StepRuns L k
   placed_word operands_valid None operator rule n row d bits is small lb = absurd is.2
   placed_word operands_valid (Some opcode) operator rule n row d bits is small lb =
       let c = on_doublewords operator in
@@ -85,15 +85,15 @@ module _ {L : Layout} {k : ℕ} {s : Step} (b : StepAt L k s) where
       row_runs b (ril_a opcode d bits) op (computes_immediate_always rule c d d (bits * 2 ^ n)) (is.0, is.1) (λ st. ril_a_at L b.all (L.offsets.step k) (step_even b) opcode (immediate_at c n rule) row op d bits (small is.2) lb (λ r p. ap (λ x. Perform (computes_immediate rule c d d (x * 2 ^ n) r)) (low_small bits (omega (arith, lb)))) st)
 
   -- a half is inserted: the right one by the row of a move of 32 bits
-  pub inserted_half : (operands_valid : Bool) (shift d bits : ℕ) → IsAlone L s operands_valid (word_row (insert_half shift) d bits) (computes_immediate Kept (inserts_half shift) d d (at_half shift bits)) → (IsTrue operands_valid → d < 16) → bits < 2 ^ 32 → StepRuns L k
+  pub inserted_half : (operands_valid : Bool) (shift d bits : ℕ) → IsSingle L s operands_valid (word_row (insert_half shift) d bits) (computes_immediate Kept (inserts_half shift) d d (at_half shift bits)) → (IsTrue operands_valid → d < 16) → bits < 2 ^ 32 → StepRuns L k
   inserted_half operands_valid shift d bits is small lb = go (nat_eq shift 0) refl (nat_eq shift 1) refl is
     where
-      go : (t : Bool) → nat_eq shift 0 ≡ t → (u : Bool) → nat_eq shift 1 ≡ u → IsAlone L s operands_valid (word_row (cond t (Some 0xc09) (cond u (Some 0xc08) None)) d bits) (computes_immediate Kept (cond t (on_words Move) (on_selected Select.Insert (half_mask shift))) d d (bits * 2 ^ (32 * shift))) → StepRuns L k
+      go : (t : Bool) → nat_eq shift 0 ≡ t → (u : Bool) → nat_eq shift 1 ≡ u → IsSingle L s operands_valid (word_row (cond t (Some 0xc09) (cond u (Some 0xc08) None)) d bits) (computes_immediate Kept (cond t (on_words Move) (on_selected Select.Insert (half_mask shift))) d d (bits * 2 ^ (32 * shift))) → StepRuns L k
       go true e u f is2 =
           let same : bits * 2 ^ (32 * shift) ≡ bits = ap (λ i. bits * 2 ^ (32 * i)) (eqb-true shift 0 e) ∙ omega arith in
-          one_of_word operands_valid (Some 0xc09) (on_words Move) Kept iilf_row d bits (subst (λ x. IsAlone L s operands_valid (word_row (Some 0xc09) d bits) (computes_immediate Kept (on_words Move) d d x)) same is2) small lb
+          one_of_word operands_valid (Some 0xc09) (on_words Move) Kept iilf_row d bits (subst (λ x. IsSingle L s operands_valid (word_row (Some 0xc09) d bits) (computes_immediate Kept (on_words Move) d d x)) same is2) small lb
       go false e true f is2 =
-          placed_word operands_valid (Some 0xc08) (SelectedBits Select.Insert (half_mask 1)) Kept 32 iihf_row d bits (subst (λ i. IsAlone L s operands_valid (word_row (Some 0xc08) d bits) (computes_immediate Kept (on_selected Select.Insert (half_mask i)) d d (bits * 2 ^ (32 * i)))) (eqb-true shift 1 f) is2) small lb
+          placed_word operands_valid (Some 0xc08) (SelectedBits Select.Insert (half_mask 1)) Kept 32 iihf_row d bits (subst (λ i. IsSingle L s operands_valid (word_row (Some 0xc08) d bits) (computes_immediate Kept (on_selected Select.Insert (half_mask i)) d d (bits * 2 ^ (32 * i)))) (eqb-true shift 1 f) is2) small lb
       go false e false f is2 = absurd is2.2
 
   -- ---- the stack pointer

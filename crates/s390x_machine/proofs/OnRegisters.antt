@@ -27,7 +27,7 @@ use Rattle.s390x_machine.specs.OneStep.{StepRuns}
 use Rattle.s390x_machine.specs.Semantics.{count_operator}
 use Rattle.s390x_machine.proofs.SingleInstruction.{Doing, second_register, computed, compared_with, register_fields, alu_three_rows, alu_two_rows, two_at, three_at, loosens, three_looser, two_looser, low_small}
 use Rattle.s390x_machine.proofs.Bits.{any_mask, ear_row, popcnt_row, AnyRows, mgrk_row, mlgr_row, flogr_row, mask_allowed}
-use Rattle.s390x_machine.proofs.Built.{StepAt, IsRow, IsAlone, NeverStops, computes_always, compares_always, where_never, step_even, looser_runs, row_runs, meant_runs, pair_runs}
+use Rattle.s390x_machine.proofs.Built.{StepAt, IsRow, IsSingle, NeverStops, computes_always, compares_always, where_never, step_even, looser_runs, row_runs, meant_runs, pair_runs}
 use Rattle.s390x_machine.proofs.Listing.{few_digits, TwoRow, TwoRows, ThreeRow, ThreeRows, Meant}
 use Rattle.s390x_machine.proofs.RegisterNumbers.{mask_bits}
 use Rattle.s390x_machine.proofs.Rows.{fits_rre, fits_rrf_ab, fits_rrf_cde, fits_rie_g, fits_rxy}
@@ -37,20 +37,20 @@ module _ {L : Layout} {k : ℕ} {s : Step} (b : StepAt L k s) where
   -- ---- two registers, and three
 
   -- one row of two registers, where its operator has one
-  pub one_of_two : (operands_valid : Bool) (o : Option ℕ) (semantics : RowSemantics) → TwoRows o semantics → (operation : Registers → Operation) (d m : ℕ) → IsAlone L s operands_valid (two_row o d m) operation → (IsTrue operands_valid → (d < 16) × (m < 16)) → Doing (register_fields d m 0) semantics operation → NeverStops operation → StepRuns L k
+  pub one_of_two : (operands_valid : Bool) (o : Option ℕ) (semantics : RowSemantics) → TwoRows o semantics → (operation : Registers → Operation) (d m : ℕ) → IsSingle L s operands_valid (two_row o d m) operation → (IsTrue operands_valid → (d < 16) × (m < 16)) → Doing (register_fields d m 0) semantics operation → NeverStops operation → StepRuns L k
   one_of_two operands_valid None semantics row operation d m is small acts never = absurd is.2
   one_of_two operands_valid (Some opcode) semantics row operation d m is small acts never =
       let l = small is.2 in
       row_runs b (two_operands opcode d m) operation never (is.0, is.1) (λ st. two_at L b.all (L.offsets.step k) (step_even b) opcode semantics row operation d m l.0 l.1 acts st)
 
-  pub computes_two : (operands_valid : Bool) (o : Option ℕ) (c : Computation) (rule : CodeRule) → TwoRows o (computed c Register rule) → (d m : ℕ) → IsAlone L s operands_valid (two_row o d m) (computes rule c d d m) → (IsTrue operands_valid → (d < 16) × (m < 16)) → StepRuns L k
+  pub computes_two : (operands_valid : Bool) (o : Option ℕ) (c : Computation) (rule : CodeRule) → TwoRows o (computed c Register rule) → (d m : ℕ) → IsSingle L s operands_valid (two_row o d m) (computes rule c d d m) → (IsTrue operands_valid → (d < 16) × (m < 16)) → StepRuns L k
   computes_two operands_valid o c rule row d m is small = one_of_two operands_valid o (computed c Register rule) row (computes rule c d d m) d m is small (λ r p. refl) (computes_always rule c d d m)
 
-  pub compares_two : (operands_valid : Bool) (o : Option ℕ) (c : Comparison) → TwoRows o (compared_with Register c) → (n m : ℕ) → IsAlone L s operands_valid (two_row o n m) (compares c n m) → (IsTrue operands_valid → (n < 16) × (m < 16)) → StepRuns L k
+  pub compares_two : (operands_valid : Bool) (o : Option ℕ) (c : Comparison) → TwoRows o (compared_with Register c) → (n m : ℕ) → IsSingle L s operands_valid (two_row o n m) (compares c n m) → (IsTrue operands_valid → (n < 16) × (m < 16)) → StepRuns L k
   compares_two operands_valid o c row n m is small = one_of_two operands_valid o (compared_with Register c) row (compares c n m) n m is small (λ r p. refl) (compares_always c n m)
 
   -- a copy of an access register
-  pub copies_runs : (operands_valid : Bool) (d a : ℕ) → IsAlone L s operands_valid (two_row (Some 0xb24f) d a) (copies_access d a) → (IsTrue operands_valid → (d < 16) × (a < 16)) → StepRuns L k
+  pub copies_runs : (operands_valid : Bool) (d a : ℕ) → IsSingle L s operands_valid (two_row (Some 0xb24f) d a) (copies_access d a) → (IsTrue operands_valid → (d < 16) × (a < 16)) → StepRuns L k
   copies_runs operands_valid d a is small = one_of_two operands_valid (Some 0xb24f) (computed (on_words Move) AccessRegister Kept) ear_row (copies_access d a) d a is small (λ r p. refl) (λ r. never_by_values (copies_access d a r) no_code refl (λ kind h. h))
 
   -- an operator on three registers: its row of three, or that of two where the first input is the output
@@ -72,14 +72,14 @@ module _ {L : Layout} {k : ℕ} {s : Step} (b : StepAt L k s) where
         looser_runs b (two_operands two d m) does does_op refines (computes_always (alu_three_rule op) c d n m) is (λ st.
         two_at L b.all (L.offsets.step k) (step_even b) two (computed c Register (alu_two_rule op)) row does d m l.0 l.2 (λ r p. refl) st)
 
-    pub alu_three_runs : (operands_valid : Bool) → IsAlone L s operands_valid (three_row (alu_three op) (alu_two op) d n m) does_op → (IsTrue operands_valid → (d < 16) × (n < 16) × (m < 16)) → StepRuns L k
+    pub alu_three_runs : (operands_valid : Bool) → IsSingle L s operands_valid (three_row (alu_three op) (alu_two op) d n m) does_op → (IsTrue operands_valid → (d < 16) × (n < 16) × (m < 16)) → StepRuns L k
     alu_three_runs operands_valid is small = go (alu_three op) refl (alu_three_rows op) (alu_two op) (alu_two_rows op) is
       where
         either : (same : Bool) → nat_eq d n ≡ same → (three : ℕ) → alu_three op ≡ Some three → ThreeRow three (computed (alu_computation op) ThreeRegisters Set) → (two : ℕ) → TwoRow two (computed (alu_computation op) Register (alu_two_rule op)) → IsRow L s (cond same (two_operands two d m) (rrf_ab three d n m 0)) does_op → IsTrue operands_valid → StepRuns L k
         either true e three some row two row2 is h = by_two three two some (eqb-true d n e) row2 is (small h)
         either false e three some row two row2 is h = by_three three row is (small h)
 
-        go : (three : Option ℕ) → alu_three op ≡ three → ThreeRows three (computed (alu_computation op) ThreeRegisters Set) → (two : Option ℕ) → TwoRows two (computed (alu_computation op) Register (alu_two_rule op)) → IsAlone L s operands_valid (three_row three two d n m) does_op → StepRuns L k
+        go : (three : Option ℕ) → alu_three op ≡ three → ThreeRows three (computed (alu_computation op) ThreeRegisters Set) → (two : Option ℕ) → TwoRows two (computed (alu_computation op) Register (alu_two_rule op)) → IsSingle L s operands_valid (three_row three two d n m) does_op → StepRuns L k
         go None some row two row2 is = absurd is.2
         go (Some three) some row None row2 is = by_three three row (is.0, is.1) (small is.2)
         go (Some three) some row (Some two) row2 is = either (nat_eq d n) refl three some row two row2 (is.0, is.1) is.2
@@ -119,7 +119,7 @@ module _ {L : Layout} {k : ℕ} {s : Step} (b : StepAt L k s) where
       meant_runs b (rrf_cde 0xb9e1 d n mode 0) CountOnes op (computes_always Set (on_doublewords (count_operator mode)) d d n) is popcnt_row (fits_rrf_cde 0xb9e1 d n mode (omega arith) l.0 l.1 few) allowed (λ r p. refl)
 
   -- an indexed address, whose result is free
-  pub any_runs : (operands_valid : Bool) (o : Option ℕ) → AnyRows o → (d base index displacement : ℕ) → IsAlone L s operands_valid (indexed_row o d base index displacement) (havocs d) → (IsTrue operands_valid → (d < 16) × (base < 16) × (index < 16)) → displacement < 2 ^ 20 → StepRuns L k
+  pub any_runs : (operands_valid : Bool) (o : Option ℕ) → AnyRows o → (d base index displacement : ℕ) → IsSingle L s operands_valid (indexed_row o d base index displacement) (havocs d) → (IsTrue operands_valid → (d < 16) × (base < 16) × (index < 16)) → displacement < 2 ^ 20 → StepRuns L k
   any_runs operands_valid None row d base index displacement is small ld = absurd is.2
   any_runs operands_valid (Some opcode) row d base index displacement is small ld =
       let l = small is.2 in

@@ -27,7 +27,7 @@ use Rattle.s390x_machine.specs.Layout.{Layout}
 use Rattle.s390x_machine.specs.OneStep.{StepRuns}
 use Rattle.s390x_machine.specs.Operands.{value_in, based, rotated_operand}
 use Rattle.s390x_machine.proofs.Bits.{shift_semantics, shift_rows, rotate_allows, rotate_rows, below, not_below, rotation_allowed, test_allowed}
-use Rattle.s390x_machine.proofs.Built.{StepAt, IsRow, IsAlone, meant_runs}
+use Rattle.s390x_machine.proofs.Built.{StepAt, IsRow, IsSingle, meant_runs}
 use Rattle.s390x_machine.proofs.Listing.{few_digits}
 use Rattle.s390x_machine.proofs.RegisterNumbers.{rotation_small}
 use Rattle.s390x_machine.proofs.Rows.{fits_rie_f, fits_rsy}
@@ -47,7 +47,7 @@ module _ {L : Layout} {k : ℕ} {s : Step} (b : StepAt L k s) where
       meant_runs b (rsy (shift_opcode op) d n base (low_byte amount)) (shift_semantics op) (shifts op d n base (low_byte amount)) (λ r. never_by_values (shifts op d n base (low_byte amount) r) no_code refl (λ kind h. h)) is (shift_rows op) (fits_rsy (shift_opcode op) d n base (low_byte amount) (few_digits (shift_rows op).0) l.0 l.1 l.2 (omega arith)) refl (λ r p.
       ap (λ t. Perform (with_rule (shift_rule op) (Effect.Compute (Shift (shift_operator op)) (shift_size op) d (value_in (shift_size op) r n) (operand_of (shift_computation op).second (based r base (cond t (pos (low_byte amount)) (pos (low_byte amount) -ℤ pos (2 ^ 20)))))))) (below (low_byte amount) (2 ^ 19) byte))
 
-  pub rotate_runs : (op : RxSBGOp) (operands_valid : Bool) (d n start end : ℕ) (amount : ℤ) → IsAlone L s operands_valid (rotated_row (Some (rotate_then op)) d n start end start (rotation amount)) (rotates_into op d n start end (rotation amount)) → (IsTrue operands_valid → (d < 16) × (n < 16)) → StepRuns L k
+  pub rotate_runs : (op : RxSBGOp) (operands_valid : Bool) (d n start end : ℕ) (amount : ℤ) → IsSingle L s operands_valid (rotated_row (Some (rotate_then op)) d n start end start (rotation amount)) (rotates_into op d n start end (rotation amount)) → (IsTrue operands_valid → (d < 16) × (n < 16)) → StepRuns L k
   rotate_runs op operands_valid d n start end amount is small = go (nat_lt start 64 && nat_lt end 64) refl is
     where
       am : ℕ
@@ -56,7 +56,7 @@ module _ {L : Layout} {k : ℕ} {s : Step} (b : StepAt L k s) where
       x : MachineInstruction
       x = rie_f (rotate_then op) d n start end am
 
-      go : (t : Bool) → (nat_lt start 64 && nat_lt end 64) ≡ t → IsAlone L s operands_valid (cond t (Some x) None) (rotates_into op d n start end am) → StepRuns L k
+      go : (t : Bool) → (nat_lt start 64 && nat_lt end 64) ≡ t → IsSingle L s operands_valid (cond t (Some x) None) (rotates_into op d n start end am) → StepRuns L k
       go false e is2 = absurd is2.2
       go true e is2 =
           let l = small is2.2 in
@@ -68,7 +68,7 @@ module _ {L : Layout} {k : ℕ} {s : Step} (b : StepAt L k s) where
           ap (λ t. cond t (Perform (rotated op d n start end am r)) (Perform (compared_only op d n start end am r))) (below start 64 ls))
 
   -- the same for the code alone
-  tested : (op : RxSBGOp) → rotate_allows op ≡ RotateBitsOrTest → (operands_valid : Bool) (d n start end : ℕ) (amount : ℤ) → IsAlone L s operands_valid (rotated_row (Some (rotate_then op)) d n start end (start + 128) (rotation amount)) (rotates_to_test op d n start end (rotation amount)) → (IsTrue operands_valid → (d < 16) × (n < 16)) → StepRuns L k
+  tested : (op : RxSBGOp) → rotate_allows op ≡ RotateBitsOrTest → (operands_valid : Bool) (d n start end : ℕ) (amount : ℤ) → IsSingle L s operands_valid (rotated_row (Some (rotate_then op)) d n start end (start + 128) (rotation amount)) (rotates_to_test op d n start end (rotation amount)) → (IsTrue operands_valid → (d < 16) × (n < 16)) → StepRuns L k
   tested op tests_alone operands_valid d n start end amount is small = go (nat_lt start 64 && nat_lt end 64) refl is
     where
       am : ℕ
@@ -77,7 +77,7 @@ module _ {L : Layout} {k : ℕ} {s : Step} (b : StepAt L k s) where
       x : MachineInstruction
       x = rie_f (rotate_then op) d n (start + 128) end am
 
-      go : (t : Bool) → (nat_lt start 64 && nat_lt end 64) ≡ t → IsAlone L s operands_valid (cond t (Some x) None) (rotates_to_test op d n start end am) → StepRuns L k
+      go : (t : Bool) → (nat_lt start 64 && nat_lt end 64) ≡ t → IsSingle L s operands_valid (cond t (Some x) None) (rotates_to_test op d n start end am) → StepRuns L k
       go false e is2 = absurd is2.2
       go true e is2 =
           let l = small is2.2 in
@@ -90,7 +90,7 @@ module _ {L : Layout} {k : ℕ} {s : Step} (b : StepAt L k s) where
           meant_runs b x (RotateThen (rotate_operator op) (rotate_rule op)) (rotates_to_test op d n start end am) (λ r. never_by_values (rotates_to_test op d n start end am r) no_code refl (λ kind h. h)) (is2.0, is2.1) (rotate_rows op) fit allowed (λ r p.
           ap (λ t. cond t (Perform (rotated op d n (start + 128) end am r)) (Perform (compared_only op d n (start + 128) end am r))) (not_below (start + 128) 64 (omega arith)) ∙ ap (λ i. Perform (rotates_to_test op d n i end am r)) back)
 
-  pub test_runs : (op : RxSBGOp) (operands_valid : Bool) (d n start end : ℕ) (amount : ℤ) → IsAlone L s operands_valid (rotated_row (rotate_then_test op) d n start end (start + 128) (rotation amount)) (rotates_to_test op d n start end (rotation amount)) → (IsTrue operands_valid → (d < 16) × (n < 16)) → StepRuns L k
+  pub test_runs : (op : RxSBGOp) (operands_valid : Bool) (d n start end : ℕ) (amount : ℤ) → IsSingle L s operands_valid (rotated_row (rotate_then_test op) d n start end (start + 128) (rotation amount)) (rotates_to_test op d n start end (rotation amount)) → (IsTrue operands_valid → (d < 16) × (n < 16)) → StepRuns L k
   test_runs R.Insert operands_valid d n start end amount is small = absurd is.2
   test_runs R.And operands_valid d n start end amount is small = tested R.And refl operands_valid d n start end amount is small
   test_runs R.Or operands_valid d n start end amount is small = tested R.Or refl operands_valid d n start end amount is small

@@ -8,7 +8,7 @@ use Rattle.s390x_operations.specs.declared.effect.Operation.{Operation}
 use Rattle.s390x_operations.specs.declared.stop.StopKind.{StopKind}
 use Rattle.s390x_machine.specs.declared.semantics.Action.{Action}
 use Rattle.s390x_machine.specs.declared.semantics.Action.TheVariants.{Perform, Branch, BranchAndSave}
-use Rattle.s390x_machine.specs.Machine.{Event, Executed, Interrupted, ActionStep, MachineStep, Transition, after_writes, EnvironmentStep, Run, after_all, all_writes}
+use Rattle.s390x_machine.specs.Machine.{Event, Executed, Interrupted, ActionStep, MachineStep, Transition, after_writes, TransitionStep, Run, after_all, all_writes}
 use Rattle.s390x_machine.specs.StepKinds.{Performs}
 use Rattle.s390x_machine.specs.Typed.{Ending, Trapped, At, Ended, loosened, loosen, goes_on, traps, OperationWrong, faults_uncoded, KindStep, KindWrong, TypedStep, kind_at, store_event_of_kind, typed_store_event}
 use Rattle.s390x_machine.specs.Codes.{trap_code_at}
@@ -42,7 +42,7 @@ pub at_start : (L : Layout) (k : ℕ) (c : Core) → InStep L k (step_address L 
 at_start L k c here is_loaded = record { few = omega arith; quiet = tt; here = here; lands = refl; is_loaded = is_loaded }
 
 -- one more transition, or none
-pub peel : (L : Layout) (k : ℕ) (c : Core) (g : List Transition) (r : Registers) (p : ℕ) → Inside L k c g r p → ((t : Transition) → EnvironmentStep L.image (mid c r (all_writes g) p) t → (rest : List Transition) → Run L.image t.after rest → Runs L k c (g ++ t ∷ rest)) → Simulates L k c g r p
+pub peel : (L : Layout) (k : ℕ) (c : Core) (g : List Transition) (r : Registers) (p : ℕ) → Inside L k c g r p → ((t : Transition) → TransitionStep L.image (mid c r (all_writes g) p) t → (rest : List Transition) → Run L.image t.after rest → Runs L k c (g ++ t ∷ rest)) → Simulates L k c g r p
 peel L k c g r p i go [] run = subst (λ l. Runs L k c l) (sym (append-nil g)) (waits i.few i.quiet (subst (λ (s : State). InStep L k s.address) (sym i.lands) i.here))
 peel L k c g r p i go (t ∷ rest) run = go t run.0 rest run.1
 
@@ -59,7 +59,7 @@ pub record Turned (L : Layout) (c : Core) (g : List Transition) (r : Registers) 
   pub acts : ActionStep (act r) size (mid c r (all_writes (g ++ t ∷ [])) p) t.event t.after
   pub memory : (written (all_writes (g ++ t ∷ [])) c).memory ≡ (after_writes (mid c r (all_writes g) p) t).core.memory
 
-pub turned : (L : Layout) (k : ℕ) (c : Core) (g : List Transition) (r : Registers) (p : ℕ) (act : Registers → Action) (size : ℕ) (t : Transition) → Inside L k c g r p → RowAt L p act size → EnvironmentStep L.image (mid c r (all_writes g) p) t → Turned L c g r p act size t
+pub turned : (L : Layout) (k : ℕ) (c : Core) (g : List Transition) (r : Registers) (p : ℕ) (act : Registers → Action) (size : ℕ) (t : Transition) → Inside L k c g r p → RowAt L p act size → TransitionStep L.image (mid c r (all_writes g) p) t → Turned L c g r p act size t
 turned L k c g r p act size t i row s =
     let e : written t.writes (written (all_writes g) c) ≡ written (all_writes (g ++ t ∷ [])) c = written_append (all_writes g) t.writes c ∙ ap (λ ws. written ws c) (one_more g t) in
     let l : IsLoaded L.image (written t.writes (written (all_writes g) c)).memory = lies_written L.image _ _ t.writes i.is_loaded s.may in

@@ -31,7 +31,7 @@ use Rattle.s390x_machine.specs.declared.semantics.RowSemantics.TheVariants.{Comp
 use Rattle.s390x_machine.specs.declared.semantics.OperandSource.TheVariants.{Indexed, IndexedAddress, Relative, RelativeAddress}
 use Rattle.s390x_machine.specs.declared.semantics.Action.TheVariants.{Perform}
 use Rattle.s390x_machine.specs.Computations.{Second, Computation, Comparison, doubleword, with_rule}
-use Rattle.s390x_machine.specs.StepKinds.{Unsupported, form_or, performed_at, access_code}
+use Rattle.s390x_machine.specs.StepKinds.{Unsupported, kind_or, performed_at, access_code}
 use Rattle.s390x_machine.specs.Layout.{Layout}
 use Rattle.s390x_machine.specs.OneStep.{StepRuns}
 use Rattle.s390x_machine.specs.Semantics.{registers_between}
@@ -129,11 +129,11 @@ relative_address_rows d lt = record {
 module _ {L : Layout} {k : ℕ} {s : Step} (b : StepAt L k s) where
   -- its form and its parts are those of an instruction with an operand in memory that does this, and whose rows have these forms
   abbrev pub Is : MemoryInstruction → MemInstType → (ℕ → Registers → Operation) → Type 0
-  Is x forms operation = (forms ≡ type_of x.form x.accesses) × (kind_of_step L (Some s) ≡ Some (form_or (performed_at (record { operand = x.operand; forms = forms; accesses = x.accesses; operation = operation }) (operand_address L x.operand)) Unsupported)) × (step_parts s ≡ memory_parts x) × IsValidMemory L x
+  Is x forms operation = (forms ≡ type_of x.form x.accesses) × (kind_of_step L (Some s) ≡ Some (kind_or (performed_at (record { operand = x.operand; forms = forms; accesses = x.accesses; operation = operation }) (operand_address L x.operand)) Unsupported)) × (step_parts s ≡ memory_parts x) × IsValidMemory L x
 
   -- the same of one that may have no rows
   abbrev pub MayBe : Option MemoryInstruction → MemArg → MemInstType → (ℕ → Registers → Operation) → Type 0
-  MayBe x mem forms operation = (kind_of_step L (Some s) ≡ Some (form_or (performed_at (record { operand = mem; forms = forms; accesses = true; operation = operation }) (operand_address L mem)) Unsupported)) × (step_parts s ≡ memory_or x []) × ValidMemoryOr L x ⊥
+  MayBe x mem forms operation = (kind_of_step L (Some s) ≡ Some (kind_or (performed_at (record { operand = mem; forms = forms; accesses = true; operation = operation }) (operand_address L mem)) Unsupported)) × (step_parts s ≡ memory_or x []) × ValidMemoryOr L x ⊥
 
   memory_steps : (x : MemoryInstruction) (forms : MemInstType) (operation : ℕ → Registers → Operation) → FormDoes x.form operation → RelativeDoes x.form x.accesses operation → ((a : ℕ) (r : Registers) → ValuesCoded (operation a r) (access_code (fault_code x))) →
       (x.reads_scratch ≡ false → (a : ℕ) (r : Registers) (v : ℕ) → Refines (operation a (set_general r 1 v)) (operation a r)) → Is x forms operation → StepRuns L k

@@ -112,7 +112,7 @@ pub record CodeAt (L : Layout) (k : ℕ) (s : Step) : Type 0 where
   pub operands_valid : IsValidStep L s
   pub reached : PartsReach L (L.offsets.step k) (step_parts s)
 
--- each step is placed, and the first one at the beginning; each block stands where its first step does, and each constant. The image lies at an even address
+-- each step's code lies where its offset says, and the first one at the beginning; each block stands where its first step does, and each constant. The image lies at an even address
 -- below 2 ^ 64 and is shorter than 2 ^ 31 bytes
 pub record AllCodeAt (L : Layout) : Type 0 where
   pub even : L.image.base % 2 ≡ 0

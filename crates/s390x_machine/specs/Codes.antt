@@ -8,7 +8,7 @@ use Rattle.s390x_operations.specs.State.{CodeImage, is_within}
 use Rattle.s390x_operations.specs.declared.stop.StopKind.{StopKind}
 use Rattle.s390x_operations.specs.declared.stop.StopKind.TheVariants.{Access, Specification}
 
--- the offset at which the table has the code of a stop at an offset: that itself for the fault of an access, and that of the instruction's last byte
+-- the offset at which the table has the code of a stop at an offset: that itself for the kinds that an access may fault by, and that of the instruction's last byte
 -- for another stop. The first byte tells how many there are
 abbrev pub code_offset : List ℕ → ℕ → StopKind → ℕ
 code_offset bytes offset Access = offset

@@ -12,7 +12,7 @@ pub record Layout : Type 0 where
   pub image : CodeImage
   -- the typed steps, block by block
   pub steps : List Step
-  -- the offset of each step, block and constant; that of the step's number past the last one is the code's end
+  -- the offset of each step, block and constant; at the number past the last step it is the code's end
   pub offsets : Offsets
   pub block_count : ℕ
   -- the number of a block's first step; where the block is empty, of the next step

@@ -67,14 +67,14 @@ abbrev pub after_writes : State → Transition → State
 after_writes s transition = record { core = written transition.writes s.core; address = s.address }
 
 -- others may write this, and then the machine takes this step
-pub record EnvironmentStep (image : CodeImage) (s : State) (transition : Transition) : Type 0 where
+pub record TransitionStep (image : CodeImage) (s : State) (transition : Transition) : Type 0 where
   pub may : MayWrite image s.core.memory.has transition.writes
   pub goes : MachineStep (after_writes s transition) transition.event transition.after
 
 -- a run of the machine: one transition after another
 abbrev pub Run : CodeImage → State → List Transition → Type 0
 Run image s [] = Unit {0}
-Run image s (transition ∷ trace) = EnvironmentStep image s transition × Run image transition.after trace
+Run image s (transition ∷ trace) = TransitionStep image s transition × Run image transition.after trace
 
 -- the state after all transitions
 abbrev pub after_all : State → List Transition → State

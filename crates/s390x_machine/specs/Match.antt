@@ -55,7 +55,7 @@ EndsMatch L (Ended (TailCalled a)) t s rest = s ≡ record { core = t; address =
 EndsMatch L (Ended (Trapped n)) t s rest = (s.core ≡ t) × NextStops L n s rest
 EndsMatch L (Ended DebugStopped) t s rest = (s.core ≡ t) × NextDebugStops L s rest
 
--- The typed steps from step k allow the machine's run from a state: its first transitions fall into groups, one for each typed step, and it closes
+-- The typed steps from step k allow the machine's run from a state: its first transitions fall into groups, one for each typed step, and the ends match
 -- behind them. The typed run begins with the machine's own registers, code and memory
 pub record Allowed (L : Layout) (k : ℕ) (s : State) (trace : List Transition) : Type 0 where
   pub groups : List (List Transition)

@@ -8,12 +8,12 @@ use Rattle.s390x_machine.specs.Typed.{Ending, At, Ended, TypedStep, Wrong, typed
 use Rattle.s390x_machine.specs.Match.{IsGroup, IsSilent, start, EndsMatch, Allowed}
 use Rattle.s390x_machine.specs.Layout.{Layout, step_address, InStep}
 
--- a machine run from a step's place is allowed by at most that step, or begins with a group of transitions that is that step
+-- a machine run from a step's address is allowed by at most that step, or begins with a group of transitions that is that step
 pub data OneStep (L : Layout) (k : ℕ) (c : Core) (trace : List Transition) : Type 0 where
   here : (a : Allowed L k (start L k c) trace) → length a.groups ≤ 1 → OneStep L k c trace
   on : (g rest : List Transition) → trace ≡ g ++ rest → IsGroup L k 4 g → (j : ℕ) (t : Core) → TypedStep L k (written (all_writes g) c) (At j) t → after_all (start L k c) g ≡ start L j t → IsLoaded L.image t.memory → (1 ≤ length g) ⊎ ((j ≡ suc k) × (suc k ≤ length L.steps)) → OneStep L k c trace
 
--- every machine run from a step's place, in every state in which the image lies in memory, is as `OneStep` says
+-- every machine run from a step's address, in every state in which the image lies in memory, is as `OneStep` says
 abbrev pub StepHolds : Layout → ℕ → Type 0
 StepHolds L k = (c : Core) → IsLoaded L.image c.memory → (trace : List Transition) → Run L.image (start L k c) trace → OneStep L k c trace
 
@@ -24,7 +24,7 @@ Loses (Some (GoesByAddress r targets)) = Unit {0}
 Loses (Some (GoesByTable index mask other targets)) = Unit {0}
 Loses (Some _) = ⊥
 
--- what the machine does from a step's place, with every store and stop told: stronger than `OneStep`
+-- what the machine does from a step's address, with every store and stop told: stronger than `OneStep`
 pub data Runs (L : Layout) (k : ℕ) (c : Core) (trace : List Transition) : Type 0 where
   waits : length trace ≤ 3 → IsSilent trace → InStep L k (after_all (start L k c) trace).address → Runs L k c trace
   silent : TypedStep L k c (At (suc k)) c → suc k ≤ length L.steps → step_address L k ≡ step_address L (suc k) → Runs L k c trace
@@ -33,6 +33,6 @@ pub data Runs (L : Layout) (k : ℕ) (c : Core) (trace : List Transition) : Type
   ends : (g rest : List Transition) → trace ≡ g ++ rest → IsGroup L k 4 g → IsSilent g → (e : Ending) (t : Core) → TypedStep L k (written (all_writes g) c) (Ended e) t → EndsMatch L (Ended e) t (after_all (start L k c) g) rest → Runs L k c trace
   stuck : Wrong L k c → Loses (kind_at L k) → Runs L k c trace
 
--- every machine run from a step's place, in every state in which the image lies in memory, is as `Runs` says
+-- every machine run from a step's address, in every state in which the image lies in memory, is as `Runs` says
 abbrev pub StepRuns : Layout → ℕ → Type 0
 StepRuns L k = (c : Core) → IsLoaded L.image c.memory → (trace : List Transition) → Run L.image (start L k c) trace → Runs L k c trace

@@ -52,7 +52,7 @@ mask_field f i = slice_index f.masks i
 abbrev pub indexed_address : Fields → Registers → ℕ
 indexed_address f r = indexed r (register_field f 1) (register_field f 2) f.disp
 
--- the instruction's own place plus its distance, modulo 2 ^ 64
+-- the instruction's own address plus its distance, modulo 2 ^ 64
 abbrev pub relative_address : Fields → ℕ → ℕ
 relative_address f address = low Doubleword (pos address +ℤ f.imm)
 

@@ -193,14 +193,14 @@ branch_kind (TrapIf mask code) = TrapsWhere mask code
 branch_kind Debugtrap = DebugStops
 branch_kind _ = Unsupported
 
--- an instruction that is one operation performs it; another one has its own form
-abbrev pub form_or : Option Performed → StepKind → StepKind
-form_or None others = others
-form_or (Some x) others = Performs x.needs x.operation x.code
+-- an instruction that is one operation performs it; another one has its own kind
+abbrev pub kind_or : Option Performed → StepKind → StepKind
+kind_or None others = others
+kind_or (Some x) others = Performs x.needs x.operation x.code
 
 -- what an instruction does
 abbrev pub instruction_kind : Layout → Inst → StepKind
-instruction_kind L i = form_or (performed L i) (form_or (performed_in_memory L i) (branch_kind i))
+instruction_kind L i = kind_or (performed L i) (kind_or (performed_in_memory L i) (branch_kind i))
 
 -- a loop's opening is a step without bytes; its back branch and its breaks lead to steps
 abbrev pub step_kind : Layout → Step → StepKind
