@@ -48,7 +48,8 @@ RxSBG RX T = S B B R8
 UnaryRR UNARY T S
 CmpRR CMP2 S S
 CmpRX CMPX S M
-CmpRX CMPREL S Y
+CmpRX CMPX S Y
+CmpRX CMPREL S YA
 CmpRSImm16 CMPS S I16
 CmpRSImm32 CMPS S I32
 CmpRUImm32 CMPL S U32
@@ -157,7 +158,7 @@ CHOICES = {
     "COUNT": ["Clz64", "Ctz64"],
     "CMP2": COMPARED + ["CmpS64Ext32", "CmpL64Ext32"],
     "CMPX": COMPARED + ["CmpS32Ext16", "CmpS64Ext16", "CmpS64Ext32", "CmpL64Ext32"],
-    "CMPREL": COMPARED + ["CmpS32Ext16", "CmpS64Ext16", "CmpL32Ext16", "CmpL64Ext16", "CmpS64Ext32", "CmpL64Ext32"],
+    "CMPREL": ["CmpL32Ext16", "CmpL64Ext16"],
     "CMPT": COMPARED,
     "CMPS": ["CmpS32", "CmpS64"],
     "CMPL": ["CmpL32", "CmpL64"],
@@ -270,8 +271,7 @@ class Words:
         return f"%r{self.first}"
 
     def word_SLAST(self):
-        # It may go on at %r0, but not as far as %r1, which a helper may have changed.
-        return f"%r{self.rng.choice([0] + list(range(self.first, 16)))}"
+        return f"%r{self.rng.randrange(self.first, 16)}"
 
     def flags(self):
         return self.rng.choice(["a", "u", "a!heap_oob", "u!user7"])
@@ -307,6 +307,10 @@ class Words:
     def word_Y(self):
         """One in the symbol's region, whose address is a multiple of 8."""
         return f"Symbol(u1,{self.rng.randrange(-50, 50) * 8},{self.rng.choice(['a', 'u'])})"
+
+    def word_YA(self):
+        """One there that is told to be aligned."""
+        return f"Symbol(u1,{self.rng.randrange(-50, 50) * 8},a)"
 
     def word_OUT(self):
         return f"RegOffset(%r12,{self.rng.choice([3, -3, 200]) * emulator.PAGE},u!heap_oob)"
@@ -385,7 +389,8 @@ class RandomJob:
             [],
             [f"Jump {later()}"],
             [f"CondBr {later()} {later()} {self.words.word_C()}"],
-            [f"AluRUImm32Shifted And64 {target} {target} 3:0", f"CmpRUImm32 CmpL64 {target} 2",
+            # The index is an offset in bytes.
+            [f"AluRUImm32Shifted And64 {target} {target} 12:0", f"CmpRUImm32 CmpL64 {target} 8",
              f"JTSequence {target} {later()} 10 [{later()},{later()}]"],
             [f"LabelAddress %r9 {k + 1}", f"IndirectBr %r9 [{k + 1}]"],
         ])
