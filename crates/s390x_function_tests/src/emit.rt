@@ -2,7 +2,9 @@
 use s390x_base::{Cond, EmitError, TrapCode, gpr, writable_gpr};
 use s390x_buffer::{MachBuffer, TrapEntry};
 use s390x_emit_int::{MachInstEmit, put, put_with_trap};
-use s390x_inst::{ALUOp, EmitInfo, EmitState, Inst, IsaFlags, MachInstEmitState, MemArg};
+use s390x_inst::{
+    ALUOp, CallConv, EmitInfo, EmitState, FrameLayout, Inst, IsaFlags, MachInstEmitState, MemArg,
+};
 use std::alloc::Global;
 use std::test::Fail;
 
@@ -126,6 +128,50 @@ fn sizes_past_16_bits_are_subtracted(rt: HostRuntime) -> Result<(), Fail> {
         [
             0xa7, 0xfb, 0xff, 0xe0, 0xa7, 0xfb, 0x80, 0x01, 0xc2, 0xf4, 0x00, 0x00, 0x80, 0x00,
             0xc2, 0xf4, 0xff, 0xff, 0xff, 0xff, 0xe3, 0x20, 0xf0, 0x28, 0x00, 0x04
+        ]
+        .as_slice()
+    );
+    Ok(())
+}
+
+/// A frame with sizes of its own for each area.
+const LAYOUT: FrameLayout = FrameLayout {
+    incoming_args_size: 16,
+    tail_args_size: 4096,
+    clobber_size: 32,
+    fixed_frame_storage_size: 8,
+    stackslots_size: 64,
+    outgoing_args_size: 128,
+    first_saved_gpr: None,
+    saved_fprs: 0,
+};
+
+// Clobbers, fixed storage, outgoing arguments and the allocated 256 bytes lie between the stack pointer and its place at the entry.
+#[test]
+fn frame_operands_lie_above_what_was_allocated(rt: HostRuntime) -> Result<(), Fail> {
+    let alloc = rt.alloc();
+    let mut sink = MachBuffer::new(alloc, 0, &[])?;
+    let mut state = EmitState::new(LAYOUT, CallConv::SystemV);
+    let info = EmitInfo::new(IsaFlags::default());
+    Inst::AllocateArgs { size: 256 }.emit(alloc, &mut sink, &info, &mut state)?;
+    for mem in [
+        MemArg::InitialSPOffset { off: 8 },
+        MemArg::IncomingArgOffset { off: 8 },
+        MemArg::SlotOffset { off: 8 },
+        MemArg::SpillOffset { off: 8 },
+        MemArg::OutgoingArgOffset { off: 8 },
+    ] {
+        let rd = writable_gpr(2);
+        Inst::Load64 { rd, mem }.emit(alloc, &mut sink, &info, &mut state)?;
+    }
+    assert_eq!(rt; state.nominal(), 256);
+    let code = sink.finish()?;
+    assert_eq!(rt;
+        code.bytes.as_slice(),
+        [
+            0xa7, 0xfb, 0xff, 0x00, 0xe3, 0x20, 0xf1, 0xb0, 0x00, 0x04, 0xe3, 0x20, 0xf2, 0x60,
+            0x00, 0x04, 0xe3, 0x20, 0xf1, 0x88, 0x00, 0x04, 0xe3, 0x20, 0xf1, 0xc8, 0x00, 0x04,
+            0xe3, 0x20, 0xf0, 0xa8, 0x00, 0x04
         ]
         .as_slice()
     );

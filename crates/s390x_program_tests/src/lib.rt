@@ -17,3 +17,7 @@ mod relative_rows;
 mod runs;
 #[cfg(test)]
 mod stack_rows;
+#[cfg(test)]
+mod statuses;
+#[cfg(test)]
+mod worked_rows;
