@@ -2,6 +2,8 @@
 #![tactic(auto)]
 
 #[cfg(test)]
+mod facilities;
+#[cfg(test)]
 mod operands;
 #[cfg(test)]
 mod reading;
