@@ -6,6 +6,8 @@ mod facilities;
 #[cfg(test)]
 mod operands;
 #[cfg(test)]
+mod operators;
+#[cfg(test)]
 mod reading;
 #[cfg(test)]
 mod shown;
