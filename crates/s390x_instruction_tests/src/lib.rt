@@ -1,8 +1,10 @@
-//! Tests of typed instructions: their constructors, facilities, epilogues, operands, and displayed names.
+//! Tests of typed instructions: their constructors, conditions, facilities, epilogues, operands, and displayed names.
 #![tactic(auto)]
 
 #[cfg(test)]
 mod addresses;
+#[cfg(test)]
+mod conditions;
 #[cfg(test)]
 mod epilogues;
 #[cfg(test)]

@@ -1,29 +1,8 @@
 //! Whole texts, read and printed back, and texts that are none.
 
-use s390x_base::NoMemory;
+use crate::reading::Fail;
 use s390x_job::{LineError, lines_of_job, read_lines};
 use std::alloc::{AllocError, Global};
-
-#[derive(Debug, Drop)]
-struct Fail;
-
-impl From<AllocError> for Fail {
-    fn from(_error: AllocError) -> Fail {
-        Fail
-    }
-}
-
-impl From<NoMemory> for Fail {
-    fn from(_error: NoMemory) -> Fail {
-        Fail
-    }
-}
-
-impl From<LineError> for Fail {
-    fn from(_error: LineError) -> Fail {
-        Fail
-    }
-}
 
 /// Texts of jobs: each kind of line and of field.
 const TEXTS: [&str; 6] = [
