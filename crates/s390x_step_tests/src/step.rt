@@ -8,16 +8,39 @@ use s390x_machine::step::StepEnd;
 use s390x_operations::ConditionCode;
 use std::alloc::Global;
 
-/// An instruction, left-justified in eight bytes, and the step that it makes from the condition code 1. Before it %r1, %r2 and %r3 have the
-/// first three values, and the doubleword at 0x2008 has the second; %r5 is 0x2000 and %r6 is 8. After it the target register has the result,
-/// every other register what it had, and that doubleword is what is stored.
+/// What a step does with the condition code.
+#[derive(Clone, Copy)]
+pub enum Code {
+    /// It keeps it.
+    Kept,
+    /// It sets it to this.
+    Set(u8),
+    /// It does by it what it does, told from 1, and keeps it.
+    Read,
+}
+
+/// The codes before and after the two steps that show it: one that is kept is so from 0 and from 3, one that is set is another before.
+pub fn codes(code: Code) -> [(ConditionCode, u8); 2] {
+    match code {
+        Code::Kept => [(ConditionCode::Code0, 0), (ConditionCode::Code3, 3)],
+        Code::Set(0) => [(ConditionCode::Code1, 0), (ConditionCode::Code2, 0)],
+        Code::Set(1) => [(ConditionCode::Code0, 1), (ConditionCode::Code3, 1)],
+        Code::Set(2) => [(ConditionCode::Code0, 2), (ConditionCode::Code1, 2)],
+        Code::Set(after) => [(ConditionCode::Code1, after), (ConditionCode::Code2, after)],
+        Code::Read => [(ConditionCode::Code1, 1), (ConditionCode::Code1, 1)],
+    }
+}
+
+/// An instruction, left-justified in eight bytes, and the step that it makes. Before it %r1, %r2 and %r3 have the first three values, and the
+/// doubleword at 0x2008 has the second; %r5 is 0x2000 and %r6 is 8. After it the target register has the result, every other register what it
+/// had, and that doubleword is what is stored.
 #[derive(Clone, Copy)]
 pub struct Step {
     pub code: u64,
     pub first: u64,
     pub second: u64,
     pub third: u64,
-    pub cc: u8,
+    pub cc: Code,
     pub target: u8,
     pub result: u64,
     pub stored: u64,
@@ -72,19 +95,29 @@ pub fn length(code: u64) -> u64 {
     }
 }
 
-/// Whether a step is as it is told.
-fn holds(alloc: Global, step: &Step) -> Result<bool, NoMemory> {
+// Whether a step is as it is told, from one code to another.
+fn holds_from(alloc: Global, step: &Step, from: ConditionCode, to: u8) -> Result<bool, NoMemory> {
     let mut memory = memory_with(alloc, step.code, step.second)?;
     let mut machine = machine_with(step.first, step.second, step.third);
+    machine.set_condition_code(from);
     let mut regs = machine.regs;
     regs[(step.target % 16) as usize] = step.result;
     let end = machine.step(&mut memory);
     Ok(
         end == StepEnd::Went
             && machine.regs == regs
-            && machine.cc == step.cc
+            && machine.cc == to
             && machine.place == PLACE.wrapping_add(length(step.code))
             && doubleword(&memory, OPERAND) == step.stored,
+    )
+}
+
+// Whether a step is as it is told.
+fn holds(alloc: Global, step: &Step) -> Result<bool, NoMemory> {
+    let [(first, after_first), (second, after_second)] = codes(step.cc);
+    Ok(
+        holds_from(alloc, step, first, after_first)?
+            && holds_from(alloc, step, second, after_second)?,
     )
 }
 

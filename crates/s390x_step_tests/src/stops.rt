@@ -1,6 +1,7 @@
 //! Even-odd pairs, branches, and each kind of stop.
 
-use crate::step::{OPERAND, PLACE, doubleword, machine_with, memory_with};
+use crate::step::Code::{Kept, Set};
+use crate::step::{Code, OPERAND, PLACE, codes, doubleword, machine_with, memory_with};
 use s390x_base::{NoMemory, TrapCode};
 use s390x_buffer::{MachBufferFinalized, TrapEntry};
 use s390x_machine::codes::code_at;
@@ -10,8 +11,7 @@ use s390x_operations::{ConditionCode, StopKind};
 use std::alloc::{AllocError, Global};
 use std::test::Fail;
 
-/// A row of the pair %r8 and %r9, which have two values before it and two after it; %r1 has the second one too, %r2 the operand. The condition
-/// code is 1 before it.
+/// A row of the pair %r8 and %r9, which have two values before it and two after it; %r1 has the second one too, %r2 the operand.
 #[derive(Clone, Copy)]
 struct PairStep {
     code: u64,
@@ -20,7 +20,7 @@ struct PairStep {
     operand: u64,
     result_high: u64,
     result_low: u64,
-    cc: u8,
+    cc: Code,
 }
 
 const MOST: u64 = 0xffff_ffff_ffff_ffff;
@@ -29,32 +29,46 @@ const LEAST: u64 = 0x8000_0000_0000_0000;
 
 #[rattlefmt::skip]
 const PAIRS: [PairStep; 11] = [
-    PairStep { code: 0xb9ec2081, high: 7, low: 0xffff_ffff_ffff_fffd, operand: 5, result_high: MOST, result_low: 0xffff_ffff_ffff_fff1, cc: 1 }, // mgrk
-    PairStep { code: 0xb9ec2081, high: 7, low: LEAST, operand: LEAST, result_high: 0x4000_0000_0000_0000, result_low: 0, cc: 1 }, // mgrk
-    PairStep { code: 0xb9860082, high: 7, low: MOST, operand: MOST, result_high: 0xffff_ffff_ffff_fffe, result_low: 1, cc: 1 }, // mlgr
-    PairStep { code: 0xb90d0082, high: 7, low: 0xffff_ffff_ffff_fff9, operand: 2, result_high: MOST, result_low: 0xffff_ffff_ffff_fffd, cc: 1 }, // dsgr
-    PairStep { code: 0xb90d0082, high: 7, low: 7, operand: 0xffff_ffff_ffff_fffe, result_high: 1, result_low: 0xffff_ffff_ffff_fffd, cc: 1 }, // dsgr
-    PairStep { code: 0xb91d0082, high: 7, low: 0xffff_ffff_ffff_fff9, operand: 0x1_0000_0002, result_high: MOST, result_low: 0xffff_ffff_ffff_fffd, cc: 1 }, // dsgfr
-    PairStep { code: 0xb9870082, high: 0xffff_ffff_ffff_fffe, low: MOST, operand: MOST, result_high: 0xffff_ffff_ffff_fffe, result_low: MOST, cc: 1 }, // dlgr
-    PairStep { code: 0xb9970082, high: 0x55_0000_0001, low: 0x77_0000_0000, operand: 0x99_0000_0002, result_high: 0x55_0000_0000, result_low: 0x77_8000_0000, cc: 1 }, // dlr
-    PairStep { code: 0xb9970082, high: 0xffff_fffe, low: 0xffff_ffff, operand: 0xffff_ffff, result_high: 0xffff_fffe, result_low: 0xffff_ffff, cc: 1 }, // dlr
-    PairStep { code: 0xb9830082, high: 7, low: 7, operand: 0x0010_0000_0000_0001, result_high: 11, result_low: 1, cc: 2 }, // flogr
-    PairStep { code: 0xb9830082, high: 7, low: 7, operand: 0, result_high: 64, result_low: 0, cc: 0 }, // flogr
+    PairStep { code: 0xb9ec2081, high: 7, low: 0xffff_ffff_ffff_fffd, operand: 5, result_high: MOST, result_low: 0xffff_ffff_ffff_fff1, cc: Kept }, // mgrk
+    PairStep { code: 0xb9ec2081, high: 7, low: LEAST, operand: LEAST, result_high: 0x4000_0000_0000_0000, result_low: 0, cc: Kept }, // mgrk
+    PairStep { code: 0xb9860082, high: 7, low: MOST, operand: MOST, result_high: 0xffff_ffff_ffff_fffe, result_low: 1, cc: Kept }, // mlgr
+    PairStep { code: 0xb90d0082, high: 7, low: 0xffff_ffff_ffff_fff9, operand: 2, result_high: MOST, result_low: 0xffff_ffff_ffff_fffd, cc: Kept }, // dsgr
+    PairStep { code: 0xb90d0082, high: 7, low: 7, operand: 0xffff_ffff_ffff_fffe, result_high: 1, result_low: 0xffff_ffff_ffff_fffd, cc: Kept }, // dsgr
+    PairStep { code: 0xb91d0082, high: 7, low: 0xffff_ffff_ffff_fff9, operand: 0x1_0000_0002, result_high: MOST, result_low: 0xffff_ffff_ffff_fffd, cc: Kept }, // dsgfr
+    PairStep { code: 0xb9870082, high: 0xffff_ffff_ffff_fffe, low: MOST, operand: MOST, result_high: 0xffff_ffff_ffff_fffe, result_low: MOST, cc: Kept }, // dlgr
+    PairStep { code: 0xb9970082, high: 0x55_0000_0001, low: 0x77_0000_0000, operand: 0x99_0000_0002, result_high: 0x55_0000_0000, result_low: 0x77_8000_0000, cc: Kept }, // dlr
+    PairStep { code: 0xb9970082, high: 0xffff_fffe, low: 0xffff_ffff, operand: 0xffff_ffff, result_high: 0xffff_fffe, result_low: 0xffff_ffff, cc: Kept }, // dlr
+    PairStep { code: 0xb9830082, high: 7, low: 7, operand: 0x0010_0000_0000_0001, result_high: 11, result_low: 1, cc: Set(2) }, // flogr
+    PairStep { code: 0xb9830082, high: 7, low: 7, operand: 0, result_high: 64, result_low: 0, cc: Set(0) }, // flogr
 ];
+
+// Whether a step is as it is told, from one code to another.
+fn pair_holds(
+    alloc: Global,
+    step: &PairStep,
+    from: ConditionCode,
+    to: u8,
+) -> Result<bool, NoMemory> {
+    let mut memory = memory_with(alloc, step.code << 32, step.operand)?;
+    let mut machine = machine_with(step.low, step.operand, 0);
+    machine.set_condition_code(from);
+    machine.regs[8] = step.high;
+    machine.regs[9] = step.low;
+    let mut regs = machine.regs;
+    regs[8] = step.result_high;
+    regs[9] = step.result_low;
+    let went = machine.step(&mut memory) == StepEnd::Went;
+    Ok(went && machine.regs == regs && machine.cc == to)
+}
 
 /// The number of the first step that isn't as it is told.
 fn wrong_pair(alloc: Global, steps: &[PairStep]) -> Result<Option<usize>, NoMemory> {
     for i in 0..steps.len() {
         let step = steps[i];
-        let mut memory = memory_with(alloc, step.code << 32, step.operand)?;
-        let mut machine = machine_with(step.low, step.operand, 0);
-        machine.regs[8] = step.high;
-        machine.regs[9] = step.low;
-        let mut regs = machine.regs;
-        regs[8] = step.result_high;
-        regs[9] = step.result_low;
-        let went = machine.step(&mut memory) == StepEnd::Went;
-        if !went || machine.regs != regs || machine.cc != step.cc {
+        let [(first, after_first), (second, after_second)] = codes(step.cc);
+        let holds = pair_holds(alloc, &step, first, after_first)?
+            && pair_holds(alloc, &step, second, after_second)?;
+        if !holds {
             return Ok(Some(i));
         }
     }

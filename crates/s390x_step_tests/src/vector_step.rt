@@ -1,11 +1,12 @@
 //! One step of a machine with known vector registers and memory.
 
-use crate::step::{PLACE, length, machine_with};
+use crate::step::{Code, PLACE, codes, length, machine_with};
 use s390x_base::NoMemory;
 use s390x_machine::flat::FlatMemory;
 use s390x_machine::machine::Machine;
 use s390x_machine::memory::Memory;
 use s390x_machine::step::StepEnd;
+use s390x_operations::ConditionCode;
 use std::alloc::Global;
 
 /// What %v1 has before a step; %v17 has its complement.
@@ -26,7 +27,7 @@ pub const OPERAND: u64 = 0x2010;
 /// All bits of a register.
 pub const ALL: u128 = u128::MAX;
 
-/// An instruction, left-justified in eight bytes, and the step that it makes from the condition code 1. Before it %v3 has the third value, %v19
+/// An instruction, left-justified in eight bytes, and the step that it makes. Before it %v3 has the third value, %v19
 /// its complement and %r1 zero. After it the target has the result in the known bits, every other vector register what it had, the 16 bytes are
 /// what is stored, %r1 has the general value, and every other general register what it had.
 #[derive(Clone, Copy)]
@@ -38,7 +39,7 @@ pub struct VectorStep {
     pub result: u128,
     pub stored: u128,
     pub general: u64,
-    pub cc: u8,
+    pub cc: Code,
 }
 
 /// A memory with an instruction and 16 bytes.
@@ -76,10 +77,16 @@ pub fn sixteen_bytes(memory: &FlatMemory, address: u64) -> u128 {
     u128::from_be_bytes(bytes)
 }
 
-/// Whether a step is as it is told.
-pub fn holds(alloc: Global, step: &VectorStep) -> Result<bool, NoMemory> {
+// Whether a step is as it is told, from one code to another.
+fn holds_from(
+    alloc: Global,
+    step: &VectorStep,
+    from: ConditionCode,
+    to: u8,
+) -> Result<bool, NoMemory> {
     let mut memory = memory_with(alloc, step.code)?;
     let mut machine = vector_machine(step.third);
+    machine.set_condition_code(from);
     let mut regs = machine.regs;
     let mut vregs = machine.vregs;
     let end = machine.step(&mut memory);
@@ -90,9 +97,18 @@ pub fn holds(alloc: Global, step: &VectorStep) -> Result<bool, NoMemory> {
         end == StepEnd::Went
             && machine.regs == regs
             && machine.vregs == vregs
-            && machine.cc == step.cc
+            && machine.cc == to
             && machine.place == PLACE.wrapping_add(length(step.code))
             && sixteen_bytes(&memory, OPERAND) == step.stored,
+    )
+}
+
+/// Whether a step is as it is told.
+pub fn holds(alloc: Global, step: &VectorStep) -> Result<bool, NoMemory> {
+    let [(first, after_first), (second, after_second)] = codes(step.cc);
+    Ok(
+        holds_from(alloc, step, first, after_first)?
+            && holds_from(alloc, step, second, after_second)?,
     )
 }
 

@@ -1,7 +1,7 @@
 //! Rows on vector registers and memory, or general registers, and the stops of vector rows. The expected values were computed apart from this
 //! program, from the definitions of the Principles of Operation, chapters 9, 20 and 21.
 
-use crate::step::PLACE;
+use crate::step::{Code, PLACE};
 use crate::vector_step::{ALL, FIRST, SECOND, VectorStep, ends, holds};
 use s390x_base::NoMemory;
 use s390x_machine::step::StepEnd;
@@ -274,7 +274,7 @@ fn wrong_load(alloc: Global, steps: &[LoadStep]) -> Result<Option<usize>, NoMemo
             result: steps[i].result,
             stored: SECOND,
             general: 0,
-            cc: 1,
+            cc: Code::Kept,
         };
         if !holds(alloc, &step)? {
             return Ok(Some(i));
@@ -293,7 +293,7 @@ fn step_without_result(code: u64, stored: u128, general: u64) -> VectorStep {
         result: FIRST,
         stored,
         general,
-        cc: 1,
+        cc: Code::Kept,
     }
 }
 
