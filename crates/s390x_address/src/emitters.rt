@@ -1,5 +1,5 @@
 //! The emitters of operands, by the formats of the rows.
-#![tactic(auto, using(s390x_buffer::proofs::Keeping::extends_on, s390x_buffer::proofs::Keeping::extends_same))]
+#![tactic(auto, using(s390x_buffer::proofs::Extending::extends_on, s390x_buffer::proofs::Extending::extends_same))]
 
 ghost use Rattle.std.specs.Prelude.{◌≡◌, ◌<◌, ◌⊎◌, ◌&&◌, true, None, Some, MatchResult, IfSome, IfErr, IsTrue};
 ghost use Rattle.s390x_base.specs.declared.error.EmitError.TheVariants.{NoMemory};
@@ -193,7 +193,8 @@ pub fn mem_emit(
     requires short { IfSome opcode_rx (λ o. o < 256) }
     requires integer { (rows_take_general opcode_rx && rows_take_general opcode_rxy) ≡ true }
     requires relative { has_12_bits opcode_ril ≡ true }
-    ensures answer { MatchResult result (λ _. (access_cause sink.old (in_state state.old (one_register rd opcode_rx opcode_rxy opcode_ril add_trap mem.now)) ≡ None) × (sink.new ≡ appended sink.old (memory_parts (in_state state.old (one_register rd opcode_rx opcode_rxy opcode_ril add_trap mem.now))))) (λ e. (e ≡ NoMemory) ⊎ (access_cause sink.old (in_state state.old (one_register rd opcode_rx opcode_rxy opcode_ril add_trap mem.now)) ≡ Some e)) }
+    ensures answer { let access = in_state state.old (one_register rd opcode_rx opcode_rxy opcode_ril add_trap mem.now) in
+        MatchResult result (λ _. (access_cause sink.old access ≡ None) × (sink.new ≡ appended sink.old (memory_parts access))) (λ e. (e ≡ NoMemory) ⊎ (access_cause sink.old access ≡ Some e)) }
     ensures poisoned { IfErr result (λ _. IsTrue sink.new.failed) }
     ensures kept { Extends sink.old sink.new }
     ensures state { state.new ≡ state.old }
@@ -229,7 +230,8 @@ pub fn mem_rs_emit(
     state: &mut EmitState,
 ) -> Result<(), EmitError>
     requires { IfSome opcode_rs (λ o. o < 256) }
-    ensures answer { MatchResult result (λ _. (access_cause sink.old (in_state state.old (two_registers rd rn opcode_rs opcode_rsy add_trap mem.now)) ≡ None) × (sink.new ≡ appended sink.old (memory_parts (in_state state.old (two_registers rd rn opcode_rs opcode_rsy add_trap mem.now))))) (λ e. (e ≡ NoMemory) ⊎ (access_cause sink.old (in_state state.old (two_registers rd rn opcode_rs opcode_rsy add_trap mem.now)) ≡ Some e)) }
+    ensures answer { let access = in_state state.old (two_registers rd rn opcode_rs opcode_rsy add_trap mem.now) in
+        MatchResult result (λ _. (access_cause sink.old access ≡ None) × (sink.new ≡ appended sink.old (memory_parts access))) (λ e. (e ≡ NoMemory) ⊎ (access_cause sink.old access ≡ Some e)) }
     ensures poisoned { IfErr result (λ _. IsTrue sink.new.failed) }
     ensures kept { Extends sink.old sink.new }
     ensures state { state.new ≡ state.old }
@@ -262,7 +264,8 @@ pub fn mem_imm8_emit(
     state: &mut EmitState,
 ) -> Result<(), EmitError>
     requires { opcode_si < 256 }
-    ensures answer { MatchResult result (λ _. (access_cause sink.old (in_state state.old (byte_immediate imm opcode_si opcode_siy add_trap mem.now)) ≡ None) × (sink.new ≡ appended sink.old (memory_parts (in_state state.old (byte_immediate imm opcode_si opcode_siy add_trap mem.now))))) (λ e. (e ≡ NoMemory) ⊎ (access_cause sink.old (in_state state.old (byte_immediate imm opcode_si opcode_siy add_trap mem.now)) ≡ Some e)) }
+    ensures answer { let access = in_state state.old (byte_immediate imm opcode_si opcode_siy add_trap mem.now) in
+        MatchResult result (λ _. (access_cause sink.old access ≡ None) × (sink.new ≡ appended sink.old (memory_parts access))) (λ e. (e ≡ NoMemory) ⊎ (access_cause sink.old access ≡ Some e)) }
     ensures poisoned { IfErr result (λ _. IsTrue sink.new.failed) }
     ensures kept { Extends sink.old sink.new }
     ensures state { state.new ≡ state.old }
@@ -293,7 +296,8 @@ pub fn mem_imm16_emit(
     _emit_info: &EmitInfo,
     state: &mut EmitState,
 ) -> Result<(), EmitError>
-    ensures answer { MatchResult result (λ _. (access_cause sink.old (in_state state.old (halfword_immediate imm opcode_sil add_trap mem.now)) ≡ None) × (sink.new ≡ appended sink.old (memory_parts (in_state state.old (halfword_immediate imm opcode_sil add_trap mem.now))))) (λ e. (e ≡ NoMemory) ⊎ (access_cause sink.old (in_state state.old (halfword_immediate imm opcode_sil add_trap mem.now)) ≡ Some e)) }
+    ensures answer { let access = in_state state.old (halfword_immediate imm opcode_sil add_trap mem.now) in
+        MatchResult result (λ _. (access_cause sink.old access ≡ None) × (sink.new ≡ appended sink.old (memory_parts access))) (λ e. (e ≡ NoMemory) ⊎ (access_cause sink.old access ≡ Some e)) }
     ensures poisoned { IfErr result (λ _. IsTrue sink.new.failed) }
     ensures kept { Extends sink.old sink.new }
     ensures state { state.new ≡ state.old }

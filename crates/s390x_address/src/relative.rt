@@ -1,5 +1,5 @@
 //! Operands that are relative to the instruction: why one is refused for the place that it names, and its access.
-#![tactic(auto, using(s390x_buffer::proofs::Keeping::extends_on, s390x_buffer::proofs::Keeping::extends_same))]
+#![tactic(auto, using(s390x_buffer::proofs::Extending::extends_on, s390x_buffer::proofs::Extending::extends_same))]
 
 ghost use Rattle.std.specs.Prelude.{◌≡◌, ℕ, ◌+◌, ◌≤◌, ◌<◌, [], ◌∷◌, ◌++◌, true, None, Some, Option, length, nat_le, OnOk, IfErr};
 ghost use Rattle.s390x_base.specs.Regs.{number_of};

@@ -1,6 +1,6 @@
 pub mod Appending
 pub mod Branching
 pub mod Declared
-pub mod Keeping
+pub mod Extending
 pub mod Placing
 pub mod Sums

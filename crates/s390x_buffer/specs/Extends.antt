@@ -7,7 +7,7 @@ abbrev pub IsPrefix : {A : Type 0} → List A → List A → Type 0
 IsPrefix xs ys = take (length xs) ys ≡ xs
 
 -- every list of the first buffer begins that of the second, none of its labels is gone, and the count of blocks and the constants are the same
-pub record KeepsEntries (s t : BufferState) : Type 0 where
+pub record ExtendsEntries (s t : BufferState) : Type 0 where
   pub bytes : IsPrefix s.bytes t.bytes
   pub uses : IsPrefix s.uses t.uses
   pub traps : IsPrefix s.traps t.traps
@@ -23,10 +23,10 @@ pub record KeepsEntries (s t : BufferState) : Type 0 where
 
 -- and each label of the first buffer stays bound where it was, or unbound
 pub record Extends (s t : BufferState) : Type 0 where
-  pub entries : KeepsEntries s t
+  pub entries : ExtendsEntries s t
   pub labels : (l : ℕ) → l < length s.labels → get_or t.labels l None ≡ get_or s.labels l None
 
 -- the same of all labels but one, which the call may bind
-pub record KeepsOthers (label : ℕ) (s t : BufferState) : Type 0 where
-  pub entries : KeepsEntries s t
+pub record ExtendsExcept (label : ℕ) (s t : BufferState) : Type 0 where
+  pub entries : ExtendsEntries s t
   pub labels : (l : ℕ) → l < length s.labels → l ≢ label → get_or t.labels l None ≡ get_or s.labels l None

@@ -3,7 +3,7 @@ ghost use Rattle.std.specs.Prelude.{◌≡◌, ◌+◌, ◌<◌, ◌≤◌, ◌+
 ghost use Rattle.std.specs.Int.{to_be_bytes, w32, w64};
 ghost use Rattle.s390x_buffer.specs.Branches.{BranchesLead};
 ghost use Rattle.s390x_buffer.specs.Finish.{length_cause, patch_cause, finish_cause, FailsWithEither, Finished};
-ghost use Rattle.s390x_buffer.specs.Extends.{Extends, KeepsOthers};
+ghost use Rattle.s390x_buffer.specs.Extends.{Extends, ExtendsExcept};
 ghost use Rattle.s390x_buffer.specs.State.{BufferState, FailsWith, poisoned, mark_cause, put_cause, draw_cause, label_cause, handlers_cause, labels_below, constant_cause, new_cause, fresh_buffer, constant_of, constant_label, is_alignment, all_aligned, IsNoConstant, align_of, limit, label_limit};
 
 use crate::entries::{
@@ -54,7 +54,8 @@ impl Model for MachBuffer {
 
     ghost Value = { BufferState };
 
-    ghost view = { λ b. record { bytes = b.bytes.items; labels = b.labels.items; uses = b.uses.items; traps = b.traps.items; relocs = b.relocs.items; call_sites = b.call_sites.items; try_call_sites = list_map site_of b.try_call_sites.items; patchable_sites = b.patchable_sites.items; stack_maps = b.stack_maps.items; starts = b.starts.items; block_count = b.block_count; constants = list_map constant_of b.constants.items; failed = b.failed } };
+    ghost view = { λ b. record { bytes = b.bytes.items; labels = b.labels.items; uses = b.uses.items; traps = b.traps.items; relocs = b.relocs.items; call_sites = b.call_sites.items;
+        try_call_sites = list_map site_of b.try_call_sites.items; patchable_sites = b.patchable_sites.items; stack_maps = b.stack_maps.items; starts = b.starts.items; block_count = b.block_count; constants = list_map constant_of b.constants.items; failed = b.failed } };
 
     ghost invariant = { λ b. (list_length b.bytes.items < limit) × (list_length b.labels.items ≤ label_limit) × (b.block_count + list_length b.constants.items ≤ list_length b.labels.items) };
 }
@@ -315,7 +316,7 @@ impl MachBuffer {
         requires unbound { get_or self.old.labels label.0 None ≡ None }
         requires no_constant { IsNoConstant self.old label.0 }
         ensures answer { MatchResult result (λ _. (label_cause self.old label.0 ≡ None) × (self.new ≡ record self.old { labels = set self.old.labels label.0 (Some (length self.old.bytes)) })) (λ e. FailsWith (label_cause self.old label.0) e × (self.new ≡ poisoned self.old)) }
-        ensures kept { KeepsOthers label.0 self.old self.new }
+        ensures kept { ExtendsExcept label.0 self.old self.new }
     {
         if self.failed {
             return self.refuse(EmitError::Failed);
@@ -372,7 +373,7 @@ impl MachBuffer {
 
     /// Records the site of a call with a try at the current offset, with its frame's size in bytes and its handlers.
     /// Refused by `UnboundLabel` where a handler's label isn't this buffer's.
-    #[tactic(auto, using(crate::proofs::Keeping::extends_mark, crate::proofs::Keeping::extends_try_call_sites))]
+    #[tactic(auto, using(crate::proofs::Extending::extends_mark, crate::proofs::Extending::extends_try_call_sites))]
     pub fn add_try_call_site(
         &mut self,
         frame: u64,

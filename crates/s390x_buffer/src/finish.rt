@@ -103,7 +103,10 @@ pub fn place_and_patch(
 ) -> Result<Vec<CodeOffset>, EmitError>
     requires fits { constants_end (length bytes.old.items) (map constant_of constants.now) < limit }
     requires labels { block_count + length constants.now ≤ length labels.old.items }
-    ensures { let starts = constant_starts (length bytes.old.items) (map constant_of constants.now) in let all = bind_constants block_count starts labels.old.items in let unpatched = with_constants bytes.old.items (map constant_of constants.now) in MatchResult result (λ v. (uses_cause all uses.now unpatched ≡ None) × (v.items ≡ starts) × (labels.new.items ≡ all) × (bytes.new.items ≡ patch_all (offset_of_label all) uses.now unpatched)) (λ e. (e ≡ NoMemory) ⊎ (uses_cause all uses.now unpatched ≡ Some e)) }
+    ensures { let starts = constant_starts (length bytes.old.items) (map constant_of constants.now) in
+        let all = bind_constants block_count starts labels.old.items in
+        let unpatched = with_constants bytes.old.items (map constant_of constants.now) in
+        MatchResult result (λ v. (uses_cause all uses.now unpatched ≡ None) × (v.items ≡ starts) × (labels.new.items ≡ all) × (bytes.new.items ≡ patch_all (offset_of_label all) uses.now unpatched)) (λ e. (e ≡ NoMemory) ⊎ (uses_cause all uses.now unpatched ≡ Some e)) }
 {
     let Ok(starts) = append_constants(alloc, bytes, constants) else {
         return Err(EmitError::NoMemory);

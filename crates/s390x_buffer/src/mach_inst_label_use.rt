@@ -1,5 +1,6 @@
 //! What each kind of use of a label answers.
-ghost use Rattle.std.specs.Prelude.{◌≡◌, ℕ, List, Bool, IsTrue, false, length};
+ghost use Rattle.std.specs.Prelude.{◌≡◌, ℕ, ℤ, List, Option, Bool, IsTrue, false, length};
+ghost use Rattle.s390x_base.specs.declared.ir.Reloc.{Reloc};
 ghost use Rattle.s390x_buffer.specs.Patch.{max_pos_range, max_neg_range, patch_size};
 ghost use Rattle.s390x_buffer.specs.Relocs.{use_of_reloc};
 
@@ -15,17 +16,37 @@ pub trait MachInstLabelUse: Copy {
     /// The bytes that begin at an offset, patched to a label's offset.
     ghost patched: { Self → ℕ → ℕ → List ℕ → List ℕ };
 
+    /// The greatest distance, and the size of the least one, in bytes.
+    ghost longest: { Self → ℕ };
+    ghost longest_back: { Self → ℕ };
+
+    /// How many bytes a use has.
+    ghost size_of: { Self → ℕ };
+
+    /// Whether there is a veneer that reaches further, and its size in bytes.
+    ghost has_veneer: { Self → Bool };
+    ghost size_of_veneer: { Self → ℕ };
+
+    /// The size of the largest veneer, in bytes.
+    ghost largest_veneer: { ℕ };
+
+    /// The use that does what a relocation with an addend asks for, where there is one.
+    ghost of_reloc: { Reloc → ℤ → Option Self };
+
     /// The alignment of a use, in bytes.
     const ALIGN: CodeOffset;
 
     /// The greatest distance, in bytes.
-    fn max_pos_range(self) -> CodeOffset;
+    fn max_pos_range(self) -> CodeOffset
+        ensures { result ≡ longest self };
 
     /// The size of the least distance, in bytes.
-    fn max_neg_range(self) -> CodeOffset;
+    fn max_neg_range(self) -> CodeOffset
+        ensures { result ≡ longest_back self };
 
     /// How many bytes the use has.
-    fn patch_size(self) -> CodeOffset;
+    fn patch_size(self) -> CodeOffset
+        ensures { result ≡ size_of self };
 
     /// Patches the bytes of a use at an offset to a label's offset. The slice has the patch's
     /// size, and the distance is even and in range.
@@ -34,16 +55,20 @@ pub trait MachInstLabelUse: Copy {
         ensures { buffer.new ≡ patched self use_offset label_offset buffer.old };
 
     /// Whether there is a veneer that reaches further.
-    fn supports_veneer(self) -> bool;
+    fn supports_veneer(self) -> bool
+        ensures { result ≡ has_veneer self };
 
     /// The size of the veneer, in bytes.
-    fn veneer_size(self) -> CodeOffset;
+    fn veneer_size(self) -> CodeOffset
+        ensures { result ≡ size_of_veneer self };
 
     /// The size of the largest veneer, in bytes.
-    fn worst_case_veneer_size() -> CodeOffset;
+    fn worst_case_veneer_size() -> CodeOffset
+        ensures { result ≡ largest_veneer };
 
     /// The use that does what a relocation asks for, where there is one.
-    fn from_reloc(reloc: Reloc, addend: Addend) -> Option<Self>;
+    fn from_reloc(reloc: Reloc, addend: Addend) -> Option<Self>
+        ensures { result ≡ of_reloc reloc addend };
 }
 
 impl MachInstLabelUse for LabelUse {
@@ -53,6 +78,17 @@ impl MachInstLabelUse for LabelUse {
     ghost can_patch = { λ k n offset target. nat_eq n (size_of_use k) && is_in_reach k offset target };
 
     ghost patched = { λ k offset target bs. patch_bytes k 0 offset target bs };
+
+    ghost longest = { max_pos_range };
+    ghost longest_back = { max_neg_range };
+
+    ghost size_of = { size_of_use };
+
+    ghost has_veneer = { λ k. false };
+    ghost size_of_veneer = { λ k. 0 };
+    ghost largest_veneer = { 0 };
+
+    ghost of_reloc = { use_of_reloc };
 
     const ALIGN: CodeOffset = 2;
 

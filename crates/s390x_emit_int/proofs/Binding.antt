@@ -2,8 +2,8 @@
 use Rattle.std.proofs.Common.{◌≡◌, ℕ, ◌+◌, ◌<◌, ◌≤◌, ◌≢◌, [], ◌∷◌, ◌++◌, length, get_or, sym, ap, ◌∙◌, subst, arith, length-append, length-set, None, Some}
 use Rattle.std.proofs.lemmas.List.{get_or-set_other, get_or-set_same}
 use Rattle.s390x_buffer.specs.State.{BufferState}
-use Rattle.s390x_buffer.specs.Extends.{Extends, KeepsOthers}
-use Rattle.s390x_buffer.proofs.Keeping.{extends_on, keeps_bound}
+use Rattle.s390x_buffer.specs.Extends.{Extends, ExtendsExcept}
+use Rattle.s390x_buffer.proofs.Extending.{extends_on, extends_bound}
 use Rattle.s390x_buffer.specs.Patch.{offset_of_label, bound_offset}
 use Rattle.s390x_base.specs.Regs.{number_of}
 use Rattle.s390x_inst.specs.declared.inst.Inst.{Inst}
@@ -88,5 +88,5 @@ tree_bound (loop_node mask members rest) s n after off e tells =
     subst (λ x. Bound off x (length s.bytes) (loop_node mask members rest)) (sym e) (start_at, end_at, inner, subst (λ m. Bound off (n0 + 2 + fresh_labels members) m rest) b3 outer)
 
 -- a label that is drawn first, and bound behind another one, is none of those that stood
-pub bound_kept : (s first second bound : BufferState) (label : ℕ) → Extends s first → Extends first second → label ≡ length s.labels → KeepsOthers label second bound → Extends s bound
-bound_kept s first second bound label a b e k = keeps_bound s second bound label (extends_on s first second a b) (omega (arith, e)) k
+pub bound_kept : (s first second bound : BufferState) (label : ℕ) → Extends s first → Extends first second → label ≡ length s.labels → ExtendsExcept label second bound → Extends s bound
+bound_kept s first second bound label a b e k = extends_bound s second bound label (extends_on s first second a b) (omega (arith, e)) k

@@ -91,14 +91,14 @@ patch_leaves kind place target bs = (omega (arith, length-patch kind place place
     ends PCRel32Dbl place i h = h
 
 uses_fine : (May : ℕ → Type 0) (labels : List (Option ℕ)) (us : List LabelFixup) (from : ℕ) (bs : List ℕ) → ((l : ℕ) → May l → CanBeUsed labels l) → UsesStand May bs from us → length bs < limit → uses_cause labels us bs ≡ None
-uses_fine May labels [] from bs operands_valid all short = refl
-uses_fine May labels (u ∷ us) from bs operands_valid all short =
+uses_fine May labels [] from bs passes all short = refl
+uses_fine May labels (u ∷ us) from bs passes all short =
     let h = all.0 in
-    let l = operands_valid u.label.0 h.label in
+    let l = passes u.label.0 h.label in
     let long = length-patch u.kind u.offset u.offset (offset_of_label labels u.label.0) bs in
     let here : use_cause labels bs u ≡ None = none_of (is_bound labels u.label.0) _ l.bound (use_reaches u.kind u.offset (offset_of_label labels u.label.0) bs h.bears h.even l.even l.near h.within short) in
     let n = u.offset + patch_size u.kind in
-    both_none _ _ here (uses_fine May labels us n (patch_use (offset_of_label labels) u bs) operands_valid (uses_still May us n n bs (patch_use (offset_of_label labels) u bs) (patch_leaves u.kind u.offset (offset_of_label labels u.label.0) bs) (omega arith) all.1) (omega (arith, long)))
+    both_none _ _ here (uses_fine May labels us n (patch_use (offset_of_label labels) u bs) passes (uses_still May us n n bs (patch_use (offset_of_label labels) u bs) (patch_leaves u.kind u.offset (offset_of_label labels u.label.0) bs) (omega arith) all.1) (omega (arith, long)))
 
 stands_place : (n : ℕ) (o : Option ℕ) → Stands n o → (bound_offset o % 2 ≡ 0) × (bound_offset o ≤ n)
 stands_place n None h = (refl, omega arith)
@@ -135,14 +135,14 @@ pub record CanFinish (u : BufferState) : Type 0 where
   pub patched : patch_cause u ≡ None
 
 pub can_finish : (flags : IsaFlags) (ts : List Tree) (cs : List Constant) (u : BufferState) → u ≡ apply_all (fresh_buffer (length ts) cs) (function_fragments (length ts + length cs) 0 ts) → checked_cause flags ts cs ≡ None → CanFinish u
-can_finish flags ts cs u0 is operands_valid =
+can_finish flags ts cs u0 is passes =
     let b = length ts in
     let n = b + length cs in
     let s0 = fresh_buffer b cs in
     let ps = function_fragments n 0 ts in
     let u = apply_all s0 ps in
-    let rest = first_right (new_cause b cs) _ operands_valid in
-    let aligned : all_aligned cs ≡ true = aligned_constants _ _ _ (first_left (new_cause b cs) _ operands_valid) in
+    let rest = first_right (new_cause b cs) _ passes in
+    let aligned : all_aligned cs ≡ true = aligned_constants _ _ _ (first_left (new_cause b cs) _ passes) in
     let blocks : blocks_cause flags (declared_of ts cs) n ts ≡ None = first_left _ _ rest in
     let long : code_length_cause ts cs ≡ None = first_right (blocks_cause flags (declared_of ts cs) n ts) _ rest in
     let same : Same s0 u = same_run ps s0 in
@@ -190,7 +190,7 @@ can_finish flags ts cs u0 is operands_valid =
     subst CanFinish (sym is) done
 
 pub always_finishes : (flags : IsaFlags) (ts : List Tree) (cs : List Constant) → checked_cause flags ts cs ≡ None → finish_cause (apply_all (fresh_buffer (length ts) cs) (function_fragments (length ts + length cs) 0 ts)) ≡ None
-always_finishes flags ts cs operands_valid = let f = can_finish flags ts cs _ refl operands_valid in both_none _ _ f.short f.patched
+always_finishes flags ts cs passes = let f = can_finish flags ts cs _ refl passes in both_none _ _ f.short f.patched
 
 -- finishing answers the code, or want of memory
 pub finished_or_lacks : {T : Type 0} (P R : T → Type 0) (a b : Option EmitError) (r : Result T EmitError) → MatchResult r P (λ e. FailsWithEither a b e) → a ≡ None → b ≡ None → ((x : T) → P x → R x) → MatchResult r R (λ e. e ≡ NoMemory)
@@ -200,8 +200,8 @@ finished_or_lacks P R (Some c) b (Err e) m ha hb f = absurd (cc)
 
 -- at the beginning there is room for all
 pub fresh_takes : (flags : IsaFlags) (ts : List Tree) (cs : List Constant) → checked_cause flags ts cs ≡ None → put_cause (fresh_buffer (length ts) cs) (blocks_size ts) ≡ None
-fresh_takes flags ts cs operands_valid =
-    let rest = first_right (new_cause (length ts) cs) _ operands_valid in
+fresh_takes flags ts cs passes =
+    let rest = first_right (new_cause (length ts) cs) _ passes in
     let long : code_length_cause ts cs ≡ None = first_right (blocks_cause flags (declared_of ts cs) (length ts + length cs) ts) _ rest in
     let below : constants_end (blocks_size ts) cs < limit = ltb-true (constants_end (blocks_size ts) cs) limit (unless_true (nat_lt (constants_end (blocks_size ts) cs) limit) LabelOutOfRange long) in
     put_none (fresh_buffer (length ts) cs) (blocks_size ts) refl (omega (arith, below, end-ge (blocks_size ts) cs))

@@ -107,7 +107,7 @@ code_is (t ∷ ts) cs off n agree held names bound =
 -- what was emitted, as one buffer has it
 pub record Emitted (flags : IsaFlags) (ts : List Tree) (cs : List Constant) (u : BufferState) : Type 0 where
   pub is : u ≡ apply_all (fresh_buffer (length ts) cs) (function_fragments (length ts + length cs) 0 ts)
-  pub operands_valid : blocks_cause flags (declared_of ts cs) (length ts + length cs) ts ≡ None
+  pub checked : blocks_cause flags (declared_of ts cs) (length ts + length cs) ts ≡ None
 
 pub image_of : (flags : IsaFlags) (ts : List Tree) (cs : List Constant) (u : BufferState) (f : MachBufferFinalized) → Emitted flags ts cs u → Finished u f → IsFinishedCode ts cs f
 image_of flags ts cs u0 f emitted fin0 =
@@ -140,7 +140,7 @@ image_of flags ts cs u0 f emitted fin0 =
     ∙ ap bound_offset (middle_label u.block_count (starts_of_constants u) u.labels c (omega (arith, starts)) enough)
     ∙ ap (λ m. get_or (constant_starts m u.constants) c 0) size
     ∙ ap (λ x. get_or (constant_starts (blocks_size ts) x) c 0) same.constants in
-    let names : TreesName b (length cs) ts = subst (λ k. TreesName b k ts) (length-map cs (λ (c : Constant). c.align)) (all_names flags (declared_of ts cs) n ts emitted.operands_valid) in
+    let names : TreesName b (length cs) ts = subst (λ k. TreesName b k ts) (length-map cs (λ (c : Constant). c.align)) (all_names flags (declared_of ts cs) n ts emitted.checked) in
     let code = function_code (unlinked ts cs) ts in
     let body : patched off u ≡ code = patched_run ps s0 off tt wide ∙ code_is ts cs off n agree held names bound in
     let sized : length code ≡ blocks_size ts = ap length (sym body) ∙ length-patch_all off u.uses u.bytes ∙ size in

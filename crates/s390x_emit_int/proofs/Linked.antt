@@ -20,11 +20,11 @@ use Rattle.s390x_emit_int.specs.Headline.{linked, RunsAsTyped}
 use Rattle.s390x_emit_int.proofs.Linking.{stands_as_code}
 
 pub runs_as_typed : (flags : IsaFlags) (ts : List Tree) (cs : List Constant) (f : MachBufferFinalized) (base : ℕ) (symbols : Symbols) → checked_cause flags ts cs ≡ None → BlocksInRange ts → IsFinishedCode ts cs f → link_cause f base symbols ≡ None → RunsAsTyped symbols ts cs (record { base = base; bytes = filled base symbols f.relocs.items f.bytes.items })
-runs_as_typed flags ts cs f base symbols operands_valid ranges image links b lt =
+runs_as_typed flags ts cs f base symbols passes ranges image links b lt =
     let environment = linked symbols base ts cs in
     let code : CodeImage = record { base = base; bytes = filled base symbols f.relocs.items f.bytes.items } in
     let n = length ts + length cs in
     let D = declared_of ts cs in
-    let checked : blocks_cause flags D n ts ≡ None = first_left _ _ (first_right (new_cause (length ts) cs) (first_emit_cause (blocks_cause flags D n ts) (code_length_cause ts cs)) operands_valid) in
-    let stands = stands_as_code flags ts cs f base symbols operands_valid image links (λ image. checked_steps flags environment ts n image checked ranges) in
+    let checked : blocks_cause flags D n ts ≡ None = first_left _ _ (first_right (new_cause (length ts) cs) (first_emit_cause (blocks_cause flags D n ts) (code_length_cause ts cs)) passes) in
+    let stands = stands_as_code flags ts cs f base symbols passes image links (λ image. checked_steps flags environment ts n image checked ranges) in
     block_holds (function_layout environment ts code) (function_placed environment ts code stands) b lt

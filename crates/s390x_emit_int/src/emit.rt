@@ -1,5 +1,5 @@
 //! Emitting one instruction, or bytes, into a buffer of the caller's.
-#![tactic(auto, using(s390x_buffer::proofs::Keeping::extends_on, s390x_buffer::proofs::Keeping::extends_same))]
+#![tactic(auto, using(s390x_buffer::proofs::Extending::extends_on, s390x_buffer::proofs::Extending::extends_same))]
 
 ghost use Rattle.std.specs.Prelude.{◌≡◌, ◌+◌, ◌-◌, ◌<◌, ◌≤◌, ◌⊎◌, length, MatchResult, IsTrue, OnErr, OnOk, None, Some, true};
 ghost use Rattle.s390x_base.specs.declared.error.EmitError.TheVariants.{NoMemory};

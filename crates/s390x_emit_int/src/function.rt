@@ -93,7 +93,7 @@ fn emit_checked(
     requires start { state.now.nominal ≡ 0 }
     requires few { length function.now.blocks.items ≤ 4294967295 }
     requires fresh { sink ≡ fresh_buffer (length function.now.blocks.items) (constants_of function.now) }
-    requires operands_valid { checked_cause flags (trees_of state.now function.now) (constants_of function.now) ≡ None }
+    requires checked { checked_cause flags (trees_of state.now function.now) (constants_of function.now) ≡ None }
     ensures { MatchResult result (λ f. IsFinishedCode (trees_of state.now function.now) (constants_of function.now) f × BlocksInRange (trees_of state.now function.now)) (λ e. e ≡ NoMemory) }
 {
     emit_blocks(&mut sink, state, &function.blocks)?;

@@ -1,5 +1,5 @@
 //! Emitting one instruction that is no `Loop`.
-#![tactic(auto, using(s390x_buffer::proofs::Keeping::extends_on, s390x_buffer::proofs::Keeping::extends_same))]
+#![tactic(auto, using(s390x_buffer::proofs::Extending::extends_on, s390x_buffer::proofs::Extending::extends_same))]
 
 ghost use Rattle.std.specs.Prelude.{◌≡◌, ℕ, ◌<◌, ◌&&◌, [], ◌∷◌, None, true, length, OnOk};
 ghost use Rattle.s390x_base.specs.Regs.{number_of};

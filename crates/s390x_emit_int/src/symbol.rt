@@ -1,5 +1,5 @@
 //! Emitting the load of a symbol's address.
-#![tactic(auto, using(s390x_buffer::proofs::Keeping::extends_on, s390x_buffer::proofs::Keeping::extends_same))]
+#![tactic(auto, using(s390x_buffer::proofs::Extending::extends_on, s390x_buffer::proofs::Extending::extends_same))]
 
 ghost use Rattle.std.specs.Prelude.{◌≡◌, [], ◌∷◌, None, true, OnOk};
 ghost use Rattle.std.specs.Int.{w64, to_be_bytes};

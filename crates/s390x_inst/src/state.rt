@@ -1,6 +1,8 @@
 //! Frames, facilities and the state of emission.
-ghost use Rattle.std.specs.Prelude.{◌≡◌, ◌+◌, None};
+ghost use Rattle.std.specs.Prelude.{◌≡◌, ◌+◌, ℕ, Option, None};
 ghost use Rattle.s390x_inst.specs.State.{fresh_emission};
+ghost use Rattle.s390x_inst.specs.declared.state.FrameLayout.{FrameLayout};
+ghost use Rattle.s390x_inst.specs.declared.calls.CallConv.{CallConv};
 
 use crate::calls::CallConv;
 use std::marker::Model;
@@ -9,7 +11,7 @@ use std::marker::Model;
 pub const REG_SAVE_AREA_SIZE: u32 = 160;
 
 /// The layout of a frame. Sizes are in bytes.
-#[derive(Clone, Copy, PartialEq, Eq, Debug, Default)]
+#[derive(Clone, Copy, PartialEq, Eq, Debug)]
 pub struct FrameLayout {
     pub incoming_args_size: u32,
     pub tail_args_size: u32,
@@ -34,13 +36,49 @@ impl FrameLayout {
     }
 }
 
+impl Default for FrameLayout {
+    ghost use Rattle.s390x_inst.specs.State.{empty_layout};
+
+    ghost is_default = { λ layout. layout ≡ empty_layout };
+
+    /// A frame of no bytes, and no saved register.
+    fn default() -> FrameLayout {
+        FrameLayout {
+            incoming_args_size: 0,
+            tail_args_size: 0,
+            clobber_size: 0,
+            fixed_frame_storage_size: 0,
+            stackslots_size: 0,
+            outgoing_args_size: 0,
+            first_saved_gpr: None,
+            saved_fprs: 0,
+        }
+    }
+}
+
 /// Which facilities beyond the base the code may use.
-#[derive(Clone, Copy, PartialEq, Eq, Debug, Default)]
+#[derive(Clone, Copy, PartialEq, Eq, Debug)]
 pub struct IsaFlags {
     pub has_mie3: bool,
     pub has_mie4: bool,
     pub has_vxrs_ext2: bool,
     pub has_vxrs_ext3: bool,
+}
+
+impl Default for IsaFlags {
+    ghost use Rattle.s390x_inst.specs.State.{base_facilities};
+
+    ghost is_default = { λ flags. flags ≡ base_facilities };
+
+    /// No facility beyond the base.
+    fn default() -> IsaFlags {
+        IsaFlags {
+            has_mie3: false,
+            has_mie4: false,
+            has_vxrs_ext2: false,
+            has_vxrs_ext3: false,
+        }
+    }
 }
 
 /// What emission knows of the machine.
@@ -59,7 +97,7 @@ impl EmitInfo {
 }
 
 /// The state of emission between instructions. Contracts see it as its sizes, in bytes, its stack map and its layout.
-#[derive(Clone, Copy, PartialEq, Eq, Debug, Default)]
+#[derive(Clone, Copy, PartialEq, Eq, Debug)]
 pub struct EmitState {
     nominal_sp_offset: u32,
     outgoing_sp_offset: u32,
@@ -78,19 +116,57 @@ impl Model for EmitState {
     ghost inverse = { λ e. record { nominal_sp_offset = e.nominal; outgoing_sp_offset = e.outgoing; incoming_args_size = e.incoming; stack_map = e.stack_map; frame_layout = e.layout } };
 }
 
+impl Default for EmitState {
+    ghost use Rattle.s390x_inst.specs.State.{empty_emission};
+
+    ghost is_default = { λ state. state ≡ empty_emission };
+
+    /// No sizes, no stack map, and the frame of no bytes.
+    fn default() -> EmitState {
+        EmitState {
+            nominal_sp_offset: 0,
+            outgoing_sp_offset: 0,
+            incoming_args_size: 0,
+            stack_map: None,
+            frame_layout: FrameLayout::default(),
+        }
+    }
+}
+
 /// What a driver of emission needs of its state.
 pub trait MachInstEmitState {
     /// The state at the beginning of a function.
-    fn new(layout: FrameLayout, conv: CallConv) -> Self;
+    ghost fresh: { FrameLayout → CallConv → Self };
 
-    /// Replaces the stack map, for the safepoint that comes next.
-    fn pre_safepoint(&mut self, user_stack_map: Option<u32>);
+    /// The state with another stack map.
+    ghost with_stack_map: { Option ℕ → Self → Self };
 
     /// The layout of the frame.
-    fn frame_layout(&self) -> &FrameLayout;
+    ghost layout_of: { Self → FrameLayout };
+
+    /// The state at the beginning of a function.
+    fn new(layout: FrameLayout, conv: CallConv) -> Self
+        ensures { result ≡ fresh layout conv };
+
+    /// Replaces the stack map, for the safepoint that comes next.
+    fn pre_safepoint(&mut self, user_stack_map: Option<u32>)
+        ensures { self.new ≡ with_stack_map user_stack_map self.old };
+
+    /// The layout of the frame.
+    fn frame_layout(&self) -> &FrameLayout
+        ensures { result.now ≡ layout_of self.now };
 }
 
 impl MachInstEmitState for EmitState {
+    ghost use Rattle.s390x_inst.specs.Emission.{Emission};
+    ghost use Rattle.s390x_inst.specs.State.{fresh_emission as fresh_state};
+
+    ghost fresh = { fresh_state };
+
+    ghost with_stack_map = { λ map e. record e { stack_map = map } };
+
+    ghost layout_of = { λ e. e.layout };
+
     /// No sizes and no stack map; the incoming arguments are those of the layout, but for the convention `Tail`.
     fn new(layout: FrameLayout, conv: CallConv) -> EmitState
         ensures { result ≡ fresh_emission layout conv }

@@ -57,7 +57,7 @@ stands = record {
   even = refl;
   fits = omega arith;
   short = omega arith;
-  operands_valid = checked_steps base (unlinked trees []) trees 2 image (checked base) ranges;
+  valid = checked_steps base (unlinked trees []) trees 2 image (checked base) ranges;
   reached = reaches;
   stand = λ c lt. absurd (omega arith);
 }

@@ -78,7 +78,7 @@ function_placed environment ts image h = record {
             ∙ ap (λ l. c.earlier ++ l) (append_assoc (step_bytes (offsets environment ts) ((offsets environment ts).step k) s) c.later h.constants);
         size = place_next (function_steps ts) k s e;
         traps = step_codes ts k s e;
-        operands_valid = h.operands_valid k s e;
+        valid = h.valid k s e;
         reached = h.reached k s e;
       };
   first_steps = λ b is. first_within 0 ts b;

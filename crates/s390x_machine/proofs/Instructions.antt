@@ -213,7 +213,7 @@ step_runs L k (Back mask target) b operands_valid = loop_runs b mask target refl
 step_runs L k (Break mask target) b operands_valid = loop_runs b mask target refl refl (small_mask mask operands_valid.0) operands_valid.1
 
 pub step_runs_placed : (L : Layout) → AllCodeAt L → (k : ℕ) (s : Step) → slice_get L.steps k ≡ Some s → StepRuns L k
-step_runs_placed L all k s at = let p = all.steps k s at in step_runs L k s (record { all = all; at = at; placed = p }) p.operands_valid
+step_runs_placed L all k s at = let p = all.steps k s at in step_runs L k s (record { all = all; at = at; placed = p }) p.valid
 
 -- each step by itself
 pub step_holds : (L : Layout) → AllCodeAt L → (k : ℕ) (s : Step) → slice_get L.steps k ≡ Some s → StepHolds L k

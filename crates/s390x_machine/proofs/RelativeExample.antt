@@ -67,7 +67,7 @@ stands = record {
   even = refl;
   fits = omega arith;
   short = omega arith;
-  operands_valid = checked_steps base environment trees 2 image (checked base) ranges;
+  valid = checked_steps base environment trees 2 image (checked base) ranges;
   reached = reaches;
   stand = constant_stands;
 }

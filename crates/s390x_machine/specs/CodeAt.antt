@@ -109,7 +109,7 @@ pub record CodeAt (L : Layout) (k : ℕ) (s : Step) : Type 0 where
   pub bytes : L.image.bytes ≡ earlier ++ (step_bytes L.offsets (L.offsets.step k) s ++ later)
   pub size : L.offsets.step (suc k) ≡ L.offsets.step k + step_size s
   pub traps : (offset : ℕ) → L.offsets.step k ≤ offset → offset < L.offsets.step (suc k) → first_code L.traps offset ≡ first_code (step_traps (L.offsets.step k) s) offset
-  pub operands_valid : IsValidStep L s
+  pub valid : IsValidStep L s
   pub reached : PartsReach L (L.offsets.step k) (step_parts s)
 
 -- each step's code lies where its offset says, and the first one at the beginning; each block stands where its first step does, and each constant. The image lies at an even address

@@ -29,6 +29,6 @@ pub record StandsAsCode (environment : LinkEnvironment) (ts : List Tree) (image 
   pub even : image.base % 2 ≡ 0
   pub fits : image.base + length image.bytes ≤ 2 ^ 64
   pub short : length image.bytes < 2 ^ 31
-  pub operands_valid : (k : ℕ) (s : Step) → slice_get (function_steps ts) k ≡ Some s → IsValidStep (function_layout environment ts image) s
+  pub valid : (k : ℕ) (s : Step) → slice_get (function_steps ts) k ≡ Some s → IsValidStep (function_layout environment ts image) s
   pub reached : (k : ℕ) (s : Step) → slice_get (function_steps ts) k ≡ Some s → PartsReach (function_layout environment ts image) (step_offset (function_steps ts) k) (step_parts s)
   pub stand : (c : ℕ) → c < length environment.aligns → ConstantStands (function_layout environment ts image) c

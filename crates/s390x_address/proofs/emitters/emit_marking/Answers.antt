@@ -1,4 +1,4 @@
-use Rattle.s390x_buffer.proofs.Keeping.{extends_on, extends_mark}
+use Rattle.s390x_buffer.proofs.Extending.{extends_on, extends_mark}
 use Rattle.s390x_address.proofs.emitters.emit_marking.Goals as goal
 
 pub returns-in-Err-clause-kept : goal.returns-in-Err-clause-kept

@@ -1,7 +1,7 @@
 use Rattle.std.proofs.Common.{◌+◌, ap, sym, ◌∙◌}
 use Rattle.std.proofs.lemmas.Bool.{and_parts}
 use Rattle.s390x_buffer.specs.State.{put_cause}
-use Rattle.s390x_buffer.proofs.Keeping.{extends_on}
+use Rattle.s390x_buffer.proofs.Extending.{extends_on}
 use Rattle.s390x_typed_steps.specs.Causes.{declared_in}
 use Rattle.s390x_typed_steps.specs.Parts.{operand_parts, helpers_parts, parts_size}
 use Rattle.s390x_address.specs.Plans.{far_helper, address_helper, may_stand, address_stands}

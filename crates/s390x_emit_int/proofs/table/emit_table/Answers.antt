@@ -1,5 +1,5 @@
 use Rattle.std.proofs.Common.{arith}
-use Rattle.s390x_buffer.proofs.Keeping.{extends_on, keeps_bound}
+use Rattle.s390x_buffer.proofs.Extending.{extends_on, extends_bound}
 use Rattle.s390x_base.specs.Regs.{number_of}
 use Rattle.s390x_emit_int.proofs.Tables.{table_passed, words_begin_passed}
 use Rattle.s390x_emit_int.proofs.table.emit_table.Goals as goal
@@ -7,7 +7,7 @@ use Rattle.s390x_emit_int.proofs.table.emit_table.Goals as goal
 pub returns-clause-kept : goal.returns-clause-kept
 returns-clause-kept c =
     let rows = extends_on _ _ _ c.get_label.ensures.kept c.put_table_rows.ensures.kept in
-    extends_on _ _ _ (keeps_bound _ _ _ _ rows (omega (arith, c.in_ok-table.ensures.answer.1)) c.bind_label.ensures.kept) c.put_words.ensures.kept
+    extends_on _ _ _ (extends_bound _ _ _ _ rows (omega (arith, c.in_ok-table.ensures.answer.1)) c.bind_label.ensures.kept) c.put_words.ensures.kept
 
 pub returns-clause-lacks : goal.returns-clause-lacks
 returns-clause-lacks c = λ after p numbers.
@@ -16,4 +16,4 @@ returns-clause-lacks c = λ after p numbers.
 
 pub returns-in_err-bind_label-clause-kept : goal.returns-in_err-bind_label-clause-kept
 returns-in_err-bind_label-clause-kept c =
-    keeps_bound _ _ _ _ (extends_on _ _ _ c.get_label.ensures.kept c.put_table_rows.ensures.kept) (omega (arith, c.in_ok-table.ensures.answer.1)) c.bind_label.ensures.kept
+    extends_bound _ _ _ _ (extends_on _ _ _ c.get_label.ensures.kept c.put_table_rows.ensures.kept) (omega (arith, c.in_ok-table.ensures.answer.1)) c.bind_label.ensures.kept

@@ -1,6 +1,6 @@
 use Rattle.std.proofs.Common.{◌≡◌, ◌*◌, ◌-◌, get_or, refl, arith}
 use Rattle.s390x_base.specs.declared.ir.MachLabel.{MachLabel}
-use Rattle.s390x_buffer.proofs.Keeping.{extends_on}
+use Rattle.s390x_buffer.proofs.Extending.{extends_on}
 use Rattle.s390x_emit_int.proofs.Lacking.{lacks_again}
 use Rattle.s390x_emit_int.proofs.Tables.{words_more, word_length, word_passed, words_passed}
 use Rattle.s390x_emit_int.proofs.table.put_words.Goals as goal

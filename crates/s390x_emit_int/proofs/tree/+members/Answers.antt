@@ -1,5 +1,5 @@
 use Rattle.std.proofs.Common.{length, arith, ap, sym, ◌∙◌, subst, drop, ◌+◌, ◌≡◌}
-use Rattle.s390x_buffer.proofs.Keeping.{extends_on, keeps_bound}
+use Rattle.s390x_buffer.proofs.Extending.{extends_on, extends_bound}
 use Rattle.s390x_emit_int.proofs.Binding.{bound_kept}
 use Rattle.s390x_typed_steps.specs.Resolved.{resolved_instruction}
 use Rattle.s390x_typed_steps.specs.Tree.{empty, loop_node, tree}
@@ -85,7 +85,7 @@ pub emit_loop-returns-clause-kept : goal.emit_loop-returns-clause-kept
 emit_loop-returns-clause-kept t c =
     let begun = bound_kept c.args.sink.now c.get_label.new.self c.get_label-2.new.self c.bind_label.new.self c.in_ok-start.start.0 c.get_label.ensures.kept c.get_label-2.ensures.kept c.in_ok-start.ensures.answer.1 c.bind_label.ensures.kept in
     let branched = extends_on _ _ _ begun (extends_on _ _ _ c.emit_members.ensures.kept (extends_on _ _ _ c.start_step.ensures.kept c.put_branch.ensures.kept)) in
-    keeps_bound _ _ _ _ branched (omega (arith, c.get_label.ensures.kept.entries.label_count, c.in_ok-end.ensures.answer.1)) c.bind_label-2.ensures.kept
+    extends_bound _ _ _ _ branched (omega (arith, c.get_label.ensures.kept.entries.label_count, c.in_ok-end.ensures.answer.1)) c.bind_label-2.ensures.kept
 
 pub emit_members-returns-in_err-emit_inst-clause-lacks : goal.emit_members-returns-in_err-emit_inst-clause-lacks
 emit_members-returns-in_err-emit_inst-clause-lacks t c = λ flags depth p.

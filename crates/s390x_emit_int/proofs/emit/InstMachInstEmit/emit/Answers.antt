@@ -1,5 +1,5 @@
 use Rattle.std.proofs.Common.{sym, ◌∙◌, inl, refl, subst, IsTrue}
-use Rattle.s390x_buffer.proofs.Keeping.{extends_on, extends_mark}
+use Rattle.s390x_buffer.proofs.Extending.{extends_on, extends_mark}
 use Rattle.s390x_typed_steps.specs.Tree.{empty, prepend}
 use Rattle.s390x_emit_int.proofs.Short.{puts_few, emit_passed}
 use Rattle.s390x_emit_int.proofs.emit.InstMachInstEmit.emit.Goals as goal

@@ -2,7 +2,7 @@
 use Rattle.std.proofs.Common.{◌≡◌, ℕ, zero, suc, ◌+◌, ◌<◌, ◌≤◌, ◌≢◌, List, [], ◌∷◌, ◌++◌, length, get_or, set, Option, Some, None, refl, sym, ap, ◌∙◌, subst, arith}
 use Rattle.std.proofs.lemmas.List.{get_or-set_other, length-append, length-set}
 use Rattle.s390x_buffer.specs.State.{BufferState, TryCallSite, poisoned}
-use Rattle.s390x_buffer.specs.Extends.{Extends, KeepsEntries, KeepsOthers, IsPrefix}
+use Rattle.s390x_buffer.specs.Extends.{Extends, ExtendsEntries, ExtendsExcept, IsPrefix}
 use Rattle.s390x_buffer.specs.declared.entries.LabelFixup.{LabelFixup}
 use Rattle.s390x_buffer.specs.declared.entries.TrapEntry.{TrapEntry}
 use Rattle.s390x_buffer.specs.declared.entries.RelocEntry.{RelocEntry}
@@ -28,7 +28,7 @@ prefix_on (x ∷ xs) (y ∷ ys) (z ∷ zs) p q =
 same_count : (n : ℕ) → n ≤ n
 same_count n = omega arith
 
-entries_same : (s : BufferState) → KeepsEntries s s
+entries_same : (s : BufferState) → ExtendsEntries s s
 entries_same s = record {
   bytes = prefix_refl s.bytes;
   uses = prefix_refl s.uses;
@@ -47,7 +47,7 @@ entries_same s = record {
 pub extends_same : (s : BufferState) → Extends s s
 extends_same s = record { entries = entries_same s; labels = λ l lt. refl }
 
-entries_mark : (s : BufferState) → KeepsEntries s (poisoned s)
+entries_mark : (s : BufferState) → ExtendsEntries s (poisoned s)
 entries_mark s = record {
   bytes = prefix_refl s.bytes;
   uses = prefix_refl s.uses;
@@ -66,7 +66,7 @@ entries_mark s = record {
 pub extends_mark : (s t : BufferState) → t ≡ poisoned s → Extends s t
 extends_mark s t e = subst (Extends s) (sym e) (record { entries = entries_mark s; labels = λ l lt. refl })
 
-entries_on : (s t u : BufferState) → KeepsEntries s t → KeepsEntries t u → KeepsEntries s u
+entries_on : (s t u : BufferState) → ExtendsEntries s t → ExtendsEntries t u → ExtendsEntries s u
 entries_on s t u a b = record {
   bytes = prefix_on _ t.bytes _ a.bytes b.bytes;
   uses = prefix_on _ t.uses _ a.uses b.uses;
@@ -92,13 +92,13 @@ other_label : (n label l : ℕ) → n ≤ label → l < n → l ≢ label
 other_label n label l le lt e = omega (arith, le, lt, e)
 
 -- where a label is bound that the first buffer didn't have
-pub keeps_bound : (s t u : BufferState) (label : ℕ) → Extends s t → length s.labels ≤ label → KeepsOthers label t u → Extends s u
-keeps_bound s t u label a new b = record {
+pub extends_bound : (s t u : BufferState) (label : ℕ) → Extends s t → length s.labels ≤ label → ExtendsExcept label t u → Extends s u
+extends_bound s t u label a new b = record {
   entries = entries_on s t u a.entries b.entries;
   labels = λ l lt. b.labels l (omega (arith, lt, a.entries.label_count)) (other_label (length s.labels) label l new lt) ∙ a.labels l lt;
 }
 
-entries_bytes : (s : BufferState) (xs : List ℕ) → KeepsEntries s (record s { bytes = s.bytes ++ xs })
+entries_bytes : (s : BufferState) (xs : List ℕ) → ExtendsEntries s (record s { bytes = s.bytes ++ xs })
 entries_bytes s xs = record {
   bytes = prefix_more s.bytes xs;
   uses = prefix_refl s.uses;
@@ -117,7 +117,7 @@ entries_bytes s xs = record {
 pub extends_bytes : (s : BufferState) (xs : List ℕ) → Extends s (record s { bytes = s.bytes ++ xs })
 extends_bytes s xs = record { entries = entries_bytes s xs; labels = λ l lt. refl }
 
-entries_uses : (s : BufferState) (xs : List LabelFixup) → KeepsEntries s (record s { uses = s.uses ++ xs })
+entries_uses : (s : BufferState) (xs : List LabelFixup) → ExtendsEntries s (record s { uses = s.uses ++ xs })
 entries_uses s xs = record {
   bytes = prefix_refl s.bytes;
   uses = prefix_more s.uses xs;
@@ -136,7 +136,7 @@ entries_uses s xs = record {
 pub extends_uses : (s : BufferState) (xs : List LabelFixup) → Extends s (record s { uses = s.uses ++ xs })
 extends_uses s xs = record { entries = entries_uses s xs; labels = λ l lt. refl }
 
-entries_traps : (s : BufferState) (xs : List TrapEntry) → KeepsEntries s (record s { traps = s.traps ++ xs })
+entries_traps : (s : BufferState) (xs : List TrapEntry) → ExtendsEntries s (record s { traps = s.traps ++ xs })
 entries_traps s xs = record {
   bytes = prefix_refl s.bytes;
   uses = prefix_refl s.uses;
@@ -155,7 +155,7 @@ entries_traps s xs = record {
 pub extends_traps : (s : BufferState) (xs : List TrapEntry) → Extends s (record s { traps = s.traps ++ xs })
 extends_traps s xs = record { entries = entries_traps s xs; labels = λ l lt. refl }
 
-entries_relocs : (s : BufferState) (xs : List RelocEntry) → KeepsEntries s (record s { relocs = s.relocs ++ xs })
+entries_relocs : (s : BufferState) (xs : List RelocEntry) → ExtendsEntries s (record s { relocs = s.relocs ++ xs })
 entries_relocs s xs = record {
   bytes = prefix_refl s.bytes;
   uses = prefix_refl s.uses;
@@ -174,7 +174,7 @@ entries_relocs s xs = record {
 pub extends_relocs : (s : BufferState) (xs : List RelocEntry) → Extends s (record s { relocs = s.relocs ++ xs })
 extends_relocs s xs = record { entries = entries_relocs s xs; labels = λ l lt. refl }
 
-entries_call_sites : (s : BufferState) (xs : List ℕ) → KeepsEntries s (record s { call_sites = s.call_sites ++ xs })
+entries_call_sites : (s : BufferState) (xs : List ℕ) → ExtendsEntries s (record s { call_sites = s.call_sites ++ xs })
 entries_call_sites s xs = record {
   bytes = prefix_refl s.bytes;
   uses = prefix_refl s.uses;
@@ -193,7 +193,7 @@ entries_call_sites s xs = record {
 pub extends_call_sites : (s : BufferState) (xs : List ℕ) → Extends s (record s { call_sites = s.call_sites ++ xs })
 extends_call_sites s xs = record { entries = entries_call_sites s xs; labels = λ l lt. refl }
 
-entries_try_call_sites : (s : BufferState) (xs : List TryCallSite) → KeepsEntries s (record s { try_call_sites = s.try_call_sites ++ xs })
+entries_try_call_sites : (s : BufferState) (xs : List TryCallSite) → ExtendsEntries s (record s { try_call_sites = s.try_call_sites ++ xs })
 entries_try_call_sites s xs = record {
   bytes = prefix_refl s.bytes;
   uses = prefix_refl s.uses;
@@ -212,7 +212,7 @@ entries_try_call_sites s xs = record {
 pub extends_try_call_sites : (s : BufferState) (xs : List TryCallSite) → Extends s (record s { try_call_sites = s.try_call_sites ++ xs })
 extends_try_call_sites s xs = record { entries = entries_try_call_sites s xs; labels = λ l lt. refl }
 
-entries_patchable_sites : (s : BufferState) (xs : List PatchEntry) → KeepsEntries s (record s { patchable_sites = s.patchable_sites ++ xs })
+entries_patchable_sites : (s : BufferState) (xs : List PatchEntry) → ExtendsEntries s (record s { patchable_sites = s.patchable_sites ++ xs })
 entries_patchable_sites s xs = record {
   bytes = prefix_refl s.bytes;
   uses = prefix_refl s.uses;
@@ -231,7 +231,7 @@ entries_patchable_sites s xs = record {
 pub extends_patchable_sites : (s : BufferState) (xs : List PatchEntry) → Extends s (record s { patchable_sites = s.patchable_sites ++ xs })
 extends_patchable_sites s xs = record { entries = entries_patchable_sites s xs; labels = λ l lt. refl }
 
-entries_stack_maps : (s : BufferState) (xs : List MapEntry) → KeepsEntries s (record s { stack_maps = s.stack_maps ++ xs })
+entries_stack_maps : (s : BufferState) (xs : List MapEntry) → ExtendsEntries s (record s { stack_maps = s.stack_maps ++ xs })
 entries_stack_maps s xs = record {
   bytes = prefix_refl s.bytes;
   uses = prefix_refl s.uses;
@@ -250,7 +250,7 @@ entries_stack_maps s xs = record {
 pub extends_stack_maps : (s : BufferState) (xs : List MapEntry) → Extends s (record s { stack_maps = s.stack_maps ++ xs })
 extends_stack_maps s xs = record { entries = entries_stack_maps s xs; labels = λ l lt. refl }
 
-entries_starts : (s : BufferState) (xs : List ℕ) → KeepsEntries s (record s { starts = s.starts ++ xs })
+entries_starts : (s : BufferState) (xs : List ℕ) → ExtendsEntries s (record s { starts = s.starts ++ xs })
 entries_starts s xs = record {
   bytes = prefix_refl s.bytes;
   uses = prefix_refl s.uses;
@@ -277,7 +277,7 @@ drawn_kept (x ∷ ls) (suc l) lt = drawn_kept ls l (omega (arith, lt))
 more_labels : (ls : List (Option ℕ)) → length ls ≤ length (ls ++ None ∷ [])
 more_labels ls = omega (arith, length-append ls (None ∷ []))
 
-entries_draw : (s : BufferState) → KeepsEntries s (record s { labels = s.labels ++ None ∷ [] })
+entries_draw : (s : BufferState) → ExtendsEntries s (record s { labels = s.labels ++ None ∷ [] })
 entries_draw s = record {
   bytes = prefix_refl s.bytes;
   uses = prefix_refl s.uses;
@@ -299,7 +299,7 @@ extends_draw s = record { entries = entries_draw s; labels = drawn_kept s.labels
 as_many : (ls : List (Option ℕ)) (b : ℕ) (v : Option ℕ) → length ls ≤ length (set ls b v)
 as_many ls b v = omega (arith, length-set ls b v)
 
-entries_bind : (s : BufferState) (b : ℕ) (v : Option ℕ) → KeepsEntries s (record s { labels = set s.labels b v })
+entries_bind : (s : BufferState) (b : ℕ) (v : Option ℕ) → ExtendsEntries s (record s { labels = set s.labels b v })
 entries_bind s b v = record {
   bytes = prefix_refl s.bytes;
   uses = prefix_refl s.uses;
@@ -315,8 +315,8 @@ entries_bind s b v = record {
   constants = refl;
 }
 
-pub extends_bind : (s : BufferState) (b : ℕ) (v : Option ℕ) → KeepsOthers b s (record s { labels = set s.labels b v })
+pub extends_bind : (s : BufferState) (b : ℕ) (v : Option ℕ) → ExtendsExcept b s (record s { labels = set s.labels b v })
 extends_bind s b v = record { entries = entries_bind s b v; labels = λ l lt other. get_or-set_other s.labels b l v None other }
 
-pub others_mark : (s t : BufferState) (b : ℕ) → t ≡ poisoned s → KeepsOthers b s t
-others_mark s t b e = let k = extends_mark s t e in record { entries = k.entries; labels = λ l lt other. k.labels l lt }
+pub except_mark : (s t : BufferState) (b : ℕ) → t ≡ poisoned s → ExtendsExcept b s t
+except_mark s t b e = let k = extends_mark s t e in record { entries = k.entries; labels = λ l lt other. k.labels l lt }
