@@ -54,8 +54,21 @@ impl Model for MachBuffer {
 
     ghost Value = { BufferState };
 
-    ghost view = { λ b. record { bytes = b.bytes.items; labels = b.labels.items; uses = b.uses.items; traps = b.traps.items; relocs = b.relocs.items; call_sites = b.call_sites.items;
-        try_call_sites = list_map site_of b.try_call_sites.items; patchable_sites = b.patchable_sites.items; stack_maps = b.stack_maps.items; starts = b.starts.items; block_count = b.block_count; constants = list_map constant_of b.constants.items; failed = b.failed } };
+    ghost view = { λ b. record {
+      bytes = b.bytes.items;
+      labels = b.labels.items;
+      uses = b.uses.items;
+      traps = b.traps.items;
+      relocs = b.relocs.items;
+      call_sites = b.call_sites.items;
+      try_call_sites = list_map site_of b.try_call_sites.items;
+      patchable_sites = b.patchable_sites.items;
+      stack_maps = b.stack_maps.items;
+      starts = b.starts.items;
+      block_count = b.block_count;
+      constants = list_map constant_of b.constants.items;
+      failed = b.failed;
+    } };
 
     ghost invariant = { λ b. (list_length b.bytes.items < limit) × (list_length b.labels.items ≤ label_limit) × (b.block_count + list_length b.constants.items ≤ list_length b.labels.items) };
 }

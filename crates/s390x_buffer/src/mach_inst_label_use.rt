@@ -18,6 +18,7 @@ pub trait MachInstLabelUse: Copy {
 
     /// The greatest distance, and the size of the least one, in bytes.
     ghost longest: { Self → ℕ };
+
     ghost longest_back: { Self → ℕ };
 
     /// How many bytes a use has.
@@ -25,6 +26,7 @@ pub trait MachInstLabelUse: Copy {
 
     /// Whether there is a veneer that reaches further, and its size in bytes.
     ghost has_veneer: { Self → Bool };
+
     ghost size_of_veneer: { Self → ℕ };
 
     /// The size of the largest veneer, in bytes.
@@ -80,12 +82,15 @@ impl MachInstLabelUse for LabelUse {
     ghost patched = { λ k offset target bs. patch_bytes k 0 offset target bs };
 
     ghost longest = { max_pos_range };
+
     ghost longest_back = { max_neg_range };
 
     ghost size_of = { size_of_use };
 
     ghost has_veneer = { λ k. false };
+
     ghost size_of_veneer = { λ k. 0 };
+
     ghost largest_veneer = { 0 };
 
     ghost of_reloc = { use_of_reloc };
