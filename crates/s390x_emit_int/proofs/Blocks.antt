@@ -1,17 +1,19 @@
 -- What the check let pass stays passed from block to block.
-use Rattle.std.proofs.Common.{◌≡◌, ℕ, suc, ◌+◌, ◌<◌, List, ◌∷◌, length, map, get_or, drop, None, false, refl, sym, ap, ◌∙◌, subst, arith, drop-cons}
+use Rattle.std.proofs.Common.{◌≡◌, ℕ, suc, ◌+◌, ◌<◌, List, ◌∷◌, length, map, get_or, drop, None, false, nat_eq, refl, sym, ap, ◌∙◌, subst, arith, drop-cons}
 use Rattle.s390x_inst.specs.Emission.{Emission}
 use Rattle.s390x_inst.specs.declared.state.IsaFlags.{IsaFlags}
 use Rattle.s390x_buffer.specs.State.{BufferState, put_cause, limit}
 use Rattle.s390x_inst.specs.declared.function.Block.{Block}
 use Rattle.s390x_typed_steps.specs.Tree.{Tree}
-use Rattle.s390x_typed_steps.specs.Sizes.{blocks_size}
-use Rattle.s390x_typed_steps.specs.Causes.{Declared, declared_in, fresh_labels, tree_cause, blocks_cause, block_cause}
+use Rattle.s390x_base.specs.declared.error.EmitError.TheVariants.{BadStackState}
+use Rattle.s390x_typed_steps.specs.Sizes.{tree_size, blocks_size}
+use Rattle.s390x_typed_steps.specs.Causes.{Declared, first_emit_cause, unless, declared_in, fresh_labels, nominal_behind, tree_cause, blocks_cause, block_cause}
 use Rattle.s390x_typed_steps.proofs.Causes.{first_left, first_right}
 use Rattle.s390x_emit_int.specs.Fragments.{Bind, apply, apply_all}
 use Rattle.s390x_emit_int.specs.Emission.{fragments}
 use Rattle.s390x_emit_int.specs.Function.{tree_of}
-use Rattle.s390x_emit_int.specs.Room.{HasRoom, TreePassed}
+use Rattle.s390x_emit_int.specs.Room.{HasRoom, MembersPassed, TreePassed}
+use Rattle.s390x_emit_int.proofs.Emitting.{both_none}
 use Rattle.s390x_emit_int.proofs.Lacking.{put_parts}
 use Rattle.s390x_emit_int.proofs.Passing.{turns_declared, bind_turns, tree_turns}
 
@@ -31,7 +33,8 @@ split_at state bs k v lt at =
     ap (map (tree_of state)) (drop-cons bs k v lt ∙ ap (λ x. x ∷ drop (suc k) bs) (sym at) ∙ ap (λ m. v ∷ drop m bs) k1)
 
 -- the next block
-pub block_passed : (state : Emission) (flags : IsaFlags) (bs : List Block) (k : ℕ) (D : Declared) (v : Block) (s s1 : BufferState) → k < length bs → v ≡ get_or bs k v → s1 ≡ apply s (Bind k) → k < s.block_count → HasRoom s → BlocksPassed flags s D (map (tree_of state) (drop k bs)) → TreePassed flags s1 0 0 0 (tree_of state v)
+pub block_passed : (state : Emission) (flags : IsaFlags) (bs : List Block) (k : ℕ) (D : Declared) (v : Block) (s s1 : BufferState) → k < length bs → v ≡ get_or bs k v → s1 ≡ apply s (Bind k) → k < s.block_count → HasRoom s → BlocksPassed flags s D (map (tree_of state) (drop k bs)) →
+    MembersPassed s1 0 0 (tree_size (tree_of state v)) (block_cause flags (declared_in s1) (length s1.labels) (tree_of state v))
 block_passed state flags bs k D v s s1 lt at e below room p =
     let t = tree_of state v in
     let rest = map (tree_of state) (drop (k + 1) bs) in
@@ -42,8 +45,56 @@ block_passed state flags bs k D v s s1 lt at e below room p =
       blocks = omega (arith, o.blocks, o.labels, room);
       label = λ d. omega (arith, below, o.labels, room);
       short = omega (arith, o.bytes, q.short);
-      passed = ap (λ E. tree_cause flags E (length s1.labels) 0 0 t) (turns_declared s s1 0 0 o ∙ q.declared) ∙ ap (λ m. tree_cause flags D m 0 0 t) (o.labels ∙ (omega arith)) ∙ first_left (tree_cause flags D (length s.labels) 0 0 t) _ (first_left (block_cause flags D (length s.labels) t) _ q.passed);
+      passed = ap (λ E. block_cause flags E (length s1.labels) t) (turns_declared s s1 0 0 o ∙ q.declared) ∙ ap (λ m. block_cause flags D m t) (o.labels ∙ (omega arith)) ∙ first_left (block_cause flags D (length s.labels) t) _ q.passed;
     }
+
+-- the members of a block that passes
+pub members_passed : (flags : IsaFlags) (s : BufferState) (nominal : ℕ) (t x : Tree) → nominal ≡ 0 → x ≡ t → MembersPassed s 0 0 (tree_size t) (block_cause flags (declared_in s) (length s.labels) t) → TreePassed flags s 0 nominal 0 x
+members_passed flags s nominal t x start same p =
+    let q : TreePassed flags s 0 0 0 t = record {
+      unpoisoned = p.unpoisoned;
+      blocks = p.blocks;
+      label = p.label;
+      short = p.short;
+      passed = first_left (tree_cause flags (declared_in s) (length s.labels) 0 0 t) _ p.passed;
+    } in
+    subst (λ m. TreePassed flags s 0 m 0 x) (sym start) (subst (λ y. TreePassed flags s 0 0 0 y) (sym same) q)
+
+-- a block whose members have no cause, and which ends at the nominal size 0, has none
+pub block_none : (flags : IsaFlags) (D : Declared) (n nominal end : ℕ) (t x : Tree) → nominal ≡ 0 → x ≡ t → tree_cause flags D n nominal 0 x ≡ None → end ≡ nominal_behind nominal x → unless (nat_eq end 0) BadStackState ≡ None → block_cause flags D n t ≡ None
+block_none flags D n nominal end t x start same members behind ends =
+    let there : tree_cause flags D n 0 0 t ≡ None = sym (ap (λ m. tree_cause flags D n m 0 x) start ∙ ap (tree_cause flags D n 0 0) same) ∙ members in
+    let last : end ≡ nominal_behind 0 t = behind ∙ ap (λ m. nominal_behind m x) start ∙ ap (nominal_behind 0) same in
+    both_none _ _ there (sym (ap (λ m. unless (nat_eq m 0) BadStackState) last) ∙ ends)
+
+-- and one that passes ends there
+pub block_ends : (flags : IsaFlags) (D : Declared) (n nominal end : ℕ) (t x : Tree) → nominal ≡ 0 → x ≡ t → end ≡ nominal_behind nominal x → block_cause flags D n t ≡ None → unless (nat_eq end 0) BadStackState ≡ None
+block_ends flags D n nominal end t x start same behind none =
+    let last : end ≡ nominal_behind 0 t = behind ∙ ap (λ m. nominal_behind m x) start ∙ ap (nominal_behind 0) same in
+    ap (λ m. unless (nat_eq m 0) BadStackState) last ∙ first_right (tree_cause flags D n 0 0 t) _ none
+
+-- the cause of the blocks behind one without a cause is that of all that were left before it
+pub more_blocks : (state : Emission) (flags : IsaFlags) (bs : List Block) (k : ℕ) (v : Block) (s s1 s2 : BufferState) → k < length bs → v ≡ get_or bs k v → s1 ≡ apply s (Bind k) → s2 ≡ apply_all s1 (fragments (length s1.labels) 0 (tree_of state v)) →
+    block_cause flags (declared_in s1) (length s1.labels) (tree_of state v) ≡ None →
+    blocks_cause flags (declared_in s2) (length s2.labels) (map (tree_of state) (drop (k + 1) bs)) ≡ blocks_cause flags (declared_in s) (length s.labels) (map (tree_of state) (drop k bs))
+more_blocks state flags bs k v s s1 s2 lt at e1 e2 none =
+    let t = tree_of state v in
+    let rest = map (tree_of state) (drop (k + 1) bs) in
+    let o = bind_turns s s1 k e1 in
+    let m = tree_turns s1 s2 (length s1.labels) 0 t refl e2 in
+    let D = declared_in s in
+    let count : length s1.labels ≡ length s.labels = o.labels ∙ (omega arith) in
+    let labels : length s2.labels ≡ length s.labels + fresh_labels t = omega (arith, count, m.labels) in
+    let here : block_cause flags D (length s.labels) t ≡ None = sym (ap (λ E. block_cause flags E (length s1.labels) t) (turns_declared s s1 0 0 o) ∙ ap (λ l. block_cause flags D l t) count) ∙ none in
+    let later = blocks_cause flags D (length s.labels + fresh_labels t) rest in
+    ap (λ E. blocks_cause flags E (length s2.labels) rest) (turns_declared s1 s2 _ _ m ∙ turns_declared s s1 0 0 o)
+    ∙ ap (λ l. blocks_cause flags D l rest) labels
+    ∙ ap (λ c. first_emit_cause c later) (sym here)
+    ∙ ap (blocks_cause flags D (length s.labels)) (sym (split_at state bs k v lt at))
+
+-- what is declared stays behind a block
+pub block_declared : (k : ℕ) (t : Tree) (s s1 s2 : BufferState) → s1 ≡ apply s (Bind k) → s2 ≡ apply_all s1 (fragments (length s1.labels) 0 t) → declared_in s2 ≡ declared_in s
+block_declared k t s s1 s2 e1 e2 = turns_declared s1 s2 _ _ (tree_turns s1 s2 (length s1.labels) 0 t refl e2) ∙ turns_declared s s1 0 0 (bind_turns s s1 k e1)
 
 -- and those behind it
 pub others_passed : (state : Emission) (flags : IsaFlags) (bs : List Block) (k : ℕ) (D : Declared) (v : Block) (s s1 s2 : BufferState) → k < length bs → v ≡ get_or bs k v → s1 ≡ apply s (Bind k) → s2 ≡ apply_all s1 (fragments (length s1.labels) 0 (tree_of state v)) → BlocksPassed flags s D (map (tree_of state) (drop k bs)) → BlocksPassed flags s2 D (map (tree_of state) (drop (k + 1) bs))

@@ -205,3 +205,19 @@ fresh_takes flags ts cs passes =
     let long : code_length_cause ts cs ≡ None = first_right (blocks_cause flags (declared_of ts cs) (length ts + length cs) ts) _ rest in
     let below : constants_end (blocks_size ts) cs < limit = ltb-true (constants_end (blocks_size ts) cs) limit (unless_true (nat_lt (constants_end (blocks_size ts) cs) limit) LabelOutOfRange long) in
     put_none (fresh_buffer (length ts) cs) (blocks_size ts) refl (omega (arith, below, end-ge (blocks_size ts) cs))
+
+-- the emitted blocks have the bytes that were counted
+pub emitted_size : (ts : List Tree) (cs : List Constant) (u : BufferState) → u ≡ apply_all (fresh_buffer (length ts) cs) (function_fragments (length ts + length cs) 0 ts) → length u.bytes ≡ blocks_size ts
+emitted_size ts cs u is =
+    let n = length ts + length cs in
+    ap (λ x. length x.bytes) is ∙ bytes_run (function_fragments n 0 ts) (fresh_buffer (length ts) cs) ∙ (omega (arith, function_put ts n 0))
+
+-- a function is refused by the length where nothing else refuses it
+pub length_last : (flags : IsaFlags) (ts : List Tree) (cs : List Constant) → new_cause (length ts) cs ≡ None → blocks_cause flags (declared_of ts cs) (length ts + length cs) ts ≡ None → checked_cause flags ts cs ≡ code_length_cause ts cs
+length_last flags ts cs new blocks =
+    ap (λ o. first_emit_cause o (first_emit_cause (blocks_cause flags (declared_of ts cs) (length ts + length cs) ts) (code_length_cause ts cs))) new ∙ ap (λ o. first_emit_cause o (code_length_cause ts cs)) blocks
+
+-- want of memory may be named beside the cause
+pub or_cause : {T : Type 0} (P : T → Type 0) (c : Option EmitError) (r : Result T EmitError) → c ≡ None → MatchResult r P (λ e. e ≡ NoMemory) → MatchResult r (λ x. (c ≡ None) × P x) (λ e. (e ≡ NoMemory) ⊎ (c ≡ Some e))
+or_cause P c (Ok x) none h = (none, h)
+or_cause P c (Err e) none h = inl h

@@ -5,6 +5,7 @@ pub mod Orderly
 pub mod Encoding
 pub mod Runs
 pub mod Passing
+pub mod Emitting
 pub mod Patching
 pub mod Blocks
 pub mod Branches

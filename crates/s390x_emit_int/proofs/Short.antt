@@ -1,8 +1,9 @@
 -- How many bytes an instruction has at most, and that emission fails by want of memory alone where no cause stands.
-use Rattle.std.proofs.Common.{ℕ, ◌*◌, ◌++◌, length-append, ◌≡◌, ◌+◌, ◌≤◌, Bool, true, false, cond, nat_lt, List, [], ◌∷◌, Option, Some, None, length, refl, ap, ◌∙◌, arith, ltb-true}
+use Rattle.std.proofs.Common.{ℕ, ◌*◌, ◌++◌, length-append, ◌≡◌, ◌+◌, ◌≤◌, Bool, true, false, cond, nat_lt, List, [], ◌∷◌, Option, Some, None, length, refl, ap, ◌∙◌, arith, ltb-true, ◌<◌, ap₂, ◌⊎◌, inl, inr, sym}
+use Rattle.std.proofs.lemmas.Bool.{lt-ltb}
 use Rattle.s390x_base.specs.declared.trap.TrapKind.{TrapKind}
 use Rattle.s390x_base.specs.declared.error.EmitError.{EmitError}
-use Rattle.s390x_base.specs.declared.error.EmitError.TheVariants.{LabelOutOfRange, Failed}
+use Rattle.s390x_base.specs.declared.error.EmitError.TheVariants.{LabelOutOfRange, Failed, NoMemory}
 use Rattle.s390x_format.specs.Formats.{length_of}
 use Rattle.s390x_format.proofs.FormatFacts.{length_small}
 use Rattle.s390x_inst.specs.declared.inst.Inst.{Inst}
@@ -11,7 +12,8 @@ use Rattle.s390x_inst.specs.declared.args.MemArg.{MemArg}
 use Rattle.s390x_inst.specs.declared.args.MemArg.TheVariants.{Label, RegOffset}
 use Rattle.s390x_inst.specs.declared.inst.Inst.TheVariants.{Loop', JTSequence, Mov64SImm32, LoadAddr, CondBreak, Jump, CondBr, IndirectBr, Ret, LabelAddress, LoadSymbolReloc, Trap, TrapIf, Debugtrap}
 use Rattle.s390x_inst.specs.declared.state.IsaFlags.{IsaFlags}
-use Rattle.s390x_buffer.specs.State.{BufferState, limit}
+use Rattle.s390x_buffer.specs.State.{BufferState, Constant, limit}
+use Rattle.s390x_buffer.specs.Extends.{Extends}
 use Rattle.s390x_typed_steps.specs.SingleInstruction.{SingleInstruction, single_instruction, stop_code}
 use Rattle.s390x_typed_steps.specs.MachineInstruction.{MachineInstruction}
 use Rattle.s390x_typed_steps.specs.Memory.{StorageForm, RxForm, MemoryInstruction, memory, type_of, storage_row, address_form, fault_code}
@@ -20,14 +22,16 @@ use Rattle.s390x_typed_steps.specs.Resolved.{resolved_instruction}
 use Rattle.s390x_typed_steps.specs.Parts.{CodePart, branch_parts, row_part, access_parts, trap_here, relative_part, relative_parts, operand_parts, helper_parts, helpers_parts, memory_parts, memory_or, parts_or, parts_size}
 use Rattle.s390x_typed_steps.specs.Sizes.{instruction_size, tree_size}
 use Rattle.s390x_typed_steps.specs.Tree.{Tree, empty, leaf, prepend}
-use Rattle.s390x_typed_steps.specs.Causes.{first_emit_cause, unless, declared_in, tree_cause}
+use Rattle.s390x_typed_steps.specs.Causes.{Declared, first_emit_cause, unless, aligns_of, declared_in, tree_cause}
 use Rattle.s390x_typed_steps.proofs.Causes.{first_left, first_right, unless_true}
 use Rattle.s390x_address.proofs.Lacking.{size_append}
-use Rattle.s390x_emit_int.specs.Fragments.{apply_all}
-use Rattle.s390x_emit_int.specs.Emission.{own_fragments}
+use Rattle.s390x_emit_int.specs.Fragments.{StartStep, apply, apply_all}
+use Rattle.s390x_emit_int.specs.Emission.{fragments, own_fragments}
 use Rattle.s390x_emit_int.specs.Instruction.{emit_cause, is_short}
 use Rattle.s390x_emit_int.specs.Room.{HasRoom, TreePassed}
-use Rattle.s390x_emit_int.proofs.Runs.{leaf_grows}
+use Rattle.s390x_emit_int.proofs.Runs.{leaf_grows, tree_grows}
+use Rattle.s390x_emit_int.proofs.Trees.{prepend_run}
+use Rattle.s390x_emit_int.proofs.Imaging.{bytes_run}
 
 row_few : (x : SingleInstruction) (code : Option TrapKind) → parts_size (row_part x.row code ∷ []) ≤ 44
 row_few x None = let small = length_small x.row.format in omega (arith, small)
@@ -156,3 +160,46 @@ emit_passed flags nominal s x room h =
       short = ltb-true (length s.bytes + tree_size x) limit t.2;
       passed = t.1;
     }
+
+-- an instruction has the bytes that were counted
+own_size : (state : Emission) (i : Inst) (s : BufferState) (n after : ℕ) → n ≡ length s.labels → length (apply_all s (own_fragments n after (prepend state i empty))).bytes ≡ length s.bytes + tree_size (prepend state i empty)
+own_size state i s n after e =
+    let step = prepend state i empty in
+    let own = own_fragments n after step in
+    let s1 = apply s StartStep in
+    let same : length s1.bytes ≡ length s.bytes = refl in
+    let whole = (tree_grows step s n after e).bytes in
+    let run : length (apply_all s (fragments n after step)).bytes ≡ length (apply_all s1 own).bytes = ap (λ x. length x.bytes) (prepend_run state i empty s n after) in
+    omega (arith, whole, run, same, bytes_run own s1, bytes_run own s)
+
+-- the first cause, by what is declared and was counted
+pub counted_cause : (flags : IsaFlags) (nominal : ℕ) (s : BufferState) (D : Declared) (labels bytes : ℕ) (x : Tree) → s.failed ≡ false → D ≡ declared_in s → labels ≡ length s.labels → bytes ≡ length s.bytes →
+    first_emit_cause (tree_cause flags D labels nominal 0 x) (unless (nat_lt (bytes + tree_size x) limit) LabelOutOfRange) ≡ emit_cause flags nominal s x
+counted_cause flags nominal s D labels bytes x unpoisoned declared l b =
+    let of : Declared → ℕ → ℕ → Option EmitError = λ E n m. first_emit_cause (tree_cause flags E n nominal 0 x) (unless (nat_lt (m + tree_size x) limit) LabelOutOfRange) in
+    ap (λ E. of E labels bytes) declared
+    ∙ ap (λ n. of (declared_in s) n bytes) l
+    ∙ ap (λ m. of (declared_in s) (length s.labels) m) b
+    ∙ sym (ap (λ f. cond f (Some Failed) (of (declared_in s) (length s.labels) (length s.bytes))) unpoisoned)
+
+-- what was emitted without a cause, and ends below the limit, has none
+pub emit_none : (flags : IsaFlags) (state : Emission) (i : Inst) (s t : BufferState) (n : ℕ) → s.failed ≡ false → tree_cause flags (declared_in s) (length s.labels) state.nominal 0 (prepend state i empty) ≡ None →
+    t ≡ apply_all s (own_fragments (length s.labels) 0 (prepend state i empty)) → n ≡ length t.bytes → n < limit → emit_cause flags state.nominal s (prepend state i empty) ≡ None
+emit_none flags state i s t n unpoisoned cause is end below =
+    let step = prepend state i empty in
+    let size : length t.bytes ≡ length s.bytes + tree_size step = ap (λ x. length x.bytes) is ∙ own_size state i s (length s.labels) 0 refl in
+    let short : length s.bytes + tree_size step < limit = omega (arith, end, size, below) in
+    sym (counted_cause flags state.nominal s (declared_in s) (length s.labels) (length s.bytes) step unpoisoned refl refl refl)
+    ∙ ap (λ o. first_emit_cause o (unless (nat_lt (length s.bytes + tree_size step) limit) LabelOutOfRange)) cause
+    ∙ ap (λ b. unless b LabelOutOfRange) (lt-ltb (length s.bytes + tree_size step) limit short)
+
+declared_by : ℕ → List Constant → Declared
+declared_by n cs = record { blocks = n; aligns = aligns_of cs }
+
+-- what is declared stays
+pub declared_kept : (s t : BufferState) → Extends s t → declared_in t ≡ declared_in s
+declared_kept s t kept = ap₂ (λ n cs. declared_by n cs) kept.entries.block_count kept.entries.constants
+
+-- the first cause, or want of memory
+pub or_memory : (c d : Option EmitError) (e : EmitError) → c ≡ d → (e ≡ NoMemory) ⊎ (c ≡ Some e) → (e ≡ NoMemory) ⊎ (d ≡ Some e)
+or_memory c d e same h = elim h [ inl m ↦ inl m | inr x ↦ inr (sym same ∙ x) ]

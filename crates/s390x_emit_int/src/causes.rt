@@ -1,12 +1,13 @@
 //! Why an instruction is refused.
-ghost use Rattle.std.specs.Prelude.{◌≡◌, ◌≤◌, ◌&&◌, None, Some};
+ghost use Rattle.std.specs.Prelude.{◌≡◌, ◌≤◌, ◌&&◌, length, None, Some};
 ghost use Rattle.s390x_base.specs.declared.error.EmitError.TheVariants.{BadRegister, UnboundLabel};
-ghost use Rattle.s390x_typed_steps.specs.Causes.{first_emit_cause, unless, declared_in, target_label_cause, labels_cause, cause_or, memory_cause_or, branch_cause, instruction_cause, stack_cause, table_cause};
+ghost use Rattle.s390x_typed_steps.specs.Causes.{first_emit_cause, unless, declared_in, target_label_cause, labels_cause, cause_or, memory_cause_or, branch_cause, facility_cause, instruction_cause, instruction_fresh_labels, numbers_cause, stack_cause, table_cause};
 ghost use Rattle.s390x_typed_steps.specs.Memory.{memory};
 ghost use Rattle.s390x_typed_steps.specs.Resolved.{resolved_instruction};
 ghost use Rattle.s390x_typed_steps.specs.SingleInstruction.{single_instruction};
 ghost use Rattle.s390x_typed_steps.specs.General.{is_general, is_nonzero, is_scratch};
 
+use crate::check::fresh_labels;
 use crate::memory::find_memory;
 use crate::single_instruction::find_single_instruction;
 use crate::stack::stack_cause;
@@ -109,8 +110,8 @@ fn table_cause(
     }
 }
 
-// The first cause of an instruction that names a place, goes elsewhere or ends the run.
-fn branch_cause(blocks: u32, depth: u32, inst: &Inst) -> Option<EmitError>
+/// The first cause of an instruction that names a place, goes elsewhere or ends the run.
+pub fn branch_cause(blocks: u32, depth: u32, inst: &Inst) -> Option<EmitError>
     ensures { result ≡ branch_cause blocks depth inst.now }
 {
     match inst {
@@ -173,6 +174,35 @@ fn later_cause(state: &EmitState, sink: &MachBuffer, depth: u32, inst: &Inst) ->
     match stack_cause(state, depth, inst) {
         Some(error) => Some(error),
         None => other_cause(state, sink, depth, inst),
+    }
+}
+
+// Why the labels that an instruction draws have no numbers.
+fn numbers_cause(sink: &MachBuffer, inst: &Inst) -> Option<EmitError>
+    ensures { result ≡ numbers_cause (length sink.now.labels) (instruction_fresh_labels inst.now) }
+{
+    cause_unless(
+        sink.label_count() + fresh_labels(inst) < 4294967297,
+        EmitError::LabelOutOfRange,
+    )
+}
+
+/// A cause by the facilities, the stack sizes or the labels of an instruction that is no `Loop`.
+pub fn outer_cause(
+    flags: IsaFlags,
+    sink: &MachBuffer,
+    state: &EmitState,
+    depth: u32,
+    inst: &Inst,
+) -> Option<EmitError>
+    ensures { result ≡ first_emit_cause (facility_cause flags inst.now) (first_emit_cause (stack_cause state.now.nominal depth inst.now) (numbers_cause (length sink.now.labels) (instruction_fresh_labels inst.now))) }
+{
+    if !flags.has(inst.available_in_isa()) {
+        return Some(EmitError::MissingFacility);
+    }
+    match stack_cause(state, depth, inst) {
+        Some(error) => Some(error),
+        None => numbers_cause(sink, inst),
     }
 }
 

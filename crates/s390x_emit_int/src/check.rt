@@ -82,8 +82,8 @@ fn size_of(state: &EmitState, inst: &Inst) -> u64
     }
 }
 
-// How many labels an instruction draws that is no `Loop`.
-fn fresh_labels(inst: &Inst) -> u64
+/// How many labels an instruction draws that is no `Loop`.
+pub fn fresh_labels(inst: &Inst) -> u64
     ensures value { result ≡ instruction_fresh_labels inst.now }
     ensures few { result ≤ 2 }
 {
@@ -134,8 +134,8 @@ fn check_leaf(
     }
 }
 
-// A loop opens: its nesting, and its two labels.
-fn open_loop(t: Totals, depth: u32) -> Result<Totals, EmitError>
+/// A loop opens: its nesting, and its two labels.
+pub fn open_loop(t: Totals, depth: u32) -> Result<Totals, EmitError>
     requires { IsCounted t }
     ensures { MatchResult result (λ r. (first_emit_cause (nesting_cause depth) (numbers_cause t.labels 2) ≡ None) × Adds t r 2 0 × (depth < 8)) (λ e. first_emit_cause (nesting_cause depth) (numbers_cause t.labels 2) ≡ Some e) }
 {

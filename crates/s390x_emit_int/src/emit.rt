@@ -1,10 +1,13 @@
 //! Emitting one instruction, or bytes, into a buffer of the caller's.
 #![tactic(auto, using(s390x_buffer::proofs::Extending::extends_on, s390x_buffer::proofs::Extending::extends_same))]
 
-ghost use Rattle.std.specs.Prelude.{◌≡◌, ◌+◌, ◌-◌, ◌<◌, ◌≤◌, ◌⊎◌, length, MatchResult, IsTrue, OnErr, OnOk, None, Some, true};
-ghost use Rattle.s390x_base.specs.declared.error.EmitError.TheVariants.{NoMemory};
+ghost use Rattle.std.specs.Prelude.{◌≡◌, ◌+◌, ◌-◌, ◌<◌, ◌≤◌, ◌⊎◌, length, MatchResult, IsTrue, OnErr, OnOk, None, Some, true, false, nat_lt};
+ghost use Rattle.s390x_base.specs.declared.error.EmitError.TheVariants.{NoMemory, LabelOutOfRange};
 ghost use Rattle.s390x_buffer.specs.Extends.{Extends};
-ghost use Rattle.s390x_buffer.specs.State.{FailsWith, poisoned, put_cause};
+ghost use Rattle.s390x_buffer.specs.State.{FailsWith, poisoned, put_cause, limit};
+ghost use Rattle.s390x_typed_steps.specs.Causes.{first_emit_cause, unless, declared_in, tree_cause};
+ghost use Rattle.s390x_typed_steps.specs.Sizes.{tree_size};
+ghost use Rattle.s390x_emit_int.specs.Totals.{IsCounted};
 ghost use Rattle.s390x_typed_steps.specs.Tree.{empty, prepend};
 ghost use Rattle.s390x_emit_int.specs.Emission.{own_fragments};
 ghost use Rattle.s390x_emit_int.specs.Instruction.{emit_cause, is_short};
@@ -17,7 +20,7 @@ use crate::check::{Totals, check_inst};
 use crate::stack::advance;
 use crate::tree::emit_inst;
 use s390x_address::emitters::LIMIT;
-use s390x_base::{EmitError, MachLabel, TrapCode};
+use s390x_base::{CodeOffset, EmitError, MachLabel, TrapCode};
 use s390x_buffer::MachBuffer;
 use s390x_inst::{EmitInfo, EmitState, Inst, IsaFlags};
 use std::alloc::Global;
@@ -81,38 +84,66 @@ pub fn put_with_trap(
     }
 }
 
-// Why an instruction can't be emitted into this buffer.
-fn cause(sink: &MachBuffer, flags: IsaFlags, state: &EmitState, inst: &Inst) -> Option<EmitError>
-    ensures cause { result ≡ emit_cause flags state.now.nominal sink.now (prepend state.now inst.now empty) }
-    ensures room { result ≡ None → HasRoom sink.now }
+// What an instruction is refused by, of which emission was refused by an error, where so many labels and bytes were in use before: the first cause, or
+// want of memory.
+fn refusal(
+    flags: IsaFlags,
+    sink: &MachBuffer,
+    state: &EmitState,
+    used: Totals,
+    inst: &Inst,
+    error: EmitError,
+) -> EmitError
+    requires counted { IsCounted used }
+    requires lacks { let step = prepend state.now inst.now empty in first_emit_cause (tree_cause flags (declared_in sink.now) used.labels state.now.nominal 0 step) (unless (nat_lt (used.bytes + tree_size step) limit) LabelOutOfRange) ≡ None → error ≡ NoMemory }
+    ensures { let step = prepend state.now inst.now empty in (result ≡ NoMemory) ⊎ (first_emit_cause (tree_cause flags (declared_in sink.now) used.labels state.now.nominal 0 step) (unless (nat_lt (used.bytes + tree_size step) limit) LabelOutOfRange) ≡ Some result) }
 {
-    if sink.is_failed() {
-        return Some(EmitError::Failed);
-    }
-    let used = Totals {
-        labels: sink.label_count(),
-        bytes: u64::from(sink.cur_offset()),
-    };
     match check_inst(flags, state, sink, used, 0, inst) {
-        Ok(sum) if sum.bytes < LIMIT => None,
-        Ok(_) => Some(EmitError::LabelOutOfRange),
-        Err(error) => Some(error),
+        Ok(sum) if sum.bytes < LIMIT => error,
+        Ok(_) => EmitError::LabelOutOfRange,
+        Err(cause) => cause,
     }
 }
 
-// Appends an instruction, and goes on behind it.
+// Appends an instruction, where no cause refuses it, and goes on behind it. It answers the length then.
 fn emit_and_advance(
+    flags: IsaFlags,
+    sink: &mut MachBuffer,
+    state: &mut EmitState,
+    inst: &Inst,
+) -> Result<CodeOffset, EmitError>
+    requires { HasRoom sink.old }
+    ensures answer { MatchResult result (λ n. (sink.new ≡ apply_all sink.old (own_fragments (length sink.old.labels) 0 (prepend state.old inst.now empty))) × (state.new ≡ state_after state.old inst.now) × (n ≡ length sink.new.bytes) × (n < limit)) (λ _. state.new ≡ state.old) }
+    ensures cause { OnOk result (tree_cause flags (declared_in sink.old) (length sink.old.labels) state.old.nominal 0 (prepend state.old inst.now empty) ≡ None) }
+    ensures lacks { TreePassed flags sink.old 0 state.old.nominal 0 (prepend state.old inst.now empty) → LacksMemory result }
+    ensures kept { Extends sink.old sink.new }
+{
+    emit_inst(flags, sink, state, 0, inst, MachLabel(0))?;
+    advance(state, inst)?;
+    Ok(sink.cur_offset())
+}
+
+// Appends an instruction to a buffer that bears no mark, or answers its first cause.
+fn emit_in(
+    flags: IsaFlags,
     sink: &mut MachBuffer,
     state: &mut EmitState,
     inst: &Inst,
 ) -> Result<(), EmitError>
-    requires { HasRoom sink.old }
-    ensures answer { MatchResult result (λ _. (sink.new ≡ apply_all sink.old (own_fragments (length sink.old.labels) 0 (prepend state.old inst.now empty))) × (state.new ≡ state_after state.old inst.now)) (λ _. state.new ≡ state.old) }
-    ensures lacks { (flags : IsaFlags) → TreePassed flags sink.old 0 state.old.nominal 0 (prepend state.old inst.now empty) → LacksMemory result }
+    requires { sink.old.failed ≡ false }
+    ensures answer { let step = prepend state.old inst.now empty in
+        let cause = emit_cause flags state.old.nominal sink.old step in
+        MatchResult result (λ _. (cause ≡ None) × (sink.new ≡ apply_all sink.old (own_fragments (length sink.old.labels) 0 step)) × (state.new ≡ state_after state.old inst.now)) (λ e. ((e ≡ NoMemory) ⊎ (cause ≡ Some e)) × (state.new ≡ state.old)) }
     ensures kept { Extends sink.old sink.new }
 {
-    emit_inst(sink, state, inst, MachLabel(0))?;
-    advance(state, inst)
+    let used = Totals {
+        labels: sink.label_count(),
+        bytes: u64::from(sink.cur_offset()),
+    };
+    match emit_and_advance(flags, sink, state, inst) {
+        Ok(_) => Ok(()),
+        Err(error) => Err(refusal(flags, sink, state, used, inst, error)),
+    }
 }
 
 /// What writes itself into a buffer.
@@ -150,11 +181,11 @@ impl MachInstEmit for Inst {
         ensures few { is_short self.now ≡ true → OnOk result (length sink.new.bytes ≤ length sink.old.bytes + 44) }
         ensures kept { Extends sink.old sink.new }
     {
-        if let Some(error) = cause(sink, emit_info.isa_flags, state, self) {
+        if sink.is_failed() {
             sink.fail();
-            return Err(error);
+            return Err(EmitError::Failed);
         }
-        match emit_and_advance(sink, state, self) {
+        match emit_in(emit_info.isa_flags, sink, state, self) {
             Ok(()) => {
                 state.clear_post_insn();
                 Ok(())

@@ -2,18 +2,20 @@
 
 ghost use Rattle.std.specs.Prelude.{◌≡◌, ℕ, ◌+◌, ◌<◌, ◌≤◌, ◌⊎◌, OnOk, length, map, min, get_or, None, Some, MatchResult, nat_lt};
 ghost use Rattle.s390x_base.specs.declared.error.EmitError.TheVariants.{NoMemory, LabelOutOfRange, BadStackState};
-ghost use Rattle.s390x_buffer.specs.State.{constant_of, new_cause, put_cause, fresh_buffer, limit};
+ghost use Rattle.s390x_buffer.specs.Extends.{Extends};
+ghost use Rattle.s390x_buffer.specs.State.{constant_of, new_cause, put_cause, fresh_buffer, limit, label_limit};
 ghost use Rattle.s390x_buffer.specs.Constants.{constants_end};
 ghost use Rattle.s390x_inst.specs.declared.state.IsaFlags.{IsaFlags};
-ghost use Rattle.s390x_typed_steps.specs.Causes.{unless, declared_in, blocks_cause};
-ghost use Rattle.s390x_typed_steps.specs.Sizes.{blocks_size};
-ghost use Rattle.s390x_emit_int.specs.Emission.{function_fragments};
-ghost use Rattle.s390x_typed_steps.specs.Ranges.{BlocksInRange};
+ghost use Rattle.s390x_typed_steps.specs.Causes.{unless, declared_in, declared_of, block_cause, blocks_cause};
+ghost use Rattle.s390x_typed_steps.specs.Sizes.{tree_size, blocks_size};
+ghost use Rattle.s390x_emit_int.specs.Emission.{fragments, function_fragments};
+ghost use Rattle.s390x_typed_steps.specs.Ranges.{AllInRange, BlocksInRange};
 ghost use Rattle.s390x_emit_int.specs.Function.{tree_of, trees_of, constants_of, IsFinishedCode, start_cause, checked_cause, function_cause};
 ghost use Rattle.s390x_emit_int.specs.Fragments.{apply_all};
-ghost use Rattle.s390x_emit_int.specs.Room.{HasRoom, LacksMemory};
+ghost use Rattle.s390x_emit_int.specs.Room.{HasRoom, MembersPassed, LacksMemory};
 
 use crate::check::{Totals, check_block};
+use crate::stack::end_cause;
 use crate::tree::emit_members;
 use s390x_base::{ConstantData, EmitError, MachLabel};
 use s390x_buffer::{MachBuffer, MachBufferFinalized, all_aligned, constants_fit};
@@ -31,20 +33,19 @@ fn start_cause(state: &EmitState) -> Option<EmitError>
     }
 }
 
-// The first cause in the blocks, by what the buffer tells, or what they add.
+// The first cause in the blocks, by what the buffer tells, with so many labels in use; or what they add.
 fn check_blocks(
     flags: IsaFlags,
     state: &EmitState,
     sink: &MachBuffer,
+    labels: u64,
     blocks: &[Block],
 ) -> Result<Totals, EmitError>
     requires start { state.now.nominal ≡ 0 }
-    ensures { MatchResult result (λ r. (blocks_cause flags (declared_in sink.now) (length sink.now.labels) (map (tree_of state.now) blocks.now) ≡ None) × (min limit r.bytes ≡ min limit (blocks_size (map (tree_of state.now) blocks.now))) × (r.bytes ≤ limit)) (λ e. blocks_cause flags (declared_in sink.now) (length sink.now.labels) (map (tree_of state.now) blocks.now) ≡ Some e) }
+    requires few { labels ≤ label_limit }
+    ensures { MatchResult result (λ r. (blocks_cause flags (declared_in sink.now) labels (map (tree_of state.now) blocks.now) ≡ None) × (min limit r.bytes ≡ min limit (blocks_size (map (tree_of state.now) blocks.now))) × (r.bytes ≤ limit)) (λ e. blocks_cause flags (declared_in sink.now) labels (map (tree_of state.now) blocks.now) ≡ Some e) }
 {
-    let mut sum = Totals {
-        labels: sink.label_count(),
-        bytes: 0,
-    };
+    let mut sum = Totals { labels, bytes: 0 };
     for block in blocks {
         sum = check_block(flags, state, sink, sum, block)?;
     }
@@ -63,41 +64,54 @@ fn length_cause(bytes: u64, constants: &[ConstantData]) -> Option<EmitError>
     }
 }
 
-// Each block's label is bound before its members.
-fn emit_blocks(sink: &mut MachBuffer, state: &EmitState, blocks: &[Block]) -> Result<(), EmitError>
+// A block that begins at the nominal size 0 and has to end there, where no cause refuses it.
+fn emit_block(
+    flags: IsaFlags,
+    sink: &mut MachBuffer,
+    state: &EmitState,
+    block: &Block,
+) -> Result<(), EmitError>
+    requires start { state.now.nominal ≡ 0 }
+    requires room { HasRoom sink.old }
+    ensures answer { OnOk result (sink.new ≡ apply_all sink.old (fragments (length sink.old.labels) 0 (tree_of state.now block.now))) }
+    ensures cause { OnOk result (block_cause flags (declared_in sink.old) (length sink.old.labels) (tree_of state.now block.now) ≡ None) }
+    ensures lacks { MembersPassed sink.old 0 0 (tree_size (tree_of state.now block.now)) (block_cause flags (declared_in sink.old) (length sink.old.labels) (tree_of state.now block.now)) → LacksMemory result }
+    ensures ranges { OnOk result (AllInRange (tree_of state.now block.now)) }
+    ensures kept { Extends sink.old sink.new }
+{
+    let mut behind = *state;
+    emit_members(flags, sink, &mut behind, 0, &block.insts, MachLabel(0))?;
+    match end_cause(&behind) {
+        Some(error) => Err(error),
+        None => Ok(()),
+    }
+}
+
+// Each block's label is bound before its members, where no cause refuses one. An error may be another one than the first cause.
+fn emit_blocks(
+    flags: IsaFlags,
+    sink: &mut MachBuffer,
+    state: &EmitState,
+    blocks: &[Block],
+) -> Result<(), EmitError>
     requires start { state.now.nominal ≡ 0 }
     requires few { length blocks.now ≤ 4294967295 }
     requires count { sink.old.block_count ≡ length blocks.now }
     requires room { HasRoom sink.old }
     requires free { (l : ℕ) → l < length blocks.now → get_or sink.old.labels l None ≡ None }
     ensures answer { OnOk result (sink.new ≡ apply_all sink.old (function_fragments (length sink.old.labels) 0 (map (tree_of state.now) blocks.now))) }
-    ensures lacks { (flags : IsaFlags) → put_cause sink.old (blocks_size (map (tree_of state.now) blocks.now)) ≡ None → blocks_cause flags (declared_in sink.old) (length sink.old.labels) (map (tree_of state.now) blocks.now) ≡ None → LacksMemory result }
+    ensures cause { OnOk result (blocks_cause flags (declared_in sink.old) (length sink.old.labels) (map (tree_of state.now) blocks.now) ≡ None) }
+    ensures lacks { put_cause sink.old (blocks_size (map (tree_of state.now) blocks.now)) ≡ None → blocks_cause flags (declared_in sink.old) (length sink.old.labels) (map (tree_of state.now) blocks.now) ≡ None → LacksMemory result }
     ensures ranges { OnOk result (BlocksInRange (map (tree_of state.now) blocks.now)) }
+    ensures declared { declared_in sink.new ≡ declared_in sink.old }
 {
     let mut label: u32 = 0;
     for block in blocks {
         sink.bind_label(MachLabel(label))?;
-        emit_members(sink, state, &block.insts, MachLabel(0))?;
+        emit_block(flags, sink, state, block)?;
         label += 1;
     }
     Ok(())
-}
-
-// No cause stands: the finished code is the function's image.
-fn emit_checked(
-    mut sink: MachBuffer,
-    function: &AllocatedFunction,
-    state: &EmitState,
-    flags: IsaFlags,
-) -> Result<MachBufferFinalized, EmitError>
-    requires start { state.now.nominal ≡ 0 }
-    requires few { length function.now.blocks.items ≤ 4294967295 }
-    requires fresh { sink ≡ fresh_buffer (length function.now.blocks.items) (constants_of function.now) }
-    requires checked { checked_cause flags (trees_of state.now function.now) (constants_of function.now) ≡ None }
-    ensures { MatchResult result (λ f. IsFinishedCode (trees_of state.now function.now) (constants_of function.now) f × BlocksInRange (trees_of state.now function.now)) (λ e. e ≡ NoMemory) }
-{
-    emit_blocks(&mut sink, state, &function.blocks)?;
-    sink.finish()
 }
 
 // How many blocks there are, where the count has a label for each.
@@ -114,7 +128,7 @@ fn block_count(function: &AllocatedFunction) -> Result<u32, EmitError>
     }
 }
 
-// The first cause among the steps and the length, in a new buffer.
+// The first cause among the steps and the length, by what the buffer tells of the blocks and the constants.
 fn check_function(
     sink: &MachBuffer,
     function: &AllocatedFunction,
@@ -123,13 +137,72 @@ fn check_function(
 ) -> Result<(), EmitError>
     requires start { state.now.nominal ≡ 0 }
     requires new { new_cause (length function.now.blocks.items) (constants_of function.now) ≡ None }
-    requires fresh { sink.now ≡ fresh_buffer (length function.now.blocks.items) (constants_of function.now) }
+    requires declared { declared_in sink.now ≡ declared_of (trees_of state.now function.now) (constants_of function.now) }
     ensures { MatchResult result (λ _. checked_cause flags (trees_of state.now function.now) (constants_of function.now) ≡ None) (λ e. checked_cause flags (trees_of state.now function.now) (constants_of function.now) ≡ Some e) }
 {
-    let sum = check_blocks(flags, state, sink, &function.blocks)?;
+    let labels = function.blocks.len() as u64 + function.constants.len() as u64;
+    let sum = check_blocks(flags, state, sink, labels, &function.blocks)?;
     match length_cause(sum.bytes, &function.constants) {
         Some(error) => Err(error),
         None => Ok(()),
+    }
+}
+
+// What a function is refused by, of which emission was refused by an error: the first cause, or want of memory.
+fn refusal(
+    sink: &MachBuffer,
+    function: &AllocatedFunction,
+    state: &EmitState,
+    flags: IsaFlags,
+    error: EmitError,
+) -> EmitError
+    requires start { state.now.nominal ≡ 0 }
+    requires new { new_cause (length function.now.blocks.items) (constants_of function.now) ≡ None }
+    requires declared { declared_in sink.now ≡ declared_of (trees_of state.now function.now) (constants_of function.now) }
+    requires lacks { checked_cause flags (trees_of state.now function.now) (constants_of function.now) ≡ None → error ≡ NoMemory }
+    ensures { (result ≡ NoMemory) ⊎ (checked_cause flags (trees_of state.now function.now) (constants_of function.now) ≡ Some result) }
+{
+    match check_function(sink, function, state, flags) {
+        Ok(()) => error,
+        Err(cause) => cause,
+    }
+}
+
+// The steps were emitted: the finished code is the function's image, unless it is too long with its constants.
+fn finish(
+    sink: MachBuffer,
+    function: &AllocatedFunction,
+    state: &EmitState,
+    flags: IsaFlags,
+) -> Result<MachBufferFinalized, EmitError>
+    requires new { new_cause (length function.now.blocks.items) (constants_of function.now) ≡ None }
+    requires emitted { let ts = trees_of state.now function.now in let cs = constants_of function.now in sink ≡ apply_all (fresh_buffer (length ts) cs) (function_fragments (length ts + length cs) 0 ts) }
+    requires cause { let ts = trees_of state.now function.now in let cs = constants_of function.now in blocks_cause flags (declared_of ts cs) (length ts + length cs) ts ≡ None }
+    requires ranges { BlocksInRange (trees_of state.now function.now) }
+    ensures { let cause = checked_cause flags (trees_of state.now function.now) (constants_of function.now) in MatchResult result (λ f. (cause ≡ None) × IsFinishedCode (trees_of state.now function.now) (constants_of function.now) f × BlocksInRange (trees_of state.now function.now)) (λ e. (e ≡ NoMemory) ⊎ (cause ≡ Some e)) }
+{
+    match length_cause(u64::from(sink.cur_offset()), &function.constants) {
+        Some(error) => Err(error),
+        None => sink.finish(),
+    }
+}
+
+// In a new buffer: the image, or the first cause.
+fn emit_in(
+    mut sink: MachBuffer,
+    function: &AllocatedFunction,
+    state: &EmitState,
+    flags: IsaFlags,
+) -> Result<MachBufferFinalized, EmitError>
+    requires start { state.now.nominal ≡ 0 }
+    requires few { length function.now.blocks.items ≤ 4294967295 }
+    requires new { new_cause (length function.now.blocks.items) (constants_of function.now) ≡ None }
+    requires fresh { sink ≡ fresh_buffer (length function.now.blocks.items) (constants_of function.now) }
+    ensures { let cause = checked_cause flags (trees_of state.now function.now) (constants_of function.now) in MatchResult result (λ f. (cause ≡ None) × IsFinishedCode (trees_of state.now function.now) (constants_of function.now) f × BlocksInRange (trees_of state.now function.now)) (λ e. (e ≡ NoMemory) ⊎ (cause ≡ Some e)) }
+{
+    match emit_blocks(flags, &mut sink, state, &function.blocks) {
+        Ok(()) => finish(sink, function, state, flags),
+        Err(error) => Err(refusal(&sink, function, state, flags, error)),
     }
 }
 
@@ -159,6 +232,5 @@ pub fn emit_function(
         return Err(error);
     }
     let sink = new_buffer(alloc, function)?;
-    check_function(&sink, function, &state, info.isa_flags)?;
-    emit_checked(sink, function, &state, info.isa_flags)
+    emit_in(sink, function, &state, info.isa_flags)
 }

@@ -1,7 +1,7 @@
 //! Emitting one instruction that is no `Loop`.
 #![tactic(auto, using(s390x_buffer::proofs::Extending::extends_on, s390x_buffer::proofs::Extending::extends_same))]
 
-ghost use Rattle.std.specs.Prelude.{◌≡◌, ℕ, ◌<◌, ◌&&◌, [], ◌∷◌, None, true, length, OnOk};
+ghost use Rattle.std.specs.Prelude.{◌≡◌, ℕ, ◌<◌, ◌&&◌, [], ◌∷◌, Some, None, true, length, OnOk};
 ghost use Rattle.s390x_base.specs.Regs.{number_of};
 ghost use Rattle.s390x_buffer.specs.Extends.{Extends};
 ghost use Rattle.s390x_buffer.specs.State.{put_cause};
@@ -9,10 +9,11 @@ ghost use Rattle.s390x_typed_steps.specs.MachineInstruction.{format_e, rr, ril_c
 ghost use Rattle.s390x_typed_steps.specs.Parts.{Row, Trapping, Branch, ToBlock, Relative, row_part, stopping, memory_parts, parts_size};
 ghost use Rattle.s390x_inst.specs.Emission.{Emission};
 ghost use Rattle.s390x_inst.specs.declared.state.IsaFlags.{IsaFlags};
-ghost use Rattle.s390x_typed_steps.specs.Causes.{declared_in, branch_cause, memory_cause, instruction_cause, numbers_cause, instruction_fresh_labels, leaf_cause};
+ghost use Rattle.s390x_typed_steps.specs.Causes.{declared_in, branch_cause, cause_or, memory_cause, memory_cause_or, numbers_cause, instruction_fresh_labels, leaf_cause};
+ghost use Rattle.s390x_typed_steps.specs.Memory.{memory};
 ghost use Rattle.s390x_typed_steps.specs.General.{is_general, is_nonzero};
 ghost use Rattle.s390x_typed_steps.specs.Sizes.{instruction_size};
-ghost use Rattle.s390x_emit_int.specs.SingleInstruction.{instruction_of, can_encode};
+ghost use Rattle.s390x_emit_int.specs.SingleInstruction.{instruction_of, can_encode, encodes};
 ghost use Rattle.s390x_emit_int.specs.Fragments.{Put, PutTrapping, apply, apply_all, Link};
 ghost use Rattle.s390x_emit_int.specs.Emission.{branch, part_fragments, branch_fragments, branch_size, leaf_fragments};
 ghost use Rattle.s390x_emit_int.specs.Room.{Passed, MembersPassed, LacksMemory, HasRoom};
@@ -23,9 +24,10 @@ ghost use Rattle.s390x_typed_steps.specs.Operands.{resolved};
 ghost use Rattle.s390x_typed_steps.specs.Resolved.{resolved_instruction};
 ghost use Rattle.s390x_address.specs.Rows.{memory_instruction_of, in_state, may_encode};
 
+use crate::causes::{branch_cause, outer_cause};
 use crate::memory::find_memory;
 use crate::register_row::RegisterRow;
-use crate::single_instruction::find_single_instruction;
+use crate::single_instruction::{CheckedRow, find_single_instruction};
 use crate::stops::stop_code;
 use crate::symbol::emit_symbol_load;
 use crate::table::emit_table;
@@ -33,7 +35,7 @@ use s390x_address::memory::MemoryInst;
 use s390x_base::{Code, Cond, EmitError, MachLabel, Reg, TrapCode, gpr};
 use s390x_buffer::{LabelUse, MachBuffer};
 use s390x_enc::{enc_e, enc_ril_b, enc_ril_c, enc_rr};
-use s390x_inst::{EmitState, Inst, MemArg};
+use s390x_inst::{EmitState, Inst, IsaFlags, MemArg};
 
 // A code whose last four bytes are half of the distance to a label; the buffer's end fills it in.
 fn put_with_distance(sink: &mut MachBuffer, code: &Code, label: MachLabel) -> Result<(), EmitError>
@@ -245,41 +247,121 @@ fn emit_memory(
     found.emit(sink, state)
 }
 
-// An instruction that isn't one machine instruction.
+// A machine instruction, where its registers may stand there.
+fn emit_row(
+    sink: &mut MachBuffer,
+    found: &CheckedRow,
+    trap_code: Option<TrapCode>,
+) -> Result<(), EmitError>
+    requires { encodes found.now.operands_valid (Some found.now.row) ≡ true }
+    ensures answer { OnOk result ((found.now.operands_valid ≡ true) × (sink.new ≡ apply_all sink.old (part_fragments (row_part (instruction_of found.now.row) trap_code ∷ [])))) }
+    ensures lacks { put_cause sink.old (size_of (instruction_of found.now.row)) ≡ None → found.now.operands_valid ≡ true → LacksMemory result }
+    ensures kept { Extends sink.old sink.new }
+{
+    if found.operands_valid {
+        emit_single_instruction(sink, &found.row, trap_code)
+    } else {
+        Err(EmitError::BadRegister)
+    }
+}
+
+// Its helpers and its access, where no cause refuses it.
+fn emit_access(
+    sink: &mut MachBuffer,
+    state: &EmitState,
+    found: &MemoryInst,
+) -> Result<(), EmitError>
+    requires { may_encode found.now ≡ true }
+    ensures answer { OnOk result ((memory_cause (declared_in sink.old) (in_state state.now (memory_instruction_of found.now)) ≡ None) × (sink.new ≡ apply_all sink.old (part_fragments (memory_parts (in_state state.now (memory_instruction_of found.now)))))) }
+    ensures lacks { put_cause sink.old (parts_size (memory_parts (in_state state.now (memory_instruction_of found.now)))) ≡ None → memory_cause (declared_in sink.old) (in_state state.now (memory_instruction_of found.now)) ≡ None → LacksMemory result }
+    ensures range { OperandInRange (resolved state.now found.now.operand) }
+    ensures kept { Extends sink.old sink.new }
+{
+    read_displacement(&found.operand);
+    match found.cause(sink, state) {
+        Some(error) => Err(error),
+        None => emit_memory(sink, state, found),
+    }
+}
+
+// An instruction that names a place, goes elsewhere or ends the run, where no cause refuses it.
+fn emit_place(
+    sink: &mut MachBuffer,
+    depth: u32,
+    inst: &Inst,
+    after: MachLabel,
+) -> Result<(), EmitError>
+    requires { HasRoom sink.old }
+    ensures answer { OnOk result ((branch_cause sink.old.block_count depth inst.now ≡ None) × (sink.new ≡ apply_all sink.old (branch_fragments (length sink.old.labels) after.0 inst.now))) }
+    ensures lacks { MembersPassed sink.old after.0 depth (branch_size inst.now) (branch_cause sink.old.block_count depth inst.now) → numbers_cause (length sink.old.labels) (instruction_fresh_labels inst.now) ≡ None → LacksMemory result }
+    ensures range { OnOk result (MaskInRange inst.now) }
+    ensures kept { Extends sink.old sink.new }
+{
+    match branch_cause(sink.block_count(), depth, inst) {
+        Some(error) => Err(error),
+        None => emit_branch(sink, inst, after),
+    }
+}
+
+// An instruction that isn't one machine instruction, where no cause of its own refuses it.
 fn emit_other(
     sink: &mut MachBuffer,
     state: &EmitState,
+    depth: u32,
     inst: &Inst,
     after: MachLabel,
 ) -> Result<(), EmitError>
     requires single_instruction { None ≡ single_instruction inst.now }
     requires room { HasRoom sink.old }
-    ensures answer { OnOk result (sink.new ≡ apply_all sink.old (leaf_fragments (length sink.old.labels) after.0 (resolved_instruction state.now inst.now))) }
-    ensures lacks { (flags : IsaFlags) (depth : ℕ) → MembersPassed sink.old after.0 depth (instruction_size (resolved_instruction state.now inst.now)) (leaf_cause flags (declared_in sink.old) (length sink.old.labels) state.now.nominal depth (resolved_instruction state.now inst.now)) → LacksMemory result }
+    ensures answer { OnOk result ((memory_cause_or (declared_in sink.old) (memory (resolved_instruction state.now inst.now)) (branch_cause sink.old.block_count depth inst.now) ≡ None) × (sink.new ≡ apply_all sink.old (leaf_fragments (length sink.old.labels) after.0 (resolved_instruction state.now inst.now)))) }
+    ensures lacks { (flags : IsaFlags) → MembersPassed sink.old after.0 depth (instruction_size (resolved_instruction state.now inst.now)) (leaf_cause flags (declared_in sink.old) (length sink.old.labels) state.now.nominal depth (resolved_instruction state.now inst.now)) → LacksMemory result }
     ensures range { OnOk result (InRange (resolved_instruction state.now inst.now)) }
     ensures kept { Extends sink.old sink.new }
 {
     match find_memory(inst) {
-        Some(found) => emit_memory(sink, state, &found),
-        None => emit_branch(sink, inst, after),
+        Some(found) => emit_access(sink, state, &found),
+        None => emit_place(sink, depth, inst, after),
     }
 }
 
-/// Emits an instruction that is no `Loop`, in a state of emission; `after` is the label behind the innermost loop.
-pub fn emit_leaf(
+// An instruction whose facility is there, and which the stack sizes and the labels allow, where no cause of its own refuses it.
+fn emit_allowed(
     sink: &mut MachBuffer,
     state: &EmitState,
+    depth: u32,
     inst: &Inst,
     after: MachLabel,
 ) -> Result<(), EmitError>
     requires { HasRoom sink.old }
-    ensures answer { OnOk result (sink.new ≡ apply_all sink.old (leaf_fragments (length sink.old.labels) after.0 (resolved_instruction state.now inst.now))) }
-    ensures lacks { (flags : IsaFlags) (depth : ℕ) → MembersPassed sink.old after.0 depth (instruction_size (resolved_instruction state.now inst.now)) (leaf_cause flags (declared_in sink.old) (length sink.old.labels) state.now.nominal depth (resolved_instruction state.now inst.now)) → LacksMemory result }
+    ensures answer { OnOk result ((cause_or (single_instruction inst.now) (memory_cause_or (declared_in sink.old) (memory (resolved_instruction state.now inst.now)) (branch_cause sink.old.block_count depth inst.now)) ≡ None) × (sink.new ≡ apply_all sink.old (leaf_fragments (length sink.old.labels) after.0 (resolved_instruction state.now inst.now)))) }
+    ensures lacks { (flags : IsaFlags) → MembersPassed sink.old after.0 depth (instruction_size (resolved_instruction state.now inst.now)) (leaf_cause flags (declared_in sink.old) (length sink.old.labels) state.now.nominal depth (resolved_instruction state.now inst.now)) → LacksMemory result }
     ensures range { OnOk result (InRange (resolved_instruction state.now inst.now)) }
     ensures kept { Extends sink.old sink.new }
 {
     match find_single_instruction(inst) {
-        Some(found) => emit_single_instruction(sink, &found.row, stop_code(inst)),
-        None => emit_other(sink, state, inst, after),
+        Some(found) => emit_row(sink, &found, stop_code(inst)),
+        None => emit_other(sink, state, depth, inst, after),
+    }
+}
+
+/// Emits an instruction that is no `Loop`, in a state of emission and inside so many loops, where no cause refuses it; `after` is the label behind
+/// the innermost loop. An error may be another one than the first cause.
+pub fn emit_leaf(
+    flags: IsaFlags,
+    sink: &mut MachBuffer,
+    state: &EmitState,
+    depth: u32,
+    inst: &Inst,
+    after: MachLabel,
+) -> Result<(), EmitError>
+    requires { HasRoom sink.old }
+    ensures answer { OnOk result ((leaf_cause flags (declared_in sink.old) (length sink.old.labels) state.now.nominal depth (resolved_instruction state.now inst.now) ≡ None) × (sink.new ≡ apply_all sink.old (leaf_fragments (length sink.old.labels) after.0 (resolved_instruction state.now inst.now)))) }
+    ensures lacks { MembersPassed sink.old after.0 depth (instruction_size (resolved_instruction state.now inst.now)) (leaf_cause flags (declared_in sink.old) (length sink.old.labels) state.now.nominal depth (resolved_instruction state.now inst.now)) → LacksMemory result }
+    ensures range { OnOk result (InRange (resolved_instruction state.now inst.now)) }
+    ensures kept { Extends sink.old sink.new }
+{
+    match outer_cause(flags, sink, state, depth, inst) {
+        Some(error) => Err(error),
+        None => emit_allowed(sink, state, depth, inst, after),
     }
 }

@@ -1,82 +1,108 @@
 //! Emitting lists of instructions, with the members of loops.
 #![tactic(auto, using(s390x_buffer::proofs::Extending::extends_on, s390x_buffer::proofs::Extending::extends_same))]
 
-ghost use Rattle.std.specs.Prelude.{◌≡◌, ℕ, OnOk, length};
+ghost use Rattle.std.specs.Prelude.{◌≡◌, ℕ, ◌+◌, ◌<◌, OnOk, None, length};
 ghost use Rattle.s390x_buffer.specs.Extends.{Extends};
-ghost use Rattle.s390x_inst.specs.declared.state.IsaFlags.{IsaFlags};
 ghost use Rattle.s390x_typed_steps.specs.Tree.{empty, loop_node, prepend, tree};
+ghost use Rattle.s390x_typed_steps.specs.Causes.{first_emit_cause, declared_in, nesting_cause, numbers_cause, nominal_behind, tree_cause};
 ghost use Rattle.s390x_emit_int.specs.Fragments.{apply_all};
 ghost use Rattle.s390x_emit_int.specs.Emission.{fragments, own_fragments};
 ghost use Rattle.s390x_typed_steps.specs.Ranges.{AllInRange};
 ghost use Rattle.s390x_emit_int.specs.Room.{HasRoom, TreePassed, LacksMemory};
 
+use crate::check::{Totals, open_loop};
 use crate::leaf::{emit_leaf, put_branch};
 use crate::stack::advance;
 use s390x_base::{Cond, EmitError, MachLabel};
 use s390x_buffer::MachBuffer;
-use s390x_inst::{EmitState, Inst};
+use s390x_inst::{EmitState, Inst, IsaFlags};
 
-/// Emits instructions in order, each with its step place; `after` is the label behind the innermost loop.
+// Why no loop can stand inside so many others: its nesting, or the numbers of its two labels.
+fn loop_cause(sink: &MachBuffer, depth: u32) -> Option<EmitError>
+    ensures cause { result ≡ first_emit_cause (nesting_cause depth) (numbers_cause (length sink.now.labels) 2) }
+    ensures few { result ≡ None → depth < 8 }
+{
+    let used = Totals {
+        labels: sink.label_count(),
+        bytes: 0,
+    };
+    open_loop(used, depth).err()
+}
+
+/// Emits instructions in order, each with its step place, inside so many loops, where no cause refuses one; `after` is the label behind the innermost
+/// loop. The state is then the one behind them. An error may be another one than the first cause.
 #[cycle(members)]
 pub fn emit_members(
+    flags: IsaFlags,
     sink: &mut MachBuffer,
-    state: &EmitState,
+    state: &mut EmitState,
+    depth: u32,
     insts: &[Inst],
     after: MachLabel,
 ) -> Result<(), EmitError>
     requires { HasRoom sink.old }
-    ensures answer { OnOk result (sink.new ≡ apply_all sink.old (fragments (length sink.old.labels) after.0 (tree state.now insts.now))) }
-    ensures lacks { (flags : IsaFlags) (depth : ℕ) → TreePassed flags sink.old after.0 state.now.nominal depth (tree state.now insts.now) → LacksMemory result }
-    ensures ranges { OnOk result (AllInRange (tree state.now insts.now)) }
+    ensures answer { OnOk result (sink.new ≡ apply_all sink.old (fragments (length sink.old.labels) after.0 (tree state.old insts.now))) }
+    ensures cause { OnOk result ((tree_cause flags (declared_in sink.old) (length sink.old.labels) state.old.nominal depth (tree state.old insts.now) ≡ None) × (state.new.nominal ≡ nominal_behind state.old.nominal (tree state.old insts.now))) }
+    ensures lacks { TreePassed flags sink.old after.0 state.old.nominal depth (tree state.old insts.now) → LacksMemory result }
+    ensures ranges { OnOk result (AllInRange (tree state.old insts.now)) }
     ensures kept { Extends sink.old sink.new }
 {
-    let mut here = *state;
     for inst in insts {
         sink.start_step()?;
-        emit_inst(sink, &here, inst, after)?;
-        advance(&mut here, inst)?;
+        emit_inst(flags, sink, state, depth, inst, after)?;
+        advance(state, inst)?;
     }
     Ok(())
 }
 
-/// Emits an instruction.
+/// Emits an instruction, where no cause refuses it.
 #[cycle(members)]
 pub fn emit_inst(
+    flags: IsaFlags,
     sink: &mut MachBuffer,
     state: &EmitState,
+    depth: u32,
     inst: &Inst,
     after: MachLabel,
 ) -> Result<(), EmitError>
     requires { HasRoom sink.old }
     ensures answer { OnOk result (sink.new ≡ apply_all sink.old (own_fragments (length sink.old.labels) after.0 (prepend state.now inst.now empty))) }
-    ensures lacks { (flags : IsaFlags) (depth : ℕ) → TreePassed flags sink.old after.0 state.now.nominal depth (prepend state.now inst.now empty) → LacksMemory result }
+    ensures cause { OnOk result (tree_cause flags (declared_in sink.old) (length sink.old.labels) state.now.nominal depth (prepend state.now inst.now empty) ≡ None) }
+    ensures lacks { TreePassed flags sink.old after.0 state.now.nominal depth (prepend state.now inst.now empty) → LacksMemory result }
     ensures ranges { OnOk result (AllInRange (prepend state.now inst.now empty)) }
     ensures kept { Extends sink.old sink.new }
 {
     match inst {
-        Inst::Loop { cond, body } => emit_loop(sink, state, *cond, body),
-        _ => emit_leaf(sink, state, inst, after),
+        Inst::Loop { cond, body } => emit_loop(flags, sink, state, depth, *cond, body),
+        _ => emit_leaf(flags, sink, state, depth, inst, after),
     }
 }
 
 #[cycle(members)]
 fn emit_loop(
+    flags: IsaFlags,
     sink: &mut MachBuffer,
     state: &EmitState,
+    depth: u32,
     cond: Cond,
     body: &[Inst],
 ) -> Result<(), EmitError>
     requires { HasRoom sink.old }
     ensures answer { OnOk result (sink.new ≡ apply_all sink.old (own_fragments (length sink.old.labels) 0 (loop_node cond (tree state.now body.now) empty))) }
-    ensures lacks { (flags : IsaFlags) (depth after : ℕ) → TreePassed flags sink.old after state.now.nominal depth (loop_node cond (tree state.now body.now) empty) → LacksMemory result }
+    ensures cause { OnOk result (tree_cause flags (declared_in sink.old) (length sink.old.labels) state.now.nominal depth (loop_node cond (tree state.now body.now) empty) ≡ None) }
+    ensures lacks { (after : ℕ) → TreePassed flags sink.old after state.now.nominal depth (loop_node cond (tree state.now body.now) empty) → LacksMemory result }
     ensures ranges { OnOk result (AllInRange (loop_node cond (tree state.now body.now) empty)) }
     ensures kept { Extends sink.old sink.new }
 {
+    if let Some(error) = loop_cause(sink, depth) {
+        return Err(error);
+    }
     let mask = cond.bits();
     let start = sink.get_label()?;
     let end = sink.get_label()?;
     sink.bind_label(start)?;
-    emit_members(sink, state, body, end)?;
+    let mut inside = *state;
+    emit_members(flags, sink, &mut inside, depth + 1, body, end)?;
     sink.start_step()?;
     put_branch(sink, mask, start)?;
     sink.bind_label(end)

@@ -7,7 +7,7 @@ use Rattle.s390x_emit_int.proofs.function.check_blocks.Given as goal
 
 abbrev pub invariant-loop-block : goal.invariant-loop-block
 invariant-loop-block l = record {
-  cause : blocks_cause l.fn.flags (declared_in l.fn.sink) l.sum.labels (map (tree_of l.fn.state) (drop l.block-index l.blocks)) ≡ blocks_cause l.fn.flags (declared_in l.fn.sink) (length l.fn.sink.labels) (map (tree_of l.fn.state) l.blocks);
+  cause : blocks_cause l.fn.flags (declared_in l.fn.sink) l.sum.labels (map (tree_of l.fn.state) (drop l.block-index l.blocks)) ≡ blocks_cause l.fn.flags (declared_in l.fn.sink) l.fn.labels (map (tree_of l.fn.state) l.blocks);
   bytes : min code_limit (l.sum.bytes + blocks_size (map (tree_of l.fn.state) (drop l.block-index l.blocks))) ≡ min code_limit (blocks_size (map (tree_of l.fn.state) l.blocks));
   counted : IsCounted l.sum;
 }

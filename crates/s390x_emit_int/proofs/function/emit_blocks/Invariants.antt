@@ -4,7 +4,6 @@ use Rattle.s390x_typed_steps.specs.Ranges.{BlocksInRange}
 use Rattle.s390x_emit_int.specs.Function.{tree_of}
 use Rattle.s390x_emit_int.specs.Fragments.{apply_all}
 use Rattle.s390x_emit_int.specs.Room.{HasRoom}
-use Rattle.s390x_inst.specs.declared.state.IsaFlags.{IsaFlags}
 use Rattle.s390x_buffer.specs.State.{put_cause}
 use Rattle.s390x_typed_steps.specs.Sizes.{blocks_size}
 use Rattle.s390x_typed_steps.specs.Causes.{declared_in, blocks_cause}
@@ -15,7 +14,9 @@ abbrev pub invariant-loop-block : goal.invariant-loop-block
 invariant-loop-block l = record {
   rest : apply_all l.sink (function_fragments (length l.sink.labels) l.block-index (map (tree_of l.fn.state) (drop l.block-index l.blocks))) ≡ apply_all l.initial.sink (function_fragments (length l.initial.sink.labels) 0 (map (tree_of l.fn.state) l.blocks));
   ranges : BlocksInRange (map (tree_of l.fn.state) (drop l.block-index l.blocks)) → BlocksInRange (map (tree_of l.fn.state) l.blocks);
-  passed : (flags : IsaFlags) → put_cause l.initial.sink (blocks_size (map (tree_of l.fn.state) l.blocks)) ≡ None → blocks_cause flags (declared_in l.initial.sink) (length l.initial.sink.labels) (map (tree_of l.fn.state) l.blocks) ≡ None → BlocksPassed flags l.sink (declared_in l.initial.sink) (map (tree_of l.fn.state) (drop l.block-index l.blocks));
+  cause : blocks_cause l.fn.flags (declared_in l.sink) (length l.sink.labels) (map (tree_of l.fn.state) (drop l.block-index l.blocks)) ≡ blocks_cause l.fn.flags (declared_in l.initial.sink) (length l.initial.sink.labels) (map (tree_of l.fn.state) l.blocks);
+  declared : declared_in l.sink ≡ declared_in l.initial.sink;
+  passed : put_cause l.initial.sink (blocks_size (map (tree_of l.fn.state) l.blocks)) ≡ None → blocks_cause l.fn.flags (declared_in l.initial.sink) (length l.initial.sink.labels) (map (tree_of l.fn.state) l.blocks) ≡ None → BlocksPassed l.fn.flags l.sink (declared_in l.initial.sink) (map (tree_of l.fn.state) (drop l.block-index l.blocks));
   label : l.label ≡ l.block-index;
   count : l.sink.block_count ≡ length l.blocks;
   room : HasRoom l.sink;

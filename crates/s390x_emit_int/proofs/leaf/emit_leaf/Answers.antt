@@ -1,37 +1,23 @@
-use Rattle.std.proofs.Common.{ap, sym, ◌∙◌, [], ◌∷◌, length}
-use Rattle.s390x_emit_int.specs.SingleInstruction.{single_of, can_encode}
-use Rattle.s390x_typed_steps.specs.Parts.{row_part}
-use Rattle.s390x_typed_steps.specs.Resolved.{resolved_instruction}
-use Rattle.s390x_emit_int.specs.SingleInstruction.{single_of, can_encode}
-use Rattle.s390x_emit_int.specs.Fragments.{apply_all}
-use Rattle.s390x_emit_int.specs.Emission.{part_fragments}
+use Rattle.std.proofs.Common.{sym, ◌∙◌, length}
+use Rattle.s390x_typed_steps.specs.Causes.{declared_in}
 use Rattle.s390x_emit_int.proofs.Answering.{on_ok}
-use Rattle.s390x_emit_int.proofs.Single.{some_fragments}
-use Rattle.s390x_emit_int.proofs.Encoding.{follows}
-use Rattle.s390x_emit_int.proofs.Leaves.{single_passed}
-use Rattle.s390x_emit_int.proofs.Resolving.{single_resolved, stop_resolved, single_range}
+use Rattle.s390x_emit_int.proofs.Emitting.{leaf_none, leaf_outer}
 use Rattle.s390x_emit_int.proofs.leaf.emit_leaf.Goals as goal
 
-pub returns-in-Some-clause-lacks : goal.returns-in-Some-clause-lacks
-returns-in-Some-clause-lacks c = λ flags depth p.
-    let j = resolved_instruction c.args.state.now c.args.inst.now in
-    let row = c.in-Some.ensures.row ∙ sym (single_resolved c.args.state.now c.args.inst.now) in
-    let f = single_passed flags c.args.sink.now c.args.after.0 c.args.state.now.nominal depth j (single_of c.in-Some.found) row p in
-    c.emit_single_instruction.ensures.lacks f.0 (follows c.in-Some.found.operands_valid (can_encode c.in-Some.found.row) c.in-Some.ensures.encodes f.1)
-
-pub returns-in-Some-clause-answer : goal.returns-in-Some-clause-answer
-returns-in-Some-clause-answer c =
+pub returns-in-None-clause-answer : goal.returns-in-None-clause-answer
+returns-in-None-clause-answer c =
     let s = c.args.sink.now in
-    let x = single_of c.in-Some.found in
-    let j = resolved_instruction c.args.state.now c.args.inst.now in
-    let same = some_fragments j x (length s.labels) c.args.after.0 (c.in-Some.ensures.row ∙ sym (single_resolved c.args.state.now c.args.inst.now)) in
-    let code = c.stop_code.ensures ∙ sym (stop_resolved c.args.state.now c.args.inst.now) in
-    on_ok c.emit_single_instruction.result c.emit_single_instruction.ensures.answer (λ e. e ∙ ap (λ o. apply_all s (part_fragments (row_part x.row o ∷ []))) code ∙ ap (λ ps. apply_all s ps) (sym same))
-
-pub returns-in-Some-clause-range : goal.returns-in-Some-clause-range
-returns-in-Some-clause-range c =
-    let j = resolved_instruction c.args.state.now c.args.inst.now in
-    on_ok c.emit_single_instruction.result c.emit_single_instruction.ensures.answer (λ e. single_range j (single_of c.in-Some.found) (c.in-Some.ensures.row ∙ sym (single_resolved c.args.state.now c.args.inst.now)))
+    let outer = sym c.outer_cause.ensures ∙ c.in-None.is in
+    on_ok c.emit_allowed.result c.emit_allowed.ensures.answer (λ e. (leaf_none c.args.flags c.args.state.now (declared_in s) (length s.labels) c.args.state.now.nominal c.args.depth c.args.inst.now outer e.0, e.1))
 
 pub returns-in-None-clause-lacks : goal.returns-in-None-clause-lacks
-returns-in-None-clause-lacks c = c.emit_other.ensures.lacks
+returns-in-None-clause-lacks c = c.emit_allowed.ensures.lacks c.args.flags
+
+-- what passed has no cause outside
+pub returns-in-Some-clause-lacks : goal.returns-in-Some-clause-lacks
+returns-in-Some-clause-lacks c = λ p.
+    let s = c.args.sink.now in
+    let none = leaf_outer c.args.flags c.args.state.now (declared_in s) (length s.labels) c.args.state.now.nominal c.args.depth c.args.inst.now p.passed in
+    let some = c.outer_cause.ensures in
+    let is = c.in-Some.is in
+    absurd (cc)

@@ -1,4 +1,5 @@
 use Rattle.std.proofs.Common.{ap, sym, length, ◌∙◌}
+use Rattle.s390x_typed_steps.specs.Causes.{declared_in, memory_cause_or, branch_cause}
 use Rattle.s390x_typed_steps.specs.Resolved.{resolved_instruction}
 use Rattle.s390x_address.specs.Rows.{memory_instruction_of, in_state}
 use Rattle.s390x_emit_int.specs.Fragments.{apply_all}
@@ -10,34 +11,38 @@ use Rattle.s390x_emit_int.proofs.leaf.emit_other.Goals as goal
 
 pub returns-in-Some-clause-answer : goal.returns-in-Some-clause-answer
 returns-in-Some-clause-answer c =
+    let s = c.args.sink.now in
     let e = c.args.state.now in
     let i = c.args.inst.now in
     let x = memory_instruction_of c.in-Some.found in
-    let same = memory_fragments (resolved_instruction e i) (in_state e x) (length c.args.sink.now.labels) c.args.after.0 (c.requires.single_instruction ∙ sym (single_resolved e i)) (sym (found_memory e i x c.in-Some.ensures.row)) in
-    on_ok c.emit_memory.result c.emit_memory.ensures.answer (λ h. h ∙ ap (apply_all c.args.sink.now) (sym same))
+    let found = found_memory e i x c.in-Some.ensures.row in
+    let same = memory_fragments (resolved_instruction e i) (in_state e x) (length s.labels) c.args.after.0 (c.requires.single_instruction ∙ sym (single_resolved e i)) (sym found) in
+    on_ok c.emit_access.result c.emit_access.ensures.answer (λ h. (ap (λ o. memory_cause_or (declared_in s) o (branch_cause s.block_count c.args.depth i)) found ∙ h.0, h.1 ∙ ap (apply_all s) (sym same)))
 
 pub returns-in-Some-clause-lacks : goal.returns-in-Some-clause-lacks
-returns-in-Some-clause-lacks c = λ flags depth p.
+returns-in-Some-clause-lacks c = λ flags p.
     let e = c.args.state.now in
     let i = c.args.inst.now in
     let x = memory_instruction_of c.in-Some.found in
-    let f = memory_passed flags c.args.sink.now c.args.after.0 c.args.state.now.nominal depth (resolved_instruction e i) (in_state e x) (c.requires.single_instruction ∙ sym (single_resolved e i)) (found_memory e i x c.in-Some.ensures.row) p in
-    c.emit_memory.ensures.lacks f.0 f.1
+    let f = memory_passed flags c.args.sink.now c.args.after.0 c.args.state.now.nominal c.args.depth (resolved_instruction e i) (in_state e x) (c.requires.single_instruction ∙ sym (single_resolved e i)) (found_memory e i x c.in-Some.ensures.row) p in
+    c.emit_access.ensures.lacks f.0 f.1
 
 pub returns-in-Some-clause-range : goal.returns-in-Some-clause-range
-returns-in-Some-clause-range c = on_ok c.emit_memory.result c.emit_memory.ensures.answer (λ h. memory_range c.args.state.now c.args.inst.now (memory_instruction_of c.in-Some.found) c.in-Some.ensures.row c.emit_memory.ensures.range)
+returns-in-Some-clause-range c = on_ok c.emit_access.result c.emit_access.ensures.answer (λ h. memory_range c.args.state.now c.args.inst.now (memory_instruction_of c.in-Some.found) c.in-Some.ensures.row c.emit_access.ensures.range)
 
 pub returns-in-None-clause-answer : goal.returns-in-None-clause-answer
 returns-in-None-clause-answer c =
+    let s = c.args.sink.now in
     let e = c.args.state.now in
     let i = c.args.inst.now in
-    let same = none_fragments (resolved_instruction e i) (length c.args.sink.now.labels) c.args.after.0 (c.requires.single_instruction ∙ sym (single_resolved e i)) (sym (no_memory e i c.in-None.ensures.row)) ∙ fragments_resolved e (length c.args.sink.now.labels) c.args.after.0 i in
-    on_ok c.emit_branch.result c.emit_branch.ensures.answer (λ h. h ∙ ap (apply_all c.args.sink.now) (sym same))
+    let none = no_memory e i c.in-None.ensures.row in
+    let same = none_fragments (resolved_instruction e i) (length s.labels) c.args.after.0 (c.requires.single_instruction ∙ sym (single_resolved e i)) (sym none) ∙ fragments_resolved e (length s.labels) c.args.after.0 i in
+    on_ok c.emit_place.result c.emit_place.ensures.answer (λ h. (ap (λ o. memory_cause_or (declared_in s) o (branch_cause s.block_count c.args.depth i)) none ∙ h.0, h.1 ∙ ap (apply_all s) (sym same)))
 
 pub returns-in-None-clause-lacks : goal.returns-in-None-clause-lacks
-returns-in-None-clause-lacks c = λ flags depth p.
-    let f = other_passed flags c.args.state.now c.args.sink.now c.args.after.0 c.args.state.now.nominal depth c.args.inst.now c.requires.single_instruction c.in-None.ensures.row p in
-    c.emit_branch.ensures.lacks depth f.0 f.1
+returns-in-None-clause-lacks c = λ flags p.
+    let f = other_passed flags c.args.state.now c.args.sink.now c.args.after.0 c.args.state.now.nominal c.args.depth c.args.inst.now c.requires.single_instruction c.in-None.ensures.row p in
+    c.emit_place.ensures.lacks f.0 f.1
 
 pub returns-in-None-clause-range : goal.returns-in-None-clause-range
-returns-in-None-clause-range c = on_ok c.emit_branch.result c.emit_branch.ensures.range (λ m. branch_range c.args.state.now c.args.inst.now c.in-None.ensures.row m)
+returns-in-None-clause-range c = on_ok c.emit_place.result c.emit_place.ensures.range (λ m. branch_range c.args.state.now c.args.inst.now c.in-None.ensures.row m)

@@ -1,4 +1,4 @@
-use Rattle.std.proofs.Common.{length, arith, ap, sym, ◌∙◌, subst, drop, ◌+◌, ◌≡◌}
+use Rattle.std.proofs.Common.{length, arith, ap, sym, ◌∙◌, subst, drop, ◌+◌, ◌<◌, ◌≡◌}
 use Rattle.s390x_buffer.proofs.Extending.{extends_on, extends_bound}
 use Rattle.s390x_emit_int.proofs.Binding.{bound_kept}
 use Rattle.s390x_typed_steps.specs.Resolved.{resolved_instruction}
@@ -9,9 +9,12 @@ use Rattle.s390x_emit_int.specs.Fragments.{apply_all}
 use Rattle.s390x_emit_int.specs.Emission.{own_fragments, fragments}
 use Rattle.s390x_typed_steps.specs.Ranges.{AllInRange}
 use Rattle.s390x_emit_int.proofs.Trees.{more, more_ranges, more_room, loop_states}
+use Rattle.s390x_typed_steps.specs.Causes.{declared_in, tree_cause}
+use Rattle.s390x_typed_steps.proofs.Causes.{first_none}
 use Rattle.s390x_emit_int.proofs.Answering.{on_ok, on_both}
+use Rattle.s390x_emit_int.proofs.Emitting.{more_cause, more_nominal, loop_none}
 use Rattle.s390x_emit_int.proofs.Lacking.{fails_with_none, lacks_again, lacks_call, mark_none, label_none}
-use Rattle.s390x_emit_int.proofs.Passing.{leaf_passed, member_passed, others_passed, loop_passed, members_unpoisoned, body_turns, back_passed, end_below, member_stack}
+use Rattle.s390x_emit_int.proofs.Passing.{leaf_passed, member_passed, others_passed, loop_passed, members_unpoisoned, body_turns, back_passed, end_below, member_stack, inner_passed, turns_on, draw_turns, bind_turns}
 use Rattle.s390x_typed_steps.specs.Stack.{state_after}
 use Rattle.s390x_inst.specs.Emission.{Emission}
 use Rattle.s390x_emit_int.proofs.tree.+members.Goals as goal
@@ -29,7 +32,7 @@ emit_inst-returns-in-Loop-clause-ranges t c =
 pub emit_inst-returns-in_default-clause-answer : goal.emit_inst-returns-in_default-clause-answer
 emit_inst-returns-in_default-clause-answer t c =
     let g = not_loop c.args.state.now c.args.inst.now c.in_default.not-Loop in
-    on_ok c.emit_leaf.result c.emit_leaf.ensures.answer (λ e. e ∙ ap (λ x. apply_all c.args.sink.now (own_fragments (length c.args.sink.now.labels) c.args.after.0 x)) (sym g))
+    on_ok c.emit_leaf.result c.emit_leaf.ensures.answer (λ e. e.1 ∙ ap (λ x. apply_all c.args.sink.now (own_fragments (length c.args.sink.now.labels) c.args.after.0 x)) (sym g))
 
 pub emit_inst-returns-in_default-clause-ranges : goal.emit_inst-returns-in_default-clause-ranges
 emit_inst-returns-in_default-clause-ranges t c =
@@ -39,34 +42,59 @@ emit_inst-returns-in_default-clause-ranges t c =
 pub emit_inst-returns-in-Loop-clause-lacks : goal.emit_inst-returns-in-Loop-clause-lacks
 emit_inst-returns-in-Loop-clause-lacks t c =
     let g = prepend_loop c.args.state.now c.args.inst.now c.in-Loop.cond c.in-Loop.body c.deref.result.now empty c.in-Loop.is c.deref.ensures.value in
-    λ flags depth p. c.emit_loop.ensures.lacks flags depth c.args.after.0 (subst (TreePassed flags c.args.sink.now c.args.after.0 c.args.state.now.nominal depth) g p)
+    λ p. c.emit_loop.ensures.lacks c.args.after.0 (subst (TreePassed c.args.flags c.args.sink.now c.args.after.0 c.args.state.now.nominal c.args.depth) g p)
 
 pub emit_inst-returns-in_default-clause-lacks : goal.emit_inst-returns-in_default-clause-lacks
 emit_inst-returns-in_default-clause-lacks t c =
     let g = not_loop c.args.state.now c.args.inst.now c.in_default.not-Loop in
-    λ flags depth p. c.emit_leaf.ensures.lacks flags depth (leaf_passed flags c.args.sink.now c.args.after.0 c.args.state.now.nominal depth (resolved_instruction c.args.state.now c.args.inst.now) _ g p)
+    λ p. c.emit_leaf.ensures.lacks (leaf_passed c.args.flags c.args.sink.now c.args.after.0 c.args.state.now.nominal c.args.depth (resolved_instruction c.args.state.now c.args.inst.now) _ g p)
+
+pub emit_inst-returns-in-Loop-clause-cause : goal.emit_inst-returns-in-Loop-clause-cause
+emit_inst-returns-in-Loop-clause-cause t c =
+    let s = c.args.sink.now in
+    let g = prepend_loop c.args.state.now c.args.inst.now c.in-Loop.cond c.in-Loop.body c.deref.result.now empty c.in-Loop.is c.deref.ensures.value in
+    on_ok c.emit_loop.result c.emit_loop.ensures.cause (λ e. ap (tree_cause c.args.flags (declared_in s) (length s.labels) c.args.state.now.nominal c.args.depth) g ∙ e)
+
+pub emit_inst-returns-in_default-clause-cause : goal.emit_inst-returns-in_default-clause-cause
+emit_inst-returns-in_default-clause-cause t c =
+    let s = c.args.sink.now in
+    let g = not_loop c.args.state.now c.args.inst.now c.in_default.not-Loop in
+    on_ok c.emit_leaf.result c.emit_leaf.ensures.answer (λ e. ap (tree_cause c.args.flags (declared_in s) (length s.labels) c.args.state.now.nominal c.args.depth) g ∙ first_none _ ∙ e.0)
 
 pub emit_members-loop-inst-preserved : goal.emit_members-loop-inst-preserved
 emit_members-loop-inst-preserved t c =
-    let here = c.loop-inst.here in
-    let on : c.advance.new.state ≡ state_after here c.inst-item.result = c.in_ok-advance.ensures in
+    let flags = c.args.flags in
+    let depth = c.args.depth in
+    let is = c.args.insts.now in
+    let k = c.loop-inst.inst-index in
+    let here = c.loop-inst.state in
+    let i = c.inst-item.result in
+    let next = c.advance.new.state in
+    let on : next ≡ state_after here i = c.in_ok-advance.ensures in
+    let s = c.loop-inst.sink in
+    let s1 = c.start_step.new.self in
     let s2 = c.emit_inst.new.sink in
     let after = c.args.after.0 in
+    let lt : k < length is = omega arith in
+    let e1 = c.in_ok-start_step.ensures.answer.1 in
+    let e2 = c.in_ok-emit_inst.ensures.answer in
     record {
       kept = extends_on _ _ _ c.loop-inst.invariant.kept (extends_on _ _ _ c.start_step.ensures.kept c.emit_inst.ensures.kept);
-      room = more_room here c.inst-item.result c.loop-inst.sink c.start_step.new.self s2 after c.loop-inst.invariant.room c.in_ok-start_step.ensures.answer.1 c.in_ok-emit_inst.ensures.answer;
-      rest = ap (λ e. apply_all s2 (fragments (length s2.labels) after (tree e (drop (c.loop-inst.inst-index + 1) c.args.insts.now)))) on ∙ more here c.args.insts.now c.loop-inst.inst-index c.inst-item.result c.loop-inst.sink c.start_step.new.self s2 _ after (omega arith) c.inst-item.is c.in_ok-start_step.ensures.answer.1 c.in_ok-emit_inst.ensures.answer c.loop-inst.invariant.rest;
-      passed = λ flags depth p. subst (λ (e : Emission). TreePassed flags s2 after e.nominal depth (tree e (drop (c.loop-inst.inst-index + 1) c.args.insts.now))) (sym on) (others_passed here flags c.loop-inst.sink c.start_step.new.self s2 after depth c.args.insts.now c.loop-inst.inst-index c.inst-item.result (omega arith) c.inst-item.is c.in_ok-start_step.ensures.answer.1 c.in_ok-emit_inst.ensures.answer (c.loop-inst.invariant.passed flags depth p));
-      ranges = λ f. c.loop-inst.invariant.ranges (more_ranges here c.args.insts.now c.loop-inst.inst-index c.inst-item.result (omega arith) c.inst-item.is c.in_ok-emit_inst.ensures.ranges (subst (λ e. AllInRange (tree e (drop (c.loop-inst.inst-index + 1) c.args.insts.now))) on f));
+      room = more_room here i s s1 s2 after c.loop-inst.invariant.room e1 e2;
+      rest = ap (λ e. apply_all s2 (fragments (length s2.labels) after (tree e (drop (k + 1) is)))) on ∙ more here is k i s s1 s2 _ after lt c.inst-item.is e1 e2 c.loop-inst.invariant.rest;
+      cause = more_cause flags here next s s1 s2 after depth is k i lt c.inst-item.is e1 e2 on c.in_ok-emit_inst.ensures.cause ∙ c.loop-inst.invariant.cause;
+      nominal = more_nominal here next is k i lt c.inst-item.is on ∙ c.loop-inst.invariant.nominal;
+      passed = λ p. subst (λ (e : Emission). TreePassed flags s2 after e.nominal depth (tree e (drop (k + 1) is))) (sym on) (others_passed here flags s s1 s2 after depth is k i lt c.inst-item.is e1 e2 (c.loop-inst.invariant.passed p));
+      ranges = λ f. c.loop-inst.invariant.ranges (more_ranges here is k i lt c.inst-item.is c.in_ok-emit_inst.ensures.ranges (subst (λ e. AllInRange (tree e (drop (k + 1) is))) on f));
     }
 
 pub emit_members-returns-in_err-advance-clause-kept : goal.emit_members-returns-in_err-advance-clause-kept
 emit_members-returns-in_err-advance-clause-kept t c = extends_on _ _ _ c.loop-inst.invariant.kept (extends_on _ _ _ c.start_step.ensures.kept c.emit_inst.ensures.kept)
 
 pub emit_members-returns-in_err-advance-clause-lacks : goal.emit_members-returns-in_err-advance-clause-lacks
-emit_members-returns-in_err-advance-clause-lacks t c = λ flags depth p.
-    let none = member_stack c.loop-inst.here flags c.loop-inst.sink c.args.after.0 depth c.args.insts.now c.loop-inst.inst-index c.inst-item.result (omega arith) c.inst-item.is (c.loop-inst.invariant.passed flags depth p) in
-    let some = c.in_err-advance.ensures.0 depth in
+emit_members-returns-in_err-advance-clause-lacks t c = λ p.
+    let none = member_stack c.loop-inst.state c.args.flags c.loop-inst.sink c.args.after.0 c.args.depth c.args.insts.now c.loop-inst.inst-index c.inst-item.result (omega arith) c.inst-item.is (c.loop-inst.invariant.passed p) in
+    let some = c.in_err-advance.ensures.0 c.args.depth in
     absurd (cc)
 
 pub emit_members-returns-in_err-emit_inst-clause-kept : goal.emit_members-returns-in_err-emit_inst-clause-kept
@@ -88,19 +116,19 @@ emit_loop-returns-clause-kept t c =
     extends_bound _ _ _ _ branched (omega (arith, c.get_label.ensures.kept.entries.label_count, c.in_ok-end.ensures.answer.1)) c.bind_label-2.ensures.kept
 
 pub emit_members-returns-in_err-emit_inst-clause-lacks : goal.emit_members-returns-in_err-emit_inst-clause-lacks
-emit_members-returns-in_err-emit_inst-clause-lacks t c = λ flags depth p.
-    lacks_again c.from_residual-in_err-emit_inst.result _ c.from_residual-in_err-emit_inst.ensures.1 (c.in_err-emit_inst.ensures.lacks flags depth (member_passed c.loop-inst.here flags c.loop-inst.sink c.start_step.new.self c.args.after.0 depth c.args.insts.now c.loop-inst.inst-index c.inst-item.result (omega arith) c.inst-item.is c.in_ok-start_step.ensures.answer.1 (c.loop-inst.invariant.passed flags depth p)))
+emit_members-returns-in_err-emit_inst-clause-lacks t c = λ p.
+    lacks_again c.from_residual-in_err-emit_inst.result _ c.from_residual-in_err-emit_inst.ensures.1 (c.in_err-emit_inst.ensures.lacks (member_passed c.loop-inst.state c.args.flags c.loop-inst.sink c.start_step.new.self c.args.after.0 c.args.depth c.args.insts.now c.loop-inst.inst-index c.inst-item.result (omega arith) c.inst-item.is c.in_ok-start_step.ensures.answer.1 (c.loop-inst.invariant.passed p)))
 
 pub emit_loop-returns-in_err-start_step-clause-lacks : goal.emit_loop-returns-in_err-start_step-clause-lacks
-emit_loop-returns-in_err-start_step-clause-lacks t c = λ flags depth after p.
-    let l = loop_passed flags c.args.sink.now after c.args.state.now.nominal depth c.args.cond (tree c.args.state.now c.args.body.now) p in
+emit_loop-returns-in_err-start_step-clause-lacks t c = λ after p.
+    let l = loop_passed c.args.flags c.args.sink.now after c.args.state.now.nominal c.args.depth c.args.cond (tree c.args.state.now c.args.body.now) p in
     lacks_again c.from_residual-in_err-start_step.result _ c.from_residual-in_err-start_step.ensures.1 (fails_with_none _ _ (mark_none c.emit_members.new.sink (members_unpoisoned c.args.sink.now c.get_label.new.self c.get_label-2.new.self c.bind_label.new.self c.emit_members.new.sink c.in_ok-start.start.0 c.in_ok-end.end.0 (tree c.args.state.now c.args.body.now) c.in_ok-start.ensures.answer.2 c.in_ok-end.ensures.answer.2 c.in_ok-bind_label.ensures.answer.1 c.in_ok-emit_members.ensures.answer ∙ l.unpoisoned)) c.in_err-start_step.ensures.answer.0)
 
 pub emit_loop-returns-in_err-put_branch-clause-lacks : goal.emit_loop-returns-in_err-put_branch-clause-lacks
-emit_loop-returns-in_err-put_branch-clause-lacks t c = λ flags depth after p.
-    let l = loop_passed flags c.args.sink.now after c.args.state.now.nominal depth c.args.cond (tree c.args.state.now c.args.body.now) p in
+emit_loop-returns-in_err-put_branch-clause-lacks t c = λ after p.
+    let l = loop_passed c.args.flags c.args.sink.now after c.args.state.now.nominal c.args.depth c.args.cond (tree c.args.state.now c.args.body.now) p in
     let b = body_turns c.args.sink.now c.get_label.new.self c.get_label-2.new.self c.bind_label.new.self c.emit_members.new.sink c.start_step.new.self c.in_ok-start.start.0 c.in_ok-end.end.0 (tree c.args.state.now c.args.body.now) c.in_ok-start.ensures.answer.2 c.in_ok-end.ensures.answer.2 c.in_ok-bind_label.ensures.answer.1 c.in_ok-emit_members.ensures.answer c.in_ok-start_step.ensures.answer.1 in
-    lacks_again c.from_residual-in_err-put_branch.result _ c.from_residual-in_err-put_branch.ensures.1 (c.in_err-put_branch.ensures.lacks (back_passed flags c.args.sink.now c.start_step.new.self c.in_ok-start.start.0 c.args.state.now.nominal depth (tree c.args.state.now c.args.body.now) l b c.in_ok-start.ensures.answer.1))
+    lacks_again c.from_residual-in_err-put_branch.result _ c.from_residual-in_err-put_branch.ensures.1 (c.in_err-put_branch.ensures.lacks (back_passed c.args.flags c.args.sink.now c.start_step.new.self c.in_ok-start.start.0 c.args.state.now.nominal c.args.depth (tree c.args.state.now c.args.body.now) l b c.in_ok-start.ensures.answer.1))
 
 pub emit_loop-returns-in_err-put_branch-clause-kept : goal.emit_loop-returns-in_err-put_branch-clause-kept
 emit_loop-returns-in_err-put_branch-clause-kept t c =
@@ -121,8 +149,26 @@ pub emit_loop-returns-in_err-bind_label-clause-kept : goal.emit_loop-returns-in_
 emit_loop-returns-in_err-bind_label-clause-kept t c = bound_kept c.args.sink.now c.get_label.new.self c.get_label-2.new.self c.bind_label.new.self c.in_ok-start.start.0 c.get_label.ensures.kept c.get_label-2.ensures.kept c.in_ok-start.ensures.answer.1 c.bind_label.ensures.kept
 
 pub emit_loop-returns-clause-lacks : goal.emit_loop-returns-clause-lacks
-emit_loop-returns-clause-lacks t c = λ flags depth after p.
-    let l = loop_passed flags c.args.sink.now after c.args.state.now.nominal depth c.args.cond (tree c.args.state.now c.args.body.now) p in
+emit_loop-returns-clause-lacks t c = λ after p.
+    let l = loop_passed c.args.flags c.args.sink.now after c.args.state.now.nominal c.args.depth c.args.cond (tree c.args.state.now c.args.body.now) p in
     let b = body_turns c.args.sink.now c.get_label.new.self c.get_label-2.new.self c.bind_label.new.self c.emit_members.new.sink c.start_step.new.self c.in_ok-start.start.0 c.in_ok-end.end.0 (tree c.args.state.now c.args.body.now) c.in_ok-start.ensures.answer.2 c.in_ok-end.ensures.answer.2 c.in_ok-bind_label.ensures.answer.1 c.in_ok-emit_members.ensures.answer c.in_ok-start_step.ensures.answer.1 in
-    let end = end_below c.args.sink.now c.get_label.new.self c.start_step.new.self c.put_branch.new.sink c.bits-mask.result c.in_ok-start.start.0 c.in_ok-end.end.0 depth (tree c.args.state.now c.args.body.now) c.in_ok-start.ensures.answer.2 c.in_ok-end.ensures.answer.1 b c.in_ok-put_branch.ensures.answer in
+    let end = end_below c.args.sink.now c.get_label.new.self c.start_step.new.self c.put_branch.new.sink c.bits-mask.result c.in_ok-start.start.0 c.in_ok-end.end.0 c.args.depth (tree c.args.state.now c.args.body.now) c.in_ok-start.ensures.answer.2 c.in_ok-end.ensures.answer.1 b c.in_ok-put_branch.ensures.answer in
     lacks_call _ _ _ c.bind_label-2.result c.bind_label-2.ensures.answer (label_none c.put_branch.new.sink c.in_ok-end.end.0 (ap (λ x. x.failed) c.in_ok-put_branch.ensures.answer ∙ b.unpoisoned ∙ l.unpoisoned) end)
+
+pub emit_loop-returns-clause-cause : goal.emit_loop-returns-clause-cause
+emit_loop-returns-clause-cause t c =
+    let s = c.args.sink.now in
+    let opens = sym c.loop_cause.ensures.cause ∙ c.in_default.is in
+    let none = loop_none c.args.flags s c.get_label.new.self c.get_label-2.new.self c.bind_label.new.self c.in_ok-start.start.0 c.args.state.now.nominal c.args.depth c.args.cond (tree c.args.state.now c.args.body.now) c.in_ok-start.ensures.answer.2 c.in_ok-end.ensures.answer.2 c.in_ok-bind_label.ensures.answer.1 opens c.in_ok-emit_members.ensures.cause.0 in
+    on_both _ c.bind_label-2.result c.bind_label-2.ensures.answer (λ _. none)
+
+pub emit_loop-returns-in_err-emit_members-clause-lacks : goal.emit_loop-returns-in_err-emit_members-clause-lacks
+emit_loop-returns-in_err-emit_members-clause-lacks t c = λ after p.
+    let s = c.args.sink.now in
+    let l = loop_passed c.args.flags s after c.args.state.now.nominal c.args.depth c.args.cond (tree c.args.state.now c.args.body.now) p in
+    let a = draw_turns s c.get_label.new.self c.in_ok-start.ensures.answer.2 in
+    let b = draw_turns c.get_label.new.self c.get_label-2.new.self c.in_ok-end.ensures.answer.2 in
+    let o = bind_turns c.get_label-2.new.self c.bind_label.new.self c.in_ok-start.start.0 c.in_ok-bind_label.ensures.answer.1 in
+    let turns = turns_on _ _ _ _ _ _ _ (turns_on _ _ _ _ _ _ _ a b) o in
+    let below : c.in_ok-end.end.0 < length c.bind_label.new.self.labels = omega (arith, c.in_ok-end.ensures.answer.1, b.labels, o.labels) in
+    lacks_again c.from_residual-in_err-emit_members.result _ c.from_residual-in_err-emit_members.ensures.1 (c.in_err-emit_members.ensures.lacks (inner_passed c.args.flags s c.bind_label.new.self c.args.state.now.nominal c.args.depth c.in_ok-end.end.0 0 (tree c.args.state.now c.args.body.now) l turns below))
