@@ -11,6 +11,7 @@ pub mod RelativeRows
 pub mod Composites
 pub mod Decoding
 pub mod Fetching
+pub mod Folding
 pub mod Finalizing
 pub mod Frame
 pub mod Functions
