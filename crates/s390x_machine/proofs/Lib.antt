@@ -15,6 +15,7 @@ pub mod Folding
 pub mod Finalizing
 pub mod Frame
 pub mod Functions
+pub mod Halving
 pub mod Helpers
 pub mod Induction
 pub mod RowSemantics
