@@ -1,9 +1,8 @@
 -- The search by halving in a list of semantics whose opcodes rise.
-use Rattle.std.proofs.Common.{◌≡◌, ◌≢◌, ℕ, zero, suc, ◌+◌, ◌<◌, ◌≤◌, true, ◌&&◌, ◌==◌, Bool, if◌then◌else◌, List, [], ◌∷◌, Option, Some, None, length, get_or, refl, ap, ◌∙◌, arith, eq-eqb, ne_eqb}
+use Rattle.std.proofs.Common.{◌≡◌, ◌≢◌, ℕ, zero, suc, ◌+◌, ◌<◌, ◌≤◌, true, Bool, if◌then◌else◌, List, [], ◌∷◌, Some, None, length, get_or, refl, ap, ◌∙◌, arith, eq-eqb, ne_eqb}
 use Rattle.std.specs.Prelude.{nat_le}
 use Rattle.std.proofs.lemmas.Bool.{and_parts, leb-true}
 use Rattle.s390x_machine.specs.declared.semantics.OpcodeSemantics.{OpcodeSemantics}
-use Rattle.s390x_machine.specs.declared.semantics.RowSemantics.{RowSemantics}
 use Rattle.s390x_machine.specs.Semantics.{opcodes_rise, semantics_in}
 
 rises_low : (n : ℕ) (rows : List OpcodeSemantics) (i : ℕ) (z : OpcodeSemantics) → opcodes_rise n rows ≡ true → i < length rows → n ≤ (get_or rows i z).opcode

@@ -162,6 +162,16 @@ impl Memory for FlatMemory {
         }
     }
 
+    fn byte_at(&self, address: u64) -> Option<u8> {
+        match self.holder(address) {
+            Some(i) => {
+                let region = &self.regions[i];
+                Some(region.bytes[(address - region.start) as usize])
+            }
+            None => self.older.get(&address).copied(),
+        }
+    }
+
     fn set(&mut self, address: u64, value: u8) {
         match self.holder(address) {
             Some(i) => {

@@ -1,6 +1,4 @@
-use Rattle.std.proofs.Common.{◌≡◌, ℕ, ◌-◌, ◌∷◌, ◌++◌, List, [], Some, get_or, take, slice_index, sym, ap, ◌∙◌, subst, arith, false, true}
-use Rattle.std.specs.BTreeMap.{get}
-use Rattle.std.specs.Ordering.{nat_cmp}
+use Rattle.std.proofs.Common.{◌≡◌, ℕ, ◌-◌, ◌∷◌, ◌++◌, List, [], Some, take, slice_index, sym, ap, ◌∙◌, subst, arith}
 use Rattle.s390x_machine.specs.Regions.{has_address, IsFolded}
 use Rattle.s390x_machine.specs.declared.flat.Region.{Region}
 use Rattle.s390x_machine.proofs.Folding.{last_of, folded_last, folded_partly}

@@ -1,4 +1,4 @@
-use Rattle.std.proofs.Common.{ℕ, List, Bool, ◌||◌, ◌-◌, ◌∷◌, if◌then◌else◌, slice_index, refl, ap, ◌∙◌}
+use Rattle.std.proofs.Common.{ℕ, List, Bool, ◌||◌, ◌-◌, if◌then◌else◌, slice_index, refl, ap, ◌∙◌}
 use Rattle.s390x_machine.specs.Regions.{covers, has_address, held_by, byte_by}
 use Rattle.s390x_machine.specs.declared.flat.Region.{Region}
 use Rattle.s390x_machine.proofs.Folding.{has_below, held_first, byte_first}
