@@ -1,30 +1,36 @@
 -- The memory in which an execution starts, region by region.
-use Rattle.std.proofs.Common.{◌≡◌, ℕ, zero, suc, ◌+◌, ◌-◌, ◌<◌, ◌≤◌, ◌^◌, ◌%◌, Bool, true, false, ◌||◌, ◌&&◌, if◌then◌else◌, List, [], ◌∷◌, length, get_or, drop, slice_index, refl, sym, ap, ap₂, ◌∙◌, subst, arith, IsTrue, le-leb, lt-ltb}
+use Rattle.std.proofs.Common.{◌≡◌, ℕ, zero, suc, ◌+◌, ◌-◌, ◌<◌, ◌≤◌, ◌^◌, ◌%◌, Bool, true, false, ◌||◌, ◌&&◌, if◌then◌else◌, List, [], ◌∷◌, length, get_or, drop, slice_index, refl, sym, ap, ap₂, ◌∙◌, subst, arith, true≢false, Option, Some, None, IsTrue, le-leb, lt-ltb}
 use Rattle.std.specs.Prelude.{nat_le, nat_lt}
+use Rattle.std.specs.BTreeMap.{get}
+use Rattle.std.specs.Option.{is_some, unwrap_or}
+use Rattle.std.specs.Ordering.{nat_cmp}
 use Rattle.std.proofs.lemmas.List.{drop_more}
 use Rattle.std.proofs.lemmas.Bool.{or_parts}
 use Rattle.s390x_operations.specs.State.{Registers, Memory, wrapping_add64}
 use Rattle.s390x_operations.specs.declared.stop.ConditionCode.{ConditionCode}
-use Rattle.s390x_machine.specs.Regions.{contains, covers, held_in, byte_in, is_held, byte_of}
+use Rattle.s390x_machine.specs.Regions.{covers, held_in, byte_in, is_held, byte_of}
 use Rattle.s390x_machine.specs.State.{memory_of, registers_of, fresh_registers}
-use Rattle.s390x_machine.specs.declared.flat.Region.{Region}
 use Rattle.s390x_machine.specs.declared.flat.FlatMemory.{FlatMemory}
 use Rattle.s390x_job.specs.declared.job.MemLine.{MemLine}
 use Rattle.s390x_job.specs.declared.job.StartRegs.{StartRegs}
 use Rattle.s390x_execution.specs.Start.{with_bytes, with_regions, no_memory, start_memory, start_registers, AllRegionsFit}
 use Rattle.s390x_execution.specs.Text.{AllHeld}
 
--- a byte that no region has is 0
-byte_nowhere : (rs : List Region) (a : ℕ) → held_in rs a ≡ false → byte_in rs a ≡ 0
-unfolding held_in byte_in
-byte_nowhere [] a h = refl
-byte_nowhere (r ∷ rs) a h =
-    let parts = or_parts (contains r a) (held_in rs a) h in
-    ap (λ b. if b then slice_index r.bytes.items (a - r.start) else byte_in rs a) parts.0 ∙ byte_nowhere rs a parts.1
+-- what isn't there is 0
+nothing : (x : Option ℕ) → is_some x ≡ false → unwrap_or x 0 ≡ 0
+nothing None h = refl
+nothing (Some n) h = absurd (true≢false h)
+
+-- a byte that isn't accessible is 0
+byte_nowhere : (m : FlatMemory) (a : ℕ) → is_held m a ≡ false → byte_of m a ≡ 0
+byte_nowhere m a h =
+    let older = get nat_cmp m.older a in
+    let parts = or_parts (held_in m.regions.items a) (is_some older) h in
+    ap (λ b. if b then byte_in m.regions.items a else unwrap_or older 0) parts.0 ∙ nothing older parts.1
 
 -- a memory without an accessible address is all zero
 pub empty_memory : (m : FlatMemory) → ((a : ℕ) → is_held m a ≡ false) → memory_of (is_held m) (byte_of m) ≡ no_memory
-empty_memory m none = ap₂ memory_of (λ j a. none a j) (λ j a. byte_nowhere m.regions.items a (none a) j)
+empty_memory m none = ap₂ memory_of (λ j a. none a j) (λ j a. byte_nowhere m a (none a) j)
 
 -- one more region
 pub added_memory : (m n : FlatMemory) (start : ℕ) (bytes : List ℕ) → ((a : ℕ) → is_held n a ≡ (covers start bytes a || is_held m a))

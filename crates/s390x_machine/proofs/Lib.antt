@@ -11,9 +11,11 @@ pub mod RelativeRows
 pub mod Composites
 pub mod Decoding
 pub mod Fetching
+pub mod Folding
 pub mod Finalizing
 pub mod Frame
 pub mod Functions
+pub mod Halving
 pub mod Helpers
 pub mod Induction
 pub mod RowSemantics

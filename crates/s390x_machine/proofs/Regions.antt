@@ -1,11 +1,10 @@
 -- A memory of regions: the first region that has an address is the one that counts.
-use Rattle.std.proofs.Common.{◌≡◌, ◌≢◌, ℕ, zero, suc, ◌-◌, ◌<◌, Bool, true, false, ◌&&◌, ◌||◌, ◌==◌, if◌then◌else◌, List, [], ◌∷◌, Option, Some, None, length, get_or, slice_index, refl, sym, ap, ◌∙◌, arith, true≢false}
-use Rattle.std.specs.Prelude.{nat_le, nat_lt, slice_set, MatchOption}
-use Rattle.std.specs.Option.{is_some}
+use Rattle.std.proofs.Common.{◌≡◌, ◌≢◌, ℕ, zero, suc, ◌-◌, ◌^◌, ◌<◌, Bool, true, false, ◌&&◌, ◌||◌, ◌==◌, if◌then◌else◌, List, [], ◌∷◌, length, get_or, slice_index, refl, sym, ap, ◌∙◌, arith, true≢false}
+use Rattle.std.specs.Prelude.{nat_le, nat_lt, slice_set}
 use Rattle.std.proofs.lemmas.Bool.{and_parts, leb-true, eqb-true, eqb-false}
 use Rattle.std.proofs.lemmas.List.{get_or-set_same, get_or-set_other, length-set}
 use Rattle.s390x_operations.specs.State.{update}
-use Rattle.s390x_machine.specs.Regions.{contains, held_in, byte_in}
+use Rattle.s390x_machine.specs.Regions.{covers, contains, held_in, byte_in}
 use Rattle.s390x_machine.specs.declared.flat.Region.{Region}
 
 -- none of the first i regions has the address
@@ -33,17 +32,19 @@ byte_here (r ∷ rs) a zero z lt h here = ap (λ b. if b then slice_index r.byte
 byte_here (r ∷ rs) a (suc i) z lt h here = ap (λ b. if b then slice_index r.bytes.items (a - r.start) else byte_in rs a) (h 0 z (omega arith)) ∙ byte_here rs a i z (omega arith) (later r rs a i h) here
 
 -- the address lies in the region
+covered : (r : Region) (a : ℕ) → contains r a ≡ true → covers r.start r.bytes.items a ≡ true
+covered r a here = (and_parts (covers r.start r.bytes.items a) (nat_lt a (2 ^ 64)) here).0
+
 pub inside : (r : Region) (a : ℕ) → contains r a ≡ true → a - r.start < length r.bytes.items
-inside r a here = leb-true (suc (a - r.start)) (length r.bytes.items) (and_parts (nat_le r.start a) (nat_lt (a - r.start) (length r.bytes.items)) here).1
+inside r a here = leb-true (suc (a - r.start)) (length r.bytes.items) (and_parts (nat_le r.start a) (nat_lt (a - r.start) (length r.bytes.items)) (covered r a here)).1
 
 -- region i is the first that has the address
 abbrev pub IsHolder : List Region → ℕ → ℕ → Type 0
 IsHolder rs a i = (i < length rs) × ((z : Region) → contains (get_or rs i z) a ≡ true) × NoneBefore rs a i
 
-pub has_some : (rs : List Region) (a : ℕ) (o : Option ℕ) → MatchOption o (held_in rs a ≡ false) (λ i. IsHolder rs a i) → is_some o ≡ held_in rs a
-has_some rs a None h = sym h
-has_some [] a (Some i) h = absurd (omega (arith, h.0))
-has_some (r ∷ rs) a (Some i) h = sym (held_here (r ∷ rs) a i r h.0 h.2 (h.1 r))
+pub some_held : (rs : List Region) (a i : ℕ) → IsHolder rs a i → held_in rs a ≡ true
+some_held [] a i h = absurd (omega (arith, h.0))
+some_held (r ∷ rs) a i h = held_here (r ∷ rs) a i r h.0 h.2 (h.1 r)
 
 -- ---- a byte is changed
 
@@ -55,7 +56,7 @@ pub record IsChanged (r new : Region) (a v : ℕ) : Type 0 where
 same_addresses : (r new : Region) (a v b : ℕ) → IsChanged r new a v → contains new b ≡ contains r b
 same_addresses r new a v b c =
     let long : length new.bytes.items ≡ length r.bytes.items = ap (λ (bs : List ℕ). length bs) c.bytes ∙ length-set r.bytes.items (a - r.start) v in
-    ap (λ s. nat_le s b && nat_lt (b - s) (length new.bytes.items)) c.start ∙ ap (λ n. nat_le r.start b && nat_lt (b - r.start) n) long
+    ap (λ s. (nat_le s b && nat_lt (b - s) (length new.bytes.items)) && nat_lt b (2 ^ 64)) c.start ∙ ap (λ n. (nat_le r.start b && nat_lt (b - r.start) n) && nat_lt b (2 ^ 64)) long
 
 pub held_after : (rs : List Region) (i a v : ℕ) (z new : Region) (b : ℕ) → IsChanged (get_or rs i z) new a v → i < length rs → held_in (slice_set rs i new) b ≡ held_in rs b
 unfolding held_in
@@ -74,8 +75,8 @@ byte_changed r new a v b c here e =
 -- another one in it
 byte_kept : (r new : Region) (a v b : ℕ) → IsChanged r new a v → contains r a ≡ true → contains r b ≡ true → b ≢ a → slice_index new.bytes.items (b - new.start) ≡ slice_index r.bytes.items (b - r.start)
 byte_kept r new a v b c here there ne =
-    let low = leb-true r.start a (and_parts (nat_le r.start a) (nat_lt (a - r.start) (length r.bytes.items)) here).0 in
-    let low_too = leb-true r.start b (and_parts (nat_le r.start b) (nat_lt (b - r.start) (length r.bytes.items)) there).0 in
+    let low = leb-true r.start a (and_parts (nat_le r.start a) (nat_lt (a - r.start) (length r.bytes.items)) (covered r a here)).0 in
+    let low_too = leb-true r.start b (and_parts (nat_le r.start b) (nat_lt (b - r.start) (length r.bytes.items)) (covered r b there)).0 in
     ap (λ s. slice_index new.bytes.items (b - s)) c.start
     ∙ ap (λ (bs : List ℕ). slice_index bs (b - r.start)) c.bytes
     ∙ get_or-set_other r.bytes.items (a - r.start) (b - r.start) v 0 (λ e. ne (omega (arith, e, low, low_too)))

@@ -8,7 +8,8 @@ use Rattle.s390x_machine.specs.Fetch.{Fetched, Misplaced, Missing, Unknown, Foun
 use Rattle.s390x_machine.specs.Machine.{Event, OddPairStep, RowStep, MachineStep, Executed, Interrupted}
 use Rattle.s390x_machine.specs.Semantics.{action, is_odd_pair, semantics_of}
 use Rattle.s390x_machine.specs.Sound.{is_free}
-use Rattle.s390x_machine.specs.Step.{IsOpen, Executes, Steps, stored_by}
+use Rattle.s390x_machine.specs.Step.{IsOpen, Overflows, ActionFits, Executes, Steps, stored_by}
+use Rattle.s390x_machine.specs.declared.semantics.Action.{Action}
 use Rattle.s390x_machine.specs.declared.semantics.RowSemantics.{RowSemantics}
 use Rattle.s390x_machine.specs.declared.step.StepEnd.{StepEnd}
 use Rattle.s390x_machine.specs.declared.step.StepEnd.TheVariants.{Went, Stopped, NoRow}
@@ -44,6 +45,14 @@ not_open s d semantics h is free o =
     let says : is_free semantics d.fields s.core.registers ≡ true = ap (λ (m : RowSemantics). is_free m d.fields s.core.registers) one ∙ ap (λ (e : Decoded). is_free o.semantics e.fields s.core.registers) same ∙ o.says_nothing in
     true≢false (sym says ∙ free)
 
+-- no quotient of the row that is found overflows where its action's fit
+no_overflow : (s : State) (d : Decoded) (semantics : RowSemantics) → IsFound s.core.memory s.address d → semantics_of d.row.opcode ≡ Some semantics → ActionFits (action semantics d.fields s.core.registers s.address) → Overflows s → ⊥
+no_overflow s d semantics h is fits o =
+    let same : d ≡ o.found = found_alike d o.found (one_thing s.core.memory s.address (Found d) (Found o.found) h o.at) in
+    let one : semantics ≡ o.semantics = ap (meaning_or semantics) (sym is ∙ ap (λ (e : Decoded). semantics_of e.row.opcode) same ∙ o.means) in
+    let acts = ap (λ (m : RowSemantics). action m d.fields s.core.registers s.address) one ∙ ap (λ (e : Decoded). action o.semantics e.fields s.core.registers s.address) same ∙ o.performs in
+    subst (λ (a : Action). ActionFits a) acts fits o.unfit
+
 -- a machine step at the row that is found
 row_acts : (s : State) (d : Decoded) (semantics : RowSemantics) (odd : Bool) (event : Event) (t : State) → IsFound s.core.memory s.address d → semantics_of d.row.opcode ≡ Some semantics → is_odd_pair semantics d.fields ≡ odd →
     OddPairStep odd (action semantics d.fields s.core.registers s.address) (length_of d.row.format) s event t → MachineStep s event t
@@ -63,7 +72,8 @@ executed s d semantics Went t h is free pair x = (
   not_open s d semantics h is free,
   record {
     stored = stored_by (action semantics d.fields s.core.registers s.address) s.core.memory;
-    goes = row_acts s d semantics false (Executed (stored_by (action semantics d.fields s.core.registers s.address) s.core.memory)) t h is pair x;
+    goes = row_acts s d semantics false (Executed (stored_by (action semantics d.fields s.core.registers s.address) s.core.memory)) t h is pair x.0;
+    fits = no_overflow s d semantics h is x.1;
   },
 )
 executed s d semantics (Stopped kind place) t h is free pair x = (not_open s d semantics h is free, row_acts s d semantics false (Interrupted kind) t h is pair x.0, x.1)

@@ -1,5 +1,8 @@
--- A memory of regions, the last one added first.
-use Rattle.std.specs.Prelude.{ℕ, ◌-◌, Bool, false, ◌&&◌, ◌||◌, nat_le, nat_lt, if◌then◌else◌, List, [], ◌∷◌, length, slice_index}
+-- A memory of regions, the last one added first, and of bytes of older ones.
+use Rattle.std.specs.Prelude.{◌≡◌, ℕ, ◌-◌, ◌^◌, Bool, false, ◌&&◌, ◌||◌, nat_le, nat_lt, if◌then◌else◌, List, [], ◌∷◌, length, slice_index}
+use Rattle.std.specs.Option.{is_some, unwrap_or}
+use Rattle.std.specs.BTreeMap.{BTreeMap, get}
+use Rattle.std.specs.Ordering.{nat_cmp}
 use Rattle.s390x_machine.specs.declared.flat.Region.{Region}
 use Rattle.s390x_machine.specs.declared.flat.FlatMemory.{FlatMemory}
 
@@ -7,9 +10,13 @@ use Rattle.s390x_machine.specs.declared.flat.FlatMemory.{FlatMemory}
 abbrev pub covers : ℕ → List ℕ → ℕ → Bool
 covers start bytes a = nat_le start a && nat_lt (a - start) (length bytes)
 
+-- it is, and there is such an address
+abbrev pub has_address : ℕ → List ℕ → ℕ → Bool
+has_address start bytes a = covers start bytes a && nat_lt a (2 ^ 64)
+
 -- the address is one of the region's
 abbrev pub contains : Region → ℕ → Bool
-contains r a = covers r.start r.bytes.items a
+contains r a = has_address r.start r.bytes.items a
 
 -- the address is one of some region's
 unfoldable pub held_in : List Region → ℕ → Bool
@@ -21,10 +28,23 @@ unfoldable pub byte_in : List Region → ℕ → ℕ
 byte_in [] a = 0
 byte_in (r ∷ rs) a = if contains r a then slice_index r.bytes.items (a - r.start) else byte_in rs a
 
+-- the address is one of some region's, or an older byte's
+abbrev pub held_by : List Region → BTreeMap ℕ ℕ → ℕ → Bool
+held_by rs older a = held_in rs a || is_some (get nat_cmp older a)
+
+-- the byte at an address, that of a region before an older one; 0 where there is none
+abbrev pub byte_by : List Region → BTreeMap ℕ ℕ → ℕ → ℕ
+byte_by rs older a = if held_in rs a then byte_in rs a else unwrap_or (get nat_cmp older a) 0
+
+-- an address is accessible and has its byte after regions and older bytes change, as before
+pub record IsFolded (rs : List Region) (older : BTreeMap ℕ ℕ) (new_rs : List Region) (new_older : BTreeMap ℕ ℕ) (a : ℕ) : Type 0 where
+  pub held : held_by new_rs new_older a ≡ held_by rs older a
+  pub byte : byte_by new_rs new_older a ≡ byte_by rs older a
+
 -- the accessible addresses of a memory
 abbrev pub is_held : FlatMemory → ℕ → Bool
-is_held m a = held_in m.regions.items a
+is_held m a = held_by m.regions.items m.older a
 
 -- the bytes of a memory; 0 where there is none
 abbrev pub byte_of : FlatMemory → ℕ → ℕ
-byte_of m a = byte_in m.regions.items a
+byte_of m a = byte_by m.regions.items m.older a

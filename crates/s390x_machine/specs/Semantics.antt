@@ -1,5 +1,5 @@
 -- What a machine row does with its fields (Principles of Operation, chapter 7, "General instructions"). This is the only place that knows their order.
-use Rattle.std.specs.Prelude.{ℕ, ◌+◌, ◌-◌, ◌*◌, ◌^◌, ◌%◌, ◌==◌, nat_lt, Bool, true, false, ◌&&◌, if◌then◌else◌, pos, ◌+ℤ◌, List, [], ◌∷◌, Option, Some, None, slice_index}
+use Rattle.std.specs.Prelude.{ℕ, ◌+◌, ◌-◌, ◌*◌, ◌^◌, ◌%◌, ◌==◌, nat_le, nat_lt, Bool, true, false, ◌&&◌, if◌then◌else◌, pos, ◌+ℤ◌, List, [], ◌∷◌, Option, Some, None, slice_index}
 use Rattle.s390x_format.specs.declared.fields.Fields.{Fields}
 use Rattle.s390x_lanes.specs.Size.{element_bits, lane_count, size_of_code}
 use Rattle.s390x_lanes.specs.Lanes.{lane}
@@ -222,6 +222,11 @@ is_odd_pair semantics f = names_pair semantics && (register_field f 0 % 2 == 1)
 unfoldable pub semantics_in : List OpcodeSemantics → ℕ → Option RowSemantics
 semantics_in [] opcode = None
 semantics_in (row ∷ rows) opcode = if row.opcode == opcode then Some row.semantics else semantics_in rows opcode
+
+-- the opcodes rise, from n on
+unfoldable pub opcodes_rise : ℕ → List OpcodeSemantics → Bool
+opcodes_rise n [] = true
+opcodes_rise n (row ∷ rows) = nat_le n row.opcode && opcodes_rise (row.opcode + 1) rows
 
 -- the semantics of an opcode; none of one that no row has
 unfoldable pub semantics_of : ℕ → Option RowSemantics

@@ -1,6 +1,6 @@
 -- A machine of the program as a state.
-use Rattle.std.specs.Prelude.{ℕ, Bool, slice_index}
-use Rattle.s390x_operations.specs.State.{Registers, Memory, Core, State}
+use Rattle.std.specs.Prelude.{◌≡◌, ℕ, ◌<◌, Bool, IsTrue, List, length, slice_index}
+use Rattle.s390x_operations.specs.State.{Registers, Memory, Core, State, wrapping_add64, reaches}
 use Rattle.s390x_operations.specs.Effects.{code_numbered}
 use Rattle.s390x_operations.specs.declared.stop.ConditionCode.TheVariants.{Code0}
 use Rattle.s390x_machine.specs.declared.machine.Machine.{Machine}
@@ -24,3 +24,9 @@ state_of m held byte = record { core = record { registers = registers_of m; memo
 -- all zero
 abbrev pub fresh_registers : Registers
 fresh_registers = record { general = λ i. 0; vector = λ i. 0; access = λ i. 0; code = Code0 }
+
+-- n bytes from an address on are accessible, and these begin with them
+pub record AreBytes (has : ℕ → Bool) (get : ℕ → ℕ) (address n : ℕ) (bytes : List ℕ) : Type 0 where
+  pub reached : IsTrue (reaches has address n)
+  pub six : length bytes ≡ 6
+  pub bytes_are : (i : ℕ) → i < n → slice_index bytes i ≡ get (wrapping_add64 address i)

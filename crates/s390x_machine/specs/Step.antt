@@ -3,12 +3,13 @@ use Rattle.std.specs.Prelude.{◌≡◌, ℕ, IsTrue, Option, Some, None}
 use Rattle.s390x_format.specs.declared.decoder.Decoded.{Decoded}
 use Rattle.s390x_operations.specs.Access.{store_event}
 use Rattle.s390x_operations.specs.State.{State, Memory, Core, StoreEvent}
-use Rattle.s390x_operations.specs.Effects.{access, MayExecute, MayInterrupt}
+use Rattle.s390x_operations.specs.Effects.{access, MayExecute, MayInterrupt, MayRefuse}
 use Rattle.s390x_operations.specs.declared.stop.StopKind.{StopKind}
+use Rattle.s390x_operations.specs.declared.stop.StopKind.TheVariants.{Divide}
 use Rattle.s390x_operations.specs.declared.effect.Operation.{Operation}
 use Rattle.s390x_machine.specs.Fetch.{IsFound}
 use Rattle.s390x_machine.specs.Machine.{Executed, Interrupted, ActionStep, MachineStep}
-use Rattle.s390x_machine.specs.Semantics.{semantics_of}
+use Rattle.s390x_machine.specs.Semantics.{action, semantics_of}
 use Rattle.s390x_machine.specs.Sound.{is_free}
 use Rattle.s390x_machine.specs.declared.semantics.RowSemantics.{RowSemantics}
 use Rattle.s390x_machine.specs.declared.semantics.Action.{Action}
@@ -16,9 +17,13 @@ use Rattle.s390x_machine.specs.declared.semantics.Action.TheVariants.{Perform, B
 use Rattle.s390x_machine.specs.declared.step.StepEnd.{StepEnd}
 use Rattle.s390x_machine.specs.declared.step.StepEnd.TheVariants.{Went, Stopped, NoRow}
 
--- an operation is done, or it stops and everything is as before
+-- each quotient of the operation, if it divides vectors, fits into its lane
+abbrev pub QuotientsFit : Operation → Type 0
+QuotientsFit op = MayRefuse op.effect Divide → ⊥
+
+-- an operation whose quotients fit is done, or it stops and everything is as before
 abbrev pub ExecutesOperation : Operation → Core → Option StopKind → Core → Type 0
-ExecutesOperation op c None t = MayExecute op c t
+ExecutesOperation op c None t = MayExecute op c t × QuotientsFit op
 ExecutesOperation op c (Some kind) t = MayInterrupt op c.memory.has kind × (t ≡ c)
 
 -- what an action stores
@@ -27,9 +32,15 @@ stored_by (Perform op) m = store_event (access op.effect) m
 stored_by (Branch mask target) m = None
 stored_by (BranchAndSave link target) m = None
 
+-- the same of an action
+abbrev pub ActionFits : Action → Type 0
+ActionFits (Perform op) = QuotientsFit op
+ActionFits (Branch mask target) = Unit {0}
+ActionFits (BranchAndSave link target) = Unit {0}
+
 -- an action of an instruction of so many bytes is done, or it stops
 abbrev pub Executes : Action → ℕ → State → StepEnd → State → Type 0
-Executes action size s Went t = ActionStep action size s (Executed (stored_by action s.core.memory)) t
+Executes action size s Went t = ActionStep action size s (Executed (stored_by action s.core.memory)) t × ActionFits action
 Executes action size s (Stopped kind address) t = ActionStep action size s (Interrupted kind) t × (address ≡ s.address)
 Executes action size s NoRow t = ⊥
 
@@ -41,10 +52,21 @@ pub record IsOpen (s : State) : Type 0 where
   pub means : semantics_of found.row.opcode ≡ Some semantics
   pub says_nothing : IsTrue (is_free semantics found.fields s.core.registers)
 
--- the machine goes, storing something or nothing
+-- the instruction at the state's address divides vectors, and a lane's quotient doesn't fit
+pub record Overflows (s : State) : Type 0 where
+  pub found : Decoded
+  pub at : IsFound s.core.memory s.address found
+  pub semantics : RowSemantics
+  pub means : semantics_of found.row.opcode ≡ Some semantics
+  pub operation : Operation
+  pub performs : action semantics found.fields s.core.registers s.address ≡ Perform operation
+  pub unfit : MayRefuse operation.effect Divide
+
+-- the machine goes, storing something or nothing; it stops where a lane's quotient doesn't fit
 pub record ExecutesTo (s t : State) : Type 0 where
   pub stored : Option StoreEvent
   pub goes : MachineStep s (Executed stored) t
+  pub fits : Overflows s → ⊥
 
 -- the machine takes a step as its end tells, and its row isn't open; at an open row nothing happens
 abbrev pub Steps : State → StepEnd → State → Type 0

@@ -3,7 +3,7 @@ ghost use Rattle.std.specs.Prelude.{◌≡◌, ◌%◌};
 ghost use Rattle.s390x_machine.specs.Fetch.{Fetches};
 ghost use Rattle.s390x_machine.specs.State.{memory_of};
 
-use crate::memory::{Memory, leading_bytes, reaches};
+use crate::memory::{Memory, leading_bytes};
 use s390x_format::{Decoded, decode, fetch_length};
 
 /// What stands at a place.
@@ -26,14 +26,13 @@ pub fn fetch<M: Memory>(memory: &M, place: u64) -> Fetched
     if place % 2 == 1 {
         return Fetched::Misplaced;
     }
-    if !memory.has(place) {
+    let Some(first) = memory.byte_at(place) else {
         return Fetched::Missing;
-    }
-    let n = fetch_length(memory.get(place));
-    if !reaches(memory, place, n as u64) {
+    };
+    let n = fetch_length(first);
+    let Some(bytes) = leading_bytes(memory, place, n as u64) else {
         return Fetched::Missing;
-    }
-    let bytes = leading_bytes(memory, place, n as u64);
+    };
     match decode(&bytes[..n]) {
         Some(decoded) => Fetched::Found(decoded),
         None => Fetched::Unknown,

@@ -1,11 +1,17 @@
 //! A memory of regions.
 
-ghost use Rattle.std.specs.Prelude.{◌≡◌, ℕ, ◌+◌, ◌-◌, ◌<◌, ◌≤◌, ◌^◌, ◌||◌, ◌∷◌, if◌then◌else◌, true, false, length, get_or, slice_index, IfOk, IfErr, MatchResult, MatchOption};
-ghost use Rattle.s390x_machine.specs.Regions.{contains, held_in, byte_in, covers, is_held, byte_of};
+ghost use Rattle.std.specs.Prelude.{◌≡◌, ℕ, ◌+◌, ◌-◌, ◌<◌, ◌≤◌, ◌^◌, ◌||◌, ◌∷◌, ◌==◌, Some, IsSome, if◌then◌else◌, true, false, length, get_or, slice_index, IfOk, IfErr, OnOk, MatchResult, MatchOption};
+ghost use Rattle.std.specs.BTreeMap.{get};
+ghost use Rattle.std.specs.Ordering.{nat_cmp};
+ghost use Rattle.s390x_machine.specs.Regions.{contains, held_in, byte_in, covers, has_address, is_held, byte_of, IsFolded};
 
 use crate::memory::Memory;
 use s390x_base::NoMemory;
 use std::alloc::Global;
+use std::collections::BTreeMap;
+
+/// So many regions are kept whole. An address is looked for in each of them.
+const MOST_REGIONS: usize = 8;
 
 /// Bytes from an address on.
 #[derive(Drop)]
@@ -27,8 +33,10 @@ impl Region {
 #[derive(Drop)]
 pub struct FlatMemory {
     alloc: Global,
-    /// The last one added is the first.
+    /// The last ones added, the very last one first.
     regions: Vec<Region>,
+    /// What the regions before them left, by address.
+    older: BTreeMap<u64, u8>,
 }
 
 /// The bytes again.
@@ -52,6 +60,48 @@ fn put_first(regions: &mut Vec<Region>, region: Region) -> Result<(), NoMemory>
     }
 }
 
+/// The bytes from a start on get their places by address; those past the last address have none.
+fn put_bytes(older: &mut BTreeMap<u64, u8>, start: u64, bytes: &[u8]) -> Result<(), NoMemory>
+    ensures outside { (address : ℕ) → has_address start bytes.now address ≡ false → get nat_cmp older.new address ≡ get nat_cmp older.old address }
+    ensures inside { OnOk result ((address : ℕ) → has_address start bytes.now address ≡ true → get nat_cmp older.new address ≡ Some (slice_index bytes.now (address - start))) }
+{
+    for i in 0..bytes.len() {
+        match start.checked_add(i as u64) {
+            Some(address) => match older.insert(address, bytes[i]) {
+                Ok(_) => {}
+                Err(_) => return Err(NoMemory),
+            },
+            None => return Ok(()),
+        }
+    }
+    Ok(())
+}
+
+/// The byte that an address has becomes this one.
+fn replace_byte(older: &mut BTreeMap<u64, u8>, address: u64, value: u8)
+    requires { IsSome (get nat_cmp older.old address) }
+    ensures { (other : ℕ) → get nat_cmp older.new other ≡ (if other == address then Some value else get nat_cmp older.old other) }
+{
+    match older.insert(address, value) {
+        Ok(_) => {}
+        Err(_) => unreachable!(),
+    }
+}
+
+/// Where as many regions are whole as may be, the last of them goes to the older bytes.
+fn fold_last(regions: &mut Vec<Region>, older: &mut BTreeMap<u64, u8>) -> Result<(), NoMemory>
+    ensures { (address : ℕ) → IsFolded regions.old.items older.old regions.new.items older.new address }
+{
+    let count = regions.len();
+    if count < MOST_REGIONS {
+        return Ok(());
+    }
+    let last = &regions[count - 1];
+    put_bytes(older, last.start, &last.bytes)?;
+    regions.truncate(count - 1);
+    Ok(())
+}
+
 impl FlatMemory {
     /// A memory without an accessible address. It keeps the allocator.
     pub fn new(alloc: Global) -> FlatMemory
@@ -60,6 +110,7 @@ impl FlatMemory {
         FlatMemory {
             alloc,
             regions: Vec::new(alloc),
+            older: BTreeMap::new(alloc),
         }
     }
 
@@ -71,11 +122,12 @@ impl FlatMemory {
         ensures kept { IfErr result (λ _. (is_held self.new ≡ is_held self.old) × (byte_of self.new ≡ byte_of self.old)) }
     {
         let bytes = copy_of(self.alloc, bytes)?;
+        fold_last(&mut self.regions, &mut self.older)?;
         put_first(&mut self.regions, Region { start, bytes })?;
         Ok(())
     }
 
-    /// The number of the region to which an address belongs.
+    /// The number of the whole region to which an address belongs.
     fn holder(&self, address: u64) -> Option<usize>
         ensures { MatchOption result (held_in self.now.regions.items address ≡ false) (λ i. (i < length self.now.regions.items) × ((z : Region) → contains (get_or self.now.regions.items i z) address ≡ true) × ((k : ℕ) → (z : Region) → k < i → contains (get_or self.now.regions.items k z) address ≡ false)) }
     {
@@ -94,7 +146,10 @@ impl Memory for FlatMemory {
     ghost byte = { byte_of };
 
     fn has(&self, address: u64) -> bool {
-        self.holder(address).is_some()
+        match self.holder(address) {
+            Some(_) => true,
+            None => self.older.contains_key(&address),
+        }
     }
 
     fn get(&self, address: u64) -> u8 {
@@ -103,15 +158,28 @@ impl Memory for FlatMemory {
                 let region = &self.regions[i];
                 region.bytes[(address - region.start) as usize]
             }
-            None => 0,
+            None => self.older.get(&address).copied().unwrap_or(0),
+        }
+    }
+
+    fn byte_at(&self, address: u64) -> Option<u8> {
+        match self.holder(address) {
+            Some(i) => {
+                let region = &self.regions[i];
+                Some(region.bytes[(address - region.start) as usize])
+            }
+            None => self.older.get(&address).copied(),
         }
     }
 
     fn set(&mut self, address: u64, value: u8) {
-        if let Some(i) = self.holder(address) {
-            let region = &mut self.regions[i];
-            let k = (address - region.start) as usize;
-            region.bytes[k] = value;
+        match self.holder(address) {
+            Some(i) => {
+                let region = &mut self.regions[i];
+                let k = (address - region.start) as usize;
+                region.bytes[k] = value;
+            }
+            None => replace_byte(&mut self.older, address, value),
         }
     }
 }

@@ -1,6 +1,7 @@
 //! Memory, as the machine sees it.
-ghost use Rattle.std.specs.Prelude.{◌≡◌, ℕ, Bool, ◌<◌, ◌≤◌, IsTrue, length, slice_index};
-ghost use Rattle.s390x_operations.specs.State.{update, wrapping_add64, reaches};
+ghost use Rattle.std.specs.Prelude.{◌≡◌, ℕ, Bool, true, false, ◌≤◌, IsTrue, MatchOption};
+ghost use Rattle.s390x_operations.specs.State.{update, reaches};
+ghost use Rattle.s390x_machine.specs.State.{AreBytes};
 
 /// Bytes at accessible addresses.
 pub trait Memory {
@@ -18,6 +19,10 @@ pub trait Memory {
     fn get(&self, address: u64) -> u8
         requires { IsTrue (held self.now address) }
         ensures { result ≡ byte self.now address };
+
+    /// The byte at an address; `None` exactly where it isn't accessible.
+    fn byte_at(&self, address: u64) -> Option<u8>
+        ensures { MatchOption result (held self.now address ≡ false) (λ b. (held self.now address ≡ true) × (b ≡ byte self.now address)) };
 
     /// The byte at an accessible address becomes this one; every other byte and what is accessible stay.
     fn set(&mut self, address: u64, value: u8)
@@ -38,16 +43,18 @@ pub fn reaches<M: Memory>(memory: &M, address: u64, n: u64) -> bool
     all
 }
 
-/// So many bytes from an address on, at most six.
-pub fn leading_bytes<M: Memory>(memory: &M, address: u64, n: u64) -> [u8; 6]
-    requires few { n ≤ 6 }
-    requires there { (i : ℕ) → i < n → IsTrue (M.held memory.now (wrapping_add64 address i)) }
-    ensures length { length result ≡ 6 }
-    ensures bytes { (i : ℕ) → i < n → slice_index result i ≡ M.byte memory.now (wrapping_add64 address i) }
+/// So many bytes from an address on, at most six; `None` exactly where one of them isn't accessible.
+#[tactic(auto, using(crate::proofs::Reaching::reaches_none, crate::proofs::Reaching::reaches_next))]
+pub fn leading_bytes<M: Memory>(memory: &M, address: u64, n: u64) -> Option<[u8; 6]>
+    requires { n ≤ 6 }
+    ensures { MatchOption result (reaches (M.held memory.now) address n ≡ false) (λ bytes. AreBytes (M.held memory.now) (M.byte memory.now) address n bytes) }
 {
     let mut bytes = [0u8; 6];
     for i in 0..n {
-        bytes[i as usize] = memory.get(address.wrapping_add(i));
+        match memory.byte_at(address.wrapping_add(i)) {
+            Some(byte) => bytes[i as usize] = byte,
+            None => return None,
+        }
     }
-    bytes
+    Some(bytes)
 }

@@ -123,9 +123,10 @@ fn refused(effect: &Effect) -> Option<StopKind>
     }
 }
 
-/// Whether a lane's quotient doesn't fit: the operation may stop, and does here.
+/// Whether a lane's quotient doesn't fit: the operation may stop then, and this machine does.
 fn overflows(effect: &Effect) -> bool
-    ensures { result ≡ true → MayRefuse effect.now StopKind.Divide }
+    ensures may { result ≡ true → MayRefuse effect.now StopKind.Divide }
+    ensures must { MayRefuse effect.now StopKind.Divide → result ≡ true }
 {
     match *effect {
         Effect::ComputeVector {

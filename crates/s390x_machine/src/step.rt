@@ -3,7 +3,7 @@
 ghost use Rattle.std.specs.Prelude.{◌≡◌, ◌<◌, ℕ, ◌==◌, List, Option, Some, get_or, length, true, false, IsTrue, IsFalse};
 ghost use Rattle.s390x_format.specs.Formats.{length_of};
 ghost use Rattle.s390x_machine.specs.Fetch.{IsFound};
-ghost use Rattle.s390x_machine.specs.Semantics.{action, names_pair, is_odd_pair, semantics_in, semantics_of};
+ghost use Rattle.s390x_machine.specs.Semantics.{action, names_pair, is_odd_pair, opcodes_rise, semantics_in, semantics_of};
 ghost use Rattle.s390x_machine.specs.State.{memory_of, registers_of, state_of};
 ghost use Rattle.s390x_machine.specs.Sound.{HasRegisters, IsSoundAction, is_free, is_uncomputed};
 ghost use Rattle.s390x_machine.specs.Step.{Executes, Steps};
@@ -32,13 +32,23 @@ pub enum StepEnd {
     NoRow,
 }
 
-/// The semantics that a list has for an opcode.
+/// The semantics that a list has for an opcode, by halving.
 fn semantics_in(rows: &[OpcodeSemantics], opcode: u16) -> Option<RowSemantics>
+    requires { opcodes_rise 0 rows.now ≡ true }
     ensures { result ≡ semantics_in rows.now opcode }
 {
-    for row in rows {
+    let mut low = 0;
+    let mut high = rows.len();
+    while low < high {
+        let mid = low + (high - low) / 2;
+        let row = &rows[mid];
         if row.opcode == opcode {
             return Some(row.semantics);
+        }
+        if row.opcode < opcode {
+            low = mid + 1;
+        } else {
+            high = mid;
         }
     }
     None

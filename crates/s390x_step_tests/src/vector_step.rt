@@ -114,8 +114,20 @@ pub fn holds(alloc: Global, step: &VectorStep) -> Result<bool, NoMemory> {
 
 /// Whether a step ends so and leaves everything as it was.
 pub fn ends(alloc: Global, code: u64, third: u128, end: StepEnd) -> Result<bool, NoMemory> {
+    ends_with(alloc, code, SECOND, third, end)
+}
+
+/// The same, with another second value.
+pub fn ends_with(
+    alloc: Global,
+    code: u64,
+    second: u128,
+    third: u128,
+    end: StepEnd,
+) -> Result<bool, NoMemory> {
     let mut memory = memory_with(alloc, code)?;
     let mut machine = vector_machine(third);
+    machine.vregs[2] = second;
     let regs = machine.regs;
     let vregs = machine.vregs;
     let ended = machine.step(&mut memory) == end;

@@ -2,7 +2,7 @@
 //! program, from the definitions of the Principles of Operation, chapters 9, 20 and 21.
 
 use crate::step::{Code, PLACE};
-use crate::vector_step::{ALL, FIRST, SECOND, VectorStep, ends, holds};
+use crate::vector_step::{ALL, FIRST, SECOND, VectorStep, ends, ends_with, holds};
 use s390x_base::NoMemory;
 use s390x_machine::step::StepEnd;
 use s390x_operations::StopKind;
@@ -191,6 +191,15 @@ const INACCESSIBLE: [u64; 35] = [
     0xed10501900670000, // stdy
 ];
 
+/// Signed divisions in which one lane of %v2 has the least number and that of %v3 has -1.
+#[rattlefmt::skip]
+const OVERFLOWING_DIVISIONS: [(u64, u128, u128); 4] = [
+    (0xe712300020b20000, 0x00000001_80000000_00000001_00000001, 0x00000001_ffffffff_00000001_00000001), // vdf
+    (0xe712300020b30000, 0x00000001_00000001_00000001_80000000, 0x00000001_00000001_00000001_ffffffff), // vrf
+    (0xe712300030b20000, 0x8000000000000000_0000000000000001, 0xffffffffffffffff_0000000000000001), // vdg
+    (0xe712300040b20000, 0x80000000000000000000000000000000, 0xffffffffffffffffffffffffffffffff), // vdq
+];
+
 /// Rows that the step doesn't compute.
 #[rattlefmt::skip]
 const OPEN: [u64; 5] = [
@@ -348,11 +357,27 @@ fn transfers(rt: HostRuntime) -> Result<(), Fail> {
     Ok(())
 }
 
+/// The number of the first division that doesn't stop, or that changes something.
+fn wrong_overflow(
+    alloc: Global,
+    divisions: &[(u64, u128, u128)],
+) -> Result<Option<usize>, NoMemory> {
+    let end = StepEnd::Stopped(StopKind::Divide, PLACE);
+    for i in 0..divisions.len() {
+        let (code, second, third) = divisions[i];
+        if !ends_with(alloc, code, second, third, end)? {
+            return Ok(Some(i));
+        }
+    }
+    Ok(None)
+}
+
 #[test]
 fn vector_stops(rt: HostRuntime) -> Result<(), Fail> {
     let access = StepEnd::Stopped(StopKind::Access, PLACE);
     let operation = StepEnd::Stopped(StopKind::Operation, PLACE);
     assert_eq!(rt; wrong_division(rt.alloc(), &ZERO_DIVISORS)?, None);
+    assert_eq!(rt; wrong_overflow(rt.alloc(), &OVERFLOWING_DIVISIONS)?, None);
     assert_eq!(rt; wrong_end(rt.alloc(), &INACCESSIBLE, access)?, None);
     assert_eq!(rt; wrong_end(rt.alloc(), &OPEN, StepEnd::NoRow)?, None);
     assert_eq!(rt; wrong_end(rt.alloc(), &ROWLESS, operation)?, None);

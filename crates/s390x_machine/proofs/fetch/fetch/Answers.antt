@@ -5,27 +5,29 @@ use Rattle.s390x_operations.specs.State.{bytes_at, reaches}
 use Rattle.s390x_machine.proofs.Reading.{length_few, taken_bytes}
 use Rattle.s390x_machine.proofs.fetch.fetch.Goals as goal
 
-pub returns-in-Some : goal.returns-in-Some
-returns-in-Some g c =
+pub returns-in-Some-decode : goal.returns-in-Some-decode
+returns-in-Some-decode g c =
     let held = g.M.Memory.held c.args.memory.now in
     let byte = g.M.Memory.byte c.args.memory.now in
-    let count : c.fetch_length-n.result ≡ fetch_length_of (byte c.args.place) = c.fetch_length-n.ensures ∙ ap fetch_length_of c.get.ensures in
-    let few : c.fetch_length-n.result ≤ length c.leading_bytes-bytes.result = omega (arith, c.leading_bytes-bytes.ensures.length, c.fetch_length-n.ensures, length_few c.get.result) in
-    let e = taken_bytes byte c.args.place c.fetch_length-n.result c.leading_bytes-bytes.result few c.leading_bytes-bytes.ensures.bytes ∙ ap (λ k. bytes_at byte c.args.place k) count in
+    let count : c.fetch_length-n.result ≡ fetch_length_of (byte c.args.place) = c.fetch_length-n.ensures ∙ ap fetch_length_of c.in-Some.ensures.1 in
+    let read = c.in-Some-leading_bytes.ensures in
+    let few : c.fetch_length-n.result ≤ length c.in-Some-leading_bytes.bytes = omega (arith, read.six, c.fetch_length-n.ensures, length_few c.in-Some.first) in
+    let e = taken_bytes byte c.args.place c.fetch_length-n.result c.in-Some-leading_bytes.bytes few read.bytes_are ∙ ap (λ k. bytes_at byte c.args.place k) count in
     record {
       even = omega (arith, c.if-place-eq1.false);
-      reached = (sym c.has.ensures ∙ c.if-not-has.false, subst (λ n. IsTrue (reaches held c.args.place n)) count (sym c.reaches.ensures ∙ c.if-not-reaches.false));
-      row = subst (λ (bs : List ℕ). IsFetch bs c.in-Some.decoded) e c.in-Some.ensures.sound;
+      reached = (c.in-Some.ensures.0, subst (λ n. IsTrue (reaches held c.args.place n)) count read.reached);
+      row = subst (λ (bs : List ℕ). IsFetch bs c.in-Some-decode.decoded) e c.in-Some-decode.ensures.sound;
     }
 
 pub returns-in-None : goal.returns-in-None
 returns-in-None g c =
     let held = g.M.Memory.held c.args.memory.now in
     let byte = g.M.Memory.byte c.args.memory.now in
-    let count : c.fetch_length-n.result ≡ fetch_length_of (byte c.args.place) = c.fetch_length-n.ensures ∙ ap fetch_length_of c.get.ensures in
-    let few : c.fetch_length-n.result ≤ length c.leading_bytes-bytes.result = omega (arith, c.leading_bytes-bytes.ensures.length, c.fetch_length-n.ensures, length_few c.get.result) in
-    let e = taken_bytes byte c.args.place c.fetch_length-n.result c.leading_bytes-bytes.result few c.leading_bytes-bytes.ensures.bytes ∙ ap (λ k. bytes_at byte c.args.place k) count in (
+    let count : c.fetch_length-n.result ≡ fetch_length_of (byte c.args.place) = c.fetch_length-n.ensures ∙ ap fetch_length_of c.in-Some.ensures.1 in
+    let read = c.in-Some-leading_bytes.ensures in
+    let few : c.fetch_length-n.result ≤ length c.in-Some-leading_bytes.bytes = omega (arith, read.six, c.fetch_length-n.ensures, length_few c.in-Some.first) in
+    let e = taken_bytes byte c.args.place c.fetch_length-n.result c.in-Some-leading_bytes.bytes few read.bytes_are ∙ ap (λ k. bytes_at byte c.args.place k) count in (
       omega (arith, c.if-place-eq1.false),
-      (sym c.has.ensures ∙ c.if-not-has.false, subst (λ n. IsTrue (reaches held c.args.place n)) count (sym c.reaches.ensures ∙ c.if-not-reaches.false)),
+      (c.in-Some.ensures.0, subst (λ n. IsTrue (reaches held c.args.place n)) count read.reached),
       λ d h. let none = c.in-None.ensures.complete d (subst (λ (bs : List ℕ). IsFetch bs d) (sym e) h) in absurd (cc),
     )

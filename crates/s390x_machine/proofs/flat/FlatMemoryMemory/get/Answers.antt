@@ -1,8 +1,11 @@
-use Rattle.std.proofs.Common.{◌-◌, ◌∙◌, sym, ap, slice_index}
+use Rattle.std.proofs.Common.{◌-◌, ◌∙◌, Bool, if◌then◌else◌, sym, ap, slice_index}
+use Rattle.std.specs.BTreeMap.{get}
+use Rattle.std.specs.Option.{unwrap_or}
+use Rattle.std.specs.Ordering.{nat_cmp}
 use Rattle.std.proofs.lemmas.Grind.{get_or_default_zero}
-use Rattle.s390x_machine.specs.Regions.{contains}
+use Rattle.s390x_machine.specs.Regions.{contains, byte_in}
 use Rattle.s390x_machine.specs.declared.flat.Region.{Region}
-use Rattle.s390x_machine.proofs.Regions.{inside, byte_here}
+use Rattle.s390x_machine.proofs.Regions.{inside, held_here, byte_here}
 use Rattle.s390x_machine.proofs.flat.FlatMemoryMemory.get.Goals as goal
 
 pub returns-in-Some : goal.returns-in-Some
@@ -16,3 +19,4 @@ returns-in-Some c =
     ∙ get_or_default_zero z.bytes.items (a - z.start) c.index.result.now (inside z a here)
     ∙ ap (λ (r : Region). slice_index r.bytes.items (a - r.start)) c.index-region.ensures
     ∙ sym (byte_here rs a c.in-Some.i z h.0 h.2 (h.1 z))
+    ∙ sym (ap (λ (b : Bool). if b then byte_in rs a else unwrap_or (get nat_cmp c.args.self.now.older a) 0) (held_here rs a c.in-Some.i z h.0 h.2 (h.1 z)))
