@@ -15,3 +15,5 @@ mod moves;
 mod names;
 #[cfg(test)]
 mod operands;
+#[cfg(test)]
+mod queries;

@@ -1,4 +1,5 @@
 pub mod Calls
+pub mod Meets
 pub mod Operands
 pub mod Queries
 pub mod Requests

@@ -17,5 +17,5 @@ pub mod visitor;
 
 pub use constraint::{OperandConstraint, OperandError, OperandKind, OperandPos, Reported};
 pub use list::OperandList;
-pub use mach_inst::{CallType, MachInst};
+pub use mach_inst::{CallType, CodegenError, FunctionAlignment, MachInst, MachTerminator};
 pub use visitor::{DenyReuseVisitor, OperandVisitor};
