@@ -1,6 +1,7 @@
 -- Texts of lists, and of loops by their members.
 use Rattle.std.proofs.Common.{◌≡◌, ℕ, ◌+◌, ◌<◌, List, [], ◌∷◌, ◌++◌, length, get_or, drop, refl, sym, ap, ◌∙◌, subst, arith, append_assoc}
 use Rattle.std.proofs.Common.{Vec, Global}
+use Rattle.std.proofs.Math.Dec.{eqb-suc-zero}
 use Rattle.std.proofs.lemmas.List.{drop_more}
 use Rattle.std.specs.Prelude.{Bool, true, false, ◌==◌, Option, Some, None, codes, Result, Ok, Err, MatchResult, IsErrAnd}
 use Rattle.s390x_inst.specs.Emission.{Emission}
@@ -9,11 +10,10 @@ use Rattle.s390x_inst.specs.declared.inst.Inst.TheBlock.{hidden-the_row-Inst-0}
 use Rattle.s390x_inst.specs.declared.inst.Inst.TheOpen as O
 use Rattle.s390x_inst.specs.declared.inst.Inst.TheViews as V
 use denote.Hole.Carrier
-use Rattle.s390x_text.specs.Texts.{Text, first, Blames}
+use Rattle.s390x_text.specs.Texts.{Text, first, both, Blames}
 use Rattle.s390x_text.specs.declared.error.TextError.{TextError}
 use Rattle.s390x_text.specs.declared.error.TextError.TheVariants.{NoRow, Virtual, BadPair, Address, NoMemory}
-use Rattle.s390x_text.specs.Instructions.{leaf_text, leaf_after, after, row_after, insts_after, followed, inst_text, body_text, row_text, insts_text, members_text, looped, back_text}
-use Rattle.s390x_text.specs.Operands.{cond_text}
+use Rattle.s390x_text.specs.Instructions.{leaf_text, leaf_after, after, row_after, insts_after, followed, has_none, inst_text, row_text, insts_text, looped}
 
 -- a loop that prints each element of a list
 pub more_texts : {X : Type 0} (F : List X → List ℕ) (g : X → List ℕ) → ((x : X) (xs : List X) → F (x ∷ xs) ≡ g x ++ F xs) → (xs : List X) (i : ℕ) (z d : X) (old out new : List ℕ) → i < length xs → d ≡ get_or xs i z → new ≡ out ++ g d → out ++ F (drop i xs) ≡ old → new ++ F (drop (i + 1) xs) ≡ old
@@ -29,6 +29,22 @@ blames_first a b Virtual h = ap (λ q. first q b) h
 blames_first a b BadPair h = ap (λ q. first q b) h
 blames_first a b (Address c) h = ap (λ q. first q b) h
 blames_first a b NoMemory h = tt
+
+-- a loop that prints the text of each element of a list
+pub more_bytes : {X : Type 0} (F : List X → Text) (g : X → Text) → ((x : X) (xs : List X) → F (x ∷ xs) ≡ both (g x) (F xs)) → (xs : List X) (i : ℕ) (z d : X) (old out new : List ℕ) → i < length xs → d ≡ get_or xs i z → new ≡ out ++ (g d).bytes → out ++ (F (drop i xs)).bytes ≡ old → new ++ (F (drop (i + 1) xs)).bytes ≡ old
+more_bytes F g law = more_texts (λ l. (F l).bytes) (λ x. (g x).bytes) (λ x xs. ap (λ t. t.bytes) (law x xs))
+
+more_item : {X : Type 0} (F : List X → Text) (g : X → Text) → ((x : X) (xs : List X) → F (x ∷ xs) ≡ both (g x) (F xs)) → (xs : List X) (i : ℕ) (z d : X) → i < length xs → d ≡ get_or xs i z → F (drop i xs) ≡ both (g d) (F (drop (i + 1) xs))
+more_item F g law xs i z d h e =
+    ap F (drop_more xs i z h) ∙ law (get_or xs i z) (drop (i + 1) xs) ∙ ap (λ y. both (g y) (F (drop (i + 1) xs))) (sym e)
+
+pub more_causes : {X : Type 0} (F : List X → Text) (g : X → Text) → ((x : X) (xs : List X) → F (x ∷ xs) ≡ both (g x) (F xs)) → (xs : List X) (i : ℕ) (z d : X) (c : Option TextError) → i < length xs → d ≡ get_or xs i z → (g d).cause ≡ None → (F (drop i xs)).cause ≡ c → (F (drop (i + 1) xs)).cause ≡ c
+more_causes F g law xs i z d c h e n inv =
+    sym (ap (λ p. first p (F (drop (i + 1) xs)).cause) n) ∙ ap (λ t. t.cause) (sym (more_item F g law xs i z d h e)) ∙ inv
+
+pub more_stops : {X : Type 0} (F : List X → Text) (g : X → Text) → ((x : X) (xs : List X) → F (x ∷ xs) ≡ both (g x) (F xs)) → (xs : List X) (i : ℕ) (z d : X) (c : Option TextError) (error : TextError) → i < length xs → d ≡ get_or xs i z → Blames (g d).cause error → (F (drop i xs)).cause ≡ c → Blames c error
+more_stops F g law xs i z d c error h e b inv =
+    subst (λ r. Blames r error) (ap (λ t. t.cause) (sym (more_item F g law xs i z d h e)) ∙ inv) (blames_first (g d).cause (F (drop (i + 1) xs)).cause error b)
 
 -- the instruction at an index, and those behind it
 item : (d : Inst) (is : List Inst) (k : ℕ) → k < length is → d ≡ get_or is k d → drop k is ≡ d ∷ drop (k + 1) is
@@ -71,23 +87,29 @@ row_texts : {n : _} (k : Row_of-Inst n) (depth : ℕ) (e : Emission) → row_tex
 row_texts end_of-Inst depth e = refl
 row_texts (more_of-Inst i rest) depth e = ap (λ t. followed (inst_text depth e i) t) (row_texts rest depth (after e i))
 
-body_texts : {n : _} (k : Row_of-Inst n) (depth : ℕ) (e : Emission) → body_text depth e k ≡ members_text depth e (items-the_row-Inst n k)
-body_texts end_of-Inst depth e = refl
-body_texts (more_of-Inst i rest) depth e = ap (λ t. followed (inst_text depth e i) t) (row_texts rest depth (after e i))
+has_none_items : {n : _} (k : Row_of-Inst n) → has_none k ≡ (length (items-the_row-Inst n k) == 0)
+has_none_items end_of-Inst = refl
+has_none_items (more_of-Inst i rest) = sym (eqb-suc-zero _)
 
 row_afters : {n : _} (k : Row_of-Inst n) (e : Emission) → row_after e k ≡ insts_after e (items-the_row-Inst n k)
 row_afters end_of-Inst e = refl
 row_afters (more_of-Inst i rest) e = row_afters rest (after e i)
 
-loop_text : (depth : ℕ) (e : Emission) (c : ℕ) (v : Vec Inst Global) → inst_text depth e (V.Loop c v) ≡ looped depth c (members_text (depth + 1) e v.items)
+-- the text of a loop by the list of its members
+list_loop : (depth : ℕ) → Emission → ℕ → List Inst → Text
+list_loop depth e c is = looped depth c (length is == 0) (insts_text (depth + 1) e is)
+
+loop_text : (depth : ℕ) (e : Emission) (c : ℕ) (v : Vec Inst Global) → inst_text depth e (V.Loop c v) ≡ list_loop depth e c v.items
 loop_text depth e c v =
-    ap (looped depth c) (body_texts (hidden-the_row-Inst-0 v) (depth + 1) e ∙ ap (members_text (depth + 1) e) (items_hidden-the_row-Inst-0 v))
+    ap (λ b. looped depth c b (row_text (depth + 1) e (hidden-the_row-Inst-0 v))) (has_none_items (hidden-the_row-Inst-0 v))
+    ∙ ap (looped depth c (length (items-the_row-Inst _ (hidden-the_row-Inst-0 v)) == 0)) (row_texts (hidden-the_row-Inst-0 v) (depth + 1) e)
+    ∙ ap (list_loop depth e c) (items_hidden-the_row-Inst-0 v)
 
 loop_after : (e : Emission) (c : ℕ) (v : Vec Inst Global) → after e (V.Loop c v) ≡ insts_after e v.items
 loop_after e c v = row_afters (hidden-the_row-Inst-0 v) e ∙ ap (insts_after e) (items_hidden-the_row-Inst-0 v)
 
-pub whole_loop : (depth : ℕ) (e : Emission) (i : Inst) (c : ℕ) (v : Vec Inst Global) (s : List Inst) → i ≡ V.Loop c v → s ≡ v.items → inst_text depth e i ≡ looped depth c (members_text (depth + 1) e s)
-whole_loop depth e i c v s p q = ap (inst_text depth e) p ∙ loop_text depth e c v ∙ ap (λ t. looped depth c (members_text (depth + 1) e t)) (sym q)
+pub whole_loop : (depth : ℕ) (e : Emission) (i : Inst) (c : ℕ) (v : Vec Inst Global) (s : List Inst) → i ≡ V.Loop c v → s ≡ v.items → inst_text depth e i ≡ looped depth c (length s == 0) (insts_text (depth + 1) e s)
+whole_loop depth e i c v s p q = ap (inst_text depth e) p ∙ loop_text depth e c v ∙ ap (list_loop depth e c) (sym q)
 
 pub after_loop : (e : Emission) (i : Inst) (c : ℕ) (v : Vec Inst Global) (s : List Inst) → i ≡ V.Loop c v → s ≡ v.items → after e i ≡ insts_after e s
 after_loop e i c v s p q = ap (after e) p ∙ loop_after e c v ∙ ap (insts_after e) (sym q)
@@ -109,12 +131,3 @@ plain depth e i h =
 pub again : {T : Type 0} (P : T → Type 0) (Q : TextError → Type 0) (r : Result T TextError) (e : TextError) → IsErrAnd r (λ y. y ≡ e) → Q e → MatchResult r P Q
 again P Q (Ok x) e a q = absurd a
 again P Q (Err y) e a q = subst Q (sym a) q
-
--- where there are no members, the back branch has the semicolon before it
-pub members_end : (depth : ℕ) (e : Emission) (is : List Inst) (mask : ℕ) (b : Bool) → b ≡ (length is == 0) → (members_text depth e is).bytes ++ (codes "jg" ++ (cond_text mask ++ codes " 0b ; 1:")) ≡ (insts_text depth e is).bytes ++ back_text b mask
-members_end depth e [] mask b h = sym (ap (λ x. back_text x mask) h)
-members_end depth e (i ∷ is) mask b h = ap (λ x. (insts_text depth e (i ∷ is)).bytes ++ back_text x mask) (sym (h ∙ refl))
-
-pub members_cause : (depth : ℕ) (e : Emission) (is : List Inst) → (members_text depth e is).cause ≡ (insts_text depth e is).cause
-members_cause depth e [] = refl
-members_cause depth e (i ∷ is) = refl

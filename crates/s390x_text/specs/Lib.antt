@@ -6,5 +6,7 @@ pub mod Integer
 pub mod Storage
 pub mod Control
 pub mod Vector
+pub mod Simple
+pub mod Calls
 pub mod Instructions
 pub mod Agreement

@@ -21,6 +21,10 @@ fixed s = record { cause = None; bytes = s }
 abbrev pub both : Text → Text → Text
 both t u = record { cause = first t.cause u.cause; bytes = t.bytes ++ u.bytes }
 
+-- a text before a semicolon
+abbrev pub before_semicolon : Text → Text
+before_semicolon t = record { cause = t.cause; bytes = t.bytes ++ codes " ; " }
+
 -- operands, each behind a comma and a space
 abbrev pub more_operands : List (List ℕ) → List ℕ
 more_operands [] = []

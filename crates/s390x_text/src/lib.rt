@@ -2,6 +2,7 @@
 #![tactic(auto)]
 
 pub mod arithmetic;
+pub mod calls;
 pub mod compare;
 pub mod control;
 pub mod error;
@@ -14,6 +15,7 @@ pub mod pretty;
 pub mod pretty_print;
 pub mod regs;
 pub mod row;
+pub mod simple;
 pub mod storage;
 pub mod vector;
 pub mod vector_memory;

@@ -1,15 +1,18 @@
 //! The texts of integer instructions with an operand in memory.
-ghost use Rattle.std.specs.Prelude.{string_bytes};
-ghost use Rattle.s390x_text.specs.Texts.{PrintsWhere};
-ghost use Rattle.s390x_text.specs.Storage.{load_text, store_text, storage_operator_text};
+ghost use Rattle.std.specs.Prelude.{◌∷◌, [], string_bytes};
+ghost use Rattle.s390x_words.specs.Atoms.{reg_text};
+ghost use Rattle.s390x_text.specs.Texts.{Prints, PrintsWhere};
+ghost use Rattle.s390x_text.specs.Operands.{reused_text};
+ghost use Rattle.s390x_text.specs.Storage.{access, rows_of, load_text, store_text, storage_operator_text};
 
 use crate::arithmetic::reused;
 use crate::error::TextError;
 use crate::mnemonics::{
     alu_long_name, alu_short_name, atomic_name, cmp_long_name, cmp_relative_name, cmp_short_name,
 };
-use crate::storage::{access_then, access2, access3, address_rows, rs, rx};
-use s390x_inst::{EmitState, Inst};
+use crate::storage::{Rows, access_then, access2, access3, address_rows, rs, rx};
+use s390x_base::{Reg, Writable};
+use s390x_inst::{EmitState, Inst, MemArg};
 use std::alloc::Global;
 
 /// Appends the text of a load; None for another instruction.
@@ -144,6 +147,39 @@ pub fn put_store(
     }
 }
 
+// Appends the text of an access by a register that is also an input.
+fn access_reused(
+    alloc: Global,
+    out: &mut String,
+    rows: &Rows,
+    state: &EmitState,
+    rd: &Writable<Reg>,
+    ri: &Reg,
+    mem: &MemArg,
+) -> Result<(), TextError>
+    ensures { Prints result (string_bytes out.old) (string_bytes out.new) (access (rows_of rows.now) state.now (reused_text rd.now ri.now ∷ []) mem.now []) }
+{
+    let register = reused(rd, ri);
+    access2(alloc, out, rows, state, &register, mem)
+}
+
+// The same with another register behind it.
+fn swap(
+    alloc: Global,
+    out: &mut String,
+    rows: &Rows,
+    state: &EmitState,
+    rd: &Writable<Reg>,
+    ri: &Reg,
+    rn: &Reg,
+    mem: &MemArg,
+) -> Result<(), TextError>
+    ensures { Prints result (string_bytes out.old) (string_bytes out.new) (access (rows_of rows.now) state.now (reused_text rd.now ri.now ∷ reg_text rn.now ∷ []) mem.now []) }
+{
+    let register = reused(rd, ri);
+    access3(alloc, out, rows, state, &register, rn, mem)
+}
+
 /// Appends the text of an operator with an operand in memory, of a multiple, of an address or of a locked access; None for another
 /// instruction.
 pub fn put_storage_operator(
@@ -162,7 +198,7 @@ pub fn put_storage_operator(
             mem,
         } => {
             let rows = rx(alu_short_name(*alu_op), alu_long_name(*alu_op), None);
-            Some(access2(alloc, out, &rows, state, &reused(rd, ri), mem))
+            Some(access_reused(alloc, out, &rows, state, rd, ri, mem))
         }
         Inst::CmpRX { op, rn, mem } => {
             let rows = rx(
@@ -195,11 +231,11 @@ pub fn put_storage_operator(
         }
         Inst::AtomicCas32 { rd, ri, rn, mem } => {
             let rows = rs(Some("cs"), Some("csy"));
-            Some(access3(alloc, out, &rows, state, &reused(rd, ri), rn, mem))
+            Some(swap(alloc, out, &rows, state, rd, ri, rn, mem))
         }
         Inst::AtomicCas64 { rd, ri, rn, mem } => {
             let rows = rs(None, Some("csg"));
-            Some(access3(alloc, out, &rows, state, &reused(rd, ri), rn, mem))
+            Some(swap(alloc, out, &rows, state, rd, ri, rn, mem))
         }
         _ => None,
     }

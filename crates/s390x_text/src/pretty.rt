@@ -1,63 +1,17 @@
 //! The text of an instruction.
-ghost use Rattle.std.specs.Prelude.{◌≡◌, ◌+◌, ◌<◌, ◌++◌, codes, None, IfOk, OnOk, OnErr, MatchResult, string_bytes};
-ghost use Rattle.s390x_text.specs.Texts.{Blames, Prints, first};
+ghost use Rattle.std.specs.Prelude.{◌≡◌, ◌+◌, ◌==◌, ◌++◌, length, codes, None, IfOk, OnOk, OnErr, MatchResult, string_bytes};
+ghost use Rattle.s390x_text.specs.Texts.{Blames, Prints, before_semicolon};
 ghost use Rattle.s390x_text.specs.Operands.{cond_text};
-ghost use Rattle.s390x_text.specs.Instructions.{before_semicolon, other_text, leaf_text, register_text, leaf_after, after, insts_after, inst_text, insts_text, members_text, looped, back_text};
+ghost use Rattle.s390x_text.specs.Instructions.{leaf_text, leaf_after, after, insts_after, inst_text, insts_text, looped, back_text};
 
-use crate::arithmetic::{put_arithmetic, put_pair_instruction};
-use crate::compare::put_compare;
-use crate::control::put_control;
+use crate::calls::put_call;
 use crate::error::TextError;
-use crate::memory::{put_load, put_storage_operator, put_store};
-use crate::moves::put_move;
 use crate::operand::cond_name;
-use crate::vector_memory::put_vector;
+use crate::simple::put_simple;
 use s390x_base::Cond;
 use s390x_inst::{EmitState, Inst};
 use s390x_words::number::put;
 use std::alloc::{AllocError, Global};
-
-// Appends the text of an instruction that is none of the others.
-fn put_other(
-    alloc: Global,
-    out: &mut String,
-    state: &EmitState,
-    inst: &Inst,
-) -> Result<(), TextError>
-    ensures { Prints result (string_bytes out.old) (string_bytes out.new) (other_text state.now inst.now) }
-{
-    match inst {
-        Inst::Vector(vector) => put_vector(alloc, out, state, vector),
-        _ => Err(TextError::NoRow),
-    }
-}
-
-// Appends the text of an instruction without an operand in memory, or of another one.
-fn put_register(
-    alloc: Global,
-    out: &mut String,
-    state: &EmitState,
-    inst: &Inst,
-) -> Result<(), TextError>
-    ensures { Prints result (string_bytes out.old) (string_bytes out.new) (register_text state.now inst.now) }
-{
-    if let Some(answer) = put_arithmetic(out, inst) {
-        return answer;
-    }
-    if let Some(answer) = put_pair_instruction(out, inst) {
-        return answer;
-    }
-    if let Some(answer) = put_compare(out, inst) {
-        return answer;
-    }
-    if let Some(answer) = put_move(out, inst) {
-        return answer;
-    }
-    match put_control(out, inst) {
-        Some(answer) => answer,
-        None => put_other(alloc, out, state, inst),
-    }
-}
 
 // Appends the text of an instruction that is no `Loop`.
 fn put_leaf(
@@ -68,15 +22,9 @@ fn put_leaf(
 ) -> Result<(), TextError>
     ensures { Prints result (string_bytes out.old) (string_bytes out.new) (leaf_text state.now inst.now) }
 {
-    if let Some(answer) = put_load(alloc, out, state, inst) {
-        return answer;
-    }
-    if let Some(answer) = put_store(alloc, out, state, inst) {
-        return answer;
-    }
-    match put_storage_operator(alloc, out, state, inst) {
+    match put_call(alloc, out, state, inst) {
         Some(answer) => answer,
-        None => put_register(alloc, out, state, inst),
+        None => put_simple(alloc, out, state, inst),
     }
 }
 
@@ -86,6 +34,10 @@ fn advance(state: &mut EmitState, inst: &Inst)
 {
     match inst {
         Inst::AllocateArgs { size } => state.set_nominal(*size),
+        Inst::Call { .. } => {
+            state.set_nominal(0);
+            state.set_outgoing(0);
+        }
         _ => {}
     }
 }
@@ -162,7 +114,7 @@ fn put_loop(
     cond: Cond,
     body: &[Inst],
 ) -> Result<(), TextError>
-    ensures answer { Prints result (string_bytes out.old) (string_bytes out.new) (looped depth cond (members_text (depth + 1) state.old body.now)) }
+    ensures answer { Prints result (string_bytes out.old) (string_bytes out.new) (looped depth cond (length body.now == 0) (insts_text (depth + 1) state.old body.now)) }
     ensures after { IfOk result (λ _. state.new ≡ insts_after state.old body.now) }
 {
     if depth >= 8 {
