@@ -1,5 +1,6 @@
 //! The texts of calls and tail calls.
 ghost use Rattle.std.specs.Prelude.{◌≡◌, ◌++◌, codes, OnOk, IfOk, string_bytes};
+ghost use Rattle.std.specs.Fmt.{decimal};
 ghost use Rattle.s390x_inst.specs.Frames.{copied_target};
 ghost use Rattle.s390x_text.specs.Texts.{Prints, PrintsWhere, before_semicolon};
 ghost use Rattle.s390x_text.specs.Simple.{simple_text};
@@ -32,14 +33,22 @@ fn put_branch_and_link(
 }
 
 // How many bytes of arguments the callee takes.
+fn put_pop_size(out: &mut String, size: u32) -> Result<(), AllocError>
+    ensures { OnOk result (string_bytes out.new ≡ string_bytes out.old ++ (codes " ; callee_pop_size " ++ decimal size)) }
+{
+    put(out, " ; callee_pop_size ")?;
+    put_natural(out, u64::from(size))
+}
+
+// The same, where it takes any.
 fn put_popped(out: &mut String, size: u32) -> Result<(), AllocError>
     ensures { OnOk result (string_bytes out.new ≡ string_bytes out.old ++ popped_text size) }
 {
     if size == 0 {
-        return Ok(());
+        Ok(())
+    } else {
+        put_pop_size(out, size)
     }
-    put(out, " ; callee_pop_size ")?;
-    put_natural(out, u64::from(size))
 }
 
 // A load behind a semicolon; `NoRow` where there is none.

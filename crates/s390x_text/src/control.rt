@@ -44,11 +44,27 @@ fn put_jump(out: &mut String, cond: Cond, end: &str) -> Result<(), AllocError>
     put(out, end)
 }
 
+// The mnemonic of a branch under a condition.
+fn put_branch_name(out: &mut String, cond: Cond) -> Result<(), AllocError>
+    ensures { OnOk result (string_bytes out.new ≡ string_bytes out.old ++ (codes "jg" ++ cond_text cond)) }
+{
+    put(out, "jg")?;
+    put(out, cond_name(cond))
+}
+
+// The place in a branch that traps, and the trap's code.
+fn put_trap_place(out: &mut String, code: TrapCode) -> Result<(), AllocError>
+    ensures { OnOk result (string_bytes out.new ≡ string_bytes out.old ++ (codes " .+2 # trap=" ++ trap_text code)) }
+{
+    put(out, " .+2 # trap=")?;
+    put_trap(out, code)
+}
+
 fn put_trap_if(out: &mut String, cond: Cond, code: TrapCode) -> Result<(), AllocError>
     ensures { OnOk result (string_bytes out.new ≡ string_bytes out.old ++ ((codes "jg" ++ (cond_text cond ++ codes " .+2 # trap=")) ++ trap_text code)) }
 {
-    put_jump(out, cond, " .+2 # trap=")?;
-    put_trap(out, code)
+    put_branch_name(out, cond)?;
+    put_trap_place(out, code)
 }
 
 fn put_trap_word(out: &mut String, code: TrapCode) -> Result<(), AllocError>
@@ -75,13 +91,26 @@ fn put_labels(out: &mut String, labels: &[MachLabel]) -> Result<(), AllocError>
     Ok(())
 }
 
-// The word of a table that is added to its address, and the jump.
+// The word of a table that is added to its address.
+fn put_table_load(out: &mut String, index: Reg) -> Result<(), AllocError>
+    ensures { OnOk result (string_bytes out.new ≡ string_bytes out.old ++ (codes " ; larl %r1, 14 ; agf %r1, 0(" ++ reg_text index)) }
+{
+    put(out, " ; larl %r1, 14 ; agf %r1, 0(")?;
+    put_reg(out, index)
+}
+
+fn put_table_jump(out: &mut String) -> Result<(), AllocError>
+    ensures { OnOk result (string_bytes out.new ≡ string_bytes out.old ++ codes ", %r1) ; br %r1 ; jt_entries") }
+{
+    put(out, ", %r1) ; br %r1 ; jt_entries")
+}
+
+// The same, and the jump.
 fn put_table_sum(out: &mut String, index: Reg) -> Result<(), AllocError>
     ensures { OnOk result (string_bytes out.new ≡ string_bytes out.old ++ table_sum_text index) }
 {
-    put(out, " ; larl %r1, 14 ; agf %r1, 0(")?;
-    put_reg(out, index)?;
-    put(out, ", %r1) ; br %r1 ; jt_entries")
+    put_table_load(out, index)?;
+    put_table_jump(out)
 }
 
 fn put_table(
