@@ -1,0 +1,388 @@
+-- Texts and bytes have rows for the same operators.
+use Rattle.std.proofs.Common.{◌≡◌, ℕ, ◌+◌, Bool, true, false, Option, Some, None, List, [], ◌∷◌, refl, sym, ap, ◌∙◌, is_some, ◌||◌, ◌&&◌}
+use Rattle.std.specs.Prelude.{cond, nat_eq, nat_lt}
+use Rattle.s390x_base.specs.declared.error.EmitError.{EmitError}
+use Rattle.s390x_base.specs.declared.regs.Reg.{Reg}
+use Rattle.s390x_inst.specs.Emission.{Emission}
+use Rattle.s390x_inst.specs.declared.args.MemArg.{MemArg}
+use Rattle.s390x_inst.specs.declared.ops.ALUOp.{ALUOp}
+use Rattle.s390x_inst.specs.declared.ops.ALUOp.TheVariants.{Add32, And32, And64, Orr32, Orr64, Xor32, Xor64}
+use Rattle.s390x_inst.specs.declared.ops.CmpOp.{CmpOp}
+use Rattle.s390x_inst.specs.declared.ops.CmpOp.TheVariants.{CmpS32}
+use Rattle.s390x_inst.specs.declared.ops.RxSBGOp.{RxSBGOp}
+use Rattle.s390x_inst.specs.declared.ops.RxSBGOp.TheVariants.{Insert, And}
+use Rattle.s390x_inst.specs.declared.ops.UnaryOp.{UnaryOp}
+use Rattle.s390x_inst.specs.declared.ops.UnaryOp.TheVariants.{Abs32}
+use Rattle.s390x_inst.specs.declared.inst.Inst.{Inst}
+use Rattle.s390x_inst.specs.declared.inst.Inst.TheVariants.{AluRRR, AluRR, AluRRSImm16, AluRSImm16, AluRSImm32, AluRUImm32, AluRUImm16Shifted, AluRUImm32Shifted, ShiftRR, RxSBG, RxSBGTest, UnaryRR, SMulWide, UMulWide, Flogr, SDivMod32, SDivMod64, UDivMod32, UDivMod64, CmpRR, CmpRSImm16, CmpRSImm32, CmpRUImm32, CmpTrapRR, CmpTrapRSImm16, CmpTrapRUImm16, Mov64UImm16Shifted, Mov64UImm32Shifted, Insert64UImm16Shifted, Insert64UImm32Shifted, Extend, LoadIndexedAddr, LoadLogicalIndexedAddr, Mov64, MovPReg, Mov32, Mov32Imm, Mov32SImm16, Mov64SImm16, Mov64SImm32, CMov32, CMov64, CMov32SImm16, CMov64SImm16, LoadAR, InsertAR, AluRX, CmpRX, LoadMultiple64, StoreMultiple64, LoadAddr, AtomicRmw, AtomicCas32, AtomicCas64, Load32, Load32ZExt8, Load32SExt8, Load32ZExt16, Load32SExt16, Load64, Load64ZExt8, Load64SExt8, Load64ZExt16, Load64SExt16, Load64ZExt32, Load64SExt32, LoadRev16, LoadRev32, LoadRev64, Store8, Store16, Store32, Store64, StoreRev16, StoreRev32, StoreRev64, StoreImm8, StoreImm16, StoreImm32SExt16, StoreImm64SExt16}
+use Rattle.s390x_typed_steps.specs.MachineInstruction.{MachineInstruction}
+use Rattle.s390x_typed_steps.specs.General.{is_general, reuses, is_even_pair}
+use Rattle.s390x_typed_steps.specs.SingleInstruction.{SingleInstruction, single_instruction, single_with, two_row, three_row, halfword_row, word_row, three_halfword_row, masked_row, masked_halfword_row, unary_row, rotated_row, indexed_row}
+use Rattle.s390x_typed_steps.specs.Opcodes.{alu_three, alu_two, cmp_two, cmp_trap, cmp_trap_signed, cmp_trap_unsigned, unary_two, alu_halfword, alu_three_halfword, alu_signed_word, alu_unsigned_word, cmp_halfword, cmp_signed_word, cmp_unsigned_word, of_one, of_two, of_four, alu_part, alu_half, load_part, load_half, insert_part, insert_half, extend_to_word, extend_to_doubleword, extend_two, rotate_then, rotate_then_test, indexed_opcode, logical_indexed_opcode}
+use Rattle.s390x_typed_steps.specs.Storage.{alu_rx, alu_rxy, atomic_rsy}
+use Rattle.s390x_typed_steps.specs.Memory.{MemoryInstruction, operate, load_and_operate, memory}
+use Rattle.s390x_text.specs.Texts.{Text, row}
+use Rattle.s390x_base.specs.declared.regs.Reg.TheVariants.{Real, Virtual}
+use Rattle.s390x_text.specs.Operands.{is_reg, pair_cause}
+use Rattle.s390x_text.specs.Mnemonics.{alu_three_name, alu_two_name, alu_halfword_name, alu_three_halfword_name, alu_signed_word_name, alu_unsigned_word_name, alu_short_name, alu_long_name, atomic_name, cmp_short_name, cmp_long_name, cmp_relative_name, cmp_two_name, cmp_halfword_name, cmp_signed_word_name, cmp_unsigned_word_name, cmp_trap_name, cmp_trap_signed_name, cmp_trap_unsigned_name, rotate_name, rotate_test_name}
+use Rattle.s390x_text.specs.Integer.{three_text, conditional_row, one_of_two, one_of_four, only_one, alu_part_name, alu_half_name, load_part_name, load_half_name, insert_part_name, insert_half_name, extend_to_word_name, extend_to_doubleword_name, extend_name, indexed_name, logical_indexed_name, selected_name, arithmetic_text, pair_instruction_text, compare_text, move_text}
+use Rattle.s390x_text.specs.Storage.{Rows, rx, rs, has_row, access_cause, address_cause, load_text, store_text, storage_operator_text}
+use Rattle.s390x_text.specs.Agreement.{has_row_text, Agrees, RowsAgree}
+use Rattle.s390x_text.specs.declared.error.TextError.{TextError}
+use Rattle.s390x_text.specs.declared.error.TextError.TheVariants.{NoRow, BadPair}
+use Rattle.s390x_base.specs.Regs.{number_of}
+
+-- ---- tables
+
+-- two choices by one test
+by_test : {X Y : Type 0} (b : Bool) (x z : Option X) (y w : Option Y) → is_some x ≡ is_some y → is_some z ≡ is_some w → is_some (cond b x z) ≡ is_some (cond b y w)
+by_test true x z y w p q = p
+by_test false x z y w p q = q
+
+alu_three_same : (op : ALUOp) → is_some (alu_three_name op) ≡ is_some (alu_three op)
+alu_three_same Add32 = refl
+alu_three_same op = refl
+
+alu_two_same : (op : ALUOp) → is_some (alu_two_name op) ≡ is_some (alu_two op)
+alu_two_same Add32 = refl
+alu_two_same op = refl
+
+alu_halfword_same : (op : ALUOp) → is_some (alu_halfword_name op) ≡ is_some (alu_halfword op)
+alu_halfword_same Add32 = refl
+alu_halfword_same op = refl
+
+alu_three_halfword_same : (op : ALUOp) → is_some (alu_three_halfword_name op) ≡ is_some (alu_three_halfword op)
+alu_three_halfword_same Add32 = refl
+alu_three_halfword_same op = refl
+
+alu_signed_word_same : (op : ALUOp) → is_some (alu_signed_word_name op) ≡ is_some (alu_signed_word op)
+alu_signed_word_same Add32 = refl
+alu_signed_word_same op = refl
+
+alu_unsigned_word_same : (op : ALUOp) → is_some (alu_unsigned_word_name op) ≡ is_some (alu_unsigned_word op)
+alu_unsigned_word_same Add32 = refl
+alu_unsigned_word_same op = refl
+
+cmp_two_same : (op : CmpOp) → is_some (cmp_two_name op) ≡ is_some (cmp_two op)
+cmp_two_same CmpS32 = refl
+cmp_two_same op = refl
+
+cmp_halfword_same : (op : CmpOp) → is_some (cmp_halfword_name op) ≡ is_some (cmp_halfword op)
+cmp_halfword_same CmpS32 = refl
+cmp_halfword_same op = refl
+
+cmp_signed_word_same : (op : CmpOp) → is_some (cmp_signed_word_name op) ≡ is_some (cmp_signed_word op)
+cmp_signed_word_same CmpS32 = refl
+cmp_signed_word_same op = refl
+
+cmp_unsigned_word_same : (op : CmpOp) → is_some (cmp_unsigned_word_name op) ≡ is_some (cmp_unsigned_word op)
+cmp_unsigned_word_same CmpS32 = refl
+cmp_unsigned_word_same op = refl
+
+cmp_trap_same : (op : CmpOp) → is_some (cmp_trap_name op) ≡ is_some (cmp_trap op)
+cmp_trap_same CmpS32 = refl
+cmp_trap_same op = refl
+
+cmp_trap_signed_same : (op : CmpOp) → is_some (cmp_trap_signed_name op) ≡ is_some (cmp_trap_signed op)
+cmp_trap_signed_same CmpS32 = refl
+cmp_trap_signed_same op = refl
+
+cmp_trap_unsigned_same : (op : CmpOp) → is_some (cmp_trap_unsigned_name op) ≡ is_some (cmp_trap_unsigned op)
+cmp_trap_unsigned_same CmpS32 = refl
+cmp_trap_unsigned_same op = refl
+
+rotate_test_same : (op : RxSBGOp) → is_some (rotate_test_name op) ≡ is_some (rotate_then_test op)
+rotate_test_same And = refl
+rotate_test_same op = refl
+
+atomic_same : (op : ALUOp) → is_some (atomic_name op) ≡ is_some (atomic_rsy op)
+atomic_same Add32 = refl
+atomic_same op = refl
+
+storage_same : (op : ALUOp) → has_row (rx (alu_short_name op) (alu_long_name op) None) ≡ (is_some (alu_rx op) || is_some (alu_rxy op))
+storage_same Add32 = refl
+storage_same op = refl
+
+one_same : (a : List ℕ) (x n : ℕ) → is_some (only_one a n) ≡ is_some (of_one x n)
+one_same a x n = by_test (nat_eq n 0) (Some a) None (Some x) None refl refl
+
+two_same : (a b : List ℕ) (x y n : ℕ) → is_some (one_of_two a b n) ≡ is_some (of_two x y n)
+two_same a b x y n =
+    by_test (nat_eq n 0) (Some a) (cond (nat_eq n 1) (Some b) None) (Some x) (cond (nat_eq n 1) (Some y) None) refl (by_test (nat_eq n 1) (Some b) None (Some y) None refl refl)
+
+four_same : (a b c d : List ℕ) (x y z w n : ℕ) → is_some (one_of_four a b c d n) ≡ is_some (of_four x y z w n)
+four_same a b c d x y z w n =
+    by_test (nat_eq n 0) (Some a) _ (Some x) _ refl
+    (by_test (nat_eq n 1) (Some b) _ (Some y) _ refl
+    (by_test (nat_eq n 2) (Some c) _ (Some z) _ refl (by_test (nat_eq n 3) (Some d) None (Some w) None refl refl)))
+
+part_same : (op : ALUOp) (n : ℕ) → is_some (alu_part_name op n) ≡ is_some (alu_part op n)
+part_same And32 n = two_same _ _ 0xa57 0xa56 n
+part_same And64 n = four_same _ _ _ _ 0xa57 0xa56 0xa55 0xa54 n
+part_same Orr32 n = two_same _ _ 0xa5b 0xa5a n
+part_same Orr64 n = four_same _ _ _ _ 0xa5b 0xa5a 0xa59 0xa58 n
+part_same op n = refl
+
+half_same : (op : ALUOp) (n : ℕ) → is_some (alu_half_name op n) ≡ is_some (alu_half op n)
+half_same And32 n = one_same _ 0xc0b n
+half_same And64 n = two_same _ _ 0xc0b 0xc0a n
+half_same Orr32 n = one_same _ 0xc0d n
+half_same Orr64 n = two_same _ _ 0xc0d 0xc0c n
+half_same Xor32 n = one_same _ 0xc07 n
+half_same Xor64 n = two_same _ _ 0xc07 0xc06 n
+half_same op n = refl
+
+extend_same : (signed : Bool) (from to : ℕ) → is_some (extend_name signed from to) ≡ is_some (extend_two signed from to)
+extend_same signed from to =
+    by_test (nat_eq to 32) _ _ _ _
+    (by_test (nat_eq from 1) _ _ _ _ refl (by_test (nat_eq from 8) _ _ _ _ refl (by_test (nat_eq from 16) _ _ _ _ refl refl)))
+    (by_test (nat_eq to 64) _ _ _ _
+    (by_test (nat_eq from 1) _ _ _ _ refl (by_test (nat_eq from 8) _ _ _ _ refl (by_test (nat_eq from 16) _ _ _ _ refl (by_test (nat_eq from 32) _ _ _ _ refl refl))))
+    refl)
+
+indexed_same : (n : ℕ) → is_some (indexed_name n) ≡ is_some (indexed_opcode n)
+indexed_same n = by_test (nat_eq n 1) _ _ _ _ refl (by_test (nat_eq n 2) _ _ _ _ refl (by_test (nat_eq n 3) _ _ _ _ refl (by_test (nat_eq n 4) _ _ _ _ refl refl)))
+
+logical_same : (n : ℕ) → is_some (logical_indexed_name n) ≡ is_some (logical_indexed_opcode n)
+logical_same n = by_test (nat_eq n 1) _ _ _ _ refl (by_test (nat_eq n 2) _ _ _ _ refl (by_test (nat_eq n 3) _ _ _ _ refl (by_test (nat_eq n 4) _ _ _ _ refl refl)))
+
+-- ---- rows
+
+two_agrees : (n : Option (List ℕ)) (o : Option ℕ) (xs : List (List ℕ)) (fine : Bool) (d m : ℕ) → is_some n ≡ is_some o → has_row_text (row n xs).cause ≡ is_some (single_with fine (two_row o d m))
+two_agrees None None xs fine d m h = refl
+two_agrees None (Some o) xs fine d m h = h
+two_agrees (Some n) None xs fine d m h = h
+two_agrees (Some n) (Some o) xs fine d m h = refl
+
+halfword_agrees : (n : Option (List ℕ)) (o : Option ℕ) (xs : List (List ℕ)) (fine : Bool) (d bits : ℕ) → is_some n ≡ is_some o → has_row_text (row n xs).cause ≡ is_some (single_with fine (halfword_row o d bits))
+halfword_agrees None None xs fine d bits h = refl
+halfword_agrees None (Some o) xs fine d bits h = h
+halfword_agrees (Some n) None xs fine d bits h = h
+halfword_agrees (Some n) (Some o) xs fine d bits h = refl
+
+word_agrees : (n : Option (List ℕ)) (o : Option ℕ) (xs : List (List ℕ)) (fine : Bool) (d bits : ℕ) → is_some n ≡ is_some o → has_row_text (row n xs).cause ≡ is_some (single_with fine (word_row o d bits))
+word_agrees None None xs fine d bits h = refl
+word_agrees None (Some o) xs fine d bits h = h
+word_agrees (Some n) None xs fine d bits h = h
+word_agrees (Some n) (Some o) xs fine d bits h = refl
+
+indexed_agrees : (n : Option (List ℕ)) (o : Option ℕ) (xs : List (List ℕ)) (fine : Bool) (d base index displacement : ℕ) → is_some n ≡ is_some o → has_row_text (row n xs).cause ≡ is_some (single_with fine (indexed_row o d base index displacement))
+indexed_agrees None None xs fine d base index displacement h = refl
+indexed_agrees None (Some o) xs fine d base index displacement h = h
+indexed_agrees (Some n) None xs fine d base index displacement h = h
+indexed_agrees (Some n) (Some o) xs fine d base index displacement h = refl
+
+masked_agrees : (n : Option (List ℕ)) (o : Option ℕ) (xs : List (List ℕ)) (fine : Bool) (a m k : ℕ) (mask : ℕ) → is_some n ≡ is_some o → has_row_text (conditional_row n mask xs).cause ≡ is_some (single_with fine (masked_row o a m k))
+masked_agrees None None xs fine a m k mask h = refl
+masked_agrees None (Some o) xs fine a m k mask h = h
+masked_agrees (Some n) None xs fine a m k mask h = h
+masked_agrees (Some n) (Some o) xs fine a m k mask h = refl
+
+masked_halfword_agrees : (n : Option (List ℕ)) (o : Option ℕ) (xs : List (List ℕ)) (fine : Bool) (a bits k : ℕ) (mask : ℕ) → is_some n ≡ is_some o → has_row_text (conditional_row n mask xs).cause ≡ is_some (single_with fine (masked_halfword_row o a bits k))
+masked_halfword_agrees None None xs fine a bits k mask h = refl
+masked_halfword_agrees None (Some o) xs fine a bits k mask h = h
+masked_halfword_agrees (Some n) None xs fine a bits k mask h = h
+masked_halfword_agrees (Some n) (Some o) xs fine a bits k mask h = refl
+
+chosen : (b : Bool) (t u : Text) → has_row_text t.cause ≡ true → has_row_text u.cause ≡ true → has_row_text (cond b t u).cause ≡ true
+chosen true t u p q = p
+chosen false t u p q = q
+
+three_agrees : (n w : Option (List ℕ)) (o p : Option ℕ) (rd rn : Reg) (last : List ℕ) (fine : Bool) (d k m : ℕ) → is_some n ≡ is_some o → has_row_text (three_text n w rd rn last).cause ≡ is_some (single_with fine (three_row o p d k m))
+three_agrees None None None None rd rn last fine d k m h = refl
+three_agrees None None None (Some p) rd rn last fine d k m h = refl
+three_agrees None None (Some o) None rd rn last fine d k m h = h
+three_agrees None None (Some o) (Some p) rd rn last fine d k m h = h
+three_agrees None (Some w) None None rd rn last fine d k m h = refl
+three_agrees None (Some w) None (Some p) rd rn last fine d k m h = refl
+three_agrees None (Some w) (Some o) None rd rn last fine d k m h = h
+three_agrees None (Some w) (Some o) (Some p) rd rn last fine d k m h = h
+three_agrees (Some n) None None None rd rn last fine d k m h = h
+three_agrees (Some n) None None (Some p) rd rn last fine d k m h = h
+three_agrees (Some n) None (Some o) None rd rn last fine d k m h = refl
+three_agrees (Some n) None (Some o) (Some p) rd rn last fine d k m h = refl
+three_agrees (Some n) (Some w) None None rd rn last fine d k m h = chosen (is_reg rd rn) _ _ refl refl ∙ h
+three_agrees (Some n) (Some w) None (Some p) rd rn last fine d k m h = chosen (is_reg rd rn) _ _ refl refl ∙ h
+three_agrees (Some n) (Some w) (Some o) None rd rn last fine d k m h = chosen (is_reg rd rn) _ _ refl refl
+three_agrees (Some n) (Some w) (Some o) (Some p) rd rn last fine d k m h = chosen (is_reg rd rn) _ _ refl refl
+
+three_halfword_agrees : (n w : Option (List ℕ)) (o p : Option ℕ) (rd rn : Reg) (last : List ℕ) (fine : Bool) (d k bits : ℕ) → is_some n ≡ is_some o → has_row_text (three_text n w rd rn last).cause ≡ is_some (single_with fine (three_halfword_row o p d k bits))
+three_halfword_agrees None None None None rd rn last fine d k bits h = refl
+three_halfword_agrees None None None (Some p) rd rn last fine d k bits h = refl
+three_halfword_agrees None None (Some o) None rd rn last fine d k bits h = h
+three_halfword_agrees None None (Some o) (Some p) rd rn last fine d k bits h = h
+three_halfword_agrees None (Some w) None None rd rn last fine d k bits h = refl
+three_halfword_agrees None (Some w) None (Some p) rd rn last fine d k bits h = refl
+three_halfword_agrees None (Some w) (Some o) None rd rn last fine d k bits h = h
+three_halfword_agrees None (Some w) (Some o) (Some p) rd rn last fine d k bits h = h
+three_halfword_agrees (Some n) None None None rd rn last fine d k bits h = h
+three_halfword_agrees (Some n) None None (Some p) rd rn last fine d k bits h = h
+three_halfword_agrees (Some n) None (Some o) None rd rn last fine d k bits h = refl
+three_halfword_agrees (Some n) None (Some o) (Some p) rd rn last fine d k bits h = refl
+three_halfword_agrees (Some n) (Some w) None None rd rn last fine d k bits h = chosen (is_reg rd rn) _ _ refl refl ∙ h
+three_halfword_agrees (Some n) (Some w) None (Some p) rd rn last fine d k bits h = chosen (is_reg rd rn) _ _ refl refl ∙ h
+three_halfword_agrees (Some n) (Some w) (Some o) None rd rn last fine d k bits h = chosen (is_reg rd rn) _ _ refl refl
+three_halfword_agrees (Some n) (Some w) (Some o) (Some p) rd rn last fine d k bits h = chosen (is_reg rd rn) _ _ refl refl
+
+-- selected bits, by whether they lie below 64
+picked : (b : Bool) (n : Option (List ℕ)) (xs : List (List ℕ)) (fine : Bool) (m : MachineInstruction) → is_some n ≡ true → has_row_text (row (cond b n None) xs).cause ≡ is_some (single_with fine (cond b (Some m) None))
+picked true None xs fine m h = h
+picked true (Some n) xs fine m h = refl
+picked false n xs fine m h = refl
+
+unpicked : (b : Bool) (xs : List (List ℕ)) → has_row_text (row (cond b None None) xs).cause ≡ false
+unpicked true xs = refl
+unpicked false xs = refl
+
+-- one with an operand in memory, by whether there is a row
+address_row : (c : Option EmitError) → has_row_text (address_cause c) ≡ true
+address_row None = refl
+address_row (Some e) = refl
+
+access_row : (b : Bool) (c : Option EmitError) → has_row_text (cond b (address_cause c) (Some NoRow)) ≡ b
+access_row true c = address_row c
+access_row false c = refl
+
+operate_some : (b : Bool) (x y : Option ℕ) (rd ri : Reg) (m : MemArg) → is_some (operate b x y rd ri m) ≡ b
+operate_some true x y rd ri m = refl
+operate_some false x y rd ri m = refl
+
+atomic_row : (n : Option (List ℕ)) (o : Option ℕ) (rd rn : Reg) (m : MemArg) (c : Option EmitError) → is_some n ≡ is_some o → has_row_text (cond (has_row (rs None n)) (address_cause c) (Some NoRow)) ≡ is_some (load_and_operate o rd rn m)
+atomic_row None None rd rn m c h = refl
+atomic_row None (Some o) rd rn m c h = h
+atomic_row (Some n) None rd rn m c h = address_row c ∙ h
+atomic_row (Some n) (Some o) rd rn m c h = address_row c
+
+-- a comparison has a relative row
+compared : (a b : Option (List ℕ)) (r : List ℕ) (c : Option EmitError) → has_row_text (cond (has_row (rx a b (Some r))) (address_cause c) (Some NoRow)) ≡ true
+compared None None r c = address_row c
+compared None (Some b) r c = address_row c
+compared (Some a) None r c = address_row c
+compared (Some a) (Some b) r c = address_row c
+
+chosen_cause : (b : Bool) → has_row_text (cond b None (Some BadPair)) ≡ true
+chosen_cause true = refl
+chosen_cause false = refl
+
+-- ---- instructions
+
+arithmetic : (i : Inst) → Agrees (arithmetic_text i) (is_some (single_instruction i))
+arithmetic (AluRRR op rd rn rm) = three_agrees (alu_three_name op) (alu_two_name op) (alu_three op) (alu_two op) _ _ _ _ _ _ _ (alu_three_same op)
+arithmetic (AluRRSImm16 op rd rn imm) = three_halfword_agrees (alu_three_halfword_name op) (alu_halfword_name op) (alu_three_halfword op) (alu_halfword op) _ _ _ _ _ _ _ (alu_three_halfword_same op)
+arithmetic (AluRR op rd ri rm) = two_agrees (alu_two_name op) (alu_two op) _ _ _ _ (alu_two_same op)
+arithmetic (AluRSImm16 op rd ri imm) = halfword_agrees (alu_halfword_name op) (alu_halfword op) _ _ _ _ (alu_halfword_same op)
+arithmetic (AluRSImm32 op rd ri imm) = word_agrees (alu_signed_word_name op) (alu_signed_word op) _ _ _ _ (alu_signed_word_same op)
+arithmetic (AluRUImm32 op rd ri imm) = word_agrees (alu_unsigned_word_name op) (alu_unsigned_word op) _ _ _ _ (alu_unsigned_word_same op)
+arithmetic (AluRUImm16Shifted op rd ri imm) = halfword_agrees (alu_part_name op imm.shift) (alu_part op imm.shift) _ _ _ _ (part_same op imm.shift)
+arithmetic (AluRUImm32Shifted op rd ri imm) = word_agrees (alu_half_name op imm.shift) (alu_half op imm.shift) _ _ _ _ (half_same op imm.shift)
+arithmetic (UnaryRR Abs32 rd rn) = refl
+arithmetic (UnaryRR op rd rn) = refl
+arithmetic (RxSBG op rd ri rn start end amount) = picked (nat_lt start 64 && nat_lt end 64) (Some (rotate_name op)) _ _ _ refl
+arithmetic (RxSBGTest Insert rd rn start end amount) = unpicked (nat_lt start 64 && nat_lt end 64) _
+arithmetic (RxSBGTest And rd rn start end amount) = picked (nat_lt start 64 && nat_lt end 64) (rotate_test_name And) _ _ _ refl
+arithmetic (RxSBGTest op rd rn start end amount) = picked (nat_lt start 64 && nat_lt end 64) (rotate_test_name op) _ _ _ refl
+arithmetic (ShiftRR op rd rn amount register) = refl
+arithmetic i = tt
+
+is_row_pair : (hi lo : Reg) → has_row_text (pair_cause hi lo) ≡ true
+is_row_pair (Real h) (Real l) = chosen_cause (nat_eq l.number (h.number + 1))
+is_row_pair (Real h) (Virtual n c) = refl
+is_row_pair (Virtual n c) lo = refl
+
+pairs : (i : Inst) → Agrees (pair_instruction_text i) (is_some (single_instruction i))
+pairs (SMulWide rd rn rm) = is_row_pair rd.hi rd.lo
+pairs (Flogr rd rn) = is_row_pair rd.hi rd.lo
+pairs (UMulWide rd ri rn) = refl
+pairs (SDivMod32 rd ri rn) = refl
+pairs (SDivMod64 rd ri rn) = refl
+pairs (UDivMod32 rd ri rn) = refl
+pairs (UDivMod64 rd ri rn) = refl
+pairs i = tt
+
+comparisons : (i : Inst) → Agrees (compare_text i) (is_some (single_instruction i))
+comparisons (CmpRR op rn rm) = two_agrees (cmp_two_name op) (cmp_two op) _ _ _ _ (cmp_two_same op)
+comparisons (CmpRSImm16 op rn imm) = halfword_agrees (cmp_halfword_name op) (cmp_halfword op) _ _ _ _ (cmp_halfword_same op)
+comparisons (CmpRSImm32 op rn imm) = word_agrees (cmp_signed_word_name op) (cmp_signed_word op) _ _ _ _ (cmp_signed_word_same op)
+comparisons (CmpRUImm32 op rn imm) = word_agrees (cmp_unsigned_word_name op) (cmp_unsigned_word op) _ _ _ _ (cmp_unsigned_word_same op)
+comparisons (CmpTrapRR op rn rm mask code) = masked_agrees (cmp_trap_name op) (cmp_trap op) _ _ _ _ _ mask (cmp_trap_same op)
+comparisons (CmpTrapRSImm16 op rn imm mask code) = masked_halfword_agrees (cmp_trap_signed_name op) (cmp_trap_signed op) _ _ _ _ _ mask (cmp_trap_signed_same op)
+comparisons (CmpTrapRUImm16 op rn imm mask code) = masked_halfword_agrees (cmp_trap_unsigned_name op) (cmp_trap_unsigned op) _ _ _ _ _ mask (cmp_trap_unsigned_same op)
+comparisons i = tt
+
+moves : (i : Inst) → Agrees (move_text i) (is_some (single_instruction i))
+moves (Mov64UImm16Shifted rd imm) = halfword_agrees (load_part_name imm.shift) (load_part imm.shift) _ _ _ _ (four_same _ _ _ _ 0xa5f 0xa5e 0xa5d 0xa5c imm.shift)
+moves (Mov64UImm32Shifted rd imm) = word_agrees (load_half_name imm.shift) (load_half imm.shift) _ _ _ _ (two_same _ _ 0xc0f 0xc0e imm.shift)
+moves (Insert64UImm16Shifted rd ri imm) = halfword_agrees (insert_part_name imm.shift) (insert_part imm.shift) _ _ _ _ (four_same _ _ _ _ 0xa53 0xa52 0xa51 0xa50 imm.shift)
+moves (Insert64UImm32Shifted rd ri imm) = word_agrees (insert_half_name imm.shift) (insert_half imm.shift) _ _ _ _ (two_same _ _ 0xc09 0xc08 imm.shift)
+moves (Extend rd rn signed from to) = two_agrees (extend_name signed from to) (extend_two signed from to) _ _ _ _ (extend_same signed from to)
+moves (LoadIndexedAddr rd base index offset size) = indexed_agrees (indexed_name size) (indexed_opcode size) _ _ _ _ _ _ (indexed_same size)
+moves (LoadLogicalIndexedAddr rd base index offset size) = indexed_agrees (logical_indexed_name size) (logical_indexed_opcode size) _ _ _ _ _ _ (logical_same size)
+moves (Mov64 rd rm) = refl
+moves (MovPReg rd rm) = refl
+moves (Mov32 rd rm) = refl
+moves (Mov32Imm rd imm) = refl
+moves (Mov32SImm16 rd imm) = refl
+moves (Mov64SImm16 rd imm) = refl
+moves (Mov64SImm32 rd imm) = refl
+moves (CMov32 rd mask ri rm) = refl
+moves (CMov64 rd mask ri rm) = refl
+moves (CMov32SImm16 rd mask ri imm) = refl
+moves (CMov64SImm16 rd mask ri imm) = refl
+moves (LoadAR rd ar) = refl
+moves (InsertAR rd ri ar) = refl
+moves i = tt
+
+loads : (e : Emission) (i : Inst) → Agrees (load_text e i) (is_some (memory i))
+loads e (Load32 rd mem) = address_row _
+loads e (Load32ZExt8 rd mem) = address_row _
+loads e (Load32SExt8 rd mem) = address_row _
+loads e (Load32ZExt16 rd mem) = address_row _
+loads e (Load32SExt16 rd mem) = address_row _
+loads e (Load64 rd mem) = address_row _
+loads e (Load64ZExt8 rd mem) = address_row _
+loads e (Load64SExt8 rd mem) = address_row _
+loads e (Load64ZExt16 rd mem) = address_row _
+loads e (Load64SExt16 rd mem) = address_row _
+loads e (Load64ZExt32 rd mem) = address_row _
+loads e (Load64SExt32 rd mem) = address_row _
+loads e (LoadRev16 rd mem) = address_row _
+loads e (LoadRev32 rd mem) = address_row _
+loads e (LoadRev64 rd mem) = address_row _
+loads e i = tt
+
+stores : (e : Emission) (i : Inst) → Agrees (store_text e i) (is_some (memory i))
+stores e (Store8 rd mem) = address_row _
+stores e (Store16 rd mem) = address_row _
+stores e (Store32 rd mem) = address_row _
+stores e (Store64 rd mem) = address_row _
+stores e (StoreRev16 rd mem) = address_row _
+stores e (StoreRev32 rd mem) = address_row _
+stores e (StoreRev64 rd mem) = address_row _
+stores e (StoreImm8 imm mem) = address_row _
+stores e (StoreImm16 imm mem) = address_row _
+stores e (StoreImm32SExt16 imm mem) = address_row _
+stores e (StoreImm64SExt16 imm mem) = address_row _
+stores e i = tt
+
+operators : (e : Emission) (i : Inst) → Agrees (storage_operator_text e i) (is_some (memory i))
+operators e (AluRX op rd ri mem) =
+    access_row (has_row (rx (alu_short_name op) (alu_long_name op) None)) _ ∙ storage_same op ∙ sym (operate_some (is_some (alu_rx op) || is_some (alu_rxy op)) (alu_rx op) (alu_rxy op) rd ri mem)
+operators e (CmpRX op rn mem) = compared (cmp_short_name op) (cmp_long_name op) (cmp_relative_name op) _
+operators e (AtomicRmw op rd rn mem) = atomic_row (atomic_name op) (atomic_rsy op) rd rn mem _ (atomic_same op)
+operators e (LoadMultiple64 rt rt2 mem) = address_row _
+operators e (StoreMultiple64 rt rt2 mem) = address_row _
+operators e (LoadAddr rd mem) = address_row _
+operators e (AtomicCas32 rd ri rn mem) = address_row _
+operators e (AtomicCas64 rd ri rn mem) = address_row _
+operators e i = tt
+
+pub rows_agree : (e : Emission) (i : Inst) → RowsAgree e i
+rows_agree e i = record {
+  arithmetic = arithmetic i;
+  pairs = pairs i;
+  comparisons = comparisons i;
+  moves = moves i;
+  loads = loads e i;
+  stores = stores e i;
+  operators = operators e i;
+}

@@ -1,0 +1,168 @@
+//! The text of an instruction.
+ghost use Rattle.std.specs.Prelude.{◌≡◌, ◌+◌, ◌==◌, ◌++◌, length, codes, None, IfOk, OnOk, OnErr, MatchResult, string_bytes};
+ghost use Rattle.s390x_text.specs.Texts.{Blames, Prints, before_semicolon};
+ghost use Rattle.s390x_text.specs.Operands.{cond_text};
+ghost use Rattle.s390x_text.specs.Instructions.{leaf_text, leaf_after, after, insts_after, inst_text, insts_text, looped, back_text};
+
+use crate::calls::put_call;
+use crate::error::TextError;
+use crate::operand::cond_name;
+use crate::simple::put_simple;
+use s390x_base::Cond;
+use s390x_inst::{EmitState, Inst};
+use s390x_words::number::put;
+use std::alloc::{AllocError, Global};
+
+// Appends the text of an instruction that is no `Loop`.
+fn put_leaf(
+    alloc: Global,
+    out: &mut String,
+    state: &EmitState,
+    inst: &Inst,
+) -> Result<(), TextError>
+    ensures { Prints result (string_bytes out.old) (string_bytes out.new) (leaf_text state.now inst.now) }
+{
+    match put_call(alloc, out, state, inst) {
+        Some(answer) => answer,
+        None => put_simple(alloc, out, state, inst),
+    }
+}
+
+// The state behind an instruction that is no `Loop`.
+fn advance(state: &mut EmitState, inst: &Inst)
+    ensures { state.new ≡ leaf_after state.old inst.now }
+{
+    match inst {
+        Inst::AllocateArgs { size } => state.set_nominal(*size),
+        Inst::Call { .. } => {
+            state.set_nominal(0);
+            state.set_outgoing(0);
+        }
+        _ => {}
+    }
+}
+
+// The text and the state behind an instruction that is no `Loop`.
+fn put_one(
+    alloc: Global,
+    out: &mut String,
+    state: &mut EmitState,
+    inst: &Inst,
+) -> Result<(), TextError>
+    ensures answer { Prints result (string_bytes out.old) (string_bytes out.new) (leaf_text state.old inst.now) }
+    ensures after { IfOk result (λ _. state.new ≡ leaf_after state.old inst.now) }
+{
+    put_leaf(alloc, out, state, inst)?;
+    advance(state, inst);
+    Ok(())
+}
+
+// The back branch of a loop, and the label behind it.
+fn put_back(out: &mut String, is_empty: bool, cond: Cond) -> Result<(), AllocError>
+    ensures { OnOk result (string_bytes out.new ≡ string_bytes out.old ++ back_text is_empty cond) }
+{
+    if is_empty {
+        put(out, " ; ")?;
+    }
+    put(out, "jg")?;
+    put(out, cond_name(cond))?;
+    put(out, " 0b ; 1:")
+}
+
+// Appends the texts of instructions, each before a semicolon.
+#[cycle(members)]
+fn put_members(
+    alloc: Global,
+    out: &mut String,
+    state: &mut EmitState,
+    depth: u32,
+    insts: &[Inst],
+) -> Result<(), TextError>
+    ensures answer { Prints result (string_bytes out.old) (string_bytes out.new) (insts_text depth state.old insts.now) }
+    ensures after { IfOk result (λ _. state.new ≡ insts_after state.old insts.now) }
+{
+    for inst in insts {
+        put_member(alloc, out, state, depth, inst)?;
+    }
+    Ok(())
+}
+
+// Appends the text of an instruction, and a semicolon.
+#[cycle(members)]
+fn put_member(
+    alloc: Global,
+    out: &mut String,
+    state: &mut EmitState,
+    depth: u32,
+    inst: &Inst,
+) -> Result<(), TextError>
+    ensures answer { Prints result (string_bytes out.old) (string_bytes out.new) (before_semicolon (inst_text depth state.old inst.now)) }
+    ensures after { IfOk result (λ _. state.new ≡ after state.old inst.now) }
+{
+    put_inst(alloc, out, state, depth, inst)?;
+    put(out, " ; ")?;
+    Ok(())
+}
+
+// Appends the text of a loop.
+#[cycle(members)]
+fn put_loop(
+    alloc: Global,
+    out: &mut String,
+    state: &mut EmitState,
+    depth: u32,
+    cond: Cond,
+    body: &[Inst],
+) -> Result<(), TextError>
+    ensures answer { Prints result (string_bytes out.old) (string_bytes out.new) (looped depth cond (length body.now == 0) (insts_text (depth + 1) state.old body.now)) }
+    ensures after { IfOk result (λ _. state.new ≡ insts_after state.old body.now) }
+{
+    if depth >= 8 {
+        return Err(TextError::NoRow);
+    }
+    put(out, "0: ")?;
+    put_members(alloc, out, state, depth + 1, body)?;
+    put_back(out, body.is_empty(), cond)?;
+    Ok(())
+}
+
+// Appends the text of an instruction inside so many loops.
+#[cycle(members)]
+fn put_inst(
+    alloc: Global,
+    out: &mut String,
+    state: &mut EmitState,
+    depth: u32,
+    inst: &Inst,
+) -> Result<(), TextError>
+    ensures answer { Prints result (string_bytes out.old) (string_bytes out.new) (inst_text depth state.old inst.now) }
+    ensures after { IfOk result (λ _. state.new ≡ after state.old inst.now) }
+{
+    match inst {
+        Inst::Loop { cond, body } => put_loop(alloc, out, state, depth, *cond, body),
+        _ => put_one(alloc, out, state, inst),
+    }
+}
+
+/// The text of an instruction in a state of emission, which goes on to that behind the instruction: after `AllocateArgs` its nominal size is that
+/// of the arguments. A refused call leaves it as it was.
+///
+/// `NoRow` exactly where an operator, type, size, bit or shift number has no row, or a `Loop` is nested more than 8 deep; `BadPair` where the
+/// output of `SMulWide` or `Flogr` is two real registers of which the second isn't the next one; `Address` where the address of the operand in
+/// memory can't be made, with the cause of `mem_finalize`. Of a loop, the first cause in the order of its members; of an instruction, the first in
+/// this order (cranelift-codegen, `mod.rs`).
+pub fn pretty_print_inst(
+    alloc: Global,
+    inst: &Inst,
+    state: &mut EmitState,
+) -> Result<String, TextError>
+    ensures answer { MatchResult result (λ s. ((inst_text 0 state.old inst.now).cause ≡ None) × (string_bytes s ≡ (inst_text 0 state.old inst.now).bytes)) (λ e. Blames (inst_text 0 state.old inst.now).cause e) }
+    ensures after { IfOk result (λ _. state.new ≡ after state.old inst.now) }
+    ensures left { OnErr result (state.new ≡ state.old) }
+{
+    let mut behind = *state;
+    let mut out = String::new(alloc);
+    put_inst(alloc, &mut out, &mut behind, 0, inst)?;
+    *state = behind;
+    Ok(out)
+}
