@@ -2,6 +2,7 @@
 #![tactic(auto)]
 
 pub mod inst_name;
+pub mod law;
 pub mod name;
 pub mod print;
 pub mod print_call;
