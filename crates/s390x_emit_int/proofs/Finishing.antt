@@ -1,5 +1,5 @@
 -- After a check that found no cause, a buffer can be finished.
-use Rattle.std.proofs.Common.{◌≡◌, ℕ, ◌+◌, ◌-◌, ◌%◌, ◌<◌, ◌≤◌, inl, inr, List, [], ◌∷◌, length, get_or, Bool, true, cond, nat_lt, nat_le, nat_eq, Option, Result, Ok, Err, MatchResult, refl, sym, ap, ◌∙◌, subst, arith, length-append, None, Some}
+use Rattle.std.proofs.Common.{◌≡◌, ℕ, ◌+◌, ◌-◌, ◌%◌, ◌<◌, ◌≤◌, inl, inr, ◌⊎◌, List, [], ◌∷◌, length, get_or, Bool, true, cond, nat_lt, nat_le, nat_eq, Option, Result, Ok, Err, MatchResult, refl, sym, ap, ◌∙◌, subst, arith, length-append, None, Some}
 use Rattle.std.specs.Prelude.{is_some}
 use Rattle.std.proofs.lemmas.Bool.{cases_lt, and_from, ltb-true, lt-ltb, le-leb, eq-eqb}
 use Rattle.std.proofs.lemmas.List.{length-map, length-replicate}
@@ -18,7 +18,7 @@ use Rattle.s390x_buffer.specs.declared.label_use.LabelUse.{LabelUse}
 use Rattle.s390x_buffer.specs.declared.label_use.LabelUse.TheVariants.{BranchRI, BranchRIL, PCRel32, PCRel32Dbl}
 use Rattle.s390x_buffer.proofs.Placing.{length-constant_bytes, end-ge}
 use Rattle.s390x_typed_steps.specs.Tree.{Tree}
-use Rattle.s390x_typed_steps.specs.Causes.{declared_of, fresh_labels, blocks_cause}
+use Rattle.s390x_typed_steps.specs.Causes.{first_emit_cause, declared_of, fresh_labels, blocks_cause}
 use Rattle.s390x_typed_steps.specs.Sizes.{blocks_size}
 use Rattle.s390x_typed_steps.proofs.Causes.{first_left, first_right, unless_true}
 use Rattle.s390x_emit_int.specs.Function.{checked_cause, code_length_cause}
@@ -218,6 +218,6 @@ length_last flags ts cs new blocks =
     ap (λ o. first_emit_cause o (first_emit_cause (blocks_cause flags (declared_of ts cs) (length ts + length cs) ts) (code_length_cause ts cs))) new ∙ ap (λ o. first_emit_cause o (code_length_cause ts cs)) blocks
 
 -- want of memory may be named beside the cause
-pub or_cause : {T : Type 0} (P : T → Type 0) (c : Option EmitError) (r : Result T EmitError) → c ≡ None → MatchResult r P (λ e. e ≡ NoMemory) → MatchResult r (λ x. (c ≡ None) × P x) (λ e. (e ≡ NoMemory) ⊎ (c ≡ Some e))
-or_cause P c (Ok x) none h = (none, h)
-or_cause P c (Err e) none h = inl h
+pub or_cause : {T : Type 0} (P : T → Type 0) (Q : Type 0) (c : Option EmitError) (r : Result T EmitError) → c ≡ None → MatchResult r (λ x. P x × Q) (λ e. e ≡ NoMemory) → MatchResult r (λ x. (c ≡ None) × P x × Q) (λ e. (e ≡ NoMemory) ⊎ (c ≡ Some e))
+or_cause P Q c (Ok x) none h = (none, h.0, h.1)
+or_cause P Q c (Err e) none h = inl h

@@ -15,19 +15,10 @@ pub lacks_call : {T : Type 0} (P : T → Type 0) (Q : EmitError → Type 0) (c :
 lacks_call P Q c (Ok x) m h = tt
 lacks_call P Q c (Err e) m h = fails_with_none c e h m.0
 
--- an answer by the stack sizes, where they have no cause inside so many loops
-pub lacks_stack : {T : Type 0} (P : T → Type 0) (Q : EmitError → Type 0) (cause : ℕ → Option EmitError) (depth : ℕ) (r : Result T EmitError) → MatchResult r P (λ e. ((d : ℕ) → cause d ≡ Some e) × Q e) → cause depth ≡ None → LacksMemory r
-lacks_stack P Q cause depth (Ok x) m h = tt
-lacks_stack P Q cause depth (Err e) m h = let some = m.0 depth in absurd (cc)
-
 -- an error that is handed on
 pub lacks_again : {T : Type 0} (r : Result T EmitError) (e : EmitError) → IsErrAnd r (λ y. y ≡ e) → e ≡ NoMemory → LacksMemory r
 lacks_again (Ok x) e a h = tt
 lacks_again (Err y) e a h = a ∙ h
-
-pub lacks_at_last : {T : Type 0} (P : T → Type 0) (r : Result T EmitError) (e : EmitError) → IsErrAnd r (λ y. y ≡ e) → e ≡ NoMemory → MatchResult r P (λ y. y ≡ NoMemory)
-lacks_at_last P (Ok x) e a h = absurd a
-lacks_at_last P (Err y) e a h = a ∙ h
 
 mark_of : (f : Bool) (o : Option EmitError) → f ≡ false → cond f (Some Failed) o ≡ o
 mark_of f o h = ap (λ b. cond b (Some Failed) o) h

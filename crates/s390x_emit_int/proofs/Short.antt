@@ -173,14 +173,15 @@ own_size state i s n after e =
     omega (arith, whole, run, same, bytes_run own s1, bytes_run own s)
 
 -- the first cause, by what is declared and was counted
-pub counted_cause : (flags : IsaFlags) (nominal : ℕ) (s : BufferState) (D : Declared) (labels bytes : ℕ) (x : Tree) → s.failed ≡ false → D ≡ declared_in s → labels ≡ length s.labels → bytes ≡ length s.bytes →
-    first_emit_cause (tree_cause flags D labels nominal 0 x) (unless (nat_lt (bytes + tree_size x) limit) LabelOutOfRange) ≡ emit_cause flags nominal s x
-counted_cause flags nominal s D labels bytes x unpoisoned declared l b =
-    let of : Declared → ℕ → ℕ → Option EmitError = λ E n m. first_emit_cause (tree_cause flags E n nominal 0 x) (unless (nat_lt (m + tree_size x) limit) LabelOutOfRange) in
-    ap (λ E. of E labels bytes) declared
-    ∙ ap (λ n. of (declared_in s) n bytes) l
-    ∙ ap (λ m. of (declared_in s) (length s.labels) m) b
-    ∙ sym (ap (λ f. cond f (Some Failed) (of (declared_in s) (length s.labels) (length s.bytes))) unpoisoned)
+pub counted_cause : (flags : IsaFlags) (state next : Emission) (i : Inst) (s : BufferState) (D : Declared) (labels bytes : ℕ) → next ≡ state → s.failed ≡ false → D ≡ declared_in s → labels ≡ length s.labels → bytes ≡ length s.bytes →
+    first_emit_cause (tree_cause flags D labels next.nominal 0 (prepend next i empty)) (unless (nat_lt (bytes + tree_size (prepend next i empty)) limit) LabelOutOfRange) ≡ emit_cause flags state.nominal s (prepend state i empty)
+counted_cause flags state next i s D labels bytes on unpoisoned declared l b =
+    let of : Emission → Declared → ℕ → ℕ → Option EmitError = λ e E n m. first_emit_cause (tree_cause flags E n e.nominal 0 (prepend e i empty)) (unless (nat_lt (m + tree_size (prepend e i empty)) limit) LabelOutOfRange) in
+    ap (λ e. of e D labels bytes) on
+    ∙ ap (λ E. of state E labels bytes) declared
+    ∙ ap (λ n. of state (declared_in s) n bytes) l
+    ∙ ap (λ m. of state (declared_in s) (length s.labels) m) b
+    ∙ sym (ap (λ f. cond f (Some Failed) (of state (declared_in s) (length s.labels) (length s.bytes))) unpoisoned)
 
 -- what was emitted without a cause, and ends below the limit, has none
 pub emit_none : (flags : IsaFlags) (state : Emission) (i : Inst) (s t : BufferState) (n : ℕ) → s.failed ≡ false → tree_cause flags (declared_in s) (length s.labels) state.nominal 0 (prepend state i empty) ≡ None →
@@ -189,11 +190,11 @@ emit_none flags state i s t n unpoisoned cause is end below =
     let step = prepend state i empty in
     let size : length t.bytes ≡ length s.bytes + tree_size step = ap (λ x. length x.bytes) is ∙ own_size state i s (length s.labels) 0 refl in
     let short : length s.bytes + tree_size step < limit = omega (arith, end, size, below) in
-    sym (counted_cause flags state.nominal s (declared_in s) (length s.labels) (length s.bytes) step unpoisoned refl refl refl)
+    sym (counted_cause flags state state i s (declared_in s) (length s.labels) (length s.bytes) refl unpoisoned refl refl refl)
     ∙ ap (λ o. first_emit_cause o (unless (nat_lt (length s.bytes + tree_size step) limit) LabelOutOfRange)) cause
     ∙ ap (λ b. unless b LabelOutOfRange) (lt-ltb (length s.bytes + tree_size step) limit short)
 
-declared_by : ℕ → List Constant → Declared
+abbrev declared_by : ℕ → List Constant → Declared
 declared_by n cs = record { blocks = n; aligns = aligns_of cs }
 
 -- what is declared stays

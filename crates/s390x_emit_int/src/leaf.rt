@@ -240,10 +240,8 @@ fn emit_memory(
     requires { may_encode found.now ≡ true }
     ensures answer { OnOk result (sink.new ≡ apply_all sink.old (part_fragments (memory_parts (in_state state.now (memory_instruction_of found.now))))) }
     ensures lacks { put_cause sink.old (parts_size (memory_parts (in_state state.now (memory_instruction_of found.now)))) ≡ None → memory_cause (declared_in sink.old) (in_state state.now (memory_instruction_of found.now)) ≡ None → LacksMemory result }
-    ensures range { OperandInRange (resolved state.now found.now.operand) }
     ensures kept { Extends sink.old sink.new }
 {
-    read_displacement(&found.operand);
     found.emit(sink, state)
 }
 

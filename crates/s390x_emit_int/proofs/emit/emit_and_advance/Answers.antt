@@ -1,6 +1,5 @@
 use Rattle.std.proofs.Common.{length}
-use Rattle.s390x_typed_steps.specs.Causes.{declared_in, stack_cause}
-use Rattle.s390x_emit_int.proofs.Lacking.{lacks_again}
+use Rattle.s390x_typed_steps.specs.Causes.{declared_in}
 use Rattle.s390x_emit_int.proofs.Resolving.{no_stack_cause}
 use Rattle.s390x_emit_int.proofs.emit.emit_and_advance.Goals as goal
 

@@ -1,4 +1,4 @@
-use Rattle.std.proofs.Common.{◌≡◌, ◌+◌, drop, length, min, map}
+use Rattle.std.proofs.Common.{◌≡◌, ◌+◌, drop, min, map}
 use Rattle.s390x_typed_steps.specs.Sizes.{blocks_size}
 use Rattle.s390x_typed_steps.specs.Causes.{declared_in, blocks_cause}
 use Rattle.s390x_emit_int.specs.Function.{tree_of}

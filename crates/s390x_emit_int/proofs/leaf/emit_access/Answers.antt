@@ -9,7 +9,7 @@ pub returns-in-None-clause-lacks : goal.returns-in-None-clause-lacks
 returns-in-None-clause-lacks c = c.emit_memory.ensures.lacks
 
 pub returns-in-None-clause-range : goal.returns-in-None-clause-range
-returns-in-None-clause-range c = c.emit_memory.ensures.range
+returns-in-None-clause-range c = c.read_displacement.ensures c.args.state.now
 
 pub returns-in-Some-clause-lacks : goal.returns-in-Some-clause-lacks
 returns-in-Some-clause-lacks c = λ put none.

@@ -10,6 +10,3 @@ pub returns-clause-answer : goal.returns-clause-answer
 returns-clause-answer c =
     let x = in_state c.args.state.now (memory_instruction_of c.args.found.now) in
     on_ok c.emit.result c.emit.ensures.answer (λ e. e ∙ sym (parts_run (memory_parts x) c.args.sink.now (memory_put x)))
-
-pub returns-clause-range : goal.returns-clause-range
-returns-clause-range c = c.read_displacement.ensures c.args.state.now
