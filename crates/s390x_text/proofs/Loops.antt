@@ -96,7 +96,7 @@ row_afters end_of-Inst e = refl
 row_afters (more_of-Inst i rest) e = row_afters rest (after e i)
 
 -- the text of a loop by the list of its members
-list_loop : (depth : ℕ) → Emission → ℕ → List Inst → Text
+abbrev list_loop : (depth : ℕ) → Emission → ℕ → List Inst → Text
 list_loop depth e c is = looped depth c (length is == 0) (insts_text (depth + 1) e is)
 
 loop_text : (depth : ℕ) (e : Emission) (c : ℕ) (v : Vec Inst Global) → inst_text depth e (V.Loop c v) ≡ list_loop depth e c v.items

@@ -1,7 +1,7 @@
 //! The texts of calls and tail calls.
 ghost use Rattle.std.specs.Prelude.{◌≡◌, ◌++◌, codes, OnOk, IfOk, string_bytes};
 ghost use Rattle.std.specs.Fmt.{decimal};
-ghost use Rattle.s390x_inst.specs.Frames.{copied_target};
+ghost use Rattle.s390x_inst.specs.Frames.{load_from, copied_target};
 ghost use Rattle.s390x_text.specs.Texts.{Prints, PrintsWhere, before_semicolon};
 ghost use Rattle.s390x_text.specs.Simple.{simple_text};
 ghost use Rattle.s390x_text.specs.Calls.{branch_and_link_text, popped_text, loaded_text, result_text, results_text, loads_text, handler_text, more_handlers, handlers_text, try_text, plain_call_text, is_first_saved, simple_texts, epilogue_text, tail_branch_text, tail_call_text, call_text};
@@ -69,6 +69,18 @@ fn put_loaded(
     }
 }
 
+// The load of a result from the stack; None for one in a register, or of a type without a load.
+fn result_load(def: &CallRetPair) -> Option<Inst>
+    ensures { result ≡ load_from def.now.vreg def.now.location }
+{
+    match def.location {
+        RetLocation::Reg(_, _) => None,
+        RetLocation::Stack(off, ty) => {
+            Inst::gen_load(def.vreg, MemArg::OutgoingArgOffset { off }, ty)
+        }
+    }
+}
+
 // The load of a result that comes back on the stack.
 fn put_result(
     alloc: Global,
@@ -80,8 +92,8 @@ fn put_result(
 {
     match def.location {
         RetLocation::Reg(_, _) => Ok(()),
-        RetLocation::Stack(off, ty) => {
-            let load = Inst::gen_load(def.vreg, MemArg::OutgoingArgOffset { off }, ty);
+        RetLocation::Stack(_, _) => {
+            let load = result_load(def);
             put_loaded(alloc, out, state, &load)
         }
     }

@@ -145,9 +145,10 @@ fn put_inst(
 }
 
 /// The text of an instruction in a state of emission, which goes on to that behind the instruction: after `AllocateArgs` its nominal size is that
-/// of the arguments. A refused call leaves it as it was.
+/// of the arguments, after a `Call` its nominal and its outgoing size are 0. A refused call leaves it as it was.
 ///
-/// `NoRow` exactly where an operator, type, size, bit or shift number has no row, or a `Loop` is nested more than 8 deep; `BadPair` where the
+/// `NoRow` exactly where an operator, type, size, bit, lane or shift number has no row, a `Loop` is nested more than 8 deep, a result of type
+/// `I8X8` would be loaded behind a call, or the frame of a tail call saves general registers from one outside 6 to 14 on; `BadPair` where the
 /// output of `SMulWide` or `Flogr` is two real registers of which the second isn't the next one; `Address` where the address of the operand in
 /// memory can't be made, with the cause of `mem_finalize`. Of a loop, the first cause in the order of its members; of an instruction, the first in
 /// this order (cranelift-codegen, `mod.rs`).
