@@ -1,7 +1,8 @@
 //! The text of an execution.
-ghost use Rattle.std.specs.Prelude.{◌≡◌, ℕ, Bool, ◌+◌, ◌^◌, ◌<◌, ◌≤◌, ◌++◌, IfOk, IsTrue, OnOk, length, map, string_bytes};
+ghost use Rattle.std.specs.Prelude.{◌≡◌, ℕ, Bool, ◌+◌, ◌^◌, ◌<◌, ◌≤◌, ◌++◌, IfOk, IsTrue, None, OnOk, length, map, string_bytes};
 ghost use Rattle.s390x_operations.specs.State.{bytes_at, wrapping_add64};
 ghost use Rattle.s390x_operations.specs.Effects.{number_of_code};
+ghost use Rattle.s390x_typed_steps.specs.Traps.{first_code};
 ghost use Rattle.s390x_machine.specs.Codes.{trap_code_at};
 ghost use Rattle.s390x_machine.specs.State.{memory_of, registers_of, state_of};
 ghost use Rattle.s390x_job.specs.Jobs.{IsJob, lines_text};
@@ -11,6 +12,7 @@ use crate::execution::{End, Execution, execute};
 use crate::start::{start_machine, start_memory};
 use s390x_base::{NoMemory, TrapCode};
 use s390x_buffer::MachBufferFinalized;
+use s390x_buffer::entries::TrapEntry;
 use s390x_image::Image;
 use s390x_job::{Job, MemLine, StartRegs, put_registers};
 use s390x_lines::name::LineName;
@@ -39,7 +41,6 @@ pub fn run_text(
 ) -> Result<String, NoMemory>
     requires job { IsJob job.now }
     requires image { image.now.base + length image.now.bytes.items ≤ 2 ^ 64 }
-    requires short { length code.now.bytes.items ≤ 2 ^ 32 }
     ensures { IfOk result (λ text. IsRunText image.now.base steps job.now code.now image.now.bytes.items (string_bytes text)) }
 {
     let mut memory = start_memory(alloc, &job.memory, image)?;
@@ -69,8 +70,7 @@ fn reported<M: Memory>(
     machine: &Machine,
     memory: &M,
 ) -> Result<String, AllocError>
-    requires short { length code.now.bytes.items ≤ 2 ^ 32 }
-    requires held { AllHeld (M.held memory.now) regions.now }
+    requires { AllHeld (M.held memory.now) regions.now }
     ensures { IfOk result (λ text. string_bytes text ≡ execution_text base code.now regions.now execution.now (state_of machine.now (M.held memory.now) (M.byte memory.now))) }
 {
     let mut out = String::new(alloc);
@@ -95,7 +95,6 @@ fn put_end(
     code: &MachBufferFinalized,
     end: End,
 ) -> Result<(), AllocError>
-    requires { length code.now.bytes.items ≤ 2 ^ 32 }
     ensures { OnOk result (string_bytes out.new ≡ string_bytes out.old ++ execution_end_line base code.now end) }
 {
     match end {
@@ -124,18 +123,32 @@ fn kind_name(kind: StopKind) -> &'static str
 }
 
 // The code of a stop at a place, in code that stands at a base.
-#[tactic(auto, using(crate::proofs::TrapCodes::code_below, crate::proofs::TrapCodes::code_moved, crate::proofs::TrapCodes::code_past))]
+#[tactic(auto, using(crate::proofs::TrapCodes::code_below, crate::proofs::TrapCodes::code_moved, crate::proofs::TrapCodes::code_far))]
 fn stop_code(base: u64, code: &MachBufferFinalized, kind: StopKind, place: u64) -> Option<TrapCode>
-    requires { length code.now.bytes.items ≤ 2 ^ 32 }
     ensures { result ≡ trap_code_at (record { base = base; bytes = code.now.bytes.items }) code.now.traps.items place kind }
 {
     if place < base {
         return None;
     }
-    match u32::try_from(place - base) {
+    let offset = place - base;
+    match u32::try_from(offset) {
         Ok(offset) => code_at(code, offset, kind),
-        Err(_) => None,
+        Err(_) => far_code(&code.traps, offset),
     }
+}
+
+// The code at an offset past those that an entry can have: none.
+fn far_code(entries: &[TrapEntry], offset: u64) -> Option<TrapCode>
+    requires { 2 ^ 32 ≤ offset }
+    ensures none { result ≡ None }
+    ensures beyond { (later : ℕ) → offset ≤ later → first_code entries.now later ≡ None }
+{
+    for entry in entries {
+        if entry.offset as u64 >= offset {
+            return Some(entry.code);
+        }
+    }
+    None
 }
 
 // The name of a trap code, `-` for none.

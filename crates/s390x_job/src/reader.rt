@@ -12,9 +12,8 @@ use crate::job::Job;
 use crate::print_line::put_item;
 use crate::read_line::item;
 use s390x_fields::cursor::Cursor;
-use s390x_lines::name::{ALL_NAMES, LineName};
+use s390x_lines::name::find_name;
 use s390x_words::marks::{after, back, before, front};
-use s390x_words::word::find;
 use std::alloc::{AllocError, Global};
 
 fn parse(alloc: Global, w: &[u8]) -> Result<Item, AllocError>
@@ -22,11 +21,7 @@ fn parse(alloc: Global, w: &[u8]) -> Result<Item, AllocError>
     ensures is { IfOk result IsItem }
 {
     let mut fields = Cursor::new(back(w));
-    item(
-        alloc,
-        find(&ALL_NAMES, front(w), LineName::EndLine),
-        &mut fields,
-    )
+    item(alloc, find_name(front(w)), &mut fields)
 }
 
 /// The part of a job whose line this is, or none where it is no line of a job. The text is room for printing.

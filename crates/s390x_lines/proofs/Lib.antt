@@ -1,3 +1,4 @@
 pub mod RoundTrip
 pub mod Frees
 pub mod Contents
+pub mod Starts
