@@ -1,10 +1,12 @@
 //! Emitting one instruction, or bytes, into a buffer of the caller's.
 #![tactic(auto, using(s390x_buffer::proofs::Extending::extends_on, s390x_buffer::proofs::Extending::extends_same))]
 
-ghost use Rattle.std.specs.Prelude.{◌≡◌, ◌+◌, ◌-◌, ◌<◌, ◌≤◌, ◌⊎◌, length, MatchResult, IsTrue, OnErr, OnOk, None, Some, true, false, nat_lt};
+ghost use Rattle.std.specs.Prelude.{◌≡◌, ◌+◌, ◌-◌, ◌<◌, ◌≤◌, ◌⊎◌, length, Option, MatchResult, IsTrue, OnErr, OnOk, None, Some, true, false, nat_lt};
 ghost use Rattle.s390x_base.specs.declared.error.EmitError.TheVariants.{NoMemory, LabelOutOfRange};
 ghost use Rattle.s390x_buffer.specs.Extends.{Extends};
-ghost use Rattle.s390x_buffer.specs.State.{FailsWith, poisoned, put_cause, limit};
+ghost use Rattle.s390x_base.specs.declared.error.EmitError.{EmitError};
+ghost use Rattle.s390x_inst.specs.Emission.{Emission};
+ghost use Rattle.s390x_buffer.specs.State.{BufferState, FailsWith, poisoned, put_cause, limit};
 ghost use Rattle.s390x_typed_steps.specs.Causes.{first_emit_cause, unless, declared_in, tree_cause};
 ghost use Rattle.s390x_typed_steps.specs.Sizes.{tree_size};
 ghost use Rattle.s390x_emit_int.specs.Totals.{IsCounted};
@@ -148,6 +150,15 @@ fn emit_in(
 
 /// What writes itself into a buffer.
 pub trait MachInstEmit {
+    /// Why it isn't emitted into a buffer, in a state of emission, by a machine with these facilities.
+    ghost cause_of: { IsaFlags → Emission → BufferState → Self → Option EmitError };
+
+    /// The buffer behind it.
+    ghost buffer_behind: { Emission → BufferState → Self → BufferState };
+
+    /// The state behind it.
+    ghost state_behind: { Emission → Self → Emission };
+
     /// Appends itself to the buffer, with its traps, relocations, labels and the places of its steps but the first. What stood in the buffer
     /// before still stands there. A refused call marks the buffer, and leaves the state as it was.
     fn emit(
@@ -157,11 +168,19 @@ pub trait MachInstEmit {
         emit_info: &EmitInfo,
         state: &mut EmitState,
     ) -> Result<(), EmitError>
+        ensures answer { let cause = cause_of emit_info.now.isa_flags state.old sink.old self.now in
+            MatchResult result (λ _. (cause ≡ None) × (sink.new ≡ buffer_behind state.old sink.old self.now) × (state.new ≡ state_behind state.old self.now)) (λ e. ((e ≡ NoMemory) ⊎ (cause ≡ Some e)) × IsTrue sink.new.failed × (state.new ≡ state.old)) }
         ensures refused { OnErr result (IsTrue sink.new.failed × (state.new ≡ state.old)) }
         ensures kept { Extends sink.old sink.new };
 }
 
 impl MachInstEmit for Inst {
+    ghost cause_of = { λ flags state sink inst. emit_cause flags state.nominal sink (prepend state inst empty) };
+
+    ghost buffer_behind = { λ state sink inst. apply_all sink (own_fragments (length sink.labels) 0 (prepend state inst empty)) };
+
+    ghost state_behind = { λ state inst. record (state_after state inst) { stack_map = None } };
+
     /// Appends the instruction. The state's stack map is dropped, and `AllocateArgs` has added its size to the nominal one; all else of the state stays.
     ///
     /// Refused by `Failed` where the buffer bears the mark, then by the first cause of its steps, where the buffer tells the blocks, the
