@@ -8,7 +8,7 @@ use Rattle.s390x_text.specs.Texts.{Text}
 use Rattle.s390x_text.specs.Integer.{arithmetic_text, pair_instruction_text, compare_text, move_text}
 use Rattle.s390x_text.specs.Storage.{load_text, store_text, storage_operator_text}
 use Rattle.s390x_text.specs.declared.error.TextError.{TextError}
-use Rattle.s390x_text.specs.declared.error.TextError.TheVariants.{NoRow, Virtual, BadPair, Address, NoMemory}
+use Rattle.s390x_text.specs.declared.error.TextError.TheVariants.{NoRow}
 
 -- the cause isn't that there is no row
 abbrev pub has_row_text : Option TextError → Bool

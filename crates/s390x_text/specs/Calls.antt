@@ -1,8 +1,7 @@
 -- The texts of calls and tail calls (cranelift-codegen, `mod.rs`).
-use Rattle.std.specs.Prelude.{ℕ, Bool, true, false, cond, ◌&&◌, nat_eq, nat_le, List, [], ◌∷◌, ◌++◌, codes, Option, Some, None}
+use Rattle.std.specs.Prelude.{ℕ, Bool, true, cond, ◌&&◌, nat_eq, nat_le, List, [], ◌∷◌, ◌++◌, codes, Option, Some, None}
 use Rattle.std.specs.Fmt.{decimal}
 use Rattle.s390x_base.specs.declared.regs.Reg.{Reg}
-use Rattle.s390x_base.specs.declared.ir.ValueType.{ValueType}
 use Rattle.s390x_inst.specs.Constructors.{load_of}
 use Rattle.s390x_inst.specs.Emission.{Emission}
 use Rattle.s390x_inst.specs.Frames.{copied_target, epilogue}

@@ -1,5 +1,5 @@
 -- The texts of instructions that go elsewhere, end a run, name a place or have no bytes (cranelift-codegen, `mod.rs`).
-use Rattle.std.specs.Prelude.{ℕ, ◌+◌, ℤ, pos, ◌-ℤ◌, List, [], ◌∷◌, ◌++◌, codes, cond, nat_le, Option, Some, None}
+use Rattle.std.specs.Prelude.{ℕ, pos, ◌-ℤ◌, List, [], ◌∷◌, ◌++◌, codes, cond, nat_le, Option, Some, None}
 use Rattle.std.specs.Fmt.{decimal, signed_decimal}
 use Rattle.s390x_base.specs.declared.ir.MachLabel.{MachLabel}
 use Rattle.s390x_base.specs.declared.regs.Reg.{Reg}

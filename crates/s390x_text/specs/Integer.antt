@@ -1,5 +1,5 @@
 -- The texts of instructions on general registers and immediates (cranelift-codegen, `mod.rs`).
-use Rattle.std.specs.Prelude.{ℕ, ◌+◌, ℤ, List, [], ◌∷◌, ◌++◌, codes, Bool, true, false, cond, ◌&&◌, nat_eq, nat_lt, Option, Some, None}
+use Rattle.std.specs.Prelude.{ℕ, ◌+◌, List, [], ◌∷◌, ◌++◌, codes, Bool, cond, ◌&&◌, nat_eq, nat_lt, Option, Some, None}
 use Rattle.std.specs.Fmt.{decimal, signed_decimal}
 use Rattle.s390x_base.specs.declared.regs.Reg.{Reg}
 use Rattle.s390x_base.specs.declared.regs.WritableRegPair.{WritableRegPair}
@@ -11,7 +11,7 @@ use Rattle.s390x_inst.specs.declared.ops.UnaryOp.{UnaryOp}
 use Rattle.s390x_inst.specs.declared.ops.UnaryOp.TheVariants.{PopcntReg}
 use Rattle.s390x_typed_steps.specs.General.{rotation}
 use Rattle.s390x_words.specs.Atoms.{reg_text, real_text}
-use Rattle.s390x_text.specs.Texts.{Text, row, fixed, spelled, both}
+use Rattle.s390x_text.specs.Texts.{Text, row, fixed, spelled}
 use Rattle.s390x_text.specs.Operands.{is_reg, reused_text, pair_text, pair_cause, reused_pair_text, reused_low_text, amount_text, access_register_text, cond_text, indexed_text}
 use Rattle.s390x_text.specs.Mnemonics.{alu_three_name, alu_two_name, alu_halfword_name, alu_three_halfword_name, alu_signed_word_name, alu_unsigned_word_name, cmp_two_name, cmp_halfword_name, cmp_signed_word_name, cmp_unsigned_word_name, cmp_trap_name, cmp_trap_signed_name, cmp_trap_unsigned_name, shift_name, rotate_name, rotate_test_name, unary_name}
 

@@ -1,5 +1,5 @@
 -- The texts of memory operands, and of instructions that have one (cranelift-codegen, `args.rs` and `mod.rs`).
-use Rattle.std.specs.Prelude.{ℕ, ◌+◌, ℤ, List, [], ◌∷◌, ◌++◌, codes, Bool, true, false, cond, not, ◌&&◌, ◌||◌, is_some, Option, Some, None}
+use Rattle.std.specs.Prelude.{ℕ, List, [], ◌∷◌, ◌++◌, codes, Bool, true, false, cond, not, ◌&&◌, ◌||◌, is_some, Option, Some, None}
 use Rattle.std.specs.Fmt.{decimal, signed_decimal}
 use Rattle.std.specs.Option.{option_map}
 use Rattle.s390x_base.specs.declared.error.EmitError.{EmitError}
@@ -13,7 +13,7 @@ use Rattle.s390x_typed_steps.specs.Operands.{Finalized, finalized, resolved}
 use Rattle.s390x_typed_steps.specs.Causes.{operand_cause}
 use Rattle.s390x_typed_steps.specs.declared.mem_inst_type.MemInstType.{MemInstType}
 use Rattle.s390x_words.specs.Atoms.{reg_text}
-use Rattle.s390x_text.specs.Texts.{Text, first, spelled}
+use Rattle.s390x_text.specs.Texts.{Text, spelled}
 use Rattle.s390x_text.specs.Operands.{is_zero, label_text, name_text, reused_text}
 use Rattle.s390x_text.specs.Mnemonics.{alu_short_name, alu_long_name, atomic_name, cmp_short_name, cmp_long_name, cmp_relative_name}
 use Rattle.s390x_text.specs.declared.error.TextError.{TextError}

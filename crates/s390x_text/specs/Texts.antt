@@ -1,7 +1,7 @@
 -- Texts: how they are put together, and why one is refused.
-use Rattle.std.specs.Prelude.{◌≡◌, ℕ, Bool, true, false, List, [], ◌∷◌, ◌++◌, codes, Option, Some, None, Result, Ok, Err, MatchResult, ⊤}
+use Rattle.std.specs.Prelude.{◌≡◌, ℕ, true, false, List, [], ◌∷◌, ◌++◌, codes, Option, Some, None, Result, Ok, Err, MatchResult, ⊤}
 use Rattle.s390x_text.specs.declared.error.TextError.{TextError}
-use Rattle.s390x_text.specs.declared.error.TextError.TheVariants.{NoRow, Virtual, BadPair, Address, NoMemory}
+use Rattle.s390x_text.specs.declared.error.TextError.TheVariants.{NoRow, NoMemory}
 
 -- a text, and the first cause of refusing it
 pub record Text : Type 0 where

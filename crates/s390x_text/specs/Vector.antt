@@ -1,5 +1,5 @@
 -- The texts of instructions on vector and float registers (cranelift-codegen, `mod.rs`).
-use Rattle.std.specs.Prelude.{ℕ, ◌+◌, ◌*◌, ◌-◌, ℤ, List, [], ◌∷◌, ◌++◌, codes, Bool, true, false, cond, ◌&&◌, nat_eq, nat_lt, Option, Some, None}
+use Rattle.std.specs.Prelude.{ℕ, ◌+◌, ◌*◌, ◌-◌, List, [], ◌∷◌, ◌++◌, codes, Bool, cond, ◌&&◌, nat_eq, nat_lt, Option, Some, None}
 use Rattle.std.specs.Fmt.{decimal, signed_decimal}
 use Rattle.s390x_base.specs.declared.regs.Reg.{Reg}
 use Rattle.s390x_inst.specs.Emission.{Emission}
@@ -11,7 +11,7 @@ use Rattle.s390x_inst.specs.declared.vec_ops.VecBinaryOp.TheVariants.{UDiv32x4, 
 use Rattle.s390x_words.specs.Atoms.{reg_text}
 use Rattle.s390x_text.specs.Texts.{Text, row, fixed, spelled, text_or}
 use Rattle.s390x_text.specs.Operands.{reused_text, amount_text, cond_text, is_float, float_text, is_zero}
-use Rattle.s390x_text.specs.Storage.{Rows, rx, access}
+use Rattle.s390x_text.specs.Storage.{rx, access}
 use Rattle.s390x_text.specs.VectorMnemonics.{vec_binary_name, vec_unary_name, vec_shift_name, vec_compare_name, vec_compare_set_name, vec_element_compare_name}
 
 -- ---- mnemonics that a width and a lane choose

@@ -12,18 +12,14 @@ use crate::row::{spelled1, spelled2};
 use crate::simple::put_simple;
 use s390x_base::Reg;
 use s390x_inst::{
-    CallInfo, CallInstDest, CallRetPair, EmitState, Inst, MachInstEmitState, MemArg,
-    RetLocation, ReturnCallInfo, TryCallHandler, TryCallInfo, gen_tail_epilogue,
+    CallInfo, CallInstDest, CallRetPair, EmitState, Inst, MachInstEmitState, MemArg, RetLocation,
+    ReturnCallInfo, TryCallHandler, TryCallInfo, gen_tail_epilogue,
 };
 use s390x_words::number::{put, put_natural};
 use std::alloc::{AllocError, Global};
 
 // The branch of a call.
-fn put_branch_and_link(
-    out: &mut String,
-    link: Reg,
-    dest: &CallInstDest,
-) -> Result<(), AllocError>
+fn put_branch_and_link(out: &mut String, link: Reg, dest: &CallInstDest) -> Result<(), AllocError>
     ensures { OnOk result (string_bytes out.new ≡ string_bytes out.old ++ branch_and_link_text link dest.now) }
 {
     match dest {

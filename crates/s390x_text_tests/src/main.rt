@@ -2,12 +2,11 @@
 //! Before that it prints the numbers of the first ten lines that do.
 #![tactic(auto)]
 
-mod texts;
-
 #[cfg(test)]
 mod registers;
 #[cfg(test)]
 mod states;
+mod texts;
 
 use crate::texts::{LineError, is_line_met};
 use std::alloc::Global;

@@ -1,7 +1,5 @@
 //! Registers, pairs and operands by themselves.
-use s390x_base::{
-    Cond, RegPair, UImm16Shifted, WritableRegPair, gpr, vr, writable_gpr,
-};
+use s390x_base::{Cond, RegPair, UImm16Shifted, WritableRegPair, gpr, vr, writable_gpr};
 use s390x_inst::MemArg;
 use s390x_text::{
     PrettyPrint, TextError, maybe_show_fpr, pretty_print_fpr, pretty_print_reg_mod,

@@ -1,4 +1,4 @@
-use Rattle.std.proofs.Common.{◌++◌, string_bytes, refl, arith}
+use Rattle.std.proofs.Common.{string_bytes, refl, arith}
 use Rattle.s390x_text.specs.Texts.{Blames}
 use Rattle.s390x_text.specs.Calls.{result_text, results_text}
 use Rattle.s390x_text.proofs.Loops.{more_bytes, more_causes, more_stops, again}

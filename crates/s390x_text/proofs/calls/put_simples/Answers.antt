@@ -1,4 +1,4 @@
-use Rattle.std.proofs.Common.{◌++◌, string_bytes, refl, arith}
+use Rattle.std.proofs.Common.{string_bytes, refl, arith}
 use Rattle.s390x_text.specs.Texts.{Blames, before_semicolon}
 use Rattle.s390x_text.specs.Simple.{simple_text}
 use Rattle.s390x_text.specs.Calls.{simple_texts}

@@ -1,4 +1,4 @@
-use Rattle.std.proofs.Common.{◌++◌, refl, arith}
+use Rattle.std.proofs.Common.{refl, arith}
 use Rattle.s390x_text.specs.Control.{args_text, convention_text}
 use Rattle.s390x_text.proofs.Loops.{more_texts}
 use Rattle.s390x_text.proofs.control.put_arg_pairs.Goals as goal
