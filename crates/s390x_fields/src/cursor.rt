@@ -2,7 +2,7 @@
 ghost use Rattle.std.specs.Prelude.{◌≡◌, drop};
 ghost use Rattle.s390x_words.specs.Marks.{word, after_word};
 
-use s390x_words::marks::{back, front};
+use s390x_words::marks::front;
 use s390x_words::number::tail;
 use std::marker::Model;
 
@@ -48,7 +48,8 @@ impl<'a> Cursor<'a> {
         ensures after { self.new ≡ after_word self.old }
     {
         let from = tail(self.left, 1);
-        self.left = back(from);
-        front(from)
+        let found = front(from);
+        self.left = tail(from, found.len());
+        found
     }
 }

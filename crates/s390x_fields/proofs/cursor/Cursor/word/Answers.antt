@@ -1,5 +1,6 @@
 use Rattle.std.proofs.Common.{rules}
 use Rattle.s390x_words.specs.Marks.{word, after_word}
+use Rattle.s390x_fields.proofs.Words.{behind_word}
 use Rattle.s390x_fields.proofs.cursor.Cursor.word.Goals as goal
 
 pub returns-clause-value : goal.returns-clause-value
@@ -8,4 +9,4 @@ returns-clause-value c = search rules
 
 pub returns-clause-after : goal.returns-clause-after
 unfolding after_word
-returns-clause-after c = search rules
+returns-clause-after c = search (rules, behind_word)
