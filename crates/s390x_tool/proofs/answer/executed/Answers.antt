@@ -15,6 +15,3 @@ pub run_text-requires-clause-image : goal.run_text-requires-clause-image
 run_text-requires-clause-image c =
     let low = linked_fits c.args.base c.args.job.now c.args.code.now c.in-Ok.image.bytes.items c.in-Ok.ensures.linked c.in-Ok.ensures.size in
     omega (arith, low, c.in-Ok.ensures.base)
-
-pub run_text-requires-clause-short : goal.run_text-requires-clause-short
-run_text-requires-clause-short c = omega (arith, c.requires.code.emitted.short)
