@@ -1,6 +1,7 @@
 pub mod Encoding
 pub mod Lacking
 pub mod Planning
+pub mod Planned
 pub mod Putting
 pub mod Refusing
 pub mod Sizes

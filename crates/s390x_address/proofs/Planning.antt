@@ -6,7 +6,7 @@ use Rattle.s390x_inst.specs.declared.args.MemArg.{MemArg}
 use Rattle.s390x_inst.specs.declared.args.MemArg.TheVariants.{BXD12}
 use Rattle.s390x_typed_steps.specs.Causes.{Declared, first_emit_cause, bound_cause, alignment_cause, addend_fits, relative_access}
 use Rattle.s390x_typed_steps.specs.Memory.{StorageForm, RxForm}
-use Rattle.s390x_typed_steps.specs.Operands.{resolved, has_form}
+use Rattle.s390x_typed_steps.specs.Operands.{resolved, has_form, operand_general}
 use Rattle.s390x_typed_steps.specs.declared.mem_inst_type.MemInstType.{MemInstType}
 
 -- a frame operand has the forms of an offset
@@ -37,6 +37,11 @@ resolved_relative register opcode mi accesses e m = refl
 pub resolved_access : (form : StorageForm) (mi : MemInstType) (accesses : Bool) (e : Emission) (m : MemArg) → relative_access form mi accesses (resolved e m) ≡ relative_access form mi accesses m
 resolved_access (RxForm register rx_opcode rxy_opcode (Some opcode)) mi accesses e m = resolved_relative register opcode mi accesses e m
 resolved_access form mi accesses e m = refl
+
+-- its registers are general ones where those of the offset are
+pub resolved_general : (e : Emission) (m : MemArg) → operand_general (resolved e m) ≡ operand_general m
+resolved_general e (BXD12 base index disp flags) = refl
+resolved_general e m = refl
 
 -- what both answers of a call say of an Ok
 pub on_ok : {T E P Q : Type 0} (r : Result T E) → OnOk r P → (P → Q) → OnOk r Q

@@ -7,7 +7,8 @@ use Rattle.s390x_inst.specs.declared.args.MemArg.TheVariants.{Label, Constant}
 use Rattle.s390x_inst.specs.declared.inst.Inst.{Inst}
 use Rattle.s390x_inst.specs.declared.inst.Inst.TheVariants.{Mov64SImm32, LoadAddr}
 use Rattle.s390x_typed_steps.specs.Operands.{Finalized, scratch, loses_base, offset_fits, operand_general}
-use Rattle.s390x_typed_steps.specs.Causes.{Declared, first_emit_cause, unless}
+use Rattle.s390x_typed_steps.specs.Causes.{Declared, first_emit_cause, unless, is_helped, addend_fits, target_cause}
+use Rattle.s390x_typed_steps.specs.Memory.{MemoryInstruction}
 use Rattle.s390x_address.specs.declared.plan.Plan.{Plan}
 
 -- the helper that loads an offset, where there is one
@@ -46,3 +47,8 @@ address_stands D (Some mem) = may_stand D mem
 -- those of a plan can
 abbrev pub plan_stands : Declared → Plan → Bool
 plan_stands D p = address_stands D p.address && may_stand D p.operand
+
+-- the causes behind those of the rows, the registers and the operand: %r1 is read behind a helper, an addend doesn't fit 32 bits, the place that is named
+abbrev pub planned_cause : Declared → MemoryInstruction → Finalized → Option EmitError
+planned_cause D x f =
+    first_emit_cause (first_emit_cause (unless (not (x.reads_scratch && is_helped f.helpers)) ScratchConflict) (unless (addend_fits x.operand) OffsetOutOfRange)) (target_cause D x)

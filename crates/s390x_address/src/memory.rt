@@ -14,7 +14,7 @@ ghost use Rattle.s390x_typed_steps.specs.Memory.{type_of, storage_row, fault_cod
 ghost use Rattle.s390x_typed_steps.specs.Operands.{has_form, operand_general, scratch};
 ghost use Rattle.s390x_typed_steps.specs.Parts.{access_parts, operand_parts, helpers_parts, finalized_parts, memory_parts, parts_size};
 ghost use Rattle.s390x_address.specs.Appended.{appended};
-ghost use Rattle.s390x_address.specs.Plans.{far_helper, address_helper, finalized_of, may_stand, address_stands, plan_stands};
+ghost use Rattle.s390x_address.specs.Plans.{far_helper, address_helper, finalized_of, may_stand, address_stands, plan_stands, planned_cause};
 ghost use Rattle.s390x_address.specs.Rows.{row_of, row_encodes, storage_form_of, relative_encodes, rows_encode, may_encode, memory_instruction_of, in_state};
 
 use crate::forms::{has_form, is_relative, needs_address};
@@ -273,21 +273,6 @@ impl MemoryInst {
         }
     }
 
-    // The cause of an operand that has a form, whose registers are general ones.
-    fn late_cause(&self, state: &EmitState) -> Option<EmitError>
-        requires { has_form (type_of (storage_form_of self.now.rows) self.now.accesses) self.now.operand ≡ true }
-        ensures { result ≡ late_cause (in_state state.now (memory_instruction_of self.now)) }
-    {
-        match plan_operand(&self.operand, state, self.forms()) {
-            Ok(plan) => helped_cause(
-                self.reads_scratch,
-                plan.is_helped(),
-                addend_fits(&self.operand),
-            ),
-            Err(error) => Some(error),
-        }
-    }
-
     // The boundary on which an operand has to stand that is relative to its access; 1 for another one.
     fn boundary(&self) -> u32
         ensures { result ≡ boundary (memory_instruction_of self.now) }
@@ -310,14 +295,28 @@ impl MemoryInst {
         }
     }
 
+    // The first cause behind those of the rows, the registers and the operand, of an operand that was planned.
+    fn planned_cause(&self, sink: &MachBuffer, plan: &Plan) -> Option<EmitError>
+        ensures { result ≡ planned_cause (declared_in sink.now) (memory_instruction_of self.now) (finalized_of plan.now) }
+    {
+        match helped_cause(
+            self.reads_scratch,
+            plan.is_helped(),
+            addend_fits(&self.operand),
+        ) {
+            Some(error) => Some(error),
+            None => target_cause(sink, &self.operand, self.boundary()),
+        }
+    }
+
     // The causes behind those of the rows and the registers.
     fn last_cause(&self, sink: &MachBuffer, state: &EmitState) -> Option<EmitError>
         requires { has_form (type_of (storage_form_of self.now.rows) self.now.accesses) self.now.operand ≡ true }
         ensures { result ≡ first_emit_cause (late_cause (in_state state.now (memory_instruction_of self.now))) (target_cause (declared_in sink.now) (in_state state.now (memory_instruction_of self.now))) }
     {
-        match self.late_cause(state) {
-            Some(error) => Some(error),
-            None => target_cause(sink, &self.operand, self.boundary()),
+        match plan_operand(&self.operand, state, self.forms()) {
+            Ok(plan) => self.planned_cause(sink, &plan),
+            Err(error) => Some(error),
         }
     }
 
@@ -331,7 +330,7 @@ impl MemoryInst {
     {
         if !has_form(self.forms(), &self.operand) {
             Some(EmitError::BadOperator)
-        } else if !(self.operands_valid && is_general_operand(&self.operand)) {
+        } else if !self.has_valid_registers() {
             Some(EmitError::BadRegister)
         } else {
             self.last_cause(sink, state)
@@ -364,6 +363,59 @@ impl MemoryInst {
         match plan_operand(&self.operand, state, self.forms()) {
             Ok(plan) => put_plan(sink, &self.rows, &plan, self.fault_code()),
             Err(error) => Err(error),
+        }
+    }
+
+    // The helpers and the access of a plan, where no later cause refuses it.
+    fn emit_plan(&self, sink: &mut MachBuffer, plan: &Plan) -> Result<(), EmitError>
+        requires { relative_encodes self.now.rows ≡ true }
+        ensures answer { OnOk result ((planned_cause (declared_in sink.old) (memory_instruction_of self.now) (finalized_of plan.now) ≡ None) × (sink.new ≡ appended sink.old (finalized_parts (storage_form_of self.now.rows) (fault_code (memory_instruction_of self.now)) (finalized_of plan.now)))) }
+        ensures lacks { put_cause sink.old (parts_size (finalized_parts (storage_form_of self.now.rows) (fault_code (memory_instruction_of self.now)) (finalized_of plan.now))) ≡ None → rows_encode self.now.rows ≡ true → plan_stands (declared_in sink.old) plan.now ≡ true → planned_cause (declared_in sink.old) (memory_instruction_of self.now) (finalized_of plan.now) ≡ None → IfErr result (λ e. e ≡ NoMemory) }
+        ensures kept { Extends sink.old sink.new }
+    {
+        match self.planned_cause(sink, plan) {
+            Some(error) => Err(error),
+            None => put_plan(sink, &self.rows, plan, self.fault_code()),
+        }
+    }
+
+    // Whether its registers may stand there, and those of its operand.
+    fn has_valid_registers(&self) -> bool
+        ensures { result ≡ self.now.operands_valid && operand_general self.now.operand }
+    {
+        self.operands_valid && is_general_operand(&self.operand)
+    }
+
+    // The helpers and the access of an instruction with valid registers, where no other cause refuses it.
+    fn emit_valid(&self, sink: &mut MachBuffer, state: &EmitState) -> Result<(), EmitError>
+        requires encodes { may_encode self.now ≡ true }
+        requires valid { (self.now.operands_valid && operand_general self.now.operand) ≡ true }
+        ensures answer { OnOk result ((memory_cause (declared_in sink.old) (in_state state.now (memory_instruction_of self.now)) ≡ None) × (sink.new ≡ appended sink.old (memory_parts (in_state state.now (memory_instruction_of self.now))))) }
+        ensures lacks { put_cause sink.old (parts_size (memory_parts (in_state state.now (memory_instruction_of self.now)))) ≡ None → memory_cause (declared_in sink.old) (in_state state.now (memory_instruction_of self.now)) ≡ None → IfErr result (λ e. e ≡ NoMemory) }
+        ensures kept { Extends sink.old sink.new }
+    {
+        match plan_operand(&self.operand, state, self.forms()) {
+            Ok(plan) => self.emit_plan(sink, &plan),
+            Err(error) => Err(error),
+        }
+    }
+
+    /// Appends the helpers, and then the access with the trap of its faults, where no cause refuses it. An error may be another one than the first
+    /// cause, which `cause` names.
+    pub fn emit_unless_refused(
+        &self,
+        sink: &mut MachBuffer,
+        state: &EmitState,
+    ) -> Result<(), EmitError>
+        requires { may_encode self.now ≡ true }
+        ensures answer { OnOk result ((memory_cause (declared_in sink.old) (in_state state.now (memory_instruction_of self.now)) ≡ None) × (sink.new ≡ appended sink.old (memory_parts (in_state state.now (memory_instruction_of self.now))))) }
+        ensures lacks { put_cause sink.old (parts_size (memory_parts (in_state state.now (memory_instruction_of self.now)))) ≡ None → memory_cause (declared_in sink.old) (in_state state.now (memory_instruction_of self.now)) ≡ None → IfErr result (λ e. e ≡ NoMemory) }
+        ensures kept { Extends sink.old sink.new }
+    {
+        if self.has_valid_registers() {
+            self.emit_valid(sink, state)
+        } else {
+            Err(EmitError::BadRegister)
         }
     }
 }
