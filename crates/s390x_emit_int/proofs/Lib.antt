@@ -6,6 +6,7 @@ pub mod Encoding
 pub mod Runs
 pub mod Passing
 pub mod Emitting
+pub mod EachEmitter
 pub mod Patching
 pub mod Blocks
 pub mod Branches

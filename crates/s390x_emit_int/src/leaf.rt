@@ -231,20 +231,6 @@ fn read_displacement(mem: &MemArg)
     }
 }
 
-// Its helpers, and then its access.
-fn emit_memory(
-    sink: &mut MachBuffer,
-    state: &EmitState,
-    found: &MemoryInst,
-) -> Result<(), EmitError>
-    requires { may_encode found.now ≡ true }
-    ensures answer { OnOk result (sink.new ≡ apply_all sink.old (part_fragments (memory_parts (in_state state.now (memory_instruction_of found.now))))) }
-    ensures lacks { put_cause sink.old (parts_size (memory_parts (in_state state.now (memory_instruction_of found.now)))) ≡ None → memory_cause (declared_in sink.old) (in_state state.now (memory_instruction_of found.now)) ≡ None → LacksMemory result }
-    ensures kept { Extends sink.old sink.new }
-{
-    found.emit(sink, state)
-}
-
 // A machine instruction, where its registers may stand there.
 fn emit_row(
     sink: &mut MachBuffer,
@@ -276,10 +262,7 @@ fn emit_access(
     ensures kept { Extends sink.old sink.new }
 {
     read_displacement(&found.operand);
-    match found.cause(sink, state) {
-        Some(error) => Err(error),
-        None => emit_memory(sink, state, found),
-    }
+    found.emit_unless_refused(sink, state)
 }
 
 // An instruction that names a place, goes elsewhere or ends the run, where no cause refuses it.

@@ -1,21 +1,15 @@
 use Rattle.std.proofs.Common.{sym, ◌∙◌}
+use Rattle.s390x_typed_steps.specs.Parts.{memory_parts}
+use Rattle.s390x_address.specs.Rows.{memory_instruction_of, in_state}
+use Rattle.s390x_address.proofs.Putting.{memory_put}
+use Rattle.s390x_emit_int.proofs.Accessing.{parts_run}
 use Rattle.s390x_emit_int.proofs.Answering.{on_ok}
 use Rattle.s390x_emit_int.proofs.leaf.emit_access.Goals as goal
 
-pub returns-in-None-clause-answer : goal.returns-in-None-clause-answer
-returns-in-None-clause-answer c = on_ok c.emit_memory.result c.emit_memory.ensures.answer (λ e. (sym c.cause.ensures ∙ c.in-None.is, e))
+pub returns-clause-answer : goal.returns-clause-answer
+returns-clause-answer c =
+    let x = in_state c.args.state.now (memory_instruction_of c.args.found.now) in
+    on_ok c.emit_unless_refused.result c.emit_unless_refused.ensures.answer (λ e. (e.0, e.1 ∙ sym (parts_run (memory_parts x) c.args.sink.now (memory_put x))))
 
-pub returns-in-None-clause-lacks : goal.returns-in-None-clause-lacks
-returns-in-None-clause-lacks c = c.emit_memory.ensures.lacks
-
-pub returns-in-None-clause-range : goal.returns-in-None-clause-range
-returns-in-None-clause-range c = c.read_displacement.ensures c.args.state.now
-
-pub returns-in-Some-clause-lacks : goal.returns-in-Some-clause-lacks
-returns-in-Some-clause-lacks c = λ put none.
-    let some = c.cause.ensures in
-    let is = c.in-Some.is in
-    absurd (cc)
-
-pub returns-in-Some-clause-range : goal.returns-in-Some-clause-range
-returns-in-Some-clause-range c = c.read_displacement.ensures c.args.state.now
+pub returns-clause-range : goal.returns-clause-range
+returns-clause-range c = c.read_displacement.ensures c.args.state.now

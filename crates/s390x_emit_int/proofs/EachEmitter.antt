@@ -1,0 +1,181 @@
+-- Each instruction with a memory operand, whose registers may stand there, is that of the emitter of its rows' format.
+use Rattle.std.proofs.Common.{◌≡◌, ℕ, Bool, true, false, ◌&&◌, ◌||◌, not, cond, nat_eq, nat_lt, nat_le, is_some, Option, Some, None, refl, sym, ap, ◌∙◌, subst}
+use Rattle.std.proofs.lemmas.Bool.{and_parts, and_from, eqb-true}
+use Rattle.s390x_base.specs.Regs.{is_int, number_of}
+use Rattle.s390x_base.specs.declared.regs.Reg.{Reg}
+use Rattle.s390x_base.specs.declared.regs.Reg.TheVariants.{Real, Virtual}
+use Rattle.s390x_inst.specs.declared.args.MemArg.{MemArg}
+use Rattle.s390x_inst.specs.declared.inst.Inst.{Inst}
+use Rattle.s390x_inst.specs.declared.inst.Inst.TheVariants.{AluRX, CmpRX, Load32, Load32ZExt8, Load32SExt8, Load32ZExt16, Load32SExt16, Load64, Load64ZExt8, Load64SExt8, Load64ZExt16, Load64SExt16, Load64ZExt32, Load64SExt32, LoadRev16, LoadRev32, LoadRev64}
+use Rattle.s390x_inst.specs.declared.inst.Inst.TheVariants.{Store8, Store16, Store32, Store64, StoreRev16, StoreRev32, StoreRev64, StoreImm8, StoreImm16, StoreImm32SExt16, StoreImm64SExt16, LoadMultiple64, StoreMultiple64, LoadAddr, AtomicRmw, AtomicCas32, AtomicCas64}
+use Rattle.s390x_inst.specs.declared.ops.ALUOp.{ALUOp}
+use Rattle.s390x_inst.specs.declared.ops.ALUOp.TheVariants.{Add32, Add32Ext16, Add64, Add64Ext16, Add64Ext32, AddLogical32, AddLogical64, AddLogical64Ext32, Sub32, Sub32Ext16, Sub64, Sub64Ext16, Sub64Ext32, SubLogical32, SubLogical64, SubLogical64Ext32, Mul32, Mul32Ext16, Mul64, Mul64Ext16, Mul64Ext32, And32, And64, Orr32, Orr64, Xor32, Xor64}
+use Rattle.s390x_inst.specs.declared.ops.CmpOp.{CmpOp}
+use Rattle.s390x_inst.specs.declared.ops.CmpOp.TheVariants.{CmpS32, CmpS32Ext16, CmpS64, CmpS64Ext16, CmpS64Ext32, CmpL32, CmpL64, CmpL64Ext32}
+use Rattle.s390x_typed_steps.specs.General.{is_general, reuses}
+use Rattle.s390x_typed_steps.specs.Memory.{MemoryInstruction, RxForm, RsForm, memory, operate}
+use Rattle.s390x_typed_steps.specs.Operands.{is_numbered}
+use Rattle.s390x_typed_steps.specs.Storage.{alu_rx, alu_rxy, cmp_rx, cmp_rxy, cmp_ril, atomic_rsy}
+use Rattle.s390x_address.specs.Emitters.{reads_register, reads_registers, is_multiple, one_register, two_registers}
+use Rattle.s390x_emit_int.specs.Emitters.{IsEmitted}
+
+-- what is built is what was found
+told : (y x : MemoryInstruction) → Some y ≡ Some x → y ≡ x
+told y x e = cc
+
+as_found : (y x : MemoryInstruction) → IsEmitted y → Some y ≡ Some x → IsEmitted x
+as_found y x p e = subst IsEmitted (told y x e) p
+
+valid_of : (y x : MemoryInstruction) → Some y ≡ Some x → x.operands_valid ≡ true → y.operands_valid ≡ true
+valid_of y x e v = ap (λ (z : MemoryInstruction). z.operands_valid) (told y x e) ∙ v
+
+-- a register that reuses another has its number
+numbered_as : (n : ℕ) (r : Reg) → is_general r ≡ true → is_numbered n r ≡ nat_eq (number_of r) n
+numbered_as n (Real r) g = ap (λ t. t && nat_eq r.number n) (and_parts (is_int r.class) (nat_lt r.number 16) g).0
+numbered_as n (Virtual num class) g = absurd (cc)
+
+reused : (n : ℕ) (rd ri : Reg) → reuses rd ri ≡ true → (is_general rd ≡ true) × (is_numbered n ri ≡ is_numbered n rd)
+reused n rd ri h =
+    let outer = and_parts (is_general rd && is_general ri) (nat_eq (number_of rd) (number_of ri)) h in
+    let both = and_parts (is_general rd) (is_general ri) outer.0 in
+    let same : number_of rd ≡ number_of ri = eqb-true (number_of rd) (number_of ri) outer.1 in
+    (both.0, numbered_as n ri both.1 ∙ ap (λ m. nat_eq m n) (sym same) ∙ sym (numbered_as n rd both.0))
+
+-- comparisons and operators read their register
+cmp_reads : (op : CmpOp) → reads_register (cmp_rxy op) ≡ true
+cmp_reads CmpS32 = refl
+cmp_reads CmpS32Ext16 = refl
+cmp_reads CmpS64 = refl
+cmp_reads CmpS64Ext16 = refl
+cmp_reads CmpS64Ext32 = refl
+cmp_reads CmpL32 = refl
+cmp_reads CmpL64 = refl
+cmp_reads CmpL64Ext32 = refl
+cmp_reads op = refl
+
+alu_reads : (op : ALUOp) → reads_register (alu_rxy op) ≡ true
+alu_reads Add32 = refl
+alu_reads Add32Ext16 = refl
+alu_reads Add64 = refl
+alu_reads Add64Ext16 = refl
+alu_reads Add64Ext32 = refl
+alu_reads AddLogical32 = refl
+alu_reads AddLogical64 = refl
+alu_reads AddLogical64Ext32 = refl
+alu_reads Sub32 = refl
+alu_reads Sub32Ext16 = refl
+alu_reads Sub64 = refl
+alu_reads Sub64Ext16 = refl
+alu_reads Sub64Ext32 = refl
+alu_reads SubLogical32 = refl
+alu_reads SubLogical64 = refl
+alu_reads SubLogical64Ext32 = refl
+alu_reads Mul32 = refl
+alu_reads Mul32Ext16 = refl
+alu_reads Mul64 = refl
+alu_reads Mul64Ext16 = refl
+alu_reads Mul64Ext32 = refl
+alu_reads And32 = refl
+alu_reads And64 = refl
+alu_reads Orr32 = refl
+alu_reads Orr64 = refl
+alu_reads Xor32 = refl
+alu_reads Xor64 = refl
+alu_reads op = refl
+
+-- an instruction on one register, by what its emitter says of the register
+one_as : (rd : Reg) (rx rxy ril : Option ℕ) (accesses valid reads : Bool) (mem : MemArg) → valid ≡ is_general rd → reads ≡ (reads_register rxy && is_numbered 1 rd) →
+    record { form = RxForm (number_of rd) rx rxy ril; operand = mem; accesses = accesses; operands_valid = valid; reads_scratch = reads } ≡ one_register rd rx rxy ril accesses mem
+one_as rd rx rxy ril accesses valid reads mem v r =
+    let of : Bool → Bool → MemoryInstruction = λ a b. record { form = RxForm (number_of rd) rx rxy ril; operand = mem; accesses = accesses; operands_valid = a; reads_scratch = b } in
+    ap (λ a. of a reads) v ∙ ap (λ b. of (is_general rd) b) r
+
+two_as : (rd rn : Reg) (rs rsy : Option ℕ) (accesses valid reads : Bool) (mem : MemArg) → valid ≡ (two_registers rd rn rs rsy accesses mem).operands_valid → reads ≡ (two_registers rd rn rs rsy accesses mem).reads_scratch →
+    record { form = RsForm (number_of rd) (number_of rn) rs rsy; operand = mem; accesses = accesses; operands_valid = valid; reads_scratch = reads } ≡ two_registers rd rn rs rsy accesses mem
+two_as rd rn rs rsy accesses valid reads mem v r =
+    let of : Bool → Bool → MemoryInstruction = λ a b. record { form = RsForm (number_of rd) (number_of rn) rs rsy; operand = mem; accesses = accesses; operands_valid = a; reads_scratch = b } in
+    ap (λ a. of a reads) v ∙ ap (λ b. of (two_registers rd rn rs rsy accesses mem).operands_valid b) r
+
+operator_as : (t : Bool) (rx rxy : Option ℕ) (rd ri : Reg) (mem : MemArg) (x : MemoryInstruction) → reads_register rxy ≡ true → operate t rx rxy rd ri mem ≡ Some x → x.operands_valid ≡ true → IsEmitted x
+operator_as false rx rxy rd ri mem x reads e v = absurd (cc)
+operator_as true rx rxy rd ri mem x reads e v =
+    let valid : reuses rd ri ≡ true = valid_of _ x e v in
+    let r = reused 1 rd ri valid in
+    let same = one_as rd rx rxy None true (reuses rd ri) (is_numbered 1 ri) mem (valid ∙ sym r.0) (r.1 ∙ ap (λ t. t && is_numbered 1 rd) (sym reads)) in
+    as_found _ x (rd, refl, same) e
+
+-- two general registers of rows that are no multiple ones
+pair_of : (rd rn : Reg) (t : Bool) → (is_general rd && is_general rn) ≡ true → t ≡ true → (is_general rd && is_general rn) ≡ (is_general rd && is_general rn && t)
+pair_of rd rn t h ht =
+    h ∙ sym (and_from (is_general rd && is_general rn) t h ht)
+
+-- rows that change memory in one access
+abbrev ReadsSecond : ℕ → (rd rn : Reg) → Type 0
+ReadsSecond opcode rd rn = reads_registers (Some opcode) rd rn ≡ is_numbered 1 rn
+
+atomic_as : (opcode : ℕ) (rd rn : Reg) (mem : MemArg) (x : MemoryInstruction) → is_multiple (Some opcode) ≡ false → ReadsSecond opcode rd rn →
+    Some (record { form = RsForm (number_of rd) (number_of rn) None (Some opcode); operand = mem; accesses = true; operands_valid = is_general rd && is_general rn; reads_scratch = is_numbered 1 rn }) ≡ Some x → x.operands_valid ≡ true → IsEmitted x
+atomic_as opcode rd rn mem x other reads e v =
+    let valid : (is_general rd && is_general rn) ≡ true = valid_of _ x e v in
+    let more : (not (is_multiple (Some opcode)) || nat_le (number_of rd) (number_of rn)) ≡ true = ap (λ t. not t || nat_le (number_of rd) (number_of rn)) other in
+    let same = two_as rd rn None (Some opcode) true (is_general rd && is_general rn) (is_numbered 1 rn) mem (pair_of rd rn _ valid more) (sym reads) in
+    as_found _ x (rd, rn, same) e
+
+-- a compare and swap
+swap_as : (rs : Option ℕ) (opcode : ℕ) (rd ri rn : Reg) (mem : MemArg) (x : MemoryInstruction) → is_multiple (Some opcode) ≡ false → reads_registers (Some opcode) rd rn ≡ (is_numbered 1 rd || is_numbered 1 rn) →
+    Some (record { form = RsForm (number_of rd) (number_of rn) rs (Some opcode); operand = mem; accesses = true; operands_valid = reuses rd ri && is_general rn; reads_scratch = is_numbered 1 ri || is_numbered 1 rn }) ≡ Some x → x.operands_valid ≡ true → IsEmitted x
+swap_as rs opcode rd ri rn mem x other reads e v =
+    let valid : (reuses rd ri && is_general rn) ≡ true = valid_of _ x e v in
+    let both = and_parts (reuses rd ri) (is_general rn) valid in
+    let r = reused 1 rd ri both.0 in
+    let general : (is_general rd && is_general rn) ≡ true = and_from (is_general rd) (is_general rn) r.0 both.1 in
+    let more : (not (is_multiple (Some opcode)) || nat_le (number_of rd) (number_of rn)) ≡ true = ap (λ t. not t || nat_le (number_of rd) (number_of rn)) other in
+    let same = two_as rd rn rs (Some opcode) true (reuses rd ri && is_general rn) (is_numbered 1 ri || is_numbered 1 rn) mem (valid ∙ sym general ∙ pair_of rd rn _ general more) (ap (λ t. t || is_numbered 1 rn) r.1 ∙ sym reads) in
+    as_found _ x (rd, rn, same) e
+
+pub each_emitter : (i : Inst) (x : MemoryInstruction) → memory i ≡ Some x → x.operands_valid ≡ true → IsEmitted x
+each_emitter (AluRX op rd ri mem) x e v = operator_as (is_some (alu_rx op) || is_some (alu_rxy op)) (alu_rx op) (alu_rxy op) rd ri mem x (alu_reads op) e v
+each_emitter (CmpRX op rn mem) x e v = as_found _ x (rn, refl, one_as rn (cmp_rx op) (cmp_rxy op) (Some (cmp_ril op)) true (is_general rn) (is_numbered 1 rn) mem refl (ap (λ t. t && is_numbered 1 rn) (sym (cmp_reads op)))) e
+each_emitter (Load32 rd mem) x e v = as_found _ x (rd, refl, refl) e
+each_emitter (Load32ZExt8 rd mem) x e v = as_found _ x (rd, refl, refl) e
+each_emitter (Load32SExt8 rd mem) x e v = as_found _ x (rd, refl, refl) e
+each_emitter (Load32ZExt16 rd mem) x e v = as_found _ x (rd, refl, refl) e
+each_emitter (Load32SExt16 rd mem) x e v = as_found _ x (rd, refl, refl) e
+each_emitter (Load64 rd mem) x e v = as_found _ x (rd, refl, refl) e
+each_emitter (Load64ZExt8 rd mem) x e v = as_found _ x (rd, refl, refl) e
+each_emitter (Load64SExt8 rd mem) x e v = as_found _ x (rd, refl, refl) e
+each_emitter (Load64ZExt16 rd mem) x e v = as_found _ x (rd, refl, refl) e
+each_emitter (Load64SExt16 rd mem) x e v = as_found _ x (rd, refl, refl) e
+each_emitter (Load64ZExt32 rd mem) x e v = as_found _ x (rd, refl, refl) e
+each_emitter (Load64SExt32 rd mem) x e v = as_found _ x (rd, refl, refl) e
+each_emitter (LoadRev16 rd mem) x e v = as_found _ x (rd, refl, refl) e
+each_emitter (LoadRev32 rd mem) x e v = as_found _ x (rd, refl, refl) e
+each_emitter (LoadRev64 rd mem) x e v = as_found _ x (rd, refl, refl) e
+each_emitter (Store8 rd mem) x e v = as_found _ x (rd, refl, refl) e
+each_emitter (Store16 rd mem) x e v = as_found _ x (rd, refl, refl) e
+each_emitter (Store32 rd mem) x e v = as_found _ x (rd, refl, refl) e
+each_emitter (Store64 rd mem) x e v = as_found _ x (rd, refl, refl) e
+each_emitter (StoreRev16 rd mem) x e v = as_found _ x (rd, refl, refl) e
+each_emitter (StoreRev32 rd mem) x e v = as_found _ x (rd, refl, refl) e
+each_emitter (StoreRev64 rd mem) x e v = as_found _ x (rd, refl, refl) e
+each_emitter (StoreImm8 imm mem) x e v = as_found _ x refl e
+each_emitter (StoreImm16 imm mem) x e v = as_found _ x (imm, refl) e
+each_emitter (StoreImm32SExt16 imm mem) x e v = as_found _ x (imm, refl) e
+each_emitter (StoreImm64SExt16 imm mem) x e v = as_found _ x (imm, refl) e
+each_emitter (LoadMultiple64 rt rt2 mem) x e v = as_found _ x (rt, rt2, refl) e
+each_emitter (StoreMultiple64 rt rt2 mem) x e v = as_found _ x (rt, rt2, refl) e
+each_emitter (LoadAddr rd mem) x e v = as_found _ x (rd, refl, refl) e
+each_emitter (AtomicRmw Add32 rd rn mem) x e v = atomic_as 0xebf8 rd rn mem x refl refl e v
+each_emitter (AtomicRmw Add64 rd rn mem) x e v = atomic_as 0xebe8 rd rn mem x refl refl e v
+each_emitter (AtomicRmw AddLogical32 rd rn mem) x e v = atomic_as 0xebfa rd rn mem x refl refl e v
+each_emitter (AtomicRmw AddLogical64 rd rn mem) x e v = atomic_as 0xebea rd rn mem x refl refl e v
+each_emitter (AtomicRmw And32 rd rn mem) x e v = atomic_as 0xebf4 rd rn mem x refl refl e v
+each_emitter (AtomicRmw And64 rd rn mem) x e v = atomic_as 0xebe4 rd rn mem x refl refl e v
+each_emitter (AtomicRmw Orr32 rd rn mem) x e v = atomic_as 0xebf6 rd rn mem x refl refl e v
+each_emitter (AtomicRmw Orr64 rd rn mem) x e v = atomic_as 0xebe6 rd rn mem x refl refl e v
+each_emitter (AtomicRmw Xor32 rd rn mem) x e v = atomic_as 0xebf7 rd rn mem x refl refl e v
+each_emitter (AtomicRmw Xor64 rd rn mem) x e v = atomic_as 0xebe7 rd rn mem x refl refl e v
+each_emitter (AtomicRmw op rd rn mem) x e v = absurd (cc)
+each_emitter (AtomicCas32 rd ri rn mem) x e v = swap_as (Some 0xba) 0xeb14 rd ri rn mem x refl refl e v
+each_emitter (AtomicCas64 rd ri rn mem) x e v = swap_as None 0xeb30 rd ri rn mem x refl refl e v
+each_emitter i x e v = absurd (cc)
