@@ -153,7 +153,8 @@ module _ {L : Layout} {k : ℕ} {s : Step} (b : StepAt L k s) where
   row_runs x operation never is at_row = looser_runs x operation operation (λ r. exactly (operation r)) never is at_row
 
   -- any row whose action is the step's operation
-  pub meant_runs : {allowed : Allowed} {digits : ℕ} (x : MachineInstruction) (semantics : RowSemantics) (operation : Registers → Operation) → NeverStops operation → IsRow L s x operation → ListedRow x.format allowed digits (slice_index x.slots 0) semantics → SlotsFit (layout_of x.format) x.slots → is_allowed allowed x.slots ≡ true → Doing (fields_of x.format x.slots) semantics operation → StepRuns L k
+  pub meant_runs : {allowed : Allowed} {digits : ℕ} (x : MachineInstruction) (semantics : RowSemantics) (operation : Registers → Operation) → NeverStops operation → IsRow L s x operation →
+      ListedRow x.format allowed digits (slice_index x.slots 0) semantics → SlotsFit (layout_of x.format) x.slots → is_allowed allowed x.slots ≡ true → Doing (fields_of x.format x.slots) semantics operation → StepRuns L k
   meant_runs x semantics operation never is row fit allows acts = row_runs x operation never is (λ st. meant_at L b.all (L.offsets.step k) step_even x semantics operation row fit allows acts st)
 
   -- a row of an even pair whose action is the step's operation

@@ -86,7 +86,7 @@ not_read true reads e = absurd (cc)
 not_read false true e = absurd (cc)
 not_read false false e = refl
 
-not_lost : (stuck other : Bool) → IsTrue (not (stuck || other)) → stuck ≡ false
+pub not_lost : (stuck other : Bool) → IsTrue (not (stuck || other)) → stuck ≡ false
 not_lost true other e = absurd (cc)
 not_lost false other e = refl
 

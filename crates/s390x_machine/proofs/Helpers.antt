@@ -155,14 +155,20 @@ module _ (L : Layout) (mi : MemInstType) where
       (same_loaded L mi flags (λ r. based r (number_of reg) off) c t (low_below (pos (address_part c.registers (number_of reg)) +ℤ off)) e, w, e)
 
   -- a place, whose address is loaded where the rows have no form for it
-  keeps_place : (m : MemArg) (flags : MachMemFlags) (a : ℕ) → operand_address L m ≡ Some (λ r. a) → widened mi m ≡ m → ((x y : Core) → KindMayExecute (instruction_kind L (LoadAddr scratch m)) x y → MayExecute (loads_address 1 a x.registers) x y) → a < 2 ^ 64 → (t : Bool) →
+  keeps_place : (m : MemArg) (flags : MachMemFlags) (a : ℕ) → operand_address L m ≡ Some (λ r. a) → widened mi m ≡ m → ((x y : Core) → KindMayExecute (instruction_kind L (LoadAddr scratch m)) x y → MayExecute (loads_address 1 a x.registers) x y) → (t : Bool) → (t ≡ true → a < 2 ^ 64) →
       Keeps L t (λ r. a) (with_widened mi (cond t (record { helpers = LoadAddr scratch m ∷ []; operand = BXD12 scratch no_register 0 flags }) (record { helpers = []; operand = m })))
-  keeps_place m flags a here same loads small false c t e = (subst (λ o. IsSameAddress o t.registers (Some (λ r. a)) c.registers) (sym (ap (operand_address L) same ∙ here)) refl, 0, e)
-  keeps_place m flags a here same loads small true c t h =
+  keeps_place m flags a here same loads false small c t e = (subst (λ o. IsSameAddress o t.registers (Some (λ r. a)) c.registers) (sym (ap (operand_address L) same ∙ here)) refl, 0, e)
+  keeps_place m flags a here same loads true small c t h =
       let e = h.2 ∙ address_executes a c h.0 (loads c h.0 h.1) in
-      (same_loaded L mi flags (λ r. a) c t small e, a % 2 ^ 64, e)
+      (same_loaded L mi flags (λ r. a) c t (small refl) e, a % 2 ^ 64, e)
 
-  pub helpers_keep : (m : MemArg) → IsAddressable L m → HelpersKeep L mi m
+  -- a helper stands there
+  loaded_here : (flags : MachMemFlags) (m : MemArg) (t : Bool) → t ≡ true →
+      is_helped (with_widened mi (cond t (record { helpers = LoadAddr scratch m ∷ []; operand = BXD12 scratch no_register 0 flags }) (record { helpers = []; operand = m }))).helpers ≡ true
+  loaded_here flags m true e = refl
+  loaded_here flags m false e = absurd (cc)
+
+  pub helpers_keep : (m : MemArg) → IsAddressable L mi m → HelpersKeep L mi m
   helpers_keep (BXD12 base index d flags) b c t h =
       let zero = zero_test index (and_parts (is_general base) (is_general index) b.general).1 in
       subst (λ n. IsSameAddress (operand_address L (finalized mi (BXD12 base index d flags)).operand) t.registers (operand_address L (BXD12 base index d flags)) c.registers × (v : ℕ) × (t ≡ loosen (not mi.have_index && not n) v c)) zero
@@ -182,7 +188,8 @@ module _ (L : Layout) (mi : MemInstType) where
       Result : Bool → (Registers → ℕ) → Finalized → Type 0
       Result needs address f = IsSameAddress (operand_address L f.operand) t.registers (Some address) c.registers × (v : ℕ) × (t ≡ loosen needs v c)
 
-      go : (t12 : Bool) → fits_12 off ≡ t12 → (t20 : Bool) → fits_20 off ≡ t20 → (t32 : Bool) → fits_32 off ≡ t32 → IsTrue t32 → (is_numbered 1 reg && (t32 && not t12 && not t20)) ≡ false → HelpersMayExecute L (with_widened mi (addressed mi (near t12 t20 t32))).helpers c t → Result (not t12 && not (t20 && mi.have_d20)) (λ r. based r (number_of reg) off) (with_widened mi (addressed mi (near t12 t20 t32)))
+      go : (t12 : Bool) → fits_12 off ≡ t12 → (t20 : Bool) → fits_20 off ≡ t20 → (t32 : Bool) → fits_32 off ≡ t32 → IsTrue t32 → (is_numbered 1 reg && (t32 && not t12 && not t20)) ≡ false →
+          HelpersMayExecute L (with_widened mi (addressed mi (near t12 t20 t32))).helpers c t → Result (not t12 && not (t20 && mi.have_d20)) (λ r. based r (number_of reg) off) (with_widened mi (addressed mi (near t12 t20 t32)))
       go true e12 t20 e20 t32 e32 fits kept g =
           let n = short_12 off e12 in
           let is_pos : off ≡ pos (unsigned_abs off) = n.1 ∙ ap pos (sym (ap unsigned_abs n.1)) in
@@ -198,11 +205,11 @@ module _ (L : Layout) (mi : MemInstType) where
           keeps_far reg off flags (not_scratch reg b.general (sym (and_true (is_numbered 1 reg)) ∙ kept)) z.0 z.1 (not mi.have_index && true) c t g
       go false e12 false e20 false e32 fits kept g = absurd (cc)
   helpers_keep (Label target) b c t h =
-      keeps_place (Label target) (flags_of (Label target)) (block_address L target.0) refl refl (λ x y g. g) (sum_below L.image.base (L.offsets.block target.0)) (not mi.have_pcrel) c t h
+      keeps_place (Label target) (flags_of (Label target)) (block_address L target.0) refl refl (λ x y g. g) (not mi.have_pcrel) (λ e. sum_below L.image.base (L.offsets.block target.0)) c t h
   helpers_keep (Constant constant) b c t h =
-      keeps_place (Constant constant) (flags_of (Constant constant)) (constant_address L constant.0) refl refl (λ x y g. g) (sum_below L.image.base (L.offsets.environment.constant constant.0)) (not mi.have_pcrel) c t h
+      keeps_place (Constant constant) (flags_of (Constant constant)) (constant_address L constant.0) refl refl (λ x y g. g) (not mi.have_pcrel) (λ e. sum_below L.image.base (L.offsets.environment.constant constant.0)) c t h
   helpers_keep (Symbol name offset flags) b c t h =
-      keeps_place (Symbol name offset flags) flags (L.offsets.environment.symbol_value name offset) refl refl (λ x y g. g) b.address (not mi.have_pcrel || (not flags.aligned && not mi.have_unaligned_pcrel)) c t h
+      keeps_place (Symbol name offset flags) flags (L.offsets.environment.symbol_value name offset) refl refl (λ x y g. g) (not mi.have_pcrel || (not flags.aligned && not mi.have_unaligned_pcrel)) (λ e. b.address (loaded_here flags (Symbol name offset flags) _ e)) c t h
   helpers_keep (InitialSPOffset off) b c t h = absurd b.range
   helpers_keep (IncomingArgOffset off) b c t h = absurd b.range
   helpers_keep (OutgoingArgOffset off) b c t h = absurd b.range

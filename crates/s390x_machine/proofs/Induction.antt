@@ -1,14 +1,14 @@
 -- From each step alone to every run: the generic induction.
 use Rattle.std.proofs.Common.{◌⊎◌, Bool, true, false, IsTrue, IsFalse, true≢false, append-nil, ◌≡◌, ℕ, zero, suc, ◌+◌, ◌<◌, ◌≤◌, inl, inr, List, [], ◌∷◌, ◌++◌, length, Option, Some, None, refl, sym, ap, ◌∙◌, subst, arith, append_assoc, length-append, slice_get}
-use Rattle.s390x_operations.specs.State.{Core, State, Write, written, IsLoaded, CodeImage, IsDisjoint}
+use Rattle.s390x_operations.specs.State.{Core, State, StoreEvent, Write, written, IsLoaded, CodeImage, IsDisjoint}
 use Rattle.s390x_operations.specs.Access.{stores_into}
 use Rattle.s390x_operations.specs.Effects.{access}
 use Rattle.s390x_typed_steps.specs.Steps.{Step}
-use Rattle.s390x_machine.specs.Machine.{Transition, Run, after_all, all_writes}
+use Rattle.s390x_machine.specs.Machine.{Executed, Transition, Run, after_all, all_writes}
 use Rattle.s390x_machine.specs.StepKinds.{StepKind, Performs}
 use Rattle.s390x_machine.specs.Typed.{Ending, Ended, At, touches_image, TypedStep, Wrong, kind_of_step, kind_at, store_event_of_kind, KindWrong}
-use Rattle.s390x_machine.specs.Match.{IsGroup, IsSilent, concatenated, start, EndsMatch, Allowed, EveryRun}
-use Rattle.s390x_machine.specs.OneStep.{OneStep, here, on, StepHolds, Runs, waits, silent, goes, stops, ends, stuck, StepRuns}
+use Rattle.s390x_machine.specs.Match.{IsGroup, IsExecuted, IsSilent, IsUnderWay, concatenated, start, EndsMatch, Allowed, EveryRun}
+use Rattle.s390x_machine.specs.OneStep.{Fits, OneStep, here, on, StepHolds, Runs, waits, silent, goes, stops, ends, stuck, StepRuns}
 use Rattle.s390x_machine.specs.Layout.{Layout, InStep}
 use Rattle.s390x_machine.proofs.Frame.{apart_of}
 
@@ -21,7 +21,7 @@ after_append s [] h = refl
 after_append s (x ∷ g) h = after_append x.after g h
 
 -- a step, and what is allowed after it
-step_then : (L : Layout) (k : ℕ) (c : Core) (trace g rest : List Transition) → trace ≡ g ++ rest → IsGroup L k 4 g → (j : ℕ) (t : Core) → TypedStep L k (written (all_writes g) c) (At j) t → after_all (start L k c) g ≡ start L j t → Allowed L j (start L j t) rest → Allowed L k (start L k c) trace
+step_then : (L : Layout) (k : ℕ) (c : Core) (trace g rest : List Transition) → trace ≡ g ++ rest → IsGroup L k g → (j : ℕ) (t : Core) → TypedStep L k (written (all_writes g) c) (At j) t → after_all (start L k c) g ≡ start L j t → Allowed L j (start L j t) rest → Allowed L k (start L k c) trace
 step_then L k c trace g rest split group j t step lands a = record {
   groups = g ∷ a.groups;
   rest = a.rest;
@@ -32,7 +32,10 @@ step_then L k c trace g rest split group j t step lands a = record {
   ends_match = subst (λ s. EndsMatch L a.position a.core s a.rest) (sym (after_append (start L k c) g (concatenated a.groups) ∙ ap (λ s. after_all s (concatenated a.groups)) lands)) a.ends_match;
 }
 
-combine : (L : Layout) (k : ℕ) (c : Core) (trace : List Transition) → Run L.image (start L k c) trace → OneStep L k c trace → ((j : ℕ) (t : Core) → IsLoaded L.image t.memory → (rest : List Transition) → Run L.image (start L j t) rest → length rest < length trace → Allowed L j (start L j t) rest) → ((t : Core) → IsLoaded L.image t.memory → (rest : List Transition) → Run L.image (start L (suc k) t) rest → length rest ≤ length trace → suc k ≤ length L.steps → Allowed L (suc k) (start L (suc k) t) rest) → Allowed L k (start L k c) trace
+combine : (L : Layout) (k : ℕ) (c : Core) (trace : List Transition) → Run L.image (start L k c) trace → OneStep L k c trace →
+    ((j : ℕ) (t : Core) → IsLoaded L.image t.memory → (rest : List Transition) → Run L.image (start L j t) rest → length rest < length trace → Allowed L j (start L j t) rest) →
+    ((t : Core) → IsLoaded L.image t.memory → (rest : List Transition) → Run L.image (start L (suc k) t) rest → length rest ≤ length trace → suc k ≤ length L.steps → Allowed L (suc k) (start L (suc k) t) rest) →
+    Allowed L k (start L k c) trace
 combine L k c trace r (here a le) shorter without = a
 combine L k c trace r (on g rest split group j t step lands is_loaded (inl pos)) shorter without =
     let r' = subst (λ s. Run L.image s rest) lands (run_after L (start L k c) g rest (subst (λ l. Run L.image (start L k c) l) split r)) in
@@ -93,11 +96,20 @@ apart_form image (Some (Performs needs operation code)) c ws e = apart_of image 
 apart_form image (Some _) c ws e = tt
 apart_form image None c ws e = tt
 
--- a step that has a byte may take any few transitions
-pub group_within : (L : Layout) (k most : ℕ) (g : List Transition) {p : ℕ} → InStep L k p → length g ≤ most → IsGroup L k most g
-group_within L k most g at few = (few, λ e. absurd (omega (arith, at.above, at.below, e)))
+-- a step that has a byte has room for any few transitions
+pub fits_within : (L : Layout) (k : ℕ) (g : List Transition) {p : ℕ} → InStep L k p → length g ≤ 4 → Fits L k g
+fits_within L k g at few = (few, λ e. absurd (omega (arith, at.above, at.below, e)))
 
-stays_here : (L : Layout) (k : ℕ) (c : Core) (trace : List Transition) → Wrong L k c ⊎ (IsGroup L k 3 trace × IsSilent trace) → OneStep L k c trace
+-- what stored nothing didn't stop
+silent_is_executed : (g : List Transition) → IsSilent g → IsExecuted g
+silent_is_executed [] quiet = tt
+silent_is_executed (t ∷ g) quiet = ((None, quiet.0), silent_is_executed g quiet.1)
+
+executed_snoc : (g : List Transition) (t : Transition) (x : Option StoreEvent) → IsSilent g → t.event ≡ Executed x → IsExecuted (g ++ t ∷ [])
+executed_snoc [] t x quiet e = ((x, e), tt)
+executed_snoc (h ∷ g) t x quiet e = ((None, quiet.0), executed_snoc g t x quiet.1 e)
+
+stays_here : (L : Layout) (k : ℕ) (c : Core) (trace : List Transition) → Wrong L k c ⊎ IsUnderWay L k (start L k c) trace → OneStep L k c trace
 stays_here L k c trace w = here (record {
   groups = [];
   rest = trace;
@@ -108,7 +120,7 @@ stays_here L k c trace w = here (record {
   ends_match = (refl, w);
 }) (omega arith)
 
-stays_ended : (L : Layout) (k : ℕ) (c : Core) (g rest : List Transition) (e : Ending) (x : Core) → IsGroup L k 4 g → TypedStep L k (written (all_writes g) c) (Ended e) x → EndsMatch L (Ended e) x (after_all (start L k c) g) rest → OneStep L k c (g ++ rest)
+stays_ended : (L : Layout) (k : ℕ) (c : Core) (g rest : List Transition) (e : Ending) (x : Core) → IsGroup L k g → TypedStep L k (written (all_writes g) c) (Ended e) x → EndsMatch L (Ended e) x (after_all (start L k c) g) rest → OneStep L k c (g ++ rest)
 stays_ended L k c g rest e x group step ends_match = here (record {
   groups = g ∷ [];
   rest = rest;
@@ -120,12 +132,12 @@ stays_ended L k c g rest e x group step ends_match = here (record {
 }) (omega arith)
 
 weaker : (L : Layout) (k : ℕ) (c : Core) (trace : List Transition) → IsLoaded L.image c.memory → IsFalse (form_into L.image (kind_at L k) c) → Runs L k c trace → OneStep L k c trace
-weaker L k c trace is_loaded out (waits few quiet at) = stays_here L k c trace (inr (group_within L k 3 trace at few, quiet))
-weaker L k c trace is_loaded out (silent step below same) = on [] trace refl (omega arith, λ e. refl) (suc k) c step (ap (λ q. record { core = c; address = q }) same) is_loaded (inr (refl, below))
+weaker L k c trace is_loaded out (waits few quiet at) = stays_here L k c trace (inr (few, quiet, at))
+weaker L k c trace is_loaded out (silent step below same) = on [] trace refl (omega arith, tt, λ e. refl) (suc k) c step (ap (λ q. record { core = c; address = q }) same) is_loaded (inr (refl, below))
 weaker L k c trace is_loaded out (goes h rest t split group quiet j x step e m lands l) =
-    on (h ++ t ∷ []) rest (split ∙ sym (append_assoc h (t ∷ []) rest)) group j x step (after_append (start L k c) h (t ∷ []) ∙ lands) (l (apart_form L.image (kind_at L k) c (all_writes (h ++ t ∷ [])) out)) (inl (omega (arith, length-append h (t ∷ []))))
+    on (h ++ t ∷ []) rest (split ∙ sym (append_assoc h (t ∷ []) rest)) (group.0, executed_snoc h t _ quiet e, group.1) j x step (after_append (start L k c) h (t ∷ []) ∙ lands) (l (apart_form L.image (kind_at L k) c (all_writes (h ++ t ∷ [])) out)) (inl (omega (arith, length-append h (t ∷ []))))
 weaker L k c trace is_loaded out (stops h rest t kind split quiet e w) = stays_here L k c trace (inl w)
-weaker L k c trace is_loaded out (ends g rest split group quiet e x step ends_match) = subst (λ l. OneStep L k c l) (sym split) (stays_ended L k c g rest e x group step ends_match)
+weaker L k c trace is_loaded out (ends g rest split group quiet e x step ends_match) = subst (λ l. OneStep L k c l) (sym split) (stays_ended L k c g rest e x (group.0, silent_is_executed g quiet, group.1) step ends_match)
 weaker L k c trace is_loaded out (stuck w form) = stays_here L k c trace (inl w)
 
 unless_into : (L : Layout) (k : ℕ) (c : Core) (trace : List Transition) → IsLoaded L.image c.memory → Runs L k c trace → (b : Bool) → form_into L.image (kind_at L k) c ≡ b → OneStep L k c trace

@@ -1,3 +1,4 @@
+pub mod Addressable
 pub mod Addresses
 pub mod Allocating
 pub mod Operands

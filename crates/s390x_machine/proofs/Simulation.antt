@@ -16,7 +16,7 @@ use Rattle.s390x_machine.specs.Match.{IsSilent, start, EndsMatch}
 use Rattle.s390x_machine.specs.OneStep.{Runs, waits, goes, ends, stops}
 use Rattle.s390x_machine.specs.Layout.{Layout, step_address, InStep}
 use Rattle.s390x_machine.proofs.Frame.{lies_written, loaded_after_store, written_append}
-use Rattle.s390x_machine.proofs.Induction.{after_append, group_within}
+use Rattle.s390x_machine.proofs.Induction.{after_append, fits_within}
 
 -- wherever the image lies in memory, a step of the machine at this place does this action, of an instruction of so many bytes
 abbrev pub RowAt : Layout → ℕ → (Registers → Action) → ℕ → Type 0
@@ -96,16 +96,19 @@ branch_executes c r ws p mask target size (Executed x) t h = (ap Executed h.2, �
 branch_executes c r ws p mask target size (Interrupted kind) t h = absurd h
 
 -- the step is done, at another step
-pub done : (L : Layout) (k : ℕ) (c : Core) (g : List Transition) (r : Registers) (p : ℕ) (act : Registers → Action) (size : ℕ) (t : Transition) (rest : List Transition) (j : ℕ) (x : Core) → Inside L k c g r p → Turned L c g r p act size t → t.event ≡ Executed (typed_store_event L k (written (all_writes (g ++ t ∷ [])) c)) → t.after ≡ start L j x → (IsDisjoint L.image (typed_store_event L k (written (all_writes (g ++ t ∷ [])) c)) → IsLoaded L.image x.memory) → TypedStep L k (written (all_writes (g ++ t ∷ [])) c) (At j) x → Runs L k c (g ++ t ∷ rest)
+pub done : (L : Layout) (k : ℕ) (c : Core) (g : List Transition) (r : Registers) (p : ℕ) (act : Registers → Action) (size : ℕ) (t : Transition) (rest : List Transition) (j : ℕ) (x : Core) → Inside L k c g r p → Turned L c g r p act size t →
+    t.event ≡ Executed (typed_store_event L k (written (all_writes (g ++ t ∷ [])) c)) → t.after ≡ start L j x → (IsDisjoint L.image (typed_store_event L k (written (all_writes (g ++ t ∷ [])) c)) → IsLoaded L.image x.memory) →
+    TypedStep L k (written (all_writes (g ++ t ∷ [])) c) (At j) x → Runs L k c (g ++ t ∷ rest)
 done L k c g r p act size t rest j x i u e lands is_loaded step =
-    goes g rest t refl (group_within L k 4 (g ++ t ∷ []) i.here (omega (arith, i.few, length-append g (t ∷ [])))) i.quiet j x step e (ap (λ (s : State). (after_writes s t).core.memory) i.lands ∙ sym u.memory) lands is_loaded
+    goes g rest t refl (fits_within L k (g ++ t ∷ []) i.here (omega (arith, i.few, length-append g (t ∷ [])))) i.quiet j x step e (ap (λ (s : State). (after_writes s t).core.memory) i.lands ∙ sym u.memory) lands is_loaded
 
 -- the step ends the run
 pub ended : (L : Layout) (k : ℕ) (c : Core) (g rest : List Transition) (e : Ending) (x : Core) {p : ℕ} → InStep L k p → length g ≤ 4 → IsSilent g → TypedStep L k (written (all_writes g) c) (Ended e) x → EndsMatch L (Ended e) x (after_all (start L k c) g) rest → Runs L k c (g ++ rest)
-ended L k c g rest e x here few quiet step ends_match = ends g rest refl (group_within L k 4 g here few) quiet e x step ends_match
+ended L k c g rest e x here few quiet step ends_match = ends g rest refl (fits_within L k g here few) quiet e x step ends_match
 
 -- a branch: what follows when it is taken, and when it isn't
-pub branch : (L : Layout) (k : ℕ) (c : Core) (g : List Transition) (r : Registers) (p : ℕ) (act : Registers → Action) (size mask target : ℕ) → Inside L k c g r p → RowAt L p act size → act r ≡ Branch mask target → ((t : Transition) (rest : List Transition) → Turned L c g r p act size t → t.event ≡ Executed None → t.after ≡ mid c r (all_writes (g ++ t ∷ [])) (if is_selected mask r.code then target else wrapping_add64 p size) → Run L.image t.after rest → Runs L k c (g ++ t ∷ rest)) → Simulates L k c g r p
+pub branch : (L : Layout) (k : ℕ) (c : Core) (g : List Transition) (r : Registers) (p : ℕ) (act : Registers → Action) (size mask target : ℕ) → Inside L k c g r p → RowAt L p act size → act r ≡ Branch mask target →
+    ((t : Transition) (rest : List Transition) → Turned L c g r p act size t → t.event ≡ Executed None → t.after ≡ mid c r (all_writes (g ++ t ∷ [])) (if is_selected mask r.code then target else wrapping_add64 p size) → Run L.image t.after rest → Runs L k c (g ++ t ∷ rest)) → Simulates L k c g r p
 branch L k c g r p act size mask target i row does go =
     peel L k c g r p i (λ t s rest run.
     let u = turned L k c g r p act size t i row s in
@@ -156,7 +159,9 @@ uncoded_wrong L op code c kind with_code none (inr (e, by)) = let x = with_code 
     some_none : (n : TrapKind) → Some n ≡ None → ⊥
     some_none n h = cc
 
-stop_ends : (L : Layout) (k : ℕ) (c : Core) (g rest : List Transition) (t : Transition) (p : ℕ) (needs : Bool) (v : ℕ) (operation : Registers → Operation) (code : StopKind → Option TrapKind) (o : Option TrapKind) (kind : StopKind) → kind_at L k ≡ Some (Performs needs operation code) → Inside L k c g (loosened needs v c.registers) p → Coded L p code → ValuesCoded (operation c.registers) code → t.event ≡ Interrupted kind → MayInterrupt (operation c.registers) c.memory.has kind → code kind ≡ o → Runs L k c (g ++ t ∷ rest)
+stop_ends : (L : Layout) (k : ℕ) (c : Core) (g rest : List Transition) (t : Transition) (p : ℕ) (needs : Bool) (v : ℕ) (operation : Registers → Operation) (code : StopKind → Option TrapKind) (o : Option TrapKind) (kind : StopKind) →
+    kind_at L k ≡ Some (Performs needs operation code) → Inside L k c g (loosened needs v c.registers) p → Coded L p code → ValuesCoded (operation c.registers) code → t.event ≡ Interrupted kind →
+    MayInterrupt (operation c.registers) c.memory.has kind → code kind ≡ o → Runs L k c (g ++ t ∷ rest)
 stop_ends L k c g rest t p needs v operation code None kind is i at with_code e h none =
     stops g rest t kind refl i.quiet e (subst (λ f. KindWrong L f c) (sym is) (uncoded_wrong L (operation c.registers) code c kind with_code none h))
 stop_ends L k c g rest t p needs v operation code (Some n) kind is i at with_code e h some =
@@ -165,7 +170,10 @@ stop_ends L k c g rest t p needs v operation code (Some n) kind is i at with_cod
     let few : length g ≤ 4 = omega (arith, i.few) in
     ended L k c g (t ∷ rest) (Trapped n) x i.here few i.quiet step (ap (λ (s : State). s.core) i.lands, (kind, e, subst (λ (s : State). trap_code_at L.image L.traps s.address kind ≡ Some n) (sym i.lands) (at kind n some)))
 
-row_transition : (L : Layout) (k : ℕ) (c : Core) (g rest : List Transition) (t : Transition) (p : ℕ) (act : Registers → Action) (size : ℕ) (needs : Bool) (v : ℕ) (operation : Registers → Operation) (code : StopKind → Option TrapKind) → kind_at L k ≡ Some (Performs needs operation code) → Inside L k c g (loosened needs v c.registers) p → Turned L c g (loosened needs v c.registers) p act size t → wrapping_add64 p size ≡ step_address L (suc k) → Coded L p code → ValuesCoded (operation c.registers) code → (event : Event) → t.event ≡ event → ActionStep (Perform (operation c.registers)) size (mid c (loosened needs v c.registers) (all_writes (g ++ t ∷ [])) p) event t.after → Runs L k c (g ++ t ∷ rest)
+row_transition : (L : Layout) (k : ℕ) (c : Core) (g rest : List Transition) (t : Transition) (p : ℕ) (act : Registers → Action) (size : ℕ) (needs : Bool) (v : ℕ) (operation : Registers → Operation) (code : StopKind → Option TrapKind) →
+    kind_at L k ≡ Some (Performs needs operation code) → Inside L k c g (loosened needs v c.registers) p → Turned L c g (loosened needs v c.registers) p act size t → wrapping_add64 p size ≡ step_address L (suc k) → Coded L p code →
+    ValuesCoded (operation c.registers) code → (event : Event) → t.event ≡ event → ActionStep (Perform (operation c.registers)) size (mid c (loosened needs v c.registers) (all_writes (g ++ t ∷ [])) p) event t.after →
+    Runs L k c (g ++ t ∷ rest)
 row_transition L k c g rest t p act size needs v operation code is i u next at with_code (Executed x) e acts =
     let w = written (all_writes (g ++ t ∷ [])) c in
     let op = operation c.registers in
@@ -178,7 +186,9 @@ row_transition L k c g rest t p act size needs v operation code is i u next at w
 
 -- A step whose last row does its operation runs as that step: a row on registers alone, one with a memory access, which may fault with or
 -- without a code, or one that stops by its values, with a code.
-pub general_step : (L : Layout) (k : ℕ) (c : Core) (g : List Transition) (p : ℕ) (act : Registers → Action) (size : ℕ) (needs : Bool) (v : ℕ) (operation : Registers → Operation) (code : StopKind → Option TrapKind) → kind_at L k ≡ Some (Performs needs operation code) → Inside L k c g (loosened needs v c.registers) p → RowAt L p act size → DoesAs (act (loosened needs v c.registers)) (operation c.registers) → wrapping_add64 p size ≡ step_address L (suc k) → Coded L p code → ValuesCoded (operation c.registers) code → Simulates L k c g (loosened needs v c.registers) p
+pub general_step : (L : Layout) (k : ℕ) (c : Core) (g : List Transition) (p : ℕ) (act : Registers → Action) (size : ℕ) (needs : Bool) (v : ℕ) (operation : Registers → Operation) (code : StopKind → Option TrapKind) →
+    kind_at L k ≡ Some (Performs needs operation code) → Inside L k c g (loosened needs v c.registers) p → RowAt L p act size → DoesAs (act (loosened needs v c.registers)) (operation c.registers) →
+    wrapping_add64 p size ≡ step_address L (suc k) → Coded L p code → ValuesCoded (operation c.registers) code → Simulates L k c g (loosened needs v c.registers) p
 general_step L k c g p act size needs v operation code is i row does next at with_code =
     let r = loosened needs v c.registers in
     peel L k c g r p i (λ t s rest run.

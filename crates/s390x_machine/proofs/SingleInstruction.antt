@@ -240,7 +240,8 @@ module _ (L : Layout) (all : AllCodeAt L) (offset : ℕ) (even : offset % 2 ≡ 
       acting_at x allowed semantics operation (some_opcode row.0) (lists_row row.0) (means_this row.0) (single_pair semantics (fields_of x.format x.slots) row.1) fit allows (λ r. does r (wrapping_add64 L.image.base offset)) s
 
   -- one that names an even pair
-  pub pair_at : {allowed : Allowed} (x : MachineInstruction) (semantics : RowSemantics) (operation : Registers → Operation) → PairRow x.format allowed (slice_index x.slots 0) semantics → is_odd_pair semantics (fields_of x.format x.slots) ≡ false → SlotsFit (layout_of x.format) x.slots → is_allowed allowed x.slots ≡ true → Doing (fields_of x.format x.slots) semantics operation → DoesThere x operation
+  pub pair_at : {allowed : Allowed} (x : MachineInstruction) (semantics : RowSemantics) (operation : Registers → Operation) → PairRow x.format allowed (slice_index x.slots 0) semantics →
+      is_odd_pair semantics (fields_of x.format x.slots) ≡ false → SlotsFit (layout_of x.format) x.slots → is_allowed allowed x.slots ≡ true → Doing (fields_of x.format x.slots) semantics operation → DoesThere x operation
   pair_at {allowed = allowed} x semantics operation row is_even fit allows does s = acting_at x allowed semantics operation (some_opcode row) (lists_row row) (means_this row) is_even fit allows (λ r. does r (wrapping_add64 L.image.base offset)) s
 
   -- one of a register and a distance

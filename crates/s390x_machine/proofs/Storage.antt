@@ -293,7 +293,8 @@ module _ (L : Layout) (all : AllCodeAt L) (k : ℕ) where
   abbrev pub moved : Second → ℕ → ℕ
   moved s x = extended s.sign s.width Doubleword x
 
-  pub helper_then : (c : Core) (g : List Transition) (r : Registers) (o : ℕ) (size : ℕ) (s : Second) (bits : Registers → ℕ) → s.reversed ≡ false → Inside L k c g r (wrapping_add64 L.image.base o) → length g ≤ 2 → L.offsets.step k ≤ o + size → o + size < L.offsets.step (suc k) → RowAt L (wrapping_add64 L.image.base o) (λ q. Perform (computes_immediate Kept (with_second Move Doubleword s) 1 1 (bits q) q)) (size) →
+  pub helper_then : (c : Core) (g : List Transition) (r : Registers) (o : ℕ) (size : ℕ) (s : Second) (bits : Registers → ℕ) → s.reversed ≡ false → Inside L k c g r (wrapping_add64 L.image.base o) → length g ≤ 2 →
+      L.offsets.step k ≤ o + size → o + size < L.offsets.step (suc k) → RowAt L (wrapping_add64 L.image.base o) (λ q. Perform (computes_immediate Kept (with_second Move Doubleword s) 1 1 (bits q) q)) (size) →
       ((hs : List Transition) → length hs ≡ suc (length g) → Inside L k c hs (set_general r 1 (moved s (bits r))) (wrapping_add64 L.image.base (o + size)) → Simulates L k c hs (set_general r 1 (moved s (bits r))) (wrapping_add64 L.image.base (o + size))) → Simulates L k c g r (wrapping_add64 L.image.base o)
   helper_then c g r o size s bits plain i few above below row go =
       row_then L k c g r (wrapping_add64 L.image.base o) (λ q. Perform (computes_immediate Kept (with_second Move Doubleword s) 1 1 (bits q) q)) (size) (set_general r 1 (moved s (bits r))) i few (record { offset = o + size; above = above; below = below; is = sum_more L.image.base o (size) }) row

@@ -37,7 +37,8 @@ use Rattle.s390x_machine.proofs.Simulation.{RowAt, mid, at_start, turned, peel, 
 -- ---- the doubleword in memory
 
 -- a number by its bytes, the least significant first
-joined : (f : ℕ → ℕ) (a n q1 q2 q3 q4 q5 q6 q7 q8 : ℕ) → n ≡ 256 * q1 + f (wrapping_add64 a 7) → q1 ≡ 256 * q2 + f (wrapping_add64 a 6) → q2 ≡ 256 * q3 + f (wrapping_add64 a 5) → q3 ≡ 256 * q4 + f (wrapping_add64 a 4) → q4 ≡ 256 * q5 + f (wrapping_add64 a 3) → q5 ≡ 256 * q6 + f (wrapping_add64 a 2) → q6 ≡ 256 * q7 + f (wrapping_add64 a 1) → q7 ≡ 256 * q8 + f (wrapping_add64 a 0) → number_at f a 8 + 2 ^ 64 * q8 ≡ n
+joined : (f : ℕ → ℕ) (a n q1 q2 q3 q4 q5 q6 q7 q8 : ℕ) → n ≡ 256 * q1 + f (wrapping_add64 a 7) → q1 ≡ 256 * q2 + f (wrapping_add64 a 6) → q2 ≡ 256 * q3 + f (wrapping_add64 a 5) → q3 ≡ 256 * q4 + f (wrapping_add64 a 4) →
+    q4 ≡ 256 * q5 + f (wrapping_add64 a 3) → q5 ≡ 256 * q6 + f (wrapping_add64 a 2) → q6 ≡ 256 * q7 + f (wrapping_add64 a 1) → q7 ≡ 256 * q8 + f (wrapping_add64 a 0) → number_at f a 8 + 2 ^ 64 * q8 ≡ n
 joined f a n q1 q2 q3 q4 q5 q6 q7 q8 e0 e1 e2 e3 e4 e5 e6 e7 = omega arith
 
 -- a number with one byte more

@@ -6,6 +6,7 @@ use Rattle.s390x_inst.specs.declared.args.MemArg.{MemArg}
 use Rattle.s390x_inst.specs.declared.args.MemArg.TheVariants.{BXD12, BXD20, Label, Constant, Symbol}
 use Rattle.s390x_inst.specs.declared.inst.Inst.{Inst}
 use Rattle.s390x_typed_steps.specs.Operands.{finalized, loses_base, operand_general, offset_fits}
+use Rattle.s390x_typed_steps.specs.Causes.{is_helped}
 use Rattle.s390x_typed_steps.specs.Ranges.{OperandInRange}
 use Rattle.s390x_typed_steps.specs.declared.mem_inst_type.MemInstType.{MemInstType}
 use Rattle.s390x_operations.specs.State.{Registers, Core}
@@ -30,18 +31,19 @@ abbrev pub IsSameAddress : Option (Registers → ℕ) → Registers → Option (
 IsSameAddress (Some a) r (Some b) q = a r ≡ b q
 IsSameAddress _ r _ q = ⊥
 
--- the symbol that an operand names stands, with its offset, at an address below 2 ^ 64
-abbrev pub HasAddress : Layout → MemArg → Type 0
-HasAddress L (Symbol name offset flags) = L.offsets.environment.symbol_value name offset < 2 ^ 64
-HasAddress L m = Unit {0}
+-- where helpers load the address of the symbol that an operand names, it is, with its offset, one below 2 ^ 64
+abbrev pub HasAddress : Layout → MemInstType → MemArg → Type 0
+HasAddress L mi (Symbol name offset flags) = is_helped (finalized mi (Symbol name offset flags)).helpers ≡ true → L.offsets.environment.symbol_value name offset < 2 ^ 64
+HasAddress L mi m = Unit {0}
 
--- an operand that names a place, or has real registers and an offset of 32 bits, and whose base isn't overwritten
-pub record IsAddressable (L : Layout) (m : MemArg) : Type 0 where
+-- an operand that names a place, or has real registers and an offset of 32 bits, and whose base isn't overwritten; `operands_are_addressable`: so has
+-- each step that accesses memory, in a function's code
+pub record IsAddressable (L : Layout) (mi : MemInstType) (m : MemArg) : Type 0 where
   pub general : IsTrue (operand_general m)
   pub fits : IsTrue (offset_fits m)
   pub kept : loses_base m ≡ false
   pub range : OperandInRange m
-  pub address : HasAddress L m
+  pub address : HasAddress L mi m
 
 -- after the helpers the operand of the access has the address that the given one had before, and only `%r1` has changed, where it is needed
 abbrev pub HelpersKeep : Layout → MemInstType → MemArg → Type 0

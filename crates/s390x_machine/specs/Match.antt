@@ -1,13 +1,13 @@
 -- What the typed steps allow of a machine run.
-use Rattle.std.specs.Prelude.{◌≡◌, ℕ, suc, ◌≤◌, ◌⊎◌, List, [], ◌∷◌, ◌++◌, length, Some, None, IsTrue}
+use Rattle.std.specs.Prelude.{◌≡◌, ℕ, suc, ◌≤◌, ◌⊎◌, List, [], ◌∷◌, ◌++◌, length, Option, Some, None, IsTrue}
 use Rattle.s390x_base.specs.declared.trap.TrapKind.{TrapKind}
-use Rattle.s390x_operations.specs.State.{Core, State, written, IsLoaded, is_within}
+use Rattle.s390x_operations.specs.State.{Core, State, StoreEvent, written, IsLoaded, is_within}
 use Rattle.s390x_operations.specs.declared.stop.StopKind.{StopKind}
 use Rattle.s390x_operations.specs.declared.stop.StopKind.TheVariants.{Operation as OperationStop}
 use Rattle.s390x_machine.specs.Codes.{trap_code_at}
 use Rattle.s390x_machine.specs.Machine.{Executed, Interrupted, Transition, Run, after_all, all_writes}
 use Rattle.s390x_machine.specs.Typed.{Returned, Called, TailCalled, Trapped, DebugStopped, Position, At, Ended, TypedStep, Wrong}
-use Rattle.s390x_machine.specs.Layout.{Layout, step_address, block_address}
+use Rattle.s390x_machine.specs.Layout.{Layout, InStep, step_address, block_address}
 
 -- ---- the match
 
@@ -16,21 +16,30 @@ abbrev pub concatenated : List (List Transition) → List Transition
 concatenated [] = []
 concatenated (g ∷ gs) = g ++ concatenated gs
 
--- transitions that step k may take: at most so many, and none where the step has no bytes
-abbrev pub IsGroup : Layout → (k most : ℕ) → List Transition → Type 0
-IsGroup L k most g = (length g ≤ most) × (L.offsets.step (suc k) ≡ L.offsets.step k → g ≡ [])
+-- no transition stopped
+abbrev pub IsExecuted : List Transition → Type 0
+IsExecuted [] = Unit {0}
+IsExecuted (transition ∷ trace) = ((x : Option StoreEvent) × (transition.event ≡ Executed x)) × IsExecuted trace
+
+-- transitions that are step k: at most four, none of which stopped, and none at all where the step has no bytes
+abbrev pub IsGroup : Layout → (k : ℕ) → List Transition → Type 0
+IsGroup L k g = (length g ≤ 4) × IsExecuted g × (L.offsets.step (suc k) ≡ L.offsets.step k → g ≡ [])
 
 -- a typed run with one group of at most four transitions for each step; the group's writes come before the step
 abbrev pub TypedRun : Layout → Position → Core → List (List Transition) → Position → Core → Type 0
 TypedRun L position c [] position' t = (position' ≡ position) × (t ≡ c)
 TypedRun L (Ended e) c (g ∷ gs) position' t = ⊥
 TypedRun L (At k) c (g ∷ gs) position' t =
-    IsGroup L k 4 g × (next : Position) × (mid : Core) × TypedStep L k (written (all_writes g) c) next mid × TypedRun L next mid gs position' t
+    IsGroup L k g × (next : Position) × (mid : Core) × TypedStep L k (written (all_writes g) c) next mid × TypedRun L next mid gs position' t
 
--- no step stored anything or stopped
+-- no transition stored anything or stopped
 abbrev pub IsSilent : List Transition → Type 0
 IsSilent [] = Unit {0}
 IsSilent (transition ∷ trace) = (transition.event ≡ Executed None) × IsSilent trace
+
+-- step k isn't done: at most three transitions, from this state on, stored nothing and didn't stop, and the machine stands at one of the step's bytes
+abbrev pub IsUnderWay : Layout → (k : ℕ) → State → List Transition → Type 0
+IsUnderWay L k s rest = (length rest ≤ 3) × IsSilent rest × InStep L k (after_all s rest).address
 
 -- the next step is a stop that has this code
 abbrev pub NextStops : Layout → TrapKind → State → List Transition → Type 0
@@ -48,7 +57,7 @@ start L k c = record { core = c; address = step_address L k }
 
 -- how it ends: where the typed run stands, the machine's state there, and the rest of the machine's run
 abbrev pub EndsMatch : Layout → Position → Core → State → List Transition → Type 0
-EndsMatch L (At k) t s rest = (s ≡ start L k t) × (Wrong L k t ⊎ (IsGroup L k 3 rest × IsSilent rest))
+EndsMatch L (At k) t s rest = (s ≡ start L k t) × (Wrong L k t ⊎ IsUnderWay L k s rest)
 EndsMatch L (Ended (Returned a)) t s rest = s ≡ record { core = t; address = a }
 EndsMatch L (Ended (Called a)) t s rest = s ≡ record { core = t; address = a }
 EndsMatch L (Ended (TailCalled a)) t s rest = s ≡ record { core = t; address = a }

@@ -6,7 +6,7 @@ ghost use Rattle.s390x_typed_steps.specs.Tree.{Tree};
 ghost use Rattle.s390x_machine.specs.Functions.{function_layout, StandsAsCode};
 ghost use Rattle.s390x_typed_steps.specs.Causes.{blocks_cause};
 ghost use Rattle.s390x_typed_steps.specs.Ranges.{OperandInRange, BlocksInRange};
-ghost use Rattle.s390x_typed_steps.specs.Steps.{Step, function_steps};
+ghost use Rattle.s390x_typed_steps.specs.Steps.{Step, Plain, function_steps};
 ghost use Rattle.s390x_machine.specs.Layout.{Layout};
 ghost use Rattle.s390x_machine.specs.CodeAt.{AllCodeAt, IsBlock, IsValidStep, IsValidMemory, ValidMemoryOr};
 ghost use Rattle.s390x_machine.specs.Match.{EveryRun, EveryBlockRun};
@@ -26,7 +26,7 @@ ghost use Rattle.s390x_typed_steps.specs.declared.mem_inst_type.MemInstType.{Mem
 ghost use Rattle.s390x_machine.specs.Storage.{operand_address, needs_scratch, operand_step};
 ghost use Rattle.s390x_machine.specs.Aligned.{IsOwn, OwnOperand, IsOnBoundary, relative_row_of, StepAccesses, NeverMisaligned};
 ghost use Rattle.s390x_machine.specs.StepKinds.{performed_in_memory};
-ghost use Rattle.s390x_typed_steps.specs.Memory.{MemoryInstruction, memory};
+ghost use Rattle.s390x_typed_steps.specs.Memory.{MemoryInstruction, memory, type_of};
 ghost use Rattle.s390x_typed_steps.specs.Storage.{relative_bytes};
 ghost use Rattle.s390x_machine.specs.Helpers.{IsAddressable, HelpersKeep, TakesOperand};
 
@@ -87,7 +87,12 @@ pub fn helpers_where_needed()
 
 /// Helpers change nothing but `%r1`, and behind them the operand of the access has the address that the given one had before them.
 pub fn helpers_keep_the_address()
-    ensures { (L : Layout) (mi : MemInstType) (m : MemArg) → IsAddressable L m → HelpersKeep L mi m }
+    ensures { (L : Layout) (mi : MemInstType) (m : MemArg) → IsAddressable L mi m → HelpersKeep L mi m }
+{}
+
+/// The operand of each step that accesses memory is one whose address helpers keep.
+pub fn operands_are_addressable()
+    ensures { (L : Layout) → AllCodeAt L → (k : ℕ) (i : Inst) (x : MemoryInstruction) → slice_get L.steps k ≡ Some (Plain i) → memory i ≡ Some x → IsAddressable L (type_of x.form x.accesses) x.operand }
 {}
 
 /// Where the rows have a form for an operand, the one that stands in the access is of a form that they take, and its displacement lies in its range.
