@@ -1,33 +1,46 @@
--- The theorem about linked code isn't empty: a function, its finished code, a base and a machine that meet its premises.
-use Rattle.std.specs.Prelude.{◌≡◌, [], None}
+-- The theorem about linked code isn't empty: functions, their finished code, a base, symbols and a machine that meet its premises.
+use Rattle.std.specs.Prelude.{◌≡◌, List, [], None}
+use Rattle.s390x_base.specs.declared.ir.ExternalName.{ExternalName}
 use Rattle.s390x_inst.specs.declared.state.IsaFlags.{IsaFlags}
+use Rattle.s390x_buffer.specs.State.{Constant}
 use Rattle.s390x_buffer.specs.declared.entries.MachBufferFinalized.{MachBufferFinalized}
 use Rattle.s390x_image.specs.Causes.{link_cause}
-use Rattle.s390x_image.specs.Symbols.{no_symbols}
+use Rattle.s390x_image.specs.Fields.{filled}
+use Rattle.s390x_image.specs.Symbols.{Symbols, no_symbols, with_address}
 use Rattle.s390x_typed_steps.specs.Ranges.{BlocksInRange}
-use Rattle.s390x_operations.specs.State.{CodeImage, IsLoaded}
-use Rattle.s390x_machine.specs.Machine.{Run}
-use Rattle.s390x_machine.specs.Layout.{Layout, block_address}
+use Rattle.s390x_typed_steps.specs.Tree.{Tree}
+use Rattle.s390x_operations.specs.State.{Core, CodeImage, IsLoaded}
+use Rattle.s390x_machine.specs.Machine.{Transition, Run}
+use Rattle.s390x_machine.specs.Layout.{block_address}
 use Rattle.s390x_machine.specs.Functions.{function_layout}
-use Rattle.s390x_machine.specs.Example.{trees, core, trace}
+use Rattle.s390x_machine.specs.Example as Loop
+use Rattle.s390x_machine.specs.RelativeExample as Relative
 use Rattle.s390x_emit_int.specs.Function.{checked_cause, IsFinishedCode}
 use Rattle.s390x_emit_int.specs.Headline.{linked}
 
--- finished code at 4096
-abbrev pub linked_at_4096 : MachBufferFinalized → CodeImage
-linked_at_4096 code = record { base = 4096; bytes = code.bytes.items }
+-- finished code, linked at 4096
+abbrev pub linked_at_4096 : Symbols → MachBufferFinalized → CodeImage
+linked_at_4096 symbols code = record { base = 4096; bytes = filled 4096 symbols code.relocs.items code.bytes.items }
 
--- its layout there
-abbrev pub layout_at_4096 : MachBufferFinalized → Layout
-layout_at_4096 code = function_layout (linked no_symbols 4096 trees []) trees (linked_at_4096 code)
-
--- The function of two blocks has no cause, this is its finished code, and linking has no cause; the code lies in memory, and a run of the machine
--- from the first block goes round the loop, leaves it and returns.
-pub record LinkedLoopRuns : Type 0 where
+-- The function has no cause, this is its finished code, and linking has no cause; the linked code lies in memory, and this is a run of the machine from the
+-- first block.
+pub record LinkedRun (symbols : Symbols) (ts : List Tree) (cs : List Constant) (c : Core) (trace : List Transition) : Type 0 where
   pub code : MachBufferFinalized
-  pub checked : (flags : IsaFlags) → checked_cause flags trees [] ≡ None
-  pub masks : BlocksInRange trees
-  pub finished : IsFinishedCode trees [] code
-  pub linked : link_cause code 4096 no_symbols ≡ None
-  pub lies : IsLoaded (linked_at_4096 code) core.memory
-  pub run : Run (linked_at_4096 code) (record { core = core; address = block_address (layout_at_4096 code) 0 }) trace
+  pub checked : (flags : IsaFlags) → checked_cause flags ts cs ≡ None
+  pub masks : BlocksInRange ts
+  pub finished : IsFinishedCode ts cs code
+  pub linked : link_cause code 4096 symbols ≡ None
+  pub lies : IsLoaded (linked_at_4096 symbols code) c.memory
+  pub run : Run (linked_at_4096 symbols code) (record { core = c; address = block_address (function_layout (linked symbols 4096 ts cs) ts (linked_at_4096 symbols code)) 0 }) trace
+
+-- a function of two blocks: a run goes round the first block, leaves it and returns
+abbrev pub LinkedLoopRuns : Type 0
+LinkedLoopRuns = LinkedRun no_symbols Loop.trees [] Loop.core Loop.trace
+
+-- the symbol that the other function names, at 8192
+abbrev pub symbols : Symbols
+symbols = with_address no_symbols (record { 0 = 1 }) 8192
+
+-- a function with a constant, a symbol and a trap: a run loads the constant and the symbol's address, and stops by the trap
+abbrev pub LinkedTrapRuns : Type 0
+LinkedTrapRuns = LinkedRun symbols Relative.trees Relative.constants Relative.core Relative.trace

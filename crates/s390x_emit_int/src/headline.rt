@@ -10,7 +10,7 @@ ghost use Rattle.s390x_inst.specs.declared.state.IsaFlags.{IsaFlags};
 ghost use Rattle.s390x_typed_steps.specs.Tree.{Tree};
 ghost use Rattle.s390x_emit_int.specs.Function.{checked_cause, IsFinishedCode};
 ghost use Rattle.s390x_emit_int.specs.Headline.{RunsAsTyped};
-ghost use Rattle.s390x_emit_int.specs.Example.{LinkedLoopRuns};
+ghost use Rattle.s390x_emit_int.specs.Example.{LinkedLoopRuns, LinkedTrapRuns};
 
 /// Where emission finds no cause and linking none, a machine that fetches the linked code at the base does only what the typed
 /// instructions allow, from any block's start, in every state in which the code lies in memory, and under every list of
@@ -19,8 +19,10 @@ pub fn linked_code_runs_as_typed()
     ensures { (flags : IsaFlags) (ts : List Tree) (cs : List Constant) (f : MachBufferFinalized) (base : ℕ) (symbols : Symbols) → checked_cause flags ts cs ≡ None → BlocksInRange ts → IsFinishedCode ts cs f → link_cause f base symbols ≡ None → RunsAsTyped symbols ts cs (record { base = base; bytes = filled base symbols f.relocs.items f.bytes.items }) }
 {}
 
-/// The premises can be met: by the finished code of a function of two blocks, linked at 4096 and lying in memory there. The
-/// machine has a run of it that goes round a loop, leaves it and returns.
+/// The premises can be met: by the finished code of a function of two blocks, linked at 4096 and lying in memory there, of which the
+/// machine has a run that goes round a loop, leaves it and returns; and by that of a function with a constant, a symbol and a trap, of
+/// which it has a run that loads the constant and the symbol's address, and ends by the trap.
 pub fn premises_can_be_met()
-    ensures { LinkedLoopRuns }
+    ensures loop { LinkedLoopRuns }
+    ensures trap { LinkedTrapRuns }
 {}

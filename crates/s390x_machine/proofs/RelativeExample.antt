@@ -1,10 +1,7 @@
 -- The function that names a constant and a symbol meets the premises, and its run is one of the machine.
 use Rattle.std.proofs.Common.{false, zero, suc, ◌<◌, slice_get, Some, ◌≡◌, ℕ, ◌%◌, [], ◌∷◌, ◌++◌, None, refl, sym, subst, arith}
-use Rattle.s390x_base.specs.Registers.{general}
-use Rattle.s390x_base.specs.declared.regs.Reg.TheVariants.{Real}
-use Rattle.s390x_inst.specs.declared.inst.Inst.TheVariants.{Ret}
 use Rattle.s390x_inst.specs.declared.state.IsaFlags.{IsaFlags}
-use Rattle.s390x_format.specs.declared.kind.FormatKind.TheVariants.{Rr, RilB}
+use Rattle.s390x_format.specs.declared.kind.FormatKind.TheVariants.{RilB}
 use Rattle.s390x_format.specs.Layout.{number, bits, SlotsFit}
 use Rattle.s390x_format.specs.Formats.{layout_of, length_of}
 use Rattle.s390x_format.specs.Lookup.{row_for}
@@ -14,20 +11,22 @@ use Rattle.s390x_format.specs.Encoded.{IsEncoded, decoded_of}
 use Rattle.s390x_format.proofs.Encoding.{listed}
 use Rattle.s390x_typed_steps.specs.Causes.{blocks_cause}
 use Rattle.s390x_typed_steps.specs.Image.{step_offset, function_code}
-use Rattle.s390x_typed_steps.specs.MachineInstruction.{MachineInstruction, bytes_of, rr, ril_b}
+use Rattle.s390x_typed_steps.specs.MachineInstruction.{MachineInstruction, bytes_of, ril_b}
 use Rattle.s390x_typed_steps.specs.Parts.{step_parts}
 use Rattle.s390x_typed_steps.specs.Ranges.{BlocksInRange}
 use Rattle.s390x_typed_steps.specs.Steps.{Step, Plain, function_steps}
 use Rattle.s390x_operations.specs.State.{State, IsLoaded, wrapping_add64}
-use Rattle.s390x_machine.specs.Fetch.{Found}
+use Rattle.s390x_machine.specs.Fetch.{Unknown, Found, instruction_bytes}
 use Rattle.s390x_machine.specs.Functions.{function_layout, StandsAsCode}
 use Rattle.s390x_machine.specs.Semantics.{semantics_in, semantics_of}
-use Rattle.s390x_machine.specs.Machine.{Event, Executed, FetchedStep, MachineStep}
+use Rattle.s390x_machine.specs.Machine.{Event, Executed, Interrupted, FetchedStep, MachineStep, Run}
 use Rattle.s390x_machine.specs.CodeAt.{PartsReach, ConstantStands}
-use Rattle.s390x_machine.specs.RelativeExample.{image, loads, names, trees, environment, core, with_constant, with_both, RelativeRuns}
+use Rattle.s390x_machine.specs.RelativeExample.{image, loads, names, stops, trees, environment, core, with_constant, with_both, stopped, trace, RelativeRuns}
+use Rattle.s390x_operations.specs.declared.stop.StopKind.TheVariants.{Operation}
 use Rattle.s390x_machine.proofs.Checked.{checked_steps}
+use Rattle.s390x_machine.proofs.Decoding.{none_begins}
 use Rattle.s390x_machine.proofs.Fetching.{StandsAt, found_at}
-use Rattle.s390x_machine.proofs.Rows.{fits_rr, fits_ril_b, bcr_listed, larl_listed}
+use Rattle.s390x_machine.proofs.Rows.{fits_ril_b, larl_listed}
 
 -- the bytes are the function's code, and then two bytes without use and the constant
 code : image.bytes ≡ function_code environment trees ++ (0 ∷ 0 ∷ 0 ∷ 0 ∷ 0 ∷ 42 ∷ [])
@@ -42,7 +41,7 @@ checked flags = refl
 base : IsaFlags
 base = record { has_mie3 = false; has_mie4 = false; has_vxrs_ext2 = false; has_vxrs_ext3 = false }
 
-ranges : BlocksInRange trees
+pub ranges : BlocksInRange trees
 ranges = (((tt, tt), ((tt, tt), ((tt, tt), tt))), tt)
 
 -- the symbol's distance leads to it
@@ -50,7 +49,7 @@ reaches : (k : ℕ) (s : Step) → slice_get (function_steps trees) k ≡ Some s
 unfolding length_of
 reaches zero s e = let same : Plain loads ≡ s = cc in subst (λ x. PartsReach (function_layout environment trees image) (step_offset (function_steps trees) zero) (step_parts x)) same (tt, tt)
 reaches (suc zero) s e = let same : Plain names ≡ s = cc in subst (λ x. PartsReach (function_layout environment trees image) (step_offset (function_steps trees) (suc zero)) (step_parts x)) same ((omega arith, refl), tt)
-reaches (suc (suc zero)) s e = let same : Plain (Ret (Real (general 14))) ≡ s = cc in subst (λ x. PartsReach (function_layout environment trees image) (step_offset (function_steps trees) (suc (suc zero))) (step_parts x)) same (tt, tt)
+reaches (suc (suc zero)) s e = let same : Plain stops ≡ s = cc in subst (λ x. PartsReach (function_layout environment trees image) (step_offset (function_steps trees) (suc (suc zero))) (step_parts x)) same (tt, tt)
 reaches (suc (suc (suc k))) s e = absurd (cc)
 
 -- the constant stands on its boundary
@@ -86,15 +85,11 @@ step_at m o s event t even memory at stands fit listed acts = record {
 
 load_stands : StandsAt image 0 (bytes_of (ril_b 0xc4d 2 8))
 unfolding number bits layout_of length_of be_bytes
-load_stands = record { earlier = []; later = 0xc0 ∷ 0x30 ∷ 0x00 ∷ 0x00 ∷ 0x07 ∷ 0xfd ∷ 0x07 ∷ 0xfe ∷ 0x00 ∷ 0x00 ∷ 0x00 ∷ 0x00 ∷ 0x00 ∷ 0x2a ∷ []; at = refl; is = refl }
+load_stands = record { earlier = []; later = 0xc0 ∷ 0x30 ∷ 0x00 ∷ 0x00 ∷ 0x07 ∷ 0xfd ∷ 0x00 ∷ 0x00 ∷ 0x00 ∷ 0x00 ∷ 0x00 ∷ 0x00 ∷ 0x00 ∷ 0x2a ∷ []; at = refl; is = refl }
 
 address_stands : StandsAt image 6 (bytes_of (ril_b 0xc00 3 2045))
 unfolding number bits layout_of length_of be_bytes
-address_stands = record { earlier = 0xc4 ∷ 0x2d ∷ 0x00 ∷ 0x00 ∷ 0x00 ∷ 0x08 ∷ []; later = 0x07 ∷ 0xfe ∷ 0x00 ∷ 0x00 ∷ 0x00 ∷ 0x00 ∷ 0x00 ∷ 0x2a ∷ []; at = refl; is = refl }
-
-return_stands : StandsAt image 12 (bytes_of (rr 0x07 15 14))
-unfolding number bits layout_of length_of be_bytes
-return_stands = record { earlier = 0xc4 ∷ 0x2d ∷ 0x00 ∷ 0x00 ∷ 0x00 ∷ 0x08 ∷ 0xc0 ∷ 0x30 ∷ 0x00 ∷ 0x00 ∷ 0x07 ∷ 0xfd ∷ []; later = 0x00 ∷ 0x00 ∷ 0x00 ∷ 0x00 ∷ 0x00 ∷ 0x2a ∷ []; at = refl; is = refl }
+address_stands = record { earlier = 0xc4 ∷ 0x2d ∷ 0x00 ∷ 0x00 ∷ 0x00 ∷ 0x08 ∷ []; later = 0x00 ∷ 0x00 ∷ 0x00 ∷ 0x00 ∷ 0x00 ∷ 0x00 ∷ 0x00 ∷ 0x2a ∷ []; at = refl; is = refl }
 
 lrl_listed : (a half : ℕ) → IsEncoded machine_rows RilB (ril_b 0xc4d a half).slots
 unfolding machine_rows row_for
@@ -106,19 +101,24 @@ load_step s t memory at acts = step_at (ril_b 0xc4d 2 8) 0 s (Executed None) t r
 address_step : (s t : State) → s.core.memory ≡ core.memory → s.address ≡ 4102 → FetchedStep (Found (decoded_of RilB (ril_b 0xc00 3 2045).slots)) s (Executed None) t → MachineStep s (Executed None) t
 address_step s t memory at acts = step_at (ril_b 0xc00 3 2045) 6 s (Executed None) t refl memory at address_stands (fits_ril_b 0xc00 3 2045 (omega arith) (omega arith) (omega arith)) (larl_listed 3 2045) acts
 
-return_step : (s t : State) → s.core.memory ≡ core.memory → s.address ≡ 4108 → FetchedStep (Found (decoded_of Rr (rr 0x07 15 14).slots)) s (Executed None) t → MachineStep s (Executed None) t
-return_step s t memory at acts = step_at (rr 0x07 15 14) 12 s (Executed None) t refl memory at return_stands (fits_rr 0x07 15 14 (omega arith) (omega arith) (omega arith)) (bcr_listed 15 14) acts
+-- no row begins with a byte of zeros
+stop_step : MachineStep stopped (Interrupted Operation) stopped
+stop_step = record {
+  fetched = Unknown;
+  fetches = (refl, (tt, tt), λ d h. none_begins (instruction_bytes core.memory 4108) d h refl);
+  acts = (refl, refl);
+}
 
-pub relative_runs : RelativeRuns
+run : Run image (record { core = core; address = 4096 }) trace
 unfolding length_of semantics_in semantics_of
-relative_runs = (
-  stands,
-  is_loaded,
+run = (
+  record { may = tt; goes = load_step (record { core = core; address = 4096 }) (record { core = with_constant; address = 4102 }) refl refl (record { reached = refl; allowed = refl; results = refl; code = refl; memory = refl }, refl, refl) },
   (
-    record { may = tt; goes = load_step (record { core = core; address = 4096 }) (record { core = with_constant; address = 4102 }) refl refl (record { reached = refl; allowed = refl; results = refl; code = refl; memory = refl }, refl, refl) },
-    (
-      record { may = tt; goes = address_step (record { core = with_constant; address = 4102 }) (record { core = with_both; address = 4108 }) refl refl (record { reached = refl; allowed = refl; results = refl; code = refl; memory = refl }, refl, refl) },
-      (record { may = tt; goes = return_step (record { core = with_both; address = 4108 }) (record { core = with_both; address = 8192 }) refl refl (refl, refl, refl) }, tt),
-    ),
+    record { may = tt; goes = address_step (record { core = with_constant; address = 4102 }) (record { core = with_both; address = 4108 }) refl refl (record { reached = refl; allowed = refl; results = refl; code = refl; memory = refl }, refl, refl) },
+    (record { may = tt; goes = stop_step }, tt),
   ),
 )
+
+pub relative_runs : RelativeRuns
+unfolding length_of
+relative_runs = record { stands = stands; lies = is_loaded; run = run; code = refl }

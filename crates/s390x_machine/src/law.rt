@@ -75,7 +75,8 @@ pub fn a_loop_runs()
     ensures { LoopRuns }
 {}
 
-/// They can also be met with a constant and a symbol that are named by their distances: the code in memory, and a run that loads both.
+/// They can also be met with a constant and a symbol that are named by their distances, and a trap: the code in memory, and a run that loads both and stops
+/// with the trap's code.
 pub fn a_constant_is_loaded()
     ensures { RelativeRuns }
 {}
