@@ -4,9 +4,8 @@ use Rattle.s390x_inst.specs.declared.state.IsaFlags.{IsaFlags}
 use Rattle.s390x_buffer.specs.State.{Constant, new_cause}
 use Rattle.s390x_buffer.specs.declared.entries.MachBufferFinalized.{MachBufferFinalized}
 use Rattle.s390x_image.specs.Causes.{link_cause}
-use Rattle.s390x_image.specs.Fields.{filled}
 use Rattle.s390x_image.specs.Symbols.{Symbols}
-use Rattle.s390x_operations.specs.State.{CodeImage}
+use Rattle.s390x_machine.specs.CodeAt.{AllCodeAt}
 use Rattle.s390x_machine.specs.Functions.{function_layout}
 use Rattle.s390x_machine.proofs.Functions.{function_placed}
 use Rattle.s390x_machine.proofs.Instructions.{block_holds}
@@ -16,15 +15,21 @@ use Rattle.s390x_typed_steps.specs.Tree.{Tree}
 use Rattle.s390x_typed_steps.specs.Causes.{first_emit_cause, declared_of, blocks_cause}
 use Rattle.s390x_typed_steps.proofs.Causes.{first_left, first_right}
 use Rattle.s390x_emit_int.specs.Function.{checked_cause, code_length_cause, IsFinishedCode}
-use Rattle.s390x_emit_int.specs.Headline.{linked, RunsAsTyped}
+use Rattle.s390x_emit_int.specs.Headline.{linked, linked_image, RunsAsTyped}
 use Rattle.s390x_emit_int.proofs.Linking.{stands_as_code}
 
-pub runs_as_typed : (flags : IsaFlags) (ts : List Tree) (cs : List Constant) (f : MachBufferFinalized) (base : ℕ) (symbols : Symbols) → checked_cause flags ts cs ≡ None → BlocksInRange ts → IsFinishedCode ts cs f → link_cause f base symbols ≡ None → RunsAsTyped symbols ts cs (record { base = base; bytes = filled base symbols f.relocs.items f.bytes.items })
-runs_as_typed flags ts cs f base symbols passes ranges image links b lt =
+-- the steps of linked code stand where its layout says, as emission has checked them
+pub is_placed : (flags : IsaFlags) (ts : List Tree) (cs : List Constant) (f : MachBufferFinalized) (base : ℕ) (symbols : Symbols) → checked_cause flags ts cs ≡ None → BlocksInRange ts → IsFinishedCode ts cs f → link_cause f base symbols ≡ None →
+    AllCodeAt (function_layout (linked symbols base ts cs) ts (linked_image f base symbols))
+is_placed flags ts cs f base symbols passes ranges image links =
     let environment = linked symbols base ts cs in
-    let code : CodeImage = record { base = base; bytes = filled base symbols f.relocs.items f.bytes.items } in
+    let code = linked_image f base symbols in
     let n = length ts + length cs in
     let D = declared_of ts cs in
     let checked : blocks_cause flags D n ts ≡ None = first_left _ _ (first_right (new_cause (length ts) cs) (first_emit_cause (blocks_cause flags D n ts) (code_length_cause ts cs)) passes) in
-    let stands = stands_as_code flags ts cs f base symbols passes image links (λ image. checked_steps flags environment ts n image checked ranges) in
-    block_holds (function_layout environment ts code) (function_placed environment ts code stands) b lt
+    function_placed environment ts code (stands_as_code flags ts cs f base symbols passes image links (λ image. checked_steps flags environment ts n image checked ranges))
+
+pub runs_as_typed : (flags : IsaFlags) (ts : List Tree) (cs : List Constant) (f : MachBufferFinalized) (base : ℕ) (symbols : Symbols) → checked_cause flags ts cs ≡ None → BlocksInRange ts → IsFinishedCode ts cs f → link_cause f base symbols ≡ None → RunsAsTyped symbols ts cs (linked_image f base symbols)
+runs_as_typed flags ts cs f base symbols passes ranges image links b lt =
+    let code = linked_image f base symbols in
+    block_holds (function_layout (linked symbols base ts cs) ts code) (is_placed flags ts cs f base symbols passes ranges image links) b lt

@@ -5,22 +5,17 @@ use Rattle.s390x_inst.specs.declared.state.IsaFlags.{IsaFlags}
 use Rattle.s390x_buffer.specs.State.{Constant}
 use Rattle.s390x_buffer.specs.declared.entries.MachBufferFinalized.{MachBufferFinalized}
 use Rattle.s390x_image.specs.Causes.{link_cause}
-use Rattle.s390x_image.specs.Fields.{filled}
 use Rattle.s390x_image.specs.Symbols.{Symbols, no_symbols, with_address}
 use Rattle.s390x_typed_steps.specs.Ranges.{BlocksInRange}
 use Rattle.s390x_typed_steps.specs.Tree.{Tree}
-use Rattle.s390x_operations.specs.State.{Core, CodeImage, IsLoaded}
+use Rattle.s390x_operations.specs.State.{Core, IsLoaded}
 use Rattle.s390x_machine.specs.Machine.{Transition, Run}
 use Rattle.s390x_machine.specs.Layout.{block_address}
 use Rattle.s390x_machine.specs.Functions.{function_layout}
 use Rattle.s390x_machine.specs.Example as Loop
 use Rattle.s390x_machine.specs.RelativeExample as Relative
 use Rattle.s390x_emit_int.specs.Function.{checked_cause, IsFinishedCode}
-use Rattle.s390x_emit_int.specs.Headline.{linked}
-
--- finished code, linked at 4096
-abbrev pub linked_at_4096 : Symbols → MachBufferFinalized → CodeImage
-linked_at_4096 symbols code = record { base = 4096; bytes = filled 4096 symbols code.relocs.items code.bytes.items }
+use Rattle.s390x_emit_int.specs.Headline.{linked, linked_image}
 
 -- The function has no cause, this is its finished code, and linking has no cause; the linked code lies in memory, and this is a run of the machine from the
 -- first block.
@@ -30,8 +25,8 @@ pub record LinkedRun (symbols : Symbols) (ts : List Tree) (cs : List Constant) (
   pub masks : BlocksInRange ts
   pub finished : IsFinishedCode ts cs code
   pub linked : link_cause code 4096 symbols ≡ None
-  pub lies : IsLoaded (linked_at_4096 symbols code) c.memory
-  pub run : Run (linked_at_4096 symbols code) (record { core = c; address = block_address (function_layout (linked symbols 4096 ts cs) ts (linked_at_4096 symbols code)) 0 }) trace
+  pub lies : IsLoaded (linked_image code 4096 symbols) c.memory
+  pub run : Run (linked_image code 4096 symbols) (record { core = c; address = block_address (function_layout (linked symbols 4096 ts cs) ts (linked_image code 4096 symbols)) 0 }) trace
 
 -- a function of two blocks: a run goes round the first block, leaves it and returns
 abbrev pub LinkedLoopRuns : Type 0

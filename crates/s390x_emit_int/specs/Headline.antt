@@ -5,6 +5,8 @@ use Rattle.s390x_typed_steps.specs.Causes.{aligns_of}
 use Rattle.s390x_typed_steps.specs.Image.{constant_offset}
 use Rattle.s390x_typed_steps.specs.Rows.{LinkEnvironment}
 use Rattle.s390x_typed_steps.specs.Tree.{Tree}
+use Rattle.s390x_buffer.specs.declared.entries.MachBufferFinalized.{MachBufferFinalized}
+use Rattle.s390x_image.specs.Fields.{filled}
 use Rattle.s390x_image.specs.Symbols.{Symbols}
 use Rattle.s390x_image.specs.Values.{symbol_value, symbol_distance}
 use Rattle.s390x_operations.specs.State.{CodeImage}
@@ -14,6 +16,10 @@ use Rattle.s390x_machine.specs.Match.{EveryBlockRun}
 -- the link environment of a function that is linked at a base, with these symbols
 abbrev pub linked : Symbols → (base : ℕ) → List Tree → List Constant → LinkEnvironment
 linked symbols base ts cs = record { constant = constant_offset ts cs; aligns = aligns_of cs; symbol_value = symbol_value symbols; symbol_distance = symbol_distance base symbols }
+
+-- finished code linked at a base, as an image
+abbrev pub linked_image : MachBufferFinalized → (base : ℕ) → Symbols → CodeImage
+linked_image f base symbols = record { base = base; bytes = filled base symbols f.relocs.items f.bytes.items }
 
 -- Symbols have these addresses. From the start of any block, in every state in which the image lies in memory at its base, and under every list of others' writes,
 -- every run of the machine does only what the typed instructions allow, until it returns, stops by a trap or at a `Debugtrap`, or a typed step is wrong.
