@@ -30,6 +30,6 @@ pub fn linked_code_runs_as_typed()
 /// machine has a run that goes round a loop, leaves it and returns; and by that of a function with a constant, a symbol and a trap, of
 /// which it has a run that loads the constant and the symbol's address, and ends by the trap.
 pub fn premises_can_be_met()
-    ensures loop { LinkedLoopRuns }
-    ensures trap { LinkedTrapRuns }
+    ensures goes_round { LinkedLoopRuns }
+    ensures stops { LinkedTrapRuns }
 {}

@@ -13,16 +13,22 @@ use Rattle.s390x_inst.specs.declared.ops.RxSBGOp.{RxSBGOp}
 use Rattle.s390x_inst.specs.declared.ops.RxSBGOp.TheVariants.{Insert, And}
 use Rattle.s390x_inst.specs.declared.ops.UnaryOp.TheVariants.{Abs32}
 use Rattle.s390x_inst.specs.declared.inst.Inst.{Inst}
-use Rattle.s390x_inst.specs.declared.inst.Inst.TheVariants.{AluRRR, AluRR, AluRRSImm16, AluRSImm16, AluRSImm32, AluRUImm32, AluRUImm16Shifted, AluRUImm32Shifted, ShiftRR, RxSBG, RxSBGTest, UnaryRR, SMulWide, UMulWide, Flogr, SDivMod32, SDivMod64, UDivMod32, UDivMod64, CmpRR, CmpRSImm16, CmpRSImm32, CmpRUImm32, CmpTrapRR, CmpTrapRSImm16, CmpTrapRUImm16, Mov64UImm16Shifted, Mov64UImm32Shifted, Insert64UImm16Shifted, Insert64UImm32Shifted, Extend, LoadIndexedAddr, LoadLogicalIndexedAddr, Mov64, MovPReg, Mov32, Mov32Imm, Mov32SImm16, Mov64SImm16, Mov64SImm32, CMov32, CMov64, CMov32SImm16, CMov64SImm16, LoadAR, InsertAR, AluRX, CmpRX, LoadMultiple64, StoreMultiple64, LoadAddr, AtomicRmw, AtomicCas32, AtomicCas64, Load32, Load32ZExt8, Load32SExt8, Load32ZExt16, Load32SExt16, Load64, Load64ZExt8, Load64SExt8, Load64ZExt16, Load64SExt16, Load64ZExt32, Load64SExt32, LoadRev16, LoadRev32, LoadRev64, Store8, Store16, Store32, Store64, StoreRev16, StoreRev32, StoreRev64, StoreImm8, StoreImm16, StoreImm32SExt16, StoreImm64SExt16}
+use Rattle.s390x_inst.specs.declared.inst.Inst.TheVariants.{AluRRR, AluRR, AluRRSImm16, AluRSImm16, AluRSImm32, AluRUImm32, AluRUImm16Shifted, AluRUImm32Shifted, ShiftRR, RxSBG, RxSBGTest, UnaryRR, SMulWide, UMulWide, Flogr, SDivMod32, SDivMod64, UDivMod32, UDivMod64, CmpRR, CmpRSImm16, CmpRSImm32}
+use Rattle.s390x_inst.specs.declared.inst.Inst.TheVariants.{CmpRUImm32, CmpTrapRR, CmpTrapRSImm16, CmpTrapRUImm16, Mov64UImm16Shifted, Mov64UImm32Shifted, Insert64UImm16Shifted, Insert64UImm32Shifted, Extend, LoadIndexedAddr, LoadLogicalIndexedAddr, Mov64, MovPReg, Mov32, Mov32Imm, Mov32SImm16}
+use Rattle.s390x_inst.specs.declared.inst.Inst.TheVariants.{Mov64SImm16, Mov64SImm32, CMov32, CMov64, CMov32SImm16, CMov64SImm16, LoadAR, InsertAR, AluRX, CmpRX, LoadMultiple64, StoreMultiple64, LoadAddr, AtomicRmw, AtomicCas32, AtomicCas64, Load32, Load32ZExt8, Load32SExt8, Load32ZExt16}
+use Rattle.s390x_inst.specs.declared.inst.Inst.TheVariants.{Load32SExt16, Load64, Load64ZExt8, Load64SExt8, Load64ZExt16, Load64SExt16, Load64ZExt32, Load64SExt32, LoadRev16, LoadRev32, LoadRev64, Store8, Store16, Store32, Store64, StoreRev16, StoreRev32, StoreRev64, StoreImm8, StoreImm16}
+use Rattle.s390x_inst.specs.declared.inst.Inst.TheVariants.{StoreImm32SExt16, StoreImm64SExt16}
 use Rattle.s390x_typed_steps.specs.MachineInstruction.{MachineInstruction}
 use Rattle.s390x_typed_steps.specs.SingleInstruction.{single_instruction, single_with, two_row, three_row, halfword_row, word_row, three_halfword_row, masked_row, masked_halfword_row, indexed_row}
-use Rattle.s390x_typed_steps.specs.Opcodes.{alu_three, alu_two, cmp_two, cmp_trap, cmp_trap_signed, cmp_trap_unsigned, alu_halfword, alu_three_halfword, alu_signed_word, alu_unsigned_word, cmp_halfword, cmp_signed_word, cmp_unsigned_word, of_one, of_two, of_four, alu_part, alu_half, load_part, load_half, insert_part, insert_half, extend_two, rotate_then_test, indexed_opcode, logical_indexed_opcode}
+use Rattle.s390x_typed_steps.specs.Opcodes.{alu_three, alu_two, cmp_two, cmp_trap, cmp_trap_signed, cmp_trap_unsigned, alu_halfword, alu_three_halfword, alu_signed_word, alu_unsigned_word, cmp_halfword, cmp_signed_word, cmp_unsigned_word, of_one, of_two, of_four, alu_part, alu_half, load_part}
+use Rattle.s390x_typed_steps.specs.Opcodes.{load_half, insert_part, insert_half, extend_two, rotate_then_test, indexed_opcode, logical_indexed_opcode}
 use Rattle.s390x_typed_steps.specs.Storage.{alu_rx, alu_rxy, atomic_rsy}
 use Rattle.s390x_typed_steps.specs.Memory.{operate, load_and_operate, memory}
 use Rattle.s390x_text.specs.Texts.{Text, row}
 use Rattle.s390x_base.specs.declared.regs.Reg.TheVariants.{Real, Virtual}
 use Rattle.s390x_text.specs.Operands.{is_reg, pair_cause}
-use Rattle.s390x_text.specs.Mnemonics.{alu_three_name, alu_two_name, alu_halfword_name, alu_three_halfword_name, alu_signed_word_name, alu_unsigned_word_name, alu_short_name, alu_long_name, atomic_name, cmp_short_name, cmp_long_name, cmp_relative_name, cmp_two_name, cmp_halfword_name, cmp_signed_word_name, cmp_unsigned_word_name, cmp_trap_name, cmp_trap_signed_name, cmp_trap_unsigned_name, rotate_name, rotate_test_name}
+use Rattle.s390x_text.specs.Mnemonics.{alu_three_name, alu_two_name, alu_halfword_name, alu_three_halfword_name, alu_signed_word_name, alu_unsigned_word_name, alu_short_name, alu_long_name, atomic_name, cmp_short_name, cmp_long_name, cmp_relative_name, cmp_two_name, cmp_halfword_name}
+use Rattle.s390x_text.specs.Mnemonics.{cmp_signed_word_name, cmp_unsigned_word_name, cmp_trap_name, cmp_trap_signed_name, cmp_trap_unsigned_name, rotate_name, rotate_test_name}
 use Rattle.s390x_text.specs.Integer.{three_text, conditional_row, one_of_two, one_of_four, only_one, alu_part_name, alu_half_name, load_part_name, load_half_name, insert_part_name, insert_half_name, extend_name, indexed_name, logical_indexed_name, arithmetic_text, pair_instruction_text, compare_text, move_text}
 use Rattle.s390x_text.specs.Storage.{rx, rs, has_row, address_cause, load_text, store_text, storage_operator_text}
 use Rattle.s390x_text.specs.Agreement.{has_row_text, Agrees, RowsAgree}

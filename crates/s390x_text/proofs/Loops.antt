@@ -10,7 +10,7 @@ use Rattle.s390x_inst.specs.declared.inst.Inst.TheBlock.{hidden-the_row-Inst-0}
 use Rattle.s390x_inst.specs.declared.inst.Inst.TheOpen as O
 use Rattle.s390x_inst.specs.declared.inst.Inst.TheViews as V
 use denote.Hole.Carrier
-use Rattle.s390x_text.specs.Texts.{Text, first, both, Blames}
+use Rattle.s390x_text.specs.Texts.{Text, first, both, RefusedBy}
 use Rattle.s390x_text.specs.declared.error.TextError.{TextError}
 use Rattle.s390x_text.specs.declared.error.TextError.TheVariants.{NoRow, Virtual, BadPair, Address, NoMemory}
 use Rattle.s390x_text.specs.Instructions.{leaf_text, leaf_after, after, row_after, insts_after, followed, has_none, inst_text, row_text, insts_text, looped}
@@ -23,12 +23,12 @@ more_texts F g law xs i z d old out new h e n inv =
     ap (λ t. t ++ rest) n ∙ append_assoc out (g d) rest ∙ ap (λ t. out ++ t) (sym a) ∙ inv
 
 -- what is blamed on a text is blamed on it and what follows
-pub blames_first : (a b : Option TextError) (e : TextError) → Blames a e → Blames (first a b) e
-blames_first a b NoRow h = ap (λ q. first q b) h
-blames_first a b Virtual h = ap (λ q. first q b) h
-blames_first a b BadPair h = ap (λ q. first q b) h
-blames_first a b (Address c) h = ap (λ q. first q b) h
-blames_first a b NoMemory h = tt
+pub refused_first : (a b : Option TextError) (e : TextError) → RefusedBy a e → RefusedBy (first a b) e
+refused_first a b NoRow h = ap (λ q. first q b) h
+refused_first a b Virtual h = ap (λ q. first q b) h
+refused_first a b BadPair h = ap (λ q. first q b) h
+refused_first a b (Address c) h = ap (λ q. first q b) h
+refused_first a b NoMemory h = tt
 
 -- a loop that prints the text of each element of a list
 pub more_bytes : {X : Type 0} (F : List X → Text) (g : X → Text) → ((x : X) (xs : List X) → F (x ∷ xs) ≡ both (g x) (F xs)) → (xs : List X) (i : ℕ) (z d : X) (old out new : List ℕ) → i < length xs → d ≡ get_or xs i z → new ≡ out ++ (g d).bytes → out ++ (F (drop i xs)).bytes ≡ old → new ++ (F (drop (i + 1) xs)).bytes ≡ old
@@ -42,9 +42,9 @@ pub more_causes : {X : Type 0} (F : List X → Text) (g : X → Text) → ((x : 
 more_causes F g law xs i z d c h e n inv =
     sym (ap (λ p. first p (F (drop (i + 1) xs)).cause) n) ∙ ap (λ t. t.cause) (sym (more_item F g law xs i z d h e)) ∙ inv
 
-pub more_stops : {X : Type 0} (F : List X → Text) (g : X → Text) → ((x : X) (xs : List X) → F (x ∷ xs) ≡ both (g x) (F xs)) → (xs : List X) (i : ℕ) (z d : X) (c : Option TextError) (error : TextError) → i < length xs → d ≡ get_or xs i z → Blames (g d).cause error → (F (drop i xs)).cause ≡ c → Blames c error
+pub more_stops : {X : Type 0} (F : List X → Text) (g : X → Text) → ((x : X) (xs : List X) → F (x ∷ xs) ≡ both (g x) (F xs)) → (xs : List X) (i : ℕ) (z d : X) (c : Option TextError) (error : TextError) → i < length xs → d ≡ get_or xs i z → RefusedBy (g d).cause error → (F (drop i xs)).cause ≡ c → RefusedBy c error
 more_stops F g law xs i z d c error h e b inv =
-    subst (λ r. Blames r error) (ap (λ t. t.cause) (sym (more_item F g law xs i z d h e)) ∙ inv) (blames_first (g d).cause (F (drop (i + 1) xs)).cause error b)
+    subst (λ r. RefusedBy r error) (ap (λ t. t.cause) (sym (more_item F g law xs i z d h e)) ∙ inv) (refused_first (g d).cause (F (drop (i + 1) xs)).cause error b)
 
 -- the instruction at an index, and those behind it
 item : (d : Inst) (is : List Inst) (k : ℕ) → k < length is → d ≡ get_or is k d → drop k is ≡ d ∷ drop (k + 1) is
@@ -75,11 +75,11 @@ state_goes_on e f g d is k h q a inv =
     ap (λ s. insts_after s (drop (k + 1) is)) a ∙ ap (insts_after e) (sym (item d is k h q)) ∙ inv
 
 -- an instruction is refused, and so are those from it on
-pub stops : (depth : ℕ) (e : Emission) (d : Inst) (is : List Inst) (k : ℕ) (c : Option TextError) (error : TextError) → k < length is → d ≡ get_or is k d → Blames (inst_text depth e d).cause error → (insts_text depth e (drop k is)).cause ≡ c → Blames c error
+pub stops : (depth : ℕ) (e : Emission) (d : Inst) (is : List Inst) (k : ℕ) (c : Option TextError) (error : TextError) → k < length is → d ≡ get_or is k d → RefusedBy (inst_text depth e d).cause error → (insts_text depth e (drop k is)).cause ≡ c → RefusedBy c error
 stops depth e d is k c error h q b inv =
     let x = item d is k h q in
-    let p = blames_first (inst_text depth e d).cause (insts_text depth (after e d) (drop (k + 1) is)).cause error b in
-    subst (λ r. Blames r error) (ap (λ l. (insts_text depth e l).cause) (sym x) ∙ inv) p
+    let p = refused_first (inst_text depth e d).cause (insts_text depth (after e d) (drop (k + 1) is)).cause error b in
+    subst (λ r. RefusedBy r error) (ap (λ l. (insts_text depth e l).cause) (sym x) ∙ inv) p
 
 -- ---- loops
 

@@ -45,13 +45,13 @@ row None xs = record { cause = Some NoRow; bytes = [] }
 row (Some mnemonic) xs = fixed (spelled mnemonic xs)
 
 -- an error is the cause, or want of memory
-abbrev pub Blames : Option TextError → TextError → Type 0
-Blames cause NoMemory = ⊤
-Blames cause e = cause ≡ Some e
+abbrev pub RefusedBy : Option TextError → TextError → Type 0
+RefusedBy cause NoMemory = ⊤
+RefusedBy cause e = cause ≡ Some e
 
 -- what a call answers that appends a text
 abbrev pub Prints : {T : Type 0} → Result T TextError → (old new : List ℕ) → Text → Type 0
-Prints result old new t = MatchResult result (λ _. (t.cause ≡ None) × (new ≡ old ++ t.bytes)) (λ e. Blames t.cause e)
+Prints result old new t = MatchResult result (λ _. (t.cause ≡ None) × (new ≡ old ++ t.bytes)) (λ e. RefusedBy t.cause e)
 
 -- the same of a call that appends a text where there is one, and otherwise appends nothing
 abbrev pub PrintsWhere : {T : Type 0} → Option (Result T TextError) → (old new : List ℕ) → Option Text → Type 0

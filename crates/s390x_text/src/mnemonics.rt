@@ -1,7 +1,8 @@
 //! The mnemonics of integer operators, by the form of their operands.
 ghost use Rattle.std.specs.Prelude.{◌≡◌};
 ghost use Rattle.std.specs.Option.{option_map};
-ghost use Rattle.s390x_text.specs.Mnemonics.{alu_three_name, alu_two_name, alu_halfword_name, alu_three_halfword_name, alu_signed_word_name, alu_unsigned_word_name, alu_short_name, alu_long_name, atomic_name, cmp_two_name, cmp_halfword_name, cmp_signed_word_name, cmp_unsigned_word_name, cmp_short_name, cmp_long_name, cmp_relative_name, cmp_trap_name, cmp_trap_signed_name, cmp_trap_unsigned_name, shift_name, rotate_name, rotate_test_name, unary_name};
+ghost use Rattle.s390x_text.specs.Mnemonics.{alu_three_name, alu_two_name, alu_halfword_name, alu_three_halfword_name, alu_signed_word_name, alu_unsigned_word_name, alu_short_name, alu_long_name, atomic_name, cmp_two_name, cmp_halfword_name, cmp_signed_word_name, cmp_unsigned_word_name};
+ghost use Rattle.s390x_text.specs.Mnemonics.{cmp_short_name, cmp_long_name, cmp_relative_name, cmp_trap_name, cmp_trap_signed_name, cmp_trap_unsigned_name, shift_name, rotate_name, rotate_test_name, unary_name};
 
 use s390x_inst::{ALUOp, CmpOp, RxSBGOp, ShiftOp, UnaryOp};
 

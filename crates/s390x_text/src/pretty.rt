@@ -1,6 +1,6 @@
 //! The text of an instruction.
 ghost use Rattle.std.specs.Prelude.{◌≡◌, ◌+◌, ◌==◌, ◌++◌, length, codes, None, IfOk, OnOk, OnErr, MatchResult, string_bytes};
-ghost use Rattle.s390x_text.specs.Texts.{Blames, Prints, before_semicolon};
+ghost use Rattle.s390x_text.specs.Texts.{RefusedBy, Prints, before_semicolon};
 ghost use Rattle.s390x_text.specs.Operands.{cond_text};
 ghost use Rattle.s390x_text.specs.Instructions.{leaf_text, leaf_after, after, insts_after, inst_text, insts_text, looped, back_text};
 
@@ -157,7 +157,7 @@ pub fn pretty_print_inst(
     inst: &Inst,
     state: &mut EmitState,
 ) -> Result<String, TextError>
-    ensures answer { MatchResult result (λ s. ((inst_text 0 state.old inst.now).cause ≡ None) × (string_bytes s ≡ (inst_text 0 state.old inst.now).bytes)) (λ e. Blames (inst_text 0 state.old inst.now).cause e) }
+    ensures answer { MatchResult result (λ s. ((inst_text 0 state.old inst.now).cause ≡ None) × (string_bytes s ≡ (inst_text 0 state.old inst.now).bytes)) (λ e. RefusedBy (inst_text 0 state.old inst.now).cause e) }
     ensures after { IfOk result (λ _. state.new ≡ after state.old inst.now) }
     ensures left { OnErr result (state.new ≡ state.old) }
 {

@@ -1,7 +1,7 @@
 //! The texts of operands by themselves.
 ghost use Rattle.std.specs.Prelude.{◌≡◌, ◌++◌, None, MatchResult, string_bytes};
 ghost use Rattle.std.specs.Fmt.{decimal, signed_decimal};
-ghost use Rattle.s390x_text.specs.Texts.{Text, Blames, fixed};
+ghost use Rattle.s390x_text.specs.Texts.{Text, RefusedBy, fixed};
 ghost use Rattle.s390x_text.specs.Operands.{cond_text};
 ghost use Rattle.s390x_text.specs.Storage.{operand_alone};
 
@@ -19,7 +19,7 @@ pub trait PrettyPrint {
 
     /// The text, or its cause of refusal (cranelift-codegen, `args.rs` and `imms.rs`).
     fn pretty_print(&self, alloc: Global) -> Result<String, TextError>
-        ensures { MatchResult result (λ s. ((text self.now).cause ≡ None) × (string_bytes s ≡ (text self.now).bytes)) (λ e. Blames (text self.now).cause e) };
+        ensures { MatchResult result (λ s. ((text self.now).cause ≡ None) × (string_bytes s ≡ (text self.now).bytes)) (λ e. RefusedBy (text self.now).cause e) };
 }
 
 /// `D(X,B)`, without a register that is `%r0`; `labelN`, `[const(N)]` or `uN + OFFSET`. `Virtual` exactly where the operand is an offset from a register or

@@ -2,7 +2,7 @@
 ghost use Rattle.std.specs.Prelude.{◌≡◌, MatchResult, IfOk, MatchOption, None, Some, string_bytes};
 ghost use Rattle.s390x_words.specs.Atoms.{reg_text};
 ghost use Rattle.std.specs.Option.{option_map};
-ghost use Rattle.s390x_text.specs.Texts.{Blames};
+ghost use Rattle.s390x_text.specs.Texts.{RefusedBy};
 ghost use Rattle.s390x_text.specs.Operands.{float_of, is_float, pair_text, pair_cause, reused_text, reused_pair_text, reused_low_text};
 
 use crate::error::TextError;
@@ -81,7 +81,7 @@ pub fn pair_refusal(pair: RegPair) -> Option<TextError>
 /// The text of a pair: its first register, and where one is virtual both, as `%i0/%i1`. `BadPair` exactly where both are real and the number
 /// of the second isn't that of the first plus 1 (cranelift-codegen, `regs.rs`).
 pub fn pretty_print_regpair(alloc: Global, pair: RegPair) -> Result<String, TextError>
-    ensures { MatchResult result (λ s. (pair_cause pair.hi pair.lo ≡ None) × (string_bytes s ≡ pair_text pair.hi pair.lo)) (λ e. Blames (pair_cause pair.hi pair.lo) e) }
+    ensures { MatchResult result (λ s. (pair_cause pair.hi pair.lo ≡ None) × (string_bytes s ≡ pair_text pair.hi pair.lo)) (λ e. RefusedBy (pair_cause pair.hi pair.lo) e) }
 {
     match pair_refusal(pair) {
         Some(error) => Err(error),

@@ -2,7 +2,7 @@
 ghost use Rattle.std.specs.Prelude.{◌≡◌, ◌++◌, ◌∷◌, [], codes, OnOk, MatchResult, None, Some, string_bytes};
 ghost use Rattle.std.specs.Option.{option_map};
 ghost use Rattle.s390x_typed_steps.specs.Operands.{finalized, resolved};
-ghost use Rattle.s390x_text.specs.Texts.{Blames, Prints};
+ghost use Rattle.s390x_text.specs.Texts.{RefusedBy, Prints};
 ghost use Rattle.s390x_text.specs.Storage.{sum_text, memory_text, is_virtual, rx, rs, address_rows, rows_of, has_row, type_of_rows, name_at, helper_text, helpers_text, access, access_cause};
 
 use crate::error::TextError;
@@ -229,7 +229,8 @@ fn open(
     state: &EmitState,
     mem: &MemArg,
 ) -> Result<MemArg, TextError>
-    ensures { MatchResult result (λ m. (access_cause (rows_of rows.now) (resolved state.now mem.now) ≡ None) × (m ≡ (finalized (type_of_rows (rows_of rows.now)) (resolved state.now mem.now)).operand) × (string_bytes out.new ≡ string_bytes out.old ++ helpers_text (finalized (type_of_rows (rows_of rows.now)) (resolved state.now mem.now)).helpers)) (λ e. Blames (access_cause (rows_of rows.now) (resolved state.now mem.now)) e) }
+    ensures { MatchResult result (λ m. (access_cause (rows_of rows.now) (resolved state.now mem.now) ≡ None) × (m ≡ (finalized (type_of_rows (rows_of rows.now)) (resolved state.now mem.now)).operand)
+        × (string_bytes out.new ≡ string_bytes out.old ++ helpers_text (finalized (type_of_rows (rows_of rows.now)) (resolved state.now mem.now)).helpers)) (λ e. RefusedBy (access_cause (rows_of rows.now) (resolved state.now mem.now)) e) }
 {
     if !rows.has_row() {
         return Err(TextError::NoRow);

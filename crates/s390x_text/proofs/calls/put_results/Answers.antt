@@ -1,5 +1,5 @@
 use Rattle.std.proofs.Common.{string_bytes, refl, arith}
-use Rattle.s390x_text.specs.Texts.{Blames}
+use Rattle.s390x_text.specs.Texts.{RefusedBy}
 use Rattle.s390x_text.specs.Calls.{result_text, results_text}
 use Rattle.s390x_text.proofs.Loops.{more_bytes, more_causes, more_stops, again}
 use Rattle.s390x_text.proofs.calls.put_results.Goals as goal
@@ -13,5 +13,5 @@ loop-def-preserved c =
 
 pub returns-in_err-put_result : goal.returns-in_err-put_result
 returns-in_err-put_result c =
-    again _ (Blames (results_text c.args.state.now c.args.defs.now).cause) c.from_residual.result _ c.from_residual.ensures.1
+    again _ (RefusedBy (results_text c.args.state.now c.args.defs.now).cause) c.from_residual.result _ c.from_residual.ensures.1
     (more_stops (results_text c.args.state.now) (result_text c.args.state.now) (λ x xs. refl) c.args.defs.now c.loop-def.def-index c.def-item.result c.def-item.result _ _ (omega arith) c.def-item.is c.in_err-put_result.ensures c.loop-def.invariant.cause)

@@ -1,5 +1,5 @@
 use Rattle.std.proofs.Common.{string_bytes, refl, arith}
-use Rattle.s390x_text.specs.Texts.{Blames, before_semicolon}
+use Rattle.s390x_text.specs.Texts.{RefusedBy, before_semicolon}
 use Rattle.s390x_text.specs.Simple.{simple_text}
 use Rattle.s390x_text.specs.Calls.{simple_texts}
 use Rattle.s390x_text.proofs.Loops.{more_bytes, more_causes, more_stops, again}
@@ -14,5 +14,5 @@ loop-inst-preserved c =
 
 pub returns-in_err-put_before : goal.returns-in_err-put_before
 returns-in_err-put_before c =
-    again _ (Blames (simple_texts c.args.state.now c.args.insts.now).cause) c.from_residual.result _ c.from_residual.ensures.1
+    again _ (RefusedBy (simple_texts c.args.state.now c.args.insts.now).cause) c.from_residual.result _ c.from_residual.ensures.1
     (more_stops (simple_texts c.args.state.now) (λ i. before_semicolon (simple_text c.args.state.now i)) (λ x xs. refl) c.args.insts.now c.loop-inst.inst-index c.inst-item.result c.inst-item.result _ _ (omega arith) c.inst-item.is c.in_err-put_before.ensures c.loop-inst.invariant.cause)

@@ -1,6 +1,6 @@
 use Rattle.std.proofs.Common.{◌≡◌, string_bytes, sym, subst, arith}
 use Rattle.std.specs.Prelude.{IfOk}
-use Rattle.s390x_text.specs.Texts.{Blames, Prints}
+use Rattle.s390x_text.specs.Texts.{RefusedBy, Prints}
 use Rattle.s390x_text.specs.Instructions.{insts_text}
 use Rattle.s390x_text.proofs.Loops.{bytes_go_on, cause_goes_on, state_goes_on, stops, again, whole_loop, after_loop, plain}
 use Rattle.s390x_text.proofs.pretty.+members.Goals as goal
@@ -15,7 +15,7 @@ put_members-loop-inst-preserved t c =
 
 pub put_members-returns-in_err-put_member-clause-answer : goal.put_members-returns-in_err-put_member-clause-answer
 put_members-returns-in_err-put_member-clause-answer t c =
-    again _ (Blames (insts_text c.args.depth c.args.state.now c.args.insts.now).cause) c.from_residual.result _ c.from_residual.ensures.1
+    again _ (RefusedBy (insts_text c.args.depth c.args.state.now c.args.insts.now).cause) c.from_residual.result _ c.from_residual.ensures.1
     (stops c.args.depth c.loop-inst.state c.inst-item.result c.args.insts.now c.loop-inst.inst-index _ _ (omega arith) c.inst-item.is c.in_err-put_member.ensures.answer c.loop-inst.invariant.cause)
 
 pub put_inst-returns-in-Loop-clause-answer : goal.put_inst-returns-in-Loop-clause-answer
