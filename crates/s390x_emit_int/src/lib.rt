@@ -9,6 +9,7 @@ pub mod completeness;
 pub mod emit;
 pub mod function;
 pub mod headline;
+pub mod image;
 pub mod leaf;
 pub mod memory;
 pub mod moves;
@@ -23,3 +24,4 @@ pub mod tree;
 
 pub use emit::{MachInstEmit, put, put_with_trap};
 pub use function::emit_function;
+pub use image::{ImageError, emit_image};
