@@ -1,6 +1,6 @@
 -- The operand of each step that accesses memory is one whose address helpers keep: emission has checked it, and what a symbol's distance leads to is an
 -- address.
-use Rattle.std.proofs.Common.{◌≡◌, ℕ, ◌^◌, ◌<◌, [], ◌∷◌, List, Option, Some, None, Bool, true, false, cond, not, ◌&&◌, ◌||◌, refl, sym, ap, ◌∙◌, subst, slice_get}
+use Rattle.std.proofs.Common.{◌≡◌, ℕ, ◌^◌, ◌<◌, [], ◌∷◌, Option, Some, None, Bool, true, false, cond, not, ◌&&◌, ◌||◌, refl, ap, ◌∙◌, subst, slice_get}
 use Rattle.std.specs.Prelude.{ℤ, pos, ◌+ℤ◌, ◌*ℤ◌, is_some}
 use Rattle.std.specs.Int.{cast_signed}
 use mir.Syntax.{w32}
@@ -11,10 +11,10 @@ use Rattle.s390x_base.specs.declared.trap.TrapKind.{TrapKind}
 use Rattle.s390x_inst.specs.declared.args.MemArg.{MemArg}
 use Rattle.s390x_inst.specs.declared.args.MemArg.TheVariants.{BXD12, Symbol}
 use Rattle.s390x_inst.specs.declared.inst.Inst.{Inst}
-use Rattle.s390x_inst.specs.declared.inst.Inst.TheVariants.{LoadAddr, AluRX, CmpRX, AtomicRmw, AtomicCas32, AtomicCas64}
+use Rattle.s390x_inst.specs.declared.inst.Inst.TheVariants.{LoadAddr, AluRX, AtomicRmw}
 use Rattle.s390x_typed_steps.specs.SingleInstruction.{SingleInstruction, single_instruction, stop_code}
 use Rattle.s390x_typed_steps.specs.Memory.{MemoryInstruction, StorageForm, memory, type_of, fault_code}
-use Rattle.s390x_typed_steps.specs.Operands.{Finalized, no_register, scratch, with_widened, finalized, operand_general, loses_base}
+use Rattle.s390x_typed_steps.specs.Operands.{no_register, scratch, with_widened, finalized, operand_general, loses_base}
 use Rattle.s390x_typed_steps.specs.Causes.{is_helped}
 use Rattle.s390x_typed_steps.specs.Parts.{finalized_parts, memory_or, memory_parts, branch_parts, parts_or, step_parts}
 use Rattle.s390x_typed_steps.specs.Steps.{Plain}

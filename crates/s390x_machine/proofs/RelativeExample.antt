@@ -105,7 +105,7 @@ address_step s t memory at acts = step_at (ril_b 0xc00 3 2045) 6 s (Executed Non
 stop_step : MachineStep stopped (Interrupted Operation) stopped
 stop_step = record {
   fetched = Unknown;
-  fetches = (refl, (tt, tt), λ d h. none_begins (instruction_bytes core.memory 4108) d h refl);
+  fetches = (refl, (refl, refl), λ d h. none_begins (instruction_bytes core.memory 4108) d h refl);
   acts = (refl, refl);
 }
 
