@@ -63,18 +63,18 @@ linked_loop_runs = record {
   checked = λ flags. refl;
   masks = ranges;
   finished = finished;
-  linked = refl;
+  links = refl;
   lies = loop_runs.1;
   run = loop_runs.2;
 }
 
 -- ---- the function with a constant, a symbol and a trap
 
-unlinked_bytes : List ℕ
+abbrev unlinked_bytes : List ℕ
 unlinked_bytes = 0xc4 ∷ 0x2d ∷ 0x00 ∷ 0x00 ∷ 0x00 ∷ 0x08 ∷ 0xc0 ∷ 0x30 ∷ 0x00 ∷ 0x00 ∷ 0x00 ∷ 0x00 ∷ 0x00 ∷ 0x00 ∷ 0x00 ∷ 0x00 ∷ 0x00 ∷ 0x00 ∷ 0x00 ∷ 0x2a ∷ []
 
 -- the relocation of the address
-to_symbol : RelocEntry
+abbrev to_symbol : RelocEntry
 to_symbol = record { offset = 8; kind = S390xPCRel32Dbl; name = record { 0 = 1 }; addend = pos 2 }
 
 trap_code : MachBufferFinalized
@@ -93,7 +93,7 @@ trap_code = record {
 }
 
 trap_finished : IsFinishedCode Relative.trees Relative.constants trap_code
-unfolding vec trap_code unlinked_bytes to_symbol number bits layout_of length_of be_bytes
+unfolding vec trap_code number bits layout_of length_of be_bytes
 trap_finished = record {
   bytes = refl;
   block_starts = refl;
@@ -115,7 +115,7 @@ found = address_of-with_address no_symbols (record { 0 = 1 }) 8192 (record { 0 =
 
 -- the field is filled as an assembler gives it
 linked_bytes : filled 4096 symbols (to_symbol ∷ []) unlinked_bytes ≡ Relative.image.bytes
-unfolding unlinked_bytes to_symbol be_bytes
+unfolding be_bytes
 linked_bytes = ap (λ o. fill 4096 (address_or_zero o) to_symbol unlinked_bytes) found
 
 pub linked_trap_runs : LinkedTrapRuns
@@ -125,7 +125,7 @@ linked_trap_runs = record {
   checked = λ flags. refl;
   masks = Relatively.ranges;
   finished = trap_finished;
-  linked = ap (λ o. first_link_cause (symbol_cause 4096 to_symbol o) None) found;
+  links = ap (λ o. first_link_cause (symbol_cause 4096 to_symbol o) None) found;
   lies = subst (λ l. IsLoaded (record { base = 4096; bytes = l }) Relative.core.memory) (sym linked_bytes) Relatively.relative_runs.lies;
   run = subst (λ l. Run (record { base = 4096; bytes = l }) (record { core = Relative.core; address = 4096 }) Relative.trace) (sym linked_bytes) Relatively.relative_runs.run;
 }

@@ -24,7 +24,7 @@ pub record LinkedRun (symbols : Symbols) (ts : List Tree) (cs : List Constant) (
   pub checked : (flags : IsaFlags) → checked_cause flags ts cs ≡ None
   pub masks : BlocksInRange ts
   pub finished : IsFinishedCode ts cs code
-  pub linked : link_cause code 4096 symbols ≡ None
+  pub links : link_cause code 4096 symbols ≡ None
   pub lies : IsLoaded (linked_image code 4096 symbols) c.memory
   pub run : Run (linked_image code 4096 symbols) (record { core = c; address = block_address (function_layout (linked symbols 4096 ts cs) ts (linked_image code 4096 symbols)) 0 }) trace
 
