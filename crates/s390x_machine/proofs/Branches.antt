@@ -105,7 +105,7 @@ returns_runs L k n size is row here c is_loaded =
     branch L k c [] c.registers (step_address L k) (λ r. Branch 15 (r.general n)) size 15 (c.registers.general n) (at_start L k c here is_loaded) row refl (λ t rest u e lands run.
     let x = written (all_writes (t ∷ [])) c in
     let target = c.registers.general n in
-    ended L k c (t ∷ []) rest (Returned target) x here (omega arith) (e, tt) (subst (λ f. KindStep L f k x (Ended (Returned target)) x) (sym is) (refl, refl))
+    ended L k c (t ∷ []) rest (Returned target) x (omega arith) (e, tt) (omega arith) (subst (λ f. KindStep L f k x (Ended (Returned target)) x) (sym is) (refl, refl))
     (lands ∙ ap (λ b. mid c c.registers (all_writes (t ∷ [])) (cond b target (wrapping_add64 (step_address L k) size))) (selected_always c.registers.code)))
 
 -- ---- a branch to the address in a register

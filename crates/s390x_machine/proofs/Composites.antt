@@ -22,11 +22,11 @@ use Rattle.s390x_machine.specs.StepKinds.{PerformsWhere, TrapsAlways, TrapsWhere
 use Rattle.s390x_machine.specs.Computations.{with_rule}
 use Rattle.s390x_machine.specs.Typed.{Ending, Trapped, DebugStopped, Called, At, Ended, KindStep, WhereStep, TypedStep, kind_at, typed_store_event}
 use Rattle.s390x_machine.specs.Codes.{trap_code_at}
-use Rattle.s390x_machine.specs.Match.{start, EndsMatch}
+use Rattle.s390x_machine.specs.Match.{EndsAt, start, EndsMatch}
 use Rattle.s390x_machine.specs.OneStep.{Runs, StepRuns}
 use Rattle.s390x_machine.specs.Layout.{Layout, step_address, InStep}
 use Rattle.s390x_machine.proofs.Frame.{lies_written}
-use Rattle.s390x_machine.proofs.Simulation.{RowAt, mid, Inside, Simulates, at_start, peel, Turned, turned, further, resume, branch, done, ended, DoesAs, acts_as}
+use Rattle.s390x_machine.proofs.Simulation.{RowAt, mid, Inside, Simulates, at_start, peel, Turned, turned, further, resume, branch, done, ended, inside_lands, DoesAs, acts_as}
 use Rattle.s390x_machine.proofs.Branches.{stores_none}
 
 -- ---- a row that changes registers, and what follows it
@@ -139,12 +139,16 @@ closes_there : (L : Layout) (code : Option TrapKind) (x : Core) (s : State) (t :
 closes_there L None x s t rest same e within with_code = (same, (e, within, with_code))
 closes_there L (Some n) x s t rest same e within with_code = (same, (OperationStop, e, with_code))
 
+stops_inside : (L : Layout) (k : ℕ) (code : Option TrapKind) (g : List Transition) (s : State) → InStep L k s.address → EndsAt L k (stopped code) g s
+stops_inside L k None g s here = here
+stops_inside L k (Some n) g s here = here
+
 stop_there : (L : Layout) (k : ℕ) (code : Option TrapKind) (c : Core) (g : List Transition) (p : ℕ) → Inside L k c g c.registers p → StopsAt L p code → ((h : List Transition) → TypedStep L k (written (all_writes h) c) (Ended (stopped code)) (written (all_writes h) c)) → Simulates L k c g c.registers p
 stop_there L k code c g p i at step =
     peel L k c g c.registers p i (λ t s rest run.
     let l = lies_written L.image _ _ t.writes i.is_loaded s.may in
     let e = at.stops (after_writes (mid c c.registers (all_writes g) p) t) refl l t.event t.after s.goes in
-    ended L k c g (t ∷ rest) (stopped code) (written (all_writes g) c) i.here (omega (arith, i.few)) i.quiet (step g)
+    ended L k c g (t ∷ rest) (stopped code) (written (all_writes g) c) (omega (arith, i.few)) i.quiet (stops_inside L k code g (after_all (start L k c) g) (inside_lands i)) (step g)
     (closes_there L code (written (all_writes g) c) (after_all (start L k c) g) t rest (ap (λ (x : State). x.core) i.lands) e (subst (λ (x : State). IsTrue (is_within L.image x.address)) (sym i.lands) at.within) (subst (λ (x : State). trap_code_at L.image L.traps x.address OperationStop ≡ code) (sym i.lands) at.with_code)))
 
 pub trap_runs : (L : Layout) (k : ℕ) (code : TrapKind) → kind_at L k ≡ Some (TrapsAlways code) → StopsAt L (step_address L k) (Some code) → InStep L k (step_address L k) → StepRuns L k
@@ -198,4 +202,4 @@ call_runs L k link size target is row next here c is_loaded =
     let x : Core = record { registers = set_general c.registers link (step_address L (suc k)); memory = y.memory } in
     let went = saves c c.registers (all_writes (t ∷ [])) (step_address L k) link (target c.registers) size t.event t.after u.acts in
     let at = went.1 ∙ ap (λ q. mid c (set_general c.registers link q) (all_writes (t ∷ [])) (target c.registers)) next in
-    ended L k c (t ∷ []) rest (Called (target c.registers)) x here (omega arith) (went.0, tt) (subst (λ f. KindStep L f k y (Ended (Called (target c.registers))) x) (sym is) (refl, refl)) at)
+    ended L k c (t ∷ []) rest (Called (target c.registers)) x (omega arith) (went.0, tt) (omega arith) (subst (λ f. KindStep L f k y (Ended (Called (target c.registers))) x) (sym is) (refl, refl)) at)

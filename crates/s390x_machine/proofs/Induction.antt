@@ -1,14 +1,14 @@
 -- From each step alone to every run: the generic induction.
 use Rattle.std.proofs.Common.{◌⊎◌, Bool, true, false, IsTrue, IsFalse, true≢false, append-nil, ◌≡◌, ℕ, zero, suc, ◌+◌, ◌<◌, ◌≤◌, inl, inr, List, [], ◌∷◌, ◌++◌, length, Option, Some, None, refl, sym, ap, ◌∙◌, subst, arith, append_assoc, length-append, slice_get}
-use Rattle.s390x_operations.specs.State.{Core, State, StoreEvent, Write, written, IsLoaded, CodeImage, IsDisjoint}
+use Rattle.s390x_operations.specs.State.{Core, State, Write, written, wrapping_add64, IsLoaded, CodeImage, IsDisjoint}
 use Rattle.s390x_operations.specs.Access.{stores_into}
 use Rattle.s390x_operations.specs.Effects.{access}
 use Rattle.s390x_typed_steps.specs.Steps.{Step}
-use Rattle.s390x_machine.specs.Machine.{Executed, Transition, Run, after_all, all_writes}
+use Rattle.s390x_machine.specs.Machine.{Transition, Run, after_all, all_writes}
 use Rattle.s390x_machine.specs.StepKinds.{StepKind, Performs}
 use Rattle.s390x_machine.specs.Typed.{Ending, Ended, At, touches_image, TypedStep, Wrong, kind_of_step, kind_at, store_event_of_kind, KindWrong}
-use Rattle.s390x_machine.specs.Match.{IsGroup, IsExecuted, IsSilent, IsUnderWay, concatenated, start, EndsMatch, Allowed, EveryRun}
-use Rattle.s390x_machine.specs.OneStep.{Fits, OneStep, here, on, StepHolds, Runs, waits, silent, goes, stops, ends, stuck, StepRuns}
+use Rattle.s390x_machine.specs.Match.{HasNoBytes, IsGroup, IsUnderWay, concatenated, start, EndsMatch, Allowed, EveryRun}
+use Rattle.s390x_machine.specs.OneStep.{OneStep, here, on, StepHolds, Runs, waits, silent, goes, stops, ends, stuck, StepRuns}
 use Rattle.s390x_machine.specs.Layout.{Layout, InStep}
 use Rattle.s390x_machine.proofs.Frame.{apart_of}
 
@@ -21,15 +21,15 @@ after_append s [] h = refl
 after_append s (x ∷ g) h = after_append x.after g h
 
 -- a step, and what is allowed after it
-step_then : (L : Layout) (k : ℕ) (c : Core) (trace g rest : List Transition) → trace ≡ g ++ rest → IsGroup L k g → (j : ℕ) (t : Core) → TypedStep L k (written (all_writes g) c) (At j) t → after_all (start L k c) g ≡ start L j t → Allowed L j (start L j t) rest → Allowed L k (start L k c) trace
-step_then L k c trace g rest split group j t step lands a = record {
+step_then : (L : Layout) (k : ℕ) (c : Core) (trace g rest : List Transition) → trace ≡ g ++ rest → (j : ℕ) (t : Core) → TypedStep L k (written (all_writes g) c) (At j) t → IsGroup L k c g (At j) t → Allowed L j (start L j t) rest → Allowed L k (start L k c) trace
+step_then L k c trace g rest split j t step group a = record {
   groups = g ∷ a.groups;
   rest = a.rest;
   split = split ∙ ap (λ l. g ++ l) a.split ∙ sym (append_assoc g (concatenated a.groups) a.rest);
   position = a.position;
   core = a.core;
-  run = (group, At j, t, step, a.run);
-  ends_match = subst (λ s. EndsMatch L a.position a.core s a.rest) (sym (after_append (start L k c) g (concatenated a.groups) ∙ ap (λ s. after_all s (concatenated a.groups)) lands)) a.ends_match;
+  run = (At j, t, step, group, a.run);
+  ends_match = subst (λ s. EndsMatch L a.position a.core s a.rest) (sym (after_append (start L k c) g (concatenated a.groups) ∙ ap (λ s. after_all s (concatenated a.groups)) group.2)) a.ends_match;
 }
 
 combine : (L : Layout) (k : ℕ) (c : Core) (trace : List Transition) → Run L.image (start L k c) trace → OneStep L k c trace →
@@ -37,14 +37,14 @@ combine : (L : Layout) (k : ℕ) (c : Core) (trace : List Transition) → Run L.
     ((t : Core) → IsLoaded L.image t.memory → (rest : List Transition) → Run L.image (start L (suc k) t) rest → length rest ≤ length trace → suc k ≤ length L.steps → Allowed L (suc k) (start L (suc k) t) rest) →
     Allowed L k (start L k c) trace
 combine L k c trace r (here a le) shorter without = a
-combine L k c trace r (on g rest split group j t step lands is_loaded (inl pos)) shorter without =
-    let r' = subst (λ s. Run L.image s rest) lands (run_after L (start L k c) g rest (subst (λ l. Run L.image (start L k c) l) split r)) in
+combine L k c trace r (on g rest split j t step group is_loaded (inl pos)) shorter without =
+    let r' = subst (λ s. Run L.image s rest) group.2 (run_after L (start L k c) g rest (subst (λ l. Run L.image (start L k c) l) split r)) in
     let lt : length rest < length trace = omega (arith, ap length split, length-append g rest) in
-    step_then L k c trace g rest split group j t step lands (shorter j t is_loaded rest r' lt)
-combine L k c trace r (on g rest split group j t step lands is_loaded (inr e)) shorter without =
-    let r' = subst (λ s. Run L.image s rest) lands (run_after L (start L k c) g rest (subst (λ l. Run L.image (start L k c) l) split r)) in
+    step_then L k c trace g rest split j t step group (shorter j t is_loaded rest r' lt)
+combine L k c trace r (on g rest split j t step group is_loaded (inr e)) shorter without =
+    let r' = subst (λ s. Run L.image s rest) group.2 (run_after L (start L k c) g rest (subst (λ l. Run L.image (start L k c) l) split r)) in
     let le : length rest ≤ length trace = omega (arith, ap length split, length-append g rest) in
-    step_then L k c trace g rest split group j t step lands (subst (λ i. Allowed L i (start L i t) rest) (sym e.0) (without t is_loaded rest (subst (λ i. Run L.image (start L i t) rest) e.0 r') le e.1))
+    step_then L k c trace g rest split j t step group (subst (λ i. Allowed L i (start L i t) rest) (sym e.0) (without t is_loaded rest (subst (λ i. Run L.image (start L i t) rest) e.0 r') le e.1))
 
 module _ (L : Layout) (holds : (k : ℕ) → StepHolds L k) where
   inner : (n : ℕ) → ((j : ℕ) (t : Core) → IsLoaded L.image t.memory → (rest : List Transition) → Run L.image (start L j t) rest → length rest < n → Allowed L j (start L j t) rest) → (d k : ℕ) (c : Core) → IsLoaded L.image c.memory → (trace : List Transition) → Run L.image (start L k c) trace → length trace ≤ n → length L.steps ≤ k + d → Allowed L k (start L k c) trace
@@ -96,18 +96,9 @@ apart_form image (Some (Performs needs operation code)) c ws e = apart_of image 
 apart_form image (Some _) c ws e = tt
 apart_form image None c ws e = tt
 
--- a step that has a byte has room for any few transitions
-pub fits_within : (L : Layout) (k : ℕ) (g : List Transition) {p : ℕ} → InStep L k p → length g ≤ 4 → Fits L k g
-fits_within L k g at few = (few, λ e. absurd (omega (arith, at.above, at.below, e)))
-
--- what stored nothing didn't stop
-silent_is_executed : (g : List Transition) → IsSilent g → IsExecuted g
-silent_is_executed [] quiet = tt
-silent_is_executed (t ∷ g) quiet = ((None, quiet.0), silent_is_executed g quiet.1)
-
-executed_snoc : (g : List Transition) (t : Transition) (x : Option StoreEvent) → IsSilent g → t.event ≡ Executed x → IsExecuted (g ++ t ∷ [])
-executed_snoc [] t x quiet e = ((x, e), tt)
-executed_snoc (h ∷ g) t x quiet e = ((None, quiet.0), executed_snoc g t x quiet.1 e)
+-- a step one of whose bytes is addressed has some
+pub some_bytes_in : (L : Layout) (k : ℕ) {p : ℕ} → InStep L k p → HasNoBytes L k → ⊥
+some_bytes_in L k at none = absurd (omega (arith, at.above, at.below, none))
 
 stays_here : (L : Layout) (k : ℕ) (c : Core) (trace : List Transition) → Wrong L k c ⊎ IsUnderWay L k (start L k c) trace → OneStep L k c trace
 stays_here L k c trace w = here (record {
@@ -120,24 +111,28 @@ stays_here L k c trace w = here (record {
   ends_match = (refl, w);
 }) (omega arith)
 
-stays_ended : (L : Layout) (k : ℕ) (c : Core) (g rest : List Transition) (e : Ending) (x : Core) → IsGroup L k g → TypedStep L k (written (all_writes g) c) (Ended e) x → EndsMatch L (Ended e) x (after_all (start L k c) g) rest → OneStep L k c (g ++ rest)
-stays_ended L k c g rest e x group step ends_match = here (record {
+stays_ended : (L : Layout) (k : ℕ) (c : Core) (g rest : List Transition) (e : Ending) (x : Core) → TypedStep L k (written (all_writes g) c) (Ended e) x → IsGroup L k c g (Ended e) x → EndsMatch L (Ended e) x (after_all (start L k c) g) rest → OneStep L k c (g ++ rest)
+stays_ended L k c g rest e x step group ends_match = here (record {
   groups = g ∷ [];
   rest = rest;
   split = ap (λ l. l ++ rest) (sym (append-nil g));
   position = Ended e;
   core = x;
-  run = (group, Ended e, x, step, (refl, refl));
+  run = (Ended e, x, step, group, (refl, refl));
   ends_match = subst (λ l. EndsMatch L (Ended e) x (after_all (start L k c) l) rest) (sym (append-nil g)) ends_match;
 }) (omega arith)
 
 weaker : (L : Layout) (k : ℕ) (c : Core) (trace : List Transition) → IsLoaded L.image c.memory → IsFalse (form_into L.image (kind_at L k) c) → Runs L k c trace → OneStep L k c trace
 weaker L k c trace is_loaded out (waits few quiet at) = stays_here L k c trace (inr (few, quiet, at))
-weaker L k c trace is_loaded out (silent step below same) = on [] trace refl (omega arith, tt, λ e. refl) (suc k) c step (ap (λ q. record { core = c; address = q }) same) is_loaded (inr (refl, below))
-weaker L k c trace is_loaded out (goes h rest t split group quiet j x step e m lands l) =
-    on (h ++ t ∷ []) rest (split ∙ sym (append_assoc h (t ∷ []) rest)) (group.0, executed_snoc h t _ quiet e, group.1) j x step (after_append (start L k c) h (t ∷ []) ∙ lands) (l (apart_form L.image (kind_at L k) c (all_writes (h ++ t ∷ [])) out)) (inl (omega (arith, length-append h (t ∷ []))))
+weaker L k c trace is_loaded out (silent step below none) =
+    on [] trace refl (suc k) c step (omega arith, inl (none, refl), ap (λ n. record { core = c; address = wrapping_add64 L.image.base n }) (sym none)) is_loaded (inr (refl, below))
+weaker L k c trace is_loaded out (goes h rest t split few some nothing j x step e m lands l) =
+    let longer = length-append h (t ∷ []) in
+    on (h ++ t ∷ []) rest (split ∙ sym (append_assoc h (t ∷ []) rest)) j x step
+    (omega (arith, few, longer), inr (some, record { before = h; last = t; is = refl; nothing = nothing; stores = e }), after_append (start L k c) h (t ∷ []) ∙ lands)
+    (l (apart_form L.image (kind_at L k) c (all_writes (h ++ t ∷ [])) out)) (inl (omega (arith, longer)))
 weaker L k c trace is_loaded out (stops h rest t kind split quiet e w) = stays_here L k c trace (inl w)
-weaker L k c trace is_loaded out (ends g rest split group quiet e x step ends_match) = subst (λ l. OneStep L k c l) (sym split) (stays_ended L k c g rest e x (group.0, silent_is_executed g quiet, group.1) step ends_match)
+weaker L k c trace is_loaded out (ends g rest split e x step group ends_match) = subst (λ l. OneStep L k c l) (sym split) (stays_ended L k c g rest e x step group ends_match)
 weaker L k c trace is_loaded out (stuck w form) = stays_here L k c trace (inl w)
 
 unless_into : (L : Layout) (k : ℕ) (c : Core) (trace : List Transition) → IsLoaded L.image c.memory → Runs L k c trace → (b : Bool) → form_into L.image (kind_at L k) c ≡ b → OneStep L k c trace

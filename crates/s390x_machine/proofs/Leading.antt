@@ -181,4 +181,4 @@ module _ {L : Layout} {k : ℕ} {s : Step} (x : StepAt L k s) where
   pub opening_runs : kind_of_step L (Some s) ≡ Some Silent → step_parts s ≡ [] → StepRuns L k
   opening_runs is parts c is_loaded trace run =
       let size : L.offsets.step (suc k) ≡ L.offsets.step k = size_as x _ parts ∙ omega arith in
-      silent (subst (λ f. KindStep L f k c (At (suc k)) c) (sym (step_form x Silent is)) (refl, refl)) (step_within x) (ap (λ n. wrapping_add64 L.image.base n) (sym size))
+      silent (subst (λ f. KindStep L f k c (At (suc k)) c) (sym (step_form x Silent is)) (refl, refl)) (step_within x) size

@@ -12,11 +12,11 @@ use Rattle.s390x_machine.specs.Machine.{Event, Executed, Interrupted, ActionStep
 use Rattle.s390x_machine.specs.StepKinds.{Performs}
 use Rattle.s390x_machine.specs.Typed.{Ending, Trapped, At, Ended, loosened, loosen, goes_on, traps, OperationWrong, faults_uncoded, KindStep, KindWrong, TypedStep, kind_at, store_event_of_kind, typed_store_event}
 use Rattle.s390x_machine.specs.Codes.{trap_code_at}
-use Rattle.s390x_machine.specs.Match.{IsSilent, start, EndsMatch}
+use Rattle.s390x_machine.specs.Match.{StoreNothing, EndsAt, start, EndsMatch}
 use Rattle.s390x_machine.specs.OneStep.{Runs, waits, goes, ends, stops}
 use Rattle.s390x_machine.specs.Layout.{Layout, step_address, InStep}
 use Rattle.s390x_machine.proofs.Frame.{lies_written, loaded_after_store, written_append}
-use Rattle.s390x_machine.proofs.Induction.{after_append, fits_within}
+use Rattle.s390x_machine.proofs.Induction.{after_append, some_bytes_in}
 
 -- wherever the image lies in memory, a step of the machine at this place does this action, of an instruction of so many bytes
 abbrev pub RowAt : Layout → ℕ → (Registers → Action) → ℕ → Type 0
@@ -29,7 +29,7 @@ mid c r ws p = record { core = record { registers = r; memory = (written ws c).m
 -- after these transitions of step k the machine is inside the step, at an address, with these registers
 pub record Inside (L : Layout) (k : ℕ) (c : Core) (g : List Transition) (r : Registers) (p : ℕ) : Type 0 where
   pub few : length g ≤ 3
-  pub quiet : IsSilent g
+  pub quiet : StoreNothing g
   pub here : InStep L k p
   pub lands : after_all (start L k c) g ≡ mid c r (all_writes g) p
   pub is_loaded : IsLoaded L.image (written (all_writes g) c).memory
@@ -70,7 +70,7 @@ turned L k c g r p act size t i row s =
       memory = ap (λ (x : Core). x.memory) (sym e);
     }
 
-quiet_snoc : (g : List Transition) (t : Transition) → IsSilent g → t.event ≡ Executed None → IsSilent (g ++ t ∷ [])
+quiet_snoc : (g : List Transition) (t : Transition) → StoreNothing g → t.event ≡ Executed None → StoreNothing (g ++ t ∷ [])
 quiet_snoc [] t q e = (e, tt)
 quiet_snoc (x ∷ g) t q e = (q.0, quiet_snoc g t q.1 e)
 
@@ -100,11 +100,16 @@ pub done : (L : Layout) (k : ℕ) (c : Core) (g : List Transition) (r : Register
     t.event ≡ Executed (typed_store_event L k (written (all_writes (g ++ t ∷ [])) c)) → t.after ≡ start L j x → (IsDisjoint L.image (typed_store_event L k (written (all_writes (g ++ t ∷ [])) c)) → IsLoaded L.image x.memory) →
     TypedStep L k (written (all_writes (g ++ t ∷ [])) c) (At j) x → Runs L k c (g ++ t ∷ rest)
 done L k c g r p act size t rest j x i u e lands is_loaded step =
-    goes g rest t refl (fits_within L k (g ++ t ∷ []) i.here (omega (arith, i.few, length-append g (t ∷ [])))) i.quiet j x step e (ap (λ (s : State). (after_writes s t).core.memory) i.lands ∙ sym u.memory) lands is_loaded
+    goes g rest t refl i.few (some_bytes_in L k i.here) i.quiet j x step e (ap (λ (s : State). (after_writes s t).core.memory) i.lands ∙ sym u.memory) lands is_loaded
 
 -- the step ends the run
-pub ended : (L : Layout) (k : ℕ) (c : Core) (g rest : List Transition) (e : Ending) (x : Core) {p : ℕ} → InStep L k p → length g ≤ 4 → IsSilent g → TypedStep L k (written (all_writes g) c) (Ended e) x → EndsMatch L (Ended e) x (after_all (start L k c) g) rest → Runs L k c (g ++ rest)
-ended L k c g rest e x here few quiet step ends_match = ends g rest refl (fits_within L k g here few) quiet e x step ends_match
+pub ended : (L : Layout) (k : ℕ) (c : Core) (g rest : List Transition) (e : Ending) (x : Core) → length g ≤ 4 → StoreNothing g → EndsAt L k e g (after_all (start L k c) g) → TypedStep L k (written (all_writes g) c) (Ended e) x →
+    EndsMatch L (Ended e) x (after_all (start L k c) g) rest → Runs L k c (g ++ rest)
+ended L k c g rest e x few quiet at step ends_match = ends g rest refl e x step (few, quiet, at) ends_match
+
+-- inside a step the machine stands at one of its bytes
+pub inside_lands : {L : Layout} {k : ℕ} {c : Core} {g : List Transition} {r : Registers} {p : ℕ} → Inside L k c g r p → InStep L k (after_all (start L k c) g).address
+inside_lands {L = L} {k = k} i = subst (λ (s : State). InStep L k s.address) (sym i.lands) i.here
 
 -- a branch: what follows when it is taken, and when it isn't
 pub branch : (L : Layout) (k : ℕ) (c : Core) (g : List Transition) (r : Registers) (p : ℕ) (act : Registers → Action) (size mask target : ℕ) → Inside L k c g r p → RowAt L p act size → act r ≡ Branch mask target →
@@ -168,7 +173,7 @@ stop_ends L k c g rest t p needs v operation code (Some n) kind is i at with_cod
     let x = loosen needs v (written (all_writes g) c) in
     let step : TypedStep L k (written (all_writes g) c) (Ended (Trapped n)) x = subst (λ f. KindStep L f k (written (all_writes g) c) (Ended (Trapped n)) x) (sym is) (traps v kind n h some refl refl) in
     let few : length g ≤ 4 = omega (arith, i.few) in
-    ended L k c g (t ∷ rest) (Trapped n) x i.here few i.quiet step (ap (λ (s : State). s.core) i.lands, (kind, e, subst (λ (s : State). trap_code_at L.image L.traps s.address kind ≡ Some n) (sym i.lands) (at kind n some)))
+    ended L k c g (t ∷ rest) (Trapped n) x few i.quiet (inside_lands i) step (ap (λ (s : State). s.core) i.lands, (kind, e, subst (λ (s : State). trap_code_at L.image L.traps s.address kind ≡ Some n) (sym i.lands) (at kind n some)))
 
 row_transition : (L : Layout) (k : ℕ) (c : Core) (g rest : List Transition) (t : Transition) (p : ℕ) (act : Registers → Action) (size : ℕ) (needs : Bool) (v : ℕ) (operation : Registers → Operation) (code : StopKind → Option TrapKind) →
     kind_at L k ≡ Some (Performs needs operation code) → Inside L k c g (loosened needs v c.registers) p → Turned L c g (loosened needs v c.registers) p act size t → wrapping_add64 p size ≡ step_address L (suc k) → Coded L p code →

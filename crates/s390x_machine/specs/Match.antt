@@ -6,7 +6,7 @@ use Rattle.s390x_operations.specs.declared.stop.StopKind.{StopKind}
 use Rattle.s390x_operations.specs.declared.stop.StopKind.TheVariants.{Operation as OperationStop}
 use Rattle.s390x_machine.specs.Codes.{trap_code_at}
 use Rattle.s390x_machine.specs.Machine.{Executed, Interrupted, Transition, Run, after_all, all_writes}
-use Rattle.s390x_machine.specs.Typed.{Returned, Called, TailCalled, Trapped, DebugStopped, Position, At, Ended, TypedStep, Wrong}
+use Rattle.s390x_machine.specs.Typed.{Ending, Returned, Called, TailCalled, Trapped, DebugStopped, Position, At, Ended, TypedStep, Wrong, typed_store_event}
 use Rattle.s390x_machine.specs.Layout.{Layout, InStep, step_address, block_address}
 
 -- ---- the match
@@ -16,30 +16,52 @@ abbrev pub concatenated : List (List Transition) → List Transition
 concatenated [] = []
 concatenated (g ∷ gs) = g ++ concatenated gs
 
--- no transition stopped
-abbrev pub IsExecuted : List Transition → Type 0
-IsExecuted [] = Unit {0}
-IsExecuted (transition ∷ trace) = ((x : Option StoreEvent) × (transition.event ≡ Executed x)) × IsExecuted trace
+-- the state at a step's address
+abbrev pub start : Layout → ℕ → Core → State
+start L k c = record { core = c; address = step_address L k }
 
--- transitions that are step k: at most four, none of which stopped, and none at all where the step has no bytes
-abbrev pub IsGroup : Layout → (k : ℕ) → List Transition → Type 0
-IsGroup L k g = (length g ≤ 4) × IsExecuted g × (L.offsets.step (suc k) ≡ L.offsets.step k → g ≡ [])
+-- no transition stored anything or stopped
+abbrev pub StoreNothing : List Transition → Type 0
+StoreNothing [] = Unit {0}
+StoreNothing (transition ∷ trace) = (transition.event ≡ Executed None) × StoreNothing trace
 
--- a typed run with one group of at most four transitions for each step; the group's writes come before the step
+-- the last of these transitions stores this, or nothing where there is nothing to store; those before it store nothing, and none stops
+pub record LastStores (x : Option StoreEvent) (g : List Transition) : Type 0 where
+  pub before : List Transition
+  pub last : Transition
+  pub is : g ≡ before ++ last ∷ []
+  pub nothing : StoreNothing before
+  pub stores : last.event ≡ Executed x
+
+abbrev pub HasNoBytes : Layout → ℕ → Type 0
+HasNoBytes L k = L.offsets.step (suc k) ≡ L.offsets.step k
+
+-- what step k does from a core, in these transitions: nothing where it has no bytes; else what it stores is stored in the last of them
+abbrev pub Does : Layout → (k : ℕ) → Core → List Transition → Type 0
+Does L k c g = (HasNoBytes L k × (g ≡ [])) ⊎ ((HasNoBytes L k → ⊥) × LastStores (typed_store_event L k (written (all_writes g) c)) g)
+
+-- where the machine stands when a step ends the run: at one of the step's bytes, about to stop; or behind a return, a call or a tail call, which took a transition
+abbrev pub EndsAt : Layout → (k : ℕ) → Ending → List Transition → State → Type 0
+EndsAt L k (Trapped n) g s = InStep L k s.address
+EndsAt L k DebugStopped g s = InStep L k s.address
+EndsAt L k _ g s = 1 ≤ length g
+
+-- These transitions, at most four, are step k from a core at its address to a position and a core. Where it goes on, the machine has that core then, at the
+-- address of the step that it goes on to
+abbrev pub IsGroup : Layout → (k : ℕ) → Core → List Transition → Position → Core → Type 0
+IsGroup L k c g (At j) t = (length g ≤ 4) × Does L k c g × (after_all (start L k c) g ≡ start L j t)
+IsGroup L k c g (Ended e) t = (length g ≤ 4) × StoreNothing g × EndsAt L k e g (after_all (start L k c) g)
+
+-- a typed run and its groups of transitions, one for each step; the group's writes come before the step
 abbrev pub TypedRun : Layout → Position → Core → List (List Transition) → Position → Core → Type 0
 TypedRun L position c [] position' t = (position' ≡ position) × (t ≡ c)
 TypedRun L (Ended e) c (g ∷ gs) position' t = ⊥
 TypedRun L (At k) c (g ∷ gs) position' t =
-    IsGroup L k g × (next : Position) × (mid : Core) × TypedStep L k (written (all_writes g) c) next mid × TypedRun L next mid gs position' t
-
--- no transition stored anything or stopped
-abbrev pub IsSilent : List Transition → Type 0
-IsSilent [] = Unit {0}
-IsSilent (transition ∷ trace) = (transition.event ≡ Executed None) × IsSilent trace
+    (next : Position) × (mid : Core) × TypedStep L k (written (all_writes g) c) next mid × IsGroup L k c g next mid × TypedRun L next mid gs position' t
 
 -- step k isn't done: at most three transitions, from this state on, stored nothing and didn't stop, and the machine stands at one of the step's bytes
 abbrev pub IsUnderWay : Layout → (k : ℕ) → State → List Transition → Type 0
-IsUnderWay L k s rest = (length rest ≤ 3) × IsSilent rest × InStep L k (after_all s rest).address
+IsUnderWay L k s rest = (length rest ≤ 3) × StoreNothing rest × InStep L k (after_all s rest).address
 
 -- the next step is a stop that has this code
 abbrev pub NextStops : Layout → TrapKind → State → List Transition → Type 0
@@ -50,10 +72,6 @@ NextStops L n s (transition ∷ trace) = (kind : StopKind) × (transition.event 
 abbrev pub NextDebugStops : Layout → State → List Transition → Type 0
 NextDebugStops L s [] = ⊥
 NextDebugStops L s (transition ∷ trace) = (transition.event ≡ Interrupted OperationStop) × IsTrue (is_within L.image s.address) × (trap_code_at L.image L.traps s.address OperationStop ≡ None)
-
--- the state at a step's address
-abbrev pub start : Layout → ℕ → Core → State
-start L k c = record { core = c; address = step_address L k }
 
 -- how it ends: where the typed run stands, the machine's state there, and the rest of the machine's run
 abbrev pub EndsMatch : Layout → Position → Core → State → List Transition → Type 0

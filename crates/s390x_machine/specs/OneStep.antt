@@ -5,17 +5,13 @@ use Rattle.s390x_operations.specs.declared.stop.StopKind.{StopKind}
 use Rattle.s390x_machine.specs.Machine.{Executed, Interrupted, Transition, after_writes, Run, after_all, all_writes}
 use Rattle.s390x_machine.specs.StepKinds.{StepKind, GoesByAddress, GoesByTable}
 use Rattle.s390x_machine.specs.Typed.{Ending, At, Ended, TypedStep, Wrong, typed_store_event, kind_at}
-use Rattle.s390x_machine.specs.Match.{IsGroup, IsSilent, start, EndsMatch, Allowed}
-use Rattle.s390x_machine.specs.Layout.{Layout, step_address, InStep}
-
--- transitions that step k has room for: at most four, and none where the step has no bytes
-abbrev pub Fits : Layout → (k : ℕ) → List Transition → Type 0
-Fits L k g = (length g ≤ 4) × (L.offsets.step (suc k) ≡ L.offsets.step k → g ≡ [])
+use Rattle.s390x_machine.specs.Match.{StoreNothing, HasNoBytes, IsGroup, start, EndsMatch, Allowed}
+use Rattle.s390x_machine.specs.Layout.{Layout, InStep}
 
 -- a machine run from a step's address is allowed by at most that step, or begins with a group of transitions that is that step
 pub data OneStep (L : Layout) (k : ℕ) (c : Core) (trace : List Transition) : Type 0 where
   here : (a : Allowed L k (start L k c) trace) → length a.groups ≤ 1 → OneStep L k c trace
-  on : (g rest : List Transition) → trace ≡ g ++ rest → IsGroup L k g → (j : ℕ) (t : Core) → TypedStep L k (written (all_writes g) c) (At j) t → after_all (start L k c) g ≡ start L j t → IsLoaded L.image t.memory → (1 ≤ length g) ⊎ ((j ≡ suc k) × (suc k ≤ length L.steps)) → OneStep L k c trace
+  on : (g rest : List Transition) → trace ≡ g ++ rest → (j : ℕ) (t : Core) → TypedStep L k (written (all_writes g) c) (At j) t → IsGroup L k c g (At j) t → IsLoaded L.image t.memory → (1 ≤ length g) ⊎ ((j ≡ suc k) × (suc k ≤ length L.steps)) → OneStep L k c trace
 
 -- every machine run from a step's address, in every state in which the image lies in memory, is as `OneStep` says
 abbrev pub StepHolds : Layout → ℕ → Type 0
@@ -30,13 +26,15 @@ Loses (Some _) = ⊥
 
 -- what the machine does from a step's address, with every store and stop told: stronger than `OneStep`
 pub data Runs (L : Layout) (k : ℕ) (c : Core) (trace : List Transition) : Type 0 where
-  waits : length trace ≤ 3 → IsSilent trace → InStep L k (after_all (start L k c) trace).address → Runs L k c trace
-  silent : TypedStep L k c (At (suc k)) c → suc k ≤ length L.steps → step_address L k ≡ step_address L (suc k) → Runs L k c trace
-  goes : (h rest : List Transition) (transition : Transition) → trace ≡ h ++ transition ∷ rest → Fits L k (h ++ transition ∷ []) → IsSilent h → (j : ℕ) (t : Core) → TypedStep L k (written (all_writes (h ++ transition ∷ [])) c) (At j) t →
-      transition.event ≡ Executed (typed_store_event L k (written (all_writes (h ++ transition ∷ [])) c)) → (after_writes (after_all (start L k c) h) transition).core.memory ≡ (written (all_writes (h ++ transition ∷ [])) c).memory →
-      transition.after ≡ start L j t → (IsDisjoint L.image (typed_store_event L k (written (all_writes (h ++ transition ∷ [])) c)) → IsLoaded L.image t.memory) → Runs L k c trace
-  stops : (h rest : List Transition) (transition : Transition) (kind : StopKind) → trace ≡ h ++ transition ∷ rest → IsSilent h → transition.event ≡ Interrupted kind → Wrong L k c → Runs L k c trace
-  ends : (g rest : List Transition) → trace ≡ g ++ rest → Fits L k g → IsSilent g → (e : Ending) (t : Core) → TypedStep L k (written (all_writes g) c) (Ended e) t → EndsMatch L (Ended e) t (after_all (start L k c) g) rest → Runs L k c trace
+  waits : length trace ≤ 3 → StoreNothing trace → InStep L k (after_all (start L k c) trace).address → Runs L k c trace
+  silent : TypedStep L k c (At (suc k)) c → suc k ≤ length L.steps → HasNoBytes L k → Runs L k c trace
+  goes : (h rest : List Transition) (transition : Transition) → trace ≡ h ++ transition ∷ rest → length h ≤ 3 → (HasNoBytes L k → ⊥) → StoreNothing h → (j : ℕ) (t : Core) →
+      TypedStep L k (written (all_writes (h ++ transition ∷ [])) c) (At j) t → transition.event ≡ Executed (typed_store_event L k (written (all_writes (h ++ transition ∷ [])) c)) →
+      (after_writes (after_all (start L k c) h) transition).core.memory ≡ (written (all_writes (h ++ transition ∷ [])) c).memory → transition.after ≡ start L j t →
+      (IsDisjoint L.image (typed_store_event L k (written (all_writes (h ++ transition ∷ [])) c)) → IsLoaded L.image t.memory) → Runs L k c trace
+  stops : (h rest : List Transition) (transition : Transition) (kind : StopKind) → trace ≡ h ++ transition ∷ rest → StoreNothing h → transition.event ≡ Interrupted kind → Wrong L k c → Runs L k c trace
+  ends : (g rest : List Transition) → trace ≡ g ++ rest → (e : Ending) (t : Core) → TypedStep L k (written (all_writes g) c) (Ended e) t → IsGroup L k c g (Ended e) t →
+      EndsMatch L (Ended e) t (after_all (start L k c) g) rest → Runs L k c trace
   stuck : Wrong L k c → Loses (kind_at L k) → Runs L k c trace
 
 -- every machine run from a step's address, in every state in which the image lies in memory, is as `Runs` says
