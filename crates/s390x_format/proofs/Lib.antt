@@ -6,6 +6,7 @@ pub mod Fetching
 pub mod Finding
 pub mod FormatFacts
 pub mod Lengths
+pub mod Locating
 pub mod OneReading
 pub mod Packing
 pub mod Searching

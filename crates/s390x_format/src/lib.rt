@@ -23,7 +23,7 @@ pub mod table;
 pub mod vector_formats;
 mod vector_impls;
 
-pub use decoder::{Decoded, decode, decode_counted};
+pub use decoder::{Decoded, Located, decode, decode_counted, locate};
 pub use fields::Fields;
 pub use format::Format;
 pub use immediate_formats::{RiA, RieA, RieD, RieF, RieG, RilA};
