@@ -139,24 +139,24 @@ below_top r a here = ltb-true a (2 ^ 64) (and_parts (covers r.start r.bytes.item
 no_region_before : (rs : List Region) (a : ℕ) → NoneBefore rs a 0
 no_region_before rs a k z lt = absurd (omega arith)
 
-pub first_bytes : (m : FlatMemory) (a n : ℕ) (z : Region) (bytes : List ℕ) → IsInFirst m a n → length bytes ≡ 6 →
-    ((i : ℕ) → i < n → slice_index bytes i ≡ slice_index (get_or m.regions.items 0 z).bytes.items (a + i - (get_or m.regions.items 0 z).start)) → AreBytes (is_held m) (byte_of m) a n bytes
-first_bytes m a n z bytes h six e = record {
-  reached = reaches_all (is_held m) a n (λ i lt. ap (λ k. is_held m k) (place i lt) ∙ held i lt);
+pub first_bytes : (m : FlatMemory) (a n : ℕ) (z : Region) (bytes : List ℕ) → n ≤ 6 → IsInFirst m a 6 → length bytes ≡ 6 →
+    ((i : ℕ) → i < 6 → slice_index bytes i ≡ slice_index (get_or m.regions.items 0 z).bytes.items (a + i - (get_or m.regions.items 0 z).start)) → AreBytes (is_held m) (byte_of m) a n bytes
+first_bytes m a n z bytes few h six e = record {
+  reached = reaches_all (is_held m) a n (λ i lt. let less : i < 6 = omega arith in ap (λ k. is_held m k) (place i less) ∙ held i less);
   six = six;
-  bytes_are = λ i lt. e i lt ∙ sym (byte i lt) ∙ ap (λ k. byte_of m k) (sym (place i lt));
+  bytes_are = λ i lt. let less : i < 6 = omega arith in e i less ∙ sym (byte i less) ∙ ap (λ k. byte_of m k) (sym (place i less));
 }
   where
-    place : (i : ℕ) → i < n → wrapping_add64 a i ≡ a + i
+    place : (i : ℕ) → i < 6 → wrapping_add64 a i ≡ a + i
     place i lt = mod-eq_of_lt (below_top (get_or m.regions.items 0 z) (a + i) (h.1 z i lt))
 
-    in_regions : (i : ℕ) → i < n → held_in m.regions.items (a + i) ≡ true
+    in_regions : (i : ℕ) → i < 6 → held_in m.regions.items (a + i) ≡ true
     in_regions i lt = held_here m.regions.items (a + i) 0 z h.0 (no_region_before m.regions.items (a + i)) (h.1 z i lt)
 
-    held : (i : ℕ) → i < n → is_held m (a + i) ≡ true
+    held : (i : ℕ) → i < 6 → is_held m (a + i) ≡ true
     held i lt = ap (λ (b : Bool). b || is_some (get nat_cmp m.older (a + i))) (in_regions i lt)
 
-    byte : (i : ℕ) → i < n → byte_of m (a + i) ≡ slice_index (get_or m.regions.items 0 z).bytes.items (a + i - (get_or m.regions.items 0 z).start)
+    byte : (i : ℕ) → i < 6 → byte_of m (a + i) ≡ slice_index (get_or m.regions.items 0 z).bytes.items (a + i - (get_or m.regions.items 0 z).start)
     byte i lt =
         ap (λ (b : Bool). if b then byte_in m.regions.items (a + i) else unwrap_or (get nat_cmp m.older (a + i)) 0) (in_regions i lt)
         ∙ byte_here m.regions.items (a + i) 0 z h.0 (no_region_before m.regions.items (a + i)) (h.1 z i lt)

@@ -42,15 +42,14 @@ impl Region {
             && address <= u64::MAX - n
     }
 
-    /// The bytes at so many addresses from one on, at most six.
-    fn bytes_from(&self, address: u64, n: u64) -> [u8; 6]
-        requires few { n ≤ 6 }
-        requires there { ContainsAll self.now address n }
+    /// The bytes at six addresses from one on.
+    fn bytes_from(&self, address: u64) -> [u8; 6]
+        requires { ContainsAll self.now address 6 }
         ensures six { length result ≡ 6 }
-        ensures bytes { (i : ℕ) → i < n → slice_index result i ≡ slice_index self.now.bytes.items (address + i - self.now.start) }
+        ensures bytes { (i : ℕ) → i < 6 → slice_index result i ≡ slice_index self.now.bytes.items (address + i - self.now.start) }
     {
         let mut bytes = [0u8; 6];
-        for i in 0..n {
+        for i in 0..6 {
             bytes[i as usize] = self.bytes[(address + i - self.start) as usize];
         }
         bytes
@@ -231,11 +230,11 @@ impl Memory for FlatMemory {
     }
 
     fn leading_bytes(&self, address: u64, n: u64) -> Option<[u8; 6]> {
-        if !self.is_in_first(address, n) {
+        if !self.is_in_first(address, 6) {
             return self.bytes_one_by_one(address, n);
         }
         let region = &self.regions[0];
-        Some(region.bytes_from(address, n))
+        Some(region.bytes_from(address))
     }
 
     fn set(&mut self, address: u64, value: u8) {

@@ -1,6 +1,6 @@
 //! One step of the machine.
 
-ghost use Rattle.std.specs.Prelude.{◌≡◌, ◌<◌, ℕ, ◌==◌, List, Option, Some, get_or, length, true, false, IsTrue, IsFalse};
+ghost use Rattle.std.specs.Prelude.{◌≡◌, ◌<◌, ℕ, Bool, ◌==◌, List, Option, Some, get_or, length, true, false, IsTrue, IsFalse};
 ghost use Rattle.s390x_format.specs.Fetch.{machine_rows};
 ghost use Rattle.s390x_format.specs.Formats.{length_of};
 ghost use Rattle.s390x_format.specs.Reading.{HasOpcode, no_row};
@@ -12,6 +12,7 @@ ghost use Rattle.s390x_machine.specs.Step.{Executes, Steps};
 
 use crate::action::action;
 use crate::fetch::{FetchedRow, fetch_row};
+use crate::field_values::relative_address;
 use crate::machine::Machine;
 use crate::memory::Memory;
 use crate::perform::{is_selected, perform};
@@ -35,17 +36,17 @@ pub enum StepEnd {
 }
 
 /// The semantics at a place in a list of them.
-fn semantics_in(rows: &[OpcodeSemantics], at: usize) -> RowSemantics
+fn semantics_in(rows: &[OpcodeSemantics], at: usize) -> &RowSemantics
     requires { at < length rows.now }
-    ensures { (z : OpcodeSemantics) → result ≡ (get_or rows.now at z).semantics }
+    ensures { (z : OpcodeSemantics) → result.now ≡ (get_or rows.now at z).semantics }
 {
-    rows[at].semantics
+    &rows[at].semantics
 }
 
 /// The semantics of the row at a place in the table of machine rows; both tables have the same opcodes at the same places.
-fn semantics_at(at: usize) -> RowSemantics
+fn semantics_at(at: usize) -> &'static RowSemantics
     requires { at < length machine_rows }
-    ensures { semantics_of (get_or machine_rows at no_row).opcode ≡ Some result }
+    ensures { semantics_of (get_or machine_rows at no_row).opcode ≡ Some result.now }
 {
     semantics_in(&ROW_SEMANTICS, at)
 }
@@ -100,6 +101,18 @@ fn is_free(machine: &Machine, semantics: RowSemantics, fields: &Fields) -> bool
     }
 }
 
+/// A branch under a mask, of an instruction of so many bytes.
+fn branch(machine: &mut Machine, mask: u8, target: u64, size: u64) -> StepEnd
+    ensures { (held : ℕ → Bool) (byte : ℕ → ℕ) → Executes (Action.Branch mask target) size (state_of machine.old held byte) result (state_of machine.new held byte) }
+{
+    machine.place = if is_selected(mask, machine.condition_code()) {
+        target
+    } else {
+        machine.place.wrapping_add(size)
+    };
+    StepEnd::Went
+}
+
 /// An action of an instruction of so many bytes.
 fn execute<M: Memory>(machine: &mut Machine, memory: &mut M, action: &Action, size: u64) -> StepEnd
     requires { IsSoundAction action.now }
@@ -114,14 +127,7 @@ fn execute<M: Memory>(machine: &mut Machine, memory: &mut M, action: &Action, si
             }
             Some(kind) => StepEnd::Stopped(kind, place),
         },
-        Action::Branch { mask, target } => {
-            machine.place = if is_selected(*mask, machine.condition_code()) {
-                *target
-            } else {
-                place.wrapping_add(size)
-            };
-            StepEnd::Went
-        }
+        Action::Branch { mask, target } => branch(machine, *mask, *target, size),
         Action::BranchAndSave { link, target } => {
             machine.put(*link, place.wrapping_add(size));
             machine.place = *target;
@@ -135,20 +141,30 @@ fn semantics_step<M: Memory>(
     machine: &mut Machine,
     memory: &mut M,
     decoded: &Decoded,
-    semantics: RowSemantics,
+    semantics: &RowSemantics,
 ) -> StepEnd
     requires found { IsFound (memory_of (M.held memory.old) (M.byte memory.old)) machine.old.place decoded.now }
-    requires is { semantics_of decoded.now.row.opcode ≡ Some semantics }
+    requires is { semantics_of decoded.now.row.opcode ≡ Some semantics.now }
     ensures { Steps (state_of machine.old (M.held memory.old) (M.byte memory.old)) result (state_of machine.new (M.held memory.new) (M.byte memory.new)) }
 {
-    if is_free(machine, semantics, &decoded.fields) {
+    if is_free(machine, *semantics, &decoded.fields) {
         return StepEnd::NoRow;
     }
-    if is_odd_pair(semantics, &decoded.fields) {
+    if is_odd_pair(*semantics, &decoded.fields) {
         return StepEnd::Stopped(StopKind::Specification, machine.place);
     }
-    let action = action(machine, semantics, &decoded.fields);
+    let action = action(machine, *semantics, &decoded.fields);
     execute(machine, memory, &action, length(decoded.row.format) as u64)
+}
+
+/// The step at a branch to a distance that was fetched. It is the most frequent step, and has none of the others' values.
+fn relative_step(machine: &mut Machine, decoded: &Decoded) -> StepEnd
+    requires { semantics_of decoded.now.row.opcode ≡ Some RowSemantics.BranchRelative }
+    ensures { (held : ℕ → Bool) (byte : ℕ → ℕ) → IsFound (memory_of held byte) machine.old.place decoded.now → Steps (state_of machine.old held byte) result (state_of machine.new held byte) }
+{
+    let target = relative_address(machine, &decoded.fields);
+    let size = length(decoded.row.format) as u64;
+    branch(machine, decoded.fields.masks[0], target, size)
 }
 
 /// The step at an instruction that was fetched.
@@ -158,7 +174,10 @@ fn row_step<M: Memory>(machine: &mut Machine, memory: &mut M, located: &Located)
     ensures { Steps (state_of machine.old (M.held memory.old) (M.byte memory.old)) result (state_of machine.new (M.held memory.new) (M.byte memory.new)) }
 {
     let semantics = semantics_at(located.at);
-    semantics_step(machine, memory, &located.decoded, semantics)
+    match semantics {
+        RowSemantics::BranchRelative => relative_step(machine, &located.decoded),
+        _ => semantics_step(machine, memory, &located.decoded, semantics),
+    }
 }
 
 impl Machine {
