@@ -1,6 +1,7 @@
 pub mod Bytes
 pub mod Codes
 pub mod Digits
+pub mod Direct
 pub mod Encoding
 pub mod Fetching
 pub mod Finding

@@ -5,9 +5,10 @@ ghost use Rattle.s390x_format.specs.Reading.{be_bytes, be_number, opcode_at, no_
 ghost use Rattle.s390x_format.specs.Index.{is_index};
 ghost use Rattle.s390x_format.specs.declared.reading.Reading.{Reading};
 
+use crate::frequent::unpack_as;
 use crate::index::{FirstByte, RestPlace, search};
-use crate::kind::{layout, length};
-use crate::layout::{Unpacked, unpack};
+use crate::kind::length;
+use crate::layout::Unpacked;
 use crate::row::{MachineRow, Row, allows};
 use crate::steps::Steps;
 use std::sync::ledger::Ledger;
@@ -78,8 +79,7 @@ fn read_as(row: &MachineRow, bytes: usize, n: u64) -> Option<Reading>
     if length(row.format) != bytes {
         return None;
     }
-    let parts = layout(row.format);
-    let Unpacked { slots, has_zeros } = unpack(parts, 8 * bytes as u8, n);
+    let Unpacked { slots, has_zeros } = unpack_as(row.format, n);
     if !has_zeros {
         return None;
     }
