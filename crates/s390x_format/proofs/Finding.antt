@@ -10,12 +10,13 @@ use Rattle.std.specs.Prelude.{IfSome}
 use Rattle.s390x_format.specs.declared.row.MachineRow.{MachineRow}
 use Rattle.s390x_format.specs.declared.kind.FormatKind.{FormatKind}
 use Rattle.s390x_format.specs.declared.reading.Reading.{Reading}
+use Rattle.s390x_format.specs.declared.reading.PlacedReading.{PlacedReading}
 use Rattle.s390x_format.specs.Layout.{number}
 use Rattle.s390x_format.specs.Formats.{layout_of, length_of, place_of}
 use Rattle.s390x_format.specs.Rows.{are_rows, rises, first_of, fetch_length_of}
 use Rattle.s390x_format.specs.declared.index.FirstByte.{FirstByte}
 use Rattle.s390x_format.specs.Index.{no_first_byte, is_index}
-use Rattle.s390x_format.specs.Reading.{be_bytes, be_number, opcode_at, no_row, HasOpcode, IsReadAs, IsReading}
+use Rattle.s390x_format.specs.Reading.{be_bytes, be_number, opcode_at, no_row, HasOpcode, IsReadAs, IsReading, IsPlacedReading}
 use Rattle.s390x_format.proofs.Packing.{layout_slot, field-number, number_lt}
 use Rattle.s390x_format.proofs.FormatFacts.{layout_ok, layout_bits_of, length_some}
 use Rattle.s390x_format.proofs.Bytes.{be_number-be_bytes, be_number_lt}
@@ -134,14 +135,17 @@ fetched rows bs d at count bytes below le r =
       bytes_are = rw (e, n) (sym back);
     }
 
--- a row with the opcode is the row that the bytes are of
-pub found : (rows : List MachineRow) (bs : List ℕ) (d : Reading) (o : ℕ) (r : MachineRow) → rises 0 rows ≡ true → (firsts : List FirstByte) → (h : Known rows firsts bs d) → (get_or rows h.at no_row).opcode ≡ o → HasOpcode rows o r → get_or rows h.at no_row ≡ r
-found rows bs d o r up firsts h e f =
-    let same : h.at ≡ f.at = same_place rows h.at f.at up h.below f.below (e ∙ sym f.same ∙ ap (λ (x : MachineRow). x.opcode) (sym f.is)) in
-    ap (λ (i : ℕ). get_or rows i no_row) same ∙ f.is
+-- the place of a row with the opcode is that of the row that the bytes are of
+pub found : (rows : List MachineRow) (bs : List ℕ) (d : Reading) (o at : ℕ) → rises 0 rows ≡ true → (firsts : List FirstByte) → (h : Known rows firsts bs d) → (get_or rows h.at no_row).opcode ≡ o → HasOpcode rows o at → h.at ≡ at
+found rows bs d o at up firsts h e f = same_place rows h.at at up h.below f.below (e ∙ sym f.same)
 
-pub fetched_some : (rows : List MachineRow) (bs : List ℕ) (count o : ℕ) (r : MachineRow) (x : Option Reading) → ((i : ℕ) → get_or bs i 0 < 256) → count ≤ length bs → HasOpcode rows o r →
-    IfSome x (λ d. IsReadAs r count (be_number (take count bs)) d) → IfSome x (λ d. IsReading rows bs d)
-fetched_some rows bs count o r None bytes le f h = tt
-fetched_some rows bs count o r (Some d) bytes le f h =
-    fetched rows bs d f.at count bytes f.below le (subst (λ (x : MachineRow). IsReadAs x count (be_number (take count bs)) d) (sym f.is) h)
+pub fetched_some : (rows : List MachineRow) (bs : List ℕ) (count o at : ℕ) (x : Option PlacedReading) → ((i : ℕ) → get_or bs i 0 < 256) → count ≤ length bs → HasOpcode rows o at →
+    IfSome x (λ p. (p.at ≡ at) × IsReadAs (get_or rows at no_row) count (be_number (take count bs)) p.reading) → IfSome x (λ p. IsPlacedReading rows bs p)
+fetched_some rows bs count o at None bytes le f h = tt
+fetched_some rows bs count o at (Some p) bytes le f h = record {
+  reading = fetched rows bs p.reading at count bytes f.below le h.1;
+  row = record {
+    below = subst (λ (i : ℕ). i < length rows) (sym h.0) f.below;
+    same = ap (λ (i : ℕ). (get_or rows i no_row).opcode) h.0 ∙ sym h.1.opcode;
+  };
+}

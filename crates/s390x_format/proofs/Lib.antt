@@ -1,11 +1,13 @@
 pub mod Bytes
 pub mod Codes
 pub mod Digits
+pub mod Direct
 pub mod Encoding
 pub mod Fetching
 pub mod Finding
 pub mod FormatFacts
 pub mod Lengths
+pub mod Locating
 pub mod OneReading
 pub mod Packing
 pub mod Searching

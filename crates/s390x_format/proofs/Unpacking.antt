@@ -1,9 +1,9 @@
 -- The loop of `unpack`.
-use Rattle.std.proofs.Common.{◌≡◌, ℕ, zero, suc, ◌+◌, ◌*◌, ◌/◌, ◌%◌, ◌^◌, ◌<◌, ◌≤◌, Bool, true, false, ◌==◌, List, [], ◌∷◌, length, get_or, drop, refl, ap, subst, ◌∙◌, arith, if◌then◌else◌, drop-cons, drop_of_length-le, add-one, eq-eqb}
+use Rattle.std.proofs.Common.{◌≡◌, ℕ, zero, suc, ◌+◌, ◌*◌, ◌/◌, ◌%◌, ◌^◌, ◌<◌, ◌≤◌, Bool, true, false, ◌&&◌, ◌||◌, nat_lt, ◌==◌, List, [], ◌∷◌, length, get_or, drop, refl, sym, ap, subst, ◌∙◌, arith, if◌then◌else◌, drop-cons, drop_of_length-le, add-one, eq-eqb}
 use Rattle.std.proofs.Math.Pow.{pow_pos, pow_mono}
 use Rattle.std.proofs.lemmas.Nat.{mod_below}
 use Rattle.s390x_format.specs.declared.layout.Part.{Part}
-use Rattle.s390x_format.specs.Layout.{bits, field, width_of_part, is_layout}
+use Rattle.s390x_format.specs.Layout.{bits, field, width_of_part, is_layout, zero_bits}
 use Rattle.s390x_format.proofs.Packing.{layout_bits, layout_slot}
 use Rattle.s390x_format.proofs.Digits.{field_lt}
 
@@ -61,3 +61,31 @@ pub sum_next : (ps : List Part) (n k i x y : ℕ) (d : Part) (m digit : ℕ) →
 sum_next ps n k i x y d m digit lt g e f =
     let e' : y ≡ (if (get_or ps i d).slot == k then n / 2 ^ bits (drop (i + 1) ps) % 2 ^ (get_or ps i d).width * 2 ^ (get_or ps i d).low else 0) + x = rw g at e in
     omega (arith, e', f, field_at ps n k i d lt)
+
+-- ---- the bits of no field
+zero_at : (ps : List Part) (n i : ℕ) (d : Part) → i < length ps →
+    zero_bits (drop i ps) n ≡ ((nat_lt (get_or ps i d).slot 10 || (n / 2 ^ bits (drop (i + 1) ps) % 2 ^ (get_or ps i d).width == 0)) && zero_bits (drop (i + 1) ps) n)
+unfolding zero_bits
+zero_at ps n i d lt = rw (add-one, drop-cons ps i d lt) refl
+
+regrouped : (a here rest : Bool) → ((here && a) && rest) ≡ (a && (here && rest))
+regrouped true true rest = refl
+regrouped true false rest = refl
+regrouped false true rest = refl
+regrouped false false rest = refl
+
+pub zeros_next : (ps : List Part) (n i : ℕ) (d : Part) (a next m : Bool) (digit : ℕ) → i < length ps →
+    digit ≡ n / 2 ^ bits (drop (i + 1) ps) % 2 ^ (get_or ps i d).width →
+    next ≡ ((nat_lt (get_or ps i d).slot 10 || (digit == 0)) && a) →
+    (a && zero_bits (drop i ps) n) ≡ m → (next && zero_bits (drop (i + 1) ps) n) ≡ m
+zeros_next ps n i d a next m digit lt g h e =
+    let h' : next ≡ ((nat_lt (get_or ps i d).slot 10 || (n / 2 ^ bits (drop (i + 1) ps) % 2 ^ (get_or ps i d).width == 0)) && a) = rw g at h in
+    rw h' (regrouped a _ (zero_bits (drop (i + 1) ps) n) ∙ ap (λ (z : Bool). a && z) (sym (zero_at ps n i d lt)) ∙ e)
+
+pub zeros_done : (ps : List Part) (n i : ℕ) (a m : Bool) → length ps ≤ i → (a && zero_bits (drop i ps) n) ≡ m → a ≡ m
+unfolding zero_bits
+zeros_done ps n i a m le e = sym (last a) ∙ subst (λ (xs : List Part). (a && zero_bits xs n) ≡ m) (drop_of_length-le ps le) e
+  where
+    last : (b : Bool) → (b && true) ≡ b
+    last true = refl
+    last false = refl

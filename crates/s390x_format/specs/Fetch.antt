@@ -1,9 +1,10 @@
 -- The instruction with which some bytes begin.
-use Rattle.std.specs.Prelude.{◌≡◌, ℕ, List}
+use Rattle.std.specs.Prelude.{◌≡◌, ℕ, List, Option, Some, None}
 use Rattle.s390x_format.specs.declared.row.MachineRow.{MachineRow}
 use Rattle.s390x_format.specs.declared.table.TheConstants.{MACHINE_ROWS}
 use Rattle.s390x_format.specs.declared.decoder.Decoded.{Decoded}
-use Rattle.s390x_format.specs.Reading.{IsReading}
+use Rattle.s390x_format.specs.declared.decoder.Located.{Located}
+use Rattle.s390x_format.specs.Reading.{HasOpcode, IsReading}
 use Rattle.s390x_format.specs.View.{fields_of}
 
 -- the table of machine rows
@@ -16,3 +17,13 @@ pub record IsFetch (bytes : List ℕ) (d : Decoded) : Type 0 where
   pub slots : List ℕ
   pub reading : IsReading machine_rows bytes (record { row = d.row; slots = slots })
   pub fields : d.fields ≡ fields_of d.row.format slots
+
+-- the same, and the table's row at the place has the opcode
+pub record IsLocated (bytes : List ℕ) (l : Located) : Type 0 where
+  pub fetch : IsFetch bytes l.decoded
+  pub row : HasOpcode machine_rows l.decoded.row.opcode l.at
+
+-- the instruction without the place of its row
+abbrev pub decoded_in : Option Located → Option Decoded
+decoded_in None = None
+decoded_in (Some l) = Some l.decoded

@@ -1,10 +1,11 @@
 -- Which bytes are a row's, with which values in the slots.
-use Rattle.std.specs.Prelude.{◌≡◌, ℕ, zero, suc, ◌+◌, ◌-◌, ◌*◌, ◌/◌, ◌%◌, ◌^◌, ◌<◌, true, List, [], ◌∷◌, length, take, get_or, slice_index}
+use Rattle.std.specs.Prelude.{◌≡◌, ℕ, zero, suc, ◌+◌, ◌-◌, ◌*◌, ◌/◌, ◌%◌, ◌^◌, ◌<◌, true, List, [], ◌∷◌, length, take, get_or, slice_index, Option, Some, None}
 use Rattle.s390x_format.specs.declared.kind.FormatKind.{FormatKind}
 use Rattle.s390x_format.specs.declared.kind.FormatKind.TheVariants.{E}
 use Rattle.s390x_format.specs.declared.row.MachineRow.{MachineRow}
 use Rattle.s390x_format.specs.declared.row.Allowed.TheVariants.{Any}
 use Rattle.s390x_format.specs.declared.reading.Reading.{Reading}
+use Rattle.s390x_format.specs.declared.reading.PlacedReading.{PlacedReading}
 use Rattle.s390x_format.specs.declared.index.RestPlace.{RestPlace}
 use Rattle.s390x_format.specs.declared.index.RestPlace.TheVariants.{Nowhere, LowHalf, SecondByte, LastByte}
 use Rattle.s390x_format.specs.Layout.{number, SlotsFit}
@@ -36,12 +37,10 @@ opcode_at LowHalf t n = n / 2 ^ (t - 8) % 256 * 16 + n / 2 ^ (t - 16) % 16
 opcode_at SecondByte t n = n / 2 ^ (t - 8) % 256 * 256 + n / 2 ^ (t - 16) % 256
 opcode_at LastByte t n = n / 2 ^ (t - 8) % 256 * 256 + n % 256
 
--- this is a row of the table with this opcode
-pub record HasOpcode (rows : List MachineRow) (opcode : ℕ) (r : MachineRow) : Type 0 where
-  pub at : ℕ
+-- at this place the table has a row with this opcode
+pub record HasOpcode (rows : List MachineRow) (opcode at : ℕ) : Type 0 where
   pub below : at < length rows
-  pub is : get_or rows at no_row ≡ r
-  pub same : r.opcode ≡ opcode
+  pub same : (get_or rows at no_row).opcode ≡ opcode
 
 -- a number of some bytes is the row's, with these values in the slots
 pub record IsReadAs (row : MachineRow) (bytes n : ℕ) (d : Reading) : Type 0 where
@@ -63,3 +62,13 @@ pub record IsReading (rows : List MachineRow) (bytes : List ℕ) (d : Reading) :
   pub code : slice_index d.slots 0 ≡ d.row.opcode
   pub allowed : is_allowed (get_or rows at no_row).allowed d.slots ≡ true
   pub bytes_are : take (length_of d.row.format) bytes ≡ encode d.row.format d.slots
+
+-- what a reading at a place in the table says, without the place
+abbrev pub reading_in : Option PlacedReading → Option Reading
+reading_in None = None
+reading_in (Some p) = Some p.reading
+
+-- the bytes begin with those of the row at a place in the table, with these values in the slots
+pub record IsPlacedReading (rows : List MachineRow) (bytes : List ℕ) (p : PlacedReading) : Type 0 where
+  pub reading : IsReading rows bytes p.reading
+  pub row : HasOpcode rows p.reading.row.opcode p.at

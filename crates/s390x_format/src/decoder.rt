@@ -1,6 +1,6 @@
 //! The decoder.
 ghost use Rattle.std.specs.Prelude.{◌≡◌, ℕ, ◌+◌, ◌-◌, ◌*◌, ◌^◌, ◌≤◌, ◌<◌, length, slice_index, IfSome};
-ghost use Rattle.s390x_format.specs.Fetch.{IsFetch, machine_rows};
+ghost use Rattle.s390x_format.specs.Fetch.{IsFetch, IsLocated, decoded_in, machine_rows};
 ghost use Rattle.s390x_format.specs.Rows.{rows_with};
 ghost use Rattle.s390x_format.specs.declared.decoder.Decoded.{Decoded};
 
@@ -20,30 +20,47 @@ pub struct Decoded {
     pub fields: Fields,
 }
 
+/// An instruction, and where its row stands in the table of machine rows.
+#[derive(Clone, Copy)]
+pub struct Located {
+    pub at: usize,
+    pub decoded: Decoded,
+}
+
 /// The instruction with which the bytes begin. `None` exactly where there are too few bytes or no
 /// machine row has these.
+#[tactic(auto, using(crate::proofs::Locating::fetched_alone))]
 pub fn decode(bytes: &[u8]) -> Option<Decoded>
     ensures sound { IfSome result (λ d. IsFetch bytes.now d) }
     ensures complete { (d : Decoded) → IsFetch bytes.now d → result ≡ Some d }
 {
-    decode_once::<Brand>(bytes, Blank::new(1))
+    decoded_in(locate(bytes))
+}
+
+/// What `decode` answers, with the place of the row in the table of machine rows.
+pub fn locate(bytes: &[u8]) -> Option<Located>
+    ensures sound { IfSome result (λ l. IsLocated bytes.now l) }
+    ensures complete { (d : Decoded) → IsFetch bytes.now d → decoded_in result ≡ Some d }
+{
+    locate_once::<Brand>(bytes, Blank::new(1))
 }
 
 /// The same, with steps that nobody reads.
-fn decode_once<L: Ledger>(bytes: &[u8], blank: Blank) -> Option<Decoded>
+fn locate_once<L: Ledger>(bytes: &[u8], blank: Blank) -> Option<Located>
     requires name { blank.name ≡ L.name }
     requires parts { blank.parts ≡ L.parts }
     requires some { 0 < L.parts }
-    ensures sound { IfSome result (λ d. IsFetch bytes.now d) }
-    ensures complete { (d : Decoded) → IsFetch bytes.now d → result ≡ Some d }
+    ensures sound { IfSome result (λ l. IsLocated bytes.now l) }
+    ensures complete { (d : Decoded) → IsFetch bytes.now d → decoded_in result ≡ Some d }
 {
     let mut steps = Steps::<L>::new(blank);
-    decode_counted(bytes, &mut steps)
+    locate_counted(bytes, &mut steps)
 }
 
 /// What `decode` answers. A step is one comparison of the rest of an opcode with that of a row.
 /// Where n machine rows have the first byte, it takes s steps with 2^s at most 2n + 1; with no
 /// bytes it takes none.
+#[tactic(auto, using(crate::proofs::Locating::fetched_alone))]
 pub fn decode_counted<L: Ledger>(bytes: &[u8], steps: &mut Steps<L>) -> Option<Decoded>
     ensures sound { IfSome result (λ d. IsFetch bytes.now d) }
     ensures complete { (d : Decoded) → IsFetch bytes.now d → result ≡ Some d }
@@ -51,10 +68,34 @@ pub fn decode_counted<L: Ledger>(bytes: &[u8], steps: &mut Steps<L>) -> Option<D
     ensures few_steps { 2 ^ (steps.new - steps.old) ≤ 2 * rows_with (slice_index bytes.now 0) machine_rows + 1 }
     ensures no_bytes { length bytes.now ≡ 0 → steps.new ≡ steps.old }
 {
+    decoded_in(locate_counted(bytes, steps))
+}
+
+/// The instruction without the place of its row.
+fn decoded_in(located: Option<Located>) -> Option<Decoded>
+    ensures { result ≡ decoded_in located }
+{
+    match located {
+        Some(located) => Some(located.decoded),
+        None => None,
+    }
+}
+
+/// What `locate` answers, in the steps of `decode_counted`.
+fn locate_counted<L: Ledger>(bytes: &[u8], steps: &mut Steps<L>) -> Option<Located>
+    ensures sound { IfSome result (λ l. IsLocated bytes.now l) }
+    ensures complete { (d : Decoded) → IsFetch bytes.now d → decoded_in result ≡ Some d }
+    ensures steps { steps.old ≤ steps.new }
+    ensures few_steps { 2 ^ (steps.new - steps.old) ≤ 2 * rows_with (slice_index bytes.now 0) machine_rows + 1 }
+    ensures no_bytes { length bytes.now ≡ 0 → steps.new ≡ steps.old }
+{
     match read(&MACHINE_ROWS, &FIRST_BYTES, bytes, steps) {
-        Some(reading) => Some(Decoded {
-            row: reading.row,
-            fields: view(&reading),
+        Some(placed) => Some(Located {
+            at: placed.at,
+            decoded: Decoded {
+                row: placed.reading.row,
+                fields: view(&placed.reading),
+            },
         }),
         None => None,
     }

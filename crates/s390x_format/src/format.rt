@@ -37,7 +37,7 @@ fn read_slots(kind: FormatKind, n: u64) -> Option<[u32; 10]>
     ensures exact { n < 2 ^ (8 * length_of kind) → IsSome result ↔ zero_bits (layout_of kind) n ≡ true }
 {
     let parts = layout(kind);
-    let slots = unpack(parts, 8 * length(kind) as u8, n);
+    let slots = unpack(parts, 8 * length(kind) as u8, n).slots;
     if pack(parts, &slots) == n {
         Some(slots)
     } else {

@@ -29,18 +29,18 @@ pub struct FirstByte {
     pub end: usize,
 }
 
-/// The row with the first byte and the opcode. Each comparison is a step.
+/// Where the row with the first byte and the opcode stands. Each comparison is a step.
 pub fn search<L: Ledger>(
     rows: &[MachineRow],
     firsts: &[FirstByte; 256],
     first: u8,
     opcode: u16,
     steps: &mut Steps<L>,
-) -> Option<MachineRow>
+) -> Option<usize>
     requires index { is_index rows.now firsts.now ≡ true }
     requires rising { rises 0 rows.now ≡ true }
     requires few { length rows.now < 2 ^ 16 }
-    ensures row { MatchOption result (LacksRow rows.now first opcode) (λ r. HasOpcode rows.now opcode r) }
+    ensures row { MatchOption result (LacksRow rows.now first opcode) (λ i. HasOpcode rows.now opcode i) }
     ensures steps { steps.old ≤ steps.new }
     ensures few_steps { 2 ^ (steps.new - steps.old) ≤ 2 * rows_with first rows.now + 1 }
 {
@@ -49,10 +49,10 @@ pub fn search<L: Ledger>(
     let mut high = span.end;
     while low < high {
         let mid = low + (high - low) / 2;
-        let row = rows[mid];
+        let row = &rows[mid];
         steps.tick();
         if row.opcode == opcode {
-            return Some(row);
+            return Some(mid);
         }
         if row.opcode < opcode {
             low = mid + 1;

@@ -1,6 +1,6 @@
 //! Layouts: which bits of an instruction are which bits of its operands.
-ghost use Rattle.std.specs.Prelude.{◌≡◌, ℕ, ◌+◌, ◌*◌, ◌/◌, ◌%◌, ◌^◌, ◌<◌, ◌≤◌, Bool, true, ◌==◌, length, slice_index, if◌then◌else◌};
-ghost use Rattle.s390x_format.specs.Layout.{number, piece, field, is_layout, bits};
+ghost use Rattle.std.specs.Prelude.{◌≡◌, ℕ, ◌+◌, ◌*◌, ◌/◌, ◌%◌, ◌^◌, ◌<◌, ◌≤◌, ◌&&◌, ◌||◌, nat_lt, Bool, true, ◌==◌, length, slice_index, if◌then◌else◌};
+ghost use Rattle.s390x_format.specs.Layout.{number, piece, field, is_layout, bits, zero_bits};
 
 // The ten slots of an instruction's values. Registers stand in the order of the arguments of the
 // format's encoding call, and so do masks and immediates of 8 bits.
@@ -91,18 +91,36 @@ fn add_digit(slots: &mut [u32; 10], part: Part, digit: u64)
     }
 }
 
+/// Whether the bits of no field are zero in one more digit, as they are in those before it.
+fn has_more_zeros(before: bool, part: Part, digit: u64) -> bool
+    ensures { result ≡ ((nat_lt part.slot 10 || (digit == 0)) && before) }
+{
+    (part.slot < 10 || digit == 0) && before
+}
+
+/// What a number has in a format's slots, and whether its bits of no field are zero.
+#[derive(Clone, Copy)]
+pub struct Unpacked {
+    pub slots: [u32; 10],
+    pub has_zeros: bool,
+}
+
 /// The slots of a number.
-pub fn unpack(parts: &[Part], total: u8, n: u64) -> [u32; 10]
+pub fn unpack(parts: &[Part], total: u8, n: u64) -> Unpacked
     requires layout { is_layout parts.now ≡ true }
     requires total { total ≡ bits parts.now }
-    ensures ten { length result ≡ 10 }
-    ensures values { (k : ℕ) → k < 10 → slice_index result k ≡ field parts.now n k }
+    ensures ten { length result.slots ≡ 10 }
+    ensures values { (k : ℕ) → k < 10 → slice_index result.slots k ≡ field parts.now n k }
+    ensures zeros { result.has_zeros ≡ zero_bits parts.now n }
 {
     let mut slots = [0u32; 10];
+    let mut has_zeros = true;
     let mut rest = total;
     for part in parts {
         rest -= part.width;
-        add_digit(&mut slots, *part, digit_of(n, rest, part.width));
+        let digit = digit_of(n, rest, part.width);
+        has_zeros = has_more_zeros(has_zeros, *part, digit);
+        add_digit(&mut slots, *part, digit);
     }
-    slots
+    Unpacked { slots, has_zeros }
 }

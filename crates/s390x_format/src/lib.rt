@@ -5,6 +5,7 @@ pub mod decoder;
 pub mod fields;
 pub mod first_bytes;
 pub mod format;
+pub mod frequent;
 pub mod immediate_formats;
 mod immediate_impls;
 pub mod index;
@@ -23,7 +24,7 @@ pub mod table;
 pub mod vector_formats;
 mod vector_impls;
 
-pub use decoder::{Decoded, decode, decode_counted};
+pub use decoder::{Decoded, Located, decode, decode_counted, locate};
 pub use fields::Fields;
 pub use format::Format;
 pub use immediate_formats::{RiA, RieA, RieD, RieF, RieG, RilA};

@@ -1,13 +1,14 @@
 //! Reading an instruction's bytes as the values in its slots.
-ghost use Rattle.std.specs.Prelude.{◌≡◌, ℕ, ◌+◌, ◌-◌, ◌*◌, ◌^◌, ◌<◌, ◌≤◌, true, length, slice_index, IfSome};
+ghost use Rattle.std.specs.Prelude.{◌≡◌, ℕ, ◌+◌, ◌-◌, ◌*◌, ◌^◌, ◌<◌, ◌≤◌, true, length, get_or, slice_index, IfSome};
 ghost use Rattle.s390x_format.specs.Rows.{fetch_length_of, are_rows, rises, rows_with};
-ghost use Rattle.s390x_format.specs.Reading.{be_bytes, be_number, opcode_at, IsReadAs, IsReading};
+ghost use Rattle.s390x_format.specs.Reading.{be_bytes, be_number, opcode_at, no_row, reading_in, IsReadAs, IsReading, IsPlacedReading};
 ghost use Rattle.s390x_format.specs.Index.{is_index};
 ghost use Rattle.s390x_format.specs.declared.reading.Reading.{Reading};
 
+use crate::frequent::unpack_as;
 use crate::index::{FirstByte, RestPlace, search};
-use crate::kind::{layout, length};
-use crate::layout::{pack, unpack};
+use crate::kind::length;
+use crate::layout::Unpacked;
 use crate::row::{MachineRow, Row, allows};
 use crate::steps::Steps;
 use std::sync::ledger::Ledger;
@@ -17,6 +18,13 @@ use std::sync::ledger::Ledger;
 pub struct Reading {
     pub row: Row,
     pub slots: [u32; 10],
+}
+
+/// A reading, and where its row stands in the table.
+#[derive(Drop)]
+pub struct PlacedReading {
+    pub at: usize,
+    pub reading: Reading,
 }
 
 /// How many bytes the instruction has that begins with this byte: 2 where its first two bits are
@@ -63,41 +71,59 @@ fn opcode_of(rest: RestPlace, total: u8, n: u64) -> u16
 }
 
 /// The values of a number in the slots of a row.
-fn read_as(row: MachineRow, bytes: usize, n: u64) -> Option<Reading>
-    ensures sound { IfSome result (λ d. IsReadAs row bytes n d) }
-    ensures complete { (d : Reading) → IsReadAs row bytes n d → result ≡ Some d }
+fn read_as(row: &MachineRow, bytes: usize, n: u64) -> Option<Reading>
+    requires { n < 2 ^ (8 * bytes) }
+    ensures sound { IfSome result (λ d. IsReadAs row.now bytes n d) }
+    ensures complete { (d : Reading) → IsReadAs row.now bytes n d → result ≡ Some d }
 {
     if length(row.format) != bytes {
         return None;
     }
-    let parts = layout(row.format);
-    let slots = unpack(parts, 8 * bytes as u8, n);
-    if pack(parts, &slots) == n && slots[0] == row.opcode as u32 && allows(row.allowed, &slots) {
-        Some(Reading {
-            row: Row {
-                format: row.format,
-                opcode: row.opcode,
-            },
-            slots,
-        })
-    } else {
-        None
+    let Unpacked { slots, has_zeros } = unpack_as(row.format, n);
+    if !has_zeros {
+        return None;
+    }
+    if slots[0] != row.opcode as u32 {
+        return None;
+    }
+    if !allows(row.allowed, &slots) {
+        return None;
+    }
+    Some(Reading {
+        row: Row {
+            format: row.format,
+            opcode: row.opcode,
+        },
+        slots,
+    })
+}
+
+/// The values of a number in the slots of the row at a place in the table, with the place.
+fn read_at(rows: &[MachineRow], at: usize, bytes: usize, n: u64) -> Option<PlacedReading>
+    requires below { n < 2 ^ (8 * bytes) }
+    requires place { at < length rows.now }
+    ensures sound { IfSome result (λ p. (p.at ≡ at) × IsReadAs (get_or rows.now at no_row) bytes n p.reading) }
+    ensures complete { (d : Reading) → IsReadAs (get_or rows.now at no_row) bytes n d → reading_in result ≡ Some d }
+{
+    match read_as(&rows[at], bytes, n) {
+        Some(reading) => Some(PlacedReading { at, reading }),
+        None => None,
     }
 }
 
-/// The row of the table that the bytes begin with, and its values.
+/// The row of the table that the bytes begin with, its place, and its values.
 pub fn read<L: Ledger>(
     rows: &[MachineRow],
     firsts: &[FirstByte; 256],
     bytes: &[u8],
     steps: &mut Steps<L>,
-) -> Option<Reading>
+) -> Option<PlacedReading>
     requires table { are_rows rows.now ≡ true }
     requires index { is_index rows.now firsts.now ≡ true }
     requires rising { rises 0 rows.now ≡ true }
     requires few { length rows.now < 2 ^ 16 }
-    ensures sound { IfSome result (λ d. IsReading rows.now bytes.now d) }
-    ensures complete { (d : Reading) → IsReading rows.now bytes.now d → result ≡ Some d }
+    ensures sound { IfSome result (λ p. IsPlacedReading rows.now bytes.now p) }
+    ensures complete { (d : Reading) → IsReading rows.now bytes.now d → reading_in result ≡ Some d }
     ensures steps { steps.old ≤ steps.new }
     ensures few_steps { 2 ^ (steps.new - steps.old) ≤ 2 * rows_with (slice_index bytes.now 0) rows.now + 1 }
     ensures no_bytes { length bytes.now ≡ 0 → steps.new ≡ steps.old }
@@ -113,7 +139,7 @@ pub fn read<L: Ledger>(
     let n = number_of(&bytes[..count]);
     let opcode = opcode_of(firsts[first as usize].rest, 8 * count as u8, n);
     match search(rows, firsts, first, opcode, steps) {
-        Some(row) => read_as(row, count, n),
+        Some(at) => read_at(rows, at, count, n),
         None => None,
     }
 }

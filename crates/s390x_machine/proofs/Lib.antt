@@ -16,7 +16,6 @@ pub mod Folding
 pub mod Finalizing
 pub mod Frame
 pub mod Functions
-pub mod Halving
 pub mod Helpers
 pub mod Induction
 pub mod RowSemantics
@@ -42,6 +41,7 @@ pub mod RegisterNumbers
 pub mod Built
 pub mod OnRegisters
 pub mod OnImmediates
+pub mod Rising
 pub mod Rotating
 pub mod StoppingSteps
 pub mod Leading

@@ -34,3 +34,8 @@ reaches_missing has a (suc n) i lt h =
       | inl less ↦ ap (λ x. has (wrapping_add64 a n) && x) (reaches_missing has a n i less h) ∙ none_after (has (wrapping_add64 a n))
       | inr more ↦ let e : n ≡ i = omega arith in ap (λ k. has (wrapping_add64 a k) && reaches has a n) e ∙ ap (λ x. x && reaches has a n) h
     ]
+
+-- all of them are there
+pub reaches_all : (has : ℕ → Bool) (a n : ℕ) → ((i : ℕ) → i < n → has (wrapping_add64 a i) ≡ true) → reaches has a n ≡ true
+reaches_all has a zero h = refl
+reaches_all has a (suc n) h = ap₂ (λ x y. x && y) (h n (omega arith)) (reaches_all has a n (λ i lt. h i (omega arith)))

@@ -1,10 +1,17 @@
 -- A memory of regions: the first region that has an address is the one that counts.
-use Rattle.std.proofs.Common.{◌≡◌, ◌≢◌, ℕ, zero, suc, ◌-◌, ◌^◌, ◌<◌, Bool, true, false, ◌&&◌, ◌||◌, ◌==◌, if◌then◌else◌, List, [], ◌∷◌, length, get_or, slice_index, refl, sym, ap, ◌∙◌, arith, true≢false}
+use Rattle.std.proofs.Common.{◌≡◌, ◌≢◌, ℕ, zero, suc, ◌+◌, ◌-◌, ◌^◌, ◌<◌, ◌≤◌, Bool, true, false, ◌&&◌, ◌||◌, ◌==◌, if◌then◌else◌, List, [], ◌∷◌, length, get_or, slice_index, refl, sym, ap, ap₂, ◌∙◌, arith, true≢false}
 use Rattle.std.specs.Prelude.{nat_le, nat_lt, slice_set}
-use Rattle.std.proofs.lemmas.Bool.{and_parts, leb-true, eqb-true, eqb-false}
+use Rattle.std.specs.BTreeMap.{get}
+use Rattle.std.specs.Option.{is_some, unwrap_or}
+use Rattle.std.specs.Ordering.{nat_cmp}
+use Rattle.std.proofs.Math.Nat.{mod-eq_of_lt}
+use Rattle.std.proofs.lemmas.Bool.{and_parts, leb-true, ltb-true, le-leb, lt-ltb, eqb-true, eqb-false}
 use Rattle.std.proofs.lemmas.List.{get_or-set_same, get_or-set_other, length-set}
-use Rattle.s390x_operations.specs.State.{update}
-use Rattle.s390x_machine.specs.Regions.{covers, contains, held_in, byte_in}
+use Rattle.s390x_operations.specs.State.{update, wrapping_add64}
+use Rattle.s390x_machine.specs.Regions.{covers, contains, held_in, byte_in, is_held, byte_of, ContainsAll, IsInFirst}
+use Rattle.s390x_machine.specs.State.{AreBytes}
+use Rattle.s390x_machine.specs.declared.flat.FlatMemory.{FlatMemory}
+use Rattle.s390x_machine.proofs.Reaching.{reaches_all}
 use Rattle.s390x_machine.specs.declared.flat.Region.{Region}
 
 -- none of the first i regions has the address
@@ -116,3 +123,40 @@ byte_added r rs a = refl
 pub none_held : (a : ℕ) → held_in [] a ≡ false
 unfolding held_in
 none_held a = refl
+
+-- ---- some bytes of the region that was added last
+
+pub contained : (r : Region) (a n : ℕ) → r.start ≤ a → n ≤ length r.bytes.items → a - r.start ≤ length r.bytes.items - n → a + n < 2 ^ 64 → ContainsAll r a n
+contained r a n low few end small i lt =
+    let from_start : nat_le r.start (a + i) ≡ true = le-leb r.start (a + i) (omega arith) in
+    let to_end : nat_lt (a + i - r.start) (length r.bytes.items) ≡ true = lt-ltb (a + i - r.start) (length r.bytes.items) (omega arith) in
+    let top : nat_lt (a + i) (2 ^ 64) ≡ true = lt-ltb (a + i) (2 ^ 64) (omega arith) in
+    ap₂ (λ x y. x && y) (ap₂ (λ x y. x && y) from_start to_end) top
+
+below_top : (r : Region) (a : ℕ) → contains r a ≡ true → a < 2 ^ 64
+below_top r a here = ltb-true a (2 ^ 64) (and_parts (covers r.start r.bytes.items a) (nat_lt a (2 ^ 64)) here).1
+
+no_region_before : (rs : List Region) (a : ℕ) → NoneBefore rs a 0
+no_region_before rs a k z lt = absurd (omega arith)
+
+pub first_bytes : (m : FlatMemory) (a n : ℕ) (z : Region) (bytes : List ℕ) → n ≤ 6 → IsInFirst m a 6 → length bytes ≡ 6 →
+    ((i : ℕ) → i < 6 → slice_index bytes i ≡ slice_index (get_or m.regions.items 0 z).bytes.items (a + i - (get_or m.regions.items 0 z).start)) → AreBytes (is_held m) (byte_of m) a n bytes
+first_bytes m a n z bytes few h six e = record {
+  reached = reaches_all (is_held m) a n (λ i lt. let less : i < 6 = omega arith in ap (λ k. is_held m k) (place i less) ∙ held i less);
+  six = six;
+  bytes_are = λ i lt. let less : i < 6 = omega arith in e i less ∙ sym (byte i less) ∙ ap (λ k. byte_of m k) (sym (place i less));
+}
+  where
+    place : (i : ℕ) → i < 6 → wrapping_add64 a i ≡ a + i
+    place i lt = mod-eq_of_lt (below_top (get_or m.regions.items 0 z) (a + i) (h.1 z i lt))
+
+    in_regions : (i : ℕ) → i < 6 → held_in m.regions.items (a + i) ≡ true
+    in_regions i lt = held_here m.regions.items (a + i) 0 z h.0 (no_region_before m.regions.items (a + i)) (h.1 z i lt)
+
+    held : (i : ℕ) → i < 6 → is_held m (a + i) ≡ true
+    held i lt = ap (λ (b : Bool). b || is_some (get nat_cmp m.older (a + i))) (in_regions i lt)
+
+    byte : (i : ℕ) → i < 6 → byte_of m (a + i) ≡ slice_index (get_or m.regions.items 0 z).bytes.items (a + i - (get_or m.regions.items 0 z).start)
+    byte i lt =
+        ap (λ (b : Bool). if b then byte_in m.regions.items (a + i) else unwrap_or (get nat_cmp m.older (a + i)) 0) (in_regions i lt)
+        ∙ byte_here m.regions.items (a + i) 0 z h.0 (no_region_before m.regions.items (a + i)) (h.1 z i lt)

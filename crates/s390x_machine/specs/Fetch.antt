@@ -1,10 +1,12 @@
 -- Fetching: what the bytes at an address are (Principles of Operation, chapter 5, "Instruction formats" and "Sequential instruction execution").
 use Rattle.std.specs.Prelude.{◌≡◌, ℕ, ◌%◌, IsTrue, List}
 use Rattle.s390x_format.specs.declared.decoder.Decoded.{Decoded}
-use Rattle.s390x_format.specs.Fetch.{IsFetch}
+use Rattle.s390x_format.specs.Fetch.{IsFetch, machine_rows}
+use Rattle.s390x_format.specs.Reading.{HasOpcode}
 use Rattle.s390x_format.specs.Rows.{fetch_length_of}
 pub use Rattle.s390x_machine.specs.declared.fetch.Fetched.{Fetched}
 pub use Rattle.s390x_machine.specs.declared.fetch.Fetched.TheVariants.{Misplaced, Missing, Unknown, Found}
+use Rattle.s390x_machine.specs.declared.fetch.FetchedRow.{FetchedRow}
 use Rattle.s390x_operations.specs.State.{Memory, bytes_at, reaches}
 
 -- how many bytes the first one tells
@@ -31,3 +33,17 @@ Fetches m address Misplaced = address % 2 ≡ 1
 Fetches m address Missing = (address % 2 ≡ 0) × (IsReached m address → ⊥)
 Fetches m address Unknown = (address % 2 ≡ 0) × IsReached m address × ((d : Decoded) → IsFetch (instruction_bytes m address) d → ⊥)
 Fetches m address (Found d) = IsFound m address d
+
+-- what was fetched, without the place of its row in the table
+abbrev pub fetched_in : FetchedRow → Fetched
+fetched_in FetchedRow.Misplaced = Misplaced
+fetched_in FetchedRow.Missing = Missing
+fetched_in FetchedRow.Unknown = Unknown
+fetched_in (FetchedRow.Found l) = Found l.decoded
+
+-- at the place that was found with an instruction the table has a row with its opcode
+abbrev pub StandsInTable : FetchedRow → Type 0
+StandsInTable FetchedRow.Misplaced = Unit {0}
+StandsInTable FetchedRow.Missing = Unit {0}
+StandsInTable FetchedRow.Unknown = Unit {0}
+StandsInTable (FetchedRow.Found l) = HasOpcode machine_rows l.decoded.row.opcode l.at

@@ -1,5 +1,5 @@
 -- A memory of regions, the last one added first, and of bytes of older ones.
-use Rattle.std.specs.Prelude.{◌≡◌, ℕ, ◌-◌, ◌^◌, Bool, false, ◌&&◌, ◌||◌, nat_le, nat_lt, if◌then◌else◌, List, [], ◌∷◌, length, slice_index}
+use Rattle.std.specs.Prelude.{◌≡◌, ℕ, ◌+◌, ◌-◌, ◌^◌, ◌<◌, Bool, true, false, ◌&&◌, ◌||◌, nat_le, nat_lt, if◌then◌else◌, List, [], ◌∷◌, length, get_or, slice_index}
 use Rattle.std.specs.Option.{is_some, unwrap_or}
 use Rattle.std.specs.BTreeMap.{BTreeMap, get}
 use Rattle.std.specs.Ordering.{nat_cmp}
@@ -17,6 +17,10 @@ has_address start bytes a = covers start bytes a && nat_lt a (2 ^ 64)
 -- the address is one of the region's
 abbrev pub contains : Region → ℕ → Bool
 contains r a = has_address r.start r.bytes.items a
+
+-- n addresses from one on are the region's
+abbrev pub ContainsAll : Region → ℕ → ℕ → Type 0
+ContainsAll r a n = (i : ℕ) → i < n → contains r (a + i) ≡ true
 
 -- the address is one of some region's
 unfoldable pub held_in : List Region → ℕ → Bool
@@ -48,3 +52,7 @@ is_held m a = held_by m.regions.items m.older a
 -- the bytes of a memory; 0 where there is none
 abbrev pub byte_of : FlatMemory → ℕ → ℕ
 byte_of m a = byte_by m.regions.items m.older a
+
+-- n addresses from one on belong to the region that was added last
+abbrev pub IsInFirst : FlatMemory → ℕ → ℕ → Type 0
+IsInFirst m a n = (0 < length m.regions.items) × ((z : Region) → ContainsAll (get_or m.regions.items 0 z) a n)

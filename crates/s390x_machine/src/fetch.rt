@@ -1,10 +1,10 @@
 //! Fetching an instruction.
 ghost use Rattle.std.specs.Prelude.{◌≡◌, ◌%◌};
-ghost use Rattle.s390x_machine.specs.Fetch.{Fetches};
+ghost use Rattle.s390x_machine.specs.Fetch.{Fetches, StandsInTable, fetched_in};
 ghost use Rattle.s390x_machine.specs.State.{memory_of};
 
-use crate::memory::{Memory, leading_bytes};
-use s390x_format::{Decoded, decode, fetch_length};
+use crate::memory::Memory;
+use s390x_format::{Decoded, Located, fetch_length, locate};
 
 /// What stands at a place.
 #[derive(Clone, Copy)]
@@ -19,22 +19,55 @@ pub enum Fetched {
     Found(Decoded),
 }
 
+/// What stands at a place, with the place of an instruction's row in the table of machine rows.
+#[derive(Clone, Copy)]
+pub enum FetchedRow {
+    /// The place is odd.
+    Misplaced,
+    /// A byte of the instruction isn't accessible.
+    Missing,
+    /// No machine row has these bytes.
+    Unknown,
+    /// An instruction.
+    Found(Located),
+}
+
 /// What stands at a place. The first byte tells how many the instruction has.
 pub fn fetch<M: Memory>(memory: &M, place: u64) -> Fetched
     ensures { Fetches (memory_of (M.held memory.now) (M.byte memory.now)) place result }
 {
+    fetched_in(&fetch_row(memory, place))
+}
+
+/// What was fetched without the place of its row.
+fn fetched_in(fetched: &FetchedRow) -> Fetched
+    ensures { result ≡ fetched_in fetched.now }
+{
+    match fetched {
+        FetchedRow::Misplaced => Fetched::Misplaced,
+        FetchedRow::Missing => Fetched::Missing,
+        FetchedRow::Unknown => Fetched::Unknown,
+        FetchedRow::Found(located) => Fetched::Found(located.decoded),
+    }
+}
+
+/// What `fetch` answers, with the place of the row in the table of machine rows.
+pub fn fetch_row<M: Memory>(memory: &M, place: u64) -> FetchedRow
+    ensures fetches { Fetches (memory_of (M.held memory.now) (M.byte memory.now)) place (fetched_in result) }
+    ensures row { StandsInTable result }
+{
     if place % 2 == 1 {
-        return Fetched::Misplaced;
+        return FetchedRow::Misplaced;
     }
     let Some(first) = memory.byte_at(place) else {
-        return Fetched::Missing;
+        return FetchedRow::Missing;
     };
     let n = fetch_length(first);
-    let Some(bytes) = leading_bytes(memory, place, n as u64) else {
-        return Fetched::Missing;
+    let Some(bytes) = memory.leading_bytes(place, n as u64) else {
+        return FetchedRow::Missing;
     };
-    match decode(&bytes[..n]) {
-        Some(decoded) => Fetched::Found(decoded),
-        None => Fetched::Unknown,
+    match locate(&bytes[..n]) {
+        Some(located) => FetchedRow::Found(located),
+        None => FetchedRow::Unknown,
     }
 }

@@ -3,7 +3,9 @@
 ghost use Rattle.std.specs.Prelude.{◌≡◌, ℕ, ◌+◌, ◌-◌, ◌<◌, ◌≤◌, ◌^◌, ◌||◌, ◌∷◌, ◌==◌, Some, IsSome, if◌then◌else◌, true, false, length, get_or, slice_index, IfOk, IfErr, OnOk, MatchResult, MatchOption};
 ghost use Rattle.std.specs.BTreeMap.{get};
 ghost use Rattle.std.specs.Ordering.{nat_cmp};
-ghost use Rattle.s390x_machine.specs.Regions.{contains, held_in, byte_in, covers, has_address, is_held, byte_of, IsFolded};
+ghost use Rattle.s390x_machine.specs.Regions.{contains, held_in, byte_in, covers, has_address, is_held, byte_of, ContainsAll, IsFolded, IsInFirst};
+ghost use Rattle.s390x_machine.specs.State.{AreBytes};
+ghost use Rattle.s390x_operations.specs.State.{reaches};
 
 use crate::memory::Memory;
 use s390x_base::NoMemory;
@@ -26,6 +28,31 @@ impl Region {
         ensures { result ≡ contains self.now address }
     {
         address >= self.start && address - self.start < self.bytes.len() as u64
+    }
+
+    /// Whether so many addresses from one on are the region's, and none of them is the last one that there is.
+    #[tactic(auto, using(crate::proofs::Regions::contained))]
+    fn contains_all(&self, address: u64, n: u64) -> bool
+        ensures { result ≡ true → ContainsAll self.now address n }
+    {
+        let length = self.bytes.len() as u64;
+        address >= self.start
+            && n <= length
+            && address - self.start <= length - n
+            && address <= u64::MAX - n
+    }
+
+    /// The bytes at six addresses from one on.
+    fn bytes_from(&self, address: u64) -> [u8; 6]
+        requires { ContainsAll self.now address 6 }
+        ensures six { length result ≡ 6 }
+        ensures bytes { (i : ℕ) → i < 6 → slice_index result i ≡ slice_index self.now.bytes.items (address + i - self.now.start) }
+    {
+        let mut bytes = [0u8; 6];
+        for i in 0..6 {
+            bytes[i as usize] = self.bytes[(address + i - self.start) as usize];
+        }
+        bytes
     }
 }
 
@@ -138,6 +165,42 @@ impl FlatMemory {
         }
         None
     }
+
+    /// The byte at an address; `None` exactly where it isn't accessible.
+    fn byte_found(&self, address: u64) -> Option<u8>
+        ensures { MatchOption result (is_held self.now address ≡ false) (λ b. (is_held self.now address ≡ true) × (b ≡ byte_of self.now address)) }
+    {
+        match self.holder(address) {
+            Some(i) => {
+                let region = &self.regions[i];
+                Some(region.bytes[(address - region.start) as usize])
+            }
+            None => self.older.get(&address).copied(),
+        }
+    }
+
+    /// Whether so many addresses from one on belong to the region that was added last.
+    fn is_in_first(&self, address: u64, n: u64) -> bool
+        ensures { result ≡ true → IsInFirst self.now address n }
+    {
+        self.regions.len() > 0 && self.regions[0].contains_all(address, n)
+    }
+
+    /// So many bytes from an address on, at most six, each looked for by itself.
+    #[tactic(auto, using(crate::proofs::Reaching::reaches_none, crate::proofs::Reaching::reaches_next))]
+    fn bytes_one_by_one(&self, address: u64, n: u64) -> Option<[u8; 6]>
+        requires { n ≤ 6 }
+        ensures { MatchOption result (reaches (is_held self.now) address n ≡ false) (λ bytes. AreBytes (is_held self.now) (byte_of self.now) address n bytes) }
+    {
+        let mut bytes = [0u8; 6];
+        for i in 0..n {
+            match self.byte_found(address.wrapping_add(i)) {
+                Some(byte) => bytes[i as usize] = byte,
+                None => return None,
+            }
+        }
+        Some(bytes)
+    }
 }
 
 impl Memory for FlatMemory {
@@ -163,13 +226,15 @@ impl Memory for FlatMemory {
     }
 
     fn byte_at(&self, address: u64) -> Option<u8> {
-        match self.holder(address) {
-            Some(i) => {
-                let region = &self.regions[i];
-                Some(region.bytes[(address - region.start) as usize])
-            }
-            None => self.older.get(&address).copied(),
+        self.byte_found(address)
+    }
+
+    fn leading_bytes(&self, address: u64, n: u64) -> Option<[u8; 6]> {
+        if !self.is_in_first(address, 6) {
+            return self.bytes_one_by_one(address, n);
         }
+        let region = &self.regions[0];
+        Some(region.bytes_from(address))
     }
 
     fn set(&mut self, address: u64, value: u8) {

@@ -24,6 +24,11 @@ pub trait Memory {
     fn byte_at(&self, address: u64) -> Option<u8>
         ensures { MatchOption result (held self.now address ≡ false) (λ b. (held self.now address ≡ true) × (b ≡ byte self.now address)) };
 
+    /// So many bytes from an address on, at most six; `None` exactly where one of them isn't accessible.
+    fn leading_bytes(&self, address: u64, n: u64) -> Option<[u8; 6]>
+        requires { n ≤ 6 }
+        ensures { MatchOption result (reaches (held self.now) address n ≡ false) (λ bytes. AreBytes (held self.now) (byte self.now) address n bytes) };
+
     /// The byte at an accessible address becomes this one; every other byte and what is accessible stay.
     fn set(&mut self, address: u64, value: u8)
         requires { IsTrue (held self.old address) }
@@ -41,20 +46,4 @@ pub fn reaches<M: Memory>(memory: &M, address: u64, n: u64) -> bool
         all = memory.has(address.wrapping_add(i)) && all;
     }
     all
-}
-
-/// So many bytes from an address on, at most six; `None` exactly where one of them isn't accessible.
-#[tactic(auto, using(crate::proofs::Reaching::reaches_none, crate::proofs::Reaching::reaches_next))]
-pub fn leading_bytes<M: Memory>(memory: &M, address: u64, n: u64) -> Option<[u8; 6]>
-    requires { n ≤ 6 }
-    ensures { MatchOption result (reaches (M.held memory.now) address n ≡ false) (λ bytes. AreBytes (M.held memory.now) (M.byte memory.now) address n bytes) }
-{
-    let mut bytes = [0u8; 6];
-    for i in 0..n {
-        match memory.byte_at(address.wrapping_add(i)) {
-            Some(byte) => bytes[i as usize] = byte,
-            None => return None,
-        }
-    }
-    Some(bytes)
 }

@@ -1,22 +1,25 @@
 //! One step of the machine.
 
-ghost use Rattle.std.specs.Prelude.{◌≡◌, ◌<◌, ℕ, ◌==◌, List, Option, Some, get_or, length, true, false, IsTrue, IsFalse};
+ghost use Rattle.std.specs.Prelude.{◌≡◌, ◌<◌, ℕ, Bool, ◌==◌, List, Option, Some, get_or, length, true, false, IsTrue, IsFalse};
+ghost use Rattle.s390x_format.specs.Fetch.{machine_rows};
 ghost use Rattle.s390x_format.specs.Formats.{length_of};
+ghost use Rattle.s390x_format.specs.Reading.{HasOpcode, no_row};
 ghost use Rattle.s390x_machine.specs.Fetch.{IsFound};
-ghost use Rattle.s390x_machine.specs.Semantics.{action, names_pair, is_odd_pair, opcodes_rise, semantics_in, semantics_of};
+ghost use Rattle.s390x_machine.specs.Semantics.{action, names_pair, is_odd_pair, semantics_of};
 ghost use Rattle.s390x_machine.specs.State.{memory_of, registers_of, state_of};
 ghost use Rattle.s390x_machine.specs.Sound.{HasRegisters, IsSoundAction, is_free, is_uncomputed};
 ghost use Rattle.s390x_machine.specs.Step.{Executes, Steps};
 
 use crate::action::action;
-use crate::fetch::{Fetched, fetch};
+use crate::fetch::{FetchedRow, fetch_row};
+use crate::field_values::relative_address;
 use crate::machine::Machine;
 use crate::memory::Memory;
 use crate::perform::{is_selected, perform};
 use crate::semantics::{Action, OpcodeSemantics, ROW_SEMANTICS, RowSemantics};
 use crate::vector_action::shift_amount;
 use s390x_format::kind::length;
-use s390x_format::{Decoded, Fields};
+use s390x_format::{Decoded, Fields, Located};
 use s390x_lanes::lookup::{computes, operation};
 use s390x_lanes::operation::VectorOperation;
 use s390x_operations::StopKind;
@@ -32,34 +35,20 @@ pub enum StepEnd {
     NoRow,
 }
 
-/// The semantics that a list has for an opcode, by halving.
-fn semantics_in(rows: &[OpcodeSemantics], opcode: u16) -> Option<RowSemantics>
-    requires { opcodes_rise 0 rows.now ≡ true }
-    ensures { result ≡ semantics_in rows.now opcode }
+/// The semantics at a place in a list of them.
+fn semantics_in(rows: &[OpcodeSemantics], at: usize) -> &RowSemantics
+    requires { at < length rows.now }
+    ensures { (z : OpcodeSemantics) → result.now ≡ (get_or rows.now at z).semantics }
 {
-    let mut low = 0;
-    let mut high = rows.len();
-    while low < high {
-        let mid = low + (high - low) / 2;
-        let row = &rows[mid];
-        if row.opcode == opcode {
-            return Some(row.semantics);
-        }
-        if row.opcode < opcode {
-            low = mid + 1;
-        } else {
-            high = mid;
-        }
-    }
-    None
+    &rows[at].semantics
 }
 
-/// The semantics of an opcode; none of one that no row has.
-#[tactic(auto, unfolding(crate::specs::Semantics::semantics_of))]
-fn semantics_of(opcode: u16) -> Option<RowSemantics>
-    ensures { result ≡ semantics_of opcode }
+/// The semantics of the row at a place in the table of machine rows; both tables have the same opcodes at the same places.
+fn semantics_at(at: usize) -> &'static RowSemantics
+    requires { at < length machine_rows }
+    ensures { semantics_of (get_or machine_rows at no_row).opcode ≡ Some result.now }
 {
-    semantics_in(&ROW_SEMANTICS, opcode)
+    semantics_in(&ROW_SEMANTICS, at)
 }
 
 /// Whether the row's r1 is the first of an even-odd pair.
@@ -112,31 +101,36 @@ fn is_free(machine: &Machine, semantics: RowSemantics, fields: &Fields) -> bool
     }
 }
 
+/// A branch under a mask, of an instruction of so many bytes.
+fn branch(machine: &mut Machine, mask: u8, target: u64, size: u64) -> StepEnd
+    ensures { (held : ℕ → Bool) (byte : ℕ → ℕ) → Executes (Action.Branch mask target) size (state_of machine.old held byte) result (state_of machine.new held byte) }
+{
+    machine.place = if is_selected(mask, machine.condition_code()) {
+        target
+    } else {
+        machine.place.wrapping_add(size)
+    };
+    StepEnd::Went
+}
+
 /// An action of an instruction of so many bytes.
 fn execute<M: Memory>(machine: &mut Machine, memory: &mut M, action: &Action, size: u64) -> StepEnd
     requires { IsSoundAction action.now }
     ensures { Executes action.now size (state_of machine.old (M.held memory.old) (M.byte memory.old)) result (state_of machine.new (M.held memory.new) (M.byte memory.new)) }
 {
     let place = machine.place;
-    match *action {
-        Action::Perform(op) => match perform(machine, memory, &op) {
+    match action {
+        Action::Perform(op) => match perform(machine, memory, op) {
             None => {
                 machine.place = place.wrapping_add(size);
                 StepEnd::Went
             }
             Some(kind) => StepEnd::Stopped(kind, place),
         },
-        Action::Branch { mask, target } => {
-            machine.place = if is_selected(mask, machine.condition_code()) {
-                target
-            } else {
-                place.wrapping_add(size)
-            };
-            StepEnd::Went
-        }
+        Action::Branch { mask, target } => branch(machine, *mask, *target, size),
         Action::BranchAndSave { link, target } => {
-            machine.put(link, place.wrapping_add(size));
-            machine.place = target;
+            machine.put(*link, place.wrapping_add(size));
+            machine.place = *target;
             StepEnd::Went
         }
     }
@@ -147,30 +141,42 @@ fn semantics_step<M: Memory>(
     machine: &mut Machine,
     memory: &mut M,
     decoded: &Decoded,
-    semantics: RowSemantics,
+    semantics: &RowSemantics,
 ) -> StepEnd
     requires found { IsFound (memory_of (M.held memory.old) (M.byte memory.old)) machine.old.place decoded.now }
-    requires is { semantics_of decoded.now.row.opcode ≡ Some semantics }
+    requires is { semantics_of decoded.now.row.opcode ≡ Some semantics.now }
     ensures { Steps (state_of machine.old (M.held memory.old) (M.byte memory.old)) result (state_of machine.new (M.held memory.new) (M.byte memory.new)) }
 {
-    if is_free(machine, semantics, &decoded.fields) {
+    if is_free(machine, *semantics, &decoded.fields) {
         return StepEnd::NoRow;
     }
-    if is_odd_pair(semantics, &decoded.fields) {
+    if is_odd_pair(*semantics, &decoded.fields) {
         return StepEnd::Stopped(StopKind::Specification, machine.place);
     }
-    let action = action(machine, semantics, &decoded.fields);
+    let action = action(machine, *semantics, &decoded.fields);
     execute(machine, memory, &action, length(decoded.row.format) as u64)
 }
 
+/// The step at a branch to a distance that was fetched. It is the most frequent step, and has none of the others' values.
+fn relative_step(machine: &mut Machine, decoded: &Decoded) -> StepEnd
+    requires { semantics_of decoded.now.row.opcode ≡ Some RowSemantics.BranchRelative }
+    ensures { (held : ℕ → Bool) (byte : ℕ → ℕ) → IsFound (memory_of held byte) machine.old.place decoded.now → Steps (state_of machine.old held byte) result (state_of machine.new held byte) }
+{
+    let target = relative_address(machine, &decoded.fields);
+    let size = length(decoded.row.format) as u64;
+    branch(machine, decoded.fields.masks[0], target, size)
+}
+
 /// The step at an instruction that was fetched.
-fn row_step<M: Memory>(machine: &mut Machine, memory: &mut M, decoded: &Decoded) -> StepEnd
-    requires { IsFound (memory_of (M.held memory.old) (M.byte memory.old)) machine.old.place decoded.now }
+fn row_step<M: Memory>(machine: &mut Machine, memory: &mut M, located: &Located) -> StepEnd
+    requires found { IsFound (memory_of (M.held memory.old) (M.byte memory.old)) machine.old.place located.now.decoded }
+    requires row { HasOpcode machine_rows located.now.decoded.row.opcode located.now.at }
     ensures { Steps (state_of machine.old (M.held memory.old) (M.byte memory.old)) result (state_of machine.new (M.held memory.new) (M.byte memory.new)) }
 {
-    match semantics_of(decoded.row.opcode) {
-        Some(semantics) => semantics_step(machine, memory, decoded, semantics),
-        None => unreachable!(),
+    let semantics = semantics_at(located.at);
+    match semantics {
+        RowSemantics::BranchRelative => relative_step(machine, &located.decoded),
+        _ => semantics_step(machine, memory, &located.decoded, semantics),
     }
 }
 
@@ -187,11 +193,11 @@ impl Machine {
     pub fn step<M: Memory>(&mut self, memory: &mut M) -> StepEnd
         ensures { Steps (state_of self.old (M.held memory.old) (M.byte memory.old)) result (state_of self.new (M.held memory.new) (M.byte memory.new)) }
     {
-        match fetch(memory, self.place) {
-            Fetched::Misplaced => StepEnd::Stopped(StopKind::Specification, self.place),
-            Fetched::Missing => StepEnd::Stopped(StopKind::Access, self.place),
-            Fetched::Unknown => StepEnd::Stopped(StopKind::Operation, self.place),
-            Fetched::Found(decoded) => row_step(self, memory, &decoded),
+        match fetch_row(memory, self.place) {
+            FetchedRow::Misplaced => StepEnd::Stopped(StopKind::Specification, self.place),
+            FetchedRow::Missing => StepEnd::Stopped(StopKind::Access, self.place),
+            FetchedRow::Unknown => StepEnd::Stopped(StopKind::Operation, self.place),
+            FetchedRow::Found(located) => row_step(self, memory, &located),
         }
     }
 }

@@ -1,4 +1,4 @@
-use Rattle.std.proofs.Common.{◌≡◌, ℕ, ◌+◌, ◌-◌, ◌*◌, ◌/◌, ◌^◌, ◌≤◌, get_or, refl, sym, subst, arith, inl, inr}
+use Rattle.std.proofs.Common.{◌≡◌, ℕ, ◌+◌, ◌-◌, ◌*◌, ◌/◌, ◌^◌, ◌≤◌, get_or, sym, subst, arith, inl, inr}
 use Rattle.std.proofs.lemmas.Bool.{cases_lt}
 use Rattle.s390x_format.specs.declared.index.FirstByte.{FirstByte}
 use Rattle.s390x_format.specs.Index.{no_first_byte}
@@ -32,7 +32,7 @@ bounds-rows-mid g c = let t = span_ends c.args.rows.now c.args.firsts.now c.args
 pub returns-then-row-opcode-clause-row : goal.returns-then-row-opcode-clause-row
 returns-then-row-opcode-clause-row g c =
     let t = span_ends c.args.rows.now c.args.firsts.now c.args.first c.requires.index in
-    record { at = c.loop-low.low + (c.loop-low.high - c.loop-low.low) / 2; below = omega (arith, t.end); is = refl; same = c.if-row-opcode.true }
+    record { below = omega (arith, t.end); same = c.if-row-opcode.true }
 
 pub loop-low-preserved-then-row-opcode-2 : goal.loop-low-preserved-then-row-opcode-2
 loop-low-preserved-then-row-opcode-2 g c =

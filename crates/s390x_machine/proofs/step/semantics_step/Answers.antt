@@ -12,7 +12,7 @@ returns-then-is_odd_pair g c =
     let s = state_of c.args.machine.now (g.M.Memory.held c.args.memory.now) (g.M.Memory.byte c.args.memory.now) in
     let free = sym c.is_free.ensures ∙ c.if-is_free.false in
     let odd = sym c.is_odd_pair.ensures ∙ c.if-is_odd_pair.true in
-    (not_open s c.args.decoded.now c.args.semantics c.requires.found c.requires.is free, odd_pair_stops s c.args.decoded.now c.args.semantics c.requires.found c.requires.is odd, refl)
+    (not_open s c.args.decoded.now c.args.semantics.now c.requires.found c.requires.is free, odd_pair_stops s c.args.decoded.now c.args.semantics.now c.requires.found c.requires.is odd, refl)
 
 pub returns : goal.returns
 returns g c =
@@ -22,11 +22,11 @@ returns g c =
     let free = sym c.is_free.ensures ∙ c.if-is_free.false in
     let odd = sym c.is_odd_pair.ensures ∙ c.if-is_odd_pair.false in
     let x = subst (λ (a : Action). Executes a c.length.result s c.execute.result t) c.action-action.ensures.value c.execute.ensures in
-    let y = subst (λ (n : ℕ). Executes (action c.args.semantics d.fields s.core.registers s.address) n s c.execute.result t) c.length.ensures x in
-    executed s d c.args.semantics c.execute.result t c.requires.found c.requires.is free odd y
+    let y = subst (λ (n : ℕ). Executes (action c.args.semantics.now d.fields s.core.registers s.address) n s c.execute.result t) c.length.ensures x in
+    executed s d c.args.semantics.now c.execute.result t c.requires.found c.requires.is free odd y
 
 pub is_free-requires : goal.is_free-requires
-is_free-requires g c = (can_perform _ c.args.decoded.now c.args.semantics c.requires.found.row c.requires.is).registers
+is_free-requires g c = (can_perform _ c.args.decoded.now c.args.semantics.now c.requires.found.row c.requires.is).registers
 
 pub action-action-requires-clause-fit : goal.action-action-requires-clause-fit
-action-action-requires-clause-fit g c = record { can = can_perform _ c.args.decoded.now c.args.semantics c.requires.found.row c.requires.is; paired = search rules }
+action-action-requires-clause-fit g c = record { can = can_perform _ c.args.decoded.now c.args.semantics.now c.requires.found.row c.requires.is; paired = search rules }

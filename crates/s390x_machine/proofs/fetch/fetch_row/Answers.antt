@@ -3,10 +3,10 @@ use Rattle.s390x_format.specs.Fetch.{IsFetch}
 use Rattle.s390x_format.specs.Rows.{fetch_length_of}
 use Rattle.s390x_operations.specs.State.{bytes_at, reaches}
 use Rattle.s390x_machine.proofs.Reading.{length_few, taken_bytes}
-use Rattle.s390x_machine.proofs.fetch.fetch.Goals as goal
+use Rattle.s390x_machine.proofs.fetch.fetch_row.Goals as goal
 
-pub returns-in-Some-decode : goal.returns-in-Some-decode
-returns-in-Some-decode g c =
+pub returns-in-Some-locate-clause-fetches : goal.returns-in-Some-locate-clause-fetches
+returns-in-Some-locate-clause-fetches g c =
     let held = g.M.Memory.held c.args.memory.now in
     let byte = g.M.Memory.byte c.args.memory.now in
     let count : c.fetch_length-n.result ≡ fetch_length_of (byte c.args.place) = c.fetch_length-n.ensures ∙ ap fetch_length_of c.in-Some.ensures.1 in
@@ -16,11 +16,11 @@ returns-in-Some-decode g c =
     record {
       even = omega (arith, c.if-place-eq1.false);
       reached = (c.in-Some.ensures.0, subst (λ n. IsTrue (reaches held c.args.place n)) count read.reached);
-      row = subst (λ (bs : List ℕ). IsFetch bs c.in-Some-decode.decoded) e c.in-Some-decode.ensures.sound;
+      row = subst (λ (bs : List ℕ). IsFetch bs c.in-Some-locate.located.decoded) e c.in-Some-locate.ensures.sound.fetch;
     }
 
-pub returns-in-None : goal.returns-in-None
-returns-in-None g c =
+pub returns-in-None-clause-fetches : goal.returns-in-None-clause-fetches
+returns-in-None-clause-fetches g c =
     let held = g.M.Memory.held c.args.memory.now in
     let byte = g.M.Memory.byte c.args.memory.now in
     let count : c.fetch_length-n.result ≡ fetch_length_of (byte c.args.place) = c.fetch_length-n.ensures ∙ ap fetch_length_of c.in-Some.ensures.1 in

@@ -6,7 +6,7 @@ use Rattle.std.proofs.lemmas.Grind.{get_or_default_zero}
 use Rattle.s390x_machine.specs.Regions.{contains, byte_in}
 use Rattle.s390x_machine.specs.declared.flat.Region.{Region}
 use Rattle.s390x_machine.proofs.Regions.{inside, held_here, byte_here}
-use Rattle.s390x_machine.proofs.flat.FlatMemoryMemory.byte_at.Goals as goal
+use Rattle.s390x_machine.proofs.flat.FlatMemory.byte_found.Goals as goal
 
 pub returns-in-Some : goal.returns-in-Some
 returns-in-Some c =
