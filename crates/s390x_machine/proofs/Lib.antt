@@ -51,3 +51,5 @@ pub mod Example
 pub mod Instructions
 pub mod Trapping
 pub mod Vectors
+pub mod VectorRows
+pub mod VectorSteps
