@@ -1,8 +1,8 @@
 //! The machine row of each operator on vectors: its opcode and the code of its elements' size.
 ghost use Rattle.std.specs.Prelude.{◌≡◌, ◌<◌};
-ghost use Rattle.s390x_typed_steps.specs.VectorOpcodes.{is_division, binary_row, unary_row, comparison_row, element_comparison_row};
+ghost use Rattle.s390x_typed_steps.specs.VectorOpcodes.{is_division, binary_row, unary_row, shift_row, comparison_row, element_comparison_row};
 
-use s390x_inst::{VecBinaryOp, VecIntCmpOp, VecIntEltCmpOp, VecUnaryOp};
+use s390x_inst::{VecBinaryOp, VecIntCmpOp, VecIntEltCmpOp, VecShiftOp, VecUnaryOp};
 use s390x_typed_steps::VectorOpcode;
 
 /// An operator on two vectors.
@@ -238,4 +238,30 @@ pub fn is_division(op: VecBinaryOp) -> bool
             | VecBinaryOp::SRem64x2
             | VecBinaryOp::SRem128
     )
+}
+
+/// A shift or rotation of each element.
+#[rattlefmt::skip]
+pub fn shift_row(op: VecShiftOp) -> VectorOpcode
+    ensures row { result ≡ shift_row op }
+    ensures code { result.code < 16 }
+{
+    match op {
+        VecShiftOp::RotL8x16 => VectorOpcode { opcode: 0xe733, code: 0 },
+        VecShiftOp::RotL16x8 => VectorOpcode { opcode: 0xe733, code: 1 },
+        VecShiftOp::RotL32x4 => VectorOpcode { opcode: 0xe733, code: 2 },
+        VecShiftOp::RotL64x2 => VectorOpcode { opcode: 0xe733, code: 3 },
+        VecShiftOp::LShL8x16 => VectorOpcode { opcode: 0xe730, code: 0 },
+        VecShiftOp::LShL16x8 => VectorOpcode { opcode: 0xe730, code: 1 },
+        VecShiftOp::LShL32x4 => VectorOpcode { opcode: 0xe730, code: 2 },
+        VecShiftOp::LShL64x2 => VectorOpcode { opcode: 0xe730, code: 3 },
+        VecShiftOp::LShR8x16 => VectorOpcode { opcode: 0xe738, code: 0 },
+        VecShiftOp::LShR16x8 => VectorOpcode { opcode: 0xe738, code: 1 },
+        VecShiftOp::LShR32x4 => VectorOpcode { opcode: 0xe738, code: 2 },
+        VecShiftOp::LShR64x2 => VectorOpcode { opcode: 0xe738, code: 3 },
+        VecShiftOp::AShR8x16 => VectorOpcode { opcode: 0xe73a, code: 0 },
+        VecShiftOp::AShR16x8 => VectorOpcode { opcode: 0xe73a, code: 1 },
+        VecShiftOp::AShR32x4 => VectorOpcode { opcode: 0xe73a, code: 2 },
+        VecShiftOp::AShR64x2 => VectorOpcode { opcode: 0xe73a, code: 3 },
+    }
 }

@@ -1,5 +1,5 @@
 -- The steps of one row on vector registers: an operation of its lanes, which may stop where it divides.
-use Rattle.std.proofs.Common.{◌≡◌, ℕ, ◌+◌, ◌-◌, ◌<◌, [], ◌∷◌, length, Option, Some, None, Bool, true, false, cond, ◌&&◌, not, IsTrue, refl, sym, ap, ◌∙◌, subst, arith, nat_lt, ltb-true, true≢false}
+use Rattle.std.proofs.Common.{◌≡◌, ℕ, ◌+◌, ◌-◌, ◌*◌, ◌%◌, ◌<◌, ℤ, pos, inl, inr, [], ◌∷◌, length, Option, Some, None, Bool, true, false, cond, ◌&&◌, not, IsTrue, refl, sym, ap, ◌∙◌, subst, arith, nat_lt, ltb-true, true≢false}
 use Rattle.std.proofs.lemmas.Bool.{and_parts}
 use Rattle.s390x_base.specs.Regs.{number_of, is_int}
 use Rattle.s390x_base.specs.declared.regs.Reg.{Reg}
@@ -7,11 +7,12 @@ use Rattle.s390x_base.specs.declared.regs.Reg.TheVariants.{Real, Virtual}
 use Rattle.s390x_base.specs.declared.trap.TrapKind.{TrapKind}
 use Rattle.s390x_base.specs.declared.trap.TrapKind.TheVariants.{IntegerDivisionByZero}
 use Rattle.s390x_inst.specs.declared.vec_inst.VecInst.{VecInst}
-use Rattle.s390x_inst.specs.declared.vec_inst.VecInst.TheVariants.{VecRRR, VecRR, VecSelect, VecPermute, VecBlend, VecIntCmp, VecIntCmpS, VecIntEltCmp, VecMov}
+use Rattle.s390x_inst.specs.declared.vec_inst.VecInst.TheVariants.{VecRRR, VecRR, VecSelect, VecPermute, VecBlend, VecIntCmp, VecIntCmpS, VecIntEltCmp, VecMov, VecShiftRR, VecEvaluate, VecPermuteDWImm, MovToVec128, VecImmByteMask, VecImmReplicate}
 use Rattle.s390x_inst.specs.declared.vec_ops.VecBinaryOp.{VecBinaryOp}
 use Rattle.s390x_inst.specs.declared.vec_ops.VecBinaryOp.TheVariants as B
 use Rattle.s390x_inst.specs.declared.vec_ops.VecUnaryOp.{VecUnaryOp}
 use Rattle.s390x_inst.specs.declared.vec_ops.VecUnaryOp.TheVariants as U
+use Rattle.s390x_inst.specs.declared.vec_ops.VecShiftOp.{VecShiftOp}
 use Rattle.s390x_inst.specs.declared.vec_ops.VecIntCmpOp.{VecIntCmpOp}
 use Rattle.s390x_inst.specs.declared.vec_ops.VecIntCmpOp.TheVariants as C
 use Rattle.s390x_inst.specs.declared.vec_ops.VecIntEltCmpOp.{VecIntEltCmpOp}
@@ -21,6 +22,7 @@ use Rattle.s390x_format.specs.Layout.{SlotsFit}
 use Rattle.s390x_format.specs.View.{fields_of}
 use Rattle.s390x_format.proofs.Encoding.{encode-length}
 use Rattle.s390x_lanes.specs.Relation.{code_of, divides_by_zero, division_overflows, is_determined}
+use Rattle.s390x_lanes.specs.Opcodes.{operation_of}
 use Rattle.s390x_lanes.specs.Results.{vector_result}
 use Rattle.s390x_lanes.specs.declared.operation.VectorOperation.{VectorOperation}
 use Rattle.s390x_lanes.specs.declared.operation.VectorOperation.TheVariants as O
@@ -31,25 +33,30 @@ use Rattle.s390x_operations.specs.declared.effect.Effect.{Effect}
 use Rattle.s390x_operations.specs.declared.effect.Operation.{Operation}
 use Rattle.s390x_operations.specs.declared.stop.StopKind.{StopKind}
 use Rattle.s390x_operations.specs.declared.stop.StopKind.TheVariants.{Divide}
-use Rattle.s390x_typed_steps.specs.MachineInstruction.{MachineInstruction, bytes_of, size_of, vrr_a, vrr_d, vrr_e}
+use Rattle.s390x_typed_steps.specs.General.{is_general, low_halfword, low_byte}
+use Rattle.s390x_typed_steps.specs.MachineInstruction.{MachineInstruction, bytes_of, size_of, vri_a, vri_k, vrr_a, vrr_c, vrr_d, vrr_e, vrr_f, vrs_a}
 use Rattle.s390x_typed_steps.specs.Parts.{step_parts, row_part, parts_or}
 use Rattle.s390x_typed_steps.specs.SingleInstruction.{single_with}
 use Rattle.s390x_typed_steps.specs.Steps.{Step}
 use Rattle.s390x_typed_steps.specs.Traps.{first_code}
-use Rattle.s390x_typed_steps.specs.VectorInstruction.{is_vector, vector_row, vector_operands_valid, vector_stop, divides}
-use Rattle.s390x_typed_steps.specs.VectorOpcodes.{binary_row, unary_row, comparison_row, element_comparison_row, is_division}
-use Rattle.s390x_machine.specs.declared.semantics.RowSemantics.TheVariants.{Elements}
+use Rattle.s390x_typed_steps.specs.VectorInstruction.{is_vector, element_code, doublewords_row, replicate_row, vector_row, vector_operands_valid, vector_stop, divides}
+use Rattle.s390x_typed_steps.specs.VectorOpcodes.{binary_row, unary_row, shift_row, comparison_row, element_comparison_row, is_division}
+use Rattle.s390x_machine.specs.declared.semantics.RowSemantics.TheVariants.{Elements, JoinRegisters}
+use Rattle.s390x_machine.specs.declared.semantics.RowSemantics.TheVariants as Row
 use Rattle.s390x_machine.specs.declared.semantics.Action.TheVariants.{Perform}
 use Rattle.s390x_machine.specs.CodeAt.{OperandsValidOr}
 use Rattle.s390x_machine.specs.Computations.{with_rule}
 use Rattle.s390x_machine.specs.Layout.{Layout, step_address}
+use Rattle.s390x_machine.specs.Operands.{based}
 use Rattle.s390x_machine.specs.OneStep.{StepRuns}
 use Rattle.s390x_machine.specs.Semantics.{on_elements, vector_field, register_field}
 use Rattle.s390x_machine.specs.StepKinds.{Performs, Unsupported, no_code, division_code, kind_or, on_vectors}
 use Rattle.s390x_machine.specs.Typed.{kind_of_step}
-use Rattle.s390x_machine.specs.VectorOperations.{binary_operation, unary_operation, comparison_operation, element_comparison}
-use Rattle.s390x_machine.specs.VectorSteps.{computes_two_vectors, computes_one_vector, computes_three_vectors, vector_operation}
-use Rattle.s390x_machine.proofs.Built.{StepAt, exactly, step_even, some_bytes, uncoded, one_row, one_recorded, row_alone}
+use Rattle.s390x_machine.specs.VectorOperations.{binary_operation, unary_operation, shift_operator, shifted_elements, comparison_operation, element_comparison}
+use Rattle.s390x_machine.specs.VectorSteps.{computes_two_vectors, computes_one_vector, computes_three_vectors, generates_vector, shifts_vector, joins_registers, elements_of, vector_operation}
+use Rattle.s390x_machine.proofs.Built.{StepAt, exactly, meant_runs, step_even, some_bytes, uncoded, one_row, one_recorded, row_alone}
+use Rattle.s390x_machine.proofs.Operands.{halfword_bits}
+use Rattle.s390x_machine.proofs.Rows.{general_number}
 use Rattle.s390x_machine.proofs.Listing.{few_digits, some_opcode, lists_row}
 use Rattle.s390x_machine.proofs.SingleInstruction.{DoesThere, meant_at, row_tells}
 use Rattle.s390x_machine.proofs.Simulation.{ValuesCoded, Coded}
@@ -57,6 +64,7 @@ use Rattle.s390x_machine.proofs.Stops.{only_by, never_by_values}
 use Rattle.s390x_machine.proofs.Trapping.{division_late, late_code}
 use Rattle.s390x_machine.proofs.VectorRows.{ElementsRow, elements_listed, elements_allowed, elements_operation, elements_few, binary_instruction, binary_rows, unary_instruction, unary_rows, comparison_instruction, comparison_rows, asking_rows, element_instruction, element_rows}
 use Rattle.s390x_machine.proofs.VectorRows.{select_row, permute_row, blend_row, move_row, opcode_in, allowed_in, fits_vrr_a, fits_vrr_b, fits_vrr_c, fits_vrr_d, fits_vrr_e}
+use Rattle.s390x_machine.proofs.VectorRows.{evaluate_row, doublewords_rows, byte_mask_row, replicate_rows, join_row, shift_rows, shift_allowed, shift_code, shift_operation, small_displacement, code_of_size, HasSize, size_of_elements, fits_vri_a, fits_vri_k, fits_vrr_f, fits_vrs_a}
 
 -- ---- registers
 
@@ -149,6 +157,19 @@ no_third (O.Replicate size index) h t a b c d = unused (O.Replicate size index) 
 no_third O.Move h t a b c d = unused O.Move t a b c d b 0 0 refl refl refl refl refl
 no_third (O.CompareElement sign size) h t a b c d = unused (O.CompareElement sign size) t a b c d b 0 0 refl refl refl refl refl
 no_third _ h t a b c d = absurd (true≢false (sym h))
+
+-- operations on no value beside the old one
+abbrev takes_none : VectorOperation → Bool
+takes_none (O.ByteMask mask) = true
+takes_none (O.BitMask size start end) = true
+takes_none (O.ReplicateImmediate size value) = true
+takes_none _ = false
+
+no_second : (o : VectorOperation) → takes_none o ≡ true → (t a b c d : ℕ) → Refines (computed_vector o t a b c d) (computed_vector o t a 0 0 0)
+no_second (O.ByteMask mask) h t a b c d = unused (O.ByteMask mask) t a b c d 0 0 0 refl refl refl refl refl
+no_second (O.BitMask size start end) h t a b c d = unused (O.BitMask size start end) t a b c d 0 0 0 refl refl refl refl refl
+no_second (O.ReplicateImmediate size value) h t a b c d = unused (O.ReplicateImmediate size value) t a b c d 0 0 0 refl refl refl refl refl
+no_second _ h t a b c d = absurd (true≢false (sym h))
 
 -- ---- operators
 
@@ -245,6 +266,58 @@ module _ {L : Layout} {k : ℕ} {s : Step} (b : StepAt L k s) where
       (λ r. subst (λ (y : Operation). Refines y (computes_three_vectors o d n m a r)) (sym (fields r)) (exactly (computes_three_vectors o d n m a r)))
       (λ r. subst (λ t. ValuesCoded (computes_three_vectors o d n m a r) (stop_codes t)) never (vector_coded o d (r.vector d) (r.vector n) (r.vector m) (r.vector a))) is.0 is.1
 
+  generated_runs : {code : ℕ} (x : MachineInstruction) (o : VectorOperation) (d : ℕ) → ElementsRow code x o → SlotsFit (layout_of x.format) x.slots → takes_none o ≡ true → is_divide o ≡ false → Computes x o d 0 0 0 → IsVectorRow x (generates_vector o d) → StepRuns L k
+  generated_runs x o d row fit takes never fields is =
+      vector_runs x o (generates_vector o d) false row fit
+      (λ r. subst (λ (y : Operation). Refines y (generates_vector o d r)) (sym (fields r)) (no_second o takes d (r.vector d) (r.vector 0) (r.vector 0) (r.vector 0)))
+      (λ r. subst (λ t. ValuesCoded (generates_vector o d r) (stop_codes t)) never (vector_coded o d (r.vector d) 0 0 0)) is.0 is.1
+
+  -- two doublewords, by their numbers
+  doublewords_run : (valid : Bool) (d n m first second : ℕ) → (IsTrue valid → (d < 32) × (n < 32) × (m < 32)) →
+      (kind_of_step L (Some s) ≡ Some (Performs false (computes_two_vectors (O.PermuteDoublewords first second) d n m) no_code)) × (step_parts s ≡ parts_or (single_with valid (doublewords_row d n m first second)) None []) × OperandsValidOr (single_with valid (doublewords_row d n m first second)) ⊥ → StepRuns L k
+  doublewords_run valid d n m first second small is = go (nat_lt first 2 && nat_lt second 2) refl is.1 is.2
+    where
+      go : (t : Bool) → (nat_lt first 2 && nat_lt second 2) ≡ t → step_parts s ≡ parts_or (single_with valid (cond t (Some (vrr_c 0xe784 d n m (4 * first + second))) None)) None [] → OperandsValidOr (single_with valid (cond t (Some (vrr_c 0xe784 d n m (4 * first + second))) None)) ⊥ → StepRuns L k
+      go false e parts able = absurd able
+      go true e parts able =
+          let tests = and_parts (nat_lt first 2) (nat_lt second 2) e in
+          let few = small able in
+          let row = doublewords_rows d n m first second (ltb-true first 2 tests.0) (ltb-true second 2 tests.1) in
+          let fit = fits_vrr_c 0xe784 d n m (4 * first + second) (few_digits (elements_listed row)) few.0 few.1 few.2 (elements_few row) in
+          two_vectors_run (vrr_c 0xe784 d n m (4 * first + second)) (O.PermuteDoublewords first second) d n m row fit refl refl (λ r. refl) (is.0, parts)
+
+  -- elements shifted by an amount
+  shifted_vector_runs : (op : VecShiftOp) (d n base displacement : ℕ) → (d < 32) × (n < 32) × (base < 16) → displacement < 4096 →
+      IsVectorRow (vrs_a (shift_row op).opcode d base n (shift_row op).code displacement) (shifts_vector (shift_operator op) (shifted_elements op) d n base displacement) → StepRuns L k
+  shifted_vector_runs op d n base displacement few small is =
+      let x = vrs_a (shift_row op).opcode d base n (shift_row op).code displacement in
+      let does = shifts_vector (shift_operator op) (shifted_elements op) d n base displacement in
+      let fit = fits_vrs_a (shift_row op).opcode d base n (shift_row op).code displacement (few_digits (shift_rows op).0) few.0 few.2 few.1 (shift_code op) small in
+      meant_runs b x (Row.ShiftElements (shift_row op).opcode) does (λ r. never_by_values (does r) no_code refl (λ kind by. true≢false (sym by.1))) is (shift_rows op) fit (shift_allowed op d base n displacement) (λ r p.
+      ap (λ (z : ℤ). on_elements (operation_of (shift_row op).opcode ((shift_row op).code ∷ 0 ∷ 0 ∷ []) (pos (based r base z % 64))) d (r.vector d) (r.vector n) 0 0) (small_displacement displacement small)
+      ∙ ap (λ q. on_elements q d (r.vector d) (r.vector n) 0 0) (shift_operation op (based r base (pos displacement) % 64) (omega arith)))
+
+  -- two general registers, one behind the other
+  joined_runs : (d n m : ℕ) → (d < 32) × (n < 16) × (m < 16) → IsVectorRow (vrr_f 0xe762 d n m) (joins_registers d n m) → StepRuns L k
+  joined_runs d n m few is =
+      meant_runs b (vrr_f 0xe762 d n m) JoinRegisters (joins_registers d n m) (λ r. never_by_values (joins_registers d n m r) no_code refl (λ kind h. h)) is join_row (fits_vrr_f 0xe762 d n m (few_digits join_row.0) few.0 few.1 few.2) refl (λ r p. refl)
+
+  -- an immediate in each element
+  replicated_runs : (valid : Bool) (size d bits : ℕ) → (IsTrue valid → d < 32) → bits < 65536 →
+      (kind_of_step L (Some s) ≡ Some (Performs false (generates_vector (O.ReplicateImmediate (elements_of size) bits) d) no_code)) × (step_parts s ≡ parts_or (single_with valid (replicate_row (element_code size) d bits)) None []) × OperandsValidOr (single_with valid (replicate_row (element_code size) d bits)) ⊥ → StepRuns L k
+  replicated_runs valid size d bits small few is = go (size_of_elements size)
+    where
+      go : HasSize size → StepRuns L k
+      go (inl none) = absurd (subst (λ o. OperandsValidOr (single_with valid (replicate_row o d bits)) ⊥) none is.2)
+      go (inr (e, z)) =
+          let x = vri_a 0xe745 d bits (code_of_size e) in
+          let o = O.ReplicateImmediate e bits in
+          let row = replicate_rows e z.narrow d bits few in
+          let able = subst (λ c. OperandsValidOr (single_with valid (replicate_row c d bits)) ⊥) z.code is.2 in
+          let fit = fits_vri_a 0xe745 d bits (code_of_size e) (few_digits (elements_listed row)) (small able) few (elements_few row) in
+          let parts = is.1 ∙ ap (λ c. parts_or (single_with valid (replicate_row c d bits)) None []) z.code in
+          generated_runs x o d row fit refl refl (λ r. refl) (is.0 ∙ ap (λ z. Some (Performs false (generates_vector (O.ReplicateImmediate z bits) d) no_code)) z.elements, parts)
+
 -- ---- all of them
 
 -- a step that is a vector instruction's operation, and its row
@@ -304,4 +377,27 @@ vector_instruction_runs b (VecMov rd rn) is =
     let row = move_row (number_of rd) (number_of rn) in
     let fit = fits_vrr_a 0xe756 (number_of rd) (number_of rn) 0 (few_digits (elements_listed row)) few.0 few.1 (omega arith) in
     one_vector_runs b (vrr_a 0xe756 (number_of rd) (number_of rn) 0) O.Move (number_of rd) (number_of rn) row fit refl refl (λ r. refl) (is.0, is.1)
+vector_instruction_runs b (VecShiftRR op rd rn amount register) is =
+    let few = and_parts (is_vector rd && is_vector rn) (is_general register) is.2 in
+    let two = two_vectors rd rn few.0 in
+    shifted_vector_runs b op (number_of rd) (number_of rn) (number_of register) (low_byte amount) (two.0, two.1, general_number register few.1) (omega arith) (is.0, is.1)
+vector_instruction_runs b (VecEvaluate imm rd rn rm ra) is =
+    let few = four_vectors rd rn rm ra is.2 in
+    let byte : low_byte imm < 256 = omega arith in
+    let row = evaluate_row (low_byte imm) (number_of rd) (number_of rn) (number_of rm) (number_of ra) byte in
+    let fit = fits_vri_k 0xe788 (low_byte imm) (number_of rd) (number_of rn) (number_of rm) (number_of ra) (few_digits (elements_listed row)) byte few.0 few.1 few.2 few.3 in
+    three_vectors_run b (vri_k 0xe788 (low_byte imm) (number_of rd) (number_of rn) (number_of rm) (number_of ra)) (O.Evaluate (low_byte imm)) (number_of rd) (number_of rn) (number_of rm) (number_of ra) row fit refl (λ r. refl) (is.0, is.1)
+vector_instruction_runs b (VecPermuteDWImm rd rn rm first second) is =
+    doublewords_run b (is_vector rd && is_vector rn && is_vector rm) (number_of rd) (number_of rn) (number_of rm) first second (three_vectors rd rn rm) (is.0, is.1, is.2)
+vector_instruction_runs b (MovToVec128 rd rn rm) is =
+    let few = and_parts (is_vector rd && is_general rn) (is_general rm) is.2 in
+    let two = and_parts (is_vector rd) (is_general rn) few.0 in
+    joined_runs b (number_of rd) (number_of rn) (number_of rm) (vector_number rd two.0, general_number rn two.1, general_number rm few.1) (is.0, is.1)
+vector_instruction_runs b (VecImmByteMask rd mask) is =
+    let bits : low_halfword (pos mask) < 65536 = halfword_bits (pos mask) in
+    let row = byte_mask_row (number_of rd) (low_halfword (pos mask)) bits in
+    let fit = fits_vri_a 0xe744 (number_of rd) (low_halfword (pos mask)) 0 (few_digits (elements_listed row)) (vector_number rd is.2) bits (omega arith) in
+    generated_runs b (vri_a 0xe744 (number_of rd) (low_halfword (pos mask)) 0) (O.ByteMask (low_halfword (pos mask))) (number_of rd) row fit refl refl (λ r. refl) (is.0, is.1)
+vector_instruction_runs b (VecImmReplicate size rd imm) is =
+    replicated_runs b (is_vector rd) size (number_of rd) (low_halfword imm) (vector_number rd) (halfword_bits imm) (is.0, is.1, is.2)
 vector_instruction_runs b _ is = absurd is.2

@@ -4,10 +4,13 @@ use Rattle.s390x_inst.specs.declared.vec_ops.VecBinaryOp.{VecBinaryOp}
 use Rattle.s390x_inst.specs.declared.vec_ops.VecBinaryOp.TheVariants as B
 use Rattle.s390x_inst.specs.declared.vec_ops.VecUnaryOp.{VecUnaryOp}
 use Rattle.s390x_inst.specs.declared.vec_ops.VecUnaryOp.TheVariants as U
+use Rattle.s390x_inst.specs.declared.vec_ops.VecShiftOp.{VecShiftOp}
+use Rattle.s390x_inst.specs.declared.vec_ops.VecShiftOp.TheVariants as S
 use Rattle.s390x_inst.specs.declared.vec_ops.VecIntCmpOp.{VecIntCmpOp}
 use Rattle.s390x_inst.specs.declared.vec_ops.VecIntCmpOp.TheVariants as C
 use Rattle.s390x_inst.specs.declared.vec_ops.VecIntEltCmpOp.{VecIntEltCmpOp}
 use Rattle.s390x_inst.specs.declared.vec_ops.VecIntEltCmpOp.TheVariants as E
+use Rattle.s390x_lanes.specs.declared.size.ElementSize.{ElementSize}
 use Rattle.s390x_lanes.specs.declared.size.ElementSize.TheVariants.{Byte, Halfword, Word, Doubleword, Quadword}
 use Rattle.s390x_lanes.specs.declared.operation.VectorOperation.{VectorOperation}
 use Rattle.s390x_lanes.specs.declared.operation.VectorOperation.TheVariants.{Binary, Compare, CompareElement, MultiplyHigh, MultiplyPairs, Divide, Unary, Pack, Merge, Unpack, BitPermute, ShiftByBits, ShiftByBytes}
@@ -20,7 +23,8 @@ use Rattle.s390x_lanes.specs.declared.operation.Parity.TheVariants.{Even, Odd}
 use Rattle.s390x_lanes.specs.declared.operation.Division.TheVariants.{Quotient, Remainder}
 use Rattle.s390x_lanes.specs.declared.operation.Half.TheVariants.{High, Low}
 use Rattle.s390x_lanes.specs.declared.operation.Narrowing.TheVariants.{Modulo, Saturate}
-use Rattle.s390x_lanes.specs.declared.operation.ShiftOperator.TheVariants.{ShiftLeft, ShiftRightLogical, ShiftRightArithmetic}
+use Rattle.s390x_lanes.specs.declared.operation.ShiftOperator.{ShiftOperator}
+use Rattle.s390x_lanes.specs.declared.operation.ShiftOperator.TheVariants.{RotateLeft, ShiftLeft, ShiftRightLogical, ShiftRightArithmetic}
 
 -- an operator on two vectors
 abbrev pub binary_operation : VecBinaryOp → VectorOperation
@@ -207,3 +211,41 @@ comparison_operation C.UCmpHi128 sets_code = Compare (Order.High Unsigned) Quadw
 abbrev pub element_comparison : VecIntEltCmpOp → VectorOperation
 element_comparison E.SCmp128 = CompareElement Signed Quadword
 element_comparison E.UCmp128 = CompareElement Unsigned Quadword
+
+-- how a shift moves the bits of each element
+abbrev pub shift_operator : VecShiftOp → ShiftOperator
+shift_operator S.RotL8x16 = RotateLeft
+shift_operator S.RotL16x8 = RotateLeft
+shift_operator S.RotL32x4 = RotateLeft
+shift_operator S.RotL64x2 = RotateLeft
+shift_operator S.LShL8x16 = ShiftLeft
+shift_operator S.LShL16x8 = ShiftLeft
+shift_operator S.LShL32x4 = ShiftLeft
+shift_operator S.LShL64x2 = ShiftLeft
+shift_operator S.LShR8x16 = ShiftRightLogical
+shift_operator S.LShR16x8 = ShiftRightLogical
+shift_operator S.LShR32x4 = ShiftRightLogical
+shift_operator S.LShR64x2 = ShiftRightLogical
+shift_operator S.AShR8x16 = ShiftRightArithmetic
+shift_operator S.AShR16x8 = ShiftRightArithmetic
+shift_operator S.AShR32x4 = ShiftRightArithmetic
+shift_operator S.AShR64x2 = ShiftRightArithmetic
+
+-- the elements that it shifts
+abbrev pub shifted_elements : VecShiftOp → ElementSize
+shifted_elements S.RotL8x16 = Byte
+shifted_elements S.RotL16x8 = Halfword
+shifted_elements S.RotL32x4 = Word
+shifted_elements S.RotL64x2 = Doubleword
+shifted_elements S.LShL8x16 = Byte
+shifted_elements S.LShL16x8 = Halfword
+shifted_elements S.LShL32x4 = Word
+shifted_elements S.LShL64x2 = Doubleword
+shifted_elements S.LShR8x16 = Byte
+shifted_elements S.LShR16x8 = Halfword
+shifted_elements S.LShR32x4 = Word
+shifted_elements S.LShR64x2 = Doubleword
+shifted_elements S.AShR8x16 = Byte
+shifted_elements S.AShR16x8 = Halfword
+shifted_elements S.AShR32x4 = Word
+shifted_elements S.AShR64x2 = Doubleword
