@@ -52,3 +52,5 @@ pub mod Example
 pub mod Instructions
 pub mod Trapping
 pub mod Vectors
+pub mod VectorRows
+pub mod VectorSteps

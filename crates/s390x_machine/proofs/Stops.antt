@@ -24,7 +24,7 @@ never_by_values op code none free kind (inl e) = absurd (cc)
 never_by_values op code none free kind (inr by) = absurd (free kind by)
 
 -- one whose values bring about this kind of stop alone, which has a code
-only_by : (op : Operation) (code : StopKind → Option TrapKind) (only : StopKind) (n : TrapKind) → code only ≡ Some n → ((kind : StopKind) → refused op.effect ≡ Some kind → kind ≡ only) → ((kind : StopKind) → MayRefuse op.effect kind → kind ≡ only) → ValuesCoded op code
+pub only_by : (op : Operation) (code : StopKind → Option TrapKind) (only : StopKind) (n : TrapKind) → code only ≡ Some n → ((kind : StopKind) → refused op.effect ≡ Some kind → kind ≡ only) → ((kind : StopKind) → MayRefuse op.effect kind → kind ≡ only) → ValuesCoded op code
 only_by op code only n has values free kind (inl e) = let same : kind ≡ only = values kind e in (n, cc)
 only_by op code only n has values free kind (inr by) = let same : kind ≡ only = free kind by in (n, cc)
 

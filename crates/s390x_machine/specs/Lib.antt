@@ -20,3 +20,5 @@ pub mod State
 pub mod Storage
 pub mod Step
 pub mod Typed
+pub mod VectorOperations
+pub mod VectorSteps

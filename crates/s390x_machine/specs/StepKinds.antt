@@ -98,6 +98,11 @@ may_stop code operation = Some (record { operation = operation; needs = false; c
 abbrev pub by_scratch : (Registers → Operation) → Option Performed
 by_scratch operation = Some (record { operation = operation; needs = true; code = no_code })
 
+-- an operation on vectors, which stops by its values where it divides
+abbrev pub on_vectors : (divides : Bool) → Option (Registers → Operation) → Option Performed
+on_vectors divides None = None
+on_vectors divides (Some operation) = may_stop (cond divides division_code no_code) operation
+
 -- what a relocation's doubleword holds once it is linked
 abbrev pub linked_value : Layout → SymbolReloc → ℕ
 linked_value L reloc = L.offsets.environment.symbol_value (name_in reloc) (offset_in reloc)

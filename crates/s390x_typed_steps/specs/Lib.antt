@@ -1,3 +1,4 @@
+pub mod SingleCode
 pub mod SingleInstruction
 pub mod Causes
 pub mod General
@@ -17,3 +18,5 @@ pub mod Storage
 pub mod Relocs
 pub mod Traps
 pub mod Tree
+pub mod VectorOpcodes
+pub mod VectorInstruction

@@ -3,6 +3,7 @@
 use Rattle.std.specs.Prelude.{ℕ, List, [], ◌∷◌}
 use Rattle.s390x_format.specs.declared.kind.FormatKind.{FormatKind}
 use Rattle.s390x_format.specs.declared.kind.FormatKind.TheVariants.{E, Rr, Rre, RrfAb, RrfCde, RiA, RiB, RieA, RieD, RieF, RieG, RilA, RilB, RilC, Rs, Rsy, Rx, Rxy, Si, Sil, Siy}
+use Rattle.s390x_format.specs.declared.kind.FormatKind.TheVariants.{VriA, VriB, VriC, VriK, VrrA, VrrB, VrrC, VrrD, VrrE, VrrF, VrsA, VrsB, VrsC}
 use Rattle.s390x_format.specs.Formats.{length_of}
 use Rattle.s390x_format.specs.Reading.{encode}
 
@@ -102,3 +103,55 @@ ril_b opcode r1 half = record { format = RilB; slots = opcode ∷ r1 ∷ 0 ∷ 0
 -- RIL-C: a mask and half of a distance, as in RIL-B
 abbrev pub ril_c : (opcode m1 half : ℕ) → MachineInstruction
 ril_c opcode m1 half = record { format = RilC; slots = opcode ∷ 0 ∷ 0 ∷ 0 ∷ 0 ∷ m1 ∷ 0 ∷ 0 ∷ half ∷ 0 ∷ [] }
+
+-- VRI-A: a vector register, the bits of an immediate of 16 bits, and a mask
+abbrev pub vri_a : (opcode v1 bits m3 : ℕ) → MachineInstruction
+vri_a opcode v1 bits m3 = record { format = VriA; slots = opcode ∷ v1 ∷ 0 ∷ 0 ∷ 0 ∷ m3 ∷ 0 ∷ 0 ∷ bits ∷ 0 ∷ [] }
+
+-- VRI-B: a vector register, two immediates of 8 bits and a mask
+abbrev pub vri_b : (opcode v1 i2 i3 m4 : ℕ) → MachineInstruction
+vri_b opcode v1 i2 i3 m4 = record { format = VriB; slots = opcode ∷ v1 ∷ 0 ∷ 0 ∷ 0 ∷ i2 ∷ i3 ∷ m4 ∷ 0 ∷ 0 ∷ [] }
+
+-- VRI-C: two vector registers, the bits of an immediate of 16 bits, and a mask
+abbrev pub vri_c : (opcode v1 v3 bits m4 : ℕ) → MachineInstruction
+vri_c opcode v1 v3 bits m4 = record { format = VriC; slots = opcode ∷ v1 ∷ v3 ∷ 0 ∷ 0 ∷ m4 ∷ 0 ∷ 0 ∷ bits ∷ 0 ∷ [] }
+
+-- VRI-K: four vector registers and an immediate of 8 bits
+abbrev pub vri_k : (opcode i5 v1 v2 v3 v4 : ℕ) → MachineInstruction
+vri_k opcode i5 v1 v2 v3 v4 = record { format = VriK; slots = opcode ∷ v1 ∷ v2 ∷ v3 ∷ v4 ∷ i5 ∷ 0 ∷ 0 ∷ 0 ∷ 0 ∷ [] }
+
+-- VRR-A: two vector registers and a mask
+abbrev pub vrr_a : (opcode v1 v2 m3 : ℕ) → MachineInstruction
+vrr_a opcode v1 v2 m3 = record { format = VrrA; slots = opcode ∷ v1 ∷ v2 ∷ 0 ∷ 0 ∷ m3 ∷ 0 ∷ 0 ∷ 0 ∷ 0 ∷ [] }
+
+-- VRR-B: three vector registers and two masks
+abbrev pub vrr_b : (opcode v1 v2 v3 m4 m5 : ℕ) → MachineInstruction
+vrr_b opcode v1 v2 v3 m4 m5 = record { format = VrrB; slots = opcode ∷ v1 ∷ v2 ∷ v3 ∷ 0 ∷ m4 ∷ m5 ∷ 0 ∷ 0 ∷ 0 ∷ [] }
+
+-- VRR-C: three vector registers and a mask
+abbrev pub vrr_c : (opcode v1 v2 v3 m4 : ℕ) → MachineInstruction
+vrr_c opcode v1 v2 v3 m4 = record { format = VrrC; slots = opcode ∷ v1 ∷ v2 ∷ v3 ∷ 0 ∷ m4 ∷ 0 ∷ 0 ∷ 0 ∷ 0 ∷ [] }
+
+-- VRR-D: four vector registers and a mask
+abbrev pub vrr_d : (opcode v1 v2 v3 v4 m5 : ℕ) → MachineInstruction
+vrr_d opcode v1 v2 v3 v4 m5 = record { format = VrrD; slots = opcode ∷ v1 ∷ v2 ∷ v3 ∷ v4 ∷ m5 ∷ 0 ∷ 0 ∷ 0 ∷ 0 ∷ [] }
+
+-- VRR-E: four vector registers
+abbrev pub vrr_e : (opcode v1 v2 v3 v4 : ℕ) → MachineInstruction
+vrr_e opcode v1 v2 v3 v4 = record { format = VrrE; slots = opcode ∷ v1 ∷ v2 ∷ v3 ∷ v4 ∷ 0 ∷ 0 ∷ 0 ∷ 0 ∷ 0 ∷ [] }
+
+-- VRR-F: a vector register and two general ones
+abbrev pub vrr_f : (opcode v1 r2 r3 : ℕ) → MachineInstruction
+vrr_f opcode v1 r2 r3 = record { format = VrrF; slots = opcode ∷ v1 ∷ r2 ∷ r3 ∷ 0 ∷ 0 ∷ 0 ∷ 0 ∷ 0 ∷ 0 ∷ [] }
+
+-- VRS-A: two vector registers, a base with a displacement of 12 bits, and a mask
+abbrev pub vrs_a : (opcode v1 b2 v3 m4 displacement : ℕ) → MachineInstruction
+vrs_a opcode v1 b2 v3 m4 displacement = record { format = VrsA; slots = opcode ∷ v1 ∷ b2 ∷ v3 ∷ 0 ∷ m4 ∷ 0 ∷ 0 ∷ 0 ∷ displacement ∷ [] }
+
+-- VRS-B: a vector register, a general one, a base with a displacement of 12 bits, and a mask
+abbrev pub vrs_b : (opcode v1 b2 r3 m4 displacement : ℕ) → MachineInstruction
+vrs_b opcode v1 b2 r3 m4 displacement = record { format = VrsB; slots = opcode ∷ v1 ∷ b2 ∷ r3 ∷ 0 ∷ m4 ∷ 0 ∷ 0 ∷ 0 ∷ displacement ∷ [] }
+
+-- VRS-C: a general register, a vector one, a base with a displacement of 12 bits, and a mask
+abbrev pub vrs_c : (opcode r1 b2 v3 m4 displacement : ℕ) → MachineInstruction
+vrs_c opcode r1 b2 v3 m4 displacement = record { format = VrsC; slots = opcode ∷ r1 ∷ b2 ∷ v3 ∷ 0 ∷ m4 ∷ 0 ∷ 0 ∷ 0 ∷ displacement ∷ [] }

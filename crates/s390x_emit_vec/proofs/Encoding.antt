@@ -1,0 +1,63 @@
+-- Where the registers of an instruction are vector ones, its row can be encoded.
+use Rattle.std.proofs.Common.{◌≡◌, ℕ, Bool, true, false, not, ◌&&◌, List, refl, ap}
+use Rattle.std.proofs.Common.{Result, Ok, Err, MatchResult}
+use Rattle.std.proofs.lemmas.Bool.{and_parts, and_from}
+use Rattle.s390x_base.specs.Regs.{is_int}
+use Rattle.s390x_base.specs.declared.error.EmitError.{EmitError}
+use Rattle.s390x_base.specs.declared.error.EmitError.TheVariants.{BadRegister}
+use Rattle.s390x_base.specs.declared.regs.RegClass.{RegClass}
+use Rattle.s390x_base.specs.declared.regs.RegClass.TheVariants.{Int, Float}
+use Rattle.s390x_base.specs.declared.regs.Reg.{Reg}
+use Rattle.s390x_base.specs.declared.regs.Reg.TheVariants.{Real, Virtual}
+use Rattle.s390x_enc.specs.Operands.{is_float_class, is_int_class, is_vector as encodes_vector, is_general_class as encodes_general}
+use Rattle.s390x_format.specs.declared.kind.FormatKind.{FormatKind}
+use Rattle.s390x_format.specs.Encoded.{IsCode}
+use Rattle.s390x_typed_steps.specs.SingleCode.{code_where}
+use Rattle.s390x_typed_steps.specs.General.{is_general}
+use Rattle.s390x_typed_steps.specs.VectorInstruction.{is_vector}
+
+-- the answer of an encoding call whose registers may stand there
+pub encoded : (valid ok : Bool) (kind : FormatKind) (slots : List ℕ) (r : Result (List ℕ) EmitError) → MatchResult r (λ code. (ok ≡ true) × IsCode kind slots code) (λ e. (e ≡ BadRegister) × (ok ≡ false)) → valid ≡ true → ok ≡ true → r ≡ code_where valid (record { format = kind; slots = slots })
+encoded valid ok kind slots (Ok code) m v h = rw v (ap Ok m.1.bytes_are)
+encoded valid ok kind slots (Err e) m v h = let n = m.1 in absurd (cc)
+
+class_encodes : (c : RegClass) (t : Bool) → (not (is_int c) && t) ≡ true → is_float_class c ≡ true
+class_encodes Int t h = absurd (cc)
+class_encodes Float t h = refl
+
+pub vector_encodes : (r : Reg) → is_vector r ≡ true → encodes_vector r ≡ true
+vector_encodes (Real r) h = class_encodes r.class _ h
+vector_encodes (Virtual num class) h = absurd (cc)
+
+pub two_encode : (a b : Reg) → (is_vector a && is_vector b) ≡ true → (encodes_vector a && encodes_vector b) ≡ true
+two_encode a b h = let p = and_parts (is_vector a) (is_vector b) h in and_from (encodes_vector a) (encodes_vector b) (vector_encodes a p.0) (vector_encodes b p.1)
+
+pub three_encode : (a b c : Reg) → (is_vector a && is_vector b && is_vector c) ≡ true → (encodes_vector a && encodes_vector b && encodes_vector c) ≡ true
+three_encode a b c h =
+    let p = and_parts (is_vector a && is_vector b) (is_vector c) h in and_from (encodes_vector a && encodes_vector b) (encodes_vector c) (two_encode a b p.0) (vector_encodes c p.1)
+
+pub four_encode : (a b c d : Reg) → (is_vector a && is_vector b && is_vector c && is_vector d) ≡ true → (encodes_vector a && encodes_vector b && encodes_vector c && encodes_vector d) ≡ true
+four_encode a b c d h =
+    let p = and_parts (is_vector a && is_vector b && is_vector c) (is_vector d) h in
+    and_from (encodes_vector a && encodes_vector b && encodes_vector c) (encodes_vector d) (three_encode a b c p.0) (vector_encodes d p.1)
+
+class_general : (c : RegClass) (t : Bool) → (is_int c && t) ≡ true → is_int_class c ≡ true
+class_general Int t h = refl
+class_general Float t h = absurd (cc)
+
+general_encodes : (r : Reg) → is_general r ≡ true → encodes_general r ≡ true
+general_encodes (Real r) h = class_general r.class _ h
+general_encodes (Virtual num class) h = absurd (cc)
+
+-- a base stands between the vector registers of a shift
+pub shift_encodes : (a b register : Reg) → (is_vector a && is_vector b && is_general register) ≡ true → (encodes_vector a && encodes_general register && encodes_vector b) ≡ true
+shift_encodes a b register h =
+    let p = and_parts (is_vector a && is_vector b) (is_general register) h in
+    let q = and_parts (is_vector a) (is_vector b) p.0 in
+    and_from (encodes_vector a && encodes_general register) (encodes_vector b) (and_from (encodes_vector a) (encodes_general register) (vector_encodes a q.0) (general_encodes register p.1)) (vector_encodes b q.1)
+
+pub join_encodes : (a b c : Reg) → (is_vector a && is_general b && is_general c) ≡ true → (encodes_vector a && encodes_general b && encodes_general c) ≡ true
+join_encodes a b c h =
+    let p = and_parts (is_vector a && is_general b) (is_general c) h in
+    let q = and_parts (is_vector a) (is_general b) p.0 in
+    and_from (encodes_vector a && encodes_general b) (encodes_general c) (and_from (encodes_vector a) (encodes_general b) (vector_encodes a q.0) (general_encodes b q.1)) (general_encodes c p.1)

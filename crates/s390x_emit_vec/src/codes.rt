@@ -1,0 +1,191 @@
+//! The codes of machine instructions on vectors, by their formats: each where its registers may stand there.
+ghost use Rattle.std.specs.Prelude.{◌≡◌, ◌<◌, ◌&&◌};
+ghost use Rattle.s390x_base.specs.Regs.{number_of};
+ghost use Rattle.s390x_typed_steps.specs.MachineInstruction.{vri_a, vri_k, vrr_a, vrr_b, vrr_c, vrr_d, vrr_e, vrr_f, vrs_a};
+ghost use Rattle.s390x_typed_steps.specs.SingleCode.{code_where};
+ghost use Rattle.s390x_typed_steps.specs.General.{is_general};
+ghost use Rattle.s390x_typed_steps.specs.VectorInstruction.{is_vector};
+
+use s390x_base::{Code, EmitError, Reg, RegClass};
+use s390x_enc::{
+    enc_vri_a, enc_vri_k, enc_vrr_a, enc_vrr_b, enc_vrr_c, enc_vrr_d, enc_vrr_e, enc_vrr_f,
+    enc_vrs_a,
+};
+use s390x_typed_steps::VectorOpcode;
+
+// A real vector register.
+fn vector(r: &Reg) -> bool
+    ensures { result ≡ is_vector r.now }
+{
+    match r {
+        Reg::Real(preg) => preg.class() == RegClass::Float && preg.hw_enc() < 32,
+        Reg::Virtual { .. } => false,
+    }
+}
+
+// A real general register.
+fn general(r: &Reg) -> bool
+    ensures { result ≡ is_general r.now }
+{
+    match r {
+        Reg::Real(preg) => preg.class() == RegClass::Int && preg.hw_enc() < 16,
+        Reg::Virtual { .. } => false,
+    }
+}
+
+fn two_valid(a: &Reg, b: &Reg) -> bool
+    ensures { result ≡ is_vector a.now && is_vector b.now }
+{
+    vector(a) && vector(b)
+}
+
+fn three_valid(a: &Reg, b: &Reg, c: &Reg) -> bool
+    ensures { result ≡ is_vector a.now && is_vector b.now && is_vector c.now }
+{
+    vector(a) && vector(b) && vector(c)
+}
+
+fn four_valid(a: &Reg, b: &Reg, c: &Reg, d: &Reg) -> bool
+    ensures { result ≡ is_vector a.now && is_vector b.now && is_vector c.now && is_vector d.now }
+{
+    vector(a) && vector(b) && vector(c) && vector(d)
+}
+
+fn shift_valid(a: &Reg, b: &Reg, register: &Reg) -> bool
+    ensures { result ≡ is_vector a.now && is_vector b.now && is_general register.now }
+{
+    vector(a) && vector(b) && general(register)
+}
+
+fn join_valid(a: &Reg, b: &Reg, c: &Reg) -> bool
+    ensures { result ≡ is_vector a.now && is_general b.now && is_general c.now }
+{
+    vector(a) && general(b) && general(c)
+}
+
+/// Two vector registers, and the code of the elements' size.
+pub fn two_vectors(row: VectorOpcode, v1: Reg, v2: Reg) -> Result<Code, EmitError>
+    requires { row.code < 16 }
+    ensures { result ≡ code_where (is_vector v1 && is_vector v2) (vrr_a row.opcode (number_of v1) (number_of v2) row.code) }
+{
+    let valid = two_valid(&v1, &v2);
+    if valid {
+        enc_vrr_a(row.opcode, v1, v2, row.code, 0, 0)
+    } else {
+        Err(EmitError::BadRegister)
+    }
+}
+
+/// Three vector registers, and the code of the elements' size.
+pub fn three_vectors(row: VectorOpcode, v1: Reg, v2: Reg, v3: Reg) -> Result<Code, EmitError>
+    requires { row.code < 16 }
+    ensures { result ≡ code_where (is_vector v1 && is_vector v2 && is_vector v3) (vrr_c row.opcode (number_of v1) (number_of v2) (number_of v3) row.code) }
+{
+    let valid = three_valid(&v1, &v2, &v3);
+    if valid {
+        enc_vrr_c(row.opcode, v1, v2, v3, row.code, 0, 0)
+    } else {
+        Err(EmitError::BadRegister)
+    }
+}
+
+/// A comparison of three vector registers' elements, and whether it sets the condition code.
+pub fn compared_vectors(
+    row: VectorOpcode,
+    v1: Reg,
+    v2: Reg,
+    v3: Reg,
+    sets_code: u8,
+) -> Result<Code, EmitError>
+    requires code { row.code < 16 }
+    requires sets_code { sets_code < 16 }
+    ensures { result ≡ code_where (is_vector v1 && is_vector v2 && is_vector v3) (vrr_b row.opcode (number_of v1) (number_of v2) (number_of v3) row.code sets_code) }
+{
+    let valid = three_valid(&v1, &v2, &v3);
+    if valid {
+        enc_vrr_b(row.opcode, v1, v2, v3, row.code, sets_code)
+    } else {
+        Err(EmitError::BadRegister)
+    }
+}
+
+/// Four vector registers, of a selection or a permutation.
+pub fn four_vectors(opcode: u16, v1: Reg, v2: Reg, v3: Reg, v4: Reg) -> Result<Code, EmitError>
+    ensures { result ≡ code_where (is_vector v1 && is_vector v2 && is_vector v3 && is_vector v4) (vrr_e opcode (number_of v1) (number_of v2) (number_of v3) (number_of v4)) }
+{
+    let valid = four_valid(&v1, &v2, &v3, &v4);
+    if valid {
+        enc_vrr_e(opcode, v1, v2, v3, v4, 0, 0)
+    } else {
+        Err(EmitError::BadRegister)
+    }
+}
+
+/// Four vector registers, of bytes that are blended.
+pub fn blended_vectors(v1: Reg, v2: Reg, v3: Reg, v4: Reg) -> Result<Code, EmitError>
+    ensures { result ≡ code_where (is_vector v1 && is_vector v2 && is_vector v3 && is_vector v4) (vrr_d 0xe789 (number_of v1) (number_of v2) (number_of v3) (number_of v4) 0) }
+{
+    let valid = four_valid(&v1, &v2, &v3, &v4);
+    if valid {
+        enc_vrr_d(0xe789, v1, v2, v3, v4, 0, 0)
+    } else {
+        Err(EmitError::BadRegister)
+    }
+}
+
+/// Four vector registers and a truth table.
+pub fn evaluated_vectors(imm: u8, v1: Reg, v2: Reg, v3: Reg, v4: Reg) -> Result<Code, EmitError>
+    ensures { result ≡ code_where (is_vector v1 && is_vector v2 && is_vector v3 && is_vector v4) (vri_k 0xe788 imm (number_of v1) (number_of v2) (number_of v3) (number_of v4)) }
+{
+    let valid = four_valid(&v1, &v2, &v3, &v4);
+    if valid {
+        enc_vri_k(0xe788, imm, v1, v2, v3, v4)
+    } else {
+        Err(EmitError::BadRegister)
+    }
+}
+
+/// Two vector registers, and a base with an amount.
+pub fn shifted_vector(
+    row: VectorOpcode,
+    v1: Reg,
+    v3: Reg,
+    register: Reg,
+    amount: u32,
+) -> Result<Code, EmitError>
+    requires code { row.code < 16 }
+    requires amount { amount < 4096 }
+    ensures { result ≡ code_where (is_vector v1 && is_vector v3 && is_general register) (vrs_a row.opcode (number_of v1) (number_of register) (number_of v3) row.code amount) }
+{
+    let valid = shift_valid(&v1, &v3, &register);
+    if valid {
+        enc_vrs_a(row.opcode, v1, register, amount, v3, row.code)
+    } else {
+        Err(EmitError::BadRegister)
+    }
+}
+
+/// A vector register and two general ones.
+pub fn joined_registers(v1: Reg, r2: Reg, r3: Reg) -> Result<Code, EmitError>
+    ensures { result ≡ code_where (is_vector v1 && is_general r2 && is_general r3) (vrr_f 0xe762 (number_of v1) (number_of r2) (number_of r3)) }
+{
+    let valid = join_valid(&v1, &r2, &r3);
+    if valid {
+        enc_vrr_f(0xe762, v1, r2, r3)
+    } else {
+        Err(EmitError::BadRegister)
+    }
+}
+
+/// A vector register and the bits of an immediate of 16 bits, and the code of the elements' size.
+pub fn immediate_vector(row: VectorOpcode, v1: Reg, bits: u16) -> Result<Code, EmitError>
+    requires { row.code < 16 }
+    ensures { result ≡ code_where (is_vector v1) (vri_a row.opcode (number_of v1) bits row.code) }
+{
+    let valid = vector(&v1);
+    if valid {
+        enc_vri_a(row.opcode, v1, bits, row.code)
+    } else {
+        Err(EmitError::BadRegister)
+    }
+}

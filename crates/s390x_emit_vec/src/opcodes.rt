@@ -1,0 +1,267 @@
+//! The machine row of each operator on vectors: its opcode and the code of its elements' size.
+ghost use Rattle.std.specs.Prelude.{◌≡◌, ◌<◌};
+ghost use Rattle.s390x_typed_steps.specs.VectorOpcodes.{is_division, binary_row, unary_row, shift_row, comparison_row, element_comparison_row};
+
+use s390x_inst::{VecBinaryOp, VecIntCmpOp, VecIntEltCmpOp, VecShiftOp, VecUnaryOp};
+use s390x_typed_steps::VectorOpcode;
+
+/// An operator on two vectors.
+#[rattlefmt::skip]
+pub fn binary_row(op: VecBinaryOp) -> VectorOpcode
+    ensures row { result ≡ binary_row op }
+    ensures code { result.code < 16 }
+{
+    match op {
+        VecBinaryOp::Add8x16 => VectorOpcode { opcode: 0xe7f3, code: 0 },
+        VecBinaryOp::Add16x8 => VectorOpcode { opcode: 0xe7f3, code: 1 },
+        VecBinaryOp::Add32x4 => VectorOpcode { opcode: 0xe7f3, code: 2 },
+        VecBinaryOp::Add64x2 => VectorOpcode { opcode: 0xe7f3, code: 3 },
+        VecBinaryOp::Add128 => VectorOpcode { opcode: 0xe7f3, code: 4 },
+        VecBinaryOp::Sub8x16 => VectorOpcode { opcode: 0xe7f7, code: 0 },
+        VecBinaryOp::Sub16x8 => VectorOpcode { opcode: 0xe7f7, code: 1 },
+        VecBinaryOp::Sub32x4 => VectorOpcode { opcode: 0xe7f7, code: 2 },
+        VecBinaryOp::Sub64x2 => VectorOpcode { opcode: 0xe7f7, code: 3 },
+        VecBinaryOp::Sub128 => VectorOpcode { opcode: 0xe7f7, code: 4 },
+        VecBinaryOp::Add128Cout => VectorOpcode { opcode: 0xe7f1, code: 4 },
+        VecBinaryOp::Sub128Cout => VectorOpcode { opcode: 0xe7f5, code: 4 },
+        VecBinaryOp::Mul8x16 => VectorOpcode { opcode: 0xe7a2, code: 0 },
+        VecBinaryOp::Mul16x8 => VectorOpcode { opcode: 0xe7a2, code: 1 },
+        VecBinaryOp::Mul32x4 => VectorOpcode { opcode: 0xe7a2, code: 2 },
+        VecBinaryOp::Mul64x2 => VectorOpcode { opcode: 0xe7a2, code: 3 },
+        VecBinaryOp::Mul128 => VectorOpcode { opcode: 0xe7a2, code: 4 },
+        VecBinaryOp::UMulHi8x16 => VectorOpcode { opcode: 0xe7a1, code: 0 },
+        VecBinaryOp::UMulHi16x8 => VectorOpcode { opcode: 0xe7a1, code: 1 },
+        VecBinaryOp::UMulHi32x4 => VectorOpcode { opcode: 0xe7a1, code: 2 },
+        VecBinaryOp::UMulHi64x2 => VectorOpcode { opcode: 0xe7a1, code: 3 },
+        VecBinaryOp::UMulHi128 => VectorOpcode { opcode: 0xe7a1, code: 4 },
+        VecBinaryOp::SMulHi8x16 => VectorOpcode { opcode: 0xe7a3, code: 0 },
+        VecBinaryOp::SMulHi16x8 => VectorOpcode { opcode: 0xe7a3, code: 1 },
+        VecBinaryOp::SMulHi32x4 => VectorOpcode { opcode: 0xe7a3, code: 2 },
+        VecBinaryOp::SMulHi64x2 => VectorOpcode { opcode: 0xe7a3, code: 3 },
+        VecBinaryOp::SMulHi128 => VectorOpcode { opcode: 0xe7a3, code: 4 },
+        VecBinaryOp::UMulEven8x16 => VectorOpcode { opcode: 0xe7a4, code: 0 },
+        VecBinaryOp::UMulEven16x8 => VectorOpcode { opcode: 0xe7a4, code: 1 },
+        VecBinaryOp::UMulEven32x4 => VectorOpcode { opcode: 0xe7a4, code: 2 },
+        VecBinaryOp::UMulEven64x2 => VectorOpcode { opcode: 0xe7a4, code: 3 },
+        VecBinaryOp::SMulEven8x16 => VectorOpcode { opcode: 0xe7a6, code: 0 },
+        VecBinaryOp::SMulEven16x8 => VectorOpcode { opcode: 0xe7a6, code: 1 },
+        VecBinaryOp::SMulEven32x4 => VectorOpcode { opcode: 0xe7a6, code: 2 },
+        VecBinaryOp::SMulEven64x2 => VectorOpcode { opcode: 0xe7a6, code: 3 },
+        VecBinaryOp::UMulOdd8x16 => VectorOpcode { opcode: 0xe7a5, code: 0 },
+        VecBinaryOp::UMulOdd16x8 => VectorOpcode { opcode: 0xe7a5, code: 1 },
+        VecBinaryOp::UMulOdd32x4 => VectorOpcode { opcode: 0xe7a5, code: 2 },
+        VecBinaryOp::UMulOdd64x2 => VectorOpcode { opcode: 0xe7a5, code: 3 },
+        VecBinaryOp::SMulOdd8x16 => VectorOpcode { opcode: 0xe7a7, code: 0 },
+        VecBinaryOp::SMulOdd16x8 => VectorOpcode { opcode: 0xe7a7, code: 1 },
+        VecBinaryOp::SMulOdd32x4 => VectorOpcode { opcode: 0xe7a7, code: 2 },
+        VecBinaryOp::SMulOdd64x2 => VectorOpcode { opcode: 0xe7a7, code: 3 },
+        VecBinaryOp::UDiv32x4 => VectorOpcode { opcode: 0xe7b0, code: 2 },
+        VecBinaryOp::UDiv64x2 => VectorOpcode { opcode: 0xe7b0, code: 3 },
+        VecBinaryOp::UDiv128 => VectorOpcode { opcode: 0xe7b0, code: 4 },
+        VecBinaryOp::SDiv32x4 => VectorOpcode { opcode: 0xe7b2, code: 2 },
+        VecBinaryOp::SDiv64x2 => VectorOpcode { opcode: 0xe7b2, code: 3 },
+        VecBinaryOp::SDiv128 => VectorOpcode { opcode: 0xe7b2, code: 4 },
+        VecBinaryOp::URem32x4 => VectorOpcode { opcode: 0xe7b1, code: 2 },
+        VecBinaryOp::URem64x2 => VectorOpcode { opcode: 0xe7b1, code: 3 },
+        VecBinaryOp::URem128 => VectorOpcode { opcode: 0xe7b1, code: 4 },
+        VecBinaryOp::SRem32x4 => VectorOpcode { opcode: 0xe7b3, code: 2 },
+        VecBinaryOp::SRem64x2 => VectorOpcode { opcode: 0xe7b3, code: 3 },
+        VecBinaryOp::SRem128 => VectorOpcode { opcode: 0xe7b3, code: 4 },
+        VecBinaryOp::UMax8x16 => VectorOpcode { opcode: 0xe7fd, code: 0 },
+        VecBinaryOp::UMax16x8 => VectorOpcode { opcode: 0xe7fd, code: 1 },
+        VecBinaryOp::UMax32x4 => VectorOpcode { opcode: 0xe7fd, code: 2 },
+        VecBinaryOp::UMax64x2 => VectorOpcode { opcode: 0xe7fd, code: 3 },
+        VecBinaryOp::UMax128 => VectorOpcode { opcode: 0xe7fd, code: 4 },
+        VecBinaryOp::SMax8x16 => VectorOpcode { opcode: 0xe7ff, code: 0 },
+        VecBinaryOp::SMax16x8 => VectorOpcode { opcode: 0xe7ff, code: 1 },
+        VecBinaryOp::SMax32x4 => VectorOpcode { opcode: 0xe7ff, code: 2 },
+        VecBinaryOp::SMax64x2 => VectorOpcode { opcode: 0xe7ff, code: 3 },
+        VecBinaryOp::SMax128 => VectorOpcode { opcode: 0xe7ff, code: 4 },
+        VecBinaryOp::UMin8x16 => VectorOpcode { opcode: 0xe7fc, code: 0 },
+        VecBinaryOp::UMin16x8 => VectorOpcode { opcode: 0xe7fc, code: 1 },
+        VecBinaryOp::UMin32x4 => VectorOpcode { opcode: 0xe7fc, code: 2 },
+        VecBinaryOp::UMin64x2 => VectorOpcode { opcode: 0xe7fc, code: 3 },
+        VecBinaryOp::UMin128 => VectorOpcode { opcode: 0xe7fc, code: 4 },
+        VecBinaryOp::SMin8x16 => VectorOpcode { opcode: 0xe7fe, code: 0 },
+        VecBinaryOp::SMin16x8 => VectorOpcode { opcode: 0xe7fe, code: 1 },
+        VecBinaryOp::SMin32x4 => VectorOpcode { opcode: 0xe7fe, code: 2 },
+        VecBinaryOp::SMin64x2 => VectorOpcode { opcode: 0xe7fe, code: 3 },
+        VecBinaryOp::SMin128 => VectorOpcode { opcode: 0xe7fe, code: 4 },
+        VecBinaryOp::UAvg8x16 => VectorOpcode { opcode: 0xe7f0, code: 0 },
+        VecBinaryOp::UAvg16x8 => VectorOpcode { opcode: 0xe7f0, code: 1 },
+        VecBinaryOp::UAvg32x4 => VectorOpcode { opcode: 0xe7f0, code: 2 },
+        VecBinaryOp::UAvg64x2 => VectorOpcode { opcode: 0xe7f0, code: 3 },
+        VecBinaryOp::UAvg128 => VectorOpcode { opcode: 0xe7f0, code: 4 },
+        VecBinaryOp::SAvg8x16 => VectorOpcode { opcode: 0xe7f2, code: 0 },
+        VecBinaryOp::SAvg16x8 => VectorOpcode { opcode: 0xe7f2, code: 1 },
+        VecBinaryOp::SAvg32x4 => VectorOpcode { opcode: 0xe7f2, code: 2 },
+        VecBinaryOp::SAvg64x2 => VectorOpcode { opcode: 0xe7f2, code: 3 },
+        VecBinaryOp::SAvg128 => VectorOpcode { opcode: 0xe7f2, code: 4 },
+        VecBinaryOp::And128 => VectorOpcode { opcode: 0xe768, code: 0 },
+        VecBinaryOp::Orr128 => VectorOpcode { opcode: 0xe76a, code: 0 },
+        VecBinaryOp::Xor128 => VectorOpcode { opcode: 0xe76d, code: 0 },
+        VecBinaryOp::NotAnd128 => VectorOpcode { opcode: 0xe76e, code: 0 },
+        VecBinaryOp::NotOrr128 => VectorOpcode { opcode: 0xe76b, code: 0 },
+        VecBinaryOp::NotXor128 => VectorOpcode { opcode: 0xe76c, code: 0 },
+        VecBinaryOp::AndNot128 => VectorOpcode { opcode: 0xe769, code: 0 },
+        VecBinaryOp::OrrNot128 => VectorOpcode { opcode: 0xe76f, code: 0 },
+        VecBinaryOp::BitPermute128 => VectorOpcode { opcode: 0xe785, code: 0 },
+        VecBinaryOp::LShLByByte128 => VectorOpcode { opcode: 0xe775, code: 0 },
+        VecBinaryOp::LShRByByte128 => VectorOpcode { opcode: 0xe77d, code: 0 },
+        VecBinaryOp::AShRByByte128 => VectorOpcode { opcode: 0xe77f, code: 0 },
+        VecBinaryOp::LShLByBit128 => VectorOpcode { opcode: 0xe774, code: 0 },
+        VecBinaryOp::LShRByBit128 => VectorOpcode { opcode: 0xe77c, code: 0 },
+        VecBinaryOp::AShRByBit128 => VectorOpcode { opcode: 0xe77e, code: 0 },
+        VecBinaryOp::Pack16x8 => VectorOpcode { opcode: 0xe794, code: 1 },
+        VecBinaryOp::Pack32x4 => VectorOpcode { opcode: 0xe794, code: 2 },
+        VecBinaryOp::Pack64x2 => VectorOpcode { opcode: 0xe794, code: 3 },
+        VecBinaryOp::PackUSat16x8 => VectorOpcode { opcode: 0xe795, code: 1 },
+        VecBinaryOp::PackUSat32x4 => VectorOpcode { opcode: 0xe795, code: 2 },
+        VecBinaryOp::PackUSat64x2 => VectorOpcode { opcode: 0xe795, code: 3 },
+        VecBinaryOp::PackSSat16x8 => VectorOpcode { opcode: 0xe797, code: 1 },
+        VecBinaryOp::PackSSat32x4 => VectorOpcode { opcode: 0xe797, code: 2 },
+        VecBinaryOp::PackSSat64x2 => VectorOpcode { opcode: 0xe797, code: 3 },
+        VecBinaryOp::MergeLow8x16 => VectorOpcode { opcode: 0xe760, code: 0 },
+        VecBinaryOp::MergeLow16x8 => VectorOpcode { opcode: 0xe760, code: 1 },
+        VecBinaryOp::MergeLow32x4 => VectorOpcode { opcode: 0xe760, code: 2 },
+        VecBinaryOp::MergeLow64x2 => VectorOpcode { opcode: 0xe760, code: 3 },
+        VecBinaryOp::MergeHigh8x16 => VectorOpcode { opcode: 0xe761, code: 0 },
+        VecBinaryOp::MergeHigh16x8 => VectorOpcode { opcode: 0xe761, code: 1 },
+        VecBinaryOp::MergeHigh32x4 => VectorOpcode { opcode: 0xe761, code: 2 },
+        VecBinaryOp::MergeHigh64x2 => VectorOpcode { opcode: 0xe761, code: 3 },
+    }
+}
+
+/// An operator on one vector.
+#[rattlefmt::skip]
+pub fn unary_row(op: VecUnaryOp) -> VectorOpcode
+    ensures row { result ≡ unary_row op }
+    ensures code { result.code < 16 }
+{
+    match op {
+        VecUnaryOp::Abs8x16 => VectorOpcode { opcode: 0xe7df, code: 0 },
+        VecUnaryOp::Abs16x8 => VectorOpcode { opcode: 0xe7df, code: 1 },
+        VecUnaryOp::Abs32x4 => VectorOpcode { opcode: 0xe7df, code: 2 },
+        VecUnaryOp::Abs64x2 => VectorOpcode { opcode: 0xe7df, code: 3 },
+        VecUnaryOp::Abs128 => VectorOpcode { opcode: 0xe7df, code: 4 },
+        VecUnaryOp::Neg8x16 => VectorOpcode { opcode: 0xe7de, code: 0 },
+        VecUnaryOp::Neg16x8 => VectorOpcode { opcode: 0xe7de, code: 1 },
+        VecUnaryOp::Neg32x4 => VectorOpcode { opcode: 0xe7de, code: 2 },
+        VecUnaryOp::Neg64x2 => VectorOpcode { opcode: 0xe7de, code: 3 },
+        VecUnaryOp::Neg128 => VectorOpcode { opcode: 0xe7de, code: 4 },
+        VecUnaryOp::Popcnt8x16 => VectorOpcode { opcode: 0xe750, code: 0 },
+        VecUnaryOp::Popcnt16x8 => VectorOpcode { opcode: 0xe750, code: 1 },
+        VecUnaryOp::Popcnt32x4 => VectorOpcode { opcode: 0xe750, code: 2 },
+        VecUnaryOp::Popcnt64x2 => VectorOpcode { opcode: 0xe750, code: 3 },
+        VecUnaryOp::Clz8x16 => VectorOpcode { opcode: 0xe753, code: 0 },
+        VecUnaryOp::Clz16x8 => VectorOpcode { opcode: 0xe753, code: 1 },
+        VecUnaryOp::Clz32x4 => VectorOpcode { opcode: 0xe753, code: 2 },
+        VecUnaryOp::Clz64x2 => VectorOpcode { opcode: 0xe753, code: 3 },
+        VecUnaryOp::Clz128 => VectorOpcode { opcode: 0xe753, code: 4 },
+        VecUnaryOp::Ctz8x16 => VectorOpcode { opcode: 0xe752, code: 0 },
+        VecUnaryOp::Ctz16x8 => VectorOpcode { opcode: 0xe752, code: 1 },
+        VecUnaryOp::Ctz32x4 => VectorOpcode { opcode: 0xe752, code: 2 },
+        VecUnaryOp::Ctz64x2 => VectorOpcode { opcode: 0xe752, code: 3 },
+        VecUnaryOp::Ctz128 => VectorOpcode { opcode: 0xe752, code: 4 },
+        VecUnaryOp::UnpackULow8x16 => VectorOpcode { opcode: 0xe7d4, code: 0 },
+        VecUnaryOp::UnpackULow16x8 => VectorOpcode { opcode: 0xe7d4, code: 1 },
+        VecUnaryOp::UnpackULow32x4 => VectorOpcode { opcode: 0xe7d4, code: 2 },
+        VecUnaryOp::UnpackULow64x2 => VectorOpcode { opcode: 0xe7d4, code: 3 },
+        VecUnaryOp::UnpackUHigh8x16 => VectorOpcode { opcode: 0xe7d5, code: 0 },
+        VecUnaryOp::UnpackUHigh16x8 => VectorOpcode { opcode: 0xe7d5, code: 1 },
+        VecUnaryOp::UnpackUHigh32x4 => VectorOpcode { opcode: 0xe7d5, code: 2 },
+        VecUnaryOp::UnpackUHigh64x2 => VectorOpcode { opcode: 0xe7d5, code: 3 },
+        VecUnaryOp::UnpackSLow8x16 => VectorOpcode { opcode: 0xe7d6, code: 0 },
+        VecUnaryOp::UnpackSLow16x8 => VectorOpcode { opcode: 0xe7d6, code: 1 },
+        VecUnaryOp::UnpackSLow32x4 => VectorOpcode { opcode: 0xe7d6, code: 2 },
+        VecUnaryOp::UnpackSLow64x2 => VectorOpcode { opcode: 0xe7d6, code: 3 },
+        VecUnaryOp::UnpackSHigh8x16 => VectorOpcode { opcode: 0xe7d7, code: 0 },
+        VecUnaryOp::UnpackSHigh16x8 => VectorOpcode { opcode: 0xe7d7, code: 1 },
+        VecUnaryOp::UnpackSHigh32x4 => VectorOpcode { opcode: 0xe7d7, code: 2 },
+        VecUnaryOp::UnpackSHigh64x2 => VectorOpcode { opcode: 0xe7d7, code: 3 },
+    }
+}
+
+/// A comparison of each element.
+#[rattlefmt::skip]
+pub fn comparison_row(op: VecIntCmpOp) -> VectorOpcode
+    ensures row { result ≡ comparison_row op }
+    ensures code { result.code < 16 }
+{
+    match op {
+        VecIntCmpOp::CmpEq8x16 => VectorOpcode { opcode: 0xe7f8, code: 0 },
+        VecIntCmpOp::CmpEq16x8 => VectorOpcode { opcode: 0xe7f8, code: 1 },
+        VecIntCmpOp::CmpEq32x4 => VectorOpcode { opcode: 0xe7f8, code: 2 },
+        VecIntCmpOp::CmpEq64x2 => VectorOpcode { opcode: 0xe7f8, code: 3 },
+        VecIntCmpOp::CmpEq128 => VectorOpcode { opcode: 0xe7f8, code: 4 },
+        VecIntCmpOp::SCmpHi8x16 => VectorOpcode { opcode: 0xe7fb, code: 0 },
+        VecIntCmpOp::SCmpHi16x8 => VectorOpcode { opcode: 0xe7fb, code: 1 },
+        VecIntCmpOp::SCmpHi32x4 => VectorOpcode { opcode: 0xe7fb, code: 2 },
+        VecIntCmpOp::SCmpHi64x2 => VectorOpcode { opcode: 0xe7fb, code: 3 },
+        VecIntCmpOp::SCmpHi128 => VectorOpcode { opcode: 0xe7fb, code: 4 },
+        VecIntCmpOp::UCmpHi8x16 => VectorOpcode { opcode: 0xe7f9, code: 0 },
+        VecIntCmpOp::UCmpHi16x8 => VectorOpcode { opcode: 0xe7f9, code: 1 },
+        VecIntCmpOp::UCmpHi32x4 => VectorOpcode { opcode: 0xe7f9, code: 2 },
+        VecIntCmpOp::UCmpHi64x2 => VectorOpcode { opcode: 0xe7f9, code: 3 },
+        VecIntCmpOp::UCmpHi128 => VectorOpcode { opcode: 0xe7f9, code: 4 },
+    }
+}
+
+/// A comparison of one element.
+#[rattlefmt::skip]
+pub fn element_comparison_row(op: VecIntEltCmpOp) -> VectorOpcode
+    ensures row { result ≡ element_comparison_row op }
+    ensures code { result.code < 16 }
+{
+    match op {
+        VecIntEltCmpOp::SCmp128 => VectorOpcode { opcode: 0xe7db, code: 4 },
+        VecIntEltCmpOp::UCmp128 => VectorOpcode { opcode: 0xe7d9, code: 4 },
+    }
+}
+
+/// A division, which stops by a divisor 0.
+pub fn is_division(op: VecBinaryOp) -> bool
+    ensures { result ≡ is_division op }
+{
+    matches!(
+        op,
+        VecBinaryOp::UDiv32x4
+            | VecBinaryOp::UDiv64x2
+            | VecBinaryOp::UDiv128
+            | VecBinaryOp::SDiv32x4
+            | VecBinaryOp::SDiv64x2
+            | VecBinaryOp::SDiv128
+            | VecBinaryOp::URem32x4
+            | VecBinaryOp::URem64x2
+            | VecBinaryOp::URem128
+            | VecBinaryOp::SRem32x4
+            | VecBinaryOp::SRem64x2
+            | VecBinaryOp::SRem128
+    )
+}
+
+/// A shift or rotation of each element.
+#[rattlefmt::skip]
+pub fn shift_row(op: VecShiftOp) -> VectorOpcode
+    ensures row { result ≡ shift_row op }
+    ensures code { result.code < 16 }
+{
+    match op {
+        VecShiftOp::RotL8x16 => VectorOpcode { opcode: 0xe733, code: 0 },
+        VecShiftOp::RotL16x8 => VectorOpcode { opcode: 0xe733, code: 1 },
+        VecShiftOp::RotL32x4 => VectorOpcode { opcode: 0xe733, code: 2 },
+        VecShiftOp::RotL64x2 => VectorOpcode { opcode: 0xe733, code: 3 },
+        VecShiftOp::LShL8x16 => VectorOpcode { opcode: 0xe730, code: 0 },
+        VecShiftOp::LShL16x8 => VectorOpcode { opcode: 0xe730, code: 1 },
+        VecShiftOp::LShL32x4 => VectorOpcode { opcode: 0xe730, code: 2 },
+        VecShiftOp::LShL64x2 => VectorOpcode { opcode: 0xe730, code: 3 },
+        VecShiftOp::LShR8x16 => VectorOpcode { opcode: 0xe738, code: 0 },
+        VecShiftOp::LShR16x8 => VectorOpcode { opcode: 0xe738, code: 1 },
+        VecShiftOp::LShR32x4 => VectorOpcode { opcode: 0xe738, code: 2 },
+        VecShiftOp::LShR64x2 => VectorOpcode { opcode: 0xe738, code: 3 },
+        VecShiftOp::AShR8x16 => VectorOpcode { opcode: 0xe73a, code: 0 },
+        VecShiftOp::AShR16x8 => VectorOpcode { opcode: 0xe73a, code: 1 },
+        VecShiftOp::AShR32x4 => VectorOpcode { opcode: 0xe73a, code: 2 },
+        VecShiftOp::AShR64x2 => VectorOpcode { opcode: 0xe73a, code: 3 },
+    }
+}

@@ -1,0 +1,181 @@
+//! The look-up of a vector instruction.
+ghost use Rattle.std.specs.Prelude.{◌≡◌, ◌<◌, ◌&&◌, IfSome, pos};
+ghost use Rattle.s390x_base.specs.Regs.{number_of};
+ghost use Rattle.s390x_typed_steps.specs.General.{low_halfword, low_byte};
+ghost use Rattle.s390x_typed_steps.specs.SingleCode.{single_code};
+ghost use Rattle.s390x_typed_steps.specs.SingleInstruction.{single_with};
+ghost use Rattle.s390x_typed_steps.specs.VectorInstruction.{is_vector, element_code, doublewords_row, replicate_row, vector_row, vector_operands_valid, vector_stop};
+
+use crate::codes::{
+    blended_vectors, compared_vectors, evaluated_vectors, four_vectors, immediate_vector,
+    joined_registers, shifted_vector, three_vectors, two_vectors,
+};
+use crate::opcodes::{
+    binary_row, comparison_row, element_comparison_row, is_division, shift_row, unary_row,
+};
+use s390x_base::{Code, EmitError, Reg, TrapCode};
+use s390x_inst::VecInst;
+use s390x_typed_steps::VectorOpcode;
+
+// The code of elements of 8 to 64 bits.
+fn element_code(size: u32) -> Option<u8>
+    ensures code { result ≡ element_code size }
+    ensures few { IfSome result (λ c. c < 4) }
+{
+    match size {
+        8 => Some(0),
+        16 => Some(1),
+        32 => Some(2),
+        64 => Some(3),
+        _ => None,
+    }
+}
+
+fn bits_of(imm: i16) -> u16
+    ensures { result ≡ low_halfword imm }
+{
+    i32::from(imm).rem_euclid(65536) as u16
+}
+
+fn bits_of_mask(mask: u16) -> u16
+    ensures { result ≡ low_halfword (pos mask) }
+{
+    mask
+}
+
+fn bits_of_byte(imm: u8) -> u8
+    ensures { result ≡ low_byte imm }
+{
+    imm
+}
+
+fn displacement_of(imm: u8) -> u32
+    ensures value { result ≡ low_byte imm }
+    ensures below { result < 4096 }
+{
+    u32::from(imm)
+}
+
+// Two doublewords, by their numbers 0 and 1.
+fn doublewords(v1: Reg, v2: Reg, v3: Reg, first: u8, second: u8) -> Option<Result<Code, EmitError>>
+    ensures { result ≡ single_code (single_with (is_vector v1 && is_vector v2 && is_vector v3) (doublewords_row (number_of v1) (number_of v2) (number_of v3) first second)) }
+{
+    if first < 2 && second < 2 {
+        let row = VectorOpcode {
+            opcode: 0xe784,
+            code: 4 * first + second,
+        };
+        Some(three_vectors(row, v1, v2, v3))
+    } else {
+        None
+    }
+}
+
+// An immediate in each element.
+fn replicated(size: u32, v1: Reg, imm: i16) -> Option<Result<Code, EmitError>>
+    ensures { result ≡ single_code (single_with (is_vector v1) (replicate_row (element_code size) (number_of v1) (low_halfword imm))) }
+{
+    match element_code(size) {
+        Some(code) => {
+            let row = VectorOpcode {
+                opcode: 0xe745,
+                code,
+            };
+            Some(immediate_vector(row, v1, bits_of(imm)))
+        }
+        None => None,
+    }
+}
+
+/// The code of a vector instruction that is one machine instruction; None for one that isn't, or isn't built. `BadRegister` exactly where a register
+/// isn't a real one of the row's class, or an input that has to be the output isn't it.
+pub fn find_vector(inst: &VecInst) -> Option<Result<Code, EmitError>>
+    ensures { result ≡ single_code (single_with (vector_operands_valid inst.now) (vector_row inst.now)) }
+{
+    match inst {
+        VecInst::VecRRR { op, rd, rn, rm } => {
+            Some(three_vectors(binary_row(*op), rd.to_reg(), *rn, *rm))
+        }
+        VecInst::VecRR { op, rd, rn } => Some(two_vectors(unary_row(*op), rd.to_reg(), *rn)),
+        VecInst::VecSelect { rd, rn, rm, ra } => {
+            Some(four_vectors(0xe78d, rd.to_reg(), *rn, *rm, *ra))
+        }
+        VecInst::VecPermute { rd, rn, rm, ra } => {
+            Some(four_vectors(0xe78c, rd.to_reg(), *rn, *rm, *ra))
+        }
+        VecInst::VecBlend { rd, rn, rm, ra } => Some(blended_vectors(rd.to_reg(), *rn, *rm, *ra)),
+        VecInst::VecIntCmp { op, rd, rn, rm } => Some(compared_vectors(
+            comparison_row(*op),
+            rd.to_reg(),
+            *rn,
+            *rm,
+            0,
+        )),
+        VecInst::VecIntCmpS { op, rd, rn, rm } => Some(compared_vectors(
+            comparison_row(*op),
+            rd.to_reg(),
+            *rn,
+            *rm,
+            1,
+        )),
+        VecInst::VecIntEltCmp { op, rn, rm } => {
+            Some(two_vectors(element_comparison_row(*op), *rn, *rm))
+        }
+        VecInst::VecMov { rd, rn } => {
+            let row = VectorOpcode {
+                opcode: 0xe756,
+                code: 0,
+            };
+            Some(two_vectors(row, rd.to_reg(), *rn))
+        }
+        VecInst::VecShiftRR {
+            shift_op,
+            rd,
+            rn,
+            shift_imm,
+            shift_reg,
+        } => Some(shifted_vector(
+            shift_row(*shift_op),
+            rd.to_reg(),
+            *rn,
+            *shift_reg,
+            displacement_of(*shift_imm),
+        )),
+        VecInst::VecEvaluate {
+            imm,
+            rd,
+            rn,
+            rm,
+            ra,
+        } => Some(evaluated_vectors(bits_of_byte(*imm), rd.to_reg(), *rn, *rm, *ra)),
+        VecInst::VecPermuteDWImm {
+            rd,
+            rn,
+            rm,
+            idx1,
+            idx2,
+        } => doublewords(rd.to_reg(), *rn, *rm, *idx1, *idx2),
+        VecInst::MovToVec128 { rd, rn, rm } => Some(joined_registers(rd.to_reg(), *rn, *rm)),
+        VecInst::VecImmByteMask { rd, mask } => {
+            let row = VectorOpcode {
+                opcode: 0xe744,
+                code: 0,
+            };
+            Some(immediate_vector(row, rd.to_reg(), bits_of_mask(*mask)))
+        }
+        VecInst::VecImmReplicate { size, rd, imm } => replicated(*size, rd.to_reg(), *imm),
+        _ => None,
+    }
+}
+
+/// The code of the stop of a division; None where an instruction stops by no values.
+pub fn stop_of(inst: &VecInst) -> Option<TrapCode>
+    ensures { result ≡ vector_stop inst.now }
+{
+    match inst {
+        VecInst::VecRRR { op, .. } if is_division(*op) => {
+            Some(TrapCode::INTEGER_DIVISION_BY_ZERO)
+        }
+        _ => None,
+    }
+}

@@ -1,0 +1,300 @@
+-- The rows on vector registers and immediates: each is listed, allows its masks, and its operation is its instruction's. One equation an operator.
+use Rattle.std.proofs.Common.{◌≡◌, ℕ, zero, suc, ◌+◌, ◌*◌, ◌<◌, ◌^◌, ◌==◌, ◌&&◌, [], ◌∷◌, slice_index, ◌⊎◌, inl, inr, Option, Some, None, Bool, true, false, cond, pos, ◌-ℤ◌, refl, sym, ap, ◌∙◌, subst, arith, nat_lt, nat_le, nat_eq, ltb-true, eqb-true}
+use Rattle.s390x_inst.specs.declared.vec_ops.VecBinaryOp.{VecBinaryOp}
+use Rattle.s390x_inst.specs.declared.vec_ops.VecBinaryOp.TheVariants as B
+use Rattle.s390x_inst.specs.declared.vec_ops.VecUnaryOp.{VecUnaryOp}
+use Rattle.s390x_inst.specs.declared.vec_ops.VecUnaryOp.TheVariants as U
+use Rattle.s390x_inst.specs.declared.vec_ops.VecShiftOp.{VecShiftOp}
+use Rattle.s390x_inst.specs.declared.vec_ops.VecShiftOp.TheVariants as S
+use Rattle.s390x_inst.specs.declared.vec_ops.VecIntCmpOp.{VecIntCmpOp}
+use Rattle.s390x_inst.specs.declared.vec_ops.VecIntCmpOp.TheVariants as C
+use Rattle.s390x_inst.specs.declared.vec_ops.VecIntEltCmpOp.{VecIntEltCmpOp}
+use Rattle.s390x_inst.specs.declared.vec_ops.VecIntEltCmpOp.TheVariants as E
+use Rattle.s390x_format.specs.declared.kind.FormatKind.TheVariants.{VriA, VriK, VrrA, VrrB, VrrC, VrrD, VrrE, VrrF, VrsA}
+use Rattle.s390x_format.specs.declared.row.Allowed.{Allowed}
+use Rattle.s390x_format.specs.declared.row.Allowed.TheVariants.{Any, FirstMask}
+use Rattle.s390x_format.specs.Rows.{is_allowed}
+use Rattle.s390x_format.specs.Lookup.{row_for}
+use Rattle.s390x_format.specs.Fetch.{machine_rows}
+use Rattle.s390x_format.specs.Fits.{fields_from}
+use Rattle.s390x_format.specs.Formats.{layout_of}
+use Rattle.s390x_format.specs.Layout.{SlotsFit}
+use Rattle.s390x_format.specs.View.{fields_of, disp_of}
+use Rattle.s390x_lanes.specs.Opcodes.{operation_of, row_in, with_immediate, immediate_bits}
+use Rattle.s390x_lanes.specs.declared.operation.VectorOperation.{VectorOperation}
+use Rattle.s390x_lanes.specs.declared.operation.VectorOperation.TheVariants.{Select, Permute, Blend, Move, Evaluate, PermuteDoublewords, ByteMask, ReplicateImmediate}
+use Rattle.s390x_lanes.specs.declared.operation.VectorOperation.TheVariants as O
+use Rattle.s390x_lanes.specs.declared.opcodes.TheConstants.{OPCODES}
+use Rattle.s390x_lanes.specs.declared.size.ElementSize.{ElementSize}
+use Rattle.s390x_lanes.specs.declared.size.ElementSize.TheVariants.{Byte, Halfword, Word, Doubleword, Quadword}
+use Rattle.s390x_typed_steps.specs.MachineInstruction.{MachineInstruction, vri_a, vri_k, vrr_a, vrr_b, vrr_c, vrr_d, vrr_e, vrr_f, vrs_a}
+use Rattle.s390x_typed_steps.specs.VectorInstruction.{element_code}
+use Rattle.s390x_typed_steps.specs.VectorOpcodes.{binary_row, unary_row, shift_row, comparison_row, element_comparison_row}
+use Rattle.s390x_machine.specs.declared.semantics.RowSemantics.TheVariants.{Elements, JoinRegisters}
+use Rattle.s390x_machine.specs.declared.semantics.RowSemantics.TheVariants as Row
+use Rattle.s390x_machine.specs.Semantics.{semantics_in, semantics_of}
+use Rattle.s390x_machine.specs.VectorOperations.{binary_operation, unary_operation, shift_operator, shifted_elements, comparison_operation, element_comparison}
+use Rattle.s390x_machine.specs.VectorSteps.{elements_of}
+use Rattle.s390x_machine.proofs.Bits.{below, at_most}
+use Rattle.s390x_machine.proofs.Listing.{Entry, entry, wanted, Listed, Meant, Agrees, rows}
+
+abbrev pub opcode_in : MachineInstruction → ℕ
+opcode_in x = slice_index x.slots 0
+
+abbrev pub allowed_in : MachineInstruction → Allowed
+allowed_in x = (row_for machine_rows (opcode_in x)).allowed
+
+-- what the tables say of a machine instruction on vectors
+pub record VectorEntry : Type 0 where
+  pub listed : Entry
+  pub allows : Bool
+  pub operation : Option VectorOperation
+  pub few : Bool
+
+abbrev pub vector_entry : (code : ℕ) → MachineInstruction → VectorEntry
+vector_entry code x = record {
+  listed = entry 65536 (opcode_in x);
+  allows = is_allowed (allowed_in x) x.slots;
+  operation = operation_of (opcode_in x) (fields_of x.format x.slots).masks (fields_of x.format x.slots).imm;
+  few = nat_lt code 16;
+}
+
+abbrev pub wanted_entry : MachineInstruction → VectorOperation → VectorEntry
+wanted_entry x o = record {
+  listed = wanted x.format (allowed_in x) (opcode_in x) (Elements (opcode_in x));
+  allows = true;
+  operation = Some o;
+  few = true;
+}
+
+-- it is listed as a row on vector registers, which allows its masks and does this operation; its code of the elements' size has four bits
+pub record ElementsRow (code : ℕ) (x : MachineInstruction) (o : VectorOperation) : Type 0 where
+  pub is : vector_entry code x ≡ wanted_entry x o
+
+pub elements_listed : {code : ℕ} {x : MachineInstruction} {o : VectorOperation} → ElementsRow code x o → Listed x.format (allowed_in x) 65536 (opcode_in x) (Elements (opcode_in x))
+elements_listed row = record { is = ap (λ (e : VectorEntry). e.listed) row.is }
+
+pub elements_allowed : {code : ℕ} {x : MachineInstruction} {o : VectorOperation} → ElementsRow code x o → is_allowed (allowed_in x) x.slots ≡ true
+elements_allowed row = ap (λ (e : VectorEntry). e.allows) row.is
+
+pub elements_operation : {code : ℕ} {x : MachineInstruction} {o : VectorOperation} → ElementsRow code x o → operation_of (opcode_in x) (fields_of x.format x.slots).masks (fields_of x.format x.slots).imm ≡ Some o
+elements_operation row = ap (λ (e : VectorEntry). e.operation) row.is
+
+pub elements_few : {code : ℕ} {x : MachineInstruction} {o : VectorOperation} → ElementsRow code x o → code < 16
+elements_few {code = code} row = ltb-true code 16 (ap (λ (e : VectorEntry). e.few) row.is)
+
+-- by its parts
+entry_of : (code : ℕ) (x : MachineInstruction) (o : VectorOperation) → entry 65536 (opcode_in x) ≡ wanted x.format (allowed_in x) (opcode_in x) (Elements (opcode_in x)) → is_allowed (allowed_in x) x.slots ≡ true → operation_of (opcode_in x) (fields_of x.format x.slots).masks (fields_of x.format x.slots).imm ≡ Some o → nat_lt code 16 ≡ true → ElementsRow code x o
+entry_of code x o listed allows operation few = record { is = λ i. record { listed = listed i; allows = allows i; operation = operation i; few = few i } }
+
+-- an immediate of 16 bits is read as it is
+sixteen_bits : (bits : ℕ) → bits < 65536 → immediate_bits (pos bits) ≡ Some bits
+sixteen_bits bits lt = ap (λ t. cond t (Some bits) None) (below bits 65536 lt)
+
+-- a displacement of 12 bits is read as it is
+pub small_displacement : (d : ℕ) → d < 4096 → disp_of d ≡ pos d
+small_displacement d lt = ap (λ t. cond t (pos d) (pos d -ℤ pos (2 ^ 20))) (below d (2 ^ 19) (omega (arith, lt)))
+
+-- ---- sizes of 8 to 64 bits
+
+abbrev pub code_of_size : ElementSize → ℕ
+code_of_size Byte = 0
+code_of_size Halfword = 1
+code_of_size Word = 2
+code_of_size Doubleword = 3
+code_of_size Quadword = 4
+
+abbrev pub IsNarrow : ElementSize → Type 0
+IsNarrow Quadword = ⊥
+IsNarrow _ = Unit {0}
+
+-- the size's elements, and their code
+pub record Sized (size : ℕ) (e : ElementSize) : Type 0 where
+  pub code : element_code size ≡ Some (code_of_size e)
+  pub elements : elements_of size ≡ e
+  pub narrow : IsNarrow e
+
+abbrev pub HasSize : ℕ → Type 0
+HasSize size = (element_code size ≡ None) ⊎ ((e : ElementSize) × Sized size e)
+
+pub size_of_elements : (size : ℕ) → HasSize size
+size_of_elements size = go (nat_eq size 8) refl (nat_eq size 16) refl (nat_eq size 32) refl (nat_eq size 64) refl
+  where
+    go : (a : Bool) → nat_eq size 8 ≡ a → (b : Bool) → nat_eq size 16 ≡ b → (c : Bool) → nat_eq size 32 ≡ c → (d : Bool) → nat_eq size 64 ≡ d → HasSize size
+    go true e b f c g d h = subst HasSize (sym (eqb-true size 8 e)) (inr (Byte, record { code = refl; elements = refl; narrow = tt }))
+    go false e true f c g d h = subst HasSize (sym (eqb-true size 16 f)) (inr (Halfword, record { code = refl; elements = refl; narrow = tt }))
+    go false e false f true g d h = subst HasSize (sym (eqb-true size 32 g)) (inr (Word, record { code = refl; elements = refl; narrow = tt }))
+    go false e false f false g true h = subst HasSize (sym (eqb-true size 64 h)) (inr (Doubleword, record { code = refl; elements = refl; narrow = tt }))
+    go false e false f false g false h =
+        inl (ap (λ t. cond t (Some 0) (cond (nat_eq size 16) (Some 1) (cond (nat_eq size 32) (Some 2) (cond (nat_eq size 64) (Some 3) None)))) e
+        ∙ ap (λ t. cond t (Some 1) (cond (nat_eq size 32) (Some 2) (cond (nat_eq size 64) (Some 3) None))) f
+        ∙ ap (λ t. cond t (Some 2) (cond (nat_eq size 64) (Some 3) None)) g
+        ∙ ap (λ t. cond t (Some 3) None) h)
+
+-- ---- the tables of operators
+
+abbrev pub binary_instruction : VecBinaryOp → (d n m : ℕ) → MachineInstruction
+binary_instruction op d n m = vrr_c (binary_row op).opcode d n m (binary_row op).code
+
+pub binary_rows : (op : VecBinaryOp) (d n m : ℕ) → ElementsRow (binary_row op).code (binary_instruction op d n m) (binary_operation op)
+unfolding machine_rows row_for semantics_in semantics_of operation_of row_in
+binary_rows op d n m = record { is = agrees op }
+  where
+    agrees : (op : VecBinaryOp) → vector_entry (binary_row op).code (binary_instruction op d n m) ≡ wanted_entry (binary_instruction op d n m) (binary_operation op)
+    agrees B.Add8x16 = refl
+    agrees _ = refl
+
+abbrev pub unary_instruction : VecUnaryOp → (d n : ℕ) → MachineInstruction
+unary_instruction op d n = vrr_a (unary_row op).opcode d n (unary_row op).code
+
+pub unary_rows : (op : VecUnaryOp) (d n : ℕ) → ElementsRow (unary_row op).code (unary_instruction op d n) (unary_operation op)
+unfolding machine_rows row_for semantics_in semantics_of operation_of row_in
+unary_rows op d n = record { is = agrees op }
+  where
+    agrees : (op : VecUnaryOp) → vector_entry (unary_row op).code (unary_instruction op d n) ≡ wanted_entry (unary_instruction op d n) (unary_operation op)
+    agrees U.Abs8x16 = refl
+    agrees _ = refl
+
+abbrev pub comparison_instruction : VecIntCmpOp → (d n m asks : ℕ) → MachineInstruction
+comparison_instruction op d n m asks = vrr_b (comparison_row op).opcode d n m (comparison_row op).code asks
+
+pub comparison_rows : (op : VecIntCmpOp) (d n m : ℕ) → ElementsRow (comparison_row op).code (comparison_instruction op d n m 0) (comparison_operation op false)
+unfolding machine_rows row_for semantics_in semantics_of operation_of row_in
+comparison_rows op d n m = record { is = agrees op }
+  where
+    agrees : (op : VecIntCmpOp) → vector_entry (comparison_row op).code (comparison_instruction op d n m 0) ≡ wanted_entry (comparison_instruction op d n m 0) (comparison_operation op false)
+    agrees C.CmpEq8x16 = refl
+    agrees _ = refl
+
+pub asking_rows : (op : VecIntCmpOp) (d n m : ℕ) → ElementsRow (comparison_row op).code (comparison_instruction op d n m 1) (comparison_operation op true)
+unfolding machine_rows row_for semantics_in semantics_of operation_of row_in
+asking_rows op d n m = record { is = agrees op }
+  where
+    agrees : (op : VecIntCmpOp) → vector_entry (comparison_row op).code (comparison_instruction op d n m 1) ≡ wanted_entry (comparison_instruction op d n m 1) (comparison_operation op true)
+    agrees C.CmpEq8x16 = refl
+    agrees _ = refl
+
+abbrev pub element_instruction : VecIntEltCmpOp → (n m : ℕ) → MachineInstruction
+element_instruction op n m = vrr_a (element_comparison_row op).opcode n m (element_comparison_row op).code
+
+pub element_rows : (op : VecIntEltCmpOp) (n m : ℕ) → ElementsRow (element_comparison_row op).code (element_instruction op n m) (element_comparison op)
+unfolding machine_rows row_for semantics_in semantics_of operation_of row_in
+element_rows op n m = record { is = agrees op }
+  where
+    agrees : (op : VecIntEltCmpOp) → vector_entry (element_comparison_row op).code (element_instruction op n m) ≡ wanted_entry (element_instruction op n m) (element_comparison op)
+    agrees E.SCmp128 = refl
+    agrees E.UCmp128 = refl
+
+-- ---- rows of one opcode
+
+pub select_row : (d n m a : ℕ) → ElementsRow 0 (vrr_e 0xe78d d n m a) Select
+unfolding machine_rows row_for semantics_in semantics_of operation_of row_in
+select_row d n m a = record { is = refl }
+
+pub permute_row : (d n m a : ℕ) → ElementsRow 0 (vrr_e 0xe78c d n m a) Permute
+unfolding machine_rows row_for semantics_in semantics_of operation_of row_in
+permute_row d n m a = record { is = refl }
+
+pub blend_row : (d n m a : ℕ) → ElementsRow 0 (vrr_d 0xe789 d n m a 0) Blend
+unfolding machine_rows row_for semantics_in semantics_of operation_of row_in
+blend_row d n m a = record { is = refl }
+
+pub move_row : (d n : ℕ) → ElementsRow 0 (vrr_a 0xe756 d n 0) Move
+unfolding machine_rows row_for semantics_in semantics_of operation_of row_in
+move_row d n = record { is = refl }
+
+pub evaluate_row : (imm d n m a : ℕ) → imm < 256 → ElementsRow 0 (vri_k 0xe788 imm d n m a) (Evaluate imm)
+unfolding machine_rows row_for semantics_in semantics_of operation_of row_in
+evaluate_row imm d n m a lt =
+    entry_of 0 (vri_k 0xe788 imm d n m a) (Evaluate imm) refl refl
+    (ap (λ t. cond ((t && nat_le imm 255) && (0 == 0) && (0 == 0) && (0 == 0)) (Some (Evaluate imm)) None) (at_most 0 imm (omega arith))
+    ∙ ap (λ t. cond ((true && t) && (0 == 0) && (0 == 0) && (0 == 0)) (Some (Evaluate imm)) None) (at_most imm 255 (omega (arith, lt)))) refl
+
+-- two doublewords, each by its number 0 or 1
+pub doublewords_rows : (d n m first second : ℕ) → first < 2 → second < 2 → ElementsRow (4 * first + second) (vrr_c 0xe784 d n m (4 * first + second)) (PermuteDoublewords first second)
+unfolding machine_rows row_for semantics_in semantics_of operation_of row_in
+doublewords_rows d n m zero zero lf ls = record { is = refl }
+doublewords_rows d n m zero (suc zero) lf ls = record { is = refl }
+doublewords_rows d n m (suc zero) zero lf ls = record { is = refl }
+doublewords_rows d n m (suc zero) (suc zero) lf ls = record { is = refl }
+doublewords_rows d n m (suc (suc i)) second lf ls = absurd (omega (arith, lf))
+doublewords_rows d n m first (suc (suc i)) lf ls = absurd (omega (arith, ls))
+
+pub byte_mask_row : (d mask : ℕ) → mask < 65536 → ElementsRow 0 (vri_a 0xe744 d mask 0) (ByteMask mask)
+unfolding machine_rows row_for semantics_in semantics_of operation_of row_in
+byte_mask_row d mask lt = entry_of 0 (vri_a 0xe744 d mask 0) (ByteMask mask) refl refl (ap (λ k. with_immediate (row_in OPCODES 0xe744) (0 ∷ 0 ∷ 0 ∷ []) k) (sixteen_bits mask lt)) refl
+
+-- an immediate in each element
+pub replicate_rows : (e : ElementSize) → IsNarrow e → (d bits : ℕ) → bits < 65536 → ElementsRow (code_of_size e) (vri_a 0xe745 d bits (code_of_size e)) (ReplicateImmediate e bits)
+unfolding machine_rows row_for semantics_in semantics_of operation_of row_in
+replicate_rows Byte narrow d bits lt = entry_of 0 (vri_a 0xe745 d bits 0) (ReplicateImmediate Byte bits) refl refl (ap (λ k. with_immediate (row_in OPCODES 0xe745) (0 ∷ 0 ∷ 0 ∷ []) k) (sixteen_bits bits lt)) refl
+replicate_rows Halfword narrow d bits lt = entry_of 1 (vri_a 0xe745 d bits 1) (ReplicateImmediate Halfword bits) refl refl (ap (λ k. with_immediate (row_in OPCODES 0xe745) (1 ∷ 0 ∷ 0 ∷ []) k) (sixteen_bits bits lt)) refl
+replicate_rows Word narrow d bits lt = entry_of 2 (vri_a 0xe745 d bits 2) (ReplicateImmediate Word bits) refl refl (ap (λ k. with_immediate (row_in OPCODES 0xe745) (2 ∷ 0 ∷ 0 ∷ []) k) (sixteen_bits bits lt)) refl
+replicate_rows Doubleword narrow d bits lt = entry_of 3 (vri_a 0xe745 d bits 3) (ReplicateImmediate Doubleword bits) refl refl (ap (λ k. with_immediate (row_in OPCODES 0xe745) (3 ∷ 0 ∷ 0 ∷ []) k) (sixteen_bits bits lt)) refl
+replicate_rows Quadword narrow d bits lt = absurd narrow
+
+-- ---- rows of another kind
+
+pub join_row : Meant VrrF Any 0xe762 JoinRegisters
+unfolding machine_rows row_for semantics_in semantics_of
+join_row = (record { is = refl }, refl)
+
+-- a shift's row
+pub shift_rows : (op : VecShiftOp) → Meant VrsA (FirstMask 0 3) (shift_row op).opcode (Row.ShiftElements (shift_row op).opcode)
+unfolding machine_rows row_for semantics_in semantics_of
+shift_rows op = rows (λ n. VrsA) (FirstMask 0 3) 65536 (Some (shift_row op).opcode) (Row.ShiftElements (shift_row op).opcode) refl (agrees op)
+  where
+    agrees : (op : VecShiftOp) → Agrees (λ n. VrsA) (FirstMask 0 3) 65536 (Some (shift_row op).opcode) (Row.ShiftElements (shift_row op).opcode)
+    agrees S.RotL8x16 = refl
+    agrees _ = refl
+
+pub shift_allowed : (op : VecShiftOp) (d base n displacement : ℕ) → is_allowed (FirstMask 0 3) (vrs_a (shift_row op).opcode d base n (shift_row op).code displacement).slots ≡ true
+shift_allowed S.RotL8x16 d base n displacement = refl
+shift_allowed _ d base n displacement = refl
+
+pub shift_code : (op : VecShiftOp) → (shift_row op).code < 16
+shift_code op = ltb-true (shift_row op).code 16 (few op)
+  where
+    few : (op : VecShiftOp) → nat_lt (shift_row op).code 16 ≡ true
+    few S.RotL8x16 = refl
+    few _ = refl
+
+-- the operation of a shift by an amount below 64
+pub shift_operation : (op : VecShiftOp) (k : ℕ) → k < 64 → operation_of (shift_row op).opcode ((shift_row op).code ∷ 0 ∷ 0 ∷ []) (pos k) ≡ Some (O.ShiftElements (shift_operator op) (shifted_elements op) k)
+unfolding operation_of row_in
+shift_operation op k lt =
+    ap (λ i. with_immediate (row_in OPCODES (shift_row op).opcode) ((shift_row op).code ∷ 0 ∷ 0 ∷ []) i) (sixteen_bits k (omega (arith, lt))) ∙ tested op
+    ∙ ap (λ t. cond t (Some (O.ShiftElements (shift_operator op) (shifted_elements op) k)) None) (below k 64 lt)
+  where
+    tested : (op : VecShiftOp) → with_immediate (row_in OPCODES (shift_row op).opcode) ((shift_row op).code ∷ 0 ∷ 0 ∷ []) (Some k) ≡ cond (nat_lt k 64) (Some (O.ShiftElements (shift_operator op) (shifted_elements op) k)) None
+    tested S.RotL8x16 = refl
+    tested _ = refl
+
+-- ---- the formats
+
+pub fits_vrr_a : (opcode a b mask : ℕ) → opcode < 65536 → a < 32 → b < 32 → mask < 16 → SlotsFit (layout_of VrrA) (vrr_a opcode a b mask).slots
+fits_vrr_a opcode a b mask o la lb lm = fields_from VrrA (vrr_a opcode a b mask).slots refl (omega arith, (omega arith, (omega arith, (omega arith, (omega arith, (omega arith, (omega arith, (omega arith, (omega arith, (omega arith, tt))))))))))
+
+pub fits_vrr_c : (opcode a b c mask : ℕ) → opcode < 65536 → a < 32 → b < 32 → c < 32 → mask < 16 → SlotsFit (layout_of VrrC) (vrr_c opcode a b c mask).slots
+fits_vrr_c opcode a b c mask o la lb lc lm = fields_from VrrC (vrr_c opcode a b c mask).slots refl (omega arith, (omega arith, (omega arith, (omega arith, (omega arith, (omega arith, (omega arith, (omega arith, (omega arith, (omega arith, tt))))))))))
+
+pub fits_vrr_b : (opcode a b c m n : ℕ) → opcode < 65536 → a < 32 → b < 32 → c < 32 → m < 16 → n < 16 → SlotsFit (layout_of VrrB) (vrr_b opcode a b c m n).slots
+fits_vrr_b opcode a b c m n o la lb lc lm ln = fields_from VrrB (vrr_b opcode a b c m n).slots refl (omega arith, (omega arith, (omega arith, (omega arith, (omega arith, (omega arith, (omega arith, (omega arith, (omega arith, (omega arith, tt))))))))))
+
+pub fits_vrr_d : (opcode a b c d m : ℕ) → opcode < 65536 → a < 32 → b < 32 → c < 32 → d < 32 → m < 16 → SlotsFit (layout_of VrrD) (vrr_d opcode a b c d m).slots
+fits_vrr_d opcode a b c d m o la lb lc ld lm = fields_from VrrD (vrr_d opcode a b c d m).slots refl (omega arith, (omega arith, (omega arith, (omega arith, (omega arith, (omega arith, (omega arith, (omega arith, (omega arith, (omega arith, tt))))))))))
+
+pub fits_vrr_e : (opcode a b c d : ℕ) → opcode < 65536 → a < 32 → b < 32 → c < 32 → d < 32 → SlotsFit (layout_of VrrE) (vrr_e opcode a b c d).slots
+fits_vrr_e opcode a b c d o la lb lc ld = fields_from VrrE (vrr_e opcode a b c d).slots refl (omega arith, (omega arith, (omega arith, (omega arith, (omega arith, (omega arith, (omega arith, (omega arith, (omega arith, (omega arith, tt))))))))))
+
+pub fits_vri_a : (opcode a bits mask : ℕ) → opcode < 65536 → a < 32 → bits < 65536 → mask < 16 → SlotsFit (layout_of VriA) (vri_a opcode a bits mask).slots
+fits_vri_a opcode a bits mask lopcode la lbits lmask = fields_from VriA (vri_a opcode a bits mask).slots refl (omega arith, (omega arith, (omega arith, (omega arith, (omega arith, (omega arith, (omega arith, (omega arith, (omega arith, (omega arith, tt))))))))))
+
+pub fits_vri_k : (opcode imm a b c d : ℕ) → opcode < 65536 → imm < 256 → a < 32 → b < 32 → c < 32 → d < 32 → SlotsFit (layout_of VriK) (vri_k opcode imm a b c d).slots
+fits_vri_k opcode imm a b c d lopcode limm la lb lc ld = fields_from VriK (vri_k opcode imm a b c d).slots refl (omega arith, (omega arith, (omega arith, (omega arith, (omega arith, (omega arith, (omega arith, (omega arith, (omega arith, (omega arith, tt))))))))))
+
+pub fits_vrr_f : (opcode a b c : ℕ) → opcode < 65536 → a < 32 → b < 16 → c < 16 → SlotsFit (layout_of VrrF) (vrr_f opcode a b c).slots
+fits_vrr_f opcode a b c lopcode la lb lc = fields_from VrrF (vrr_f opcode a b c).slots refl (omega arith, (omega arith, (omega arith, (omega arith, (omega arith, (omega arith, (omega arith, (omega arith, (omega arith, (omega arith, tt))))))))))
+
+pub fits_vrs_a : (opcode a base c mask displacement : ℕ) → opcode < 65536 → a < 32 → base < 16 → c < 32 → mask < 16 → displacement < 4096 → SlotsFit (layout_of VrsA) (vrs_a opcode a base c mask displacement).slots
+fits_vrs_a opcode a base c mask displacement lopcode la lbase lc lmask ldisplacement = fields_from VrsA (vrs_a opcode a base c mask displacement).slots refl (omega arith, (omega arith, (omega arith, (omega arith, (omega arith, (omega arith, (omega arith, (omega arith, (omega arith, (omega arith, tt))))))))))

@@ -1,0 +1,71 @@
+-- What vector instructions on registers and immediates do (cranelift-codegen, `inst.isle`). An operation on vectors has four operands, its own old value
+-- first; 0 stands for those that it doesn't take.
+use Rattle.std.specs.Prelude.{ℕ, ◌+◌, ◌*◌, ◌%◌, ◌^◌, pos, true, false, cond, nat_eq, Option, Some, None}
+use Rattle.s390x_base.specs.Regs.{number_of}
+use Rattle.s390x_inst.specs.declared.vec_inst.VecInst.{VecInst}
+use Rattle.s390x_inst.specs.declared.vec_inst.VecInst.TheVariants.{VecRRR, VecRR, VecSelect, VecPermute, VecBlend, VecIntCmp, VecIntCmpS, VecIntEltCmp, VecMov, VecShiftRR, VecEvaluate, VecPermuteDWImm, MovToVec128, VecImmByteMask, VecImmReplicate}
+use Rattle.s390x_lanes.specs.declared.operation.ShiftOperator.{ShiftOperator}
+use Rattle.s390x_lanes.specs.declared.operation.VectorOperation.{VectorOperation}
+use Rattle.s390x_lanes.specs.declared.operation.VectorOperation.TheVariants.{Select, Permute, Blend, Move, ShiftElements, Evaluate, PermuteDoublewords, ByteMask, ReplicateImmediate}
+use Rattle.s390x_lanes.specs.declared.size.ElementSize.{ElementSize}
+use Rattle.s390x_lanes.specs.declared.size.ElementSize.TheVariants.{Byte, Halfword, Word, Doubleword}
+use Rattle.s390x_operations.specs.State.{Registers}
+use Rattle.s390x_operations.specs.declared.effect.CodeRule.TheVariants.{Kept, Set}
+use Rattle.s390x_operations.specs.declared.effect.Effect.{Effect}
+use Rattle.s390x_operations.specs.declared.effect.Operation.{Operation}
+use Rattle.s390x_typed_steps.specs.General.{low_halfword, low_byte}
+use Rattle.s390x_machine.specs.Computations.{with_rule}
+use Rattle.s390x_machine.specs.Operands.{based}
+use Rattle.s390x_machine.specs.Semantics.{all_bits}
+use Rattle.s390x_machine.specs.VectorOperations.{binary_operation, unary_operation, shift_operator, shifted_elements, comparison_operation, element_comparison}
+
+-- vector register d becomes what an operation makes of vector registers n and m
+abbrev pub computes_two_vectors : VectorOperation → (d n m : ℕ) → Registers → Operation
+computes_two_vectors o d n m r = with_rule Set (Effect.ComputeVector o d (r.vector d) (r.vector n) (r.vector m) 0)
+
+-- the same of vector register n
+abbrev pub computes_one_vector : VectorOperation → (d n : ℕ) → Registers → Operation
+computes_one_vector o d n r = with_rule Set (Effect.ComputeVector o d (r.vector d) (r.vector n) 0 0)
+
+-- the same of vector registers n, m and a
+abbrev pub computes_three_vectors : VectorOperation → (d n m a : ℕ) → Registers → Operation
+computes_three_vectors o d n m a r = with_rule Set (Effect.ComputeVector o d (r.vector d) (r.vector n) (r.vector m) (r.vector a))
+
+-- the condition code becomes the order of vector registers n and m, which stay
+abbrev pub compares_vectors : VectorOperation → (n m : ℕ) → Registers → Operation
+compares_vectors o n m = computes_one_vector o n m
+
+-- vector register d becomes an operation's value, which takes none
+abbrev pub generates_vector : VectorOperation → (d : ℕ) → Registers → Operation
+generates_vector o d r = with_rule Set (Effect.ComputeVector o d (r.vector d) 0 0 0)
+
+-- vector register d becomes n, its elements shifted by a base plus a displacement; of that sum the low six bits count
+abbrev pub shifts_vector : ShiftOperator → ElementSize → (d n base displacement : ℕ) → Registers → Operation
+shifts_vector operator size d n base displacement r = computes_one_vector (ShiftElements operator size (based r base (pos displacement) % 64)) d n r
+
+-- vector register d becomes general registers n and m, one behind the other
+abbrev pub joins_registers : (d n m : ℕ) → Registers → Operation
+joins_registers d n m r = with_rule Kept (Effect.PutVector d all_bits (r.general n * 2 ^ 64 + r.general m))
+
+-- elements of 8, 16 or 32 bits, and else of 64
+abbrev pub elements_of : (size : ℕ) → ElementSize
+elements_of size = cond (nat_eq size 8) Byte (cond (nat_eq size 16) Halfword (cond (nat_eq size 32) Word Doubleword))
+
+-- the instructions that are one operation
+abbrev pub vector_operation : VecInst → Option (Registers → Operation)
+vector_operation (VecRRR op rd rn rm) = Some (computes_two_vectors (binary_operation op) (number_of rd) (number_of rn) (number_of rm))
+vector_operation (VecRR op rd rn) = Some (computes_one_vector (unary_operation op) (number_of rd) (number_of rn))
+vector_operation (VecSelect rd rn rm ra) = Some (computes_three_vectors Select (number_of rd) (number_of rn) (number_of rm) (number_of ra))
+vector_operation (VecPermute rd rn rm ra) = Some (computes_three_vectors Permute (number_of rd) (number_of rn) (number_of rm) (number_of ra))
+vector_operation (VecBlend rd rn rm ra) = Some (computes_three_vectors Blend (number_of rd) (number_of rn) (number_of rm) (number_of ra))
+vector_operation (VecIntCmp op rd rn rm) = Some (computes_two_vectors (comparison_operation op false) (number_of rd) (number_of rn) (number_of rm))
+vector_operation (VecIntCmpS op rd rn rm) = Some (computes_two_vectors (comparison_operation op true) (number_of rd) (number_of rn) (number_of rm))
+vector_operation (VecIntEltCmp op rn rm) = Some (compares_vectors (element_comparison op) (number_of rn) (number_of rm))
+vector_operation (VecMov rd rn) = Some (computes_one_vector Move (number_of rd) (number_of rn))
+vector_operation (VecShiftRR op rd rn amount register) = Some (shifts_vector (shift_operator op) (shifted_elements op) (number_of rd) (number_of rn) (number_of register) (low_byte amount))
+vector_operation (VecEvaluate imm rd rn rm ra) = Some (computes_three_vectors (Evaluate (low_byte imm)) (number_of rd) (number_of rn) (number_of rm) (number_of ra))
+vector_operation (VecPermuteDWImm rd rn rm first second) = Some (computes_two_vectors (PermuteDoublewords first second) (number_of rd) (number_of rn) (number_of rm))
+vector_operation (MovToVec128 rd rn rm) = Some (joins_registers (number_of rd) (number_of rn) (number_of rm))
+vector_operation (VecImmByteMask rd mask) = Some (generates_vector (ByteMask (low_halfword (pos mask))) (number_of rd))
+vector_operation (VecImmReplicate size rd imm) = Some (generates_vector (ReplicateImmediate (elements_of size) (low_halfword imm)) (number_of rd))
+vector_operation _ = None

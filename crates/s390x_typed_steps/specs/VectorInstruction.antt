@@ -1,0 +1,78 @@
+-- Vector instructions that are one machine instruction on registers and immediates (cranelift-codegen, `emit.rs`).
+use Rattle.std.specs.Prelude.{ℕ, ◌+◌, ◌*◌, pos, Bool, true, false, cond, ◌&&◌, not, nat_lt, nat_eq, Option, Some, None}
+use Rattle.s390x_base.specs.Regs.{number_of, is_int}
+use Rattle.s390x_base.specs.declared.regs.Reg.{Reg}
+use Rattle.s390x_base.specs.declared.regs.Reg.TheVariants.{Real, Virtual}
+use Rattle.s390x_base.specs.declared.trap.TrapKind.{TrapKind}
+use Rattle.s390x_base.specs.declared.trap.TrapKind.TheVariants.{IntegerDivisionByZero}
+use Rattle.s390x_inst.specs.declared.vec_inst.VecInst.{VecInst}
+use Rattle.s390x_inst.specs.declared.vec_inst.VecInst.TheVariants.{VecRRR, VecRR, VecSelect, VecPermute, VecBlend, VecIntCmp, VecIntCmpS, VecIntEltCmp, VecMov, VecShiftRR, VecEvaluate, VecPermuteDWImm, MovToVec128, VecImmByteMask, VecImmReplicate}
+use Rattle.s390x_typed_steps.specs.General.{is_general, low_halfword, low_byte}
+use Rattle.s390x_typed_steps.specs.MachineInstruction.{MachineInstruction, vrr_a, vri_a, vri_k, vrr_b, vrr_c, vrr_d, vrr_e, vrr_f, vrs_a}
+use Rattle.s390x_typed_steps.specs.VectorOpcodes.{binary_row, unary_row, shift_row, comparison_row, element_comparison_row, is_division}
+
+-- a real vector register
+abbrev pub is_vector : Reg → Bool
+is_vector (Real r) = not (is_int r.class) && nat_lt r.number 32
+is_vector (Virtual num class) = false
+
+-- the code of elements of 8 to 64 bits; none for other sizes
+abbrev pub element_code : (size : ℕ) → Option ℕ
+element_code size = cond (nat_eq size 8) (Some 0) (cond (nat_eq size 16) (Some 1) (cond (nat_eq size 32) (Some 2) (cond (nat_eq size 64) (Some 3) None)))
+
+-- doublewords of two vectors, by their numbers 0 and 1; none for others
+abbrev pub doublewords_row : (d n m first second : ℕ) → Option MachineInstruction
+doublewords_row d n m first second = cond (nat_lt first 2 && nat_lt second 2) (Some (vrr_c 0xe784 d n m (4 * first + second))) None
+
+-- an immediate in each element; none where there are no such elements
+abbrev pub replicate_row : (code : Option ℕ) → (d bits : ℕ) → Option MachineInstruction
+replicate_row None d bits = None
+replicate_row (Some code) d bits = Some (vri_a 0xe745 d bits code)
+
+-- the one machine instruction of a vector instruction, where it is one that is built
+abbrev pub vector_row : VecInst → Option MachineInstruction
+vector_row (VecRRR op rd rn rm) = Some (vrr_c (binary_row op).opcode (number_of rd) (number_of rn) (number_of rm) (binary_row op).code)
+vector_row (VecRR op rd rn) = Some (vrr_a (unary_row op).opcode (number_of rd) (number_of rn) (unary_row op).code)
+vector_row (VecSelect rd rn rm ra) = Some (vrr_e 0xe78d (number_of rd) (number_of rn) (number_of rm) (number_of ra))
+vector_row (VecPermute rd rn rm ra) = Some (vrr_e 0xe78c (number_of rd) (number_of rn) (number_of rm) (number_of ra))
+vector_row (VecBlend rd rn rm ra) = Some (vrr_d 0xe789 (number_of rd) (number_of rn) (number_of rm) (number_of ra) 0)
+vector_row (VecIntCmp op rd rn rm) = Some (vrr_b (comparison_row op).opcode (number_of rd) (number_of rn) (number_of rm) (comparison_row op).code 0)
+-- the second mask asks for the condition code
+vector_row (VecIntCmpS op rd rn rm) = Some (vrr_b (comparison_row op).opcode (number_of rd) (number_of rn) (number_of rm) (comparison_row op).code 1)
+vector_row (VecIntEltCmp op rn rm) = Some (vrr_a (element_comparison_row op).opcode (number_of rn) (number_of rm) (element_comparison_row op).code)
+vector_row (VecMov rd rn) = Some (vrr_a 0xe756 (number_of rd) (number_of rn) 0)
+vector_row (VecShiftRR op rd rn amount register) = Some (vrs_a (shift_row op).opcode (number_of rd) (number_of register) (number_of rn) (shift_row op).code (low_byte amount))
+vector_row (VecEvaluate imm rd rn rm ra) = Some (vri_k 0xe788 (low_byte imm) (number_of rd) (number_of rn) (number_of rm) (number_of ra))
+vector_row (VecPermuteDWImm rd rn rm first second) = doublewords_row (number_of rd) (number_of rn) (number_of rm) first second
+vector_row (MovToVec128 rd rn rm) = Some (vrr_f 0xe762 (number_of rd) (number_of rn) (number_of rm))
+vector_row (VecImmByteMask rd mask) = Some (vri_a 0xe744 (number_of rd) (low_halfword (pos mask)) 0)
+vector_row (VecImmReplicate size rd imm) = replicate_row (element_code size) (number_of rd) (low_halfword imm)
+vector_row _ = None
+
+-- its registers may stand there: real ones of the row's classes, and the input that has to be the output is it
+abbrev pub vector_operands_valid : VecInst → Bool
+vector_operands_valid (VecRRR op rd rn rm) = is_vector rd && is_vector rn && is_vector rm
+vector_operands_valid (VecRR op rd rn) = is_vector rd && is_vector rn
+vector_operands_valid (VecSelect rd rn rm ra) = is_vector rd && is_vector rn && is_vector rm && is_vector ra
+vector_operands_valid (VecPermute rd rn rm ra) = is_vector rd && is_vector rn && is_vector rm && is_vector ra
+vector_operands_valid (VecBlend rd rn rm ra) = is_vector rd && is_vector rn && is_vector rm && is_vector ra
+vector_operands_valid (VecIntCmp op rd rn rm) = is_vector rd && is_vector rn && is_vector rm
+vector_operands_valid (VecIntCmpS op rd rn rm) = is_vector rd && is_vector rn && is_vector rm
+vector_operands_valid (VecIntEltCmp op rn rm) = is_vector rn && is_vector rm
+vector_operands_valid (VecMov rd rn) = is_vector rd && is_vector rn
+vector_operands_valid (VecShiftRR op rd rn amount register) = is_vector rd && is_vector rn && is_general register
+vector_operands_valid (VecEvaluate imm rd rn rm ra) = is_vector rd && is_vector rn && is_vector rm && is_vector ra
+vector_operands_valid (VecPermuteDWImm rd rn rm first second) = is_vector rd && is_vector rn && is_vector rm
+vector_operands_valid (MovToVec128 rd rn rm) = is_vector rd && is_general rn && is_general rm
+vector_operands_valid (VecImmByteMask rd mask) = is_vector rd
+vector_operands_valid (VecImmReplicate size rd imm) = is_vector rd
+vector_operands_valid _ = false
+
+-- a division, which may stop by its values
+abbrev pub divides : VecInst → Bool
+divides (VecRRR op rd rn rm) = is_division op
+divides _ = false
+
+-- the code of the stop of a division
+abbrev pub vector_stop : VecInst → Option TrapKind
+vector_stop v = cond (divides v) (Some IntegerDivisionByZero) None
