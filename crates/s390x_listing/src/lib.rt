@@ -1,0 +1,7 @@
+//! Listings of a function, a line for each instruction behind that of its block.
+#![tactic(auto)]
+
+pub mod head;
+pub mod operands;
+
+pub use operands::listed_operands;
