@@ -36,3 +36,4 @@ pub mod Resolving
 pub mod Linked
 pub mod Linking
 pub mod Example
+pub mod FunctionImage

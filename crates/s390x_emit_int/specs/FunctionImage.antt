@@ -1,5 +1,5 @@
 -- The image of a function at a base, and why it has none.
-use Rattle.std.specs.Prelude.{◌≡◌, ℕ, ◌⊎◌, Some, None}
+use Rattle.std.specs.Prelude.{◌≡◌, ℕ, ◌⊎◌, List, Some, None}
 use Rattle.s390x_base.specs.declared.error.EmitError.TheVariants.{NoMemory}
 use Rattle.s390x_inst.specs.Emission.{Emission}
 use Rattle.s390x_inst.specs.declared.function.AllocatedFunction.{AllocatedFunction}
@@ -9,21 +9,20 @@ use Rattle.s390x_image.specs.Causes.{link_cause}
 use Rattle.s390x_image.specs.Symbols.{Symbols}
 use Rattle.s390x_image.specs.declared.error.LinkError.{LinkError}
 use Rattle.s390x_image.specs.declared.error.LinkError.TheVariants as link
-use Rattle.s390x_operations.specs.State.{CodeImage}
 use Rattle.s390x_emit_int.specs.Function.{IsFinishedCode, constants_of, function_cause, trees_of}
 use Rattle.s390x_emit_int.specs.Headline.{RunsAsTyped, linked_image}
 use Rattle.s390x_emit_int.specs.declared.image.ImageError.{ImageError}
 use Rattle.s390x_emit_int.specs.declared.image.ImageError.TheVariants.{Refused, Link}
 
--- Neither emission nor linking has a cause to refuse the function, and this is its code, linked at the base with these symbols. A machine that fetches it
--- there does only what the function's instructions allow
-pub record IsImageOf (flags : IsaFlags) (state : Emission) (f : AllocatedFunction) (base : ℕ) (symbols : Symbols) (image : CodeImage) : Type 0 where
+-- Neither emission nor linking has a cause to refuse the function, and these are the bytes of its code, linked at the base with these symbols. A machine
+-- that fetches them there does only what the function's instructions allow
+pub record IsImageOf (flags : IsaFlags) (state : Emission) (f : AllocatedFunction) (base : ℕ) (symbols : Symbols) (bytes : List ℕ) : Type 0 where
   pub code : MachBufferFinalized
   pub valid : function_cause flags (trees_of state f) (constants_of f) state ≡ None
   pub finished : IsFinishedCode (trees_of state f) (constants_of f) code
   pub linked : link_cause code base symbols ≡ None
-  pub is : image ≡ linked_image code base symbols
-  pub runs : RunsAsTyped symbols (trees_of state f) (constants_of f) image
+  pub is : bytes ≡ (linked_image code base symbols).bytes
+  pub runs : RunsAsTyped symbols (trees_of state f) (constants_of f) (record { base = base; bytes = bytes })
 
 -- the function has code, which linking refuses by this cause
 pub record IsLinkRefused (state : Emission) (f : AllocatedFunction) (base : ℕ) (symbols : Symbols) (error : LinkError) : Type 0 where

@@ -1,9 +1,8 @@
 //! The image of a function: its code, emitted and linked.
-ghost use Rattle.std.specs.Prelude.{IfErr, IfOk};
+ghost use Rattle.std.specs.Prelude.{◌≡◌, IfErr, IfOk};
 ghost use Rattle.s390x_emit_int.specs.FunctionImage.{HasNoImage, IsImageOf};
 
 use crate::function::emit_function;
-use crate::headline::linked_code_runs_as_typed;
 use s390x_base::EmitError;
 use s390x_image::{Image, LinkError, SymbolTable, link};
 use s390x_inst::{AllocatedFunction, EmitInfo, EmitState};
@@ -31,17 +30,15 @@ pub fn emit_image(
     base: u64,
     symbols: &SymbolTable,
 ) -> Result<Image, ImageError>
-    ensures image { IfOk result (λ image. IsImageOf info.now.isa_flags state function.now base symbols.now (record { base = image.base; bytes = image.bytes.items })) }
+    ensures base { IfOk result (λ image. image.base ≡ base) }
+    ensures image { IfOk result (λ image. IsImageOf info.now.isa_flags state function.now base symbols.now image.bytes.items) }
     ensures refused { IfErr result (λ error. HasNoImage info.now.isa_flags state function.now base symbols.now error) }
 {
     match emit_function(alloc, function, info, state) {
-        Ok(code) => {
-            linked_code_runs_as_typed();
-            match link(alloc, &code, base, symbols) {
-                Ok(image) => Ok(image),
-                Err(error) => Err(ImageError::Link(error)),
-            }
-        }
+        Ok(code) => match link(alloc, &code, base, symbols) {
+            Ok(image) => Ok(image),
+            Err(error) => Err(ImageError::Link(error)),
+        },
         Err(error) => Err(ImageError::Refused(error)),
     }
 }

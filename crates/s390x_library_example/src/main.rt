@@ -71,7 +71,7 @@ fn image_of(
     base: u64,
     symbols: &SymbolTable,
 ) -> Result<Image, ImageError>
-    ensures { IfOk result (λ image. RunsAsTyped symbols.now (trees_of state function.now) (constants_of function.now) (record { base = image.base; bytes = image.bytes.items })) }
+    ensures { IfOk result (λ image. RunsAsTyped symbols.now (trees_of state function.now) (constants_of function.now) (record { base = base; bytes = image.bytes.items })) }
 {
     emit_image(
         alloc,
