@@ -1,5 +1,5 @@
 -- Numbers as bytes, the most significant first.
-use Rattle.std.proofs.Common.{◌≡◌, ℕ, zero, suc, ◌+◌, ◌*◌, ◌%◌, ◌^◌, ◌<◌, ◌≤◌, List, [], ◌∷◌, length, get_or, drop, refl, sym, ap, subst, ◌∙◌, arith, drop-cons, drop_of_length-le, add-one}
+use Rattle.std.proofs.Common.{◌≡◌, ℕ, zero, suc, ◌+◌, ◌*◌, ◌%◌, ◌^◌, ◌<◌, ◌≤◌, List, [], ◌∷◌, length, get_or, take, drop, refl, sym, ap, subst, ◌∙◌, arith, drop-cons, drop_of_length-le, add-one}
 use Rattle.std.proofs.Math.Pow.{pow_mono, mod-pow-add}
 use Rattle.std.proofs.Math.Nat.{mod-one}
 use Rattle.s390x_format.specs.Reading.{be_bytes, be_number}
@@ -38,3 +38,30 @@ be_number-be_bytes (suc k) n =
     let t = be_number-be_bytes k n in
     let e : 8 * suc k ≡ 8 + 8 * k = omega arith in
     (ap suc t.0, rw (e, t.0, t.1) (sym (mod-pow-add n 8 (8 * k))))
+
+-- ---- the first few bytes, in pairs
+
+pub number_2 : (bs : List ℕ) → 2 ≤ length bs → be_number (take 2 bs) ≡ get_or bs 0 0 * 256 + get_or bs 1 0
+unfolding be_number
+number_2 [] le = absurd (omega arith)
+number_2 (a ∷ []) le = absurd (omega arith)
+number_2 (a ∷ b ∷ bs) le = omega arith
+
+pub number_4 : (bs : List ℕ) → 4 ≤ length bs → be_number (take 4 bs) ≡ (get_or bs 0 0 * 256 + get_or bs 1 0) * 65536 + (get_or bs 2 0 * 256 + get_or bs 3 0)
+unfolding be_number
+number_4 [] le = absurd (omega arith)
+number_4 (a ∷ []) le = absurd (omega arith)
+number_4 (a ∷ b ∷ []) le = absurd (omega arith)
+number_4 (a ∷ b ∷ c ∷ []) le = absurd (omega arith)
+number_4 (a ∷ b ∷ c ∷ d ∷ bs) le = omega arith
+
+pub number_6 : (bs : List ℕ) → 6 ≤ length bs →
+    be_number (take 6 bs) ≡ ((get_or bs 0 0 * 256 + get_or bs 1 0) * 65536 + (get_or bs 2 0 * 256 + get_or bs 3 0)) * 65536 + (get_or bs 4 0 * 256 + get_or bs 5 0)
+unfolding be_number
+number_6 [] le = absurd (omega arith)
+number_6 (a ∷ []) le = absurd (omega arith)
+number_6 (a ∷ b ∷ []) le = absurd (omega arith)
+number_6 (a ∷ b ∷ c ∷ []) le = absurd (omega arith)
+number_6 (a ∷ b ∷ c ∷ d ∷ []) le = absurd (omega arith)
+number_6 (a ∷ b ∷ c ∷ d ∷ e ∷ []) le = absurd (omega arith)
+number_6 (a ∷ b ∷ c ∷ d ∷ e ∷ f ∷ bs) le = omega arith

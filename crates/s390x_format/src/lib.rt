@@ -5,7 +5,7 @@ pub mod decoder;
 pub mod fields;
 pub mod first_bytes;
 pub mod format;
-pub mod frequent;
+mod frequent;
 pub mod immediate_formats;
 mod immediate_impls;
 pub mod index;

@@ -1,5 +1,5 @@
 //! Reading an instruction's bytes as the values in its slots.
-ghost use Rattle.std.specs.Prelude.{◌≡◌, ℕ, ◌+◌, ◌-◌, ◌*◌, ◌^◌, ◌<◌, ◌≤◌, true, length, get_or, slice_index, IfSome};
+ghost use Rattle.std.specs.Prelude.{◌≡◌, ℕ, ◌+◌, ◌-◌, ◌*◌, ◌^◌, ◌<◌, ◌≤◌, true, length, take, get_or, slice_index, IfSome};
 ghost use Rattle.s390x_format.specs.Rows.{fetch_length_of, are_rows, rises, rows_with};
 ghost use Rattle.s390x_format.specs.Reading.{be_bytes, be_number, opcode_at, no_row, reading_in, IsReadAs, IsReading, IsPlacedReading};
 ghost use Rattle.s390x_format.specs.Index.{is_index};
@@ -53,6 +53,33 @@ pub fn number_of(bytes: &[u8]) -> u64
         n = n * 256 + *b as u64;
     }
     n
+}
+
+/// The number of two bytes, the first of which stands there.
+fn pair_at(bytes: &[u8], at: usize) -> u64
+    requires { at + 1 < length bytes.now }
+    ensures { result ≡ slice_index bytes.now at * 256 + slice_index bytes.now (at + 1) }
+{
+    bytes[at] as u64 * 256 + bytes[at + 1] as u64
+}
+
+/// The number of the first few bytes. Instructions have 2, 4 or 6, which are read in pairs.
+fn leading_number(bytes: &[u8], count: usize) -> u64
+    requires few { count ≤ 6 }
+    requires enough { count ≤ length bytes.now }
+    ensures value { result ≡ be_number (take count bytes.now) }
+    ensures below { result < 2 ^ (8 * count) }
+{
+    if count == 2 {
+        return pair_at(bytes, 0);
+    }
+    if count == 4 {
+        return pair_at(bytes, 0) * 65536 + pair_at(bytes, 2);
+    }
+    if count == 6 {
+        return (pair_at(bytes, 0) * 65536 + pair_at(bytes, 2)) * 65536 + pair_at(bytes, 4);
+    }
+    number_of(&bytes[..count])
 }
 
 /// The opcode of a number of `total` bits that goes on there.
@@ -136,7 +163,7 @@ pub fn read<L: Ledger>(
     if bytes.len() < count {
         return None;
     }
-    let n = number_of(&bytes[..count]);
+    let n = leading_number(bytes, count);
     let opcode = opcode_of(firsts[first as usize].rest, 8 * count as u8, n);
     match search(rows, firsts, first, opcode, steps) {
         Some(at) => read_at(rows, at, count, n),
