@@ -1,19 +1,39 @@
 -- What emission does with an instruction that is one machine instruction, and with one that isn't.
-use Rattle.std.proofs.Common.{◌≡◌, ℕ, List, [], ◌∷◌, Option, Some, None, refl, sym, ap, ◌∙◌, arith}
+use Rattle.std.proofs.Common.{◌≡◌, ℕ, Bool, true, false, List, [], ◌∷◌, Option, Some, None, Result, Ok, Err, refl, sym, ap, ◌∙◌, arith}
 use Rattle.s390x_base.specs.declared.trap.TrapKind.{TrapKind}
 use Rattle.s390x_inst.specs.declared.state.IsaFlags.{IsaFlags}
 use Rattle.s390x_base.specs.declared.error.EmitError.{EmitError}
 use Rattle.s390x_base.specs.declared.error.EmitError.TheVariants.{BadRegister}
 use Rattle.s390x_inst.specs.declared.inst.Inst.{Inst}
 use Rattle.s390x_inst.specs.declared.inst.Inst.TheVariants.{CondBreak, JTSequence}
+use Rattle.s390x_emit_int.specs.SingleCode.{code_where, single_code}
 use Rattle.s390x_typed_steps.specs.SingleInstruction.{SingleInstruction, single_instruction, stop_code}
-use Rattle.s390x_typed_steps.specs.MachineInstruction.{MachineInstruction, size_of}
+use Rattle.s390x_typed_steps.specs.MachineInstruction.{MachineInstruction, bytes_of, size_of}
 use Rattle.s390x_typed_steps.specs.Parts.{CodePart, branch_parts, memory_parts, row_part, parts_or, memory_or, parts_size}
 use Rattle.s390x_typed_steps.specs.Memory.{MemoryInstruction, memory}
 use Rattle.s390x_typed_steps.specs.Causes.{Declared, unless, facility_cause, branch_cause, cause_or, memory_cause_or, instruction_cause, stack_cause}
 use Rattle.s390x_typed_steps.proofs.Causes.{first_right}
 use Rattle.s390x_typed_steps.specs.Sizes.{instruction_size}
 use Rattle.s390x_emit_int.specs.Emission.{part_fragments, branch_fragments, branch_size, memory_size_or, leaf_fragments}
+
+-- what a code that was found tells
+pub ok_code : (valid : Bool) (row : MachineInstruction) (code : List ℕ) → Ok code ≡ code_where valid row → (valid ≡ true) × (code ≡ bytes_of row)
+unfolding code_where
+ok_code true row code e = (refl, cc)
+ok_code false row code e = absurd (cc)
+
+pub err_code : (valid : Bool) (row : MachineInstruction) (e : EmitError) → Err e ≡ code_where valid row → (valid ≡ false) × (e ≡ BadRegister)
+unfolding code_where
+err_code true row e h = absurd (cc)
+err_code false row e h = (refl, cc)
+
+pub some_single : (r : Result (List ℕ) EmitError) (o : Option SingleInstruction) → Some r ≡ single_code o → (x : SingleInstruction) × (Some x ≡ o) × (r ≡ code_where x.operands_valid x.row)
+some_single r None e = absurd (cc)
+some_single r (Some x) e = (x, refl, cc)
+
+pub no_single : (o : Option SingleInstruction) → None ≡ single_code o → None ≡ o
+no_single None e = refl
+no_single (Some x) e = absurd (cc)
 
 pub some_fragments : (i : Inst) (x : SingleInstruction) (n after : ℕ) → Some x ≡ single_instruction i → leaf_fragments n after i ≡ part_fragments (row_part x.row (stop_code i) ∷ [])
 some_fragments (CondBreak mask) x n after e = absurd (cc)

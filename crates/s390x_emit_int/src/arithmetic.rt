@@ -1,25 +1,24 @@
 //! Arithmetic and comparisons that are one machine instruction.
-ghost use Rattle.std.specs.Prelude.{◌≡◌, ◌&&◌, true, Some, IfSome};
+ghost use Rattle.std.specs.Prelude.{◌≡◌, ◌<◌, ◌&&◌, true, Some};
 ghost use Rattle.std.specs.Option.{option_map};
 ghost use Rattle.s390x_base.specs.Regs.{number_of};
-ghost use Rattle.s390x_typed_steps.specs.General.{is_general};
+ghost use Rattle.s390x_typed_steps.specs.General.{is_general, low_halfword};
+ghost use Rattle.s390x_typed_steps.specs.MachineInstruction.{rrf_cde};
 ghost use Rattle.s390x_typed_steps.specs.Opcodes.{alu_three, alu_two, cmp_two, unary_two, alu_halfword, alu_three_halfword, alu_signed_word, alu_unsigned_word, cmp_halfword, cmp_signed_word, cmp_unsigned_word};
-ghost use Rattle.s390x_typed_steps.specs.SingleInstruction.{single_instruction, unary_row, three_row, three_halfword_row, allocate_row};
-ghost use Rattle.s390x_emit_int.specs.SingleInstruction.{instruction_of, single_of, opcode_of, group_of, encodes, takes_general};
-ghost use Rattle.s390x_emit_int.specs.declared.single_instruction.Group.TheVariants.{Arithmetic};
+ghost use Rattle.s390x_emit_int.specs.SingleCode.{code_where, single_code};
+ghost use Rattle.s390x_typed_steps.specs.SingleInstruction.{single_with, unary_row, three_row, three_halfword_row, allocate_row};
+ghost use Rattle.s390x_emit_int.specs.SingleInstruction.{opcode_of, takes_general};
 
+use crate::codes::{halfword, masked, short, three_operands, two_and_halfword, two_operands, word};
+use crate::immediates::{bits_of_halfword, bits_of_unsigned};
 use crate::opcode::ShortOpcode;
-use crate::register_row::{RegisterRow, halfword_row, short, two_operands, two_row, word_row};
-use crate::single_instruction::{
-    CheckedRow, bits_of_halfword, bits_of_unsigned, bits_of_word, is_reused, same_number,
-    single_with, three_general, two_general,
-};
-use s390x_address::memory::general;
-use s390x_base::{Reg, gpr};
-use s390x_inst::{ALUOp, CmpOp, Inst, UnaryOp};
+use crate::registers::{same_number, three_general, two_general};
+use crate::shapes::into_row;
+use s390x_base::{Code, EmitError, Reg, Writable, gpr};
+use s390x_inst::{ALUOp, CmpOp, UnaryOp};
 
 // The opcode of an operator's row of three operands.
-fn three_opcode(op: ALUOp) -> Option<u16>
+pub fn three_opcode(op: ALUOp) -> Option<u16>
     ensures { result ≡ alu_three op }
 {
     match op {
@@ -54,7 +53,7 @@ fn three_opcode(op: ALUOp) -> Option<u16>
 }
 
 // The opcode of an operator's row of two operands.
-fn two_opcode(op: ALUOp) -> Option<u16>
+pub fn two_opcode(op: ALUOp) -> Option<u16>
     ensures { result ≡ alu_two op }
 {
     match op {
@@ -83,7 +82,7 @@ fn two_opcode(op: ALUOp) -> Option<u16>
     }
 }
 
-fn compare_opcode(op: CmpOp) -> Option<u16>
+pub fn compare_opcode(op: CmpOp) -> Option<u16>
     ensures { result ≡ cmp_two op }
 {
     match op {
@@ -97,7 +96,7 @@ fn compare_opcode(op: CmpOp) -> Option<u16>
     }
 }
 
-fn unary_opcode(op: UnaryOp) -> Option<u16>
+pub fn unary_opcode(op: UnaryOp) -> Option<u16>
     ensures { result ≡ unary_two op }
 {
     match op {
@@ -116,7 +115,7 @@ fn unary_opcode(op: UnaryOp) -> Option<u16>
 }
 
 // The opcodes of an operator's rows with an immediate.
-fn halfword_opcode(op: ALUOp) -> Option<ShortOpcode>
+pub fn halfword_opcode(op: ALUOp) -> Option<ShortOpcode>
     ensures { option_map opcode_of result ≡ alu_halfword op }
 {
     match op {
@@ -128,7 +127,7 @@ fn halfword_opcode(op: ALUOp) -> Option<ShortOpcode>
     }
 }
 
-fn three_halfword_opcode(op: ALUOp) -> Option<u16>
+pub fn three_halfword_opcode(op: ALUOp) -> Option<u16>
     ensures { result ≡ alu_three_halfword op }
 {
     match op {
@@ -138,7 +137,7 @@ fn three_halfword_opcode(op: ALUOp) -> Option<u16>
     }
 }
 
-fn signed_word_opcode(op: ALUOp) -> Option<ShortOpcode>
+pub fn signed_word_opcode(op: ALUOp) -> Option<ShortOpcode>
     ensures { option_map opcode_of result ≡ alu_signed_word op }
 {
     match op {
@@ -150,7 +149,7 @@ fn signed_word_opcode(op: ALUOp) -> Option<ShortOpcode>
     }
 }
 
-fn unsigned_word_opcode(op: ALUOp) -> Option<ShortOpcode>
+pub fn unsigned_word_opcode(op: ALUOp) -> Option<ShortOpcode>
     ensures { option_map opcode_of result ≡ alu_unsigned_word op }
 {
     match op {
@@ -162,7 +161,7 @@ fn unsigned_word_opcode(op: ALUOp) -> Option<ShortOpcode>
     }
 }
 
-fn compare_halfword_opcode(op: CmpOp) -> Option<ShortOpcode>
+pub fn compare_halfword_opcode(op: CmpOp) -> Option<ShortOpcode>
     ensures { option_map opcode_of result ≡ cmp_halfword op }
 {
     match op {
@@ -172,7 +171,7 @@ fn compare_halfword_opcode(op: CmpOp) -> Option<ShortOpcode>
     }
 }
 
-fn compare_signed_word_opcode(op: CmpOp) -> Option<ShortOpcode>
+pub fn compare_signed_word_opcode(op: CmpOp) -> Option<ShortOpcode>
     ensures { option_map opcode_of result ≡ cmp_signed_word op }
 {
     match op {
@@ -182,7 +181,7 @@ fn compare_signed_word_opcode(op: CmpOp) -> Option<ShortOpcode>
     }
 }
 
-fn compare_unsigned_word_opcode(op: CmpOp) -> Option<ShortOpcode>
+pub fn compare_unsigned_word_opcode(op: CmpOp) -> Option<ShortOpcode>
     ensures { option_map opcode_of result ≡ cmp_unsigned_word op }
 {
     match op {
@@ -192,208 +191,108 @@ fn compare_unsigned_word_opcode(op: CmpOp) -> Option<ShortOpcode>
     }
 }
 
-// The count of ones has its mode in a mask.
-#[tactic(auto, using(crate::proofs::Encoding::unary_two_general, crate::proofs::Encoding::two_encode))]
-fn unary_row(op: UnaryOp, r1: Reg, r2: Reg) -> Option<RegisterRow>
-    ensures row { option_map instruction_of result ≡ unary_row op (number_of r1) (number_of r2) }
-    ensures encodes { encodes (is_general r1 && is_general r2) result ≡ true }
+// A mode stands in a mask.
+#[tactic(auto, using(crate::proofs::Encoding::itself))]
+fn count_ones(rd: &Writable<Reg>, rn: &Reg, mode: u8) -> Result<Code, EmitError>
+    requires { mode < 16 }
+    ensures { result ≡ code_where (is_general rd.now && is_general rn.now) (rrf_cde 0xb9e1 (number_of rd.now) (number_of rn.now) mode 0) }
+{
+    let output = rd.to_reg();
+    masked(two_general(&output, rn), 0xb9e1, output, *rn, mode)
+}
+
+/// One operand. The count of ones has its mode in a mask.
+#[tactic(auto, using(crate::proofs::Encoding::unary_two_general))]
+pub fn unary_row(op: UnaryOp, rd: &Writable<Reg>, rn: &Reg) -> Option<Result<Code, EmitError>>
+    ensures { result ≡ single_code (single_with (is_general rd.now && is_general rn.now) (unary_row op (number_of rd.now) (number_of rn.now))) }
 {
     match op {
-        UnaryOp::PopcntByte => Some(RegisterRow::RrfCde {
-            opcode: 0xb9e1,
-            r1,
-            r2,
-            mask: 0,
-        }),
-        UnaryOp::PopcntReg => Some(RegisterRow::RrfCde {
-            opcode: 0xb9e1,
-            r1,
-            r2,
-            mask: 8,
-        }),
-        _ => two_row(unary_opcode(op), r1, r2),
+        UnaryOp::PopcntByte => Some(count_ones(rd, rn, 0)),
+        UnaryOp::PopcntReg => Some(count_ones(rd, rn, 8)),
+        _ => into_row(unary_opcode(op), rd, rn),
     }
 }
 
-// The row of three operands, or that of two where there is one and the first input is the output.
-#[tactic(auto, using(crate::proofs::Encoding::alu_two_general, crate::proofs::Encoding::three_encode))]
-fn three_row(op: ALUOp, rd: Reg, rn: Reg, rm: Reg) -> Option<RegisterRow>
-    ensures row { option_map instruction_of result ≡ three_row (alu_three op) (alu_two op) (number_of rd) (number_of rn) (number_of rm) }
-    ensures encodes { encodes (is_general rd && is_general rn && is_general rm) result ≡ true }
+/// The row of three operands, or that of two where there is one and the first input is the output.
+#[tactic(auto, using(crate::proofs::Encoding::alu_two_general, crate::proofs::Encoding::itself))]
+pub fn three_row(
+    op: ALUOp,
+    rd: &Writable<Reg>,
+    rn: &Reg,
+    rm: &Reg,
+) -> Option<Result<Code, EmitError>>
+    ensures { result ≡ single_code (single_with (is_general rd.now && is_general rn.now && is_general rm.now) (three_row (alu_three op) (alu_two op) (number_of rd.now) (number_of rn.now) (number_of rm.now))) }
 {
     let three = three_opcode(op)?;
+    let output = rd.to_reg();
     match two_opcode(op) {
-        Some(two) => Some(shorter_row(three, two, rd, rn, rm)),
-        None => Some(RegisterRow::RrfAb {
-            opcode: three,
-            r1: rd,
-            r2: rn,
-            r3: rm,
-        }),
+        Some(two) => Some(shorter_code(three, two, &output, rn, rm)),
+        None => Some(three_operands(three_general(&output, rn, rm), three, output, *rn, *rm)),
     }
 }
 
-#[tactic(auto, using(crate::proofs::Encoding::three_encode, crate::proofs::Encoding::encodes_outer))]
-fn shorter_row(three: u16, two: u16, rd: Reg, rn: Reg, rm: Reg) -> RegisterRow
+#[tactic(auto, using(crate::proofs::Encoding::outer_general, crate::proofs::Encoding::itself))]
+fn shorter_code(three: u16, two: u16, rd: &Reg, rn: &Reg, rm: &Reg) -> Result<Code, EmitError>
     requires { takes_general (Some two) ≡ true }
-    ensures row { Some (instruction_of result) ≡ three_row (Some three) (Some two) (number_of rd) (number_of rn) (number_of rm) }
-    ensures encodes { encodes (is_general rd && is_general rn && is_general rm) (Some result) ≡ true }
+    ensures { Some result ≡ single_code (single_with (is_general rd.now && is_general rn.now && is_general rm.now) (three_row (Some three) (Some two) (number_of rd.now) (number_of rn.now) (number_of rm.now))) }
 {
-    if same_number(&rd, &rn) {
-        two_operands(two, rd, rm)
+    let valid = three_general(rd, rn, rm);
+    if same_number(rd, rn) {
+        two_operands(valid, two, *rd, *rm)
     } else {
-        RegisterRow::RrfAb {
-            opcode: three,
-            r1: rd,
-            r2: rn,
-            r3: rm,
-        }
+        three_operands(valid, three, *rd, *rn, *rm)
     }
 }
 
-// Into another register, or two operands where the input is the output.
-#[tactic(auto, using(crate::proofs::Encoding::two_encode))]
-fn three_halfword_row(op: ALUOp, rd: Reg, rn: Reg, imm: u16) -> Option<RegisterRow>
-    ensures row { option_map instruction_of result ≡ three_halfword_row (alu_three_halfword op) (alu_halfword op) (number_of rd) (number_of rn) imm }
-    ensures encodes { encodes (is_general rd && is_general rn) result ≡ true }
+/// Into another register, or two operands where the input is the output.
+#[tactic(auto, using(crate::proofs::Encoding::itself))]
+pub fn three_halfword_row(
+    op: ALUOp,
+    rd: &Writable<Reg>,
+    rn: &Reg,
+    imm: i16,
+) -> Option<Result<Code, EmitError>>
+    ensures { result ≡ single_code (single_with (is_general rd.now && is_general rn.now) (three_halfword_row (alu_three_halfword op) (alu_halfword op) (number_of rd.now) (number_of rn.now) (low_halfword imm))) }
 {
     let three = three_halfword_opcode(op)?;
+    let output = rd.to_reg();
+    let bits = bits_of_halfword(imm);
     match halfword_opcode(op) {
-        Some(two) => Some(shorter_halfword_row(three, two, rd, rn, imm)),
-        None => Some(RegisterRow::RieD {
-            opcode: three,
-            r1: rd,
-            r3: rn,
-            imm,
-        }),
+        Some(two) => Some(shorter_halfword_code(three, two, &output, rn, bits)),
+        None => Some(two_and_halfword(two_general(&output, rn), three, output, *rn, bits)),
     }
 }
 
-#[tactic(auto, using(crate::proofs::Encoding::two_encode, crate::proofs::Encoding::first_encodes))]
-fn shorter_halfword_row(three: u16, two: ShortOpcode, rd: Reg, rn: Reg, imm: u16) -> RegisterRow
-    ensures row { Some (instruction_of result) ≡ three_halfword_row (Some three) (Some (opcode_of two)) (number_of rd) (number_of rn) imm }
-    ensures encodes { encodes (is_general rd && is_general rn) (Some result) ≡ true }
+#[tactic(auto, using(crate::proofs::Encoding::first_general, crate::proofs::Encoding::itself))]
+fn shorter_halfword_code(
+    three: u16,
+    two: ShortOpcode,
+    rd: &Reg,
+    rn: &Reg,
+    imm: u16,
+) -> Result<Code, EmitError>
+    ensures { Some result ≡ single_code (single_with (is_general rd.now && is_general rn.now) (three_halfword_row (Some three) (Some (opcode_of two)) (number_of rd.now) (number_of rn.now) imm)) }
 {
-    if same_number(&rd, &rn) {
-        RegisterRow::RiA {
-            opcode: two,
-            r1: rd,
-            imm,
-        }
+    let valid = two_general(rd, rn);
+    if same_number(rd, rn) {
+        halfword(valid, two, *rd, imm)
     } else {
-        RegisterRow::RieD {
-            opcode: three,
-            r1: rd,
-            r3: rn,
-            imm,
-        }
+        two_and_halfword(valid, three, *rd, *rn, imm)
     }
 }
 
-// So many bytes are taken from the stack pointer: their number is added with a minus sign where that fits, else it is subtracted.
-fn allocate_row(size: u32) -> Option<RegisterRow>
-    ensures row { option_map instruction_of result ≡ Some (allocate_row size) }
-    ensures encodes { encodes true result ≡ true }
+/// So many bytes are taken from the stack pointer: their number is added with a minus sign where that fits, else it is subtracted.
+pub fn allocate_code(size: u32) -> Result<Code, EmitError>
+    ensures { result ≡ code_where true (allocate_row size) }
 {
     if size < 32768 {
-        Some(RegisterRow::RiA {
-            opcode: short(0xa7b),
-            r1: gpr(15),
-            imm: bits_of_halfword(-(size as i16)),
-        })
+        halfword(
+            true,
+            short(0xa7b),
+            gpr(15),
+            bits_of_halfword(-(size as i16)),
+        )
     } else {
-        Some(RegisterRow::RilA {
-            opcode: short(0xc24),
-            r1: gpr(15),
-            imm: bits_of_unsigned(size),
-        })
-    }
-}
-
-// The machine instruction of arithmetic and comparisons.
-#[tactic(auto, using(crate::proofs::Encoding::alu_two_general, crate::proofs::Encoding::cmp_two_general, crate::proofs::Encoding::reused_encodes, crate::proofs::Encoding::reused_pair_encodes))]
-pub fn find_arithmetic(inst: &Inst) -> Option<CheckedRow>
-    ensures row { group_of inst.now ≡ Arithmetic → option_map single_of result ≡ single_instruction inst.now }
-    ensures encodes { IfSome result (λ x. encodes x.operands_valid (Some x.row) ≡ true) }
-{
-    match inst {
-        Inst::AluRRR { alu_op, rd, rn, rm } => single_with(
-            three_general(&rd.to_reg(), rn, rm),
-            three_row(*alu_op, rd.to_reg(), *rn, *rm),
-        ),
-        Inst::AluRR { alu_op, rd, ri, rm } => single_with(
-            is_reused(&rd.to_reg(), ri) && general(rm),
-            two_row(two_opcode(*alu_op), rd.to_reg(), *rm),
-        ),
-        Inst::UnaryRR { op, rd, rn } => single_with(
-            two_general(&rd.to_reg(), rn),
-            unary_row(*op, rd.to_reg(), *rn),
-        ),
-        Inst::CmpRR { op, rn, rm } => single_with(
-            two_general(rn, rm),
-            two_row(compare_opcode(*op), *rn, *rm),
-        ),
-        Inst::AluRRSImm16 {
-            alu_op,
-            rd,
-            rn,
-            imm,
-        } => single_with(
-            two_general(&rd.to_reg(), rn),
-            three_halfword_row(*alu_op, rd.to_reg(), *rn, bits_of_halfword(*imm)),
-        ),
-        Inst::AluRSImm16 {
-            alu_op,
-            rd,
-            ri,
-            imm,
-        } => single_with(
-            is_reused(&rd.to_reg(), ri),
-            halfword_row(
-                halfword_opcode(*alu_op),
-                rd.to_reg(),
-                bits_of_halfword(*imm),
-            ),
-        ),
-        Inst::AluRSImm32 {
-            alu_op,
-            rd,
-            ri,
-            imm,
-        } => single_with(
-            is_reused(&rd.to_reg(), ri),
-            word_row(signed_word_opcode(*alu_op), rd.to_reg(), bits_of_word(*imm)),
-        ),
-        Inst::AluRUImm32 {
-            alu_op,
-            rd,
-            ri,
-            imm,
-        } => single_with(
-            is_reused(&rd.to_reg(), ri),
-            word_row(
-                unsigned_word_opcode(*alu_op),
-                rd.to_reg(),
-                bits_of_unsigned(*imm),
-            ),
-        ),
-        Inst::CmpRSImm16 { op, rn, imm } => single_with(
-            general(rn),
-            halfword_row(compare_halfword_opcode(*op), *rn, bits_of_halfword(*imm)),
-        ),
-        Inst::CmpRSImm32 { op, rn, imm } => single_with(
-            general(rn),
-            word_row(compare_signed_word_opcode(*op), *rn, bits_of_word(*imm)),
-        ),
-        Inst::CmpRUImm32 { op, rn, imm } => single_with(
-            general(rn),
-            word_row(
-                compare_unsigned_word_opcode(*op),
-                *rn,
-                bits_of_unsigned(*imm),
-            ),
-        ),
-        Inst::AllocateArgs { size } => single_with(true, allocate_row(*size)),
-        _ => None,
+        word(true, short(0xc24), gpr(15), bits_of_unsigned(size))
     }
 }

@@ -1,24 +1,22 @@
 //! Operators on parts of a register and on pairs, shifts and rotations that are one machine instruction.
-ghost use Rattle.std.specs.Prelude.{◌≡◌, ◌+◌, ◌<◌, ◌&&◌, true, Some, IfSome, nat_lt, nat_eq};
+ghost use Rattle.std.specs.Prelude.{◌≡◌, ◌+◌, ◌<◌, ◌&&◌, true, Some, nat_lt};
 ghost use Rattle.std.specs.Option.{option_map};
 ghost use Rattle.s390x_base.specs.Regs.{number_of};
 ghost use Rattle.s390x_typed_steps.specs.General.{is_general, is_even_pair, reuses, rotation, low_byte};
-ghost use Rattle.s390x_typed_steps.specs.MachineInstruction.{rre, rrf_ab, rsy};
+ghost use Rattle.s390x_typed_steps.specs.MachineInstruction.{rrf_ab, rsy};
 ghost use Rattle.s390x_typed_steps.specs.Opcodes.{of_one, alu_part, alu_half, shift_opcode, rotate_then, rotate_then_test};
-ghost use Rattle.s390x_typed_steps.specs.SingleInstruction.{single_instruction, rotated_row};
-ghost use Rattle.s390x_emit_int.specs.SingleInstruction.{instruction_of, single_of, opcode_of, group_of, encodes, takes_general};
-ghost use Rattle.s390x_emit_int.specs.declared.single_instruction.Group.TheVariants.{Bits};
+ghost use Rattle.s390x_emit_int.specs.SingleCode.{code_where, single_code};
+ghost use Rattle.s390x_typed_steps.specs.SingleInstruction.{single_with, two_operands, rotated_row};
+ghost use Rattle.s390x_emit_int.specs.SingleInstruction.{opcode_of, takes_general};
 
+use crate::codes::{selected, shifted, short, three_operands, two_operands};
+use crate::immediates::low_byte;
 use crate::moves::{of_four, of_two};
 use crate::opcode::ShortOpcode;
-use crate::register_row::{RegisterRow, halfword_row, short, word_row};
-use crate::single_instruction::{
-    CheckedRow, bits_of_unsigned, bits_of_unsigned_halfword, is_reused, single_with, three_general,
-    two_general,
-};
+use crate::registers::{is_even_pair, is_reused, three_general, two_general};
 use s390x_address::memory::general;
-use s390x_base::{Reg, WritableRegPair, valid_regpair};
-use s390x_inst::{ALUOp, Inst, RxSBGOp, ShiftOp};
+use s390x_base::{Code, EmitError, Reg, Writable, WritableRegPair};
+use s390x_inst::{ALUOp, RxSBGOp, ShiftOp};
 
 fn of_one(zeroth: u16, n: u8) -> Option<ShortOpcode>
     requires { zeroth < 4096 }
@@ -28,7 +26,7 @@ fn of_one(zeroth: u16, n: u8) -> Option<ShortOpcode>
 }
 
 // The opcode on a part of 16 bits.
-fn part_opcode(op: ALUOp, shift: u8) -> Option<ShortOpcode>
+pub fn part_opcode(op: ALUOp, shift: u8) -> Option<ShortOpcode>
     ensures { option_map opcode_of result ≡ alu_part op shift }
 {
     match op {
@@ -41,7 +39,7 @@ fn part_opcode(op: ALUOp, shift: u8) -> Option<ShortOpcode>
 }
 
 // The opcode on a half of 32 bits.
-fn half_opcode(op: ALUOp, shift: u8) -> Option<ShortOpcode>
+pub fn half_opcode(op: ALUOp, shift: u8) -> Option<ShortOpcode>
     ensures { option_map opcode_of result ≡ alu_half op shift }
 {
     match op {
@@ -99,206 +97,118 @@ fn rotation(amount: i8) -> u8
     i32::from(amount).rem_euclid(64) as u8
 }
 
-pub fn low_byte(amount: u8) -> u8
-    ensures { result ≡ low_byte amount }
-{
-    amount
-}
-
-/// The bits of an instruction that rotates and selects.
-#[derive(Clone, Copy)]
-struct Selection {
+/// The bits that a rotation selects, of one register into another that is read too.
+#[tactic(auto, using(crate::proofs::Encoding::reused_pair_general))]
+pub fn rotated_row(
+    op: RxSBGOp,
+    rd: &Writable<Reg>,
+    ri: &Reg,
+    rn: &Reg,
     start: u8,
     end: u8,
-    rotated: u8,
-}
-
-#[tactic(auto, using(crate::proofs::Encoding::two_encode))]
-fn rotated_row(opcode: u16, rd: Reg, rn: Reg, bits: Selection) -> Option<RegisterRow>
-    ensures encodes { encodes (is_general rd && is_general rn) result ≡ true }
-    ensures row { option_map instruction_of result ≡ rotated_row (Some opcode) (number_of rd) (number_of rn) bits.start bits.end bits.start bits.rotated }
+    amount: i8,
+) -> Option<Result<Code, EmitError>>
+    ensures { result ≡ single_code (single_with (reuses rd.now ri.now && is_general rn.now) (rotated_row (Some (rotate_then op)) (number_of rd.now) (number_of rn.now) start end start (rotation amount))) }
 {
-    if bits.start < 64 && bits.end < 64 {
-        Some(RegisterRow::RieF {
-            opcode,
-            r1: rd,
-            r2: rn,
-            first: bits.start,
-            end: bits.end,
-            rotated: bits.rotated,
-        })
+    let output = rd.to_reg();
+    let rotated = rotation(amount);
+    if start < 64 && end < 64 {
+        let valid = is_reused(&output, ri) && general(rn);
+        Some(selected(valid, rotate_opcode(op), output, *rn, start, end, rotated))
     } else {
         None
     }
 }
 
-// A start with 128 added means that the result is tested alone.
-#[tactic(auto, using(crate::proofs::Encoding::two_encode))]
-fn tested_row(op: RxSBGOp, rd: Reg, rn: Reg, bits: Selection) -> Option<RegisterRow>
-    ensures encodes { encodes (is_general rd && is_general rn) result ≡ true }
-    ensures row { option_map instruction_of result ≡ rotated_row (rotate_then_test op) (number_of rd) (number_of rn) bits.start bits.end (bits.start + 128) bits.rotated }
+/// The same where the result is tested alone: 128 is added to the start.
+#[tactic(auto, using(crate::proofs::Encoding::itself))]
+pub fn tested_row(
+    op: RxSBGOp,
+    rd: &Reg,
+    rn: &Reg,
+    start: u8,
+    end: u8,
+    amount: i8,
+) -> Option<Result<Code, EmitError>>
+    ensures { result ≡ single_code (single_with (is_general rd.now && is_general rn.now) (rotated_row (rotate_then_test op) (number_of rd.now) (number_of rn.now) start end (start + 128) (rotation amount))) }
 {
     let opcode = test_opcode(op)?;
-    if bits.start < 64 && bits.end < 64 {
-        Some(RegisterRow::RieF {
+    let rotated = rotation(amount);
+    if start < 64 && end < 64 {
+        Some(selected(
+            two_general(rd, rn),
             opcode,
-            r1: rd,
-            r2: rn,
-            first: bits.start + 128,
-            end: bits.end,
-            rotated: bits.rotated,
-        })
+            *rd,
+            *rn,
+            start + 128,
+            end,
+            rotated,
+        ))
     } else {
         None
     }
 }
 
-#[tactic(auto, using(crate::proofs::Encoding::three_encode))]
-fn shift_row(op: ShiftOp, rd: Reg, rn: Reg, amount: u8, register: Reg) -> Option<RegisterRow>
-    ensures encodes { encodes (is_general rd && is_general rn && is_general register) result ≡ true }
-    ensures row { option_map instruction_of result ≡ Some (rsy (shift_opcode op) (number_of rd) (number_of rn) (number_of register) (low_byte amount)) }
+/// A shift by a number plus a register.
+#[tactic(auto, using(crate::proofs::Encoding::itself))]
+pub fn shift_code(
+    op: ShiftOp,
+    rd: &Writable<Reg>,
+    rn: &Reg,
+    amount: u8,
+    register: &Reg,
+) -> Result<Code, EmitError>
+    ensures { result ≡ code_where (is_general rd.now && is_general rn.now && is_general register.now) (rsy (shift_opcode op) (number_of rd.now) (number_of rn.now) (number_of register.now) (low_byte amount)) }
 {
-    Some(RegisterRow::Rsy {
-        opcode: shift_opcode(op),
-        r1: rd,
-        r3: rn,
-        b2: register,
-        amount: low_byte(amount),
-    })
+    let output = rd.to_reg();
+    shifted(
+        three_general(&output, rn, register),
+        shift_opcode(op),
+        output,
+        *rn,
+        *register,
+        low_byte(amount),
+    )
 }
 
-/// Whether the pair is an even register and the next one.
-pub fn is_even_pair(pair: &WritableRegPair) -> bool
-    ensures { result ≡ is_even_pair pair.now.hi pair.now.lo }
+/// The signed product of two registers, into a pair.
+#[tactic(auto, using(crate::proofs::Encoding::even_two_general))]
+pub fn product_code(rd: &WritableRegPair, rn: &Reg, rm: &Reg) -> Result<Code, EmitError>
+    ensures { result ≡ code_where (is_even_pair rd.now.hi rd.now.lo && is_general rn.now && is_general rm.now) (rrf_ab 0xb9ec (number_of rd.now.hi) (number_of rn.now) (number_of rm.now) 0) }
 {
-    let high = pair.hi.to_reg();
-    let low = pair.lo.to_reg();
-    general(&high) && general(&low) && valid_regpair(high, low)
+    three_operands(
+        is_even_pair(rd) && general(rn) && general(rm),
+        0xb9ec,
+        rd.hi.to_reg(),
+        *rn,
+        *rm,
+    )
 }
 
-#[tactic(auto, using(crate::proofs::Encoding::three_encode))]
-fn product_row(pair: Reg, rn: Reg, rm: Reg) -> Option<RegisterRow>
-    ensures encodes { encodes (is_general pair && is_general rn && is_general rm) result ≡ true }
-    ensures row { option_map instruction_of result ≡ Some (rrf_ab 0xb9ec (number_of pair) (number_of rn) (number_of rm) 0) }
-{
-    Some(RegisterRow::RrfAb {
-        opcode: 0xb9ec,
-        r1: pair,
-        r2: rn,
-        r3: rm,
-    })
-}
-
-/// A row of two registers, the first of them that of an even pair.
-#[tactic(auto, using(crate::proofs::Encoding::pair_encodes))]
-pub fn pair_row(opcode: u16, pair: Reg, rn: Reg) -> Option<RegisterRow>
+/// A count of a register's bits, into a pair.
+#[tactic(auto, using(crate::proofs::Encoding::even_general))]
+pub fn pair_code(opcode: u16, rd: &WritableRegPair, rn: &Reg) -> Result<Code, EmitError>
     requires { takes_general (Some opcode) ≡ true }
-    ensures encodes { encodes (is_general pair && is_general rn) result ≡ true }
-    ensures row { option_map instruction_of result ≡ Some (rre opcode (number_of pair) (number_of rn)) }
+    ensures { result ≡ code_where (is_even_pair rd.now.hi rd.now.lo && is_general rn.now) (two_operands opcode (number_of rd.now.hi) (number_of rn.now)) }
 {
-    Some(RegisterRow::Rre {
-        opcode,
-        r1: pair,
-        r2: rn,
-    })
+    two_operands(is_even_pair(rd) && general(rn), opcode, rd.hi.to_reg(), *rn)
 }
 
-#[tactic(auto, using(crate::proofs::Encoding::reused_encodes, crate::proofs::Encoding::reused_pair_encodes, crate::proofs::Encoding::even_encodes, crate::proofs::Encoding::even_two_encodes, crate::proofs::Encoding::even_reused_encodes))]
-/// The machine instruction of a shift, a rotation, an operator on part of a register or one on a pair.
-pub fn find_bits(inst: &Inst) -> Option<CheckedRow>
-    ensures row { group_of inst.now ≡ Bits → option_map single_of result ≡ single_instruction inst.now }
-    ensures encodes { IfSome result (λ x. encodes x.operands_valid (Some x.row) ≡ true) }
+/// An operator on a pair, whose second register is read too, and another register.
+#[tactic(auto, using(crate::proofs::Encoding::even_reused_general))]
+pub fn reused_low_code(
+    opcode: u16,
+    rd: &WritableRegPair,
+    ri: &Reg,
+    rn: &Reg,
+) -> Result<Code, EmitError>
+    requires { takes_general (Some opcode) ≡ true }
+    ensures { result ≡ code_where (is_even_pair rd.now.hi rd.now.lo && reuses rd.now.lo ri.now && is_general rn.now) (two_operands opcode (number_of rd.now.hi) (number_of rn.now)) }
 {
-    match inst {
-        Inst::AluRUImm16Shifted {
-            alu_op,
-            rd,
-            ri,
-            imm,
-        } => single_with(
-            is_reused(&rd.to_reg(), ri),
-            halfword_row(
-                part_opcode(*alu_op, imm.shift),
-                rd.to_reg(),
-                bits_of_unsigned_halfword(imm.bits),
-            ),
-        ),
-        Inst::AluRUImm32Shifted {
-            alu_op,
-            rd,
-            ri,
-            imm,
-        } => single_with(
-            is_reused(&rd.to_reg(), ri),
-            word_row(
-                half_opcode(*alu_op, imm.shift),
-                rd.to_reg(),
-                bits_of_unsigned(imm.bits),
-            ),
-        ),
-        Inst::ShiftRR {
-            shift_op,
-            rd,
-            rn,
-            shift_imm,
-            shift_reg,
-        } => single_with(
-            three_general(&rd.to_reg(), rn, shift_reg),
-            shift_row(*shift_op, rd.to_reg(), *rn, *shift_imm, *shift_reg),
-        ),
-        Inst::RxSBG {
-            op,
-            rd,
-            ri,
-            rn,
-            start_bit,
-            end_bit,
-            rotate_amt,
-        } => single_with(
-            is_reused(&rd.to_reg(), ri) && general(rn),
-            rotated_row(
-                rotate_opcode(*op),
-                rd.to_reg(),
-                *rn,
-                Selection {
-                    start: *start_bit,
-                    end: *end_bit,
-                    rotated: rotation(*rotate_amt),
-                },
-            ),
-        ),
-        Inst::RxSBGTest {
-            op,
-            rd,
-            rn,
-            start_bit,
-            end_bit,
-            rotate_amt,
-        } => single_with(
-            two_general(rd, rn),
-            tested_row(
-                *op,
-                *rd,
-                *rn,
-                Selection {
-                    start: *start_bit,
-                    end: *end_bit,
-                    rotated: rotation(*rotate_amt),
-                },
-            ),
-        ),
-        Inst::SMulWide { rd, rn, rm } => single_with(
-            is_even_pair(rd) && general(rn) && general(rm),
-            product_row(rd.hi.to_reg(), *rn, *rm),
-        ),
-        Inst::UMulWide { rd, ri, rn } => single_with(
-            is_even_pair(rd) && is_reused(&rd.lo.to_reg(), ri) && general(rn),
-            pair_row(0xb986, rd.hi.to_reg(), *rn),
-        ),
-        Inst::Flogr { rd, rn } => single_with(
-            is_even_pair(rd) && general(rn),
-            pair_row(0xb983, rd.hi.to_reg(), *rn),
-        ),
-        _ => None,
-    }
+    two_operands(
+        is_even_pair(rd) && is_reused(&rd.lo.to_reg(), ri) && general(rn),
+        opcode,
+        rd.hi.to_reg(),
+        *rn,
+    )
 }

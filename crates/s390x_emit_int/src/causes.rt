@@ -4,7 +4,8 @@ ghost use Rattle.s390x_base.specs.declared.error.EmitError.TheVariants.{BadRegis
 ghost use Rattle.s390x_typed_steps.specs.Causes.{first_emit_cause, unless, declared_in, target_label_cause, labels_cause, cause_or, memory_cause_or, branch_cause, facility_cause, instruction_cause, instruction_fresh_labels, numbers_cause, stack_cause, table_cause};
 ghost use Rattle.s390x_typed_steps.specs.Memory.{memory};
 ghost use Rattle.s390x_typed_steps.specs.Resolved.{resolved_instruction};
-ghost use Rattle.s390x_typed_steps.specs.SingleInstruction.{single_instruction};
+ghost use Rattle.s390x_emit_int.specs.SingleCode.{code_where};
+ghost use Rattle.s390x_typed_steps.specs.SingleInstruction.{SingleInstruction, single_instruction};
 ghost use Rattle.s390x_typed_steps.specs.General.{is_general, is_nonzero, is_scratch};
 
 use crate::check::fresh_labels;
@@ -12,7 +13,7 @@ use crate::memory::find_memory;
 use crate::single_instruction::find_single_instruction;
 use crate::stack::stack_cause;
 use s390x_address::memory::general;
-use s390x_base::{EmitError, MachLabel, Reg, RegClass};
+use s390x_base::{Code, EmitError, MachLabel, Reg, RegClass};
 use s390x_buffer::MachBuffer;
 use s390x_inst::{EmitState, Inst, IsaFlags};
 
@@ -156,13 +157,22 @@ fn memory_cause(state: &EmitState, sink: &MachBuffer, depth: u32, inst: &Inst) -
     }
 }
 
+// Why one machine instruction is refused.
+fn found_cause(found: Result<Code, EmitError>) -> Option<EmitError>
+    ensures { (x : SingleInstruction) → found ≡ code_where x.operands_valid x.row → result ≡ unless x.operands_valid BadRegister }
+{
+    match found {
+        Ok(_) => None,
+        Err(error) => Some(error),
+    }
+}
+
 // The first cause of an instruction whose facility is there.
-#[tactic(auto, using(crate::proofs::Single::some_other, crate::proofs::Single::none_other))]
 fn other_cause(state: &EmitState, sink: &MachBuffer, depth: u32, inst: &Inst) -> Option<EmitError>
     ensures { result ≡ cause_or (single_instruction inst.now) (memory_cause_or (declared_in sink.now) (memory (resolved_instruction state.now inst.now)) (branch_cause sink.now.block_count depth inst.now)) }
 {
     match find_single_instruction(inst) {
-        Some(found) => cause_unless(found.operands_valid, EmitError::BadRegister),
+        Some(found) => found_cause(found),
         None => memory_cause(state, sink, depth, inst),
     }
 }

@@ -1,9 +1,12 @@
 //! The causes of refusal, found before anything is emitted: the length stands last among them, so no part of a function may be
 //! refused for it while an earlier cause may follow.
-ghost use Rattle.std.specs.Prelude.{◌≡◌, ℕ, ◌+◌, ◌≤◌, ◌<◌, min, None, Some, MatchResult, ◌*◌};
+ghost use Rattle.std.specs.Prelude.{◌≡◌, ℕ, ◌+◌, ◌≤◌, ◌<◌, min, true, None, Some, MatchResult, ◌*◌};
 ghost use Rattle.s390x_inst.specs.declared.state.IsaFlags.{IsaFlags};
+ghost use Rattle.s390x_typed_steps.specs.MachineInstruction.{size_of};
 ghost use Rattle.s390x_typed_steps.specs.Memory.{memory};
 ghost use Rattle.s390x_typed_steps.specs.Resolved.{resolved_instruction};
+ghost use Rattle.s390x_emit_int.specs.SingleCode.{code_where};
+ghost use Rattle.s390x_typed_steps.specs.SingleInstruction.{SingleInstruction};
 ghost use Rattle.s390x_typed_steps.specs.Tree.{empty, prepend, tree};
 ghost use Rattle.s390x_typed_steps.specs.Sizes.{instruction_size, tree_size};
 ghost use Rattle.s390x_typed_steps.specs.Causes.{Declared, first_emit_cause, declared_in, fresh_labels, nesting_cause, numbers_cause, memory_cause_or, instruction_cause, tree_cause, block_cause, nominal_behind, instruction_fresh_labels, leaf_cause};
@@ -17,7 +20,7 @@ use crate::memory::find_memory;
 use crate::single_instruction::find_single_instruction;
 use crate::stack::{advance, end_cause};
 use s390x_address::emitters::LIMIT;
-use s390x_base::EmitError;
+use s390x_base::{Code, EmitError};
 use s390x_buffer::MachBuffer;
 use s390x_inst::{Block, EmitState, Inst, IsaFlags};
 
@@ -71,13 +74,24 @@ fn other_size(state: &EmitState, inst: &Inst) -> u64
     }
 }
 
+// The size of one machine instruction whose registers may stand there.
+fn found_size(found: Result<Code, EmitError>) -> u64
+    ensures value { (x : SingleInstruction) → found ≡ code_where x.operands_valid x.row → x.operands_valid ≡ true → result ≡ size_of x.row }
+    ensures few { result ≤ 6 }
+{
+    match found {
+        Ok(code) => code.bytes().len() as u64,
+        Err(_) => 0,
+    }
+}
+
 // The size of an instruction that no cause refuses, counted up to the limit of code.
 fn size_of(state: &EmitState, inst: &Inst) -> u64
     ensures value { (flags : IsaFlags) (D : Declared) (nominal depth : ℕ) → instruction_cause flags D nominal depth (resolved_instruction state.now inst.now) ≡ None → min code_limit result ≡ min code_limit (instruction_size (resolved_instruction state.now inst.now)) }
     ensures few { result ≤ code_limit }
 {
     match find_single_instruction(inst) {
-        Some(found) => found.row.size(),
+        Some(found) => found_size(found),
         None => other_size(state, inst),
     }
 }

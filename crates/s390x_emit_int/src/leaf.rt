@@ -5,7 +5,7 @@ ghost use Rattle.std.specs.Prelude.{◌≡◌, ℕ, ◌<◌, ◌&&◌, [], ◌�
 ghost use Rattle.s390x_base.specs.Regs.{number_of};
 ghost use Rattle.s390x_buffer.specs.Extends.{Extends};
 ghost use Rattle.s390x_buffer.specs.State.{put_cause};
-ghost use Rattle.s390x_typed_steps.specs.MachineInstruction.{format_e, rr, ril_c, bytes_of, size_of};
+ghost use Rattle.s390x_typed_steps.specs.MachineInstruction.{MachineInstruction, format_e, rr, ril_c, bytes_of, size_of};
 ghost use Rattle.s390x_typed_steps.specs.Parts.{Row, Trapping, Branch, ToBlock, Relative, row_part, stopping, memory_parts, parts_size};
 ghost use Rattle.s390x_inst.specs.Emission.{Emission};
 ghost use Rattle.s390x_inst.specs.declared.state.IsaFlags.{IsaFlags};
@@ -13,21 +13,20 @@ ghost use Rattle.s390x_typed_steps.specs.Causes.{declared_in, branch_cause, caus
 ghost use Rattle.s390x_typed_steps.specs.Memory.{memory};
 ghost use Rattle.s390x_typed_steps.specs.General.{is_general, is_nonzero};
 ghost use Rattle.s390x_typed_steps.specs.Sizes.{instruction_size};
-ghost use Rattle.s390x_emit_int.specs.SingleInstruction.{instruction_of, can_encode, encodes};
 ghost use Rattle.s390x_emit_int.specs.Fragments.{Put, PutTrapping, apply, apply_all, Link};
 ghost use Rattle.s390x_emit_int.specs.Emission.{branch, part_fragments, branch_fragments, branch_size, leaf_fragments};
 ghost use Rattle.s390x_emit_int.specs.Room.{Passed, MembersPassed, LacksMemory, HasRoom};
 ghost use Rattle.s390x_buffer.specs.declared.label_use.LabelUse.TheVariants.{BranchRIL};
 ghost use Rattle.s390x_typed_steps.specs.Ranges.{InRange, MaskInRange, OperandInRange, IsConditionMask};
-ghost use Rattle.s390x_typed_steps.specs.SingleInstruction.{single_instruction};
+ghost use Rattle.s390x_emit_int.specs.SingleCode.{code_where};
+ghost use Rattle.s390x_typed_steps.specs.SingleInstruction.{SingleInstruction, single_instruction};
 ghost use Rattle.s390x_typed_steps.specs.Operands.{resolved};
 ghost use Rattle.s390x_typed_steps.specs.Resolved.{resolved_instruction};
 ghost use Rattle.s390x_address.specs.Rows.{memory_instruction_of, in_state, may_encode};
 
 use crate::causes::{branch_cause, outer_cause};
 use crate::memory::find_memory;
-use crate::register_row::RegisterRow;
-use crate::single_instruction::{CheckedRow, find_single_instruction};
+use crate::single_instruction::find_single_instruction;
 use crate::stops::stop_code;
 use crate::symbol::emit_symbol_load;
 use crate::table::emit_table;
@@ -152,20 +151,19 @@ fn emit_break(sink: &mut MachBuffer, cond: Cond, after: MachLabel) -> Result<(),
     put_branch(sink, cond.bits(), after)
 }
 
-// A machine instruction; where its stop has a code, a trap is recorded at its last byte.
-fn emit_single_instruction(
+// The code of a machine instruction; where its stop has a code, a trap is recorded at its last byte.
+fn emit_code(
     sink: &mut MachBuffer,
-    row: &RegisterRow,
+    code: &Code,
     trap_code: Option<TrapCode>,
 ) -> Result<(), EmitError>
-    ensures answer { OnOk result (sink.new ≡ apply_all sink.old (part_fragments (row_part (instruction_of row.now) trap_code ∷ []))) }
-    ensures lacks { put_cause sink.old (size_of (instruction_of row.now)) ≡ None → can_encode row.now ≡ true → LacksMemory result }
+    ensures answer { (m : MachineInstruction) → code.now ≡ bytes_of m → OnOk result (sink.new ≡ apply_all sink.old (part_fragments (row_part m trap_code ∷ []))) }
+    ensures lacks { put_cause sink.old (length code.now) ≡ None → LacksMemory result }
     ensures kept { Extends sink.old sink.new }
 {
-    let code = row.code()?;
     match trap_code {
-        Some(trap_code) => put_trapping(sink, &code, code.bytes().len() - 1, trap_code),
-        None => sink.put_code(&code),
+        Some(trap_code) => put_trapping(sink, code, code.bytes().len() - 1, trap_code),
+        None => sink.put_code(code),
     }
 }
 
@@ -232,20 +230,18 @@ fn read_displacement(mem: &MemArg)
 }
 
 // A machine instruction, where its registers may stand there.
-fn emit_row(
+fn emit_found(
     sink: &mut MachBuffer,
-    found: &CheckedRow,
+    found: Result<Code, EmitError>,
     trap_code: Option<TrapCode>,
 ) -> Result<(), EmitError>
-    requires { encodes found.now.operands_valid (Some found.now.row) ≡ true }
-    ensures answer { OnOk result ((found.now.operands_valid ≡ true) × (sink.new ≡ apply_all sink.old (part_fragments (row_part (instruction_of found.now.row) trap_code ∷ [])))) }
-    ensures lacks { put_cause sink.old (size_of (instruction_of found.now.row)) ≡ None → found.now.operands_valid ≡ true → LacksMemory result }
+    ensures answer { (x : SingleInstruction) → found ≡ code_where x.operands_valid x.row → OnOk result ((x.operands_valid ≡ true) × (sink.new ≡ apply_all sink.old (part_fragments (row_part x.row trap_code ∷ [])))) }
+    ensures lacks { (x : SingleInstruction) → found ≡ code_where x.operands_valid x.row → put_cause sink.old (size_of x.row) ≡ None → x.operands_valid ≡ true → LacksMemory result }
     ensures kept { Extends sink.old sink.new }
 {
-    if found.operands_valid {
-        emit_single_instruction(sink, &found.row, trap_code)
-    } else {
-        Err(EmitError::BadRegister)
+    match found {
+        Ok(code) => emit_code(sink, &code, trap_code),
+        Err(error) => Err(error),
     }
 }
 
@@ -306,6 +302,7 @@ fn emit_other(
 }
 
 // An instruction whose facility is there, and which the stack sizes and the labels allow, where no cause of its own refuses it.
+#[tactic(auto, using(s390x_buffer::proofs::Extending::extends_on, s390x_buffer::proofs::Extending::extends_same, crate::proofs::Single::no_single))]
 fn emit_allowed(
     sink: &mut MachBuffer,
     state: &EmitState,
@@ -320,7 +317,7 @@ fn emit_allowed(
     ensures kept { Extends sink.old sink.new }
 {
     match find_single_instruction(inst) {
-        Some(found) => emit_row(sink, &found, stop_code(inst)),
+        Some(found) => emit_found(sink, found, stop_code(inst)),
         None => emit_other(sink, state, depth, inst, after),
     }
 }

@@ -2,28 +2,18 @@
 ghost use Rattle.std.specs.Prelude.{◌≡◌, ◌&&◌, if◌then◌else◌, true, Some, IfSome};
 ghost use Rattle.std.specs.Option.{option_map};
 ghost use Rattle.s390x_address.specs.Rows.{memory_instruction_of, storage_form_of, relative_encodes, rows_encode, may_encode, rows_take_general, has_12_bits};
-ghost use Rattle.s390x_typed_steps.specs.General.{low_halfword};
-ghost use Rattle.s390x_typed_steps.specs.Memory.{load, store, store_immediate, SilForm, is_range, multiple, load_and_operate, compare_and_swap, memory};
+ghost use Rattle.s390x_typed_steps.specs.General.{low_byte, low_halfword};
+ghost use Rattle.s390x_typed_steps.specs.Memory.{load, store, store_immediate, SiForm, SilForm, is_range, multiple, load_and_operate, compare_and_swap, memory};
 ghost use Rattle.s390x_typed_steps.specs.Storage.{alu_rx, alu_rxy, cmp_rx, cmp_rxy, cmp_ril, atomic_rsy};
-ghost use Rattle.s390x_emit_int.specs.Memory.{storage_group};
-ghost use Rattle.s390x_emit_int.specs.declared.memory.StorageGroup.TheVariants.{Loads, Stores, Operators};
 
-use crate::bits::low_byte;
-use crate::single_instruction::{is_reused, two_general};
+use crate::immediates::low_byte;
+use crate::registers::{is_reused, two_general};
 use s390x_address::emitters::{holds_scratch, number};
 use s390x_address::forms::is_numbered;
 use s390x_address::memory::{MemoryInst, general};
 use s390x_address::rows::StorageRows;
-use s390x_base::Reg;
+use s390x_base::{Reg, Writable};
 use s390x_inst::{ALUOp, CmpOp, Inst, MemArg};
-
-/// Which part of the code knows the rows of an instruction with a memory operand.
-#[derive(Clone, Copy)]
-pub enum StorageGroup {
-    Loads,
-    Stores,
-    Operators,
-}
 
 // An access by one register.
 #[tactic(auto, using(crate::proofs::Storing::register_encodes))]
@@ -33,10 +23,10 @@ fn access(
     rx: Option<u8>,
     rxy: Option<u16>,
     ril: Option<u16>,
-    operand: MemArg,
+    operand: &MemArg,
 ) -> Option<MemoryInst>
     requires { (rows_take_general rx && rows_take_general rxy && has_12_bits ril) ≡ true }
-    ensures row { option_map memory_instruction_of result ≡ if stores then store register rx rxy ril operand else load register rx rxy ril operand }
+    ensures row { option_map memory_instruction_of result ≡ if stores then store register rx rxy ril operand.now else load register rx rxy ril operand.now }
     ensures encodes { IfSome result (λ x. may_encode x ≡ true) }
 {
     Some(MemoryInst {
@@ -46,7 +36,7 @@ fn access(
             rxy,
             ril,
         },
-        operand,
+        operand: *operand,
         accesses: true,
         operands_valid: general(&register),
         reads_scratch: stores && is_numbered(1, &register),
@@ -55,132 +45,90 @@ fn access(
 
 // A load into a register, which is written alone.
 fn load(
-    rd: Reg,
+    rd: &Writable<Reg>,
     rx: Option<u8>,
     rxy: Option<u16>,
     ril: Option<u16>,
-    operand: MemArg,
+    operand: &MemArg,
 ) -> Option<MemoryInst>
     requires { (rows_take_general rx && rows_take_general rxy && has_12_bits ril) ≡ true }
-    ensures row { option_map memory_instruction_of result ≡ load rd rx rxy ril operand }
+    ensures row { option_map memory_instruction_of result ≡ load rd.now rx rxy ril operand.now }
     ensures encodes { IfSome result (λ x. may_encode x ≡ true) }
 {
-    access(false, rd, rx, rxy, ril, operand)
+    access(false, rd.to_reg(), rx, rxy, ril, operand)
 }
 
 // A store of a register.
 fn store(
-    rd: Reg,
+    rd: &Reg,
     rx: Option<u8>,
     rxy: Option<u16>,
     ril: Option<u16>,
-    operand: MemArg,
+    operand: &MemArg,
 ) -> Option<MemoryInst>
     requires { (rows_take_general rx && rows_take_general rxy && has_12_bits ril) ≡ true }
-    ensures row { option_map memory_instruction_of result ≡ store rd rx rxy ril operand }
+    ensures row { option_map memory_instruction_of result ≡ store rd.now rx rxy ril operand.now }
     ensures encodes { IfSome result (λ x. may_encode x ≡ true) }
 {
-    access(true, rd, rx, rxy, ril, operand)
+    access(true, *rd, rx, rxy, ril, operand)
 }
 
 // The address of the operand.
 #[tactic(auto, using(crate::proofs::Storing::register_encodes))]
-fn load_address(rd: Reg, operand: MemArg) -> Option<MemoryInst>
-    ensures row { option_map memory_instruction_of result ≡ memory (Inst.LoadAddr rd operand) }
+fn load_address(rd: &Writable<Reg>, operand: &MemArg) -> Option<MemoryInst>
+    ensures row { option_map memory_instruction_of result ≡ memory (Inst.LoadAddr rd.now operand.now) }
     ensures encodes { IfSome result (λ x. may_encode x ≡ true) }
 {
+    let register = rd.to_reg();
     Some(MemoryInst {
         rows: StorageRows::OneRegister {
-            register: rd,
+            register,
             rx: Some(0x41),
             rxy: Some(0xe371),
             ril: Some(0xc00),
         },
-        operand,
+        operand: *operand,
         accesses: false,
-        operands_valid: general(&rd),
+        operands_valid: general(&register),
         reads_scratch: false,
     })
 }
 
-fn find_load(inst: &Inst) -> Option<MemoryInst>
-    ensures row { storage_group inst.now ≡ Loads → option_map memory_instruction_of result ≡ memory inst.now }
-    ensures encodes { IfSome result (λ x. may_encode x ≡ true) }
-{
-    match inst {
-        Inst::Load32 { rd, mem } => load(rd.to_reg(), Some(0x58), Some(0xe358), Some(0xc4d), *mem),
-        Inst::Load32ZExt8 { rd, mem } => load(rd.to_reg(), None, Some(0xe394), None, *mem),
-        Inst::Load32SExt8 { rd, mem } => load(rd.to_reg(), None, Some(0xe376), None, *mem),
-        Inst::Load32ZExt16 { rd, mem } => load(rd.to_reg(), None, Some(0xe395), Some(0xc42), *mem),
-        Inst::Load32SExt16 { rd, mem } => load(
-            rd.to_reg(),
-            Some(0x48),
-            Some(0xe378),
-            Some(0xc45),
-            *mem,
-        ),
-        Inst::Load64 { rd, mem } => load(rd.to_reg(), None, Some(0xe304), Some(0xc48), *mem),
-        Inst::Load64ZExt8 { rd, mem } => load(rd.to_reg(), None, Some(0xe390), None, *mem),
-        Inst::Load64SExt8 { rd, mem } => load(rd.to_reg(), None, Some(0xe377), None, *mem),
-        Inst::Load64ZExt16 { rd, mem } => load(rd.to_reg(), None, Some(0xe391), Some(0xc46), *mem),
-        Inst::Load64SExt16 { rd, mem } => load(rd.to_reg(), None, Some(0xe315), Some(0xc44), *mem),
-        Inst::Load64ZExt32 { rd, mem } => load(rd.to_reg(), None, Some(0xe316), Some(0xc4e), *mem),
-        Inst::Load64SExt32 { rd, mem } => load(rd.to_reg(), None, Some(0xe314), Some(0xc4c), *mem),
-        Inst::LoadRev16 { rd, mem } => load(rd.to_reg(), None, Some(0xe31f), None, *mem),
-        Inst::LoadRev32 { rd, mem } => load(rd.to_reg(), None, Some(0xe31e), None, *mem),
-        Inst::LoadRev64 { rd, mem } => load(rd.to_reg(), None, Some(0xe30f), None, *mem),
-        Inst::LoadAddr { rd, mem } => load_address(rd.to_reg(), *mem),
-        _ => None,
-    }
-}
-
 // A store of an immediate.
-fn store_immediate(rows: StorageRows, operand: MemArg) -> Option<MemoryInst>
+fn store_immediate(rows: StorageRows, operand: &MemArg) -> Option<MemoryInst>
     requires { (relative_encodes rows && rows_encode rows) ≡ true }
-    ensures row { option_map memory_instruction_of result ≡ store_immediate (storage_form_of rows) operand }
+    ensures row { option_map memory_instruction_of result ≡ store_immediate (storage_form_of rows) operand.now }
     ensures encodes { IfSome result (λ x. may_encode x ≡ true) }
 {
     Some(MemoryInst {
         rows,
-        operand,
+        operand: *operand,
         accesses: true,
         operands_valid: true,
         reads_scratch: false,
     })
 }
 
-fn store_halfword(imm: i16, sil: u16, operand: MemArg) -> Option<MemoryInst>
-    ensures row { option_map memory_instruction_of result ≡ store_immediate (SilForm (low_halfword imm) sil) operand }
+fn store_halfword(imm: i16, sil: u16, operand: &MemArg) -> Option<MemoryInst>
+    ensures row { option_map memory_instruction_of result ≡ store_immediate (SilForm (low_halfword imm) sil) operand.now }
     ensures encodes { IfSome result (λ x. may_encode x ≡ true) }
 {
     store_immediate(StorageRows::Halfword { imm, sil }, operand)
 }
 
-fn find_store(inst: &Inst) -> Option<MemoryInst>
-    ensures row { storage_group inst.now ≡ Stores → option_map memory_instruction_of result ≡ memory inst.now }
+// A store of a byte.
+fn store_byte(imm: u8, operand: &MemArg) -> Option<MemoryInst>
+    ensures row { option_map memory_instruction_of result ≡ store_immediate (SiForm (low_byte imm) 0x92 0xeb52) operand.now }
     ensures encodes { IfSome result (λ x. may_encode x ≡ true) }
 {
-    match inst {
-        Inst::Store8 { rd, mem } => store(*rd, Some(0x42), Some(0xe372), None, *mem),
-        Inst::Store16 { rd, mem } => store(*rd, Some(0x40), Some(0xe370), Some(0xc47), *mem),
-        Inst::Store32 { rd, mem } => store(*rd, Some(0x50), Some(0xe350), Some(0xc4f), *mem),
-        Inst::Store64 { rd, mem } => store(*rd, None, Some(0xe324), Some(0xc4b), *mem),
-        Inst::StoreRev16 { rd, mem } => store(*rd, None, Some(0xe33f), None, *mem),
-        Inst::StoreRev32 { rd, mem } => store(*rd, None, Some(0xe33e), None, *mem),
-        Inst::StoreRev64 { rd, mem } => store(*rd, None, Some(0xe32f), None, *mem),
-        Inst::StoreImm8 { imm, mem } => store_immediate(
-            StorageRows::Byte {
-                imm: low_byte(*imm),
-                si: 0x92,
-                siy: 0xeb52,
-            },
-            *mem,
-        ),
-        Inst::StoreImm16 { imm, mem } => store_halfword(*imm, 0xe544, *mem),
-        Inst::StoreImm32SExt16 { imm, mem } => store_halfword(*imm, 0xe54c, *mem),
-        Inst::StoreImm64SExt16 { imm, mem } => store_halfword(*imm, 0xe548, *mem),
-        _ => None,
-    }
+    store_immediate(
+        StorageRows::Byte {
+            imm: low_byte(imm),
+            si: 0x92,
+            siy: 0xeb52,
+        },
+        operand,
+    )
 }
 
 // The opcodes of an operator's rows with an operand in memory.
@@ -307,8 +255,8 @@ fn atomic_rsy(op: ALUOp) -> Option<u16>
 
 // An operator on a register and an operand in memory, where it has a row.
 #[tactic(auto, using(crate::proofs::Storing::reused_encodes))]
-fn operate(op: ALUOp, rd: Reg, ri: Reg, operand: MemArg) -> Option<MemoryInst>
-    ensures row { option_map memory_instruction_of result ≡ memory (Inst.AluRX op rd ri operand) }
+fn operate(op: ALUOp, rd: &Writable<Reg>, ri: &Reg, operand: &MemArg) -> Option<MemoryInst>
+    ensures row { option_map memory_instruction_of result ≡ memory (Inst.AluRX op rd.now ri.now operand.now) }
     ensures encodes { IfSome result (λ x. may_encode x ≡ true) }
 {
     let rx = alu_rx(op);
@@ -316,37 +264,38 @@ fn operate(op: ALUOp, rd: Reg, ri: Reg, operand: MemArg) -> Option<MemoryInst>
     if rx.is_none() && rxy.is_none() {
         return None;
     }
+    let register = rd.to_reg();
     Some(MemoryInst {
         rows: StorageRows::OneRegister {
-            register: rd,
+            register,
             rx,
             rxy,
             ril: None,
         },
-        operand,
+        operand: *operand,
         accesses: true,
-        operands_valid: is_reused(&rd, &ri),
-        reads_scratch: is_numbered(1, &ri),
+        operands_valid: is_reused(&register, ri),
+        reads_scratch: is_numbered(1, ri),
     })
 }
 
 // A comparison of a register with an operand in memory.
 #[tactic(auto, using(crate::proofs::Storing::register_encodes))]
-fn compare(op: CmpOp, rn: Reg, operand: MemArg) -> Option<MemoryInst>
-    ensures row { option_map memory_instruction_of result ≡ memory (Inst.CmpRX op rn operand) }
+fn compare(op: CmpOp, rn: &Reg, operand: &MemArg) -> Option<MemoryInst>
+    ensures row { option_map memory_instruction_of result ≡ memory (Inst.CmpRX op rn.now operand.now) }
     ensures encodes { IfSome result (λ x. may_encode x ≡ true) }
 {
     Some(MemoryInst {
         rows: StorageRows::OneRegister {
-            register: rn,
+            register: *rn,
             rx: cmp_rx(op),
             rxy: cmp_rxy(op),
             ril: Some(cmp_ril(op)),
         },
-        operand,
+        operand: *operand,
         accesses: true,
-        operands_valid: general(&rn),
-        reads_scratch: is_numbered(1, &rn),
+        operands_valid: general(rn),
+        reads_scratch: is_numbered(1, rn),
     })
 }
 
@@ -359,8 +308,14 @@ fn is_range(first: &Reg, last: &Reg) -> bool
 
 // Registers that are loaded or stored one after another.
 #[tactic(auto, using(crate::proofs::Storing::range_encodes))]
-fn multiple(rt: Reg, rt2: Reg, rsy: u16, reads_scratch: bool, operand: MemArg) -> Option<MemoryInst>
-    ensures row { option_map memory_instruction_of result ≡ multiple rt rt2 rsy reads_scratch operand }
+fn multiple(
+    rt: Reg,
+    rt2: Reg,
+    rsy: u16,
+    reads_scratch: bool,
+    operand: &MemArg,
+) -> Option<MemoryInst>
+    ensures row { option_map memory_instruction_of result ≡ multiple rt rt2 rsy reads_scratch operand.now }
     ensures encodes { IfSome result (λ x. may_encode x ≡ true) }
 {
     Some(MemoryInst {
@@ -370,31 +325,46 @@ fn multiple(rt: Reg, rt2: Reg, rsy: u16, reads_scratch: bool, operand: MemArg) -
             rs: None,
             rsy: Some(rsy),
         },
-        operand,
+        operand: *operand,
         accesses: true,
         operands_valid: is_range(&rt, &rt2),
         reads_scratch,
     })
 }
 
-// An operand in memory that is changed in one access, where the operator has a row.
-#[tactic(auto, using(crate::proofs::Storing::two_encode))]
-fn load_and_operate(op: ALUOp, rd: Reg, rn: Reg, operand: MemArg) -> Option<MemoryInst>
-    ensures row { option_map memory_instruction_of result ≡ load_and_operate (atomic_rsy op) rd rn operand }
+fn load_multiple(rt: &Writable<Reg>, rt2: &Writable<Reg>, operand: &MemArg) -> Option<MemoryInst>
+    ensures row { option_map memory_instruction_of result ≡ memory (Inst.LoadMultiple64 rt.now rt2.now operand.now) }
     ensures encodes { IfSome result (λ x. may_encode x ≡ true) }
 {
+    multiple(rt.to_reg(), rt2.to_reg(), 0xeb04, false, operand)
+}
+
+fn store_multiple(rt: &Reg, rt2: &Reg, operand: &MemArg) -> Option<MemoryInst>
+    ensures row { option_map memory_instruction_of result ≡ memory (Inst.StoreMultiple64 rt.now rt2.now operand.now) }
+    ensures encodes { IfSome result (λ x. may_encode x ≡ true) }
+{
+    multiple(*rt, *rt2, 0xeb24, holds_scratch(rt, rt2), operand)
+}
+
+// An operand in memory that is changed in one access, where the operator has a row.
+#[tactic(auto, using(crate::proofs::Storing::two_encode))]
+fn load_and_operate(op: ALUOp, rd: &Writable<Reg>, rn: &Reg, operand: &MemArg) -> Option<MemoryInst>
+    ensures row { option_map memory_instruction_of result ≡ load_and_operate (atomic_rsy op) rd.now rn.now operand.now }
+    ensures encodes { IfSome result (λ x. may_encode x ≡ true) }
+{
+    let first = rd.to_reg();
     match atomic_rsy(op) {
         Some(opcode) => Some(MemoryInst {
             rows: StorageRows::TwoRegisters {
-                first: rd,
-                second: rn,
+                first,
+                second: *rn,
                 rs: None,
                 rsy: Some(opcode),
             },
-            operand,
+            operand: *operand,
             accesses: true,
-            operands_valid: two_general(&rd, &rn),
-            reads_scratch: is_numbered(1, &rn),
+            operands_valid: two_general(&first, rn),
+            reads_scratch: is_numbered(1, rn),
         }),
         None => None,
     }
@@ -405,113 +375,27 @@ fn load_and_operate(op: ALUOp, rd: Reg, rn: Reg, operand: MemArg) -> Option<Memo
 fn compare_and_swap(
     rs: Option<u8>,
     rsy: u16,
-    rd: Reg,
-    ri: Reg,
-    rn: Reg,
-    operand: MemArg,
+    rd: &Writable<Reg>,
+    ri: &Reg,
+    rn: &Reg,
+    operand: &MemArg,
 ) -> Option<MemoryInst>
-    ensures row { option_map memory_instruction_of result ≡ compare_and_swap rs rsy rd ri rn operand }
+    ensures row { option_map memory_instruction_of result ≡ compare_and_swap rs rsy rd.now ri.now rn.now operand.now }
     ensures encodes { IfSome result (λ x. may_encode x ≡ true) }
 {
+    let first = rd.to_reg();
     Some(MemoryInst {
         rows: StorageRows::TwoRegisters {
-            first: rd,
-            second: rn,
+            first,
+            second: *rn,
             rs,
             rsy: Some(rsy),
         },
-        operand,
+        operand: *operand,
         accesses: true,
-        operands_valid: is_reused(&rd, &ri) && general(&rn),
-        reads_scratch: is_numbered(1, &ri) || is_numbered(1, &rn),
+        operands_valid: is_reused(&first, ri) && general(rn),
+        reads_scratch: is_numbered(1, ri) || is_numbered(1, rn),
     })
-}
-
-fn find_operator(inst: &Inst) -> Option<MemoryInst>
-    ensures row { storage_group inst.now ≡ Operators → option_map memory_instruction_of result ≡ memory inst.now }
-    ensures encodes { IfSome result (λ x. may_encode x ≡ true) }
-{
-    match inst {
-        Inst::AluRX {
-            alu_op,
-            rd,
-            ri,
-            mem,
-        } => operate(*alu_op, rd.to_reg(), *ri, *mem),
-        Inst::CmpRX { op, rn, mem } => compare(*op, *rn, *mem),
-        Inst::LoadMultiple64 { rt, rt2, mem } => multiple(
-            rt.to_reg(),
-            rt2.to_reg(),
-            0xeb04,
-            false,
-            *mem,
-        ),
-        Inst::StoreMultiple64 { rt, rt2, mem } => multiple(
-            *rt,
-            *rt2,
-            0xeb24,
-            holds_scratch(rt, rt2),
-            *mem,
-        ),
-        Inst::AtomicRmw {
-            alu_op,
-            rd,
-            rn,
-            mem,
-        } => load_and_operate(*alu_op, rd.to_reg(), *rn, *mem),
-        Inst::AtomicCas32 { rd, ri, rn, mem } => compare_and_swap(
-            Some(0xba),
-            0xeb14,
-            rd.to_reg(),
-            *ri,
-            *rn,
-            *mem,
-        ),
-        Inst::AtomicCas64 { rd, ri, rn, mem } => compare_and_swap(
-            None,
-            0xeb30,
-            rd.to_reg(),
-            *ri,
-            *rn,
-            *mem,
-        ),
-        _ => None,
-    }
-}
-
-fn find_storage_group(inst: &Inst) -> StorageGroup
-    ensures { result ≡ storage_group inst.now }
-{
-    match inst {
-        Inst::Load32 { .. }
-        | Inst::Load32ZExt8 { .. }
-        | Inst::Load32SExt8 { .. }
-        | Inst::Load32ZExt16 { .. }
-        | Inst::Load32SExt16 { .. }
-        | Inst::Load64 { .. }
-        | Inst::Load64ZExt8 { .. }
-        | Inst::Load64SExt8 { .. }
-        | Inst::Load64ZExt16 { .. }
-        | Inst::Load64SExt16 { .. }
-        | Inst::Load64ZExt32 { .. }
-        | Inst::Load64SExt32 { .. }
-        | Inst::LoadRev16 { .. }
-        | Inst::LoadRev32 { .. }
-        | Inst::LoadRev64 { .. }
-        | Inst::LoadAddr { .. } => StorageGroup::Loads,
-        Inst::Store8 { .. }
-        | Inst::Store16 { .. }
-        | Inst::Store32 { .. }
-        | Inst::Store64 { .. }
-        | Inst::StoreRev16 { .. }
-        | Inst::StoreRev32 { .. }
-        | Inst::StoreRev64 { .. }
-        | Inst::StoreImm8 { .. }
-        | Inst::StoreImm16 { .. }
-        | Inst::StoreImm32SExt16 { .. }
-        | Inst::StoreImm64SExt16 { .. } => StorageGroup::Stores,
-        _ => StorageGroup::Operators,
-    }
 }
 
 /// The machine rows and the operand of an instruction with a memory operand, where it is one that is built.
@@ -519,9 +403,58 @@ pub fn find_memory(inst: &Inst) -> Option<MemoryInst>
     ensures row { option_map memory_instruction_of result ≡ memory inst.now }
     ensures encodes { IfSome result (λ x. may_encode x ≡ true) }
 {
-    match find_storage_group(inst) {
-        StorageGroup::Loads => find_load(inst),
-        StorageGroup::Stores => find_store(inst),
-        StorageGroup::Operators => find_operator(inst),
+    match inst {
+        Inst::Load32 { rd, mem } => load(rd, Some(0x58), Some(0xe358), Some(0xc4d), mem),
+        Inst::Load32ZExt8 { rd, mem } => load(rd, None, Some(0xe394), None, mem),
+        Inst::Load32SExt8 { rd, mem } => load(rd, None, Some(0xe376), None, mem),
+        Inst::Load32ZExt16 { rd, mem } => load(rd, None, Some(0xe395), Some(0xc42), mem),
+        Inst::Load32SExt16 { rd, mem } => load(rd, Some(0x48), Some(0xe378), Some(0xc45), mem),
+        Inst::Load64 { rd, mem } => load(rd, None, Some(0xe304), Some(0xc48), mem),
+        Inst::Load64ZExt8 { rd, mem } => load(rd, None, Some(0xe390), None, mem),
+        Inst::Load64SExt8 { rd, mem } => load(rd, None, Some(0xe377), None, mem),
+        Inst::Load64ZExt16 { rd, mem } => load(rd, None, Some(0xe391), Some(0xc46), mem),
+        Inst::Load64SExt16 { rd, mem } => load(rd, None, Some(0xe315), Some(0xc44), mem),
+        Inst::Load64ZExt32 { rd, mem } => load(rd, None, Some(0xe316), Some(0xc4e), mem),
+        Inst::Load64SExt32 { rd, mem } => load(rd, None, Some(0xe314), Some(0xc4c), mem),
+        Inst::LoadRev16 { rd, mem } => load(rd, None, Some(0xe31f), None, mem),
+        Inst::LoadRev32 { rd, mem } => load(rd, None, Some(0xe31e), None, mem),
+        Inst::LoadRev64 { rd, mem } => load(rd, None, Some(0xe30f), None, mem),
+        Inst::LoadAddr { rd, mem } => load_address(rd, mem),
+        Inst::Store8 { rd, mem } => store(rd, Some(0x42), Some(0xe372), None, mem),
+        Inst::Store16 { rd, mem } => store(rd, Some(0x40), Some(0xe370), Some(0xc47), mem),
+        Inst::Store32 { rd, mem } => store(rd, Some(0x50), Some(0xe350), Some(0xc4f), mem),
+        Inst::Store64 { rd, mem } => store(rd, None, Some(0xe324), Some(0xc4b), mem),
+        Inst::StoreRev16 { rd, mem } => store(rd, None, Some(0xe33f), None, mem),
+        Inst::StoreRev32 { rd, mem } => store(rd, None, Some(0xe33e), None, mem),
+        Inst::StoreRev64 { rd, mem } => store(rd, None, Some(0xe32f), None, mem),
+        Inst::StoreImm8 { imm, mem } => store_byte(*imm, mem),
+        Inst::StoreImm16 { imm, mem } => store_halfword(*imm, 0xe544, mem),
+        Inst::StoreImm32SExt16 { imm, mem } => store_halfword(*imm, 0xe54c, mem),
+        Inst::StoreImm64SExt16 { imm, mem } => store_halfword(*imm, 0xe548, mem),
+        Inst::AluRX {
+            alu_op,
+            rd,
+            ri,
+            mem,
+        } => operate(*alu_op, rd, ri, mem),
+        Inst::CmpRX { op, rn, mem } => compare(*op, rn, mem),
+        Inst::LoadMultiple64 { rt, rt2, mem } => load_multiple(rt, rt2, mem),
+        Inst::StoreMultiple64 { rt, rt2, mem } => store_multiple(rt, rt2, mem),
+        Inst::AtomicRmw {
+            alu_op,
+            rd,
+            rn,
+            mem,
+        } => load_and_operate(*alu_op, rd, rn, mem),
+        Inst::AtomicCas32 { rd, ri, rn, mem } => compare_and_swap(
+            Some(0xba),
+            0xeb14,
+            rd,
+            ri,
+            rn,
+            mem,
+        ),
+        Inst::AtomicCas64 { rd, ri, rn, mem } => compare_and_swap(None, 0xeb30, rd, ri, rn, mem),
+        _ => None,
     }
 }

@@ -1,23 +1,20 @@
 //! Moves, insertions, extensions and conditional moves that are one machine instruction.
-ghost use Rattle.std.specs.Prelude.{◌≡◌, ◌<◌, ◌&&◌, true, Some, IfSome};
+ghost use Rattle.std.specs.Prelude.{◌≡◌, ◌<◌, ◌&&◌, true, Some};
 ghost use Rattle.std.specs.Option.{option_map};
 ghost use Rattle.s390x_base.specs.Regs.{number_of};
 ghost use Rattle.s390x_typed_steps.specs.General.{is_general, is_access, reuses, four_bits, low_halfword, low_displacement};
 ghost use Rattle.s390x_typed_steps.specs.MachineInstruction.{rr, rrf_cde, rie_g};
-ghost use Rattle.s390x_typed_steps.specs.Opcodes.{of_two, of_four, load_part, load_half, insert_part, insert_half, extend_to_word, extend_to_doubleword, extend_two, indexed_opcode, logical_indexed_opcode};
-ghost use Rattle.s390x_typed_steps.specs.SingleInstruction.{single_instruction, single_with, two_row, indexed_row};
-ghost use Rattle.s390x_emit_int.specs.SingleInstruction.{instruction_of, single_of, opcode_of, group_of, encodes, takes_general};
-ghost use Rattle.s390x_emit_int.specs.declared.single_instruction.Group.TheVariants.{Moves};
+ghost use Rattle.s390x_typed_steps.specs.Opcodes.{of_two, of_four, extend_to_word, extend_to_doubleword, extend_two, indexed_opcode, logical_indexed_opcode};
+ghost use Rattle.s390x_emit_int.specs.SingleCode.{code_where, single_code};
+ghost use Rattle.s390x_typed_steps.specs.SingleInstruction.{single_with, two_operands, indexed_row};
+ghost use Rattle.s390x_emit_int.specs.SingleInstruction.{opcode_of, takes_general, implies};
 
+use crate::codes::{conditional_halfword, indexed, masked, short, two_operands};
+use crate::immediates::bits_of_halfword;
 use crate::opcode::ShortOpcode;
-use crate::register_row::{RegisterRow, halfword_row, short, two_row, word_row};
-use crate::single_instruction::{
-    CheckedRow, bits_of_halfword, bits_of_unsigned, bits_of_unsigned_halfword, bits_of_word,
-    is_reused, single_with, three_general, two_general,
-};
+use crate::registers::{is_access, is_reused, three_general};
 use s390x_address::memory::general;
-use s390x_base::{Cond, Reg, SImm20, gpr};
-use s390x_inst::Inst;
+use s390x_base::{Code, Cond, EmitError, Reg, SImm20, Writable, gpr};
 
 /// One of two opcodes by its number.
 pub fn of_two(zeroth: u16, first: u16, n: u8) -> Option<ShortOpcode>
@@ -74,7 +71,8 @@ fn to_doubleword(signed: bool, from: u8) -> Option<u16>
     }
 }
 
-fn extend_opcode(signed: bool, from: u8, to: u8) -> Option<u16>
+/// The opcode of an extension.
+pub fn extend_opcode(signed: bool, from: u8, to: u8) -> Option<u16>
     ensures value { result ≡ extend_two signed from to }
     ensures general { takes_general result ≡ true }
 {
@@ -85,53 +83,8 @@ fn extend_opcode(signed: bool, from: u8, to: u8) -> Option<u16>
     }
 }
 
-fn access(ar: u8) -> bool
-    ensures { result ≡ is_access ar }
-{
-    ar < 16
-}
-
-// EXTRACT ACCESS; its second field is the access register's number.
-#[tactic(auto, using(crate::proofs::Encoding::access_encodes))]
-fn access_row(rd: Reg, ar: u8) -> Option<RegisterRow>
-    ensures row { option_map instruction_of result ≡ two_row (Some 0xb24f) (number_of rd) (four_bits ar) }
-    ensures encodes { encodes (is_general rd) result ≡ true }
-{
-    Some(RegisterRow::Rre {
-        opcode: 0xb24f,
-        r1: rd,
-        r2: gpr(ar % 16),
-    })
-}
-
-#[tactic(auto, using(crate::proofs::Encoding::two_encode))]
-fn conditional(opcode: u16, rd: Reg, rm: Reg, cond: Cond) -> Option<RegisterRow>
-    ensures row { option_map instruction_of result ≡ Some (rrf_cde opcode (number_of rd) (number_of rm) (four_bits cond) 0) }
-    ensures encodes { encodes (is_general rd && is_general rm) result ≡ true }
-{
-    Some(RegisterRow::RrfCde {
-        opcode,
-        r1: rd,
-        r2: rm,
-        mask: cond.bits(),
-    })
-}
-
-#[tactic(auto, using(crate::proofs::Encoding::one_encodes))]
-fn conditional_immediate(opcode: u16, rd: Reg, imm: i16, cond: Cond) -> Option<RegisterRow>
-    ensures row { option_map instruction_of result ≡ Some (rie_g opcode (number_of rd) (low_halfword imm) (four_bits cond)) }
-    ensures encodes { encodes (is_general rd) result ≡ true }
-{
-    Some(RegisterRow::RieG {
-        opcode,
-        r1: rd,
-        imm: bits_of_halfword(imm),
-        mask: cond.bits(),
-    })
-}
-
 // The opcode of an indexed address, by the size of its elements.
-fn indexed_opcode(size: u8) -> Option<u16>
+pub fn indexed_opcode(size: u8) -> Option<u16>
     ensures value { result ≡ indexed_opcode size }
     ensures general { takes_general result ≡ true }
 {
@@ -144,7 +97,7 @@ fn indexed_opcode(size: u8) -> Option<u16>
     }
 }
 
-fn logical_indexed_opcode(size: u8) -> Option<u16>
+pub fn logical_indexed_opcode(size: u8) -> Option<u16>
     ensures value { result ≡ logical_indexed_opcode size }
     ensures general { takes_general result ≡ true }
 {
@@ -157,177 +110,106 @@ fn logical_indexed_opcode(size: u8) -> Option<u16>
     }
 }
 
-#[tactic(auto, using(crate::proofs::Encoding::indexed_encodes))]
-fn indexed_row(
-    opcode: Option<u16>,
-    rd: Reg,
-    base: Reg,
-    index: Reg,
-    displacement: SImm20,
-) -> Option<RegisterRow>
-    requires { takes_general opcode ≡ true }
-    ensures row { option_map instruction_of result ≡ indexed_row opcode (number_of rd) (number_of base) (number_of index) (low_displacement displacement) }
-    ensures encodes { encodes (is_general rd && is_general base && is_general index) result ≡ true }
+// EXTRACT ACCESS; its second field is the access register's number.
+#[tactic(auto, using(crate::proofs::Encoding::with_access))]
+fn extract_access(valid: bool, rd: Reg, ar: u8) -> Result<Code, EmitError>
+    requires { implies valid (is_general rd) ≡ true }
+    ensures { result ≡ code_where valid (two_operands 0xb24f (number_of rd) (four_bits ar)) }
 {
+    two_operands(valid, 0xb24f, rd, gpr(ar % 16))
+}
+
+/// The load of an access register.
+#[tactic(auto, using(crate::proofs::Encoding::first_general))]
+pub fn load_access(rd: &Writable<Reg>, ar: u8) -> Result<Code, EmitError>
+    ensures { result ≡ code_where (is_general rd.now && is_access ar) (two_operands 0xb24f (number_of rd.now) (four_bits ar)) }
+{
+    let output = rd.to_reg();
+    extract_access(general(&output) && is_access(ar), output, ar)
+}
+
+/// The same into a register that is read too.
+#[tactic(auto, using(crate::proofs::Encoding::reused_tested_general))]
+pub fn insert_access(rd: &Writable<Reg>, ri: &Reg, ar: u8) -> Result<Code, EmitError>
+    ensures { result ≡ code_where (reuses rd.now ri.now && is_access ar) (two_operands 0xb24f (number_of rd.now) (four_bits ar)) }
+{
+    let output = rd.to_reg();
+    extract_access(is_reused(&output, ri) && is_access(ar), output, ar)
+}
+
+/// A move under a condition, into a register that is read too.
+#[tactic(auto, using(crate::proofs::Encoding::reused_pair_general))]
+pub fn conditional_code(
+    opcode: u16,
+    rd: &Writable<Reg>,
+    ri: &Reg,
+    rm: &Reg,
+    cond: Cond,
+) -> Result<Code, EmitError>
+    ensures { result ≡ code_where (reuses rd.now ri.now && is_general rm.now) (rrf_cde opcode (number_of rd.now) (number_of rm.now) (four_bits cond) 0) }
+{
+    let output = rd.to_reg();
+    masked(
+        is_reused(&output, ri) && general(rm),
+        opcode,
+        output,
+        *rm,
+        cond.bits(),
+    )
+}
+
+/// A load of an immediate under a condition, into a register that is read too.
+#[tactic(auto, using(crate::proofs::Encoding::reused_general))]
+pub fn conditional_immediate_row(
+    opcode: u16,
+    rd: &Writable<Reg>,
+    ri: &Reg,
+    imm: &i16,
+    cond: Cond,
+) -> Option<Result<Code, EmitError>>
+    ensures { result ≡ single_code (single_with (reuses rd.now ri.now) (Some (rie_g opcode (number_of rd.now) (low_halfword imm.now) (four_bits cond)))) }
+{
+    let output = rd.to_reg();
+    Some(conditional_halfword(
+        is_reused(&output, ri),
+        opcode,
+        output,
+        bits_of_halfword(*imm),
+        cond.bits(),
+    ))
+}
+
+/// An indexed address, where there is a row.
+#[tactic(auto, using(crate::proofs::Encoding::itself))]
+pub fn indexed_row(
+    opcode: Option<u16>,
+    rd: &Writable<Reg>,
+    base: &Reg,
+    index: &Reg,
+    displacement: SImm20,
+) -> Option<Result<Code, EmitError>>
+    requires { takes_general opcode ≡ true }
+    ensures { result ≡ single_code (single_with (is_general rd.now && is_general base.now && is_general index.now) (indexed_row opcode (number_of rd.now) (number_of base.now) (number_of index.now) (low_displacement displacement))) }
+{
+    let output = rd.to_reg();
     match opcode {
-        Some(opcode) => Some(RegisterRow::Rxy {
+        Some(opcode) => Some(indexed(
+            three_general(&output, base, index),
             opcode,
-            r1: rd,
-            b2: base,
-            x2: index,
+            output,
+            *base,
+            *index,
             displacement,
-        }),
+        )),
         None => None,
     }
 }
 
-// BRANCH ON CONDITION that doesn't branch: to no address, or under a mask of zeros.
-fn branch_nowhere(mask: u8, target: u8) -> Option<RegisterRow>
+/// BRANCH ON CONDITION that doesn't branch: to no address, or under a mask of zeros.
+pub fn branch_nowhere(mask: u8, target: u8) -> Result<Code, EmitError>
     requires mask { mask < 16 }
     requires target { target < 16 }
-    ensures row { option_map instruction_of result ≡ Some (rr 0x07 mask target) }
-    ensures encodes { encodes true result ≡ true }
+    ensures { result ≡ code_where true (rr 0x07 mask target) }
 {
-    Some(RegisterRow::Rr {
-        opcode: 0x07,
-        r1: gpr(mask),
-        r2: gpr(target),
-    })
-}
-
-#[tactic(auto, using(crate::proofs::Encoding::reused_encodes, crate::proofs::Encoding::reused_pair_encodes, crate::proofs::Encoding::first_encodes, crate::proofs::Encoding::reused_tested_encodes))]
-/// The machine instruction of a move, or of one that does nothing.
-pub fn find_move(inst: &Inst) -> Option<CheckedRow>
-    ensures row { group_of inst.now ≡ Moves → option_map single_of result ≡ single_instruction inst.now }
-    ensures encodes { IfSome result (λ x. encodes x.operands_valid (Some x.row) ≡ true) }
-{
-    match inst {
-        Inst::Mov64 { rd, rm } => single_with(
-            two_general(&rd.to_reg(), rm),
-            two_row(Some(0xb904), rd.to_reg(), *rm),
-        ),
-        Inst::MovPReg { rd, rm } => single_with(
-            two_general(&rd.to_reg(), &Reg::Real(*rm)),
-            two_row(Some(0xb904), rd.to_reg(), Reg::Real(*rm)),
-        ),
-        Inst::Mov32 { rd, rm } => single_with(
-            two_general(&rd.to_reg(), rm),
-            two_row(Some(0x18), rd.to_reg(), *rm),
-        ),
-        Inst::Mov32Imm { rd, imm } => single_with(
-            general(&rd.to_reg()),
-            word_row(Some(short(0xc09)), rd.to_reg(), bits_of_unsigned(*imm)),
-        ),
-        Inst::Mov32SImm16 { rd, imm } => single_with(
-            general(&rd.to_reg()),
-            halfword_row(Some(short(0xa78)), rd.to_reg(), bits_of_halfword(*imm)),
-        ),
-        Inst::Mov64SImm16 { rd, imm } => single_with(
-            general(&rd.to_reg()),
-            halfword_row(Some(short(0xa79)), rd.to_reg(), bits_of_halfword(*imm)),
-        ),
-        Inst::Mov64SImm32 { rd, imm } => single_with(
-            general(&rd.to_reg()),
-            word_row(Some(short(0xc01)), rd.to_reg(), bits_of_word(*imm)),
-        ),
-        Inst::Mov64UImm16Shifted { rd, imm } => single_with(
-            general(&rd.to_reg()),
-            halfword_row(
-                of_four(0xa5f, 0xa5e, 0xa5d, 0xa5c, imm.shift),
-                rd.to_reg(),
-                bits_of_unsigned_halfword(imm.bits),
-            ),
-        ),
-        Inst::Mov64UImm32Shifted { rd, imm } => single_with(
-            general(&rd.to_reg()),
-            word_row(
-                of_two(0xc0f, 0xc0e, imm.shift),
-                rd.to_reg(),
-                bits_of_unsigned(imm.bits),
-            ),
-        ),
-        Inst::Insert64UImm16Shifted { rd, ri, imm } => single_with(
-            is_reused(&rd.to_reg(), ri),
-            halfword_row(
-                of_four(0xa53, 0xa52, 0xa51, 0xa50, imm.shift),
-                rd.to_reg(),
-                bits_of_unsigned_halfword(imm.bits),
-            ),
-        ),
-        Inst::Insert64UImm32Shifted { rd, ri, imm } => single_with(
-            is_reused(&rd.to_reg(), ri),
-            word_row(
-                of_two(0xc09, 0xc08, imm.shift),
-                rd.to_reg(),
-                bits_of_unsigned(imm.bits),
-            ),
-        ),
-        Inst::CMov32 { rd, cond, ri, rm } => single_with(
-            is_reused(&rd.to_reg(), ri) && general(rm),
-            conditional(0xb9f2, rd.to_reg(), *rm, *cond),
-        ),
-        Inst::CMov64 { rd, cond, ri, rm } => single_with(
-            is_reused(&rd.to_reg(), ri) && general(rm),
-            conditional(0xb9e2, rd.to_reg(), *rm, *cond),
-        ),
-        Inst::CMov32SImm16 { rd, cond, ri, imm } => single_with(
-            is_reused(&rd.to_reg(), ri),
-            conditional_immediate(0xec42, rd.to_reg(), *imm, *cond),
-        ),
-        Inst::CMov64SImm16 { rd, cond, ri, imm } => single_with(
-            is_reused(&rd.to_reg(), ri),
-            conditional_immediate(0xec46, rd.to_reg(), *imm, *cond),
-        ),
-        Inst::Extend {
-            rd,
-            rn,
-            signed,
-            from_bits,
-            to_bits,
-        } => single_with(
-            two_general(&rd.to_reg(), rn),
-            two_row(
-                extend_opcode(*signed, *from_bits, *to_bits),
-                rd.to_reg(),
-                *rn,
-            ),
-        ),
-        Inst::LoadAR { rd, ar } => single_with(
-            general(&rd.to_reg()) && access(*ar),
-            access_row(rd.to_reg(), *ar),
-        ),
-        Inst::InsertAR { rd, ri, ar } => single_with(
-            is_reused(&rd.to_reg(), ri) && access(*ar),
-            access_row(rd.to_reg(), *ar),
-        ),
-        Inst::LoadIndexedAddr {
-            rd,
-            base,
-            index,
-            offset,
-            size,
-        } => single_with(
-            three_general(&rd.to_reg(), base, index),
-            indexed_row(indexed_opcode(*size), rd.to_reg(), *base, *index, *offset),
-        ),
-        Inst::LoadLogicalIndexedAddr {
-            rd,
-            base,
-            index,
-            offset,
-            size,
-        } => single_with(
-            three_general(&rd.to_reg(), base, index),
-            indexed_row(
-                logical_indexed_opcode(*size),
-                rd.to_reg(),
-                *base,
-                *index,
-                *offset,
-            ),
-        ),
-        Inst::Fence => single_with(true, branch_nowhere(14, 0)),
-        Inst::Nop2 => single_with(true, branch_nowhere(0, 7)),
-        _ => None,
-    }
+    two_operands(true, 0x07, gpr(mask), gpr(target))
 }

@@ -1,156 +1,237 @@
 //! Instructions that are one machine instruction on general registers and immediates.
-ghost use Rattle.std.specs.Prelude.{◌≡◌, ◌&&◌, true, Some, IfSome, nat_eq, pos};
-ghost use Rattle.std.specs.Option.{option_map};
-ghost use Rattle.s390x_base.specs.Regs.{number_of};
-ghost use Rattle.s390x_typed_steps.specs.General.{is_general, reuses, low_halfword, low_word};
-ghost use Rattle.s390x_typed_steps.specs.SingleInstruction.{single_instruction, single_with};
-ghost use Rattle.s390x_emit_int.specs.SingleInstruction.{instruction_of, single_of, group_of, encodes};
+#![tactic(auto, using(crate::proofs::Encoding::alu_two_general, crate::proofs::Encoding::cmp_two_general))]
 
-use crate::arithmetic::find_arithmetic;
-use crate::bits::find_bits;
-use crate::moves::find_move;
-use crate::register_row::RegisterRow;
-use crate::stops::find_stop;
-use s390x_address::emitters::number;
-use s390x_address::memory::general;
-use s390x_base::Reg;
+ghost use Rattle.std.specs.Prelude.{◌≡◌};
+ghost use Rattle.s390x_emit_int.specs.SingleCode.{single_code};
+ghost use Rattle.s390x_typed_steps.specs.SingleInstruction.{single_instruction};
+
+use crate::arithmetic::{
+    allocate_code, compare_halfword_opcode, compare_opcode, compare_signed_word_opcode,
+    compare_unsigned_word_opcode, halfword_opcode, signed_word_opcode, three_halfword_row,
+    three_row, two_opcode, unary_row, unsigned_word_opcode,
+};
+use crate::bits::{
+    half_opcode, pair_code, part_opcode, product_code, reused_low_code, rotated_row, shift_code,
+    tested_row,
+};
+use crate::codes::always;
+use crate::immediates::{
+    bits_of_halfword, bits_of_unsigned, bits_of_unsigned_halfword, bits_of_word,
+};
+use crate::moves::{
+    branch_nowhere, conditional_code, conditional_immediate_row, extend_opcode, indexed_opcode,
+    indexed_row, insert_access, load_access, logical_indexed_opcode, of_four, of_two,
+};
+use crate::shapes::{
+    halfword_row, into_halfword_row, into_row, into_signed_halfword_row, into_signed_word_row,
+    into_word_row, reused_halfword_row, reused_row, reused_word_row, two_row, word_row,
+};
+use crate::stops::{
+    compare_opcode as trap_opcode, compare_signed_opcode as trap_signed_opcode,
+    compare_unsigned_opcode as trap_unsigned_opcode, masked_halfword_row, masked_row,
+    reused_pair_code,
+};
+use s390x_base::{Code, EmitError, Reg};
 use s390x_inst::Inst;
 
-/// Which part of the code knows an instruction's row.
-#[derive(Clone, Copy)]
-pub enum Group {
-    Arithmetic,
-    Bits,
-    Moves,
-    Stops,
-}
-
-/// The machine instruction of an instruction, and whether its registers may stand there: real general ones, and the input that has
-/// to be the output is it.
-#[derive(Clone, Copy)]
-pub struct CheckedRow {
-    pub row: RegisterRow,
-    pub operands_valid: bool,
-}
-
-pub fn same_number(a: &Reg, b: &Reg) -> bool
-    ensures { result ≡ nat_eq (number_of a.now) (number_of b.now) }
-{
-    number(a) == number(b)
-}
-
-// Whether an input that has to be the output is it.
-pub fn is_reused(output: &Reg, input: &Reg) -> bool
-    ensures { result ≡ reuses output.now input.now }
-{
-    general(output) && general(input) && same_number(output, input)
-}
-
-pub fn two_general(a: &Reg, b: &Reg) -> bool
-    ensures { result ≡ is_general a.now && is_general b.now }
-{
-    general(a) && general(b)
-}
-
-pub fn three_general(a: &Reg, b: &Reg, c: &Reg) -> bool
-    ensures { result ≡ is_general a.now && is_general b.now && is_general c.now }
-{
-    general(a) && general(b) && general(c)
-}
-
-// The bits of an immediate.
-pub fn bits_of_halfword(imm: i16) -> u16
-    ensures { result ≡ low_halfword imm }
-{
-    i32::from(imm).rem_euclid(65536) as u16
-}
-
-pub fn bits_of_word(imm: i32) -> u32
-    ensures { result ≡ low_word imm }
-{
-    i64::from(imm).rem_euclid(4294967296) as u32
-}
-
-pub fn bits_of_unsigned(imm: u32) -> u32
-    ensures { result ≡ low_word (pos imm) }
-{
-    imm
-}
-
-pub fn bits_of_unsigned_halfword(imm: u16) -> u16
-    ensures { result ≡ low_halfword (pos imm) }
-{
-    imm
-}
-
-pub fn single_with(operands_valid: bool, row: Option<RegisterRow>) -> Option<CheckedRow>
-    requires { encodes operands_valid row ≡ true }
-    ensures row { option_map single_of result ≡ single_with operands_valid (option_map instruction_of row) }
-    ensures encodes { IfSome result (λ x. encodes x.operands_valid (Some x.row) ≡ true) }
-{
-    match row {
-        Some(row) => Some(CheckedRow {
-            row,
-            operands_valid,
-        }),
-        None => None,
-    }
-}
-
-fn find_group(inst: &Inst) -> Group
-    ensures { result ≡ group_of inst.now }
+/// The code of the one machine instruction of an instruction that is built as one, or `BadRegister` where its registers may not stand there: real general
+/// ones, and the input that has to be the output is it.
+///
+/// What it calls takes references and small values alone, so that little has to be made ready for an instruction that is none of these.
+pub fn find_single_instruction(inst: &Inst) -> Option<Result<Code, EmitError>>
+    ensures { result ≡ single_code (single_instruction inst.now) }
 {
     match inst {
-        Inst::AluRUImm16Shifted { .. }
-        | Inst::AluRUImm32Shifted { .. }
-        | Inst::SMulWide { .. }
-        | Inst::UMulWide { .. }
-        | Inst::Flogr { .. }
-        | Inst::ShiftRR { .. }
-        | Inst::RxSBG { .. }
-        | Inst::RxSBGTest { .. } => Group::Bits,
-        Inst::Mov64 { .. }
-        | Inst::MovPReg { .. }
-        | Inst::Mov32 { .. }
-        | Inst::Mov32Imm { .. }
-        | Inst::Mov32SImm16 { .. }
-        | Inst::Mov64SImm16 { .. }
-        | Inst::Mov64SImm32 { .. }
-        | Inst::Mov64UImm16Shifted { .. }
-        | Inst::Mov64UImm32Shifted { .. }
-        | Inst::Insert64UImm16Shifted { .. }
-        | Inst::Insert64UImm32Shifted { .. }
-        | Inst::CMov32 { .. }
-        | Inst::CMov64 { .. }
-        | Inst::CMov32SImm16 { .. }
-        | Inst::CMov64SImm16 { .. }
-        | Inst::Extend { .. }
-        | Inst::LoadAR { .. }
-        | Inst::InsertAR { .. }
-        | Inst::LoadIndexedAddr { .. }
-        | Inst::LoadLogicalIndexedAddr { .. }
-        | Inst::Fence
-        | Inst::Nop2 => Group::Moves,
-        Inst::SDivMod32 { .. }
-        | Inst::SDivMod64 { .. }
-        | Inst::UDivMod32 { .. }
-        | Inst::UDivMod64 { .. }
-        | Inst::CmpTrapRR { .. }
-        | Inst::CmpTrapRSImm16 { .. }
-        | Inst::CmpTrapRUImm16 { .. } => Group::Stops,
-        _ => Group::Arithmetic,
-    }
-}
-
-/// The one machine instruction of an instruction, where it is one that is built.
-pub fn find_single_instruction(inst: &Inst) -> Option<CheckedRow>
-    ensures row { option_map single_of result ≡ single_instruction inst.now }
-    ensures encodes { IfSome result (λ x. encodes x.operands_valid (Some x.row) ≡ true) }
-{
-    match find_group(inst) {
-        Group::Arithmetic => find_arithmetic(inst),
-        Group::Bits => find_bits(inst),
-        Group::Moves => find_move(inst),
-        Group::Stops => find_stop(inst),
+        Inst::AluRRR { alu_op, rd, rn, rm } => three_row(*alu_op, rd, rn, rm),
+        Inst::AluRR { alu_op, rd, ri, rm } => reused_row(two_opcode(*alu_op), rd, ri, rm),
+        Inst::UnaryRR { op, rd, rn } => unary_row(*op, rd, rn),
+        Inst::CmpRR { op, rn, rm } => two_row(compare_opcode(*op), rn, rm),
+        Inst::AluRRSImm16 {
+            alu_op,
+            rd,
+            rn,
+            imm,
+        } => three_halfword_row(*alu_op, rd, rn, *imm),
+        Inst::AluRSImm16 {
+            alu_op,
+            rd,
+            ri,
+            imm,
+        } => reused_halfword_row(halfword_opcode(*alu_op), rd, ri, bits_of_halfword(*imm)),
+        Inst::AluRSImm32 {
+            alu_op,
+            rd,
+            ri,
+            imm,
+        } => reused_word_row(signed_word_opcode(*alu_op), rd, ri, bits_of_word(*imm)),
+        Inst::AluRUImm32 {
+            alu_op,
+            rd,
+            ri,
+            imm,
+        } => reused_word_row(
+            unsigned_word_opcode(*alu_op),
+            rd,
+            ri,
+            bits_of_unsigned(*imm),
+        ),
+        Inst::CmpRSImm16 { op, rn, imm } => halfword_row(
+            compare_halfword_opcode(*op),
+            rn,
+            bits_of_halfword(*imm),
+        ),
+        Inst::CmpRSImm32 { op, rn, imm } => word_row(
+            compare_signed_word_opcode(*op),
+            rn,
+            bits_of_word(*imm),
+        ),
+        Inst::CmpRUImm32 { op, rn, imm } => word_row(
+            compare_unsigned_word_opcode(*op),
+            rn,
+            bits_of_unsigned(*imm),
+        ),
+        Inst::AllocateArgs { size } => Some(allocate_code(*size)),
+        Inst::AluRUImm16Shifted {
+            alu_op,
+            rd,
+            ri,
+            imm,
+        } => reused_halfword_row(
+            part_opcode(*alu_op, imm.shift),
+            rd,
+            ri,
+            bits_of_unsigned_halfword(imm.bits),
+        ),
+        Inst::AluRUImm32Shifted {
+            alu_op,
+            rd,
+            ri,
+            imm,
+        } => reused_word_row(
+            half_opcode(*alu_op, imm.shift),
+            rd,
+            ri,
+            bits_of_unsigned(imm.bits),
+        ),
+        Inst::ShiftRR {
+            shift_op,
+            rd,
+            rn,
+            shift_imm,
+            shift_reg,
+        } => Some(shift_code(*shift_op, rd, rn, *shift_imm, shift_reg)),
+        Inst::RxSBG {
+            op,
+            rd,
+            ri,
+            rn,
+            start_bit,
+            end_bit,
+            rotate_amt,
+        } => rotated_row(*op, rd, ri, rn, *start_bit, *end_bit, *rotate_amt),
+        Inst::RxSBGTest {
+            op,
+            rd,
+            rn,
+            start_bit,
+            end_bit,
+            rotate_amt,
+        } => tested_row(*op, rd, rn, *start_bit, *end_bit, *rotate_amt),
+        Inst::SMulWide { rd, rn, rm } => Some(product_code(rd, rn, rm)),
+        Inst::UMulWide { rd, ri, rn } => Some(reused_low_code(0xb986, rd, ri, rn)),
+        Inst::Flogr { rd, rn } => Some(pair_code(0xb983, rd, rn)),
+        Inst::Mov64 { rd, rm } => into_row(Some(0xb904), rd, rm),
+        Inst::MovPReg { rd, rm } => into_row(Some(0xb904), rd, &Reg::Real(*rm)),
+        Inst::Mov32 { rd, rm } => into_row(Some(0x18), rd, rm),
+        Inst::Mov32Imm { rd, imm } => into_word_row(always(0xc09), rd, bits_of_unsigned(*imm)),
+        Inst::Mov32SImm16 { rd, imm } => into_signed_halfword_row(always(0xa78), rd, imm),
+        Inst::Mov64SImm16 { rd, imm } => into_signed_halfword_row(always(0xa79), rd, imm),
+        Inst::Mov64SImm32 { rd, imm } => into_signed_word_row(always(0xc01), rd, imm),
+        Inst::Mov64UImm16Shifted { rd, imm } => into_halfword_row(
+            of_four(0xa5f, 0xa5e, 0xa5d, 0xa5c, imm.shift),
+            rd,
+            bits_of_unsigned_halfword(imm.bits),
+        ),
+        Inst::Mov64UImm32Shifted { rd, imm } => into_word_row(
+            of_two(0xc0f, 0xc0e, imm.shift),
+            rd,
+            bits_of_unsigned(imm.bits),
+        ),
+        Inst::Insert64UImm16Shifted { rd, ri, imm } => reused_halfword_row(
+            of_four(0xa53, 0xa52, 0xa51, 0xa50, imm.shift),
+            rd,
+            ri,
+            bits_of_unsigned_halfword(imm.bits),
+        ),
+        Inst::Insert64UImm32Shifted { rd, ri, imm } => reused_word_row(
+            of_two(0xc09, 0xc08, imm.shift),
+            rd,
+            ri,
+            bits_of_unsigned(imm.bits),
+        ),
+        Inst::CMov32 { rd, cond, ri, rm } => Some(conditional_code(0xb9f2, rd, ri, rm, *cond)),
+        Inst::CMov64 { rd, cond, ri, rm } => Some(conditional_code(0xb9e2, rd, ri, rm, *cond)),
+        Inst::CMov32SImm16 { rd, cond, ri, imm } => conditional_immediate_row(
+            0xec42, rd, ri, imm, *cond,
+        ),
+        Inst::CMov64SImm16 { rd, cond, ri, imm } => conditional_immediate_row(
+            0xec46, rd, ri, imm, *cond,
+        ),
+        Inst::Extend {
+            rd,
+            rn,
+            signed,
+            from_bits,
+            to_bits,
+        } => into_row(extend_opcode(*signed, *from_bits, *to_bits), rd, rn),
+        Inst::LoadAR { rd, ar } => Some(load_access(rd, *ar)),
+        Inst::InsertAR { rd, ri, ar } => Some(insert_access(rd, ri, *ar)),
+        Inst::LoadIndexedAddr {
+            rd,
+            base,
+            index,
+            offset,
+            size,
+        } => indexed_row(indexed_opcode(*size), rd, base, index, *offset),
+        Inst::LoadLogicalIndexedAddr {
+            rd,
+            base,
+            index,
+            offset,
+            size,
+        } => indexed_row(logical_indexed_opcode(*size), rd, base, index, *offset),
+        Inst::Fence => Some(branch_nowhere(14, 0)),
+        Inst::Nop2 => Some(branch_nowhere(0, 7)),
+        Inst::SDivMod32 { rd, ri, rn } => Some(reused_low_code(0xb91d, rd, ri, rn)),
+        Inst::SDivMod64 { rd, ri, rn } => Some(reused_low_code(0xb90d, rd, ri, rn)),
+        Inst::UDivMod32 { rd, ri, rn } => Some(reused_pair_code(0xb997, rd, ri, rn)),
+        Inst::UDivMod64 { rd, ri, rn } => Some(reused_pair_code(0xb987, rd, ri, rn)),
+        Inst::CmpTrapRR {
+            op,
+            rn,
+            rm,
+            cond,
+            ..
+        } => masked_row(trap_opcode(*op), rn, rm, *cond),
+        Inst::CmpTrapRSImm16 {
+            op,
+            rn,
+            imm,
+            cond,
+            ..
+        } => masked_halfword_row(trap_signed_opcode(*op), rn, bits_of_halfword(*imm), *cond),
+        Inst::CmpTrapRUImm16 {
+            op,
+            rn,
+            imm,
+            cond,
+            ..
+        } => masked_halfword_row(
+            trap_unsigned_opcode(*op),
+            rn,
+            bits_of_unsigned_halfword(*imm),
+            *cond,
+        ),
+        _ => None,
     }
 }

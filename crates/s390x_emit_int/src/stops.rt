@@ -1,23 +1,20 @@
 //! Divisions and comparisons that trap: one machine instruction each, whose stop has a code.
-ghost use Rattle.std.specs.Prelude.{◌≡◌, ◌&&◌, true, Some, IfSome};
-ghost use Rattle.std.specs.Option.{option_map};
+ghost use Rattle.std.specs.Prelude.{◌≡◌, ◌&&◌, true, Some};
 ghost use Rattle.s390x_base.specs.Regs.{number_of};
-ghost use Rattle.s390x_typed_steps.specs.General.{is_general, reuses_pair, four_bits};
+ghost use Rattle.s390x_typed_steps.specs.General.{is_general, is_even_pair, reuses_pair, four_bits};
 ghost use Rattle.s390x_typed_steps.specs.Opcodes.{cmp_trap, cmp_trap_signed, cmp_trap_unsigned};
-ghost use Rattle.s390x_typed_steps.specs.SingleInstruction.{single_instruction, stop_code, masked_row, masked_halfword_row};
-ghost use Rattle.s390x_emit_int.specs.SingleInstruction.{instruction_of, single_of, group_of, encodes};
-ghost use Rattle.s390x_emit_int.specs.declared.single_instruction.Group.TheVariants.{Stops};
+ghost use Rattle.s390x_emit_int.specs.SingleCode.{code_where, single_code};
+ghost use Rattle.s390x_typed_steps.specs.SingleInstruction.{single_with, stop_code, two_operands, masked_row, masked_halfword_row};
+ghost use Rattle.s390x_emit_int.specs.SingleInstruction.{takes_general};
 
-use crate::bits::{is_even_pair, pair_row};
-use crate::register_row::RegisterRow;
-use crate::single_instruction::{
-    CheckedRow, bits_of_halfword, bits_of_unsigned_halfword, is_reused, single_with, two_general,
-};
+use crate::codes::{masked, masked_halfword, two_operands};
+use crate::registers::{is_even_pair, is_reused_pair, two_general};
 use s390x_address::memory::general;
-use s390x_base::{Cond, Reg, RegPair, TrapCode, WritableRegPair};
+use s390x_base::{Code, Cond, EmitError, Reg, RegPair, TrapCode, WritableRegPair};
 use s390x_inst::{CmpOp, Inst};
 
-fn compare_opcode(op: CmpOp) -> Option<u16>
+/// The opcodes of a comparison that traps, by what its second operand is.
+pub fn compare_opcode(op: CmpOp) -> Option<u16>
     ensures { result ≡ cmp_trap op }
 {
     match op {
@@ -29,7 +26,7 @@ fn compare_opcode(op: CmpOp) -> Option<u16>
     }
 }
 
-fn compare_signed_opcode(op: CmpOp) -> Option<u16>
+pub fn compare_signed_opcode(op: CmpOp) -> Option<u16>
     ensures { result ≡ cmp_trap_signed op }
 {
     match op {
@@ -39,7 +36,7 @@ fn compare_signed_opcode(op: CmpOp) -> Option<u16>
     }
 }
 
-fn compare_unsigned_opcode(op: CmpOp) -> Option<u16>
+pub fn compare_unsigned_opcode(op: CmpOp) -> Option<u16>
     ensures { result ≡ cmp_trap_unsigned op }
 {
     match op {
@@ -49,110 +46,55 @@ fn compare_unsigned_opcode(op: CmpOp) -> Option<u16>
     }
 }
 
-#[tactic(auto, using(crate::proofs::Encoding::two_encode))]
-fn masked_row(opcode: Option<u16>, rn: Reg, rm: Reg, cond: Cond) -> Option<RegisterRow>
-    ensures row { option_map instruction_of result ≡ masked_row opcode (number_of rn) (number_of rm) (four_bits cond) }
-    ensures encodes { encodes (is_general rn && is_general rm) result ≡ true }
+/// A comparison of two registers that traps, where there is a row.
+#[tactic(auto, using(crate::proofs::Encoding::itself))]
+pub fn masked_row(
+    opcode: Option<u16>,
+    rn: &Reg,
+    rm: &Reg,
+    cond: Cond,
+) -> Option<Result<Code, EmitError>>
+    ensures { result ≡ single_code (single_with (is_general rn.now && is_general rm.now) (masked_row opcode (number_of rn.now) (number_of rm.now) (four_bits cond))) }
 {
     match opcode {
-        Some(opcode) => Some(RegisterRow::RrfCde {
-            opcode,
-            r1: rn,
-            r2: rm,
-            mask: cond.bits(),
-        }),
+        Some(opcode) => Some(masked(two_general(rn, rm), opcode, *rn, *rm, cond.bits())),
         None => None,
     }
 }
 
-#[tactic(auto, using(crate::proofs::Encoding::one_encodes))]
-fn masked_halfword_row(opcode: Option<u16>, rn: Reg, imm: u16, cond: Cond) -> Option<RegisterRow>
-    ensures row { option_map instruction_of result ≡ masked_halfword_row opcode (number_of rn) imm (four_bits cond) }
-    ensures encodes { encodes (is_general rn) result ≡ true }
+/// A comparison of a register and an immediate that traps, where there is a row.
+#[tactic(auto, using(crate::proofs::Encoding::itself))]
+pub fn masked_halfword_row(
+    opcode: Option<u16>,
+    rn: &Reg,
+    imm: u16,
+    cond: Cond,
+) -> Option<Result<Code, EmitError>>
+    ensures { result ≡ single_code (single_with (is_general rn.now) (masked_halfword_row opcode (number_of rn.now) imm (four_bits cond))) }
 {
     match opcode {
-        Some(opcode) => Some(RegisterRow::RieA {
-            opcode,
-            r1: rn,
-            imm,
-            mask: cond.bits(),
-        }),
+        Some(opcode) => Some(masked_halfword(general(rn), opcode, *rn, imm, cond.bits())),
         None => None,
     }
 }
 
-// Whether a pair of inputs that has to be that of the outputs is it.
-fn is_reused_pair(output: &WritableRegPair, input: &RegPair) -> bool
-    ensures { result ≡ reuses_pair output.now input.now }
+/// A division of a pair by a register.
+#[tactic(auto, using(crate::proofs::Encoding::even_reused_pair_general))]
+pub fn reused_pair_code(
+    opcode: u16,
+    rd: &WritableRegPair,
+    ri: &RegPair,
+    rn: &Reg,
+) -> Result<Code, EmitError>
+    requires { takes_general (Some opcode) ≡ true }
+    ensures { result ≡ code_where (is_even_pair rd.now.hi rd.now.lo && reuses_pair rd.now ri.now && is_general rn.now) (two_operands opcode (number_of rd.now.hi) (number_of rn.now)) }
 {
-    is_reused(&output.hi.to_reg(), &input.hi) && is_reused(&output.lo.to_reg(), &input.lo)
-}
-
-#[tactic(auto, using(crate::proofs::Encoding::even_reused_encodes, crate::proofs::Encoding::even_reused_pair_encodes))]
-/// The machine instruction of a division or of a comparison that traps.
-pub fn find_stop(inst: &Inst) -> Option<CheckedRow>
-    ensures row { group_of inst.now ≡ Stops → option_map single_of result ≡ single_instruction inst.now }
-    ensures encodes { IfSome result (λ x. encodes x.operands_valid (Some x.row) ≡ true) }
-{
-    match inst {
-        Inst::SDivMod32 { rd, ri, rn } => single_with(
-            is_even_pair(rd) && is_reused(&rd.lo.to_reg(), ri) && general(rn),
-            pair_row(0xb91d, rd.hi.to_reg(), *rn),
-        ),
-        Inst::SDivMod64 { rd, ri, rn } => single_with(
-            is_even_pair(rd) && is_reused(&rd.lo.to_reg(), ri) && general(rn),
-            pair_row(0xb90d, rd.hi.to_reg(), *rn),
-        ),
-        Inst::UDivMod32 { rd, ri, rn } => single_with(
-            is_even_pair(rd) && is_reused_pair(rd, ri) && general(rn),
-            pair_row(0xb997, rd.hi.to_reg(), *rn),
-        ),
-        Inst::UDivMod64 { rd, ri, rn } => single_with(
-            is_even_pair(rd) && is_reused_pair(rd, ri) && general(rn),
-            pair_row(0xb987, rd.hi.to_reg(), *rn),
-        ),
-        Inst::CmpTrapRR {
-            op,
-            rn,
-            rm,
-            cond,
-            ..
-        } => single_with(
-            two_general(rn, rm),
-            masked_row(compare_opcode(*op), *rn, *rm, *cond),
-        ),
-        Inst::CmpTrapRSImm16 {
-            op,
-            rn,
-            imm,
-            cond,
-            ..
-        } => single_with(
-            general(rn),
-            masked_halfword_row(
-                compare_signed_opcode(*op),
-                *rn,
-                bits_of_halfword(*imm),
-                *cond,
-            ),
-        ),
-        Inst::CmpTrapRUImm16 {
-            op,
-            rn,
-            imm,
-            cond,
-            ..
-        } => single_with(
-            general(rn),
-            masked_halfword_row(
-                compare_unsigned_opcode(*op),
-                *rn,
-                bits_of_unsigned_halfword(*imm),
-                *cond,
-            ),
-        ),
-        _ => None,
-    }
+    two_operands(
+        is_even_pair(rd) && is_reused_pair(rd, ri) && general(rn),
+        opcode,
+        rd.hi.to_reg(),
+        *rn,
+    )
 }
 
 /// The code of the stop of a division, or of a comparison that traps.

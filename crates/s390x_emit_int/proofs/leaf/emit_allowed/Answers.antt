@@ -4,11 +4,11 @@ use Rattle.s390x_typed_steps.specs.Causes.{unless, declared_in, memory_cause_or,
 use Rattle.s390x_typed_steps.specs.Memory.{memory}
 use Rattle.s390x_typed_steps.specs.Parts.{row_part}
 use Rattle.s390x_typed_steps.specs.Resolved.{resolved_instruction}
-use Rattle.s390x_emit_int.specs.SingleInstruction.{single_of}
+use Rattle.s390x_typed_steps.specs.SingleInstruction.{single_instruction}
 use Rattle.s390x_emit_int.specs.Fragments.{apply_all}
 use Rattle.s390x_emit_int.specs.Emission.{part_fragments}
 use Rattle.s390x_emit_int.proofs.Answering.{on_ok}
-use Rattle.s390x_emit_int.proofs.Single.{some_fragments, some_other, none_other}
+use Rattle.s390x_emit_int.proofs.Single.{some_single, no_single, some_fragments, some_other, none_other}
 use Rattle.s390x_emit_int.proofs.Leaves.{single_passed}
 use Rattle.s390x_emit_int.proofs.Resolving.{single_resolved, stop_resolved, single_range}
 use Rattle.s390x_emit_int.proofs.leaf.emit_allowed.Goals as goal
@@ -16,35 +16,37 @@ use Rattle.s390x_emit_int.proofs.leaf.emit_allowed.Goals as goal
 pub returns-in-Some-clause-lacks : goal.returns-in-Some-clause-lacks
 returns-in-Some-clause-lacks c = λ flags p.
     let j = resolved_instruction c.args.state.now c.args.inst.now in
-    let row = c.in-Some.ensures.row ∙ sym (single_resolved c.args.state.now c.args.inst.now) in
-    let f = single_passed flags c.args.sink.now c.args.after.0 c.args.state.now.nominal c.args.depth j (single_of c.in-Some.found) row p in
-    c.emit_row.ensures.lacks f.0 f.1
+    let x = some_single c.in-Some.found (single_instruction c.args.inst.now) c.in-Some.ensures in
+    let f = single_passed flags c.args.sink.now c.args.after.0 c.args.state.now.nominal c.args.depth j x.0 (x.1 ∙ sym (single_resolved c.args.state.now c.args.inst.now)) p in
+    c.emit_found.ensures.lacks x.0 x.2 f.0 f.1
 
 pub returns-in-Some-clause-answer : goal.returns-in-Some-clause-answer
 returns-in-Some-clause-answer c =
     let s = c.args.sink.now in
     let i = c.args.inst.now in
-    let x = single_of c.in-Some.found in
+    let found = some_single c.in-Some.found (single_instruction i) c.in-Some.ensures in
+    let x = found.0 in
     let j = resolved_instruction c.args.state.now i in
     let others = memory_cause_or (declared_in s) (memory j) (branch_cause s.block_count c.args.depth i) in
-    let same = some_fragments j x (length s.labels) c.args.after.0 (c.in-Some.ensures.row ∙ sym (single_resolved c.args.state.now i)) in
+    let same = some_fragments j x (length s.labels) c.args.after.0 (found.1 ∙ sym (single_resolved c.args.state.now i)) in
     let code = c.stop_code.ensures ∙ sym (stop_resolved c.args.state.now i) in
-    on_ok c.emit_row.result c.emit_row.ensures.answer (λ e. (
-      some_other others i x c.in-Some.ensures.row ∙ ap (λ t. unless t BadRegister) e.0,
+    on_ok c.emit_found.result (c.emit_found.ensures.answer x found.2) (λ e. (
+      some_other others i x found.1 ∙ ap (λ t. unless t BadRegister) e.0,
       e.1 ∙ ap (λ o. apply_all s (part_fragments (row_part x.row o ∷ []))) code ∙ ap (λ ps. apply_all s ps) (sym same),
     ))
 
 pub returns-in-Some-clause-range : goal.returns-in-Some-clause-range
 returns-in-Some-clause-range c =
     let j = resolved_instruction c.args.state.now c.args.inst.now in
-    on_ok c.emit_row.result c.emit_row.ensures.answer (λ e. single_range j (single_of c.in-Some.found) (c.in-Some.ensures.row ∙ sym (single_resolved c.args.state.now c.args.inst.now)))
+    let x = some_single c.in-Some.found (single_instruction c.args.inst.now) c.in-Some.ensures in
+    on_ok c.emit_found.result (c.emit_found.ensures.answer x.0 x.2) (λ e. single_range j x.0 (x.1 ∙ sym (single_resolved c.args.state.now c.args.inst.now)))
 
 pub returns-in-None-clause-answer : goal.returns-in-None-clause-answer
 returns-in-None-clause-answer c =
     let s = c.args.sink.now in
     let i = c.args.inst.now in
     let others = memory_cause_or (declared_in s) (memory (resolved_instruction c.args.state.now i)) (branch_cause s.block_count c.args.depth i) in
-    on_ok c.emit_other.result c.emit_other.ensures.answer (λ e. (none_other others i c.in-None.ensures.row ∙ e.0, e.1))
+    on_ok c.emit_other.result c.emit_other.ensures.answer (λ e. (none_other others i (no_single (single_instruction i) c.in-None.ensures) ∙ e.0, e.1))
 
 pub returns-in-None-clause-lacks : goal.returns-in-None-clause-lacks
 returns-in-None-clause-lacks c = c.emit_other.ensures.lacks
