@@ -21,7 +21,7 @@ fn is_of(row: MachineRow, bytes: &[u8]) -> bool {
     }
     let n = number_of(&bytes[..count]);
     let parts = layout(row.format);
-    let slots = unpack(parts, 8 * count as u8, n);
+    let slots = unpack(parts, 8 * count as u8, n).slots;
     pack(parts, &slots) == n && slots[0] == u32::from(row.opcode) && allows(row.allowed, &slots)
 }
 
