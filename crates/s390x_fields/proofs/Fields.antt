@@ -33,7 +33,30 @@ use Rattle.s390x_words.proofs.Lists.{IsElement, list-round_trip, list-past, list
 use Rattle.s390x_words.proofs.MemoryRoundTrip.{ap2, memory-round_trip, memory-past, memory-feed}
 use Rattle.s390x_words.proofs.CallsRoundTrip.{target-round_trip, target-one_word, reloc-round_trip, reloc-past, reloc-feed, arg-element, ret-element, use-element, label-element, real-element, result-element, dash, try-round_trip, try-after, try-feed}
 use Rattle.s390x_words.proofs.BytesRoundTrip.{bytes-round_trip, bytes-one_word, value-round_trip, value-one_word, facilities-round_trip, facilities-feed}
-use Rattle.s390x_words.proofs.OperatorsRoundTrip.{alu-round_trip, alu-one_word, cmp-round_trip, cmp-one_word, shift-round_trip, shift-one_word, rxsbg-round_trip, rxsbg-one_word, unary-round_trip, unary-one_word, vec_binary-round_trip, vec_binary-one_word, vec_unary-round_trip, vec_unary-one_word, vec_shift-round_trip, vec_shift-one_word, vec_compare-round_trip, vec_compare-one_word, vec_element_compare-round_trip, vec_element_compare-one_word, convention-round_trip, convention-one_word}
+use Rattle.s390x_words.proofs.OperatorsRoundTrip.{
+  alu-round_trip,
+  alu-one_word,
+  cmp-round_trip,
+  cmp-one_word,
+  shift-round_trip,
+  shift-one_word,
+  rxsbg-round_trip,
+  rxsbg-one_word,
+  unary-round_trip,
+  unary-one_word,
+  vec_binary-round_trip,
+  vec_binary-one_word,
+  vec_unary-round_trip,
+  vec_unary-one_word,
+  vec_shift-round_trip,
+  vec_shift-one_word,
+  vec_compare-round_trip,
+  vec_compare-one_word,
+  vec_element_compare-round_trip,
+  vec_element_compare-one_word,
+  convention-round_trip,
+  convention-one_word,
+}
 use Rattle.s390x_words.proofs.Registers.{all_registers}
 
 -- facilities take all that is left of a line

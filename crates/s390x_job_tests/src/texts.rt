@@ -11,7 +11,27 @@ const TEXTS: [&str; 6] = [
     "flags mie3 vxrs_ext2\nframe Tail 1 2 3 4 5 6 7 8\nconst 8 0102\nconst 4 -\nsymbol u1 5\nsymbol u2 18446744073709551615\nreg %r3 5\nreg %v31 000102030405060708090a0b0c0d0e0f\nmem 0 ff\nmem 1 00\nblock\nblock\nend\n",
     "block\nLoop 4\nAluRRR Add32 %r4 %r2 %r3\nAtomicCas32 %r2 %r2 %r4 RegOffset(%r5,0,a)\nendloop\nRet %r14\nend\n",
     "block\nCall %r14 u1 [%i0=%r2,%x1=%v0] [%r2=%r2:I64,%r3=@-8:F32] [%r0,%r1,%v31] 32 Tail SystemV 3[7:1,*:2] true 9\nCall %r14 %r5 [] [] [] 0 Fast SystemV - false -\nReturnCall u1 [] 0\nArgs [%i0=%r2]\nRets [%i0=%r2,%i1=%r3]\nLoadSymbolReloc %r2 Absolute(u1,-5)\nJTSequence %r2 1 2 [1,2]\nIndirectBr %r1 []\nend\n",
-    "block\nLoad64 %r2 BXD12(%r3,%r0,4095,u!heap_oob)\nLoad64 %r2 BXD20(%r3,%i5,-524288,a!user250)\nLoad64 %r2 Label(1)\nLoad64 %r2 Constant(0)\nLoad64 %r2 Symbol(u1,-1,u)\nLoad64 %r2 InitialSPOffset(-8)\nLoad64 %r2 IncomingArgOffset(8)\nLoad64 %r2 OutgoingArgOffset(8)\nLoad64 %r2 SlotOffset(8)\nLoad64 %r2 SpillOffset(9223372036854775807)\nSMulWide %r2/%r3 %r4 %r5\nMov64UImm16Shifted %r2 65535:3\nExtend %r2 %r3 false 1 64\nRxSBG Insert %r2 %r2 %r3 0 63 -128\nLoadIndexedAddr %r2 %r3 %r4 -524288 4\nTrap int_divz\nMovPReg %r2 %v31\nFence\nend\n",
+    "block
+Load64 %r2 BXD12(%r3,%r0,4095,u!heap_oob)
+Load64 %r2 BXD20(%r3,%i5,-524288,a!user250)
+Load64 %r2 Label(1)
+Load64 %r2 Constant(0)
+Load64 %r2 Symbol(u1,-1,u)
+Load64 %r2 InitialSPOffset(-8)
+Load64 %r2 IncomingArgOffset(8)
+Load64 %r2 OutgoingArgOffset(8)
+Load64 %r2 SlotOffset(8)
+Load64 %r2 SpillOffset(9223372036854775807)
+SMulWide %r2/%r3 %r4 %r5
+Mov64UImm16Shifted %r2 65535:3
+Extend %r2 %r3 false 1 64
+RxSBG Insert %r2 %r2 %r3 0 63 -128
+LoadIndexedAddr %r2 %r3 %r4 -524288 4
+Trap int_divz
+MovPReg %r2 %v31
+Fence
+end
+",
 ];
 
 #[test]

@@ -190,7 +190,8 @@ read (N.Memory MemoryIs.AtomicCas64) (FReg rd ∷ FReg ri ∷ FReg rn ∷ FMemor
 read (N.Control ControlIs.IndirectBr) (FReg rn ∷ FLabels targets ∷ []) = Branches rn targets
 read (N.Control ControlIs.JTSequence) (FReg index ∷ FNatural w other ∷ FCond mask ∷ FLabels targets ∷ []) = Table index (label_of other) mask targets
 read N.Loop (FCond mask ∷ []) = LoopOf mask
-read (N.Control ControlIs.Call) (FReg link ∷ FTarget dest ∷ FUses uses ∷ FDefs defs ∷ FSet clobbers ∷ FNatural v size ∷ FConvention caller ∷ FConvention callee ∷ FTry handlers ∷ FBool patchable ∷ FOption w map ∷ []) = Calls (record { link = link; dest = dest; uses = uses; defs = defs; clobbers = clobbers; callee_pop_size = size; caller_conv = caller; callee_conv = callee; try_call_info = handlers; patchable = patchable; stack_map = map })
+read (N.Control ControlIs.Call) (FReg link ∷ FTarget dest ∷ FUses uses ∷ FDefs defs ∷ FSet clobbers ∷ FNatural v size ∷ FConvention caller ∷ FConvention callee ∷ FTry handlers ∷ FBool patchable ∷ FOption w map ∷ [])
+    = Calls (record { link = link; dest = dest; uses = uses; defs = defs; clobbers = clobbers; callee_pop_size = size; caller_conv = caller; callee_conv = callee; try_call_info = handlers; patchable = patchable; stack_map = map })
 read (N.Control ControlIs.ReturnCall) (FTarget dest ∷ FUses uses ∷ FNatural w size ∷ []) = TailCalls dest uses size
 read (N.Control ControlIs.Args) (FArgs args ∷ []) = Arguments args
 read (N.Control ControlIs.Rets) (FRets rets ∷ []) = Results rets

@@ -27,7 +27,44 @@ use Rattle.s390x_words.specs.Numbers.{natural_of, integer_of, W32, S64}
 use Rattle.s390x_words.specs.Operators.{type_text}
 use Rattle.s390x_words.specs.Atoms.{real_text, real_register_of, reg_text, reg_of, IsReg, name_of}
 use Rattle.s390x_words.specs.Lists.{list_text}
-use Rattle.s390x_words.specs.Calls.{target_text, IsCallTarget, call_target_of, reloc_text, IsReloc, reloc_of, pair_text, location_text, result_text, IsLocation, IsResult, value_type_of, location_of, call_result_of, handler_text, IsHandler, handler_of, TryPart, NoTry, Goes, try_text, IsTry, try_of, after_try, arg_text, IsArg, arg_of, ret_text, IsRet, ret_of, use_text, IsUse, use_of, label_text, IsLabel, label_of}
+use Rattle.s390x_words.specs.Calls.{
+  target_text,
+  IsCallTarget,
+  call_target_of,
+  reloc_text,
+  IsReloc,
+  reloc_of,
+  pair_text,
+  location_text,
+  result_text,
+  IsLocation,
+  IsResult,
+  value_type_of,
+  location_of,
+  call_result_of,
+  handler_text,
+  IsHandler,
+  handler_of,
+  TryPart,
+  NoTry,
+  Goes,
+  try_text,
+  IsTry,
+  try_of,
+  after_try,
+  arg_text,
+  IsArg,
+  arg_of,
+  ret_text,
+  IsRet,
+  ret_of,
+  use_text,
+  IsUse,
+  use_of,
+  label_text,
+  IsLabel,
+  label_of,
+}
 use Rattle.s390x_words.proofs.Avoids.{Avoids, Avoids-test, Avoids-append, Avoids-fewer, marks, IsOneWord, Ends, word-is, after-is, past-is}
 use Rattle.s390x_words.proofs.Digits.{decimal-one_word, decimal-digits, signed-one_word, natural-round_trip, integer-round_trip, no_digits}
 use Rattle.s390x_words.proofs.AtomsRoundTrip.{real-round_trip, real-one_word, reg-round_trip, reg-one_word, name-round_trip, name-one_word}
