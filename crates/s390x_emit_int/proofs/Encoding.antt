@@ -25,7 +25,7 @@ use Rattle.s390x_base.specs.Regs.{is_pair}
 use Rattle.s390x_typed_steps.specs.General.{is_general, is_even_pair, reuses, reuses_pair}
 use Rattle.s390x_typed_steps.specs.MachineInstruction.{MachineInstruction}
 use Rattle.s390x_typed_steps.specs.Opcodes.{alu_two, cmp_two, unary_two}
-use Rattle.s390x_emit_int.specs.SingleCode.{code_where}
+use Rattle.s390x_typed_steps.specs.SingleCode.{code_where}
 use Rattle.s390x_emit_int.specs.SingleInstruction.{implies, takes_general}
 
 -- a test with a weaker one behind it

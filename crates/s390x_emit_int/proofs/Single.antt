@@ -6,7 +6,7 @@ use Rattle.s390x_base.specs.declared.error.EmitError.{EmitError}
 use Rattle.s390x_base.specs.declared.error.EmitError.TheVariants.{BadRegister}
 use Rattle.s390x_inst.specs.declared.inst.Inst.{Inst}
 use Rattle.s390x_inst.specs.declared.inst.Inst.TheVariants.{CondBreak, JTSequence}
-use Rattle.s390x_emit_int.specs.SingleCode.{code_where, single_code}
+use Rattle.s390x_typed_steps.specs.SingleCode.{code_where, single_code}
 use Rattle.s390x_typed_steps.specs.SingleInstruction.{SingleInstruction, single_instruction, stop_code}
 use Rattle.s390x_typed_steps.specs.MachineInstruction.{MachineInstruction, bytes_of, size_of}
 use Rattle.s390x_typed_steps.specs.Parts.{CodePart, branch_parts, memory_parts, row_part, parts_or, memory_or, parts_size}

@@ -5,7 +5,7 @@ ghost use Rattle.s390x_base.specs.Regs.{number_of};
 ghost use Rattle.s390x_typed_steps.specs.General.{is_general, low_halfword};
 ghost use Rattle.s390x_typed_steps.specs.MachineInstruction.{rrf_cde};
 ghost use Rattle.s390x_typed_steps.specs.Opcodes.{alu_three, alu_two, cmp_two, unary_two, alu_halfword, alu_three_halfword, alu_signed_word, alu_unsigned_word, cmp_halfword, cmp_signed_word, cmp_unsigned_word};
-ghost use Rattle.s390x_emit_int.specs.SingleCode.{code_where, single_code};
+ghost use Rattle.s390x_typed_steps.specs.SingleCode.{code_where, single_code};
 ghost use Rattle.s390x_typed_steps.specs.SingleInstruction.{single_with, unary_row, three_row, three_halfword_row, allocate_row};
 ghost use Rattle.s390x_emit_int.specs.SingleInstruction.{opcode_of, takes_general};
 

@@ -5,7 +5,7 @@ ghost use Rattle.s390x_base.specs.Regs.{number_of};
 ghost use Rattle.s390x_typed_steps.specs.General.{is_general, is_even_pair, reuses, rotation, low_byte};
 ghost use Rattle.s390x_typed_steps.specs.MachineInstruction.{rrf_ab, rsy};
 ghost use Rattle.s390x_typed_steps.specs.Opcodes.{of_one, alu_part, alu_half, shift_opcode, rotate_then, rotate_then_test};
-ghost use Rattle.s390x_emit_int.specs.SingleCode.{code_where, single_code};
+ghost use Rattle.s390x_typed_steps.specs.SingleCode.{code_where, single_code};
 ghost use Rattle.s390x_typed_steps.specs.SingleInstruction.{single_with, two_operands, rotated_row};
 ghost use Rattle.s390x_emit_int.specs.SingleInstruction.{opcode_of, takes_general};
 

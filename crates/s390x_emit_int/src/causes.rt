@@ -4,7 +4,7 @@ ghost use Rattle.s390x_base.specs.declared.error.EmitError.TheVariants.{BadRegis
 ghost use Rattle.s390x_typed_steps.specs.Causes.{first_emit_cause, unless, declared_in, target_label_cause, labels_cause, cause_or, memory_cause_or, branch_cause, facility_cause, instruction_cause, instruction_fresh_labels, numbers_cause, stack_cause, table_cause};
 ghost use Rattle.s390x_typed_steps.specs.Memory.{memory};
 ghost use Rattle.s390x_typed_steps.specs.Resolved.{resolved_instruction};
-ghost use Rattle.s390x_emit_int.specs.SingleCode.{code_where};
+ghost use Rattle.s390x_typed_steps.specs.SingleCode.{code_where};
 ghost use Rattle.s390x_typed_steps.specs.SingleInstruction.{SingleInstruction, single_instruction};
 ghost use Rattle.s390x_typed_steps.specs.General.{is_general, is_nonzero, is_scratch};
 

@@ -5,7 +5,7 @@ ghost use Rattle.s390x_inst.specs.declared.state.IsaFlags.{IsaFlags};
 ghost use Rattle.s390x_typed_steps.specs.MachineInstruction.{size_of};
 ghost use Rattle.s390x_typed_steps.specs.Memory.{memory};
 ghost use Rattle.s390x_typed_steps.specs.Resolved.{resolved_instruction};
-ghost use Rattle.s390x_emit_int.specs.SingleCode.{code_where};
+ghost use Rattle.s390x_typed_steps.specs.SingleCode.{code_where};
 ghost use Rattle.s390x_typed_steps.specs.SingleInstruction.{SingleInstruction};
 ghost use Rattle.s390x_typed_steps.specs.Tree.{empty, prepend, tree};
 ghost use Rattle.s390x_typed_steps.specs.Sizes.{instruction_size, tree_size};

@@ -1,12 +1,12 @@
 //! The codes of machine instructions on general registers and immediates, by their formats: each where its registers may stand there.
-#![tactic(auto, unfolding(crate::specs::SingleCode::code_where))]
+#![tactic(auto, unfolding(s390x_typed_steps::specs::SingleCode::code_where))]
 
 ghost use Rattle.std.specs.Prelude.{◌≡◌, ◌<◌, ◌&&◌, true, Some};
 ghost use Rattle.std.specs.Option.{option_map};
 ghost use Rattle.s390x_base.specs.Regs.{number_of};
 ghost use Rattle.s390x_typed_steps.specs.General.{is_general, four_bits, low_displacement};
 ghost use Rattle.s390x_typed_steps.specs.MachineInstruction.{rrf_ab, ri_a, rie_a, rie_d, rrf_cde, rie_f, rie_g, ril_a, rsy, rxy};
-ghost use Rattle.s390x_emit_int.specs.SingleCode.{code_where};
+ghost use Rattle.s390x_typed_steps.specs.SingleCode.{code_where};
 ghost use Rattle.s390x_typed_steps.specs.SingleInstruction.{two_operands};
 ghost use Rattle.s390x_emit_int.specs.SingleInstruction.{opcode_of, takes_general, implies};
 

@@ -18,7 +18,7 @@ ghost use Rattle.s390x_emit_int.specs.Emission.{branch, part_fragments, branch_f
 ghost use Rattle.s390x_emit_int.specs.Room.{Passed, MembersPassed, LacksMemory, HasRoom};
 ghost use Rattle.s390x_buffer.specs.declared.label_use.LabelUse.TheVariants.{BranchRIL};
 ghost use Rattle.s390x_typed_steps.specs.Ranges.{InRange, MaskInRange, OperandInRange, IsConditionMask};
-ghost use Rattle.s390x_emit_int.specs.SingleCode.{code_where};
+ghost use Rattle.s390x_typed_steps.specs.SingleCode.{code_where};
 ghost use Rattle.s390x_typed_steps.specs.SingleInstruction.{SingleInstruction, single_instruction};
 ghost use Rattle.s390x_typed_steps.specs.Operands.{resolved};
 ghost use Rattle.s390x_typed_steps.specs.Resolved.{resolved_instruction};

@@ -5,7 +5,7 @@ ghost use Rattle.s390x_base.specs.Regs.{number_of};
 ghost use Rattle.s390x_typed_steps.specs.General.{is_general, is_access, reuses, four_bits, low_halfword, low_displacement};
 ghost use Rattle.s390x_typed_steps.specs.MachineInstruction.{rr, rrf_cde, rie_g};
 ghost use Rattle.s390x_typed_steps.specs.Opcodes.{of_two, of_four, extend_to_word, extend_to_doubleword, extend_two, indexed_opcode, logical_indexed_opcode};
-ghost use Rattle.s390x_emit_int.specs.SingleCode.{code_where, single_code};
+ghost use Rattle.s390x_typed_steps.specs.SingleCode.{code_where, single_code};
 ghost use Rattle.s390x_typed_steps.specs.SingleInstruction.{single_with, two_operands, indexed_row};
 ghost use Rattle.s390x_emit_int.specs.SingleInstruction.{opcode_of, takes_general, implies};
 

@@ -1,8 +1,8 @@
-//! Instructions that are one machine instruction on general registers and immediates.
+//! Instructions that are one machine instruction on registers and immediates.
 #![tactic(auto, using(crate::proofs::Encoding::alu_two_general, crate::proofs::Encoding::cmp_two_general))]
 
 ghost use Rattle.std.specs.Prelude.{◌≡◌};
-ghost use Rattle.s390x_emit_int.specs.SingleCode.{single_code};
+ghost use Rattle.s390x_typed_steps.specs.SingleCode.{single_code};
 ghost use Rattle.s390x_typed_steps.specs.SingleInstruction.{single_instruction};
 
 use crate::arithmetic::{
@@ -32,6 +32,7 @@ use crate::stops::{
     reused_pair_code,
 };
 use s390x_base::{Code, EmitError, Reg};
+use s390x_emit_vec::find_vector;
 use s390x_inst::Inst;
 
 /// The code of the one machine instruction of an instruction that is built as one, or `BadRegister` where its registers may not stand there: real general
@@ -232,6 +233,7 @@ pub fn find_single_instruction(inst: &Inst) -> Option<Result<Code, EmitError>>
             bits_of_unsigned_halfword(*imm),
             *cond,
         ),
+        Inst::Vector(inst) => find_vector(inst),
         _ => None,
     }
 }

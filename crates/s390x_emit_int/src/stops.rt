@@ -3,7 +3,7 @@ ghost use Rattle.std.specs.Prelude.{◌≡◌, ◌&&◌, true, Some};
 ghost use Rattle.s390x_base.specs.Regs.{number_of};
 ghost use Rattle.s390x_typed_steps.specs.General.{is_general, is_even_pair, reuses_pair, four_bits};
 ghost use Rattle.s390x_typed_steps.specs.Opcodes.{cmp_trap, cmp_trap_signed, cmp_trap_unsigned};
-ghost use Rattle.s390x_emit_int.specs.SingleCode.{code_where, single_code};
+ghost use Rattle.s390x_typed_steps.specs.SingleCode.{code_where, single_code};
 ghost use Rattle.s390x_typed_steps.specs.SingleInstruction.{single_with, stop_code, two_operands, masked_row, masked_halfword_row};
 ghost use Rattle.s390x_emit_int.specs.SingleInstruction.{takes_general};
 
@@ -11,6 +11,7 @@ use crate::codes::{masked, masked_halfword, two_operands};
 use crate::registers::{is_even_pair, is_reused_pair, two_general};
 use s390x_address::memory::general;
 use s390x_base::{Code, Cond, EmitError, Reg, RegPair, TrapCode, WritableRegPair};
+use s390x_emit_vec::stop_of;
 use s390x_inst::{CmpOp, Inst};
 
 /// The opcodes of a comparison that traps, by what its second operand is.
@@ -109,6 +110,7 @@ pub fn stop_code(inst: &Inst) -> Option<TrapCode>
         Inst::CmpTrapRR { trap_code, .. }
         | Inst::CmpTrapRSImm16 { trap_code, .. }
         | Inst::CmpTrapRUImm16 { trap_code, .. } => Some(*trap_code),
+        Inst::Vector(inst) => stop_of(inst),
         _ => None,
     }
 }

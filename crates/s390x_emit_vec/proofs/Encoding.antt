@@ -1,15 +1,15 @@
 -- Where the registers of an instruction are vector ones, its row can be encoded.
-use Rattle.std.proofs.Common.{◌≡◌, ℕ, Bool, true, false, not, ◌&&◌, List, refl, ap}
+use Rattle.std.proofs.Common.{◌≡◌, ℕ, Bool, true, false, cond, nat_lt, not, ◌&&◌, List, refl, ap, ◌∙◌}
 use Rattle.std.proofs.Common.{Result, Ok, Err, MatchResult}
 use Rattle.std.proofs.lemmas.Bool.{and_parts, and_from}
-use Rattle.s390x_base.specs.Regs.{is_int}
+use Rattle.s390x_base.specs.Regs.{is_int, number_of}
 use Rattle.s390x_base.specs.declared.error.EmitError.{EmitError}
 use Rattle.s390x_base.specs.declared.error.EmitError.TheVariants.{BadRegister}
 use Rattle.s390x_base.specs.declared.regs.RegClass.{RegClass}
 use Rattle.s390x_base.specs.declared.regs.RegClass.TheVariants.{Int, Float}
 use Rattle.s390x_base.specs.declared.regs.Reg.{Reg}
 use Rattle.s390x_base.specs.declared.regs.Reg.TheVariants.{Real, Virtual}
-use Rattle.s390x_enc.specs.Operands.{is_float_class, is_int_class, is_vector as encodes_vector, is_general_class as encodes_general}
+use Rattle.s390x_enc.specs.Operands.{is_float, is_first_float, is_second_float, may_stand_first, may_stand_second, is_float_class, is_int_class, is_vector as encodes_vector, is_general_class as encodes_general}
 use Rattle.s390x_format.specs.declared.kind.FormatKind.{FormatKind}
 use Rattle.s390x_format.specs.Encoded.{IsCode}
 use Rattle.s390x_typed_steps.specs.SingleCode.{code_where}
@@ -18,6 +18,7 @@ use Rattle.s390x_typed_steps.specs.VectorInstruction.{is_vector}
 
 -- the answer of an encoding call whose registers may stand there
 pub encoded : (valid ok : Bool) (kind : FormatKind) (slots : List ℕ) (r : Result (List ℕ) EmitError) → MatchResult r (λ code. (ok ≡ true) × IsCode kind slots code) (λ e. (e ≡ BadRegister) × (ok ≡ false)) → valid ≡ true → ok ≡ true → r ≡ code_where valid (record { format = kind; slots = slots })
+unfolding code_where
 encoded valid ok kind slots (Ok code) m v h = rw v (ap Ok m.1.bytes_are)
 encoded valid ok kind slots (Err e) m v h = let n = m.1 in absurd (cc)
 
@@ -61,3 +62,16 @@ join_encodes a b c h =
     let p = and_parts (is_vector a && is_general b) (is_general c) h in
     let q = and_parts (is_vector a) (is_general b) p.0 in
     and_from (encodes_vector a && encodes_general b) (encodes_general c) (and_from (encodes_vector a) (encodes_general b) (vector_encodes a q.0) (general_encodes b q.1)) (general_encodes c p.1)
+
+float_encodes : (r : Reg) → is_vector r ≡ true → nat_lt (number_of r) 16 ≡ true → is_float r ≡ true
+float_encodes (Real r) h low = and_from (is_float_class r.class) (nat_lt r.number 16) (class_encodes r.class _ h) low
+float_encodes (Virtual num class) h low = absurd (cc)
+
+-- float registers, as the encoding call tests them
+pub floats_encode : (opcode : ℕ) (a b : Reg) → is_first_float opcode ≡ true → is_second_float opcode ≡ true → (nat_lt (number_of a) 16 && nat_lt (number_of b) 16) ≡ true → (is_vector a && is_vector b) ≡ true → (may_stand_first opcode a && may_stand_second opcode b) ≡ true
+floats_encode opcode a b first second low h =
+    let p = and_parts (is_vector a) (is_vector b) h in
+    let l = and_parts (nat_lt (number_of a) 16) (nat_lt (number_of b) 16) low in
+    and_from (may_stand_first opcode a) (may_stand_second opcode b)
+    (ap (λ t. cond t (is_float a) (encodes_general a)) first ∙ float_encodes a p.0 l.0)
+    (ap (λ t. cond t (is_float b) (encodes_general b)) second ∙ float_encodes b p.1 l.1)

@@ -1,15 +1,18 @@
 //! The codes of machine instructions on vectors, by their formats: each where its registers may stand there.
-ghost use Rattle.std.specs.Prelude.{◌≡◌, ◌<◌, ◌&&◌};
+#![tactic(auto, unfolding(s390x_typed_steps::specs::SingleCode::code_where))]
+
+ghost use Rattle.std.specs.Prelude.{◌≡◌, ◌<◌, ◌&&◌, true, nat_lt};
 ghost use Rattle.s390x_base.specs.Regs.{number_of};
-ghost use Rattle.s390x_typed_steps.specs.MachineInstruction.{vri_a, vri_k, vrr_a, vrr_b, vrr_c, vrr_d, vrr_e, vrr_f, vrs_a};
+ghost use Rattle.s390x_enc.specs.Operands.{is_first_float, is_second_float};
+ghost use Rattle.s390x_typed_steps.specs.MachineInstruction.{rr, vri_a, vri_b, vri_c, vri_k, vrr_a, vrr_b, vrr_c, vrr_d, vrr_e, vrr_f, vrs_a};
 ghost use Rattle.s390x_typed_steps.specs.SingleCode.{code_where};
 ghost use Rattle.s390x_typed_steps.specs.General.{is_general};
-ghost use Rattle.s390x_typed_steps.specs.VectorInstruction.{is_vector};
+ghost use Rattle.s390x_typed_steps.specs.VectorInstruction.{is_vector, move_left_row};
 
 use s390x_base::{Code, EmitError, Reg, RegClass};
 use s390x_enc::{
-    enc_vri_a, enc_vri_k, enc_vrr_a, enc_vrr_b, enc_vrr_c, enc_vrr_d, enc_vrr_e, enc_vrr_f,
-    enc_vrs_a,
+    enc_rr, enc_vri_a, enc_vri_b, enc_vri_c, enc_vri_k, enc_vrr_a, enc_vrr_b, enc_vrr_c, enc_vrr_d,
+    enc_vrr_e, enc_vrr_f, enc_vrs_a,
 };
 use s390x_typed_steps::VectorOpcode;
 
@@ -20,6 +23,16 @@ fn vector(r: &Reg) -> bool
     match r {
         Reg::Real(preg) => preg.class() == RegClass::Float && preg.hw_enc() < 32,
         Reg::Virtual { .. } => false,
+    }
+}
+
+// The number, of a virtual register too.
+fn number(r: &Reg) -> u32
+    ensures { result ≡ number_of r.now }
+{
+    match r {
+        Reg::Real(preg) => u32::from(preg.hw_enc()),
+        Reg::Virtual { num, .. } => *num,
     }
 }
 
@@ -187,5 +200,72 @@ pub fn immediate_vector(row: VectorOpcode, v1: Reg, bits: u16) -> Result<Code, E
         enc_vri_a(row.opcode, v1, bits, row.code)
     } else {
         Err(EmitError::BadRegister)
+    }
+}
+
+/// Two vector registers, the number of an element, and the code of the elements' size.
+pub fn replicated_lane(code: u8, v1: Reg, v3: Reg, lane: u16) -> Result<Code, EmitError>
+    requires { code < 16 }
+    ensures { result ≡ code_where (is_vector v1 && is_vector v3) (vri_c 0xe74d (number_of v1) (number_of v3) lane code) }
+{
+    let valid = two_valid(&v1, &v3);
+    if valid {
+        enc_vri_c(0xe74d, v1, lane, v3, code)
+    } else {
+        Err(EmitError::BadRegister)
+    }
+}
+
+/// A vector register, the numbers of two bits, and the code of the elements' size.
+pub fn bit_mask(code: u8, v1: Reg, start: u8, end: u8) -> Result<Code, EmitError>
+    requires { code < 16 }
+    ensures { result ≡ code_where (is_vector v1) (vri_b 0xe746 (number_of v1) start end code) }
+{
+    let valid = vector(&v1);
+    if valid {
+        enc_vri_b(0xe746, v1, start, end, code)
+    } else {
+        Err(EmitError::BadRegister)
+    }
+}
+
+fn both_low(a: &Reg, b: &Reg) -> bool
+    ensures { result ≡ nat_lt (number_of a.now) 16 && nat_lt (number_of b.now) 16 }
+{
+    number(a) < 16 && number(b) < 16
+}
+
+// Two float registers.
+fn moved_float(opcode: u16, v1: Reg, v2: Reg) -> Result<Code, EmitError>
+    requires short { opcode < 256 }
+    requires first { is_first_float opcode ≡ true }
+    requires second { is_second_float opcode ≡ true }
+    requires low { (nat_lt (number_of v1) 16 && nat_lt (number_of v2) 16) ≡ true }
+    ensures { result ≡ code_where (is_vector v1 && is_vector v2) (rr opcode (number_of v1) (number_of v2)) }
+{
+    let valid = two_valid(&v1, &v2);
+    if valid {
+        enc_rr(opcode, v1, v2)
+    } else {
+        Err(EmitError::BadRegister)
+    }
+}
+
+/// A move of the leftmost bits: of two float registers where both are such, else of whole vectors.
+pub fn moved_left(opcode: u16, v1: Reg, v2: Reg) -> Result<Code, EmitError>
+    requires short { opcode < 256 }
+    requires first { is_first_float opcode ≡ true }
+    requires second { is_second_float opcode ≡ true }
+    ensures { result ≡ code_where (is_vector v1 && is_vector v2) (move_left_row opcode (number_of v1) (number_of v2)) }
+{
+    let low = both_low(&v1, &v2);
+    if low {
+        moved_float(opcode, v1, v2)
+    } else {
+        let row = VectorOpcode {
+            opcode: 0xe756,
+            code: 0,
+        };
+        two_vectors(row, v1, v2)
     }
 }

@@ -4,11 +4,11 @@ ghost use Rattle.s390x_base.specs.Regs.{number_of};
 ghost use Rattle.s390x_typed_steps.specs.General.{low_halfword, low_byte};
 ghost use Rattle.s390x_typed_steps.specs.SingleCode.{single_code};
 ghost use Rattle.s390x_typed_steps.specs.SingleInstruction.{single_with};
-ghost use Rattle.s390x_typed_steps.specs.VectorInstruction.{is_vector, element_code, doublewords_row, replicate_row, vector_row, vector_operands_valid, vector_stop};
+ghost use Rattle.s390x_typed_steps.specs.VectorInstruction.{is_lane, replicate_lane_row, bit_mask_row, is_vector, element_code, doublewords_row, replicate_row, vector_row, vector_operands_valid, vector_stop};
 
 use crate::codes::{
-    blended_vectors, compared_vectors, evaluated_vectors, four_vectors, immediate_vector,
-    joined_registers, shifted_vector, three_vectors, two_vectors,
+    bit_mask, blended_vectors, compared_vectors, evaluated_vectors, four_vectors, immediate_vector,
+    joined_registers, moved_left, replicated_lane, shifted_vector, three_vectors, two_vectors,
 };
 use crate::opcodes::{
     binary_row, comparison_row, element_comparison_row, is_division, shift_row, unary_row,
@@ -82,6 +82,51 @@ fn replicated(size: u32, v1: Reg, imm: i16) -> Option<Result<Code, EmitError>>
                 code,
             };
             Some(immediate_vector(row, v1, bits_of(imm)))
+        }
+        None => None,
+    }
+}
+
+// The number is one of an element of so many bits.
+fn is_lane(size: u32, lane: u8) -> bool
+    ensures { result ≡ is_lane size lane }
+{
+    u64::from(lane) * u64::from(size) < 128
+}
+
+fn bits_of_lane(lane: u8) -> u16
+    ensures { result ≡ lane }
+{
+    u16::from(lane)
+}
+
+// One element for all.
+fn replicated_lane_of(size: u32, v1: Reg, v3: Reg, lane: u8) -> Option<Result<Code, EmitError>>
+    ensures { result ≡ single_code (single_with (is_vector v1 && is_vector v3) (replicate_lane_row (element_code size) size (number_of v1) (number_of v3) lane)) }
+{
+    match element_code(size) {
+        Some(code) => {
+            if is_lane(size, lane) {
+                Some(replicated_lane(code, v1, v3, bits_of_lane(lane)))
+            } else {
+                None
+            }
+        }
+        None => None,
+    }
+}
+
+// Ones from a bit to another one in each element.
+fn bit_mask_of(size: u32, v1: Reg, start: u8, end: u8) -> Option<Result<Code, EmitError>>
+    ensures { result ≡ single_code (single_with (is_vector v1) (bit_mask_row (element_code size) size (number_of v1) start end)) }
+{
+    match element_code(size) {
+        Some(code) => {
+            if u32::from(start) < size && u32::from(end) < size {
+                Some(bit_mask(code, v1, start, end))
+            } else {
+                None
+            }
         }
         None => None,
     }
@@ -164,6 +209,20 @@ pub fn find_vector(inst: &VecInst) -> Option<Result<Code, EmitError>>
             Some(immediate_vector(row, rd.to_reg(), bits_of_mask(*mask)))
         }
         VecInst::VecImmReplicate { size, rd, imm } => replicated(*size, rd.to_reg(), *imm),
+        VecInst::VecImmBitMask {
+            size,
+            rd,
+            start_bit,
+            end_bit,
+        } => bit_mask_of(*size, rd.to_reg(), *start_bit, *end_bit),
+        VecInst::VecReplicateLane {
+            size,
+            rd,
+            rn,
+            lane_imm,
+        } => replicated_lane_of(*size, rd.to_reg(), *rn, *lane_imm),
+        VecInst::FpuMove32 { rd, rn } => Some(moved_left(0x38, rd.to_reg(), *rn)),
+        VecInst::FpuMove64 { rd, rn } => Some(moved_left(0x28, rd.to_reg(), *rn)),
         _ => None,
     }
 }

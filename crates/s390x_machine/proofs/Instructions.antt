@@ -9,6 +9,7 @@ use Rattle.s390x_inst.specs.declared.inst.Inst.TheVariants.{AluRRR, AluRR, AluRR
 use Rattle.s390x_inst.specs.declared.inst.Inst.TheVariants.{Insert64UImm16Shifted, Insert64UImm32Shifted, CMov32, CMov64, CMov32SImm16, CMov64SImm16, Extend, LoadAR, InsertAR, LoadIndexedAddr, LoadLogicalIndexedAddr, Fence, Nop0, Nop2, Jump, CondBr, IndirectBr, Ret, LabelAddress, LoadSymbolReloc, Trap, TrapIf, Debugtrap, SDivMod32, SDivMod64, UDivMod32, UDivMod64, CmpTrapRR}
 use Rattle.s390x_inst.specs.declared.inst.Inst.TheVariants.{CmpTrapRSImm16, CmpTrapRUImm16, AluRX, CmpRX, Load32, Load32ZExt8, Load32SExt8, Load32ZExt16, Load32SExt16, Load64, Load64ZExt8, Load64SExt8, Load64ZExt16, Load64SExt16, Load64ZExt32, Load64SExt32, LoadRev16, LoadRev32, LoadRev64, Store8, Store16, Store32, Store64, StoreRev16, StoreRev32, StoreRev64, StoreImm8}
 use Rattle.s390x_inst.specs.declared.inst.Inst.TheVariants.{StoreImm16, StoreImm32SExt16, StoreImm64SExt16, LoadMultiple64, StoreMultiple64, LoadAddr, AtomicRmw, AtomicCas32, AtomicCas64, JTSequence, AllocateArgs, Args, Rets, DummyUse, SequencePoint}
+use Rattle.s390x_inst.specs.declared.inst.Inst.TheVariants.{Vector}
 use Rattle.s390x_format.specs.Formats.{length_of}
 use Rattle.s390x_format.specs.declared.kind.FormatKind.TheVariants.{Rr}
 use Rattle.s390x_typed_steps.specs.General.{is_general, reuses, reuses_pair, low_halfword, low_word, four_bits, low_displacement, is_access}
@@ -44,6 +45,7 @@ use Rattle.s390x_machine.proofs.OnRegisters.{computes_two, compares_two, copies_
 use Rattle.s390x_machine.proofs.OnImmediates.{one_of_halfword, one_of_word, compare_of_halfword, compare_of_word, three_halfword_runs, placed_halfword, placed_word, inserted_half, allocate_runs}
 use Rattle.s390x_machine.proofs.Rotating.{shift_runs, rotate_runs, test_runs}
 use Rattle.s390x_machine.proofs.StoppingSteps.{signed_coded, logical_coded, divide_runs, compare_trap_runs, compare_immediate_trap_runs, always_traps, traps_where, debug_stops}
+use Rattle.s390x_machine.proofs.VectorSteps.{vector_instruction_runs}
 use Rattle.s390x_machine.proofs.Leading.{register_row, fence_runs, idle_runs, goto_runs, condbr_runs, label_runs, jump_by_table_runs, load_symbol_runs, loop_runs, opening_runs}
 use Rattle.s390x_machine.proofs.RegisterNumbers.{two_small, three_small, reused_small, output_small, mask_bits, access_small, pair_small, pair_small2, pair_tested_small, small_mask}
 
@@ -204,6 +206,7 @@ instruction_runs L k (CmpRX op rn mem) b operands_valid = compares_in_memory b (
 instruction_runs L k (AtomicRmw op rd rn mem) b operands_valid = operates b (alu_computation op) (atomic_rsy op) (atomic_rows op) rd rn mem (based_forms false true) (λ opcode. refl) (refl, refl, operands_valid)
 instruction_runs L k (AtomicCas32 rd ri rn mem) b operands_valid = swaps b Word (Some 0xba) (Some 0xeb14) swap_32 rd ri rn mem (based_forms true true) (refl, refl, refl, operands_valid)
 instruction_runs L k (AtomicCas64 rd ri rn mem) b operands_valid = swaps b Doubleword None (Some 0xeb30) swap_64 rd ri rn mem (based_forms false true) (refl, refl, refl, operands_valid)
+instruction_runs L k (Vector v) b operands_valid = vector_instruction_runs b v (refl, refl, operands_valid)
 instruction_runs L k _ b operands_valid = absurd operands_valid
 
 pub step_runs : (L : Layout) (k : ℕ) (s : Step) → StepAt L k s → IsValidStep L s → StepRuns L k

@@ -10,7 +10,7 @@ use Rattle.s390x_inst.specs.declared.vec_ops.VecIntCmpOp.{VecIntCmpOp}
 use Rattle.s390x_inst.specs.declared.vec_ops.VecIntCmpOp.TheVariants as C
 use Rattle.s390x_inst.specs.declared.vec_ops.VecIntEltCmpOp.{VecIntEltCmpOp}
 use Rattle.s390x_inst.specs.declared.vec_ops.VecIntEltCmpOp.TheVariants as E
-use Rattle.s390x_format.specs.declared.kind.FormatKind.TheVariants.{VriA, VriK, VrrA, VrrB, VrrC, VrrD, VrrE, VrrF, VrsA}
+use Rattle.s390x_format.specs.declared.kind.FormatKind.TheVariants.{Rr, VriA, VriB, VriC, VriK, VrrA, VrrB, VrrC, VrrD, VrrE, VrrF, VrsA}
 use Rattle.s390x_format.specs.declared.row.Allowed.{Allowed}
 use Rattle.s390x_format.specs.declared.row.Allowed.TheVariants.{Any, FirstMask}
 use Rattle.s390x_format.specs.Rows.{is_allowed}
@@ -22,15 +22,16 @@ use Rattle.s390x_format.specs.Layout.{SlotsFit}
 use Rattle.s390x_format.specs.View.{fields_of, disp_of}
 use Rattle.s390x_lanes.specs.Opcodes.{operation_of, row_in, with_immediate, immediate_bits}
 use Rattle.s390x_lanes.specs.declared.operation.VectorOperation.{VectorOperation}
-use Rattle.s390x_lanes.specs.declared.operation.VectorOperation.TheVariants.{Select, Permute, Blend, Move, Evaluate, PermuteDoublewords, ByteMask, ReplicateImmediate}
+use Rattle.s390x_lanes.specs.declared.operation.VectorOperation.TheVariants.{Select, Permute, Blend, Move, Evaluate, PermuteDoublewords, ByteMask, ReplicateImmediate, BitMask, Replicate, InsertImmediate}
 use Rattle.s390x_lanes.specs.declared.operation.VectorOperation.TheVariants as O
 use Rattle.s390x_lanes.specs.declared.opcodes.TheConstants.{OPCODES}
 use Rattle.s390x_lanes.specs.declared.size.ElementSize.{ElementSize}
 use Rattle.s390x_lanes.specs.declared.size.ElementSize.TheVariants.{Byte, Halfword, Word, Doubleword, Quadword}
-use Rattle.s390x_typed_steps.specs.MachineInstruction.{MachineInstruction, vri_a, vri_k, vrr_a, vrr_b, vrr_c, vrr_d, vrr_e, vrr_f, vrs_a}
-use Rattle.s390x_typed_steps.specs.VectorInstruction.{element_code}
+use Rattle.s390x_typed_steps.specs.MachineInstruction.{MachineInstruction, vri_a, vri_b, vri_c, vri_k, vrr_a, vrr_b, vrr_c, vrr_d, vrr_e, vrr_f, vrs_a}
+use Rattle.s390x_lanes.specs.Size.{element_bits, lane_count}
+use Rattle.s390x_typed_steps.specs.VectorInstruction.{element_code, is_lane, insert_immediate_opcode}
 use Rattle.s390x_typed_steps.specs.VectorOpcodes.{binary_row, unary_row, shift_row, comparison_row, element_comparison_row}
-use Rattle.s390x_machine.specs.declared.semantics.RowSemantics.TheVariants.{Elements, JoinRegisters}
+use Rattle.s390x_machine.specs.declared.semantics.RowSemantics.TheVariants.{Elements, JoinRegisters, MoveLeft}
 use Rattle.s390x_machine.specs.declared.semantics.RowSemantics.TheVariants as Row
 use Rattle.s390x_machine.specs.Semantics.{semantics_in, semantics_of}
 use Rattle.s390x_machine.specs.VectorOperations.{binary_operation, unary_operation, shift_operator, shifted_elements, comparison_operation, element_comparison}
@@ -112,19 +113,31 @@ IsNarrow _ = Unit {0}
 pub record Sized (size : ℕ) (e : ElementSize) : Type 0 where
   pub code : element_code size ≡ Some (code_of_size e)
   pub elements : elements_of size ≡ e
+  pub bits : size ≡ element_bits e
   pub narrow : IsNarrow e
 
 abbrev pub HasSize : ℕ → Type 0
 HasSize size = (element_code size ≡ None) ⊎ ((e : ElementSize) × Sized size e)
 
+-- a lane's number is below their count
+pub lane_within : {size : ℕ} {e : ElementSize} → Sized size e → (lane : ℕ) → is_lane size lane ≡ true → lane < lane_count e
+lane_within {size = size} {e = e} z lane h = go e z.narrow (subst (λ w. lane * w < 128) z.bits (ltb-true (lane * size) 128 h))
+  where
+    go : (e : ElementSize) → IsNarrow e → lane * element_bits e < 128 → lane < lane_count e
+    go Byte narrow lt = omega (arith, lt)
+    go Halfword narrow lt = omega (arith, lt)
+    go Word narrow lt = omega (arith, lt)
+    go Doubleword narrow lt = omega (arith, lt)
+    go Quadword narrow lt = absurd narrow
+
 pub size_of_elements : (size : ℕ) → HasSize size
 size_of_elements size = go (nat_eq size 8) refl (nat_eq size 16) refl (nat_eq size 32) refl (nat_eq size 64) refl
   where
     go : (a : Bool) → nat_eq size 8 ≡ a → (b : Bool) → nat_eq size 16 ≡ b → (c : Bool) → nat_eq size 32 ≡ c → (d : Bool) → nat_eq size 64 ≡ d → HasSize size
-    go true e b f c g d h = subst HasSize (sym (eqb-true size 8 e)) (inr (Byte, record { code = refl; elements = refl; narrow = tt }))
-    go false e true f c g d h = subst HasSize (sym (eqb-true size 16 f)) (inr (Halfword, record { code = refl; elements = refl; narrow = tt }))
-    go false e false f true g d h = subst HasSize (sym (eqb-true size 32 g)) (inr (Word, record { code = refl; elements = refl; narrow = tt }))
-    go false e false f false g true h = subst HasSize (sym (eqb-true size 64 h)) (inr (Doubleword, record { code = refl; elements = refl; narrow = tt }))
+    go true e b f c g d h = subst HasSize (sym (eqb-true size 8 e)) (inr (Byte, record { code = refl; elements = refl; bits = refl; narrow = tt }))
+    go false e true f c g d h = subst HasSize (sym (eqb-true size 16 f)) (inr (Halfword, record { code = refl; elements = refl; bits = refl; narrow = tt }))
+    go false e false f true g d h = subst HasSize (sym (eqb-true size 32 g)) (inr (Word, record { code = refl; elements = refl; bits = refl; narrow = tt }))
+    go false e false f false g true h = subst HasSize (sym (eqb-true size 64 h)) (inr (Doubleword, record { code = refl; elements = refl; bits = refl; narrow = tt }))
     go false e false f false g false h =
         inl (ap (λ t. cond t (Some 0) (cond (nat_eq size 16) (Some 1) (cond (nat_eq size 32) (Some 2) (cond (nat_eq size 64) (Some 3) None)))) e
         ∙ ap (λ t. cond t (Some 1) (cond (nat_eq size 32) (Some 2) (cond (nat_eq size 64) (Some 3) None))) f
@@ -233,11 +246,86 @@ replicate_rows Word narrow d bits lt = entry_of 2 (vri_a 0xe745 d bits 2) (Repli
 replicate_rows Doubleword narrow d bits lt = entry_of 3 (vri_a 0xe745 d bits 3) (ReplicateImmediate Doubleword bits) refl refl (ap (λ k. with_immediate (row_in OPCODES 0xe745) (3 ∷ 0 ∷ 0 ∷ []) k) (sixteen_bits bits lt)) refl
 replicate_rows Quadword narrow d bits lt = absurd narrow
 
+-- one element for all
+pub lane_rows : (e : ElementSize) → IsNarrow e → (d n lane : ℕ) → lane < lane_count e → ElementsRow (code_of_size e) (vri_c 0xe74d d n lane (code_of_size e)) (Replicate e lane)
+unfolding machine_rows row_for semantics_in semantics_of operation_of row_in
+lane_rows Byte narrow d n lane lt =
+    entry_of 0 (vri_c 0xe74d d n lane 0) (Replicate Byte lane) refl (below lane 16 lt)
+    (ap (λ k. with_immediate (row_in OPCODES 0xe74d) (0 ∷ 0 ∷ 0 ∷ []) k) (sixteen_bits lane (omega (arith, lt))) ∙ ap (λ t. cond t (Some (Replicate Byte lane)) None) (below lane 16 lt)) refl
+lane_rows Halfword narrow d n lane lt =
+    entry_of 1 (vri_c 0xe74d d n lane 1) (Replicate Halfword lane) refl (below lane 8 lt)
+    (ap (λ k. with_immediate (row_in OPCODES 0xe74d) (1 ∷ 0 ∷ 0 ∷ []) k) (sixteen_bits lane (omega (arith, lt))) ∙ ap (λ t. cond t (Some (Replicate Halfword lane)) None) (below lane 8 lt)) refl
+lane_rows Word narrow d n lane lt =
+    entry_of 2 (vri_c 0xe74d d n lane 2) (Replicate Word lane) refl (below lane 4 lt)
+    (ap (λ k. with_immediate (row_in OPCODES 0xe74d) (2 ∷ 0 ∷ 0 ∷ []) k) (sixteen_bits lane (omega (arith, lt))) ∙ ap (λ t. cond t (Some (Replicate Word lane)) None) (below lane 4 lt)) refl
+lane_rows Doubleword narrow d n lane lt =
+    entry_of 3 (vri_c 0xe74d d n lane 3) (Replicate Doubleword lane) refl (below lane 2 lt)
+    (ap (λ k. with_immediate (row_in OPCODES 0xe74d) (3 ∷ 0 ∷ 0 ∷ []) k) (sixteen_bits lane (omega (arith, lt))) ∙ ap (λ t. cond t (Some (Replicate Doubleword lane)) None) (below lane 2 lt)) refl
+lane_rows Quadword narrow d n lane lt = absurd narrow
+
+-- ones from a bit to another one
+pub bit_mask_rows : (e : ElementSize) → IsNarrow e → (d start end : ℕ) → start < element_bits e → end < element_bits e → ElementsRow (code_of_size e) (vri_b 0xe746 d start end (code_of_size e)) (BitMask e start end)
+unfolding machine_rows row_for semantics_in semantics_of operation_of row_in
+bit_mask_rows Byte narrow d start end ls le =
+    entry_of 0 (vri_b 0xe746 d start end 0) (BitMask Byte start end) refl (ap (λ t. t && nat_lt end 8) (below start 8 ls) ∙ below end 8 le)
+    (ap (λ t. cond (t && nat_lt end 8) (Some (BitMask Byte start end)) None) (below start 8 ls) ∙ ap (λ t. cond t (Some (BitMask Byte start end)) None) (below end 8 le)) refl
+bit_mask_rows Halfword narrow d start end ls le =
+    entry_of 1 (vri_b 0xe746 d start end 1) (BitMask Halfword start end) refl (ap (λ t. t && nat_lt end 16) (below start 16 ls) ∙ below end 16 le)
+    (ap (λ t. cond (t && nat_lt end 16) (Some (BitMask Halfword start end)) None) (below start 16 ls) ∙ ap (λ t. cond t (Some (BitMask Halfword start end)) None) (below end 16 le)) refl
+bit_mask_rows Word narrow d start end ls le =
+    entry_of 2 (vri_b 0xe746 d start end 2) (BitMask Word start end) refl (ap (λ t. t && nat_lt end 32) (below start 32 ls) ∙ below end 32 le)
+    (ap (λ t. cond (t && nat_lt end 32) (Some (BitMask Word start end)) None) (below start 32 ls) ∙ ap (λ t. cond t (Some (BitMask Word start end)) None) (below end 32 le)) refl
+bit_mask_rows Doubleword narrow d start end ls le =
+    entry_of 3 (vri_b 0xe746 d start end 3) (BitMask Doubleword start end) refl (ap (λ t. t && nat_lt end 64) (below start 64 ls) ∙ below end 64 le)
+    (ap (λ t. cond (t && nat_lt end 64) (Some (BitMask Doubleword start end)) None) (below start 64 ls) ∙ ap (λ t. cond t (Some (BitMask Doubleword start end)) None) (below end 64 le)) refl
+bit_mask_rows Quadword narrow d start end ls le = absurd narrow
+
+-- an immediate in one element
+pub insert_rows : (e : ElementSize) → IsNarrow e → (d bits lane : ℕ) → bits < 65536 → lane < lane_count e → ElementsRow lane (vri_a (insert_immediate_opcode (code_of_size e)) d bits lane) (InsertImmediate e bits lane)
+unfolding machine_rows row_for semantics_in semantics_of operation_of row_in
+insert_rows Byte narrow d bits lane lb lt =
+    entry_of lane (vri_a 0xe740 d bits lane) (InsertImmediate Byte bits lane) refl
+    (ap (λ t. (t && nat_le lane 15) && true && true) (at_most 0 lane (omega arith)) ∙ ap (λ t. (true && t) && true && true) (at_most lane 15 (omega (arith, lt))))
+    (ap (λ k. with_immediate (row_in OPCODES 0xe740) (lane ∷ 0 ∷ 0 ∷ []) k) (sixteen_bits bits lb)
+    ∙ ap (λ t. cond ((t && nat_le lane 15) && true && true) (cond (nat_lt lane 16) (Some (InsertImmediate Byte bits lane)) None) None) (at_most 0 lane (omega arith))
+    ∙ ap (λ t. cond ((true && t) && true && true) (cond (nat_lt lane 16) (Some (InsertImmediate Byte bits lane)) None) None) (at_most lane 15 (omega (arith, lt)))
+    ∙ ap (λ t. cond t (Some (InsertImmediate Byte bits lane)) None) (below lane 16 lt)) (below lane 16 (omega (arith, lt)))
+insert_rows Halfword narrow d bits lane lb lt =
+    entry_of lane (vri_a 0xe741 d bits lane) (InsertImmediate Halfword bits lane) refl
+    (ap (λ t. (t && nat_le lane 7) && true && true) (at_most 0 lane (omega arith)) ∙ ap (λ t. (true && t) && true && true) (at_most lane 7 (omega (arith, lt))))
+    (ap (λ k. with_immediate (row_in OPCODES 0xe741) (lane ∷ 0 ∷ 0 ∷ []) k) (sixteen_bits bits lb)
+    ∙ ap (λ t. cond ((t && nat_le lane 7) && true && true) (cond (nat_lt lane 8) (Some (InsertImmediate Halfword bits lane)) None) None) (at_most 0 lane (omega arith))
+    ∙ ap (λ t. cond ((true && t) && true && true) (cond (nat_lt lane 8) (Some (InsertImmediate Halfword bits lane)) None) None) (at_most lane 7 (omega (arith, lt)))
+    ∙ ap (λ t. cond t (Some (InsertImmediate Halfword bits lane)) None) (below lane 8 lt)) (below lane 16 (omega (arith, lt)))
+insert_rows Word narrow d bits lane lb lt =
+    entry_of lane (vri_a 0xe743 d bits lane) (InsertImmediate Word bits lane) refl
+    (ap (λ t. (t && nat_le lane 3) && true && true) (at_most 0 lane (omega arith)) ∙ ap (λ t. (true && t) && true && true) (at_most lane 3 (omega (arith, lt))))
+    (ap (λ k. with_immediate (row_in OPCODES 0xe743) (lane ∷ 0 ∷ 0 ∷ []) k) (sixteen_bits bits lb)
+    ∙ ap (λ t. cond ((t && nat_le lane 3) && true && true) (cond (nat_lt lane 4) (Some (InsertImmediate Word bits lane)) None) None) (at_most 0 lane (omega arith))
+    ∙ ap (λ t. cond ((true && t) && true && true) (cond (nat_lt lane 4) (Some (InsertImmediate Word bits lane)) None) None) (at_most lane 3 (omega (arith, lt)))
+    ∙ ap (λ t. cond t (Some (InsertImmediate Word bits lane)) None) (below lane 4 lt)) (below lane 16 (omega (arith, lt)))
+insert_rows Doubleword narrow d bits lane lb lt =
+    entry_of lane (vri_a 0xe742 d bits lane) (InsertImmediate Doubleword bits lane) refl
+    (ap (λ t. (t && nat_le lane 1) && true && true) (at_most 0 lane (omega arith)) ∙ ap (λ t. (true && t) && true && true) (at_most lane 1 (omega (arith, lt))))
+    (ap (λ k. with_immediate (row_in OPCODES 0xe742) (lane ∷ 0 ∷ 0 ∷ []) k) (sixteen_bits bits lb)
+    ∙ ap (λ t. cond ((t && nat_le lane 1) && true && true) (cond (nat_lt lane 2) (Some (InsertImmediate Doubleword bits lane)) None) None) (at_most 0 lane (omega arith))
+    ∙ ap (λ t. cond ((true && t) && true && true) (cond (nat_lt lane 2) (Some (InsertImmediate Doubleword bits lane)) None) None) (at_most lane 1 (omega (arith, lt)))
+    ∙ ap (λ t. cond t (Some (InsertImmediate Doubleword bits lane)) None) (below lane 2 lt)) (below lane 16 (omega (arith, lt)))
+insert_rows Quadword narrow d bits lane lb lt = absurd narrow
+
 -- ---- rows of another kind
 
 pub join_row : Meant VrrF Any 0xe762 JoinRegisters
 unfolding machine_rows row_for semantics_in semantics_of
 join_row = (record { is = refl }, refl)
+
+pub ler_row : Meant Rr Any 0x38 (MoveLeft Word)
+unfolding machine_rows row_for semantics_in semantics_of
+ler_row = (record { is = refl }, refl)
+
+pub ldr_row : Meant Rr Any 0x28 (MoveLeft Doubleword)
+unfolding machine_rows row_for semantics_in semantics_of
+ldr_row = (record { is = refl }, refl)
 
 -- a shift's row
 pub shift_rows : (op : VecShiftOp) → Meant VrsA (FirstMask 0 3) (shift_row op).opcode (Row.ShiftElements (shift_row op).opcode)
@@ -298,3 +386,9 @@ fits_vrr_f opcode a b c lopcode la lb lc = fields_from VrrF (vrr_f opcode a b c)
 
 pub fits_vrs_a : (opcode a base c mask displacement : ℕ) → opcode < 65536 → a < 32 → base < 16 → c < 32 → mask < 16 → displacement < 4096 → SlotsFit (layout_of VrsA) (vrs_a opcode a base c mask displacement).slots
 fits_vrs_a opcode a base c mask displacement lopcode la lbase lc lmask ldisplacement = fields_from VrsA (vrs_a opcode a base c mask displacement).slots refl (omega arith, (omega arith, (omega arith, (omega arith, (omega arith, (omega arith, (omega arith, (omega arith, (omega arith, (omega arith, tt))))))))))
+
+pub fits_vri_b : (opcode a start end mask : ℕ) → opcode < 65536 → a < 32 → start < 256 → end < 256 → mask < 16 → SlotsFit (layout_of VriB) (vri_b opcode a start end mask).slots
+fits_vri_b opcode a start end mask lopcode la lstart lend lmask = fields_from VriB (vri_b opcode a start end mask).slots refl (omega arith, (omega arith, (omega arith, (omega arith, (omega arith, (omega arith, (omega arith, (omega arith, (omega arith, (omega arith, tt))))))))))
+
+pub fits_vri_c : (opcode a b bits mask : ℕ) → opcode < 65536 → a < 32 → b < 32 → bits < 65536 → mask < 16 → SlotsFit (layout_of VriC) (vri_c opcode a b bits mask).slots
+fits_vri_c opcode a b bits mask lopcode la lb lbits lmask = fields_from VriC (vri_c opcode a b bits mask).slots refl (omega arith, (omega arith, (omega arith, (omega arith, (omega arith, (omega arith, (omega arith, (omega arith, (omega arith, (omega arith, tt))))))))))

@@ -1,5 +1,5 @@
 -- The steps of one row on vector registers: an operation of its lanes, which may stop where it divides.
-use Rattle.std.proofs.Common.{◌≡◌, ℕ, ◌+◌, ◌-◌, ◌*◌, ◌%◌, ◌<◌, ℤ, pos, inl, inr, [], ◌∷◌, length, Option, Some, None, Bool, true, false, cond, ◌&&◌, not, IsTrue, refl, sym, ap, ◌∙◌, subst, arith, nat_lt, ltb-true, true≢false}
+use Rattle.std.proofs.Common.{◌≡◌, ℕ, ◌+◌, ◌-◌, ◌*◌, ◌%◌, ◌<◌, ℤ, pos, inl, inr, [], ◌∷◌, length, Option, Some, None, Bool, true, false, cond, ◌&&◌, not, IsTrue, refl, sym, ap, ◌∙◌, subst, arith, nat_lt, nat_eq, bit_and, ltb-true, true≢false}
 use Rattle.std.proofs.lemmas.Bool.{and_parts}
 use Rattle.s390x_base.specs.Regs.{number_of, is_int}
 use Rattle.s390x_base.specs.declared.regs.Reg.{Reg}
@@ -7,7 +7,7 @@ use Rattle.s390x_base.specs.declared.regs.Reg.TheVariants.{Real, Virtual}
 use Rattle.s390x_base.specs.declared.trap.TrapKind.{TrapKind}
 use Rattle.s390x_base.specs.declared.trap.TrapKind.TheVariants.{IntegerDivisionByZero}
 use Rattle.s390x_inst.specs.declared.vec_inst.VecInst.{VecInst}
-use Rattle.s390x_inst.specs.declared.vec_inst.VecInst.TheVariants.{VecRRR, VecRR, VecSelect, VecPermute, VecBlend, VecIntCmp, VecIntCmpS, VecIntEltCmp, VecMov, VecShiftRR, VecEvaluate, VecPermuteDWImm, MovToVec128, VecImmByteMask, VecImmReplicate}
+use Rattle.s390x_inst.specs.declared.vec_inst.VecInst.TheVariants.{VecRRR, VecRR, VecSelect, VecPermute, VecBlend, VecIntCmp, VecIntCmpS, VecIntEltCmp, VecMov, VecShiftRR, VecEvaluate, VecPermuteDWImm, MovToVec128, VecImmByteMask, VecImmReplicate, VecImmBitMask, VecReplicateLane, FpuMove32, FpuMove64}
 use Rattle.s390x_inst.specs.declared.vec_ops.VecBinaryOp.{VecBinaryOp}
 use Rattle.s390x_inst.specs.declared.vec_ops.VecBinaryOp.TheVariants as B
 use Rattle.s390x_inst.specs.declared.vec_ops.VecUnaryOp.{VecUnaryOp}
@@ -18,9 +18,15 @@ use Rattle.s390x_inst.specs.declared.vec_ops.VecIntCmpOp.TheVariants as C
 use Rattle.s390x_inst.specs.declared.vec_ops.VecIntEltCmpOp.{VecIntEltCmpOp}
 use Rattle.s390x_inst.specs.declared.vec_ops.VecIntEltCmpOp.TheVariants as E
 use Rattle.s390x_format.specs.Formats.{layout_of}
+use Rattle.s390x_format.specs.declared.kind.FormatKind.TheVariants.{Rr}
+use Rattle.s390x_format.specs.declared.row.Allowed.TheVariants.{Any}
 use Rattle.s390x_format.specs.Layout.{SlotsFit}
 use Rattle.s390x_format.specs.View.{fields_of}
 use Rattle.s390x_format.proofs.Encoding.{encode-length}
+use Rattle.s390x_lanes.specs.Lanes.{from_lanes}
+use Rattle.s390x_lanes.specs.Size.{element_bits, lane_count}
+use Rattle.s390x_lanes.specs.declared.size.ElementSize.{ElementSize}
+use Rattle.s390x_lanes.specs.declared.size.ElementSize.TheVariants.{Byte, Halfword, Word, Doubleword, Quadword}
 use Rattle.s390x_lanes.specs.Relation.{code_of, divides_by_zero, division_overflows, is_determined}
 use Rattle.s390x_lanes.specs.Opcodes.{operation_of}
 use Rattle.s390x_lanes.specs.Results.{vector_result}
@@ -28,20 +34,20 @@ use Rattle.s390x_lanes.specs.declared.operation.VectorOperation.{VectorOperation
 use Rattle.s390x_lanes.specs.declared.operation.VectorOperation.TheVariants as O
 use Rattle.s390x_operations.specs.State.{Registers}
 use Rattle.s390x_operations.specs.Effects.{Refines, vector_code}
-use Rattle.s390x_operations.specs.declared.effect.CodeRule.TheVariants.{Set}
+use Rattle.s390x_operations.specs.declared.effect.CodeRule.TheVariants.{Kept, Set}
 use Rattle.s390x_operations.specs.declared.effect.Effect.{Effect}
 use Rattle.s390x_operations.specs.declared.effect.Operation.{Operation}
 use Rattle.s390x_operations.specs.declared.stop.StopKind.{StopKind}
 use Rattle.s390x_operations.specs.declared.stop.StopKind.TheVariants.{Divide}
 use Rattle.s390x_typed_steps.specs.General.{is_general, low_halfword, low_byte}
-use Rattle.s390x_typed_steps.specs.MachineInstruction.{MachineInstruction, bytes_of, size_of, vri_a, vri_k, vrr_a, vrr_c, vrr_d, vrr_e, vrr_f, vrs_a}
+use Rattle.s390x_typed_steps.specs.MachineInstruction.{MachineInstruction, bytes_of, size_of, rr, vri_b, vri_c, vri_a, vri_k, vrr_a, vrr_c, vrr_d, vrr_e, vrr_f, vrs_a}
 use Rattle.s390x_typed_steps.specs.Parts.{step_parts, row_part, parts_or}
 use Rattle.s390x_typed_steps.specs.SingleInstruction.{single_with}
 use Rattle.s390x_typed_steps.specs.Steps.{Step}
 use Rattle.s390x_typed_steps.specs.Traps.{first_code}
-use Rattle.s390x_typed_steps.specs.VectorInstruction.{is_vector, element_code, doublewords_row, replicate_row, vector_row, vector_operands_valid, vector_stop, divides}
+use Rattle.s390x_typed_steps.specs.VectorInstruction.{is_vector, element_code, doublewords_row, replicate_row, vector_row, vector_operands_valid, vector_stop, divides, is_lane, replicate_lane_row, bit_mask_row, insert_immediate_opcode, insert_immediate_row, move_left_row, reuses_vector}
 use Rattle.s390x_typed_steps.specs.VectorOpcodes.{binary_row, unary_row, shift_row, comparison_row, element_comparison_row, is_division}
-use Rattle.s390x_machine.specs.declared.semantics.RowSemantics.TheVariants.{Elements, JoinRegisters}
+use Rattle.s390x_machine.specs.declared.semantics.RowSemantics.TheVariants.{Elements, JoinRegisters, MoveLeft}
 use Rattle.s390x_machine.specs.declared.semantics.RowSemantics.TheVariants as Row
 use Rattle.s390x_machine.specs.declared.semantics.Action.TheVariants.{Perform}
 use Rattle.s390x_machine.specs.CodeAt.{OperandsValidOr}
@@ -49,22 +55,22 @@ use Rattle.s390x_machine.specs.Computations.{with_rule}
 use Rattle.s390x_machine.specs.Layout.{Layout, step_address}
 use Rattle.s390x_machine.specs.Operands.{based}
 use Rattle.s390x_machine.specs.OneStep.{StepRuns}
-use Rattle.s390x_machine.specs.Semantics.{on_elements, vector_field, register_field}
+use Rattle.s390x_machine.specs.Semantics.{on_elements, left_bits, vector_field, register_field}
 use Rattle.s390x_machine.specs.StepKinds.{Performs, Unsupported, no_code, division_code, kind_or, on_vectors}
 use Rattle.s390x_machine.specs.Typed.{kind_of_step}
 use Rattle.s390x_machine.specs.VectorOperations.{binary_operation, unary_operation, shift_operator, shifted_elements, comparison_operation, element_comparison}
-use Rattle.s390x_machine.specs.VectorSteps.{computes_two_vectors, computes_one_vector, computes_three_vectors, generates_vector, shifts_vector, joins_registers, elements_of, vector_operation}
+use Rattle.s390x_machine.specs.VectorSteps.{computes_two_vectors, computes_one_vector, computes_three_vectors, generates_vector, shifts_vector, joins_registers, elements_of, vector_operation, moves_left}
 use Rattle.s390x_machine.proofs.Built.{StepAt, exactly, meant_runs, step_even, some_bytes, uncoded, one_row, one_recorded, row_alone}
 use Rattle.s390x_machine.proofs.Operands.{halfword_bits}
-use Rattle.s390x_machine.proofs.Rows.{general_number}
-use Rattle.s390x_machine.proofs.Listing.{few_digits, some_opcode, lists_row}
+use Rattle.s390x_machine.proofs.Rows.{general_number, fits_rr}
+use Rattle.s390x_machine.proofs.Listing.{Meant, few_digits, some_opcode, lists_row}
 use Rattle.s390x_machine.proofs.SingleInstruction.{DoesThere, meant_at, row_tells}
 use Rattle.s390x_machine.proofs.Simulation.{ValuesCoded, Coded}
 use Rattle.s390x_machine.proofs.Stops.{only_by, never_by_values}
 use Rattle.s390x_machine.proofs.Trapping.{division_late, late_code}
 use Rattle.s390x_machine.proofs.VectorRows.{ElementsRow, elements_listed, elements_allowed, elements_operation, elements_few, binary_instruction, binary_rows, unary_instruction, unary_rows, comparison_instruction, comparison_rows, asking_rows, element_instruction, element_rows}
 use Rattle.s390x_machine.proofs.VectorRows.{select_row, permute_row, blend_row, move_row, opcode_in, allowed_in, fits_vrr_a, fits_vrr_b, fits_vrr_c, fits_vrr_d, fits_vrr_e}
-use Rattle.s390x_machine.proofs.VectorRows.{evaluate_row, doublewords_rows, byte_mask_row, replicate_rows, join_row, shift_rows, shift_allowed, shift_code, shift_operation, small_displacement, code_of_size, HasSize, size_of_elements, fits_vri_a, fits_vri_k, fits_vrr_f, fits_vrs_a}
+use Rattle.s390x_machine.proofs.VectorRows.{evaluate_row, doublewords_rows, byte_mask_row, replicate_rows, join_row, shift_rows, shift_allowed, shift_code, shift_operation, small_displacement, code_of_size, HasSize, Sized, size_of_elements, lane_within, lane_rows, bit_mask_rows, insert_rows, ler_row, ldr_row, fits_vri_b, fits_vri_c, fits_vri_a, fits_vri_k, fits_vrr_f, fits_vrs_a}
 
 -- ---- registers
 
@@ -163,13 +169,39 @@ abbrev takes_none : VectorOperation → Bool
 takes_none (O.ByteMask mask) = true
 takes_none (O.BitMask size start end) = true
 takes_none (O.ReplicateImmediate size value) = true
+takes_none (O.InsertImmediate size value index) = true
 takes_none _ = false
 
 no_second : (o : VectorOperation) → takes_none o ≡ true → (t a b c d : ℕ) → Refines (computed_vector o t a b c d) (computed_vector o t a 0 0 0)
 no_second (O.ByteMask mask) h t a b c d = unused (O.ByteMask mask) t a b c d 0 0 0 refl refl refl refl refl
 no_second (O.BitMask size start end) h t a b c d = unused (O.BitMask size start end) t a b c d 0 0 0 refl refl refl refl refl
 no_second (O.ReplicateImmediate size value) h t a b c d = unused (O.ReplicateImmediate size value) t a b c d 0 0 0 refl refl refl refl refl
+no_second (O.InsertImmediate size value index) h t a b c d = unused (O.InsertImmediate size value index) t a b c d 0 0 0 refl refl refl refl refl
 no_second _ h t a b c d = absurd (true≢false (sym h))
+
+-- a register with an immediate at one element, of which that element alone is told
+inserts_alone : (e : ElementSize) (t bits lane known a b c d : ℕ) → Refines (computed_vector (O.InsertImmediate e bits lane) t a b c d) (with_rule Kept (Effect.PutVector t known (vector_result (O.InsertImmediate e bits lane) a 0 0 0)))
+inserts_alone e t bits lane known a b c d = record {
+  access = refl;
+  refused = refl;
+  may_refuse = λ kind h. true≢false (sym h.1);
+  results = λ core r h. (h.0, h.1.fits, ap (λ y. bit_and y known) (h.1.result refl), h.2);
+  code = λ core x h. h;
+}
+
+whole_vector : (a b c d : ℕ) → vector_result O.Move a b c d ≡ b
+unfolding from_lanes
+whole_vector a b c d = omega arith
+
+-- a whole register, of which some bits are told
+moves_alone : (t known a b c d : ℕ) → Refines (computed_vector O.Move t a b c d) (with_rule Kept (Effect.PutVector t known b))
+moves_alone t known a b c d = record {
+  access = refl;
+  refused = refl;
+  may_refuse = λ kind h. true≢false (sym h.1);
+  results = λ core r h. (h.0, h.1.fits, ap (λ y. bit_and y known) (h.1.result refl ∙ whole_vector a b c d), h.2);
+  code = λ core x h. h;
+}
 
 -- ---- operators
 
@@ -204,6 +236,23 @@ element_takes E.UCmp128 = refl
 element_never : (op : VecIntEltCmpOp) → is_divide (element_comparison op) ≡ false
 element_never E.SCmp128 = refl
 element_never E.UCmp128 = refl
+
+lane_small : (e : ElementSize) (lane : ℕ) → lane < lane_count e → lane < 65536
+lane_small Byte lane lt = omega (arith, lt)
+lane_small Halfword lane lt = omega (arith, lt)
+lane_small Word lane lt = omega (arith, lt)
+lane_small Doubleword lane lt = omega (arith, lt)
+lane_small Quadword lane lt = omega (arith, lt)
+
+bit_small : (e : ElementSize) (bit : ℕ) → bit < element_bits e → bit < 256
+bit_small Byte bit lt = omega (arith, lt)
+bit_small Halfword bit lt = omega (arith, lt)
+bit_small Word bit lt = omega (arith, lt)
+bit_small Doubleword bit lt = omega (arith, lt)
+bit_small Quadword bit lt = omega (arith, lt)
+
+reused_vector : (output input : Reg) → IsTrue (reuses_vector output input) → number_of output < 32
+reused_vector output input h = (two_vectors output input (and_parts (is_vector output && is_vector input) (nat_eq (number_of output) (number_of input)) h).0).0
 
 -- ---- one row
 
@@ -318,6 +367,77 @@ module _ {L : Layout} {k : ℕ} {s : Step} (b : StepAt L k s) where
           let parts = is.1 ∙ ap (λ c. parts_or (single_with valid (replicate_row c d bits)) None []) z.code in
           generated_runs x o d row fit refl refl (λ r. refl) (is.0 ∙ ap (λ z. Some (Performs false (generates_vector (O.ReplicateImmediate z bits) d) no_code)) z.elements, parts)
 
+  -- one element for all
+  lane_replicated_runs : (valid : Bool) (size d n lane : ℕ) → (IsTrue valid → (d < 32) × (n < 32)) →
+      (kind_of_step L (Some s) ≡ Some (Performs false (computes_one_vector (O.Replicate (elements_of size) lane) d n) no_code)) × (step_parts s ≡ parts_or (single_with valid (replicate_lane_row (element_code size) size d n lane)) None []) × OperandsValidOr (single_with valid (replicate_lane_row (element_code size) size d n lane)) ⊥ → StepRuns L k
+  lane_replicated_runs valid size d n lane small is = go (size_of_elements size)
+    where
+      sized : (e : ElementSize) → Sized size e → (t : Bool) → is_lane size lane ≡ t → step_parts s ≡ parts_or (single_with valid (cond t (Some (vri_c 0xe74d d n lane (code_of_size e))) None)) None [] → OperandsValidOr (single_with valid (cond t (Some (vri_c 0xe74d d n lane (code_of_size e))) None)) ⊥ → StepRuns L k
+      sized e z false test parts able = absurd able
+      sized e z true test parts able =
+          let within = lane_within z lane test in
+          let row = lane_rows e z.narrow d n lane within in
+          let few = small able in
+          let fit = fits_vri_c 0xe74d d n lane (code_of_size e) (few_digits (elements_listed row)) few.0 few.1 (lane_small e lane within) (elements_few row) in
+          one_vector_runs (vri_c 0xe74d d n lane (code_of_size e)) (O.Replicate e lane) d n row fit refl refl (λ r. refl) (is.0 ∙ ap (λ z. Some (Performs false (computes_one_vector (O.Replicate z lane) d n) no_code)) z.elements, parts)
+
+      go : HasSize size → StepRuns L k
+      go (inl none) = absurd (subst (λ o. OperandsValidOr (single_with valid (replicate_lane_row o size d n lane)) ⊥) none is.2)
+      go (inr (e, z)) =
+          sized e z (is_lane size lane) refl (is.1 ∙ ap (λ c. parts_or (single_with valid (replicate_lane_row c size d n lane)) None []) z.code) (subst (λ c. OperandsValidOr (single_with valid (replicate_lane_row c size d n lane)) ⊥) z.code is.2)
+
+  -- ones from a bit to another one
+  bit_mask_runs : (valid : Bool) (size d start end : ℕ) → (IsTrue valid → d < 32) →
+      (kind_of_step L (Some s) ≡ Some (Performs false (generates_vector (O.BitMask (elements_of size) start end) d) no_code)) × (step_parts s ≡ parts_or (single_with valid (bit_mask_row (element_code size) size d start end)) None []) × OperandsValidOr (single_with valid (bit_mask_row (element_code size) size d start end)) ⊥ → StepRuns L k
+  bit_mask_runs valid size d start end small is = go (size_of_elements size)
+    where
+      sized : (e : ElementSize) → Sized size e → (t : Bool) → (nat_lt start size && nat_lt end size) ≡ t → step_parts s ≡ parts_or (single_with valid (cond t (Some (vri_b 0xe746 d start end (code_of_size e))) None)) None [] → OperandsValidOr (single_with valid (cond t (Some (vri_b 0xe746 d start end (code_of_size e))) None)) ⊥ → StepRuns L k
+      sized e z false test parts able = absurd able
+      sized e z true test parts able =
+          let tests = and_parts (nat_lt start size) (nat_lt end size) test in
+          let ls = subst (λ w. start < w) z.bits (ltb-true start size tests.0) in
+          let le = subst (λ w. end < w) z.bits (ltb-true end size tests.1) in
+          let row = bit_mask_rows e z.narrow d start end ls le in
+          let fit = fits_vri_b 0xe746 d start end (code_of_size e) (few_digits (elements_listed row)) (small able) (bit_small e start ls) (bit_small e end le) (elements_few row) in
+          generated_runs (vri_b 0xe746 d start end (code_of_size e)) (O.BitMask e start end) d row fit refl refl (λ r. refl) (is.0 ∙ ap (λ z. Some (Performs false (generates_vector (O.BitMask z start end) d) no_code)) z.elements, parts)
+
+      go : HasSize size → StepRuns L k
+      go (inl none) = absurd (subst (λ o. OperandsValidOr (single_with valid (bit_mask_row o size d start end)) ⊥) none is.2)
+      go (inr (e, z)) =
+          sized e z (nat_lt start size && nat_lt end size) refl (is.1 ∙ ap (λ c. parts_or (single_with valid (bit_mask_row c size d start end)) None []) z.code) (subst (λ c. OperandsValidOr (single_with valid (bit_mask_row c size d start end)) ⊥) z.code is.2)
+
+  -- an immediate in one element, whatever is told of the others
+  immediate_inserted_runs : (valid : Bool) (size d bits lane : ℕ) (does : ElementSize → Registers → Operation) → ((e : ElementSize) (r : Registers) → Refines (computed_vector (O.InsertImmediate e bits lane) d (r.vector d) (r.vector 0) (r.vector 0) (r.vector 0)) (does e r)) → ((e : ElementSize) (r : Registers) → ValuesCoded (does e r) no_code) → (IsTrue valid → d < 32) → bits < 65536 →
+      (kind_of_step L (Some s) ≡ Some (Performs false (does (elements_of size)) no_code)) × (step_parts s ≡ parts_or (single_with valid (insert_immediate_row (element_code size) size d bits lane)) None []) × OperandsValidOr (single_with valid (insert_immediate_row (element_code size) size d bits lane)) ⊥ → StepRuns L k
+  immediate_inserted_runs valid size d bits lane does refines values small lb is = go (size_of_elements size)
+    where
+      row_of_size : ElementSize → MachineInstruction
+      row_of_size e = vri_a (insert_immediate_opcode (code_of_size e)) d bits lane
+
+      sized : (e : ElementSize) → Sized size e → (t : Bool) → is_lane size lane ≡ t → step_parts s ≡ parts_or (single_with valid (cond t (Some (row_of_size e)) None)) None [] → OperandsValidOr (single_with valid (cond t (Some (row_of_size e)) None)) ⊥ → StepRuns L k
+      sized e z false test parts able = absurd able
+      sized e z true test parts able =
+          let row = insert_rows e z.narrow d bits lane lb (lane_within z lane test) in
+          let fit = fits_vri_a (insert_immediate_opcode (code_of_size e)) d bits lane (few_digits (elements_listed row)) (small able) lb (elements_few row) in
+          vector_runs (row_of_size e) (O.InsertImmediate e bits lane) (does e) false row fit (refines e) (values e) (is.0 ∙ ap (λ z. Some (Performs false (does z) no_code)) z.elements) parts
+
+      go : HasSize size → StepRuns L k
+      go (inl none) = absurd (subst (λ o. OperandsValidOr (single_with valid (insert_immediate_row o size d bits lane)) ⊥) none is.2)
+      go (inr (e, z)) =
+          sized e z (is_lane size lane) refl (is.1 ∙ ap (λ c. parts_or (single_with valid (insert_immediate_row c size d bits lane)) None []) z.code) (subst (λ c. OperandsValidOr (single_with valid (insert_immediate_row c size d bits lane)) ⊥) z.code is.2)
+
+  -- a move of the leftmost element
+  left_moved_runs : (opcode : ℕ) (e : ElementSize) → opcode < 256 → Meant Rr Any opcode (MoveLeft e) → (d n : ℕ) → (d < 32) × (n < 32) → IsVectorRow (move_left_row opcode d n) (moves_left e d n) → StepRuns L k
+  left_moved_runs opcode e short row d n few is = go (nat_lt d 16 && nat_lt n 16) refl is.1
+    where
+      go : (t : Bool) → (nat_lt d 16 && nat_lt n 16) ≡ t → step_parts s ≡ row_part (cond t (rr opcode d n) (vrr_a 0xe756 d n 0)) None ∷ [] → StepRuns L k
+      go true test parts =
+          let tests = and_parts (nat_lt d 16) (nat_lt n 16) test in
+          meant_runs b (rr opcode d n) (MoveLeft e) (moves_left e d n) (λ r. never_by_values (moves_left e d n r) no_code refl (λ kind h. h)) (is.0, parts) row (fits_rr opcode d n short (ltb-true d 16 tests.0) (ltb-true n 16 tests.1)) refl (λ r p. refl)
+      go false test parts =
+          let whole = move_row d n in
+          vector_runs (vrr_a 0xe756 d n 0) O.Move (moves_left e d n) false whole (fits_vrr_a 0xe756 d n 0 (few_digits (elements_listed whole)) few.0 few.1 (omega arith)) (λ r. moves_alone d (left_bits e) (r.vector d) (r.vector n) (r.vector 0) (r.vector 0)) (λ r. never_by_values (moves_left e d n r) no_code refl (λ kind h. h)) is.0 parts
+
 -- ---- all of them
 
 -- a step that is a vector instruction's operation, and its row
@@ -400,4 +520,8 @@ vector_instruction_runs b (VecImmByteMask rd mask) is =
     generated_runs b (vri_a 0xe744 (number_of rd) (low_halfword (pos mask)) 0) (O.ByteMask (low_halfword (pos mask))) (number_of rd) row fit refl refl (λ r. refl) (is.0, is.1)
 vector_instruction_runs b (VecImmReplicate size rd imm) is =
     replicated_runs b (is_vector rd) size (number_of rd) (low_halfword imm) (vector_number rd) (halfword_bits imm) (is.0, is.1, is.2)
+vector_instruction_runs b (VecImmBitMask size rd start end) is = bit_mask_runs b (is_vector rd) size (number_of rd) start end (vector_number rd) (is.0, is.1, is.2)
+vector_instruction_runs b (VecReplicateLane size rd rn lane) is = lane_replicated_runs b (is_vector rd && is_vector rn) size (number_of rd) (number_of rn) lane (two_vectors rd rn) (is.0, is.1, is.2)
+vector_instruction_runs b (FpuMove32 rd rn) is = left_moved_runs b 0x38 Word (omega arith) ler_row (number_of rd) (number_of rn) (two_vectors rd rn is.2) (is.0, is.1)
+vector_instruction_runs b (FpuMove64 rd rn) is = left_moved_runs b 0x28 Doubleword (omega arith) ldr_row (number_of rd) (number_of rn) (two_vectors rd rn is.2) (is.0, is.1)
 vector_instruction_runs b _ is = absurd is.2

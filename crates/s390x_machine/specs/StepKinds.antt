@@ -25,6 +25,9 @@ use Rattle.s390x_inst.specs.Memory.{flags_of}
 use Rattle.s390x_inst.specs.declared.calls.SymbolReloc.{SymbolReloc}
 use Rattle.s390x_typed_steps.specs.Parts.{name_in, offset_in}
 use Rattle.s390x_typed_steps.specs.General.{low_halfword, low_word, low_byte, four_bits, rotation}
+use Rattle.s390x_inst.specs.declared.inst.Inst.TheVariants.{Vector}
+use Rattle.s390x_typed_steps.specs.VectorInstruction.{divides}
+use Rattle.s390x_machine.specs.VectorSteps.{vector_operation}
 use Rattle.s390x_machine.specs.Layout.{Layout, block_address}
 use Rattle.s390x_typed_steps.specs.Steps.{Step, Plain, Opening, Back, Break}
 
@@ -160,6 +163,7 @@ performed L Fence = on_registers idles
 performed L Nop2 = on_registers idles
 performed L (LabelAddress dst label) = on_registers (computes_immediate Kept (on_doublewords Move) (number_of dst) (number_of dst) (block_address L label.0))
 performed L (LoadSymbolReloc rd reloc) = by_scratch (computes_immediate Kept (on_doublewords Move) (number_of rd) (number_of rd) (linked_value L reloc))
+performed L (Vector v) = on_vectors (divides v) (vector_operation v)
 performed L _ = None
 
 -- the code of an access's faults: that of its flags, if there is one. What accesses nothing has none

@@ -1,12 +1,14 @@
 -- What vector instructions on registers and immediates do (cranelift-codegen, `inst.isle`). An operation on vectors has four operands, its own old value
 -- first; 0 stands for those that it doesn't take.
-use Rattle.std.specs.Prelude.{ℕ, ◌+◌, ◌*◌, ◌%◌, ◌^◌, pos, true, false, cond, nat_eq, Option, Some, None}
+use Rattle.std.specs.Prelude.{ℕ, ◌+◌, ◌*◌, ◌%◌, ◌^◌, ◌-◌, pos, true, false, cond, nat_eq, Option, Some, None}
 use Rattle.s390x_base.specs.Regs.{number_of}
 use Rattle.s390x_inst.specs.declared.vec_inst.VecInst.{VecInst}
-use Rattle.s390x_inst.specs.declared.vec_inst.VecInst.TheVariants.{VecRRR, VecRR, VecSelect, VecPermute, VecBlend, VecIntCmp, VecIntCmpS, VecIntEltCmp, VecMov, VecShiftRR, VecEvaluate, VecPermuteDWImm, MovToVec128, VecImmByteMask, VecImmReplicate}
+use Rattle.s390x_inst.specs.declared.vec_inst.VecInst.TheVariants.{VecRRR, VecRR, VecSelect, VecPermute, VecBlend, VecIntCmp, VecIntCmpS, VecIntEltCmp, VecMov, VecShiftRR, VecEvaluate, VecPermuteDWImm, MovToVec128, VecImmByteMask, VecImmReplicate, VecImmBitMask, VecReplicateLane, FpuMove32, FpuMove64}
 use Rattle.s390x_lanes.specs.declared.operation.ShiftOperator.{ShiftOperator}
 use Rattle.s390x_lanes.specs.declared.operation.VectorOperation.{VectorOperation}
-use Rattle.s390x_lanes.specs.declared.operation.VectorOperation.TheVariants.{Select, Permute, Blend, Move, ShiftElements, Evaluate, PermuteDoublewords, ByteMask, ReplicateImmediate}
+use Rattle.s390x_lanes.specs.declared.operation.VectorOperation.TheVariants.{Select, Permute, Blend, Move, ShiftElements, Evaluate, PermuteDoublewords, ByteMask, ReplicateImmediate, BitMask, Replicate, InsertImmediate}
+use Rattle.s390x_lanes.specs.Results.{vector_result}
+use Rattle.s390x_lanes.specs.Size.{element_bits}
 use Rattle.s390x_lanes.specs.declared.size.ElementSize.{ElementSize}
 use Rattle.s390x_lanes.specs.declared.size.ElementSize.TheVariants.{Byte, Halfword, Word, Doubleword}
 use Rattle.s390x_operations.specs.State.{Registers}
@@ -16,7 +18,7 @@ use Rattle.s390x_operations.specs.declared.effect.Operation.{Operation}
 use Rattle.s390x_typed_steps.specs.General.{low_halfword, low_byte}
 use Rattle.s390x_machine.specs.Computations.{with_rule}
 use Rattle.s390x_machine.specs.Operands.{based}
-use Rattle.s390x_machine.specs.Semantics.{all_bits}
+use Rattle.s390x_machine.specs.Semantics.{all_bits, left_bits}
 use Rattle.s390x_machine.specs.VectorOperations.{binary_operation, unary_operation, shift_operator, shifted_elements, comparison_operation, element_comparison}
 
 -- vector register d becomes what an operation makes of vector registers n and m
@@ -35,7 +37,7 @@ computes_three_vectors o d n m a r = with_rule Set (Effect.ComputeVector o d (r.
 abbrev pub compares_vectors : VectorOperation → (n m : ℕ) → Registers → Operation
 compares_vectors o n m = computes_one_vector o n m
 
--- vector register d becomes an operation's value, which takes none
+-- vector register d becomes an operation's value, which takes none but the old one
 abbrev pub generates_vector : VectorOperation → (d : ℕ) → Registers → Operation
 generates_vector o d r = with_rule Set (Effect.ComputeVector o d (r.vector d) 0 0 0)
 
@@ -50,6 +52,18 @@ joins_registers d n m r = with_rule Kept (Effect.PutVector d all_bits (r.general
 -- elements of 8, 16 or 32 bits, and else of 64
 abbrev pub elements_of : (size : ℕ) → ElementSize
 elements_of size = cond (nat_eq size 8) Byte (cond (nat_eq size 16) Halfword (cond (nat_eq size 32) Word Doubleword))
+
+-- the bits of one element
+abbrev pub lane_bits : ElementSize → (lane : ℕ) → ℕ
+lane_bits size lane = (2 ^ element_bits size - 1) * 2 ^ (128 - element_bits size * (lane + 1))
+
+-- vector register d gets an immediate at one element; the other elements may become any
+abbrev pub inserts_immediate_alone : ElementSize → (d bits lane : ℕ) → Registers → Operation
+inserts_immediate_alone size d bits lane r = with_rule Kept (Effect.PutVector d (lane_bits size lane) (vector_result (InsertImmediate size bits lane) (r.vector d) 0 0 0))
+
+-- the leftmost element of vector register d becomes that of n; the rest may become any
+abbrev pub moves_left : ElementSize → (d n : ℕ) → Registers → Operation
+moves_left size d n r = with_rule Kept (Effect.PutVector d (left_bits size) (r.vector n))
 
 -- the instructions that are one operation
 abbrev pub vector_operation : VecInst → Option (Registers → Operation)
@@ -68,4 +82,8 @@ vector_operation (VecPermuteDWImm rd rn rm first second) = Some (computes_two_ve
 vector_operation (MovToVec128 rd rn rm) = Some (joins_registers (number_of rd) (number_of rn) (number_of rm))
 vector_operation (VecImmByteMask rd mask) = Some (generates_vector (ByteMask (low_halfword (pos mask))) (number_of rd))
 vector_operation (VecImmReplicate size rd imm) = Some (generates_vector (ReplicateImmediate (elements_of size) (low_halfword imm)) (number_of rd))
+vector_operation (VecImmBitMask size rd start end) = Some (generates_vector (BitMask (elements_of size) start end) (number_of rd))
+vector_operation (VecReplicateLane size rd rn lane) = Some (computes_one_vector (Replicate (elements_of size) lane) (number_of rd) (number_of rn))
+vector_operation (FpuMove32 rd rn) = Some (moves_left Word (number_of rd) (number_of rn))
+vector_operation (FpuMove64 rd rn) = Some (moves_left Doubleword (number_of rd) (number_of rn))
 vector_operation _ = None

@@ -6,7 +6,7 @@ use Rattle.s390x_typed_steps.specs.MachineInstruction.{MachineInstruction, bytes
 use Rattle.s390x_typed_steps.specs.SingleInstruction.{SingleInstruction}
 
 -- the bytes of a machine instruction where its operands may stand there, else the refusal
-abbrev pub code_where : (operands_valid : Bool) → MachineInstruction → Result (List ℕ) EmitError
+unfoldable pub code_where : (operands_valid : Bool) → MachineInstruction → Result (List ℕ) EmitError
 code_where operands_valid row = cond operands_valid (Ok (bytes_of row)) (Err BadRegister)
 
 -- the same of an instruction; none where it isn't one machine instruction

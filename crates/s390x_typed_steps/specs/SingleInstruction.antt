@@ -12,6 +12,8 @@ use Rattle.s390x_inst.specs.declared.ops.UnaryOp.{UnaryOp}
 use Rattle.s390x_inst.specs.declared.ops.UnaryOp.TheVariants.{PopcntByte, PopcntReg}
 use Rattle.s390x_typed_steps.specs.General.{is_general, is_even_pair, reuses, reuses_pair, low_halfword, low_word, four_bits, low_displacement, low_byte, rotation, is_access}
 use Rattle.s390x_typed_steps.specs.MachineInstruction.{MachineInstruction, rr, rre, rrf_ab, rrf_cde, ri_a, rie_a, rie_d, rie_f, rie_g, ril_a, rsy, rxy}
+use Rattle.s390x_inst.specs.declared.inst.Inst.TheVariants.{Vector}
+use Rattle.s390x_typed_steps.specs.VectorInstruction.{vector_row, vector_operands_valid, vector_stop}
 use Rattle.s390x_typed_steps.specs.Opcodes.{alu_three, alu_two, cmp_two, cmp_trap, cmp_trap_signed, cmp_trap_unsigned, unary_two, alu_halfword, alu_three_halfword, alu_signed_word, alu_unsigned_word, cmp_halfword, cmp_signed_word, cmp_unsigned_word, alu_part, alu_half, load_part, load_half, insert_part}
 use Rattle.s390x_typed_steps.specs.Opcodes.{insert_half, extend_two, shift_opcode, rotate_then, rotate_then_test, indexed_opcode, logical_indexed_opcode}
 
@@ -144,6 +146,7 @@ single_instruction (AllocateArgs size) = Some (record { row = allocate_row size;
 -- BRANCH ON CONDITION to no address, and under a mask that selects nothing
 single_instruction Fence = Some (record { row = rr 0x07 14 0; operands_valid = true })
 single_instruction Nop2 = Some (record { row = rr 0x07 0 7; operands_valid = true })
+single_instruction (Vector v) = single_with (vector_operands_valid v) (vector_row v)
 single_instruction _ = None
 
 -- the code of the stop of a division, or of a comparison that traps
@@ -155,4 +158,5 @@ stop_code (UDivMod64 rd ri rn) = Some IntegerDivisionByZero
 stop_code (CmpTrapRR op rn rm mask code) = Some code
 stop_code (CmpTrapRSImm16 op rn imm mask code) = Some code
 stop_code (CmpTrapRUImm16 op rn imm mask code) = Some code
+stop_code (Vector v) = vector_stop v
 stop_code _ = None

@@ -6,9 +6,9 @@ use Rattle.s390x_base.specs.declared.regs.Reg.TheVariants.{Real, Virtual}
 use Rattle.s390x_base.specs.declared.trap.TrapKind.{TrapKind}
 use Rattle.s390x_base.specs.declared.trap.TrapKind.TheVariants.{IntegerDivisionByZero}
 use Rattle.s390x_inst.specs.declared.vec_inst.VecInst.{VecInst}
-use Rattle.s390x_inst.specs.declared.vec_inst.VecInst.TheVariants.{VecRRR, VecRR, VecSelect, VecPermute, VecBlend, VecIntCmp, VecIntCmpS, VecIntEltCmp, VecMov, VecShiftRR, VecEvaluate, VecPermuteDWImm, MovToVec128, VecImmByteMask, VecImmReplicate}
+use Rattle.s390x_inst.specs.declared.vec_inst.VecInst.TheVariants.{VecRRR, VecRR, VecSelect, VecPermute, VecBlend, VecIntCmp, VecIntCmpS, VecIntEltCmp, VecMov, VecShiftRR, VecEvaluate, VecPermuteDWImm, MovToVec128, VecImmByteMask, VecImmReplicate, VecImmBitMask, VecReplicateLane, FpuMove32, FpuMove64}
 use Rattle.s390x_typed_steps.specs.General.{is_general, low_halfword, low_byte}
-use Rattle.s390x_typed_steps.specs.MachineInstruction.{MachineInstruction, vrr_a, vri_a, vri_k, vrr_b, vrr_c, vrr_d, vrr_e, vrr_f, vrs_a}
+use Rattle.s390x_typed_steps.specs.MachineInstruction.{MachineInstruction, rr, vri_a, vri_b, vri_c, vri_k, vrr_a, vrr_b, vrr_c, vrr_d, vrr_e, vrr_f, vrs_a}
 use Rattle.s390x_typed_steps.specs.VectorOpcodes.{binary_row, unary_row, shift_row, comparison_row, element_comparison_row, is_division}
 
 -- a real vector register
@@ -29,6 +29,37 @@ abbrev pub replicate_row : (code : Option ℕ) → (d bits : ℕ) → Option Mac
 replicate_row None d bits = None
 replicate_row (Some code) d bits = Some (vri_a 0xe745 d bits code)
 
+-- the number is one of an element of so many bits
+abbrev pub is_lane : (size lane : ℕ) → Bool
+is_lane size lane = nat_lt (lane * size) 128
+
+-- one element for all; none where there is no such element
+abbrev pub replicate_lane_row : (code : Option ℕ) → (size d n lane : ℕ) → Option MachineInstruction
+replicate_lane_row None size d n lane = None
+replicate_lane_row (Some code) size d n lane = cond (is_lane size lane) (Some (vri_c 0xe74d d n lane code)) None
+
+-- ones from a bit to another one in each element; none where there are no such bits
+abbrev pub bit_mask_row : (code : Option ℕ) → (size d start end : ℕ) → Option MachineInstruction
+bit_mask_row None size d start end = None
+bit_mask_row (Some code) size d start end = cond (nat_lt start size && nat_lt end size) (Some (vri_b 0xe746 d start end code)) None
+
+-- an immediate in one element, by the code of its size
+abbrev pub insert_immediate_opcode : (code : ℕ) → ℕ
+insert_immediate_opcode code = cond (nat_eq code 0) 0xe740 (cond (nat_eq code 1) 0xe741 (cond (nat_eq code 2) 0xe743 0xe742))
+
+-- none where there is no such element
+abbrev pub insert_immediate_row : (code : Option ℕ) → (size d bits lane : ℕ) → Option MachineInstruction
+insert_immediate_row None size d bits lane = None
+insert_immediate_row (Some code) size d bits lane = cond (is_lane size lane) (Some (vri_a (insert_immediate_opcode code) d bits lane)) None
+
+-- a move of the leftmost bits: of float registers where both are such, else of whole vectors
+abbrev pub move_left_row : (opcode d n : ℕ) → MachineInstruction
+move_left_row opcode d n = cond (nat_lt d 16 && nat_lt n 16) (rr opcode d n) (vrr_a 0xe756 d n 0)
+
+-- a vector register that has to be the output is it
+abbrev pub reuses_vector : (output input : Reg) → Bool
+reuses_vector output input = is_vector output && is_vector input && nat_eq (number_of output) (number_of input)
+
 -- the one machine instruction of a vector instruction, where it is one that is built
 abbrev pub vector_row : VecInst → Option MachineInstruction
 vector_row (VecRRR op rd rn rm) = Some (vrr_c (binary_row op).opcode (number_of rd) (number_of rn) (number_of rm) (binary_row op).code)
@@ -47,6 +78,10 @@ vector_row (VecPermuteDWImm rd rn rm first second) = doublewords_row (number_of 
 vector_row (MovToVec128 rd rn rm) = Some (vrr_f 0xe762 (number_of rd) (number_of rn) (number_of rm))
 vector_row (VecImmByteMask rd mask) = Some (vri_a 0xe744 (number_of rd) (low_halfword (pos mask)) 0)
 vector_row (VecImmReplicate size rd imm) = replicate_row (element_code size) (number_of rd) (low_halfword imm)
+vector_row (VecImmBitMask size rd start end) = bit_mask_row (element_code size) size (number_of rd) start end
+vector_row (VecReplicateLane size rd rn lane) = replicate_lane_row (element_code size) size (number_of rd) (number_of rn) lane
+vector_row (FpuMove32 rd rn) = Some (move_left_row 0x38 (number_of rd) (number_of rn))
+vector_row (FpuMove64 rd rn) = Some (move_left_row 0x28 (number_of rd) (number_of rn))
 vector_row _ = None
 
 -- its registers may stand there: real ones of the row's classes, and the input that has to be the output is it
@@ -66,6 +101,10 @@ vector_operands_valid (VecPermuteDWImm rd rn rm first second) = is_vector rd && 
 vector_operands_valid (MovToVec128 rd rn rm) = is_vector rd && is_general rn && is_general rm
 vector_operands_valid (VecImmByteMask rd mask) = is_vector rd
 vector_operands_valid (VecImmReplicate size rd imm) = is_vector rd
+vector_operands_valid (VecImmBitMask size rd start end) = is_vector rd
+vector_operands_valid (VecReplicateLane size rd rn lane) = is_vector rd && is_vector rn
+vector_operands_valid (FpuMove32 rd rn) = is_vector rd && is_vector rn
+vector_operands_valid (FpuMove64 rd rn) = is_vector rd && is_vector rn
 vector_operands_valid _ = false
 
 -- a division, which may stop by its values

@@ -1,7 +1,7 @@
 use Rattle.std.proofs.Common.{[], ◌∷◌, ap, ◌∙◌}
 use Rattle.s390x_base.specs.Regs.{number_of}
 use Rattle.s390x_typed_steps.specs.MachineInstruction.{rsy}
-use Rattle.s390x_emit_int.specs.SingleCode.{code_where}
+use Rattle.s390x_typed_steps.specs.SingleCode.{code_where}
 use Rattle.s390x_emit_int.proofs.Encoding.{follows, encoded, three_encode}
 use Rattle.s390x_emit_int.proofs.codes.shifted.Goals as goal
 

@@ -3,7 +3,7 @@ use Rattle.s390x_base.specs.Regs.{number_of}
 use Rattle.s390x_base.specs.declared.regs.Reg.{Reg}
 use Rattle.s390x_typed_steps.specs.General.{is_general, low_displacement}
 use Rattle.s390x_typed_steps.specs.MachineInstruction.{MachineInstruction, rxy}
-use Rattle.s390x_emit_int.specs.SingleCode.{code_where, single_code}
+use Rattle.s390x_typed_steps.specs.SingleCode.{code_where, single_code}
 use Rattle.s390x_typed_steps.specs.SingleInstruction.{single_with, indexed_row}
 use Rattle.s390x_emit_int.proofs.moves.indexed_row.Goals as goal
 

@@ -2,7 +2,7 @@ use Rattle.std.proofs.Common.{Some, sym, ap, ◌∙◌}
 use Rattle.s390x_base.specs.Regs.{number_of}
 use Rattle.s390x_inst.specs.declared.inst.Inst.{Inst}
 use Rattle.s390x_typed_steps.specs.General.{is_general, low_halfword, low_word}
-use Rattle.s390x_emit_int.specs.SingleCode.{single_code}
+use Rattle.s390x_typed_steps.specs.SingleCode.{single_code}
 use Rattle.s390x_typed_steps.specs.SingleInstruction.{single_instruction, single_with, halfword_row, word_row}
 use Rattle.s390x_emit_int.proofs.single_instruction.find_single_instruction.Goals as goal
 
