@@ -1,10 +1,10 @@
 #!/usr/bin/env bash
-# Counts the instructions that the program executes for each step of the machine in a loop over registers (`Loop` of an addition and two branches), by
-# valgrind's callgrind: `run` with 1000 steps and with 101000; the difference counts. Of them those inside the decoder, where the compiler left it as
-# functions of its own. The counts are repeatable. The program has to be built first (./s390x image 4096 < examples/add.job).
+# Counts executed instructions by valgrind's callgrind: those of a step of the machine in a loop over registers (`Loop` of an addition and two branches),
+# by `run` with 1000 steps and with 101000, and those of `decode`, by `s390x_decode_bench` with 1000 turns and with 101000; each time the difference
+# counts. A turn of `s390x_decode_bench` also makes the bytes and sums up the fields. The counts are repeatable. Both programs have to be built first
+# (rt ci, or rt run in their folders).
 set -eu
 cd "$(dirname "$0")/.."
-program=crates/s390x/out/s390x
 work=$(mktemp -d)
 trap 'rm -rf "$work"' EXIT
 
@@ -19,16 +19,22 @@ Ret %r14
 end
 END
 
-# The instructions executed for so many steps: all, and those of the decoder alone.
+# The instructions that a program executes with these words and the job as its input.
 counted() {
-    valgrind --tool=callgrind --callgrind-out-file="$work/callgrind.out" "$program" run 4096 "$1" < "$work/job" > "$work/text" 2> "$work/valgrind.log"
-    callgrind_annotate "$work/callgrind.out" | tr -d , | awk '
-        /PROGRAM TOTALS/ { all = $1 }
-        /s390x_format::decoder::/ { decode += $1 }
-        END { print all, decode + 0 }
-    '
+    valgrind --tool=callgrind --callgrind-out-file="$work/callgrind.out" "$@" < "$work/job" > "$work/text" 2> "$work/valgrind.log"
+    sed -n 's/.*Collected : //p' "$work/valgrind.log"
 }
 
-read -r few few_decode <<< "$(counted 1000)"
-read -r many many_decode <<< "$(counted 101000)"
-echo "executed for each step: $(((many - few) / 100000)), in the decoder $(((many_decode - few_decode) / 100000))"
+step() {
+    counted crates/s390x/out/s390x run 4096 "$1"
+}
+
+decode() {
+    counted crates/s390x_decode_bench/out/s390x_decode_bench "$1" "$2"
+}
+
+echo "executed for each step: $((($(step 101000) - $(step 1000)) / 100000))"
+for bytes in b9e840220000 c084fffffffe e32030080004 a72b00010000 b90800240000; do
+    number=$((16#$bytes))
+    echo "executed to decode $bytes: $((($(decode 101000 "$number") - $(decode 1000 "$number")) / 100000))"
+done

@@ -1,6 +1,6 @@
 -- Which bytes are a row's, from their first byte and their opcode.
 use Rattle.std.proofs.Common.{◌≡◌, ℕ, zero, suc, ◌+◌, ◌-◌, ◌*◌, ◌/◌, ◌%◌, ◌^◌, ◌<◌, ◌≤◌, true, ◌==◌, inl, inr, List, [], ◌∷◌, length, get_or, refl, arith, eqb-true, leb-true, nat_le}
-use Rattle.std.proofs.lemmas.Nat.{div-mul-add}
+use Rattle.std.proofs.lemmas.Nat.{div-mul-add, mod-mul-add}
 use Rattle.std.proofs.lemmas.Bool.{and_parts, cases_order}
 use Rattle.s390x_format.specs.declared.row.MachineRow.{MachineRow}
 use Rattle.s390x_format.specs.declared.kind.FormatKind.{FormatKind}
@@ -10,7 +10,8 @@ use Rattle.s390x_format.specs.Formats.{layout_of, length_of, place_of}
 use Rattle.s390x_format.specs.Rows.{are_rows, rises, first_of, first_byte_of, fetch_length_of}
 use Rattle.s390x_format.specs.declared.index.RestPlace.{RestPlace}
 use Rattle.s390x_format.specs.declared.index.RestPlace.TheVariants.{Nowhere, LowHalf, SecondByte, LastByte}
-use Rattle.s390x_format.specs.Reading.{opcode_at, no_row}
+use Rattle.s390x_format.specs.Reading.{opcode_at, rest_at, no_row}
+use Rattle.s390x_format.specs.Index.{rest_of}
 
 -- ---- the table
 pub row_at : (rs : List MachineRow) (i : ℕ) → are_rows rs ≡ true → i < length rs → fetch_length_of (first_byte_of (get_or rs i no_row)) ≡ length_of (get_or rs i no_row).format
@@ -57,3 +58,9 @@ first_place Nowhere t n = refl
 first_place LowHalf t n = div-mul-add (n / 2 ^ (t - 8) % 256) 16 (n / 2 ^ (t - 16) % 16) (omega arith)
 first_place SecondByte t n = div-mul-add (n / 2 ^ (t - 8) % 256) 256 (n / 2 ^ (t - 16) % 256) (omega arith)
 first_place LastByte t n = div-mul-add (n / 2 ^ (t - 8) % 256) 256 (n % 256) (omega arith)
+
+pub rest_place : (p : RestPlace) (t n : ℕ) → rest_of p (opcode_at p t n) ≡ rest_at p t n
+rest_place Nowhere t n = refl
+rest_place LowHalf t n = mod-mul-add (n / 2 ^ (t - 8) % 256) 16 (n / 2 ^ (t - 16) % 16) (omega arith)
+rest_place SecondByte t n = mod-mul-add (n / 2 ^ (t - 8) % 256) 256 (n / 2 ^ (t - 16) % 256) (omega arith)
+rest_place LastByte t n = mod-mul-add (n / 2 ^ (t - 8) % 256) 256 (n % 256) (omega arith)

@@ -11,17 +11,19 @@ use Rattle.s390x_format.specs.declared.row.MachineRow.{MachineRow}
 use Rattle.s390x_format.specs.declared.kind.FormatKind.{FormatKind}
 use Rattle.s390x_format.specs.declared.reading.Reading.{Reading}
 use Rattle.s390x_format.specs.declared.reading.PlacedReading.{PlacedReading}
+use Rattle.s390x_format.specs.declared.reading.LeadingBytes.{LeadingBytes}
+use Rattle.s390x_format.specs.declared.index.RestPlace.{RestPlace}
 use Rattle.s390x_format.specs.Layout.{number}
 use Rattle.s390x_format.specs.Formats.{layout_of, length_of, place_of}
 use Rattle.s390x_format.specs.Rows.{are_rows, rises, first_of, fetch_length_of}
 use Rattle.s390x_format.specs.declared.index.FirstByte.{FirstByte}
-use Rattle.s390x_format.specs.Index.{no_first_byte, is_index}
-use Rattle.s390x_format.specs.Reading.{be_bytes, be_number, opcode_at, no_row, HasOpcode, IsReadAs, IsReading, IsPlacedReading}
+use Rattle.s390x_format.specs.Index.{no_first_byte, is_index, rest_of, place_in, are_placed}
+use Rattle.s390x_format.specs.Reading.{be_bytes, be_number, opcode_at, rest_at, no_row, HasOpcode, IsLeading, IsReadAs, IsReading, IsPlacedReading}
 use Rattle.s390x_format.proofs.Packing.{layout_slot, field-number, number_lt}
 use Rattle.s390x_format.proofs.FormatFacts.{layout_ok, layout_bits_of, length_some}
 use Rattle.s390x_format.proofs.Bytes.{be_number-be_bytes, be_number_lt}
-use Rattle.s390x_format.proofs.Searching.{placed_at}
-use Rattle.s390x_format.proofs.Fetching.{row_at, same_place, field_opcode, first_place}
+use Rattle.s390x_format.proofs.Searching.{placed_at, row_placed}
+use Rattle.s390x_format.proofs.Fetching.{row_at, same_place, field_opcode, first_place, rest_place}
 
 first_byte : (k n : ℕ) → 1 ≤ k → get_or (be_bytes k n) 0 0 ≡ n / 2 ^ (8 * k - 8) % 256
 unfolding be_bytes
@@ -149,3 +151,45 @@ fetched_some rows bs count o at (Some p) bytes le f h = record {
     same = ap (λ (i : ℕ). (get_or rows i no_row).opcode) h.0 ∙ sym h.1.opcode;
   };
 }
+
+-- the row that the bytes are of stands where the index and the offsets place it
+pub placed : (rows : List MachineRow) (firsts : List FirstByte) (offsets bs : List ℕ) (d : Reading) (l : LeadingBytes) (rest : ℕ) → is_index rows firsts ≡ true → are_placed 0 rows firsts offsets ≡ true →
+    (k : Known rows firsts bs d) → IsLeading bs l → rest ≡ rest_at (get_or firsts l.first no_first_byte).rest (8 * l.count) l.number → k.at ≡ place_in firsts offsets l.first rest
+placed rows firsts offsets bs d l rest index ok k is e =
+    let r : MachineRow = get_or rows k.at no_row in
+    let b : ℕ = get_or bs 0 0 in
+    let p : RestPlace = (get_or firsts b no_first_byte).rest in
+    let count : l.count ≡ fetch_length_of b = is.count ∙ ap fetch_length_of is.first in
+    let num : l.number ≡ be_number (take (fetch_length_of b) bs) = is.number_is ∙ ap (λ (c : ℕ). be_number (take c bs)) count in
+    let shape : p ≡ place_of r.format = placed_at rows firsts k.at b index k.below k.first in
+    let code : rest_of p r.opcode ≡ rest_at p (8 * fetch_length_of b) (be_number (take (fetch_length_of b) bs)) = ap (λ (o : ℕ). rest_of p o) k.code ∙ rest_place p _ _ in
+    let here : rest ≡ rest_of (place_of r.format) r.opcode =
+    e ∙ ap (λ (z : ℕ). rest_at (get_or firsts z no_first_byte).rest (8 * l.count) l.number) is.first
+    ∙ ap (λ (c : ℕ). rest_at p (8 * c) l.number) count ∙ ap (λ (n : ℕ). rest_at p (8 * fetch_length_of b) n) num
+    ∙ sym code ∙ ap (λ (q : RestPlace). rest_of q r.opcode) shape in
+    sym (ap (λ (z : ℕ). place_in firsts offsets l.first z) here
+    ∙ ap (λ (z : ℕ). place_in firsts offsets z (rest_of (place_of r.format) r.opcode)) (is.first ∙ sym k.first)
+    ∙ row_placed rows firsts offsets k.at ok k.below)
+
+-- a reading at a place in the table is one of the row that stands there
+pub read_there : (rows : List MachineRow) (bs : List ℕ) (count at : ℕ) (x : Option PlacedReading) → ((i : ℕ) → get_or bs i 0 < 256) → count ≤ length bs → at < length rows →
+    IfSome x (λ p. (p.at ≡ at) × IsReadAs (get_or rows at no_row) count (be_number (take count bs)) p.reading) → IfSome x (λ p. IsPlacedReading rows bs p)
+read_there rows bs count at x bytes le below h = fetched_some rows bs count (get_or rows at no_row).opcode at x bytes le (record { below = below; same = refl }) h
+
+-- the row that the bytes are of reads the leading number
+pub read_here : (rows : List MachineRow) (firsts : List FirstByte) (bs : List ℕ) (d : Reading) (l : LeadingBytes) (at : ℕ) → (k : Known rows firsts bs d) → IsLeading bs l → k.at ≡ at → IsReadAs (get_or rows at no_row) l.count l.number d
+read_here rows firsts bs d l at k is e =
+    let count : l.count ≡ fetch_length_of (get_or bs 0 0) = is.count ∙ ap fetch_length_of is.first in
+    let num : l.number ≡ be_number (take (fetch_length_of (get_or bs 0 0)) bs) = is.number_is ∙ ap (λ (c : ℕ). be_number (take c bs)) count in
+    rw (num, count, ← e) k.read
+
+-- its opcode is that of the leading number
+pub code_here : (rows : List MachineRow) (firsts : List FirstByte) (bs : List ℕ) (d : Reading) (l : LeadingBytes) (o : ℕ) → (k : Known rows firsts bs d) → IsLeading bs l →
+    o ≡ opcode_at (get_or firsts l.first no_first_byte).rest (8 * l.count) l.number → (get_or rows k.at no_row).opcode ≡ o
+code_here rows firsts bs d l o k is e =
+    let b : ℕ = get_or bs 0 0 in
+    let p : RestPlace = (get_or firsts b no_first_byte).rest in
+    let count : l.count ≡ fetch_length_of b = is.count ∙ ap fetch_length_of is.first in
+    let num : l.number ≡ be_number (take (fetch_length_of b) bs) = is.number_is ∙ ap (λ (c : ℕ). be_number (take c bs)) count in
+    k.code ∙ sym (e ∙ ap (λ (z : ℕ). opcode_at (get_or firsts z no_first_byte).rest (8 * l.count) l.number) is.first
+    ∙ ap (λ (c : ℕ). opcode_at p (8 * c) l.number) count ∙ ap (λ (n : ℕ). opcode_at p (8 * fetch_length_of b) n) num)

@@ -1,5 +1,5 @@
--- The halving search.
-use Rattle.std.proofs.Common.{◌≡◌, ℕ, zero, suc, ◌+◌, ◌-◌, ◌*◌, ◌^◌, ◌<◌, ◌≤◌, true, ◌&&◌, List, [], ◌∷◌, length, get_or, refl, ap, subst, ◌∙◌, arith, inl, inr, leb-true, nat_le, nat_lt, add-one}
+-- The search for a row, at its place and by halving.
+use Rattle.std.proofs.Common.{◌≡◌, ℕ, zero, suc, ◌+◌, ◌-◌, ◌*◌, ◌^◌, ◌<◌, ◌≤◌, true, ◌&&◌, List, [], ◌∷◌, length, get_or, refl, ap, subst, ◌∙◌, arith, inl, inr, leb-true, eqb-true, nat_le, nat_lt, add-one, ◌==◌}
 use Rattle.std.proofs.Math.Pow.{pow_pos, pow-add}
 use Rattle.std.proofs.Math.Nat.{mul_assoc}
 use Rattle.std.proofs.lemmas.Nat.{mul-le}
@@ -11,7 +11,7 @@ use Rattle.s390x_format.specs.declared.index.RestPlace.{RestPlace}
 use Rattle.s390x_format.specs.declared.index.RestPlace.TheVariants.{Nowhere, LowHalf, SecondByte, LastByte}
 use Rattle.s390x_format.specs.Rows.{rises, first_byte_of, rows_with}
 use Rattle.s390x_format.specs.Reading.{no_row}
-use Rattle.s390x_format.specs.Index.{no_first_byte, places_agree, are_indexed, are_tight, is_index}
+use Rattle.s390x_format.specs.Index.{no_first_byte, places_agree, are_indexed, are_tight, is_index, rest_of, place_in, are_placed, has_room}
 use Rattle.s390x_format.proofs.Fetching.{rises_lt}
 
 agreed : (p q : RestPlace) → places_agree p q ≡ true → p ≡ q
@@ -121,3 +121,35 @@ above_next rs end mid o up few h ne k a b =
 pub power_above : (s : ℕ) → s < 2 ^ s
 power_above zero = omega arith
 power_above (suc s) = let e : 2 ^ (s + 1) ≡ 2 ^ s * 2 = pow-add 2 s 1 in omega (arith, power_above s, pow_pos s, rw add-one at e)
+
+-- each row stands where the index and the offsets place it
+placed_from : (i0 : ℕ) (rs : List MachineRow) (ps : List FirstByte) (offsets : List ℕ) (i : ℕ) → are_placed i0 rs ps offsets ≡ true → i < length rs →
+    place_in ps offsets (first_byte_of (get_or rs i no_row)) (rest_of (place_of (get_or rs i no_row).format) (get_or rs i no_row).opcode) ≡ i0 + i
+unfolding are_placed
+placed_from i0 [] ps offsets i h lt = absurd (omega arith)
+placed_from i0 (r ∷ rs) ps offsets zero h lt =
+    let t = and_parts (place_in ps offsets (first_byte_of r) (rest_of (place_of r.format) r.opcode) == i0) (are_placed (i0 + 1) rs ps offsets) h in
+    let e : i0 ≡ i0 + 0 = omega arith in eqb-true _ _ t.0 ∙ e
+placed_from i0 (r ∷ rs) ps offsets (suc i) h lt =
+    let e : i0 + 1 + i ≡ i0 + suc i = omega arith in
+    placed_from (i0 + 1) rs ps offsets i (and_parts _ (are_placed (i0 + 1) rs ps offsets) h).1 (omega arith) ∙ e
+
+pub row_placed : (rs : List MachineRow) (ps : List FirstByte) (offsets : List ℕ) (i : ℕ) → are_placed 0 rs ps offsets ≡ true → i < length rs →
+    place_in ps offsets (first_byte_of (get_or rs i no_row)) (rest_of (place_of (get_or rs i no_row).format) (get_or rs i no_row).opcode) ≡ i
+row_placed rs ps offsets i h lt = let e : 0 + i ≡ i = omega arith in placed_from 0 rs ps offsets i h lt ∙ e
+
+-- a first byte has 256 offsets
+pub record Roomy (p : FirstByte) (list : List ℕ) : Type 0 where
+  pub enough : p.offsets + 256 ≤ length list
+  pub few : p.offsets < 65536
+  pub start : p.start < 65536
+
+pub room_at : (ps : List FirstByte) (offsets : List ℕ) (i : ℕ) → has_room ps offsets ≡ true → i < length ps → Roomy (get_or ps i no_first_byte) offsets
+unfolding has_room
+room_at [] offsets i h lt = absurd (omega arith)
+room_at (p ∷ ps) offsets zero h lt =
+    let t = and_parts (nat_le (p.offsets + 256) (length offsets) && nat_lt p.offsets 65536 && nat_lt p.start 65536) (has_room ps offsets) h in
+    let s = and_parts (nat_le (p.offsets + 256) (length offsets) && nat_lt p.offsets 65536) (nat_lt p.start 65536) t.0 in
+    let u = and_parts (nat_le (p.offsets + 256) (length offsets)) (nat_lt p.offsets 65536) s.0 in
+    record { enough = leb-true (p.offsets + 256) (length offsets) u.0; few = ltb-true p.offsets 65536 u.1; start = ltb-true p.start 65536 s.1 }
+room_at (p ∷ ps) offsets (suc i) h lt = room_at ps offsets i (and_parts _ (has_room ps offsets) h).1 (omega arith)

@@ -1,5 +1,5 @@
 -- The table's index by first bytes.
-use Rattle.std.specs.Prelude.{◌≡◌, ℕ, ◌+◌, ◌-◌, ◌<◌, Bool, true, false, ◌&&◌, nat_le, nat_lt, List, [], ◌∷◌, length, get_or}
+use Rattle.std.specs.Prelude.{◌≡◌, ℕ, ◌+◌, ◌-◌, ◌%◌, ◌<◌, ◌==◌, Bool, true, false, ◌&&◌, nat_le, nat_lt, List, [], ◌∷◌, length, get_or}
 use Rattle.s390x_format.specs.declared.row.MachineRow.{MachineRow}
 use Rattle.s390x_format.specs.declared.index.FirstByte.{FirstByte}
 use Rattle.s390x_format.specs.declared.index.RestPlace.{RestPlace}
@@ -10,7 +10,7 @@ use Rattle.s390x_format.specs.Reading.{no_row}
 
 -- what a read past the index's end gives
 abbrev pub no_first_byte : FirstByte
-no_first_byte = record { rest = Nowhere; start = 0; end = 0 }
+no_first_byte = record { rest = Nowhere; start = 0; end = 0; offsets = 0 }
 
 -- the two are the same place
 abbrev pub places_agree : RestPlace → RestPlace → Bool
@@ -34,6 +34,27 @@ are_tight b (p ∷ ps) rs = nat_le p.end (length rs) && nat_le p.start p.end && 
 -- the parts are an index of the rows
 abbrev pub is_index : List MachineRow → List FirstByte → Bool
 is_index rs ps = are_indexed 0 rs ps && are_tight 0 ps rs
+
+-- the rest of an opcode that goes on there
+abbrev pub rest_of : RestPlace → ℕ → ℕ
+rest_of Nowhere o = 0
+rest_of LowHalf o = o % 16
+rest_of SecondByte o = o % 256
+rest_of LastByte o = o % 256
+
+-- where the index and the offsets place the row with a first byte and the rest of an opcode
+abbrev pub place_in : List FirstByte → List ℕ → ℕ → ℕ → ℕ
+place_in ps offsets first rest = let p = get_or ps first no_first_byte in p.start + get_or offsets (p.offsets + rest) 0
+
+-- each row, from the i-th on, stands at its place
+unfoldable pub are_placed : ℕ → List MachineRow → List FirstByte → List ℕ → Bool
+are_placed i [] ps offsets = true
+are_placed i (r ∷ rs) ps offsets = (place_in ps offsets (first_byte_of r) (rest_of (place_of r.format) r.opcode) == i) && are_placed (i + 1) rs ps offsets
+
+-- each first byte has 256 offsets, and its rows and offsets begin where a number of 16 bits can tell
+unfoldable pub has_room : List FirstByte → List ℕ → Bool
+has_room [] offsets = true
+has_room (p ∷ ps) offsets = nat_le (p.offsets + 256) (length offsets) && nat_lt p.offsets 65536 && nat_lt p.start 65536 && has_room ps offsets
 
 -- no row has the first byte and the opcode
 abbrev pub LacksRow : List MachineRow → ℕ → ℕ → Type 0

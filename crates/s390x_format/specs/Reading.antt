@@ -1,16 +1,17 @@
 -- Which bytes are a row's, with which values in the slots.
-use Rattle.std.specs.Prelude.{◌≡◌, ℕ, zero, suc, ◌+◌, ◌-◌, ◌*◌, ◌/◌, ◌%◌, ◌^◌, ◌<◌, true, List, [], ◌∷◌, length, take, get_or, slice_index, Option, Some, None}
+use Rattle.std.specs.Prelude.{◌≡◌, ℕ, zero, suc, ◌+◌, ◌-◌, ◌*◌, ◌/◌, ◌%◌, ◌^◌, ◌<◌, ◌≤◌, true, List, [], ◌∷◌, length, take, get_or, slice_index, Option, Some, None}
 use Rattle.s390x_format.specs.declared.kind.FormatKind.{FormatKind}
 use Rattle.s390x_format.specs.declared.kind.FormatKind.TheVariants.{E}
 use Rattle.s390x_format.specs.declared.row.MachineRow.{MachineRow}
 use Rattle.s390x_format.specs.declared.row.Allowed.TheVariants.{Any}
 use Rattle.s390x_format.specs.declared.reading.Reading.{Reading}
 use Rattle.s390x_format.specs.declared.reading.PlacedReading.{PlacedReading}
+use Rattle.s390x_format.specs.declared.reading.LeadingBytes.{LeadingBytes}
 use Rattle.s390x_format.specs.declared.index.RestPlace.{RestPlace}
 use Rattle.s390x_format.specs.declared.index.RestPlace.TheVariants.{Nowhere, LowHalf, SecondByte, LastByte}
 use Rattle.s390x_format.specs.Layout.{number, SlotsFit}
 use Rattle.s390x_format.specs.Formats.{layout_of, length_of}
-use Rattle.s390x_format.specs.Rows.{is_allowed}
+use Rattle.s390x_format.specs.Rows.{is_allowed, fetch_length_of}
 
 -- the k bytes of a number, the most significant first
 unfoldable pub be_bytes : ℕ → ℕ → List ℕ
@@ -36,6 +37,21 @@ opcode_at Nowhere t n = n / 2 ^ (t - 8) % 256
 opcode_at LowHalf t n = n / 2 ^ (t - 8) % 256 * 16 + n / 2 ^ (t - 16) % 16
 opcode_at SecondByte t n = n / 2 ^ (t - 8) % 256 * 256 + n / 2 ^ (t - 16) % 256
 opcode_at LastByte t n = n / 2 ^ (t - 8) % 256 * 256 + n % 256
+
+-- the rest of the opcode of a number of t bits, where it stands there
+abbrev pub rest_at : RestPlace → ℕ → ℕ → ℕ
+rest_at Nowhere t n = 0
+rest_at LowHalf t n = n / 2 ^ (t - 16) % 16
+rest_at SecondByte t n = n / 2 ^ (t - 16) % 256
+rest_at LastByte t n = n % 256
+
+-- as many of the bytes as the first one tells, as a number
+pub record IsLeading (bytes : List ℕ) (l : LeadingBytes) : Type 0 where
+  pub first : l.first ≡ get_or bytes 0 0
+  pub count : l.count ≡ fetch_length_of l.first
+  pub enough : l.count ≤ length bytes
+  pub number_is : l.number ≡ be_number (take l.count bytes)
+  pub below : l.number < 2 ^ (8 * l.count)
 
 -- at this place the table has a row with this opcode
 pub record HasOpcode (rows : List MachineRow) (opcode at : ℕ) : Type 0 where

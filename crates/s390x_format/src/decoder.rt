@@ -2,16 +2,18 @@
 ghost use Rattle.std.specs.Prelude.{◌≡◌, ℕ, ◌+◌, ◌-◌, ◌*◌, ◌^◌, ◌≤◌, ◌<◌, length, slice_index, IfSome};
 ghost use Rattle.s390x_format.specs.Fetch.{IsFetch, IsLocated, decoded_in, machine_rows};
 ghost use Rattle.s390x_format.specs.Rows.{rows_with};
+ghost use Rattle.s390x_format.specs.Reading.{IsPlacedReading, IsReading, reading_in};
 ghost use Rattle.s390x_format.specs.declared.decoder.Decoded.{Decoded};
+ghost use Rattle.s390x_format.specs.declared.reading.Reading.{Reading};
 
 use crate::fields::{Fields, view};
 use crate::first_bytes::FIRST_BYTES;
-use crate::reading::read;
+use crate::reading::{PlacedReading, read, read_counted};
 use crate::row::Row;
+use crate::row_offsets::ROW_OFFSETS;
 use crate::steps::Steps;
 use crate::table::MACHINE_ROWS;
-use std::marker::Brand;
-use std::sync::ledger::{Blank, Ledger};
+use std::sync::ledger::Ledger;
 
 /// An instruction: its row, and its operands.
 #[derive(Clone, Copy)]
@@ -42,19 +44,10 @@ pub fn locate(bytes: &[u8]) -> Option<Located>
     ensures sound { IfSome result (λ l. IsLocated bytes.now l) }
     ensures complete { (d : Decoded) → IsFetch bytes.now d → decoded_in result ≡ Some d }
 {
-    locate_once::<Brand>(bytes, Blank::new(1))
-}
-
-/// The same, with steps that nobody reads.
-fn locate_once<L: Ledger>(bytes: &[u8], blank: Blank) -> Option<Located>
-    requires name { blank.name ≡ L.name }
-    requires parts { blank.parts ≡ L.parts }
-    requires some { 0 < L.parts }
-    ensures sound { IfSome result (λ l. IsLocated bytes.now l) }
-    ensures complete { (d : Decoded) → IsFetch bytes.now d → decoded_in result ≡ Some d }
-{
-    let mut steps = Steps::<L>::new(blank);
-    locate_counted(bytes, &mut steps)
+    located_row(
+        bytes,
+        &read(&MACHINE_ROWS, &FIRST_BYTES, &ROW_OFFSETS, bytes),
+    )
 }
 
 /// What `decode` answers. A step is one comparison of the rest of an opcode with that of a row.
@@ -89,7 +82,20 @@ fn locate_counted<L: Ledger>(bytes: &[u8], steps: &mut Steps<L>) -> Option<Locat
     ensures few_steps { 2 ^ (steps.new - steps.old) ≤ 2 * rows_with (slice_index bytes.now 0) machine_rows + 1 }
     ensures no_bytes { length bytes.now ≡ 0 → steps.new ≡ steps.old }
 {
-    match read(&MACHINE_ROWS, &FIRST_BYTES, bytes, steps) {
+    located_row(
+        bytes,
+        &read_counted(&MACHINE_ROWS, &FIRST_BYTES, bytes, steps),
+    )
+}
+
+/// A reading of the bytes as an instruction.
+fn located_row(bytes: &[u8], placed: &Option<PlacedReading>) -> Option<Located>
+    requires sound { IfSome placed.now (λ p. IsPlacedReading machine_rows bytes.now p) }
+    requires complete { (r : Reading) → IsReading machine_rows bytes.now r → reading_in placed.now ≡ Some r }
+    ensures sound { IfSome result (λ l. IsLocated bytes.now l) }
+    ensures complete { (d : Decoded) → IsFetch bytes.now d → decoded_in result ≡ Some d }
+{
+    match placed {
         Some(placed) => Some(Located {
             at: placed.at,
             decoded: Decoded {

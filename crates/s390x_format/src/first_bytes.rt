@@ -4,260 +4,260 @@ use crate::index::{FirstByte, RestPlace};
 /// For each first byte where the rest of the opcode stands, and the rows of the table with it.
 #[rattlefmt::skip]
 pub const FIRST_BYTES: [FirstByte; 256] = [
-    FirstByte { rest: RestPlace::Nowhere, start: 0, end: 0 }, // 00
-    FirstByte { rest: RestPlace::Nowhere, start: 0, end: 0 }, // 01
-    FirstByte { rest: RestPlace::Nowhere, start: 0, end: 0 }, // 02
-    FirstByte { rest: RestPlace::Nowhere, start: 0, end: 0 }, // 03
-    FirstByte { rest: RestPlace::Nowhere, start: 0, end: 0 }, // 04
-    FirstByte { rest: RestPlace::Nowhere, start: 0, end: 0 }, // 05
-    FirstByte { rest: RestPlace::Nowhere, start: 0, end: 0 }, // 06
-    FirstByte { rest: RestPlace::Nowhere, start: 0, end: 1 }, // 07
-    FirstByte { rest: RestPlace::Nowhere, start: 0, end: 0 }, // 08
-    FirstByte { rest: RestPlace::Nowhere, start: 0, end: 0 }, // 09
-    FirstByte { rest: RestPlace::Nowhere, start: 0, end: 0 }, // 0a
-    FirstByte { rest: RestPlace::Nowhere, start: 0, end: 0 }, // 0b
-    FirstByte { rest: RestPlace::Nowhere, start: 0, end: 0 }, // 0c
-    FirstByte { rest: RestPlace::Nowhere, start: 1, end: 2 }, // 0d
-    FirstByte { rest: RestPlace::Nowhere, start: 0, end: 0 }, // 0e
-    FirstByte { rest: RestPlace::Nowhere, start: 0, end: 0 }, // 0f
-    FirstByte { rest: RestPlace::Nowhere, start: 2, end: 3 }, // 10
-    FirstByte { rest: RestPlace::Nowhere, start: 0, end: 0 }, // 11
-    FirstByte { rest: RestPlace::Nowhere, start: 0, end: 0 }, // 12
-    FirstByte { rest: RestPlace::Nowhere, start: 3, end: 4 }, // 13
-    FirstByte { rest: RestPlace::Nowhere, start: 4, end: 5 }, // 14
-    FirstByte { rest: RestPlace::Nowhere, start: 5, end: 6 }, // 15
-    FirstByte { rest: RestPlace::Nowhere, start: 6, end: 7 }, // 16
-    FirstByte { rest: RestPlace::Nowhere, start: 7, end: 8 }, // 17
-    FirstByte { rest: RestPlace::Nowhere, start: 8, end: 9 }, // 18
-    FirstByte { rest: RestPlace::Nowhere, start: 9, end: 10 }, // 19
-    FirstByte { rest: RestPlace::Nowhere, start: 10, end: 11 }, // 1a
-    FirstByte { rest: RestPlace::Nowhere, start: 11, end: 12 }, // 1b
-    FirstByte { rest: RestPlace::Nowhere, start: 0, end: 0 }, // 1c
-    FirstByte { rest: RestPlace::Nowhere, start: 0, end: 0 }, // 1d
-    FirstByte { rest: RestPlace::Nowhere, start: 12, end: 13 }, // 1e
-    FirstByte { rest: RestPlace::Nowhere, start: 13, end: 14 }, // 1f
-    FirstByte { rest: RestPlace::Nowhere, start: 0, end: 0 }, // 20
-    FirstByte { rest: RestPlace::Nowhere, start: 0, end: 0 }, // 21
-    FirstByte { rest: RestPlace::Nowhere, start: 0, end: 0 }, // 22
-    FirstByte { rest: RestPlace::Nowhere, start: 0, end: 0 }, // 23
-    FirstByte { rest: RestPlace::Nowhere, start: 0, end: 0 }, // 24
-    FirstByte { rest: RestPlace::Nowhere, start: 0, end: 0 }, // 25
-    FirstByte { rest: RestPlace::Nowhere, start: 0, end: 0 }, // 26
-    FirstByte { rest: RestPlace::Nowhere, start: 0, end: 0 }, // 27
-    FirstByte { rest: RestPlace::Nowhere, start: 14, end: 15 }, // 28
-    FirstByte { rest: RestPlace::Nowhere, start: 0, end: 0 }, // 29
-    FirstByte { rest: RestPlace::Nowhere, start: 0, end: 0 }, // 2a
-    FirstByte { rest: RestPlace::Nowhere, start: 0, end: 0 }, // 2b
-    FirstByte { rest: RestPlace::Nowhere, start: 0, end: 0 }, // 2c
-    FirstByte { rest: RestPlace::Nowhere, start: 0, end: 0 }, // 2d
-    FirstByte { rest: RestPlace::Nowhere, start: 0, end: 0 }, // 2e
-    FirstByte { rest: RestPlace::Nowhere, start: 0, end: 0 }, // 2f
-    FirstByte { rest: RestPlace::Nowhere, start: 0, end: 0 }, // 30
-    FirstByte { rest: RestPlace::Nowhere, start: 0, end: 0 }, // 31
-    FirstByte { rest: RestPlace::Nowhere, start: 0, end: 0 }, // 32
-    FirstByte { rest: RestPlace::Nowhere, start: 0, end: 0 }, // 33
-    FirstByte { rest: RestPlace::Nowhere, start: 0, end: 0 }, // 34
-    FirstByte { rest: RestPlace::Nowhere, start: 0, end: 0 }, // 35
-    FirstByte { rest: RestPlace::Nowhere, start: 0, end: 0 }, // 36
-    FirstByte { rest: RestPlace::Nowhere, start: 0, end: 0 }, // 37
-    FirstByte { rest: RestPlace::Nowhere, start: 15, end: 16 }, // 38
-    FirstByte { rest: RestPlace::Nowhere, start: 0, end: 0 }, // 39
-    FirstByte { rest: RestPlace::Nowhere, start: 0, end: 0 }, // 3a
-    FirstByte { rest: RestPlace::Nowhere, start: 0, end: 0 }, // 3b
-    FirstByte { rest: RestPlace::Nowhere, start: 0, end: 0 }, // 3c
-    FirstByte { rest: RestPlace::Nowhere, start: 0, end: 0 }, // 3d
-    FirstByte { rest: RestPlace::Nowhere, start: 0, end: 0 }, // 3e
-    FirstByte { rest: RestPlace::Nowhere, start: 0, end: 0 }, // 3f
-    FirstByte { rest: RestPlace::Nowhere, start: 16, end: 17 }, // 40
-    FirstByte { rest: RestPlace::Nowhere, start: 17, end: 18 }, // 41
-    FirstByte { rest: RestPlace::Nowhere, start: 18, end: 19 }, // 42
-    FirstByte { rest: RestPlace::Nowhere, start: 0, end: 0 }, // 43
-    FirstByte { rest: RestPlace::Nowhere, start: 0, end: 0 }, // 44
-    FirstByte { rest: RestPlace::Nowhere, start: 0, end: 0 }, // 45
-    FirstByte { rest: RestPlace::Nowhere, start: 0, end: 0 }, // 46
-    FirstByte { rest: RestPlace::Nowhere, start: 0, end: 0 }, // 47
-    FirstByte { rest: RestPlace::Nowhere, start: 19, end: 20 }, // 48
-    FirstByte { rest: RestPlace::Nowhere, start: 20, end: 21 }, // 49
-    FirstByte { rest: RestPlace::Nowhere, start: 21, end: 22 }, // 4a
-    FirstByte { rest: RestPlace::Nowhere, start: 22, end: 23 }, // 4b
-    FirstByte { rest: RestPlace::Nowhere, start: 23, end: 24 }, // 4c
-    FirstByte { rest: RestPlace::Nowhere, start: 0, end: 0 }, // 4d
-    FirstByte { rest: RestPlace::Nowhere, start: 0, end: 0 }, // 4e
-    FirstByte { rest: RestPlace::Nowhere, start: 0, end: 0 }, // 4f
-    FirstByte { rest: RestPlace::Nowhere, start: 24, end: 25 }, // 50
-    FirstByte { rest: RestPlace::Nowhere, start: 0, end: 0 }, // 51
-    FirstByte { rest: RestPlace::Nowhere, start: 0, end: 0 }, // 52
-    FirstByte { rest: RestPlace::Nowhere, start: 0, end: 0 }, // 53
-    FirstByte { rest: RestPlace::Nowhere, start: 25, end: 26 }, // 54
-    FirstByte { rest: RestPlace::Nowhere, start: 26, end: 27 }, // 55
-    FirstByte { rest: RestPlace::Nowhere, start: 27, end: 28 }, // 56
-    FirstByte { rest: RestPlace::Nowhere, start: 28, end: 29 }, // 57
-    FirstByte { rest: RestPlace::Nowhere, start: 29, end: 30 }, // 58
-    FirstByte { rest: RestPlace::Nowhere, start: 30, end: 31 }, // 59
-    FirstByte { rest: RestPlace::Nowhere, start: 31, end: 32 }, // 5a
-    FirstByte { rest: RestPlace::Nowhere, start: 32, end: 33 }, // 5b
-    FirstByte { rest: RestPlace::Nowhere, start: 0, end: 0 }, // 5c
-    FirstByte { rest: RestPlace::Nowhere, start: 0, end: 0 }, // 5d
-    FirstByte { rest: RestPlace::Nowhere, start: 33, end: 34 }, // 5e
-    FirstByte { rest: RestPlace::Nowhere, start: 34, end: 35 }, // 5f
-    FirstByte { rest: RestPlace::Nowhere, start: 35, end: 36 }, // 60
-    FirstByte { rest: RestPlace::Nowhere, start: 0, end: 0 }, // 61
-    FirstByte { rest: RestPlace::Nowhere, start: 0, end: 0 }, // 62
-    FirstByte { rest: RestPlace::Nowhere, start: 0, end: 0 }, // 63
-    FirstByte { rest: RestPlace::Nowhere, start: 0, end: 0 }, // 64
-    FirstByte { rest: RestPlace::Nowhere, start: 0, end: 0 }, // 65
-    FirstByte { rest: RestPlace::Nowhere, start: 0, end: 0 }, // 66
-    FirstByte { rest: RestPlace::Nowhere, start: 0, end: 0 }, // 67
-    FirstByte { rest: RestPlace::Nowhere, start: 36, end: 37 }, // 68
-    FirstByte { rest: RestPlace::Nowhere, start: 0, end: 0 }, // 69
-    FirstByte { rest: RestPlace::Nowhere, start: 0, end: 0 }, // 6a
-    FirstByte { rest: RestPlace::Nowhere, start: 0, end: 0 }, // 6b
-    FirstByte { rest: RestPlace::Nowhere, start: 0, end: 0 }, // 6c
-    FirstByte { rest: RestPlace::Nowhere, start: 0, end: 0 }, // 6d
-    FirstByte { rest: RestPlace::Nowhere, start: 0, end: 0 }, // 6e
-    FirstByte { rest: RestPlace::Nowhere, start: 0, end: 0 }, // 6f
-    FirstByte { rest: RestPlace::Nowhere, start: 37, end: 38 }, // 70
-    FirstByte { rest: RestPlace::Nowhere, start: 38, end: 39 }, // 71
-    FirstByte { rest: RestPlace::Nowhere, start: 0, end: 0 }, // 72
-    FirstByte { rest: RestPlace::Nowhere, start: 0, end: 0 }, // 73
-    FirstByte { rest: RestPlace::Nowhere, start: 0, end: 0 }, // 74
-    FirstByte { rest: RestPlace::Nowhere, start: 0, end: 0 }, // 75
-    FirstByte { rest: RestPlace::Nowhere, start: 0, end: 0 }, // 76
-    FirstByte { rest: RestPlace::Nowhere, start: 0, end: 0 }, // 77
-    FirstByte { rest: RestPlace::Nowhere, start: 39, end: 40 }, // 78
-    FirstByte { rest: RestPlace::Nowhere, start: 0, end: 0 }, // 79
-    FirstByte { rest: RestPlace::Nowhere, start: 0, end: 0 }, // 7a
-    FirstByte { rest: RestPlace::Nowhere, start: 0, end: 0 }, // 7b
-    FirstByte { rest: RestPlace::Nowhere, start: 0, end: 0 }, // 7c
-    FirstByte { rest: RestPlace::Nowhere, start: 0, end: 0 }, // 7d
-    FirstByte { rest: RestPlace::Nowhere, start: 0, end: 0 }, // 7e
-    FirstByte { rest: RestPlace::Nowhere, start: 0, end: 0 }, // 7f
-    FirstByte { rest: RestPlace::Nowhere, start: 0, end: 0 }, // 80
-    FirstByte { rest: RestPlace::Nowhere, start: 0, end: 0 }, // 81
-    FirstByte { rest: RestPlace::Nowhere, start: 0, end: 0 }, // 82
-    FirstByte { rest: RestPlace::Nowhere, start: 0, end: 0 }, // 83
-    FirstByte { rest: RestPlace::Nowhere, start: 0, end: 0 }, // 84
-    FirstByte { rest: RestPlace::Nowhere, start: 0, end: 0 }, // 85
-    FirstByte { rest: RestPlace::Nowhere, start: 0, end: 0 }, // 86
-    FirstByte { rest: RestPlace::Nowhere, start: 0, end: 0 }, // 87
-    FirstByte { rest: RestPlace::Nowhere, start: 0, end: 0 }, // 88
-    FirstByte { rest: RestPlace::Nowhere, start: 0, end: 0 }, // 89
-    FirstByte { rest: RestPlace::Nowhere, start: 0, end: 0 }, // 8a
-    FirstByte { rest: RestPlace::Nowhere, start: 0, end: 0 }, // 8b
-    FirstByte { rest: RestPlace::Nowhere, start: 0, end: 0 }, // 8c
-    FirstByte { rest: RestPlace::Nowhere, start: 0, end: 0 }, // 8d
-    FirstByte { rest: RestPlace::Nowhere, start: 0, end: 0 }, // 8e
-    FirstByte { rest: RestPlace::Nowhere, start: 0, end: 0 }, // 8f
-    FirstByte { rest: RestPlace::Nowhere, start: 0, end: 0 }, // 90
-    FirstByte { rest: RestPlace::Nowhere, start: 0, end: 0 }, // 91
-    FirstByte { rest: RestPlace::Nowhere, start: 40, end: 41 }, // 92
-    FirstByte { rest: RestPlace::Nowhere, start: 0, end: 0 }, // 93
-    FirstByte { rest: RestPlace::Nowhere, start: 0, end: 0 }, // 94
-    FirstByte { rest: RestPlace::Nowhere, start: 0, end: 0 }, // 95
-    FirstByte { rest: RestPlace::Nowhere, start: 0, end: 0 }, // 96
-    FirstByte { rest: RestPlace::Nowhere, start: 0, end: 0 }, // 97
-    FirstByte { rest: RestPlace::Nowhere, start: 0, end: 0 }, // 98
-    FirstByte { rest: RestPlace::Nowhere, start: 0, end: 0 }, // 99
-    FirstByte { rest: RestPlace::Nowhere, start: 0, end: 0 }, // 9a
-    FirstByte { rest: RestPlace::Nowhere, start: 0, end: 0 }, // 9b
-    FirstByte { rest: RestPlace::Nowhere, start: 0, end: 0 }, // 9c
-    FirstByte { rest: RestPlace::Nowhere, start: 0, end: 0 }, // 9d
-    FirstByte { rest: RestPlace::Nowhere, start: 0, end: 0 }, // 9e
-    FirstByte { rest: RestPlace::Nowhere, start: 0, end: 0 }, // 9f
-    FirstByte { rest: RestPlace::Nowhere, start: 0, end: 0 }, // a0
-    FirstByte { rest: RestPlace::Nowhere, start: 0, end: 0 }, // a1
-    FirstByte { rest: RestPlace::Nowhere, start: 0, end: 0 }, // a2
-    FirstByte { rest: RestPlace::Nowhere, start: 0, end: 0 }, // a3
-    FirstByte { rest: RestPlace::Nowhere, start: 0, end: 0 }, // a4
-    FirstByte { rest: RestPlace::LowHalf, start: 42, end: 58 }, // a5
-    FirstByte { rest: RestPlace::Nowhere, start: 0, end: 0 }, // a6
-    FirstByte { rest: RestPlace::LowHalf, start: 58, end: 68 }, // a7
-    FirstByte { rest: RestPlace::Nowhere, start: 0, end: 0 }, // a8
-    FirstByte { rest: RestPlace::Nowhere, start: 0, end: 0 }, // a9
-    FirstByte { rest: RestPlace::Nowhere, start: 0, end: 0 }, // aa
-    FirstByte { rest: RestPlace::Nowhere, start: 0, end: 0 }, // ab
-    FirstByte { rest: RestPlace::Nowhere, start: 0, end: 0 }, // ac
-    FirstByte { rest: RestPlace::Nowhere, start: 0, end: 0 }, // ad
-    FirstByte { rest: RestPlace::Nowhere, start: 0, end: 0 }, // ae
-    FirstByte { rest: RestPlace::Nowhere, start: 0, end: 0 }, // af
-    FirstByte { rest: RestPlace::Nowhere, start: 0, end: 0 }, // b0
-    FirstByte { rest: RestPlace::Nowhere, start: 0, end: 0 }, // b1
-    FirstByte { rest: RestPlace::SecondByte, start: 115, end: 117 }, // b2
-    FirstByte { rest: RestPlace::SecondByte, start: 117, end: 119 }, // b3
-    FirstByte { rest: RestPlace::Nowhere, start: 0, end: 0 }, // b4
-    FirstByte { rest: RestPlace::Nowhere, start: 0, end: 0 }, // b5
-    FirstByte { rest: RestPlace::Nowhere, start: 0, end: 0 }, // b6
-    FirstByte { rest: RestPlace::Nowhere, start: 0, end: 0 }, // b7
-    FirstByte { rest: RestPlace::Nowhere, start: 0, end: 0 }, // b8
-    FirstByte { rest: RestPlace::SecondByte, start: 119, end: 195 }, // b9
-    FirstByte { rest: RestPlace::Nowhere, start: 41, end: 42 }, // ba
-    FirstByte { rest: RestPlace::Nowhere, start: 0, end: 0 }, // bb
-    FirstByte { rest: RestPlace::Nowhere, start: 0, end: 0 }, // bc
-    FirstByte { rest: RestPlace::Nowhere, start: 0, end: 0 }, // bd
-    FirstByte { rest: RestPlace::Nowhere, start: 0, end: 0 }, // be
-    FirstByte { rest: RestPlace::Nowhere, start: 0, end: 0 }, // bf
-    FirstByte { rest: RestPlace::LowHalf, start: 68, end: 82 }, // c0
-    FirstByte { rest: RestPlace::Nowhere, start: 0, end: 0 }, // c1
-    FirstByte { rest: RestPlace::LowHalf, start: 82, end: 94 }, // c2
-    FirstByte { rest: RestPlace::Nowhere, start: 0, end: 0 }, // c3
-    FirstByte { rest: RestPlace::LowHalf, start: 94, end: 105 }, // c4
-    FirstByte { rest: RestPlace::Nowhere, start: 0, end: 0 }, // c5
-    FirstByte { rest: RestPlace::LowHalf, start: 105, end: 115 }, // c6
-    FirstByte { rest: RestPlace::Nowhere, start: 0, end: 0 }, // c7
-    FirstByte { rest: RestPlace::Nowhere, start: 0, end: 0 }, // c8
-    FirstByte { rest: RestPlace::Nowhere, start: 0, end: 0 }, // c9
-    FirstByte { rest: RestPlace::Nowhere, start: 0, end: 0 }, // ca
-    FirstByte { rest: RestPlace::Nowhere, start: 0, end: 0 }, // cb
-    FirstByte { rest: RestPlace::Nowhere, start: 0, end: 0 }, // cc
-    FirstByte { rest: RestPlace::Nowhere, start: 0, end: 0 }, // cd
-    FirstByte { rest: RestPlace::Nowhere, start: 0, end: 0 }, // ce
-    FirstByte { rest: RestPlace::Nowhere, start: 0, end: 0 }, // cf
-    FirstByte { rest: RestPlace::Nowhere, start: 0, end: 0 }, // d0
-    FirstByte { rest: RestPlace::Nowhere, start: 0, end: 0 }, // d1
-    FirstByte { rest: RestPlace::Nowhere, start: 0, end: 0 }, // d2
-    FirstByte { rest: RestPlace::Nowhere, start: 0, end: 0 }, // d3
-    FirstByte { rest: RestPlace::Nowhere, start: 0, end: 0 }, // d4
-    FirstByte { rest: RestPlace::Nowhere, start: 0, end: 0 }, // d5
-    FirstByte { rest: RestPlace::Nowhere, start: 0, end: 0 }, // d6
-    FirstByte { rest: RestPlace::Nowhere, start: 0, end: 0 }, // d7
-    FirstByte { rest: RestPlace::Nowhere, start: 0, end: 0 }, // d8
-    FirstByte { rest: RestPlace::Nowhere, start: 0, end: 0 }, // d9
-    FirstByte { rest: RestPlace::Nowhere, start: 0, end: 0 }, // da
-    FirstByte { rest: RestPlace::Nowhere, start: 0, end: 0 }, // db
-    FirstByte { rest: RestPlace::Nowhere, start: 0, end: 0 }, // dc
-    FirstByte { rest: RestPlace::Nowhere, start: 0, end: 0 }, // dd
-    FirstByte { rest: RestPlace::Nowhere, start: 0, end: 0 }, // de
-    FirstByte { rest: RestPlace::Nowhere, start: 0, end: 0 }, // df
-    FirstByte { rest: RestPlace::Nowhere, start: 0, end: 0 }, // e0
-    FirstByte { rest: RestPlace::Nowhere, start: 0, end: 0 }, // e1
-    FirstByte { rest: RestPlace::Nowhere, start: 0, end: 0 }, // e2
-    FirstByte { rest: RestPlace::LastByte, start: 195, end: 261 }, // e3
-    FirstByte { rest: RestPlace::Nowhere, start: 0, end: 0 }, // e4
-    FirstByte { rest: RestPlace::SecondByte, start: 261, end: 264 }, // e5
-    FirstByte { rest: RestPlace::LastByte, start: 264, end: 275 }, // e6
-    FirstByte { rest: RestPlace::LastByte, start: 275, end: 362 }, // e7
-    FirstByte { rest: RestPlace::Nowhere, start: 0, end: 0 }, // e8
-    FirstByte { rest: RestPlace::Nowhere, start: 0, end: 0 }, // e9
-    FirstByte { rest: RestPlace::Nowhere, start: 0, end: 0 }, // ea
-    FirstByte { rest: RestPlace::LastByte, start: 362, end: 385 }, // eb
-    FirstByte { rest: RestPlace::LastByte, start: 385, end: 397 }, // ec
-    FirstByte { rest: RestPlace::LastByte, start: 397, end: 401 }, // ed
-    FirstByte { rest: RestPlace::Nowhere, start: 0, end: 0 }, // ee
-    FirstByte { rest: RestPlace::Nowhere, start: 0, end: 0 }, // ef
-    FirstByte { rest: RestPlace::Nowhere, start: 0, end: 0 }, // f0
-    FirstByte { rest: RestPlace::Nowhere, start: 0, end: 0 }, // f1
-    FirstByte { rest: RestPlace::Nowhere, start: 0, end: 0 }, // f2
-    FirstByte { rest: RestPlace::Nowhere, start: 0, end: 0 }, // f3
-    FirstByte { rest: RestPlace::Nowhere, start: 0, end: 0 }, // f4
-    FirstByte { rest: RestPlace::Nowhere, start: 0, end: 0 }, // f5
-    FirstByte { rest: RestPlace::Nowhere, start: 0, end: 0 }, // f6
-    FirstByte { rest: RestPlace::Nowhere, start: 0, end: 0 }, // f7
-    FirstByte { rest: RestPlace::Nowhere, start: 0, end: 0 }, // f8
-    FirstByte { rest: RestPlace::Nowhere, start: 0, end: 0 }, // f9
-    FirstByte { rest: RestPlace::Nowhere, start: 0, end: 0 }, // fa
-    FirstByte { rest: RestPlace::Nowhere, start: 0, end: 0 }, // fb
-    FirstByte { rest: RestPlace::Nowhere, start: 0, end: 0 }, // fc
-    FirstByte { rest: RestPlace::Nowhere, start: 0, end: 0 }, // fd
-    FirstByte { rest: RestPlace::Nowhere, start: 0, end: 0 }, // fe
-    FirstByte { rest: RestPlace::Nowhere, start: 0, end: 0 }, // ff
+    FirstByte { rest: RestPlace::Nowhere, start: 0, end: 0, offsets: 0 }, // 00
+    FirstByte { rest: RestPlace::Nowhere, start: 0, end: 0, offsets: 0 }, // 01
+    FirstByte { rest: RestPlace::Nowhere, start: 0, end: 0, offsets: 0 }, // 02
+    FirstByte { rest: RestPlace::Nowhere, start: 0, end: 0, offsets: 0 }, // 03
+    FirstByte { rest: RestPlace::Nowhere, start: 0, end: 0, offsets: 0 }, // 04
+    FirstByte { rest: RestPlace::Nowhere, start: 0, end: 0, offsets: 0 }, // 05
+    FirstByte { rest: RestPlace::Nowhere, start: 0, end: 0, offsets: 0 }, // 06
+    FirstByte { rest: RestPlace::Nowhere, start: 0, end: 1, offsets: 0 }, // 07
+    FirstByte { rest: RestPlace::Nowhere, start: 0, end: 0, offsets: 0 }, // 08
+    FirstByte { rest: RestPlace::Nowhere, start: 0, end: 0, offsets: 0 }, // 09
+    FirstByte { rest: RestPlace::Nowhere, start: 0, end: 0, offsets: 0 }, // 0a
+    FirstByte { rest: RestPlace::Nowhere, start: 0, end: 0, offsets: 0 }, // 0b
+    FirstByte { rest: RestPlace::Nowhere, start: 0, end: 0, offsets: 0 }, // 0c
+    FirstByte { rest: RestPlace::Nowhere, start: 1, end: 2, offsets: 0 }, // 0d
+    FirstByte { rest: RestPlace::Nowhere, start: 0, end: 0, offsets: 0 }, // 0e
+    FirstByte { rest: RestPlace::Nowhere, start: 0, end: 0, offsets: 0 }, // 0f
+    FirstByte { rest: RestPlace::Nowhere, start: 2, end: 3, offsets: 0 }, // 10
+    FirstByte { rest: RestPlace::Nowhere, start: 0, end: 0, offsets: 0 }, // 11
+    FirstByte { rest: RestPlace::Nowhere, start: 0, end: 0, offsets: 0 }, // 12
+    FirstByte { rest: RestPlace::Nowhere, start: 3, end: 4, offsets: 0 }, // 13
+    FirstByte { rest: RestPlace::Nowhere, start: 4, end: 5, offsets: 0 }, // 14
+    FirstByte { rest: RestPlace::Nowhere, start: 5, end: 6, offsets: 0 }, // 15
+    FirstByte { rest: RestPlace::Nowhere, start: 6, end: 7, offsets: 0 }, // 16
+    FirstByte { rest: RestPlace::Nowhere, start: 7, end: 8, offsets: 0 }, // 17
+    FirstByte { rest: RestPlace::Nowhere, start: 8, end: 9, offsets: 0 }, // 18
+    FirstByte { rest: RestPlace::Nowhere, start: 9, end: 10, offsets: 0 }, // 19
+    FirstByte { rest: RestPlace::Nowhere, start: 10, end: 11, offsets: 0 }, // 1a
+    FirstByte { rest: RestPlace::Nowhere, start: 11, end: 12, offsets: 0 }, // 1b
+    FirstByte { rest: RestPlace::Nowhere, start: 0, end: 0, offsets: 0 }, // 1c
+    FirstByte { rest: RestPlace::Nowhere, start: 0, end: 0, offsets: 0 }, // 1d
+    FirstByte { rest: RestPlace::Nowhere, start: 12, end: 13, offsets: 0 }, // 1e
+    FirstByte { rest: RestPlace::Nowhere, start: 13, end: 14, offsets: 0 }, // 1f
+    FirstByte { rest: RestPlace::Nowhere, start: 0, end: 0, offsets: 0 }, // 20
+    FirstByte { rest: RestPlace::Nowhere, start: 0, end: 0, offsets: 0 }, // 21
+    FirstByte { rest: RestPlace::Nowhere, start: 0, end: 0, offsets: 0 }, // 22
+    FirstByte { rest: RestPlace::Nowhere, start: 0, end: 0, offsets: 0 }, // 23
+    FirstByte { rest: RestPlace::Nowhere, start: 0, end: 0, offsets: 0 }, // 24
+    FirstByte { rest: RestPlace::Nowhere, start: 0, end: 0, offsets: 0 }, // 25
+    FirstByte { rest: RestPlace::Nowhere, start: 0, end: 0, offsets: 0 }, // 26
+    FirstByte { rest: RestPlace::Nowhere, start: 0, end: 0, offsets: 0 }, // 27
+    FirstByte { rest: RestPlace::Nowhere, start: 14, end: 15, offsets: 0 }, // 28
+    FirstByte { rest: RestPlace::Nowhere, start: 0, end: 0, offsets: 0 }, // 29
+    FirstByte { rest: RestPlace::Nowhere, start: 0, end: 0, offsets: 0 }, // 2a
+    FirstByte { rest: RestPlace::Nowhere, start: 0, end: 0, offsets: 0 }, // 2b
+    FirstByte { rest: RestPlace::Nowhere, start: 0, end: 0, offsets: 0 }, // 2c
+    FirstByte { rest: RestPlace::Nowhere, start: 0, end: 0, offsets: 0 }, // 2d
+    FirstByte { rest: RestPlace::Nowhere, start: 0, end: 0, offsets: 0 }, // 2e
+    FirstByte { rest: RestPlace::Nowhere, start: 0, end: 0, offsets: 0 }, // 2f
+    FirstByte { rest: RestPlace::Nowhere, start: 0, end: 0, offsets: 0 }, // 30
+    FirstByte { rest: RestPlace::Nowhere, start: 0, end: 0, offsets: 0 }, // 31
+    FirstByte { rest: RestPlace::Nowhere, start: 0, end: 0, offsets: 0 }, // 32
+    FirstByte { rest: RestPlace::Nowhere, start: 0, end: 0, offsets: 0 }, // 33
+    FirstByte { rest: RestPlace::Nowhere, start: 0, end: 0, offsets: 0 }, // 34
+    FirstByte { rest: RestPlace::Nowhere, start: 0, end: 0, offsets: 0 }, // 35
+    FirstByte { rest: RestPlace::Nowhere, start: 0, end: 0, offsets: 0 }, // 36
+    FirstByte { rest: RestPlace::Nowhere, start: 0, end: 0, offsets: 0 }, // 37
+    FirstByte { rest: RestPlace::Nowhere, start: 15, end: 16, offsets: 0 }, // 38
+    FirstByte { rest: RestPlace::Nowhere, start: 0, end: 0, offsets: 0 }, // 39
+    FirstByte { rest: RestPlace::Nowhere, start: 0, end: 0, offsets: 0 }, // 3a
+    FirstByte { rest: RestPlace::Nowhere, start: 0, end: 0, offsets: 0 }, // 3b
+    FirstByte { rest: RestPlace::Nowhere, start: 0, end: 0, offsets: 0 }, // 3c
+    FirstByte { rest: RestPlace::Nowhere, start: 0, end: 0, offsets: 0 }, // 3d
+    FirstByte { rest: RestPlace::Nowhere, start: 0, end: 0, offsets: 0 }, // 3e
+    FirstByte { rest: RestPlace::Nowhere, start: 0, end: 0, offsets: 0 }, // 3f
+    FirstByte { rest: RestPlace::Nowhere, start: 16, end: 17, offsets: 0 }, // 40
+    FirstByte { rest: RestPlace::Nowhere, start: 17, end: 18, offsets: 0 }, // 41
+    FirstByte { rest: RestPlace::Nowhere, start: 18, end: 19, offsets: 0 }, // 42
+    FirstByte { rest: RestPlace::Nowhere, start: 0, end: 0, offsets: 0 }, // 43
+    FirstByte { rest: RestPlace::Nowhere, start: 0, end: 0, offsets: 0 }, // 44
+    FirstByte { rest: RestPlace::Nowhere, start: 0, end: 0, offsets: 0 }, // 45
+    FirstByte { rest: RestPlace::Nowhere, start: 0, end: 0, offsets: 0 }, // 46
+    FirstByte { rest: RestPlace::Nowhere, start: 0, end: 0, offsets: 0 }, // 47
+    FirstByte { rest: RestPlace::Nowhere, start: 19, end: 20, offsets: 0 }, // 48
+    FirstByte { rest: RestPlace::Nowhere, start: 20, end: 21, offsets: 0 }, // 49
+    FirstByte { rest: RestPlace::Nowhere, start: 21, end: 22, offsets: 0 }, // 4a
+    FirstByte { rest: RestPlace::Nowhere, start: 22, end: 23, offsets: 0 }, // 4b
+    FirstByte { rest: RestPlace::Nowhere, start: 23, end: 24, offsets: 0 }, // 4c
+    FirstByte { rest: RestPlace::Nowhere, start: 0, end: 0, offsets: 0 }, // 4d
+    FirstByte { rest: RestPlace::Nowhere, start: 0, end: 0, offsets: 0 }, // 4e
+    FirstByte { rest: RestPlace::Nowhere, start: 0, end: 0, offsets: 0 }, // 4f
+    FirstByte { rest: RestPlace::Nowhere, start: 24, end: 25, offsets: 0 }, // 50
+    FirstByte { rest: RestPlace::Nowhere, start: 0, end: 0, offsets: 0 }, // 51
+    FirstByte { rest: RestPlace::Nowhere, start: 0, end: 0, offsets: 0 }, // 52
+    FirstByte { rest: RestPlace::Nowhere, start: 0, end: 0, offsets: 0 }, // 53
+    FirstByte { rest: RestPlace::Nowhere, start: 25, end: 26, offsets: 0 }, // 54
+    FirstByte { rest: RestPlace::Nowhere, start: 26, end: 27, offsets: 0 }, // 55
+    FirstByte { rest: RestPlace::Nowhere, start: 27, end: 28, offsets: 0 }, // 56
+    FirstByte { rest: RestPlace::Nowhere, start: 28, end: 29, offsets: 0 }, // 57
+    FirstByte { rest: RestPlace::Nowhere, start: 29, end: 30, offsets: 0 }, // 58
+    FirstByte { rest: RestPlace::Nowhere, start: 30, end: 31, offsets: 0 }, // 59
+    FirstByte { rest: RestPlace::Nowhere, start: 31, end: 32, offsets: 0 }, // 5a
+    FirstByte { rest: RestPlace::Nowhere, start: 32, end: 33, offsets: 0 }, // 5b
+    FirstByte { rest: RestPlace::Nowhere, start: 0, end: 0, offsets: 0 }, // 5c
+    FirstByte { rest: RestPlace::Nowhere, start: 0, end: 0, offsets: 0 }, // 5d
+    FirstByte { rest: RestPlace::Nowhere, start: 33, end: 34, offsets: 0 }, // 5e
+    FirstByte { rest: RestPlace::Nowhere, start: 34, end: 35, offsets: 0 }, // 5f
+    FirstByte { rest: RestPlace::Nowhere, start: 35, end: 36, offsets: 0 }, // 60
+    FirstByte { rest: RestPlace::Nowhere, start: 0, end: 0, offsets: 0 }, // 61
+    FirstByte { rest: RestPlace::Nowhere, start: 0, end: 0, offsets: 0 }, // 62
+    FirstByte { rest: RestPlace::Nowhere, start: 0, end: 0, offsets: 0 }, // 63
+    FirstByte { rest: RestPlace::Nowhere, start: 0, end: 0, offsets: 0 }, // 64
+    FirstByte { rest: RestPlace::Nowhere, start: 0, end: 0, offsets: 0 }, // 65
+    FirstByte { rest: RestPlace::Nowhere, start: 0, end: 0, offsets: 0 }, // 66
+    FirstByte { rest: RestPlace::Nowhere, start: 0, end: 0, offsets: 0 }, // 67
+    FirstByte { rest: RestPlace::Nowhere, start: 36, end: 37, offsets: 0 }, // 68
+    FirstByte { rest: RestPlace::Nowhere, start: 0, end: 0, offsets: 0 }, // 69
+    FirstByte { rest: RestPlace::Nowhere, start: 0, end: 0, offsets: 0 }, // 6a
+    FirstByte { rest: RestPlace::Nowhere, start: 0, end: 0, offsets: 0 }, // 6b
+    FirstByte { rest: RestPlace::Nowhere, start: 0, end: 0, offsets: 0 }, // 6c
+    FirstByte { rest: RestPlace::Nowhere, start: 0, end: 0, offsets: 0 }, // 6d
+    FirstByte { rest: RestPlace::Nowhere, start: 0, end: 0, offsets: 0 }, // 6e
+    FirstByte { rest: RestPlace::Nowhere, start: 0, end: 0, offsets: 0 }, // 6f
+    FirstByte { rest: RestPlace::Nowhere, start: 37, end: 38, offsets: 0 }, // 70
+    FirstByte { rest: RestPlace::Nowhere, start: 38, end: 39, offsets: 0 }, // 71
+    FirstByte { rest: RestPlace::Nowhere, start: 0, end: 0, offsets: 0 }, // 72
+    FirstByte { rest: RestPlace::Nowhere, start: 0, end: 0, offsets: 0 }, // 73
+    FirstByte { rest: RestPlace::Nowhere, start: 0, end: 0, offsets: 0 }, // 74
+    FirstByte { rest: RestPlace::Nowhere, start: 0, end: 0, offsets: 0 }, // 75
+    FirstByte { rest: RestPlace::Nowhere, start: 0, end: 0, offsets: 0 }, // 76
+    FirstByte { rest: RestPlace::Nowhere, start: 0, end: 0, offsets: 0 }, // 77
+    FirstByte { rest: RestPlace::Nowhere, start: 39, end: 40, offsets: 0 }, // 78
+    FirstByte { rest: RestPlace::Nowhere, start: 0, end: 0, offsets: 0 }, // 79
+    FirstByte { rest: RestPlace::Nowhere, start: 0, end: 0, offsets: 0 }, // 7a
+    FirstByte { rest: RestPlace::Nowhere, start: 0, end: 0, offsets: 0 }, // 7b
+    FirstByte { rest: RestPlace::Nowhere, start: 0, end: 0, offsets: 0 }, // 7c
+    FirstByte { rest: RestPlace::Nowhere, start: 0, end: 0, offsets: 0 }, // 7d
+    FirstByte { rest: RestPlace::Nowhere, start: 0, end: 0, offsets: 0 }, // 7e
+    FirstByte { rest: RestPlace::Nowhere, start: 0, end: 0, offsets: 0 }, // 7f
+    FirstByte { rest: RestPlace::Nowhere, start: 0, end: 0, offsets: 0 }, // 80
+    FirstByte { rest: RestPlace::Nowhere, start: 0, end: 0, offsets: 0 }, // 81
+    FirstByte { rest: RestPlace::Nowhere, start: 0, end: 0, offsets: 0 }, // 82
+    FirstByte { rest: RestPlace::Nowhere, start: 0, end: 0, offsets: 0 }, // 83
+    FirstByte { rest: RestPlace::Nowhere, start: 0, end: 0, offsets: 0 }, // 84
+    FirstByte { rest: RestPlace::Nowhere, start: 0, end: 0, offsets: 0 }, // 85
+    FirstByte { rest: RestPlace::Nowhere, start: 0, end: 0, offsets: 0 }, // 86
+    FirstByte { rest: RestPlace::Nowhere, start: 0, end: 0, offsets: 0 }, // 87
+    FirstByte { rest: RestPlace::Nowhere, start: 0, end: 0, offsets: 0 }, // 88
+    FirstByte { rest: RestPlace::Nowhere, start: 0, end: 0, offsets: 0 }, // 89
+    FirstByte { rest: RestPlace::Nowhere, start: 0, end: 0, offsets: 0 }, // 8a
+    FirstByte { rest: RestPlace::Nowhere, start: 0, end: 0, offsets: 0 }, // 8b
+    FirstByte { rest: RestPlace::Nowhere, start: 0, end: 0, offsets: 0 }, // 8c
+    FirstByte { rest: RestPlace::Nowhere, start: 0, end: 0, offsets: 0 }, // 8d
+    FirstByte { rest: RestPlace::Nowhere, start: 0, end: 0, offsets: 0 }, // 8e
+    FirstByte { rest: RestPlace::Nowhere, start: 0, end: 0, offsets: 0 }, // 8f
+    FirstByte { rest: RestPlace::Nowhere, start: 0, end: 0, offsets: 0 }, // 90
+    FirstByte { rest: RestPlace::Nowhere, start: 0, end: 0, offsets: 0 }, // 91
+    FirstByte { rest: RestPlace::Nowhere, start: 40, end: 41, offsets: 0 }, // 92
+    FirstByte { rest: RestPlace::Nowhere, start: 0, end: 0, offsets: 0 }, // 93
+    FirstByte { rest: RestPlace::Nowhere, start: 0, end: 0, offsets: 0 }, // 94
+    FirstByte { rest: RestPlace::Nowhere, start: 0, end: 0, offsets: 0 }, // 95
+    FirstByte { rest: RestPlace::Nowhere, start: 0, end: 0, offsets: 0 }, // 96
+    FirstByte { rest: RestPlace::Nowhere, start: 0, end: 0, offsets: 0 }, // 97
+    FirstByte { rest: RestPlace::Nowhere, start: 0, end: 0, offsets: 0 }, // 98
+    FirstByte { rest: RestPlace::Nowhere, start: 0, end: 0, offsets: 0 }, // 99
+    FirstByte { rest: RestPlace::Nowhere, start: 0, end: 0, offsets: 0 }, // 9a
+    FirstByte { rest: RestPlace::Nowhere, start: 0, end: 0, offsets: 0 }, // 9b
+    FirstByte { rest: RestPlace::Nowhere, start: 0, end: 0, offsets: 0 }, // 9c
+    FirstByte { rest: RestPlace::Nowhere, start: 0, end: 0, offsets: 0 }, // 9d
+    FirstByte { rest: RestPlace::Nowhere, start: 0, end: 0, offsets: 0 }, // 9e
+    FirstByte { rest: RestPlace::Nowhere, start: 0, end: 0, offsets: 0 }, // 9f
+    FirstByte { rest: RestPlace::Nowhere, start: 0, end: 0, offsets: 0 }, // a0
+    FirstByte { rest: RestPlace::Nowhere, start: 0, end: 0, offsets: 0 }, // a1
+    FirstByte { rest: RestPlace::Nowhere, start: 0, end: 0, offsets: 0 }, // a2
+    FirstByte { rest: RestPlace::Nowhere, start: 0, end: 0, offsets: 0 }, // a3
+    FirstByte { rest: RestPlace::Nowhere, start: 0, end: 0, offsets: 0 }, // a4
+    FirstByte { rest: RestPlace::LowHalf, start: 42, end: 58, offsets: 16 }, // a5
+    FirstByte { rest: RestPlace::Nowhere, start: 0, end: 0, offsets: 0 }, // a6
+    FirstByte { rest: RestPlace::LowHalf, start: 58, end: 68, offsets: 32 }, // a7
+    FirstByte { rest: RestPlace::Nowhere, start: 0, end: 0, offsets: 0 }, // a8
+    FirstByte { rest: RestPlace::Nowhere, start: 0, end: 0, offsets: 0 }, // a9
+    FirstByte { rest: RestPlace::Nowhere, start: 0, end: 0, offsets: 0 }, // aa
+    FirstByte { rest: RestPlace::Nowhere, start: 0, end: 0, offsets: 0 }, // ab
+    FirstByte { rest: RestPlace::Nowhere, start: 0, end: 0, offsets: 0 }, // ac
+    FirstByte { rest: RestPlace::Nowhere, start: 0, end: 0, offsets: 0 }, // ad
+    FirstByte { rest: RestPlace::Nowhere, start: 0, end: 0, offsets: 0 }, // ae
+    FirstByte { rest: RestPlace::Nowhere, start: 0, end: 0, offsets: 0 }, // af
+    FirstByte { rest: RestPlace::Nowhere, start: 0, end: 0, offsets: 0 }, // b0
+    FirstByte { rest: RestPlace::Nowhere, start: 0, end: 0, offsets: 0 }, // b1
+    FirstByte { rest: RestPlace::SecondByte, start: 115, end: 117, offsets: 48 }, // b2
+    FirstByte { rest: RestPlace::SecondByte, start: 117, end: 119, offsets: 832 }, // b3
+    FirstByte { rest: RestPlace::Nowhere, start: 0, end: 0, offsets: 0 }, // b4
+    FirstByte { rest: RestPlace::Nowhere, start: 0, end: 0, offsets: 0 }, // b5
+    FirstByte { rest: RestPlace::Nowhere, start: 0, end: 0, offsets: 0 }, // b6
+    FirstByte { rest: RestPlace::Nowhere, start: 0, end: 0, offsets: 0 }, // b7
+    FirstByte { rest: RestPlace::Nowhere, start: 0, end: 0, offsets: 0 }, // b8
+    FirstByte { rest: RestPlace::SecondByte, start: 119, end: 195, offsets: 144 }, // b9
+    FirstByte { rest: RestPlace::Nowhere, start: 41, end: 42, offsets: 0 }, // ba
+    FirstByte { rest: RestPlace::Nowhere, start: 0, end: 0, offsets: 0 }, // bb
+    FirstByte { rest: RestPlace::Nowhere, start: 0, end: 0, offsets: 0 }, // bc
+    FirstByte { rest: RestPlace::Nowhere, start: 0, end: 0, offsets: 0 }, // bd
+    FirstByte { rest: RestPlace::Nowhere, start: 0, end: 0, offsets: 0 }, // be
+    FirstByte { rest: RestPlace::Nowhere, start: 0, end: 0, offsets: 0 }, // bf
+    FirstByte { rest: RestPlace::LowHalf, start: 68, end: 82, offsets: 48 }, // c0
+    FirstByte { rest: RestPlace::Nowhere, start: 0, end: 0, offsets: 0 }, // c1
+    FirstByte { rest: RestPlace::LowHalf, start: 82, end: 94, offsets: 64 }, // c2
+    FirstByte { rest: RestPlace::Nowhere, start: 0, end: 0, offsets: 0 }, // c3
+    FirstByte { rest: RestPlace::LowHalf, start: 94, end: 105, offsets: 80 }, // c4
+    FirstByte { rest: RestPlace::Nowhere, start: 0, end: 0, offsets: 0 }, // c5
+    FirstByte { rest: RestPlace::LowHalf, start: 105, end: 115, offsets: 96 }, // c6
+    FirstByte { rest: RestPlace::Nowhere, start: 0, end: 0, offsets: 0 }, // c7
+    FirstByte { rest: RestPlace::Nowhere, start: 0, end: 0, offsets: 0 }, // c8
+    FirstByte { rest: RestPlace::Nowhere, start: 0, end: 0, offsets: 0 }, // c9
+    FirstByte { rest: RestPlace::Nowhere, start: 0, end: 0, offsets: 0 }, // ca
+    FirstByte { rest: RestPlace::Nowhere, start: 0, end: 0, offsets: 0 }, // cb
+    FirstByte { rest: RestPlace::Nowhere, start: 0, end: 0, offsets: 0 }, // cc
+    FirstByte { rest: RestPlace::Nowhere, start: 0, end: 0, offsets: 0 }, // cd
+    FirstByte { rest: RestPlace::Nowhere, start: 0, end: 0, offsets: 0 }, // ce
+    FirstByte { rest: RestPlace::Nowhere, start: 0, end: 0, offsets: 0 }, // cf
+    FirstByte { rest: RestPlace::Nowhere, start: 0, end: 0, offsets: 0 }, // d0
+    FirstByte { rest: RestPlace::Nowhere, start: 0, end: 0, offsets: 0 }, // d1
+    FirstByte { rest: RestPlace::Nowhere, start: 0, end: 0, offsets: 0 }, // d2
+    FirstByte { rest: RestPlace::Nowhere, start: 0, end: 0, offsets: 0 }, // d3
+    FirstByte { rest: RestPlace::Nowhere, start: 0, end: 0, offsets: 0 }, // d4
+    FirstByte { rest: RestPlace::Nowhere, start: 0, end: 0, offsets: 0 }, // d5
+    FirstByte { rest: RestPlace::Nowhere, start: 0, end: 0, offsets: 0 }, // d6
+    FirstByte { rest: RestPlace::Nowhere, start: 0, end: 0, offsets: 0 }, // d7
+    FirstByte { rest: RestPlace::Nowhere, start: 0, end: 0, offsets: 0 }, // d8
+    FirstByte { rest: RestPlace::Nowhere, start: 0, end: 0, offsets: 0 }, // d9
+    FirstByte { rest: RestPlace::Nowhere, start: 0, end: 0, offsets: 0 }, // da
+    FirstByte { rest: RestPlace::Nowhere, start: 0, end: 0, offsets: 0 }, // db
+    FirstByte { rest: RestPlace::Nowhere, start: 0, end: 0, offsets: 0 }, // dc
+    FirstByte { rest: RestPlace::Nowhere, start: 0, end: 0, offsets: 0 }, // dd
+    FirstByte { rest: RestPlace::Nowhere, start: 0, end: 0, offsets: 0 }, // de
+    FirstByte { rest: RestPlace::Nowhere, start: 0, end: 0, offsets: 0 }, // df
+    FirstByte { rest: RestPlace::Nowhere, start: 0, end: 0, offsets: 0 }, // e0
+    FirstByte { rest: RestPlace::Nowhere, start: 0, end: 0, offsets: 0 }, // e1
+    FirstByte { rest: RestPlace::Nowhere, start: 0, end: 0, offsets: 0 }, // e2
+    FirstByte { rest: RestPlace::LastByte, start: 195, end: 261, offsets: 400 }, // e3
+    FirstByte { rest: RestPlace::Nowhere, start: 0, end: 0, offsets: 0 }, // e4
+    FirstByte { rest: RestPlace::SecondByte, start: 261, end: 264, offsets: 496 }, // e5
+    FirstByte { rest: RestPlace::LastByte, start: 264, end: 275, offsets: 576 }, // e6
+    FirstByte { rest: RestPlace::LastByte, start: 275, end: 362, offsets: 1040 }, // e7
+    FirstByte { rest: RestPlace::Nowhere, start: 0, end: 0, offsets: 0 }, // e8
+    FirstByte { rest: RestPlace::Nowhere, start: 0, end: 0, offsets: 0 }, // e9
+    FirstByte { rest: RestPlace::Nowhere, start: 0, end: 0, offsets: 0 }, // ea
+    FirstByte { rest: RestPlace::LastByte, start: 362, end: 385, offsets: 592 }, // eb
+    FirstByte { rest: RestPlace::LastByte, start: 385, end: 397, offsets: 784 }, // ec
+    FirstByte { rest: RestPlace::LastByte, start: 397, end: 401, offsets: 912 }, // ed
+    FirstByte { rest: RestPlace::Nowhere, start: 0, end: 0, offsets: 0 }, // ee
+    FirstByte { rest: RestPlace::Nowhere, start: 0, end: 0, offsets: 0 }, // ef
+    FirstByte { rest: RestPlace::Nowhere, start: 0, end: 0, offsets: 0 }, // f0
+    FirstByte { rest: RestPlace::Nowhere, start: 0, end: 0, offsets: 0 }, // f1
+    FirstByte { rest: RestPlace::Nowhere, start: 0, end: 0, offsets: 0 }, // f2
+    FirstByte { rest: RestPlace::Nowhere, start: 0, end: 0, offsets: 0 }, // f3
+    FirstByte { rest: RestPlace::Nowhere, start: 0, end: 0, offsets: 0 }, // f4
+    FirstByte { rest: RestPlace::Nowhere, start: 0, end: 0, offsets: 0 }, // f5
+    FirstByte { rest: RestPlace::Nowhere, start: 0, end: 0, offsets: 0 }, // f6
+    FirstByte { rest: RestPlace::Nowhere, start: 0, end: 0, offsets: 0 }, // f7
+    FirstByte { rest: RestPlace::Nowhere, start: 0, end: 0, offsets: 0 }, // f8
+    FirstByte { rest: RestPlace::Nowhere, start: 0, end: 0, offsets: 0 }, // f9
+    FirstByte { rest: RestPlace::Nowhere, start: 0, end: 0, offsets: 0 }, // fa
+    FirstByte { rest: RestPlace::Nowhere, start: 0, end: 0, offsets: 0 }, // fb
+    FirstByte { rest: RestPlace::Nowhere, start: 0, end: 0, offsets: 0 }, // fc
+    FirstByte { rest: RestPlace::Nowhere, start: 0, end: 0, offsets: 0 }, // fd
+    FirstByte { rest: RestPlace::Nowhere, start: 0, end: 0, offsets: 0 }, // fe
+    FirstByte { rest: RestPlace::Nowhere, start: 0, end: 0, offsets: 0 }, // ff
 ];

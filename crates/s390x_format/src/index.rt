@@ -1,6 +1,6 @@
-//! The search for a row by its first byte, and then by halving.
+//! The search for a row by its first byte, and then by the rest of its opcode, at once or by halving.
 ghost use Rattle.std.specs.Prelude.{◌≡◌, ℕ, ◌+◌, ◌-◌, ◌*◌, ◌^◌, ◌<◌, ◌≤◌, true, length, get_or, MatchOption};
-ghost use Rattle.s390x_format.specs.Index.{is_index, LacksRow};
+ghost use Rattle.s390x_format.specs.Index.{is_index, has_room, place_in, LacksRow};
 ghost use Rattle.s390x_format.specs.Rows.{rises, rows_with};
 ghost use Rattle.s390x_format.specs.Reading.{HasOpcode};
 
@@ -21,12 +21,22 @@ pub enum RestPlace {
     LastByte,
 }
 
-/// The rows with one first byte: those from `start` up to `end`.
+/// The rows with one first byte: those from `start` up to `end`. Where each of them stands among these is told by the list of offsets, from `offsets` on.
 #[derive(Clone, Copy)]
 pub struct FirstByte {
     pub rest: RestPlace,
     pub start: usize,
     pub end: usize,
+    pub offsets: usize,
+}
+
+/// Where a row with the first byte and the rest of the opcode stands, if there is one.
+pub fn row_place(firsts: &[FirstByte; 256], offsets: &[u8], first: u8, rest: u8) -> usize
+    requires { has_room firsts.now offsets.now ≡ true }
+    ensures { result ≡ place_in firsts.now offsets.now first rest }
+{
+    let span = &firsts[first as usize];
+    span.start + offsets[span.offsets + rest as usize] as usize
 }
 
 /// Where the row with the first byte and the opcode stands. Each comparison is a step.

@@ -15,6 +15,7 @@ pub mod reading;
 pub mod register_formats;
 mod register_impls;
 pub mod row;
+pub mod row_offsets;
 pub mod signed_formats;
 mod signed_impls;
 pub mod steps;

@@ -1,12 +1,13 @@
 //! Reading an instruction's bytes as the values in its slots.
-ghost use Rattle.std.specs.Prelude.{◌≡◌, ℕ, ◌+◌, ◌-◌, ◌*◌, ◌^◌, ◌<◌, ◌≤◌, true, length, take, get_or, slice_index, IfSome};
+ghost use Rattle.std.specs.Prelude.{◌≡◌, ℕ, ◌+◌, ◌-◌, ◌*◌, ◌^◌, ◌<◌, ◌≤◌, true, length, take, get_or, slice_index, IfSome, MatchOption};
 ghost use Rattle.s390x_format.specs.Rows.{fetch_length_of, are_rows, rises, rows_with};
-ghost use Rattle.s390x_format.specs.Reading.{be_bytes, be_number, opcode_at, no_row, reading_in, IsReadAs, IsReading, IsPlacedReading};
-ghost use Rattle.s390x_format.specs.Index.{is_index};
+ghost use Rattle.s390x_format.specs.Reading.{be_bytes, be_number, opcode_at, rest_at, no_row, reading_in, IsLeading, IsReadAs, IsReading, IsPlacedReading};
+ghost use Rattle.s390x_format.specs.Index.{is_index, are_placed, has_room};
 ghost use Rattle.s390x_format.specs.declared.reading.Reading.{Reading};
+ghost use Rattle.s390x_format.specs.declared.reading.LeadingBytes.{LeadingBytes};
 
 use crate::frequent::unpack_as;
-use crate::index::{FirstByte, RestPlace, search};
+use crate::index::{FirstByte, RestPlace, row_place, search};
 use crate::kind::length;
 use crate::layout::Unpacked;
 use crate::row::{MachineRow, Row, allows};
@@ -97,6 +98,48 @@ fn opcode_of(rest: RestPlace, total: u8, n: u64) -> u16
     }
 }
 
+/// The rest of the opcode of a number of `total` bits, where it stands there.
+fn rest_of(rest: RestPlace, total: u8, n: u64) -> u8
+    requires low { 16 ≤ total }
+    requires high { total ≤ 48 }
+    ensures { result ≡ rest_at rest total n }
+{
+    match rest {
+        RestPlace::Nowhere => 0,
+        RestPlace::LowHalf => ((n >> (total - 16)) % 16) as u8,
+        RestPlace::SecondByte => ((n >> (total - 16)) % 256) as u8,
+        RestPlace::LastByte => (n % 256) as u8,
+    }
+}
+
+/// The bytes with which an instruction begins, as a number.
+#[derive(Clone, Copy)]
+pub struct LeadingBytes {
+    pub first: u8,
+    pub count: usize,
+    pub number: u64,
+}
+
+/// As many bytes as the first one tells; `None` exactly where there are fewer.
+fn leading_bytes(bytes: &[u8]) -> Option<LeadingBytes>
+    ensures { MatchOption result (length bytes.now < fetch_length_of (get_or bytes.now 0 0)) (λ l. IsLeading bytes.now l) }
+{
+    if bytes.is_empty() {
+        return None;
+    }
+    let first = bytes[0];
+    let count = fetch_length(first);
+    if bytes.len() < count {
+        return None;
+    }
+    let number = leading_number(bytes, count);
+    Some(LeadingBytes {
+        first,
+        count,
+        number,
+    })
+}
+
 /// The values of a number in the slots of a row.
 fn read_as(row: &MachineRow, bytes: usize, n: u64) -> Option<Reading>
     requires { n < 2 ^ (8 * bytes) }
@@ -139,7 +182,36 @@ fn read_at(rows: &[MachineRow], at: usize, bytes: usize, n: u64) -> Option<Place
 }
 
 /// The row of the table that the bytes begin with, its place, and its values.
-pub fn read<L: Ledger>(
+pub fn read(
+    rows: &[MachineRow],
+    firsts: &[FirstByte; 256],
+    offsets: &[u8],
+    bytes: &[u8],
+) -> Option<PlacedReading>
+    requires table { are_rows rows.now ≡ true }
+    requires index { is_index rows.now firsts.now ≡ true }
+    requires placed { are_placed 0 rows.now firsts.now offsets.now ≡ true }
+    requires room { has_room firsts.now offsets.now ≡ true }
+    requires few { length rows.now < 2 ^ 16 }
+    ensures sound { IfSome result (λ p. IsPlacedReading rows.now bytes.now p) }
+    ensures complete { (d : Reading) → IsReading rows.now bytes.now d → reading_in result ≡ Some d }
+{
+    match leading_bytes(bytes) {
+        Some(l) => {
+            let rest = rest_of(firsts[l.first as usize].rest, 8 * l.count as u8, l.number);
+            let at = row_place(firsts, offsets, l.first, rest);
+            if at < rows.len() {
+                read_at(rows, at, l.count, l.number)
+            } else {
+                None
+            }
+        }
+        None => None,
+    }
+}
+
+/// The same, by halving.
+pub fn read_counted<L: Ledger>(
     rows: &[MachineRow],
     firsts: &[FirstByte; 256],
     bytes: &[u8],
@@ -155,18 +227,14 @@ pub fn read<L: Ledger>(
     ensures few_steps { 2 ^ (steps.new - steps.old) ≤ 2 * rows_with (slice_index bytes.now 0) rows.now + 1 }
     ensures no_bytes { length bytes.now ≡ 0 → steps.new ≡ steps.old }
 {
-    if bytes.is_empty() {
-        return None;
-    }
-    let first = bytes[0];
-    let count = fetch_length(first);
-    if bytes.len() < count {
-        return None;
-    }
-    let n = leading_number(bytes, count);
-    let opcode = opcode_of(firsts[first as usize].rest, 8 * count as u8, n);
-    match search(rows, firsts, first, opcode, steps) {
-        Some(at) => read_at(rows, at, count, n),
+    match leading_bytes(bytes) {
+        Some(l) => {
+            let opcode = opcode_of(firsts[l.first as usize].rest, 8 * l.count as u8, l.number);
+            match search(rows, firsts, l.first, opcode, steps) {
+                Some(at) => read_at(rows, at, l.count, l.number),
+                None => None,
+            }
+        }
         None => None,
     }
 }

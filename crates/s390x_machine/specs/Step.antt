@@ -7,6 +7,9 @@ use Rattle.s390x_operations.specs.Effects.{access, MayExecute, MayInterrupt, May
 use Rattle.s390x_operations.specs.declared.stop.StopKind.{StopKind}
 use Rattle.s390x_operations.specs.declared.stop.StopKind.TheVariants.{Divide}
 use Rattle.s390x_operations.specs.declared.effect.Operation.{Operation}
+use Rattle.s390x_operations.specs.declared.effect.CodeRule.{CodeRule}
+use Rattle.s390x_operations.specs.declared.effect.CodeRule.TheVariants.{Kept, Set, Unspecified}
+use Rattle.s390x_operations.specs.declared.stop.ConditionCode.{ConditionCode}
 use Rattle.s390x_machine.specs.Fetch.{IsFound}
 use Rattle.s390x_machine.specs.Machine.{Executed, Interrupted, ActionStep, MachineStep}
 use Rattle.s390x_machine.specs.Semantics.{action, semantics_of}
@@ -25,6 +28,12 @@ QuotientsFit op = MayRefuse op.effect Divide → ⊥
 abbrev pub ExecutesOperation : Operation → Core → Option StopKind → Core → Type 0
 ExecutesOperation op c None t = MayExecute op c t × QuotientsFit op
 ExecutesOperation op c (Some kind) t = MayInterrupt op c.memory.has kind × (t ≡ c)
+
+-- the condition code that the machine has after a value, by the rule of its operation: a code that isn't stated stays
+abbrev pub code_under : CodeRule → ConditionCode → ConditionCode → ConditionCode
+code_under Set code old = code
+code_under Kept code old = old
+code_under Unspecified code old = old
 
 -- what an action stores
 abbrev pub stored_by : Action → Memory → Option StoreEvent

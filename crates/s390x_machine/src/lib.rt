@@ -16,4 +16,5 @@ pub mod registers;
 pub mod semantics;
 pub mod step;
 pub mod storage_action;
+pub mod value_step;
 pub mod vector_action;

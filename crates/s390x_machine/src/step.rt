@@ -12,17 +12,18 @@ ghost use Rattle.s390x_machine.specs.Step.{Executes, Steps};
 
 use crate::action::action;
 use crate::fetch::{FetchedRow, fetch_row};
-use crate::field_values::relative_address;
+use crate::field_values::{relative_address, source};
 use crate::machine::Machine;
 use crate::memory::Memory;
 use crate::perform::{is_selected, perform};
 use crate::semantics::{Action, OpcodeSemantics, ROW_SEMANTICS, RowSemantics};
+use crate::value_step::value_step;
 use crate::vector_action::shift_amount;
 use s390x_format::kind::length;
 use s390x_format::{Decoded, Fields, Located};
 use s390x_lanes::lookup::{computes, operation};
 use s390x_lanes::operation::VectorOperation;
-use s390x_operations::StopKind;
+use s390x_operations::{Source, StopKind};
 
 /// How a step ends.
 #[derive(Clone, Copy, PartialEq, Eq, Debug)]
@@ -176,6 +177,20 @@ fn row_step<M: Memory>(machine: &mut Machine, memory: &mut M, located: &Located)
     let semantics = semantics_at(located.at);
     match semantics {
         RowSemantics::BranchRelative => relative_step(machine, &located.decoded),
+        RowSemantics::Compute(operator, size, second, rule) => {
+            match source(machine, second.operand_source, &located.decoded.fields) {
+                Source::Value(bits) => value_step(
+                    machine,
+                    &located.decoded,
+                    *operator,
+                    *size,
+                    *second,
+                    *rule,
+                    bits,
+                ),
+                _ => semantics_step(machine, memory, &located.decoded, semantics),
+            }
+        }
         _ => semantics_step(machine, memory, &located.decoded, semantics),
     }
 }

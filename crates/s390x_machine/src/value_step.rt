@@ -1,0 +1,71 @@
+//! The steps at rows whose operators have both values in registers or in the instruction. They are frequent, and build no operation.
+
+ghost use Rattle.std.specs.Prelude.{◌≡◌, ◌<◌, ℕ, Bool, Some};
+ghost use Rattle.s390x_operations.specs.Numbers.{whole};
+ghost use Rattle.s390x_operations.specs.Values.{code_of_value, value};
+ghost use Rattle.s390x_operations.specs.State.{with_code};
+ghost use Rattle.s390x_operations.specs.Effects.{set_sized};
+ghost use Rattle.s390x_machine.specs.Fetch.{IsFound};
+ghost use Rattle.s390x_machine.specs.Semantics.{semantics_of, source};
+ghost use Rattle.s390x_machine.specs.State.{memory_of, registers_of, state_of};
+ghost use Rattle.s390x_machine.specs.Sound.{CanPerform};
+ghost use Rattle.s390x_machine.specs.Step.{Steps, code_under};
+
+use crate::field_values::{first_register, value_in};
+use crate::machine::Machine;
+use crate::semantics::{RowSemantics, SecondOperand};
+use crate::step::StepEnd;
+use s390x_arithmetic::bytes::extended;
+use s390x_arithmetic::operate::{operate, ordered};
+use s390x_format::Decoded;
+use s390x_format::kind::length;
+use s390x_operations::{CodeRule, Operator, Size, Source};
+
+/// A register gets an operator's value of two numbers, and the condition code becomes that of the value where the rule sets it.
+fn compute(
+    machine: &mut Machine,
+    operator: Operator,
+    size: Size,
+    rule: CodeRule,
+    target: u8,
+    first: u64,
+    second: u64,
+)
+    requires there { target < 16 }
+    requires first_below { first < whole size }
+    requires second_below { second < whole size }
+    ensures registers { registers_of machine.new ≡ with_code (code_under rule (code_of_value operator size first second) (registers_of machine.old).code) (set_sized size (registers_of machine.old) target (value operator size first second)) }
+    ensures place { machine.new.place ≡ machine.old.place }
+{
+    let (value, code) = operate(operator, size, first, second);
+    machine.put_sized(size, target, value);
+    if let CodeRule::Set = rule {
+        machine.set_condition_code(code);
+    }
+}
+
+/// The step at a row that was fetched, of an operator whose second operand has these bits.
+pub fn value_step(
+    machine: &mut Machine,
+    decoded: &Decoded,
+    operator: Operator,
+    size: Size,
+    second: SecondOperand,
+    rule: CodeRule,
+    bits: u64,
+) -> StepEnd
+    requires is { semantics_of decoded.now.row.opcode ≡ Some (RowSemantics.Compute operator size second rule) }
+    requires fit { CanPerform (RowSemantics.Compute operator size second rule) decoded.now.fields }
+    requires bits { source second.operand_source decoded.now.fields (registers_of machine.old) machine.old.place ≡ Source.Value bits }
+    ensures { (held : ℕ → Bool) (byte : ℕ → ℕ) → IsFound (memory_of held byte) machine.old.place decoded.now → Steps (state_of machine.old held byte) result (state_of machine.new held byte) }
+{
+    let fields = &decoded.fields;
+    let first = value_in(machine, size, first_register(second.operand_source, fields));
+    let bits = ordered(second.reversed, second.width, bits);
+    let other = extended(second.sign, second.width, size, bits);
+    compute(machine, operator, size, rule, fields.regs[0], first, other);
+    machine.place = machine
+        .place
+        .wrapping_add(length(decoded.row.format) as u64);
+    StepEnd::Went
+}
