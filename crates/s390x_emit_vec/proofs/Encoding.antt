@@ -1,5 +1,5 @@
 -- Where the registers of an instruction are vector ones, its row can be encoded.
-use Rattle.std.proofs.Common.{◌≡◌, ℕ, Bool, true, false, cond, nat_lt, not, ◌&&◌, List, refl, ap, ◌∙◌}
+use Rattle.std.proofs.Common.{◌≡◌, ℕ, Option, Some, None, sym, Bool, true, false, cond, nat_lt, nat_eq, not, ◌&&◌, List, refl, ap, ◌∙◌}
 use Rattle.std.proofs.Common.{Result, Ok, Err, MatchResult}
 use Rattle.std.proofs.lemmas.Bool.{and_parts, and_from}
 use Rattle.s390x_base.specs.Regs.{is_int, number_of}
@@ -12,9 +12,11 @@ use Rattle.s390x_base.specs.declared.regs.Reg.TheVariants.{Real, Virtual}
 use Rattle.s390x_enc.specs.Operands.{is_float, is_first_float, is_second_float, may_stand_first, may_stand_second, is_float_class, is_int_class, is_vector as encodes_vector, is_general_class as encodes_general}
 use Rattle.s390x_format.specs.declared.kind.FormatKind.{FormatKind}
 use Rattle.s390x_format.specs.Encoded.{IsCode}
-use Rattle.s390x_typed_steps.specs.SingleCode.{code_where}
+use Rattle.s390x_typed_steps.specs.SingleCode.{code_where, single_code}
+use Rattle.s390x_typed_steps.specs.MachineInstruction.{MachineInstruction}
+use Rattle.s390x_typed_steps.specs.SingleInstruction.{single_with}
 use Rattle.s390x_typed_steps.specs.General.{is_general}
-use Rattle.s390x_typed_steps.specs.VectorInstruction.{is_vector}
+use Rattle.s390x_typed_steps.specs.VectorInstruction.{is_vector, is_lane, lane_row, reuses_vector}
 
 -- the answer of an encoding call whose registers may stand there
 pub encoded : (valid ok : Bool) (kind : FormatKind) (slots : List ℕ) (r : Result (List ℕ) EmitError) → MatchResult r (λ code. (ok ≡ true) × IsCode kind slots code) (λ e. (e ≡ BadRegister) × (ok ≡ false)) → valid ≡ true → ok ≡ true → r ≡ code_where valid (record { format = kind; slots = slots })
@@ -75,3 +77,34 @@ floats_encode opcode a b first second low h =
     and_from (may_stand_first opcode a) (may_stand_second opcode b)
     (ap (λ t. cond t (is_float a) (encodes_general a)) first ∙ float_encodes a p.0 l.0)
     (ap (λ t. cond t (is_float b) (encodes_general b)) second ∙ float_encodes b p.1 l.1)
+
+pub reused_real : (output input : Reg) → reuses_vector output input ≡ true → is_vector output ≡ true
+reused_real output input h = (and_parts (is_vector output) (is_vector input) (and_parts (is_vector output && is_vector input) (nat_eq (number_of output) (number_of input)) h).0).0
+
+-- an element's number stands behind the registers
+pub insert_encodes : (v r base : Reg) → (is_vector v && is_general r && is_general base) ≡ true → (encodes_vector v && encodes_general base && encodes_general r) ≡ true
+insert_encodes v r base h =
+    let p = and_parts (is_vector v && is_general r) (is_general base) h in
+    let q = and_parts (is_vector v) (is_general r) p.0 in
+    and_from (encodes_vector v && encodes_general base) (encodes_general r) (and_from (encodes_vector v) (encodes_general base) (vector_encodes v q.0) (general_encodes base p.1)) (general_encodes r q.1)
+
+pub extract_encodes : (r v base : Reg) → (is_general r && is_vector v && is_general base) ≡ true → (encodes_general r && encodes_general base && encodes_vector v) ≡ true
+extract_encodes r v base h =
+    let p = and_parts (is_general r && is_vector v) (is_general base) h in
+    let q = and_parts (is_general r) (is_vector v) p.0 in
+    and_from (encodes_general r && encodes_general base) (encodes_vector v) (and_from (encodes_general r) (encodes_general base) (general_encodes r q.0) (general_encodes base p.1)) (vector_encodes v q.1)
+
+-- a doubleword between a float register and a general one
+pub to_float_encodes : (v r : Reg) → (is_vector v && is_general r) ≡ true → nat_lt (number_of v) 16 ≡ true → (may_stand_first 0xb3c1 v && may_stand_second 0xb3c1 r) ≡ true
+to_float_encodes v r h low =
+    let p = and_parts (is_vector v) (is_general r) h in
+    and_from (may_stand_first 0xb3c1 v) (may_stand_second 0xb3c1 r) (float_encodes v p.0 low) (general_encodes r p.1)
+
+pub from_float_encodes : (r v : Reg) → (is_general r && is_vector v) ≡ true → nat_lt (number_of v) 16 ≡ true → (may_stand_first 0xb3cd r && may_stand_second 0xb3cd v) ≡ true
+from_float_encodes r v h low =
+    let p = and_parts (is_general r) (is_vector v) h in
+    and_from (may_stand_first 0xb3cd r) (may_stand_second 0xb3cd v) (general_encodes r p.0) (float_encodes v p.1 low)
+
+-- the code of a row on one element
+pub lane_coded : (valid : Bool) (row : ℕ → MachineInstruction) (o : Option ℕ) (code size lane : ℕ) → o ≡ Some code → is_lane size lane ≡ true → Some (code_where valid (row code)) ≡ single_code (single_with valid (lane_row row o size lane))
+lane_coded valid row o code size lane e t = sym (ap (λ q. single_code (single_with valid (lane_row row q size lane))) e ∙ ap (λ b. single_code (single_with valid (cond b (Some (row code)) None))) t)

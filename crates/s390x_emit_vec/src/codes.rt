@@ -4,20 +4,20 @@
 ghost use Rattle.std.specs.Prelude.{◌≡◌, ◌<◌, ◌&&◌, true, nat_lt};
 ghost use Rattle.s390x_base.specs.Regs.{number_of};
 ghost use Rattle.s390x_enc.specs.Operands.{is_first_float, is_second_float};
-ghost use Rattle.s390x_typed_steps.specs.MachineInstruction.{rr, vri_a, vri_b, vri_c, vri_k, vrr_a, vrr_b, vrr_c, vrr_d, vrr_e, vrr_f, vrs_a};
+ghost use Rattle.s390x_typed_steps.specs.MachineInstruction.{rr, rre, vri_a, vri_b, vri_c, vri_k, vrr_a, vrr_b, vrr_c, vrr_d, vrr_e, vrr_f, vrs_a, vrs_b, vrs_c};
 ghost use Rattle.s390x_typed_steps.specs.SingleCode.{code_where};
 ghost use Rattle.s390x_typed_steps.specs.General.{is_general};
-ghost use Rattle.s390x_typed_steps.specs.VectorInstruction.{is_vector, move_left_row};
+ghost use Rattle.s390x_typed_steps.specs.VectorInstruction.{is_float_doubleword, is_vector, move_left_row, reuses_vector};
 
 use s390x_base::{Code, EmitError, Reg, RegClass};
 use s390x_enc::{
-    enc_rr, enc_vri_a, enc_vri_b, enc_vri_c, enc_vri_k, enc_vrr_a, enc_vrr_b, enc_vrr_c, enc_vrr_d,
-    enc_vrr_e, enc_vrr_f, enc_vrs_a,
+    enc_rr, enc_rre, enc_vri_a, enc_vri_b, enc_vri_c, enc_vri_k, enc_vrr_a, enc_vrr_b, enc_vrr_c,
+    enc_vrr_d, enc_vrr_e, enc_vrr_f, enc_vrs_a, enc_vrs_b, enc_vrs_c,
 };
 use s390x_typed_steps::VectorOpcode;
 
-// A real vector register.
-fn vector(r: &Reg) -> bool
+/// A real vector register.
+pub fn vector(r: &Reg) -> bool
     ensures { result ≡ is_vector r.now }
 {
     match r {
@@ -26,8 +26,8 @@ fn vector(r: &Reg) -> bool
     }
 }
 
-// The number, of a virtual register too.
-fn number(r: &Reg) -> u32
+/// The number, of a virtual register too.
+pub fn number(r: &Reg) -> u32
     ensures { result ≡ number_of r.now }
 {
     match r {
@@ -68,6 +68,34 @@ fn shift_valid(a: &Reg, b: &Reg, register: &Reg) -> bool
     ensures { result ≡ is_vector a.now && is_vector b.now && is_general register.now }
 {
     vector(a) && vector(b) && general(register)
+}
+
+/// An input that has to be the output is it.
+pub fn reuses(output: &Reg, input: &Reg) -> bool
+    ensures { result ≡ reuses_vector output.now input.now }
+{
+    vector(output) && vector(input) && number(output) == number(input)
+}
+
+/// Those of an element that is inserted into a register that is also an input.
+pub fn reuse_insert_valid(output: &Reg, input: &Reg, r3: &Reg, base: &Reg) -> bool
+    ensures { result ≡ reuses_vector output.now input.now && is_general r3.now && is_general base.now }
+{
+    reuses(output, input) && general(r3) && general(base)
+}
+
+/// Those of an element that is inserted.
+pub fn insert_valid(v1: &Reg, r3: &Reg, base: &Reg) -> bool
+    ensures { result ≡ is_vector v1.now && is_general r3.now && is_general base.now }
+{
+    vector(v1) && general(r3) && general(base)
+}
+
+/// Those of an element that is extracted.
+pub fn extract_valid(r1: &Reg, v3: &Reg, base: &Reg) -> bool
+    ensures { result ≡ is_general r1.now && is_vector v3.now && is_general base.now }
+{
+    general(r1) && vector(v3) && general(base)
 }
 
 fn join_valid(a: &Reg, b: &Reg, c: &Reg) -> bool
@@ -190,14 +218,102 @@ pub fn joined_registers(v1: Reg, r2: Reg, r3: Reg) -> Result<Code, EmitError>
     }
 }
 
+/// A vector register and the bits of an immediate of 16 bits, and the code of the elements' size or the number of an element, where the registers
+/// may stand there.
+pub fn immediate_where(
+    valid: bool,
+    row: VectorOpcode,
+    v1: Reg,
+    bits: u16,
+) -> Result<Code, EmitError>
+    requires code { row.code < 16 }
+    requires real { valid ≡ true → is_vector v1 ≡ true }
+    ensures { result ≡ code_where valid (vri_a row.opcode (number_of v1) bits row.code) }
+{
+    if valid {
+        enc_vri_a(row.opcode, v1, bits, row.code)
+    } else {
+        Err(EmitError::BadRegister)
+    }
+}
+
 /// A vector register and the bits of an immediate of 16 bits, and the code of the elements' size.
 pub fn immediate_vector(row: VectorOpcode, v1: Reg, bits: u16) -> Result<Code, EmitError>
     requires { row.code < 16 }
     ensures { result ≡ code_where (is_vector v1) (vri_a row.opcode (number_of v1) bits row.code) }
 {
     let valid = vector(&v1);
+    immediate_where(valid, row, v1, bits)
+}
+
+/// A vector register, a general one, and a base with the number of an element.
+pub fn inserted_element(
+    valid: bool,
+    code: u8,
+    v1: Reg,
+    r3: Reg,
+    base: Reg,
+    lane: u8,
+) -> Result<Code, EmitError>
+    requires code { code < 16 }
+    requires real { valid ≡ true → (is_vector v1 && is_general r3 && is_general base) ≡ true }
+    ensures { result ≡ code_where valid (vrs_b 0xe722 (number_of v1) (number_of base) (number_of r3) code lane) }
+{
     if valid {
-        enc_vri_a(row.opcode, v1, bits, row.code)
+        enc_vrs_b(0xe722, v1, base, lane as u32, r3, code)
+    } else {
+        Err(EmitError::BadRegister)
+    }
+}
+
+/// A general register, a vector one, and a base with the number of an element.
+pub fn extracted_element(
+    valid: bool,
+    code: u8,
+    r1: Reg,
+    v3: Reg,
+    base: Reg,
+    lane: u8,
+) -> Result<Code, EmitError>
+    requires code { code < 16 }
+    requires real { valid ≡ true → (is_general r1 && is_vector v3 && is_general base) ≡ true }
+    ensures { result ≡ code_where valid (vrs_c 0xe721 (number_of r1) (number_of base) (number_of v3) code lane) }
+{
+    if valid {
+        enc_vrs_c(0xe721, r1, base, lane as u32, v3, code)
+    } else {
+        Err(EmitError::BadRegister)
+    }
+}
+
+/// The leftmost doubleword of a register that is a float register too.
+pub fn is_float_doubleword(size: u32, register: u32, base: u32, lane: u8) -> bool
+    ensures { result ≡ is_float_doubleword size register base lane }
+{
+    size == 64 && lane == 0 && base == 0 && register < 16
+}
+
+/// A float register gets a general one.
+pub fn to_float(valid: bool, v1: Reg, r2: Reg) -> Result<Code, EmitError>
+    requires real { valid ≡ true → (is_vector v1 && is_general r2) ≡ true }
+    requires low { nat_lt (number_of v1) 16 ≡ true }
+    ensures { result ≡ code_where valid (rre 0xb3c1 (number_of v1) (number_of r2)) }
+{
+    if valid {
+        enc_rre(0xb3c1, v1, r2)
+    } else {
+        Err(EmitError::BadRegister)
+    }
+}
+
+/// A general register gets a float one.
+pub fn from_float(valid: bool, r1: Reg, v2: Reg) -> Result<Code, EmitError>
+    requires real { valid ≡ true → (is_general r1 && is_vector v2) ≡ true }
+    requires low { nat_lt (number_of v2) 16 ≡ true }
+    ensures { result ≡ code_where valid (rre 0xb3cd (number_of r1) (number_of v2)) }
+{
+    if valid {
+        enc_rre(0xb3cd, r1, v2)
     } else {
         Err(EmitError::BadRegister)
     }

@@ -2,6 +2,7 @@
 #![tactic(auto)]
 
 mod codes;
+mod lanes;
 mod opcodes;
 pub mod vector;
 

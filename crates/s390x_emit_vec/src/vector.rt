@@ -1,14 +1,18 @@
 //! The look-up of a vector instruction.
-ghost use Rattle.std.specs.Prelude.{◌≡◌, ◌<◌, ◌&&◌, IfSome, pos};
+ghost use Rattle.std.specs.Prelude.{◌≡◌, ◌<◌, ◌&&◌, pos};
 ghost use Rattle.s390x_base.specs.Regs.{number_of};
 ghost use Rattle.s390x_typed_steps.specs.General.{low_halfword, low_byte};
 ghost use Rattle.s390x_typed_steps.specs.SingleCode.{single_code};
 ghost use Rattle.s390x_typed_steps.specs.SingleInstruction.{single_with};
-ghost use Rattle.s390x_typed_steps.specs.VectorInstruction.{is_lane, replicate_lane_row, bit_mask_row, is_vector, element_code, doublewords_row, replicate_row, vector_row, vector_operands_valid, vector_stop};
+ghost use Rattle.s390x_typed_steps.specs.VectorInstruction.{bit_mask_row, is_vector, element_code, doublewords_row, replicate_row, vector_row, vector_operands_valid, vector_stop};
 
 use crate::codes::{
     bit_mask, blended_vectors, compared_vectors, evaluated_vectors, four_vectors, immediate_vector,
-    joined_registers, moved_left, replicated_lane, shifted_vector, three_vectors, two_vectors,
+    joined_registers, moved_left, shifted_vector, three_vectors, two_vectors,
+};
+use crate::lanes::{
+    bits_of, element_code, inserted, inserted_into, lane_extracted, lane_inserted,
+    lane_inserted_into, replicated_lane_of,
 };
 use crate::opcodes::{
     binary_row, comparison_row, element_comparison_row, is_division, shift_row, unary_row,
@@ -16,26 +20,6 @@ use crate::opcodes::{
 use s390x_base::{Code, EmitError, Reg, TrapCode};
 use s390x_inst::VecInst;
 use s390x_typed_steps::VectorOpcode;
-
-// The code of elements of 8 to 64 bits.
-fn element_code(size: u32) -> Option<u8>
-    ensures code { result ≡ element_code size }
-    ensures few { IfSome result (λ c. c < 4) }
-{
-    match size {
-        8 => Some(0),
-        16 => Some(1),
-        32 => Some(2),
-        64 => Some(3),
-        _ => None,
-    }
-}
-
-fn bits_of(imm: i16) -> u16
-    ensures { result ≡ low_halfword imm }
-{
-    i32::from(imm).rem_euclid(65536) as u16
-}
 
 fn bits_of_mask(mask: u16) -> u16
     ensures { result ≡ low_halfword (pos mask) }
@@ -82,35 +66,6 @@ fn replicated(size: u32, v1: Reg, imm: i16) -> Option<Result<Code, EmitError>>
                 code,
             };
             Some(immediate_vector(row, v1, bits_of(imm)))
-        }
-        None => None,
-    }
-}
-
-// The number is one of an element of so many bits.
-fn is_lane(size: u32, lane: u8) -> bool
-    ensures { result ≡ is_lane size lane }
-{
-    u64::from(lane) * u64::from(size) < 128
-}
-
-fn bits_of_lane(lane: u8) -> u16
-    ensures { result ≡ lane }
-{
-    u16::from(lane)
-}
-
-// One element for all.
-fn replicated_lane_of(size: u32, v1: Reg, v3: Reg, lane: u8) -> Option<Result<Code, EmitError>>
-    ensures { result ≡ single_code (single_with (is_vector v1 && is_vector v3) (replicate_lane_row (element_code size) size (number_of v1) (number_of v3) lane)) }
-{
-    match element_code(size) {
-        Some(code) => {
-            if is_lane(size, lane) {
-                Some(replicated_lane(code, v1, v3, bits_of_lane(lane)))
-            } else {
-                None
-            }
         }
         None => None,
     }
@@ -221,6 +176,41 @@ pub fn find_vector(inst: &VecInst) -> Option<Result<Code, EmitError>>
             rn,
             lane_imm,
         } => replicated_lane_of(*size, rd.to_reg(), *rn, *lane_imm),
+        VecInst::VecInsertLane {
+            size,
+            rd,
+            ri,
+            rn,
+            lane_imm,
+            lane_reg,
+        } => lane_inserted_into(*size, rd.to_reg(), *ri, *rn, *lane_imm, *lane_reg),
+        VecInst::VecInsertLaneUndef {
+            size,
+            rd,
+            rn,
+            lane_imm,
+            lane_reg,
+        } => lane_inserted(*size, rd.to_reg(), *rn, *lane_imm, *lane_reg),
+        VecInst::VecExtractLane {
+            size,
+            rd,
+            rn,
+            lane_imm,
+            lane_reg,
+        } => lane_extracted(*size, rd.to_reg(), *rn, *lane_imm, *lane_reg),
+        VecInst::VecInsertLaneImm {
+            size,
+            rd,
+            ri,
+            imm,
+            lane_imm,
+        } => inserted_into(*size, rd.to_reg(), *ri, *imm, *lane_imm),
+        VecInst::VecInsertLaneImmUndef {
+            size,
+            rd,
+            imm,
+            lane_imm,
+        } => inserted(*size, rd.to_reg(), *imm, *lane_imm),
         VecInst::FpuMove32 { rd, rn } => Some(moved_left(0x38, rd.to_reg(), *rn)),
         VecInst::FpuMove64 { rd, rn } => Some(moved_left(0x28, rd.to_reg(), *rn)),
         _ => None,

@@ -1,4 +1,5 @@
 pub mod Addressable
+pub mod ValueSteps
 pub mod Addresses
 pub mod Allocating
 pub mod Operands
@@ -53,4 +54,5 @@ pub mod Instructions
 pub mod Trapping
 pub mod Vectors
 pub mod VectorRows
+pub mod VectorLanes
 pub mod VectorSteps

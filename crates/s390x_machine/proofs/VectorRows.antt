@@ -10,7 +10,7 @@ use Rattle.s390x_inst.specs.declared.vec_ops.VecIntCmpOp.{VecIntCmpOp}
 use Rattle.s390x_inst.specs.declared.vec_ops.VecIntCmpOp.TheVariants as C
 use Rattle.s390x_inst.specs.declared.vec_ops.VecIntEltCmpOp.{VecIntEltCmpOp}
 use Rattle.s390x_inst.specs.declared.vec_ops.VecIntEltCmpOp.TheVariants as E
-use Rattle.s390x_format.specs.declared.kind.FormatKind.TheVariants.{Rr, VriA, VriB, VriC, VriK, VrrA, VrrB, VrrC, VrrD, VrrE, VrrF, VrsA}
+use Rattle.s390x_format.specs.declared.kind.FormatKind.TheVariants.{Rr, Rre, VriA, VriB, VriC, VriK, VrrA, VrrB, VrrC, VrrD, VrrE, VrrF, VrsA, VrsB, VrsC}
 use Rattle.s390x_format.specs.declared.row.Allowed.{Allowed}
 use Rattle.s390x_format.specs.declared.row.Allowed.TheVariants.{Any, FirstMask}
 use Rattle.s390x_format.specs.Rows.{is_allowed}
@@ -27,11 +27,11 @@ use Rattle.s390x_lanes.specs.declared.operation.VectorOperation.TheVariants as O
 use Rattle.s390x_lanes.specs.declared.opcodes.TheConstants.{OPCODES}
 use Rattle.s390x_lanes.specs.declared.size.ElementSize.{ElementSize}
 use Rattle.s390x_lanes.specs.declared.size.ElementSize.TheVariants.{Byte, Halfword, Word, Doubleword, Quadword}
-use Rattle.s390x_typed_steps.specs.MachineInstruction.{MachineInstruction, vri_a, vri_b, vri_c, vri_k, vrr_a, vrr_b, vrr_c, vrr_d, vrr_e, vrr_f, vrs_a}
+use Rattle.s390x_typed_steps.specs.MachineInstruction.{MachineInstruction, vri_a, vri_b, vri_c, vri_k, vrr_a, vrr_b, vrr_c, vrr_d, vrr_e, vrr_f, vrs_a, vrs_b, vrs_c}
 use Rattle.s390x_lanes.specs.Size.{element_bits, lane_count}
 use Rattle.s390x_typed_steps.specs.VectorInstruction.{element_code, is_lane, insert_immediate_opcode}
 use Rattle.s390x_typed_steps.specs.VectorOpcodes.{binary_row, unary_row, shift_row, comparison_row, element_comparison_row}
-use Rattle.s390x_machine.specs.declared.semantics.RowSemantics.TheVariants.{Elements, JoinRegisters, MoveLeft}
+use Rattle.s390x_machine.specs.declared.semantics.RowSemantics.TheVariants.{Elements, JoinRegisters, MoveLeft, RegisterToLeft, LeftToRegister, InsertElement, ExtractElement}
 use Rattle.s390x_machine.specs.declared.semantics.RowSemantics.TheVariants as Row
 use Rattle.s390x_machine.specs.Semantics.{semantics_in, semantics_of}
 use Rattle.s390x_machine.specs.VectorOperations.{binary_operation, unary_operation, shift_operator, shifted_elements, comparison_operation, element_comparison}
@@ -327,6 +327,22 @@ pub ldr_row : Meant Rr Any 0x28 (MoveLeft Doubleword)
 unfolding machine_rows row_for semantics_in semantics_of
 ldr_row = (record { is = refl }, refl)
 
+pub ldgr_row : Meant Rre Any 0xb3c1 RegisterToLeft
+unfolding machine_rows row_for semantics_in semantics_of
+ldgr_row = (record { is = refl }, refl)
+
+pub lgdr_row : Meant Rre Any 0xb3cd LeftToRegister
+unfolding machine_rows row_for semantics_in semantics_of
+lgdr_row = (record { is = refl }, refl)
+
+pub insert_listed : Meant VrsB (FirstMask 0 3) 0xe722 InsertElement
+unfolding machine_rows row_for semantics_in semantics_of
+insert_listed = (record { is = refl }, refl)
+
+pub extract_listed : Meant VrsC (FirstMask 0 3) 0xe721 ExtractElement
+unfolding machine_rows row_for semantics_in semantics_of
+extract_listed = (record { is = refl }, refl)
+
 -- a shift's row
 pub shift_rows : (op : VecShiftOp) → Meant VrsA (FirstMask 0 3) (shift_row op).opcode (Row.ShiftElements (shift_row op).opcode)
 unfolding machine_rows row_for semantics_in semantics_of
@@ -392,3 +408,9 @@ fits_vri_b opcode a start end mask lopcode la lstart lend lmask = fields_from Vr
 
 pub fits_vri_c : (opcode a b bits mask : ℕ) → opcode < 65536 → a < 32 → b < 32 → bits < 65536 → mask < 16 → SlotsFit (layout_of VriC) (vri_c opcode a b bits mask).slots
 fits_vri_c opcode a b bits mask lopcode la lb lbits lmask = fields_from VriC (vri_c opcode a b bits mask).slots refl (omega arith, (omega arith, (omega arith, (omega arith, (omega arith, (omega arith, (omega arith, (omega arith, (omega arith, (omega arith, tt))))))))))
+
+pub fits_vrs_b : (opcode a base c mask displacement : ℕ) → opcode < 65536 → a < 32 → base < 16 → c < 16 → mask < 16 → displacement < 4096 → SlotsFit (layout_of VrsB) (vrs_b opcode a base c mask displacement).slots
+fits_vrs_b opcode a base c mask displacement lopcode la lbase lc lmask ldisplacement = fields_from VrsB (vrs_b opcode a base c mask displacement).slots refl (omega arith, (omega arith, (omega arith, (omega arith, (omega arith, (omega arith, (omega arith, (omega arith, (omega arith, (omega arith, tt))))))))))
+
+pub fits_vrs_c : (opcode a base c mask displacement : ℕ) → opcode < 65536 → a < 16 → base < 16 → c < 32 → mask < 16 → displacement < 4096 → SlotsFit (layout_of VrsC) (vrs_c opcode a base c mask displacement).slots
+fits_vrs_c opcode a base c mask displacement lopcode la lbase lc lmask ldisplacement = fields_from VrsC (vrs_c opcode a base c mask displacement).slots refl (omega arith, (omega arith, (omega arith, (omega arith, (omega arith, (omega arith, (omega arith, (omega arith, (omega arith, (omega arith, tt))))))))))

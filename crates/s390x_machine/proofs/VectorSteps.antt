@@ -7,7 +7,7 @@ use Rattle.s390x_base.specs.declared.regs.Reg.TheVariants.{Real, Virtual}
 use Rattle.s390x_base.specs.declared.trap.TrapKind.{TrapKind}
 use Rattle.s390x_base.specs.declared.trap.TrapKind.TheVariants.{IntegerDivisionByZero}
 use Rattle.s390x_inst.specs.declared.vec_inst.VecInst.{VecInst}
-use Rattle.s390x_inst.specs.declared.vec_inst.VecInst.TheVariants.{VecRRR, VecRR, VecSelect, VecPermute, VecBlend, VecIntCmp, VecIntCmpS, VecIntEltCmp, VecMov, VecShiftRR, VecEvaluate, VecPermuteDWImm, MovToVec128, VecImmByteMask, VecImmReplicate, VecImmBitMask, VecReplicateLane, FpuMove32, FpuMove64}
+use Rattle.s390x_inst.specs.declared.vec_inst.VecInst.TheVariants.{VecRRR, VecRR, VecSelect, VecPermute, VecBlend, VecIntCmp, VecIntCmpS, VecIntEltCmp, VecMov, VecShiftRR, VecEvaluate, VecPermuteDWImm, MovToVec128, VecImmByteMask, VecImmReplicate, VecImmBitMask, VecReplicateLane, VecInsertLaneImm, VecInsertLaneImmUndef, VecInsertLane, VecInsertLaneUndef, VecExtractLane, FpuMove32, FpuMove64}
 use Rattle.s390x_inst.specs.declared.vec_ops.VecBinaryOp.{VecBinaryOp}
 use Rattle.s390x_inst.specs.declared.vec_ops.VecBinaryOp.TheVariants as B
 use Rattle.s390x_inst.specs.declared.vec_ops.VecUnaryOp.{VecUnaryOp}
@@ -45,7 +45,7 @@ use Rattle.s390x_typed_steps.specs.Parts.{step_parts, row_part, parts_or}
 use Rattle.s390x_typed_steps.specs.SingleInstruction.{single_with}
 use Rattle.s390x_typed_steps.specs.Steps.{Step}
 use Rattle.s390x_typed_steps.specs.Traps.{first_code}
-use Rattle.s390x_typed_steps.specs.VectorInstruction.{is_vector, element_code, doublewords_row, replicate_row, vector_row, vector_operands_valid, vector_stop, divides, is_lane, replicate_lane_row, bit_mask_row, insert_immediate_opcode, insert_immediate_row, move_left_row, reuses_vector}
+use Rattle.s390x_typed_steps.specs.VectorInstruction.{is_vector, element_code, doublewords_row, replicate_row, vector_row, vector_operands_valid, vector_stop, divides, replicate_lane_row, bit_mask_row, insert_immediate_opcode, insert_immediate_row, move_left_row, reuses_vector}
 use Rattle.s390x_typed_steps.specs.VectorOpcodes.{binary_row, unary_row, shift_row, comparison_row, element_comparison_row, is_division}
 use Rattle.s390x_machine.specs.declared.semantics.RowSemantics.TheVariants.{Elements, JoinRegisters, MoveLeft}
 use Rattle.s390x_machine.specs.declared.semantics.RowSemantics.TheVariants as Row
@@ -59,7 +59,7 @@ use Rattle.s390x_machine.specs.Semantics.{on_elements, left_bits, vector_field, 
 use Rattle.s390x_machine.specs.StepKinds.{Performs, Unsupported, no_code, division_code, kind_or, on_vectors}
 use Rattle.s390x_machine.specs.Typed.{kind_of_step}
 use Rattle.s390x_machine.specs.VectorOperations.{binary_operation, unary_operation, shift_operator, shifted_elements, comparison_operation, element_comparison}
-use Rattle.s390x_machine.specs.VectorSteps.{computes_two_vectors, computes_one_vector, computes_three_vectors, generates_vector, shifts_vector, joins_registers, elements_of, vector_operation, moves_left}
+use Rattle.s390x_machine.specs.VectorSteps.{computes_two_vectors, computes_one_vector, computes_three_vectors, generates_vector, shifts_vector, joins_registers, elements_of, vector_operation, lane_bits, inserts_immediate_alone, inserts_lane, moves_left}
 use Rattle.s390x_machine.proofs.Built.{StepAt, exactly, meant_runs, step_even, some_bytes, uncoded, one_row, one_recorded, row_alone}
 use Rattle.s390x_machine.proofs.Operands.{halfword_bits}
 use Rattle.s390x_machine.proofs.Rows.{general_number, fits_rr}
@@ -68,9 +68,10 @@ use Rattle.s390x_machine.proofs.SingleInstruction.{DoesThere, meant_at, row_tell
 use Rattle.s390x_machine.proofs.Simulation.{ValuesCoded, Coded}
 use Rattle.s390x_machine.proofs.Stops.{only_by, never_by_values}
 use Rattle.s390x_machine.proofs.Trapping.{division_late, late_code}
+use Rattle.s390x_machine.proofs.VectorLanes.{IsOptionalRow, alone_inserted_runs, inserts_never, lane_extracted_runs, lane_inserted_runs, lane_runs}
 use Rattle.s390x_machine.proofs.VectorRows.{ElementsRow, elements_listed, elements_allowed, elements_operation, elements_few, binary_instruction, binary_rows, unary_instruction, unary_rows, comparison_instruction, comparison_rows, asking_rows, element_instruction, element_rows}
 use Rattle.s390x_machine.proofs.VectorRows.{select_row, permute_row, blend_row, move_row, opcode_in, allowed_in, fits_vrr_a, fits_vrr_b, fits_vrr_c, fits_vrr_d, fits_vrr_e}
-use Rattle.s390x_machine.proofs.VectorRows.{evaluate_row, doublewords_rows, byte_mask_row, replicate_rows, join_row, shift_rows, shift_allowed, shift_code, shift_operation, small_displacement, code_of_size, HasSize, Sized, size_of_elements, lane_within, lane_rows, bit_mask_rows, insert_rows, ler_row, ldr_row, fits_vri_b, fits_vri_c, fits_vri_a, fits_vri_k, fits_vrr_f, fits_vrs_a}
+use Rattle.s390x_machine.proofs.VectorRows.{evaluate_row, doublewords_rows, byte_mask_row, replicate_rows, join_row, shift_rows, shift_allowed, shift_code, shift_operation, small_displacement, code_of_size, HasSize, Sized, size_of_elements, lane_rows, bit_mask_rows, insert_rows, ler_row, ldr_row, fits_vri_b, fits_vri_c, fits_vri_a, fits_vri_k, fits_vrr_f, fits_vrs_a}
 
 -- ---- registers
 
@@ -368,23 +369,13 @@ module _ {L : Layout} {k : ℕ} {s : Step} (b : StepAt L k s) where
           generated_runs x o d row fit refl refl (λ r. refl) (is.0 ∙ ap (λ z. Some (Performs false (generates_vector (O.ReplicateImmediate z bits) d) no_code)) z.elements, parts)
 
   -- one element for all
-  lane_replicated_runs : (valid : Bool) (size d n lane : ℕ) → (IsTrue valid → (d < 32) × (n < 32)) →
-      (kind_of_step L (Some s) ≡ Some (Performs false (computes_one_vector (O.Replicate (elements_of size) lane) d n) no_code)) × (step_parts s ≡ parts_or (single_with valid (replicate_lane_row (element_code size) size d n lane)) None []) × OperandsValidOr (single_with valid (replicate_lane_row (element_code size) size d n lane)) ⊥ → StepRuns L k
-  lane_replicated_runs valid size d n lane small is = go (size_of_elements size)
-    where
-      sized : (e : ElementSize) → Sized size e → (t : Bool) → is_lane size lane ≡ t → step_parts s ≡ parts_or (single_with valid (cond t (Some (vri_c 0xe74d d n lane (code_of_size e))) None)) None [] → OperandsValidOr (single_with valid (cond t (Some (vri_c 0xe74d d n lane (code_of_size e))) None)) ⊥ → StepRuns L k
-      sized e z false test parts able = absurd able
-      sized e z true test parts able =
-          let within = lane_within z lane test in
-          let row = lane_rows e z.narrow d n lane within in
-          let few = small able in
-          let fit = fits_vri_c 0xe74d d n lane (code_of_size e) (few_digits (elements_listed row)) few.0 few.1 (lane_small e lane within) (elements_few row) in
-          one_vector_runs (vri_c 0xe74d d n lane (code_of_size e)) (O.Replicate e lane) d n row fit refl refl (λ r. refl) (is.0 ∙ ap (λ z. Some (Performs false (computes_one_vector (O.Replicate z lane) d n) no_code)) z.elements, parts)
-
-      go : HasSize size → StepRuns L k
-      go (inl none) = absurd (subst (λ o. OperandsValidOr (single_with valid (replicate_lane_row o size d n lane)) ⊥) none is.2)
-      go (inr (e, z)) =
-          sized e z (is_lane size lane) refl (is.1 ∙ ap (λ c. parts_or (single_with valid (replicate_lane_row c size d n lane)) None []) z.code) (subst (λ c. OperandsValidOr (single_with valid (replicate_lane_row c size d n lane)) ⊥) z.code is.2)
+  lane_replicated_runs : (valid : Bool) (size d n lane : ℕ) → (IsTrue valid → (d < 32) × (n < 32)) → IsOptionalRow b valid (replicate_lane_row (element_code size) size d n lane) (computes_one_vector (O.Replicate (elements_of size) lane) d n) → StepRuns L k
+  lane_replicated_runs valid size d n lane small is =
+      lane_runs b valid size lane (λ c. vri_c 0xe74d d n lane c) (λ e. computes_one_vector (O.Replicate e lane) d n) (λ e narrow within able parts.
+      let row = lane_rows e narrow d n lane within in
+      let few = small able in
+      let fit = fits_vri_c 0xe74d d n lane (code_of_size e) (few_digits (elements_listed row)) few.0 few.1 (lane_small e lane within) (elements_few row) in
+      one_vector_runs (vri_c 0xe74d d n lane (code_of_size e)) (O.Replicate e lane) d n row fit refl refl (λ r. refl) parts) is
 
   -- ones from a bit to another one
   bit_mask_runs : (valid : Bool) (size d start end : ℕ) → (IsTrue valid → d < 32) →
@@ -408,23 +399,13 @@ module _ {L : Layout} {k : ℕ} {s : Step} (b : StepAt L k s) where
 
   -- an immediate in one element, whatever is told of the others
   immediate_inserted_runs : (valid : Bool) (size d bits lane : ℕ) (does : ElementSize → Registers → Operation) → ((e : ElementSize) (r : Registers) → Refines (computed_vector (O.InsertImmediate e bits lane) d (r.vector d) (r.vector 0) (r.vector 0) (r.vector 0)) (does e r)) → ((e : ElementSize) (r : Registers) → ValuesCoded (does e r) no_code) → (IsTrue valid → d < 32) → bits < 65536 →
-      (kind_of_step L (Some s) ≡ Some (Performs false (does (elements_of size)) no_code)) × (step_parts s ≡ parts_or (single_with valid (insert_immediate_row (element_code size) size d bits lane)) None []) × OperandsValidOr (single_with valid (insert_immediate_row (element_code size) size d bits lane)) ⊥ → StepRuns L k
-  immediate_inserted_runs valid size d bits lane does refines values small lb is = go (size_of_elements size)
-    where
-      row_of_size : ElementSize → MachineInstruction
-      row_of_size e = vri_a (insert_immediate_opcode (code_of_size e)) d bits lane
-
-      sized : (e : ElementSize) → Sized size e → (t : Bool) → is_lane size lane ≡ t → step_parts s ≡ parts_or (single_with valid (cond t (Some (row_of_size e)) None)) None [] → OperandsValidOr (single_with valid (cond t (Some (row_of_size e)) None)) ⊥ → StepRuns L k
-      sized e z false test parts able = absurd able
-      sized e z true test parts able =
-          let row = insert_rows e z.narrow d bits lane lb (lane_within z lane test) in
-          let fit = fits_vri_a (insert_immediate_opcode (code_of_size e)) d bits lane (few_digits (elements_listed row)) (small able) lb (elements_few row) in
-          vector_runs (row_of_size e) (O.InsertImmediate e bits lane) (does e) false row fit (refines e) (values e) (is.0 ∙ ap (λ z. Some (Performs false (does z) no_code)) z.elements) parts
-
-      go : HasSize size → StepRuns L k
-      go (inl none) = absurd (subst (λ o. OperandsValidOr (single_with valid (insert_immediate_row o size d bits lane)) ⊥) none is.2)
-      go (inr (e, z)) =
-          sized e z (is_lane size lane) refl (is.1 ∙ ap (λ c. parts_or (single_with valid (insert_immediate_row c size d bits lane)) None []) z.code) (subst (λ c. OperandsValidOr (single_with valid (insert_immediate_row c size d bits lane)) ⊥) z.code is.2)
+      IsOptionalRow b valid (insert_immediate_row (element_code size) size d bits lane) (does (elements_of size)) → StepRuns L k
+  immediate_inserted_runs valid size d bits lane does refines values small lb is =
+      lane_runs b valid size lane (λ c. vri_a (insert_immediate_opcode c) d bits lane) does (λ e narrow within able parts.
+      let row = insert_rows e narrow d bits lane lb within in
+      let x = vri_a (insert_immediate_opcode (code_of_size e)) d bits lane in
+      let fit = fits_vri_a (insert_immediate_opcode (code_of_size e)) d bits lane (few_digits (elements_listed row)) (small able) lb (elements_few row) in
+      vector_runs x (O.InsertImmediate e bits lane) (does e) false row fit (refines e) (values e) parts.0 parts.1) is
 
   -- a move of the leftmost element
   left_moved_runs : (opcode : ℕ) (e : ElementSize) → opcode < 256 → Meant Rr Any opcode (MoveLeft e) → (d n : ℕ) → (d < 32) × (n < 32) → IsVectorRow (move_left_row opcode d n) (moves_left e d n) → StepRuns L k
@@ -522,6 +503,34 @@ vector_instruction_runs b (VecImmReplicate size rd imm) is =
     replicated_runs b (is_vector rd) size (number_of rd) (low_halfword imm) (vector_number rd) (halfword_bits imm) (is.0, is.1, is.2)
 vector_instruction_runs b (VecImmBitMask size rd start end) is = bit_mask_runs b (is_vector rd) size (number_of rd) start end (vector_number rd) (is.0, is.1, is.2)
 vector_instruction_runs b (VecReplicateLane size rd rn lane) is = lane_replicated_runs b (is_vector rd && is_vector rn) size (number_of rd) (number_of rn) lane (two_vectors rd rn) (is.0, is.1, is.2)
+vector_instruction_runs b (VecInsertLaneImm size rd ri imm lane) is =
+    let d = number_of rd in
+    let bits = low_halfword imm in
+    let does : ElementSize → Registers → Operation = λ e. generates_vector (O.InsertImmediate e bits lane) d in
+    immediate_inserted_runs b (reuses_vector rd ri) size d bits lane does (λ e r. no_second (O.InsertImmediate e bits lane) refl d (r.vector d) (r.vector 0) (r.vector 0) (r.vector 0)) (λ e r. vector_coded (O.InsertImmediate e bits lane) d (r.vector d) 0 0 0) (reused_vector rd ri) (halfword_bits imm) (is.0, is.1, is.2)
+vector_instruction_runs b (VecInsertLaneImmUndef size rd imm lane) is =
+    let d = number_of rd in
+    let bits = low_halfword imm in
+    let does : ElementSize → Registers → Operation = λ e. inserts_immediate_alone e d bits lane in
+    immediate_inserted_runs b (is_vector rd) size d bits lane does (λ e r. inserts_alone e d bits lane (lane_bits e lane) (r.vector d) (r.vector 0) (r.vector 0) (r.vector 0)) (λ e r. never_by_values (does e r) no_code refl (λ kind h. h)) (vector_number rd) (halfword_bits imm) (is.0, is.1, is.2)
+vector_instruction_runs b (VecInsertLane size rd ri rn lane base) is =
+    let d = number_of rd in
+    let n = number_of rn in
+    let m = number_of base in
+    lane_inserted_runs b (reuses_vector rd ri && is_general rn && is_general base) size d n m lane (λ e. inserts_lane e d n m lane) (λ e r. exactly (inserts_lane e d n m lane r)) (λ e. inserts_never e d n m lane) (λ h.
+    let p = and_parts (reuses_vector rd ri && is_general rn) (is_general base) h in
+    let q = and_parts (reuses_vector rd ri) (is_general rn) p.0 in
+    (reused_vector rd ri q.0, general_number rn q.1, general_number base p.1)) (is.0, is.1, is.2)
+vector_instruction_runs b (VecInsertLaneUndef size rd rn lane base) is =
+    alone_inserted_runs b (is_vector rd && is_general rn && is_general base) size (number_of rd) (number_of rn) (number_of base) lane (λ h.
+    let p = and_parts (is_vector rd && is_general rn) (is_general base) h in
+    let q = and_parts (is_vector rd) (is_general rn) p.0 in
+    (vector_number rd q.0, general_number rn q.1, general_number base p.1)) (is.0, is.1, is.2)
+vector_instruction_runs b (VecExtractLane size rd rn lane base) is =
+    lane_extracted_runs b (is_general rd && is_vector rn && is_general base) size (number_of rd) (number_of rn) (number_of base) lane (λ h.
+    let p = and_parts (is_general rd && is_vector rn) (is_general base) h in
+    let q = and_parts (is_general rd) (is_vector rn) p.0 in
+    (general_number rd q.0, vector_number rn q.1, general_number base p.1)) (is.0, is.1, is.2)
 vector_instruction_runs b (FpuMove32 rd rn) is = left_moved_runs b 0x38 Word (omega arith) ler_row (number_of rd) (number_of rn) (two_vectors rd rn is.2) (is.0, is.1)
 vector_instruction_runs b (FpuMove64 rd rn) is = left_moved_runs b 0x28 Doubleword (omega arith) ldr_row (number_of rd) (number_of rn) (two_vectors rd rn is.2) (is.0, is.1)
 vector_instruction_runs b _ is = absurd is.2

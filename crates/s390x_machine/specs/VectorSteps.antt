@@ -1,22 +1,26 @@
 -- What vector instructions on registers and immediates do (cranelift-codegen, `inst.isle`). An operation on vectors has four operands, its own old value
 -- first; 0 stands for those that it doesn't take.
-use Rattle.std.specs.Prelude.{ℕ, ◌+◌, ◌*◌, ◌%◌, ◌^◌, ◌-◌, pos, true, false, cond, nat_eq, Option, Some, None}
+use Rattle.std.specs.Prelude.{ℕ, ◌+◌, ◌*◌, ◌%◌, ◌^◌, ◌-◌, pos, true, false, cond, if◌then◌else◌, nat_eq, nat_lt, Option, Some, None}
 use Rattle.s390x_base.specs.Regs.{number_of}
 use Rattle.s390x_inst.specs.declared.vec_inst.VecInst.{VecInst}
-use Rattle.s390x_inst.specs.declared.vec_inst.VecInst.TheVariants.{VecRRR, VecRR, VecSelect, VecPermute, VecBlend, VecIntCmp, VecIntCmpS, VecIntEltCmp, VecMov, VecShiftRR, VecEvaluate, VecPermuteDWImm, MovToVec128, VecImmByteMask, VecImmReplicate, VecImmBitMask, VecReplicateLane, FpuMove32, FpuMove64}
+use Rattle.s390x_inst.specs.declared.vec_inst.VecInst.TheVariants.{VecRRR, VecRR, VecSelect, VecPermute, VecBlend, VecIntCmp, VecIntCmpS, VecIntEltCmp, VecMov, VecShiftRR, VecEvaluate, VecPermuteDWImm, MovToVec128, VecImmByteMask, VecImmReplicate, VecImmBitMask, VecReplicateLane, VecInsertLaneImm, VecInsertLaneImmUndef, VecInsertLane, VecInsertLaneUndef, VecExtractLane, FpuMove32, FpuMove64}
 use Rattle.s390x_lanes.specs.declared.operation.ShiftOperator.{ShiftOperator}
 use Rattle.s390x_lanes.specs.declared.operation.VectorOperation.{VectorOperation}
 use Rattle.s390x_lanes.specs.declared.operation.VectorOperation.TheVariants.{Select, Permute, Blend, Move, ShiftElements, Evaluate, PermuteDoublewords, ByteMask, ReplicateImmediate, BitMask, Replicate, InsertImmediate}
+use Rattle.s390x_lanes.specs.Lanes.{lane}
 use Rattle.s390x_lanes.specs.Results.{vector_result}
-use Rattle.s390x_lanes.specs.Size.{element_bits}
+use Rattle.s390x_lanes.specs.Size.{element_bits, lane_count}
 use Rattle.s390x_lanes.specs.declared.size.ElementSize.{ElementSize}
 use Rattle.s390x_lanes.specs.declared.size.ElementSize.TheVariants.{Byte, Halfword, Word, Doubleword}
 use Rattle.s390x_operations.specs.State.{Registers}
+use Rattle.s390x_operations.specs.Vectors.{loaded}
+use Rattle.s390x_operations.specs.declared.effect.VectorLayout.{VectorLayout}
+use Rattle.s390x_operations.specs.declared.operator.Operator.TheVariants as Operator
 use Rattle.s390x_operations.specs.declared.effect.CodeRule.TheVariants.{Kept, Set}
 use Rattle.s390x_operations.specs.declared.effect.Effect.{Effect}
 use Rattle.s390x_operations.specs.declared.effect.Operation.{Operation}
 use Rattle.s390x_typed_steps.specs.General.{low_halfword, low_byte}
-use Rattle.s390x_machine.specs.Computations.{with_rule}
+use Rattle.s390x_machine.specs.Computations.{with_rule, computes_immediate, on_doublewords, havocs}
 use Rattle.s390x_machine.specs.Operands.{based}
 use Rattle.s390x_machine.specs.Semantics.{all_bits, left_bits}
 use Rattle.s390x_machine.specs.VectorOperations.{binary_operation, unary_operation, shift_operator, shifted_elements, comparison_operation, element_comparison}
@@ -61,6 +65,30 @@ lane_bits size lane = (2 ^ element_bits size - 1) * 2 ^ (128 - element_bits size
 abbrev pub inserts_immediate_alone : ElementSize → (d bits lane : ℕ) → Registers → Operation
 inserts_immediate_alone size d bits lane r = with_rule Kept (Effect.PutVector d (lane_bits size lane) (vector_result (InsertImmediate size bits lane) (r.vector d) 0 0 0))
 
+-- vector register d gets the low bits of a number at one of its elements, of which some bits are told; where it has no such element, it may have any value
+abbrev pub puts_element : ElementSize → (known d index x : ℕ) → Registers → Operation
+puts_element size known d index x r =
+    if nat_lt index (lane_count size) then with_rule Kept (Effect.PutVector d known (loaded (VectorLayout.Element size index false) (r.vector d) (x % 2 ^ element_bits size)))
+    else with_rule Kept (Effect.PutVector d 0 0)
+
+-- the number of an element: a base plus a displacement
+abbrev pub element_index : Registers → (base displacement : ℕ) → ℕ
+element_index r base displacement = based r base (pos displacement)
+
+-- general register n in one element of vector register d
+abbrev pub inserts_lane : ElementSize → (d n base displacement : ℕ) → Registers → Operation
+inserts_lane size d n base displacement r = puts_element size all_bits d (element_index r base displacement) (r.general n) r
+
+-- the same, where the other elements may become any
+abbrev pub inserts_lane_alone : ElementSize → (d n base displacement : ℕ) → Registers → Operation
+inserts_lane_alone size d n base displacement r = puts_element size (lane_bits size (element_index r base displacement)) d (element_index r base displacement) (r.general n) r
+
+-- general register d becomes one element of vector register n, without a sign; where it has no such element, it may have any value
+abbrev pub extracts_lane : ElementSize → (d n base displacement : ℕ) → Registers → Operation
+extracts_lane size d n base displacement r =
+    if nat_lt (element_index r base displacement) (lane_count size) then computes_immediate Kept (on_doublewords Operator.Move) d d (lane (element_bits size) (r.vector n) (element_index r base displacement)) r
+    else havocs d r
+
 -- the leftmost element of vector register d becomes that of n; the rest may become any
 abbrev pub moves_left : ElementSize → (d n : ℕ) → Registers → Operation
 moves_left size d n r = with_rule Kept (Effect.PutVector d (left_bits size) (r.vector n))
@@ -84,6 +112,11 @@ vector_operation (VecImmByteMask rd mask) = Some (generates_vector (ByteMask (lo
 vector_operation (VecImmReplicate size rd imm) = Some (generates_vector (ReplicateImmediate (elements_of size) (low_halfword imm)) (number_of rd))
 vector_operation (VecImmBitMask size rd start end) = Some (generates_vector (BitMask (elements_of size) start end) (number_of rd))
 vector_operation (VecReplicateLane size rd rn lane) = Some (computes_one_vector (Replicate (elements_of size) lane) (number_of rd) (number_of rn))
+vector_operation (VecInsertLaneImm size rd ri imm lane) = Some (generates_vector (InsertImmediate (elements_of size) (low_halfword imm) lane) (number_of rd))
+vector_operation (VecInsertLaneImmUndef size rd imm lane) = Some (inserts_immediate_alone (elements_of size) (number_of rd) (low_halfword imm) lane)
+vector_operation (VecInsertLane size rd ri rn lane base) = Some (inserts_lane (elements_of size) (number_of rd) (number_of rn) (number_of base) lane)
+vector_operation (VecInsertLaneUndef size rd rn lane base) = Some (inserts_lane_alone (elements_of size) (number_of rd) (number_of rn) (number_of base) lane)
+vector_operation (VecExtractLane size rd rn lane base) = Some (extracts_lane (elements_of size) (number_of rd) (number_of rn) (number_of base) lane)
 vector_operation (FpuMove32 rd rn) = Some (moves_left Word (number_of rd) (number_of rn))
 vector_operation (FpuMove64 rd rn) = Some (moves_left Doubleword (number_of rd) (number_of rn))
 vector_operation _ = None

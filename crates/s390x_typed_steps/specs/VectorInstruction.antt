@@ -6,9 +6,9 @@ use Rattle.s390x_base.specs.declared.regs.Reg.TheVariants.{Real, Virtual}
 use Rattle.s390x_base.specs.declared.trap.TrapKind.{TrapKind}
 use Rattle.s390x_base.specs.declared.trap.TrapKind.TheVariants.{IntegerDivisionByZero}
 use Rattle.s390x_inst.specs.declared.vec_inst.VecInst.{VecInst}
-use Rattle.s390x_inst.specs.declared.vec_inst.VecInst.TheVariants.{VecRRR, VecRR, VecSelect, VecPermute, VecBlend, VecIntCmp, VecIntCmpS, VecIntEltCmp, VecMov, VecShiftRR, VecEvaluate, VecPermuteDWImm, MovToVec128, VecImmByteMask, VecImmReplicate, VecImmBitMask, VecReplicateLane, FpuMove32, FpuMove64}
+use Rattle.s390x_inst.specs.declared.vec_inst.VecInst.TheVariants.{VecRRR, VecRR, VecSelect, VecPermute, VecBlend, VecIntCmp, VecIntCmpS, VecIntEltCmp, VecMov, VecShiftRR, VecEvaluate, VecPermuteDWImm, MovToVec128, VecImmByteMask, VecImmReplicate, VecImmBitMask, VecReplicateLane, VecInsertLaneImm, VecInsertLaneImmUndef, VecInsertLane, VecInsertLaneUndef, VecExtractLane, FpuMove32, FpuMove64}
 use Rattle.s390x_typed_steps.specs.General.{is_general, low_halfword, low_byte}
-use Rattle.s390x_typed_steps.specs.MachineInstruction.{MachineInstruction, rr, vri_a, vri_b, vri_c, vri_k, vrr_a, vrr_b, vrr_c, vrr_d, vrr_e, vrr_f, vrs_a}
+use Rattle.s390x_typed_steps.specs.MachineInstruction.{MachineInstruction, rr, rre, vri_a, vri_b, vri_c, vri_k, vrr_a, vrr_b, vrr_c, vrr_d, vrr_e, vrr_f, vrs_a, vrs_b, vrs_c}
 use Rattle.s390x_typed_steps.specs.VectorOpcodes.{binary_row, unary_row, shift_row, comparison_row, element_comparison_row, is_division}
 
 -- a real vector register
@@ -33,10 +33,14 @@ replicate_row (Some code) d bits = Some (vri_a 0xe745 d bits code)
 abbrev pub is_lane : (size lane : ℕ) → Bool
 is_lane size lane = nat_lt (lane * size) 128
 
--- one element for all; none where there is no such element
+-- a row on one element, by the code of its size; none where there is no such element
+abbrev pub lane_row : (ℕ → MachineInstruction) → (code : Option ℕ) → (size lane : ℕ) → Option MachineInstruction
+lane_row row None size lane = None
+lane_row row (Some code) size lane = cond (is_lane size lane) (Some (row code)) None
+
+-- one element for all
 abbrev pub replicate_lane_row : (code : Option ℕ) → (size d n lane : ℕ) → Option MachineInstruction
-replicate_lane_row None size d n lane = None
-replicate_lane_row (Some code) size d n lane = cond (is_lane size lane) (Some (vri_c 0xe74d d n lane code)) None
+replicate_lane_row code size d n lane = lane_row (λ c. vri_c 0xe74d d n lane c) code size lane
 
 -- ones from a bit to another one in each element; none where there are no such bits
 abbrev pub bit_mask_row : (code : Option ℕ) → (size d start end : ℕ) → Option MachineInstruction
@@ -47,10 +51,27 @@ bit_mask_row (Some code) size d start end = cond (nat_lt start size && nat_lt en
 abbrev pub insert_immediate_opcode : (code : ℕ) → ℕ
 insert_immediate_opcode code = cond (nat_eq code 0) 0xe740 (cond (nat_eq code 1) 0xe741 (cond (nat_eq code 2) 0xe743 0xe742))
 
--- none where there is no such element
 abbrev pub insert_immediate_row : (code : Option ℕ) → (size d bits lane : ℕ) → Option MachineInstruction
-insert_immediate_row None size d bits lane = None
-insert_immediate_row (Some code) size d bits lane = cond (is_lane size lane) (Some (vri_a (insert_immediate_opcode code) d bits lane)) None
+insert_immediate_row code size d bits lane = lane_row (λ c. vri_a (insert_immediate_opcode c) d bits lane) code size lane
+
+-- the low bits of a general register in one element, whose number is a base plus a displacement; none where the displacement isn't an element's number
+abbrev pub insert_lane_row : (code : Option ℕ) → (size d n base lane : ℕ) → Option MachineInstruction
+insert_lane_row code size d n base lane = lane_row (λ c. vrs_b 0xe722 d base n c lane) code size lane
+
+-- one element, whose number is a base plus a displacement, in a general register
+abbrev pub extract_lane_row : (code : Option ℕ) → (size d n base lane : ℕ) → Option MachineInstruction
+extract_lane_row code size d n base lane = lane_row (λ c. vrs_c 0xe721 d base n c lane) code size lane
+
+-- the leftmost doubleword of a register that is a float register too
+abbrev pub is_float_doubleword : (size v base lane : ℕ) → Bool
+is_float_doubleword size v base lane = nat_eq size 64 && nat_eq lane 0 && nat_eq base 0 && nat_lt v 16
+
+-- such a doubleword goes between a float register and a general one, where the other elements may become any
+abbrev pub insert_alone_row : (size d n base lane : ℕ) → Option MachineInstruction
+insert_alone_row size d n base lane = cond (is_float_doubleword size d base lane) (Some (rre 0xb3c1 d n)) (insert_lane_row (element_code size) size d n base lane)
+
+abbrev pub extract_row : (size d n base lane : ℕ) → Option MachineInstruction
+extract_row size d n base lane = cond (is_float_doubleword size n base lane) (Some (rre 0xb3cd d n)) (extract_lane_row (element_code size) size d n base lane)
 
 -- a move of the leftmost bits: of float registers where both are such, else of whole vectors
 abbrev pub move_left_row : (opcode d n : ℕ) → MachineInstruction
@@ -80,6 +101,11 @@ vector_row (VecImmByteMask rd mask) = Some (vri_a 0xe744 (number_of rd) (low_hal
 vector_row (VecImmReplicate size rd imm) = replicate_row (element_code size) (number_of rd) (low_halfword imm)
 vector_row (VecImmBitMask size rd start end) = bit_mask_row (element_code size) size (number_of rd) start end
 vector_row (VecReplicateLane size rd rn lane) = replicate_lane_row (element_code size) size (number_of rd) (number_of rn) lane
+vector_row (VecInsertLaneImm size rd ri imm lane) = insert_immediate_row (element_code size) size (number_of rd) (low_halfword imm) lane
+vector_row (VecInsertLaneImmUndef size rd imm lane) = insert_immediate_row (element_code size) size (number_of rd) (low_halfword imm) lane
+vector_row (VecInsertLane size rd ri rn lane base) = insert_lane_row (element_code size) size (number_of rd) (number_of rn) (number_of base) lane
+vector_row (VecInsertLaneUndef size rd rn lane base) = insert_alone_row size (number_of rd) (number_of rn) (number_of base) lane
+vector_row (VecExtractLane size rd rn lane base) = extract_row size (number_of rd) (number_of rn) (number_of base) lane
 vector_row (FpuMove32 rd rn) = Some (move_left_row 0x38 (number_of rd) (number_of rn))
 vector_row (FpuMove64 rd rn) = Some (move_left_row 0x28 (number_of rd) (number_of rn))
 vector_row _ = None
@@ -103,6 +129,11 @@ vector_operands_valid (VecImmByteMask rd mask) = is_vector rd
 vector_operands_valid (VecImmReplicate size rd imm) = is_vector rd
 vector_operands_valid (VecImmBitMask size rd start end) = is_vector rd
 vector_operands_valid (VecReplicateLane size rd rn lane) = is_vector rd && is_vector rn
+vector_operands_valid (VecInsertLaneImm size rd ri imm lane) = reuses_vector rd ri
+vector_operands_valid (VecInsertLaneImmUndef size rd imm lane) = is_vector rd
+vector_operands_valid (VecInsertLane size rd ri rn lane base) = reuses_vector rd ri && is_general rn && is_general base
+vector_operands_valid (VecInsertLaneUndef size rd rn lane base) = is_vector rd && is_general rn && is_general base
+vector_operands_valid (VecExtractLane size rd rn lane base) = is_general rd && is_vector rn && is_general base
 vector_operands_valid (FpuMove32 rd rn) = is_vector rd && is_vector rn
 vector_operands_valid (FpuMove64 rd rn) = is_vector rd && is_vector rn
 vector_operands_valid _ = false
