@@ -8,7 +8,7 @@ ghost use Rattle.s390x_buffer.specs.Extends.{Extends};
 ghost use Rattle.s390x_buffer.specs.State.{put_cause};
 ghost use Rattle.std.specs.Option.{option_map};
 ghost use Rattle.s390x_typed_steps.specs.Causes.{Declared, first_emit_cause, unless, declared_in, memory_cause, late_cause, target_cause, boundary};
-ghost use Rattle.s390x_typed_steps.specs.General.{is_general, low_word};
+ghost use Rattle.s390x_typed_steps.specs.General.{is_general};
 ghost use Rattle.s390x_typed_steps.specs.MachineInstruction.{size_of};
 ghost use Rattle.s390x_typed_steps.specs.Memory.{type_of, storage_row, fault_code, address_form};
 ghost use Rattle.s390x_typed_steps.specs.Operands.{has_form, operand_general, scratch};
@@ -26,6 +26,7 @@ use s390x_buffer::MachBuffer;
 use s390x_enc::enc_ril_a;
 use s390x_inst::{EmitState, MemArg};
 use s390x_typed_steps::MemInstType;
+use s390x_typed_steps::immediates::bits_of_word;
 
 /// An instruction with a memory operand: its machine rows, and the registers that it names.
 #[derive(Clone, Copy)]
@@ -83,13 +84,6 @@ fn put_far(sink: &mut MachBuffer, far: Option<i32>) -> Result<(), EmitError>
         Some(off) => put_offset(sink, off),
         None => Ok(()),
     }
-}
-
-// The low 32 bits of an offset, in two's complement.
-fn bits_of_word(off: i32) -> u32
-    ensures { result ≡ low_word off }
-{
-    i64::from(off).rem_euclid(4294967296) as u32
 }
 
 fn put_offset(sink: &mut MachBuffer, off: i32) -> Result<(), EmitError>

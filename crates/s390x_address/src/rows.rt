@@ -15,6 +15,7 @@ use s390x_base::{Code, EmitError, Reg, SImm20, UImm12};
 use s390x_enc::{enc_rs, enc_rsy, enc_rx, enc_rxy, enc_si, enc_sil, enc_siy};
 use s390x_inst::MemArg;
 use s390x_typed_steps::MemInstType;
+use s390x_typed_steps::immediates::{low_12, low_displacement};
 
 /// A machine instruction with an operand in memory, in its format.
 #[derive(Clone, Copy)]
@@ -95,22 +96,6 @@ pub enum StorageRows {
         imm: i16,
         sil: u16,
     },
-}
-
-// The 20 bits of a displacement, in two's complement.
-fn low_displacement(displacement: SImm20) -> u32
-    ensures value { result ≡ low_displacement displacement }
-    ensures below { result < 1048576 }
-{
-    i64::from(displacement.value()).rem_euclid(1048576) as u32
-}
-
-// The 12 bits of a displacement.
-fn low_12(displacement: UImm12) -> u32
-    ensures value { result ≡ low_12 displacement }
-    ensures below { result < 4096 }
-{
-    displacement.bits() % 4096
 }
 
 impl StorageRow {

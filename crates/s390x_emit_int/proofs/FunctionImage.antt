@@ -27,6 +27,6 @@ module _ (flags : IsaFlags) (state : Emission) (f : AllocatedFunction) (base : �
     runs = subst (λ bs. RunsAsTyped symbols (trees_of state f) (constants_of f) (record { base = base; bytes = bs })) (sym is) (runs_as_typed flags (trees_of state f) (constants_of f) code base symbols (first_right (start_cause state) (checked_cause flags (trees_of state f) (constants_of f)) valid) ranges finished linked);
   }
 
-  pub link_refused : (error : LinkError) → IsFinishedCode (trees_of state f) (constants_of f) code → (error ≡ NoMemory) ⊎ (link_cause code base symbols ≡ Some error) → (error ≡ NoMemory) ⊎ IsLinkRefused state f base symbols error
-  link_refused error finished (inl short) = inl short
-  link_refused error finished (inr cause) = inr (record { code = code; finished = finished; cause = cause })
+  pub link_refused : (error : LinkError) → function_cause flags (trees_of state f) (constants_of f) state ≡ None → IsFinishedCode (trees_of state f) (constants_of f) code → (error ≡ NoMemory) ⊎ (link_cause code base symbols ≡ Some error) → (error ≡ NoMemory) ⊎ IsLinkRefused flags state f base symbols error
+  link_refused error valid finished (inl short) = inl short
+  link_refused error valid finished (inr cause) = inr (record { code = code; valid = valid; finished = finished; cause = cause })

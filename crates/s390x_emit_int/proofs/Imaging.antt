@@ -166,7 +166,10 @@ block_is s s1 s2 k t e1 e2 =
     e2 ∙ ap (λ x. apply_all x (fragments (length x.labels) 0 t)) e1 ∙ ap (λ m. apply_all (bound_state s k) (fragments m 0 t)) (length-set s.labels k (Some (length s.bytes)))
 
 -- one more block
-pub block_more : (state : Emission) (bs : List Block) (k : ℕ) (v : Block) (s s1 s2 r : BufferState) → k < length bs → v ≡ get_or bs k v → s1 ≡ apply s (Bind k) → s2 ≡ apply_all s1 (fragments (length s1.labels) 0 (tree_of state v)) → apply_all s (function_fragments (length s.labels) k (map (tree_of state) (drop k bs))) ≡ r → apply_all s2 (function_fragments (length s2.labels) (k + 1) (map (tree_of state) (drop (k + 1) bs))) ≡ r
+pub block_more : (state : Emission) (bs : List Block) (k : ℕ) (v : Block) (s s1 s2 r : BufferState) → k < length bs → v ≡ get_or bs k v
+    → s1 ≡ apply s (Bind k) → s2 ≡ apply_all s1 (fragments (length s1.labels) 0 (tree_of state v))
+    → apply_all s (function_fragments (length s.labels) k (map (tree_of state) (drop k bs))) ≡ r
+    → apply_all s2 (function_fragments (length s2.labels) (k + 1) (map (tree_of state) (drop (k + 1) bs))) ≡ r
 block_more state bs k v s s1 s2 r lt at e1 e2 h =
     let n = length s.labels in
     let t = tree_of state v in

@@ -45,7 +45,10 @@ cons_of is k i lt at =
     drop-cons is k i lt ∙ ap (λ x. x ∷ drop (suc k) is) (sym at) ∙ ap (λ m. i ∷ drop m is) k1
 
 -- one more member
-pub more : (state : Emission) (is : List Inst) (k : ℕ) (i : Inst) (s s1 s2 r : BufferState) (after : ℕ) → k < length is → i ≡ get_or is k i → s1 ≡ apply s StartStep → s2 ≡ apply_all s1 (own_fragments (length s1.labels) after (prepend state i empty)) → apply_all s (fragments (length s.labels) after (tree state (drop k is))) ≡ r → apply_all s2 (fragments (length s2.labels) after (tree (state_after state i) (drop (k + 1) is))) ≡ r
+pub more : (state : Emission) (is : List Inst) (k : ℕ) (i : Inst) (s s1 s2 r : BufferState) (after : ℕ) → k < length is → i ≡ get_or is k i
+    → s1 ≡ apply s StartStep → s2 ≡ apply_all s1 (own_fragments (length s1.labels) after (prepend state i empty))
+    → apply_all s (fragments (length s.labels) after (tree state (drop k is))) ≡ r
+    → apply_all s2 (fragments (length s2.labels) after (tree (state_after state i) (drop (k + 1) is))) ≡ r
 more state is k i s s1 s2 r after lt at e1 e2 h =
     let n = length s.labels in
     let rest = drop (k + 1) is in

@@ -10,12 +10,12 @@ ghost use Rattle.s390x_typed_steps.specs.SingleInstruction.{single_with, unary_r
 ghost use Rattle.s390x_emit_int.specs.SingleInstruction.{opcode_of, takes_general};
 
 use crate::codes::{halfword, masked, short, three_operands, two_and_halfword, two_operands, word};
-use crate::immediates::{bits_of_halfword, bits_of_unsigned};
 use crate::opcode::ShortOpcode;
 use crate::registers::{same_number, three_general, two_general};
 use crate::shapes::into_row;
 use s390x_base::{Code, EmitError, Reg, Writable, gpr};
 use s390x_inst::{ALUOp, CmpOp, UnaryOp};
+use s390x_typed_steps::immediates::{bits_of_halfword, bits_of_unsigned};
 
 // The opcode of an operator's row of three operands.
 pub fn three_opcode(op: ALUOp) -> Option<u16>

@@ -10,13 +10,13 @@ ghost use Rattle.s390x_typed_steps.specs.SingleInstruction.{single_with, two_ope
 ghost use Rattle.s390x_emit_int.specs.SingleInstruction.{opcode_of, takes_general};
 
 use crate::codes::{selected, shifted, short, three_operands, two_operands};
-use crate::immediates::low_byte;
 use crate::moves::{of_four, of_two};
 use crate::opcode::ShortOpcode;
 use crate::registers::{is_even_pair, is_reused, three_general, two_general};
 use s390x_address::memory::general;
 use s390x_base::{Code, EmitError, Reg, Writable, WritableRegPair};
 use s390x_inst::{ALUOp, RxSBGOp, ShiftOp};
+use s390x_typed_steps::immediates::low_byte;
 
 fn of_one(zeroth: u16, n: u8) -> Option<ShortOpcode>
     requires { zeroth < 4096 }

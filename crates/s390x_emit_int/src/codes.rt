@@ -10,13 +10,13 @@ ghost use Rattle.s390x_typed_steps.specs.SingleCode.{code_where};
 ghost use Rattle.s390x_typed_steps.specs.SingleInstruction.{two_operands};
 ghost use Rattle.s390x_emit_int.specs.SingleInstruction.{opcode_of, takes_general, implies};
 
-use crate::immediates::low_displacement;
 use crate::opcode::ShortOpcode;
 use s390x_base::{Code, EmitError, Reg, SImm20};
 use s390x_enc::{
     enc_ri_a, enc_rie_a, enc_rie_d, enc_rie_f, enc_rie_g, enc_ril_a, enc_rr, enc_rre, enc_rrf_ab,
     enc_rrf_cde, enc_rsy, enc_rxy,
 };
+use s390x_typed_steps::immediates::low_displacement;
 
 pub fn short(value: u16) -> ShortOpcode
     requires { value < 4096 }

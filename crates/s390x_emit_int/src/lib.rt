@@ -11,7 +11,6 @@ pub mod emit;
 pub mod function;
 pub mod headline;
 pub mod image;
-pub mod immediates;
 pub mod leaf;
 pub mod memory;
 pub mod moves;

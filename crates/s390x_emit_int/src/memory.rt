@@ -6,7 +6,6 @@ ghost use Rattle.s390x_typed_steps.specs.General.{low_byte, low_halfword};
 ghost use Rattle.s390x_typed_steps.specs.Memory.{load, store, store_immediate, SiForm, SilForm, is_range, multiple, load_and_operate, compare_and_swap, memory};
 ghost use Rattle.s390x_typed_steps.specs.Storage.{alu_rx, alu_rxy, cmp_rx, cmp_rxy, cmp_ril, atomic_rsy};
 
-use crate::immediates::low_byte;
 use crate::registers::{is_reused, two_general};
 use s390x_address::emitters::{holds_scratch, number};
 use s390x_address::forms::is_numbered;
@@ -14,6 +13,7 @@ use s390x_address::memory::{MemoryInst, general};
 use s390x_address::rows::StorageRows;
 use s390x_base::{Reg, Writable};
 use s390x_inst::{ALUOp, CmpOp, Inst, MemArg};
+use s390x_typed_steps::immediates::low_byte;
 
 // An access by one register.
 #[tactic(auto, using(crate::proofs::Storing::register_encodes))]

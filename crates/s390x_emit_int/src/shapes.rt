@@ -8,11 +8,11 @@ ghost use Rattle.s390x_typed_steps.specs.SingleInstruction.{single_with, two_row
 ghost use Rattle.s390x_emit_int.specs.SingleInstruction.{opcode_of, takes_general};
 
 use crate::codes::{halfword, two_operands, word};
-use crate::immediates::{bits_of_halfword, bits_of_word};
 use crate::opcode::ShortOpcode;
 use crate::registers::{is_reused, two_general};
 use s390x_address::memory::general;
 use s390x_base::{Code, EmitError, Reg, Writable};
+use s390x_typed_steps::immediates::{bits_of_halfword, bits_of_word};
 
 /// Two registers, where there is a row.
 #[tactic(auto, using(crate::proofs::Encoding::itself))]

@@ -15,9 +15,6 @@ use crate::bits::{
     tested_row,
 };
 use crate::codes::always;
-use crate::immediates::{
-    bits_of_halfword, bits_of_unsigned, bits_of_unsigned_halfword, bits_of_word,
-};
 use crate::moves::{
     branch_nowhere, conditional_code, conditional_immediate_row, extend_opcode, indexed_opcode,
     indexed_row, insert_access, load_access, logical_indexed_opcode, of_four, of_two,
@@ -34,6 +31,9 @@ use crate::stops::{
 use s390x_base::{Code, EmitError, Reg};
 use s390x_emit_vec::find_vector;
 use s390x_inst::Inst;
+use s390x_typed_steps::immediates::{
+    bits_of_halfword, bits_of_unsigned, bits_of_unsigned_halfword, bits_of_word,
+};
 
 /// The code of the one machine instruction of an instruction that is built as one, or `BadRegister` where its registers may not stand there: real general
 /// ones, and the input that has to be the output is it.

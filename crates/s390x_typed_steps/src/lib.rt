@@ -1,6 +1,7 @@
-//! The typed steps of a function: one numbered list, in which a loop is flat. Definitions, and the types that they need; there is no code here.
+//! The typed steps of a function: one numbered list, in which a loop is flat. Definitions, the types that they need, and the bits of immediates.
 #![tactic(auto)]
 
+pub mod immediates;
 pub mod law;
 pub mod mem_inst_type;
 pub mod vector_opcode;

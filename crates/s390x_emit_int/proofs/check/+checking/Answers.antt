@@ -15,7 +15,9 @@ check_members-loop-inst-preserved t c =
     let next = c.advance.new.state in
     let k = c.loop-inst.inst-index in
     let is = c.args.insts.now in
-    let g : GoesOn c.args.flags (declared_in c.args.sink.now) c.args.depth c.loop-inst.sum c.in_ok-sum.sum state.nominal next.nominal (tree next (drop (k + 1) is)) (tree state (drop k is)) = goes_on state next c.args.flags (declared_in c.args.sink.now) c.args.depth c.loop-inst.sum _ is k c.inst-item.result (omega arith) c.inst-item.is c.in_ok-advance.ensures c.in_ok-sum.ensures.0 c.in_ok-sum.ensures.1 in
+    let g : GoesOn c.args.flags (declared_in c.args.sink.now) c.args.depth c.loop-inst.sum c.in_ok-sum.sum state.nominal next.nominal (tree next (drop (k + 1) is)) (tree state (drop k is)) = goes_on
+    state next c.args.flags (declared_in c.args.sink.now) c.args.depth c.loop-inst.sum _ is k c.inst-item.result (omega arith) c.inst-item.is
+    c.in_ok-advance.ensures c.in_ok-sum.ensures.0 c.in_ok-sum.ensures.1 in
     record {
       cause = g.cause ∙ c.loop-inst.invariant.cause;
       labels = g.labels ∙ c.loop-inst.invariant.labels;

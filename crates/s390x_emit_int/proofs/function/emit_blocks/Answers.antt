@@ -47,4 +47,5 @@ returns-in_err-emit_block-clause-lacks c = λ put cause.
     let k = c.loop-block.block-index in
     let s1 = c.bind_label.new.self in
     let e1 : s1 ≡ apply s (Bind k) = c.in_ok-bind_label.ensures.answer.1 ∙ ap (λ l. apply s (Bind l)) c.loop-block.invariant.label in
-    lacks_again c.from_residual-in_err-emit_block.result _ c.from_residual-in_err-emit_block.ensures.1 (c.in_err-emit_block.ensures.lacks (block_passed c.args.state.now c.args.flags c.args.blocks.now k (declared_in c.args.sink.now) c.block-item.result s s1 (omega arith) c.block-item.is e1 (omega (arith, c.loop-block.invariant.count)) c.loop-block.invariant.room (c.loop-block.invariant.passed put cause)))
+    lacks_again c.from_residual-in_err-emit_block.result _ c.from_residual-in_err-emit_block.ensures.1
+    (c.in_err-emit_block.ensures.lacks (block_passed c.args.state.now c.args.flags c.args.blocks.now k (declared_in c.args.sink.now) c.block-item.result s s1 (omega arith) c.block-item.is e1 (omega (arith, c.loop-block.invariant.count)) c.loop-block.invariant.room (c.loop-block.invariant.passed put cause)))

@@ -14,4 +14,4 @@ returns-in-Ok-link-clause-image c =
 
 pub returns-in-Ok-clause-refused : goal.returns-in-Ok-clause-refused
 returns-in-Ok-clause-refused c =
-    link_refused c.args.info.now.isa_flags c.args.state c.args.function.now c.args.base c.args.symbols.now c.in-Ok.code c.in-Err-link.error c.in-Ok.ensures.1 c.in-Err-link.ensures.answer
+    link_refused c.args.info.now.isa_flags c.args.state c.args.function.now c.args.base c.args.symbols.now c.in-Ok.code c.in-Err-link.error c.in-Ok.ensures.0 c.in-Ok.ensures.1 c.in-Err-link.ensures.answer

@@ -106,7 +106,11 @@ emit_loop-bind_label-requires-2-clause-unbound t c =
 
 pub emit_loop-returns-clause-answer : goal.emit_loop-returns-clause-answer
 emit_loop-returns-clause-answer t c =
-    let l = loop_states c.args.sink.now c.get_label.new.self c.get_label-2.new.self c.bind_label.new.self c.emit_members.new.sink c.start_step.new.self c.put_branch.new.sink c.in_ok-start.start.0 c.in_ok-end.end.0 c.bits-mask.result (tree c.args.state.now c.args.body.now) c.in_ok-start.ensures.answer.1 c.in_ok-start.ensures.answer.2 c.in_ok-end.ensures.answer.1 c.in_ok-end.ensures.answer.2 c.in_ok-bind_label.ensures.answer.1 c.in_ok-emit_members.ensures.answer c.in_ok-start_step.ensures.answer.1 c.in_ok-put_branch.ensures.answer in
+    let l = loop_states c.args.sink.now c.get_label.new.self c.get_label-2.new.self c.bind_label.new.self c.emit_members.new.sink
+    c.start_step.new.self c.put_branch.new.sink c.in_ok-start.start.0 c.in_ok-end.end.0 c.bits-mask.result
+    (tree c.args.state.now c.args.body.now) c.in_ok-start.ensures.answer.1 c.in_ok-start.ensures.answer.2 c.in_ok-end.ensures.answer.1
+    c.in_ok-end.ensures.answer.2 c.in_ok-bind_label.ensures.answer.1 c.in_ok-emit_members.ensures.answer c.in_ok-start_step.ensures.answer.1
+    c.in_ok-put_branch.ensures.answer in
     on_both _ c.bind_label-2.result c.bind_label-2.ensures.answer (λ p. l.after c.bind_label-2.new.self p.1 ∙ ap (λ m. apply_all c.args.sink.now (own_fragments (length c.args.sink.now.labels) 0 (loop_node m (tree c.args.state.now c.args.body.now) empty))) c.bits-mask.ensures.value)
 
 pub emit_loop-returns-clause-kept : goal.emit_loop-returns-clause-kept
@@ -117,17 +121,21 @@ emit_loop-returns-clause-kept t c =
 
 pub emit_members-returns-in_err-emit_inst-clause-lacks : goal.emit_members-returns-in_err-emit_inst-clause-lacks
 emit_members-returns-in_err-emit_inst-clause-lacks t c = λ p.
-    lacks_again c.from_residual-in_err-emit_inst.result _ c.from_residual-in_err-emit_inst.ensures.1 (c.in_err-emit_inst.ensures.lacks (member_passed c.loop-inst.state c.args.flags c.loop-inst.sink c.start_step.new.self c.args.after.0 c.args.depth c.args.insts.now c.loop-inst.inst-index c.inst-item.result (omega arith) c.inst-item.is c.in_ok-start_step.ensures.answer.1 (c.loop-inst.invariant.passed p)))
+    lacks_again c.from_residual-in_err-emit_inst.result _ c.from_residual-in_err-emit_inst.ensures.1
+    (c.in_err-emit_inst.ensures.lacks (member_passed c.loop-inst.state c.args.flags c.loop-inst.sink c.start_step.new.self c.args.after.0 c.args.depth c.args.insts.now c.loop-inst.inst-index c.inst-item.result (omega arith) c.inst-item.is c.in_ok-start_step.ensures.answer.1 (c.loop-inst.invariant.passed p)))
 
 pub emit_loop-returns-in_err-start_step-clause-lacks : goal.emit_loop-returns-in_err-start_step-clause-lacks
 emit_loop-returns-in_err-start_step-clause-lacks t c = λ after p.
     let l = loop_passed c.args.flags c.args.sink.now after c.args.state.now.nominal c.args.depth c.args.cond (tree c.args.state.now c.args.body.now) p in
-    lacks_again c.from_residual-in_err-start_step.result _ c.from_residual-in_err-start_step.ensures.1 (fails_with_none _ _ (mark_none c.emit_members.new.sink (members_unpoisoned c.args.sink.now c.get_label.new.self c.get_label-2.new.self c.bind_label.new.self c.emit_members.new.sink c.in_ok-start.start.0 c.in_ok-end.end.0 (tree c.args.state.now c.args.body.now) c.in_ok-start.ensures.answer.2 c.in_ok-end.ensures.answer.2 c.in_ok-bind_label.ensures.answer.1 c.in_ok-emit_members.ensures.answer ∙ l.unpoisoned)) c.in_err-start_step.ensures.answer.0)
+    lacks_again c.from_residual-in_err-start_step.result _ c.from_residual-in_err-start_step.ensures.1
+    (fails_with_none _ _ (mark_none c.emit_members.new.sink (members_unpoisoned c.args.sink.now c.get_label.new.self c.get_label-2.new.self c.bind_label.new.self c.emit_members.new.sink c.in_ok-start.start.0 c.in_ok-end.end.0 (tree c.args.state.now c.args.body.now) c.in_ok-start.ensures.answer.2 c.in_ok-end.ensures.answer.2 c.in_ok-bind_label.ensures.answer.1 c.in_ok-emit_members.ensures.answer ∙ l.unpoisoned)) c.in_err-start_step.ensures.answer.0)
 
 pub emit_loop-returns-in_err-put_branch-clause-lacks : goal.emit_loop-returns-in_err-put_branch-clause-lacks
 emit_loop-returns-in_err-put_branch-clause-lacks t c = λ after p.
     let l = loop_passed c.args.flags c.args.sink.now after c.args.state.now.nominal c.args.depth c.args.cond (tree c.args.state.now c.args.body.now) p in
-    let b = body_turns c.args.sink.now c.get_label.new.self c.get_label-2.new.self c.bind_label.new.self c.emit_members.new.sink c.start_step.new.self c.in_ok-start.start.0 c.in_ok-end.end.0 (tree c.args.state.now c.args.body.now) c.in_ok-start.ensures.answer.2 c.in_ok-end.ensures.answer.2 c.in_ok-bind_label.ensures.answer.1 c.in_ok-emit_members.ensures.answer c.in_ok-start_step.ensures.answer.1 in
+    let b = body_turns c.args.sink.now c.get_label.new.self c.get_label-2.new.self c.bind_label.new.self c.emit_members.new.sink c.start_step.new.self
+    c.in_ok-start.start.0 c.in_ok-end.end.0 (tree c.args.state.now c.args.body.now) c.in_ok-start.ensures.answer.2
+    c.in_ok-end.ensures.answer.2 c.in_ok-bind_label.ensures.answer.1 c.in_ok-emit_members.ensures.answer c.in_ok-start_step.ensures.answer.1 in
     lacks_again c.from_residual-in_err-put_branch.result _ c.from_residual-in_err-put_branch.ensures.1 (c.in_err-put_branch.ensures.lacks (back_passed c.args.flags c.args.sink.now c.start_step.new.self c.in_ok-start.start.0 c.args.state.now.nominal c.args.depth (tree c.args.state.now c.args.body.now) l b c.in_ok-start.ensures.answer.1))
 
 pub emit_loop-returns-in_err-put_branch-clause-kept : goal.emit_loop-returns-in_err-put_branch-clause-kept
@@ -151,7 +159,9 @@ emit_loop-returns-in_err-bind_label-clause-kept t c = bound_kept c.args.sink.now
 pub emit_loop-returns-clause-lacks : goal.emit_loop-returns-clause-lacks
 emit_loop-returns-clause-lacks t c = λ after p.
     let l = loop_passed c.args.flags c.args.sink.now after c.args.state.now.nominal c.args.depth c.args.cond (tree c.args.state.now c.args.body.now) p in
-    let b = body_turns c.args.sink.now c.get_label.new.self c.get_label-2.new.self c.bind_label.new.self c.emit_members.new.sink c.start_step.new.self c.in_ok-start.start.0 c.in_ok-end.end.0 (tree c.args.state.now c.args.body.now) c.in_ok-start.ensures.answer.2 c.in_ok-end.ensures.answer.2 c.in_ok-bind_label.ensures.answer.1 c.in_ok-emit_members.ensures.answer c.in_ok-start_step.ensures.answer.1 in
+    let b = body_turns c.args.sink.now c.get_label.new.self c.get_label-2.new.self c.bind_label.new.self c.emit_members.new.sink c.start_step.new.self
+    c.in_ok-start.start.0 c.in_ok-end.end.0 (tree c.args.state.now c.args.body.now) c.in_ok-start.ensures.answer.2
+    c.in_ok-end.ensures.answer.2 c.in_ok-bind_label.ensures.answer.1 c.in_ok-emit_members.ensures.answer c.in_ok-start_step.ensures.answer.1 in
     let end = end_below c.args.sink.now c.get_label.new.self c.start_step.new.self c.put_branch.new.sink c.bits-mask.result c.in_ok-start.start.0 c.in_ok-end.end.0 c.args.depth (tree c.args.state.now c.args.body.now) c.in_ok-start.ensures.answer.2 c.in_ok-end.ensures.answer.1 b c.in_ok-put_branch.ensures.answer in
     lacks_call _ _ _ c.bind_label-2.result c.bind_label-2.ensures.answer (label_none c.put_branch.new.sink c.in_ok-end.end.0 (ap (λ x. x.failed) c.in_ok-put_branch.ensures.answer ∙ b.unpoisoned ∙ l.unpoisoned) end)
 
