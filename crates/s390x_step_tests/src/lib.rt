@@ -6,6 +6,8 @@ mod lanes;
 #[cfg(test)]
 mod rows;
 #[cfg(test)]
+mod schedules;
+#[cfg(test)]
 mod step;
 #[cfg(test)]
 mod stops;

@@ -1,0 +1,4 @@
+pub mod Going
+pub mod Storing
+pub mod Views
+pub mod Worlds
