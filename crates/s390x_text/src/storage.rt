@@ -31,36 +31,6 @@ pub struct Rows {
     pub accesses: bool,
 }
 
-/// Rows of formats RX, RXY and RIL-B.
-pub fn rx(
-    short: Option<&'static str>,
-    long: Option<&'static str>,
-    relative: Option<&'static str>,
-) -> Rows
-    ensures { rows_of result ≡ rx (option_map (λ s. s.now) short.entry) (option_map (λ s. s.now) long.entry) (option_map (λ s. s.now) relative.entry) }
-{
-    Rows {
-        short,
-        long,
-        relative,
-        index: true,
-        accesses: true,
-    }
-}
-
-/// Rows without an index or a relative form.
-pub fn rs(short: Option<&'static str>, long: Option<&'static str>) -> Rows
-    ensures { rows_of result ≡ rs (option_map (λ s. s.now) short.entry) (option_map (λ s. s.now) long.entry) }
-{
-    Rows {
-        short,
-        long,
-        relative: None,
-        index: false,
-        accesses: true,
-    }
-}
-
 /// The rows of LOAD ADDRESS.
 pub fn address_rows() -> Rows
     ensures { rows_of result ≡ address_rows }
@@ -304,4 +274,94 @@ pub fn access_between<A: Operand, B: Operand>(
 {
     let operand = open(alloc, out, rows, state, mem)?;
     Ok(spelled3(out, rows.name_at(&operand), a, &operand, b)?)
+}
+
+/// Appends the text of an access by rows of formats RX, RXY and RIL-B, with one operand before that in memory.
+pub fn rx_access<A: Operand>(
+    alloc: Global,
+    out: &mut String,
+    state: &EmitState,
+    short: Option<&'static str>,
+    long: Option<&'static str>,
+    relative: Option<&'static str>,
+    a: &A,
+    mem: &MemArg,
+) -> Result<(), TextError>
+    ensures { Prints result (string_bytes out.old) (string_bytes out.new) (access (rx (option_map (λ s. s.now) short.entry) (option_map (λ s. s.now) long.entry) (option_map (λ s. s.now) relative.entry)) state.now (A.shown a.now ∷ []) mem.now []) }
+{
+    let rows = Rows {
+        short,
+        long,
+        relative,
+        index: true,
+        accesses: true,
+    };
+    access2(alloc, out, &rows, state, a, mem)
+}
+
+/// Appends the text of an access by a row of format VRX, with an operand on either side of that in memory.
+pub fn rx_access_between<A: Operand, B: Operand>(
+    alloc: Global,
+    out: &mut String,
+    state: &EmitState,
+    name: Option<&'static str>,
+    a: &A,
+    mem: &MemArg,
+    b: &B,
+) -> Result<(), TextError>
+    ensures { Prints result (string_bytes out.old) (string_bytes out.new) (access (rx (option_map (λ s. s.now) name.entry) None None) state.now (A.shown a.now ∷ []) mem.now (B.shown b.now ∷ [])) }
+{
+    let rows = Rows {
+        short: name,
+        long: None,
+        relative: None,
+        index: true,
+        accesses: true,
+    };
+    access_between(alloc, out, &rows, state, a, mem, b)
+}
+
+/// Appends the text of an access by rows without an index, with two operands before that in memory.
+pub fn rs_access3<A: Operand, B: Operand>(
+    alloc: Global,
+    out: &mut String,
+    state: &EmitState,
+    short: Option<&'static str>,
+    long: Option<&'static str>,
+    a: &A,
+    b: &B,
+    mem: &MemArg,
+) -> Result<(), TextError>
+    ensures { Prints result (string_bytes out.old) (string_bytes out.new) (access (rs (option_map (λ s. s.now) short.entry) (option_map (λ s. s.now) long.entry)) state.now (A.shown a.now ∷ B.shown b.now ∷ []) mem.now []) }
+{
+    let rows = Rows {
+        short,
+        long,
+        relative: None,
+        index: false,
+        accesses: true,
+    };
+    access3(alloc, out, &rows, state, a, b, mem)
+}
+
+/// Appends the text of an access by rows without an index, with an operand behind that in memory.
+pub fn rs_access_then<A: Operand>(
+    alloc: Global,
+    out: &mut String,
+    state: &EmitState,
+    short: Option<&'static str>,
+    long: Option<&'static str>,
+    mem: &MemArg,
+    a: &A,
+) -> Result<(), TextError>
+    ensures { Prints result (string_bytes out.old) (string_bytes out.new) (access (rs (option_map (λ s. s.now) short.entry) (option_map (λ s. s.now) long.entry)) state.now [] mem.now (A.shown a.now ∷ [])) }
+{
+    let rows = Rows {
+        short,
+        long,
+        relative: None,
+        index: false,
+        accesses: true,
+    };
+    access_then(alloc, out, &rows, state, mem, a)
 }
