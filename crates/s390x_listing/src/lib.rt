@@ -3,5 +3,7 @@
 
 pub mod head;
 pub mod operands;
+pub mod texts;
 
 pub use operands::listed_operands;
+pub use texts::listed_texts;

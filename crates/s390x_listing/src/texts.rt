@@ -1,0 +1,86 @@
+//! The texts of a function's instructions.
+ghost use Rattle.std.specs.Prelude.{◌≡◌, ◌++◌, ◌∷◌, [], None, IfOk, MatchResult, string_bytes};
+ghost use Rattle.s390x_text.specs.Texts.{RefusedBy, Prints};
+ghost use Rattle.s390x_text.specs.Instructions.{after};
+ghost use Rattle.s390x_listing.specs.Texts.{block_texts, blocks_texts, inst_texts, text_line, texts_listing};
+
+use crate::head::put_head;
+use s390x_inst::{Block, EmitState, Inst};
+use s390x_text::{TextError, pretty_print_inst};
+use s390x_words::number::put;
+use std::alloc::Global;
+
+/// For each block the line `block K`, and a line for each of its instructions: its text, in the state of emission behind
+/// those before it in the block, the first one in the given state.
+///
+/// An error comes exactly where an instruction has no text, by the first cause in their order, or for want of memory.
+pub fn listed_texts(alloc: Global, state: EmitState, blocks: &[Block]) -> Result<String, TextError>
+    ensures { MatchResult result (λ text. ((texts_listing state blocks.now).cause ≡ None) × (string_bytes text ≡ (texts_listing state blocks.now).bytes)) (λ e. RefusedBy (texts_listing state blocks.now).cause e) }
+{
+    let mut out = String::new(alloc);
+    put_blocks(alloc, &mut out, state, blocks)?;
+    Ok(out)
+}
+
+// The blocks.
+fn put_blocks(
+    alloc: Global,
+    out: &mut String,
+    state: EmitState,
+    blocks: &[Block],
+) -> Result<(), TextError>
+    ensures { Prints result (string_bytes out.old) (string_bytes out.new) (blocks_texts state 0 blocks.now) }
+{
+    for (number, block) in blocks.iter().enumerate() {
+        put_block(alloc, out, state, number, block)?;
+    }
+    Ok(())
+}
+
+// The line of a block, and those of its instructions.
+fn put_block(
+    alloc: Global,
+    out: &mut String,
+    state: EmitState,
+    number: usize,
+    block: &Block,
+) -> Result<(), TextError>
+    ensures { Prints result (string_bytes out.old) (string_bytes out.new) (block_texts state number block.now) }
+{
+    match put_head(out, number) {
+        Ok(()) => put_insts(alloc, out, state, &block.insts),
+        Err(_) => Err(TextError::NoMemory),
+    }
+}
+
+// A line for each instruction.
+fn put_insts(
+    alloc: Global,
+    out: &mut String,
+    start: EmitState,
+    insts: &[Inst],
+) -> Result<(), TextError>
+    ensures { Prints result (string_bytes out.old) (string_bytes out.new) (inst_texts start insts.now) }
+{
+    let mut state = start;
+    for inst in insts {
+        put_inst(alloc, out, &mut state, inst)?;
+    }
+    Ok(())
+}
+
+// The line of an instruction, and the state behind it.
+fn put_inst(
+    alloc: Global,
+    out: &mut String,
+    state: &mut EmitState,
+    inst: &Inst,
+) -> Result<(), TextError>
+    ensures answer { Prints result (string_bytes out.old) (string_bytes out.new) (text_line state.old inst.now) }
+    ensures after { IfOk result (λ _. state.new ≡ after state.old inst.now) }
+{
+    let text = pretty_print_inst(alloc, inst, state)?;
+    put(out, text.as_str())?;
+    put(out, "\n")?;
+    Ok(())
+}
