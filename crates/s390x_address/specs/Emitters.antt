@@ -1,5 +1,5 @@
 -- The emitters of operands: what they read besides the operand, and why they refuse.
-use Rattle.std.specs.Prelude.{ℕ, ℤ, Bool, true, false, cond, not, ◌&&◌, ◌||◌, nat_eq, nat_le, Option, Some, None}
+use Rattle.std.specs.Prelude.{ℕ, ℤ, Bool, true, false, cond, not, ◌&&◌, ◌||◌, nat_eq, nat_le, nat_lt, Option, Some, None}
 use Rattle.s390x_base.specs.Regs.{number_of}
 use Rattle.s390x_base.specs.declared.regs.Reg.{Reg}
 use Rattle.s390x_base.specs.declared.error.EmitError.{EmitError}
@@ -7,9 +7,10 @@ use Rattle.s390x_buffer.specs.State.{BufferState, mark_cause, put_cause}
 use Rattle.s390x_inst.specs.declared.args.MemArg.{MemArg}
 use Rattle.s390x_typed_steps.specs.Causes.{first_emit_cause, declared_in, memory_cause}
 use Rattle.s390x_typed_steps.specs.General.{is_general, low_halfword}
-use Rattle.s390x_typed_steps.specs.Memory.{MemoryInstruction, RxForm, RsForm, SiForm, SilForm, holds_scratch}
+use Rattle.s390x_typed_steps.specs.Memory.{MemoryInstruction, RxForm, RsForm, SiForm, SilForm, VrxForm, FloatForm, holds_scratch}
 use Rattle.s390x_typed_steps.specs.Operands.{is_numbered}
 use Rattle.s390x_typed_steps.specs.Parts.{memory_parts, parts_size}
+use Rattle.s390x_typed_steps.specs.VectorInstruction.{is_vector}
 
 -- the buffer's mark, then the causes of the instruction by the buffer's blocks and constants, then its length
 abbrev pub access_cause : BufferState → MemoryInstruction → Option EmitError
@@ -64,3 +65,13 @@ two_registers rd rn rs_opcode rsy_opcode accesses mem =
 abbrev pub halfword_immediate : (imm : ℤ) → (sil_opcode : ℕ) → (accesses : Bool) → MemArg → MemoryInstruction
 halfword_immediate imm sil_opcode accesses mem =
     record { form = SilForm (low_halfword imm) sil_opcode; operand = mem; accesses = accesses; operands_valid = true; reads_scratch = false }
+
+-- a vector register, an operand and a mask
+abbrev pub vector_register : Reg → (vrx_opcode mask : ℕ) → (accesses : Bool) → MemArg → MemoryInstruction
+vector_register rd vrx_opcode mask accesses mem =
+    record { form = VrxForm (number_of rd) vrx_opcode mask; operand = mem; accesses = accesses; operands_valid = is_vector rd; reads_scratch = false }
+
+-- a float register, which is the left half of a vector register below 16, and an operand
+abbrev pub float_register : Reg → (rx_opcode rxy_opcode : ℕ) → (accesses : Bool) → MemArg → MemoryInstruction
+float_register rd rx_opcode rxy_opcode accesses mem =
+    record { form = FloatForm (number_of rd) rx_opcode rxy_opcode; operand = mem; accesses = accesses; operands_valid = is_vector rd && nat_lt (number_of rd) 16; reads_scratch = false }

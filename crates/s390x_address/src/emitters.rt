@@ -1,7 +1,9 @@
 //! The emitters of operands, by the formats of the rows.
 #![tactic(auto, using(s390x_buffer::proofs::Extending::extends_on, s390x_buffer::proofs::Extending::extends_same))]
 
-ghost use Rattle.std.specs.Prelude.{◌≡◌, ◌<◌, ◌⊎◌, ◌&&◌, true, None, Some, MatchResult, IfSome, IfErr, IsTrue};
+ghost use Rattle.std.specs.Prelude.{◌≡◌, ◌<◌, ◌⊎◌, ◌&&◌, true, None, Some, MatchResult, IfSome, IfErr, IsTrue, nat_lt};
+ghost use Rattle.s390x_enc.specs.Operands.{is_first_float};
+ghost use Rattle.s390x_typed_steps.specs.VectorInstruction.{is_vector};
 ghost use Rattle.s390x_base.specs.declared.error.EmitError.TheVariants.{NoMemory};
 ghost use Rattle.s390x_buffer.specs.Extends.{Extends};
 ghost use Rattle.s390x_typed_steps.specs.Operands.{is_numbered};
@@ -9,11 +11,11 @@ ghost use Rattle.s390x_base.specs.Regs.{number_of};
 ghost use Rattle.s390x_typed_steps.specs.Memory.{holds_scratch};
 ghost use Rattle.s390x_typed_steps.specs.Parts.{memory_parts};
 ghost use Rattle.s390x_address.specs.Appended.{appended};
-ghost use Rattle.s390x_address.specs.Emitters.{access_cause, loads_register, reads_register, reads_registers, is_multiple, pair_valid, one_register, two_registers, byte_immediate, halfword_immediate};
+ghost use Rattle.s390x_address.specs.Emitters.{access_cause, loads_register, reads_register, reads_registers, is_multiple, pair_valid, one_register, two_registers, byte_immediate, halfword_immediate, vector_register, float_register};
 ghost use Rattle.s390x_address.specs.Rows.{memory_instruction_of, in_state, may_encode, rows_take_general, has_12_bits};
 
 use crate::forms::is_numbered;
-use crate::memory::{MemoryInst, general};
+use crate::memory::{MemoryInst, general, vector};
 use crate::rows::StorageRows;
 use s390x_base::{EmitError, Reg};
 use s390x_buffer::MachBuffer;
@@ -310,6 +312,82 @@ pub fn mem_imm16_emit(
         operand: *mem,
         accesses: add_trap,
         operands_valid: true,
+        reads_scratch: false,
+    };
+    emit_marking(&found, sink, state)
+}
+
+/// Emits a row of format VRX with a vector register, an operand and a mask, as `mem_emit` does; there are 12 bits of displacement alone, with an
+/// index, and no relative form.
+#[tactic(auto, using(crate::proofs::Encoding::vector_encodes))]
+pub fn mem_vrx_emit(
+    _alloc: Global,
+    rd: Reg,
+    mem: &MemArg,
+    opcode: u16,
+    m3: u8,
+    add_trap: bool,
+    sink: &mut MachBuffer,
+    _emit_info: &EmitInfo,
+    state: &mut EmitState,
+) -> Result<(), EmitError>
+    requires { m3 < 16 }
+    ensures answer { let access = in_state state.old (vector_register rd opcode m3 add_trap mem.now) in
+        MatchResult result (λ _. (access_cause sink.old access ≡ None) × (sink.new ≡ appended sink.old (memory_parts access))) (λ e. (e ≡ NoMemory) ⊎ (access_cause sink.old access ≡ Some e)) }
+    ensures poisoned { IfErr result (λ _. IsTrue sink.new.failed) }
+    ensures kept { Extends sink.old sink.new }
+    ensures state { state.new ≡ state.old }
+{
+    let found = MemoryInst {
+        rows: StorageRows::Vector {
+            register: rd,
+            vrx: opcode,
+            mask: m3,
+        },
+        operand: *mem,
+        accesses: add_trap,
+        operands_valid: vector(&rd),
+        reads_scratch: false,
+    };
+    emit_marking(&found, sink, state)
+}
+
+// Whether the register is a real float one.
+fn float(r: &Reg) -> bool
+    ensures { result ≡ is_vector r.now && nat_lt (number_of r.now) 16 }
+{
+    vector(r) && number(r) < 16
+}
+
+/// Emits a row of format RX or RXY with a float register and an operand, as `mem_emit` does; there is no relative form.
+#[tactic(auto, using(crate::proofs::Encoding::float_register_encodes))]
+pub fn mem_float_emit(
+    _alloc: Global,
+    rd: Reg,
+    mem: &MemArg,
+    opcode_rx: u8,
+    opcode_rxy: u16,
+    add_trap: bool,
+    sink: &mut MachBuffer,
+    _emit_info: &EmitInfo,
+    state: &mut EmitState,
+) -> Result<(), EmitError>
+    requires { (is_first_float opcode_rx && is_first_float opcode_rxy) ≡ true }
+    ensures answer { let access = in_state state.old (float_register rd opcode_rx opcode_rxy add_trap mem.now) in
+        MatchResult result (λ _. (access_cause sink.old access ≡ None) × (sink.new ≡ appended sink.old (memory_parts access))) (λ e. (e ≡ NoMemory) ⊎ (access_cause sink.old access ≡ Some e)) }
+    ensures poisoned { IfErr result (λ _. IsTrue sink.new.failed) }
+    ensures kept { Extends sink.old sink.new }
+    ensures state { state.new ≡ state.old }
+{
+    let found = MemoryInst {
+        rows: StorageRows::Float {
+            register: rd,
+            rx: opcode_rx,
+            rxy: opcode_rxy,
+        },
+        operand: *mem,
+        accesses: add_trap,
+        operands_valid: float(&rd),
         reads_scratch: false,
     };
     emit_marking(&found, sink, state)

@@ -12,6 +12,7 @@ ghost use Rattle.s390x_typed_steps.specs.General.{is_general};
 ghost use Rattle.s390x_typed_steps.specs.MachineInstruction.{size_of};
 ghost use Rattle.s390x_typed_steps.specs.Memory.{type_of, storage_row, fault_code, address_form};
 ghost use Rattle.s390x_typed_steps.specs.Operands.{has_form, operand_general, scratch};
+ghost use Rattle.s390x_typed_steps.specs.VectorInstruction.{is_vector};
 ghost use Rattle.s390x_typed_steps.specs.Parts.{access_parts, operand_parts, helpers_parts, finalized_parts, memory_parts, parts_size};
 ghost use Rattle.s390x_address.specs.Appended.{appended};
 ghost use Rattle.s390x_address.specs.Plans.{far_helper, address_helper, finalized_of, may_stand, address_stands, plan_stands, planned_cause};
@@ -47,6 +48,16 @@ pub fn general(r: &Reg) -> bool
 {
     match r {
         Reg::Real(preg) => preg.class() == RegClass::Int && preg.hw_enc() < 16,
+        Reg::Virtual { .. } => false,
+    }
+}
+
+/// Whether the register is a real vector one.
+pub fn vector(r: &Reg) -> bool
+    ensures { result ≡ is_vector r.now }
+{
+    match r {
+        Reg::Real(preg) => preg.class() == RegClass::Float && preg.hw_enc() < 32,
         Reg::Virtual { .. } => false,
     }
 }

@@ -1,18 +1,18 @@
 //! Machine rows with an operand in memory.
-ghost use Rattle.std.specs.Prelude.{◌≡◌, ◌≤◌, ◌<◌, ◌&&◌, true, false, None, Some, MatchResult, IfSome, is_some};
+ghost use Rattle.std.specs.Prelude.{◌≡◌, ◌≤◌, ◌<◌, ◌&&◌, true, false, None, Some, MatchResult, IfSome, is_some, nat_lt};
 ghost use Rattle.std.specs.Option.{option_map};
 ghost use Rattle.s390x_base.specs.Regs.{number_of};
 ghost use Rattle.s390x_base.specs.declared.ir.MachMemFlags.{MachMemFlags};
-ghost use Rattle.s390x_enc.specs.Operands.{is_general_class};
+ghost use Rattle.s390x_enc.specs.Operands.{is_general_class, is_vector, may_stand_first};
 ghost use Rattle.s390x_inst.specs.declared.args.MemArg.TheVariants.{BXD12, BXD20};
 ghost use Rattle.s390x_typed_steps.specs.General.{low_displacement, low_12};
-ghost use Rattle.s390x_typed_steps.specs.MachineInstruction.{bytes_of, size_of, rx, rxy, rs, rsy};
+ghost use Rattle.s390x_typed_steps.specs.MachineInstruction.{bytes_of, size_of, rx, rxy, rs, rsy, vrx};
 ghost use Rattle.s390x_typed_steps.specs.Memory.{type_of, of_opcode, storage_row};
 ghost use Rattle.s390x_typed_steps.specs.Operands.{operand_general};
 ghost use Rattle.s390x_address.specs.Rows.{row_of, row_encodes, rows_encode, storage_form_of, rows_take_general};
 
 use s390x_base::{Code, EmitError, Reg, SImm20, UImm12};
-use s390x_enc::{enc_rs, enc_rsy, enc_rx, enc_rxy, enc_si, enc_sil, enc_siy};
+use s390x_enc::{enc_rs, enc_rsy, enc_rx, enc_rxy, enc_si, enc_sil, enc_siy, enc_vrx};
 use s390x_inst::MemArg;
 use s390x_typed_steps::MemInstType;
 use s390x_typed_steps::immediates::{low_12, low_displacement};
@@ -66,6 +66,14 @@ pub enum StorageRow {
         disp: UImm12,
         imm: i16,
     },
+    Vrx {
+        opcode: u16,
+        v1: Reg,
+        b2: Reg,
+        x2: Reg,
+        disp: UImm12,
+        mask: u8,
+    },
 }
 
 /// The machine rows that an instruction has for its operand, by format, and what else stands in them.
@@ -96,10 +104,40 @@ pub enum StorageRows {
         imm: i16,
         sil: u16,
     },
+    /// VRX, with a vector register and a mask.
+    Vector {
+        register: Reg,
+        vrx: u16,
+        mask: u8,
+    },
+    /// RX and RXY, with a float register.
+    Float {
+        register: Reg,
+        rx: u8,
+        rxy: u16,
+    },
+}
+
+// The code of a row with a mask. No row has one of more than four bits.
+fn masked_code(
+    opcode: u16,
+    v1: Reg,
+    b2: Reg,
+    x2: Reg,
+    disp: UImm12,
+    mask: u8,
+) -> Result<Code, EmitError>
+    ensures { MatchResult result (λ code. code ≡ bytes_of (vrx opcode (number_of v1) (number_of b2) (number_of x2) mask (low_12 disp))) (λ _. (nat_lt mask 16 && is_vector v1 && is_general_class b2 && is_general_class x2) ≡ false) }
+{
+    if mask < 16 {
+        enc_vrx(opcode, v1, b2, x2, low_12(disp), mask)
+    } else {
+        Err(EmitError::BadOperator)
+    }
 }
 
 impl StorageRow {
-    /// Its bytes. `BadRegister` where a register can't be encoded, and no other refusal.
+    /// Its bytes. It is refused where a register or the mask can't be encoded.
     pub fn code(&self) -> Result<Code, EmitError>
         ensures { MatchResult result (λ code. code ≡ bytes_of (row_of self.now)) (λ _. row_encodes self.now ≡ false) }
     {
@@ -150,6 +188,14 @@ impl StorageRow {
                 disp,
                 imm,
             } => enc_sil(*opcode, *b1, low_12(*disp), *imm),
+            StorageRow::Vrx {
+                opcode,
+                v1,
+                b2,
+                x2,
+                disp,
+                mask,
+            } => masked_code(*opcode, *v1, *b2, *x2, *disp, *mask),
         }
     }
 
@@ -164,7 +210,8 @@ impl StorageRow {
             StorageRow::Rxy { .. }
             | StorageRow::Rsy { .. }
             | StorageRow::Siy { .. }
-            | StorageRow::Sil { .. } => 6,
+            | StorageRow::Sil { .. }
+            | StorageRow::Vrx { .. } => 6,
         }
     }
 }
@@ -237,6 +284,49 @@ fn rsy_row(opcode: Option<u16>, r1: Reg, r3: Reg, b2: Reg, disp: SImm20) -> Opti
     }
 }
 
+#[tactic(auto, using(crate::proofs::Encoding::masked_encodes))]
+fn vrx_row(opcode: u16, v1: Reg, b2: Reg, x2: Reg, disp: UImm12, mask: u8) -> StorageRow
+    ensures row { row_of result ≡ vrx opcode (number_of v1) (number_of b2) (number_of x2) mask (low_12 disp) }
+    ensures encodes { (nat_lt mask 16 && is_vector v1) ≡ true → (is_general_class b2 && is_general_class x2) ≡ true → row_encodes result ≡ true }
+{
+    StorageRow::Vrx {
+        opcode,
+        v1,
+        b2,
+        x2,
+        disp,
+        mask,
+    }
+}
+
+#[tactic(auto, using(crate::proofs::Encoding::float_encodes))]
+fn float_rx_row(opcode: u8, r1: Reg, b2: Reg, x2: Reg, disp: UImm12) -> StorageRow
+    ensures row { row_of result ≡ rx opcode (number_of r1) (number_of b2) (number_of x2) (low_12 disp) }
+    ensures encodes { may_stand_first opcode r1 ≡ true → (is_general_class b2 && is_general_class x2) ≡ true → row_encodes result ≡ true }
+{
+    StorageRow::Rx {
+        opcode,
+        r1,
+        b2,
+        x2,
+        disp,
+    }
+}
+
+#[tactic(auto, using(crate::proofs::Encoding::float_encodes))]
+fn float_rxy_row(opcode: u16, r1: Reg, b2: Reg, x2: Reg, disp: SImm20) -> StorageRow
+    ensures row { row_of result ≡ rxy opcode (number_of r1) (number_of b2) (number_of x2) (low_displacement disp) }
+    ensures encodes { may_stand_first opcode r1 ≡ true → (is_general_class b2 && is_general_class x2) ≡ true → row_encodes result ≡ true }
+{
+    StorageRow::Rxy {
+        opcode,
+        r1,
+        b2,
+        x2,
+        disp,
+    }
+}
+
 impl StorageRows {
     /// Which forms of an operand the rows take, in an instruction that accesses memory or loads an address.
     pub fn forms(&self, accesses: bool) -> MemInstType
@@ -271,6 +361,20 @@ impl StorageRows {
                 have_unaligned_pcrel: false,
                 have_index: false,
             },
+            StorageRows::Vector { .. } => MemInstType {
+                have_d12: true,
+                have_d20: false,
+                have_pcrel: false,
+                have_unaligned_pcrel: false,
+                have_index: true,
+            },
+            StorageRows::Float { .. } => MemInstType {
+                have_d12: true,
+                have_d20: true,
+                have_pcrel: false,
+                have_unaligned_pcrel: false,
+                have_index: true,
+            },
         }
     }
 
@@ -301,6 +405,14 @@ impl StorageRows {
                 disp,
                 imm: *imm,
             }),
+            StorageRows::Vector {
+                register,
+                vrx,
+                mask,
+            } => Some(vrx_row(*vrx, *register, base, index, disp, *mask)),
+            StorageRows::Float { register, rx, .. } => {
+                Some(float_rx_row(*rx, *register, base, index, disp))
+            }
         }
     }
 
@@ -325,7 +437,10 @@ impl StorageRows {
                 disp,
                 imm: *imm,
             }),
-            StorageRows::Halfword { .. } => None,
+            StorageRows::Halfword { .. } | StorageRows::Vector { .. } => None,
+            StorageRows::Float { register, rxy, .. } => {
+                Some(float_rxy_row(*rxy, *register, base, index, disp))
+            }
         }
     }
 

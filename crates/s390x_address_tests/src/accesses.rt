@@ -2,7 +2,9 @@
 ghost use Rattle.std.specs.Prelude.{◌≡◌, ◌<◌, ◌&&◌, true, IfSome};
 ghost use Rattle.s390x_address.specs.Rows.{rows_take_general, has_12_bits};
 
-use s390x_address::{mem_emit, mem_imm8_emit, mem_imm16_emit, mem_rs_emit};
+use s390x_address::{
+    mem_emit, mem_float_emit, mem_imm8_emit, mem_imm16_emit, mem_rs_emit, mem_vrx_emit,
+};
 use s390x_base::{
     ConstantData, EmitError, ExternalName, MachLabel, MachMemFlags, Reg, SImm20, TrapCode, UImm12,
     VCodeConstant,
@@ -114,6 +116,11 @@ pub enum Access {
     StoreImm8(u8),
     StoreImm16(i16),
     StoreImm64SExt16(i16),
+    VecLoad(Reg),
+    /// One of the four words of a vector register.
+    VecLoadLane32(Reg, u8),
+    /// The left half of a vector register below 16.
+    LoadFloat64(Reg),
 }
 
 fn one(
@@ -202,6 +209,40 @@ fn halfword(to: &mut Target, imm: i16, mem: &MemArg, opcode_sil: u16) -> Result<
     )
 }
 
+fn vector(to: &mut Target, rd: Reg, mem: &MemArg, opcode: u16, m3: u8) -> Result<(), EmitError>
+    requires { m3 < 16 }
+{
+    let info = EmitInfo::new(IsaFlags::default());
+    let mut state = EmitState::default();
+    mem_vrx_emit(
+        to.alloc,
+        rd,
+        mem,
+        opcode,
+        m3,
+        true,
+        &mut to.sink,
+        &info,
+        &mut state,
+    )
+}
+
+fn float(to: &mut Target, rd: Reg, mem: &MemArg) -> Result<(), EmitError> {
+    let info = EmitInfo::new(IsaFlags::default());
+    let mut state = EmitState::default();
+    mem_float_emit(
+        to.alloc,
+        rd,
+        mem,
+        0x68,
+        0xed65,
+        true,
+        &mut to.sink,
+        &info,
+        &mut state,
+    )
+}
+
 /// Emits an instruction at an operand.
 pub fn put(to: &mut Target, access: Access, mem: &MemArg) -> Result<(), EmitError> {
     match access {
@@ -220,5 +261,8 @@ pub fn put(to: &mut Target, access: Access, mem: &MemArg) -> Result<(), EmitErro
         Access::StoreImm8(imm) => byte(to, imm, mem),
         Access::StoreImm16(imm) => halfword(to, imm, mem, 0xe544),
         Access::StoreImm64SExt16(imm) => halfword(to, imm, mem, 0xe548),
+        Access::VecLoad(r) => vector(to, r, mem, 0xe706, 0),
+        Access::VecLoadLane32(r, lane) => vector(to, r, mem, 0xe703, lane % 4),
+        Access::LoadFloat64(r) => float(to, r, mem),
     }
 }

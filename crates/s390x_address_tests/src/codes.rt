@@ -3,7 +3,7 @@ use crate::accesses::{
     ALIGNED, Access, TRAPPING, Target, UNALIGNED, UNALIGNED_TRAPPING, constant, eight_bytes, label,
     long, offset, put, short, symbol,
 };
-use s390x_base::{ConstantData, ExternalName, MachLabel, Reloc, TrapCode, gpr, zero_reg};
+use s390x_base::{ConstantData, ExternalName, MachLabel, Reloc, TrapCode, gpr, vr, zero_reg};
 use s390x_buffer::{MachBuffer, MachBufferFinalized, RelocEntry, TrapEntry};
 use s390x_inst::MemArg;
 use std::alloc::Global;
@@ -206,5 +206,34 @@ fn halfwords_have_their_code(rt: HostRuntime) -> Result<(), Fail> {
     );
     assert_eq!(rt; code.traps.as_slice(), [heap_trap(30)].as_slice());
     assert_eq!(rt; code.relocs.as_slice(), [relocation(38, 2)].as_slice());
+    Ok(())
+}
+
+#[test]
+fn vectors_have_their_code(rt: HostRuntime) -> Result<(), Fail> {
+    let accesses = [
+        (Access::VecLoad(vr(2)), offset(gpr(3), 4096, TRAPPING)),
+        (
+            Access::VecLoadLane32(vr(17), 3),
+            short(gpr(2), gpr(3), 100, ALIGNED)?,
+        ),
+        (Access::VecLoadLane32(vr(17), 0), symbol(2, ALIGNED)),
+        (Access::LoadFloat64(vr(2)), offset(gpr(3), 4096, TRAPPING)),
+    ];
+    let code = code_of(rt.alloc(), &[], &accesses)?;
+    assert_eq!(rt;
+        code.bytes.as_slice(),
+        [
+            0xe3, 0x10, 0x30, 0x00, 0x01, 0x71, 0xe7, 0x20, 0x10, 0x00, 0x00, 0x06, 0xe7, 0x13,
+            0x20, 0x64, 0x38, 0x03, 0xc0, 0x10, 0x00, 0x00, 0x00, 0x00, 0xe7, 0x10, 0x10, 0x00,
+            0x08, 0x03, 0xed, 0x20, 0x30, 0x00, 0x01, 0x65
+        ]
+        .as_slice()
+    );
+    assert_eq!(rt;
+        code.traps.as_slice(),
+        [heap_trap(6), heap_trap(30)].as_slice()
+    );
+    assert_eq!(rt; code.relocs.as_slice(), [relocation(20, 4)].as_slice());
     Ok(())
 }

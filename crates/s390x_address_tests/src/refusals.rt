@@ -164,3 +164,21 @@ fn immediates_are_refused(rt: HostRuntime) -> Result<(), Fail> {
     }
     Ok(())
 }
+
+#[test]
+fn vectors_may_not_stand(rt: HostRuntime) -> Result<(), Fail> {
+    let near = offset(gpr(3), 0, ALIGNED);
+    for (access, mem, cause) in [
+        (Access::VecLoad(gpr(2)), near, EmitError::BadRegister),
+        (Access::LoadFloat64(vr(16)), near, EmitError::BadRegister),
+        (Access::VecLoad(vr(2)), label(7), EmitError::UnboundLabel),
+        (
+            Access::VecLoadLane32(vr(1), 0),
+            offset(gpr(1), 524288, ALIGNED),
+            EmitError::ScratchConflict,
+        ),
+    ] {
+        assert_eq!(rt; causes(rt.alloc(), access, &mem)?, first(cause), "{mem:?}");
+    }
+    Ok(())
+}

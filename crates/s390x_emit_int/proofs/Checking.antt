@@ -39,7 +39,8 @@ goes_on state next flags D depth sum r is k i lt at on none adds =
 
 -- a loop's answer is that of its tree
 pub loop_answer : (flags : IsaFlags) (D : Declared) (nominal depth : ℕ) (t : Totals) (mask : ℕ) (x members : Tree) (result : Result Totals EmitError) → x ≡ loop_node mask members empty →
-    MatchResult result (λ r. (first_emit_cause (first_emit_cause (nesting_cause depth) (numbers_cause t.labels 2)) (tree_cause flags D (t.labels + 2) nominal (depth + 1) members) ≡ None) × Adds t r (2 + fresh_labels members) (tree_size members + 6)) (λ e. first_emit_cause (first_emit_cause (nesting_cause depth) (numbers_cause t.labels 2)) (tree_cause flags D (t.labels + 2) nominal (depth + 1) members) ≡ Some e) →
+    MatchResult result (λ r. (first_emit_cause (first_emit_cause (nesting_cause depth) (numbers_cause t.labels 2)) (tree_cause flags D (t.labels + 2) nominal (depth + 1) members) ≡ None) × Adds t r (2 + fresh_labels members) (tree_size members + 6))
+    (λ e. first_emit_cause (first_emit_cause (nesting_cause depth) (numbers_cause t.labels 2)) (tree_cause flags D (t.labels + 2) nominal (depth + 1) members) ≡ Some e) →
     MatchResult result (λ r. (tree_cause flags D t.labels nominal depth x ≡ None) × Adds t r (fresh_labels x) (tree_size x)) (λ e. tree_cause flags D t.labels nominal depth x ≡ Some e)
 loop_answer flags D nominal depth t mask x members (Ok r) e p =
     let z = ap (tree_cause flags D t.labels nominal depth) e ∙ first_none (first_emit_cause (first_emit_cause (nesting_cause depth) (numbers_cause t.labels 2)) (tree_cause flags D (t.labels + 2) nominal (depth + 1) members)) in (

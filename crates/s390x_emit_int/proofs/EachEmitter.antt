@@ -7,16 +7,20 @@ use Rattle.s390x_base.specs.declared.regs.Reg.TheVariants.{Real, Virtual}
 use Rattle.s390x_inst.specs.declared.args.MemArg.{MemArg}
 use Rattle.s390x_inst.specs.declared.inst.Inst.{Inst}
 use Rattle.s390x_inst.specs.declared.inst.Inst.TheVariants.{AluRX, CmpRX, Load32, Load32ZExt8, Load32SExt8, Load32ZExt16, Load32SExt16, Load64, Load64ZExt8, Load64SExt8, Load64ZExt16, Load64SExt16, Load64ZExt32, Load64SExt32, LoadRev16, LoadRev32, LoadRev64}
-use Rattle.s390x_inst.specs.declared.inst.Inst.TheVariants.{Store8, Store16, Store32, Store64, StoreRev16, StoreRev32, StoreRev64, StoreImm8, StoreImm16, StoreImm32SExt16, StoreImm64SExt16, LoadMultiple64, StoreMultiple64, LoadAddr, AtomicRmw, AtomicCas32, AtomicCas64}
+use Rattle.s390x_inst.specs.declared.inst.Inst.TheVariants.{Store8, Store16, Store32, Store64, StoreRev16, StoreRev32, StoreRev64, StoreImm8, StoreImm16, StoreImm32SExt16, StoreImm64SExt16, LoadMultiple64, StoreMultiple64, LoadAddr, AtomicRmw, AtomicCas32, AtomicCas64, Vector}
+use Rattle.s390x_inst.specs.declared.vec_inst.VecInst.{VecInst}
+use Rattle.s390x_inst.specs.declared.vec_inst.VecInst.TheVariants.{VecLoad, VecLoadRev, VecLoadByte16Rev, VecLoadByte32Rev, VecLoadByte64Rev, VecLoadElt16Rev, VecLoadElt32Rev, VecLoadElt64Rev, VecStore, VecStoreRev, VecStoreByte16Rev, VecStoreByte32Rev, VecStoreByte64Rev, VecStoreElt16Rev, VecStoreElt32Rev, VecStoreElt64Rev}
+use Rattle.s390x_inst.specs.declared.vec_inst.VecInst.TheVariants.{VecLoadReplicate, VecLoadReplicateRev, VecLoadLane, VecLoadLaneRev, VecLoadLaneUndef, VecLoadLaneRevUndef, VecStoreLane, VecStoreLaneRev}
 use Rattle.s390x_inst.specs.declared.ops.ALUOp.{ALUOp}
 use Rattle.s390x_inst.specs.declared.ops.ALUOp.TheVariants.{Add32, Add32Ext16, Add64, Add64Ext16, Add64Ext32, AddLogical32, AddLogical64, AddLogical64Ext32, Sub32, Sub32Ext16, Sub64, Sub64Ext16, Sub64Ext32, SubLogical32, SubLogical64, SubLogical64Ext32, Mul32, Mul32Ext16, Mul64, Mul64Ext16, Mul64Ext32, And32, And64, Orr32, Orr64, Xor32, Xor64}
 use Rattle.s390x_inst.specs.declared.ops.CmpOp.{CmpOp}
 use Rattle.s390x_inst.specs.declared.ops.CmpOp.TheVariants.{CmpS32, CmpS32Ext16, CmpS64, CmpS64Ext16, CmpS64Ext32, CmpL32, CmpL64, CmpL64Ext32}
 use Rattle.s390x_typed_steps.specs.General.{is_general, reuses}
-use Rattle.s390x_typed_steps.specs.Memory.{MemoryInstruction, RxForm, RsForm, memory, operate}
+use Rattle.s390x_typed_steps.specs.Memory.{MemoryInstruction, StorageForm, RxForm, RsForm, VrxForm, FloatForm, memory, operate, access_vector, access_elements, access_lane, reversed_code, is_left_lane, load_left, store_left, load_lane_opcode, store_lane_opcode, load_reversed_opcode, store_reversed_opcode, vector_memory}
+use Rattle.s390x_typed_steps.specs.VectorInstruction.{element_code, is_lane, is_vector, reuses_vector}
 use Rattle.s390x_typed_steps.specs.Operands.{is_numbered}
 use Rattle.s390x_typed_steps.specs.Storage.{alu_rx, alu_rxy, cmp_rx, cmp_rxy, cmp_ril, atomic_rsy}
-use Rattle.s390x_address.specs.Emitters.{reads_register, reads_registers, is_multiple, one_register, two_registers}
+use Rattle.s390x_address.specs.Emitters.{reads_register, reads_registers, is_multiple, one_register, two_registers, vector_register, float_register}
 use Rattle.s390x_emit_int.specs.Emitters.{IsEmitted}
 
 -- what is built is what was found
@@ -133,6 +137,70 @@ swap_as rs opcode rd ri rn mem x other reads e v =
     let same = two_as rd rn rs (Some opcode) true (reuses rd ri && is_general rn) (is_numbered 1 ri || is_numbered 1 rn) mem (valid ∙ sym general ∙ pair_of rd rn _ general more) (ap (λ t. t || is_numbered 1 rn) r.1 ∙ sym reads) in
     as_found _ x (rd, rn, same) e
 
+-- ---- vector registers
+
+elements_as : (opcode : ℕ) (rd : Reg) (code : Option ℕ) (mem : MemArg) (x : MemoryInstruction) → access_elements opcode rd code mem ≡ Some x → IsEmitted x
+elements_as opcode rd None mem x e = absurd (cc)
+elements_as opcode rd (Some code) mem x e = as_found _ x (rd, refl, refl) e
+
+lane_as : (valid : Bool) (opcode : ℕ → ℕ) (rd : Reg) (code : Option ℕ) (size lane : ℕ) (mem : MemArg) (x : MemoryInstruction) → (valid ≡ true → is_vector rd ≡ true) → access_lane valid opcode (number_of rd) code size lane mem ≡ Some x → x.operands_valid ≡ true → IsEmitted x
+lane_as valid opcode rd None size lane mem x h e v = absurd (cc)
+lane_as valid opcode rd (Some code) size lane mem x h e v = go (is_lane size lane) e
+  where
+    go : (t : Bool) → cond t (access_vector valid (VrxForm (number_of rd) (opcode code) lane) mem) None ≡ Some x → IsEmitted x
+    go true e = let is : valid ≡ true = valid_of _ x e v in as_found _ x (rd, refl, ap (λ t. let y : MemoryInstruction = record { form = VrxForm (number_of rd) (opcode code) lane; operand = mem; accesses = true; operands_valid = t; reads_scratch = false } in y) (is ∙ sym (h is))) e
+    go false e = absurd (cc)
+
+float_as : (rd : Reg) (rx rxy : ℕ) (mem : MemArg) (x : MemoryInstruction) → nat_lt (number_of rd) 16 ≡ true → access_vector (is_vector rd) (FloatForm (number_of rd) rx rxy) mem ≡ Some x → IsEmitted x
+float_as rd rx rxy mem x low e = as_found _ x (rd, refl, ap (λ t. let y : MemoryInstruction = record { form = FloatForm (number_of rd) rx rxy; operand = mem; accesses = true; operands_valid = t; reads_scratch = false } in y) (low_float (is_vector rd) (nat_lt (number_of rd) 16) low)) e
+  where
+    low_float : (a b : Bool) → b ≡ true → a ≡ (a && b)
+    low_float true b h = sym h
+    low_float false b h = refl
+
+-- a float register, where the leftmost element is accessed, or a vector register
+left_as : (size lane : ℕ) (rd : Reg) (rows : ℕ → ℕ → StorageForm) (a b c d : ℕ) (opcode : ℕ → ℕ) (mem : MemArg) (x : MemoryInstruction) → ((n r : ℕ) → rows n r ≡ cond (nat_eq n 32) (FloatForm r a b) (FloatForm r c d)) →
+    cond (is_left_lane size lane (number_of rd)) (access_vector (is_vector rd) (rows size (number_of rd)) mem) (access_lane (is_vector rd) opcode (number_of rd) (element_code size) size lane mem) ≡ Some x → x.operands_valid ≡ true → IsEmitted x
+left_as size lane rd rows a b c d opcode mem x is e v = go (is_left_lane size lane (number_of rd)) refl e
+  where
+    chosen : nat_lt (number_of rd) 16 ≡ true → (t : Bool) → access_vector (is_vector rd) (cond t (FloatForm (number_of rd) a b) (FloatForm (number_of rd) c d)) mem ≡ Some x → IsEmitted x
+    chosen low true e = float_as rd a b mem x low e
+    chosen low false e = float_as rd c d mem x low e
+
+    go : (t : Bool) → is_left_lane size lane (number_of rd) ≡ t → cond t (access_vector (is_vector rd) (rows size (number_of rd)) mem) (access_lane (is_vector rd) opcode (number_of rd) (element_code size) size lane mem) ≡ Some x → IsEmitted x
+    go true h e = chosen (and_parts ((nat_eq size 32 || nat_eq size 64) && nat_eq lane 0) (nat_lt (number_of rd) 16) h).1 (nat_eq size 32) (sym (ap (λ f. access_vector (is_vector rd) f mem) (is size (number_of rd))) ∙ e)
+    go false h e = lane_as (is_vector rd) opcode rd (element_code size) size lane mem x (λ k. k) e v
+
+reused_vector : (rd ri : Reg) → reuses_vector rd ri ≡ true → is_vector rd ≡ true
+reused_vector rd ri h = (and_parts (is_vector rd) (is_vector ri) (and_parts (is_vector rd && is_vector ri) (nat_eq (number_of rd) (number_of ri)) h).0).0
+
+vector_emitter : (w : VecInst) (x : MemoryInstruction) → vector_memory w ≡ Some x → x.operands_valid ≡ true → IsEmitted x
+vector_emitter (VecLoad rd mem) x e v = as_found _ x (rd, refl, refl) e
+vector_emitter (VecLoadRev rd mem) x e v = as_found _ x (rd, refl, refl) e
+vector_emitter (VecLoadByte16Rev rd mem) x e v = as_found _ x (rd, refl, refl) e
+vector_emitter (VecLoadByte32Rev rd mem) x e v = as_found _ x (rd, refl, refl) e
+vector_emitter (VecLoadByte64Rev rd mem) x e v = as_found _ x (rd, refl, refl) e
+vector_emitter (VecLoadElt16Rev rd mem) x e v = as_found _ x (rd, refl, refl) e
+vector_emitter (VecLoadElt32Rev rd mem) x e v = as_found _ x (rd, refl, refl) e
+vector_emitter (VecLoadElt64Rev rd mem) x e v = as_found _ x (rd, refl, refl) e
+vector_emitter (VecStore rd mem) x e v = as_found _ x (rd, refl, refl) e
+vector_emitter (VecStoreRev rd mem) x e v = as_found _ x (rd, refl, refl) e
+vector_emitter (VecStoreByte16Rev rd mem) x e v = as_found _ x (rd, refl, refl) e
+vector_emitter (VecStoreByte32Rev rd mem) x e v = as_found _ x (rd, refl, refl) e
+vector_emitter (VecStoreByte64Rev rd mem) x e v = as_found _ x (rd, refl, refl) e
+vector_emitter (VecStoreElt16Rev rd mem) x e v = as_found _ x (rd, refl, refl) e
+vector_emitter (VecStoreElt32Rev rd mem) x e v = as_found _ x (rd, refl, refl) e
+vector_emitter (VecStoreElt64Rev rd mem) x e v = as_found _ x (rd, refl, refl) e
+vector_emitter (VecLoadReplicate size rd mem) x e v = elements_as 0xe705 rd (element_code size) mem x e
+vector_emitter (VecLoadReplicateRev size rd mem) x e v = elements_as 0xe605 rd (reversed_code size) mem x e
+vector_emitter (VecLoadLane size rd ri mem lane) x e v = lane_as (reuses_vector rd ri) load_lane_opcode rd (element_code size) size lane mem x (reused_vector rd ri) e v
+vector_emitter (VecLoadLaneRev size rd ri mem lane) x e v = lane_as (reuses_vector rd ri) load_reversed_opcode rd (reversed_code size) size lane mem x (reused_vector rd ri) e v
+vector_emitter (VecLoadLaneUndef size rd mem lane) x e v = left_as size lane rd load_left 0x78 0xed64 0x68 0xed65 load_lane_opcode mem x (λ n r. refl) e v
+vector_emitter (VecLoadLaneRevUndef size rd mem lane) x e v = lane_as (is_vector rd) load_reversed_opcode rd (reversed_code size) size lane mem x (λ k. k) e v
+vector_emitter (VecStoreLane size rd mem lane) x e v = left_as size lane rd store_left 0x70 0xed66 0x60 0xed67 store_lane_opcode mem x (λ n r. refl) e v
+vector_emitter (VecStoreLaneRev size rd mem lane) x e v = lane_as (is_vector rd) store_reversed_opcode rd (reversed_code size) size lane mem x (λ k. k) e v
+vector_emitter w x e v = absurd (cc)
+
 pub each_emitter : (i : Inst) (x : MemoryInstruction) → memory i ≡ Some x → x.operands_valid ≡ true → IsEmitted x
 each_emitter (AluRX op rd ri mem) x e v = operator_as (is_some (alu_rx op) || is_some (alu_rxy op)) (alu_rx op) (alu_rxy op) rd ri mem x (alu_reads op) e v
 each_emitter (CmpRX op rn mem) x e v = as_found _ x (rn, refl, one_as rn (cmp_rx op) (cmp_rxy op) (Some (cmp_ril op)) true (is_general rn) (is_numbered 1 rn) mem refl (ap (λ t. t && is_numbered 1 rn) (sym (cmp_reads op)))) e
@@ -178,4 +246,5 @@ each_emitter (AtomicRmw Xor64 rd rn mem) x e v = atomic_as 0xebe7 rd rn mem x re
 each_emitter (AtomicRmw op rd rn mem) x e v = absurd (cc)
 each_emitter (AtomicCas32 rd ri rn mem) x e v = swap_as (Some 0xba) 0xeb14 rd ri rn mem x refl refl e v
 each_emitter (AtomicCas64 rd ri rn mem) x e v = swap_as None 0xeb30 rd ri rn mem x refl refl e v
+each_emitter (Vector w) x e v = vector_emitter w x e v
 each_emitter i x e v = absurd (cc)

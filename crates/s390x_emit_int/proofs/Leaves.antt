@@ -3,19 +3,21 @@ use Rattle.std.proofs.Common.{◌≡◌, ℕ, ◌+◌, ◌-◌, ◌<◌, ◌&&�
 use Rattle.s390x_inst.specs.Emission.{Emission}
 use Rattle.s390x_inst.specs.declared.state.IsaFlags.{IsaFlags}
 use Rattle.s390x_typed_steps.specs.Memory.{MemoryInstruction, memory}
-use Rattle.s390x_typed_steps.specs.Parts.{memory_parts, parts_size}
+use Rattle.s390x_typed_steps.specs.Parts.{memory_parts, parts_size, row_parts}
 use Rattle.s390x_typed_steps.specs.Resolved.{resolved_instruction}
 use Rattle.s390x_base.specs.declared.error.EmitError.TheVariants.{BadRegister, UnboundLabel}
 use Rattle.s390x_base.specs.declared.ir.MachLabel.{MachLabel}
 use Rattle.s390x_base.specs.declared.regs.Reg.{Reg}
 use Rattle.s390x_base.specs.declared.trap.TrapKind.{TrapKind}
 use Rattle.s390x_buffer.specs.State.{BufferState, put_cause}
-use Rattle.s390x_format.specs.declared.kind.FormatKind.TheVariants.{E, RiB, Rr, RilB, RilC}
+use Rattle.s390x_format.specs.declared.kind.FormatKind.TheVariants.{E, RiB, RiC, Rr, RilB, RilC}
 use Rattle.s390x_format.specs.Formats.{length_of}
 use Rattle.s390x_format.specs.Reading.{encode}
 use Rattle.s390x_format.proofs.Encoding.{encode-length}
 use Rattle.s390x_inst.specs.declared.inst.Inst.{Inst}
-use Rattle.s390x_inst.specs.declared.inst.Inst.TheVariants.{IndirectBr, Ret, LabelAddress, Trap, TrapIf, Debugtrap}
+use Rattle.s390x_inst.specs.declared.vec_inst.VecInst.{VecInst}
+use Rattle.s390x_typed_steps.specs.VectorComposite.{composite_cause, composite_rows}
+use Rattle.s390x_inst.specs.declared.inst.Inst.TheVariants.{IndirectBr, Ret, LabelAddress, Trap, TrapIf, Debugtrap, Vector}
 use Rattle.s390x_typed_steps.specs.SingleInstruction.{SingleInstruction, single_instruction}
 use Rattle.s390x_typed_steps.specs.General.{is_general, is_nonzero}
 use Rattle.s390x_typed_steps.specs.MachineInstruction.{format_e, rr, size_of}
@@ -55,6 +57,10 @@ length-rr bs slots e = ap length e ∙ encode-length Rr slots
 pub length-ri_b : (bs slots : List ℕ) → bs ≡ encode RiB slots → length bs ≡ 4
 unfolding length_of
 length-ri_b bs slots e = ap length e ∙ encode-length RiB slots
+
+pub length-ri_c : (bs slots : List ℕ) → bs ≡ encode RiC slots → length bs ≡ 4
+unfolding length_of
+length-ri_c bs slots e = ap length e ∙ encode-length RiC slots
 
 pub length-ril_b : (bs slots : List ℕ) → bs ≡ encode RilB slots → length bs ≡ 6
 unfolding length_of
@@ -110,6 +116,12 @@ trap_passed s after depth i code e p = let size : branch_size i ≡ 2 = ap branc
 pub trap_if_passed : (s : BufferState) (after depth : ℕ) (i : Inst) (mask : ℕ) (code : TrapKind) → i ≡ TrapIf mask code → MembersPassed s after depth (branch_size i) (branch_cause s.block_count depth i) → put_cause s 6 ≡ None
 unfolding length_of
 trap_if_passed s after depth i mask code e p = let size : branch_size i ≡ 6 = ap branch_size e in put_none s 6 p.unpoisoned (omega (arith, p.short, size))
+
+-- a vector instruction of several machine instructions
+pub composite_passed : (s : BufferState) (after depth : ℕ) (i : Inst) (v : VecInst) → i ≡ Vector v → MembersPassed s after depth (branch_size i) (branch_cause s.block_count depth i) → (put_cause s (parts_size (row_parts (composite_rows v))) ≡ None) × (composite_cause v ≡ None)
+composite_passed s after depth i v e p =
+    let size : branch_size i ≡ parts_size (row_parts (composite_rows v)) = ap branch_size e in
+    (put_none s (parts_size (row_parts (composite_rows v))) p.unpoisoned (omega (arith, p.short, size)), sym (ap (branch_cause s.block_count depth) e) ∙ p.passed)
 
 pub debug_passed : (s : BufferState) (after depth : ℕ) (i : Inst) → i ≡ Debugtrap → MembersPassed s after depth (branch_size i) (branch_cause s.block_count depth i) → put_cause s 2 ≡ None
 unfolding length_of

@@ -32,8 +32,10 @@ pub mod Short
 pub mod Single
 pub mod Accessing
 pub mod Storing
+pub mod VectorResolving
 pub mod Resolving
 pub mod Linked
 pub mod Linking
 pub mod Example
 pub mod FunctionImage
+pub mod Skipping

@@ -11,12 +11,13 @@ use Rattle.s390x_inst.specs.declared.inst.Inst.{Inst}
 use Rattle.s390x_inst.specs.Memory.{flags_of}
 use Rattle.s390x_inst.specs.declared.args.MemArg.{MemArg}
 use Rattle.s390x_inst.specs.declared.args.MemArg.TheVariants.{BXD12, BXD20, RegOffset, Label, Constant, Symbol}
-use Rattle.s390x_inst.specs.declared.inst.Inst.TheVariants.{Mov64SImm32, LoadAddr, Jump, CondBr, IndirectBr, Ret, JTSequence, LabelAddress, LoadSymbolReloc, Trap, TrapIf, Debugtrap}
+use Rattle.s390x_inst.specs.declared.inst.Inst.TheVariants.{Mov64SImm32, LoadAddr, Jump, CondBr, IndirectBr, Ret, JTSequence, LabelAddress, LoadSymbolReloc, Trap, TrapIf, Debugtrap, Vector}
 use Rattle.s390x_typed_steps.specs.Tree.{Tree, empty, leaf, loop_node}
 use Rattle.s390x_typed_steps.specs.MachineInstruction.{MachineInstruction}
 use Rattle.s390x_typed_steps.specs.Operands.{Finalized, finalized, displaced, addressed, widened, needs_address, scratch, no_register, is_relative, has_form, operand_general, fits_12, fits_20, fits_32}
 use Rattle.s390x_typed_steps.specs.declared.mem_inst_type.MemInstType.{MemInstType}
-use Rattle.s390x_typed_steps.specs.Parts.{CodePart, parts_or, memory_or, memory_parts, trap_here, relative_part, relative_parts, access_parts, operand_parts, helper_parts, helpers_parts, instruction_parts, table_words}
+use Rattle.s390x_typed_steps.specs.VectorComposite.{composite_rows}
+use Rattle.s390x_typed_steps.specs.Parts.{CodePart, parts_or, memory_or, memory_parts, trap_here, relative_part, relative_parts, access_parts, operand_parts, helper_parts, helpers_parts, instruction_parts, table_words, row_parts}
 use Rattle.s390x_typed_steps.specs.Memory.{StorageForm, RxForm, MemoryInstruction, memory, type_of, storage_row, address_form, fault_code}
 use Rattle.s390x_typed_steps.specs.SingleInstruction.{SingleInstruction, single_instruction, stop_code}
 use Rattle.s390x_typed_steps.specs.General.{is_general, is_nonzero, is_scratch}
@@ -140,6 +141,17 @@ words_name : (blocks constants before : ℕ) (ls : List MachLabel) → labels_ca
 words_name blocks constants before [] h = tt
 words_name blocks constants before (l ∷ ls) h = (label_below blocks l (first_left _ _ h), words_name blocks constants (before + 4) ls (first_right (target_label_cause blocks l) _ h))
 
+rows_name : (blocks constants : ℕ) (ms : List MachineInstruction) → PartsName blocks constants (row_parts ms)
+rows_name blocks constants [] = tt
+rows_name blocks constants (m ∷ ms) = (tt, rows_name blocks constants ms)
+
+-- one machine instruction, an access, or several machine instructions
+vector_names : (D : Declared) (o : Option SingleInstruction) (code : Option TrapKind) (m : Option MemoryInstruction) (ms : List MachineInstruction) (last : Option EmitError) → cause_or o (memory_cause_or D m last) ≡ None → PartsName D.blocks (length D.aligns) (parts_or o code (memory_or m (row_parts ms)))
+vector_names D None code None ms last h = rows_name D.blocks (length D.aligns) ms
+vector_names D None code (Some x) ms last h = memory_named D x h
+vector_names D (Some x) None m ms last h = (tt, tt)
+vector_names D (Some x) (Some code) m ms last h = (tt, tt)
+
 leaf_names : (flags : IsaFlags) (D : Declared) (nominal depth : ℕ) (i : Inst) → instruction_cause flags D nominal depth i ≡ None → PartsName D.blocks (length D.aligns) (instruction_parts i)
 leaf_names flags D nominal depth (Jump dest) h = (label_below D.blocks dest h, tt)
 leaf_names flags D nominal depth (CondBr taken not_taken mask) h = (label_below D.blocks taken (first_left _ _ h), (label_below D.blocks not_taken (first_right (target_label_cause D.blocks taken) _ h), tt))
@@ -153,6 +165,7 @@ leaf_names flags D nominal depth (LoadSymbolReloc rd reloc) h = (tt, (tt, (tt, t
 leaf_names flags D nominal depth (Trap code) h = (tt, tt)
 leaf_names flags D nominal depth (TrapIf mask code) h = (tt, tt)
 leaf_names flags D nominal depth Debugtrap h = (tt, tt)
+leaf_names flags D nominal depth (Vector v) h = vector_names D (single_instruction (Vector v)) (stop_code (Vector v)) (memory (Vector v)) (composite_rows v) (branch_cause D.blocks depth (Vector v)) (first_right (facility_cause flags (Vector v)) _ h)
 leaf_names flags D nominal depth i h = single_names D (single_instruction i) (stop_code i) (memory i) (branch_cause D.blocks depth i) (first_right (stack_cause nominal depth i) _ (first_right (facility_cause flags i) _ h))
 
 pub tree_names : (flags : IsaFlags) (D : Declared) (n nominal depth : ℕ) (t : Tree) → tree_cause flags D n nominal depth t ≡ None → TreeNames D.blocks (length D.aligns) t

@@ -19,13 +19,14 @@ use Rattle.s390x_format.specs.Formats.{length_of}
 use Rattle.s390x_inst.specs.declared.inst.Inst.{Inst}
 use Rattle.s390x_inst.specs.declared.args.MemArg.{MemArg}
 use Rattle.s390x_inst.specs.declared.args.MemArg.TheVariants.{Label, Constant, Symbol}
-use Rattle.s390x_inst.specs.declared.inst.Inst.TheVariants.{Mov64SImm32, LoadAddr, Jump, CondBr, IndirectBr, Ret, JTSequence, CondBreak, LabelAddress, LoadSymbolReloc, Trap, TrapIf, Debugtrap}
+use Rattle.s390x_inst.specs.declared.inst.Inst.TheVariants.{Mov64SImm32, LoadAddr, Jump, CondBr, IndirectBr, Ret, JTSequence, CondBreak, LabelAddress, LoadSymbolReloc, Trap, TrapIf, Debugtrap, Vector}
 use Rattle.s390x_typed_steps.specs.Tree.{Tree, empty, leaf, loop_node}
 use Rattle.s390x_typed_steps.specs.Causes.{instruction_fresh_labels, fresh_labels}
 use Rattle.s390x_typed_steps.specs.SingleInstruction.{SingleInstruction, single_instruction, stop_code}
 use Rattle.s390x_typed_steps.specs.MachineInstruction.{MachineInstruction, rr, rxy, bytes_of, size_of}
 use Rattle.s390x_typed_steps.specs.Rows.{word_bytes}
-use Rattle.s390x_typed_steps.specs.Parts.{CodePart, Row, Trapping, Branch, Relative, RelativeConstant, RelativeSymbol, TableWord, ToBlock, ToStep, table_words, branch_parts, row_part, parts_or, instruction_parts, memory_or, memory_parts, trap_here, relative_part, relative_parts, access_parts, operand_parts, helper_parts, helpers_parts, SymbolValue, TrapHere}
+use Rattle.s390x_typed_steps.specs.VectorComposite.{composite_rows}
+use Rattle.s390x_typed_steps.specs.Parts.{CodePart, Row, Trapping, Branch, Relative, RelativeConstant, RelativeSymbol, TableWord, ToBlock, ToStep, table_words, branch_parts, row_part, parts_or, instruction_parts, memory_or, memory_parts, trap_here, relative_part, relative_parts, access_parts, operand_parts, helper_parts, helpers_parts, SymbolValue, TrapHere, row_parts}
 use Rattle.s390x_typed_steps.specs.Memory.{StorageForm, RxForm, MemoryInstruction, memory, type_of, storage_row, address_form, fault_code}
 use Rattle.s390x_typed_steps.specs.Operands.{is_relative, finalized}
 use Rattle.s390x_emit_int.specs.Fragments.{Fragment, apply, apply_all, Put, PutTrapping, Link, LinkConstant, StartStep, Draw, Bind, PutReloc}
@@ -136,6 +137,10 @@ words_begin : (ls : List MachLabel) (before p : ℕ) → before ≤ p → Tables
 words_begin [] before p le = tt
 words_begin (l ∷ ls) before p le = (le, words_begin ls (before + 4) (p + 4) (omega arith))
 
+rows_begin : (ms : List MachineInstruction) (p : ℕ) → TablesBegin p (row_parts ms)
+rows_begin [] p = tt
+rows_begin (m ∷ ms) p = rows_begin ms (p + size_of m)
+
 branch_begins : (i : Inst) → TablesBegin 0 (branch_parts i)
 branch_begins (Jump dest) = tt
 branch_begins (CondBr taken not_taken mask) = tt
@@ -147,6 +152,7 @@ branch_begins (LoadSymbolReloc rd reloc) = tt
 branch_begins (Trap code) = tt
 branch_begins (TrapIf mask code) = tt
 branch_begins Debugtrap = tt
+branch_begins (Vector v) = rows_begin (composite_rows v) 0
 branch_begins i = tt
 
 -- ---- an instruction with a memory operand has no words of a table

@@ -1,5 +1,5 @@
 -- An instruction and the same without a frame operand.
-use Rattle.std.proofs.Common.{◌≡◌, ℕ, Bool, true, false, Option, Some, None, refl, sym, ap, subst, ◌∙◌, is_some, ◌||◌}
+use Rattle.std.proofs.Common.{◌≡◌, ℕ, Bool, true, false, List, Option, Some, None, refl, sym, ap, subst, ◌∙◌, is_some, ◌||◌}
 use Rattle.std.specs.Option.{option_map}
 use Rattle.s390x_base.specs.declared.regs.Reg.{Reg}
 use Rattle.s390x_inst.specs.Emission.{Emission}
@@ -7,7 +7,10 @@ use Rattle.s390x_inst.specs.Facilities.{facility_of}
 use Rattle.s390x_base.specs.declared.error.EmitError.{EmitError}
 use Rattle.s390x_inst.specs.declared.args.MemArg.{MemArg}
 use Rattle.s390x_inst.specs.declared.inst.Inst.{Inst}
-use Rattle.s390x_inst.specs.declared.inst.Inst.TheVariants.{AluRX, AtomicRmw, CondBr, JTSequence, CondBreak, TrapIf, AllocateArgs}
+use Rattle.s390x_inst.specs.declared.inst.Inst.TheVariants.{AluRX, AtomicRmw, CondBr, JTSequence, CondBreak, TrapIf, AllocateArgs, Vector}
+use Rattle.s390x_inst.specs.declared.vec_inst.VecInst.{VecInst}
+use Rattle.s390x_inst.specs.declared.vec_inst.VecInst.TheVariants.{VecLoadReplicate, VecLoadReplicateRev, VecLoadLane, VecLoadLaneRev, VecLoadLaneUndef, VecLoadLaneRevUndef, VecStoreLane, VecStoreLaneRev}
+use Rattle.s390x_inst.specs.Facilities.{has_facility}
 use Rattle.s390x_inst.specs.declared.state.IsaFlags.{IsaFlags}
 use Rattle.s390x_typed_steps.specs.SingleInstruction.{SingleInstruction, single_instruction, stop_code}
 use Rattle.s390x_typed_steps.specs.Causes.{Declared, first_emit_cause, facility_cause, cause_or, memory_cause_or, branch_cause, instruction_cause, instruction_fresh_labels, stack_cause, tree_cause}
@@ -19,26 +22,36 @@ use Rattle.s390x_typed_steps.specs.Storage.{alu_rx, alu_rxy, atomic_rsy}
 use Rattle.s390x_address.specs.Rows.{in_state}
 use Rattle.s390x_typed_steps.specs.Tree.{empty, prepend}
 use Rattle.s390x_typed_steps.proofs.Causes.{first_left}
-use Rattle.s390x_emit_int.specs.Emission.{branch_fragments, branch_size}
+use Rattle.s390x_typed_steps.specs.Causes.{unless}
+use Rattle.s390x_base.specs.declared.error.EmitError.TheVariants.{MissingFacility}
+use Rattle.s390x_typed_steps.specs.MachineInstruction.{MachineInstruction}
+use Rattle.s390x_typed_steps.specs.Parts.{parts_size, row_parts}
+use Rattle.s390x_emit_int.specs.Emission.{branch_fragments, branch_size, part_fragments}
+use Rattle.s390x_emit_int.proofs.VectorResolving.{vector_single, vector_stops, vector_facilities, composite_causes, composites, vector_memories}
 
 pub single_resolved : (e : Emission) (i : Inst) → single_instruction (resolved_instruction e i) ≡ single_instruction i
 single_resolved e (CondBreak mask) = refl
+single_resolved e (Vector v) = vector_single e v
 single_resolved e i = refl
 
 pub stop_resolved : (e : Emission) (i : Inst) → stop_code (resolved_instruction e i) ≡ stop_code i
 stop_resolved e (CondBreak mask) = refl
+stop_resolved e (Vector v) = vector_stops e v
 stop_resolved e i = refl
 
 facility_resolved : (e : Emission) (i : Inst) → facility_of (resolved_instruction e i) ≡ facility_of i
 facility_resolved e (CondBreak mask) = refl
+facility_resolved e (Vector v) = vector_facilities e v
 facility_resolved e i = refl
 
 pub branch_resolved : (e : Emission) (blocks depth : ℕ) (i : Inst) → branch_cause blocks depth (resolved_instruction e i) ≡ branch_cause blocks depth i
 branch_resolved e blocks depth (CondBreak mask) = refl
+branch_resolved e blocks depth (Vector v) = composite_causes e v
 branch_resolved e blocks depth i = refl
 
 pub fragments_resolved : (e : Emission) (n after : ℕ) (i : Inst) → branch_fragments n after (resolved_instruction e i) ≡ branch_fragments n after i
 fragments_resolved e n after (CondBreak mask) = refl
+fragments_resolved e n after (Vector v) = ap (λ (ms : List MachineInstruction). part_fragments (row_parts ms)) (composites e v)
 fragments_resolved e n after i = refl
 
 pub fresh_labels_resolved : (e : Emission) (i : Inst) → instruction_fresh_labels (resolved_instruction e i) ≡ instruction_fresh_labels i
@@ -47,6 +60,7 @@ fresh_labels_resolved e i = refl
 
 pub size_resolved : (e : Emission) (i : Inst) → branch_size (resolved_instruction e i) ≡ branch_size i
 size_resolved e (CondBreak mask) = refl
+size_resolved e (Vector v) = ap (λ (ms : List MachineInstruction). parts_size (row_parts ms)) (composites e v)
 size_resolved e i = refl
 
 operate_resolved : (e : Emission) (has : Bool) (rx rxy : Option ℕ) (rd ri : Reg) (mem : MemArg) → operate has rx rxy rd ri (resolved e mem) ≡ option_map (in_state e) (operate has rx rxy rd ri mem)
@@ -60,6 +74,7 @@ atomic_resolved e (Some opcode) rd rn mem = refl
 memory_resolved : (e : Emission) (i : Inst) → memory (resolved_instruction e i) ≡ option_map (in_state e) (memory i)
 memory_resolved e (AluRX op rd ri mem) = operate_resolved e (is_some (alu_rx op) || is_some (alu_rxy op)) (alu_rx op) (alu_rxy op) rd ri mem
 memory_resolved e (AtomicRmw op rd rn mem) = atomic_resolved e (atomic_rsy op) rd rn mem
+memory_resolved e (Vector v) = vector_memories e v
 memory_resolved e i = refl
 
 -- the rows of an instruction with a memory operand are the same
@@ -72,6 +87,10 @@ no_memory e i h = memory_resolved e i ∙ ap (option_map (in_state e)) (sym h)
 -- the first cause by the parts that the code looks at
 pub cause_resolved : (flags : IsaFlags) (e : Emission) (D : Declared) (nominal depth : ℕ) (i : Inst) → first_emit_cause (facility_cause flags i) (first_emit_cause (stack_cause nominal depth i) (cause_or (single_instruction i) (memory_cause_or D (memory (resolved_instruction e i)) (branch_cause D.blocks depth i)))) ≡ instruction_cause flags D nominal depth (resolved_instruction e i)
 cause_resolved flags e D nominal depth (CondBreak mask) = refl
+cause_resolved flags e D nominal depth (Vector v) =
+    ap (λ f. first_emit_cause (unless (has_facility flags f) MissingFacility) (cause_or (single_instruction (Vector v)) (memory_cause_or D (memory (resolved_instruction e (Vector v))) (branch_cause D.blocks depth (Vector v))))) (sym (facility_resolved e (Vector v)))
+    ∙ ap (λ o. first_emit_cause (facility_cause flags (resolved_instruction e (Vector v))) (cause_or o (memory_cause_or D (memory (resolved_instruction e (Vector v))) (branch_cause D.blocks depth (Vector v))))) (sym (single_resolved e (Vector v)))
+    ∙ ap (λ o. first_emit_cause (facility_cause flags (resolved_instruction e (Vector v))) (cause_or (single_instruction (resolved_instruction e (Vector v))) (memory_cause_or D (memory (resolved_instruction e (Vector v))) o))) (sym (branch_resolved e D.blocks depth (Vector v)))
 cause_resolved flags e D nominal depth i = refl
 
 -- a member without a cause has none by the stack sizes
@@ -96,10 +115,23 @@ unfolding have_both
 not_single None = refl
 not_single (Some x) = refl
 
+never_both_vector : (v : VecInst) → have_both (memory (Vector v)) (single_instruction (Vector v)) ≡ false
+unfolding have_both
+never_both_vector (VecLoadReplicate size rd mem) = not_single (memory (Vector (VecLoadReplicate size rd mem)))
+never_both_vector (VecLoadReplicateRev size rd mem) = not_single (memory (Vector (VecLoadReplicateRev size rd mem)))
+never_both_vector (VecLoadLane size rd ri mem lane) = not_single (memory (Vector (VecLoadLane size rd ri mem lane)))
+never_both_vector (VecLoadLaneRev size rd ri mem lane) = not_single (memory (Vector (VecLoadLaneRev size rd ri mem lane)))
+never_both_vector (VecLoadLaneUndef size rd mem lane) = not_single (memory (Vector (VecLoadLaneUndef size rd mem lane)))
+never_both_vector (VecLoadLaneRevUndef size rd mem lane) = not_single (memory (Vector (VecLoadLaneRevUndef size rd mem lane)))
+never_both_vector (VecStoreLane size rd mem lane) = not_single (memory (Vector (VecStoreLane size rd mem lane)))
+never_both_vector (VecStoreLaneRev size rd mem lane) = not_single (memory (Vector (VecStoreLaneRev size rd mem lane)))
+never_both_vector v = refl
+
 never_both : (i : Inst) → have_both (memory i) (single_instruction i) ≡ false
 unfolding have_both
 never_both (AluRX op rd ri mem) = not_single (memory (AluRX op rd ri mem))
 never_both (AtomicRmw op rd rn mem) = not_single (memory (AtomicRmw op rd rn mem))
+never_both (Vector v) = never_both_vector v
 never_both i = refl
 
 without_operand : (o : Option MemoryInstruction) (a : Option SingleInstruction) (x : SingleInstruction) → Some x ≡ a → have_both o a ≡ false → MemoryInRange o

@@ -10,7 +10,7 @@ use Rattle.s390x_inst.specs.declared.inst.Inst.{Inst}
 use Rattle.s390x_inst.specs.Emission.{Emission}
 use Rattle.s390x_inst.specs.declared.args.MemArg.{MemArg}
 use Rattle.s390x_inst.specs.declared.args.MemArg.TheVariants.{Label, RegOffset}
-use Rattle.s390x_inst.specs.declared.inst.Inst.TheVariants.{Loop', JTSequence, Mov64SImm32, LoadAddr, CondBreak, Jump, CondBr, IndirectBr, Ret, LabelAddress, LoadSymbolReloc, Trap, TrapIf, Debugtrap}
+use Rattle.s390x_inst.specs.declared.inst.Inst.TheVariants.{Loop', JTSequence, Mov64SImm32, LoadAddr, CondBreak, Jump, CondBr, IndirectBr, Ret, LabelAddress, LoadSymbolReloc, Trap, TrapIf, Debugtrap, Vector}
 use Rattle.s390x_inst.specs.declared.state.IsaFlags.{IsaFlags}
 use Rattle.s390x_buffer.specs.State.{BufferState, Constant, limit}
 use Rattle.s390x_buffer.specs.Extends.{Extends}
@@ -19,7 +19,8 @@ use Rattle.s390x_typed_steps.specs.MachineInstruction.{MachineInstruction}
 use Rattle.s390x_typed_steps.specs.Memory.{StorageForm, RxForm, MemoryInstruction, memory, type_of, storage_row, address_form, fault_code}
 use Rattle.s390x_typed_steps.specs.Operands.{Finalized, finalized, is_relative, displaced, needs_address, fits_12, fits_20, fits_32}
 use Rattle.s390x_typed_steps.specs.Resolved.{resolved_instruction}
-use Rattle.s390x_typed_steps.specs.Parts.{CodePart, branch_parts, row_part, access_parts, trap_here, relative_part, relative_parts, operand_parts, helper_parts, helpers_parts, memory_parts, memory_or, parts_or, parts_size}
+use Rattle.s390x_typed_steps.specs.VectorComposite.{MoveUnder, move_under, rows_under}
+use Rattle.s390x_typed_steps.specs.Parts.{CodePart, branch_parts, row_part, access_parts, trap_here, relative_part, relative_parts, operand_parts, helper_parts, helpers_parts, memory_parts, memory_or, parts_or, parts_size, row_parts}
 use Rattle.s390x_typed_steps.specs.Sizes.{instruction_size, tree_size}
 use Rattle.s390x_typed_steps.specs.Tree.{Tree, empty, leaf, prepend}
 use Rattle.s390x_typed_steps.specs.Causes.{Declared, first_emit_cause, unless, aligns_of, declared_in, tree_cause}
@@ -108,6 +109,12 @@ memory_few_or : (o : Option MemoryInstruction) (others : List CodePart) → part
 memory_few_or None others h = h
 memory_few_or (Some x) others h = memory_few x
 
+-- a branch and a move
+move_few : (o : Option MoveUnder) → parts_size (row_parts (rows_under o)) ≤ 44
+unfolding length_of
+move_few None = omega arith
+move_few (Some x) = let small = length_small x.row.format in omega (arith, small)
+
 branch_few : (i : Inst) → is_short i ≡ true → parts_size (branch_parts i) ≤ 44
 unfolding length_of
 branch_few (JTSequence ridx other mask targets) h = absurd (cc)
@@ -120,6 +127,7 @@ branch_few (LoadSymbolReloc rd reloc) h = omega arith
 branch_few (Trap code) h = omega arith
 branch_few (TrapIf mask code) h = omega arith
 branch_few Debugtrap h = omega arith
+branch_few (Vector v) h = move_few (move_under v)
 branch_few i h = omega arith
 
 instruction_few : (i : Inst) → is_short i ≡ true → instruction_size i ≤ 44

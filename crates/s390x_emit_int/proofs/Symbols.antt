@@ -22,7 +22,7 @@ use Rattle.s390x_emit_int.proofs.Lacking.{put_none, put_parts}
 use Rattle.s390x_emit_int.proofs.Tables.{parts_turns}
 
 -- what still fits behind some parts
-room_behind : (s t : BufferState) (parts : List CodePart) (n m : ℕ) → put_cause s n ≡ None → t ≡ apply_all s (part_fragments parts) → parts_size parts + m ≤ n → put_cause t m ≡ None
+pub room_behind : (s t : BufferState) (parts : List CodePart) (n m : ℕ) → put_cause s n ≡ None → t ≡ apply_all s (part_fragments parts) → parts_size parts + m ≤ n → put_cause t m ≡ None
 room_behind s t parts n m room e le =
     let p = put_parts s n room in
     let u = parts_turns s t parts e in

@@ -9,6 +9,7 @@ ghost use Rattle.s390x_typed_steps.specs.SingleInstruction.{SingleInstruction, s
 ghost use Rattle.s390x_typed_steps.specs.General.{is_general, is_nonzero, is_scratch};
 
 use crate::check::fresh_labels;
+use crate::conditional::composite_cause;
 use crate::memory::find_memory;
 use crate::single_instruction::find_single_instruction;
 use crate::stack::stack_cause;
@@ -143,6 +144,7 @@ pub fn branch_cause(blocks: u32, depth: u32, inst: &Inst) -> Option<EmitError>
         Inst::LoadSymbolReloc { rd, .. } => {
             cause_unless(general(&rd.to_reg()), EmitError::BadRegister)
         }
+        Inst::Vector(inst) => composite_cause(inst),
         _ => Some(EmitError::BadOperator),
     }
 }
@@ -157,8 +159,8 @@ fn memory_cause(state: &EmitState, sink: &MachBuffer, depth: u32, inst: &Inst) -
     }
 }
 
-// Why one machine instruction is refused.
-fn found_cause(found: Result<Code, EmitError>) -> Option<EmitError>
+/// Why one machine instruction is refused.
+pub fn found_cause(found: Result<Code, EmitError>) -> Option<EmitError>
     ensures { (x : SingleInstruction) → found ≡ code_where x.operands_valid x.row → result ≡ unless x.operands_valid BadRegister }
 {
     match found {

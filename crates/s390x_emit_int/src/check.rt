@@ -16,6 +16,7 @@ ghost use Rattle.s390x_emit_int.specs.Function.{tree_of};
 ghost use Rattle.s390x_emit_int.specs.Totals.{IsCounted, Adds, code_limit};
 
 use crate::causes::instruction_cause;
+use crate::conditional::composite_size;
 use crate::memory::find_memory;
 use crate::single_instruction::find_single_instruction;
 use crate::stack::{advance, end_cause};
@@ -59,6 +60,7 @@ fn branch_size(inst: &Inst) -> u64
         Inst::LoadSymbolReloc { .. } => 18,
         Inst::JTSequence { targets, .. } => table_size(targets.len()),
         Inst::IndirectBr { .. } | Inst::Ret { .. } | Inst::Trap { .. } | Inst::Debugtrap => 2,
+        Inst::Vector(inst) => composite_size(inst),
         _ => 0,
     }
 }

@@ -25,6 +25,7 @@ ghost use Rattle.s390x_typed_steps.specs.Resolved.{resolved_instruction};
 ghost use Rattle.s390x_address.specs.Rows.{memory_instruction_of, in_state, may_encode};
 
 use crate::causes::{branch_cause, outer_cause};
+use crate::conditional::emit_composite;
 use crate::memory::find_memory;
 use crate::single_instruction::find_single_instruction;
 use crate::stops::stop_code;
@@ -202,6 +203,7 @@ fn emit_branch(sink: &mut MachBuffer, inst: &Inst, after: MachLabel) -> Result<(
         Inst::Trap { trap_code } => emit_trap(sink, *trap_code),
         Inst::TrapIf { cond, trap_code } => emit_trap_if(sink, *cond, *trap_code),
         Inst::Debugtrap => emit_debug_trap(sink),
+        Inst::Vector(inst) => emit_composite(sink, inst),
         _ => Err(EmitError::BadOperator),
     }
 }

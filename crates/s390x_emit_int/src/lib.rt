@@ -7,6 +7,7 @@ pub mod causes;
 pub mod check;
 pub mod codes;
 pub mod completeness;
+pub mod conditional;
 pub mod emit;
 pub mod function;
 pub mod headline;

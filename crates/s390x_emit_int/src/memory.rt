@@ -12,6 +12,7 @@ use s390x_address::forms::is_numbered;
 use s390x_address::memory::{MemoryInst, general};
 use s390x_address::rows::StorageRows;
 use s390x_base::{Reg, Writable};
+use s390x_emit_vec::find_vector_memory;
 use s390x_inst::{ALUOp, CmpOp, Inst, MemArg};
 use s390x_typed_steps::immediates::low_byte;
 
@@ -404,6 +405,7 @@ pub fn find_memory(inst: &Inst) -> Option<MemoryInst>
     ensures encodes { IfSome result (λ x. may_encode x ≡ true) }
 {
     match inst {
+        Inst::Vector(inst) => find_vector_memory(inst),
         Inst::Load32 { rd, mem } => load(rd, Some(0x58), Some(0xe358), Some(0xc4d), mem),
         Inst::Load32ZExt8 { rd, mem } => load(rd, None, Some(0xe394), None, mem),
         Inst::Load32SExt8 { rd, mem } => load(rd, None, Some(0xe376), None, mem),

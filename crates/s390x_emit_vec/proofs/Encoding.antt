@@ -65,7 +65,7 @@ join_encodes a b c h =
     let q = and_parts (is_vector a) (is_general b) p.0 in
     and_from (encodes_vector a && encodes_general b) (encodes_general c) (and_from (encodes_vector a) (encodes_general b) (vector_encodes a q.0) (general_encodes b q.1)) (general_encodes c p.1)
 
-float_encodes : (r : Reg) → is_vector r ≡ true → nat_lt (number_of r) 16 ≡ true → is_float r ≡ true
+pub float_encodes : (r : Reg) → is_vector r ≡ true → nat_lt (number_of r) 16 ≡ true → is_float r ≡ true
 float_encodes (Real r) h low = and_from (is_float_class r.class) (nat_lt r.number 16) (class_encodes r.class _ h) low
 float_encodes (Virtual num class) h low = absurd (cc)
 

@@ -367,6 +367,43 @@ fn moved_float(opcode: u16, v1: Reg, v2: Reg) -> Result<Code, EmitError>
     }
 }
 
+fn reused_valid(output: &Reg, input: &Reg, source: &Reg) -> bool
+    ensures { result ≡ reuses_vector output.now input.now && is_vector source.now }
+{
+    reuses(output, input) && vector(source)
+}
+
+/// A move of the leftmost bits into a register that is also an input.
+pub fn reused_left(opcode: u16, v1: Reg, input: Reg, v2: Reg) -> Result<Code, EmitError>
+    requires short { opcode < 256 }
+    requires first { is_first_float opcode ≡ true }
+    requires second { is_second_float opcode ≡ true }
+    ensures { result ≡ code_where (reuses_vector v1 input && is_vector v2) (move_left_row opcode (number_of v1) (number_of v2)) }
+{
+    let valid = reused_valid(&v1, &input, &v2);
+    if valid {
+        moved_left(opcode, v1, v2)
+    } else {
+        Err(EmitError::BadRegister)
+    }
+}
+
+/// A move of a whole register into one that is also an input.
+pub fn reused_whole(v1: Reg, input: Reg, v2: Reg) -> Result<Code, EmitError>
+    ensures { result ≡ code_where (reuses_vector v1 input && is_vector v2) (vrr_a 0xe756 (number_of v1) (number_of v2) 0) }
+{
+    let valid = reused_valid(&v1, &input, &v2);
+    if valid {
+        let row = VectorOpcode {
+            opcode: 0xe756,
+            code: 0,
+        };
+        two_vectors(row, v1, v2)
+    } else {
+        Err(EmitError::BadRegister)
+    }
+}
+
 /// A move of the leftmost bits: of two float registers where both are such, else of whole vectors.
 pub fn moved_left(opcode: u16, v1: Reg, v2: Reg) -> Result<Code, EmitError>
     requires short { opcode < 256 }

@@ -1,5 +1,5 @@
 //! Instructions on one element of a vector, by its number.
-ghost use Rattle.std.specs.Prelude.{◌≡◌, ◌<◌, ◌&&◌, IfSome, true, nat_lt};
+ghost use Rattle.std.specs.Prelude.{◌≡◌, ◌≤◌, ◌<◌, ◌&&◌, IfSome, true, nat_lt};
 ghost use Rattle.s390x_base.specs.Regs.{number_of};
 ghost use Rattle.s390x_typed_steps.specs.General.{low_halfword, is_general};
 ghost use Rattle.s390x_typed_steps.specs.SingleCode.{single_code};
@@ -12,11 +12,13 @@ use crate::codes::{
 };
 use s390x_base::{Code, EmitError, Reg};
 use s390x_typed_steps::VectorOpcode;
+use s390x_typed_steps::immediates::bits_of_halfword;
 
 /// The code of elements of 8 to 64 bits.
 pub fn element_code(size: u32) -> Option<u8>
     ensures code { result ≡ element_code size }
     ensures few { IfSome result (λ c. c < 4) }
+    ensures size { IfSome result (λ _. 8 ≤ size) }
 {
     match size {
         8 => Some(0),
@@ -27,15 +29,8 @@ pub fn element_code(size: u32) -> Option<u8>
     }
 }
 
-/// The bits of an immediate.
-pub fn bits_of(imm: i16) -> u16
-    ensures { result ≡ low_halfword imm }
-{
-    i32::from(imm).rem_euclid(65536) as u16
-}
-
-// The number is one of an element of so many bits.
-fn is_lane(size: u32, lane: u8) -> bool
+/// Whether the number is one of an element of so many bits.
+pub fn is_lane(size: u32, lane: u8) -> bool
     ensures { result ≡ is_lane size lane }
 {
     u64::from(lane) * u64::from(size) < 128
@@ -100,7 +95,7 @@ fn inserted_where(
     match element_code(size) {
         Some(code) => {
             if is_lane(size, lane) {
-                Some(immediate_where(valid, insert_row(code, lane), v1, bits_of(imm)))
+                Some(immediate_where(valid, insert_row(code, lane), v1, bits_of_halfword(imm)))
             } else {
                 None
             }

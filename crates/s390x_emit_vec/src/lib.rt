@@ -1,9 +1,13 @@
-//! The code of vector instructions that are one machine instruction on registers and immediates.
+//! The code of vector instructions that are one machine instruction on registers and immediates, and the rows of those with an operand in memory.
 #![tactic(auto)]
 
 mod codes;
+pub mod conditional;
 mod lanes;
+pub mod memory;
 mod opcodes;
 pub mod vector;
 
+pub use conditional::{MoveUnder, find_move_under};
+pub use memory::find_vector_memory;
 pub use vector::{find_vector, stop_of};

@@ -11,8 +11,8 @@ use crate::codes::{
     joined_registers, moved_left, shifted_vector, three_vectors, two_vectors,
 };
 use crate::lanes::{
-    bits_of, element_code, inserted, inserted_into, lane_extracted, lane_inserted,
-    lane_inserted_into, replicated_lane_of,
+    element_code, inserted, inserted_into, lane_extracted, lane_inserted, lane_inserted_into,
+    replicated_lane_of,
 };
 use crate::opcodes::{
     binary_row, comparison_row, element_comparison_row, is_division, shift_row, unary_row,
@@ -20,18 +20,7 @@ use crate::opcodes::{
 use s390x_base::{Code, EmitError, Reg, TrapCode};
 use s390x_inst::VecInst;
 use s390x_typed_steps::VectorOpcode;
-
-fn bits_of_mask(mask: u16) -> u16
-    ensures { result ≡ low_halfword (pos mask) }
-{
-    mask
-}
-
-fn bits_of_byte(imm: u8) -> u8
-    ensures { result ≡ low_byte imm }
-{
-    imm
-}
+use s390x_typed_steps::immediates::{bits_of_halfword, bits_of_unsigned_halfword, low_byte};
 
 fn displacement_of(imm: u8) -> u32
     ensures value { result ≡ low_byte imm }
@@ -65,7 +54,7 @@ fn replicated(size: u32, v1: Reg, imm: i16) -> Option<Result<Code, EmitError>>
                 opcode: 0xe745,
                 code,
             };
-            Some(immediate_vector(row, v1, bits_of(imm)))
+            Some(immediate_vector(row, v1, bits_of_halfword(imm)))
         }
         None => None,
     }
@@ -147,7 +136,7 @@ pub fn find_vector(inst: &VecInst) -> Option<Result<Code, EmitError>>
             rn,
             rm,
             ra,
-        } => Some(evaluated_vectors(bits_of_byte(*imm), rd.to_reg(), *rn, *rm, *ra)),
+        } => Some(evaluated_vectors(low_byte(*imm), rd.to_reg(), *rn, *rm, *ra)),
         VecInst::VecPermuteDWImm {
             rd,
             rn,
@@ -161,7 +150,7 @@ pub fn find_vector(inst: &VecInst) -> Option<Result<Code, EmitError>>
                 opcode: 0xe744,
                 code: 0,
             };
-            Some(immediate_vector(row, rd.to_reg(), bits_of_mask(*mask)))
+            Some(immediate_vector(row, rd.to_reg(), bits_of_unsigned_halfword(*mask)))
         }
         VecInst::VecImmReplicate { size, rd, imm } => replicated(*size, rd.to_reg(), *imm),
         VecInst::VecImmBitMask {

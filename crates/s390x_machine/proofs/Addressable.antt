@@ -11,7 +11,9 @@ use Rattle.s390x_base.specs.declared.trap.TrapKind.{TrapKind}
 use Rattle.s390x_inst.specs.declared.args.MemArg.{MemArg}
 use Rattle.s390x_inst.specs.declared.args.MemArg.TheVariants.{BXD12, Symbol}
 use Rattle.s390x_inst.specs.declared.inst.Inst.{Inst}
-use Rattle.s390x_inst.specs.declared.inst.Inst.TheVariants.{LoadAddr, AluRX, AtomicRmw}
+use Rattle.s390x_inst.specs.declared.inst.Inst.TheVariants.{LoadAddr, AluRX, AtomicRmw, Vector}
+use Rattle.s390x_inst.specs.declared.vec_inst.VecInst.{VecInst}
+use Rattle.s390x_inst.specs.declared.vec_inst.VecInst.TheVariants.{VecLoadReplicate, VecLoadReplicateRev, VecLoadLane, VecLoadLaneRev, VecLoadLaneUndef, VecLoadLaneRevUndef, VecStoreLane, VecStoreLaneRev}
 use Rattle.s390x_typed_steps.specs.SingleInstruction.{SingleInstruction, single_instruction, stop_code}
 use Rattle.s390x_typed_steps.specs.Memory.{MemoryInstruction, StorageForm, memory, type_of, fault_code}
 use Rattle.s390x_typed_steps.specs.Operands.{no_register, scratch, with_widened, finalized, operand_general, loses_base}
@@ -25,18 +27,26 @@ use Rattle.s390x_operations.specs.State.{wrapping_add64}
 use Rattle.s390x_machine.proofs.Finalizing.{not_lost}
 use Rattle.s390x_machine.proofs.Operands.{low_below}
 
+either : (b : Bool) → (b || true) ≡ true
+either true = refl
+either false = refl
+
+vector_is_one : (v : VecInst) → (not (is_some (memory (Vector v))) || not (is_some (single_instruction (Vector v)))) ≡ true
+vector_is_one (VecLoadReplicate size rd mem) = either _
+vector_is_one (VecLoadReplicateRev size rd mem) = either _
+vector_is_one (VecLoadLane size rd ri mem lane) = either _
+vector_is_one (VecLoadLaneRev size rd ri mem lane) = either _
+vector_is_one (VecLoadLaneUndef size rd mem lane) = either _
+vector_is_one (VecLoadLaneRevUndef size rd mem lane) = either _
+vector_is_one (VecStoreLane size rd mem lane) = either _
+vector_is_one (VecStoreLaneRev size rd mem lane) = either _
+vector_is_one v = refl
+
 -- no instruction is both one machine instruction and an access of an operand
 is_one : (i : Inst) → (not (is_some (memory i)) || not (is_some (single_instruction i))) ≡ true
 is_one (AluRX op rd ri mem) = either _
-  where
-    either : (b : Bool) → (b || true) ≡ true
-    either true = refl
-    either false = refl
 is_one (AtomicRmw op rd rn mem) = either _
-  where
-    either : (b : Bool) → (b || true) ≡ true
-    either true = refl
-    either false = refl
+is_one (Vector v) = vector_is_one v
 is_one i = refl
 
 memory_alone : (i : Inst) (x : MemoryInstruction) → memory i ≡ Some x → single_instruction i ≡ None

@@ -10,11 +10,14 @@ use Rattle.s390x_buffer.specs.State.{is_alignment}
 use Rattle.s390x_inst.specs.declared.args.MemArg.{MemArg}
 use Rattle.s390x_inst.specs.declared.args.MemArg.TheVariants.{Label, Constant}
 use Rattle.s390x_inst.specs.declared.inst.Inst.{Inst}
-use Rattle.s390x_inst.specs.declared.inst.Inst.TheVariants.{AluRX, CmpRX, Load32, Load32ZExt16, Load32SExt16, Load64, Load64ZExt16, Load64SExt16, Load64ZExt32, Load64SExt32, Store16, Store32, Store64, AtomicRmw}
+use Rattle.s390x_inst.specs.declared.inst.Inst.TheVariants.{AluRX, CmpRX, Load32, Load32ZExt16, Load32SExt16, Load64, Load64ZExt16, Load64SExt16, Load64ZExt32, Load64SExt32, Store16, Store32, Store64, AtomicRmw, Vector}
+use Rattle.s390x_inst.specs.declared.vec_inst.VecInst.{VecInst}
+use Rattle.s390x_inst.specs.declared.vec_inst.VecInst.TheVariants.{VecLoadReplicate, VecLoadReplicateRev, VecLoadLane, VecLoadLaneRev, VecLoadLaneUndef, VecLoadLaneRevUndef, VecStoreLane, VecStoreLaneRev}
 use Rattle.s390x_inst.specs.declared.ops.CmpOp.{CmpOp}
 use Rattle.s390x_inst.specs.declared.ops.CmpOp.TheVariants as C
 use Rattle.s390x_typed_steps.specs.Causes.{bound_cause, relative_access, boundary, alignment_cause}
-use Rattle.s390x_typed_steps.specs.Memory.{StorageForm, RxForm, MemoryInstruction, memory, type_of, operate, load_and_operate}
+use Rattle.s390x_typed_steps.specs.Memory.{StorageForm, RxForm, VrxForm, FloatForm, MemoryInstruction, memory, type_of, operate, load_and_operate, access_vector, access_elements, access_lane, reversed_code, is_left_lane, load_lane_opcode, store_lane_opcode, load_reversed_opcode, store_reversed_opcode, vector_memory}
+use Rattle.s390x_typed_steps.specs.VectorInstruction.{element_code, is_lane, is_vector, reuses_vector}
 use Rattle.s390x_typed_steps.specs.Operands.{is_numbered, is_relative, needs_address}
 use Rattle.s390x_typed_steps.specs.Storage.{alu_rx, alu_rxy, cmp_rx, cmp_rxy, cmp_ril, atomic_rsy, relative_bytes}
 use Rattle.s390x_typed_steps.specs.declared.mem_inst_type.MemInstType.{MemInstType}
@@ -137,6 +140,39 @@ no_load_and_operate : (o : Option ℕ) (rd rn : Reg) (mem : MemArg) (opcode : �
 no_load_and_operate (Some x) rd rn mem opcode e = absurd (cc)
 no_load_and_operate None rd rn mem opcode e = absurd (cc)
 
+-- nor has a vector register
+no_elements : (row : ℕ) (rd : Reg) (code : Option ℕ) (mem : MemArg) (opcode : ℕ) → relative_row_of (access_elements row rd code mem) ≡ Some opcode → ⊥
+no_elements row rd None mem opcode e = absurd (cc)
+no_elements row rd (Some code) mem opcode e = absurd (cc)
+
+no_lane : (valid : Bool) (row : ℕ → ℕ) (register : ℕ) (code : Option ℕ) (size lane : ℕ) (mem : MemArg) (opcode : ℕ) → relative_row_of (access_lane valid row register code size lane mem) ≡ Some opcode → ⊥
+no_lane valid row register None size lane mem opcode e = absurd (cc)
+no_lane valid row register (Some code) size lane mem opcode e = go (is_lane size lane) e
+  where
+    go : (t : Bool) → relative_row_of (cond t (access_vector valid (VrxForm register (row code) lane) mem) None) ≡ Some opcode → ⊥
+    go true e = absurd (cc)
+    go false e = absurd (cc)
+
+no_left : (t u valid : Bool) (register a b c d : ℕ) (mem : MemArg) (others : Option MemoryInstruction) (opcode : ℕ) → (relative_row_of others ≡ Some opcode → ⊥) → relative_row_of (cond t (access_vector valid (cond u (FloatForm register a b) (FloatForm register c d)) mem) others) ≡ Some opcode → ⊥
+no_left true true valid register a b c d mem others opcode h e = absurd (cc)
+no_left true false valid register a b c d mem others opcode h e = absurd (cc)
+no_left false u valid register a b c d mem others opcode h e = h e
+
+no_vector : (v : VecInst) (opcode : ℕ) → relative_row_of (vector_memory v) ≡ Some opcode → ⊥
+no_vector (VecLoadReplicate size rd mem) opcode e = no_elements 0xe705 rd (element_code size) mem opcode e
+no_vector (VecLoadReplicateRev size rd mem) opcode e = no_elements 0xe605 rd (reversed_code size) mem opcode e
+no_vector (VecLoadLane size rd ri mem lane) opcode e = no_lane (reuses_vector rd ri) load_lane_opcode (number_of rd) (element_code size) size lane mem opcode e
+no_vector (VecLoadLaneRev size rd ri mem lane) opcode e = no_lane (reuses_vector rd ri) load_reversed_opcode (number_of rd) (reversed_code size) size lane mem opcode e
+no_vector (VecLoadLaneUndef size rd mem lane) opcode e =
+    no_left (is_left_lane size lane (number_of rd)) (nat_eq size 32) (is_vector rd) (number_of rd) 0x78 0xed64 0x68 0xed65 mem (access_lane (is_vector rd) load_lane_opcode (number_of rd) (element_code size) size lane mem) opcode
+    (no_lane (is_vector rd) load_lane_opcode (number_of rd) (element_code size) size lane mem opcode) e
+no_vector (VecLoadLaneRevUndef size rd mem lane) opcode e = no_lane (is_vector rd) load_reversed_opcode (number_of rd) (reversed_code size) size lane mem opcode e
+no_vector (VecStoreLane size rd mem lane) opcode e =
+    no_left (is_left_lane size lane (number_of rd)) (nat_eq size 32) (is_vector rd) (number_of rd) 0x70 0xed66 0x60 0xed67 mem (access_lane (is_vector rd) store_lane_opcode (number_of rd) (element_code size) size lane mem) opcode
+    (no_lane (is_vector rd) store_lane_opcode (number_of rd) (element_code size) size lane mem opcode) e
+no_vector (VecStoreLaneRev size rd mem lane) opcode e = no_lane (is_vector rd) store_reversed_opcode (number_of rd) (reversed_code size) size lane mem opcode e
+no_vector v opcode e = absurd (cc)
+
 pub bytes_accessed : (i : Inst) (opcode : ℕ) → relative_row_of (memory i) ≡ Some opcode → StepAccesses (operand_step i) (relative_bytes opcode)
 bytes_accessed (Load32 rd mem) opcode e = let same : 0xc4d ≡ opcode = cc in subst (λ o. StepAccesses (operand_step (Load32 rd mem)) (relative_bytes o)) same (λ address r. (refl, refl))
 bytes_accessed (Load32ZExt16 rd mem) opcode e = let same : 0xc42 ≡ opcode = cc in subst (λ o. StepAccesses (operand_step (Load32ZExt16 rd mem)) (relative_bytes o)) same (λ address r. (refl, refl))
@@ -161,6 +197,7 @@ bytes_accessed (CmpRX C.CmpL64Ext16 rn mem) opcode e = let same : 0xc66 ≡ opco
 bytes_accessed (CmpRX C.CmpL64Ext32 rn mem) opcode e = let same : 0xc6e ≡ opcode = cc in subst (λ o. StepAccesses (operand_step (CmpRX C.CmpL64Ext32 rn mem)) (relative_bytes o)) same (λ address r. (refl, refl))
 bytes_accessed (AluRX op rd ri mem) opcode e = absurd (no_operate (is_some (alu_rx op) || is_some (alu_rxy op)) (alu_rx op) (alu_rxy op) rd ri mem opcode e)
 bytes_accessed (AtomicRmw op rd rn mem) opcode e = absurd (no_load_and_operate (atomic_rsy op) rd rn mem opcode e)
+bytes_accessed (Vector v) opcode e = absurd (no_vector v opcode e)
 bytes_accessed i opcode e = absurd (cc)
 
 -- ---- no stop by alignment
@@ -215,4 +252,5 @@ module _ (L : Layout) (all : AllCodeAt L) where
   never_misaligned (CmpRX op rn mem) opcode e operands_valid own = own_never (number_of rn) (cmp_rx op) (cmp_rxy op) (cmp_ril op) mem (is_general rn) (is_numbered 1 rn) operands_valid own (cmp_forms op) (compares_at (comparison op) (number_of rn)) (cmp_relative op) (cmp_bytes op (number_of rn))
   never_misaligned (AluRX op rd ri mem) opcode e operands_valid own = absurd (no_operate (is_some (alu_rx op) || is_some (alu_rxy op)) (alu_rx op) (alu_rxy op) rd ri mem opcode e)
   never_misaligned (AtomicRmw op rd rn mem) opcode e operands_valid own = absurd (no_load_and_operate (atomic_rsy op) rd rn mem opcode e)
+  never_misaligned (Vector v) opcode e operands_valid own = absurd (no_vector v opcode e)
   never_misaligned i opcode e operands_valid own = absurd (cc)

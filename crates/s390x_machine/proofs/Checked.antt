@@ -7,7 +7,7 @@ use Rattle.s390x_base.specs.declared.ir.MachLabel.{MachLabel}
 use Rattle.s390x_base.specs.declared.error.EmitError.{EmitError}
 use Rattle.s390x_base.specs.declared.error.EmitError.TheVariants.{BadOperator, BadRegister, ScratchConflict, OffsetOutOfRange, UnboundLabel, BadStackState}
 use Rattle.s390x_inst.specs.declared.inst.Inst.{Inst}
-use Rattle.s390x_inst.specs.declared.inst.Inst.TheVariants.{Jump, CondBr, IndirectBr, Ret, CondBreak, Nop0, LabelAddress, LoadSymbolReloc, Trap, TrapIf, Debugtrap, JTSequence, AllocateArgs, Args, Rets, DummyUse, SequencePoint}
+use Rattle.s390x_inst.specs.declared.inst.Inst.TheVariants.{Jump, CondBr, IndirectBr, Ret, CondBreak, Nop0, LabelAddress, LoadSymbolReloc, Trap, TrapIf, Debugtrap, JTSequence, AllocateArgs, Args, Rets, DummyUse, SequencePoint, Vector}
 use Rattle.s390x_typed_steps.specs.Stack.{nominal_after}
 use Rattle.s390x_typed_steps.specs.Causes.{first_emit_cause, unless, facility_cause, target_label_cause, labels_cause, cause_or, loses_scratch, addend_fits, target_cause, memory_cause_or, instruction_cause, numbers_cause, nesting_cause, fresh_labels, tree_cause, block_cause, blocks_cause, nominal_behind, leaf_cause, instruction_fresh_labels}
 use Rattle.s390x_typed_steps.specs.SingleInstruction.{SingleInstruction, single_instruction}
@@ -18,6 +18,7 @@ use Rattle.s390x_typed_steps.specs.Ranges.{MemoryInRange, InRange, AllInRange, B
 use Rattle.s390x_typed_steps.specs.Rows.{LinkEnvironment}
 use Rattle.s390x_typed_steps.specs.Tree.{Tree, empty, leaf, loop_node}
 use Rattle.s390x_typed_steps.specs.Steps.{Step, Opening, Back, step_count, step_of, steps_of, steps_from, function_steps}
+use Rattle.s390x_typed_steps.specs.VectorComposite.{composite_cause}
 use Rattle.s390x_operations.specs.State.{CodeImage}
 use Rattle.s390x_machine.specs.Functions.{function_layout}
 use Rattle.s390x_machine.specs.Layout.{Layout, declared}
@@ -26,9 +27,9 @@ use Rattle.s390x_machine.proofs.Functions.{count_of}
 use Rattle.s390x_machine.proofs.Relative.{first_none, unless_none}
 
 module _ (L : Layout) where
-  valid_single : (o : Option SingleInstruction) (m : Option MemoryInstruction) → cause_or o (memory_cause_or (declared L) m (Some BadOperator)) ≡ None → MemoryInRange m → OperandsValidOr o (ValidMemoryOr L m ⊥)
-  valid_single None None e range = absurd (cc)
-  valid_single None (Some x) e range =
+  valid_other : (o : Option SingleInstruction) (m : Option MemoryInstruction) (others : Option EmitError) → cause_or o (memory_cause_or (declared L) m others) ≡ None → MemoryInRange m → OperandsValidOr o (ValidMemoryOr L m (others ≡ None))
+  valid_other None None others e range = e
+  valid_other None (Some x) others e range =
       let form = has_form (type_of x.form x.accesses) x.operand in
       let registers = x.operands_valid && operand_general x.operand in
       let scratch = unless (not (loses_scratch x)) ScratchConflict in
@@ -47,6 +48,11 @@ module _ (L : Layout) where
         range = range;
         target = c.1;
       }
+  valid_other (Some x) m others e range = unless_none x.operands_valid BadRegister e
+
+  valid_single : (o : Option SingleInstruction) (m : Option MemoryInstruction) → cause_or o (memory_cause_or (declared L) m (Some BadOperator)) ≡ None → MemoryInRange m → OperandsValidOr o (ValidMemoryOr L m ⊥)
+  valid_single None None e range = absurd (cc)
+  valid_single None (Some x) e range = valid_other None (Some x) (Some BadOperator) e range
   valid_single (Some x) m e range = unless_none x.operands_valid BadRegister e
 
   block_of : (l : MachLabel) → target_label_cause L.block_count l ≡ None → IsBlock L l.0
@@ -85,6 +91,7 @@ module _ (L : Layout) where
   valid_step flags nominal depth after (Trap code) e range le = tt
   valid_step flags nominal depth after (TrapIf mask code) e range le = range.0
   valid_step flags nominal depth after Debugtrap e range le = tt
+  valid_step flags nominal depth after (Vector v) e range le = valid_other (single_instruction (Vector v)) (memory (Vector v)) (composite_cause v) (first_none (facility_cause flags (Vector v)) (cause_or (single_instruction (Vector v)) (memory_cause_or (declared L) (memory (Vector v)) (composite_cause v))) e).1 range.1
   valid_step flags nominal depth after i e range le = valid_single (single_instruction i) (memory i) (first_none (facility_cause flags i) (cause_or (single_instruction i) (memory_cause_or (declared L) (memory i) (Some BadOperator))) e).1 range.1
 
   -- each of some steps is fine

@@ -15,7 +15,7 @@ use Rattle.s390x_inst.specs.declared.args.MemArg.{MemArg}
 use Rattle.s390x_inst.specs.declared.args.MemArg.TheVariants.{BXD12, BXD20, Label, Constant, Symbol, RegOffset, InitialSPOffset, IncomingArgOffset, OutgoingArgOffset, SlotOffset, SpillOffset}
 use Rattle.s390x_inst.specs.declared.inst.Inst.TheVariants.{Mov64SImm32, LoadAddr}
 use Rattle.s390x_typed_steps.specs.General.{is_general}
-use Rattle.s390x_typed_steps.specs.Memory.{MemoryInstruction, StorageForm, RxForm, RsForm, SiForm, SilForm, type_of, address_form, fault_code}
+use Rattle.s390x_typed_steps.specs.Memory.{MemoryInstruction, StorageForm, RxForm, RsForm, SiForm, SilForm, VrxForm, FloatForm, type_of, address_form, fault_code}
 use Rattle.s390x_typed_steps.specs.Ranges.{OperandInRange}
 use Rattle.s390x_typed_steps.specs.Operands.{Finalized, offset_fits, no_register, scratch, is_numbered, fits_12, fits_20, fits_32, addressed, with_widened, widened, finalized, has_form, is_relative, loses_base, operand_general}
 use Rattle.s390x_typed_steps.specs.Causes.{is_helped, bound_cause, alignment_cause, boundary}
@@ -49,6 +49,8 @@ may_none (RxForm register short long relative) = tt
 may_none (RsForm first second short long) = refl
 may_none (SiForm imm short long) = refl
 may_none (SilForm bits opcode) = refl
+may_none (VrxForm register opcode mask) = tt
+may_none (FloatForm register short long) = tt
 
 -- where the rows have an index, or there is none
 may_index : (form : StorageForm) (accesses none : Bool) (index : ℕ) → (not (type_of form accesses).have_index && not none) ≡ false → (none ≡ true → index ≡ 0) → MayIndex form index
@@ -59,6 +61,8 @@ may_index (SiForm imm short long) accesses true index e zero = zero refl
 may_index (SiForm imm short long) accesses false index e zero = absurd (cc)
 may_index (SilForm bits opcode) accesses true index e zero = zero refl
 may_index (SilForm bits opcode) accesses false index e zero = absurd (cc)
+may_index (VrxForm register opcode mask) accesses none index e zero = tt
+may_index (FloatForm register short long) accesses none index e zero = tt
 
 pub and_false : (b : Bool) → (b && false) ≡ false
 and_false true = refl

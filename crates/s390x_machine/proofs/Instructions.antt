@@ -45,7 +45,7 @@ use Rattle.s390x_machine.proofs.OnRegisters.{computes_two, compares_two, copies_
 use Rattle.s390x_machine.proofs.OnImmediates.{one_of_halfword, one_of_word, compare_of_halfword, compare_of_word, three_halfword_runs, placed_halfword, placed_word, inserted_half, allocate_runs}
 use Rattle.s390x_machine.proofs.Rotating.{shift_runs, rotate_runs, test_runs}
 use Rattle.s390x_machine.proofs.StoppingSteps.{signed_coded, logical_coded, divide_runs, compare_trap_runs, compare_immediate_trap_runs, always_traps, traps_where, debug_stops}
-use Rattle.s390x_machine.proofs.VectorSteps.{vector_instruction_runs}
+use Rattle.s390x_machine.proofs.VectorComposites.{any_vector_runs}
 use Rattle.s390x_machine.proofs.Leading.{register_row, fence_runs, idle_runs, goto_runs, condbr_runs, label_runs, jump_by_table_runs, load_symbol_runs, loop_runs, opening_runs}
 use Rattle.s390x_machine.proofs.RegisterNumbers.{two_small, three_small, reused_small, output_small, mask_bits, access_small, pair_small, pair_small2, pair_tested_small, small_mask}
 
@@ -206,7 +206,7 @@ instruction_runs L k (CmpRX op rn mem) b operands_valid = compares_in_memory b (
 instruction_runs L k (AtomicRmw op rd rn mem) b operands_valid = operates b (alu_computation op) (atomic_rsy op) (atomic_rows op) rd rn mem (based_forms false true) (λ opcode. refl) (refl, refl, operands_valid)
 instruction_runs L k (AtomicCas32 rd ri rn mem) b operands_valid = swaps b Word (Some 0xba) (Some 0xeb14) swap_32 rd ri rn mem (based_forms true true) (refl, refl, refl, operands_valid)
 instruction_runs L k (AtomicCas64 rd ri rn mem) b operands_valid = swaps b Doubleword None (Some 0xeb30) swap_64 rd ri rn mem (based_forms false true) (refl, refl, refl, operands_valid)
-instruction_runs L k (Vector v) b operands_valid = vector_instruction_runs b v (refl, refl, operands_valid)
+instruction_runs L k (Vector v) b operands_valid = any_vector_runs b v (refl, refl, operands_valid)
 instruction_runs L k _ b operands_valid = absurd operands_valid
 
 pub step_runs : (L : Layout) (k : ℕ) (s : Step) → StepAt L k s → IsValidStep L s → StepRuns L k

@@ -56,3 +56,5 @@ pub mod Vectors
 pub mod VectorRows
 pub mod VectorLanes
 pub mod VectorSteps
+pub mod VectorStorage
+pub mod VectorComposites

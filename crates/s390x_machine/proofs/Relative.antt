@@ -17,7 +17,7 @@ use Rattle.s390x_format.specs.declared.kind.FormatKind.TheVariants.{RilB}
 use Rattle.s390x_format.specs.Formats.{length_of}
 use Rattle.s390x_format.specs.View.{fields_of}
 use Rattle.s390x_typed_steps.specs.MachineInstruction.{bytes_of, ril_b}
-use Rattle.s390x_typed_steps.specs.Memory.{StorageForm, RxForm, RsForm, SiForm, SilForm, type_of, storage_row}
+use Rattle.s390x_typed_steps.specs.Memory.{StorageForm, RxForm, RsForm, SiForm, SilForm, VrxForm, FloatForm, type_of, storage_row}
 use Rattle.s390x_typed_steps.specs.Operands.{is_relative, widened}
 use Rattle.s390x_typed_steps.specs.Parts.{CodePart, Relative, RelativeConstant, RelativeSymbol, ToBlock, part_size, trap_here, relative_part, relative_parts, access_parts}
 use Rattle.s390x_typed_steps.specs.Rows.{half_distance, part_bytes}
@@ -169,3 +169,5 @@ distant_stands L all (RxForm register short long (Some opcode)) accesses operati
 distant_stands L all (RsForm first_emit_cause second short long) accesses operation does have mem address d = absurd (cc)
 distant_stands L all (SiForm imm short long) accesses operation does have mem address d = absurd (cc)
 distant_stands L all (SilForm bits opcode) accesses operation does have mem address d = absurd (cc)
+distant_stands L all (VrxForm register opcode mask) accesses operation does have mem address d = absurd (cc)
+distant_stands L all (FloatForm register short long) accesses operation does have mem address d = absurd (cc)

@@ -7,7 +7,7 @@ use Rattle.std.proofs.lemmas.Bool.{and_parts}
 use Rattle.s390x_base.specs.Regs.{number_of, is_int}
 use Rattle.s390x_base.specs.declared.regs.Reg.{Reg}
 use Rattle.s390x_base.specs.declared.regs.Reg.TheVariants.{Real, Virtual}
-use Rattle.s390x_format.specs.declared.kind.FormatKind.TheVariants.{Rr, Rre, RrfAb, RrfCde, RiA, RiB, RieA, RieD, RieF, RieG, RilA, RilC, Rs, Rsy, RilB, Rx, Rxy, Si, Siy, Sil}
+use Rattle.s390x_format.specs.declared.kind.FormatKind.TheVariants.{Rr, Rre, RrfAb, RrfCde, RiA, RiB, RiC, RieA, RieD, RieF, RieG, RilA, RilC, Rs, Rsy, RilB, Rx, Rxy, Si, Siy, Sil, Vrx}
 use Rattle.s390x_format.specs.Layout.{SlotsFit}
 use Rattle.s390x_format.specs.Formats.{layout_of, length_of}
 use Rattle.s390x_format.specs.Fits.{fields_from}
@@ -16,7 +16,7 @@ use Rattle.s390x_format.proofs.Encoding.{listed}
 use Rattle.s390x_format.specs.Fetch.{machine_rows}
 use Rattle.s390x_format.specs.Encoded.{IsEncoded}
 use Rattle.s390x_typed_steps.specs.General.{is_general, is_nonzero, is_scratch}
-use Rattle.s390x_typed_steps.specs.MachineInstruction.{bytes_of, rr, rre, rrf_ab, rrf_cde, ri_a, ri_b, rie_a, rie_d, rie_f, rie_g, ril_a, ril_c, rs, rsy, ril_b, rx, rxy, si, siy, sil}
+use Rattle.s390x_typed_steps.specs.MachineInstruction.{bytes_of, rr, rre, rrf_ab, rrf_cde, ri_a, ri_b, ri_c, rie_a, rie_d, rie_f, rie_g, ril_a, ril_c, rs, rsy, ril_b, rx, rxy, si, siy, sil, vrx}
 use Rattle.s390x_typed_steps.specs.Rows.{half_distance}
 use Rattle.s390x_operations.specs.State.{State, wrapping_add64}
 use Rattle.s390x_operations.specs.Numbers.{low}
@@ -61,6 +61,9 @@ fits_rrf_ab opcode a b c o la lb lc = fields_from RrfAb (rrf_ab opcode a b c 0).
 pub fits_ril_c : (opcode mask half : ℕ) → opcode < 4096 → mask < 16 → half < 2 ^ 32 → SlotsFit (layout_of RilC) (ril_c opcode mask half).slots
 fits_ril_c opcode mask half o lm lh = fields_from RilC (ril_c opcode mask half).slots refl (omega arith, (omega arith, (omega arith, (omega arith, (omega arith, (omega arith, (omega arith, (omega arith, (omega arith, (omega arith, tt))))))))))
 
+pub fits_ri_c : (opcode mask half : ℕ) → opcode < 4096 → mask < 16 → half < 2 ^ 16 → SlotsFit (layout_of RiC) (ri_c opcode mask half).slots
+fits_ri_c opcode mask half o lm lh = fields_from RiC (ri_c opcode mask half).slots refl (omega arith, (omega arith, (omega arith, (omega arith, (omega arith, (omega arith, (omega arith, (omega arith, (omega arith, (omega arith, tt))))))))))
+
 pub fits_ril_b : (opcode a half : ℕ) → opcode < 4096 → a < 16 → half < 2 ^ 32 → SlotsFit (layout_of RilB) (ril_b opcode a half).slots
 fits_ril_b opcode a half o la lh = fields_from RilB (ril_b opcode a half).slots refl (omega arith, (omega arith, (omega arith, (omega arith, (omega arith, (omega arith, (omega arith, (omega arith, (omega arith, (omega arith, tt))))))))))
 
@@ -94,6 +97,9 @@ fits_rsy opcode a b base displacement o la lb lc ld = fields_from Rsy (rsy opcod
 pub fits_rxy : (opcode a base index displacement : ℕ) → opcode < 65536 → a < 16 → base < 16 → index < 16 → displacement < 2 ^ 20 → SlotsFit (layout_of Rxy) (rxy opcode a base index displacement).slots
 fits_rxy opcode a base index displacement o la lb lc ld = fields_from Rxy (rxy opcode a base index displacement).slots refl (omega arith, (omega arith, (omega arith, (omega arith, (omega arith, (omega arith, (omega arith, (omega arith, (omega arith, (omega arith, tt))))))))))
 
+pub fits_vrx : (opcode a base index mask displacement : ℕ) → opcode < 65536 → a < 32 → base < 16 → index < 16 → mask < 16 → displacement < 2 ^ 12 → SlotsFit (layout_of Vrx) (vrx opcode a base index mask displacement).slots
+fits_vrx opcode a base index mask displacement o la lb lc lm ld = fields_from Vrx (vrx opcode a base index mask displacement).slots refl (omega arith, (omega arith, (omega arith, (omega arith, (omega arith, (omega arith, (omega arith, (omega arith, (omega arith, (omega arith, tt))))))))))
+
 pub fits_rx : (opcode a base index displacement : ℕ) → opcode < 256 → a < 16 → base < 16 → index < 16 → displacement < 2 ^ 12 → SlotsFit (layout_of Rx) (rx opcode a base index displacement).slots
 fits_rx opcode a base index displacement o la lb lc ld = fields_from Rx (rx opcode a base index displacement).slots refl (omega arith, (omega arith, (omega arith, (omega arith, (omega arith, (omega arith, (omega arith, (omega arith, (omega arith, (omega arith, tt))))))))))
 
@@ -122,6 +128,10 @@ bcr_listed a b = listed machine_rows Rr (rr 0x07 a b).slots (omega arith) (refl,
 pub brcl_listed : (mask half : ℕ) → IsEncoded machine_rows RilC (ril_c 0xc04 mask half).slots
 unfolding machine_rows row_for
 brcl_listed mask half = listed machine_rows RilC (ril_c 0xc04 mask half).slots (omega arith) (refl, refl, refl)
+
+pub brc_listed : (mask half : ℕ) → IsEncoded machine_rows RiC (ri_c 0xa74 mask half).slots
+unfolding machine_rows row_for
+brc_listed mask half = listed machine_rows RiC (ri_c 0xa74 mask half).slots (omega arith) (refl, refl, refl)
 
 pub larl_listed : (a half : ℕ) → IsEncoded machine_rows RilB (ril_b 0xc00 a half).slots
 unfolding machine_rows row_for

@@ -10,12 +10,14 @@ use Rattle.s390x_base.specs.declared.trap.TrapKind.{TrapKind}
 use Rattle.s390x_inst.specs.declared.args.MemArg.{MemArg}
 use Rattle.s390x_inst.specs.declared.args.MemArg.TheVariants.{BXD12, BXD20}
 use Rattle.s390x_format.specs.declared.kind.FormatKind.{FormatKind}
-use Rattle.s390x_format.specs.declared.kind.FormatKind.TheVariants.{Rx, Rxy, Rs, Rsy, Si, Siy, Sil}
+use Rattle.s390x_format.specs.declared.kind.FormatKind.TheVariants.{Rx, Rxy, Rs, Rsy, Si, Siy, Sil, Vrx}
+use Rattle.s390x_format.specs.declared.row.Allowed.{Allowed}
+use Rattle.s390x_format.specs.Rows.{is_allowed}
 use Rattle.s390x_format.specs.Formats.{length_of}
 use Rattle.s390x_format.specs.View.{fields_of, disp_of}
 use Rattle.s390x_typed_steps.specs.General.{low_12, low_displacement}
-use Rattle.s390x_typed_steps.specs.MachineInstruction.{MachineInstruction, rx, rxy, rs, rsy, si, siy, sil}
-use Rattle.s390x_typed_steps.specs.Memory.{StorageForm, RxForm, RsForm, SiForm, SilForm, type_of}
+use Rattle.s390x_typed_steps.specs.MachineInstruction.{MachineInstruction, rx, rxy, rs, rsy, si, siy, sil, vrx}
+use Rattle.s390x_typed_steps.specs.Memory.{StorageForm, RxForm, RsForm, SiForm, SilForm, VrxForm, FloatForm, type_of}
 use Rattle.s390x_typed_steps.specs.Parts.{CodePart, Row, Trapping, TrapHere, part_size, parts_size, access_parts, operand_parts, step_parts}
 use Rattle.s390x_typed_steps.specs.Rows.{part_bytes}
 use Rattle.s390x_typed_steps.specs.Steps.{Step}
@@ -38,13 +40,14 @@ use Rattle.s390x_machine.specs.Semantics.{action}
 use Rattle.s390x_machine.specs.Operands.{indexed, based}
 use Rattle.s390x_machine.specs.CodeAt.{CodeAt, AllCodeAt, PartReaches, PartsReach}
 use Rattle.s390x_machine.proofs.Addresses.{sum_more}
-use Rattle.s390x_machine.proofs.Listing.{OpcodeRow, OpcodeRows, few_digits}
+use Rattle.s390x_machine.proofs.Listing.{ListedRow, OpcodeRow, OpcodeRows, few_digits}
 use Rattle.s390x_machine.proofs.SingleInstruction.{meant_at}
 use Rattle.s390x_machine.proofs.Composites.{ChangesTo, row_then, compute_changes}
 use Rattle.s390x_machine.proofs.Fetching.{StandsAt}
 use Rattle.s390x_machine.proofs.Operands.{read_12, read_20, bits_12, based_indexed}
-use Rattle.s390x_machine.proofs.Rows.{fits_rx, fits_rxy, fits_rs, fits_rsy, fits_si, fits_siy, fits_sil}
-use Rattle.s390x_machine.proofs.Simulation.{RowAt, Inside, Simulates, Coded}
+use Rattle.s390x_machine.proofs.Rows.{fits_rx, fits_rxy, fits_rs, fits_rsy, fits_si, fits_siy, fits_sil, fits_vrx}
+use Rattle.s390x_machine.proofs.Simulation.{RowAt, Inside, Simulates, Coded, acts_as}
+use Rattle.s390x_operations.specs.Effects.{Refines}
 use Rattle.s390x_machine.proofs.Standing.{PartsStand, part_length, part_even, step_stands, offset_even}
 use Rattle.s390x_machine.proofs.Trapping.{code_within, within_image}
 
@@ -87,11 +90,25 @@ pub record HalfwordForm (bits opcode : ℕ) (operation : ℕ → Registers → O
   pub row : OpcodeRow Sil 65536 opcode semantics
   pub acts : (base d : ℕ) (r : Registers) (p : ℕ) → action semantics (fields_of Sil (opcode ∷ base ∷ 0 ∷ 0 ∷ 0 ∷ 0 ∷ 0 ∷ 0 ∷ bits ∷ d ∷ [])) r p ≡ Perform (operation (based r base (disp_of d)) r)
 
+-- with a vector register and a mask; the row does the operation, or leaves less free
+pub record VectorForm (register opcode mask : ℕ) (operation : ℕ → Registers → Operation) : Type 0 where
+  pub few : register < 32
+  pub few_mask : mask < 16
+  pub semantics : RowSemantics
+  pub allowed : Allowed
+  pub row : ListedRow Vrx allowed 65536 opcode semantics
+  pub allows : (base index d : ℕ) → is_allowed allowed (vrx opcode register base index mask d).slots ≡ true
+  pub does : ℕ → Registers → Operation
+  pub acts : (base index d : ℕ) (r : Registers) (p : ℕ) → action semantics (fields_of Vrx (vrx opcode register base index mask d).slots) r p ≡ Perform (does (indexed r base index (disp_of d)) r)
+  pub refines : (a : ℕ) (r : Registers) → Refines (does a r) (operation a r)
+
 abbrev pub FormDoes : StorageForm → (ℕ → Registers → Operation) → Type 0
 FormDoes (RxForm register short long relative) operation = IndexedForm register short long operation
 FormDoes (RsForm first second short long) operation = BasedForm first second short long operation
 FormDoes (SiForm imm short long) operation = ByteForm imm short long operation
 FormDoes (SilForm bits opcode) operation = HalfwordForm bits opcode operation
+FormDoes (VrxForm register opcode mask) operation = VectorForm register opcode mask operation
+FormDoes (FloatForm register short long) operation = IndexedForm register (Some short) (Some long) operation
 
 -- ---- the parts of an access
 
@@ -119,6 +136,12 @@ MayIndex (RxForm register short long relative) index = Unit {0}
 MayIndex (RsForm first second short long) index = index ≡ 0
 MayIndex (SiForm imm short long) index = index ≡ 0
 MayIndex (SilForm bits opcode) index = index ≡ 0
+MayIndex (VrxForm register opcode mask) index = Unit {0}
+MayIndex (FloatForm register short long) index = Unit {0}
+
+-- a row that does an operation does each freer one
+looser_row : (L : Layout) (p size : ℕ) (does operation : Registers → Operation) → ((r : Registers) → Refines (does r) (operation r)) → RowAt L p (λ r. Perform (does r)) size → RowAt L p (λ r. Perform (operation r)) size
+looser_row L p size does operation refines row = λ s at loaded event t step. acts_as (Perform (does s.core.registers)) (operation s.core.registers) size s event t (refines s.core.registers) (row s at loaded event t step)
 
 module _ (L : Layout) (all : AllCodeAt L) (operation : ℕ → Registers → Operation) where
   -- a row of a base and a displacement does it, where there is no index
@@ -161,6 +184,26 @@ module _ (L : Layout) (all : AllCodeAt L) (operation : ℕ → Registers → Ope
     row = λ offset even st reaches. meant_at L all offset even (sil opcode (number_of base) (low_12 d) bits) does.semantics (λ r. operation (indexed r (number_of base) (number_of index) (pos d)) r) does.row (fits_sil opcode (number_of base) (low_12 d) bits (few_digits does.row.0) lb (bits_12 d) does.few) refl (λ r p.
         does.acts (number_of base) (low_12 d) r p ∙ unindexed r (number_of base) (number_of index) (low_12 d) (pos d) (read_12 d le) may) st;
   }
+  stands_12 (VrxForm register opcode mask) does accesses have base index d flags lb li may le = record {
+    part = Row (vrx opcode register (number_of base) (number_of index) mask (low_12 d));
+    is = λ code. access_row (vrx opcode register (number_of base) (number_of index) mask (low_12 d)) code;
+    some = omega arith;
+    untrapped = λ p. refl;
+    row = λ offset even st reaches.
+        let x = vrx opcode register (number_of base) (number_of index) mask (low_12 d) in
+        let there : Registers → ℕ = λ r. indexed r (number_of base) (number_of index) (pos d) in
+        looser_row L (wrapping_add64 L.image.base offset) 6 (λ r. does.does (there r) r) (λ r. operation (there r) r) (λ r. does.refines (there r) r)
+        (meant_at L all offset even x does.semantics (λ r. does.does (there r) r) does.row (fits_vrx opcode register (number_of base) (number_of index) mask (low_12 d) (few_digits does.row.0) does.few lb li does.few_mask (bits_12 d)) (does.allows (number_of base) (number_of index) (low_12 d)) (λ r p.
+        does.acts (number_of base) (number_of index) (low_12 d) r p ∙ ap (λ z. Perform (does.does (indexed r (number_of base) (number_of index) z) r)) (read_12 d le)) st);
+  }
+  stands_12 (FloatForm register opcode long) does accesses have base index d flags lb li may le = record {
+    part = Row (rx opcode register (number_of base) (number_of index) (low_12 d));
+    is = λ code. access_row (rx opcode register (number_of base) (number_of index) (low_12 d)) code;
+    some = omega arith;
+    untrapped = λ p. refl;
+    row = λ offset even st reaches. meant_at L all offset even (rx opcode register (number_of base) (number_of index) (low_12 d)) does.semantics (λ r. operation (indexed r (number_of base) (number_of index) (pos d)) r) does.short_rows (fits_rx opcode register (number_of base) (number_of index) (low_12 d) (few_digits does.short_rows.0) does.few lb li (bits_12 d)) refl (λ r p.
+        does.acts Rx opcode (number_of base) (number_of index) (low_12 d) r p ∙ ap (λ z. Perform (operation (indexed r (number_of base) (number_of index) z) r)) (read_12 d le)) st;
+  }
 
   pub stands_20 : (form : StorageForm) → FormDoes form operation → (accesses : Bool) → (type_of form accesses).have_d20 ≡ true → (base index : Reg) (z : ℤ) (flags : MachMemFlags) → number_of base < 16 → number_of index < 16 → MayIndex form (number_of index) → negsuc 524287 ≤ℤ z → z ≤ℤ pos 524287 →
       low_displacement z < 2 ^ 20 → Stands L form (BXD20 base index z flags) operation (λ r. indexed r (number_of base) (number_of index) z)
@@ -192,6 +235,15 @@ module _ (L : Layout) (all : AllCodeAt L) (operation : ℕ → Registers → Ope
         does.acts Siy opcode (number_of base) (low_displacement z) r p ∙ unindexed r (number_of base) (number_of index) (low_displacement z) z (read_20 z least most) may) st;
   }
   stands_20 (SilForm bits opcode) does accesses have base index z flags lb li may least most lz = absurd (cc)
+  stands_20 (VrxForm register opcode mask) does accesses have base index z flags lb li may least most lz = absurd (cc)
+  stands_20 (FloatForm register short opcode) does accesses have base index z flags lb li may least most lz = record {
+    part = Row (rxy opcode register (number_of base) (number_of index) (low_displacement z));
+    is = λ code. access_row (rxy opcode register (number_of base) (number_of index) (low_displacement z)) code;
+    some = omega arith;
+    untrapped = λ p. refl;
+    row = λ offset even st reaches. meant_at L all offset even (rxy opcode register (number_of base) (number_of index) (low_displacement z)) does.semantics (λ r. operation (indexed r (number_of base) (number_of index) z) r) does.long_rows (fits_rxy opcode register (number_of base) (number_of index) (low_displacement z) (few_digits does.long_rows.0) does.few lb li lz) refl (λ r p.
+        does.acts Rxy opcode (number_of base) (number_of index) (low_displacement z) r p ∙ ap (λ y. Perform (operation (indexed r (number_of base) (number_of index) y) r)) (read_20 z least most)) st;
+  }
 
 -- ---- the bytes of a step: rows, and then an access
 

@@ -129,14 +129,14 @@ left_known d x old = record {
 
 -- ---- an element's row
 
-size_again : (e : ElementSize) → size_of_code (code_of_size e) ≡ e
+pub size_again : (e : ElementSize) → size_of_code (code_of_size e) ≡ e
 size_again Byte = refl
 size_again Halfword = refl
 size_again Word = refl
 size_again Doubleword = refl
 size_again Quadword = refl
 
-code_few : (e : ElementSize) → code_of_size e < 16
+pub code_few : (e : ElementSize) → code_of_size e < 16
 code_few Byte = omega arith
 code_few Halfword = omega arith
 code_few Word = omega arith

@@ -50,7 +50,7 @@ use Rattle.s390x_typed_steps.specs.VectorOpcodes.{binary_row, unary_row, shift_r
 use Rattle.s390x_machine.specs.declared.semantics.RowSemantics.TheVariants.{Elements, JoinRegisters, MoveLeft}
 use Rattle.s390x_machine.specs.declared.semantics.RowSemantics.TheVariants as Row
 use Rattle.s390x_machine.specs.declared.semantics.Action.TheVariants.{Perform}
-use Rattle.s390x_machine.specs.CodeAt.{OperandsValidOr}
+use Rattle.s390x_machine.specs.CodeAt.{AllCodeAt, OperandsValidOr}
 use Rattle.s390x_machine.specs.Computations.{with_rule}
 use Rattle.s390x_machine.specs.Layout.{Layout, step_address}
 use Rattle.s390x_machine.specs.Operands.{based}
@@ -157,7 +157,7 @@ takes_second_alone O.Move = true
 takes_second_alone (O.CompareElement sign size) = true
 takes_second_alone _ = false
 
-no_third : (o : VectorOperation) → takes_second_alone o ≡ true → (t a b c d : ℕ) → Refines (computed_vector o t a b c d) (computed_vector o t a b 0 0)
+pub no_third : (o : VectorOperation) → takes_second_alone o ≡ true → (t a b c d : ℕ) → Refines (computed_vector o t a b c d) (computed_vector o t a b 0 0)
 no_third (O.Unary operator size) h t a b c d = unused (O.Unary operator size) t a b c d b 0 0 refl refl refl refl refl
 no_third (O.Unpack sign half size) h t a b c d = unused (O.Unpack sign half size) t a b c d b 0 0 refl refl refl refl refl
 no_third (O.Replicate size index) h t a b c d = unused (O.Replicate size index) t a b c d b 0 0 refl refl refl refl refl
@@ -195,7 +195,7 @@ unfolding from_lanes
 whole_vector a b c d = omega arith
 
 -- a whole register, of which some bits are told
-moves_alone : (t known a b c d : ℕ) → Refines (computed_vector O.Move t a b c d) (with_rule Kept (Effect.PutVector t known b))
+pub moves_alone : (t known a b c d : ℕ) → Refines (computed_vector O.Move t a b c d) (with_rule Kept (Effect.PutVector t known b))
 moves_alone t known a b c d = record {
   access = refl;
   refused = refl;
@@ -252,25 +252,29 @@ bit_small Word bit lt = omega (arith, lt)
 bit_small Doubleword bit lt = omega (arith, lt)
 bit_small Quadword bit lt = omega (arith, lt)
 
-reused_vector : (output input : Reg) → IsTrue (reuses_vector output input) → number_of output < 32
+pub reused_vector : (output input : Reg) → IsTrue (reuses_vector output input) → number_of output < 32
 reused_vector output input h = (two_vectors output input (and_parts (is_vector output && is_vector input) (nat_eq (number_of output) (number_of input)) h).0).0
 
 -- ---- one row
 
 -- what the machine computes there
-abbrev elements_computed : MachineInstruction → VectorOperation → Registers → Operation
+abbrev pub elements_computed : MachineInstruction → VectorOperation → Registers → Operation
 elements_computed x o r =
     let f = fields_of x.format x.slots in computed_vector o (register_field f 0) (vector_field f r 0) (vector_field f r 1) (vector_field f r 2) (vector_field f r 3)
 
 abbrev stop_of : Bool → Option TrapKind
 stop_of divides = cond divides (Some IntegerDivisionByZero) None
 
+-- a row on vector registers does its operation wherever it stands
+pub vector_there : (L : Layout) (all : AllCodeAt L) (offset : ℕ) (even : offset % 2 ≡ 0) {code : ℕ} (x : MachineInstruction) (o : VectorOperation) → ElementsRow code x o → SlotsFit (layout_of x.format) x.slots → DoesThere L all offset even x (elements_computed x o)
+vector_there L all offset even x o row fit st =
+    let f = fields_of x.format x.slots in
+    meant_at L all offset even x (Elements (opcode_in x)) (elements_computed x o) (elements_listed row, refl) fit (elements_allowed row) (λ r p.
+    ap (λ q. on_elements q (register_field f 0) (vector_field f r 0) (vector_field f r 1) (vector_field f r 2) (vector_field f r 3)) (elements_operation row)) st
+
 module _ {L : Layout} {k : ℕ} {s : Step} (b : StepAt L k s) where
   vector_at : {code : ℕ} (x : MachineInstruction) (o : VectorOperation) → ElementsRow code x o → SlotsFit (layout_of x.format) x.slots → DoesThere L b.all (L.offsets.step k) (step_even b) x (elements_computed x o)
-  vector_at x o row fit st =
-      let f = fields_of x.format x.slots in
-      meant_at L b.all (L.offsets.step k) (step_even b) x (Elements (opcode_in x)) (elements_computed x o) (elements_listed row, refl) fit (elements_allowed row) (λ r p.
-      ap (λ q. on_elements q (register_field f 0) (vector_field f r 0) (vector_field f r 1) (vector_field f r 2) (vector_field f r 3)) (elements_operation row)) st
+  vector_at x o row fit st = vector_there L b.all (L.offsets.step k) (step_even b) x o row fit st
 
   -- a row on vector registers whose operation is the step's or is less free; where it divides, a trap is recorded at its last byte
   pub vector_runs : {code : ℕ} (x : MachineInstruction) (o : VectorOperation) (operation : Registers → Operation) (divides : Bool) → ElementsRow code x o → SlotsFit (layout_of x.format) x.slots → ((r : Registers) → Refines (elements_computed x o r) (operation r)) → ((r : Registers) → ValuesCoded (operation r) (stop_codes divides)) →

@@ -4,7 +4,7 @@ use Rattle.std.specs.Int.{w32, cast_signed}
 use Rattle.s390x_buffer.specs.State.{is_alignment}
 use Rattle.s390x_base.specs.declared.ir.MachLabel.{MachLabel}
 use Rattle.s390x_inst.specs.declared.inst.Inst.{Inst}
-use Rattle.s390x_inst.specs.declared.inst.Inst.TheVariants.{Jump, CondBr, IndirectBr, Ret, JTSequence, Nop0, LabelAddress, LoadSymbolReloc, Trap, TrapIf, Debugtrap, Args, Rets, DummyUse, SequencePoint}
+use Rattle.s390x_inst.specs.declared.inst.Inst.TheVariants.{Jump, CondBr, IndirectBr, Ret, JTSequence, Nop0, LabelAddress, LoadSymbolReloc, Trap, TrapIf, Debugtrap, Args, Rets, DummyUse, SequencePoint, Vector}
 use Rattle.s390x_typed_steps.specs.SingleInstruction.{SingleInstruction, single_instruction}
 use Rattle.s390x_typed_steps.specs.General.{is_general, is_nonzero, is_scratch}
 use Rattle.s390x_typed_steps.specs.Causes.{loses_scratch, target_cause}
@@ -13,6 +13,7 @@ use Rattle.s390x_typed_steps.specs.Operands.{has_form, operand_general, offset_f
 use Rattle.s390x_typed_steps.specs.Ranges.{IsConditionMask, OperandInRange}
 use Rattle.s390x_typed_steps.specs.Steps.{Step, Plain, Opening, Back, Break}
 use Rattle.s390x_typed_steps.specs.Parts.{CodePart, RelativeSymbol, part_size, step_parts, step_size}
+use Rattle.s390x_typed_steps.specs.VectorComposite.{composite_cause}
 use Rattle.s390x_typed_steps.specs.Rows.{step_bytes}
 use Rattle.s390x_typed_steps.specs.Traps.{step_traps, first_code}
 use Rattle.s390x_operations.specs.Numbers.{low}
@@ -48,6 +49,7 @@ IsValidBranch L (LoadSymbolReloc rd reloc) = IsTrue (is_general rd)
 IsValidBranch L (Trap code) = Unit {0}
 IsValidBranch L (TrapIf mask code) = IsConditionMask mask
 IsValidBranch L Debugtrap = Unit {0}
+IsValidBranch L (Vector v) = composite_cause v ≡ None
 IsValidBranch L _ = ⊥
 
 -- of an instruction that is one machine instruction, that its registers may stand there; of another one, what is asked of it

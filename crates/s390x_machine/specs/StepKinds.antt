@@ -27,7 +27,7 @@ use Rattle.s390x_typed_steps.specs.Parts.{name_in, offset_in}
 use Rattle.s390x_typed_steps.specs.General.{low_halfword, low_word, low_byte, four_bits, rotation}
 use Rattle.s390x_inst.specs.declared.inst.Inst.TheVariants.{Vector}
 use Rattle.s390x_typed_steps.specs.VectorInstruction.{divides}
-use Rattle.s390x_machine.specs.VectorSteps.{vector_operation}
+use Rattle.s390x_machine.specs.VectorSteps.{ConditionalOperation, conditional_operation, vector_operation}
 use Rattle.s390x_machine.specs.Layout.{Layout, block_address}
 use Rattle.s390x_typed_steps.specs.Steps.{Step, Plain, Opening, Back, Break}
 
@@ -185,7 +185,12 @@ performed_by L (Some x) = performed_at x (operand_address L x.operand)
 abbrev pub performed_in_memory : Layout → Inst → Option Performed
 performed_in_memory L i = performed_by L (operand_step i)
 
--- one that goes elsewhere or ends the run
+-- an operation under a condition
+abbrev pub where_kind : Option ConditionalOperation → StepKind
+where_kind None = Unsupported
+where_kind (Some x) = PerformsWhere x.mask x.operation
+
+-- one that goes elsewhere or ends the run, or is several operations
 abbrev pub branch_kind : Inst → StepKind
 branch_kind (Jump dest) = GoesTo dest.0
 branch_kind (CondBr taken not_taken mask) = Chooses mask taken.0 not_taken.0
@@ -200,6 +205,7 @@ branch_kind SequencePoint = Silent
 branch_kind (Trap code) = TrapsAlways code
 branch_kind (TrapIf mask code) = TrapsWhere mask code
 branch_kind Debugtrap = DebugStops
+branch_kind (Vector v) = where_kind (conditional_operation v)
 branch_kind _ = Unsupported
 
 -- an instruction that is one operation performs it; another one has its own kind

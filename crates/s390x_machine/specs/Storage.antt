@@ -10,9 +10,14 @@ use Rattle.s390x_inst.specs.declared.ops.CmpOp.{CmpOp}
 use Rattle.s390x_inst.specs.declared.ops.CmpOp.TheVariants as C
 use Rattle.s390x_inst.specs.declared.inst.Inst.{Inst}
 use Rattle.s390x_inst.specs.declared.inst.Inst.TheVariants.{AluRX, CmpRX, Load32, Load32ZExt8, Load32SExt8, Load32ZExt16, Load32SExt16, Load64, Load64ZExt8, Load64SExt8, Load64ZExt16, Load64SExt16, Load64ZExt32, Load64SExt32, LoadRev16, LoadRev32, LoadRev64}
-use Rattle.s390x_inst.specs.declared.inst.Inst.TheVariants.{Store8, Store16, Store32, Store64, StoreRev16, StoreRev32, StoreRev64, StoreImm8, StoreImm16, StoreImm32SExt16, StoreImm64SExt16, LoadMultiple64, StoreMultiple64, LoadAddr, AtomicRmw, AtomicCas32, AtomicCas64}
+use Rattle.s390x_inst.specs.declared.inst.Inst.TheVariants.{Store8, Store16, Store32, Store64, StoreRev16, StoreRev32, StoreRev64, StoreImm8, StoreImm16, StoreImm32SExt16, StoreImm64SExt16, LoadMultiple64, StoreMultiple64, LoadAddr, AtomicRmw, AtomicCas32, AtomicCas64, Vector}
+use Rattle.s390x_inst.specs.declared.vec_inst.VecInst.{VecInst}
+use Rattle.s390x_inst.specs.declared.vec_inst.VecInst.TheVariants.{VecLoad, VecLoadRev, VecLoadByte16Rev, VecLoadByte32Rev, VecLoadByte64Rev, VecLoadElt16Rev, VecLoadElt32Rev, VecLoadElt64Rev, VecStore, VecStoreRev, VecStoreByte16Rev, VecStoreByte32Rev, VecStoreByte64Rev, VecStoreElt16Rev, VecStoreElt32Rev, VecStoreElt64Rev}
+use Rattle.s390x_inst.specs.declared.vec_inst.VecInst.TheVariants.{VecLoadReplicate, VecLoadReplicateRev, VecLoadLane, VecLoadLaneRev, VecLoadLaneUndef, VecLoadLaneRevUndef, VecStoreLane, VecStoreLaneRev}
+use Rattle.s390x_lanes.specs.declared.size.ElementSize.{ElementSize}
 use Rattle.s390x_lanes.specs.declared.operation.Signedness.TheVariants.{Signed, Unsigned}
 use Rattle.s390x_typed_steps.specs.General.{low_byte, low_halfword}
+use Rattle.s390x_typed_steps.specs.Memory.{is_left_lane}
 use Rattle.s390x_typed_steps.specs.Operands.{fits_12, fits_20, is_relative}
 use Rattle.s390x_typed_steps.specs.declared.mem_inst_type.MemInstType.{MemInstType}
 use Rattle.s390x_operations.specs.Bits.{extended}
@@ -27,13 +32,16 @@ use Rattle.s390x_operations.specs.declared.operand.Source.TheVariants.{Memory as
 use Rattle.s390x_operations.specs.declared.operand.Operand.{Operand}
 use Rattle.s390x_operations.specs.declared.operator.Operator.TheVariants.{Move}
 use Rattle.s390x_operations.specs.declared.effect.Effect.{Effect}
-use Rattle.s390x_operations.specs.declared.effect.Effect.TheVariants.{Compute, Compare, Store, LoadAndOperate, CompareAndSwap, LoadMultiple, StoreMultiple}
+use Rattle.s390x_operations.specs.declared.effect.Effect.TheVariants.{Compute, Compare, Store, LoadAndOperate, CompareAndSwap, LoadMultiple, StoreMultiple, LoadVector, StoreVector}
+use Rattle.s390x_operations.specs.declared.effect.VectorLayout.{VectorLayout}
 use Rattle.s390x_operations.specs.declared.effect.CodeRule.{CodeRule}
 use Rattle.s390x_operations.specs.declared.effect.CodeRule.TheVariants.{Kept, Set}
 use Rattle.s390x_operations.specs.declared.effect.Operation.{Operation}
 use Rattle.s390x_machine.specs.Computations.{Second, unsigned_word, signed_word, signed_halfword, unsigned_halfword, doubleword, Computation, alu_computation, alu_two_rule, Comparison, comparison, with_rule, operand_of}
 use Rattle.s390x_machine.specs.Layout.{Layout, block_address, constant_address}
 use Rattle.s390x_machine.specs.Operands.{value_in, based, indexed, values_from}
+use Rattle.s390x_machine.specs.Semantics.{all_bits}
+use Rattle.s390x_machine.specs.VectorSteps.{elements_of, lane_bits}
 
 -- ---- addresses
 
@@ -130,6 +138,14 @@ operates_at c d n address r = with_rule Set (LoadAndOperate c.operator c.size d 
 abbrev pub swaps_at : Size → (d n address : ℕ) → Registers → Operation
 swaps_at size d n address r = with_rule Set (CompareAndSwap size d (value_in size r d) (value_in size r n) address)
 
+-- vector register d becomes what lies there, of which some bits are told
+abbrev pub loads_vector : VectorLayout → (known d address : ℕ) → Registers → Operation
+loads_vector layout known d address r = with_rule Kept (LoadVector layout d (r.vector d) known address)
+
+-- the memory becomes vector register d
+abbrev pub stores_vector : VectorLayout → (d address : ℕ) → Registers → Operation
+stores_vector layout d address r = with_rule Kept (StoreVector layout (r.vector d) address)
+
 -- ---- an operand that has to be aligned
 
 -- the same place in memory, on a boundary
@@ -173,6 +189,14 @@ cmp_forms C.CmpL32Ext16 = indexed_forms false false true
 cmp_forms C.CmpL64Ext16 = indexed_forms false false true
 cmp_forms op = indexed_forms (is_word (comparison op).size) true true
 
+-- rows on vector registers have a displacement of 12 bits
+abbrev pub vector_forms : MemInstType
+vector_forms = indexed_forms true false false
+
+-- the leftmost word or doubleword of a float register has rows with one of 20 bits too
+abbrev pub lane_forms : (size lane register : ℕ) → MemInstType
+lane_forms size lane register = indexed_forms true (is_left_lane size lane register) false
+
 -- ---- the instructions
 
 -- what an instruction does with its operand in memory
@@ -196,6 +220,38 @@ accesses_at forms mem operation = Some (record { operand = mem; forms = forms; a
 abbrev pub takes_address : MemArg → (ℕ → Registers → Operation) → Option OperandStep
 takes_address mem operation =
     Some (record { operand = mem; forms = record { have_d12 = true; have_d20 = true; have_pcrel = true; have_unaligned_pcrel = true; have_index = true }; accesses = false; operation = operation })
+
+-- loads and stores of one element of a vector register
+abbrev pub lane_operand_step : VecInst → Option OperandStep
+lane_operand_step (VecLoadLane size rd ri mem lane) = accesses_at vector_forms mem (loads_vector (VectorLayout.Element (elements_of size) lane false) all_bits (number_of rd))
+lane_operand_step (VecLoadLaneRev size rd ri mem lane) = accesses_at vector_forms mem (loads_vector (VectorLayout.Element (elements_of size) lane true) all_bits (number_of rd))
+lane_operand_step (VecLoadLaneUndef size rd mem lane) = accesses_at (lane_forms size lane (number_of rd)) mem (loads_vector (VectorLayout.Element (elements_of size) lane false) (lane_bits (elements_of size) lane) (number_of rd))
+lane_operand_step (VecLoadLaneRevUndef size rd mem lane) = accesses_at vector_forms mem (loads_vector (VectorLayout.Element (elements_of size) lane true) (lane_bits (elements_of size) lane) (number_of rd))
+lane_operand_step (VecStoreLane size rd mem lane) = accesses_at (lane_forms size lane (number_of rd)) mem (stores_vector (VectorLayout.Element (elements_of size) lane false) (number_of rd))
+lane_operand_step (VecStoreLaneRev size rd mem lane) = accesses_at vector_forms mem (stores_vector (VectorLayout.Element (elements_of size) lane true) (number_of rd))
+lane_operand_step _ = None
+
+-- those of vector registers
+abbrev pub vector_operand_step : VecInst → Option OperandStep
+vector_operand_step (VecLoad rd mem) = accesses_at vector_forms mem (loads_vector VectorLayout.Whole all_bits (number_of rd))
+vector_operand_step (VecLoadRev rd mem) = accesses_at vector_forms mem (loads_vector (VectorLayout.ReversedBytes ElementSize.Quadword) all_bits (number_of rd))
+vector_operand_step (VecLoadByte16Rev rd mem) = accesses_at vector_forms mem (loads_vector (VectorLayout.ReversedBytes ElementSize.Halfword) all_bits (number_of rd))
+vector_operand_step (VecLoadByte32Rev rd mem) = accesses_at vector_forms mem (loads_vector (VectorLayout.ReversedBytes ElementSize.Word) all_bits (number_of rd))
+vector_operand_step (VecLoadByte64Rev rd mem) = accesses_at vector_forms mem (loads_vector (VectorLayout.ReversedBytes ElementSize.Doubleword) all_bits (number_of rd))
+vector_operand_step (VecLoadElt16Rev rd mem) = accesses_at vector_forms mem (loads_vector (VectorLayout.ReversedElements ElementSize.Halfword) all_bits (number_of rd))
+vector_operand_step (VecLoadElt32Rev rd mem) = accesses_at vector_forms mem (loads_vector (VectorLayout.ReversedElements ElementSize.Word) all_bits (number_of rd))
+vector_operand_step (VecLoadElt64Rev rd mem) = accesses_at vector_forms mem (loads_vector (VectorLayout.ReversedElements ElementSize.Doubleword) all_bits (number_of rd))
+vector_operand_step (VecStore rd mem) = accesses_at vector_forms mem (stores_vector VectorLayout.Whole (number_of rd))
+vector_operand_step (VecStoreRev rd mem) = accesses_at vector_forms mem (stores_vector (VectorLayout.ReversedBytes ElementSize.Quadword) (number_of rd))
+vector_operand_step (VecStoreByte16Rev rd mem) = accesses_at vector_forms mem (stores_vector (VectorLayout.ReversedBytes ElementSize.Halfword) (number_of rd))
+vector_operand_step (VecStoreByte32Rev rd mem) = accesses_at vector_forms mem (stores_vector (VectorLayout.ReversedBytes ElementSize.Word) (number_of rd))
+vector_operand_step (VecStoreByte64Rev rd mem) = accesses_at vector_forms mem (stores_vector (VectorLayout.ReversedBytes ElementSize.Doubleword) (number_of rd))
+vector_operand_step (VecStoreElt16Rev rd mem) = accesses_at vector_forms mem (stores_vector (VectorLayout.ReversedElements ElementSize.Halfword) (number_of rd))
+vector_operand_step (VecStoreElt32Rev rd mem) = accesses_at vector_forms mem (stores_vector (VectorLayout.ReversedElements ElementSize.Word) (number_of rd))
+vector_operand_step (VecStoreElt64Rev rd mem) = accesses_at vector_forms mem (stores_vector (VectorLayout.ReversedElements ElementSize.Doubleword) (number_of rd))
+vector_operand_step (VecLoadReplicate size rd mem) = accesses_at vector_forms mem (loads_vector (VectorLayout.Replicated (elements_of size) false) all_bits (number_of rd))
+vector_operand_step (VecLoadReplicateRev size rd mem) = accesses_at vector_forms mem (loads_vector (VectorLayout.Replicated (elements_of size) true) all_bits (number_of rd))
+vector_operand_step v = lane_operand_step v
 
 -- the instructions with an operand in memory
 abbrev pub operand_step : Inst → Option OperandStep
@@ -233,4 +289,5 @@ operand_step (StoreMultiple64 rt rt2 mem) = accesses_at (based_forms false true)
 operand_step (AtomicRmw op rd rn mem) = accesses_at (based_forms false true) mem (operates_at (alu_computation op) (number_of rd) (number_of rn))
 operand_step (AtomicCas32 rd ri rn mem) = accesses_at (based_forms true true) mem (swaps_at Word (number_of rd) (number_of rn))
 operand_step (AtomicCas64 rd ri rn mem) = accesses_at (based_forms false true) mem (swaps_at Doubleword (number_of rd) (number_of rn))
+operand_step (Vector v) = vector_operand_step v
 operand_step _ = None

@@ -4,6 +4,7 @@ use Rattle.std.specs.Prelude.{ℕ, ◌+◌, ◌*◌, ◌%◌, ◌^◌, ◌-◌, 
 use Rattle.s390x_base.specs.Regs.{number_of}
 use Rattle.s390x_inst.specs.declared.vec_inst.VecInst.{VecInst}
 use Rattle.s390x_inst.specs.declared.vec_inst.VecInst.TheVariants.{VecRRR, VecRR, VecSelect, VecPermute, VecBlend, VecIntCmp, VecIntCmpS, VecIntEltCmp, VecMov, VecShiftRR, VecEvaluate, VecPermuteDWImm, MovToVec128, VecImmByteMask, VecImmReplicate, VecImmBitMask, VecReplicateLane, VecInsertLaneImm, VecInsertLaneImmUndef, VecInsertLane, VecInsertLaneUndef, VecExtractLane, FpuMove32, FpuMove64}
+use Rattle.s390x_inst.specs.declared.vec_inst.VecInst.TheVariants.{FpuCMov32, FpuCMov64, VecCMov}
 use Rattle.s390x_lanes.specs.declared.operation.ShiftOperator.{ShiftOperator}
 use Rattle.s390x_lanes.specs.declared.operation.VectorOperation.{VectorOperation}
 use Rattle.s390x_lanes.specs.declared.operation.VectorOperation.TheVariants.{Select, Permute, Blend, Move, ShiftElements, Evaluate, PermuteDoublewords, ByteMask, ReplicateImmediate, BitMask, Replicate, InsertImmediate}
@@ -19,7 +20,7 @@ use Rattle.s390x_operations.specs.declared.operator.Operator.TheVariants as Oper
 use Rattle.s390x_operations.specs.declared.effect.CodeRule.TheVariants.{Kept, Set}
 use Rattle.s390x_operations.specs.declared.effect.Effect.{Effect}
 use Rattle.s390x_operations.specs.declared.effect.Operation.{Operation}
-use Rattle.s390x_typed_steps.specs.General.{low_halfword, low_byte}
+use Rattle.s390x_typed_steps.specs.General.{four_bits, low_halfword, low_byte}
 use Rattle.s390x_machine.specs.Computations.{with_rule, computes_immediate, on_doublewords, havocs}
 use Rattle.s390x_machine.specs.Operands.{based}
 use Rattle.s390x_machine.specs.Semantics.{all_bits, left_bits}
@@ -120,3 +121,15 @@ vector_operation (VecExtractLane size rd rn lane base) = Some (extracts_lane (el
 vector_operation (FpuMove32 rd rn) = Some (moves_left Word (number_of rd) (number_of rn))
 vector_operation (FpuMove64 rd rn) = Some (moves_left Doubleword (number_of rd) (number_of rn))
 vector_operation _ = None
+
+-- an operation that is done where the mask selects the condition code
+pub record ConditionalOperation : Type 0 where
+  pub mask : ℕ
+  pub operation : Registers → Operation
+
+-- the instructions that are one operation under a condition
+abbrev pub conditional_operation : VecInst → Option ConditionalOperation
+conditional_operation (FpuCMov32 rd mask ri rm) = Some (record { mask = four_bits mask; operation = moves_left Word (number_of rd) (number_of rm) })
+conditional_operation (FpuCMov64 rd mask ri rm) = Some (record { mask = four_bits mask; operation = moves_left Doubleword (number_of rd) (number_of rm) })
+conditional_operation (VecCMov rd mask ri rm) = Some (record { mask = four_bits mask; operation = computes_one_vector Move (number_of rd) (number_of rm) })
+conditional_operation _ = None

@@ -7,14 +7,12 @@ use Rattle.s390x_inst.specs.declared.inst.Inst.TheVariants.{Loop', Vector}
 use Rattle.s390x_inst.specs.declared.vec_inst.VecInst.{VecInst}
 use Rattle.s390x_inst.specs.declared.vec_inst.VecInst.TheVariants.{VecRR}
 use Rattle.s390x_typed_steps.specs.Operands.{resolved}
-use Rattle.s390x_typed_steps.specs.Resolved.{resolved_instruction}
+use Rattle.s390x_typed_steps.specs.Resolved.{resolved_instruction, resolved_vector}
 use Rattle.s390x_typed_steps.specs.Tree.{Tree, empty, leaf, loop_node, prepend, row_tree, tree}
 use Rattle.s390x_emit_int.specs.Function.{tree_of}
 use Rattle.s390x_fields.specs.Fields.{Field, FMemory}
 use Rattle.s390x_lines.specs.Line.{Line}
 use Rattle.s390x_lines.specs.Instructions.{inst_line, vector_line}
-use Rattle.s390x_lines.specs.declared.name.LineName.{LineName}
-use Rattle.s390x_lines.specs.declared.name.LineName.TheVariants as N
 use Rattle.s390x_typed_steps.specs.Stack.{state_after}
 use Rattle.s390x_tool.proofs.SameInstruction.{line_reading, reading_after, nominal_read}
 use Rattle.s390x_tool.proofs.SameTree.{LineTree, none, one, around, lines_tree}
@@ -41,13 +39,8 @@ abbrev pub resolved_field : Emission → Field → Field
 resolved_field e (FMemory mem) = FMemory (resolved e mem)
 resolved_field e f = f
 
--- no instruction on vectors with an operand is built yet
-abbrev pub resolved_fields : Emission → LineName → List Field → List Field
-resolved_fields e (N.Vector name) fs = fs
-resolved_fields e name fs = map (resolved_field e) fs
-
 abbrev pub resolved_line : Emission → Line → Line
-resolved_line e l = record { name = l.name; fields = resolved_fields e l.name l.fields }
+resolved_line e l = record { name = l.name; fields = map (resolved_field e) l.fields }
 
 -- the state behind a line
 abbrev pub line_after : Emission → Line → Emission
@@ -59,7 +52,7 @@ resolved_lines e none = none
 resolved_lines e (one l rest) = one (resolved_line e l) (resolved_lines (line_after e l) rest)
 resolved_lines e (around mask members rest) = around mask (resolved_lines e members) (resolved_lines e rest)
 
-vector_resolved : (e : Emission) (v : VecInst) → vector_line v ≡ resolved_line e (vector_line v)
+vector_resolved : (e : Emission) (v : VecInst) → vector_line (resolved_vector e v) ≡ resolved_line e (vector_line v)
 vector_resolved e (VecRR op rd rn) = refl
 vector_resolved e v = refl
 

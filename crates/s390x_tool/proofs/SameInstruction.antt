@@ -1,5 +1,5 @@
 -- What emission reads of an instruction stands in its line.
-use Rattle.std.proofs.Common.{◌≡◌, ℕ, List, [], ◌∷◌, Option, Some, None, ◌&&◌, refl, ap, subst}
+use Rattle.std.proofs.Common.{◌≡◌, ℕ, List, [], ◌∷◌, Option, Some, None, ◌&&◌, refl, sym, ap, subst}
 use Rattle.s390x_inst.specs.declared.state.IsaFlags.{IsaFlags}
 use Rattle.s390x_base.specs.Regs.{number_of}
 use Rattle.s390x_base.specs.declared.regs.Reg.{Reg}
@@ -279,5 +279,5 @@ range_read (Vector v) h = subst reading_range (vector_reading v) h
 range_read i h = h
 
 pub range_round_trip : (i : Inst) → reading_range (line_reading (inst_line i)) → InRange i
-range_round_trip (Vector v) h = (tt, tt)
+range_round_trip (Vector v) h = subst reading_range (sym (vector_reading v)) h
 range_round_trip i h = h

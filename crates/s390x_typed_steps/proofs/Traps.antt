@@ -6,16 +6,17 @@ use Rattle.s390x_buffer.specs.declared.entries.TrapEntry.{TrapEntry}
 use Rattle.s390x_format.specs.Formats.{length_of}
 use Rattle.s390x_format.proofs.FormatFacts.{length_some}
 use Rattle.s390x_inst.specs.declared.inst.Inst.{Inst}
-use Rattle.s390x_inst.specs.declared.inst.Inst.TheVariants.{Mov64SImm32, LoadAddr, Jump, CondBr, IndirectBr, Ret, LabelAddress, LoadSymbolReloc, Trap, TrapIf, Debugtrap, JTSequence}
+use Rattle.s390x_inst.specs.declared.inst.Inst.TheVariants.{Mov64SImm32, LoadAddr, Jump, CondBr, IndirectBr, Ret, LabelAddress, LoadSymbolReloc, Trap, TrapIf, Debugtrap, JTSequence, Vector}
 use Rattle.s390x_typed_steps.specs.MachineInstruction.{MachineInstruction, size_of}
 use Rattle.s390x_typed_steps.specs.Tree.{Tree}
 use Rattle.s390x_typed_steps.specs.SingleInstruction.{SingleInstruction, single_instruction, stop_code}
 use Rattle.s390x_inst.specs.declared.args.MemArg.{MemArg}
 use Rattle.s390x_inst.specs.declared.args.MemArg.TheVariants.{Label, Constant, Symbol}
 use Rattle.s390x_typed_steps.specs.Operands.{finalized, is_relative}
-use Rattle.s390x_typed_steps.specs.Memory.{StorageForm, RxForm, RsForm, SiForm, SilForm, MemoryInstruction, memory, type_of, storage_row, address_form, fault_code}
+use Rattle.s390x_typed_steps.specs.Memory.{StorageForm, RxForm, RsForm, SiForm, SilForm, VrxForm, FloatForm, MemoryInstruction, memory, type_of, storage_row, address_form, fault_code}
 use Rattle.s390x_typed_steps.specs.Steps.{Step, Plain, Opening, Back, Break, function_steps}
-use Rattle.s390x_typed_steps.specs.Parts.{CodePart, Row, Trapping, Branch, Relative, RelativeConstant, RelativeSymbol, TableWord, part_size, parts_size, branch_parts, row_part, access_parts, trap_here, relative_part, relative_parts, operand_parts, helper_parts, helpers_parts, memory_or, parts_or, step_parts, step_size, table_words, SymbolValue, TrapHere}
+use Rattle.s390x_typed_steps.specs.VectorComposite.{composite_rows}
+use Rattle.s390x_typed_steps.specs.Parts.{CodePart, Row, Trapping, Branch, Relative, RelativeConstant, RelativeSymbol, TableWord, part_size, parts_size, branch_parts, row_part, row_parts, access_parts, trap_here, relative_part, relative_parts, operand_parts, helper_parts, helpers_parts, memory_or, parts_or, step_parts, step_size, table_words, SymbolValue, TrapHere}
 use Rattle.s390x_typed_steps.specs.Image.{step_offset}
 use Rattle.s390x_typed_steps.specs.Traps.{part_traps, parts_traps, step_traps, traps_from, function_traps, first_code}
 
@@ -112,6 +113,10 @@ words_inside : (before : ℕ) (ls : List MachLabel) → Inside (table_words befo
 words_inside before [] = tt
 words_inside before (l ∷ ls) = words_inside (before + 4) ls
 
+rows_inside : (ms : List MachineInstruction) → Inside (row_parts ms)
+rows_inside [] = tt
+rows_inside (m ∷ ms) = rows_inside ms
+
 branch_inside : (i : Inst) → Inside (branch_parts i)
 unfolding length_of
 branch_inside (Jump dest) = tt
@@ -124,6 +129,7 @@ branch_inside (LoadSymbolReloc rd reloc) = tt
 branch_inside (Trap code) = (omega arith, tt)
 branch_inside (TrapIf mask code) = (omega arith, tt)
 branch_inside Debugtrap = tt
+branch_inside (Vector v) = rows_inside (composite_rows v)
 branch_inside i = tt
 
 stopping_inside : (m : MachineInstruction) (code : Option TrapKind) → Inside (row_part m code ∷ [])
@@ -166,6 +172,8 @@ relative_inside (RxForm register short long None) code m e = tt
 relative_inside (RsForm first second short long) code m e = tt
 relative_inside (SiForm imm short long) code m e = tt
 relative_inside (SilForm bits opcode) code m e = tt
+relative_inside (VrxForm register opcode mask) code m e = tt
+relative_inside (FloatForm register short long) code m e = tt
 
 operand_inside : (form : StorageForm) (code : Option TrapKind) (m : MemArg) → Inside (operand_parts form code m)
 operand_inside form code m = go (is_relative m) refl

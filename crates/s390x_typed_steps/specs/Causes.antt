@@ -8,7 +8,7 @@ use Rattle.s390x_buffer.specs.State.{BufferState, Constant as DeclaredConstant}
 use Rattle.s390x_inst.specs.declared.args.MemArg.{MemArg}
 use Rattle.s390x_inst.specs.declared.args.MemArg.TheVariants.{Label, Constant, Symbol}
 use Rattle.s390x_inst.specs.declared.inst.Inst.{Inst}
-use Rattle.s390x_inst.specs.declared.inst.Inst.TheVariants.{Jump, CondBr, IndirectBr, Ret, JTSequence, CondBreak, Nop0, LabelAddress, LoadSymbolReloc, Trap, TrapIf, Debugtrap, AllocateArgs, Args, Rets, DummyUse, SequencePoint}
+use Rattle.s390x_inst.specs.declared.inst.Inst.TheVariants.{Jump, CondBr, IndirectBr, Ret, JTSequence, CondBreak, Nop0, LabelAddress, LoadSymbolReloc, Trap, TrapIf, Debugtrap, AllocateArgs, Args, Rets, DummyUse, SequencePoint, Vector}
 use Rattle.s390x_inst.specs.declared.state.IsaFlags.{IsaFlags}
 use Rattle.s390x_inst.specs.Facilities.{facility_of, has_facility}
 use Rattle.s390x_typed_steps.specs.General.{is_general, is_nonzero, is_scratch}
@@ -17,6 +17,7 @@ use Rattle.s390x_typed_steps.specs.Operands.{finalized, is_relative, has_form, n
 use Rattle.s390x_typed_steps.specs.Memory.{StorageForm, RxForm, MemoryInstruction, memory, type_of}
 use Rattle.s390x_typed_steps.specs.Stack.{nominal_after}
 use Rattle.s390x_typed_steps.specs.Storage.{relative_bytes}
+use Rattle.s390x_typed_steps.specs.VectorComposite.{composite_cause}
 use Rattle.s390x_typed_steps.specs.declared.mem_inst_type.MemInstType.{MemInstType}
 use Rattle.s390x_typed_steps.specs.Tree.{Tree, empty, leaf, loop_node}
 
@@ -61,6 +62,7 @@ branch_cause blocks depth (Args args) = None
 branch_cause blocks depth (Rets rets) = None
 branch_cause blocks depth (DummyUse reg) = None
 branch_cause blocks depth SequencePoint = None
+branch_cause blocks depth (Vector v) = composite_cause v
 branch_cause blocks depth _ = Some BadOperator
 
 -- the causes of an operand: no row has a form for it, its offset is loaded over its base, its exact offset doesn't fit 32 bits

@@ -19,4 +19,5 @@ pub mod Relocs
 pub mod Traps
 pub mod Tree
 pub mod VectorOpcodes
+pub mod VectorComposite
 pub mod VectorInstruction

@@ -2,8 +2,8 @@
 -- (cranelift-codegen, `emit.rs`; the formats: Principles of Operation, chapter 5, "Instruction formats").
 use Rattle.std.specs.Prelude.{ℕ, List, [], ◌∷◌}
 use Rattle.s390x_format.specs.declared.kind.FormatKind.{FormatKind}
-use Rattle.s390x_format.specs.declared.kind.FormatKind.TheVariants.{E, Rr, Rre, RrfAb, RrfCde, RiA, RiB, RieA, RieD, RieF, RieG, RilA, RilB, RilC, Rs, Rsy, Rx, Rxy, Si, Sil, Siy}
-use Rattle.s390x_format.specs.declared.kind.FormatKind.TheVariants.{VriA, VriB, VriC, VriK, VrrA, VrrB, VrrC, VrrD, VrrE, VrrF, VrsA, VrsB, VrsC}
+use Rattle.s390x_format.specs.declared.kind.FormatKind.TheVariants.{E, Rr, Rre, RrfAb, RrfCde, RiA, RiB, RiC, RieA, RieD, RieF, RieG, RilA, RilB, RilC, Rs, Rsy, Rx, Rxy, Si, Sil, Siy}
+use Rattle.s390x_format.specs.declared.kind.FormatKind.TheVariants.{VriA, VriB, VriC, VriK, VrrA, VrrB, VrrC, VrrD, VrrE, VrrF, VrsA, VrsB, VrsC, Vrx}
 use Rattle.s390x_format.specs.Formats.{length_of}
 use Rattle.s390x_format.specs.Reading.{encode}
 
@@ -47,6 +47,10 @@ ri_a opcode r1 bits = record { format = RiA; slots = opcode ∷ r1 ∷ 0 ∷ 0 �
 -- RI-B: a register and half of a distance, modulo 2 ^ 16, in the immediate's slot
 abbrev pub ri_b : (opcode r1 half : ℕ) → MachineInstruction
 ri_b opcode r1 half = record { format = RiB; slots = opcode ∷ r1 ∷ 0 ∷ 0 ∷ 0 ∷ 0 ∷ 0 ∷ 0 ∷ half ∷ 0 ∷ [] }
+
+-- RI-C: a mask and half of a distance, as in RI-B
+abbrev pub ri_c : (opcode m1 half : ℕ) → MachineInstruction
+ri_c opcode m1 half = record { format = RiC; slots = opcode ∷ 0 ∷ 0 ∷ 0 ∷ 0 ∷ m1 ∷ 0 ∷ 0 ∷ half ∷ 0 ∷ [] }
 
 -- RIE-A: a register, the bits of an immediate of 16 bits, and a mask
 abbrev pub rie_a : (opcode r1 bits m3 : ℕ) → MachineInstruction
@@ -155,3 +159,7 @@ vrs_b opcode v1 b2 r3 m4 displacement = record { format = VrsB; slots = opcode �
 -- VRS-C: a general register, a vector one, a base with a displacement of 12 bits, and a mask
 abbrev pub vrs_c : (opcode r1 b2 v3 m4 displacement : ℕ) → MachineInstruction
 vrs_c opcode r1 b2 v3 m4 displacement = record { format = VrsC; slots = opcode ∷ r1 ∷ b2 ∷ v3 ∷ 0 ∷ m4 ∷ 0 ∷ 0 ∷ 0 ∷ displacement ∷ [] }
+
+-- VRX: a vector register, a base and an index with a displacement of 12 bits, and a mask
+abbrev pub vrx : (opcode v1 b2 x2 m3 displacement : ℕ) → MachineInstruction
+vrx opcode v1 b2 x2 m3 displacement = record { format = Vrx; slots = opcode ∷ v1 ∷ b2 ∷ x2 ∷ 0 ∷ m3 ∷ 0 ∷ 0 ∷ 0 ∷ displacement ∷ [] }

@@ -1,5 +1,5 @@
 -- Instructions with a memory operand: their machine rows by format, the operand, and the registers that they name (cranelift-codegen, `emit.rs`).
-use Rattle.std.specs.Prelude.{ℕ, Bool, true, false, cond, not, ◌&&◌, ◌||◌, nat_le, is_some, Option, Some, None}
+use Rattle.std.specs.Prelude.{ℕ, Bool, true, false, cond, not, ◌&&◌, ◌||◌, nat_le, nat_lt, nat_eq, is_some, Option, Some, None}
 use Rattle.s390x_base.specs.Regs.{number_of}
 use Rattle.s390x_base.specs.declared.regs.Reg.{Reg}
 use Rattle.s390x_base.specs.declared.trap.TrapKind.{TrapKind}
@@ -8,11 +8,15 @@ use Rattle.s390x_inst.specs.declared.args.MemArg.{MemArg}
 use Rattle.s390x_inst.specs.declared.args.MemArg.TheVariants.{BXD12, BXD20}
 use Rattle.s390x_inst.specs.declared.inst.Inst.{Inst}
 use Rattle.s390x_inst.specs.declared.inst.Inst.TheVariants.{AluRX, CmpRX, Load32, Load32ZExt8, Load32SExt8, Load32ZExt16, Load32SExt16, Load64, Load64ZExt8, Load64SExt8, Load64ZExt16, Load64SExt16, Load64ZExt32, Load64SExt32, LoadRev16, LoadRev32, LoadRev64, Store8, Store16, Store32, Store64}
-use Rattle.s390x_inst.specs.declared.inst.Inst.TheVariants.{StoreRev16, StoreRev32, StoreRev64, StoreImm8, StoreImm16, StoreImm32SExt16, StoreImm64SExt16, LoadMultiple64, StoreMultiple64, LoadAddr, AtomicRmw, AtomicCas32, AtomicCas64}
+use Rattle.s390x_inst.specs.declared.inst.Inst.TheVariants.{StoreRev16, StoreRev32, StoreRev64, StoreImm8, StoreImm16, StoreImm32SExt16, StoreImm64SExt16, LoadMultiple64, StoreMultiple64, LoadAddr, AtomicRmw, AtomicCas32, AtomicCas64, Vector}
+use Rattle.s390x_inst.specs.declared.vec_inst.VecInst.{VecInst}
+use Rattle.s390x_inst.specs.declared.vec_inst.VecInst.TheVariants.{VecLoad, VecLoadRev, VecLoadByte16Rev, VecLoadByte32Rev, VecLoadByte64Rev, VecLoadElt16Rev, VecLoadElt32Rev, VecLoadElt64Rev, VecStore, VecStoreRev, VecStoreByte16Rev, VecStoreByte32Rev, VecStoreByte64Rev, VecStoreElt16Rev, VecStoreElt32Rev, VecStoreElt64Rev}
+use Rattle.s390x_inst.specs.declared.vec_inst.VecInst.TheVariants.{VecLoadReplicate, VecLoadReplicateRev, VecLoadLane, VecLoadLaneRev, VecLoadLaneUndef, VecLoadLaneRevUndef, VecStoreLane, VecStoreLaneRev}
 use Rattle.s390x_typed_steps.specs.General.{is_general, reuses, low_byte, low_halfword, low_displacement, low_12}
-use Rattle.s390x_typed_steps.specs.MachineInstruction.{MachineInstruction, rx, rxy, rs, rsy, si, siy, sil}
+use Rattle.s390x_typed_steps.specs.MachineInstruction.{MachineInstruction, rx, rxy, rs, rsy, si, siy, sil, vrx}
 use Rattle.s390x_typed_steps.specs.Operands.{is_numbered}
 use Rattle.s390x_typed_steps.specs.Storage.{alu_rx, alu_rxy, cmp_rx, cmp_rxy, cmp_ril, atomic_rsy}
+use Rattle.s390x_typed_steps.specs.VectorInstruction.{is_vector, reuses_vector, element_code, is_lane}
 use Rattle.s390x_typed_steps.specs.declared.mem_inst_type.MemInstType.{MemInstType}
 
 -- the machine rows that an instruction has for its operand, by format, and what else stands in them
@@ -25,6 +29,10 @@ pub data StorageForm : Type 0 where
   SiForm : (imm si_opcode siy_opcode : ℕ) → StorageForm
   -- SIL: the bits of an immediate of 16 bits
   SilForm : (bits sil_opcode : ℕ) → StorageForm
+  -- VRX: a vector register, and a code of a size or an element's number
+  VrxForm : (register vrx_opcode mask : ℕ) → StorageForm
+  -- RX and RXY: a float register
+  FloatForm : (register rx_opcode rxy_opcode : ℕ) → StorageForm
 
 -- its rows and its operand; whether it accesses memory, whether its own registers may stand there, and whether it reads %r1, which helpers write
 pub record MemoryInstruction : Type 0 where
@@ -44,13 +52,17 @@ type_of (SiForm imm si_opcode siy_opcode) accesses =
     record { have_d12 = true; have_d20 = true; have_pcrel = false; have_unaligned_pcrel = false; have_index = false }
 type_of (SilForm bits sil_opcode) accesses =
     record { have_d12 = true; have_d20 = false; have_pcrel = false; have_unaligned_pcrel = false; have_index = false }
+type_of (VrxForm register vrx_opcode mask) accesses =
+    record { have_d12 = true; have_d20 = false; have_pcrel = false; have_unaligned_pcrel = false; have_index = true }
+type_of (FloatForm register rx_opcode rxy_opcode) accesses =
+    record { have_d12 = true; have_d20 = true; have_pcrel = false; have_unaligned_pcrel = false; have_index = true }
 
 -- the machine instruction of an opcode, where there is one
 abbrev pub of_opcode : (ℕ → MachineInstruction) → Option ℕ → Option MachineInstruction
 of_opcode row None = None
 of_opcode row (Some opcode) = Some (row opcode)
 
--- the machine instruction at an operand that stands in it as it is: a base, a displacement, and in RX and RXY an index
+-- the machine instruction at an operand that stands in it as it is: a base, a displacement, and in RX, RXY and VRX an index
 abbrev pub storage_row : StorageForm → MemArg → Option MachineInstruction
 storage_row (RxForm r rx_opcode rxy_opcode ril_opcode) (BXD12 base index disp flags) =
     of_opcode (λ opcode. rx opcode r (number_of base) (number_of index) (low_12 disp)) rx_opcode
@@ -63,6 +75,9 @@ storage_row (RsForm r s rs_opcode rsy_opcode) (BXD20 base index disp flags) =
 storage_row (SiForm imm si_opcode siy_opcode) (BXD12 base index disp flags) = Some (si si_opcode (number_of base) (low_12 disp) imm)
 storage_row (SiForm imm si_opcode siy_opcode) (BXD20 base index disp flags) = Some (siy siy_opcode (number_of base) (low_displacement disp) imm)
 storage_row (SilForm bits sil_opcode) (BXD12 base index disp flags) = Some (sil sil_opcode (number_of base) (low_12 disp) bits)
+storage_row (VrxForm r vrx_opcode mask) (BXD12 base index disp flags) = Some (vrx vrx_opcode r (number_of base) (number_of index) mask (low_12 disp))
+storage_row (FloatForm r rx_opcode rxy_opcode) (BXD12 base index disp flags) = Some (rx rx_opcode r (number_of base) (number_of index) (low_12 disp))
+storage_row (FloatForm r rx_opcode rxy_opcode) (BXD20 base index disp flags) = Some (rxy rxy_opcode r (number_of base) (number_of index) (low_displacement disp))
 storage_row form operand = None
 
 -- ---- the instructions
@@ -120,6 +135,87 @@ abbrev pub compare_and_swap : Option ℕ → ℕ → (rd ri rn : Reg) → MemArg
 compare_and_swap rs_opcode rsy_opcode rd ri rn mem =
     Some (record { form = RsForm (number_of rd) (number_of rn) rs_opcode (Some rsy_opcode); operand = mem; accesses = true; operands_valid = reuses rd ri && is_general rn; reads_scratch = is_numbered 1 ri || is_numbered 1 rn })
 
+-- ---- vector registers, which are never %r1
+
+-- an access by a row
+abbrev pub access_vector : (valid : Bool) → StorageForm → MemArg → Option MemoryInstruction
+access_vector valid form mem = Some (record { form = form; operand = mem; accesses = true; operands_valid = valid; reads_scratch = false })
+
+-- a register and its elements, by the code of their size; none where there are no such elements
+abbrev pub access_elements : (opcode : ℕ) → Reg → (code : Option ℕ) → MemArg → Option MemoryInstruction
+access_elements opcode rd None mem = None
+access_elements opcode rd (Some code) mem = access_vector (is_vector rd) (VrxForm (number_of rd) opcode code) mem
+
+-- the code of elements of several bytes
+abbrev pub reversed_code : (size : ℕ) → Option ℕ
+reversed_code size = cond (nat_eq size 8) None (element_code size)
+
+-- one element, by the opcode for the code of its size; none where there is no such element
+abbrev pub access_lane : (valid : Bool) → (opcode : ℕ → ℕ) → (register : ℕ) → (code : Option ℕ) → (size lane : ℕ) → MemArg → Option MemoryInstruction
+access_lane valid opcode register None size lane mem = None
+access_lane valid opcode register (Some code) size lane mem = cond (is_lane size lane) (access_vector valid (VrxForm register (opcode code) lane) mem) None
+
+-- the opcodes of one element's rows, by the code of its size
+abbrev pub load_lane_opcode : (code : ℕ) → ℕ
+load_lane_opcode code = cond (nat_eq code 0) 0xe700 (cond (nat_eq code 1) 0xe701 (cond (nat_eq code 2) 0xe703 0xe702))
+
+abbrev pub store_lane_opcode : (code : ℕ) → ℕ
+store_lane_opcode code = cond (nat_eq code 0) 0xe708 (cond (nat_eq code 1) 0xe709 (cond (nat_eq code 2) 0xe70b 0xe70a))
+
+-- those with its bytes reversed
+abbrev pub load_reversed_opcode : (code : ℕ) → ℕ
+load_reversed_opcode code = cond (nat_eq code 1) 0xe601 (cond (nat_eq code 2) 0xe603 0xe602)
+
+abbrev pub store_reversed_opcode : (code : ℕ) → ℕ
+store_reversed_opcode code = cond (nat_eq code 1) 0xe609 (cond (nat_eq code 2) 0xe60b 0xe60a)
+
+-- the leftmost word or doubleword of a register that is a float register too
+abbrev pub is_left_lane : (size lane register : ℕ) → Bool
+is_left_lane size lane register = (nat_eq size 32 || nat_eq size 64) && nat_eq lane 0 && nat_lt register 16
+
+-- its rows
+abbrev pub load_left : (size register : ℕ) → StorageForm
+load_left size register = cond (nat_eq size 32) (FloatForm register 0x78 0xed64) (FloatForm register 0x68 0xed65)
+
+abbrev pub store_left : (size register : ℕ) → StorageForm
+store_left size register = cond (nat_eq size 32) (FloatForm register 0x70 0xed66) (FloatForm register 0x60 0xed67)
+
+-- loads and stores of one element. Where the other ones may become any, the leftmost one is also loaded as a float register
+abbrev pub lane_memory : VecInst → Option MemoryInstruction
+lane_memory (VecLoadLane size rd ri mem lane) = access_lane (reuses_vector rd ri) load_lane_opcode (number_of rd) (element_code size) size lane mem
+lane_memory (VecLoadLaneRev size rd ri mem lane) = access_lane (reuses_vector rd ri) load_reversed_opcode (number_of rd) (reversed_code size) size lane mem
+lane_memory (VecLoadLaneUndef size rd mem lane) =
+    cond (is_left_lane size lane (number_of rd)) (access_vector (is_vector rd) (load_left size (number_of rd)) mem)
+    (access_lane (is_vector rd) load_lane_opcode (number_of rd) (element_code size) size lane mem)
+lane_memory (VecLoadLaneRevUndef size rd mem lane) = access_lane (is_vector rd) load_reversed_opcode (number_of rd) (reversed_code size) size lane mem
+lane_memory (VecStoreLane size rd mem lane) =
+    cond (is_left_lane size lane (number_of rd)) (access_vector (is_vector rd) (store_left size (number_of rd)) mem)
+    (access_lane (is_vector rd) store_lane_opcode (number_of rd) (element_code size) size lane mem)
+lane_memory (VecStoreLaneRev size rd mem lane) = access_lane (is_vector rd) store_reversed_opcode (number_of rd) (reversed_code size) size lane mem
+lane_memory _ = None
+
+-- the loads and stores of vector registers
+abbrev pub vector_memory : VecInst → Option MemoryInstruction
+vector_memory (VecLoad rd mem) = access_elements 0xe706 rd (Some 0) mem
+vector_memory (VecLoadRev rd mem) = access_elements 0xe606 rd (Some 4) mem
+vector_memory (VecLoadByte16Rev rd mem) = access_elements 0xe606 rd (Some 1) mem
+vector_memory (VecLoadByte32Rev rd mem) = access_elements 0xe606 rd (Some 2) mem
+vector_memory (VecLoadByte64Rev rd mem) = access_elements 0xe606 rd (Some 3) mem
+vector_memory (VecLoadElt16Rev rd mem) = access_elements 0xe607 rd (Some 1) mem
+vector_memory (VecLoadElt32Rev rd mem) = access_elements 0xe607 rd (Some 2) mem
+vector_memory (VecLoadElt64Rev rd mem) = access_elements 0xe607 rd (Some 3) mem
+vector_memory (VecStore rd mem) = access_elements 0xe70e rd (Some 0) mem
+vector_memory (VecStoreRev rd mem) = access_elements 0xe60e rd (Some 4) mem
+vector_memory (VecStoreByte16Rev rd mem) = access_elements 0xe60e rd (Some 1) mem
+vector_memory (VecStoreByte32Rev rd mem) = access_elements 0xe60e rd (Some 2) mem
+vector_memory (VecStoreByte64Rev rd mem) = access_elements 0xe60e rd (Some 3) mem
+vector_memory (VecStoreElt16Rev rd mem) = access_elements 0xe60f rd (Some 1) mem
+vector_memory (VecStoreElt32Rev rd mem) = access_elements 0xe60f rd (Some 2) mem
+vector_memory (VecStoreElt64Rev rd mem) = access_elements 0xe60f rd (Some 3) mem
+vector_memory (VecLoadReplicate size rd mem) = access_elements 0xe705 rd (element_code size) mem
+vector_memory (VecLoadReplicateRev size rd mem) = access_elements 0xe605 rd (reversed_code size) mem
+vector_memory v = lane_memory v
+
 -- the machine rows and the operand of an instruction with a memory operand, where it is one that is built
 abbrev pub memory : Inst → Option MemoryInstruction
 memory (AluRX op rd ri mem) = operate (is_some (alu_rx op) || is_some (alu_rxy op)) (alu_rx op) (alu_rxy op) rd ri mem
@@ -156,6 +252,7 @@ memory (LoadAddr rd mem) = Some (record { form = address_form rd; operand = mem;
 memory (AtomicRmw op rd rn mem) = load_and_operate (atomic_rsy op) rd rn mem
 memory (AtomicCas32 rd ri rn mem) = compare_and_swap (Some 0xba) 0xeb14 rd ri rn mem
 memory (AtomicCas64 rd ri rn mem) = compare_and_swap None 0xeb30 rd ri rn mem
+memory (Vector v) = vector_memory v
 memory _ = None
 
 -- the code of the access's faults: that of the flags, where it accesses memory and they have one

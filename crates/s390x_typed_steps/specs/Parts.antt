@@ -8,7 +8,7 @@ use Rattle.s390x_base.specs.declared.trap.TrapKind.{TrapKind}
 use Rattle.s390x_inst.specs.declared.calls.SymbolReloc.{SymbolReloc}
 use Rattle.s390x_inst.specs.declared.calls.SymbolReloc.TheVariants.{Absolute}
 use Rattle.s390x_inst.specs.declared.inst.Inst.{Inst}
-use Rattle.s390x_inst.specs.declared.inst.Inst.TheVariants.{Mov64SImm32, LoadAddr, Jump, CondBr, IndirectBr, Ret, LabelAddress, LoadSymbolReloc, Trap, TrapIf, Debugtrap, JTSequence}
+use Rattle.s390x_inst.specs.declared.inst.Inst.TheVariants.{Mov64SImm32, LoadAddr, Jump, CondBr, IndirectBr, Ret, LabelAddress, LoadSymbolReloc, Trap, TrapIf, Debugtrap, JTSequence, Vector}
 use Rattle.s390x_typed_steps.specs.General.{low_word}
 use Rattle.s390x_typed_steps.specs.MachineInstruction.{MachineInstruction, size_of, format_e, rr, ri_b, ril_a, ril_c, ril_b, rxy}
 use Rattle.s390x_typed_steps.specs.SingleInstruction.{SingleInstruction, single_instruction, stop_code}
@@ -16,6 +16,7 @@ use Rattle.s390x_inst.specs.declared.args.MemArg.{MemArg}
 use Rattle.s390x_inst.specs.declared.args.MemArg.TheVariants.{Label, Constant, Symbol}
 use Rattle.s390x_typed_steps.specs.Operands.{Finalized, finalized, is_relative}
 use Rattle.s390x_typed_steps.specs.Memory.{StorageForm, RxForm, MemoryInstruction, memory, type_of, storage_row, address_form, fault_code}
+use Rattle.s390x_typed_steps.specs.VectorComposite.{composite_rows}
 use Rattle.s390x_typed_steps.specs.Steps.{Step, Plain, Opening, Back, Break}
 
 -- where a distance leads
@@ -117,6 +118,11 @@ offset_in (Absolute name offset) = offset
 abbrev pub symbol_parts : (register : ℕ) → SymbolReloc → List CodePart
 symbol_parts register reloc = Row (ri_b 0xa75 1 6) ∷ SymbolValue (name_in reloc) (offset_in reloc) ∷ Row (rxy 0xe304 register 1 0 0) ∷ []
 
+-- machine instructions one behind the other
+abbrev pub row_parts : List MachineInstruction → List CodePart
+row_parts [] = []
+row_parts (m ∷ ms) = Row m ∷ row_parts ms
+
 -- the parts of an instruction that names a place, goes elsewhere or ends the run; of one that isn't built yet, none: emission refuses it
 abbrev pub branch_parts : Inst → List CodePart
 branch_parts (Jump dest) = Branch 15 (ToBlock dest.0) ∷ []
@@ -131,6 +137,7 @@ branch_parts (Trap code) = stopping (format_e 0x0000) code ∷ []
 -- a branch into its own bytes, to the zeros of its distance
 branch_parts (TrapIf mask code) = Trapping (ril_c 0xc04 mask 1) 3 code ∷ []
 branch_parts Debugtrap = Row (format_e 0x0001) ∷ []
+branch_parts (Vector v) = row_parts (composite_rows v)
 branch_parts _ = []
 
 -- a machine instruction whose stop may have a code

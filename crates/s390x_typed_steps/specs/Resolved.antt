@@ -2,8 +2,39 @@
 use Rattle.s390x_inst.specs.Emission.{Emission}
 use Rattle.s390x_inst.specs.declared.inst.Inst.{Inst}
 use Rattle.s390x_inst.specs.declared.inst.Inst.TheVariants.{AluRX, CmpRX, Load32, Load32ZExt8, Load32SExt8, Load32ZExt16, Load32SExt16, Load64, Load64ZExt8, Load64SExt8, Load64ZExt16, Load64SExt16, Load64ZExt32, Load64SExt32, LoadRev16, LoadRev32, LoadRev64, Store8, Store16, Store32, Store64}
-use Rattle.s390x_inst.specs.declared.inst.Inst.TheVariants.{StoreRev16, StoreRev32, StoreRev64, StoreImm8, StoreImm16, StoreImm32SExt16, StoreImm64SExt16, LoadMultiple64, StoreMultiple64, LoadAddr, AtomicRmw, AtomicCas32, AtomicCas64}
+use Rattle.s390x_inst.specs.declared.inst.Inst.TheVariants.{StoreRev16, StoreRev32, StoreRev64, StoreImm8, StoreImm16, StoreImm32SExt16, StoreImm64SExt16, LoadMultiple64, StoreMultiple64, LoadAddr, AtomicRmw, AtomicCas32, AtomicCas64, Vector}
+use Rattle.s390x_inst.specs.declared.vec_inst.VecInst.{VecInst}
+use Rattle.s390x_inst.specs.declared.vec_inst.VecInst.TheVariants.{VecLoad, VecLoadRev, VecLoadByte16Rev, VecLoadByte32Rev, VecLoadByte64Rev, VecLoadElt16Rev, VecLoadElt32Rev, VecLoadElt64Rev, VecStore, VecStoreRev, VecStoreByte16Rev, VecStoreByte32Rev, VecStoreByte64Rev, VecStoreElt16Rev, VecStoreElt32Rev, VecStoreElt64Rev}
+use Rattle.s390x_inst.specs.declared.vec_inst.VecInst.TheVariants.{VecLoadReplicate, VecLoadReplicateRev, VecLoadLane, VecLoadLaneRev, VecLoadLaneUndef, VecLoadLaneRevUndef, VecStoreLane, VecStoreLaneRev}
 use Rattle.s390x_typed_steps.specs.Operands.{resolved}
+
+-- the same of those on vectors
+abbrev pub resolved_vector : Emission → VecInst → VecInst
+resolved_vector e (VecLoad rd mem) = VecLoad rd (resolved e mem)
+resolved_vector e (VecLoadRev rd mem) = VecLoadRev rd (resolved e mem)
+resolved_vector e (VecLoadByte16Rev rd mem) = VecLoadByte16Rev rd (resolved e mem)
+resolved_vector e (VecLoadByte32Rev rd mem) = VecLoadByte32Rev rd (resolved e mem)
+resolved_vector e (VecLoadByte64Rev rd mem) = VecLoadByte64Rev rd (resolved e mem)
+resolved_vector e (VecLoadElt16Rev rd mem) = VecLoadElt16Rev rd (resolved e mem)
+resolved_vector e (VecLoadElt32Rev rd mem) = VecLoadElt32Rev rd (resolved e mem)
+resolved_vector e (VecLoadElt64Rev rd mem) = VecLoadElt64Rev rd (resolved e mem)
+resolved_vector e (VecStore rd mem) = VecStore rd (resolved e mem)
+resolved_vector e (VecStoreRev rd mem) = VecStoreRev rd (resolved e mem)
+resolved_vector e (VecStoreByte16Rev rd mem) = VecStoreByte16Rev rd (resolved e mem)
+resolved_vector e (VecStoreByte32Rev rd mem) = VecStoreByte32Rev rd (resolved e mem)
+resolved_vector e (VecStoreByte64Rev rd mem) = VecStoreByte64Rev rd (resolved e mem)
+resolved_vector e (VecStoreElt16Rev rd mem) = VecStoreElt16Rev rd (resolved e mem)
+resolved_vector e (VecStoreElt32Rev rd mem) = VecStoreElt32Rev rd (resolved e mem)
+resolved_vector e (VecStoreElt64Rev rd mem) = VecStoreElt64Rev rd (resolved e mem)
+resolved_vector e (VecLoadReplicate size rd mem) = VecLoadReplicate size rd (resolved e mem)
+resolved_vector e (VecLoadReplicateRev size rd mem) = VecLoadReplicateRev size rd (resolved e mem)
+resolved_vector e (VecLoadLane size rd ri mem lane) = VecLoadLane size rd ri (resolved e mem) lane
+resolved_vector e (VecLoadLaneRev size rd ri mem lane) = VecLoadLaneRev size rd ri (resolved e mem) lane
+resolved_vector e (VecLoadLaneUndef size rd mem lane) = VecLoadLaneUndef size rd (resolved e mem) lane
+resolved_vector e (VecLoadLaneRevUndef size rd mem lane) = VecLoadLaneRevUndef size rd (resolved e mem) lane
+resolved_vector e (VecStoreLane size rd mem lane) = VecStoreLane size rd (resolved e mem) lane
+resolved_vector e (VecStoreLaneRev size rd mem lane) = VecStoreLaneRev size rd (resolved e mem) lane
+resolved_vector e v = v
 
 -- an instruction with its operand resolved; one without a memory operand stays
 abbrev pub resolved_instruction : Emission → Inst → Inst
@@ -41,4 +72,5 @@ resolved_instruction e (LoadAddr rd mem) = LoadAddr rd (resolved e mem)
 resolved_instruction e (AtomicRmw op rd rn mem) = AtomicRmw op rd rn (resolved e mem)
 resolved_instruction e (AtomicCas32 rd ri rn mem) = AtomicCas32 rd ri rn (resolved e mem)
 resolved_instruction e (AtomicCas64 rd ri rn mem) = AtomicCas64 rd ri rn (resolved e mem)
+resolved_instruction e (Vector v) = Vector (resolved_vector e v)
 resolved_instruction e i = i

@@ -4,7 +4,7 @@ use Rattle.s390x_emit_int.specs.Room.{Passed}
 use Rattle.s390x_emit_int.proofs.Tables.{jump_passed}
 use Rattle.s390x_typed_steps.specs.General.{is_general}
 use Rattle.s390x_emit_int.proofs.Symbols.{symbol_passed}
-use Rattle.s390x_emit_int.proofs.Leaves.{indirect_passed, return_passed, address_passed, trap_passed, trap_if_passed, debug_passed}
+use Rattle.s390x_emit_int.proofs.Leaves.{indirect_passed, return_passed, address_passed, trap_passed, trap_if_passed, composite_passed, debug_passed}
 use Rattle.s390x_emit_int.proofs.leaf.emit_branch.Goals as goal
 
 pub returns-in-IndirectBr-clause-lacks : goal.returns-in-IndirectBr-clause-lacks
@@ -42,3 +42,8 @@ returns-in-JTSequence-clause-lacks c = λ depth p drawn.
     let i = c.in-JTSequence in
     let f = jump_passed c.args.sink.now c.args.after.0 depth c.args.inst.now i.ridx i.default i.default_cond i.targets i.is p drawn in
     c.emit_table.ensures.lacks i.default.0 (subst (λ ts. Passed c.args.sink.now i.default.0 (20 + 4 * length ts) (table_cause c.args.sink.now.block_count i.ridx i.default ts)) (sym c.deref.ensures.value) f.0) f.1
+
+pub returns-in-Vector-clause-lacks : goal.returns-in-Vector-clause-lacks
+returns-in-Vector-clause-lacks c = λ depth p drawn.
+    let f = composite_passed c.args.sink.now c.args.after.0 depth c.args.inst.now c.in-Vector.inst c.in-Vector.is p in
+    c.emit_composite.ensures.lacks f.0 f.1

@@ -102,7 +102,12 @@ emit_members-returns-in_err-emit_inst-clause-kept t c = extends_on _ _ _ c.loop-
 
 pub emit_loop-bind_label-requires-2-clause-unbound : goal.emit_loop-bind_label-requires-2-clause-unbound
 emit_loop-bind_label-requires-2-clause-unbound t c =
-    (loop_states c.args.sink.now c.get_label.new.self c.get_label-2.new.self c.bind_label.new.self c.emit_members.new.sink c.start_step.new.self c.put_branch.new.sink c.in_ok-start.start.0 c.in_ok-end.end.0 c.bits-mask.result (tree c.args.state.now c.args.body.now) c.in_ok-start.ensures.answer.1 c.in_ok-start.ensures.answer.2 c.in_ok-end.ensures.answer.1 c.in_ok-end.ensures.answer.2 c.in_ok-bind_label.ensures.answer.1 c.in_ok-emit_members.ensures.answer c.in_ok-start_step.ensures.answer.1 c.in_ok-put_branch.ensures.answer).free
+    let l = loop_states c.args.sink.now c.get_label.new.self c.get_label-2.new.self c.bind_label.new.self c.emit_members.new.sink
+    c.start_step.new.self c.put_branch.new.sink c.in_ok-start.start.0 c.in_ok-end.end.0 c.bits-mask.result
+    (tree c.args.state.now c.args.body.now) c.in_ok-start.ensures.answer.1 c.in_ok-start.ensures.answer.2 c.in_ok-end.ensures.answer.1
+    c.in_ok-end.ensures.answer.2 c.in_ok-bind_label.ensures.answer.1 c.in_ok-emit_members.ensures.answer c.in_ok-start_step.ensures.answer.1
+    c.in_ok-put_branch.ensures.answer in
+    l.free
 
 pub emit_loop-returns-clause-answer : goal.emit_loop-returns-clause-answer
 emit_loop-returns-clause-answer t c =
@@ -128,7 +133,10 @@ pub emit_loop-returns-in_err-start_step-clause-lacks : goal.emit_loop-returns-in
 emit_loop-returns-in_err-start_step-clause-lacks t c = λ after p.
     let l = loop_passed c.args.flags c.args.sink.now after c.args.state.now.nominal c.args.depth c.args.cond (tree c.args.state.now c.args.body.now) p in
     lacks_again c.from_residual-in_err-start_step.result _ c.from_residual-in_err-start_step.ensures.1
-    (fails_with_none _ _ (mark_none c.emit_members.new.sink (members_unpoisoned c.args.sink.now c.get_label.new.self c.get_label-2.new.self c.bind_label.new.self c.emit_members.new.sink c.in_ok-start.start.0 c.in_ok-end.end.0 (tree c.args.state.now c.args.body.now) c.in_ok-start.ensures.answer.2 c.in_ok-end.ensures.answer.2 c.in_ok-bind_label.ensures.answer.1 c.in_ok-emit_members.ensures.answer ∙ l.unpoisoned)) c.in_err-start_step.ensures.answer.0)
+    (fails_with_none _ _ (mark_none c.emit_members.new.sink (members_unpoisoned c.args.sink.now c.get_label.new.self c.get_label-2.new.self
+    c.bind_label.new.self c.emit_members.new.sink c.in_ok-start.start.0 c.in_ok-end.end.0 (tree c.args.state.now c.args.body.now)
+    c.in_ok-start.ensures.answer.2 c.in_ok-end.ensures.answer.2 c.in_ok-bind_label.ensures.answer.1 c.in_ok-emit_members.ensures.answer
+    ∙ l.unpoisoned)) c.in_err-start_step.ensures.answer.0)
 
 pub emit_loop-returns-in_err-put_branch-clause-lacks : goal.emit_loop-returns-in_err-put_branch-clause-lacks
 emit_loop-returns-in_err-put_branch-clause-lacks t c = λ after p.

@@ -23,5 +23,5 @@ returns-in-VecImmByteMask c =
     let i = c.in-VecImmByteMask in
     rw i.is
     (ap Some (c.immediate_vector.ensures
-    ∙ ap (λ (v : Reg). code_where (is_vector v) (vri_a 0xe744 (number_of v) c.bits_of_mask.result 0)) c.to_reg-in-VecImmByteMask.ensures
-    ∙ ap (λ (n : ℕ). code_where (is_vector i.rd) (vri_a 0xe744 (number_of i.rd) n 0)) c.bits_of_mask.ensures))
+    ∙ ap (λ (v : Reg). code_where (is_vector v) (vri_a 0xe744 (number_of v) c.bits_of_unsigned_halfword.result 0)) c.to_reg-in-VecImmByteMask.ensures
+    ∙ ap (λ (n : ℕ). code_where (is_vector i.rd) (vri_a 0xe744 (number_of i.rd) n 0)) c.bits_of_unsigned_halfword.ensures))

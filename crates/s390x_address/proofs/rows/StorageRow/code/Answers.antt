@@ -76,3 +76,8 @@ returns-in-Sil c =
     ∙ ap (λ d. encode Sil (slots i.opcode (number_of i.b1 ∷ []) [] (low_halfword i.imm) d)) c.low_12-in-Sil.ensures.value
     ∙ ap (λ row. bytes_of (row_of row)) (sym i.is))
     (λ e p. ap row_encodes i.is ∙ p.1)
+
+pub returns-in-Vrx : goal.returns-in-Vrx
+returns-in-Vrx c =
+    let i = c.in-Vrx in
+    matched _ _ _ _ c.masked_code.result c.masked_code.ensures (λ code p. p ∙ ap (λ row. bytes_of (row_of row)) (sym i.is)) (λ e p. ap row_encodes i.is ∙ p)

@@ -1,0 +1,148 @@
+//! Emitting a move under a condition: a branch over it under the other codes, and the move.
+#![tactic(auto, using(s390x_buffer::proofs::Extending::extends_on, s390x_buffer::proofs::Extending::extends_same))]
+
+ghost use Rattle.std.specs.Prelude.{◌≡◌, ℕ, ◌<◌, ◌+◌, ◌&&◌, [], ◌∷◌, Bool, None, Some, true, cond, nat_lt, OnOk};
+ghost use Rattle.s390x_base.specs.Regs.{number_of};
+ghost use Rattle.s390x_buffer.specs.Extends.{Extends};
+ghost use Rattle.s390x_buffer.specs.State.{put_cause};
+ghost use Rattle.s390x_typed_steps.specs.MachineInstruction.{MachineInstruction, bytes_of, size_of, ri_c};
+ghost use Rattle.s390x_typed_steps.specs.Parts.{Row, row_parts, parts_size};
+ghost use Rattle.s390x_typed_steps.specs.SingleCode.{code_where};
+ghost use Rattle.s390x_typed_steps.specs.VectorComposite.{composite_cause, composite_rows};
+ghost use Rattle.s390x_emit_int.specs.Fragments.{apply_all};
+ghost use Rattle.s390x_emit_int.specs.Emission.{part_fragments};
+ghost use Rattle.s390x_emit_int.specs.Room.{LacksMemory};
+ghost use Rattle.s390x_emit_int.specs.Skips.{is_short_move};
+
+use crate::causes::found_cause;
+use s390x_address::emitters::number;
+use s390x_base::{Code, EmitError, Reg, Writable};
+use s390x_buffer::MachBuffer;
+use s390x_emit_vec::find_move_under;
+use s390x_enc::enc_ri_c;
+use s390x_inst::VecInst;
+
+/// Why a vector instruction of several machine instructions is refused; another one isn't built.
+pub fn composite_cause(inst: &VecInst) -> Option<EmitError>
+    ensures { result ≡ composite_cause inst.now }
+{
+    match find_move_under(inst) {
+        Some(found) => found_cause(found.code),
+        None => Some(EmitError::BadOperator),
+    }
+}
+
+// Whether both are float registers too, where they are vector ones.
+fn both_low(rd: &Writable<Reg>, rm: &Reg) -> bool
+    ensures { result ≡ nat_lt (number_of rd.now) 16 && nat_lt (number_of rm.now) 16 }
+{
+    let rd = rd.to_reg();
+    number(&rd) < 16 && number(rm) < 16
+}
+
+// Whether the move has two bytes; else it has six.
+fn is_short(inst: &VecInst) -> bool
+    ensures { result ≡ is_short_move inst.now }
+{
+    match inst {
+        VecInst::FpuCMov32 { rd, rm, .. } => both_low(rd, rm),
+        VecInst::FpuCMov64 { rd, rm, .. } => both_low(rd, rm),
+        _ => false,
+    }
+}
+
+/// How many bytes it has; none where it isn't built.
+pub fn composite_size(inst: &VecInst) -> u64
+    ensures value { result ≡ parts_size (row_parts (composite_rows inst.now)) }
+    ensures few { result < 16 }
+{
+    let short = is_short(inst);
+    match find_move_under(inst) {
+        Some(_) => under_size(short),
+        None => 0,
+    }
+}
+
+fn under_size(short: bool) -> u64
+    ensures value { result ≡ 4 + (cond short 2 6) }
+    ensures few { result < 16 }
+{
+    if short { 6 } else { 10 }
+}
+
+// BRANCH RELATIVE ON CONDITION over two bytes under a mask.
+fn skip_two(sink: &mut MachBuffer, mask: u8) -> Result<(), EmitError>
+    requires { mask < 16 }
+    ensures answer { OnOk result (sink.new ≡ apply_all sink.old (part_fragments (Row (ri_c 0xa74 mask 3) ∷ []))) }
+    ensures lacks { put_cause sink.old 4 ≡ None → LacksMemory result }
+    ensures kept { Extends sink.old sink.new }
+{
+    let code = enc_ri_c(0xa74, mask, 6)?;
+    sink.put_code(&code)
+}
+
+// The same over six bytes.
+fn skip_six(sink: &mut MachBuffer, mask: u8) -> Result<(), EmitError>
+    requires { mask < 16 }
+    ensures answer { OnOk result (sink.new ≡ apply_all sink.old (part_fragments (Row (ri_c 0xa74 mask 5) ∷ []))) }
+    ensures lacks { put_cause sink.old 4 ≡ None → LacksMemory result }
+    ensures kept { Extends sink.old sink.new }
+{
+    let code = enc_ri_c(0xa74, mask, 10)?;
+    sink.put_code(&code)
+}
+
+fn put_skip(sink: &mut MachBuffer, mask: u8, short: bool) -> Result<(), EmitError>
+    requires { mask < 16 }
+    ensures answer { OnOk result (sink.new ≡ apply_all sink.old (part_fragments (Row (ri_c 0xa74 mask (cond short 3 5)) ∷ []))) }
+    ensures lacks { put_cause sink.old 4 ≡ None → LacksMemory result }
+    ensures kept { Extends sink.old sink.new }
+{
+    if short {
+        skip_two(sink, mask)
+    } else {
+        skip_six(sink, mask)
+    }
+}
+
+// The branch and the move.
+fn put_under(sink: &mut MachBuffer, mask: u8, short: bool, code: &Code) -> Result<(), EmitError>
+    requires { mask < 16 }
+    ensures answer { (m : MachineInstruction) → code.now ≡ bytes_of m → OnOk result (sink.new ≡ apply_all sink.old (part_fragments (Row (ri_c 0xa74 mask (cond short 3 5)) ∷ Row m ∷ []))) }
+    ensures lacks { (m : MachineInstruction) → code.now ≡ bytes_of m → put_cause sink.old (4 + size_of m) ≡ None → LacksMemory result }
+    ensures kept { Extends sink.old sink.new }
+{
+    put_skip(sink, mask, short)?;
+    sink.put_code(code)
+}
+
+// The same, where its registers may stand there.
+fn emit_under(
+    sink: &mut MachBuffer,
+    mask: u8,
+    short: bool,
+    found: Result<Code, EmitError>,
+) -> Result<(), EmitError>
+    requires { mask < 16 }
+    ensures answer { (valid : Bool) (m : MachineInstruction) → found ≡ code_where valid m → OnOk result (sink.new ≡ apply_all sink.old (part_fragments (Row (ri_c 0xa74 mask (cond short 3 5)) ∷ Row m ∷ []))) }
+    ensures lacks { (valid : Bool) (m : MachineInstruction) → found ≡ code_where valid m → put_cause sink.old (4 + size_of m) ≡ None → valid ≡ true → LacksMemory result }
+    ensures kept { Extends sink.old sink.new }
+{
+    match found {
+        Ok(code) => put_under(sink, mask, short, &code),
+        Err(error) => Err(error),
+    }
+}
+
+/// Emits a vector instruction of several machine instructions.
+pub fn emit_composite(sink: &mut MachBuffer, inst: &VecInst) -> Result<(), EmitError>
+    ensures answer { OnOk result (sink.new ≡ apply_all sink.old (part_fragments (row_parts (composite_rows inst.now)))) }
+    ensures lacks { put_cause sink.old (parts_size (row_parts (composite_rows inst.now))) ≡ None → composite_cause inst.now ≡ None → LacksMemory result }
+    ensures kept { Extends sink.old sink.new }
+{
+    let short = is_short(inst);
+    match find_move_under(inst) {
+        Some(found) => emit_under(sink, 15 - found.mask, short, found.code),
+        None => Err(EmitError::BadOperator),
+    }
+}

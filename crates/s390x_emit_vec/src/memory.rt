@@ -1,0 +1,378 @@
+//! Loads and stores of vector registers: their machine rows.
+ghost use Rattle.std.specs.Prelude.{◌≡◌, ◌<◌, ◌≤◌, ◌&&◌, ◌||◌, not, true, IfSome};
+ghost use Rattle.std.specs.Option.{option_map};
+ghost use Rattle.s390x_base.specs.Regs.{number_of};
+ghost use Rattle.s390x_enc.specs.Operands.{is_first_float};
+ghost use Rattle.s390x_address.specs.Rows.{memory_instruction_of, storage_form_of, relative_encodes, rows_encode, may_encode};
+ghost use Rattle.s390x_typed_steps.specs.Memory.{VrxForm, FloatForm, access_vector, access_elements, access_lane, reversed_code, is_left_lane, load_left, store_left, load_lane_opcode, store_lane_opcode, load_reversed_opcode, store_reversed_opcode, lane_memory, vector_memory};
+ghost use Rattle.s390x_typed_steps.specs.VectorInstruction.{is_vector, reuses_vector};
+ghost use Rattle.s390x_emit_vec.specs.Memory.{lane_opcode};
+
+use crate::codes::{number, reuses};
+use crate::lanes::{element_code, is_lane};
+use s390x_address::memory::{MemoryInst, vector};
+use s390x_address::rows::StorageRows;
+use s390x_base::Reg;
+use s390x_inst::{MemArg, VecInst};
+
+/// What is done with one element, and whether its bytes are reversed.
+#[derive(Clone, Copy)]
+pub enum LaneAccess {
+    Load,
+    LoadReversed,
+    Store,
+    StoreReversed,
+}
+
+fn load_opcode(code: u8) -> u16
+    ensures { result ≡ load_lane_opcode code }
+{
+    match code {
+        0 => 0xe700,
+        1 => 0xe701,
+        2 => 0xe703,
+        _ => 0xe702,
+    }
+}
+
+fn load_reversed_opcode(code: u8) -> u16
+    ensures { result ≡ load_reversed_opcode code }
+{
+    match code {
+        1 => 0xe601,
+        2 => 0xe603,
+        _ => 0xe602,
+    }
+}
+
+fn store_opcode(code: u8) -> u16
+    ensures { result ≡ store_lane_opcode code }
+{
+    match code {
+        0 => 0xe708,
+        1 => 0xe709,
+        2 => 0xe70b,
+        _ => 0xe70a,
+    }
+}
+
+fn store_reversed_opcode(code: u8) -> u16
+    ensures { result ≡ store_reversed_opcode code }
+{
+    match code {
+        1 => 0xe609,
+        2 => 0xe60b,
+        _ => 0xe60a,
+    }
+}
+
+fn lane_opcode(access: LaneAccess, code: u8) -> u16
+    ensures { result ≡ lane_opcode access code }
+{
+    match access {
+        LaneAccess::Load => load_opcode(code),
+        LaneAccess::LoadReversed => load_reversed_opcode(code),
+        LaneAccess::Store => store_opcode(code),
+        LaneAccess::StoreReversed => store_reversed_opcode(code),
+    }
+}
+
+// The code of elements of several bytes.
+fn reversed_code(size: u32) -> Option<u8>
+    ensures code { result ≡ reversed_code size }
+    ensures few { IfSome result (λ c. c < 4) }
+    ensures size { IfSome result (λ _. 8 ≤ size) }
+{
+    if size == 8 { None } else { element_code(size) }
+}
+
+// An access by a row, where its register may stand there.
+fn accessed(valid: bool, rows: StorageRows, operand: &MemArg) -> Option<MemoryInst>
+    requires { (relative_encodes rows && (not valid || rows_encode rows)) ≡ true }
+    ensures row { option_map memory_instruction_of result ≡ access_vector valid (storage_form_of rows) operand.now }
+    ensures encodes { IfSome result (λ x. may_encode x ≡ true) }
+{
+    Some(MemoryInst {
+        rows,
+        operand: *operand,
+        accesses: true,
+        operands_valid: valid,
+        reads_scratch: false,
+    })
+}
+
+#[tactic(auto, using(crate::proofs::Accessing::masked_encodes))]
+fn masked(valid: bool, register: Reg, opcode: u16, mask: u8, operand: &MemArg) -> Option<MemoryInst>
+    requires valid { valid ≡ true → is_vector register ≡ true }
+    requires mask { mask < 16 }
+    ensures row { option_map memory_instruction_of result ≡ access_vector valid (VrxForm (number_of register) opcode mask) operand.now }
+    ensures encodes { IfSome result (λ x. may_encode x ≡ true) }
+{
+    accessed(
+        valid,
+        StorageRows::Vector {
+            register,
+            vrx: opcode,
+            mask,
+        },
+        operand,
+    )
+}
+
+// A register and its elements, by the code of their size.
+fn elements(opcode: u16, register: Reg, code: Option<u8>, operand: &MemArg) -> Option<MemoryInst>
+    requires { IfSome code (λ c. c < 16) }
+    ensures row { option_map memory_instruction_of result ≡ access_elements opcode register code operand.now }
+    ensures encodes { IfSome result (λ x. may_encode x ≡ true) }
+{
+    match code {
+        Some(code) => {
+            let valid = vector(&register);
+            masked(valid, register, opcode, code, operand)
+        }
+        None => None,
+    }
+}
+
+// One element, where there is such a one.
+#[tactic(auto, using(crate::proofs::Accessing::few_lanes))]
+fn one_lane(
+    access: LaneAccess,
+    valid: bool,
+    register: Reg,
+    code: Option<u8>,
+    size: u32,
+    lane: u8,
+    operand: &MemArg,
+) -> Option<MemoryInst>
+    requires valid { valid ≡ true → is_vector register ≡ true }
+    requires size { IfSome code (λ _. 8 ≤ size) }
+    ensures row { option_map memory_instruction_of result ≡ access_lane valid (lane_opcode access) (number_of register) code size lane operand.now }
+    ensures encodes { IfSome result (λ x. may_encode x ≡ true) }
+{
+    match code {
+        Some(code) => {
+            if is_lane(size, lane) {
+                masked(valid, register, lane_opcode(access, code), lane, operand)
+            } else {
+                None
+            }
+        }
+        None => None,
+    }
+}
+
+// One element of a register that is also an input.
+#[tactic(auto, using(crate::proofs::Encoding::reused_real))]
+fn reused_lane(
+    access: LaneAccess,
+    register: Reg,
+    input: Reg,
+    code: Option<u8>,
+    size: u32,
+    lane: u8,
+    operand: &MemArg,
+) -> Option<MemoryInst>
+    requires { IfSome code (λ _. 8 ≤ size) }
+    ensures row { option_map memory_instruction_of result ≡ access_lane (reuses_vector register input) (lane_opcode access) (number_of register) code size lane operand.now }
+    ensures encodes { IfSome result (λ x. may_encode x ≡ true) }
+{
+    let valid = reuses(&register, &input);
+    one_lane(access, valid, register, code, size, lane, operand)
+}
+
+// One element of a register.
+fn lane_of(
+    access: LaneAccess,
+    register: Reg,
+    code: Option<u8>,
+    size: u32,
+    lane: u8,
+    operand: &MemArg,
+) -> Option<MemoryInst>
+    requires { IfSome code (λ _. 8 ≤ size) }
+    ensures row { option_map memory_instruction_of result ≡ access_lane (is_vector register) (lane_opcode access) (number_of register) code size lane operand.now }
+    ensures encodes { IfSome result (λ x. may_encode x ≡ true) }
+{
+    let valid = vector(&register);
+    one_lane(access, valid, register, code, size, lane, operand)
+}
+
+// The leftmost word or doubleword of a register that is a float register too.
+fn is_left_lane(size: u32, lane: u8, register: &Reg) -> bool
+    ensures { result ≡ is_left_lane size lane (number_of register.now) }
+{
+    (size == 32 || size == 64) && lane == 0 && number(register) < 16
+}
+
+#[tactic(auto, using(crate::proofs::Accessing::floats_encode))]
+fn float(register: Reg, rx: u8, rxy: u16, operand: &MemArg) -> Option<MemoryInst>
+    requires floats { (is_first_float rx && is_first_float rxy) ≡ true }
+    requires low { number_of register < 16 }
+    ensures row { option_map memory_instruction_of result ≡ access_vector (is_vector register) (FloatForm (number_of register) rx rxy) operand.now }
+    ensures encodes { IfSome result (λ x. may_encode x ≡ true) }
+{
+    let valid = vector(&register);
+    accessed(valid, StorageRows::Float { register, rx, rxy }, operand)
+}
+
+fn load_left(size: u32, register: Reg, operand: &MemArg) -> Option<MemoryInst>
+    requires { number_of register < 16 }
+    ensures row { option_map memory_instruction_of result ≡ access_vector (is_vector register) (load_left size (number_of register)) operand.now }
+    ensures encodes { IfSome result (λ x. may_encode x ≡ true) }
+{
+    if size == 32 {
+        float(register, 0x78, 0xed64, operand)
+    } else {
+        float(register, 0x68, 0xed65, operand)
+    }
+}
+
+fn store_left(size: u32, register: Reg, operand: &MemArg) -> Option<MemoryInst>
+    requires { number_of register < 16 }
+    ensures row { option_map memory_instruction_of result ≡ access_vector (is_vector register) (store_left size (number_of register)) operand.now }
+    ensures encodes { IfSome result (λ x. may_encode x ≡ true) }
+{
+    if size == 32 {
+        float(register, 0x70, 0xed66, operand)
+    } else {
+        float(register, 0x60, 0xed67, operand)
+    }
+}
+
+// One element, where the others may become any.
+#[tactic(auto, using(crate::proofs::Accessing::left_low))]
+fn load_alone(size: u32, register: Reg, lane: u8, operand: &MemArg) -> Option<MemoryInst>
+    ensures row { option_map memory_instruction_of result ≡ vector_memory (VecInst.VecLoadLaneUndef size register operand.now lane) }
+    ensures encodes { IfSome result (λ x. may_encode x ≡ true) }
+{
+    if is_left_lane(size, lane, &register) {
+        load_left(size, register, operand)
+    } else {
+        let code = element_code(size);
+        lane_of(LaneAccess::Load, register, code, size, lane, operand)
+    }
+}
+
+#[tactic(auto, using(crate::proofs::Accessing::left_low))]
+fn store_lane(size: u32, register: Reg, lane: u8, operand: &MemArg) -> Option<MemoryInst>
+    ensures row { option_map memory_instruction_of result ≡ vector_memory (VecInst.VecStoreLane size register operand.now lane) }
+    ensures encodes { IfSome result (λ x. may_encode x ≡ true) }
+{
+    if is_left_lane(size, lane, &register) {
+        store_left(size, register, operand)
+    } else {
+        let code = element_code(size);
+        lane_of(LaneAccess::Store, register, code, size, lane, operand)
+    }
+}
+
+// Accesses of one element.
+fn lane_memory(inst: &VecInst) -> Option<MemoryInst>
+    ensures row { option_map memory_instruction_of result ≡ lane_memory inst.now }
+    ensures encodes { IfSome result (λ x. may_encode x ≡ true) }
+{
+    match inst {
+        VecInst::VecLoadLane {
+            size,
+            rd,
+            ri,
+            mem,
+            lane_imm,
+        } => reused_lane(
+            LaneAccess::Load,
+            rd.to_reg(),
+            *ri,
+            element_code(*size),
+            *size,
+            *lane_imm,
+            mem,
+        ),
+        VecInst::VecLoadLaneRev {
+            size,
+            rd,
+            ri,
+            mem,
+            lane_imm,
+        } => reused_lane(
+            LaneAccess::LoadReversed,
+            rd.to_reg(),
+            *ri,
+            reversed_code(*size),
+            *size,
+            *lane_imm,
+            mem,
+        ),
+        VecInst::VecLoadLaneUndef {
+            size,
+            rd,
+            mem,
+            lane_imm,
+        } => load_alone(*size, rd.to_reg(), *lane_imm, mem),
+        VecInst::VecLoadLaneRevUndef {
+            size,
+            rd,
+            mem,
+            lane_imm,
+        } => lane_of(
+            LaneAccess::LoadReversed,
+            rd.to_reg(),
+            reversed_code(*size),
+            *size,
+            *lane_imm,
+            mem,
+        ),
+        VecInst::VecStoreLane {
+            size,
+            rd,
+            mem,
+            lane_imm,
+        } => store_lane(*size, *rd, *lane_imm, mem),
+        VecInst::VecStoreLaneRev {
+            size,
+            rd,
+            mem,
+            lane_imm,
+        } => lane_of(
+            LaneAccess::StoreReversed,
+            *rd,
+            reversed_code(*size),
+            *size,
+            *lane_imm,
+            mem,
+        ),
+        _ => None,
+    }
+}
+
+/// The machine rows and the operand of a load or a store of a vector register; None for another instruction, and where there is no such element.
+pub fn find_vector_memory(inst: &VecInst) -> Option<MemoryInst>
+    ensures row { option_map memory_instruction_of result ≡ vector_memory inst.now }
+    ensures encodes { IfSome result (λ x. may_encode x ≡ true) }
+{
+    match inst {
+        VecInst::VecLoad { rd, mem } => elements(0xe706, rd.to_reg(), Some(0), mem),
+        VecInst::VecLoadRev { rd, mem } => elements(0xe606, rd.to_reg(), Some(4), mem),
+        VecInst::VecLoadByte16Rev { rd, mem } => elements(0xe606, rd.to_reg(), Some(1), mem),
+        VecInst::VecLoadByte32Rev { rd, mem } => elements(0xe606, rd.to_reg(), Some(2), mem),
+        VecInst::VecLoadByte64Rev { rd, mem } => elements(0xe606, rd.to_reg(), Some(3), mem),
+        VecInst::VecLoadElt16Rev { rd, mem } => elements(0xe607, rd.to_reg(), Some(1), mem),
+        VecInst::VecLoadElt32Rev { rd, mem } => elements(0xe607, rd.to_reg(), Some(2), mem),
+        VecInst::VecLoadElt64Rev { rd, mem } => elements(0xe607, rd.to_reg(), Some(3), mem),
+        VecInst::VecStore { rd, mem } => elements(0xe70e, *rd, Some(0), mem),
+        VecInst::VecStoreRev { rd, mem } => elements(0xe60e, *rd, Some(4), mem),
+        VecInst::VecStoreByte16Rev { rd, mem } => elements(0xe60e, *rd, Some(1), mem),
+        VecInst::VecStoreByte32Rev { rd, mem } => elements(0xe60e, *rd, Some(2), mem),
+        VecInst::VecStoreByte64Rev { rd, mem } => elements(0xe60e, *rd, Some(3), mem),
+        VecInst::VecStoreElt16Rev { rd, mem } => elements(0xe60f, *rd, Some(1), mem),
+        VecInst::VecStoreElt32Rev { rd, mem } => elements(0xe60f, *rd, Some(2), mem),
+        VecInst::VecStoreElt64Rev { rd, mem } => elements(0xe60f, *rd, Some(3), mem),
+        VecInst::VecLoadReplicate { size, rd, mem } => {
+            elements(0xe705, rd.to_reg(), element_code(*size), mem)
+        }
+        VecInst::VecLoadReplicateRev { size, rd, mem } => {
+            elements(0xe605, rd.to_reg(), reversed_code(*size), mem)
+        }
+        _ => lane_memory(inst),
+    }
+}

@@ -1,0 +1,202 @@
+-- The steps of vector instructions that are several machine instructions.
+use Rattle.std.proofs.Common.{◌≡◌, ℕ, zero, suc, ◌+◌, ◌-◌, ◌/◌, ◌%◌, ◌^◌, ◌<◌, ℤ, pos, [], ◌∷◌, Option, Some, None, Bool, true, false, cond, ◌&&◌, not, refl, sym, ap, ◌∙◌, subst, arith, nat_lt, nat_eq, ltb-true, true≢false}
+use Rattle.std.specs.Prelude.{◌+ℤ◌, ◌*ℤ◌}
+use Rattle.std.specs.Int.{w16, cast_signed}
+use Rattle.std.proofs.lemmas.Bool.{and_parts}
+use Rattle.s390x_base.specs.Regs.{number_of}
+use Rattle.s390x_base.specs.declared.error.EmitError.TheVariants.{BadOperator, BadRegister}
+use Rattle.s390x_base.specs.declared.regs.Reg.{Reg}
+use Rattle.s390x_inst.specs.declared.vec_inst.VecInst.{VecInst}
+use Rattle.s390x_inst.specs.declared.vec_inst.VecInst.TheVariants.{FpuCMov32, FpuCMov64, VecCMov}
+use Rattle.s390x_inst.specs.declared.vec_inst.VecInst.TheVariants.{VecLoad, VecLoadRev, VecLoadByte16Rev, VecLoadByte32Rev, VecLoadByte64Rev, VecLoadElt16Rev, VecLoadElt32Rev, VecLoadElt64Rev, VecStore, VecStoreRev, VecStoreByte16Rev, VecStoreByte32Rev, VecStoreByte64Rev, VecStoreElt16Rev, VecStoreElt32Rev, VecStoreElt64Rev}
+use Rattle.s390x_inst.specs.declared.vec_inst.VecInst.TheVariants.{VecLoadReplicate, VecLoadReplicateRev, VecLoadLane, VecLoadLaneRev, VecLoadLaneUndef, VecLoadLaneRevUndef, VecStoreLane, VecStoreLaneRev}
+use Rattle.s390x_format.specs.declared.kind.FormatKind.TheVariants.{Rr, RiC}
+use Rattle.s390x_format.specs.declared.row.Allowed.TheVariants.{Any}
+use Rattle.s390x_format.specs.Formats.{length_of}
+use Rattle.s390x_lanes.specs.declared.operation.VectorOperation.TheVariants as O
+use Rattle.s390x_lanes.specs.declared.size.ElementSize.{ElementSize}
+use Rattle.s390x_lanes.specs.declared.size.ElementSize.TheVariants.{Halfword, Word, Doubleword, Quadword}
+use Rattle.s390x_operations.specs.Access.{Untouched}
+use Rattle.s390x_operations.specs.Effects.{Refines, MayRefuse, access, is_selected, refused}
+use Rattle.s390x_operations.specs.Numbers.{low}
+use Rattle.s390x_operations.specs.State.{Registers, wrapping_add64}
+use Rattle.s390x_operations.specs.declared.effect.Operation.{Operation}
+use Rattle.s390x_operations.specs.declared.effect.VectorLayout.{VectorLayout}
+use Rattle.s390x_operations.specs.declared.size.Size.TheVariants as Size
+use Rattle.s390x_operations.specs.declared.stop.ConditionCode.{ConditionCode}
+use Rattle.s390x_operations.specs.declared.stop.ConditionCode.TheVariants.{Code0, Code1, Code2, Code3}
+use Rattle.s390x_operations.specs.declared.stop.StopKind.{StopKind}
+use Rattle.s390x_typed_steps.specs.General.{four_bits}
+use Rattle.s390x_typed_steps.specs.MachineInstruction.{MachineInstruction, bytes_of, size_of, ri_c, rr, vrr_a}
+use Rattle.s390x_typed_steps.specs.Memory.{access_elements, vector_memory}
+use Rattle.s390x_typed_steps.specs.Parts.{Row, memory_or, parts_or, row_parts, step_parts}
+use Rattle.s390x_typed_steps.specs.SingleInstruction.{SingleInstruction, single_with}
+use Rattle.s390x_typed_steps.specs.Steps.{Step}
+use Rattle.s390x_typed_steps.specs.VectorComposite.{composite_cause, composite_rows, skipping}
+use Rattle.s390x_typed_steps.specs.VectorInstruction.{divides, is_vector, move_left_row, reuses_vector, vector_operands_valid, vector_row, vector_stop}
+use Rattle.s390x_machine.specs.declared.semantics.Action.TheVariants.{Perform, Branch}
+use Rattle.s390x_machine.specs.declared.semantics.RowSemantics.TheVariants.{MoveLeft}
+use Rattle.s390x_machine.specs.declared.semantics.VectorStorage.TheVariants as Storage
+use Rattle.s390x_machine.specs.CodeAt.{AllCodeAt, OperandsValidOr, ValidMemoryOr}
+use Rattle.s390x_machine.specs.Layout.{Layout, step_address}
+use Rattle.s390x_machine.specs.Machine.{ActionStep}
+use Rattle.s390x_machine.specs.OneStep.{StepRuns}
+use Rattle.s390x_machine.specs.Semantics.{left_bits, semantics_in, semantics_of}
+use Rattle.s390x_machine.specs.StepKinds.{PerformsWhere, kind_or, on_vectors, performed_by, where_kind}
+use Rattle.s390x_machine.specs.Storage.{vector_operand_step}
+use Rattle.s390x_machine.specs.Typed.{kind_of_step}
+use Rattle.s390x_machine.specs.VectorSteps.{computes_one_vector, conditional_operation, moves_left, vector_operation}
+use Rattle.s390x_machine.proofs.Addresses.{moved, sum_more}
+use Rattle.s390x_machine.proofs.Built.{StepAt, exactly, size_as, stand_as, step_even, step_form}
+use Rattle.s390x_machine.proofs.Composites.{where_runs}
+use Rattle.s390x_machine.proofs.Fetching.{StandsAt, row_at}
+use Rattle.s390x_machine.proofs.Listing.{Meant, few_digits}
+use Rattle.s390x_machine.proofs.Rows.{brc_listed, fits_ri_c, fits_rr}
+use Rattle.s390x_machine.proofs.Simulation.{RowAt}
+use Rattle.s390x_machine.proofs.SingleInstruction.{DoesThere, meant_at}
+use Rattle.s390x_machine.proofs.Standing.{inside_at, inside_first, next_place}
+use Rattle.s390x_machine.proofs.VectorRows.{elements_listed, fits_vrr_a, ldr_row, ler_row, move_row}
+use Rattle.s390x_machine.proofs.VectorSteps.{elements_computed, moves_alone, no_third, two_vectors, reused_vector, vector_instruction_runs, vector_number, vector_there}
+use Rattle.s390x_machine.proofs.VectorStorage.{load_alone_runs, load_lane_runs, load_reversed_alone_runs, load_reversed_bytes, load_reversed_elements, load_reversed_runs, load_whole, loads_runs, replicated_runs, reversed_replicated_runs, store_lane_runs, store_reversed_bytes, store_reversed_elements, store_reversed_runs, store_whole, stores_runs}
+
+-- ---- a branch over a row
+
+-- of two digits one is set
+other_digit : (a b : ℕ) → a + b ≡ 1 → nat_eq a 1 ≡ not (nat_eq b 1)
+other_digit zero (suc zero) e = refl
+other_digit (suc zero) zero e = refl
+other_digit zero zero e = absurd (omega (arith, e))
+other_digit zero (suc (suc b)) e = absurd (omega (arith, e))
+other_digit (suc zero) (suc b) e = absurd (omega (arith, e))
+other_digit (suc (suc a)) b e = absurd (omega (arith, e))
+
+-- a code is selected by a mask or by its inverse
+inverts : (mask : ℕ) → mask < 16 → (code : ConditionCode) → is_selected (15 - mask) code ≡ not (is_selected mask code)
+inverts mask lt Code0 = other_digit ((15 - mask) / 8 % 2) (mask / 8 % 2) (omega (arith, lt))
+inverts mask lt Code1 = other_digit ((15 - mask) / 4 % 2) (mask / 4 % 2) (omega (arith, lt))
+inverts mask lt Code2 = other_digit ((15 - mask) / 2 % 2) (mask / 2 % 2) (omega (arith, lt))
+inverts mask lt Code3 = other_digit ((15 - mask) % 2) (mask % 2) (omega (arith, lt))
+
+-- so many bytes on, of an instruction's own place
+brc_at : (L : Layout) → AllCodeAt L → (offset : ℕ) → offset % 2 ≡ 0 → (mask half distance : ℕ) → mask < 16 → half < 2 ^ 16 → pos 2 *ℤ cast_signed w16 (half % 2 ^ 16) ≡ pos distance → StandsAt L.image offset (bytes_of (ri_c 0xa74 mask half)) →
+    RowAt L (wrapping_add64 L.image.base offset) (λ r. Branch mask (wrapping_add64 (wrapping_add64 L.image.base offset) distance)) (length_of RiC)
+unfolding semantics_in semantics_of
+brc_at L all offset even mask half distance lm lh e s =
+    let here = wrapping_add64 L.image.base offset in
+    row_at L offset (ri_c 0xa74 mask half) (λ r. Branch mask (wrapping_add64 here distance)) all.even even all.fits s (fits_ri_c 0xa74 mask half (omega arith) lm lh) (brc_listed mask half) (λ state event t at h.
+    subst (λ a. ActionStep (Branch mask a) (length_of RiC) state event t) (ap (λ p. low Size.Doubleword (pos p +ℤ pos 2 *ℤ cast_signed w16 (half % 2 ^ 16))) at ∙ ap (λ z. low Size.Doubleword (pos here +ℤ z)) e ∙ moved here distance) h)
+
+-- ---- moves under a condition
+
+half_even : (o : ℕ) → o % 2 ≡ 0 → (o + 4) % 2 ≡ 0
+half_even o e = omega (arith, e)
+
+module _ {L : Layout} {k : ℕ} {s : Step} (b : StepAt L k s) where
+  -- a row that is skipped under the codes that the mask doesn't select. The branch over it leads so many bytes on
+  skip_runs : (mask half distance : ℕ) (row : MachineInstruction) (does operation : Registers → Operation) → kind_of_step L (Some s) ≡ Some (PerformsWhere mask operation) → step_parts s ≡ Row (ri_c 0xa74 (15 - mask) half) ∷ Row row ∷ [] → mask < 16 → half < 2 ^ 16 → pos 2 *ℤ cast_signed w16 (half % 2 ^ 16) ≡ pos distance →
+      4 + size_of row ≡ distance → 0 < size_of row → DoesThere L b.all (L.offsets.step k + 4) (half_even (L.offsets.step k) (step_even b)) row does → ((r : Registers) → Refines (does r) (operation r)) → ((r : Registers) → access (operation r).effect ≡ Untouched) → ((r : Registers) → refused (operation r).effect ≡ None) → ((r : Registers) (kind : StopKind) → MayRefuse (operation r).effect kind → ⊥) → StepRuns L k
+  unfolding length_of
+  skip_runs mask half distance row does operation is parts lm lh words long some there refines untouched never_refused never_stops =
+      let o = L.offsets.step k in
+      let stands = stand_as b _ parts in
+      let size : L.offsets.step (suc k) ≡ o + distance = size_as b _ parts ∙ omega (arith, long) in
+      let second : wrapping_add64 (step_address L k) 4 ≡ wrapping_add64 L.image.base (o + 4) = sum_more L.image.base o 4 in
+      where_runs L k mask operation (step_form b _ is) (record {
+        inverse = 15 - mask;
+        size = 4;
+        row_size = size_of row;
+        act = λ r. Perform (does r);
+        branch_row = subst (λ q. RowAt L (step_address L k) (λ r. Branch (15 - mask) q) 4) (next_place L k distance size) (brc_at L b.all o (step_even b) (15 - mask) half distance (omega arith) lh words stands.0);
+        row = subst (λ q. RowAt L q (λ r. Perform (does r)) (size_of row)) (sym second) (there stands.1.0);
+        here = inside_first L k distance size (omega (arith, long));
+        here_row = inside_at L k 4 distance size (omega (arith, long, some));
+        next = sum_more (step_address L k) 4 (size_of row) ∙ ap (λ n. wrapping_add64 (step_address L k) n) long ∙ next_place L k distance size;
+        inverts = λ r. inverts mask lm r.code;
+        does = refines;
+        untouched = untouched;
+        never_refused = never_refused;
+        never_stops = never_stops;
+      })
+
+  -- a move of a whole register
+  skipped_vector : (mask d n : ℕ) (operation : Registers → Operation) → kind_of_step L (Some s) ≡ Some (PerformsWhere mask operation) → step_parts s ≡ row_parts (skipping mask (vrr_a 0xe756 d n 0)) → mask < 16 → d < 32 → n < 32 → ((r : Registers) → Refines (elements_computed (vrr_a 0xe756 d n 0) O.Move r) (operation r)) →
+      ((r : Registers) → access (operation r).effect ≡ Untouched) → ((r : Registers) → refused (operation r).effect ≡ None) → ((r : Registers) (kind : StopKind) → MayRefuse (operation r).effect kind → ⊥) → StepRuns L k
+  unfolding length_of
+  skipped_vector mask d n operation is parts lm ld ln refines untouched never_refused never_stops =
+      let x = vrr_a 0xe756 d n 0 in
+      let row = move_row d n in
+      let fit = fits_vrr_a 0xe756 d n 0 (few_digits (elements_listed row)) ld ln (omega arith) in
+      skip_runs mask 5 10 x (elements_computed x O.Move) operation is parts lm (omega arith) refl refl (omega arith) (vector_there L b.all (L.offsets.step k + 4) (half_even (L.offsets.step k) (step_even b)) x O.Move row fit) refines untouched never_refused never_stops
+
+  -- a move of the leftmost element
+  skipped_left : (opcode : ℕ) (e : ElementSize) → opcode < 256 → Meant Rr Any opcode (MoveLeft e) → (mask d n : ℕ) → kind_of_step L (Some s) ≡ Some (PerformsWhere mask (moves_left e d n)) → mask < 16 → (d < 32) × (n < 32) → step_parts s ≡ row_parts (skipping mask (move_left_row opcode d n)) → StepRuns L k
+  unfolding length_of
+  skipped_left opcode e short listed mask d n is lm few = go (nat_lt d 16 && nat_lt n 16) refl
+    where
+      go : (t : Bool) → (nat_lt d 16 && nat_lt n 16) ≡ t → step_parts s ≡ row_parts (skipping mask (cond t (rr opcode d n) (vrr_a 0xe756 d n 0))) → StepRuns L k
+      go true test parts =
+          let tests = and_parts (nat_lt d 16) (nat_lt n 16) test in
+          let even = half_even (L.offsets.step k) (step_even b) in
+          skip_runs mask 3 6 (rr opcode d n) (moves_left e d n) (moves_left e d n) is parts lm (omega arith) refl refl (omega arith) (λ st.
+          meant_at L b.all (L.offsets.step k + 4) even (rr opcode d n) (MoveLeft e) (moves_left e d n) listed (fits_rr opcode d n short (ltb-true d 16 tests.0) (ltb-true n 16 tests.1)) refl (λ r p. refl) st) (λ r. exactly (moves_left e d n r)) (λ r. refl) (λ r. refl) (λ r kind h. h)
+      go false test parts =
+          skipped_vector mask d n (moves_left e d n) is parts lm few.0 few.1 (λ r. moves_alone d (left_bits e) (r.vector d) (r.vector n) (r.vector 0) (r.vector 0)) (λ r. refl) (λ r. refl) (λ r kind h. h)
+
+-- ---- all of them
+
+-- where a cause would stand, a row's registers may stand there
+no_several : (o : Option SingleInstruction) → OperandsValidOr o (Some BadOperator ≡ None) → OperandsValidOr o ⊥
+no_several None h = absurd (cc)
+no_several (Some x) h = h
+
+moved_registers : (rd ri rm : Reg) → cond (reuses_vector rd ri && is_vector rm) None (Some BadRegister) ≡ None → (number_of rd < 32) × (number_of rm < 32)
+moved_registers rd ri rm h = go (reuses_vector rd ri && is_vector rm) refl h
+  where
+    go : (t : Bool) → (reuses_vector rd ri && is_vector rm) ≡ t → cond t None (Some BadRegister) ≡ None → (number_of rd < 32) × (number_of rm < 32)
+    go false e h = absurd (cc)
+    go true e h =
+        let p = and_parts (reuses_vector rd ri) (is_vector rm) e in
+        let q = and_parts (is_vector rd && is_vector ri) (nat_eq (number_of rd) (number_of ri)) p.0 in
+        ((two_vectors rd ri q.0).0, vector_number rm p.1)
+
+-- a step that is a vector instruction: one machine instruction, an access, or several machine instructions
+abbrev pub IsAnyVectorStep : Layout → Step → VecInst → Type 0
+IsAnyVectorStep L s v =
+    let single = single_with (vector_operands_valid v) (vector_row v) in
+    (kind_of_step L (Some s) ≡ Some (kind_or (on_vectors (divides v) (vector_operation v)) (kind_or (performed_by L (vector_operand_step v)) (where_kind (conditional_operation v)))))
+    × (step_parts s ≡ parts_or single (vector_stop v) (memory_or (vector_memory v) (row_parts (composite_rows v))))
+    × OperandsValidOr single (ValidMemoryOr L (vector_memory v) (composite_cause v ≡ None))
+
+pub any_vector_runs : {L : Layout} {k : ℕ} {s : Step} (b : StepAt L k s) (v : VecInst) → IsAnyVectorStep L s v → StepRuns L k
+any_vector_runs b (FpuCMov32 rd mask ri rm) is = skipped_left b 0x38 Word (omega arith) ler_row (four_bits mask) (number_of rd) (number_of rm) is.0 (omega arith) (moved_registers rd ri rm is.2) is.1
+any_vector_runs b (FpuCMov64 rd mask ri rm) is = skipped_left b 0x28 Doubleword (omega arith) ldr_row (four_bits mask) (number_of rd) (number_of rm) is.0 (omega arith) (moved_registers rd ri rm is.2) is.1
+any_vector_runs b (VecCMov rd mask ri rm) is =
+    let d = number_of rd in
+    let n = number_of rm in
+    let few = moved_registers rd ri rm is.2 in
+    skipped_vector b (four_bits mask) d n (computes_one_vector O.Move d n) is.0 is.1 (omega arith) few.0 few.1 (λ r. no_third O.Move refl d (r.vector d) (r.vector n) (r.vector 0) (r.vector 0)) (λ r. refl) (λ r. refl) (λ r kind h. true≢false (sym h.1))
+any_vector_runs b (VecLoad rd mem) is = loads_runs b Storage.Whole VectorLayout.Whole 0xe706 0 0 0 load_whole (omega arith) (is_vector rd) (number_of rd) refl (λ base index n. refl) (vector_number rd) mem is
+any_vector_runs b (VecLoadRev rd mem) is = loads_runs b Storage.ReversedBytes (VectorLayout.ReversedBytes Quadword) 0xe606 4 1 4 load_reversed_bytes (omega arith) (is_vector rd) (number_of rd) refl (λ base index n. refl) (vector_number rd) mem is
+any_vector_runs b (VecLoadByte16Rev rd mem) is = loads_runs b Storage.ReversedBytes (VectorLayout.ReversedBytes Halfword) 0xe606 1 1 4 load_reversed_bytes (omega arith) (is_vector rd) (number_of rd) refl (λ base index n. refl) (vector_number rd) mem is
+any_vector_runs b (VecLoadByte32Rev rd mem) is = loads_runs b Storage.ReversedBytes (VectorLayout.ReversedBytes Word) 0xe606 2 1 4 load_reversed_bytes (omega arith) (is_vector rd) (number_of rd) refl (λ base index n. refl) (vector_number rd) mem is
+any_vector_runs b (VecLoadByte64Rev rd mem) is = loads_runs b Storage.ReversedBytes (VectorLayout.ReversedBytes Doubleword) 0xe606 3 1 4 load_reversed_bytes (omega arith) (is_vector rd) (number_of rd) refl (λ base index n. refl) (vector_number rd) mem is
+any_vector_runs b (VecLoadElt16Rev rd mem) is = loads_runs b Storage.ReversedElements (VectorLayout.ReversedElements Halfword) 0xe607 1 1 3 load_reversed_elements (omega arith) (is_vector rd) (number_of rd) refl (λ base index n. refl) (vector_number rd) mem is
+any_vector_runs b (VecLoadElt32Rev rd mem) is = loads_runs b Storage.ReversedElements (VectorLayout.ReversedElements Word) 0xe607 2 1 3 load_reversed_elements (omega arith) (is_vector rd) (number_of rd) refl (λ base index n. refl) (vector_number rd) mem is
+any_vector_runs b (VecLoadElt64Rev rd mem) is = loads_runs b Storage.ReversedElements (VectorLayout.ReversedElements Doubleword) 0xe607 3 1 3 load_reversed_elements (omega arith) (is_vector rd) (number_of rd) refl (λ base index n. refl) (vector_number rd) mem is
+any_vector_runs b (VecStore rd mem) is = stores_runs b Storage.Whole VectorLayout.Whole 0xe70e 0 0 0 store_whole (omega arith) (is_vector rd) (number_of rd) refl (λ base index n. refl) (vector_number rd) mem is
+any_vector_runs b (VecStoreRev rd mem) is = stores_runs b Storage.ReversedBytes (VectorLayout.ReversedBytes Quadword) 0xe60e 4 1 4 store_reversed_bytes (omega arith) (is_vector rd) (number_of rd) refl (λ base index n. refl) (vector_number rd) mem is
+any_vector_runs b (VecStoreByte16Rev rd mem) is = stores_runs b Storage.ReversedBytes (VectorLayout.ReversedBytes Halfword) 0xe60e 1 1 4 store_reversed_bytes (omega arith) (is_vector rd) (number_of rd) refl (λ base index n. refl) (vector_number rd) mem is
+any_vector_runs b (VecStoreByte32Rev rd mem) is = stores_runs b Storage.ReversedBytes (VectorLayout.ReversedBytes Word) 0xe60e 2 1 4 store_reversed_bytes (omega arith) (is_vector rd) (number_of rd) refl (λ base index n. refl) (vector_number rd) mem is
+any_vector_runs b (VecStoreByte64Rev rd mem) is = stores_runs b Storage.ReversedBytes (VectorLayout.ReversedBytes Doubleword) 0xe60e 3 1 4 store_reversed_bytes (omega arith) (is_vector rd) (number_of rd) refl (λ base index n. refl) (vector_number rd) mem is
+any_vector_runs b (VecStoreElt16Rev rd mem) is = stores_runs b Storage.ReversedElements (VectorLayout.ReversedElements Halfword) 0xe60f 1 1 3 store_reversed_elements (omega arith) (is_vector rd) (number_of rd) refl (λ base index n. refl) (vector_number rd) mem is
+any_vector_runs b (VecStoreElt32Rev rd mem) is = stores_runs b Storage.ReversedElements (VectorLayout.ReversedElements Word) 0xe60f 2 1 3 store_reversed_elements (omega arith) (is_vector rd) (number_of rd) refl (λ base index n. refl) (vector_number rd) mem is
+any_vector_runs b (VecStoreElt64Rev rd mem) is = stores_runs b Storage.ReversedElements (VectorLayout.ReversedElements Doubleword) 0xe60f 3 1 3 store_reversed_elements (omega arith) (is_vector rd) (number_of rd) refl (λ base index n. refl) (vector_number rd) mem is
+any_vector_runs b (VecLoadReplicate size rd mem) is = replicated_runs b (is_vector rd) size (number_of rd) mem (λ o. access_elements 0xe705 rd o mem) refl (λ c. refl) (vector_number rd) is
+any_vector_runs b (VecLoadReplicateRev size rd mem) is = reversed_replicated_runs b (is_vector rd) size (number_of rd) mem (λ o. access_elements 0xe605 rd o mem) refl (λ c. refl) (vector_number rd) is
+any_vector_runs b (VecLoadLane size rd ri mem lane) is = load_lane_runs b (reuses_vector rd ri) size lane (number_of rd) mem (reused_vector rd ri) is
+any_vector_runs b (VecLoadLaneRev size rd ri mem lane) is = load_reversed_runs b (reuses_vector rd ri) size lane (number_of rd) mem (reused_vector rd ri) is
+any_vector_runs b (VecLoadLaneUndef size rd mem lane) is = load_alone_runs b (is_vector rd) size lane (number_of rd) mem (vector_number rd) is
+any_vector_runs b (VecLoadLaneRevUndef size rd mem lane) is = load_reversed_alone_runs b (is_vector rd) size lane (number_of rd) mem (vector_number rd) is
+any_vector_runs b (VecStoreLane size rd mem lane) is = store_lane_runs b (is_vector rd) size lane (number_of rd) mem (vector_number rd) is
+any_vector_runs b (VecStoreLaneRev size rd mem lane) is = store_reversed_runs b (is_vector rd) size lane (number_of rd) mem (vector_number rd) is
+any_vector_runs b v is = vector_instruction_runs b v (is.0, is.1, no_several (single_with (vector_operands_valid v) (vector_row v)) is.2)
