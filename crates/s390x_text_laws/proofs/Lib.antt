@@ -1,0 +1,6 @@
+pub mod Elements
+pub mod VectorMemory
+pub mod Vectors
+pub mod Rows
+pub mod Leaves
+pub mod Blocks
