@@ -1,0 +1,12 @@
+pub mod Branched
+pub mod Interference
+pub mod Members
+pub mod Places
+pub mod Schedules
+pub mod Swap
+pub mod Traces
+pub mod Loops
+pub mod RegisterWork
+pub mod LinkedLoops
+pub mod Adding
+pub mod SharedLoop

@@ -1,0 +1,167 @@
+-- The instructions that are register work.
+use Rattle.std.proofs.Common.{◌≡◌, ℕ, None, Bool, true, false, if◌then◌else◌, nat_lt, not, IsTrue, refl, sym, true≢false}
+use Rattle.s390x_inst.specs.declared.inst.Inst.{Inst}
+use Rattle.s390x_inst.specs.declared.inst.Inst.TheVariants.{AluRRR, AluRRSImm16, AluRR, AluRSImm16, AluRSImm32, AluRUImm32, AluRUImm16Shifted, AluRUImm32Shifted, SMulWide, UMulWide, Flogr, ShiftRR, RxSBG, RxSBGTest, UnaryRR, CmpRR, CmpRSImm16, CmpRSImm32, CmpRUImm32}
+use Rattle.s390x_inst.specs.declared.inst.Inst.TheVariants.{Mov64, MovPReg, Mov32, Mov32Imm, Mov32SImm16, Mov64SImm16, Mov64SImm32, Mov64UImm16Shifted, Mov64UImm32Shifted, Insert64UImm16Shifted, Insert64UImm32Shifted, CMov32, CMov64, CMov32SImm16, CMov64SImm16, Extend, LoadAR, InsertAR, Vector}
+use Rattle.s390x_inst.specs.declared.vec_inst.VecInst.{VecInst}
+use Rattle.s390x_inst.specs.declared.vec_inst.VecInst.TheVariants.{VecRRR, VecRR, VecShiftRR, VecSelect, VecPermute, VecBlend, VecEvaluate, VecPermuteDWImm, VecIntCmp, VecIntCmpS, VecIntEltCmp, VecMov, FpuMove32, FpuMove64, MovToVec128, VecImmByteMask, VecImmBitMask, VecImmReplicate, VecInsertLane, VecInsertLaneUndef, VecExtractLane, VecInsertLaneImm, VecInsertLaneImmUndef, VecReplicateLane}
+use Rattle.s390x_inst.specs.declared.vec_ops.VecBinaryOp.{VecBinaryOp}
+use Rattle.s390x_inst.specs.declared.vec_ops.VecBinaryOp.TheVariants as B
+use Rattle.s390x_inst.specs.declared.vec_ops.VecUnaryOp.{VecUnaryOp}
+use Rattle.s390x_inst.specs.declared.vec_ops.VecUnaryOp.TheVariants as U
+use Rattle.s390x_inst.specs.declared.vec_ops.VecIntCmpOp.{VecIntCmpOp}
+use Rattle.s390x_inst.specs.declared.vec_ops.VecIntCmpOp.TheVariants as C
+use Rattle.s390x_inst.specs.declared.vec_ops.VecIntEltCmpOp.{VecIntEltCmpOp}
+use Rattle.s390x_inst.specs.declared.vec_ops.VecIntEltCmpOp.TheVariants as E
+use Rattle.s390x_lanes.specs.declared.operation.VectorOperation.{VectorOperation}
+use Rattle.s390x_lanes.specs.declared.operation.VectorOperation.TheVariants as O
+use Rattle.s390x_typed_steps.specs.VectorOpcodes.{is_division}
+use Rattle.s390x_operations.specs.Access.{Untouched}
+use Rattle.s390x_operations.specs.Effects.{access, refused, MayRefuse, is_selected}
+use Rattle.s390x_operations.specs.declared.effect.Operation.{Operation}
+use Rattle.s390x_operations.specs.declared.stop.StopKind.{StopKind}
+use Rattle.s390x_operations.specs.State.{Registers}
+use Rattle.s390x_base.specs.Regs.{number_of}
+use Rattle.s390x_lanes.specs.Size.{lane_count}
+use Rattle.s390x_typed_steps.specs.General.{four_bits, low_halfword}
+use Rattle.s390x_operations.specs.declared.size.Size.{Size}
+use Rattle.s390x_operations.specs.declared.size.Size.TheVariants.{Word, Doubleword}
+use Rattle.s390x_operations.specs.declared.effect.CodeRule.TheVariants.{Kept}
+use Rattle.s390x_operations.specs.declared.effect.Effect.TheVariants.{Compute, PutVector}
+use Rattle.s390x_operations.specs.declared.operator.Operator.TheVariants as Operator
+use Rattle.s390x_machine.specs.Computations.{Second, with_rule, computes_immediate, on_doublewords, havocs, moves_where, moves_immediate_where, operand_of, unsigned_word, doubleword, signed_halfword}
+use Rattle.s390x_machine.specs.VectorSteps.{elements_of, element_index}
+use Rattle.s390x_machine.specs.Layout.{Layout}
+use Rattle.s390x_machine.specs.Operands.{performed_where, value_in}
+use Rattle.s390x_machine.specs.StepKinds.{instruction_kind}
+use Rattle.s390x_machine.specs.VectorOperations.{binary_operation, unary_operation, comparison_operation, element_comparison}
+use Rattle.s390x_machine.proofs.VectorSteps.{computed_vector, is_divide}
+use Rattle.s390x_interference.specs.Retry.{StaysInRegisters, IsRegisterWork}
+use Rattle.s390x_interference.specs.Loops.{is_vector_work, is_register_work}
+
+-- ---- operations
+
+plain : (op : Operation) → access op.effect ≡ Untouched → refused op.effect ≡ None → ((kind : StopKind) → MayRefuse op.effect kind → ⊥) → StaysInRegisters op
+plain op untouched allowed certain = record { untouched = untouched; allowed = allowed; certain = certain }
+
+where_stays : (selected : Bool) (op : Operation) → StaysInRegisters op → StaysInRegisters (performed_where selected op)
+where_stays true op stays = stays
+where_stays false op stays = record { untouched = refl; allowed = refl; certain = λ kind h. h }
+
+vector_stays : (o : VectorOperation) (target first second third fourth : ℕ) → is_divide o ≡ false → StaysInRegisters (computed_vector o target first second third fourth)
+vector_stays (O.Divide division sign size) t a b c d e = absurd (true≢false e)
+vector_stays o t a b c d e = record { untouched = refl; allowed = refl; certain = λ kind by. true≢false (sym by.1) }
+
+never_binary : (op : VecBinaryOp) → not (is_division op) ≡ true → is_divide (binary_operation op) ≡ false
+never_binary B.Add8x16 h = refl
+never_binary B.UDiv32x4 h = absurd (true≢false (sym h))
+never_binary B.UDiv64x2 h = absurd (true≢false (sym h))
+never_binary B.UDiv128 h = absurd (true≢false (sym h))
+never_binary B.SDiv32x4 h = absurd (true≢false (sym h))
+never_binary B.SDiv64x2 h = absurd (true≢false (sym h))
+never_binary B.SDiv128 h = absurd (true≢false (sym h))
+never_binary B.URem32x4 h = absurd (true≢false (sym h))
+never_binary B.URem64x2 h = absurd (true≢false (sym h))
+never_binary B.URem128 h = absurd (true≢false (sym h))
+never_binary B.SRem32x4 h = absurd (true≢false (sym h))
+never_binary B.SRem64x2 h = absurd (true≢false (sym h))
+never_binary B.SRem128 h = absurd (true≢false (sym h))
+never_binary _ h = refl
+
+never_unary : (op : VecUnaryOp) → is_divide (unary_operation op) ≡ false
+never_unary U.Abs8x16 = refl
+never_unary _ = refl
+
+never_comparison : (op : VecIntCmpOp) (sets : Bool) → is_divide (comparison_operation op sets) ≡ false
+never_comparison C.CmpEq8x16 sets = refl
+never_comparison _ sets = refl
+
+never_element : (op : VecIntEltCmpOp) → is_divide (element_comparison op) ≡ false
+never_element E.SCmp128 = refl
+never_element E.UCmp128 = refl
+
+put_stays : (chosen : Bool) (target known value known' value' : ℕ) → StaysInRegisters (if chosen then with_rule Kept (PutVector target known value) else with_rule Kept (PutVector target known' value'))
+put_stays true t k x k' x' = plain (with_rule Kept (PutVector t k x)) refl refl (λ kind by. by)
+put_stays false t k x k' x' = plain (with_rule Kept (PutVector t k' x')) refl refl (λ kind by. by)
+
+extract_stays : (chosen : Bool) (d x : ℕ) (r : Registers) → StaysInRegisters (if chosen then computes_immediate Kept (on_doublewords Operator.Move) d d x r else havocs d r)
+extract_stays true d x r = plain (computes_immediate Kept (on_doublewords Operator.Move) d d x r) refl refl (λ kind by. by)
+extract_stays false d x r = plain (havocs d r) refl refl (λ kind by. by)
+
+moves_stay : (size : Size) (second : Second) (mask d m : ℕ) (r : Registers) → StaysInRegisters (moves_where size second mask d m r)
+moves_stay size second mask d m r =
+    where_stays (is_selected mask r.code) (with_rule Kept (Compute Operator.Move size d (value_in size r d) (operand_of second (r.general m)))) (record { untouched = refl; allowed = refl; certain = λ kind by. by })
+
+immediate_moves_stay : (size : Size) (mask d bits : ℕ) (r : Registers) → StaysInRegisters (moves_immediate_where size mask d bits r)
+immediate_moves_stay size mask d bits r =
+    where_stays (is_selected mask r.code) (with_rule Kept (Compute Operator.Move size d (value_in size r d) (operand_of signed_halfword bits))) (record { untouched = refl; allowed = refl; certain = λ kind by. by })
+
+-- ---- instructions
+
+vector_work : (L : Layout) (v : VecInst) → is_vector_work v ≡ true → IsRegisterWork (instruction_kind L (Vector v))
+vector_work L (VecRRR op rd rn rm) h = λ r. vector_stays (binary_operation op) _ _ _ _ _ (never_binary op h)
+vector_work L (VecRR op rd rn) h = λ r. vector_stays (unary_operation op) _ _ _ _ _ (never_unary op)
+vector_work L (VecShiftRR op rd rn amount register) h = λ r. plain _ refl refl (λ kind by. true≢false (sym by.1))
+vector_work L (VecSelect rd rn rm ra) h = λ r. plain _ refl refl (λ kind by. true≢false (sym by.1))
+vector_work L (VecPermute rd rn rm ra) h = λ r. plain _ refl refl (λ kind by. true≢false (sym by.1))
+vector_work L (VecBlend rd rn rm ra) h = λ r. plain _ refl refl (λ kind by. true≢false (sym by.1))
+vector_work L (VecEvaluate imm rd rn rm ra) h = λ r. plain _ refl refl (λ kind by. true≢false (sym by.1))
+vector_work L (VecPermuteDWImm rd rn rm first second) h = λ r. plain _ refl refl (λ kind by. true≢false (sym by.1))
+vector_work L (VecIntCmp op rd rn rm) h = λ r. vector_stays (comparison_operation op false) _ _ _ _ _ (never_comparison op false)
+vector_work L (VecIntCmpS op rd rn rm) h = λ r. vector_stays (comparison_operation op true) _ _ _ _ _ (never_comparison op true)
+vector_work L (VecIntEltCmp op rn rm) h = λ r. vector_stays (element_comparison op) _ _ _ _ _ (never_element op)
+vector_work L (VecMov rd rn) h = λ r. plain _ refl refl (λ kind by. true≢false (sym by.1))
+vector_work L (FpuMove32 rd rn) h = λ r. plain _ refl refl (λ kind by. by)
+vector_work L (FpuMove64 rd rn) h = λ r. plain _ refl refl (λ kind by. by)
+vector_work L (MovToVec128 rd rn rm) h = λ r. plain _ refl refl (λ kind by. by)
+vector_work L (VecImmByteMask rd mask) h = λ r. plain _ refl refl (λ kind by. true≢false (sym by.1))
+vector_work L (VecImmBitMask size rd start end) h = λ r. plain _ refl refl (λ kind by. true≢false (sym by.1))
+vector_work L (VecImmReplicate size rd imm) h = λ r. plain _ refl refl (λ kind by. true≢false (sym by.1))
+vector_work L (VecInsertLane size rd ri rn lane base) h = λ r. put_stays (nat_lt (element_index r (number_of base) lane) (lane_count (elements_of size))) _ _ _ _ _
+vector_work L (VecInsertLaneUndef size rd rn lane base) h = λ r. put_stays (nat_lt (element_index r (number_of base) lane) (lane_count (elements_of size))) _ _ _ _ _
+vector_work L (VecExtractLane size rd rn lane base) h = λ r. extract_stays (nat_lt (element_index r (number_of base) lane) (lane_count (elements_of size))) (number_of rd) _ r
+vector_work L (VecInsertLaneImm size rd ri imm lane) h = λ r. plain _ refl refl (λ kind by. true≢false (sym by.1))
+vector_work L (VecInsertLaneImmUndef size rd imm lane) h = λ r. plain _ refl refl (λ kind by. by)
+vector_work L (VecReplicateLane size rd rn lane) h = λ r. plain _ refl refl (λ kind by. true≢false (sym by.1))
+vector_work L _ h = absurd (true≢false (sym h))
+
+pub register_work : (L : Layout) (i : Inst) → IsTrue (is_register_work i) → IsRegisterWork (instruction_kind L i)
+register_work L (AluRRR op rd rn rm) h = λ r. plain _ refl refl (λ kind by. by)
+register_work L (AluRRSImm16 op rd rn imm) h = λ r. plain _ refl refl (λ kind by. by)
+register_work L (AluRR op rd ri rm) h = λ r. plain _ refl refl (λ kind by. by)
+register_work L (AluRSImm16 op rd ri imm) h = λ r. plain _ refl refl (λ kind by. by)
+register_work L (AluRSImm32 op rd ri imm) h = λ r. plain _ refl refl (λ kind by. by)
+register_work L (AluRUImm32 op rd ri imm) h = λ r. plain _ refl refl (λ kind by. by)
+register_work L (AluRUImm16Shifted op rd ri imm) h = λ r. plain _ refl refl (λ kind by. by)
+register_work L (AluRUImm32Shifted op rd ri imm) h = λ r. plain _ refl refl (λ kind by. by)
+register_work L (SMulWide rd rn rm) h = λ r. plain _ refl refl (λ kind by. by)
+register_work L (UMulWide rd ri rn) h = λ r. plain _ refl refl (λ kind by. by)
+register_work L (Flogr rd rn) h = λ r. plain _ refl refl (λ kind by. by)
+register_work L (ShiftRR op rd rn amount register) h = λ r. plain _ refl refl (λ kind by. by)
+register_work L (RxSBG op rd ri rn first last amount) h = λ r. plain _ refl refl (λ kind by. by)
+register_work L (RxSBGTest op rd rn first last amount) h = λ r. plain _ refl refl (λ kind by. by)
+register_work L (UnaryRR op rd rn) h = λ r. plain _ refl refl (λ kind by. by)
+register_work L (CmpRR op rn rm) h = λ r. plain _ refl refl (λ kind by. by)
+register_work L (CmpRSImm16 op rn imm) h = λ r. plain _ refl refl (λ kind by. by)
+register_work L (CmpRSImm32 op rn imm) h = λ r. plain _ refl refl (λ kind by. by)
+register_work L (CmpRUImm32 op rn imm) h = λ r. plain _ refl refl (λ kind by. by)
+register_work L (Mov64 rd rm) h = λ r. plain _ refl refl (λ kind by. by)
+register_work L (MovPReg rd rm) h = λ r. plain _ refl refl (λ kind by. by)
+register_work L (Mov32 rd rm) h = λ r. plain _ refl refl (λ kind by. by)
+register_work L (Mov32Imm rd imm) h = λ r. plain _ refl refl (λ kind by. by)
+register_work L (Mov32SImm16 rd imm) h = λ r. plain _ refl refl (λ kind by. by)
+register_work L (Mov64SImm16 rd imm) h = λ r. plain _ refl refl (λ kind by. by)
+register_work L (Mov64SImm32 rd imm) h = λ r. plain _ refl refl (λ kind by. by)
+register_work L (Mov64UImm16Shifted rd imm) h = λ r. plain _ refl refl (λ kind by. by)
+register_work L (Mov64UImm32Shifted rd imm) h = λ r. plain _ refl refl (λ kind by. by)
+register_work L (Insert64UImm16Shifted rd ri imm) h = λ r. plain _ refl refl (λ kind by. by)
+register_work L (Insert64UImm32Shifted rd ri imm) h = λ r. plain _ refl refl (λ kind by. by)
+register_work L (CMov32 rd mask ri rm) h = moves_stay Word unsigned_word (four_bits mask) (number_of rd) (number_of rm)
+register_work L (CMov64 rd mask ri rm) h = moves_stay Doubleword doubleword (four_bits mask) (number_of rd) (number_of rm)
+register_work L (CMov32SImm16 rd mask ri imm) h = immediate_moves_stay Word (four_bits mask) (number_of rd) (low_halfword imm)
+register_work L (CMov64SImm16 rd mask ri imm) h = immediate_moves_stay Doubleword (four_bits mask) (number_of rd) (low_halfword imm)
+register_work L (Extend rd rn signed from to) h = λ r. plain _ refl refl (λ kind by. by)
+register_work L (LoadAR rd ar) h = λ r. plain _ refl refl (λ kind by. by)
+register_work L (InsertAR rd ri ar) h = λ r. plain _ refl refl (λ kind by. by)
+register_work L (Vector v) h = vector_work L v h
+register_work L _ h = absurd (true≢false (sym h))

@@ -1,0 +1,25 @@
+use Rattle.s390x_emit_int.specs.Function.{constants_of, trees_of}
+use Rattle.s390x_emit_int.proofs.Filling.{relocs_lie}
+use Rattle.s390x_emit_int.proofs.FunctionImage.{image_of, link_refused}
+use Rattle.s390x_interference.proofs.LinkedLoops.{image_guards}
+use Rattle.s390x_interference.proofs.linked.emit_guarded_image.Goals as goal
+
+pub link-requires : goal.link-requires
+link-requires c = relocs_lie (trees_of c.args.state c.args.function.now) (constants_of c.args.function.now) c.in-Ok.code c.in-Ok.ensures.1
+
+pub returns-in-Ok-link-clause-image : goal.returns-in-Ok-link-clause-image
+returns-in-Ok-link-clause-image c =
+    let emitted = c.in-Ok.ensures in
+    let linked = c.in-Ok-link.ensures.answer in
+    image_of c.args.info.now.isa_flags c.args.state c.args.function.now c.args.base c.args.symbols.now c.in-Ok.code _ emitted.0 emitted.1 emitted.2 linked.0 linked.2
+
+pub returns-in-Ok-link-clause-guards : goal.returns-in-Ok-link-clause-guards
+returns-in-Ok-link-clause-guards c =
+    let emitted = c.in-Ok.ensures in
+    let linked = c.in-Ok-link.ensures.answer in
+    image_guards c.args.info.now.isa_flags c.args.state c.args.function.now c.args.base c.args.symbols.now _ emitted.2
+    (image_of c.args.info.now.isa_flags c.args.state c.args.function.now c.args.base c.args.symbols.now c.in-Ok.code _ emitted.0 emitted.1 emitted.2 linked.0 linked.2)
+
+pub returns-in-Ok-clause-refused : goal.returns-in-Ok-clause-refused
+returns-in-Ok-clause-refused c =
+    link_refused c.args.info.now.isa_flags c.args.state c.args.function.now c.args.base c.args.symbols.now c.in-Ok.code c.in-Err-link.error c.in-Ok.ensures.0 c.in-Ok.ensures.1 c.in-Err-link.ensures.answer

@@ -1,0 +1,6 @@
+pub mod Retry
+pub mod Schedules
+pub mod Loops
+pub mod Linked
+pub mod Example
+pub mod Shared
