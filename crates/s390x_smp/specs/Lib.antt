@@ -1,0 +1,4 @@
+pub mod Image
+pub mod Simulation
+pub mod Stores
+pub mod View
