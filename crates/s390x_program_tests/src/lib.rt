@@ -6,6 +6,8 @@ mod entries;
 #[cfg(test)]
 mod executions;
 #[cfg(test)]
+mod listings;
+#[cfg(test)]
 mod memory_rows;
 #[cfg(test)]
 mod operands;
@@ -15,6 +17,8 @@ mod register_rows;
 mod relative_rows;
 #[cfg(test)]
 mod runs;
+#[cfg(test)]
+mod simulations;
 #[cfg(test)]
 mod stack_rows;
 #[cfg(test)]

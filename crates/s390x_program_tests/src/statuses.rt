@@ -13,6 +13,7 @@ fn each_status_has_its_number(rt: HostRuntime) {
         (Status::WriteFault, 7),
         (Status::InputTooLong, 8),
         (Status::NoMemory, 9),
+        (Status::BadWord, 10),
     ] {
         assert_eq!(rt; status.number(), number);
     }

@@ -28,16 +28,18 @@ use Rattle.s390x_job.specs.Jobs.{text_of_job, IsJob}
 use Rattle.s390x_job.specs.Same.{SameJob}
 use Rattle.s390x_job.specs.Completions.{pieces, IsFirstWrong}
 use Rattle.s390x_job.specs.declared.job.Job.{Job}
-use Rattle.s390x_tool.specs.Lines.{line, IsMade, IsRefusal, IsLinkRefusal}
+use Rattle.s390x_operands.specs.declared.constraint.OperandError.{OperandError}
+use Rattle.s390x_operands.specs.declared.constraint.OperandError.TheVariants as operand
+use Rattle.s390x_tool.specs.Lines.{line, IsMade, IsRefusal, IsLinkRefusal, IsOperandRefusal}
 use Rattle.s390x_tool.specs.Emitted.{emit_text}
-use Rattle.s390x_tool.specs.Answers.{IsAnswer, IsCodeOfJob, IsEmitReply, IsImageAt, IsImageReply, IsJobReply, IsLinked, IsRunReply, job_cause, link_cause_of, symbols_of}
-use Rattle.s390x_tool.specs.declared.words.Command.{Command}
-use Rattle.s390x_tool.specs.declared.words.Command.TheVariants.{Image, Emit, Run}
+use Rattle.s390x_tool.specs.Answers.{IsAnswer, IsCodeOfJob, IsEmitReply, IsImageAt, IsImageReply, IsJobReply, IsLinked, IsOperandsReply, IsRunReply, IsShowReply, job_cause, link_cause_of, operands_cause_of, symbols_of}
+use Rattle.s390x_commands.specs.declared.words.JobCommand.{JobCommand}
+use Rattle.s390x_commands.specs.declared.words.JobCommand.TheVariants.{Image, Emit, Run, Operands, Show}
 use Rattle.s390x_tool.specs.declared.status.Status.{Status}
 use Rattle.s390x_tool.specs.declared.status.Status.TheVariants as status
 
 -- a command's reply to the job of the input is the answer
-pub answer_of_job : (command : Command) (input : List ℕ) (s : Status) (text : List ℕ) (j : Job)
+pub answer_of_job : (command : JobCommand) (input : List ℕ) (s : Status) (text : List ℕ) (j : Job)
     → IsJob j → text_of_job j ≡ input → ((k : Job) → IsJob k → text_of_job k ≡ input → SameJob j k) → IsJobReply command j s text → IsAnswer command input s text
 answer_of_job (Image base) input status.Syntax text j is spelled only reply = absurd reply
 answer_of_job (Image base) input status.NoMemory text j is spelled only reply = reply
@@ -48,9 +50,15 @@ answer_of_job Emit input s text j is spelled only reply = record { job = j; is =
 answer_of_job (Run base steps) input status.Syntax text j is spelled only reply = absurd reply
 answer_of_job (Run base steps) input status.NoMemory text j is spelled only reply = reply
 answer_of_job (Run base steps) input s text j is spelled only reply = record { job = j; is = is; spelled = spelled; one = only; reply = reply }
+answer_of_job Operands input status.Syntax text j is spelled only reply = absurd reply
+answer_of_job Operands input status.NoMemory text j is spelled only reply = reply
+answer_of_job Operands input s text j is spelled only reply = record { job = j; is = is; spelled = spelled; one = only; reply = reply }
+answer_of_job Show input status.Syntax text j is spelled only reply = absurd reply
+answer_of_job Show input status.NoMemory text j is spelled only reply = reply
+answer_of_job Show input s text j is spelled only reply = record { job = j; is = is; spelled = spelled; one = only; reply = reply }
 
 -- a syntax error is the answer
-pub answer_of_syntax : (command : Command) (input : List ℕ) (s : Status) (text : List ℕ) (number : ℕ)
+pub answer_of_syntax : (command : JobCommand) (input : List ℕ) (s : Status) (text : List ℕ) (number : ℕ)
     → ((j : Job) → IsJob j → text_of_job j ≡ input → ⊥) → IsFirstWrong (pieces input) number
     → IsMade status.Syntax (line (codes "syntax " ++ decimal number)) s text → IsAnswer command input s text
 answer_of_syntax command input s text number none first_emit_cause (inl made) =
@@ -77,6 +85,20 @@ pub run_reply_of_cause : (base steps : ℕ) (j : Job) (e : EmitError) (s : Statu
 run_reply_of_cause base steps j e s text (inl short) (inl refusal) = absurd (refusal.0 short)
 run_reply_of_cause base steps j e s text (inr cause) (inl refusal) = rw refusal.1 (record { error = e; cause = cause; spelled = refusal.2 })
 run_reply_of_cause base steps j e s text cause (inr short) = rw short.1 short.2
+
+-- a refusal of operands is the reply to `operands`
+pub operands_reply_of_cause : (j : Job) (e : OperandError) (s : Status) (text : List ℕ)
+    → (e ≡ operand.NoMemory) ⊎ (operands_cause_of j ≡ Some e) → IsOperandRefusal e s text → IsOperandsReply j s text
+operands_reply_of_cause j e s text (inl short) (inl refusal) = absurd (refusal.0 short)
+operands_reply_of_cause j e s text (inr cause) (inl refusal) = rw refusal.1 (record { error = e; cause = cause; spelled = refusal.2 })
+operands_reply_of_cause j e s text cause (inr short) = rw short.1 short.2
+
+-- a refusal of emission is the reply to `show`
+pub show_reply_of_cause : (j : Job) (e : EmitError) (s : Status) (text : List ℕ)
+    → (e ≡ error.NoMemory) ⊎ (job_cause j ≡ Some e) → IsRefusal e s text → IsShowReply j s text
+show_reply_of_cause j e s text (inl short) (inl refusal) = absurd (refusal.0 short)
+show_reply_of_cause j e s text (inr cause) (inl refusal) = rw refusal.1 (record { error = e; cause = cause; spelled = refusal.2 })
+show_reply_of_cause j e s text cause (inr short) = rw short.1 short.2
 
 -- the code with its tables is the reply to `emit`
 pub reply_of_code : (j : Job) (code : MachBufferFinalized) (s : Status) (text : List ℕ)

@@ -1,16 +1,21 @@
 -- An accepted input is done, unless memory doesn't suffice.
-use Rattle.std.proofs.Common.{◌≡◌, ℕ, ◌≤◌, ◌⊎◌, inl, inr, List, [], length, refl, sym, ap, ap₂, ◌∙◌, arith, get_or, append-nil, length-append, subst, Some, None}
+use Rattle.std.proofs.Common.{◌≡◌, ℕ, ◌≤◌, ◌⊎◌, inl, inr, List, length, refl, sym, ap, ◌∙◌, arith, append-nil, length-append, subst, Some, None}
 use Rattle.std.specs.Prelude.{Option}
-use Rattle.std.proofs.lemmas.Fmt.{decimal_injective}
 use Rattle.std.specs.Io.KnownBytes.{Consumes, IsAtEnd}
+use Rattle.s390x_smp.specs.Image.{start_cause}
+use Rattle.s390x_job.specs.Jobs.{IsJob}
+use Rattle.s390x_job.specs.Same.{SameJob}
 use Rattle.s390x_job.specs.declared.job.Job.{Job}
 use Rattle.s390x_tool.specs.Causes.{FaultCountRose}
-use Rattle.s390x_tool.specs.Words.{IsForm}
-use Rattle.s390x_tool.specs.Answers.{IsAccepted, IsJobReply, Links, job_cause}
+use Rattle.s390x_commands.specs.Words.{IsForm}
+use Rattle.s390x_tool.specs.Answers.{IsAccepted, IsJobReply, IsUnrefused, Links}
+use Rattle.s390x_commands.proofs.Told.{same_command}
 use Rattle.s390x_tool.proofs.SameJob.{same_cause, same_links}
+use Rattle.s390x_tool.proofs.SameOperands.{same_operands_cause}
 use Rattle.s390x_tool.specs.Replies.{Found, IsReply, IsDelivered}
-use Rattle.s390x_tool.specs.declared.words.Command.{Command}
-use Rattle.s390x_tool.specs.declared.words.Command.TheVariants.{Image, Emit, Run}
+use Rattle.s390x_commands.specs.declared.words.Command.TheVariants.{OnJob, Generate, Simulate}
+use Rattle.s390x_commands.specs.declared.words.JobCommand.{JobCommand}
+use Rattle.s390x_commands.specs.declared.words.JobCommand.TheVariants.{Image, Emit, Run, Operands, Show}
 use Rattle.s390x_tool.specs.declared.status.Status.{Status}
 use Rattle.s390x_tool.specs.declared.status.Status.TheVariants as status
 
@@ -30,44 +35,58 @@ read_less (Some xs) (Some ys) input taken is consumed =
     let same : xs ≡ input = cc in
     omega (arith, ap length same, ap length consumed, length-append taken ys)
 
--- words are one command
-same_command : (words : List (List ℕ)) (b c : Command) → IsForm words b → IsForm words c → b ≡ c
-same_command words (Image b) (Image c) first second =
-    ap Image (decimal_injective b c first.range second.range (ap (λ ws. get_or ws 1 []) (sym first.spelled ∙ second.spelled)))
-same_command words (Image b) Emit first second = absurd (omega (arith, ap length (sym first.spelled ∙ second.spelled)))
-same_command words Emit (Image c) first second = absurd (omega (arith, ap length (sym first.spelled ∙ second.spelled)))
-same_command words Emit Emit first second = refl
-same_command words (Image b) (Run c n) first second = absurd (omega (arith, ap length (sym first.spelled ∙ second.spelled)))
-same_command words Emit (Run c n) first second = absurd (omega (arith, ap length (sym first.spelled ∙ second.spelled)))
-same_command words (Run b m) (Image c) first second = absurd (omega (arith, ap length (sym first.spelled ∙ second.spelled)))
-same_command words (Run b m) Emit first second = absurd (omega (arith, ap length (sym first.spelled ∙ second.spelled)))
-same_command words (Run b m) (Run c n) first second =
-    let same = sym first.spelled ∙ second.spelled in
-    ap₂ Run (decimal_injective b c first.range.0 second.range.0 (ap (λ ws. get_or ws 1 []) same)) (decimal_injective m n (omega (arith, first.range.1)) (omega (arith, second.range.1)) (ap (λ ws. get_or ws 2 []) same))
+-- a job with the lines of one without a cause of refusal isn't refused
+refused_not : (command : JobCommand) (j k : Job) (text : List ℕ) → IsJobReply command j status.Refused text → IsJob j → IsJob k → SameJob j k → IsUnrefused command k → ⊥
+refused_not (Image base) j k text reply a b same valid =
+    let cause = reply.cause in
+    let none = same_cause j k a b same ∙ valid in
+    cc
+refused_not Emit j k text reply a b same valid =
+    let cause = reply.cause in
+    let none = same_cause j k a b same ∙ valid in
+    cc
+refused_not (Run base steps) j k text reply a b same valid =
+    let cause = reply.cause in
+    let none = same_cause j k a b same ∙ valid in
+    cc
+refused_not Operands j k text reply a b same valid =
+    let cause = reply.cause in
+    let none = same_operands_cause j k a b same ∙ valid in
+    cc
+refused_not Show j k text reply a b same valid =
+    let cause = reply.cause in
+    let none = same_cause j k a b same ∙ valid in
+    cc
 
-refused_not : (command : Command) (j : Job) (text : List ℕ) → IsJobReply command j status.Refused text → job_cause j ≡ None → ⊥
-refused_not (Image base) j text reply valid = let cause = reply.cause in cc
-refused_not Emit j text reply valid = let cause = reply.cause in cc
-refused_not (Run base steps) j text reply valid = let cause = reply.cause in cc
-
-linked_not : (command : Command) (j : Job) (text : List ℕ) → Links command j → IsJobReply command j status.LinkRefused text → ⊥
+linked_not : (command : JobCommand) (j : Job) (text : List ℕ) → Links command j → IsJobReply command j status.LinkRefused text → ⊥
 linked_not (Image base) j text links reply =
     let cause = reply.cause in
     let none = links reply.code reply.is in
     cc
 linked_not Emit j text links reply = absurd reply
+linked_not Operands j text links reply = absurd reply
+linked_not Show j text links reply = absurd reply
 linked_not (Run base steps) j text links reply =
     let cause = reply.cause in
     let none = links reply.code reply.is in
     cc
 
+same_job_command : (b c : JobCommand) → OnJob b ≡ OnJob c → b ≡ c
+same_job_command b c e = cc
+
+-- words that ask for a simulation ask for nothing about a job
+not_both : (words : List (List ℕ)) (command : JobCommand) (base word count steps start : ℕ) → IsForm words (OnJob command) → IsForm words (Simulate base word count steps start) → ⊥
+not_both words command base word count steps start a b =
+    let same = same_command words (OnJob command) (Simulate base word count steps start) a b in
+    absurd cc
+
 -- the reply to an accepted input
-completed_reply : (f : Found) (s : Status) (text : List ℕ) (command : Command) (input : List ℕ)
-    → IsReply f s text → IsForm f.words command → f.left ≡ Some input → IsAccepted command input → (FaultCountRose f.faults f.faults' → ⊥)
+completed_reply : (f : Found) (s : Status) (text : List ℕ) (command : JobCommand) (input : List ℕ)
+    → IsReply f s text → IsForm f.words (OnJob command) → f.left ≡ Some input → IsAccepted command input → (FaultCountRose f.faults f.faults' → ⊥)
     → (s ≡ status.Ok) ⊎ (s ≡ status.NoMemory)
 completed_reply f status.Ok text command input reply form left accepted quiet = inl refl
 completed_reply f status.NoMemory text command input reply form left accepted quiet = inr refl
-completed_reply f status.Usage text command input reply form left accepted quiet = absurd (reply.0.none command form)
+completed_reply f status.Usage text command input reply form left accepted quiet = absurd (reply.0.none (OnJob command) form)
 completed_reply f status.ReadFault text command input reply form left accepted quiet = absurd (quiet reply.0.rose)
 completed_reply f status.WriteFault text command input reply form left accepted quiet = absurd reply
 completed_reply f status.InputTooLong text command input reply form left accepted quiet =
@@ -79,20 +98,90 @@ completed_reply f status.Syntax text command input reply form left accepted quie
 completed_reply f status.Refused text command input reply form left accepted quiet =
     let whole = read_whole f.left f.left' input reply.input left reply.read.taken reply.read.end in
     let same = reply.answer.one accepted.job accepted.is (accepted.spelled ∙ whole) in
-    let valid = same_cause reply.answer.job accepted.job reply.answer.is accepted.is same ∙ accepted.valid in
-    absurd (refused_not reply.command reply.answer.job text reply.answer.reply valid)
-completed_reply f status.LinkRefused text command input reply form left accepted quiet =
+    let named = same_job_command command reply.command (same_command f.words (OnJob command) (OnJob reply.command) form reply.form) in
+    absurd (refused_not reply.command reply.answer.job accepted.job text reply.answer.reply reply.answer.is accepted.is same (subst (λ c. IsUnrefused c accepted.job) named accepted.valid))
+completed_reply f status.BadWord text command input reply form left accepted quiet = absurd (not_both f.words command reply.base reply.word reply.count reply.steps reply.start form reply.form)
+completed_reply f status.LinkRefused text command input (inr reply) form left accepted quiet = absurd (not_both f.words command reply.base reply.word reply.count reply.steps reply.start form reply.form)
+completed_reply f status.LinkRefused text command input (inl reply) form left accepted quiet =
     let whole = read_whole f.left f.left' input reply.input left reply.read.taken reply.read.end in
     let same = reply.answer.one accepted.job accepted.is (accepted.spelled ∙ whole) in
     let links = same_links command reply.answer.job accepted.job reply.answer.is accepted.is same accepted.links in
-    let named = same_command f.words command reply.command form reply.form in
+    let named = same_job_command command reply.command (same_command f.words (OnJob command) (OnJob reply.command) form reply.form) in
     absurd (linked_not reply.command reply.answer.job text (subst (λ c. Links c reply.answer.job) named links) reply.answer.reply)
 
 -- how a call on an accepted input ends, where nothing failed
 pub completed : (f : Found) (told told' : Option (List ℕ)) (faults faults' : ℕ) (s : Status) (text : List ℕ) (result : Status)
     → IsReply f s text → IsDelivered told told' faults faults' s text result
-    → (command : Command) (input : List ℕ) → IsForm f.words command → f.left ≡ Some input → IsAccepted command input
+    → (command : JobCommand) (input : List ℕ) → IsForm f.words (OnJob command) → f.left ≡ Some input → IsAccepted command input
     → (FaultCountRose f.faults f.faults' → ⊥) → (FaultCountRose faults faults' → ⊥) → (result ≡ status.Ok) ⊎ (result ≡ status.NoMemory)
 completed f told told' faults faults' s text result reply (inl whole) command input form left accepted quiet silent =
     rw (sym whole.0) at (completed_reply f s text command input reply form left accepted quiet)
 completed f told told' faults faults' s text result reply (inr part) command input form left accepted quiet silent = absurd (silent part.2)
+
+-- words that ask for a generated function ask for nothing about a job
+not_on_job : (words : List (List ℕ)) (command : JobCommand) (count start : ℕ) → IsForm words (OnJob command) → IsForm words (Generate count start) → ⊥
+not_on_job words command count start a b =
+    let same = same_command words (OnJob command) (Generate count start) a b in
+    absurd cc
+
+not_simulated : (words : List (List ℕ)) (count start base word processors steps first : ℕ) → IsForm words (Generate count start) → IsForm words (Simulate base word processors steps first) → ⊥
+not_simulated words count start base word processors steps first a b =
+    let same = same_command words (Generate count start) (Simulate base word processors steps first) a b in
+    absurd cc
+
+-- the reply to words that ask for a generated function
+generated_reply : (f : Found) (s : Status) (text : List ℕ) (count start : ℕ) → IsReply f s text → IsForm f.words (Generate count start) → (s ≡ status.Ok) ⊎ (s ≡ status.NoMemory)
+generated_reply f status.Ok text count start reply form = inl refl
+generated_reply f status.NoMemory text count start reply form = inr refl
+generated_reply f status.Usage text count start reply form = absurd (reply.0.none (Generate count start) form)
+generated_reply f status.ReadFault text count start reply form = absurd (not_on_job f.words reply.0.command count start reply.0.form form)
+generated_reply f status.InputTooLong text count start reply form = absurd (not_on_job f.words reply.0.command count start reply.0.form form)
+generated_reply f status.WriteFault text count start reply form = absurd reply
+generated_reply f status.Syntax text count start reply form = absurd (not_on_job f.words reply.command count start reply.form form)
+generated_reply f status.Refused text count start reply form = absurd (not_on_job f.words reply.command count start reply.form form)
+generated_reply f status.LinkRefused text count start (inl reply) form = absurd (not_on_job f.words reply.command count start reply.form form)
+generated_reply f status.LinkRefused text count start (inr reply) form = absurd (not_simulated f.words count start reply.base reply.word reply.count reply.steps reply.start form reply.form)
+generated_reply f status.BadWord text count start reply form = absurd (not_simulated f.words count start reply.base reply.word reply.count reply.steps reply.start form reply.form)
+
+-- how a call ends that asks for a generated function, where no write failed
+pub generated_result : (f : Found) (told told' : Option (List ℕ)) (faults faults' : ℕ) (s : Status) (text : List ℕ) (result : Status)
+    → IsReply f s text → IsDelivered told told' faults faults' s text result
+    → (count start : ℕ) → IsForm f.words (Generate count start) → (FaultCountRose faults faults' → ⊥) → (result ≡ status.Ok) ⊎ (result ≡ status.NoMemory)
+generated_result f told told' faults faults' s text result reply (inl whole) count start form silent =
+    rw (sym whole.0) at (generated_reply f s text count start reply form)
+generated_result f told told' faults faults' s text result reply (inr part) count start form silent = absurd (silent part.2)
+
+-- the reply to words that ask for a simulation which nothing refuses
+usable : (words : List (List ℕ)) (base word count steps start base' word' count' steps' start' : ℕ) → IsForm words (Simulate base word count steps start) → IsForm words (Simulate base' word' count' steps' start')
+    → start_cause base word ≡ None → start_cause base' word' ≡ None
+usable words base word count steps start base' word' count' steps' start' a b none =
+    let same = same_command words (Simulate base word count steps start) (Simulate base' word' count' steps' start') a b in
+    let base_is : base ≡ base' = cc in
+    let word_is : word ≡ word' = cc in
+    subst (λ w. start_cause base' w ≡ None) word_is (subst (λ b. start_cause b word ≡ None) base_is none)
+
+simulated_reply : (f : Found) (s : Status) (text : List ℕ) (base word count steps start : ℕ) → IsReply f s text → IsForm f.words (Simulate base word count steps start) → start_cause base word ≡ None
+    → (s ≡ status.Ok) ⊎ (s ≡ status.NoMemory)
+simulated_reply f status.Ok text base word count steps start reply form none = inl refl
+simulated_reply f status.NoMemory text base word count steps start reply form none = inr refl
+simulated_reply f status.Usage text base word count steps start reply form none = absurd (reply.0.none (Simulate base word count steps start) form)
+simulated_reply f status.ReadFault text base word count steps start reply form none = absurd (not_both f.words reply.0.command base word count steps start reply.0.form form)
+simulated_reply f status.InputTooLong text base word count steps start reply form none = absurd (not_both f.words reply.0.command base word count steps start reply.0.form form)
+simulated_reply f status.WriteFault text base word count steps start reply form none = absurd reply
+simulated_reply f status.Syntax text base word count steps start reply form none = absurd (not_both f.words reply.command base word count steps start reply.form form)
+simulated_reply f status.Refused text base word count steps start reply form none = absurd (not_both f.words reply.command base word count steps start reply.form form)
+simulated_reply f status.LinkRefused text base word count steps start (inl reply) form none = absurd (not_both f.words reply.command base word count steps start reply.form form)
+simulated_reply f status.LinkRefused text base word count steps start (inr reply) form none =
+    let clash = sym (usable f.words base word count steps start reply.base reply.word reply.count reply.steps reply.start form reply.form none) ∙ reply.told.cause in
+    absurd cc
+simulated_reply f status.BadWord text base word count steps start reply form none =
+    let clash = sym (usable f.words base word count steps start reply.base reply.word reply.count reply.steps reply.start form reply.form none) ∙ reply.told.cause in
+    absurd cc
+
+-- how a call ends that asks for one, where no write failed
+pub simulated_result : (f : Found) (told told' : Option (List ℕ)) (faults faults' : ℕ) (s : Status) (text : List ℕ) (result : Status)
+    → IsReply f s text → IsDelivered told told' faults faults' s text result
+    → (base word count steps start : ℕ) → IsForm f.words (Simulate base word count steps start) → start_cause base word ≡ None → (FaultCountRose faults faults' → ⊥) → (result ≡ status.Ok) ⊎ (result ≡ status.NoMemory)
+simulated_result f told told' faults faults' s text result reply (inl whole) base word count steps start form none silent =
+    rw (sym whole.0) at (simulated_reply f s text base word count steps start reply form none)
+simulated_result f told told' faults faults' s text result reply (inr part) base word count steps start form none silent = absurd (silent part.2)

@@ -1,11 +1,14 @@
-pub mod Numbers
 pub mod Pieces
 pub mod Replying
 pub mod Answering
+pub mod Generating
+pub mod Simulating
 pub mod Emitting
 pub mod SameInstruction
 pub mod SameTree
 pub mod SameLines
 pub mod SameJob
+pub mod SameOperands
+pub mod Showing
 pub mod Completing
 pub mod Frameless

@@ -1,7 +1,8 @@
 -- What follows from a reply and how it was written.
 use Rattle.std.proofs.Common.{◌≡◌, ℕ, ◌⊎◌, inl, inr, List, refl, sym, ◌∙◌}
 use Rattle.std.specs.Prelude.{Option}
-use Rattle.s390x_tool.specs.Words.{IsNoForm}
+use Rattle.s390x_commands.specs.Words.{IsNoForm}
+use Rattle.s390x_commands.specs.declared.words.Command.TheVariants.{OnJob, Generate, Simulate}
 use Rattle.s390x_tool.specs.Replies.{Found, IsReply, IsDelivered, IsDone}
 use Rattle.s390x_tool.specs.declared.status.Status.{Status}
 use Rattle.s390x_tool.specs.declared.status.Status.TheVariants as status
@@ -9,14 +10,18 @@ use Rattle.s390x_tool.specs.declared.status.Status.TheVariants as status
 -- where the words are no command the reply is that
 usage_reply : (f : Found) (s : Status) (text : List ℕ) → IsNoForm f.words → IsReply f s text → s ≡ status.Usage
 usage_reply f status.Usage text none reply = refl
-usage_reply f status.ReadFault text none reply = absurd (none reply.0.command reply.0.form)
-usage_reply f status.InputTooLong text none reply = absurd (none reply.0.command reply.0.form)
+usage_reply f status.ReadFault text none reply = absurd (none (OnJob reply.0.command) reply.0.form)
+usage_reply f status.InputTooLong text none reply = absurd (none (OnJob reply.0.command) reply.0.form)
 usage_reply f status.NoMemory text none reply = absurd (none reply.0.command reply.0.form)
 usage_reply f status.WriteFault text none reply = absurd reply
-usage_reply f status.Ok text none reply = absurd (none reply.command reply.form)
-usage_reply f status.Syntax text none reply = absurd (none reply.command reply.form)
-usage_reply f status.Refused text none reply = absurd (none reply.command reply.form)
-usage_reply f status.LinkRefused text none reply = absurd (none reply.command reply.form)
+usage_reply f status.Ok text none (inl reply) = absurd (none (OnJob reply.command) reply.form)
+usage_reply f status.Ok text none (inr (inl reply)) = absurd (none (Generate reply.count reply.start) reply.form)
+usage_reply f status.Ok text none (inr (inr reply)) = absurd (none (Simulate reply.base reply.word reply.count reply.steps reply.start) reply.form)
+usage_reply f status.Syntax text none reply = absurd (none (OnJob reply.command) reply.form)
+usage_reply f status.Refused text none reply = absurd (none (OnJob reply.command) reply.form)
+usage_reply f status.LinkRefused text none (inl reply) = absurd (none (OnJob reply.command) reply.form)
+usage_reply f status.LinkRefused text none (inr reply) = absurd (none (Simulate reply.base reply.word reply.count reply.steps reply.start) reply.form)
+usage_reply f status.BadWord text none reply = absurd (none (Simulate reply.base reply.word reply.count reply.steps reply.start) reply.form)
 
 -- a delivered status is the reply's or tells of a failed write
 delivered_status : (told told' : Option (List ℕ)) (faults faults' : ℕ) (s : Status) (text : List ℕ) (result : Status)
@@ -34,5 +39,5 @@ usage_result f told told' faults faults' s text result reply delivered none =
 pub done_result : (f : Found) (told told' : Option (List ℕ)) (faults faults' : ℕ) (s : Status) (text : List ℕ) (result : Status)
     → IsReply f s text → IsDelivered told told' faults faults' s text result → result ≡ status.Ok → IsDone f told told'
 done_result f told told' faults faults' s text result reply (inl whole) ok =
-    record { text = text; answered = rw (sym whole.0 ∙ ok) at reply; appended = whole.1 }
+    record { text = text; reply = rw (sym whole.0 ∙ ok) at reply; appended = whole.1 }
 done_result f told told' faults faults' s text result reply (inr part) ok = absurd cc

@@ -19,15 +19,15 @@ use Rattle.s390x_job.specs.declared.job.Job.{Job}
 use Rattle.s390x_image.specs.Causes.{link_cause}
 use Rattle.s390x_image.specs.Symbols.{no_symbols}
 use Rattle.s390x_tool.specs.Answers.{IsCodeOfJob, Links, job_cause, with_symbols}
-use Rattle.s390x_tool.specs.declared.words.Command.{Command}
-use Rattle.s390x_tool.specs.declared.words.Command.TheVariants.{Image, Emit, Run}
+use Rattle.s390x_commands.specs.declared.words.JobCommand.{JobCommand}
+use Rattle.s390x_commands.specs.declared.words.JobCommand.TheVariants.{Image, Emit, Run, Operands, Show}
 use Rattle.s390x_tool.proofs.SameTree.{LineTree, lines_tree, line_blocks_cause, line_blocks_size, line_ranges, parts_code, line_at, line_places, line_environment, line_steps_from, same_blocks_cause, same_function_code, same_starts, same_block_starts, same_blocks_size, parts_places, line_block_places, ranges_to, ranges_from, each_traps, same_function_traps, each_relocs, same_function_relocs}
 use Rattle.s390x_tool.proofs.SameLines.{found, with_flags, with_frame, frame_of, Said, job_found}
 use Rattle.s390x_tool.proofs.Frameless.{raw_block, resolved_lines, blocks_resolved}
 use Rattle.s390x_inst.specs.State.{fresh_emission}
 
 -- what two jobs share
-same_found : (j k : Job) → IsJob j → IsJob k → SameJob j k → with_flags j.info.isa_flags (with_frame (frame_of j) (Said j)) ≡ with_flags k.info.isa_flags (with_frame (frame_of k) (Said k))
+pub same_found : (j k : Job) → IsJob j → IsJob k → SameJob j k → with_flags j.info.isa_flags (with_frame (frame_of j) (Said j)) ≡ with_flags k.info.isa_flags (with_frame (frame_of k) (Said k))
 same_found j k a b e = sym (job_found j a.frame) ∙ ap found e ∙ job_found k b.frame
 
 pub same_state : (j k : Job) → IsJob j → IsJob k → SameJob j k → j.state ≡ k.state
@@ -121,9 +121,11 @@ same_code j k code a b e h =
     }
 
 -- what links of one links of the other
-pub same_links : (command : Command) (j k : Job) → IsJob j → IsJob k → SameJob j k → Links command k → Links command j
+pub same_links : (command : JobCommand) (j k : Job) → IsJob j → IsJob k → SameJob j k → Links command k → Links command j
 same_links (Image base) j k a b e links =
     λ code is. ap (λ ss. link_cause code base (with_symbols no_symbols ss)) (same_symbols j k a b e) ∙ links code (same_code j k code a b e is)
 same_links Emit j k a b e links = tt
+same_links Operands j k a b e links = tt
+same_links Show j k a b e links = tt
 same_links (Run base steps) j k a b e links =
     λ code is. ap (λ ss. link_cause code base (with_symbols no_symbols ss)) (same_symbols j k a b e) ∙ links code (same_code j k code a b e is)

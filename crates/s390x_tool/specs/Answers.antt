@@ -18,9 +18,13 @@ use Rattle.s390x_job.specs.declared.job.Job.{Job}
 use Rattle.s390x_job.specs.declared.job.SymbolLine.{SymbolLine}
 use Rattle.s390x_execution.specs.Text.{IsRunText}
 use Rattle.s390x_tool.specs.Emitted.{emit_text}
-use Rattle.s390x_tool.specs.Lines.{line, error_name, link_error_name}
-use Rattle.s390x_tool.specs.declared.words.Command.{Command}
-use Rattle.s390x_tool.specs.declared.words.Command.TheVariants.{Image, Emit, Run}
+use Rattle.s390x_operands.specs.declared.constraint.OperandError.{OperandError}
+use Rattle.s390x_text.specs.Texts.{Text}
+use Rattle.s390x_listing.specs.Operands.{operands_listing}
+use Rattle.s390x_listing.specs.Texts.{texts_listing}
+use Rattle.s390x_tool.specs.Lines.{line, error_name, link_error_name, operand_error_name}
+use Rattle.s390x_commands.specs.declared.words.JobCommand.{JobCommand}
+use Rattle.s390x_commands.specs.declared.words.JobCommand.TheVariants.{Image, Emit, Run, Operands, Show}
 use Rattle.s390x_tool.specs.declared.status.Status.{Status}
 use Rattle.s390x_tool.specs.declared.status.Status.TheVariants as status
 
@@ -119,14 +123,55 @@ IsRunReply base steps j status.LinkRefused text = IsLinkRefused base j text
 IsRunReply base steps j status.NoMemory text = text ≡ line (codes "no memory")
 IsRunReply base steps j s text = ⊥
 
+-- the first cause by which the operands of a job's instructions aren't reported
+abbrev pub operands_cause_of : Job → Option OperandError
+operands_cause_of j = (operands_listing j.function.blocks.items).cause
+
+-- the text of `operands`: the listing of what the job's instructions report, all of which can be reported
+pub record IsOperandsText (j : Job) (text : List ℕ) : Type 0 where
+  pub valid : operands_cause_of j ≡ None
+  pub spelled : text ≡ (operands_listing j.function.blocks.items).bytes
+
+-- the operands of an instruction aren't reported, by the first cause
+pub record IsOperandsRefused (j : Job) (text : List ℕ) : Type 0 where
+  pub error : OperandError
+  pub cause : operands_cause_of j ≡ Some error
+  pub spelled : text ≡ line (codes "refused " ++ operand_error_name error)
+
+-- the reply of `operands` to a job
+abbrev pub IsOperandsReply : Job → Status → List ℕ → Type 0
+IsOperandsReply j status.Ok text = IsOperandsText j text
+IsOperandsReply j status.Refused text = IsOperandsRefused j text
+IsOperandsReply j status.NoMemory text = text ≡ line (codes "no memory")
+IsOperandsReply j s text = ⊥
+
+-- the listing of the texts of a job's instructions
+abbrev pub texts_of : Job → Text
+texts_of j = texts_listing j.state j.function.blocks.items
+
+-- the text of `show`: emission has no cause to refuse the job's function, and this is the listing of its instructions' texts, all of which have one
+pub record IsShownText (j : Job) (text : List ℕ) : Type 0 where
+  pub valid : job_cause j ≡ None
+  pub told : (texts_of j).cause ≡ None
+  pub spelled : text ≡ (texts_of j).bytes
+
+-- the reply of `show` to a job
+abbrev pub IsShowReply : Job → Status → List ℕ → Type 0
+IsShowReply j status.Ok text = IsShownText j text
+IsShowReply j status.Refused text = IsRefused j text
+IsShowReply j status.NoMemory text = text ≡ line (codes "no memory")
+IsShowReply j s text = ⊥
+
 -- the reply of a command to a job
-abbrev pub IsJobReply : Command → Job → Status → List ℕ → Type 0
+abbrev pub IsJobReply : JobCommand → Job → Status → List ℕ → Type 0
 IsJobReply (Image base) j s text = IsImageReply base j s text
 IsJobReply Emit j s text = IsEmitReply j s text
 IsJobReply (Run base steps) j s text = IsRunReply base steps j s text
+IsJobReply Operands j s text = IsOperandsReply j s text
+IsJobReply Show j s text = IsShowReply j s text
 
 -- the input is the text of a job, the only one, and this is the command's reply to it
-pub record IsJobAnswer (command : Command) (input : List ℕ) (s : Status) (text : List ℕ) : Type 0 where
+pub record IsJobAnswer (command : JobCommand) (input : List ℕ) (s : Status) (text : List ℕ) : Type 0 where
   pub job : Job
   pub is : IsJob job
   pub spelled : text_of_job job ≡ input
@@ -141,22 +186,33 @@ pub record IsSyntax (input text : List ℕ) : Type 0 where
   pub spelled : text ≡ line (codes "syntax " ++ decimal number)
 
 -- the answer to a command and its whole input
-abbrev pub IsAnswer : Command → List ℕ → Status → List ℕ → Type 0
+abbrev pub IsAnswer : JobCommand → List ℕ → Status → List ℕ → Type 0
 IsAnswer command input status.Syntax text = IsSyntax input text
 IsAnswer command input status.NoMemory text = text ≡ line (codes "no memory")
 IsAnswer command input s text = IsJobAnswer command input s text
 
 -- linking has no cause to refuse the job's code, where the command links it
-abbrev pub Links : Command → Job → Type 0
+abbrev pub Links : JobCommand → Job → Type 0
 Links (Image base) j = (code : MachBufferFinalized) → IsCodeOfJob j code → link_cause_of base j code ≡ None
 Links Emit j = Unit {0}
 Links (Run base steps) j = (code : MachBufferFinalized) → IsCodeOfJob j code → link_cause_of base j code ≡ None
+Links Operands j = Unit {0}
+Links Show j = Unit {0}
 
--- The input is the text of a job, which neither emission nor the command's linking has a cause to refuse.
-pub record IsAccepted (command : Command) (input : List ℕ) : Type 0 where
+-- nothing refuses the job: emission has no cause to refuse its function; for `operands` nothing keeps the operands of its instructions from
+-- being reported
+abbrev pub IsUnrefused : JobCommand → Job → Type 0
+IsUnrefused (Image base) j = job_cause j ≡ None
+IsUnrefused Emit j = job_cause j ≡ None
+IsUnrefused (Run base steps) j = job_cause j ≡ None
+IsUnrefused Operands j = operands_cause_of j ≡ None
+IsUnrefused Show j = job_cause j ≡ None
+
+-- the input is the text of a job, which nothing refuses, nor its linking, where the command links it
+pub record IsAccepted (command : JobCommand) (input : List ℕ) : Type 0 where
   pub short : length input ≤ 16777216
   pub job : Job
   pub is : IsJob job
   pub spelled : text_of_job job ≡ input
-  pub valid : job_cause job ≡ None
+  pub valid : IsUnrefused command job
   pub links : Links command job

@@ -2,8 +2,9 @@ pub mod Answers
 pub mod Causes
 pub mod Emitted
 pub mod Ends
+pub mod Generated
 pub mod InMemory
 pub mod Lines
 pub mod Replies
+pub mod Simulated
 pub mod Status
-pub mod Words

@@ -4,6 +4,8 @@ use Rattle.s390x_base.specs.declared.error.EmitError.{EmitError}
 use Rattle.s390x_base.specs.declared.error.EmitError.TheVariants as error
 use Rattle.s390x_image.specs.declared.error.LinkError.{LinkError}
 use Rattle.s390x_image.specs.declared.error.LinkError.TheVariants as link
+use Rattle.s390x_operands.specs.declared.constraint.OperandError.{OperandError}
+use Rattle.s390x_operands.specs.declared.constraint.OperandError.TheVariants as operand
 use Rattle.s390x_tool.specs.declared.status.Status.{Status}
 use Rattle.s390x_tool.specs.declared.status.Status.TheVariants as status
 
@@ -36,6 +38,12 @@ link_error_name link.OddSymbol = codes "OddSymbol"
 link_error_name link.TooFar = codes "TooFar"
 link_error_name link.NoMemory = codes "NoMemory"
 
+-- the name of what refuses operands
+abbrev pub operand_error_name : OperandError → List ℕ
+operand_error_name operand.ReuseInLoop = codes "ReuseInLoop"
+operand_error_name operand.NotReal = codes "NotReal"
+operand_error_name operand.NoMemory = codes "NoMemory"
+
 -- the reply has this status and this text, or memory didn't suffice
 abbrev pub IsMade : Status → List ℕ → Status → List ℕ → Type 0
 IsMade wanted made s text = ((s ≡ wanted) × (text ≡ made)) ⊎ ((s ≡ status.NoMemory) × (text ≡ line (codes "no memory")))
@@ -51,3 +59,9 @@ abbrev pub IsLinkRefusal : LinkError → Status → List ℕ → Type 0
 IsLinkRefusal e s text =
     ((e ≢ link.NoMemory) × (s ≡ status.LinkRefused) × (text ≡ line (codes "link " ++ link_error_name e)))
     ⊎ ((e ≡ link.NoMemory) × (s ≡ status.NoMemory) × (text ≡ line (codes "no memory")))
+
+-- the reply to a refusal of operands, which want of memory is too
+abbrev pub IsOperandRefusal : OperandError → Status → List ℕ → Type 0
+IsOperandRefusal e s text =
+    ((e ≢ operand.NoMemory) × (s ≡ status.Refused) × (text ≡ line (codes "refused " ++ operand_error_name e)))
+    ⊎ ((e ≡ operand.NoMemory) × (s ≡ status.NoMemory) × (text ≡ line (codes "no memory")))

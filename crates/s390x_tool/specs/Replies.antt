@@ -3,10 +3,14 @@ use Rattle.std.specs.Prelude.{ℕ, ◌≡◌, List, codes, Option, ◌⊎◌}
 use Rattle.std.specs.Io.KnownBytes.{Appends}
 use Rattle.s390x_tool.specs.Causes.{FaultCountRose}
 use Rattle.s390x_tool.specs.Ends.{IsRead, IsTooLong, IsCutShort}
-use Rattle.s390x_tool.specs.Words.{IsForm, IsNoForm}
+use Rattle.s390x_commands.specs.Words.{IsForm, IsNoForm}
 use Rattle.s390x_tool.specs.Answers.{IsAnswer}
+use Rattle.s390x_tool.specs.Generated.{IsGeneratedText}
 use Rattle.s390x_tool.specs.Lines.{line}
-use Rattle.s390x_tool.specs.declared.words.Command.{Command}
+use Rattle.s390x_tool.specs.Simulated.{IsSimulateReply}
+use Rattle.s390x_commands.specs.declared.words.Command.{Command}
+use Rattle.s390x_commands.specs.declared.words.Command.TheVariants.{OnJob, Generate, Simulate}
+use Rattle.s390x_commands.specs.declared.words.JobCommand.{JobCommand}
 use Rattle.s390x_tool.specs.declared.status.Status.{Status}
 use Rattle.s390x_tool.specs.declared.status.Status.TheVariants as status
 
@@ -24,33 +28,65 @@ pub record IsUsage (f : Found) : Type 0 where
   pub kept : f.left' ≡ f.left
   pub same : f.faults' ≡ f.faults
 
--- the words are a command, and a read failed
+-- the words are a command about a job, and a read failed
 pub record IsReadFault (f : Found) : Type 0 where
-  pub command : Command
-  pub form : IsForm f.words command
+  pub command : JobCommand
+  pub form : IsForm f.words (OnJob command)
   pub rose : FaultCountRose f.faults f.faults'
 
--- the words are a command, and too many bytes came
+-- the words are a command about a job, and too many bytes came
 pub record IsInputTooLong (f : Found) : Type 0 where
-  pub command : Command
-  pub form : IsForm f.words command
+  pub command : JobCommand
+  pub form : IsForm f.words (OnJob command)
   pub long : IsTooLong f.left f.left'
   pub same : f.faults' ≡ f.faults
+
+-- nothing is read for a command that is about no job
+abbrev pub IsUnreadBy : Command → Found → Type 0
+IsUnreadBy (OnJob command) f = Unit {0}
+IsUnreadBy (Generate count start) f = f.left' ≡ f.left
+IsUnreadBy (Simulate base word count steps start) f = f.left' ≡ f.left
 
 -- the words are a command, and memory didn't suffice
 pub record IsOutOfMemory (f : Found) : Type 0 where
   pub command : Command
   pub form : IsForm f.words command
+  pub kept : IsUnreadBy command f
   pub same : f.faults' ≡ f.faults
 
--- the words are a command, the source was read to its end, and this is the answer to what it held
+-- the words are a command about a job, the source was read to its end, and this is the answer to what it held
 pub record IsAnswered (f : Found) (s : Status) (text : List ℕ) : Type 0 where
-  pub command : Command
-  pub form : IsForm f.words command
+  pub command : JobCommand
+  pub form : IsForm f.words (OnJob command)
   pub input : List ℕ
   pub read : IsRead f.left f.left' input
   pub same : f.faults' ≡ f.faults
   pub answer : IsAnswer command input s text
+
+-- the words ask for a generated function, nothing was read, and this is what is told of it
+pub record IsGeneratedReply (f : Found) (text : List ℕ) : Type 0 where
+  pub count : ℕ
+  pub start : ℕ
+  pub form : IsForm f.words (Generate count start)
+  pub kept : f.left' ≡ f.left
+  pub same : f.faults' ≡ f.faults
+  pub told : IsGeneratedText count start text
+
+-- the words ask for a simulation, nothing was read, and this is its reply
+pub record IsSimulationReply (f : Found) (s : Status) (text : List ℕ) : Type 0 where
+  pub base : ℕ
+  pub word : ℕ
+  pub count : ℕ
+  pub steps : ℕ
+  pub start : ℕ
+  pub form : IsForm f.words (Simulate base word count steps start)
+  pub kept : f.left' ≡ f.left
+  pub same : f.faults' ≡ f.faults
+  pub told : IsSimulateReply base word count steps start s text
+
+-- the reply where all was done
+abbrev pub IsOkReply : Found → List ℕ → Type 0
+IsOkReply f text = IsAnswered f status.Ok text ⊎ (IsGeneratedReply f text ⊎ IsSimulationReply f status.Ok text)
 
 -- the status and the text that are replied
 abbrev pub IsReply : Found → Status → List ℕ → Type 0
@@ -59,6 +95,9 @@ IsReply f status.ReadFault text = IsReadFault f × (text ≡ line (codes "read f
 IsReply f status.InputTooLong text = IsInputTooLong f × (text ≡ line (codes "input too long"))
 IsReply f status.NoMemory text = IsOutOfMemory f × (text ≡ line (codes "no memory"))
 IsReply f status.WriteFault text = ⊥
+IsReply f status.Ok text = IsOkReply f text
+IsReply f status.LinkRefused text = IsAnswered f status.LinkRefused text ⊎ IsSimulationReply f status.LinkRefused text
+IsReply f status.BadWord text = IsSimulationReply f status.BadWord text
 IsReply f s text = IsAnswered f s text
 
 -- the whole text was written and the status is the reply's; or a write failed, and a prefix of the text was written
@@ -74,8 +113,9 @@ pub record IsEnded (f : Found) (told told' : Option (List ℕ)) (faults faults' 
   pub reply : IsReply f status text
   pub delivered : IsDelivered told told' faults faults' status text result
 
--- all was done: the source was read to its end, the command's text for what it held was told, and nothing else
+-- all was done: the source was read to its end and the command's text for what it held was told, or, with nothing read, that for a generated
+-- function or a simulation, and nothing else
 pub record IsDone (f : Found) (told told' : Option (List ℕ)) : Type 0 where
   pub text : List ℕ
-  pub answered : IsAnswered f status.Ok text
+  pub reply : IsOkReply f text
   pub appended : Appends told told' text

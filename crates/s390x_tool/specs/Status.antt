@@ -14,3 +14,4 @@ number_of_status status.ReadFault = 6
 number_of_status status.WriteFault = 7
 number_of_status status.InputTooLong = 8
 number_of_status status.NoMemory = 9
+number_of_status status.BadWord = 10

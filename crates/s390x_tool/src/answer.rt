@@ -3,23 +3,29 @@ ghost use Rattle.std.specs.Prelude.{◌≡◌, ◌<◌, ◌⊎◌, length, IfOk,
 ghost use Rattle.std.specs.Cow.{cow_str_bytes};
 ghost use Rattle.s390x_image.specs.Symbols.{no_symbols};
 ghost use Rattle.s390x_job.specs.Jobs.{IsJob};
-ghost use Rattle.s390x_tool.specs.Answers.{IsAnswer, IsCodeOfJob, IsEmitReply, IsImageReply, IsJobReply, IsLinked, IsRunReply, link_cause_of, with_symbols};
+ghost use Rattle.s390x_tool.specs.Answers.{IsAnswer, IsCodeOfJob, IsEmitReply, IsImageReply, IsJobReply, IsLinked, IsOperandsReply, IsRunReply, IsShowReply, job_cause, link_cause_of, texts_of, with_symbols};
 
 use crate::reply::{
-    Reply, in_hex, link_refused, no_memory, refused, syntax, with_tables, with_text,
+    Reply, in_hex, link_refused, no_memory, operands_refused, refused, syntax, with_tables,
+    with_text,
 };
-use crate::words::Command;
+use crate::status::Status;
 use s390x_base::NoMemory;
 use s390x_buffer::MachBufferFinalized;
+use s390x_commands::JobCommand;
 use s390x_emit_int::emit_function;
 use s390x_emit_int::headline::linked_code_runs_as_typed;
 use s390x_execution::run_text;
 use s390x_image::{Image, LinkError, SymbolTable, link};
 use s390x_job::{Job, LineError, SymbolLine, read_lines};
+use s390x_listing::{listed_operands, listed_texts};
+use s390x_text::TextError;
+use s390x_text_laws::law::valid_blocks_have_texts;
 use std::alloc::Global;
+use std::borrow::CowStr;
 
 /// The answer to a command and its whole input.
-pub fn answer(alloc: Global, command: Command, input: &[u8]) -> Reply
+pub fn answer(alloc: Global, command: JobCommand, input: &[u8]) -> Reply
     requires { length input.now < 4294967295 }
     ensures { IsAnswer command input.now result.status (cow_str_bytes result.text) }
 {
@@ -31,14 +37,16 @@ pub fn answer(alloc: Global, command: Command, input: &[u8]) -> Reply
 }
 
 // The command's reply to a job.
-fn reply_to_job(alloc: Global, command: Command, job: &Job) -> Reply
+fn reply_to_job(alloc: Global, command: JobCommand, job: &Job) -> Reply
     requires { IsJob job.now }
     ensures { IsJobReply command job.now result.status (cow_str_bytes result.text) }
 {
     match command {
-        Command::Image { base } => image(alloc, base, job),
-        Command::Emit => emit(alloc, job),
-        Command::Run { base, steps } => execution(alloc, base, steps, job),
+        JobCommand::Image { base } => image(alloc, base, job),
+        JobCommand::Emit => emit(alloc, job),
+        JobCommand::Run { base, steps } => execution(alloc, base, steps, job),
+        JobCommand::Operands => operands(alloc, job),
+        JobCommand::Show => show(alloc, job),
     }
 }
 
@@ -49,6 +57,50 @@ fn emit(alloc: Global, job: &Job) -> Reply
     match emit_function(alloc, &job.function, &job.info, job.state) {
         Ok(code) => with_tables(alloc, &code),
         Err(error) => refused(error),
+    }
+}
+
+// What the job's instructions report.
+fn operands(alloc: Global, job: &Job) -> Reply
+    ensures { IsOperandsReply job.now result.status (cow_str_bytes result.text) }
+{
+    match listed_operands(alloc, &job.function.blocks) {
+        Ok(text) => Reply {
+            status: Status::Ok,
+            text: CowStr::Owned(text),
+        },
+        Err(error) => operands_refused(error),
+    }
+}
+
+// The texts of the job's instructions, where its function has a code.
+fn show(alloc: Global, job: &Job) -> Reply
+    ensures { IsShowReply job.now result.status (cow_str_bytes result.text) }
+{
+    match emit_function(alloc, &job.function, &job.info, job.state) {
+        Ok(_) => {
+            valid_blocks_have_texts();
+            texts(alloc, job)
+        }
+        Err(error) => refused(error),
+    }
+}
+
+// The texts of the job's instructions, each of which has one.
+fn texts(alloc: Global, job: &Job) -> Reply
+    requires valid { job_cause job.now ≡ None }
+    requires told { (texts_of job.now).cause ≡ None }
+    ensures { IsShowReply job.now result.status (cow_str_bytes result.text) }
+{
+    match listed_texts(alloc, job.state, &job.function.blocks) {
+        Ok(text) => Reply {
+            status: Status::Ok,
+            text: CowStr::Owned(text),
+        },
+        Err(error) => {
+            prove!(matches!(&error, TextError::NoMemory));
+            no_memory()
+        }
     }
 }
 

@@ -4,14 +4,15 @@
 pub mod answer;
 pub mod emitted;
 pub mod ends;
+pub mod generate;
 pub mod in_memory;
 pub mod input;
 pub mod output;
 pub mod reply;
+pub mod simulate;
 pub mod standard;
 pub mod status;
 pub mod top_call;
-pub mod words;
 
 pub use ends::{Failed, Sink, Source};
 pub use in_memory::{BytesSink, BytesSource};

@@ -4,13 +4,14 @@ ghost use Rattle.std.specs.Cow.{cow_str_bytes};
 ghost use Rattle.std.specs.Fmt.{decimal};
 ghost use Rattle.hex.specs.Hex.{encode_lower};
 ghost use Rattle.s390x_tool.specs.Emitted.{emit_text};
-ghost use Rattle.s390x_tool.specs.Lines.{line, error_name, link_error_name, IsLinkRefusal, IsMade, IsRefusal};
+ghost use Rattle.s390x_tool.specs.Lines.{line, error_name, link_error_name, operand_error_name, IsLinkRefusal, IsMade, IsOperandRefusal, IsRefusal};
 
 use crate::emitted::emitted_text;
 use crate::status::Status;
 use s390x_base::{EmitError, NoMemory};
 use s390x_buffer::MachBufferFinalized;
 use s390x_image::LinkError;
+use s390x_operands::OperandError;
 use std::alloc::{AllocError, Global};
 use std::borrow::CowStr;
 
@@ -149,5 +150,26 @@ fn link_cause_line(error: LinkError) -> &'static str
         LinkError::OddSymbol => "link OddSymbol\n",
         LinkError::TooFar => "link TooFar\n",
         LinkError::NoMemory => "link NoMemory\n",
+    }
+}
+
+/// The reply to a job whose operands aren't reported.
+pub fn operands_refused(error: OperandError) -> Reply
+    ensures { IsOperandRefusal error result.status (cow_str_bytes result.text) }
+{
+    match error {
+        OperandError::NoMemory => no_memory(),
+        _ => fixed(Status::Refused, operand_cause_line(error)),
+    }
+}
+
+// The line for a refusal of operands.
+fn operand_cause_line(error: OperandError) -> &'static str
+    ensures { result.now ≡ line (codes "refused " ++ operand_error_name error) }
+{
+    match error {
+        OperandError::ReuseInLoop => "refused ReuseInLoop\n",
+        OperandError::NotReal => "refused NotReal\n",
+        OperandError::NoMemory => "refused NoMemory\n",
     }
 }

@@ -23,6 +23,8 @@ pub enum Status {
     InputTooLong = 8,
     /// No memory.
     NoMemory = 9,
+    /// The word to which processors add doesn't stand at a multiple of 4, or lies in their code.
+    BadWord = 10,
 }
 
 impl Status {

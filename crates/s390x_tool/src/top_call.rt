@@ -1,24 +1,28 @@
 //! The top call.
-ghost use Rattle.std.specs.Prelude.{◌≡◌, ◌<◌, ◌⊎◌, ℕ, List, Some};
-ghost use Rattle.s390x_tool.specs.declared.words.Command.{Command};
+ghost use Rattle.std.specs.Prelude.{◌≡◌, ◌<◌, ◌⊎◌, ℕ, List, Some, None};
+ghost use Rattle.s390x_commands.specs.declared.words.Command.TheVariants.{Generate, OnJob, Simulate};
+ghost use Rattle.s390x_commands.specs.declared.words.JobCommand.{JobCommand};
 ghost use Rattle.std.specs.Cow.{cow_str_bytes};
+ghost use Rattle.s390x_smp.specs.Image.{start_cause};
 ghost use Rattle.s390x_tool.specs.Answers.{IsAccepted};
 ghost use Rattle.s390x_tool.specs.Causes.{FaultCountRose};
 ghost use Rattle.s390x_tool.specs.Ends.{IsTooLong};
 ghost use Rattle.s390x_tool.specs.Replies.{IsDelivered, IsDone, IsEnded, IsReply};
-ghost use Rattle.s390x_tool.specs.Words.{IsForm, IsNoForm, texts};
+ghost use Rattle.s390x_commands.specs.Words.{IsForm, IsNoForm, texts};
 
 use crate::answer::answer;
 use crate::ends::{Failed, Sink, Source};
+use crate::generate::generate;
 use crate::input::{InputError, read_input};
 use crate::output::write_text;
 use crate::reply::{Reply, fixed, no_memory};
+use crate::simulate::simulate;
 use crate::status::Status;
-use crate::words::{Command, read_words};
+use s390x_commands::{Command, read_words};
 use std::alloc::Global;
 
 /// Does what the words ask for with what the source holds, and writes the text or the line of the status to the sink. It
-/// reads the source to its end first, and writes nothing before all is computed.
+/// reads the source to its end first, for a generated function or a simulation not at all, and writes nothing before all is computed.
 pub fn run<S: Source, K: Sink>(
     alloc: Global,
     words: &[String],
@@ -28,11 +32,18 @@ pub fn run<S: Source, K: Sink>(
     // The words and the input have this reply, and its text was written whole, or else a prefix of it.
     ensures ended { IsEnded (record { words = texts words.now; left = S.left source.old; left' = S.left source.new; faults = S.faults source.old; faults' = S.faults source.new })
         (K.told sink.old) (K.told sink.new) (K.faults sink.old) (K.faults sink.new) result }
-    // At `Ok` the source held the text of one job, and the sink was told the command's text for it.
+    // At `Ok` the source held the text of one job, and the sink was told the command's text for it; or, with nothing read, that for a generated function
+    // or a simulation.
     ensures ok { result ≡ Status.Ok → IsDone (record { words = texts words.now; left = S.left source.old; left' = S.left source.new; faults = S.faults source.old; faults' = S.faults source.new })
         (K.told sink.old) (K.told sink.new) }
+    // A generated function is done, where no write fails.
+    ensures generates { (count start : ℕ) → IsForm (texts words.now) (Generate count start) → (FaultCountRose (K.faults sink.old) (K.faults sink.new) → ⊥)
+        → (result ≡ Status.Ok) ⊎ (result ≡ Status.NoMemory) }
+    // A simulation that nothing refuses is done, where no write fails.
+    ensures simulates { (base word count steps start : ℕ) → IsForm (texts words.now) (Simulate base word count steps start) → start_cause base word ≡ None
+        → (FaultCountRose (K.faults sink.old) (K.faults sink.new) → ⊥) → (result ≡ Status.Ok) ⊎ (result ≡ Status.NoMemory) }
     // A job that neither emission nor linking has a cause to refuse is done, where no read and no write fails.
-    ensures complete { (command : Command) (input : List ℕ) → IsForm (texts words.now) command → S.left source.old ≡ Some input → IsAccepted command input
+    ensures complete { (command : JobCommand) (input : List ℕ) → IsForm (texts words.now) (OnJob command) → S.left source.old ≡ Some input → IsAccepted command input
         → (FaultCountRose (S.faults source.old) (S.faults source.new) → ⊥) → (FaultCountRose (K.faults sink.old) (K.faults sink.new) → ⊥)
         → (result ≡ Status.Ok) ⊎ (result ≡ Status.NoMemory) }
     ensures usage { result ≡ Status.Usage → IsNoForm (texts words.now) }
@@ -55,11 +66,21 @@ fn reply_to<S: Source>(alloc: Global, words: &[String], source: &mut S) -> Reply
     let Some(command) = read_words(words) else {
         return fixed(Status::Usage, "usage\n");
     };
-    match read_input(alloc, source) {
-        Ok(input) => answer(alloc, command, &input),
-        Err(InputError::Fault) => fixed(Status::ReadFault, "read fault\n"),
-        Err(InputError::TooLong) => fixed(Status::InputTooLong, "input too long\n"),
-        Err(InputError::NoMemory) => no_memory(),
+    match command {
+        Command::OnJob(command) => match read_input(alloc, source) {
+            Ok(input) => answer(alloc, command, &input),
+            Err(InputError::Fault) => fixed(Status::ReadFault, "read fault\n"),
+            Err(InputError::TooLong) => fixed(Status::InputTooLong, "input too long\n"),
+            Err(InputError::NoMemory) => no_memory(),
+        },
+        Command::Generate { count, start } => generate(alloc, count, start),
+        Command::Simulate {
+            base,
+            word,
+            count,
+            steps,
+            start,
+        } => simulate(alloc, base, word, count, steps, start),
     }
 }
 

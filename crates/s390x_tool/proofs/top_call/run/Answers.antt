@@ -1,4 +1,4 @@
-use Rattle.s390x_tool.proofs.Completing.{completed}
+use Rattle.s390x_tool.proofs.Completing.{completed, generated_result, simulated_result}
 use Rattle.s390x_tool.proofs.Replying.{done_result, usage_result}
 use Rattle.s390x_tool.proofs.top_call.run.Goals as goal
 
@@ -10,3 +10,9 @@ returns-clause-ok g c = done_result _ _ _ _ _ _ _ _ c.reply_to-reply.ensures c.d
 
 pub returns-clause-complete : goal.returns-clause-complete
 returns-clause-complete g c = completed _ _ _ _ _ _ _ _ c.reply_to-reply.ensures c.deliver.ensures
+
+pub returns-clause-generates : goal.returns-clause-generates
+returns-clause-generates g c = generated_result _ _ _ _ _ _ _ _ c.reply_to-reply.ensures c.deliver.ensures
+
+pub returns-clause-simulates : goal.returns-clause-simulates
+returns-clause-simulates g c = simulated_result _ _ _ _ _ _ _ _ c.reply_to-reply.ensures c.deliver.ensures

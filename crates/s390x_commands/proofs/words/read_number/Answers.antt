@@ -1,8 +1,8 @@
 use Rattle.std.proofs.Common.{sym, subst, ◌∙◌}
 use Rattle.std.proofs.lemmas.Fmt.{parse-decimal}
-use Rattle.s390x_tool.specs.Words.{IsPlain}
-use Rattle.s390x_tool.proofs.Numbers.{IsPlain-decimal, decimal-from_parse}
-use Rattle.s390x_tool.proofs.words.read_number.Goals as goal
+use Rattle.s390x_commands.specs.Words.{IsPlain}
+use Rattle.s390x_commands.proofs.Numbers.{IsPlain-decimal, decimal-from_parse}
+use Rattle.s390x_commands.proofs.words.read_number.Goals as goal
 
 pub returns-then-not-is_plain-clause-none : goal.returns-then-not-is_plain-clause-none
 returns-then-not-is_plain-clause-none c = λ n small e.
