@@ -3,4 +3,5 @@ pub mod Emission
 pub mod Facilities
 pub mod Frames
 pub mod Memory
+pub mod Portions
 pub mod State

@@ -4,6 +4,7 @@
 pub mod abi;
 pub mod args;
 pub mod calls;
+pub mod copy;
 pub mod defaults;
 pub mod facility;
 pub mod function;

@@ -6,6 +6,8 @@ mod addresses;
 #[cfg(test)]
 mod conditions;
 #[cfg(test)]
+mod copies;
+#[cfg(test)]
 mod epilogues;
 #[cfg(test)]
 mod facilities;
