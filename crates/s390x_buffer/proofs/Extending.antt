@@ -4,6 +4,8 @@ use Rattle.std.proofs.lemmas.List.{get_or-set_other, length-append, length-set}
 use Rattle.s390x_buffer.specs.State.{BufferState, TryCallSite, poisoned}
 use Rattle.s390x_buffer.specs.Extends.{Extends, ExtendsEntries, ExtendsExcept, IsPrefix}
 use Rattle.s390x_buffer.specs.declared.entries.LabelFixup.{LabelFixup}
+use Rattle.s390x_buffer.specs.declared.entries.RecordedBranches.{RecordedBranches}
+use Rattle.s390x_buffer.specs.declared.entries.RecordedBranches.TheVariants.{NoBranch}
 use Rattle.s390x_buffer.specs.declared.entries.TrapEntry.{TrapEntry}
 use Rattle.s390x_buffer.specs.declared.entries.RelocEntry.{RelocEntry}
 use Rattle.s390x_buffer.specs.declared.entries.PatchEntry.{PatchEntry}
@@ -13,7 +15,7 @@ prefix_refl : {A : Type 0} (xs : List A) → IsPrefix xs xs
 prefix_refl [] = refl
 prefix_refl (x ∷ xs) = ap (λ l. x ∷ l) (prefix_refl xs)
 
-prefix_more : {A : Type 0} (xs ys : List A) → IsPrefix xs (xs ++ ys)
+pub prefix_more : {A : Type 0} (xs ys : List A) → IsPrefix xs (xs ++ ys)
 prefix_more [] ys = refl
 prefix_more (x ∷ xs) ys = ap (λ l. x ∷ l) (prefix_more xs ys)
 
@@ -250,7 +252,7 @@ entries_stack_maps s xs = record {
 pub extends_stack_maps : (s : BufferState) (xs : List MapEntry) → Extends s (record s { stack_maps = s.stack_maps ++ xs })
 extends_stack_maps s xs = record { entries = entries_stack_maps s xs; labels = λ l lt. refl }
 
-entries_starts : (s : BufferState) (xs : List ℕ) → ExtendsEntries s (record s { starts = s.starts ++ xs })
+entries_starts : (s : BufferState) (xs : List ℕ) → ExtendsEntries s (record s { starts = s.starts ++ xs; branches = NoBranch })
 entries_starts s xs = record {
   bytes = prefix_refl s.bytes;
   uses = prefix_refl s.uses;
@@ -266,8 +268,27 @@ entries_starts s xs = record {
   constants = refl;
 }
 
-pub extends_starts : (s : BufferState) (xs : List ℕ) → Extends s (record s { starts = s.starts ++ xs })
+pub extends_starts : (s : BufferState) (xs : List ℕ) → Extends s (record s { starts = s.starts ++ xs; branches = NoBranch })
 extends_starts s xs = record { entries = entries_starts s xs; labels = λ l lt. refl }
+
+entries_branches : (s : BufferState) (bs : RecordedBranches) → ExtendsEntries s (record s { branches = bs })
+entries_branches s bs = record {
+  bytes = prefix_refl s.bytes;
+  uses = prefix_refl s.uses;
+  traps = prefix_refl s.traps;
+  relocs = prefix_refl s.relocs;
+  call_sites = prefix_refl s.call_sites;
+  try_call_sites = prefix_refl s.try_call_sites;
+  patchable_sites = prefix_refl s.patchable_sites;
+  stack_maps = prefix_refl s.stack_maps;
+  starts = prefix_refl s.starts;
+  label_count = same_count (length s.labels);
+  block_count = refl;
+  constants = refl;
+}
+
+pub extends_branches : (s : BufferState) (bs : RecordedBranches) → Extends s (record s { branches = bs })
+extends_branches s bs = record { entries = entries_branches s bs; labels = λ l lt. refl }
 
 drawn_kept : (ls : List (Option ℕ)) (l : ℕ) → l < length ls → get_or (ls ++ None ∷ []) l None ≡ get_or ls l None
 drawn_kept [] l lt = absurd (omega (arith, lt))
@@ -299,7 +320,7 @@ extends_draw s = record { entries = entries_draw s; labels = drawn_kept s.labels
 as_many : (ls : List (Option ℕ)) (b : ℕ) (v : Option ℕ) → length ls ≤ length (set ls b v)
 as_many ls b v = omega (arith, length-set ls b v)
 
-entries_bind : (s : BufferState) (b : ℕ) (v : Option ℕ) → ExtendsEntries s (record s { labels = set s.labels b v })
+entries_bind : (s : BufferState) (b : ℕ) (v : Option ℕ) → ExtendsEntries s (record s { labels = set s.labels b v; branches = NoBranch })
 entries_bind s b v = record {
   bytes = prefix_refl s.bytes;
   uses = prefix_refl s.uses;
@@ -315,7 +336,7 @@ entries_bind s b v = record {
   constants = refl;
 }
 
-pub extends_bind : (s : BufferState) (b : ℕ) (v : Option ℕ) → ExtendsExcept b s (record s { labels = set s.labels b v })
+pub extends_bind : (s : BufferState) (b : ℕ) (v : Option ℕ) → ExtendsExcept b s (record s { labels = set s.labels b v; branches = NoBranch })
 extends_bind s b v = record { entries = entries_bind s b v; labels = λ l lt other. get_or-set_other s.labels b l v None other }
 
 pub except_mark : (s t : BufferState) (b : ℕ) → t ≡ poisoned s → ExtendsExcept b s t

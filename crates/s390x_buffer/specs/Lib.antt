@@ -2,6 +2,7 @@ pub mod State
 pub mod Extends
 pub mod Patch
 pub mod Relocs
+pub mod BlockEnd
 pub mod Constants
 pub mod Finish
 pub mod Branches

@@ -11,6 +11,8 @@ use Rattle.s390x_buffer.specs.declared.entries.PatchEntry.{PatchEntry}
 use Rattle.s390x_buffer.specs.declared.entries.MapEntry.{MapEntry}
 use Rattle.s390x_buffer.specs.declared.entries.TryHandler.{TryHandler}
 use Rattle.s390x_buffer.specs.declared.entries.TrySite.{TrySite}
+use Rattle.s390x_buffer.specs.declared.entries.RecordedBranches.{RecordedBranches}
+use Rattle.s390x_buffer.specs.declared.entries.RecordedBranches.TheVariants.{NoBranch}
 
 -- a declared constant
 pub record Constant : Type 0 where
@@ -44,6 +46,7 @@ pub record BufferState : Type 0 where
   pub patchable_sites : List PatchEntry
   pub stack_maps : List MapEntry
   pub starts : List ℕ
+  pub branches : RecordedBranches
   pub block_count : ℕ
   pub constants : List Constant
   pub failed : Bool
@@ -61,6 +64,7 @@ fresh_buffer n cs = record {
   patchable_sites = [];
   stack_maps = [];
   starts = [];
+  branches = NoBranch;
   block_count = n;
   constants = cs;
   failed = false;

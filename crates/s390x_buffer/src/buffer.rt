@@ -1,14 +1,20 @@
 //! The buffer that emission writes into.
-ghost use Rattle.std.specs.Prelude.{◌≡◌, ◌+◌, ◌<◌, ◌≤◌, ◌++◌, ◌∷◌, [], Some, None, true, false, length, map, set, get_or, replicate, MatchResult, IfOk};
+ghost use Rattle.std.specs.Prelude.{◌≡◌, ◌≢◌, ◌+◌, ◌<◌, ◌≤◌, ◌++◌, ◌∷◌, [], Some, None, true, false, length, map, set, get_or, replicate, MatchResult, IfOk};
 ghost use Rattle.std.specs.Int.{to_be_bytes, w32, w64};
 ghost use Rattle.s390x_buffer.specs.Branches.{BranchesLead};
 ghost use Rattle.s390x_buffer.specs.Finish.{length_cause, patch_cause, finish_cause, FailsWithEither, Finished};
 ghost use Rattle.s390x_buffer.specs.Extends.{Extends, ExtendsExcept};
+ghost use Rattle.s390x_buffer.specs.BlockEnd.{has_use, with_jump, with_conditional, cut, inverted_alone, both_ended, ended_by, ended, KeepsTables};
+ghost use Rattle.s390x_buffer.specs.declared.entries.RecordedBranches.TheVariants.{NoBranch};
+ghost use Rattle.s390x_base.specs.declared.error.EmitError.TheVariants.{NoMemory};
 ghost use Rattle.s390x_buffer.specs.State.{BufferState, FailsWith, poisoned, mark_cause, put_cause, draw_cause, label_cause, handlers_cause, labels_below, constant_cause, new_cause, fresh_buffer, constant_of, constant_label, is_alignment, all_aligned, IsNoConstant, align_of, limit, label_limit};
 
+use crate::block_end::{
+    drop_use, ends_at, invert_uses, put_last, six_bytes, with_conditional, with_jump,
+};
 use crate::entries::{
-    LabelFixup, MachBufferFinalized, MapEntry, PatchEntry, RelocEntry, TrapEntry, TryHandler,
-    TrySite,
+    LabelFixup, MachBufferFinalized, MapEntry, PatchEntry, RecordedBranches, RelocEntry, TrapEntry,
+    TryHandler, TrySite,
 };
 use crate::finish::{alignment_of, constants_fit, place_and_patch, place_try_sites, starts_of};
 use crate::label_use::LabelUse;
@@ -43,6 +49,7 @@ pub struct MachBuffer {
     patchable_sites: Vec<PatchEntry>,
     stack_maps: Vec<MapEntry>,
     starts: Vec<CodeOffset>,
+    branches: RecordedBranches,
     block_count: u32,
     constants: Vec<ConstantData>,
     failed: bool,
@@ -65,6 +72,7 @@ impl Model for MachBuffer {
       patchable_sites = b.patchable_sites.items;
       stack_maps = b.stack_maps.items;
       starts = b.starts.items;
+      branches = b.branches;
       block_count = b.block_count;
       constants = list_map constant_of b.constants.items;
       failed = b.failed;
@@ -111,6 +119,7 @@ impl MachBuffer {
             patchable_sites: Vec::new(alloc),
             stack_maps: Vec::new(alloc),
             starts: Vec::new(alloc),
+            branches: RecordedBranches::NoBranch,
             block_count,
             constants,
             failed: false,
@@ -324,11 +333,11 @@ impl MachBuffer {
         Ok(MachLabel(self.block_count + constant.0))
     }
 
-    /// Binds a label at the current offset. Refused by `UnboundLabel` where it isn't this buffer's.
+    /// Binds a label at the current offset, and forgets all recorded branches. Refused by `UnboundLabel` where it isn't this buffer's.
     pub fn bind_label(&mut self, label: MachLabel) -> Result<(), EmitError>
         requires unbound { get_or self.old.labels label.0 None ≡ None }
         requires no_constant { IsNoConstant self.old label.0 }
-        ensures answer { MatchResult result (λ _. (label_cause self.old label.0 ≡ None) × (self.new ≡ record self.old { labels = set self.old.labels label.0 (Some (length self.old.bytes)) })) (λ e. FailsWith (label_cause self.old label.0) e × (self.new ≡ poisoned self.old)) }
+        ensures answer { MatchResult result (λ _. (label_cause self.old label.0 ≡ None) × (self.new ≡ record self.old { labels = set self.old.labels label.0 (Some (length self.old.bytes)); branches = NoBranch })) (λ e. FailsWith (label_cause self.old label.0) e × (self.new ≡ poisoned self.old)) }
         ensures kept { ExtendsExcept label.0 self.old self.new }
     {
         if self.failed {
@@ -339,6 +348,7 @@ impl MachBuffer {
         }
         let offset = self.cur_offset();
         self.labels[label.0 as usize] = Some(offset);
+        self.branches = RecordedBranches::NoBranch;
         Ok(())
     }
 
@@ -446,19 +456,165 @@ impl MachBuffer {
         }
     }
 
-    /// The current offset is where the next step starts.
+    /// The current offset is where the next step starts. Forgets all recorded branches.
     pub fn start_step(&mut self) -> Result<(), EmitError>
-        ensures answer { MatchResult result (λ _. (mark_cause self.old ≡ None) × (self.new ≡ record self.old { starts = self.old.starts ++ length self.old.bytes ∷ [] })) (λ e. FailsWith (mark_cause self.old) e × (self.new ≡ poisoned self.old)) }
+        ensures answer { MatchResult result (λ _. (mark_cause self.old ≡ None) × (self.new ≡ record self.old { starts = self.old.starts ++ length self.old.bytes ∷ []; branches = NoBranch })) (λ e. FailsWith (mark_cause self.old) e × (self.new ≡ poisoned self.old)) }
         ensures kept { Extends self.old self.new }
     {
         if self.failed {
             return self.refuse(EmitError::Failed);
         }
         let offset = self.cur_offset();
-        match self.starts.push(offset) {
-            Ok(()) => Ok(()),
-            Err(_) => self.refuse(EmitError::NoMemory),
+        if self.starts.push(offset).is_err() {
+            return self.refuse(EmitError::NoMemory);
         }
+        self.branches = RecordedBranches::NoBranch;
+        Ok(())
+    }
+
+    /// Records the branch of six bytes that is put next, from `start` to `end`, and is always taken.
+    pub fn add_uncond_branch(
+        &mut self,
+        start: CodeOffset,
+        end: CodeOffset,
+        target: MachLabel,
+    ) -> Result<(), EmitError>
+        requires here { start ≡ length self.old.bytes }
+        requires six { end ≡ start + 6 }
+        requires used { has_use start target.0 self.old.uses ≡ true }
+        ensures answer { MatchResult result (λ _. (mark_cause self.old ≡ None) × (self.new ≡ record self.old { branches = with_jump self.old.branches start target })) (λ e. FailsWith (mark_cause self.old) e × (self.new ≡ poisoned self.old)) }
+        ensures kept { Extends self.old self.new }
+    {
+        if self.failed {
+            return self.refuse(EmitError::Failed);
+        }
+        self.branches = with_jump(self.branches, start, end, target);
+        Ok(())
+    }
+
+    /// Records the conditional branch of six bytes that is put next, from `start` to `end`.
+    /// `inverted` is the code of the branch on the inverted condition.
+    pub fn add_cond_branch(
+        &mut self,
+        start: CodeOffset,
+        end: CodeOffset,
+        target: MachLabel,
+        inverted: &Code,
+    ) -> Result<(), EmitError>
+        requires here { start ≡ length self.old.bytes }
+        requires six { end ≡ start + 6 }
+        requires used { has_use start target.0 self.old.uses ≡ true }
+        requires inverted_six { length inverted.now ≡ 6 }
+        ensures answer { MatchResult result (λ _. (mark_cause self.old ≡ None) × (self.new ≡ record self.old { branches = with_conditional self.old.branches start target inverted.now })) (λ e. FailsWith (mark_cause self.old) e × (self.new ≡ poisoned self.old)) }
+        ensures kept { Extends self.old self.new }
+    {
+        if self.failed {
+            return self.refuse(EmitError::Failed);
+        }
+        let inverted = six_bytes(inverted);
+        self.branches = with_conditional(self.branches, start, end, target, inverted);
+        Ok(())
+    }
+
+    /// Ends a block, `next` being the one behind it. Where the branches that are recorded one behind the other
+    /// up to the current offset are one that is always taken, it is cut where it leads to `next`. Where
+    /// they are a conditional one and then one that is always taken, the second one is cut where it
+    /// leads to `next`, and the first one too where both do; where the first one alone does, the branch on the
+    /// inverted condition to the second one's label stands in place of both. A cut branch loses its bytes and its use.
+    #[tactic(auto, using(crate::proofs::Ending::keeps_mark, crate::proofs::Ending::keeps_ended))]
+    pub fn end_block(&mut self, next: Option<MachLabel>) -> Result<(), EmitError>
+        ensures answer { MatchResult result (λ _. (mark_cause self.old ≡ None) × (self.new ≡ ended next self.old)) (λ e. FailsWith (mark_cause self.old) e × (self.new ≡ poisoned self.old)) }
+        ensures kept { KeepsTables self.old self.new }
+    {
+        if self.failed {
+            return self.refuse(EmitError::Failed);
+        }
+        match next {
+            Some(next) => self.fold(next),
+            None => Ok(()),
+        }
+    }
+
+    // What is recorded up to the current offset is folded, where the next block has this label.
+    fn fold(&mut self, next: MachLabel) -> Result<(), EmitError>
+        ensures { MatchResult result (λ _. self.new ≡ ended_by self.old.branches next.0 self.old) (λ e. (e ≡ NoMemory) × (self.new ≡ poisoned self.old)) }
+    {
+        let here = self.cur_offset();
+        match self.branches {
+            RecordedBranches::LoneJump { start, target } => {
+                if ends_at(start, 6, here) && target.0 == next.0 {
+                    self.cut(start, target);
+                }
+                Ok(())
+            }
+            RecordedBranches::ConditionalThenJump {
+                start,
+                taken,
+                not_taken,
+                inverted,
+            } => {
+                if !ends_at(start, 12, here) {
+                    return Ok(());
+                }
+                self.fold_both(next, start, taken, not_taken, inverted)
+            }
+            _ => Ok(()),
+        }
+    }
+
+    // The same of a conditional branch and the one behind it.
+    fn fold_both(
+        &mut self,
+        next: MachLabel,
+        start: CodeOffset,
+        taken: MachLabel,
+        not_taken: MachLabel,
+        inverted: [u8; 6],
+    ) -> Result<(), EmitError>
+        requires at_end { start + 12 ≡ length self.old.bytes }
+        requires small { start + 12 < limit }
+        ensures { MatchResult result (λ _. self.new ≡ both_ended next.0 start taken not_taken inverted self.old) (λ e. (e ≡ NoMemory) × (self.new ≡ poisoned self.old)) }
+    {
+        if not_taken.0 == next.0 {
+            self.cut(start + 6, not_taken);
+            if taken.0 == next.0 {
+                self.cut(start, taken);
+            }
+            return Ok(());
+        }
+        if taken.0 == next.0 {
+            return self.invert(start, taken, not_taken, inverted);
+        }
+        Ok(())
+    }
+
+    // Cuts the bytes from a branch on, and its use.
+    fn cut(&mut self, start: CodeOffset, target: MachLabel)
+        ensures { self.new ≡ cut start target.0 self.old }
+    {
+        self.bytes.truncate(start as usize);
+        drop_use(&mut self.uses, start, target);
+        self.branches = RecordedBranches::NoBranch;
+    }
+
+    // Puts the inverted branch in place of a conditional one and the one behind it.
+    fn invert(
+        &mut self,
+        start: CodeOffset,
+        taken: MachLabel,
+        not_taken: MachLabel,
+        inverted: [u8; 6],
+    ) -> Result<(), EmitError>
+        requires at_end { start + 12 ≡ length self.old.bytes }
+        requires differ { taken.0 ≢ not_taken.0 }
+        ensures { MatchResult result (λ _. self.new ≡ inverted_alone start taken.0 not_taken inverted self.old) (λ e. (e ≡ NoMemory) × (self.new ≡ poisoned self.old)) }
+    {
+        if invert_uses(&mut self.uses, start, taken, not_taken).is_err() {
+            return self.refuse(EmitError::NoMemory);
+        }
+        put_last(&mut self.bytes, start as usize, inverted);
+        self.branches = RecordedBranches::NoBranch;
+        Ok(())
     }
 
     /// The finished code: the constants stand behind it, in order, each at the next multiple of the
@@ -487,6 +643,7 @@ impl MachBuffer {
             patchable_sites,
             stack_maps,
             starts,
+            branches: _,
             block_count,
             constants,
             failed: _,

@@ -11,6 +11,35 @@ pub struct LabelFixup {
     pub label: MachLabel,
 }
 
+/// The branches that are recorded one behind the other, up to the one that was recorded last.
+/// Each has six bytes.
+#[derive(Clone, Copy)]
+pub enum RecordedBranches {
+    NoBranch,
+    /// One that is always taken.
+    LoneJump {
+        start: CodeOffset,
+        target: MachLabel,
+    },
+    /// A conditional one, and the bytes of the branch on the inverted condition.
+    LoneConditional {
+        start: CodeOffset,
+        target: MachLabel,
+        inverted: [u8; 6],
+    },
+    /// A conditional one and, right behind it, one that is always taken.
+    ConditionalThenJump {
+        start: CodeOffset,
+        taken: MachLabel,
+        not_taken: MachLabel,
+        inverted: [u8; 6],
+    },
+    /// Any others, which end here.
+    OtherBranches {
+        end: CodeOffset,
+    },
+}
+
 /// A handler of a call with a try: a tag, or none for the default, and where it stands.
 #[derive(Clone, Copy)]
 pub struct TryHandler {

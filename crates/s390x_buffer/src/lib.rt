@@ -1,6 +1,7 @@
 //! The buffer of emission: bytes, labels and their uses, constants and tables, and what they become once finished.
 #![tactic(auto)]
 
+mod block_end;
 pub mod buffer;
 pub mod entries;
 mod finish;

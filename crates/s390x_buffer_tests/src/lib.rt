@@ -2,6 +2,8 @@
 #![tactic(auto)]
 
 #[cfg(test)]
+mod block_ends;
+#[cfg(test)]
 mod linking;
 #[cfg(test)]
 mod tables;

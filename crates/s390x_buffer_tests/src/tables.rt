@@ -128,7 +128,7 @@ fn answers_to_labels(buffer: &mut MachBuffer) -> [Option<EmitError>; 3] {
     ]
 }
 
-fn answers_to_entries(buffer: &mut MachBuffer) -> [Option<EmitError>; 5] {
+fn answers_to_entries(buffer: &mut MachBuffer) -> [Option<EmitError>; 6] {
     [
         buffer.add_trap(TrapCode::STACK_OVERFLOW).err(),
         buffer.add_reloc(Reloc::Abs8, ExternalName(1), 0).err(),
@@ -137,6 +137,7 @@ fn answers_to_entries(buffer: &mut MachBuffer) -> [Option<EmitError>; 5] {
             .err(),
         buffer.push_user_stack_map(0, 0).err(),
         buffer.start_step().err(),
+        buffer.end_block(None).err(),
     ]
 }
 

@@ -4,6 +4,7 @@ use Rattle.s390x_base.specs.declared.ir.Reloc.{Reloc}
 use Rattle.std.specs.Prelude.{ℕ, ℤ, ◌+◌, List, [], ◌∷◌, ◌++◌, length, Some, None, set}
 use Rattle.s390x_base.specs.declared.trap.TrapKind.{TrapKind}
 use Rattle.s390x_buffer.specs.State.{BufferState, constant_label}
+use Rattle.s390x_buffer.specs.declared.entries.RecordedBranches.TheVariants.{NoBranch}
 use Rattle.s390x_buffer.specs.declared.label_use.LabelUse.{LabelUse}
 use Rattle.s390x_buffer.specs.declared.label_use.LabelUse.TheVariants.{BranchRIL}
 
@@ -33,9 +34,9 @@ apply s (PutTrapping bs byte code) = record s { bytes = s.bytes ++ bs; traps = s
 apply s (PutReloc bs byte kind name addend) = record s { bytes = s.bytes ++ bs; relocs = s.relocs ++ record { offset = length s.bytes + byte; kind = kind; name = name; addend = addend } ∷ [] }
 apply s (Link kind l bs) = record s { bytes = s.bytes ++ bs; uses = s.uses ++ record { kind = kind; offset = length s.bytes; label = record { 0 = l } } ∷ [] }
 apply s (LinkConstant c bs) = record s { bytes = s.bytes ++ bs; uses = s.uses ++ record { kind = BranchRIL; offset = length s.bytes; label = record { 0 = constant_label s c } } ∷ [] }
-apply s StartStep = record s { starts = s.starts ++ length s.bytes ∷ [] }
+apply s StartStep = record s { starts = s.starts ++ length s.bytes ∷ []; branches = NoBranch }
 apply s Draw = record s { labels = s.labels ++ None ∷ [] }
-apply s (Bind l) = record s { labels = set s.labels l (Some (length s.bytes)) }
+apply s (Bind l) = record s { labels = set s.labels l (Some (length s.bytes)); branches = NoBranch }
 
 -- the buffer after fragments, one after another
 abbrev pub apply_all : BufferState → List Fragment → BufferState

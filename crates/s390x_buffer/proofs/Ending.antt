@@ -1,0 +1,208 @@
+-- Which use is dropped, and what stays at the end of a block.
+use Rattle.std.proofs.Common.{◌≡◌, ℕ, zero, suc, ◌+◌, ◌-◌, ◌<◌, ◌≤◌, List, [], ◌∷◌, ◌++◌, length, take, drop, remove, Option, Some, None, MatchOption, Bool, true, false, cond, ◌||◌, ◌&&◌, nat_eq, refl, sym, ap, ap₂, ◌∙◌, subst, arith, length-append, append_assoc, get_or, eqb-true, eq-eqb, ne_eqb, ◌≢◌}
+use Rattle.std.proofs.lemmas.List.{append-nil, take-append-le, drop-append-le, drop_all, take_more, take_all, length-take-le}
+use Rattle.std.proofs.lemmas.Bool.{and_from}
+use Rattle.s390x_base.specs.declared.ir.MachLabel.{MachLabel}
+use Rattle.s390x_buffer.specs.State.{BufferState, poisoned}
+use Rattle.s390x_buffer.specs.Extends.{IsPrefix}
+use Rattle.s390x_buffer.specs.BlockEnd.{is_branch_use, has_use, without_use, cut, inverted_alone, both_ended, ended_by, ended, KeepsTables}
+use Rattle.s390x_buffer.specs.declared.entries.LabelFixup.{LabelFixup}
+use Rattle.s390x_buffer.specs.declared.entries.RecordedBranches.{RecordedBranches}
+use Rattle.s390x_buffer.specs.declared.entries.RecordedBranches.TheVariants.{NoBranch, LoneJump, LoneConditional, ConditionalThenJump, OtherBranches}
+use Rattle.s390x_buffer.specs.declared.label_use.LabelUse.TheVariants.{BranchRIL}
+use Rattle.s390x_buffer.proofs.Extending.{prefix_more}
+
+-- the last use of a branch, by its index
+abbrev pub IsLast : ℕ → ℕ → List LabelFixup → Option ℕ → Type 0
+IsLast start l us o = MatchOption o (without_use start l us ≡ us) (λ i. (i < length us) × (without_use start l us ≡ remove us i))
+
+or_true : (b : Bool) → (b || true) ≡ true
+or_true true = refl
+or_true false = refl
+
+or_false : (b : Bool) → (b || false) ≡ b
+or_false true = refl
+or_false false = refl
+
+has-behind : (start l : ℕ) (xs : List LabelFixup) (u : LabelFixup) → is_branch_use start l u ≡ true → has_use start l (xs ++ u ∷ []) ≡ true
+has-behind start l [] u e = cc
+has-behind start l (x ∷ xs) u e = ap (λ b. is_branch_use start l x || b) (has-behind start l xs u e) ∙ or_true (is_branch_use start l x)
+
+has-other : (start l : ℕ) (xs : List LabelFixup) (u : LabelFixup) → is_branch_use start l u ≡ false → has_use start l (xs ++ u ∷ []) ≡ has_use start l xs
+has-other start l [] u e = ap (λ b. b || false) e
+has-other start l (x ∷ xs) u e = ap (λ b. is_branch_use start l x || b) (has-other start l xs u e)
+
+without_behind : (start l : ℕ) (xs : List LabelFixup) (u : LabelFixup) → is_branch_use start l u ≡ true → without_use start l (xs ++ u ∷ []) ≡ xs
+without_behind start l [] u e = ap (λ b. cond b [] (u ∷ [])) e
+without_behind start l (x ∷ xs) u e =
+    ap (λ b. cond b (x ∷ without_use start l (xs ++ u ∷ [])) (cond (is_branch_use start l x) (xs ++ u ∷ []) (x ∷ (xs ++ u ∷ [])))) (has-behind start l xs u e)
+    ∙ ap (λ l. x ∷ l) (without_behind start l xs u e)
+
+step-other : (p q : Bool) (x : LabelFixup) (ys xs zs : List LabelFixup) → cond p (x ∷ (ys ++ zs)) (cond q (xs ++ zs) (x ∷ (xs ++ zs))) ≡ cond p (x ∷ ys) (cond q xs (x ∷ xs)) ++ zs
+step-other true q x ys xs zs = refl
+step-other false true x ys xs zs = refl
+step-other false false x ys xs zs = refl
+
+-- a use behind the others that is not the branch's stays
+pub without_other : (start l : ℕ) (xs : List LabelFixup) (u : LabelFixup) → is_branch_use start l u ≡ false → without_use start l (xs ++ u ∷ []) ≡ without_use start l xs ++ u ∷ []
+without_other start l [] u e = ap (λ b. cond b [] (u ∷ [])) e
+without_other start l (x ∷ xs) u e =
+    ap (λ b. cond b (x ∷ without_use start l (xs ++ u ∷ [])) (cond (is_branch_use start l x) (xs ++ u ∷ []) (x ∷ (xs ++ u ∷ [])))) (has-other start l xs u e)
+    ∙ ap (λ ys. cond (has_use start l xs) (x ∷ ys) (cond (is_branch_use start l x) (xs ++ u ∷ []) (x ∷ (xs ++ u ∷ [])))) (without_other start l xs u e)
+    ∙ step-other (has_use start l xs) (is_branch_use start l x) x (without_use start l xs) xs (u ∷ [])
+
+pub with_last : (start l : ℕ) (us : List LabelFixup) (i : ℕ) (z : LabelFixup) → i < length us → is_branch_use start l (get_or us i z) ≡ true → IsLast start l (take (i + 1) us) (Some i)
+with_last start l us i z lt e =
+    let u = get_or us i z in
+    let step : take (i + 1) us ≡ take i us ++ u ∷ [] = take_more us i z lt in
+    let few : length (take i us) ≡ i = length-take-le i us (omega (arith, lt)) in
+    let many : length (take (i + 1) us) ≡ i + 1 = length-take-le (i + 1) us (omega (arith, lt)) in
+    let inside : i < length (take (i + 1) us) = omega (arith, many) in
+    let front : take i (take (i + 1) us) ≡ take i us = ap (λ ys. take i ys) step ∙ take-append-le i (take i us) (u ∷ []) (omega (arith, few)) ∙ take_all i (take i us) (omega (arith, few)) in
+    let rest : drop (suc i) (take (i + 1) us) ≡ [] = drop_all (suc i) (take (i + 1) us) (omega (arith, many)) in
+    let gone : remove (take (i + 1) us) i ≡ take i us = ap (λ ys. take i (take (i + 1) us) ++ ys) rest ∙ append-nil (take i (take (i + 1) us)) ∙ front in
+    let less : without_use start l (take (i + 1) us) ≡ take i us = ap (λ ys. without_use start l ys) step ∙ without_behind start l (take i us) u e in
+    (inside, less ∙ sym gone)
+
+remove-append : (us : List LabelFixup) (j : ℕ) (u : LabelFixup) → j < length us → remove (us ++ u ∷ []) j ≡ remove us j ++ u ∷ []
+remove-append us j u lt =
+    let front : take j (us ++ u ∷ []) ≡ take j us = take-append-le j us (u ∷ []) (omega (arith, lt)) in
+    let rest : drop (suc j) (us ++ u ∷ []) ≡ drop (suc j) us ++ u ∷ [] = drop-append-le (suc j) us (u ∷ []) (omega (arith, lt)) in
+    ap₂ (λ xs ys. xs ++ ys) front rest ∙ sym (append_assoc (take j us) (drop (suc j) us) (u ∷ []))
+
+last-other : (start l : ℕ) (us : List LabelFixup) (u : LabelFixup) (o : Option ℕ) → is_branch_use start l u ≡ false → IsLast start l us o → IsLast start l (us ++ u ∷ []) o
+last-other start l us u None e h = without_other start l us u e ∙ ap (λ ys. ys ++ u ∷ []) h
+last-other start l us u (Some j) e h =
+    let more : j < length (us ++ u ∷ []) = omega (arith, length-append us (u ∷ []), h.0) in
+    (more, without_other start l us u e ∙ ap (λ ys. ys ++ u ∷ []) h.1 ∙ sym (remove-append us j u h.0))
+
+pub same_last : (start l : ℕ) (us : List LabelFixup) (i : ℕ) (z : LabelFixup) (o : Option ℕ) → i < length us → is_branch_use start l (get_or us i z) ≡ false → IsLast start l (take i us) o → IsLast start l (take (i + 1) us) o
+same_last start l us i z o lt e h = subst (λ ys. IsLast start l ys o) (sym (take_more us i z lt)) (last-other start l (take i us) (get_or us i z) o e h)
+
+pub whole_last : (start l : ℕ) (us : List LabelFixup) (i : ℕ) (o : Option ℕ) → length us ≤ i → IsLast start l (take i us) o → IsLast start l us o
+whole_last start l us i o le h = subst (λ ys. IsLast start l ys o) (take_all i us le) h
+
+not_branch : (k : Bool) (p q : Bool) → (p && q) ≡ false → (k && (p && q)) ≡ false
+not_branch true p q e = e
+not_branch false p q e = refl
+
+and-left : (p q : Bool) → p ≡ false → (p && q) ≡ false
+and-left false q e = refl
+and-left true q e = absurd (cc)
+
+and-right : (p q : Bool) → q ≡ false → (p && q) ≡ false
+and-right false q e = refl
+and-right true q e = e
+
+-- the new use is none of the two that are dropped
+pub inverted_uses : (start taken : ℕ) (not_taken : MachLabel) (us : List LabelFixup) → taken ≢ not_taken.0 →
+    without_use start taken (without_use (start + 6) not_taken.0 (us ++ record { kind = BranchRIL; offset = start; label = not_taken } ∷ [])) ≡ without_use start taken (without_use (start + 6) not_taken.0 us) ++ record { kind = BranchRIL; offset = start; label = not_taken } ∷ []
+inverted_uses start taken not_taken us differ =
+    let u : LabelFixup = record { kind = BranchRIL; offset = start; label = not_taken } in
+    let first : is_branch_use (start + 6) not_taken.0 u ≡ false = and-left (nat_eq start (start + 6)) (nat_eq not_taken.0 not_taken.0) (ne_eqb start (start + 6) (λ e. omega (arith, e))) in
+    let second : is_branch_use start taken u ≡ false = and-right (nat_eq start start) (nat_eq not_taken.0 taken) (ne_eqb not_taken.0 taken (λ e. differ (sym e))) in
+    ap (without_use start taken) (without_other (start + 6) not_taken.0 us u first)
+    ∙ without_other start taken (without_use (start + 6) not_taken.0 us) u second
+
+-- a use that was just put is one of them
+pub used_last : (start l : ℕ) (us : List LabelFixup) → has_use start l (us ++ record { kind = BranchRIL; offset = start; label = record { 0 = l } } ∷ []) ≡ true
+used_last start l us = has-behind start l us (record { kind = BranchRIL; offset = start; label = record { 0 = l } }) (and_from (nat_eq start start) (nat_eq l l) (eq-eqb start start refl) (eq-eqb l l refl))
+
+-- what the end of a block keeps
+
+prefix_taken : (xs : List ℕ) (k m : ℕ) → k ≤ m → IsPrefix (take k xs) (take m xs)
+prefix_taken [] zero m le = refl
+prefix_taken [] (suc k) m le = refl
+prefix_taken (x ∷ xs) zero m le = refl
+prefix_taken (x ∷ xs) (suc k) zero le = absurd (omega (arith, le))
+prefix_taken (x ∷ xs) (suc k) (suc m) le = ap (λ l. x ∷ l) (prefix_taken xs k m (omega (arith, le)))
+
+taken_twice : (xs : List ℕ) (k m : ℕ) → k ≤ m → take k (take m xs) ≡ take k xs
+taken_twice xs zero m le = refl
+taken_twice [] (suc k) zero le = absurd (omega (arith, le))
+taken_twice [] (suc k) (suc m) le = refl
+taken_twice (x ∷ xs) (suc k) zero le = absurd (omega (arith, le))
+taken_twice (x ∷ xs) (suc k) (suc m) le = ap (λ l. x ∷ l) (taken_twice xs k m (omega (arith, le)))
+
+keeps_bytes : (s : BufferState) (bs : List ℕ) (us : List LabelFixup) (r : RecordedBranches) → IsPrefix (take (length s.bytes - 12) s.bytes) bs → KeepsTables s (record s { bytes = bs; uses = us; branches = r })
+keeps_bytes s bs us r h = record {
+  bytes = h;
+  labels = refl;
+  traps = refl;
+  relocs = refl;
+  call_sites = refl;
+  try_call_sites = refl;
+  patchable_sites = refl;
+  stack_maps = refl;
+  starts = refl;
+  block_count = refl;
+  constants = refl;
+}
+
+prefix_whole : (xs : List ℕ) (k : ℕ) → IsPrefix (take k xs) xs
+prefix_whole xs zero = refl
+prefix_whole [] (suc k) = refl
+prefix_whole (x ∷ xs) (suc k) = ap (λ l. x ∷ l) (prefix_whole xs k)
+
+keeps_same : (s : BufferState) → KeepsTables s s
+keeps_same s = keeps_bytes s s.bytes s.uses s.branches (prefix_whole s.bytes (length s.bytes - 12))
+
+keeps_marked : (s : BufferState) → KeepsTables s (poisoned s)
+keeps_marked s = record {
+  bytes = prefix_whole s.bytes (length s.bytes - 12);
+  labels = refl;
+  traps = refl;
+  relocs = refl;
+  call_sites = refl;
+  try_call_sites = refl;
+  patchable_sites = refl;
+  stack_maps = refl;
+  starts = refl;
+  block_count = refl;
+  constants = refl;
+}
+
+pub keeps_mark : (s t : BufferState) → t ≡ poisoned s → KeepsTables s t
+keeps_mark s t e = subst (KeepsTables s) (sym e) (keeps_marked s)
+
+keeps_jump : (p q : Bool) (start l : ℕ) (s : BufferState) → (p ≡ true → start + 6 ≡ length s.bytes) → KeepsTables s (cond (p && q) (cut start l s) s)
+keeps_jump true true start l s h =
+    let at : start + 6 ≡ length s.bytes = h refl in
+    keeps_bytes s (take start s.bytes) (without_use start l s.uses) NoBranch (prefix_taken s.bytes (length s.bytes - 12) start (omega (arith, at)))
+keeps_jump true false start l s h = keeps_same s
+keeps_jump false q start l s h = keeps_same s
+
+keeps_both : (p q : Bool) (start : ℕ) (taken not_taken : MachLabel) (inverted : List ℕ) (s : BufferState) → start + 12 ≡ length s.bytes →
+    KeepsTables s (cond p (cond q (cut start taken.0 (cut (start + 6) not_taken.0 s)) (cut (start + 6) not_taken.0 s)) (cond q (inverted_alone start taken.0 not_taken inverted s) s))
+keeps_both true true start taken not_taken inverted s at =
+    let few : length s.bytes - 12 ≤ start = omega (arith, at) in
+    let once : take start (take (start + 6) s.bytes) ≡ take start s.bytes = taken_twice s.bytes start (start + 6) (omega arith) in
+    keeps_bytes s (take start (take (start + 6) s.bytes)) (without_use start taken.0 (without_use (start + 6) not_taken.0 s.uses)) NoBranch
+    (subst (IsPrefix (take (length s.bytes - 12) s.bytes)) (sym once) (prefix_taken s.bytes (length s.bytes - 12) start few))
+keeps_both true false start taken not_taken inverted s at =
+    keeps_bytes s (take (start + 6) s.bytes) (without_use (start + 6) not_taken.0 s.uses) NoBranch (prefix_taken s.bytes (length s.bytes - 12) (start + 6) (omega (arith, at)))
+keeps_both false true start taken not_taken inverted s at =
+    let few : length s.bytes - 12 ≡ start = omega (arith, at) in
+    keeps_bytes s (take start s.bytes ++ inverted) (without_use start taken.0 (without_use (start + 6) not_taken.0 s.uses) ++ record { kind = BranchRIL; offset = start; label = not_taken } ∷ []) NoBranch
+    (subst (λ n. IsPrefix (take n s.bytes) (take start s.bytes ++ inverted)) (sym few) (prefix_more (take start s.bytes) inverted))
+keeps_both false false start taken not_taken inverted s at = keeps_same s
+
+keeps_at : (b : Bool) (s t : BufferState) → (b ≡ true → KeepsTables s t) → KeepsTables s (cond b t s)
+keeps_at true s t h = h refl
+keeps_at false s t h = keeps_same s
+
+keeps_by : (bs : RecordedBranches) (next : ℕ) (s : BufferState) → KeepsTables s (ended_by bs next s)
+keeps_by NoBranch next s = keeps_same s
+keeps_by (LoneJump start target) next s = keeps_jump (nat_eq (start + 6) (length s.bytes)) (nat_eq target.0 next) start target.0 s (λ e. eqb-true (start + 6) (length s.bytes) e)
+keeps_by (LoneConditional start target inverted) next s = keeps_same s
+keeps_by (ConditionalThenJump start taken not_taken inverted) next s =
+    keeps_at (nat_eq (start + 12) (length s.bytes)) s (both_ended next start taken not_taken inverted s)
+    (λ e. keeps_both (nat_eq not_taken.0 next) (nat_eq taken.0 next) start taken not_taken inverted s (eqb-true (start + 12) (length s.bytes) e))
+keeps_by (OtherBranches stop) next s = keeps_same s
+
+keeps_end : (next : Option MachLabel) (s : BufferState) → KeepsTables s (ended next s)
+keeps_end None s = keeps_same s
+keeps_end (Some next) s = keeps_by s.branches next.0 s
+
+pub keeps_ended : (next : Option MachLabel) (s t : BufferState) → t ≡ ended next s → KeepsTables s t
+keeps_ended next s t e = subst (KeepsTables s) (sym e) (keeps_end next s)
