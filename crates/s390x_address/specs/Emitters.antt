@@ -5,6 +5,7 @@ use Rattle.s390x_base.specs.declared.regs.Reg.{Reg}
 use Rattle.s390x_base.specs.declared.error.EmitError.{EmitError}
 use Rattle.s390x_buffer.specs.State.{BufferState, mark_cause, put_cause}
 use Rattle.s390x_inst.specs.declared.args.MemArg.{MemArg}
+use Rattle.s390x_inst.specs.declared.state.EmitInfo.{EmitInfo}
 use Rattle.s390x_typed_steps.specs.Causes.{first_emit_cause, declared_in, memory_cause}
 use Rattle.s390x_typed_steps.specs.General.{is_general, low_halfword}
 use Rattle.s390x_typed_steps.specs.Memory.{MemoryInstruction, RxForm, RsForm, SiForm, SilForm, VrxForm, FloatForm, holds_scratch}
@@ -27,6 +28,10 @@ loads_register opcode =
 abbrev pub reads_register : Option ℕ → Bool
 reads_register None = true
 reads_register (Some opcode) = not (loads_register opcode)
+
+-- the row relative to the instruction; none where it accesses memory on a machine that lacks such rows
+abbrev pub relative_opcode : EmitInfo → (accesses : Bool) → Option ℕ → Option ℕ
+relative_opcode info accesses opcode = cond (accesses && info.isa_flags.no_relative_memory) None opcode
 
 -- a register and an operand
 abbrev pub one_register : Reg → (rx_opcode rxy_opcode ril_opcode : Option ℕ) → (accesses : Bool) → MemArg → MemoryInstruction

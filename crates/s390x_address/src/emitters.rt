@@ -11,7 +11,7 @@ ghost use Rattle.s390x_base.specs.Regs.{number_of};
 ghost use Rattle.s390x_typed_steps.specs.Memory.{holds_scratch};
 ghost use Rattle.s390x_typed_steps.specs.Parts.{memory_parts};
 ghost use Rattle.s390x_address.specs.Appended.{appended};
-ghost use Rattle.s390x_address.specs.Emitters.{access_cause, loads_register, reads_register, reads_registers, is_multiple, pair_valid, one_register, two_registers, byte_immediate, halfword_immediate, vector_register, float_register};
+ghost use Rattle.s390x_address.specs.Emitters.{access_cause, loads_register, reads_register, reads_registers, is_multiple, pair_valid, relative_opcode, one_register, two_registers, byte_immediate, halfword_immediate, vector_register, float_register};
 ghost use Rattle.s390x_address.specs.Rows.{memory_instruction_of, in_state, may_encode, rows_take_general, has_12_bits};
 
 use crate::forms::is_numbered;
@@ -170,9 +170,22 @@ fn is_valid_pair(opcode_rsy: Option<u16>, rd: &Reg, rn: &Reg) -> bool
     general(rd) && general(rn) && (!is_multiple(opcode_rsy) || number(rd) <= number(rn))
 }
 
+// The row relative to the instruction; none where it accesses memory on a machine that lacks such rows.
+fn relative_opcode(info: &EmitInfo, accesses: bool, opcode: Option<u16>) -> Option<u16>
+    requires { has_12_bits opcode ≡ true }
+    ensures value { result ≡ relative_opcode info.now accesses opcode }
+    ensures short { has_12_bits result ≡ true }
+{
+    if accesses && info.isa_flags.no_relative_memory {
+        None
+    } else {
+        opcode
+    }
+}
+
 /// Emits a row of format RX, RXY or RIL-B with a register and an operand, behind the helpers of the operand; where `add_trap` is true, the row
 /// accesses memory, and the flags' trap is recorded at it. The row of format RIL-B takes a label, a constant or a symbol, whose distance the
-/// buffer's end or, for a symbol, linking fills in.
+/// buffer's end or, for a symbol, linking fills in; where it accesses memory, it is used only on a machine that has such rows by `emit_info`.
 ///
 /// It answers want of memory, or exactly the first cause: the buffer's mark (`Failed`), no form for the operand (`BadOperator`), a register that can't
 /// be encoded (`BadRegister`), `%r1` read behind a helper (`ScratchConflict`), an offset, or that of a symbol plus 2, past 32 bits
@@ -189,13 +202,13 @@ pub fn mem_emit(
     opcode_ril: Option<u16>,
     add_trap: bool,
     sink: &mut MachBuffer,
-    _emit_info: &EmitInfo,
+    emit_info: &EmitInfo,
     state: &mut EmitState,
 ) -> Result<(), EmitError>
     requires short { IfSome opcode_rx (λ o. o < 256) }
     requires integer { (rows_take_general opcode_rx && rows_take_general opcode_rxy) ≡ true }
     requires relative { has_12_bits opcode_ril ≡ true }
-    ensures answer { let access = in_state state.old (one_register rd opcode_rx opcode_rxy opcode_ril add_trap mem.now) in
+    ensures answer { let access = in_state state.old (one_register rd opcode_rx opcode_rxy (relative_opcode emit_info.now add_trap opcode_ril) add_trap mem.now) in
         MatchResult result (λ _. (access_cause sink.old access ≡ None) × (sink.new ≡ appended sink.old (memory_parts access))) (λ e. (e ≡ NoMemory) ⊎ (access_cause sink.old access ≡ Some e)) }
     ensures poisoned { IfErr result (λ _. IsTrue sink.new.failed) }
     ensures kept { Extends sink.old sink.new }
@@ -206,7 +219,7 @@ pub fn mem_emit(
             register: rd,
             rx: short(opcode_rx),
             rxy: opcode_rxy,
-            ril: opcode_ril,
+            ril: relative_opcode(emit_info, add_trap, opcode_ril),
         },
         operand: *mem,
         accesses: add_trap,

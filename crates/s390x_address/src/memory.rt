@@ -7,7 +7,7 @@ ghost use Rattle.s390x_base.specs.declared.trap.TrapKind.{TrapKind};
 ghost use Rattle.s390x_buffer.specs.Extends.{Extends};
 ghost use Rattle.s390x_buffer.specs.State.{put_cause};
 ghost use Rattle.std.specs.Option.{option_map};
-ghost use Rattle.s390x_typed_steps.specs.Causes.{Declared, first_emit_cause, unless, declared_in, memory_cause, late_cause, target_cause, boundary};
+ghost use Rattle.s390x_typed_steps.specs.Causes.{Declared, first_emit_cause, unless, declared_in, memory_cause, late_cause, target_cause, boundary, accesses_relative};
 ghost use Rattle.s390x_typed_steps.specs.General.{is_general};
 ghost use Rattle.s390x_typed_steps.specs.MachineInstruction.{size_of};
 ghost use Rattle.s390x_typed_steps.specs.Memory.{type_of, storage_row, fault_code, address_form};
@@ -265,6 +265,18 @@ impl MemoryInst {
         ensures { result ≡ type_of (storage_form_of self.now.rows) self.now.accesses }
     {
         self.rows.forms(self.accesses)
+    }
+
+    /// Whether it accesses an operand that is relative to it, and has a row for that.
+    pub fn accesses_relative(&self) -> bool
+        ensures { result ≡ accesses_relative (Some (memory_instruction_of self.now)) }
+    {
+        match self.rows {
+            StorageRows::OneRegister { ril: Some(_), .. } => {
+                self.accesses && is_relative(&self.operand)
+            }
+            _ => false,
+        }
     }
 
     // The code of its access's faults, where they have one.

@@ -123,6 +123,30 @@ pub enum Access {
     LoadFloat64(Reg),
 }
 
+/// Emits a load of eight bytes for a machine without relative loads.
+pub fn put_load_by_address(to: &mut Target, rd: Reg, mem: &MemArg) -> Result<(), EmitError> {
+    let info = EmitInfo::new(IsaFlags {
+        has_mie3: false,
+        has_mie4: false,
+        has_vxrs_ext2: false,
+        has_vxrs_ext3: false,
+        no_relative_memory: true,
+    });
+    let mut state = EmitState::default();
+    mem_emit(
+        to.alloc,
+        rd,
+        mem,
+        None,
+        Some(0xe304),
+        Some(0xc48),
+        true,
+        &mut to.sink,
+        &info,
+        &mut state,
+    )
+}
+
 fn one(
     to: &mut Target,
     rd: Reg,

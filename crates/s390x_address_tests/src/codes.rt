@@ -1,7 +1,7 @@
 //! Accesses that are emitted: their bytes, traps and relocations.
 use crate::accesses::{
     ALIGNED, Access, TRAPPING, Target, UNALIGNED, UNALIGNED_TRAPPING, constant, eight_bytes, label,
-    long, offset, put, short, symbol,
+    long, offset, put, put_load_by_address, short, symbol,
 };
 use s390x_base::{ConstantData, ExternalName, MachLabel, Reloc, TrapCode, gpr, vr, zero_reg};
 use s390x_buffer::{MachBuffer, MachBufferFinalized, RelocEntry, TrapEntry};
@@ -70,6 +70,28 @@ fn one_register_and_an_offset_have_their_code(rt: HostRuntime) -> Result<(), Fai
         [heap_trap(10), heap_trap(22)].as_slice()
     );
     assert_eq!(rt; code.relocs.len(), 0);
+    Ok(())
+}
+
+/// On a machine without relative loads LOAD ADDRESS comes first, whatever the boundary of the constant.
+#[test]
+fn an_address_is_loaded_where_relative_loads_lack(rt: HostRuntime) -> Result<(), Fail> {
+    let sink = MachBuffer::new(rt.alloc(), 1, &[eight_bytes(rt.alloc(), 1)?])?;
+    let mut to = Target {
+        alloc: rt.alloc(),
+        sink,
+    };
+    put_load_by_address(&mut to, gpr(2), &constant(0))?;
+    let Target { sink, .. } = to;
+    let code = sink.finish()?;
+    assert_eq!(rt;
+        code.bytes.as_slice(),
+        [
+            0xc0, 0x10, 0x00, 0x00, 0x00, 0x06, 0xe3, 0x20, 0x10, 0x00, 0x00, 0x04, 1, 2, 3, 4, 5,
+            6, 7, 8
+        ]
+        .as_slice()
+    );
     Ok(())
 }
 

@@ -20,9 +20,9 @@ fresh_emission layout conv = record { nominal = 0; outgoing = 0; incoming = inco
 abbrev pub empty_layout : FrameLayout
 empty_layout = record { incoming_args_size = 0; tail_args_size = 0; clobber_size = 0; fixed_frame_storage_size = 0; stackslots_size = 0; outgoing_args_size = 0; first_saved_gpr = None; saved_fprs = 0 }
 
--- no facility beyond the base
+-- no facility beyond the base, and the whole base
 abbrev pub base_facilities : IsaFlags
-base_facilities = record { has_mie3 = false; has_mie4 = false; has_vxrs_ext2 = false; has_vxrs_ext3 = false }
+base_facilities = record { has_mie3 = false; has_mie4 = false; has_vxrs_ext2 = false; has_vxrs_ext3 = false; no_relative_memory = false }
 
 -- no sizes, no stack map, and the frame of no bytes
 abbrev pub empty_emission : Emission

@@ -56,13 +56,15 @@ impl Default for FrameLayout {
     }
 }
 
-/// Which facilities beyond the base the code may use.
+/// Which facilities beyond the base the code may use, and which of the base it may not.
 #[derive(Clone, Copy, PartialEq, Eq, Debug)]
 pub struct IsaFlags {
     pub has_mie3: bool,
     pub has_mie4: bool,
     pub has_vxrs_ext2: bool,
     pub has_vxrs_ext3: bool,
+    /// The machine has no relative loads, stores and compares. LARL and the relative branches remain.
+    pub no_relative_memory: bool,
 }
 
 impl Default for IsaFlags {
@@ -70,13 +72,14 @@ impl Default for IsaFlags {
 
     ghost is_default = { λ flags. flags ≡ base_facilities };
 
-    /// No facility beyond the base.
+    /// No facility beyond the base, and the whole base.
     fn default() -> IsaFlags {
         IsaFlags {
             has_mie3: false,
             has_mie4: false,
             has_vxrs_ext2: false,
             has_vxrs_ext3: false,
+            no_relative_memory: false,
         }
     }
 }

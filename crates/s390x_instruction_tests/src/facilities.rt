@@ -432,12 +432,14 @@ fn flags_have_their_facilities(rt: HostRuntime) -> Result<(), Fail> {
         has_mie4: false,
         has_vxrs_ext2: false,
         has_vxrs_ext3: false,
+        no_relative_memory: false,
     };
     let vectors = IsaFlags {
         has_mie3: false,
         has_mie4: false,
         has_vxrs_ext2: true,
         has_vxrs_ext3: true,
+        no_relative_memory: false,
     };
     for (flags, set, has) in [
         (none, InstructionSet::Base, true),

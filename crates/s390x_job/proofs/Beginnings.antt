@@ -319,7 +319,7 @@ abbrev no_registers : StartRegs
 no_registers = record { general = general_zeros; vector = vector_zeros }
 
 abbrev no_facilities : IsaFlags
-no_facilities = record { has_mie3 = false; has_mie4 = false; has_vxrs_ext2 = false; has_vxrs_ext3 = false }
+no_facilities = record { has_mie3 = false; has_mie4 = false; has_vxrs_ext2 = false; has_vxrs_ext3 = false; no_relative_memory = false }
 
 abbrev pub beginning : Vec ConstantData Global → Vec SymbolLine Global → Vec MemLine Global → Beginning
 beginning cs ss ms = record { flags = no_facilities; conv = SystemV; layout = plain_layout; constants = cs; symbols = ss; registers = no_registers; memory = ms }

@@ -81,6 +81,7 @@ pub fn start(alloc: Global) -> State
             has_mie4: false,
             has_vxrs_ext2: false,
             has_vxrs_ext3: false,
+            no_relative_memory: false,
         },
         conv: CallConv::SystemV,
         layout: FrameLayout {

@@ -5,8 +5,10 @@ use s390x_job::{LineError, lines_of_job, read_lines};
 use std::alloc::{AllocError, Global};
 
 /// Texts of jobs: each kind of line and of field.
-const TEXTS: [&str; 6] = [
+const TEXTS: [&str; 8] = [
     "end\n",
+    "flags norel\nend\n",
+    "flags mie3 mie4 vxrs_ext2 vxrs_ext3 norel\nend\n",
     "block\nMov64 %r2 %r3\nAluRRR Add64 %r2 %r2 %r4\nRet %r14\nend\n",
     "flags mie3 vxrs_ext2\nframe Tail 1 2 3 4 5 6 7 8\nconst 8 0102\nconst 4 -\nsymbol u1 5\nsymbol u2 18446744073709551615\nreg %r3 5\nreg %v31 000102030405060708090a0b0c0d0e0f\nmem 0 ff\nmem 1 00\nblock\nblock\nend\n",
     "block\nLoop 4\nAluRRR Add32 %r4 %r2 %r3\nAtomicCas32 %r2 %r2 %r4 RegOffset(%r5,0,a)\nendloop\nRet %r14\nend\n",
@@ -225,7 +227,7 @@ fn a_line_of_each_instruction_is_read_and_printed_back(rt: HostRuntime) -> Resul
 }
 
 /// Texts of no job, and the line that is named: one more than the lines that a text of a job can begin with.
-const DAMAGED: [(&str, u32); 52] = [
+const DAMAGED: [(&str, u32); 54] = [
     ("", 1),
     ("end", 1),
     ("block", 1),
@@ -267,6 +269,8 @@ const DAMAGED: [(&str, u32); 52] = [
     ),
     ("flags\nend\n", 1),
     ("flags mie4 mie3\nend\n", 1),
+    ("flags norel mie3\nend\n", 1),
+    ("flags norel norel\nend\n", 1),
     ("flags mie3\nflags mie4\nend\n", 2),
     ("frame SystemV 0 0 0 0 0 0 - 0\nend\n", 1),
     ("symbol u1 0\nsymbol u1 1\nend\n", 2),

@@ -106,7 +106,7 @@ kinds_proper (N.Control n) = control_proper n
 kinds_proper (N.Vector n) = vector_proper n
 kinds_proper n = refl
 
-flags_split : (f : IsaFlags) (r : List ℕ) → facilities_text f ++ r ≡ facility_text f.has_mie3 (codes "mie3") ++ (facility_text f.has_mie4 (codes "mie4") ++ (facility_text f.has_vxrs_ext2 (codes "vxrs_ext2") ++ (facility_text f.has_vxrs_ext3 (codes "vxrs_ext3") ++ r)))
+flags_split : (f : IsaFlags) (r : List ℕ) → facilities_text f ++ r ≡ facility_text f.has_mie3 (codes "mie3") ++ (facility_text f.has_mie4 (codes "mie4") ++ (facility_text f.has_vxrs_ext2 (codes "vxrs_ext2") ++ (facility_text f.has_vxrs_ext3 (codes "vxrs_ext3") ++ (facility_text f.no_relative_memory (codes "norel") ++ r))))
 flags_split f r = simp append_assoc
 
 facility_ends : (b : Bool) (name r : List ℕ) → Ends r → Ends (facility_text b name ++ r)
@@ -115,7 +115,7 @@ facility_ends false name r h = h
 
 flags_ends : (f : IsaFlags) (r : List ℕ) → Ends r → Ends (facilities_text f ++ r)
 flags_ends f r h =
-    subst Ends (sym (flags_split f r)) (facility_ends f.has_mie3 (codes "mie3") _ (facility_ends f.has_mie4 (codes "mie4") _ (facility_ends f.has_vxrs_ext2 (codes "vxrs_ext2") _ (facility_ends f.has_vxrs_ext3 (codes "vxrs_ext3") r h))))
+    subst Ends (sym (flags_split f r)) (facility_ends f.has_mie3 (codes "mie3") _ (facility_ends f.has_mie4 (codes "mie4") _ (facility_ends f.has_vxrs_ext2 (codes "vxrs_ext2") _ (facility_ends f.has_vxrs_ext3 (codes "vxrs_ext3") _ (facility_ends f.no_relative_memory (codes "norel") r h)))))
 
 spell_ends : (f : Field) (r : List ℕ) → Ends r → Ends (spell f ++ r)
 spell_ends (FFlags f) r h = flags_ends f r h

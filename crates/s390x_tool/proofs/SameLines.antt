@@ -47,7 +47,7 @@ pub record Found : Type 0 where
 
 -- no facility
 abbrev pub no_flags : IsaFlags
-no_flags = record { has_mie3 = false; has_mie4 = false; has_vxrs_ext2 = false; has_vxrs_ext3 = false }
+no_flags = record { has_mie3 = false; has_mie4 = false; has_vxrs_ext2 = false; has_vxrs_ext3 = false; no_relative_memory = false }
 
 -- the frame of a job that tells none
 abbrev pub no_frame : Frame
@@ -160,12 +160,13 @@ passed_append : (a b : List Line) → IsPassed a → IsPassed b → IsPassed (a 
 passed_append a b p q ls = ap found (append_assoc a b ls) ∙ p (b ++ ls) ∙ q ls
 
 -- the line `flags`, or its absence, tells the facilities
-flags_found : (mie3 mie4 ext2 ext3 : Bool) (ls : List Line) → (found ls).flags ≡ no_flags → found (flags_lines (record { has_mie3 = mie3; has_mie4 = mie4; has_vxrs_ext2 = ext2; has_vxrs_ext3 = ext3 }) ++ ls) ≡ with_flags (record { has_mie3 = mie3; has_mie4 = mie4; has_vxrs_ext2 = ext2; has_vxrs_ext3 = ext3 }) (found ls)
-flags_found true b c d ls e = refl
-flags_found false true c d ls e = refl
-flags_found false false true d ls e = refl
-flags_found false false false true ls e = refl
-flags_found false false false false ls e = ap (λ x. with_flags x (found ls)) e
+flags_found : (mie3 mie4 ext2 ext3 norel : Bool) (ls : List Line) → (found ls).flags ≡ no_flags → found (flags_lines (record { has_mie3 = mie3; has_mie4 = mie4; has_vxrs_ext2 = ext2; has_vxrs_ext3 = ext3; no_relative_memory = norel }) ++ ls) ≡ with_flags (record { has_mie3 = mie3; has_mie4 = mie4; has_vxrs_ext2 = ext2; has_vxrs_ext3 = ext3; no_relative_memory = norel }) (found ls)
+flags_found true b c d n ls e = refl
+flags_found false true c d n ls e = refl
+flags_found false false true d n ls e = refl
+flags_found false false false true n ls e = refl
+flags_found false false false false true ls e = refl
+flags_found false false false false false ls e = ap (λ x. with_flags x (found ls)) e
 
 -- the line `frame`, or its absence, tells the frame
 frame_if : (c : Bool) (conv : CallConv) (layout : FrameLayout) (ls : List Line) → ((if c then [] else frame_line conv layout ∷ []) ≡ [] → (conv ≡ SystemV) × (layout ≡ plain_layout)) → (found ls).frame ≡ no_frame → found ((if c then [] else frame_line conv layout ∷ []) ++ ls) ≡ with_frame (record { conv = conv; layout = layout }) (found ls)
@@ -237,5 +238,5 @@ job_found j told =
     let said : found ((frame ++ rest) ++ blocks) ≡ with_frame (frame_of j) (Said j) =
     ap found (append_assoc frame rest blocks) ∙ frame_found j.conv j.state.layout (rest ++ blocks) told (ap (λ g. g.frame) behind) ∙ ap (with_frame (frame_of j)) behind in
     ap found (append_assoc flags (frame ++ rest) blocks)
-    ∙ flags_found f.has_mie3 f.has_mie4 f.has_vxrs_ext2 f.has_vxrs_ext3 ((frame ++ rest) ++ blocks) (ap (λ g. g.flags) said)
+    ∙ flags_found f.has_mie3 f.has_mie4 f.has_vxrs_ext2 f.has_vxrs_ext3 f.no_relative_memory ((frame ++ rest) ++ blocks) (ap (λ g. g.flags) said)
     ∙ ap (with_flags f) said

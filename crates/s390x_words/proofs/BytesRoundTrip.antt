@@ -127,31 +127,47 @@ value-one_word Int v h = decimal-one_word v h
 value-one_word Float v h = fewer_marks (digits_text 32 v) (digits_avoid 32 v)
 
 -- facilities
-made : Bool → Bool → Bool → Bool → IsaFlags
-made a b c d = record { has_mie3 = a; has_mie4 = b; has_vxrs_ext2 = c; has_vxrs_ext3 = d }
+made : Bool → Bool → Bool → Bool → Bool → IsaFlags
+made a b c d e = record { has_mie3 = a; has_mie4 = b; has_vxrs_ext2 = c; has_vxrs_ext3 = d; no_relative_memory = e }
 
-facilities_round_trip : (a b c d : Bool) → facilities_of (facilities_text (made a b c d)) ≡ made a b c d
+facilities_round_trip : (a b c d e : Bool) → facilities_of (facilities_text (made a b c d e)) ≡ made a b c d e
 unfolding made word after_word
-facilities_round_trip true true true true = refl
-facilities_round_trip true true true false = refl
-facilities_round_trip true true false true = refl
-facilities_round_trip true true false false = refl
-facilities_round_trip true false true true = refl
-facilities_round_trip true false true false = refl
-facilities_round_trip true false false true = refl
-facilities_round_trip true false false false = refl
-facilities_round_trip false true true true = refl
-facilities_round_trip false true true false = refl
-facilities_round_trip false true false true = refl
-facilities_round_trip false true false false = refl
-facilities_round_trip false false true true = refl
-facilities_round_trip false false true false = refl
-facilities_round_trip false false false true = refl
-facilities_round_trip false false false false = refl
+facilities_round_trip true true true true true = refl
+facilities_round_trip true true true true false = refl
+facilities_round_trip true true true false true = refl
+facilities_round_trip true true true false false = refl
+facilities_round_trip true true false true true = refl
+facilities_round_trip true true false true false = refl
+facilities_round_trip true true false false true = refl
+facilities_round_trip true true false false false = refl
+facilities_round_trip true false true true true = refl
+facilities_round_trip true false true true false = refl
+facilities_round_trip true false true false true = refl
+facilities_round_trip true false true false false = refl
+facilities_round_trip true false false true true = refl
+facilities_round_trip true false false true false = refl
+facilities_round_trip true false false false true = refl
+facilities_round_trip true false false false false = refl
+facilities_round_trip false true true true true = refl
+facilities_round_trip false true true true false = refl
+facilities_round_trip false true true false true = refl
+facilities_round_trip false true true false false = refl
+facilities_round_trip false true false true true = refl
+facilities_round_trip false true false true false = refl
+facilities_round_trip false true false false true = refl
+facilities_round_trip false true false false false = refl
+facilities_round_trip false false true true true = refl
+facilities_round_trip false false true true false = refl
+facilities_round_trip false false true false true = refl
+facilities_round_trip false false true false false = refl
+facilities_round_trip false false false true true = refl
+facilities_round_trip false false false true false = refl
+facilities_round_trip false false false false true = refl
+facilities_round_trip false false false false false = refl
 
 pub facilities-round_trip : (f : IsaFlags) → facilities_of (facilities_text f) ≡ f
 unfolding made
-facilities-round_trip f = facilities_round_trip f.has_mie3 f.has_mie4 f.has_vxrs_ext2 f.has_vxrs_ext3
+facilities-round_trip f = facilities_round_trip f.has_mie3 f.has_mie4 f.has_vxrs_ext2 f.has_vxrs_ext3 f.no_relative_memory
 
 facility_feed : (b : Bool) (name : List ℕ) → Avoids (10 ∷ []) name → Avoids (10 ∷ []) (facility_text b name)
 facility_feed true name h = (refl, h)
@@ -162,4 +178,5 @@ facilities-feed f =
     let bad = 10 ∷ [] in
     Avoids-append bad (facility_text f.has_mie3 (codes "mie3")) _ (facility_feed f.has_mie3 (codes "mie3") (Avoids-test bad (codes "mie3") refl))
     (Avoids-append bad (facility_text f.has_mie4 (codes "mie4")) _ (facility_feed f.has_mie4 (codes "mie4") (Avoids-test bad (codes "mie4") refl))
-    (Avoids-append bad (facility_text f.has_vxrs_ext2 (codes "vxrs_ext2")) _ (facility_feed f.has_vxrs_ext2 (codes "vxrs_ext2") (Avoids-test bad (codes "vxrs_ext2") refl)) (facility_feed f.has_vxrs_ext3 (codes "vxrs_ext3") (Avoids-test bad (codes "vxrs_ext3") refl))))
+    (Avoids-append bad (facility_text f.has_vxrs_ext2 (codes "vxrs_ext2")) _ (facility_feed f.has_vxrs_ext2 (codes "vxrs_ext2") (Avoids-test bad (codes "vxrs_ext2") refl))
+    (Avoids-append bad (facility_text f.has_vxrs_ext3 (codes "vxrs_ext3")) _ (facility_feed f.has_vxrs_ext3 (codes "vxrs_ext3") (Avoids-test bad (codes "vxrs_ext3") refl)) (facility_feed f.no_relative_memory (codes "norel") (Avoids-test bad (codes "norel") refl)))))

@@ -62,10 +62,10 @@ abbrev pub facility_text : Bool → List ℕ → List ℕ
 facility_text true name = 32 ∷ name
 facility_text false name = []
 
--- the facilities that are set, each after a space
+-- the flags that are set, each after a space: the facilities, and then whether relative loads, stores and compares are absent
 abbrev pub facilities_text : IsaFlags → List ℕ
 facilities_text f =
-    facility_text f.has_mie3 (codes "mie3") ++ (facility_text f.has_mie4 (codes "mie4") ++ (facility_text f.has_vxrs_ext2 (codes "vxrs_ext2") ++ facility_text f.has_vxrs_ext3 (codes "vxrs_ext3")))
+    facility_text f.has_mie3 (codes "mie3") ++ (facility_text f.has_mie4 (codes "mie4") ++ (facility_text f.has_vxrs_ext2 (codes "vxrs_ext2") ++ (facility_text f.has_vxrs_ext3 (codes "vxrs_ext3") ++ facility_text f.no_relative_memory (codes "norel"))))
 
 -- whether the next word is this one
 abbrev pub is_next : List ℕ → List ℕ → Bool
@@ -75,15 +75,17 @@ is_next name s = bytes_eq (word s) name
 abbrev pub after_next : List ℕ → List ℕ → List ℕ
 after_next name s = if bytes_eq (word s) name then after_word s else s
 
--- the facilities that the words of a text name, in the order in which they are printed
+-- the flags that the words of a text name, in the order in which they are printed
 abbrev pub facilities_of : List ℕ → IsaFlags
 facilities_of s =
     let t = after_next (codes "mie3") s in
     let u = after_next (codes "mie4") t in
     let v = after_next (codes "vxrs_ext2") u in
+    let w = after_next (codes "vxrs_ext3") v in
     record {
       has_mie3 = is_next (codes "mie3") s;
       has_mie4 = is_next (codes "mie4") t;
       has_vxrs_ext2 = is_next (codes "vxrs_ext2") u;
       has_vxrs_ext3 = is_next (codes "vxrs_ext3") v;
+      no_relative_memory = is_next (codes "norel") w;
     }

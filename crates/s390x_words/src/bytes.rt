@@ -93,14 +93,15 @@ fn put_facility(out: &mut String, is_set: bool, name: &str) -> Result<(), AllocE
     }
 }
 
-/// Appends the facilities that are set, each after a space.
+/// Appends the flags that are set, each after a space.
 pub fn put_facilities(out: &mut String, flags: IsaFlags) -> Result<(), AllocError>
     ensures { OnOk result (string_bytes out.new ≡ string_bytes out.old ++ facilities_text flags) }
 {
     put_facility(out, flags.has_mie3, "mie3")?;
     put_facility(out, flags.has_mie4, "mie4")?;
     put_facility(out, flags.has_vxrs_ext2, "vxrs_ext2")?;
-    put_facility(out, flags.has_vxrs_ext3, "vxrs_ext3")
+    put_facility(out, flags.has_vxrs_ext3, "vxrs_ext3")?;
+    put_facility(out, flags.no_relative_memory, "norel")
 }
 
 fn next_is(s: &[u8], name: &[u8]) -> bool
@@ -115,17 +116,19 @@ fn past_next<'a>(s: &'a [u8], name: &[u8]) -> &'a [u8]
     if word(s) == name { after_word(s) } else { s }
 }
 
-/// The facilities that the words of `s` name.
+/// The flags that the words of `s` name.
 pub fn facilities(s: &[u8]) -> IsaFlags
     ensures { result ≡ facilities_of s.now }
 {
     let t = past_next(s, b"mie3");
     let u = past_next(t, b"mie4");
     let v = past_next(u, b"vxrs_ext2");
+    let w = past_next(v, b"vxrs_ext3");
     IsaFlags {
         has_mie3: next_is(s, b"mie3"),
         has_mie4: next_is(t, b"mie4"),
         has_vxrs_ext2: next_is(u, b"vxrs_ext2"),
         has_vxrs_ext3: next_is(v, b"vxrs_ext3"),
+        no_relative_memory: next_is(w, b"norel"),
     }
 }
