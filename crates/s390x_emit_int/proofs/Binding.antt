@@ -8,7 +8,7 @@ use Rattle.s390x_buffer.specs.Patch.{offset_of_label, bound_offset}
 use Rattle.s390x_base.specs.Regs.{number_of}
 use Rattle.s390x_inst.specs.declared.inst.Inst.{Inst}
 use Rattle.s390x_inst.specs.declared.inst.Inst.TheVariants.{JTSequence}
-use Rattle.s390x_typed_steps.specs.Tree.{Tree, empty, leaf, loop_node}
+use Rattle.s390x_typed_steps.specs.Tree.{Tree, empty, leaf, loop_node, Whole}
 use Rattle.s390x_typed_steps.specs.Sizes.{instruction_size, tree_size}
 use Rattle.s390x_typed_steps.specs.Causes.{instruction_fresh_labels, fresh_labels}
 use Rattle.s390x_typed_steps.specs.MachineInstruction.{ril_c, bytes_of}
@@ -43,7 +43,7 @@ leaf_bound i s n after off e tells = tt
 
 pub tree_bound : (t : Tree) (s : BufferState) (n after : ℕ) (off : ℕ → ℕ) → n ≡ length s.labels → Tells off n (apply_all s (fragments n after t)) → Bound off n (length s.bytes) t
 tree_bound empty s n after off e tells = tt
-tree_bound (leaf i rest) s n after off e tells =
+tree_bound (leaf (Whole i) rest) s n after off e tells =
     let s1 = apply s StartStep in
     let s2 = apply_all s1 (leaf_fragments n after i) in
     let n' = n + instruction_fresh_labels i in

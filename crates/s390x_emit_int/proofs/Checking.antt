@@ -4,7 +4,7 @@ use Rattle.s390x_inst.specs.Emission.{Emission}
 use Rattle.s390x_inst.specs.declared.state.IsaFlags.{IsaFlags}
 use Rattle.s390x_base.specs.declared.error.EmitError.{EmitError}
 use Rattle.s390x_inst.specs.declared.inst.Inst.{Inst}
-use Rattle.s390x_typed_steps.specs.Tree.{Tree, empty, leaf, loop_node, prepend, tree}
+use Rattle.s390x_typed_steps.specs.Tree.{Tree, empty, leaf, loop_node, prepend, tree, Whole}
 use Rattle.s390x_typed_steps.specs.Sizes.{instruction_size, tree_size}
 use Rattle.s390x_typed_steps.specs.Stack.{nominal_after, state_after}
 use Rattle.s390x_typed_steps.specs.Causes.{Declared, first_emit_cause, fresh_labels, nesting_cause, numbers_cause, instruction_cause, instruction_fresh_labels, leaf_cause, tree_cause, nominal_behind}
@@ -54,7 +54,7 @@ loop_answer flags D nominal depth t mask x members (Ok r) e p =
 loop_answer flags D nominal depth t mask x members (Err d) e p = ap (tree_cause flags D t.labels nominal depth) e ∙ first_none _ ∙ p
 
 -- so is that of an instruction that is no loop
-pub leaf_answer : (flags : IsaFlags) (D : Declared) (nominal depth : ℕ) (t : Totals) (i : Inst) (x : Tree) (result : Result Totals EmitError) → x ≡ leaf i empty →
+pub leaf_answer : (flags : IsaFlags) (D : Declared) (nominal depth : ℕ) (t : Totals) (i : Inst) (x : Tree) (result : Result Totals EmitError) → x ≡ leaf (Whole i) empty →
     MatchResult result (λ r. (leaf_cause flags D t.labels nominal depth i ≡ None) × Adds t r (instruction_fresh_labels i) (instruction_size i)) (λ e. leaf_cause flags D t.labels nominal depth i ≡ Some e) →
     MatchResult result (λ r. (tree_cause flags D t.labels nominal depth x ≡ None) × Adds t r (fresh_labels x) (tree_size x)) (λ e. tree_cause flags D t.labels nominal depth x ≡ Some e)
 leaf_answer flags D nominal depth t i x (Ok r) e p = (

@@ -8,7 +8,7 @@ use Rattle.s390x_buffer.specs.Patch.{is_bound}
 use Rattle.s390x_base.specs.Regs.{number_of}
 use Rattle.s390x_inst.specs.declared.inst.Inst.{Inst}
 use Rattle.s390x_inst.specs.declared.inst.Inst.TheVariants.{JTSequence}
-use Rattle.s390x_typed_steps.specs.Tree.{Tree, empty, leaf, loop_node}
+use Rattle.s390x_typed_steps.specs.Tree.{Tree, empty, leaf, loop_node, Whole}
 use Rattle.s390x_typed_steps.specs.Sizes.{instruction_size, tree_size}
 use Rattle.s390x_typed_steps.specs.Causes.{instruction_fresh_labels, fresh_labels}
 use Rattle.s390x_typed_steps.specs.MachineInstruction.{ril_c, bytes_of}
@@ -37,13 +37,13 @@ leaf_closed i s n after l e lo hi = absurd (omega arith)
 -- the labels that a tree draws, from number n on, are bound behind it
 pub tree_closed : (t : Tree) (s : BufferState) (n after l : ℕ) → n ≡ length s.labels → n ≤ l → l < length (apply_all s (fragments n after t)).labels → is_bound (apply_all s (fragments n after t)).labels l ≡ true
 tree_closed empty s n after l e lo hi = absurd (omega arith)
-tree_closed (leaf i rest) s n after l e lo hi =
+tree_closed (leaf (Whole i) rest) s n after l e lo hi =
     let s1 = apply s StartStep in
     let s2 = apply_all s1 (leaf_fragments n after i) in
     let n' = n + instruction_fresh_labels i in
     let g : Grows s s2 (instruction_fresh_labels i) (instruction_size i) = step_grows s s2 _ _ (leaf_grows i s1 n after e) in
     let n2 : n' ≡ length s2.labels = omega (arith, g.labels) in
-    let whole : apply_all s (fragments n after (leaf i rest)) ≡ apply_all s2 (fragments n' after rest) = run-append s1 (leaf_fragments n after i) (fragments n' after rest) in
+    let whole : apply_all s (fragments n after (leaf (Whole i) rest)) ≡ apply_all s2 (fragments n' after rest) = run-append s1 (leaf_fragments n after i) (fragments n' after rest) in
     let hi2 : l < length (apply_all s2 (fragments n' after rest)).labels = omega (arith, hi, ap (λ x. length x.labels) whole) in
     ap (λ x. is_bound x.labels l) whole ∙ elim (cases_lt l n') [
       | inl lt ↦ ap is_some ((tree_grows rest s2 n' after n2).kept l (omega (arith, n2))) ∙ leaf_closed i s1 n after l e lo lt

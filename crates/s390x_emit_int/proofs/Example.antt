@@ -60,7 +60,7 @@ pub linked_loop_runs : LinkedLoopRuns
 unfolding vec code length_of
 linked_loop_runs = record {
   code = code;
-  checked = λ flags. refl;
+  checked = refl;
   masks = ranges;
   finished = finished;
   links = refl;
@@ -122,7 +122,7 @@ pub linked_trap_runs : LinkedTrapRuns
 unfolding vec trap_code length_of
 linked_trap_runs = record {
   code = trap_code;
-  checked = λ flags. refl;
+  checked = refl;
   masks = Relatively.ranges;
   finished = trap_finished;
   links = ap (λ o. first_link_cause (symbol_cause 4096 to_symbol o) None) found;

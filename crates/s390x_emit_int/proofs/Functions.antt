@@ -5,7 +5,7 @@ use Rattle.s390x_buffer.specs.State.{BufferState}
 use Rattle.s390x_buffer.specs.Patch.{offset_of_label, bound_offset}
 use Rattle.s390x_inst.specs.declared.inst.Inst.{Inst}
 use Rattle.s390x_inst.specs.declared.inst.Inst.TheVariants.{CondBreak, JTSequence}
-use Rattle.s390x_typed_steps.specs.Tree.{Tree, empty, leaf, loop_node}
+use Rattle.s390x_typed_steps.specs.Tree.{Tree, empty, leaf, loop_node, Whole}
 use Rattle.s390x_typed_steps.specs.Steps.{Step as TypedStep, step_count, steps_of, steps_from, first_step}
 use Rattle.s390x_typed_steps.specs.MachineInstruction.{ril_b, ril_c, bytes_of}
 use Rattle.s390x_typed_steps.specs.Parts.{CodePart, Row, Trapping, Branch, Relative, RelativeConstant, RelativeSymbol, SymbolValue, TrapHere, TableWord, ToBlock, ToStep, table_words, instruction_parts, step_size}
@@ -62,7 +62,7 @@ leaf_wide i n after = parts_wide (instruction_parts i)
 
 pub tree_wide : (t : Tree) (n after : ℕ) → Wide (fragments n after t)
 tree_wide empty n after = tt
-tree_wide (leaf i rest) n after = wide_append (leaf_fragments n after i) (fragments (n + instruction_fresh_labels i) after rest) (leaf_wide i n after) (tree_wide rest (n + instruction_fresh_labels i) after)
+tree_wide (leaf (Whole i) rest) n after = wide_append (leaf_fragments n after i) (fragments (n + instruction_fresh_labels i) after rest) (leaf_wide i n after) (tree_wide rest (n + instruction_fresh_labels i) after)
 tree_wide (loop_node mask members rest) n after =
     let r = fragments (n + 2 + fresh_labels members) after rest in
     wide_append (fragments (n + 2) (n + 1) members) (back_fragments n mask ++ r) (tree_wide members (n + 2) (n + 1)) (wide_branch mask, tree_wide rest (n + 2 + fresh_labels members) after)

@@ -9,7 +9,7 @@ use Rattle.s390x_inst.specs.declared.inst.Inst.{Inst}
 use Rattle.s390x_inst.specs.declared.inst.Inst.TheVariants.{CondBreak, JTSequence}
 use Rattle.s390x_base.specs.Regs.{number_of}
 use Rattle.s390x_base.specs.declared.ir.MachLabel.{MachLabel}
-use Rattle.s390x_typed_steps.specs.Tree.{Tree, empty, leaf, loop_node}
+use Rattle.s390x_typed_steps.specs.Tree.{Tree, empty, leaf, loop_node, Whole}
 use Rattle.s390x_typed_steps.specs.Steps.{Step as TypedStep, Back, step_count, step_of, steps_of}
 use Rattle.s390x_typed_steps.specs.MachineInstruction.{rr, ril_b, ril_c, rxy, bytes_of, size_of}
 use Rattle.s390x_typed_steps.specs.Parts.{CodePart, Row, Trapping, Branch, Relative, RelativeConstant, RelativeSymbol, SymbolValue, TrapHere, TableWord, ToBlock, ToStep, table_words, table_parts, instruction_parts, parts_size, step_size}
@@ -72,7 +72,7 @@ leaf_put n after i = parts_put (instruction_parts i)
 
 pub tree_put : (n after : ℕ) (t : Tree) → put_length (fragments n after t) ≡ tree_size t
 tree_put n after empty = refl
-tree_put n after (leaf i rest) = put_append (leaf_fragments n after i) (fragments (n + instruction_fresh_labels i) after rest) ∙ omega (arith, leaf_put n after i, tree_put (n + instruction_fresh_labels i) after rest)
+tree_put n after (leaf (Whole i) rest) = put_append (leaf_fragments n after i) (fragments (n + instruction_fresh_labels i) after rest) ∙ omega (arith, leaf_put n after i, tree_put (n + instruction_fresh_labels i) after rest)
 tree_put n after (loop_node mask members rest) =
     let r = fragments (n + 2 + fresh_labels members) after rest in
     put_append (fragments (n + 2) (n + 1) members) (back_fragments n mask ++ r) ∙ omega (arith, length-branch mask, tree_put (n + 2) (n + 1) members, tree_put (n + 2 + fresh_labels members) after rest)
@@ -150,7 +150,7 @@ table_join off P count constants n p index mask other targets agree names at =
     ∙ ap (λ m. bytes_of (ril_c 0xc04 mask (half_distance p (P.block other))) ++ (bytes_of (ril_b 0xc00 1 7) ++ behind m)) (sym sizes)
     ∙ ap (λ l. bytes_of (ril_c 0xc04 mask (half_distance p (P.block other))) ++ (bytes_of (ril_b 0xc00 1 7) ++ (bytes_of agf ++ (bytes_of bcr ++ l)))) (parts_join words off P count constants q' agree names.1.1.1.1)
 
-pub leaf_join : (i : Inst) (off : ℕ → ℕ) (P : Offsets) (count constants n after end p : ℕ) → Agrees off P count constants → PartsName count constants (instruction_parts i) → LeafBound off n p i → off after ≡ P.step end → resolve count off p (leaf_fragments n after i) ≡ step_bytes P p (step_of end i)
+pub leaf_join : (i : Inst) (off : ℕ → ℕ) (P : Offsets) (count constants n after end p : ℕ) → Agrees off P count constants → PartsName count constants (instruction_parts i) → LeafBound off n p i → off after ≡ P.step end → resolve count off p (leaf_fragments n after i) ≡ step_bytes P p (step_of end (Whole i))
 leaf_join (JTSequence ridx other mask targets) off P count constants n after end p agree names at e = table_join off P count constants n p (number_of ridx) mask other.0 targets.items agree names at
 leaf_join (CondBreak mask) off P count constants n after end p agree names at e =
     append-nil (patch BranchRIL 0 p (off after) (bytes_of (ril_c 0xc04 mask 0))) ∙ patched_branch mask p (off after) ∙ ap (λ x. bytes_of (ril_c 0xc04 mask (half_distance p x))) e ∙ sym (append-nil (bytes_of (ril_c 0xc04 mask (half_distance p (P.step end)))))
@@ -165,20 +165,20 @@ pub total_append : (a b : List TypedStep) → total (a ++ b) ≡ total a + total
 total_append [] b = omega arith
 total_append (s ∷ a) b = omega (arith, total_append a b)
 
-pub size_of_step : (e : ℕ) (i : Inst) → step_size (step_of e i) ≡ instruction_size i
+pub size_of_step : (e : ℕ) (i : Inst) → step_size (step_of e (Whole i)) ≡ instruction_size i
 size_of_step e (CondBreak mask) = refl
 size_of_step e i = refl
 
 pub steps_total : (t : Tree) (k e : ℕ) → total (steps_of k e t) ≡ tree_size t
 steps_total empty k e = refl
-steps_total (leaf i rest) k e = omega (arith, size_of_step e i, steps_total rest (k + 1) e)
+steps_total (leaf (Whole i) rest) k e = omega (arith, size_of_step e i, steps_total rest (k + 1) e)
 steps_total (loop_node mask members rest) k e =
     let r = steps_of (k + 2 + step_count members) e rest in
     omega (arith, total_append (steps_of (k + 1) (k + 2 + step_count members) members) (Back mask (k + 1) ∷ r), steps_total members (k + 1) (k + 2 + step_count members), steps_total rest (k + 2 + step_count members) e)
 
 pub steps_length : (t : Tree) (k e : ℕ) → length (steps_of k e t) ≡ step_count t
 steps_length empty k e = refl
-steps_length (leaf i rest) k e = omega (arith, steps_length rest (k + 1) e)
+steps_length (leaf (Whole i) rest) k e = omega (arith, steps_length rest (k + 1) e)
 steps_length (loop_node mask members rest) k e =
     let r = steps_of (k + 2 + step_count members) e rest in
     let l = length-append (steps_of (k + 1) (k + 2 + step_count members) members) (Back mask (k + 1) ∷ r) in
@@ -230,7 +230,7 @@ loop_places at k e mask members rest follow =
 
 pub tree_join : (t : Tree) (off : ℕ → ℕ) (P : Offsets) (blocks constants n after k e : ℕ) → Agrees off P blocks constants → TreeNames blocks constants t → Bound off n (P.step k) t → StepsFollow P.step k (steps_of k e t) → off after ≡ P.step e → resolve blocks off (P.step k) (fragments n after t) ≡ code P k (steps_of k e t)
 tree_join empty off P blocks constants n after k e agree names bound follow oe = refl
-tree_join (leaf i rest) off P blocks constants n after k e agree names bound follow oe =
+tree_join (leaf (Whole i) rest) off P blocks constants n after k e agree names bound follow oe =
     let p = P.step k in
     let next : P.step (k + 1) ≡ p + instruction_size i = follow.0 ∙ ap (λ m. p + m) (size_of_step e i) in
     let n' = n + instruction_fresh_labels i in
@@ -241,7 +241,7 @@ tree_join (leaf i rest) off P blocks constants n after k e agree names bound fol
     ∙ ap (λ m. resolve blocks off p (leaf_fragments n after i) ++ resolve blocks off (p + m) ps) (leaf_put n after i)
     ∙ ap (λ m. resolve blocks off p (leaf_fragments n after i) ++ resolve blocks off m ps) (sym next)
     ∙ ap (λ l. l ++ resolve blocks off (P.step (k + 1)) ps) here
-    ∙ ap (λ l. step_bytes P p (step_of e i) ++ l) there
+    ∙ ap (λ l. step_bytes P p (step_of e (Whole i)) ++ l) there
 tree_join (loop_node mask members rest) off P blocks constants n after k e agree names bound follow oe =
     let at = P.step in
     let p = at k in

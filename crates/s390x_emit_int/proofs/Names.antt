@@ -12,7 +12,7 @@ use Rattle.s390x_inst.specs.Memory.{flags_of}
 use Rattle.s390x_inst.specs.declared.args.MemArg.{MemArg}
 use Rattle.s390x_inst.specs.declared.args.MemArg.TheVariants.{BXD12, BXD20, RegOffset, Label, Constant, Symbol}
 use Rattle.s390x_inst.specs.declared.inst.Inst.TheVariants.{Mov64SImm32, LoadAddr, Jump, CondBr, IndirectBr, Ret, JTSequence, LabelAddress, LoadSymbolReloc, Trap, TrapIf, Debugtrap, Vector}
-use Rattle.s390x_typed_steps.specs.Tree.{Tree, empty, leaf, loop_node}
+use Rattle.s390x_typed_steps.specs.Tree.{Tree, empty, leaf, loop_node, Whole}
 use Rattle.s390x_typed_steps.specs.MachineInstruction.{MachineInstruction}
 use Rattle.s390x_typed_steps.specs.Operands.{Finalized, finalized, displaced, addressed, widened, needs_address, scratch, no_register, is_relative, has_form, operand_general, fits_12, fits_20, fits_32}
 use Rattle.s390x_typed_steps.specs.declared.mem_inst_type.MemInstType.{MemInstType}
@@ -170,7 +170,7 @@ leaf_names flags D nominal depth i h = single_names D (single_instruction i) (st
 
 pub tree_names : (flags : IsaFlags) (D : Declared) (n nominal depth : ℕ) (t : Tree) → tree_cause flags D n nominal depth t ≡ None → TreeNames D.blocks (length D.aligns) t
 tree_names flags D n nominal depth empty h = tt
-tree_names flags D n nominal depth (leaf i rest) h =
+tree_names flags D n nominal depth (leaf (Whole i) rest) h =
     (leaf_names flags D nominal depth i (first_left _ _ (first_left _ _ h)), tree_names flags D (n + instruction_fresh_labels i) (nominal_after nominal i) depth rest (first_right (leaf_cause flags D n nominal depth i) _ h))
 tree_names flags D n nominal depth (loop_node mask members rest) h =
     let inner = first_left _ _ h in (

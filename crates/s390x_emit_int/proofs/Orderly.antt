@@ -20,7 +20,7 @@ use Rattle.s390x_inst.specs.declared.inst.Inst.{Inst}
 use Rattle.s390x_inst.specs.declared.args.MemArg.{MemArg}
 use Rattle.s390x_inst.specs.declared.args.MemArg.TheVariants.{Label, Constant, Symbol}
 use Rattle.s390x_inst.specs.declared.inst.Inst.TheVariants.{Mov64SImm32, LoadAddr, Jump, CondBr, IndirectBr, Ret, JTSequence, CondBreak, LabelAddress, LoadSymbolReloc, Trap, TrapIf, Debugtrap, Vector}
-use Rattle.s390x_typed_steps.specs.Tree.{Tree, empty, leaf, loop_node}
+use Rattle.s390x_typed_steps.specs.Tree.{Tree, empty, leaf, loop_node, Whole}
 use Rattle.s390x_typed_steps.specs.Causes.{instruction_fresh_labels, fresh_labels}
 use Rattle.s390x_typed_steps.specs.SingleInstruction.{SingleInstruction, single_instruction, stop_code}
 use Rattle.s390x_typed_steps.specs.MachineInstruction.{MachineInstruction, rr, rxy, bytes_of, size_of}
@@ -248,7 +248,7 @@ leaf_sound May i n after blocks constants names may held drawn here = parts_soun
 
 pub tree_sound : (May : ℕ → Type 0) (t : Tree) (n after blocks constants : ℕ) → TreeNames blocks constants t → ((l : ℕ) → l < blocks → May l) → ((c : ℕ) → c < constants → May (blocks + c)) → ((l : ℕ) → n ≤ l → l < n + fresh_labels t → May l) → May after → AllSound May blocks 0 (fragments n after t)
 tree_sound May empty n after blocks constants names may held drawn here = tt
-tree_sound May (leaf i rest) n after blocks constants names may held drawn here = (
+tree_sound May (leaf (Whole i) rest) n after blocks constants names may held drawn here = (
   tt,
   sound_append May (leaf_fragments n after i) (fragments (n + instruction_fresh_labels i) after rest) blocks 0
       (leaf_sound May i n after blocks constants names.0 may held (λ l lo hi. drawn l lo (omega arith)) here)

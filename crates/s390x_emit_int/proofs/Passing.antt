@@ -6,7 +6,7 @@ use Rattle.s390x_inst.specs.declared.state.IsaFlags.{IsaFlags}
 use Rattle.s390x_base.specs.declared.error.EmitError.TheVariants.{LabelOutOfRange}
 use Rattle.s390x_buffer.specs.State.{BufferState, Constant, label_limit}
 use Rattle.s390x_inst.specs.declared.inst.Inst.{Inst}
-use Rattle.s390x_typed_steps.specs.Tree.{Tree, empty, leaf, loop_node, prepend, tree}
+use Rattle.s390x_typed_steps.specs.Tree.{Tree, empty, leaf, loop_node, prepend, tree, Whole}
 use Rattle.s390x_typed_steps.specs.Sizes.{instruction_size, tree_size}
 use Rattle.s390x_typed_steps.specs.Stack.{nominal_after, state_after}
 use Rattle.s390x_typed_steps.specs.Causes.{Declared, first_emit_cause, aligns_of, declared_in, fresh_labels, nesting_cause, numbers_cause, leaf_cause, tree_cause, stack_cause}
@@ -54,9 +54,9 @@ tree_turns s t n after x en e =
     record { unpoisoned = ap (λ x. x.failed) e ∙ same.failed; blocks = ap (λ x. x.block_count) e ∙ same.block_count; constants = ap (λ x. x.constants) e ∙ same.constants; labels = ap (λ x. length x.labels) e ∙ g.labels; bytes = ap (λ x. length x.bytes) e ∙ g.bytes }
 
 -- an instruction that is no loop, alone
-pub leaf_passed : (flags : IsaFlags) (s : BufferState) (after nominal depth : ℕ) (i : Inst) (x : Tree) → x ≡ leaf i empty → TreePassed flags s after nominal depth x → MembersPassed s after depth (instruction_size i) (leaf_cause flags (declared_in s) (length s.labels) nominal depth i)
+pub leaf_passed : (flags : IsaFlags) (s : BufferState) (after nominal depth : ℕ) (i : Inst) (x : Tree) → x ≡ leaf (Whole i) empty → TreePassed flags s after nominal depth x → MembersPassed s after depth (instruction_size i) (leaf_cause flags (declared_in s) (length s.labels) nominal depth i)
 leaf_passed flags s after nominal depth i x e p =
-    let q : TreePassed flags s after nominal depth (leaf i empty) = subst (TreePassed flags s after nominal depth) e p in
+    let q : TreePassed flags s after nominal depth (leaf (Whole i) empty) = subst (TreePassed flags s after nominal depth) e p in
     record { unpoisoned = q.unpoisoned; blocks = q.blocks; label = q.label; short = omega (arith, q.short); passed = first_left _ _ q.passed }
 
 -- the next member

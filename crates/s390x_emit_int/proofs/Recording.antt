@@ -5,7 +5,7 @@ use Rattle.s390x_buffer.specs.declared.entries.TrapEntry.{TrapEntry}
 use Rattle.s390x_inst.specs.declared.inst.Inst.{Inst}
 use Rattle.s390x_inst.specs.declared.inst.Inst.TheVariants.{CondBreak, JTSequence}
 use Rattle.s390x_base.specs.declared.ir.MachLabel.{MachLabel}
-use Rattle.s390x_typed_steps.specs.Tree.{Tree, empty, leaf, loop_node}
+use Rattle.s390x_typed_steps.specs.Tree.{Tree, empty, leaf, loop_node, Whole}
 use Rattle.s390x_typed_steps.specs.Steps.{Step as TypedStep, Back, step_count, step_of, steps_of, steps_from}
 use Rattle.s390x_typed_steps.specs.MachineInstruction.{ril_c, bytes_of, size_of}
 use Rattle.s390x_typed_steps.specs.Parts.{CodePart, Row, Trapping, Branch, Relative, RelativeConstant, RelativeSymbol, SymbolValue, TrapHere, TableWord, ToBlock, ToStep, table_words, instruction_parts}
@@ -82,7 +82,7 @@ words_recorded : (ls : List MachLabel) (before p q : ℕ) → parts_traps p (tab
 words_recorded [] before p q = refl
 words_recorded (l ∷ ls) before p q = words_recorded ls (before + 4) (p + 4) (q + 4)
 
-leaf_recorded : (n after end : ℕ) (i : Inst) (p : ℕ) → recorded p (leaf_fragments n after i) ≡ step_traps p (step_of end i)
+leaf_recorded : (n after end : ℕ) (i : Inst) (p : ℕ) → recorded p (leaf_fragments n after i) ≡ step_traps p (step_of end (Whole i))
 leaf_recorded n after end (CondBreak mask) p = refl
 leaf_recorded n after end (JTSequence ridx other mask targets) p = parts_recorded (table_words 0 targets.items) _ ∙ words_recorded targets.items 0 _ _
 leaf_recorded n after end i p = parts_recorded (instruction_parts i) p
@@ -94,14 +94,14 @@ traps_append at (s ∷ a) b k m e =
 
 tree_recorded : (t : Tree) (at : ℕ → ℕ) (n after k e : ℕ) → StepsFollow at k (steps_of k e t) → recorded (at k) (fragments n after t) ≡ traps_from at k (steps_of k e t)
 tree_recorded empty at n after k e follow = refl
-tree_recorded (leaf i rest) at n after k e follow =
+tree_recorded (leaf (Whole i) rest) at n after k e follow =
     let next : at (k + 1) ≡ at k + instruction_size i = follow.0 ∙ ap (λ m. at k + m) (size_of_step e i) in
     let ps = fragments (n + instruction_fresh_labels i) after rest in
     recorded_append (leaf_fragments n after i) ps (at k)
     ∙ ap (λ m. recorded (at k) (leaf_fragments n after i) ++ recorded (at k + m) ps) (leaf_put n after i)
     ∙ ap (λ m. recorded (at k) (leaf_fragments n after i) ++ recorded m ps) (sym next)
     ∙ ap (λ l. l ++ recorded (at (k + 1)) ps) (leaf_recorded n after e i (at k))
-    ∙ ap (λ l. step_traps (at k) (step_of e i) ++ l) (tree_recorded rest at (n + instruction_fresh_labels i) after (k + 1) e follow.1)
+    ∙ ap (λ l. step_traps (at k) (step_of e (Whole i)) ++ l) (tree_recorded rest at (n + instruction_fresh_labels i) after (k + 1) e follow.1)
 tree_recorded (loop_node mask members rest) at n after k e follow =
     let k1 = k + 1 + step_count members in
     let k2 = k + 2 + step_count members in

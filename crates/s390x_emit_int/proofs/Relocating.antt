@@ -7,7 +7,7 @@ use Rattle.s390x_inst.specs.declared.inst.Inst.{Inst}
 use Rattle.s390x_inst.specs.declared.inst.Inst.TheVariants.{CondBreak, JTSequence}
 use Rattle.s390x_base.specs.declared.ir.MachLabel.{MachLabel}
 use Rattle.s390x_base.specs.declared.ir.Reloc.TheVariants.{S390xPCRel32Dbl, Abs8}
-use Rattle.s390x_typed_steps.specs.Tree.{Tree, empty, leaf, loop_node}
+use Rattle.s390x_typed_steps.specs.Tree.{Tree, empty, leaf, loop_node, Whole}
 use Rattle.s390x_typed_steps.specs.Steps.{Step as TypedStep, Back, step_count, step_of, steps_of, steps_from}
 use Rattle.s390x_typed_steps.specs.MachineInstruction.{ril_c, bytes_of, size_of}
 use Rattle.s390x_typed_steps.specs.Parts.{CodePart, Row, Trapping, Branch, Relative, RelativeConstant, RelativeSymbol, SymbolValue, TrapHere, TableWord, ToBlock, ToStep, table_words, instruction_parts}
@@ -84,7 +84,7 @@ words_relocated : (ls : List MachLabel) (before p q : ℕ) → parts_relocs p (t
 words_relocated [] before p q = refl
 words_relocated (l ∷ ls) before p q = words_relocated ls (before + 4) (p + 4) (q + 4)
 
-leaf_relocated : (n after end : ℕ) (i : Inst) (p : ℕ) → relocated p (leaf_fragments n after i) ≡ step_relocs p (step_of end i)
+leaf_relocated : (n after end : ℕ) (i : Inst) (p : ℕ) → relocated p (leaf_fragments n after i) ≡ step_relocs p (step_of end (Whole i))
 leaf_relocated n after end (CondBreak mask) p = refl
 leaf_relocated n after end (JTSequence ridx other mask targets) p = parts_relocated (table_words 0 targets.items) _ ∙ words_relocated targets.items 0 _ _
 leaf_relocated n after end i p = parts_relocated (instruction_parts i) p
@@ -96,14 +96,14 @@ relocs_append at (s ∷ a) b k m e =
 
 tree_relocated : (t : Tree) (at : ℕ → ℕ) (n after k e : ℕ) → StepsFollow at k (steps_of k e t) → relocated (at k) (fragments n after t) ≡ relocs_from at k (steps_of k e t)
 tree_relocated empty at n after k e follow = refl
-tree_relocated (leaf i rest) at n after k e follow =
+tree_relocated (leaf (Whole i) rest) at n after k e follow =
     let next : at (k + 1) ≡ at k + instruction_size i = follow.0 ∙ ap (λ m. at k + m) (size_of_step e i) in
     let ps = fragments (n + instruction_fresh_labels i) after rest in
     relocated_append (leaf_fragments n after i) ps (at k)
     ∙ ap (λ m. relocated (at k) (leaf_fragments n after i) ++ relocated (at k + m) ps) (leaf_put n after i)
     ∙ ap (λ m. relocated (at k) (leaf_fragments n after i) ++ relocated m ps) (sym next)
     ∙ ap (λ l. l ++ relocated (at (k + 1)) ps) (leaf_relocated n after e i (at k))
-    ∙ ap (λ l. step_relocs (at k) (step_of e i) ++ l) (tree_relocated rest at (n + instruction_fresh_labels i) after (k + 1) e follow.1)
+    ∙ ap (λ l. step_relocs (at k) (step_of e (Whole i)) ++ l) (tree_relocated rest at (n + instruction_fresh_labels i) after (k + 1) e follow.1)
 tree_relocated (loop_node mask members rest) at n after k e follow =
     let k1 = k + 1 + step_count members in
     let k2 = k + 2 + step_count members in

@@ -1,11 +1,12 @@
 -- An instruction and the same without a frame operand.
-use Rattle.std.proofs.Common.{◌≡◌, ℕ, Bool, true, false, List, Option, Some, None, refl, sym, ap, subst, ◌∙◌, is_some, ◌||◌}
+use Rattle.std.proofs.Common.{◌≡◌, ℕ, Bool, true, false, List, Option, Some, None, refl, sym, ap, subst, ◌∙◌, is_some, ◌||◌, ◌&&◌, not}
 use Rattle.std.specs.Option.{option_map}
 use Rattle.s390x_base.specs.declared.regs.Reg.{Reg}
 use Rattle.s390x_inst.specs.Emission.{Emission}
 use Rattle.s390x_inst.specs.Facilities.{facility_of}
 use Rattle.s390x_base.specs.declared.error.EmitError.{EmitError}
 use Rattle.s390x_inst.specs.declared.args.MemArg.{MemArg}
+use Rattle.s390x_inst.specs.declared.args.MemArg.TheVariants.{InitialSPOffset}
 use Rattle.s390x_inst.specs.declared.inst.Inst.{Inst}
 use Rattle.s390x_inst.specs.declared.inst.Inst.TheVariants.{AluRX, AtomicRmw, CondBr, JTSequence, CondBreak, TrapIf, AllocateArgs, Vector}
 use Rattle.s390x_inst.specs.declared.vec_inst.VecInst.{VecInst}
@@ -13,9 +14,9 @@ use Rattle.s390x_inst.specs.declared.vec_inst.VecInst.TheVariants.{VecLoadReplic
 use Rattle.s390x_inst.specs.Facilities.{has_facility}
 use Rattle.s390x_inst.specs.declared.state.IsaFlags.{IsaFlags}
 use Rattle.s390x_typed_steps.specs.SingleInstruction.{SingleInstruction, single_instruction, stop_code}
-use Rattle.s390x_typed_steps.specs.Causes.{Declared, first_emit_cause, facility_cause, cause_or, memory_cause_or, branch_cause, instruction_cause, instruction_fresh_labels, stack_cause, tree_cause}
+use Rattle.s390x_typed_steps.specs.Causes.{Declared, first_emit_cause, has_relative_row, accesses_relative, relative_cause, facility_cause, cause_or, memory_cause_or, branch_cause, instruction_cause, instruction_fresh_labels, stack_cause, tree_cause}
 use Rattle.s390x_typed_steps.specs.Memory.{MemoryInstruction, operate, load_and_operate, memory}
-use Rattle.s390x_typed_steps.specs.Operands.{resolved}
+use Rattle.s390x_typed_steps.specs.Operands.{resolved, is_relative}
 use Rattle.s390x_typed_steps.specs.Ranges.{MaskInRange, OperandInRange, MemoryInRange, InRange}
 use Rattle.s390x_typed_steps.specs.Resolved.{resolved_instruction}
 use Rattle.s390x_typed_steps.specs.Storage.{alu_rx, alu_rxy, atomic_rsy}
@@ -23,7 +24,7 @@ use Rattle.s390x_address.specs.Rows.{in_state}
 use Rattle.s390x_typed_steps.specs.Tree.{empty, prepend}
 use Rattle.s390x_typed_steps.proofs.Causes.{first_left}
 use Rattle.s390x_typed_steps.specs.Causes.{unless}
-use Rattle.s390x_base.specs.declared.error.EmitError.TheVariants.{MissingFacility}
+use Rattle.s390x_base.specs.declared.error.EmitError.TheVariants.{MissingFacility, BadOperator}
 use Rattle.s390x_typed_steps.specs.MachineInstruction.{MachineInstruction}
 use Rattle.s390x_typed_steps.specs.Parts.{parts_size, row_parts}
 use Rattle.s390x_emit_int.specs.Emission.{branch_fragments, branch_size, part_fragments}
@@ -84,14 +85,33 @@ found_memory e i x h = memory_resolved e i ∙ ap (option_map (in_state e)) (sym
 pub no_memory : (e : Emission) (i : Inst) → None ≡ memory i → memory (resolved_instruction e i) ≡ None
 no_memory e i h = memory_resolved e i ∙ ap (option_map (in_state e)) (sym h)
 
+relative_operand : (e : Emission) (m : MemArg) → is_relative (resolved e m) ≡ is_relative m
+relative_operand e (InitialSPOffset off) = refl
+relative_operand e m = refl
+
+relative_in_state : (e : Emission) (o : Option MemoryInstruction) → accesses_relative (option_map (in_state e) o) ≡ accesses_relative o
+relative_in_state e None = refl
+relative_in_state e (Some x) = ap (λ b. has_relative_row x.form && x.accesses && b) (relative_operand e x.operand)
+
+-- what the machine lacks of an instruction doesn't depend on the state of emission
+lacks_resolved : (flags : IsaFlags) (e : Emission) (i : Inst) → facility_cause flags (resolved_instruction e i) ≡ facility_cause flags i
+lacks_resolved flags e i =
+    ap (λ f. first_emit_cause (unless (has_facility flags f) MissingFacility) (relative_cause flags (resolved_instruction e i))) (facility_resolved e i)
+    ∙ ap (λ b. first_emit_cause (unless (has_facility flags (facility_of i)) MissingFacility) (unless (not (b && flags.no_relative_memory)) BadOperator)) (ap accesses_relative (memory_resolved e i) ∙ relative_in_state e (memory i))
+
+rest_resolved : (flags : IsaFlags) (e : Emission) (D : Declared) (nominal depth : ℕ) (i : Inst) →
+    first_emit_cause (facility_cause flags (resolved_instruction e i)) (first_emit_cause (stack_cause nominal depth i) (cause_or (single_instruction i) (memory_cause_or D (memory (resolved_instruction e i)) (branch_cause D.blocks depth i)))) ≡ instruction_cause flags D nominal depth (resolved_instruction e i)
+rest_resolved flags e D nominal depth (CondBreak mask) = refl
+rest_resolved flags e D nominal depth (Vector v) =
+    ap (λ o. first_emit_cause (facility_cause flags (resolved_instruction e (Vector v))) (cause_or o (memory_cause_or D (memory (resolved_instruction e (Vector v))) (branch_cause D.blocks depth (Vector v))))) (sym (single_resolved e (Vector v)))
+    ∙ ap (λ o. first_emit_cause (facility_cause flags (resolved_instruction e (Vector v))) (cause_or (single_instruction (resolved_instruction e (Vector v))) (memory_cause_or D (memory (resolved_instruction e (Vector v))) o))) (sym (branch_resolved e D.blocks depth (Vector v)))
+rest_resolved flags e D nominal depth i = refl
+
 -- the first cause by the parts that the code looks at
 pub cause_resolved : (flags : IsaFlags) (e : Emission) (D : Declared) (nominal depth : ℕ) (i : Inst) → first_emit_cause (facility_cause flags i) (first_emit_cause (stack_cause nominal depth i) (cause_or (single_instruction i) (memory_cause_or D (memory (resolved_instruction e i)) (branch_cause D.blocks depth i)))) ≡ instruction_cause flags D nominal depth (resolved_instruction e i)
-cause_resolved flags e D nominal depth (CondBreak mask) = refl
-cause_resolved flags e D nominal depth (Vector v) =
-    ap (λ f. first_emit_cause (unless (has_facility flags f) MissingFacility) (cause_or (single_instruction (Vector v)) (memory_cause_or D (memory (resolved_instruction e (Vector v))) (branch_cause D.blocks depth (Vector v))))) (sym (facility_resolved e (Vector v)))
-    ∙ ap (λ o. first_emit_cause (facility_cause flags (resolved_instruction e (Vector v))) (cause_or o (memory_cause_or D (memory (resolved_instruction e (Vector v))) (branch_cause D.blocks depth (Vector v))))) (sym (single_resolved e (Vector v)))
-    ∙ ap (λ o. first_emit_cause (facility_cause flags (resolved_instruction e (Vector v))) (cause_or (single_instruction (resolved_instruction e (Vector v))) (memory_cause_or D (memory (resolved_instruction e (Vector v))) o))) (sym (branch_resolved e D.blocks depth (Vector v)))
-cause_resolved flags e D nominal depth i = refl
+cause_resolved flags e D nominal depth i =
+    ap (λ f. first_emit_cause f (first_emit_cause (stack_cause nominal depth i) (cause_or (single_instruction i) (memory_cause_or D (memory (resolved_instruction e i)) (branch_cause D.blocks depth i))))) (sym (lacks_resolved flags e i))
+    ∙ rest_resolved flags e D nominal depth i
 
 -- a member without a cause has none by the stack sizes
 pub no_stack_cause : (flags : IsaFlags) (e : Emission) (D : Declared) (n nominal depth : ℕ) (i : Inst) → tree_cause flags D n nominal depth (prepend e i empty) ≡ None → stack_cause nominal depth i ≡ None

@@ -6,7 +6,7 @@ use Rattle.s390x_inst.specs.declared.inst.Inst.{Inst}
 use Rattle.s390x_inst.specs.declared.inst.Inst.TheVariants.{CondBreak, JTSequence}
 use Rattle.s390x_base.specs.Regs.{number_of}
 use Rattle.s390x_base.specs.declared.ir.MachLabel.{MachLabel}
-use Rattle.s390x_typed_steps.specs.Tree.{Tree, empty, leaf, loop_node}
+use Rattle.s390x_typed_steps.specs.Tree.{Tree, empty, leaf, loop_node, Whole}
 use Rattle.s390x_typed_steps.specs.Sizes.{instruction_size, tree_size}
 use Rattle.s390x_typed_steps.specs.Causes.{instruction_fresh_labels, fresh_labels}
 use Rattle.s390x_typed_steps.specs.MachineInstruction.{MachineInstruction, rr, ril_b, ril_c, rxy, bytes_of, size_of}
@@ -203,7 +203,7 @@ loop_run s mask members = apply_all (body_run s members) (back_fragments (length
 
 pub tree_grows : (t : Tree) (s : BufferState) (n after : ℕ) → n ≡ length s.labels → Grows s (apply_all s (fragments n after t)) (fresh_labels t) (tree_size t)
 tree_grows empty s n after e = record { labels = omega arith; kept = λ l h. refl; bytes = omega arith }
-tree_grows (leaf i rest) s n after e =
+tree_grows (leaf (Whole i) rest) s n after e =
     let s1 = apply s StartStep in
     let s2 = apply_all s1 (leaf_fragments n after i) in
     let d = instruction_fresh_labels i in

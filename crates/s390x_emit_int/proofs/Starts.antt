@@ -3,7 +3,7 @@ use Rattle.std.proofs.Common.{◌≡◌, ℕ, suc, ◌+◌, List, [], ◌∷◌,
 use Rattle.s390x_buffer.specs.State.{BufferState}
 use Rattle.s390x_inst.specs.declared.inst.Inst.{Inst}
 use Rattle.s390x_inst.specs.declared.inst.Inst.TheVariants.{CondBreak, JTSequence}
-use Rattle.s390x_typed_steps.specs.Tree.{Tree, empty, leaf, loop_node}
+use Rattle.s390x_typed_steps.specs.Tree.{Tree, empty, leaf, loop_node, Whole}
 use Rattle.s390x_typed_steps.specs.Steps.{Step as TypedStep, Back, step_count, steps_of}
 use Rattle.s390x_typed_steps.specs.MachineInstruction.{ril_c, bytes_of}
 use Rattle.s390x_typed_steps.specs.Parts.{CodePart, Row, Trapping, Branch, Relative, RelativeConstant, RelativeSymbol, SymbolValue, TrapHere, TableWord, ToBlock, ToStep, table_words, instruction_parts}
@@ -79,7 +79,7 @@ places_append at (s ∷ a) b k =
 
 pub tree_marks : (t : Tree) (at : ℕ → ℕ) (n after k e : ℕ) → StepsFollow at k (steps_of k e t) → marks (at k) (fragments n after t) ≡ step_offsets at k (steps_of k e t)
 tree_marks empty at n after k e follow = refl
-tree_marks (leaf i rest) at n after k e follow =
+tree_marks (leaf (Whole i) rest) at n after k e follow =
     let next : at (k + 1) ≡ at k + instruction_size i = follow.0 ∙ ap (λ m. at k + m) (size_of_step e i) in
     let ps = fragments (n + instruction_fresh_labels i) after rest in
     ap (λ l. at k ∷ l) (marks_append (leaf_fragments n after i) ps (at k)

@@ -1,43 +1,74 @@
 -- Emission goes on from member to member, and through a loop.
-use Rattle.std.proofs.Common.{◌≡◌, ℕ, ◌+◌, List, [], ◌∷◌, ◌++◌, length, refl, sym, ap, ◌∙◌, subst, suc, ◌<◌, ◌≢◌, get_or, drop, None, Some, drop-cons, arith, length-append}
+use Rattle.std.proofs.Common.{◌≡◌, ℕ, ◌+◌, List, [], ◌∷◌, ◌++◌, length, refl, sym, ap, ◌∙◌, subst, suc, ◌<◌, ◌≢◌, get_or, drop, None, Some, drop-cons, arith, length-append, append_assoc, append-nil}
 use Rattle.std.proofs.lemmas.List.{get_or-set_other}
 use Rattle.std.proofs.Math.Seq.{get_or-append_seam}
 use Rattle.s390x_inst.specs.Emission.{Emission}
 use Rattle.s390x_buffer.specs.State.{BufferState}
 use Rattle.s390x_inst.specs.declared.inst.Inst.{Inst}
 use Rattle.s390x_inst.specs.declared.inst.Inst.TheVariants.{Loop'}
-use Rattle.s390x_typed_steps.specs.Resolved.{resolved_instruction}
 use Rattle.s390x_typed_steps.specs.Stack.{state_after}
-use Rattle.s390x_typed_steps.specs.Tree.{Tree, empty, leaf, loop_node, prepend, row_tree, tree}
-use Rattle.s390x_typed_steps.specs.Causes.{instruction_fresh_labels, fresh_labels}
+use Rattle.s390x_typed_steps.specs.Tree.{Tree, empty, leaf, loop_node, prepend, row_tree, tree, Whole}
+use Rattle.s390x_typed_steps.specs.Causes.{body_fresh_labels, fresh_labels}
+use Rattle.s390x_typed_steps.proofs.Trees.{joined, prepend_joined}
 use Rattle.s390x_emit_int.specs.Fragments.{StartStep, Draw, Bind, apply, apply_all}
-use Rattle.s390x_emit_int.specs.Emission.{branch, leaf_fragments, fragments, own_fragments, back_fragments}
+use Rattle.s390x_emit_int.specs.Emission.{branch, body_fragments, leaf_fragments, fragments, own_fragments, back_fragments}
 use Rattle.s390x_typed_steps.specs.Ranges.{AllInRange}
 use Rattle.s390x_emit_int.specs.Room.{HasRoom}
 use Rattle.s390x_emit_int.proofs.Runs.{Grows, run-append, opened, opened_labels, body_run, tree_grows}
 use Rattle.s390x_emit_int.proofs.Starts.{Same, same_run}
 
-leaf_run : (i : Inst) (rest : Tree) (s : BufferState) (n after : ℕ) → apply_all s (fragments n after (leaf i rest)) ≡ apply_all (apply_all (apply s StartStep) (own_fragments n after (leaf i empty))) (fragments (n + fresh_labels (leaf i empty)) after rest)
-leaf_run i rest s n after =
-    let e : n + instruction_fresh_labels i ≡ n + (instruction_fresh_labels i + 0) = omega arith in
-    run-append (apply s StartStep) (leaf_fragments n after i) (fragments (n + instruction_fresh_labels i) after rest) ∙ ap (λ k. apply_all (apply_all (apply s StartStep) (leaf_fragments n after i)) (fragments k after rest)) e
+-- the fragments of one tree come before those of the other
+fragments_joined : (t u : Tree) (n after : ℕ) → fragments n after (joined t u) ≡ fragments n after t ++ fragments (n + fresh_labels t) after u
+fragments_joined empty u n after = let e : n ≡ n + 0 = omega arith in ap (λ k. fragments k after u) e
+fragments_joined (leaf b t) u n after =
+    let own = body_fragments n after b in
+    let d = body_fresh_labels b in
+    let e : n + d + fresh_labels t ≡ n + (d + fresh_labels t) = omega arith in
+    ap (λ l. StartStep ∷ l) (
+    ap (λ l. own ++ l) (fragments_joined t u (n + d) after)
+    ∙ sym (append_assoc own (fragments (n + d) after t) (fragments (n + d + fresh_labels t) after u))
+    ∙ ap (λ k. (own ++ fragments (n + d) after t) ++ fragments k after u) e
+    )
+fragments_joined (loop_node mask members t) u n after =
+    let inner = fragments (n + 2) (n + 1) members in
+    let back = back_fragments n mask in
+    let next = n + 2 + fresh_labels members in
+    let e : next + fresh_labels t ≡ n + (2 + fresh_labels members + fresh_labels t) = omega arith in
+    ap (λ l. StartStep ∷ Draw ∷ Draw ∷ Bind n ∷ l) (
+    ap (λ l. inner ++ (back ++ l)) (fragments_joined t u next after)
+    ∙ ap (λ l. inner ++ l) (sym (append_assoc back (fragments next after t) (fragments (next + fresh_labels t) after u)))
+    ∙ sym (append_assoc inner (back ++ fragments next after t) (fragments (next + fresh_labels t) after u))
+    ∙ ap (λ k. (inner ++ (back ++ fragments next after t)) ++ fragments k after u) e
+    )
 
-loop_node_run : (mask : ℕ) (members rest : Tree) (s : BufferState) (n after : ℕ) → apply_all s (fragments n after (loop_node mask members rest)) ≡ apply_all (apply_all (apply s StartStep) (own_fragments n after (loop_node mask members empty))) (fragments (n + fresh_labels (loop_node mask members empty)) after rest)
-loop_node_run mask members rest s n after =
-    let o = apply_all (apply s StartStep) (Draw ∷ Draw ∷ Bind n ∷ []) in
-    let p = fragments (n + 2) (n + 1) members in
-    let e : n + 2 + fresh_labels members ≡ n + (2 + fresh_labels members + 0) = omega arith in
-    let r = fragments (n + 2 + fresh_labels members) after rest in
-    run-append o p (back_fragments n mask ++ r) ∙ run-append (apply_all o p) (back_fragments n mask) r ∙ ap (λ x. apply_all x r) (sym (run-append o p (back_fragments n mask))) ∙ ap (λ k. apply_all (apply_all o (p ++ back_fragments n mask)) (fragments k after rest)) e
+-- the fragments of what an instruction becomes begin with a step's offset
+own_first : (state : Emission) (i : Inst) (n after : ℕ) → fragments n after (prepend state i empty) ≡ StartStep ∷ own_fragments n after (prepend state i empty)
+own_first state (Loop' mask body all) n after =
+    let inner = fragments (n + 2) (n + 1) (row_tree state all) in
+    ap (λ l. StartStep ∷ Draw ∷ Draw ∷ Bind n ∷ (inner ++ l)) (append-nil (back_fragments n mask))
+own_first state i n after = refl
 
 -- a member's fragments come before those of the others
 pub prepend_run : (state : Emission) (i : Inst) (rest : Tree) (s : BufferState) (n after : ℕ) → apply_all s (fragments n after (prepend state i rest)) ≡ apply_all (apply_all (apply s StartStep) (own_fragments n after (prepend state i empty))) (fragments (n + fresh_labels (prepend state i empty)) after rest)
-prepend_run state (Loop' mask body all) rest s n after = loop_node_run mask (row_tree state all) rest s n after
-prepend_run state i rest s n after = leaf_run (resolved_instruction state i) rest s n after
+prepend_run state i rest s n after =
+    let own = prepend state i empty in
+    let later = fragments (n + fresh_labels own) after rest in
+    ap (λ t. apply_all s (fragments n after t)) (prepend_joined state i rest)
+    ∙ ap (apply_all s) (fragments_joined own rest n after)
+    ∙ ap (λ l. apply_all s (l ++ later)) (own_first state i n after)
+    ∙ run-append (apply s StartStep) (own_fragments n after own) later
+
+ranges_joined : (t u : Tree) → AllInRange t → AllInRange u → AllInRange (joined t u)
+ranges_joined empty u f r = r
+ranges_joined (leaf b t) u f r = (f.0, ranges_joined t u f.1 r)
+ranges_joined (loop_node mask members t) u f r = (f.0, f.1, ranges_joined t u f.2 r)
 
 pub prepend_ranges : (state : Emission) (i : Inst) (rest : Tree) → AllInRange (prepend state i empty) → AllInRange rest → AllInRange (prepend state i rest)
-prepend_ranges state (Loop' mask body all) rest f r = (f.0, f.1, r)
-prepend_ranges state i rest f r = (f.0, r)
+prepend_ranges state i rest f r = subst AllInRange (sym (prepend_joined state i rest)) (ranges_joined (prepend state i empty) rest f r)
+
+-- the fragments of a leaf alone
+pub leaf_own : (i : Inst) (s : BufferState) (n after : ℕ) → apply_all s (leaf_fragments n after i) ≡ apply_all s (own_fragments n after (leaf (Whole i) empty))
+leaf_own i s n after = ap (apply_all s) (sym (append-nil (leaf_fragments n after i)))
 
 cons_of : (is : List Inst) (k : ℕ) (i : Inst) → k < length is → i ≡ get_or is k i → drop k is ≡ i ∷ drop (k + 1) is
 cons_of is k i lt at =

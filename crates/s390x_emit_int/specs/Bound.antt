@@ -2,21 +2,25 @@
 use Rattle.std.specs.Prelude.{◌≡◌, ℕ, ◌+◌, ◌<◌, List, [], ◌∷◌}
 use Rattle.s390x_inst.specs.declared.inst.Inst.{Inst}
 use Rattle.s390x_inst.specs.declared.inst.Inst.TheVariants.{JTSequence}
-use Rattle.s390x_typed_steps.specs.Tree.{Tree, empty, leaf, loop_node}
+use Rattle.s390x_typed_steps.specs.Tree.{StepBody, Tree, Whole, empty, leaf, loop_node}
 use Rattle.s390x_typed_steps.specs.Steps.{Step}
 use Rattle.s390x_typed_steps.specs.Parts.{CodePart, Row, Trapping, Branch, Relative, RelativeConstant, RelativeSymbol, SymbolValue, TrapHere, TableWord, ToBlock, ToStep, instruction_parts, step_size}
-use Rattle.s390x_typed_steps.specs.Sizes.{instruction_size, tree_size}
-use Rattle.s390x_typed_steps.specs.Causes.{instruction_fresh_labels, fresh_labels}
+use Rattle.s390x_typed_steps.specs.Sizes.{body_size, tree_size}
+use Rattle.s390x_typed_steps.specs.Causes.{body_fresh_labels, fresh_labels}
 
 -- the label that an instruction at an offset draws, if it does: a table stands behind 20 bytes
 abbrev pub LeafBound : (ℕ → ℕ) → (n p : ℕ) → Inst → Type 0
 LeafBound off n p (JTSequence ridx other mask targets) = off n ≡ p + 20
 LeafBound off n p _ = Unit {0}
 
+-- the same of a body
+abbrev pub BodyBound : (ℕ → ℕ) → (n p : ℕ) → StepBody → Type 0
+BodyBound off n p (Whole i) = LeafBound off n p i
+
 -- the labels that a tree at an offset draws, from number n on
 abbrev pub Bound : (ℕ → ℕ) → (n p : ℕ) → Tree → Type 0
 Bound off n p empty = Unit {0}
-Bound off n p (leaf i rest) = LeafBound off n p i × Bound off (n + instruction_fresh_labels i) (p + instruction_size i) rest
+Bound off n p (leaf b rest) = BodyBound off n p b × Bound off (n + body_fresh_labels b) (p + body_size b) rest
 Bound off n p (loop_node mask members rest) = (off n ≡ p) × (off (n + 1) ≡ p + tree_size members + 6) × Bound off (n + 2) p members × Bound off (n + 2 + fresh_labels members) (p + tree_size members + 6) rest
 
 -- each step ends where the next one starts
@@ -44,10 +48,14 @@ abbrev pub PartsName : (count constants : ℕ) → List CodePart → Type 0
 PartsName count constants [] = Unit {0}
 PartsName count constants (part ∷ parts) = PartNames count constants part × PartsName count constants parts
 
--- the same of the instructions in a tree
+-- the same of the parts of a body
+abbrev pub BodyNames : (count constants : ℕ) → StepBody → Type 0
+BodyNames count constants (Whole i) = PartsName count constants (instruction_parts i)
+
+-- the same of the bodies in a tree
 abbrev pub TreeNames : (count constants : ℕ) → Tree → Type 0
 TreeNames count constants empty = Unit {0}
-TreeNames count constants (leaf i rest) = PartsName count constants (instruction_parts i) × TreeNames count constants rest
+TreeNames count constants (leaf b rest) = BodyNames count constants b × TreeNames count constants rest
 TreeNames count constants (loop_node mask members rest) = TreeNames count constants members × TreeNames count constants rest
 
 -- the same of all blocks

@@ -7,12 +7,12 @@ use Rattle.s390x_inst.specs.declared.inst.Inst.{Inst}
 use Rattle.s390x_inst.specs.declared.inst.Inst.TheVariants.{CondBreak, JTSequence}
 use Rattle.s390x_base.specs.Regs.{number_of}
 use Rattle.s390x_base.specs.declared.ir.MachLabel.{MachLabel}
-use Rattle.s390x_typed_steps.specs.Tree.{Tree, empty, leaf, loop_node}
+use Rattle.s390x_typed_steps.specs.Tree.{StepBody, Tree, Whole, empty, leaf, loop_node}
 use Rattle.s390x_typed_steps.specs.MachineInstruction.{ril_b, ril_c, bytes_of, rr, rxy}
 use Rattle.s390x_typed_steps.specs.Parts.{CodePart, Row, Trapping, Branch, Relative, RelativeConstant, RelativeSymbol, TableWord, ToBlock, ToStep, branch_parts, memory_parts, parts_size, instruction_parts, table_words, SymbolValue, TrapHere}
 use Rattle.s390x_typed_steps.specs.Memory.{MemoryInstruction}
 use Rattle.s390x_typed_steps.specs.Rows.{word_bytes}
-use Rattle.s390x_typed_steps.specs.Causes.{instruction_fresh_labels, fresh_labels}
+use Rattle.s390x_typed_steps.specs.Causes.{body_fresh_labels, fresh_labels}
 use Rattle.s390x_emit_int.specs.Fragments.{Fragment, Put, PutTrapping, PutReloc, Link, LinkConstant, StartStep, Draw, Bind}
 
 -- a branch to a label, its distance still zero
@@ -82,6 +82,10 @@ leaf_fragments n after (CondBreak mask) = branch mask after ∷ []
 leaf_fragments n after (JTSequence ridx other mask targets) = table_fragments n (number_of ridx) mask other.0 targets.items
 leaf_fragments n after i = part_fragments (instruction_parts i)
 
+-- the fragments of a body
+abbrev pub body_fragments : (n after : ℕ) → StepBody → List Fragment
+body_fragments n after (Whole i) = leaf_fragments n after i
+
 -- a loop's end: its back branch, and the label behind it
 abbrev pub back_fragments : (start mask : ℕ) → List Fragment
 back_fragments start mask = StartStep ∷ branch mask start ∷ Bind (start + 1) ∷ []
@@ -89,14 +93,14 @@ back_fragments start mask = StartStep ∷ branch mask start ∷ Bind (start + 1)
 -- a step offset before each member; the next label to be drawn is n
 abbrev pub fragments : (n after : ℕ) → Tree → List Fragment
 fragments n after empty = []
-fragments n after (leaf i rest) = StartStep ∷ (leaf_fragments n after i ++ fragments (n + instruction_fresh_labels i) after rest)
+fragments n after (leaf b rest) = StartStep ∷ (body_fragments n after b ++ fragments (n + body_fresh_labels b) after rest)
 fragments n after (loop_node mask members rest) =
     StartStep ∷ Draw ∷ Draw ∷ Bind n ∷ (fragments (n + 2) (n + 1) members ++ (back_fragments n mask ++ fragments (n + 2 + fresh_labels members) after rest))
 
--- the fragments of the first member alone, without its own step offset
+-- the fragments of what one member is made of, without the first step offset; behind a loop nothing else stands
 abbrev pub own_fragments : (n after : ℕ) → Tree → List Fragment
 own_fragments n after empty = []
-own_fragments n after (leaf i rest) = leaf_fragments n after i
+own_fragments n after (leaf b rest) = body_fragments n after b ++ fragments (n + body_fresh_labels b) after rest
 own_fragments n after (loop_node mask members rest) = Draw ∷ Draw ∷ Bind n ∷ (fragments (n + 2) (n + 1) members ++ back_fragments n mask)
 
 -- each block's label is bound before its members

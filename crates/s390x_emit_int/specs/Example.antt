@@ -1,7 +1,7 @@
 -- The theorem about linked code isn't empty: functions, their finished code, a base, symbols and a machine that meet its premises.
 use Rattle.std.specs.Prelude.{◌≡◌, List, [], None}
 use Rattle.s390x_base.specs.declared.ir.ExternalName.{ExternalName}
-use Rattle.s390x_inst.specs.declared.state.IsaFlags.{IsaFlags}
+use Rattle.s390x_inst.specs.State.{base_facilities}
 use Rattle.s390x_buffer.specs.State.{Constant}
 use Rattle.s390x_buffer.specs.declared.entries.MachBufferFinalized.{MachBufferFinalized}
 use Rattle.s390x_image.specs.Causes.{link_cause}
@@ -17,11 +17,11 @@ use Rattle.s390x_machine.specs.RelativeExample as Relative
 use Rattle.s390x_emit_int.specs.Function.{checked_cause, IsFinishedCode}
 use Rattle.s390x_emit_int.specs.Headline.{linked, linked_image}
 
--- The function has no cause, this is its finished code, and linking has no cause; the linked code lies in memory, and this is a run of the machine from the
+-- The function has no cause on a machine of the base, this is its finished code, and linking has no cause; the linked code lies in memory, and this is a run of the machine from the
 -- first block.
 pub record LinkedRun (symbols : Symbols) (ts : List Tree) (cs : List Constant) (c : Core) (trace : List Transition) : Type 0 where
   pub code : MachBufferFinalized
-  pub checked : (flags : IsaFlags) → checked_cause flags ts cs ≡ None
+  pub checked : checked_cause base_facilities ts cs ≡ None
   pub masks : BlocksInRange ts
   pub finished : IsFinishedCode ts cs code
   pub links : link_cause code 4096 symbols ≡ None

@@ -1,7 +1,7 @@
 //! Why an instruction is refused.
-ghost use Rattle.std.specs.Prelude.{◌≡◌, ◌≤◌, ◌&&◌, length, None, Some};
-ghost use Rattle.s390x_base.specs.declared.error.EmitError.TheVariants.{BadRegister, UnboundLabel};
-ghost use Rattle.s390x_typed_steps.specs.Causes.{first_emit_cause, unless, declared_in, target_label_cause, labels_cause, cause_or, memory_cause_or, branch_cause, facility_cause, instruction_cause, instruction_fresh_labels, numbers_cause, stack_cause, table_cause};
+ghost use Rattle.std.specs.Prelude.{◌≡◌, ◌≤◌, ◌&&◌, length, not, None, Some};
+ghost use Rattle.s390x_base.specs.declared.error.EmitError.TheVariants.{BadOperator, BadRegister, UnboundLabel};
+ghost use Rattle.s390x_typed_steps.specs.Causes.{accesses_relative, first_emit_cause, unless, declared_in, target_label_cause, labels_cause, cause_or, memory_cause_or, branch_cause, relative_cause, facility_cause, instruction_cause, instruction_fresh_labels, numbers_cause, stack_cause, table_cause};
 ghost use Rattle.s390x_typed_steps.specs.Memory.{memory};
 ghost use Rattle.s390x_typed_steps.specs.Resolved.{resolved_instruction};
 ghost use Rattle.s390x_typed_steps.specs.SingleCode.{code_where};
@@ -9,7 +9,7 @@ ghost use Rattle.s390x_typed_steps.specs.SingleInstruction.{SingleInstruction, s
 ghost use Rattle.s390x_typed_steps.specs.General.{is_general, is_nonzero, is_scratch};
 
 use crate::check::fresh_labels;
-use crate::conditional::composite_cause;
+use crate::composite::composite_cause;
 use crate::memory::find_memory;
 use crate::single_instruction::find_single_instruction;
 use crate::stack::stack_cause;
@@ -189,6 +189,38 @@ fn later_cause(state: &EmitState, sink: &MachBuffer, depth: u32, inst: &Inst) ->
     }
 }
 
+// An access of an operand relative to the instruction.
+fn access_cause(inst: &Inst) -> Option<EmitError>
+    ensures { result ≡ unless (not (accesses_relative (memory inst.now))) BadOperator }
+{
+    match find_memory(inst) {
+        Some(found) => cause_unless(!found.accesses_relative(), EmitError::BadOperator),
+        None => None,
+    }
+}
+
+// An access of an operand relative to the instruction, on a machine that has no rows for it.
+fn relative_cause(flags: IsaFlags, inst: &Inst) -> Option<EmitError>
+    ensures { result ≡ relative_cause flags inst.now }
+{
+    if flags.no_relative_memory {
+        access_cause(inst)
+    } else {
+        None
+    }
+}
+
+// The machine, by its flags, lacks what the instruction needs.
+fn facility_cause(flags: IsaFlags, inst: &Inst) -> Option<EmitError>
+    ensures { result ≡ facility_cause flags inst.now }
+{
+    if flags.has(inst.available_in_isa()) {
+        relative_cause(flags, inst)
+    } else {
+        Some(EmitError::MissingFacility)
+    }
+}
+
 // Why the labels that an instruction draws have no numbers.
 fn numbers_cause(sink: &MachBuffer, inst: &Inst) -> Option<EmitError>
     ensures { result ≡ numbers_cause (length sink.now.labels) (instruction_fresh_labels inst.now) }
@@ -197,6 +229,21 @@ fn numbers_cause(sink: &MachBuffer, inst: &Inst) -> Option<EmitError>
         sink.label_count() + fresh_labels(inst) < 4294967297,
         EmitError::LabelOutOfRange,
     )
+}
+
+// A cause by the stack sizes or the labels.
+fn stack_or_numbers_cause(
+    sink: &MachBuffer,
+    state: &EmitState,
+    depth: u32,
+    inst: &Inst,
+) -> Option<EmitError>
+    ensures { result ≡ first_emit_cause (stack_cause state.now.nominal depth inst.now) (numbers_cause (length sink.now.labels) (instruction_fresh_labels inst.now)) }
+{
+    match stack_cause(state, depth, inst) {
+        Some(error) => Some(error),
+        None => numbers_cause(sink, inst),
+    }
 }
 
 /// A cause by the facilities, the stack sizes or the labels of an instruction that is no `Loop`.
@@ -209,12 +256,9 @@ pub fn outer_cause(
 ) -> Option<EmitError>
     ensures { result ≡ first_emit_cause (facility_cause flags inst.now) (first_emit_cause (stack_cause state.now.nominal depth inst.now) (numbers_cause (length sink.now.labels) (instruction_fresh_labels inst.now))) }
 {
-    if !flags.has(inst.available_in_isa()) {
-        return Some(EmitError::MissingFacility);
-    }
-    match stack_cause(state, depth, inst) {
+    match facility_cause(flags, inst) {
         Some(error) => Some(error),
-        None => numbers_cause(sink, inst),
+        None => stack_or_numbers_cause(sink, state, depth, inst),
     }
 }
 
@@ -229,9 +273,8 @@ pub fn instruction_cause(
 ) -> Option<EmitError>
     ensures { result ≡ instruction_cause flags (declared_in sink.now) state.now.nominal depth (resolved_instruction state.now inst.now) }
 {
-    if flags.has(inst.available_in_isa()) {
-        later_cause(state, sink, depth, inst)
-    } else {
-        Some(EmitError::MissingFacility)
+    match facility_cause(flags, inst) {
+        Some(error) => Some(error),
+        None => later_cause(state, sink, depth, inst),
     }
 }

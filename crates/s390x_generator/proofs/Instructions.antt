@@ -20,16 +20,16 @@ use Rattle.s390x_typed_steps.specs.Parts.{CodePart, finalized_parts, instruction
 use Rattle.s390x_typed_steps.specs.Relocs.{parts_relocs}
 use Rattle.s390x_typed_steps.specs.Stack.{nominal_after}
 use Rattle.s390x_typed_steps.specs.Steps.{Plain, step_of}
-use Rattle.s390x_typed_steps.specs.Tree.{Tree, leaf, prepend}
+use Rattle.s390x_typed_steps.specs.Tree.{Tree, leaf, prepend, Whole}
 use Rattle.s390x_generator.specs.Generator.{above_stack, ending, label, register, work}
 
 -- an instruction outside loops that isn't refused, leaves the stack, draws no label, and is no more than two machine instructions without relocations
 pub record IsFine (D : Declared) (i : Inst) : Type 0 where
-  pub alone : (e : Emission) (t : Tree) → prepend e i t ≡ leaf i t
+  pub alone : (e : Emission) (t : Tree) → prepend e i t ≡ leaf (Whole i) t
   pub cause : (flags : IsaFlags) → instruction_cause flags D 0 0 i ≡ None
   pub fresh : instruction_fresh_labels i ≡ 0
   pub nominal : nominal_after 0 i ≡ 0
-  pub plain : step_of 0 i ≡ Plain i
+  pub plain : step_of 0 (Whole i) ≡ Plain i
   pub size : nat_le (parts_size (instruction_parts i)) 12 ≡ true
   pub relocs : (p : ℕ) → parts_relocs p (instruction_parts i) ≡ []
 

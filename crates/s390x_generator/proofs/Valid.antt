@@ -12,7 +12,7 @@ use Rattle.s390x_typed_steps.specs.Parts.{instruction_parts, parts_size}
 use Rattle.s390x_typed_steps.specs.Sizes.{blocks_size, tree_size}
 use Rattle.s390x_typed_steps.specs.Stack.{state_after}
 use Rattle.s390x_typed_steps.specs.Steps.{steps_from}
-use Rattle.s390x_typed_steps.specs.Tree.{Tree, empty, leaf, tree}
+use Rattle.s390x_typed_steps.specs.Tree.{Tree, empty, leaf, tree, Whole}
 use Rattle.s390x_generator.specs.Generator.{ending, generated_block, generated_from, next_number, work}
 use Rattle.s390x_generator.proofs.Instructions.{IsFine, ending_is_fine, work_is_fine}
 
@@ -20,10 +20,10 @@ use Rattle.s390x_generator.proofs.Instructions.{IsFine, ending_is_fine, work_is_
 
 -- as a tree
 abbrev pair : Inst → Inst → Tree
-pair i j = leaf i (leaf j empty)
+pair i j = leaf (Whole i) (leaf (Whole j) empty)
 
 tree_of_two : (D : Declared) (e : Emission) (i j : Inst) → IsFine D i → IsFine D j → tree e (i ∷ j ∷ []) ≡ pair i j
-tree_of_two D e i j a b = a.alone e (tree (state_after e i) (j ∷ [])) ∙ ap (leaf i) (b.alone (state_after e i) empty)
+tree_of_two D e i j a b = a.alone e (tree (state_after e i) (j ∷ [])) ∙ ap (leaf (Whole i)) (b.alone (state_after e i) empty)
 
 few : (c : ℕ) → c ≤ 100000 → numbers_cause c 0 ≡ None
 few c h = ap (λ b. unless b LabelOutOfRange) (lt-ltb (c + 0) 4294967297 (omega (arith, h)))

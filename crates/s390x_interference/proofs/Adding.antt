@@ -12,7 +12,7 @@ use Rattle.s390x_inst.specs.declared.ops.ALUOp.TheVariants.{Add32}
 use Rattle.s390x_inst.specs.declared.inst.Inst.{Inst, items_hidden-the_row-Inst-0}
 use Rattle.s390x_inst.specs.declared.inst.Inst.TheBlock.{hidden-the_row-Inst-0}
 use Rattle.s390x_inst.specs.declared.inst.Inst.TheVariants.{AluRRR, AtomicCas32, Ret}
-use Rattle.s390x_typed_steps.specs.Tree.{Tree, empty, leaf, loop_node, prepend, row_tree, tree}
+use Rattle.s390x_typed_steps.specs.Tree.{Tree, empty, leaf, loop_node, prepend, row_tree, tree, Whole}
 use Rattle.s390x_typed_steps.proofs.Trees.{row-tree}
 use Rattle.s390x_interference.specs.Example.{adds, swaps, adding_members, adding_trees}
 
@@ -27,4 +27,4 @@ adding_is e mask v rest m items =
 -- the block of the loop and a return
 pub function_is : (e : Emission) (blocks : List Block) (insts : Vec Inst Global) (i : Inst) (link : Reg) → ((rest : Tree) → prepend e i rest ≡ loop_node 4 adding_members rest) → link ≡ Real (general 14) → insts.items ≡ i ∷ Ret link ∷ [] → blocks ≡ record { insts = insts } ∷ [] → map (tree_of e) blocks ≡ adding_trees
 function_is e blocks insts i link is to_link items of_blocks =
-    ap (map (tree_of e)) of_blocks ∙ ap (λ l. tree e l ∷ []) items ∙ ap (λ t. t ∷ []) (is (leaf (Ret link) empty)) ∙ ap (λ r. loop_node 4 adding_members (leaf (Ret r) empty) ∷ []) to_link
+    ap (map (tree_of e)) of_blocks ∙ ap (λ l. tree e l ∷ []) items ∙ ap (λ t. t ∷ []) (is (leaf (Whole (Ret link)) empty)) ∙ ap (λ r. loop_node 4 adding_members (leaf (Whole (Ret r)) empty) ∷ []) to_link

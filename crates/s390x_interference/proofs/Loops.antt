@@ -7,7 +7,7 @@ use Rattle.s390x_inst.specs.declared.inst.Inst.{Inst}
 use Rattle.s390x_inst.specs.declared.inst.Inst.TheVariants.{AtomicCas32, AtomicCas64, CondBreak}
 use Rattle.s390x_typed_steps.specs.Rows.{LinkEnvironment}
 use Rattle.s390x_typed_steps.specs.Steps.{Step, Plain, Opening, Back, step_count, step_of, steps_of, steps_from}
-use Rattle.s390x_typed_steps.specs.Tree.{Tree, empty, leaf, loop_node}
+use Rattle.s390x_typed_steps.specs.Tree.{Tree, empty, leaf, loop_node, Whole}
 use Rattle.s390x_operations.specs.Effects.{is_selected}
 use Rattle.s390x_operations.specs.State.{CodeImage}
 use Rattle.s390x_operations.specs.declared.stop.ConditionCode.TheVariants.{Code0}
@@ -56,7 +56,7 @@ loop_steps n mask members = Opening ∷ (steps_of (n + 1) (n + 2 + step_count me
 
 opens_in : {steps : List Step} (n mask : ℕ) (members : Tree) (k after : ℕ) (t : Tree) → Opens n mask members k t → StandFrom steps k (steps_of k after t) → StandFrom steps n (loop_steps n mask members)
 opens_in n mask members k after empty o x = absurd o
-opens_in n mask members k after (leaf i rest) o x = opens_in n mask members (k + 1) after rest o (behind (step_of after i ∷ []) (steps_of (k + 1) after rest) x)
+opens_in n mask members k after (leaf (Whole i) rest) o x = opens_in n mask members (k + 1) after rest o (behind (step_of after (Whole i) ∷ []) (steps_of (k + 1) after rest) x)
 opens_in {steps = steps} n mask members k after (loop_node mask' members' rest) (inl o) x =
     let more = steps_of (k + 2 + step_count members') after rest in
     let inner = steps_of (k + 1) (k + 2 + step_count members') members' in
@@ -83,7 +83,7 @@ opens_in_blocks n mask members k (t ∷ ts) (inr o) x =
 
 -- ---- its members
 
-member_is : (L : Layout) (end : ℕ) (i : Inst) → is_member i ≡ true → IsMember L end (step_of end i)
+member_is : (L : Layout) (end : ℕ) (i : Inst) → is_member i ≡ true → IsMember L end (step_of end (Whole i))
 member_is L end (CondBreak mask) h = refl
 member_is L end i h = register_work L i h
 
@@ -98,7 +98,7 @@ record Body (L : Layout) (k end : ℕ) : Type 0 where
   pub swaps : slice_get L.steps swap ≡ Some (Plain (swap_instruction wide rd ri rn operand))
   pub members : (j : ℕ) → k ≤ j → j < swap → (s : Step) × (slice_get L.steps j ≡ Some s) × IsMember L end s
 
-one_more : (L : Layout) (k end : ℕ) (i : Inst) (rest : Tree) → slice_get L.steps k ≡ Some (step_of end i) → IsMember L end (step_of end i) → (b : Body L (k + 1) end) → (x : Body L k end) × (x.swap ≡ b.swap)
+one_more : (L : Layout) (k end : ℕ) (i : Inst) (rest : Tree) → slice_get L.steps k ≡ Some (step_of end (Whole i)) → IsMember L end (step_of end (Whole i)) → (b : Body L (k + 1) end) → (x : Body L k end) × (x.swap ≡ b.swap)
 one_more L k end i rest here member b = (
   record {
     swap = b.swap;
@@ -116,7 +116,7 @@ one_more L k end i rest here member b = (
   where
     here_or : (j : ℕ) → k ≤ j → j < b.swap → (k < j) ⊎ (j ≤ k) → (s : Step) × (slice_get L.steps j ≡ Some s) × IsMember L end s
     here_or j le lt (inl more) = b.members j (omega (arith, more)) lt
-    here_or j le lt (inr less) = let same : k ≡ j = omega (arith, le, less) in (step_of end i, subst (λ n. slice_get L.steps n ≡ Some (step_of end i)) same here, member)
+    here_or j le lt (inr less) = let same : k ≡ j = omega (arith, le, less) in (step_of end (Whole i), subst (λ n. slice_get L.steps n ≡ Some (step_of end (Whole i))) same here, member)
 
 record SwapInst (i : Inst) : Type 0 where
   pub wide : Bool
@@ -131,20 +131,20 @@ swap_inst (AtomicCas32 rd ri rn mem) h = record { wide = false; rd = rd; ri = ri
 swap_inst (AtomicCas64 rd ri rn mem) h = record { wide = true; rd = rd; ri = ri; rn = rn; operand = mem; is = refl }
 swap_inst _ h = absurd (true≢false (sym h))
 
-plain_swap : (end : ℕ) (wide : Bool) (rd ri rn : Reg) (mem : MemArg) → step_of end (swap_instruction wide rd ri rn mem) ≡ Plain (swap_instruction wide rd ri rn mem)
+plain_swap : (end : ℕ) (wide : Bool) (rd ri rn : Reg) (mem : MemArg) → step_of end (Whole (swap_instruction wide rd ri rn mem)) ≡ Plain (swap_instruction wide rd ri rn mem)
 plain_swap end true rd ri rn mem = refl
 plain_swap end false rd ri rn mem = refl
 
 no_steps : (t : Tree) → is_empty t ≡ true → step_count t ≡ 0
 no_steps empty h = refl
-no_steps (leaf i rest) h = absurd (true≢false (sym h))
+no_steps (leaf (Whole i) rest) h = absurd (true≢false (sym h))
 no_steps (loop_node mask members rest) h = absurd (true≢false (sym h))
 
 either : (a b : Bool) → (a || b) ≡ true → (a ≡ true) ⊎ (b ≡ true)
 either true b h = inl refl
 either false b h = inr h
 
-last_member : (L : Layout) (k end : ℕ) (i : Inst) → slice_get L.steps k ≡ Some (step_of end i) → SwapInst i → (x : Body L k end) × (x.swap ≡ k)
+last_member : (L : Layout) (k end : ℕ) (i : Inst) → slice_get L.steps k ≡ Some (step_of end (Whole i)) → SwapInst i → (x : Body L k end) × (x.swap ≡ k)
 last_member L k end i here s = (
   record {
     swap = k;
@@ -154,14 +154,14 @@ last_member L k end i here s = (
     ri = s.ri;
     rn = s.rn;
     operand = s.operand;
-    swaps = here ∙ ap (λ x. Some (step_of end x)) s.is ∙ ap Some (plain_swap end s.wide s.rd s.ri s.rn s.operand);
+    swaps = here ∙ ap (λ x. Some (step_of end (Whole x))) s.is ∙ ap Some (plain_swap end s.wide s.rd s.ri s.rn s.operand);
     members = λ j le lt. absurd (omega (arith, le, lt));
   },
   refl,
 )
 
-leaf_body : (L : Layout) (k end : ℕ) (i : Inst) (rest : Tree) → slice_get L.steps k ≡ Some (step_of end i) → (is_retry_body rest ≡ true → (b : Body L (k + 1) end) × (b.swap + 1 ≡ k + 1 + step_count rest)) →
-    ((is_swap i && is_empty rest) ≡ true) ⊎ ((is_member i && is_retry_body rest) ≡ true) → (b : Body L k end) × (b.swap + 1 ≡ k + step_count (leaf i rest))
+leaf_body : (L : Layout) (k end : ℕ) (i : Inst) (rest : Tree) → slice_get L.steps k ≡ Some (step_of end (Whole i)) → (is_retry_body rest ≡ true → (b : Body L (k + 1) end) × (b.swap + 1 ≡ k + 1 + step_count rest)) →
+    ((is_swap i && is_empty rest) ≡ true) ⊎ ((is_member i && is_retry_body rest) ≡ true) → (b : Body L k end) × (b.swap + 1 ≡ k + step_count (leaf (Whole i) rest))
 leaf_body L k end i rest here others (inl e) =
     let p = and_parts (is_swap i) (is_empty rest) e in
     let b = last_member L k end i here (swap_inst i p.0) in
@@ -176,8 +176,8 @@ leaf_body L k end i rest here others (inr e) =
 body_of : (L : Layout) (t : Tree) (k end : ℕ) → is_retry_body t ≡ true → StandFrom L.steps k (steps_of k end t) → (b : Body L k end) × (b.swap + 1 ≡ k + step_count t)
 body_of L empty k end h x = absurd (true≢false (sym h))
 body_of L (loop_node mask members rest) k end h x = absurd (true≢false (sym h))
-body_of L (leaf i rest) k end h x =
-    leaf_body L k end i rest (first_of x) (λ e. body_of L rest (k + 1) end e (behind (step_of end i ∷ []) (steps_of (k + 1) end rest) x)) (either (is_swap i && is_empty rest) (is_member i && is_retry_body rest) h)
+body_of L (leaf (Whole i) rest) k end h x =
+    leaf_body L k end i rest (first_of x) (λ e. body_of L rest (k + 1) end e (behind (step_of end (Whole i) ∷ []) (steps_of (k + 1) end rest) x)) (either (is_swap i && is_empty rest) (is_member i && is_retry_body rest) h)
 
 -- a loop of them is a retry loop
 retry_of : (L : Layout) (n mask : ℕ) (members : Tree) → StandFrom L.steps n (loop_steps n mask members) → is_retry_body members ≡ true → IsFalse (is_selected mask Code0) → (R : Retry L) × (R.opening ≡ n) × (R.mask ≡ mask)

@@ -7,7 +7,7 @@ use Rattle.s390x_inst.specs.declared.args.MemArg.TheVariants.{BXD12}
 use Rattle.s390x_inst.specs.declared.ops.ALUOp.TheVariants.{Add32}
 use Rattle.s390x_inst.specs.declared.inst.Inst.{Inst}
 use Rattle.s390x_inst.specs.declared.inst.Inst.TheVariants.{AluRRR, AtomicCas32, Ret}
-use Rattle.s390x_typed_steps.specs.Tree.{Tree, empty, leaf, loop_node}
+use Rattle.s390x_typed_steps.specs.Tree.{Tree, empty, leaf, loop_node, Whole}
 
 -- `%r4` becomes the sum of `%r2` and `%r3`
 abbrev pub adds : Inst
@@ -19,8 +19,8 @@ swaps = AtomicCas32 (Real (general 2)) (Real (general 2)) (Real (general 4)) (BX
 
 -- the members of the loop
 abbrev pub adding_members : Tree
-adding_members = leaf adds (leaf swaps empty)
+adding_members = leaf (Whole adds) (leaf (Whole swaps) empty)
 
 -- the loop, again on code 1, and a return
 abbrev pub adding_trees : List Tree
-adding_trees = loop_node 4 adding_members (leaf (Ret (Real (general 14))) empty) ∷ []
+adding_trees = loop_node 4 adding_members (leaf (Whole (Ret (Real (general 14)))) empty) ∷ []

@@ -5,7 +5,7 @@ use Rattle.s390x_inst.specs.declared.inst.Inst.TheVariants.{AluRRR, AluRRSImm16,
 use Rattle.s390x_inst.specs.declared.inst.Inst.TheVariants.{Mov64, MovPReg, Mov32, Mov32Imm, Mov32SImm16, Mov64SImm16, Mov64SImm32, Mov64UImm16Shifted, Mov64UImm32Shifted, Insert64UImm16Shifted, Insert64UImm32Shifted, CMov32, CMov64, CMov32SImm16, CMov64SImm16, Extend, LoadAR, InsertAR, AtomicCas32, AtomicCas64, CondBreak, Vector}
 use Rattle.s390x_inst.specs.declared.vec_inst.VecInst.{VecInst}
 use Rattle.s390x_inst.specs.declared.vec_inst.VecInst.TheVariants.{VecRRR, VecRR, VecShiftRR, VecSelect, VecPermute, VecBlend, VecEvaluate, VecPermuteDWImm, VecIntCmp, VecIntCmpS, VecIntEltCmp, VecMov, FpuMove32, FpuMove64, MovToVec128, VecImmByteMask, VecImmBitMask, VecImmReplicate, VecInsertLane, VecInsertLaneUndef, VecExtractLane, VecInsertLaneImm, VecInsertLaneImmUndef, VecReplicateLane}
-use Rattle.s390x_typed_steps.specs.Tree.{Tree, empty, leaf, loop_node}
+use Rattle.s390x_typed_steps.specs.Tree.{Tree, empty, leaf, loop_node, Whole}
 use Rattle.s390x_typed_steps.specs.Steps.{step_count}
 use Rattle.s390x_typed_steps.specs.VectorOpcodes.{is_division}
 use Rattle.s390x_operations.specs.Effects.{is_selected}
@@ -100,7 +100,7 @@ is_empty _ = false
 -- the members of a retry loop: register work and breaks, and last a compare and swap
 abbrev pub is_retry_body : Tree → Bool
 is_retry_body empty = false
-is_retry_body (leaf i rest) = (is_swap i && is_empty rest) || (is_member i && is_retry_body rest)
+is_retry_body (leaf (Whole i) rest) = (is_swap i && is_empty rest) || (is_member i && is_retry_body rest)
 is_retry_body (loop_node mask members rest) = false
 
 -- ---- where a loop stands
@@ -108,7 +108,7 @@ is_retry_body (loop_node mask members rest) = false
 -- among instructions whose steps begin at number k a loop under this mask with these members opens, at step n
 abbrev pub Opens : (n mask : ℕ) → (members : Tree) → (k : ℕ) → Tree → Type 0
 Opens n mask members k empty = ⊥
-Opens n mask members k (leaf i rest) = Opens n mask members (k + 1) rest
+Opens n mask members k (leaf (Whole i) rest) = Opens n mask members (k + 1) rest
 Opens n mask members k (loop_node mask' members' rest) =
     ((n ≡ k) × (mask' ≡ mask) × (members' ≡ members)) ⊎ (Opens n mask members (k + 1) members' ⊎ Opens n mask members (k + 2 + step_count members') rest)
 

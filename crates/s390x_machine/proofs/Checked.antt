@@ -16,7 +16,7 @@ use Rattle.s390x_typed_steps.specs.Memory.{MemoryInstruction, memory, type_of}
 use Rattle.s390x_typed_steps.specs.Operands.{has_form, operand_general, offset_fits}
 use Rattle.s390x_typed_steps.specs.Ranges.{MemoryInRange, InRange, AllInRange, BlocksInRange}
 use Rattle.s390x_typed_steps.specs.Rows.{LinkEnvironment}
-use Rattle.s390x_typed_steps.specs.Tree.{Tree, empty, leaf, loop_node}
+use Rattle.s390x_typed_steps.specs.Tree.{Tree, empty, leaf, loop_node, Whole}
 use Rattle.s390x_typed_steps.specs.Steps.{Step, Opening, Back, step_count, step_of, steps_of, steps_from, function_steps}
 use Rattle.s390x_typed_steps.specs.VectorComposite.{composite_cause}
 use Rattle.s390x_operations.specs.State.{CodeImage}
@@ -63,7 +63,7 @@ module _ (L : Layout) where
   blocks_of (l ∷ ls) e = let parts = first_none (target_label_cause L.block_count l) (labels_cause L.block_count ls) e in (block_of l parts.0, blocks_of ls parts.1)
 
   -- an instruction, in so many loops, the innermost of which ends at a step
-  valid_step : (flags : IsaFlags) (nominal depth after : ℕ) (i : Inst) → instruction_cause flags (declared L) nominal depth i ≡ None → InRange i → (0 < depth → after ≤ length L.steps) → IsValidStep L (step_of after i)
+  valid_step : (flags : IsaFlags) (nominal depth after : ℕ) (i : Inst) → instruction_cause flags (declared L) nominal depth i ≡ None → InRange i → (0 < depth → after ≤ length L.steps) → IsValidStep L (step_of after (Whole i))
   valid_step flags nominal depth after (Jump dest) e range le = block_of dest e
   valid_step flags nominal depth after (CondBr taken not_taken mask) e range le = let parts = first_none (target_label_cause L.block_count taken) (target_label_cause L.block_count not_taken) e in (block_of taken parts.0, block_of not_taken parts.1, range.0)
   valid_step flags nominal depth after (IndirectBr rn targets) e range le =
@@ -112,10 +112,10 @@ module _ (L : Layout) where
   valid_tree : (flags : IsaFlags) (k after n nominal depth : ℕ) (t : Tree) → tree_cause flags (declared L) n nominal depth t ≡ None → AllInRange t → (0 < depth → after ≤ length L.steps) → k + step_count t ≤ length L.steps → AllValid (steps_of k after t)
   unfolding AllValid
   valid_tree flags k after n nominal depth empty e range le within = λ j s h. absurd (cc)
-  valid_tree flags k after n nominal depth (leaf i rest) e range le within =
+  valid_tree flags k after n nominal depth (leaf (Whole i) rest) e range le within =
       let parts = first_none (leaf_cause flags (declared L) n nominal depth i) (tree_cause flags (declared L) (n + instruction_fresh_labels i) (nominal_after nominal i) depth rest) e in
       let own = first_none (instruction_cause flags (declared L) nominal depth i) (numbers_cause n (instruction_fresh_labels i)) parts.0 in
-      valid_cons (step_of after i) (steps_of (k + 1) after rest) (valid_step flags nominal depth after i own.0 range.0 le) (valid_tree flags (k + 1) after (n + instruction_fresh_labels i) (nominal_after nominal i) depth rest parts.1 range.1 le (omega arith))
+      valid_cons (step_of after (Whole i)) (steps_of (k + 1) after rest) (valid_step flags nominal depth after i own.0 range.0 le) (valid_tree flags (k + 1) after (n + instruction_fresh_labels i) (nominal_after nominal i) depth rest parts.1 range.1 le (omega arith))
   valid_tree flags k after n nominal depth (loop_node mask members rest) e range le within =
       let a = first_none (first_emit_cause (first_emit_cause (nesting_cause depth) (numbers_cause n 2)) (tree_cause flags (declared L) (n + 2) nominal (depth + 1) members)) (tree_cause flags (declared L) (n + 2 + fresh_labels members) nominal depth rest) e in
       let b = first_none (first_emit_cause (nesting_cause depth) (numbers_cause n 2)) (tree_cause flags (declared L) (n + 2) nominal (depth + 1) members) a.0 in

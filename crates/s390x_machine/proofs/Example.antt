@@ -38,7 +38,7 @@ checked flags = refl
 
 -- a machine of the base alone
 base : IsaFlags
-base = record { has_mie3 = false; has_mie4 = false; has_vxrs_ext2 = false; has_vxrs_ext3 = false }
+base = record { has_mie3 = false; has_mie4 = false; has_vxrs_ext2 = false; has_vxrs_ext3 = false; no_relative_memory = false }
 
 pub ranges : BlocksInRange trees
 ranges = (((tt, tt), ((omega arith, omega arith), tt)), (((tt, tt), tt), tt))

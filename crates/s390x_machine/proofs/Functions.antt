@@ -1,6 +1,6 @@
 -- The layout of a function whose code stands at the beginning of an image.
 use Rattle.std.proofs.Common.{◌≡◌, ℕ, zero, suc, ◌+◌, ◌≤◌, List, [], ◌∷◌, ◌++◌, length, Some, refl, sym, ap, ◌∙◌, arith, append_assoc, length-append, slice_get}
-use Rattle.s390x_typed_steps.specs.Tree.{Tree, empty, leaf, loop_node}
+use Rattle.s390x_typed_steps.specs.Tree.{Tree, empty, leaf, loop_node, Whole}
 use Rattle.s390x_typed_steps.specs.Steps.{Step, Back, step_count, steps_of, steps_from, function_steps, first_step}
 use Rattle.s390x_typed_steps.specs.Parts.{step_size}
 use Rattle.s390x_typed_steps.specs.Rows.{LinkEnvironment, Offsets, step_bytes}
@@ -48,7 +48,7 @@ cut P k (x ∷ ss) (suc j) s e =
 
 pub count_of : (k after : ℕ) (t : Tree) → length (steps_of k after t) ≡ step_count t
 count_of k after empty = refl
-count_of k after (leaf i rest) = omega (arith, count_of (k + 1) after rest)
+count_of k after (leaf (Whole i) rest) = omega (arith, count_of (k + 1) after rest)
 count_of k after (loop_node mask members rest) =
     let m = steps_of (k + 1) (k + 2 + step_count members) members in
     let r = steps_of (k + 2 + step_count members) after rest in

@@ -33,13 +33,14 @@ code : image.bytes ≡ function_code environment trees ++ (0 ∷ 0 ∷ 0 ∷ 0 �
 unfolding number bits layout_of length_of be_bytes
 code = refl
 
--- emission has no cause against it
-checked : (flags : IsaFlags) → blocks_cause flags (record { blocks = 1; aligns = 4 ∷ [] }) 2 trees ≡ None
-checked flags = refl
-
 -- a machine of the base alone
 base : IsaFlags
-base = record { has_mie3 = false; has_mie4 = false; has_vxrs_ext2 = false; has_vxrs_ext3 = false }
+base = record { has_mie3 = false; has_mie4 = false; has_vxrs_ext2 = false; has_vxrs_ext3 = false; no_relative_memory = false }
+
+-- emission for it has no cause against the code
+checked : blocks_cause base (record { blocks = 1; aligns = 4 ∷ [] }) 2 trees ≡ None
+unfolding base
+checked = refl
 
 pub ranges : BlocksInRange trees
 ranges = (((tt, tt), ((tt, tt), ((tt, tt), tt))), tt)
@@ -66,7 +67,7 @@ stands = record {
   even = refl;
   fits = omega arith;
   short = omega arith;
-  valid = checked_steps base environment trees 2 image (checked base) ranges;
+  valid = checked_steps base environment trees 2 image checked ranges;
   reached = reaches;
   stand = constant_stands;
 }

@@ -6,7 +6,7 @@ use Rattle.s390x_base.specs.declared.ir.MachLabel.{MachLabel}
 use Rattle.s390x_inst.specs.declared.ops.ALUOp.TheVariants.{Add64}
 use Rattle.s390x_inst.specs.declared.inst.Inst.{Inst}
 use Rattle.s390x_inst.specs.declared.inst.Inst.TheVariants.{AluRRR, CondBr, Ret}
-use Rattle.s390x_typed_steps.specs.Tree.{Tree, empty, leaf}
+use Rattle.s390x_typed_steps.specs.Tree.{Tree, empty, leaf, Whole}
 use Rattle.s390x_typed_steps.specs.Image.{unlinked}
 use Rattle.s390x_operations.specs.State.{Registers, Core, CodeImage, is_within, IsLoaded, set_general, with_code}
 use Rattle.s390x_operations.specs.declared.stop.ConditionCode.TheVariants.{Code0, Code1}
@@ -31,7 +31,7 @@ adds = AluRRR Add64 (Real (general 2)) (Real (general 2)) (Real (general 4))
 
 -- the two blocks
 abbrev pub trees : List Tree
-trees = leaf adds (leaf (CondBr (label 0) (label 1) 4) empty) ∷ leaf (Ret (Real (general 14))) empty ∷ []
+trees = leaf (Whole adds) (leaf (Whole (CondBr (label 0) (label 1) 4)) empty) ∷ leaf (Whole (Ret (Real (general 14)))) empty ∷ []
 
 -- `%r2` is -2, `%r4` is 1 and `%r14` is 8192
 abbrev pub registers : Registers

@@ -8,7 +8,7 @@ use Rattle.s390x_inst.specs.Memory.{trusted}
 use Rattle.s390x_inst.specs.declared.args.MemArg.TheVariants.{Constant, Symbol}
 use Rattle.s390x_inst.specs.declared.inst.Inst.{Inst}
 use Rattle.s390x_inst.specs.declared.inst.Inst.TheVariants.{Load32, LoadAddr, Trap}
-use Rattle.s390x_typed_steps.specs.Tree.{Tree, empty, leaf}
+use Rattle.s390x_typed_steps.specs.Tree.{Tree, empty, leaf, Whole}
 use Rattle.s390x_typed_steps.specs.Causes.{aligns_of}
 use Rattle.s390x_typed_steps.specs.Image.{constant_offset}
 use Rattle.s390x_typed_steps.specs.Rows.{LinkEnvironment}
@@ -46,7 +46,7 @@ stops = Trap (User 7)
 
 -- the block
 abbrev pub trees : List Tree
-trees = leaf loads (leaf names (leaf stops empty)) ∷ []
+trees = leaf (Whole loads) (leaf (Whole names) (leaf (Whole stops) empty)) ∷ []
 
 -- the constant stands behind the code, and the symbol at 8192
 abbrev pub environment : LinkEnvironment

@@ -8,7 +8,7 @@ use Rattle.s390x_inst.specs.declared.vec_inst.VecInst.{VecInst}
 use Rattle.s390x_inst.specs.declared.vec_inst.VecInst.TheVariants.{VecRR}
 use Rattle.s390x_typed_steps.specs.Operands.{resolved}
 use Rattle.s390x_typed_steps.specs.Resolved.{resolved_instruction, resolved_vector}
-use Rattle.s390x_typed_steps.specs.Tree.{Tree, empty, leaf, loop_node, prepend, row_tree, tree}
+use Rattle.s390x_typed_steps.specs.Tree.{Tree, empty, leaf, loop_node, prepend, row_tree, tree, Whole}
 use Rattle.s390x_emit_int.specs.Function.{tree_of}
 use Rattle.s390x_fields.specs.Fields.{Field, FMemory}
 use Rattle.s390x_lines.specs.Line.{Line}
@@ -21,7 +21,7 @@ abbrev mutual
   -- an instruction as it is given, before others
   pub raw_prepend : Inst → Tree → Tree
   raw_prepend (Loop' mask body all) rest = loop_node mask (raw_row all) rest
-  raw_prepend i rest = leaf i rest
+  raw_prepend i rest = leaf (Whole i) rest
 
   pub raw_row : {m : _} → Row_of-Inst m → Tree
   raw_row end_of-Inst = empty

@@ -23,6 +23,7 @@ use Rattle.s390x_typed_steps.specs.Causes.{Declared, first_emit_cause, unless, l
 use Rattle.s390x_typed_steps.specs.General.{is_general, is_nonzero}
 use Rattle.s390x_typed_steps.specs.Parts.{CodePart, Row, table_parts, step_parts}
 use Rattle.s390x_typed_steps.specs.Steps.{step_of}
+use Rattle.s390x_typed_steps.specs.Tree as Body
 use Rattle.s390x_typed_steps.specs.Ranges.{IsConditionMask, InRange}
 use Rattle.s390x_fields.specs.Fields.{Field, FAlu, FUnary, FCmp, FShift, FRxsbg, FReg, FReal, FInteger, FNatural, FShifted, FPair, FTrap, FBool, FReloc, FLabels, FCond, FArgs, FRets, FMemory, FVecBinary, FVecCompare, FVecElementCompare, FVecShift, FVecUnary}
 use Rattle.s390x_lines.specs.Line.{Line}
@@ -241,7 +242,7 @@ reading_fresh_labels Other = 0
 
 -- the parts of the step in a loop that ends at the step `after`
 abbrev pub reading_parts : ℕ → Reading → List CodePart
-reading_parts after (Whole i) = step_parts (step_of after i)
+reading_parts after (Whole i) = step_parts (step_of after (Body.Whole i))
 reading_parts after (Picks rn targets) = Row (rr 0x07 15 (number_of rn)) ∷ []
 reading_parts after (Jumps index other mask targets) = table_parts (number_of index) mask other.0 targets
 reading_parts after Names = []
@@ -270,7 +271,7 @@ pub fresh_labels_read : (i : Inst) → instruction_fresh_labels i ≡ reading_fr
 fresh_labels_read (Vector v) = ap reading_fresh_labels (vector_reading v)
 fresh_labels_read i = refl
 
-pub parts_read : (after : ℕ) (i : Inst) → step_parts (step_of after i) ≡ reading_parts after (line_reading (inst_line i))
+pub parts_read : (after : ℕ) (i : Inst) → step_parts (step_of after (Body.Whole i)) ≡ reading_parts after (line_reading (inst_line i))
 parts_read after (Vector v) = ap (reading_parts after) (vector_reading v)
 parts_read after i = refl
 

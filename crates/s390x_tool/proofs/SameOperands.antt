@@ -9,6 +9,7 @@ use Rattle.s390x_inst.specs.declared.function.Block.{Block}
 use Rattle.s390x_inst.specs.declared.inst.Inst.{Inst, Row_of-Inst, end_of-Inst, more_of-Inst}
 use Rattle.s390x_inst.specs.declared.inst.Inst.TheVariants.{Loop', Call}
 use Rattle.s390x_typed_steps.specs.Tree.{Tree, empty, leaf, loop_node}
+use Rattle.s390x_typed_steps.specs.Tree as Body
 use Rattle.s390x_operands.specs.declared.constraint.OperandError.{OperandError}
 use Rattle.s390x_operands.specs.declared.constraint.Reported.{Reported}
 use Rattle.s390x_operands.specs.declared.constraint.Reported.TheVariants.{Fixed}
@@ -75,7 +76,7 @@ call_cause d link info =
 -- the first cause of the instructions of a tree
 abbrev tree_cause : Bool → Tree → Option OperandError
 tree_cause d empty = None
-tree_cause d (leaf i rest) = first_operand_cause (cause_of d (held_requests (contents i))) (tree_cause d rest)
+tree_cause d (leaf (Body.Whole i) rest) = first_operand_cause (cause_of d (held_requests (contents i))) (tree_cause d rest)
 tree_cause d (loop_node mask members rest) = first_operand_cause (tree_cause true members) (tree_cause d rest)
 
 or_true : (b : Bool) → b || true ≡ true
@@ -112,9 +113,13 @@ blocks_cause k (b ∷ bs) = ap₂ first_operand_cause (insts_cause 0 b.insts.ite
 
 same_tree : (d : Bool) (t u : Tree) → lines_tree t ≡ lines_tree u → tree_cause d t ≡ tree_cause d u
 same_tree d empty empty e = refl
-same_tree d (leaf i t) (leaf j u) e =
+same_tree d (leaf (Body.Whole i) t) (leaf (Body.Whole j) u) e =
     ap₂ first_operand_cause (ap (λ c. cause_of d (held_requests c)) (same_contents i j cc)) (same_tree d t u cc)
 same_tree d (loop_node m a t) (loop_node n b u) e = ap₂ first_operand_cause (same_tree true a b cc) (same_tree d t u cc)
+same_tree d empty (leaf (Body.Whole j) u) e = absurd cc
+same_tree d (leaf (Body.Whole i) t) empty e = absurd cc
+same_tree d (leaf (Body.Whole i) t) (loop_node n b u) e = absurd cc
+same_tree d (loop_node m a t) (leaf (Body.Whole j) u) e = absurd cc
 same_tree d t u e = absurd cc
 
 same_trees : (ts us : List Tree) → map lines_tree ts ≡ map lines_tree us → trees_cause ts ≡ trees_cause us

@@ -7,7 +7,7 @@ use Rattle.s390x_base.specs.declared.error.EmitError.{EmitError}
 use Rattle.s390x_buffer.specs.State.{Constant}
 use Rattle.s390x_buffer.specs.Constants.{constant_starts}
 use Rattle.s390x_buffer.specs.declared.entries.TrapEntry.{TrapEntry}
-use Rattle.s390x_typed_steps.specs.Tree.{Tree, empty, leaf, loop_node}
+use Rattle.s390x_typed_steps.specs.Tree.{Tree, empty, leaf, loop_node, Whole}
 use Rattle.s390x_typed_steps.specs.Causes.{Declared, aligns_of, first_emit_cause, instruction_fresh_labels, fresh_labels, nesting_cause, numbers_cause, tree_cause, blocks_cause, unless, block_cause, nominal_behind}
 use Rattle.s390x_typed_steps.specs.Parts.{CodePart, Branch, ToStep, step_parts, parts_size}
 use Rattle.s390x_typed_steps.specs.Steps.{Step, step_count, steps_of, steps_from, function_steps, first_step}
@@ -32,7 +32,7 @@ pub data LineTree : Type 0 where
 
 abbrev pub lines_tree : Tree → LineTree
 lines_tree empty = none
-lines_tree (leaf i rest) = one (inst_line i) (lines_tree rest)
+lines_tree (leaf (Whole i) rest) = one (inst_line i) (lines_tree rest)
 lines_tree (loop_node mask members rest) = around mask (lines_tree members) (lines_tree rest)
 
 -- labels drawn
@@ -43,7 +43,7 @@ line_fresh_labels (around mask members rest) = 2 + line_fresh_labels members + l
 
 same_fresh_labels : (t : Tree) → fresh_labels t ≡ line_fresh_labels (lines_tree t)
 same_fresh_labels empty = refl
-same_fresh_labels (leaf i rest) = let a = fresh_labels_read i in let b = same_fresh_labels rest in cc
+same_fresh_labels (leaf (Whole i) rest) = let a = fresh_labels_read i in let b = same_fresh_labels rest in cc
 same_fresh_labels (loop_node mask members rest) = let a = same_fresh_labels members in let b = same_fresh_labels rest in cc
 
 -- the first cause
@@ -58,7 +58,7 @@ line_cause flags D n m depth (around mask members rest) =
 
 same_tree_cause : (flags : IsaFlags) (D : Declared) (n m depth : ℕ) (t : Tree) → tree_cause flags D n m depth t ≡ line_cause flags D n m depth (lines_tree t)
 same_tree_cause flags D n m depth empty = refl
-same_tree_cause flags D n m depth (leaf i rest) =
+same_tree_cause flags D n m depth (leaf (Whole i) rest) =
     let r = line_reading (inst_line i) in
     ap (λ o. first_emit_cause (first_emit_cause o (numbers_cause n (instruction_fresh_labels i))) (tree_cause flags D (n + instruction_fresh_labels i) (nominal_after m i) depth rest)) (cause_read flags D m depth i)
     ∙ ap (λ d. first_emit_cause (first_emit_cause (reading_cause flags D m depth r) (numbers_cause n d)) (tree_cause flags D (n + d) (nominal_after m i) depth rest)) (fresh_labels_read i)
@@ -78,7 +78,7 @@ line_behind m (around mask members rest) = line_behind m rest
 
 same_behind : (m : ℕ) (t : Tree) → nominal_behind m t ≡ line_behind m (lines_tree t)
 same_behind m empty = refl
-same_behind m (leaf i rest) = ap (λ n. nominal_behind n rest) (nominal_read m i) ∙ same_behind (reading_after m (line_reading (inst_line i))) rest
+same_behind m (leaf (Whole i) rest) = ap (λ n. nominal_behind n rest) (nominal_read m i) ∙ same_behind (reading_after m (line_reading (inst_line i))) rest
 same_behind m (loop_node mask members rest) = same_behind m rest
 
 abbrev pub line_block_cause : IsaFlags → Declared → (n : ℕ) → LineTree → Option EmitError
@@ -108,7 +108,7 @@ line_count (around mask members rest) = 2 + line_count members + line_count rest
 
 same_count : (t : Tree) → step_count t ≡ line_count (lines_tree t)
 same_count empty = refl
-same_count (leaf i rest) = ap (λ n. 1 + n) (same_count rest)
+same_count (leaf (Whole i) rest) = ap (λ n. 1 + n) (same_count rest)
 same_count (loop_node mask members rest) = let a = same_count members in let b = same_count rest in cc
 
 -- the parts of each step
@@ -120,7 +120,7 @@ line_steps k after (around mask members rest) =
 
 same_steps : (k after : ℕ) (t : Tree) → map step_parts (steps_of k after t) ≡ line_steps k after (lines_tree t)
 same_steps k after empty = refl
-same_steps k after (leaf i rest) =
+same_steps k after (leaf (Whole i) rest) =
     ap (λ p. p ∷ map step_parts (steps_of (k + 1) after rest)) (parts_read after i)
     ∙ ap (λ ps. reading_parts after (line_reading (inst_line i)) ∷ ps) (same_steps (k + 1) after rest)
 same_steps k after (loop_node mask members rest) =
@@ -192,7 +192,7 @@ line_size (around mask members rest) = line_size members + 6 + line_size rest
 
 same_size : (t : Tree) → tree_size t ≡ line_size (lines_tree t)
 same_size empty = refl
-same_size (leaf i rest) =
+same_size (leaf (Whole i) rest) =
     ap (λ ps. parts_size ps + tree_size rest) (parts_read 0 i) ∙ ap (λ n. parts_size (reading_parts 0 (line_reading (inst_line i))) + n) (same_size rest)
 same_size (loop_node mask members rest) = let a = same_size members in let b = same_size rest in cc
 
@@ -295,12 +295,12 @@ line_range (around mask members rest) = IsConditionMask mask × line_range membe
 
 range_to : (t : Tree) → AllInRange t → line_range (lines_tree t)
 range_to empty h = tt
-range_to (leaf i rest) h = (range_read i h.0, range_to rest h.1)
+range_to (leaf (Whole i) rest) h = (range_read i h.0, range_to rest h.1)
 range_to (loop_node mask members rest) h = (h.0, range_to members h.1, range_to rest h.2)
 
 range_from : (t : Tree) → line_range (lines_tree t) → AllInRange t
 range_from empty h = tt
-range_from (leaf i rest) h = (range_round_trip i h.0, range_from rest h.1)
+range_from (leaf (Whole i) rest) h = (range_round_trip i h.0, range_from rest h.1)
 range_from (loop_node mask members rest) h = (h.0, range_from members h.1, range_from rest h.2)
 
 abbrev pub line_ranges : List LineTree → Type 0

@@ -19,7 +19,7 @@ use Rattle.s390x_typed_steps.specs.Stack.{nominal_after}
 use Rattle.s390x_typed_steps.specs.Storage.{relative_bytes}
 use Rattle.s390x_typed_steps.specs.VectorComposite.{composite_cause}
 use Rattle.s390x_typed_steps.specs.declared.mem_inst_type.MemInstType.{MemInstType}
-use Rattle.s390x_typed_steps.specs.Tree.{Tree, empty, leaf, loop_node}
+use Rattle.s390x_typed_steps.specs.Tree.{StepBody, Tree, Whole, empty, leaf, loop_node}
 
 -- the first of two causes
 abbrev pub first_emit_cause : Option EmitError → Option EmitError → Option EmitError
@@ -147,9 +147,23 @@ abbrev pub cause_or : Option SingleInstruction → Option EmitError → Option E
 cause_or None others = others
 cause_or (Some x) others = unless x.operands_valid BadRegister
 
--- a cause: the machine, by its flags, lacks the facility that the instruction needs
+-- one of the rows is relative to the instruction
+abbrev pub has_relative_row : StorageForm → Bool
+has_relative_row (RxForm register rx_opcode rxy_opcode (Some opcode)) = true
+has_relative_row form = false
+
+-- it accesses an operand that is relative to it, and has a row for that
+abbrev pub accesses_relative : Option MemoryInstruction → Bool
+accesses_relative None = false
+accesses_relative (Some x) = has_relative_row x.form && x.accesses && is_relative x.operand
+
+-- a cause: the machine, by its flags, lacks the row of such an access. That the address is loaded first in its place isn't built yet
+abbrev pub relative_cause : IsaFlags → Inst → Option EmitError
+relative_cause flags i = unless (not (accesses_relative (memory i) && flags.no_relative_memory)) BadOperator
+
+-- a cause: the machine, by its flags, lacks what the instruction needs: its facility, or such a row
 abbrev pub facility_cause : IsaFlags → Inst → Option EmitError
-facility_cause flags i = unless (has_facility flags (facility_of i)) MissingFacility
+facility_cause flags i = first_emit_cause (unless (has_facility flags (facility_of i)) MissingFacility) (relative_cause flags i)
 
 -- a cause: arguments are allocated where some already are, or in a loop
 abbrev pub stack_cause : (nominal depth : ℕ) → Inst → Option EmitError
@@ -175,10 +189,22 @@ instruction_fresh_labels _ = 0
 abbrev pub leaf_cause : IsaFlags → Declared → (n nominal depth : ℕ) → Inst → Option EmitError
 leaf_cause flags D n nominal depth i = first_emit_cause (instruction_cause flags D nominal depth i) (numbers_cause n (instruction_fresh_labels i))
 
+-- how many labels a body draws
+abbrev pub body_fresh_labels : StepBody → ℕ
+body_fresh_labels (Whole i) = instruction_fresh_labels i
+
+-- the causes of a body, with n labels in use
+abbrev pub body_cause : IsaFlags → Declared → (n nominal depth : ℕ) → StepBody → Option EmitError
+body_cause flags D n nominal depth (Whole i) = leaf_cause flags D n nominal depth i
+
+-- the nominal size behind a body
+abbrev pub body_nominal_after : (nominal : ℕ) → StepBody → ℕ
+body_nominal_after nominal (Whole i) = nominal_after nominal i
+
 -- how many labels a tree draws: two for each loop, and one for each table
 abbrev pub fresh_labels : Tree → ℕ
 fresh_labels empty = 0
-fresh_labels (leaf i rest) = instruction_fresh_labels i + fresh_labels rest
+fresh_labels (leaf b rest) = body_fresh_labels b + fresh_labels rest
 fresh_labels (loop_node mask members rest) = 2 + fresh_labels members + fresh_labels rest
 
 -- how deep loops may be nested
@@ -188,14 +214,14 @@ nesting_cause depth = unless (nat_lt depth 8) BadOperator
 -- the nominal size behind a tree; in a loop it doesn't change
 abbrev pub nominal_behind : (nominal : ℕ) → Tree → ℕ
 nominal_behind nominal empty = nominal
-nominal_behind nominal (leaf i rest) = nominal_behind (nominal_after nominal i) rest
+nominal_behind nominal (leaf b rest) = nominal_behind (body_nominal_after nominal b) rest
 nominal_behind nominal (loop_node mask members rest) = nominal_behind nominal rest
 
 -- the first cause in a tree, at a nominal size and inside so many loops, with n labels in use
 abbrev pub tree_cause : IsaFlags → Declared → (n nominal depth : ℕ) → Tree → Option EmitError
 tree_cause flags D n nominal depth empty = None
-tree_cause flags D n nominal depth (leaf i rest) =
-    first_emit_cause (leaf_cause flags D n nominal depth i) (tree_cause flags D (n + instruction_fresh_labels i) (nominal_after nominal i) depth rest)
+tree_cause flags D n nominal depth (leaf b rest) =
+    first_emit_cause (body_cause flags D n nominal depth b) (tree_cause flags D (n + body_fresh_labels b) (body_nominal_after nominal b) depth rest)
 tree_cause flags D n nominal depth (loop_node mask members rest) =
     first_emit_cause
     (first_emit_cause (first_emit_cause (nesting_cause depth) (numbers_cause n 2)) (tree_cause flags D (n + 2) nominal (depth + 1) members))

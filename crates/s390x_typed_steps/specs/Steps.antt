@@ -1,6 +1,6 @@
 -- The typed steps: a flat list that is numbered once, from 0.
 use Rattle.std.specs.Prelude.{ℕ, zero, suc, ◌+◌, List, [], ◌∷◌, ◌++◌}
-use Rattle.s390x_typed_steps.specs.Tree.{Tree, empty, leaf, loop_node}
+use Rattle.s390x_typed_steps.specs.Tree.{StepBody, Tree, Whole, empty, leaf, loop_node}
 use Rattle.s390x_inst.specs.declared.inst.Inst.{Inst}
 use Rattle.s390x_inst.specs.declared.inst.Inst.TheVariants.{CondBreak}
 
@@ -15,18 +15,18 @@ pub data Step : Type 0 where
 -- how many steps a tree has
 abbrev pub step_count : Tree → ℕ
 step_count empty = 0
-step_count (leaf i rest) = 1 + step_count rest
+step_count (leaf b rest) = 1 + step_count rest
 step_count (loop_node mask members rest) = 2 + step_count members + step_count rest
 
--- an instruction in a loop that ends at a step
-abbrev pub step_of : ℕ → Inst → Step
-step_of after (CondBreak mask) = Break mask after
-step_of after i = Plain i
+-- a body in a loop that ends at a step
+abbrev pub step_of : ℕ → StepBody → Step
+step_of after (Whole (CondBreak mask)) = Break mask after
+step_of after (Whole i) = Plain i
 
 -- the steps from number k on, in a loop that ends at the step `after`
 abbrev pub steps_of : (k after : ℕ) → Tree → List Step
 steps_of k after empty = []
-steps_of k after (leaf i rest) = step_of after i ∷ steps_of (k + 1) after rest
+steps_of k after (leaf b rest) = step_of after b ∷ steps_of (k + 1) after rest
 steps_of k after (loop_node mask members rest) =
     Opening ∷ (steps_of (k + 1) (k + 2 + step_count members) members ++ (Back mask (k + 1) ∷ steps_of (k + 2 + step_count members) after rest))
 

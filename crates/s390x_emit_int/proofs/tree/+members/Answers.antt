@@ -8,7 +8,7 @@ use Rattle.s390x_emit_int.specs.Room.{TreePassed}
 use Rattle.s390x_emit_int.specs.Fragments.{apply_all}
 use Rattle.s390x_emit_int.specs.Emission.{own_fragments, fragments}
 use Rattle.s390x_typed_steps.specs.Ranges.{AllInRange}
-use Rattle.s390x_emit_int.proofs.Trees.{more, more_ranges, more_room, loop_states}
+use Rattle.s390x_emit_int.proofs.Trees.{leaf_own, more, more_ranges, more_room, loop_states}
 use Rattle.s390x_typed_steps.specs.Causes.{declared_in, tree_cause}
 use Rattle.s390x_typed_steps.proofs.Causes.{first_none}
 use Rattle.s390x_emit_int.proofs.Answering.{on_ok, on_both}
@@ -32,7 +32,7 @@ emit_inst-returns-in-Loop-clause-ranges t c =
 pub emit_inst-returns-in_default-clause-answer : goal.emit_inst-returns-in_default-clause-answer
 emit_inst-returns-in_default-clause-answer t c =
     let g = not_loop c.args.state.now c.args.inst.now c.in_default.not-Loop in
-    on_ok c.emit_leaf.result c.emit_leaf.ensures.answer (λ e. e.1 ∙ ap (λ x. apply_all c.args.sink.now (own_fragments (length c.args.sink.now.labels) c.args.after.0 x)) (sym g))
+    on_ok c.emit_leaf.result c.emit_leaf.ensures.answer (λ e. e.1 ∙ leaf_own (resolved_instruction c.args.state.now c.args.inst.now) c.args.sink.now (length c.args.sink.now.labels) c.args.after.0 ∙ ap (λ x. apply_all c.args.sink.now (own_fragments (length c.args.sink.now.labels) c.args.after.0 x)) (sym g))
 
 pub emit_inst-returns-in_default-clause-ranges : goal.emit_inst-returns-in_default-clause-ranges
 emit_inst-returns-in_default-clause-ranges t c =
