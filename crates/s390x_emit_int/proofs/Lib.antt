@@ -39,3 +39,4 @@ pub mod Linking
 pub mod Example
 pub mod FunctionImage
 pub mod Skipping
+pub mod Composing

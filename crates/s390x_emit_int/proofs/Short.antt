@@ -1,5 +1,5 @@
 -- How many bytes an instruction has at most, and that emission fails by want of memory alone where no cause stands.
-use Rattle.std.proofs.Common.{ℕ, ◌*◌, ◌++◌, length-append, ◌≡◌, ◌+◌, ◌≤◌, Bool, true, false, cond, nat_lt, List, [], ◌∷◌, Option, Some, None, length, refl, ap, ◌∙◌, arith, ltb-true, ◌<◌, ap₂, ◌⊎◌, inl, inr, sym}
+use Rattle.std.proofs.Common.{ℕ, ◌*◌, ◌++◌, length-append, ◌≡◌, ◌+◌, ◌≤◌, Bool, true, false, cond, nat_eq, nat_lt, List, [], ◌∷◌, Option, Some, None, length, refl, ap, ◌∙◌, arith, ltb-true, ◌<◌, ap₂, ◌⊎◌, inl, inr, sym}
 use Rattle.std.proofs.lemmas.Bool.{lt-ltb}
 use Rattle.s390x_base.specs.declared.trap.TrapKind.{TrapKind}
 use Rattle.s390x_base.specs.declared.error.EmitError.{EmitError}
@@ -11,6 +11,9 @@ use Rattle.s390x_inst.specs.Emission.{Emission}
 use Rattle.s390x_inst.specs.declared.args.MemArg.{MemArg}
 use Rattle.s390x_inst.specs.declared.args.MemArg.TheVariants.{Label, RegOffset}
 use Rattle.s390x_inst.specs.declared.inst.Inst.TheVariants.{Loop', JTSequence, Mov64SImm32, LoadAddr, CondBreak, Jump, CondBr, IndirectBr, Ret, LabelAddress, LoadSymbolReloc, Trap, TrapIf, Debugtrap, Vector}
+use Rattle.s390x_base.specs.Regs.{number_of}
+use Rattle.s390x_inst.specs.declared.vec_inst.VecInst.{VecInst}
+use Rattle.s390x_inst.specs.declared.vec_inst.VecInst.TheVariants.{VecEltRev, VecInt128SCmpHi, VecInt128UCmpHi}
 use Rattle.s390x_inst.specs.declared.state.IsaFlags.{IsaFlags}
 use Rattle.s390x_buffer.specs.State.{BufferState, Constant, limit}
 use Rattle.s390x_buffer.specs.Extends.{Extends}
@@ -19,19 +22,19 @@ use Rattle.s390x_typed_steps.specs.MachineInstruction.{MachineInstruction}
 use Rattle.s390x_typed_steps.specs.Memory.{StorageForm, RxForm, MemoryInstruction, memory, type_of, storage_row, address_form, fault_code}
 use Rattle.s390x_typed_steps.specs.Operands.{Finalized, finalized, is_relative, displaced, needs_address, fits_12, fits_20, fits_32}
 use Rattle.s390x_typed_steps.specs.Resolved.{resolved_instruction}
-use Rattle.s390x_typed_steps.specs.VectorComposite.{MoveUnder, move_under, rows_under}
+use Rattle.s390x_typed_steps.specs.VectorComposite.{MoveUnder, composite_rows, exchanges_doublewords, exchanges_halves, move_under, rows_or_none, rows_under}
 use Rattle.s390x_typed_steps.specs.Parts.{CodePart, branch_parts, row_part, access_parts, trap_here, relative_part, relative_parts, operand_parts, helper_parts, helpers_parts, memory_parts, memory_or, parts_or, parts_size, row_parts}
 use Rattle.s390x_typed_steps.specs.Sizes.{instruction_size, tree_size}
-use Rattle.s390x_typed_steps.specs.Tree.{Tree, empty, leaf, prepend}
+use Rattle.s390x_typed_steps.specs.Tree.{Tree, empty, leaf, prepend, Whole}
 use Rattle.s390x_typed_steps.specs.Causes.{Declared, first_emit_cause, unless, aligns_of, declared_in, tree_cause}
 use Rattle.s390x_typed_steps.proofs.Causes.{first_left, first_right, unless_true}
 use Rattle.s390x_address.proofs.Lacking.{size_append}
 use Rattle.s390x_emit_int.specs.Fragments.{StartStep, apply, apply_all}
-use Rattle.s390x_emit_int.specs.Emission.{fragments, own_fragments}
+use Rattle.s390x_emit_int.specs.Emission.{fragments, leaf_fragments, own_fragments}
 use Rattle.s390x_emit_int.specs.Instruction.{emit_cause, is_short}
 use Rattle.s390x_emit_int.specs.Room.{HasRoom, TreePassed}
 use Rattle.s390x_emit_int.proofs.Runs.{leaf_grows, tree_grows}
-use Rattle.s390x_emit_int.proofs.Trees.{prepend_run}
+use Rattle.s390x_emit_int.proofs.Trees.{leaf_own, prepend_run}
 use Rattle.s390x_emit_int.proofs.Imaging.{bytes_run}
 
 row_few : (x : SingleInstruction) (code : Option TrapKind) → parts_size (row_part x.row code ∷ []) ≤ 44
@@ -115,6 +118,23 @@ unfolding length_of
 move_few None = omega arith
 move_few (Some x) = let small = length_small x.row.format in omega (arith, small)
 
+-- elements in reverse order
+reversal_few : (a b c e : Bool) (d n : ℕ) →
+    parts_size (row_parts (rows_or_none (cond a (Some (exchanges_doublewords d n ∷ [])) (cond b (Some (exchanges_doublewords d n ∷ exchanges_halves d 3 32 ∷ [])) (cond c (Some (exchanges_doublewords d n ∷ exchanges_halves d 3 32 ∷ exchanges_halves d 2 16 ∷ [])) (cond e (Some (exchanges_doublewords d n ∷ exchanges_halves d 3 32 ∷ exchanges_halves d 2 16 ∷ exchanges_halves d 1 8 ∷ [])) None)))))) ≤ 44
+unfolding length_of
+reversal_few true b c e d n = omega arith
+reversal_few false true c e d n = omega arith
+reversal_few false false true e d n = omega arith
+reversal_few false false false true d n = omega arith
+reversal_few false false false false d n = omega arith
+
+composite_few : (v : VecInst) → parts_size (row_parts (composite_rows v)) ≤ 44
+unfolding length_of
+composite_few (VecEltRev count rd rn) = reversal_few (nat_eq count 2) (nat_eq count 4) (nat_eq count 8) (nat_eq count 16) (number_of rd) (number_of rn)
+composite_few (VecInt128SCmpHi tmp rn rm) = omega arith
+composite_few (VecInt128UCmpHi tmp rn rm) = omega arith
+composite_few v = move_few (move_under v)
+
 branch_few : (i : Inst) → is_short i ≡ true → parts_size (branch_parts i) ≤ 44
 unfolding length_of
 branch_few (JTSequence ridx other mask targets) h = absurd (cc)
@@ -127,7 +147,7 @@ branch_few (LoadSymbolReloc rd reloc) h = omega arith
 branch_few (Trap code) h = omega arith
 branch_few (TrapIf mask code) h = omega arith
 branch_few Debugtrap h = omega arith
-branch_few (Vector v) h = move_few (move_under v)
+branch_few (Vector v) h = composite_few v
 branch_few i h = omega arith
 
 instruction_few : (i : Inst) → is_short i ≡ true → instruction_size i ≤ 44
@@ -139,7 +159,7 @@ short_resolved state (CondBreak mask) = refl
 short_resolved state i = refl
 
 -- an instruction that is no loop
-short_leaf : (state : Emission) (i : Inst) → is_short i ≡ true → prepend state i empty ≡ leaf (resolved_instruction state i) empty
+short_leaf : (state : Emission) (i : Inst) → is_short i ≡ true → prepend state i empty ≡ leaf (Whole (resolved_instruction state i)) empty
 short_leaf state (Loop' mask body all) h = absurd (cc)
 short_leaf state i h = refl
 
@@ -147,10 +167,11 @@ short_leaf state i h = refl
 pub puts_few : (state : Emission) (i : Inst) (s t : BufferState) → is_short i ≡ true → t ≡ apply_all s (own_fragments (length s.labels) 0 (prepend state i empty)) → length t.bytes ≤ length s.bytes + 44
 puts_few state i s t h e =
     let j = resolved_instruction state i in
-    let is : t ≡ apply_all s (own_fragments (length s.labels) 0 (leaf j empty)) = e ∙ ap (λ x. apply_all s (own_fragments (length s.labels) 0 x)) (short_leaf state i h) in
+    let is : t ≡ apply_all s (own_fragments (length s.labels) 0 (leaf (Whole j) empty)) = e ∙ ap (λ x. apply_all s (own_fragments (length s.labels) 0 x)) (short_leaf state i h) in
+    let alone : t ≡ apply_all s (leaf_fragments (length s.labels) 0 j) = is ∙ sym (leaf_own j s (length s.labels) 0) in
     let g = leaf_grows j s (length s.labels) 0 refl in
     let few = instruction_few j (short_resolved state i ∙ h) in
-    let bytes = ap (λ x. length x.bytes) is in
+    let bytes = ap (λ x. length x.bytes) alone in
     omega (arith, g.bytes, few, bytes)
 
 three_tests : (f : Bool) (c : Option EmitError) (b : Bool) → cond f (Some Failed) (first_emit_cause c (unless b LabelOutOfRange)) ≡ None → (f ≡ false) × (c ≡ None) × (b ≡ true)

@@ -16,7 +16,7 @@ ghost use Rattle.s390x_emit_int.specs.Function.{tree_of};
 ghost use Rattle.s390x_emit_int.specs.Totals.{IsCounted, Adds, code_limit};
 
 use crate::causes::instruction_cause;
-use crate::conditional::composite_size;
+use crate::composite::composite_size;
 use crate::memory::find_memory;
 use crate::single_instruction::find_single_instruction;
 use crate::stack::{advance, end_cause};

@@ -8,7 +8,7 @@ ghost use Rattle.s390x_buffer.specs.State.{put_cause};
 ghost use Rattle.s390x_typed_steps.specs.MachineInstruction.{MachineInstruction, bytes_of, size_of, ri_c};
 ghost use Rattle.s390x_typed_steps.specs.Parts.{Row, row_parts, parts_size};
 ghost use Rattle.s390x_typed_steps.specs.SingleCode.{code_where};
-ghost use Rattle.s390x_typed_steps.specs.VectorComposite.{composite_cause, composite_rows};
+ghost use Rattle.s390x_typed_steps.specs.VectorComposite.{cause_under, move_under, rows_under};
 ghost use Rattle.s390x_emit_int.specs.Fragments.{apply_all};
 ghost use Rattle.s390x_emit_int.specs.Emission.{part_fragments};
 ghost use Rattle.s390x_emit_int.specs.Room.{LacksMemory};
@@ -22,9 +22,9 @@ use s390x_emit_vec::find_move_under;
 use s390x_enc::enc_ri_c;
 use s390x_inst::VecInst;
 
-/// Why a vector instruction of several machine instructions is refused; another one isn't built.
-pub fn composite_cause(inst: &VecInst) -> Option<EmitError>
-    ensures { result ≡ composite_cause inst.now }
+/// Why a move under a condition is refused; another instruction isn't built.
+pub fn move_cause(inst: &VecInst) -> Option<EmitError>
+    ensures { result ≡ cause_under (move_under inst.now) }
 {
     match find_move_under(inst) {
         Some(found) => found_cause(found.code),
@@ -52,8 +52,8 @@ fn is_short(inst: &VecInst) -> bool
 }
 
 /// How many bytes it has; none where it isn't built.
-pub fn composite_size(inst: &VecInst) -> u64
-    ensures value { result ≡ parts_size (row_parts (composite_rows inst.now)) }
+pub fn move_size(inst: &VecInst) -> u64
+    ensures value { result ≡ parts_size (row_parts (rows_under (move_under inst.now))) }
     ensures few { result < 16 }
 {
     let short = is_short(inst);
@@ -81,8 +81,8 @@ fn skip_two(sink: &mut MachBuffer, mask: u8) -> Result<(), EmitError>
     sink.put_code(&code)
 }
 
-// The same over six bytes.
-fn skip_six(sink: &mut MachBuffer, mask: u8) -> Result<(), EmitError>
+/// The same over six bytes.
+pub fn skip_six(sink: &mut MachBuffer, mask: u8) -> Result<(), EmitError>
     requires { mask < 16 }
     ensures answer { OnOk result (sink.new ≡ apply_all sink.old (part_fragments (Row (ri_c 0xa74 mask 5) ∷ []))) }
     ensures lacks { put_cause sink.old 4 ≡ None → LacksMemory result }
@@ -134,10 +134,10 @@ fn emit_under(
     }
 }
 
-/// Emits a vector instruction of several machine instructions.
-pub fn emit_composite(sink: &mut MachBuffer, inst: &VecInst) -> Result<(), EmitError>
-    ensures answer { OnOk result (sink.new ≡ apply_all sink.old (part_fragments (row_parts (composite_rows inst.now)))) }
-    ensures lacks { put_cause sink.old (parts_size (row_parts (composite_rows inst.now))) ≡ None → composite_cause inst.now ≡ None → LacksMemory result }
+/// Emits a move under a condition.
+pub fn emit_move(sink: &mut MachBuffer, inst: &VecInst) -> Result<(), EmitError>
+    ensures answer { OnOk result (sink.new ≡ apply_all sink.old (part_fragments (row_parts (rows_under (move_under inst.now))))) }
+    ensures lacks { put_cause sink.old (parts_size (row_parts (rows_under (move_under inst.now)))) ≡ None → cause_under (move_under inst.now) ≡ None → LacksMemory result }
     ensures kept { Extends sink.old sink.new }
 {
     let short = is_short(inst);

@@ -25,7 +25,7 @@ ghost use Rattle.s390x_typed_steps.specs.Resolved.{resolved_instruction};
 ghost use Rattle.s390x_address.specs.Rows.{memory_instruction_of, in_state, may_encode};
 
 use crate::causes::{branch_cause, outer_cause};
-use crate::conditional::emit_composite;
+use crate::composite::emit_composite;
 use crate::memory::find_memory;
 use crate::single_instruction::find_single_instruction;
 use crate::stops::stop_code;

@@ -1,6 +1,7 @@
 pub mod Powers
 pub mod Building
 pub mod Splitting
+pub mod Reversing
 pub mod Counting
 pub mod LaneTests
 pub mod Signed

@@ -57,4 +57,7 @@ pub mod VectorRows
 pub mod VectorLanes
 pub mod VectorSteps
 pub mod VectorStorage
+pub mod ShortBranches
+pub mod Reversing
+pub mod WideComparing
 pub mod VectorComposites

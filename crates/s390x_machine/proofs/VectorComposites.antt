@@ -1,33 +1,32 @@
 -- The steps of vector instructions that are several machine instructions.
-use Rattle.std.proofs.Common.{◌≡◌, ℕ, zero, suc, ◌+◌, ◌-◌, ◌/◌, ◌%◌, ◌^◌, ◌<◌, ℤ, pos, [], ◌∷◌, Option, Some, None, Bool, true, false, cond, ◌&&◌, not, refl, sym, ap, ◌∙◌, subst, arith, nat_lt, nat_eq, ltb-true, true≢false}
-use Rattle.std.specs.Prelude.{◌+ℤ◌, ◌*ℤ◌}
+use Rattle.std.proofs.Common.{◌≡◌, ℕ, zero, suc, ◌+◌, ◌-◌, ◌/◌, ◌%◌, ◌^◌, ◌<◌, pos, [], ◌∷◌, Option, Some, None, Bool, true, false, cond, ◌&&◌, not, refl, sym, ap, ◌∙◌, subst, arith, nat_lt, nat_eq, ltb-true, true≢false}
+use Rattle.std.specs.Prelude.{◌*ℤ◌}
 use Rattle.std.specs.Int.{w16, cast_signed}
 use Rattle.std.proofs.lemmas.Bool.{and_parts}
 use Rattle.s390x_base.specs.Regs.{number_of}
 use Rattle.s390x_base.specs.declared.error.EmitError.TheVariants.{BadOperator, BadRegister}
 use Rattle.s390x_base.specs.declared.regs.Reg.{Reg}
 use Rattle.s390x_inst.specs.declared.vec_inst.VecInst.{VecInst}
-use Rattle.s390x_inst.specs.declared.vec_inst.VecInst.TheVariants.{FpuCMov32, FpuCMov64, VecCMov}
+use Rattle.s390x_inst.specs.declared.vec_inst.VecInst.TheVariants.{FpuCMov32, FpuCMov64, VecCMov, VecEltRev, VecInt128SCmpHi, VecInt128UCmpHi}
 use Rattle.s390x_inst.specs.declared.vec_inst.VecInst.TheVariants.{VecLoad, VecLoadRev, VecLoadByte16Rev, VecLoadByte32Rev, VecLoadByte64Rev, VecLoadElt16Rev, VecLoadElt32Rev, VecLoadElt64Rev, VecStore, VecStoreRev, VecStoreByte16Rev, VecStoreByte32Rev, VecStoreByte64Rev, VecStoreElt16Rev, VecStoreElt32Rev, VecStoreElt64Rev}
 use Rattle.s390x_inst.specs.declared.vec_inst.VecInst.TheVariants.{VecLoadReplicate, VecLoadReplicateRev, VecLoadLane, VecLoadLaneRev, VecLoadLaneUndef, VecLoadLaneRevUndef, VecStoreLane, VecStoreLaneRev}
-use Rattle.s390x_format.specs.declared.kind.FormatKind.TheVariants.{Rr, RiC}
+use Rattle.s390x_format.specs.declared.kind.FormatKind.TheVariants.{Rr}
 use Rattle.s390x_format.specs.declared.row.Allowed.TheVariants.{Any}
 use Rattle.s390x_format.specs.Formats.{length_of}
+use Rattle.s390x_lanes.specs.declared.operation.Signedness.TheVariants.{Signed, Unsigned}
 use Rattle.s390x_lanes.specs.declared.operation.VectorOperation.TheVariants as O
 use Rattle.s390x_lanes.specs.declared.size.ElementSize.{ElementSize}
 use Rattle.s390x_lanes.specs.declared.size.ElementSize.TheVariants.{Halfword, Word, Doubleword, Quadword}
 use Rattle.s390x_operations.specs.Access.{Untouched}
 use Rattle.s390x_operations.specs.Effects.{Refines, MayRefuse, access, is_selected, refused}
-use Rattle.s390x_operations.specs.Numbers.{low}
 use Rattle.s390x_operations.specs.State.{Registers, wrapping_add64}
 use Rattle.s390x_operations.specs.declared.effect.Operation.{Operation}
 use Rattle.s390x_operations.specs.declared.effect.VectorLayout.{VectorLayout}
-use Rattle.s390x_operations.specs.declared.size.Size.TheVariants as Size
 use Rattle.s390x_operations.specs.declared.stop.ConditionCode.{ConditionCode}
 use Rattle.s390x_operations.specs.declared.stop.ConditionCode.TheVariants.{Code0, Code1, Code2, Code3}
 use Rattle.s390x_operations.specs.declared.stop.StopKind.{StopKind}
 use Rattle.s390x_typed_steps.specs.General.{four_bits}
-use Rattle.s390x_typed_steps.specs.MachineInstruction.{MachineInstruction, bytes_of, size_of, ri_c, rr, vrr_a}
+use Rattle.s390x_typed_steps.specs.MachineInstruction.{MachineInstruction, size_of, ri_c, rr, vrr_a}
 use Rattle.s390x_typed_steps.specs.Memory.{access_elements, vector_memory}
 use Rattle.s390x_typed_steps.specs.Parts.{Row, memory_or, parts_or, row_parts, step_parts}
 use Rattle.s390x_typed_steps.specs.SingleInstruction.{SingleInstruction, single_with}
@@ -37,29 +36,30 @@ use Rattle.s390x_typed_steps.specs.VectorInstruction.{divides, is_vector, move_l
 use Rattle.s390x_machine.specs.declared.semantics.Action.TheVariants.{Perform, Branch}
 use Rattle.s390x_machine.specs.declared.semantics.RowSemantics.TheVariants.{MoveLeft}
 use Rattle.s390x_machine.specs.declared.semantics.VectorStorage.TheVariants as Storage
-use Rattle.s390x_machine.specs.CodeAt.{AllCodeAt, OperandsValidOr, ValidMemoryOr}
+use Rattle.s390x_machine.specs.CodeAt.{OperandsValidOr, ValidMemoryOr}
 use Rattle.s390x_machine.specs.Layout.{Layout, step_address}
-use Rattle.s390x_machine.specs.Machine.{ActionStep}
 use Rattle.s390x_machine.specs.OneStep.{StepRuns}
-use Rattle.s390x_machine.specs.Semantics.{left_bits, semantics_in, semantics_of}
-use Rattle.s390x_machine.specs.StepKinds.{PerformsWhere, kind_or, on_vectors, performed_by, where_kind}
+use Rattle.s390x_machine.specs.Semantics.{left_bits}
+use Rattle.s390x_machine.specs.StepKinds.{PerformsWhere, composite_kind, kind_or, on_vectors, performed_by}
 use Rattle.s390x_machine.specs.Storage.{vector_operand_step}
 use Rattle.s390x_machine.specs.Typed.{kind_of_step}
-use Rattle.s390x_machine.specs.VectorSteps.{computes_one_vector, conditional_operation, moves_left, vector_operation}
-use Rattle.s390x_machine.proofs.Addresses.{moved, sum_more}
+use Rattle.s390x_machine.specs.VectorSteps.{computes_one_vector, moves_left, vector_operation}
+use Rattle.s390x_machine.proofs.Addresses.{sum_more}
 use Rattle.s390x_machine.proofs.Built.{StepAt, exactly, size_as, stand_as, step_even, step_form}
 use Rattle.s390x_machine.proofs.Composites.{where_runs}
-use Rattle.s390x_machine.proofs.Fetching.{StandsAt, row_at}
 use Rattle.s390x_machine.proofs.Listing.{Meant, few_digits}
-use Rattle.s390x_machine.proofs.Rows.{brc_listed, fits_ri_c, fits_rr}
+use Rattle.s390x_machine.proofs.Rows.{fits_rr}
+use Rattle.s390x_machine.proofs.Reversing.{reversal_runs}
+use Rattle.s390x_machine.proofs.ShortBranches.{brc_at}
 use Rattle.s390x_machine.proofs.Simulation.{RowAt}
 use Rattle.s390x_machine.proofs.SingleInstruction.{DoesThere, meant_at}
 use Rattle.s390x_machine.proofs.Standing.{inside_at, inside_first, next_place}
-use Rattle.s390x_machine.proofs.VectorRows.{elements_listed, fits_vrr_a, ldr_row, ler_row, move_row}
-use Rattle.s390x_machine.proofs.VectorSteps.{elements_computed, moves_alone, no_third, two_vectors, reused_vector, vector_instruction_runs, vector_number, vector_there}
+use Rattle.s390x_machine.proofs.VectorRows.{compare_signed_row, compare_unsigned_row, elements_listed, fits_vrr_a, ldr_row, ler_row, move_row}
+use Rattle.s390x_machine.proofs.VectorSteps.{elements_computed, moves_alone, no_third, three_vectors, two_vectors, reused_vector, vector_instruction_runs, vector_number, vector_there}
+use Rattle.s390x_machine.proofs.WideComparing.{wide_runs}
 use Rattle.s390x_machine.proofs.VectorStorage.{load_alone_runs, load_lane_runs, load_reversed_alone_runs, load_reversed_bytes, load_reversed_elements, load_reversed_runs, load_whole, loads_runs, replicated_runs, reversed_replicated_runs, store_lane_runs, store_reversed_bytes, store_reversed_elements, store_reversed_runs, store_whole, stores_runs}
 
--- ---- a branch over a row
+-- ---- the codes of a branch over a row
 
 -- of two digits one is set
 other_digit : (a b : ℕ) → a + b ≡ 1 → nat_eq a 1 ≡ not (nat_eq b 1)
@@ -76,15 +76,6 @@ inverts mask lt Code0 = other_digit ((15 - mask) / 8 % 2) (mask / 8 % 2) (omega 
 inverts mask lt Code1 = other_digit ((15 - mask) / 4 % 2) (mask / 4 % 2) (omega (arith, lt))
 inverts mask lt Code2 = other_digit ((15 - mask) / 2 % 2) (mask / 2 % 2) (omega (arith, lt))
 inverts mask lt Code3 = other_digit ((15 - mask) % 2) (mask % 2) (omega (arith, lt))
-
--- so many bytes on, of an instruction's own place
-brc_at : (L : Layout) → AllCodeAt L → (offset : ℕ) → offset % 2 ≡ 0 → (mask half distance : ℕ) → mask < 16 → half < 2 ^ 16 → pos 2 *ℤ cast_signed w16 (half % 2 ^ 16) ≡ pos distance → StandsAt L.image offset (bytes_of (ri_c 0xa74 mask half)) →
-    RowAt L (wrapping_add64 L.image.base offset) (λ r. Branch mask (wrapping_add64 (wrapping_add64 L.image.base offset) distance)) (length_of RiC)
-unfolding semantics_in semantics_of
-brc_at L all offset even mask half distance lm lh e s =
-    let here = wrapping_add64 L.image.base offset in
-    row_at L offset (ri_c 0xa74 mask half) (λ r. Branch mask (wrapping_add64 here distance)) all.even even all.fits s (fits_ri_c 0xa74 mask half (omega arith) lm lh) (brc_listed mask half) (λ state event t at h.
-    subst (λ a. ActionStep (Branch mask a) (length_of RiC) state event t) (ap (λ p. low Size.Doubleword (pos p +ℤ pos 2 *ℤ cast_signed w16 (half % 2 ^ 16))) at ∙ ap (λ z. low Size.Doubleword (pos here +ℤ z)) e ∙ moved here distance) h)
 
 -- ---- moves under a condition
 
@@ -159,11 +150,18 @@ moved_registers rd ri rm h = go (reuses_vector rd ri && is_vector rm) refl h
         let q = and_parts (is_vector rd && is_vector ri) (nat_eq (number_of rd) (number_of ri)) p.0 in
         ((two_vectors rd ri q.0).0, vector_number rm p.1)
 
+compared_registers : (tmp rn rm : Reg) → cond (is_vector tmp && is_vector rn && is_vector rm) None (Some BadRegister) ≡ None → (number_of tmp < 32) × (number_of rn < 32) × (number_of rm < 32)
+compared_registers tmp rn rm h = go (is_vector tmp && is_vector rn && is_vector rm) refl h
+  where
+    go : (t : Bool) → (is_vector tmp && is_vector rn && is_vector rm) ≡ t → cond t None (Some BadRegister) ≡ None → (number_of tmp < 32) × (number_of rn < 32) × (number_of rm < 32)
+    go false e h = absurd (cc)
+    go true e h = three_vectors tmp rn rm e
+
 -- a step that is a vector instruction: one machine instruction, an access, or several machine instructions
 abbrev pub IsAnyVectorStep : Layout → Step → VecInst → Type 0
 IsAnyVectorStep L s v =
     let single = single_with (vector_operands_valid v) (vector_row v) in
-    (kind_of_step L (Some s) ≡ Some (kind_or (on_vectors (divides v) (vector_operation v)) (kind_or (performed_by L (vector_operand_step v)) (where_kind (conditional_operation v)))))
+    (kind_of_step L (Some s) ≡ Some (kind_or (on_vectors (divides v) (vector_operation v)) (kind_or (performed_by L (vector_operand_step v)) (composite_kind v))))
     × (step_parts s ≡ parts_or single (vector_stop v) (memory_or (vector_memory v) (row_parts (composite_rows v))))
     × OperandsValidOr single (ValidMemoryOr L (vector_memory v) (composite_cause v ≡ None))
 
@@ -175,6 +173,9 @@ any_vector_runs b (VecCMov rd mask ri rm) is =
     let n = number_of rm in
     let few = moved_registers rd ri rm is.2 in
     skipped_vector b (four_bits mask) d n (computes_one_vector O.Move d n) is.0 is.1 (omega arith) few.0 few.1 (λ r. no_third O.Move refl d (r.vector d) (r.vector n) (r.vector 0) (r.vector 0)) (λ r. refl) (λ r. refl) (λ r kind h. true≢false (sym h.1))
+any_vector_runs b (VecEltRev count rd rn) is = reversal_runs b count (number_of rd) (number_of rn) (is_vector rd && is_vector rn) (two_vectors rd rn) is
+any_vector_runs b (VecInt128SCmpHi tmp rn rm) is = wide_runs b 0xe7db Signed (number_of tmp) (number_of rn) (number_of rm) (compare_signed_row (number_of rm) (number_of rn)) (compared_registers tmp rn rm is.2) is.0 is.1
+any_vector_runs b (VecInt128UCmpHi tmp rn rm) is = wide_runs b 0xe7d9 Unsigned (number_of tmp) (number_of rn) (number_of rm) (compare_unsigned_row (number_of rm) (number_of rn)) (compared_registers tmp rn rm is.2) is.0 is.1
 any_vector_runs b (VecLoad rd mem) is = loads_runs b Storage.Whole VectorLayout.Whole 0xe706 0 0 0 load_whole (omega arith) (is_vector rd) (number_of rd) refl (λ base index n. refl) (vector_number rd) mem is
 any_vector_runs b (VecLoadRev rd mem) is = loads_runs b Storage.ReversedBytes (VectorLayout.ReversedBytes Quadword) 0xe606 4 1 4 load_reversed_bytes (omega arith) (is_vector rd) (number_of rd) refl (λ base index n. refl) (vector_number rd) mem is
 any_vector_runs b (VecLoadByte16Rev rd mem) is = loads_runs b Storage.ReversedBytes (VectorLayout.ReversedBytes Halfword) 0xe606 1 1 4 load_reversed_bytes (omega arith) (is_vector rd) (number_of rd) refl (λ base index n. refl) (vector_number rd) mem is

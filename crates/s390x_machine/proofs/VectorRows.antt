@@ -22,8 +22,9 @@ use Rattle.s390x_format.specs.Layout.{SlotsFit}
 use Rattle.s390x_format.specs.View.{fields_of, disp_of}
 use Rattle.s390x_lanes.specs.Opcodes.{operation_of, row_in, with_immediate, immediate_bits}
 use Rattle.s390x_lanes.specs.declared.operation.VectorOperation.{VectorOperation}
-use Rattle.s390x_lanes.specs.declared.operation.VectorOperation.TheVariants.{Select, Permute, Blend, Move, Evaluate, PermuteDoublewords, ByteMask, ReplicateImmediate, BitMask, Replicate, InsertImmediate}
+use Rattle.s390x_lanes.specs.declared.operation.VectorOperation.TheVariants.{Select, Permute, Blend, Move, Evaluate, PermuteDoublewords, ByteMask, ReplicateImmediate, BitMask, Replicate, InsertImmediate, CompareElement}
 use Rattle.s390x_lanes.specs.declared.operation.VectorOperation.TheVariants as O
+use Rattle.s390x_lanes.specs.declared.operation.Signedness.TheVariants.{Signed, Unsigned}
 use Rattle.s390x_lanes.specs.declared.opcodes.TheConstants.{OPCODES}
 use Rattle.s390x_lanes.specs.declared.size.ElementSize.{ElementSize}
 use Rattle.s390x_lanes.specs.declared.size.ElementSize.TheVariants.{Byte, Halfword, Word, Doubleword, Quadword}
@@ -199,6 +200,15 @@ element_rows op n m = record { is = agrees op }
     agrees E.UCmp128 = refl
 
 -- ---- rows of one opcode
+
+-- a comparison of the leftmost doublewords, with a sign or without
+pub compare_signed_row : (n m : ℕ) → ElementsRow 3 (vrr_a 0xe7db n m 3) (CompareElement Signed Doubleword)
+unfolding machine_rows row_for semantics_in semantics_of operation_of row_in
+compare_signed_row n m = record { is = refl }
+
+pub compare_unsigned_row : (n m : ℕ) → ElementsRow 3 (vrr_a 0xe7d9 n m 3) (CompareElement Unsigned Doubleword)
+unfolding machine_rows row_for semantics_in semantics_of operation_of row_in
+compare_unsigned_row n m = record { is = refl }
 
 pub select_row : (d n m a : ℕ) → ElementsRow 0 (vrr_e 0xe78d d n m a) Select
 unfolding machine_rows row_for semantics_in semantics_of operation_of row_in

@@ -9,6 +9,10 @@ use Rattle.s390x_inst.specs.declared.inst.Inst.{Inst}
 use Rattle.s390x_inst.specs.declared.inst.Inst.TheVariants.{AluRRR, AluRR, AluRRSImm16, AluRSImm16, AluRSImm32, AluRUImm32, AluRUImm16Shifted, AluRUImm32Shifted, SMulWide, UMulWide, Flogr, ShiftRR, RxSBG, RxSBGTest, UnaryRR, CmpRR, CmpRSImm16, CmpRSImm32, CmpRUImm32}
 use Rattle.s390x_inst.specs.declared.inst.Inst.TheVariants.{Mov64, MovPReg, Mov32, Mov32Imm, Mov32SImm16, Mov64SImm16, Mov64SImm32, Mov64UImm16Shifted, Mov64UImm32Shifted, Insert64UImm16Shifted, Insert64UImm32Shifted, CMov32, CMov64, CMov32SImm16, CMov64SImm16, Extend, LoadAR, InsertAR, LoadIndexedAddr, LoadLogicalIndexedAddr, Fence, Nop0, Nop2}
 use Rattle.s390x_inst.specs.declared.inst.Inst.TheVariants.{Jump, CondBr, IndirectBr, Ret, JTSequence, LabelAddress, LoadSymbolReloc, Trap, TrapIf, Debugtrap, SDivMod32, SDivMod64, UDivMod32, UDivMod64, CmpTrapRR, CmpTrapRSImm16, CmpTrapRUImm16, AllocateArgs, Args, Rets, DummyUse, SequencePoint}
+use Rattle.s390x_inst.specs.declared.vec_inst.VecInst.{VecInst}
+use Rattle.s390x_inst.specs.declared.vec_inst.VecInst.TheVariants.{VecInt128SCmpHi, VecInt128UCmpHi}
+use Rattle.s390x_lanes.specs.declared.operation.Signedness.{Signedness}
+use Rattle.s390x_lanes.specs.declared.operation.Signedness.TheVariants.{Signed, Unsigned}
 use Rattle.s390x_operations.specs.State.{Registers}
 use Rattle.s390x_operations.specs.declared.operator.Operator.TheVariants.{Move}
 use Rattle.s390x_operations.specs.declared.size.Size.TheVariants.{Word, Doubleword}
@@ -48,6 +52,8 @@ pub data StepKind : Type 0 where
   GoesByTable : (index mask other : ℕ) → (targets : List MachLabel) → StepKind
   -- an operation where the mask selects the condition code, else nothing
   PerformsWhere : (mask : ℕ) → (operation : Registers → Operation) → StepKind
+  -- a comparison of vector registers n and m as numbers of 128 bits, which sets the condition code. Register `tmp` may have any value after it
+  ComparesWide : (sign : Signedness) → (tmp n m : ℕ) → StepKind
   -- a return to the address in a register
   Returns : (link : ℕ) → StepKind
   -- a call of an address; the link register gets the address of the next step
@@ -190,6 +196,12 @@ abbrev pub where_kind : Option ConditionalOperation → StepKind
 where_kind None = Unsupported
 where_kind (Some x) = PerformsWhere x.mask x.operation
 
+-- a vector instruction that is several operations
+abbrev pub composite_kind : VecInst → StepKind
+composite_kind (VecInt128SCmpHi tmp rn rm) = ComparesWide Signed (number_of tmp) (number_of rn) (number_of rm)
+composite_kind (VecInt128UCmpHi tmp rn rm) = ComparesWide Unsigned (number_of tmp) (number_of rn) (number_of rm)
+composite_kind v = where_kind (conditional_operation v)
+
 -- one that goes elsewhere or ends the run, or is several operations
 abbrev pub branch_kind : Inst → StepKind
 branch_kind (Jump dest) = GoesTo dest.0
@@ -205,7 +217,7 @@ branch_kind SequencePoint = Silent
 branch_kind (Trap code) = TrapsAlways code
 branch_kind (TrapIf mask code) = TrapsWhere mask code
 branch_kind Debugtrap = DebugStops
-branch_kind (Vector v) = where_kind (conditional_operation v)
+branch_kind (Vector v) = composite_kind v
 branch_kind _ = Unsupported
 
 -- an instruction that is one operation performs it; another one has its own kind

@@ -1,16 +1,20 @@
 -- The typed steps: where they may go, and when they are wrong (cranelift-codegen, `emit.rs`).
-use Rattle.std.specs.Prelude.{◌≡◌, ℕ, suc, ◌/◌, ◌%◌, List, Option, Some, None, Bool, true, false, ◌==◌, if◌then◌else◌, slice_get, IsTrue}
+use Rattle.std.specs.Prelude.{◌≡◌, ℕ, suc, ◌/◌, ◌%◌, List, Option, Some, None, Bool, true, false, ◌==◌, if◌then◌else◌, slice_get, IsTrue, nat_lt}
 use Rattle.s390x_base.specs.declared.ir.MachLabel.{MachLabel}
 use Rattle.s390x_base.specs.declared.trap.TrapKind.{TrapKind}
 use Rattle.s390x_typed_steps.specs.Steps.{Step}
-use Rattle.s390x_operations.specs.State.{Registers, Core, set_general, with_code, CodeImage, StoreEvent}
+use Rattle.s390x_lanes.specs.Elements.{is_lower}
+use Rattle.s390x_lanes.specs.Lanes.{lane}
+use Rattle.s390x_lanes.specs.declared.operation.Signedness.{Signedness}
+use Rattle.s390x_operations.specs.State.{Registers, Core, set_general, set_vector, with_code, CodeImage, StoreEvent}
 use Rattle.s390x_operations.specs.Access.{store_event, fault, stores_into}
 use Rattle.s390x_operations.specs.Effects.{access, is_selected, MayExecute, MayInterrupt}
 use Rattle.s390x_operations.specs.declared.stop.StopKind.{StopKind}
 use Rattle.s390x_operations.specs.declared.stop.ConditionCode.{ConditionCode}
+use Rattle.s390x_operations.specs.declared.stop.ConditionCode.TheVariants.{Code1, Code2, Code3}
 use Rattle.s390x_operations.specs.declared.effect.Operation.{Operation}
 use Rattle.s390x_machine.specs.Layout.{Layout, step_address, block_address}
-use Rattle.s390x_machine.specs.StepKinds.{StepKind, Performs, GoesTo, Chooses, GoesByAddress, Leads, GoesByTable, PerformsWhere, Returns, Calls, TailCalls, TrapsAlways, TrapsWhere, DebugStops, Silent, Unsupported, step_kind}
+use Rattle.s390x_machine.specs.StepKinds.{StepKind, Performs, GoesTo, Chooses, GoesByAddress, Leads, GoesByTable, PerformsWhere, ComparesWide, Returns, Calls, TailCalls, TrapsAlways, TrapsWhere, DebugStops, Silent, Unsupported, step_kind}
 
 -- how a run ends
 pub data Ending : Type 0 where
@@ -63,6 +67,13 @@ abbrev pub WhereStep : Bool → Operation → ℕ → Core → Position → Core
 WhereStep true op k c position t = (position ≡ At (suc k)) × MayExecute op c t
 WhereStep false op k c position t = (position ≡ At (suc k)) × (t ≡ c)
 
+-- the condition code of a comparison of x with y, of 128 bits: 1 where the left doubleword of x is greater, 2 where it is lower. Where the left ones are
+-- equal the right ones, without a sign, tell: 1 where that of x is greater, else 3
+abbrev pub wide_order : Signedness → (x y : ℕ) → ConditionCode
+wide_order sign x y =
+    if is_lower sign 64 (lane 64 y 0) (lane 64 x 0) then Code1 else (if is_lower sign 64 (lane 64 x 0) (lane 64 y 0) then Code2
+    else (if nat_lt (lane 64 y 1) (lane 64 x 1) then Code1 else Code3))
+
 -- a step of number k of a kind
 abbrev pub KindStep : Layout → Option StepKind → ℕ → Core → Position → Core → Type 0
 KindStep L None k c position t = ⊥
@@ -74,6 +85,8 @@ KindStep L (Some (Leads mask j)) k c position t = (position ≡ (if is_selected 
 KindStep L (Some (GoesByTable index mask other targets)) k c position t =
     TableStep L (is_selected mask c.registers.code) (table_target (c.registers.general index) targets) other c position t
 KindStep L (Some (PerformsWhere mask operation)) k c position t = WhereStep (is_selected mask c.registers.code) (operation c.registers) k c position t
+KindStep L (Some (ComparesWide sign tmp n m)) k c position t =
+    (v : ℕ) × (position ≡ At (suc k)) × (t ≡ record { registers = with_code (wide_order sign (c.registers.vector n) (c.registers.vector m)) (set_vector c.registers tmp v); memory = c.memory })
 KindStep L (Some (Returns r)) k c position t = (position ≡ Ended (Returned (c.registers.general r))) × (t ≡ c)
 KindStep L (Some (Calls link target)) k c position t =
     (position ≡ Ended (Called (target c.registers))) × (t ≡ record { registers = set_general c.registers link (step_address L (suc k)); memory = c.memory })

@@ -1,10 +1,10 @@
 -- What vector instructions on registers and immediates do (cranelift-codegen, `inst.isle`). An operation on vectors has four operands, its own old value
 -- first; 0 stands for those that it doesn't take.
-use Rattle.std.specs.Prelude.{ℕ, ◌+◌, ◌*◌, ◌%◌, ◌^◌, ◌-◌, pos, true, false, cond, if◌then◌else◌, nat_eq, nat_lt, Option, Some, None}
+use Rattle.std.specs.Prelude.{ℕ, ◌+◌, ◌*◌, ◌/◌, ◌%◌, ◌^◌, ◌-◌, pos, true, false, cond, if◌then◌else◌, nat_eq, nat_lt, Option, Some, None}
 use Rattle.s390x_base.specs.Regs.{number_of}
 use Rattle.s390x_inst.specs.declared.vec_inst.VecInst.{VecInst}
 use Rattle.s390x_inst.specs.declared.vec_inst.VecInst.TheVariants.{VecRRR, VecRR, VecSelect, VecPermute, VecBlend, VecIntCmp, VecIntCmpS, VecIntEltCmp, VecMov, VecShiftRR, VecEvaluate, VecPermuteDWImm, MovToVec128, VecImmByteMask, VecImmReplicate, VecImmBitMask, VecReplicateLane, VecInsertLaneImm, VecInsertLaneImmUndef, VecInsertLane, VecInsertLaneUndef, VecExtractLane, FpuMove32, FpuMove64}
-use Rattle.s390x_inst.specs.declared.vec_inst.VecInst.TheVariants.{FpuCMov32, FpuCMov64, VecCMov}
+use Rattle.s390x_inst.specs.declared.vec_inst.VecInst.TheVariants.{FpuCMov32, FpuCMov64, VecCMov, VecEltRev}
 use Rattle.s390x_lanes.specs.declared.operation.ShiftOperator.{ShiftOperator}
 use Rattle.s390x_lanes.specs.declared.operation.VectorOperation.{VectorOperation}
 use Rattle.s390x_lanes.specs.declared.operation.VectorOperation.TheVariants.{Select, Permute, Blend, Move, ShiftElements, Evaluate, PermuteDoublewords, ByteMask, ReplicateImmediate, BitMask, Replicate, InsertImmediate}
@@ -14,7 +14,7 @@ use Rattle.s390x_lanes.specs.Size.{element_bits, lane_count}
 use Rattle.s390x_lanes.specs.declared.size.ElementSize.{ElementSize}
 use Rattle.s390x_lanes.specs.declared.size.ElementSize.TheVariants.{Byte, Halfword, Word, Doubleword}
 use Rattle.s390x_operations.specs.State.{Registers}
-use Rattle.s390x_operations.specs.Vectors.{loaded}
+use Rattle.s390x_operations.specs.Vectors.{loaded, with_reversed_elements}
 use Rattle.s390x_operations.specs.declared.effect.VectorLayout.{VectorLayout}
 use Rattle.s390x_operations.specs.declared.operator.Operator.TheVariants as Operator
 use Rattle.s390x_operations.specs.declared.effect.CodeRule.TheVariants.{Kept, Set}
@@ -94,6 +94,10 @@ extracts_lane size d n base displacement r =
 abbrev pub moves_left : ElementSize → (d n : ℕ) → Registers → Operation
 moves_left size d n r = with_rule Kept (Effect.PutVector d (left_bits size) (r.vector n))
 
+-- vector register d becomes n with its elements in reverse order
+abbrev pub reverses_elements : ElementSize → (d n : ℕ) → Registers → Operation
+reverses_elements size d n r = with_rule Kept (Effect.PutVector d all_bits (with_reversed_elements size (r.vector n)))
+
 -- the instructions that are one operation
 abbrev pub vector_operation : VecInst → Option (Registers → Operation)
 vector_operation (VecRRR op rd rn rm) = Some (computes_two_vectors (binary_operation op) (number_of rd) (number_of rn) (number_of rm))
@@ -120,6 +124,7 @@ vector_operation (VecInsertLaneUndef size rd rn lane base) = Some (inserts_lane_
 vector_operation (VecExtractLane size rd rn lane base) = Some (extracts_lane (elements_of size) (number_of rd) (number_of rn) (number_of base) lane)
 vector_operation (FpuMove32 rd rn) = Some (moves_left Word (number_of rd) (number_of rn))
 vector_operation (FpuMove64 rd rn) = Some (moves_left Doubleword (number_of rd) (number_of rn))
+vector_operation (VecEltRev count rd rn) = Some (reverses_elements (elements_of (128 / count)) (number_of rd) (number_of rn))
 vector_operation _ = None
 
 -- an operation that is done where the mask selects the condition code

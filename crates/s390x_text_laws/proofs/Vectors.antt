@@ -1,5 +1,5 @@
 -- A vector instruction that emission lets pass has a text.
-use Rattle.std.proofs.Common.{◌≡◌, inr, ℕ, ◌*◌, Bool, true, false, Option, Some, None, List, refl, ap, ◌∙◌, is_some, ◌&&◌, arith}
+use Rattle.std.proofs.Common.{◌≡◌, inr, ℕ, ◌*◌, Bool, true, false, Option, Some, None, List, [], refl, ap, ◌∙◌, is_some, ◌&&◌, arith}
 use Rattle.std.proofs.lemmas.Bool.{and_parts, eqb-true, ltb-true}
 use Rattle.std.specs.Prelude.{cond, nat_eq, nat_lt, codes}
 use Rattle.s390x_base.specs.Regs.{number_of}
@@ -7,7 +7,7 @@ use Rattle.s390x_base.specs.declared.error.EmitError.{EmitError}
 use Rattle.s390x_base.specs.declared.error.EmitError.TheVariants.{BadOperator}
 use Rattle.s390x_inst.specs.Emission.{Emission}
 use Rattle.s390x_inst.specs.declared.vec_inst.VecInst.{VecInst}
-use Rattle.s390x_inst.specs.declared.vec_inst.VecInst.TheVariants.{VecPermuteDWImm, VecImmReplicate, VecImmBitMask, VecReplicateLane, VecInsertLaneImm, VecInsertLaneImmUndef, VecInsertLane, VecInsertLaneUndef, VecExtractLane, FpuCMov32, FpuCMov64, VecCMov}
+use Rattle.s390x_inst.specs.declared.vec_inst.VecInst.TheVariants.{VecPermuteDWImm, VecImmReplicate, VecImmBitMask, VecReplicateLane, VecInsertLaneImm, VecInsertLaneImmUndef, VecInsertLane, VecInsertLaneUndef, VecExtractLane, FpuCMov32, FpuCMov64, VecCMov, VecEltRev, VecInt128SCmpHi, VecInt128UCmpHi}
 use Rattle.s390x_inst.specs.declared.vec_inst.VecInst.TheVariants.{VecLoad, VecLoadRev, VecLoadByte16Rev, VecLoadByte32Rev, VecLoadByte64Rev, VecLoadElt16Rev, VecLoadElt32Rev, VecLoadElt64Rev, VecStore, VecStoreRev, VecStoreByte16Rev, VecStoreByte32Rev, VecStoreByte64Rev, VecStoreElt16Rev}
 use Rattle.s390x_inst.specs.declared.vec_inst.VecInst.TheVariants.{VecStoreElt32Rev, VecStoreElt64Rev, VecLoadReplicate, VecLoadReplicateRev, VecLoadLane, VecLoadLaneRev, VecLoadLaneUndef, VecLoadLaneRevUndef, VecStoreLane, VecStoreLaneRev}
 use Rattle.s390x_typed_steps.specs.Causes.{Declared, cause_or, memory_cause_or}
@@ -16,7 +16,7 @@ use Rattle.s390x_typed_steps.specs.Memory.{load_lane_opcode, load_reversed_opcod
 use Rattle.s390x_typed_steps.specs.Operands.{resolved}
 use Rattle.s390x_typed_steps.specs.Resolved.{resolved_vector}
 use Rattle.s390x_typed_steps.specs.SingleInstruction.{single_with}
-use Rattle.s390x_typed_steps.specs.VectorComposite.{composite_cause}
+use Rattle.s390x_typed_steps.specs.VectorComposite.{composite_cause, rows_cause}
 use Rattle.s390x_typed_steps.specs.VectorInstruction.{bit_mask_row, element_code, is_float_doubleword, is_lane, is_vector, lane_row, replicate_row, reuses_vector, vector_operands_valid, vector_row}
 use Rattle.s390x_text.specs.Texts.{fixed, row}
 use Rattle.s390x_text.specs.Vector.{is_float_lane, lane_name, mask_name, vector_text}
@@ -104,6 +104,14 @@ has_text e (VecExtractLane size rd rn lane base) h =
     either (is_float_lane size rn lane base) _ _ _ (alone_named _ _ _ _ _ _ size (number_of rn) (number_of base) lane _ refl h)
 has_text e v h = cc
 
+-- elements in reverse order, by tests of their count
+reversal_fine : (a b c d valid : Bool) (p q r s : List ℕ) (w x y z : List MachineInstruction) → rows_cause (cond a (Some w) (cond b (Some x) (cond c (Some y) (cond d (Some z) None)))) valid ≡ None → (cond a (fixed p) (cond b (fixed q) (cond c (fixed r) (cond d (fixed s) (row None []))))).cause ≡ None
+reversal_fine true b c d valid p q r s w x y z h = refl
+reversal_fine false true c d valid p q r s w x y z h = refl
+reversal_fine false false true d valid p q r s w x y z h = refl
+reversal_fine false false false true valid p q r s w x y z h = refl
+reversal_fine false false false false valid p q r s w x y z h = absurd (cc)
+
 found : (valid : Bool) (o : Option MachineInstruction) (c : EmitError) → cause_or (single_with valid o) (Some c) ≡ None → is_some o ≡ true
 found valid None c h = absurd (cc)
 found valid (Some m) c h = refl
@@ -138,8 +146,11 @@ vector_fine e D (VecLoadLaneUndef size rd mem lane) h m =
     left_lane_fine D (codes "vleb") (codes "vleh") (codes "vlef") (codes "vleg") rd 0x78 0xed64 0x68 0xed65 load_lane_opcode size lane (resolved e mem) BadOperator _ _ _ h m (λ fine. (address_fine _ fine, address_fine _ fine)) refl
 vector_fine e D (VecStoreLane size rd mem lane) h m =
     left_lane_fine D (codes "vsteb") (codes "vsteh") (codes "vstef") (codes "vsteg") rd 0x70 0xed66 0x60 0xed67 store_lane_opcode size lane (resolved e mem) BadOperator _ _ _ h m (λ fine. (address_fine _ fine, address_fine _ fine)) refl
--- moves under a condition, and a comparison that isn't built, have a text at any values
+-- moves under a condition and comparisons have a text at any values, elements in reverse order at the counts that have machine instructions
 vector_fine e D (FpuCMov32 rd mask ri rm) h m = refl
 vector_fine e D (FpuCMov64 rd mask ri rm) h m = refl
 vector_fine e D (VecCMov rd mask ri rm) h m = refl
+vector_fine e D (VecInt128SCmpHi tmp rn rm) h m = refl
+vector_fine e D (VecInt128UCmpHi tmp rn rm) h m = refl
+vector_fine e D (VecEltRev count rd rn) h m = reversal_fine (nat_eq count 2) (nat_eq count 4) (nat_eq count 8) (nat_eq count 16) (is_vector rd && is_vector rn) _ _ _ _ _ _ _ _ h
 vector_fine e D v h m = has_text e v (found (vector_operands_valid v) (vector_row v) BadOperator h)

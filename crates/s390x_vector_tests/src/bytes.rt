@@ -33,10 +33,11 @@ fn info() -> EmitInfo {
         has_mie4: true,
         has_vxrs_ext2: true,
         has_vxrs_ext3: true,
+        no_relative_memory: false,
     })
 }
 
-/// Its bytes as one number, which may be sixteen.
+/// Its last sixteen bytes as one number.
 pub fn emitted_several(alloc: Global, inst: VecInst) -> Result<u128, Fail> {
     let mut sink = MachBuffer::new(alloc, 0, &[])?;
     let mut state = EmitState::default();
@@ -49,7 +50,16 @@ pub fn emitted_several(alloc: Global, inst: VecInst) -> Result<u128, Fail> {
     Ok(number)
 }
 
-/// The same of at most eight bytes.
+/// How many bytes it has.
+pub fn emitted_length(alloc: Global, inst: VecInst) -> Result<u64, Fail> {
+    let mut sink = MachBuffer::new(alloc, 0, &[])?;
+    let mut state = EmitState::default();
+    Inst::Vector(inst).emit(alloc, &mut sink, &info(), &mut state)?;
+    let code = sink.finish()?;
+    Ok(code.bytes.len() as u64)
+}
+
+/// Its bytes as one number, where they are at most eight.
 pub fn emitted(alloc: Global, inst: VecInst) -> Result<u64, Fail> {
     let number = emitted_several(alloc, inst)?;
     Ok((number % 18446744073709551616) as u64)

@@ -1,10 +1,14 @@
-//! Tests of the emission of vector instructions on single elements, of those in memory and under a condition.
+//! Tests of the emission of vector instructions on single elements, of those in memory, under a condition and of several machine instructions.
 #![tactic(auto)]
 
 #[cfg(test)]
 mod bytes;
 #[cfg(test)]
+mod composites;
+#[cfg(test)]
 mod conditional;
+#[cfg(test)]
+mod constructors;
 #[cfg(test)]
 mod lanes;
 #[cfg(test)]

@@ -34,7 +34,6 @@ fn offset(register: u8, off: i64) -> MemArg {
     }
 }
 
-// The bytes as one number at the end of each row.
 fn whole(number: u8, rd: Writable<Reg>, mem: MemArg) -> VecInst {
     match number {
         0 => VecInst::VecLoad { rd, mem },

@@ -1,7 +1,7 @@
 use Rattle.std.proofs.Common.{◌+◌, ap, sym, ◌∙◌, cond}
 use Rattle.s390x_typed_steps.specs.VectorComposite.{move_under}
 use Rattle.s390x_emit_int.proofs.Skipping.{found_move, found_length, short_move}
-use Rattle.s390x_emit_int.proofs.conditional.composite_size.Goals as goal
+use Rattle.s390x_emit_int.proofs.conditional.move_size.Goals as goal
 
 pub returns-in-Some-clause-value : goal.returns-in-Some-clause-value
 returns-in-Some-clause-value c =

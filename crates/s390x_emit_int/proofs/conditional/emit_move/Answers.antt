@@ -6,7 +6,7 @@ use Rattle.s390x_typed_steps.specs.VectorComposite.{move_under}
 use Rattle.s390x_emit_int.specs.Fragments.{apply_all}
 use Rattle.s390x_emit_int.specs.Emission.{part_fragments}
 use Rattle.s390x_emit_int.proofs.Skipping.{found_move, found_length, found_rows, short_move, valid_found}
-use Rattle.s390x_emit_int.proofs.conditional.emit_composite.Goals as goal
+use Rattle.s390x_emit_int.proofs.conditional.emit_move.Goals as goal
 
 pub returns-in-Some-clause-answer : goal.returns-in-Some-clause-answer
 returns-in-Some-clause-answer c =

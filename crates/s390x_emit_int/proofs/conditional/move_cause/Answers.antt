@@ -1,7 +1,7 @@
 use Rattle.std.proofs.Common.{ap, sym, ◌∙◌}
 use Rattle.s390x_typed_steps.specs.VectorComposite.{cause_under, move_under}
 use Rattle.s390x_emit_int.proofs.Skipping.{found_move}
-use Rattle.s390x_emit_int.proofs.conditional.composite_cause.Goals as goal
+use Rattle.s390x_emit_int.proofs.conditional.move_cause.Goals as goal
 
 pub returns-in-Some : goal.returns-in-Some
 returns-in-Some c =

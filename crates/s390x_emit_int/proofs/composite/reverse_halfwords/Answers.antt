@@ -1,0 +1,19 @@
+use Rattle.std.proofs.Common.{[], ◌∷◌, arith}
+use Rattle.s390x_base.specs.Regs.{number_of}
+use Rattle.s390x_format.specs.Formats.{length_of}
+use Rattle.s390x_typed_steps.specs.Parts.{Row}
+use Rattle.s390x_typed_steps.specs.VectorComposite.{exchanges_doublewords, exchanges_halves}
+use Rattle.s390x_typed_steps.specs.VectorInstruction.{is_vector}
+use Rattle.s390x_emit_int.proofs.Composing.{first_of, room_before}
+use Rattle.s390x_emit_int.proofs.Lacking.{lacks_again}
+use Rattle.s390x_emit_int.proofs.Symbols.{room_behind}
+use Rattle.s390x_emit_int.proofs.composite.reverse_halfwords.Goals as goal
+
+pub returns-in_err-reverse_words-clause-lacks : goal.returns-in_err-reverse_words-clause-lacks
+returns-in_err-reverse_words-clause-lacks c = λ put valid. lacks_again c.from_residual.result _ c.from_residual.ensures.1 (c.in_err-reverse_words.ensures.lacks (room_before c.args.sink.now 18 12 put (omega arith)) valid)
+
+pub returns-clause-lacks : goal.returns-clause-lacks
+unfolding length_of
+returns-clause-lacks c = λ put valid.
+    let d = number_of c.args.rd.now in
+    c.exchange_halves.ensures.lacks (room_behind c.args.sink.now c.reverse_words.new.sink (Row (exchanges_doublewords d (number_of c.args.rn.now)) ∷ Row (exchanges_halves d 3 32) ∷ []) 18 6 put c.in_ok-reverse_words.ensures.answer (omega arith)) (first_of (is_vector c.args.rd.now) (is_vector c.args.rn.now) valid)
