@@ -15,6 +15,7 @@ ghost use Rattle.s390x_emit_int.specs.Emission.{own_fragments};
 ghost use Rattle.s390x_emit_int.specs.Instruction.{emit_cause, is_short};
 ghost use Rattle.s390x_emit_int.specs.Fragments.{Put, PutTrapping, apply, apply_all};
 ghost use Rattle.s390x_emit_int.specs.Room.{HasRoom, TreePassed, LacksMemory};
+ghost use Rattle.s390x_inst.specs.declared.inst.Inst.TheVariants.{Vector};
 ghost use Rattle.s390x_inst.specs.declared.state.IsaFlags.{IsaFlags};
 ghost use Rattle.s390x_typed_steps.specs.Stack.{state_after};
 
@@ -24,7 +25,7 @@ use crate::tree::emit_inst;
 use s390x_address::emitters::LIMIT;
 use s390x_base::{CodeOffset, EmitError, MachLabel, TrapCode};
 use s390x_buffer::MachBuffer;
-use s390x_inst::{EmitInfo, EmitState, Inst, IsaFlags};
+use s390x_inst::{EmitInfo, EmitState, Inst, IsaFlags, VecInst};
 use std::alloc::Global;
 
 /// Appends bytes. Refused by `Failed` where the buffer bears the mark, and by `LabelOutOfRange` where the length would reach 2^31;
@@ -215,4 +216,24 @@ impl MachInstEmit for Inst {
             }
         }
     }
+}
+
+/// Appends a vector or floating-point instruction as `Inst::emit` does, and leaves the state whole, its stack map too.
+///
+/// Refused by the same causes, with the buffer marked then.
+pub fn emit_vector(
+    alloc: Global,
+    inst: &VecInst,
+    sink: &mut MachBuffer,
+    emit_info: &EmitInfo,
+    state: &EmitState,
+) -> Result<(), EmitError>
+    ensures answer { let step = prepend state.now (Vector inst.now) empty in
+        let cause = emit_cause emit_info.now.isa_flags state.now.nominal sink.old step in
+        MatchResult result (λ _. (cause ≡ None) × (sink.new ≡ apply_all sink.old (own_fragments (length sink.old.labels) 0 step))) (λ e. ((e ≡ NoMemory) ⊎ (cause ≡ Some e)) × IsTrue sink.new.failed) }
+    ensures refused { OnErr result (IsTrue sink.new.failed) }
+    ensures kept { Extends sink.old sink.new }
+{
+    let mut behind = *state;
+    Inst::Vector(*inst).emit(alloc, sink, emit_info, &mut behind)
 }

@@ -7,6 +7,7 @@ pub mod causes;
 pub mod check;
 pub mod codes;
 pub mod completeness;
+pub mod composite;
 pub mod conditional;
 pub mod emit;
 pub mod function;
@@ -25,6 +26,6 @@ pub mod symbol;
 pub mod table;
 pub mod tree;
 
-pub use emit::{MachInstEmit, put, put_with_trap};
+pub use emit::{MachInstEmit, emit_vector, put, put_with_trap};
 pub use function::emit_function;
 pub use image::{ImageError, emit_image};

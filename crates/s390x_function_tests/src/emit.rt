@@ -1,9 +1,10 @@
 //! Instructions and bytes that are emitted into a buffer of the caller's.
-use s390x_base::{Cond, EmitError, TrapCode, gpr, writable_gpr};
+use s390x_base::{Cond, EmitError, TrapCode, gpr, vr, writable_gpr, writable_vr};
 use s390x_buffer::{MachBuffer, TrapEntry};
-use s390x_emit_int::{MachInstEmit, put, put_with_trap};
+use s390x_emit_int::{MachInstEmit, emit_vector, put, put_with_trap};
 use s390x_inst::{
     ALUOp, CallConv, EmitInfo, EmitState, FrameLayout, Inst, IsaFlags, MachInstEmitState, MemArg,
+    VecInst,
 };
 use std::alloc::Global;
 use std::test::Fail;
@@ -51,9 +52,34 @@ fn a_cause_marks_the_buffer(rt: HostRuntime) -> Result<(), Fail> {
     assert_eq!(rt; refused.err(), Some(EmitError::BadRegister));
     assert!(rt; sink.is_failed());
     assert_eq!(rt; state.take_stack_map(), Some(7));
+    assert_eq!(rt; sink.put1(7).err(), Some(EmitError::Failed));
     let again = Inst::Nop2.emit(alloc, &mut sink, &info, &mut state);
     assert_eq!(rt; again.err(), Some(EmitError::Failed));
     assert_eq!(rt; put(&mut sink, &[7, 7]).err(), Some(EmitError::Failed));
+    Ok(())
+}
+
+/// `vlr %v17, %v2` alone.
+#[test]
+fn a_vector_instruction_leaves_the_state(rt: HostRuntime) -> Result<(), Fail> {
+    let alloc = rt.alloc();
+    let mut sink = MachBuffer::new(alloc, 0, &[])?;
+    let mut state = EmitState::default();
+    state.pre_safepoint(Some(7));
+    let info = EmitInfo::new(IsaFlags::default());
+    let moved = VecInst::VecMov {
+        rd: writable_vr(17),
+        rn: vr(2),
+    };
+    emit_vector(alloc, &moved, &mut sink, &info, &state)?;
+    let refused = VecInst::VecMov {
+        rd: writable_vr(17),
+        rn: gpr(2),
+    };
+    let answer = emit_vector(alloc, &refused, &mut sink, &info, &state);
+    assert_eq!(rt; answer.err(), Some(EmitError::BadRegister));
+    assert!(rt; sink.is_failed());
+    assert_eq!(rt; state.take_stack_map(), Some(7));
     Ok(())
 }
 

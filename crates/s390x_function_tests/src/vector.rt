@@ -33,6 +33,7 @@ fn info() -> EmitInfo {
         has_mie4: true,
         has_vxrs_ext2: true,
         has_vxrs_ext3: true,
+        no_relative_memory: false,
     })
 }
 
