@@ -6,6 +6,8 @@ mod entries;
 #[cfg(test)]
 mod executions;
 #[cfg(test)]
+mod faults;
+#[cfg(test)]
 mod listings;
 #[cfg(test)]
 mod memory_rows;
@@ -23,5 +25,7 @@ mod simulations;
 mod stack_rows;
 #[cfg(test)]
 mod statuses;
+#[cfg(test)]
+mod vector_rows;
 #[cfg(test)]
 mod worked_rows;

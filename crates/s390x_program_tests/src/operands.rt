@@ -2,6 +2,7 @@
 use crate::relative_rows::{PLACE_JOBS, RELATIVE_ROWS};
 use crate::runs::{GOOD, expect, expect_rows};
 use crate::stack_rows::STACK_JOBS;
+use crate::vector_rows::VECTOR_JOBS;
 use crate::worked_rows::WORKED_JOBS;
 use s390x_tool::Status;
 use std::test::Fail;
@@ -187,6 +188,16 @@ fn blocks_constants_and_symbols_are_operands(rt: HostRuntime) -> Result<(), Fail
 #[test]
 fn stack_sizes_move_frame_operands(rt: HostRuntime) -> Result<(), Fail> {
     for (words, job, status, told) in STACK_JOBS {
+        let input = Vec::from_slice(rt.alloc(), job.as_bytes())?;
+        expect(&rt, words, input, GOOD, (status, told))?;
+    }
+    Ok(())
+}
+
+/// Operators, moves, loads and comparisons of vectors.
+#[test]
+fn vector_jobs_end_as_written(rt: HostRuntime) -> Result<(), Fail> {
+    for (words, job, status, told) in VECTOR_JOBS {
         let input = Vec::from_slice(rt.alloc(), job.as_bytes())?;
         expect(&rt, words, input, GOOD, (status, told))?;
     }

@@ -21,6 +21,17 @@ pub const GOOD: Ends = Ends {
     most: 1000,
 };
 
+impl Ends {
+    /// Takes one byte at a time; the read and the write of these numbers fail.
+    pub fn slow(failing_read: u64, failing_write: u64) -> Ends {
+        Ends {
+            failing_read,
+            failing_write,
+            most: 1,
+        }
+    }
+}
+
 const ADD: &str = "block\nMov64 %r2 %r3\nAluRRR Add64 %r2 %r2 %r4\nRet %r14\nend\n";
 
 /// The words of a line, one space between two of them.

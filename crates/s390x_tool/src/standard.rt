@@ -1,5 +1,8 @@
 //! Standard input and output as a source and a sink.
-ghost use Rattle.std.specs.Prelude.{◌≡◌};
+ghost use Rattle.std.specs.Io.{ReadsAtMost, WritesAtMost};
+ghost use Rattle.std.specs.Io.KnownBytes.{ReadConsumes, WriteAppends};
+ghost use Rattle.std.specs.Prelude.{◌≡◌, ◌<◌, length, IfOk, OnErr};
+ghost use Rattle.s390x_tool.specs.Causes.{next_count, HasCause};
 
 use crate::ends::{Failed, Sink, Source};
 use std::io::{Read, Write};
@@ -25,8 +28,13 @@ impl<R: Read> Source for StdSource<R> {
 
     ghost faults = { λ s. s.faults };
 
-    /// Reads once. Each error is counted.
-    fn read(&mut self, buf: &mut [u8]) -> Result<usize, Failed> {
+    /// Reads once. Each error counts once, unless the count stands at its last value.
+    fn read(&mut self, buf: &mut [u8]) -> Result<usize, Failed>
+        ensures bound { ReadsAtMost result buf.new }
+        ensures bytes { ReadConsumes (R.remaining self.old.input) (R.remaining self.new.input) result buf.new }
+        ensures cause { HasCause self.old.faults self.new.faults result }
+        ensures faults { OnErr result (self.new.faults ≡ next_count self.old.faults) }
+    {
         match self.input.read(buf) {
             Ok(count) => Ok(count),
             Err(_) => {
@@ -58,8 +66,15 @@ impl<W: Write> Sink for StdSink<W> {
 
     ghost faults = { λ s. s.faults };
 
-    /// Writes once. Each error is counted, and so is a write that takes nothing of a piece that isn't empty.
-    fn write(&mut self, piece: &[u8]) -> Result<usize, Failed> {
+    /// Writes once. Each error counts once, and so does a write that takes nothing of a piece that isn't empty, unless the
+    /// count stands at its last value.
+    fn write(&mut self, piece: &[u8]) -> Result<usize, Failed>
+        ensures bound { WritesAtMost result piece.now }
+        ensures some { IfOk result (λ n. 0 < length piece.now → 0 < n) }
+        ensures bytes { WriteAppends (W.contents self.old.output) (W.contents self.new.output) result piece.now }
+        ensures cause { HasCause self.old.faults self.new.faults result }
+        ensures faults { OnErr result (self.new.faults ≡ next_count self.old.faults) }
+    {
         match self.output.write(piece) {
             Ok(count) if count > 0 || piece.is_empty() => Ok(count),
             _ => {
