@@ -2,7 +2,7 @@
 """Fails or shortens reads and writes, and refuses what the program takes from the C library's heap, while the proved program works on the jobs of
 examples/.
 
-    checks/faults.py            prints what was tried, by command, and how often each status came
+    checks/faults.py            prints what was tried of each command, and how often
 
 An engineer runs it by hand; it is no part of the gate. The program runs under a small library that is preloaded, whose source stands below: it
 refuses the N-th call that takes memory from the C library, which only the program's words do, or fails the N-th read or write, or lets every read and
