@@ -6,7 +6,7 @@ use Rattle.std.specs.Int.RustNames.{int_div, int_rem, FitsSigned}
 use Rattle.std.proofs.lemmas.Int.{to_z-of_z, ints}
 use Rattle.std.proofs.lemmas.Nat.{from_be_bytes-to_be_bytes_4, from_be_bytes-to_be_bytes_8}
 use Rattle.s390x_base.specs.declared.ir.ExternalName.{ExternalName}
-use Rattle.s390x_base.specs.declared.ir.Reloc.TheVariants.{S390xPCRel32Dbl}
+use Rattle.s390x_base.specs.declared.ir.Reloc.TheVariants.{S390xPCRel32Dbl, S390xPLTRel32Dbl}
 use Rattle.s390x_image.specs.Symbols.{Symbols, address_of}
 use Rattle.s390x_image.specs.Values.{symbol_value, symbol_distance}
 use Rattle.s390x_image.specs.declared.error.LinkError.{LinkError}
@@ -101,3 +101,13 @@ leads_from base origin name offset (Some address) h = leads base origin address 
 pub distance_leads : (base : ℕ) (table : Symbols) (origin : ℕ) (name : ExternalName) (offset : ℤ) → reloc_cause base table (record { offset = origin + 2; kind = S390xPCRel32Dbl; name = name; addend = offset +ℤ pos 2 }) ≡ None →
     LeadsTo (base + origin) (symbol_distance base table origin name offset) (symbol_value table name offset)
 distance_leads base table origin name offset h = leads_from base origin name offset (address_of table name) h
+
+call_leads_from : (base : ℕ) (origin : ℕ) (name : ExternalName) (o : Option ℕ) → symbol_cause base (record { offset = origin + 2; kind = S390xPLTRel32Dbl; name = name; addend = pos 2 }) o ≡ None →
+    LeadsTo (base + origin) (cast_unsigned w32 (int_div (pos (address_or_zero o) +ℤ pos 0 -ℤ pos (base + origin)) (pos 2))) (cast_unsigned w64 (pos (address_or_zero o) +ℤ pos 0))
+call_leads_from base origin name None h = cc
+call_leads_from base origin name (Some address) h = leads base origin address (pos 0) h
+
+-- the same of a call's field
+pub call_leads : (base : ℕ) (table : Symbols) (origin : ℕ) (name : ExternalName) → reloc_cause base table (record { offset = origin + 2; kind = S390xPLTRel32Dbl; name = name; addend = pos 2 }) ≡ None →
+    LeadsTo (base + origin) (symbol_distance base table origin name (pos 0)) (symbol_value table name (pos 0))
+call_leads base table origin name h = call_leads_from base origin name (address_of table name) h

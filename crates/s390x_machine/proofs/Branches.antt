@@ -8,8 +8,8 @@ use Rattle.s390x_operations.specs.declared.stop.ConditionCode.TheVariants.{Code0
 use Rattle.s390x_machine.specs.declared.semantics.Action.{Action}
 use Rattle.s390x_machine.specs.declared.semantics.Action.TheVariants.{Branch}
 use Rattle.s390x_machine.specs.Machine.{Executed, Transition, Run, all_writes}
-use Rattle.s390x_machine.specs.StepKinds.{StepKind, GoesTo, Chooses, GoesByAddress, Leads, Returns}
-use Rattle.s390x_machine.specs.Typed.{Returned, At, Ended, IsTarget, KindStep, KindWrong, TypedStep, kind_at, store_event_of_kind, typed_store_event}
+use Rattle.s390x_machine.specs.StepKinds.{StepKind, GoesTo, Chooses, GoesByAddress, Leads, Returns, TailCalls}
+use Rattle.s390x_machine.specs.Typed.{Returned, TailCalled, At, Ended, IsTarget, KindStep, KindWrong, TypedStep, kind_at, store_event_of_kind, typed_store_event}
 use Rattle.s390x_machine.specs.Match.{start}
 use Rattle.s390x_machine.specs.OneStep.{Runs, stuck, Loses, StepRuns}
 use Rattle.s390x_machine.specs.Layout.{Layout, step_address, block_address, InStep}
@@ -98,7 +98,7 @@ leads_runs L k mask j size is row next here c is_loaded =
     branch L k c [] c.registers (step_address L k) (λ r. Branch mask (step_address L j)) size mask (step_address L j) i row refl (λ t rest u e at run.
     led L k mask j (step_address L j) size (λ r. Branch mask (step_address L j)) is refl next c t rest i u e (is_selected mask c.registers.code) refl at)
 
--- ---- a return
+-- ---- a return, and a tail call
 
 pub returns_runs : (L : Layout) (k n size : ℕ) → kind_at L k ≡ Some (Returns n) → RowAt L (step_address L k) (λ r. Branch 15 (r.general n)) size → InStep L k (step_address L k) → StepRuns L k
 returns_runs L k n size is row here c is_loaded =
@@ -107,6 +107,14 @@ returns_runs L k n size is row here c is_loaded =
     let target = c.registers.general n in
     ended L k c (t ∷ []) rest (Returned target) x (omega arith) (e, tt) (omega arith) (subst (λ f. KindStep L f k x (Ended (Returned target)) x) (sym is) (refl, refl))
     (lands ∙ ap (λ b. mid c c.registers (all_writes (t ∷ [])) (cond b target (wrapping_add64 (step_address L k) size))) (selected_always c.registers.code)))
+
+pub tail_runs : (L : Layout) (k size : ℕ) (target : Registers → ℕ) → kind_at L k ≡ Some (TailCalls target) → RowAt L (step_address L k) (λ r. Branch 15 (target r)) size → InStep L k (step_address L k) → StepRuns L k
+tail_runs L k size target is row here c is_loaded =
+    let to = target c.registers in
+    branch L k c [] c.registers (step_address L k) (λ r. Branch 15 (target r)) size 15 to (at_start L k c here is_loaded) row refl (λ t rest u e lands run.
+    let x = written (all_writes (t ∷ [])) c in
+    ended L k c (t ∷ []) rest (TailCalled to) x (omega arith) (e, tt) (omega arith) (subst (λ f. KindStep L f k x (Ended (TailCalled to)) x) (sym is) (refl, refl))
+    (lands ∙ ap (λ b. mid c c.registers (all_writes (t ∷ [])) (cond b to (wrapping_add64 (step_address L k) size))) (selected_always c.registers.code)))
 
 -- ---- a branch to the address in a register
 

@@ -1,5 +1,5 @@
 -- Steps that emission lets pass are fine.
-use Rattle.std.proofs.Common.{◌≡◌, ℕ, zero, suc, ◌+◌, ◌<◌, ◌≤◌, List, [], ◌∷◌, ◌++◌, length, Option, Some, None, ◌&&◌, refl, sym, ap, ◌∙◌, subst, arith, length-append, slice_get, ltb-true}
+use Rattle.std.proofs.Common.{◌≡◌, ℕ, zero, suc, ◌+◌, ◌<◌, ◌≤◌, List, [], ◌∷◌, ◌++◌, length, Option, Some, None, ◌&&◌, ◌||◌, refl, sym, ap, ◌∙◌, subst, arith, length-append, slice_get, ltb-true}
 use Rattle.std.specs.Prelude.{nat_eq, nat_lt, not}
 use Rattle.std.proofs.lemmas.Bool.{and_parts}
 use Rattle.s390x_inst.specs.declared.state.IsaFlags.{IsaFlags}
@@ -8,15 +8,15 @@ use Rattle.s390x_base.specs.declared.error.EmitError.{EmitError}
 use Rattle.s390x_base.specs.declared.error.EmitError.TheVariants.{BadOperator, BadRegister, ScratchConflict, OffsetOutOfRange, UnboundLabel, BadStackState}
 use Rattle.s390x_inst.specs.declared.inst.Inst.{Inst}
 use Rattle.s390x_inst.specs.declared.inst.Inst.TheVariants.{Jump, CondBr, IndirectBr, Ret, CondBreak, Nop0, LabelAddress, LoadSymbolReloc, Trap, TrapIf, Debugtrap, JTSequence, AllocateArgs, Args, Rets, DummyUse, SequencePoint, Vector}
-use Rattle.s390x_typed_steps.specs.Stack.{nominal_after}
-use Rattle.s390x_typed_steps.specs.Causes.{first_emit_cause, unless, facility_cause, target_label_cause, labels_cause, cause_or, loses_scratch, addend_fits, target_cause, memory_cause_or, instruction_cause, numbers_cause, nesting_cause, fresh_labels, tree_cause, block_cause, blocks_cause, nominal_behind, leaf_cause, instruction_fresh_labels}
+use Rattle.s390x_typed_steps.specs.Calls.{is_target, site_labels}
+use Rattle.s390x_typed_steps.specs.Causes.{first_emit_cause, unless, facility_cause, target_label_cause, labels_cause, cause_or, loses_scratch, addend_fits, target_cause, memory_cause_or, instruction_cause, numbers_cause, nesting_cause, fresh_labels, tree_cause, block_cause, blocks_cause, nominal_behind, instruction_fresh_labels, body_cause, body_fresh_labels, body_nominal_after}
 use Rattle.s390x_typed_steps.specs.SingleInstruction.{SingleInstruction, single_instruction}
 use Rattle.s390x_typed_steps.specs.General.{is_general, is_nonzero, is_scratch}
 use Rattle.s390x_typed_steps.specs.Memory.{MemoryInstruction, memory, type_of}
 use Rattle.s390x_typed_steps.specs.Operands.{has_form, operand_general, offset_fits}
-use Rattle.s390x_typed_steps.specs.Ranges.{MemoryInRange, InRange, AllInRange, BlocksInRange}
+use Rattle.s390x_typed_steps.specs.Ranges.{MemoryInRange, InRange, BodyInRange, AllInRange, BlocksInRange}
 use Rattle.s390x_typed_steps.specs.Rows.{LinkEnvironment}
-use Rattle.s390x_typed_steps.specs.Tree.{Tree, empty, leaf, loop_node, Whole}
+use Rattle.s390x_typed_steps.specs.Tree.{StepBody, Tree, empty, leaf, loop_node, Whole, CallStep, NoLoad, TailOpening, TailJump}
 use Rattle.s390x_typed_steps.specs.Steps.{Step, Opening, Back, step_count, step_of, steps_of, steps_from, function_steps}
 use Rattle.s390x_typed_steps.specs.VectorComposite.{composite_cause}
 use Rattle.s390x_operations.specs.State.{CodeImage}
@@ -94,6 +94,18 @@ module _ (L : Layout) where
   valid_step flags nominal depth after (Vector v) e range le = valid_other (single_instruction (Vector v)) (memory (Vector v)) (composite_cause v) (first_none (facility_cause flags (Vector v)) (cause_or (single_instruction (Vector v)) (memory_cause_or (declared L) (memory (Vector v)) (composite_cause v))) e).1 range.1
   valid_step flags nominal depth after i e range le = valid_single (single_instruction i) (memory i) (first_none (facility_cause flags i) (cause_or (single_instruction i) (memory_cause_or (declared L) (memory i) (Some BadOperator))) e).1 range.1
 
+  -- the body of a step
+  valid_body : (flags : IsaFlags) (n nominal depth after : ℕ) (b : StepBody) → body_cause flags (declared L) n nominal depth b ≡ None → BodyInRange b → (0 < depth → after ≤ length L.steps) → IsValidStep L (step_of after b)
+  valid_body flags n nominal depth after (Whole i) e range le =
+      valid_step flags nominal depth after i (first_none (instruction_cause flags (declared L) nominal depth i) (numbers_cause n (instruction_fresh_labels i)) e).0 range le
+  valid_body flags n nominal depth after (CallStep c) e range le =
+      let later = first_emit_cause (unless (nat_eq c.popped nominal && (nat_eq c.popped 0 || nat_eq depth 0)) BadStackState) (labels_cause L.block_count (site_labels c.sites)) in
+      let registers = first_none (unless (is_general c.link && is_target c.target) BadRegister) later e in
+      and_parts (is_general c.link) (is_target c.target) (unless_none (is_general c.link && is_target c.target) BadRegister registers.0)
+  valid_body flags n nominal depth after NoLoad e range le = absurd (cc)
+  valid_body flags n nominal depth after (TailOpening target first_saved is_lost) e range le = tt
+  valid_body flags n nominal depth after (TailJump target) e range le = unless_none (is_target target) BadRegister e
+
   -- each of some steps is fine
   AllValid : List Step → Type 0
   AllValid ss = (j : ℕ) (s : Step) → slice_get ss j ≡ Some s → IsValidStep L s
@@ -112,10 +124,9 @@ module _ (L : Layout) where
   valid_tree : (flags : IsaFlags) (k after n nominal depth : ℕ) (t : Tree) → tree_cause flags (declared L) n nominal depth t ≡ None → AllInRange t → (0 < depth → after ≤ length L.steps) → k + step_count t ≤ length L.steps → AllValid (steps_of k after t)
   unfolding AllValid
   valid_tree flags k after n nominal depth empty e range le within = λ j s h. absurd (cc)
-  valid_tree flags k after n nominal depth (leaf (Whole i) rest) e range le within =
-      let parts = first_none (leaf_cause flags (declared L) n nominal depth i) (tree_cause flags (declared L) (n + instruction_fresh_labels i) (nominal_after nominal i) depth rest) e in
-      let own = first_none (instruction_cause flags (declared L) nominal depth i) (numbers_cause n (instruction_fresh_labels i)) parts.0 in
-      valid_cons (step_of after (Whole i)) (steps_of (k + 1) after rest) (valid_step flags nominal depth after i own.0 range.0 le) (valid_tree flags (k + 1) after (n + instruction_fresh_labels i) (nominal_after nominal i) depth rest parts.1 range.1 le (omega arith))
+  valid_tree flags k after n nominal depth (leaf b rest) e range le within =
+      let parts = first_none (body_cause flags (declared L) n nominal depth b) (tree_cause flags (declared L) (n + body_fresh_labels b) (body_nominal_after nominal b) depth rest) e in
+      valid_cons (step_of after b) (steps_of (k + 1) after rest) (valid_body flags n nominal depth after b parts.0 range.0 le) (valid_tree flags (k + 1) after (n + body_fresh_labels b) (body_nominal_after nominal b) depth rest parts.1 range.1 le (omega arith))
   valid_tree flags k after n nominal depth (loop_node mask members rest) e range le within =
       let a = first_none (first_emit_cause (first_emit_cause (nesting_cause depth) (numbers_cause n 2)) (tree_cause flags (declared L) (n + 2) nominal (depth + 1) members)) (tree_cause flags (declared L) (n + 2 + fresh_labels members) nominal depth rest) e in
       let b = first_none (first_emit_cause (nesting_cause depth) (numbers_cause n 2)) (tree_cause flags (declared L) (n + 2) nominal (depth + 1) members) a.0 in

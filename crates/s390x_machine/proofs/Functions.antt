@@ -48,7 +48,7 @@ cut P k (x ∷ ss) (suc j) s e =
 
 pub count_of : (k after : ℕ) (t : Tree) → length (steps_of k after t) ≡ step_count t
 count_of k after empty = refl
-count_of k after (leaf (Whole i) rest) = omega (arith, count_of (k + 1) after rest)
+count_of k after (leaf b rest) = omega (arith, count_of (k + 1) after rest)
 count_of k after (loop_node mask members rest) =
     let m = steps_of (k + 1) (k + 2 + step_count members) members in
     let r = steps_of (k + 2 + step_count members) after rest in

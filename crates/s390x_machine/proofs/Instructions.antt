@@ -1,5 +1,5 @@
 -- Each built step runs as its typed step, and so every run is allowed.
-use Rattle.std.proofs.Common.{◌≡◌, ℕ, Some, None, true, false, ◌&&◌, ◌||◌, is_some, refl, sym, ap, subst, arith, slice_get, pos, ◌*◌}
+use Rattle.std.proofs.Common.{◌≡◌, ℕ, suc, [], ◌∷◌, Some, None, true, false, ◌&&◌, ◌||◌, is_some, refl, sym, ap, subst, arith, slice_get, pos, ◌*◌}
 use Rattle.std.proofs.lemmas.Bool.{and_parts}
 use Rattle.s390x_base.specs.Regs.{number_of}
 use Rattle.s390x_base.specs.declared.regs.Reg.TheVariants.{Real}
@@ -14,7 +14,8 @@ use Rattle.s390x_format.specs.Formats.{length_of}
 use Rattle.s390x_format.specs.declared.kind.FormatKind.TheVariants.{Rr}
 use Rattle.s390x_typed_steps.specs.General.{is_general, reuses, reuses_pair, low_halfword, low_word, four_bits, low_displacement, is_access}
 use Rattle.s390x_typed_steps.specs.Opcodes.{alu_two, cmp_two, unary_two, alu_halfword, alu_three_halfword, alu_signed_word, alu_unsigned_word, cmp_halfword, cmp_trap, cmp_trap_signed, cmp_trap_unsigned, cmp_signed_word, cmp_unsigned_word, alu_part, alu_half, load_part, load_half, insert_part, extend_two, indexed_opcode, logical_indexed_opcode}
-use Rattle.s390x_typed_steps.specs.Steps.{Step, Plain, Opening, Back, Break}
+use Rattle.s390x_typed_steps.specs.StepBody.{AtCall}
+use Rattle.s390x_typed_steps.specs.Steps.{Step, Plain, Opening, Back, Break, CallingStep, NoLoadStep, TailOpeningStep, TailJumpStep}
 use Rattle.s390x_operations.specs.declared.effect.CodeRule.TheVariants.{Kept, Set}
 use Rattle.s390x_operations.specs.declared.size.Size.TheVariants.{Halfword, Word, Doubleword}
 use Rattle.s390x_operations.specs.declared.size.Width.TheVariants.{Bits16, Bits32, Bits64}
@@ -23,7 +24,7 @@ use Rattle.s390x_operations.specs.declared.operator.Operator.TheVariants.{Move, 
 use Rattle.s390x_machine.specs.declared.semantics.RowSemantics.TheVariants.{DivideSigned, DivideLogical}
 use Rattle.s390x_machine.specs.Computations.{alu_computation, alu_two_rule, unary_computation, unary_rule, comparison, on_words, on_doublewords, unsigned_word, signed_word, unsigned_halfword, signed_halfword, on_immediate, compares_on_immediate, doubleword, part_mask, half_mask, part_operator, extension, divides_signed, divides_logical}
 use Rattle.s390x_machine.specs.Typed.{kind_of_step}
-use Rattle.s390x_machine.specs.Match.{EveryRunFrom, EveryRun, EveryBlockRun}
+use Rattle.s390x_machine.specs.Match.{EveryRunFrom, EveryRun, EveryReturnRun, EveryBlockRun}
 use Rattle.s390x_machine.specs.OneStep.{StepRuns, StepHolds}
 use Rattle.s390x_machine.specs.Layout.{Layout}
 use Rattle.s390x_machine.specs.CodeAt.{AllCodeAt, IsBlock, IsValidInstruction, IsValidStep}
@@ -39,6 +40,7 @@ use Rattle.s390x_machine.proofs.StorageRows.{load_32, load_32_zero_8, load_32_si
 use Rattle.s390x_machine.proofs.StorageRows.{store_reversed_64, store_immediate_16, store_immediate_32, store_immediate_64, swap_32, swap_64, alu_same, cmp_same, alu_short_rows, alu_long_rows, cmp_short_rows, cmp_long_rows, atomic_rows}
 use Rattle.s390x_machine.proofs.StorageSteps.{loads, loads_an_address, stores, stores_a_byte, stores_an_immediate, loads_registers, stores_registers, computes_in_memory, compares_in_memory, operates, swaps}
 use Rattle.s390x_machine.proofs.Branches.{returns_runs, address_runs}
+use Rattle.s390x_machine.proofs.Calls.{calling_runs, tail_jump_runs, returns_to}
 use Rattle.s390x_machine.proofs.Induction.{trace_of, one_step}
 use Rattle.s390x_machine.proofs.Built.{StepAt}
 use Rattle.s390x_machine.proofs.OnRegisters.{computes_two, compares_two, copies_runs, alu_three_runs, move_where_runs, move_immediate_where_runs, signed_runs, logical_runs, leftmost_runs, count_runs, any_runs}
@@ -214,6 +216,10 @@ step_runs L k (Plain i) b operands_valid = instruction_runs L k i b operands_val
 step_runs L k Opening b operands_valid = opening_runs b refl refl
 step_runs L k (Back mask target) b operands_valid = loop_runs b mask target refl refl (small_mask mask operands_valid.0) operands_valid.1
 step_runs L k (Break mask target) b operands_valid = loop_runs b mask target refl refl (small_mask mask operands_valid.0) operands_valid.1
+step_runs L k (CallingStep c) b operands_valid = calling_runs b c.link c.target c.sites refl refl operands_valid.0 operands_valid.1
+step_runs L k NoLoadStep b operands_valid = absurd operands_valid
+step_runs L k (TailOpeningStep target first_saved is_lost) b operands_valid = opening_runs b refl refl
+step_runs L k (TailJumpStep target) b operands_valid = tail_jump_runs b target (AtCall ∷ []) refl refl operands_valid
 
 pub step_runs_placed : (L : Layout) → AllCodeAt L → (k : ℕ) (s : Step) → slice_get L.steps k ≡ Some s → StepRuns L k
 step_runs_placed L all k s at = let p = all.steps k s at in step_runs L k s (record { all = all; at = at; placed = p }) p.valid
@@ -225,6 +231,10 @@ step_holds L all k s at = one_step L k (step_runs_placed L all k s at)
 -- every run
 pub runs_hold : (L : Layout) → AllCodeAt L → (k : ℕ) → EveryRun L k
 runs_hold L all = trace_of L (λ k s at. step_holds L all k s at)
+
+-- from each call's return place
+pub return_holds : (L : Layout) → AllCodeAt L → (k : ℕ) → EveryReturnRun L k
+return_holds L all k c at = subst (λ p. EveryRunFrom L p (suc k)) (sym (returns_to L all k c at)) (runs_hold L all (suc k))
 
 -- from each block's start
 pub block_holds : (L : Layout) → AllCodeAt L → (b : ℕ) → IsBlock L b → EveryBlockRun L b

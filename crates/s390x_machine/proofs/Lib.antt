@@ -49,6 +49,7 @@ pub mod Leading
 pub mod SingleInstruction
 pub mod Bits
 pub mod Branches
+pub mod Calls
 pub mod Example
 pub mod Instructions
 pub mod Trapping

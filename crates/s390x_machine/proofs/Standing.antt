@@ -1,10 +1,11 @@
 -- What the premises tell of a step: where its bytes and those of its rows stand, and the places of its targets.
 use Rattle.std.proofs.Common.{◌≡◌, ℕ, zero, suc, ◌+◌, ◌%◌, ◌^◌, ◌<◌, ◌≤◌, List, [], ◌∷◌, ◌++◌, length, Option, Some, None, refl, sym, ap, ◌∙◌, subst, arith, append_assoc, length-append, slice_get}
+use Rattle.std.specs.Prelude.{pos}
 use Rattle.s390x_format.specs.Formats.{length_of}
 use Rattle.s390x_format.proofs.Encoding.{encode-length}
 use Rattle.s390x_typed_steps.specs.MachineInstruction.{ril_b, ril_c}
 use Rattle.s390x_typed_steps.specs.Steps.{Step}
-use Rattle.s390x_typed_steps.specs.Parts.{CodePart, Row, Trapping, Branch, Relative, RelativeConstant, RelativeSymbol, SymbolValue, TrapHere, TableWord, part_size, parts_size, step_parts, step_size}
+use Rattle.s390x_typed_steps.specs.Parts.{CodePart, Row, Trapping, Branch, Relative, RelativeConstant, RelativeSymbol, SymbolValue, TrapHere, TableWord, CallSymbol, SiteHere, part_size, parts_size, step_parts, step_size}
 use Rattle.s390x_typed_steps.specs.Rows.{Offsets, target_offset, half_distance, part_bytes, parts_bytes, step_bytes}
 use Rattle.s390x_operations.specs.State.{wrapping_add64}
 use Rattle.s390x_machine.specs.Layout.{Layout, step_address, block_address, InStep}
@@ -24,6 +25,9 @@ part_length P p (RelativeSymbol opcode register name offset) = let m = ril_b opc
 part_length P p (SymbolValue name offset) = refl
 part_length P p (TrapHere code) = refl
 part_length P p (TableWord before target) = refl
+part_length P p (CallSymbol (Some link) name) = let m = ril_b 0xc05 link (P.environment.symbol_distance p name (pos 0)) in encode-length m.format m.slots
+part_length P p (CallSymbol None name) = let m = ril_c 0xc04 15 (P.environment.symbol_distance p name (pos 0)) in encode-length m.format m.slots
+part_length P p (SiteHere site) = refl
 
 parts_length : (P : Offsets) (p : ℕ) (parts : List CodePart) → length (parts_bytes P p parts) ≡ parts_size parts
 parts_length P p [] = refl
@@ -41,6 +45,8 @@ parts_even (RelativeSymbol opcode register name offset ∷ parts) = omega (arith
 parts_even (SymbolValue name offset ∷ parts) = omega (arith, parts_even parts)
 parts_even (TrapHere code ∷ parts) = omega (arith, parts_even parts)
 parts_even (TableWord before target ∷ parts) = omega (arith, parts_even parts)
+parts_even (CallSymbol link name ∷ parts) = omega (arith, parts_even parts)
+parts_even (SiteHere site ∷ parts) = omega (arith, parts_even parts)
 
 pub part_even : (part : CodePart) → part_size part % 2 ≡ 0
 part_even part = omega (arith, parts_even (part ∷ []))

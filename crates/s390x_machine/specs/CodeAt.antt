@@ -1,18 +1,20 @@
 -- What has to be told of an image: that each step's bytes lie in it at the step's offset.
-use Rattle.std.specs.Prelude.{◌≡◌, ℕ, suc, ◌+◌, pos, ◌+ℤ◌, ◌*ℤ◌, ◌%◌, ◌^◌, ◌<◌, ◌≤◌, List, [], ◌∷◌, ◌++◌, length, get_or, ◌&&◌, not, IsTrue, Option, Some, None, slice_get}
+use Rattle.std.specs.Prelude.{◌≡◌, ℕ, ℤ, suc, ◌+◌, pos, ◌+ℤ◌, ◌*ℤ◌, ◌%◌, ◌^◌, ◌<◌, ◌≤◌, List, [], ◌∷◌, ◌++◌, length, get_or, ◌&&◌, not, IsTrue, Option, Some, None, slice_get}
 use Rattle.std.specs.Int.{w32, cast_signed}
 use Rattle.s390x_buffer.specs.State.{is_alignment}
+use Rattle.s390x_base.specs.declared.ir.ExternalName.{ExternalName}
 use Rattle.s390x_base.specs.declared.ir.MachLabel.{MachLabel}
 use Rattle.s390x_inst.specs.declared.inst.Inst.{Inst}
 use Rattle.s390x_inst.specs.declared.inst.Inst.TheVariants.{Jump, CondBr, IndirectBr, Ret, JTSequence, Nop0, LabelAddress, LoadSymbolReloc, Trap, TrapIf, Debugtrap, Args, Rets, DummyUse, SequencePoint, Vector}
 use Rattle.s390x_typed_steps.specs.SingleInstruction.{SingleInstruction, single_instruction}
 use Rattle.s390x_typed_steps.specs.General.{is_general, is_nonzero, is_scratch}
+use Rattle.s390x_typed_steps.specs.Calls.{is_target}
 use Rattle.s390x_typed_steps.specs.Causes.{loses_scratch, target_cause}
 use Rattle.s390x_typed_steps.specs.Memory.{MemoryInstruction, memory, type_of}
 use Rattle.s390x_typed_steps.specs.Operands.{has_form, operand_general, offset_fits}
 use Rattle.s390x_typed_steps.specs.Ranges.{IsConditionMask, OperandInRange}
-use Rattle.s390x_typed_steps.specs.Steps.{Step, Plain, Opening, Back, Break}
-use Rattle.s390x_typed_steps.specs.Parts.{CodePart, RelativeSymbol, part_size, step_parts, step_size}
+use Rattle.s390x_typed_steps.specs.Steps.{Step, Plain, Opening, Back, Break, CallingStep, NoLoadStep, TailOpeningStep, TailJumpStep}
+use Rattle.s390x_typed_steps.specs.Parts.{CodePart, RelativeSymbol, CallSymbol, part_size, step_parts, step_size}
 use Rattle.s390x_typed_steps.specs.VectorComposite.{composite_cause}
 use Rattle.s390x_typed_steps.specs.Rows.{step_bytes}
 use Rattle.s390x_typed_steps.specs.Traps.{step_traps, first_code}
@@ -77,18 +79,27 @@ abbrev pub IsValidInstruction : Layout → Inst → Type 0
 IsValidInstruction L i = OperandsValidOr (single_instruction i) (ValidMemoryOr L (memory i) (IsValidBranch L i))
 
 -- what emission has checked of a step: of an instruction its own; of a branch of a loop that its mask is one of a condition,
--- and that it leads to a step or past the last one
+-- and that it leads to a step or past the last one; of a call and of a tail call's jump that their registers may stand there
 abbrev pub IsValidStep : Layout → Step → Type 0
 IsValidStep L (Plain i) = IsValidInstruction L i
 IsValidStep L Opening = Unit {0}
 IsValidStep L (Back mask target) = IsConditionMask mask × (target ≤ length L.steps)
 IsValidStep L (Break mask target) = IsConditionMask mask × (target ≤ length L.steps)
+IsValidStep L (CallingStep c) = IsTrue (is_general c.link) × IsTrue (is_target c.target)
+IsValidStep L NoLoadStep = ⊥
+IsValidStep L (TailOpeningStep target first_saved is_lost) = Unit {0}
+IsValidStep L (TailJumpStep target) = IsTrue (is_target target)
 
--- the distance of a part that is relative to a symbol leads from the part's beginning to what the symbol's doubleword would hold
-abbrev pub PartReaches : Layout → ℕ → CodePart → Type 0
-PartReaches L p (RelativeSymbol opcode register name offset) =
+-- the distance to a symbol plus an offset leads from a part's beginning to what the symbol's doubleword would hold
+abbrev pub SymbolReached : Layout → ℕ → ExternalName → ℤ → Type 0
+SymbolReached L p name offset =
     let half = L.offsets.environment.symbol_distance p name offset in
     (half < 2 ^ 32) × (low Doubleword (pos (wrapping_add64 L.image.base p) +ℤ pos 2 *ℤ cast_signed w32 half) ≡ L.offsets.environment.symbol_value name offset)
+
+-- the same of a part that is relative to a symbol
+abbrev pub PartReaches : Layout → ℕ → CodePart → Type 0
+PartReaches L p (RelativeSymbol opcode register name offset) = SymbolReached L p name offset
+PartReaches L p (CallSymbol link name) = SymbolReached L p name (pos 0)
 PartReaches L p _ = Unit {0}
 
 -- the same of parts from an offset on

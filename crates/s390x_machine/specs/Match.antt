@@ -1,7 +1,10 @@
 -- What the typed steps allow of a machine run.
-use Rattle.std.specs.Prelude.{◌≡◌, ℕ, suc, ◌≤◌, ◌⊎◌, List, [], ◌∷◌, ◌++◌, length, Option, Some, None, IsTrue}
+use Rattle.std.specs.Prelude.{◌≡◌, ℕ, suc, ◌+◌, ◌≤◌, ◌⊎◌, List, [], ◌∷◌, ◌++◌, length, Option, Some, None, IsTrue, slice_get}
 use Rattle.s390x_base.specs.declared.trap.TrapKind.{TrapKind}
-use Rattle.s390x_operations.specs.State.{Core, State, StoreEvent, written, IsLoaded, is_within}
+use Rattle.s390x_typed_steps.specs.Calls.{call_size}
+use Rattle.s390x_typed_steps.specs.StepBody.{Calling}
+use Rattle.s390x_typed_steps.specs.Steps.{CallingStep}
+use Rattle.s390x_operations.specs.State.{Core, State, StoreEvent, written, wrapping_add64, IsLoaded, is_within}
 use Rattle.s390x_operations.specs.declared.stop.StopKind.{StopKind}
 use Rattle.s390x_operations.specs.declared.stop.StopKind.TheVariants.{Operation as OperationStop}
 use Rattle.s390x_machine.specs.Codes.{trap_code_at}
@@ -104,6 +107,14 @@ EveryRunFrom L a k =
 -- from a step's address, by the steps from it
 abbrev pub EveryRun : Layout → ℕ → Type 0
 EveryRun L k = EveryRunFrom L (step_address L k) k
+
+-- the return place of a call: behind its machine instruction
+abbrev pub return_address : Layout → (k : ℕ) → Calling → ℕ
+return_address L k c = wrapping_add64 L.image.base (L.offsets.step k + call_size c.target)
+
+-- where step k is a call, from its return place, by the steps behind it
+abbrev pub EveryReturnRun : Layout → ℕ → Type 0
+EveryReturnRun L k = (c : Calling) → slice_get L.steps k ≡ Some (CallingStep c) → EveryRunFrom L (return_address L k c) (suc k)
 
 -- from a block's start, by the steps from its first one
 abbrev pub EveryBlockRun : Layout → ℕ → Type 0

@@ -26,6 +26,8 @@ use Rattle.s390x_machine.specs.Computations.{computes, compares, alu_computation
 use Rattle.s390x_machine.specs.Computations.{part_mask, on_selected, part_operator, at_part, at_half, half_mask, inserts_half, extension, shifts, rotates_into, rotates_to_test, multiplies_signed, multiplies_logical, divides_signed, divides_logical, compares_and_traps, compares_immediate_and_traps, finds_leftmost, idles, havocs, copies_access, moves_where, moves_immediate_where, takes_from_stack}
 use Rattle.s390x_machine.specs.Storage.{operand_address, needs_scratch, aligned_where, is_relative_access, OperandStep, operand_step}
 use Rattle.s390x_inst.specs.Memory.{flags_of}
+use Rattle.s390x_inst.specs.declared.calls.CallInstDest.{CallInstDest}
+use Rattle.s390x_inst.specs.declared.calls.CallInstDest.TheVariants.{Direct, Indirect}
 use Rattle.s390x_inst.specs.declared.calls.SymbolReloc.{SymbolReloc}
 use Rattle.s390x_typed_steps.specs.Parts.{name_in, offset_in}
 use Rattle.s390x_typed_steps.specs.General.{low_halfword, low_word, low_byte, four_bits, rotation}
@@ -33,7 +35,7 @@ use Rattle.s390x_inst.specs.declared.inst.Inst.TheVariants.{Vector}
 use Rattle.s390x_typed_steps.specs.VectorInstruction.{divides}
 use Rattle.s390x_machine.specs.VectorSteps.{ConditionalOperation, conditional_operation, vector_operation}
 use Rattle.s390x_machine.specs.Layout.{Layout, block_address}
-use Rattle.s390x_typed_steps.specs.Steps.{Step, Plain, Opening, Back, Break}
+use Rattle.s390x_typed_steps.specs.Steps.{Step, Plain, Opening, Back, Break, CallingStep, NoLoadStep, TailOpeningStep, TailJumpStep}
 
 -- what a typed step does
 pub data StepKind : Type 0 where
@@ -115,6 +117,11 @@ on_vectors divides (Some operation) = may_stop (cond divides division_code no_co
 -- what a relocation's doubleword holds once it is linked
 abbrev pub linked_value : Layout → SymbolReloc → ℕ
 linked_value L reloc = L.offsets.environment.symbol_value (name_in reloc) (offset_in reloc)
+
+-- where a call leads: a symbol's address once it is linked, or what a register holds before the link is written
+abbrev pub called_address : Layout → CallInstDest → Registers → ℕ
+called_address L (Direct name) r = L.offsets.environment.symbol_value name (pos 0)
+called_address L (Indirect reg) r = r.general (number_of reg)
 
 -- the instructions that are one operation; a move has no first operand. The layout tells the addresses of blocks and of symbols
 abbrev pub performed : Layout → Inst → Option Performed
@@ -229,9 +236,13 @@ kind_or (Some x) others = Performs x.needs x.operation x.code
 abbrev pub instruction_kind : Layout → Inst → StepKind
 instruction_kind L i = kind_or (performed L i) (kind_or (performed_in_memory L i) (branch_kind i))
 
--- a loop's opening is a step without bytes; its back branch and its breaks lead to steps
+-- an opening is a step without bytes; a loop's back branch and its breaks lead to steps; a call and the jump of a tail call end the run
 abbrev pub step_kind : Layout → Step → StepKind
 step_kind L (Plain i) = instruction_kind L i
 step_kind L Opening = Silent
 step_kind L (Back mask target) = Leads mask target
 step_kind L (Break mask target) = Leads mask target
+step_kind L (CallingStep c) = Calls (number_of c.link) (called_address L c.target)
+step_kind L NoLoadStep = Unsupported
+step_kind L (TailOpeningStep target first_saved is_lost) = Silent
+step_kind L (TailJumpStep target) = TailCalls (called_address L target)

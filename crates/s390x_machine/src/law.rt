@@ -9,7 +9,7 @@ ghost use Rattle.s390x_typed_steps.specs.Ranges.{OperandInRange, BlocksInRange};
 ghost use Rattle.s390x_typed_steps.specs.Steps.{Step, Plain, function_steps};
 ghost use Rattle.s390x_machine.specs.Layout.{Layout};
 ghost use Rattle.s390x_machine.specs.CodeAt.{AllCodeAt, IsBlock, IsValidStep, IsValidMemory, ValidMemoryOr};
-ghost use Rattle.s390x_machine.specs.Match.{EveryRun, EveryBlockRun};
+ghost use Rattle.s390x_machine.specs.Match.{EveryRun, EveryReturnRun, EveryBlockRun};
 ghost use Rattle.s390x_machine.specs.OneStep.{StepRuns, StepHolds};
 ghost use Rattle.s390x_machine.specs.Fetch.{Fetched, Fetches};
 ghost use Rattle.s390x_machine.specs.Semantics.{semantics_of};
@@ -53,6 +53,11 @@ pub fn checked_steps_are_valid()
 /// Every machine run from a step's place, in every state in which the image lies in memory and under every list of others' writes, is allowed by the typed steps.
 pub fn every_run()
     ensures { (L : Layout) → AllCodeAt L → (k : ℕ) → EveryRun L k }
+{}
+
+/// The same from the return place of each call.
+pub fn every_return_run()
+    ensures { (L : Layout) → AllCodeAt L → (k : ℕ) → EveryReturnRun L k }
 {}
 
 /// The same from the start of each block.

@@ -1,12 +1,13 @@
 -- First causes, and what holds where none stands.
-use Rattle.std.proofs.Common.{◌≡◌, ℕ, ◌+◌, ◌<◌, Bool, true, false, List, Option, None, Some, refl, sym, ap, ◌∙◌, arith, get_or, length, drop}
+use Rattle.std.proofs.Common.{◌≡◌, ℕ, ◌+◌, ◌<◌, Bool, true, false, List, [], ◌∷◌, Option, None, Some, refl, sym, ap, ◌∙◌, arith, get_or, length, drop}
 use Rattle.s390x_inst.specs.Emission.{Emission}
 use Rattle.s390x_inst.specs.declared.state.IsaFlags.{IsaFlags}
 use Rattle.s390x_base.specs.declared.error.EmitError.{EmitError}
-use Rattle.s390x_typed_steps.specs.Tree.{Tree, empty, leaf, loop_node, prepend, tree}
+use Rattle.s390x_typed_steps.specs.Tree.{Tree, empty, leaf, loop_node, prepend, tree, block_tree}
+use Rattle.s390x_typed_steps.specs.Calls.{safepoint}
 use Rattle.s390x_typed_steps.specs.Stack.{nominal_after, state_after}
 use Rattle.s390x_typed_steps.specs.Causes.{Declared, first_emit_cause, unless, body_cause, body_fresh_labels, body_nominal_after, fresh_labels, nesting_cause, nominal_behind, numbers_cause, tree_cause}
-use Rattle.s390x_typed_steps.proofs.Trees.{behind, joined, prepend_joined, prepend_nominal}
+use Rattle.s390x_typed_steps.proofs.Trees.{behind, block_behind, joined, prepend_joined, prepend_nominal}
 use Rattle.s390x_inst.specs.declared.inst.Inst.{Inst}
 
 pub first_none : (o : Option EmitError) → first_emit_cause o None ≡ o
@@ -64,3 +65,12 @@ stops flags state D depth n m e is k i lt at some =
     ap (λ t. tree_cause flags D n m depth t) (behind state is k i lt at)
     ∙ prepend_cause flags state D n m depth i rest
     ∙ ap (λ o. first_emit_cause o (tree_cause flags D (n + fresh_labels (prepend state i empty)) (nominal_after m i) depth rest)) some
+
+-- the same in a block
+pub block_stops : (flags : IsaFlags) (state : Emission) (D : Declared) (depth n m : ℕ) (e : EmitError) (is : List Inst) (k : ℕ) (i : Inst) → k < length is → i ≡ get_or is k i → tree_cause flags D n m depth (prepend (safepoint state i) i empty) ≡ Some e → tree_cause flags D n m depth (block_tree state (drop k is)) ≡ Some e
+block_stops flags state D depth n m e is k i lt at some =
+    let rest = block_tree (state_after state i) (drop (k + 1) is) in
+    let here = safepoint state i in
+    ap (λ t. tree_cause flags D n m depth t) (block_behind state is k i lt at)
+    ∙ prepend_cause flags here D n m depth i rest
+    ∙ ap (λ o. first_emit_cause o (tree_cause flags D (n + fresh_labels (prepend here i empty)) (nominal_after m i) depth rest)) some

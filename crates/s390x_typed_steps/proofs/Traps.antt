@@ -5,6 +5,9 @@ use Rattle.s390x_base.specs.declared.trap.TrapKind.{TrapKind}
 use Rattle.s390x_buffer.specs.declared.entries.TrapEntry.{TrapEntry}
 use Rattle.s390x_format.specs.Formats.{length_of}
 use Rattle.s390x_format.proofs.FormatFacts.{length_some}
+use Rattle.s390x_base.specs.declared.regs.Reg.{Reg}
+use Rattle.s390x_inst.specs.declared.calls.CallInstDest.{CallInstDest}
+use Rattle.s390x_inst.specs.declared.calls.CallInstDest.TheVariants.{Direct, Indirect}
 use Rattle.s390x_inst.specs.declared.inst.Inst.{Inst}
 use Rattle.s390x_inst.specs.declared.inst.Inst.TheVariants.{Mov64SImm32, LoadAddr, Jump, CondBr, IndirectBr, Ret, LabelAddress, LoadSymbolReloc, Trap, TrapIf, Debugtrap, JTSequence, Vector}
 use Rattle.s390x_typed_steps.specs.MachineInstruction.{MachineInstruction, size_of}
@@ -14,9 +17,10 @@ use Rattle.s390x_inst.specs.declared.args.MemArg.{MemArg}
 use Rattle.s390x_inst.specs.declared.args.MemArg.TheVariants.{Label, Constant, Symbol}
 use Rattle.s390x_typed_steps.specs.Operands.{finalized, is_relative}
 use Rattle.s390x_typed_steps.specs.Memory.{StorageForm, RxForm, RsForm, SiForm, SilForm, VrxForm, FloatForm, MemoryInstruction, memory, type_of, storage_row, address_form, fault_code}
-use Rattle.s390x_typed_steps.specs.Steps.{Step, Plain, Opening, Back, Break, function_steps}
+use Rattle.s390x_typed_steps.specs.Steps.{Step, Plain, Opening, Back, Break, CallingStep, NoLoadStep, TailOpeningStep, TailJumpStep, function_steps}
+use Rattle.s390x_typed_steps.specs.StepBody.{Site, AtCall}
 use Rattle.s390x_typed_steps.specs.VectorComposite.{composite_rows}
-use Rattle.s390x_typed_steps.specs.Parts.{CodePart, Row, Trapping, Branch, Relative, RelativeConstant, RelativeSymbol, TableWord, part_size, parts_size, branch_parts, row_part, row_parts, access_parts, trap_here, relative_part, relative_parts, operand_parts, helper_parts, helpers_parts, memory_or, parts_or, step_parts, step_size, table_words, SymbolValue, TrapHere}
+use Rattle.s390x_typed_steps.specs.Parts.{CodePart, Row, Trapping, Branch, Relative, RelativeConstant, RelativeSymbol, TableWord, part_size, parts_size, branch_parts, row_part, row_parts, access_parts, trap_here, relative_part, relative_parts, operand_parts, helper_parts, helpers_parts, memory_or, parts_or, step_parts, step_size, table_words, SymbolValue, TrapHere, CallSymbol, SiteHere, call_part, tail_part, site_parts}
 use Rattle.s390x_typed_steps.specs.Image.{step_offset}
 use Rattle.s390x_typed_steps.specs.Traps.{part_traps, parts_traps, step_traps, traps_from, function_traps, first_code}
 
@@ -91,6 +95,8 @@ part_above p (RelativeSymbol opcode register name offset) = tt
 part_above p (SymbolValue name offset) = tt
 part_above p (TrapHere code) = (omega arith, tt)
 part_above p (TableWord before target) = tt
+part_above p (CallSymbol link name) = tt
+part_above p (SiteHere site) = tt
 
 parts_above : (p : ℕ) (parts : List CodePart) → Above p (parts_traps p parts)
 parts_above p [] = tt
@@ -108,6 +114,8 @@ parts_below p high (RelativeSymbol opcode register name offset ∷ parts) le h =
 parts_below p high (SymbolValue name offset ∷ parts) le h = parts_below (p + 8) high parts (omega arith) h
 parts_below p high (TrapHere code ∷ parts) le h = (omega (arith, h.0), parts_below (p + 0) high parts (omega arith) h.1)
 parts_below p high (TableWord before target ∷ parts) le h = parts_below (p + 4) high parts (omega arith) h
+parts_below p high (CallSymbol link name ∷ parts) le h = parts_below (p + 6) high parts (omega arith) h
+parts_below p high (SiteHere site ∷ parts) le h = parts_below (p + 0) high parts (omega arith) h
 
 words_inside : (before : ℕ) (ls : List MachLabel) → Inside (table_words before ls)
 words_inside before [] = tt
@@ -151,6 +159,8 @@ inside_append (RelativeSymbol opcode register name offset ∷ a) b h k = inside_
 inside_append (SymbolValue name offset ∷ a) b h k = inside_append a b h k
 inside_append (TrapHere code ∷ a) b h k = (omega (arith, h.0, more_parts a b), inside_append a b h.1 k)
 inside_append (TableWord before target ∷ a) b h k = inside_append a b h k
+inside_append (CallSymbol link name ∷ a) b h k = inside_append a b h k
+inside_append (SiteHere site ∷ a) b h k = inside_append a b h k
 
 access_inside : (m : Option MachineInstruction) (code : Option TrapKind) → Inside (access_parts m code)
 access_inside None code = tt
@@ -201,11 +211,27 @@ instruction_inside : (o : Option SingleInstruction) (code : Option TrapKind) (ot
 instruction_inside None code others h = h
 instruction_inside (Some x) code others h = stopping_inside x.row code
 
+sites_inside : (ss : List Site) → Inside (site_parts ss)
+sites_inside [] = tt
+sites_inside (s ∷ ss) = sites_inside ss
+
+call_inside : (link : Reg) (target : CallInstDest) (ss : List Site) → Inside (call_part link target ∷ site_parts ss)
+call_inside link (Direct name) ss = sites_inside ss
+call_inside link (Indirect reg) ss = sites_inside ss
+
+tail_inside : (target : CallInstDest) → Inside (tail_part target ∷ site_parts (AtCall ∷ []))
+tail_inside (Direct name) = tt
+tail_inside (Indirect reg) = tt
+
 step_inside : (s : Step) → Inside (step_parts s)
 step_inside (Plain i) = instruction_inside (single_instruction i) (stop_code i) (memory_or (memory i) (branch_parts i)) (memory_inside (memory i) (branch_parts i) (branch_inside i))
 step_inside Opening = tt
 step_inside (Back mask target) = tt
 step_inside (Break mask target) = tt
+step_inside (CallingStep c) = call_inside c.link c.target c.sites
+step_inside NoLoadStep = tt
+step_inside (TailOpeningStep target first_saved is_lost) = tt
+step_inside (TailJumpStep target) = tail_inside target
 
 step_below : (p : ℕ) (s : Step) → Below (p + step_size s) (step_traps p s)
 step_below p s = parts_below p (p + step_size s) (step_parts s) (omega arith) (step_inside s)

@@ -1,5 +1,6 @@
 -- Why emission refuses an instruction: the first cause, in the order of the steps.
-use Rattle.std.specs.Prelude.{ℕ, ◌+◌, pos, ◌+ℤ◌, List, [], ◌∷◌, length, map, get_or, Bool, true, false, cond, not, ◌&&◌, ◌||◌, nat_eq, nat_le, nat_lt, Option, Some, None}
+pub use Rattle.s390x_typed_steps.specs.Operands.{is_helped}
+use Rattle.std.specs.Prelude.{ℕ, ◌+◌, ◌-◌, pos, ◌+ℤ◌, List, [], ◌∷◌, length, map, get_or, Bool, true, false, cond, not, ◌&&◌, ◌||◌, nat_eq, nat_le, nat_lt, Option, Some, None}
 use Rattle.s390x_base.specs.declared.ir.MachLabel.{MachLabel}
 use Rattle.s390x_base.specs.declared.regs.Reg.{Reg}
 use Rattle.s390x_base.specs.declared.error.EmitError.{EmitError}
@@ -7,19 +8,22 @@ use Rattle.s390x_base.specs.declared.error.EmitError.TheVariants.{MissingFacilit
 use Rattle.s390x_buffer.specs.State.{BufferState, Constant as DeclaredConstant}
 use Rattle.s390x_inst.specs.declared.args.MemArg.{MemArg}
 use Rattle.s390x_inst.specs.declared.args.MemArg.TheVariants.{Label, Constant, Symbol}
+use Rattle.s390x_inst.specs.declared.calls.CallInstDest.{CallInstDest}
 use Rattle.s390x_inst.specs.declared.inst.Inst.{Inst}
 use Rattle.s390x_inst.specs.declared.inst.Inst.TheVariants.{Jump, CondBr, IndirectBr, Ret, JTSequence, CondBreak, Nop0, LabelAddress, LoadSymbolReloc, Trap, TrapIf, Debugtrap, AllocateArgs, Args, Rets, DummyUse, SequencePoint, Vector}
 use Rattle.s390x_inst.specs.declared.state.IsaFlags.{IsaFlags}
 use Rattle.s390x_inst.specs.Facilities.{facility_of, has_facility}
+use Rattle.s390x_typed_steps.specs.Calls.{is_target, is_first_saved, site_labels}
 use Rattle.s390x_typed_steps.specs.General.{is_general, is_nonzero, is_scratch}
 use Rattle.s390x_typed_steps.specs.SingleInstruction.{SingleInstruction, single_instruction}
 use Rattle.s390x_typed_steps.specs.Operands.{finalized, is_relative, has_form, needs_address, fits_32, loses_base, offset_fits, operand_general}
 use Rattle.s390x_typed_steps.specs.Memory.{StorageForm, RxForm, MemoryInstruction, memory, type_of}
 use Rattle.s390x_typed_steps.specs.Stack.{nominal_after}
+use Rattle.s390x_typed_steps.specs.StepBody.{Calling}
 use Rattle.s390x_typed_steps.specs.Storage.{relative_bytes}
 use Rattle.s390x_typed_steps.specs.VectorComposite.{composite_cause}
 use Rattle.s390x_typed_steps.specs.declared.mem_inst_type.MemInstType.{MemInstType}
-use Rattle.s390x_typed_steps.specs.Tree.{StepBody, Tree, Whole, empty, leaf, loop_node}
+use Rattle.s390x_typed_steps.specs.Tree.{StepBody, Tree, Whole, CallStep, NoLoad, TailOpening, TailJump, empty, leaf, loop_node}
 
 -- the first of two causes
 abbrev pub first_emit_cause : Option EmitError → Option EmitError → Option EmitError
@@ -85,11 +89,6 @@ declared_in s = record { blocks = s.block_count; aligns = aligns_of s.constants 
 -- what the instructions of a function may name
 abbrev pub declared_of : List Tree → List DeclaredConstant → Declared
 declared_of ts cs = record { blocks = length ts; aligns = aligns_of cs }
-
--- there are helpers
-abbrev pub is_helped : List Inst → Bool
-is_helped [] = false
-is_helped (i ∷ is) = true
 
 -- a helper writes %r1 before it is read, as the base of the operand or by the access
 abbrev pub loses_scratch : MemoryInstruction → Bool
@@ -192,14 +191,32 @@ leaf_cause flags D n nominal depth i = first_emit_cause (instruction_cause flags
 -- how many labels a body draws
 abbrev pub body_fresh_labels : StepBody → ℕ
 body_fresh_labels (Whole i) = instruction_fresh_labels i
+body_fresh_labels _ = 0
 
--- the causes of a body, with n labels in use
+-- the causes of a call: a register can't be encoded there, or its target is `%r0`; it takes from the stack another size than the allocated one, or any in a loop;
+-- a handler's label names no block
+abbrev pub call_cause : (blocks nominal depth : ℕ) → Calling → Option EmitError
+call_cause blocks nominal depth c =
+    first_emit_cause (unless (is_general c.link && is_target c.target) BadRegister)
+    (first_emit_cause (unless (nat_eq c.popped nominal && (nat_eq c.popped 0 || nat_eq depth 0)) BadStackState) (labels_cause blocks (site_labels c.sites)))
+
+-- the causes of a tail call before its frame is taken down: its target can't be called, or the saved registers begin at none of 6 to 14; the target is lost
+abbrev pub tail_cause : CallInstDest → (first_saved : Option ℕ) → (is_lost : Bool) → Option EmitError
+tail_cause target first_saved is_lost = first_emit_cause (unless (is_target target && is_first_saved first_saved) BadRegister) (unless (not is_lost) ScratchConflict)
+
+-- the causes of a body, with n labels in use. A tail call's jump has none that its opening hasn't
 abbrev pub body_cause : IsaFlags → Declared → (n nominal depth : ℕ) → StepBody → Option EmitError
 body_cause flags D n nominal depth (Whole i) = leaf_cause flags D n nominal depth i
+body_cause flags D n nominal depth (CallStep c) = call_cause D.blocks nominal depth c
+body_cause flags D n nominal depth NoLoad = Some BadOperator
+body_cause flags D n nominal depth (TailOpening target first_saved is_lost) = tail_cause target first_saved is_lost
+body_cause flags D n nominal depth (TailJump target) = unless (is_target target) BadRegister
 
 -- the nominal size behind a body
 abbrev pub body_nominal_after : (nominal : ℕ) → StepBody → ℕ
 body_nominal_after nominal (Whole i) = nominal_after nominal i
+body_nominal_after nominal (CallStep c) = nominal - c.popped
+body_nominal_after nominal _ = nominal
 
 -- how many labels a tree draws: two for each loop, and one for each table
 abbrev pub fresh_labels : Tree → ℕ

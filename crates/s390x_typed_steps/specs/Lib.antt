@@ -1,5 +1,6 @@
 pub mod SingleCode
 pub mod SingleInstruction
+pub mod Calls
 pub mod Causes
 pub mod General
 pub mod Image
@@ -13,6 +14,8 @@ pub mod Resolved
 pub mod Rows
 pub mod Sizes
 pub mod Stack
+pub mod Sites
+pub mod StepBody
 pub mod Steps
 pub mod Storage
 pub mod Relocs

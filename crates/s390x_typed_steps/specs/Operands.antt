@@ -115,6 +115,11 @@ with_widened mi f = record { helpers = f.helpers; operand = widened mi f.operand
 abbrev pub finalized : MemInstType → MemArg → Finalized
 finalized mi m = with_widened mi (addressed mi (displaced m))
 
+-- there are helpers
+abbrev pub is_helped : List Inst → Bool
+is_helped [] = false
+is_helped (i ∷ is) = true
+
 -- ---- what may be refused
 
 -- an operand whose address is relative to the instruction

@@ -4,7 +4,10 @@ use Rattle.std.specs.Prelude.{ℕ, ◌+◌, ◌-◌, List, [], ◌∷◌, ◌++�
 use Rattle.s390x_base.specs.Regs.{number_of}
 use Rattle.s390x_base.specs.declared.ir.ExternalName.{ExternalName}
 use Rattle.s390x_base.specs.declared.ir.MachLabel.{MachLabel}
+use Rattle.s390x_base.specs.declared.regs.Reg.{Reg}
 use Rattle.s390x_base.specs.declared.trap.TrapKind.{TrapKind}
+use Rattle.s390x_inst.specs.declared.calls.CallInstDest.{CallInstDest}
+use Rattle.s390x_inst.specs.declared.calls.CallInstDest.TheVariants.{Direct, Indirect}
 use Rattle.s390x_inst.specs.declared.calls.SymbolReloc.{SymbolReloc}
 use Rattle.s390x_inst.specs.declared.calls.SymbolReloc.TheVariants.{Absolute}
 use Rattle.s390x_inst.specs.declared.inst.Inst.{Inst}
@@ -17,7 +20,8 @@ use Rattle.s390x_inst.specs.declared.args.MemArg.TheVariants.{Label, Constant, S
 use Rattle.s390x_typed_steps.specs.Operands.{Finalized, finalized, is_relative}
 use Rattle.s390x_typed_steps.specs.Memory.{StorageForm, RxForm, MemoryInstruction, memory, type_of, storage_row, address_form, fault_code}
 use Rattle.s390x_typed_steps.specs.VectorComposite.{composite_rows}
-use Rattle.s390x_typed_steps.specs.Steps.{Step, Plain, Opening, Back, Break}
+use Rattle.s390x_typed_steps.specs.StepBody.{Site, AtCall}
+use Rattle.s390x_typed_steps.specs.Steps.{Step, Plain, Opening, Back, Break, CallingStep, NoLoadStep, TailOpeningStep, TailJumpStep}
 
 -- where a distance leads
 pub data Target : Type 0 where
@@ -44,6 +48,11 @@ pub data CodePart : Type 0 where
   TrapHere : TrapKind → CodePart
   -- a word of a table that begins so many bytes before it: the distance from the table's beginning to the target
   TableWord : (before : ℕ) → Target → CodePart
+  -- BRANCH RELATIVE AND SAVE LONG of the return place into the link register, or without one BRANCH RELATIVE ON CONDITION LONG, which is always taken: to a
+  -- symbol, to which linking fills in the distance
+  CallSymbol : (link : Option ℕ) → (name : ExternalName) → CodePart
+  -- no bytes: what is recorded behind a call
+  SiteHere : Site → CodePart
 
 -- a machine instruction whose stop by what it does has a code: the trap is recorded at its last byte
 abbrev pub stopping : MachineInstruction → TrapKind → CodePart
@@ -159,12 +168,31 @@ memory_or (Some x) others = memory_parts x
 abbrev pub instruction_parts : Inst → List CodePart
 instruction_parts i = parts_or (single_instruction i) (stop_code i) (memory_or (memory i) (branch_parts i))
 
--- the parts of a step; a loop's opening has none
+-- the machine instruction of a call. BRANCH AND SAVE goes to the address in a register
+abbrev pub call_part : (link : Reg) → CallInstDest → CodePart
+call_part link (Direct name) = CallSymbol (Some (number_of link)) name
+call_part link (Indirect reg) = Row (rr 0x0d (number_of link) (number_of reg))
+
+-- that of a tail call's jump
+abbrev pub tail_part : CallInstDest → CodePart
+tail_part (Direct name) = CallSymbol None name
+tail_part (Indirect reg) = Row (rr 0x07 15 (number_of reg))
+
+-- what is recorded behind it
+abbrev pub site_parts : List Site → List CodePart
+site_parts [] = []
+site_parts (s ∷ ss) = SiteHere s ∷ site_parts ss
+
+-- the parts of a step; an opening has none
 abbrev pub step_parts : Step → List CodePart
 step_parts (Plain i) = instruction_parts i
 step_parts Opening = []
 step_parts (Back mask target) = Branch mask (ToStep target) ∷ []
 step_parts (Break mask target) = Branch mask (ToStep target) ∷ []
+step_parts (CallingStep c) = call_part c.link c.target ∷ site_parts c.sites
+step_parts NoLoadStep = []
+step_parts (TailOpeningStep target first_saved is_lost) = []
+step_parts (TailJumpStep target) = tail_part target ∷ site_parts (AtCall ∷ [])
 
 -- the parts' sizes don't depend on where they lead
 abbrev pub part_size : CodePart → ℕ
@@ -177,6 +205,8 @@ part_size (RelativeSymbol opcode register name offset) = 6
 part_size (SymbolValue name offset) = 8
 part_size (TrapHere code) = 0
 part_size (TableWord before target) = 4
+part_size (CallSymbol link name) = 6
+part_size (SiteHere site) = 0
 
 -- how many bytes the parts have
 abbrev pub parts_size : List CodePart → ℕ

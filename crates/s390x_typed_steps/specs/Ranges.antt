@@ -44,6 +44,7 @@ InRange i = MaskInRange i × MemoryInRange (memory i)
 -- the same of a body
 abbrev pub BodyInRange : StepBody → Type 0
 BodyInRange (Whole i) = InRange i
+BodyInRange _ = Unit {0}
 
 -- in a tree each of these masks and displacements, and each loop's mask
 abbrev pub AllInRange : Tree → Type 0

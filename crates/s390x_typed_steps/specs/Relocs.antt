@@ -1,16 +1,17 @@
 -- The table of relocations: the fields that linking fills, by their offsets in the code.
 use Rattle.std.specs.Prelude.{ℕ, ◌+◌, pos, ◌+ℤ◌, List, [], ◌∷◌, ◌++◌}
-use Rattle.s390x_base.specs.declared.ir.Reloc.TheVariants.{S390xPCRel32Dbl, Abs8}
+use Rattle.s390x_base.specs.declared.ir.Reloc.TheVariants.{S390xPCRel32Dbl, S390xPLTRel32Dbl, Abs8}
 use Rattle.s390x_buffer.specs.declared.entries.RelocEntry.{RelocEntry}
 use Rattle.s390x_typed_steps.specs.Tree.{Tree}
 use Rattle.s390x_typed_steps.specs.Steps.{Step, function_steps}
-use Rattle.s390x_typed_steps.specs.Parts.{CodePart, RelativeSymbol, SymbolValue, part_size, step_parts}
+use Rattle.s390x_typed_steps.specs.Parts.{CodePart, RelativeSymbol, SymbolValue, CallSymbol, part_size, step_parts}
 use Rattle.s390x_typed_steps.specs.Image.{step_offset}
 
 -- the relocation that a part at an offset has, if it does
 abbrev pub part_relocs : ℕ → CodePart → List RelocEntry
 part_relocs p (RelativeSymbol opcode register name offset) = record { offset = p + 2; kind = S390xPCRel32Dbl; name = name; addend = offset +ℤ pos 2 } ∷ []
 part_relocs p (SymbolValue name offset) = record { offset = p; kind = Abs8; name = name; addend = offset } ∷ []
+part_relocs p (CallSymbol link name) = record { offset = p + 2; kind = S390xPLTRel32Dbl; name = name; addend = pos 2 } ∷ []
 part_relocs p _ = []
 
 -- those of parts from an offset on

@@ -2,9 +2,9 @@
 -- Offsets are counted in bytes from the code's beginning.
 use Rattle.std.specs.Int.{w64, to_be_bytes}
 use Rattle.s390x_base.specs.declared.ir.ExternalName.{ExternalName}
-use Rattle.std.specs.Prelude.{ℕ, ℤ, ◌+◌, ◌-◌, ◌/◌, ◌%◌, List, [], ◌∷◌, ◌++◌}
-use Rattle.s390x_typed_steps.specs.MachineInstruction.{bytes_of, ril_b, ril_c}
-use Rattle.s390x_typed_steps.specs.Parts.{Target, ToBlock, ToStep, CodePart, Row, Trapping, Branch, Relative, RelativeConstant, RelativeSymbol, SymbolValue, TrapHere, TableWord, step_parts, part_size}
+use Rattle.std.specs.Prelude.{ℕ, ℤ, pos, ◌+◌, ◌-◌, ◌/◌, ◌%◌, List, [], ◌∷◌, ◌++◌, Option, Some, None}
+use Rattle.s390x_typed_steps.specs.MachineInstruction.{MachineInstruction, bytes_of, ril_b, ril_c}
+use Rattle.s390x_typed_steps.specs.Parts.{Target, ToBlock, ToStep, CodePart, Row, Trapping, Branch, Relative, RelativeConstant, RelativeSymbol, SymbolValue, TrapHere, TableWord, CallSymbol, SiteHere, step_parts, part_size}
 use Rattle.s390x_typed_steps.specs.Steps.{Step}
 
 -- what the steps refer to outside themselves
@@ -41,6 +41,11 @@ table_distance origin before target = (before + (4294967296 + target - origin)) 
 abbrev pub word_bytes : ℕ → List ℕ
 word_bytes n = n / 16777216 % 256 ∷ n / 65536 % 256 ∷ n / 256 % 256 ∷ n % 256 ∷ []
 
+-- a call of a symbol, or a jump to it where there is no link register, by half of the distance
+abbrev pub symbol_call : (link : Option ℕ) → (half : ℕ) → MachineInstruction
+symbol_call (Some link) half = ril_b 0xc05 link half
+symbol_call None half = ril_c 0xc04 15 half
+
 -- the bytes of a part at an offset
 abbrev pub part_bytes : Offsets → ℕ → CodePart → List ℕ
 part_bytes P p (Row m) = bytes_of m
@@ -52,6 +57,8 @@ part_bytes P p (RelativeSymbol opcode register name offset) = bytes_of (ril_b op
 part_bytes P p (SymbolValue name offset) = to_be_bytes w64 (P.environment.symbol_value name offset)
 part_bytes P p (TrapHere code) = []
 part_bytes P p (TableWord before target) = word_bytes (table_distance p before (target_offset P target))
+part_bytes P p (CallSymbol link name) = bytes_of (symbol_call link (P.environment.symbol_distance p name (pos 0)))
+part_bytes P p (SiteHere site) = []
 
 -- the bytes of parts from an offset on
 abbrev pub parts_bytes : Offsets → ℕ → List CodePart → List ℕ

@@ -1,16 +1,23 @@
 -- The typed steps: a flat list that is numbered once, from 0.
-use Rattle.std.specs.Prelude.{ℕ, zero, suc, ◌+◌, List, [], ◌∷◌, ◌++◌}
-use Rattle.s390x_typed_steps.specs.Tree.{StepBody, Tree, Whole, empty, leaf, loop_node}
+use Rattle.std.specs.Prelude.{ℕ, zero, suc, ◌+◌, List, [], ◌∷◌, ◌++◌, Bool, Option}
+use Rattle.s390x_typed_steps.specs.Tree.{StepBody, Tree, Whole, CallStep, NoLoad, TailOpening, TailJump, empty, leaf, loop_node}
+use Rattle.s390x_inst.specs.declared.calls.CallInstDest.{CallInstDest}
 use Rattle.s390x_inst.specs.declared.inst.Inst.{Inst}
 use Rattle.s390x_inst.specs.declared.inst.Inst.TheVariants.{CondBreak}
+use Rattle.s390x_typed_steps.specs.StepBody.{Calling}
 
 -- A `Loop` gives an opening step without bytes, the steps of its members, and a back branch to the step after the opening.
--- A `CondBreak` in it goes to the step after that back branch. Every other instruction is one step.
+-- A `CondBreak` in it goes to the step after that back branch. A call has a step before those of its results' loads, and a tail call an opening one without bytes
+-- and its jump. Every other instruction is one step.
 pub data Step : Type 0 where
   Plain : Inst → Step
   Opening : Step
   Back : (mask target : ℕ) → Step
   Break : (mask target : ℕ) → Step
+  CallingStep : Calling → Step
+  NoLoadStep : Step
+  TailOpeningStep : (target : CallInstDest) → (first_saved : Option ℕ) → (is_lost : Bool) → Step
+  TailJumpStep : (target : CallInstDest) → Step
 
 -- how many steps a tree has
 abbrev pub step_count : Tree → ℕ
@@ -22,6 +29,10 @@ step_count (loop_node mask members rest) = 2 + step_count members + step_count r
 abbrev pub step_of : ℕ → StepBody → Step
 step_of after (Whole (CondBreak mask)) = Break mask after
 step_of after (Whole i) = Plain i
+step_of after (CallStep c) = CallingStep c
+step_of after NoLoad = NoLoadStep
+step_of after (TailOpening target first_saved is_lost) = TailOpeningStep target first_saved is_lost
+step_of after (TailJump target) = TailJumpStep target
 
 -- the steps from number k on, in a loop that ends at the step `after`
 abbrev pub steps_of : (k after : ℕ) → Tree → List Step
