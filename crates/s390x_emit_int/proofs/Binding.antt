@@ -8,14 +8,14 @@ use Rattle.s390x_buffer.specs.Patch.{offset_of_label, bound_offset}
 use Rattle.s390x_base.specs.Regs.{number_of}
 use Rattle.s390x_inst.specs.declared.inst.Inst.{Inst}
 use Rattle.s390x_inst.specs.declared.inst.Inst.TheVariants.{JTSequence}
-use Rattle.s390x_typed_steps.specs.Tree.{Tree, empty, leaf, loop_node, Whole}
-use Rattle.s390x_typed_steps.specs.Sizes.{instruction_size, tree_size}
-use Rattle.s390x_typed_steps.specs.Causes.{instruction_fresh_labels, fresh_labels}
+use Rattle.s390x_typed_steps.specs.Tree.{Tree, empty, leaf, loop_node, Whole, StepBody}
+use Rattle.s390x_typed_steps.specs.Sizes.{tree_size, body_size}
+use Rattle.s390x_typed_steps.specs.Causes.{fresh_labels, body_fresh_labels}
 use Rattle.s390x_typed_steps.specs.MachineInstruction.{ril_c, bytes_of}
 use Rattle.s390x_emit_int.specs.Fragments.{apply, apply_all, StartStep}
-use Rattle.s390x_emit_int.specs.Emission.{leaf_fragments, back_fragments, fragments}
-use Rattle.s390x_emit_int.specs.Bound.{LeafBound, Bound}
-use Rattle.s390x_emit_int.proofs.Runs.{Grows, grows_on, run-append, leaf_grows, step_grows, table_label, tree_grows, opened, opened_labels, opened_grows, body_run, loop_run, end_grows, length-branch}
+use Rattle.s390x_emit_int.specs.Emission.{leaf_fragments, back_fragments, fragments, body_fragments}
+use Rattle.s390x_emit_int.specs.Bound.{LeafBound, Bound, BodyBound}
+use Rattle.s390x_emit_int.proofs.Runs.{Grows, grows_on, run-append, leaf_grows, step_grows, table_label, tree_grows, opened, opened_labels, opened_grows, body_run, loop_run, end_grows, length-branch, body_grows}
 
 -- the labels from number n on stand as this state has them
 abbrev pub Tells : (ℕ → ℕ) → ℕ → BufferState → Type 0
@@ -41,17 +41,21 @@ leaf_bound (JTSequence ridx other mask targets) s n after off e tells =
     tells n (omega arith) (omega (arith, g.labels)) ∙ ap bound_offset (table_label s n (number_of ridx) mask other.0 targets.items e)
 leaf_bound i s n after off e tells = tt
 
+body_bound : (b : StepBody) (s : BufferState) (n after : ℕ) (off : ℕ → ℕ) → n ≡ length s.labels → Tells off n (apply_all s (body_fragments n after b)) → BodyBound off n (length s.bytes) b
+body_bound (Whole i) s n after off e tells = leaf_bound i s n after off e tells
+body_bound b s n after off e tells = tt
+
 pub tree_bound : (t : Tree) (s : BufferState) (n after : ℕ) (off : ℕ → ℕ) → n ≡ length s.labels → Tells off n (apply_all s (fragments n after t)) → Bound off n (length s.bytes) t
 tree_bound empty s n after off e tells = tt
-tree_bound (leaf (Whole i) rest) s n after off e tells =
+tree_bound (leaf b rest) s n after off e tells =
     let s1 = apply s StartStep in
-    let s2 = apply_all s1 (leaf_fragments n after i) in
-    let n' = n + instruction_fresh_labels i in
-    let g : Grows s s2 (instruction_fresh_labels i) (instruction_size i) = step_grows s s2 _ _ (leaf_grows i s1 n after e) in
+    let s2 = apply_all s1 (body_fragments n after b) in
+    let n' = n + body_fresh_labels b in
+    let g : Grows s s2 (body_fresh_labels b) (body_size b) = step_grows s s2 _ _ (body_grows b s1 n after e) in
     let n2 : n' ≡ length s2.labels = omega (arith, g.labels) in
     let u = apply_all s2 (fragments n' after rest) in
-    let tells' : Tells off n u = subst (Tells off n) (run-append s1 (leaf_fragments n after i) (fragments n' after rest)) tells in
-    let here = leaf_bound i s1 n after off e (tells_before off n n s2 u _ _ (omega arith) (tree_grows rest s2 n' after n2) tells') in
+    let tells' : Tells off n u = subst (Tells off n) (run-append s1 (body_fragments n after b) (fragments n' after rest)) tells in
+    let here = body_bound b s1 n after off e (tells_before off n n s2 u _ _ (omega arith) (tree_grows rest s2 n' after n2) tells') in
     let there = tree_bound rest s2 n' after off n2 (λ l lo hi. tells' l (omega arith) hi) in
     (here, subst (λ m. Bound off n' m rest) g.bytes there)
 tree_bound (loop_node mask members rest) s n after off e tells =

@@ -8,13 +8,13 @@ use Rattle.s390x_buffer.specs.Patch.{is_bound}
 use Rattle.s390x_base.specs.Regs.{number_of}
 use Rattle.s390x_inst.specs.declared.inst.Inst.{Inst}
 use Rattle.s390x_inst.specs.declared.inst.Inst.TheVariants.{JTSequence}
-use Rattle.s390x_typed_steps.specs.Tree.{Tree, empty, leaf, loop_node, Whole}
-use Rattle.s390x_typed_steps.specs.Sizes.{instruction_size, tree_size}
-use Rattle.s390x_typed_steps.specs.Causes.{instruction_fresh_labels, fresh_labels}
+use Rattle.s390x_typed_steps.specs.Tree.{Tree, empty, leaf, loop_node, Whole, StepBody}
+use Rattle.s390x_typed_steps.specs.Sizes.{tree_size, body_size}
+use Rattle.s390x_typed_steps.specs.Causes.{instruction_fresh_labels, fresh_labels, body_fresh_labels}
 use Rattle.s390x_typed_steps.specs.MachineInstruction.{ril_c, bytes_of}
 use Rattle.s390x_emit_int.specs.Fragments.{apply, apply_all, StartStep}
-use Rattle.s390x_emit_int.specs.Emission.{leaf_fragments, back_fragments, fragments, function_fragments}
-use Rattle.s390x_emit_int.proofs.Runs.{Grows, grows_on, run-append, leaf_grows, step_grows, table_label, tree_grows, opened, opened_labels, opened_grows, body_run, loop_run, end_grows}
+use Rattle.s390x_emit_int.specs.Emission.{leaf_fragments, back_fragments, fragments, function_fragments, body_fragments}
+use Rattle.s390x_emit_int.proofs.Runs.{Grows, grows_on, run-append, step_grows, table_label, tree_grows, opened, opened_labels, opened_grows, body_run, loop_run, end_grows, body_grows}
 use Rattle.s390x_emit_int.proofs.Binding.{opened_start}
 use Rattle.s390x_emit_int.proofs.Functions.{bound_state, block_state, block_grows, block_labels, later}
 
@@ -34,19 +34,23 @@ leaf_closed (JTSequence ridx other mask targets) s n after l e lo hi =
     ap (is_bound (apply_all s fragments).labels) same ∙ ap is_some (table_label s n (number_of ridx) mask other.0 targets.items e)
 leaf_closed i s n after l e lo hi = absurd (omega arith)
 
+body_closed : (b : StepBody) (s : BufferState) (n after l : ℕ) → n ≡ length s.labels → n ≤ l → l < n + body_fresh_labels b → is_bound (apply_all s (body_fragments n after b)).labels l ≡ true
+body_closed (Whole i) s n after l e lo hi = leaf_closed i s n after l e lo hi
+body_closed b s n after l e lo hi = absurd (omega arith)
+
 -- the labels that a tree draws, from number n on, are bound behind it
 pub tree_closed : (t : Tree) (s : BufferState) (n after l : ℕ) → n ≡ length s.labels → n ≤ l → l < length (apply_all s (fragments n after t)).labels → is_bound (apply_all s (fragments n after t)).labels l ≡ true
 tree_closed empty s n after l e lo hi = absurd (omega arith)
-tree_closed (leaf (Whole i) rest) s n after l e lo hi =
+tree_closed (leaf b rest) s n after l e lo hi =
     let s1 = apply s StartStep in
-    let s2 = apply_all s1 (leaf_fragments n after i) in
-    let n' = n + instruction_fresh_labels i in
-    let g : Grows s s2 (instruction_fresh_labels i) (instruction_size i) = step_grows s s2 _ _ (leaf_grows i s1 n after e) in
+    let s2 = apply_all s1 (body_fragments n after b) in
+    let n' = n + body_fresh_labels b in
+    let g : Grows s s2 (body_fresh_labels b) (body_size b) = step_grows s s2 _ _ (body_grows b s1 n after e) in
     let n2 : n' ≡ length s2.labels = omega (arith, g.labels) in
-    let whole : apply_all s (fragments n after (leaf (Whole i) rest)) ≡ apply_all s2 (fragments n' after rest) = run-append s1 (leaf_fragments n after i) (fragments n' after rest) in
+    let whole : apply_all s (fragments n after (leaf b rest)) ≡ apply_all s2 (fragments n' after rest) = run-append s1 (body_fragments n after b) (fragments n' after rest) in
     let hi2 : l < length (apply_all s2 (fragments n' after rest)).labels = omega (arith, hi, ap (λ x. length x.labels) whole) in
     ap (λ x. is_bound x.labels l) whole ∙ elim (cases_lt l n') [
-      | inl lt ↦ ap is_some ((tree_grows rest s2 n' after n2).kept l (omega (arith, n2))) ∙ leaf_closed i s1 n after l e lo lt
+      | inl lt ↦ ap is_some ((tree_grows rest s2 n' after n2).kept l (omega (arith, n2))) ∙ body_closed b s1 n after l e lo lt
       | inr ge ↦ tree_closed rest s2 n' after l n2 ge hi2
     ]
 tree_closed (loop_node mask members rest) s n after l e lo hi =

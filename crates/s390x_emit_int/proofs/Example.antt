@@ -5,7 +5,7 @@ use Rattle.s390x_format.specs.Layout.{number, bits}
 use Rattle.s390x_format.specs.Formats.{layout_of, length_of}
 use Rattle.s390x_format.specs.Reading.{be_bytes}
 use Rattle.s390x_buffer.specs.declared.entries.MachBufferFinalized.{MachBufferFinalized}
-use Rattle.s390x_base.specs.declared.ir.Reloc.TheVariants.{S390xPCRel32Dbl}
+use Rattle.s390x_base.specs.declared.ir.Reloc.TheVariants.{S390xPCRel32Dbl, S390xPLTRel32Dbl}
 use Rattle.s390x_base.specs.declared.trap.TrapKind.TheVariants.{User}
 use Rattle.s390x_buffer.specs.declared.entries.RelocEntry.{RelocEntry}
 use Rattle.s390x_image.specs.Causes.{first_link_cause, symbol_cause}
@@ -17,8 +17,9 @@ use Rattle.s390x_machine.specs.Example.{image, trees}
 use Rattle.s390x_machine.specs.RelativeExample as Relative
 use Rattle.s390x_machine.proofs.Example.{ranges, loop_runs}
 use Rattle.s390x_machine.proofs.RelativeExample as Relatively
+use Rattle.s390x_emit_int.specs.CallExample as Call
 use Rattle.s390x_emit_int.specs.Function.{IsFinishedCode}
-use Rattle.s390x_emit_int.specs.Example.{LinkedLoopRuns, LinkedTrapRuns, symbols}
+use Rattle.s390x_emit_int.specs.Example.{LinkedLoopRuns, LinkedTrapRuns, LinkedCallStands, symbols}
 
 -- a vector of these
 vec : {X : Type 0} (items : List X) → length items < 2 ^ 63 → Vec X Global
@@ -128,4 +129,67 @@ linked_trap_runs = record {
   links = ap (λ o. first_link_cause (symbol_cause 4096 to_symbol o) None) found;
   lies = subst (λ l. IsLoaded (record { base = 4096; bytes = l }) Relative.core.memory) (sym linked_bytes) Relatively.relative_runs.lies;
   run = subst (λ l. Run (record { base = 4096; bytes = l }) (record { core = Relative.core; address = 4096 }) Relative.trace) (sym linked_bytes) Relatively.relative_runs.run;
+}
+
+-- ---- the function with a call
+
+abbrev unlinked_call : List ℕ
+unlinked_call = 0xc0 ∷ 0xe5 ∷ 0x00 ∷ 0x00 ∷ 0x00 ∷ 0x00 ∷ 0x07 ∷ 0xf7 ∷ []
+
+-- the relocation of the call
+abbrev to_callee : RelocEntry
+to_callee = record { offset = 2; kind = S390xPLTRel32Dbl; name = record { 0 = 1 }; addend = pos 2 }
+
+call_code : MachBufferFinalized
+call_code = record {
+  bytes = vec unlinked_call (omega arith);
+  block_starts = vec (0 ∷ []) (omega arith);
+  constant_starts = vec [] (omega arith);
+  starts = vec (0 ∷ 6 ∷ []) (omega arith);
+  relocs = vec (to_callee ∷ []) (omega arith);
+  traps = vec [] (omega arith);
+  call_sites = vec (6 ∷ []) (omega arith);
+  try_call_sites = vec [] (omega arith);
+  patchable_sites = vec [] (omega arith);
+  stack_maps = vec [] (omega arith);
+  alignment = 4;
+}
+
+call_finished : IsFinishedCode Call.trees [] call_code
+unfolding vec call_code number bits layout_of length_of be_bytes
+call_finished = record {
+  bytes = refl;
+  block_starts = refl;
+  constant_starts = refl;
+  starts = refl;
+  relocs = refl;
+  traps = refl;
+  call_sites = refl;
+  try_call_sites = refl;
+  patchable_sites = refl;
+  stack_maps = refl;
+  alignment = refl;
+  short = omega arith;
+}
+
+linked_call : filled 4096 symbols (to_callee ∷ []) unlinked_call ≡ Call.image.bytes
+unfolding be_bytes
+linked_call = ap (λ o. fill 4096 (address_or_zero o) to_callee unlinked_call) found
+
+call_loaded : IsLoaded Call.image Call.core.memory
+call_loaded = record { has = λ a h. h; get = λ a h. refl }
+
+pub linked_call_stands : LinkedCallStands
+unfolding vec call_code length_of
+linked_call_stands = record {
+  stands = record {
+    code = call_code;
+    checked = refl;
+    masks = ((tt, ((tt, tt), tt)), tt);
+    finished = call_finished;
+    links = ap (λ o. first_link_cause (symbol_cause 4096 to_callee o) None) found;
+    lies = subst (λ l. IsLoaded (record { base = 4096; bytes = l }) Call.core.memory) (sym linked_call) call_loaded;
+    run = tt;
+  };
+  calls = refl;
 }

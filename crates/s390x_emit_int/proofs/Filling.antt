@@ -1,5 +1,5 @@
 -- The fields that linking fills make the code before linking the code after it.
-use Rattle.std.proofs.Common.{◌≡◌, ℕ, ◌+◌, ◌≤◌, List, [], ◌∷◌, ◌++◌, length, take, drop, refl, sym, ap, ◌∙◌, subst, arith, length-append, append_assoc}
+use Rattle.std.proofs.Common.{◌≡◌, ℕ, ◌+◌, ◌≤◌, Option, Some, None, List, [], ◌∷◌, ◌++◌, length, take, drop, refl, sym, ap, ◌∙◌, subst, arith, length-append, append_assoc}
 use Rattle.std.proofs.Math.Seq.{take-append_seam, drop-append_seam}
 use Rattle.std.specs.Prelude.{ℤ, pos, ◌+ℤ◌, ◌-ℤ◌}
 use Rattle.std.proofs.lemmas.Int.{ints}
@@ -7,18 +7,21 @@ use Rattle.std.specs.List.{All}
 use Rattle.std.proofs.lemmas.List.Elements.{All-nil, All-push, All-append}
 use Rattle.std.specs.Int.{w32, w64, cast_unsigned, to_be_bytes}
 use Rattle.std.specs.Int.RustNames.{int_div}
+use Rattle.s390x_format.specs.Layout.{number, bits}
+use Rattle.s390x_format.specs.Formats.{layout_of, length_of}
+use Rattle.s390x_format.specs.Reading.{be_bytes}
 use Rattle.s390x_base.specs.declared.ir.ExternalName.{ExternalName}
 use Rattle.s390x_buffer.specs.declared.entries.RelocEntry.{RelocEntry}
 use Rattle.s390x_image.specs.Symbols.{Symbols, address_of}
-use Rattle.s390x_base.specs.declared.ir.Reloc.TheVariants.{S390xPCRel32Dbl}
+use Rattle.s390x_base.specs.declared.ir.Reloc.TheVariants.{S390xPCRel32Dbl, S390xPLTRel32Dbl}
 use Rattle.s390x_image.specs.Fields.{address_or_zero, stored, filled, LiesIn}
 use Rattle.s390x_image.specs.Values.{symbol_value, symbol_distance}
 use Rattle.s390x_typed_steps.specs.Tree.{Tree}
 use Rattle.s390x_typed_steps.specs.Steps.{Step, function_steps}
-use Rattle.s390x_typed_steps.specs.Parts.{CodePart, Row, Trapping, Branch, Relative, RelativeConstant, RelativeSymbol, SymbolValue, TrapHere, TableWord, ToBlock, ToStep, part_size, parts_size, step_parts}
-use Rattle.s390x_typed_steps.specs.MachineInstruction.{ril_b, bytes_of}
+use Rattle.s390x_typed_steps.specs.Parts.{CodePart, Row, Trapping, Branch, Relative, RelativeConstant, RelativeSymbol, SymbolValue, TrapHere, TableWord, ToBlock, ToStep, part_size, parts_size, step_parts, CallSymbol, SiteHere}
+use Rattle.s390x_typed_steps.specs.MachineInstruction.{ril_b, ril_c, bytes_of}
 use Rattle.s390x_typed_steps.specs.Sizes.{blocks_size}
-use Rattle.s390x_typed_steps.specs.Rows.{LinkEnvironment, Offsets, part_bytes, parts_bytes, step_bytes}
+use Rattle.s390x_typed_steps.specs.Rows.{LinkEnvironment, Offsets, symbol_call, part_bytes, parts_bytes, step_bytes}
 use Rattle.s390x_typed_steps.specs.Relocs.{part_relocs, parts_relocs, step_relocs, relocs_from, function_relocs}
 use Rattle.s390x_typed_steps.specs.Image.{step_offset, offsets, unlinked, code, function_code}
 use Rattle.s390x_machine.proofs.Standing.{part_length, step_length}
@@ -69,6 +72,22 @@ relative_filled base table opcode register p name offset earlier later e =
     ∙ stored_between (earlier ++ head) (to_be_bytes w32 0) (to_be_bytes w32 (half distance)) later (p + 2) at refl
     ∙ new
 
+-- a branch that is always taken has the bytes of an address relative to the instruction
+jump_bytes : (half : ℕ) → bytes_of (ril_c 0xc04 15 half) ≡ bytes_of (ril_b 0xc04 15 half)
+unfolding length_of layout_of number bits be_bytes
+jump_bytes half = refl
+
+-- the field of a call of a symbol, or of a jump to it
+call_filled : (base : ℕ) (table : Symbols) (link : Option ℕ) (p : ℕ) (name : ExternalName) (earlier later : List ℕ) → p ≡ length earlier →
+    filled base table (record { offset = p + 2; kind = S390xPLTRel32Dbl; name = name; addend = pos 2 } ∷ []) (earlier ++ (bytes_of (symbol_call link 0) ++ later))
+    ≡ earlier ++ (bytes_of (symbol_call link (symbol_distance base table p name (pos 0))) ++ later)
+call_filled base table (Some link) p name earlier later e = relative_filled base table 0xc05 link p name (pos 0) earlier later e
+call_filled base table None p name earlier later e =
+    let r : RelocEntry = record { offset = p + 2; kind = S390xPLTRel32Dbl; name = name; addend = pos 2 } in
+    ap (λ bs. filled base table (r ∷ []) (earlier ++ (bs ++ later))) (jump_bytes 0)
+    ∙ relative_filled base table 0xc04 15 p name (pos 0) earlier later e
+    ∙ ap (λ bs. earlier ++ (bs ++ later)) (sym (jump_bytes (symbol_distance base table p name (pos 0))))
+
 module _ (base : ℕ) (table : Symbols) (ts : List Tree) (cs : List Constant) where
   part_filled : (part : CodePart) (p : ℕ) (earlier later : List ℕ) → p ≡ length earlier → filled base table (part_relocs p part) (earlier ++ (part_bytes (offsets (unlinked ts cs) ts) p part ++ later)) ≡ earlier ++ (part_bytes (offsets (linked table base ts cs) ts) p part ++ later)
   part_filled (Row m) p earlier later e = refl
@@ -80,6 +99,8 @@ module _ (base : ℕ) (table : Symbols) (ts : List Tree) (cs : List Constant) wh
   part_filled (RelativeConstant opcode register c) p earlier later e = refl
   part_filled (RelativeSymbol opcode register name offset) p earlier later e = relative_filled base table opcode register p name offset earlier later e
   part_filled (TrapHere code) p earlier later e = refl
+  part_filled (CallSymbol link name) p earlier later e = call_filled base table link p name earlier later e
+  part_filled (SiteHere site) p earlier later e = refl
   part_filled (TableWord before (ToBlock b)) p earlier later e = refl
   part_filled (TableWord before (ToStep k)) p earlier later e = refl
   part_filled (SymbolValue name offset) p earlier later e = stored_between earlier (to_be_bytes w64 0) (to_be_bytes w64 (symbol_value table name offset)) later p e refl
@@ -148,6 +169,8 @@ parts_lie (part ∷ parts) p n le = All-append (LiesIn n) (part_relocs p part) (
     part_lies (Branch mask target) p n le = All-nil (LiesIn n)
     part_lies (Relative opcode register target) p n le = All-nil (LiesIn n)
     part_lies (TrapHere code) p n le = All-nil (LiesIn n)
+    part_lies (CallSymbol link name) p n le = All-push (LiesIn n) [] _ (All-nil (LiesIn n)) (omega arith)
+    part_lies (SiteHere site) p n le = All-nil (LiesIn n)
     part_lies (TableWord before target) p n le = All-nil (LiesIn n)
 
 steps_lie : (at : ℕ → ℕ) (k n : ℕ) (ss : List Step) → StepsFollow at k ss → at k + total ss ≤ n → All (LiesIn n) (relocs_from at k ss)

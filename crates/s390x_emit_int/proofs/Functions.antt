@@ -5,16 +5,16 @@ use Rattle.s390x_buffer.specs.State.{BufferState}
 use Rattle.s390x_buffer.specs.Patch.{offset_of_label, bound_offset}
 use Rattle.s390x_inst.specs.declared.inst.Inst.{Inst}
 use Rattle.s390x_inst.specs.declared.inst.Inst.TheVariants.{CondBreak, JTSequence}
-use Rattle.s390x_typed_steps.specs.Tree.{Tree, empty, leaf, loop_node, Whole}
-use Rattle.s390x_typed_steps.specs.Steps.{Step as TypedStep, step_count, steps_of, steps_from, first_step}
+use Rattle.s390x_typed_steps.specs.Tree.{Tree, empty, leaf, loop_node, Whole, StepBody}
+use Rattle.s390x_typed_steps.specs.Steps.{Step as TypedStep, step_count, steps_of, steps_from, first_step, step_of}
 use Rattle.s390x_typed_steps.specs.MachineInstruction.{ril_b, ril_c, bytes_of}
-use Rattle.s390x_typed_steps.specs.Parts.{CodePart, Row, Trapping, Branch, Relative, RelativeConstant, RelativeSymbol, SymbolValue, TrapHere, TableWord, ToBlock, ToStep, table_words, instruction_parts, step_size}
+use Rattle.s390x_typed_steps.specs.Parts.{CodePart, Row, Trapping, Branch, Relative, RelativeConstant, RelativeSymbol, SymbolValue, TrapHere, TableWord, ToBlock, ToStep, table_words, instruction_parts, step_size, CallSymbol, SiteHere, step_parts}
 use Rattle.s390x_typed_steps.specs.Rows.{Offsets}
 use Rattle.s390x_typed_steps.specs.Image.{step_offset, code, step_offsets, block_offsets}
 use Rattle.s390x_typed_steps.specs.Sizes.{tree_size, blocks_size}
-use Rattle.s390x_typed_steps.specs.Causes.{instruction_fresh_labels, fresh_labels}
-use Rattle.s390x_emit_int.specs.Fragments.{Fragment, apply, apply_all, Put, PutTrapping, PutReloc, Link, LinkConstant, StartStep, Draw, Bind}
-use Rattle.s390x_emit_int.specs.Emission.{part_fragments, leaf_fragments, back_fragments, fragments, function_fragments}
+use Rattle.s390x_typed_steps.specs.Causes.{fresh_labels, body_fresh_labels}
+use Rattle.s390x_emit_int.specs.Fragments.{Fragment, apply, apply_all, Put, PutTrapping, PutReloc, Link, LinkConstant, StartStep, Draw, Bind, AddSite}
+use Rattle.s390x_emit_int.specs.Emission.{part_fragments, leaf_fragments, back_fragments, fragments, function_fragments, body_fragments}
 use Rattle.s390x_emit_int.specs.Resolve.{resolve, put_length, Wide}
 use Rattle.s390x_emit_int.specs.Bound.{StepsFollow, TreesName, AllBound}
 use Rattle.s390x_emit_int.proofs.Runs.{Grows, run-append, tree_grows, length-branch, length-relative}
@@ -33,6 +33,7 @@ wide_append (LinkConstant c bs ∷ a) b v w = (v.0, wide_append a b v.1 w)
 wide_append (StartStep ∷ a) b v w = wide_append a b v w
 wide_append (Draw ∷ a) b v w = wide_append a b v w
 wide_append (Bind l ∷ a) b v w = wide_append a b v w
+wide_append (AddSite site ∷ a) b v w = wide_append a b v w
 
 wide_branch : (mask : ℕ) → 6 ≤ length (bytes_of (ril_c 0xc04 mask 0))
 wide_branch mask = omega (arith, length-branch mask)
@@ -54,15 +55,21 @@ parts_wide (SymbolValue name offset ∷ parts) = parts_wide parts
 parts_wide (TrapHere code ∷ parts) = parts_wide parts
 parts_wide (TableWord before (ToBlock b) ∷ parts) = (omega arith, parts_wide parts)
 parts_wide (TableWord before (ToStep k) ∷ parts) = (omega arith, parts_wide parts)
+parts_wide (CallSymbol link name ∷ parts) = parts_wide parts
+parts_wide (SiteHere site ∷ parts) = parts_wide parts
 
 leaf_wide : (i : Inst) (n after : ℕ) → Wide (leaf_fragments n after i)
 leaf_wide (CondBreak mask) n after = (wide_branch mask, tt)
 leaf_wide (JTSequence ridx other mask targets) n after = (wide_branch mask, (wide_relative 0xc00 1, parts_wide (table_words 0 targets.items)))
 leaf_wide i n after = parts_wide (instruction_parts i)
 
+body_wide : (b : StepBody) (n after : ℕ) → Wide (body_fragments n after b)
+body_wide (Whole i) n after = leaf_wide i n after
+body_wide b n after = parts_wide (step_parts (step_of 0 b))
+
 pub tree_wide : (t : Tree) (n after : ℕ) → Wide (fragments n after t)
 tree_wide empty n after = tt
-tree_wide (leaf (Whole i) rest) n after = wide_append (leaf_fragments n after i) (fragments (n + instruction_fresh_labels i) after rest) (leaf_wide i n after) (tree_wide rest (n + instruction_fresh_labels i) after)
+tree_wide (leaf b rest) n after = wide_append (body_fragments n after b) (fragments (n + body_fresh_labels b) after rest) (body_wide b n after) (tree_wide rest (n + body_fresh_labels b) after)
 tree_wide (loop_node mask members rest) n after =
     let r = fragments (n + 2 + fresh_labels members) after rest in
     wide_append (fragments (n + 2) (n + 1) members) (back_fragments n mask ++ r) (tree_wide members (n + 2) (n + 1)) (wide_branch mask, tree_wide rest (n + 2 + fresh_labels members) after)

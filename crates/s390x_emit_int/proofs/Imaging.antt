@@ -1,4 +1,7 @@
 -- The finished function is its image.
+use Rattle.s390x_emit_int.proofs.Handlers.{sites_agree, function_named}
+use Rattle.s390x_emit_int.proofs.Siting.{Sited, sited, sites_run, function_sited}
+use Rattle.s390x_typed_steps.specs.Sites.{function_sites, call_offsets, patches, stack_maps, try_sites, block_offset, function_try_entries}
 use Rattle.std.proofs.Common.{◌≡◌, ℕ, suc, ◌+◌, ◌-◌, ◌<◌, ◌≤◌, ◌≢◌, List, [], ◌∷◌, ◌++◌, length, map, get_or, take, drop, refl, sym, ap, ◌∙◌, subst, arith, length-append, length-set, zero-add, drop-cons, length-take, Option, None, Some}
 use Rattle.std.proofs.lemmas.List.{length-map, length-replicate, get_or_append_left, get_or-append-add, get_or-take, get_or-drop}
 use Rattle.s390x_inst.specs.Emission.{Emission}
@@ -9,7 +12,7 @@ use Rattle.s390x_buffer.specs.Constants.{constant_start, constant_starts, consta
 use Rattle.s390x_buffer.specs.Finish.{Finished, bind_constants, final_labels, starts_of_constants, bound_site}
 use Rattle.s390x_buffer.specs.declared.entries.MachBufferFinalized.{MachBufferFinalized}
 use Rattle.s390x_inst.specs.declared.function.Block.{Block}
-use Rattle.s390x_typed_steps.specs.Tree.{Tree, tree}
+use Rattle.s390x_typed_steps.specs.Tree.{Tree, block_tree}
 use Rattle.s390x_typed_steps.specs.Ranges.{AllInRange, BlocksInRange}
 use Rattle.s390x_emit_int.specs.Room.{HasRoom}
 use Rattle.s390x_inst.specs.declared.inst.Inst.{Inst}
@@ -17,7 +20,7 @@ use Rattle.s390x_typed_steps.specs.Steps.{function_steps, first_step}
 use Rattle.s390x_typed_steps.specs.Image.{step_offset, offsets, constant_offset, unlinked, function_code}
 use Rattle.s390x_typed_steps.specs.Sizes.{blocks_size}
 use Rattle.s390x_typed_steps.specs.Causes.{declared_of, fresh_labels, blocks_cause}
-use Rattle.s390x_emit_int.specs.Fragments.{Fragment, apply, apply_all, Put, PutTrapping, PutReloc, Link, LinkConstant, StartStep, Draw, Bind}
+use Rattle.s390x_emit_int.specs.Fragments.{Fragment, apply, apply_all, Put, PutTrapping, PutReloc, Link, LinkConstant, StartStep, Draw, Bind, AddSite}
 use Rattle.s390x_emit_int.specs.Emission.{fragments, function_fragments}
 use Rattle.s390x_emit_int.specs.Resolve.{resolve, put_length, Wide, UsesWithin}
 use Rattle.s390x_emit_int.specs.Bound.{TreesName, AllBound}
@@ -45,6 +48,7 @@ bytes_run (LinkConstant c bs ∷ ps) s = omega (arith, bytes_run ps (apply s (Li
 bytes_run (StartStep ∷ ps) s = bytes_run ps (apply s StartStep)
 bytes_run (Draw ∷ ps) s = bytes_run ps (apply s Draw)
 bytes_run (Bind l ∷ ps) s = bytes_run ps (apply s (Bind l))
+bytes_run (AddSite site ∷ ps) s = bytes_run ps (apply s (AddSite site))
 
 -- the uses lie within the bytes
 within_run : (ps : List Fragment) (s : BufferState) → UsesWithin (length s.bytes) s.uses → Wide ps → UsesWithin (length (apply_all s ps).bytes) (apply_all s ps).uses
@@ -69,6 +73,7 @@ within_run (LinkConstant c bs ∷ ps) s w h =
 within_run (StartStep ∷ ps) s w h = within_run ps (apply s StartStep) w h
 within_run (Draw ∷ ps) s w h = within_run ps (apply s Draw) w h
 within_run (Bind l ∷ ps) s w h = within_run ps (apply s (Bind l)) w h
+within_run (AddSite site ∷ ps) s w h = within_run ps (apply s (AddSite site)) w h
 
 -- binding the constants leaves the labels before theirs, and those behind
 pub low_label : (n : ℕ) (starts : List ℕ) (labels : List (Option ℕ)) (l : ℕ) → l < n → n ≤ length labels → get_or (bind_constants n starts labels) l None ≡ get_or labels l None
@@ -146,6 +151,9 @@ image_of flags ts cs u0 f emitted fin0 =
     let sized : length code ≡ blocks_size ts = ap length (sym body) ∙ length-patch_all off u.uses u.bytes ∙ size in
     let whole : f.bytes.items ≡ code ++ constant_bytes (blocks_size ts) cs = fin.bytes ∙ all_left off u.uses u.bytes (constant_bytes (length u.bytes) u.constants) within ∙ ap (λ l. l ++ constant_bytes (length u.bytes) u.constants) body ∙ ap (λ m. code ++ constant_bytes m u.constants) size ∙ ap (λ x. code ++ constant_bytes (blocks_size ts) x) same.constants in
     let ends : length f.bytes.items ≡ constants_end (length u.bytes) u.constants = ap length whole ∙ length-append code (constant_bytes (blocks_size ts) cs) ∙ ap (λ m. m + length (constant_bytes (blocks_size ts) cs)) sized ∙ length-constant_bytes (blocks_size ts) cs ∙ ap (λ m. constants_end m cs) (sym size) ∙ ap (constants_end (length u.bytes)) (sym same.constants) in
+    let sites : Sited s0 u (sited 0 ps) = sites_run ps s0 in
+    let placed : sited 0 ps ≡ function_sites ts = ap (λ m. sited m ps) (sym (place_zero all)) ∙ function_sited ts at n 0 0 follow in
+    let handled : map (bound_site off) (try_sites (function_sites ts)) ≡ function_try_entries ts = sites_agree b off (block_offset ts) agree (function_sites ts) (function_named ts at 0 b (length cs) names) in
     record {
       short = omega (arith, ends, fin.small);
       bytes = whole;
@@ -154,10 +162,10 @@ image_of flags ts cs u0 f emitted fin0 =
       starts = fin.starts ∙ starts_run ps s0 ∙ ap (λ m. marks m ps) (sym (place_zero all)) ∙ function_marks ts at n 0 0 follow;
       relocs = fin.relocs ∙ relocs_run ps s0 ∙ ap (λ m. relocated m ps) (sym (place_zero all)) ∙ function_relocated ts at n 0 0 follow;
       traps = fin.traps ∙ traps_run ps s0 ∙ ap (λ m. recorded m ps) (sym (place_zero all)) ∙ function_recorded ts at n 0 0 follow;
-      call_sites = fin.call_sites ∙ same.call_sites;
-      try_call_sites = fin.try_call_sites ∙ ap (λ x. map (bound_site off) x) same.try_call_sites;
-      patchable_sites = fin.patchable_sites ∙ same.patchable_sites;
-      stack_maps = fin.stack_maps ∙ same.stack_maps;
+      call_sites = fin.call_sites ∙ sites.calls ∙ ap call_offsets placed;
+      try_call_sites = fin.try_call_sites ∙ ap (λ x. map (bound_site off) x) (sites.tries ∙ ap try_sites placed) ∙ handled;
+      patchable_sites = fin.patchable_sites ∙ sites.patched ∙ ap patches placed;
+      stack_maps = fin.stack_maps ∙ sites.mapped ∙ ap stack_maps placed;
       alignment = fin.alignment ∙ ap (λ x. greatest_align 4 x) same.constants;
     }
 
@@ -205,8 +213,8 @@ block_room k t s s1 s2 room e1 e2 =
     let same : Same s (block_state s n k t) = same_run (Bind k ∷ fragments n 0 t) s in
     subst HasRoom (sym e2') (omega (arith, block_labels t s n k refl, same.block_count, ap length same.constants))
 
-pub block_ranges : (state : Emission) (bs : List Block) (k : ℕ) (v : Block) (members : List Inst) → k < length bs → v ≡ get_or bs k v → members ≡ v.insts.items → AllInRange (tree state members) → BlocksInRange (map (tree_of state) (drop (k + 1) bs)) → BlocksInRange (map (tree_of state) (drop k bs))
+pub block_ranges : (state : Emission) (bs : List Block) (k : ℕ) (v : Block) (members : List Inst) → k < length bs → v ≡ get_or bs k v → members ≡ v.insts.items → AllInRange (block_tree state members) → BlocksInRange (map (tree_of state) (drop (k + 1) bs)) → BlocksInRange (map (tree_of state) (drop k bs))
 block_ranges state bs k v members lt at e here rest =
     let k1 : suc k ≡ k + 1 = omega arith in
     let cons : drop k bs ≡ v ∷ drop (k + 1) bs = drop-cons bs k v lt ∙ ap (λ x. x ∷ drop (suc k) bs) (sym at) ∙ ap (λ m. v ∷ drop m bs) k1 in
-    subst (λ l. BlocksInRange (map (tree_of state) l)) (sym cons) (subst (λ l. AllInRange (tree state l)) e here, rest)
+    subst (λ l. BlocksInRange (map (tree_of state) l)) (sym cons) (subst (λ l. AllInRange (block_tree state l)) e here, rest)

@@ -1,6 +1,6 @@
 -- The fragments, resolved, are the code of the typed steps.
 use Rattle.std.proofs.Common.{◌≡◌, ℕ, suc, ◌+◌, ◌<◌, List, [], ◌∷◌, ◌++◌, length, refl, sym, ap, ◌∙◌, subst, arith, length-append, append_assoc, append-nil, add-zero, add_assoc}
-use Rattle.std.specs.Prelude.{ℤ}
+use Rattle.std.specs.Prelude.{ℤ, pos}
 use Rattle.std.specs.Int.{w64, to_be_bytes}
 use Rattle.s390x_base.specs.declared.ir.ExternalName.{ExternalName}
 use Rattle.s390x_buffer.specs.Patch.{patch}
@@ -9,20 +9,20 @@ use Rattle.s390x_inst.specs.declared.inst.Inst.{Inst}
 use Rattle.s390x_inst.specs.declared.inst.Inst.TheVariants.{CondBreak, JTSequence}
 use Rattle.s390x_base.specs.Regs.{number_of}
 use Rattle.s390x_base.specs.declared.ir.MachLabel.{MachLabel}
-use Rattle.s390x_typed_steps.specs.Tree.{Tree, empty, leaf, loop_node, Whole}
+use Rattle.s390x_typed_steps.specs.Tree.{Tree, empty, leaf, loop_node, Whole, StepBody}
 use Rattle.s390x_typed_steps.specs.Steps.{Step as TypedStep, Back, step_count, step_of, steps_of}
 use Rattle.s390x_typed_steps.specs.MachineInstruction.{rr, ril_b, ril_c, rxy, bytes_of, size_of}
-use Rattle.s390x_typed_steps.specs.Parts.{CodePart, Row, Trapping, Branch, Relative, RelativeConstant, RelativeSymbol, SymbolValue, TrapHere, TableWord, ToBlock, ToStep, table_words, table_parts, instruction_parts, parts_size, step_size}
-use Rattle.s390x_typed_steps.specs.Rows.{Offsets, half_distance, table_distance, word_bytes, parts_bytes, step_bytes}
+use Rattle.s390x_typed_steps.specs.Parts.{CodePart, Row, Trapping, Branch, Relative, RelativeConstant, RelativeSymbol, SymbolValue, TrapHere, TableWord, ToBlock, ToStep, table_words, table_parts, instruction_parts, parts_size, step_size, CallSymbol, SiteHere, step_parts}
+use Rattle.s390x_typed_steps.specs.Rows.{Offsets, symbol_call, half_distance, table_distance, word_bytes, parts_bytes, step_bytes}
 use Rattle.s390x_typed_steps.specs.Image.{code}
-use Rattle.s390x_typed_steps.specs.Sizes.{instruction_size, tree_size}
-use Rattle.s390x_typed_steps.specs.Causes.{instruction_fresh_labels, fresh_labels}
-use Rattle.s390x_emit_int.specs.Fragments.{Fragment, Put, PutTrapping, PutReloc, Link, LinkConstant, StartStep, Draw, Bind}
-use Rattle.s390x_emit_int.specs.Emission.{part_fragments, table_fragments, leaf_fragments, back_fragments, fragments}
+use Rattle.s390x_typed_steps.specs.Sizes.{instruction_size, tree_size, body_size}
+use Rattle.s390x_typed_steps.specs.Causes.{fresh_labels, body_fresh_labels}
+use Rattle.s390x_emit_int.specs.Fragments.{Fragment, Put, PutTrapping, PutReloc, Link, LinkConstant, StartStep, Draw, Bind, AddSite}
+use Rattle.s390x_emit_int.specs.Emission.{part_fragments, table_fragments, leaf_fragments, back_fragments, fragments, body_fragments}
 use Rattle.s390x_emit_int.specs.Resolve.{resolve, put_length}
-use Rattle.s390x_emit_int.specs.Bound.{LeafBound, Bound, StepsFollow, PartsName, TreeNames}
+use Rattle.s390x_emit_int.specs.Bound.{LeafBound, Bound, StepsFollow, PartsName, TreeNames, BodyBound, BodyNames}
 use Rattle.s390x_emit_int.proofs.Branches.{patched_branch, patched_relative, patched_word}
-use Rattle.s390x_emit_int.proofs.Runs.{length-bytes, length-branch, size-relative, length-relative}
+use Rattle.s390x_emit_int.proofs.Runs.{length-bytes, length-branch, size-relative, length-relative, length-call}
 
 pub resolve-append : (blocks : ℕ) (off : ℕ → ℕ) (a b : List Fragment) (p : ℕ) → resolve blocks off p (a ++ b) ≡ resolve blocks off p a ++ resolve blocks off (p + put_length a) b
 resolve-append blocks off [] b p = ap (λ m. resolve blocks off m b) (sym (add-zero p))
@@ -34,6 +34,7 @@ resolve-append blocks off (LinkConstant c bs ∷ a) b p = ap (λ x. patch Branch
 resolve-append blocks off (StartStep ∷ a) b p = resolve-append blocks off a b p
 resolve-append blocks off (Draw ∷ a) b p = resolve-append blocks off a b p
 resolve-append blocks off (Bind l ∷ a) b p = resolve-append blocks off a b p
+resolve-append blocks off (AddSite site ∷ a) b p = resolve-append blocks off a b p
 
 pub put_append : (a b : List Fragment) → put_length (a ++ b) ≡ put_length a + put_length b
 put_append [] b = omega arith
@@ -45,6 +46,7 @@ put_append (LinkConstant c bs ∷ a) b = omega (arith, put_append a b)
 put_append (StartStep ∷ a) b = put_append a b
 put_append (Draw ∷ a) b = put_append a b
 put_append (Bind l ∷ a) b = put_append a b
+put_append (AddSite site ∷ a) b = put_append a b
 
 parts_put : (parts : List CodePart) → put_length (part_fragments parts) ≡ parts_size parts
 parts_put [] = refl
@@ -60,6 +62,8 @@ parts_put (SymbolValue name offset ∷ parts) = omega (arith, parts_put parts)
 parts_put (TrapHere code ∷ parts) = omega (arith, parts_put parts)
 parts_put (TableWord before (ToBlock b) ∷ parts) = omega (arith, parts_put parts)
 parts_put (TableWord before (ToStep k) ∷ parts) = omega (arith, parts_put parts)
+parts_put (CallSymbol link name ∷ parts) = omega (arith, length-call link, parts_put parts)
+parts_put (SiteHere site ∷ parts) = omega (arith, parts_put parts)
 
 table_put : (n index mask other : ℕ) (targets : List MachLabel) → put_length (table_fragments n index mask other targets) ≡ parts_size (table_parts index mask other targets)
 table_put n index mask other targets =
@@ -70,9 +74,13 @@ leaf_put n after (CondBreak mask) = omega (arith, length-branch mask)
 leaf_put n after (JTSequence ridx other mask targets) = table_put n (number_of ridx) mask other.0 targets.items
 leaf_put n after i = parts_put (instruction_parts i)
 
+pub body_put : (n after : ℕ) (b : StepBody) → put_length (body_fragments n after b) ≡ body_size b
+body_put n after (Whole i) = leaf_put n after i
+body_put n after b = parts_put (step_parts (step_of 0 b))
+
 pub tree_put : (n after : ℕ) (t : Tree) → put_length (fragments n after t) ≡ tree_size t
 tree_put n after empty = refl
-tree_put n after (leaf (Whole i) rest) = put_append (leaf_fragments n after i) (fragments (n + instruction_fresh_labels i) after rest) ∙ omega (arith, leaf_put n after i, tree_put (n + instruction_fresh_labels i) after rest)
+tree_put n after (leaf b rest) = put_append (body_fragments n after b) (fragments (n + body_fresh_labels b) after rest) ∙ omega (arith, body_put n after b, tree_put (n + body_fresh_labels b) after rest)
 tree_put n after (loop_node mask members rest) =
     let r = fragments (n + 2 + fresh_labels members) after rest in
     put_append (fragments (n + 2) (n + 1) members) (back_fragments n mask ++ r) ∙ omega (arith, length-branch mask, tree_put (n + 2) (n + 1) members, tree_put (n + 2 + fresh_labels members) after rest)
@@ -123,6 +131,12 @@ parts_join (TableWord before (ToBlock b) ∷ parts) off P count constants p agre
     ∙ ap (λ x. word_bytes (table_distance p before x) ++ resolve count off (p + 4) (part_fragments parts)) (agree.0 b names.0)
     ∙ ap (λ l. word_bytes (table_distance p before (P.block b)) ++ l) (parts_join parts off P count constants (p + 4) agree names.1)
 parts_join (TableWord before (ToStep k) ∷ parts) off P count constants p agree names = absurd names.0
+parts_join (CallSymbol link name ∷ parts) off P count constants p agree names =
+    let full = bytes_of (symbol_call link (P.environment.symbol_distance p name (pos 0))) in
+    ap (λ h. bytes_of (symbol_call link h) ++ resolve count off (p + length (bytes_of (symbol_call link 0))) (part_fragments parts)) (sym (agree.3 p name (pos 0)))
+    ∙ ap (λ n. full ++ resolve count off (p + n) (part_fragments parts)) (length-call link)
+    ∙ ap (λ l. full ++ l) (parts_join parts off P count constants (p + 6) agree names.1)
+parts_join (SiteHere site ∷ parts) off P count constants p agree names = ap (λ n. resolve count off n (part_fragments parts)) (sym (add-zero p)) ∙ parts_join parts off P count constants (p + 0) agree names.1
 
 -- from the second row of a table to the table
 seven_halfwords : (p : ℕ) → half_distance (p + 6) (p + 20) ≡ 7
@@ -169,16 +183,20 @@ pub size_of_step : (e : ℕ) (i : Inst) → step_size (step_of e (Whole i)) ≡ 
 size_of_step e (CondBreak mask) = refl
 size_of_step e i = refl
 
+pub size_of_body : (e : ℕ) (b : StepBody) → step_size (step_of e b) ≡ body_size b
+size_of_body e (Whole i) = size_of_step e i
+size_of_body e b = refl
+
 pub steps_total : (t : Tree) (k e : ℕ) → total (steps_of k e t) ≡ tree_size t
 steps_total empty k e = refl
-steps_total (leaf (Whole i) rest) k e = omega (arith, size_of_step e i, steps_total rest (k + 1) e)
+steps_total (leaf b rest) k e = omega (arith, size_of_body e b, steps_total rest (k + 1) e)
 steps_total (loop_node mask members rest) k e =
     let r = steps_of (k + 2 + step_count members) e rest in
     omega (arith, total_append (steps_of (k + 1) (k + 2 + step_count members) members) (Back mask (k + 1) ∷ r), steps_total members (k + 1) (k + 2 + step_count members), steps_total rest (k + 2 + step_count members) e)
 
 pub steps_length : (t : Tree) (k e : ℕ) → length (steps_of k e t) ≡ step_count t
 steps_length empty k e = refl
-steps_length (leaf (Whole i) rest) k e = omega (arith, steps_length rest (k + 1) e)
+steps_length (leaf b rest) k e = omega (arith, steps_length rest (k + 1) e)
 steps_length (loop_node mask members rest) k e =
     let r = steps_of (k + 2 + step_count members) e rest in
     let l = length-append (steps_of (k + 1) (k + 2 + step_count members) members) (Back mask (k + 1) ∷ r) in
@@ -228,20 +246,24 @@ loop_places at k e mask members rest follow =
       outer = subst (λ m. StepsFollow at m fr) k2 right.1;
     }
 
+body_join : (b : StepBody) (off : ℕ → ℕ) (P : Offsets) (count constants n after end p : ℕ) → Agrees off P count constants → BodyNames count constants b → BodyBound off n p b → off after ≡ P.step end → resolve count off p (body_fragments n after b) ≡ step_bytes P p (step_of end b)
+body_join (Whole i) off P count constants n after end p agree names bound oe = leaf_join i off P count constants n after end p agree names bound oe
+body_join b off P count constants n after end p agree names bound oe = parts_join (step_parts (step_of 0 b)) off P count constants p agree names
+
 pub tree_join : (t : Tree) (off : ℕ → ℕ) (P : Offsets) (blocks constants n after k e : ℕ) → Agrees off P blocks constants → TreeNames blocks constants t → Bound off n (P.step k) t → StepsFollow P.step k (steps_of k e t) → off after ≡ P.step e → resolve blocks off (P.step k) (fragments n after t) ≡ code P k (steps_of k e t)
 tree_join empty off P blocks constants n after k e agree names bound follow oe = refl
-tree_join (leaf (Whole i) rest) off P blocks constants n after k e agree names bound follow oe =
+tree_join (leaf b rest) off P blocks constants n after k e agree names bound follow oe =
     let p = P.step k in
-    let next : P.step (k + 1) ≡ p + instruction_size i = follow.0 ∙ ap (λ m. p + m) (size_of_step e i) in
-    let n' = n + instruction_fresh_labels i in
+    let next : P.step (k + 1) ≡ p + body_size b = follow.0 ∙ ap (λ m. p + m) (size_of_body e b) in
+    let n' = n + body_fresh_labels b in
     let ps = fragments n' after rest in
-    let here = leaf_join i off P blocks constants n after e p agree names.0 bound.0 oe in
+    let here = body_join b off P blocks constants n after e p agree names.0 bound.0 oe in
     let there = tree_join rest off P blocks constants n' after (k + 1) e agree names.1 (subst (λ m. Bound off n' m rest) (sym next) bound.1) follow.1 oe in
-    resolve-append blocks off (leaf_fragments n after i) ps p
-    ∙ ap (λ m. resolve blocks off p (leaf_fragments n after i) ++ resolve blocks off (p + m) ps) (leaf_put n after i)
-    ∙ ap (λ m. resolve blocks off p (leaf_fragments n after i) ++ resolve blocks off m ps) (sym next)
+    resolve-append blocks off (body_fragments n after b) ps p
+    ∙ ap (λ m. resolve blocks off p (body_fragments n after b) ++ resolve blocks off (p + m) ps) (body_put n after b)
+    ∙ ap (λ m. resolve blocks off p (body_fragments n after b) ++ resolve blocks off m ps) (sym next)
     ∙ ap (λ l. l ++ resolve blocks off (P.step (k + 1)) ps) here
-    ∙ ap (λ l. step_bytes P p (step_of e (Whole i)) ++ l) there
+    ∙ ap (λ l. step_bytes P p (step_of e b) ++ l) there
 tree_join (loop_node mask members rest) off P blocks constants n after k e agree names bound follow oe =
     let at = P.step in
     let p = at k in

@@ -4,6 +4,7 @@ pub mod Constants
 pub mod Orderly
 pub mod Encoding
 pub mod Runs
+pub mod Outgoing
 pub mod Passing
 pub mod Emitting
 pub mod EachEmitter
@@ -16,6 +17,8 @@ pub mod Lacking
 pub mod Leaves
 pub mod Starts
 pub mod Recording
+pub mod Siting
+pub mod Handlers
 pub mod Relocating
 pub mod Names
 pub mod Functions
@@ -24,6 +27,7 @@ pub mod Symbols
 pub mod Tables
 pub mod Trees
 pub mod Answering
+pub mod Bodies
 pub mod Lengths
 pub mod Filling
 pub mod Finishing
@@ -40,3 +44,5 @@ pub mod Example
 pub mod FunctionImage
 pub mod Skipping
 pub mod Composing
+pub mod Sequence
+pub mod CallSites

@@ -8,7 +8,7 @@ use Rattle.s390x_image.specs.Symbols.{Symbols}
 use Rattle.s390x_machine.specs.CodeAt.{AllCodeAt}
 use Rattle.s390x_machine.specs.Functions.{function_layout}
 use Rattle.s390x_machine.proofs.Functions.{function_placed}
-use Rattle.s390x_machine.proofs.Instructions.{block_holds}
+use Rattle.s390x_machine.proofs.Instructions.{block_holds, return_holds}
 use Rattle.s390x_machine.proofs.Checked.{checked_steps}
 use Rattle.s390x_typed_steps.specs.Ranges.{BlocksInRange}
 use Rattle.s390x_typed_steps.specs.Tree.{Tree}
@@ -30,6 +30,7 @@ is_placed flags ts cs f base symbols passes ranges image links =
     function_placed environment ts code (stands_as_code flags ts cs f base symbols passes image links (λ image. checked_steps flags environment ts n image checked ranges))
 
 pub runs_as_typed : (flags : IsaFlags) (ts : List Tree) (cs : List Constant) (f : MachBufferFinalized) (base : ℕ) (symbols : Symbols) → checked_cause flags ts cs ≡ None → BlocksInRange ts → IsFinishedCode ts cs f → link_cause f base symbols ≡ None → RunsAsTyped symbols ts cs (linked_image f base symbols)
-runs_as_typed flags ts cs f base symbols passes ranges image links b lt =
-    let code = linked_image f base symbols in
-    block_holds (function_layout (linked symbols base ts cs) ts code) (is_placed flags ts cs f base symbols passes ranges image links) b lt
+runs_as_typed flags ts cs f base symbols passes ranges image links =
+    let L = function_layout (linked symbols base ts cs) ts (linked_image f base symbols) in
+    let placed = is_placed flags ts cs f base symbols passes ranges image links in
+    record { from_blocks = λ b lt. block_holds L placed b lt; from_returns = λ k. return_holds L placed k }

@@ -13,7 +13,7 @@ use Rattle.s390x_buffer.proofs.Placing.{length-constant_bytes}
 use Rattle.s390x_image.specs.Causes.{first_link_cause as first_link, base_cause, reloc_cause, relocs_cause, link_cause}
 use Rattle.s390x_image.specs.Fields.{filled}
 use Rattle.s390x_image.specs.Values.{symbol_value, symbol_distance}
-use Rattle.s390x_image.specs.ReadingBack.{distance_leads}
+use Rattle.s390x_image.specs.ReadingBack.{distance_leads, call_leads}
 use Rattle.s390x_image.specs.Symbols.{Symbols}
 use Rattle.s390x_image.specs.declared.error.LinkError.{LinkError}
 use Rattle.s390x_operations.specs.Numbers.{low}
@@ -24,7 +24,7 @@ use Rattle.s390x_machine.specs.CodeAt.{IsValidStep, PartReaches, PartsReach, Con
 use Rattle.s390x_machine.specs.Functions.{function_layout, StandsAsCode}
 use Rattle.s390x_typed_steps.specs.Tree.{Tree}
 use Rattle.s390x_typed_steps.specs.Steps.{Step, step_count, steps_of, steps_from, function_steps}
-use Rattle.s390x_typed_steps.specs.Parts.{CodePart, RelativeSymbol, part_size, parts_size, step_parts}
+use Rattle.s390x_typed_steps.specs.Parts.{CodePart, RelativeSymbol, part_size, parts_size, step_parts, CallSymbol}
 use Rattle.s390x_typed_steps.specs.Rows.{LinkEnvironment}
 use Rattle.s390x_typed_steps.specs.Image.{step_offset, offsets, unlinked, function_code}
 use Rattle.s390x_typed_steps.specs.Relocs.{part_relocs, parts_relocs, step_relocs, relocs_from, function_relocs}
@@ -152,6 +152,12 @@ module _ (symbols : Symbols) (base : ℕ) where
         let at : wrapping_add64 base p ≡ base + p = omega arith in (
           leads.0,
           ap (λ n. low Doubleword (pos n +ℤ pos 2 *ℤ cast_signed w32 (symbol_distance base symbols p name offset))) at ∙ ap (low Doubleword) leads.2 ∙ low_small (symbol_value symbols name offset) leads.1,
+        )
+    part_reaches (CallSymbol link name) p room h =
+        let leads = call_leads base symbols p name (first_of_links _ _ h) in
+        let at : wrapping_add64 base p ≡ base + p = omega arith in (
+          leads.0,
+          ap (λ n. low Doubleword (pos n +ℤ pos 2 *ℤ cast_signed w32 (symbol_distance base symbols p name (pos 0)))) at ∙ ap (low Doubleword) leads.2 ∙ low_small (symbol_value symbols name (pos 0)) leads.1,
         )
     part_reaches part p room h = tt
 

@@ -1,30 +1,35 @@
 -- Where no cause stands, each target is a block or a declared constant.
-use Rattle.std.proofs.Common.{◌≡◌, ℕ, ◌+◌, ◌<◌, List, [], ◌∷◌, ◌++◌, length, Bool, true, false, cond, Option, Some, None, not, ◌&&◌, nat_lt, refl}
+use Rattle.s390x_buffer.specs.declared.entries.TryHandler.{TryHandler}
+use Rattle.s390x_typed_steps.specs.Calls.{is_target, site_labels}
+use Rattle.s390x_base.specs.declared.regs.Reg.{Reg}
+use Rattle.s390x_inst.specs.declared.calls.CallInstDest.TheVariants.{Direct, Indirect}
+use Rattle.s390x_inst.specs.declared.calls.CallInstDest.{CallInstDest}
+use Rattle.s390x_typed_steps.specs.StepBody.{Site, AtCall, AtTry}
+use Rattle.std.proofs.Common.{◌≡◌, ℕ, ◌+◌, ◌<◌, List, [], ◌∷◌, ◌++◌, length, Bool, true, false, cond, Option, Some, None, not, ◌&&◌, nat_lt, nat_eq, ◌||◌, map, refl}
 use Rattle.std.specs.Prelude.{pos}
 use Rattle.std.proofs.lemmas.Bool.{ltb-true}
 use Rattle.s390x_inst.specs.declared.state.IsaFlags.{IsaFlags}
 use Rattle.s390x_base.specs.declared.ir.MachLabel.{MachLabel}
 use Rattle.s390x_base.specs.declared.trap.TrapKind.{TrapKind}
 use Rattle.s390x_base.specs.declared.error.EmitError.{EmitError}
-use Rattle.s390x_base.specs.declared.error.EmitError.TheVariants.{BadOperator, BadRegister, ScratchConflict, UnboundLabel}
+use Rattle.s390x_base.specs.declared.error.EmitError.TheVariants.{BadOperator, BadRegister, ScratchConflict, UnboundLabel, BadStackState}
 use Rattle.s390x_inst.specs.declared.inst.Inst.{Inst}
 use Rattle.s390x_inst.specs.Memory.{flags_of}
 use Rattle.s390x_inst.specs.declared.args.MemArg.{MemArg}
 use Rattle.s390x_inst.specs.declared.args.MemArg.TheVariants.{BXD12, BXD20, RegOffset, Label, Constant, Symbol}
 use Rattle.s390x_inst.specs.declared.inst.Inst.TheVariants.{Mov64SImm32, LoadAddr, Jump, CondBr, IndirectBr, Ret, JTSequence, LabelAddress, LoadSymbolReloc, Trap, TrapIf, Debugtrap, Vector}
-use Rattle.s390x_typed_steps.specs.Tree.{Tree, empty, leaf, loop_node, Whole}
+use Rattle.s390x_typed_steps.specs.Tree.{Tree, empty, leaf, loop_node, Whole, StepBody, CallStep, NoLoad, TailOpening, TailJump}
 use Rattle.s390x_typed_steps.specs.MachineInstruction.{MachineInstruction}
 use Rattle.s390x_typed_steps.specs.Operands.{Finalized, finalized, displaced, addressed, widened, needs_address, scratch, no_register, is_relative, has_form, operand_general, fits_12, fits_20, fits_32}
 use Rattle.s390x_typed_steps.specs.declared.mem_inst_type.MemInstType.{MemInstType}
 use Rattle.s390x_typed_steps.specs.VectorComposite.{composite_rows}
-use Rattle.s390x_typed_steps.specs.Parts.{CodePart, parts_or, memory_or, memory_parts, trap_here, relative_part, relative_parts, access_parts, operand_parts, helper_parts, helpers_parts, instruction_parts, table_words, row_parts}
+use Rattle.s390x_typed_steps.specs.Parts.{CodePart, parts_or, memory_or, memory_parts, trap_here, relative_part, relative_parts, access_parts, operand_parts, helper_parts, helpers_parts, instruction_parts, table_words, row_parts, call_part, tail_part, site_parts}
 use Rattle.s390x_typed_steps.specs.Memory.{StorageForm, RxForm, MemoryInstruction, memory, type_of, storage_row, address_form, fault_code}
 use Rattle.s390x_typed_steps.specs.SingleInstruction.{SingleInstruction, single_instruction, stop_code}
 use Rattle.s390x_typed_steps.specs.General.{is_general, is_nonzero, is_scratch}
-use Rattle.s390x_typed_steps.specs.Stack.{nominal_after}
-use Rattle.s390x_typed_steps.specs.Causes.{Declared, first_emit_cause, unless, target_label_cause, labels_cause, bound_cause, late_cause, memory_cause, branch_cause, memory_cause_or, cause_or, facility_cause, instruction_cause, leaf_cause, instruction_fresh_labels, fresh_labels, nesting_cause, numbers_cause, tree_cause, blocks_cause, stack_cause, block_cause}
+use Rattle.s390x_typed_steps.specs.Causes.{Declared, first_emit_cause, unless, target_label_cause, labels_cause, bound_cause, late_cause, memory_cause, branch_cause, memory_cause_or, cause_or, facility_cause, instruction_cause, fresh_labels, nesting_cause, numbers_cause, tree_cause, blocks_cause, stack_cause, block_cause, body_cause, body_fresh_labels, body_nominal_after}
 use Rattle.s390x_typed_steps.proofs.Causes.{first_left, first_right, unless_true}
-use Rattle.s390x_emit_int.specs.Bound.{PartsName, TreeNames, TreesName}
+use Rattle.s390x_emit_int.specs.Bound.{PartsName, TreeNames, TreesName, BodyNames, HandlersName}
 
 label_below : (blocks : ℕ) (l : MachLabel) → target_label_cause blocks l ≡ None → l.0 < blocks
 label_below blocks l h = ltb-true l.0 blocks (unless_true (nat_lt l.0 blocks) UnboundLabel h)
@@ -168,10 +173,40 @@ leaf_names flags D nominal depth Debugtrap h = (tt, tt)
 leaf_names flags D nominal depth (Vector v) h = vector_names D (single_instruction (Vector v)) (stop_code (Vector v)) (memory (Vector v)) (composite_rows v) (branch_cause D.blocks depth (Vector v)) (first_right (facility_cause flags (Vector v)) _ h)
 leaf_names flags D nominal depth i h = single_names D (single_instruction i) (stop_code i) (memory i) (branch_cause D.blocks depth i) (first_right (stack_cause nominal depth i) _ (first_right (facility_cause flags i) _ h))
 
+-- ---- the steps of calls
+
+handlers_name : (count : ℕ) (hs : List TryHandler) (ls : List MachLabel) → labels_cause count (map (λ (h : TryHandler). h.label) hs ++ ls) ≡ None → HandlersName count hs × (labels_cause count ls ≡ None)
+handlers_name count [] ls h = (tt, h)
+handlers_name count (x ∷ hs) ls h =
+    let rest = handlers_name count hs ls (first_right (target_label_cause count x.label) _ h) in
+    ((label_below count x.label (first_left _ _ h), rest.0), rest.1)
+
+sites_name : (count constants : ℕ) (ss : List Site) → labels_cause count (site_labels ss) ≡ None → PartsName count constants (site_parts ss)
+sites_name count constants [] h = tt
+sites_name count constants (AtTry handlers sp_to_fp ∷ ss) h = let p = handlers_name count handlers (site_labels ss) h in (p.0, sites_name count constants ss p.1)
+sites_name count constants (s ∷ ss) h = (tt, sites_name count constants ss h)
+
+call_names : (count constants : ℕ) (link : Reg) (target : CallInstDest) (ss : List Site) → labels_cause count (site_labels ss) ≡ None → PartsName count constants (call_part link target ∷ site_parts ss)
+call_names count constants link (Direct name) ss h = (tt, sites_name count constants ss h)
+call_names count constants link (Indirect reg) ss h = (tt, sites_name count constants ss h)
+
+jump_names : (count constants : ℕ) (target : CallInstDest) → PartsName count constants (tail_part target ∷ site_parts (AtCall ∷ []))
+jump_names count constants (Direct name) = (tt, (tt, tt))
+jump_names count constants (Indirect reg) = (tt, (tt, tt))
+
+body_names : (flags : IsaFlags) (D : Declared) (n nominal depth : ℕ) (b : StepBody) → body_cause flags D n nominal depth b ≡ None → BodyNames D.blocks (length D.aligns) b
+body_names flags D n nominal depth (Whole i) h = leaf_names flags D nominal depth i (first_left _ _ h)
+body_names flags D n nominal depth (CallStep c) h =
+    let stack = unless (nat_eq c.popped nominal && (nat_eq c.popped 0 || nat_eq depth 0)) BadStackState in
+    call_names D.blocks (length D.aligns) c.link c.target c.sites (first_right stack _ (first_right (unless (is_general c.link && is_target c.target) BadRegister) _ h))
+body_names flags D n nominal depth NoLoad h = tt
+body_names flags D n nominal depth (TailOpening target first_saved is_lost) h = tt
+body_names flags D n nominal depth (TailJump target) h = jump_names D.blocks (length D.aligns) target
+
 pub tree_names : (flags : IsaFlags) (D : Declared) (n nominal depth : ℕ) (t : Tree) → tree_cause flags D n nominal depth t ≡ None → TreeNames D.blocks (length D.aligns) t
 tree_names flags D n nominal depth empty h = tt
-tree_names flags D n nominal depth (leaf (Whole i) rest) h =
-    (leaf_names flags D nominal depth i (first_left _ _ (first_left _ _ h)), tree_names flags D (n + instruction_fresh_labels i) (nominal_after nominal i) depth rest (first_right (leaf_cause flags D n nominal depth i) _ h))
+tree_names flags D n nominal depth (leaf b rest) h =
+    (body_names flags D n nominal depth b (first_left _ _ h), tree_names flags D (n + body_fresh_labels b) (body_nominal_after nominal b) depth rest (first_right (body_cause flags D n nominal depth b) _ h))
 tree_names flags D n nominal depth (loop_node mask members rest) h =
     let inner = first_left _ _ h in (
       tree_names flags D (n + 2) nominal (depth + 1) members (first_right (first_emit_cause (nesting_cause depth) (numbers_cause n 2)) _ inner),

@@ -1,5 +1,10 @@
 -- Emission's fragments keep a buffer in order: its length is even, each bound label stands at an even offset, and each use, of a label that may be used,
 -- stands at an even offset behind those before it.
+use Rattle.s390x_base.specs.declared.regs.Reg.{Reg}
+use Rattle.s390x_inst.specs.declared.calls.CallInstDest.TheVariants.{Direct, Indirect}
+use Rattle.s390x_inst.specs.declared.calls.CallInstDest.{CallInstDest}
+use Rattle.s390x_typed_steps.specs.StepBody.{Site, AtCall}
+use Rattle.s390x_typed_steps.specs.Steps.{CallingStep, TailJumpStep}
 use Rattle.std.proofs.Common.{◌≡◌, ℕ, ◌+◌, ◌%◌, ◌<◌, ◌≤◌, List, [], ◌∷◌, ◌++◌, length, get_or, Bool, true, false, cond, Option, refl, sym, ap, ◌∙◌, subst, arith, length-append, None, Some}
 use Rattle.std.specs.List.{All}
 use Rattle.std.proofs.lemmas.List.{get_or_append_left}
@@ -20,21 +25,21 @@ use Rattle.s390x_inst.specs.declared.inst.Inst.{Inst}
 use Rattle.s390x_inst.specs.declared.args.MemArg.{MemArg}
 use Rattle.s390x_inst.specs.declared.args.MemArg.TheVariants.{Label, Constant, Symbol}
 use Rattle.s390x_inst.specs.declared.inst.Inst.TheVariants.{Mov64SImm32, LoadAddr, Jump, CondBr, IndirectBr, Ret, JTSequence, CondBreak, LabelAddress, LoadSymbolReloc, Trap, TrapIf, Debugtrap, Vector}
-use Rattle.s390x_typed_steps.specs.Tree.{Tree, empty, leaf, loop_node, Whole}
-use Rattle.s390x_typed_steps.specs.Causes.{instruction_fresh_labels, fresh_labels}
+use Rattle.s390x_typed_steps.specs.Tree.{Tree, empty, leaf, loop_node, Whole, StepBody, CallStep, NoLoad, TailOpening, TailJump}
+use Rattle.s390x_typed_steps.specs.Causes.{instruction_fresh_labels, fresh_labels, body_fresh_labels}
 use Rattle.s390x_typed_steps.specs.SingleInstruction.{SingleInstruction, single_instruction, stop_code}
 use Rattle.s390x_typed_steps.specs.MachineInstruction.{MachineInstruction, rr, rxy, bytes_of, size_of}
 use Rattle.s390x_typed_steps.specs.Rows.{word_bytes}
 use Rattle.s390x_typed_steps.specs.VectorComposite.{composite_rows}
-use Rattle.s390x_typed_steps.specs.Parts.{CodePart, Row, Trapping, Branch, Relative, RelativeConstant, RelativeSymbol, TableWord, ToBlock, ToStep, table_words, branch_parts, row_part, parts_or, instruction_parts, memory_or, memory_parts, trap_here, relative_part, relative_parts, access_parts, operand_parts, helper_parts, helpers_parts, SymbolValue, TrapHere, row_parts}
+use Rattle.s390x_typed_steps.specs.Parts.{CodePart, Row, Trapping, Branch, Relative, RelativeConstant, RelativeSymbol, TableWord, ToBlock, ToStep, table_words, branch_parts, row_part, parts_or, instruction_parts, memory_or, memory_parts, trap_here, relative_part, relative_parts, access_parts, operand_parts, helper_parts, helpers_parts, SymbolValue, TrapHere, row_parts, CallSymbol, SiteHere, step_parts, call_part, tail_part, site_parts}
 use Rattle.s390x_typed_steps.specs.Memory.{StorageForm, RxForm, MemoryInstruction, memory, type_of, storage_row, address_form, fault_code}
 use Rattle.s390x_typed_steps.specs.Operands.{is_relative, finalized}
-use Rattle.s390x_emit_int.specs.Fragments.{Fragment, apply, apply_all, Put, PutTrapping, Link, LinkConstant, StartStep, Draw, Bind, PutReloc}
-use Rattle.s390x_emit_int.specs.Emission.{part_fragments, leaf_fragments, back_fragments, fragments, function_fragments}
+use Rattle.s390x_emit_int.specs.Fragments.{Fragment, apply, apply_all, Put, PutTrapping, Link, LinkConstant, StartStep, Draw, Bind, PutReloc, AddSite}
+use Rattle.s390x_emit_int.specs.Emission.{part_fragments, leaf_fragments, back_fragments, fragments, function_fragments, body_fragments}
 use Rattle.s390x_emit_int.specs.Resolve.{put_length}
-use Rattle.s390x_emit_int.specs.Bound.{PartsName, TreeNames, TreesName}
+use Rattle.s390x_emit_int.specs.Bound.{PartsName, TreeNames, TreesName, BodyNames}
 use Rattle.s390x_emit_int.proofs.Patching.{word_right}
-use Rattle.s390x_emit_int.proofs.Runs.{length-bytes, length-branch, length-relative}
+use Rattle.s390x_emit_int.proofs.Runs.{length-bytes, length-branch, length-relative, length-call}
 
 even_length : (kind : FormatKind) → length_of kind % 2 ≡ 0
 unfolding length_of
@@ -62,6 +67,7 @@ Sound May blocks p (LinkConstant c bs) = LinkSound BranchRIL p bs × May (blocks
 Sound May blocks p StartStep = Unit {0}
 Sound May blocks p Draw = Unit {0}
 Sound May blocks p (Bind l) = Unit {0}
+Sound May blocks p (AddSite site) = Unit {0}
 
 abbrev pub AllSound : (ℕ → Type 0) → (blocks place : ℕ) → List Fragment → Type 0
 AllSound May blocks p [] = Unit {0}
@@ -82,6 +88,7 @@ later_sound May blocks p q (LinkConstant c bs) le h = (link_later BranchRIL p q 
 later_sound May blocks p q StartStep le h = h
 later_sound May blocks p q Draw le h = h
 later_sound May blocks p q (Bind l) le h = h
+later_sound May blocks p q (AddSite site) le h = h
 
 all_later : (May : ℕ → Type 0) (xs : List Fragment) (blocks p q : ℕ) → p ≤ q → AllSound May blocks p xs → AllSound May blocks q xs
 all_later May [] blocks p q le h = h
@@ -103,6 +110,8 @@ TablesBegin p (Branch mask target ∷ parts) = TablesBegin (p + 6) parts
 TablesBegin p (Relative opcode register target ∷ parts) = TablesBegin (p + 6) parts
 TablesBegin p (RelativeConstant opcode register c ∷ parts) = TablesBegin (p + 6) parts
 TablesBegin p (RelativeSymbol opcode register name offset ∷ parts) = TablesBegin (p + 6) parts
+TablesBegin p (CallSymbol link name ∷ parts) = TablesBegin (p + 6) parts
+TablesBegin p (SiteHere site ∷ parts) = TablesBegin (p + 0) parts
 
 word_sound : (before p : ℕ) → before ≤ p → LinkSound PCRel32 p (word_bytes before)
 word_sound before p le = (refl, omega arith)
@@ -124,6 +133,9 @@ parts_sound May (SymbolValue name offset ∷ parts) blocks constants p names beg
 parts_sound May (TrapHere code ∷ parts) blocks constants p names begin may held = (refl, all_later May (part_fragments parts) blocks (p + 0) _ (omega arith) (parts_sound May parts blocks constants (p + 0) names.1 begin may held))
 parts_sound May (TableWord before (ToBlock b) ∷ parts) blocks constants p names begin may held = ((word_sound before p begin.0, may b names.0), all_later May (part_fragments parts) blocks (p + 4) _ (omega arith) (parts_sound May parts blocks constants (p + 4) names.1 begin.1 may held))
 parts_sound May (TableWord before (ToStep k) ∷ parts) blocks constants p names begin may held = absurd names.0
+parts_sound May (CallSymbol link name ∷ parts) blocks constants p names begin may held =
+    (omega (arith, length-call link), all_later May (part_fragments parts) blocks (p + 6) _ (omega (arith, length-call link)) (parts_sound May parts blocks constants (p + 6) names.1 begin may held))
+parts_sound May (SiteHere site ∷ parts) blocks constants p names begin may held = (tt, all_later May (part_fragments parts) blocks (p + 0) _ (omega arith) (parts_sound May parts blocks constants (p + 0) names.1 begin may held))
 
 row_begins : (m : MachineInstruction) (code : Option TrapKind) → TablesBegin 0 (row_part m code ∷ [])
 row_begins m None = tt
@@ -227,6 +239,8 @@ all_begin n (Branch mask target ∷ parts) h = all_begin (n + 6) parts h
 all_begin n (Relative opcode register target ∷ parts) h = all_begin (n + 6) parts h
 all_begin n (RelativeConstant opcode register c ∷ parts) h = all_begin (n + 6) parts h
 all_begin n (RelativeSymbol opcode register name offset ∷ parts) h = all_begin (n + 6) parts h
+all_begin n (CallSymbol link name ∷ parts) h = all_begin (n + 6) parts h
+all_begin n (SiteHere site ∷ parts) h = all_begin (n + 0) parts h
 
 memory_begins : (o : Option MemoryInstruction) (others : List CodePart) → TablesBegin 0 others → TablesBegin 0 (memory_or o others)
 memory_begins None others h = h
@@ -246,13 +260,32 @@ leaf_sound May (JTSequence ridx other mask targets) n after blocks constants nam
 )
 leaf_sound May i n after blocks constants names may held drawn here = parts_sound May (instruction_parts i) blocks constants 0 names (begins_or (single_instruction i) (stop_code i) (memory_or (memory i) (branch_parts i)) (memory_begins (memory i) (branch_parts i) (branch_begins i))) may held
 
+sites_begin : (n : ℕ) (ss : List Site) → TablesBegin n (site_parts ss)
+sites_begin n [] = tt
+sites_begin n (s ∷ ss) = sites_begin (n + 0) ss
+
+call_begins : (link : Reg) (target : CallInstDest) (ss : List Site) → TablesBegin 0 (call_part link target ∷ site_parts ss)
+call_begins link (Direct name) ss = sites_begin 6 ss
+call_begins link (Indirect reg) ss = sites_begin _ ss
+
+jump_begins : (target : CallInstDest) → TablesBegin 0 (tail_part target ∷ site_parts (AtCall ∷ []))
+jump_begins (Direct name) = tt
+jump_begins (Indirect reg) = tt
+
+body_sound : (May : ℕ → Type 0) (b : StepBody) (n after blocks constants : ℕ) → BodyNames blocks constants b → ((l : ℕ) → l < blocks → May l) → ((c : ℕ) → c < constants → May (blocks + c)) → ((l : ℕ) → n ≤ l → l < n + body_fresh_labels b → May l) → May after → AllSound May blocks 0 (body_fragments n after b)
+body_sound May (Whole i) n after blocks constants names may held drawn here = leaf_sound May i n after blocks constants names may held drawn here
+body_sound May (CallStep c) n after blocks constants names may held drawn here = parts_sound May (step_parts (CallingStep c)) blocks constants 0 names (call_begins c.link c.target c.sites) may held
+body_sound May NoLoad n after blocks constants names may held drawn here = tt
+body_sound May (TailOpening target first_saved is_lost) n after blocks constants names may held drawn here = tt
+body_sound May (TailJump target) n after blocks constants names may held drawn here = parts_sound May (step_parts (TailJumpStep target)) blocks constants 0 names (jump_begins target) may held
+
 pub tree_sound : (May : ℕ → Type 0) (t : Tree) (n after blocks constants : ℕ) → TreeNames blocks constants t → ((l : ℕ) → l < blocks → May l) → ((c : ℕ) → c < constants → May (blocks + c)) → ((l : ℕ) → n ≤ l → l < n + fresh_labels t → May l) → May after → AllSound May blocks 0 (fragments n after t)
 tree_sound May empty n after blocks constants names may held drawn here = tt
-tree_sound May (leaf (Whole i) rest) n after blocks constants names may held drawn here = (
+tree_sound May (leaf b rest) n after blocks constants names may held drawn here = (
   tt,
-  sound_append May (leaf_fragments n after i) (fragments (n + instruction_fresh_labels i) after rest) blocks 0
-      (leaf_sound May i n after blocks constants names.0 may held (λ l lo hi. drawn l lo (omega arith)) here)
-      (tree_sound May rest (n + instruction_fresh_labels i) after blocks constants names.1 may held (λ l lo hi. drawn l (omega arith) (omega arith)) here),
+  sound_append May (body_fragments n after b) (fragments (n + body_fresh_labels b) after rest) blocks 0
+      (body_sound May b n after blocks constants names.0 may held (λ l lo hi. drawn l lo (omega arith)) here)
+      (tree_sound May rest (n + body_fresh_labels b) after blocks constants names.1 may held (λ l lo hi. drawn l (omega arith) (omega arith)) here),
 )
 tree_sound May (loop_node mask members rest) n after blocks constants names may held drawn here =
     let r = fragments (n + 2 + fresh_labels members) after rest in
@@ -411,6 +444,7 @@ orderly_step May (LinkConstant c bs) s blocks p count le sound h =
 orderly_step May StartStep s blocks p count le sound h = record { even = h.even; labels = h.labels; uses = h.uses }
 orderly_step May Draw s blocks p count le sound h = record { even = h.even; labels = All-push (Stands (length s.bytes)) s.labels None h.labels tt; uses = h.uses }
 orderly_step May (Bind l) s blocks p count le sound h = record { even = h.even; labels = All-set (Stands (length s.bytes)) s.labels l (Some (length s.bytes)) (h.even, omega arith) h.labels; uses = h.uses }
+orderly_step May (AddSite site) s blocks p count le sound h = record { even = h.even; labels = h.labels; uses = h.uses }
 
 applied_length : (x : Fragment) (s : BufferState) → length (apply s x).bytes ≡ length s.bytes + put_length (x ∷ [])
 applied_length (Put bs) s = omega (arith, length-append s.bytes bs)
@@ -421,6 +455,7 @@ applied_length (LinkConstant c bs) s = omega (arith, length-append s.bytes bs)
 applied_length StartStep s = omega arith
 applied_length Draw s = omega arith
 applied_length (Bind l) s = omega arith
+applied_length (AddSite site) s = omega arith
 
 applied_count : (x : Fragment) (s : BufferState) → (apply s x).block_count ≡ s.block_count
 applied_count (Put bs) s = refl
@@ -431,6 +466,7 @@ applied_count (LinkConstant c bs) s = refl
 applied_count StartStep s = refl
 applied_count Draw s = refl
 applied_count (Bind l) s = refl
+applied_count (AddSite site) s = refl
 
 pub orderly_run : (May : ℕ → Type 0) (xs : List Fragment) (s : BufferState) (blocks p : ℕ) → s.block_count ≡ blocks → p ≤ length s.bytes → AllSound May blocks p xs → Orderly May s → Orderly May (apply_all s xs)
 orderly_run May [] s blocks p count le sound h = h

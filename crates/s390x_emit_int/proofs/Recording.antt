@@ -5,19 +5,19 @@ use Rattle.s390x_buffer.specs.declared.entries.TrapEntry.{TrapEntry}
 use Rattle.s390x_inst.specs.declared.inst.Inst.{Inst}
 use Rattle.s390x_inst.specs.declared.inst.Inst.TheVariants.{CondBreak, JTSequence}
 use Rattle.s390x_base.specs.declared.ir.MachLabel.{MachLabel}
-use Rattle.s390x_typed_steps.specs.Tree.{Tree, empty, leaf, loop_node, Whole}
+use Rattle.s390x_typed_steps.specs.Tree.{Tree, empty, leaf, loop_node, Whole, StepBody}
 use Rattle.s390x_typed_steps.specs.Steps.{Step as TypedStep, Back, step_count, step_of, steps_of, steps_from}
 use Rattle.s390x_typed_steps.specs.MachineInstruction.{ril_c, bytes_of, size_of}
-use Rattle.s390x_typed_steps.specs.Parts.{CodePart, Row, Trapping, Branch, Relative, RelativeConstant, RelativeSymbol, SymbolValue, TrapHere, TableWord, ToBlock, ToStep, table_words, instruction_parts}
+use Rattle.s390x_typed_steps.specs.Parts.{CodePart, Row, Trapping, Branch, Relative, RelativeConstant, RelativeSymbol, SymbolValue, TrapHere, TableWord, ToBlock, ToStep, table_words, instruction_parts, CallSymbol, SiteHere, step_parts}
 use Rattle.s390x_typed_steps.specs.Traps.{parts_traps, step_traps, traps_from}
-use Rattle.s390x_typed_steps.specs.Sizes.{instruction_size}
-use Rattle.s390x_typed_steps.specs.Causes.{instruction_fresh_labels, fresh_labels}
-use Rattle.s390x_emit_int.specs.Fragments.{Fragment, Put, PutTrapping, PutReloc, Link, LinkConstant, StartStep, Draw, Bind, apply, apply_all}
-use Rattle.s390x_emit_int.specs.Emission.{part_fragments, leaf_fragments, back_fragments, fragments, function_fragments}
+use Rattle.s390x_typed_steps.specs.Sizes.{body_size}
+use Rattle.s390x_typed_steps.specs.Causes.{fresh_labels, body_fresh_labels}
+use Rattle.s390x_emit_int.specs.Fragments.{Fragment, Put, PutTrapping, PutReloc, Link, LinkConstant, StartStep, Draw, Bind, apply, apply_all, AddSite}
+use Rattle.s390x_emit_int.specs.Emission.{part_fragments, leaf_fragments, back_fragments, fragments, function_fragments, body_fragments}
 use Rattle.s390x_emit_int.specs.Resolve.{put_length}
 use Rattle.s390x_emit_int.specs.Bound.{StepsFollow}
-use Rattle.s390x_emit_int.proofs.Runs.{length-bytes, length-branch, length-relative}
-use Rattle.s390x_emit_int.proofs.Joining.{leaf_put, tree_put, size_of_step, steps_length, LoopPlaces, loop_places, follows_left}
+use Rattle.s390x_emit_int.proofs.Runs.{length-bytes, length-branch, length-relative, length-call}
+use Rattle.s390x_emit_int.proofs.Joining.{tree_put, steps_length, LoopPlaces, loop_places, follows_left, body_put, size_of_body}
 use Rattle.s390x_emit_int.proofs.Functions.{next_block}
 
 -- the traps in fragments that begin at an offset
@@ -31,6 +31,7 @@ recorded p (LinkConstant c bs ∷ ps) = recorded (p + length bs) ps
 recorded p (StartStep ∷ ps) = recorded p ps
 recorded p (Draw ∷ ps) = recorded p ps
 recorded p (Bind l ∷ ps) = recorded p ps
+recorded p (AddSite site ∷ ps) = recorded p ps
 
 pub traps_run : (ps : List Fragment) (s : BufferState) → (apply_all s ps).traps ≡ s.traps ++ recorded (length s.bytes) ps
 traps_run [] s = sym (append-nil s.traps)
@@ -44,6 +45,7 @@ traps_run (LinkConstant c bs ∷ ps) s = traps_run ps (apply s (LinkConstant c b
 traps_run (StartStep ∷ ps) s = traps_run ps (apply s StartStep)
 traps_run (Draw ∷ ps) s = traps_run ps (apply s Draw)
 traps_run (Bind l ∷ ps) s = traps_run ps (apply s (Bind l))
+traps_run (AddSite site ∷ ps) s = traps_run ps (apply s (AddSite site))
 
 recorded_append : (a b : List Fragment) (p : ℕ) → recorded p (a ++ b) ≡ recorded p a ++ recorded (p + put_length a) b
 recorded_append [] b p = ap (λ m. recorded m b) (sym (add-zero p))
@@ -57,6 +59,7 @@ recorded_append (LinkConstant c bs ∷ a) b p = recorded_append a b (p + length 
 recorded_append (StartStep ∷ a) b p = recorded_append a b p
 recorded_append (Draw ∷ a) b p = recorded_append a b p
 recorded_append (Bind l ∷ a) b p = recorded_append a b p
+recorded_append (AddSite site ∷ a) b p = recorded_append a b p
 
 parts_recorded : (parts : List CodePart) (p : ℕ) → recorded p (part_fragments parts) ≡ parts_traps p parts
 parts_recorded [] p = refl
@@ -76,6 +79,8 @@ parts_recorded (TrapHere code ∷ parts) p =
     ap (λ n. entry n ∷ recorded (p + 0) (part_fragments parts)) (add-zero p) ∙ ap (λ l. entry p ∷ l) (parts_recorded parts (p + 0))
 parts_recorded (TableWord before (ToBlock b) ∷ parts) p = parts_recorded parts (p + 4)
 parts_recorded (TableWord before (ToStep k) ∷ parts) p = parts_recorded parts (p + 4)
+parts_recorded (CallSymbol link name ∷ parts) p = ap (λ n. recorded (p + n) (part_fragments parts)) (length-call link) ∙ parts_recorded parts (p + 6)
+parts_recorded (SiteHere site ∷ parts) p = ap (λ n. recorded n (part_fragments parts)) (sym (add-zero p)) ∙ parts_recorded parts (p + 0)
 
 -- the words of a table record none
 words_recorded : (ls : List MachLabel) (before p q : ℕ) → parts_traps p (table_words before ls) ≡ parts_traps q (table_words before ls)
@@ -87,6 +92,10 @@ leaf_recorded n after end (CondBreak mask) p = refl
 leaf_recorded n after end (JTSequence ridx other mask targets) p = parts_recorded (table_words 0 targets.items) _ ∙ words_recorded targets.items 0 _ _
 leaf_recorded n after end i p = parts_recorded (instruction_parts i) p
 
+body_recorded : (n after end : ℕ) (b : StepBody) (p : ℕ) → recorded p (body_fragments n after b) ≡ step_traps p (step_of end b)
+body_recorded n after end (Whole i) p = leaf_recorded n after end i p
+body_recorded n after end b p = parts_recorded (step_parts (step_of 0 b)) p
+
 traps_append : (at : ℕ → ℕ) (a b : List TypedStep) (k m : ℕ) → k + length a ≡ m → traps_from at k (a ++ b) ≡ traps_from at k a ++ traps_from at m b
 traps_append at [] b k m e = ap (λ n. traps_from at n b) (sym (add-zero k) ∙ e)
 traps_append at (s ∷ a) b k m e =
@@ -94,14 +103,14 @@ traps_append at (s ∷ a) b k m e =
 
 tree_recorded : (t : Tree) (at : ℕ → ℕ) (n after k e : ℕ) → StepsFollow at k (steps_of k e t) → recorded (at k) (fragments n after t) ≡ traps_from at k (steps_of k e t)
 tree_recorded empty at n after k e follow = refl
-tree_recorded (leaf (Whole i) rest) at n after k e follow =
-    let next : at (k + 1) ≡ at k + instruction_size i = follow.0 ∙ ap (λ m. at k + m) (size_of_step e i) in
-    let ps = fragments (n + instruction_fresh_labels i) after rest in
-    recorded_append (leaf_fragments n after i) ps (at k)
-    ∙ ap (λ m. recorded (at k) (leaf_fragments n after i) ++ recorded (at k + m) ps) (leaf_put n after i)
-    ∙ ap (λ m. recorded (at k) (leaf_fragments n after i) ++ recorded m ps) (sym next)
-    ∙ ap (λ l. l ++ recorded (at (k + 1)) ps) (leaf_recorded n after e i (at k))
-    ∙ ap (λ l. step_traps (at k) (step_of e (Whole i)) ++ l) (tree_recorded rest at (n + instruction_fresh_labels i) after (k + 1) e follow.1)
+tree_recorded (leaf b rest) at n after k e follow =
+    let next : at (k + 1) ≡ at k + body_size b = follow.0 ∙ ap (λ m. at k + m) (size_of_body e b) in
+    let ps = fragments (n + body_fresh_labels b) after rest in
+    recorded_append (body_fragments n after b) ps (at k)
+    ∙ ap (λ m. recorded (at k) (body_fragments n after b) ++ recorded (at k + m) ps) (body_put n after b)
+    ∙ ap (λ m. recorded (at k) (body_fragments n after b) ++ recorded m ps) (sym next)
+    ∙ ap (λ l. l ++ recorded (at (k + 1)) ps) (body_recorded n after e b (at k))
+    ∙ ap (λ l. step_traps (at k) (step_of e b) ++ l) (tree_recorded rest at (n + body_fresh_labels b) after (k + 1) e follow.1)
 tree_recorded (loop_node mask members rest) at n after k e follow =
     let k1 = k + 1 + step_count members in
     let k2 = k + 2 + step_count members in

@@ -6,20 +6,20 @@ use Rattle.s390x_buffer.specs.declared.entries.RelocEntry.{RelocEntry}
 use Rattle.s390x_inst.specs.declared.inst.Inst.{Inst}
 use Rattle.s390x_inst.specs.declared.inst.Inst.TheVariants.{CondBreak, JTSequence}
 use Rattle.s390x_base.specs.declared.ir.MachLabel.{MachLabel}
-use Rattle.s390x_base.specs.declared.ir.Reloc.TheVariants.{S390xPCRel32Dbl, Abs8}
-use Rattle.s390x_typed_steps.specs.Tree.{Tree, empty, leaf, loop_node, Whole}
+use Rattle.s390x_base.specs.declared.ir.Reloc.TheVariants.{S390xPCRel32Dbl, S390xPLTRel32Dbl, Abs8}
+use Rattle.s390x_typed_steps.specs.Tree.{Tree, empty, leaf, loop_node, Whole, StepBody}
 use Rattle.s390x_typed_steps.specs.Steps.{Step as TypedStep, Back, step_count, step_of, steps_of, steps_from}
 use Rattle.s390x_typed_steps.specs.MachineInstruction.{ril_c, bytes_of, size_of}
-use Rattle.s390x_typed_steps.specs.Parts.{CodePart, Row, Trapping, Branch, Relative, RelativeConstant, RelativeSymbol, SymbolValue, TrapHere, TableWord, ToBlock, ToStep, table_words, instruction_parts}
+use Rattle.s390x_typed_steps.specs.Parts.{CodePart, Row, Trapping, Branch, Relative, RelativeConstant, RelativeSymbol, SymbolValue, TrapHere, TableWord, ToBlock, ToStep, table_words, instruction_parts, CallSymbol, SiteHere, step_parts}
 use Rattle.s390x_typed_steps.specs.Relocs.{parts_relocs, step_relocs, relocs_from}
-use Rattle.s390x_typed_steps.specs.Sizes.{instruction_size}
-use Rattle.s390x_typed_steps.specs.Causes.{instruction_fresh_labels, fresh_labels}
-use Rattle.s390x_emit_int.specs.Fragments.{Fragment, Put, PutTrapping, PutReloc, Link, LinkConstant, StartStep, Draw, Bind, apply, apply_all}
-use Rattle.s390x_emit_int.specs.Emission.{part_fragments, leaf_fragments, back_fragments, fragments, function_fragments}
+use Rattle.s390x_typed_steps.specs.Sizes.{body_size}
+use Rattle.s390x_typed_steps.specs.Causes.{fresh_labels, body_fresh_labels}
+use Rattle.s390x_emit_int.specs.Fragments.{Fragment, Put, PutTrapping, PutReloc, Link, LinkConstant, StartStep, Draw, Bind, apply, apply_all, AddSite}
+use Rattle.s390x_emit_int.specs.Emission.{part_fragments, leaf_fragments, back_fragments, fragments, function_fragments, body_fragments}
 use Rattle.s390x_emit_int.specs.Resolve.{put_length}
 use Rattle.s390x_emit_int.specs.Bound.{StepsFollow}
-use Rattle.s390x_emit_int.proofs.Runs.{length-bytes, length-branch, length-relative}
-use Rattle.s390x_emit_int.proofs.Joining.{leaf_put, tree_put, size_of_step, steps_length, LoopPlaces, loop_places, follows_left}
+use Rattle.s390x_emit_int.proofs.Runs.{length-bytes, length-branch, length-relative, length-call}
+use Rattle.s390x_emit_int.proofs.Joining.{tree_put, steps_length, LoopPlaces, loop_places, follows_left, body_put, size_of_body}
 use Rattle.s390x_emit_int.proofs.Functions.{next_block}
 
 -- the relocations in fragments that begin at an offset
@@ -33,6 +33,7 @@ relocated p (LinkConstant c bs ∷ ps) = relocated (p + length bs) ps
 relocated p (StartStep ∷ ps) = relocated p ps
 relocated p (Draw ∷ ps) = relocated p ps
 relocated p (Bind l ∷ ps) = relocated p ps
+relocated p (AddSite site ∷ ps) = relocated p ps
 
 pub relocs_run : (ps : List Fragment) (s : BufferState) → (apply_all s ps).relocs ≡ s.relocs ++ relocated (length s.bytes) ps
 relocs_run [] s = sym (append-nil s.relocs)
@@ -46,6 +47,7 @@ relocs_run (LinkConstant c bs ∷ ps) s = relocs_run ps (apply s (LinkConstant c
 relocs_run (StartStep ∷ ps) s = relocs_run ps (apply s StartStep)
 relocs_run (Draw ∷ ps) s = relocs_run ps (apply s Draw)
 relocs_run (Bind l ∷ ps) s = relocs_run ps (apply s (Bind l))
+relocs_run (AddSite site ∷ ps) s = relocs_run ps (apply s (AddSite site))
 
 relocated_append : (a b : List Fragment) (p : ℕ) → relocated p (a ++ b) ≡ relocated p a ++ relocated (p + put_length a) b
 relocated_append [] b p = ap (λ m. relocated m b) (sym (add-zero p))
@@ -59,6 +61,7 @@ relocated_append (LinkConstant c bs ∷ a) b p = relocated_append a b (p + lengt
 relocated_append (StartStep ∷ a) b p = relocated_append a b p
 relocated_append (Draw ∷ a) b p = relocated_append a b p
 relocated_append (Bind l ∷ a) b p = relocated_append a b p
+relocated_append (AddSite site ∷ a) b p = relocated_append a b p
 
 parts_relocated : (parts : List CodePart) (p : ℕ) → relocated p (part_fragments parts) ≡ parts_relocs p parts
 parts_relocated [] p = refl
@@ -78,6 +81,10 @@ parts_relocated (SymbolValue name offset ∷ parts) p =
 parts_relocated (TrapHere code ∷ parts) p = parts_relocated parts (p + 0)
 parts_relocated (TableWord before (ToBlock b) ∷ parts) p = parts_relocated parts (p + 4)
 parts_relocated (TableWord before (ToStep k) ∷ parts) p = parts_relocated parts (p + 4)
+parts_relocated (CallSymbol link name ∷ parts) p =
+    let e : RelocEntry = record { offset = p + 2; kind = S390xPLTRel32Dbl; name = name; addend = pos 2 } in
+    ap (λ n. e ∷ relocated (p + n) (part_fragments parts)) (length-call link) ∙ ap (λ l. e ∷ l) (parts_relocated parts (p + 6))
+parts_relocated (SiteHere site ∷ parts) p = ap (λ n. relocated n (part_fragments parts)) (sym (add-zero p)) ∙ parts_relocated parts (p + 0)
 
 -- the words of a table have none
 words_relocated : (ls : List MachLabel) (before p q : ℕ) → parts_relocs p (table_words before ls) ≡ parts_relocs q (table_words before ls)
@@ -89,6 +96,10 @@ leaf_relocated n after end (CondBreak mask) p = refl
 leaf_relocated n after end (JTSequence ridx other mask targets) p = parts_relocated (table_words 0 targets.items) _ ∙ words_relocated targets.items 0 _ _
 leaf_relocated n after end i p = parts_relocated (instruction_parts i) p
 
+body_relocated : (n after end : ℕ) (b : StepBody) (p : ℕ) → relocated p (body_fragments n after b) ≡ step_relocs p (step_of end b)
+body_relocated n after end (Whole i) p = leaf_relocated n after end i p
+body_relocated n after end b p = parts_relocated (step_parts (step_of 0 b)) p
+
 relocs_append : (at : ℕ → ℕ) (a b : List TypedStep) (k m : ℕ) → k + length a ≡ m → relocs_from at k (a ++ b) ≡ relocs_from at k a ++ relocs_from at m b
 relocs_append at [] b k m e = ap (λ n. relocs_from at n b) (sym (add-zero k) ∙ e)
 relocs_append at (s ∷ a) b k m e =
@@ -96,14 +107,14 @@ relocs_append at (s ∷ a) b k m e =
 
 tree_relocated : (t : Tree) (at : ℕ → ℕ) (n after k e : ℕ) → StepsFollow at k (steps_of k e t) → relocated (at k) (fragments n after t) ≡ relocs_from at k (steps_of k e t)
 tree_relocated empty at n after k e follow = refl
-tree_relocated (leaf (Whole i) rest) at n after k e follow =
-    let next : at (k + 1) ≡ at k + instruction_size i = follow.0 ∙ ap (λ m. at k + m) (size_of_step e i) in
-    let ps = fragments (n + instruction_fresh_labels i) after rest in
-    relocated_append (leaf_fragments n after i) ps (at k)
-    ∙ ap (λ m. relocated (at k) (leaf_fragments n after i) ++ relocated (at k + m) ps) (leaf_put n after i)
-    ∙ ap (λ m. relocated (at k) (leaf_fragments n after i) ++ relocated m ps) (sym next)
-    ∙ ap (λ l. l ++ relocated (at (k + 1)) ps) (leaf_relocated n after e i (at k))
-    ∙ ap (λ l. step_relocs (at k) (step_of e (Whole i)) ++ l) (tree_relocated rest at (n + instruction_fresh_labels i) after (k + 1) e follow.1)
+tree_relocated (leaf b rest) at n after k e follow =
+    let next : at (k + 1) ≡ at k + body_size b = follow.0 ∙ ap (λ m. at k + m) (size_of_body e b) in
+    let ps = fragments (n + body_fresh_labels b) after rest in
+    relocated_append (body_fragments n after b) ps (at k)
+    ∙ ap (λ m. relocated (at k) (body_fragments n after b) ++ relocated (at k + m) ps) (body_put n after b)
+    ∙ ap (λ m. relocated (at k) (body_fragments n after b) ++ relocated m ps) (sym next)
+    ∙ ap (λ l. l ++ relocated (at (k + 1)) ps) (body_relocated n after e b (at k))
+    ∙ ap (λ l. step_relocs (at k) (step_of e b) ++ l) (tree_relocated rest at (n + body_fresh_labels b) after (k + 1) e follow.1)
 tree_relocated (loop_node mask members rest) at n after k e follow =
     let k1 = k + 1 + step_count members in
     let k2 = k + 2 + step_count members in

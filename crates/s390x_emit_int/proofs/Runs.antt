@@ -1,20 +1,21 @@
 -- Running fragments: how the lists of a buffer grow.
-use Rattle.std.proofs.Common.{◌≡◌, ℕ, ◌+◌, ◌<◌, ◌≢◌, Some, None, List, [], ◌∷◌, ◌++◌, length, get_or, refl, sym, ap, ◌∙◌, subst, arith, length-append, length-set}
+use Rattle.s390x_typed_steps.specs.Steps.{step_of}
+use Rattle.std.proofs.Common.{◌≡◌, ℕ, ◌+◌, ◌<◌, ◌≢◌, Option, Some, None, List, [], ◌∷◌, ◌++◌, length, get_or, refl, sym, ap, ◌∙◌, subst, arith, length-append, length-set}
 use Rattle.std.proofs.lemmas.List.{get_or_append_left, get_or-set_other, get_or-set_same}
 use Rattle.s390x_buffer.specs.State.{BufferState}
 use Rattle.s390x_inst.specs.declared.inst.Inst.{Inst}
 use Rattle.s390x_inst.specs.declared.inst.Inst.TheVariants.{CondBreak, JTSequence}
 use Rattle.s390x_base.specs.Regs.{number_of}
 use Rattle.s390x_base.specs.declared.ir.MachLabel.{MachLabel}
-use Rattle.s390x_typed_steps.specs.Tree.{Tree, empty, leaf, loop_node, Whole}
-use Rattle.s390x_typed_steps.specs.Sizes.{instruction_size, tree_size}
-use Rattle.s390x_typed_steps.specs.Causes.{instruction_fresh_labels, fresh_labels}
+use Rattle.s390x_typed_steps.specs.Tree.{Tree, empty, leaf, loop_node, Whole, StepBody}
+use Rattle.s390x_typed_steps.specs.Sizes.{instruction_size, tree_size, body_size}
+use Rattle.s390x_typed_steps.specs.Causes.{instruction_fresh_labels, fresh_labels, body_fresh_labels}
 use Rattle.s390x_typed_steps.specs.MachineInstruction.{MachineInstruction, rr, ril_b, ril_c, rxy, bytes_of, size_of}
 use Rattle.std.specs.Int.{w64, to_be_bytes}
-use Rattle.s390x_typed_steps.specs.Rows.{word_bytes}
-use Rattle.s390x_typed_steps.specs.Parts.{CodePart, Row, Trapping, Branch, Relative, RelativeConstant, RelativeSymbol, SymbolValue, TrapHere, TableWord, ToBlock, ToStep, table_words, table_parts, instruction_parts, part_size, parts_size}
+use Rattle.s390x_typed_steps.specs.Rows.{symbol_call, word_bytes}
+use Rattle.s390x_typed_steps.specs.Parts.{CodePart, Row, Trapping, Branch, Relative, RelativeConstant, RelativeSymbol, SymbolValue, TrapHere, TableWord, ToBlock, ToStep, table_words, table_parts, instruction_parts, part_size, parts_size, CallSymbol, SiteHere, step_parts}
 use Rattle.s390x_emit_int.specs.Fragments.{Fragment, apply, apply_all, Put, StartStep, Draw, Bind}
-use Rattle.s390x_emit_int.specs.Emission.{branch, relative, table_word, part_fragment, part_fragments, table_rows, table_head, table_fragments, leaf_fragments, back_fragments, fragments}
+use Rattle.s390x_emit_int.specs.Emission.{branch, relative, table_word, part_fragment, part_fragments, table_rows, table_head, table_fragments, leaf_fragments, back_fragments, fragments, body_fragments}
 use Rattle.s390x_format.specs.Formats.{length_of}
 use Rattle.s390x_format.proofs.Encoding.{encode-length}
 
@@ -34,6 +35,11 @@ size-relative opcode register half = refl
 
 pub length-relative : (opcode register : ℕ) → length (bytes_of (ril_b opcode register 0)) ≡ 6
 length-relative opcode register = length-bytes (ril_b opcode register 0) ∙ size-relative opcode register 0
+
+-- those of a call of a symbol, or of a jump to it
+pub length-call : (link : Option ℕ) → length (bytes_of (symbol_call link 0)) ≡ 6
+length-call (Some link) = length-relative 0xc05 link
+length-call None = length-branch 15
 
 pub run-append : (s : BufferState) (a b : List Fragment) → apply_all s (a ++ b) ≡ apply_all (apply_all s a) b
 run-append s [] b = refl
@@ -102,6 +108,8 @@ part_grows (SymbolValue name offset) s = record { labels = omega arith; kept = �
 part_grows (TrapHere code) s = record { labels = omega arith; kept = λ l h. refl; bytes = length-append s.bytes [] }
 part_grows (TableWord before (ToBlock b)) s = word_grows s before b
 part_grows (TableWord before (ToStep k)) s = word_grows s before k
+part_grows (CallSymbol link name) s = record { labels = omega arith; kept = λ l h. refl; bytes = length-append s.bytes (bytes_of (symbol_call link 0)) ∙ ap (λ m. length s.bytes + m) (length-call link) }
+part_grows (SiteHere site) s = record { labels = omega arith; kept = λ l h. refl; bytes = omega arith }
 
 pub parts_grow : (parts : List CodePart) (s : BufferState) → Grows s (apply_all s (part_fragments parts)) 0 (parts_size parts)
 parts_grow [] s = record { labels = omega arith; kept = λ l h. refl; bytes = omega arith }
@@ -201,17 +209,22 @@ body_run s members = apply_all (opened s) (fragments (length s.labels + 2) (leng
 abbrev pub loop_run : BufferState → ℕ → Tree → BufferState
 loop_run s mask members = apply_all (body_run s members) (back_fragments (length s.labels) mask)
 
+-- the fragments of a step's body
+pub body_grows : (b : StepBody) (s : BufferState) (n after : ℕ) → n ≡ length s.labels → Grows s (apply_all s (body_fragments n after b)) (body_fresh_labels b) (body_size b)
+body_grows (Whole i) s n after e = leaf_grows i s n after e
+body_grows b s n after e = parts_grow (step_parts (step_of 0 b)) s
+
 pub tree_grows : (t : Tree) (s : BufferState) (n after : ℕ) → n ≡ length s.labels → Grows s (apply_all s (fragments n after t)) (fresh_labels t) (tree_size t)
 tree_grows empty s n after e = record { labels = omega arith; kept = λ l h. refl; bytes = omega arith }
-tree_grows (leaf (Whole i) rest) s n after e =
+tree_grows (leaf b rest) s n after e =
     let s1 = apply s StartStep in
-    let s2 = apply_all s1 (leaf_fragments n after i) in
-    let d = instruction_fresh_labels i in
-    let g : Grows s s2 d (instruction_size i) = step_grows s s2 _ _ (leaf_grows i s1 n after e) in
+    let s2 = apply_all s1 (body_fragments n after b) in
+    let d = body_fresh_labels b in
+    let g : Grows s s2 d (body_size b) = step_grows s s2 _ _ (body_grows b s1 n after e) in
     let n2 : n + d ≡ length s2.labels = omega (arith, g.labels) in
     let h = tree_grows rest s2 (n + d) after n2 in
-    let r = grows_on s s2 (apply_all s2 (fragments (n + d) after rest)) d (instruction_size i) (fresh_labels rest) (tree_size rest) g h in
-    subst (λ x. Grows s x (d + fresh_labels rest) (instruction_size i + tree_size rest)) (sym (run-append s1 (leaf_fragments n after i) (fragments (n + d) after rest))) r
+    let r = grows_on s s2 (apply_all s2 (fragments (n + d) after rest)) d (body_size b) (fresh_labels rest) (tree_size rest) g h in
+    subst (λ x. Grows s x (d + fresh_labels rest) (body_size b + tree_size rest)) (sym (run-append s1 (body_fragments n after b) (fragments (n + d) after rest))) r
 tree_grows (loop_node mask members rest) s n after e =
     let n0 = length s.labels in
     let s1 = apply s StartStep in

@@ -10,7 +10,7 @@ use Rattle.s390x_inst.specs.declared.inst.Inst.{Inst}
 use Rattle.s390x_inst.specs.Emission.{Emission}
 use Rattle.s390x_inst.specs.declared.args.MemArg.{MemArg}
 use Rattle.s390x_inst.specs.declared.args.MemArg.TheVariants.{Label, RegOffset}
-use Rattle.s390x_inst.specs.declared.inst.Inst.TheVariants.{Loop', JTSequence, Mov64SImm32, LoadAddr, CondBreak, Jump, CondBr, IndirectBr, Ret, LabelAddress, LoadSymbolReloc, Trap, TrapIf, Debugtrap, Vector}
+use Rattle.s390x_inst.specs.declared.inst.Inst.TheVariants.{Loop', JTSequence, Mov64SImm32, LoadAddr, CondBreak, Jump, CondBr, IndirectBr, Ret, LabelAddress, LoadSymbolReloc, Trap, TrapIf, Debugtrap, Vector, Call, ReturnCall}
 use Rattle.s390x_base.specs.Regs.{number_of}
 use Rattle.s390x_inst.specs.declared.vec_inst.VecInst.{VecInst}
 use Rattle.s390x_inst.specs.declared.vec_inst.VecInst.TheVariants.{VecEltRev, VecInt128SCmpHi, VecInt128UCmpHi}
@@ -161,6 +161,8 @@ short_resolved state i = refl
 -- an instruction that is no loop
 short_leaf : (state : Emission) (i : Inst) → is_short i ≡ true → prepend state i empty ≡ leaf (Whole (resolved_instruction state i)) empty
 short_leaf state (Loop' mask body all) h = absurd (cc)
+short_leaf state (Call link info) h = absurd (cc)
+short_leaf state (ReturnCall info) h = absurd (cc)
 short_leaf state i h = refl
 
 -- a short instruction puts few bytes

@@ -3,19 +3,19 @@ use Rattle.std.proofs.Common.{◌≡◌, ℕ, suc, ◌+◌, List, [], ◌∷◌,
 use Rattle.s390x_buffer.specs.State.{BufferState}
 use Rattle.s390x_inst.specs.declared.inst.Inst.{Inst}
 use Rattle.s390x_inst.specs.declared.inst.Inst.TheVariants.{CondBreak, JTSequence}
-use Rattle.s390x_typed_steps.specs.Tree.{Tree, empty, leaf, loop_node, Whole}
-use Rattle.s390x_typed_steps.specs.Steps.{Step as TypedStep, Back, step_count, steps_of}
+use Rattle.s390x_typed_steps.specs.Tree.{Tree, empty, leaf, loop_node, Whole, StepBody}
+use Rattle.s390x_typed_steps.specs.Steps.{Step as TypedStep, Back, step_count, steps_of, step_of}
 use Rattle.s390x_typed_steps.specs.MachineInstruction.{ril_c, bytes_of}
-use Rattle.s390x_typed_steps.specs.Parts.{CodePart, Row, Trapping, Branch, Relative, RelativeConstant, RelativeSymbol, SymbolValue, TrapHere, TableWord, ToBlock, ToStep, table_words, instruction_parts}
+use Rattle.s390x_typed_steps.specs.Parts.{CodePart, Row, Trapping, Branch, Relative, RelativeConstant, RelativeSymbol, SymbolValue, TrapHere, TableWord, ToBlock, ToStep, table_words, instruction_parts, CallSymbol, SiteHere, step_parts}
 use Rattle.s390x_typed_steps.specs.Image.{step_offsets}
-use Rattle.s390x_typed_steps.specs.Sizes.{instruction_size}
-use Rattle.s390x_typed_steps.specs.Causes.{declared_in, instruction_fresh_labels, fresh_labels}
-use Rattle.s390x_emit_int.specs.Fragments.{Fragment, Put, PutTrapping, PutReloc, Link, LinkConstant, StartStep, Draw, Bind, apply, apply_all}
-use Rattle.s390x_emit_int.specs.Emission.{part_fragments, leaf_fragments, back_fragments, fragments}
+use Rattle.s390x_typed_steps.specs.Sizes.{body_size}
+use Rattle.s390x_typed_steps.specs.Causes.{declared_in, fresh_labels, body_fresh_labels}
+use Rattle.s390x_emit_int.specs.Fragments.{Fragment, Put, PutTrapping, PutReloc, Link, LinkConstant, StartStep, Draw, Bind, apply, apply_all, AddSite}
+use Rattle.s390x_emit_int.specs.Emission.{part_fragments, leaf_fragments, back_fragments, fragments, body_fragments}
 use Rattle.s390x_emit_int.specs.Resolve.{put_length}
 use Rattle.s390x_emit_int.specs.Bound.{StepsFollow}
 use Rattle.s390x_emit_int.proofs.Runs.{length-branch}
-use Rattle.s390x_emit_int.proofs.Joining.{leaf_put, tree_put, size_of_step, steps_length, LoopPlaces, loop_places}
+use Rattle.s390x_emit_int.proofs.Joining.{tree_put, steps_length, LoopPlaces, loop_places, body_put, size_of_body}
 
 -- the offsets of steps in fragments that begin at an offset
 abbrev pub marks : ℕ → List Fragment → List ℕ
@@ -28,6 +28,7 @@ marks p (LinkConstant c bs ∷ ps) = marks (p + length bs) ps
 marks p (StartStep ∷ ps) = p ∷ marks p ps
 marks p (Draw ∷ ps) = marks p ps
 marks p (Bind l ∷ ps) = marks p ps
+marks p (AddSite site ∷ ps) = marks p ps
 
 pub starts_run : (ps : List Fragment) (s : BufferState) → (apply_all s ps).starts ≡ s.starts ++ marks (length s.bytes) ps
 starts_run [] s = sym (append-nil s.starts)
@@ -39,6 +40,7 @@ starts_run (LinkConstant c bs ∷ ps) s = starts_run ps (apply s (LinkConstant c
 starts_run (StartStep ∷ ps) s = starts_run ps (apply s StartStep) ∙ append_assoc s.starts (length s.bytes ∷ []) (marks (length s.bytes) ps)
 starts_run (Draw ∷ ps) s = starts_run ps (apply s Draw)
 starts_run (Bind l ∷ ps) s = starts_run ps (apply s (Bind l))
+starts_run (AddSite site ∷ ps) s = starts_run ps (apply s (AddSite site))
 
 pub marks_append : (a b : List Fragment) (p : ℕ) → marks p (a ++ b) ≡ marks p a ++ marks (p + put_length a) b
 marks_append [] b p = ap (λ m. marks m b) (sym (add-zero p))
@@ -50,6 +52,7 @@ marks_append (LinkConstant c bs ∷ a) b p = marks_append a b (p + length bs) �
 marks_append (StartStep ∷ a) b p = ap (λ l. p ∷ l) (marks_append a b p)
 marks_append (Draw ∷ a) b p = marks_append a b p
 marks_append (Bind l ∷ a) b p = marks_append a b p
+marks_append (AddSite site ∷ a) b p = marks_append a b p
 
 parts_unpoisoned : (parts : List CodePart) (p : ℕ) → marks p (part_fragments parts) ≡ []
 parts_unpoisoned [] p = refl
@@ -65,11 +68,17 @@ parts_unpoisoned (SymbolValue name offset ∷ parts) p = parts_unpoisoned parts 
 parts_unpoisoned (TrapHere code ∷ parts) p = parts_unpoisoned parts _
 parts_unpoisoned (TableWord before (ToBlock b) ∷ parts) p = parts_unpoisoned parts _
 parts_unpoisoned (TableWord before (ToStep k) ∷ parts) p = parts_unpoisoned parts _
+parts_unpoisoned (CallSymbol link name ∷ parts) p = parts_unpoisoned parts _
+parts_unpoisoned (SiteHere site ∷ parts) p = parts_unpoisoned parts _
 
 leaf_unpoisoned : (n after : ℕ) (i : Inst) (p : ℕ) → marks p (leaf_fragments n after i) ≡ []
 leaf_unpoisoned n after (CondBreak mask) p = refl
 leaf_unpoisoned n after (JTSequence ridx other mask targets) p = parts_unpoisoned (table_words 0 targets.items) _
 leaf_unpoisoned n after i p = parts_unpoisoned (instruction_parts i) p
+
+body_unpoisoned : (n after : ℕ) (b : StepBody) (p : ℕ) → marks p (body_fragments n after b) ≡ []
+body_unpoisoned n after (Whole i) p = leaf_unpoisoned n after i p
+body_unpoisoned n after b p = parts_unpoisoned (step_parts (step_of 0 b)) p
 
 places_append : (at : ℕ → ℕ) (a b : List TypedStep) (k : ℕ) → step_offsets at k (a ++ b) ≡ step_offsets at k a ++ step_offsets at (k + length a) b
 places_append at [] b k = ap (λ m. step_offsets at m b) (sym (add-zero k))
@@ -79,14 +88,14 @@ places_append at (s ∷ a) b k =
 
 pub tree_marks : (t : Tree) (at : ℕ → ℕ) (n after k e : ℕ) → StepsFollow at k (steps_of k e t) → marks (at k) (fragments n after t) ≡ step_offsets at k (steps_of k e t)
 tree_marks empty at n after k e follow = refl
-tree_marks (leaf (Whole i) rest) at n after k e follow =
-    let next : at (k + 1) ≡ at k + instruction_size i = follow.0 ∙ ap (λ m. at k + m) (size_of_step e i) in
-    let ps = fragments (n + instruction_fresh_labels i) after rest in
-    ap (λ l. at k ∷ l) (marks_append (leaf_fragments n after i) ps (at k)
-    ∙ ap (λ l. l ++ marks (at k + put_length (leaf_fragments n after i)) ps) (leaf_unpoisoned n after i (at k))
-    ∙ ap (λ m. marks (at k + m) ps) (leaf_put n after i)
+tree_marks (leaf b rest) at n after k e follow =
+    let next : at (k + 1) ≡ at k + body_size b = follow.0 ∙ ap (λ m. at k + m) (size_of_body e b) in
+    let ps = fragments (n + body_fresh_labels b) after rest in
+    ap (λ l. at k ∷ l) (marks_append (body_fragments n after b) ps (at k)
+    ∙ ap (λ l. l ++ marks (at k + put_length (body_fragments n after b)) ps) (body_unpoisoned n after b (at k))
+    ∙ ap (λ m. marks (at k + m) ps) (body_put n after b)
     ∙ ap (λ m. marks m ps) (sym next)
-    ∙ tree_marks rest at (n + instruction_fresh_labels i) after (k + 1) e follow.1)
+    ∙ tree_marks rest at (n + body_fresh_labels b) after (k + 1) e follow.1)
 tree_marks (loop_node mask members rest) at n after k e follow =
     let k1 = k + 1 + step_count members in
     let k2 = k + 2 + step_count members in
@@ -113,26 +122,23 @@ tree_marks (loop_node mask members rest) at n after k e follow =
 pub places_more : (at : ℕ → ℕ) (a b : List TypedStep) (k m : ℕ) → k + length a ≡ m → step_offsets at k (a ++ b) ≡ step_offsets at k a ++ step_offsets at m b
 places_more at a b k m e = places_append at a b k ∙ ap (λ x. step_offsets at k a ++ step_offsets at x b) e
 
--- what fragments leave as it was, but for the traps and the relocations
+-- what fragments leave as it was
 pub record Same (s t : BufferState) : Type 0 where
-  pub call_sites : t.call_sites ≡ s.call_sites
-  pub try_call_sites : t.try_call_sites ≡ s.try_call_sites
-  pub patchable_sites : t.patchable_sites ≡ s.patchable_sites
-  pub stack_maps : t.stack_maps ≡ s.stack_maps
   pub block_count : t.block_count ≡ s.block_count
   pub constants : t.constants ≡ s.constants
   pub failed : t.failed ≡ s.failed
 
 pub same_run : (ps : List Fragment) (s : BufferState) → Same s (apply_all s ps)
-same_run [] s = record { call_sites = refl; try_call_sites = refl; patchable_sites = refl; stack_maps = refl; block_count = refl; constants = refl; failed = refl }
-same_run (Put bs ∷ ps) s = let r = same_run ps (apply s (Put bs)) in record { call_sites = r.call_sites; try_call_sites = r.try_call_sites; patchable_sites = r.patchable_sites; stack_maps = r.stack_maps; block_count = r.block_count; constants = r.constants; failed = r.failed }
-same_run (PutReloc bs byte kind name addend ∷ ps) s = let r = same_run ps (apply s (PutReloc bs byte kind name addend)) in record { call_sites = r.call_sites; try_call_sites = r.try_call_sites; patchable_sites = r.patchable_sites; stack_maps = r.stack_maps; block_count = r.block_count; constants = r.constants; failed = r.failed }
-same_run (PutTrapping bs byte code ∷ ps) s = let r = same_run ps (apply s (PutTrapping bs byte code)) in record { call_sites = r.call_sites; try_call_sites = r.try_call_sites; patchable_sites = r.patchable_sites; stack_maps = r.stack_maps; block_count = r.block_count; constants = r.constants; failed = r.failed }
-same_run (Link k l bs ∷ ps) s = let r = same_run ps (apply s (Link k l bs)) in record { call_sites = r.call_sites; try_call_sites = r.try_call_sites; patchable_sites = r.patchable_sites; stack_maps = r.stack_maps; block_count = r.block_count; constants = r.constants; failed = r.failed }
-same_run (LinkConstant c bs ∷ ps) s = let r = same_run ps (apply s (LinkConstant c bs)) in record { call_sites = r.call_sites; try_call_sites = r.try_call_sites; patchable_sites = r.patchable_sites; stack_maps = r.stack_maps; block_count = r.block_count; constants = r.constants; failed = r.failed }
-same_run (StartStep ∷ ps) s = let r = same_run ps (apply s StartStep) in record { call_sites = r.call_sites; try_call_sites = r.try_call_sites; patchable_sites = r.patchable_sites; stack_maps = r.stack_maps; block_count = r.block_count; constants = r.constants; failed = r.failed }
-same_run (Draw ∷ ps) s = let r = same_run ps (apply s Draw) in record { call_sites = r.call_sites; try_call_sites = r.try_call_sites; patchable_sites = r.patchable_sites; stack_maps = r.stack_maps; block_count = r.block_count; constants = r.constants; failed = r.failed }
-same_run (Bind l ∷ ps) s = let r = same_run ps (apply s (Bind l)) in record { call_sites = r.call_sites; try_call_sites = r.try_call_sites; patchable_sites = r.patchable_sites; stack_maps = r.stack_maps; block_count = r.block_count; constants = r.constants; failed = r.failed }
+same_run [] s = record { block_count = refl; constants = refl; failed = refl }
+same_run (Put bs ∷ ps) s = let r = same_run ps (apply s (Put bs)) in record { block_count = r.block_count; constants = r.constants; failed = r.failed }
+same_run (PutReloc bs byte kind name addend ∷ ps) s = let r = same_run ps (apply s (PutReloc bs byte kind name addend)) in record { block_count = r.block_count; constants = r.constants; failed = r.failed }
+same_run (PutTrapping bs byte code ∷ ps) s = let r = same_run ps (apply s (PutTrapping bs byte code)) in record { block_count = r.block_count; constants = r.constants; failed = r.failed }
+same_run (Link k l bs ∷ ps) s = let r = same_run ps (apply s (Link k l bs)) in record { block_count = r.block_count; constants = r.constants; failed = r.failed }
+same_run (LinkConstant c bs ∷ ps) s = let r = same_run ps (apply s (LinkConstant c bs)) in record { block_count = r.block_count; constants = r.constants; failed = r.failed }
+same_run (StartStep ∷ ps) s = let r = same_run ps (apply s StartStep) in record { block_count = r.block_count; constants = r.constants; failed = r.failed }
+same_run (Draw ∷ ps) s = let r = same_run ps (apply s Draw) in record { block_count = r.block_count; constants = r.constants; failed = r.failed }
+same_run (Bind l ∷ ps) s = let r = same_run ps (apply s (Bind l)) in record { block_count = r.block_count; constants = r.constants; failed = r.failed }
+same_run (AddSite site ∷ ps) s = let r = same_run ps (apply s (AddSite site)) in record { block_count = r.block_count; constants = r.constants; failed = r.failed }
 
 -- what instructions may name stays the same
 declared_applied : (x : Fragment) (s : BufferState) → declared_in (apply s x) ≡ declared_in s
@@ -144,6 +150,7 @@ declared_applied (LinkConstant c bs) s = refl
 declared_applied StartStep s = refl
 declared_applied Draw s = refl
 declared_applied (Bind l) s = refl
+declared_applied (AddSite site) s = refl
 
 pub declared_run : (ps : List Fragment) (s : BufferState) → declared_in (apply_all s ps) ≡ declared_in s
 declared_run [] s = refl

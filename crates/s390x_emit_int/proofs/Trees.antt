@@ -1,15 +1,16 @@
 -- Emission goes on from member to member, and through a loop.
-use Rattle.std.proofs.Common.{◌≡◌, ℕ, ◌+◌, List, [], ◌∷◌, ◌++◌, length, refl, sym, ap, ◌∙◌, subst, suc, ◌<◌, ◌≢◌, get_or, drop, None, Some, drop-cons, arith, length-append, append_assoc, append-nil}
+use Rattle.std.proofs.Common.{◌≡◌, ℕ, ◌+◌, List, [], ◌∷◌, ◌++◌, length, refl, sym, ap, ◌∙◌, subst, ◌<◌, ◌≢◌, get_or, drop, None, Some, arith, length-append, append_assoc, append-nil}
 use Rattle.std.proofs.lemmas.List.{get_or-set_other}
 use Rattle.std.proofs.Math.Seq.{get_or-append_seam}
 use Rattle.s390x_inst.specs.Emission.{Emission}
 use Rattle.s390x_buffer.specs.State.{BufferState}
 use Rattle.s390x_inst.specs.declared.inst.Inst.{Inst}
-use Rattle.s390x_inst.specs.declared.inst.Inst.TheVariants.{Loop'}
+use Rattle.s390x_inst.specs.declared.inst.Inst.TheVariants.{Call, Loop'}
+use Rattle.s390x_typed_steps.specs.Calls.{safepoint, without_map}
 use Rattle.s390x_typed_steps.specs.Stack.{state_after}
-use Rattle.s390x_typed_steps.specs.Tree.{Tree, empty, leaf, loop_node, prepend, row_tree, tree, Whole}
+use Rattle.s390x_typed_steps.specs.Tree.{Tree, empty, leaf, loop_node, prepend, row_tree, tree, block_tree, Whole}
 use Rattle.s390x_typed_steps.specs.Causes.{body_fresh_labels, fresh_labels}
-use Rattle.s390x_typed_steps.proofs.Trees.{joined, prepend_joined}
+use Rattle.s390x_typed_steps.proofs.Trees.{joined, prepend_joined, behind, block_behind}
 use Rattle.s390x_emit_int.specs.Fragments.{StartStep, Draw, Bind, apply, apply_all}
 use Rattle.s390x_emit_int.specs.Emission.{branch, body_fragments, leaf_fragments, fragments, own_fragments, back_fragments}
 use Rattle.s390x_typed_steps.specs.Ranges.{AllInRange}
@@ -44,7 +45,7 @@ fragments_joined (loop_node mask members t) u n after =
 -- the fragments of what an instruction becomes begin with a step's offset
 own_first : (state : Emission) (i : Inst) (n after : ℕ) → fragments n after (prepend state i empty) ≡ StartStep ∷ own_fragments n after (prepend state i empty)
 own_first state (Loop' mask body all) n after =
-    let inner = fragments (n + 2) (n + 1) (row_tree state all) in
+    let inner = fragments (n + 2) (n + 1) (row_tree (without_map state) all) in
     ap (λ l. StartStep ∷ Draw ∷ Draw ∷ Bind n ∷ (inner ++ l)) (append-nil (back_fragments n mask))
 own_first state i n after = refl
 
@@ -70,28 +71,55 @@ prepend_ranges state i rest f r = subst AllInRange (sym (prepend_joined state i 
 pub leaf_own : (i : Inst) (s : BufferState) (n after : ℕ) → apply_all s (leaf_fragments n after i) ≡ apply_all s (own_fragments n after (leaf (Whole i) empty))
 leaf_own i s n after = ap (apply_all s) (sym (append-nil (leaf_fragments n after i)))
 
-cons_of : (is : List Inst) (k : ℕ) (i : Inst) → k < length is → i ≡ get_or is k i → drop k is ≡ i ∷ drop (k + 1) is
-cons_of is k i lt at =
-    let k1 : suc k ≡ k + 1 = omega arith in
-    drop-cons is k i lt ∙ ap (λ x. x ∷ drop (suc k) is) (sym at) ∙ ap (λ m. i ∷ drop m is) k1
+-- ---- members in order
 
--- one more member
+-- a safepoint changes the stack map alone
+pub safepoint_nominal : (state : Emission) (i : Inst) → (safepoint state i).nominal ≡ state.nominal
+safepoint_nominal state (Call link info) = refl
+safepoint_nominal state i = refl
+
+pub safepoint_after : (state : Emission) (i : Inst) → state_after (safepoint state i) i ≡ state_after state i
+safepoint_after state (Call link info) = refl
+safepoint_after state i = refl
+
+-- one more member, before the rest
+pub more_of : (now : Emission) (i : Inst) (whole rest : Tree) (s s1 s2 r : BufferState) (after : ℕ) → whole ≡ prepend now i rest
+    → s1 ≡ apply s StartStep → s2 ≡ apply_all s1 (own_fragments (length s1.labels) after (prepend now i empty))
+    → apply_all s (fragments (length s.labels) after whole) ≡ r
+    → apply_all s2 (fragments (length s2.labels) after rest) ≡ r
+more_of now i whole rest s s1 s2 r after is e1 e2 h =
+    let n = length s.labels in
+    let own = prepend now i empty in
+    let e2' : s2 ≡ apply_all (apply s StartStep) (own_fragments n after own) = e2 ∙ ap (λ x. apply_all x (own_fragments (length x.labels) after own)) e1 in
+    let alone : s2 ≡ apply_all s (fragments n after own) = e2' ∙ sym (prepend_run now i empty s n after) in
+    let len : length s2.labels ≡ n + fresh_labels own = ap (λ x. length x.labels) alone ∙ (tree_grows own s n after refl).labels in
+    ap (λ m. apply_all s2 (fragments m after rest)) len
+    ∙ ap (λ x. apply_all x (fragments (n + fresh_labels own) after rest)) e2'
+    ∙ sym (prepend_run now i rest s n after)
+    ∙ ap (λ t. apply_all s (fragments n after t)) (sym is)
+    ∙ h
+
+-- in a loop
 pub more : (state : Emission) (is : List Inst) (k : ℕ) (i : Inst) (s s1 s2 r : BufferState) (after : ℕ) → k < length is → i ≡ get_or is k i
     → s1 ≡ apply s StartStep → s2 ≡ apply_all s1 (own_fragments (length s1.labels) after (prepend state i empty))
     → apply_all s (fragments (length s.labels) after (tree state (drop k is))) ≡ r
     → apply_all s2 (fragments (length s2.labels) after (tree (state_after state i) (drop (k + 1) is))) ≡ r
-more state is k i s s1 s2 r after lt at e1 e2 h =
-    let n = length s.labels in
-    let rest = drop (k + 1) is in
-    let next = state_after state i in
-    let e2' : s2 ≡ apply_all (apply s StartStep) (own_fragments n after (prepend state i empty)) = e2 ∙ ap (λ x. apply_all x (own_fragments (length x.labels) after (prepend state i empty))) e1 in
-    let single_instruction : s2 ≡ apply_all s (fragments n after (prepend state i empty)) = e2' ∙ sym (prepend_run state i empty s n after) in
-    let len : length s2.labels ≡ n + fresh_labels (prepend state i empty) = ap (λ x. length x.labels) single_instruction ∙ (tree_grows (prepend state i empty) s n after refl).labels in
-    ap (λ m. apply_all s2 (fragments m after (tree next rest))) len ∙ ap (λ x. apply_all x (fragments (n + fresh_labels (prepend state i empty)) after (tree next rest))) e2' ∙ sym (prepend_run state i (tree next rest) s n after) ∙ ap (λ l. apply_all s (fragments n after (tree state l))) (sym (cons_of is k i lt at)) ∙ h
+more state is k i s s1 s2 r after lt at = more_of state i (tree state (drop k is)) (tree (state_after state i) (drop (k + 1) is)) s s1 s2 r after (behind state is k i lt at)
+
+-- in a block
+pub more_in_block : (state : Emission) (is : List Inst) (k : ℕ) (i : Inst) (s s1 s2 r : BufferState) (after : ℕ) → k < length is → i ≡ get_or is k i
+    → s1 ≡ apply s StartStep → s2 ≡ apply_all s1 (own_fragments (length s1.labels) after (prepend (safepoint state i) i empty))
+    → apply_all s (fragments (length s.labels) after (block_tree state (drop k is))) ≡ r
+    → apply_all s2 (fragments (length s2.labels) after (block_tree (state_after state i) (drop (k + 1) is))) ≡ r
+more_in_block state is k i s s1 s2 r after lt at =
+    more_of (safepoint state i) i (block_tree state (drop k is)) (block_tree (state_after state i) (drop (k + 1) is)) s s1 s2 r after (block_behind state is k i lt at)
 
 -- and its numbers are in range
 pub more_ranges : (state : Emission) (is : List Inst) (k : ℕ) (i : Inst) → k < length is → i ≡ get_or is k i → AllInRange (prepend state i empty) → AllInRange (tree (state_after state i) (drop (k + 1) is)) → AllInRange (tree state (drop k is))
-more_ranges state is k i lt at f rest = subst (λ l. AllInRange (tree state l)) (sym (cons_of is k i lt at)) (prepend_ranges state i (tree (state_after state i) (drop (k + 1) is)) f rest)
+more_ranges state is k i lt at f rest = subst AllInRange (sym (behind state is k i lt at)) (prepend_ranges state i (tree (state_after state i) (drop (k + 1) is)) f rest)
+
+pub ranges_in_block : (state : Emission) (is : List Inst) (k : ℕ) (i : Inst) → k < length is → i ≡ get_or is k i → AllInRange (prepend (safepoint state i) i empty) → AllInRange (block_tree (state_after state i) (drop (k + 1) is)) → AllInRange (block_tree state (drop k is))
+ranges_in_block state is k i lt at f rest = subst AllInRange (sym (block_behind state is k i lt at)) (prepend_ranges (safepoint state i) i (block_tree (state_after state i) (drop (k + 1) is)) f rest)
 
 opened_end : (s : BufferState) → get_or (opened s).labels (length s.labels + 1) None ≡ None
 opened_end s =

@@ -1,10 +1,12 @@
 -- Labels stand at the offsets that the sizes give.
+use Rattle.s390x_buffer.specs.declared.entries.TryHandler.{TryHandler}
+use Rattle.s390x_typed_steps.specs.StepBody.{Site, AtTry}
 use Rattle.std.specs.Prelude.{◌≡◌, ℕ, ◌+◌, ◌<◌, List, [], ◌∷◌}
 use Rattle.s390x_inst.specs.declared.inst.Inst.{Inst}
 use Rattle.s390x_inst.specs.declared.inst.Inst.TheVariants.{JTSequence}
 use Rattle.s390x_typed_steps.specs.Tree.{StepBody, Tree, Whole, empty, leaf, loop_node}
-use Rattle.s390x_typed_steps.specs.Steps.{Step}
-use Rattle.s390x_typed_steps.specs.Parts.{CodePart, Row, Trapping, Branch, Relative, RelativeConstant, RelativeSymbol, SymbolValue, TrapHere, TableWord, ToBlock, ToStep, instruction_parts, step_size}
+use Rattle.s390x_typed_steps.specs.Steps.{Step, step_of}
+use Rattle.s390x_typed_steps.specs.Parts.{CodePart, Row, Trapping, Branch, Relative, RelativeConstant, RelativeSymbol, SymbolValue, TrapHere, TableWord, CallSymbol, SiteHere, ToBlock, ToStep, instruction_parts, step_size, step_parts}
 use Rattle.s390x_typed_steps.specs.Sizes.{body_size, tree_size}
 use Rattle.s390x_typed_steps.specs.Causes.{body_fresh_labels, fresh_labels}
 
@@ -16,6 +18,7 @@ LeafBound off n p _ = Unit {0}
 -- the same of a body
 abbrev pub BodyBound : (ℕ → ℕ) → (n p : ℕ) → StepBody → Type 0
 BodyBound off n p (Whole i) = LeafBound off n p i
+BodyBound off n p _ = Unit {0}
 
 -- the labels that a tree at an offset draws, from number n on
 abbrev pub Bound : (ℕ → ℕ) → (n p : ℕ) → Tree → Type 0
@@ -27,6 +30,16 @@ Bound off n p (loop_node mask members rest) = (off n ≡ p) × (off (n + 1) ≡ 
 abbrev pub StepsFollow : (ℕ → ℕ) → ℕ → List Step → Type 0
 StepsFollow at k [] = Unit {0}
 StepsFollow at k (s ∷ ss) = (at (k + 1) ≡ at k + step_size s) × StepsFollow at (k + 1) ss
+
+-- the labels of handlers are those of so many blocks
+abbrev pub HandlersName : (count : ℕ) → List TryHandler → Type 0
+HandlersName count [] = Unit {0}
+HandlersName count (h ∷ hs) = (h.label.0 < count) × HandlersName count hs
+
+-- so are those of a site
+abbrev pub SiteNames : (count : ℕ) → Site → Type 0
+SiteNames count (AtTry handlers sp_to_fp) = HandlersName count handlers
+SiteNames count _ = Unit {0}
 
 -- the target of a part is one of so many blocks, or one of so many constants
 abbrev pub PartNames : (count constants : ℕ) → CodePart → Type 0
@@ -42,6 +55,8 @@ PartNames count constants (SymbolValue name offset) = Unit {0}
 PartNames count constants (TrapHere code) = Unit {0}
 PartNames count constants (TableWord before (ToBlock b)) = b < count
 PartNames count constants (TableWord before (ToStep k)) = ⊥
+PartNames count constants (CallSymbol link name) = Unit {0}
+PartNames count constants (SiteHere site) = SiteNames count site
 
 -- the same of each part
 abbrev pub PartsName : (count constants : ℕ) → List CodePart → Type 0
@@ -51,6 +66,7 @@ PartsName count constants (part ∷ parts) = PartNames count constants part × P
 -- the same of the parts of a body
 abbrev pub BodyNames : (count constants : ℕ) → StepBody → Type 0
 BodyNames count constants (Whole i) = PartsName count constants (instruction_parts i)
+BodyNames count constants b = PartsName count constants (step_parts (step_of 0 b))
 
 -- the same of the bodies in a tree
 abbrev pub TreeNames : (count constants : ℕ) → Tree → Type 0

@@ -1,7 +1,8 @@
 -- The fragments of a tree of instructions, with label numbers.
+use Rattle.s390x_typed_steps.specs.Steps.{step_of}
 use Rattle.std.specs.Prelude.{ℕ, ◌+◌, pos, ◌+ℤ◌, List, [], ◌∷◌, ◌++◌, Option, Some, None}
 use Rattle.std.specs.Int.{w64, to_be_bytes}
-use Rattle.s390x_base.specs.declared.ir.Reloc.TheVariants.{S390xPCRel32Dbl, Abs8}
+use Rattle.s390x_base.specs.declared.ir.Reloc.TheVariants.{S390xPCRel32Dbl, S390xPLTRel32Dbl, Abs8}
 use Rattle.s390x_buffer.specs.declared.label_use.LabelUse.TheVariants.{BranchRIL, PCRel32}
 use Rattle.s390x_inst.specs.declared.inst.Inst.{Inst}
 use Rattle.s390x_inst.specs.declared.inst.Inst.TheVariants.{CondBreak, JTSequence}
@@ -9,11 +10,11 @@ use Rattle.s390x_base.specs.Regs.{number_of}
 use Rattle.s390x_base.specs.declared.ir.MachLabel.{MachLabel}
 use Rattle.s390x_typed_steps.specs.Tree.{StepBody, Tree, Whole, empty, leaf, loop_node}
 use Rattle.s390x_typed_steps.specs.MachineInstruction.{ril_b, ril_c, bytes_of, rr, rxy}
-use Rattle.s390x_typed_steps.specs.Parts.{CodePart, Row, Trapping, Branch, Relative, RelativeConstant, RelativeSymbol, TableWord, ToBlock, ToStep, branch_parts, memory_parts, parts_size, instruction_parts, table_words, SymbolValue, TrapHere}
+use Rattle.s390x_typed_steps.specs.Parts.{CodePart, Row, Trapping, Branch, Relative, RelativeConstant, RelativeSymbol, TableWord, ToBlock, ToStep, branch_parts, memory_parts, parts_size, instruction_parts, table_words, SymbolValue, TrapHere, CallSymbol, SiteHere, step_parts}
 use Rattle.s390x_typed_steps.specs.Memory.{MemoryInstruction}
-use Rattle.s390x_typed_steps.specs.Rows.{word_bytes}
+use Rattle.s390x_typed_steps.specs.Rows.{symbol_call, word_bytes}
 use Rattle.s390x_typed_steps.specs.Causes.{body_fresh_labels, fresh_labels}
-use Rattle.s390x_emit_int.specs.Fragments.{Fragment, Put, PutTrapping, PutReloc, Link, LinkConstant, StartStep, Draw, Bind}
+use Rattle.s390x_emit_int.specs.Fragments.{Fragment, Put, PutTrapping, PutReloc, Link, LinkConstant, StartStep, Draw, Bind, AddSite}
 
 -- a branch to a label, its distance still zero
 abbrev pub branch : (mask label : ℕ) → Fragment
@@ -41,6 +42,8 @@ part_fragment (SymbolValue name offset) = PutReloc (to_be_bytes w64 0) 0 Abs8 na
 part_fragment (TrapHere code) = PutTrapping [] 0 code
 part_fragment (TableWord before (ToBlock b)) = table_word before b
 part_fragment (TableWord before (ToStep k)) = table_word before k
+part_fragment (CallSymbol link name) = PutReloc (bytes_of (symbol_call link 0)) 2 S390xPLTRel32Dbl name (pos 2)
+part_fragment (SiteHere site) = AddSite site
 
 -- the fragments of parts, in order
 abbrev pub part_fragments : List CodePart → List Fragment
@@ -85,6 +88,7 @@ leaf_fragments n after i = part_fragments (instruction_parts i)
 -- the fragments of a body
 abbrev pub body_fragments : (n after : ℕ) → StepBody → List Fragment
 body_fragments n after (Whole i) = leaf_fragments n after i
+body_fragments n after b = part_fragments (step_parts (step_of 0 b))
 
 -- a loop's end: its back branch, and the label behind it
 abbrev pub back_fragments : (start mask : ℕ) → List Fragment

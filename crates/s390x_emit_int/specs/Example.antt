@@ -1,12 +1,12 @@
 -- The theorem about linked code isn't empty: functions, their finished code, a base, symbols and a machine that meet its premises.
-use Rattle.std.specs.Prelude.{◌≡◌, List, [], None}
-use Rattle.s390x_base.specs.declared.ir.ExternalName.{ExternalName}
+use Rattle.std.specs.Prelude.{◌≡◌, List, [], Some, None, slice_get}
 use Rattle.s390x_inst.specs.State.{base_facilities}
 use Rattle.s390x_buffer.specs.State.{Constant}
 use Rattle.s390x_buffer.specs.declared.entries.MachBufferFinalized.{MachBufferFinalized}
 use Rattle.s390x_image.specs.Causes.{link_cause}
 use Rattle.s390x_image.specs.Symbols.{Symbols, no_symbols, with_address}
 use Rattle.s390x_typed_steps.specs.Ranges.{BlocksInRange}
+use Rattle.s390x_typed_steps.specs.Steps.{CallingStep, function_steps}
 use Rattle.s390x_typed_steps.specs.Tree.{Tree}
 use Rattle.s390x_operations.specs.State.{Core, IsLoaded}
 use Rattle.s390x_machine.specs.Machine.{Transition, Run}
@@ -14,6 +14,7 @@ use Rattle.s390x_machine.specs.Layout.{block_address}
 use Rattle.s390x_machine.specs.Functions.{function_layout}
 use Rattle.s390x_machine.specs.Example as Loop
 use Rattle.s390x_machine.specs.RelativeExample as Relative
+use Rattle.s390x_emit_int.specs.CallExample as Call
 use Rattle.s390x_emit_int.specs.Function.{checked_cause, IsFinishedCode}
 use Rattle.s390x_emit_int.specs.Headline.{linked, linked_image}
 
@@ -39,3 +40,8 @@ symbols = with_address no_symbols (record { 0 = 1 }) 8192
 -- a function with a constant, a symbol and a trap: a run loads the constant and the symbol's address, and stops by the trap
 abbrev pub LinkedTrapRuns : Type 0
 LinkedTrapRuns = LinkedRun symbols Relative.trees Relative.constants Relative.core Relative.trace
+
+-- a function with a call: its code lies in memory, and the call is its first step, so that runs from the return place are those behind it
+pub record LinkedCallStands : Type 0 where
+  pub stands : LinkedRun symbols Call.trees [] Call.core []
+  pub calls : slice_get (function_steps Call.trees) 0 ≡ Some (CallingStep Call.calling)

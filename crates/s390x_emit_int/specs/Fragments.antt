@@ -4,6 +4,8 @@ use Rattle.s390x_base.specs.declared.ir.Reloc.{Reloc}
 use Rattle.std.specs.Prelude.{ℕ, ℤ, ◌+◌, List, [], ◌∷◌, ◌++◌, length, Some, None, set}
 use Rattle.s390x_base.specs.declared.trap.TrapKind.{TrapKind}
 use Rattle.s390x_buffer.specs.State.{BufferState, constant_label}
+use Rattle.s390x_typed_steps.specs.Sites.{call_of, try_of, patch_of, map_of}
+use Rattle.s390x_typed_steps.specs.StepBody.{Site}
 use Rattle.s390x_buffer.specs.declared.entries.RecordedBranches.TheVariants.{NoBranch}
 use Rattle.s390x_buffer.specs.declared.label_use.LabelUse.{LabelUse}
 use Rattle.s390x_buffer.specs.declared.label_use.LabelUse.TheVariants.{BranchRIL}
@@ -26,6 +28,12 @@ pub data Fragment : Type 0 where
   Draw : Fragment
   -- a label is bound here
   Bind : (label : ℕ) → Fragment
+  -- what is recorded here of a call
+  AddSite : Site → Fragment
+
+-- the buffer with a site at an offset, in the table of its kind
+abbrev pub with_site : BufferState → (offset : ℕ) → Site → BufferState
+with_site s p site = record s { call_sites = s.call_sites ++ call_of p site; try_call_sites = s.try_call_sites ++ try_of p site; patchable_sites = s.patchable_sites ++ patch_of p site; stack_maps = s.stack_maps ++ map_of p site }
 
 -- the buffer after a fragment
 abbrev pub apply : BufferState → Fragment → BufferState
@@ -37,6 +45,7 @@ apply s (LinkConstant c bs) = record s { bytes = s.bytes ++ bs; uses = s.uses ++
 apply s StartStep = record s { starts = s.starts ++ length s.bytes ∷ []; branches = NoBranch }
 apply s Draw = record s { labels = s.labels ++ None ∷ [] }
 apply s (Bind l) = record s { labels = set s.labels l (Some (length s.bytes)); branches = NoBranch }
+apply s (AddSite site) = with_site s (length s.bytes) site
 
 -- the buffer after fragments, one after another
 abbrev pub apply_all : BufferState → List Fragment → BufferState

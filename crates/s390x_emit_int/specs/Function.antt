@@ -1,5 +1,5 @@
 -- A function: its image, and the first cause that refuses it.
-use Rattle.std.specs.Prelude.{◌≡◌, ◌+◌, ◌<◌, List, [], ◌++◌, length, map, ◌&&◌, nat_lt, nat_eq, Option}
+use Rattle.std.specs.Prelude.{◌≡◌, ◌+◌, ◌<◌, List, ◌++◌, length, map, ◌&&◌, nat_lt, nat_eq, Option}
 use Rattle.s390x_base.specs.declared.error.EmitError.{EmitError}
 use Rattle.s390x_base.specs.declared.error.EmitError.TheVariants.{BadStackState, LabelOutOfRange}
 use Rattle.s390x_inst.specs.Emission.{Emission}
@@ -10,17 +10,18 @@ use Rattle.s390x_buffer.specs.State.{Constant, constant_of, new_cause, limit}
 use Rattle.s390x_buffer.specs.Constants.{constant_starts, constant_bytes, constants_end, greatest_align}
 use Rattle.s390x_buffer.specs.Finish.{entry_of}
 use Rattle.s390x_buffer.specs.declared.entries.MachBufferFinalized.{MachBufferFinalized}
-use Rattle.s390x_typed_steps.specs.Tree.{Tree, tree}
+use Rattle.s390x_typed_steps.specs.Tree.{Tree, block_tree}
 use Rattle.s390x_typed_steps.specs.Steps.{function_steps}
 use Rattle.s390x_typed_steps.specs.Image.{step_offset, unlinked, function_code, step_offsets, block_offsets}
 use Rattle.s390x_typed_steps.specs.Traps.{function_traps}
 use Rattle.s390x_typed_steps.specs.Relocs.{function_relocs}
+use Rattle.s390x_typed_steps.specs.Sites.{function_sites, call_offsets, patches, stack_maps, function_try_entries}
 use Rattle.s390x_typed_steps.specs.Sizes.{blocks_size}
 use Rattle.s390x_typed_steps.specs.Causes.{first_emit_cause, unless, declared_of, blocks_cause}
 
--- a block as a tree, from a state of emission on
+-- a block as a tree, from a state of emission on: each of its calls is a safepoint
 abbrev pub tree_of : Emission → Block → Tree
-tree_of e b = tree e b.insts.items
+tree_of e b = block_tree e b.insts.items
 
 -- the blocks of a function as trees
 abbrev pub trees_of : Emission → AllocatedFunction → List Tree
@@ -30,8 +31,7 @@ trees_of e f = map (tree_of e) f.blocks.items
 abbrev pub constants_of : AllocatedFunction → List Constant
 constants_of f = map constant_of f.constants.items
 
--- The finished code and its tables: the bytes of the steps and then the constants, where each block, constant and step starts, and the steps' traps and relocations.
--- No instruction that is built has a site, so these tables are empty.
+-- The finished code and its tables: the bytes of the steps and then the constants, where each block, constant and step starts, and the steps' traps, relocations and sites.
 pub record IsFinishedCode (ts : List Tree) (cs : List Constant) (f : MachBufferFinalized) : Type 0 where
   pub bytes : f.bytes.items ≡ function_code (unlinked ts cs) ts ++ constant_bytes (blocks_size ts) cs
   pub block_starts : f.block_starts.items ≡ block_offsets (step_offset (function_steps ts)) 0 ts
@@ -39,10 +39,10 @@ pub record IsFinishedCode (ts : List Tree) (cs : List Constant) (f : MachBufferF
   pub starts : f.starts.items ≡ step_offsets (step_offset (function_steps ts)) 0 (function_steps ts)
   pub relocs : f.relocs.items ≡ function_relocs ts
   pub traps : f.traps.items ≡ function_traps ts
-  pub call_sites : f.call_sites.items ≡ []
-  pub try_call_sites : map entry_of f.try_call_sites.items ≡ []
-  pub patchable_sites : f.patchable_sites.items ≡ []
-  pub stack_maps : f.stack_maps.items ≡ []
+  pub call_sites : f.call_sites.items ≡ call_offsets (function_sites ts)
+  pub try_call_sites : map entry_of f.try_call_sites.items ≡ function_try_entries ts
+  pub patchable_sites : f.patchable_sites.items ≡ patches (function_sites ts)
+  pub stack_maps : f.stack_maps.items ≡ stack_maps (function_sites ts)
   pub alignment : f.alignment ≡ greatest_align 4 cs
   pub short : length f.bytes.items < limit
 

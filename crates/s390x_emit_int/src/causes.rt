@@ -18,8 +18,8 @@ use s390x_base::{Code, EmitError, MachLabel, Reg, RegClass};
 use s390x_buffer::MachBuffer;
 use s390x_inst::{EmitState, Inst, IsaFlags};
 
-// Whether the register is a real Int one other than `%r0`: one that a branch may go by.
-fn branchable(r: Reg) -> bool
+/// Whether the register is a real Int one other than `%r0`: one that a branch may go by.
+pub fn branchable(r: Reg) -> bool
     ensures { result ≡ is_general r && is_nonzero r }
 {
     match r.to_real_reg() {
@@ -45,7 +45,8 @@ pub fn cause_unless(holds: bool, error: EmitError) -> Option<EmitError>
     if holds { None } else { Some(error) }
 }
 
-fn label_cause(blocks: u32, label: MachLabel) -> Option<EmitError>
+/// Why a label names no block.
+pub fn label_cause(blocks: u32, label: MachLabel) -> Option<EmitError>
     ensures { result ≡ target_label_cause blocks label }
 {
     cause_unless(label.0 < blocks, EmitError::UnboundLabel)

@@ -1,29 +1,34 @@
 //! The causes of refusal, found before anything is emitted: the length stands last among them, so no part of a function may be
 //! refused for it while an earlier cause may follow.
-ghost use Rattle.std.specs.Prelude.{◌≡◌, ℕ, ◌+◌, ◌≤◌, ◌<◌, min, true, None, Some, MatchResult, ◌*◌};
+ghost use Rattle.std.specs.Prelude.{◌≡◌, ℕ, ◌+◌, ◌≤◌, ◌<◌, ◌⊎◌, min, true, None, Some, MatchResult, ◌*◌};
+ghost use Rattle.s390x_base.specs.declared.error.EmitError.TheVariants.{NoMemory};
 ghost use Rattle.s390x_inst.specs.declared.state.IsaFlags.{IsaFlags};
 ghost use Rattle.s390x_typed_steps.specs.MachineInstruction.{size_of};
 ghost use Rattle.s390x_typed_steps.specs.Memory.{memory};
 ghost use Rattle.s390x_typed_steps.specs.Resolved.{resolved_instruction};
 ghost use Rattle.s390x_typed_steps.specs.SingleCode.{code_where};
 ghost use Rattle.s390x_typed_steps.specs.SingleInstruction.{SingleInstruction};
-ghost use Rattle.s390x_typed_steps.specs.Tree.{empty, prepend, tree};
+ghost use Rattle.s390x_typed_steps.specs.Tree.{block_tree, empty, prepend, tree};
+ghost use Rattle.s390x_typed_steps.specs.Calls.{without_map};
 ghost use Rattle.s390x_typed_steps.specs.Sizes.{instruction_size, tree_size};
 ghost use Rattle.s390x_typed_steps.specs.Causes.{Declared, first_emit_cause, declared_in, fresh_labels, nesting_cause, numbers_cause, memory_cause_or, instruction_cause, tree_cause, block_cause, nominal_behind, instruction_fresh_labels, leaf_cause};
 ghost use Rattle.s390x_typed_steps.specs.Ranges.{InRange, AllInRange, IsConditionMask};
 ghost use Rattle.s390x_emit_int.specs.Emission.{branch_size, memory_size_or};
 ghost use Rattle.s390x_emit_int.specs.Function.{tree_of};
+ghost use Rattle.s390x_emit_int.specs.Sequence.{ChecksTree};
 ghost use Rattle.s390x_emit_int.specs.Totals.{IsCounted, Adds, code_limit};
 
 use crate::causes::instruction_cause;
+use crate::check_calls::{check_call, check_tail_call};
 use crate::composite::composite_size;
 use crate::memory::find_memory;
 use crate::single_instruction::find_single_instruction;
-use crate::stack::{advance, end_cause};
+use crate::stack::{advance, end_cause, mark_safepoint};
 use s390x_address::emitters::LIMIT;
 use s390x_base::{Code, EmitError};
 use s390x_buffer::MachBuffer;
 use s390x_inst::{Block, EmitState, Inst, IsaFlags};
+use std::alloc::Global;
 
 /// How many label numbers are in use, and how many bytes the steps have, counted up to the limit of code.
 #[derive(Clone, Copy)]
@@ -109,6 +114,19 @@ pub fn fresh_labels(inst: &Inst) -> u64
     }
 }
 
+/// So many more bytes.
+pub fn add_bytes(t: Totals, bytes: u64) -> Totals
+    requires counted { IsCounted t }
+    requires short { bytes ≤ code_limit }
+    ensures { Adds t result 0 bytes }
+{
+    let sum = t.bytes + bytes;
+    Totals {
+        labels: t.labels,
+        bytes: if sum > LIMIT { LIMIT } else { sum },
+    }
+}
+
 // So many more labels and bytes.
 fn add(t: Totals, labels: u64, bytes: u64) -> Result<Totals, EmitError>
     requires counted { IsCounted t }
@@ -119,21 +137,15 @@ fn add(t: Totals, labels: u64, bytes: u64) -> Result<Totals, EmitError>
     if t.labels + labels > 4294967296 {
         return Err(EmitError::LabelOutOfRange);
     }
-    let bytes = t.bytes + bytes;
-    if bytes > LIMIT {
-        Ok(Totals {
-            labels: t.labels + labels,
-            bytes: LIMIT,
-        })
-    } else {
-        Ok(Totals {
-            labels: t.labels + labels,
-            bytes,
-        })
-    }
+    let drawn = Totals {
+        labels: t.labels + labels,
+        bytes: t.bytes,
+    };
+    Ok(add_bytes(drawn, bytes))
 }
 
-fn check_leaf(
+/// The first cause of an instruction that is neither a `Loop` nor a call, or what it adds.
+pub fn check_leaf(
     flags: IsaFlags,
     state: &EmitState,
     sink: &MachBuffer,
@@ -162,10 +174,11 @@ pub fn open_loop(t: Totals, depth: u32) -> Result<Totals, EmitError>
     }
 }
 
-/// The first cause among the members of a block or a loop, inside so many loops, by the buffer's blocks and constants; or what they add. The state is
-/// then the one behind them.
+/// The first cause among the members of a loop, inside so many loops, by the buffer's blocks and constants, or want of memory; or what they
+/// add. The state is then the one behind them.
 #[cycle(checking)]
 pub fn check_members(
+    alloc: Global,
     flags: IsaFlags,
     state: &mut EmitState,
     sink: &MachBuffer,
@@ -174,19 +187,20 @@ pub fn check_members(
     insts: &[Inst],
 ) -> Result<Totals, EmitError>
     requires { IsCounted t }
-    ensures { let members = tree state.old insts.now in let cause = tree_cause flags (declared_in sink.now) t.labels state.old.nominal depth members in MatchResult result (λ r. (cause ≡ None) × Adds t r (fresh_labels members) (tree_size members) × (state.new.nominal ≡ nominal_behind state.old.nominal members)) (λ e. cause ≡ Some e) }
+    ensures { let members = tree state.old insts.now in let cause = tree_cause flags (declared_in sink.now) t.labels state.old.nominal depth members in MatchResult result (λ r. (cause ≡ None) × Adds t r (fresh_labels members) (tree_size members) × (state.new.nominal ≡ nominal_behind state.old.nominal members)) (λ e. (e ≡ NoMemory) ⊎ (cause ≡ Some e)) }
 {
     let mut sum = t;
     for inst in insts {
-        sum = check_inst(flags, state, sink, sum, depth, inst)?;
+        sum = check_inst(alloc, flags, state, sink, sum, depth, inst)?;
         advance(state, inst)?;
     }
     Ok(sum)
 }
 
-/// The first cause of an instruction, or what it adds.
+/// The first cause of an instruction, or want of memory; or what it adds.
 #[cycle(checking)]
 pub fn check_inst(
+    alloc: Global,
     flags: IsaFlags,
     state: &EmitState,
     sink: &MachBuffer,
@@ -195,16 +209,19 @@ pub fn check_inst(
     inst: &Inst,
 ) -> Result<Totals, EmitError>
     requires { IsCounted t }
-    ensures { MatchResult result (λ r. (tree_cause flags (declared_in sink.now) t.labels state.now.nominal depth (prepend state.now inst.now empty) ≡ None) × Adds t r (fresh_labels (prepend state.now inst.now empty)) (tree_size (prepend state.now inst.now empty))) (λ e. tree_cause flags (declared_in sink.now) t.labels state.now.nominal depth (prepend state.now inst.now empty) ≡ Some e) }
+    ensures { ChecksTree flags (declared_in sink.now) t depth state.now.nominal (prepend state.now inst.now empty) result }
 {
     match inst {
-        Inst::Loop { body, .. } => check_loop(flags, state, sink, t, depth, body),
+        Inst::Loop { body, .. } => check_loop(alloc, flags, state, sink, t, depth, body),
+        Inst::Call { link, info } => check_call(flags, state, sink, t, depth, link.to_reg(), info),
+        Inst::ReturnCall { info } => check_tail_call(alloc, flags, state, sink, t, depth, info),
         _ => check_leaf(flags, state, sink, t, depth, inst),
     }
 }
 
 #[cycle(checking)]
 fn check_loop(
+    alloc: Global,
     flags: IsaFlags,
     state: &EmitState,
     sink: &MachBuffer,
@@ -213,16 +230,41 @@ fn check_loop(
     body: &[Inst],
 ) -> Result<Totals, EmitError>
     requires { IsCounted t }
-    ensures { let members = tree state.now body.now in let cause = first_emit_cause (first_emit_cause (nesting_cause depth) (numbers_cause t.labels 2)) (tree_cause flags (declared_in sink.now) (t.labels + 2) state.now.nominal (depth + 1) members) in MatchResult result (λ r. (cause ≡ None) × Adds t r (2 + fresh_labels members) (tree_size members + 6)) (λ e. cause ≡ Some e) }
+    ensures { let members = tree (without_map state.now) body.now in
+        let cause = first_emit_cause (first_emit_cause (nesting_cause depth) (numbers_cause t.labels 2)) (tree_cause flags (declared_in sink.now) (t.labels + 2) state.now.nominal (depth + 1) members) in
+        MatchResult result (λ r. (cause ≡ None) × Adds t r (2 + fresh_labels members) (tree_size members + 6)) (λ e. (e ≡ NoMemory) ⊎ (cause ≡ Some e)) }
 {
     let opened = open_loop(t, depth)?;
     let mut inside = *state;
-    let inner = check_members(flags, &mut inside, sink, opened, depth + 1, body)?;
-    add(inner, 0, 6)
+    inside.clear_post_insn();
+    let inner = check_members(alloc, flags, &mut inside, sink, opened, depth + 1, body)?;
+    Ok(add_bytes(inner, 6))
 }
 
-/// The first cause of a block that begins at the nominal size 0, or what it adds.
+// The first cause among the members of a block, each of its calls a safepoint, or what they add. The state is then the one behind them.
+fn check_block_members(
+    alloc: Global,
+    flags: IsaFlags,
+    state: &mut EmitState,
+    sink: &MachBuffer,
+    t: Totals,
+    insts: &[Inst],
+) -> Result<Totals, EmitError>
+    requires { IsCounted t }
+    ensures { let members = block_tree state.old insts.now in let cause = tree_cause flags (declared_in sink.now) t.labels state.old.nominal 0 members in MatchResult result (λ r. (cause ≡ None) × Adds t r (fresh_labels members) (tree_size members) × (state.new.nominal ≡ nominal_behind state.old.nominal members)) (λ e. (e ≡ NoMemory) ⊎ (cause ≡ Some e)) }
+{
+    let mut sum = t;
+    for inst in insts {
+        mark_safepoint(state, inst);
+        sum = check_inst(alloc, flags, state, sink, sum, 0, inst)?;
+        advance(state, inst)?;
+    }
+    Ok(sum)
+}
+
+/// The first cause of a block that begins at the nominal size 0, or want of memory; or what it adds.
 pub fn check_block(
+    alloc: Global,
     flags: IsaFlags,
     state: &EmitState,
     sink: &MachBuffer,
@@ -231,10 +273,10 @@ pub fn check_block(
 ) -> Result<Totals, EmitError>
     requires counted { IsCounted t }
     requires start { state.now.nominal ≡ 0 }
-    ensures { MatchResult result (λ r. (block_cause flags (declared_in sink.now) t.labels (tree_of state.now block.now) ≡ None) × Adds t r (fresh_labels (tree_of state.now block.now)) (tree_size (tree_of state.now block.now))) (λ e. block_cause flags (declared_in sink.now) t.labels (tree_of state.now block.now) ≡ Some e) }
+    ensures { MatchResult result (λ r. (block_cause flags (declared_in sink.now) t.labels (tree_of state.now block.now) ≡ None) × Adds t r (fresh_labels (tree_of state.now block.now)) (tree_size (tree_of state.now block.now))) (λ e. (e ≡ NoMemory) ⊎ (block_cause flags (declared_in sink.now) t.labels (tree_of state.now block.now) ≡ Some e)) }
 {
     let mut behind = *state;
-    let sum = check_members(flags, &mut behind, sink, t, 0, &block.insts)?;
+    let sum = check_block_members(alloc, flags, &mut behind, sink, t, &block.insts)?;
     match end_cause(&behind) {
         Some(error) => Err(error),
         None => Ok(sum),

@@ -90,6 +90,7 @@ pub fn put_with_trap(
 // What an instruction is refused by, of which emission was refused by an error, where so many labels and bytes were in use before: the first cause, or
 // want of memory.
 fn refusal(
+    alloc: Global,
     flags: IsaFlags,
     sink: &MachBuffer,
     state: &EmitState,
@@ -101,7 +102,7 @@ fn refusal(
     requires lacks { let step = prepend state.now inst.now empty in first_emit_cause (tree_cause flags (declared_in sink.now) used.labels state.now.nominal 0 step) (unless (nat_lt (used.bytes + tree_size step) limit) LabelOutOfRange) ≡ None → error ≡ NoMemory }
     ensures { let step = prepend state.now inst.now empty in (result ≡ NoMemory) ⊎ (first_emit_cause (tree_cause flags (declared_in sink.now) used.labels state.now.nominal 0 step) (unless (nat_lt (used.bytes + tree_size step) limit) LabelOutOfRange) ≡ Some result) }
 {
-    match check_inst(flags, state, sink, used, 0, inst) {
+    match check_inst(alloc, flags, state, sink, used, 0, inst) {
         Ok(sum) if sum.bytes < LIMIT => error,
         Ok(_) => EmitError::LabelOutOfRange,
         Err(cause) => cause,
@@ -110,6 +111,7 @@ fn refusal(
 
 // Appends an instruction, where no cause refuses it, and goes on behind it. It answers the length then.
 fn emit_and_advance(
+    alloc: Global,
     flags: IsaFlags,
     sink: &mut MachBuffer,
     state: &mut EmitState,
@@ -121,13 +123,14 @@ fn emit_and_advance(
     ensures lacks { TreePassed flags sink.old 0 state.old.nominal 0 (prepend state.old inst.now empty) → LacksMemory result }
     ensures kept { Extends sink.old sink.new }
 {
-    emit_inst(flags, sink, state, 0, inst, MachLabel(0))?;
+    emit_inst(alloc, flags, sink, state, 0, inst, MachLabel(0))?;
     advance(state, inst)?;
     Ok(sink.cur_offset())
 }
 
 // Appends an instruction to a buffer that bears no mark, or answers its first cause.
 fn emit_in(
+    alloc: Global,
     flags: IsaFlags,
     sink: &mut MachBuffer,
     state: &mut EmitState,
@@ -143,9 +146,9 @@ fn emit_in(
         labels: sink.label_count(),
         bytes: u64::from(sink.cur_offset()),
     };
-    match emit_and_advance(flags, sink, state, inst) {
+    match emit_and_advance(alloc, flags, sink, state, inst) {
         Ok(_) => Ok(()),
-        Err(error) => Err(refusal(flags, sink, state, used, inst, error)),
+        Err(error) => Err(refusal(alloc, flags, sink, state, used, inst, error)),
     }
 }
 
@@ -182,14 +185,15 @@ impl MachInstEmit for Inst {
 
     ghost state_behind = { λ state inst. record (state_after state inst) { stack_map = None } };
 
-    /// Appends the instruction. The state's stack map is dropped, and `AllocateArgs` has added its size to the nominal one; all else of the state stays.
+    /// Appends the instruction. The state's stack map is dropped, and a call has recorded it; `AllocateArgs` has added its size to the nominal one, and a call
+    /// has taken off what its callee pops. A call that isn't patchable, also one in a `Loop`, leaves no outgoing size; all else of the state stays.
     ///
     /// Refused by `Failed` where the buffer bears the mark, then by the first cause of its steps, where the buffer tells the blocks, the
     /// constants and the labels, and last by `LabelOutOfRange` where the length would reach 2^31. A refused call marks the buffer and leaves what stood in
     /// it, and the state as it was (cranelift-codegen, `emit.rs`).
     fn emit(
         &self,
-        _alloc: Global,
+        alloc: Global,
         sink: &mut MachBuffer,
         emit_info: &EmitInfo,
         state: &mut EmitState,
@@ -205,7 +209,7 @@ impl MachInstEmit for Inst {
             sink.fail();
             return Err(EmitError::Failed);
         }
-        match emit_in(emit_info.isa_flags, sink, state, self) {
+        match emit_in(alloc, emit_info.isa_flags, sink, state, self) {
             Ok(()) => {
                 state.clear_post_insn();
                 Ok(())

@@ -6,20 +6,21 @@ ghost use Rattle.s390x_buffer.specs.Extends.{Extends};
 ghost use Rattle.s390x_buffer.specs.State.{constant_of, new_cause, put_cause, fresh_buffer, limit, label_limit};
 ghost use Rattle.s390x_buffer.specs.Constants.{constants_end};
 ghost use Rattle.s390x_inst.specs.declared.state.IsaFlags.{IsaFlags};
-ghost use Rattle.s390x_typed_steps.specs.Causes.{unless, declared_in, declared_of, block_cause, blocks_cause};
+ghost use Rattle.s390x_typed_steps.specs.Causes.{unless, declared_in, declared_of, block_cause, blocks_cause, nominal_behind, tree_cause};
+ghost use Rattle.s390x_typed_steps.specs.Tree.{block_tree};
 ghost use Rattle.s390x_typed_steps.specs.Sizes.{tree_size, blocks_size};
 ghost use Rattle.s390x_emit_int.specs.Emission.{fragments, function_fragments};
 ghost use Rattle.s390x_typed_steps.specs.Ranges.{AllInRange, BlocksInRange};
 ghost use Rattle.s390x_emit_int.specs.Function.{tree_of, trees_of, constants_of, IsFinishedCode, start_cause, checked_cause, function_cause};
 ghost use Rattle.s390x_emit_int.specs.Fragments.{apply_all};
-ghost use Rattle.s390x_emit_int.specs.Room.{HasRoom, MembersPassed, LacksMemory};
+ghost use Rattle.s390x_emit_int.specs.Room.{HasRoom, MembersPassed, TreePassed, LacksMemory};
 
 use crate::check::{Totals, check_block};
-use crate::stack::end_cause;
-use crate::tree::emit_members;
+use crate::stack::{advance, end_cause, mark_safepoint};
+use crate::tree::emit_inst;
 use s390x_base::{ConstantData, EmitError, MachLabel};
 use s390x_buffer::{MachBuffer, MachBufferFinalized, all_aligned, constants_fit};
-use s390x_inst::{AllocatedFunction, Block, EmitInfo, EmitState, IsaFlags};
+use s390x_inst::{AllocatedFunction, Block, EmitInfo, EmitState, Inst, IsaFlags};
 use std::alloc::Global;
 
 // The stack sizes at the beginning have to be 0.
@@ -35,6 +36,7 @@ fn start_cause(state: &EmitState) -> Option<EmitError>
 
 // The first cause in the blocks, by what the buffer tells, with so many labels in use; or what they add.
 fn check_blocks(
+    alloc: Global,
     flags: IsaFlags,
     state: &EmitState,
     sink: &MachBuffer,
@@ -43,11 +45,11 @@ fn check_blocks(
 ) -> Result<Totals, EmitError>
     requires start { state.now.nominal ≡ 0 }
     requires few { labels ≤ label_limit }
-    ensures { MatchResult result (λ r. (blocks_cause flags (declared_in sink.now) labels (map (tree_of state.now) blocks.now) ≡ None) × (min limit r.bytes ≡ min limit (blocks_size (map (tree_of state.now) blocks.now))) × (r.bytes ≤ limit)) (λ e. blocks_cause flags (declared_in sink.now) labels (map (tree_of state.now) blocks.now) ≡ Some e) }
+    ensures { MatchResult result (λ r. (blocks_cause flags (declared_in sink.now) labels (map (tree_of state.now) blocks.now) ≡ None) × (min limit r.bytes ≡ min limit (blocks_size (map (tree_of state.now) blocks.now))) × (r.bytes ≤ limit)) (λ e. (e ≡ NoMemory) ⊎ (blocks_cause flags (declared_in sink.now) labels (map (tree_of state.now) blocks.now) ≡ Some e)) }
 {
     let mut sum = Totals { labels, bytes: 0 };
     for block in blocks {
-        sum = check_block(flags, state, sink, sum, block)?;
+        sum = check_block(alloc, flags, state, sink, sum, block)?;
     }
     Ok(sum)
 }
@@ -64,8 +66,34 @@ fn length_cause(bytes: u64, constants: &[ConstantData]) -> Option<EmitError>
     }
 }
 
+// Emits the members of a block in order, each with its step place and each of its calls a safepoint, where no cause refuses one. The state is then the one
+// behind them.
+fn emit_block_members(
+    alloc: Global,
+    flags: IsaFlags,
+    sink: &mut MachBuffer,
+    state: &mut EmitState,
+    insts: &[Inst],
+) -> Result<(), EmitError>
+    requires { HasRoom sink.old }
+    ensures answer { OnOk result (sink.new ≡ apply_all sink.old (fragments (length sink.old.labels) 0 (block_tree state.old insts.now))) }
+    ensures cause { OnOk result ((tree_cause flags (declared_in sink.old) (length sink.old.labels) state.old.nominal 0 (block_tree state.old insts.now) ≡ None) × (state.new.nominal ≡ nominal_behind state.old.nominal (block_tree state.old insts.now))) }
+    ensures lacks { TreePassed flags sink.old 0 state.old.nominal 0 (block_tree state.old insts.now) → LacksMemory result }
+    ensures ranges { OnOk result (AllInRange (block_tree state.old insts.now)) }
+    ensures kept { Extends sink.old sink.new }
+{
+    for inst in insts {
+        sink.start_step()?;
+        mark_safepoint(state, inst);
+        emit_inst(alloc, flags, sink, state, 0, inst, MachLabel(0))?;
+        advance(state, inst)?;
+    }
+    Ok(())
+}
+
 // A block that begins at the nominal size 0 and has to end there, where no cause refuses it.
 fn emit_block(
+    alloc: Global,
     flags: IsaFlags,
     sink: &mut MachBuffer,
     state: &EmitState,
@@ -80,7 +108,7 @@ fn emit_block(
     ensures kept { Extends sink.old sink.new }
 {
     let mut behind = *state;
-    emit_members(flags, sink, &mut behind, 0, &block.insts, MachLabel(0))?;
+    emit_block_members(alloc, flags, sink, &mut behind, &block.insts)?;
     match end_cause(&behind) {
         Some(error) => Err(error),
         None => Ok(()),
@@ -89,6 +117,7 @@ fn emit_block(
 
 // Each block's label is bound before its members, where no cause refuses one. An error may be another one than the first cause.
 fn emit_blocks(
+    alloc: Global,
     flags: IsaFlags,
     sink: &mut MachBuffer,
     state: &EmitState,
@@ -108,7 +137,7 @@ fn emit_blocks(
     let mut label: u32 = 0;
     for block in blocks {
         sink.bind_label(MachLabel(label))?;
-        emit_block(flags, sink, state, block)?;
+        emit_block(alloc, flags, sink, state, block)?;
         label += 1;
     }
     Ok(())
@@ -130,6 +159,7 @@ fn block_count(function: &AllocatedFunction) -> Result<u32, EmitError>
 
 // The first cause among the steps and the length, by what the buffer tells of the blocks and the constants.
 fn check_function(
+    alloc: Global,
     sink: &MachBuffer,
     function: &AllocatedFunction,
     state: &EmitState,
@@ -138,10 +168,10 @@ fn check_function(
     requires start { state.now.nominal ≡ 0 }
     requires new { new_cause (length function.now.blocks.items) (constants_of function.now) ≡ None }
     requires declared { declared_in sink.now ≡ declared_of (trees_of state.now function.now) (constants_of function.now) }
-    ensures { MatchResult result (λ _. checked_cause flags (trees_of state.now function.now) (constants_of function.now) ≡ None) (λ e. checked_cause flags (trees_of state.now function.now) (constants_of function.now) ≡ Some e) }
+    ensures { MatchResult result (λ _. checked_cause flags (trees_of state.now function.now) (constants_of function.now) ≡ None) (λ e. (e ≡ NoMemory) ⊎ (checked_cause flags (trees_of state.now function.now) (constants_of function.now) ≡ Some e)) }
 {
     let labels = function.blocks.len() as u64 + function.constants.len() as u64;
-    let sum = check_blocks(flags, state, sink, labels, &function.blocks)?;
+    let sum = check_blocks(alloc, flags, state, sink, labels, &function.blocks)?;
     match length_cause(sum.bytes, &function.constants) {
         Some(error) => Err(error),
         None => Ok(()),
@@ -150,6 +180,7 @@ fn check_function(
 
 // What a function is refused by, of which emission was refused by an error: the first cause, or want of memory.
 fn refusal(
+    alloc: Global,
     sink: &MachBuffer,
     function: &AllocatedFunction,
     state: &EmitState,
@@ -162,7 +193,7 @@ fn refusal(
     requires lacks { checked_cause flags (trees_of state.now function.now) (constants_of function.now) ≡ None → error ≡ NoMemory }
     ensures { (result ≡ NoMemory) ⊎ (checked_cause flags (trees_of state.now function.now) (constants_of function.now) ≡ Some result) }
 {
-    match check_function(sink, function, state, flags) {
+    match check_function(alloc, sink, function, state, flags) {
         Ok(()) => error,
         Err(cause) => cause,
     }
@@ -189,6 +220,7 @@ fn finish(
 
 // In a new buffer: the image, or the first cause.
 fn emit_in(
+    alloc: Global,
     mut sink: MachBuffer,
     function: &AllocatedFunction,
     state: &EmitState,
@@ -200,9 +232,9 @@ fn emit_in(
     requires fresh { sink ≡ fresh_buffer (length function.now.blocks.items) (constants_of function.now) }
     ensures { let cause = checked_cause flags (trees_of state.now function.now) (constants_of function.now) in MatchResult result (λ f. (cause ≡ None) × IsFinishedCode (trees_of state.now function.now) (constants_of function.now) f × BlocksInRange (trees_of state.now function.now)) (λ e. (e ≡ NoMemory) ⊎ (cause ≡ Some e)) }
 {
-    match emit_blocks(flags, &mut sink, state, &function.blocks) {
+    match emit_blocks(alloc, flags, &mut sink, state, &function.blocks) {
         Ok(()) => finish(sink, function, state, flags),
-        Err(error) => Err(refusal(&sink, function, state, flags, error)),
+        Err(error) => Err(refusal(alloc, &sink, function, state, flags, error)),
     }
 }
 
@@ -232,5 +264,5 @@ pub fn emit_function(
         return Err(error);
     }
     let sink = new_buffer(alloc, function)?;
-    emit_in(sink, function, &state, info.isa_flags)
+    emit_in(alloc, sink, function, &state, info.isa_flags)
 }

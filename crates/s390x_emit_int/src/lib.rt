@@ -3,8 +3,10 @@
 
 pub mod arithmetic;
 pub mod bits;
+pub mod calls;
 pub mod causes;
 pub mod check;
+pub mod check_calls;
 pub mod codes;
 pub mod completeness;
 pub mod composite;

@@ -4,18 +4,21 @@
 ghost use Rattle.std.specs.Prelude.{◌≡◌, ℕ, ◌+◌, ◌<◌, OnOk, None, length};
 ghost use Rattle.s390x_buffer.specs.Extends.{Extends};
 ghost use Rattle.s390x_typed_steps.specs.Tree.{empty, loop_node, prepend, tree};
+ghost use Rattle.s390x_typed_steps.specs.Calls.{without_map};
 ghost use Rattle.s390x_typed_steps.specs.Causes.{first_emit_cause, declared_in, nesting_cause, numbers_cause, nominal_behind, tree_cause};
 ghost use Rattle.s390x_emit_int.specs.Fragments.{apply_all};
 ghost use Rattle.s390x_emit_int.specs.Emission.{fragments, own_fragments};
 ghost use Rattle.s390x_typed_steps.specs.Ranges.{AllInRange};
 ghost use Rattle.s390x_emit_int.specs.Room.{HasRoom, TreePassed, LacksMemory};
 
+use crate::calls::{emit_call, emit_tail_call};
 use crate::check::{Totals, open_loop};
 use crate::leaf::{emit_leaf, put_branch};
 use crate::stack::advance;
 use s390x_base::{Cond, EmitError, MachLabel};
 use s390x_buffer::MachBuffer;
 use s390x_inst::{EmitState, Inst, IsaFlags};
+use std::alloc::Global;
 
 // Why no loop can stand inside so many others: its nesting, or the numbers of its two labels.
 fn loop_cause(sink: &MachBuffer, depth: u32) -> Option<EmitError>
@@ -33,6 +36,7 @@ fn loop_cause(sink: &MachBuffer, depth: u32) -> Option<EmitError>
 /// loop. The state is then the one behind them. An error may be another one than the first cause.
 #[cycle(members)]
 pub fn emit_members(
+    alloc: Global,
     flags: IsaFlags,
     sink: &mut MachBuffer,
     state: &mut EmitState,
@@ -49,7 +53,7 @@ pub fn emit_members(
 {
     for inst in insts {
         sink.start_step()?;
-        emit_inst(flags, sink, state, depth, inst, after)?;
+        emit_inst(alloc, flags, sink, state, depth, inst, after)?;
         advance(state, inst)?;
     }
     Ok(())
@@ -58,6 +62,7 @@ pub fn emit_members(
 /// Emits an instruction, where no cause refuses it.
 #[cycle(members)]
 pub fn emit_inst(
+    alloc: Global,
     flags: IsaFlags,
     sink: &mut MachBuffer,
     state: &EmitState,
@@ -73,13 +78,20 @@ pub fn emit_inst(
     ensures kept { Extends sink.old sink.new }
 {
     match inst {
-        Inst::Loop { cond, body } => emit_loop(flags, sink, state, depth, *cond, body),
+        Inst::Loop { cond, body } => emit_loop(alloc, flags, sink, state, depth, *cond, body),
+        Inst::Call { link, info } => {
+            emit_call(alloc, flags, sink, state, depth, link.to_reg(), info, after)
+        }
+        Inst::ReturnCall { info } => {
+            emit_tail_call(alloc, flags, sink, state, depth, info, after)
+        }
         _ => emit_leaf(flags, sink, state, depth, inst, after),
     }
 }
 
 #[cycle(members)]
 fn emit_loop(
+    alloc: Global,
     flags: IsaFlags,
     sink: &mut MachBuffer,
     state: &EmitState,
@@ -88,10 +100,10 @@ fn emit_loop(
     body: &[Inst],
 ) -> Result<(), EmitError>
     requires { HasRoom sink.old }
-    ensures answer { OnOk result (sink.new ≡ apply_all sink.old (own_fragments (length sink.old.labels) 0 (loop_node cond (tree state.now body.now) empty))) }
-    ensures cause { OnOk result (tree_cause flags (declared_in sink.old) (length sink.old.labels) state.now.nominal depth (loop_node cond (tree state.now body.now) empty) ≡ None) }
-    ensures lacks { (after : ℕ) → TreePassed flags sink.old after state.now.nominal depth (loop_node cond (tree state.now body.now) empty) → LacksMemory result }
-    ensures ranges { OnOk result (AllInRange (loop_node cond (tree state.now body.now) empty)) }
+    ensures answer { OnOk result (sink.new ≡ apply_all sink.old (own_fragments (length sink.old.labels) 0 (loop_node cond (tree (without_map state.now) body.now) empty))) }
+    ensures cause { OnOk result (tree_cause flags (declared_in sink.old) (length sink.old.labels) state.now.nominal depth (loop_node cond (tree (without_map state.now) body.now) empty) ≡ None) }
+    ensures lacks { (after : ℕ) → TreePassed flags sink.old after state.now.nominal depth (loop_node cond (tree (without_map state.now) body.now) empty) → LacksMemory result }
+    ensures ranges { OnOk result (AllInRange (loop_node cond (tree (without_map state.now) body.now) empty)) }
     ensures kept { Extends sink.old sink.new }
 {
     if let Some(error) = loop_cause(sink, depth) {
@@ -102,7 +114,8 @@ fn emit_loop(
     let end = sink.get_label()?;
     sink.bind_label(start)?;
     let mut inside = *state;
-    emit_members(flags, sink, &mut inside, depth + 1, body, end)?;
+    inside.clear_post_insn();
+    emit_members(alloc, flags, sink, &mut inside, depth + 1, body, end)?;
     sink.start_step()?;
     put_branch(sink, mask, start)?;
     sink.bind_label(end)

@@ -1,11 +1,12 @@
-use Rattle.std.proofs.Common.{◌∙◌, ◌+◌, sym, arith, drop}
+use Rattle.std.proofs.Common.{◌∙◌, ◌+◌, sym, ap, arith, drop}
 use Rattle.std.proofs.lemmas.Result.{err_from_is_err_and}
+use Rattle.s390x_typed_steps.specs.Calls.{without_map}
 use Rattle.s390x_typed_steps.specs.Causes.{declared_in}
 use Rattle.s390x_typed_steps.specs.Resolved.{resolved_instruction}
-use Rattle.s390x_typed_steps.specs.Tree.{empty, prepend, tree}
-use Rattle.s390x_typed_steps.proofs.Trees.{prepend_loop, not_loop}
+use Rattle.s390x_typed_steps.specs.Tree.{empty, leaves, prepend, tree}
+use Rattle.s390x_typed_steps.proofs.Trees.{prepend_loop, not_loop, one_body}
 use Rattle.s390x_typed_steps.proofs.Causes.{stops}
-use Rattle.s390x_emit_int.proofs.Checking.{GoesOn, goes_on, loop_answer, leaf_answer}
+use Rattle.s390x_emit_int.proofs.Checking.{GoesOn, goes_on, loop_answer, leaf_answer, or_cause_of}
 use Rattle.s390x_emit_int.proofs.Resolving.{no_stack_cause}
 use Rattle.s390x_emit_int.proofs.check.+checking.Goals as goal
 
@@ -29,7 +30,7 @@ check_members-loop-inst-preserved t c =
 pub check_members-returns-in_err-sum : goal.check_members-returns-in_err-sum
 check_members-returns-in_err-sum t c =
     let p = err_from_is_err_and c.from_residual.result c.from_residual.ensures.1 in
-    rw (p.1, p.2) (sym c.loop-inst.invariant.cause ∙ stops c.args.flags c.loop-inst.state (declared_in c.args.sink.now) c.args.depth c.loop-inst.sum.labels c.loop-inst.state.nominal c.in_err-sum.field-0.0 c.args.insts.now c.loop-inst.inst-index c.inst-item.result (omega arith) c.inst-item.is c.in_err-sum.ensures)
+    rw (p.1, p.2) (or_cause_of c.in_err-sum.ensures (λ h. sym c.loop-inst.invariant.cause ∙ stops c.args.flags c.loop-inst.state (declared_in c.args.sink.now) c.args.depth c.loop-inst.sum.labels c.loop-inst.state.nominal c.in_err-sum.field-0.0 c.args.insts.now c.loop-inst.inst-index c.inst-item.result (omega arith) c.inst-item.is h))
 
 -- a member without a cause lets the sizes go on
 pub check_members-returns-in_err-advance : goal.check_members-returns-in_err-advance
@@ -40,7 +41,11 @@ check_members-returns-in_err-advance t c =
 
 pub check_inst-returns-in-Loop : goal.check_inst-returns-in-Loop
 check_inst-returns-in-Loop t c =
-    loop_answer c.args.flags (declared_in c.args.sink.now) c.args.state.now.nominal c.args.depth c.args.t c.in-Loop.cond (prepend c.args.state.now c.args.inst.now empty) (tree c.args.state.now c.deref.result.now) c.check_loop.result (prepend_loop c.args.state.now c.args.inst.now c.in-Loop.cond c.in-Loop.body c.deref.result.now empty c.in-Loop.is c.deref.ensures.value) c.check_loop.ensures
+    let state = c.args.state.now in
+    loop_answer c.args.flags (declared_in c.args.sink.now) state.nominal c.args.depth c.args.t c.in-Loop.cond (prepend state c.args.inst.now empty) (tree (without_map state) c.deref.result.now) c.check_loop.result (prepend_loop state c.args.inst.now c.in-Loop.cond c.in-Loop.body c.deref.result.now empty c.in-Loop.is c.deref.ensures.value) c.check_loop.ensures
 
 pub check_inst-returns-in_default : goal.check_inst-returns-in_default
-check_inst-returns-in_default t c = leaf_answer c.args.flags (declared_in c.args.sink.now) c.args.state.now.nominal c.args.depth c.args.t (resolved_instruction c.args.state.now c.args.inst.now) (prepend c.args.state.now c.args.inst.now empty) c.check_leaf.result (not_loop c.args.state.now c.args.inst.now c.in_default.not-Loop) c.check_leaf.ensures
+check_inst-returns-in_default t c =
+    let state = c.args.state.now in
+    let i = c.args.inst.now in
+    leaf_answer c.args.flags (declared_in c.args.sink.now) state.nominal c.args.depth c.args.t (resolved_instruction state i) (prepend state i empty) c.check_leaf.result (not_loop state i empty c.in_default.not-Loop ∙ ap (λ bs. leaves bs empty) (one_body state i c.in_default.not-Call c.in_default.not-ReturnCall)) c.check_leaf.ensures

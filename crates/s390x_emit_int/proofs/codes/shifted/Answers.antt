@@ -1,4 +1,4 @@
-use Rattle.std.proofs.Common.{[], ◌∷◌, ap, ◌∙◌}
+use Rattle.std.proofs.Common.{ap, ◌∙◌}
 use Rattle.s390x_base.specs.Regs.{number_of}
 use Rattle.s390x_typed_steps.specs.MachineInstruction.{rsy}
 use Rattle.s390x_typed_steps.specs.SingleCode.{code_where}

@@ -1,4 +1,3 @@
-use Rattle.std.proofs.Common.{refl}
 use Rattle.s390x_base.specs.Regs.{number_of}
 use Rattle.s390x_format.specs.Formats.{length_of}
 use Rattle.s390x_typed_steps.specs.VectorInstruction.{is_vector}

@@ -1,4 +1,4 @@
-use Rattle.std.proofs.Common.{◌≡◌, ◌&&◌, ap, ◌∙◌}
+use Rattle.std.proofs.Common.{◌&&◌, ap, ◌∙◌}
 use Rattle.s390x_base.specs.Regs.{number_of}
 use Rattle.s390x_base.specs.declared.regs.Reg.{Reg}
 use Rattle.s390x_format.specs.Formats.{length_of}

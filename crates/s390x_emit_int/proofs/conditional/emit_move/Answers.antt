@@ -1,6 +1,5 @@
 use Rattle.std.proofs.Common.{◌≡◌, List, OnOk, ap, sym, subst, ◌∙◌, cond}
 use Rattle.s390x_buffer.specs.State.{put_cause}
-use Rattle.s390x_typed_steps.specs.MachineInstruction.{size_of}
 use Rattle.s390x_typed_steps.specs.Parts.{CodePart}
 use Rattle.s390x_typed_steps.specs.VectorComposite.{move_under}
 use Rattle.s390x_emit_int.specs.Fragments.{apply_all}

@@ -1,9 +1,10 @@
-use Rattle.std.proofs.Common.{length, arith, ap, sym, ◌∙◌, subst, drop, ◌+◌, ◌<◌, ◌≡◌}
+use Rattle.std.proofs.Common.{None, length, arith, ap, sym, ◌∙◌, subst, drop, ◌+◌, ◌<◌, ◌≡◌}
 use Rattle.s390x_buffer.proofs.Extending.{extends_on, extends_bound}
 use Rattle.s390x_emit_int.proofs.Binding.{bound_kept}
+use Rattle.s390x_typed_steps.specs.Calls.{without_map}
 use Rattle.s390x_typed_steps.specs.Resolved.{resolved_instruction}
-use Rattle.s390x_typed_steps.specs.Tree.{empty, loop_node, tree}
-use Rattle.s390x_typed_steps.proofs.Trees.{prepend_loop, not_loop}
+use Rattle.s390x_typed_steps.specs.Tree.{empty, leaves, loop_node, tree}
+use Rattle.s390x_typed_steps.proofs.Trees.{prepend_loop, not_loop, one_body}
 use Rattle.s390x_emit_int.specs.Room.{TreePassed}
 use Rattle.s390x_emit_int.specs.Fragments.{apply_all}
 use Rattle.s390x_emit_int.specs.Emission.{own_fragments, fragments}
@@ -31,12 +32,12 @@ emit_inst-returns-in-Loop-clause-ranges t c =
 
 pub emit_inst-returns-in_default-clause-answer : goal.emit_inst-returns-in_default-clause-answer
 emit_inst-returns-in_default-clause-answer t c =
-    let g = not_loop c.args.state.now c.args.inst.now c.in_default.not-Loop in
+    let g = not_loop c.args.state.now c.args.inst.now empty c.in_default.not-Loop ∙ ap (λ bs. leaves bs empty) (one_body c.args.state.now c.args.inst.now c.in_default.not-Call c.in_default.not-ReturnCall) in
     on_ok c.emit_leaf.result c.emit_leaf.ensures.answer (λ e. e.1 ∙ leaf_own (resolved_instruction c.args.state.now c.args.inst.now) c.args.sink.now (length c.args.sink.now.labels) c.args.after.0 ∙ ap (λ x. apply_all c.args.sink.now (own_fragments (length c.args.sink.now.labels) c.args.after.0 x)) (sym g))
 
 pub emit_inst-returns-in_default-clause-ranges : goal.emit_inst-returns-in_default-clause-ranges
 emit_inst-returns-in_default-clause-ranges t c =
-    let g = not_loop c.args.state.now c.args.inst.now c.in_default.not-Loop in
+    let g = not_loop c.args.state.now c.args.inst.now empty c.in_default.not-Loop ∙ ap (λ bs. leaves bs empty) (one_body c.args.state.now c.args.inst.now c.in_default.not-Call c.in_default.not-ReturnCall) in
     on_ok c.emit_leaf.result c.emit_leaf.ensures.range (λ f. subst AllInRange (sym g) (f, tt))
 
 pub emit_inst-returns-in-Loop-clause-lacks : goal.emit_inst-returns-in-Loop-clause-lacks
@@ -46,7 +47,7 @@ emit_inst-returns-in-Loop-clause-lacks t c =
 
 pub emit_inst-returns-in_default-clause-lacks : goal.emit_inst-returns-in_default-clause-lacks
 emit_inst-returns-in_default-clause-lacks t c =
-    let g = not_loop c.args.state.now c.args.inst.now c.in_default.not-Loop in
+    let g = not_loop c.args.state.now c.args.inst.now empty c.in_default.not-Loop ∙ ap (λ bs. leaves bs empty) (one_body c.args.state.now c.args.inst.now c.in_default.not-Call c.in_default.not-ReturnCall) in
     λ p. c.emit_leaf.ensures.lacks (leaf_passed c.args.flags c.args.sink.now c.args.after.0 c.args.state.now.nominal c.args.depth (resolved_instruction c.args.state.now c.args.inst.now) _ g p)
 
 pub emit_inst-returns-in-Loop-clause-cause : goal.emit_inst-returns-in-Loop-clause-cause
@@ -58,7 +59,7 @@ emit_inst-returns-in-Loop-clause-cause t c =
 pub emit_inst-returns-in_default-clause-cause : goal.emit_inst-returns-in_default-clause-cause
 emit_inst-returns-in_default-clause-cause t c =
     let s = c.args.sink.now in
-    let g = not_loop c.args.state.now c.args.inst.now c.in_default.not-Loop in
+    let g = not_loop c.args.state.now c.args.inst.now empty c.in_default.not-Loop ∙ ap (λ bs. leaves bs empty) (one_body c.args.state.now c.args.inst.now c.in_default.not-Call c.in_default.not-ReturnCall) in
     on_ok c.emit_leaf.result c.emit_leaf.ensures.answer (λ e. ap (tree_cause c.args.flags (declared_in s) (length s.labels) c.args.state.now.nominal c.args.depth) g ∙ first_none _ ∙ e.0)
 
 pub emit_members-loop-inst-preserved : goal.emit_members-loop-inst-preserved
@@ -102,21 +103,23 @@ emit_members-returns-in_err-emit_inst-clause-kept t c = extends_on _ _ _ c.loop-
 
 pub emit_loop-bind_label-requires-2-clause-unbound : goal.emit_loop-bind_label-requires-2-clause-unbound
 emit_loop-bind_label-requires-2-clause-unbound t c =
+    let inside = c.clear_post_insn.new.self in
     let l = loop_states c.args.sink.now c.get_label.new.self c.get_label-2.new.self c.bind_label.new.self c.emit_members.new.sink
     c.start_step.new.self c.put_branch.new.sink c.in_ok-start.start.0 c.in_ok-end.end.0 c.bits-mask.result
-    (tree c.args.state.now c.args.body.now) c.in_ok-start.ensures.answer.1 c.in_ok-start.ensures.answer.2 c.in_ok-end.ensures.answer.1
+    (tree inside c.args.body.now) c.in_ok-start.ensures.answer.1 c.in_ok-start.ensures.answer.2 c.in_ok-end.ensures.answer.1
     c.in_ok-end.ensures.answer.2 c.in_ok-bind_label.ensures.answer.1 c.in_ok-emit_members.ensures.answer c.in_ok-start_step.ensures.answer.1
     c.in_ok-put_branch.ensures.answer in
     l.free
 
 pub emit_loop-returns-clause-answer : goal.emit_loop-returns-clause-answer
 emit_loop-returns-clause-answer t c =
+    let inside = c.clear_post_insn.new.self in
     let l = loop_states c.args.sink.now c.get_label.new.self c.get_label-2.new.self c.bind_label.new.self c.emit_members.new.sink
     c.start_step.new.self c.put_branch.new.sink c.in_ok-start.start.0 c.in_ok-end.end.0 c.bits-mask.result
-    (tree c.args.state.now c.args.body.now) c.in_ok-start.ensures.answer.1 c.in_ok-start.ensures.answer.2 c.in_ok-end.ensures.answer.1
+    (tree inside c.args.body.now) c.in_ok-start.ensures.answer.1 c.in_ok-start.ensures.answer.2 c.in_ok-end.ensures.answer.1
     c.in_ok-end.ensures.answer.2 c.in_ok-bind_label.ensures.answer.1 c.in_ok-emit_members.ensures.answer c.in_ok-start_step.ensures.answer.1
     c.in_ok-put_branch.ensures.answer in
-    on_both _ c.bind_label-2.result c.bind_label-2.ensures.answer (λ p. l.after c.bind_label-2.new.self p.1 ∙ ap (λ m. apply_all c.args.sink.now (own_fragments (length c.args.sink.now.labels) 0 (loop_node m (tree c.args.state.now c.args.body.now) empty))) c.bits-mask.ensures.value)
+    on_both _ c.bind_label-2.result c.bind_label-2.ensures.answer (λ p. l.after c.bind_label-2.new.self p.1 ∙ ap (λ m. apply_all c.args.sink.now (own_fragments (length c.args.sink.now.labels) 0 (loop_node m (tree inside c.args.body.now) empty))) c.bits-mask.ensures.value ∙ ap (λ (e : Emission). apply_all c.args.sink.now (own_fragments (length c.args.sink.now.labels) 0 (loop_node c.args.cond (tree e c.args.body.now) empty))) c.clear_post_insn.ensures)
 
 pub emit_loop-returns-clause-kept : goal.emit_loop-returns-clause-kept
 emit_loop-returns-clause-kept t c =
@@ -131,20 +134,26 @@ emit_members-returns-in_err-emit_inst-clause-lacks t c = λ p.
 
 pub emit_loop-returns-in_err-start_step-clause-lacks : goal.emit_loop-returns-in_err-start_step-clause-lacks
 emit_loop-returns-in_err-start_step-clause-lacks t c = λ after p.
-    let l = loop_passed c.args.flags c.args.sink.now after c.args.state.now.nominal c.args.depth c.args.cond (tree c.args.state.now c.args.body.now) p in
+    let inside = c.clear_post_insn.new.self in
+    let same : inside ≡ without_map c.args.state.now = c.clear_post_insn.ensures in
+    let q = subst (λ (e : Emission). TreePassed c.args.flags c.args.sink.now after e.nominal c.args.depth (loop_node c.args.cond (tree e c.args.body.now) empty)) (sym same) p in
+    let l = loop_passed c.args.flags c.args.sink.now after inside.nominal c.args.depth c.args.cond (tree inside c.args.body.now) q in
     lacks_again c.from_residual-in_err-start_step.result _ c.from_residual-in_err-start_step.ensures.1
     (fails_with_none _ _ (mark_none c.emit_members.new.sink (members_unpoisoned c.args.sink.now c.get_label.new.self c.get_label-2.new.self
-    c.bind_label.new.self c.emit_members.new.sink c.in_ok-start.start.0 c.in_ok-end.end.0 (tree c.args.state.now c.args.body.now)
+    c.bind_label.new.self c.emit_members.new.sink c.in_ok-start.start.0 c.in_ok-end.end.0 (tree inside c.args.body.now)
     c.in_ok-start.ensures.answer.2 c.in_ok-end.ensures.answer.2 c.in_ok-bind_label.ensures.answer.1 c.in_ok-emit_members.ensures.answer
     ∙ l.unpoisoned)) c.in_err-start_step.ensures.answer.0)
 
 pub emit_loop-returns-in_err-put_branch-clause-lacks : goal.emit_loop-returns-in_err-put_branch-clause-lacks
 emit_loop-returns-in_err-put_branch-clause-lacks t c = λ after p.
-    let l = loop_passed c.args.flags c.args.sink.now after c.args.state.now.nominal c.args.depth c.args.cond (tree c.args.state.now c.args.body.now) p in
+    let inside = c.clear_post_insn.new.self in
+    let same : inside ≡ without_map c.args.state.now = c.clear_post_insn.ensures in
+    let q = subst (λ (e : Emission). TreePassed c.args.flags c.args.sink.now after e.nominal c.args.depth (loop_node c.args.cond (tree e c.args.body.now) empty)) (sym same) p in
+    let l = loop_passed c.args.flags c.args.sink.now after inside.nominal c.args.depth c.args.cond (tree inside c.args.body.now) q in
     let b = body_turns c.args.sink.now c.get_label.new.self c.get_label-2.new.self c.bind_label.new.self c.emit_members.new.sink c.start_step.new.self
-    c.in_ok-start.start.0 c.in_ok-end.end.0 (tree c.args.state.now c.args.body.now) c.in_ok-start.ensures.answer.2
+    c.in_ok-start.start.0 c.in_ok-end.end.0 (tree inside c.args.body.now) c.in_ok-start.ensures.answer.2
     c.in_ok-end.ensures.answer.2 c.in_ok-bind_label.ensures.answer.1 c.in_ok-emit_members.ensures.answer c.in_ok-start_step.ensures.answer.1 in
-    lacks_again c.from_residual-in_err-put_branch.result _ c.from_residual-in_err-put_branch.ensures.1 (c.in_err-put_branch.ensures.lacks (back_passed c.args.flags c.args.sink.now c.start_step.new.self c.in_ok-start.start.0 c.args.state.now.nominal c.args.depth (tree c.args.state.now c.args.body.now) l b c.in_ok-start.ensures.answer.1))
+    lacks_again c.from_residual-in_err-put_branch.result _ c.from_residual-in_err-put_branch.ensures.1 (c.in_err-put_branch.ensures.lacks (back_passed c.args.flags c.args.sink.now c.start_step.new.self c.in_ok-start.start.0 inside.nominal c.args.depth (tree inside c.args.body.now) l b c.in_ok-start.ensures.answer.1))
 
 pub emit_loop-returns-in_err-put_branch-clause-kept : goal.emit_loop-returns-in_err-put_branch-clause-kept
 emit_loop-returns-in_err-put_branch-clause-kept t c =
@@ -166,27 +175,34 @@ emit_loop-returns-in_err-bind_label-clause-kept t c = bound_kept c.args.sink.now
 
 pub emit_loop-returns-clause-lacks : goal.emit_loop-returns-clause-lacks
 emit_loop-returns-clause-lacks t c = λ after p.
-    let l = loop_passed c.args.flags c.args.sink.now after c.args.state.now.nominal c.args.depth c.args.cond (tree c.args.state.now c.args.body.now) p in
+    let inside = c.clear_post_insn.new.self in
+    let same : inside ≡ without_map c.args.state.now = c.clear_post_insn.ensures in
+    let q = subst (λ (e : Emission). TreePassed c.args.flags c.args.sink.now after e.nominal c.args.depth (loop_node c.args.cond (tree e c.args.body.now) empty)) (sym same) p in
+    let l = loop_passed c.args.flags c.args.sink.now after inside.nominal c.args.depth c.args.cond (tree inside c.args.body.now) q in
     let b = body_turns c.args.sink.now c.get_label.new.self c.get_label-2.new.self c.bind_label.new.self c.emit_members.new.sink c.start_step.new.self
-    c.in_ok-start.start.0 c.in_ok-end.end.0 (tree c.args.state.now c.args.body.now) c.in_ok-start.ensures.answer.2
+    c.in_ok-start.start.0 c.in_ok-end.end.0 (tree inside c.args.body.now) c.in_ok-start.ensures.answer.2
     c.in_ok-end.ensures.answer.2 c.in_ok-bind_label.ensures.answer.1 c.in_ok-emit_members.ensures.answer c.in_ok-start_step.ensures.answer.1 in
-    let end = end_below c.args.sink.now c.get_label.new.self c.start_step.new.self c.put_branch.new.sink c.bits-mask.result c.in_ok-start.start.0 c.in_ok-end.end.0 c.args.depth (tree c.args.state.now c.args.body.now) c.in_ok-start.ensures.answer.2 c.in_ok-end.ensures.answer.1 b c.in_ok-put_branch.ensures.answer in
+    let end = end_below c.args.sink.now c.get_label.new.self c.start_step.new.self c.put_branch.new.sink c.bits-mask.result c.in_ok-start.start.0 c.in_ok-end.end.0 c.args.depth (tree inside c.args.body.now) c.in_ok-start.ensures.answer.2 c.in_ok-end.ensures.answer.1 b c.in_ok-put_branch.ensures.answer in
     lacks_call _ _ _ c.bind_label-2.result c.bind_label-2.ensures.answer (label_none c.put_branch.new.sink c.in_ok-end.end.0 (ap (λ x. x.failed) c.in_ok-put_branch.ensures.answer ∙ b.unpoisoned ∙ l.unpoisoned) end)
 
 pub emit_loop-returns-clause-cause : goal.emit_loop-returns-clause-cause
 emit_loop-returns-clause-cause t c =
+    let inside = c.clear_post_insn.new.self in
     let s = c.args.sink.now in
     let opens = sym c.loop_cause.ensures.cause ∙ c.in_default.is in
-    let none = loop_none c.args.flags s c.get_label.new.self c.get_label-2.new.self c.bind_label.new.self c.in_ok-start.start.0 c.args.state.now.nominal c.args.depth c.args.cond (tree c.args.state.now c.args.body.now) c.in_ok-start.ensures.answer.2 c.in_ok-end.ensures.answer.2 c.in_ok-bind_label.ensures.answer.1 opens c.in_ok-emit_members.ensures.cause.0 in
-    on_both _ c.bind_label-2.result c.bind_label-2.ensures.answer (λ _. none)
+    let none = loop_none c.args.flags s c.get_label.new.self c.get_label-2.new.self c.bind_label.new.self c.in_ok-start.start.0 inside.nominal c.args.depth c.args.cond (tree inside c.args.body.now) c.in_ok-start.ensures.answer.2 c.in_ok-end.ensures.answer.2 c.in_ok-bind_label.ensures.answer.1 opens c.in_ok-emit_members.ensures.cause.0 in
+    on_both _ c.bind_label-2.result c.bind_label-2.ensures.answer (λ _. subst (λ (e : Emission). tree_cause c.args.flags (declared_in s) (length s.labels) e.nominal c.args.depth (loop_node c.args.cond (tree e c.args.body.now) empty) ≡ None) c.clear_post_insn.ensures none)
 
 pub emit_loop-returns-in_err-emit_members-clause-lacks : goal.emit_loop-returns-in_err-emit_members-clause-lacks
 emit_loop-returns-in_err-emit_members-clause-lacks t c = λ after p.
+    let inside = c.clear_post_insn.new.self in
+    let same : inside ≡ without_map c.args.state.now = c.clear_post_insn.ensures in
+    let q = subst (λ (e : Emission). TreePassed c.args.flags c.args.sink.now after e.nominal c.args.depth (loop_node c.args.cond (tree e c.args.body.now) empty)) (sym same) p in
     let s = c.args.sink.now in
-    let l = loop_passed c.args.flags s after c.args.state.now.nominal c.args.depth c.args.cond (tree c.args.state.now c.args.body.now) p in
+    let l = loop_passed c.args.flags s after inside.nominal c.args.depth c.args.cond (tree inside c.args.body.now) q in
     let a = draw_turns s c.get_label.new.self c.in_ok-start.ensures.answer.2 in
     let b = draw_turns c.get_label.new.self c.get_label-2.new.self c.in_ok-end.ensures.answer.2 in
     let o = bind_turns c.get_label-2.new.self c.bind_label.new.self c.in_ok-start.start.0 c.in_ok-bind_label.ensures.answer.1 in
     let turns = turns_on _ _ _ _ _ _ _ (turns_on _ _ _ _ _ _ _ a b) o in
     let below : c.in_ok-end.end.0 < length c.bind_label.new.self.labels = omega (arith, c.in_ok-end.ensures.answer.1, b.labels, o.labels) in
-    lacks_again c.from_residual-in_err-emit_members.result _ c.from_residual-in_err-emit_members.ensures.1 (c.in_err-emit_members.ensures.lacks (inner_passed c.args.flags s c.bind_label.new.self c.args.state.now.nominal c.args.depth c.in_ok-end.end.0 0 (tree c.args.state.now c.args.body.now) l turns below))
+    lacks_again c.from_residual-in_err-emit_members.result _ c.from_residual-in_err-emit_members.ensures.1 (c.in_err-emit_members.ensures.lacks (inner_passed c.args.flags s c.bind_label.new.self inside.nominal c.args.depth c.in_ok-end.end.0 0 (tree inside c.args.body.now) l turns below))
