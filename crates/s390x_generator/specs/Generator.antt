@@ -13,7 +13,7 @@ use Rattle.s390x_inst.specs.declared.function.Block.{Block}
 use Rattle.s390x_inst.specs.declared.inst.Inst.{Inst}
 use Rattle.s390x_inst.specs.declared.inst.Inst.TheVariants.{AluRRR, AluRR, Load64, Store64, CondBr, Ret}
 use Rattle.s390x_inst.specs.declared.ops.ALUOp.TheVariants.{Add64}
-use Rattle.s390x_typed_steps.specs.Tree.{Tree, tree}
+use Rattle.s390x_typed_steps.specs.Tree.{Tree, block_tree}
 
 -- the next number of a linear congruential sequence modulo 2 ^ 32
 abbrev pub next_number : ℕ → ℕ
@@ -57,7 +57,7 @@ generated n start = generated_from n 0 n start
 
 -- they as trees
 abbrev pub generated_trees : Emission → (n start : ℕ) → List Tree
-generated_trees e n start = map (tree e) (generated n start)
+generated_trees e n start = map (block_tree e) (generated n start)
 
 -- the instructions of a block
 abbrev pub insts_of : Block → List Inst

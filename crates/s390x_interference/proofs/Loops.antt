@@ -56,7 +56,7 @@ loop_steps n mask members = Opening ∷ (steps_of (n + 1) (n + 2 + step_count me
 
 opens_in : {steps : List Step} (n mask : ℕ) (members : Tree) (k after : ℕ) (t : Tree) → Opens n mask members k t → StandFrom steps k (steps_of k after t) → StandFrom steps n (loop_steps n mask members)
 opens_in n mask members k after empty o x = absurd o
-opens_in n mask members k after (leaf (Whole i) rest) o x = opens_in n mask members (k + 1) after rest o (behind (step_of after (Whole i) ∷ []) (steps_of (k + 1) after rest) x)
+opens_in n mask members k after (leaf b rest) o x = opens_in n mask members (k + 1) after rest o (behind (step_of after b ∷ []) (steps_of (k + 1) after rest) x)
 opens_in {steps = steps} n mask members k after (loop_node mask' members' rest) (inl o) x =
     let more = steps_of (k + 2 + step_count members') after rest in
     let inner = steps_of (k + 1) (k + 2 + step_count members') members' in
@@ -137,7 +137,7 @@ plain_swap end false rd ri rn mem = refl
 
 no_steps : (t : Tree) → is_empty t ≡ true → step_count t ≡ 0
 no_steps empty h = refl
-no_steps (leaf (Whole i) rest) h = absurd (true≢false (sym h))
+no_steps (leaf b rest) h = absurd (true≢false (sym h))
 no_steps (loop_node mask members rest) h = absurd (true≢false (sym h))
 
 either : (a b : Bool) → (a || b) ≡ true → (a ≡ true) ⊎ (b ≡ true)
@@ -178,6 +178,7 @@ body_of L empty k end h x = absurd (true≢false (sym h))
 body_of L (loop_node mask members rest) k end h x = absurd (true≢false (sym h))
 body_of L (leaf (Whole i) rest) k end h x =
     leaf_body L k end i rest (first_of x) (λ e. body_of L rest (k + 1) end e (behind (step_of end (Whole i) ∷ []) (steps_of (k + 1) end rest) x)) (either (is_swap i && is_empty rest) (is_member i && is_retry_body rest) h)
+body_of L (leaf b rest) k end h x = absurd (true≢false (sym h))
 
 -- a loop of them is a retry loop
 retry_of : (L : Layout) (n mask : ℕ) (members : Tree) → StandFrom L.steps n (loop_steps n mask members) → is_retry_body members ≡ true → IsFalse (is_selected mask Code0) → (R : Retry L) × (R.opening ≡ n) × (R.mask ≡ mask)

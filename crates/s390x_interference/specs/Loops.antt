@@ -101,14 +101,14 @@ is_empty _ = false
 abbrev pub is_retry_body : Tree → Bool
 is_retry_body empty = false
 is_retry_body (leaf (Whole i) rest) = (is_swap i && is_empty rest) || (is_member i && is_retry_body rest)
-is_retry_body (loop_node mask members rest) = false
+is_retry_body _ = false
 
 -- ---- where a loop stands
 
 -- among instructions whose steps begin at number k a loop under this mask with these members opens, at step n
 abbrev pub Opens : (n mask : ℕ) → (members : Tree) → (k : ℕ) → Tree → Type 0
 Opens n mask members k empty = ⊥
-Opens n mask members k (leaf (Whole i) rest) = Opens n mask members (k + 1) rest
+Opens n mask members k (leaf b rest) = Opens n mask members (k + 1) rest
 Opens n mask members k (loop_node mask' members' rest) =
     ((n ≡ k) × (mask' ≡ mask) × (members' ≡ members)) ⊎ (Opens n mask members (k + 1) members' ⊎ Opens n mask members (k + 2 + step_count members') rest)
 

@@ -91,7 +91,7 @@ fine e D depth (AtomicRmw op rd rn mem) a h m = atomic_fine D (atomic_name op) (
 fine e D depth (AtomicCas32 rd ri rn mem) a h m = address_fine _ m
 fine e D depth (AtomicCas64 rd ri rn mem) a h m = address_fine _ m
 fine e D depth (Vector v) a h m = vector_fine e D v h m
--- no loop, and no call is built yet
+-- loops and calls are no steps by themselves
 fine e D depth (Loop' mask body all) a h m = absurd (cc)
 fine e D depth (Call link info) a h m = absurd (cc)
 fine e D depth (ReturnCall info) a h m = absurd (cc)

@@ -4,21 +4,22 @@ use Rattle.s390x_inst.specs.Emission.{Emission}
 use Rattle.s390x_inst.specs.declared.function.Block.{Block}
 use Rattle.s390x_inst.specs.declared.inst.Inst.{Inst}
 use Rattle.s390x_typed_steps.specs.Stack.{state_after}
-use Rattle.s390x_typed_steps.specs.Tree.{Tree, tree}
+use Rattle.s390x_typed_steps.specs.Tree.{Tree, block_tree}
 use Rattle.s390x_text.specs.Instructions.{inst_text, insts_after, insts_text}
 
 -- a block as a tree, from a state of emission on
-abbrev pub block_tree : Emission → Block → Tree
-block_tree e b = tree e b.insts.items
+abbrev pub tree_of_block : Emission → Block → Tree
+tree_of_block e b = block_tree e b.insts.items
 
 -- the state in which emission meets what stands behind instructions
 abbrev pub states_after : Emission → List Inst → Emission
 states_after e [] = e
 states_after e (i ∷ is) = states_after (state_after e i) is
 
--- an instruction has a text in the state behind those before it, and that state is emission's
+-- an instruction has a text in the state behind those before it, and that state is emission's; printing leaves the stack map, which no text shows and which
+-- emission takes off behind each instruction
 pub record HasText (e : Emission) (before : List Inst) (i : Inst) : Type 0 where
-  pub state : insts_after e before ≡ states_after e before
+  pub state : insts_after e before ≡ record (states_after e before) { stack_map = e.stack_map }
   pub text : (inst_text 0 (insts_after e before) i).cause ≡ None
 
 -- so does each instruction of a block

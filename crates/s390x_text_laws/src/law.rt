@@ -4,12 +4,13 @@ ghost use Rattle.s390x_inst.specs.Emission.{Emission};
 ghost use Rattle.s390x_inst.specs.declared.function.Block.{Block};
 ghost use Rattle.s390x_inst.specs.declared.state.IsaFlags.{IsaFlags};
 ghost use Rattle.s390x_typed_steps.specs.Causes.{Declared, blocks_cause};
-ghost use Rattle.s390x_text_laws.specs.Laws.{AllHaveTexts, HasTextsInOrder, block_tree};
+ghost use Rattle.s390x_text_laws.specs.Laws.{AllHaveTexts, HasTextsInOrder, tree_of_block};
 
-/// Where emission has no cause to refuse an instruction of the blocks, from a state in which no arguments are allocated, each
-/// instruction has a text in the state behind those before it in its block, so that `pretty_print_inst` answers that text or
-/// wants memory, and this state is the one in which emission meets it. So all texts of a block, in order, aren't refused either.
+/// Where emission has no cause to refuse an instruction of the blocks, from a state in which no arguments are allocated and none
+/// are left behind by a call, each instruction has a text in the state behind those before it in its block, so that
+/// `pretty_print_inst` answers that text or wants memory, and this state is the one in which emission meets it, but for the stack
+/// map, which no text shows. So all texts of a block, in order, aren't refused either.
 pub fn valid_blocks_have_texts()
-    ensures texts { (flags : IsaFlags) (D : Declared) (n : ℕ) (e : Emission) (blocks : List Block) → e.nominal ≡ 0 → blocks_cause flags D n (map (block_tree e) blocks) ≡ None → All (AllHaveTexts e) blocks }
-    ensures in_order { (flags : IsaFlags) (D : Declared) (n : ℕ) (e : Emission) (blocks : List Block) → e.nominal ≡ 0 → blocks_cause flags D n (map (block_tree e) blocks) ≡ None → All (HasTextsInOrder e) blocks }
+    ensures texts { (flags : IsaFlags) (D : Declared) (n : ℕ) (e : Emission) (blocks : List Block) → e.nominal ≡ 0 → e.outgoing ≡ 0 → blocks_cause flags D n (map (tree_of_block e) blocks) ≡ None → All (AllHaveTexts e) blocks }
+    ensures in_order { (flags : IsaFlags) (D : Declared) (n : ℕ) (e : Emission) (blocks : List Block) → e.nominal ≡ 0 → e.outgoing ≡ 0 → blocks_cause flags D n (map (tree_of_block e) blocks) ≡ None → All (HasTextsInOrder e) blocks }
 {}
