@@ -2,6 +2,8 @@
 #![tactic(auto)]
 
 #[cfg(test)]
+mod call_rows;
+#[cfg(test)]
 mod entries;
 #[cfg(test)]
 mod executions;

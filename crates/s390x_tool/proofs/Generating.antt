@@ -26,7 +26,7 @@ use Rattle.s390x_inst.specs.declared.state.IsaFlags.{IsaFlags}
 use Rattle.s390x_typed_steps.specs.Causes.{blocks_cause, declared_of, first_emit_cause, unless}
 use Rattle.s390x_typed_steps.specs.Relocs.{function_relocs}
 use Rattle.s390x_typed_steps.specs.Sizes.{blocks_size}
-use Rattle.s390x_typed_steps.specs.Tree.{Tree, tree}
+use Rattle.s390x_typed_steps.specs.Tree.{Tree, block_tree}
 use Rattle.s390x_tool.specs.Generated.{IsGenerateReply, IsGeneratedImage, IsGeneratedText, generated_base, summary_line}
 use Rattle.s390x_tool.specs.Lines.{IsLinkRefusal, IsMade, IsRefusal, line}
 use Rattle.s390x_tool.specs.Replies.{Found, IsReply}
@@ -36,12 +36,12 @@ use Rattle.s390x_tool.specs.declared.status.Status.{Status}
 use Rattle.s390x_tool.specs.declared.status.Status.TheVariants as status
 
 -- the trees of blocks are those of their instructions
-trees_of_blocks : (e : Emission) (bs : List Block) → map (tree_of e) bs ≡ map (tree e) (map insts_of bs)
+trees_of_blocks : (e : Emission) (bs : List Block) → map (tree_of e) bs ≡ map (block_tree e) (map insts_of bs)
 trees_of_blocks e [] = refl
-trees_of_blocks e (b ∷ bs) = ap (λ ts. tree e b.insts.items ∷ ts) (trees_of_blocks e bs)
+trees_of_blocks e (b ∷ bs) = ap (λ ts. block_tree e b.insts.items ∷ ts) (trees_of_blocks e bs)
 
 pub same_trees : (e : Emission) (n start : ℕ) (f : AllocatedFunction) → IsGenerated n start f → trees_of e f ≡ generated_trees e n start
-same_trees e n start f h = trees_of_blocks e f.blocks.items ∙ ap (map (tree e)) h.blocks
+same_trees e n start f h = trees_of_blocks e f.blocks.items ∙ ap (map (block_tree e)) h.blocks
 
 no_constants : (n start : ℕ) (f : AllocatedFunction) → IsGenerated n start f → constants_of f ≡ []
 no_constants n start f h = ap (map constant_of) h.constants

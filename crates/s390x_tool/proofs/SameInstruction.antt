@@ -1,5 +1,5 @@
 -- What emission reads of an instruction stands in its line.
-use Rattle.std.proofs.Common.{◌≡◌, ℕ, List, [], ◌∷◌, Option, Some, None, ◌&&◌, refl, sym, ap, subst}
+use Rattle.std.proofs.Common.{◌≡◌, ℕ, ◌-◌, List, [], ◌∷◌, Option, Some, None, ◌&&◌, refl, sym, ap, subst}
 use Rattle.s390x_inst.specs.declared.state.IsaFlags.{IsaFlags}
 use Rattle.s390x_base.specs.Regs.{number_of}
 use Rattle.s390x_base.specs.declared.regs.Reg.{Reg}
@@ -25,7 +25,7 @@ use Rattle.s390x_typed_steps.specs.Parts.{CodePart, Row, table_parts, step_parts
 use Rattle.s390x_typed_steps.specs.Steps.{step_of}
 use Rattle.s390x_typed_steps.specs.Tree as Body
 use Rattle.s390x_typed_steps.specs.Ranges.{IsConditionMask, InRange}
-use Rattle.s390x_fields.specs.Fields.{Field, FAlu, FUnary, FCmp, FShift, FRxsbg, FReg, FReal, FInteger, FNatural, FShifted, FPair, FTrap, FBool, FReloc, FLabels, FCond, FArgs, FRets, FMemory, FVecBinary, FVecCompare, FVecElementCompare, FVecShift, FVecUnary}
+use Rattle.s390x_fields.specs.Fields.{Field, FAlu, FUnary, FCmp, FShift, FRxsbg, FReg, FReal, FInteger, FNatural, FShifted, FPair, FTrap, FBool, FReloc, FLabels, FCond, FArgs, FRets, FMemory, FVecBinary, FVecCompare, FVecElementCompare, FVecShift, FVecUnary, FTarget, FUses, FDefs, FSet, FConvention, FTry, FOption}
 use Rattle.s390x_lines.specs.Line.{Line}
 use Rattle.s390x_lines.specs.Instructions.{inst_line, vector_line}
 use Rattle.s390x_lines.specs.declared.inst_name.IntegerName.TheVariants as IntegerIs
@@ -36,13 +36,14 @@ use Rattle.s390x_lines.specs.declared.name.LineName.{LineName}
 use Rattle.s390x_typed_steps.specs.Stack.{nominal_after}
 use Rattle.s390x_lines.specs.declared.name.LineName.TheVariants as N
 
--- What emission reads of an instruction: all of one without lists; of one with lists, their items instead of the vectors
--- that hold them, but nothing of one that only names registers; of one that isn't built yet and needs no facility, nothing.
+-- What emission reads of an instruction that is a step by itself: all of one without lists; of one with lists, their items instead of the vectors
+-- that hold them, but nothing of one that only names registers. A call is no step by itself: as one it would take its arguments and be refused.
 pub data Reading : Type 0 where
   Whole : Inst → Reading
   Picks : Reg → List MachLabel → Reading
   Jumps : (index : Reg) → (other : MachLabel) → (mask : ℕ) → List MachLabel → Reading
   Names : Reading
+  Pops : (size : ℕ) → Reading
   Other : Reading
 
 abbrev pub named : ℕ → MachLabel
@@ -121,6 +122,7 @@ reading (N.Control ControlIs.JTSequence) (FReg index ∷ FNatural w other ∷ FC
 reading (N.Control ControlIs.LabelAddress) (FReg dst ∷ FNatural w label ∷ []) = Whole (LabelAddress dst (named label))
 reading (N.Control ControlIs.LoadSymbolReloc) (FReg rd ∷ FReloc reloc ∷ []) = Whole (LoadSymbolReloc rd reloc)
 reading (N.Control ControlIs.Ret) (FReg link ∷ []) = Whole (Ret link)
+reading (N.Control ControlIs.Call) (FReg link ∷ FTarget dest ∷ FUses uses ∷ FDefs defs ∷ FSet clobbers ∷ FNatural w size ∷ FConvention a ∷ FConvention b ∷ FTry t ∷ FBool patchable ∷ FOption v stack_map ∷ []) = Pops size
 reading (N.Control ControlIs.Debugtrap) [] = Whole Debugtrap
 reading (N.Control ControlIs.Trap) (FTrap code ∷ []) = Whole (Trap code)
 reading (N.Control ControlIs.TrapIf) (FCond mask ∷ FTrap code ∷ []) = Whole (TrapIf mask code)
@@ -225,11 +227,13 @@ reading_cause flags D m depth (Whole i) = instruction_cause flags D m depth i
 reading_cause flags D m depth (Picks rn targets) = first_emit_cause (unless (is_general rn && is_nonzero rn) BadRegister) (labels_cause D.blocks targets)
 reading_cause flags D m depth (Jumps index other mask targets) = table_cause D.blocks index other targets
 reading_cause flags D m depth Names = None
+reading_cause flags D m depth (Pops size) = Some BadOperator
 reading_cause flags D m depth Other = Some BadOperator
 
 -- the nominal size behind it
 abbrev pub reading_after : ℕ → Reading → ℕ
 reading_after m (Whole i) = nominal_after m i
+reading_after m (Pops size) = m - size
 reading_after m _ = m
 
 -- how many labels it draws
@@ -238,6 +242,7 @@ reading_fresh_labels (Whole i) = instruction_fresh_labels i
 reading_fresh_labels (Picks rn targets) = 0
 reading_fresh_labels (Jumps index other mask targets) = 1
 reading_fresh_labels Names = 0
+reading_fresh_labels (Pops size) = 0
 reading_fresh_labels Other = 0
 
 -- the parts of the step in a loop that ends at the step `after`
@@ -246,6 +251,7 @@ reading_parts after (Whole i) = step_parts (step_of after (Body.Whole i))
 reading_parts after (Picks rn targets) = Row (rr 0x07 15 (number_of rn)) ∷ []
 reading_parts after (Jumps index other mask targets) = table_parts (number_of index) mask other.0 targets
 reading_parts after Names = []
+reading_parts after (Pops size) = []
 reading_parts after Other = []
 
 abbrev pub reading_range : Reading → Type 0
@@ -253,6 +259,7 @@ reading_range (Whole i) = InRange i
 reading_range (Picks rn targets) = Unit {0} × Unit {0}
 reading_range (Jumps index other mask targets) = IsConditionMask mask × Unit {0}
 reading_range Names = Unit {0} × Unit {0}
+reading_range (Pops size) = Unit {0} × Unit {0}
 reading_range Other = Unit {0} × Unit {0}
 
 vector_reading : (v : VecInst) → Whole (Vector v) ≡ line_reading (vector_line v)

@@ -12,6 +12,7 @@ use Rattle.s390x_typed_steps.specs.Causes.{Declared, aligns_of, first_emit_cause
 use Rattle.s390x_typed_steps.specs.Sizes.{blocks_size}
 use Rattle.s390x_typed_steps.specs.Ranges.{BlocksInRange}
 use Rattle.s390x_typed_steps.specs.Image.{unlinked, function_code}
+use Rattle.s390x_typed_steps.specs.Sites.{call_offsets, patches, stack_maps}
 use Rattle.s390x_emit_int.specs.Function.{IsFinishedCode, start_cause, checked_cause, code_length_cause, trees_of, constants_of}
 use Rattle.s390x_job.specs.Jobs.{IsJob}
 use Rattle.s390x_job.specs.Same.{SameJob}
@@ -21,7 +22,8 @@ use Rattle.s390x_image.specs.Symbols.{no_symbols}
 use Rattle.s390x_tool.specs.Answers.{IsCodeOfJob, Links, job_cause, with_symbols}
 use Rattle.s390x_commands.specs.declared.words.JobCommand.{JobCommand}
 use Rattle.s390x_commands.specs.declared.words.JobCommand.TheVariants.{Image, Emit, Run, Operands, Show}
-use Rattle.s390x_tool.proofs.SameTree.{LineTree, lines_tree, line_blocks_cause, line_blocks_size, line_ranges, parts_code, line_at, line_places, line_environment, line_steps_from, same_blocks_cause, same_function_code, same_starts, same_block_starts, same_blocks_size, parts_places, line_block_places, ranges_to, ranges_from, each_traps, same_function_traps, each_relocs, same_function_relocs}
+use Rattle.s390x_tool.proofs.SameTree.{LineTree, lines_tree, line_blocks_cause, line_blocks_size, line_ranges, parts_code, line_at, line_places, line_environment, line_steps_from, same_blocks_cause, same_function_code, same_starts, same_block_starts, same_blocks_size}
+use Rattle.s390x_tool.proofs.SameTree.{parts_places, line_block_places, ranges_to, ranges_from, each_traps, same_function_traps, each_relocs, same_function_relocs, line_sites, same_function_sites, line_tries, same_function_tries}
 use Rattle.s390x_tool.proofs.SameLines.{found, with_flags, with_frame, frame_of, Said, job_found}
 use Rattle.s390x_tool.proofs.Frameless.{raw_block, resolved_lines, blocks_resolved}
 use Rattle.s390x_inst.specs.State.{fresh_emission}
@@ -96,6 +98,7 @@ same_sizes ts us e = same_blocks_size ts ∙ ap line_blocks_size e ∙ sym (same
 same_image : (ts us : List Tree) (cs : List Constant) (f : MachBufferFinalized) → map lines_tree ts ≡ map lines_tree us → IsFinishedCode ts cs f → IsFinishedCode us cs f
 same_image ts us cs f e h =
     let size = same_sizes ts us e in
+    let sites = same_function_sites ts ∙ ap line_sites e ∙ sym (same_function_sites us) in
     record {
       bytes = h.bytes ∙ ap (λ bs. bs ++ constant_bytes (blocks_size ts) cs) (same_bytes ts us cs e) ∙ ap (λ n. function_code (unlinked us cs) us ++ constant_bytes n cs) size;
       block_starts = h.block_starts ∙ same_block_starts ts ∙ ap (λ ls. line_block_places (line_at ls) 0 ls) e ∙ sym (same_block_starts us);
@@ -103,10 +106,10 @@ same_image ts us cs f e h =
       starts = h.starts ∙ same_starts ts ∙ ap (λ ls. parts_places (line_at ls) 0 (line_steps_from 0 ls)) e ∙ sym (same_starts us);
       relocs = h.relocs ∙ same_function_relocs ts ∙ ap (λ ls. each_relocs (line_at ls) 0 (line_steps_from 0 ls)) e ∙ sym (same_function_relocs us);
       traps = h.traps ∙ same_function_traps ts ∙ ap (λ ls. each_traps (line_at ls) 0 (line_steps_from 0 ls)) e ∙ sym (same_function_traps us);
-      call_sites = h.call_sites;
-      try_call_sites = h.try_call_sites;
-      patchable_sites = h.patchable_sites;
-      stack_maps = h.stack_maps;
+      call_sites = h.call_sites ∙ ap call_offsets sites;
+      try_call_sites = h.try_call_sites ∙ same_function_tries ts ∙ ap line_tries e ∙ sym (same_function_tries us);
+      patchable_sites = h.patchable_sites ∙ ap patches sites;
+      stack_maps = h.stack_maps ∙ ap stack_maps sites;
       alignment = h.alignment;
       short = h.short;
     }

@@ -27,7 +27,7 @@ use Rattle.s390x_job.specs.declared.job.Job.{Job}
 use Rattle.s390x_job.specs.declared.job.StartRegs.{StartRegs}
 use Rattle.s390x_job.specs.declared.job.SymbolLine.{SymbolLine}
 use Rattle.s390x_job.specs.declared.job.MemLine.{MemLine}
-use Rattle.s390x_tool.proofs.SameTree.{LineTree, none, one, around, lines_tree}
+use Rattle.s390x_tool.proofs.SameTree.{LineTree, of_line, none, one, around, lines_tree}
 use Rattle.s390x_tool.proofs.Frameless.{raw_prepend, raw_row, raw_tree, raw_block}
 
 -- a convention and the layout of a frame
@@ -95,7 +95,7 @@ with_flags flags f = record { siblings = f.siblings; outer = f.outer; blocks = f
 
 -- an instruction before its siblings
 abbrev pub onto : Line → Found → Found
-onto l f = record { siblings = one l f.siblings; outer = f.outer; blocks = f.blocks; constants = f.constants; symbols = f.symbols; flags = f.flags; frame = f.frame }
+onto l f = record { siblings = one (of_line l) f.siblings; outer = f.outer; blocks = f.blocks; constants = f.constants; symbols = f.symbols; flags = f.flags; frame = f.frame }
 
 abbrev pub feed : LineName → Line → Found → Found
 feed N.FlagsLine l f = with_flags (flags_in l.fields f.flags) f

@@ -73,10 +73,11 @@ call_cause d link info =
 
 -- ---- trees
 
--- the first cause of the instructions of a tree
+-- the first cause of the instructions of a tree as it is given: each of its bodies is a whole instruction
 abbrev tree_cause : Bool → Tree → Option OperandError
 tree_cause d empty = None
 tree_cause d (leaf (Body.Whole i) rest) = first_operand_cause (cause_of d (held_requests (contents i))) (tree_cause d rest)
+tree_cause d (leaf b rest) = tree_cause d rest
 tree_cause d (loop_node mask members rest) = first_operand_cause (tree_cause true members) (tree_cause d rest)
 
 or_true : (b : Bool) → b || true ≡ true
@@ -116,10 +117,9 @@ same_tree d empty empty e = refl
 same_tree d (leaf (Body.Whole i) t) (leaf (Body.Whole j) u) e =
     ap₂ first_operand_cause (ap (λ c. cause_of d (held_requests c)) (same_contents i j cc)) (same_tree d t u cc)
 same_tree d (loop_node m a t) (loop_node n b u) e = ap₂ first_operand_cause (same_tree true a b cc) (same_tree d t u cc)
-same_tree d empty (leaf (Body.Whole j) u) e = absurd cc
-same_tree d (leaf (Body.Whole i) t) empty e = absurd cc
-same_tree d (leaf (Body.Whole i) t) (loop_node n b u) e = absurd cc
-same_tree d (loop_node m a t) (leaf (Body.Whole j) u) e = absurd cc
+same_tree d (leaf (Body.Whole i) t) (leaf b u) e = absurd cc
+same_tree d (leaf a t) (leaf (Body.Whole j) u) e = absurd cc
+same_tree d (leaf a t) (leaf b u) e = same_tree d t u cc
 same_tree d t u e = absurd cc
 
 same_trees : (ts us : List Tree) → map lines_tree ts ≡ map lines_tree us → trees_cause ts ≡ trees_cause us

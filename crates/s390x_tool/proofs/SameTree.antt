@@ -7,63 +7,125 @@ use Rattle.s390x_base.specs.declared.error.EmitError.{EmitError}
 use Rattle.s390x_buffer.specs.State.{Constant}
 use Rattle.s390x_buffer.specs.Constants.{constant_starts}
 use Rattle.s390x_buffer.specs.declared.entries.TrapEntry.{TrapEntry}
-use Rattle.s390x_typed_steps.specs.Tree.{Tree, empty, leaf, loop_node, Whole}
-use Rattle.s390x_typed_steps.specs.Causes.{Declared, aligns_of, first_emit_cause, instruction_fresh_labels, fresh_labels, nesting_cause, numbers_cause, tree_cause, blocks_cause, unless, block_cause, nominal_behind}
+use Rattle.s390x_typed_steps.specs.Tree.{StepBody, Tree, empty, leaf, loop_node, Whole}
+use Rattle.s390x_typed_steps.specs.Causes.{Declared, aligns_of, body_cause, body_fresh_labels, body_nominal_after, first_emit_cause, instruction_fresh_labels, fresh_labels, nesting_cause, numbers_cause, tree_cause, blocks_cause, unless, block_cause, nominal_behind}
 use Rattle.s390x_typed_steps.specs.Parts.{CodePart, Branch, ToStep, step_parts, parts_size}
-use Rattle.s390x_typed_steps.specs.Steps.{Step, step_count, steps_of, steps_from, function_steps, first_step}
+use Rattle.s390x_typed_steps.specs.Steps.{Step, step_count, step_of, steps_of, steps_from, function_steps, first_step}
 use Rattle.s390x_typed_steps.specs.Sizes.{tree_size, blocks_size}
 use Rattle.s390x_typed_steps.specs.Rows.{LinkEnvironment, Offsets, parts_bytes}
 use Rattle.s390x_typed_steps.specs.Image.{step_offset, offsets, unlinked, code, function_code, step_offsets, block_offsets}
 use Rattle.s390x_buffer.specs.declared.entries.RelocEntry.{RelocEntry}
 use Rattle.s390x_typed_steps.specs.Relocs.{parts_relocs, relocs_from, function_relocs}
 use Rattle.s390x_typed_steps.specs.Traps.{parts_traps, traps_from, function_traps}
-use Rattle.s390x_typed_steps.specs.Ranges.{IsConditionMask, AllInRange, BlocksInRange}
+use Rattle.s390x_typed_steps.specs.Ranges.{IsConditionMask, BodyInRange, AllInRange, BlocksInRange}
+use Rattle.s390x_typed_steps.specs.Sites.{PlacedSite, parts_sites, sites_from, function_sites, try_entries, function_try_entries}
+use Rattle.s390x_buffer.specs.Finish.{PlacedTryCallSite}
 use Rattle.s390x_lines.specs.Line.{Line}
 use Rattle.s390x_lines.specs.Instructions.{inst_line}
-use Rattle.s390x_typed_steps.specs.Stack.{nominal_after}
 use Rattle.s390x_base.specs.declared.error.EmitError.TheVariants.{BadStackState}
 use Rattle.s390x_tool.proofs.SameInstruction.{line_reading, reading_cause, reading_fresh_labels, fresh_labels_read, reading_parts, reading_range, cause_read, parts_read, range_read, range_round_trip, nominal_read, reading_after}
+
+-- ---- bodies
+
+-- a body with the line in place of a whole instruction; the steps of calls hold no vectors
+pub data BodyLine : Type 0 where
+  of_line : Line → BodyLine
+  of_step : StepBody → BodyLine
+
+abbrev pub body_line : StepBody → BodyLine
+body_line (Whole i) = of_line (inst_line i)
+body_line b = of_step b
+
+-- labels drawn
+abbrev told_fresh_labels : BodyLine → ℕ
+told_fresh_labels (of_line l) = reading_fresh_labels (line_reading l)
+told_fresh_labels (of_step b) = body_fresh_labels b
+
+fresh_labels_told : (b : StepBody) → body_fresh_labels b ≡ told_fresh_labels (body_line b)
+fresh_labels_told (Whole i) = fresh_labels_read i
+fresh_labels_told b = refl
+
+-- the first cause
+abbrev told_cause : IsaFlags → Declared → (n nominal depth : ℕ) → BodyLine → Option EmitError
+told_cause flags D n m depth (of_line l) = first_emit_cause (reading_cause flags D m depth (line_reading l)) (numbers_cause n (reading_fresh_labels (line_reading l)))
+told_cause flags D n m depth (of_step b) = body_cause flags D n m depth b
+
+cause_told : (flags : IsaFlags) (D : Declared) (n m depth : ℕ) (b : StepBody) → body_cause flags D n m depth b ≡ told_cause flags D n m depth (body_line b)
+cause_told flags D n m depth (Whole i) =
+    ap (λ o. first_emit_cause o (numbers_cause n (instruction_fresh_labels i))) (cause_read flags D m depth i)
+    ∙ ap (λ d. first_emit_cause (reading_cause flags D m depth (line_reading (inst_line i))) (numbers_cause n d)) (fresh_labels_read i)
+cause_told flags D n m depth b = refl
+
+-- the nominal size behind it
+abbrev told_after : ℕ → BodyLine → ℕ
+told_after m (of_line l) = reading_after m (line_reading l)
+told_after m (of_step b) = body_nominal_after m b
+
+after_told : (m : ℕ) (b : StepBody) → body_nominal_after m b ≡ told_after m (body_line b)
+after_told m (Whole i) = nominal_read m i
+after_told m b = refl
+
+-- the parts of its step, in a loop that ends at the step `after`
+abbrev told_parts : ℕ → BodyLine → List CodePart
+told_parts after (of_line l) = reading_parts after (line_reading l)
+told_parts after (of_step b) = step_parts (step_of after b)
+
+parts_told : (after : ℕ) (b : StepBody) → step_parts (step_of after b) ≡ told_parts after (body_line b)
+parts_told after (Whole i) = parts_read after i
+parts_told after b = refl
+
+-- its ranges
+abbrev told_range : BodyLine → Type 0
+told_range (of_line l) = reading_range (line_reading l)
+told_range (of_step b) = BodyInRange b
+
+range_told : (b : StepBody) → BodyInRange b → told_range (body_line b)
+range_told (Whole i) h = range_read i h
+range_told b h = h
+
+range_back : (b : StepBody) → told_range (body_line b) → BodyInRange b
+range_back (Whole i) h = range_round_trip i h
+range_back b h = h
+
+-- ---- trees
 
 -- a tree with lines in place of instructions
 pub data LineTree : Type 0 where
   none : LineTree
-  one : Line → LineTree → LineTree
+  one : BodyLine → LineTree → LineTree
   around : ℕ → LineTree → LineTree → LineTree
 
 abbrev pub lines_tree : Tree → LineTree
 lines_tree empty = none
-lines_tree (leaf (Whole i) rest) = one (inst_line i) (lines_tree rest)
+lines_tree (leaf b rest) = one (body_line b) (lines_tree rest)
 lines_tree (loop_node mask members rest) = around mask (lines_tree members) (lines_tree rest)
 
 -- labels drawn
 abbrev pub line_fresh_labels : LineTree → ℕ
 line_fresh_labels none = 0
-line_fresh_labels (one l rest) = reading_fresh_labels (line_reading l) + line_fresh_labels rest
+line_fresh_labels (one l rest) = told_fresh_labels l + line_fresh_labels rest
 line_fresh_labels (around mask members rest) = 2 + line_fresh_labels members + line_fresh_labels rest
 
 same_fresh_labels : (t : Tree) → fresh_labels t ≡ line_fresh_labels (lines_tree t)
 same_fresh_labels empty = refl
-same_fresh_labels (leaf (Whole i) rest) = let a = fresh_labels_read i in let b = same_fresh_labels rest in cc
+same_fresh_labels (leaf b rest) = let a = fresh_labels_told b in let c = same_fresh_labels rest in cc
 same_fresh_labels (loop_node mask members rest) = let a = same_fresh_labels members in let b = same_fresh_labels rest in cc
 
 -- the first cause
 abbrev pub line_cause : IsaFlags → Declared → (n nominal depth : ℕ) → LineTree → Option EmitError
 line_cause flags D n m depth none = None
-line_cause flags D n m depth (one l rest) =
-    first_emit_cause
-    (first_emit_cause (reading_cause flags D m depth (line_reading l)) (numbers_cause n (reading_fresh_labels (line_reading l))))
-    (line_cause flags D (n + reading_fresh_labels (line_reading l)) (reading_after m (line_reading l)) depth rest)
+line_cause flags D n m depth (one l rest) = first_emit_cause (told_cause flags D n m depth l) (line_cause flags D (n + told_fresh_labels l) (told_after m l) depth rest)
 line_cause flags D n m depth (around mask members rest) =
     first_emit_cause (first_emit_cause (first_emit_cause (nesting_cause depth) (numbers_cause n 2)) (line_cause flags D (n + 2) m (depth + 1) members)) (line_cause flags D (n + 2 + line_fresh_labels members) m depth rest)
 
 same_tree_cause : (flags : IsaFlags) (D : Declared) (n m depth : ℕ) (t : Tree) → tree_cause flags D n m depth t ≡ line_cause flags D n m depth (lines_tree t)
 same_tree_cause flags D n m depth empty = refl
-same_tree_cause flags D n m depth (leaf (Whole i) rest) =
-    let r = line_reading (inst_line i) in
-    ap (λ o. first_emit_cause (first_emit_cause o (numbers_cause n (instruction_fresh_labels i))) (tree_cause flags D (n + instruction_fresh_labels i) (nominal_after m i) depth rest)) (cause_read flags D m depth i)
-    ∙ ap (λ d. first_emit_cause (first_emit_cause (reading_cause flags D m depth r) (numbers_cause n d)) (tree_cause flags D (n + d) (nominal_after m i) depth rest)) (fresh_labels_read i)
-    ∙ ap (λ l. first_emit_cause (first_emit_cause (reading_cause flags D m depth r) (numbers_cause n (reading_fresh_labels r))) (tree_cause flags D (n + reading_fresh_labels r) l depth rest)) (nominal_read m i)
-    ∙ ap (first_emit_cause (first_emit_cause (reading_cause flags D m depth r) (numbers_cause n (reading_fresh_labels r)))) (same_tree_cause flags D (n + reading_fresh_labels r) (reading_after m r) depth rest)
+same_tree_cause flags D n m depth (leaf b rest) =
+    let l = body_line b in
+    ap (λ o. first_emit_cause o (tree_cause flags D (n + body_fresh_labels b) (body_nominal_after m b) depth rest)) (cause_told flags D n m depth b)
+    ∙ ap (λ d. first_emit_cause (told_cause flags D n m depth l) (tree_cause flags D (n + d) (body_nominal_after m b) depth rest)) (fresh_labels_told b)
+    ∙ ap (λ k. first_emit_cause (told_cause flags D n m depth l) (tree_cause flags D (n + told_fresh_labels l) k depth rest)) (after_told m b)
+    ∙ ap (first_emit_cause (told_cause flags D n m depth l)) (same_tree_cause flags D (n + told_fresh_labels l) (told_after m l) depth rest)
 same_tree_cause flags D n m depth (loop_node mask members rest) =
     let own = first_emit_cause (nesting_cause depth) (numbers_cause n 2) in
     ap (λ o. first_emit_cause (first_emit_cause own o) (tree_cause flags D (n + 2 + fresh_labels members) m depth rest)) (same_tree_cause flags D (n + 2) m (depth + 1) members)
@@ -73,12 +135,12 @@ same_tree_cause flags D n m depth (loop_node mask members rest) =
 -- the nominal size behind them
 abbrev pub line_behind : ℕ → LineTree → ℕ
 line_behind m none = m
-line_behind m (one l rest) = line_behind (reading_after m (line_reading l)) rest
+line_behind m (one l rest) = line_behind (told_after m l) rest
 line_behind m (around mask members rest) = line_behind m rest
 
 same_behind : (m : ℕ) (t : Tree) → nominal_behind m t ≡ line_behind m (lines_tree t)
 same_behind m empty = refl
-same_behind m (leaf (Whole i) rest) = ap (λ n. nominal_behind n rest) (nominal_read m i) ∙ same_behind (reading_after m (line_reading (inst_line i))) rest
+same_behind m (leaf b rest) = ap (λ n. nominal_behind n rest) (after_told m b) ∙ same_behind (told_after m (body_line b)) rest
 same_behind m (loop_node mask members rest) = same_behind m rest
 
 abbrev pub line_block_cause : IsaFlags → Declared → (n : ℕ) → LineTree → Option EmitError
@@ -108,21 +170,20 @@ line_count (around mask members rest) = 2 + line_count members + line_count rest
 
 same_count : (t : Tree) → step_count t ≡ line_count (lines_tree t)
 same_count empty = refl
-same_count (leaf (Whole i) rest) = ap (λ n. 1 + n) (same_count rest)
+same_count (leaf b rest) = ap (λ n. 1 + n) (same_count rest)
 same_count (loop_node mask members rest) = let a = same_count members in let b = same_count rest in cc
 
 -- the parts of each step
 abbrev pub line_steps : (k after : ℕ) → LineTree → List (List CodePart)
 line_steps k after none = []
-line_steps k after (one l rest) = reading_parts after (line_reading l) ∷ line_steps (k + 1) after rest
+line_steps k after (one l rest) = told_parts after l ∷ line_steps (k + 1) after rest
 line_steps k after (around mask members rest) =
     [] ∷ (line_steps (k + 1) (k + 2 + line_count members) members ++ ((Branch mask (ToStep (k + 1)) ∷ []) ∷ line_steps (k + 2 + line_count members) after rest))
 
 same_steps : (k after : ℕ) (t : Tree) → map step_parts (steps_of k after t) ≡ line_steps k after (lines_tree t)
 same_steps k after empty = refl
-same_steps k after (leaf (Whole i) rest) =
-    ap (λ p. p ∷ map step_parts (steps_of (k + 1) after rest)) (parts_read after i)
-    ∙ ap (λ ps. reading_parts after (line_reading (inst_line i)) ∷ ps) (same_steps (k + 1) after rest)
+same_steps k after (leaf b rest) =
+    ap (λ p. p ∷ map step_parts (steps_of (k + 1) after rest)) (parts_told after b) ∙ ap (λ ps. told_parts after (body_line b) ∷ ps) (same_steps (k + 1) after rest)
 same_steps k after (loop_node mask members rest) =
     let back = Branch mask (ToStep (k + 1)) ∷ [] in
     let n = step_count members in
@@ -187,13 +248,12 @@ same_places environment ts =
 -- sizes
 abbrev pub line_size : LineTree → ℕ
 line_size none = 0
-line_size (one l rest) = parts_size (reading_parts 0 (line_reading l)) + line_size rest
+line_size (one l rest) = parts_size (told_parts 0 l) + line_size rest
 line_size (around mask members rest) = line_size members + 6 + line_size rest
 
 same_size : (t : Tree) → tree_size t ≡ line_size (lines_tree t)
 same_size empty = refl
-same_size (leaf (Whole i) rest) =
-    ap (λ ps. parts_size ps + tree_size rest) (parts_read 0 i) ∙ ap (λ n. parts_size (reading_parts 0 (line_reading (inst_line i))) + n) (same_size rest)
+same_size (leaf b rest) = ap (λ ps. parts_size ps + tree_size rest) (parts_told 0 b) ∙ ap (λ n. parts_size (told_parts 0 (body_line b)) + n) (same_size rest)
 same_size (loop_node mask members rest) = let a = same_size members in let b = same_size rest in cc
 
 abbrev pub line_blocks_size : List LineTree → ℕ
@@ -274,6 +334,35 @@ same_function_relocs ts =
     ∙ ap (λ at. each_relocs at 0 (map step_parts (function_steps ts))) (same_at ts)
     ∙ ap (each_relocs (line_at (map lines_tree ts)) 0) (same_steps_from 0 ts)
 
+-- the sites among the parts of each step
+abbrev each_sites : (ℕ → ℕ) → ℕ → List (List CodePart) → List PlacedSite
+each_sites at k [] = []
+each_sites at k (p ∷ ps) = parts_sites (at k) p ++ each_sites at (k + 1) ps
+
+same_sites : (at : ℕ → ℕ) (k : ℕ) (ss : List Step) → sites_from at k ss ≡ each_sites at k (map step_parts ss)
+same_sites at k [] = refl
+same_sites at k (s ∷ ss) = ap (λ es. parts_sites (at k) (step_parts s) ++ es) (same_sites at (k + 1) ss)
+
+abbrev pub line_sites : List LineTree → List PlacedSite
+line_sites ts = each_sites (line_at ts) 0 (line_steps_from 0 ts)
+
+pub same_function_sites : (ts : List Tree) → function_sites ts ≡ line_sites (map lines_tree ts)
+same_function_sites ts =
+    same_sites (step_offset (function_steps ts)) 0 (function_steps ts)
+    ∙ ap (λ at. each_sites at 0 (map step_parts (function_steps ts))) (same_at ts)
+    ∙ ap (each_sites (line_at (map lines_tree ts)) 0) (same_steps_from 0 ts)
+
+-- the calls with handlers, which stand where their labels' blocks start
+abbrev pub line_tries : List LineTree → List PlacedTryCallSite
+line_tries ts = try_entries (λ b. line_at ts (line_first_step ts b)) (line_sites ts)
+
+pub same_function_tries : (ts : List Tree) → function_try_entries ts ≡ line_tries (map lines_tree ts)
+same_function_tries ts =
+    let first_of : first_step ts ≡ line_first_step (map lines_tree ts) = fun_ext (same_first_step ts) in
+    ap (λ at. try_entries (λ b. at (first_step ts b)) (function_sites ts)) (same_at ts)
+    ∙ ap (λ f. try_entries (λ b. line_at (map lines_tree ts) (f b)) (function_sites ts)) first_of
+    ∙ ap (try_entries (λ b. line_at (map lines_tree ts) (line_first_step (map lines_tree ts) b))) (same_function_sites ts)
+
 abbrev pub line_block_places : (ℕ → ℕ) → ℕ → List LineTree → List ℕ
 line_block_places at k [] = []
 line_block_places at k (t ∷ ts) = at k ∷ line_block_places at (k + line_count t) ts
@@ -290,17 +379,17 @@ same_block_starts ts =
 -- ranges
 abbrev pub line_range : LineTree → Type 0
 line_range none = Unit {0}
-line_range (one l rest) = reading_range (line_reading l) × line_range rest
+line_range (one l rest) = told_range l × line_range rest
 line_range (around mask members rest) = IsConditionMask mask × line_range members × line_range rest
 
 range_to : (t : Tree) → AllInRange t → line_range (lines_tree t)
 range_to empty h = tt
-range_to (leaf (Whole i) rest) h = (range_read i h.0, range_to rest h.1)
+range_to (leaf b rest) h = (range_told b h.0, range_to rest h.1)
 range_to (loop_node mask members rest) h = (h.0, range_to members h.1, range_to rest h.2)
 
 range_from : (t : Tree) → line_range (lines_tree t) → AllInRange t
 range_from empty h = tt
-range_from (leaf (Whole i) rest) h = (range_round_trip i h.0, range_from rest h.1)
+range_from (leaf b rest) h = (range_back b h.0, range_from rest h.1)
 range_from (loop_node mask members rest) h = (h.0, range_from members h.1, range_from rest h.2)
 
 abbrev pub line_ranges : List LineTree → Type 0

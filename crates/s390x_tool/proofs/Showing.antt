@@ -16,7 +16,7 @@ use Rattle.s390x_text.specs.Instructions.{after, inst_text, insts_text}
 use Rattle.s390x_text.specs.Texts.{first}
 use Rattle.s390x_text.specs.declared.error.TextError.{TextError}
 use Rattle.s390x_listing.specs.Texts.{blocks_texts, inst_texts}
-use Rattle.s390x_text_laws.specs.Laws.{HasTextsInOrder, block_tree}
+use Rattle.s390x_text_laws.specs.Laws.{HasTextsInOrder, tree_of_block}
 use Rattle.s390x_job.specs.declared.job.Job.{Job}
 use Rattle.s390x_tool.specs.Answers.{job_cause, texts_of}
 
@@ -35,7 +35,7 @@ blocks_told e k (b ∷ bs) told =
     none_first _ _ (lines_cause e b.insts.items ∙ All-head (HasTextsInOrder e) b bs told) (blocks_told e (k + 1) bs (All-tail (HasTextsInOrder e) b bs told))
 
 -- by the law on texts, whose premises are among the causes of the function
-pub all_told : ((flags : IsaFlags) (D : Declared) (n : ℕ) (e : Emission) (blocks : List Block) → e.nominal ≡ 0 → blocks_cause flags D n (map (block_tree e) blocks) ≡ None → All (HasTextsInOrder e) blocks)
+pub all_told : ((flags : IsaFlags) (D : Declared) (n : ℕ) (e : Emission) (blocks : List Block) → e.nominal ≡ 0 → e.outgoing ≡ 0 → blocks_cause flags D n (map (tree_of_block e) blocks) ≡ None → All (HasTextsInOrder e) blocks)
     → (j : Job) → job_cause j ≡ None → (texts_of j).cause ≡ None
 all_told law j valid =
     let flags = j.info.isa_flags in
@@ -44,5 +44,6 @@ all_told law j valid =
     let n = length ts + length cs in
     let start = unless_true (nat_eq j.state.nominal 0 && nat_eq j.state.outgoing 0) BadStackState (first_left (start_cause j.state) (checked_cause flags ts cs) valid) in
     let checked = first_right (start_cause j.state) (checked_cause flags ts cs) valid in
+    let sizes = and_parts (nat_eq j.state.nominal 0) (nat_eq j.state.outgoing 0) start in
     let steps = first_left (blocks_cause flags (declared_of ts cs) n ts) _ (first_right (new_cause (length ts) cs) _ checked) in
-    blocks_told j.state 0 j.function.blocks.items (law flags (declared_of ts cs) n j.state j.function.blocks.items (eqb-true j.state.nominal 0 (and_parts (nat_eq j.state.nominal 0) _ start).0) steps)
+    blocks_told j.state 0 j.function.blocks.items (law flags (declared_of ts cs) n j.state j.function.blocks.items (eqb-true j.state.nominal 0 sizes.0) (eqb-true j.state.outgoing 0 sizes.1) steps)

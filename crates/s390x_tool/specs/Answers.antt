@@ -59,8 +59,9 @@ pub record IsImageAt (base : ℕ) (j : Job) (bytes : List ℕ) : Type 0 where
   pub filled : bytes ≡ filled base (symbols_of j) code.relocs.items code.bytes.items
 
 -- The text of `image`: the image in lower-case hex, and a line feed. A machine that fetches the image at the base from any
--- block's start does only what the job's typed instructions allow, in every state in which it lies in memory, and under every
--- list of others' writes, until it returns, stops by a trap or at a `Debugtrap`, or a typed step is wrong.
+-- block's start or from any call's return place does only what the job's typed instructions allow, in every state in which it
+-- lies in memory, and under every list of others' writes, until it returns, calls, stops by a trap or at a `Debugtrap`, or a
+-- typed step is wrong.
 pub record IsImageText (base : ℕ) (j : Job) (text : List ℕ) : Type 0 where
   pub bytes : List ℕ
   pub image : IsImageAt base j bytes
