@@ -1,0 +1,11 @@
+pub mod Lanes
+pub mod Results
+pub mod Operations
+pub mod Effects
+pub mod Actions
+pub mod Decoding
+pub mod Steps
+pub mod Values
+pub mod Ranges
+pub mod Keeping
+pub mod Example
