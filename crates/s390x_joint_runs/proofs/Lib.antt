@@ -1,0 +1,5 @@
+pub mod Parts
+pub mod Continuing
+pub mod Loaded
+pub mod JointInduction
+pub mod Example

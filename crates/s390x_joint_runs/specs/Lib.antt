@@ -1,0 +1,4 @@
+pub mod Parts
+pub mod Joint
+pub mod JointMatch
+pub mod Example

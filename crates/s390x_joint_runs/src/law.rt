@@ -1,0 +1,29 @@
+//! The theorem about the joint runs of several functions in one image.
+ghost use Rattle.std.specs.Prelude.{List};
+ghost use Rattle.s390x_operations.specs.State.{CodeImage};
+ghost use Rattle.s390x_machine.specs.Layout.{Layout};
+ghost use Rattle.s390x_joint_runs.specs.Example.{CallsAndReturns};
+ghost use Rattle.s390x_joint_runs.specs.Joint.{AreMembers};
+ghost use Rattle.s390x_joint_runs.specs.JointMatch.{EveryJointBlockRun, EveryJointReturnRun, EveryJointRun};
+
+/// Where each member's code lies in the whole image, every machine run from a step of a member, in every state in which the whole image lies in memory and
+/// under every list of others' writes outside it, is allowed by the joint typed steps.
+pub fn every_joint_run()
+    ensures { (whole : CodeImage) (members : List Layout) → AreMembers whole members → EveryJointRun whole members }
+{}
+
+/// The same from the start of each member's blocks.
+pub fn every_joint_block_run()
+    ensures { (whole : CodeImage) (members : List Layout) → AreMembers whole members → EveryJointBlockRun whole members }
+{}
+
+/// The same from the return place of each member's calls.
+pub fn every_joint_return_run()
+    ensures { (whole : CodeImage) (members : List Layout) → AreMembers whole members → EveryJointReturnRun whole members }
+{}
+
+/// The premises can be met: by two functions at 4096, of which the first one calls the second one. The machine has a run through both and back to the
+/// first one's caller, and so have the joint steps.
+pub fn premises_can_be_met()
+    ensures { CallsAndReturns }
+{}
