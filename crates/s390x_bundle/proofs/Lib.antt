@@ -1,0 +1,4 @@
+pub mod Standing
+pub mod Starting
+pub mod Emitting
+pub mod Together

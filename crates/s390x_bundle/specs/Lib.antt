@@ -1,0 +1,9 @@
+pub mod Bytes
+pub mod Joined
+pub mod Linking
+pub mod Names
+pub mod Places
+pub mod Table
+pub mod Named
+pub mod Emitted
+pub mod Bundled

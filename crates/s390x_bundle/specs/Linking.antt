@@ -1,0 +1,47 @@
+-- The linking of members, each at its start, with its own lines and all members as symbols.
+use Rattle.std.specs.Prelude.{◌≡◌, ℕ, ◌+◌, ◌⊎◌, List, [], ◌∷◌, Option, Some, None, length}
+use Rattle.std.specs.List.{All}
+use Rattle.s390x_buffer.specs.declared.entries.MachBufferFinalized.{MachBufferFinalized}
+use Rattle.s390x_image.specs.Causes.{link_cause}
+use Rattle.s390x_image.specs.Fields.{LiesIn, filled}
+use Rattle.s390x_image.specs.declared.error.LinkError.{LinkError}
+use Rattle.s390x_image.specs.declared.error.LinkError.TheVariants.{NoMemory}
+use Rattle.s390x_bundle.specs.declared.linking.LinkRefusal.{LinkRefusal}
+use Rattle.s390x_bundle.specs.declared.member.Member.{Member}
+use Rattle.s390x_bundle.specs.Bytes.{Part}
+use Rattle.s390x_bundle.specs.Table.{symbols_of}
+
+-- the fields that linking fills lie in the code
+abbrev pub HasItsFields : MachBufferFinalized → Type 0
+HasItsFields f = All (LiesIn (length f.bytes.items)) f.relocs.items
+
+-- a member whose code can't be linked, by its number, and why
+pub record Unlinked : Type 0 where
+  pub member : ℕ
+  pub error : LinkError
+
+-- this member, where it has a cause, or else a later one
+abbrev pub unlinked_or : (member : ℕ) → Option LinkError → Option Unlinked → Option Unlinked
+unlinked_or member None later = later
+unlinked_or member (Some error) later = Some (record { member = member; error = error })
+
+-- The first one of these members that can't be linked, by their starts and their finished code; they have the numbers from this one on. Of all members there are
+-- names and starts
+abbrev pub first_unlinked : (base : ℕ) → (all : List Member) → (all_starts : List ℕ) → (member : ℕ) → List Member → (starts : List ℕ) → List MachBufferFinalized → Option Unlinked
+first_unlinked base all all_starts member [] starts codes = None
+first_unlinked base all all_starts member (m ∷ ms) [] codes = None
+first_unlinked base all all_starts member (m ∷ ms) (start ∷ starts) [] = None
+first_unlinked base all all_starts member (m ∷ ms) (start ∷ starts) (f ∷ fs) =
+    unlinked_or member (link_cause f (base + start) (symbols_of base all all_starts m.symbols.items)) (first_unlinked base all all_starts (member + 1) ms starts fs)
+
+-- these members' linked code at their starts
+abbrev pub linked_parts : (base : ℕ) → (all : List Member) → (all_starts : List ℕ) → List Member → (starts : List ℕ) → List MachBufferFinalized → List Part
+linked_parts base all all_starts [] starts codes = []
+linked_parts base all all_starts (m ∷ ms) [] codes = []
+linked_parts base all all_starts (m ∷ ms) (start ∷ starts) [] = []
+linked_parts base all all_starts (m ∷ ms) (start ∷ starts) (f ∷ fs) =
+    record { start = start; bytes = filled (base + start) (symbols_of base all all_starts m.symbols.items) f.relocs.items f.bytes.items } ∷ linked_parts base all all_starts ms starts fs
+
+-- the refusal is want of memory, or tells this cause
+abbrev pub IsUnlinked : Option Unlinked → LinkRefusal → Type 0
+IsUnlinked o refusal = (refusal.error ≡ NoMemory) ⊎ (o ≡ Some (record { member = refusal.member; error = refusal.error }))
