@@ -1,0 +1,90 @@
+-- The registers of a loop's members, one member after the other.
+use Rattle.std.proofs.Common.{◌≡◌, ℕ, ◌+◌, ◌<◌, ◌≤◌, Bool, true, false, List, [], ◌∷◌, ◌++◌, length, get_or, drop, Result, Ok, Err, IfOk, refl, sym, ap, ◌∙◌, Vec, Global}
+use Rattle.std.proofs.lemmas.List.{drop_all}
+use Rattle.s390x_base.specs.declared.regs.Reg.{Reg}
+use Rattle.s390x_inst.specs.declared.inst.Inst.{Inst, roll-out-Inst}
+use Rattle.s390x_inst.specs.declared.inst.Inst.TheVariants.{Loop'}
+use Rattle.s390x_inst.specs.declared.inst.Inst.TheViews as V
+use Rattle.s390x_inst.specs.Portions.{Portion, plain, indirect_branch, jump_table, calling, tail_calling, arguments, results, opening, closing, first_portion, portions, members_portions}
+use Rattle.s390x_inst.proofs.Portions.{loop_portions}
+use Rattle.s390x_assign.specs.Assignments.{assigned, each_at, portion_at, IsPortion, ArePortions}
+use Rattle.s390x_assign.proofs.Counting.{cons_of, append_nil}
+
+abbrev opens : Portion → Bool
+opens (opening mask) = true
+opens p = false
+
+opens_no_loop : (i : Inst) → ((m : ℕ) (v : Vec Inst Global) → i ≡ V.Loop m v → ⊥) → opens (first_portion i) ≡ false
+unfolding V.roll-Inst denote.Hole.Carrier.roll V.out-Inst denote.Hole.Carrier.out
+opens_no_loop (Loop' mask body all) h = absurd (h mask _ (sym (roll-out-Inst (Loop' mask body all))))
+opens_no_loop i h = refl
+
+one_portion : (i : Inst) → opens (first_portion i) ≡ false → portions i ≡ first_portion i ∷ []
+one_portion (Loop' mask body all) h = absurd cc
+one_portion i h = refl
+
+opens_still : (p : Portion) (s : List Reg) → opens (portion_at p s).0 ≡ opens p
+opens_still (plain i) s = refl
+opens_still (indirect_branch rn targets) s = refl
+opens_still (jump_table ridx default mask targets) s = refl
+opens_still (calling link dest uses defs terms) s = refl
+opens_still (tail_calling dest uses pop) s = refl
+opens_still (arguments xs) s = refl
+opens_still (results xs) s = refl
+opens_still (opening mask) s = refl
+opens_still closing s = refl
+
+-- the answer for an instruction that is no loop
+pub given_other : {E : Type 0} (i : Inst) (r : Result Inst E) (s₀ s₁ : List Reg) → ((m : ℕ) (v : Vec Inst Global) → i ≡ V.Loop m v → ⊥) → IfOk r (λ j. IsPortion (portion_at (first_portion i) s₀) j s₁) → IfOk r (λ j. ArePortions (assigned (portions i) s₀) (portions j) s₁)
+given_other i (Ok j) s₀ s₁ h same =
+    let a : opens (first_portion j) ≡ false = sym (ap (λ p. opens p.0) same) ∙ opens_still (first_portion i) s₀ ∙ opens_no_loop i h in
+    ap (λ ps. assigned ps s₀) (one_portion i (opens_no_loop i h)) ∙ ap (λ p. (p.0 ∷ [], p.1)) same ∙ ap (λ ps. (ps, s₁)) (sym (one_portion j a))
+given_other i (Err e) s₀ s₁ h same = tt
+
+each_append : (xs ys : List Portion) (s : List Reg) → each_at portion_at (xs ++ ys) s ≡ ((each_at portion_at xs s).0 ++ (each_at portion_at ys (each_at portion_at xs s).1).0, (each_at portion_at ys (each_at portion_at xs s).1).1)
+each_append [] ys s = refl
+each_append (x ∷ xs) ys s = ap (λ p. ((portion_at x s).0 ∷ p.0, p.1)) (each_append xs ys (portion_at x s).1)
+
+-- a loop, from its members
+pub given_loop : (i : Inst) (mask : ℕ) (v w : Vec Inst Global) (ms : List Inst) (s₀ s₁ : List Reg) → i ≡ V.Loop mask v → ms ≡ v.items → ArePortions (assigned (members_portions ms) s₀) (members_portions w.items) s₁ → ArePortions (assigned (portions i) s₀) (portions (V.Loop mask w)) s₁
+given_loop i mask v w ms s₀ s₁ is at h =
+    ap (λ ps. assigned ps s₀) (loop_portions i mask v is ∙ ap (λ xs. opening mask ∷ (members_portions xs ++ closing ∷ [])) (sym at))
+    ∙ ap (λ p. (opening mask ∷ p.0, p.1)) (each_append (members_portions ms) (closing ∷ []) s₀)
+    ∙ ap (λ p. (opening mask ∷ (p.0 ++ closing ∷ []), p.1)) h
+    ∙ ap (λ ps. (ps, s₁)) (sym (loop_portions (V.Loop mask w) mask w refl))
+
+append_assoc : (xs ys zs : List Portion) → (xs ++ ys) ++ zs ≡ xs ++ (ys ++ zs)
+append_assoc [] ys zs = refl
+append_assoc (x ∷ xs) ys zs = ap (λ t. x ∷ t) (append_assoc xs ys zs)
+
+members_append : (xs ys : List Inst) → members_portions (xs ++ ys) ≡ members_portions xs ++ members_portions ys
+members_append [] ys = refl
+members_append (i ∷ is) ys = ap (λ t. portions i ++ t) (members_append is ys) ∙ sym (append_assoc (portions i) (members_portions is) (members_portions ys))
+
+-- the registers of the members behind one
+members_behind : (is : List Inst) (k : ℕ) (i j : Inst) (s₀ s₁ : List Reg) → k < length is → i ≡ get_or is k i → ArePortions (assigned (portions i) s₀) (portions j) s₁ → assigned (members_portions (drop k is)) s₀ ≡ (portions j ++ (assigned (members_portions (drop (k + 1) is)) s₁).0, (assigned (members_portions (drop (k + 1) is)) s₁).1)
+members_behind is k i j s₀ s₁ lt at h =
+    ap (λ xs. assigned (members_portions xs) s₀) (cons_of is k i lt at)
+    ∙ each_append (portions i) (members_portions (drop (k + 1) is)) s₀
+    ∙ ap (λ p. (p.0 ++ (assigned (members_portions (drop (k + 1) is)) p.1).0, (assigned (members_portions (drop (k + 1) is)) p.1).1)) h
+
+-- one more member has its registers
+pub member_given : (is done after : List Inst) (k : ℕ) (i j : Inst) (s₀ s₁ : List Reg) (t : List Portion) → k < length is → i ≡ get_or is k i → ArePortions (assigned (portions i) s₀) (portions j) s₁ → after ≡ done ++ j ∷ [] → members_portions done ++ (assigned (members_portions (drop k is)) s₀).0 ≡ t → members_portions after ++ (assigned (members_portions (drop (k + 1) is)) s₁).0 ≡ t
+member_given is done after k i j s₀ s₁ t lt at h pushed before =
+    let rest : List Portion = (assigned (members_portions (drop (k + 1) is)) s₁).0 in
+    ap (λ l. members_portions l ++ rest) pushed
+    ∙ ap (λ l. l ++ rest) (members_append done (j ∷ []) ∙ ap (λ l. members_portions done ++ l) (append_nil (portions j)))
+    ∙ append_assoc (members_portions done) (portions j) rest
+    ∙ ap (λ p. members_portions done ++ p.0) (sym (members_behind is k i j s₀ s₁ lt at h))
+    ∙ before
+
+pub member_left : (is : List Inst) (k : ℕ) (i j : Inst) (s₀ s₁ t : List Reg) → k < length is → i ≡ get_or is k i → ArePortions (assigned (portions i) s₀) (portions j) s₁ → (assigned (members_portions (drop k is)) s₀).1 ≡ t → (assigned (members_portions (drop (k + 1) is)) s₁).1 ≡ t
+member_left is k i j s₀ s₁ t lt at h before = ap (λ p. p.1) (sym (members_behind is k i j s₀ s₁ lt at h)) ∙ before
+
+-- all members have their registers
+pub members_given : (is done : List Inst) (k : ℕ) (s : List Reg) (x : List Portion × List Reg) → length is ≤ k → members_portions done ++ (assigned (members_portions (drop k is)) s).0 ≡ x.0 → (assigned (members_portions (drop k is)) s).1 ≡ x.1 → ArePortions x (members_portions done) s
+members_given is done k s x le value left =
+    let none : drop k is ≡ [] = drop_all k is le in
+    let a : members_portions done ≡ x.0 = sym (append_nil (members_portions done)) ∙ sym (ap (λ xs. members_portions done ++ (assigned (members_portions xs) s).0) none) ∙ value in
+    let b : s ≡ x.1 = sym (ap (λ xs. (assigned (members_portions xs) s).1) none) ∙ left in
+    ap (λ p. (p, x.1)) (sym a) ∙ ap (λ q. (members_portions done, q)) (sym b)
