@@ -1,0 +1,404 @@
+-- For which instructions it suffices that an allocator's registers meet the constraints.
+use Rattle.std.specs.Prelude.{◌≡◌, ℕ, ◌<◌, List, [], ◌∷◌, Option, Some, None, ◌⊎◌, ⊤}
+use Rattle.std.specs.List.{All}
+use Rattle.s390x_base.specs.Registers.{IsRegister, general}
+use Rattle.s390x_base.specs.declared.error.EmitError.{EmitError}
+use Rattle.s390x_base.specs.declared.error.EmitError.TheVariants.{BadRegister, ScratchConflict}
+use Rattle.s390x_base.specs.declared.regs.Reg.{Reg}
+use Rattle.s390x_base.specs.declared.regs.Reg.TheVariants.{Real, Virtual}
+use Rattle.s390x_inst.specs.Emission.{Emission}
+use Rattle.s390x_inst.specs.Portions.{portions}
+use Rattle.s390x_inst.specs.declared.args.MemArg.{MemArg}
+use Rattle.s390x_inst.specs.declared.args.MemArg.TheVariants.{BXD12, BXD20, RegOffset}
+use Rattle.s390x_inst.specs.declared.calls.ArgPair.{ArgPair}
+use Rattle.s390x_inst.specs.declared.calls.RetPair.{RetPair}
+use Rattle.s390x_inst.specs.declared.inst.Inst.{Inst}
+use Rattle.s390x_inst.specs.declared.inst.Inst.TheVariants.{IndirectBr, JTSequence, Call, ReturnCall, LoadSymbolReloc, LabelAddress, Args, Rets, DummyUse, Vector, Load32, Load32ZExt8, Load32SExt8, Load32ZExt16}
+use Rattle.s390x_inst.specs.declared.inst.Inst.TheVariants.{Load32SExt16, Load64, Load64ZExt8, Load64SExt8, Load64ZExt16, Load64SExt16, Load64ZExt32, Load64SExt32, LoadRev16, LoadRev32, LoadRev64, Store8, Store16, Store32}
+use Rattle.s390x_inst.specs.declared.inst.Inst.TheVariants.{Store64, StoreRev16, StoreRev32, StoreRev64, StoreImm8, StoreImm16, StoreImm32SExt16, StoreImm64SExt16, LoadMultiple64, StoreMultiple64, LoadAddr, LoadIndexedAddr, LoadLogicalIndexedAddr, AtomicRmw}
+use Rattle.s390x_inst.specs.declared.inst.Inst.TheVariants.{AtomicCas32, AtomicCas64, Mov64, MovPReg, Mov32, Mov32Imm, Mov32SImm16, Mov64SImm16, Mov64SImm32, Mov64UImm16Shifted, Mov64UImm32Shifted, Insert64UImm16Shifted, Insert64UImm32Shifted, CMov32}
+use Rattle.s390x_inst.specs.declared.inst.Inst.TheVariants.{CMov64, CMov32SImm16, CMov64SImm16, Extend, LoadAR, InsertAR, AluRRR, AluRRSImm16, AluRR, AluRX, AluRSImm16, AluRSImm32, AluRUImm32, AluRUImm16Shifted}
+use Rattle.s390x_inst.specs.declared.inst.Inst.TheVariants.{AluRUImm32Shifted, SMulWide, UMulWide, SDivMod32, SDivMod64, UDivMod32, UDivMod64, Flogr, ShiftRR, RxSBG, RxSBGTest, UnaryRR, CmpRR, CmpRX}
+use Rattle.s390x_inst.specs.declared.inst.Inst.TheVariants.{CmpRSImm16, CmpRSImm32, CmpRUImm32, CmpTrapRR, CmpTrapRSImm16, CmpTrapRUImm16, Jump, CondBr, CondBreak, Nop0, Nop2, Fence, Trap, TrapIf}
+use Rattle.s390x_inst.specs.declared.inst.Inst.TheVariants.{Debugtrap, SequencePoint}
+use Rattle.s390x_inst.specs.declared.state.IsaFlags.{IsaFlags}
+use Rattle.s390x_inst.specs.declared.vec_inst.VecInst.{VecInst}
+use Rattle.s390x_inst.specs.declared.vec_inst.VecInst.TheVariants.{VecRRR, VecRR, VecShiftRR, VecSelect, VecPermute, VecBlend, VecEvaluate, VecPermuteDWImm, VecIntCmp, VecIntCmpS, VecIntEltCmp, VecInt128SCmpHi, VecInt128UCmpHi, VecMov}
+use Rattle.s390x_inst.specs.declared.vec_inst.VecInst.TheVariants.{FpuMove32, FpuMove64, FpuCMov32, FpuCMov64, VecCMov, MovToVec128, VecImmByteMask, VecImmBitMask, VecImmReplicate, VecInsertLane, VecInsertLaneUndef, VecExtractLane, VecInsertLaneImm, VecInsertLaneImmUndef}
+use Rattle.s390x_inst.specs.declared.vec_inst.VecInst.TheVariants.{VecReplicateLane, VecEltRev, VecLoad, VecLoadRev, VecLoadByte16Rev, VecLoadByte32Rev, VecLoadByte64Rev, VecLoadElt16Rev, VecLoadElt32Rev, VecLoadElt64Rev, VecStore, VecStoreRev, VecStoreByte16Rev, VecStoreByte32Rev}
+use Rattle.s390x_inst.specs.declared.vec_inst.VecInst.TheVariants.{VecStoreByte64Rev, VecStoreElt16Rev, VecStoreElt32Rev, VecStoreElt64Rev, VecLoadReplicate, VecLoadReplicateRev, VecLoadLane, VecLoadLaneRev, VecLoadLaneUndef, VecLoadLaneRevUndef, VecStoreLane, VecStoreLaneRev}
+use Rattle.s390x_operands.specs.Meets.{Meets}
+use Rattle.s390x_operands.specs.Operands.{operands}
+use Rattle.s390x_operands.specs.declared.constraint.Reported.{Reported}
+use Rattle.s390x_operands.specs.declared.constraint.Reported.TheVariants.{Operand}
+use Rattle.s390x_assign.specs.Assignments.{assigned}
+use Rattle.s390x_typed_steps.specs.Causes.{Declared, instruction_cause}
+use Rattle.s390x_typed_steps.specs.Resolved.{resolved_instruction}
+
+-- ---- which of its registers may be real
+
+abbrev pub IsVirtual : Reg → Type 0
+IsVirtual (Real p) = ⊥
+IsVirtual (Virtual n class) = ⊤
+
+-- a base, an index, or the register of a shift or of a lane may be %r0 or %r15 too
+abbrev pub MayAddress : Reg → Type 0
+MayAddress (Real p) = (p ≡ general 0) ⊎ (p ≡ general 15)
+MayAddress (Virtual n class) = ⊤
+
+-- an operand that is fixed to a register may be real, but not %r1
+abbrev pub IsNotScratch : Reg → Type 0
+IsNotScratch (Real p) = p ≡ general 1 → ⊥
+IsNotScratch (Virtual n class) = ⊤
+
+abbrev pub MemoryMayStand : MemArg → Type 0
+MemoryMayStand (BXD12 base index disp flags) = MayAddress base × MayAddress index
+MemoryMayStand (BXD20 base index disp flags) = MayAddress base × MayAddress index
+MemoryMayStand (RegOffset reg off flags) = MayAddress reg
+MemoryMayStand mem = ⊤
+
+-- the place of an argument or a result is a real register, and not %r1
+abbrev pub IsPlace : Reg → Type 0
+IsPlace (Real p) = p ≡ general 1 → ⊥
+IsPlace (Virtual n class) = ⊥
+
+abbrev pub MayTakeIn : ArgPair → Type 0
+MayTakeIn x = IsPlace x.preg × IsNotScratch x.vreg
+
+abbrev pub MayHandBack : RetPair → Type 0
+MayHandBack x = IsPlace x.preg × IsNotScratch x.vreg
+
+-- a range of real registers without %r1
+abbrev pub IsFreeRange : Reg → Reg → Type 0
+IsFreeRange (Real p) (Real q) = (1 < p.number) ⊎ (q.number < 1)
+IsFreeRange first last = ⊥
+
+abbrev pub VectorMayStand : VecInst → Type 0
+VectorMayStand (VecRRR op rd rn rm) = IsVirtual rd × IsVirtual rn × IsVirtual rm
+VectorMayStand (VecRR op rd rn) = IsVirtual rd × IsVirtual rn
+VectorMayStand (VecShiftRR shift_op rd rn shift_imm shift_reg) = IsVirtual rd × IsVirtual rn × MayAddress shift_reg
+VectorMayStand (VecSelect rd rn rm ra) = IsVirtual rd × IsVirtual rn × IsVirtual rm × IsVirtual ra
+VectorMayStand (VecPermute rd rn rm ra) = IsVirtual rd × IsVirtual rn × IsVirtual rm × IsVirtual ra
+VectorMayStand (VecBlend rd rn rm ra) = IsVirtual rd × IsVirtual rn × IsVirtual rm × IsVirtual ra
+VectorMayStand (VecEvaluate imm rd rn rm ra) = IsVirtual rd × IsVirtual rn × IsVirtual rm × IsVirtual ra
+VectorMayStand (VecPermuteDWImm rd rn rm idx1 idx2) = IsVirtual rd × IsVirtual rn × IsVirtual rm
+VectorMayStand (VecIntCmp op rd rn rm) = IsVirtual rd × IsVirtual rn × IsVirtual rm
+VectorMayStand (VecIntCmpS op rd rn rm) = IsVirtual rd × IsVirtual rn × IsVirtual rm
+VectorMayStand (VecIntEltCmp op rn rm) = IsVirtual rn × IsVirtual rm
+VectorMayStand (VecInt128SCmpHi tmp rn rm) = IsVirtual tmp × IsVirtual rn × IsVirtual rm
+VectorMayStand (VecInt128UCmpHi tmp rn rm) = IsVirtual tmp × IsVirtual rn × IsVirtual rm
+VectorMayStand (VecMov rd rn) = IsVirtual rd × IsVirtual rn
+VectorMayStand (FpuMove32 rd rn) = IsVirtual rd × IsVirtual rn
+VectorMayStand (FpuMove64 rd rn) = IsVirtual rd × IsVirtual rn
+VectorMayStand (FpuCMov32 rd cond ri rm) = IsVirtual rd × IsVirtual ri × IsVirtual rm
+VectorMayStand (FpuCMov64 rd cond ri rm) = IsVirtual rd × IsVirtual ri × IsVirtual rm
+VectorMayStand (VecCMov rd cond ri rm) = IsVirtual rd × IsVirtual ri × IsVirtual rm
+VectorMayStand (MovToVec128 rd rn rm) = IsVirtual rd × IsVirtual rn × IsVirtual rm
+VectorMayStand (VecImmByteMask rd mask) = IsVirtual rd
+VectorMayStand (VecImmBitMask size rd start_bit end_bit) = IsVirtual rd
+VectorMayStand (VecImmReplicate size rd imm) = IsVirtual rd
+VectorMayStand (VecInsertLane size rd ri rn lane_imm lane_reg) = IsVirtual rd × IsVirtual ri × IsVirtual rn × MayAddress lane_reg
+VectorMayStand (VecInsertLaneUndef size rd rn lane_imm lane_reg) = IsVirtual rd × IsVirtual rn × MayAddress lane_reg
+VectorMayStand (VecExtractLane size rd rn lane_imm lane_reg) = IsVirtual rd × IsVirtual rn × MayAddress lane_reg
+VectorMayStand (VecInsertLaneImm size rd ri imm lane_imm) = IsVirtual rd × IsVirtual ri
+VectorMayStand (VecInsertLaneImmUndef size rd imm lane_imm) = IsVirtual rd
+VectorMayStand (VecReplicateLane size rd rn lane_imm) = IsVirtual rd × IsVirtual rn
+VectorMayStand (VecEltRev lane_count rd rn) = IsVirtual rd × IsVirtual rn
+VectorMayStand (VecLoad rd mem) = IsVirtual rd × MemoryMayStand mem
+VectorMayStand (VecLoadRev rd mem) = IsVirtual rd × MemoryMayStand mem
+VectorMayStand (VecLoadByte16Rev rd mem) = IsVirtual rd × MemoryMayStand mem
+VectorMayStand (VecLoadByte32Rev rd mem) = IsVirtual rd × MemoryMayStand mem
+VectorMayStand (VecLoadByte64Rev rd mem) = IsVirtual rd × MemoryMayStand mem
+VectorMayStand (VecLoadElt16Rev rd mem) = IsVirtual rd × MemoryMayStand mem
+VectorMayStand (VecLoadElt32Rev rd mem) = IsVirtual rd × MemoryMayStand mem
+VectorMayStand (VecLoadElt64Rev rd mem) = IsVirtual rd × MemoryMayStand mem
+VectorMayStand (VecStore rd mem) = IsVirtual rd × MemoryMayStand mem
+VectorMayStand (VecStoreRev rd mem) = IsVirtual rd × MemoryMayStand mem
+VectorMayStand (VecStoreByte16Rev rd mem) = IsVirtual rd × MemoryMayStand mem
+VectorMayStand (VecStoreByte32Rev rd mem) = IsVirtual rd × MemoryMayStand mem
+VectorMayStand (VecStoreByte64Rev rd mem) = IsVirtual rd × MemoryMayStand mem
+VectorMayStand (VecStoreElt16Rev rd mem) = IsVirtual rd × MemoryMayStand mem
+VectorMayStand (VecStoreElt32Rev rd mem) = IsVirtual rd × MemoryMayStand mem
+VectorMayStand (VecStoreElt64Rev rd mem) = IsVirtual rd × MemoryMayStand mem
+VectorMayStand (VecLoadReplicate size rd mem) = IsVirtual rd × MemoryMayStand mem
+VectorMayStand (VecLoadReplicateRev size rd mem) = IsVirtual rd × MemoryMayStand mem
+VectorMayStand (VecLoadLane size rd ri mem lane_imm) = IsVirtual rd × IsVirtual ri × MemoryMayStand mem
+VectorMayStand (VecLoadLaneRev size rd ri mem lane_imm) = IsVirtual rd × IsVirtual ri × MemoryMayStand mem
+VectorMayStand (VecLoadLaneUndef size rd mem lane_imm) = IsVirtual rd × MemoryMayStand mem
+VectorMayStand (VecLoadLaneRevUndef size rd mem lane_imm) = IsVirtual rd × MemoryMayStand mem
+VectorMayStand (VecStoreLane size rd mem lane_imm) = IsVirtual rd × MemoryMayStand mem
+VectorMayStand (VecStoreLaneRev size rd mem lane_imm) = IsVirtual rd × MemoryMayStand mem
+
+-- All other registers are virtual. A `Loop`, a call and an allocation of arguments aren't meant, and the register of a `Ret` isn't reported.
+abbrev pub MayStand : Inst → Type 0
+MayStand (IndirectBr rn targets) = IsVirtual rn
+MayStand (JTSequence ridx default default_cond targets) = IsVirtual ridx
+MayStand (Call link info) = ⊥
+MayStand (ReturnCall info) = ⊥
+MayStand (LoadSymbolReloc rd symbol_reloc) = IsVirtual rd
+MayStand (LabelAddress dst label) = IsVirtual dst
+MayStand (Args args) = All MayTakeIn args.items
+MayStand (Rets rets) = All MayHandBack rets.items
+MayStand (DummyUse reg) = IsVirtual reg
+MayStand (Vector v) = VectorMayStand v
+MayStand (Load32 rd mem) = IsVirtual rd × MemoryMayStand mem
+MayStand (Load32ZExt8 rd mem) = IsVirtual rd × MemoryMayStand mem
+MayStand (Load32SExt8 rd mem) = IsVirtual rd × MemoryMayStand mem
+MayStand (Load32ZExt16 rd mem) = IsVirtual rd × MemoryMayStand mem
+MayStand (Load32SExt16 rd mem) = IsVirtual rd × MemoryMayStand mem
+MayStand (Load64 rd mem) = IsVirtual rd × MemoryMayStand mem
+MayStand (Load64ZExt8 rd mem) = IsVirtual rd × MemoryMayStand mem
+MayStand (Load64SExt8 rd mem) = IsVirtual rd × MemoryMayStand mem
+MayStand (Load64ZExt16 rd mem) = IsVirtual rd × MemoryMayStand mem
+MayStand (Load64SExt16 rd mem) = IsVirtual rd × MemoryMayStand mem
+MayStand (Load64ZExt32 rd mem) = IsVirtual rd × MemoryMayStand mem
+MayStand (Load64SExt32 rd mem) = IsVirtual rd × MemoryMayStand mem
+MayStand (LoadRev16 rd mem) = IsVirtual rd × MemoryMayStand mem
+MayStand (LoadRev32 rd mem) = IsVirtual rd × MemoryMayStand mem
+MayStand (LoadRev64 rd mem) = IsVirtual rd × MemoryMayStand mem
+MayStand (Store8 rd mem) = IsVirtual rd × MemoryMayStand mem
+MayStand (Store16 rd mem) = IsVirtual rd × MemoryMayStand mem
+MayStand (Store32 rd mem) = IsVirtual rd × MemoryMayStand mem
+MayStand (Store64 rd mem) = IsVirtual rd × MemoryMayStand mem
+MayStand (StoreRev16 rd mem) = IsVirtual rd × MemoryMayStand mem
+MayStand (StoreRev32 rd mem) = IsVirtual rd × MemoryMayStand mem
+MayStand (StoreRev64 rd mem) = IsVirtual rd × MemoryMayStand mem
+MayStand (StoreImm8 imm mem) = MemoryMayStand mem
+MayStand (StoreImm16 imm mem) = MemoryMayStand mem
+MayStand (StoreImm32SExt16 imm mem) = MemoryMayStand mem
+MayStand (StoreImm64SExt16 imm mem) = MemoryMayStand mem
+MayStand (LoadMultiple64 rt rt2 mem) = IsFreeRange rt rt2 × MemoryMayStand mem
+MayStand (StoreMultiple64 rt rt2 mem) = IsFreeRange rt rt2 × MemoryMayStand mem
+MayStand (LoadAddr rd mem) = IsVirtual rd × MemoryMayStand mem
+MayStand (LoadIndexedAddr rd base index offset size) = IsVirtual rd × MayAddress base × MayAddress index
+MayStand (LoadLogicalIndexedAddr rd base index offset size) = IsVirtual rd × MayAddress base × MayAddress index
+MayStand (AtomicRmw alu_op rd rn mem) = IsVirtual rd × IsVirtual rn × MemoryMayStand mem
+MayStand (AtomicCas32 rd ri rn mem) = IsVirtual rd × IsVirtual ri × IsVirtual rn × MemoryMayStand mem
+MayStand (AtomicCas64 rd ri rn mem) = IsVirtual rd × IsVirtual ri × IsVirtual rn × MemoryMayStand mem
+MayStand (Mov64 rd rm) = IsVirtual rd × IsVirtual rm
+MayStand (MovPReg rd rm) = IsVirtual rd × (rm ≡ general 1 → ⊥)
+MayStand (Mov32 rd rm) = IsVirtual rd × IsVirtual rm
+MayStand (Mov32Imm rd imm) = IsVirtual rd
+MayStand (Mov32SImm16 rd imm) = IsVirtual rd
+MayStand (Mov64SImm16 rd imm) = IsVirtual rd
+MayStand (Mov64SImm32 rd imm) = IsVirtual rd
+MayStand (Mov64UImm16Shifted rd imm) = IsVirtual rd
+MayStand (Mov64UImm32Shifted rd imm) = IsVirtual rd
+MayStand (Insert64UImm16Shifted rd ri imm) = IsVirtual rd × IsVirtual ri
+MayStand (Insert64UImm32Shifted rd ri imm) = IsVirtual rd × IsVirtual ri
+MayStand (CMov32 rd cond ri rm) = IsVirtual rd × IsVirtual ri × IsVirtual rm
+MayStand (CMov64 rd cond ri rm) = IsVirtual rd × IsVirtual ri × IsVirtual rm
+MayStand (CMov32SImm16 rd cond ri imm) = IsVirtual rd × IsVirtual ri
+MayStand (CMov64SImm16 rd cond ri imm) = IsVirtual rd × IsVirtual ri
+MayStand (Extend rd rn signed from_bits to_bits) = IsVirtual rd × IsVirtual rn
+MayStand (LoadAR rd ar) = IsVirtual rd
+MayStand (InsertAR rd ri ar) = IsVirtual rd × IsVirtual ri
+MayStand (AluRRR alu_op rd rn rm) = IsVirtual rd × IsVirtual rn × IsVirtual rm
+MayStand (AluRRSImm16 alu_op rd rn imm) = IsVirtual rd × IsVirtual rn
+MayStand (AluRR alu_op rd ri rm) = IsVirtual rd × IsVirtual ri × IsVirtual rm
+MayStand (AluRX alu_op rd ri mem) = IsVirtual rd × IsVirtual ri × MemoryMayStand mem
+MayStand (AluRSImm16 alu_op rd ri imm) = IsVirtual rd × IsVirtual ri
+MayStand (AluRSImm32 alu_op rd ri imm) = IsVirtual rd × IsVirtual ri
+MayStand (AluRUImm32 alu_op rd ri imm) = IsVirtual rd × IsVirtual ri
+MayStand (AluRUImm16Shifted alu_op rd ri imm) = IsVirtual rd × IsVirtual ri
+MayStand (AluRUImm32Shifted alu_op rd ri imm) = IsVirtual rd × IsVirtual ri
+MayStand (SMulWide rd rn rm) = IsVirtual rn × IsVirtual rm × IsNotScratch rd.hi × IsNotScratch rd.lo
+MayStand (UMulWide rd ri rn) = IsVirtual rn × IsNotScratch rd.hi × IsNotScratch rd.lo × IsNotScratch ri
+MayStand (SDivMod32 rd ri rn) = IsVirtual rn × IsNotScratch rd.hi × IsNotScratch rd.lo × IsNotScratch ri
+MayStand (SDivMod64 rd ri rn) = IsVirtual rn × IsNotScratch rd.hi × IsNotScratch rd.lo × IsNotScratch ri
+MayStand (UDivMod32 rd ri rn) = IsVirtual rn × IsNotScratch rd.hi × IsNotScratch rd.lo × IsNotScratch ri.hi × IsNotScratch ri.lo
+MayStand (UDivMod64 rd ri rn) = IsVirtual rn × IsNotScratch rd.hi × IsNotScratch rd.lo × IsNotScratch ri.hi × IsNotScratch ri.lo
+MayStand (Flogr rd rn) = IsVirtual rn × IsNotScratch rd.hi × IsNotScratch rd.lo
+MayStand (ShiftRR shift_op rd rn shift_imm shift_reg) = IsVirtual rd × IsVirtual rn × MayAddress shift_reg
+MayStand (RxSBG op rd ri rn start_bit end_bit rotate_amt) = IsVirtual rd × IsVirtual ri × IsVirtual rn
+MayStand (RxSBGTest op rd rn start_bit end_bit rotate_amt) = IsVirtual rd × IsVirtual rn
+MayStand (UnaryRR op rd rn) = IsVirtual rd × IsVirtual rn
+MayStand (CmpRR op rn rm) = IsVirtual rn × IsVirtual rm
+MayStand (CmpRX op rn mem) = IsVirtual rn × MemoryMayStand mem
+MayStand (CmpRSImm16 op rn imm) = IsVirtual rn
+MayStand (CmpRSImm32 op rn imm) = IsVirtual rn
+MayStand (CmpRUImm32 op rn imm) = IsVirtual rn
+MayStand (CmpTrapRR op rn rm cond trap_code) = IsVirtual rn × IsVirtual rm
+MayStand (CmpTrapRSImm16 op rn imm cond trap_code) = IsVirtual rn
+MayStand (CmpTrapRUImm16 op rn imm cond trap_code) = IsVirtual rn
+MayStand (Jump dest) = ⊤
+MayStand (CondBr taken not_taken mask) = ⊤
+MayStand (CondBreak mask) = ⊤
+MayStand Nop0 = ⊤
+MayStand Nop2 = ⊤
+MayStand Fence = ⊤
+MayStand (Trap code) = ⊤
+MayStand (TrapIf mask code) = ⊤
+MayStand Debugtrap = ⊤
+MayStand SequencePoint = ⊤
+MayStand i = ⊥
+
+-- ---- what an allocator may give
+
+-- a register that exists, other than %r0, %r1 and %r15
+abbrev pub IsOrdinary : Reg → Type 0
+IsOrdinary (Real p) = IsRegister p × (p ≡ general 0 → ⊥) × (p ≡ general 1 → ⊥) × (p ≡ general 15 → ⊥)
+IsOrdinary (Virtual n class) = ⊥
+
+-- each virtual operand is given such a register
+abbrev pub Spares : List Reported → List Reg → Type 0
+Spares [] s = ⊤
+Spares (Operand (Virtual n class) constraint kind pos ∷ xs) (q ∷ s) = IsOrdinary q × Spares xs s
+Spares (Operand (Real p) constraint kind pos ∷ xs) (q ∷ s) = Spares xs s
+Spares (Operand reg constraint kind pos ∷ xs) [] = ⊥
+Spares (x ∷ xs) s = Spares xs s
+
+-- ---- why emission refuses
+
+-- where an instruction is emitted
+pub record Place : Type 0 where
+  pub flags : IsaFlags
+  pub declared : Declared
+  -- inside so many loops
+  pub depth : ℕ
+  pub state : Emission
+
+-- the first cause by which it is refused there
+abbrev pub refusal : Place → Inst → Option EmitError
+refusal P i = instruction_cause P.flags P.declared P.state.nominal P.depth (resolved_instruction P.state i)
+
+-- one instruction is another with these registers
+abbrev pub IsAssigned : Inst → List Reg → Inst → Type 0
+IsAssigned i regs j = portions j ≡ (assigned (portions i) regs).0
+
+-- some registers that meet the constraints give an instruction that isn't refused, so that an instruction has no cause but its virtual registers
+pub record IsPossible (P : Place) (i : Inst) : Type 0 where
+  pub registers : List Reg
+  pub meet : Meets (operands i) registers
+  pub instruction : Inst
+  pub assigned : IsAssigned i registers instruction
+  pub unrefused : refusal P instruction ≡ None
+
+-- an instruction for which it suffices that the constraints are met
+pub record IsAllocatable (P : Place) (i : Inst) : Type 0 where
+  pub stands : MayStand i
+  pub possible : IsPossible P i
+
+-- neither of these causes
+abbrev pub IsNotBlamed : Option EmitError → Type 0
+IsNotBlamed cause = (cause ≡ Some BadRegister → ⊥) × (cause ≡ Some ScratchConflict → ⊥)
+
+-- its registers are no cause of refusal, whichever meet the constraints
+abbrev pub AssignmentsSuffice : Place → Inst → Type 0
+AssignmentsSuffice P i = (registers : List Reg) (j : Inst) → Meets (operands i) registers → Spares (operands i) registers → IsAssigned i registers j → IsNotBlamed (refusal P j)
+
+-- ---- where this is proved
+
+-- the instructions that are one machine instruction by registers of these shapes
+abbrev pub IsWork : Inst → Type 0
+IsWork (LoadIndexedAddr rd base index offset size) = ⊤
+IsWork (LoadLogicalIndexedAddr rd base index offset size) = ⊤
+IsWork (Mov64 rd rm) = ⊤
+IsWork (Mov32 rd rm) = ⊤
+IsWork (Mov32Imm rd imm) = ⊤
+IsWork (Mov32SImm16 rd imm) = ⊤
+IsWork (Mov64SImm16 rd imm) = ⊤
+IsWork (Mov64SImm32 rd imm) = ⊤
+IsWork (Mov64UImm16Shifted rd imm) = ⊤
+IsWork (Mov64UImm32Shifted rd imm) = ⊤
+IsWork (Insert64UImm16Shifted rd ri imm) = ⊤
+IsWork (Insert64UImm32Shifted rd ri imm) = ⊤
+IsWork (CMov32 rd mask ri rm) = ⊤
+IsWork (CMov64 rd mask ri rm) = ⊤
+IsWork (CMov32SImm16 rd mask ri imm) = ⊤
+IsWork (CMov64SImm16 rd mask ri imm) = ⊤
+IsWork (Extend rd rn signed from to) = ⊤
+IsWork (AluRRR op rd rn rm) = ⊤
+IsWork (AluRRSImm16 op rd rn imm) = ⊤
+IsWork (AluRR op rd ri rm) = ⊤
+IsWork (AluRSImm16 op rd ri imm) = ⊤
+IsWork (AluRSImm32 op rd ri imm) = ⊤
+IsWork (AluRUImm32 op rd ri imm) = ⊤
+IsWork (AluRUImm16Shifted op rd ri imm) = ⊤
+IsWork (AluRUImm32Shifted op rd ri imm) = ⊤
+IsWork (ShiftRR op rd rn amount register) = ⊤
+IsWork (RxSBG op rd ri rn start end amount) = ⊤
+IsWork (RxSBGTest op rd rn start end amount) = ⊤
+IsWork (UnaryRR op rd rn) = ⊤
+IsWork (CmpRR op rn rm) = ⊤
+IsWork (CmpRSImm16 op rn imm) = ⊤
+IsWork (CmpRSImm32 op rn imm) = ⊤
+IsWork (CmpRUImm32 op rn imm) = ⊤
+IsWork (CmpTrapRR op rn rm mask code) = ⊤
+IsWork (CmpTrapRSImm16 op rn imm mask code) = ⊤
+IsWork (CmpTrapRUImm16 op rn imm mask code) = ⊤
+IsWork (LoadAR rd ar) = ⊤
+IsWork (InsertAR rd ri ar) = ⊤
+IsWork (MovPReg rd rm) = ⊤
+IsWork (SMulWide rd rn rm) = ⊤
+IsWork (Flogr rd rn) = ⊤
+IsWork (UMulWide rd ri rn) = ⊤
+IsWork (SDivMod32 rd ri rn) = ⊤
+IsWork (SDivMod64 rd ri rn) = ⊤
+IsWork (UDivMod32 rd ri rn) = ⊤
+IsWork (UDivMod64 rd ri rn) = ⊤
+IsWork (Vector (VecRRR op rd rn rm)) = ⊤
+IsWork (Vector (VecRR op rd rn)) = ⊤
+IsWork (Vector (VecShiftRR op rd rn amount register)) = ⊤
+IsWork (Vector (VecSelect rd rn rm ra)) = ⊤
+IsWork (Vector (VecPermute rd rn rm ra)) = ⊤
+IsWork (Vector (VecBlend rd rn rm ra)) = ⊤
+IsWork (Vector (VecEvaluate imm rd rn rm ra)) = ⊤
+IsWork (Vector (VecPermuteDWImm rd rn rm first second)) = ⊤
+IsWork (Vector (VecIntCmp op rd rn rm)) = ⊤
+IsWork (Vector (VecIntCmpS op rd rn rm)) = ⊤
+IsWork (Vector (VecIntEltCmp op rn rm)) = ⊤
+IsWork (Vector (VecMov rd rn)) = ⊤
+IsWork (Vector (FpuMove32 rd rn)) = ⊤
+IsWork (Vector (FpuMove64 rd rn)) = ⊤
+IsWork (Vector (MovToVec128 rd rn rm)) = ⊤
+IsWork (Vector (VecImmByteMask rd mask)) = ⊤
+IsWork (Vector (VecImmBitMask size rd start end)) = ⊤
+IsWork (Vector (VecImmReplicate size rd imm)) = ⊤
+IsWork (Vector (VecInsertLaneUndef size rd rn lane base)) = ⊤
+IsWork (Vector (VecExtractLane size rd rn lane base)) = ⊤
+IsWork (Vector (VecInsertLaneImmUndef size rd imm lane)) = ⊤
+IsWork (Vector (VecReplicateLane size rd rn lane)) = ⊤
+IsWork (AluRX op rd ri mem) = ⊤
+IsWork (AtomicCas32 rd ri rn mem) = ⊤
+IsWork (AtomicCas64 rd ri rn mem) = ⊤
+IsWork (Jump dest) = ⊤
+IsWork (CondBr taken not_taken mask) = ⊤
+IsWork (CondBreak mask) = ⊤
+IsWork Nop0 = ⊤
+IsWork Nop2 = ⊤
+IsWork Fence = ⊤
+IsWork (Trap code) = ⊤
+IsWork (TrapIf mask code) = ⊤
+IsWork Debugtrap = ⊤
+IsWork SequencePoint = ⊤
+IsWork (DummyUse reg) = ⊤
+IsWork (CmpRX op rn mem) = ⊤
+IsWork (Load32 rd mem) = ⊤
+IsWork (Load32ZExt8 rd mem) = ⊤
+IsWork (Load32SExt8 rd mem) = ⊤
+IsWork (Load32ZExt16 rd mem) = ⊤
+IsWork (Load32SExt16 rd mem) = ⊤
+IsWork (Load64 rd mem) = ⊤
+IsWork (Load64ZExt8 rd mem) = ⊤
+IsWork (Load64SExt8 rd mem) = ⊤
+IsWork (Load64ZExt16 rd mem) = ⊤
+IsWork (Load64SExt16 rd mem) = ⊤
+IsWork (Load64ZExt32 rd mem) = ⊤
+IsWork (Load64SExt32 rd mem) = ⊤
+IsWork (LoadRev16 rd mem) = ⊤
+IsWork (LoadRev32 rd mem) = ⊤
+IsWork (LoadRev64 rd mem) = ⊤
+IsWork (Store8 rd mem) = ⊤
+IsWork (Store16 rd mem) = ⊤
+IsWork (Store32 rd mem) = ⊤
+IsWork (Store64 rd mem) = ⊤
+IsWork (StoreRev16 rd mem) = ⊤
+IsWork (StoreRev32 rd mem) = ⊤
+IsWork (StoreRev64 rd mem) = ⊤
+IsWork (StoreImm8 imm mem) = ⊤
+IsWork (StoreImm16 imm mem) = ⊤
+IsWork (StoreImm32SExt16 imm mem) = ⊤
+IsWork (StoreImm64SExt16 imm mem) = ⊤
+IsWork (LoadAddr rd mem) = ⊤
+IsWork i = ⊥

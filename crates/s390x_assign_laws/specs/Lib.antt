@@ -1,0 +1,2 @@
+pub mod Allocatable
+pub mod Examples

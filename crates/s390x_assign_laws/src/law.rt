@@ -1,0 +1,18 @@
+//! That registers which meet an instruction's constraints are no cause of refusal.
+ghost use Rattle.s390x_inst.specs.declared.inst.Inst.{Inst};
+ghost use Rattle.s390x_assign_laws.specs.Allocatable.{AssignmentsSuffice, IsAllocatable, IsWork, Place};
+ghost use Rattle.s390x_assign_laws.specs.Examples.{far_load, division, selection};
+
+/// Where an instruction has no cause of refusal but its virtual registers, any registers that
+/// meet its constraints, none of them `%r0`, `%r1` or `%r15`, give an instruction that is refused neither by `BadRegister` nor by
+/// `ScratchConflict`.
+pub fn registers_are_not_blamed()
+    ensures { (P : Place) (i : Inst) → IsWork i → IsAllocatable P i → AssignmentsSuffice P i }
+{}
+
+/// Some instructions are meant by that: a load at an offset of more than 12 bits, a division, and a vector instruction.
+pub fn some_are_allocatable()
+    ensures load { (P : Place) → IsAllocatable P far_load }
+    ensures division { (P : Place) → IsAllocatable P division }
+    ensures vector { (P : Place) → IsAllocatable P selection }
+{}
