@@ -16,7 +16,7 @@ ROOT = os.path.dirname(os.path.dirname(os.path.abspath(__file__)))
 def words_of(crates):
     """All words of the sources and definitions of these crates and of those that hold errors and causes."""
     words = set()
-    for crate in crates + ["s390x_base", "s390x_operands", "s390x_smp", "s390x_typed_steps"]:
+    for crate in crates + ["s390x_assign", "s390x_base", "s390x_operands", "s390x_smp", "s390x_typed_steps"]:
         for path in glob.glob(os.path.join(ROOT, "crates", crate, "*", "**", "*.*t*"), recursive=True):
             if os.sep + "out" + os.sep not in path:
                 with open(path) as file:
