@@ -3,9 +3,9 @@ ghost use Rattle.s390x_inst.specs.declared.inst.Inst.{Inst};
 ghost use Rattle.s390x_assign_laws.specs.Allocatable.{AssignmentsSuffice, IsAllocatable, IsWork, Place};
 ghost use Rattle.s390x_assign_laws.specs.Examples.{far_load, division, selection};
 
-/// Where an instruction has no cause of refusal but its virtual registers, any registers that
-/// meet its constraints, none of them `%r0`, `%r1` or `%r15`, give an instruction that is refused neither by `BadRegister` nor by
-/// `ScratchConflict`.
+/// Where an instruction of those that `IsWork` lists has no cause of refusal but its virtual registers, and its real registers stand only where `IsAllocatable`
+/// lets them, any registers that meet its constraints, of which no virtual operand gets `%r0`, `%r1` or `%r15`, give an instruction that is refused neither by
+/// `BadRegister` nor by `ScratchConflict`.
 pub fn registers_are_not_blamed()
     ensures { (P : Place) (i : Inst) → IsWork i → IsAllocatable P i → AssignmentsSuffice P i }
 {}
