@@ -1,6 +1,6 @@
 //! The texts of a function's instructions.
 ghost use Rattle.std.specs.Prelude.{◌≡◌, ◌++◌, ◌∷◌, [], None, IfOk, MatchResult, string_bytes};
-ghost use Rattle.s390x_text.specs.Texts.{RefusedBy, Prints};
+ghost use Rattle.s390x_row_text.specs.Texts.{RefusedBy, Prints};
 ghost use Rattle.s390x_text.specs.Instructions.{after};
 ghost use Rattle.s390x_listing.specs.Texts.{block_texts, blocks_texts, inst_texts, text_line, texts_listing};
 

@@ -10,17 +10,11 @@ use Rattle.s390x_inst.specs.declared.inst.Inst.TheBlock.{hidden-the_row-Inst-0}
 use Rattle.s390x_inst.specs.declared.inst.Inst.TheOpen as O
 use Rattle.s390x_inst.specs.declared.inst.Inst.TheViews as V
 use denote.Hole.Carrier
-use Rattle.s390x_text.specs.Texts.{Text, first, both, RefusedBy}
-use Rattle.s390x_text.specs.declared.error.TextError.{TextError}
-use Rattle.s390x_text.specs.declared.error.TextError.TheVariants.{NoRow, Virtual, BadPair, Address, NoMemory}
+use Rattle.s390x_row_text.proofs.Joined.{more_texts}
+use Rattle.s390x_row_text.specs.Texts.{Text, first, both, RefusedBy}
+use Rattle.s390x_row_text.specs.declared.error.TextError.{TextError}
+use Rattle.s390x_row_text.specs.declared.error.TextError.TheVariants.{NoRow, Virtual, BadPair, Address, NoMemory}
 use Rattle.s390x_text.specs.Instructions.{leaf_text, leaf_after, after, row_after, insts_after, followed, has_none, inst_text, row_text, insts_text, looped}
-
--- a loop that prints each element of a list
-pub more_texts : {X : Type 0} (F : List X → List ℕ) (g : X → List ℕ) → ((x : X) (xs : List X) → F (x ∷ xs) ≡ g x ++ F xs) → (xs : List X) (i : ℕ) (z d : X) (old out new : List ℕ) → i < length xs → d ≡ get_or xs i z → new ≡ out ++ g d → out ++ F (drop i xs) ≡ old → new ++ F (drop (i + 1) xs) ≡ old
-more_texts F g law xs i z d old out new h e n inv =
-    let rest = F (drop (i + 1) xs) in
-    let a : F (drop i xs) ≡ g d ++ rest = ap F (drop_more xs i z h) ∙ law (get_or xs i z) (drop (i + 1) xs) ∙ ap (λ y. g y ++ rest) (sym e) in
-    ap (λ t. t ++ rest) n ∙ append_assoc out (g d) rest ∙ ap (λ t. out ++ t) (sym a) ∙ inv
 
 -- what is blamed on a text is blamed on it and what follows
 pub refused_first : (a b : Option TextError) (e : TextError) → RefusedBy a e → RefusedBy (first a b) e

@@ -3,12 +3,12 @@ use Rattle.std.specs.Prelude.{ℕ, ◌+◌, Bool, true, false, List, [], ◌∷�
 use Rattle.s390x_inst.specs.Emission.{Emission}
 use Rattle.s390x_inst.specs.declared.inst.Inst.{Inst, Row_of-Inst, end_of-Inst, more_of-Inst}
 use Rattle.s390x_inst.specs.declared.inst.Inst.TheVariants.{Loop', Call, AllocateArgs}
-use Rattle.s390x_text.specs.Texts.{Text, first, fixed, both, before_semicolon, text_or}
-use Rattle.s390x_text.specs.Operands.{cond_text}
-use Rattle.s390x_text.specs.Simple.{simple_text}
+use Rattle.s390x_row_text.specs.Texts.{Text, first, fixed, both, before_semicolon, text_or}
+use Rattle.s390x_row_text.specs.Operands.{cond_text}
+use Rattle.s390x_row_text.specs.Simple.{simple_text}
 use Rattle.s390x_text.specs.Calls.{call_text}
-use Rattle.s390x_text.specs.declared.error.TextError.{TextError}
-use Rattle.s390x_text.specs.declared.error.TextError.TheVariants.{NoRow}
+use Rattle.s390x_row_text.specs.declared.error.TextError.{TextError}
+use Rattle.s390x_row_text.specs.declared.error.TextError.TheVariants.{NoRow}
 
 -- the text of an instruction that is no `Loop`
 abbrev pub leaf_text : Emission → Inst → Text

@@ -1,12 +1,3 @@
-pub mod Texts
-pub mod Operands
-pub mod Mnemonics
-pub mod VectorMnemonics
-pub mod Integer
-pub mod Storage
-pub mod Control
-pub mod Vector
-pub mod Simple
 pub mod Calls
 pub mod Instructions
 pub mod Agreement

@@ -1,30 +1,14 @@
 //! The text of each instruction, as an assembler's listing would show it.
 #![tactic(auto)]
 
-pub mod arithmetic;
 pub mod calls;
-pub mod compare;
-pub mod control;
-pub mod error;
 pub mod law;
-pub mod memory;
-pub mod mnemonics;
-pub mod moves;
-pub mod operand;
 pub mod pretty;
 pub mod pretty_print;
-pub mod regs;
-pub mod row;
-pub mod simple;
-pub mod storage;
-pub mod vector;
-pub mod vector_memory;
-pub mod vector_mnemonics;
 
-pub use error::TextError;
 pub use pretty::pretty_print_inst;
 pub use pretty_print::PrettyPrint;
-pub use regs::{
-    maybe_show_fpr, pretty_print_fpr, pretty_print_reg, pretty_print_reg_mod, pretty_print_regpair,
-    pretty_print_regpair_mod, pretty_print_regpair_mod_lo, show_reg,
+pub use s390x_row_text::{
+    TextError, maybe_show_fpr, pretty_print_fpr, pretty_print_reg, pretty_print_reg_mod,
+    pretty_print_regpair, pretty_print_regpair_mod, pretty_print_regpair_mod_lo, show_reg,
 };

@@ -1,15 +1,15 @@
 //! The text of an instruction.
 ghost use Rattle.std.specs.Prelude.{◌≡◌, ◌+◌, ◌==◌, ◌++◌, length, codes, None, IfOk, OnOk, OnErr, MatchResult, string_bytes};
-ghost use Rattle.s390x_text.specs.Texts.{RefusedBy, Prints, before_semicolon};
-ghost use Rattle.s390x_text.specs.Operands.{cond_text};
+ghost use Rattle.s390x_row_text.specs.Texts.{RefusedBy, Prints, before_semicolon};
+ghost use Rattle.s390x_row_text.specs.Operands.{cond_text};
 ghost use Rattle.s390x_text.specs.Instructions.{leaf_text, leaf_after, after, insts_after, inst_text, insts_text, looped, back_text};
 
 use crate::calls::put_call;
-use crate::error::TextError;
-use crate::operand::cond_name;
-use crate::simple::put_simple;
 use s390x_base::Cond;
 use s390x_inst::{EmitState, Inst};
+use s390x_row_text::error::TextError;
+use s390x_row_text::operand::cond_name;
+use s390x_row_text::simple::put_simple;
 use s390x_words::number::put;
 use std::alloc::{AllocError, Global};
 

@@ -19,9 +19,9 @@ use Rattle.s390x_typed_steps.specs.Storage.{atomic_rsy}
 use Rattle.s390x_text.proofs.Agreement.{rows_agree}
 use Rattle.s390x_text.specs.Agreement.{RowsAgree}
 use Rattle.s390x_text.specs.Instructions.{leaf_text}
-use Rattle.s390x_text.specs.Integer.{alu_half_name, alu_part_name, extend_name, indexed_name, insert_half_name, insert_part_name, load_half_name, load_part_name, logical_indexed_name, selected_name}
-use Rattle.s390x_text.specs.Mnemonics.{alu_halfword_name, alu_signed_word_name, alu_three_halfword_name, alu_three_name, alu_two_name, alu_unsigned_word_name, atomic_name, cmp_halfword_name, cmp_signed_word_name, cmp_trap_name, cmp_trap_signed_name, cmp_trap_unsigned_name, cmp_two_name, cmp_unsigned_word_name}
-use Rattle.s390x_text.specs.Mnemonics.{rotate_name, rotate_test_name}
+use Rattle.s390x_row_text.specs.Integer.{alu_half_name, alu_part_name, extend_name, indexed_name, insert_half_name, insert_part_name, load_half_name, load_part_name, logical_indexed_name, selected_name}
+use Rattle.s390x_row_text.specs.Mnemonics.{alu_halfword_name, alu_signed_word_name, alu_three_halfword_name, alu_three_name, alu_two_name, alu_unsigned_word_name, atomic_name, cmp_halfword_name, cmp_signed_word_name, cmp_trap_name, cmp_trap_signed_name, cmp_trap_unsigned_name, cmp_two_name, cmp_unsigned_word_name}
+use Rattle.s390x_row_text.specs.Mnemonics.{rotate_name, rotate_test_name}
 use Rattle.s390x_text_laws.proofs.Rows.{access_refusal, accessed, address_fine, atomic_fine, comparison_fine, conditional_fine, operator_fine, pair_fine, pair_with_two_fine, row_fine, three_fine}
 use Rattle.s390x_text_laws.proofs.Vectors.{vector_fine}
 

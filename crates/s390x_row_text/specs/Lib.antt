@@ -1,0 +1,9 @@
+pub mod Texts
+pub mod Operands
+pub mod Mnemonics
+pub mod VectorMnemonics
+pub mod Integer
+pub mod Storage
+pub mod Control
+pub mod Vector
+pub mod Simple
