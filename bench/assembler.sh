@@ -8,7 +8,7 @@ count=${1:-100000}
 work=$(mktemp -d)
 trap 'rm -rf "$work"' EXIT
 
-# Each block adds and branches: to itself where the sum is zero, else to the next one.
+# Each block adds and branches: to itself where the sum is zero, else to the next one, for which no branch is needed.
 awk -v n="$count" 'BEGIN {
     for (i = 0; i < n; i++) {
         print "block"
@@ -23,7 +23,7 @@ awk -v n="$count" 'BEGIN {
         print "L" i ":"
         print " agrk %r2,%r3,%r4"
         print " lgr %r5,%r2"
-        if (i + 1 < n) { print " brcl 8,L" i; print " brcl 15,L" i + 1 } else print " br %r14"
+        if (i + 1 < n) print " brcl 8,L" i; else print " br %r14"
     }
 }' > "$work/code.s"
 

@@ -13,7 +13,7 @@ more=20
 work=$(mktemp -d)
 trap 'rm -rf "$work"' EXIT
 
-# Each block adds and branches: to itself where the sum is zero, else to the next one.
+# Each block adds and branches: to itself where the sum is zero, else to the next one, for which no branch is needed.
 branches() {
     awk -v n="$((count / 3))" 'BEGIN {
         for (i = 0; i < n; i++) {
@@ -29,7 +29,7 @@ branches() {
             print "L" i ":"
             print " agrk %r2,%r3,%r4"
             print " agrk %r5,%r2,%r4"
-            if (i + 1 < n) { print " brcl 8,L" i; print " brcl 15,L" i + 1 } else print " br %r14"
+            if (i + 1 < n) print " brcl 8,L" i; else print " br %r14"
         }
     }' > "$work/code.s"
 }

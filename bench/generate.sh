@@ -21,7 +21,7 @@ awk -v n="$count" -v x="$start" 'BEGIN {
         else if (choice == 1) print " agr %r2,%r4"
         else if (choice == 2) print " lg %r2," offset "(%r15)"
         else { print " lgfi %r1," offset + 524288; print " stg %r4,0(%r1,%r15)" }
-        if (k + 1 == n) print " br %r14"; else { print " brcl 8,L" x % n; print " brcl 15,L" k + 1 }
+        if (k + 1 == n) print " br %r14"; else if (x % n != k + 1) print " brcl 8,L" x % n
     }
 }' > "$work/code.s"
 

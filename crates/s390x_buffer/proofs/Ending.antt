@@ -24,7 +24,7 @@ or_false : (b : Bool) → (b || false) ≡ b
 or_false true = refl
 or_false false = refl
 
-has-behind : (start l : ℕ) (xs : List LabelFixup) (u : LabelFixup) → is_branch_use start l u ≡ true → has_use start l (xs ++ u ∷ []) ≡ true
+pub has-behind : (start l : ℕ) (xs : List LabelFixup) (u : LabelFixup) → is_branch_use start l u ≡ true → has_use start l (xs ++ u ∷ []) ≡ true
 has-behind start l [] u e = cc
 has-behind start l (x ∷ xs) u e = ap (λ b. is_branch_use start l x || b) (has-behind start l xs u e) ∙ or_true (is_branch_use start l x)
 
@@ -32,7 +32,7 @@ has-other : (start l : ℕ) (xs : List LabelFixup) (u : LabelFixup) → is_branc
 has-other start l [] u e = ap (λ b. b || false) e
 has-other start l (x ∷ xs) u e = ap (λ b. is_branch_use start l x || b) (has-other start l xs u e)
 
-without_behind : (start l : ℕ) (xs : List LabelFixup) (u : LabelFixup) → is_branch_use start l u ≡ true → without_use start l (xs ++ u ∷ []) ≡ xs
+pub without_behind : (start l : ℕ) (xs : List LabelFixup) (u : LabelFixup) → is_branch_use start l u ≡ true → without_use start l (xs ++ u ∷ []) ≡ xs
 without_behind start l [] u e = ap (λ b. cond b [] (u ∷ [])) e
 without_behind start l (x ∷ xs) u e =
     ap (λ b. cond b (x ∷ without_use start l (xs ++ u ∷ [])) (cond (is_branch_use start l x) (xs ++ u ∷ []) (x ∷ (xs ++ u ∷ [])))) (has-behind start l xs u e)

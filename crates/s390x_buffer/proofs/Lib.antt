@@ -1,6 +1,7 @@
 pub mod Appending
 pub mod Branching
 pub mod Declared
+pub mod Ended
 pub mod Ending
 pub mod Extending
 pub mod Placing

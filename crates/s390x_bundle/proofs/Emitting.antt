@@ -10,7 +10,7 @@ use Rattle.s390x_emit_int.proofs.Filling.{relocs_lie}
 use Rattle.s390x_bundle.specs.declared.member.Member.{Member}
 use Rattle.s390x_bundle.specs.declared.error.BundleError.{BundleError}
 use Rattle.s390x_bundle.specs.declared.error.BundleError.TheVariants.{DuplicateName, Emit, EmptyMember, TooLong, AddressTooHigh, Link, NoMemory}
-use Rattle.s390x_bundle.specs.Emitted.{AreEmitted, HasNoCode, IsEmitted, Refused, constants_of_member, emit_cause, first_refused, refused_or, trees_of_member}
+use Rattle.s390x_bundle.specs.Emitted.{AreEmitted, HasNoCode, IsEmitted, Refused, constants_of_member, emit_cause, first_refused, refused_or, folded_trees_of_member}
 use Rattle.s390x_bundle.specs.Joined.{IsFinished}
 
 emitted_suc : (ms : List Member) (i : ℕ) (m : Member) (fs : List MachBufferFinalized) (f : MachBufferFinalized) → i < length ms → m ≡ get_or ms i m → AreEmitted (take i ms) fs → IsEmitted m f → AreEmitted (take (suc i) ms) (fs ++ f ∷ [])
@@ -67,7 +67,7 @@ greatest_above a (c ∷ cs) = omega (arith, greatest_above (max a c.align) cs)
 
 finished_one : (m : Member) (f : MachBufferFinalized) → IsEmitted m f → IsFinished f
 finished_one m f e = record {
-  fields = relocs_lie (trees_of_member m) (constants_of_member m) f e.finished;
+  fields = relocs_lie (folded_trees_of_member m) (constants_of_member m) f e.finished;
   alignment = omega (arith, e.finished.alignment, greatest_above 4 (constants_of_member m));
   short = e.finished.short;
 }

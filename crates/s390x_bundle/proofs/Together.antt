@@ -25,7 +25,7 @@ use Rattle.s390x_bundle.specs.declared.places.PlaceCause.{PlaceCause}
 use Rattle.s390x_bundle.specs.declared.places.PlaceCause.TheVariants.{EmptyMember, TooLong, AddressTooHigh}
 use Rattle.s390x_bundle.specs.Bundled.{HasNoImage, IsImageOfMembers, duplicate_of, layouts_of, member_layout, member_layouts}
 use Rattle.s390x_bundle.specs.Bytes.{Part, PartStands}
-use Rattle.s390x_bundle.specs.Emitted.{AreEmitted, IsEmitted, constants_of_member, trees_of_member}
+use Rattle.s390x_bundle.specs.Emitted.{AreEmitted, IsEmitted, constants_of_member, folded_trees_of_member, trees_of_member}
 use Rattle.s390x_bundle.specs.Joined.{HasNoBundle, IsBundleOf, extent_of, member_parts, misplaced_member, starts_of_codes}
 use Rattle.s390x_bundle.specs.Linking.{Unlinked, first_unlinked, linked_parts, unlinked_or}
 use Rattle.s390x_bundle.specs.Named.{member_of, named_error, place_error}
@@ -54,7 +54,7 @@ module _ (base : ℕ) (all : List Member) (all_starts : List ℕ) (whole : CodeI
       let cs = constants_of_member m in
       record {
         part = record { earlier = stands.earlier; later = stands.later; bytes = stands.bytes; base = omega (arith, at_base, stands.at) };
-        some = omega (arith, some, length-filled (base + start) symbols f.relocs.items f.bytes.items (relocs_lie ts cs f e.finished));
+        some = omega (arith, some, length-filled (base + start) symbols f.relocs.items f.bytes.items (relocs_lie (folded_trees_of_member m) cs f e.finished));
         placed = is_placed m.info.isa_flags ts cs f (base + start) symbols (first_right (start_cause m.state) (checked_cause m.info.isa_flags ts cs) e.valid) e.ranges e.finished links;
       }
 

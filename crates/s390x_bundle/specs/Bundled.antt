@@ -17,7 +17,7 @@ use Rattle.s390x_bundle.specs.declared.member.Member.{Member}
 use Rattle.s390x_bundle.specs.declared.places.PlaceCause.{PlaceCause}
 use Rattle.s390x_bundle.specs.declared.places.PlaceCause.TheVariants.{EmptyMember, TooLong, AddressTooHigh}
 use Rattle.s390x_bundle.specs.Bytes.{Part, PartStands, IsBetween}
-use Rattle.s390x_bundle.specs.Emitted.{AreEmitted, HasNoCode, constants_of_member, first_refused, trees_of_member}
+use Rattle.s390x_bundle.specs.Emitted.{AreEmitted, HasNoCode, constants_of_member, first_refused, folded_trees_of_member}
 use Rattle.s390x_bundle.specs.Joined.{IsBundleOf, member_parts, misplaced_member, starts_of_codes, unlinked_member}
 use Rattle.s390x_bundle.specs.Names.{first_duplicate, names_of}
 use Rattle.s390x_bundle.specs.Table.{symbols_of}
@@ -32,7 +32,7 @@ duplicate_of members = first_duplicate (names_of members) [] members
 abbrev pub member_layout : (base : ℕ) → (all : List Member) → (all_starts : List ℕ) → Member → (start : ℕ) → MachBufferFinalized → Layout
 member_layout base all all_starts m start f =
     let symbols = symbols_of base all all_starts m.symbols.items in
-    function_layout (linked symbols (base + start) (trees_of_member m) (constants_of_member m)) (trees_of_member m) (linked_image f (base + start) symbols)
+    function_layout (linked symbols (base + start) (folded_trees_of_member m) (constants_of_member m)) (folded_trees_of_member m) (linked_image f (base + start) symbols)
 
 -- those of these members, by their starts and their finished code
 abbrev pub member_layouts : (base : ℕ) → (all : List Member) → (all_starts : List ℕ) → List Member → (starts : List ℕ) → List MachBufferFinalized → List Layout

@@ -6,7 +6,7 @@ use Rattle.s390x_buffer.specs.State.{Constant}
 use Rattle.s390x_buffer.specs.declared.entries.MachBufferFinalized.{MachBufferFinalized}
 use Rattle.s390x_typed_steps.specs.Ranges.{BlocksInRange}
 use Rattle.s390x_typed_steps.specs.Tree.{Tree}
-use Rattle.s390x_emit_int.specs.Function.{IsFinishedCode, constants_of, function_cause, trees_of}
+use Rattle.s390x_emit_int.specs.Function.{IsFinishedCode, constants_of, folded_trees_of, function_cause, trees_of}
 use Rattle.s390x_bundle.specs.declared.error.BundleError.{BundleError}
 use Rattle.s390x_bundle.specs.declared.error.BundleError.TheVariants.{Emit as EmitRefused, NoMemory}
 use Rattle.s390x_bundle.specs.declared.member.Member.{Member}
@@ -14,6 +14,10 @@ use Rattle.s390x_bundle.specs.declared.member.Member.{Member}
 -- the blocks of a member's function as trees, and its constants
 abbrev pub trees_of_member : Member → List Tree
 trees_of_member m = trees_of m.state m.function
+
+-- the blocks as their ends leave them
+abbrev pub folded_trees_of_member : Member → List Tree
+folded_trees_of_member m = folded_trees_of m.state m.function
 
 abbrev pub constants_of_member : Member → List Constant
 constants_of_member m = constants_of m.function
@@ -25,7 +29,7 @@ emit_cause m = function_cause m.info.isa_flags (trees_of_member m) (constants_of
 -- emission has no cause to refuse the member's function, whose numbers lie in their ranges, and this is its finished code with its tables
 pub record IsEmitted (m : Member) (f : MachBufferFinalized) : Type 0 where
   pub valid : emit_cause m ≡ None
-  pub finished : IsFinishedCode (trees_of_member m) (constants_of_member m) f
+  pub finished : IsFinishedCode (folded_trees_of_member m) (constants_of_member m) f
   pub ranges : BlocksInRange (trees_of_member m)
 
 -- each member has its finished code, in order

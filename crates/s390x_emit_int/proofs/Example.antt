@@ -13,7 +13,7 @@ use Rattle.s390x_image.specs.Fields.{address_or_zero, fill, filled}
 use Rattle.s390x_image.specs.Symbols.{no_symbols, address_of, address_of-with_address}
 use Rattle.s390x_operations.specs.State.{IsLoaded}
 use Rattle.s390x_machine.specs.Machine.{Run}
-use Rattle.s390x_machine.specs.Example.{image, trees}
+use Rattle.s390x_machine.specs.Example.{image, left}
 use Rattle.s390x_machine.specs.RelativeExample as Relative
 use Rattle.s390x_machine.proofs.Example.{ranges, loop_runs}
 use Rattle.s390x_machine.proofs.RelativeExample as Relatively
@@ -28,9 +28,9 @@ vec items small = record { ptr = denote.RawPtr.null_ptr; len = length items; cap
 code : MachBufferFinalized
 code = record {
   bytes = vec image.bytes (omega arith);
-  block_starts = vec (0 ∷ 16 ∷ []) (omega arith);
+  block_starts = vec (0 ∷ 10 ∷ []) (omega arith);
   constant_starts = vec [] (omega arith);
-  starts = vec (0 ∷ 4 ∷ 16 ∷ []) (omega arith);
+  starts = vec (0 ∷ 4 ∷ 10 ∷ []) (omega arith);
   relocs = vec [] (omega arith);
   traps = vec [] (omega arith);
   call_sites = vec [] (omega arith);
@@ -40,7 +40,7 @@ code = record {
   alignment = 4;
 }
 
-finished : IsFinishedCode trees [] code
+finished : IsFinishedCode left [] code
 unfolding vec code number bits layout_of length_of be_bytes
 finished = record {
   bytes = refl;

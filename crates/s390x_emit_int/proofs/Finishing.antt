@@ -1,7 +1,7 @@
 -- After a check that found no cause, a buffer can be finished.
-use Rattle.std.proofs.Common.{◌≡◌, ℕ, ◌+◌, ◌-◌, ◌%◌, ◌<◌, ◌≤◌, inl, inr, ◌⊎◌, List, [], ◌∷◌, length, get_or, Bool, true, cond, nat_lt, nat_le, nat_eq, Option, Result, Ok, Err, MatchResult, refl, sym, ap, ◌∙◌, subst, arith, length-append, None, Some}
+use Rattle.std.proofs.Common.{◌≡◌, ℕ, ◌+◌, ◌-◌, ◌%◌, ◌<◌, ◌≤◌, inl, inr, ◌⊎◌, List, [], ◌∷◌, length, get_or, Bool, true, cond, ◌&&◌, nat_lt, nat_le, nat_eq, Option, Result, Ok, Err, MatchResult, refl, sym, ap, ◌∙◌, subst, arith, length-append, None, Some}
 use Rattle.std.specs.Prelude.{is_some}
-use Rattle.std.proofs.lemmas.Bool.{cases_lt, and_from, ltb-true, lt-ltb, le-leb, eq-eqb}
+use Rattle.std.proofs.lemmas.Bool.{cases_lt, and_from, and_parts, ltb-true, lt-ltb, le-leb, eq-eqb}
 use Rattle.std.proofs.lemmas.List.{length-map, length-replicate}
 use Rattle.std.proofs.lemmas.List.Elements.{All-replicate, All-get_or}
 use Rattle.s390x_inst.specs.declared.state.IsaFlags.{IsaFlags}
@@ -18,7 +18,9 @@ use Rattle.s390x_buffer.specs.declared.label_use.LabelUse.{LabelUse}
 use Rattle.s390x_buffer.specs.declared.label_use.LabelUse.TheVariants.{BranchRI, BranchRIL, PCRel32, PCRel32Dbl}
 use Rattle.s390x_buffer.proofs.Placing.{length-constant_bytes, end-ge}
 use Rattle.s390x_typed_steps.specs.Tree.{Tree}
-use Rattle.s390x_typed_steps.specs.Causes.{first_emit_cause, declared_of, fresh_labels, blocks_cause}
+use Rattle.s390x_typed_steps.specs.Causes.{first_emit_cause, aligns_of, declared_of, fresh_labels, blocks_cause}
+use Rattle.s390x_typed_steps.specs.Folding.{folded_trees, peak}
+use Rattle.s390x_typed_steps.proofs.Folding.{folded_blocks_cause, folded_length}
 use Rattle.s390x_typed_steps.specs.Sizes.{blocks_size}
 use Rattle.s390x_typed_steps.proofs.Causes.{first_left, first_right, unless_true}
 use Rattle.s390x_emit_int.specs.Function.{checked_cause, code_length_cause}
@@ -29,7 +31,6 @@ use Rattle.s390x_emit_int.proofs.Constants.{aligned_constants, starts_of, middle
 use Rattle.s390x_emit_int.proofs.Closing.{blocks_closed, drawn_closed}
 use Rattle.s390x_emit_int.proofs.Functions.{block_state, bound_state, block_labels, function_put}
 use Rattle.s390x_emit_int.proofs.Imaging.{bytes_run, low_label, high_label, length-starts}
-use Rattle.s390x_emit_int.proofs.Lacking.{put_none}
 use Rattle.s390x_emit_int.proofs.Names.{all_names}
 use Rattle.s390x_emit_int.proofs.Orderly.{AllSound, all_fresh_labels, function_sound, Stands, BearsUse, UsesStand, SameFrom, uses_still, same_append, Orderly, orderly_run}
 use Rattle.s390x_emit_int.proofs.Patching.{length-patch}
@@ -134,23 +135,51 @@ pub record CanFinish (u : BufferState) : Type 0 where
   pub short : long_cause u ≡ None
   pub patched : patch_cause u ≡ None
 
-pub can_finish : (flags : IsaFlags) (ts : List Tree) (cs : List Constant) (u : BufferState) → u ≡ apply_all (fresh_buffer (length ts) cs) (function_fragments (length ts + length cs) 0 ts) → checked_cause flags ts cs ≡ None → CanFinish u
+-- what is known of the blocks that are left in the end
+pub record Passes (flags : IsaFlags) (ts : List Tree) (cs : List Constant) : Type 0 where
+  pub declared : new_cause (length ts) cs ≡ None
+  pub blocks : blocks_cause flags (declared_of ts cs) (length ts + length cs) ts ≡ None
+  pub below : constants_end (blocks_size ts) cs < limit
+
+-- the length of blocks that have no cause: at its greatest, and in the end
+lengths_below : (flags : IsaFlags) (ts : List Tree) (cs : List Constant) → checked_cause flags ts cs ≡ None → (nat_lt (peak ts) limit ≡ true) × (nat_lt (constants_end (blocks_size (folded_trees ts)) cs) limit ≡ true)
+lengths_below flags ts cs passes =
+    let rest = first_right (new_cause (length ts) cs) _ passes in
+    let long : code_length_cause ts cs ≡ None = first_right (blocks_cause flags (declared_of ts cs) (length ts + length cs) ts) _ rest in
+    let short = nat_lt (peak ts) limit in
+    let ends = nat_lt (constants_end (blocks_size (folded_trees ts)) cs) limit in
+    and_parts short ends (unless_true (short && ends) LabelOutOfRange long)
+
+pub peak_below : (flags : IsaFlags) (ts : List Tree) (cs : List Constant) → checked_cause flags ts cs ≡ None → peak ts < limit
+peak_below flags ts cs passes = ltb-true (peak ts) limit (lengths_below flags ts cs passes).0
+
+-- where no cause stands against blocks as they are given, it is known of what their ends leave
+pub folded_passes : (flags : IsaFlags) (ts : List Tree) (cs : List Constant) → checked_cause flags ts cs ≡ None → Passes flags (folded_trees ts) cs
+folded_passes flags ts cs passes =
+    let us = folded_trees ts in
+    let count = folded_length 0 ts in
+    let rest = first_right (new_cause (length ts) cs) _ passes in
+    record {
+      declared = ap (λ n. new_cause n cs) count ∙ first_left (new_cause (length ts) cs) _ passes;
+      blocks = folded_blocks_cause flags (declared_of us cs) (length us + length cs) 0 ts ∙ ap (λ n. blocks_cause flags (record { blocks = n; aligns = aligns_of cs }) (n + length cs) ts) count ∙ first_left _ _ rest;
+      below = ltb-true (constants_end (blocks_size us) cs) limit (lengths_below flags ts cs passes).1;
+    }
+
+pub can_finish : (flags : IsaFlags) (ts : List Tree) (cs : List Constant) (u : BufferState) → u ≡ apply_all (fresh_buffer (length ts) cs) (function_fragments (length ts + length cs) 0 ts) → Passes flags ts cs → CanFinish u
 can_finish flags ts cs u0 is passes =
     let b = length ts in
     let n = b + length cs in
     let s0 = fresh_buffer b cs in
     let ps = function_fragments n 0 ts in
     let u = apply_all s0 ps in
-    let rest = first_right (new_cause b cs) _ passes in
-    let aligned : all_aligned cs ≡ true = aligned_constants _ _ _ (first_left (new_cause b cs) _ passes) in
-    let blocks : blocks_cause flags (declared_of ts cs) n ts ≡ None = first_left _ _ rest in
-    let long : code_length_cause ts cs ≡ None = first_right (blocks_cause flags (declared_of ts cs) n ts) _ rest in
+    let aligned : all_aligned cs ≡ true = aligned_constants _ _ _ passes.declared in
+    let blocks : blocks_cause flags (declared_of ts cs) n ts ≡ None = passes.blocks in
     let same : Same s0 u = same_run ps s0 in
     let drawn : length s0.labels ≡ n = length-replicate n None in
     let count : length u.labels ≡ n + all_fresh_labels ts = labels_run ts s0 n 0 (sym drawn) in
     let size : length u.bytes ≡ blocks_size ts = bytes_run ps s0 ∙ (omega (arith, function_put ts n 0)) in
     let ends : finished_length u ≡ constants_end (blocks_size ts) cs = ap (λ x. constants_end (length u.bytes) x) same.constants ∙ ap (λ m. constants_end m cs) size in
-    let below : constants_end (blocks_size ts) cs < limit = ltb-true (constants_end (blocks_size ts) cs) limit (unless_true (nat_lt (constants_end (blocks_size ts) cs) limit) LabelOutOfRange long) in
+    let below : constants_end (blocks_size ts) cs < limit = passes.below in
     let May = IsNamed (n + all_fresh_labels ts) in
     let names : TreesName b (length cs) ts = subst (λ k. TreesName b k ts) (length-map cs (λ (c : Constant). c.align)) (all_names flags (declared_of ts cs) n ts blocks) in
     let sound : AllSound May b 0 ps = function_sound May ts n 0 b (length cs) names (λ l lt. omega arith) (λ c lt. omega arith) (λ l lo hi. hi) (omega arith) in
@@ -189,22 +218,14 @@ can_finish flags ts cs u0 is passes =
     } in
     subst CanFinish (sym is) done
 
-pub always_finishes : (flags : IsaFlags) (ts : List Tree) (cs : List Constant) → checked_cause flags ts cs ≡ None → finish_cause (apply_all (fresh_buffer (length ts) cs) (function_fragments (length ts + length cs) 0 ts)) ≡ None
-always_finishes flags ts cs passes = let f = can_finish flags ts cs _ refl passes in both_none _ _ f.short f.patched
+pub always_finishes : (flags : IsaFlags) (ts : List Tree) (cs : List Constant) → checked_cause flags ts cs ≡ None → finish_cause (apply_all (fresh_buffer (length (folded_trees ts)) cs) (function_fragments (length (folded_trees ts) + length cs) 0 (folded_trees ts))) ≡ None
+always_finishes flags ts cs passes = let f = can_finish flags (folded_trees ts) cs _ refl (folded_passes flags ts cs passes) in both_none _ _ f.short f.patched
 
 -- finishing answers the code, or want of memory
 pub finished_or_lacks : {T : Type 0} (P R : T → Type 0) (a b : Option EmitError) (r : Result T EmitError) → MatchResult r P (λ e. FailsWithEither a b e) → a ≡ None → b ≡ None → ((x : T) → P x → R x) → MatchResult r R (λ e. e ≡ NoMemory)
 finished_or_lacks P R a b (Ok x) m ha hb f = f x m
 finished_or_lacks P R None b (Err e) m ha hb f = elim m [ inl h ↦ h | inr h ↦ absurd (let g : None ≡ Some e = sym hb ∙ h in cc) ]
 finished_or_lacks P R (Some c) b (Err e) m ha hb f = absurd (cc)
-
--- at the beginning there is room for all
-pub fresh_takes : (flags : IsaFlags) (ts : List Tree) (cs : List Constant) → checked_cause flags ts cs ≡ None → put_cause (fresh_buffer (length ts) cs) (blocks_size ts) ≡ None
-fresh_takes flags ts cs passes =
-    let rest = first_right (new_cause (length ts) cs) _ passes in
-    let long : code_length_cause ts cs ≡ None = first_right (blocks_cause flags (declared_of ts cs) (length ts + length cs) ts) _ rest in
-    let below : constants_end (blocks_size ts) cs < limit = ltb-true (constants_end (blocks_size ts) cs) limit (unless_true (nat_lt (constants_end (blocks_size ts) cs) limit) LabelOutOfRange long) in
-    put_none (fresh_buffer (length ts) cs) (blocks_size ts) refl (omega (arith, below, end-ge (blocks_size ts) cs))
 
 -- the emitted blocks have the bytes that were counted
 pub emitted_size : (ts : List Tree) (cs : List Constant) (u : BufferState) → u ≡ apply_all (fresh_buffer (length ts) cs) (function_fragments (length ts + length cs) 0 ts) → length u.bytes ≡ blocks_size ts

@@ -13,7 +13,7 @@ use Rattle.s390x_typed_steps.specs.Rows.{Offsets}
 use Rattle.s390x_typed_steps.specs.Image.{step_offset, code, step_offsets, block_offsets}
 use Rattle.s390x_typed_steps.specs.Sizes.{tree_size, blocks_size}
 use Rattle.s390x_typed_steps.specs.Causes.{fresh_labels, body_fresh_labels}
-use Rattle.s390x_emit_int.specs.Fragments.{Fragment, apply, apply_all, Put, PutTrapping, PutReloc, Link, LinkConstant, StartStep, Draw, Bind, AddSite}
+use Rattle.s390x_emit_int.specs.Fragments.{Fragment, apply, apply_all, Put, PutTrapping, PutReloc, Link, LinkConstant, StartStep, Draw, Bind, AddSite, RecordBranch}
 use Rattle.s390x_emit_int.specs.Emission.{part_fragments, leaf_fragments, back_fragments, fragments, function_fragments, body_fragments}
 use Rattle.s390x_emit_int.specs.Resolve.{resolve, put_length, Wide}
 use Rattle.s390x_emit_int.specs.Bound.{StepsFollow, TreesName, AllBound}
@@ -34,6 +34,7 @@ wide_append (StartStep ∷ a) b v w = wide_append a b v w
 wide_append (Draw ∷ a) b v w = wide_append a b v w
 wide_append (Bind l ∷ a) b v w = wide_append a b v w
 wide_append (AddSite site ∷ a) b v w = wide_append a b v w
+wide_append (RecordBranch noted ∷ a) b v w = wide_append a b v w
 
 wide_branch : (mask : ℕ) → 6 ≤ length (bytes_of (ril_c 0xc04 mask 0))
 wide_branch mask = omega (arith, length-branch mask)

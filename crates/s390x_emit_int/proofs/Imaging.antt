@@ -18,9 +18,10 @@ use Rattle.s390x_emit_int.specs.Room.{HasRoom}
 use Rattle.s390x_inst.specs.declared.inst.Inst.{Inst}
 use Rattle.s390x_typed_steps.specs.Steps.{function_steps, first_step}
 use Rattle.s390x_typed_steps.specs.Image.{step_offset, offsets, constant_offset, unlinked, function_code}
+use Rattle.s390x_typed_steps.specs.Folding.{folded_before, next_block, folded_from}
 use Rattle.s390x_typed_steps.specs.Sizes.{blocks_size}
 use Rattle.s390x_typed_steps.specs.Causes.{declared_of, fresh_labels, blocks_cause}
-use Rattle.s390x_emit_int.specs.Fragments.{Fragment, apply, apply_all, Put, PutTrapping, PutReloc, Link, LinkConstant, StartStep, Draw, Bind, AddSite}
+use Rattle.s390x_emit_int.specs.Fragments.{Fragment, apply, apply_all, Put, PutTrapping, PutReloc, Link, LinkConstant, StartStep, Draw, Bind, AddSite, RecordBranch}
 use Rattle.s390x_emit_int.specs.Emission.{fragments, function_fragments}
 use Rattle.s390x_emit_int.specs.Resolve.{resolve, put_length, Wide, UsesWithin}
 use Rattle.s390x_emit_int.specs.Bound.{TreesName, AllBound}
@@ -49,6 +50,7 @@ bytes_run (StartStep ∷ ps) s = bytes_run ps (apply s StartStep)
 bytes_run (Draw ∷ ps) s = bytes_run ps (apply s Draw)
 bytes_run (Bind l ∷ ps) s = bytes_run ps (apply s (Bind l))
 bytes_run (AddSite site ∷ ps) s = bytes_run ps (apply s (AddSite site))
+bytes_run (RecordBranch noted ∷ ps) s = bytes_run ps (apply s (RecordBranch noted))
 
 -- the uses lie within the bytes
 within_run : (ps : List Fragment) (s : BufferState) → UsesWithin (length s.bytes) s.uses → Wide ps → UsesWithin (length (apply_all s ps).bytes) (apply_all s ps).uses
@@ -74,6 +76,7 @@ within_run (StartStep ∷ ps) s w h = within_run ps (apply s StartStep) w h
 within_run (Draw ∷ ps) s w h = within_run ps (apply s Draw) w h
 within_run (Bind l ∷ ps) s w h = within_run ps (apply s (Bind l)) w h
 within_run (AddSite site ∷ ps) s w h = within_run ps (apply s (AddSite site)) w h
+within_run (RecordBranch noted ∷ ps) s w h = within_run ps (apply s (RecordBranch noted)) w h
 
 -- binding the constants leaves the labels before theirs, and those behind
 pub low_label : (n : ℕ) (starts : List ℕ) (labels : List (Option ℕ)) (l : ℕ) → l < n → n ≤ length labels → get_or (bind_constants n starts labels) l None ≡ get_or labels l None
@@ -175,21 +178,22 @@ block_is s s1 s2 k t e1 e2 =
 
 -- one more block
 pub block_more : (state : Emission) (bs : List Block) (k : ℕ) (v : Block) (s s1 s2 r : BufferState) → k < length bs → v ≡ get_or bs k v
-    → s1 ≡ apply s (Bind k) → s2 ≡ apply_all s1 (fragments (length s1.labels) 0 (tree_of state v))
-    → apply_all s (function_fragments (length s.labels) k (map (tree_of state) (drop k bs))) ≡ r
-    → apply_all s2 (function_fragments (length s2.labels) (k + 1) (map (tree_of state) (drop (k + 1) bs))) ≡ r
+    → s1 ≡ apply s (Bind k) → s2 ≡ apply_all s1 (fragments (length s1.labels) 0 (folded_before (next_block k (map (tree_of state) (drop (k + 1) bs))) (tree_of state v)))
+    → apply_all s (function_fragments (length s.labels) k (folded_from k (map (tree_of state) (drop k bs)))) ≡ r
+    → apply_all s2 (function_fragments (length s2.labels) (k + 1) (folded_from (k + 1) (map (tree_of state) (drop (k + 1) bs)))) ≡ r
 block_more state bs k v s s1 s2 r lt at e1 e2 h =
     let n = length s.labels in
-    let t = tree_of state v in
     let rest = drop (k + 1) bs in
+    let t = folded_before (next_block k (map (tree_of state) rest)) (tree_of state v) in
+    let us = folded_from (k + 1) (map (tree_of state) rest) in
     let k1 : suc k ≡ k + 1 = omega arith in
     let cons : drop k bs ≡ v ∷ rest = drop-cons bs k v lt ∙ ap (λ x. x ∷ drop (suc k) bs) (sym at) ∙ ap (λ m. v ∷ drop m bs) k1 in
     let e2' : s2 ≡ block_state s n k t = block_is s s1 s2 k t e1 e2 in
     let len : length s2.labels ≡ n + fresh_labels t = ap (λ x. length x.labels) e2' ∙ sym (block_labels t s n k refl) in
-    ap (λ m. apply_all s2 (function_fragments m (k + 1) (map (tree_of state) rest))) len
-    ∙ ap (λ x. apply_all x (function_fragments (n + fresh_labels t) (k + 1) (map (tree_of state) rest))) e2'
-    ∙ sym (run-append (bound_state s k) (fragments n 0 t) (function_fragments (n + fresh_labels t) (k + 1) (map (tree_of state) rest)))
-    ∙ ap (λ l. apply_all s (function_fragments n k (map (tree_of state) l))) (sym cons)
+    ap (λ m. apply_all s2 (function_fragments m (k + 1) us)) len
+    ∙ ap (λ x. apply_all x (function_fragments (n + fresh_labels t) (k + 1) us)) e2'
+    ∙ sym (run-append (bound_state s k) (fragments n 0 t) (function_fragments (n + fresh_labels t) (k + 1) us))
+    ∙ ap (λ l. apply_all s (function_fragments n k (folded_from k (map (tree_of state) l)))) (sym cons)
     ∙ h
 
 pub record NextBlock (s2 : BufferState) (k n : ℕ) : Type 0 where

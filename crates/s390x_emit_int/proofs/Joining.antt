@@ -17,7 +17,7 @@ use Rattle.s390x_typed_steps.specs.Rows.{Offsets, symbol_call, half_distance, ta
 use Rattle.s390x_typed_steps.specs.Image.{code}
 use Rattle.s390x_typed_steps.specs.Sizes.{instruction_size, tree_size, body_size}
 use Rattle.s390x_typed_steps.specs.Causes.{fresh_labels, body_fresh_labels}
-use Rattle.s390x_emit_int.specs.Fragments.{Fragment, Put, PutTrapping, PutReloc, Link, LinkConstant, StartStep, Draw, Bind, AddSite}
+use Rattle.s390x_emit_int.specs.Fragments.{Fragment, Put, PutTrapping, PutReloc, Link, LinkConstant, StartStep, Draw, Bind, AddSite, RecordBranch}
 use Rattle.s390x_emit_int.specs.Emission.{part_fragments, table_fragments, leaf_fragments, back_fragments, fragments, body_fragments}
 use Rattle.s390x_emit_int.specs.Resolve.{resolve, put_length}
 use Rattle.s390x_emit_int.specs.Bound.{LeafBound, Bound, StepsFollow, PartsName, TreeNames, BodyBound, BodyNames}
@@ -35,6 +35,7 @@ resolve-append blocks off (StartStep ∷ a) b p = resolve-append blocks off a b 
 resolve-append blocks off (Draw ∷ a) b p = resolve-append blocks off a b p
 resolve-append blocks off (Bind l ∷ a) b p = resolve-append blocks off a b p
 resolve-append blocks off (AddSite site ∷ a) b p = resolve-append blocks off a b p
+resolve-append blocks off (RecordBranch noted ∷ a) b p = resolve-append blocks off a b p
 
 pub put_append : (a b : List Fragment) → put_length (a ++ b) ≡ put_length a + put_length b
 put_append [] b = omega arith
@@ -47,6 +48,7 @@ put_append (StartStep ∷ a) b = put_append a b
 put_append (Draw ∷ a) b = put_append a b
 put_append (Bind l ∷ a) b = put_append a b
 put_append (AddSite site ∷ a) b = put_append a b
+put_append (RecordBranch noted ∷ a) b = put_append a b
 
 parts_put : (parts : List CodePart) → put_length (part_fragments parts) ≡ parts_size parts
 parts_put [] = refl

@@ -24,17 +24,17 @@ use Rattle.s390x_typed_steps.specs.MachineInstruction.{format_e, rr, size_of}
 use Rattle.s390x_typed_steps.specs.Sizes.{instruction_size}
 use Rattle.s390x_typed_steps.specs.Causes.{unless, declared_in, branch_cause, memory_cause, memory_cause_or, instruction_cause, leaf_cause, numbers_cause, instruction_fresh_labels}
 use Rattle.s390x_typed_steps.proofs.Causes.{first_left, first_right, unless_true}
-use Rattle.s390x_emit_int.specs.Fragments.{apply}
-use Rattle.s390x_emit_int.specs.Emission.{branch, branch_size, memory_size_or}
+use Rattle.s390x_emit_int.specs.Fragments.{apply_all}
+use Rattle.s390x_emit_int.specs.Emission.{where_fragments, branch_size, memory_size_or}
 use Rattle.s390x_emit_int.specs.Room.{Passed, MembersPassed}
 use Rattle.s390x_emit_int.proofs.Resolving.{single_resolved, no_memory, branch_resolved, size_resolved, fresh_labels_resolved}
 use Rattle.s390x_emit_int.proofs.Lacking.{put_none}
 use Rattle.s390x_emit_int.proofs.Runs.{length-branch}
 use Rattle.s390x_emit_int.proofs.Single.{some_cause, none_cause, some_size, none_size}
 
--- behind a branch
-pub branch_passed : (s s1 : BufferState) (mask first second : ℕ) → s1 ≡ apply s (branch mask first) → Passed s first 12 None → second < length s.labels → Passed s1 second 6 None
-branch_passed s s1 mask first second e p lt =
+-- behind a conditional branch
+pub where_passed : (s s1 : BufferState) (mask first second : ℕ) → s1 ≡ apply_all s (where_fragments mask first) → Passed s first 12 None → second < length s.labels → Passed s1 second 6 None
+where_passed s s1 mask first second e p lt =
     let labels : length s1.labels ≡ length s.labels = ap (λ x. length x.labels) e in
     let blocks : s1.block_count ≡ s.block_count = ap (λ x. x.block_count) e in
     let bytes : length s1.bytes ≡ length s.bytes + 6 = ap (λ x. length x.bytes) e ∙ length-append s.bytes _ ∙ ap (λ m. length s.bytes + m) (length-branch mask) in

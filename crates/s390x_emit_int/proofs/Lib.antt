@@ -6,8 +6,10 @@ pub mod Encoding
 pub mod Runs
 pub mod Outgoing
 pub mod Passing
+pub mod Peaks
 pub mod Emitting
 pub mod EachEmitter
+pub mod Ends
 pub mod Patching
 pub mod Blocks
 pub mod Branches
@@ -33,6 +35,7 @@ pub mod Filling
 pub mod Finishing
 pub mod FirstCauses
 pub mod Short
+pub mod Shortening
 pub mod Single
 pub mod Accessing
 pub mod Storing

@@ -20,7 +20,7 @@ use Rattle.s390x_operations.specs.Numbers.{low}
 use Rattle.s390x_operations.specs.State.{CodeImage, wrapping_add64}
 use Rattle.s390x_operations.specs.declared.size.Size.TheVariants.{Doubleword}
 use Rattle.s390x_machine.specs.Layout.{Layout}
-use Rattle.s390x_machine.specs.CodeAt.{IsValidStep, PartReaches, PartsReach, ConstantStands}
+use Rattle.s390x_machine.specs.CodeAt.{IsFoldedRight, IsValidStep, PartReaches, PartsReach, ConstantStands}
 use Rattle.s390x_machine.specs.Functions.{function_layout, StandsAsCode}
 use Rattle.s390x_typed_steps.specs.Tree.{Tree}
 use Rattle.s390x_typed_steps.specs.Steps.{Step, step_count, steps_of, steps_from, function_steps}
@@ -197,10 +197,14 @@ module _ (symbols : Symbols) (base : ℕ) where
 abbrev pub AllValid : LinkEnvironment → List Tree → CodeImage → Type 0
 AllValid environment ts image = (k : ℕ) (s : Step) → slice_get (function_steps ts) k ≡ Some s → IsValidStep (function_layout environment ts image) s
 
+-- and leads on where it has lost branches
+abbrev pub AllFolded : LinkEnvironment → List Tree → CodeImage → Type 0
+AllFolded environment ts image = (k : ℕ) (s : Step) → slice_get (function_steps ts) k ≡ Some s → IsFoldedRight (function_layout environment ts image) k s
+
 -- linked code stands as the machine layer asks, where each step is fine
-pub stands_as_code : (flags : IsaFlags) (ts : List Tree) (cs : List Constant) (f : MachBufferFinalized) (base : ℕ) (symbols : Symbols) → checked_cause flags ts cs ≡ None → IsFinishedCode ts cs f → link_cause f base symbols ≡ None → ((image : CodeImage) → AllValid (linked symbols base ts cs) ts image) →
+pub stands_as_code : (ts : List Tree) (cs : List Constant) (f : MachBufferFinalized) (base : ℕ) (symbols : Symbols) → new_cause (length ts) cs ≡ None → IsFinishedCode ts cs f → link_cause f base symbols ≡ None → ((image : CodeImage) → AllValid (linked symbols base ts cs) ts image) → ((image : CodeImage) → AllFolded (linked symbols base ts cs) ts image) →
     StandsAsCode (linked symbols base ts cs) ts (record { base = base; bytes = filled base symbols f.relocs.items f.bytes.items })
-stands_as_code flags ts cs f base symbols passes image links valid_steps =
+stands_as_code ts cs f base symbols declared image links valid_steps folded_steps =
     let ss = function_steps ts in
     let constants = constant_bytes (blocks_size ts) cs in
     let environment = linked symbols base ts cs in
@@ -210,7 +214,6 @@ stands_as_code flags ts cs f base symbols passes image links valid_steps =
     let size : length code.bytes ≡ length f.bytes.items = ap length is ∙ linked_length (unlinked ts cs) environment ts constants ∙ ap length (sym image.bytes) in
     let whole : length f.bytes.items ≡ total ss + length constants = ap length image.bytes ∙ length-append before constants ∙ ap (λ n. n + length constants) (code_length (offsets (unlinked ts cs) ts) 0 ss) in
     let ends : length code.bytes ≡ constants_end (blocks_size ts) cs = size ∙ whole ∙ ap (λ n. n + length constants) (blocks_total ts 0) ∙ length-constant_bytes (blocks_size ts) cs in
-    let declared : new_cause (length ts) cs ≡ None = first_left _ _ passes in
     let aligned : all_aligned cs ≡ true = aligned_constants _ _ _ declared in
     let causes = base_cause f.alignment (length f.bytes.items) base in
     let two = two_passed _ _ _ _ (first_of_links causes (relocs_cause base symbols f.relocs.items) links) in
@@ -224,6 +227,7 @@ stands_as_code flags ts cs f base symbols passes image links valid_steps =
       fits = omega (arith, size, below);
       short = omega (arith, size, image.short);
       valid = valid_steps code;
+      folded = folded_steps code;
       reached = λ k s e.
           let z : 0 + k ≡ k = omega arith in
           subst (λ j. PartsReach (function_layout environment ts code) (step_offset ss j) (step_parts s)) z (steps_reach symbols base ts cs code.bytes (step_offset ss) ss 0 k s (place_follows ss) (omega (arith, place_zero ss, whole, below)) filling e);

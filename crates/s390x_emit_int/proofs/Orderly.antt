@@ -25,7 +25,7 @@ use Rattle.s390x_inst.specs.declared.inst.Inst.{Inst}
 use Rattle.s390x_inst.specs.declared.args.MemArg.{MemArg}
 use Rattle.s390x_inst.specs.declared.args.MemArg.TheVariants.{Label, Constant, Symbol}
 use Rattle.s390x_inst.specs.declared.inst.Inst.TheVariants.{Mov64SImm32, LoadAddr, Jump, CondBr, IndirectBr, Ret, JTSequence, CondBreak, LabelAddress, LoadSymbolReloc, Trap, TrapIf, Debugtrap, Vector}
-use Rattle.s390x_typed_steps.specs.Tree.{Tree, empty, leaf, loop_node, Whole, StepBody, CallStep, NoLoad, TailOpening, TailJump}
+use Rattle.s390x_typed_steps.specs.Tree.{Tree, empty, leaf, loop_node, NothingLeft, BranchLeft, Whole, Folded, StepBody, CallStep, NoLoad, TailOpening, TailJump}
 use Rattle.s390x_typed_steps.specs.Causes.{instruction_fresh_labels, fresh_labels, body_fresh_labels}
 use Rattle.s390x_typed_steps.specs.SingleInstruction.{SingleInstruction, single_instruction, stop_code}
 use Rattle.s390x_typed_steps.specs.MachineInstruction.{MachineInstruction, rr, rxy, bytes_of, size_of}
@@ -34,7 +34,7 @@ use Rattle.s390x_typed_steps.specs.VectorComposite.{composite_rows}
 use Rattle.s390x_typed_steps.specs.Parts.{CodePart, Row, Trapping, Branch, Relative, RelativeConstant, RelativeSymbol, TableWord, ToBlock, ToStep, table_words, branch_parts, row_part, parts_or, instruction_parts, memory_or, memory_parts, trap_here, relative_part, relative_parts, access_parts, operand_parts, helper_parts, helpers_parts, SymbolValue, TrapHere, row_parts, CallSymbol, SiteHere, step_parts, call_part, tail_part, site_parts}
 use Rattle.s390x_typed_steps.specs.Memory.{StorageForm, RxForm, MemoryInstruction, memory, type_of, storage_row, address_form, fault_code}
 use Rattle.s390x_typed_steps.specs.Operands.{is_relative, finalized}
-use Rattle.s390x_emit_int.specs.Fragments.{Fragment, apply, apply_all, Put, PutTrapping, Link, LinkConstant, StartStep, Draw, Bind, PutReloc, AddSite}
+use Rattle.s390x_emit_int.specs.Fragments.{Fragment, apply, apply_all, Put, PutTrapping, Link, LinkConstant, StartStep, Draw, Bind, PutReloc, AddSite, RecordBranch}
 use Rattle.s390x_emit_int.specs.Emission.{part_fragments, leaf_fragments, back_fragments, fragments, function_fragments, body_fragments}
 use Rattle.s390x_emit_int.specs.Resolve.{put_length}
 use Rattle.s390x_emit_int.specs.Bound.{PartsName, TreeNames, TreesName, BodyNames}
@@ -68,6 +68,7 @@ Sound May blocks p StartStep = Unit {0}
 Sound May blocks p Draw = Unit {0}
 Sound May blocks p (Bind l) = Unit {0}
 Sound May blocks p (AddSite site) = Unit {0}
+Sound May blocks p (RecordBranch noted) = Unit {0}
 
 abbrev pub AllSound : (ℕ → Type 0) → (blocks place : ℕ) → List Fragment → Type 0
 AllSound May blocks p [] = Unit {0}
@@ -89,6 +90,7 @@ later_sound May blocks p q StartStep le h = h
 later_sound May blocks p q Draw le h = h
 later_sound May blocks p q (Bind l) le h = h
 later_sound May blocks p q (AddSite site) le h = h
+later_sound May blocks p q (RecordBranch noted) le h = h
 
 all_later : (May : ℕ → Type 0) (xs : List Fragment) (blocks p q : ℕ) → p ≤ q → AllSound May blocks p xs → AllSound May blocks q xs
 all_later May [] blocks p q le h = h
@@ -247,6 +249,9 @@ memory_begins None others h = h
 memory_begins (Some x) others h = all_begin 0 (memory_parts x) (memory_wordless x)
 
 leaf_sound : (May : ℕ → Type 0) (i : Inst) (n after blocks constants : ℕ) → PartsName blocks constants (instruction_parts i) → ((l : ℕ) → l < blocks → May l) → ((c : ℕ) → c < constants → May (blocks + c)) → ((l : ℕ) → n ≤ l → l < n + instruction_fresh_labels i → May l) → May after → AllSound May blocks 0 (leaf_fragments n after i)
+leaf_sound May (Jump dest) n after blocks constants names may held drawn here = (tt, ((length-branch 15, may dest.0 names.0), tt))
+leaf_sound May (CondBr taken not_taken mask) n after blocks constants names may held drawn here =
+    (tt, ((length-branch mask, may taken.0 names.0), (tt, ((length-branch 15, may not_taken.0 names.1.0), tt))))
 leaf_sound May (CondBreak mask) n after blocks constants names may held drawn here = ((length-branch mask, here), tt)
 leaf_sound May (JTSequence ridx other mask targets) n after blocks constants names may held drawn here = (
   tt,
@@ -274,6 +279,8 @@ jump_begins (Indirect reg) = tt
 
 body_sound : (May : ℕ → Type 0) (b : StepBody) (n after blocks constants : ℕ) → BodyNames blocks constants b → ((l : ℕ) → l < blocks → May l) → ((c : ℕ) → c < constants → May (blocks + c)) → ((l : ℕ) → n ≤ l → l < n + body_fresh_labels b → May l) → May after → AllSound May blocks 0 (body_fragments n after b)
 body_sound May (Whole i) n after blocks constants names may held drawn here = leaf_sound May i n after blocks constants names may held drawn here
+body_sound May (Folded NothingLeft i) n after blocks constants names may held drawn here = tt
+body_sound May (Folded (BranchLeft mask b) i) n after blocks constants names may held drawn here = ((length-branch mask, may b names.0), tt)
 body_sound May (CallStep c) n after blocks constants names may held drawn here = parts_sound May (step_parts (CallingStep c)) blocks constants 0 names (call_begins c.link c.target c.sites) may held
 body_sound May NoLoad n after blocks constants names may held drawn here = tt
 body_sound May (TailOpening target first_saved is_lost) n after blocks constants names may held drawn here = tt
@@ -445,6 +452,7 @@ orderly_step May StartStep s blocks p count le sound h = record { even = h.even;
 orderly_step May Draw s blocks p count le sound h = record { even = h.even; labels = All-push (Stands (length s.bytes)) s.labels None h.labels tt; uses = h.uses }
 orderly_step May (Bind l) s blocks p count le sound h = record { even = h.even; labels = All-set (Stands (length s.bytes)) s.labels l (Some (length s.bytes)) (h.even, omega arith) h.labels; uses = h.uses }
 orderly_step May (AddSite site) s blocks p count le sound h = record { even = h.even; labels = h.labels; uses = h.uses }
+orderly_step May (RecordBranch noted) s blocks p count le sound h = record { even = h.even; labels = h.labels; uses = h.uses }
 
 applied_length : (x : Fragment) (s : BufferState) → length (apply s x).bytes ≡ length s.bytes + put_length (x ∷ [])
 applied_length (Put bs) s = omega (arith, length-append s.bytes bs)
@@ -456,6 +464,7 @@ applied_length StartStep s = omega arith
 applied_length Draw s = omega arith
 applied_length (Bind l) s = omega arith
 applied_length (AddSite site) s = omega arith
+applied_length (RecordBranch noted) s = omega arith
 
 applied_count : (x : Fragment) (s : BufferState) → (apply s x).block_count ≡ s.block_count
 applied_count (Put bs) s = refl
@@ -467,6 +476,7 @@ applied_count StartStep s = refl
 applied_count Draw s = refl
 applied_count (Bind l) s = refl
 applied_count (AddSite site) s = refl
+applied_count (RecordBranch noted) s = refl
 
 pub orderly_run : (May : ℕ → Type 0) (xs : List Fragment) (s : BufferState) (blocks p : ℕ) → s.block_count ≡ blocks → p ≤ length s.bytes → AllSound May blocks p xs → Orderly May s → Orderly May (apply_all s xs)
 orderly_run May [] s blocks p count le sound h = h

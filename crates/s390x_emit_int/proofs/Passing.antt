@@ -4,6 +4,8 @@ use Rattle.std.proofs.lemmas.Bool.{ltb-true}
 use Rattle.s390x_inst.specs.Emission.{Emission}
 use Rattle.s390x_inst.specs.declared.state.IsaFlags.{IsaFlags}
 use Rattle.s390x_base.specs.declared.error.EmitError.TheVariants.{LabelOutOfRange}
+use Rattle.s390x_buffer.specs.BlockEnd.{KeepsTables}
+use Rattle.s390x_buffer.specs.Extends.{Extends}
 use Rattle.s390x_buffer.specs.State.{BufferState, Constant, label_limit}
 use Rattle.s390x_inst.specs.declared.inst.Inst.{Inst}
 use Rattle.s390x_typed_steps.specs.Tree.{Tree, empty, leaf, loop_node, prepend, tree, block_tree, Whole}
@@ -35,6 +37,14 @@ declared_by n cs = record { blocks = n; aligns = aligns_of cs }
 -- what is declared stays
 pub turns_declared : (s t : BufferState) (k m : ℕ) → Turns s t k m → declared_in t ≡ declared_in s
 turns_declared s t k m u = ap₂ declared_by u.blocks u.constants
+
+-- nor does a call change it that lets all entries stand
+pub entries_declared : (s t : BufferState) → Extends s t → declared_in t ≡ declared_in s
+entries_declared s t k = ap₂ declared_by k.entries.block_count k.entries.constants
+
+-- or the end of a block behind it
+pub still_declared : (s t u : BufferState) → Extends s t → KeepsTables t u → declared_in u ≡ declared_in s
+still_declared s t u k e = ap₂ declared_by e.block_count e.constants ∙ entries_declared s t k
 
 pub step_turns : (s t : BufferState) → t ≡ apply s StartStep → Turns s t 0 0
 step_turns s t e = record { unpoisoned = ap (λ x. x.failed) e; blocks = ap (λ x. x.block_count) e; constants = ap (λ x. x.constants) e; labels = omega (arith, ap (λ x. length x.labels) e); bytes = omega (arith, ap (λ x. length x.bytes) e) }

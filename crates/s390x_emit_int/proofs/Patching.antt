@@ -6,7 +6,7 @@ use Rattle.s390x_buffer.specs.Patch.{patch, patch_size, set2, set4, word_from, h
 use Rattle.s390x_buffer.specs.declared.entries.LabelFixup.{LabelFixup}
 use Rattle.s390x_buffer.specs.declared.label_use.LabelUse.{LabelUse}
 use Rattle.s390x_buffer.specs.declared.label_use.LabelUse.TheVariants.{BranchRI, BranchRIL, PCRel32Dbl, PCRel32}
-use Rattle.s390x_emit_int.specs.Fragments.{Fragment, apply, apply_all, Put, PutTrapping, PutReloc, Link, LinkConstant, StartStep, Draw, Bind, AddSite}
+use Rattle.s390x_emit_int.specs.Fragments.{Fragment, apply, apply_all, Put, PutTrapping, PutReloc, Link, LinkConstant, StartStep, Draw, Bind, AddSite, RecordBranch}
 use Rattle.s390x_emit_int.specs.Resolve.{resolve, Wide, UsesWithin}
 
 set4_left : (bs x : List ℕ) (o v : ℕ) → o + 4 ≤ length bs → set4 (bs ++ x) o v ≡ set4 bs o v ++ x
@@ -177,3 +177,4 @@ patched_run (StartStep ∷ ps) s off w h = patched_run ps (apply s StartStep) of
 patched_run (Draw ∷ ps) s off w h = patched_run ps (apply s Draw) off w h
 patched_run (Bind l ∷ ps) s off w h = patched_run ps (apply s (Bind l)) off w h
 patched_run (AddSite site ∷ ps) s off w h = patched_run ps (apply s (AddSite site)) off w h
+patched_run (RecordBranch noted ∷ ps) s off w h = patched_run ps (apply s (RecordBranch noted)) off w h

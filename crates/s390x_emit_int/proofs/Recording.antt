@@ -12,7 +12,7 @@ use Rattle.s390x_typed_steps.specs.Parts.{CodePart, Row, Trapping, Branch, Relat
 use Rattle.s390x_typed_steps.specs.Traps.{parts_traps, step_traps, traps_from}
 use Rattle.s390x_typed_steps.specs.Sizes.{body_size}
 use Rattle.s390x_typed_steps.specs.Causes.{fresh_labels, body_fresh_labels}
-use Rattle.s390x_emit_int.specs.Fragments.{Fragment, Put, PutTrapping, PutReloc, Link, LinkConstant, StartStep, Draw, Bind, apply, apply_all, AddSite}
+use Rattle.s390x_emit_int.specs.Fragments.{Fragment, Put, PutTrapping, PutReloc, Link, LinkConstant, StartStep, Draw, Bind, apply, apply_all, AddSite, RecordBranch}
 use Rattle.s390x_emit_int.specs.Emission.{part_fragments, leaf_fragments, back_fragments, fragments, function_fragments, body_fragments}
 use Rattle.s390x_emit_int.specs.Resolve.{put_length}
 use Rattle.s390x_emit_int.specs.Bound.{StepsFollow}
@@ -32,6 +32,7 @@ recorded p (StartStep ∷ ps) = recorded p ps
 recorded p (Draw ∷ ps) = recorded p ps
 recorded p (Bind l ∷ ps) = recorded p ps
 recorded p (AddSite site ∷ ps) = recorded p ps
+recorded p (RecordBranch noted ∷ ps) = recorded p ps
 
 pub traps_run : (ps : List Fragment) (s : BufferState) → (apply_all s ps).traps ≡ s.traps ++ recorded (length s.bytes) ps
 traps_run [] s = sym (append-nil s.traps)
@@ -46,6 +47,7 @@ traps_run (StartStep ∷ ps) s = traps_run ps (apply s StartStep)
 traps_run (Draw ∷ ps) s = traps_run ps (apply s Draw)
 traps_run (Bind l ∷ ps) s = traps_run ps (apply s (Bind l))
 traps_run (AddSite site ∷ ps) s = traps_run ps (apply s (AddSite site))
+traps_run (RecordBranch noted ∷ ps) s = traps_run ps (apply s (RecordBranch noted))
 
 recorded_append : (a b : List Fragment) (p : ℕ) → recorded p (a ++ b) ≡ recorded p a ++ recorded (p + put_length a) b
 recorded_append [] b p = ap (λ m. recorded m b) (sym (add-zero p))
@@ -60,6 +62,7 @@ recorded_append (StartStep ∷ a) b p = recorded_append a b p
 recorded_append (Draw ∷ a) b p = recorded_append a b p
 recorded_append (Bind l ∷ a) b p = recorded_append a b p
 recorded_append (AddSite site ∷ a) b p = recorded_append a b p
+recorded_append (RecordBranch noted ∷ a) b p = recorded_append a b p
 
 parts_recorded : (parts : List CodePart) (p : ℕ) → recorded p (part_fragments parts) ≡ parts_traps p parts
 parts_recorded [] p = refl

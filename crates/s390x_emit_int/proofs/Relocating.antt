@@ -14,7 +14,7 @@ use Rattle.s390x_typed_steps.specs.Parts.{CodePart, Row, Trapping, Branch, Relat
 use Rattle.s390x_typed_steps.specs.Relocs.{parts_relocs, step_relocs, relocs_from}
 use Rattle.s390x_typed_steps.specs.Sizes.{body_size}
 use Rattle.s390x_typed_steps.specs.Causes.{fresh_labels, body_fresh_labels}
-use Rattle.s390x_emit_int.specs.Fragments.{Fragment, Put, PutTrapping, PutReloc, Link, LinkConstant, StartStep, Draw, Bind, apply, apply_all, AddSite}
+use Rattle.s390x_emit_int.specs.Fragments.{Fragment, Put, PutTrapping, PutReloc, Link, LinkConstant, StartStep, Draw, Bind, apply, apply_all, AddSite, RecordBranch}
 use Rattle.s390x_emit_int.specs.Emission.{part_fragments, leaf_fragments, back_fragments, fragments, function_fragments, body_fragments}
 use Rattle.s390x_emit_int.specs.Resolve.{put_length}
 use Rattle.s390x_emit_int.specs.Bound.{StepsFollow}
@@ -34,6 +34,7 @@ relocated p (StartStep ∷ ps) = relocated p ps
 relocated p (Draw ∷ ps) = relocated p ps
 relocated p (Bind l ∷ ps) = relocated p ps
 relocated p (AddSite site ∷ ps) = relocated p ps
+relocated p (RecordBranch noted ∷ ps) = relocated p ps
 
 pub relocs_run : (ps : List Fragment) (s : BufferState) → (apply_all s ps).relocs ≡ s.relocs ++ relocated (length s.bytes) ps
 relocs_run [] s = sym (append-nil s.relocs)
@@ -48,6 +49,7 @@ relocs_run (StartStep ∷ ps) s = relocs_run ps (apply s StartStep)
 relocs_run (Draw ∷ ps) s = relocs_run ps (apply s Draw)
 relocs_run (Bind l ∷ ps) s = relocs_run ps (apply s (Bind l))
 relocs_run (AddSite site ∷ ps) s = relocs_run ps (apply s (AddSite site))
+relocs_run (RecordBranch noted ∷ ps) s = relocs_run ps (apply s (RecordBranch noted))
 
 relocated_append : (a b : List Fragment) (p : ℕ) → relocated p (a ++ b) ≡ relocated p a ++ relocated (p + put_length a) b
 relocated_append [] b p = ap (λ m. relocated m b) (sym (add-zero p))
@@ -62,6 +64,7 @@ relocated_append (StartStep ∷ a) b p = relocated_append a b p
 relocated_append (Draw ∷ a) b p = relocated_append a b p
 relocated_append (Bind l ∷ a) b p = relocated_append a b p
 relocated_append (AddSite site ∷ a) b p = relocated_append a b p
+relocated_append (RecordBranch noted ∷ a) b p = relocated_append a b p
 
 parts_relocated : (parts : List CodePart) (p : ℕ) → relocated p (part_fragments parts) ≡ parts_relocs p parts
 parts_relocated [] p = refl

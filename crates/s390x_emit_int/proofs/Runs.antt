@@ -1,10 +1,10 @@
 -- Running fragments: how the lists of a buffer grow.
 use Rattle.s390x_typed_steps.specs.Steps.{step_of}
-use Rattle.std.proofs.Common.{◌≡◌, ℕ, ◌+◌, ◌<◌, ◌≢◌, Option, Some, None, List, [], ◌∷◌, ◌++◌, length, get_or, refl, sym, ap, ◌∙◌, subst, arith, length-append, length-set}
+use Rattle.std.proofs.Common.{◌≡◌, ℕ, ◌+◌, ◌-◌, ◌<◌, ◌≢◌, Option, Some, None, List, [], ◌∷◌, ◌++◌, length, get_or, refl, sym, ap, ◌∙◌, subst, arith, length-append, length-set}
 use Rattle.std.proofs.lemmas.List.{get_or_append_left, get_or-set_other, get_or-set_same}
 use Rattle.s390x_buffer.specs.State.{BufferState}
 use Rattle.s390x_inst.specs.declared.inst.Inst.{Inst}
-use Rattle.s390x_inst.specs.declared.inst.Inst.TheVariants.{CondBreak, JTSequence}
+use Rattle.s390x_inst.specs.declared.inst.Inst.TheVariants.{Jump, CondBr, CondBreak, JTSequence}
 use Rattle.s390x_base.specs.Regs.{number_of}
 use Rattle.s390x_base.specs.declared.ir.MachLabel.{MachLabel}
 use Rattle.s390x_typed_steps.specs.Tree.{Tree, empty, leaf, loop_node, Whole, StepBody}
@@ -14,8 +14,8 @@ use Rattle.s390x_typed_steps.specs.MachineInstruction.{MachineInstruction, rr, r
 use Rattle.std.specs.Int.{w64, to_be_bytes}
 use Rattle.s390x_typed_steps.specs.Rows.{symbol_call, word_bytes}
 use Rattle.s390x_typed_steps.specs.Parts.{CodePart, Row, Trapping, Branch, Relative, RelativeConstant, RelativeSymbol, SymbolValue, TrapHere, TableWord, ToBlock, ToStep, table_words, table_parts, instruction_parts, part_size, parts_size, CallSymbol, SiteHere, step_parts}
-use Rattle.s390x_emit_int.specs.Fragments.{Fragment, apply, apply_all, Put, StartStep, Draw, Bind}
-use Rattle.s390x_emit_int.specs.Emission.{branch, relative, table_word, part_fragment, part_fragments, table_rows, table_head, table_fragments, leaf_fragments, back_fragments, fragments, body_fragments}
+use Rattle.s390x_emit_int.specs.Fragments.{Fragment, FoldableBranch, AlwaysTaken, TakenWhere, apply, apply_all, Put, StartStep, Draw, Bind, RecordBranch}
+use Rattle.s390x_emit_int.specs.Emission.{branch, jump_fragments, where_fragments, choice_fragments, relative, table_word, part_fragment, part_fragments, table_rows, table_head, table_fragments, leaf_fragments, back_fragments, fragments, body_fragments}
 use Rattle.s390x_format.specs.Formats.{length_of}
 use Rattle.s390x_format.proofs.Encoding.{encode-length}
 
@@ -171,7 +171,26 @@ table_label s n index mask other targets e =
     let inside' : n < length u.labels = omega (arith, inside, length-set t.labels n (Some (length t.bytes))) in
     (parts_grow (table_words 0 targets) u).kept n inside' ∙ get_or-set_same t.labels n (Some (length t.bytes)) None inside ∙ ap Some g.bytes
 
+-- a record of a branch changes no list
+noted_grows : (s t : BufferState) (noted : FoldableBranch) (k m : ℕ) → Grows (apply s (RecordBranch noted)) t k m → Grows s t k m
+noted_grows s t noted k m g = record { labels = g.labels; kept = g.kept; bytes = g.bytes }
+
+jump_grows : (s : BufferState) (l : ℕ) → Grows s (apply_all s (jump_fragments l)) 0 6
+jump_grows s l = noted_grows s _ (AlwaysTaken l) 0 6 (branch_grows (apply s (RecordBranch (AlwaysTaken l))) 15 l)
+
+where_grows : (s : BufferState) (mask l : ℕ) → Grows s (apply_all s (where_fragments mask l)) 0 6
+where_grows s mask l =
+    let noted = TakenWhere l (bytes_of (ril_c 0xc04 (15 - mask) 0)) in
+    noted_grows s _ noted 0 6 (branch_grows (apply s (RecordBranch noted)) mask l)
+
+choice_grows : (s : BufferState) (mask taken not_taken : ℕ) → Grows s (apply_all s (choice_fragments mask taken not_taken)) 0 12
+choice_grows s mask taken not_taken =
+    let s1 = apply_all s (where_fragments mask taken) in
+    grows_on s s1 (apply_all s1 (jump_fragments not_taken)) 0 6 0 6 (where_grows s mask taken) (jump_grows s1 not_taken)
+
 pub leaf_grows : (i : Inst) (s : BufferState) (n after : ℕ) → n ≡ length s.labels → Grows s (apply_all s (leaf_fragments n after i)) (instruction_fresh_labels i) (instruction_size i)
+leaf_grows (Jump dest) s n after e = jump_grows s dest.0
+leaf_grows (CondBr taken not_taken mask) s n after e = choice_grows s mask taken.0 not_taken.0
 leaf_grows (CondBreak mask) s n after e = branch_grows s mask after
 leaf_grows (JTSequence ridx other mask targets) s n after e = table_grows s n (number_of ridx) mask other.0 targets.items e
 leaf_grows i s n after e = parts_grow (instruction_parts i) s

@@ -5,7 +5,7 @@ use Rattle.s390x_inst.specs.declared.state.IsaFlags.{IsaFlags}
 use Rattle.s390x_base.specs.declared.error.EmitError.{EmitError}
 use Rattle.s390x_base.specs.declared.error.EmitError.TheVariants.{BadRegister}
 use Rattle.s390x_inst.specs.declared.inst.Inst.{Inst}
-use Rattle.s390x_inst.specs.declared.inst.Inst.TheVariants.{CondBreak, JTSequence}
+use Rattle.s390x_inst.specs.declared.inst.Inst.TheVariants.{Jump, CondBr, CondBreak, JTSequence}
 use Rattle.s390x_typed_steps.specs.SingleCode.{code_where, single_code}
 use Rattle.s390x_typed_steps.specs.SingleInstruction.{SingleInstruction, single_instruction, stop_code}
 use Rattle.s390x_typed_steps.specs.MachineInstruction.{MachineInstruction, bytes_of, size_of}
@@ -36,16 +36,22 @@ no_single None e = refl
 no_single (Some x) e = absurd (cc)
 
 pub some_fragments : (i : Inst) (x : SingleInstruction) (n after : ℕ) → Some x ≡ single_instruction i → leaf_fragments n after i ≡ part_fragments (row_part x.row (stop_code i) ∷ [])
+some_fragments (Jump dest) x n after e = absurd (cc)
+some_fragments (CondBr taken not_taken mask) x n after e = absurd (cc)
 some_fragments (CondBreak mask) x n after e = absurd (cc)
 some_fragments (JTSequence ridx other mask targets) x n after e = absurd (cc)
 some_fragments i x n after e = ap (λ o. part_fragments (parts_or o (stop_code i) (memory_or (memory i) (branch_parts i)))) (sym e)
 
 pub none_fragments : (i : Inst) (n after : ℕ) → None ≡ single_instruction i → None ≡ memory i → leaf_fragments n after i ≡ branch_fragments n after i
+none_fragments (Jump dest) n after e m = refl
+none_fragments (CondBr taken not_taken mask) n after e m = refl
 none_fragments (CondBreak mask) n after e m = refl
 none_fragments (JTSequence ridx other mask targets) n after e m = refl
 none_fragments i n after e m = ap (λ o. part_fragments (parts_or o (stop_code i) (memory_or (memory i) (branch_parts i)))) (sym e) ∙ ap (λ o. part_fragments (memory_or o (branch_parts i))) (sym m)
 
 pub memory_fragments : (i : Inst) (x : MemoryInstruction) (n after : ℕ) → None ≡ single_instruction i → Some x ≡ memory i → leaf_fragments n after i ≡ part_fragments (memory_parts x)
+memory_fragments (Jump dest) x n after e m = absurd (cc)
+memory_fragments (CondBr taken not_taken mask) x n after e m = absurd (cc)
 memory_fragments (CondBreak mask) x n after e m = absurd (cc)
 memory_fragments (JTSequence ridx other mask targets) x n after e m = absurd (cc)
 memory_fragments i x n after e m = ap (λ o. part_fragments (parts_or o (stop_code i) (memory_or (memory i) (branch_parts i)))) (sym e) ∙ ap (λ o. part_fragments (memory_or o (branch_parts i))) (sym m)

@@ -11,7 +11,7 @@ use Rattle.s390x_typed_steps.specs.Parts.{CodePart, Row, Trapping, Branch, Relat
 use Rattle.s390x_typed_steps.specs.Sites.{PlacedSite, call_of, try_of, patch_of, map_of, call_offsets, try_sites, patches, stack_maps, parts_sites, step_sites, sites_from}
 use Rattle.s390x_typed_steps.specs.Sizes.{body_size}
 use Rattle.s390x_typed_steps.specs.Causes.{fresh_labels, body_fresh_labels}
-use Rattle.s390x_emit_int.specs.Fragments.{Fragment, Put, PutTrapping, PutReloc, Link, LinkConstant, StartStep, Draw, Bind, apply, apply_all, AddSite}
+use Rattle.s390x_emit_int.specs.Fragments.{Fragment, Put, PutTrapping, PutReloc, Link, LinkConstant, StartStep, Draw, Bind, apply, apply_all, AddSite, RecordBranch}
 use Rattle.s390x_emit_int.specs.Emission.{part_fragments, leaf_fragments, back_fragments, fragments, function_fragments, body_fragments}
 use Rattle.s390x_emit_int.specs.Resolve.{put_length}
 use Rattle.s390x_emit_int.specs.Bound.{StepsFollow}
@@ -31,6 +31,7 @@ sited p (StartStep ∷ ps) = sited p ps
 sited p (Draw ∷ ps) = sited p ps
 sited p (Bind l ∷ ps) = sited p ps
 sited p (AddSite site ∷ ps) = record { offset = p; site = site } ∷ sited p ps
+sited p (RecordBranch noted ∷ ps) = sited p ps
 
 -- each table of a buffer has these sites besides
 pub record Sited (s t : BufferState) (xs : List PlacedSite) : Type 0 where
@@ -56,6 +57,7 @@ sites_run (PutTrapping bs byte code ∷ ps) s = sited_on s (apply s (PutTrapping
 sites_run (Link k l bs ∷ ps) s = sited_on s (apply s (Link k l bs)) _ _ _ ps refl refl refl refl (length-append s.bytes bs) (sites_run ps (apply s (Link k l bs)))
 sites_run (LinkConstant c bs ∷ ps) s = sited_on s (apply s (LinkConstant c bs)) _ _ _ ps refl refl refl refl (length-append s.bytes bs) (sites_run ps (apply s (LinkConstant c bs)))
 sites_run (StartStep ∷ ps) s = sited_on s (apply s StartStep) _ _ _ ps refl refl refl refl refl (sites_run ps (apply s StartStep))
+sites_run (RecordBranch noted ∷ ps) s = sited_on s (apply s (RecordBranch noted)) _ _ _ ps refl refl refl refl refl (sites_run ps (apply s (RecordBranch noted)))
 sites_run (Draw ∷ ps) s = sited_on s (apply s Draw) _ _ _ ps refl refl refl refl refl (sites_run ps (apply s Draw))
 sites_run (Bind l ∷ ps) s = sited_on s (apply s (Bind l)) _ _ _ ps refl refl refl refl refl (sites_run ps (apply s (Bind l)))
 sites_run (AddSite site ∷ ps) s =
@@ -79,6 +81,7 @@ sited_append (StartStep ∷ a) b p = sited_append a b p
 sited_append (Draw ∷ a) b p = sited_append a b p
 sited_append (Bind l ∷ a) b p = sited_append a b p
 sited_append (AddSite site ∷ a) b p = let e : PlacedSite = record { offset = p; site = site } in ap (λ l. e ∷ l) (sited_append a b p)
+sited_append (RecordBranch noted ∷ a) b p = sited_append a b p
 
 parts_sited : (parts : List CodePart) (p : ℕ) → sited p (part_fragments parts) ≡ parts_sites p parts
 parts_sited [] p = refl

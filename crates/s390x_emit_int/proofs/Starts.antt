@@ -10,7 +10,7 @@ use Rattle.s390x_typed_steps.specs.Parts.{CodePart, Row, Trapping, Branch, Relat
 use Rattle.s390x_typed_steps.specs.Image.{step_offsets}
 use Rattle.s390x_typed_steps.specs.Sizes.{body_size}
 use Rattle.s390x_typed_steps.specs.Causes.{declared_in, fresh_labels, body_fresh_labels}
-use Rattle.s390x_emit_int.specs.Fragments.{Fragment, Put, PutTrapping, PutReloc, Link, LinkConstant, StartStep, Draw, Bind, apply, apply_all, AddSite}
+use Rattle.s390x_emit_int.specs.Fragments.{Fragment, Put, PutTrapping, PutReloc, Link, LinkConstant, StartStep, Draw, Bind, apply, apply_all, AddSite, RecordBranch}
 use Rattle.s390x_emit_int.specs.Emission.{part_fragments, leaf_fragments, back_fragments, fragments, body_fragments}
 use Rattle.s390x_emit_int.specs.Resolve.{put_length}
 use Rattle.s390x_emit_int.specs.Bound.{StepsFollow}
@@ -29,6 +29,7 @@ marks p (StartStep ∷ ps) = p ∷ marks p ps
 marks p (Draw ∷ ps) = marks p ps
 marks p (Bind l ∷ ps) = marks p ps
 marks p (AddSite site ∷ ps) = marks p ps
+marks p (RecordBranch noted ∷ ps) = marks p ps
 
 pub starts_run : (ps : List Fragment) (s : BufferState) → (apply_all s ps).starts ≡ s.starts ++ marks (length s.bytes) ps
 starts_run [] s = sym (append-nil s.starts)
@@ -41,6 +42,7 @@ starts_run (StartStep ∷ ps) s = starts_run ps (apply s StartStep) ∙ append_a
 starts_run (Draw ∷ ps) s = starts_run ps (apply s Draw)
 starts_run (Bind l ∷ ps) s = starts_run ps (apply s (Bind l))
 starts_run (AddSite site ∷ ps) s = starts_run ps (apply s (AddSite site))
+starts_run (RecordBranch noted ∷ ps) s = starts_run ps (apply s (RecordBranch noted))
 
 pub marks_append : (a b : List Fragment) (p : ℕ) → marks p (a ++ b) ≡ marks p a ++ marks (p + put_length a) b
 marks_append [] b p = ap (λ m. marks m b) (sym (add-zero p))
@@ -53,6 +55,7 @@ marks_append (StartStep ∷ a) b p = ap (λ l. p ∷ l) (marks_append a b p)
 marks_append (Draw ∷ a) b p = marks_append a b p
 marks_append (Bind l ∷ a) b p = marks_append a b p
 marks_append (AddSite site ∷ a) b p = marks_append a b p
+marks_append (RecordBranch noted ∷ a) b p = marks_append a b p
 
 parts_unpoisoned : (parts : List CodePart) (p : ℕ) → marks p (part_fragments parts) ≡ []
 parts_unpoisoned [] p = refl
@@ -139,6 +142,7 @@ same_run (StartStep ∷ ps) s = let r = same_run ps (apply s StartStep) in recor
 same_run (Draw ∷ ps) s = let r = same_run ps (apply s Draw) in record { block_count = r.block_count; constants = r.constants; failed = r.failed }
 same_run (Bind l ∷ ps) s = let r = same_run ps (apply s (Bind l)) in record { block_count = r.block_count; constants = r.constants; failed = r.failed }
 same_run (AddSite site ∷ ps) s = let r = same_run ps (apply s (AddSite site)) in record { block_count = r.block_count; constants = r.constants; failed = r.failed }
+same_run (RecordBranch noted ∷ ps) s = let r = same_run ps (apply s (RecordBranch noted)) in record { block_count = r.block_count; constants = r.constants; failed = r.failed }
 
 -- what instructions may name stays the same
 declared_applied : (x : Fragment) (s : BufferState) → declared_in (apply s x) ≡ declared_in s
@@ -151,6 +155,7 @@ declared_applied StartStep s = refl
 declared_applied Draw s = refl
 declared_applied (Bind l) s = refl
 declared_applied (AddSite site) s = refl
+declared_applied (RecordBranch noted) s = refl
 
 pub declared_run : (ps : List Fragment) (s : BufferState) → declared_in (apply_all s ps) ≡ declared_in s
 declared_run [] s = refl

@@ -1,11 +1,11 @@
 -- The fragments of a tree of instructions, with label numbers.
 use Rattle.s390x_typed_steps.specs.Steps.{step_of}
-use Rattle.std.specs.Prelude.{ℕ, ◌+◌, pos, ◌+ℤ◌, List, [], ◌∷◌, ◌++◌, Option, Some, None}
+use Rattle.std.specs.Prelude.{ℕ, ◌+◌, ◌-◌, pos, ◌+ℤ◌, List, [], ◌∷◌, ◌++◌, Option, Some, None}
 use Rattle.std.specs.Int.{w64, to_be_bytes}
 use Rattle.s390x_base.specs.declared.ir.Reloc.TheVariants.{S390xPCRel32Dbl, S390xPLTRel32Dbl, Abs8}
 use Rattle.s390x_buffer.specs.declared.label_use.LabelUse.TheVariants.{BranchRIL, PCRel32}
 use Rattle.s390x_inst.specs.declared.inst.Inst.{Inst}
-use Rattle.s390x_inst.specs.declared.inst.Inst.TheVariants.{CondBreak, JTSequence}
+use Rattle.s390x_inst.specs.declared.inst.Inst.TheVariants.{Jump, CondBr, CondBreak, JTSequence}
 use Rattle.s390x_base.specs.Regs.{number_of}
 use Rattle.s390x_base.specs.declared.ir.MachLabel.{MachLabel}
 use Rattle.s390x_typed_steps.specs.Tree.{StepBody, Tree, Whole, empty, leaf, loop_node}
@@ -14,11 +14,23 @@ use Rattle.s390x_typed_steps.specs.Parts.{CodePart, Row, Trapping, Branch, Relat
 use Rattle.s390x_typed_steps.specs.Memory.{MemoryInstruction}
 use Rattle.s390x_typed_steps.specs.Rows.{symbol_call, word_bytes}
 use Rattle.s390x_typed_steps.specs.Causes.{body_fresh_labels, fresh_labels}
-use Rattle.s390x_emit_int.specs.Fragments.{Fragment, Put, PutTrapping, PutReloc, Link, LinkConstant, StartStep, Draw, Bind, AddSite}
+use Rattle.s390x_emit_int.specs.Fragments.{Fragment, Put, PutTrapping, PutReloc, Link, LinkConstant, StartStep, Draw, Bind, AddSite, RecordBranch, AlwaysTaken, TakenWhere}
 
 -- a branch to a label, its distance still zero
 abbrev pub branch : (mask label : ℕ) → Fragment
 branch mask label = Link BranchRIL label (bytes_of (ril_c 0xc04 mask 0))
+
+-- a branch that is always taken, recorded for the end of its block
+abbrev pub jump_fragments : (label : ℕ) → List Fragment
+jump_fragments label = RecordBranch (AlwaysTaken label) ∷ branch 15 label ∷ []
+
+-- the same of one under the mask, recorded with its code under the inverse mask
+abbrev pub where_fragments : (mask label : ℕ) → List Fragment
+where_fragments mask label = RecordBranch (TakenWhere label (bytes_of (ril_c 0xc04 (15 - mask) 0))) ∷ branch mask label ∷ []
+
+-- a branch to one label under the mask, or else to the other, each recorded
+abbrev pub choice_fragments : (mask taken not_taken : ℕ) → List Fragment
+choice_fragments mask taken not_taken = where_fragments mask taken ++ jump_fragments not_taken
 
 -- an address relative to the instruction, its distance still zero. The distance stands where a branch has it, and counts from the same place
 abbrev pub relative : (opcode register label : ℕ) → Fragment
@@ -65,6 +77,8 @@ table_fragments n index mask other targets = table_head n index mask other ++ pa
 -- the fragments of an instruction that names a place, goes elsewhere or ends the run; the next label to be drawn is n, and `after` is the label
 -- behind the innermost loop
 abbrev pub branch_fragments : (n after : ℕ) → Inst → List Fragment
+branch_fragments n after (Jump dest) = jump_fragments dest.0
+branch_fragments n after (CondBr taken not_taken mask) = choice_fragments mask taken.0 not_taken.0
 branch_fragments n after (CondBreak mask) = branch mask after ∷ []
 branch_fragments n after (JTSequence ridx other mask targets) = table_fragments n (number_of ridx) mask other.0 targets.items
 branch_fragments n after i = part_fragments (branch_parts i)
@@ -81,6 +95,8 @@ memory_size_or (Some x) others = parts_size (memory_parts x)
 
 -- the fragments of an instruction that is no loop
 abbrev pub leaf_fragments : (n after : ℕ) → Inst → List Fragment
+leaf_fragments n after (Jump dest) = jump_fragments dest.0
+leaf_fragments n after (CondBr taken not_taken mask) = choice_fragments mask taken.0 not_taken.0
 leaf_fragments n after (CondBreak mask) = branch mask after ∷ []
 leaf_fragments n after (JTSequence ridx other mask targets) = table_fragments n (number_of ridx) mask other.0 targets.items
 leaf_fragments n after i = part_fragments (instruction_parts i)

@@ -5,6 +5,7 @@ use Rattle.s390x_buffer.specs.State.{Constant}
 use Rattle.s390x_buffer.specs.declared.entries.MachBufferFinalized.{MachBufferFinalized}
 use Rattle.s390x_image.specs.Causes.{link_cause}
 use Rattle.s390x_image.specs.Symbols.{Symbols, no_symbols, with_address}
+use Rattle.s390x_typed_steps.specs.Folding.{folded_trees}
 use Rattle.s390x_typed_steps.specs.Ranges.{BlocksInRange}
 use Rattle.s390x_typed_steps.specs.Steps.{CallingStep, function_steps}
 use Rattle.s390x_typed_steps.specs.Tree.{Tree}
@@ -24,10 +25,10 @@ pub record LinkedRun (symbols : Symbols) (ts : List Tree) (cs : List Constant) (
   pub code : MachBufferFinalized
   pub checked : checked_cause base_facilities ts cs ≡ None
   pub masks : BlocksInRange ts
-  pub finished : IsFinishedCode ts cs code
+  pub finished : IsFinishedCode (folded_trees ts) cs code
   pub links : link_cause code 4096 symbols ≡ None
   pub lies : IsLoaded (linked_image code 4096 symbols) c.memory
-  pub run : Run (linked_image code 4096 symbols) (record { core = c; address = block_address (function_layout (linked symbols 4096 ts cs) ts (linked_image code 4096 symbols)) 0 }) trace
+  pub run : Run (linked_image code 4096 symbols) (record { core = c; address = block_address (function_layout (linked symbols 4096 (folded_trees ts) cs) (folded_trees ts) (linked_image code 4096 symbols)) 0 }) trace
 
 -- a function of two blocks: a run goes round the first block, leaves it and returns
 abbrev pub LinkedLoopRuns : Type 0
@@ -44,4 +45,4 @@ LinkedTrapRuns = LinkedRun symbols Relative.trees Relative.constants Relative.co
 -- a function with a call: its code lies in memory, and the call is its first step, so that runs from the return place are those behind it
 pub record LinkedCallStands : Type 0 where
   pub stands : LinkedRun symbols Call.trees [] Call.core []
-  pub calls : slice_get (function_steps Call.trees) 0 ≡ Some (CallingStep Call.calling)
+  pub calls : slice_get (function_steps (folded_trees Call.trees)) 0 ≡ Some (CallingStep Call.calling)

@@ -1,5 +1,6 @@
 -- A function: its image, and the first cause that refuses it.
-use Rattle.std.specs.Prelude.{◌≡◌, ◌+◌, ◌<◌, List, ◌++◌, length, map, ◌&&◌, nat_lt, nat_eq, Option}
+use Rattle.std.specs.Prelude.{◌≡◌, ℕ, ◌+◌, ◌<◌, List, ◌++◌, length, map, ◌&&◌, nat_lt, nat_eq, Option, Some, None}
+use Rattle.s390x_base.specs.declared.ir.MachLabel.{MachLabel}
 use Rattle.s390x_base.specs.declared.error.EmitError.{EmitError}
 use Rattle.s390x_base.specs.declared.error.EmitError.TheVariants.{BadStackState, LabelOutOfRange}
 use Rattle.s390x_inst.specs.Emission.{Emission}
@@ -16,6 +17,7 @@ use Rattle.s390x_typed_steps.specs.Image.{step_offset, unlinked, function_code, 
 use Rattle.s390x_typed_steps.specs.Traps.{function_traps}
 use Rattle.s390x_typed_steps.specs.Relocs.{function_relocs}
 use Rattle.s390x_typed_steps.specs.Sites.{function_sites, call_offsets, patches, stack_maps, function_try_entries}
+use Rattle.s390x_typed_steps.specs.Folding.{folded_trees, peak}
 use Rattle.s390x_typed_steps.specs.Sizes.{blocks_size}
 use Rattle.s390x_typed_steps.specs.Causes.{first_emit_cause, unless, declared_of, blocks_cause}
 
@@ -27,11 +29,21 @@ tree_of e b = block_tree e b.insts.items
 abbrev pub trees_of : Emission → AllocatedFunction → List Tree
 trees_of e f = map (tree_of e) f.blocks.items
 
+-- the same as their ends leave them
+abbrev pub folded_trees_of : Emission → AllocatedFunction → List Tree
+folded_trees_of e f = folded_trees (trees_of e f)
+
+-- a block's number is that of its label
+abbrev pub number_of_next : Option MachLabel → Option ℕ
+number_of_next None = None
+number_of_next (Some l) = Some l.0
+
 -- the constants of a function
 abbrev pub constants_of : AllocatedFunction → List Constant
 constants_of f = map constant_of f.constants.items
 
 -- The finished code and its tables: the bytes of the steps and then the constants, where each block, constant and step starts, and the steps' traps, relocations and sites.
+-- The blocks are those that their ends have folded.
 pub record IsFinishedCode (ts : List Tree) (cs : List Constant) (f : MachBufferFinalized) : Type 0 where
   pub bytes : f.bytes.items ≡ function_code (unlinked ts cs) ts ++ constant_bytes (blocks_size ts) cs
   pub block_starts : f.block_starts.items ≡ block_offsets (step_offset (function_steps ts)) 0 ts
@@ -50,11 +62,11 @@ pub record IsFinishedCode (ts : List Tree) (cs : List Constant) (f : MachBufferF
 abbrev pub start_cause : Emission → Option EmitError
 start_cause e = unless (nat_eq e.nominal 0 && nat_eq e.outgoing 0) BadStackState
 
--- the code with its constants ends below the limit
+-- the code ends below the limit at any time, a block's last step counted in full until its block has ended; and in the end with its constants
 abbrev pub code_length_cause : List Tree → List Constant → Option EmitError
-code_length_cause ts cs = unless (nat_lt (constants_end (blocks_size ts) cs) limit) LabelOutOfRange
+code_length_cause ts cs = unless (nat_lt (peak ts) limit && nat_lt (constants_end (blocks_size (folded_trees ts)) cs) limit) LabelOutOfRange
 
--- The constants' alignments, the count of blocks and constants, the steps in order, the length.
+-- Of a function's blocks as they are given: the constants' alignments, the count of blocks and constants, the steps in order, the length.
 abbrev pub checked_cause : IsaFlags → List Tree → List Constant → Option EmitError
 checked_cause flags ts cs = first_emit_cause (new_cause (length ts) cs) (first_emit_cause (blocks_cause flags (declared_of ts cs) (length ts + length cs) ts) (code_length_cause ts cs))
 

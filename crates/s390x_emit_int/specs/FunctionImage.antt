@@ -9,7 +9,7 @@ use Rattle.s390x_image.specs.Causes.{link_cause}
 use Rattle.s390x_image.specs.Symbols.{Symbols}
 use Rattle.s390x_image.specs.declared.error.LinkError.{LinkError}
 use Rattle.s390x_image.specs.declared.error.LinkError.TheVariants as link
-use Rattle.s390x_emit_int.specs.Function.{IsFinishedCode, constants_of, function_cause, trees_of}
+use Rattle.s390x_emit_int.specs.Function.{IsFinishedCode, constants_of, folded_trees_of, function_cause, trees_of}
 use Rattle.s390x_emit_int.specs.Headline.{RunsAsTyped, linked_image}
 use Rattle.s390x_emit_int.specs.declared.image.ImageError.{ImageError}
 use Rattle.s390x_emit_int.specs.declared.image.ImageError.TheVariants.{Refused, Link}
@@ -19,16 +19,16 @@ use Rattle.s390x_emit_int.specs.declared.image.ImageError.TheVariants.{Refused, 
 pub record IsImageOf (flags : IsaFlags) (state : Emission) (f : AllocatedFunction) (base : ℕ) (symbols : Symbols) (bytes : List ℕ) : Type 0 where
   pub code : MachBufferFinalized
   pub valid : function_cause flags (trees_of state f) (constants_of f) state ≡ None
-  pub finished : IsFinishedCode (trees_of state f) (constants_of f) code
+  pub finished : IsFinishedCode (folded_trees_of state f) (constants_of f) code
   pub linked : link_cause code base symbols ≡ None
   pub is : bytes ≡ (linked_image code base symbols).bytes
-  pub runs : RunsAsTyped symbols (trees_of state f) (constants_of f) (record { base = base; bytes = bytes })
+  pub runs : RunsAsTyped symbols (folded_trees_of state f) (constants_of f) (record { base = base; bytes = bytes })
 
 -- emission has no cause to refuse the function, and linking refuses its code by this cause
 pub record IsLinkRefused (flags : IsaFlags) (state : Emission) (f : AllocatedFunction) (base : ℕ) (symbols : Symbols) (error : LinkError) : Type 0 where
   pub code : MachBufferFinalized
   pub valid : function_cause flags (trees_of state f) (constants_of f) state ≡ None
-  pub finished : IsFinishedCode (trees_of state f) (constants_of f) code
+  pub finished : IsFinishedCode (folded_trees_of state f) (constants_of f) code
   pub cause : link_cause code base symbols ≡ Some error
 
 -- the first cause by which the function has no image, or want of memory

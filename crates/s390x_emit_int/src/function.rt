@@ -1,21 +1,25 @@
 //! Emitting a function: its blocks, and then its constants.
 
-ghost use Rattle.std.specs.Prelude.{◌≡◌, ℕ, ◌+◌, ◌<◌, ◌≤◌, ◌⊎◌, OnOk, length, map, min, get_or, None, Some, MatchResult, nat_lt};
+ghost use Rattle.std.specs.Prelude.{◌≡◌, ℕ, ◌+◌, ◌<◌, ◌≤◌, ◌⊎◌, List, OnOk, length, map, cond, get_or, None, Some, MatchResult, nat_lt, false};
 ghost use Rattle.s390x_base.specs.declared.error.EmitError.TheVariants.{NoMemory, LabelOutOfRange, BadStackState};
 ghost use Rattle.s390x_buffer.specs.Extends.{Extends};
 ghost use Rattle.s390x_buffer.specs.State.{constant_of, new_cause, put_cause, fresh_buffer, limit, label_limit};
 ghost use Rattle.s390x_buffer.specs.Constants.{constants_end};
 ghost use Rattle.s390x_inst.specs.declared.state.IsaFlags.{IsaFlags};
 ghost use Rattle.s390x_typed_steps.specs.Causes.{unless, declared_in, declared_of, block_cause, blocks_cause, nominal_behind, tree_cause};
-ghost use Rattle.s390x_typed_steps.specs.Tree.{block_tree};
+ghost use Rattle.s390x_typed_steps.specs.Tree.{Tree, block_tree};
+ghost use Rattle.s390x_typed_steps.specs.Folding.{folded_before, folded_trees, peak, peak_from};
 ghost use Rattle.s390x_typed_steps.specs.Sizes.{tree_size, blocks_size};
+ghost use Rattle.s390x_buffer.specs.declared.entries.RecordedBranches.TheVariants.{NoBranch};
 ghost use Rattle.s390x_emit_int.specs.Emission.{fragments, function_fragments};
 ghost use Rattle.s390x_typed_steps.specs.Ranges.{AllInRange, BlocksInRange};
-ghost use Rattle.s390x_emit_int.specs.Function.{tree_of, trees_of, constants_of, IsFinishedCode, start_cause, checked_cause, function_cause};
+ghost use Rattle.s390x_emit_int.specs.Function.{tree_of, trees_of, folded_trees_of, constants_of, number_of_next, IsFinishedCode, start_cause, code_length_cause, checked_cause, function_cause};
 ghost use Rattle.s390x_emit_int.specs.Fragments.{apply_all};
+ghost use Rattle.s390x_emit_int.specs.Totals.{AreCounted};
 ghost use Rattle.s390x_emit_int.specs.Room.{HasRoom, MembersPassed, TreePassed, LacksMemory};
 
 use crate::check::{Totals, check_block};
+use crate::folding::folded_bytes;
 use crate::stack::{advance, end_cause, mark_safepoint};
 use crate::tree::emit_inst;
 use s390x_base::{ConstantData, EmitError, MachLabel};
@@ -34,7 +38,25 @@ fn start_cause(state: &EmitState) -> Option<EmitError>
     }
 }
 
-// The first cause in the blocks, by what the buffer tells, with so many labels in use; or what they add.
+/// How long a function's code is: at its longest, and in the end. It is counted up to the limit of code, and where it reaches that, the end isn't told.
+#[derive(Clone, Copy)]
+pub struct Lengths {
+    pub longest: u64,
+    pub last: u64,
+}
+
+// The label of the block with this number, where there is one.
+fn label_of(number: u32, blocks: &[Block]) -> Option<MachLabel>
+    ensures { number_of_next result ≡ cond (nat_lt number (length blocks.now)) (Some number) None }
+{
+    if (number as usize) < blocks.len() {
+        Some(MachLabel(number))
+    } else {
+        None
+    }
+}
+
+// The first cause in the blocks, by what the buffer tells, with so many labels in use; or how long they are.
 fn check_blocks(
     alloc: Global,
     flags: IsaFlags,
@@ -42,24 +64,33 @@ fn check_blocks(
     sink: &MachBuffer,
     labels: u64,
     blocks: &[Block],
-) -> Result<Totals, EmitError>
+) -> Result<Lengths, EmitError>
     requires start { state.now.nominal ≡ 0 }
     requires few { labels ≤ label_limit }
-    ensures { MatchResult result (λ r. (blocks_cause flags (declared_in sink.now) labels (map (tree_of state.now) blocks.now) ≡ None) × (min limit r.bytes ≡ min limit (blocks_size (map (tree_of state.now) blocks.now))) × (r.bytes ≤ limit)) (λ e. (e ≡ NoMemory) ⊎ (blocks_cause flags (declared_in sink.now) labels (map (tree_of state.now) blocks.now) ≡ Some e)) }
+    requires numbered { length blocks.now ≤ 4294967295 }
+    ensures { let ts = map (tree_of state.now) blocks.now in MatchResult result (λ r. (blocks_cause flags (declared_in sink.now) labels ts ≡ None) × AreCounted r ts) (λ e. (e ≡ NoMemory) ⊎ (blocks_cause flags (declared_in sink.now) labels ts ≡ Some e)) }
 {
     let mut sum = Totals { labels, bytes: 0 };
+    let mut longest = 0;
+    let mut number: u32 = 0;
     for block in blocks {
         sum = check_block(alloc, flags, state, sink, sum, block)?;
+        longest = sum.bytes.max(longest);
+        number += 1;
+        sum.bytes -= folded_bytes(label_of(number, blocks), &block.insts);
     }
-    Ok(sum)
+    Ok(Lengths {
+        longest,
+        last: sum.bytes,
+    })
 }
 
-// Whether the code, of which so many bytes were counted, ends below the limit with its constants.
-fn length_cause(bytes: u64, constants: &[ConstantData]) -> Option<EmitError>
-    requires { bytes ≤ limit }
-    ensures { (size : ℕ) → min limit bytes ≡ min limit size → result ≡ unless (nat_lt (constants_end size (map constant_of constants.now)) limit) LabelOutOfRange }
+// Whether the code ends below the limit at any time, and in the end with its constants.
+fn length_cause(lengths: Lengths, constants: &[ConstantData]) -> Option<EmitError>
+    requires { lengths.longest < limit → lengths.last ≤ lengths.longest }
+    ensures { (ts : List Tree) → AreCounted lengths ts → result ≡ code_length_cause ts (map constant_of constants.now) }
 {
-    if bytes < 2147483648 && constants_fit(bytes as usize, constants) {
+    if lengths.longest < 2147483648 && constants_fit(lengths.last as usize, constants) {
         None
     } else {
         Some(EmitError::LabelOutOfRange)
@@ -91,31 +122,36 @@ fn emit_block_members(
     Ok(())
 }
 
-// A block that begins at the nominal size 0 and has to end there, where no cause refuses it.
+// A block that begins at the nominal size 0 and has to end there, where no cause refuses it. At its end its last branches are folded, before the next block.
 fn emit_block(
     alloc: Global,
     flags: IsaFlags,
     sink: &mut MachBuffer,
     state: &EmitState,
     block: &Block,
+    next: Option<MachLabel>,
 ) -> Result<(), EmitError>
     requires start { state.now.nominal ≡ 0 }
     requires room { HasRoom sink.old }
-    ensures answer { OnOk result (sink.new ≡ apply_all sink.old (fragments (length sink.old.labels) 0 (tree_of state.now block.now))) }
+    requires clear { sink.old.branches ≡ NoBranch }
+    ensures answer { OnOk result (sink.new ≡ apply_all sink.old (fragments (length sink.old.labels) 0 (folded_before (number_of_next next) (tree_of state.now block.now)))) }
+    ensures short { OnOk result (length sink.old.bytes + tree_size (tree_of state.now block.now) < limit) }
     ensures cause { OnOk result (block_cause flags (declared_in sink.old) (length sink.old.labels) (tree_of state.now block.now) ≡ None) }
     ensures lacks { MembersPassed sink.old 0 0 (tree_size (tree_of state.now block.now)) (block_cause flags (declared_in sink.old) (length sink.old.labels) (tree_of state.now block.now)) → LacksMemory result }
     ensures ranges { OnOk result (AllInRange (tree_of state.now block.now)) }
-    ensures kept { Extends sink.old sink.new }
+    ensures declared { declared_in sink.new ≡ declared_in sink.old }
 {
     let mut behind = *state;
     emit_block_members(alloc, flags, sink, &mut behind, &block.insts)?;
+    // in full it ends below the limit
+    let _longest = sink.cur_offset();
     match end_cause(&behind) {
         Some(error) => Err(error),
-        None => Ok(()),
+        None => sink.end_block(next),
     }
 }
 
-// Each block's label is bound before its members, where no cause refuses one. An error may be another one than the first cause.
+// Each block's label is bound before its members, and its last branches are folded, where no cause refuses one. An error may be another one than the first cause.
 fn emit_blocks(
     alloc: Global,
     flags: IsaFlags,
@@ -128,17 +164,19 @@ fn emit_blocks(
     requires count { sink.old.block_count ≡ length blocks.now }
     requires room { HasRoom sink.old }
     requires free { (l : ℕ) → l < length blocks.now → get_or sink.old.labels l None ≡ None }
-    ensures answer { OnOk result (sink.new ≡ apply_all sink.old (function_fragments (length sink.old.labels) 0 (map (tree_of state.now) blocks.now))) }
+    requires short { length sink.old.bytes < limit }
+    ensures answer { OnOk result (sink.new ≡ apply_all sink.old (function_fragments (length sink.old.labels) 0 (folded_trees (map (tree_of state.now) blocks.now)))) }
+    ensures longest { OnOk result (peak_from 0 (length sink.old.bytes) (map (tree_of state.now) blocks.now) < limit) }
     ensures cause { OnOk result (blocks_cause flags (declared_in sink.old) (length sink.old.labels) (map (tree_of state.now) blocks.now) ≡ None) }
-    ensures lacks { put_cause sink.old (blocks_size (map (tree_of state.now) blocks.now)) ≡ None → blocks_cause flags (declared_in sink.old) (length sink.old.labels) (map (tree_of state.now) blocks.now) ≡ None → LacksMemory result }
+    ensures lacks { sink.old.failed ≡ false → peak_from 0 (length sink.old.bytes) (map (tree_of state.now) blocks.now) < limit → blocks_cause flags (declared_in sink.old) (length sink.old.labels) (map (tree_of state.now) blocks.now) ≡ None → LacksMemory result }
     ensures ranges { OnOk result (BlocksInRange (map (tree_of state.now) blocks.now)) }
     ensures declared { declared_in sink.new ≡ declared_in sink.old }
 {
     let mut label: u32 = 0;
     for block in blocks {
         sink.bind_label(MachLabel(label))?;
-        emit_block(alloc, flags, sink, state, block)?;
         label += 1;
+        emit_block(alloc, flags, sink, state, block, label_of(label, blocks))?;
     }
     Ok(())
 }
@@ -166,13 +204,14 @@ fn check_function(
     flags: IsaFlags,
 ) -> Result<(), EmitError>
     requires start { state.now.nominal ≡ 0 }
+    requires few { length function.now.blocks.items ≤ 4294967295 }
     requires new { new_cause (length function.now.blocks.items) (constants_of function.now) ≡ None }
     requires declared { declared_in sink.now ≡ declared_of (trees_of state.now function.now) (constants_of function.now) }
     ensures { MatchResult result (λ _. checked_cause flags (trees_of state.now function.now) (constants_of function.now) ≡ None) (λ e. (e ≡ NoMemory) ⊎ (checked_cause flags (trees_of state.now function.now) (constants_of function.now) ≡ Some e)) }
 {
     let labels = function.blocks.len() as u64 + function.constants.len() as u64;
-    let sum = check_blocks(alloc, flags, state, sink, labels, &function.blocks)?;
-    match length_cause(sum.bytes, &function.constants) {
+    let lengths = check_blocks(alloc, flags, state, sink, labels, &function.blocks)?;
+    match length_cause(lengths, &function.constants) {
         Some(error) => Err(error),
         None => Ok(()),
     }
@@ -188,6 +227,7 @@ fn refusal(
     error: EmitError,
 ) -> EmitError
     requires start { state.now.nominal ≡ 0 }
+    requires few { length function.now.blocks.items ≤ 4294967295 }
     requires new { new_cause (length function.now.blocks.items) (constants_of function.now) ≡ None }
     requires declared { declared_in sink.now ≡ declared_of (trees_of state.now function.now) (constants_of function.now) }
     requires lacks { checked_cause flags (trees_of state.now function.now) (constants_of function.now) ≡ None → error ≡ NoMemory }
@@ -207,14 +247,16 @@ fn finish(
     flags: IsaFlags,
 ) -> Result<MachBufferFinalized, EmitError>
     requires new { new_cause (length function.now.blocks.items) (constants_of function.now) ≡ None }
-    requires emitted { let ts = trees_of state.now function.now in let cs = constants_of function.now in sink ≡ apply_all (fresh_buffer (length ts) cs) (function_fragments (length ts + length cs) 0 ts) }
+    requires emitted { let ts = folded_trees_of state.now function.now in let cs = constants_of function.now in sink ≡ apply_all (fresh_buffer (length ts) cs) (function_fragments (length ts + length cs) 0 ts) }
+    requires longest { peak (trees_of state.now function.now) < limit }
     requires cause { let ts = trees_of state.now function.now in let cs = constants_of function.now in blocks_cause flags (declared_of ts cs) (length ts + length cs) ts ≡ None }
     requires ranges { BlocksInRange (trees_of state.now function.now) }
-    ensures { let cause = checked_cause flags (trees_of state.now function.now) (constants_of function.now) in MatchResult result (λ f. (cause ≡ None) × IsFinishedCode (trees_of state.now function.now) (constants_of function.now) f × BlocksInRange (trees_of state.now function.now)) (λ e. (e ≡ NoMemory) ⊎ (cause ≡ Some e)) }
+    ensures { let cause = checked_cause flags (trees_of state.now function.now) (constants_of function.now) in MatchResult result (λ f. (cause ≡ None) × IsFinishedCode (folded_trees_of state.now function.now) (constants_of function.now) f × BlocksInRange (trees_of state.now function.now)) (λ e. (e ≡ NoMemory) ⊎ (cause ≡ Some e)) }
 {
-    match length_cause(u64::from(sink.cur_offset()), &function.constants) {
-        Some(error) => Err(error),
-        None => sink.finish(),
+    if constants_fit(sink.cur_offset() as usize, &function.constants) {
+        sink.finish()
+    } else {
+        Err(EmitError::LabelOutOfRange)
     }
 }
 
@@ -230,7 +272,7 @@ fn emit_in(
     requires few { length function.now.blocks.items ≤ 4294967295 }
     requires new { new_cause (length function.now.blocks.items) (constants_of function.now) ≡ None }
     requires fresh { sink ≡ fresh_buffer (length function.now.blocks.items) (constants_of function.now) }
-    ensures { let cause = checked_cause flags (trees_of state.now function.now) (constants_of function.now) in MatchResult result (λ f. (cause ≡ None) × IsFinishedCode (trees_of state.now function.now) (constants_of function.now) f × BlocksInRange (trees_of state.now function.now)) (λ e. (e ≡ NoMemory) ⊎ (cause ≡ Some e)) }
+    ensures { let cause = checked_cause flags (trees_of state.now function.now) (constants_of function.now) in MatchResult result (λ f. (cause ≡ None) × IsFinishedCode (folded_trees_of state.now function.now) (constants_of function.now) f × BlocksInRange (trees_of state.now function.now)) (λ e. (e ≡ NoMemory) ⊎ (cause ≡ Some e)) }
 {
     match emit_blocks(alloc, flags, &mut sink, state, &function.blocks) {
         Ok(()) => finish(sink, function, state, flags),
@@ -247,7 +289,10 @@ fn new_buffer(alloc: Global, function: &AllocatedFunction) -> Result<MachBuffer,
     MachBuffer::new(alloc, count, &function.constants)
 }
 
-/// Emits a function: binds each block's label, emits its members, and finishes the code with the constants behind it.
+/// Emits a function: binds each block's label, emits its members, folds its last branches, and finishes the code with the constants behind it.
+///
+/// Of a block's last step, where that is a `Jump` or a `CondBr`, no branch to the next block is left: a `Jump` there has no bytes, nor has a `CondBr` with both
+/// labels there; one of whose labels one is there is a single branch to the other label, under the inverse condition where `not_taken` is the other one.
 ///
 /// Refused by the first cause in this order: the state's sizes (`BadStackState`), the constants' alignments (`BadAlignment`),
 /// the count of blocks and constants (`LabelOutOfRange`), each step in order (first of all `MissingFacility`) and behind
@@ -258,7 +303,7 @@ pub fn emit_function(
     info: &EmitInfo,
     state: EmitState,
 ) -> Result<MachBufferFinalized, EmitError>
-    ensures { let trees = trees_of state function.now in let cause = function_cause info.now.isa_flags trees (constants_of function.now) state in MatchResult result (λ f. (cause ≡ None) × IsFinishedCode trees (constants_of function.now) f × BlocksInRange trees) (λ e. (e ≡ NoMemory) ⊎ (cause ≡ Some e)) }
+    ensures { let trees = trees_of state function.now in let cause = function_cause info.now.isa_flags trees (constants_of function.now) state in MatchResult result (λ f. (cause ≡ None) × IsFinishedCode (folded_trees_of state function.now) (constants_of function.now) f × BlocksInRange trees) (λ e. (e ≡ NoMemory) ⊎ (cause ≡ Some e)) }
 {
     if let Some(error) = start_cause(&state) {
         return Err(error);

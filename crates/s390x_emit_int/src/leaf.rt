@@ -6,7 +6,7 @@ ghost use Rattle.s390x_base.specs.Regs.{number_of};
 ghost use Rattle.s390x_buffer.specs.Extends.{Extends};
 ghost use Rattle.s390x_buffer.specs.State.{put_cause};
 ghost use Rattle.s390x_typed_steps.specs.MachineInstruction.{MachineInstruction, format_e, rr, ril_c, bytes_of, size_of};
-ghost use Rattle.s390x_typed_steps.specs.Parts.{Row, Trapping, Branch, ToBlock, Relative, row_part, stopping, memory_parts, parts_size};
+ghost use Rattle.s390x_typed_steps.specs.Parts.{Row, Trapping, ToBlock, Relative, row_part, stopping, memory_parts, parts_size};
 ghost use Rattle.s390x_inst.specs.Emission.{Emission};
 ghost use Rattle.s390x_inst.specs.declared.state.IsaFlags.{IsaFlags};
 ghost use Rattle.s390x_typed_steps.specs.Causes.{declared_in, branch_cause, cause_or, memory_cause, memory_cause_or, numbers_cause, instruction_fresh_labels, leaf_cause};
@@ -14,7 +14,7 @@ ghost use Rattle.s390x_typed_steps.specs.Memory.{memory};
 ghost use Rattle.s390x_typed_steps.specs.General.{is_general, is_nonzero};
 ghost use Rattle.s390x_typed_steps.specs.Sizes.{instruction_size};
 ghost use Rattle.s390x_emit_int.specs.Fragments.{Put, PutTrapping, apply, apply_all, Link};
-ghost use Rattle.s390x_emit_int.specs.Emission.{branch, part_fragments, branch_fragments, branch_size, leaf_fragments};
+ghost use Rattle.s390x_emit_int.specs.Emission.{branch, jump_fragments, where_fragments, choice_fragments, part_fragments, branch_fragments, branch_size, leaf_fragments};
 ghost use Rattle.s390x_emit_int.specs.Room.{Passed, MembersPassed, LacksMemory, HasRoom};
 ghost use Rattle.s390x_buffer.specs.declared.label_use.LabelUse.TheVariants.{BranchRIL};
 ghost use Rattle.s390x_typed_steps.specs.Ranges.{InRange, MaskInRange, OperandInRange, IsConditionMask};
@@ -57,6 +57,36 @@ pub fn put_branch(sink: &mut MachBuffer, mask: u8, label: MachLabel) -> Result<(
 {
     let code = enc_ril_c(0xc04, mask, 0)?;
     put_with_distance(sink, &code, label)
+}
+
+// BRANCH RELATIVE ON CONDITION LONG to a label, always, recorded for the end of its block.
+#[tactic(auto, using(s390x_buffer::proofs::Extending::extends_on, s390x_buffer::proofs::Extending::extends_same, s390x_buffer::proofs::Ended::use_behind))]
+fn put_jump(sink: &mut MachBuffer, label: MachLabel) -> Result<(), EmitError>
+    ensures answer { OnOk result (sink.new ≡ apply_all sink.old (jump_fragments label.0)) }
+    ensures lacks { Passed sink.old label.0 6 None → LacksMemory result }
+    ensures kept { Extends sink.old sink.new }
+{
+    let code = enc_ril_c(0xc04, 15, 0)?;
+    let offset = sink.cur_offset();
+    sink.use_label_at_offset(offset, label, LabelUse::BranchRIL)?;
+    sink.add_uncond_branch(offset, offset + 6, label)?;
+    sink.put_code(&code)
+}
+
+// The same under a condition, recorded with the code under the inverse condition.
+#[tactic(auto, using(s390x_buffer::proofs::Extending::extends_on, s390x_buffer::proofs::Extending::extends_same, s390x_buffer::proofs::Ended::use_behind))]
+fn put_where(sink: &mut MachBuffer, cond: Cond, label: MachLabel) -> Result<(), EmitError>
+    ensures answer { OnOk result (sink.new ≡ apply_all sink.old (where_fragments cond label.0)) }
+    ensures lacks { Passed sink.old label.0 6 None → LacksMemory result }
+    ensures range { IsConditionMask cond }
+    ensures kept { Extends sink.old sink.new }
+{
+    let code = enc_ril_c(0xc04, cond.bits(), 0)?;
+    let inverted = enc_ril_c(0xc04, cond.invert().bits(), 0)?;
+    let offset = sink.cur_offset();
+    sink.use_label_at_offset(offset, label, LabelUse::BranchRIL)?;
+    sink.add_cond_branch(offset, offset + 6, label, &inverted)?;
+    sink.put_code(&code)
 }
 
 /// BRANCH ON CONDITION to the address in a register, always.
@@ -134,13 +164,13 @@ fn emit_two_branches(
     not_taken: MachLabel,
     cond: Cond,
 ) -> Result<(), EmitError>
-    ensures answer { OnOk result (sink.new ≡ apply_all sink.old (part_fragments (Branch cond (ToBlock taken.0) ∷ Branch 15 (ToBlock not_taken.0) ∷ []))) }
+    ensures answer { OnOk result (sink.new ≡ apply_all sink.old (choice_fragments cond taken.0 not_taken.0)) }
     ensures lacks { Passed sink.old taken.0 12 None → not_taken.0 < length sink.old.labels → LacksMemory result }
     ensures range { IsConditionMask cond }
     ensures kept { Extends sink.old sink.new }
 {
-    put_branch(sink, cond.bits(), taken)?;
-    put_branch(sink, 15, not_taken)
+    put_where(sink, cond, taken)?;
+    put_jump(sink, not_taken)
 }
 
 fn emit_break(sink: &mut MachBuffer, cond: Cond, after: MachLabel) -> Result<(), EmitError>
@@ -176,7 +206,7 @@ fn emit_branch(sink: &mut MachBuffer, inst: &Inst, after: MachLabel) -> Result<(
     ensures kept { Extends sink.old sink.new }
 {
     match inst {
-        Inst::Jump { dest } => put_branch(sink, 15, *dest),
+        Inst::Jump { dest } => put_jump(sink, *dest),
         Inst::CondBr {
             taken,
             not_taken,

@@ -12,6 +12,7 @@ pub mod completeness;
 pub mod composite;
 pub mod conditional;
 pub mod emit;
+mod folding;
 pub mod function;
 pub mod headline;
 pub mod image;

@@ -268,13 +268,10 @@ fn a_try_has_handlers(rt: HostRuntime) -> Result<(), Fail> {
     )??;
     assert_eq!(rt;
         code.bytes.as_slice(),
-        [
-            0xc0, 0xe5, 0, 0, 0, 0, 0xc0, 0xf4, 0, 0, 0, 0x03, 0x07, 0xfe, 0x07, 0xfe
-        ]
-        .as_slice()
+        [0xc0, 0xe5, 0, 0, 0, 0, 0x07, 0xfe, 0x07, 0xfe].as_slice()
     );
-    assert_eq!(rt; code.block_starts.as_slice(), [0, 12, 14].as_slice());
-    assert_eq!(rt; code.starts.as_slice(), [0, 6, 12, 14].as_slice());
+    assert_eq!(rt; code.block_starts.as_slice(), [0, 6, 8].as_slice());
+    assert_eq!(rt; code.starts.as_slice(), [0, 6, 6, 8].as_slice());
     assert_eq!(rt; code.relocs.as_slice(), [to_symbol(2)].as_slice());
     assert_eq!(rt; code.call_sites.len(), 0);
     assert_eq!(rt; code.try_call_sites.len(), 1);
@@ -284,11 +281,11 @@ fn a_try_has_handlers(rt: HostRuntime) -> Result<(), Fail> {
     let handlers = [
         HandlerEntry {
             tag: Some(7),
-            offset: 14,
+            offset: 8,
         },
         HandlerEntry {
             tag: None,
-            offset: 14,
+            offset: 8,
         },
     ];
     assert_eq!(rt; site.handlers.as_slice(), handlers.as_slice());

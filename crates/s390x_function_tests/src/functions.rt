@@ -47,12 +47,10 @@ fn branches_lead_to_blocks(rt: HostRuntime) -> Result<(), Fail> {
     )??;
     assert_eq!(rt;
         code.bytes.as_slice(),
-        [
-            0xc0, 0x84, 0, 0, 0, 6, 0xc0, 0xf4, 0, 0, 0, 4, 0x07, 0xfe, 0x07, 0xfe
-        ]
-        .as_slice()
+        [0xc0, 0x74, 0, 0, 0, 4, 0x07, 0xfe, 0x07, 0xfe].as_slice()
     );
-    assert_eq!(rt; code.block_starts.as_slice(), [0, 12, 14].as_slice());
+    assert_eq!(rt; code.block_starts.as_slice(), [0, 6, 8].as_slice());
+    assert_eq!(rt; code.starts.as_slice(), [0, 6, 8].as_slice());
     let code = with_returns(rt.alloc(), Inst::Jump { dest: MachLabel(0) })??;
     assert_eq!(rt;
         code.bytes.as_slice(),

@@ -1,13 +1,15 @@
 -- A loop instruction whose members are those of a retry loop is one in the function's steps.
-use Rattle.std.proofs.Common.{◌≡◌, ℕ, suc, ◌+◌, ◌<◌, ◌≤◌, List, [], ◌∷◌, ◌++◌, length, Some, Bool, true, false, ◌&&◌, ◌||◌, IsFalse, inl, inr, ◌⊎◌, refl, sym, ap, ◌∙◌, subst, arith, append_assoc, append-nil, length-append, slice_get, true≢false}
+use Rattle.std.proofs.Common.{◌≡◌, ℕ, suc, ◌+◌, ◌<◌, ◌≤◌, List, [], ◌∷◌, ◌++◌, length, Some, Bool, true, false, ◌&&◌, ◌||◌, IsFalse, inl, inr, ◌⊎◌, refl, sym, ap, ◌∙◌, subst, arith, append_assoc, append-nil, length-append, slice_get, true≢false, Option, None}
 use Rattle.std.proofs.lemmas.Bool.{and_parts, cases_lt}
 use Rattle.s390x_base.specs.declared.regs.Reg.{Reg}
 use Rattle.s390x_inst.specs.declared.args.MemArg.{MemArg}
 use Rattle.s390x_inst.specs.declared.inst.Inst.{Inst}
 use Rattle.s390x_inst.specs.declared.inst.Inst.TheVariants.{AtomicCas32, AtomicCas64, CondBreak}
+use Rattle.s390x_typed_steps.specs.Folding.{folded, folded_before, next_block, folded_from, folded_trees}
 use Rattle.s390x_typed_steps.specs.Rows.{LinkEnvironment}
 use Rattle.s390x_typed_steps.specs.Steps.{Step, Plain, Opening, Back, step_count, step_of, steps_of, steps_from}
 use Rattle.s390x_typed_steps.specs.Tree.{Tree, empty, leaf, loop_node, Whole}
+use Rattle.s390x_typed_steps.proofs.Folding.{before_count}
 use Rattle.s390x_operations.specs.Effects.{is_selected}
 use Rattle.s390x_operations.specs.State.{CodeImage}
 use Rattle.s390x_operations.specs.declared.stop.ConditionCode.TheVariants.{Code0}
@@ -218,3 +220,27 @@ whole steps = record { earlier = []; later = []; at = refl; is = sym (append-nil
 pub retry_in : (environment : LinkEnvironment) (ts : List Tree) (image : CodeImage) (n : ℕ) (r : RetryAt ts n) → (R : Retry (function_layout environment ts image)) × (R.opening ≡ n) × (R.mask ≡ r.mask)
 retry_in environment ts image n r =
     retry_of (function_layout environment ts image) n r.mask r.members (opens_in_blocks n r.mask r.members 0 ts r.opens (whole (steps_from 0 ts))) r.body r.retries
+
+-- ---- the end of a block folds no loop, and moves none
+
+after_last : (n mask : ℕ) (members : Tree) (k next : ℕ) (t : Tree) → Opens n mask members k t → Opens n mask members k (folded next t)
+after_last n mask members k next empty h = h
+after_last n mask members k next (leaf b empty) h = h
+after_last n mask members k next (leaf b (leaf c rest)) h = after_last n mask members (k + 1) next (leaf c rest) h
+after_last n mask members k next (leaf b (loop_node m inner rest)) h = after_last n mask members (k + 1) next (loop_node m inner rest) h
+after_last n mask members k next (loop_node m inner rest) (inl here) = inl here
+after_last n mask members k next (loop_node m inner rest) (inr (inl inside)) = inr (inl inside)
+after_last n mask members k next (loop_node m inner rest) (inr (inr behind)) = inr (inr (after_last n mask members (k + 2 + step_count inner) next rest behind))
+
+after_end : (n mask : ℕ) (members : Tree) (k : ℕ) (next : Option ℕ) (t : Tree) → Opens n mask members k t → Opens n mask members k (folded_before next t)
+after_end n mask members k None t h = h
+after_end n mask members k (Some next) t h = after_last n mask members k next t h
+
+after_ends : (n mask : ℕ) (members : Tree) (k b : ℕ) (ts : List Tree) → OpensInBlocks n mask members k ts → OpensInBlocks n mask members k (folded_from b ts)
+after_ends n mask members k b [] h = h
+after_ends n mask members k b (t ∷ ts) (inl here) = inl (after_end n mask members k (next_block b ts) t here)
+after_ends n mask members k b (t ∷ ts) (inr later) =
+    inr (subst (λ m. OpensInBlocks n mask members (k + m) (folded_from (b + 1) ts)) (sym (before_count (next_block b ts) t)) (after_ends n mask members (k + step_count t) (b + 1) ts later))
+
+pub folded_retry : (ts : List Tree) (n : ℕ) → RetryAt ts n → RetryAt (folded_trees ts) n
+folded_retry ts n r = record { mask = r.mask; members = r.members; opens = after_ends n r.mask r.members 0 0 ts r.opens; body = r.body; retries = r.retries }

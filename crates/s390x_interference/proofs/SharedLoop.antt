@@ -15,6 +15,7 @@ use Rattle.s390x_format.specs.Reading.{be_bytes}
 use Rattle.s390x_format.specs.Lookup.{row_for}
 use Rattle.s390x_format.proofs.Encoding.{listed}
 use Rattle.s390x_typed_steps.specs.MachineInstruction.{MachineInstruction, bytes_of, rrf_ab, rs}
+use Rattle.s390x_typed_steps.specs.Folding.{folded_trees}
 use Rattle.s390x_typed_steps.specs.Ranges.{BlocksInRange}
 use Rattle.s390x_typed_steps.specs.Steps.{Step, Plain}
 use Rattle.s390x_operations.specs.State.{State, IsLoaded, is_within, wrapping_add64}
@@ -54,7 +55,7 @@ code = record {
   alignment = 4;
 }
 
-finished : IsFinishedCode adding_trees [] code
+finished : IsFinishedCode (folded_trees adding_trees) [] code
 unfolding number bits layout_of length_of be_bytes
 finished = record {
   bytes = refl;
@@ -73,7 +74,7 @@ finished = record {
 
 -- ---- the loop
 
-at : RetryAt adding_trees 0
+at : RetryAt (folded_trees adding_trees) 0
 at = record { mask = 4; members = adding_members; opens = inl (inl (refl, refl, refl)); body = refl; retries = refl }
 
 members : (k : ℕ) → 0 < k → k < 2 → (s : Step) × (slice_get (layout code).steps k ≡ Some s) × IsMember (layout code) 4 s

@@ -4,6 +4,7 @@ use Rattle.s390x_inst.specs.declared.state.IsaFlags.{IsaFlags}
 use Rattle.s390x_buffer.specs.declared.entries.MachBufferFinalized.{MachBufferFinalized}
 use Rattle.s390x_image.specs.Causes.{link_cause}
 use Rattle.s390x_image.specs.Symbols.{no_symbols}
+use Rattle.s390x_typed_steps.specs.Folding.{folded_trees}
 use Rattle.s390x_typed_steps.specs.Ranges.{BlocksInRange}
 use Rattle.s390x_operations.specs.State.{Registers, Memory, CodeImage, StoreEvent, IsLoaded, is_within, set_general, with_code, after_store}
 use Rattle.s390x_operations.specs.declared.stop.ConditionCode.TheVariants.{Code0, Code1, Code2}
@@ -55,7 +56,7 @@ ticks =
 
 -- the layout of the function's finished code, linked at 4096
 abbrev pub layout : MachBufferFinalized → Layout
-layout code = function_layout (linked no_symbols 4096 adding_trees []) adding_trees (linked_image code 4096 no_symbols)
+layout code = function_layout (linked no_symbols 4096 (folded_trees adding_trees) []) (folded_trees adding_trees) (linked_image code 4096 no_symbols)
 
 -- The function has no cause, this is its finished code, and linking has no cause; it has a retry loop; the linked code lies in memory, both processors
 -- stand at the loop, this is a schedule of them, and none stores into the code. The first one's run stores once and ends by its swap, the other one's
@@ -64,10 +65,10 @@ pub record LoopIsShared : Type 0 where
   pub code : MachBufferFinalized
   pub checked : (flags : IsaFlags) → checked_cause flags adding_trees [] ≡ None
   pub masks : BlocksInRange adding_trees
-  pub finished : IsFinishedCode adding_trees [] code
+  pub finished : IsFinishedCode (folded_trees adding_trees) [] code
   pub links : link_cause code 4096 no_symbols ≡ None
   pub is : linked_image code 4096 no_symbols ≡ image
-  pub at : RetryAt adding_trees 0
+  pub at : RetryAt (folded_trees adding_trees) 0
   pub loop : Retry (layout code)
   pub lies : IsLoaded (linked_image code 4096 no_symbols) world.memory
   pub scheduled : Scheduled world (0 ∷ 1 ∷ 0 ∷ 1 ∷ []) ticks

@@ -3,6 +3,7 @@ ghost use Rattle.std.specs.Prelude.{◌≡◌, IsTrue, List, ℕ};
 ghost use Rattle.s390x_inst.specs.declared.inst.Inst.{Inst};
 ghost use Rattle.s390x_machine.specs.Functions.{function_layout};
 ghost use Rattle.s390x_operations.specs.State.{CodeImage};
+ghost use Rattle.s390x_typed_steps.specs.Folding.{folded_trees};
 ghost use Rattle.s390x_typed_steps.specs.Rows.{LinkEnvironment};
 ghost use Rattle.s390x_typed_steps.specs.Tree.{Tree};
 ghost use Rattle.s390x_machine.specs.StepKinds.{instruction_kind};
@@ -35,6 +36,11 @@ pub fn listed_instructions_are_register_work()
 /// its typed steps.
 pub fn loops_are_retry_loops()
     ensures { (environment : LinkEnvironment) (ts : List Tree) (image : CodeImage) (n : ℕ) (r : RetryAt ts n) → (R : Retry (function_layout environment ts image)) × (R.opening ≡ n) × (R.mask ≡ r.mask) }
+{}
+
+/// The end of a block folds no loop and moves none: where one opens among a function's blocks, the same opens among the blocks as their ends leave them.
+pub fn folded_loops_are_retry_loops()
+    ensures { (ts : List Tree) (n : ℕ) → RetryAt ts n → RetryAt (folded_trees ts) n }
 {}
 
 /// The premises can be met: by the finished code of a function of one retry loop, linked at 4096 and lying in memory there, and two processors that

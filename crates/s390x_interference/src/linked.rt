@@ -7,9 +7,10 @@ ghost use Rattle.s390x_image.specs.Symbols.{Symbols};
 ghost use Rattle.s390x_inst.specs.Emission.{Emission};
 ghost use Rattle.s390x_inst.specs.declared.function.AllocatedFunction.{AllocatedFunction as Allocated};
 ghost use Rattle.s390x_inst.specs.declared.state.IsaFlags.{IsaFlags};
+ghost use Rattle.s390x_typed_steps.specs.Folding.{folded_trees};
 ghost use Rattle.s390x_typed_steps.specs.Ranges.{BlocksInRange};
 ghost use Rattle.s390x_typed_steps.specs.Tree.{Tree};
-ghost use Rattle.s390x_emit_int.specs.Function.{checked_cause, constants_of, trees_of, IsFinishedCode};
+ghost use Rattle.s390x_emit_int.specs.Function.{checked_cause, constants_of, folded_trees_of, trees_of, IsFinishedCode};
 ghost use Rattle.s390x_emit_int.specs.FunctionImage.{HasNoImage, IsImageOf};
 ghost use Rattle.s390x_emit_int.specs.Headline.{linked_image};
 ghost use Rattle.s390x_interference.specs.Linked.{GuardsFunction};
@@ -22,12 +23,12 @@ use std::alloc::Global;
 /// Where emission finds no cause and linking none, the retry loops of the linked code store by their swaps alone, under every schedule of processors
 /// that don't store into it.
 pub fn linked_retry_loops()
-    ensures { (flags : IsaFlags) (ts : List Tree) (cs : List Constant) (f : MachBufferFinalized) (base : ℕ) (symbols : Symbols) → checked_cause flags ts cs ≡ None → BlocksInRange ts → IsFinishedCode ts cs f → link_cause f base symbols ≡ None → GuardsFunction symbols ts cs (linked_image f base symbols) }
+    ensures { (flags : IsaFlags) (ts : List Tree) (cs : List Constant) (f : MachBufferFinalized) (base : ℕ) (symbols : Symbols) → checked_cause flags ts cs ≡ None → BlocksInRange ts → IsFinishedCode (folded_trees ts) cs f → link_cause f base symbols ≡ None → GuardsFunction symbols (folded_trees ts) cs (linked_image f base symbols) }
 {}
 
 /// The same of the image of a function, whoever made it. The function's numbers lie in their ranges, as those of a value of the program do.
 pub fn image_retry_loops()
-    ensures { (flags : IsaFlags) (state : Emission) (f : Allocated) (base : ℕ) (symbols : Symbols) (bytes : List ℕ) → BlocksInRange (trees_of state f) → IsImageOf flags state f base symbols bytes → GuardsFunction symbols (trees_of state f) (constants_of f) (record { base = base; bytes = bytes }) }
+    ensures { (flags : IsaFlags) (state : Emission) (f : Allocated) (base : ℕ) (symbols : Symbols) (bytes : List ℕ) → BlocksInRange (trees_of state f) → IsImageOf flags state f base symbols bytes → GuardsFunction symbols (folded_trees_of state f) (constants_of f) (record { base = base; bytes = bytes }) }
 {}
 
 /// The image of a function for several processors: `emit_function` and then `link` at the base, with these symbols.
@@ -44,7 +45,7 @@ pub fn emit_guarded_image(
 ) -> Result<Image, ImageError>
     ensures base { IfOk result (λ image. image.base ≡ base) }
     ensures image { IfOk result (λ image. IsImageOf info.now.isa_flags state function.now base symbols.now image.bytes.items) }
-    ensures guards { IfOk result (λ image. GuardsFunction symbols.now (trees_of state function.now) (constants_of function.now) (record { base = base; bytes = image.bytes.items })) }
+    ensures guards { IfOk result (λ image. GuardsFunction symbols.now (folded_trees_of state function.now) (constants_of function.now) (record { base = base; bytes = image.bytes.items })) }
     ensures refused { IfErr result (λ error. HasNoImage info.now.isa_flags state function.now base symbols.now error) }
 {
     match emit_function(alloc, function, info, state) {

@@ -30,6 +30,7 @@ use Rattle.s390x_machine.specs.Match.{concatenated, return_address}
 use Rattle.s390x_machine.specs.Semantics.{semantics_in, semantics_of}
 use Rattle.s390x_machine.specs.Typed.{Returned, Called, At, Ended, goes_on}
 use Rattle.s390x_machine.proofs.Checked.{checked_steps}
+use Rattle.s390x_machine.proofs.FoldedSteps.{whole_right}
 use Rattle.s390x_machine.proofs.Fetching.{StandsAt, found_at}
 use Rattle.s390x_machine.proofs.Functions.{function_placed}
 use Rattle.s390x_machine.proofs.Rows.{fits_rr, fits_rre, fits_ril_b, agr_listed, bcr_listed}
@@ -86,6 +87,7 @@ caller_stands = record {
   fits = omega arith;
   short = omega arith;
   valid = checked_steps base environment caller_trees 1 caller_image (caller_checked base) caller_ranges;
+  folded = whole_right caller caller_trees caller_ranges;
   reached = caller_reaches;
   stand = λ c lt. absurd (omega arith);
 }
@@ -98,6 +100,7 @@ callee_stands = record {
   fits = omega arith;
   short = omega arith;
   valid = checked_steps base environment callee_trees 1 callee_image (callee_checked base) callee_ranges;
+  folded = whole_right callee callee_trees callee_ranges;
   reached = callee_reaches;
   stand = λ c lt. absurd (omega arith);
 }

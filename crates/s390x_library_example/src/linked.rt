@@ -1,6 +1,6 @@
 //! A function's code, linked.
 ghost use Rattle.std.specs.Prelude.{IfOk};
-ghost use Rattle.s390x_emit_int.specs.Function.{IsFinishedCode, constants_of, trees_of};
+ghost use Rattle.s390x_emit_int.specs.Function.{IsFinishedCode, constants_of, folded_trees_of};
 ghost use Rattle.s390x_emit_int.specs.Headline.{RunsAsTyped};
 
 use s390x_base::EmitError;
@@ -39,8 +39,8 @@ pub fn emit_and_link(
     base: u64,
     symbols: &SymbolTable,
 ) -> Result<Linked, Failure>
-    ensures code { IfOk result (λ it. IsFinishedCode (trees_of state function.now) (constants_of function.now) it.code) }
-    ensures runs { IfOk result (λ it. RunsAsTyped symbols.now (trees_of state function.now) (constants_of function.now) (record { base = base; bytes = it.image.bytes.items })) }
+    ensures code { IfOk result (λ it. IsFinishedCode (folded_trees_of state function.now) (constants_of function.now) it.code) }
+    ensures runs { IfOk result (λ it. RunsAsTyped symbols.now (folded_trees_of state function.now) (constants_of function.now) (record { base = base; bytes = it.image.bytes.items })) }
 {
     let info = EmitInfo::new(IsaFlags::default());
     match emit_function(alloc, function, &info, state) {

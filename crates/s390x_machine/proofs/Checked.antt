@@ -9,14 +9,16 @@ use Rattle.s390x_base.specs.declared.error.EmitError.TheVariants.{BadOperator, B
 use Rattle.s390x_inst.specs.declared.inst.Inst.{Inst}
 use Rattle.s390x_inst.specs.declared.inst.Inst.TheVariants.{Jump, CondBr, IndirectBr, Ret, CondBreak, Nop0, LabelAddress, LoadSymbolReloc, Trap, TrapIf, Debugtrap, JTSequence, AllocateArgs, Args, Rets, DummyUse, SequencePoint, Vector}
 use Rattle.s390x_typed_steps.specs.Calls.{is_target, site_labels}
-use Rattle.s390x_typed_steps.specs.Causes.{first_emit_cause, unless, facility_cause, target_label_cause, labels_cause, cause_or, loses_scratch, addend_fits, target_cause, memory_cause_or, instruction_cause, numbers_cause, nesting_cause, fresh_labels, tree_cause, block_cause, blocks_cause, nominal_behind, instruction_fresh_labels, body_cause, body_fresh_labels, body_nominal_after}
+use Rattle.s390x_typed_steps.specs.Causes.{first_emit_cause, unless, facility_cause, target_label_cause, labels_cause, cause_or, loses_scratch, addend_fits, target_cause, memory_cause_or, instruction_cause, numbers_cause, leaf_cause, remainder_cause, nesting_cause, fresh_labels, tree_cause, block_cause, blocks_cause, nominal_behind, instruction_fresh_labels, body_cause, body_fresh_labels, body_nominal_after}
 use Rattle.s390x_typed_steps.specs.SingleInstruction.{SingleInstruction, single_instruction}
 use Rattle.s390x_typed_steps.specs.General.{is_general, is_nonzero, is_scratch}
 use Rattle.s390x_typed_steps.specs.Memory.{MemoryInstruction, memory, type_of}
 use Rattle.s390x_typed_steps.specs.Operands.{has_form, operand_general, offset_fits}
-use Rattle.s390x_typed_steps.specs.Ranges.{MemoryInRange, InRange, BodyInRange, AllInRange, BlocksInRange}
+use Rattle.s390x_typed_steps.specs.Folding.{folded_trees}
+use Rattle.s390x_typed_steps.proofs.Folding.{BodyMasked, AllMasked, BlocksMasked, blocks_masked, folded_blocks_cause, folded_length, folded_blocks_masked}
+use Rattle.s390x_typed_steps.specs.Ranges.{MemoryInRange, InRange, BlocksInRange}
 use Rattle.s390x_typed_steps.specs.Rows.{LinkEnvironment}
-use Rattle.s390x_typed_steps.specs.Tree.{StepBody, Tree, empty, leaf, loop_node, Whole, CallStep, NoLoad, TailOpening, TailJump}
+use Rattle.s390x_typed_steps.specs.Tree.{StepBody, Tree, empty, leaf, loop_node, Whole, Folded, CallStep, NoLoad, TailOpening, TailJump}
 use Rattle.s390x_typed_steps.specs.Steps.{Step, Opening, Back, step_count, step_of, steps_of, steps_from, function_steps}
 use Rattle.s390x_typed_steps.specs.VectorComposite.{composite_cause}
 use Rattle.s390x_operations.specs.State.{CodeImage}
@@ -95,9 +97,18 @@ module _ (L : Layout) where
   valid_step flags nominal depth after i e range le = valid_single (single_instruction i) (memory i) (first_none (facility_cause flags i) (cause_or (single_instruction i) (memory_cause_or (declared L) (memory i) (Some BadOperator))) e).1 range.1
 
   -- the body of a step
-  valid_body : (flags : IsaFlags) (n nominal depth after : ℕ) (b : StepBody) → body_cause flags (declared L) n nominal depth b ≡ None → BodyInRange b → (0 < depth → after ≤ length L.steps) → IsValidStep L (step_of after b)
+  valid_body : (flags : IsaFlags) (n nominal depth after : ℕ) (b : StepBody) → body_cause flags (declared L) n nominal depth b ≡ None → BodyMasked b → (0 < depth → after ≤ length L.steps) → IsValidStep L (step_of after b)
   valid_body flags n nominal depth after (Whole i) e range le =
       valid_step flags nominal depth after i (first_none (instruction_cause flags (declared L) nominal depth i) (numbers_cause n (instruction_fresh_labels i)) e).0 range le
+  valid_body flags n nominal depth after (Folded r (Jump dest)) e range le =
+      let i = Jump dest in
+      let own = first_none (leaf_cause flags (declared L) n nominal depth i) (remainder_cause L.block_count r) e in
+      valid_step flags nominal depth after i (first_none (instruction_cause flags (declared L) nominal depth i) (numbers_cause n 0) own.0).0 range.0 le
+  valid_body flags n nominal depth after (Folded r (CondBr taken not_taken mask)) e range le =
+      let i = CondBr taken not_taken mask in
+      let own = first_none (leaf_cause flags (declared L) n nominal depth i) (remainder_cause L.block_count r) e in
+      valid_step flags nominal depth after i (first_none (instruction_cause flags (declared L) nominal depth i) (numbers_cause n 0) own.0).0 range.0 le
+  valid_body flags n nominal depth after (Folded r i) e range le = absurd range.1
   valid_body flags n nominal depth after (CallStep c) e range le =
       let later = first_emit_cause (unless (nat_eq c.popped nominal && (nat_eq c.popped 0 || nat_eq depth 0)) BadStackState) (labels_cause L.block_count (site_labels c.sites)) in
       let registers = first_none (unless (is_general c.link && is_target c.target) BadRegister) later e in
@@ -121,7 +132,7 @@ module _ (L : Layout) where
   valid_append (x ∷ xs) ys a b zero s e = a zero s e
   valid_append (x ∷ xs) ys a b (suc j) s e = valid_append xs ys (λ i t h. a (suc i) t h) b j s e
 
-  valid_tree : (flags : IsaFlags) (k after n nominal depth : ℕ) (t : Tree) → tree_cause flags (declared L) n nominal depth t ≡ None → AllInRange t → (0 < depth → after ≤ length L.steps) → k + step_count t ≤ length L.steps → AllValid (steps_of k after t)
+  valid_tree : (flags : IsaFlags) (k after n nominal depth : ℕ) (t : Tree) → tree_cause flags (declared L) n nominal depth t ≡ None → AllMasked t → (0 < depth → after ≤ length L.steps) → k + step_count t ≤ length L.steps → AllValid (steps_of k after t)
   unfolding AllValid
   valid_tree flags k after n nominal depth empty e range le within = λ j s h. absurd (cc)
   valid_tree flags k after n nominal depth (leaf b rest) e range le within =
@@ -135,7 +146,7 @@ module _ (L : Layout) where
       valid_cons Opening (steps_of (k + 1) end members ++ (Back mask (k + 1) ∷ steps_of end after rest)) tt
       (valid_append (steps_of (k + 1) end members) (Back mask (k + 1) ∷ steps_of end after rest) (valid_tree flags (k + 1) end (n + 2) nominal (depth + 1) members b.1 range.1 (λ d. omega arith) (omega arith)) tail)
 
-  valid_blocks : (flags : IsaFlags) (k n : ℕ) (ts : List Tree) → blocks_cause flags (declared L) n ts ≡ None → BlocksInRange ts → k + length (steps_from k ts) ≤ length L.steps → AllValid (steps_from k ts)
+  valid_blocks : (flags : IsaFlags) (k n : ℕ) (ts : List Tree) → blocks_cause flags (declared L) n ts ≡ None → BlocksMasked ts → k + length (steps_from k ts) ≤ length L.steps → AllValid (steps_from k ts)
   unfolding AllValid
   valid_blocks flags k n [] e range within = λ j s h. absurd (cc)
   valid_blocks flags k n (t ∷ ts) e range within =
@@ -145,7 +156,7 @@ module _ (L : Layout) where
       let joined = length-append (steps_of k 0 t) (steps_from (k + step_count t) ts) in
       valid_append (steps_of k 0 t) (steps_from (k + step_count t) ts) (valid_tree flags k 0 n 0 0 t members.0 range.0 (λ d. absurd (omega arith)) (omega (arith, counted, joined))) (valid_blocks flags (k + step_count t) (n + fresh_labels t) ts parts.1 range.1 (omega (arith, counted, joined)))
 
-  pub valid_function : (flags : IsaFlags) (n : ℕ) (ts : List Tree) → L.steps ≡ function_steps ts → blocks_cause flags (declared L) n ts ≡ None → BlocksInRange ts → (k : ℕ) (s : Step) → slice_get L.steps k ≡ Some s → IsValidStep L s
+  pub valid_function : (flags : IsaFlags) (n : ℕ) (ts : List Tree) → L.steps ≡ function_steps ts → blocks_cause flags (declared L) n ts ≡ None → BlocksMasked ts → (k : ℕ) (s : Step) → slice_get L.steps k ≡ Some s → IsValidStep L s
   unfolding AllValid
   valid_function flags n ts same e range k s h =
       let within : 0 + length (steps_from 0 ts) ≤ length L.steps = omega (arith, ap length same) in
@@ -153,4 +164,12 @@ module _ (L : Layout) where
 
 -- the steps of a function that has no cause of refusal
 pub checked_steps : (flags : IsaFlags) (environment : LinkEnvironment) (ts : List Tree) (n : ℕ) (image : CodeImage) → blocks_cause flags (record { blocks = length ts; aligns = environment.aligns }) n ts ≡ None → BlocksInRange ts → (k : ℕ) (s : Step) → slice_get (function_steps ts) k ≡ Some s → IsValidStep (function_layout environment ts image) s
-checked_steps flags environment ts n image e range = valid_function (function_layout environment ts image) flags n ts refl e range
+checked_steps flags environment ts n image e range = valid_function (function_layout environment ts image) flags n ts refl e (blocks_masked ts range)
+
+-- the same of the steps that the ends of its blocks left
+pub folded_steps : (flags : IsaFlags) (environment : LinkEnvironment) (ts : List Tree) (n : ℕ) (image : CodeImage) → blocks_cause flags (record { blocks = length ts; aligns = environment.aligns }) n ts ≡ None → BlocksInRange ts →
+    (k : ℕ) (s : Step) → slice_get (function_steps (folded_trees ts)) k ≡ Some s → IsValidStep (function_layout environment (folded_trees ts) image) s
+folded_steps flags environment ts n image e range =
+    let L = function_layout environment (folded_trees ts) image in
+    let same = folded_blocks_cause flags (declared L) n 0 ts ∙ ap (λ m. blocks_cause flags (record { blocks = m; aligns = environment.aligns }) n ts) (folded_length 0 ts) in
+    valid_function L flags n (folded_trees ts) refl (same ∙ e) (folded_blocks_masked 0 ts range)

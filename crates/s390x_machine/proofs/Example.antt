@@ -15,20 +15,22 @@ use Rattle.s390x_typed_steps.specs.Image.{unlinked, step_offset, function_code}
 use Rattle.s390x_typed_steps.specs.MachineInstruction.{MachineInstruction, bytes_of, rr, rre, ril_c}
 use Rattle.s390x_typed_steps.specs.Parts.{step_parts}
 use Rattle.s390x_typed_steps.specs.Ranges.{BlocksInRange}
-use Rattle.s390x_typed_steps.specs.Steps.{Step, Plain, function_steps}
+use Rattle.s390x_typed_steps.specs.Steps.{Step, Plain, Shortened, function_steps}
+use Rattle.s390x_typed_steps.specs.Tree.{BranchLeft}
 use Rattle.s390x_machine.specs.CodeAt.{PartsReach}
 use Rattle.s390x_operations.specs.State.{State, IsLoaded, wrapping_add64}
 use Rattle.s390x_machine.specs.Fetch.{Found}
 use Rattle.s390x_machine.specs.Functions.{function_layout, StandsAsCode}
 use Rattle.s390x_machine.specs.Semantics.{semantics_in, semantics_of}
 use Rattle.s390x_machine.specs.Machine.{Event, Executed, FetchedStep, MachineStep}
-use Rattle.s390x_machine.specs.Example.{image, label, adds, trees, core, once, twice, LoopRuns}
-use Rattle.s390x_machine.proofs.Checked.{checked_steps}
+use Rattle.s390x_machine.specs.Example.{image, label, adds, trees, left, core, once, twice, LoopRuns}
+use Rattle.s390x_machine.proofs.Checked.{folded_steps}
+use Rattle.s390x_machine.proofs.FoldedSteps.{folded_right}
 use Rattle.s390x_machine.proofs.Fetching.{StandsAt, found_at}
 use Rattle.s390x_machine.proofs.Rows.{fits_rr, fits_rre, fits_ril_c, agr_listed, bcr_listed, brcl_listed}
 
 -- the bytes are the function's code, as emission gives it
-code : image.bytes ≡ function_code (unlinked trees []) trees ++ []
+code : image.bytes ≡ function_code (unlinked left []) left ++ []
 unfolding number bits layout_of length_of be_bytes
 code = refl
 
@@ -44,20 +46,21 @@ pub ranges : BlocksInRange trees
 ranges = (((tt, tt), ((omega arith, omega arith), tt)), (((tt, tt), tt), tt))
 
 -- no symbol is named
-reaches : (k : ℕ) (s : Step) → slice_get (function_steps trees) k ≡ Some s → PartsReach (function_layout (unlinked trees []) trees image) (step_offset (function_steps trees) k) (step_parts s)
-reaches zero s e = let same : Plain adds ≡ s = cc in subst (λ x. PartsReach (function_layout (unlinked trees []) trees image) (step_offset (function_steps trees) zero) (step_parts x)) same (tt, tt)
-reaches (suc zero) s e = let same : Plain (CondBr (label 0) (label 1) 4) ≡ s = cc in subst (λ x. PartsReach (function_layout (unlinked trees []) trees image) (step_offset (function_steps trees) (suc zero)) (step_parts x)) same (tt, (tt, tt))
-reaches (suc (suc zero)) s e = let same : Plain (Ret (Real (general 14))) ≡ s = cc in subst (λ x. PartsReach (function_layout (unlinked trees []) trees image) (step_offset (function_steps trees) (suc (suc zero))) (step_parts x)) same (tt, tt)
+reaches : (k : ℕ) (s : Step) → slice_get (function_steps left) k ≡ Some s → PartsReach (function_layout (unlinked left []) left image) (step_offset (function_steps left) k) (step_parts s)
+reaches zero s e = let same : Plain adds ≡ s = cc in subst (λ x. PartsReach (function_layout (unlinked left []) left image) (step_offset (function_steps left) zero) (step_parts x)) same (tt, tt)
+reaches (suc zero) s e = let same : Shortened (BranchLeft 4 0) (CondBr (label 0) (label 1) 4) ≡ s = cc in subst (λ x. PartsReach (function_layout (unlinked left []) left image) (step_offset (function_steps left) (suc zero)) (step_parts x)) same (tt, tt)
+reaches (suc (suc zero)) s e = let same : Plain (Ret (Real (general 14))) ≡ s = cc in subst (λ x. PartsReach (function_layout (unlinked left []) left image) (step_offset (function_steps left) (suc (suc zero))) (step_parts x)) same (tt, tt)
 reaches (suc (suc (suc k))) s e = absurd (cc)
 
-pub stands : StandsAsCode (unlinked trees []) trees image
+pub stands : StandsAsCode (unlinked left []) left image
 stands = record {
   constants = [];
   bytes = code;
   even = refl;
   fits = omega arith;
   short = omega arith;
-  valid = checked_steps base (unlinked trees []) trees 2 image (checked base) ranges;
+  valid = folded_steps base (unlinked left []) trees 2 image (checked base) ranges;
+  folded = folded_right (unlinked left []) trees image ranges;
   reached = reaches;
   stand = λ c lt. absurd (omega arith);
 }
@@ -76,19 +79,15 @@ step_at m o s event t even memory at stands fit listed acts = record {
 
 add_stands : StandsAt image 0 (bytes_of (rre 0xb908 2 4))
 unfolding number bits layout_of length_of be_bytes
-add_stands = record { earlier = []; later = 0xc0 ∷ 0x44 ∷ 0xff ∷ 0xff ∷ 0xff ∷ 0xfe ∷ 0xc0 ∷ 0xf4 ∷ 0x00 ∷ 0x00 ∷ 0x00 ∷ 0x03 ∷ 0x07 ∷ 0xfe ∷ []; at = refl; is = refl }
+add_stands = record { earlier = []; later = 0xc0 ∷ 0x44 ∷ 0xff ∷ 0xff ∷ 0xff ∷ 0xfe ∷ 0x07 ∷ 0xfe ∷ []; at = refl; is = refl }
 
 first_stands : StandsAt image 4 (bytes_of (ril_c 0xc04 4 4294967294))
 unfolding number bits layout_of length_of be_bytes
-first_stands = record { earlier = 0xb9 ∷ 0x08 ∷ 0x00 ∷ 0x24 ∷ []; later = 0xc0 ∷ 0xf4 ∷ 0x00 ∷ 0x00 ∷ 0x00 ∷ 0x03 ∷ 0x07 ∷ 0xfe ∷ []; at = refl; is = refl }
+first_stands = record { earlier = 0xb9 ∷ 0x08 ∷ 0x00 ∷ 0x24 ∷ []; later = 0x07 ∷ 0xfe ∷ []; at = refl; is = refl }
 
-second_stands : StandsAt image 10 (bytes_of (ril_c 0xc04 15 3))
+return_stands : StandsAt image 10 (bytes_of (rr 0x07 15 14))
 unfolding number bits layout_of length_of be_bytes
-second_stands = record { earlier = 0xb9 ∷ 0x08 ∷ 0x00 ∷ 0x24 ∷ 0xc0 ∷ 0x44 ∷ 0xff ∷ 0xff ∷ 0xff ∷ 0xfe ∷ []; later = 0x07 ∷ 0xfe ∷ []; at = refl; is = refl }
-
-return_stands : StandsAt image 16 (bytes_of (rr 0x07 15 14))
-unfolding number bits layout_of length_of be_bytes
-return_stands = record { earlier = 0xb9 ∷ 0x08 ∷ 0x00 ∷ 0x24 ∷ 0xc0 ∷ 0x44 ∷ 0xff ∷ 0xff ∷ 0xff ∷ 0xfe ∷ 0xc0 ∷ 0xf4 ∷ 0x00 ∷ 0x00 ∷ 0x00 ∷ 0x03 ∷ []; later = []; at = refl; is = refl }
+return_stands = record { earlier = 0xb9 ∷ 0x08 ∷ 0x00 ∷ 0x24 ∷ 0xc0 ∷ 0x44 ∷ 0xff ∷ 0xff ∷ 0xff ∷ 0xfe ∷ []; later = []; at = refl; is = refl }
 
 add_step : (s t : State) → s.core.memory ≡ core.memory → s.address ≡ 4096 → FetchedStep (Found (decoded_of Rre (rre 0xb908 2 4).slots)) s (Executed None) t → MachineStep s (Executed None) t
 add_step s t memory at acts = step_at (rre 0xb908 2 4) 0 s (Executed None) t refl memory at add_stands (fits_rre 0xb908 2 4 (omega arith) (omega arith) (omega arith)) (agr_listed 2 4) acts
@@ -96,11 +95,8 @@ add_step s t memory at acts = step_at (rre 0xb908 2 4) 0 s (Executed None) t ref
 first_step_taken : (s t : State) → s.core.memory ≡ core.memory → s.address ≡ 4100 → FetchedStep (Found (decoded_of RilC (ril_c 0xc04 4 4294967294).slots)) s (Executed None) t → MachineStep s (Executed None) t
 first_step_taken s t memory at acts = step_at (ril_c 0xc04 4 4294967294) 4 s (Executed None) t refl memory at first_stands (fits_ril_c 0xc04 4 4294967294 (omega arith) (omega arith) (omega arith)) (brcl_listed 4 4294967294) acts
 
-second_step : (s t : State) → s.core.memory ≡ core.memory → s.address ≡ 4106 → FetchedStep (Found (decoded_of RilC (ril_c 0xc04 15 3).slots)) s (Executed None) t → MachineStep s (Executed None) t
-second_step s t memory at acts = step_at (ril_c 0xc04 15 3) 10 s (Executed None) t refl memory at second_stands (fits_ril_c 0xc04 15 3 (omega arith) (omega arith) (omega arith)) (brcl_listed 15 3) acts
-
-return_step : (s t : State) → s.core.memory ≡ core.memory → s.address ≡ 4112 → FetchedStep (Found (decoded_of Rr (rr 0x07 15 14).slots)) s (Executed None) t → MachineStep s (Executed None) t
-return_step s t memory at acts = step_at (rr 0x07 15 14) 16 s (Executed None) t refl memory at return_stands (fits_rr 0x07 15 14 (omega arith) (omega arith) (omega arith)) (bcr_listed 15 14) acts
+return_step : (s t : State) → s.core.memory ≡ core.memory → s.address ≡ 4106 → FetchedStep (Found (decoded_of Rr (rr 0x07 15 14).slots)) s (Executed None) t → MachineStep s (Executed None) t
+return_step s t memory at acts = step_at (rr 0x07 15 14) 10 s (Executed None) t refl memory at return_stands (fits_rr 0x07 15 14 (omega arith) (omega arith) (omega arith)) (bcr_listed 15 14) acts
 
 pub loop_runs : LoopRuns
 unfolding length_of semantics_in semantics_of
@@ -115,10 +111,7 @@ loop_runs = (
         record { may = tt; goes = add_step (record { core = once; address = 4096 }) (record { core = twice; address = 4100 }) refl refl (record { reached = refl; allowed = refl; results = refl; code = refl; memory = refl }, refl, refl) },
         (
           record { may = tt; goes = first_step_taken (record { core = twice; address = 4100 }) (record { core = twice; address = 4106 }) refl refl (refl, refl, refl) },
-          (
-            record { may = tt; goes = second_step (record { core = twice; address = 4106 }) (record { core = twice; address = 4112 }) refl refl (refl, refl, refl) },
-            (record { may = tt; goes = return_step (record { core = twice; address = 4112 }) (record { core = twice; address = 8192 }) refl refl (refl, refl, refl) }, tt),
-          ),
+          (record { may = tt; goes = return_step (record { core = twice; address = 4106 }) (record { core = twice; address = 8192 }) refl refl (refl, refl, refl) }, tt),
         ),
       ),
     ),

@@ -79,6 +79,7 @@ function_placed environment ts image h = record {
         size = place_next (function_steps ts) k s e;
         traps = step_codes ts k s e;
         valid = h.valid k s e;
+        folded = h.folded k s e;
         reached = h.reached k s e;
       };
   first_steps = λ b is. first_within 0 ts b;

@@ -15,7 +15,7 @@ use Rattle.s390x_format.specs.declared.kind.FormatKind.TheVariants.{Rr}
 use Rattle.s390x_typed_steps.specs.General.{is_general, reuses, reuses_pair, low_halfword, low_word, four_bits, low_displacement, is_access}
 use Rattle.s390x_typed_steps.specs.Opcodes.{alu_two, cmp_two, unary_two, alu_halfword, alu_three_halfword, alu_signed_word, alu_unsigned_word, cmp_halfword, cmp_trap, cmp_trap_signed, cmp_trap_unsigned, cmp_signed_word, cmp_unsigned_word, alu_part, alu_half, load_part, load_half, insert_part, extend_two, indexed_opcode, logical_indexed_opcode}
 use Rattle.s390x_typed_steps.specs.StepBody.{AtCall}
-use Rattle.s390x_typed_steps.specs.Steps.{Step, Plain, Opening, Back, Break, CallingStep, NoLoadStep, TailOpeningStep, TailJumpStep}
+use Rattle.s390x_typed_steps.specs.Steps.{Step, Plain, Shortened, Opening, Back, Break, CallingStep, NoLoadStep, TailOpeningStep, TailJumpStep}
 use Rattle.s390x_operations.specs.declared.effect.CodeRule.TheVariants.{Kept, Set}
 use Rattle.s390x_operations.specs.declared.size.Size.TheVariants.{Halfword, Word, Doubleword}
 use Rattle.s390x_operations.specs.declared.size.Width.TheVariants.{Bits16, Bits32, Bits64}
@@ -43,6 +43,7 @@ use Rattle.s390x_machine.proofs.Branches.{returns_runs, address_runs}
 use Rattle.s390x_machine.proofs.Calls.{calling_runs, tail_jump_runs, returns_to}
 use Rattle.s390x_machine.proofs.Induction.{trace_of, one_step}
 use Rattle.s390x_machine.proofs.Built.{StepAt}
+use Rattle.s390x_machine.proofs.Folded.{shortened_runs}
 use Rattle.s390x_machine.proofs.OnRegisters.{computes_two, compares_two, copies_runs, alu_three_runs, move_where_runs, move_immediate_where_runs, signed_runs, logical_runs, leftmost_runs, count_runs, any_runs}
 use Rattle.s390x_machine.proofs.OnImmediates.{one_of_halfword, one_of_word, compare_of_halfword, compare_of_word, three_halfword_runs, placed_halfword, placed_word, inserted_half, allocate_runs}
 use Rattle.s390x_machine.proofs.Rotating.{shift_runs, rotate_runs, test_runs}
@@ -213,6 +214,7 @@ instruction_runs L k _ b operands_valid = absurd operands_valid
 
 pub step_runs : (L : Layout) (k : ℕ) (s : Step) → StepAt L k s → IsValidStep L s → StepRuns L k
 step_runs L k (Plain i) b operands_valid = instruction_runs L k i b operands_valid
+step_runs L k (Shortened r i) b operands_valid = shortened_runs L k r i b operands_valid b.placed.folded
 step_runs L k Opening b operands_valid = opening_runs b refl refl
 step_runs L k (Back mask target) b operands_valid = loop_runs b mask target refl refl (small_mask mask operands_valid.0) operands_valid.1
 step_runs L k (Break mask target) b operands_valid = loop_runs b mask target refl refl (small_mask mask operands_valid.0) operands_valid.1

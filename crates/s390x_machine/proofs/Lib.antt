@@ -13,6 +13,8 @@ pub mod RelativeRows
 pub mod Composites
 pub mod Decoding
 pub mod Fetching
+pub mod Folded
+pub mod FoldedSteps
 pub mod Folding
 pub mod Finalizing
 pub mod Frame

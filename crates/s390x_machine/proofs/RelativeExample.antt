@@ -24,6 +24,7 @@ use Rattle.s390x_machine.specs.CodeAt.{PartsReach, ConstantStands}
 use Rattle.s390x_machine.specs.RelativeExample.{image, loads, names, stops, trees, environment, core, with_constant, with_both, stopped, trace, RelativeRuns}
 use Rattle.s390x_operations.specs.declared.stop.StopKind.TheVariants.{Operation}
 use Rattle.s390x_machine.proofs.Checked.{checked_steps}
+use Rattle.s390x_machine.proofs.FoldedSteps.{whole_right}
 use Rattle.s390x_machine.proofs.Decoding.{none_begins}
 use Rattle.s390x_machine.proofs.Fetching.{StandsAt, found_at}
 use Rattle.s390x_machine.proofs.Rows.{fits_ril_b, larl_listed}
@@ -68,6 +69,7 @@ stands = record {
   fits = omega arith;
   short = omega arith;
   valid = checked_steps base environment trees 2 image checked ranges;
+  folded = whole_right (function_layout environment trees image) trees ranges;
   reached = reaches;
   stand = constant_stands;
 }

@@ -71,7 +71,7 @@ other_digit (suc zero) (suc b) e = absurd (omega (arith, e))
 other_digit (suc (suc a)) b e = absurd (omega (arith, e))
 
 -- a code is selected by a mask or by its inverse
-inverts : (mask : ℕ) → mask < 16 → (code : ConditionCode) → is_selected (15 - mask) code ≡ not (is_selected mask code)
+pub inverts : (mask : ℕ) → mask < 16 → (code : ConditionCode) → is_selected (15 - mask) code ≡ not (is_selected mask code)
 inverts mask lt Code0 = other_digit ((15 - mask) / 8 % 2) (mask / 8 % 2) (omega (arith, lt))
 inverts mask lt Code1 = other_digit ((15 - mask) / 4 % 2) (mask / 4 % 2) (omega (arith, lt))
 inverts mask lt Code2 = other_digit ((15 - mask) / 2 % 2) (mask / 2 % 2) (omega (arith, lt))

@@ -1,5 +1,5 @@
 -- What has to be told of an image: that each step's bytes lie in it at the step's offset.
-use Rattle.std.specs.Prelude.{◌≡◌, ℕ, ℤ, suc, ◌+◌, pos, ◌+ℤ◌, ◌*ℤ◌, ◌%◌, ◌^◌, ◌<◌, ◌≤◌, List, [], ◌∷◌, ◌++◌, length, get_or, ◌&&◌, not, IsTrue, Option, Some, None, slice_get}
+use Rattle.std.specs.Prelude.{◌≡◌, ℕ, ℤ, suc, ◌+◌, pos, ◌+ℤ◌, ◌*ℤ◌, ◌%◌, ◌^◌, ◌<◌, ◌≤◌, List, [], ◌∷◌, ◌++◌, length, get_or, ◌-◌, ◌⊎◌, ◌&&◌, not, IsTrue, Option, Some, None, slice_get}
 use Rattle.std.specs.Int.{w32, cast_signed}
 use Rattle.s390x_buffer.specs.State.{is_alignment}
 use Rattle.s390x_base.specs.declared.ir.ExternalName.{ExternalName}
@@ -13,7 +13,8 @@ use Rattle.s390x_typed_steps.specs.Causes.{loses_scratch, target_cause}
 use Rattle.s390x_typed_steps.specs.Memory.{MemoryInstruction, memory, type_of}
 use Rattle.s390x_typed_steps.specs.Operands.{has_form, operand_general, offset_fits}
 use Rattle.s390x_typed_steps.specs.Ranges.{IsConditionMask, OperandInRange}
-use Rattle.s390x_typed_steps.specs.Steps.{Step, Plain, Opening, Back, Break, CallingStep, NoLoadStep, TailOpeningStep, TailJumpStep}
+use Rattle.s390x_typed_steps.specs.StepBody.{Remainder, NothingLeft, BranchLeft}
+use Rattle.s390x_typed_steps.specs.Steps.{Step, Plain, Shortened, Opening, Back, Break, CallingStep, NoLoadStep, TailOpeningStep, TailJumpStep}
 use Rattle.s390x_typed_steps.specs.Parts.{CodePart, RelativeSymbol, CallSymbol, part_size, step_parts, step_size}
 use Rattle.s390x_typed_steps.specs.VectorComposite.{composite_cause}
 use Rattle.s390x_typed_steps.specs.Rows.{step_bytes}
@@ -82,6 +83,7 @@ IsValidInstruction L i = OperandsValidOr (single_instruction i) (ValidMemoryOr L
 -- and that it leads to a step or past the last one; of a call and of a tail call's jump that their registers may stand there
 abbrev pub IsValidStep : Layout → Step → Type 0
 IsValidStep L (Plain i) = IsValidInstruction L i
+IsValidStep L (Shortened r i) = IsValidInstruction L i
 IsValidStep L Opening = Unit {0}
 IsValidStep L (Back mask target) = IsConditionMask mask × (target ≤ length L.steps)
 IsValidStep L (Break mask target) = IsConditionMask mask × (target ≤ length L.steps)
@@ -89,6 +91,19 @@ IsValidStep L (CallingStep c) = IsTrue (is_general c.link) × IsTrue (is_target 
 IsValidStep L NoLoadStep = ⊥
 IsValidStep L (TailOpeningStep target first_saved is_lost) = Unit {0}
 IsValidStep L (TailJumpStep target) = IsTrue (is_target target)
+
+-- the branches that the end of a block left away lead to the next step, and what is left does what the others did
+abbrev pub LeadsOn : Layout → (k : ℕ) → Remainder → Inst → Type 0
+LeadsOn L k NothingLeft (Jump dest) = L.first_step dest.0 ≡ suc k
+LeadsOn L k NothingLeft (CondBr taken not_taken mask) = (L.first_step taken.0 ≡ suc k) × (L.first_step not_taken.0 ≡ suc k)
+LeadsOn L k (BranchLeft m b) (CondBr taken not_taken mask) =
+    ((m ≡ mask) × (b ≡ taken.0) × (L.first_step not_taken.0 ≡ suc k)) ⊎ ((m ≡ 15 - mask) × (b ≡ not_taken.0) × (L.first_step taken.0 ≡ suc k))
+LeadsOn L k r i = ⊥
+
+-- of a step that has lost branches, that it leads on so
+abbrev pub IsFoldedRight : Layout → (k : ℕ) → Step → Type 0
+IsFoldedRight L k (Shortened r i) = LeadsOn L k r i
+IsFoldedRight L k s = Unit {0}
 
 -- the distance to a symbol plus an offset leads from a part's beginning to what the symbol's doubleword would hold
 abbrev pub SymbolReached : Layout → ℕ → ExternalName → ℤ → Type 0
@@ -123,6 +138,7 @@ pub record CodeAt (L : Layout) (k : ℕ) (s : Step) : Type 0 where
   pub size : L.offsets.step (suc k) ≡ L.offsets.step k + step_size s
   pub traps : (offset : ℕ) → L.offsets.step k ≤ offset → offset < L.offsets.step (suc k) → first_code L.traps offset ≡ first_code (step_traps (L.offsets.step k) s) offset
   pub valid : IsValidStep L s
+  pub folded : IsFoldedRight L k s
   pub reached : PartsReach L (L.offsets.step k) (step_parts s)
 
 -- each step's code lies where its offset says, and the first one at the beginning; each block stands where its first step does, and each constant. The image lies at an even address

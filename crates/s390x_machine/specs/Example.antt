@@ -7,6 +7,7 @@ use Rattle.s390x_inst.specs.declared.ops.ALUOp.TheVariants.{Add64}
 use Rattle.s390x_inst.specs.declared.inst.Inst.{Inst}
 use Rattle.s390x_inst.specs.declared.inst.Inst.TheVariants.{AluRRR, CondBr, Ret}
 use Rattle.s390x_typed_steps.specs.Tree.{Tree, empty, leaf, Whole}
+use Rattle.s390x_typed_steps.specs.Folding.{folded_trees}
 use Rattle.s390x_typed_steps.specs.Image.{unlinked}
 use Rattle.s390x_operations.specs.State.{Registers, Core, CodeImage, is_within, IsLoaded, set_general, with_code}
 use Rattle.s390x_operations.specs.declared.stop.ConditionCode.TheVariants.{Code0, Code1}
@@ -14,11 +15,11 @@ use Rattle.s390x_machine.specs.Machine.{Transition, Executed, Run}
 use Rattle.s390x_machine.specs.Layout.{block_address}
 use Rattle.s390x_machine.specs.Functions.{function_layout, StandsAsCode}
 
--- agr %r2, %r4; jgl to the first block; jg to the second one; br %r14: as an assembler gives them
+-- agr %r2, %r4; jgl to the first block; br %r14: as an assembler gives them. The second block stands behind the first one, so that no branch leads there
 abbrev pub image : CodeImage
 image = record {
   base = 4096;
-  bytes = 0xb9 ∷ 0x08 ∷ 0x00 ∷ 0x24 ∷ 0xc0 ∷ 0x44 ∷ 0xff ∷ 0xff ∷ 0xff ∷ 0xfe ∷ 0xc0 ∷ 0xf4 ∷ 0x00 ∷ 0x00 ∷ 0x00 ∷ 0x03 ∷ 0x07 ∷ 0xfe ∷ [];
+  bytes = 0xb9 ∷ 0x08 ∷ 0x00 ∷ 0x24 ∷ 0xc0 ∷ 0x44 ∷ 0xff ∷ 0xff ∷ 0xff ∷ 0xfe ∷ 0x07 ∷ 0xfe ∷ [];
 }
 
 -- the label of a block
@@ -32,6 +33,10 @@ adds = AluRRR Add64 (Real (general 2)) (Real (general 2)) (Real (general 4))
 -- the two blocks
 abbrev pub trees : List Tree
 trees = leaf (Whole adds) (leaf (Whole (CondBr (label 0) (label 1) 4)) empty) ∷ leaf (Whole (Ret (Real (general 14)))) empty ∷ []
+
+-- what their ends leave of them
+abbrev pub left : List Tree
+left = folded_trees trees
 
 -- `%r2` is -2, `%r4` is 1 and `%r14` is 8192
 abbrev pub registers : Registers
@@ -62,10 +67,10 @@ twice = record { registers = with_code Code0 (with_sum 0 once.registers); memory
 abbrev pub transition : Core → ℕ → Transition
 transition c address = record { writes = []; event = Executed None; after = record { core = c; address = address } }
 
--- -1 and round, 0 and on, to the second block, and back to the caller
+-- -1 and round, 0 and on to the second block, and back to the caller
 abbrev pub trace : List Transition
-trace = transition once 4100 ∷ transition once 4096 ∷ transition twice 4100 ∷ transition twice 4106 ∷ transition twice 4112 ∷ transition twice 8192 ∷ []
+trace = transition once 4100 ∷ transition once 4096 ∷ transition twice 4100 ∷ transition twice 4106 ∷ transition twice 8192 ∷ []
 
 -- the image is the function's code and lies in memory, and the machine runs so from the first block
 abbrev pub LoopRuns : Type 0
-LoopRuns = StandsAsCode (unlinked trees []) trees image × IsLoaded image core.memory × Run image (record { core = core; address = block_address (function_layout (unlinked trees []) trees image) 0 }) trace
+LoopRuns = StandsAsCode (unlinked left []) left image × IsLoaded image core.memory × Run image (record { core = core; address = block_address (function_layout (unlinked left []) left image) 0 }) trace

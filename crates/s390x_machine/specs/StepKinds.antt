@@ -35,7 +35,7 @@ use Rattle.s390x_inst.specs.declared.inst.Inst.TheVariants.{Vector}
 use Rattle.s390x_typed_steps.specs.VectorInstruction.{divides}
 use Rattle.s390x_machine.specs.VectorSteps.{ConditionalOperation, conditional_operation, vector_operation}
 use Rattle.s390x_machine.specs.Layout.{Layout, block_address}
-use Rattle.s390x_typed_steps.specs.Steps.{Step, Plain, Opening, Back, Break, CallingStep, NoLoadStep, TailOpeningStep, TailJumpStep}
+use Rattle.s390x_typed_steps.specs.Steps.{Step, Plain, Shortened, Opening, Back, Break, CallingStep, NoLoadStep, TailOpeningStep, TailJumpStep}
 
 -- what a typed step does
 pub data StepKind : Type 0 where
@@ -239,6 +239,7 @@ instruction_kind L i = kind_or (performed L i) (kind_or (performed_in_memory L i
 -- an opening is a step without bytes; a loop's back branch and its breaks lead to steps; a call and the jump of a tail call end the run
 abbrev pub step_kind : Layout → Step → StepKind
 step_kind L (Plain i) = instruction_kind L i
+step_kind L (Shortened r i) = instruction_kind L i
 step_kind L Opening = Silent
 step_kind L (Back mask target) = Leads mask target
 step_kind L (Break mask target) = Leads mask target

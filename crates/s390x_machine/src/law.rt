@@ -5,10 +5,11 @@ ghost use Rattle.s390x_typed_steps.specs.Rows.{LinkEnvironment};
 ghost use Rattle.s390x_typed_steps.specs.Tree.{Tree};
 ghost use Rattle.s390x_machine.specs.Functions.{function_layout, StandsAsCode};
 ghost use Rattle.s390x_typed_steps.specs.Causes.{blocks_cause};
+ghost use Rattle.s390x_typed_steps.specs.Folding.{folded_trees};
 ghost use Rattle.s390x_typed_steps.specs.Ranges.{OperandInRange, BlocksInRange};
 ghost use Rattle.s390x_typed_steps.specs.Steps.{Step, Plain, function_steps};
 ghost use Rattle.s390x_machine.specs.Layout.{Layout};
-ghost use Rattle.s390x_machine.specs.CodeAt.{AllCodeAt, IsBlock, IsValidStep, IsValidMemory, ValidMemoryOr};
+ghost use Rattle.s390x_machine.specs.CodeAt.{AllCodeAt, IsBlock, IsFoldedRight, IsValidStep, IsValidMemory, ValidMemoryOr};
 ghost use Rattle.s390x_machine.specs.Match.{EveryRun, EveryReturnRun, EveryBlockRun};
 ghost use Rattle.s390x_machine.specs.OneStep.{StepRuns, StepHolds};
 ghost use Rattle.s390x_machine.specs.Fetch.{Fetched, Fetches};
@@ -48,6 +49,12 @@ pub fn code_is_placed()
 /// Emission lets each step pass of a function that has no cause of refusal, with n labels in use.
 pub fn checked_steps_are_valid()
     ensures { (flags : IsaFlags) (environment : LinkEnvironment) (ts : List Tree) (n : ℕ) (image : CodeImage) → blocks_cause flags (record { blocks = length ts; aligns = environment.aligns }) n ts ≡ None → BlocksInRange ts → (k : ℕ) (s : Step) → slice_get (function_steps ts) k ≡ Some s → IsValidStep (function_layout environment ts image) s }
+{}
+
+/// The same of the steps that the ends of the blocks left of them, each of which leads on where it has lost branches.
+pub fn folded_steps_are_valid()
+    ensures valid { (flags : IsaFlags) (environment : LinkEnvironment) (ts : List Tree) (n : ℕ) (image : CodeImage) → blocks_cause flags (record { blocks = length ts; aligns = environment.aligns }) n ts ≡ None → BlocksInRange ts → (k : ℕ) (s : Step) → slice_get (function_steps (folded_trees ts)) k ≡ Some s → IsValidStep (function_layout environment (folded_trees ts) image) s }
+    ensures folded { (environment : LinkEnvironment) (ts : List Tree) (image : CodeImage) → BlocksInRange ts → (k : ℕ) (s : Step) → slice_get (function_steps (folded_trees ts)) k ≡ Some s → IsFoldedRight (function_layout environment (folded_trees ts) image) k s }
 {}
 
 /// Every machine run from a step's place, in every state in which the image lies in memory and under every list of others' writes, is allowed by the typed steps.

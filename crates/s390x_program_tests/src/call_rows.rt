@@ -32,7 +32,7 @@ const CALL_JOBS: [(&str, &str, Status, &str); 22] = [
     // in a loop none is a safepoint
     ("emit", "block\nLoop 4\nCall %r14 %r6 [] [] [] 0 SystemV SystemV - false 7\nendloop\nend\n", Status::Ok, "code 0de6c044ffffffff\nalign 4\nblock 0 0\ncall 2\n"),
     // handlers
-    ("emit", "block\nCall %r14 u1 [] [] [] 0 SystemV SystemV 1[7:2,*:2] false -\nblock\nRet %r14\nblock\nRet %r14\nend\n", Status::Ok, "code c0e500000000c0f40000000307fe07fe\nalign 4\nblock 0 0\nblock 1 12\nblock 2 14\nreloc 2 PLTRel32Dbl u1 2\ntry 6 0 [7:14,*:14]\n"),
+    ("emit", "block\nCall %r14 u1 [] [] [] 0 SystemV SystemV 1[7:2,*:2] false -\nblock\nRet %r14\nblock\nRet %r14\nend\n", Status::Ok, "code c0e50000000007fe07fe\nalign 4\nblock 0 0\nblock 1 6\nblock 2 8\nreloc 2 PLTRel32Dbl u1 2\ntry 6 0 [7:8,*:8]\n"),
     ("emit", "frame SystemV 0 0 8 16 0 160 - 0\nblock\nCall %r14 %r6 [] [] [] 0 SystemV SystemV 0[] true -\nend\n", Status::Ok, "code 0de6c0f4ffffffff\nalign 4\nblock 0 0\ntry 2 184 []\npatch 2 2\n"),
     ("show", "block\nCall %r14 u1 [] [] [] 0 SystemV SystemV 1[3:2,*:1] false -\nblock\nRet %r14\nblock\nRet %r14\nend\n", Status::Ok, "block 0\nbrasl %r14, u1; jg label1; catch [tag3: label2, default: label1]\nblock 1\nbr %r14\nblock 2\nbr %r14\n"),
 ];

@@ -10,6 +10,8 @@ mod executions;
 #[cfg(test)]
 mod faults;
 #[cfg(test)]
+mod folding_rows;
+#[cfg(test)]
 mod listings;
 #[cfg(test)]
 mod memory_rows;

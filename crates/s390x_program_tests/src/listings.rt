@@ -96,8 +96,8 @@ const TEXTS: [(&str, Status, &str); 7] = [
 const GENERATED: [(&str, Status, &str); 12] = [
     ("gen 0 7", Status::Ok, "blocks 0 bytes 0 sum 0\n"),
     ("gen 1 0", Status::Ok, "blocks 1 bytes 8 sum 978\n"),
-    ("gen 2 0", Status::Ok, "blocks 2 bytes 24 sum 2263\n"),
-    ("gen 3 7", Status::Ok, "blocks 3 bytes 40 sum 5601\n"),
+    ("gen 2 0", Status::Ok, "blocks 2 bytes 12 sum 1494\n"),
+    ("gen 3 7", Status::Ok, "blocks 3 bytes 28 sum 4726\n"),
     ("gen 100001 0", Status::Usage, "usage\n"),
     ("gen 1 4294967296", Status::Usage, "usage\n"),
     ("gen 01 0", Status::Usage, "usage\n"),
@@ -142,7 +142,7 @@ fn functions_are_generated(rt: HostRuntime) -> Result<(), Fail> {
 #[test]
 fn a_large_function_is_generated(rt: HostRuntime) -> Result<(), Fail> {
     for _ in 0..2 {
-        let told = "blocks 100000 bytes 1849744 sum 189522152\n";
+        let told = "blocks 100000 bytes 1249750 sum 145630967\n";
         expect(
             &rt,
             "gen 100000 1",

@@ -1,4 +1,5 @@
 //! Jobs whose instructions have operands in memory, go by tables, or name symbols.
+use crate::folding_rows::FOLDED_JOBS;
 use crate::relative_rows::{PLACE_JOBS, RELATIVE_ROWS};
 use crate::runs::{GOOD, expect, expect_rows};
 use crate::stack_rows::STACK_JOBS;
@@ -198,6 +199,16 @@ fn stack_sizes_move_frame_operands(rt: HostRuntime) -> Result<(), Fail> {
 #[test]
 fn vector_jobs_end_as_written(rt: HostRuntime) -> Result<(), Fail> {
     for (words, job, status, told) in VECTOR_JOBS {
+        let input = Vec::from_slice(rt.alloc(), job.as_bytes())?;
+        expect(&rt, words, input, GOOD, (status, told))?;
+    }
+    Ok(())
+}
+
+/// Branches at the ends of blocks.
+#[test]
+fn folded_jobs_end_as_written(rt: HostRuntime) -> Result<(), Fail> {
+    for (words, job, status, told) in FOLDED_JOBS {
         let input = Vec::from_slice(rt.alloc(), job.as_bytes())?;
         expect(&rt, words, input, GOOD, (status, told))?;
     }

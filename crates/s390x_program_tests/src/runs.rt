@@ -195,7 +195,7 @@ fn images_are_written_or_refused(rt: HostRuntime) -> Result<(), Fail> {
             "image 4096",
             "block\nCondBr 1 2 8\nblock\nRet %r14\nblock\nRet %r14\nend\n",
             Status::Ok,
-            "c08400000006c0f40000000407fe07fe\n",
+            "c0740000000407fe07fe\n",
         ),
         (
             "image 4096",
@@ -397,7 +397,7 @@ fn codes_are_written_with_their_tables(rt: HostRuntime) -> Result<(), Fail> {
         (
             "block\nCondBr 1 2 8\nblock\nRet %r14\nblock\nRet %r14\nend\n",
             Status::Ok,
-            "code c08400000006c0f40000000407fe07fe\nalign 4\nblock 0 0\nblock 1 12\nblock 2 14\n",
+            "code c0740000000407fe07fe\nalign 4\nblock 0 0\nblock 1 6\nblock 2 8\n",
         ),
         (
             "block\nTrapIf 8 heap_oob\nend\n",

@@ -11,7 +11,7 @@ pub const WORKED_JOBS: [(&str, &str, Status, &str); 17] = [
     ("emit", "block\nSDivMod64 %r2/%r3 %r3 %r5\nend\n", Status::Ok, "code b90d0025\nalign 4\nblock 0 0\ntrap 3 int_divz\n"),
     ("emit", "block\nCmpTrapRR CmpS64 %r2 %r3 8 user1\nend\n", Status::Ok, "code b9608023\nalign 4\nblock 0 0\ntrap 3 user1\n"),
     // two blocks that a generator draws
-    ("image 4096", "block\nLoad64 %r2 RegOffset(%r15,227224,a)\nCondBr 1 1 8\nblock\nAluRRR Add64 %r2 %r3 %r4\nRet %r14\nend\n", Status::Ok, "e320f7983704c08400000006c0f400000003b9e8402307fe\n"),
+    ("image 4096", "block\nLoad64 %r2 RegOffset(%r15,227224,a)\nCondBr 1 1 8\nblock\nAluRRR Add64 %r2 %r3 %r4\nRet %r14\nend\n", Status::Ok, "e320f7983704b9e8402307fe\n"),
     // tables whose index can't be their register
     ("image 4096", "block\nJTSequence %r1 1 2 [1,2]\nblock\nRet %r14\nblock\nRet %r14\nend\n", Status::Refused, "refused ScratchConflict\n"),
     ("image 4096", "block\nJTSequence %r0 1 2 [1,2]\nblock\nRet %r14\nblock\nRet %r14\nend\n", Status::Refused, "refused BadRegister\n"),

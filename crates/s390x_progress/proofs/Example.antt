@@ -22,7 +22,7 @@ image_bytes = refl
 
 inside : (a : ℕ) → IsTrue (is_within image a) → a < 2 ^ 64
 inside a h =
-    let lt : a < 4114 = leb-true (suc a) 4114 (and_parts (nat_le 4096 a) (nat_lt a 4114) h).1 in
+    let lt : a < 4108 = leb-true (suc a) 4108 (and_parts (nat_le 4096 a) (nat_lt a 4108) h).1 in
     omega arith
 
 pub in_range : IsState (record { core = core; address = image.base })

@@ -10,9 +10,10 @@ use Rattle.s390x_base.specs.declared.error.EmitError.TheVariants as error
 use Rattle.s390x_buffer.specs.declared.entries.MachBufferFinalized.{MachBufferFinalized}
 use Rattle.s390x_buffer.specs.State.{Constant}
 use Rattle.s390x_typed_steps.specs.Causes.{first_emit_cause}
+use Rattle.s390x_typed_steps.specs.Folding.{folded_trees}
 use Rattle.s390x_typed_steps.specs.Ranges.{BlocksInRange}
 use Rattle.s390x_typed_steps.specs.Tree.{Tree}
-use Rattle.s390x_emit_int.specs.Function.{IsFinishedCode, checked_cause, start_cause, trees_of, constants_of}
+use Rattle.s390x_emit_int.specs.Function.{IsFinishedCode, checked_cause, start_cause, folded_trees_of, trees_of, constants_of}
 use Rattle.s390x_emit_int.specs.Headline.{RunsAsTyped}
 use Rattle.s390x_image.specs.Causes.{link_cause, base_cause, relocs_cause, first_link_cause as first_cause}
 use Rattle.s390x_image.specs.Fields.{filled}
@@ -162,16 +163,16 @@ second_none (Some e) b none = absurd cc
 abbrev pub RunsWhereLinked : Type 0
 RunsWhereLinked =
     (flags : IsaFlags) (ts : List Tree) (cs : List Constant) (f : MachBufferFinalized) (base : ℕ) (symbols : Symbols)
-    → checked_cause flags ts cs ≡ None → BlocksInRange ts → IsFinishedCode ts cs f → link_cause f base symbols ≡ None
-    → RunsAsTyped symbols ts cs (record { base = base; bytes = filled base symbols f.relocs.items f.bytes.items })
+    → checked_cause flags ts cs ≡ None → BlocksInRange ts → IsFinishedCode (folded_trees ts) cs f → link_cause f base symbols ≡ None
+    → RunsAsTyped symbols (folded_trees ts) cs (record { base = base; bytes = filled base symbols f.relocs.items f.bytes.items })
 
 -- it holds of a job's image
 pub image_runs : RunsWhereLinked → (base : ℕ) (j : Job) (bytes : List ℕ) → IsImageAt base j bytes
-    → RunsAsTyped (symbols_of j) (trees_of j.state j.function) (constants_of j.function) (record { base = base; bytes = bytes })
+    → RunsAsTyped (symbols_of j) (folded_trees_of j.state j.function) (constants_of j.function) (record { base = base; bytes = bytes })
 image_runs law base j bytes image =
     let runs = law j.info.isa_flags (trees_of j.state j.function) (constants_of j.function) image.code base (symbols_of j)
     (second_none (start_cause j.state) _ image.is.valid) image.is.ranges image.is.emitted image.linked in
-    let P : List ℕ → Type 0 = λ bs. RunsAsTyped (symbols_of j) (trees_of j.state j.function) (constants_of j.function) (record { base = base; bytes = bs }) in
+    let P : List ℕ → Type 0 = λ bs. RunsAsTyped (symbols_of j) (folded_trees_of j.state j.function) (constants_of j.function) (record { base = base; bytes = bs }) in
     subst P (sym image.filled) runs
 
 -- the image in hex is the reply

@@ -1,14 +1,14 @@
 -- A generated function is refused by nothing.
-use Rattle.std.proofs.Common.{◌≡◌, ℕ, ◌+◌, ◌≤◌, ◌<◌, ◌*◌, ◌⊎◌, inl, inr, List, [], ◌∷◌, length, map, Some, None, refl, sym, ap, ap₂, ◌∙◌, subst, arith}
+use Rattle.std.proofs.Common.{◌≡◌, ℕ, ◌+◌, ◌≤◌, ◌<◌, ◌*◌, ◌⊎◌, inl, inr, List, [], ◌∷◌, length, map, Some, None, true, refl, sym, ap, ap₂, ◌∙◌, subst, arith}
 use Rattle.std.specs.Prelude.{Option, codes, nat_le, nat_lt}
-use Rattle.std.proofs.lemmas.Bool.{le-leb, lt-ltb}
+use Rattle.std.proofs.lemmas.Bool.{and_from, le-leb, lt-ltb}
 use Rattle.std.proofs.lemmas.List.{length-append}
 use Rattle.s390x_base.specs.declared.error.EmitError.{EmitError}
 use Rattle.s390x_base.specs.declared.error.EmitError.TheVariants as error
 use Rattle.s390x_buffer.specs.Constants.{greatest_align}
 use Rattle.s390x_buffer.specs.State.{constant_of, new_cause}
 use Rattle.s390x_buffer.specs.declared.entries.MachBufferFinalized.{MachBufferFinalized}
-use Rattle.s390x_emit_int.specs.Function.{IsFinishedCode, checked_cause, code_length_cause, constants_of, function_cause, start_cause, tree_of, trees_of}
+use Rattle.s390x_emit_int.specs.Function.{IsFinishedCode, checked_cause, code_length_cause, constants_of, function_cause, start_cause, tree_of, trees_of, folded_trees_of}
 use Rattle.s390x_emit_int.specs.FunctionImage.{HasNoImage, IsImageOf, IsLinkRefused}
 use Rattle.s390x_emit_int.specs.declared.image.ImageError.TheVariants.{Refused, Link}
 use Rattle.s390x_generator.specs.Generator.{IsGenerated, generated, generated_trees, insts_of}
@@ -24,6 +24,9 @@ use Rattle.s390x_inst.specs.declared.inst.Inst.{Inst}
 use Rattle.s390x_inst.specs.declared.state.EmitInfo.{EmitInfo}
 use Rattle.s390x_inst.specs.declared.state.IsaFlags.{IsaFlags}
 use Rattle.s390x_typed_steps.specs.Causes.{blocks_cause, declared_of, first_emit_cause, unless}
+use Rattle.s390x_typed_steps.specs.Folding.{folded_trees, peak}
+use Rattle.s390x_typed_steps.proofs.Folding.{peak_few, folded_blocks_size}
+use Rattle.s390x_typed_steps.proofs.FoldedRelocs.{folded_relocs}
 use Rattle.s390x_typed_steps.specs.Relocs.{function_relocs}
 use Rattle.s390x_typed_steps.specs.Sizes.{blocks_size}
 use Rattle.s390x_typed_steps.specs.Tree.{Tree, block_tree}
@@ -67,7 +70,9 @@ checked counts valid small flags e n start few =
     let new : new_cause (length ts) [] ≡ None = ap (λ b. unless b error.LabelOutOfRange) (lt-ltb (length ts + 0) 4294967296 (omega (arith, counts e n start, few))) in
     let steps : blocks_cause flags (declared_of ts []) (length ts + 0) ts ≡ None =
     subst (λ m. blocks_cause flags (declared_of ts []) m ts ≡ None) (omega (arith, counts e n start)) (valid flags e n start few) in
-    let end : code_length_cause ts [] ≡ None = ap (λ b. unless b error.LabelOutOfRange) (lt-ltb (blocks_size ts) 2147483648 (omega (arith, size, few))) in
+    let highest : nat_lt (peak ts) 2147483648 ≡ true = lt-ltb (peak ts) 2147483648 (omega (arith, size, few, peak_few 0 0 ts)) in
+    let last : nat_lt (blocks_size (folded_trees ts)) 2147483648 ≡ true = lt-ltb (blocks_size (folded_trees ts)) 2147483648 (omega (arith, size, few, folded_blocks_size 0 ts)) in
+    let end : code_length_cause ts [] ≡ None = ap (λ b. unless b error.LabelOutOfRange) (and_from (nat_lt (peak ts) 2147483648) (nat_lt (blocks_size (folded_trees ts)) 2147483648) highest last) in
     ap₂ first_emit_cause new (ap₂ first_emit_cause steps end)
 
 pub not_refused : Counts → AreValid → AreSmall → (n start : ℕ) (f : AllocatedFunction) → n ≤ 100000 → IsGenerated n start f
@@ -78,9 +83,9 @@ not_refused counts valid small n start f few h =
 
 -- nor has linking
 pub not_link_refused : HaveNoRelocs → (n start : ℕ) (f : AllocatedFunction) (code : MachBufferFinalized) → IsGenerated n start f
-    → IsFinishedCode (trees_of empty_emission f) (constants_of f) code → link_cause code generated_base no_symbols ≡ None
+    → IsFinishedCode (folded_trees_of empty_emission f) (constants_of f) code → link_cause code generated_base no_symbols ≡ None
 not_link_refused relocs n start f code h finished =
-    let none : code.relocs.items ≡ [] = finished.relocs ∙ ap function_relocs (same_trees empty_emission n start f h) ∙ relocs empty_emission n start in
+    let none : code.relocs.items ≡ [] = finished.relocs ∙ ap (λ ts. function_relocs (folded_trees ts)) (same_trees empty_emission n start f h) ∙ folded_relocs (generated_trees empty_emission n start) (relocs empty_emission n start) in
     let align : code.alignment ≡ 4 = finished.alignment ∙ ap (λ cs. greatest_align 4 cs) (no_constants n start f h) in
     let short = finished.short in
     let fits = le-leb (generated_base + length code.bytes.items) 18446744073709551616 (omega (arith, short)) in

@@ -4,6 +4,7 @@ pub mod Answering
 pub mod Generating
 pub mod Simulating
 pub mod Emitting
+pub mod SameEnds
 pub mod SameInstruction
 pub mod SameTree
 pub mod SameLines

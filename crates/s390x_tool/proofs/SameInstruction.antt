@@ -262,7 +262,7 @@ reading_range Names = Unit {0} × Unit {0}
 reading_range (Pops size) = Unit {0} × Unit {0}
 reading_range Other = Unit {0} × Unit {0}
 
-vector_reading : (v : VecInst) → Whole (Vector v) ≡ line_reading (vector_line v)
+pub vector_reading : (v : VecInst) → Whole (Vector v) ≡ line_reading (vector_line v)
 vector_reading (V.VecRR op rd rn) = refl
 vector_reading v = refl
 

@@ -1,5 +1,5 @@
 -- Two jobs with the same lines have the same causes, the same code and the same symbols.
-use Rattle.std.proofs.Common.{◌≡◌, ℕ, ◌+◌, ◌++◌, List, map, length, Option, None, sym, ap, ◌∙◌, subst, append-nil, nat_lt}
+use Rattle.std.proofs.Common.{◌≡◌, ℕ, ◌+◌, ◌++◌, List, map, length, Option, None, sym, ap, ◌∙◌, subst, append-nil, nat_lt, ◌&&◌}
 use Rattle.std.proofs.lemmas.List.{length-map}
 use Rattle.s390x_inst.specs.declared.state.IsaFlags.{IsaFlags}
 use Rattle.s390x_base.specs.declared.error.EmitError.{EmitError}
@@ -9,11 +9,12 @@ use Rattle.s390x_buffer.specs.Constants.{constant_starts, constant_bytes, consta
 use Rattle.s390x_buffer.specs.declared.entries.MachBufferFinalized.{MachBufferFinalized}
 use Rattle.s390x_typed_steps.specs.Tree.{Tree}
 use Rattle.s390x_typed_steps.specs.Causes.{Declared, aligns_of, first_emit_cause, unless}
+use Rattle.s390x_typed_steps.specs.Folding.{folded_trees}
 use Rattle.s390x_typed_steps.specs.Sizes.{blocks_size}
 use Rattle.s390x_typed_steps.specs.Ranges.{BlocksInRange}
 use Rattle.s390x_typed_steps.specs.Image.{unlinked, function_code}
 use Rattle.s390x_typed_steps.specs.Sites.{call_offsets, patches, stack_maps}
-use Rattle.s390x_emit_int.specs.Function.{IsFinishedCode, start_cause, checked_cause, code_length_cause, trees_of, constants_of}
+use Rattle.s390x_emit_int.specs.Function.{IsFinishedCode, start_cause, checked_cause, code_length_cause, trees_of, folded_trees_of, constants_of}
 use Rattle.s390x_job.specs.Jobs.{IsJob}
 use Rattle.s390x_job.specs.Same.{SameJob}
 use Rattle.s390x_job.specs.declared.job.Job.{Job}
@@ -24,6 +25,7 @@ use Rattle.s390x_commands.specs.declared.words.JobCommand.{JobCommand}
 use Rattle.s390x_commands.specs.declared.words.JobCommand.TheVariants.{Image, Emit, Run, Operands, Show}
 use Rattle.s390x_tool.proofs.SameTree.{LineTree, lines_tree, line_blocks_cause, line_blocks_size, line_ranges, parts_code, line_at, line_places, line_environment, line_steps_from, same_blocks_cause, same_function_code, same_starts, same_block_starts, same_blocks_size}
 use Rattle.s390x_tool.proofs.SameTree.{parts_places, line_block_places, ranges_to, ranges_from, each_traps, same_function_traps, each_relocs, same_function_relocs, line_sites, same_function_sites, line_tries, same_function_tries}
+use Rattle.s390x_tool.proofs.SameEnds.{lines_from, line_peak, same_peak, folded_blocks_told, same_folded}
 use Rattle.s390x_tool.proofs.SameLines.{found, with_flags, with_frame, frame_of, Said, job_found}
 use Rattle.s390x_tool.proofs.Frameless.{raw_block, resolved_lines, blocks_resolved}
 use Rattle.s390x_inst.specs.State.{fresh_emission}
@@ -57,18 +59,28 @@ same_symbols j k a b e =
 abbrev line_declared : (blocks : ℕ) → List Constant → Declared
 line_declared blocks cs = record { blocks = blocks; aligns = aligns_of cs }
 
+-- the length, at its greatest and in the end
+abbrev line_length : List LineTree → List Constant → Option EmitError
+line_length ts cs = unless (nat_lt (line_peak 0 0 ts) limit && nat_lt (constants_end (line_blocks_size (lines_from 0 ts)) cs) limit) LabelOutOfRange
+
+same_length : (ts : List Tree) (cs : List Constant) → code_length_cause ts cs ≡ line_length (map lines_tree ts) cs
+same_length ts cs =
+    ap (λ n. unless (nat_lt n limit && nat_lt (constants_end (blocks_size (folded_trees ts)) cs) limit) LabelOutOfRange) (same_peak ts)
+    ∙ ap (λ n. unless (nat_lt (line_peak 0 0 (map lines_tree ts)) limit && nat_lt (constants_end n cs) limit) LabelOutOfRange) (same_blocks_size (folded_trees ts) ∙ ap line_blocks_size (folded_blocks_told ts))
+
 -- the causes after the state's
 abbrev line_checked : IsaFlags → List LineTree → List Constant → Option EmitError
 line_checked flags ts cs =
     first_emit_cause (new_cause (length ts) cs)
-    (first_emit_cause (line_blocks_cause flags (line_declared (length ts) cs) (length ts + length cs) ts) (unless (nat_lt (constants_end (line_blocks_size ts) cs) limit) LabelOutOfRange))
+    (first_emit_cause (line_blocks_cause flags (line_declared (length ts) cs) (length ts + length cs) ts) (line_length ts cs))
 
 same_checked : (flags : IsaFlags) (ts : List Tree) (cs : List Constant) → checked_cause flags ts cs ≡ line_checked flags (map lines_tree ts) cs
 same_checked flags ts cs =
     let D = line_declared (length ts) cs in
+    let ls = map lines_tree ts in
     ap (λ o. first_emit_cause (new_cause (length ts) cs) (first_emit_cause o (code_length_cause ts cs))) (same_blocks_cause flags D (length ts + length cs) ts)
-    ∙ ap (λ n. first_emit_cause (new_cause (length ts) cs) (first_emit_cause (line_blocks_cause flags D (length ts + length cs) (map lines_tree ts)) (unless (nat_lt (constants_end n cs) limit) LabelOutOfRange))) (same_blocks_size ts)
-    ∙ ap (λ n. first_emit_cause (new_cause n cs) (first_emit_cause (line_blocks_cause flags (line_declared n cs) (n + length cs) (map lines_tree ts)) (unless (nat_lt (constants_end (line_blocks_size (map lines_tree ts)) cs) limit) LabelOutOfRange))) (sym (length-map ts lines_tree))
+    ∙ ap (λ o. first_emit_cause (new_cause (length ts) cs) (first_emit_cause (line_blocks_cause flags D (length ts + length cs) ls) o)) (same_length ts cs)
+    ∙ ap (λ n. first_emit_cause (new_cause n cs) (first_emit_cause (line_blocks_cause flags (line_declared n cs) (n + length cs) ls) (line_length ls cs))) (sym (length-map ts lines_tree))
 
 start_none : (j : Job) → IsJob j → start_cause j.state ≡ None
 start_none j is = ap start_cause is.state
@@ -120,7 +132,7 @@ same_code j k code a b e h =
     record {
       valid = sym (same_cause j k a b e) ∙ h.valid;
       ranges = same_ranges (trees_of j.state j.function) (trees_of k.state k.function) (same_blocks j k a b e) h.ranges;
-      emitted = subst (λ cs. IsFinishedCode (trees_of k.state k.function) cs code) (same_constants j k a b e) (same_image (trees_of j.state j.function) (trees_of k.state k.function) (constants_of j.function) code (same_blocks j k a b e) h.emitted);
+      emitted = subst (λ cs. IsFinishedCode (folded_trees_of k.state k.function) cs code) (same_constants j k a b e) (same_image (folded_trees_of j.state j.function) (folded_trees_of k.state k.function) (constants_of j.function) code (same_folded (trees_of j.state j.function) (trees_of k.state k.function) (same_blocks j k a b e)) h.emitted);
     }
 
 -- what links of one links of the other

@@ -251,7 +251,7 @@ line_size none = 0
 line_size (one l rest) = parts_size (told_parts 0 l) + line_size rest
 line_size (around mask members rest) = line_size members + 6 + line_size rest
 
-same_size : (t : Tree) → tree_size t ≡ line_size (lines_tree t)
+pub same_size : (t : Tree) → tree_size t ≡ line_size (lines_tree t)
 same_size empty = refl
 same_size (leaf b rest) = ap (λ ps. parts_size ps + tree_size rest) (parts_told 0 b) ∙ ap (λ n. parts_size (told_parts 0 (body_line b)) + n) (same_size rest)
 same_size (loop_node mask members rest) = let a = same_size members in let b = same_size rest in cc

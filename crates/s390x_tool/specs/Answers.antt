@@ -4,7 +4,7 @@ use Rattle.std.specs.Fmt.{decimal}
 use Rattle.hex.specs.Hex.{encode_lower}
 use Rattle.s390x_base.specs.declared.error.EmitError.{EmitError}
 use Rattle.s390x_buffer.specs.declared.entries.MachBufferFinalized.{MachBufferFinalized}
-use Rattle.s390x_emit_int.specs.Function.{IsFinishedCode, function_cause, trees_of, constants_of}
+use Rattle.s390x_emit_int.specs.Function.{IsFinishedCode, function_cause, folded_trees_of, trees_of, constants_of}
 use Rattle.s390x_emit_int.specs.Headline.{RunsAsTyped}
 use Rattle.s390x_typed_steps.specs.Ranges.{BlocksInRange}
 use Rattle.s390x_image.specs.declared.error.LinkError.{LinkError}
@@ -45,7 +45,7 @@ job_cause j = function_cause j.info.isa_flags (trees_of j.state j.function) (con
 pub record IsCodeOfJob (j : Job) (code : MachBufferFinalized) : Type 0 where
   pub valid : job_cause j ≡ None
   pub ranges : BlocksInRange (trees_of j.state j.function)
-  pub emitted : IsFinishedCode (trees_of j.state j.function) (constants_of j.function) code
+  pub emitted : IsFinishedCode (folded_trees_of j.state j.function) (constants_of j.function) code
 
 -- the first cause by which linking refuses a job's code at a base
 abbrev pub link_cause_of : ℕ → Job → MachBufferFinalized → Option LinkError
@@ -65,7 +65,7 @@ pub record IsImageAt (base : ℕ) (j : Job) (bytes : List ℕ) : Type 0 where
 pub record IsImageText (base : ℕ) (j : Job) (text : List ℕ) : Type 0 where
   pub bytes : List ℕ
   pub image : IsImageAt base j bytes
-  pub runs : RunsAsTyped (symbols_of j) (trees_of j.state j.function) (constants_of j.function) (record { base = base; bytes = bytes })
+  pub runs : RunsAsTyped (symbols_of j) (folded_trees_of j.state j.function) (constants_of j.function) (record { base = base; bytes = bytes })
   pub spelled : text ≡ line (encode_lower bytes)
 
 -- emission refuses the job's function by its first cause

@@ -1,3 +1,5 @@
 pub mod Trees
 pub mod Causes
 pub mod Traps
+pub mod Folding
+pub mod FoldedRelocs

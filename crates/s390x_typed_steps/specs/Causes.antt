@@ -23,7 +23,7 @@ use Rattle.s390x_typed_steps.specs.StepBody.{Calling}
 use Rattle.s390x_typed_steps.specs.Storage.{relative_bytes}
 use Rattle.s390x_typed_steps.specs.VectorComposite.{composite_cause}
 use Rattle.s390x_typed_steps.specs.declared.mem_inst_type.MemInstType.{MemInstType}
-use Rattle.s390x_typed_steps.specs.Tree.{StepBody, Tree, Whole, CallStep, NoLoad, TailOpening, TailJump, empty, leaf, loop_node}
+use Rattle.s390x_typed_steps.specs.Tree.{Remainder, NothingLeft, BranchLeft, StepBody, Tree, Whole, Folded, CallStep, NoLoad, TailOpening, TailJump, empty, leaf, loop_node}
 
 -- the first of two causes
 abbrev pub first_emit_cause : Option EmitError → Option EmitError → Option EmitError
@@ -204,9 +204,15 @@ call_cause blocks nominal depth c =
 abbrev pub tail_cause : CallInstDest → (first_saved : Option ℕ) → (is_lost : Bool) → Option EmitError
 tail_cause target first_saved is_lost = first_emit_cause (unless (is_target target && is_first_saved first_saved) BadRegister) (unless (not is_lost) ScratchConflict)
 
+-- a cause: what is left of an instruction's branches names no block
+abbrev pub remainder_cause : (blocks : ℕ) → Remainder → Option EmitError
+remainder_cause blocks NothingLeft = None
+remainder_cause blocks (BranchLeft mask b) = unless (nat_lt b blocks) UnboundLabel
+
 -- the causes of a body, with n labels in use. A tail call's jump has none that its opening hasn't
 abbrev pub body_cause : IsaFlags → Declared → (n nominal depth : ℕ) → StepBody → Option EmitError
 body_cause flags D n nominal depth (Whole i) = leaf_cause flags D n nominal depth i
+body_cause flags D n nominal depth (Folded r i) = first_emit_cause (leaf_cause flags D n nominal depth i) (remainder_cause D.blocks r)
 body_cause flags D n nominal depth (CallStep c) = call_cause D.blocks nominal depth c
 body_cause flags D n nominal depth NoLoad = Some BadOperator
 body_cause flags D n nominal depth (TailOpening target first_saved is_lost) = tail_cause target first_saved is_lost
@@ -215,6 +221,7 @@ body_cause flags D n nominal depth (TailJump target) = unless (is_target target)
 -- the nominal size behind a body
 abbrev pub body_nominal_after : (nominal : ℕ) → StepBody → ℕ
 body_nominal_after nominal (Whole i) = nominal_after nominal i
+body_nominal_after nominal (Folded r i) = nominal_after nominal i
 body_nominal_after nominal (CallStep c) = nominal - c.popped
 body_nominal_after nominal _ = nominal
 

@@ -2,6 +2,7 @@ pub mod SingleCode
 pub mod SingleInstruction
 pub mod Calls
 pub mod Causes
+pub mod Folding
 pub mod General
 pub mod Image
 pub mod MachineInstruction

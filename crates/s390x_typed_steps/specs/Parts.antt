@@ -20,8 +20,8 @@ use Rattle.s390x_inst.specs.declared.args.MemArg.TheVariants.{Label, Constant, S
 use Rattle.s390x_typed_steps.specs.Operands.{Finalized, finalized, is_relative}
 use Rattle.s390x_typed_steps.specs.Memory.{StorageForm, RxForm, MemoryInstruction, memory, type_of, storage_row, address_form, fault_code}
 use Rattle.s390x_typed_steps.specs.VectorComposite.{composite_rows}
-use Rattle.s390x_typed_steps.specs.StepBody.{Site, AtCall}
-use Rattle.s390x_typed_steps.specs.Steps.{Step, Plain, Opening, Back, Break, CallingStep, NoLoadStep, TailOpeningStep, TailJumpStep}
+use Rattle.s390x_typed_steps.specs.StepBody.{Site, AtCall, Remainder, NothingLeft, BranchLeft}
+use Rattle.s390x_typed_steps.specs.Steps.{Step, Plain, Shortened, Opening, Back, Break, CallingStep, NoLoadStep, TailOpeningStep, TailJumpStep}
 
 -- where a distance leads
 pub data Target : Type 0 where
@@ -183,9 +183,15 @@ abbrev pub site_parts : List Site → List CodePart
 site_parts [] = []
 site_parts (s ∷ ss) = SiteHere s ∷ site_parts ss
 
+-- what is left of a step's branches
+abbrev pub remainder_parts : Remainder → List CodePart
+remainder_parts NothingLeft = []
+remainder_parts (BranchLeft mask b) = Branch mask (ToBlock b) ∷ []
+
 -- the parts of a step; an opening has none
 abbrev pub step_parts : Step → List CodePart
 step_parts (Plain i) = instruction_parts i
+step_parts (Shortened r i) = remainder_parts r
 step_parts Opening = []
 step_parts (Back mask target) = Branch mask (ToStep target) ∷ []
 step_parts (Break mask target) = Branch mask (ToStep target) ∷ []

@@ -1,4 +1,5 @@
--- What a typed step is made of, outside the ends of loops: a whole instruction, or a step of those that a call or a tail call consists of.
+-- What a typed step is made of, outside the ends of loops: a whole instruction, one of whose branches the end of its block left less, or a step of those that
+-- a call or a tail call consists of.
 use Rattle.std.specs.Prelude.{ℕ, List, Option, Bool}
 use Rattle.s390x_base.specs.declared.regs.Reg.{Reg}
 use Rattle.s390x_buffer.specs.declared.entries.TryHandler.{TryHandler}
@@ -23,8 +24,16 @@ pub record Calling : Type 0 where
   pub popped : ℕ
   pub sites : List Site
 
+-- what the end of a block leaves of the branches of its last step
+pub data Remainder : Type 0 where
+  NothingLeft : Remainder
+  -- one under a mask to a block
+  BranchLeft : (mask block : ℕ) → Remainder
+
 pub data StepBody : Type 0 where
   Whole : Inst → StepBody
+  -- an instruction of whose branches this is left
+  Folded : Remainder → Inst → StepBody
   -- the call itself, before the loads of its results
   CallStep : Calling → StepBody
   -- the load of a result whose type has none: emission refuses it

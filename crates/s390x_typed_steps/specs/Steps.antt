@@ -1,6 +1,6 @@
 -- The typed steps: a flat list that is numbered once, from 0.
 use Rattle.std.specs.Prelude.{ℕ, zero, suc, ◌+◌, List, [], ◌∷◌, ◌++◌, Bool, Option}
-use Rattle.s390x_typed_steps.specs.Tree.{StepBody, Tree, Whole, CallStep, NoLoad, TailOpening, TailJump, empty, leaf, loop_node}
+use Rattle.s390x_typed_steps.specs.Tree.{Remainder, StepBody, Tree, Whole, Folded, CallStep, NoLoad, TailOpening, TailJump, empty, leaf, loop_node}
 use Rattle.s390x_inst.specs.declared.calls.CallInstDest.{CallInstDest}
 use Rattle.s390x_inst.specs.declared.inst.Inst.{Inst}
 use Rattle.s390x_inst.specs.declared.inst.Inst.TheVariants.{CondBreak}
@@ -11,6 +11,8 @@ use Rattle.s390x_typed_steps.specs.StepBody.{Calling}
 -- and its jump. Every other instruction is one step.
 pub data Step : Type 0 where
   Plain : Inst → Step
+  -- an instruction of whose branches this is left
+  Shortened : Remainder → Inst → Step
   Opening : Step
   Back : (mask target : ℕ) → Step
   Break : (mask target : ℕ) → Step
@@ -29,6 +31,7 @@ step_count (loop_node mask members rest) = 2 + step_count members + step_count r
 abbrev pub step_of : ℕ → StepBody → Step
 step_of after (Whole (CondBreak mask)) = Break mask after
 step_of after (Whole i) = Plain i
+step_of after (Folded r i) = Shortened r i
 step_of after (CallStep c) = CallingStep c
 step_of after NoLoad = NoLoadStep
 step_of after (TailOpening target first_saved is_lost) = TailOpeningStep target first_saved is_lost

@@ -1,10 +1,10 @@
-use Rattle.s390x_emit_int.specs.Function.{constants_of, trees_of}
+use Rattle.s390x_emit_int.specs.Function.{constants_of, folded_trees_of}
 use Rattle.s390x_emit_int.proofs.Filling.{relocs_lie}
 use Rattle.s390x_emit_int.proofs.FunctionImage.{image_of, link_refused}
 use Rattle.s390x_emit_int.proofs.image.emit_image.Goals as goal
 
 pub link-requires : goal.link-requires
-link-requires c = relocs_lie (trees_of c.args.state c.args.function.now) (constants_of c.args.function.now) c.in-Ok.code c.in-Ok.ensures.1
+link-requires c = relocs_lie (folded_trees_of c.args.state c.args.function.now) (constants_of c.args.function.now) c.in-Ok.code c.in-Ok.ensures.1
 
 pub returns-in-Ok-link-clause-image : goal.returns-in-Ok-link-clause-image
 returns-in-Ok-link-clause-image c =
