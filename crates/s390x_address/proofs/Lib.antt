@@ -1,4 +1,5 @@
 pub mod Encoding
+pub mod Loading
 pub mod Lacking
 pub mod Planning
 pub mod Planned

@@ -1,17 +1,16 @@
 -- The causes of an instruction whose operand was planned are those of the instruction.
-use Rattle.std.proofs.Common.{◌≡◌, ◌&&◌, not, Bool, true, Option, None, sym, ap, ◌∙◌}
-use Rattle.std.proofs.lemmas.Bool.{and_from}
+use Rattle.std.proofs.Common.{◌≡◌, ◌&&◌, not, true, Option, None, sym, ap, ◌∙◌}
 use Rattle.s390x_base.specs.declared.error.EmitError.{EmitError}
 use Rattle.s390x_base.specs.declared.error.EmitError.TheVariants.{BadOperator, BadRegister, ScratchConflict, OffsetOutOfRange}
 use Rattle.s390x_inst.specs.Emission.{Emission}
-use Rattle.s390x_typed_steps.specs.Causes.{Declared, first_emit_cause, unless, is_helped, addend_fits, bound_cause, alignment_cause, target_cause, operand_cause, late_cause, memory_cause}
+use Rattle.s390x_typed_steps.specs.Causes.{Declared, first_emit_cause, unless, is_helped, bound_cause, alignment_cause, target_cause, operand_cause, late_cause, memory_cause}
 use Rattle.s390x_typed_steps.specs.Memory.{MemoryInstruction, type_of}
 use Rattle.s390x_typed_steps.specs.Operands.{Finalized, finalized, resolved, has_form, operand_general}
 use Rattle.s390x_typed_steps.proofs.Causes.{first_left, first_right, unless_true}
 use Rattle.s390x_address.specs.Plans.{offset_cause, planned_cause}
 use Rattle.s390x_address.specs.Rows.{in_state}
 use Rattle.s390x_address.proofs.Planning.{resolved_addend, resolved_place, resolved_access, resolved_general}
-use Rattle.s390x_address.proofs.Refusing.{late_ok, passes}
+use Rattle.s390x_address.proofs.Refusing.{late_ok}
 
 -- a place is named alike before and after the operand was resolved
 target_same : (D : Declared) (e : Emission) (x : MemoryInstruction) → target_cause D (in_state e x) ≡ target_cause D x

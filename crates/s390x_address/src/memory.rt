@@ -1,16 +1,16 @@
 //! Instructions with a memory operand: why one is refused, and its emission.
 #![tactic(auto, using(s390x_buffer::proofs::Extending::extends_on, s390x_buffer::proofs::Extending::extends_same))]
 
-ghost use Rattle.std.specs.Prelude.{◌≡◌, ◌≤◌, ◌+◌, [], ◌∷◌, ◌++◌, ◌&&◌, not, true, None, Some, Option, length, OnOk, IfErr};
+ghost use Rattle.std.specs.Prelude.{◌≡◌, ◌≤◌, ◌+◌, [], ◌∷◌, ◌++◌, ◌&&◌, not, true, None, Some, Option, length, OnOk, IfErr, IfSome, cond};
 ghost use Rattle.s390x_base.specs.declared.error.EmitError.TheVariants.{NoMemory, ScratchConflict, OffsetOutOfRange};
 ghost use Rattle.s390x_base.specs.declared.trap.TrapKind.{TrapKind};
 ghost use Rattle.s390x_buffer.specs.Extends.{Extends};
 ghost use Rattle.s390x_buffer.specs.State.{put_cause};
 ghost use Rattle.std.specs.Option.{option_map};
-ghost use Rattle.s390x_typed_steps.specs.Causes.{Declared, first_emit_cause, unless, declared_in, memory_cause, late_cause, target_cause, boundary, accesses_relative};
+ghost use Rattle.s390x_typed_steps.specs.Causes.{Declared, first_emit_cause, unless, declared_in, memory_cause, late_cause, target_cause, boundary};
 ghost use Rattle.s390x_typed_steps.specs.General.{is_general};
 ghost use Rattle.s390x_typed_steps.specs.MachineInstruction.{size_of};
-ghost use Rattle.s390x_typed_steps.specs.Memory.{type_of, storage_row, fault_code, address_form};
+ghost use Rattle.s390x_typed_steps.specs.Memory.{type_of, storage_row, fault_code, address_form, accesses_relative, without_relative};
 ghost use Rattle.s390x_typed_steps.specs.Operands.{has_form, operand_general, scratch};
 ghost use Rattle.s390x_typed_steps.specs.VectorInstruction.{is_vector};
 ghost use Rattle.s390x_typed_steps.specs.Parts.{access_parts, operand_parts, helpers_parts, finalized_parts, memory_parts, parts_size};
@@ -267,16 +267,41 @@ impl MemoryInst {
         self.rows.forms(self.accesses)
     }
 
-    /// Whether it accesses an operand that is relative to it, and has a row for that.
-    pub fn accesses_relative(&self) -> bool
-        ensures { result ≡ accesses_relative (Some (memory_instruction_of self.now)) }
+    // The same by these rows.
+    fn with_rows(&self, rows: StorageRows) -> MemoryInst
+        ensures { result ≡ record self.now { rows = rows } }
     {
-        match self.rows {
-            StorageRows::OneRegister { ril: Some(_), .. } => {
-                self.accesses && is_relative(&self.operand)
-            }
-            _ => false,
+        let mut other = *self;
+        other.rows = rows;
+        other
+    }
+
+    /// The same by its other rows, before which the operand's address is loaded: where it accesses an operand that is relative to it, and has a row for that.
+    #[tactic(auto, using(crate::proofs::Loading::loaded_encodes))]
+    pub fn loaded(&self) -> Option<MemoryInst>
+        requires { may_encode self.now ≡ true }
+        ensures row { option_map memory_instruction_of result ≡ cond (accesses_relative (Some (memory_instruction_of self.now))) (without_relative (Some (memory_instruction_of self.now))) None }
+        ensures encodes { IfSome result (λ x. may_encode x ≡ true) }
+    {
+        let StorageRows::OneRegister {
+            register,
+            rx,
+            rxy,
+            ril: Some(_),
+        } = self.rows
+        else {
+            return None;
+        };
+        if !(self.accesses && is_relative(&self.operand)) {
+            return None;
         }
+        let rows = StorageRows::OneRegister {
+            register,
+            rx,
+            rxy,
+            ril: None,
+        };
+        Some(self.with_rows(rows))
     }
 
     // The code of its access's faults, where they have one.

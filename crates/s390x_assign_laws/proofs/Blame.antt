@@ -23,7 +23,7 @@ use Rattle.s390x_operands.specs.Meets.{MeetsEach}
 use Rattle.s390x_operands.specs.Requests.{items_of, memory_requests, scratch_request, used, defined, reused, fixed_use, fixed_def}
 use Rattle.s390x_assign.specs.Assignments.{operand_at, register_at, after, pair_at, dividend_at, memory_at}
 use Rattle.s390x_typed_steps.proofs.Causes.{first_left, first_right, unless_true}
-use Rattle.s390x_typed_steps.specs.Causes.{first_emit_cause, unless, facility_cause, relative_cause, cause_or, Declared, bound_cause, alignment_cause, boundary, late_cause, target_cause, loses_scratch, addend_fits, memory_cause, memory_cause_or}
+use Rattle.s390x_typed_steps.specs.Causes.{first_emit_cause, unless, facility_cause, cause_or, Declared, bound_cause, alignment_cause, boundary, late_cause, target_cause, loses_scratch, addend_fits, memory_cause, memory_cause_or}
 use Rattle.s390x_typed_steps.specs.Resolved.{resolved_instruction}
 use Rattle.s390x_typed_steps.specs.Operands.{resolved, is_numbered, is_far, is_helped, finalized, has_form, loses_base, offset_fits, operand_general}
 use Rattle.s390x_typed_steps.specs.Memory.{MemoryInstruction, type_of, SiForm, SilForm, address_form, load, store, store_immediate, compare, operate, compare_and_swap}
@@ -74,9 +74,7 @@ first_clear None b p q = q
 first_clear (Some e) b p q = p
 
 pub facility_clear : (flags : IsaFlags) (i : Inst) → IsNotBlamed (facility_cause flags i)
-facility_clear flags i =
-    first_clear (unless (has_facility flags (facility_of i)) MissingFacility) (relative_cause flags i)
-    (unless_clear _ MissingFacility missing_clear) (unless_clear _ BadOperator operator_clear)
+facility_clear flags i = unless_clear (has_facility flags (facility_of i)) MissingFacility missing_clear
 
 -- ---- tests
 

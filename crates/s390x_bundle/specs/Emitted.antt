@@ -13,11 +13,11 @@ use Rattle.s390x_bundle.specs.declared.member.Member.{Member}
 
 -- the blocks of a member's function as trees, and its constants
 abbrev pub trees_of_member : Member → List Tree
-trees_of_member m = trees_of m.state m.function
+trees_of_member m = trees_of m.info.isa_flags m.state m.function
 
 -- the blocks as their ends leave them
 abbrev pub folded_trees_of_member : Member → List Tree
-folded_trees_of_member m = folded_trees_of m.state m.function
+folded_trees_of_member m = folded_trees_of m.info.isa_flags m.state m.function
 
 abbrev pub constants_of_member : Member → List Constant
 constants_of_member m = constants_of m.function

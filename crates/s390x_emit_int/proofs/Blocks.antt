@@ -44,18 +44,18 @@ peak_left k before t ts below =
     let later = peak_from (k + 1) (before + tree_size (folded_before (next_block k ts) t)) ts in
     (omega (arith, below, le-max_left (before + tree_size t) later), omega (arith, below, le-max_right (before + tree_size t) later))
 
-pub split_at : (state : Emission) (bs : List Block) (k : ℕ) (v : Block) → k < length bs → v ≡ get_or bs k v → map (tree_of state) (drop k bs) ≡ tree_of state v ∷ map (tree_of state) (drop (k + 1) bs)
-split_at state bs k v lt at =
+pub split_at : (flags : IsaFlags) (state : Emission) (bs : List Block) (k : ℕ) (v : Block) → k < length bs → v ≡ get_or bs k v → map (tree_of flags state) (drop k bs) ≡ tree_of flags state v ∷ map (tree_of flags state) (drop (k + 1) bs)
+split_at flags state bs k v lt at =
     let k1 : suc k ≡ k + 1 = omega arith in
-    ap (map (tree_of state)) (drop-cons bs k v lt ∙ ap (λ x. x ∷ drop (suc k) bs) (sym at) ∙ ap (λ m. v ∷ drop m bs) k1)
+    ap (map (tree_of flags state)) (drop-cons bs k v lt ∙ ap (λ x. x ∷ drop (suc k) bs) (sym at) ∙ ap (λ m. v ∷ drop m bs) k1)
 
 -- the next block
-pub block_passed : (state : Emission) (flags : IsaFlags) (bs : List Block) (k : ℕ) (D : Declared) (v : Block) (s s1 : BufferState) → k < length bs → v ≡ get_or bs k v → s1 ≡ apply s (Bind k) → k < s.block_count → HasRoom s → BlocksPassed flags s D k (map (tree_of state) (drop k bs)) →
-    MembersPassed s1 0 0 (tree_size (tree_of state v)) (block_cause flags (declared_in s1) (length s1.labels) (tree_of state v))
+pub block_passed : (state : Emission) (flags : IsaFlags) (bs : List Block) (k : ℕ) (D : Declared) (v : Block) (s s1 : BufferState) → k < length bs → v ≡ get_or bs k v → s1 ≡ apply s (Bind k) → k < s.block_count → HasRoom s → BlocksPassed flags s D k (map (tree_of flags state) (drop k bs)) →
+    MembersPassed s1 0 0 (tree_size (tree_of flags state v)) (block_cause flags (declared_in s1) (length s1.labels) (tree_of flags state v))
 block_passed state flags bs k D v s s1 lt at e below room p =
-    let t = tree_of state v in
-    let rest = map (tree_of state) (drop (k + 1) bs) in
-    let q : BlocksPassed flags s D k (t ∷ rest) = subst (BlocksPassed flags s D k) (split_at state bs k v lt at) p in
+    let t = tree_of flags state v in
+    let rest = map (tree_of flags state) (drop (k + 1) bs) in
+    let q : BlocksPassed flags s D k (t ∷ rest) = subst (BlocksPassed flags s D k) (split_at flags state bs k v lt at) p in
     let o = bind_turns s s1 k e in
     let few = (peak_left k (length s.bytes) t rest q.short).0 in
     record {
@@ -92,12 +92,12 @@ block_ends flags D n nominal end t x start same behind none =
     ap (λ m. unless (nat_eq m 0) BadStackState) last ∙ first_right (tree_cause flags D n 0 0 t) _ none
 
 -- the cause of the blocks behind one without a cause is that of all that were left before it
-pub more_blocks : (state : Emission) (flags : IsaFlags) (bs : List Block) (k : ℕ) (v : Block) (u : Tree) (s s1 s2 : BufferState) → k < length bs → v ≡ get_or bs k v → fresh_labels u ≡ fresh_labels (tree_of state v) → s1 ≡ apply s (Bind k) → s2 ≡ apply_all s1 (fragments (length s1.labels) 0 u) →
-    block_cause flags (declared_in s1) (length s1.labels) (tree_of state v) ≡ None →
-    blocks_cause flags (declared_in s2) (length s2.labels) (map (tree_of state) (drop (k + 1) bs)) ≡ blocks_cause flags (declared_in s) (length s.labels) (map (tree_of state) (drop k bs))
+pub more_blocks : (state : Emission) (flags : IsaFlags) (bs : List Block) (k : ℕ) (v : Block) (u : Tree) (s s1 s2 : BufferState) → k < length bs → v ≡ get_or bs k v → fresh_labels u ≡ fresh_labels (tree_of flags state v) → s1 ≡ apply s (Bind k) → s2 ≡ apply_all s1 (fragments (length s1.labels) 0 u) →
+    block_cause flags (declared_in s1) (length s1.labels) (tree_of flags state v) ≡ None →
+    blocks_cause flags (declared_in s2) (length s2.labels) (map (tree_of flags state) (drop (k + 1) bs)) ≡ blocks_cause flags (declared_in s) (length s.labels) (map (tree_of flags state) (drop k bs))
 more_blocks state flags bs k v u s s1 s2 lt at drawn e1 e2 none =
-    let t = tree_of state v in
-    let rest = map (tree_of state) (drop (k + 1) bs) in
+    let t = tree_of flags state v in
+    let rest = map (tree_of flags state) (drop (k + 1) bs) in
     let o = bind_turns s s1 k e1 in
     let m = tree_turns s1 s2 (length s1.labels) 0 u refl e2 in
     let D = declared_in s in
@@ -108,19 +108,19 @@ more_blocks state flags bs k v u s s1 s2 lt at drawn e1 e2 none =
     ap (λ E. blocks_cause flags E (length s2.labels) rest) (turns_declared s1 s2 _ _ m ∙ turns_declared s s1 0 0 o)
     ∙ ap (λ l. blocks_cause flags D l rest) labels
     ∙ ap (λ c. first_emit_cause c later) (sym here)
-    ∙ ap (blocks_cause flags D (length s.labels)) (sym (split_at state bs k v lt at))
+    ∙ ap (blocks_cause flags D (length s.labels)) (sym (split_at flags state bs k v lt at))
 
 -- what is declared stays behind a block
 pub block_declared : (k : ℕ) (t : Tree) (s s1 s2 : BufferState) → s1 ≡ apply s (Bind k) → s2 ≡ apply_all s1 (fragments (length s1.labels) 0 t) → declared_in s2 ≡ declared_in s
 block_declared k t s s1 s2 e1 e2 = turns_declared s1 s2 _ _ (tree_turns s1 s2 (length s1.labels) 0 t refl e2) ∙ turns_declared s s1 0 0 (bind_turns s s1 k e1)
 
 -- and those behind it
-pub others_passed : (state : Emission) (flags : IsaFlags) (bs : List Block) (k : ℕ) (D : Declared) (v : Block) (s s1 s2 : BufferState) → k < length bs → v ≡ get_or bs k v → s1 ≡ apply s (Bind k) → s2 ≡ apply_all s1 (fragments (length s1.labels) 0 (folded_before (next_block k (map (tree_of state) (drop (k + 1) bs))) (tree_of state v))) →
-    BlocksPassed flags s D k (map (tree_of state) (drop k bs)) → BlocksPassed flags s2 D (k + 1) (map (tree_of state) (drop (k + 1) bs))
+pub others_passed : (state : Emission) (flags : IsaFlags) (bs : List Block) (k : ℕ) (D : Declared) (v : Block) (s s1 s2 : BufferState) → k < length bs → v ≡ get_or bs k v → s1 ≡ apply s (Bind k) → s2 ≡ apply_all s1 (fragments (length s1.labels) 0 (folded_before (next_block k (map (tree_of flags state) (drop (k + 1) bs))) (tree_of flags state v))) →
+    BlocksPassed flags s D k (map (tree_of flags state) (drop k bs)) → BlocksPassed flags s2 D (k + 1) (map (tree_of flags state) (drop (k + 1) bs))
 others_passed state flags bs k D v s s1 s2 lt at e1 e2 p =
-    let t = tree_of state v in
-    let rest = map (tree_of state) (drop (k + 1) bs) in
-    let q : BlocksPassed flags s D k (t ∷ rest) = subst (BlocksPassed flags s D k) (split_at state bs k v lt at) p in
+    let t = tree_of flags state v in
+    let rest = map (tree_of flags state) (drop (k + 1) bs) in
+    let q : BlocksPassed flags s D k (t ∷ rest) = subst (BlocksPassed flags s D k) (split_at flags state bs k v lt at) p in
     let u = folded_before (next_block k rest) t in
     let o = bind_turns s s1 k e1 in
     let m = tree_turns s1 s2 (length s1.labels) 0 u refl e2 in
@@ -134,19 +134,19 @@ others_passed state flags bs k D v s s1 s2 lt at e1 e2 p =
     }
 
 -- the block behind number k
-pub next_is : (state : Emission) (bs : List Block) (k : ℕ) → next_block k (map (tree_of state) (drop (k + 1) bs)) ≡ cond (nat_lt (k + 1) (length bs)) (Some (k + 1)) None
-next_is state bs k = go (drop (k + 1) bs) (length-drop (k + 1) bs)
+pub next_is : (flags : IsaFlags) (state : Emission) (bs : List Block) (k : ℕ) → next_block k (map (tree_of flags state) (drop (k + 1) bs)) ≡ cond (nat_lt (k + 1) (length bs)) (Some (k + 1)) None
+next_is flags state bs k = go (drop (k + 1) bs) (length-drop (k + 1) bs)
   where
-    go : (ds : List Block) → length ds ≡ length bs - (k + 1) → next_block k (map (tree_of state) ds) ≡ cond (nat_lt (k + 1) (length bs)) (Some (k + 1)) None
+    go : (ds : List Block) → length ds ≡ length bs - (k + 1) → next_block k (map (tree_of flags state) ds) ≡ cond (nat_lt (k + 1) (length bs)) (Some (k + 1)) None
     go [] few = ap (λ t. cond t (Some (k + 1)) None) (sym (not_below (k + 1) (length bs) (omega (arith, few))))
     go (d ∷ ds) few = ap (λ t. cond t (Some (k + 1)) None) (sym (lt-ltb (k + 1) (length bs) (omega (arith, few))))
 
 -- the longest of all blocks is that of one, or of those behind it
-pub more_longest : (state : Emission) (bs : List Block) (k : ℕ) (v : Block) (before behind : ℕ) → k < length bs → v ≡ get_or bs k v → behind ≡ before + tree_size (folded_before (next_block k (map (tree_of state) (drop (k + 1) bs))) (tree_of state v)) →
-    before + tree_size (tree_of state v) < limit → peak_from (k + 1) behind (map (tree_of state) (drop (k + 1) bs)) < limit → peak_from k before (map (tree_of state) (drop k bs)) < limit
-more_longest state bs k v before behind lt at put full below =
-    let t = tree_of state v in
-    let rest = map (tree_of state) (drop (k + 1) bs) in
+pub more_longest : (flags : IsaFlags) (state : Emission) (bs : List Block) (k : ℕ) (v : Block) (before behind : ℕ) → k < length bs → v ≡ get_or bs k v → behind ≡ before + tree_size (folded_before (next_block k (map (tree_of flags state) (drop (k + 1) bs))) (tree_of flags state v)) →
+    before + tree_size (tree_of flags state v) < limit → peak_from (k + 1) behind (map (tree_of flags state) (drop (k + 1) bs)) < limit → peak_from k before (map (tree_of flags state) (drop k bs)) < limit
+more_longest flags state bs k v before behind lt at put full below =
+    let t = tree_of flags state v in
+    let rest = map (tree_of flags state) (drop (k + 1) bs) in
     let later = peak_from (k + 1) (before + tree_size (folded_before (next_block k rest) t)) rest in
     let below' : later < limit = subst (λ n. peak_from (k + 1) n rest < limit) put below in
-    subst (λ ts. peak_from k before ts < limit) (sym (split_at state bs k v lt at)) (both_below (before + tree_size t) later limit full below')
+    subst (λ ts. peak_from k before ts < limit) (sym (split_at flags state bs k v lt at)) (both_below (before + tree_size t) later limit full below')

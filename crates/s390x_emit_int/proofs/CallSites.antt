@@ -1,10 +1,9 @@
 -- A call's sites, registers and room.
-use Rattle.std.proofs.Common.{◌≡◌, ℕ, ◌+◌, ◌<◌, ◌≤◌, ◌&&◌, List, [], ◌∷◌, ◌++◌, map, length, Option, None, Some, Bool, true, false, cond, refl, sym, ap, ap₂, ◌∙◌, subst, arith, append-nil, nat_eq, nat_lt, ltb-true, ◌||◌}
+use Rattle.std.proofs.Common.{◌≡◌, ℕ, ◌+◌, ◌<◌, ◌≤◌, ◌&&◌, List, [], ◌∷◌, ◌++◌, map, length, Option, None, Some, Bool, true, false, cond, refl, sym, ap, ap₂, ◌∙◌, arith, append-nil, nat_eq, nat_lt, ltb-true, ◌||◌}
 use Rattle.std.proofs.lemmas.Bool.{lt-ltb}
 use Rattle.s390x_base.specs.Registers.{general}
 use Rattle.s390x_base.specs.declared.error.EmitError.{EmitError}
 use Rattle.s390x_base.specs.declared.error.EmitError.TheVariants.{BadRegister, BadStackState, UnboundLabel}
-use Rattle.s390x_base.specs.declared.ir.ExternalName.{ExternalName}
 use Rattle.s390x_base.specs.declared.ir.MachLabel.{MachLabel}
 use Rattle.s390x_base.specs.declared.ir.ValueType.{ValueType}
 use Rattle.s390x_base.specs.declared.ir.ValueType.TheVariants.{I8X8}
@@ -14,7 +13,7 @@ use Rattle.s390x_buffer.specs.State.{BufferState, labels_below, handlers_cause, 
 use Rattle.s390x_buffer.specs.declared.entries.TryHandler.{TryHandler}
 use Rattle.s390x_inst.specs.Constructors.{load_of}
 use Rattle.s390x_inst.specs.Emission.{Emission}
-use Rattle.s390x_inst.specs.Frames.{is_lost, target_copy, copied_target, saved_floats, float_loads, general_load, floats_at, caller_at, epilogue, above_stack}
+use Rattle.s390x_inst.specs.Frames.{is_lost, target_copy, saved_floats, float_loads, general_load, floats_at, caller_at, epilogue, above_stack}
 use Rattle.s390x_inst.specs.declared.args.MemArg.{MemArg}
 use Rattle.s390x_inst.specs.declared.calls.CallInfo.{CallInfo}
 use Rattle.s390x_inst.specs.declared.calls.CallInstDest.{CallInstDest}
@@ -26,19 +25,18 @@ use Rattle.s390x_inst.specs.declared.inst.Inst.TheVariants.{Mov64, LoadAddr}
 use Rattle.s390x_inst.specs.declared.state.FrameLayout.{FrameLayout}
 use Rattle.std.specs.Prelude.{pos, ◌-ℤ◌}
 use Rattle.s390x_format.specs.Formats.{length_of}
-use Rattle.s390x_typed_steps.specs.Calls.{is_target, call_size, handler_of, map_site, return_site, patchable_site, sites_of, site_labels, calling, load_or, stands_in_scratch, copied_or, jump_target}
+use Rattle.s390x_typed_steps.specs.Calls.{is_target, call_size, handler_of, map_site, return_site, patchable_site, sites_of, site_labels, calling, load_or, copied_or, jump_target}
 use Rattle.s390x_typed_steps.specs.Causes.{unless, call_cause, labels_cause, body_nominal_after}
 use Rattle.s390x_typed_steps.specs.General.{is_general}
-use Rattle.s390x_typed_steps.specs.Parts.{CodePart, call_part, tail_part, site_parts, parts_size, part_size, step_parts, step_size, SiteHere}
+use Rattle.s390x_typed_steps.specs.Parts.{call_part, tail_part, site_parts, parts_size, part_size, step_size}
 use Rattle.s390x_typed_steps.specs.StepBody.{Site, AtCall, AtTry, AtPatchable, AtStackMap}
 use Rattle.s390x_typed_steps.specs.Steps.{CallingStep}
 use Rattle.s390x_typed_steps.proofs.Causes.{first_left, first_right, unless_true}
 use Rattle.s390x_emit_int.specs.Emission.{part_fragments}
-use Rattle.s390x_emit_int.specs.Fragments.{AddSite, apply, apply_all, with_site}
+use Rattle.s390x_emit_int.specs.Fragments.{AddSite, apply, apply_all}
 use Rattle.s390x_emit_int.specs.Sequence.{AllKeepNominal}
 use Rattle.s390x_emit_int.specs.Room.{MembersPassed}
 use Rattle.s390x_emit_int.proofs.Lacking.{put_none}
-use Rattle.s390x_emit_int.proofs.Runs.{run-append}
 
 -- ---- the labels of a call's sites are those of its handlers
 

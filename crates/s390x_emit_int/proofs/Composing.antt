@@ -1,5 +1,5 @@
 -- Vector instructions of several machine instructions: the room for each, and the registers that may stand there.
-use Rattle.std.proofs.Common.{◌≡◌, ℕ, ◌≤◌, Bool, true, false, cond, ◌&&◌, Option, None, Some, refl, subst, arith}
+use Rattle.std.proofs.Common.{◌≡◌, ℕ, ◌≤◌, Bool, true, false, cond, ◌&&◌, None, Some, refl, subst, arith}
 use Rattle.s390x_base.specs.declared.error.EmitError.TheVariants.{BadRegister}
 use Rattle.s390x_buffer.specs.State.{BufferState, put_cause}
 use Rattle.s390x_typed_steps.specs.Parts.{row_parts, parts_size}

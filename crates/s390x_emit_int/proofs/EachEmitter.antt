@@ -19,8 +19,8 @@ use Rattle.s390x_typed_steps.specs.General.{is_general, reuses}
 use Rattle.s390x_typed_steps.specs.Memory.{MemoryInstruction, StorageForm, RxForm, RsForm, VrxForm, FloatForm, memory, operate, access_vector, access_elements, access_lane, reversed_code, is_left_lane, load_left, store_left, load_lane_opcode, store_lane_opcode, load_reversed_opcode, store_reversed_opcode, vector_memory}
 use Rattle.s390x_typed_steps.specs.VectorInstruction.{element_code, is_lane, is_vector, reuses_vector}
 use Rattle.s390x_typed_steps.specs.Operands.{is_numbered}
-use Rattle.s390x_typed_steps.specs.Storage.{alu_rx, alu_rxy, cmp_rx, cmp_rxy, cmp_ril, atomic_rsy}
-use Rattle.s390x_address.specs.Emitters.{reads_register, reads_registers, is_multiple, one_register, two_registers, vector_register, float_register}
+use Rattle.s390x_typed_steps.specs.Storage.{alu_rx, alu_rxy, cmp_rx, cmp_rxy, cmp_ril}
+use Rattle.s390x_address.specs.Emitters.{reads_register, reads_registers, is_multiple, one_register, two_registers}
 use Rattle.s390x_emit_int.specs.Emitters.{IsEmitted}
 
 -- what is built is what was found

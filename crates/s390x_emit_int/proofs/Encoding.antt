@@ -1,5 +1,5 @@
 -- Where the registers of an instruction are general ones, its row can be encoded.
-use Rattle.std.proofs.Common.{◌≡◌, ℕ, ◌<◌, Bool, true, false, not, ◌&&◌, ◌||◌, cond, List, Option, None, Some, refl, sym, ap, ◌∙◌, nat_eq, nat_lt}
+use Rattle.std.proofs.Common.{◌≡◌, ℕ, ◌<◌, Bool, true, false, not, ◌&&◌, ◌||◌, cond, List, Some, refl, ap, ◌∙◌, nat_eq}
 use Rattle.std.proofs.Common.{Result, Ok, Err, MatchResult}
 use Rattle.s390x_base.specs.declared.error.EmitError.{EmitError}
 use Rattle.s390x_base.specs.declared.error.EmitError.TheVariants.{BadRegister}
@@ -23,7 +23,6 @@ use Rattle.s390x_inst.specs.declared.ops.UnaryOp.TheVariants.{Abs32}
 use Rattle.s390x_base.specs.Registers.{general}
 use Rattle.s390x_base.specs.Regs.{is_pair}
 use Rattle.s390x_typed_steps.specs.General.{is_general, is_even_pair, reuses, reuses_pair}
-use Rattle.s390x_typed_steps.specs.MachineInstruction.{MachineInstruction}
 use Rattle.s390x_typed_steps.specs.Opcodes.{alu_two, cmp_two, unary_two}
 use Rattle.s390x_typed_steps.specs.SingleCode.{code_where}
 use Rattle.s390x_emit_int.specs.SingleInstruction.{implies, takes_general}

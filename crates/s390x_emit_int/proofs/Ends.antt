@@ -1,5 +1,5 @@
 -- At the end of a block the buffer is as if of the block's last branches only what is left of them had been put.
-use Rattle.std.proofs.Common.{◌≡◌, ◌≢◌, ℕ, ◌+◌, ◌-◌, List, [], ◌∷◌, ◌++◌, length, Option, Some, None, Bool, true, false, cond, nat_eq, refl, sym, ap, ◌∙◌, append-nil, eq-eqb, eqb-true, true≢false, Result, Ok, Err, MatchResult, OnOk}
+use Rattle.std.proofs.Common.{◌≡◌, ◌≢◌, ℕ, ◌+◌, ◌-◌, List, [], ◌∷◌, ◌++◌, Option, Some, None, Bool, true, false, cond, nat_eq, refl, sym, ap, ◌∙◌, append-nil, eq-eqb, eqb-true, true≢false, Result, Ok, Err, MatchResult, OnOk}
 use Rattle.s390x_base.specs.declared.ir.MachLabel.{MachLabel}
 use Rattle.s390x_base.specs.declared.error.EmitError.{EmitError}
 use Rattle.s390x_buffer.specs.BlockEnd.{ended, ended_by}
@@ -12,8 +12,8 @@ use Rattle.s390x_typed_steps.specs.Folding.{shortened, fold, folded, folded_befo
 use Rattle.s390x_typed_steps.specs.MachineInstruction.{ril_c, bytes_of}
 use Rattle.s390x_typed_steps.specs.Parts.{CodePart, Branch, Relative, TableWord, ToBlock, ToStep, instruction_parts, table_words, step_parts}
 use Rattle.s390x_typed_steps.specs.Steps.{step_of}
-use Rattle.s390x_typed_steps.specs.Tree.{NothingLeft, BranchLeft, StepBody, Tree, Whole, Folded, empty, leaf, loop_node}
-use Rattle.s390x_emit_int.specs.Emission.{part_fragments, jump_fragments, choice_fragments, table_fragments, body_fragments, back_fragments, branch, fragments}
+use Rattle.s390x_typed_steps.specs.Tree.{NothingLeft, BranchLeft, StepBody, Tree, Whole, empty, leaf, loop_node}
+use Rattle.s390x_emit_int.specs.Emission.{part_fragments, jump_fragments, choice_fragments, body_fragments, back_fragments, branch, fragments}
 use Rattle.s390x_emit_int.specs.Fragments.{Fragment, StartStep, Draw, Bind, RecordBranch, apply, apply_all}
 use Rattle.s390x_emit_int.specs.Function.{number_of_next}
 use Rattle.s390x_emit_int.proofs.Runs.{run-append, length-branch}

@@ -61,7 +61,7 @@ pub linked_loop_runs : LinkedLoopRuns
 unfolding vec code length_of
 linked_loop_runs = record {
   code = code;
-  checked = refl;
+  checked = λ flags. refl;
   masks = ranges;
   finished = finished;
   links = refl;
@@ -123,7 +123,7 @@ pub linked_trap_runs : LinkedTrapRuns
 unfolding vec trap_code length_of
 linked_trap_runs = record {
   code = trap_code;
-  checked = refl;
+  checked = λ flags. refl;
   masks = Relatively.ranges;
   finished = trap_finished;
   links = ap (λ o. first_link_cause (symbol_cause 4096 to_symbol o) None) found;
@@ -184,7 +184,7 @@ unfolding vec call_code length_of
 linked_call_stands = record {
   stands = record {
     code = call_code;
-    checked = refl;
+    checked = λ flags. refl;
     masks = ((tt, ((tt, tt), tt)), tt);
     finished = call_finished;
     links = ap (λ o. first_link_cause (symbol_cause 4096 to_callee o) None) found;

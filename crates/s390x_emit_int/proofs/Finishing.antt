@@ -7,7 +7,7 @@ use Rattle.std.proofs.lemmas.List.Elements.{All-replicate, All-get_or}
 use Rattle.s390x_inst.specs.declared.state.IsaFlags.{IsaFlags}
 use Rattle.s390x_base.specs.declared.error.EmitError.{EmitError}
 use Rattle.s390x_base.specs.declared.error.EmitError.TheVariants.{LabelOutOfRange, UnboundLabel, Failed, NoMemory}
-use Rattle.s390x_buffer.specs.State.{BufferState, Constant, fresh_buffer, limit, all_aligned, new_cause, put_cause}
+use Rattle.s390x_buffer.specs.State.{BufferState, Constant, fresh_buffer, limit, all_aligned, new_cause}
 use Rattle.s390x_buffer.specs.Patch.{first_use_cause as first_use, bound_offset, offset_of_label, is_bound, word_from, flipped, sum_fits, is_in_reach, can_patch, use_cause, uses_cause, patch, patch_size, patch_use}
 use Rattle.s390x_buffer.specs.Branches.{field_end}
 use Rattle.s390x_buffer.proofs.Branching.{patch_other}
@@ -16,7 +16,7 @@ use Rattle.s390x_buffer.specs.Finish.{final_labels, finished_length, starts_of_c
 use Rattle.s390x_buffer.specs.declared.entries.LabelFixup.{LabelFixup}
 use Rattle.s390x_buffer.specs.declared.label_use.LabelUse.{LabelUse}
 use Rattle.s390x_buffer.specs.declared.label_use.LabelUse.TheVariants.{BranchRI, BranchRIL, PCRel32, PCRel32Dbl}
-use Rattle.s390x_buffer.proofs.Placing.{length-constant_bytes, end-ge}
+use Rattle.s390x_buffer.proofs.Placing.{length-constant_bytes}
 use Rattle.s390x_typed_steps.specs.Tree.{Tree}
 use Rattle.s390x_typed_steps.specs.Causes.{first_emit_cause, aligns_of, declared_of, fresh_labels, blocks_cause}
 use Rattle.s390x_typed_steps.specs.Folding.{folded_trees, peak}

@@ -17,16 +17,16 @@ use Rattle.s390x_emit_int.specs.Headline.{RunsAsTyped}
 use Rattle.s390x_emit_int.proofs.Linked.{runs_as_typed}
 
 module _ (flags : IsaFlags) (state : Emission) (f : AllocatedFunction) (base : ℕ) (symbols : Symbols) (code : MachBufferFinalized) where
-  pub image_of : (bytes : List ℕ) → function_cause flags (trees_of state f) (constants_of f) state ≡ None → IsFinishedCode (folded_trees_of state f) (constants_of f) code → BlocksInRange (trees_of state f) → link_cause code base symbols ≡ None → bytes ≡ filled base symbols code.relocs.items code.bytes.items → IsImageOf flags state f base symbols bytes
+  pub image_of : (bytes : List ℕ) → function_cause flags (trees_of flags state f) (constants_of f) state ≡ None → IsFinishedCode (folded_trees_of flags state f) (constants_of f) code → BlocksInRange (trees_of flags state f) → link_cause code base symbols ≡ None → bytes ≡ filled base symbols code.relocs.items code.bytes.items → IsImageOf flags state f base symbols bytes
   image_of bytes valid finished ranges linked is = record {
     code = code;
     valid = valid;
     finished = finished;
     linked = linked;
     is = is;
-    runs = subst (λ bs. RunsAsTyped symbols (folded_trees_of state f) (constants_of f) (record { base = base; bytes = bs })) (sym is) (runs_as_typed flags (trees_of state f) (constants_of f) code base symbols (first_right (start_cause state) (checked_cause flags (trees_of state f) (constants_of f)) valid) ranges finished linked);
+    runs = subst (λ bs. RunsAsTyped symbols (folded_trees_of flags state f) (constants_of f) (record { base = base; bytes = bs })) (sym is) (runs_as_typed flags (trees_of flags state f) (constants_of f) code base symbols (first_right (start_cause state) (checked_cause flags (trees_of flags state f) (constants_of f)) valid) ranges finished linked);
   }
 
-  pub link_refused : (error : LinkError) → function_cause flags (trees_of state f) (constants_of f) state ≡ None → IsFinishedCode (folded_trees_of state f) (constants_of f) code → (error ≡ NoMemory) ⊎ (link_cause code base symbols ≡ Some error) → (error ≡ NoMemory) ⊎ IsLinkRefused flags state f base symbols error
+  pub link_refused : (error : LinkError) → function_cause flags (trees_of flags state f) (constants_of f) state ≡ None → IsFinishedCode (folded_trees_of flags state f) (constants_of f) code → (error ≡ NoMemory) ⊎ (link_cause code base symbols ≡ Some error) → (error ≡ NoMemory) ⊎ IsLinkRefused flags state f base symbols error
   link_refused error valid finished (inl short) = inl short
   link_refused error valid finished (inr cause) = inr (record { code = code; valid = valid; finished = finished; cause = cause })

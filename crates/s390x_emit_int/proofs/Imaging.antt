@@ -12,7 +12,7 @@ use Rattle.s390x_buffer.specs.Constants.{constant_start, constant_starts, consta
 use Rattle.s390x_buffer.specs.Finish.{Finished, bind_constants, final_labels, starts_of_constants, bound_site}
 use Rattle.s390x_buffer.specs.declared.entries.MachBufferFinalized.{MachBufferFinalized}
 use Rattle.s390x_inst.specs.declared.function.Block.{Block}
-use Rattle.s390x_typed_steps.specs.Tree.{Tree, block_tree}
+use Rattle.s390x_typed_steps.specs.Tree.{Tree}
 use Rattle.s390x_typed_steps.specs.Ranges.{AllInRange, BlocksInRange}
 use Rattle.s390x_emit_int.specs.Room.{HasRoom}
 use Rattle.s390x_inst.specs.declared.inst.Inst.{Inst}
@@ -22,6 +22,7 @@ use Rattle.s390x_typed_steps.specs.Folding.{folded_before, next_block, folded_fr
 use Rattle.s390x_typed_steps.specs.Sizes.{blocks_size}
 use Rattle.s390x_typed_steps.specs.Causes.{declared_of, fresh_labels, blocks_cause}
 use Rattle.s390x_emit_int.specs.Fragments.{Fragment, apply, apply_all, Put, PutTrapping, PutReloc, Link, LinkConstant, StartStep, Draw, Bind, AddSite, RecordBranch}
+use Rattle.s390x_emit_int.specs.Members.{block_members_of}
 use Rattle.s390x_emit_int.specs.Emission.{fragments, function_fragments}
 use Rattle.s390x_emit_int.specs.Resolve.{resolve, put_length, Wide, UsesWithin}
 use Rattle.s390x_emit_int.specs.Bound.{TreesName, AllBound}
@@ -177,15 +178,15 @@ block_is s s1 s2 k t e1 e2 =
     e2 ∙ ap (λ x. apply_all x (fragments (length x.labels) 0 t)) e1 ∙ ap (λ m. apply_all (bound_state s k) (fragments m 0 t)) (length-set s.labels k (Some (length s.bytes)))
 
 -- one more block
-pub block_more : (state : Emission) (bs : List Block) (k : ℕ) (v : Block) (s s1 s2 r : BufferState) → k < length bs → v ≡ get_or bs k v
-    → s1 ≡ apply s (Bind k) → s2 ≡ apply_all s1 (fragments (length s1.labels) 0 (folded_before (next_block k (map (tree_of state) (drop (k + 1) bs))) (tree_of state v)))
-    → apply_all s (function_fragments (length s.labels) k (folded_from k (map (tree_of state) (drop k bs)))) ≡ r
-    → apply_all s2 (function_fragments (length s2.labels) (k + 1) (folded_from (k + 1) (map (tree_of state) (drop (k + 1) bs)))) ≡ r
-block_more state bs k v s s1 s2 r lt at e1 e2 h =
+pub block_more : (flags : IsaFlags) (state : Emission) (bs : List Block) (k : ℕ) (v : Block) (s s1 s2 r : BufferState) → k < length bs → v ≡ get_or bs k v
+    → s1 ≡ apply s (Bind k) → s2 ≡ apply_all s1 (fragments (length s1.labels) 0 (folded_before (next_block k (map (tree_of flags state) (drop (k + 1) bs))) (tree_of flags state v)))
+    → apply_all s (function_fragments (length s.labels) k (folded_from k (map (tree_of flags state) (drop k bs)))) ≡ r
+    → apply_all s2 (function_fragments (length s2.labels) (k + 1) (folded_from (k + 1) (map (tree_of flags state) (drop (k + 1) bs)))) ≡ r
+block_more flags state bs k v s s1 s2 r lt at e1 e2 h =
     let n = length s.labels in
     let rest = drop (k + 1) bs in
-    let t = folded_before (next_block k (map (tree_of state) rest)) (tree_of state v) in
-    let us = folded_from (k + 1) (map (tree_of state) rest) in
+    let t = folded_before (next_block k (map (tree_of flags state) rest)) (tree_of flags state v) in
+    let us = folded_from (k + 1) (map (tree_of flags state) rest) in
     let k1 : suc k ≡ k + 1 = omega arith in
     let cons : drop k bs ≡ v ∷ rest = drop-cons bs k v lt ∙ ap (λ x. x ∷ drop (suc k) bs) (sym at) ∙ ap (λ m. v ∷ drop m bs) k1 in
     let e2' : s2 ≡ block_state s n k t = block_is s s1 s2 k t e1 e2 in
@@ -193,7 +194,7 @@ block_more state bs k v s s1 s2 r lt at e1 e2 h =
     ap (λ m. apply_all s2 (function_fragments m (k + 1) us)) len
     ∙ ap (λ x. apply_all x (function_fragments (n + fresh_labels t) (k + 1) us)) e2'
     ∙ sym (run-append (bound_state s k) (fragments n 0 t) (function_fragments (n + fresh_labels t) (k + 1) us))
-    ∙ ap (λ l. apply_all s (function_fragments n k (folded_from k (map (tree_of state) l)))) (sym cons)
+    ∙ ap (λ l. apply_all s (function_fragments n k (folded_from k (map (tree_of flags state) l)))) (sym cons)
     ∙ h
 
 pub record NextBlock (s2 : BufferState) (k n : ℕ) : Type 0 where
@@ -217,8 +218,8 @@ block_room k t s s1 s2 room e1 e2 =
     let same : Same s (block_state s n k t) = same_run (Bind k ∷ fragments n 0 t) s in
     subst HasRoom (sym e2') (omega (arith, block_labels t s n k refl, same.block_count, ap length same.constants))
 
-pub block_ranges : (state : Emission) (bs : List Block) (k : ℕ) (v : Block) (members : List Inst) → k < length bs → v ≡ get_or bs k v → members ≡ v.insts.items → AllInRange (block_tree state members) → BlocksInRange (map (tree_of state) (drop (k + 1) bs)) → BlocksInRange (map (tree_of state) (drop k bs))
-block_ranges state bs k v members lt at e here rest =
+pub block_ranges : (flags : IsaFlags) (state : Emission) (bs : List Block) (k : ℕ) (v : Block) (members : List Inst) → k < length bs → v ≡ get_or bs k v → members ≡ v.insts.items → AllInRange (block_members_of flags state members) → BlocksInRange (map (tree_of flags state) (drop (k + 1) bs)) → BlocksInRange (map (tree_of flags state) (drop k bs))
+block_ranges flags state bs k v members lt at e here rest =
     let k1 : suc k ≡ k + 1 = omega arith in
     let cons : drop k bs ≡ v ∷ drop (k + 1) bs = drop-cons bs k v lt ∙ ap (λ x. x ∷ drop (suc k) bs) (sym at) ∙ ap (λ m. v ∷ drop m bs) k1 in
-    subst (λ l. BlocksInRange (map (tree_of state) l)) (sym cons) (subst (λ l. AllInRange (block_tree state l)) e here, rest)
+    subst (λ l. BlocksInRange (map (tree_of flags state) l)) (sym cons) (subst (λ l. AllInRange (block_members_of flags state l)) e here, rest)

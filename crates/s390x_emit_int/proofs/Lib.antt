@@ -27,6 +27,7 @@ pub mod Functions
 pub mod Imaging
 pub mod Symbols
 pub mod Tables
+pub mod Members
 pub mod Trees
 pub mod Answering
 pub mod Bodies
@@ -48,4 +49,5 @@ pub mod FunctionImage
 pub mod Skipping
 pub mod Composing
 pub mod Sequence
+pub mod AddressFirst
 pub mod CallSites

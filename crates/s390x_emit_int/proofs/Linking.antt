@@ -4,7 +4,6 @@ use Rattle.std.specs.Prelude.{pos, ◌+ℤ◌, ◌*ℤ◌}
 use Rattle.std.specs.Int.{w32, cast_signed}
 use Rattle.std.proofs.lemmas.Bool.{leb-true}
 use Rattle.std.proofs.lemmas.List.{length-map}
-use Rattle.s390x_inst.specs.declared.state.IsaFlags.{IsaFlags}
 use Rattle.s390x_buffer.specs.State.{Constant, is_alignment, all_aligned, new_cause}
 use Rattle.s390x_buffer.specs.Constants.{constant_starts, constant_bytes, constants_end, greatest_align}
 use Rattle.s390x_buffer.specs.declared.entries.MachBufferFinalized.{MachBufferFinalized}
@@ -30,9 +29,8 @@ use Rattle.s390x_typed_steps.specs.Image.{step_offset, offsets, unlinked, functi
 use Rattle.s390x_typed_steps.specs.Relocs.{part_relocs, parts_relocs, step_relocs, relocs_from, function_relocs}
 use Rattle.s390x_typed_steps.specs.Sizes.{blocks_size}
 use Rattle.s390x_typed_steps.specs.Causes.{aligns_of}
-use Rattle.s390x_typed_steps.proofs.Causes.{first_left}
 use Rattle.s390x_emit_int.specs.Bound.{StepsFollow}
-use Rattle.s390x_emit_int.specs.Function.{checked_cause, IsFinishedCode}
+use Rattle.s390x_emit_int.specs.Function.{IsFinishedCode}
 use Rattle.s390x_emit_int.specs.Headline.{linked}
 use Rattle.s390x_emit_int.proofs.Constants.{IsAlignment, byte, halfword, word, doubleword, quadword, alignment_of, aligned_constants, starts_of, greatest_ge}
 use Rattle.s390x_emit_int.proofs.Filling.{function_filled, linked_length, code_length}

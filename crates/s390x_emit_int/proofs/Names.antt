@@ -18,13 +18,13 @@ use Rattle.s390x_inst.specs.Memory.{flags_of}
 use Rattle.s390x_inst.specs.declared.args.MemArg.{MemArg}
 use Rattle.s390x_inst.specs.declared.args.MemArg.TheVariants.{BXD12, BXD20, RegOffset, Label, Constant, Symbol}
 use Rattle.s390x_inst.specs.declared.inst.Inst.TheVariants.{Mov64SImm32, LoadAddr, Jump, CondBr, IndirectBr, Ret, JTSequence, LabelAddress, LoadSymbolReloc, Trap, TrapIf, Debugtrap, Vector}
-use Rattle.s390x_typed_steps.specs.Tree.{Tree, empty, leaf, loop_node, NothingLeft, BranchLeft, Whole, Folded, StepBody, CallStep, NoLoad, TailOpening, TailJump}
+use Rattle.s390x_typed_steps.specs.Tree.{Tree, empty, leaf, loop_node, NothingLeft, BranchLeft, Whole, Loaded, Folded, StepBody, CallStep, NoLoad, TailOpening, TailJump}
 use Rattle.s390x_typed_steps.specs.MachineInstruction.{MachineInstruction}
 use Rattle.s390x_typed_steps.specs.Operands.{Finalized, finalized, displaced, addressed, widened, needs_address, scratch, no_register, is_relative, has_form, operand_general, fits_12, fits_20, fits_32}
 use Rattle.s390x_typed_steps.specs.declared.mem_inst_type.MemInstType.{MemInstType}
 use Rattle.s390x_typed_steps.specs.VectorComposite.{composite_rows}
 use Rattle.s390x_typed_steps.specs.Parts.{CodePart, parts_or, memory_or, memory_parts, trap_here, relative_part, relative_parts, access_parts, operand_parts, helper_parts, helpers_parts, instruction_parts, table_words, row_parts, call_part, tail_part, site_parts}
-use Rattle.s390x_typed_steps.specs.Memory.{StorageForm, RxForm, MemoryInstruction, memory, type_of, storage_row, address_form, fault_code}
+use Rattle.s390x_typed_steps.specs.Memory.{StorageForm, RxForm, MemoryInstruction, memory, loaded_memory, type_of, storage_row, address_form, fault_code}
 use Rattle.s390x_typed_steps.specs.SingleInstruction.{SingleInstruction, single_instruction, stop_code}
 use Rattle.s390x_typed_steps.specs.General.{is_general, is_nonzero, is_scratch}
 use Rattle.s390x_typed_steps.specs.Causes.{Declared, first_emit_cause, unless, target_label_cause, labels_cause, bound_cause, late_cause, memory_cause, branch_cause, memory_cause_or, cause_or, facility_cause, instruction_cause, leaf_cause, fresh_labels, nesting_cause, numbers_cause, tree_cause, blocks_cause, stack_cause, block_cause, body_cause, body_fresh_labels, body_nominal_after}
@@ -196,6 +196,7 @@ jump_names count constants (Indirect reg) = (tt, (tt, tt))
 
 body_names : (flags : IsaFlags) (D : Declared) (n nominal depth : ℕ) (b : StepBody) → body_cause flags D n nominal depth b ≡ None → BodyNames D.blocks (length D.aligns) b
 body_names flags D n nominal depth (Whole i) h = leaf_names flags D nominal depth i (first_left _ _ h)
+body_names flags D n nominal depth (Loaded i) h = memory_names D (loaded_memory i) (Some BadOperator) (first_right (facility_cause flags i) _ (first_left _ _ h))
 body_names flags D n nominal depth (Folded NothingLeft i) h = tt
 body_names flags D n nominal depth (Folded (BranchLeft mask b) i) h = (ltb-true b D.blocks (unless_true (nat_lt b D.blocks) UnboundLabel (first_right (leaf_cause flags D n nominal depth i) _ h)), tt)
 body_names flags D n nominal depth (CallStep c) h =

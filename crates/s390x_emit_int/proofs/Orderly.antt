@@ -4,7 +4,7 @@ use Rattle.s390x_base.specs.declared.regs.Reg.{Reg}
 use Rattle.s390x_inst.specs.declared.calls.CallInstDest.TheVariants.{Direct, Indirect}
 use Rattle.s390x_inst.specs.declared.calls.CallInstDest.{CallInstDest}
 use Rattle.s390x_typed_steps.specs.StepBody.{Site, AtCall}
-use Rattle.s390x_typed_steps.specs.Steps.{CallingStep, TailJumpStep}
+use Rattle.s390x_typed_steps.specs.Steps.{LoadedStep, CallingStep, TailJumpStep}
 use Rattle.std.proofs.Common.{◌≡◌, ℕ, ◌+◌, ◌%◌, ◌<◌, ◌≤◌, List, [], ◌∷◌, ◌++◌, length, get_or, Bool, true, false, cond, Option, refl, sym, ap, ◌∙◌, subst, arith, length-append, None, Some}
 use Rattle.std.specs.List.{All}
 use Rattle.std.proofs.lemmas.List.{get_or_append_left}
@@ -25,14 +25,15 @@ use Rattle.s390x_inst.specs.declared.inst.Inst.{Inst}
 use Rattle.s390x_inst.specs.declared.args.MemArg.{MemArg}
 use Rattle.s390x_inst.specs.declared.args.MemArg.TheVariants.{Label, Constant, Symbol}
 use Rattle.s390x_inst.specs.declared.inst.Inst.TheVariants.{Mov64SImm32, LoadAddr, Jump, CondBr, IndirectBr, Ret, JTSequence, CondBreak, LabelAddress, LoadSymbolReloc, Trap, TrapIf, Debugtrap, Vector}
-use Rattle.s390x_typed_steps.specs.Tree.{Tree, empty, leaf, loop_node, NothingLeft, BranchLeft, Whole, Folded, StepBody, CallStep, NoLoad, TailOpening, TailJump}
+use Rattle.s390x_typed_steps.specs.Tree.{Tree, empty, leaf, loop_node, NothingLeft, BranchLeft, Whole, Loaded, Folded, StepBody, CallStep, NoLoad, TailOpening, TailJump}
 use Rattle.s390x_typed_steps.specs.Causes.{instruction_fresh_labels, fresh_labels, body_fresh_labels}
 use Rattle.s390x_typed_steps.specs.SingleInstruction.{SingleInstruction, single_instruction, stop_code}
 use Rattle.s390x_typed_steps.specs.MachineInstruction.{MachineInstruction, rr, rxy, bytes_of, size_of}
 use Rattle.s390x_typed_steps.specs.Rows.{word_bytes}
 use Rattle.s390x_typed_steps.specs.VectorComposite.{composite_rows}
-use Rattle.s390x_typed_steps.specs.Parts.{CodePart, Row, Trapping, Branch, Relative, RelativeConstant, RelativeSymbol, TableWord, ToBlock, ToStep, table_words, branch_parts, row_part, parts_or, instruction_parts, memory_or, memory_parts, trap_here, relative_part, relative_parts, access_parts, operand_parts, helper_parts, helpers_parts, SymbolValue, TrapHere, row_parts, CallSymbol, SiteHere, step_parts, call_part, tail_part, site_parts}
-use Rattle.s390x_typed_steps.specs.Memory.{StorageForm, RxForm, MemoryInstruction, memory, type_of, storage_row, address_form, fault_code}
+use Rattle.s390x_typed_steps.specs.Parts.{CodePart, Row, Trapping, Branch, Relative, RelativeConstant, RelativeSymbol, TableWord, ToBlock, ToStep, table_words, branch_parts, row_part, parts_or, instruction_parts, memory_or, memory_parts}
+use Rattle.s390x_typed_steps.specs.Parts.{trap_here, relative_part, relative_parts, access_parts, operand_parts, helper_parts, helpers_parts, SymbolValue, TrapHere, row_parts, CallSymbol, SiteHere, step_parts, call_part, tail_part, site_parts}
+use Rattle.s390x_typed_steps.specs.Memory.{StorageForm, RxForm, MemoryInstruction, memory, loaded_memory, type_of, storage_row, address_form, fault_code}
 use Rattle.s390x_typed_steps.specs.Operands.{is_relative, finalized}
 use Rattle.s390x_emit_int.specs.Fragments.{Fragment, apply, apply_all, Put, PutTrapping, Link, LinkConstant, StartStep, Draw, Bind, PutReloc, AddSite, RecordBranch}
 use Rattle.s390x_emit_int.specs.Emission.{part_fragments, leaf_fragments, back_fragments, fragments, function_fragments, body_fragments}
@@ -279,6 +280,7 @@ jump_begins (Indirect reg) = tt
 
 body_sound : (May : ℕ → Type 0) (b : StepBody) (n after blocks constants : ℕ) → BodyNames blocks constants b → ((l : ℕ) → l < blocks → May l) → ((c : ℕ) → c < constants → May (blocks + c)) → ((l : ℕ) → n ≤ l → l < n + body_fresh_labels b → May l) → May after → AllSound May blocks 0 (body_fragments n after b)
 body_sound May (Whole i) n after blocks constants names may held drawn here = leaf_sound May i n after blocks constants names may held drawn here
+body_sound May (Loaded i) n after blocks constants names may held drawn here = parts_sound May (step_parts (LoadedStep i)) blocks constants 0 names (memory_begins (loaded_memory i) [] tt) may held
 body_sound May (Folded NothingLeft i) n after blocks constants names may held drawn here = tt
 body_sound May (Folded (BranchLeft mask b) i) n after blocks constants names may held drawn here = ((length-branch mask, may b names.0), tt)
 body_sound May (CallStep c) n after blocks constants names may held drawn here = parts_sound May (step_parts (CallingStep c)) blocks constants 0 names (call_begins c.link c.target c.sites) may held

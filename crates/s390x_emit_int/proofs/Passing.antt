@@ -8,20 +8,22 @@ use Rattle.s390x_buffer.specs.BlockEnd.{KeepsTables}
 use Rattle.s390x_buffer.specs.Extends.{Extends}
 use Rattle.s390x_buffer.specs.State.{BufferState, Constant, label_limit}
 use Rattle.s390x_inst.specs.declared.inst.Inst.{Inst}
-use Rattle.s390x_typed_steps.specs.Tree.{Tree, empty, leaf, loop_node, prepend, tree, block_tree, Whole}
+use Rattle.s390x_typed_steps.specs.Tree.{Tree, empty, loop_node}
 use Rattle.s390x_typed_steps.specs.Calls.{safepoint}
-use Rattle.s390x_typed_steps.specs.Sizes.{instruction_size, tree_size}
+use Rattle.s390x_typed_steps.specs.Sizes.{tree_size}
 use Rattle.s390x_typed_steps.specs.Stack.{nominal_after, state_after}
-use Rattle.s390x_typed_steps.specs.Causes.{Declared, first_emit_cause, aligns_of, declared_in, fresh_labels, nesting_cause, numbers_cause, leaf_cause, tree_cause, stack_cause}
-use Rattle.s390x_typed_steps.proofs.Trees.{behind, block_behind, prepend_size}
-use Rattle.s390x_typed_steps.proofs.Causes.{first_left, first_right, unless_true, prepend_cause}
+use Rattle.s390x_typed_steps.specs.Causes.{Declared, first_emit_cause, aligns_of, declared_in, fresh_labels, nesting_cause, numbers_cause, tree_cause, stack_cause, nominal_behind}
+use Rattle.s390x_typed_steps.proofs.Trees.{joined, joined_size}
+use Rattle.s390x_typed_steps.proofs.Causes.{first_left, first_right, unless_true, joined_cause}
 use Rattle.s390x_emit_int.specs.Fragments.{StartStep, Draw, Bind, apply, apply_all}
 use Rattle.s390x_emit_int.specs.Emission.{branch, fragments, own_fragments}
-use Rattle.s390x_emit_int.specs.Room.{Passed, MembersPassed, TreePassed}
+use Rattle.s390x_emit_int.specs.Room.{Passed, TreePassed}
 use Rattle.s390x_emit_int.proofs.Runs.{tree_grows, length-branch}
 use Rattle.s390x_emit_int.proofs.Starts.{same_run}
 use Rattle.s390x_emit_int.proofs.Resolving.{no_stack_cause}
-use Rattle.s390x_emit_int.proofs.Trees.{prepend_run, safepoint_nominal}
+use Rattle.s390x_emit_int.specs.Members.{member_of, members_of, block_members_of}
+use Rattle.s390x_emit_int.proofs.Members.{members_behind, block_members_behind, member_nominal}
+use Rattle.s390x_emit_int.proofs.Trees.{Begins, member_begins, own_run, safepoint_nominal}
 
 -- from s to t so many labels were drawn and so many bytes put, and no mark was set
 pub record Turns (s t : BufferState) (k m : ℕ) : Type 0 where
@@ -64,70 +66,70 @@ tree_turns s t n after x en e =
     let same = same_run (fragments n after x) s in
     record { unpoisoned = ap (λ x. x.failed) e ∙ same.failed; blocks = ap (λ x. x.block_count) e ∙ same.block_count; constants = ap (λ x. x.constants) e ∙ same.constants; labels = ap (λ x. length x.labels) e ∙ g.labels; bytes = ap (λ x. length x.bytes) e ∙ g.bytes }
 
--- an instruction that is no loop, alone
-pub leaf_passed : (flags : IsaFlags) (s : BufferState) (after nominal depth : ℕ) (i : Inst) (x : Tree) → x ≡ leaf (Whole i) empty → TreePassed flags s after nominal depth x → MembersPassed s after depth (instruction_size i) (leaf_cause flags (declared_in s) (length s.labels) nominal depth i)
-leaf_passed flags s after nominal depth i x e p =
-    let q : TreePassed flags s after nominal depth (leaf (Whole i) empty) = subst (TreePassed flags s after nominal depth) e p in
-    record { unpoisoned = q.unpoisoned; blocks = q.blocks; label = q.label; short = omega (arith, q.short); passed = first_left _ _ q.passed }
-
 -- a member before the rest
-pub member_passed_of : (now : Emission) (flags : IsaFlags) (s s1 : BufferState) (after nominal depth : ℕ) (i : Inst) (whole rest : Tree) → whole ≡ prepend now i rest → s1 ≡ apply s StartStep → TreePassed flags s after nominal depth whole → TreePassed flags s1 after nominal depth (prepend now i empty)
-member_passed_of now flags s s1 after nominal depth i whole rest is e p =
-    let q : TreePassed flags s after nominal depth (prepend now i rest) = subst (TreePassed flags s after nominal depth) is p in
-    let here : TreePassed flags (apply s StartStep) after nominal depth (prepend now i empty) = record {
+pub member_passed_of : (own : Tree) (flags : IsaFlags) (s s1 : BufferState) (after nominal depth : ℕ) (whole rest : Tree) → whole ≡ joined own rest → s1 ≡ apply s StartStep → TreePassed flags s after nominal depth whole → TreePassed flags s1 after nominal depth own
+member_passed_of own flags s s1 after nominal depth whole rest is e p =
+    let q : TreePassed flags s after nominal depth (joined own rest) = subst (TreePassed flags s after nominal depth) is p in
+    let here : TreePassed flags (apply s StartStep) after nominal depth own = record {
       unpoisoned = q.unpoisoned;
       blocks = q.blocks;
       label = q.label;
-      short = omega (arith, q.short, prepend_size now i rest);
-      passed = first_left _ _ (sym (prepend_cause flags now (declared_in s) (length s.labels) nominal depth i rest) ∙ q.passed);
+      short = omega (arith, q.short, joined_size own rest);
+      passed = first_left _ _ (sym (joined_cause flags (declared_in s) (length s.labels) nominal depth own rest) ∙ q.passed);
     } in
-    subst (λ x. TreePassed flags x after nominal depth (prepend now i empty)) (sym e) here
+    subst (λ x. TreePassed flags x after nominal depth own) (sym e) here
 
 -- and the rest
-pub rest_passed_of : (now : Emission) (flags : IsaFlags) (s s1 s2 : BufferState) (after nominal depth : ℕ) (i : Inst) (whole rest : Tree) → whole ≡ prepend now i rest → s1 ≡ apply s StartStep → s2 ≡ apply_all s1 (own_fragments (length s1.labels) after (prepend now i empty)) →
-    TreePassed flags s after nominal depth whole → TreePassed flags s2 after (nominal_after nominal i) depth rest
-rest_passed_of now flags s s1 s2 after nominal depth i whole rest is e1 e2 p =
+pub rest_passed_of : (own : Tree) (flags : IsaFlags) (s s1 s2 : BufferState) (after nominal depth : ℕ) (whole rest : Tree) → Begins own → whole ≡ joined own rest → s1 ≡ apply s StartStep → s2 ≡ apply_all s1 (own_fragments (length s1.labels) after own) →
+    TreePassed flags s after nominal depth whole → TreePassed flags s2 after (nominal_behind nominal own) depth rest
+rest_passed_of own flags s s1 s2 after nominal depth whole rest begins is e1 e2 p =
     let n = length s.labels in
-    let own = prepend now i empty in
-    let q : TreePassed flags s after nominal depth (prepend now i rest) = subst (TreePassed flags s after nominal depth) is p in
+    let q : TreePassed flags s after nominal depth (joined own rest) = subst (TreePassed flags s after nominal depth) is p in
     let e2' : s2 ≡ apply_all (apply s StartStep) (own_fragments n after own) = e2 ∙ ap (λ x. apply_all x (own_fragments (length x.labels) after own)) e1 in
-    let t = tree_turns s s2 n after own refl (e2' ∙ sym (prepend_run now i empty s n after)) in
-    let m = nominal_after nominal i in
-    let cause : tree_cause flags (declared_in s) (n + fresh_labels own) m depth rest ≡ None = first_right (tree_cause flags (declared_in s) n nominal depth own) _ (sym (prepend_cause flags now (declared_in s) n nominal depth i rest) ∙ q.passed) in
+    let t = tree_turns s s2 n after own refl (e2' ∙ sym (own_run own s n after begins)) in
+    let m = nominal_behind nominal own in
+    let cause : tree_cause flags (declared_in s) (n + fresh_labels own) m depth rest ≡ None = first_right (tree_cause flags (declared_in s) n nominal depth own) _ (sym (joined_cause flags (declared_in s) n nominal depth own rest) ∙ q.passed) in
     record {
       unpoisoned = t.unpoisoned ∙ q.unpoisoned;
       blocks = omega (arith, t.blocks, t.labels, q.blocks);
       label = λ d. omega (arith, t.labels, q.label d);
-      short = omega (arith, t.bytes, q.short, prepend_size now i rest);
+      short = omega (arith, t.bytes, q.short, joined_size own rest);
       passed = ap (λ D. tree_cause flags D (length s2.labels) m depth rest) (turns_declared s s2 _ _ t) ∙ ap (λ l. tree_cause flags (declared_in s) l m depth rest) t.labels ∙ cause;
     }
 
 -- the next member of a loop
-pub member_passed : (state : Emission) (flags : IsaFlags) (s s1 : BufferState) (after depth : ℕ) (is : List Inst) (k : ℕ) (i : Inst) → k < length is → i ≡ get_or is k i → s1 ≡ apply s StartStep → TreePassed flags s after state.nominal depth (tree state (drop k is)) → TreePassed flags s1 after state.nominal depth (prepend state i empty)
-member_passed state flags s s1 after depth is k i lt at = member_passed_of state flags s s1 after state.nominal depth i (tree state (drop k is)) (tree (state_after state i) (drop (k + 1) is)) (behind state is k i lt at)
+pub member_passed : (state : Emission) (flags : IsaFlags) (s s1 : BufferState) (after depth : ℕ) (is : List Inst) (k : ℕ) (i : Inst) → k < length is → i ≡ get_or is k i → s1 ≡ apply s StartStep → TreePassed flags s after state.nominal depth (members_of flags state (drop k is)) → TreePassed flags s1 after state.nominal depth (member_of flags state i)
+member_passed state flags s s1 after depth is k i lt at = member_passed_of (member_of flags state i) flags s s1 after state.nominal depth (members_of flags state (drop k is)) (members_of flags (state_after state i) (drop (k + 1) is)) (members_behind flags state is k i lt at)
 
 -- and those behind it
-pub others_passed : (state : Emission) (flags : IsaFlags) (s s1 s2 : BufferState) (after depth : ℕ) (is : List Inst) (k : ℕ) (i : Inst) → k < length is → i ≡ get_or is k i → s1 ≡ apply s StartStep → s2 ≡ apply_all s1 (own_fragments (length s1.labels) after (prepend state i empty)) →
-    TreePassed flags s after state.nominal depth (tree state (drop k is)) → TreePassed flags s2 after (nominal_after state.nominal i) depth (tree (state_after state i) (drop (k + 1) is))
-others_passed state flags s s1 s2 after depth is k i lt at = rest_passed_of state flags s s1 s2 after state.nominal depth i (tree state (drop k is)) (tree (state_after state i) (drop (k + 1) is)) (behind state is k i lt at)
+pub others_passed : (state : Emission) (flags : IsaFlags) (s s1 s2 : BufferState) (after depth : ℕ) (is : List Inst) (k : ℕ) (i : Inst) → k < length is → i ≡ get_or is k i → s1 ≡ apply s StartStep → s2 ≡ apply_all s1 (own_fragments (length s1.labels) after (member_of flags state i)) →
+    TreePassed flags s after state.nominal depth (members_of flags state (drop k is)) → TreePassed flags s2 after (nominal_after state.nominal i) depth (members_of flags (state_after state i) (drop (k + 1) is))
+others_passed state flags s s1 s2 after depth is k i lt at e1 e2 p =
+    let rest = members_of flags (state_after state i) (drop (k + 1) is) in
+    subst (λ m. TreePassed flags s2 after m depth rest) (member_nominal flags state state.nominal i)
+    (rest_passed_of (member_of flags state i) flags s s1 s2 after state.nominal depth (members_of flags state (drop k is)) rest (member_begins flags state i) (members_behind flags state is k i lt at) e1 e2 p)
 
 -- the next member of a block
-pub passed_in_block : (state : Emission) (flags : IsaFlags) (s s1 : BufferState) (after depth : ℕ) (is : List Inst) (k : ℕ) (i : Inst) → k < length is → i ≡ get_or is k i → s1 ≡ apply s StartStep → TreePassed flags s after state.nominal depth (block_tree state (drop k is)) → TreePassed flags s1 after state.nominal depth (prepend (safepoint state i) i empty)
-passed_in_block state flags s s1 after depth is k i lt at = member_passed_of (safepoint state i) flags s s1 after state.nominal depth i (block_tree state (drop k is)) (block_tree (state_after state i) (drop (k + 1) is)) (block_behind state is k i lt at)
+pub passed_in_block : (state : Emission) (flags : IsaFlags) (s s1 : BufferState) (after depth : ℕ) (is : List Inst) (k : ℕ) (i : Inst) → k < length is → i ≡ get_or is k i → s1 ≡ apply s StartStep → TreePassed flags s after state.nominal depth (block_members_of flags state (drop k is)) → TreePassed flags s1 after state.nominal depth (member_of flags (safepoint state i) i)
+passed_in_block state flags s s1 after depth is k i lt at = member_passed_of (member_of flags (safepoint state i) i) flags s s1 after state.nominal depth (block_members_of flags state (drop k is)) (block_members_of flags (state_after state i) (drop (k + 1) is)) (block_members_behind flags state is k i lt at)
 
 -- the same in the state that is marked as a safepoint
-pub marked_passed : (state marked : Emission) (flags : IsaFlags) (s s1 : BufferState) (after depth : ℕ) (is : List Inst) (k : ℕ) (i : Inst) → k < length is → i ≡ get_or is k i → marked ≡ safepoint state i → s1 ≡ apply s StartStep → TreePassed flags s after state.nominal depth (block_tree state (drop k is)) → TreePassed flags s1 after marked.nominal depth (prepend marked i empty)
+pub marked_passed : (state marked : Emission) (flags : IsaFlags) (s s1 : BufferState) (after depth : ℕ) (is : List Inst) (k : ℕ) (i : Inst) → k < length is → i ≡ get_or is k i → marked ≡ safepoint state i → s1 ≡ apply s StartStep →
+    TreePassed flags s after state.nominal depth (block_members_of flags state (drop k is)) → TreePassed flags s1 after marked.nominal depth (member_of flags marked i)
 marked_passed state marked flags s s1 after depth is k i lt at same e p =
-    subst (λ (x : Emission). TreePassed flags s1 after x.nominal depth (prepend x i empty)) (sym same)
-    (subst (λ m. TreePassed flags s1 after m depth (prepend (safepoint state i) i empty)) (sym (safepoint_nominal state i)) (passed_in_block state flags s s1 after depth is k i lt at e p))
+    subst (λ (x : Emission). TreePassed flags s1 after x.nominal depth (member_of flags x i)) (sym same)
+    (subst (λ m. TreePassed flags s1 after m depth (member_of flags (safepoint state i) i)) (sym (safepoint_nominal state i)) (passed_in_block state flags s s1 after depth is k i lt at e p))
 
 -- and those behind it
-pub others_in_block : (state : Emission) (flags : IsaFlags) (s s1 s2 : BufferState) (after depth : ℕ) (is : List Inst) (k : ℕ) (i : Inst) → k < length is → i ≡ get_or is k i → s1 ≡ apply s StartStep → s2 ≡ apply_all s1 (own_fragments (length s1.labels) after (prepend (safepoint state i) i empty)) →
-    TreePassed flags s after state.nominal depth (block_tree state (drop k is)) → TreePassed flags s2 after (nominal_after state.nominal i) depth (block_tree (state_after state i) (drop (k + 1) is))
-others_in_block state flags s s1 s2 after depth is k i lt at = rest_passed_of (safepoint state i) flags s s1 s2 after state.nominal depth i (block_tree state (drop k is)) (block_tree (state_after state i) (drop (k + 1) is)) (block_behind state is k i lt at)
+pub others_in_block : (state : Emission) (flags : IsaFlags) (s s1 s2 : BufferState) (after depth : ℕ) (is : List Inst) (k : ℕ) (i : Inst) → k < length is → i ≡ get_or is k i → s1 ≡ apply s StartStep → s2 ≡ apply_all s1 (own_fragments (length s1.labels) after (member_of flags (safepoint state i) i)) →
+    TreePassed flags s after state.nominal depth (block_members_of flags state (drop k is)) → TreePassed flags s2 after (nominal_after state.nominal i) depth (block_members_of flags (state_after state i) (drop (k + 1) is))
+others_in_block state flags s s1 s2 after depth is k i lt at e1 e2 p =
+    let rest = block_members_of flags (state_after state i) (drop (k + 1) is) in
+    subst (λ m. TreePassed flags s2 after m depth rest) (member_nominal flags (safepoint state i) state.nominal i)
+    (rest_passed_of (member_of flags (safepoint state i) i) flags s s1 s2 after state.nominal depth (block_members_of flags state (drop k is)) rest (member_begins flags (safepoint state i) i) (block_members_behind flags state is k i lt at) e1 e2 p)
 
 -- a member has no cause by the stack sizes
-pub member_stack : (state : Emission) (flags : IsaFlags) (s : BufferState) (after depth : ℕ) (is : List Inst) (k : ℕ) (i : Inst) → k < length is → i ≡ get_or is k i → TreePassed flags s after state.nominal depth (tree state (drop k is)) → stack_cause state.nominal depth i ≡ None
+pub member_stack : (state : Emission) (flags : IsaFlags) (s : BufferState) (after depth : ℕ) (is : List Inst) (k : ℕ) (i : Inst) → k < length is → i ≡ get_or is k i → TreePassed flags s after state.nominal depth (members_of flags state (drop k is)) → stack_cause state.nominal depth i ≡ None
 member_stack state flags s after depth is k i lt at p =
     no_stack_cause flags state (declared_in (apply s StartStep)) (length s.labels) state.nominal depth i (member_passed state flags s (apply s StartStep) after depth is k i lt at refl p).passed
 

@@ -1,5 +1,5 @@
 -- An instruction and the same without a frame operand.
-use Rattle.std.proofs.Common.{◌≡◌, ℕ, Bool, true, false, List, Option, Some, None, refl, sym, ap, subst, ◌∙◌, is_some, ◌||◌, ◌&&◌, not}
+use Rattle.std.proofs.Common.{◌≡◌, ℕ, Bool, true, false, List, Option, Some, None, refl, sym, ap, subst, ◌∙◌, is_some, ◌||◌, ◌&&◌}
 use Rattle.std.specs.Option.{option_map}
 use Rattle.s390x_base.specs.declared.regs.Reg.{Reg}
 use Rattle.s390x_inst.specs.Emission.{Emission}
@@ -14,17 +14,17 @@ use Rattle.s390x_inst.specs.declared.vec_inst.VecInst.TheVariants.{VecLoadReplic
 use Rattle.s390x_inst.specs.Facilities.{has_facility}
 use Rattle.s390x_inst.specs.declared.state.IsaFlags.{IsaFlags}
 use Rattle.s390x_typed_steps.specs.SingleInstruction.{SingleInstruction, single_instruction, stop_code}
-use Rattle.s390x_typed_steps.specs.Causes.{Declared, first_emit_cause, has_relative_row, accesses_relative, relative_cause, facility_cause, cause_or, memory_cause_or, branch_cause, instruction_cause, instruction_fresh_labels, stack_cause, tree_cause}
-use Rattle.s390x_typed_steps.specs.Memory.{MemoryInstruction, operate, load_and_operate, memory}
+use Rattle.s390x_typed_steps.specs.Causes.{Declared, first_emit_cause, facility_cause, cause_or, memory_cause_or, branch_cause, instruction_cause, instruction_fresh_labels, stack_cause, tree_cause}
+use Rattle.s390x_typed_steps.specs.Memory.{MemoryInstruction, has_relative_row, accesses_relative, operate, load_and_operate, memory}
 use Rattle.s390x_typed_steps.specs.Operands.{resolved, is_relative}
 use Rattle.s390x_typed_steps.specs.Ranges.{MaskInRange, OperandInRange, MemoryInRange, InRange}
 use Rattle.s390x_typed_steps.specs.Resolved.{resolved_instruction}
 use Rattle.s390x_typed_steps.specs.Storage.{alu_rx, alu_rxy, atomic_rsy}
 use Rattle.s390x_address.specs.Rows.{in_state}
-use Rattle.s390x_typed_steps.specs.Tree.{empty, prepend}
+use Rattle.s390x_emit_int.specs.Members.{member_of}
 use Rattle.s390x_typed_steps.proofs.Causes.{first_left}
 use Rattle.s390x_typed_steps.specs.Causes.{unless}
-use Rattle.s390x_base.specs.declared.error.EmitError.TheVariants.{MissingFacility, BadOperator}
+use Rattle.s390x_base.specs.declared.error.EmitError.TheVariants.{MissingFacility}
 use Rattle.s390x_typed_steps.specs.MachineInstruction.{MachineInstruction}
 use Rattle.s390x_typed_steps.specs.Parts.{parts_size, row_parts}
 use Rattle.s390x_emit_int.specs.Emission.{branch_fragments, branch_size, part_fragments}
@@ -72,7 +72,7 @@ atomic_resolved : (e : Emission) (rsy : Option ℕ) (rd rn : Reg) (mem : MemArg)
 atomic_resolved e None rd rn mem = refl
 atomic_resolved e (Some opcode) rd rn mem = refl
 
-memory_resolved : (e : Emission) (i : Inst) → memory (resolved_instruction e i) ≡ option_map (in_state e) (memory i)
+pub memory_resolved : (e : Emission) (i : Inst) → memory (resolved_instruction e i) ≡ option_map (in_state e) (memory i)
 memory_resolved e (AluRX op rd ri mem) = operate_resolved e (is_some (alu_rx op) || is_some (alu_rxy op)) (alu_rx op) (alu_rxy op) rd ri mem
 memory_resolved e (AtomicRmw op rd rn mem) = atomic_resolved e (atomic_rsy op) rd rn mem
 memory_resolved e (Vector v) = vector_memories e v
@@ -89,15 +89,13 @@ relative_operand : (e : Emission) (m : MemArg) → is_relative (resolved e m) �
 relative_operand e (InitialSPOffset off) = refl
 relative_operand e m = refl
 
-relative_in_state : (e : Emission) (o : Option MemoryInstruction) → accesses_relative (option_map (in_state e) o) ≡ accesses_relative o
+pub relative_in_state : (e : Emission) (o : Option MemoryInstruction) → accesses_relative (option_map (in_state e) o) ≡ accesses_relative o
 relative_in_state e None = refl
 relative_in_state e (Some x) = ap (λ b. has_relative_row x.form && x.accesses && b) (relative_operand e x.operand)
 
 -- what the machine lacks of an instruction doesn't depend on the state of emission
-lacks_resolved : (flags : IsaFlags) (e : Emission) (i : Inst) → facility_cause flags (resolved_instruction e i) ≡ facility_cause flags i
-lacks_resolved flags e i =
-    ap (λ f. first_emit_cause (unless (has_facility flags f) MissingFacility) (relative_cause flags (resolved_instruction e i))) (facility_resolved e i)
-    ∙ ap (λ b. first_emit_cause (unless (has_facility flags (facility_of i)) MissingFacility) (unless (not (b && flags.no_relative_memory)) BadOperator)) (ap accesses_relative (memory_resolved e i) ∙ relative_in_state e (memory i))
+pub lacks_resolved : (flags : IsaFlags) (e : Emission) (i : Inst) → facility_cause flags (resolved_instruction e i) ≡ facility_cause flags i
+lacks_resolved flags e i = ap (λ f. unless (has_facility flags f) MissingFacility) (facility_resolved e i)
 
 rest_resolved : (flags : IsaFlags) (e : Emission) (D : Declared) (nominal depth : ℕ) (i : Inst) →
     first_emit_cause (facility_cause flags (resolved_instruction e i)) (first_emit_cause (stack_cause nominal depth i) (cause_or (single_instruction i) (memory_cause_or D (memory (resolved_instruction e i)) (branch_cause D.blocks depth i)))) ≡ instruction_cause flags D nominal depth (resolved_instruction e i)
@@ -114,13 +112,13 @@ cause_resolved flags e D nominal depth i =
     ∙ rest_resolved flags e D nominal depth i
 
 -- a member without a cause has none by the stack sizes
-pub no_stack_cause : (flags : IsaFlags) (e : Emission) (D : Declared) (n nominal depth : ℕ) (i : Inst) → tree_cause flags D n nominal depth (prepend e i empty) ≡ None → stack_cause nominal depth i ≡ None
+pub no_stack_cause : (flags : IsaFlags) (e : Emission) (D : Declared) (n nominal depth : ℕ) (i : Inst) → tree_cause flags D n nominal depth (member_of flags e i) ≡ None → stack_cause nominal depth i ≡ None
 no_stack_cause flags e D n nominal depth (AllocateArgs size) h = first_left _ _ (first_left _ _ (first_left _ _ h))
 no_stack_cause flags e D n nominal depth i h = refl
 
 -- ---- ranges
 
-mask_resolved : (e : Emission) (i : Inst) → MaskInRange i → MaskInRange (resolved_instruction e i)
+pub mask_resolved : (e : Emission) (i : Inst) → MaskInRange i → MaskInRange (resolved_instruction e i)
 mask_resolved e (CondBreak mask) h = h
 mask_resolved e i h = h
 

@@ -21,7 +21,7 @@ use Rattle.s390x_inst.specs.declared.inst.Inst.{Inst}
 use Rattle.s390x_inst.specs.declared.state.IsaFlags.{IsaFlags}
 use Rattle.s390x_typed_steps.specs.Causes.{Declared, call_cause, tail_cause, unless, first_emit_cause, declared_in, body_cause, body_fresh_labels, body_nominal_after, fresh_labels, instruction_fresh_labels, leaf_cause, tree_cause}
 use Rattle.s390x_typed_steps.specs.Calls.{call_size, is_first_saved, is_target, load_or, load_before, load_bodies, wholes}
-use Rattle.s390x_typed_steps.specs.Ranges.{InRange, BodyInRange, AllInRange}
+use Rattle.s390x_typed_steps.specs.Ranges.{InRange, BodyInRange}
 use Rattle.s390x_typed_steps.specs.Resolved.{resolved_instruction}
 use Rattle.s390x_typed_steps.specs.Sizes.{body_size, instruction_size, tree_size}
 use Rattle.s390x_typed_steps.specs.Stack.{nominal_after}
@@ -31,7 +31,7 @@ use Rattle.s390x_typed_steps.specs.StepBody.{Calling, AtCall}
 use Rattle.s390x_typed_steps.specs.Steps.{CallingStep}
 use Rattle.s390x_typed_steps.proofs.Causes.{first_left, unless_true}
 use Rattle.s390x_typed_steps.proofs.Trees.{nominal_resolved}
-use Rattle.s390x_emit_int.specs.Emission.{body_fragments, fragments, leaf_fragments, own_fragments, part_fragments}
+use Rattle.s390x_emit_int.specs.Emission.{body_fragments, leaf_fragments, part_fragments}
 use Rattle.s390x_emit_int.specs.Fragments.{AddSite, StartStep, apply, apply_all}
 use Rattle.s390x_emit_int.specs.Room.{HasRoom, MembersPassed, TreePassed, LacksMemory}
 use Rattle.s390x_emit_int.specs.Sequence.{AllKeepNominal, Reaches, Emits, EmitsOwn, Counts, Checks, ChecksTree}

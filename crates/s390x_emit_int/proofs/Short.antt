@@ -1,5 +1,5 @@
 -- How many bytes an instruction has at most, and that emission fails by want of memory alone where no cause stands.
-use Rattle.std.proofs.Common.{ℕ, ◌*◌, ◌++◌, length-append, ◌≡◌, ◌+◌, ◌≤◌, Bool, true, false, cond, nat_eq, nat_lt, List, [], ◌∷◌, Option, Some, None, length, refl, ap, ◌∙◌, arith, ltb-true, ◌<◌, ap₂, ◌⊎◌, inl, inr, sym}
+use Rattle.std.proofs.Common.{ℕ, ◌*◌, ◌++◌, ◌&&◌, append-nil, length-append, ◌≡◌, ◌+◌, ◌≤◌, Bool, true, false, cond, nat_eq, nat_lt, List, [], ◌∷◌, Option, Some, None, length, refl, ap, ◌∙◌, arith, ltb-true, ◌<◌, ap₂, ◌⊎◌, inl, inr, sym}
 use Rattle.std.proofs.lemmas.Bool.{lt-ltb}
 use Rattle.s390x_base.specs.declared.trap.TrapKind.{TrapKind}
 use Rattle.s390x_base.specs.declared.error.EmitError.{EmitError}
@@ -19,22 +19,24 @@ use Rattle.s390x_buffer.specs.State.{BufferState, Constant, limit}
 use Rattle.s390x_buffer.specs.Extends.{Extends}
 use Rattle.s390x_typed_steps.specs.SingleInstruction.{SingleInstruction, single_instruction, stop_code}
 use Rattle.s390x_typed_steps.specs.MachineInstruction.{MachineInstruction}
-use Rattle.s390x_typed_steps.specs.Memory.{StorageForm, RxForm, MemoryInstruction, memory, type_of, storage_row, address_form, fault_code}
+use Rattle.s390x_typed_steps.specs.Memory.{StorageForm, RxForm, MemoryInstruction, accesses_relative, loaded_memory, memory, type_of, storage_row, address_form, fault_code}
 use Rattle.s390x_typed_steps.specs.Operands.{Finalized, finalized, is_relative, displaced, needs_address, fits_12, fits_20, fits_32}
 use Rattle.s390x_typed_steps.specs.Resolved.{resolved_instruction}
 use Rattle.s390x_typed_steps.specs.VectorComposite.{MoveUnder, composite_rows, exchanges_doublewords, exchanges_halves, move_under, rows_or_none, rows_under}
 use Rattle.s390x_typed_steps.specs.Parts.{CodePart, branch_parts, row_part, access_parts, trap_here, relative_part, relative_parts, operand_parts, helper_parts, helpers_parts, memory_parts, memory_or, parts_or, parts_size, row_parts}
-use Rattle.s390x_typed_steps.specs.Sizes.{instruction_size, tree_size}
-use Rattle.s390x_typed_steps.specs.Tree.{Tree, empty, leaf, prepend, Whole}
+use Rattle.s390x_typed_steps.specs.Sizes.{body_size, instruction_size, tree_size}
+use Rattle.s390x_typed_steps.specs.Tree.{Tree, empty, leaf, Whole}
+use Rattle.s390x_typed_steps.specs.Baseline.{whole_or_loaded, body_for}
 use Rattle.s390x_typed_steps.specs.Causes.{Declared, first_emit_cause, unless, aligns_of, declared_in, tree_cause}
 use Rattle.s390x_typed_steps.proofs.Causes.{first_left, first_right, unless_true}
 use Rattle.s390x_address.proofs.Lacking.{size_append}
 use Rattle.s390x_emit_int.specs.Fragments.{StartStep, apply, apply_all}
-use Rattle.s390x_emit_int.specs.Emission.{fragments, leaf_fragments, own_fragments}
+use Rattle.s390x_emit_int.specs.Emission.{body_fragments, fragments, own_fragments}
 use Rattle.s390x_emit_int.specs.Instruction.{emit_cause, is_short}
 use Rattle.s390x_emit_int.specs.Room.{HasRoom, TreePassed}
-use Rattle.s390x_emit_int.proofs.Runs.{leaf_grows, tree_grows}
-use Rattle.s390x_emit_int.proofs.Trees.{leaf_own, prepend_run}
+use Rattle.s390x_emit_int.proofs.Runs.{body_grows, tree_grows}
+use Rattle.s390x_emit_int.specs.Members.{member_of}
+use Rattle.s390x_emit_int.proofs.Trees.{member_begins, own_run}
 use Rattle.s390x_emit_int.proofs.Imaging.{bytes_run}
 
 row_few : (x : SingleInstruction) (code : Option TrapKind) → parts_size (row_part x.row code ∷ []) ≤ 44
@@ -120,7 +122,8 @@ move_few (Some x) = let small = length_small x.row.format in omega (arith, small
 
 -- elements in reverse order
 reversal_few : (a b c e : Bool) (d n : ℕ) →
-    parts_size (row_parts (rows_or_none (cond a (Some (exchanges_doublewords d n ∷ [])) (cond b (Some (exchanges_doublewords d n ∷ exchanges_halves d 3 32 ∷ [])) (cond c (Some (exchanges_doublewords d n ∷ exchanges_halves d 3 32 ∷ exchanges_halves d 2 16 ∷ [])) (cond e (Some (exchanges_doublewords d n ∷ exchanges_halves d 3 32 ∷ exchanges_halves d 2 16 ∷ exchanges_halves d 1 8 ∷ [])) None)))))) ≤ 44
+    parts_size (row_parts (rows_or_none (cond a (Some (exchanges_doublewords d n ∷ [])) (cond b (Some (exchanges_doublewords d n ∷ exchanges_halves d 3 32 ∷ [])) (cond c (Some (exchanges_doublewords d n ∷ exchanges_halves d 3 32 ∷ exchanges_halves d 2 16 ∷ []))
+    (cond e (Some (exchanges_doublewords d n ∷ exchanges_halves d 3 32 ∷ exchanges_halves d 2 16 ∷ exchanges_halves d 1 8 ∷ [])) None)))))) ≤ 44
 unfolding length_of
 reversal_few true b c e d n = omega arith
 reversal_few false true c e d n = omega arith
@@ -159,20 +162,33 @@ short_resolved state (CondBreak mask) = refl
 short_resolved state i = refl
 
 -- an instruction that is no loop
-short_leaf : (state : Emission) (i : Inst) → is_short i ≡ true → prepend state i empty ≡ leaf (Whole (resolved_instruction state i)) empty
-short_leaf state (Loop' mask body all) h = absurd (cc)
-short_leaf state (Call link info) h = absurd (cc)
-short_leaf state (ReturnCall info) h = absurd (cc)
-short_leaf state i h = refl
+short_leaf : (flags : IsaFlags) (state : Emission) (i : Inst) → is_short i ≡ true → member_of flags state i ≡ leaf (body_for flags (Whole (resolved_instruction state i))) empty
+short_leaf flags state (Loop' mask body all) h = absurd (cc)
+short_leaf flags state (Call link info) h = absurd (cc)
+short_leaf flags state (ReturnCall info) h = absurd (cc)
+short_leaf flags state i h = refl
+
+-- a load of the address and an access have few bytes
+loaded_few : (o : Option MemoryInstruction) → parts_size (memory_or o []) ≤ 44
+loaded_few o = memory_few_or o [] (omega arith)
+
+body_few : (flags : IsaFlags) (i : Inst) → is_short i ≡ true → body_size (body_for flags (Whole i)) ≤ 44
+body_few flags i h = go (accesses_relative (memory i) && flags.no_relative_memory)
+  where
+    go : (t : Bool) → body_size (whole_or_loaded t i) ≤ 44
+    go false = instruction_few i h
+    go true = loaded_few (loaded_memory i)
 
 -- a short instruction puts few bytes
-pub puts_few : (state : Emission) (i : Inst) (s t : BufferState) → is_short i ≡ true → t ≡ apply_all s (own_fragments (length s.labels) 0 (prepend state i empty)) → length t.bytes ≤ length s.bytes + 44
-puts_few state i s t h e =
+pub puts_few : (flags : IsaFlags) (state : Emission) (i : Inst) (s t : BufferState) → is_short i ≡ true → t ≡ apply_all s (own_fragments (length s.labels) 0 (member_of flags state i)) → length t.bytes ≤ length s.bytes + 44
+puts_few flags state i s t h e =
     let j = resolved_instruction state i in
-    let is : t ≡ apply_all s (own_fragments (length s.labels) 0 (leaf (Whole j) empty)) = e ∙ ap (λ x. apply_all s (own_fragments (length s.labels) 0 x)) (short_leaf state i h) in
-    let alone : t ≡ apply_all s (leaf_fragments (length s.labels) 0 j) = is ∙ sym (leaf_own j s (length s.labels) 0) in
-    let g = leaf_grows j s (length s.labels) 0 refl in
-    let few = instruction_few j (short_resolved state i ∙ h) in
+    let b = body_for flags (Whole j) in
+    let n = length s.labels in
+    let is : t ≡ apply_all s (own_fragments n 0 (leaf b empty)) = e ∙ ap (λ x. apply_all s (own_fragments n 0 x)) (short_leaf flags state i h) in
+    let alone : t ≡ apply_all s (body_fragments n 0 b) = is ∙ ap (apply_all s) (append-nil (body_fragments n 0 b)) in
+    let g = body_grows b s n 0 refl in
+    let few = body_few flags j (short_resolved state i ∙ h) in
     let bytes = ap (λ x. length x.bytes) alone in
     omega (arith, g.bytes, few, bytes)
 
@@ -193,21 +209,21 @@ emit_passed flags nominal s x room h =
     }
 
 -- an instruction has the bytes that were counted
-own_size : (state : Emission) (i : Inst) (s : BufferState) (n after : ℕ) → n ≡ length s.labels → length (apply_all s (own_fragments n after (prepend state i empty))).bytes ≡ length s.bytes + tree_size (prepend state i empty)
-own_size state i s n after e =
-    let step = prepend state i empty in
+own_size : (flags : IsaFlags) (state : Emission) (i : Inst) (s : BufferState) (n after : ℕ) → n ≡ length s.labels → length (apply_all s (own_fragments n after (member_of flags state i))).bytes ≡ length s.bytes + tree_size (member_of flags state i)
+own_size flags state i s n after e =
+    let step = member_of flags state i in
     let own = own_fragments n after step in
     let s1 = apply s StartStep in
     let same : length s1.bytes ≡ length s.bytes = refl in
     let whole = (tree_grows step s n after e).bytes in
-    let run : length (apply_all s (fragments n after step)).bytes ≡ length (apply_all s1 own).bytes = ap (λ x. length x.bytes) (prepend_run state i empty s n after) in
+    let run : length (apply_all s (fragments n after step)).bytes ≡ length (apply_all s1 own).bytes = ap (λ x. length x.bytes) (own_run step s n after (member_begins flags state i)) in
     omega (arith, whole, run, same, bytes_run own s1, bytes_run own s)
 
 -- the first cause, by what is declared and was counted
 pub counted_cause : (flags : IsaFlags) (state next : Emission) (i : Inst) (s : BufferState) (D : Declared) (labels bytes : ℕ) → next ≡ state → s.failed ≡ false → D ≡ declared_in s → labels ≡ length s.labels → bytes ≡ length s.bytes →
-    first_emit_cause (tree_cause flags D labels next.nominal 0 (prepend next i empty)) (unless (nat_lt (bytes + tree_size (prepend next i empty)) limit) LabelOutOfRange) ≡ emit_cause flags state.nominal s (prepend state i empty)
+    first_emit_cause (tree_cause flags D labels next.nominal 0 (member_of flags next i)) (unless (nat_lt (bytes + tree_size (member_of flags next i)) limit) LabelOutOfRange) ≡ emit_cause flags state.nominal s (member_of flags state i)
 counted_cause flags state next i s D labels bytes on unpoisoned declared l b =
-    let of : Emission → Declared → ℕ → ℕ → Option EmitError = λ e E n m. first_emit_cause (tree_cause flags E n e.nominal 0 (prepend e i empty)) (unless (nat_lt (m + tree_size (prepend e i empty)) limit) LabelOutOfRange) in
+    let of : Emission → Declared → ℕ → ℕ → Option EmitError = λ e E n m. first_emit_cause (tree_cause flags E n e.nominal 0 (member_of flags e i)) (unless (nat_lt (m + tree_size (member_of flags e i)) limit) LabelOutOfRange) in
     ap (λ e. of e D labels bytes) on
     ∙ ap (λ E. of state E labels bytes) declared
     ∙ ap (λ n. of state (declared_in s) n bytes) l
@@ -215,11 +231,11 @@ counted_cause flags state next i s D labels bytes on unpoisoned declared l b =
     ∙ sym (ap (λ f. cond f (Some Failed) (of state (declared_in s) (length s.labels) (length s.bytes))) unpoisoned)
 
 -- what was emitted without a cause, and ends below the limit, has none
-pub emit_none : (flags : IsaFlags) (state : Emission) (i : Inst) (s t : BufferState) (n : ℕ) → s.failed ≡ false → tree_cause flags (declared_in s) (length s.labels) state.nominal 0 (prepend state i empty) ≡ None →
-    t ≡ apply_all s (own_fragments (length s.labels) 0 (prepend state i empty)) → n ≡ length t.bytes → n < limit → emit_cause flags state.nominal s (prepend state i empty) ≡ None
+pub emit_none : (flags : IsaFlags) (state : Emission) (i : Inst) (s t : BufferState) (n : ℕ) → s.failed ≡ false → tree_cause flags (declared_in s) (length s.labels) state.nominal 0 (member_of flags state i) ≡ None →
+    t ≡ apply_all s (own_fragments (length s.labels) 0 (member_of flags state i)) → n ≡ length t.bytes → n < limit → emit_cause flags state.nominal s (member_of flags state i) ≡ None
 emit_none flags state i s t n unpoisoned cause is end below =
-    let step = prepend state i empty in
-    let size : length t.bytes ≡ length s.bytes + tree_size step = ap (λ x. length x.bytes) is ∙ own_size state i s (length s.labels) 0 refl in
+    let step = member_of flags state i in
+    let size : length t.bytes ≡ length s.bytes + tree_size step = ap (λ x. length x.bytes) is ∙ own_size flags state i s (length s.labels) 0 refl in
     let short : length s.bytes + tree_size step < limit = omega (arith, end, size, below) in
     sym (counted_cause flags state state i s (declared_in s) (length s.labels) (length s.bytes) refl unpoisoned refl refl refl)
     ∙ ap (λ o. first_emit_cause o (unless (nat_lt (length s.bytes + tree_size step) limit) LabelOutOfRange)) cause

@@ -1,6 +1,6 @@
 -- What the end of a block takes off is what its last instruction's branches to the next block have.
 use Rattle.std.specs.Prelude.{slice_get}
-use Rattle.std.proofs.Common.{length, suc, ◌≡◌, ℕ, ◌+◌, ◌-◌, ◌≤◌, List, [], ◌∷◌, ◌++◌, Option, Some, None, Bool, true, false, cond, nat_eq, refl, sym, ap, ◌∙◌, subst, arith}
+use Rattle.std.proofs.Common.{length, suc, ◌≡◌, ℕ, ◌+◌, ◌-◌, List, [], ◌∷◌, ◌++◌, Option, Some, None, Bool, true, false, cond, ◌&&◌, nat_eq, refl, sym, ap, ◌∙◌, subst, arith}
 use Rattle.s390x_base.specs.declared.ir.MachLabel.{MachLabel}
 use Rattle.s390x_base.specs.declared.ir.ValueType.{ValueType}
 use Rattle.s390x_base.specs.declared.ir.ValueType.TheVariants.{I8X8}
@@ -17,13 +17,20 @@ use Rattle.s390x_inst.specs.declared.calls.RetLocation.TheVariants.{Stack}
 use Rattle.s390x_inst.specs.declared.calls.TryCallInfo.{TryCallInfo}
 use Rattle.s390x_inst.specs.declared.inst.Inst.{Inst}
 use Rattle.s390x_inst.specs.declared.inst.Inst.TheVariants.{Loop', Jump, CondBr, Call, ReturnCall}
-use Rattle.s390x_typed_steps.specs.Calls.{wholes, load_or, load_before, load_bodies, behind_call, result_bodies, continuation_bodies, calling, bodies, safepoint, jump_target, loses_target}
+use Rattle.s390x_inst.specs.declared.state.IsaFlags.{IsaFlags}
+use Rattle.s390x_typed_steps.specs.Baseline.{whole_or_loaded, tree_for}
+use Rattle.s390x_typed_steps.specs.Calls.{wholes, load_or, load_before, load_bodies, behind_call, result_bodies, continuation_bodies, calling, safepoint, jump_target, loses_target}
 use Rattle.s390x_typed_steps.specs.Folding.{shortened, fold, folded, folded_before}
+use Rattle.s390x_typed_steps.specs.Memory.{memory, accesses_relative}
+use Rattle.s390x_typed_steps.specs.Resolved.{resolved_instruction}
 use Rattle.s390x_typed_steps.specs.Sizes.{tree_size}
 use Rattle.s390x_typed_steps.specs.Stack.{state_after}
 use Rattle.s390x_typed_steps.specs.Tree.{StepBody, NothingLeft, BranchLeft, Tree, Whole, CallStep, TailOpening, TailJump, empty, leaf, leaves, loop_node, prepend, block_tree}
-use Rattle.s390x_typed_steps.proofs.Trees.{joined, joined_size, prepend_joined}
+use Rattle.s390x_typed_steps.proofs.Baseline.{for_prepend}
+use Rattle.s390x_typed_steps.proofs.CallRows.{call_stays as call_steps, tail_stays as tail_steps}
+use Rattle.s390x_typed_steps.proofs.Trees.{joined, joined_size}
 use Rattle.s390x_emit_int.specs.BlockEnds.{bytes_to, continuation_bytes, instruction_bytes, last_bytes}
+use Rattle.s390x_emit_int.specs.Members.{member_of, block_members_of}
 
 -- there is a last step
 abbrev IsFull : Tree → Type 0
@@ -111,30 +118,42 @@ tail_stays : (next : ℕ) (e : Emission) (own : List StepBody) (last : StepBody)
 tail_stays next e own last stays =
     subst (λ u. Takes next 0 u) (sym (leaves_joined own (last ∷ []))) (takes_joined next 0 (leaves own empty) (leaf last empty) tt (omega (arith, ap (λ b. tree_size (leaf b empty)) stays)))
 
-member_takes : (next : ℕ) (e : Emission) (i : Inst) → Takes next (instruction_bytes (Some next) i) (prepend e i empty)
-member_takes next e (Loop' mask body all) = omega arith
-member_takes next e (Jump dest) = jump_takes next dest (nat_eq dest.0 next)
-member_takes next e (CondBr taken not_taken mask) = choice_takes taken not_taken mask (nat_eq not_taken.0 next) (nat_eq taken.0 next)
-member_takes next e (Call link info) = call_takes next (CallStep (calling e link info) ∷ result_bodies e info) info.try_call_info (refl, results_stay next e info)
-member_takes next e (ReturnCall info) =
-    tail_stays next e (TailOpening info.dest e.layout.first_saved_gpr (loses_target e.layout info.callee_pop_size info.dest) ∷ wholes e (epilogue e.layout info.callee_pop_size info.dest)) (TailJump (jump_target info.dest)) refl
-member_takes next e i = omega arith
+-- what neither is folded nor draws from the branches' bytes stays, on each machine
+whole_takes : (flags : IsaFlags) (next : ℕ) (i : Inst) → fold next (Whole i) ≡ Whole i → Takes next 0 (tree_for flags (leaf (Whole i) empty))
+whole_takes flags next i stays = go (accesses_relative (memory i) && flags.no_relative_memory)
+  where
+    go : (t : Bool) → Takes next 0 (leaf (whole_or_loaded t i) empty)
+    go false = omega (arith, ap (λ b. tree_size (leaf b empty)) stays)
+    go true = omega arith
+
+member_takes : (flags : IsaFlags) (next : ℕ) (e : Emission) (i : Inst) → Takes next (instruction_bytes (Some next) i) (tree_for flags (prepend e i empty))
+member_takes flags next e (Loop' mask body all) = omega arith
+member_takes flags next e (Jump dest) = jump_takes next dest (nat_eq dest.0 next)
+member_takes flags next e (CondBr taken not_taken mask) = choice_takes taken not_taken mask (nat_eq not_taken.0 next) (nat_eq taken.0 next)
+member_takes flags next e (Call link info) =
+    subst (λ u. Takes next (continuation_bytes (Some next) info.try_call_info) u) (sym (call_steps flags e link info))
+    (call_takes next (CallStep (calling e link info) ∷ result_bodies e info) info.try_call_info (refl, results_stay next e info))
+member_takes flags next e (ReturnCall info) =
+    subst (λ u. Takes next 0 u) (sym (tail_steps flags e info.callee_pop_size info.dest))
+    (tail_stays next e (TailOpening info.dest e.layout.first_saved_gpr (loses_target e.layout info.callee_pop_size info.dest) ∷ wholes e (epilogue e.layout info.callee_pop_size info.dest)) (TailJump (jump_target info.dest)) refl)
+member_takes flags next e i = whole_takes flags next (resolved_instruction e i) refl
 
 -- ---- the members of a block
 
-full_member : (e : Emission) (i : Inst) (rest : Tree) → IsFull (prepend e i rest)
-full_member e (Loop' mask body all) rest = tt
-full_member e (Call link info) rest = tt
-full_member e (ReturnCall info) rest = tt
-full_member e i rest = tt
+full_member : (flags : IsaFlags) (e : Emission) (i : Inst) (rest : Tree) → IsFull (tree_for flags (prepend e i rest))
+full_member flags e (Loop' mask body all) rest = tt
+full_member flags e (Call link info) rest = tt
+full_member flags e (ReturnCall info) rest = tt
+full_member flags e i rest = tt
 
-block_takes : (next : ℕ) (e : Emission) (is : List Inst) → Takes next (last_bytes (Some next) is) (block_tree e is)
-block_takes next e [] = refl
-block_takes next e (i ∷ []) = member_takes next (safepoint e i) i
-block_takes next e (i ∷ (j ∷ is)) =
-    let rest = block_tree (state_after e i) (j ∷ is) in
-    subst (λ u. Takes next (last_bytes (Some next) (j ∷ is)) u) (sym (prepend_joined (safepoint e i) i rest))
-    (takes_joined next (last_bytes (Some next) (j ∷ is)) (prepend (safepoint e i) i empty) rest (full_member (safepoint (state_after e i) j) j (block_tree (state_after (state_after e i) j) is)) (block_takes next (state_after e i) (j ∷ is)))
+block_takes : (flags : IsaFlags) (next : ℕ) (e : Emission) (is : List Inst) → Takes next (last_bytes (Some next) is) (block_members_of flags e is)
+block_takes flags next e [] = refl
+block_takes flags next e (i ∷ []) = member_takes flags next (safepoint e i) i
+block_takes flags next e (i ∷ (j ∷ is)) =
+    let behind = state_after e i in
+    let rest = block_members_of flags behind (j ∷ is) in
+    subst (λ u. Takes next (last_bytes (Some next) (j ∷ is)) u) (sym (for_prepend flags (safepoint e i) i (block_tree behind (j ∷ is))))
+    (takes_joined next (last_bytes (Some next) (j ∷ is)) (member_of flags (safepoint e i) i) rest (full_member flags (safepoint behind j) j (block_tree (state_after behind j) is)) (block_takes flags next behind (j ∷ is)))
 
 none_taken : (is : List Inst) → last_bytes None is ≡ 0
 none_taken [] = refl
@@ -150,9 +169,9 @@ none_taken (i ∷ []) = go i
 none_taken (i ∷ (j ∷ is)) = none_taken (j ∷ is)
 
 -- before the next block, if there is one
-pub end_takes : (next : Option ℕ) (e : Emission) (is : List Inst) → tree_size (folded_before next (block_tree e is)) + last_bytes next is ≡ tree_size (block_tree e is)
-end_takes None e is = omega (arith, none_taken is)
-end_takes (Some next) e is = block_takes next e is
+pub end_takes : (flags : IsaFlags) (next : Option ℕ) (e : Emission) (is : List Inst) → tree_size (folded_before next (block_members_of flags e is)) + last_bytes next is ≡ tree_size (block_members_of flags e is)
+end_takes flags None e is = omega (arith, none_taken is)
+end_takes flags (Some next) e is = block_takes flags next e is
 
 -- the last instruction of some decides
 pub last_is : (next : Option ℕ) (is : List Inst) (i : Inst) → Some i ≡ slice_get is (length is - 1) → instruction_bytes next i ≡ last_bytes next is

@@ -1,16 +1,15 @@
 -- A move under a condition: what its look-up found, its length, and the room for it.
-use Rattle.std.proofs.Common.{◌≡◌, ℕ, ◌+◌, ◌-◌, ◌/◌, Bool, true, false, cond, ◌&&◌, List, [], ◌∷◌, length, Option, None, Some, refl, sym, ap, ◌∙◌, nat_lt, arith}
+use Rattle.std.proofs.Common.{◌≡◌, ℕ, ◌+◌, ◌-◌, ◌/◌, Bool, true, false, cond, ◌&&◌, [], ◌∷◌, Option, None, Some, refl, sym, ap, ◌∙◌, nat_lt, arith}
 use Rattle.s390x_base.specs.Regs.{number_of}
 use Rattle.s390x_base.specs.declared.error.EmitError.TheVariants.{BadRegister}
 use Rattle.s390x_buffer.specs.State.{BufferState, put_cause}
 use Rattle.s390x_format.specs.Formats.{length_of}
 use Rattle.s390x_inst.specs.declared.vec_inst.VecInst.{VecInst}
 use Rattle.s390x_inst.specs.declared.vec_inst.VecInst.TheVariants.{FpuCMov32, FpuCMov64, VecCMov}
-use Rattle.s390x_typed_steps.specs.MachineInstruction.{MachineInstruction, size_of, ri_c, rr, vrr_a}
-use Rattle.s390x_typed_steps.specs.Parts.{CodePart, Row, row_parts, parts_size}
+use Rattle.s390x_typed_steps.specs.MachineInstruction.{size_of, ri_c, rr, vrr_a}
+use Rattle.s390x_typed_steps.specs.Parts.{Row, row_parts, parts_size}
 use Rattle.s390x_typed_steps.specs.SingleCode.{code_where}
 use Rattle.s390x_typed_steps.specs.VectorComposite.{MoveUnder as Move, move_under, cause_under, rows_under}
-use Rattle.s390x_typed_steps.specs.VectorInstruction.{move_left_row}
 use Rattle.s390x_emit_vec.specs.Conditional.{IsMoveUnder}
 use Rattle.s390x_emit_vec.specs.declared.conditional.MoveUnder.{MoveUnder}
 use Rattle.s390x_emit_int.specs.Fragments.{apply_all}

@@ -8,11 +8,15 @@ use Rattle.s390x_inst.specs.declared.inst.Inst.{Inst}
 use Rattle.s390x_inst.specs.declared.inst.Inst.TheVariants.{Call, Loop'}
 use Rattle.s390x_typed_steps.specs.Calls.{safepoint, without_map}
 use Rattle.s390x_typed_steps.specs.Stack.{state_after}
-use Rattle.s390x_typed_steps.specs.Tree.{Tree, empty, leaf, loop_node, prepend, row_tree, tree, block_tree, Whole}
+use Rattle.s390x_typed_steps.specs.Tree.{Tree, empty, leaf, loop_node, row_tree}
 use Rattle.s390x_typed_steps.specs.Causes.{body_fresh_labels, fresh_labels}
-use Rattle.s390x_typed_steps.proofs.Trees.{joined, prepend_joined, behind, block_behind}
+use Rattle.s390x_inst.specs.declared.state.IsaFlags.{IsaFlags}
+use Rattle.s390x_typed_steps.specs.Baseline.{tree_for}
+use Rattle.s390x_typed_steps.proofs.Trees.{joined}
+use Rattle.s390x_emit_int.specs.Members.{member_of, members_of, block_members_of}
+use Rattle.s390x_emit_int.proofs.Members.{members_behind, block_members_behind}
 use Rattle.s390x_emit_int.specs.Fragments.{StartStep, Draw, Bind, apply, apply_all}
-use Rattle.s390x_emit_int.specs.Emission.{branch, body_fragments, leaf_fragments, fragments, own_fragments, back_fragments}
+use Rattle.s390x_emit_int.specs.Emission.{branch, body_fragments, fragments, own_fragments, back_fragments}
 use Rattle.s390x_typed_steps.specs.Ranges.{AllInRange}
 use Rattle.s390x_emit_int.specs.Room.{HasRoom}
 use Rattle.s390x_emit_int.proofs.Runs.{Grows, run-append, opened, opened_labels, body_run, tree_grows}
@@ -42,34 +46,33 @@ fragments_joined (loop_node mask members t) u n after =
     ∙ ap (λ k. (inner ++ (back ++ fragments next after t)) ++ fragments k after u) e
     )
 
--- the fragments of what an instruction becomes begin with a step's offset
-own_first : (state : Emission) (i : Inst) (n after : ℕ) → fragments n after (prepend state i empty) ≡ StartStep ∷ own_fragments n after (prepend state i empty)
-own_first state (Loop' mask body all) n after =
-    let inner = fragments (n + 2) (n + 1) (row_tree (without_map state) all) in
+-- the fragments begin with a step's offset, and go on with the tree's own
+abbrev pub Begins : Tree → Type 0
+Begins own = (n after : ℕ) → fragments n after own ≡ StartStep ∷ own_fragments n after own
+
+-- so do those of what an instruction becomes
+pub member_begins : (flags : IsaFlags) (state : Emission) (i : Inst) → Begins (member_of flags state i)
+member_begins flags state (Loop' mask body all) n after =
+    let inner = fragments (n + 2) (n + 1) (tree_for flags (row_tree (without_map state) all)) in
     ap (λ l. StartStep ∷ Draw ∷ Draw ∷ Bind n ∷ (inner ++ l)) (append-nil (back_fragments n mask))
-own_first state i n after = refl
+member_begins flags state i n after = refl
 
 -- a member's fragments come before those of the others
-pub prepend_run : (state : Emission) (i : Inst) (rest : Tree) (s : BufferState) (n after : ℕ) → apply_all s (fragments n after (prepend state i rest)) ≡ apply_all (apply_all (apply s StartStep) (own_fragments n after (prepend state i empty))) (fragments (n + fresh_labels (prepend state i empty)) after rest)
-prepend_run state i rest s n after =
-    let own = prepend state i empty in
+pub joined_run : (own rest : Tree) (s : BufferState) (n after : ℕ) → Begins own → apply_all s (fragments n after (joined own rest)) ≡ apply_all (apply_all (apply s StartStep) (own_fragments n after own)) (fragments (n + fresh_labels own) after rest)
+joined_run own rest s n after begins =
     let later = fragments (n + fresh_labels own) after rest in
-    ap (λ t. apply_all s (fragments n after t)) (prepend_joined state i rest)
-    ∙ ap (apply_all s) (fragments_joined own rest n after)
-    ∙ ap (λ l. apply_all s (l ++ later)) (own_first state i n after)
+    ap (apply_all s) (fragments_joined own rest n after)
+    ∙ ap (λ l. apply_all s (l ++ later)) (begins n after)
     ∙ run-append (apply s StartStep) (own_fragments n after own) later
+
+-- alone
+pub own_run : (own : Tree) (s : BufferState) (n after : ℕ) → Begins own → apply_all s (fragments n after own) ≡ apply_all (apply s StartStep) (own_fragments n after own)
+own_run own s n after begins = ap (apply_all s) (begins n after)
 
 ranges_joined : (t u : Tree) → AllInRange t → AllInRange u → AllInRange (joined t u)
 ranges_joined empty u f r = r
 ranges_joined (leaf b t) u f r = (f.0, ranges_joined t u f.1 r)
 ranges_joined (loop_node mask members t) u f r = (f.0, f.1, ranges_joined t u f.2 r)
-
-pub prepend_ranges : (state : Emission) (i : Inst) (rest : Tree) → AllInRange (prepend state i empty) → AllInRange rest → AllInRange (prepend state i rest)
-prepend_ranges state i rest f r = subst AllInRange (sym (prepend_joined state i rest)) (ranges_joined (prepend state i empty) rest f r)
-
--- the fragments of a leaf alone
-pub leaf_own : (i : Inst) (s : BufferState) (n after : ℕ) → apply_all s (leaf_fragments n after i) ≡ apply_all s (own_fragments n after (leaf (Whole i) empty))
-leaf_own i s n after = ap (apply_all s) (sym (append-nil (leaf_fragments n after i)))
 
 -- ---- members in order
 
@@ -83,43 +86,43 @@ safepoint_after state (Call link info) = refl
 safepoint_after state i = refl
 
 -- one more member, before the rest
-pub more_of : (now : Emission) (i : Inst) (whole rest : Tree) (s s1 s2 r : BufferState) (after : ℕ) → whole ≡ prepend now i rest
-    → s1 ≡ apply s StartStep → s2 ≡ apply_all s1 (own_fragments (length s1.labels) after (prepend now i empty))
+pub more_of : (own whole rest : Tree) (s s1 s2 r : BufferState) (after : ℕ) → Begins own → whole ≡ joined own rest
+    → s1 ≡ apply s StartStep → s2 ≡ apply_all s1 (own_fragments (length s1.labels) after own)
     → apply_all s (fragments (length s.labels) after whole) ≡ r
     → apply_all s2 (fragments (length s2.labels) after rest) ≡ r
-more_of now i whole rest s s1 s2 r after is e1 e2 h =
+more_of own whole rest s s1 s2 r after begins is e1 e2 h =
     let n = length s.labels in
-    let own = prepend now i empty in
     let e2' : s2 ≡ apply_all (apply s StartStep) (own_fragments n after own) = e2 ∙ ap (λ x. apply_all x (own_fragments (length x.labels) after own)) e1 in
-    let alone : s2 ≡ apply_all s (fragments n after own) = e2' ∙ sym (prepend_run now i empty s n after) in
+    let alone : s2 ≡ apply_all s (fragments n after own) = e2' ∙ sym (own_run own s n after begins) in
     let len : length s2.labels ≡ n + fresh_labels own = ap (λ x. length x.labels) alone ∙ (tree_grows own s n after refl).labels in
     ap (λ m. apply_all s2 (fragments m after rest)) len
     ∙ ap (λ x. apply_all x (fragments (n + fresh_labels own) after rest)) e2'
-    ∙ sym (prepend_run now i rest s n after)
+    ∙ sym (joined_run own rest s n after begins)
     ∙ ap (λ t. apply_all s (fragments n after t)) (sym is)
     ∙ h
 
 -- in a loop
-pub more : (state : Emission) (is : List Inst) (k : ℕ) (i : Inst) (s s1 s2 r : BufferState) (after : ℕ) → k < length is → i ≡ get_or is k i
-    → s1 ≡ apply s StartStep → s2 ≡ apply_all s1 (own_fragments (length s1.labels) after (prepend state i empty))
-    → apply_all s (fragments (length s.labels) after (tree state (drop k is))) ≡ r
-    → apply_all s2 (fragments (length s2.labels) after (tree (state_after state i) (drop (k + 1) is))) ≡ r
-more state is k i s s1 s2 r after lt at = more_of state i (tree state (drop k is)) (tree (state_after state i) (drop (k + 1) is)) s s1 s2 r after (behind state is k i lt at)
+pub more : (flags : IsaFlags) (state : Emission) (is : List Inst) (k : ℕ) (i : Inst) (s s1 s2 r : BufferState) (after : ℕ) → k < length is → i ≡ get_or is k i
+    → s1 ≡ apply s StartStep → s2 ≡ apply_all s1 (own_fragments (length s1.labels) after (member_of flags state i))
+    → apply_all s (fragments (length s.labels) after (members_of flags state (drop k is))) ≡ r
+    → apply_all s2 (fragments (length s2.labels) after (members_of flags (state_after state i) (drop (k + 1) is))) ≡ r
+more flags state is k i s s1 s2 r after lt at =
+    more_of (member_of flags state i) (members_of flags state (drop k is)) (members_of flags (state_after state i) (drop (k + 1) is)) s s1 s2 r after (member_begins flags state i) (members_behind flags state is k i lt at)
 
 -- in a block
-pub more_in_block : (state : Emission) (is : List Inst) (k : ℕ) (i : Inst) (s s1 s2 r : BufferState) (after : ℕ) → k < length is → i ≡ get_or is k i
-    → s1 ≡ apply s StartStep → s2 ≡ apply_all s1 (own_fragments (length s1.labels) after (prepend (safepoint state i) i empty))
-    → apply_all s (fragments (length s.labels) after (block_tree state (drop k is))) ≡ r
-    → apply_all s2 (fragments (length s2.labels) after (block_tree (state_after state i) (drop (k + 1) is))) ≡ r
-more_in_block state is k i s s1 s2 r after lt at =
-    more_of (safepoint state i) i (block_tree state (drop k is)) (block_tree (state_after state i) (drop (k + 1) is)) s s1 s2 r after (block_behind state is k i lt at)
+pub more_in_block : (flags : IsaFlags) (state : Emission) (is : List Inst) (k : ℕ) (i : Inst) (s s1 s2 r : BufferState) (after : ℕ) → k < length is → i ≡ get_or is k i
+    → s1 ≡ apply s StartStep → s2 ≡ apply_all s1 (own_fragments (length s1.labels) after (member_of flags (safepoint state i) i))
+    → apply_all s (fragments (length s.labels) after (block_members_of flags state (drop k is))) ≡ r
+    → apply_all s2 (fragments (length s2.labels) after (block_members_of flags (state_after state i) (drop (k + 1) is))) ≡ r
+more_in_block flags state is k i s s1 s2 r after lt at =
+    more_of (member_of flags (safepoint state i) i) (block_members_of flags state (drop k is)) (block_members_of flags (state_after state i) (drop (k + 1) is)) s s1 s2 r after (member_begins flags (safepoint state i) i) (block_members_behind flags state is k i lt at)
 
 -- and its numbers are in range
-pub more_ranges : (state : Emission) (is : List Inst) (k : ℕ) (i : Inst) → k < length is → i ≡ get_or is k i → AllInRange (prepend state i empty) → AllInRange (tree (state_after state i) (drop (k + 1) is)) → AllInRange (tree state (drop k is))
-more_ranges state is k i lt at f rest = subst AllInRange (sym (behind state is k i lt at)) (prepend_ranges state i (tree (state_after state i) (drop (k + 1) is)) f rest)
+pub more_ranges : (flags : IsaFlags) (state : Emission) (is : List Inst) (k : ℕ) (i : Inst) → k < length is → i ≡ get_or is k i → AllInRange (member_of flags state i) → AllInRange (members_of flags (state_after state i) (drop (k + 1) is)) → AllInRange (members_of flags state (drop k is))
+more_ranges flags state is k i lt at f rest = subst AllInRange (sym (members_behind flags state is k i lt at)) (ranges_joined (member_of flags state i) (members_of flags (state_after state i) (drop (k + 1) is)) f rest)
 
-pub ranges_in_block : (state : Emission) (is : List Inst) (k : ℕ) (i : Inst) → k < length is → i ≡ get_or is k i → AllInRange (prepend (safepoint state i) i empty) → AllInRange (block_tree (state_after state i) (drop (k + 1) is)) → AllInRange (block_tree state (drop k is))
-ranges_in_block state is k i lt at f rest = subst AllInRange (sym (block_behind state is k i lt at)) (prepend_ranges (safepoint state i) i (block_tree (state_after state i) (drop (k + 1) is)) f rest)
+pub ranges_in_block : (flags : IsaFlags) (state : Emission) (is : List Inst) (k : ℕ) (i : Inst) → k < length is → i ≡ get_or is k i → AllInRange (member_of flags (safepoint state i) i) → AllInRange (block_members_of flags (state_after state i) (drop (k + 1) is)) → AllInRange (block_members_of flags state (drop k is))
+ranges_in_block flags state is k i lt at f rest = subst AllInRange (sym (block_members_behind flags state is k i lt at)) (ranges_joined (member_of flags (safepoint state i) i) (block_members_of flags (state_after state i) (drop (k + 1) is)) f rest)
 
 opened_end : (s : BufferState) → get_or (opened s).labels (length s.labels + 1) None ≡ None
 opened_end s =
@@ -155,11 +158,12 @@ loop_states s sa sb so sc sd se start end mask members est ea een eb eo ec ed ee
     }
 
 -- after a member there is room
-pub more_room : (state : Emission) (i : Inst) (s s1 s2 : BufferState) (after : ℕ) → HasRoom s → s1 ≡ apply s StartStep → s2 ≡ apply_all s1 (own_fragments (length s1.labels) after (prepend state i empty)) → HasRoom s2
-more_room state i s s1 s2 after room e1 e2 =
+pub more_room : (flags : IsaFlags) (state : Emission) (i : Inst) (s s1 s2 : BufferState) (after : ℕ) → HasRoom s → s1 ≡ apply s StartStep → s2 ≡ apply_all s1 (own_fragments (length s1.labels) after (member_of flags state i)) → HasRoom s2
+more_room flags state i s s1 s2 after room e1 e2 =
     let n = length s.labels in
-    let e2' : s2 ≡ apply_all (apply s StartStep) (own_fragments n after (prepend state i empty)) = e2 ∙ ap (λ x. apply_all x (own_fragments (length x.labels) after (prepend state i empty))) e1 in
-    let single_instruction : s2 ≡ apply_all s (fragments n after (prepend state i empty)) = e2' ∙ sym (prepend_run state i empty s n after) in
-    let g : Grows s (apply_all s (fragments n after (prepend state i empty))) _ _ = tree_grows (prepend state i empty) s n after refl in
-    let same : Same s (apply_all s (fragments n after (prepend state i empty))) = same_run (fragments n after (prepend state i empty)) s in
-    subst HasRoom (sym single_instruction) (omega (arith, g.labels, same.block_count, ap length same.constants))
+    let own = member_of flags state i in
+    let e2' : s2 ≡ apply_all (apply s StartStep) (own_fragments n after own) = e2 ∙ ap (λ x. apply_all x (own_fragments (length x.labels) after own)) e1 in
+    let alone : s2 ≡ apply_all s (fragments n after own) = e2' ∙ sym (own_run own s n after (member_begins flags state i)) in
+    let g : Grows s (apply_all s (fragments n after own)) _ _ = tree_grows own s n after refl in
+    let same : Same s (apply_all s (fragments n after own)) = same_run (fragments n after own) s in
+    subst HasRoom (sym alone) (omega (arith, g.labels, same.block_count, ap length same.constants))

@@ -11,7 +11,7 @@ use Rattle.s390x_inst.specs.declared.vec_inst.VecInst.TheVariants.{VecMov, VecLo
 use Rattle.s390x_typed_steps.specs.Memory.{MemoryInstruction, StorageForm, access_vector, access_elements, access_lane, reversed_code, is_left_lane, load_left, store_left, load_lane_opcode, store_lane_opcode, load_reversed_opcode, store_reversed_opcode, vector_memory}
 use Rattle.s390x_typed_steps.specs.Operands.{resolved}
 use Rattle.s390x_typed_steps.specs.Resolved.{resolved_vector}
-use Rattle.s390x_typed_steps.specs.SingleInstruction.{SingleInstruction, single_with}
+use Rattle.s390x_typed_steps.specs.SingleInstruction.{single_with}
 use Rattle.s390x_typed_steps.specs.VectorComposite.{composite_cause, composite_rows}
 use Rattle.s390x_typed_steps.specs.VectorInstruction.{element_code, is_lane, is_vector, reuses_vector, vector_operands_valid, vector_row, vector_stop}
 use Rattle.s390x_address.specs.Rows.{in_state}

@@ -1,6 +1,6 @@
 -- The theorem about linked code isn't empty: functions, their finished code, a base, symbols and a machine that meet its premises.
 use Rattle.std.specs.Prelude.{◌≡◌, List, [], Some, None, slice_get}
-use Rattle.s390x_inst.specs.State.{base_facilities}
+use Rattle.s390x_inst.specs.declared.state.IsaFlags.{IsaFlags}
 use Rattle.s390x_buffer.specs.State.{Constant}
 use Rattle.s390x_buffer.specs.declared.entries.MachBufferFinalized.{MachBufferFinalized}
 use Rattle.s390x_image.specs.Causes.{link_cause}
@@ -19,11 +19,11 @@ use Rattle.s390x_emit_int.specs.CallExample as Call
 use Rattle.s390x_emit_int.specs.Function.{checked_cause, IsFinishedCode}
 use Rattle.s390x_emit_int.specs.Headline.{linked, linked_image}
 
--- The function has no cause on a machine of the base, this is its finished code, and linking has no cause; the linked code lies in memory, and this is a run of the machine from the
+-- The function has no cause on any machine, this is its finished code, and linking has no cause; the linked code lies in memory, and this is a run of the machine from the
 -- first block.
 pub record LinkedRun (symbols : Symbols) (ts : List Tree) (cs : List Constant) (c : Core) (trace : List Transition) : Type 0 where
   pub code : MachBufferFinalized
-  pub checked : checked_cause base_facilities ts cs ≡ None
+  pub checked : (flags : IsaFlags) → checked_cause flags ts cs ≡ None
   pub masks : BlocksInRange ts
   pub finished : IsFinishedCode (folded_trees ts) cs code
   pub links : link_cause code 4096 symbols ≡ None

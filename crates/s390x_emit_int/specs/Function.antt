@@ -11,7 +11,7 @@ use Rattle.s390x_buffer.specs.State.{Constant, constant_of, new_cause, limit}
 use Rattle.s390x_buffer.specs.Constants.{constant_starts, constant_bytes, constants_end, greatest_align}
 use Rattle.s390x_buffer.specs.Finish.{entry_of}
 use Rattle.s390x_buffer.specs.declared.entries.MachBufferFinalized.{MachBufferFinalized}
-use Rattle.s390x_typed_steps.specs.Tree.{Tree, block_tree}
+use Rattle.s390x_typed_steps.specs.Tree.{Tree}
 use Rattle.s390x_typed_steps.specs.Steps.{function_steps}
 use Rattle.s390x_typed_steps.specs.Image.{step_offset, unlinked, function_code, step_offsets, block_offsets}
 use Rattle.s390x_typed_steps.specs.Traps.{function_traps}
@@ -20,18 +20,19 @@ use Rattle.s390x_typed_steps.specs.Sites.{function_sites, call_offsets, patches,
 use Rattle.s390x_typed_steps.specs.Folding.{folded_trees, peak}
 use Rattle.s390x_typed_steps.specs.Sizes.{blocks_size}
 use Rattle.s390x_typed_steps.specs.Causes.{first_emit_cause, unless, declared_of, blocks_cause}
+use Rattle.s390x_emit_int.specs.Members.{block_members_of}
 
--- a block as a tree, from a state of emission on: each of its calls is a safepoint
-abbrev pub tree_of : Emission → Block → Tree
-tree_of e b = block_tree e b.insts.items
+-- a block as a tree, on a machine by its flags and from a state of emission on: each of its calls is a safepoint
+abbrev pub tree_of : IsaFlags → Emission → Block → Tree
+tree_of flags e b = block_members_of flags e b.insts.items
 
 -- the blocks of a function as trees
-abbrev pub trees_of : Emission → AllocatedFunction → List Tree
-trees_of e f = map (tree_of e) f.blocks.items
+abbrev pub trees_of : IsaFlags → Emission → AllocatedFunction → List Tree
+trees_of flags e f = map (tree_of flags e) f.blocks.items
 
 -- the same as their ends leave them
-abbrev pub folded_trees_of : Emission → AllocatedFunction → List Tree
-folded_trees_of e f = folded_trees (trees_of e f)
+abbrev pub folded_trees_of : IsaFlags → Emission → AllocatedFunction → List Tree
+folded_trees_of flags e f = folded_trees (trees_of flags e f)
 
 -- a block's number is that of its label
 abbrev pub number_of_next : Option MachLabel → Option ℕ

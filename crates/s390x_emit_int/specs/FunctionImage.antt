@@ -18,20 +18,20 @@ use Rattle.s390x_emit_int.specs.declared.image.ImageError.TheVariants.{Refused, 
 -- that fetches them there does only what the function's instructions allow
 pub record IsImageOf (flags : IsaFlags) (state : Emission) (f : AllocatedFunction) (base : ℕ) (symbols : Symbols) (bytes : List ℕ) : Type 0 where
   pub code : MachBufferFinalized
-  pub valid : function_cause flags (trees_of state f) (constants_of f) state ≡ None
-  pub finished : IsFinishedCode (folded_trees_of state f) (constants_of f) code
+  pub valid : function_cause flags (trees_of flags state f) (constants_of f) state ≡ None
+  pub finished : IsFinishedCode (folded_trees_of flags state f) (constants_of f) code
   pub linked : link_cause code base symbols ≡ None
   pub is : bytes ≡ (linked_image code base symbols).bytes
-  pub runs : RunsAsTyped symbols (folded_trees_of state f) (constants_of f) (record { base = base; bytes = bytes })
+  pub runs : RunsAsTyped symbols (folded_trees_of flags state f) (constants_of f) (record { base = base; bytes = bytes })
 
 -- emission has no cause to refuse the function, and linking refuses its code by this cause
 pub record IsLinkRefused (flags : IsaFlags) (state : Emission) (f : AllocatedFunction) (base : ℕ) (symbols : Symbols) (error : LinkError) : Type 0 where
   pub code : MachBufferFinalized
-  pub valid : function_cause flags (trees_of state f) (constants_of f) state ≡ None
-  pub finished : IsFinishedCode (folded_trees_of state f) (constants_of f) code
+  pub valid : function_cause flags (trees_of flags state f) (constants_of f) state ≡ None
+  pub finished : IsFinishedCode (folded_trees_of flags state f) (constants_of f) code
   pub cause : link_cause code base symbols ≡ Some error
 
 -- the first cause by which the function has no image, or want of memory
 abbrev pub HasNoImage : IsaFlags → Emission → AllocatedFunction → (base : ℕ) → Symbols → ImageError → Type 0
-HasNoImage flags state f base symbols (Refused error) = (error ≡ NoMemory) ⊎ (function_cause flags (trees_of state f) (constants_of f) state ≡ Some error)
+HasNoImage flags state f base symbols (Refused error) = (error ≡ NoMemory) ⊎ (function_cause flags (trees_of flags state f) (constants_of f) state ≡ Some error)
 HasNoImage flags state f base symbols (Link error) = (error ≡ link.NoMemory) ⊎ IsLinkRefused flags state f base symbols error

@@ -1,7 +1,7 @@
 //! Why an instruction is refused.
 ghost use Rattle.std.specs.Prelude.{◌≡◌, ◌≤◌, ◌&&◌, length, not, None, Some};
 ghost use Rattle.s390x_base.specs.declared.error.EmitError.TheVariants.{BadOperator, BadRegister, UnboundLabel};
-ghost use Rattle.s390x_typed_steps.specs.Causes.{accesses_relative, first_emit_cause, unless, declared_in, target_label_cause, labels_cause, cause_or, memory_cause_or, branch_cause, relative_cause, facility_cause, instruction_cause, instruction_fresh_labels, numbers_cause, stack_cause, table_cause};
+ghost use Rattle.s390x_typed_steps.specs.Causes.{first_emit_cause, unless, declared_in, target_label_cause, labels_cause, cause_or, memory_cause_or, branch_cause, facility_cause, instruction_cause, instruction_fresh_labels, numbers_cause, stack_cause, table_cause};
 ghost use Rattle.s390x_typed_steps.specs.Memory.{memory};
 ghost use Rattle.s390x_typed_steps.specs.Resolved.{resolved_instruction};
 ghost use Rattle.s390x_typed_steps.specs.SingleCode.{code_where};
@@ -190,36 +190,14 @@ fn later_cause(state: &EmitState, sink: &MachBuffer, depth: u32, inst: &Inst) ->
     }
 }
 
-// An access of an operand relative to the instruction.
-fn access_cause(inst: &Inst) -> Option<EmitError>
-    ensures { result ≡ unless (not (accesses_relative (memory inst.now))) BadOperator }
-{
-    match find_memory(inst) {
-        Some(found) => cause_unless(!found.accesses_relative(), EmitError::BadOperator),
-        None => None,
-    }
-}
-
-// An access of an operand relative to the instruction, on a machine that has no rows for it.
-fn relative_cause(flags: IsaFlags, inst: &Inst) -> Option<EmitError>
-    ensures { result ≡ relative_cause flags inst.now }
-{
-    if flags.no_relative_memory {
-        access_cause(inst)
-    } else {
-        None
-    }
-}
-
-// The machine, by its flags, lacks what the instruction needs.
-fn facility_cause(flags: IsaFlags, inst: &Inst) -> Option<EmitError>
+/// The machine, by its flags, lacks the facility that the instruction needs.
+pub fn facility_cause(flags: IsaFlags, inst: &Inst) -> Option<EmitError>
     ensures { result ≡ facility_cause flags inst.now }
 {
-    if flags.has(inst.available_in_isa()) {
-        relative_cause(flags, inst)
-    } else {
-        Some(EmitError::MissingFacility)
-    }
+    cause_unless(
+        flags.has(inst.available_in_isa()),
+        EmitError::MissingFacility,
+    )
 }
 
 // Why the labels that an instruction draws have no numbers.

@@ -8,19 +8,20 @@ ghost use Rattle.s390x_typed_steps.specs.Memory.{memory};
 ghost use Rattle.s390x_typed_steps.specs.Resolved.{resolved_instruction};
 ghost use Rattle.s390x_typed_steps.specs.SingleCode.{code_where};
 ghost use Rattle.s390x_typed_steps.specs.SingleInstruction.{SingleInstruction};
-ghost use Rattle.s390x_typed_steps.specs.Tree.{block_tree, empty, prepend, tree};
 ghost use Rattle.s390x_typed_steps.specs.Calls.{without_map};
 ghost use Rattle.s390x_typed_steps.specs.Sizes.{instruction_size, tree_size};
 ghost use Rattle.s390x_typed_steps.specs.Causes.{Declared, first_emit_cause, declared_in, fresh_labels, nesting_cause, numbers_cause, memory_cause_or, instruction_cause, tree_cause, block_cause, nominal_behind, instruction_fresh_labels, leaf_cause};
 ghost use Rattle.s390x_typed_steps.specs.Ranges.{InRange, AllInRange, IsConditionMask};
 ghost use Rattle.s390x_emit_int.specs.Emission.{branch_size, memory_size_or};
 ghost use Rattle.s390x_emit_int.specs.Function.{tree_of};
+ghost use Rattle.s390x_emit_int.specs.Members.{member_of, members_of, block_members_of};
 ghost use Rattle.s390x_emit_int.specs.Sequence.{ChecksTree};
 ghost use Rattle.s390x_emit_int.specs.Totals.{IsCounted, Adds, code_limit};
 
 use crate::causes::instruction_cause;
 use crate::check_calls::{check_call, check_tail_call};
 use crate::composite::composite_size;
+use crate::loaded::check_on_machine;
 use crate::memory::find_memory;
 use crate::single_instruction::find_single_instruction;
 use crate::stack::{advance, end_cause, mark_safepoint};
@@ -127,8 +128,8 @@ pub fn add_bytes(t: Totals, bytes: u64) -> Totals
     }
 }
 
-// So many more labels and bytes.
-fn add(t: Totals, labels: u64, bytes: u64) -> Result<Totals, EmitError>
+/// So many more labels and bytes.
+pub fn add(t: Totals, labels: u64, bytes: u64) -> Result<Totals, EmitError>
     requires counted { IsCounted t }
     requires few { labels ≤ 2 }
     requires short { bytes ≤ code_limit }
@@ -144,7 +145,8 @@ fn add(t: Totals, labels: u64, bytes: u64) -> Result<Totals, EmitError>
     Ok(add_bytes(drawn, bytes))
 }
 
-/// The first cause of an instruction that is neither a `Loop` nor a call, or what it adds.
+/// The first cause of an instruction that is neither a `Loop` nor a call, by its own rows, or what it adds. The machine has to have these rows:
+/// `check_on_machine` asks.
 pub fn check_leaf(
     flags: IsaFlags,
     state: &EmitState,
@@ -187,7 +189,7 @@ pub fn check_members(
     insts: &[Inst],
 ) -> Result<Totals, EmitError>
     requires { IsCounted t }
-    ensures { let members = tree state.old insts.now in let cause = tree_cause flags (declared_in sink.now) t.labels state.old.nominal depth members in MatchResult result (λ r. (cause ≡ None) × Adds t r (fresh_labels members) (tree_size members) × (state.new.nominal ≡ nominal_behind state.old.nominal members)) (λ e. (e ≡ NoMemory) ⊎ (cause ≡ Some e)) }
+    ensures { let members = members_of flags state.old insts.now in let cause = tree_cause flags (declared_in sink.now) t.labels state.old.nominal depth members in MatchResult result (λ r. (cause ≡ None) × Adds t r (fresh_labels members) (tree_size members) × (state.new.nominal ≡ nominal_behind state.old.nominal members)) (λ e. (e ≡ NoMemory) ⊎ (cause ≡ Some e)) }
 {
     let mut sum = t;
     for inst in insts {
@@ -209,13 +211,13 @@ pub fn check_inst(
     inst: &Inst,
 ) -> Result<Totals, EmitError>
     requires { IsCounted t }
-    ensures { ChecksTree flags (declared_in sink.now) t depth state.now.nominal (prepend state.now inst.now empty) result }
+    ensures { ChecksTree flags (declared_in sink.now) t depth state.now.nominal (member_of flags state.now inst.now) result }
 {
     match inst {
         Inst::Loop { body, .. } => check_loop(alloc, flags, state, sink, t, depth, body),
         Inst::Call { link, info } => check_call(flags, state, sink, t, depth, link.to_reg(), info),
         Inst::ReturnCall { info } => check_tail_call(alloc, flags, state, sink, t, depth, info),
-        _ => check_leaf(flags, state, sink, t, depth, inst),
+        _ => check_on_machine(flags, state, sink, t, depth, inst),
     }
 }
 
@@ -230,7 +232,7 @@ fn check_loop(
     body: &[Inst],
 ) -> Result<Totals, EmitError>
     requires { IsCounted t }
-    ensures { let members = tree (without_map state.now) body.now in
+    ensures { let members = members_of flags (without_map state.now) body.now in
         let cause = first_emit_cause (first_emit_cause (nesting_cause depth) (numbers_cause t.labels 2)) (tree_cause flags (declared_in sink.now) (t.labels + 2) state.now.nominal (depth + 1) members) in
         MatchResult result (λ r. (cause ≡ None) × Adds t r (2 + fresh_labels members) (tree_size members + 6)) (λ e. (e ≡ NoMemory) ⊎ (cause ≡ Some e)) }
 {
@@ -251,7 +253,7 @@ fn check_block_members(
     insts: &[Inst],
 ) -> Result<Totals, EmitError>
     requires { IsCounted t }
-    ensures { let members = block_tree state.old insts.now in let cause = tree_cause flags (declared_in sink.now) t.labels state.old.nominal 0 members in MatchResult result (λ r. (cause ≡ None) × Adds t r (fresh_labels members) (tree_size members) × (state.new.nominal ≡ nominal_behind state.old.nominal members)) (λ e. (e ≡ NoMemory) ⊎ (cause ≡ Some e)) }
+    ensures { let members = block_members_of flags state.old insts.now in let cause = tree_cause flags (declared_in sink.now) t.labels state.old.nominal 0 members in MatchResult result (λ r. (cause ≡ None) × Adds t r (fresh_labels members) (tree_size members) × (state.new.nominal ≡ nominal_behind state.old.nominal members)) (λ e. (e ≡ NoMemory) ⊎ (cause ≡ Some e)) }
 {
     let mut sum = t;
     for inst in insts {
@@ -273,7 +275,7 @@ pub fn check_block(
 ) -> Result<Totals, EmitError>
     requires counted { IsCounted t }
     requires start { state.now.nominal ≡ 0 }
-    ensures { MatchResult result (λ r. (block_cause flags (declared_in sink.now) t.labels (tree_of state.now block.now) ≡ None) × Adds t r (fresh_labels (tree_of state.now block.now)) (tree_size (tree_of state.now block.now))) (λ e. (e ≡ NoMemory) ⊎ (block_cause flags (declared_in sink.now) t.labels (tree_of state.now block.now) ≡ Some e)) }
+    ensures { MatchResult result (λ r. (block_cause flags (declared_in sink.now) t.labels (tree_of flags state.now block.now) ≡ None) × Adds t r (fresh_labels (tree_of flags state.now block.now)) (tree_size (tree_of flags state.now block.now))) (λ e. (e ≡ NoMemory) ⊎ (block_cause flags (declared_in sink.now) t.labels (tree_of flags state.now block.now) ≡ Some e)) }
 {
     let mut behind = *state;
     let sum = check_block_members(alloc, flags, &mut behind, sink, t, &block.insts)?;

@@ -10,7 +10,7 @@ ghost use Rattle.s390x_buffer.specs.State.{BufferState, FailsWith, poisoned, put
 ghost use Rattle.s390x_typed_steps.specs.Causes.{first_emit_cause, unless, declared_in, tree_cause};
 ghost use Rattle.s390x_typed_steps.specs.Sizes.{tree_size};
 ghost use Rattle.s390x_emit_int.specs.Totals.{IsCounted};
-ghost use Rattle.s390x_typed_steps.specs.Tree.{empty, prepend};
+ghost use Rattle.s390x_emit_int.specs.Members.{member_of};
 ghost use Rattle.s390x_emit_int.specs.Emission.{own_fragments};
 ghost use Rattle.s390x_emit_int.specs.Instruction.{emit_cause, is_short};
 ghost use Rattle.s390x_emit_int.specs.Fragments.{Put, PutTrapping, apply, apply_all};
@@ -99,8 +99,8 @@ fn refusal(
     error: EmitError,
 ) -> EmitError
     requires counted { IsCounted used }
-    requires lacks { let step = prepend state.now inst.now empty in first_emit_cause (tree_cause flags (declared_in sink.now) used.labels state.now.nominal 0 step) (unless (nat_lt (used.bytes + tree_size step) limit) LabelOutOfRange) ≡ None → error ≡ NoMemory }
-    ensures { let step = prepend state.now inst.now empty in (result ≡ NoMemory) ⊎ (first_emit_cause (tree_cause flags (declared_in sink.now) used.labels state.now.nominal 0 step) (unless (nat_lt (used.bytes + tree_size step) limit) LabelOutOfRange) ≡ Some result) }
+    requires lacks { let step = member_of flags state.now inst.now in first_emit_cause (tree_cause flags (declared_in sink.now) used.labels state.now.nominal 0 step) (unless (nat_lt (used.bytes + tree_size step) limit) LabelOutOfRange) ≡ None → error ≡ NoMemory }
+    ensures { let step = member_of flags state.now inst.now in (result ≡ NoMemory) ⊎ (first_emit_cause (tree_cause flags (declared_in sink.now) used.labels state.now.nominal 0 step) (unless (nat_lt (used.bytes + tree_size step) limit) LabelOutOfRange) ≡ Some result) }
 {
     match check_inst(alloc, flags, state, sink, used, 0, inst) {
         Ok(sum) if sum.bytes < LIMIT => error,
@@ -118,9 +118,9 @@ fn emit_and_advance(
     inst: &Inst,
 ) -> Result<CodeOffset, EmitError>
     requires { HasRoom sink.old }
-    ensures answer { MatchResult result (λ n. (sink.new ≡ apply_all sink.old (own_fragments (length sink.old.labels) 0 (prepend state.old inst.now empty))) × (state.new ≡ state_after state.old inst.now) × (n ≡ length sink.new.bytes) × (n < limit)) (λ _. state.new ≡ state.old) }
-    ensures cause { OnOk result (tree_cause flags (declared_in sink.old) (length sink.old.labels) state.old.nominal 0 (prepend state.old inst.now empty) ≡ None) }
-    ensures lacks { TreePassed flags sink.old 0 state.old.nominal 0 (prepend state.old inst.now empty) → LacksMemory result }
+    ensures answer { MatchResult result (λ n. (sink.new ≡ apply_all sink.old (own_fragments (length sink.old.labels) 0 (member_of flags state.old inst.now))) × (state.new ≡ state_after state.old inst.now) × (n ≡ length sink.new.bytes) × (n < limit)) (λ _. state.new ≡ state.old) }
+    ensures cause { OnOk result (tree_cause flags (declared_in sink.old) (length sink.old.labels) state.old.nominal 0 (member_of flags state.old inst.now) ≡ None) }
+    ensures lacks { TreePassed flags sink.old 0 state.old.nominal 0 (member_of flags state.old inst.now) → LacksMemory result }
     ensures kept { Extends sink.old sink.new }
 {
     emit_inst(alloc, flags, sink, state, 0, inst, MachLabel(0))?;
@@ -137,7 +137,7 @@ fn emit_in(
     inst: &Inst,
 ) -> Result<(), EmitError>
     requires { sink.old.failed ≡ false }
-    ensures answer { let step = prepend state.old inst.now empty in
+    ensures answer { let step = member_of flags state.old inst.now in
         let cause = emit_cause flags state.old.nominal sink.old step in
         MatchResult result (λ _. (cause ≡ None) × (sink.new ≡ apply_all sink.old (own_fragments (length sink.old.labels) 0 step)) × (state.new ≡ state_after state.old inst.now)) (λ e. ((e ≡ NoMemory) ⊎ (cause ≡ Some e)) × (state.new ≡ state.old)) }
     ensures kept { Extends sink.old sink.new }
@@ -157,8 +157,8 @@ pub trait MachInstEmit {
     /// Why it isn't emitted into a buffer, in a state of emission, by a machine with these facilities.
     ghost cause_of: { IsaFlags → Emission → BufferState → Self → Option EmitError };
 
-    /// The buffer behind it.
-    ghost buffer_behind: { Emission → BufferState → Self → BufferState };
+    /// The buffer behind it, on a machine with these facilities.
+    ghost buffer_behind: { IsaFlags → Emission → BufferState → Self → BufferState };
 
     /// The state behind it.
     ghost state_behind: { Emission → Self → Emission };
@@ -173,15 +173,15 @@ pub trait MachInstEmit {
         state: &mut EmitState,
     ) -> Result<(), EmitError>
         ensures answer { let cause = cause_of emit_info.now.isa_flags state.old sink.old self.now in
-            MatchResult result (λ _. (cause ≡ None) × (sink.new ≡ buffer_behind state.old sink.old self.now) × (state.new ≡ state_behind state.old self.now)) (λ e. ((e ≡ NoMemory) ⊎ (cause ≡ Some e)) × IsTrue sink.new.failed × (state.new ≡ state.old)) }
+            MatchResult result (λ _. (cause ≡ None) × (sink.new ≡ buffer_behind emit_info.now.isa_flags state.old sink.old self.now) × (state.new ≡ state_behind state.old self.now)) (λ e. ((e ≡ NoMemory) ⊎ (cause ≡ Some e)) × IsTrue sink.new.failed × (state.new ≡ state.old)) }
         ensures refused { OnErr result (IsTrue sink.new.failed × (state.new ≡ state.old)) }
         ensures kept { Extends sink.old sink.new };
 }
 
 impl MachInstEmit for Inst {
-    ghost cause_of = { λ flags state sink inst. emit_cause flags state.nominal sink (prepend state inst empty) };
+    ghost cause_of = { λ flags state sink inst. emit_cause flags state.nominal sink (member_of flags state inst) };
 
-    ghost buffer_behind = { λ state sink inst. apply_all sink (own_fragments (length sink.labels) 0 (prepend state inst empty)) };
+    ghost buffer_behind = { λ flags state sink inst. apply_all sink (own_fragments (length sink.labels) 0 (member_of flags state inst)) };
 
     ghost state_behind = { λ state inst. record (state_after state inst) { stack_map = None } };
 
@@ -198,7 +198,7 @@ impl MachInstEmit for Inst {
         emit_info: &EmitInfo,
         state: &mut EmitState,
     ) -> Result<(), EmitError>
-        ensures answer { let step = prepend state.old self.now empty in
+        ensures answer { let step = member_of emit_info.now.isa_flags state.old self.now in
             let cause = emit_cause emit_info.now.isa_flags state.old.nominal sink.old step in
             MatchResult result (λ _. (cause ≡ None) × (sink.new ≡ apply_all sink.old (own_fragments (length sink.old.labels) 0 step)) × (state.new ≡ record (state_after state.old self.now) { stack_map = None })) (λ e. ((e ≡ NoMemory) ⊎ (cause ≡ Some e)) × IsTrue sink.new.failed × (state.new ≡ state.old)) }
         ensures refused { OnErr result (IsTrue sink.new.failed × (state.new ≡ state.old)) }
@@ -232,7 +232,7 @@ pub fn emit_vector(
     emit_info: &EmitInfo,
     state: &EmitState,
 ) -> Result<(), EmitError>
-    ensures answer { let step = prepend state.now (Vector inst.now) empty in
+    ensures answer { let step = member_of emit_info.now.isa_flags state.now (Vector inst.now) in
         let cause = emit_cause emit_info.now.isa_flags state.now.nominal sink.old step in
         MatchResult result (λ _. (cause ≡ None) × (sink.new ≡ apply_all sink.old (own_fragments (length sink.old.labels) 0 step))) (λ e. ((e ≡ NoMemory) ⊎ (cause ≡ Some e)) × IsTrue sink.new.failed) }
     ensures refused { OnErr result (IsTrue sink.new.failed) }

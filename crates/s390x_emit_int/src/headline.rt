@@ -14,8 +14,9 @@ ghost use Rattle.s390x_emit_int.specs.Function.{checked_cause, IsFinishedCode};
 ghost use Rattle.s390x_emit_int.specs.Headline.{linked, linked_image, RunsAsTyped};
 ghost use Rattle.s390x_emit_int.specs.Example.{LinkedLoopRuns, LinkedTrapRuns, LinkedCallStands};
 
-/// Where emission finds no cause in the blocks as they are given, and linking none, the linked code at the base is that of the blocks as their ends have folded them: each step's bytes stand at its offset with its entries in
-/// the table of traps and no others, as emission has checked it, and blocks, constants and symbols stand where the layout says.
+/// Where emission finds no cause in the blocks as they are given, and linking none, the linked code at the base is that of the blocks as their ends have folded
+/// them: each step's bytes stand at its offset with its entries in the table of traps and no others, as emission has checked it, and blocks, constants and
+/// symbols stand where the layout says.
 pub fn linked_code_is_placed()
     ensures { (flags : IsaFlags) (ts : List Tree) (cs : List Constant) (f : MachBufferFinalized) (base : ℕ) (symbols : Symbols) → checked_cause flags ts cs ≡ None → BlocksInRange ts → IsFinishedCode (folded_trees ts) cs f → link_cause f base symbols ≡ None → AllCodeAt (function_layout (linked symbols base (folded_trees ts) cs) (folded_trees ts) (linked_image f base symbols)) }
 {}

@@ -277,8 +277,8 @@ fn emit_found(
     }
 }
 
-// Its helpers and its access, where no cause refuses it.
-fn emit_access(
+/// Its helpers and its access, where no cause refuses it.
+pub fn emit_access(
     sink: &mut MachBuffer,
     state: &EmitState,
     found: &MemoryInst,
@@ -354,8 +354,8 @@ fn emit_allowed(
     }
 }
 
-/// Emits an instruction that is no `Loop`, in a state of emission and inside so many loops, where no cause refuses it; `after` is the label behind
-/// the innermost loop. An error may be another one than the first cause.
+/// Emits an instruction that is no `Loop`, by its own rows, in a state of emission and inside so many loops, where no cause refuses it; `after` is the
+/// label behind the innermost loop. An error may be another one than the first cause. The machine has to have these rows: `emit_on_machine` asks.
 pub fn emit_leaf(
     flags: IsaFlags,
     sink: &mut MachBuffer,

@@ -17,6 +17,7 @@ pub mod function;
 pub mod headline;
 pub mod image;
 pub mod leaf;
+pub mod loaded;
 pub mod memory;
 pub mod moves;
 pub mod opcode;

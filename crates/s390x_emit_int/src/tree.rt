@@ -3,17 +3,19 @@
 
 ghost use Rattle.std.specs.Prelude.{◌≡◌, ℕ, ◌+◌, ◌<◌, OnOk, None, length};
 ghost use Rattle.s390x_buffer.specs.Extends.{Extends};
-ghost use Rattle.s390x_typed_steps.specs.Tree.{empty, loop_node, prepend, tree};
+ghost use Rattle.s390x_typed_steps.specs.Tree.{empty, loop_node};
 ghost use Rattle.s390x_typed_steps.specs.Calls.{without_map};
 ghost use Rattle.s390x_typed_steps.specs.Causes.{first_emit_cause, declared_in, nesting_cause, numbers_cause, nominal_behind, tree_cause};
 ghost use Rattle.s390x_emit_int.specs.Fragments.{apply_all};
+ghost use Rattle.s390x_emit_int.specs.Members.{member_of, members_of};
 ghost use Rattle.s390x_emit_int.specs.Emission.{fragments, own_fragments};
 ghost use Rattle.s390x_typed_steps.specs.Ranges.{AllInRange};
 ghost use Rattle.s390x_emit_int.specs.Room.{HasRoom, TreePassed, LacksMemory};
 
 use crate::calls::{emit_call, emit_tail_call};
 use crate::check::{Totals, open_loop};
-use crate::leaf::{emit_leaf, put_branch};
+use crate::leaf::put_branch;
+use crate::loaded::emit_on_machine;
 use crate::stack::advance;
 use s390x_base::{Cond, EmitError, MachLabel};
 use s390x_buffer::MachBuffer;
@@ -45,10 +47,10 @@ pub fn emit_members(
     after: MachLabel,
 ) -> Result<(), EmitError>
     requires { HasRoom sink.old }
-    ensures answer { OnOk result (sink.new ≡ apply_all sink.old (fragments (length sink.old.labels) after.0 (tree state.old insts.now))) }
-    ensures cause { OnOk result ((tree_cause flags (declared_in sink.old) (length sink.old.labels) state.old.nominal depth (tree state.old insts.now) ≡ None) × (state.new.nominal ≡ nominal_behind state.old.nominal (tree state.old insts.now))) }
-    ensures lacks { TreePassed flags sink.old after.0 state.old.nominal depth (tree state.old insts.now) → LacksMemory result }
-    ensures ranges { OnOk result (AllInRange (tree state.old insts.now)) }
+    ensures answer { OnOk result (sink.new ≡ apply_all sink.old (fragments (length sink.old.labels) after.0 (members_of flags state.old insts.now))) }
+    ensures cause { OnOk result ((tree_cause flags (declared_in sink.old) (length sink.old.labels) state.old.nominal depth (members_of flags state.old insts.now) ≡ None) × (state.new.nominal ≡ nominal_behind state.old.nominal (members_of flags state.old insts.now))) }
+    ensures lacks { TreePassed flags sink.old after.0 state.old.nominal depth (members_of flags state.old insts.now) → LacksMemory result }
+    ensures ranges { OnOk result (AllInRange (members_of flags state.old insts.now)) }
     ensures kept { Extends sink.old sink.new }
 {
     for inst in insts {
@@ -71,10 +73,10 @@ pub fn emit_inst(
     after: MachLabel,
 ) -> Result<(), EmitError>
     requires { HasRoom sink.old }
-    ensures answer { OnOk result (sink.new ≡ apply_all sink.old (own_fragments (length sink.old.labels) after.0 (prepend state.now inst.now empty))) }
-    ensures cause { OnOk result (tree_cause flags (declared_in sink.old) (length sink.old.labels) state.now.nominal depth (prepend state.now inst.now empty) ≡ None) }
-    ensures lacks { TreePassed flags sink.old after.0 state.now.nominal depth (prepend state.now inst.now empty) → LacksMemory result }
-    ensures ranges { OnOk result (AllInRange (prepend state.now inst.now empty)) }
+    ensures answer { OnOk result (sink.new ≡ apply_all sink.old (own_fragments (length sink.old.labels) after.0 (member_of flags state.now inst.now))) }
+    ensures cause { OnOk result (tree_cause flags (declared_in sink.old) (length sink.old.labels) state.now.nominal depth (member_of flags state.now inst.now) ≡ None) }
+    ensures lacks { TreePassed flags sink.old after.0 state.now.nominal depth (member_of flags state.now inst.now) → LacksMemory result }
+    ensures ranges { OnOk result (AllInRange (member_of flags state.now inst.now)) }
     ensures kept { Extends sink.old sink.new }
 {
     match inst {
@@ -85,7 +87,7 @@ pub fn emit_inst(
         Inst::ReturnCall { info } => {
             emit_tail_call(alloc, flags, sink, state, depth, info, after)
         }
-        _ => emit_leaf(flags, sink, state, depth, inst, after),
+        _ => emit_on_machine(flags, sink, state, depth, inst, after),
     }
 }
 
@@ -100,10 +102,10 @@ fn emit_loop(
     body: &[Inst],
 ) -> Result<(), EmitError>
     requires { HasRoom sink.old }
-    ensures answer { OnOk result (sink.new ≡ apply_all sink.old (own_fragments (length sink.old.labels) 0 (loop_node cond (tree (without_map state.now) body.now) empty))) }
-    ensures cause { OnOk result (tree_cause flags (declared_in sink.old) (length sink.old.labels) state.now.nominal depth (loop_node cond (tree (without_map state.now) body.now) empty) ≡ None) }
-    ensures lacks { (after : ℕ) → TreePassed flags sink.old after state.now.nominal depth (loop_node cond (tree (without_map state.now) body.now) empty) → LacksMemory result }
-    ensures ranges { OnOk result (AllInRange (loop_node cond (tree (without_map state.now) body.now) empty)) }
+    ensures answer { OnOk result (sink.new ≡ apply_all sink.old (own_fragments (length sink.old.labels) 0 (loop_node cond (members_of flags (without_map state.now) body.now) empty))) }
+    ensures cause { OnOk result (tree_cause flags (declared_in sink.old) (length sink.old.labels) state.now.nominal depth (loop_node cond (members_of flags (without_map state.now) body.now) empty) ≡ None) }
+    ensures lacks { (after : ℕ) → TreePassed flags sink.old after state.now.nominal depth (loop_node cond (members_of flags (without_map state.now) body.now) empty) → LacksMemory result }
+    ensures ranges { OnOk result (AllInRange (loop_node cond (members_of flags (without_map state.now) body.now) empty)) }
     ensures kept { Extends sink.old sink.new }
 {
     if let Some(error) = loop_cause(sink, depth) {

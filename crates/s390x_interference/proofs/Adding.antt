@@ -4,6 +4,8 @@ use Rattle.s390x_base.specs.Registers.{general}
 use Rattle.s390x_base.specs.declared.regs.Reg.{Reg}
 use Rattle.s390x_base.specs.declared.regs.Reg.TheVariants.{Real}
 use Rattle.s390x_inst.specs.Emission.{Emission}
+use Rattle.s390x_inst.specs.declared.state.IsaFlags.{IsaFlags}
+use Rattle.s390x_typed_steps.specs.Baseline.{tree_for}
 use Rattle.s390x_inst.specs.declared.function.Block.{Block}
 use Rattle.s390x_emit_int.specs.Function.{tree_of}
 use Rattle.s390x_inst.specs.declared.args.MemArg.{MemArg}
@@ -28,6 +30,6 @@ adding_is e mask v rest m items =
     ∙ ap (λ t. loop_node 4 t rest) (row-tree inner (hidden-the_row-Inst-0 v) ∙ ap (tree inner) (items_hidden-the_row-Inst-0 v) ∙ ap (tree inner) items)
 
 -- the block of the loop and a return
-pub function_is : (e : Emission) (blocks : List Block) (insts : Vec Inst Global) (i : Inst) (link : Reg) → ((rest : Tree) → prepend (safepoint e i) i rest ≡ loop_node 4 adding_members rest) → link ≡ Real (general 14) → insts.items ≡ i ∷ Ret link ∷ [] → blocks ≡ record { insts = insts } ∷ [] → map (tree_of e) blocks ≡ adding_trees
-function_is e blocks insts i link is to_link items of_blocks =
-    ap (map (tree_of e)) of_blocks ∙ ap (λ l. block_tree e l ∷ []) items ∙ ap (λ t. t ∷ []) (is (leaf (Whole (Ret link)) empty)) ∙ ap (λ r. loop_node 4 adding_members (leaf (Whole (Ret r)) empty) ∷ []) to_link
+pub function_is : (flags : IsaFlags) (e : Emission) (blocks : List Block) (insts : Vec Inst Global) (i : Inst) (link : Reg) → ((rest : Tree) → prepend (safepoint e i) i rest ≡ loop_node 4 adding_members rest) → link ≡ Real (general 14) → insts.items ≡ i ∷ Ret link ∷ [] → blocks ≡ record { insts = insts } ∷ [] → map (tree_of flags e) blocks ≡ adding_trees
+function_is flags e blocks insts i link is to_link items of_blocks =
+    ap (map (tree_of flags e)) of_blocks ∙ ap (λ l. tree_for flags (block_tree e l) ∷ []) items ∙ ap (λ t. tree_for flags t ∷ []) (is (leaf (Whole (Ret link)) empty)) ∙ ap (λ r. loop_node 4 adding_members (leaf (Whole (Ret r)) empty) ∷ []) to_link

@@ -23,9 +23,9 @@ pub linked_guards : (flags : IsaFlags) (ts : List Tree) (cs : List Constant) (f 
 linked_guards flags ts cs f base symbols passes ranges finished links =
     interference (function_layout (linked symbols base (folded_trees ts) cs) (folded_trees ts) (linked_image f base symbols)) (is_placed flags ts cs f base symbols passes ranges finished links)
 
-pub image_guards : (flags : IsaFlags) (state : Emission) (f : AllocatedFunction) (base : ℕ) (symbols : Symbols) (bytes : List ℕ) → BlocksInRange (trees_of state f) → IsImageOf flags state f base symbols bytes → GuardsFunction symbols (folded_trees_of state f) (constants_of f) (record { base = base; bytes = bytes })
+pub image_guards : (flags : IsaFlags) (state : Emission) (f : AllocatedFunction) (base : ℕ) (symbols : Symbols) (bytes : List ℕ) → BlocksInRange (trees_of flags state f) → IsImageOf flags state f base symbols bytes → GuardsFunction symbols (folded_trees_of flags state f) (constants_of f) (record { base = base; bytes = bytes })
 image_guards flags state f base symbols bytes ranges i =
-    let ts = trees_of state f in
+    let ts = trees_of flags state f in
     let cs = constants_of f in
     let passes : checked_cause flags ts cs ≡ None = first_right (start_cause state) (checked_cause flags ts cs) i.valid in
     subst (λ bs. GuardsFunction symbols (folded_trees ts) cs (record { base = base; bytes = bs })) (sym i.is) (linked_guards flags ts cs i.code base symbols passes ranges i.finished i.linked)

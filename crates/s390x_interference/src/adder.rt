@@ -1,6 +1,7 @@
 //! A function of one retry loop, which adds to a word that several processors share.
 ghost use Rattle.std.specs.Prelude.{◌≡◌, IfOk, []};
 ghost use Rattle.s390x_inst.specs.Emission.{Emission};
+ghost use Rattle.s390x_inst.specs.declared.state.IsaFlags.{IsaFlags};
 ghost use Rattle.s390x_typed_steps.specs.Tree.{Tree, loop_node, prepend};
 ghost use Rattle.s390x_emit_int.specs.Function.{constants_of, trees_of};
 ghost use Rattle.s390x_interference.specs.Example.{adding_members, adding_trees};
@@ -36,7 +37,7 @@ pub fn adding_loop(alloc: Global) -> Result<Inst, AllocError>
 
 /// A function of one block: that loop, and then a return to `%r14`.
 pub fn adding_function(alloc: Global) -> Result<AllocatedFunction, AllocError>
-    ensures trees { IfOk result (λ f. (e : Emission) → trees_of e f ≡ adding_trees) }
+    ensures trees { IfOk result (λ f. (flags : IsaFlags) (e : Emission) → trees_of flags e f ≡ adding_trees) }
     ensures constants { IfOk result (λ f. constants_of f ≡ []) }
 {
     let insts = vec![in alloc; adding_loop(alloc)?, Inst::Ret { link: gpr(14) }]?;

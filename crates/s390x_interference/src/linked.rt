@@ -28,7 +28,7 @@ pub fn linked_retry_loops()
 
 /// The same of the image of a function, whoever made it. The function's numbers lie in their ranges, as those of a value of the program do.
 pub fn image_retry_loops()
-    ensures { (flags : IsaFlags) (state : Emission) (f : Allocated) (base : ℕ) (symbols : Symbols) (bytes : List ℕ) → BlocksInRange (trees_of state f) → IsImageOf flags state f base symbols bytes → GuardsFunction symbols (folded_trees_of state f) (constants_of f) (record { base = base; bytes = bytes }) }
+    ensures { (flags : IsaFlags) (state : Emission) (f : Allocated) (base : ℕ) (symbols : Symbols) (bytes : List ℕ) → BlocksInRange (trees_of flags state f) → IsImageOf flags state f base symbols bytes → GuardsFunction symbols (folded_trees_of flags state f) (constants_of f) (record { base = base; bytes = bytes }) }
 {}
 
 /// The image of a function for several processors: `emit_function` and then `link` at the base, with these symbols.
@@ -45,7 +45,7 @@ pub fn emit_guarded_image(
 ) -> Result<Image, ImageError>
     ensures base { IfOk result (λ image. image.base ≡ base) }
     ensures image { IfOk result (λ image. IsImageOf info.now.isa_flags state function.now base symbols.now image.bytes.items) }
-    ensures guards { IfOk result (λ image. GuardsFunction symbols.now (folded_trees_of state function.now) (constants_of function.now) (record { base = base; bytes = image.bytes.items })) }
+    ensures guards { IfOk result (λ image. GuardsFunction symbols.now (folded_trees_of info.now.isa_flags state function.now) (constants_of function.now) (record { base = base; bytes = image.bytes.items })) }
     ensures refused { IfErr result (λ error. HasNoImage info.now.isa_flags state function.now base symbols.now error) }
 {
     match emit_function(alloc, function, info, state) {

@@ -7,7 +7,7 @@ use s390x_base::EmitError;
 use s390x_buffer::MachBufferFinalized;
 use s390x_emit_int::emit_function;
 use s390x_image::{Image, LinkError, SymbolTable, link};
-use s390x_inst::{AllocatedFunction, EmitInfo, EmitState, IsaFlags};
+use s390x_inst::{AllocatedFunction, EmitInfo, EmitState};
 use std::alloc::Global;
 
 /// A function's code with its tables, and its image.
@@ -28,22 +28,22 @@ pub enum Failure {
     Linking(LinkError),
 }
 
-/// The code of a function for a machine without further facilities, and its image at a base.
+/// The code of a function for a machine, and its image at a base.
 ///
 /// A machine that fetches the image there does only what the function's instructions allow: the theorem, as a clause of a
 /// caller's own function.
 pub fn emit_and_link(
     alloc: Global,
     function: &AllocatedFunction,
+    info: &EmitInfo,
     state: EmitState,
     base: u64,
     symbols: &SymbolTable,
 ) -> Result<Linked, Failure>
-    ensures code { IfOk result (λ it. IsFinishedCode (folded_trees_of state function.now) (constants_of function.now) it.code) }
-    ensures runs { IfOk result (λ it. RunsAsTyped symbols.now (folded_trees_of state function.now) (constants_of function.now) (record { base = base; bytes = it.image.bytes.items })) }
+    ensures code { IfOk result (λ it. IsFinishedCode (folded_trees_of info.now.isa_flags state function.now) (constants_of function.now) it.code) }
+    ensures runs { IfOk result (λ it. RunsAsTyped symbols.now (folded_trees_of info.now.isa_flags state function.now) (constants_of function.now) (record { base = base; bytes = it.image.bytes.items })) }
 {
-    let info = EmitInfo::new(IsaFlags::default());
-    match emit_function(alloc, function, &info, state) {
+    match emit_function(alloc, function, info, state) {
         Ok(code) => match link(alloc, &code, base, symbols) {
             Ok(image) => Ok(Linked { code, image }),
             Err(error) => Err(Failure::Linking(error)),

@@ -8,7 +8,7 @@ use crate::linked::{Failure, emit_and_link};
 use crate::tables::text_of;
 use s390x_base::{Cond, TrapCode, gpr, writable_gpr};
 use s390x_image::SymbolTable;
-use s390x_inst::{ALUOp, AllocatedFunction, Block, EmitState, Inst};
+use s390x_inst::{ALUOp, AllocatedFunction, Block, EmitInfo, EmitState, Inst, IsaFlags};
 use std::alloc::{AllocError, Global};
 use std::process::ExitCode;
 
@@ -26,7 +26,15 @@ fn main(rt: HostRuntime) -> ExitCode {
 fn sum_in_text(alloc: Global) -> Result<String, Failure> {
     let function = sum(alloc).map_err(|_| Failure::NoMemory)?;
     let symbols = SymbolTable::new(alloc);
-    let linked = emit_and_link(alloc, &function, EmitState::default(), 4096, &symbols)?;
+    let info = EmitInfo::new(IsaFlags::default());
+    let linked = emit_and_link(
+        alloc,
+        &function,
+        &info,
+        EmitState::default(),
+        4096,
+        &symbols,
+    )?;
     text_of(alloc, &linked).map_err(|_| Failure::NoMemory)
 }
 

@@ -4,6 +4,7 @@ use Rattle.std.proofs.lemmas.List.{drop_more}
 use Rattle.std.specs.Prelude.{Option, None, Result, Ok, Err}
 use Rattle.s390x_inst.specs.Emission.{Emission}
 use Rattle.s390x_inst.specs.declared.inst.Inst.{Inst}
+use Rattle.s390x_inst.specs.declared.state.IsaFlags.{IsaFlags}
 use Rattle.s390x_inst.specs.declared.function.Block.{Block}
 use Rattle.s390x_row_text.specs.Texts.{Text, RefusedBy, Prints, both, first, fixed}
 use Rattle.s390x_text.specs.Instructions.{after}
@@ -29,40 +30,40 @@ blamed left t rest c error s b inv =
 
 -- ---- blocks
 
-blocks_at : (e : Emission) (bs : List Block) (i : ℕ) (z d : Block) → i < length bs → d ≡ get_or bs i z → blocks_texts e i (drop i bs) ≡ both (block_texts e i d) (blocks_texts e (i + 1) (drop (i + 1) bs))
-blocks_at e bs i z d h q = ap (blocks_texts e i) (item bs i z d h q)
+blocks_at : (flags : IsaFlags) (e : Emission) (bs : List Block) (i : ℕ) (z d : Block) → i < length bs → d ≡ get_or bs i z → blocks_texts flags e i (drop i bs) ≡ both (block_texts flags e i d) (blocks_texts flags e (i + 1) (drop (i + 1) bs))
+blocks_at flags e bs i z d h q = ap (blocks_texts flags e i) (item bs i z d h q)
 
-pub blocks_went : (e : Emission) (bs : List Block) (i : ℕ) (z d : Block) (old out new : List ℕ) → i < length bs → d ≡ get_or bs i z
-    → new ≡ out ++ (block_texts e i d).bytes → out ++ (blocks_texts e i (drop i bs)).bytes ≡ old → new ++ (blocks_texts e (i + 1) (drop (i + 1) bs)).bytes ≡ old
-blocks_went e bs i z d old out new h q n inv = went _ (block_texts e i d) (blocks_texts e (i + 1) (drop (i + 1) bs)) old out new (blocks_at e bs i z d h q) n inv
+pub blocks_went : (flags : IsaFlags) (e : Emission) (bs : List Block) (i : ℕ) (z d : Block) (old out new : List ℕ) → i < length bs → d ≡ get_or bs i z
+    → new ≡ out ++ (block_texts flags e i d).bytes → out ++ (blocks_texts flags e i (drop i bs)).bytes ≡ old → new ++ (blocks_texts flags e (i + 1) (drop (i + 1) bs)).bytes ≡ old
+blocks_went flags e bs i z d old out new h q n inv = went _ (block_texts flags e i d) (blocks_texts flags e (i + 1) (drop (i + 1) bs)) old out new (blocks_at flags e bs i z d h q) n inv
 
-pub blocks_clear : (e : Emission) (bs : List Block) (i : ℕ) (z d : Block) (c : Option TextError) → i < length bs → d ≡ get_or bs i z
-    → (block_texts e i d).cause ≡ None → (blocks_texts e i (drop i bs)).cause ≡ c → (blocks_texts e (i + 1) (drop (i + 1) bs)).cause ≡ c
-blocks_clear e bs i z d c h q n inv = clear _ (block_texts e i d) (blocks_texts e (i + 1) (drop (i + 1) bs)) c (blocks_at e bs i z d h q) n inv
+pub blocks_clear : (flags : IsaFlags) (e : Emission) (bs : List Block) (i : ℕ) (z d : Block) (c : Option TextError) → i < length bs → d ≡ get_or bs i z
+    → (block_texts flags e i d).cause ≡ None → (blocks_texts flags e i (drop i bs)).cause ≡ c → (blocks_texts flags e (i + 1) (drop (i + 1) bs)).cause ≡ c
+blocks_clear flags e bs i z d c h q n inv = clear _ (block_texts flags e i d) (blocks_texts flags e (i + 1) (drop (i + 1) bs)) c (blocks_at flags e bs i z d h q) n inv
 
-pub blocks_blamed : (e : Emission) (bs : List Block) (i : ℕ) (z d : Block) (c : Option TextError) (error : TextError) → i < length bs → d ≡ get_or bs i z
-    → RefusedBy (block_texts e i d).cause error → (blocks_texts e i (drop i bs)).cause ≡ c → RefusedBy c error
-blocks_blamed e bs i z d c error h q b inv = blamed _ (block_texts e i d) (blocks_texts e (i + 1) (drop (i + 1) bs)) c error (blocks_at e bs i z d h q) b inv
+pub blocks_blamed : (flags : IsaFlags) (e : Emission) (bs : List Block) (i : ℕ) (z d : Block) (c : Option TextError) (error : TextError) → i < length bs → d ≡ get_or bs i z
+    → RefusedBy (block_texts flags e i d).cause error → (blocks_texts flags e i (drop i bs)).cause ≡ c → RefusedBy c error
+blocks_blamed flags e bs i z d c error h q b inv = blamed _ (block_texts flags e i d) (blocks_texts flags e (i + 1) (drop (i + 1) bs)) c error (blocks_at flags e bs i z d h q) b inv
 
 -- ---- instructions
 
-insts_at : (e : Emission) (is : List Inst) (i : ℕ) (z d : Inst) → i < length is → d ≡ get_or is i z → inst_texts e (drop i is) ≡ both (text_line e d) (inst_texts (after e d) (drop (i + 1) is))
-insts_at e is i z d h q = ap (inst_texts e) (item is i z d h q)
+insts_at : (flags : IsaFlags) (e : Emission) (is : List Inst) (i : ℕ) (z d : Inst) → i < length is → d ≡ get_or is i z → inst_texts flags e (drop i is) ≡ both (text_line flags e d) (inst_texts flags (after e d) (drop (i + 1) is))
+insts_at flags e is i z d h q = ap (inst_texts flags e) (item is i z d h q)
 
-pub insts_went : (e f : Emission) (is : List Inst) (i : ℕ) (z d : Inst) (old out new : List ℕ) → i < length is → d ≡ get_or is i z → f ≡ after e d
-    → new ≡ out ++ (text_line e d).bytes → out ++ (inst_texts e (drop i is)).bytes ≡ old → new ++ (inst_texts f (drop (i + 1) is)).bytes ≡ old
-insts_went e f is i z d old out new h q a n inv =
-    ap (λ s. new ++ (inst_texts s (drop (i + 1) is)).bytes) a
-    ∙ went _ (text_line e d) (inst_texts (after e d) (drop (i + 1) is)) old out new (insts_at e is i z d h q) n inv
+pub insts_went : (flags : IsaFlags) (e f : Emission) (is : List Inst) (i : ℕ) (z d : Inst) (old out new : List ℕ) → i < length is → d ≡ get_or is i z → f ≡ after e d
+    → new ≡ out ++ (text_line flags e d).bytes → out ++ (inst_texts flags e (drop i is)).bytes ≡ old → new ++ (inst_texts flags f (drop (i + 1) is)).bytes ≡ old
+insts_went flags e f is i z d old out new h q a n inv =
+    ap (λ s. new ++ (inst_texts flags s (drop (i + 1) is)).bytes) a
+    ∙ went _ (text_line flags e d) (inst_texts flags (after e d) (drop (i + 1) is)) old out new (insts_at flags e is i z d h q) n inv
 
-pub insts_clear : (e f : Emission) (is : List Inst) (i : ℕ) (z d : Inst) (c : Option TextError) → i < length is → d ≡ get_or is i z → f ≡ after e d
-    → (text_line e d).cause ≡ None → (inst_texts e (drop i is)).cause ≡ c → (inst_texts f (drop (i + 1) is)).cause ≡ c
-insts_clear e f is i z d c h q a n inv =
-    ap (λ s. (inst_texts s (drop (i + 1) is)).cause) a ∙ clear _ (text_line e d) (inst_texts (after e d) (drop (i + 1) is)) c (insts_at e is i z d h q) n inv
+pub insts_clear : (flags : IsaFlags) (e f : Emission) (is : List Inst) (i : ℕ) (z d : Inst) (c : Option TextError) → i < length is → d ≡ get_or is i z → f ≡ after e d
+    → (text_line flags e d).cause ≡ None → (inst_texts flags e (drop i is)).cause ≡ c → (inst_texts flags f (drop (i + 1) is)).cause ≡ c
+insts_clear flags e f is i z d c h q a n inv =
+    ap (λ s. (inst_texts flags s (drop (i + 1) is)).cause) a ∙ clear _ (text_line flags e d) (inst_texts flags (after e d) (drop (i + 1) is)) c (insts_at flags e is i z d h q) n inv
 
-pub insts_blamed : (e : Emission) (is : List Inst) (i : ℕ) (z d : Inst) (c : Option TextError) (error : TextError) → i < length is → d ≡ get_or is i z
-    → RefusedBy (text_line e d).cause error → (inst_texts e (drop i is)).cause ≡ c → RefusedBy c error
-insts_blamed e is i z d c error h q b inv = blamed _ (text_line e d) (inst_texts (after e d) (drop (i + 1) is)) c error (insts_at e is i z d h q) b inv
+pub insts_blamed : (flags : IsaFlags) (e : Emission) (is : List Inst) (i : ℕ) (z d : Inst) (c : Option TextError) (error : TextError) → i < length is → d ≡ get_or is i z
+    → RefusedBy (text_line flags e d).cause error → (inst_texts flags e (drop i is)).cause ≡ c → RefusedBy c error
+insts_blamed flags e is i z d c error h q b inv = blamed _ (text_line flags e d) (inst_texts flags (after e d) (drop (i + 1) is)) c error (insts_at flags e is i z d h q) b inv
 
 -- ---- heads
 

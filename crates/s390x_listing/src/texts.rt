@@ -5,7 +5,7 @@ ghost use Rattle.s390x_text.specs.Instructions.{after};
 ghost use Rattle.s390x_listing.specs.Texts.{block_texts, blocks_texts, inst_texts, text_line, texts_listing};
 
 use crate::head::put_head;
-use s390x_inst::{Block, EmitState, Inst};
+use s390x_inst::{Block, EmitInfo, EmitState, Inst};
 use s390x_text::{TextError, pretty_print_inst};
 use s390x_words::number::put;
 use std::alloc::Global;
@@ -14,11 +14,16 @@ use std::alloc::Global;
 /// those before it in the block, the first one in the given state.
 ///
 /// An error comes exactly where an instruction has no text, by the first cause in their order, or for want of memory.
-pub fn listed_texts(alloc: Global, state: EmitState, blocks: &[Block]) -> Result<String, TextError>
-    ensures { MatchResult result (λ text. ((texts_listing state blocks.now).cause ≡ None) × (string_bytes text ≡ (texts_listing state blocks.now).bytes)) (λ e. RefusedBy (texts_listing state blocks.now).cause e) }
+pub fn listed_texts(
+    alloc: Global,
+    info: &EmitInfo,
+    state: EmitState,
+    blocks: &[Block],
+) -> Result<String, TextError>
+    ensures { MatchResult result (λ text. ((texts_listing info.now.isa_flags state blocks.now).cause ≡ None) × (string_bytes text ≡ (texts_listing info.now.isa_flags state blocks.now).bytes)) (λ e. RefusedBy (texts_listing info.now.isa_flags state blocks.now).cause e) }
 {
     let mut out = String::new(alloc);
-    put_blocks(alloc, &mut out, state, blocks)?;
+    put_blocks(alloc, &mut out, info, state, blocks)?;
     Ok(out)
 }
 
@@ -26,13 +31,14 @@ pub fn listed_texts(alloc: Global, state: EmitState, blocks: &[Block]) -> Result
 fn put_blocks(
     alloc: Global,
     out: &mut String,
+    info: &EmitInfo,
     state: EmitState,
     blocks: &[Block],
 ) -> Result<(), TextError>
-    ensures { Prints result (string_bytes out.old) (string_bytes out.new) (blocks_texts state 0 blocks.now) }
+    ensures { Prints result (string_bytes out.old) (string_bytes out.new) (blocks_texts info.now.isa_flags state 0 blocks.now) }
 {
     for (number, block) in blocks.iter().enumerate() {
-        put_block(alloc, out, state, number, block)?;
+        put_block(alloc, out, info, state, number, block)?;
     }
     Ok(())
 }
@@ -41,14 +47,15 @@ fn put_blocks(
 fn put_block(
     alloc: Global,
     out: &mut String,
+    info: &EmitInfo,
     state: EmitState,
     number: usize,
     block: &Block,
 ) -> Result<(), TextError>
-    ensures { Prints result (string_bytes out.old) (string_bytes out.new) (block_texts state number block.now) }
+    ensures { Prints result (string_bytes out.old) (string_bytes out.new) (block_texts info.now.isa_flags state number block.now) }
 {
     match put_head(out, number) {
-        Ok(()) => put_insts(alloc, out, state, &block.insts),
+        Ok(()) => put_insts(alloc, out, info, state, &block.insts),
         Err(_) => Err(TextError::NoMemory),
     }
 }
@@ -57,14 +64,15 @@ fn put_block(
 fn put_insts(
     alloc: Global,
     out: &mut String,
+    info: &EmitInfo,
     start: EmitState,
     insts: &[Inst],
 ) -> Result<(), TextError>
-    ensures { Prints result (string_bytes out.old) (string_bytes out.new) (inst_texts start insts.now) }
+    ensures { Prints result (string_bytes out.old) (string_bytes out.new) (inst_texts info.now.isa_flags start insts.now) }
 {
     let mut state = start;
     for inst in insts {
-        put_inst(alloc, out, &mut state, inst)?;
+        put_inst(alloc, out, info, &mut state, inst)?;
     }
     Ok(())
 }
@@ -73,13 +81,14 @@ fn put_insts(
 fn put_inst(
     alloc: Global,
     out: &mut String,
+    info: &EmitInfo,
     state: &mut EmitState,
     inst: &Inst,
 ) -> Result<(), TextError>
-    ensures answer { Prints result (string_bytes out.old) (string_bytes out.new) (text_line state.old inst.now) }
+    ensures answer { Prints result (string_bytes out.old) (string_bytes out.new) (text_line info.now.isa_flags state.old inst.now) }
     ensures after { IfOk result (λ _. state.new ≡ after state.old inst.now) }
 {
-    let text = pretty_print_inst(alloc, inst, state)?;
+    let text = pretty_print_inst(alloc, inst, info, state)?;
     put(out, text.as_str())?;
     put(out, "\n")?;
     Ok(())

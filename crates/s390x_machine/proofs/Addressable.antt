@@ -15,11 +15,11 @@ use Rattle.s390x_inst.specs.declared.inst.Inst.TheVariants.{LoadAddr, AluRX, Ato
 use Rattle.s390x_inst.specs.declared.vec_inst.VecInst.{VecInst}
 use Rattle.s390x_inst.specs.declared.vec_inst.VecInst.TheVariants.{VecLoadReplicate, VecLoadReplicateRev, VecLoadLane, VecLoadLaneRev, VecLoadLaneUndef, VecLoadLaneRevUndef, VecStoreLane, VecStoreLaneRev}
 use Rattle.s390x_typed_steps.specs.SingleInstruction.{SingleInstruction, single_instruction, stop_code}
-use Rattle.s390x_typed_steps.specs.Memory.{MemoryInstruction, StorageForm, memory, type_of, fault_code}
+use Rattle.s390x_typed_steps.specs.Memory.{MemoryInstruction, StorageForm, memory, loaded_memory, type_of, fault_code}
 use Rattle.s390x_typed_steps.specs.Operands.{no_register, scratch, with_widened, finalized, operand_general, loses_base}
 use Rattle.s390x_typed_steps.specs.Causes.{is_helped}
 use Rattle.s390x_typed_steps.specs.Parts.{finalized_parts, memory_or, memory_parts, branch_parts, parts_or, step_parts}
-use Rattle.s390x_typed_steps.specs.Steps.{Plain}
+use Rattle.s390x_typed_steps.specs.Steps.{Plain, LoadedStep}
 use Rattle.s390x_machine.specs.CodeAt.{AllCodeAt, PartsReach, OperandsValidOr, ValidMemoryOr, IsValidBranch, IsValidMemory}
 use Rattle.s390x_machine.specs.Helpers.{HasAddress, IsAddressable}
 use Rattle.s390x_machine.specs.Layout.{Layout}
@@ -68,16 +68,27 @@ has_address : (L : Layout) (p : ℕ) (form : StorageForm) (accesses : Bool) (cod
 has_address L p form accesses code (Symbol name offset flags) r = λ h. symbol_below L p form accesses code name offset flags _ h r
 has_address L p form accesses code m r = tt
 
+-- what emission checked of an access, and where its parts lead
+of_access : (L : Layout) (p : ℕ) (x : MemoryInstruction) → IsValidMemory L x → PartsReach L p (memory_parts x) → IsAddressable L (type_of x.form x.accesses) x.operand
+of_access L p x valid reached =
+    record {
+      general = (and_parts x.operands_valid (operand_general x.operand) valid.registers).1;
+      fits = valid.offset;
+      kept = not_lost (loses_base x.operand) (x.reads_scratch && is_helped (finalized (type_of x.form x.accesses) x.operand).helpers) valid.kept;
+      range = valid.range;
+      address = has_address L p x.form x.accesses (fault_code x) x.operand reached;
+    }
+
 pub addressable : (L : Layout) → AllCodeAt L → (k : ℕ) (i : Inst) (x : MemoryInstruction) → slice_get L.steps k ≡ Some (Plain i) → memory i ≡ Some x → IsAddressable L (type_of x.form x.accesses) x.operand
 addressable L all k i x at is =
     let alone = memory_alone i x is in
     let placed = all.steps k (Plain i) at in
     let valid : IsValidMemory L x = subst (λ m. ValidMemoryOr L m (IsValidBranch L i)) is (subst (λ o. OperandsValidOr o (ValidMemoryOr L (memory i) (IsValidBranch L i))) alone placed.valid) in
     let parts : step_parts (Plain i) ≡ memory_parts x = ap (λ o. parts_or o (stop_code i) (memory_or (memory i) (branch_parts i))) alone ∙ ap (λ m. memory_or m (branch_parts i)) is in
-    record {
-      general = (and_parts x.operands_valid (operand_general x.operand) valid.registers).1;
-      fits = valid.offset;
-      kept = not_lost (loses_base x.operand) (x.reads_scratch && is_helped (finalized (type_of x.form x.accesses) x.operand).helpers) valid.kept;
-      range = valid.range;
-      address = has_address L (L.offsets.step k) x.form x.accesses (fault_code x) x.operand (subst (λ ps. PartsReach L (L.offsets.step k) ps) parts placed.reached);
-    }
+    of_access L (L.offsets.step k) x valid (subst (λ ps. PartsReach L (L.offsets.step k) ps) parts placed.reached)
+
+-- the same of one whose address is loaded first
+pub loaded_addressable : (L : Layout) → AllCodeAt L → (k : ℕ) (i : Inst) (x : MemoryInstruction) → slice_get L.steps k ≡ Some (LoadedStep i) → loaded_memory i ≡ Some x → IsAddressable L (type_of x.form x.accesses) x.operand
+loaded_addressable L all k i x at is =
+    let placed = all.steps k (LoadedStep i) at in
+    of_access L (L.offsets.step k) x (subst (λ m. ValidMemoryOr L m ⊥) is placed.valid) (subst (λ m. PartsReach L (L.offsets.step k) (memory_or m [])) is placed.reached)

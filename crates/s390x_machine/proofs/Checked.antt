@@ -1,5 +1,5 @@
 -- Steps that emission lets pass are fine.
-use Rattle.std.proofs.Common.{◌≡◌, ℕ, zero, suc, ◌+◌, ◌<◌, ◌≤◌, List, [], ◌∷◌, ◌++◌, length, Option, Some, None, ◌&&◌, ◌||◌, refl, sym, ap, ◌∙◌, subst, arith, length-append, slice_get, ltb-true}
+use Rattle.std.proofs.Common.{◌≡◌, ℕ, zero, suc, ◌+◌, ◌<◌, ◌≤◌, List, [], ◌∷◌, ◌++◌, length, Option, Some, None, option_map, ◌&&◌, ◌||◌, refl, sym, ap, ◌∙◌, subst, arith, length-append, slice_get, ltb-true}
 use Rattle.std.specs.Prelude.{nat_eq, nat_lt, not}
 use Rattle.std.proofs.lemmas.Bool.{and_parts}
 use Rattle.s390x_inst.specs.declared.state.IsaFlags.{IsaFlags}
@@ -9,16 +9,17 @@ use Rattle.s390x_base.specs.declared.error.EmitError.TheVariants.{BadOperator, B
 use Rattle.s390x_inst.specs.declared.inst.Inst.{Inst}
 use Rattle.s390x_inst.specs.declared.inst.Inst.TheVariants.{Jump, CondBr, IndirectBr, Ret, CondBreak, Nop0, LabelAddress, LoadSymbolReloc, Trap, TrapIf, Debugtrap, JTSequence, AllocateArgs, Args, Rets, DummyUse, SequencePoint, Vector}
 use Rattle.s390x_typed_steps.specs.Calls.{is_target, site_labels}
-use Rattle.s390x_typed_steps.specs.Causes.{first_emit_cause, unless, facility_cause, target_label_cause, labels_cause, cause_or, loses_scratch, addend_fits, target_cause, memory_cause_or, instruction_cause, numbers_cause, leaf_cause, remainder_cause, nesting_cause, fresh_labels, tree_cause, block_cause, blocks_cause, nominal_behind, instruction_fresh_labels, body_cause, body_fresh_labels, body_nominal_after}
+use Rattle.s390x_typed_steps.specs.Causes.{first_emit_cause, unless, facility_cause, target_label_cause, labels_cause, cause_or, loses_scratch, addend_fits, target_cause, memory_cause_or, instruction_cause, numbers_cause, leaf_cause, remainder_cause}
+use Rattle.s390x_typed_steps.specs.Causes.{nesting_cause, fresh_labels, tree_cause, block_cause, blocks_cause, nominal_behind, instruction_fresh_labels, body_cause, body_fresh_labels, body_nominal_after}
 use Rattle.s390x_typed_steps.specs.SingleInstruction.{SingleInstruction, single_instruction}
 use Rattle.s390x_typed_steps.specs.General.{is_general, is_nonzero, is_scratch}
-use Rattle.s390x_typed_steps.specs.Memory.{MemoryInstruction, memory, type_of}
+use Rattle.s390x_typed_steps.specs.Memory.{StorageForm, MemoryInstruction, memory, loaded_memory, without_relative, other_rows, with_rows, type_of}
 use Rattle.s390x_typed_steps.specs.Operands.{has_form, operand_general, offset_fits}
 use Rattle.s390x_typed_steps.specs.Folding.{folded_trees}
 use Rattle.s390x_typed_steps.proofs.Folding.{BodyMasked, AllMasked, BlocksMasked, blocks_masked, folded_blocks_cause, folded_length, folded_blocks_masked}
 use Rattle.s390x_typed_steps.specs.Ranges.{MemoryInRange, InRange, BlocksInRange}
 use Rattle.s390x_typed_steps.specs.Rows.{LinkEnvironment}
-use Rattle.s390x_typed_steps.specs.Tree.{StepBody, Tree, empty, leaf, loop_node, Whole, Folded, CallStep, NoLoad, TailOpening, TailJump}
+use Rattle.s390x_typed_steps.specs.Tree.{StepBody, Tree, empty, leaf, loop_node, Whole, Loaded, Folded, CallStep, NoLoad, TailOpening, TailJump}
 use Rattle.s390x_typed_steps.specs.Steps.{Step, Opening, Back, step_count, step_of, steps_of, steps_from, function_steps}
 use Rattle.s390x_typed_steps.specs.VectorComposite.{composite_cause}
 use Rattle.s390x_operations.specs.State.{CodeImage}
@@ -96,6 +97,15 @@ module _ (L : Layout) where
   valid_step flags nominal depth after (Vector v) e range le = valid_other (single_instruction (Vector v)) (memory (Vector v)) (composite_cause v) (first_none (facility_cause flags (Vector v)) (cause_or (single_instruction (Vector v)) (memory_cause_or (declared L) (memory (Vector v)) (composite_cause v))) e).1 range.1
   valid_step flags nominal depth after i e range le = valid_single (single_instruction i) (memory i) (first_none (facility_cause flags i) (cause_or (single_instruction i) (memory_cause_or (declared L) (memory i) (Some BadOperator))) e).1 range.1
 
+  -- the operand is the same in other rows
+  range_kept : (o : Option MemoryInstruction) → MemoryInRange o → MemoryInRange (without_relative o)
+  range_kept None range = tt
+  range_kept (Some x) range = go (other_rows x.form x.accesses)
+    where
+      go : (o : Option StorageForm) → MemoryInRange (option_map (with_rows x) o)
+      go None = tt
+      go (Some form) = range
+
   -- the body of a step
   valid_body : (flags : IsaFlags) (n nominal depth after : ℕ) (b : StepBody) → body_cause flags (declared L) n nominal depth b ≡ None → BodyMasked b → (0 < depth → after ≤ length L.steps) → IsValidStep L (step_of after b)
   valid_body flags n nominal depth after (Whole i) e range le =
@@ -109,6 +119,9 @@ module _ (L : Layout) where
       let own = first_none (leaf_cause flags (declared L) n nominal depth i) (remainder_cause L.block_count r) e in
       valid_step flags nominal depth after i (first_none (instruction_cause flags (declared L) nominal depth i) (numbers_cause n 0) own.0).0 range.0 le
   valid_body flags n nominal depth after (Folded r i) e range le = absurd range.1
+  valid_body flags n nominal depth after (Loaded i) e range le =
+      let parts = first_none (first_emit_cause (facility_cause flags i) (memory_cause_or (declared L) (loaded_memory i) (Some BadOperator))) (numbers_cause n 0) e in
+      valid_single None (loaded_memory i) (first_none (facility_cause flags i) (memory_cause_or (declared L) (loaded_memory i) (Some BadOperator)) parts.0).1 (range_kept (memory i) range.1)
   valid_body flags n nominal depth after (CallStep c) e range le =
       let later = first_emit_cause (unless (nat_eq c.popped nominal && (nat_eq c.popped 0 || nat_eq depth 0)) BadStackState) (labels_cause L.block_count (site_labels c.sites)) in
       let registers = first_none (unless (is_general c.link && is_target c.target) BadRegister) later e in

@@ -8,11 +8,10 @@ use Rattle.s390x_typed_steps.specs.StepBody.{Remainder, NothingLeft, BranchLeft}
 use Rattle.s390x_typed_steps.specs.Steps.{Step, Shortened}
 use Rattle.s390x_operations.specs.State.{Registers, Core, written, wrapping_add64}
 use Rattle.s390x_operations.specs.Effects.{is_selected}
-use Rattle.s390x_machine.specs.declared.semantics.Action.{Action}
 use Rattle.s390x_machine.specs.declared.semantics.Action.TheVariants.{Branch}
-use Rattle.s390x_machine.specs.Machine.{Executed, Transition, Run, all_writes}
-use Rattle.s390x_machine.specs.StepKinds.{StepKind, GoesTo, Chooses}
-use Rattle.s390x_machine.specs.Typed.{Position, At, KindStep, TypedStep, kind_at, typed_store_event}
+use Rattle.s390x_machine.specs.Machine.{Executed, Transition, all_writes}
+use Rattle.s390x_machine.specs.StepKinds.{GoesTo, Chooses}
+use Rattle.s390x_machine.specs.Typed.{At, KindStep, TypedStep, kind_at, typed_store_event}
 use Rattle.s390x_machine.specs.Match.{HasNoBytes}
 use Rattle.s390x_machine.specs.OneStep.{Runs, silent, StepRuns}
 use Rattle.s390x_machine.specs.Layout.{Layout, step_address, block_address, InStep}

@@ -1,6 +1,6 @@
 -- The layout of a function whose code stands at the beginning of an image.
 use Rattle.std.proofs.Common.{◌≡◌, ℕ, zero, suc, ◌+◌, ◌≤◌, List, [], ◌∷◌, ◌++◌, length, Some, refl, sym, ap, ◌∙◌, arith, append_assoc, length-append, slice_get}
-use Rattle.s390x_typed_steps.specs.Tree.{Tree, empty, leaf, loop_node, Whole}
+use Rattle.s390x_typed_steps.specs.Tree.{Tree, empty, leaf, loop_node}
 use Rattle.s390x_typed_steps.specs.Steps.{Step, Back, step_count, steps_of, steps_from, function_steps, first_step}
 use Rattle.s390x_typed_steps.specs.Parts.{step_size}
 use Rattle.s390x_typed_steps.specs.Rows.{LinkEnvironment, Offsets, step_bytes}

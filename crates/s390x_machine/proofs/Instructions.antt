@@ -15,7 +15,7 @@ use Rattle.s390x_format.specs.declared.kind.FormatKind.TheVariants.{Rr}
 use Rattle.s390x_typed_steps.specs.General.{is_general, reuses, reuses_pair, low_halfword, low_word, four_bits, low_displacement, is_access}
 use Rattle.s390x_typed_steps.specs.Opcodes.{alu_two, cmp_two, unary_two, alu_halfword, alu_three_halfword, alu_signed_word, alu_unsigned_word, cmp_halfword, cmp_trap, cmp_trap_signed, cmp_trap_unsigned, cmp_signed_word, cmp_unsigned_word, alu_part, alu_half, load_part, load_half, insert_part, extend_two, indexed_opcode, logical_indexed_opcode}
 use Rattle.s390x_typed_steps.specs.StepBody.{AtCall}
-use Rattle.s390x_typed_steps.specs.Steps.{Step, Plain, Shortened, Opening, Back, Break, CallingStep, NoLoadStep, TailOpeningStep, TailJumpStep}
+use Rattle.s390x_typed_steps.specs.Steps.{Step, Plain, LoadedStep, Shortened, Opening, Back, Break, CallingStep, NoLoadStep, TailOpeningStep, TailJumpStep}
 use Rattle.s390x_operations.specs.declared.effect.CodeRule.TheVariants.{Kept, Set}
 use Rattle.s390x_operations.specs.declared.size.Size.TheVariants.{Halfword, Word, Doubleword}
 use Rattle.s390x_operations.specs.declared.size.Width.TheVariants.{Bits16, Bits32, Bits64}
@@ -39,6 +39,7 @@ use Rattle.s390x_machine.proofs.RelativeRows.{relative_load_32, relative_load_32
 use Rattle.s390x_machine.proofs.StorageRows.{load_32, load_32_zero_8, load_32_signed_8, load_32_zero_16, load_32_signed_16, load_64, load_64_zero_8, load_64_signed_8, load_64_zero_16, load_64_signed_16, load_64_zero_32, load_64_signed_32, load_reversed_16, load_reversed_32, load_reversed_64, store_8, store_16, store_32, store_64, store_reversed_16, store_reversed_32}
 use Rattle.s390x_machine.proofs.StorageRows.{store_reversed_64, store_immediate_16, store_immediate_32, store_immediate_64, swap_32, swap_64, alu_same, cmp_same, alu_short_rows, alu_long_rows, cmp_short_rows, cmp_long_rows, atomic_rows}
 use Rattle.s390x_machine.proofs.StorageSteps.{loads, loads_an_address, stores, stores_a_byte, stores_an_immediate, loads_registers, stores_registers, computes_in_memory, compares_in_memory, operates, swaps}
+use Rattle.s390x_machine.proofs.LoadedSteps.{loaded_runs}
 use Rattle.s390x_machine.proofs.Branches.{returns_runs, address_runs}
 use Rattle.s390x_machine.proofs.Calls.{calling_runs, tail_jump_runs, returns_to}
 use Rattle.s390x_machine.proofs.Induction.{trace_of, one_step}
@@ -215,6 +216,7 @@ instruction_runs L k _ b operands_valid = absurd operands_valid
 pub step_runs : (L : Layout) (k : ℕ) (s : Step) → StepAt L k s → IsValidStep L s → StepRuns L k
 step_runs L k (Plain i) b operands_valid = instruction_runs L k i b operands_valid
 step_runs L k (Shortened r i) b operands_valid = shortened_runs L k r i b operands_valid b.placed.folded
+step_runs L k (LoadedStep i) b operands_valid = loaded_runs L k i b operands_valid
 step_runs L k Opening b operands_valid = opening_runs b refl refl
 step_runs L k (Back mask target) b operands_valid = loop_runs b mask target refl refl (small_mask mask operands_valid.0) operands_valid.1
 step_runs L k (Break mask target) b operands_valid = loop_runs b mask target refl refl (small_mask mask operands_valid.0) operands_valid.1

@@ -53,6 +53,7 @@ pub mod Bits
 pub mod Branches
 pub mod Calls
 pub mod Example
+pub mod LoadedSteps
 pub mod Instructions
 pub mod Trapping
 pub mod Vectors

@@ -1,5 +1,5 @@
 -- The steps of rows on one element of a vector register: an immediate, or an element between a general register and a vector one.
-use Rattle.std.proofs.Common.{◌≡◌, ℕ, ◌+◌, ◌-◌, ◌*◌, ◌/◌, ◌%◌, ◌^◌, ◌<◌, ◌==◌, ℤ, inl, inr, [], Option, Some, None, Bool, true, false, cond, if◌then◌else◌, ◌&&◌, IsTrue, refl, sym, ap, ◌∙◌, subst, arith, nat_lt, nat_eq, bit_and, ltb-true, eqb-true}
+use Rattle.std.proofs.Common.{◌≡◌, ℕ, ◌+◌, ◌*◌, ◌/◌, ◌%◌, ◌^◌, ◌<◌, ◌==◌, ℤ, inl, inr, [], Option, Some, None, Bool, true, false, cond, if◌then◌else◌, ◌&&◌, IsTrue, refl, sym, ap, ◌∙◌, subst, arith, nat_lt, nat_eq, bit_and, ltb-true, eqb-true}
 use Rattle.std.proofs.lemmas.Bool.{and_parts}
 use Rattle.std.proofs.lemmas.Nat.{and_assoc, and_mask, mod_below}
 use Rattle.std.proofs.lemmas.Nat.Bits.{and_high_mask}

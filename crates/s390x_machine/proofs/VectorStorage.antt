@@ -1,18 +1,18 @@
 -- The steps of loads and stores of vector registers.
-use Rattle.std.proofs.Common.{◌≡◌, ℕ, zero, suc, ◌+◌, ◌-◌, ◌*◌, ◌^◌, ◌<◌, ◌≤◌, ◌⊎◌, inl, inr, [], Option, Some, None, Bool, true, false, cond, ◌&&◌, ◌||◌, IsTrue, refl, sym, ap, ◌∙◌, subst, arith, nat_lt, nat_le, nat_eq, bit_and, ltb-true, eqb-true}
+use Rattle.std.proofs.Common.{◌≡◌, ℕ, ◌+◌, ◌-◌, ◌*◌, ◌^◌, ◌<◌, ◌≤◌, ◌⊎◌, inl, inr, [], Option, Some, None, Bool, true, false, cond, ◌&&◌, ◌||◌, IsTrue, refl, sym, ap, ◌∙◌, subst, arith, nat_lt, nat_le, nat_eq, bit_and, ltb-true, eqb-true}
 use Rattle.std.proofs.lemmas.Bool.{and_parts}
 use Rattle.std.proofs.lemmas.Nat.{and_assoc, and_mask}
 use Rattle.std.proofs.Math.Nat.{mod-eq_of_lt}
 use Rattle.s390x_base.specs.declared.error.EmitError.TheVariants.{BadOperator}
 use Rattle.s390x_inst.specs.declared.args.MemArg.{MemArg}
-use Rattle.s390x_format.specs.declared.kind.FormatKind.TheVariants.{Rx, Rxy, Vrx}
+use Rattle.s390x_format.specs.declared.kind.FormatKind.TheVariants.{Vrx}
 use Rattle.s390x_format.specs.declared.row.Allowed.TheVariants.{FirstMask}
 use Rattle.s390x_format.specs.Fetch.{machine_rows}
 use Rattle.s390x_format.specs.Lookup.{row_for}
 use Rattle.s390x_format.specs.Rows.{is_allowed}
 use Rattle.s390x_format.specs.View.{fields_of, disp_of}
 use Rattle.s390x_lanes.proofs.Powers.{pow_le}
-use Rattle.s390x_lanes.specs.Size.{element_bits, lane_count}
+use Rattle.s390x_lanes.specs.Size.{lane_count}
 use Rattle.s390x_lanes.specs.declared.size.ElementSize.{ElementSize}
 use Rattle.s390x_lanes.specs.declared.size.ElementSize.TheVariants.{Byte, Halfword, Word, Doubleword, Quadword}
 use Rattle.s390x_operations.specs.Effects.{Refines}
@@ -22,7 +22,7 @@ use Rattle.s390x_operations.specs.declared.effect.Effect.{Effect}
 use Rattle.s390x_operations.specs.declared.effect.Operation.{Operation}
 use Rattle.s390x_operations.specs.declared.effect.VectorLayout.{VectorLayout}
 use Rattle.s390x_typed_steps.specs.MachineInstruction.{vrx}
-use Rattle.s390x_typed_steps.specs.Memory.{MemoryInstruction, StorageForm, VrxForm, FloatForm, type_of, access_vector, access_elements, access_lane, reversed_code, is_left_lane, load_left, store_left, load_lane_opcode, store_lane_opcode, load_reversed_opcode, store_reversed_opcode, fault_code}
+use Rattle.s390x_typed_steps.specs.Memory.{MemoryInstruction, StorageForm, VrxForm, FloatForm, type_of, access_vector, access_lane, reversed_code, is_left_lane, load_left, store_left, load_lane_opcode, store_lane_opcode, load_reversed_opcode, store_reversed_opcode, fault_code}
 use Rattle.s390x_typed_steps.specs.Operands.{operand_general}
 use Rattle.s390x_typed_steps.specs.Parts.{memory_or, step_parts}
 use Rattle.s390x_typed_steps.specs.Steps.{Step}
@@ -31,7 +31,6 @@ use Rattle.s390x_typed_steps.specs.declared.mem_inst_type.MemInstType.{MemInstTy
 use Rattle.s390x_machine.specs.declared.semantics.RowSemantics.TheVariants as Row
 use Rattle.s390x_machine.specs.declared.semantics.VectorStorage.{VectorStorage}
 use Rattle.s390x_machine.specs.CodeAt.{ValidMemoryOr}
-use Rattle.s390x_machine.specs.Computations.{with_rule}
 use Rattle.s390x_machine.specs.Layout.{Layout}
 use Rattle.s390x_machine.specs.OneStep.{StepRuns}
 use Rattle.s390x_machine.specs.Operands.{indexed}

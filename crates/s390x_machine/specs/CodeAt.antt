@@ -10,11 +10,11 @@ use Rattle.s390x_typed_steps.specs.SingleInstruction.{SingleInstruction, single_
 use Rattle.s390x_typed_steps.specs.General.{is_general, is_nonzero, is_scratch}
 use Rattle.s390x_typed_steps.specs.Calls.{is_target}
 use Rattle.s390x_typed_steps.specs.Causes.{loses_scratch, target_cause}
-use Rattle.s390x_typed_steps.specs.Memory.{MemoryInstruction, memory, type_of}
+use Rattle.s390x_typed_steps.specs.Memory.{MemoryInstruction, memory, loaded_memory, type_of}
 use Rattle.s390x_typed_steps.specs.Operands.{has_form, operand_general, offset_fits}
 use Rattle.s390x_typed_steps.specs.Ranges.{IsConditionMask, OperandInRange}
 use Rattle.s390x_typed_steps.specs.StepBody.{Remainder, NothingLeft, BranchLeft}
-use Rattle.s390x_typed_steps.specs.Steps.{Step, Plain, Shortened, Opening, Back, Break, CallingStep, NoLoadStep, TailOpeningStep, TailJumpStep}
+use Rattle.s390x_typed_steps.specs.Steps.{Step, Plain, LoadedStep, Shortened, Opening, Back, Break, CallingStep, NoLoadStep, TailOpeningStep, TailJumpStep}
 use Rattle.s390x_typed_steps.specs.Parts.{CodePart, RelativeSymbol, CallSymbol, part_size, step_parts, step_size}
 use Rattle.s390x_typed_steps.specs.VectorComposite.{composite_cause}
 use Rattle.s390x_typed_steps.specs.Rows.{step_bytes}
@@ -80,10 +80,11 @@ abbrev pub IsValidInstruction : Layout → Inst → Type 0
 IsValidInstruction L i = OperandsValidOr (single_instruction i) (ValidMemoryOr L (memory i) (IsValidBranch L i))
 
 -- what emission has checked of a step: of an instruction its own; of a branch of a loop that its mask is one of a condition,
--- and that it leads to a step or past the last one; of a call and of a tail call's jump that their registers may stand there
+-- and that it leads to a step or past the last one; of an instruction whose operand's address is loaded first, what is asked of its other rows; of a call and of a tail call's jump that their registers may stand there
 abbrev pub IsValidStep : Layout → Step → Type 0
 IsValidStep L (Plain i) = IsValidInstruction L i
 IsValidStep L (Shortened r i) = IsValidInstruction L i
+IsValidStep L (LoadedStep i) = ValidMemoryOr L (loaded_memory i) ⊥
 IsValidStep L Opening = Unit {0}
 IsValidStep L (Back mask target) = IsConditionMask mask × (target ≤ length L.steps)
 IsValidStep L (Break mask target) = IsConditionMask mask × (target ≤ length L.steps)

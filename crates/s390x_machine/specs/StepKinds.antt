@@ -1,5 +1,5 @@
 -- What each typed step does (cranelift-codegen, `emit.rs`). It knows no bytes: its operations are those of the common relation.
-use Rattle.std.specs.Prelude.{ℕ, pos, Bool, true, false, cond, List, Option, Some, None}
+use Rattle.std.specs.Prelude.{ℕ, pos, Bool, true, false, cond, List, Option, Some, None, option_map}
 use Rattle.s390x_base.specs.Regs.{number_of}
 use Rattle.s390x_base.specs.declared.regs.Reg.TheVariants.{Real}
 use Rattle.s390x_base.specs.declared.ir.MachLabel.{MachLabel}
@@ -24,7 +24,7 @@ use Rattle.s390x_operations.specs.declared.stop.StopKind.{StopKind}
 use Rattle.s390x_operations.specs.declared.stop.StopKind.TheVariants.{Access, Specification, Divide, CompareTrap}
 use Rattle.s390x_machine.specs.Computations.{computes, compares, alu_computation, alu_three_rule, alu_two_rule, unary_computation, unary_rule, comparison, on_words, on_doublewords, unsigned_word, signed_word, signed_halfword, on_immediate, compares_on_immediate, computes_immediate, compares_immediate, doubleword}
 use Rattle.s390x_machine.specs.Computations.{part_mask, on_selected, part_operator, at_part, at_half, half_mask, inserts_half, extension, shifts, rotates_into, rotates_to_test, multiplies_signed, multiplies_logical, divides_signed, divides_logical, compares_and_traps, compares_immediate_and_traps, finds_leftmost, idles, havocs, copies_access, moves_where, moves_immediate_where, takes_from_stack}
-use Rattle.s390x_machine.specs.Storage.{operand_address, needs_scratch, aligned_where, is_relative_access, OperandStep, operand_step}
+use Rattle.s390x_machine.specs.Storage.{operand_address, needs_scratch, aligned_where, is_relative_access, OperandStep, operand_step, loaded_step}
 use Rattle.s390x_inst.specs.Memory.{flags_of}
 use Rattle.s390x_inst.specs.declared.calls.CallInstDest.{CallInstDest}
 use Rattle.s390x_inst.specs.declared.calls.CallInstDest.TheVariants.{Direct, Indirect}
@@ -35,7 +35,7 @@ use Rattle.s390x_inst.specs.declared.inst.Inst.TheVariants.{Vector}
 use Rattle.s390x_typed_steps.specs.VectorInstruction.{divides}
 use Rattle.s390x_machine.specs.VectorSteps.{ConditionalOperation, conditional_operation, vector_operation}
 use Rattle.s390x_machine.specs.Layout.{Layout, block_address}
-use Rattle.s390x_typed_steps.specs.Steps.{Step, Plain, Shortened, Opening, Back, Break, CallingStep, NoLoadStep, TailOpeningStep, TailJumpStep}
+use Rattle.s390x_typed_steps.specs.Steps.{Step, Plain, LoadedStep, Shortened, Opening, Back, Break, CallingStep, NoLoadStep, TailOpeningStep, TailJumpStep}
 
 -- what a typed step does
 pub data StepKind : Type 0 where
@@ -236,10 +236,15 @@ kind_or (Some x) others = Performs x.needs x.operation x.code
 abbrev pub instruction_kind : Layout → Inst → StepKind
 instruction_kind L i = kind_or (performed L i) (kind_or (performed_in_memory L i) (branch_kind i))
 
+-- what an instruction does whose operand's address is loaded first
+abbrev pub loaded_kind : Layout → Inst → StepKind
+loaded_kind L i = kind_or (performed_by L (option_map loaded_step (operand_step i))) Unsupported
+
 -- an opening is a step without bytes; a loop's back branch and its breaks lead to steps; a call and the jump of a tail call end the run
 abbrev pub step_kind : Layout → Step → StepKind
 step_kind L (Plain i) = instruction_kind L i
 step_kind L (Shortened r i) = instruction_kind L i
+step_kind L (LoadedStep i) = loaded_kind L i
 step_kind L Opening = Silent
 step_kind L (Back mask target) = Leads mask target
 step_kind L (Break mask target) = Leads mask target

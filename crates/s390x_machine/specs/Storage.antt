@@ -212,6 +212,10 @@ pub record OperandStep : Type 0 where
 abbrev pub is_relative_access : OperandStep → Bool
 is_relative_access x = is_relative x.operand && (x.accesses && not (needs_scratch x.forms x.operand))
 
+-- the same where its address is loaded first: no row takes an operand relative to the instruction
+abbrev pub loaded_step : OperandStep → OperandStep
+loaded_step x = record x { forms = record x.forms { have_pcrel = false } }
+
 -- one that accesses the memory there
 abbrev pub accesses_at : MemInstType → MemArg → (ℕ → Registers → Operation) → Option OperandStep
 accesses_at forms mem operation = Some (record { operand = mem; forms = forms; accesses = true; operation = operation })

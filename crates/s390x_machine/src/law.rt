@@ -7,7 +7,7 @@ ghost use Rattle.s390x_machine.specs.Functions.{function_layout, StandsAsCode};
 ghost use Rattle.s390x_typed_steps.specs.Causes.{blocks_cause};
 ghost use Rattle.s390x_typed_steps.specs.Folding.{folded_trees};
 ghost use Rattle.s390x_typed_steps.specs.Ranges.{OperandInRange, BlocksInRange};
-ghost use Rattle.s390x_typed_steps.specs.Steps.{Step, Plain, function_steps};
+ghost use Rattle.s390x_typed_steps.specs.Steps.{Step, Plain, LoadedStep, function_steps};
 ghost use Rattle.s390x_machine.specs.Layout.{Layout};
 ghost use Rattle.s390x_machine.specs.CodeAt.{AllCodeAt, IsBlock, IsFoldedRight, IsValidStep, IsValidMemory, ValidMemoryOr};
 ghost use Rattle.s390x_machine.specs.Match.{EveryRun, EveryReturnRun, EveryBlockRun};
@@ -27,7 +27,7 @@ ghost use Rattle.s390x_typed_steps.specs.declared.mem_inst_type.MemInstType.{Mem
 ghost use Rattle.s390x_machine.specs.Storage.{operand_address, needs_scratch, operand_step};
 ghost use Rattle.s390x_machine.specs.Aligned.{IsOwn, OwnOperand, IsOnBoundary, relative_row_of, StepAccesses, NeverMisaligned};
 ghost use Rattle.s390x_machine.specs.StepKinds.{performed_in_memory};
-ghost use Rattle.s390x_typed_steps.specs.Memory.{MemoryInstruction, memory, type_of};
+ghost use Rattle.s390x_typed_steps.specs.Memory.{MemoryInstruction, memory, loaded_memory, type_of};
 ghost use Rattle.s390x_typed_steps.specs.Storage.{relative_bytes};
 ghost use Rattle.s390x_machine.specs.Helpers.{IsAddressable, HelpersKeep, TakesOperand};
 
@@ -57,7 +57,8 @@ pub fn folded_steps_are_valid()
     ensures folded { (environment : LinkEnvironment) (ts : List Tree) (image : CodeImage) → BlocksInRange ts → (k : ℕ) (s : Step) → slice_get (function_steps (folded_trees ts)) k ≡ Some s → IsFoldedRight (function_layout environment (folded_trees ts) image) k s }
 {}
 
-/// Every machine run from a step's place, in every state in which the image lies in memory and under every list of others' writes, is allowed by the typed steps.
+/// Every machine run from a step's place, in every state in which the image lies in memory and under every list of others' writes, is allowed by the typed
+/// steps.
 pub fn every_run()
     ensures { (L : Layout) → AllCodeAt L → (k : ℕ) → EveryRun L k }
 {}
@@ -105,7 +106,8 @@ pub fn helpers_keep_the_address()
 
 /// The operand of each step that accesses memory is one whose address helpers keep.
 pub fn operands_are_addressable()
-    ensures { (L : Layout) → AllCodeAt L → (k : ℕ) (i : Inst) (x : MemoryInstruction) → slice_get L.steps k ≡ Some (Plain i) → memory i ≡ Some x → IsAddressable L (type_of x.form x.accesses) x.operand }
+    ensures whole { (L : Layout) → AllCodeAt L → (k : ℕ) (i : Inst) (x : MemoryInstruction) → slice_get L.steps k ≡ Some (Plain i) → memory i ≡ Some x → IsAddressable L (type_of x.form x.accesses) x.operand }
+    ensures loaded { (L : Layout) → AllCodeAt L → (k : ℕ) (i : Inst) (x : MemoryInstruction) → slice_get L.steps k ≡ Some (LoadedStep i) → loaded_memory i ≡ Some x → IsAddressable L (type_of x.form x.accesses) x.operand }
 {}
 
 /// Where the rows have a form for an operand, the one that stands in the access is of a form that they take, and its displacement lies in its range.

@@ -1,6 +1,6 @@
 //! Jobs whose instructions have operands in memory, go by tables, or name symbols.
 use crate::folding_rows::FOLDED_JOBS;
-use crate::relative_rows::{PLACE_JOBS, RELATIVE_ROWS};
+use crate::relative_rows::{LOADED_JOBS, PLACE_JOBS, RELATIVE_ROWS};
 use crate::runs::{GOOD, expect, expect_rows};
 use crate::stack_rows::STACK_JOBS;
 use crate::vector_rows::VECTOR_JOBS;
@@ -179,6 +179,15 @@ fn operands_relative_to_the_instruction_have_their_code(rt: HostRuntime) -> Resu
 #[test]
 fn blocks_constants_and_symbols_are_operands(rt: HostRuntime) -> Result<(), Fail> {
     for (words, job, status, told) in PLACE_JOBS {
+        let input = Vec::from_slice(rt.alloc(), job.as_bytes())?;
+        expect(&rt, words, input, GOOD, (status, told))?;
+    }
+    Ok(())
+}
+
+#[test]
+fn jobs_without_relative_rows(rt: HostRuntime) -> Result<(), Fail> {
+    for (words, job, status, told) in LOADED_JOBS {
         let input = Vec::from_slice(rt.alloc(), job.as_bytes())?;
         expect(&rt, words, input, GOOD, (status, told))?;
     }

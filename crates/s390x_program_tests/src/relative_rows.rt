@@ -30,7 +30,7 @@ pub const RELATIVE_ROWS: [(&str, &str); 22] = [
 
 /// Words, a job, and how it ends.
 #[rattlefmt::skip]
-pub const PLACE_JOBS: [(&str, &str, Status, &str); 34] = [
+pub const PLACE_JOBS: [(&str, &str, Status, &str); 31] = [
     // constants
     ("image 4096", "const 8 0102030405060708\nblock\nLoad64 %r2 Constant(0)\nRet %r14\nend\n", Status::Ok, "c4280000000407fe0102030405060708\n"),
     ("image 4096", "const 4 0102030405060708\nblock\nLoad64 %r2 Constant(0)\nRet %r14\nend\n", Status::Refused, "refused BadAlignment\n"),
@@ -62,11 +62,26 @@ pub const PLACE_JOBS: [(&str, &str, Status, &str); 34] = [
     ("image 4096", "block\nStore64 %r1 Symbol(u1,2147483647,u)\nend\n", Status::Refused, "refused ScratchConflict\n"),
     ("image 4096", "block\nCmpRX CmpL32Ext16 %r2 Symbol(u1,0,u)\nend\n", Status::Refused, "refused BadOperator\n"),
     ("image 4096", "block\nCmpRX CmpL64Ext16 %v2 RegOffset(%r3,0,a)\nend\n", Status::Refused, "refused BadOperator\n"),
-    // a machine without relative loads, stores and compares
-    ("image 4096", "flags norel\nblock\nCmpRX CmpL32Ext16 %r2 Label(0)\nend\n", Status::Refused, "refused BadOperator\n"),
     ("image 4096", "block\nCmpRX CmpL32Ext16 %r2 Label(0)\nend\n", Status::Ok, "c62700000000\n"),
-    ("image 4096", "flags norel\nconst 1 2a\nblock\nLoadAddr %r2 Constant(0)\nend\n", Status::Ok, "c020000000032a\n"),
-    ("image 4096", "flags norel\nconst 1 2a\nblock\nLoad32ZExt8 %r2 Constant(0)\nend\n", Status::Ok, "c01000000006e320100000942a\n"),
     ("emit", "block\nNop2\nLoad64 %r2 Symbol(u1,8,a!heap_oob)\nend\n", Status::Ok, "code 0707c42800000000\nalign 4\nblock 0 0\nreloc 4 PCRel32Dbl u1 10\ntrap 2 heap_oob\n"),
     ("emit", "block\nNop2\nLoad64 %r2 Symbol(u1,-8,u!heap_oob)\nend\n", Status::Ok, "code 0707c01000000000e32010000004\nalign 4\nblock 0 0\nreloc 4 PCRel32Dbl u1 -6\ntrap 8 heap_oob\n"),
+];
+
+/// The same on a machine without relative loads, stores and compares: the address comes first, and relocation and alignment follow it.
+#[rattlefmt::skip]
+pub const LOADED_JOBS: [(&str, &str, Status, &str); 14] = [
+    ("image 4096", "flags norel\nconst 8 0102030405060708\nblock\nLoad64 %r2 Constant(0)\nRet %r14\nend\n", Status::Ok, "c01000000008e3201000000407fe00000102030405060708\n"),
+    ("image 4096", "flags norel\nconst 4 0102030405060708\nblock\nLoad64 %r2 Constant(0)\nRet %r14\nend\n", Status::Ok, "c01000000008e3201000000407fe00000102030405060708\n"),
+    ("image 4096", "flags norel\nconst 2 0102030405060708\nblock\nLoad64 %r2 Constant(0)\nRet %r14\nend\n", Status::Ok, "c01000000007e3201000000407fe0102030405060708\n"),
+    ("image 4096", "flags norel\nconst 3 0102030405060708\nblock\nLoad64 %r2 Constant(0)\nRet %r14\nend\n", Status::Refused, "refused BadAlignment\n"),
+    ("image 4096", "flags norel\nconst 8 0102030405060708\nblock\nLoad64 %r2 Constant(1)\nRet %r14\nend\n", Status::Refused, "refused UnboundLabel\n"),
+    ("image 4096", "flags norel\nsymbol u1 65536\nblock\nStore64 %r1 Symbol(u1,0,a)\nend\n", Status::Refused, "refused ScratchConflict\n"),
+    ("image 4096", "flags norel\nblock\nCmpRX CmpS64 %r1 Label(0)\nend\n", Status::Refused, "refused ScratchConflict\n"),
+    ("image 4096", "flags norel\nblock\nCmpRX CmpL32Ext16 %r2 Label(0)\nend\n", Status::Refused, "refused BadOperator\n"),
+    ("image 4096", "flags norel\nblock\nLoad64 %r2 Symbol(u1,2147483646,a)\nend\n", Status::Refused, "refused OffsetOutOfRange\n"),
+    ("image 4096", "flags norel\nblock\nLoad64 %r2 Label(0)\nend\n", Status::Ok, "c01000000000e32010000004\n"),
+    ("image 4096", "flags norel\nconst 1 2a\nblock\nLoadAddr %r2 Constant(0)\nend\n", Status::Ok, "c020000000032a\n"),
+    ("image 4096", "flags norel\nconst 1 2a\nblock\nLoad32ZExt8 %r2 Constant(0)\nend\n", Status::Ok, "c01000000006e320100000942a\n"),
+    ("emit", "flags norel\nblock\nNop2\nLoad64 %r2 Symbol(u1,8,a!heap_oob)\nend\n", Status::Ok, "code 0707c01000000000e32010000004\nalign 4\nblock 0 0\nreloc 4 PCRel32Dbl u1 10\ntrap 8 heap_oob\n"),
+    ("emit", "flags norel\nblock\nNop2\nLoad64 %r2 Symbol(u1,-8,u!heap_oob)\nend\n", Status::Ok, "code 0707c01000000000e32010000004\nalign 4\nblock 0 0\nreloc 4 PCRel32Dbl u1 -6\ntrap 8 heap_oob\n"),
 ];

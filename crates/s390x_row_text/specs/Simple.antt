@@ -1,5 +1,5 @@
 -- The text of an instruction that is neither a loop nor a call (cranelift-codegen, `mod.rs`).
-use Rattle.std.specs.Prelude.{[], Some}
+use Rattle.std.specs.Prelude.{[], Bool, Some}
 use Rattle.s390x_inst.specs.Emission.{Emission}
 use Rattle.s390x_inst.specs.declared.inst.Inst.{Inst}
 use Rattle.s390x_inst.specs.declared.inst.Inst.TheVariants.{Vector}
@@ -24,6 +24,6 @@ abbrev pub register_text : Emission → Inst → Text
 register_text e i =
     text_or (arithmetic_text i) (text_or (pair_instruction_text i) (text_or (compare_text i) (text_or (move_text i) (text_or (control_text i) (other_text e i)))))
 
--- the text of an instruction that is neither a loop nor a call
-abbrev pub simple_text : Emission → Inst → Text
-simple_text e i = text_or (load_text e i) (text_or (store_text e i) (text_or (storage_operator_text e i) (register_text e i)))
+-- the text of an instruction that is neither a loop nor a call, on a machine that has accesses relative to the instruction or lacks them
+abbrev pub simple_text : (has_relative : Bool) → Emission → Inst → Text
+simple_text has e i = text_or (load_text has e i) (text_or (store_text has e i) (text_or (storage_operator_text has e i) (register_text e i)))

@@ -83,10 +83,11 @@ rows_of r = record { short = option_map (λ s. s.now) r.short; long = option_map
 abbrev pub has_row : Rows → Bool
 has_row r = is_some r.short || is_some r.long || is_some r.relative
 
--- the forms of an operand that the rows have; a relative operand of an access has to be aligned
-abbrev pub type_of_rows : Rows → MemInstType
-type_of_rows r =
-    record { have_d12 = is_some r.short; have_d20 = is_some r.long; have_pcrel = is_some r.relative; have_unaligned_pcrel = is_some r.relative && not r.accesses; have_index = r.index }
+-- the forms of an operand that the rows have, on a machine that has accesses relative to the instruction or lacks them; a relative operand of an access has to be
+-- aligned
+abbrev pub type_of_rows : (has_relative : Bool) → Rows → MemInstType
+type_of_rows has r =
+    record { have_d12 = is_some r.short; have_d20 = is_some r.long; have_pcrel = is_some r.relative && (has || not r.accesses); have_unaligned_pcrel = is_some r.relative && not r.accesses; have_index = r.index }
 
 -- a mnemonic; nothing where there is none
 abbrev pub or_nothing : Option (List ℕ) → List ℕ
@@ -119,61 +120,65 @@ address_cause None = None
 address_cause (Some e) = Some (Address e)
 
 -- the causes: there is no row at all, or the address can't be made
-abbrev pub access_cause : Rows → MemArg → Option TextError
-access_cause r m = cond (has_row r) (address_cause (operand_cause (type_of_rows r) m)) (Some NoRow)
+abbrev pub access_cause : (has_relative : Bool) → Rows → MemArg → Option TextError
+access_cause has r m = cond (has_row r) (address_cause (operand_cause (type_of_rows has r) m)) (Some NoRow)
 
 -- helpers, and the access with its operands before and behind that in memory
 abbrev pub finalized_text : Rows → Finalized → (before after : List (List ℕ)) → List ℕ
 finalized_text r f before after = helpers_text f.helpers ++ spelled (name_at r f.operand) (before ++ (memory_text f.operand ∷ after))
 
 -- the text of an instruction with an operand in memory, in a state of emission
+abbrev pub access_where : (has_relative : Bool) → Rows → Emission → (before : List (List ℕ)) → MemArg → (after : List (List ℕ)) → Text
+access_where has r e before m after = record { cause = access_cause has r (resolved e m); bytes = finalized_text r (finalized (type_of_rows has r) (resolved e m)) before after }
+
+-- the same of one that has no row relative to the instruction, or of LOAD ADDRESS, which each machine has
 abbrev pub access : Rows → Emission → (before : List (List ℕ)) → MemArg → (after : List (List ℕ)) → Text
-access r e before m after = record { cause = access_cause r (resolved e m); bytes = finalized_text r (finalized (type_of_rows r) (resolved e m)) before after }
+access r e before m after = access_where true r e before m after
 
 -- ---- instructions
 
--- loads
-abbrev pub load_text : Emission → Inst → Option Text
-load_text e (Load32 rd mem) = Some (access (rx (Some (codes "l")) (Some (codes "ly")) (Some (codes "lrl"))) e (reg_text rd ∷ []) mem [])
-load_text e (Load32ZExt8 rd mem) = Some (access (rx None (Some (codes "llc")) None) e (reg_text rd ∷ []) mem [])
-load_text e (Load32SExt8 rd mem) = Some (access (rx None (Some (codes "lb")) None) e (reg_text rd ∷ []) mem [])
-load_text e (Load32ZExt16 rd mem) = Some (access (rx None (Some (codes "llh")) (Some (codes "llhrl"))) e (reg_text rd ∷ []) mem [])
-load_text e (Load32SExt16 rd mem) = Some (access (rx (Some (codes "lh")) (Some (codes "lhy")) (Some (codes "lhrl"))) e (reg_text rd ∷ []) mem [])
-load_text e (Load64 rd mem) = Some (access (rx None (Some (codes "lg")) (Some (codes "lgrl"))) e (reg_text rd ∷ []) mem [])
-load_text e (Load64ZExt8 rd mem) = Some (access (rx None (Some (codes "llgc")) None) e (reg_text rd ∷ []) mem [])
-load_text e (Load64SExt8 rd mem) = Some (access (rx None (Some (codes "lgb")) None) e (reg_text rd ∷ []) mem [])
-load_text e (Load64ZExt16 rd mem) = Some (access (rx None (Some (codes "llgh")) (Some (codes "llghrl"))) e (reg_text rd ∷ []) mem [])
-load_text e (Load64SExt16 rd mem) = Some (access (rx None (Some (codes "lgh")) (Some (codes "lghrl"))) e (reg_text rd ∷ []) mem [])
-load_text e (Load64ZExt32 rd mem) = Some (access (rx None (Some (codes "llgf")) (Some (codes "llgfrl"))) e (reg_text rd ∷ []) mem [])
-load_text e (Load64SExt32 rd mem) = Some (access (rx None (Some (codes "lgf")) (Some (codes "lgfrl"))) e (reg_text rd ∷ []) mem [])
-load_text e (LoadRev16 rd mem) = Some (access (rx None (Some (codes "lrvh")) None) e (reg_text rd ∷ []) mem [])
-load_text e (LoadRev32 rd mem) = Some (access (rx None (Some (codes "lrv")) None) e (reg_text rd ∷ []) mem [])
-load_text e (LoadRev64 rd mem) = Some (access (rx None (Some (codes "lrvg")) None) e (reg_text rd ∷ []) mem [])
-load_text e _ = None
+-- loads, on a machine that has rows relative to the instruction or lacks them
+abbrev pub load_text : (has_relative : Bool) → Emission → Inst → Option Text
+load_text has e (Load32 rd mem) = Some (access_where has (rx (Some (codes "l")) (Some (codes "ly")) (Some (codes "lrl"))) e (reg_text rd ∷ []) mem [])
+load_text has e (Load32ZExt8 rd mem) = Some (access_where has (rx None (Some (codes "llc")) None) e (reg_text rd ∷ []) mem [])
+load_text has e (Load32SExt8 rd mem) = Some (access_where has (rx None (Some (codes "lb")) None) e (reg_text rd ∷ []) mem [])
+load_text has e (Load32ZExt16 rd mem) = Some (access_where has (rx None (Some (codes "llh")) (Some (codes "llhrl"))) e (reg_text rd ∷ []) mem [])
+load_text has e (Load32SExt16 rd mem) = Some (access_where has (rx (Some (codes "lh")) (Some (codes "lhy")) (Some (codes "lhrl"))) e (reg_text rd ∷ []) mem [])
+load_text has e (Load64 rd mem) = Some (access_where has (rx None (Some (codes "lg")) (Some (codes "lgrl"))) e (reg_text rd ∷ []) mem [])
+load_text has e (Load64ZExt8 rd mem) = Some (access_where has (rx None (Some (codes "llgc")) None) e (reg_text rd ∷ []) mem [])
+load_text has e (Load64SExt8 rd mem) = Some (access_where has (rx None (Some (codes "lgb")) None) e (reg_text rd ∷ []) mem [])
+load_text has e (Load64ZExt16 rd mem) = Some (access_where has (rx None (Some (codes "llgh")) (Some (codes "llghrl"))) e (reg_text rd ∷ []) mem [])
+load_text has e (Load64SExt16 rd mem) = Some (access_where has (rx None (Some (codes "lgh")) (Some (codes "lghrl"))) e (reg_text rd ∷ []) mem [])
+load_text has e (Load64ZExt32 rd mem) = Some (access_where has (rx None (Some (codes "llgf")) (Some (codes "llgfrl"))) e (reg_text rd ∷ []) mem [])
+load_text has e (Load64SExt32 rd mem) = Some (access_where has (rx None (Some (codes "lgf")) (Some (codes "lgfrl"))) e (reg_text rd ∷ []) mem [])
+load_text has e (LoadRev16 rd mem) = Some (access_where has (rx None (Some (codes "lrvh")) None) e (reg_text rd ∷ []) mem [])
+load_text has e (LoadRev32 rd mem) = Some (access_where has (rx None (Some (codes "lrv")) None) e (reg_text rd ∷ []) mem [])
+load_text has e (LoadRev64 rd mem) = Some (access_where has (rx None (Some (codes "lrvg")) None) e (reg_text rd ∷ []) mem [])
+load_text has e _ = None
 
 -- stores; those of an immediate show the operand first
-abbrev pub store_text : Emission → Inst → Option Text
-store_text e (Store8 rd mem) = Some (access (rx (Some (codes "stc")) (Some (codes "stcy")) None) e (reg_text rd ∷ []) mem [])
-store_text e (Store16 rd mem) = Some (access (rx (Some (codes "sth")) (Some (codes "sthy")) (Some (codes "sthrl"))) e (reg_text rd ∷ []) mem [])
-store_text e (Store32 rd mem) = Some (access (rx (Some (codes "st")) (Some (codes "sty")) (Some (codes "strl"))) e (reg_text rd ∷ []) mem [])
-store_text e (Store64 rd mem) = Some (access (rx None (Some (codes "stg")) (Some (codes "stgrl"))) e (reg_text rd ∷ []) mem [])
-store_text e (StoreRev16 rd mem) = Some (access (rx None (Some (codes "strvh")) None) e (reg_text rd ∷ []) mem [])
-store_text e (StoreRev32 rd mem) = Some (access (rx None (Some (codes "strv")) None) e (reg_text rd ∷ []) mem [])
-store_text e (StoreRev64 rd mem) = Some (access (rx None (Some (codes "strvg")) None) e (reg_text rd ∷ []) mem [])
-store_text e (StoreImm8 imm mem) = Some (access (rs (Some (codes "mvi")) (Some (codes "mviy"))) e [] mem (decimal imm ∷ []))
-store_text e (StoreImm16 imm mem) = Some (access (rs (Some (codes "mvhhi")) None) e [] mem (signed_decimal imm ∷ []))
-store_text e (StoreImm32SExt16 imm mem) = Some (access (rs (Some (codes "mvhi")) None) e [] mem (signed_decimal imm ∷ []))
-store_text e (StoreImm64SExt16 imm mem) = Some (access (rs (Some (codes "mvghi")) None) e [] mem (signed_decimal imm ∷ []))
-store_text e _ = None
+abbrev pub store_text : (has_relative : Bool) → Emission → Inst → Option Text
+store_text has e (Store8 rd mem) = Some (access_where has (rx (Some (codes "stc")) (Some (codes "stcy")) None) e (reg_text rd ∷ []) mem [])
+store_text has e (Store16 rd mem) = Some (access_where has (rx (Some (codes "sth")) (Some (codes "sthy")) (Some (codes "sthrl"))) e (reg_text rd ∷ []) mem [])
+store_text has e (Store32 rd mem) = Some (access_where has (rx (Some (codes "st")) (Some (codes "sty")) (Some (codes "strl"))) e (reg_text rd ∷ []) mem [])
+store_text has e (Store64 rd mem) = Some (access_where has (rx None (Some (codes "stg")) (Some (codes "stgrl"))) e (reg_text rd ∷ []) mem [])
+store_text has e (StoreRev16 rd mem) = Some (access_where has (rx None (Some (codes "strvh")) None) e (reg_text rd ∷ []) mem [])
+store_text has e (StoreRev32 rd mem) = Some (access_where has (rx None (Some (codes "strv")) None) e (reg_text rd ∷ []) mem [])
+store_text has e (StoreRev64 rd mem) = Some (access_where has (rx None (Some (codes "strvg")) None) e (reg_text rd ∷ []) mem [])
+store_text has e (StoreImm8 imm mem) = Some (access_where has (rs (Some (codes "mvi")) (Some (codes "mviy"))) e [] mem (decimal imm ∷ []))
+store_text has e (StoreImm16 imm mem) = Some (access_where has (rs (Some (codes "mvhhi")) None) e [] mem (signed_decimal imm ∷ []))
+store_text has e (StoreImm32SExt16 imm mem) = Some (access_where has (rs (Some (codes "mvhi")) None) e [] mem (signed_decimal imm ∷ []))
+store_text has e (StoreImm64SExt16 imm mem) = Some (access_where has (rs (Some (codes "mvghi")) None) e [] mem (signed_decimal imm ∷ []))
+store_text has e _ = None
 
 -- operators with an operand in memory, multiples, addresses, and accesses that are locked
-abbrev pub storage_operator_text : Emission → Inst → Option Text
-storage_operator_text e (AluRX op rd ri mem) = Some (access (rx (alu_short_name op) (alu_long_name op) None) e (reused_text rd ri ∷ []) mem [])
-storage_operator_text e (CmpRX op rn mem) = Some (access (rx (cmp_short_name op) (cmp_long_name op) (Some (cmp_relative_name op))) e (reg_text rn ∷ []) mem [])
-storage_operator_text e (LoadMultiple64 rt rt2 mem) = Some (access (rs None (Some (codes "lmg"))) e (reg_text rt ∷ reg_text rt2 ∷ []) mem [])
-storage_operator_text e (StoreMultiple64 rt rt2 mem) = Some (access (rs None (Some (codes "stmg"))) e (reg_text rt ∷ reg_text rt2 ∷ []) mem [])
-storage_operator_text e (LoadAddr rd mem) = Some (access address_rows e (reg_text rd ∷ []) mem [])
-storage_operator_text e (AtomicRmw op rd rn mem) = Some (access (rs None (atomic_name op)) e (reg_text rd ∷ reg_text rn ∷ []) mem [])
-storage_operator_text e (AtomicCas32 rd ri rn mem) = Some (access (rs (Some (codes "cs")) (Some (codes "csy"))) e (reused_text rd ri ∷ reg_text rn ∷ []) mem [])
-storage_operator_text e (AtomicCas64 rd ri rn mem) = Some (access (rs None (Some (codes "csg"))) e (reused_text rd ri ∷ reg_text rn ∷ []) mem [])
-storage_operator_text e _ = None
+abbrev pub storage_operator_text : (has_relative : Bool) → Emission → Inst → Option Text
+storage_operator_text has e (AluRX op rd ri mem) = Some (access_where has (rx (alu_short_name op) (alu_long_name op) None) e (reused_text rd ri ∷ []) mem [])
+storage_operator_text has e (CmpRX op rn mem) = Some (access_where has (rx (cmp_short_name op) (cmp_long_name op) (Some (cmp_relative_name op))) e (reg_text rn ∷ []) mem [])
+storage_operator_text has e (LoadMultiple64 rt rt2 mem) = Some (access_where has (rs None (Some (codes "lmg"))) e (reg_text rt ∷ reg_text rt2 ∷ []) mem [])
+storage_operator_text has e (StoreMultiple64 rt rt2 mem) = Some (access_where has (rs None (Some (codes "stmg"))) e (reg_text rt ∷ reg_text rt2 ∷ []) mem [])
+storage_operator_text has e (LoadAddr rd mem) = Some (access_where has address_rows e (reg_text rd ∷ []) mem [])
+storage_operator_text has e (AtomicRmw op rd rn mem) = Some (access_where has (rs None (atomic_name op)) e (reg_text rd ∷ reg_text rn ∷ []) mem [])
+storage_operator_text has e (AtomicCas32 rd ri rn mem) = Some (access_where has (rs (Some (codes "cs")) (Some (codes "csy"))) e (reused_text rd ri ∷ reg_text rn ∷ []) mem [])
+storage_operator_text has e (AtomicCas64 rd ri rn mem) = Some (access_where has (rs None (Some (codes "csg"))) e (reused_text rd ri ∷ reg_text rn ∷ []) mem [])
+storage_operator_text has e _ = None

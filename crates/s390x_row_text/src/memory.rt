@@ -12,54 +12,56 @@ use crate::storage::{access2, address_rows, rs_access_then, rs_access3, rx_acces
 use s390x_inst::{EmitState, Inst};
 use std::alloc::Global;
 
-/// Appends the text of a load; None for another instruction.
+/// Appends the text of a load, on a machine that has rows relative to the instruction or lacks them; None for another instruction.
 #[rattlefmt::skip]
 pub fn put_load(
     alloc: Global,
     out: &mut String,
+    has: bool,
     state: &EmitState,
     inst: &Inst,
 ) -> Option<Result<(), TextError>>
-    ensures { PrintsWhere result (string_bytes out.old) (string_bytes out.new) (load_text state.now inst.now) }
+    ensures { PrintsWhere result (string_bytes out.old) (string_bytes out.new) (load_text has state.now inst.now) }
 {
     match inst {
-        Inst::Load32 { rd, mem } => Some(rx_access(alloc, out, state, Some("l"), Some("ly"), Some("lrl"), rd, mem)),
-        Inst::Load32ZExt8 { rd, mem } => Some(rx_access(alloc, out, state, None, Some("llc"), None, rd, mem)),
-        Inst::Load32SExt8 { rd, mem } => Some(rx_access(alloc, out, state, None, Some("lb"), None, rd, mem)),
-        Inst::Load32ZExt16 { rd, mem } => Some(rx_access(alloc, out, state, None, Some("llh"), Some("llhrl"), rd, mem)),
-        Inst::Load32SExt16 { rd, mem } => Some(rx_access(alloc, out, state, Some("lh"), Some("lhy"), Some("lhrl"), rd, mem)),
-        Inst::Load64 { rd, mem } => Some(rx_access(alloc, out, state, None, Some("lg"), Some("lgrl"), rd, mem)),
-        Inst::Load64ZExt8 { rd, mem } => Some(rx_access(alloc, out, state, None, Some("llgc"), None, rd, mem)),
-        Inst::Load64SExt8 { rd, mem } => Some(rx_access(alloc, out, state, None, Some("lgb"), None, rd, mem)),
-        Inst::Load64ZExt16 { rd, mem } => Some(rx_access(alloc, out, state, None, Some("llgh"), Some("llghrl"), rd, mem)),
-        Inst::Load64SExt16 { rd, mem } => Some(rx_access(alloc, out, state, None, Some("lgh"), Some("lghrl"), rd, mem)),
-        Inst::Load64ZExt32 { rd, mem } => Some(rx_access(alloc, out, state, None, Some("llgf"), Some("llgfrl"), rd, mem)),
-        Inst::Load64SExt32 { rd, mem } => Some(rx_access(alloc, out, state, None, Some("lgf"), Some("lgfrl"), rd, mem)),
-        Inst::LoadRev16 { rd, mem } => Some(rx_access(alloc, out, state, None, Some("lrvh"), None, rd, mem)),
-        Inst::LoadRev32 { rd, mem } => Some(rx_access(alloc, out, state, None, Some("lrv"), None, rd, mem)),
-        Inst::LoadRev64 { rd, mem } => Some(rx_access(alloc, out, state, None, Some("lrvg"), None, rd, mem)),
+        Inst::Load32 { rd, mem } => Some(rx_access(alloc, out, has, state, Some("l"), Some("ly"), Some("lrl"), rd, mem)),
+        Inst::Load32ZExt8 { rd, mem } => Some(rx_access(alloc, out, has, state, None, Some("llc"), None, rd, mem)),
+        Inst::Load32SExt8 { rd, mem } => Some(rx_access(alloc, out, has, state, None, Some("lb"), None, rd, mem)),
+        Inst::Load32ZExt16 { rd, mem } => Some(rx_access(alloc, out, has, state, None, Some("llh"), Some("llhrl"), rd, mem)),
+        Inst::Load32SExt16 { rd, mem } => Some(rx_access(alloc, out, has, state, Some("lh"), Some("lhy"), Some("lhrl"), rd, mem)),
+        Inst::Load64 { rd, mem } => Some(rx_access(alloc, out, has, state, None, Some("lg"), Some("lgrl"), rd, mem)),
+        Inst::Load64ZExt8 { rd, mem } => Some(rx_access(alloc, out, has, state, None, Some("llgc"), None, rd, mem)),
+        Inst::Load64SExt8 { rd, mem } => Some(rx_access(alloc, out, has, state, None, Some("lgb"), None, rd, mem)),
+        Inst::Load64ZExt16 { rd, mem } => Some(rx_access(alloc, out, has, state, None, Some("llgh"), Some("llghrl"), rd, mem)),
+        Inst::Load64SExt16 { rd, mem } => Some(rx_access(alloc, out, has, state, None, Some("lgh"), Some("lghrl"), rd, mem)),
+        Inst::Load64ZExt32 { rd, mem } => Some(rx_access(alloc, out, has, state, None, Some("llgf"), Some("llgfrl"), rd, mem)),
+        Inst::Load64SExt32 { rd, mem } => Some(rx_access(alloc, out, has, state, None, Some("lgf"), Some("lgfrl"), rd, mem)),
+        Inst::LoadRev16 { rd, mem } => Some(rx_access(alloc, out, has, state, None, Some("lrvh"), None, rd, mem)),
+        Inst::LoadRev32 { rd, mem } => Some(rx_access(alloc, out, has, state, None, Some("lrv"), None, rd, mem)),
+        Inst::LoadRev64 { rd, mem } => Some(rx_access(alloc, out, has, state, None, Some("lrvg"), None, rd, mem)),
         _ => None,
     }
 }
 
-/// Appends the text of a store; None for another instruction.
+/// Appends the text of a store, likewise; None for another instruction.
 #[rattlefmt::skip]
 pub fn put_store(
     alloc: Global,
     out: &mut String,
+    has: bool,
     state: &EmitState,
     inst: &Inst,
 ) -> Option<Result<(), TextError>>
-    ensures { PrintsWhere result (string_bytes out.old) (string_bytes out.new) (store_text state.now inst.now) }
+    ensures { PrintsWhere result (string_bytes out.old) (string_bytes out.new) (store_text has state.now inst.now) }
 {
     match inst {
-        Inst::Store8 { rd, mem } => Some(rx_access(alloc, out, state, Some("stc"), Some("stcy"), None, rd, mem)),
-        Inst::Store16 { rd, mem } => Some(rx_access(alloc, out, state, Some("sth"), Some("sthy"), Some("sthrl"), rd, mem)),
-        Inst::Store32 { rd, mem } => Some(rx_access(alloc, out, state, Some("st"), Some("sty"), Some("strl"), rd, mem)),
-        Inst::Store64 { rd, mem } => Some(rx_access(alloc, out, state, None, Some("stg"), Some("stgrl"), rd, mem)),
-        Inst::StoreRev16 { rd, mem } => Some(rx_access(alloc, out, state, None, Some("strvh"), None, rd, mem)),
-        Inst::StoreRev32 { rd, mem } => Some(rx_access(alloc, out, state, None, Some("strv"), None, rd, mem)),
-        Inst::StoreRev64 { rd, mem } => Some(rx_access(alloc, out, state, None, Some("strvg"), None, rd, mem)),
+        Inst::Store8 { rd, mem } => Some(rx_access(alloc, out, has, state, Some("stc"), Some("stcy"), None, rd, mem)),
+        Inst::Store16 { rd, mem } => Some(rx_access(alloc, out, has, state, Some("sth"), Some("sthy"), Some("sthrl"), rd, mem)),
+        Inst::Store32 { rd, mem } => Some(rx_access(alloc, out, has, state, Some("st"), Some("sty"), Some("strl"), rd, mem)),
+        Inst::Store64 { rd, mem } => Some(rx_access(alloc, out, has, state, None, Some("stg"), Some("stgrl"), rd, mem)),
+        Inst::StoreRev16 { rd, mem } => Some(rx_access(alloc, out, has, state, None, Some("strvh"), None, rd, mem)),
+        Inst::StoreRev32 { rd, mem } => Some(rx_access(alloc, out, has, state, None, Some("strv"), None, rd, mem)),
+        Inst::StoreRev64 { rd, mem } => Some(rx_access(alloc, out, has, state, None, Some("strvg"), None, rd, mem)),
         Inst::StoreImm8 { imm, mem } => Some(rs_access_then(alloc, out, state, Some("mvi"), Some("mviy"), mem, imm)),
         Inst::StoreImm16 { imm, mem } => Some(rs_access_then(alloc, out, state, Some("mvhhi"), None, mem, imm)),
         Inst::StoreImm32SExt16 { imm, mem } => Some(rs_access_then(alloc, out, state, Some("mvhi"), None, mem, imm)),
@@ -74,17 +76,18 @@ pub fn put_store(
 pub fn put_storage_operator(
     alloc: Global,
     out: &mut String,
+    has: bool,
     state: &EmitState,
     inst: &Inst,
 ) -> Option<Result<(), TextError>>
-    ensures { PrintsWhere result (string_bytes out.old) (string_bytes out.new) (storage_operator_text state.now inst.now) }
+    ensures { PrintsWhere result (string_bytes out.old) (string_bytes out.new) (storage_operator_text has state.now inst.now) }
 {
     match inst {
-        Inst::AluRX { alu_op, rd, ri, mem } => Some(rx_access(alloc, out, state, alu_short_name(*alu_op), alu_long_name(*alu_op), None, &reused(rd, ri), mem)),
-        Inst::CmpRX { op, rn, mem } => Some(rx_access(alloc, out, state, cmp_short_name(*op), cmp_long_name(*op), Some(cmp_relative_name(*op)), rn, mem)),
+        Inst::AluRX { alu_op, rd, ri, mem } => Some(rx_access(alloc, out, has, state, alu_short_name(*alu_op), alu_long_name(*alu_op), None, &reused(rd, ri), mem)),
+        Inst::CmpRX { op, rn, mem } => Some(rx_access(alloc, out, has, state, cmp_short_name(*op), cmp_long_name(*op), Some(cmp_relative_name(*op)), rn, mem)),
         Inst::LoadMultiple64 { rt, rt2, mem } => Some(rs_access3(alloc, out, state, None, Some("lmg"), rt, rt2, mem)),
         Inst::StoreMultiple64 { rt, rt2, mem } => Some(rs_access3(alloc, out, state, None, Some("stmg"), rt, rt2, mem)),
-        Inst::LoadAddr { rd, mem } => Some(access2(alloc, out, &address_rows(), state, rd, mem)),
+        Inst::LoadAddr { rd, mem } => Some(access2(alloc, out, has, &address_rows(), state, rd, mem)),
         Inst::AtomicRmw { alu_op, rd, rn, mem } => Some(rs_access3(alloc, out, state, None, atomic_name(*alu_op), rd, rn, mem)),
         Inst::AtomicCas32 { rd, ri, rn, mem } => Some(rs_access3(alloc, out, state, Some("cs"), Some("csy"), &reused(rd, ri), rn, mem)),
         Inst::AtomicCas64 { rd, ri, rn, mem } => Some(rs_access3(alloc, out, state, None, Some("csg"), &reused(rd, ri), rn, mem)),

@@ -55,22 +55,24 @@ fn put_register(
     }
 }
 
-/// Appends the text of an instruction that is neither a loop nor a call; `NoRow` for one of those.
+/// Appends the text of an instruction that is neither a loop nor a call, on a machine that has accesses relative to the instruction or lacks them; `NoRow`
+/// for a loop or a call.
 pub fn put_simple(
     alloc: Global,
     out: &mut String,
+    has: bool,
     state: &EmitState,
     inst: &Inst,
 ) -> Result<(), TextError>
-    ensures { Prints result (string_bytes out.old) (string_bytes out.new) (simple_text state.now inst.now) }
+    ensures { Prints result (string_bytes out.old) (string_bytes out.new) (simple_text has state.now inst.now) }
 {
-    if let Some(answer) = put_load(alloc, out, state, inst) {
+    if let Some(answer) = put_load(alloc, out, has, state, inst) {
         return answer;
     }
-    if let Some(answer) = put_store(alloc, out, state, inst) {
+    if let Some(answer) = put_store(alloc, out, has, state, inst) {
         return answer;
     }
-    match put_storage_operator(alloc, out, state, inst) {
+    match put_storage_operator(alloc, out, has, state, inst) {
         Some(answer) => answer,
         None => put_register(alloc, out, state, inst),
     }

@@ -1,9 +1,9 @@
 //! How an instruction with an operand in memory is put together: helpers, mnemonic and operands.
-ghost use Rattle.std.specs.Prelude.{◌≡◌, ◌++◌, ◌∷◌, [], codes, OnOk, MatchResult, None, Some, string_bytes};
+ghost use Rattle.std.specs.Prelude.{◌≡◌, ◌++◌, ◌∷◌, [], codes, OnOk, MatchResult, None, Some, true, string_bytes};
 ghost use Rattle.std.specs.Option.{option_map};
 ghost use Rattle.s390x_typed_steps.specs.Operands.{finalized, resolved};
 ghost use Rattle.s390x_row_text.specs.Texts.{RefusedBy, Prints};
-ghost use Rattle.s390x_row_text.specs.Storage.{sum_text, memory_text, is_virtual, rx, rs, address_rows, rows_of, has_row, type_of_rows, name_at, helper_text, helpers_text, access, access_cause};
+ghost use Rattle.s390x_row_text.specs.Storage.{sum_text, memory_text, is_virtual, rx, rs, address_rows, rows_of, has_row, type_of_rows, name_at, helper_text, helpers_text, access, access_where, access_cause};
 
 use crate::error::TextError;
 use crate::operand::{Operand, is_zero};
@@ -133,14 +133,14 @@ impl Rows {
         self.short.is_some() || self.long.is_some() || self.relative.is_some()
     }
 
-    // The forms of an operand that the rows have.
-    fn inst_type(&self) -> MemInstType
-        ensures { result ≡ type_of_rows (rows_of self.now) }
+    // The forms of an operand that the rows have, on a machine that has accesses relative to the instruction or lacks them.
+    fn inst_type(&self, has: bool) -> MemInstType
+        ensures { result ≡ type_of_rows has (rows_of self.now) }
     {
         MemInstType {
             have_d12: self.short.is_some(),
             have_d20: self.long.is_some(),
-            have_pcrel: self.relative.is_some(),
+            have_pcrel: self.relative.is_some() && (has || !self.accesses),
             have_unaligned_pcrel: self.relative.is_some() && !self.accesses,
             have_index: self.index,
         }
@@ -195,17 +195,18 @@ fn put_helpers(out: &mut String, helpers: &[Inst]) -> Result<(), AllocError>
 fn open(
     alloc: Global,
     out: &mut String,
+    has: bool,
     rows: &Rows,
     state: &EmitState,
     mem: &MemArg,
 ) -> Result<MemArg, TextError>
-    ensures { MatchResult result (λ m. (access_cause (rows_of rows.now) (resolved state.now mem.now) ≡ None) × (m ≡ (finalized (type_of_rows (rows_of rows.now)) (resolved state.now mem.now)).operand)
-        × (string_bytes out.new ≡ string_bytes out.old ++ helpers_text (finalized (type_of_rows (rows_of rows.now)) (resolved state.now mem.now)).helpers)) (λ e. RefusedBy (access_cause (rows_of rows.now) (resolved state.now mem.now)) e) }
+    ensures { MatchResult result (λ m. (access_cause has (rows_of rows.now) (resolved state.now mem.now) ≡ None) × (m ≡ (finalized (type_of_rows has (rows_of rows.now)) (resolved state.now mem.now)).operand)
+        × (string_bytes out.new ≡ string_bytes out.old ++ helpers_text (finalized (type_of_rows has (rows_of rows.now)) (resolved state.now mem.now)).helpers)) (λ e. RefusedBy (access_cause has (rows_of rows.now) (resolved state.now mem.now)) e) }
 {
     if !rows.has_row() {
         return Err(TextError::NoRow);
     }
-    match mem_finalize(alloc, mem, state, rows.inst_type()) {
+    match mem_finalize(alloc, mem, state, rows.inst_type(has)) {
         Ok((helpers, operand)) => {
             put_helpers(out, helpers.as_slice())?;
             Ok(operand)
@@ -214,18 +215,20 @@ fn open(
     }
 }
 
-/// Appends the text of an access with one operand before that in memory.
+/// Appends the text of an access with one operand before that in memory, on a machine that has accesses relative to the
+/// instruction or lacks them.
 pub fn access2<A: Operand>(
     alloc: Global,
     out: &mut String,
+    has: bool,
     rows: &Rows,
     state: &EmitState,
     a: &A,
     mem: &MemArg,
 ) -> Result<(), TextError>
-    ensures { Prints result (string_bytes out.old) (string_bytes out.new) (access (rows_of rows.now) state.now (A.shown a.now ∷ []) mem.now []) }
+    ensures { Prints result (string_bytes out.old) (string_bytes out.new) (access_where has (rows_of rows.now) state.now (A.shown a.now ∷ []) mem.now []) }
 {
-    let operand = open(alloc, out, rows, state, mem)?;
+    let operand = open(alloc, out, has, rows, state, mem)?;
     Ok(spelled2(out, rows.name_at(&operand), a, &operand)?)
 }
 
@@ -241,7 +244,7 @@ pub fn access3<A: Operand, B: Operand>(
 ) -> Result<(), TextError>
     ensures { Prints result (string_bytes out.old) (string_bytes out.new) (access (rows_of rows.now) state.now (A.shown a.now ∷ B.shown b.now ∷ []) mem.now []) }
 {
-    let operand = open(alloc, out, rows, state, mem)?;
+    let operand = open(alloc, out, true, rows, state, mem)?;
     Ok(spelled3(out, rows.name_at(&operand), a, b, &operand)?)
 }
 
@@ -256,7 +259,7 @@ pub fn access_then<A: Operand>(
 ) -> Result<(), TextError>
     ensures { Prints result (string_bytes out.old) (string_bytes out.new) (access (rows_of rows.now) state.now [] mem.now (A.shown a.now ∷ [])) }
 {
-    let operand = open(alloc, out, rows, state, mem)?;
+    let operand = open(alloc, out, true, rows, state, mem)?;
     Ok(spelled2(out, rows.name_at(&operand), &operand, a)?)
 }
 
@@ -272,7 +275,7 @@ pub fn access_between<A: Operand, B: Operand>(
 ) -> Result<(), TextError>
     ensures { Prints result (string_bytes out.old) (string_bytes out.new) (access (rows_of rows.now) state.now (A.shown a.now ∷ []) mem.now (B.shown b.now ∷ [])) }
 {
-    let operand = open(alloc, out, rows, state, mem)?;
+    let operand = open(alloc, out, true, rows, state, mem)?;
     Ok(spelled3(out, rows.name_at(&operand), a, &operand, b)?)
 }
 
@@ -280,6 +283,7 @@ pub fn access_between<A: Operand, B: Operand>(
 pub fn rx_access<A: Operand>(
     alloc: Global,
     out: &mut String,
+    has: bool,
     state: &EmitState,
     short: Option<&'static str>,
     long: Option<&'static str>,
@@ -287,7 +291,7 @@ pub fn rx_access<A: Operand>(
     a: &A,
     mem: &MemArg,
 ) -> Result<(), TextError>
-    ensures { Prints result (string_bytes out.old) (string_bytes out.new) (access (rx (option_map (λ s. s.now) short.entry) (option_map (λ s. s.now) long.entry) (option_map (λ s. s.now) relative.entry)) state.now (A.shown a.now ∷ []) mem.now []) }
+    ensures { Prints result (string_bytes out.old) (string_bytes out.new) (access_where has (rx (option_map (λ s. s.now) short.entry) (option_map (λ s. s.now) long.entry) (option_map (λ s. s.now) relative.entry)) state.now (A.shown a.now ∷ []) mem.now []) }
 {
     let rows = Rows {
         short,
@@ -296,7 +300,7 @@ pub fn rx_access<A: Operand>(
         index: true,
         accesses: true,
     };
-    access2(alloc, out, &rows, state, a, mem)
+    access2(alloc, out, has, &rows, state, a, mem)
 }
 
 /// Appends the text of an access by a row of format VRX, with an operand on either side of that in memory.

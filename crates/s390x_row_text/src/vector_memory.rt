@@ -29,6 +29,7 @@ fn put_load_lane(
         return rx_access(
             alloc,
             out,
+            true,
             state,
             Some("le"),
             Some("ley"),
@@ -41,6 +42,7 @@ fn put_load_lane(
         return rx_access(
             alloc,
             out,
+            true,
             state,
             Some("ld"),
             Some("ldy"),
@@ -70,6 +72,7 @@ fn put_store_lane(
         return rx_access(
             alloc,
             out,
+            true,
             state,
             Some("ste"),
             Some("stey"),
@@ -82,6 +85,7 @@ fn put_store_lane(
         return rx_access(
             alloc,
             out,
+            true,
             state,
             Some("std"),
             Some("stdy"),
@@ -105,22 +109,22 @@ pub fn put_vec_whole(
     ensures { PrintsWhere result (string_bytes out.old) (string_bytes out.new) (vec_whole_text state.now inst.now) }
 {
     match inst {
-        VecInst::VecLoad { rd, mem } => Some(rx_access(alloc, out, state, Some("vl"), None, None, rd, mem)),
-        VecInst::VecLoadRev { rd, mem } => Some(rx_access(alloc, out, state, Some("vlbrq"), None, None, rd, mem)),
-        VecInst::VecLoadByte16Rev { rd, mem } => Some(rx_access(alloc, out, state, Some("vlbrh"), None, None, rd, mem)),
-        VecInst::VecLoadByte32Rev { rd, mem } => Some(rx_access(alloc, out, state, Some("vlbrf"), None, None, rd, mem)),
-        VecInst::VecLoadByte64Rev { rd, mem } => Some(rx_access(alloc, out, state, Some("vlbrg"), None, None, rd, mem)),
-        VecInst::VecLoadElt16Rev { rd, mem } => Some(rx_access(alloc, out, state, Some("vlerh"), None, None, rd, mem)),
-        VecInst::VecLoadElt32Rev { rd, mem } => Some(rx_access(alloc, out, state, Some("vlerf"), None, None, rd, mem)),
-        VecInst::VecLoadElt64Rev { rd, mem } => Some(rx_access(alloc, out, state, Some("vlerg"), None, None, rd, mem)),
-        VecInst::VecStore { rd, mem } => Some(rx_access(alloc, out, state, Some("vst"), None, None, rd, mem)),
-        VecInst::VecStoreRev { rd, mem } => Some(rx_access(alloc, out, state, Some("vstbrq"), None, None, rd, mem)),
-        VecInst::VecStoreByte16Rev { rd, mem } => Some(rx_access(alloc, out, state, Some("vstbrh"), None, None, rd, mem)),
-        VecInst::VecStoreByte32Rev { rd, mem } => Some(rx_access(alloc, out, state, Some("vstbrf"), None, None, rd, mem)),
-        VecInst::VecStoreByte64Rev { rd, mem } => Some(rx_access(alloc, out, state, Some("vstbrg"), None, None, rd, mem)),
-        VecInst::VecStoreElt16Rev { rd, mem } => Some(rx_access(alloc, out, state, Some("vsterh"), None, None, rd, mem)),
-        VecInst::VecStoreElt32Rev { rd, mem } => Some(rx_access(alloc, out, state, Some("vsterf"), None, None, rd, mem)),
-        VecInst::VecStoreElt64Rev { rd, mem } => Some(rx_access(alloc, out, state, Some("vsterg"), None, None, rd, mem)),
+        VecInst::VecLoad { rd, mem } => Some(rx_access(alloc, out, true, state, Some("vl"), None, None, rd, mem)),
+        VecInst::VecLoadRev { rd, mem } => Some(rx_access(alloc, out, true, state, Some("vlbrq"), None, None, rd, mem)),
+        VecInst::VecLoadByte16Rev { rd, mem } => Some(rx_access(alloc, out, true, state, Some("vlbrh"), None, None, rd, mem)),
+        VecInst::VecLoadByte32Rev { rd, mem } => Some(rx_access(alloc, out, true, state, Some("vlbrf"), None, None, rd, mem)),
+        VecInst::VecLoadByte64Rev { rd, mem } => Some(rx_access(alloc, out, true, state, Some("vlbrg"), None, None, rd, mem)),
+        VecInst::VecLoadElt16Rev { rd, mem } => Some(rx_access(alloc, out, true, state, Some("vlerh"), None, None, rd, mem)),
+        VecInst::VecLoadElt32Rev { rd, mem } => Some(rx_access(alloc, out, true, state, Some("vlerf"), None, None, rd, mem)),
+        VecInst::VecLoadElt64Rev { rd, mem } => Some(rx_access(alloc, out, true, state, Some("vlerg"), None, None, rd, mem)),
+        VecInst::VecStore { rd, mem } => Some(rx_access(alloc, out, true, state, Some("vst"), None, None, rd, mem)),
+        VecInst::VecStoreRev { rd, mem } => Some(rx_access(alloc, out, true, state, Some("vstbrq"), None, None, rd, mem)),
+        VecInst::VecStoreByte16Rev { rd, mem } => Some(rx_access(alloc, out, true, state, Some("vstbrh"), None, None, rd, mem)),
+        VecInst::VecStoreByte32Rev { rd, mem } => Some(rx_access(alloc, out, true, state, Some("vstbrf"), None, None, rd, mem)),
+        VecInst::VecStoreByte64Rev { rd, mem } => Some(rx_access(alloc, out, true, state, Some("vstbrg"), None, None, rd, mem)),
+        VecInst::VecStoreElt16Rev { rd, mem } => Some(rx_access(alloc, out, true, state, Some("vsterh"), None, None, rd, mem)),
+        VecInst::VecStoreElt32Rev { rd, mem } => Some(rx_access(alloc, out, true, state, Some("vsterf"), None, None, rd, mem)),
+        VecInst::VecStoreElt64Rev { rd, mem } => Some(rx_access(alloc, out, true, state, Some("vsterg"), None, None, rd, mem)),
         _ => None,
     }
 }
@@ -136,8 +140,8 @@ pub fn put_vec_part(
     ensures { PrintsWhere result (string_bytes out.old) (string_bytes out.new) (vec_part_text state.now inst.now) }
 {
     match inst {
-        VecInst::VecLoadReplicate { size, rd, mem } => Some(rx_access(alloc, out, state, lane_name("vlrepb", "vlreph", "vlrepf", "vlrepg", *size, 0), None, None, rd, mem)),
-        VecInst::VecLoadReplicateRev { size, rd, mem } => Some(rx_access(alloc, out, state, reversed_name("vlbrreph", "vlbrrepf", "vlbrrepg", *size, 0), None, None, rd, mem)),
+        VecInst::VecLoadReplicate { size, rd, mem } => Some(rx_access(alloc, out, true, state, lane_name("vlrepb", "vlreph", "vlrepf", "vlrepg", *size, 0), None, None, rd, mem)),
+        VecInst::VecLoadReplicateRev { size, rd, mem } => Some(rx_access(alloc, out, true, state, reversed_name("vlbrreph", "vlbrrepf", "vlbrrepg", *size, 0), None, None, rd, mem)),
         VecInst::VecLoadLane { size, rd, mem, lane_imm, .. } => Some(rx_access_between(alloc, out, state, lane_name("vleb", "vleh", "vlef", "vleg", *size, *lane_imm), rd, mem, lane_imm)),
         VecInst::VecLoadLaneRev { size, rd, mem, lane_imm, .. } => Some(rx_access_between(alloc, out, state, reversed_name("vlebrh", "vlebrf", "vlebrg", *size, *lane_imm), rd, mem, lane_imm)),
         VecInst::VecLoadLaneUndef { size, rd, mem, lane_imm } => Some(put_load_lane(alloc, out, state, *size, rd.to_reg(), mem, *lane_imm)),

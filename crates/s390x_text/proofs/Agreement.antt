@@ -334,57 +334,57 @@ moves (LoadAR rd ar) = refl
 moves (InsertAR rd ri ar) = refl
 moves i = tt
 
-loads : (e : Emission) (i : Inst) → Agrees (load_text e i) (is_some (memory i))
-loads e (Load32 rd mem) = address_row _
-loads e (Load32ZExt8 rd mem) = address_row _
-loads e (Load32SExt8 rd mem) = address_row _
-loads e (Load32ZExt16 rd mem) = address_row _
-loads e (Load32SExt16 rd mem) = address_row _
-loads e (Load64 rd mem) = address_row _
-loads e (Load64ZExt8 rd mem) = address_row _
-loads e (Load64SExt8 rd mem) = address_row _
-loads e (Load64ZExt16 rd mem) = address_row _
-loads e (Load64SExt16 rd mem) = address_row _
-loads e (Load64ZExt32 rd mem) = address_row _
-loads e (Load64SExt32 rd mem) = address_row _
-loads e (LoadRev16 rd mem) = address_row _
-loads e (LoadRev32 rd mem) = address_row _
-loads e (LoadRev64 rd mem) = address_row _
-loads e i = tt
+loads : (has : Bool) (e : Emission) (i : Inst) → Agrees (load_text has e i) (is_some (memory i))
+loads has e (Load32 rd mem) = address_row _
+loads has e (Load32ZExt8 rd mem) = address_row _
+loads has e (Load32SExt8 rd mem) = address_row _
+loads has e (Load32ZExt16 rd mem) = address_row _
+loads has e (Load32SExt16 rd mem) = address_row _
+loads has e (Load64 rd mem) = address_row _
+loads has e (Load64ZExt8 rd mem) = address_row _
+loads has e (Load64SExt8 rd mem) = address_row _
+loads has e (Load64ZExt16 rd mem) = address_row _
+loads has e (Load64SExt16 rd mem) = address_row _
+loads has e (Load64ZExt32 rd mem) = address_row _
+loads has e (Load64SExt32 rd mem) = address_row _
+loads has e (LoadRev16 rd mem) = address_row _
+loads has e (LoadRev32 rd mem) = address_row _
+loads has e (LoadRev64 rd mem) = address_row _
+loads has e i = tt
 
-stores : (e : Emission) (i : Inst) → Agrees (store_text e i) (is_some (memory i))
-stores e (Store8 rd mem) = address_row _
-stores e (Store16 rd mem) = address_row _
-stores e (Store32 rd mem) = address_row _
-stores e (Store64 rd mem) = address_row _
-stores e (StoreRev16 rd mem) = address_row _
-stores e (StoreRev32 rd mem) = address_row _
-stores e (StoreRev64 rd mem) = address_row _
-stores e (StoreImm8 imm mem) = address_row _
-stores e (StoreImm16 imm mem) = address_row _
-stores e (StoreImm32SExt16 imm mem) = address_row _
-stores e (StoreImm64SExt16 imm mem) = address_row _
-stores e i = tt
+stores : (has : Bool) (e : Emission) (i : Inst) → Agrees (store_text has e i) (is_some (memory i))
+stores has e (Store8 rd mem) = address_row _
+stores has e (Store16 rd mem) = address_row _
+stores has e (Store32 rd mem) = address_row _
+stores has e (Store64 rd mem) = address_row _
+stores has e (StoreRev16 rd mem) = address_row _
+stores has e (StoreRev32 rd mem) = address_row _
+stores has e (StoreRev64 rd mem) = address_row _
+stores has e (StoreImm8 imm mem) = address_row _
+stores has e (StoreImm16 imm mem) = address_row _
+stores has e (StoreImm32SExt16 imm mem) = address_row _
+stores has e (StoreImm64SExt16 imm mem) = address_row _
+stores has e i = tt
 
-operators : (e : Emission) (i : Inst) → Agrees (storage_operator_text e i) (is_some (memory i))
-operators e (AluRX op rd ri mem) =
+operators : (has : Bool) (e : Emission) (i : Inst) → Agrees (storage_operator_text has e i) (is_some (memory i))
+operators has e (AluRX op rd ri mem) =
     access_row (has_row (rx (alu_short_name op) (alu_long_name op) None)) _ ∙ storage_same op ∙ sym (operate_some (is_some (alu_rx op) || is_some (alu_rxy op)) (alu_rx op) (alu_rxy op) rd ri mem)
-operators e (CmpRX op rn mem) = compared (cmp_short_name op) (cmp_long_name op) (cmp_relative_name op) _
-operators e (AtomicRmw op rd rn mem) = atomic_row (atomic_name op) (atomic_rsy op) rd rn mem _ (atomic_same op)
-operators e (LoadMultiple64 rt rt2 mem) = address_row _
-operators e (StoreMultiple64 rt rt2 mem) = address_row _
-operators e (LoadAddr rd mem) = address_row _
-operators e (AtomicCas32 rd ri rn mem) = address_row _
-operators e (AtomicCas64 rd ri rn mem) = address_row _
-operators e i = tt
+operators has e (CmpRX op rn mem) = compared (cmp_short_name op) (cmp_long_name op) (cmp_relative_name op) _
+operators has e (AtomicRmw op rd rn mem) = atomic_row (atomic_name op) (atomic_rsy op) rd rn mem _ (atomic_same op)
+operators has e (LoadMultiple64 rt rt2 mem) = address_row _
+operators has e (StoreMultiple64 rt rt2 mem) = address_row _
+operators has e (LoadAddr rd mem) = address_row _
+operators has e (AtomicCas32 rd ri rn mem) = address_row _
+operators has e (AtomicCas64 rd ri rn mem) = address_row _
+operators has e i = tt
 
-pub rows_agree : (e : Emission) (i : Inst) → RowsAgree e i
-rows_agree e i = record {
+pub rows_agree : (has : Bool) (e : Emission) (i : Inst) → RowsAgree has e i
+rows_agree has e i = record {
   arithmetic = arithmetic i;
   pairs = pairs i;
   comparisons = comparisons i;
   moves = moves i;
-  loads = loads e i;
-  stores = stores e i;
-  operators = operators e i;
+  loads = loads has e i;
+  stores = stores has e i;
+  operators = operators has e i;
 }

@@ -5,6 +5,7 @@ use Rattle.std.proofs.Math.Dec.{eqb-suc-zero}
 use Rattle.std.proofs.lemmas.List.{drop_more}
 use Rattle.std.specs.Prelude.{◌==◌, Option, None, codes, Result, Ok, Err, MatchResult, IsErrAnd}
 use Rattle.s390x_inst.specs.Emission.{Emission}
+use Rattle.s390x_inst.specs.declared.state.IsaFlags.{IsaFlags}
 use Rattle.s390x_inst.specs.declared.inst.Inst.{Inst, Row_of-Inst, end_of-Inst, more_of-Inst, items-the_row-Inst, items_hidden-the_row-Inst-0, out-Inst, roll-Inst, roll-out-Inst}
 use Rattle.s390x_inst.specs.declared.inst.Inst.TheBlock.{hidden-the_row-Inst-0}
 use Rattle.s390x_inst.specs.declared.inst.Inst.TheOpen as O
@@ -44,24 +45,24 @@ more_stops F g law xs i z d c error h e b inv =
 item : (d : Inst) (is : List Inst) (k : ℕ) → k < length is → d ≡ get_or is k d → drop k is ≡ d ∷ drop (k + 1) is
 item d is k h e = drop_more is k d h ∙ ap (λ y. y ∷ drop (k + 1) is) (sym e)
 
-pub bytes_go_on : (depth : ℕ) (e f : Emission) (d : Inst) (is : List Inst) (k : ℕ) (old out new : List ℕ) → k < length is → d ≡ get_or is k d → new ≡ out ++ ((inst_text depth e d).bytes ++ codes " ; ") → f ≡ after e d → out ++ (insts_text depth e (drop k is)).bytes ≡ old → new ++ (insts_text depth f (drop (k + 1) is)).bytes ≡ old
-bytes_go_on depth e f d is k old out new h q n a inv =
+pub bytes_go_on : (flags : IsaFlags) (depth : ℕ) (e f : Emission) (d : Inst) (is : List Inst) (k : ℕ) (old out new : List ℕ) → k < length is → d ≡ get_or is k d → new ≡ out ++ ((inst_text flags depth e d).bytes ++ codes " ; ") → f ≡ after e d → out ++ (insts_text flags depth e (drop k is)).bytes ≡ old → new ++ (insts_text flags depth f (drop (k + 1) is)).bytes ≡ old
+bytes_go_on flags depth e f d is k old out new h q n a inv =
     let rest = drop (k + 1) is in
-    let m = (inst_text depth e d).bytes ++ codes " ; " in
+    let m = (inst_text flags depth e d).bytes ++ codes " ; " in
     let x = item d is k h q in
-    ap (λ s. new ++ (insts_text depth s rest).bytes) a
-    ∙ ap (λ t. t ++ (insts_text depth (after e d) rest).bytes) n
-    ∙ append_assoc out m (insts_text depth (after e d) rest).bytes
-    ∙ ap (λ l. out ++ (insts_text depth e l).bytes) (sym x)
+    ap (λ s. new ++ (insts_text flags depth s rest).bytes) a
+    ∙ ap (λ t. t ++ (insts_text flags depth (after e d) rest).bytes) n
+    ∙ append_assoc out m (insts_text flags depth (after e d) rest).bytes
+    ∙ ap (λ l. out ++ (insts_text flags depth e l).bytes) (sym x)
     ∙ inv
 
-pub cause_goes_on : (depth : ℕ) (e f : Emission) (d : Inst) (is : List Inst) (k : ℕ) (c : Option TextError) → k < length is → d ≡ get_or is k d → (inst_text depth e d).cause ≡ None → f ≡ after e d → (insts_text depth e (drop k is)).cause ≡ c → (insts_text depth f (drop (k + 1) is)).cause ≡ c
-cause_goes_on depth e f d is k c h q n a inv =
+pub cause_goes_on : (flags : IsaFlags) (depth : ℕ) (e f : Emission) (d : Inst) (is : List Inst) (k : ℕ) (c : Option TextError) → k < length is → d ≡ get_or is k d → (inst_text flags depth e d).cause ≡ None → f ≡ after e d → (insts_text flags depth e (drop k is)).cause ≡ c → (insts_text flags depth f (drop (k + 1) is)).cause ≡ c
+cause_goes_on flags depth e f d is k c h q n a inv =
     let rest = drop (k + 1) is in
     let x = item d is k h q in
-    ap (λ s. (insts_text depth s rest).cause) a
-    ∙ sym (ap (λ p. first p (insts_text depth (after e d) rest).cause) n)
-    ∙ ap (λ l. (insts_text depth e l).cause) (sym x)
+    ap (λ s. (insts_text flags depth s rest).cause) a
+    ∙ sym (ap (λ p. first p (insts_text flags depth (after e d) rest).cause) n)
+    ∙ ap (λ l. (insts_text flags depth e l).cause) (sym x)
     ∙ inv
 
 pub state_goes_on : (e f g : Emission) (d : Inst) (is : List Inst) (k : ℕ) → k < length is → d ≡ get_or is k d → f ≡ after e d → insts_after e (drop k is) ≡ g → insts_after f (drop (k + 1) is) ≡ g
@@ -69,17 +70,17 @@ state_goes_on e f g d is k h q a inv =
     ap (λ s. insts_after s (drop (k + 1) is)) a ∙ ap (insts_after e) (sym (item d is k h q)) ∙ inv
 
 -- an instruction is refused, and so are those from it on
-pub stops : (depth : ℕ) (e : Emission) (d : Inst) (is : List Inst) (k : ℕ) (c : Option TextError) (error : TextError) → k < length is → d ≡ get_or is k d → RefusedBy (inst_text depth e d).cause error → (insts_text depth e (drop k is)).cause ≡ c → RefusedBy c error
-stops depth e d is k c error h q b inv =
+pub stops : (flags : IsaFlags) (depth : ℕ) (e : Emission) (d : Inst) (is : List Inst) (k : ℕ) (c : Option TextError) (error : TextError) → k < length is → d ≡ get_or is k d → RefusedBy (inst_text flags depth e d).cause error → (insts_text flags depth e (drop k is)).cause ≡ c → RefusedBy c error
+stops flags depth e d is k c error h q b inv =
     let x = item d is k h q in
-    let p = refused_first (inst_text depth e d).cause (insts_text depth (after e d) (drop (k + 1) is)).cause error b in
-    subst (λ r. RefusedBy r error) (ap (λ l. (insts_text depth e l).cause) (sym x) ∙ inv) p
+    let p = refused_first (inst_text flags depth e d).cause (insts_text flags depth (after e d) (drop (k + 1) is)).cause error b in
+    subst (λ r. RefusedBy r error) (ap (λ l. (insts_text flags depth e l).cause) (sym x) ∙ inv) p
 
 -- ---- loops
 
-row_texts : {n : _} (k : Row_of-Inst n) (depth : ℕ) (e : Emission) → row_text depth e k ≡ insts_text depth e (items-the_row-Inst n k)
-row_texts end_of-Inst depth e = refl
-row_texts (more_of-Inst i rest) depth e = ap (λ t. followed (inst_text depth e i) t) (row_texts rest depth (after e i))
+row_texts : (flags : IsaFlags) {n : _} (k : Row_of-Inst n) (depth : ℕ) (e : Emission) → row_text flags depth e k ≡ insts_text flags depth e (items-the_row-Inst n k)
+row_texts flags end_of-Inst depth e = refl
+row_texts flags (more_of-Inst i rest) depth e = ap (λ t. followed (inst_text flags depth e i) t) (row_texts flags rest depth (after e i))
 
 has_none_items : {n : _} (k : Row_of-Inst n) → has_none k ≡ (length (items-the_row-Inst n k) == 0)
 has_none_items end_of-Inst = refl
@@ -90,34 +91,34 @@ row_afters end_of-Inst e = refl
 row_afters (more_of-Inst i rest) e = row_afters rest (after e i)
 
 -- the text of a loop by the list of its members
-abbrev list_loop : (depth : ℕ) → Emission → ℕ → List Inst → Text
-list_loop depth e c is = looped depth c (length is == 0) (insts_text (depth + 1) e is)
+abbrev list_loop : IsaFlags → (depth : ℕ) → Emission → ℕ → List Inst → Text
+list_loop flags depth e c is = looped depth c (length is == 0) (insts_text flags (depth + 1) e is)
 
-loop_text : (depth : ℕ) (e : Emission) (c : ℕ) (v : Vec Inst Global) → inst_text depth e (V.Loop c v) ≡ list_loop depth e c v.items
-loop_text depth e c v =
-    ap (λ b. looped depth c b (row_text (depth + 1) e (hidden-the_row-Inst-0 v))) (has_none_items (hidden-the_row-Inst-0 v))
-    ∙ ap (looped depth c (length (items-the_row-Inst _ (hidden-the_row-Inst-0 v)) == 0)) (row_texts (hidden-the_row-Inst-0 v) (depth + 1) e)
-    ∙ ap (list_loop depth e c) (items_hidden-the_row-Inst-0 v)
+loop_text : (flags : IsaFlags) (depth : ℕ) (e : Emission) (c : ℕ) (v : Vec Inst Global) → inst_text flags depth e (V.Loop c v) ≡ list_loop flags depth e c v.items
+loop_text flags depth e c v =
+    ap (λ b. looped depth c b (row_text flags (depth + 1) e (hidden-the_row-Inst-0 v))) (has_none_items (hidden-the_row-Inst-0 v))
+    ∙ ap (looped depth c (length (items-the_row-Inst _ (hidden-the_row-Inst-0 v)) == 0)) (row_texts flags (hidden-the_row-Inst-0 v) (depth + 1) e)
+    ∙ ap (list_loop flags depth e c) (items_hidden-the_row-Inst-0 v)
 
 loop_after : (e : Emission) (c : ℕ) (v : Vec Inst Global) → after e (V.Loop c v) ≡ insts_after e v.items
 loop_after e c v = row_afters (hidden-the_row-Inst-0 v) e ∙ ap (insts_after e) (items_hidden-the_row-Inst-0 v)
 
-pub whole_loop : (depth : ℕ) (e : Emission) (i : Inst) (c : ℕ) (v : Vec Inst Global) (s : List Inst) → i ≡ V.Loop c v → s ≡ v.items → inst_text depth e i ≡ looped depth c (length s == 0) (insts_text (depth + 1) e s)
-whole_loop depth e i c v s p q = ap (inst_text depth e) p ∙ loop_text depth e c v ∙ ap (list_loop depth e c) (sym q)
+pub whole_loop : (flags : IsaFlags) (depth : ℕ) (e : Emission) (i : Inst) (c : ℕ) (v : Vec Inst Global) (s : List Inst) → i ≡ V.Loop c v → s ≡ v.items → inst_text flags depth e i ≡ looped depth c (length s == 0) (insts_text flags (depth + 1) e s)
+whole_loop flags depth e i c v s p q = ap (inst_text flags depth e) p ∙ loop_text flags depth e c v ∙ ap (list_loop flags depth e c) (sym q)
 
 pub after_loop : (e : Emission) (i : Inst) (c : ℕ) (v : Vec Inst Global) (s : List Inst) → i ≡ V.Loop c v → s ≡ v.items → after e i ≡ insts_after e s
 after_loop e i c v s p q = ap (after e) p ∙ loop_after e c v ∙ ap (insts_after e) (sym q)
 
-plain_out : (depth : ℕ) (e : Emission) (x : O.Inst-F Inst) → ((c : ℕ) (v : Vec Inst Global) → x ≡ O.Loop c v → ⊥) → (inst_text depth e (roll-Inst x) ≡ leaf_text e (roll-Inst x)) × (after e (roll-Inst x) ≡ leaf_after e (roll-Inst x))
+plain_out : (flags : IsaFlags) (depth : ℕ) (e : Emission) (x : O.Inst-F Inst) → ((c : ℕ) (v : Vec Inst Global) → x ≡ O.Loop c v → ⊥) → (inst_text flags depth e (roll-Inst x) ≡ leaf_text flags e (roll-Inst x)) × (after e (roll-Inst x) ≡ leaf_after e (roll-Inst x))
 unfolding roll-Inst Carrier.roll
-plain_out depth e (O.Loop c v) h = absurd (h c v refl)
-plain_out depth e x h = (refl, refl)
+plain_out flags depth e (O.Loop c v) h = absurd (h c v refl)
+plain_out flags depth e x h = (refl, refl)
 
 -- another instruction has its own text
-pub plain : (depth : ℕ) (e : Emission) (i : Inst) → ((c : ℕ) (v : Vec Inst Global) → i ≡ V.Loop c v → ⊥) → (inst_text depth e i ≡ leaf_text e i) × (after e i ≡ leaf_after e i)
-plain depth e i h =
-    subst (λ j. (inst_text depth e j ≡ leaf_text e j) × (after e j ≡ leaf_after e j)) (roll-out-Inst i)
-    (plain_out depth e (out-Inst i) (λ c v p. h c v (sym (roll-out-Inst i) ∙ ap roll-Inst p ∙ V.rolls-Loop c v)))
+pub plain : (flags : IsaFlags) (depth : ℕ) (e : Emission) (i : Inst) → ((c : ℕ) (v : Vec Inst Global) → i ≡ V.Loop c v → ⊥) → (inst_text flags depth e i ≡ leaf_text flags e i) × (after e i ≡ leaf_after e i)
+plain flags depth e i h =
+    subst (λ j. (inst_text flags depth e j ≡ leaf_text flags e j) × (after e j ≡ leaf_after e j)) (roll-out-Inst i)
+    (plain_out flags depth e (out-Inst i) (λ c v p. h c v (sym (roll-out-Inst i) ∙ ap roll-Inst p ∙ V.rolls-Loop c v)))
 
 -- ---- answers
 

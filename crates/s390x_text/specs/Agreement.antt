@@ -22,11 +22,11 @@ Agrees (Some t) has = has_row_text t.cause ≡ has
 
 -- an instruction on registers and immediates, or with an operand in memory, has no row for its text exactly where it is neither one machine
 -- instruction on registers nor one with an operand, so that emission has `BadOperator` for another cause than the address
-pub record RowsAgree (e : Emission) (i : Inst) : Type 0 where
+pub record RowsAgree (has : Bool) (e : Emission) (i : Inst) : Type 0 where
   pub arithmetic : Agrees (arithmetic_text i) (is_some (single_instruction i))
   pub pairs : Agrees (pair_instruction_text i) (is_some (single_instruction i))
   pub comparisons : Agrees (compare_text i) (is_some (single_instruction i))
   pub moves : Agrees (move_text i) (is_some (single_instruction i))
-  pub loads : Agrees (load_text e i) (is_some (memory i))
-  pub stores : Agrees (store_text e i) (is_some (memory i))
-  pub operators : Agrees (storage_operator_text e i) (is_some (memory i))
+  pub loads : Agrees (load_text has e i) (is_some (memory i))
+  pub stores : Agrees (store_text has e i) (is_some (memory i))
+  pub operators : Agrees (storage_operator_text has e i) (is_some (memory i))

@@ -35,7 +35,7 @@ popped_text n = cond (nat_eq n 0) [] (codes " ; callee_pop_size " ++ decimal n)
 -- the load of a result, where its type has one, behind a semicolon
 abbrev pub loaded_text : Emission → Option Inst → Text
 loaded_text e None = unbuilt
-loaded_text e (Some load) = both (fixed (codes " ; ")) (simple_text e load)
+loaded_text e (Some load) = both (fixed (codes " ; ")) (simple_text true e load)
 
 -- the load of a result that comes back on the stack; nothing of one that comes back in a register
 abbrev pub result_at : Emission → (rd : Reg) → RetLocation → Text
@@ -88,7 +88,7 @@ is_first_saved (Some g) = nat_le 6 g && nat_le g 14
 -- instructions, each before a semicolon
 abbrev pub simple_texts : Emission → List Inst → Text
 simple_texts e [] = fixed []
-simple_texts e (i ∷ is) = both (before_semicolon (simple_text e i)) (simple_texts e is)
+simple_texts e (i ∷ is) = both (before_semicolon (simple_text true e i)) (simple_texts e is)
 
 -- what takes the frame down
 abbrev pub epilogue_text : Emission → (popped : ℕ) → CallInstDest → Text

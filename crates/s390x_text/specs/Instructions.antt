@@ -1,6 +1,7 @@
 -- The text of an instruction, and the state of emission behind it (cranelift-codegen, `mod.rs`).
-use Rattle.std.specs.Prelude.{ℕ, ◌+◌, Bool, true, false, List, [], ◌∷◌, ◌++◌, codes, cond, nat_lt, Option, Some, None}
+use Rattle.std.specs.Prelude.{ℕ, ◌+◌, Bool, true, false, List, [], ◌∷◌, ◌++◌, codes, cond, not, nat_lt, Option, Some, None}
 use Rattle.s390x_inst.specs.Emission.{Emission}
+use Rattle.s390x_inst.specs.declared.state.IsaFlags.{IsaFlags}
 use Rattle.s390x_inst.specs.declared.inst.Inst.{Inst, Row_of-Inst, end_of-Inst, more_of-Inst}
 use Rattle.s390x_inst.specs.declared.inst.Inst.TheVariants.{Loop', Call, AllocateArgs}
 use Rattle.s390x_row_text.specs.Texts.{Text, first, fixed, both, before_semicolon, text_or}
@@ -10,9 +11,9 @@ use Rattle.s390x_text.specs.Calls.{call_text}
 use Rattle.s390x_row_text.specs.declared.error.TextError.{TextError}
 use Rattle.s390x_row_text.specs.declared.error.TextError.TheVariants.{NoRow}
 
--- the text of an instruction that is no `Loop`
-abbrev pub leaf_text : Emission → Inst → Text
-leaf_text e i = text_or (call_text e i) (simple_text e i)
+-- the text of an instruction that is no `Loop`, on a machine by its flags. The steps of calls access nothing relative to the instruction
+abbrev pub leaf_text : IsaFlags → Emission → Inst → Text
+leaf_text flags e i = text_or (call_text e i) (simple_text (not flags.no_relative_memory) e i)
 
 -- the state behind an instruction that is no `Loop`: the nominal size is that of the arguments that are taken, until a call
 abbrev pub leaf_after : Emission → Inst → Emission
@@ -54,20 +55,20 @@ has_none (more_of-Inst i rest) = false
 
 abbrev mutual
   -- the text of an instruction inside so many loops. A `Loop` has its members twice: `all` is read, and `body` is ignored
-  pub inst_text : (depth : ℕ) → Emission → Inst → Text
-  inst_text depth e (Loop' mask body all) = looped depth mask (has_none all) (row_text (depth + 1) e all)
-  inst_text depth e i = leaf_text e i
+  pub inst_text : IsaFlags → (depth : ℕ) → Emission → Inst → Text
+  inst_text flags depth e (Loop' mask body all) = looped depth mask (has_none all) (row_text flags (depth + 1) e all)
+  inst_text flags depth e i = leaf_text flags e i
 
   -- the members of a loop, each before a semicolon
-  pub row_text : (depth : ℕ) → Emission → {m : _} → Row_of-Inst m → Text
-  row_text depth e end_of-Inst = fixed []
-  row_text depth e (more_of-Inst i rest) = followed (inst_text depth e i) (row_text depth (after e i) rest)
+  pub row_text : IsaFlags → (depth : ℕ) → Emission → {m : _} → Row_of-Inst m → Text
+  row_text flags depth e end_of-Inst = fixed []
+  row_text flags depth e (more_of-Inst i rest) = followed (inst_text flags depth e i) (row_text flags depth (after e i) rest)
 
 -- the same of instructions in a list
 abbrev pub insts_after : Emission → List Inst → Emission
 insts_after e [] = e
 insts_after e (i ∷ is) = insts_after (after e i) is
 
-abbrev pub insts_text : (depth : ℕ) → Emission → List Inst → Text
-insts_text depth e [] = fixed []
-insts_text depth e (i ∷ is) = followed (inst_text depth e i) (insts_text depth (after e i) is)
+abbrev pub insts_text : IsaFlags → (depth : ℕ) → Emission → List Inst → Text
+insts_text flags depth e [] = fixed []
+insts_text flags depth e (i ∷ is) = followed (inst_text flags depth e i) (insts_text flags depth (after e i) is)

@@ -1,5 +1,5 @@
 //! The texts of calls and tail calls.
-ghost use Rattle.std.specs.Prelude.{◌≡◌, ◌++◌, codes, OnOk, IfOk, string_bytes};
+ghost use Rattle.std.specs.Prelude.{◌≡◌, ◌++◌, codes, OnOk, IfOk, string_bytes, true};
 ghost use Rattle.std.specs.Fmt.{decimal};
 ghost use Rattle.s390x_inst.specs.Frames.{load_from, copied_target};
 ghost use Rattle.s390x_row_text.specs.Texts.{Prints, PrintsWhere, before_semicolon};
@@ -60,7 +60,7 @@ fn put_loaded(
         None => Err(TextError::NoRow),
         Some(inst) => {
             put(out, " ; ")?;
-            put_simple(alloc, out, state, inst)
+            put_simple(alloc, out, true, state, inst)
         }
     }
 }
@@ -236,9 +236,9 @@ fn put_before(
     state: &EmitState,
     inst: &Inst,
 ) -> Result<(), TextError>
-    ensures { Prints result (string_bytes out.old) (string_bytes out.new) (before_semicolon (simple_text state.now inst.now)) }
+    ensures { Prints result (string_bytes out.old) (string_bytes out.new) (before_semicolon (simple_text true state.now inst.now)) }
 {
-    put_simple(alloc, out, state, inst)?;
+    put_simple(alloc, out, true, state, inst)?;
     Ok(put(out, " ; ")?)
 }
 

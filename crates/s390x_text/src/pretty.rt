@@ -6,7 +6,7 @@ ghost use Rattle.s390x_text.specs.Instructions.{leaf_text, leaf_after, after, in
 
 use crate::calls::put_call;
 use s390x_base::Cond;
-use s390x_inst::{EmitState, Inst};
+use s390x_inst::{EmitInfo, EmitState, Inst, IsaFlags};
 use s390x_row_text::error::TextError;
 use s390x_row_text::operand::cond_name;
 use s390x_row_text::simple::put_simple;
@@ -17,14 +17,15 @@ use std::alloc::{AllocError, Global};
 fn put_leaf(
     alloc: Global,
     out: &mut String,
+    flags: IsaFlags,
     state: &EmitState,
     inst: &Inst,
 ) -> Result<(), TextError>
-    ensures { Prints result (string_bytes out.old) (string_bytes out.new) (leaf_text state.now inst.now) }
+    ensures { Prints result (string_bytes out.old) (string_bytes out.new) (leaf_text flags state.now inst.now) }
 {
     match put_call(alloc, out, state, inst) {
         Some(answer) => answer,
-        None => put_simple(alloc, out, state, inst),
+        None => put_simple(alloc, out, !flags.no_relative_memory, state, inst),
     }
 }
 
@@ -46,13 +47,14 @@ fn advance(state: &mut EmitState, inst: &Inst)
 fn put_one(
     alloc: Global,
     out: &mut String,
+    flags: IsaFlags,
     state: &mut EmitState,
     inst: &Inst,
 ) -> Result<(), TextError>
-    ensures answer { Prints result (string_bytes out.old) (string_bytes out.new) (leaf_text state.old inst.now) }
+    ensures answer { Prints result (string_bytes out.old) (string_bytes out.new) (leaf_text flags state.old inst.now) }
     ensures after { IfOk result (λ _. state.new ≡ leaf_after state.old inst.now) }
 {
-    put_leaf(alloc, out, state, inst)?;
+    put_leaf(alloc, out, flags, state, inst)?;
     advance(state, inst);
     Ok(())
 }
@@ -74,15 +76,16 @@ fn put_back(out: &mut String, is_empty: bool, cond: Cond) -> Result<(), AllocErr
 fn put_members(
     alloc: Global,
     out: &mut String,
+    flags: IsaFlags,
     state: &mut EmitState,
     depth: u32,
     insts: &[Inst],
 ) -> Result<(), TextError>
-    ensures answer { Prints result (string_bytes out.old) (string_bytes out.new) (insts_text depth state.old insts.now) }
+    ensures answer { Prints result (string_bytes out.old) (string_bytes out.new) (insts_text flags depth state.old insts.now) }
     ensures after { IfOk result (λ _. state.new ≡ insts_after state.old insts.now) }
 {
     for inst in insts {
-        put_member(alloc, out, state, depth, inst)?;
+        put_member(alloc, out, flags, state, depth, inst)?;
     }
     Ok(())
 }
@@ -92,14 +95,15 @@ fn put_members(
 fn put_member(
     alloc: Global,
     out: &mut String,
+    flags: IsaFlags,
     state: &mut EmitState,
     depth: u32,
     inst: &Inst,
 ) -> Result<(), TextError>
-    ensures answer { Prints result (string_bytes out.old) (string_bytes out.new) (before_semicolon (inst_text depth state.old inst.now)) }
+    ensures answer { Prints result (string_bytes out.old) (string_bytes out.new) (before_semicolon (inst_text flags depth state.old inst.now)) }
     ensures after { IfOk result (λ _. state.new ≡ after state.old inst.now) }
 {
-    put_inst(alloc, out, state, depth, inst)?;
+    put_inst(alloc, out, flags, state, depth, inst)?;
     put(out, " ; ")?;
     Ok(())
 }
@@ -109,19 +113,20 @@ fn put_member(
 fn put_loop(
     alloc: Global,
     out: &mut String,
+    flags: IsaFlags,
     state: &mut EmitState,
     depth: u32,
     cond: Cond,
     body: &[Inst],
 ) -> Result<(), TextError>
-    ensures answer { Prints result (string_bytes out.old) (string_bytes out.new) (looped depth cond (length body.now == 0) (insts_text (depth + 1) state.old body.now)) }
+    ensures answer { Prints result (string_bytes out.old) (string_bytes out.new) (looped depth cond (length body.now == 0) (insts_text flags (depth + 1) state.old body.now)) }
     ensures after { IfOk result (λ _. state.new ≡ insts_after state.old body.now) }
 {
     if depth >= 8 {
         return Err(TextError::NoRow);
     }
     put(out, "0: ")?;
-    put_members(alloc, out, state, depth + 1, body)?;
+    put_members(alloc, out, flags, state, depth + 1, body)?;
     put_back(out, body.is_empty(), cond)?;
     Ok(())
 }
@@ -131,21 +136,23 @@ fn put_loop(
 fn put_inst(
     alloc: Global,
     out: &mut String,
+    flags: IsaFlags,
     state: &mut EmitState,
     depth: u32,
     inst: &Inst,
 ) -> Result<(), TextError>
-    ensures answer { Prints result (string_bytes out.old) (string_bytes out.new) (inst_text depth state.old inst.now) }
+    ensures answer { Prints result (string_bytes out.old) (string_bytes out.new) (inst_text flags depth state.old inst.now) }
     ensures after { IfOk result (λ _. state.new ≡ after state.old inst.now) }
 {
     match inst {
-        Inst::Loop { cond, body } => put_loop(alloc, out, state, depth, *cond, body),
-        _ => put_one(alloc, out, state, inst),
+        Inst::Loop { cond, body } => put_loop(alloc, out, flags, state, depth, *cond, body),
+        _ => put_one(alloc, out, flags, state, inst),
     }
 }
 
-/// The text of an instruction in a state of emission, which goes on to that behind the instruction: after `AllocateArgs` its nominal size is that
-/// of the arguments, after a `Call` its nominal and its outgoing size are 0. A refused call leaves it as it was.
+/// The text of an instruction as emission puts it for the machine of `info`, in a state of emission, which goes on to that behind the instruction:
+/// after `AllocateArgs` its nominal size is that of the arguments, after a `Call` its nominal and its outgoing size are 0. A refused call leaves it
+/// as it was.
 ///
 /// `NoRow` exactly where an operator, type, size, bit, lane or shift number has no row, a `Loop` is nested more than 8 deep, a result of type
 /// `I8X8` would be loaded behind a call, or the frame of a tail call saves general registers from one outside 6 to 14 on; `BadPair` where the
@@ -155,15 +162,16 @@ fn put_inst(
 pub fn pretty_print_inst(
     alloc: Global,
     inst: &Inst,
+    info: &EmitInfo,
     state: &mut EmitState,
 ) -> Result<String, TextError>
-    ensures answer { MatchResult result (λ s. ((inst_text 0 state.old inst.now).cause ≡ None) × (string_bytes s ≡ (inst_text 0 state.old inst.now).bytes)) (λ e. RefusedBy (inst_text 0 state.old inst.now).cause e) }
+    ensures answer { MatchResult result (λ s. ((inst_text info.now.isa_flags 0 state.old inst.now).cause ≡ None) × (string_bytes s ≡ (inst_text info.now.isa_flags 0 state.old inst.now).bytes)) (λ e. RefusedBy (inst_text info.now.isa_flags 0 state.old inst.now).cause e) }
     ensures after { IfOk result (λ _. state.new ≡ after state.old inst.now) }
     ensures left { OnErr result (state.new ≡ state.old) }
 {
     let mut behind = *state;
     let mut out = String::new(alloc);
-    put_inst(alloc, &mut out, &mut behind, 0, inst)?;
+    put_inst(alloc, &mut out, info.isa_flags, &mut behind, 0, inst)?;
     *state = behind;
     Ok(out)
 }

@@ -36,7 +36,7 @@ use Rattle.s390x_text.specs.Calls.{epilogue_text, is_first_saved as has_epilogue
 use Rattle.s390x_row_text.specs.Simple.{simple_text, unbuilt}
 use Rattle.s390x_row_text.specs.Texts.{Text, first, fixed}
 use Rattle.s390x_row_text.specs.declared.error.TextError.{TextError}
-use Rattle.s390x_text_laws.proofs.Leaves.{leaf_fine}
+use Rattle.s390x_text_laws.proofs.Leaves.{whole_fine}
 use Rattle.s390x_text_laws.proofs.Mapless.{mapped}
 
 pub first_fine : (a b : Option TextError) → a ≡ None → b ≡ None → first a b ≡ None
@@ -54,15 +54,15 @@ takes_all blocks nominal depth c h =
 -- the load of a result has a text
 load_fine : (flags : IsaFlags) (D : Declared) (n depth : ℕ) (e : Emission) (map : Option ℕ) (rd : Reg) (off : ℤ) (ty : ValueType)
     → body_cause flags D n e.nominal depth (load_or (mapped e map) (load_of rd (OutgoingArgOffset off) ty)) ≡ None → (loaded_text e (load_of rd (OutgoingArgOffset off) ty)).cause ≡ None
-load_fine flags D n depth e map rd off I8 h = leaf_fine flags D n depth e (Load64ZExt8 rd (OutgoingArgOffset off)) h
-load_fine flags D n depth e map rd off I16 h = leaf_fine flags D n depth e (Load64ZExt16 rd (OutgoingArgOffset off)) h
-load_fine flags D n depth e map rd off I32 h = leaf_fine flags D n depth e (Load64ZExt32 rd (OutgoingArgOffset off)) h
-load_fine flags D n depth e map rd off I64 h = leaf_fine flags D n depth e (Load64 rd (OutgoingArgOffset off)) h
-load_fine flags D n depth e map rd off F16 h = leaf_fine flags D n depth e (Vector (VecLoadLaneUndef 16 rd (OutgoingArgOffset off) 0)) h
-load_fine flags D n depth e map rd off F32 h = leaf_fine flags D n depth e (Vector (VecLoadLaneUndef 32 rd (OutgoingArgOffset off) 0)) h
-load_fine flags D n depth e map rd off F64 h = leaf_fine flags D n depth e (Vector (VecLoadLaneUndef 64 rd (OutgoingArgOffset off) 0)) h
+load_fine flags D n depth e map rd off I8 h = whole_fine flags D n depth e (Load64ZExt8 rd (OutgoingArgOffset off)) h
+load_fine flags D n depth e map rd off I16 h = whole_fine flags D n depth e (Load64ZExt16 rd (OutgoingArgOffset off)) h
+load_fine flags D n depth e map rd off I32 h = whole_fine flags D n depth e (Load64ZExt32 rd (OutgoingArgOffset off)) h
+load_fine flags D n depth e map rd off I64 h = whole_fine flags D n depth e (Load64 rd (OutgoingArgOffset off)) h
+load_fine flags D n depth e map rd off F16 h = whole_fine flags D n depth e (Vector (VecLoadLaneUndef 16 rd (OutgoingArgOffset off) 0)) h
+load_fine flags D n depth e map rd off F32 h = whole_fine flags D n depth e (Vector (VecLoadLaneUndef 32 rd (OutgoingArgOffset off) 0)) h
+load_fine flags D n depth e map rd off F64 h = whole_fine flags D n depth e (Vector (VecLoadLaneUndef 64 rd (OutgoingArgOffset off) 0)) h
 load_fine flags D n depth e map rd off I8X8 h = absurd (cc)
-load_fine flags D n depth e map rd off ty h = leaf_fine flags D n depth e (Vector (VecLoad rd (OutgoingArgOffset off))) h
+load_fine flags D n depth e map rd off ty h = whole_fine flags D n depth e (Vector (VecLoad rd (OutgoingArgOffset off))) h
 
 load_keeps : (e : Emission) (rd : Reg) (off : ℤ) (ty : ValueType) (m : ℕ) → body_nominal_after m (load_or e (load_of rd (OutgoingArgOffset off) ty)) ≡ m
 load_keeps e rd off I8X8 m = refl
@@ -120,7 +120,7 @@ call_fine flags D n depth e map link info h =
 
 -- an instruction of an epilogue, whose text is that of no call
 record Alone (e : Emission) (map : Option ℕ) (i : Inst) : Type 0 where
-  pub text : (flags : IsaFlags) (D : Declared) (n depth : ℕ) → leaf_cause flags D n e.nominal depth (resolved_instruction (mapped e map) i) ≡ None → (simple_text e i).cause ≡ None
+  pub text : (flags : IsaFlags) (D : Declared) (n depth : ℕ) → leaf_cause flags D n e.nominal depth (resolved_instruction (mapped e map) i) ≡ None → (simple_text true e i).cause ≡ None
   pub kept : nominal_after e.nominal (resolved_instruction (mapped e map) i) ≡ e.nominal
 
 abbrev AllAlone : Emission → Option ℕ → List Inst → Type 0
@@ -142,7 +142,7 @@ texts_fine flags D n depth e map (i ∷ is) a h =
     (texts_fine flags D k depth e map is a.1 (subst (λ m. tree_cause flags D k m depth (leaves (wholes (mapped e map) is) empty) ≡ None) a.0.kept behind))
 
 copied_alone : (e : Emission) (map : Option ℕ) (reg : Reg) (t : Bool) → AllAlone e map (cond t (Mov64 (Real (general 1)) reg ∷ []) [])
-copied_alone e map reg true = (record { text = λ flags D n depth h. leaf_fine flags D n depth e (Mov64 (Real (general 1)) reg) h; kept = refl }, tt)
+copied_alone e map reg true = (record { text = λ flags D n depth h. whole_fine flags D n depth e (Mov64 (Real (general 1)) reg) h; kept = refl }, tt)
 copied_alone e map reg false = tt
 
 copy_alone : (e : Emission) (map : Option ℕ) (dest : CallInstDest) → AllAlone e map (target_copy dest)
@@ -151,12 +151,12 @@ copy_alone e map (Indirect reg) = copied_alone e map reg (is_lost reg)
 
 floats_alone : (e : Emission) (map : Option ℕ) (start k : ℕ) (ns : List ℕ) → AllAlone e map (float_loads start k ns)
 floats_alone e map start k [] = tt
-floats_alone e map start k (n ∷ ns) = (record { text = λ flags D l depth h. leaf_fine flags D l depth e (float_load n (start + 8 * k)) h; kept = refl }, floats_alone e map start (k + 1) ns)
+floats_alone e map start k (n ∷ ns) = (record { text = λ flags D l depth h. whole_fine flags D l depth e (float_load n (start + 8 * k)) h; kept = refl }, floats_alone e map start (k + 1) ns)
 
 general_alone : (e : Emission) (map : Option ℕ) (caller : ℕ) (o : Option ℕ) → AllAlone e map (general_load caller o)
 general_alone e map caller None = tt
 general_alone e map caller (Some g) =
-    (record { text = λ flags D n depth h. leaf_fine flags D n depth e (LoadMultiple64 (Real (general g)) (Real (general 14)) (above_stack (pos (caller + 8 * g)))) h; kept = refl }, tt)
+    (record { text = λ flags D n depth h. whole_fine flags D n depth e (LoadMultiple64 (Real (general g)) (Real (general 14)) (above_stack (pos (caller + 8 * g)))) h; kept = refl }, tt)
 
 epilogue_alone : (e : Emission) (map : Option ℕ) (layout : FrameLayout) (popped : ℕ) (dest : CallInstDest) → AllAlone e map (epilogue layout popped dest)
 epilogue_alone e map layout popped dest =
@@ -167,7 +167,7 @@ epilogue_alone e map layout popped dest =
     alone_append e map (copy ++ floats ++ generals) (LoadAddr (Real (general 15)) above ∷ [])
     (alone_append e map (copy ++ floats) generals
     (alone_append e map copy floats (copy_alone e map dest) (floats_alone e map (floats_at layout) 0 (saved_floats layout.saved_fprs))) (general_alone e map (caller_at layout) layout.first_saved_gpr))
-    (record { text = λ flags D n depth h. leaf_fine flags D n depth e (LoadAddr (Real (general 15)) above) h; kept = refl }, tt)
+    (record { text = λ flags D n depth h. whole_fine flags D n depth e (LoadAddr (Real (general 15)) above) h; kept = refl }, tt)
 
 same_first : (o : Option ℕ) → is_first_saved o ≡ has_epilogue o
 same_first None = refl

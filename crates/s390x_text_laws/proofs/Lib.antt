@@ -2,6 +2,7 @@ pub mod Elements
 pub mod VectorMemory
 pub mod Vectors
 pub mod Rows
+pub mod Machines
 pub mod Leaves
 pub mod Mapless
 pub mod Calls

@@ -23,6 +23,7 @@ use Rattle.s390x_typed_steps.specs.Memory.{MemoryInstruction, RxForm, load_and_o
 use Rattle.s390x_typed_steps.specs.Operands.{has_form, loses_base, offset_fits}
 use Rattle.s390x_typed_steps.specs.SingleInstruction.{SingleInstruction, single_instruction, single_with}
 use Rattle.s390x_typed_steps.specs.VectorInstruction.{vector_operands_valid, vector_row}
+use Rattle.s390x_typed_steps.specs.declared.mem_inst_type.MemInstType.{MemInstType}
 use Rattle.s390x_typed_steps.specs.Storage.{alu_rx, alu_rxy, cmp_ril, cmp_rx, cmp_rxy}
 use Rattle.s390x_words.specs.Atoms.{reg_text}
 use Rattle.s390x_text.specs.Agreement.{has_row_text}
@@ -79,6 +80,15 @@ abbrev pub access_refusal : Option MemoryInstruction → Option EmitError
 access_refusal None = None
 access_refusal (Some x) = operand_cause (type_of x.form x.accesses) x.operand
 
+-- the forms of an operand on a machine that has accesses relative to the instruction or lacks them
+abbrev pub type_there : (has accesses : Bool) → MemInstType → MemInstType
+type_there has accesses t = record t { have_pcrel = t.have_pcrel && (has || not accesses) }
+
+-- why it has no access there
+abbrev pub refusal_there : (has : Bool) → Option MemoryInstruction → Option EmitError
+refusal_there has None = None
+refusal_there has (Some x) = operand_cause (type_there has x.accesses (type_of x.form x.accesses)) x.operand
+
 three_none : (a b c : Option EmitError) → a ≡ None → b ≡ None → c ≡ None → first_emit_cause a (first_emit_cause b c) ≡ None
 three_none None None c p q r = r
 three_none None (Some e) c p q r = q
@@ -89,7 +99,7 @@ not_first false b h = refl
 not_first true b h = h
 
 -- the causes of an operand are among those of its instruction
-operand_fine : (D : Declared) (x : MemoryInstruction) → memory_cause D x ≡ None → operand_cause (type_of x.form x.accesses) x.operand ≡ None
+pub operand_fine : (D : Declared) (x : MemoryInstruction) → memory_cause D x ≡ None → operand_cause (type_of x.form x.accesses) x.operand ≡ None
 operand_fine D x h =
     let form = first_left (unless (has_form (type_of x.form x.accesses) x.operand) BadOperator) _ h in
     let late = first_left (late_cause x) (target_cause D x) (first_right _ _ (first_right _ _ h)) in
@@ -149,30 +159,32 @@ address_fine (Some e) h = absurd (cc)
 
 -- ---- operators on an operand in memory
 
-operator_type : (op : ALUOp) (r : ℕ) → type_of_rows (rx (alu_short_name op) (alu_long_name op) None) ≡ type_of (RxForm r (alu_rx op) (alu_rxy op) None) true
-operator_type Add32 r = refl
-operator_type op r = refl
+operator_type : (has : Bool) (op : ALUOp) (r : ℕ) → type_of_rows has (rx (alu_short_name op) (alu_long_name op) None) ≡ type_there has true (type_of (RxForm r (alu_rx op) (alu_rxy op) None) true)
+operator_type has Add32 r = refl
+operator_type has op r = refl
 
-comparison_type : (op : CmpOp) (r : ℕ) → type_of_rows (rx (cmp_short_name op) (cmp_long_name op) (Some (cmp_relative_name op))) ≡ type_of (RxForm r (cmp_rx op) (cmp_rxy op) (Some (cmp_ril op))) true
-comparison_type CmpS32 r = refl
-comparison_type op r = refl
+comparison_type : (has : Bool) (op : CmpOp) (r : ℕ) → type_of_rows has (rx (cmp_short_name op) (cmp_long_name op) (Some (cmp_relative_name op))) ≡ type_there has true (type_of (RxForm r (cmp_rx op) (cmp_rxy op) (Some (cmp_ril op))) true)
+comparison_type has CmpS32 r = refl
+comparison_type has op r = refl
 
 -- where a text has a row, its cause is that of its operand
-found_fine : (has : Bool) (c : Option EmitError) (b : Bool) → has_row_text (cond has (address_cause c) (Some NoRow)) ≡ b → b ≡ true → c ≡ None → cond has (address_cause c) (Some NoRow) ≡ None
+found_fine : (found : Bool) (c : Option EmitError) (b : Bool) → has_row_text (cond found (address_cause c) (Some NoRow)) ≡ b → b ≡ true → c ≡ None → cond found (address_cause c) (Some NoRow) ≡ None
 found_fine true c b same found fine = address_fine c fine
 found_fine false c b same found fine = absurd (cc)
 
 -- an operator on a register and an operand, which has a row
-operated : (D : Declared) (has : Bool) (x y : Option ℕ) (rd ri : Reg) (m : MemArg) (c : EmitError) → memory_cause_or D (operate has x y rd ri m) (Some c) ≡ None → (has ≡ true) × (operand_cause (type_of (RxForm 0 x y None) true) m ≡ None)
-operated D false x y rd ri m c fine = absurd (cc)
-operated D true x y rd ri m c fine = (refl, memory_allows D (operate true x y rd ri m) (Some c) fine)
+operated : (D : Declared) (has given : Bool) (x y : Option ℕ) (rd ri : Reg) (m : MemArg) (c : EmitError) → memory_cause_or D (operate given x y rd ri m) (Some c) ≡ None → refusal_there has (operate given x y rd ri m) ≡ None
+    → (given ≡ true) × (operand_cause (type_there has true (type_of (RxForm 0 x y None) true)) m ≡ None)
+operated D has false x y rd ri m c fine allowed = absurd (cc)
+operated D has true x y rd ri m c fine allowed = (refl, allowed)
 
-pub operator_fine : (D : Declared) (op : ALUOp) (rd ri : Reg) (given m : MemArg) (c : EmitError)
-    → has_row_text (access_cause (rx (alu_short_name op) (alu_long_name op) None) m) ≡ is_some (operate (is_some (alu_rx op) || is_some (alu_rxy op)) (alu_rx op) (alu_rxy op) rd ri given)
-    → memory_cause_or D (operate (is_some (alu_rx op) || is_some (alu_rxy op)) (alu_rx op) (alu_rxy op) rd ri m) (Some c) ≡ None → access_cause (rx (alu_short_name op) (alu_long_name op) None) m ≡ None
-operator_fine D op rd ri given m c same fine =
-    let has = operated D (is_some (alu_rx op) || is_some (alu_rxy op)) (alu_rx op) (alu_rxy op) rd ri m c fine in
-    found_fine _ _ _ same (ap (λ b. is_some (operate b (alu_rx op) (alu_rxy op) rd ri given)) has.0) (ap (λ t. operand_cause t m) (operator_type op 0) ∙ has.1)
+pub operator_fine : (D : Declared) (has : Bool) (op : ALUOp) (rd ri : Reg) (given m : MemArg) (c : EmitError)
+    → has_row_text (access_cause has (rx (alu_short_name op) (alu_long_name op) None) m) ≡ is_some (operate (is_some (alu_rx op) || is_some (alu_rxy op)) (alu_rx op) (alu_rxy op) rd ri given)
+    → memory_cause_or D (operate (is_some (alu_rx op) || is_some (alu_rxy op)) (alu_rx op) (alu_rxy op) rd ri m) (Some c) ≡ None
+    → refusal_there has (operate (is_some (alu_rx op) || is_some (alu_rxy op)) (alu_rx op) (alu_rxy op) rd ri m) ≡ None → access_cause has (rx (alu_short_name op) (alu_long_name op) None) m ≡ None
+operator_fine D has op rd ri given m c same fine allowed =
+    let row = operated D has (is_some (alu_rx op) || is_some (alu_rxy op)) (alu_rx op) (alu_rxy op) rd ri m c fine allowed in
+    found_fine _ _ _ same (ap (λ b. is_some (operate b (alu_rx op) (alu_rxy op) rd ri given)) row.0) (ap (λ t. operand_cause t m) (operator_type has op 0) ∙ row.1)
 
 -- a comparison always has one
 comparison_row : (a b : Option (List ℕ)) (r : List ℕ) → has_row (rx a b (Some r)) ≡ true
@@ -180,17 +192,17 @@ comparison_row None None r = refl
 comparison_row None (Some b) r = refl
 comparison_row (Some a) b r = refl
 
-pub comparison_fine : (op : CmpOp) (m : MemArg) → operand_cause (type_of (RxForm 0 (cmp_rx op) (cmp_rxy op) (Some (cmp_ril op))) true) m ≡ None → access_cause (rx (cmp_short_name op) (cmp_long_name op) (Some (cmp_relative_name op))) m ≡ None
-comparison_fine op m fine =
+pub comparison_fine : (has : Bool) (op : CmpOp) (m : MemArg) → operand_cause (type_there has true (type_of (RxForm 0 (cmp_rx op) (cmp_rxy op) (Some (cmp_ril op))) true)) m ≡ None → access_cause has (rx (cmp_short_name op) (cmp_long_name op) (Some (cmp_relative_name op))) m ≡ None
+comparison_fine has op m fine =
     let row = comparison_row (cmp_short_name op) (cmp_long_name op) (cmp_relative_name op) in
-    let type = type_of_rows (rx (cmp_short_name op) (cmp_long_name op) (Some (cmp_relative_name op))) in
-    let same = ap (λ t. operand_cause t m) (comparison_type op 0) in
+    let type = type_of_rows has (rx (cmp_short_name op) (cmp_long_name op) (Some (cmp_relative_name op))) in
+    let same = ap (λ t. operand_cause t m) (comparison_type has op 0) in
     ap (λ b. cond b (address_cause (operand_cause type m)) (Some NoRow)) row ∙ address_fine (operand_cause type m) (same ∙ fine)
 
 -- one that changes the operand in one access, which has a row
-pub atomic_fine : (D : Declared) (name : Option (List ℕ)) (o : Option ℕ) (rd rn : Reg) (given m : MemArg) (c : EmitError) → has_row_text (access_cause (rs None name) m) ≡ is_some (load_and_operate o rd rn given)
-    → memory_cause_or D (load_and_operate o rd rn m) (Some c) ≡ None → access_cause (rs None name) m ≡ None
-atomic_fine D None None rd rn given m c same fine = absurd (cc)
-atomic_fine D None (Some x) rd rn given m c same fine = absurd (cc)
-atomic_fine D (Some name) None rd rn given m c same fine = absurd (cc)
-atomic_fine D (Some name) (Some x) rd rn given m c same fine = address_fine _ (memory_allows D (load_and_operate (Some x) rd rn m) (Some c) fine)
+pub atomic_fine : (D : Declared) (has : Bool) (name : Option (List ℕ)) (o : Option ℕ) (rd rn : Reg) (given m : MemArg) (c : EmitError) → has_row_text (access_cause has (rs None name) m) ≡ is_some (load_and_operate o rd rn given)
+    → memory_cause_or D (load_and_operate o rd rn m) (Some c) ≡ None → refusal_there has (load_and_operate o rd rn m) ≡ None → access_cause has (rs None name) m ≡ None
+atomic_fine D has None None rd rn given m c same fine allowed = absurd (cc)
+atomic_fine D has None (Some x) rd rn given m c same fine allowed = absurd (cc)
+atomic_fine D has (Some name) None rd rn given m c same fine allowed = absurd (cc)
+atomic_fine D has (Some name) (Some x) rd rn given m c same fine allowed = address_fine _ allowed

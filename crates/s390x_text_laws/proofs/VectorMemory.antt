@@ -29,7 +29,7 @@ abbrev float_type : MemInstType
 float_type = type_of (FloatForm 0 0 0) true
 
 -- a row of format VRX that has a mnemonic
-named_access : (name : Option (List ℕ)) (m : MemArg) → is_some name ≡ true → operand_cause vector_type m ≡ None → access_cause (rx name None None) m ≡ None
+named_access : (name : Option (List ℕ)) (m : MemArg) → is_some name ≡ true → operand_cause vector_type m ≡ None → access_cause true (rx name None None) m ≡ None
 named_access None m named fine = absurd (cc)
 named_access (Some name) m named fine = address_fine _ fine
 
@@ -65,13 +65,13 @@ reversed_at h f g size lane (inr (inr e)) lt =
     subst (λ s. is_some (reversed_name h f g s lane) ≡ true) (sym e) (ap (λ t. is_some (cond t (Some g) None)) (lt-ltb lane 2 (omega (arith, below))))
 
 pub replicated_fine : (D : Declared) (b h f g : List ℕ) (opcode : ℕ) (rd : Reg) (size : ℕ) (m : MemArg) (c : EmitError) → memory_cause_or D (access_elements opcode rd (element_code size) m) (Some c) ≡ None
-    → access_refusal (access_elements opcode rd (element_code size) m) ≡ None → access_cause (rx (lane_name b h f g size 0) None None) m ≡ None
+    → access_refusal (access_elements opcode rd (element_code size) m) ≡ None → access_cause true (rx (lane_name b h f g size 0) None None) m ≡ None
 replicated_fine D b h f g opcode rd size m c none fine =
     let parts = elements_have_code D opcode rd (element_code size) m c none fine in
     named_access _ m (named_at b h f g size 0 (one_size size parts.0) (omega arith)) parts.1
 
 pub reversed_replicated_fine : (D : Declared) (h f g : List ℕ) (opcode : ℕ) (rd : Reg) (size : ℕ) (m : MemArg) (c : EmitError) → memory_cause_or D (access_elements opcode rd (reversed_code size) m) (Some c) ≡ None
-    → access_refusal (access_elements opcode rd (reversed_code size) m) ≡ None → access_cause (rx (reversed_name h f g size 0) None None) m ≡ None
+    → access_refusal (access_elements opcode rd (reversed_code size) m) ≡ None → access_cause true (rx (reversed_name h f g size 0) None None) m ≡ None
 reversed_replicated_fine D h f g opcode rd size m c none fine =
     let parts = elements_have_code D opcode rd (reversed_code size) m c none fine in
     named_access _ m (reversed_at h f g size 0 (long_size size (nat_eq size 8) refl parts.0) (omega arith)) parts.1
@@ -105,17 +105,17 @@ has_lane D valid opcode register (Some code) size lane m c h fine =
     record { coded = refl; lies = tested.0; operand = lane_operand (is_lane size lane) valid register (opcode code) lane m tested.0 fine; registers = tested.1 }
 
 -- such an access has a text
-lane_text_fine : (b h f g : List ℕ) (valid : Bool) (size lane : ℕ) (m : MemArg) → HasLane valid (element_code size) size lane m → access_cause (rx (lane_name b h f g size lane) None None) m ≡ None
+lane_text_fine : (b h f g : List ℕ) (valid : Bool) (size lane : ℕ) (m : MemArg) → HasLane valid (element_code size) size lane m → access_cause true (rx (lane_name b h f g size lane) None None) m ≡ None
 lane_text_fine b h f g valid size lane m l = named_access _ m (named_at b h f g size lane (one_size size l.coded) (ltb-true (lane * size) 128 l.lies)) l.operand
 
 pub lane_fine : (D : Declared) (b h f g : List ℕ) (valid : Bool) (opcode : ℕ → ℕ) (register size lane : ℕ) (m : MemArg) (c : EmitError)
     → memory_cause_or D (access_lane valid opcode register (element_code size) size lane m) (Some c) ≡ None
-    → access_refusal (access_lane valid opcode register (element_code size) size lane m) ≡ None → access_cause (rx (lane_name b h f g size lane) None None) m ≡ None
+    → access_refusal (access_lane valid opcode register (element_code size) size lane m) ≡ None → access_cause true (rx (lane_name b h f g size lane) None None) m ≡ None
 lane_fine D b h f g valid opcode register size lane m c none fine = lane_text_fine b h f g valid size lane m (has_lane D valid opcode register (element_code size) size lane m c none fine)
 
 pub reversed_lane_fine : (D : Declared) (h f g : List ℕ) (valid : Bool) (opcode : ℕ → ℕ) (register size lane : ℕ) (m : MemArg) (c : EmitError)
     → memory_cause_or D (access_lane valid opcode register (reversed_code size) size lane m) (Some c) ≡ None
-    → access_refusal (access_lane valid opcode register (reversed_code size) size lane m) ≡ None → access_cause (rx (reversed_name h f g size lane) None None) m ≡ None
+    → access_refusal (access_lane valid opcode register (reversed_code size) size lane m) ≡ None → access_cause true (rx (reversed_name h f g size lane) None None) m ≡ None
 reversed_lane_fine D h f g valid opcode register size lane m c none fine =
     let l = has_lane D valid opcode register (reversed_code size) size lane m c none fine in
     named_access _ m (reversed_at h f g size lane (long_size size (nat_eq size 8) refl l.coded) (ltb-true (lane * size) 128 l.lies)) l.operand
@@ -166,7 +166,7 @@ pub left_lane_fine : (D : Declared) (b h f g : List ℕ) (rd : Reg) (first first
     (access_lane (is_vector rd) opcode (number_of rd) (element_code size) size lane m)) (Some c) ≡ None
     → access_refusal (cond (is_left_lane size lane (number_of rd)) (access_vector (is_vector rd) (cond (nat_eq size 32) (FloatForm (number_of rd) first first_long) (FloatForm (number_of rd) second second_long)) m)
     (access_lane (is_vector rd) opcode (number_of rd) (element_code size) size lane m)) ≡ None
-    → (operand_cause float_type m ≡ None → (x.cause ≡ None) × (y.cause ≡ None)) → z.cause ≡ access_cause (rx (lane_name b h f g size lane) None None) m
+    → (operand_cause float_type m ≡ None → (x.cause ≡ None) × (y.cause ≡ None)) → z.cause ≡ access_cause true (rx (lane_name b h f g size lane) None None) m
     → (cond (is_float rd && nat_eq lane 0 && nat_eq size 32) x (cond (is_float rd && nat_eq lane 0 && nat_eq size 64) y z)).cause ≡ None
 left_lane_fine D b h f g rd first first_long second second_long opcode size lane m c x y z none fine floats last =
     let valid = is_vector rd in

@@ -11,6 +11,6 @@ ghost use Rattle.s390x_text_laws.specs.Laws.{AllHaveTexts, HasTextsInOrder, tree
 /// `pretty_print_inst` answers that text or wants memory, and this state is the one in which emission meets it, but for the stack
 /// map, which no text shows. So all texts of a block, in order, aren't refused either.
 pub fn valid_blocks_have_texts()
-    ensures texts { (flags : IsaFlags) (D : Declared) (n : ℕ) (e : Emission) (blocks : List Block) → e.nominal ≡ 0 → e.outgoing ≡ 0 → blocks_cause flags D n (map (tree_of_block e) blocks) ≡ None → All (AllHaveTexts e) blocks }
-    ensures in_order { (flags : IsaFlags) (D : Declared) (n : ℕ) (e : Emission) (blocks : List Block) → e.nominal ≡ 0 → e.outgoing ≡ 0 → blocks_cause flags D n (map (tree_of_block e) blocks) ≡ None → All (HasTextsInOrder e) blocks }
+    ensures texts { (flags : IsaFlags) (D : Declared) (n : ℕ) (e : Emission) (blocks : List Block) → e.nominal ≡ 0 → e.outgoing ≡ 0 → blocks_cause flags D n (map (tree_of_block flags e) blocks) ≡ None → All (AllHaveTexts flags e) blocks }
+    ensures in_order { (flags : IsaFlags) (D : Declared) (n : ℕ) (e : Emission) (blocks : List Block) → e.nominal ≡ 0 → e.outgoing ≡ 0 → blocks_cause flags D n (map (tree_of_block flags e) blocks) ≡ None → All (HasTextsInOrder flags e) blocks }
 {}

@@ -1,6 +1,8 @@
 //! The state of emission behind a text.
 use s390x_base::gpr;
-use s390x_inst::{CallConv, EmitState, FrameLayout, Inst, MachInstEmitState, MemArg};
+use s390x_inst::{
+    CallConv, EmitInfo, EmitState, FrameLayout, Inst, IsaFlags, MachInstEmitState, MemArg,
+};
 use s390x_text::{TextError, pretty_print_inst};
 
 #[test]
@@ -9,6 +11,7 @@ fn a_refused_call_leaves_the_state(rt: HostRuntime) -> Result<(), TextError> {
         outgoing_args_size: 160,
         ..FrameLayout::default()
     };
+    let info = EmitInfo::new(IsaFlags::default());
     let mut state = EmitState::new(layout, CallConv::SystemV);
     let mut body = Vec::new(rt.alloc());
     push(&mut body, Inst::AllocateArgs { size: 32 })?;
@@ -24,7 +27,7 @@ fn a_refused_call_leaves_the_state(rt: HostRuntime) -> Result<(), TextError> {
         body,
     };
     assert_eq!(rt;
-        pretty_print_inst(rt.alloc(), &around, &mut state).is_err(),
+        pretty_print_inst(rt.alloc(), &around, &info, &mut state).is_err(),
         true
     );
     assert_eq!(rt; state.nominal(), 0);

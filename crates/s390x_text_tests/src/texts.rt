@@ -1,7 +1,7 @@
 //! A line: a job, a tab, and the texts of its instructions, in which ` / ` stands for the end of a line. Where ` ~ ` stands before what is told, it is one of the
 //! machine instructions that are joined by ` ; `.
 
-use s390x_inst::{EmitState, Inst};
+use s390x_inst::{EmitInfo, EmitState, Inst};
 use s390x_job::read_lines;
 use s390x_text::{TextError, pretty_print_inst};
 use std::alloc::{AllocError, Global};
@@ -57,7 +57,7 @@ fn texts_of(alloc: Global, job: &str) -> Result<String, LineError> {
     let mut texts = String::new(alloc);
     for block in &job.function.blocks {
         for inst in &block.insts {
-            put_text(alloc, &mut texts, inst, &mut state)?;
+            put_text(alloc, &mut texts, inst, &job.info, &mut state)?;
         }
     }
     Ok(texts)
@@ -68,12 +68,13 @@ fn put_text(
     alloc: Global,
     texts: &mut String,
     inst: &Inst,
+    info: &EmitInfo,
     state: &mut EmitState,
 ) -> Result<(), LineError> {
     if !texts.is_empty() {
         texts.push_str(" / ")?;
     }
-    match pretty_print_inst(alloc, inst, state) {
+    match pretty_print_inst(alloc, inst, info, state) {
         Ok(text) => texts.push_str(text.as_str())?,
         Err(TextError::NoMemory) => return Err(LineError::NoMemory),
         Err(error) => texts.push_str(format!(in alloc; "{error:?}")?.as_str())?,

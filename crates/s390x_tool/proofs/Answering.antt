@@ -168,11 +168,11 @@ RunsWhereLinked =
 
 -- it holds of a job's image
 pub image_runs : RunsWhereLinked → (base : ℕ) (j : Job) (bytes : List ℕ) → IsImageAt base j bytes
-    → RunsAsTyped (symbols_of j) (folded_trees_of j.state j.function) (constants_of j.function) (record { base = base; bytes = bytes })
+    → RunsAsTyped (symbols_of j) (folded_trees_of j.info.isa_flags j.state j.function) (constants_of j.function) (record { base = base; bytes = bytes })
 image_runs law base j bytes image =
-    let runs = law j.info.isa_flags (trees_of j.state j.function) (constants_of j.function) image.code base (symbols_of j)
+    let runs = law j.info.isa_flags (trees_of j.info.isa_flags j.state j.function) (constants_of j.function) image.code base (symbols_of j)
     (second_none (start_cause j.state) _ image.is.valid) image.is.ranges image.is.emitted image.linked in
-    let P : List ℕ → Type 0 = λ bs. RunsAsTyped (symbols_of j) (folded_trees_of j.state j.function) (constants_of j.function) (record { base = base; bytes = bs }) in
+    let P : List ℕ → Type 0 = λ bs. RunsAsTyped (symbols_of j) (folded_trees_of j.info.isa_flags j.state j.function) (constants_of j.function) (record { base = base; bytes = bs }) in
     subst P (sym image.filled) runs
 
 -- the image in hex is the reply

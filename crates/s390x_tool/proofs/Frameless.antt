@@ -29,7 +29,8 @@ use Rattle.s390x_lines.specs.declared.inst_name.ControlName.TheVariants as Contr
 use Rattle.s390x_lines.specs.declared.name.LineName.{LineName}
 use Rattle.s390x_lines.specs.declared.name.LineName.TheVariants as N
 use Rattle.s390x_tool.proofs.SameInstruction.{line_reading, reading_after, nominal_read}
-use Rattle.s390x_tool.proofs.SameTree.{BodyLine, of_line, of_step, body_line, LineTree, none, one, around, lines_tree}
+use Rattle.s390x_tool.proofs.SameTree.{BodyLine, of_line, of_step, body_line, LineTree, none, one, around, lines_tree, lines_for, tree_for_told}
+use Rattle.s390x_inst.specs.declared.state.IsaFlags.{IsaFlags}
 
 abbrev mutual
   -- an instruction as it is given, before others
@@ -251,6 +252,6 @@ tree_resolved e [] = refl
 tree_resolved e (i ∷ is) = member_resolved e i (block_tree (state_after e i) is) (raw_tree is) (tree_resolved (state_after e i) is)
 
 -- the lines of blocks as emission has them
-pub blocks_resolved : (e : Emission) (bs : List Block) → map lines_tree (map (tree_of e) bs) ≡ map (resolved_lines e) (map lines_tree (map raw_block bs))
-blocks_resolved e [] = refl
-blocks_resolved e (b ∷ bs) = ap₂ (λ t ts. t ∷ ts) (tree_resolved e b.insts.items) (blocks_resolved e bs)
+pub blocks_resolved : (flags : IsaFlags) (e : Emission) (bs : List Block) → map lines_tree (map (tree_of flags e) bs) ≡ map (lines_for flags) (map (resolved_lines e) (map lines_tree (map raw_block bs)))
+blocks_resolved flags e [] = refl
+blocks_resolved flags e (b ∷ bs) = ap₂ (λ t ts. t ∷ ts) (tree_for_told flags (block_tree e b.insts.items) ∙ ap (lines_for flags) (tree_resolved e b.insts.items)) (blocks_resolved flags e bs)

@@ -1,26 +1,23 @@
 -- A generated function is refused by nothing.
-use Rattle.std.proofs.Common.{◌≡◌, ℕ, ◌+◌, ◌≤◌, ◌<◌, ◌*◌, ◌⊎◌, inl, inr, List, [], ◌∷◌, length, map, Some, None, true, refl, sym, ap, ap₂, ◌∙◌, subst, arith}
-use Rattle.std.specs.Prelude.{Option, codes, nat_le, nat_lt}
+use Rattle.std.proofs.Common.{◌≡◌, ℕ, ◌+◌, ◌≤◌, ◌*◌, inl, inr, List, [], ◌∷◌, length, map, None, false, true, refl, sym, ap, ap₂, ◌∙◌, subst, arith}
+use Rattle.std.specs.Prelude.{nat_lt}
 use Rattle.std.proofs.lemmas.Bool.{and_from, le-leb, lt-ltb}
-use Rattle.std.proofs.lemmas.List.{length-append}
 use Rattle.s390x_base.specs.declared.error.EmitError.{EmitError}
 use Rattle.s390x_base.specs.declared.error.EmitError.TheVariants as error
 use Rattle.s390x_buffer.specs.Constants.{greatest_align}
 use Rattle.s390x_buffer.specs.State.{constant_of, new_cause}
 use Rattle.s390x_buffer.specs.declared.entries.MachBufferFinalized.{MachBufferFinalized}
-use Rattle.s390x_emit_int.specs.Function.{IsFinishedCode, checked_cause, code_length_cause, constants_of, function_cause, start_cause, tree_of, trees_of, folded_trees_of}
-use Rattle.s390x_emit_int.specs.FunctionImage.{HasNoImage, IsImageOf, IsLinkRefused}
+use Rattle.s390x_emit_int.specs.Function.{IsFinishedCode, checked_cause, code_length_cause, constants_of, function_cause, tree_of, trees_of, folded_trees_of}
+use Rattle.s390x_emit_int.specs.FunctionImage.{HasNoImage, IsImageOf}
 use Rattle.s390x_emit_int.specs.declared.image.ImageError.TheVariants.{Refused, Link}
-use Rattle.s390x_generator.specs.Generator.{IsGenerated, generated, generated_trees, insts_of}
-use Rattle.s390x_image.specs.Causes.{base_cause, link_cause, relocs_cause}
+use Rattle.s390x_generator.specs.Generator.{IsGenerated, generated_trees, insts_of}
+use Rattle.s390x_image.specs.Causes.{link_cause}
 use Rattle.s390x_image.specs.Symbols.{Symbols, no_symbols}
 use Rattle.s390x_image.specs.declared.error.LinkError.{LinkError}
-use Rattle.s390x_image.specs.declared.error.LinkError.TheVariants as link
 use Rattle.s390x_inst.specs.Emission.{Emission}
 use Rattle.s390x_inst.specs.State.{base_facilities, empty_emission}
 use Rattle.s390x_inst.specs.declared.function.AllocatedFunction.{AllocatedFunction}
 use Rattle.s390x_inst.specs.declared.function.Block.{Block}
-use Rattle.s390x_inst.specs.declared.inst.Inst.{Inst}
 use Rattle.s390x_inst.specs.declared.state.EmitInfo.{EmitInfo}
 use Rattle.s390x_inst.specs.declared.state.IsaFlags.{IsaFlags}
 use Rattle.s390x_typed_steps.specs.Causes.{blocks_cause, declared_of, first_emit_cause, unless}
@@ -29,22 +26,23 @@ use Rattle.s390x_typed_steps.proofs.Folding.{peak_few, folded_blocks_size}
 use Rattle.s390x_typed_steps.proofs.FoldedRelocs.{folded_relocs}
 use Rattle.s390x_typed_steps.specs.Relocs.{function_relocs}
 use Rattle.s390x_typed_steps.specs.Sizes.{blocks_size}
-use Rattle.s390x_typed_steps.specs.Tree.{Tree, block_tree}
-use Rattle.s390x_tool.specs.Generated.{IsGenerateReply, IsGeneratedImage, IsGeneratedText, generated_base, summary_line}
-use Rattle.s390x_tool.specs.Lines.{IsLinkRefusal, IsMade, IsRefusal, line}
+use Rattle.s390x_typed_steps.specs.Tree.{block_tree}
+use Rattle.s390x_tool.specs.Generated.{IsGenerateReply, generated_base, summary_line}
+use Rattle.s390x_tool.specs.Lines.{IsLinkRefusal, IsMade, IsRefusal}
 use Rattle.s390x_tool.specs.Replies.{Found, IsReply}
+use Rattle.s390x_typed_steps.proofs.Baseline.{for_relative_machine}
 use Rattle.s390x_commands.specs.Words.{IsForm}
 use Rattle.s390x_commands.specs.declared.words.Command.TheVariants.{Generate}
 use Rattle.s390x_tool.specs.declared.status.Status.{Status}
 use Rattle.s390x_tool.specs.declared.status.Status.TheVariants as status
 
--- the trees of blocks are those of their instructions
-trees_of_blocks : (e : Emission) (bs : List Block) → map (tree_of e) bs ≡ map (block_tree e) (map insts_of bs)
-trees_of_blocks e [] = refl
-trees_of_blocks e (b ∷ bs) = ap (λ ts. block_tree e b.insts.items ∷ ts) (trees_of_blocks e bs)
+-- the trees of blocks are those of their instructions, on a machine that has rows relative to the instruction
+trees_of_blocks : (flags : IsaFlags) (e : Emission) (bs : List Block) → flags.no_relative_memory ≡ false → map (tree_of flags e) bs ≡ map (block_tree e) (map insts_of bs)
+trees_of_blocks flags e [] has = refl
+trees_of_blocks flags e (b ∷ bs) has = ap₂ (λ t ts. t ∷ ts) (for_relative_machine flags (block_tree e b.insts.items) has) (trees_of_blocks flags e bs has)
 
-pub same_trees : (e : Emission) (n start : ℕ) (f : AllocatedFunction) → IsGenerated n start f → trees_of e f ≡ generated_trees e n start
-same_trees e n start f h = trees_of_blocks e f.blocks.items ∙ ap (map (block_tree e)) h.blocks
+pub same_trees : (flags : IsaFlags) (e : Emission) (n start : ℕ) (f : AllocatedFunction) → flags.no_relative_memory ≡ false → IsGenerated n start f → trees_of flags e f ≡ generated_trees e n start
+same_trees flags e n start f has h = trees_of_blocks flags e f.blocks.items has ∙ ap (map (block_tree e)) h.blocks
 
 no_constants : (n start : ℕ) (f : AllocatedFunction) → IsGenerated n start f → constants_of f ≡ []
 no_constants n start f h = ap (map constant_of) h.constants
@@ -76,16 +74,16 @@ checked counts valid small flags e n start few =
     ap₂ first_emit_cause new (ap₂ first_emit_cause steps end)
 
 pub not_refused : Counts → AreValid → AreSmall → (n start : ℕ) (f : AllocatedFunction) → n ≤ 100000 → IsGenerated n start f
-    → function_cause base_facilities (trees_of empty_emission f) (constants_of f) empty_emission ≡ None
+    → function_cause base_facilities (trees_of base_facilities empty_emission f) (constants_of f) empty_emission ≡ None
 not_refused counts valid small n start f few h =
-    ap₂ (λ ts cs. function_cause base_facilities ts cs empty_emission) (same_trees empty_emission n start f h) (no_constants n start f h)
+    ap₂ (λ ts cs. function_cause base_facilities ts cs empty_emission) (same_trees base_facilities empty_emission n start f refl h) (no_constants n start f h)
     ∙ checked counts valid small base_facilities empty_emission n start few
 
 -- nor has linking
 pub not_link_refused : HaveNoRelocs → (n start : ℕ) (f : AllocatedFunction) (code : MachBufferFinalized) → IsGenerated n start f
-    → IsFinishedCode (folded_trees_of empty_emission f) (constants_of f) code → link_cause code generated_base no_symbols ≡ None
+    → IsFinishedCode (folded_trees_of base_facilities empty_emission f) (constants_of f) code → link_cause code generated_base no_symbols ≡ None
 not_link_refused relocs n start f code h finished =
-    let none : code.relocs.items ≡ [] = finished.relocs ∙ ap (λ ts. function_relocs (folded_trees ts)) (same_trees empty_emission n start f h) ∙ folded_relocs (generated_trees empty_emission n start) (relocs empty_emission n start) in
+    let none : code.relocs.items ≡ [] = finished.relocs ∙ ap (λ ts. function_relocs (folded_trees ts)) (same_trees base_facilities empty_emission n start f refl h) ∙ folded_relocs (generated_trees empty_emission n start) (relocs empty_emission n start) in
     let align : code.alignment ≡ 4 = finished.alignment ∙ ap (λ cs. greatest_align 4 cs) (no_constants n start f h) in
     let short = finished.short in
     let fits = le-leb (generated_base + length code.bytes.items) 18446744073709551616 (omega (arith, short)) in

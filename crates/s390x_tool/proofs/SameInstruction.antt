@@ -1,5 +1,5 @@
 -- What emission reads of an instruction stands in its line.
-use Rattle.std.proofs.Common.{◌≡◌, ℕ, ◌-◌, List, [], ◌∷◌, Option, Some, None, ◌&&◌, refl, sym, ap, subst}
+use Rattle.std.proofs.Common.{◌≡◌, ℕ, ◌-◌, List, [], ◌∷◌, Option, Some, None, cond, ◌&&◌, refl, sym, ap, subst}
 use Rattle.s390x_inst.specs.declared.state.IsaFlags.{IsaFlags}
 use Rattle.s390x_base.specs.Regs.{number_of}
 use Rattle.s390x_base.specs.declared.regs.Reg.{Reg}
@@ -33,6 +33,7 @@ use Rattle.s390x_lines.specs.declared.inst_name.ControlName.TheVariants as Contr
 use Rattle.s390x_lines.specs.declared.inst_name.MemoryName.TheVariants as MemoryIs
 use Rattle.s390x_lines.specs.declared.inst_name.VectorName.TheVariants as VectorIs
 use Rattle.s390x_lines.specs.declared.name.LineName.{LineName}
+use Rattle.s390x_typed_steps.specs.Memory.{memory, accesses_relative}
 use Rattle.s390x_typed_steps.specs.Stack.{nominal_after}
 use Rattle.s390x_lines.specs.declared.name.LineName.TheVariants as N
 
@@ -289,3 +290,14 @@ range_read i h = h
 pub range_round_trip : (i : Inst) → reading_range (line_reading (inst_line i)) → InRange i
 range_round_trip (Vector v) h = subst reading_range (sym (vector_reading v)) h
 range_round_trip i h = h
+
+-- ---- on a machine by its flags
+
+-- the instruction of which the machine lacks a row
+abbrev pub lacking : IsaFlags → Reading → Option Inst
+lacking flags (Whole i) = cond (accesses_relative (memory i) && flags.no_relative_memory) (Some i) None
+lacking flags r = None
+
+pub lacking_read : (flags : IsaFlags) (i : Inst) → cond (accesses_relative (memory i) && flags.no_relative_memory) (Some i) None ≡ lacking flags (line_reading (inst_line i))
+lacking_read flags (Vector v) = ap (lacking flags) (vector_reading v)
+lacking_read flags i = refl

@@ -14,7 +14,7 @@ use Rattle.s390x_typed_steps.specs.Sizes.{blocks_size}
 use Rattle.s390x_typed_steps.specs.Ranges.{BlocksInRange}
 use Rattle.s390x_typed_steps.specs.Image.{unlinked, function_code}
 use Rattle.s390x_typed_steps.specs.Sites.{call_offsets, patches, stack_maps}
-use Rattle.s390x_emit_int.specs.Function.{IsFinishedCode, start_cause, checked_cause, code_length_cause, trees_of, folded_trees_of, constants_of}
+use Rattle.s390x_emit_int.specs.Function.{IsFinishedCode, start_cause, checked_cause, code_length_cause, trees_of, constants_of}
 use Rattle.s390x_job.specs.Jobs.{IsJob}
 use Rattle.s390x_job.specs.Same.{SameJob}
 use Rattle.s390x_job.specs.declared.job.Job.{Job}
@@ -23,7 +23,7 @@ use Rattle.s390x_image.specs.Symbols.{no_symbols}
 use Rattle.s390x_tool.specs.Answers.{IsCodeOfJob, Links, job_cause, with_symbols}
 use Rattle.s390x_commands.specs.declared.words.JobCommand.{JobCommand}
 use Rattle.s390x_commands.specs.declared.words.JobCommand.TheVariants.{Image, Emit, Run, Operands, Show}
-use Rattle.s390x_tool.proofs.SameTree.{LineTree, lines_tree, line_blocks_cause, line_blocks_size, line_ranges, parts_code, line_at, line_places, line_environment, line_steps_from, same_blocks_cause, same_function_code, same_starts, same_block_starts, same_blocks_size}
+use Rattle.s390x_tool.proofs.SameTree.{LineTree, lines_tree, lines_for, line_blocks_cause, line_blocks_size, line_ranges, parts_code, line_at, line_places, line_environment, line_steps_from, same_blocks_cause, same_function_code, same_starts, same_block_starts, same_blocks_size}
 use Rattle.s390x_tool.proofs.SameTree.{parts_places, line_block_places, ranges_to, ranges_from, each_traps, same_function_traps, each_relocs, same_function_relocs, line_sites, same_function_sites, line_tries, same_function_tries}
 use Rattle.s390x_tool.proofs.SameEnds.{lines_from, line_peak, same_peak, folded_blocks_told, same_folded}
 use Rattle.s390x_tool.proofs.SameLines.{found, with_flags, with_frame, frame_of, Said, job_found}
@@ -37,19 +37,20 @@ same_found j k a b e = sym (job_found j a.frame) ∙ ap found e ∙ job_found k 
 pub same_state : (j k : Job) → IsJob j → IsJob k → SameJob j k → j.state ≡ k.state
 same_state j k a b e = a.state ∙ ap (λ f. fresh_emission f.frame.layout f.frame.conv) (same_found j k a b e) ∙ sym b.state
 
-pub same_blocks : (j k : Job) → IsJob j → IsJob k → SameJob j k → map lines_tree (trees_of j.state j.function) ≡ map lines_tree (trees_of k.state k.function)
+same_flags : (j k : Job) → IsJob j → IsJob k → SameJob j k → j.info.isa_flags ≡ k.info.isa_flags
+same_flags j k a b e = ap (λ f. f.flags) (same_found j k a b e)
+
+pub same_blocks : (j k : Job) → IsJob j → IsJob k → SameJob j k → map lines_tree (trees_of j.info.isa_flags j.state j.function) ≡ map lines_tree (trees_of k.info.isa_flags k.state k.function)
 same_blocks j k a b e =
-    blocks_resolved j.state j.function.blocks.items
-    ∙ ap (λ f. map (resolved_lines j.state) f.blocks) (same_found j k a b e)
-    ∙ ap (λ s. map (resolved_lines s) (map lines_tree (map raw_block k.function.blocks.items))) (same_state j k a b e)
-    ∙ sym (blocks_resolved k.state k.function.blocks.items)
+    blocks_resolved j.info.isa_flags j.state j.function.blocks.items
+    ∙ ap (λ f. map (lines_for j.info.isa_flags) (map (resolved_lines j.state) f.blocks)) (same_found j k a b e)
+    ∙ ap (λ s. map (lines_for j.info.isa_flags) (map (resolved_lines s) (map lines_tree (map raw_block k.function.blocks.items)))) (same_state j k a b e)
+    ∙ ap (λ x. map (lines_for x) (map (resolved_lines k.state) (map lines_tree (map raw_block k.function.blocks.items)))) (same_flags j k a b e)
+    ∙ sym (blocks_resolved k.info.isa_flags k.state k.function.blocks.items)
 
 pub same_constants : (j k : Job) → IsJob j → IsJob k → SameJob j k → constants_of j.function ≡ constants_of k.function
 same_constants j k a b e =
     sym (append-nil (constants_of j.function)) ∙ ap (λ f. f.constants) (same_found j k a b e) ∙ append-nil (constants_of k.function)
-
-same_flags : (j k : Job) → IsJob j → IsJob k → SameJob j k → j.info.isa_flags ≡ k.info.isa_flags
-same_flags j k a b e = ap (λ f. f.flags) (same_found j k a b e)
 
 pub same_symbols : (j k : Job) → IsJob j → IsJob k → SameJob j k → j.symbols.items ≡ k.symbols.items
 same_symbols j k a b e =
@@ -90,13 +91,13 @@ pub same_cause : (j k : Job) → IsJob j → IsJob k → SameJob j k → job_cau
 same_cause j k a b e =
     let f = j.info.isa_flags in
     let g = k.info.isa_flags in
-    ap (λ o. first_emit_cause o (checked_cause f (trees_of j.state j.function) (constants_of j.function))) (start_none j a)
-    ∙ same_checked f (trees_of j.state j.function) (constants_of j.function)
+    ap (λ o. first_emit_cause o (checked_cause f (trees_of j.info.isa_flags j.state j.function) (constants_of j.function))) (start_none j a)
+    ∙ same_checked f (trees_of j.info.isa_flags j.state j.function) (constants_of j.function)
     ∙ ap (λ ts. line_checked f ts (constants_of j.function)) (same_blocks j k a b e)
-    ∙ ap (line_checked f (map lines_tree (trees_of k.state k.function))) (same_constants j k a b e)
-    ∙ ap (λ x. line_checked x (map lines_tree (trees_of k.state k.function)) (constants_of k.function)) (same_flags j k a b e)
-    ∙ sym (same_checked g (trees_of k.state k.function) (constants_of k.function))
-    ∙ ap (λ o. first_emit_cause o (checked_cause g (trees_of k.state k.function) (constants_of k.function))) (sym (start_none k b))
+    ∙ ap (line_checked f (map lines_tree (trees_of k.info.isa_flags k.state k.function))) (same_constants j k a b e)
+    ∙ ap (λ x. line_checked x (map lines_tree (trees_of k.info.isa_flags k.state k.function)) (constants_of k.function)) (same_flags j k a b e)
+    ∙ sym (same_checked g (trees_of k.info.isa_flags k.state k.function) (constants_of k.function))
+    ∙ ap (λ o. first_emit_cause o (checked_cause g (trees_of k.info.isa_flags k.state k.function) (constants_of k.function))) (sym (start_none k b))
 
 same_ranges : (ts us : List Tree) → map lines_tree ts ≡ map lines_tree us → BlocksInRange ts → BlocksInRange us
 same_ranges ts us e h = ranges_from us (subst line_ranges e (ranges_to ts h))
@@ -129,10 +130,12 @@ same_image ts us cs f e h =
 -- a code of one is a code of the other
 pub same_code : (j k : Job) (code : MachBufferFinalized) → IsJob j → IsJob k → SameJob j k → IsCodeOfJob j code → IsCodeOfJob k code
 same_code j k code a b e h =
+    let ts = trees_of j.info.isa_flags j.state j.function in
+    let us = trees_of k.info.isa_flags k.state k.function in
     record {
       valid = sym (same_cause j k a b e) ∙ h.valid;
-      ranges = same_ranges (trees_of j.state j.function) (trees_of k.state k.function) (same_blocks j k a b e) h.ranges;
-      emitted = subst (λ cs. IsFinishedCode (folded_trees_of k.state k.function) cs code) (same_constants j k a b e) (same_image (folded_trees_of j.state j.function) (folded_trees_of k.state k.function) (constants_of j.function) code (same_folded (trees_of j.state j.function) (trees_of k.state k.function) (same_blocks j k a b e)) h.emitted);
+      ranges = same_ranges ts us (same_blocks j k a b e) h.ranges;
+      emitted = subst (λ cs. IsFinishedCode (folded_trees us) cs code) (same_constants j k a b e) (same_image (folded_trees ts) (folded_trees us) (constants_of j.function) code (same_folded ts us (same_blocks j k a b e)) h.emitted);
     }
 
 -- what links of one links of the other

@@ -1,5 +1,5 @@
 -- What emission reads of a function stands in the lines of its blocks.
-use Rattle.std.proofs.Common.{◌≡◌, ℕ, zero, suc, ◌+◌, List, [], ◌∷◌, ◌++◌, map, get_or, Option, None, refl, ap, ◌∙◌, nat_eq}
+use Rattle.std.proofs.Common.{◌≡◌, ℕ, zero, suc, ◌+◌, List, [], ◌∷◌, ◌++◌, map, get_or, Option, Some, None, Bool, true, false, cond, ◌&&◌, refl, ap, ◌∙◌, nat_eq}
 use Rattle.std.proofs.Math.Path.{fun_ext}
 use Rattle.std.proofs.lemmas.List.{map-append}
 use Rattle.s390x_inst.specs.declared.state.IsaFlags.{IsaFlags}
@@ -7,7 +7,10 @@ use Rattle.s390x_base.specs.declared.error.EmitError.{EmitError}
 use Rattle.s390x_buffer.specs.State.{Constant}
 use Rattle.s390x_buffer.specs.Constants.{constant_starts}
 use Rattle.s390x_buffer.specs.declared.entries.TrapEntry.{TrapEntry}
-use Rattle.s390x_typed_steps.specs.Tree.{StepBody, Tree, empty, leaf, loop_node, Whole}
+use Rattle.s390x_typed_steps.specs.Tree.{StepBody, Tree, empty, leaf, loop_node, Whole, Loaded}
+use Rattle.s390x_typed_steps.specs.Baseline.{whole_or_loaded, body_for, tree_for}
+use Rattle.s390x_typed_steps.specs.Memory.{memory, accesses_relative}
+use Rattle.s390x_inst.specs.declared.inst.Inst.{Inst}
 use Rattle.s390x_typed_steps.specs.Causes.{Declared, aligns_of, body_cause, body_fresh_labels, body_nominal_after, first_emit_cause, instruction_fresh_labels, fresh_labels, nesting_cause, numbers_cause, tree_cause, blocks_cause, unless, block_cause, nominal_behind}
 use Rattle.s390x_typed_steps.specs.Parts.{CodePart, Branch, ToStep, step_parts, parts_size}
 use Rattle.s390x_typed_steps.specs.Steps.{Step, step_count, step_of, steps_of, steps_from, function_steps, first_step}
@@ -23,7 +26,7 @@ use Rattle.s390x_buffer.specs.Finish.{PlacedTryCallSite}
 use Rattle.s390x_lines.specs.Line.{Line}
 use Rattle.s390x_lines.specs.Instructions.{inst_line}
 use Rattle.s390x_base.specs.declared.error.EmitError.TheVariants.{BadStackState}
-use Rattle.s390x_tool.proofs.SameInstruction.{line_reading, reading_cause, reading_fresh_labels, fresh_labels_read, reading_parts, reading_range, cause_read, parts_read, range_read, range_round_trip, nominal_read, reading_after}
+use Rattle.s390x_tool.proofs.SameInstruction.{line_reading, lacking, lacking_read, reading_cause, reading_fresh_labels, fresh_labels_read, reading_parts, reading_range, cause_read, parts_read, range_read, range_round_trip, nominal_read, reading_after}
 
 -- ---- bodies
 
@@ -87,6 +90,23 @@ range_back : (b : StepBody) → told_range (body_line b) → BodyInRange b
 range_back (Whole i) h = range_round_trip i h
 range_back b h = h
 
+-- on a machine by its flags: an access that lacks its row holds no vectors either
+abbrev loaded_or : Option Inst → Line → BodyLine
+loaded_or None l = of_line l
+loaded_or (Some i) l = of_step (Loaded i)
+
+abbrev line_for : IsaFlags → BodyLine → BodyLine
+line_for flags (of_line l) = loaded_or (lacking flags (line_reading l)) l
+line_for flags (of_step b) = of_step b
+
+body_for_told : (flags : IsaFlags) (b : StepBody) → body_line (body_for flags b) ≡ line_for flags (body_line b)
+body_for_told flags (Whole i) = go (accesses_relative (memory i) && flags.no_relative_memory) ∙ ap (λ o. loaded_or o (inst_line i)) (lacking_read flags i)
+  where
+    go : (t : Bool) → body_line (whole_or_loaded t i) ≡ loaded_or (cond t (Some i) None) (inst_line i)
+    go true = refl
+    go false = refl
+body_for_told flags b = refl
+
 -- ---- trees
 
 -- a tree with lines in place of instructions
@@ -99,6 +119,18 @@ abbrev pub lines_tree : Tree → LineTree
 lines_tree empty = none
 lines_tree (leaf b rest) = one (body_line b) (lines_tree rest)
 lines_tree (loop_node mask members rest) = around mask (lines_tree members) (lines_tree rest)
+
+-- on a machine by its flags
+abbrev pub lines_for : IsaFlags → LineTree → LineTree
+lines_for flags none = none
+lines_for flags (one l rest) = one (line_for flags l) (lines_for flags rest)
+lines_for flags (around mask members rest) = around mask (lines_for flags members) (lines_for flags rest)
+
+pub tree_for_told : (flags : IsaFlags) (t : Tree) → lines_tree (tree_for flags t) ≡ lines_for flags (lines_tree t)
+tree_for_told flags empty = refl
+tree_for_told flags (leaf b rest) = ap (λ l. one l (lines_tree (tree_for flags rest))) (body_for_told flags b) ∙ ap (one (line_for flags (body_line b))) (tree_for_told flags rest)
+tree_for_told flags (loop_node mask members rest) =
+    ap (λ t. around mask t (lines_tree (tree_for flags rest))) (tree_for_told flags members) ∙ ap (around mask (lines_for flags (lines_tree members))) (tree_for_told flags rest)
 
 -- labels drawn
 abbrev pub line_fresh_labels : LineTree → ℕ

@@ -21,29 +21,29 @@ use Rattle.s390x_job.specs.declared.job.Job.{Job}
 use Rattle.s390x_tool.specs.Answers.{job_cause, texts_of}
 
 -- the lines of instructions are refused as their texts are
-lines_cause : (e : Emission) (is : List Inst) → (inst_texts e is).cause ≡ (insts_text 0 e is).cause
-lines_cause e [] = refl
-lines_cause e (i ∷ is) = ap (first (inst_text 0 e i).cause) (lines_cause (after e i) is)
+lines_cause : (flags : IsaFlags) (e : Emission) (is : List Inst) → (inst_texts flags e is).cause ≡ (insts_text flags 0 e is).cause
+lines_cause flags e [] = refl
+lines_cause flags e (i ∷ is) = ap (first (inst_text flags 0 e i).cause) (lines_cause flags (after e i) is)
 
 none_first : (a b : Option TextError) → a ≡ None → b ≡ None → first a b ≡ None
 none_first None b p q = q
 none_first (Some e) b p q = p
 
-blocks_told : (e : Emission) (k : ℕ) (blocks : List Block) → All (HasTextsInOrder e) blocks → (blocks_texts e k blocks).cause ≡ None
-blocks_told e k [] told = refl
-blocks_told e k (b ∷ bs) told =
-    none_first _ _ (lines_cause e b.insts.items ∙ All-head (HasTextsInOrder e) b bs told) (blocks_told e (k + 1) bs (All-tail (HasTextsInOrder e) b bs told))
+blocks_told : (flags : IsaFlags) (e : Emission) (k : ℕ) (blocks : List Block) → All (HasTextsInOrder flags e) blocks → (blocks_texts flags e k blocks).cause ≡ None
+blocks_told flags e k [] told = refl
+blocks_told flags e k (b ∷ bs) told =
+    none_first _ _ (lines_cause flags e b.insts.items ∙ All-head (HasTextsInOrder flags e) b bs told) (blocks_told flags e (k + 1) bs (All-tail (HasTextsInOrder flags e) b bs told))
 
 -- by the law on texts, whose premises are among the causes of the function
-pub all_told : ((flags : IsaFlags) (D : Declared) (n : ℕ) (e : Emission) (blocks : List Block) → e.nominal ≡ 0 → e.outgoing ≡ 0 → blocks_cause flags D n (map (tree_of_block e) blocks) ≡ None → All (HasTextsInOrder e) blocks)
+pub all_told : ((flags : IsaFlags) (D : Declared) (n : ℕ) (e : Emission) (blocks : List Block) → e.nominal ≡ 0 → e.outgoing ≡ 0 → blocks_cause flags D n (map (tree_of_block flags e) blocks) ≡ None → All (HasTextsInOrder flags e) blocks)
     → (j : Job) → job_cause j ≡ None → (texts_of j).cause ≡ None
 all_told law j valid =
     let flags = j.info.isa_flags in
-    let ts = trees_of j.state j.function in
+    let ts = trees_of j.info.isa_flags j.state j.function in
     let cs = constants_of j.function in
     let n = length ts + length cs in
     let start = unless_true (nat_eq j.state.nominal 0 && nat_eq j.state.outgoing 0) BadStackState (first_left (start_cause j.state) (checked_cause flags ts cs) valid) in
     let checked = first_right (start_cause j.state) (checked_cause flags ts cs) valid in
     let sizes = and_parts (nat_eq j.state.nominal 0) (nat_eq j.state.outgoing 0) start in
     let steps = first_left (blocks_cause flags (declared_of ts cs) n ts) _ (first_right (new_cause (length ts) cs) _ checked) in
-    blocks_told j.state 0 j.function.blocks.items (law flags (declared_of ts cs) n j.state j.function.blocks.items (eqb-true j.state.nominal 0 sizes.0) (eqb-true j.state.outgoing 0 sizes.1) steps)
+    blocks_told flags j.state 0 j.function.blocks.items (law flags (declared_of ts cs) n j.state j.function.blocks.items (eqb-true j.state.nominal 0 sizes.0) (eqb-true j.state.outgoing 0 sizes.1) steps)

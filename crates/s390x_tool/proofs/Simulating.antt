@@ -1,5 +1,5 @@
 -- The reply to words that ask for a simulation.
-use Rattle.std.proofs.Common.{◌≡◌, ℕ, ◌⊎◌, inl, inr, List, Some, None, refl}
+use Rattle.std.proofs.Common.{◌≡◌, ℕ, ◌⊎◌, inl, inr, List, Some, refl}
 use Rattle.s390x_smp.specs.Image.{start_cause}
 use Rattle.s390x_smp.specs.declared.error.SmpError.{SmpError}
 use Rattle.s390x_smp.specs.declared.error.SmpError.TheVariants as cause

@@ -39,13 +39,13 @@ symbols_of j = with_symbols no_symbols j.symbols.items
 
 -- the first cause by which emission refuses a job's function
 abbrev pub job_cause : Job → Option EmitError
-job_cause j = function_cause j.info.isa_flags (trees_of j.state j.function) (constants_of j.function) j.state
+job_cause j = function_cause j.info.isa_flags (trees_of j.info.isa_flags j.state j.function) (constants_of j.function) j.state
 
 -- the code of a job's function, which isn't refused and whose numbers lie in their ranges
 pub record IsCodeOfJob (j : Job) (code : MachBufferFinalized) : Type 0 where
   pub valid : job_cause j ≡ None
-  pub ranges : BlocksInRange (trees_of j.state j.function)
-  pub emitted : IsFinishedCode (folded_trees_of j.state j.function) (constants_of j.function) code
+  pub ranges : BlocksInRange (trees_of j.info.isa_flags j.state j.function)
+  pub emitted : IsFinishedCode (folded_trees_of j.info.isa_flags j.state j.function) (constants_of j.function) code
 
 -- the first cause by which linking refuses a job's code at a base
 abbrev pub link_cause_of : ℕ → Job → MachBufferFinalized → Option LinkError
@@ -65,7 +65,7 @@ pub record IsImageAt (base : ℕ) (j : Job) (bytes : List ℕ) : Type 0 where
 pub record IsImageText (base : ℕ) (j : Job) (text : List ℕ) : Type 0 where
   pub bytes : List ℕ
   pub image : IsImageAt base j bytes
-  pub runs : RunsAsTyped (symbols_of j) (folded_trees_of j.state j.function) (constants_of j.function) (record { base = base; bytes = bytes })
+  pub runs : RunsAsTyped (symbols_of j) (folded_trees_of j.info.isa_flags j.state j.function) (constants_of j.function) (record { base = base; bytes = bytes })
   pub spelled : text ≡ line (encode_lower bytes)
 
 -- emission refuses the job's function by its first cause
@@ -148,7 +148,7 @@ IsOperandsReply j s text = ⊥
 
 -- the listing of the texts of a job's instructions
 abbrev pub texts_of : Job → Text
-texts_of j = texts_listing j.state j.function.blocks.items
+texts_of j = texts_listing j.info.isa_flags j.state j.function.blocks.items
 
 -- the text of `show`: emission has no cause to refuse the job's function, and this is the listing of its instructions' texts, all of which have one
 pub record IsShownText (j : Job) (text : List ℕ) : Type 0 where

@@ -92,7 +92,7 @@ fn texts(alloc: Global, job: &Job) -> Reply
     requires told { (texts_of job.now).cause ≡ None }
     ensures { IsShowReply job.now result.status (cow_str_bytes result.text) }
 {
-    match listed_texts(alloc, job.state, &job.function.blocks) {
+    match listed_texts(alloc, &job.info, job.state, &job.function.blocks) {
         Ok(text) => Reply {
             status: Status::Ok,
             text: CowStr::Owned(text),

@@ -1,13 +1,12 @@
 -- First causes, and what holds where none stands.
-use Rattle.std.proofs.Common.{◌≡◌, ℕ, ◌+◌, ◌<◌, Bool, true, false, List, [], ◌∷◌, Option, None, Some, refl, sym, ap, ◌∙◌, arith, get_or, length, drop}
+use Rattle.std.proofs.Common.{◌≡◌, ℕ, ◌+◌, Bool, true, false, Option, None, Some, refl, ap, ◌∙◌, arith}
 use Rattle.s390x_inst.specs.Emission.{Emission}
 use Rattle.s390x_inst.specs.declared.state.IsaFlags.{IsaFlags}
 use Rattle.s390x_base.specs.declared.error.EmitError.{EmitError}
-use Rattle.s390x_typed_steps.specs.Tree.{Tree, empty, leaf, loop_node, prepend, tree, block_tree}
-use Rattle.s390x_typed_steps.specs.Calls.{safepoint}
-use Rattle.s390x_typed_steps.specs.Stack.{nominal_after, state_after}
+use Rattle.s390x_typed_steps.specs.Tree.{Tree, empty, leaf, loop_node, prepend}
+use Rattle.s390x_typed_steps.specs.Stack.{nominal_after}
 use Rattle.s390x_typed_steps.specs.Causes.{Declared, first_emit_cause, unless, body_cause, body_fresh_labels, body_nominal_after, fresh_labels, nesting_cause, nominal_behind, numbers_cause, tree_cause}
-use Rattle.s390x_typed_steps.proofs.Trees.{behind, block_behind, joined, prepend_joined, prepend_nominal}
+use Rattle.s390x_typed_steps.proofs.Trees.{joined, prepend_joined, prepend_nominal}
 use Rattle.s390x_inst.specs.declared.inst.Inst.{Inst}
 
 pub first_none : (o : Option EmitError) → first_emit_cause o None ≡ o
@@ -31,7 +30,7 @@ first_assoc None b c = refl
 first_assoc (Some e) b c = refl
 
 -- the causes of one tree come before those of the other
-joined_cause : (flags : IsaFlags) (D : Declared) (n m depth : ℕ) (t u : Tree) → tree_cause flags D n m depth (joined t u) ≡ first_emit_cause (tree_cause flags D n m depth t) (tree_cause flags D (n + fresh_labels t) (nominal_behind m t) depth u)
+pub joined_cause : (flags : IsaFlags) (D : Declared) (n m depth : ℕ) (t u : Tree) → tree_cause flags D n m depth (joined t u) ≡ first_emit_cause (tree_cause flags D n m depth t) (tree_cause flags D (n + fresh_labels t) (nominal_behind m t) depth u)
 joined_cause flags D n m depth empty u = let e : n ≡ n + 0 = omega arith in ap (λ l. tree_cause flags D l m depth u) e
 joined_cause flags D n m depth (leaf b t) u =
     let own = body_cause flags D n m depth b in
@@ -57,20 +56,3 @@ prepend_cause flags e D n m depth i rest =
     ap (tree_cause flags D n m depth) (prepend_joined e i rest)
     ∙ joined_cause flags D n m depth own rest
     ∙ ap (λ l. first_emit_cause (tree_cause flags D n m depth own) (tree_cause flags D (n + fresh_labels own) l depth rest)) (prepend_nominal e m i)
-
--- a cause at a member is the first one from there on
-pub stops : (flags : IsaFlags) (state : Emission) (D : Declared) (depth n m : ℕ) (e : EmitError) (is : List Inst) (k : ℕ) (i : Inst) → k < length is → i ≡ get_or is k i → tree_cause flags D n m depth (prepend state i empty) ≡ Some e → tree_cause flags D n m depth (tree state (drop k is)) ≡ Some e
-stops flags state D depth n m e is k i lt at some =
-    let rest = tree (state_after state i) (drop (k + 1) is) in
-    ap (λ t. tree_cause flags D n m depth t) (behind state is k i lt at)
-    ∙ prepend_cause flags state D n m depth i rest
-    ∙ ap (λ o. first_emit_cause o (tree_cause flags D (n + fresh_labels (prepend state i empty)) (nominal_after m i) depth rest)) some
-
--- the same in a block
-pub block_stops : (flags : IsaFlags) (state : Emission) (D : Declared) (depth n m : ℕ) (e : EmitError) (is : List Inst) (k : ℕ) (i : Inst) → k < length is → i ≡ get_or is k i → tree_cause flags D n m depth (prepend (safepoint state i) i empty) ≡ Some e → tree_cause flags D n m depth (block_tree state (drop k is)) ≡ Some e
-block_stops flags state D depth n m e is k i lt at some =
-    let rest = block_tree (state_after state i) (drop (k + 1) is) in
-    let here = safepoint state i in
-    ap (λ t. tree_cause flags D n m depth t) (block_behind state is k i lt at)
-    ∙ prepend_cause flags here D n m depth i rest
-    ∙ ap (λ o. first_emit_cause o (tree_cause flags D (n + fresh_labels (prepend here i empty)) (nominal_after m i) depth rest)) some

@@ -16,11 +16,12 @@ use Rattle.s390x_typed_steps.specs.SingleInstruction.{SingleInstruction, single_
 use Rattle.s390x_inst.specs.declared.args.MemArg.{MemArg}
 use Rattle.s390x_inst.specs.declared.args.MemArg.TheVariants.{Label, Constant, Symbol}
 use Rattle.s390x_typed_steps.specs.Operands.{finalized, is_relative}
-use Rattle.s390x_typed_steps.specs.Memory.{StorageForm, RxForm, RsForm, SiForm, SilForm, VrxForm, FloatForm, MemoryInstruction, memory, type_of, storage_row, address_form, fault_code}
-use Rattle.s390x_typed_steps.specs.Steps.{Step, Plain, Shortened, Opening, Back, Break, CallingStep, NoLoadStep, TailOpeningStep, TailJumpStep, function_steps}
+use Rattle.s390x_typed_steps.specs.Memory.{StorageForm, RxForm, RsForm, SiForm, SilForm, VrxForm, FloatForm, MemoryInstruction, memory, loaded_memory, type_of, storage_row, address_form, fault_code}
+use Rattle.s390x_typed_steps.specs.Steps.{Step, Plain, LoadedStep, Shortened, Opening, Back, Break, CallingStep, NoLoadStep, TailOpeningStep, TailJumpStep, function_steps}
 use Rattle.s390x_typed_steps.specs.StepBody.{Site, AtCall, NothingLeft, BranchLeft}
 use Rattle.s390x_typed_steps.specs.VectorComposite.{composite_rows}
-use Rattle.s390x_typed_steps.specs.Parts.{CodePart, Row, Trapping, Branch, Relative, RelativeConstant, RelativeSymbol, TableWord, part_size, parts_size, branch_parts, row_part, row_parts, access_parts, trap_here, relative_part, relative_parts, operand_parts, helper_parts, helpers_parts, memory_or, parts_or, step_parts, step_size, table_words, SymbolValue, TrapHere, CallSymbol, SiteHere, call_part, tail_part, site_parts}
+use Rattle.s390x_typed_steps.specs.Parts.{CodePart, Row, Trapping, Branch, Relative, RelativeConstant, RelativeSymbol, TableWord, part_size, parts_size, branch_parts, row_part, row_parts, access_parts, trap_here, relative_part, relative_parts, operand_parts, helper_parts, helpers_parts, memory_or, parts_or}
+use Rattle.s390x_typed_steps.specs.Parts.{step_parts, step_size, table_words, SymbolValue, TrapHere, CallSymbol, SiteHere, call_part, tail_part, site_parts}
 use Rattle.s390x_typed_steps.specs.Image.{step_offset}
 use Rattle.s390x_typed_steps.specs.Traps.{part_traps, parts_traps, step_traps, traps_from, function_traps, first_code}
 
@@ -227,6 +228,7 @@ step_inside : (s : Step) → Inside (step_parts s)
 step_inside (Plain i) = instruction_inside (single_instruction i) (stop_code i) (memory_or (memory i) (branch_parts i)) (memory_inside (memory i) (branch_parts i) (branch_inside i))
 step_inside (Shortened NothingLeft i) = tt
 step_inside (Shortened (BranchLeft mask b) i) = tt
+step_inside (LoadedStep i) = memory_inside (loaded_memory i) [] tt
 step_inside Opening = tt
 step_inside (Back mask target) = tt
 step_inside (Break mask target) = tt

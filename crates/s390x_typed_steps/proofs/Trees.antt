@@ -203,17 +203,6 @@ pub prepend_nominal : (e : Emission) (nominal : ℕ) (i : Inst) → nominal_behi
 prepend_nominal e nominal (Loop' mask body all) = refl
 prepend_nominal e nominal i = leaves_behind nominal (bodies e i) ∙ bodies_behind e nominal i
 
--- the nominal size behind a member and those behind it
-pub prepend_behind : (e : Emission) (nominal : ℕ) (i : Inst) (rest : Tree) → nominal_behind nominal (prepend e i rest) ≡ nominal_behind (nominal_after nominal i) rest
-prepend_behind e nominal i rest =
-    ap (nominal_behind nominal) (prepend_joined e i rest) ∙ joined_behind nominal (prepend e i empty) rest ∙ ap (λ n. nominal_behind n rest) (prepend_nominal e nominal i)
-
-pub prepend_fresh_labels : (e : Emission) (i : Inst) (rest : Tree) → fresh_labels (prepend e i rest) ≡ fresh_labels (prepend e i empty) + fresh_labels rest
-prepend_fresh_labels e i rest = ap fresh_labels (prepend_joined e i rest) ∙ joined_fresh_labels (prepend e i empty) rest
-
-pub prepend_size : (e : Emission) (i : Inst) (rest : Tree) → tree_size (prepend e i rest) ≡ tree_size (prepend e i empty) + tree_size rest
-prepend_size e i rest = ap tree_size (prepend_joined e i rest) ∙ joined_size (prepend e i empty) rest
-
 -- an instruction that is no `Loop` is its steps
 pub not_loop : (e : Emission) (i : Inst) (rest : Tree) → ((m : ℕ) (v : Vec Inst Global) → i ≡ V.Loop m v → ⊥) → prepend e i rest ≡ leaves (bodies e i) rest
 unfolding V.roll-Inst denote.Hole.Carrier.roll V.out-Inst denote.Hole.Carrier.out

@@ -1,6 +1,6 @@
 -- Why emission refuses an instruction: the first cause, in the order of the steps.
 pub use Rattle.s390x_typed_steps.specs.Operands.{is_helped}
-use Rattle.std.specs.Prelude.{ℕ, ◌+◌, ◌-◌, pos, ◌+ℤ◌, List, [], ◌∷◌, length, map, get_or, Bool, true, false, cond, not, ◌&&◌, ◌||◌, nat_eq, nat_le, nat_lt, Option, Some, None}
+use Rattle.std.specs.Prelude.{ℕ, ◌+◌, ◌-◌, pos, ◌+ℤ◌, List, [], ◌∷◌, length, map, get_or, Bool, true, cond, not, ◌&&◌, ◌||◌, nat_eq, nat_le, nat_lt, Option, Some, None}
 use Rattle.s390x_base.specs.declared.ir.MachLabel.{MachLabel}
 use Rattle.s390x_base.specs.declared.regs.Reg.{Reg}
 use Rattle.s390x_base.specs.declared.error.EmitError.{EmitError}
@@ -17,13 +17,13 @@ use Rattle.s390x_typed_steps.specs.Calls.{is_target, is_first_saved, site_labels
 use Rattle.s390x_typed_steps.specs.General.{is_general, is_nonzero, is_scratch}
 use Rattle.s390x_typed_steps.specs.SingleInstruction.{SingleInstruction, single_instruction}
 use Rattle.s390x_typed_steps.specs.Operands.{finalized, is_relative, has_form, needs_address, fits_32, loses_base, offset_fits, operand_general}
-use Rattle.s390x_typed_steps.specs.Memory.{StorageForm, RxForm, MemoryInstruction, memory, type_of}
+use Rattle.s390x_typed_steps.specs.Memory.{StorageForm, RxForm, MemoryInstruction, memory, loaded_memory, type_of}
 use Rattle.s390x_typed_steps.specs.Stack.{nominal_after}
 use Rattle.s390x_typed_steps.specs.StepBody.{Calling}
 use Rattle.s390x_typed_steps.specs.Storage.{relative_bytes}
 use Rattle.s390x_typed_steps.specs.VectorComposite.{composite_cause}
 use Rattle.s390x_typed_steps.specs.declared.mem_inst_type.MemInstType.{MemInstType}
-use Rattle.s390x_typed_steps.specs.Tree.{Remainder, NothingLeft, BranchLeft, StepBody, Tree, Whole, Folded, CallStep, NoLoad, TailOpening, TailJump, empty, leaf, loop_node}
+use Rattle.s390x_typed_steps.specs.Tree.{Remainder, NothingLeft, BranchLeft, StepBody, Tree, Whole, Loaded, Folded, CallStep, NoLoad, TailOpening, TailJump, empty, leaf, loop_node}
 
 -- the first of two causes
 abbrev pub first_emit_cause : Option EmitError → Option EmitError → Option EmitError
@@ -146,23 +146,9 @@ abbrev pub cause_or : Option SingleInstruction → Option EmitError → Option E
 cause_or None others = others
 cause_or (Some x) others = unless x.operands_valid BadRegister
 
--- one of the rows is relative to the instruction
-abbrev pub has_relative_row : StorageForm → Bool
-has_relative_row (RxForm register rx_opcode rxy_opcode (Some opcode)) = true
-has_relative_row form = false
-
--- it accesses an operand that is relative to it, and has a row for that
-abbrev pub accesses_relative : Option MemoryInstruction → Bool
-accesses_relative None = false
-accesses_relative (Some x) = has_relative_row x.form && x.accesses && is_relative x.operand
-
--- a cause: the machine, by its flags, lacks the row of such an access. That the address is loaded first in its place isn't built yet
-abbrev pub relative_cause : IsaFlags → Inst → Option EmitError
-relative_cause flags i = unless (not (accesses_relative (memory i) && flags.no_relative_memory)) BadOperator
-
--- a cause: the machine, by its flags, lacks what the instruction needs: its facility, or such a row
+-- a cause: the machine, by its flags, lacks the facility that the instruction needs
 abbrev pub facility_cause : IsaFlags → Inst → Option EmitError
-facility_cause flags i = first_emit_cause (unless (has_facility flags (facility_of i)) MissingFacility) (relative_cause flags i)
+facility_cause flags i = unless (has_facility flags (facility_of i)) MissingFacility
 
 -- a cause: arguments are allocated where some already are, or in a loop
 abbrev pub stack_cause : (nominal depth : ℕ) → Inst → Option EmitError
@@ -187,6 +173,10 @@ instruction_fresh_labels _ = 0
 -- the causes of an instruction that is no `Loop`, with n labels in use: its own, and the numbers of the labels that it draws
 abbrev pub leaf_cause : IsaFlags → Declared → (n nominal depth : ℕ) → Inst → Option EmitError
 leaf_cause flags D n nominal depth i = first_emit_cause (instruction_cause flags D nominal depth i) (numbers_cause n (instruction_fresh_labels i))
+
+-- the causes of an instruction whose operand's address is loaded first: those that it has where no row is relative to it
+abbrev pub loaded_cause : IsaFlags → Declared → (n : ℕ) → Inst → Option EmitError
+loaded_cause flags D n i = first_emit_cause (first_emit_cause (facility_cause flags i) (memory_cause_or D (loaded_memory i) (Some BadOperator))) (numbers_cause n 0)
 
 -- how many labels a body draws
 abbrev pub body_fresh_labels : StepBody → ℕ
@@ -213,6 +203,7 @@ remainder_cause blocks (BranchLeft mask b) = unless (nat_lt b blocks) UnboundLab
 abbrev pub body_cause : IsaFlags → Declared → (n nominal depth : ℕ) → StepBody → Option EmitError
 body_cause flags D n nominal depth (Whole i) = leaf_cause flags D n nominal depth i
 body_cause flags D n nominal depth (Folded r i) = first_emit_cause (leaf_cause flags D n nominal depth i) (remainder_cause D.blocks r)
+body_cause flags D n nominal depth (Loaded i) = loaded_cause flags D n i
 body_cause flags D n nominal depth (CallStep c) = call_cause D.blocks nominal depth c
 body_cause flags D n nominal depth NoLoad = Some BadOperator
 body_cause flags D n nominal depth (TailOpening target first_saved is_lost) = tail_cause target first_saved is_lost

@@ -1,5 +1,6 @@
 pub mod SingleCode
 pub mod SingleInstruction
+pub mod Baseline
 pub mod Calls
 pub mod Causes
 pub mod Folding

@@ -1,5 +1,5 @@
 -- Instructions with a memory operand: their machine rows by format, the operand, and the registers that they name (cranelift-codegen, `emit.rs`).
-use Rattle.std.specs.Prelude.{ℕ, Bool, true, false, cond, not, ◌&&◌, ◌||◌, nat_le, nat_lt, nat_eq, is_some, Option, Some, None}
+use Rattle.std.specs.Prelude.{ℕ, Bool, true, false, cond, not, ◌&&◌, ◌||◌, nat_le, nat_lt, nat_eq, is_some, Option, Some, None, option_map}
 use Rattle.s390x_base.specs.Regs.{number_of}
 use Rattle.s390x_base.specs.declared.regs.Reg.{Reg}
 use Rattle.s390x_base.specs.declared.trap.TrapKind.{TrapKind}
@@ -14,7 +14,7 @@ use Rattle.s390x_inst.specs.declared.vec_inst.VecInst.TheVariants.{VecLoad, VecL
 use Rattle.s390x_inst.specs.declared.vec_inst.VecInst.TheVariants.{VecLoadReplicate, VecLoadReplicateRev, VecLoadLane, VecLoadLaneRev, VecLoadLaneUndef, VecLoadLaneRevUndef, VecStoreLane, VecStoreLaneRev}
 use Rattle.s390x_typed_steps.specs.General.{is_general, reuses, low_byte, low_halfword, low_displacement, low_12}
 use Rattle.s390x_typed_steps.specs.MachineInstruction.{MachineInstruction, rx, rxy, rs, rsy, si, siy, sil, vrx}
-use Rattle.s390x_typed_steps.specs.Operands.{is_numbered}
+use Rattle.s390x_typed_steps.specs.Operands.{is_numbered, is_relative}
 use Rattle.s390x_typed_steps.specs.Storage.{alu_rx, alu_rxy, cmp_rx, cmp_rxy, cmp_ril, atomic_rsy}
 use Rattle.s390x_typed_steps.specs.VectorInstruction.{is_vector, reuses_vector, element_code, is_lane}
 use Rattle.s390x_typed_steps.specs.declared.mem_inst_type.MemInstType.{MemInstType}
@@ -258,3 +258,33 @@ memory _ = None
 -- the code of the access's faults: that of the flags, where it accesses memory and they have one
 abbrev pub fault_code : MemoryInstruction → Option TrapKind
 fault_code x = cond x.accesses (flags_of x.operand).trap None
+
+-- ---- machines without relative loads, stores and compares
+
+-- one of the rows is relative to the instruction
+abbrev pub has_relative_row : StorageForm → Bool
+has_relative_row (RxForm register rx_opcode rxy_opcode (Some opcode)) = true
+has_relative_row form = false
+
+-- it accesses an operand that is relative to it, and has a row for that
+abbrev pub accesses_relative : Option MemoryInstruction → Bool
+accesses_relative None = false
+accesses_relative (Some x) = has_relative_row x.form && x.accesses && is_relative x.operand
+
+-- the other rows of an access that has such a row
+abbrev pub other_rows : StorageForm → (accesses : Bool) → Option StorageForm
+other_rows (RxForm register rx_opcode rxy_opcode (Some opcode)) true = Some (RxForm register rx_opcode rxy_opcode None)
+other_rows form accesses = None
+
+-- an instruction with other rows
+abbrev pub with_rows : MemoryInstruction → StorageForm → MemoryInstruction
+with_rows x form = record x { form = form }
+
+-- an access by its rows that aren't relative, where it has one that is: the address of a relative operand then comes first
+abbrev pub without_relative : Option MemoryInstruction → Option MemoryInstruction
+without_relative None = None
+without_relative (Some x) = option_map (with_rows x) (other_rows x.form x.accesses)
+
+-- the same of an instruction
+abbrev pub loaded_memory : Inst → Option MemoryInstruction
+loaded_memory i = without_relative (memory i)

@@ -18,10 +18,10 @@ use Rattle.s390x_typed_steps.specs.SingleInstruction.{SingleInstruction, single_
 use Rattle.s390x_inst.specs.declared.args.MemArg.{MemArg}
 use Rattle.s390x_inst.specs.declared.args.MemArg.TheVariants.{Label, Constant, Symbol}
 use Rattle.s390x_typed_steps.specs.Operands.{Finalized, finalized, is_relative}
-use Rattle.s390x_typed_steps.specs.Memory.{StorageForm, RxForm, MemoryInstruction, memory, type_of, storage_row, address_form, fault_code}
+use Rattle.s390x_typed_steps.specs.Memory.{StorageForm, RxForm, MemoryInstruction, memory, loaded_memory, type_of, storage_row, address_form, fault_code}
 use Rattle.s390x_typed_steps.specs.VectorComposite.{composite_rows}
 use Rattle.s390x_typed_steps.specs.StepBody.{Site, AtCall, Remainder, NothingLeft, BranchLeft}
-use Rattle.s390x_typed_steps.specs.Steps.{Step, Plain, Shortened, Opening, Back, Break, CallingStep, NoLoadStep, TailOpeningStep, TailJumpStep}
+use Rattle.s390x_typed_steps.specs.Steps.{Step, Plain, LoadedStep, Shortened, Opening, Back, Break, CallingStep, NoLoadStep, TailOpeningStep, TailJumpStep}
 
 -- where a distance leads
 pub data Target : Type 0 where
@@ -192,6 +192,7 @@ remainder_parts (BranchLeft mask b) = Branch mask (ToBlock b) ∷ []
 abbrev pub step_parts : Step → List CodePart
 step_parts (Plain i) = instruction_parts i
 step_parts (Shortened r i) = remainder_parts r
+step_parts (LoadedStep i) = memory_or (loaded_memory i) []
 step_parts Opening = []
 step_parts (Back mask target) = Branch mask (ToStep target) ∷ []
 step_parts (Break mask target) = Branch mask (ToStep target) ∷ []

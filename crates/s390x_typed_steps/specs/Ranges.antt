@@ -7,7 +7,7 @@ use Rattle.s390x_inst.specs.declared.args.MemArg.TheVariants.{BXD12, BXD20, Init
 use Rattle.s390x_inst.specs.declared.inst.Inst.{Inst}
 use Rattle.s390x_inst.specs.declared.inst.Inst.TheVariants.{CondBr, CondBreak, TrapIf, JTSequence}
 use Rattle.s390x_typed_steps.specs.Memory.{MemoryInstruction, memory}
-use Rattle.s390x_typed_steps.specs.Tree.{StepBody, Tree, Whole, Folded, empty, leaf, loop_node}
+use Rattle.s390x_typed_steps.specs.Tree.{StepBody, Tree, Whole, Loaded, Folded, empty, leaf, loop_node}
 
 -- the mask of a condition
 abbrev pub IsConditionMask : ℕ → Type 0
@@ -45,6 +45,7 @@ InRange i = MaskInRange i × MemoryInRange (memory i)
 abbrev pub BodyInRange : StepBody → Type 0
 BodyInRange (Whole i) = InRange i
 BodyInRange (Folded r i) = ⊥
+BodyInRange (Loaded i) = InRange i
 BodyInRange _ = Unit {0}
 
 -- in a tree each of these masks and displacements, and each loop's mask

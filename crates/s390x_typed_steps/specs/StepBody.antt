@@ -34,6 +34,8 @@ pub data StepBody : Type 0 where
   Whole : Inst → StepBody
   -- an instruction of whose branches this is left
   Folded : Remainder → Inst → StepBody
+  -- an access of an operand that is relative to the instruction, by a machine that lacks the row for that: the address is loaded first
+  Loaded : Inst → StepBody
   -- the call itself, before the loads of its results
   CallStep : Calling → StepBody
   -- the load of a result whose type has none: emission refuses it

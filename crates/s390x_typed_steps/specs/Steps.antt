@@ -1,6 +1,6 @@
 -- The typed steps: a flat list that is numbered once, from 0.
 use Rattle.std.specs.Prelude.{ℕ, zero, suc, ◌+◌, List, [], ◌∷◌, ◌++◌, Bool, Option}
-use Rattle.s390x_typed_steps.specs.Tree.{Remainder, StepBody, Tree, Whole, Folded, CallStep, NoLoad, TailOpening, TailJump, empty, leaf, loop_node}
+use Rattle.s390x_typed_steps.specs.Tree.{Remainder, StepBody, Tree, Whole, Loaded, Folded, CallStep, NoLoad, TailOpening, TailJump, empty, leaf, loop_node}
 use Rattle.s390x_inst.specs.declared.calls.CallInstDest.{CallInstDest}
 use Rattle.s390x_inst.specs.declared.inst.Inst.{Inst}
 use Rattle.s390x_inst.specs.declared.inst.Inst.TheVariants.{CondBreak}
@@ -13,6 +13,8 @@ pub data Step : Type 0 where
   Plain : Inst → Step
   -- an instruction of whose branches this is left
   Shortened : Remainder → Inst → Step
+  -- one whose operand's address is loaded first, since the machine lacks the row for it
+  LoadedStep : Inst → Step
   Opening : Step
   Back : (mask target : ℕ) → Step
   Break : (mask target : ℕ) → Step
@@ -32,6 +34,7 @@ abbrev pub step_of : ℕ → StepBody → Step
 step_of after (Whole (CondBreak mask)) = Break mask after
 step_of after (Whole i) = Plain i
 step_of after (Folded r i) = Shortened r i
+step_of after (Loaded i) = LoadedStep i
 step_of after (CallStep c) = CallingStep c
 step_of after NoLoad = NoLoadStep
 step_of after (TailOpening target first_saved is_lost) = TailOpeningStep target first_saved is_lost

@@ -1,6 +1,6 @@
 -- Instructions as a tree: first member, next sibling. Of what runs and of emission this and `Stack` are the only definitions that read the nested vectors of a
 -- `Loop`; the text of jobs reads them too. A leaf is the body of one step, and has no frame operands: each is an exact offset from the stack pointer.
-pub use Rattle.s390x_typed_steps.specs.StepBody.{Remainder, NothingLeft, BranchLeft, StepBody, Whole, Folded, CallStep, NoLoad, TailOpening, TailJump}
+pub use Rattle.s390x_typed_steps.specs.StepBody.{Remainder, NothingLeft, BranchLeft, StepBody, Whole, Loaded, Folded, CallStep, NoLoad, TailOpening, TailJump}
 use Rattle.std.specs.Prelude.{ℕ, List, [], ◌∷◌}
 use Rattle.s390x_inst.specs.Emission.{Emission}
 use Rattle.s390x_inst.specs.declared.inst.Inst.{Inst, Row_of-Inst, end_of-Inst, more_of-Inst}

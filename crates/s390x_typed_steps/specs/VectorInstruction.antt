@@ -1,5 +1,5 @@
 -- Vector instructions that are one machine instruction on registers and immediates (cranelift-codegen, `emit.rs`).
-use Rattle.std.specs.Prelude.{ℕ, ◌+◌, ◌*◌, pos, Bool, true, false, cond, ◌&&◌, not, nat_lt, nat_eq, Option, Some, None}
+use Rattle.std.specs.Prelude.{ℕ, ◌+◌, ◌*◌, pos, Bool, false, cond, ◌&&◌, not, nat_lt, nat_eq, Option, Some, None}
 use Rattle.s390x_base.specs.Regs.{number_of, is_int}
 use Rattle.s390x_base.specs.declared.regs.Reg.{Reg}
 use Rattle.s390x_base.specs.declared.regs.Reg.TheVariants.{Real, Virtual}

@@ -1,6 +1,6 @@
 -- The machine row of each operator on vectors: its opcode and the code of its elements' size (cranelift-codegen, `emit.rs`). Rows of three vector
 -- registers are VRR-C, of two VRR-A; shifts by an amount are VRS-A, comparisons VRR-B, those of one element VRR-A.
-use Rattle.std.specs.Prelude.{ℕ, Bool, true, false, Option, Some, None, cond, nat_eq}
+use Rattle.std.specs.Prelude.{ℕ, Bool, true, false}
 use Rattle.s390x_inst.specs.declared.vec_ops.VecBinaryOp.{VecBinaryOp}
 use Rattle.s390x_inst.specs.declared.vec_ops.VecBinaryOp.TheVariants.{Add8x16, Add16x8, Add32x4, Add64x2, Add128, Sub8x16, Sub16x8, Sub32x4, Sub64x2, Sub128, Add128Cout, Sub128Cout, Mul8x16, Mul16x8, Mul32x4, Mul64x2, Mul128, UMulHi8x16, UMulHi16x8, UMulHi32x4, UMulHi64x2, UMulHi128, SMulHi8x16, SMulHi16x8, SMulHi32x4, SMulHi64x2, SMulHi128, UMulEven8x16, UMulEven16x8, UMulEven32x4}
 use Rattle.s390x_inst.specs.declared.vec_ops.VecBinaryOp.TheVariants.{UMulEven64x2, SMulEven8x16, SMulEven16x8, SMulEven32x4, SMulEven64x2, UMulOdd8x16, UMulOdd16x8, UMulOdd32x4, UMulOdd64x2, SMulOdd8x16, SMulOdd16x8, SMulOdd32x4, SMulOdd64x2, UDiv32x4, UDiv64x2, UDiv128, SDiv32x4, SDiv64x2, SDiv128, URem32x4}

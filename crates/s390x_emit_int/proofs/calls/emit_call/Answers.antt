@@ -1,5 +1,4 @@
 use Rattle.std.proofs.Common.{◌++◌, length, refl, ap}
-use Rattle.s390x_buffer.proofs.Extending.{extends_on}
 use Rattle.s390x_typed_steps.specs.Calls.{calling, result_bodies, continuation_bodies}
 use Rattle.s390x_typed_steps.specs.Tree.{CallStep}
 use Rattle.s390x_emit_int.proofs.Bodies.{body_room}

@@ -1,4 +1,3 @@
-use Rattle.s390x_typed_steps.specs.Resolved.{resolved_instruction}
 use Rattle.s390x_emit_int.proofs.Sequence.{step_emits}
 use Rattle.s390x_emit_int.proofs.calls.emit_step.Goals as goal
 

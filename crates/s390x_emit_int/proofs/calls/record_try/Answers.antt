@@ -1,4 +1,4 @@
-use Rattle.std.proofs.Common.{ap, map, length, sym, ◌∙◌, append-nil}
+use Rattle.std.proofs.Common.{ap, map, sym, ◌∙◌, append-nil}
 use Rattle.s390x_buffer.specs.State.{handlers_cause}
 use Rattle.s390x_buffer.specs.declared.entries.TryHandler.{TryHandler}
 use Rattle.s390x_typed_steps.specs.Calls.{handler_of}

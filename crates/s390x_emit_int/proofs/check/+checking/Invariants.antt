@@ -1,5 +1,5 @@
 use Rattle.std.proofs.Common.{◌≡◌, ◌+◌, drop, min}
-use Rattle.s390x_typed_steps.specs.Tree.{tree}
+use Rattle.s390x_emit_int.specs.Members.{members_of}
 use Rattle.s390x_typed_steps.specs.Sizes.{tree_size}
 use Rattle.s390x_typed_steps.specs.Causes.{declared_in, fresh_labels, tree_cause, nominal_behind}
 use Rattle.s390x_emit_int.specs.Totals.{IsCounted, code_limit}
@@ -7,9 +7,9 @@ use Rattle.s390x_emit_int.proofs.check.+checking.Given as goal
 
 abbrev pub invariant-check_members-loop-inst : goal.invariant-check_members-loop-inst
 invariant-check_members-loop-inst l = record {
-  cause : tree_cause l.flags (declared_in l.sink) l.sum.labels l.state.nominal l.depth (tree l.state (drop l.inst-index l.insts)) ≡ tree_cause l.flags (declared_in l.sink) l.fn.t.labels l.initial.state.nominal l.depth (tree l.initial.state l.insts);
-  labels : l.sum.labels + fresh_labels (tree l.state (drop l.inst-index l.insts)) ≡ l.fn.t.labels + fresh_labels (tree l.initial.state l.insts);
-  bytes : min code_limit (l.sum.bytes + tree_size (tree l.state (drop l.inst-index l.insts))) ≡ min code_limit (l.fn.t.bytes + tree_size (tree l.initial.state l.insts));
-  nominal : nominal_behind l.state.nominal (tree l.state (drop l.inst-index l.insts)) ≡ nominal_behind l.initial.state.nominal (tree l.initial.state l.insts);
+  cause : tree_cause l.flags (declared_in l.sink) l.sum.labels l.state.nominal l.depth (members_of l.flags l.state (drop l.inst-index l.insts)) ≡ tree_cause l.flags (declared_in l.sink) l.fn.t.labels l.initial.state.nominal l.depth (members_of l.flags l.initial.state l.insts);
+  labels : l.sum.labels + fresh_labels (members_of l.flags l.state (drop l.inst-index l.insts)) ≡ l.fn.t.labels + fresh_labels (members_of l.flags l.initial.state l.insts);
+  bytes : min code_limit (l.sum.bytes + tree_size (members_of l.flags l.state (drop l.inst-index l.insts))) ≡ min code_limit (l.fn.t.bytes + tree_size (members_of l.flags l.initial.state l.insts));
+  nominal : nominal_behind l.state.nominal (members_of l.flags l.state (drop l.inst-index l.insts)) ≡ nominal_behind l.initial.state.nominal (members_of l.flags l.initial.state l.insts);
   counted : IsCounted l.sum;
 }

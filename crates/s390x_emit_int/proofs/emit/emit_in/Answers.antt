@@ -1,6 +1,6 @@
 use Rattle.std.proofs.Common.{◌∙◌, sym, arith}
 use Rattle.s390x_typed_steps.specs.Causes.{declared_in}
-use Rattle.s390x_typed_steps.specs.Tree.{empty, prepend}
+use Rattle.s390x_emit_int.specs.Members.{member_of}
 use Rattle.s390x_emit_int.specs.Room.{HasRoom}
 use Rattle.s390x_emit_int.proofs.Short.{emit_passed, emit_none, counted_cause, declared_kept, or_memory}
 use Rattle.s390x_emit_int.proofs.emit.emit_in.Goals as goal
@@ -16,7 +16,7 @@ refusal-requires-clause-lacks c = λ none.
     let t = c.emit_and_advance.new.sink in
     let room : HasRoom s = omega (arith, c.label_count.ensures.room, c.label_count.ensures.value) in
     let cause = counted_cause c.args.flags c.args.state.now c.emit_and_advance.new.state c.args.inst.now s (declared_in t) c.label_count.result c.from.result c.in-Err.ensures.answer c.requires (declared_kept s t c.emit_and_advance.ensures.kept) c.label_count.ensures.value (c.from.ensures ∙ c.cur_offset.ensures.value) in
-    c.in-Err.ensures.lacks (emit_passed c.args.flags c.args.state.now.nominal s (prepend c.args.state.now c.args.inst.now empty) room (sym cause ∙ none))
+    c.in-Err.ensures.lacks (emit_passed c.args.flags c.args.state.now.nominal s (member_of c.args.flags c.args.state.now c.args.inst.now) room (sym cause ∙ none))
 
 pub returns-in-Err-clause-answer : goal.returns-in-Err-clause-answer
 returns-in-Err-clause-answer c =

@@ -1,4 +1,4 @@
-use Rattle.std.proofs.Common.{◌≡◌, ◌∙◌, ap, sym}
+use Rattle.std.proofs.Common.{◌∙◌}
 use Rattle.s390x_emit_int.specs.Function.{number_of_next}
 use Rattle.s390x_emit_int.proofs.Shortening.{last_is}
 use Rattle.s390x_emit_int.proofs.folding.folded_bytes.Goals as goal

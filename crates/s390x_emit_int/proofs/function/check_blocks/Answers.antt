@@ -13,7 +13,7 @@ use Rattle.s390x_emit_int.proofs.function.check_blocks.Goals as goal
 pub loop-block-init : goal.loop-block-init
 loop-block-init c = record {
   cause = refl;
-  counts = begun (map (tree_of c.args.state.now) c.args.blocks.now);
+  counts = begun (map (tree_of c.args.flags c.args.state.now) c.args.blocks.now);
   counted = record { labels = c.requires.few; bytes = omega arith };
   number = refl;
 }
@@ -27,19 +27,19 @@ loop-block-preserved c =
     let i = c.loop-block.invariant in
     let k = c.loop-block.block-index in
     let v = c.block-item.result in
-    let t = tree_of state v in
-    let rest = map (tree_of state) (drop (k + 1) blocks) in
+    let t = tree_of flags state v in
+    let rest = map (tree_of flags state) (drop (k + 1) blocks) in
     let lt : k < length blocks = omega arith in
-    let split = split_at state blocks k v lt c.block-item.is in
+    let split = split_at flags state blocks k v lt c.block-item.is in
     let own = c.in_ok-sum.ensures in
     let added = c.in_ok-sum.sum in
-    let number = c.label_of.ensures ∙ ap (λ l. cond (nat_lt l (length blocks)) (Some l) None) (omega (arith, i.number)) ∙ sym (next_is state blocks k) in
+    let number = c.label_of.ensures ∙ ap (λ l. cond (nat_lt l (length blocks)) (Some l) None) (omega (arith, i.number)) ∙ sym (next_is flags state blocks k) in
     let taken = c.folded_bytes.result in
     let lost : taken ≡ last_bytes (next_block k rest) v.insts.items = c.folded_bytes.ensures.value ∙ ap (last_bytes (number_of_next c.label_of.result)) c.deref.ensures.value ∙ ap (λ n. last_bytes n v.insts.items) number in
-    let takes : tree_size (folded_before (next_block k rest) t) + taken ≡ tree_size t = ap (λ n. tree_size (folded_before (next_block k rest) t) + n) lost ∙ end_takes (next_block k rest) state v.insts.items in
+    let takes : tree_size (folded_before (next_block k rest) t) + taken ≡ tree_size t = ap (λ n. tree_size (folded_before (next_block k rest) t) + n) lost ∙ end_takes flags (next_block k rest) state v.insts.items in
     let labels = own.1.labels in
-    let most = peak (map (tree_of state) blocks) in
-    let last = blocks_size (folded_trees (map (tree_of state) blocks)) in
+    let most = peak (map (tree_of flags state) blocks) in
+    let last = blocks_size (folded_trees (map (tree_of flags state) blocks)) in
     record {
       cause =
           ap (λ n. blocks_cause flags D n rest) labels
@@ -60,8 +60,8 @@ pub returns : goal.returns
 returns c =
     let blocks = c.args.blocks.now in
     let i = c.loop-block.invariant in
-    let ts = map (tree_of c.args.state.now) blocks in
-    let none : map (tree_of c.args.state.now) (drop c.loop-block.block-index blocks) ≡ [] = ap (map (tree_of c.args.state.now)) (drop_all c.loop-block.block-index blocks (omega arith)) in
+    let ts = map (tree_of c.args.flags c.args.state.now) blocks in
+    let none : map (tree_of c.args.flags c.args.state.now) (drop c.loop-block.block-index blocks) ≡ [] = ap (map (tree_of c.args.flags c.args.state.now)) (drop_all c.loop-block.block-index blocks (omega arith)) in
     let left = subst (λ us. Counts c.loop-block.block-index c.loop-block.longest c.loop-block.sum.bytes us (peak ts) (blocks_size (folded_trees ts))) none i.counts in (
       sym i.cause ∙ ap (blocks_cause c.args.flags (declared_in c.args.sink.now) c.loop-block.sum.labels) none,
       record {
@@ -76,7 +76,7 @@ returns c =
 pub overflow_sub-sum : goal.overflow_sub-sum
 overflow_sub-sum c =
     let v = c.block-item.result in
-    let takes = end_takes (number_of_next c.label_of.result) c.args.state.now v.insts.items in
+    let takes = end_takes c.args.flags (number_of_next c.label_of.result) c.args.state.now v.insts.items in
     let lost = c.folded_bytes.ensures.value ∙ ap (last_bytes (number_of_next c.label_of.result)) c.deref.ensures.value in
     let added = c.in_ok-sum.ensures.1.bytes in
     let few = c.folded_bytes.ensures.few in

@@ -5,8 +5,8 @@ use Rattle.s390x_typed_steps.specs.Calls.{safepoint}
 use Rattle.s390x_typed_steps.specs.Causes.{declared_in, tree_cause}
 use Rattle.s390x_typed_steps.specs.Ranges.{AllInRange}
 use Rattle.s390x_typed_steps.specs.Stack.{state_after}
-use Rattle.s390x_typed_steps.specs.Tree.{block_tree, empty, prepend}
 use Rattle.s390x_emit_int.specs.Emission.{own_fragments, fragments}
+use Rattle.s390x_emit_int.specs.Members.{member_of, block_members_of}
 use Rattle.s390x_emit_int.specs.Fragments.{apply_all}
 use Rattle.s390x_emit_int.specs.Room.{TreePassed}
 use Rattle.s390x_emit_int.proofs.Checking.{marked_cause}
@@ -33,16 +33,16 @@ loop-inst-preserved c =
     let s2 = c.emit_inst.new.sink in
     let lt : k < length is = omega arith in
     let e1 = c.in_ok-start_step.ensures.answer.1 in
-    let e2 : s2 ≡ apply_all s1 (own_fragments (length s1.labels) 0 (prepend (safepoint here i) i empty)) = c.in_ok-emit_inst.ensures.answer ∙ ap (λ (e : Emission). apply_all s1 (own_fragments (length s1.labels) 0 (prepend e i empty))) same in
-    let none : tree_cause flags (declared_in s1) (length s1.labels) here.nominal 0 (prepend (safepoint here i) i empty) ≡ None = sym (marked_cause flags (declared_in s1) (length s1.labels) 0 here marked i same) ∙ c.in_ok-emit_inst.ensures.cause in
+    let e2 : s2 ≡ apply_all s1 (own_fragments (length s1.labels) 0 (member_of flags (safepoint here i) i)) = c.in_ok-emit_inst.ensures.answer ∙ ap (λ (e : Emission). apply_all s1 (own_fragments (length s1.labels) 0 (member_of flags e i))) same in
+    let none : tree_cause flags (declared_in s1) (length s1.labels) here.nominal 0 (member_of flags (safepoint here i) i) ≡ None = sym (marked_cause flags (declared_in s1) (length s1.labels) 0 here marked i same) ∙ c.in_ok-emit_inst.ensures.cause in
     record {
       kept = extends_on _ _ _ c.loop-inst.invariant.kept (extends_on _ _ _ c.start_step.ensures.kept c.emit_inst.ensures.kept);
-      room = more_room (safepoint here i) i s s1 s2 0 c.loop-inst.invariant.room e1 e2;
-      rest = ap (λ e. apply_all s2 (fragments (length s2.labels) 0 (block_tree e (drop (k + 1) is)))) on ∙ more_in_block here is k i s s1 s2 _ 0 lt c.inst-item.is e1 e2 c.loop-inst.invariant.rest;
+      room = more_room flags (safepoint here i) i s s1 s2 0 c.loop-inst.invariant.room e1 e2;
+      rest = ap (λ e. apply_all s2 (fragments (length s2.labels) 0 (block_members_of flags e (drop (k + 1) is)))) on ∙ more_in_block flags here is k i s s1 s2 _ 0 lt c.inst-item.is e1 e2 c.loop-inst.invariant.rest;
       cause = more_cause_in_block flags here next s s1 s2 0 0 is k i lt c.inst-item.is e1 e2 on none ∙ c.loop-inst.invariant.cause;
-      nominal = nominal_in_block here next is k i lt c.inst-item.is on ∙ c.loop-inst.invariant.nominal;
-      passed = λ p. subst (λ (e : Emission). TreePassed flags s2 0 e.nominal 0 (block_tree e (drop (k + 1) is))) (sym on) (others_in_block here flags s s1 s2 0 0 is k i lt c.inst-item.is e1 e2 (c.loop-inst.invariant.passed p));
-      ranges = λ f. c.loop-inst.invariant.ranges (ranges_in_block here is k i lt c.inst-item.is (subst (λ (e : Emission). AllInRange (prepend e i empty)) same c.in_ok-emit_inst.ensures.ranges) (subst (λ e. AllInRange (block_tree e (drop (k + 1) is))) on f));
+      nominal = nominal_in_block flags here next is k i lt c.inst-item.is on ∙ c.loop-inst.invariant.nominal;
+      passed = λ p. subst (λ (e : Emission). TreePassed flags s2 0 e.nominal 0 (block_members_of flags e (drop (k + 1) is))) (sym on) (others_in_block here flags s s1 s2 0 0 is k i lt c.inst-item.is e1 e2 (c.loop-inst.invariant.passed p));
+      ranges = λ f. c.loop-inst.invariant.ranges (ranges_in_block flags here is k i lt c.inst-item.is (subst (λ (e : Emission). AllInRange (member_of flags e i)) same c.in_ok-emit_inst.ensures.ranges) (subst (λ e. AllInRange (block_members_of flags e (drop (k + 1) is))) on f));
     }
 
 pub returns-in_err-advance-clause-kept : goal.returns-in_err-advance-clause-kept

@@ -12,13 +12,14 @@ use Rattle.s390x_emit_int.proofs.function.emit_blocks.Given as goal
 
 abbrev pub invariant-loop-block : goal.invariant-loop-block
 invariant-loop-block l = record {
-  rest : apply_all l.sink (function_fragments (length l.sink.labels) l.block-index (folded_from l.block-index (map (tree_of l.fn.state) (drop l.block-index l.blocks)))) ≡ apply_all l.initial.sink (function_fragments (length l.initial.sink.labels) 0 (folded_trees (map (tree_of l.fn.state) l.blocks)));
+  rest : apply_all l.sink (function_fragments (length l.sink.labels) l.block-index (folded_from l.block-index (map (tree_of l.fn.flags l.fn.state) (drop l.block-index l.blocks)))) ≡ apply_all l.initial.sink (function_fragments (length l.initial.sink.labels) 0 (folded_trees (map (tree_of l.fn.flags l.fn.state) l.blocks)));
   short : length l.sink.bytes < limit;
-  longest : peak_from l.block-index (length l.sink.bytes) (map (tree_of l.fn.state) (drop l.block-index l.blocks)) < limit → peak_from 0 (length l.initial.sink.bytes) (map (tree_of l.fn.state) l.blocks) < limit;
-  ranges : BlocksInRange (map (tree_of l.fn.state) (drop l.block-index l.blocks)) → BlocksInRange (map (tree_of l.fn.state) l.blocks);
-  cause : blocks_cause l.fn.flags (declared_in l.sink) (length l.sink.labels) (map (tree_of l.fn.state) (drop l.block-index l.blocks)) ≡ blocks_cause l.fn.flags (declared_in l.initial.sink) (length l.initial.sink.labels) (map (tree_of l.fn.state) l.blocks);
+  longest : peak_from l.block-index (length l.sink.bytes) (map (tree_of l.fn.flags l.fn.state) (drop l.block-index l.blocks)) < limit → peak_from 0 (length l.initial.sink.bytes) (map (tree_of l.fn.flags l.fn.state) l.blocks) < limit;
+  ranges : BlocksInRange (map (tree_of l.fn.flags l.fn.state) (drop l.block-index l.blocks)) → BlocksInRange (map (tree_of l.fn.flags l.fn.state) l.blocks);
+  cause : blocks_cause l.fn.flags (declared_in l.sink) (length l.sink.labels) (map (tree_of l.fn.flags l.fn.state) (drop l.block-index l.blocks)) ≡ blocks_cause l.fn.flags (declared_in l.initial.sink) (length l.initial.sink.labels) (map (tree_of l.fn.flags l.fn.state) l.blocks);
   declared : declared_in l.sink ≡ declared_in l.initial.sink;
-  passed : l.initial.sink.failed ≡ false → peak_from 0 (length l.initial.sink.bytes) (map (tree_of l.fn.state) l.blocks) < limit → blocks_cause l.fn.flags (declared_in l.initial.sink) (length l.initial.sink.labels) (map (tree_of l.fn.state) l.blocks) ≡ None → BlocksPassed l.fn.flags l.sink (declared_in l.initial.sink) l.block-index (map (tree_of l.fn.state) (drop l.block-index l.blocks));
+  passed : l.initial.sink.failed ≡ false → peak_from 0 (length l.initial.sink.bytes) (map (tree_of l.fn.flags l.fn.state) l.blocks) < limit → blocks_cause l.fn.flags (declared_in l.initial.sink) (length l.initial.sink.labels) (map (tree_of l.fn.flags l.fn.state) l.blocks) ≡ None →
+      BlocksPassed l.fn.flags l.sink (declared_in l.initial.sink) l.block-index (map (tree_of l.fn.flags l.fn.state) (drop l.block-index l.blocks));
   label : l.label ≡ l.block-index;
   count : l.sink.block_count ≡ length l.blocks;
   room : HasRoom l.sink;

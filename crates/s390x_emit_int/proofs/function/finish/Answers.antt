@@ -1,4 +1,4 @@
-use Rattle.std.proofs.Common.{◌≡◌, ◌∙◌, ◌&&◌, sym, ap, subst, inr, length, map, nat_lt, None, false}
+use Rattle.std.proofs.Common.{◌≡◌, ◌∙◌, ◌&&◌, sym, ap, inr, length, map, nat_lt, None, false}
 use Rattle.std.proofs.lemmas.Bool.{and_from, lt-ltb}
 use Rattle.std.proofs.lemmas.List.{length-map}
 use Rattle.s390x_base.specs.declared.error.EmitError.TheVariants.{LabelOutOfRange}
@@ -17,11 +17,11 @@ use Rattle.s390x_emit_int.proofs.function.finish.Goals as goal
 pub returns-then-constants_fit : goal.returns-then-constants_fit
 returns-then-constants_fit c =
     let f = c.args.function.now in
-    let ts = trees_of c.args.state.now f in
+    let ts = trees_of c.args.flags c.args.state.now f in
     let us = folded_trees ts in
     let cs = constants_of f in
     let flags = c.args.flags in
-    let new : new_cause (length ts) cs ≡ None = ap (λ n. new_cause n cs) (length-map f.blocks.items (tree_of c.args.state.now)) ∙ c.requires.new in
+    let new : new_cause (length ts) cs ≡ None = ap (λ n. new_cause n cs) (length-map f.blocks.items (tree_of c.args.flags c.args.state.now)) ∙ c.requires.new in
     let size = c.cur_offset.ensures.value ∙ emitted_size us cs c.args.sink c.requires.emitted in
     let ends = sym (c.constants_fit.ensures ∙ ap (λ l. nat_lt (constants_end c.cur_offset.result (map constant_of l)) limit) c.deref.ensures.value ∙ ap (λ n. nat_lt (constants_end n cs) limit) size) ∙ c.if-constants_fit.true in
     let short = lt-ltb (peak ts) limit c.requires.longest in
@@ -35,11 +35,11 @@ returns-then-constants_fit c =
 pub returns-else-constants_fit : goal.returns-else-constants_fit
 returns-else-constants_fit c =
     let f = c.args.function.now in
-    let ts = trees_of c.args.state.now f in
+    let ts = trees_of c.args.flags c.args.state.now f in
     let us = folded_trees ts in
     let cs = constants_of f in
     let flags = c.args.flags in
-    let new : new_cause (length ts) cs ≡ None = ap (λ n. new_cause n cs) (length-map f.blocks.items (tree_of c.args.state.now)) ∙ c.requires.new in
+    let new : new_cause (length ts) cs ≡ None = ap (λ n. new_cause n cs) (length-map f.blocks.items (tree_of c.args.flags c.args.state.now)) ∙ c.requires.new in
     let size = c.cur_offset.ensures.value ∙ emitted_size us cs c.args.sink c.requires.emitted in
     let ends = sym (c.constants_fit.ensures ∙ ap (λ l. nat_lt (constants_end c.cur_offset.result (map constant_of l)) limit) c.deref.ensures.value ∙ ap (λ n. nat_lt (constants_end n cs) limit) size) ∙ c.if-constants_fit.false in
     inr (length_last flags ts cs new c.requires.cause ∙ ap (λ t. unless (nat_lt (peak ts) limit && t) LabelOutOfRange) ends ∙ ap (λ t. unless (t && false) LabelOutOfRange) (lt-ltb (peak ts) limit c.requires.longest))

@@ -4,7 +4,7 @@ use Rattle.s390x_emit_int.proofs.FunctionImage.{image_of, link_refused}
 use Rattle.s390x_emit_int.proofs.image.emit_image.Goals as goal
 
 pub link-requires : goal.link-requires
-link-requires c = relocs_lie (folded_trees_of c.args.state c.args.function.now) (constants_of c.args.function.now) c.in-Ok.code c.in-Ok.ensures.1
+link-requires c = relocs_lie (folded_trees_of c.args.info.now.isa_flags c.args.state c.args.function.now) (constants_of c.args.function.now) c.in-Ok.code c.in-Ok.ensures.1
 
 pub returns-in-Ok-link-clause-image : goal.returns-in-Ok-link-clause-image
 returns-in-Ok-link-clause-image c =

@@ -1,4 +1,4 @@
-use Rattle.std.proofs.Common.{◌≡◌, ◌∙◌, ap, arith, length}
+use Rattle.std.proofs.Common.{◌∙◌, ap, arith, length}
 use Rattle.s390x_buffer.specs.State.{BufferState}
 use Rattle.s390x_emit_int.proofs.Lacking.{lacks_call, put_none}
 use Rattle.s390x_emit_int.proofs.Leaves.{length-ril_c}

@@ -1,66 +1,112 @@
 use Rattle.std.proofs.Common.{None, length, arith, ap, sym, ◌∙◌, subst, drop, ◌+◌, ◌<◌, ◌≡◌}
 use Rattle.s390x_buffer.proofs.Extending.{extends_on, extends_bound}
 use Rattle.s390x_emit_int.proofs.Binding.{bound_kept}
-use Rattle.s390x_typed_steps.specs.Calls.{without_map}
-use Rattle.s390x_typed_steps.specs.Resolved.{resolved_instruction}
-use Rattle.s390x_typed_steps.specs.Tree.{empty, leaves, loop_node, tree}
-use Rattle.s390x_typed_steps.proofs.Trees.{prepend_loop, not_loop, one_body}
+use Rattle.s390x_typed_steps.specs.Calls.{call_bodies, without_map}
+use Rattle.s390x_typed_steps.specs.Tree.{empty, leaves, loop_node}
+use Rattle.s390x_typed_steps.proofs.CallRows.{call_stays, tail_stays}
+use Rattle.s390x_typed_steps.proofs.Trees.{prepend_loop}
+use Rattle.s390x_typed_steps.specs.Baseline.{tree_for}
+use Rattle.s390x_emit_int.specs.Members.{member_of, members_of}
+use Rattle.s390x_emit_int.proofs.Members.{alone}
 use Rattle.s390x_emit_int.specs.Room.{TreePassed}
 use Rattle.s390x_emit_int.specs.Fragments.{apply_all}
 use Rattle.s390x_emit_int.specs.Emission.{own_fragments, fragments}
 use Rattle.s390x_typed_steps.specs.Ranges.{AllInRange}
-use Rattle.s390x_emit_int.proofs.Trees.{leaf_own, more, more_ranges, more_room, loop_states}
+use Rattle.s390x_emit_int.proofs.Trees.{more, more_ranges, more_room, loop_states}
 use Rattle.s390x_typed_steps.specs.Causes.{declared_in, tree_cause}
-use Rattle.s390x_typed_steps.proofs.Causes.{first_none}
 use Rattle.s390x_emit_int.proofs.Answering.{on_ok, on_both}
 use Rattle.s390x_emit_int.proofs.Emitting.{more_cause, more_nominal, loop_none}
 use Rattle.s390x_emit_int.proofs.Lacking.{fails_with_none, lacks_again, lacks_call, mark_none, label_none}
-use Rattle.s390x_emit_int.proofs.Passing.{leaf_passed, member_passed, others_passed, loop_passed, members_unpoisoned, body_turns, back_passed, end_below, member_stack, inner_passed, turns_on, draw_turns, bind_turns}
+use Rattle.s390x_emit_int.proofs.Passing.{member_passed, others_passed, loop_passed, members_unpoisoned, body_turns, back_passed, end_below, member_stack, inner_passed, turns_on, draw_turns, bind_turns}
 use Rattle.s390x_typed_steps.specs.Stack.{state_after}
 use Rattle.s390x_inst.specs.Emission.{Emission}
 use Rattle.s390x_emit_int.proofs.tree.+members.Goals as goal
 
 pub emit_inst-returns-in-Loop-clause-answer : goal.emit_inst-returns-in-Loop-clause-answer
 emit_inst-returns-in-Loop-clause-answer t c =
-    let g = prepend_loop c.args.state.now c.args.inst.now c.in-Loop.cond c.in-Loop.body c.deref.result.now empty c.in-Loop.is c.deref.ensures.value in
+    let g = ap (tree_for c.args.flags) (prepend_loop c.args.state.now c.args.inst.now c.in-Loop.cond c.in-Loop.body c.deref.result.now empty c.in-Loop.is c.deref.ensures.value) in
     on_ok c.emit_loop.result c.emit_loop.ensures.answer (λ e. e ∙ ap (λ x. apply_all c.args.sink.now (own_fragments (length c.args.sink.now.labels) c.args.after.0 x)) (sym g))
 
 pub emit_inst-returns-in-Loop-clause-ranges : goal.emit_inst-returns-in-Loop-clause-ranges
 emit_inst-returns-in-Loop-clause-ranges t c =
-    let g = prepend_loop c.args.state.now c.args.inst.now c.in-Loop.cond c.in-Loop.body c.deref.result.now empty c.in-Loop.is c.deref.ensures.value in
+    let g = ap (tree_for c.args.flags) (prepend_loop c.args.state.now c.args.inst.now c.in-Loop.cond c.in-Loop.body c.deref.result.now empty c.in-Loop.is c.deref.ensures.value) in
     on_ok c.emit_loop.result c.emit_loop.ensures.ranges (λ f. subst AllInRange (sym g) f)
 
 pub emit_inst-returns-in_default-clause-answer : goal.emit_inst-returns-in_default-clause-answer
 emit_inst-returns-in_default-clause-answer t c =
-    let g = not_loop c.args.state.now c.args.inst.now empty c.in_default.not-Loop ∙ ap (λ bs. leaves bs empty) (one_body c.args.state.now c.args.inst.now c.in_default.not-Call c.in_default.not-ReturnCall) in
-    on_ok c.emit_leaf.result c.emit_leaf.ensures.answer (λ e. e.1 ∙ leaf_own (resolved_instruction c.args.state.now c.args.inst.now) c.args.sink.now (length c.args.sink.now.labels) c.args.after.0 ∙ ap (λ x. apply_all c.args.sink.now (own_fragments (length c.args.sink.now.labels) c.args.after.0 x)) (sym g))
+    let g = alone c.args.flags c.args.state.now c.args.inst.now c.in_default.not-Loop c.in_default.not-Call c.in_default.not-ReturnCall in
+    on_ok c.emit_on_machine.result c.emit_on_machine.ensures.answer (λ e. e ∙ ap (λ x. apply_all c.args.sink.now (own_fragments (length c.args.sink.now.labels) c.args.after.0 x)) (sym g))
 
 pub emit_inst-returns-in_default-clause-ranges : goal.emit_inst-returns-in_default-clause-ranges
 emit_inst-returns-in_default-clause-ranges t c =
-    let g = not_loop c.args.state.now c.args.inst.now empty c.in_default.not-Loop ∙ ap (λ bs. leaves bs empty) (one_body c.args.state.now c.args.inst.now c.in_default.not-Call c.in_default.not-ReturnCall) in
-    on_ok c.emit_leaf.result c.emit_leaf.ensures.range (λ f. subst AllInRange (sym g) (f, tt))
+    let g = alone c.args.flags c.args.state.now c.args.inst.now c.in_default.not-Loop c.in_default.not-Call c.in_default.not-ReturnCall in
+    on_ok c.emit_on_machine.result c.emit_on_machine.ensures.ranges (λ f. subst AllInRange (sym g) f)
 
 pub emit_inst-returns-in-Loop-clause-lacks : goal.emit_inst-returns-in-Loop-clause-lacks
 emit_inst-returns-in-Loop-clause-lacks t c =
-    let g = prepend_loop c.args.state.now c.args.inst.now c.in-Loop.cond c.in-Loop.body c.deref.result.now empty c.in-Loop.is c.deref.ensures.value in
+    let g = ap (tree_for c.args.flags) (prepend_loop c.args.state.now c.args.inst.now c.in-Loop.cond c.in-Loop.body c.deref.result.now empty c.in-Loop.is c.deref.ensures.value) in
     λ p. c.emit_loop.ensures.lacks c.args.after.0 (subst (TreePassed c.args.flags c.args.sink.now c.args.after.0 c.args.state.now.nominal c.args.depth) g p)
 
 pub emit_inst-returns-in_default-clause-lacks : goal.emit_inst-returns-in_default-clause-lacks
 emit_inst-returns-in_default-clause-lacks t c =
-    let g = not_loop c.args.state.now c.args.inst.now empty c.in_default.not-Loop ∙ ap (λ bs. leaves bs empty) (one_body c.args.state.now c.args.inst.now c.in_default.not-Call c.in_default.not-ReturnCall) in
-    λ p. c.emit_leaf.ensures.lacks (leaf_passed c.args.flags c.args.sink.now c.args.after.0 c.args.state.now.nominal c.args.depth (resolved_instruction c.args.state.now c.args.inst.now) _ g p)
+    let g = alone c.args.flags c.args.state.now c.args.inst.now c.in_default.not-Loop c.in_default.not-Call c.in_default.not-ReturnCall in
+    λ p. c.emit_on_machine.ensures.lacks (subst (TreePassed c.args.flags c.args.sink.now c.args.after.0 c.args.state.now.nominal c.args.depth) g p)
 
 pub emit_inst-returns-in-Loop-clause-cause : goal.emit_inst-returns-in-Loop-clause-cause
 emit_inst-returns-in-Loop-clause-cause t c =
     let s = c.args.sink.now in
-    let g = prepend_loop c.args.state.now c.args.inst.now c.in-Loop.cond c.in-Loop.body c.deref.result.now empty c.in-Loop.is c.deref.ensures.value in
+    let g = ap (tree_for c.args.flags) (prepend_loop c.args.state.now c.args.inst.now c.in-Loop.cond c.in-Loop.body c.deref.result.now empty c.in-Loop.is c.deref.ensures.value) in
     on_ok c.emit_loop.result c.emit_loop.ensures.cause (λ e. ap (tree_cause c.args.flags (declared_in s) (length s.labels) c.args.state.now.nominal c.args.depth) g ∙ e)
 
 pub emit_inst-returns-in_default-clause-cause : goal.emit_inst-returns-in_default-clause-cause
 emit_inst-returns-in_default-clause-cause t c =
     let s = c.args.sink.now in
-    let g = not_loop c.args.state.now c.args.inst.now empty c.in_default.not-Loop ∙ ap (λ bs. leaves bs empty) (one_body c.args.state.now c.args.inst.now c.in_default.not-Call c.in_default.not-ReturnCall) in
-    on_ok c.emit_leaf.result c.emit_leaf.ensures.answer (λ e. ap (tree_cause c.args.flags (declared_in s) (length s.labels) c.args.state.now.nominal c.args.depth) g ∙ first_none _ ∙ e.0)
+    let g = alone c.args.flags c.args.state.now c.args.inst.now c.in_default.not-Loop c.in_default.not-Call c.in_default.not-ReturnCall in
+    on_ok c.emit_on_machine.result c.emit_on_machine.ensures.cause (λ e. ap (tree_cause c.args.flags (declared_in s) (length s.labels) c.args.state.now.nominal c.args.depth) g ∙ e)
+
+-- ---- calls, whose steps are the same on each machine
+
+pub emit_inst-returns-in-Call-clause-answer : goal.emit_inst-returns-in-Call-clause-answer
+emit_inst-returns-in-Call-clause-answer t c =
+    let g = ap (member_of c.args.flags c.args.state.now) c.in-Call.is ∙ call_stays c.args.flags c.args.state.now c.in-Call.link c.in-Call.info ∙ ap (λ r. leaves (call_bodies c.args.state.now r c.in-Call.info) empty) (sym c.to_reg.ensures) in
+    on_ok c.emit_call.result c.emit_call.ensures.answer (λ e. e ∙ ap (λ x. apply_all c.args.sink.now (own_fragments (length c.args.sink.now.labels) c.args.after.0 x)) (sym g))
+
+pub emit_inst-returns-in-Call-clause-ranges : goal.emit_inst-returns-in-Call-clause-ranges
+emit_inst-returns-in-Call-clause-ranges t c =
+    let g = ap (member_of c.args.flags c.args.state.now) c.in-Call.is ∙ call_stays c.args.flags c.args.state.now c.in-Call.link c.in-Call.info ∙ ap (λ r. leaves (call_bodies c.args.state.now r c.in-Call.info) empty) (sym c.to_reg.ensures) in
+    on_ok c.emit_call.result c.emit_call.ensures.ranges (λ f. subst AllInRange (sym g) f)
+
+pub emit_inst-returns-in-Call-clause-lacks : goal.emit_inst-returns-in-Call-clause-lacks
+emit_inst-returns-in-Call-clause-lacks t c =
+    let g = ap (member_of c.args.flags c.args.state.now) c.in-Call.is ∙ call_stays c.args.flags c.args.state.now c.in-Call.link c.in-Call.info ∙ ap (λ r. leaves (call_bodies c.args.state.now r c.in-Call.info) empty) (sym c.to_reg.ensures) in
+    λ p. c.emit_call.ensures.lacks (subst (TreePassed c.args.flags c.args.sink.now c.args.after.0 c.args.state.now.nominal c.args.depth) g p)
+
+pub emit_inst-returns-in-Call-clause-cause : goal.emit_inst-returns-in-Call-clause-cause
+emit_inst-returns-in-Call-clause-cause t c =
+    let s = c.args.sink.now in
+    let g = ap (member_of c.args.flags c.args.state.now) c.in-Call.is ∙ call_stays c.args.flags c.args.state.now c.in-Call.link c.in-Call.info ∙ ap (λ r. leaves (call_bodies c.args.state.now r c.in-Call.info) empty) (sym c.to_reg.ensures) in
+    on_ok c.emit_call.result c.emit_call.ensures.cause (λ e. ap (tree_cause c.args.flags (declared_in s) (length s.labels) c.args.state.now.nominal c.args.depth) g ∙ e)
+
+pub emit_inst-returns-in-ReturnCall-clause-answer : goal.emit_inst-returns-in-ReturnCall-clause-answer
+emit_inst-returns-in-ReturnCall-clause-answer t c =
+    let g = ap (member_of c.args.flags c.args.state.now) c.in-ReturnCall.is ∙ tail_stays c.args.flags c.args.state.now c.in-ReturnCall.info.callee_pop_size c.in-ReturnCall.info.dest in
+    on_ok c.emit_tail_call.result c.emit_tail_call.ensures.answer (λ e. e ∙ ap (λ x. apply_all c.args.sink.now (own_fragments (length c.args.sink.now.labels) c.args.after.0 x)) (sym g))
+
+pub emit_inst-returns-in-ReturnCall-clause-ranges : goal.emit_inst-returns-in-ReturnCall-clause-ranges
+emit_inst-returns-in-ReturnCall-clause-ranges t c =
+    let g = ap (member_of c.args.flags c.args.state.now) c.in-ReturnCall.is ∙ tail_stays c.args.flags c.args.state.now c.in-ReturnCall.info.callee_pop_size c.in-ReturnCall.info.dest in
+    on_ok c.emit_tail_call.result c.emit_tail_call.ensures.ranges (λ f. subst AllInRange (sym g) f)
+
+pub emit_inst-returns-in-ReturnCall-clause-lacks : goal.emit_inst-returns-in-ReturnCall-clause-lacks
+emit_inst-returns-in-ReturnCall-clause-lacks t c =
+    let g = ap (member_of c.args.flags c.args.state.now) c.in-ReturnCall.is ∙ tail_stays c.args.flags c.args.state.now c.in-ReturnCall.info.callee_pop_size c.in-ReturnCall.info.dest in
+    λ p. c.emit_tail_call.ensures.lacks (subst (TreePassed c.args.flags c.args.sink.now c.args.after.0 c.args.state.now.nominal c.args.depth) g p)
+
+pub emit_inst-returns-in-ReturnCall-clause-cause : goal.emit_inst-returns-in-ReturnCall-clause-cause
+emit_inst-returns-in-ReturnCall-clause-cause t c =
+    let s = c.args.sink.now in
+    let g = ap (member_of c.args.flags c.args.state.now) c.in-ReturnCall.is ∙ tail_stays c.args.flags c.args.state.now c.in-ReturnCall.info.callee_pop_size c.in-ReturnCall.info.dest in
+    on_ok c.emit_tail_call.result c.emit_tail_call.ensures.cause (λ e. ap (tree_cause c.args.flags (declared_in s) (length s.labels) c.args.state.now.nominal c.args.depth) g ∙ e)
 
 pub emit_members-loop-inst-preserved : goal.emit_members-loop-inst-preserved
 emit_members-loop-inst-preserved t c =
@@ -81,12 +127,12 @@ emit_members-loop-inst-preserved t c =
     let e2 = c.in_ok-emit_inst.ensures.answer in
     record {
       kept = extends_on _ _ _ c.loop-inst.invariant.kept (extends_on _ _ _ c.start_step.ensures.kept c.emit_inst.ensures.kept);
-      room = more_room here i s s1 s2 after c.loop-inst.invariant.room e1 e2;
-      rest = ap (λ e. apply_all s2 (fragments (length s2.labels) after (tree e (drop (k + 1) is)))) on ∙ more here is k i s s1 s2 _ after lt c.inst-item.is e1 e2 c.loop-inst.invariant.rest;
+      room = more_room flags here i s s1 s2 after c.loop-inst.invariant.room e1 e2;
+      rest = ap (λ e. apply_all s2 (fragments (length s2.labels) after (members_of flags e (drop (k + 1) is)))) on ∙ more flags here is k i s s1 s2 _ after lt c.inst-item.is e1 e2 c.loop-inst.invariant.rest;
       cause = more_cause flags here next s s1 s2 after depth is k i lt c.inst-item.is e1 e2 on c.in_ok-emit_inst.ensures.cause ∙ c.loop-inst.invariant.cause;
-      nominal = more_nominal here next is k i lt c.inst-item.is on ∙ c.loop-inst.invariant.nominal;
-      passed = λ p. subst (λ (e : Emission). TreePassed flags s2 after e.nominal depth (tree e (drop (k + 1) is))) (sym on) (others_passed here flags s s1 s2 after depth is k i lt c.inst-item.is e1 e2 (c.loop-inst.invariant.passed p));
-      ranges = λ f. c.loop-inst.invariant.ranges (more_ranges here is k i lt c.inst-item.is c.in_ok-emit_inst.ensures.ranges (subst (λ e. AllInRange (tree e (drop (k + 1) is))) on f));
+      nominal = more_nominal flags here next is k i lt c.inst-item.is on ∙ c.loop-inst.invariant.nominal;
+      passed = λ p. subst (λ (e : Emission). TreePassed flags s2 after e.nominal depth (members_of flags e (drop (k + 1) is))) (sym on) (others_passed here flags s s1 s2 after depth is k i lt c.inst-item.is e1 e2 (c.loop-inst.invariant.passed p));
+      ranges = λ f. c.loop-inst.invariant.ranges (more_ranges flags here is k i lt c.inst-item.is c.in_ok-emit_inst.ensures.ranges (subst (λ e. AllInRange (members_of flags e (drop (k + 1) is))) on f));
     }
 
 pub emit_members-returns-in_err-advance-clause-kept : goal.emit_members-returns-in_err-advance-clause-kept
@@ -106,7 +152,7 @@ emit_loop-bind_label-requires-2-clause-unbound t c =
     let inside = c.clear_post_insn.new.self in
     let l = loop_states c.args.sink.now c.get_label.new.self c.get_label-2.new.self c.bind_label.new.self c.emit_members.new.sink
     c.start_step.new.self c.put_branch.new.sink c.in_ok-start.start.0 c.in_ok-end.end.0 c.bits-mask.result
-    (tree inside c.args.body.now) c.in_ok-start.ensures.answer.1 c.in_ok-start.ensures.answer.2 c.in_ok-end.ensures.answer.1
+    (members_of c.args.flags inside c.args.body.now) c.in_ok-start.ensures.answer.1 c.in_ok-start.ensures.answer.2 c.in_ok-end.ensures.answer.1
     c.in_ok-end.ensures.answer.2 c.in_ok-bind_label.ensures.answer.1 c.in_ok-emit_members.ensures.answer c.in_ok-start_step.ensures.answer.1
     c.in_ok-put_branch.ensures.answer in
     l.free
@@ -116,10 +162,11 @@ emit_loop-returns-clause-answer t c =
     let inside = c.clear_post_insn.new.self in
     let l = loop_states c.args.sink.now c.get_label.new.self c.get_label-2.new.self c.bind_label.new.self c.emit_members.new.sink
     c.start_step.new.self c.put_branch.new.sink c.in_ok-start.start.0 c.in_ok-end.end.0 c.bits-mask.result
-    (tree inside c.args.body.now) c.in_ok-start.ensures.answer.1 c.in_ok-start.ensures.answer.2 c.in_ok-end.ensures.answer.1
+    (members_of c.args.flags inside c.args.body.now) c.in_ok-start.ensures.answer.1 c.in_ok-start.ensures.answer.2 c.in_ok-end.ensures.answer.1
     c.in_ok-end.ensures.answer.2 c.in_ok-bind_label.ensures.answer.1 c.in_ok-emit_members.ensures.answer c.in_ok-start_step.ensures.answer.1
     c.in_ok-put_branch.ensures.answer in
-    on_both _ c.bind_label-2.result c.bind_label-2.ensures.answer (λ p. l.after c.bind_label-2.new.self p.1 ∙ ap (λ m. apply_all c.args.sink.now (own_fragments (length c.args.sink.now.labels) 0 (loop_node m (tree inside c.args.body.now) empty))) c.bits-mask.ensures.value ∙ ap (λ (e : Emission). apply_all c.args.sink.now (own_fragments (length c.args.sink.now.labels) 0 (loop_node c.args.cond (tree e c.args.body.now) empty))) c.clear_post_insn.ensures)
+    on_both _ c.bind_label-2.result c.bind_label-2.ensures.answer (λ p. l.after c.bind_label-2.new.self p.1 ∙ ap (λ m. apply_all c.args.sink.now (own_fragments (length c.args.sink.now.labels) 0 (loop_node m (members_of c.args.flags inside c.args.body.now) empty))) c.bits-mask.ensures.value
+    ∙ ap (λ (e : Emission). apply_all c.args.sink.now (own_fragments (length c.args.sink.now.labels) 0 (loop_node c.args.cond (members_of c.args.flags e c.args.body.now) empty))) c.clear_post_insn.ensures)
 
 pub emit_loop-returns-clause-kept : goal.emit_loop-returns-clause-kept
 emit_loop-returns-clause-kept t c =
@@ -136,11 +183,11 @@ pub emit_loop-returns-in_err-start_step-clause-lacks : goal.emit_loop-returns-in
 emit_loop-returns-in_err-start_step-clause-lacks t c = λ after p.
     let inside = c.clear_post_insn.new.self in
     let same : inside ≡ without_map c.args.state.now = c.clear_post_insn.ensures in
-    let q = subst (λ (e : Emission). TreePassed c.args.flags c.args.sink.now after e.nominal c.args.depth (loop_node c.args.cond (tree e c.args.body.now) empty)) (sym same) p in
-    let l = loop_passed c.args.flags c.args.sink.now after inside.nominal c.args.depth c.args.cond (tree inside c.args.body.now) q in
+    let q = subst (λ (e : Emission). TreePassed c.args.flags c.args.sink.now after e.nominal c.args.depth (loop_node c.args.cond (members_of c.args.flags e c.args.body.now) empty)) (sym same) p in
+    let l = loop_passed c.args.flags c.args.sink.now after inside.nominal c.args.depth c.args.cond (members_of c.args.flags inside c.args.body.now) q in
     lacks_again c.from_residual-in_err-start_step.result _ c.from_residual-in_err-start_step.ensures.1
     (fails_with_none _ _ (mark_none c.emit_members.new.sink (members_unpoisoned c.args.sink.now c.get_label.new.self c.get_label-2.new.self
-    c.bind_label.new.self c.emit_members.new.sink c.in_ok-start.start.0 c.in_ok-end.end.0 (tree inside c.args.body.now)
+    c.bind_label.new.self c.emit_members.new.sink c.in_ok-start.start.0 c.in_ok-end.end.0 (members_of c.args.flags inside c.args.body.now)
     c.in_ok-start.ensures.answer.2 c.in_ok-end.ensures.answer.2 c.in_ok-bind_label.ensures.answer.1 c.in_ok-emit_members.ensures.answer
     ∙ l.unpoisoned)) c.in_err-start_step.ensures.answer.0)
 
@@ -148,12 +195,12 @@ pub emit_loop-returns-in_err-put_branch-clause-lacks : goal.emit_loop-returns-in
 emit_loop-returns-in_err-put_branch-clause-lacks t c = λ after p.
     let inside = c.clear_post_insn.new.self in
     let same : inside ≡ without_map c.args.state.now = c.clear_post_insn.ensures in
-    let q = subst (λ (e : Emission). TreePassed c.args.flags c.args.sink.now after e.nominal c.args.depth (loop_node c.args.cond (tree e c.args.body.now) empty)) (sym same) p in
-    let l = loop_passed c.args.flags c.args.sink.now after inside.nominal c.args.depth c.args.cond (tree inside c.args.body.now) q in
+    let q = subst (λ (e : Emission). TreePassed c.args.flags c.args.sink.now after e.nominal c.args.depth (loop_node c.args.cond (members_of c.args.flags e c.args.body.now) empty)) (sym same) p in
+    let l = loop_passed c.args.flags c.args.sink.now after inside.nominal c.args.depth c.args.cond (members_of c.args.flags inside c.args.body.now) q in
     let b = body_turns c.args.sink.now c.get_label.new.self c.get_label-2.new.self c.bind_label.new.self c.emit_members.new.sink c.start_step.new.self
-    c.in_ok-start.start.0 c.in_ok-end.end.0 (tree inside c.args.body.now) c.in_ok-start.ensures.answer.2
+    c.in_ok-start.start.0 c.in_ok-end.end.0 (members_of c.args.flags inside c.args.body.now) c.in_ok-start.ensures.answer.2
     c.in_ok-end.ensures.answer.2 c.in_ok-bind_label.ensures.answer.1 c.in_ok-emit_members.ensures.answer c.in_ok-start_step.ensures.answer.1 in
-    lacks_again c.from_residual-in_err-put_branch.result _ c.from_residual-in_err-put_branch.ensures.1 (c.in_err-put_branch.ensures.lacks (back_passed c.args.flags c.args.sink.now c.start_step.new.self c.in_ok-start.start.0 inside.nominal c.args.depth (tree inside c.args.body.now) l b c.in_ok-start.ensures.answer.1))
+    lacks_again c.from_residual-in_err-put_branch.result _ c.from_residual-in_err-put_branch.ensures.1 (c.in_err-put_branch.ensures.lacks (back_passed c.args.flags c.args.sink.now c.start_step.new.self c.in_ok-start.start.0 inside.nominal c.args.depth (members_of c.args.flags inside c.args.body.now) l b c.in_ok-start.ensures.answer.1))
 
 pub emit_loop-returns-in_err-put_branch-clause-kept : goal.emit_loop-returns-in_err-put_branch-clause-kept
 emit_loop-returns-in_err-put_branch-clause-kept t c =
@@ -177,12 +224,12 @@ pub emit_loop-returns-clause-lacks : goal.emit_loop-returns-clause-lacks
 emit_loop-returns-clause-lacks t c = λ after p.
     let inside = c.clear_post_insn.new.self in
     let same : inside ≡ without_map c.args.state.now = c.clear_post_insn.ensures in
-    let q = subst (λ (e : Emission). TreePassed c.args.flags c.args.sink.now after e.nominal c.args.depth (loop_node c.args.cond (tree e c.args.body.now) empty)) (sym same) p in
-    let l = loop_passed c.args.flags c.args.sink.now after inside.nominal c.args.depth c.args.cond (tree inside c.args.body.now) q in
+    let q = subst (λ (e : Emission). TreePassed c.args.flags c.args.sink.now after e.nominal c.args.depth (loop_node c.args.cond (members_of c.args.flags e c.args.body.now) empty)) (sym same) p in
+    let l = loop_passed c.args.flags c.args.sink.now after inside.nominal c.args.depth c.args.cond (members_of c.args.flags inside c.args.body.now) q in
     let b = body_turns c.args.sink.now c.get_label.new.self c.get_label-2.new.self c.bind_label.new.self c.emit_members.new.sink c.start_step.new.self
-    c.in_ok-start.start.0 c.in_ok-end.end.0 (tree inside c.args.body.now) c.in_ok-start.ensures.answer.2
+    c.in_ok-start.start.0 c.in_ok-end.end.0 (members_of c.args.flags inside c.args.body.now) c.in_ok-start.ensures.answer.2
     c.in_ok-end.ensures.answer.2 c.in_ok-bind_label.ensures.answer.1 c.in_ok-emit_members.ensures.answer c.in_ok-start_step.ensures.answer.1 in
-    let end = end_below c.args.sink.now c.get_label.new.self c.start_step.new.self c.put_branch.new.sink c.bits-mask.result c.in_ok-start.start.0 c.in_ok-end.end.0 c.args.depth (tree inside c.args.body.now) c.in_ok-start.ensures.answer.2 c.in_ok-end.ensures.answer.1 b c.in_ok-put_branch.ensures.answer in
+    let end = end_below c.args.sink.now c.get_label.new.self c.start_step.new.self c.put_branch.new.sink c.bits-mask.result c.in_ok-start.start.0 c.in_ok-end.end.0 c.args.depth (members_of c.args.flags inside c.args.body.now) c.in_ok-start.ensures.answer.2 c.in_ok-end.ensures.answer.1 b c.in_ok-put_branch.ensures.answer in
     lacks_call _ _ _ c.bind_label-2.result c.bind_label-2.ensures.answer (label_none c.put_branch.new.sink c.in_ok-end.end.0 (ap (λ x. x.failed) c.in_ok-put_branch.ensures.answer ∙ b.unpoisoned ∙ l.unpoisoned) end)
 
 pub emit_loop-returns-clause-cause : goal.emit_loop-returns-clause-cause
@@ -190,19 +237,19 @@ emit_loop-returns-clause-cause t c =
     let inside = c.clear_post_insn.new.self in
     let s = c.args.sink.now in
     let opens = sym c.loop_cause.ensures.cause ∙ c.in_default.is in
-    let none = loop_none c.args.flags s c.get_label.new.self c.get_label-2.new.self c.bind_label.new.self c.in_ok-start.start.0 inside.nominal c.args.depth c.args.cond (tree inside c.args.body.now) c.in_ok-start.ensures.answer.2 c.in_ok-end.ensures.answer.2 c.in_ok-bind_label.ensures.answer.1 opens c.in_ok-emit_members.ensures.cause.0 in
-    on_both _ c.bind_label-2.result c.bind_label-2.ensures.answer (λ _. subst (λ (e : Emission). tree_cause c.args.flags (declared_in s) (length s.labels) e.nominal c.args.depth (loop_node c.args.cond (tree e c.args.body.now) empty) ≡ None) c.clear_post_insn.ensures none)
+    let none = loop_none c.args.flags s c.get_label.new.self c.get_label-2.new.self c.bind_label.new.self c.in_ok-start.start.0 inside.nominal c.args.depth c.args.cond (members_of c.args.flags inside c.args.body.now) c.in_ok-start.ensures.answer.2 c.in_ok-end.ensures.answer.2 c.in_ok-bind_label.ensures.answer.1 opens c.in_ok-emit_members.ensures.cause.0 in
+    on_both _ c.bind_label-2.result c.bind_label-2.ensures.answer (λ _. subst (λ (e : Emission). tree_cause c.args.flags (declared_in s) (length s.labels) e.nominal c.args.depth (loop_node c.args.cond (members_of c.args.flags e c.args.body.now) empty) ≡ None) c.clear_post_insn.ensures none)
 
 pub emit_loop-returns-in_err-emit_members-clause-lacks : goal.emit_loop-returns-in_err-emit_members-clause-lacks
 emit_loop-returns-in_err-emit_members-clause-lacks t c = λ after p.
     let inside = c.clear_post_insn.new.self in
     let same : inside ≡ without_map c.args.state.now = c.clear_post_insn.ensures in
-    let q = subst (λ (e : Emission). TreePassed c.args.flags c.args.sink.now after e.nominal c.args.depth (loop_node c.args.cond (tree e c.args.body.now) empty)) (sym same) p in
+    let q = subst (λ (e : Emission). TreePassed c.args.flags c.args.sink.now after e.nominal c.args.depth (loop_node c.args.cond (members_of c.args.flags e c.args.body.now) empty)) (sym same) p in
     let s = c.args.sink.now in
-    let l = loop_passed c.args.flags s after inside.nominal c.args.depth c.args.cond (tree inside c.args.body.now) q in
+    let l = loop_passed c.args.flags s after inside.nominal c.args.depth c.args.cond (members_of c.args.flags inside c.args.body.now) q in
     let a = draw_turns s c.get_label.new.self c.in_ok-start.ensures.answer.2 in
     let b = draw_turns c.get_label.new.self c.get_label-2.new.self c.in_ok-end.ensures.answer.2 in
     let o = bind_turns c.get_label-2.new.self c.bind_label.new.self c.in_ok-start.start.0 c.in_ok-bind_label.ensures.answer.1 in
     let turns = turns_on _ _ _ _ _ _ _ (turns_on _ _ _ _ _ _ _ a b) o in
     let below : c.in_ok-end.end.0 < length c.bind_label.new.self.labels = omega (arith, c.in_ok-end.ensures.answer.1, b.labels, o.labels) in
-    lacks_again c.from_residual-in_err-emit_members.result _ c.from_residual-in_err-emit_members.ensures.1 (c.in_err-emit_members.ensures.lacks (inner_passed c.args.flags s c.bind_label.new.self inside.nominal c.args.depth c.in_ok-end.end.0 0 (tree inside c.args.body.now) l turns below))
+    lacks_again c.from_residual-in_err-emit_members.result _ c.from_residual-in_err-emit_members.ensures.1 (c.in_err-emit_members.ensures.lacks (inner_passed c.args.flags s c.bind_label.new.self inside.nominal c.args.depth c.in_ok-end.end.0 0 (members_of c.args.flags inside c.args.body.now) l turns below))

@@ -12,4 +12,4 @@ returns-in-Ok-clause-linked c =
     linked_by c.args.base c.args.job.now c.args.code.now c.link.result _ (rw symbols at c.link.ensures.answer)
 
 pub link-requires : goal.link-requires
-link-requires c = relocs_lie (folded_trees_of c.args.job.now.state c.args.job.now.function) (constants_of c.args.job.now.function) c.args.code.now c.requires.emitted
+link-requires c = relocs_lie (folded_trees_of c.args.job.now.info.isa_flags c.args.job.now.state c.args.job.now.function) (constants_of c.args.job.now.function) c.args.code.now c.requires.emitted

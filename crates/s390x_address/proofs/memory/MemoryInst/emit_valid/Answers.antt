@@ -1,9 +1,9 @@
-use Rattle.std.proofs.Common.{◌≡◌, Bool, true, false, None, Some, cond, sym, ap, subst, ◌∙◌, ◌||◌, ◌&&◌, not}
+use Rattle.std.proofs.Common.{◌≡◌, Bool, true, false, None, Some, cond, sym, ap, subst, ◌∙◌, ◌||◌, not}
 use Rattle.std.proofs.lemmas.Bool.{and_parts}
 use Rattle.s390x_buffer.specs.State.{put_cause}
 use Rattle.s390x_typed_steps.specs.Causes.{declared_in, operand_cause}
 use Rattle.s390x_typed_steps.specs.Memory.{type_of, fault_code}
-use Rattle.s390x_typed_steps.specs.Operands.{finalized, operand_general}
+use Rattle.s390x_typed_steps.specs.Operands.{finalized}
 use Rattle.s390x_typed_steps.specs.Parts.{finalized_parts, parts_size}
 use Rattle.s390x_address.specs.Appended.{appended}
 use Rattle.s390x_address.specs.Plans.{finalized_of}

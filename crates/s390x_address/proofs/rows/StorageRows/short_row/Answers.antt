@@ -1,4 +1,4 @@
-use Rattle.std.proofs.Common.{◌∙◌, ap, sym, ◌&&◌}
+use Rattle.std.proofs.Common.{◌∙◌, ap, sym}
 use Rattle.std.proofs.lemmas.Bool.{and_parts}
 use Rattle.s390x_enc.specs.Operands.{may_stand_first}
 use Rattle.s390x_address.specs.Rows.{rows_encode}
