@@ -341,7 +341,9 @@ class RandomJob:
         return b"".join(interesting(self.rng, 64).to_bytes(8, "big") for _ in range(REGION // 8))
 
     def heading(self):
-        lines = ["flags mie3 mie4 vxrs_ext2 vxrs_ext3", f"frame SystemV {' '.join(str(8 * self.rng.randrange(4)) for _ in range(6))} - 0"]
+        # A third is for a machine without relative loads, stores and compares.
+        flags = "flags mie3 mie4 vxrs_ext2 vxrs_ext3" + self.rng.choice(["", "", " norel"])
+        lines = [flags, f"frame SystemV {' '.join(str(8 * self.rng.randrange(4)) for _ in range(6))} - 0"]
         for _ in range(self.constants):
             lines.append(f"const 8 {self.rng.randbytes(64).hex()}")
         return lines + [f"symbol u1 {SYMBOL + MIDDLE}"]

@@ -43,6 +43,7 @@ impl<'a> Cursor<'a> {
     }
 
     /// The word after one mark.
+    #[inline(always)]
     pub fn word(&mut self) -> &'a [u8]
         ensures value { result.now ≡ word self.old }
         ensures after { self.new ≡ after_word self.old }

@@ -21,7 +21,7 @@ use s390x_words::bytes::{put_bytes, put_facilities, put_vector};
 use s390x_words::calls::{put_reloc, put_target, put_try};
 use s390x_words::list::put_list;
 use s390x_words::memory::put_memory;
-use s390x_words::number::{put, put_integer, put_natural};
+use s390x_words::number::{put, put_char, put_integer, put_natural};
 use s390x_words::sets::set_members;
 use s390x_words::word::Word;
 use std::alloc::{AllocError, Global};
@@ -30,7 +30,7 @@ impl Part for Reg {
     ghost field = { FReg };
 
     fn put(&self, _alloc: Global, out: &mut String) -> Result<(), AllocError> {
-        put(out, " ")?;
+        put_char(out, ' ')?;
         put_reg(out, *self)
     }
 }
@@ -39,7 +39,7 @@ impl Part for Writable<Reg> {
     ghost field = { FReg };
 
     fn put(&self, _alloc: Global, out: &mut String) -> Result<(), AllocError> {
-        put(out, " ")?;
+        put_char(out, ' ')?;
         put_reg(out, self.to_reg())
     }
 }
@@ -48,7 +48,7 @@ impl Part for PReg {
     ghost field = { FReal };
 
     fn put(&self, _alloc: Global, out: &mut String) -> Result<(), AllocError> {
-        put(out, " ")?;
+        put_char(out, ' ')?;
         put_real(out, *self)
     }
 }
@@ -57,9 +57,9 @@ impl Part for RegPair {
     ghost field = { λ p. FPair p.hi p.lo };
 
     fn put(&self, _alloc: Global, out: &mut String) -> Result<(), AllocError> {
-        put(out, " ")?;
+        put_char(out, ' ')?;
         put_reg(out, self.hi)?;
-        put(out, "/")?;
+        put_char(out, '/')?;
         put_reg(out, self.lo)
     }
 }
@@ -68,9 +68,9 @@ impl Part for WritableRegPair {
     ghost field = { λ p. FPair p.hi p.lo };
 
     fn put(&self, _alloc: Global, out: &mut String) -> Result<(), AllocError> {
-        put(out, " ")?;
+        put_char(out, ' ')?;
         put_reg(out, self.hi.to_reg())?;
-        put(out, "/")?;
+        put_char(out, '/')?;
         put_reg(out, self.lo.to_reg())
     }
 }
@@ -79,7 +79,7 @@ impl Part for ALUOp {
     ghost field = { FAlu };
 
     fn put(&self, _alloc: Global, out: &mut String) -> Result<(), AllocError> {
-        put(out, " ")?;
+        put_char(out, ' ')?;
         put(out, self.text())
     }
 }
@@ -88,7 +88,7 @@ impl Part for CmpOp {
     ghost field = { FCmp };
 
     fn put(&self, _alloc: Global, out: &mut String) -> Result<(), AllocError> {
-        put(out, " ")?;
+        put_char(out, ' ')?;
         put(out, self.text())
     }
 }
@@ -97,7 +97,7 @@ impl Part for ShiftOp {
     ghost field = { FShift };
 
     fn put(&self, _alloc: Global, out: &mut String) -> Result<(), AllocError> {
-        put(out, " ")?;
+        put_char(out, ' ')?;
         put(out, self.text())
     }
 }
@@ -106,7 +106,7 @@ impl Part for RxSBGOp {
     ghost field = { FRxsbg };
 
     fn put(&self, _alloc: Global, out: &mut String) -> Result<(), AllocError> {
-        put(out, " ")?;
+        put_char(out, ' ')?;
         put(out, self.text())
     }
 }
@@ -115,7 +115,7 @@ impl Part for UnaryOp {
     ghost field = { FUnary };
 
     fn put(&self, _alloc: Global, out: &mut String) -> Result<(), AllocError> {
-        put(out, " ")?;
+        put_char(out, ' ')?;
         put(out, self.text())
     }
 }
@@ -124,7 +124,7 @@ impl Part for VecBinaryOp {
     ghost field = { FVecBinary };
 
     fn put(&self, _alloc: Global, out: &mut String) -> Result<(), AllocError> {
-        put(out, " ")?;
+        put_char(out, ' ')?;
         put(out, self.text())
     }
 }
@@ -133,7 +133,7 @@ impl Part for VecUnaryOp {
     ghost field = { FVecUnary };
 
     fn put(&self, _alloc: Global, out: &mut String) -> Result<(), AllocError> {
-        put(out, " ")?;
+        put_char(out, ' ')?;
         put(out, self.text())
     }
 }
@@ -142,7 +142,7 @@ impl Part for VecShiftOp {
     ghost field = { FVecShift };
 
     fn put(&self, _alloc: Global, out: &mut String) -> Result<(), AllocError> {
-        put(out, " ")?;
+        put_char(out, ' ')?;
         put(out, self.text())
     }
 }
@@ -151,7 +151,7 @@ impl Part for VecIntCmpOp {
     ghost field = { FVecCompare };
 
     fn put(&self, _alloc: Global, out: &mut String) -> Result<(), AllocError> {
-        put(out, " ")?;
+        put_char(out, ' ')?;
         put(out, self.text())
     }
 }
@@ -160,7 +160,7 @@ impl Part for VecIntEltCmpOp {
     ghost field = { FVecElementCompare };
 
     fn put(&self, _alloc: Global, out: &mut String) -> Result<(), AllocError> {
-        put(out, " ")?;
+        put_char(out, ' ')?;
         put(out, self.text())
     }
 }
@@ -169,7 +169,7 @@ impl Part for CallConv {
     ghost field = { FConvention };
 
     fn put(&self, _alloc: Global, out: &mut String) -> Result<(), AllocError> {
-        put(out, " ")?;
+        put_char(out, ' ')?;
         put(out, self.text())
     }
 }
@@ -178,7 +178,7 @@ impl Part for bool {
     ghost field = { FBool };
 
     fn put(&self, _alloc: Global, out: &mut String) -> Result<(), AllocError> {
-        put(out, " ")?;
+        put_char(out, ' ')?;
         put_bool(out, *self)
     }
 }
@@ -187,7 +187,7 @@ impl Part for u8 {
     ghost field = { FNatural W8 };
 
     fn put(&self, _alloc: Global, out: &mut String) -> Result<(), AllocError> {
-        put(out, " ")?;
+        put_char(out, ' ')?;
         put_natural(out, u64::from(*self))
     }
 }
@@ -196,7 +196,7 @@ impl Part for u16 {
     ghost field = { FNatural W16 };
 
     fn put(&self, _alloc: Global, out: &mut String) -> Result<(), AllocError> {
-        put(out, " ")?;
+        put_char(out, ' ')?;
         put_natural(out, u64::from(*self))
     }
 }
@@ -205,7 +205,7 @@ impl Part for u32 {
     ghost field = { FNatural W32 };
 
     fn put(&self, _alloc: Global, out: &mut String) -> Result<(), AllocError> {
-        put(out, " ")?;
+        put_char(out, ' ')?;
         put_natural(out, u64::from(*self))
     }
 }
@@ -214,7 +214,7 @@ impl Part for u64 {
     ghost field = { FNatural W64 };
 
     fn put(&self, _alloc: Global, out: &mut String) -> Result<(), AllocError> {
-        put(out, " ")?;
+        put_char(out, ' ')?;
         put_natural(out, *self)
     }
 }
@@ -223,7 +223,7 @@ impl Part for i8 {
     ghost field = { FInteger S8 };
 
     fn put(&self, _alloc: Global, out: &mut String) -> Result<(), AllocError> {
-        put(out, " ")?;
+        put_char(out, ' ')?;
         put_integer(out, i64::from(*self))
     }
 }
@@ -232,7 +232,7 @@ impl Part for i16 {
     ghost field = { FInteger S16 };
 
     fn put(&self, _alloc: Global, out: &mut String) -> Result<(), AllocError> {
-        put(out, " ")?;
+        put_char(out, ' ')?;
         put_integer(out, i64::from(*self))
     }
 }
@@ -241,7 +241,7 @@ impl Part for i32 {
     ghost field = { FInteger S32 };
 
     fn put(&self, _alloc: Global, out: &mut String) -> Result<(), AllocError> {
-        put(out, " ")?;
+        put_char(out, ' ')?;
         put_integer(out, i64::from(*self))
     }
 }
@@ -250,7 +250,7 @@ impl Part for SImm20 {
     ghost field = { FInteger S20 };
 
     fn put(&self, _alloc: Global, out: &mut String) -> Result<(), AllocError> {
-        put(out, " ")?;
+        put_char(out, ' ')?;
         put_integer(out, i64::from(self.value()))
     }
 }
@@ -259,9 +259,9 @@ impl Part for UImm16Shifted {
     ghost field = { λ i. FShifted W16 i.bits i.shift };
 
     fn put(&self, _alloc: Global, out: &mut String) -> Result<(), AllocError> {
-        put(out, " ")?;
+        put_char(out, ' ')?;
         put_natural(out, u64::from(self.bits))?;
-        put(out, ":")?;
+        put_char(out, ':')?;
         put_natural(out, u64::from(self.shift))
     }
 }
@@ -270,9 +270,9 @@ impl Part for UImm32Shifted {
     ghost field = { λ i. FShifted W32 i.bits i.shift };
 
     fn put(&self, _alloc: Global, out: &mut String) -> Result<(), AllocError> {
-        put(out, " ")?;
+        put_char(out, ' ')?;
         put_natural(out, u64::from(self.bits))?;
-        put(out, ":")?;
+        put_char(out, ':')?;
         put_natural(out, u64::from(self.shift))
     }
 }
@@ -281,7 +281,7 @@ impl Part for MemArg {
     ghost field = { FMemory };
 
     fn put(&self, _alloc: Global, out: &mut String) -> Result<(), AllocError> {
-        put(out, " ")?;
+        put_char(out, ' ')?;
         put_memory(out, *self)
     }
 }
@@ -290,7 +290,7 @@ impl Part for Cond {
     ghost field = { FCond };
 
     fn put(&self, _alloc: Global, out: &mut String) -> Result<(), AllocError> {
-        put(out, " ")?;
+        put_char(out, ' ')?;
         put_natural(out, u64::from(self.bits()))
     }
 }
@@ -299,7 +299,7 @@ impl Part for TrapCode {
     ghost field = { FTrap };
 
     fn put(&self, _alloc: Global, out: &mut String) -> Result<(), AllocError> {
-        put(out, " ")?;
+        put_char(out, ' ')?;
         put_trap(out, *self)
     }
 }
@@ -308,7 +308,7 @@ impl Part for MachLabel {
     ghost field = { λ l. FNatural W32 l.0 };
 
     fn put(&self, _alloc: Global, out: &mut String) -> Result<(), AllocError> {
-        put(out, " ")?;
+        put_char(out, ' ')?;
         put_natural(out, u64::from(self.0))
     }
 }
@@ -317,7 +317,7 @@ impl Part for Vec<MachLabel> {
     ghost field = { λ v. FLabels v.items };
 
     fn put(&self, _alloc: Global, out: &mut String) -> Result<(), AllocError> {
-        put(out, " ")?;
+        put_char(out, ' ')?;
         put_list(out, self)
     }
 }
@@ -326,7 +326,7 @@ impl Part for Vec<ArgPair> {
     ghost field = { λ v. FArgs v.items };
 
     fn put(&self, _alloc: Global, out: &mut String) -> Result<(), AllocError> {
-        put(out, " ")?;
+        put_char(out, ' ')?;
         put_list(out, self)
     }
 }
@@ -335,7 +335,7 @@ impl Part for Vec<RetPair> {
     ghost field = { λ v. FRets v.items };
 
     fn put(&self, _alloc: Global, out: &mut String) -> Result<(), AllocError> {
-        put(out, " ")?;
+        put_char(out, ' ')?;
         put_list(out, self)
     }
 }
@@ -344,7 +344,7 @@ impl Part for Vec<CallArgPair> {
     ghost field = { λ v. FUses v.items };
 
     fn put(&self, _alloc: Global, out: &mut String) -> Result<(), AllocError> {
-        put(out, " ")?;
+        put_char(out, ' ')?;
         put_list(out, self)
     }
 }
@@ -353,7 +353,7 @@ impl Part for Vec<CallRetPair> {
     ghost field = { λ v. FDefs v.items };
 
     fn put(&self, _alloc: Global, out: &mut String) -> Result<(), AllocError> {
-        put(out, " ")?;
+        put_char(out, ' ')?;
         put_list(out, self)
     }
 }
@@ -362,7 +362,7 @@ impl Part for PRegSet {
     ghost field = { λ p. FSet (members_of (has p)) };
 
     fn put(&self, alloc: Global, out: &mut String) -> Result<(), AllocError> {
-        put(out, " ")?;
+        put_char(out, ' ')?;
         let list = set_members(alloc, *self)?;
         put_list(out, &list)
     }
@@ -372,7 +372,7 @@ impl Part for CallInstDest {
     ghost field = { FTarget };
 
     fn put(&self, _alloc: Global, out: &mut String) -> Result<(), AllocError> {
-        put(out, " ")?;
+        put_char(out, ' ')?;
         put_target(out, *self)
     }
 }
@@ -381,7 +381,7 @@ impl Part for Option<TryCallInfo> {
     ghost field = { λ t. FTry (try_part t) };
 
     fn put(&self, _alloc: Global, out: &mut String) -> Result<(), AllocError> {
-        put(out, " ")?;
+        put_char(out, ' ')?;
         put_try(out, self)
     }
 }
@@ -390,7 +390,7 @@ impl Part for SymbolReloc {
     ghost field = { FReloc };
 
     fn put(&self, _alloc: Global, out: &mut String) -> Result<(), AllocError> {
-        put(out, " ")?;
+        put_char(out, ' ')?;
         put_reloc(out, *self)
     }
 }
@@ -399,7 +399,7 @@ impl Part for ExternalName {
     ghost field = { λ n. FName n.0 };
 
     fn put(&self, _alloc: Global, out: &mut String) -> Result<(), AllocError> {
-        put(out, " ")?;
+        put_char(out, ' ')?;
         put_name(out, *self)
     }
 }
@@ -408,7 +408,7 @@ impl Part for Vec<u8> {
     ghost field = { λ v. FBytes v.items };
 
     fn put(&self, alloc: Global, out: &mut String) -> Result<(), AllocError> {
-        put(out, " ")?;
+        put_char(out, ' ')?;
         put_bytes(alloc, out, self)
     }
 }
@@ -420,7 +420,7 @@ impl Part for Option<u32> {
         match self {
             None => put(out, " -"),
             Some(n) => {
-                put(out, " ")?;
+                put_char(out, ' ')?;
                 put_natural(out, u64::from(*n))
             }
         }
@@ -434,7 +434,7 @@ impl Part for Option<u8> {
         match self {
             None => put(out, " -"),
             Some(n) => {
-                put(out, " ")?;
+                put_char(out, ' ')?;
                 put_natural(out, u64::from(*n))
             }
         }
@@ -467,10 +467,10 @@ impl Part for GeneralStart {
     ghost field = { λ r. FStart (general r.number) r.value };
 
     fn put(&self, _alloc: Global, out: &mut String) -> Result<(), AllocError> {
-        put(out, " ")?;
+        put_char(out, ' ')?;
         put(out, "%r")?;
         put_natural(out, u64::from(self.number))?;
-        put(out, " ")?;
+        put_char(out, ' ')?;
         put_natural(out, self.value)
     }
 }
@@ -479,10 +479,10 @@ impl Part for VectorStart {
     ghost field = { λ r. FStart (vector r.number) r.value };
 
     fn put(&self, _alloc: Global, out: &mut String) -> Result<(), AllocError> {
-        put(out, " ")?;
+        put_char(out, ' ')?;
         put(out, "%v")?;
         put_natural(out, u64::from(self.number))?;
-        put(out, " ")?;
+        put_char(out, ' ')?;
         put_vector(out, self.value)
     }
 }

@@ -42,6 +42,7 @@ use s390x_words::word::find;
 use std::alloc::{AllocError, Global};
 
 impl<'a> Cursor<'a> {
+    #[inline(always)]
     pub fn reg(&mut self) -> Reg
         ensures value { result ≡ reg_of (word self.old) }
         ensures after { self.new ≡ after_word self.old }
@@ -49,6 +50,7 @@ impl<'a> Cursor<'a> {
         reg(self.word())
     }
 
+    #[inline(always)]
     pub fn written(&mut self) -> Writable<Reg>
         ensures value { result ≡ reg_of (word self.old) }
         ensures after { self.new ≡ after_word self.old }
@@ -56,6 +58,7 @@ impl<'a> Cursor<'a> {
         written(self.word())
     }
 
+    #[inline(always)]
     pub fn real(&mut self) -> PReg
         ensures value { result ≡ real_register_of (word self.old) }
         ensures after { self.new ≡ after_word self.old }
@@ -63,6 +66,7 @@ impl<'a> Cursor<'a> {
         real(self.word())
     }
 
+    #[inline(never)]
     pub fn alu(&mut self) -> ALUOp
         ensures value { result ≡ found_by_name alu_text ALL_ALU (word self.old) ALUOp.Add32 }
         ensures after { self.new ≡ after_word self.old }
@@ -70,6 +74,7 @@ impl<'a> Cursor<'a> {
         find(&ALL_ALU, self.word(), ALUOp::Add32)
     }
 
+    #[inline(never)]
     pub fn cmp(&mut self) -> CmpOp
         ensures value { result ≡ found_by_name cmp_text ALL_CMP (word self.old) CmpOp.CmpS32 }
         ensures after { self.new ≡ after_word self.old }
@@ -77,6 +82,7 @@ impl<'a> Cursor<'a> {
         find(&ALL_CMP, self.word(), CmpOp::CmpS32)
     }
 
+    #[inline(never)]
     pub fn shift_op(&mut self) -> ShiftOp
         ensures value { result ≡ found_by_name shift_text ALL_SHIFT (word self.old) ShiftOp.RotL32 }
         ensures after { self.new ≡ after_word self.old }
@@ -84,6 +90,7 @@ impl<'a> Cursor<'a> {
         find(&ALL_SHIFT, self.word(), ShiftOp::RotL32)
     }
 
+    #[inline(never)]
     pub fn rxsbg(&mut self) -> RxSBGOp
         ensures value { result ≡ found_by_name rxsbg_text ALL_RXSBG (word self.old) RxSBGOp.Insert }
         ensures after { self.new ≡ after_word self.old }
@@ -91,6 +98,7 @@ impl<'a> Cursor<'a> {
         find(&ALL_RXSBG, self.word(), RxSBGOp::Insert)
     }
 
+    #[inline(never)]
     pub fn unary(&mut self) -> UnaryOp
         ensures value { result ≡ found_by_name unary_text ALL_UNARY (word self.old) UnaryOp.Abs32 }
         ensures after { self.new ≡ after_word self.old }
@@ -98,6 +106,7 @@ impl<'a> Cursor<'a> {
         find(&ALL_UNARY, self.word(), UnaryOp::Abs32)
     }
 
+    #[inline(never)]
     pub fn vec_binary(&mut self) -> VecBinaryOp
         ensures value { result ≡ found_by_name vec_binary_text ALL_VEC_BINARY (word self.old) VecBinaryOp.Add8x16 }
         ensures after { self.new ≡ after_word self.old }
@@ -105,6 +114,7 @@ impl<'a> Cursor<'a> {
         find(&ALL_VEC_BINARY, self.word(), VecBinaryOp::Add8x16)
     }
 
+    #[inline(never)]
     pub fn vec_unary(&mut self) -> VecUnaryOp
         ensures value { result ≡ found_by_name vec_unary_text ALL_VEC_UNARY (word self.old) VecUnaryOp.Abs8x16 }
         ensures after { self.new ≡ after_word self.old }
@@ -112,6 +122,7 @@ impl<'a> Cursor<'a> {
         find(&ALL_VEC_UNARY, self.word(), VecUnaryOp::Abs8x16)
     }
 
+    #[inline(never)]
     pub fn vec_shift_op(&mut self) -> VecShiftOp
         ensures value { result ≡ found_by_name vec_shift_text ALL_VEC_SHIFT (word self.old) VecShiftOp.RotL8x16 }
         ensures after { self.new ≡ after_word self.old }
@@ -119,6 +130,7 @@ impl<'a> Cursor<'a> {
         find(&ALL_VEC_SHIFT, self.word(), VecShiftOp::RotL8x16)
     }
 
+    #[inline(never)]
     pub fn vec_compare(&mut self) -> VecIntCmpOp
         ensures value { result ≡ found_by_name vec_compare_text ALL_VEC_COMPARE (word self.old) VecIntCmpOp.CmpEq8x16 }
         ensures after { self.new ≡ after_word self.old }
@@ -126,6 +138,7 @@ impl<'a> Cursor<'a> {
         find(&ALL_VEC_COMPARE, self.word(), VecIntCmpOp::CmpEq8x16)
     }
 
+    #[inline(never)]
     pub fn vec_element_compare(&mut self) -> VecIntEltCmpOp
         ensures value { result ≡ found_by_name vec_element_compare_text ALL_VEC_ELEMENT_COMPARE (word self.old) VecIntEltCmpOp.SCmp128 }
         ensures after { self.new ≡ after_word self.old }
@@ -137,6 +150,7 @@ impl<'a> Cursor<'a> {
         )
     }
 
+    #[inline(never)]
     pub fn convention(&mut self) -> CallConv
         ensures value { result ≡ found_by_name convention_text ALL_CONVENTION (word self.old) CallConv.Fast }
         ensures after { self.new ≡ after_word self.old }
@@ -144,6 +158,7 @@ impl<'a> Cursor<'a> {
         find(&ALL_CONVENTION, self.word(), CallConv::Fast)
     }
 
+    #[inline(never)]
     pub fn truth(&mut self) -> bool
         ensures value { result ≡ bool_of (word self.old) }
         ensures after { self.new ≡ after_word self.old }
@@ -151,6 +166,7 @@ impl<'a> Cursor<'a> {
         truth(self.word())
     }
 
+    #[inline(never)]
     pub fn u8(&mut self) -> u8
         ensures value { result ≡ natural_of W8 (word self.old) }
         ensures after { self.new ≡ after_word self.old }
@@ -158,6 +174,7 @@ impl<'a> Cursor<'a> {
         natural8(self.word())
     }
 
+    #[inline(never)]
     pub fn u16(&mut self) -> u16
         ensures value { result ≡ natural_of W16 (word self.old) }
         ensures after { self.new ≡ after_word self.old }
@@ -165,6 +182,7 @@ impl<'a> Cursor<'a> {
         natural16(self.word())
     }
 
+    #[inline(never)]
     pub fn u32(&mut self) -> u32
         ensures value { result ≡ natural_of W32 (word self.old) }
         ensures after { self.new ≡ after_word self.old }
@@ -172,6 +190,7 @@ impl<'a> Cursor<'a> {
         natural32(self.word())
     }
 
+    #[inline(never)]
     pub fn u64(&mut self) -> u64
         ensures value { result ≡ natural_of W64 (word self.old) }
         ensures after { self.new ≡ after_word self.old }
@@ -179,6 +198,7 @@ impl<'a> Cursor<'a> {
         natural64(self.word())
     }
 
+    #[inline(never)]
     pub fn i8(&mut self) -> i8
         ensures value { result ≡ integer_of S8 (word self.old) }
         ensures after { self.new ≡ after_word self.old }
@@ -186,6 +206,7 @@ impl<'a> Cursor<'a> {
         integer8(self.word())
     }
 
+    #[inline(never)]
     pub fn i16(&mut self) -> i16
         ensures value { result ≡ integer_of S16 (word self.old) }
         ensures after { self.new ≡ after_word self.old }
@@ -193,6 +214,7 @@ impl<'a> Cursor<'a> {
         integer16(self.word())
     }
 
+    #[inline(never)]
     pub fn i32(&mut self) -> i32
         ensures value { result ≡ integer_of S32 (word self.old) }
         ensures after { self.new ≡ after_word self.old }
@@ -207,6 +229,7 @@ impl<'a> Cursor<'a> {
         displacement20(self.word())
     }
 
+    #[inline(never)]
     pub fn cond(&mut self) -> Cond
         ensures value { result ≡ mask_of (word self.old) }
         ensures after { self.new ≡ after_word self.old }
@@ -221,6 +244,7 @@ impl<'a> Cursor<'a> {
         trap(self.word())
     }
 
+    #[inline(always)]
     pub fn name(&mut self) -> ExternalName
         ensures value { result ≡ record { 0 = name_of (word self.old) } }
         ensures after { self.new ≡ after_word self.old }
@@ -228,6 +252,7 @@ impl<'a> Cursor<'a> {
         name(self.word())
     }
 
+    #[inline(always)]
     pub fn label(&mut self) -> MachLabel
         ensures value { result ≡ record { 0 = natural_of W32 (word self.old) } }
         ensures after { self.new ≡ after_word self.old }
@@ -242,6 +267,7 @@ impl<'a> Cursor<'a> {
         target(self.word())
     }
 
+    #[inline(always)]
     pub fn pair(&mut self) -> RegPair
         ensures value { result ≡ record { hi = reg_of (word self.old); lo = reg_of (word (after_word self.old)) } }
         ensures after { self.new ≡ after_word (after_word self.old) }
@@ -251,6 +277,7 @@ impl<'a> Cursor<'a> {
         RegPair { hi, lo }
     }
 
+    #[inline(always)]
     pub fn written_pair(&mut self) -> WritableRegPair
         ensures value { result ≡ record { hi = reg_of (word self.old); lo = reg_of (word (after_word self.old)) } }
         ensures after { self.new ≡ after_word (after_word self.old) }
@@ -260,6 +287,7 @@ impl<'a> Cursor<'a> {
         WritableRegPair { hi, lo }
     }
 
+    #[inline(always)]
     pub fn shifted16(&mut self) -> UImm16Shifted
         ensures value { result ≡ record { bits = natural_of W16 (word self.old); shift = natural_of W8 (word (after_word self.old)) } }
         ensures after { self.new ≡ after_word (after_word self.old) }
@@ -269,6 +297,7 @@ impl<'a> Cursor<'a> {
         UImm16Shifted { bits, shift }
     }
 
+    #[inline(always)]
     pub fn shifted32(&mut self) -> UImm32Shifted
         ensures value { result ≡ record { bits = natural_of W32 (word self.old); shift = natural_of W8 (word (after_word self.old)) } }
         ensures after { self.new ≡ after_word (after_word self.old) }
@@ -286,6 +315,7 @@ impl<'a> Cursor<'a> {
         *self = Cursor::new(left);
     }
 
+    #[inline(never)]
     pub fn memory(&mut self) -> MemArg
         ensures value { result ≡ memory_operand_of self.old }
         ensures after { self.new ≡ past 41 self.old }

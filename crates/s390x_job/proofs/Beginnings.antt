@@ -13,15 +13,17 @@ use Rattle.s390x_inst.specs.declared.calls.CallConv.TheVariants.{SystemV}
 use Rattle.s390x_inst.specs.declared.state.FrameLayout.{FrameLayout}
 use Rattle.s390x_inst.specs.declared.state.IsaFlags.{IsaFlags}
 use Rattle.s390x_lines.specs.Line.{spelled}
-use Rattle.s390x_job.specs.Items.{flags_line, frame_line, constant_line, symbol_line, register_line, memory_line}
-use Rattle.s390x_job.specs.Grammar.{may_follow, register_place, region_class, next, Header, Head}
+use Rattle.s390x_job.specs.Items.{flags_line, frame_line, constant_line, symbol_line, register_line, memory_line, block_line, end_line}
+use Rattle.s390x_job.specs.Grammar.{Place, may_follow, register_place, region_class, class, next, Header, Head}
 use Rattle.s390x_job.specs.Jobs.{plain_layout, flags_lines, frame_lines, start_lines, registers_lines, head_lines}
-use Rattle.s390x_job.specs.Builds.{IsZeroFrom, IsFull, IsBeginning, IsNext, beginning_lines}
+use Rattle.s390x_job.specs.Builds.{rank_of, IsZeroFrom, IsFull, IsBeginning, IsBegun, IsNext, beginning_lines}
 use Rattle.s390x_job.specs.declared.job.SymbolLine.{SymbolLine}
 use Rattle.s390x_job.specs.declared.job.MemLine.{MemLine}
 use Rattle.s390x_job.specs.declared.build.Beginning.{Beginning}
+use Rattle.s390x_job.specs.declared.build.Body.{Body}
+use Rattle.s390x_job.specs.declared.build.Stage.{Stage}
 use Rattle.s390x_job.specs.declared.build.Stage.TheVariants as S
-use Rattle.s390x_job.specs.declared.build.State.TheVariants.{Head as Begun}
+use Rattle.s390x_job.specs.declared.build.Progress.TheVariants as P
 use Rattle.s390x_job.specs.declared.job.StartRegs.{StartRegs}
 use Rattle.s390x_words.proofs.Members.{either}
 
@@ -111,6 +113,30 @@ none2 a b h k = rw (h, k) refl
 told_not : (b : Bool) (l : Line) → b ≡ false → (if b then [] else l ∷ []) ≡ [] → ⊥
 told_not b l n e = let k : l ∷ [] ≡ [] = ap (λ t. if t then [] else l ∷ []) (sym n) ∙ e in cc
 
+-- the beginning after one more line
+pub record IsHeadNext (ls : List Line) (p : Place) (l : Line) (b : Beginning) (stage : Stage) (bound : ℕ) : Type 0 where
+  pub state : IsBeginning (rank_of stage) bound b
+  pub lines : beginning_lines b ≡ ls ++ l ∷ []
+  pub place : next p (class l) ≡ Some (Header (rank_of stage) bound)
+
+module _ (rank bound : ℕ) (b : Body) (h : IsBegun rank bound b) where
+  pub begun : {ls : List Line} {p : Place} {l : Line} {a : Beginning} {stage : Stage} {n : ℕ} → IsHeadNext ls p l a stage n → IsNext ls p l (P.Head stage n) (record b { beginning = a })
+  begun k = record {
+    state = record { beginning = k.state; no_blocks = h.no_blocks; no_loops = h.no_loops; none_here = h.none_here };
+    lines = k.lines;
+    place = k.place;
+  }
+
+  pub block_next : IsNext (beginning_lines b.beginning) (Header rank bound) block_line P.Inside b
+  block_next = record {
+    state = h.beginning.full;
+    lines = rw (h.no_blocks, h.no_loops, h.none_here) refl;
+    place = rw h.no_loops refl;
+  }
+
+  pub end_next : IsNext (beginning_lines b.beginning) (Header rank bound) end_line P.Done b
+  end_next = record { state = h.beginning.full; lines = rw h.no_blocks refl; place = refl }
+
 module _ (rank bound : ℕ) (b : Beginning) (h : IsBeginning rank bound b) where
   no_regions : rank < 5 → map memory_line b.memory.items ≡ []
   no_regions r = ap (map memory_line) (h.no_memory r)
@@ -134,7 +160,7 @@ module _ (rank bound : ℕ) (b : Beginning) (h : IsBeginning rank bound b) where
   at_most : (r first : ℕ) → may_follow rank bound r first ≡ true → rank ≤ r
   at_most r first f = elim (ranked rank bound r first f) [ inl l ↦ omega arith | inr l ↦ omega (arith, l.0) ]
 
-  pub memory_next : (m : MemLine) (v : Vec MemLine Global) → may_follow rank bound 5 m.address ≡ true → region_class m.address (length m.bytes.items) ≡ Head 5 m.address (m.address + length m.bytes.items) → v.items ≡ b.memory.items ++ m ∷ [] → IsNext (beginning_lines b) (Header rank bound) (memory_line m) (Begun (record b { memory = v }) S.Memory (m.address + length m.bytes.items))
+  pub memory_next : (m : MemLine) (v : Vec MemLine Global) → may_follow rank bound 5 m.address ≡ true → region_class m.address (length m.bytes.items) ≡ Head 5 m.address (m.address + length m.bytes.items) → v.items ≡ b.memory.items ++ m ∷ [] → IsHeadNext (beginning_lines b) (Header rank bound) (memory_line m) (record b { memory = v }) S.Memory (m.address + length m.bytes.items)
   memory_next m v f k e = record {
     state = record {
       full = h.full;
@@ -153,7 +179,7 @@ module _ (rank bound : ℕ) (b : Beginning) (h : IsBeginning rank bound b) where
     place = ap (next (Header rank bound)) k ∙ rw f refl;
   }
 
-  pub symbol_next : (s : SymbolLine) (v : Vec SymbolLine Global) → may_follow rank bound 3 s.name.0 ≡ true → v.items ≡ b.symbols.items ++ s ∷ [] → IsNext (beginning_lines b) (Header rank bound) (symbol_line s) (Begun (record b { symbols = v }) S.Symbols (s.name.0 + 1))
+  pub symbol_next : (s : SymbolLine) (v : Vec SymbolLine Global) → may_follow rank bound 3 s.name.0 ≡ true → v.items ≡ b.symbols.items ++ s ∷ [] → IsHeadNext (beginning_lines b) (Header rank bound) (symbol_line s) (record b { symbols = v }) S.Symbols (s.name.0 + 1)
   symbol_next s v f e =
       let r = at_most 3 s.name.0 f in
       record {
@@ -174,7 +200,7 @@ module _ (rank bound : ℕ) (b : Beginning) (h : IsBeginning rank bound b) where
         place = rw f refl;
       }
 
-  pub constant_next : (k : ConstantData) (v : Vec ConstantData Global) → may_follow rank bound 2 0 ≡ true → v.items ≡ b.constants.items ++ k ∷ [] → IsNext (beginning_lines b) (Header rank bound) (constant_line k) (Begun (record b { constants = v }) S.Constants 0)
+  pub constant_next : (k : ConstantData) (v : Vec ConstantData Global) → may_follow rank bound 2 0 ≡ true → v.items ≡ b.constants.items ++ k ∷ [] → IsHeadNext (beginning_lines b) (Header rank bound) (constant_line k) (record b { constants = v }) S.Constants 0
   constant_next k v f e =
       let r = at_most 2 0 f in
       record {
@@ -199,7 +225,7 @@ module _ (rank bound : ℕ) (b : Beginning) (h : IsBeginning rank bound b) where
   below_frame : may_follow rank bound 1 0 ≡ true → rank < 1
   below_frame f = elim (ranked rank bound 1 0 f) [ inl l ↦ l | inr l ↦ absurd (omega (arith, l.1, h.framed l.0)) ]
 
-  pub frame_next : (conv : CallConv) (layout : FrameLayout) → may_follow rank bound 1 0 ≡ true → bytes_eq (spelled (frame_line conv layout).fields) (codes " SystemV 0 0 0 0 0 0 - 0") ≡ false → IsNext (beginning_lines b) (Header rank bound) (frame_line conv layout) (Begun (record b { conv = conv; layout = layout }) S.Frame 1)
+  pub frame_next : (conv : CallConv) (layout : FrameLayout) → may_follow rank bound 1 0 ≡ true → bytes_eq (spelled (frame_line conv layout).fields) (codes " SystemV 0 0 0 0 0 0 - 0") ≡ false → IsHeadNext (beginning_lines b) (Header rank bound) (frame_line conv layout) (record b { conv = conv; layout = layout }) S.Frame 1
   frame_next conv layout f n =
       let r = below_frame f in
       let tail = map constant_line b.constants.items ++ (map symbol_line b.symbols.items ++ (registers_lines b.registers ++ map memory_line b.memory.items)) in
@@ -224,7 +250,7 @@ module _ (rank bound : ℕ) (b : Beginning) (h : IsBeginning rank bound b) where
   at_start : may_follow rank bound 0 0 ≡ true → (rank ≡ 0) × (bound ≡ 0)
   at_start f = elim (ranked rank bound 0 0 f) [ inl l ↦ absurd (omega (arith, l)) | inr l ↦ (l.0, omega (arith, l.1)) ]
 
-  pub flags_next : (flags : IsaFlags) → may_follow rank bound 0 0 ≡ true → bytes_eq (spelled (flags_line flags).fields) [] ≡ false → IsNext (beginning_lines b) (Header rank bound) (flags_line flags) (Begun (record b { flags = flags }) S.Flags 1)
+  pub flags_next : (flags : IsaFlags) → may_follow rank bound 0 0 ≡ true → bytes_eq (spelled (flags_line flags).fields) [] ≡ false → IsHeadNext (beginning_lines b) (Header rank bound) (flags_line flags) (record b { flags = flags }) S.Flags 1
   flags_next flags f n =
       let r = at_start f in
       let tail = frame_lines b.conv b.layout ++ (map constant_line b.constants.items ++ (map symbol_line b.symbols.items ++ (registers_lines b.registers ++ map memory_line b.memory.items))) in
@@ -253,7 +279,7 @@ module _ (rank bound : ℕ) (b : Beginning) (h : IsBeginning rank bound b) where
       ]
 
   registers_next : (x : RealRegister) (v first : ℕ) (r : StartRegs) → register_place x ≡ first → (v == 0) ≡ false → may_follow rank bound 4 first ≡ true → IsFull b.conv b.layout r →
-      IsZeroFrom (first + 1) r → registers_lines r ≡ registers_lines b.registers ++ register_line x v ∷ [] → IsNext (beginning_lines b) (Header rank bound) (register_line x v) (Begun (record b { registers = r }) S.Registers (first + 1))
+      IsZeroFrom (first + 1) r → registers_lines r ≡ registers_lines b.registers ++ register_line x v ∷ [] → IsHeadNext (beginning_lines b) (Header rank bound) (register_line x v) (record b { registers = r }) S.Registers (first + 1)
   registers_next x v first r p n f full z e =
       let m = h.no_memory (omega (arith, at_most 4 first f)) in
       let tail = map memory_line b.memory.items in
@@ -274,7 +300,7 @@ module _ (rank bound : ℕ) (b : Beginning) (h : IsBeginning rank bound b) where
         place = rw n (ap (λ k. if may_follow rank bound 4 k then Some (Header 4 (k + 1)) else None) p ∙ rw f refl);
       }
 
-  pub general_next : (i v : ℕ) → i < 16 → (v == 0) ≡ false → may_follow rank bound 4 i ≡ true → IsNext (beginning_lines b) (Header rank bound) (register_line (general i) v) (Begun (record b { registers = record b.registers { general = set b.registers.general i v } }) S.Registers (i + 1))
+  pub general_next : (i v : ℕ) → i < 16 → (v == 0) ≡ false → may_follow rank bound 4 i ≡ true → IsHeadNext (beginning_lines b) (Header rank bound) (register_line (general i) v) (record b { registers = record b.registers { general = set b.registers.general i v } }) S.Registers (i + 1)
   general_next i v small n f =
       let z = zeros i f in
       let g = b.registers.general in
@@ -285,7 +311,7 @@ module _ (rank bound : ℕ) (b : Beginning) (h : IsBeginning rank bound b) where
       (record { general_zero = zero_after g i v z.general_zero; vector_zero = λ j k. z.vector_zero j (omega arith) })
       (ap (λ t. t ++ start_lines vector 0 b.registers.vector) one ∙ more1 (register_line (general i) v) (start_lines general 0 g) (start_lines vector 0 b.registers.vector) rest)
 
-  pub vector_next : (i v : ℕ) → i < 32 → (v == 0) ≡ false → may_follow rank bound 4 (16 + i) ≡ true → IsNext (beginning_lines b) (Header rank bound) (register_line (vector i) v) (Begun (record b { registers = record b.registers { vector = set b.registers.vector i v } }) S.Registers (16 + i + 1))
+  pub vector_next : (i v : ℕ) → i < 32 → (v == 0) ≡ false → may_follow rank bound 4 (16 + i) ≡ true → IsHeadNext (beginning_lines b) (Header rank bound) (register_line (vector i) v) (record b { registers = record b.registers { vector = set b.registers.vector i v } }) S.Registers (16 + i + 1)
   vector_next i v small n f =
       let z = zeros (16 + i) f in
       let g = b.registers.vector in

@@ -1,8 +1,10 @@
 -- What one more line adds.
-use Rattle.std.proofs.Common.{◌≡◌, ℕ, List, [], ◌∷◌, ◌++◌, map, refl, sym, ap, ◌∙◌, append_assoc, append-nil, Vec, Global}
+use Rattle.std.proofs.Common.{◌≡◌, ℕ, suc, ◌<◌, true, List, [], ◌∷◌, ◌++◌, length, map, refl, sym, ap, ◌∙◌, arith, append_assoc, append-nil, Vec, Global}
+use Rattle.std.specs.Prelude.{Some, nat_lt}
+use Rattle.std.proofs.lemmas.Bool.Decides.{nat_tests}
 use Rattle.s390x_lines.specs.Line.{Line}
 use Rattle.s390x_lines.specs.Instructions.{inst_line}
-use Rattle.s390x_job.specs.Grammar.{class, Instruction}
+use Rattle.s390x_job.specs.Grammar.{class, next, Within, AtEnd, OpenBlock, OpenLoop as OpenLoop', CloseLoop, CloseJob, Instruction}
 use Rattle.s390x_job.specs.Items.{block_line, loop_line, close_line}
 use Rattle.s390x_job.specs.Jobs.{inst_lines, insts_lines, blocks_lines}
 use Rattle.s390x_job.specs.Builds.{open_lines}
@@ -55,3 +57,36 @@ one_frame fs f = open_append fs (f ∷ [])
 
 pub one_block : (bs : List Block) (h : Block) → blocks_lines (bs ++ h ∷ []) ≡ blocks_lines bs ++ (block_line ∷ insts_lines h.insts.items)
 one_block bs h = blocks_append bs (h ∷ []) ∙ ap (λ t. blocks_lines bs ++ (block_line ∷ t)) (append-nil (insts_lines h.insts.items))
+
+abbrev pub block_of : Vec Inst Global → Block
+block_of v = record { insts = v }
+
+abbrev pub loop_of : ℕ → Vec Inst Global → OpenLoop
+loop_of c v = record { cond = c; before = v }
+
+-- a block ends before a line
+pub shut_lines : (s : List Line) (bs ns : List Block) (fs : List OpenLoop) (h v : Vec Inst Global) (l : Line) → fs ≡ [] → v ≡ h → ns ≡ bs ++ block_of v ∷ [] → s ++ (blocks_lines ns ++ l ∷ []) ≡ (s ++ (blocks_lines bs ++ (block_line ∷ (open_lines fs ++ insts_lines h.items)))) ++ l ∷ []
+shut_lines s bs ns fs h v l f e k =
+    ap (λ t. s ++ (blocks_lines t ++ l ∷ [])) (k ∙ ap (λ (t : Vec Inst Global). bs ++ block_of t ∷ []) e)
+    ∙ ap (λ t. s ++ (t ++ l ∷ [])) (one_block bs (block_of h))
+    ∙ at_block s (blocks_lines bs) [] (insts_lines h.items) l
+    ∙ ap (λ t. (s ++ (blocks_lines bs ++ (block_line ∷ (open_lines t ++ insts_lines h.items)))) ++ l ∷ []) (sym f)
+
+pub none_open : (fs : List OpenLoop) (v n : Vec Inst Global) → fs ≡ [] → v ≡ n → n.items ≡ [] → open_lines fs ++ insts_lines v.items ≡ []
+none_open fs v n f e g = ap (λ t. open_lines t ++ insts_lines v.items) f ∙ ap (λ (t : Vec Inst Global). insts_lines t.items) e ∙ ap insts_lines g
+
+-- where a line leads within a block
+pub to_block : (fs : List OpenLoop) → fs ≡ [] → next (Within (length fs)) OpenBlock ≡ Some (Within (length fs))
+to_block fs f = rw f refl
+
+pub to_end : (fs : List OpenLoop) → fs ≡ [] → next (Within (length fs)) CloseJob ≡ Some AtEnd
+to_end fs f = rw f refl
+
+few : (d : ℕ) → d < 9 → nat_lt d 9 ≡ true
+few d h = grind (arith, nat_tests)
+
+pub to_open : (d e : ℕ) → d < 9 → e ≡ suc d → next (Within d) OpenLoop' ≡ Some (Within e)
+to_open d e h k = rw (k, few d h) refl
+
+pub to_close : (d e : ℕ) → d ≡ suc e → next (Within d) CloseLoop ≡ Some (Within e)
+to_close d e k = rw k refl

@@ -1,5 +1,5 @@
 -- A job is read exactly.
-use Rattle.std.proofs.Common.{◌≡◌, ℕ, ◌<◌, ◌≤◌, Bool, true, false, List, [], ◌∷◌, ◌++◌, length, Option, Some, None, refl, sym, ap, ◌∙◌, subst, inl, inr, ◌⊎◌, arith, append_assoc, append-nil, length-append}
+use Rattle.std.proofs.Common.{◌≡◌, ℕ, suc, ◌+◌, ◌<◌, ◌≤◌, Bool, true, false, List, [], ◌∷◌, ◌++◌, length, drop, Option, Some, None, refl, sym, ap, ◌∙◌, subst, inl, inr, ◌⊎◌, arith, append_assoc, append-nil, length-append}
 use Rattle.std.specs.Prelude.{◌==◌, Result, Ok, Err, IfOk}
 use Rattle.std.proofs.lemmas.Bool.Decides.{nat_tests}
 use Rattle.s390x_words.specs.Marks.{upto, past}
@@ -140,6 +140,16 @@ accept bytes j rest i w n =
 pub either : (b : Bool) → (b ≡ true) ⊎ (b ≡ false)
 either true = inl refl
 either false = inr refl
+
+-- what stands behind a line begins at its length
+behind_line : (c : ℕ) (s : List ℕ) → drop (suc (length (upto c s))) s ≡ past c s
+behind_line c [] = refl
+behind_line c (x ∷ s) = elim (either (x == c)) [ inl e ↦ rw e refl | inr e ↦ rw e (behind_line c s) ]
+
+pub behind : (s t w : List ℕ) → t ≡ drop (length w + 1) s → w ≡ upto 10 s → t ≡ past 10 s
+behind s t w e f =
+    let p : length w + 1 ≡ suc (length (upto 10 s)) = omega (arith, ap length f) in
+    e ∙ ap (λ n. drop n s) p ∙ behind_line 10 s
 
 pub cut : (c : ℕ) (s : List ℕ) → (length (upto c s) ≡ length s → ⊥) → s ≡ upto c s ++ (c ∷ past c s)
 cut c [] h = absurd (h refl)

@@ -1,7 +1,7 @@
 -- The lines that a half-built job has had.
 use Rattle.std.specs.Prelude.{◌≡◌, ℕ, ◌+◌, ◌<◌, ◌≤◌, Option, Some, None, List, [], ◌∷◌, ◌++◌, length, get_or}
 use Rattle.s390x_lines.specs.Line.{Line}
-use Rattle.s390x_job.specs.Items.{block_line, loop_line}
+use Rattle.s390x_job.specs.Items.{block_line, loop_line, end_line}
 use Rattle.s390x_job.specs.Jobs.{IsTold, insts_lines, blocks_lines, flags_lines, frame_lines, head_lines, job_lines}
 use Rattle.s390x_job.specs.Grammar.{Place, Header, Within, AtEnd, next, class}
 use Rattle.s390x_inst.specs.State.{fresh_emission}
@@ -14,8 +14,8 @@ use Rattle.s390x_job.specs.declared.build.OpenLoop.{OpenLoop}
 use Rattle.s390x_job.specs.declared.build.Body.{Body}
 use Rattle.s390x_job.specs.declared.build.Stage.{Stage}
 use Rattle.s390x_job.specs.declared.build.Stage.TheVariants as S
-use Rattle.s390x_job.specs.declared.build.State.{State}
-use Rattle.s390x_job.specs.declared.build.State.TheVariants.{Head, Inside, Done}
+use Rattle.s390x_job.specs.declared.build.Progress.{Progress}
+use Rattle.s390x_job.specs.declared.build.Progress.TheVariants.{Head, Inside, Done}
 
 -- the lines before the blocks, as far as they are told
 abbrev pub beginning_lines : Beginning → List Line
@@ -32,11 +32,15 @@ abbrev pub body_lines : Body → List Line
 body_lines b =
     beginning_lines b.beginning ++ (blocks_lines b.blocks.items ++ (block_line ∷ (open_lines b.loops.items ++ insts_lines b.here.items)))
 
+-- the lines of a whole job
+abbrev pub done_lines : Body → List Line
+done_lines b = beginning_lines b.beginning ++ (blocks_lines b.blocks.items ++ end_line ∷ [])
+
 -- the lines that a half-built job has had
-abbrev pub state_lines : State → List Line
-state_lines (Head b stage bound) = beginning_lines b
-state_lines (Inside b) = body_lines b
-state_lines (Done j) = job_lines j
+abbrev pub lines_at : Progress → Body → List Line
+lines_at (Head stage bound) b = beginning_lines b.beginning
+lines_at Inside b = body_lines b
+lines_at Done b = done_lines b
 
 -- the rank of each kind of line before the blocks
 abbrev pub rank_of : Stage → ℕ
@@ -48,10 +52,10 @@ rank_of S.Registers = 4
 rank_of S.Memory = 5
 
 -- where a half-built job is in the order of lines
-abbrev pub grammar_place : State → Place
-grammar_place (Head b stage bound) = Header (rank_of stage) bound
-grammar_place (Inside b) = Within (length b.loops.items)
-grammar_place (Done j) = AtEnd
+abbrev pub place_at : Progress → Body → Place
+place_at (Head stage bound) b = Header (rank_of stage) bound
+place_at Inside b = Within (length b.loops.items)
+place_at Done b = AtEnd
 
 -- both files have all their registers, and a frame without a line is the plain one
 pub record IsFull (conv : CallConv) (layout : FrameLayout) (r : StartRegs) : Type 0 where
@@ -81,19 +85,30 @@ pub record IsWhole (j : Job) : Type 0 where
   pub state : j.state ≡ fresh_emission j.state.layout j.conv
   pub full : IsFull j.conv j.state.layout j.registers
 
+-- no block has begun
+pub record IsBegun (rank bound : ℕ) (b : Body) : Type 0 where
+  pub beginning : IsBeginning rank bound b.beginning
+  pub no_blocks : b.blocks.items ≡ []
+  pub no_loops : b.loops.items ≡ []
+  pub none_here : b.here.items ≡ []
+
+-- what stands before the blocks is whole
+abbrev pub IsFullBody : Body → Type 0
+IsFullBody b = IsFull b.beginning.conv b.beginning.layout b.beginning.registers
+
 -- what holds of a half-built job
-abbrev pub IsBuildState : State → Type 0
-IsBuildState (Head b stage bound) = IsBeginning (rank_of stage) bound b
-IsBuildState (Inside b) = IsFull b.beginning.conv b.beginning.layout b.beginning.registers
-IsBuildState (Done j) = IsWhole j
+abbrev pub IsAt : Progress → Body → Type 0
+IsAt (Head stage bound) b = IsBegun (rank_of stage) bound b
+IsAt Inside b = IsFullBody b
+IsAt Done b = IsFullBody b
 
--- the state after one more line, behind the lines so far
-pub record IsNext (ls : List Line) (p : Place) (l : Line) (s : State) : Type 0 where
-  pub state : IsBuildState s
-  pub lines : state_lines s ≡ ls ++ l ∷ []
-  pub place : next p (class l) ≡ Some (grammar_place s)
+-- what is told after one more line, behind the lines so far
+pub record IsNext (ls : List Line) (p : Place) (l : Line) (q : Progress) (b : Body) : Type 0 where
+  pub state : IsAt q b
+  pub lines : lines_at q b ≡ ls ++ l ∷ []
+  pub place : next p (class l) ≡ Some (place_at q b)
 
--- the state after one more line, or none where it may not stand there
-abbrev pub Follows : List Line → Place → Line → Option State → Type 0
-Follows ls p l None = next p (class l) ≡ None
-Follows ls p l (Some s) = IsNext ls p l s
+-- what is told after one more line; none where the line may not stand there
+abbrev pub Follows : Body → List Line → Place → Line → Option Progress → Type 0
+Follows b ls p l None = next p (class l) ≡ None
+Follows b ls p l (Some q) = IsNext ls p l q b

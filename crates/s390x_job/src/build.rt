@@ -1,14 +1,13 @@
 //! A job, as far as its lines have told it.
-ghost use Rattle.std.specs.Prelude.{◌≡◌, ◌+◌, ◌^◌, ◌++◌, ◌∷◌, [], ℕ, IfOk, MatchOption, Some, None, map, length, suc, ◌<◌, ◌≤◌, if◌then◌else◌, ◌==◌, codes, IsTrue};
+ghost use Rattle.std.specs.Prelude.{◌≡◌, ◌+◌, ◌^◌, ◌++◌, ◌∷◌, [], ℕ, IfOk, OnOk, MatchOption, Some, None, map, length, suc, ◌<◌, ◌≤◌, if◌then◌else◌, ◌==◌, codes, IsTrue};
 ghost use Rattle.std.specs.Str.{bytes_eq};
 ghost use Rattle.s390x_base.specs.Registers.{general, vector};
 ghost use Rattle.s390x_lines.specs.Line.{spelled, Line};
 ghost use Rattle.s390x_job.specs.Items.{item_line, IsItem, flags_line, frame_line, constant_line, symbol_line, register_line, memory_line, block_line, loop_line, close_line, end_line};
 ghost use Rattle.s390x_job.specs.Grammar.{Place, next, class, Header, Within, AtEnd, Instruction, may_follow, Class};
-ghost use Rattle.s390x_job.specs.Jobs.{job_lines, blocks_lines};
+ghost use Rattle.s390x_job.specs.Jobs.{job_lines};
 ghost use Rattle.s390x_lines.specs.Instructions.{inst_line};
-ghost use Rattle.s390x_job.specs.Builds.{state_lines, beginning_lines, body_lines, grammar_place, rank_of, IsBuildState, IsBeginning, IsFull, IsWhole, Follows};
-ghost use Rattle.s390x_job.specs.declared.build.State.{State};
+ghost use Rattle.s390x_job.specs.Builds.{beginning_lines, body_lines, done_lines, lines_at, place_at, rank_of, IsBegun, IsFullBody, IsAt, IsWhole, IsNext, Follows};
 
 use crate::heading::{is_plain_flags, is_plain_frame};
 use crate::item::{Frame, Item};
@@ -20,6 +19,7 @@ use s390x_inst::{
     MachInstEmitState,
 };
 use std::alloc::{AllocError, Global};
+use std::mem;
 
 /// The lines before the blocks, in their order.
 #[derive(Clone, Copy)]
@@ -51,7 +51,7 @@ pub struct OpenLoop {
     pub before: Vec<Inst>,
 }
 
-/// What is known within a block.
+/// What is told so far. Before the blocks, the beginning alone.
 #[derive(Drop)]
 pub struct Body {
     pub beginning: Beginning,
@@ -60,20 +60,19 @@ pub struct Body {
     pub here: Vec<Inst>,
 }
 
-/// How far a job has been told.
-#[derive(Drop)]
-pub enum State {
+/// Where the lines of a job have come to.
+#[derive(Clone, Copy)]
+pub enum Progress {
     /// Before the blocks: the kind of the last line, and the least first number of one more of that kind.
-    Head(Beginning, Stage, u128),
-    Inside(Body),
-    Done(Job),
+    Head(Stage, u128),
+    Inside,
+    Done,
 }
 
 /// No line is told yet.
-pub fn start(alloc: Global) -> State
-    ensures state { IsBuildState result }
-    ensures lines { state_lines result ≡ [] }
-    ensures place { grammar_place result ≡ Header 0 0 }
+pub fn start(alloc: Global) -> Body
+    ensures state { IsBegun 0 0 result }
+    ensures lines { beginning_lines result.beginning ≡ [] }
 {
     let beginning = Beginning {
         flags: IsaFlags {
@@ -102,7 +101,12 @@ pub fn start(alloc: Global) -> State
         },
         memory: Vec::new(alloc),
     };
-    State::Head(beginning, Stage::Flags, 0)
+    Body {
+        beginning,
+        blocks: Vec::new(alloc),
+        loops: Vec::new(alloc),
+        here: Vec::new(alloc),
+    }
 }
 
 fn rank(stage: Stage) -> u8
@@ -128,114 +132,108 @@ fn may_stand(stage: Stage, bound: u128, kind: Stage, first: u128) -> bool
 /// The facilities of a line `flags`.
 fn head_flags(
     alloc: Global,
-    b: Beginning,
+    b: &mut Body,
     stage: Stage,
     bound: u128,
     flags: IsaFlags,
-) -> Result<Option<State>, AllocError>
-    requires { IsBeginning (rank_of stage) bound b }
-    ensures { IfOk result (Follows (beginning_lines b) (Header (rank_of stage) bound) (flags_line flags)) }
+) -> Result<Option<Progress>, AllocError>
+    requires { IsBegun (rank_of stage) bound b.old }
+    ensures { IfOk result (Follows b.new (beginning_lines b.old.beginning) (Header (rank_of stage) bound) (flags_line flags)) }
 {
     if is_plain_flags(alloc, flags)? || !may_stand(stage, bound, Stage::Flags, 0) {
         return Ok(None);
     }
-    let mut b = b;
-    b.flags = flags;
-    Ok(Some(State::Head(b, Stage::Flags, 1)))
+    b.beginning.flags = flags;
+    Ok(Some(Progress::Head(Stage::Flags, 1)))
 }
 
 fn head_frame(
     alloc: Global,
-    b: Beginning,
+    b: &mut Body,
     stage: Stage,
     bound: u128,
     frame: Frame,
-) -> Result<Option<State>, AllocError>
-    requires { IsBeginning (rank_of stage) bound b }
-    ensures { IfOk result (Follows (beginning_lines b) (Header (rank_of stage) bound) (frame_line frame.conv frame.layout)) }
+) -> Result<Option<Progress>, AllocError>
+    requires { IsBegun (rank_of stage) bound b.old }
+    ensures { IfOk result (Follows b.new (beginning_lines b.old.beginning) (Header (rank_of stage) bound) (frame_line frame.conv frame.layout)) }
 {
     if is_plain_frame(alloc, frame.conv, &frame.layout)?
         || !may_stand(stage, bound, Stage::Frame, 0)
     {
         return Ok(None);
     }
-    let mut b = b;
-    b.conv = frame.conv;
-    b.layout = frame.layout;
-    Ok(Some(State::Head(b, Stage::Frame, 1)))
+    b.beginning.conv = frame.conv;
+    b.beginning.layout = frame.layout;
+    Ok(Some(Progress::Head(Stage::Frame, 1)))
 }
 
 fn head_constant(
-    b: Beginning,
+    b: &mut Body,
     stage: Stage,
     bound: u128,
     constant: ConstantData,
-) -> Result<Option<State>, AllocError>
-    requires { IsBeginning (rank_of stage) bound b }
-    ensures { IfOk result (Follows (beginning_lines b) (Header (rank_of stage) bound) (constant_line constant)) }
+) -> Result<Option<Progress>, AllocError>
+    requires { IsBegun (rank_of stage) bound b.old }
+    ensures { IfOk result (Follows b.new (beginning_lines b.old.beginning) (Header (rank_of stage) bound) (constant_line constant)) }
 {
     if !may_stand(stage, bound, Stage::Constants, 0) {
         return Ok(None);
     }
-    let mut b = b;
-    b.constants.push(constant)?;
-    Ok(Some(State::Head(b, Stage::Constants, 0)))
+    b.beginning.constants.push(constant)?;
+    Ok(Some(Progress::Head(Stage::Constants, 0)))
 }
 
 fn head_symbol(
-    b: Beginning,
+    b: &mut Body,
     stage: Stage,
     bound: u128,
     symbol: SymbolLine,
-) -> Result<Option<State>, AllocError>
-    requires { IsBeginning (rank_of stage) bound b }
-    ensures { IfOk result (Follows (beginning_lines b) (Header (rank_of stage) bound) (symbol_line symbol)) }
+) -> Result<Option<Progress>, AllocError>
+    requires { IsBegun (rank_of stage) bound b.old }
+    ensures { IfOk result (Follows b.new (beginning_lines b.old.beginning) (Header (rank_of stage) bound) (symbol_line symbol)) }
 {
     let number = u128::from(symbol.name.0);
     if !may_stand(stage, bound, Stage::Symbols, number) {
         return Ok(None);
     }
-    let mut b = b;
-    b.symbols.push(symbol)?;
-    Ok(Some(State::Head(b, Stage::Symbols, number + 1)))
+    b.beginning.symbols.push(symbol)?;
+    Ok(Some(Progress::Head(Stage::Symbols, number + 1)))
 }
 
-fn head_general(b: Beginning, stage: Stage, bound: u128, start: GeneralStart) -> Option<State>
+fn head_general(b: &mut Body, stage: Stage, bound: u128, start: GeneralStart) -> Option<Progress>
     requires number { start.number < 16 }
-    requires beginning { IsBeginning (rank_of stage) bound b }
-    ensures { Follows (beginning_lines b) (Header (rank_of stage) bound) (register_line (general start.number) start.value) result }
+    requires beginning { IsBegun (rank_of stage) bound b.old }
+    ensures { Follows b.new (beginning_lines b.old.beginning) (Header (rank_of stage) bound) (register_line (general start.number) start.value) result }
 {
     let place = u128::from(start.number);
     if start.value == 0 || !may_stand(stage, bound, Stage::Registers, place) {
         return None;
     }
-    let mut b = b;
-    b.registers.general[start.number as usize] = start.value;
-    Some(State::Head(b, Stage::Registers, place + 1))
+    b.beginning.registers.general[start.number as usize] = start.value;
+    Some(Progress::Head(Stage::Registers, place + 1))
 }
 
-fn head_vector(b: Beginning, stage: Stage, bound: u128, start: VectorStart) -> Option<State>
+fn head_vector(b: &mut Body, stage: Stage, bound: u128, start: VectorStart) -> Option<Progress>
     requires number { start.number < 32 }
-    requires beginning { IsBeginning (rank_of stage) bound b }
-    ensures { Follows (beginning_lines b) (Header (rank_of stage) bound) (register_line (vector start.number) start.value) result }
+    requires beginning { IsBegun (rank_of stage) bound b.old }
+    ensures { Follows b.new (beginning_lines b.old.beginning) (Header (rank_of stage) bound) (register_line (vector start.number) start.value) result }
 {
     let place = 16 + u128::from(start.number);
     if !may_stand(stage, bound, Stage::Registers, place) || start.value == 0 {
         return None;
     }
-    let mut b = b;
-    b.registers.vector[start.number as usize] = start.value;
-    Some(State::Head(b, Stage::Registers, place + 1))
+    b.beginning.registers.vector[start.number as usize] = start.value;
+    Some(Progress::Head(Stage::Registers, place + 1))
 }
 
 fn head_memory(
-    b: Beginning,
+    b: &mut Body,
     stage: Stage,
     bound: u128,
     region: MemLine,
-) -> Result<Option<State>, AllocError>
-    requires { IsBeginning (rank_of stage) bound b }
-    ensures { IfOk result (Follows (beginning_lines b) (Header (rank_of stage) bound) (memory_line region)) }
+) -> Result<Option<Progress>, AllocError>
+    requires { IsBegun (rank_of stage) bound b.old }
+    ensures { IfOk result (Follows b.new (beginning_lines b.old.beginning) (Header (rank_of stage) bound) (memory_line region)) }
 {
     let address = u128::from(region.address);
     let bytes: &[u8] = &region.bytes;
@@ -244,50 +242,46 @@ fn head_memory(
     if size == 0 || 1 << 64 < end || !may_stand(stage, bound, Stage::Memory, address) {
         return Ok(None);
     }
-    let mut b = b;
-    b.memory.push(region)?;
-    Ok(Some(State::Head(b, Stage::Memory, end)))
+    b.beginning.memory.push(region)?;
+    Ok(Some(Progress::Head(Stage::Memory, end)))
 }
 
-fn head_end(alloc: Global, b: Beginning) -> State
-    requires { IsFull b.conv b.layout b.registers }
-    ensures whole { IsBuildState result }
-    ensures lines { state_lines result ≡ beginning_lines b ++ end_line ∷ [] }
-    ensures place { grammar_place result ≡ AtEnd }
-{
-    State::Done(job_of(b, Vec::new(alloc)))
-}
-
-/// The job of these blocks.
-fn job_of(b: Beginning, blocks: Vec<Block>) -> Job
-    requires { IsFull b.conv b.layout b.registers }
-    ensures lines { job_lines result ≡ beginning_lines b ++ (blocks_lines blocks.items ++ end_line ∷ []) }
+/// The whole job.
+pub fn job_of(b: Body) -> Job
+    requires { IsFullBody b }
+    ensures lines { job_lines result ≡ done_lines b }
     ensures whole { IsWhole result }
 {
+    let Body {
+        beginning,
+        blocks,
+        loops: _,
+        here: _,
+    } = b;
     Job {
         function: AllocatedFunction {
             blocks,
-            constants: b.constants,
+            constants: beginning.constants,
         },
-        info: EmitInfo::new(b.flags),
-        conv: b.conv,
-        state: EmitState::new(b.layout, b.conv),
-        symbols: b.symbols,
-        registers: b.registers,
-        memory: b.memory,
+        info: EmitInfo::new(beginning.flags),
+        conv: beginning.conv,
+        state: EmitState::new(beginning.layout, beginning.conv),
+        symbols: beginning.symbols,
+        registers: beginning.registers,
+        memory: beginning.memory,
     }
 }
 
 fn head(
     alloc: Global,
-    b: Beginning,
+    b: &mut Body,
     stage: Stage,
     bound: u128,
     i: Item,
-) -> Result<Option<State>, AllocError>
+) -> Result<Option<Progress>, AllocError>
     requires item { IsItem i }
-    requires beginning { IsBeginning (rank_of stage) bound b }
-    ensures { IfOk result (Follows (beginning_lines b) (Header (rank_of stage) bound) (item_line i)) }
+    requires beginning { IsBegun (rank_of stage) bound b.old }
+    ensures { IfOk result (Follows b.new (beginning_lines b.old.beginning) (Header (rank_of stage) bound) (item_line i)) }
 {
     match i {
         Item::Flags(flags) => head_flags(alloc, b, stage, bound, flags),
@@ -297,150 +291,87 @@ fn head(
         Item::General(start) => Ok(head_general(b, stage, bound, start)),
         Item::Vector(start) => Ok(head_vector(b, stage, bound, start)),
         Item::Memory(region) => head_memory(b, stage, bound, region),
-        Item::Block => Ok(Some(State::Inside(Body {
-            beginning: b,
-            blocks: Vec::new(alloc),
-            loops: Vec::new(alloc),
-            here: Vec::new(alloc),
-        }))),
-        Item::End => Ok(Some(head_end(alloc, b))),
+        Item::Block => Ok(Some(Progress::Inside)),
+        Item::End => Ok(Some(Progress::Done)),
         Item::Open(_) => Ok(None),
         Item::Close => Ok(None),
         Item::One(_) => Ok(None),
     }
 }
 
-/// The block ends, and one more begins.
-fn shut(alloc: Global, b: Body) -> Result<Body, AllocError>
-    requires none { b.loops.items ≡ [] }
-    requires full { IsFull b.beginning.conv b.beginning.layout b.beginning.registers }
-    ensures { IfOk result (λ r. IsFull r.beginning.conv r.beginning.layout r.beginning.registers × (body_lines r ≡ body_lines b ++ block_line ∷ []) × (r.loops.items ≡ [])) }
+/// The block ends.
+fn shut(alloc: Global, b: &mut Body) -> Result<(), AllocError>
+    requires none { b.old.loops.items ≡ [] }
+    requires full { IsFullBody b.old }
+    ensures more { OnOk result (IsNext (body_lines b.old) (Within (length b.old.loops.items)) block_line Progress.Inside b.new) }
+    ensures done { OnOk result (IsNext (body_lines b.old) (Within (length b.old.loops.items)) end_line Progress.Done b.new) }
 {
-    let Body {
-        beginning,
-        blocks,
-        loops,
-        here,
-    } = b;
-    let mut blocks = blocks;
-    blocks.push(Block { insts: here })?;
-    Ok(Body {
-        beginning,
-        blocks,
-        loops,
-        here: Vec::new(alloc),
-    })
+    let insts = mem::replace(&mut b.here, Vec::new(alloc));
+    b.blocks.push(Block { insts })?;
+    Ok(())
 }
 
-/// The block ends, and with it the job.
-fn finish(b: Body) -> Result<Job, AllocError>
-    requires none { b.loops.items ≡ [] }
-    requires full { IsFull b.beginning.conv b.beginning.layout b.beginning.registers }
-    ensures { IfOk result (λ r. IsWhole r × (job_lines r ≡ body_lines b ++ end_line ∷ [])) }
+fn open(alloc: Global, b: &mut Body, cond: Cond) -> Result<(), AllocError>
+    requires few { length b.old.loops.items < 9 }
+    requires full { IsFullBody b.old }
+    ensures { OnOk result (IsNext (body_lines b.old) (Within (length b.old.loops.items)) (loop_line cond) Progress.Inside b.new) }
 {
-    let Body {
-        beginning,
-        blocks,
-        loops: _,
-        here,
-    } = b;
-    let mut blocks = blocks;
-    blocks.push(Block { insts: here })?;
-    Ok(job_of(beginning, blocks))
+    let before = mem::replace(&mut b.here, Vec::new(alloc));
+    b.loops.push(OpenLoop { cond, before })?;
+    Ok(())
 }
 
-fn open(alloc: Global, b: Body, cond: Cond) -> Result<Body, AllocError>
-    requires { IsFull b.beginning.conv b.beginning.layout b.beginning.registers }
-    ensures { IfOk result (λ r. IsFull r.beginning.conv r.beginning.layout r.beginning.registers × (body_lines r ≡ body_lines b ++ loop_line cond ∷ []) × (length r.loops.items ≡ suc (length b.loops.items))) }
+fn close(b: &mut Body) -> Result<(), AllocError>
+    requires some { 0 < length b.old.loops.items }
+    requires full { IsFullBody b.old }
+    ensures { OnOk result (IsNext (body_lines b.old) (Within (length b.old.loops.items)) close_line Progress.Inside b.new) }
 {
-    let Body {
-        beginning,
-        blocks,
-        loops,
-        here,
-    } = b;
-    let mut loops = loops;
-    loops.push(OpenLoop { cond, before: here })?;
-    Ok(Body {
-        beginning,
-        blocks,
-        loops,
-        here: Vec::new(alloc),
-    })
-}
-
-fn close(b: Body) -> Result<Body, AllocError>
-    requires some { 0 < length b.loops.items }
-    requires full { IsFull b.beginning.conv b.beginning.layout b.beginning.registers }
-    ensures { IfOk result (λ r. IsFull r.beginning.conv r.beginning.layout r.beginning.registers × (body_lines r ≡ body_lines b ++ close_line ∷ []) × (suc (length r.loops.items) ≡ length b.loops.items)) }
-{
-    let Body {
-        beginning,
-        blocks,
-        loops,
-        here,
-    } = b;
-    let mut loops = loops;
-    match loops.pop() {
+    match b.loops.pop() {
         Some(top) => {
             let OpenLoop { cond, before } = top;
-            let mut before = before;
-            before.push(Inst::Loop { cond, body: here })?;
-            Ok(Body {
-                beginning,
-                blocks,
-                loops,
-                here: before,
-            })
+            let body = mem::replace(&mut b.here, before);
+            b.here.push(Inst::Loop { cond, body })?;
+            Ok(())
         }
         None => unreachable!(),
     }
 }
 
-fn add(b: Body, x: Inst) -> Result<Body, AllocError>
+fn add(b: &mut Body, x: Inst) -> Result<(), AllocError>
     requires one { class (inst_line x) ≡ Instruction }
-    requires full { IsFull b.beginning.conv b.beginning.layout b.beginning.registers }
-    ensures { IfOk result (λ r. IsFull r.beginning.conv r.beginning.layout r.beginning.registers × (body_lines r ≡ body_lines b ++ inst_line x ∷ []) × (length r.loops.items ≡ length b.loops.items)) }
+    requires full { IsFullBody b.old }
+    ensures { OnOk result (IsNext (body_lines b.old) (Within (length b.old.loops.items)) (inst_line x) Progress.Inside b.new) }
 {
-    let Body {
-        beginning,
-        blocks,
-        loops,
-        here,
-    } = b;
-    let mut here = here;
-    here.push(x)?;
-    Ok(Body {
-        beginning,
-        blocks,
-        loops,
-        here,
-    })
+    b.here.push(x)?;
+    Ok(())
 }
 
-fn inside(alloc: Global, b: Body, i: Item) -> Result<Option<State>, AllocError>
+fn inside(alloc: Global, b: &mut Body, i: Item) -> Result<Option<Progress>, AllocError>
     requires item { IsItem i }
-    requires full { IsFull b.beginning.conv b.beginning.layout b.beginning.registers }
-    ensures { IfOk result (Follows (body_lines b) (Within (length b.loops.items)) (item_line i)) }
+    requires full { IsFullBody b.old }
+    ensures { IfOk result (Follows b.new (body_lines b.old) (Within (length b.old.loops.items)) (item_line i)) }
 {
     match i {
         Item::Block => {
             if b.loops.is_empty() {
-                Ok(Some(State::Inside(shut(alloc, b)?)))
+                shut(alloc, b)?;
+                Ok(Some(Progress::Inside))
             } else {
                 Ok(None)
             }
         }
         Item::End => {
             if b.loops.is_empty() {
-                Ok(Some(State::Done(finish(b)?)))
+                shut(alloc, b)?;
+                Ok(Some(Progress::Done))
             } else {
                 Ok(None)
             }
         }
         Item::Open(cond) => {
             if b.loops.len() < 9 {
-                Ok(Some(State::Inside(open(alloc, b, cond)?)))
+                open(alloc, b, cond)?;
+                Ok(Some(Progress::Inside))
             } else {
                 Ok(None)
             }
@@ -449,10 +380,14 @@ fn inside(alloc: Global, b: Body, i: Item) -> Result<Option<State>, AllocError>
             if b.loops.is_empty() {
                 Ok(None)
             } else {
-                Ok(Some(State::Inside(close(b)?)))
+                close(b)?;
+                Ok(Some(Progress::Inside))
             }
         }
-        Item::One(x) => Ok(Some(State::Inside(add(b, x)?))),
+        Item::One(x) => {
+            add(b, x)?;
+            Ok(Some(Progress::Inside))
+        }
         Item::Flags(_) => Ok(None),
         Item::Frame(_) => Ok(None),
         Item::Constant(_) => Ok(None),
@@ -463,15 +398,20 @@ fn inside(alloc: Global, b: Body, i: Item) -> Result<Option<State>, AllocError>
     }
 }
 
-/// The state after one more line, or none where the line may not stand there.
-pub fn push(alloc: Global, state: State, i: Item) -> Result<Option<State>, AllocError>
+/// Adds one more line. Answers where the lines have come to, or none where the line may not stand there.
+pub fn push(
+    alloc: Global,
+    b: &mut Body,
+    progress: Progress,
+    i: Item,
+) -> Result<Option<Progress>, AllocError>
     requires item { IsItem i }
-    requires state { IsBuildState state }
-    ensures { IfOk result (Follows (state_lines state) (grammar_place state) (item_line i)) }
+    requires state { IsAt progress b.old }
+    ensures { IfOk result (Follows b.new (lines_at progress b.old) (place_at progress b.old) (item_line i)) }
 {
-    match state {
-        State::Head(b, stage, bound) => head(alloc, b, stage, bound, i),
-        State::Inside(b) => inside(alloc, b, i),
-        State::Done(_) => Ok(None),
+    match progress {
+        Progress::Head(stage, bound) => head(alloc, b, stage, bound, i),
+        Progress::Inside => inside(alloc, b, i),
+        Progress::Done => Ok(None),
     }
 }

@@ -8,10 +8,11 @@ ghost use Rattle.s390x_job.specs.Same.{SameJob};
 ghost use Rattle.s390x_job.specs.declared.job.Job.{Job};
 ghost use Rattle.s390x_job.specs.Completions.{pieces, joined, opens, closes, ends_job, ending, closing, completion, IsText, IsFirstWrong};
 
-use crate::build::{State, push, start};
+use crate::build::{Progress, Stage, job_of, push, start};
 use crate::job::{Job, LineError};
 use crate::reader::{read_item, read_job};
-use s390x_words::marks::{after, before};
+use s390x_words::marks::before;
+use s390x_words::number::tail;
 use std::alloc::{AllocError, Global};
 
 /// What a reader found: a job, or a number of lines where the text is no job's: no more of them can be completed to one.
@@ -39,7 +40,7 @@ pub fn split_lines<'a>(alloc: Global, bytes: &'a [u8]) -> Result<Vec<&'a [u8]>, 
             return Ok(v);
         }
         v.push(line)?;
-        rest = after(rest, b'\n');
+        rest = tail(rest, line.len() + 1);
     }
     Ok(v)
 }
@@ -167,7 +168,8 @@ pub fn find_job(alloc: Global, bytes: &[u8]) -> Result<Found, AllocError>
     requires { length bytes.now < 4294967295 }
     ensures { IfOk result (IsReadJob bytes.now) }
 {
-    let mut state = start(alloc);
+    let mut body = start(alloc);
+    let mut progress = Progress::Head(Stage::Flags, 0);
     let mut text = String::new(alloc);
     let mut rest = bytes;
     let mut n: usize = 0;
@@ -178,16 +180,16 @@ pub fn find_job(alloc: Global, bytes: &[u8]) -> Result<Found, AllocError>
         }
         match read_item(alloc, &mut text, line)? {
             None => return Ok(Found::Stuck(n)),
-            Some(i) => match push(alloc, state, i)? {
+            Some(i) => match push(alloc, &mut body, progress, i)? {
                 None => return Ok(Found::Stuck(n)),
-                Some(s) => state = s,
+                Some(p) => progress = p,
             },
         }
-        rest = after(rest, b'\n');
+        rest = tail(rest, line.len() + 1);
         n += 1;
     }
-    match state {
-        State::Done(j) => Ok(Found::Whole(j)),
+    match progress {
+        Progress::Done => Ok(Found::Whole(job_of(body))),
         _ => Ok(Found::Stuck(n)),
     }
 }

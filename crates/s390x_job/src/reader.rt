@@ -1,27 +1,37 @@
 //! The exact reader of lines and jobs.
 ghost use Rattle.std.specs.Prelude.{◌≡◌, ◌≢◌, List, ℕ, IfOk, MatchOption};
+ghost use Rattle.s390x_words.specs.Marks.{before_mark, from_mark};
 ghost use Rattle.s390x_lines.specs.Line.{Line, IsLine, line_text, line_of};
 ghost use Rattle.s390x_job.specs.Items.{item_line, IsItem};
 ghost use Rattle.s390x_job.specs.Jobs.{text_of_job, IsJob};
-ghost use Rattle.s390x_job.specs.Builds.{IsBuildState};
 ghost use Rattle.s390x_job.specs.declared.job.Job.{Job};
 
-use crate::build::{State, push, start};
+use crate::build::{Progress, Stage, job_of, push, start};
 use crate::item::Item;
 use crate::job::Job;
 use crate::print_line::put_item;
 use crate::read_line::item;
 use s390x_fields::cursor::Cursor;
 use s390x_lines::name::find_name;
-use s390x_words::marks::{after, back, before, front};
+use s390x_words::marks::{before, front};
+use s390x_words::number::tail;
 use std::alloc::{AllocError, Global};
+
+/// The fields of a line, behind its name.
+fn fields_of<'a>(w: &'a [u8], name: &[u8]) -> Cursor<'a>
+    requires { name.now ≡ before_mark w.now }
+    ensures { result ≡ from_mark w.now }
+{
+    Cursor::new(tail(w, name.len()))
+}
 
 fn parse(alloc: Global, w: &[u8]) -> Result<Item, AllocError>
     ensures line { IfOk result (λ i. item_line i ≡ line_of w.now) }
     ensures is { IfOk result IsItem }
 {
-    let mut fields = Cursor::new(back(w));
-    item(alloc, find_name(front(w)), &mut fields)
+    let name = front(w);
+    let mut fields = fields_of(w, name);
+    item(alloc, find_name(name), &mut fields)
 }
 
 /// The part of a job whose line this is, or none where it is no line of a job. The text is room for printing.
@@ -42,7 +52,8 @@ pub fn read_item(alloc: Global, text: &mut String, w: &[u8]) -> Result<Option<It
 pub fn read_job(alloc: Global, bytes: &[u8]) -> Result<Option<Job>, AllocError>
     ensures { IfOk result (λ o. MatchOption o ((j : Job) → IsJob j → text_of_job j ≢ bytes.now) (λ j. IsJob j × (text_of_job j ≡ bytes.now))) }
 {
-    let mut state = start(alloc);
+    let mut body = start(alloc);
+    let mut progress = Progress::Head(Stage::Flags, 0);
     let mut text = String::new(alloc);
     let mut rest = bytes;
     while !rest.is_empty() {
@@ -52,15 +63,15 @@ pub fn read_job(alloc: Global, bytes: &[u8]) -> Result<Option<Job>, AllocError>
         }
         match read_item(alloc, &mut text, line)? {
             None => return Ok(None),
-            Some(i) => match push(alloc, state, i)? {
+            Some(i) => match push(alloc, &mut body, progress, i)? {
                 None => return Ok(None),
-                Some(s) => state = s,
+                Some(p) => progress = p,
             },
         }
-        rest = after(rest, b'\n');
+        rest = tail(rest, line.len() + 1);
     }
-    match state {
-        State::Done(j) => Ok(Some(j)),
+    match progress {
+        Progress::Done => Ok(Some(job_of(body))),
         _ => Ok(None),
     }
 }

@@ -1,4 +1,4 @@
 pub mod RoundTrip
 pub mod Frees
 pub mod Contents
-pub mod Starts
+pub mod Slots

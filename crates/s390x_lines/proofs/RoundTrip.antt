@@ -40,7 +40,7 @@ vector-round_trip : (n : VectorName) → found_by_name name_text ALL_NAMES (vect
 vector-round_trip VectorIs.VecRRR = refl
 vector-round_trip n = refl
 
-name-round_trip : (n : LineName) → found_by_name name_text ALL_NAMES (name_text n) N.EndLine ≡ n
+pub name-round_trip : (n : LineName) → found_by_name name_text ALL_NAMES (name_text n) N.EndLine ≡ n
 name-round_trip N.EndLine = refl
 name-round_trip (N.Integer n) = integer-round_trip n
 name-round_trip (N.Memory n) = memory-round_trip n

@@ -3,3 +3,4 @@ pub mod Kinds
 pub mod Line
 pub mod Instructions
 pub mod Contents
+pub mod Slots

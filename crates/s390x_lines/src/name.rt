@@ -1,10 +1,12 @@
 //! The names of lines: the parts of a job, and the instructions.
-ghost use Rattle.std.specs.Prelude.{◌≡◌, ◌≤◌, ℕ, List, drop, length};
+ghost use Rattle.std.specs.Prelude.{◌≡◌, ◌<◌};
 ghost use Rattle.s390x_words.specs.Found.{found_by_name};
 ghost use Rattle.s390x_lines.specs.Names.{name_text};
+ghost use Rattle.s390x_lines.specs.Slots.{mix, slot_of};
+ghost use Rattle.s390x_lines.specs.declared.name.LineName.{LineName};
 
 use crate::inst_name::{ControlName, IntegerName, MemoryName, VectorName};
-use s390x_words::word::{Word, find};
+use s390x_words::word::Word;
 
 /// The name of a line. Instructions stand in groups, a loop by itself, since lines of its members follow.
 #[derive(Clone, Copy)]
@@ -35,7 +37,7 @@ pub enum LineName {
     Vector(VectorName),
 }
 
-/// Every name, shorter ones first.
+/// Every name.
 pub const ALL_NAMES: [LineName; 165] = [
     LineName::RegisterLine,
     LineName::MemoryLine,
@@ -204,22 +206,67 @@ pub const ALL_NAMES: [LineName; 165] = [
     LineName::Memory(MemoryName::LoadLogicalIndexedAddr),
 ];
 
-/// Where in `ALL_NAMES` the names begin that have at least so many letters.
+/// What each number of letters adds to `mix`, so that no two names have one slot.
 #[rattlefmt::skip]
-pub const STARTS: [usize; 23] = [
-    0, 0, 0, 0, 4, 12, 26, 39, 48, 56, 76, 93,
-    107, 119, 122, 128, 139, 151, 156, 159, 161, 161, 164,
+pub const OFFSETS: [u8; 32] = [
+    0, 0, 0, 1, 1, 0, 3, 6, 4, 0, 0, 8, 4, 0, 15, 0,
+    2, 10, 2, 4, 0, 1, 0, 0, 0, 0, 0, 0, 0, 0, 0, 0,
 ];
 
-/// Where in `ALL_NAMES` a search for a word of so many letters may begin.
-fn start_of(letters: usize) -> usize
-    ensures within { result ≤ 165 }
-    ensures passed { (w : List ℕ) → length w ≡ letters → found_by_name name_text (drop result ALL_NAMES) w LineName.EndLine ≡ found_by_name name_text ALL_NAMES w LineName.EndLine }
+/// The place in `ALL_NAMES` of the name that has each slot, 0 where none has it.
+#[rattlefmt::skip]
+pub const PLACES: [u8; 512] = [
+    72, 0, 0, 0, 129, 0, 0, 0, 0, 0, 0, 0, 0, 0, 0, 0, 65, 0, 0, 0, 0, 0, 0, 36, 0, 0, 0, 0, 0, 0, 0, 0,
+    0, 8, 0, 0, 0, 0, 105, 0, 0, 0, 0, 56, 0, 0, 0, 0, 0, 0, 157, 27, 0, 0, 0, 0, 0, 0, 0, 0, 57, 70, 42, 0,
+    111, 98, 0, 0, 0, 0, 113, 0, 0, 101, 48, 0, 141, 0, 0, 30, 0, 0, 0, 0, 0, 0, 86, 0, 145, 0, 102, 0, 0, 0, 138, 0,
+    159, 0, 0, 85, 0, 0, 0, 52, 2, 0, 0, 0, 0, 135, 161, 0, 3, 0, 0, 54, 120, 76, 19, 0, 0, 0, 0, 77, 7, 0, 50, 0,
+    88, 0, 0, 0, 0, 47, 0, 0, 126, 147, 0, 0, 0, 0, 0, 4, 0, 0, 0, 0, 149, 0, 152, 87, 0, 0, 0, 0, 0, 26, 0, 11,
+    62, 0, 0, 0, 49, 146, 63, 109, 0, 0, 0, 37, 137, 0, 0, 13, 51, 0, 0, 0, 0, 0, 0, 64, 132, 9, 136, 0, 0, 0, 0, 0,
+    0, 0, 0, 0, 0, 0, 16, 0, 0, 28, 0, 0, 17, 112, 0, 154, 0, 0, 0, 114, 0, 103, 117, 0, 0, 0, 29, 0, 0, 99, 25, 121,
+    40, 0, 0, 38, 0, 78, 0, 23, 0, 0, 0, 55, 0, 0, 18, 0, 0, 0, 0, 0, 89, 0, 0, 0, 22, 0, 0, 0, 0, 0, 0, 0,
+    0, 41, 0, 0, 108, 0, 0, 140, 0, 0, 0, 0, 1, 0, 0, 0, 32, 0, 0, 0, 0, 0, 115, 164, 0, 73, 0, 118, 155, 0, 0, 0,
+    0, 33, 133, 128, 156, 160, 125, 0, 0, 0, 74, 130, 0, 122, 0, 15, 0, 95, 131, 0, 110, 0, 0, 96, 127, 0, 142, 0, 0, 0, 0, 79,
+    0, 0, 0, 0, 104, 80, 0, 66, 0, 24, 0, 0, 0, 0, 5, 0, 6, 0, 0, 0, 0, 82, 10, 14, 97, 0, 0, 83, 0, 0, 0, 0,
+    0, 0, 0, 119, 0, 0, 0, 0, 0, 0, 144, 107, 84, 150, 139, 93, 0, 0, 0, 0, 90, 0, 31, 0, 0, 0, 0, 0, 162, 0, 0, 134,
+    0, 0, 0, 0, 91, 0, 0, 143, 151, 0, 0, 158, 0, 0, 0, 0, 0, 0, 69, 0, 0, 0, 148, 123, 94, 163, 0, 0, 0, 0, 0, 0,
+    0, 0, 0, 0, 0, 0, 43, 0, 20, 0, 60, 39, 44, 0, 21, 81, 0, 12, 0, 0, 0, 0, 0, 0, 0, 124, 0, 0, 0, 45, 116, 0,
+    0, 0, 67, 0, 0, 0, 100, 0, 0, 53, 0, 0, 0, 0, 106, 0, 0, 0, 0, 0, 0, 0, 0, 92, 0, 35, 0, 0, 75, 0, 0, 0,
+    0, 153, 0, 0, 46, 0, 0, 0, 0, 0, 0, 61, 34, 58, 0, 71, 0, 68, 0, 0, 0, 0, 0, 0, 0, 0, 0, 0, 0, 0, 59, 0,
+];
+
+/// A number below 512 that the letters of a word tell.
+fn mix(word: &[u8]) -> usize
+    ensures value { result ≡ mix 0 word.now }
+    ensures below { result < 512 }
 {
-    if letters < STARTS.len() {
-        STARTS[letters]
+    let mut h: usize = 0;
+    for x in word {
+        h = (h * 5 + usize::from(*x)) % 512;
+    }
+    h
+}
+
+/// The slot of a word.
+#[tactic(auto, unfolding(crate::specs::Slots::slot_of))]
+fn slot(word: &[u8]) -> usize
+    ensures value { result ≡ slot_of word.now }
+    ensures below { result < 512 }
+{
+    let offsets: &[u8] = &OFFSETS;
+    (usize::from(offsets[word.len() % 32]) + mix(word)) % 512
+}
+
+/// The one name that this word may spell.
+fn candidate(word: &[u8]) -> LineName
+    ensures { (name : LineName) → name_text name ≡ word.now → result ≡ name }
+{
+    let places: &[u8] = &PLACES;
+    let names: &[LineName] = &ALL_NAMES;
+    let place = usize::from(places[slot(word)]);
+    if place < names.len() {
+        names[place]
     } else {
-        0
+        LineName::EndLine
     }
 }
 
@@ -227,15 +274,12 @@ fn start_of(letters: usize) -> usize
 pub fn find_name(word: &[u8]) -> LineName
     ensures { result ≡ found_by_name name_text ALL_NAMES word.now LineName.EndLine }
 {
-    let names = names_from(&ALL_NAMES, start_of(word.len()));
-    find(names, word, LineName::EndLine)
-}
-
-fn names_from(all: &[LineName], start: usize) -> &[LineName]
-    requires { start ≤ length all.now }
-    ensures { result.now ≡ drop start all.now }
-{
-    &all[start..]
+    let name = candidate(word);
+    if name.text().as_bytes() == word {
+        name
+    } else {
+        LineName::EndLine
+    }
 }
 
 impl Word for LineName {

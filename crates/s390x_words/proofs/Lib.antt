@@ -1,4 +1,6 @@
 pub mod Members
+pub mod Words
+pub mod Tables
 pub mod Avoids
 pub mod Digits
 pub mod AtomsRoundTrip

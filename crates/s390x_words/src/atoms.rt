@@ -3,8 +3,8 @@ ghost use Rattle.std.specs.Prelude.{◌≡◌, ◌++◌, ◌∷◌, [], ◌<◌,
 ghost use Rattle.s390x_words.specs.Atoms.{real_text, real_register_of, reg_text, reg_of, mask_of, trap_text, trap_of, user_number_of, access_text, access_of, aligned_text, trap_suffix, suffix_of, bool_text, bool_of, name_of};
 ghost use Rattle.std.specs.Fmt.{decimal};
 
-use crate::marks::{after_word, word};
-use crate::number::{first, natural, natural32, put, put_natural, second, tail};
+use crate::marks::{behind, word};
+use crate::number::{first, natural, natural32, put, put_char, put_natural, second, tail};
 use s390x_base::{
     Cond, ExternalName, MachMemFlags, PReg, Reg, RegClass, TrapCode, TrapKind, Writable, gpr_preg,
     vr_preg,
@@ -15,9 +15,10 @@ use std::alloc::AllocError;
 pub fn put_real(out: &mut String, r: PReg) -> Result<(), AllocError>
     ensures { OnOk result (string_bytes out.new ≡ string_bytes out.old ++ real_text r) }
 {
+    put_char(out, '%')?;
     match r.class() {
-        RegClass::Int => put(out, "%r")?,
-        RegClass::Float => put(out, "%v")?,
+        RegClass::Int => put_char(out, 'r')?,
+        RegClass::Float => put_char(out, 'v')?,
     }
     put_natural(out, u64::from(r.hw_enc()))
 }
@@ -43,6 +44,7 @@ fn put_virtual(out: &mut String, num: u32, class: RegClass) -> Result<(), AllocE
 }
 
 /// The real register of a word, some register for any other word.
+#[inline(always)]
 pub fn real(w: &[u8]) -> PReg
     ensures { result ≡ real_register_of w.now }
 {
@@ -55,6 +57,7 @@ pub fn real(w: &[u8]) -> PReg
 }
 
 /// The register of a word, some register for any other word.
+#[inline(always)]
 pub fn reg(w: &[u8]) -> Reg
     ensures { result ≡ reg_of w.now }
 {
@@ -75,6 +78,7 @@ pub fn reg(w: &[u8]) -> Reg
 }
 
 /// The same register, to be written.
+#[inline(always)]
 pub fn written(w: &[u8]) -> Writable<Reg>
     ensures { result ≡ reg_of w.now }
 {
@@ -155,9 +159,9 @@ fn put_aligned(out: &mut String, aligned: bool) -> Result<(), AllocError>
     ensures { OnOk result (string_bytes out.new ≡ string_bytes out.old ++ aligned_text aligned) }
 {
     if aligned {
-        put(out, "a")
+        put_char(out, 'a')
     } else {
-        put(out, "u")
+        put_char(out, 'u')
     }
 }
 
@@ -167,7 +171,7 @@ fn put_suffix(out: &mut String, t: Option<TrapCode>) -> Result<(), AllocError>
     match t {
         None => Ok(()),
         Some(code) => {
-            put(out, "!")?;
+            put_char(out, '!')?;
             put_trap(out, code)
         }
     }
@@ -195,9 +199,10 @@ fn suffix(s: &[u8]) -> Option<TrapCode>
 pub fn access(s: &[u8]) -> MachMemFlags
     ensures { result ≡ access_of s.now }
 {
+    let known = word(s);
     MachMemFlags {
-        aligned: first(word(s)) == b'a',
-        trap: suffix(after_word(s)),
+        aligned: first(known) == b'a',
+        trap: suffix(behind(s, known)),
     }
 }
 
@@ -223,7 +228,7 @@ pub fn truth(w: &[u8]) -> bool
 pub fn put_name(out: &mut String, name: ExternalName) -> Result<(), AllocError>
     ensures { OnOk result (string_bytes out.new ≡ string_bytes out.old ++ 117 ∷ decimal name.0) }
 {
-    put(out, "u")?;
+    put_char(out, 'u')?;
     put_natural(out, u64::from(name.0))
 }
 

@@ -4,16 +4,37 @@ ghost use Rattle.s390x_words.specs.Marks.{is_mark, before_mark, from_mark, word,
 
 use crate::number::tail;
 
+/// Whether each byte stands between words.
+#[rattlefmt::skip]
+const MARKS: [bool; 256] = [
+    false, false, false, false, false, false, false, false, false, false, true, false, false, false, false, false,
+    false, false, false, false, false, false, false, false, false, false, false, false, false, false, false, false,
+    true, true, false, false, false, false, false, false, true, true, false, false, true, false, false, true,
+    false, false, false, false, false, false, false, false, false, false, true, false, false, true, false, false,
+    true, false, false, false, false, false, false, false, false, false, false, false, false, false, false, false,
+    false, false, false, false, false, false, false, false, false, false, false, true, false, true, false, false,
+    false, false, false, false, false, false, false, false, false, false, false, false, false, false, false, false,
+    false, false, false, false, false, false, false, false, false, false, false, false, false, false, false, false,
+    false, false, false, false, false, false, false, false, false, false, false, false, false, false, false, false,
+    false, false, false, false, false, false, false, false, false, false, false, false, false, false, false, false,
+    false, false, false, false, false, false, false, false, false, false, false, false, false, false, false, false,
+    false, false, false, false, false, false, false, false, false, false, false, false, false, false, false, false,
+    false, false, false, false, false, false, false, false, false, false, false, false, false, false, false, false,
+    false, false, false, false, false, false, false, false, false, false, false, false, false, false, false, false,
+    false, false, false, false, false, false, false, false, false, false, false, false, false, false, false, false,
+    false, false, false, false, false, false, false, false, false, false, false, false, false, false, false, false,
+];
+
+#[inline(always)]
 fn marks(x: u8) -> bool
     ensures { result ≡ is_mark x }
 {
-    match x {
-        b'\n' | b' ' | b'(' | b')' | b'[' | b']' | b',' | b':' | b'/' | b'=' | b'!' | b'@' => true,
-        _ => false,
-    }
+    let table: &[bool] = &MARKS;
+    table[usize::from(x)]
 }
 
 /// The bytes before the first mark.
+#[inline(always)]
 pub fn front(s: &[u8]) -> &[u8]
     ensures { result.now ≡ before_mark s.now }
 {
@@ -38,10 +59,20 @@ pub fn back(s: &[u8]) -> &[u8]
 }
 
 /// The word after one mark.
+#[inline(always)]
 pub fn word(s: &[u8]) -> &[u8]
     ensures { result.now ≡ word s.now }
 {
     front(tail(s, 1))
+}
+
+/// What follows the word after one mark, where that word is known.
+#[inline(always)]
+pub fn behind<'a>(s: &'a [u8], found: &[u8]) -> &'a [u8]
+    requires { found.now ≡ word s.now }
+    ensures { result.now ≡ after_word s.now }
+{
+    tail(tail(s, 1), found.len())
 }
 
 /// What follows the word after one mark.

@@ -6,9 +6,9 @@ ghost use Rattle.s390x_words.specs.Numbers.{natural_of, integer_of, W12, S20};
 ghost use Rattle.s390x_words.specs.Memory.{form_text, memory_form_of, inside_text, memory_text, memory_with, memory_operand_of};
 
 use crate::atoms::{access, name, put_access, put_name, put_reg, reg};
-use crate::marks::{after_word, word};
+use crate::marks::{behind, word};
 use crate::number::{
-    integer20, integer32, integer64, natural12, natural32, put, put_integer, put_natural,
+    integer20, integer32, integer64, natural12, natural32, put, put_char, put_integer, put_natural,
 };
 use crate::word::{Word, find};
 use s390x_base::{MachLabel, MachMemFlags, Reg, SImm20, UImm12, VCodeConstant};
@@ -71,22 +71,22 @@ fn put_indexed(out: &mut String, base: Reg, index: Reg) -> Result<(), AllocError
     ensures { OnOk result (string_bytes out.new ≡ string_bytes out.old ++ (reg_text base ++ (44 ∷ (reg_text index ++ (44 ∷ []))))) }
 {
     put_reg(out, base)?;
-    put(out, ",")?;
+    put_char(out, ',')?;
     put_reg(out, index)?;
-    put(out, ",")
+    put_char(out, ',')
 }
 
 fn put_end(out: &mut String, flags: MachMemFlags) -> Result<(), AllocError>
     ensures { OnOk result (string_bytes out.new ≡ string_bytes out.old ++ 44 ∷ access_text flags) }
 {
-    put(out, ",")?;
+    put_char(out, ',')?;
     put_access(out, flags)
 }
 
 fn put_offset(out: &mut String, off: i64, flags: MachMemFlags) -> Result<(), AllocError>
     ensures { OnOk result (string_bytes out.new ≡ string_bytes out.old ++ 44 ∷ (signed_decimal off ++ (44 ∷ access_text flags))) }
 {
-    put(out, ",")?;
+    put_char(out, ',')?;
     put_integer(out, off)?;
     put_end(out, flags)
 }
@@ -161,9 +161,9 @@ pub fn put_memory(out: &mut String, m: MemArg) -> Result<(), AllocError>
     ensures { OnOk result (string_bytes out.new ≡ string_bytes out.old ++ memory_text m) }
 {
     put(out, form(&m).text())?;
-    put(out, "(")?;
+    put_char(out, '(')?;
     put_inside(out, m)?;
-    put(out, ")")
+    put_char(out, ')')
 }
 
 fn displacement12(w: &[u8]) -> UImm12
@@ -188,48 +188,58 @@ pub fn displacement20(w: &[u8]) -> SImm20
 fn indexed12(s: &[u8]) -> MemArg
     ensures { result ≡ memory_with MemoryForm.BXD12 s.now }
 {
-    let t = after_word(s);
-    let u = after_word(t);
+    let base = word(s);
+    let t = behind(s, base);
+    let index = word(t);
+    let u = behind(t, index);
+    let disp = word(u);
     MemArg::BXD12 {
-        base: reg(word(s)),
-        index: reg(word(t)),
-        disp: displacement12(word(u)),
-        flags: access(after_word(u)),
+        base: reg(base),
+        index: reg(index),
+        disp: displacement12(disp),
+        flags: access(behind(u, disp)),
     }
 }
 
 fn indexed20(s: &[u8]) -> MemArg
     ensures { result ≡ memory_with MemoryForm.BXD20 s.now }
 {
-    let t = after_word(s);
-    let u = after_word(t);
+    let base = word(s);
+    let t = behind(s, base);
+    let index = word(t);
+    let u = behind(t, index);
+    let disp = word(u);
     MemArg::BXD20 {
-        base: reg(word(s)),
-        index: reg(word(t)),
-        disp: displacement20(word(u)),
-        flags: access(after_word(u)),
+        base: reg(base),
+        index: reg(index),
+        disp: displacement20(disp),
+        flags: access(behind(u, disp)),
     }
 }
 
 fn symbol(s: &[u8]) -> MemArg
     ensures { result ≡ memory_with MemoryForm.Symbol s.now }
 {
-    let t = after_word(s);
+    let symbol = word(s);
+    let t = behind(s, symbol);
+    let offset = word(t);
     MemArg::Symbol {
-        name: name(word(s)),
-        offset: integer32(word(t)),
-        flags: access(after_word(t)),
+        name: name(symbol),
+        offset: integer32(offset),
+        flags: access(behind(t, offset)),
     }
 }
 
 fn reg_offset(s: &[u8]) -> MemArg
     ensures { result ≡ memory_with MemoryForm.RegOffset s.now }
 {
-    let t = after_word(s);
+    let base = word(s);
+    let t = behind(s, base);
+    let offset = word(t);
     MemArg::RegOffset {
-        reg: reg(word(s)),
-        off: integer64(word(t)),
-        flags: access(after_word(t)),
+        reg: reg(base),
+        off: integer64(offset),
+        flags: access(behind(t, offset)),
     }
 }
 
@@ -269,5 +279,6 @@ fn memory_with(form: MemoryForm, s: &[u8]) -> MemArg
 pub fn memory(s: &[u8]) -> MemArg
     ensures { result ≡ memory_operand_of s.now }
 {
-    memory_with(find(&ALL_FORMS, word(s), MemoryForm::BXD12), after_word(s))
+    let form = word(s);
+    memory_with(find(&ALL_FORMS, form, MemoryForm::BXD12), behind(s, form))
 }

@@ -12,6 +12,15 @@ pub fn put(out: &mut String, text: &str) -> Result<(), AllocError>
     out.push_str(text)
 }
 
+/// Appends an ASCII character.
+#[inline(always)]
+pub fn put_char(out: &mut String, c: char) -> Result<(), AllocError>
+    requires { c < 128 }
+    ensures { OnOk result (string_bytes out.new ≡ string_bytes out.old ++ c ∷ []) }
+{
+    out.push(c)
+}
+
 /// Appends a number in decimal.
 pub fn put_natural(out: &mut String, n: u64) -> Result<(), AllocError>
     ensures { OnOk result (string_bytes out.new ≡ string_bytes out.old ++ decimal n) }
@@ -41,6 +50,7 @@ pub fn put_integer(out: &mut String, z: i64) -> Result<(), AllocError>
 }
 
 /// The number of decimal digits.
+#[inline(always)]
 pub fn natural(s: &[u8]) -> u64
     ensures { result ≡ decimal_of s.now }
 {
@@ -135,6 +145,7 @@ pub fn integer64(s: &[u8]) -> i64
 }
 
 /// The first byte, or 0.
+#[inline(always)]
 pub fn first(s: &[u8]) -> u8
     ensures { result ≡ slice_index s.now 0 }
 {
@@ -142,6 +153,7 @@ pub fn first(s: &[u8]) -> u8
 }
 
 /// The second byte, or 0.
+#[inline(always)]
 pub fn second(s: &[u8]) -> u8
     ensures { result ≡ slice_index s.now 1 }
 {
@@ -149,6 +161,7 @@ pub fn second(s: &[u8]) -> u8
 }
 
 /// What follows the first `n` bytes.
+#[inline(always)]
 pub fn tail(s: &[u8], n: usize) -> &[u8]
     ensures { result.now ≡ drop n s.now }
 {

@@ -1,23 +1,29 @@
-use Rattle.std.proofs.Common.{◌++◌, ◌∷◌, [], sym, ap, ◌∙◌}
-use Rattle.s390x_job.specs.Items.{block_line}
-use Rattle.s390x_job.specs.Jobs.{insts_lines, blocks_lines}
-use Rattle.s390x_job.specs.Builds.{open_lines, beginning_lines}
-use Rattle.s390x_inst.specs.declared.function.Block.{Block}
-use Rattle.s390x_job.proofs.Builds.{at_block, one_block}
+use Rattle.std.proofs.Common.{◌++◌, ◌∷◌, ap, ◌∙◌}
+use Rattle.s390x_job.specs.Items.{block_line, end_line}
+use Rattle.s390x_job.specs.Jobs.{blocks_lines}
+use Rattle.s390x_job.specs.Builds.{beginning_lines}
+use Rattle.s390x_job.proofs.Builds.{shut_lines, none_open, to_block, to_end}
 use Rattle.s390x_job.proofs.build.shut.Goals as goal
 
-pub returns : goal.returns
-returns c =
-    let b = c.args.b in
+pub returns-clause-more : goal.returns-clause-more
+returns-clause-more c =
+    let b = c.args.b.now in
     let ss = beginning_lines b.beginning in
-    let bs = blocks_lines b.blocks.items in
-    let block : Block = record { insts = b.here } in (
-      c.requires.full,
-      ap (λ t. ss ++ (blocks_lines c.push.new.self.items ++ (block_line ∷ (open_lines b.loops.items ++ insts_lines t)))) c.new.ensures.items
-          ∙ ap (λ t. ss ++ (blocks_lines c.push.new.self.items ++ (block_line ∷ (open_lines t ++ [])))) c.requires.none
-          ∙ ap (λ t. ss ++ (blocks_lines t ++ block_line ∷ [])) c.in_ok-push.ensures.items
-          ∙ ap (λ t. ss ++ (t ++ block_line ∷ [])) (one_block b.blocks.items block)
-          ∙ at_block ss bs [] (insts_lines b.here.items) block_line
-          ∙ ap (λ t. (ss ++ (bs ++ (block_line ∷ (open_lines t ++ insts_lines b.here.items)))) ++ block_line ∷ []) (sym c.requires.none),
-      c.requires.none,
-    )
+    let r = c.replace-insts in
+    let none = none_open b.loops.items r.new.dest c.new.result c.requires.none r.ensures.after c.new.ensures.items in
+    record {
+      state = c.requires.full;
+      lines = ap (λ t. ss ++ (blocks_lines c.push.new.self.items ++ (block_line ∷ t))) none
+          ∙ shut_lines ss b.blocks.items c.push.new.self.items b.loops.items b.here r.result block_line c.requires.none r.ensures.value c.in_ok-push.ensures.items;
+      place = to_block b.loops.items c.requires.none;
+    }
+
+pub returns-clause-done : goal.returns-clause-done
+returns-clause-done c =
+    let b = c.args.b.now in
+    let r = c.replace-insts in
+    record {
+      state = c.requires.full;
+      lines = shut_lines (beginning_lines b.beginning) b.blocks.items c.push.new.self.items b.loops.items b.here r.result end_line c.requires.none r.ensures.value c.in_ok-push.ensures.items;
+      place = to_end b.loops.items c.requires.none;
+    }

@@ -1,13 +1,13 @@
 use Rattle.std.proofs.Common.{◌≡◌, ◌+◌, ◌≤◌, length}
-use Rattle.s390x_job.specs.Builds.{state_lines, grammar_place, IsBuildState}
+use Rattle.s390x_job.specs.Builds.{lines_at, place_at, IsAt}
 use Rattle.s390x_job.proofs.Whole.{Inv}
 use Rattle.s390x_job.proofs.lines.find_job.Given as goal
 
 abbrev pub invariant-loop-rest : goal.invariant-loop-rest
 invariant-loop-rest l = record {
-  inv : Inv l.bytes (state_lines l.state) (grammar_place l.state) l.rest;
-  is_state : IsBuildState l.state;
-  count : l.n ≡ length (state_lines l.state);
+  inv : Inv l.bytes (lines_at l.progress l.body) (place_at l.progress l.body) l.rest;
+  is_state : IsAt l.progress l.body;
+  count : l.n ≡ length (lines_at l.progress l.body);
   small : l.n + length l.rest ≤ length l.bytes;
 }
 

@@ -2,7 +2,7 @@ use Rattle.std.proofs.Common.{◌≡◌, ◌++◌, ◌∷◌, [], List, ℕ, Bor
 use Rattle.std.proofs.lemmas.List.{map-append}
 use Rattle.s390x_words.specs.Marks.{upto, past}
 use Rattle.s390x_job.specs.Completions.{pieces}
-use Rattle.s390x_job.proofs.Whole.{shorter, nil}
+use Rattle.s390x_job.proofs.Whole.{shorter, nil, behind}
 use Rattle.s390x_job.proofs.Above.{pieces_cut, pieces_none}
 use Rattle.s390x_job.proofs.Places.{some_left, none_left}
 use Rattle.s390x_job.proofs.lines.split_lines.Goals as goal
@@ -24,7 +24,7 @@ pub loop-rest-smaller : goal.loop-rest-smaller
 loop-rest-smaller c =
     let r = c.loop-rest.rest.now in
     let h = shorter 10 r (some_left (length r) c.is_empty.result c.is_empty.ensures c.loop-rest-test.true) in
-    omega (arith, h, ap length c.after-rest.ensures)
+    omega (arith, h, ap length (behind r c.tail-rest.result.now c.before-line.result.now c.tail-rest.ensures c.before-line.ensures))
 
 pub returns-then-line-rest : goal.returns-then-line-rest
 returns-then-line-rest c =
@@ -34,7 +34,7 @@ returns-then-line-rest c =
 
 pub loop-rest-preserved : goal.loop-rest-preserved
 loop-rest-preserved c =
-    more c.loop-rest.v.items c.push.new.self.items c.before-line.result c.loop-rest.rest.now c.after-rest.result.now c.args.bytes.now c.in_ok-push.ensures.items c.before-line.ensures c.after-rest.ensures (λ e. absurd (omega (arith, ap length c.before-line.ensures, e))) c.loop-rest.invariant
+    more c.loop-rest.v.items c.push.new.self.items c.before-line.result c.loop-rest.rest.now c.tail-rest.result.now c.args.bytes.now c.in_ok-push.ensures.items c.before-line.ensures (behind c.loop-rest.rest.now c.tail-rest.result.now c.before-line.result.now c.tail-rest.ensures c.before-line.ensures) (λ e. absurd (omega (arith, ap length c.before-line.ensures, e))) c.loop-rest.invariant
 
 pub returns : goal.returns
 returns c =

@@ -1,10 +1,16 @@
-use Rattle.std.proofs.Common.{refl, ap, ◌∙◌}
-use Rattle.s390x_words.specs.Found.{found_by_name}
-use Rattle.s390x_lines.specs.Names.{name_text}
-use Rattle.s390x_lines.specs.declared.name.LineName.TheVariants.{EndLine}
+use Rattle.std.proofs.Common.{sym, ap, ◌∙◌}
+use Rattle.std.specs.Str.{bytes_eq}
+use Rattle.s390x_lines.proofs.Slots.{is_found, none_found}
 use Rattle.s390x_lines.proofs.name.find_name.Goals as goal
 
-pub returns : goal.returns
-returns c =
+pub returns-then-eq : goal.returns-then-eq
+returns-then-eq c =
     let w = c.args.word.now in
-    c.find.ensures ∙ ap (λ names. found_by_name name_text names w EndLine) c.names_from-names.ensures ∙ c.start_of.ensures.passed w refl
+    let t = ap (λ s. bytes_eq s w) (sym (c.as_bytes.ensures.value ∙ c.text.ensures)) in
+    is_found c.candidate-name.result w (t ∙ sym c.eq.ensures ∙ c.if-eq.true)
+
+pub returns-else-eq : goal.returns-else-eq
+returns-else-eq c =
+    let w = c.args.word.now in
+    let t = ap (λ s. bytes_eq s w) (sym (c.as_bytes.ensures.value ∙ c.text.ensures)) in
+    none_found c.candidate-name.result w c.candidate-name.ensures (t ∙ sym c.eq.ensures ∙ c.if-eq.false)
