@@ -1,7 +1,7 @@
 #!/usr/bin/env bash
-# Times `image` of two jobs of about N instructions (N is 100000 if none is given) against GNU as and LLVM's assembler on the same code, in one
-# run: three turns each, and the ratios of the best ones. One job has N blocks that add, move and branch, the other one block of N loads and
-# stores. Needs s390x-linux-gnu-as (Debian's binutils-s390x-linux-gnu), llvm-mc (Debian's llvm) and the built program.
+# Times `image` of two jobs, N blocks that add, move and branch (N is 100000 if none is given) and one block of N loads and stores, against GNU
+# as and LLVM's assembler on the same code, in one run: three turns each, and the ratios of the best ones. Needs s390x-linux-gnu-as (Debian's
+# binutils-s390x-linux-gnu), llvm-mc (Debian's llvm) and the built program.
 set -eu
 cd "$(dirname "$0")/.."
 program=crates/s390x/out/s390x
