@@ -1,15 +1,14 @@
 #!/usr/bin/env python3
-"""Fails or shortens reads and writes, and refuses what the program takes from the C library's heap, while the proved program works on the jobs of
-examples/.
+"""Fails or shortens reads and writes, and refuses each growth of the heap in turn, while the proved program works on the jobs of examples/.
 
     checks/faults.py            prints what was tried of each command, and how often
 
 An engineer runs it by hand; it is no part of the gate. The program runs under a small library that is preloaded, whose source stands below: it
-refuses the N-th call that takes memory from the C library, which only the program's words do, or fails the N-th read or write, or lets every read and
-write move one byte. The growths of the program's own heap aren't seen by it: `rt try --fail-alloc N` refuses the N-th of those. Expected is, of each run:
+refuses the N-th call that takes memory from the C library, from which all memory of the program comes, or fails the N-th read or write, or lets every
+read and write move one byte. Expected is, of each run:
 
 - where the N-th growth was refused, status 9 and the line `no memory`, no line where the words themselves found no memory, or the answer of an
-  undisturbed run where there was no N-th growth;
+  undisturbed run where that growth only made room ahead;
 - where a read failed, status 6 and the line `read fault`;
 - where a write failed, status 7, and a proper prefix of the undisturbed text;
 - with short reads and writes, the undisturbed answer.
@@ -32,6 +31,7 @@ SHIM = r"""
 #define _GNU_SOURCE
 #include <dlfcn.h>
 #include <errno.h>
+#include <stdio.h>
 #include <stdlib.h>
 #include <unistd.h>
 
@@ -53,7 +53,12 @@ extern void *__libc_malloc(size_t);
 extern void *__libc_realloc(void *, size_t);
 
 static int refuses(void) {
-    return refused && ++growths == refused;
+    return ++growths == refused;
+}
+
+/* Tells on the standard error output how many growths there were. */
+__attribute__((destructor)) static void finish(void) {
+    if (getenv("COUNT_GROWTHS")) dprintf(2, "%ld\n", growths);
 }
 
 void *malloc(size_t size) {
@@ -98,6 +103,13 @@ def run(library, words, job, **settings):
     return done.returncode, done.stdout
 
 
+def growths_of(library, words, job):
+    """How often an undisturbed run takes memory."""
+    environment = dict(os.environ, LD_PRELOAD=library, COUNT_GROWTHS="1")
+    done = subprocess.run([PROGRAM] + words, input=job, stdout=subprocess.DEVNULL, stderr=subprocess.PIPE, env=environment)
+    return int(done.stderr.split()[-1])
+
+
 def commands():
     """The words of each run, and its input."""
     for path in sorted(glob.glob(os.path.join(ROOT, "examples", "*.job"))):
@@ -123,13 +135,13 @@ class Tries:
             self.wrong.append(f"{' '.join(self.words)}: {name}: status {answer[0]}, {answer[1][:60]!r}")
 
     def growths(self):
-        """Each growth refused, until there is none of that number."""
-        for number in range(1, 100000):
+        """Each growth refused, one after another."""
+        for number in range(1, growths_of(self.library, self.words, self.job) + 1):
             answer = run(self.library, self.words, self.job, REFUSED_GROWTH=number)
-            if answer == self.good:
-                return
             if answer == NO_WORDS and not self.counts["growths refused"]:
                 self.counts["growths for the words refused"] += 1
+            elif answer == self.good:
+                self.counts["growths ahead refused"] += 1
             else:
                 self.expect("growths refused", answer, answer == NO_MEMORY)
 
