@@ -1,9 +1,9 @@
 -- For which instructions it suffices that an allocator's registers meet the constraints.
-use Rattle.std.specs.Prelude.{◌≡◌, ℕ, ◌<◌, List, [], ◌∷◌, Option, Some, None, ◌⊎◌, ⊤}
+use Rattle.std.specs.Prelude.{◌≡◌, ℕ, ◌<◌, Bool, true, false, ◌&&◌, List, [], ◌∷◌, Option, Some, None, ◌⊎◌, ⊤}
 use Rattle.std.specs.List.{All}
 use Rattle.s390x_base.specs.Registers.{IsRegister, general}
 use Rattle.s390x_base.specs.declared.error.EmitError.{EmitError}
-use Rattle.s390x_base.specs.declared.error.EmitError.TheVariants.{BadRegister, ScratchConflict}
+use Rattle.s390x_base.specs.declared.error.EmitError.TheVariants.{BadOperator, BadRegister, ScratchConflict}
 use Rattle.s390x_base.specs.declared.regs.Reg.{Reg}
 use Rattle.s390x_base.specs.declared.regs.Reg.TheVariants.{Real, Virtual}
 use Rattle.s390x_inst.specs.Emission.{Emission}
@@ -32,8 +32,11 @@ use Rattle.s390x_operands.specs.Operands.{operands}
 use Rattle.s390x_operands.specs.declared.constraint.Reported.{Reported}
 use Rattle.s390x_operands.specs.declared.constraint.Reported.TheVariants.{Operand}
 use Rattle.s390x_assign.specs.Assignments.{assigned}
-use Rattle.s390x_typed_steps.specs.Causes.{Declared, instruction_cause}
+use Rattle.s390x_typed_steps.specs.Baseline.{tree_for}
+use Rattle.s390x_typed_steps.specs.Causes.{Declared, first_emit_cause, facility_cause, memory_cause_or, instruction_cause, tree_cause}
+use Rattle.s390x_typed_steps.specs.Memory.{memory, loaded_memory, accesses_relative}
 use Rattle.s390x_typed_steps.specs.Resolved.{resolved_instruction}
+use Rattle.s390x_typed_steps.specs.Tree.{empty, prepend}
 
 -- ---- which of its registers may be real
 
@@ -258,9 +261,18 @@ pub record Place : Type 0 where
   pub depth : ℕ
   pub state : Emission
 
--- the first cause by which it is refused there
+-- the machine of the flags lacks the row by which the instruction accesses an operand that is relative to it
+abbrev pub lacks_row : Place → Inst → Bool
+lacks_row P i = accesses_relative (memory i) && P.flags.no_relative_memory
+
+-- the first cause by which a whole instruction is refused, or one whose operand's address is loaded first
+abbrev pub own_refusal : Place → (lacks : Bool) → Inst → Option EmitError
+own_refusal P false i = instruction_cause P.flags P.declared P.state.nominal P.depth i
+own_refusal P true i = first_emit_cause (facility_cause P.flags i) (memory_cause_or P.declared (loaded_memory i) (Some BadOperator))
+
+-- the first cause by which an instruction's step is refused there, as the machine of the flags has it
 abbrev pub refusal : Place → Inst → Option EmitError
-refusal P i = instruction_cause P.flags P.declared P.state.nominal P.depth (resolved_instruction P.state i)
+refusal P i = own_refusal P (lacks_row P (resolved_instruction P.state i)) (resolved_instruction P.state i)
 
 -- one instruction is another with these registers
 abbrev pub IsAssigned : Inst → List Reg → Inst → Type 0
@@ -283,122 +295,15 @@ pub record IsAllocatable (P : Place) (i : Inst) : Type 0 where
 abbrev pub IsNotBlamed : Option EmitError → Type 0
 IsNotBlamed cause = (cause ≡ Some BadRegister → ⊥) × (cause ≡ Some ScratchConflict → ⊥)
 
--- its registers are no cause of refusal, whichever meet the constraints
+-- its registers are no cause of its step's refusal, whichever meet the constraints
 abbrev pub AssignmentsSuffice : Place → Inst → Type 0
 AssignmentsSuffice P i = (registers : List Reg) (j : Inst) → Meets (operands i) registers → Spares (operands i) registers → IsAssigned i registers j → IsNotBlamed (refusal P j)
 
--- ---- where this is proved
+-- the first cause by which emission refuses it there, with so many labels in use
+abbrev pub emission_refusal : Place → ℕ → Inst → Option EmitError
+emission_refusal P labels i = tree_cause P.flags P.declared labels P.state.nominal P.depth (tree_for P.flags (prepend P.state i empty))
 
--- the instructions that are one machine instruction by registers of these shapes
-abbrev pub IsWork : Inst → Type 0
-IsWork (LoadIndexedAddr rd base index offset size) = ⊤
-IsWork (LoadLogicalIndexedAddr rd base index offset size) = ⊤
-IsWork (Mov64 rd rm) = ⊤
-IsWork (Mov32 rd rm) = ⊤
-IsWork (Mov32Imm rd imm) = ⊤
-IsWork (Mov32SImm16 rd imm) = ⊤
-IsWork (Mov64SImm16 rd imm) = ⊤
-IsWork (Mov64SImm32 rd imm) = ⊤
-IsWork (Mov64UImm16Shifted rd imm) = ⊤
-IsWork (Mov64UImm32Shifted rd imm) = ⊤
-IsWork (Insert64UImm16Shifted rd ri imm) = ⊤
-IsWork (Insert64UImm32Shifted rd ri imm) = ⊤
-IsWork (CMov32 rd mask ri rm) = ⊤
-IsWork (CMov64 rd mask ri rm) = ⊤
-IsWork (CMov32SImm16 rd mask ri imm) = ⊤
-IsWork (CMov64SImm16 rd mask ri imm) = ⊤
-IsWork (Extend rd rn signed from to) = ⊤
-IsWork (AluRRR op rd rn rm) = ⊤
-IsWork (AluRRSImm16 op rd rn imm) = ⊤
-IsWork (AluRR op rd ri rm) = ⊤
-IsWork (AluRSImm16 op rd ri imm) = ⊤
-IsWork (AluRSImm32 op rd ri imm) = ⊤
-IsWork (AluRUImm32 op rd ri imm) = ⊤
-IsWork (AluRUImm16Shifted op rd ri imm) = ⊤
-IsWork (AluRUImm32Shifted op rd ri imm) = ⊤
-IsWork (ShiftRR op rd rn amount register) = ⊤
-IsWork (RxSBG op rd ri rn start end amount) = ⊤
-IsWork (RxSBGTest op rd rn start end amount) = ⊤
-IsWork (UnaryRR op rd rn) = ⊤
-IsWork (CmpRR op rn rm) = ⊤
-IsWork (CmpRSImm16 op rn imm) = ⊤
-IsWork (CmpRSImm32 op rn imm) = ⊤
-IsWork (CmpRUImm32 op rn imm) = ⊤
-IsWork (CmpTrapRR op rn rm mask code) = ⊤
-IsWork (CmpTrapRSImm16 op rn imm mask code) = ⊤
-IsWork (CmpTrapRUImm16 op rn imm mask code) = ⊤
-IsWork (LoadAR rd ar) = ⊤
-IsWork (InsertAR rd ri ar) = ⊤
-IsWork (MovPReg rd rm) = ⊤
-IsWork (SMulWide rd rn rm) = ⊤
-IsWork (Flogr rd rn) = ⊤
-IsWork (UMulWide rd ri rn) = ⊤
-IsWork (SDivMod32 rd ri rn) = ⊤
-IsWork (SDivMod64 rd ri rn) = ⊤
-IsWork (UDivMod32 rd ri rn) = ⊤
-IsWork (UDivMod64 rd ri rn) = ⊤
-IsWork (Vector (VecRRR op rd rn rm)) = ⊤
-IsWork (Vector (VecRR op rd rn)) = ⊤
-IsWork (Vector (VecShiftRR op rd rn amount register)) = ⊤
-IsWork (Vector (VecSelect rd rn rm ra)) = ⊤
-IsWork (Vector (VecPermute rd rn rm ra)) = ⊤
-IsWork (Vector (VecBlend rd rn rm ra)) = ⊤
-IsWork (Vector (VecEvaluate imm rd rn rm ra)) = ⊤
-IsWork (Vector (VecPermuteDWImm rd rn rm first second)) = ⊤
-IsWork (Vector (VecIntCmp op rd rn rm)) = ⊤
-IsWork (Vector (VecIntCmpS op rd rn rm)) = ⊤
-IsWork (Vector (VecIntEltCmp op rn rm)) = ⊤
-IsWork (Vector (VecMov rd rn)) = ⊤
-IsWork (Vector (FpuMove32 rd rn)) = ⊤
-IsWork (Vector (FpuMove64 rd rn)) = ⊤
-IsWork (Vector (MovToVec128 rd rn rm)) = ⊤
-IsWork (Vector (VecImmByteMask rd mask)) = ⊤
-IsWork (Vector (VecImmBitMask size rd start end)) = ⊤
-IsWork (Vector (VecImmReplicate size rd imm)) = ⊤
-IsWork (Vector (VecInsertLaneUndef size rd rn lane base)) = ⊤
-IsWork (Vector (VecExtractLane size rd rn lane base)) = ⊤
-IsWork (Vector (VecInsertLaneImmUndef size rd imm lane)) = ⊤
-IsWork (Vector (VecReplicateLane size rd rn lane)) = ⊤
-IsWork (AluRX op rd ri mem) = ⊤
-IsWork (AtomicCas32 rd ri rn mem) = ⊤
-IsWork (AtomicCas64 rd ri rn mem) = ⊤
-IsWork (Jump dest) = ⊤
-IsWork (CondBr taken not_taken mask) = ⊤
-IsWork (CondBreak mask) = ⊤
-IsWork Nop0 = ⊤
-IsWork Nop2 = ⊤
-IsWork Fence = ⊤
-IsWork (Trap code) = ⊤
-IsWork (TrapIf mask code) = ⊤
-IsWork Debugtrap = ⊤
-IsWork SequencePoint = ⊤
-IsWork (DummyUse reg) = ⊤
-IsWork (CmpRX op rn mem) = ⊤
-IsWork (Load32 rd mem) = ⊤
-IsWork (Load32ZExt8 rd mem) = ⊤
-IsWork (Load32SExt8 rd mem) = ⊤
-IsWork (Load32ZExt16 rd mem) = ⊤
-IsWork (Load32SExt16 rd mem) = ⊤
-IsWork (Load64 rd mem) = ⊤
-IsWork (Load64ZExt8 rd mem) = ⊤
-IsWork (Load64SExt8 rd mem) = ⊤
-IsWork (Load64ZExt16 rd mem) = ⊤
-IsWork (Load64SExt16 rd mem) = ⊤
-IsWork (Load64ZExt32 rd mem) = ⊤
-IsWork (Load64SExt32 rd mem) = ⊤
-IsWork (LoadRev16 rd mem) = ⊤
-IsWork (LoadRev32 rd mem) = ⊤
-IsWork (LoadRev64 rd mem) = ⊤
-IsWork (Store8 rd mem) = ⊤
-IsWork (Store16 rd mem) = ⊤
-IsWork (Store32 rd mem) = ⊤
-IsWork (Store64 rd mem) = ⊤
-IsWork (StoreRev16 rd mem) = ⊤
-IsWork (StoreRev32 rd mem) = ⊤
-IsWork (StoreRev64 rd mem) = ⊤
-IsWork (StoreImm8 imm mem) = ⊤
-IsWork (StoreImm16 imm mem) = ⊤
-IsWork (StoreImm32SExt16 imm mem) = ⊤
-IsWork (StoreImm64SExt16 imm mem) = ⊤
-IsWork (LoadAddr rd mem) = ⊤
-IsWork i = ⊥
+-- the same of emission
+abbrev pub EmissionsSuffice : Place → Inst → Type 0
+EmissionsSuffice P i =
+    (labels : ℕ) (registers : List Reg) (j : Inst) → Meets (operands i) registers → Spares (operands i) registers → IsAssigned i registers j → IsNotBlamed (emission_refusal P labels j)
