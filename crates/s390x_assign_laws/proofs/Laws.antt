@@ -56,7 +56,7 @@ assignments_suffice P i a s j meet spare is =
 -- ---- emission
 
 -- an instruction of this portion is one step
-abbrev IsOneStep : Portion → Type 0
+abbrev pub IsOneStep : Portion → Type 0
 IsOneStep (calling link dest uses defs terms) = ⊥
 IsOneStep (tail_calling dest uses popped) = ⊥
 IsOneStep (opening mask) = ⊥
@@ -76,7 +76,7 @@ emitted_alone P n (Call link info) h clears = absurd h
 emitted_alone P n (ReturnCall info) h clears = absurd h
 emitted_alone P n j h clears = step_alone P n (resolved_instruction P.state j) clears
 
-one_step : (i : Inst) (s : List Reg) → MayStand i → IsOneStep (portion_at (first_portion i) s).0
+pub one_step : (i : Inst) (s : List Reg) → MayStand i → IsOneStep (portion_at (first_portion i) s).0
 one_step (Loop' mask body all) s m = absurd m
 one_step (Call link info) s m = absurd m
 one_step (ReturnCall info) s m = absurd m

@@ -3,9 +3,9 @@ ghost use Rattle.s390x_inst.specs.declared.inst.Inst.{Inst};
 ghost use Rattle.s390x_assign_laws.specs.Allocatable.{AssignmentsSuffice, EmissionsSuffice, IsAllocatable, Place};
 ghost use Rattle.s390x_assign_laws.specs.Examples.{far_load, division, selection};
 
-/// Where an instruction has no cause of refusal but its virtual registers, and its real registers stand only where `IsAllocatable` lets them, any registers that
-/// meet its constraints, of which no virtual operand gets `%r0`, `%r1` or `%r15`, give an instruction that is refused neither by `BadRegister` nor by
-/// `ScratchConflict`.
+/// Where an instruction has no cause of refusal but its virtual registers, and its real registers stand only where `IsAllocatable` lets them, any registers
+/// that meet its constraints, of which no virtual operand gets `%r0`, `%r1` or `%r15`, give an instruction whose step and whose emission are refused neither by
+/// `BadRegister` nor by `ScratchConflict`.
 pub fn registers_are_not_blamed()
     ensures step { (P : Place) (i : Inst) → IsAllocatable P i → AssignmentsSuffice P i }
     ensures emission { (P : Place) (i : Inst) → IsAllocatable P i → EmissionsSuffice P i }

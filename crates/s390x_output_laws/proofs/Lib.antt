@@ -1,0 +1,11 @@
+pub mod Doing
+pub mod Effects
+pub mod Emitted
+pub mod Forms
+pub mod Laws
+pub mod Machine
+pub mod Portions
+pub mod Shapes
+pub mod StepKinds
+pub mod Stores
+pub mod Witness
