@@ -1,6 +1,6 @@
 -- Which use is dropped, and what stays at the end of a block.
-use Rattle.std.proofs.Common.{◌≡◌, ℕ, zero, suc, ◌+◌, ◌-◌, ◌<◌, ◌≤◌, List, [], ◌∷◌, ◌++◌, length, take, drop, remove, Option, Some, None, MatchOption, Bool, true, false, cond, ◌||◌, ◌&&◌, nat_eq, refl, sym, ap, ap₂, ◌∙◌, subst, arith, length-append, append_assoc, get_or, eqb-true, eq-eqb, ne_eqb, ◌≢◌}
-use Rattle.std.proofs.lemmas.List.{append-nil, take-append-le, drop-append-le, drop_all, take_more, take_all, length-take-le}
+use Rattle.std.proofs.Common.{◌≡◌, ℕ, zero, suc, ◌+◌, ◌-◌, ◌<◌, ◌≤◌, List, [], ◌∷◌, ◌++◌, length, take, drop, remove, Option, Some, None, Bool, true, false, cond, ◌||◌, ◌&&◌, nat_eq, refl, sym, ap, ap₂, ◌∙◌, subst, arith, get_or, eqb-true, eq-eqb, ne_eqb, ◌≢◌}
+use Rattle.std.proofs.lemmas.List.{drop_all, drop_more}
 use Rattle.std.proofs.lemmas.Bool.{and_from}
 use Rattle.s390x_base.specs.declared.ir.MachLabel.{MachLabel}
 use Rattle.s390x_buffer.specs.State.{BufferState, poisoned}
@@ -11,10 +11,6 @@ use Rattle.s390x_buffer.specs.declared.entries.RecordedBranches.{RecordedBranche
 use Rattle.s390x_buffer.specs.declared.entries.RecordedBranches.TheVariants.{NoBranch, LoneJump, LoneConditional, ConditionalThenJump, OtherBranches}
 use Rattle.s390x_buffer.specs.declared.label_use.LabelUse.TheVariants.{BranchRIL}
 use Rattle.s390x_buffer.proofs.Extending.{prefix_more}
-
--- the last use of a branch, by its index
-abbrev pub IsLast : ℕ → ℕ → List LabelFixup → Option ℕ → Type 0
-IsLast start l us o = MatchOption o (without_use start l us ≡ us) (λ i. (i < length us) × (without_use start l us ≡ remove us i))
 
 or_true : (b : Bool) → (b || true) ≡ true
 or_true true = refl
@@ -51,36 +47,42 @@ without_other start l (x ∷ xs) u e =
     ∙ ap (λ ys. cond (has_use start l xs) (x ∷ ys) (cond (is_branch_use start l x) (xs ++ u ∷ []) (x ∷ (xs ++ u ∷ [])))) (without_other start l xs u e)
     ∙ step-other (has_use start l xs) (is_branch_use start l x) x (without_use start l xs) xs (u ∷ [])
 
-pub with_last : (start l : ℕ) (us : List LabelFixup) (i : ℕ) (z : LabelFixup) → i < length us → is_branch_use start l (get_or us i z) ≡ true → IsLast start l (take (i + 1) us) (Some i)
-with_last start l us i z lt e =
-    let u = get_or us i z in
-    let step : take (i + 1) us ≡ take i us ++ u ∷ [] = take_more us i z lt in
-    let few : length (take i us) ≡ i = length-take-le i us (omega (arith, lt)) in
-    let many : length (take (i + 1) us) ≡ i + 1 = length-take-le (i + 1) us (omega (arith, lt)) in
-    let inside : i < length (take (i + 1) us) = omega (arith, many) in
-    let front : take i (take (i + 1) us) ≡ take i us = ap (λ ys. take i ys) step ∙ take-append-le i (take i us) (u ∷ []) (omega (arith, few)) ∙ take_all i (take i us) (omega (arith, few)) in
-    let rest : drop (suc i) (take (i + 1) us) ≡ [] = drop_all (suc i) (take (i + 1) us) (omega (arith, many)) in
-    let gone : remove (take (i + 1) us) i ≡ take i us = ap (λ ys. take i (take (i + 1) us) ++ ys) rest ∙ append-nil (take i (take (i + 1) us)) ∙ front in
-    let less : without_use start l (take (i + 1) us) ≡ take i us = ap (λ ys. without_use start l ys) step ∙ without_behind start l (take i us) u e in
-    (inside, less ∙ sym gone)
+-- one that stands among others is one of them
+has_at : (start l : ℕ) (us : List LabelFixup) (i : ℕ) (z : LabelFixup) → i < length us → is_branch_use start l (get_or us i z) ≡ true → has_use start l us ≡ true
+has_at start l [] i z lt e = absurd (omega (arith, lt))
+has_at start l (u ∷ us) zero z lt e = ap (λ b. b || has_use start l us) e
+has_at start l (u ∷ us) (suc i) z lt e = ap (λ b. is_branch_use start l u || b) (has_at start l us i z (omega (arith, lt)) e) ∙ or_true (is_branch_use start l u)
 
-remove-append : (us : List LabelFixup) (j : ℕ) (u : LabelFixup) → j < length us → remove (us ++ u ∷ []) j ≡ remove us j ++ u ∷ []
-remove-append us j u lt =
-    let front : take j (us ++ u ∷ []) ≡ take j us = take-append-le j us (u ∷ []) (omega (arith, lt)) in
-    let rest : drop (suc j) (us ++ u ∷ []) ≡ drop (suc j) us ++ u ∷ [] = drop-append-le (suc j) us (u ∷ []) (omega (arith, lt)) in
-    ap₂ (λ xs ys. xs ++ ys) front rest ∙ sym (append_assoc (take j us) (drop (suc j) us) (u ∷ []))
+-- where none stands behind it, it is the last one
+pub last_found : (start l : ℕ) (us : List LabelFixup) (i : ℕ) (z : LabelFixup) → i < length us → is_branch_use start l (get_or us i z) ≡ true → has_use start l (drop (i + 1) us) ≡ false → without_use start l us ≡ remove us i
+last_found start l [] i z lt e h = absurd (omega (arith, lt))
+last_found start l (u ∷ us) zero z lt e h =
+    ap (λ b. cond b (u ∷ without_use start l us) (cond (is_branch_use start l u) us (u ∷ us))) h
+    ∙ ap (λ b. cond b us (u ∷ us)) e
+last_found start l (u ∷ us) (suc i) z lt e h =
+    ap (λ b. cond b (u ∷ without_use start l us) (cond (is_branch_use start l u) us (u ∷ us))) (has_at start l us i z (omega (arith, lt)) e)
+    ∙ ap (λ ys. u ∷ ys) (last_found start l us i z (omega (arith, lt)) e (subst (λ n. has_use start l (drop n (u ∷ us)) ≡ false) next h))
+  where
+    next : suc i + 1 ≡ suc (i + 1)
+    next = omega arith
 
-last-other : (start l : ℕ) (us : List LabelFixup) (u : LabelFixup) (o : Option ℕ) → is_branch_use start l u ≡ false → IsLast start l us o → IsLast start l (us ++ u ∷ []) o
-last-other start l us u None e h = without_other start l us u e ∙ ap (λ ys. ys ++ u ∷ []) h
-last-other start l us u (Some j) e h =
-    let more : j < length (us ++ u ∷ []) = omega (arith, length-append us (u ∷ []), h.0) in
-    (more, without_other start l us u e ∙ ap (λ ys. ys ++ u ∷ []) h.1 ∙ sym (remove-append us j u h.0))
+or_none : (p q : Bool) → (p || q) ≡ false → (p ≡ false) × (q ≡ false)
+or_none true q h = absurd (cc)
+or_none false q h = (refl, h)
 
-pub same_last : (start l : ℕ) (us : List LabelFixup) (i : ℕ) (z : LabelFixup) (o : Option ℕ) → i < length us → is_branch_use start l (get_or us i z) ≡ false → IsLast start l (take i us) o → IsLast start l (take (i + 1) us) o
-same_last start l us i z o lt e h = subst (λ ys. IsLast start l ys o) (sym (take_more us i z lt)) (last-other start l (take i us) (get_or us i z) o e h)
+-- where there is none, all stay
+pub none_found : (start l : ℕ) (us : List LabelFixup) → has_use start l us ≡ false → without_use start l us ≡ us
+none_found start l [] h = refl
+none_found start l (u ∷ us) h =
+    let p = or_none (is_branch_use start l u) (has_use start l us) h in
+    ap (λ b. cond b (u ∷ without_use start l us) (cond (is_branch_use start l u) us (u ∷ us))) p.1
+    ∙ ap (λ b. cond b us (u ∷ us)) p.0
 
-pub whole_last : (start l : ℕ) (us : List LabelFixup) (i : ℕ) (o : Option ℕ) → length us ≤ i → IsLast start l (take i us) o → IsLast start l us o
-whole_last start l us i o le h = subst (λ ys. IsLast start l ys o) (take_all i us le) h
+pub none_behind : (start l : ℕ) (us : List LabelFixup) (i : ℕ) → length us ≤ i → has_use start l (drop i us) ≡ false
+none_behind start l us i le = ap (has_use start l) (drop_all i us le)
+
+pub none_more : (start l : ℕ) (us : List LabelFixup) (i : ℕ) (z : LabelFixup) → i < length us → is_branch_use start l (get_or us i z) ≡ false → has_use start l (drop (i + 1) us) ≡ false → has_use start l (drop i us) ≡ false
+none_more start l us i z lt e h = ap (has_use start l) (drop_more us i z lt) ∙ ap₂ (λ p q. p || q) e h
 
 not_branch : (k : Bool) (p q : Bool) → (p && q) ≡ false → (k && (p && q)) ≡ false
 not_branch true p q e = e

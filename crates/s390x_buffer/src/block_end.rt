@@ -108,18 +108,17 @@ fn is_branch_use(u: LabelFixup, start: CodeOffset, target: MachLabel) -> bool
     matches!(u.kind, LabelUse::BranchRIL) && u.offset == start && u.label.0 == target.0
 }
 
-// Where the last use of a branch stands.
-#[tactic(auto, using(crate::proofs::Ending::with_last, crate::proofs::Ending::same_last, crate::proofs::Ending::whole_last))]
+// Where the last use of a branch stands. A block's own stand at the end.
+#[tactic(auto, using(crate::proofs::Ending::last_found, crate::proofs::Ending::none_found, crate::proofs::Ending::none_more, crate::proofs::Ending::none_behind))]
 fn last_use(uses: &[LabelFixup], start: CodeOffset, target: MachLabel) -> Option<usize>
     ensures { MatchOption result (without_use start target.0 uses.now ≡ uses.now) (λ i. (i < length uses.now) × (without_use start target.0 uses.now ≡ remove uses.now i)) }
 {
-    let mut last = None;
-    for i in 0..uses.len() {
+    for i in (0..uses.len()).rev() {
         if is_branch_use(uses[i], start, target) {
-            last = Some(i);
+            return Some(i);
         }
     }
-    last
+    None
 }
 
 /// Drops the last use of a branch.
