@@ -1,0 +1,4 @@
+pub mod Text
+pub mod Cut
+pub mod Completions
+pub mod Errors

@@ -1,0 +1,162 @@
+//! Lines of a text, completed to the text of functions.
+ghost use Rattle.std.specs.Prelude.{◌≡◌, ◌++◌, IfOk, OnOk, length, map, take, codes};
+ghost use Rattle.std.specs.Str.{bytes_eq};
+ghost use Rattle.s390x_job.specs.Completions.{closes, closing, joined, opens};
+ghost use Rattle.s390x_bundle_text.specs.Completions.{bundle_completion, close_ending, ends, heads, is_closed, job_ending};
+
+use std::alloc::{AllocError, Global};
+
+fn put(out: &mut Vec<u8>, s: &[u8]) -> Result<(), AllocError>
+    ensures { OnOk result (out.new.items ≡ out.old.items ++ s.now) }
+{
+    out.extend_from_slice(s)
+}
+
+fn front_of(w: &[u8], count: usize) -> &[u8]
+    ensures { result.now ≡ take count w.now }
+{
+    if w.len() < count { w } else { &w[..count] }
+}
+
+fn opens_loop(w: &[u8]) -> bool
+    ensures { result ≡ bytes_eq (take 5 w.now) (codes "Loop ") }
+{
+    front_of(w, 5) == b"Loop ".as_slice()
+}
+
+fn closes_loop(w: &[u8]) -> bool
+    ensures { result ≡ bytes_eq w.now (codes "endloop") }
+{
+    w == b"endloop".as_slice()
+}
+
+fn begins_function(w: &[u8]) -> bool
+    ensures { result ≡ bytes_eq (take 9 w.now) (codes "function ") }
+{
+    front_of(w, 9) == b"function ".as_slice()
+}
+
+/// Whether the line is `end`.
+pub fn ends_job(w: &[u8]) -> bool
+    ensures { result ≡ bytes_eq w.now (codes "end") }
+{
+    w == b"end".as_slice()
+}
+
+/// Whether the line is `close`.
+pub fn closes_text(w: &[u8]) -> bool
+    ensures { result ≡ bytes_eq w.now (codes "close") }
+{
+    w == b"close".as_slice()
+}
+
+fn count_opens(ws: &[&[u8]]) -> usize
+    ensures { result ≡ opens (map (λ w. w.now) ws.now) }
+{
+    let mut n: usize = 0;
+    for w in ws {
+        if opens_loop(w) {
+            n += 1;
+        }
+    }
+    n
+}
+
+fn count_closes(ws: &[&[u8]]) -> usize
+    ensures { result ≡ closes (map (λ w. w.now) ws.now) }
+{
+    let mut n: usize = 0;
+    for w in ws {
+        if closes_loop(w) {
+            n += 1;
+        }
+    }
+    n
+}
+
+fn count_heads(ws: &[&[u8]]) -> usize
+    ensures { result ≡ heads (map (λ w. w.now) ws.now) }
+{
+    let mut n: usize = 0;
+    for w in ws {
+        if begins_function(w) {
+            n += 1;
+        }
+    }
+    n
+}
+
+fn count_ends(ws: &[&[u8]]) -> usize
+    ensures { result ≡ ends (map (λ w. w.now) ws.now) }
+{
+    let mut n: usize = 0;
+    for w in ws {
+        if ends_job(w) {
+            n += 1;
+        }
+    }
+    n
+}
+
+fn is_closed(ws: &[&[u8]]) -> bool
+    ensures { result ≡ is_closed (map (λ w. w.now) ws.now) }
+{
+    for w in ws {
+        if closes_text(w) {
+            return true;
+        }
+    }
+    false
+}
+
+fn put_joined(out: &mut Vec<u8>, ws: &[&[u8]]) -> Result<(), AllocError>
+    ensures { OnOk result (out.new.items ≡ out.old.items ++ joined (map (λ w. w.now) ws.now)) }
+{
+    for w in ws {
+        put(out, w)?;
+        put(out, b"\n")?;
+    }
+    Ok(())
+}
+
+fn put_closing(out: &mut Vec<u8>, n: usize) -> Result<(), AllocError>
+    ensures { OnOk result (out.new.items ≡ out.old.items ++ closing n) }
+{
+    let mut k = n;
+    while k > 0 {
+        put(out, b"endloop\n")?;
+        k -= 1;
+    }
+    put(out, b"end\n")
+}
+
+// What the last job lacks, where more lines begin with `function ` than are `end`.
+fn put_job_ending(out: &mut Vec<u8>, ws: &[&[u8]]) -> Result<(), AllocError>
+    ensures { OnOk result (out.new.items ≡ out.old.items ++ job_ending (map (λ w. w.now) ws.now)) }
+{
+    if count_ends(ws) < count_heads(ws) {
+        return put_closing(out, count_opens(ws).saturating_sub(count_closes(ws)));
+    }
+    Ok(())
+}
+
+// A line `close`, where none of the lines is one.
+fn put_close_ending(out: &mut Vec<u8>, ws: &[&[u8]]) -> Result<(), AllocError>
+    ensures { OnOk result (out.new.items ≡ out.old.items ++ close_ending (map (λ w. w.now) ws.now)) }
+{
+    if is_closed(ws) {
+        return Ok(());
+    }
+    put(out, b"close\n")
+}
+
+/// The text of lines, completed.
+pub fn complete(alloc: Global, ws: &[&[u8]]) -> Result<Vec<u8>, AllocError>
+    ensures { IfOk result (λ v. v.items ≡ bundle_completion (map (λ w. w.now) ws.now)) }
+{
+    let mut out = Vec::new(alloc);
+    put_joined(&mut out, ws)?;
+    put_job_ending(&mut out, ws)?;
+    put_close_ending(&mut out, ws)?;
+    Ok(out)
+}

@@ -1,0 +1,75 @@
+//! The exact reader of several functions' text.
+ghost use Rattle.std.specs.Prelude.{◌≡◌, ℕ, ◌<◌, ◌≤◌, IfErr, IfOk, Decides, MatchResult, length, map, take};
+ghost use Rattle.s390x_job.specs.Completions.{joined};
+ghost use Rattle.s390x_bundle_text.specs.Completions.{IsBundleText, IsFirstWrongOfBundle, bundle_completion};
+ghost use Rattle.s390x_bundle_text.specs.Errors.{HasNoFunctions};
+ghost use Rattle.s390x_bundle_text.specs.Text.{AreFunctionsOf};
+
+use crate::complete::complete;
+use crate::cut::split_lines;
+use crate::error::BundleTextError;
+use crate::find::{Found, find_functions};
+use crate::named_job::NamedJob;
+use std::alloc::{AllocError, Global};
+
+// Whether this is the text of functions.
+fn is_text(alloc: Global, bytes: &[u8]) -> Result<bool, AllocError>
+    requires { length bytes.now < 4294967295 }
+    ensures { IfOk result (λ b. Decides b (IsBundleText bytes.now)) }
+{
+    match find_functions(alloc, bytes)? {
+        Found::Whole(_) => Ok(true),
+        Found::Stuck(_) => Ok(false),
+    }
+}
+
+// The number of the line, where no completion of more than `top` lines is a text.
+fn line_number(alloc: Global, ws: &[&[u8]], top: usize) -> Result<usize, AllocError>
+    requires small { top ≤ length ws.now }
+    requires short { length (joined (map (λ w. w.now) ws.now)) < 268435456 }
+    requires above { (m : ℕ) → top < m → m ≤ length ws.now → IsBundleText (bundle_completion (take m (map (λ w. w.now) ws.now))) → ⊥ }
+    ensures { IfOk result (λ n. IsFirstWrongOfBundle (map (λ w. w.now) ws.now) n) }
+{
+    let mut k = top;
+    while k > 0 {
+        let text = complete(alloc, &ws[..k])?;
+        if is_text(alloc, &text)? {
+            return Ok(k + 1);
+        }
+        k -= 1;
+    }
+    Ok(1)
+}
+
+fn read_inner(
+    alloc: Global,
+    bytes: &[u8],
+) -> Result<Result<Vec<NamedJob>, BundleTextError>, AllocError>
+    requires { length bytes.now < 268435456 }
+    ensures { IfOk result (λ r. MatchResult r (λ functions. AreFunctionsOf bytes.now functions.items) (HasNoFunctions bytes.now)) }
+{
+    match find_functions(alloc, bytes)? {
+        Found::Whole(functions) => Ok(Ok(functions)),
+        Found::Stuck(top) => {
+            let ws = split_lines(alloc, bytes)?;
+            let line = line_number(alloc, &ws, top)?;
+            Ok(Err(BundleTextError::Syntax { line: line as u32 }))
+        }
+    }
+}
+
+/// The functions whose text this is: for each a line `function uN` with its name and a job, and then a line `close`.
+///
+/// `Syntax` comes exactly where the bytes are the text of no functions. Its line is 1 plus the greatest k that is 0 or for which the first k lines can be
+/// completed to such a text. Completing adds, where more of the lines begin with `function ` than are `end`, a line `endloop` for each line that begins with
+/// `Loop ` beyond those that are `endloop`, and a line `end`; then a line `close`, where none is one. `NoMemory` comes for want of memory alone.
+pub fn read_bundle(alloc: Global, bytes: &[u8]) -> Result<Vec<NamedJob>, BundleTextError>
+    requires { length bytes.now < 268435456 }
+    ensures functions { IfOk result (λ functions. AreFunctionsOf bytes.now functions.items) }
+    ensures error { IfErr result (HasNoFunctions bytes.now) }
+{
+    match read_inner(alloc, bytes) {
+        Ok(read) => read,
+        Err(_) => Err(BundleTextError::NoMemory),
+    }
+}
