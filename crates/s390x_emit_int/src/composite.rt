@@ -50,7 +50,7 @@ fn comparison_cause(tmp: &Reg, rn: &Reg, rm: &Reg) -> Option<EmitError>
     unless_valid(valid)
 }
 
-/// Why a vector instruction of several machine instructions is refused; another one isn't built.
+/// Why a vector instruction of several machine instructions is refused; another one has no row.
 pub fn composite_cause(inst: &VecInst) -> Option<EmitError>
     ensures { result ≡ composite_cause inst.now }
 {
@@ -77,7 +77,7 @@ fn reversal_size(count: u64) -> u64
     }
 }
 
-/// How many bytes it has; none where it isn't built.
+/// How many bytes it has; another instruction has none.
 #[tactic(auto, unfolding(s390x_format::specs::Formats::length_of))]
 pub fn composite_size(inst: &VecInst) -> u64
     ensures value { result ≡ parts_size (row_parts (composite_rows inst.now)) }

@@ -22,7 +22,7 @@ use s390x_emit_vec::find_move_under;
 use s390x_enc::enc_ri_c;
 use s390x_inst::VecInst;
 
-/// Why a move under a condition is refused; another instruction isn't built.
+/// Why a move under a condition is refused; another instruction has no row.
 pub fn move_cause(inst: &VecInst) -> Option<EmitError>
     ensures { result ≡ cause_under (move_under inst.now) }
 {
@@ -51,7 +51,7 @@ fn is_short(inst: &VecInst) -> bool
     }
 }
 
-/// How many bytes it has; none where it isn't built.
+/// How many bytes it has; another instruction has none.
 pub fn move_size(inst: &VecInst) -> u64
     ensures value { result ≡ parts_size (row_parts (rows_under (move_under inst.now))) }
     ensures few { result < 16 }

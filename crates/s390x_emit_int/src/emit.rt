@@ -187,6 +187,7 @@ impl MachInstEmit for Inst {
 
     /// Appends the instruction. The state's stack map is dropped, and a call has recorded it; `AllocateArgs` has added its size to the nominal one, and a call
     /// has taken off what its callee pops. A call that isn't patchable, also one in a `Loop`, leaves no outgoing size; all else of the state stays.
+    /// A `Jump` and a `CondBr` record their branches, which `end_block` of the buffer may fold.
     ///
     /// Refused by `Failed` where the buffer bears the mark, then by the first cause of its steps, where the buffer tells the blocks, the
     /// constants and the labels, and last by `LabelOutOfRange` where the length would reach 2^31. A refused call marks the buffer and leaves what stood in

@@ -144,7 +144,7 @@ fn emit_block(
 {
     let mut behind = *state;
     emit_block_members(alloc, flags, sink, &mut behind, &block.insts)?;
-    // in full it ends below the limit
+    // asked for its contract alone: in full the block ends below the limit
     let _longest = sink.cur_offset();
     match end_cause(&behind) {
         Some(error) => Err(error),
@@ -294,11 +294,12 @@ fn new_buffer(alloc: Global, function: &AllocatedFunction) -> Result<MachBuffer,
 /// Emits a function: binds each block's label, emits its members, folds its last branches, and finishes the code with the constants behind it.
 ///
 /// Of a block's last step, where that is a `Jump` or a `CondBr`, no branch to the next block is left: a `Jump` there has no bytes, nor has a `CondBr` with both
-/// labels there; one of whose labels one is there is a single branch to the other label, under the inverse condition where `not_taken` is the other one.
+/// labels there; one with one label there is a single branch to the other label, under the inverse condition where that is `not_taken`.
 ///
 /// Refused by the first cause in this order: the state's sizes (`BadStackState`), the constants' alignments (`BadAlignment`),
 /// the count of blocks and constants (`LabelOutOfRange`), each step in order (first of all `MissingFacility`) and behind
-/// each block's last step the nominal size that isn't 0 (`BadStackState`), the length (`LabelOutOfRange`).
+/// each block's last step the nominal size that isn't 0 (`BadStackState`), the length, in which a block's last step counts in full until its block
+/// has ended (`LabelOutOfRange`).
 pub fn emit_function(
     alloc: Global,
     function: &AllocatedFunction,

@@ -399,7 +399,7 @@ fn compare_and_swap(
     })
 }
 
-/// The machine rows and the operand of an instruction with a memory operand, where it is one that is built.
+/// The machine rows and the operand of an instruction with a memory operand, where it is one.
 pub fn find_memory(inst: &Inst) -> Option<MemoryInst>
     ensures row { option_map memory_instruction_of result ≡ memory inst.now }
     ensures encodes { IfSome result (λ x. may_encode x ≡ true) }

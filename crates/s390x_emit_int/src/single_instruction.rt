@@ -35,7 +35,7 @@ use s390x_typed_steps::immediates::{
     bits_of_halfword, bits_of_unsigned, bits_of_unsigned_halfword, bits_of_word,
 };
 
-/// The code of the one machine instruction of an instruction that is built as one, or `BadRegister` where its registers may not stand there: real general
+/// The code of the one machine instruction of an instruction that is one, or `BadRegister` where its registers may not stand there: real general
 /// ones, and the input that has to be the output is it.
 ///
 /// What it calls takes references and small values alone, so that little has to be made ready for an instruction that is none of these.

@@ -75,7 +75,7 @@ abbrev pub ValidMemoryOr : Layout → Option MemoryInstruction → Type 0 → Ty
 ValidMemoryOr L None others = others
 ValidMemoryOr L (Some x) others = IsValidMemory L x
 
--- what emission has checked of an instruction: it is built, and its registers may stand where they do
+-- what emission has checked of an instruction: it has rows, and its registers may stand where they do
 abbrev pub IsValidInstruction : Layout → Inst → Type 0
 IsValidInstruction L i = OperandsValidOr (single_instruction i) (ValidMemoryOr L (memory i) (IsValidBranch L i))
 

@@ -66,7 +66,7 @@ pub data StepKind : Type 0 where
   DebugStops : StepKind
   -- nothing, and no bytes
   Silent : StepKind
-  -- a step that isn't built yet: emission refuses it
+  -- a step that emission refuses
   Unsupported : StepKind
 
 -- what an instruction does that is one operation

@@ -461,7 +461,7 @@ pub const INDEXED_ADDRESS: SecondOperand = SecondOperand {
     reversed: false,
 };
 
-/// The rows that are built, by rising opcode.
+/// The machine rows, by rising opcode.
 #[rattlefmt::skip]
 pub const ROW_SEMANTICS: [OpcodeSemantics; 401] = [
     OpcodeSemantics { opcode: 0x07, semantics: RowSemantics::BranchToRegister }, // bcr

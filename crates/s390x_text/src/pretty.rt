@@ -150,9 +150,9 @@ fn put_inst(
     }
 }
 
-/// The text of an instruction as emission puts it for the machine of `info`, in a state of emission, which goes on to that behind the instruction:
-/// after `AllocateArgs` its nominal size is that of the arguments, after a `Call` its nominal and its outgoing size are 0. A refused call leaves it
-/// as it was.
+/// The text of an instruction as emission puts it for the machine of `info`, in a state of emission; branches that the end of a block leaves away are
+/// shown. The state goes on to that behind the instruction: after `AllocateArgs` its nominal size is that of the arguments, after a `Call` its nominal and
+/// its outgoing size are 0. A refused call leaves it as it was.
 ///
 /// `NoRow` exactly where an operator, type, size, bit, lane or shift number has no row, a `Loop` is nested more than 8 deep, a result of type
 /// `I8X8` would be loaded behind a call, or the frame of a tail call saves general registers from one outside 6 to 14 on; `BadPair` where the

@@ -48,7 +48,7 @@ abbrev pub table_cause : (blocks : ℕ) → (index : Reg) → (other : MachLabel
 table_cause blocks index other targets =
     first_emit_cause (unless (is_general index && is_nonzero index) BadRegister) (first_emit_cause (unless (not (is_scratch index)) ScratchConflict) (first_emit_cause (target_label_cause blocks other) (labels_cause blocks targets)))
 
--- the causes of an instruction that names a place, goes elsewhere or ends the run, inside so many loops; one that isn't built yet is refused
+-- the causes of an instruction that names a place, goes elsewhere or ends the run, inside so many loops; any other is refused
 abbrev pub branch_cause : (blocks depth : ℕ) → Inst → Option EmitError
 branch_cause blocks depth (Jump dest) = target_label_cause blocks dest
 branch_cause blocks depth (CondBr taken not_taken mask) = first_emit_cause (target_label_cause blocks taken) (target_label_cause blocks not_taken)

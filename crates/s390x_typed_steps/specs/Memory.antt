@@ -216,7 +216,7 @@ vector_memory (VecLoadReplicate size rd mem) = access_elements 0xe705 rd (elemen
 vector_memory (VecLoadReplicateRev size rd mem) = access_elements 0xe605 rd (reversed_code size) mem
 vector_memory v = lane_memory v
 
--- the machine rows and the operand of an instruction with a memory operand, where it is one that is built
+-- the machine rows and the operand of an instruction with a memory operand, where it is one
 abbrev pub memory : Inst → Option MemoryInstruction
 memory (AluRX op rd ri mem) = operate (is_some (alu_rx op) || is_some (alu_rxy op)) (alu_rx op) (alu_rxy op) rd ri mem
 memory (CmpRX op rn mem) = compare rn (cmp_rx op) (cmp_rxy op) (cmp_ril op) mem

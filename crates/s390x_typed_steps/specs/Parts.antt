@@ -132,7 +132,7 @@ abbrev pub row_parts : List MachineInstruction → List CodePart
 row_parts [] = []
 row_parts (m ∷ ms) = Row m ∷ row_parts ms
 
--- the parts of an instruction that names a place, goes elsewhere or ends the run; of one that isn't built yet, none: emission refuses it
+-- the parts of an instruction that names a place, goes elsewhere or ends the run; of any other, none: emission refuses it
 abbrev pub branch_parts : Inst → List CodePart
 branch_parts (Jump dest) = Branch 15 (ToBlock dest.0) ∷ []
 branch_parts (CondBr taken not_taken mask) = Branch mask (ToBlock taken.0) ∷ Branch 15 (ToBlock not_taken.0) ∷ []

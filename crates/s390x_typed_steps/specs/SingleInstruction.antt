@@ -88,7 +88,7 @@ abbrev pub single_with : Bool → Option MachineInstruction → Option SingleIns
 single_with operands_valid None = None
 single_with operands_valid (Some row) = Some (record { row = row; operands_valid = operands_valid })
 
--- the one machine instruction of an instruction, where it is one that is built
+-- the one machine instruction of an instruction, where it is one
 abbrev pub single_instruction : Inst → Option SingleInstruction
 single_instruction (AluRRR op rd rn rm) = single_with (is_general rd && is_general rn && is_general rm) (three_row (alu_three op) (alu_two op) (number_of rd) (number_of rn) (number_of rm))
 single_instruction (AluRR op rd ri rm) = single_with (reuses rd ri && is_general rm) (two_row (alu_two op) (number_of rd) (number_of rm))

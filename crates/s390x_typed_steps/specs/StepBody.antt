@@ -1,5 +1,5 @@
--- What a typed step is made of, outside the ends of loops: a whole instruction, one of whose branches the end of its block left less, or a step of those that
--- a call or a tail call consists of.
+-- What a typed step is made of, outside the ends of loops: a whole instruction, one with what the end of its block leaves of its branches, one whose operand's
+-- address is loaded first, or a step of those that a call or a tail call consists of.
 use Rattle.std.specs.Prelude.{ℕ, List, Option, Bool}
 use Rattle.s390x_base.specs.declared.regs.Reg.{Reg}
 use Rattle.s390x_buffer.specs.declared.entries.TryHandler.{TryHandler}

@@ -75,7 +75,7 @@ abbrev pub rows_cause : Option (List MachineInstruction) → (operands_valid : B
 rows_cause None operands_valid = Some BadOperator
 rows_cause (Some rows) operands_valid = cond operands_valid None (Some BadRegister)
 
--- why a vector instruction that is several machine instructions is refused; another one isn't built
+-- why a vector instruction that is several machine instructions is refused; another one has no row
 abbrev pub composite_cause : VecInst → Option EmitError
 composite_cause (VecEltRev count rd rn) = rows_cause (reversing_rows count (number_of rd) (number_of rn)) (is_vector rd && is_vector rn)
 composite_cause (VecInt128SCmpHi tmp rn rm) = cond (is_vector tmp && is_vector rn && is_vector rm) None (Some BadRegister)

@@ -81,7 +81,7 @@ move_left_row opcode d n = cond (nat_lt d 16 && nat_lt n 16) (rr opcode d n) (vr
 abbrev pub reuses_vector : (output input : Reg) → Bool
 reuses_vector output input = is_vector output && is_vector input && nat_eq (number_of output) (number_of input)
 
--- the one machine instruction of a vector instruction, where it is one that is built
+-- the one machine instruction of a vector instruction, where it is one
 abbrev pub vector_row : VecInst → Option MachineInstruction
 vector_row (VecRRR op rd rn rm) = Some (vrr_c (binary_row op).opcode (number_of rd) (number_of rn) (number_of rm) (binary_row op).code)
 vector_row (VecRR op rd rn) = Some (vrr_a (unary_row op).opcode (number_of rd) (number_of rn) (unary_row op).code)

@@ -1,4 +1,3 @@
--- The names of these goals follow those of a test of one number; the check tells what they are.
 use Rattle.std.proofs.Common.{◌∙◌, sym, ap, map, nat_lt}
 use Rattle.s390x_buffer.specs.Constants.{constants_end}
 use Rattle.s390x_buffer.specs.State.{constant_of, limit}
