@@ -1,0 +1,7 @@
+pub mod Agreeing
+pub mod Answering
+pub mod Example
+pub mod Meeting
+pub mod Sameness
+pub mod Turning
+pub mod Walking

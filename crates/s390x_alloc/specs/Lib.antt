@@ -1,0 +1,14 @@
+pub mod Answered
+pub mod Answers
+pub mod Blocks
+pub mod Checked
+pub mod Entries
+pub mod Example
+pub mod Faults
+pub mod Given
+pub mod Held
+pub mod Moves
+pub mod Same
+pub mod Shape
+pub mod Steps
+pub mod Walks

@@ -1,0 +1,187 @@
+-- Where a block leads, and which instructions a plan can't be made for.
+use Rattle.std.specs.Prelude.{ℕ, ◌+◌, ◌-◌, Bool, true, false, ◌&&◌, ◌||◌, not, is_some, nat_eq, nat_lt, List, [], ◌∷◌, length, slice_get, Option, Some, None, cond}
+use Rattle.s390x_base.specs.declared.ir.MachLabel.{MachLabel}
+use Rattle.s390x_inst.specs.declared.args.MemArg.{MemArg}
+use Rattle.s390x_inst.specs.declared.args.MemArg.TheVariants.{Label}
+use Rattle.s390x_inst.specs.declared.inst.Inst.{Inst}
+use Rattle.s390x_inst.specs.declared.inst.Inst.TheVariants.{Jump, CondBr, IndirectBr, JTSequence, Ret, ReturnCall, Trap, Call, LabelAddress, Vector, Loop'}
+use Rattle.s390x_inst.specs.declared.inst.Inst.TheVariants.{AluRX, CmpRX, Load32, Load32ZExt8, Load32SExt8, Load32ZExt16, Load32SExt16, Load64, Load64ZExt8, Load64SExt8, Load64ZExt16, Load64SExt16, Load64ZExt32, Load64SExt32, LoadRev16, LoadRev32, LoadRev64}
+use Rattle.s390x_inst.specs.declared.inst.Inst.TheVariants.{Store8, Store16, Store32, Store64, StoreRev16, StoreRev32, StoreRev64, StoreImm8, StoreImm16, StoreImm32SExt16, StoreImm64SExt16, LoadMultiple64, StoreMultiple64, LoadAddr, AtomicRmw, AtomicCas32, AtomicCas64}
+use Rattle.s390x_inst.specs.declared.vec_inst.VecInst.{VecInst}
+use Rattle.s390x_inst.specs.declared.vec_inst.VecInst.TheVariants.{VecLoad, VecLoadRev, VecLoadByte16Rev, VecLoadByte32Rev, VecLoadByte64Rev, VecLoadElt16Rev, VecLoadElt32Rev, VecLoadElt64Rev, VecStore, VecStoreRev, VecStoreByte16Rev, VecStoreByte32Rev, VecStoreByte64Rev}
+use Rattle.s390x_inst.specs.declared.vec_inst.VecInst.TheVariants.{VecStoreElt16Rev, VecStoreElt32Rev, VecStoreElt64Rev, VecLoadReplicate, VecLoadReplicateRev, VecLoadLane, VecLoadLaneRev, VecLoadLaneUndef, VecLoadLaneRevUndef, VecStoreLane, VecStoreLaneRev}
+use Rattle.s390x_operands.specs.Operands.{is_loop}
+
+-- ---- where a block leads
+
+-- how an instruction goes on where it is the last one of its block
+pub data Ending : Type 0 where
+  -- to one of the blocks with these labels
+  leads_to : List MachLabel → Ending
+  -- it leaves the function, or stops
+  leaves : Ending
+  -- to the next block
+  falls : Ending
+
+abbrev pub ending : Inst → Ending
+ending (Jump dest) = leads_to (dest ∷ [])
+ending (CondBr taken not_taken mask) = leads_to (taken ∷ not_taken ∷ [])
+ending (IndirectBr rn targets) = leads_to targets.items
+ending (JTSequence ridx default mask targets) = leads_to (default ∷ targets.items)
+ending (Ret link) = leaves
+ending (ReturnCall info) = leaves
+ending (Trap code) = leaves
+ending i = falls
+
+-- the same of a last instruction; an empty block goes on to the next one
+abbrev pub ending_of : Option Inst → Ending
+ending_of None = falls
+ending_of (Some i) = ending i
+
+-- the same of a block's instructions
+abbrev pub block_ending : List Inst → Ending
+block_ending is = ending_of (slice_get is (length is - 1))
+
+-- it names the blocks that it leads to
+abbrev pub is_leading : Ending → Bool
+is_leading (leads_to labels) = true
+is_leading leaves = false
+is_leading falls = false
+
+-- nothing behind it runs
+abbrev pub is_end : Ending → Bool
+is_end (leads_to labels) = true
+is_end leaves = true
+is_end falls = false
+
+-- a label is among these
+abbrev pub is_label_in : List MachLabel → ℕ → Bool
+is_label_in [] n = false
+is_label_in (l ∷ ls) n = nat_eq l.0 n || is_label_in ls n
+
+-- block `here` of `count` blocks, with this ending, has block n as a successor
+abbrev pub ends_before : (count here : ℕ) → Ending → ℕ → Bool
+ends_before count here (leads_to labels) n = is_label_in labels n
+ends_before count here leaves n = false
+ends_before count here falls n = nat_eq (here + 1) n && nat_lt n count
+
+-- the same of a block's instructions
+abbrev pub precedes : (count here : ℕ) → List Inst → ℕ → Bool
+precedes count here is n = ends_before count here (block_ending is) n
+
+-- ---- the labels that an instruction names
+
+-- the operand in memory of a vector instruction
+abbrev pub vector_memory : VecInst → Option MemArg
+vector_memory (VecLoad rd mem) = Some mem
+vector_memory (VecLoadRev rd mem) = Some mem
+vector_memory (VecLoadByte16Rev rd mem) = Some mem
+vector_memory (VecLoadByte32Rev rd mem) = Some mem
+vector_memory (VecLoadByte64Rev rd mem) = Some mem
+vector_memory (VecLoadElt16Rev rd mem) = Some mem
+vector_memory (VecLoadElt32Rev rd mem) = Some mem
+vector_memory (VecLoadElt64Rev rd mem) = Some mem
+vector_memory (VecStore rd mem) = Some mem
+vector_memory (VecStoreRev rd mem) = Some mem
+vector_memory (VecStoreByte16Rev rd mem) = Some mem
+vector_memory (VecStoreByte32Rev rd mem) = Some mem
+vector_memory (VecStoreByte64Rev rd mem) = Some mem
+vector_memory (VecStoreElt16Rev rd mem) = Some mem
+vector_memory (VecStoreElt32Rev rd mem) = Some mem
+vector_memory (VecStoreElt64Rev rd mem) = Some mem
+vector_memory (VecLoadReplicate size rd mem) = Some mem
+vector_memory (VecLoadReplicateRev size rd mem) = Some mem
+vector_memory (VecLoadLane size rd ri mem lane_imm) = Some mem
+vector_memory (VecLoadLaneRev size rd ri mem lane_imm) = Some mem
+vector_memory (VecLoadLaneUndef size rd mem lane_imm) = Some mem
+vector_memory (VecLoadLaneRevUndef size rd mem lane_imm) = Some mem
+vector_memory (VecStoreLane size rd mem lane_imm) = Some mem
+vector_memory (VecStoreLaneRev size rd mem lane_imm) = Some mem
+vector_memory v = None
+
+-- the operand in memory of an instruction
+abbrev pub memory_operand : Inst → Option MemArg
+memory_operand (AluRX alu_op rd ri mem) = Some mem
+memory_operand (CmpRX op rn mem) = Some mem
+memory_operand (Load32 rd mem) = Some mem
+memory_operand (Load32ZExt8 rd mem) = Some mem
+memory_operand (Load32SExt8 rd mem) = Some mem
+memory_operand (Load32ZExt16 rd mem) = Some mem
+memory_operand (Load32SExt16 rd mem) = Some mem
+memory_operand (Load64 rd mem) = Some mem
+memory_operand (Load64ZExt8 rd mem) = Some mem
+memory_operand (Load64SExt8 rd mem) = Some mem
+memory_operand (Load64ZExt16 rd mem) = Some mem
+memory_operand (Load64SExt16 rd mem) = Some mem
+memory_operand (Load64ZExt32 rd mem) = Some mem
+memory_operand (Load64SExt32 rd mem) = Some mem
+memory_operand (LoadRev16 rd mem) = Some mem
+memory_operand (LoadRev32 rd mem) = Some mem
+memory_operand (LoadRev64 rd mem) = Some mem
+memory_operand (Store8 rd mem) = Some mem
+memory_operand (Store16 rd mem) = Some mem
+memory_operand (Store32 rd mem) = Some mem
+memory_operand (Store64 rd mem) = Some mem
+memory_operand (StoreRev16 rd mem) = Some mem
+memory_operand (StoreRev32 rd mem) = Some mem
+memory_operand (StoreRev64 rd mem) = Some mem
+memory_operand (StoreImm8 imm mem) = Some mem
+memory_operand (StoreImm16 imm mem) = Some mem
+memory_operand (StoreImm32SExt16 imm mem) = Some mem
+memory_operand (StoreImm64SExt16 imm mem) = Some mem
+memory_operand (LoadMultiple64 rt rt2 mem) = Some mem
+memory_operand (StoreMultiple64 rt rt2 mem) = Some mem
+memory_operand (LoadAddr rd mem) = Some mem
+memory_operand (AtomicRmw alu_op rd rn mem) = Some mem
+memory_operand (AtomicCas32 rd ri rn mem) = Some mem
+memory_operand (AtomicCas64 rd ri rn mem) = Some mem
+memory_operand (Vector v) = vector_memory v
+memory_operand i = None
+
+-- the label of an operand in memory
+abbrev pub memory_labels : Option MemArg → List MachLabel
+memory_labels None = []
+memory_labels (Some (Label target)) = target ∷ []
+memory_labels (Some mem) = []
+
+-- all labels that an instruction names, but for the handlers of a call
+abbrev pub named_labels : Inst → List MachLabel
+named_labels (Jump dest) = dest ∷ []
+named_labels (CondBr taken not_taken mask) = taken ∷ not_taken ∷ []
+named_labels (IndirectBr rn targets) = targets.items
+named_labels (JTSequence ridx default mask targets) = default ∷ targets.items
+named_labels (LabelAddress dst label) = label ∷ []
+named_labels i = memory_labels (memory_operand i)
+
+-- ---- what a plan can't be made for
+
+-- it is a call with handlers of exceptions
+abbrev pub is_try_call : Inst → Bool
+is_try_call (Call link info) = is_some info.try_call_info
+is_try_call i = false
+
+-- a loop, or a call with handlers
+abbrev pub is_unsupported : Inst → Bool
+is_unsupported i = is_loop i || is_try_call i
+
+-- the first such instruction, where the first of these has this number
+abbrev pub first_unsupported : (number : ℕ) → List Inst → Option ℕ
+first_unsupported number [] = None
+first_unsupported number (i ∷ is) = cond (is_unsupported i) (Some number) (first_unsupported (number + 1) is)
+
+-- some label is none of so many blocks
+abbrev pub names_no_block : (count : ℕ) → List MachLabel → Bool
+names_no_block count [] = false
+names_no_block count (l ∷ ls) = not (nat_lt l.0 count) || names_no_block count ls
+
+abbrev pub is_empty : List Inst → Bool
+is_empty is = nat_eq (length is) 0
+
+-- an instruction leads to other blocks before the end of its own, or names a label that is no block
+abbrev pub is_misshapen : (count : ℕ) → Inst → (behind : List Inst) → Bool
+is_misshapen count i behind = (is_leading (ending i) && not (is_empty behind)) || names_no_block count (named_labels i)
+
+-- the first such instruction, where the first of these has this number
+abbrev pub first_misshapen : (count number : ℕ) → List Inst → Option ℕ
+first_misshapen count number [] = None
+first_misshapen count number (i ∷ is) = cond (is_misshapen count i is) (Some number) (first_misshapen count (number + 1) is)
