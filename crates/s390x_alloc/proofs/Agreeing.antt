@@ -1,6 +1,6 @@
 -- Where what is held agrees with the values of registers and places, it does so behind each edit.
 use Rattle.std.proofs.Common.{◌≡◌, ℕ, ◌+◌, Bool, true, false, cond, List, [], ◌∷◌, ◌++◌, Option, Some, None, ◌⊎◌, inl, inr, refl, sym, ap, subst, ◌∙◌}
-use Rattle.std.specs.Prelude.{◌||◌, ◌&&◌, not, filter}
+use Rattle.std.specs.Prelude.{◌||◌, not, filter}
 use Rattle.std.proofs.lemmas.Bool.{and_parts, and_from, cases_Bool, cond-true, cond-false, false≢true, or_cases, or_from, or_left, or_parts, or_right}
 use Rattle.s390x_base.specs.Registers.{RealRegister}
 use Rattle.s390x_base.specs.declared.regs.Reg.{Reg}
@@ -12,7 +12,7 @@ use Rattle.s390x_operands.specs.declared.constraint.Reported.TheVariants.{Operan
 use Rattle.s390x_alloc.specs.declared.given.GivenOperand.{GivenOperand}
 use Rattle.s390x_alloc.specs.declared.plan.EntryPair.{EntryPair}
 use Rattle.s390x_alloc.specs.declared.plan.Place.{Place}
-use Rattle.s390x_alloc.specs.declared.plan.Place.TheVariants.{Reg as InReg, Slot}
+use Rattle.s390x_alloc.specs.declared.plan.Place.TheVariants.{Reg as InReg}
 use Rattle.s390x_alloc.specs.Held.{carried, holds, is_in_set, moved, stepped, with_operand, with_operands, with_output, without_item, without_items, without_place}
 use Rattle.s390x_alloc.specs.Same.{same_pair, same_place, same_register}
 use Rattle.s390x_alloc.specs.Steps.{first_unheld, is_held}

@@ -1,5 +1,5 @@
 -- One more edit, block or constant is answered.
-use Rattle.std.proofs.Common.{◌≡◌, ℕ, ◌+◌, ◌<◌, List, [], ◌∷◌, ◌++◌, length, get_or, drop, map, append_assoc, slice_get, sym, ap, ◌∙◌}
+use Rattle.std.proofs.Common.{◌≡◌, ℕ, ◌+◌, ◌<◌, List, [], ◌∷◌, ◌++◌, length, get_or, drop, map, append_assoc, sym, ap, ◌∙◌}
 use Rattle.std.proofs.lemmas.List.{map-append}
 use Rattle.s390x_inst.specs.Portions.{Portion, portions}
 use Rattle.s390x_inst.specs.declared.function.Block.{Block}
@@ -7,7 +7,7 @@ use Rattle.s390x_inst.specs.declared.inst.Inst.{Inst}
 use Rattle.s390x_alloc.specs.declared.plan.BlockPlan.{BlockPlan}
 use Rattle.s390x_alloc.specs.declared.plan.Edit.{Edit}
 use Rattle.s390x_alloc.specs.Answers.{block_answer, blocks_answer, edit_portions, edits_portions}
-use Rattle.s390x_alloc.specs.Blocks.{left_behind, steps_in}
+use Rattle.s390x_alloc.specs.Blocks.{steps_in}
 use Rattle.s390x_alloc.proofs.Turning.{cons_of, drop_more}
 
 -- one more image of a list

@@ -1,5 +1,5 @@
 -- The plan of the example has no fault, and the walk is one.
-use Rattle.std.proofs.Common.{◌≡◌, ℕ, ◌<◌, ◌^◌, List, [], ◌∷◌, length, Vec, Global, refl, arith}
+use Rattle.std.proofs.Common.{ℕ, ◌<◌, ◌^◌, List, [], ◌∷◌, length, Vec, Global, refl, arith}
 use Rattle.std.specs.Prelude.{pos}
 use Rattle.s390x_base.specs.Registers.{general}
 use Rattle.s390x_base.specs.declared.regs.Reg.{Reg}

@@ -1,5 +1,5 @@
 -- One more item of a list, edit of a block or block of a plan is looked at.
-use Rattle.std.proofs.Common.{◌≡◌, ℕ, zero, suc, ◌+◌, ◌<◌, ◌≤◌, Bool, List, [], ◌∷◌, ◌++◌, length, get_or, drop, drop-cons, length-append, append_assoc, Option, Some, None, Result, Ok, Err, ◌⊎◌, inl, inr, slice_get, refl, sym, ap, ◌∙◌, arith}
+use Rattle.std.proofs.Common.{◌≡◌, ℕ, zero, suc, ◌+◌, ◌<◌, ◌≤◌, Bool, List, [], ◌∷◌, ◌++◌, length, get_or, drop, drop-cons, length-append, append_assoc, Result, Ok, Err, inl, inr, slice_get, refl, sym, ap, ◌∙◌, arith}
 use Rattle.std.proofs.lemmas.List.{drop_all}
 use Rattle.s390x_base.specs.declared.regs.Reg.{Reg}
 use Rattle.s390x_inst.specs.declared.function.Block.{Block}
@@ -7,9 +7,8 @@ use Rattle.s390x_inst.specs.declared.inst.Inst.{Inst}
 use Rattle.s390x_inst.specs.declared.state.FrameLayout.{FrameLayout}
 use Rattle.s390x_operands.specs.declared.constraint.Reported.{Reported}
 use Rattle.s390x_alloc.specs.declared.fault.EditCause.{EditCause}
-use Rattle.s390x_alloc.specs.declared.fault.EditCause.TheVariants.{NoMemory as NoRoom}
 use Rattle.s390x_alloc.specs.declared.fault.PlanFault.{PlanFault}
-use Rattle.s390x_alloc.specs.declared.fault.PlanFault.TheVariants.{NoMemory, Order}
+use Rattle.s390x_alloc.specs.declared.fault.PlanFault.TheVariants.{Order}
 use Rattle.s390x_alloc.specs.declared.given.GivenOperand.{GivenOperand}
 use Rattle.s390x_alloc.specs.declared.plan.BlockPlan.{BlockPlan}
 use Rattle.s390x_alloc.specs.declared.plan.Edit.{Edit}

@@ -1,6 +1,6 @@
 -- Where a plan has no fault, each instruction of a walk reads alike.
-use Rattle.std.proofs.Common.{◌≡◌, ℕ, zero, suc, ◌+◌, Bool, true, false, cond, List, [], ◌∷◌, ◌++◌, length, Option, Some, None, Result, Ok, Err, ◌⊎◌, inl, inr, slice_get, refl, sym, ap, subst, ◌∙◌, append_assoc, arith, count_by}
-use Rattle.std.specs.Prelude.{nat_eq, nat_lt, not, ◌&&◌, ◌||◌, IsOk}
+use Rattle.std.proofs.Common.{◌≡◌, ℕ, zero, suc, ◌+◌, Bool, true, false, cond, List, [], ◌∷◌, ◌++◌, length, Option, Some, None, Result, Ok, Err, inl, inr, slice_get, refl, sym, ap, subst, ◌∙◌, append_assoc, arith, count_by}
+use Rattle.std.specs.Prelude.{nat_eq, not, ◌&&◌, IsOk}
 use Rattle.std.proofs.lemmas.Bool.{and_parts, cond-true, eqb-true, false≢true, or_cases}
 use Rattle.std.proofs.lemmas.List.{append-nil}
 use Rattle.s390x_base.specs.declared.regs.Reg.{Reg}
@@ -11,13 +11,11 @@ use Rattle.s390x_operands.specs.Operands.{operands, operands_cause}
 use Rattle.s390x_alloc.specs.declared.fault.EditCause.{EditCause}
 use Rattle.s390x_alloc.specs.declared.fault.PlanFault.{PlanFault}
 use Rattle.s390x_alloc.specs.declared.fault.PlanFault.TheVariants.{Blocks, Shape, Unsupported}
-use Rattle.s390x_alloc.specs.declared.given.GivenOperand.{GivenOperand}
 use Rattle.s390x_alloc.specs.declared.plan.BlockPlan.{BlockPlan}
 use Rattle.s390x_alloc.specs.declared.plan.Edit.{Edit}
 use Rattle.s390x_alloc.specs.declared.plan.Edit.TheVariants.{Move, Step}
 use Rattle.s390x_alloc.specs.declared.plan.EntryPair.{EntryPair}
-use Rattle.s390x_alloc.specs.declared.plan.Place.{Place}
-use Rattle.s390x_alloc.specs.Blocks.{after_block, after_blocks, after_edit, after_edits, after_move, fault_or, left_behind, or_block_fault, or_fault}
+use Rattle.s390x_alloc.specs.Blocks.{after_block, after_blocks, after_edits, after_move, fault_or, or_block_fault, or_fault}
 use Rattle.s390x_alloc.specs.Checked.{checked, then_entries, unless_entry}
 use Rattle.s390x_alloc.specs.Entries.{all_hold, entry_fault, entry_or, first_unfounded, is_founded, is_held_there, is_virtual, predecessors}
 use Rattle.s390x_alloc.specs.Given.{given_operands, is_operand}
@@ -25,8 +23,8 @@ use Rattle.s390x_alloc.specs.Held.{holds, moved, stepped}
 use Rattle.s390x_alloc.specs.Moves.{is_no_move}
 use Rattle.s390x_alloc.specs.Same.{same_pair}
 use Rattle.s390x_alloc.specs.Shape.{block_ending, first_misshapen, first_unsupported, is_empty, is_end, precedes}
-use Rattle.s390x_alloc.specs.Steps.{after_step, cause_or, first_unheld, first_unsuited, miscounted, operands_fault, step_cause, unheld, unless_cause, unreported, unsuited}
-use Rattle.s390x_alloc.specs.Walks.{EditsReadAlike, EveryWalkReadsAlike, Fresh, GoesOn, IsWalk, Values, Visit, VisitsReadAlike, after_edits_of, after_inst, copied, edits_of, insts_of, is_successor}
+use Rattle.s390x_alloc.specs.Steps.{cause_or, first_unheld, first_unsuited, miscounted, step_cause, unheld, unless_cause, unreported, unsuited}
+use Rattle.s390x_alloc.specs.Walks.{EditsReadAlike, EveryWalkReadsAlike, Fresh, GoesOn, Values, Visit, VisitsReadAlike, after_edits_of, after_inst, copied, edits_of, insts_of, is_successor}
 use Rattle.s390x_alloc.proofs.Agreeing.{Agrees, agrees_moved, agrees_stepped, reads_all}
 use Rattle.s390x_alloc.proofs.Sameness.{pair-same}
 

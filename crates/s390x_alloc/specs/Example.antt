@@ -1,7 +1,6 @@
 -- A plan without a fault, and a walk over it, so that the theorem on walks isn't empty: a value is spilled in one block and used in the next.
 use Rattle.std.specs.Prelude.{◌≡◌, ℕ, List, [], ◌∷◌, map, pos, None, IsOk}
 use Rattle.s390x_base.specs.Registers.{general}
-use Rattle.s390x_base.specs.declared.ir.MachLabel.{MachLabel}
 use Rattle.s390x_base.specs.declared.regs.Reg.{Reg}
 use Rattle.s390x_base.specs.declared.regs.Reg.TheVariants.{Real, Virtual}
 use Rattle.s390x_base.specs.declared.regs.RegClass.TheVariants.{Int}

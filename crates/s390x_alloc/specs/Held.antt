@@ -1,5 +1,5 @@
 -- Which places hold the values of which virtual registers, and how a move and an instruction change that.
-use Rattle.std.specs.Prelude.{ℕ, Bool, true, false, ◌&&◌, ◌||◌, not, cond, List, [], ◌∷◌, ◌++◌, map, filter}
+use Rattle.std.specs.Prelude.{Bool, false, ◌||◌, not, cond, List, [], ◌∷◌, ◌++◌, filter}
 use Rattle.s390x_base.specs.Registers.{RealRegister}
 use Rattle.s390x_base.specs.Sets.{has}
 use Rattle.s390x_base.specs.declared.regs.Reg.{Reg}

@@ -4,7 +4,7 @@ use Rattle.s390x_base.specs.declared.ir.MachLabel.{MachLabel}
 use Rattle.s390x_inst.specs.declared.args.MemArg.{MemArg}
 use Rattle.s390x_inst.specs.declared.args.MemArg.TheVariants.{Label}
 use Rattle.s390x_inst.specs.declared.inst.Inst.{Inst}
-use Rattle.s390x_inst.specs.declared.inst.Inst.TheVariants.{Jump, CondBr, IndirectBr, JTSequence, Ret, ReturnCall, Trap, Call, LabelAddress, Vector, Loop'}
+use Rattle.s390x_inst.specs.declared.inst.Inst.TheVariants.{Jump, CondBr, IndirectBr, JTSequence, Ret, ReturnCall, Trap, Call, LabelAddress, Vector}
 use Rattle.s390x_inst.specs.declared.inst.Inst.TheVariants.{AluRX, CmpRX, Load32, Load32ZExt8, Load32SExt8, Load32ZExt16, Load32SExt16, Load64, Load64ZExt8, Load64SExt8, Load64ZExt16, Load64SExt16, Load64ZExt32, Load64SExt32, LoadRev16, LoadRev32, LoadRev64}
 use Rattle.s390x_inst.specs.declared.inst.Inst.TheVariants.{Store8, Store16, Store32, Store64, StoreRev16, StoreRev32, StoreRev64, StoreImm8, StoreImm16, StoreImm32SExt16, StoreImm64SExt16, LoadMultiple64, StoreMultiple64, LoadAddr, AtomicRmw, AtomicCas32, AtomicCas64}
 use Rattle.s390x_inst.specs.declared.vec_inst.VecInst.{VecInst}

@@ -1,5 +1,5 @@
 -- Why a plan's registers don't do for an instruction.
-use Rattle.std.specs.Prelude.{◌≡◌, ℕ, ◌+◌, Bool, true, false, ◌&&◌, ◌||◌, not, nat_eq, cond, List, [], ◌∷◌, length, count_by, Option, Some, None, Result, Ok, Err, slice_get, ◌⊎◌}
+use Rattle.std.specs.Prelude.{◌≡◌, ℕ, ◌+◌, Bool, true, false, ◌&&◌, not, nat_eq, cond, List, [], ◌∷◌, length, count_by, Option, Some, None, Result, Ok, Err, slice_get, ◌⊎◌}
 use Rattle.s390x_base.specs.declared.regs.Reg.{Reg}
 use Rattle.s390x_base.specs.declared.regs.Reg.TheVariants.{Real, Virtual}
 use Rattle.s390x_inst.specs.declared.inst.Inst.{Inst}

@@ -1,7 +1,6 @@
-use Rattle.std.proofs.Common.{ℕ, Bool, ap, sym, ◌∙◌, arith}
+use Rattle.std.proofs.Common.{Bool, ap, ◌∙◌, arith}
 use Rattle.std.proofs.lemmas.List.{length-drop}
 use Rattle.s390x_alloc.specs.Blocks.{after_edits}
-use Rattle.s390x_alloc.specs.Shape.{block_ending, is_end}
 use Rattle.s390x_alloc.proofs.Turning.{edits_missing}
 use Rattle.s390x_alloc.proofs.edits.check_edits.Goals as goal
 

@@ -1,5 +1,5 @@
 use Rattle.std.proofs.Common.{◌≡◌, drop}
-use Rattle.s390x_alloc.specs.Held.{stepped, with_operands}
+use Rattle.s390x_alloc.specs.Held.{with_operands}
 use Rattle.s390x_alloc.proofs.held.Held.step.Given as goal
 
 abbrev pub invariant-loop-operand : goal.invariant-loop-operand
