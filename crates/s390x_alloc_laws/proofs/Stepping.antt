@@ -12,7 +12,7 @@ use Rattle.s390x_alloc.specs.Same.{is_reserved, same_class}
 use Rattle.s390x_alloc.specs.Steps.{suits_operand}
 use Rattle.s390x_alloc.proofs.Meeting.{SuitsEach, registers_meet, registers_suit}
 use Rattle.s390x_assign_laws.specs.Allocatable.{IsOrdinary, Spares}
-use Rattle.s390x_assign_laws.proofs.Laws.{work_suffices}
+use Rattle.s390x_assign_laws.proofs.Laws.{assignments_suffice}
 use Rattle.s390x_alloc_laws.specs.Unblamed.{AllExist, Exists, StepsAreNotBlamed}
 
 ordinary : (n : ℕ) (c : RegClass) (q : Reg) → suits_operand (Virtual n c) q ≡ true → Exists q → IsOrdinary q
@@ -31,4 +31,4 @@ spares all (Fixed p ∷ xs) s h e = spares all xs s h e
 spares all (Clobbers p ∷ xs) s h e = spares all xs s h e
 
 pub steps_clear : StepsAreNotBlamed
-steps_clear P i j regs held w a e h is = work_suffices P i w a regs j (registers_meet i regs held h) (spares regs (operands i) regs (registers_suit i regs held h) e) is
+steps_clear P i j regs held a e h is = assignments_suffice P i a regs j (registers_meet i regs held h) (spares regs (operands i) regs (registers_suit i regs held h) e) is

@@ -11,7 +11,7 @@ use Rattle.s390x_alloc.specs.declared.plan.Place.TheVariants.{Reg as InReg, Slot
 use Rattle.s390x_alloc.specs.Moves.{is_no_move, move_inst}
 use Rattle.s390x_alloc.specs.Steps.{step_cause}
 use Rattle.s390x_assign_laws.specs.Allocatable as Emitted
-use Rattle.s390x_assign_laws.specs.Allocatable.{IsAllocatable, IsAssigned, IsNotBlamed, IsWork, refusal}
+use Rattle.s390x_assign_laws.specs.Allocatable.{IsAllocatable, IsAssigned, IsNotBlamed, refusal}
 
 -- a register that there is, where it is real; each `Reg` of code is one
 abbrev pub Exists : Reg → Type 0
@@ -29,7 +29,7 @@ PlaceExists (Slot s) = ⊤
 -- an allocatable instruction with the registers of a step that has no cause of refusal
 abbrev pub StepsAreNotBlamed : Type 0
 StepsAreNotBlamed =
-    (P : Emitted.Place) (i j : Inst) (regs : List Reg) (held : List EntryPair) → IsWork i → IsAllocatable P i → AllExist regs → step_cause i regs held ≡ None → IsAssigned i regs j → IsNotBlamed (refusal P j)
+    (P : Emitted.Place) (i j : Inst) (regs : List Reg) (held : List EntryPair) → IsAllocatable P i → AllExist regs → step_cause i regs held ≡ None → IsAssigned i regs j → IsNotBlamed (refusal P j)
 
 -- the instruction of a move that there is
 abbrev pub MovesAreNotBlamed : Type 0
