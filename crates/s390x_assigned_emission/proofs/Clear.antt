@@ -15,7 +15,7 @@ use Rattle.s390x_assign_laws.specs.Allocatable.{IsAllocatable, IsAssigned, IsNot
 use Rattle.s390x_assign_laws.proofs.Given.{unless_clear, first_clear}
 use Rattle.s390x_assign_laws.proofs.Laws.{emissions_suffice}
 use Rattle.s390x_emit_int.specs.Members.{member_of}
-use Rattle.s390x_assigned_emission.specs.AssignedEmission.{IsGiven, cause_of, place_in}
+use Rattle.s390x_assigned_emission.specs.AssignedEmission.{cause_of, place_in}
 use Rattle.s390x_assigned_emission.specs.declared.emitting.AssignedError.TheVariants.{Emit}
 
 marked_clear : (marked : Bool) (cause : Option EmitError) → IsNotBlamed cause → IsNotBlamed (cond marked (Some Failed) cause)
