@@ -1,4 +1,5 @@
 //! Plans that are accepted, and the functions that they give.
+ghost use Rattle.std.specs.Prelude.{◌<◌};
 
 use crate::parts::{
     block, block_plan, copy, five, function, general, int, jump, plan, ret, step, two_slots,

@@ -1,4 +1,5 @@
 //! Functions and plans, in parts.
+ghost use Rattle.std.specs.Prelude.{◌<◌};
 
 use s390x_alloc::{BlockPlan, Edit, EntryPair, Place, Plan};
 use s390x_base::{MachLabel, Reg, RegClass, Writable, gpr, gpr_preg};
