@@ -1,0 +1,17 @@
+//! The laws of what emission lets pass.
+ghost use Rattle.std.specs.Prelude.{◌≡◌, ℕ, Some, slice_get};
+ghost use Rattle.s390x_machine.specs.CodeAt.{AllCodeAt, IsValidStep};
+ghost use Rattle.s390x_machine.specs.Layout.{Layout};
+ghost use Rattle.s390x_typed_steps.specs.Steps.{Step};
+ghost use Rattle.s390x_emission_laws.specs.Built.{IsBuilt};
+ghost use Rattle.s390x_emission_laws.specs.Places.{BranchesLead};
+
+/// A step that emission lets pass is built.
+pub fn valid_steps_are_built()
+    ensures { (L : Layout) (s : Step) → IsValidStep L s → IsBuilt L s }
+{}
+
+/// The branches of placed code, and the words of its tables, lead where its layout says.
+pub fn placed_branches_lead()
+    ensures { (L : Layout) → AllCodeAt L → (k : ℕ) (s : Step) → slice_get L.steps k ≡ Some s → BranchesLead L k s }
+{}
