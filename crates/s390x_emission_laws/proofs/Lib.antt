@@ -2,3 +2,4 @@ pub mod Told
 pub mod Bytes
 pub mod Built
 pub mod Places
+pub mod Anywhere

@@ -3,6 +3,8 @@ ghost use Rattle.std.specs.Prelude.{◌≡◌, ℕ, Some, slice_get};
 ghost use Rattle.s390x_machine.specs.CodeAt.{AllCodeAt, IsValidStep};
 ghost use Rattle.s390x_machine.specs.Layout.{Layout};
 ghost use Rattle.s390x_typed_steps.specs.Steps.{Step};
+ghost use Rattle.s390x_machine.specs.OneStep.{StepHolds};
+ghost use Rattle.s390x_emission_laws.specs.Anywhere.{IsPlainBranch, StandsAnywhere};
 ghost use Rattle.s390x_emission_laws.specs.Built.{IsBuilt};
 ghost use Rattle.s390x_emission_laws.specs.Places.{BranchesLead};
 
@@ -14,4 +16,9 @@ pub fn valid_steps_are_built()
 /// The branches of placed code, and the words of its tables, lead where its layout says.
 pub fn placed_branches_lead()
     ensures { (L : Layout) → AllCodeAt L → (k : ℕ) (s : Step) → slice_get L.steps k ≡ Some s → BranchesLead L k s }
+{}
+
+/// A jump, a choice between blocks, the address of a block and the branches of a loop run as their typed steps wherever their bytes stand, without a function around them.
+pub fn branches_run_anywhere()
+    ensures { (L : Layout) (k : ℕ) (s : Step) → StandsAnywhere L k s → IsPlainBranch s → StepHolds L k }
 {}

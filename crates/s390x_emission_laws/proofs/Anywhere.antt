@@ -1,0 +1,120 @@
+-- A branch runs as its typed step wherever its bytes stand.
+use Rattle.std.proofs.Common.{◌≡◌, ℕ, suc, ◌+◌, ◌%◌, ◌^◌, ◌<◌, ◌≤◌, [], ◌∷◌, length, Some, false, refl, sym, ap, ◌∙◌, subst, arith}
+use Rattle.s390x_base.specs.Regs.{number_of}
+use Rattle.s390x_inst.specs.declared.inst.Inst.TheVariants.{Jump, CondBr, LabelAddress}
+use Rattle.s390x_format.specs.Formats.{length_of}
+use Rattle.s390x_typed_steps.specs.MachineInstruction.{bytes_of, ril_c}
+use Rattle.s390x_typed_steps.specs.Parts.{Branch, Relative, ToBlock, ToStep, step_parts}
+use Rattle.s390x_typed_steps.specs.Rows.{half_distance}
+use Rattle.s390x_typed_steps.specs.Steps.{Step, Plain, Back, Break}
+use Rattle.s390x_operations.specs.State.{wrapping_add64}
+use Rattle.s390x_operations.specs.declared.effect.CodeRule.TheVariants.{Kept}
+use Rattle.s390x_operations.specs.declared.operator.Operator.TheVariants.{Move}
+use Rattle.s390x_machine.specs.declared.semantics.Action.TheVariants.{Perform, Branch as BranchAction}
+use Rattle.s390x_machine.specs.CodeAt.{AllCodeAt, IsBlock}
+use Rattle.s390x_machine.specs.Computations.{computes_immediate, on_doublewords}
+use Rattle.s390x_machine.specs.Layout.{Layout, block_address, step_address}
+use Rattle.s390x_machine.specs.OneStep.{StepHolds, StepRuns}
+use Rattle.s390x_machine.specs.StepKinds.{StepKind, GoesTo, Chooses, Leads, Performs, no_code}
+use Rattle.s390x_machine.specs.Typed.{kind_at, kind_of_step}
+use Rattle.s390x_machine.proofs.Addresses.{sum_more}
+use Rattle.s390x_machine.proofs.Branches.{jump_runs, TwoBranches, choose_runs, leads_runs}
+use Rattle.s390x_machine.proofs.Built.{computes_immediate_always, exactly, uncoded}
+use Rattle.s390x_machine.proofs.Fetching.{StandsAt}
+use Rattle.s390x_machine.proofs.Induction.{one_step}
+use Rattle.s390x_machine.proofs.RegisterNumbers.{small_mask}
+use Rattle.s390x_machine.proofs.Rows.{brcl_at, larl_at, general_number}
+use Rattle.s390x_machine.proofs.Simulation.{RowAt, at_start, general_step}
+use Rattle.s390x_machine.proofs.Standing.{PartsStand, step_stands, step_within, inside_at, inside_first, next_place}
+use Rattle.s390x_emission_laws.specs.Anywhere.{IsPlace, IsPlainBranch, StandsAnywhere}
+
+-- the image by itself, of which no steps are known
+bare : Layout → Layout
+bare L = record {
+  image = L.image;
+  steps = [];
+  offsets = record { step = λ k. 0; block = λ b. 0; environment = record { constant = λ c. 0; aligns = []; symbol_value = λ name offset. 0; symbol_distance = λ origin name offset. 0 } };
+  block_count = 0;
+  first_step = λ b. 0;
+  traps = [];
+}
+
+module _ {L : Layout} {k : ℕ} {s : Step} (x : StandsAnywhere L k s) where
+  bare_placed : AllCodeAt (bare L)
+  unfolding bare
+  bare_placed = record {
+    even = x.even;
+    fits = x.fits;
+    short = x.short;
+    begins = refl;
+    steps = λ j t e. absurd (cc);
+    first_steps = λ b lt. absurd (omega (arith, lt));
+    blocks = λ b lt. absurd (omega (arith, lt));
+    constants = λ c lt. absurd (omega (arith, lt));
+  }
+
+  offset_small : L.offsets.step k < 2 ^ 31
+  offset_small = omega (arith, x.code.size, step_within L k s x.code, x.short)
+
+  -- a branch of the step to a place
+  branch_at : (offset mask target : ℕ) → offset % 2 ≡ 0 → offset < 2 ^ 31 → mask < 16 → IsPlace target → StandsAt L.image offset (bytes_of (ril_c 0xc04 mask (half_distance offset target))) → RowAt L (wrapping_add64 L.image.base offset) (λ r. BranchAction mask (wrapping_add64 L.image.base target)) 6
+  unfolding bare length_of
+  branch_at offset mask target even small lm place stands = brcl_at (bare L) bare_placed offset even mask target lm small place.0 place.1 stands
+
+  kind : (f : StepKind) → kind_of_step L (Some s) ≡ Some f → kind_at L k ≡ Some f
+  kind f e = ap (kind_of_step L) x.at ∙ e
+
+  block_there : (b : ℕ) → IsBlock L b → block_address L b ≡ step_address L (L.first_step b)
+  block_there b known = ap (wrapping_add64 L.image.base) (x.blocks b known).1
+
+  jumps_anywhere : (b : ℕ) → kind_of_step L (Some s) ≡ Some (GoesTo b) → step_parts s ≡ Branch 15 (ToBlock b) ∷ [] → IsBlock L b → StepRuns L k
+  jumps_anywhere b is parts known =
+      let rows = subst (PartsStand L (L.offsets.step k)) parts (step_stands L k s x.code) in
+      let size : L.offsets.step (suc k) ≡ L.offsets.step k + 6 = x.code.size ∙ ap (λ ps. L.offsets.step k + Rattle.s390x_typed_steps.specs.Parts.parts_size ps) parts in
+      jump_runs L k b (λ r. BranchAction 15 (block_address L b)) 6 (block_address L b) (kind _ is) (branch_at (L.offsets.step k) 15 (L.offsets.block b) x.place offset_small (omega arith) (x.blocks b known).0 rows.0) (λ r. refl) (block_there b known) (inside_first L k 6 size (omega arith))
+
+  chooses_anywhere : (mask a b : ℕ) → kind_of_step L (Some s) ≡ Some (Chooses mask a b) → step_parts s ≡ Branch mask (ToBlock a) ∷ Branch 15 (ToBlock b) ∷ [] → mask < 16 → IsBlock L a → IsBlock L b → StepRuns L k
+  chooses_anywhere mask a b is parts lm known_a known_b =
+      let o = L.offsets.step k in
+      let rows = subst (PartsStand L o) parts (step_stands L k s x.code) in
+      let size : L.offsets.step (suc k) ≡ o + 12 = x.code.size ∙ ap (λ ps. o + Rattle.s390x_typed_steps.specs.Parts.parts_size ps) parts in
+      let p : wrapping_add64 (step_address L k) 6 ≡ wrapping_add64 L.image.base (o + 6) = sum_more L.image.base o 6 in
+      let two : TwoBranches L k mask a b = record {
+        size = 6;
+        second_size = 6;
+        first = branch_at o mask (L.offsets.block a) x.place offset_small lm (x.blocks a known_a).0 rows.0;
+        second = subst (λ q. RowAt L q (λ r. BranchAction 15 (block_address L b)) 6) (sym p) (branch_at (o + 6) 15 (L.offsets.block b) (omega (arith, x.place)) (omega (arith, size, step_within L k s x.code, x.short)) (omega arith) (x.blocks b known_b).0 rows.1.0);
+        here = inside_first L k 12 size (omega arith);
+        here_second = inside_at L k 6 12 size (omega arith);
+        first_target = block_there a known_a;
+        second_target = block_there b known_b;
+      } in
+      choose_runs L k mask a b (kind _ is) two
+
+  leads_anywhere : (mask j : ℕ) → kind_of_step L (Some s) ≡ Some (Leads mask j) → step_parts s ≡ Branch mask (ToStep j) ∷ [] → mask < 16 → j ≤ length L.steps → StepRuns L k
+  leads_anywhere mask j is parts lm le =
+      let rows = subst (PartsStand L (L.offsets.step k)) parts (step_stands L k s x.code) in
+      let size : L.offsets.step (suc k) ≡ L.offsets.step k + 6 = x.code.size ∙ ap (λ ps. L.offsets.step k + Rattle.s390x_typed_steps.specs.Parts.parts_size ps) parts in
+      leads_runs L k mask j 6 (kind _ is) (branch_at (L.offsets.step k) mask (L.offsets.step j) x.place offset_small lm (x.steps j le) rows.0) (next_place L k 6 size) (inside_first L k 6 size (omega arith))
+
+  -- the address of a block
+  names_anywhere : (d b : ℕ) → kind_of_step L (Some s) ≡ Some (Performs false (computes_immediate Kept (on_doublewords Move) d d (block_address L b)) no_code) → step_parts s ≡ Relative 0xc00 d (ToBlock b) ∷ [] → d < 16 → IsBlock L b → StepRuns L k
+  unfolding bare length_of
+  names_anywhere d b is parts ld known c is_loaded =
+      let rows = subst (PartsStand L (L.offsets.step k)) parts (step_stands L k s x.code) in
+      let size : L.offsets.step (suc k) ≡ L.offsets.step k + 6 = x.code.size ∙ ap (λ ps. L.offsets.step k + Rattle.s390x_typed_steps.specs.Parts.parts_size ps) parts in
+      let operation = computes_immediate Kept (on_doublewords Move) d d (block_address L b) in
+      let place = (x.blocks b known).0 in
+      let row : RowAt L (step_address L k) (λ r. Perform (operation r)) 6 = larl_at (bare L) bare_placed (L.offsets.step k) x.place d (L.offsets.block b) ld offset_small place.0 place.1 rows.0 in
+      general_step L k c [] (step_address L k) (λ r. Perform (operation r)) 6 false 0 operation no_code (kind _ is) (at_start L k c (inside_first L k 6 size (omega arith)) is_loaded) row (exactly (operation c.registers)) (next_place L k 6 size) (uncoded L (step_address L k)) (computes_immediate_always Kept (on_doublewords Move) d d (block_address L b) c.registers)
+
+branch_runs : (L : Layout) (k : ℕ) (s : Step) → StandsAnywhere L k s → IsPlainBranch s → StepRuns L k
+branch_runs L k (Plain (Jump dest)) x is = jumps_anywhere x dest.0 refl refl x.code.valid
+branch_runs L k (Plain (CondBr taken not_taken mask)) x is = chooses_anywhere x mask taken.0 not_taken.0 refl refl (small_mask mask x.code.valid.2) x.code.valid.0 x.code.valid.1
+branch_runs L k (Plain (LabelAddress dst label)) x is = names_anywhere x (number_of dst) label.0 refl refl (general_number dst x.code.valid.0) x.code.valid.1
+branch_runs L k (Back mask target) x is = leads_anywhere x mask target refl refl (small_mask mask x.code.valid.0) x.code.valid.1
+branch_runs L k (Break mask target) x is = leads_anywhere x mask target refl refl (small_mask mask x.code.valid.0) x.code.valid.1
+branch_runs L k _ x is = absurd is
+
+pub branch_holds : (L : Layout) (k : ℕ) (s : Step) → StandsAnywhere L k s → IsPlainBranch s → StepHolds L k
+branch_holds L k s x is = one_step L k (branch_runs L k s x is)
