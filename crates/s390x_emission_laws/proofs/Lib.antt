@@ -3,3 +3,4 @@ pub mod Bytes
 pub mod Built
 pub mod Places
 pub mod Anywhere
+pub mod Example

@@ -1,3 +1,4 @@
 pub mod Built
 pub mod Places
 pub mod Anywhere
+pub mod Example
