@@ -8,7 +8,7 @@ use Rattle.s390x_typed_steps.specs.MachineInstruction.{bytes_of, ril_c, rr}
 use Rattle.s390x_typed_steps.specs.Parts.{Branch, Relative, ToBlock, ToStep, Row, parts_size, step_parts}
 use Rattle.s390x_typed_steps.specs.Rows.{half_distance}
 use Rattle.s390x_typed_steps.specs.Steps.{Step, Plain, Back, Break}
-use Rattle.s390x_operations.specs.State.{Registers, wrapping_add64, written}
+use Rattle.s390x_operations.specs.State.{wrapping_add64, written}
 use Rattle.s390x_operations.specs.declared.effect.CodeRule.TheVariants.{Kept}
 use Rattle.s390x_operations.specs.declared.operator.Operator.TheVariants.{Move}
 use Rattle.s390x_machine.specs.declared.semantics.Action.TheVariants.{Perform, Branch as BranchAction}

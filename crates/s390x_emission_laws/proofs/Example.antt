@@ -1,5 +1,5 @@
 -- The jump stands where its layout says; and so does each step of placed code.
-use Rattle.std.proofs.Common.{◌≡◌, ℕ, zero, suc, ◌<◌, ◌≤◌, [], ◌∷◌, length, Some, refl, arith, slice_get}
+use Rattle.std.proofs.Common.{◌≡◌, ℕ, zero, suc, ◌≤◌, [], ◌∷◌, Some, refl, arith, slice_get}
 use Rattle.s390x_format.specs.Formats.{layout_of, length_of}
 use Rattle.s390x_format.specs.Layout.{bits, number}
 use Rattle.s390x_format.specs.Reading.{be_bytes}

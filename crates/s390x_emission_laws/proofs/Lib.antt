@@ -4,3 +4,6 @@ pub mod Built
 pub mod Places
 pub mod Anywhere
 pub mod Example
+pub mod Functions
+pub mod Alone
+pub mod Running

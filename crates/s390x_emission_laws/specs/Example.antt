@@ -1,5 +1,5 @@
 -- A jump behind bytes that no typed step has, to a block before it, in an image at 4096.
-use Rattle.std.specs.Prelude.{ℕ, List, [], ◌∷◌, get_or}
+use Rattle.std.specs.Prelude.{[], ◌∷◌, get_or}
 use Rattle.s390x_inst.specs.declared.inst.Inst.TheVariants.{Jump}
 use Rattle.s390x_typed_steps.specs.Steps.{Step, Plain}
 use Rattle.s390x_machine.specs.Layout.{Layout}

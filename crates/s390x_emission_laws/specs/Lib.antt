@@ -1,4 +1,5 @@
 pub mod Built
 pub mod Places
 pub mod Anywhere
+pub mod Alone
 pub mod Example

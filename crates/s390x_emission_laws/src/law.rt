@@ -1,9 +1,27 @@
-//! The laws of what emission lets pass.
-ghost use Rattle.std.specs.Prelude.{◌≡◌, ℕ, Some, slice_get};
+//! The laws of what emission lets pass, of where branches lead, and of an instruction by itself.
+ghost use Rattle.std.specs.Prelude.{◌≡◌, ℕ, ◌<◌, List, [], ◌∷◌, ◌++◌, length, Some, None, slice_get};
+ghost use Rattle.s390x_buffer.specs.State.{BufferState, Constant};
+ghost use Rattle.s390x_buffer.specs.declared.entries.MachBufferFinalized.{MachBufferFinalized};
+ghost use Rattle.s390x_image.specs.Causes.{link_cause};
+ghost use Rattle.s390x_image.specs.Symbols.{Symbols};
+ghost use Rattle.s390x_inst.specs.Emission.{Emission};
+ghost use Rattle.s390x_inst.specs.declared.inst.Inst.{Inst};
+ghost use Rattle.s390x_inst.specs.declared.state.IsaFlags.{IsaFlags};
+ghost use Rattle.s390x_typed_steps.specs.Causes.{aligns_of};
+ghost use Rattle.s390x_typed_steps.specs.Folding.{folded_trees};
+ghost use Rattle.s390x_typed_steps.specs.Image.{code};
+ghost use Rattle.s390x_typed_steps.specs.Ranges.{BlocksInRange};
+ghost use Rattle.s390x_typed_steps.specs.Rows.{LinkEnvironment};
+ghost use Rattle.s390x_typed_steps.specs.Steps.{Step, function_steps};
+ghost use Rattle.s390x_typed_steps.specs.Tree.{Tree};
+ghost use Rattle.s390x_operations.specs.State.{CodeImage};
 ghost use Rattle.s390x_machine.specs.CodeAt.{AllCodeAt, IsValidStep};
+ghost use Rattle.s390x_machine.specs.Functions.{StandsAsCode, function_layout};
 ghost use Rattle.s390x_machine.specs.Layout.{Layout};
-ghost use Rattle.s390x_typed_steps.specs.Steps.{Step};
 ghost use Rattle.s390x_machine.specs.OneStep.{StepHolds};
+ghost use Rattle.s390x_emit_int.specs.Function.{IsFinishedCode, checked_cause};
+ghost use Rattle.s390x_emit_int.specs.Headline.{linked, linked_image};
+ghost use Rattle.s390x_emission_laws.specs.Alone.{IsAppended, StandsAlone, alone, emitted, layout_alone, patched_bytes, placed_offsets};
 ghost use Rattle.s390x_emission_laws.specs.Anywhere.{IsPlainBranch, StandsAnywhere};
 ghost use Rattle.s390x_emission_laws.specs.Built.{IsBuilt};
 ghost use Rattle.s390x_emission_laws.specs.Example.{JumpStands};
@@ -14,12 +32,23 @@ pub fn valid_steps_are_built()
     ensures { (L : Layout) (s : Step) → IsValidStep L s → IsBuilt L s }
 {}
 
+/// So is each step of a function that no cause refuses, as the ends of its blocks leave them: none is an instruction, an operator, a size or an element without a row.
+pub fn functions_are_built()
+    ensures { (flags : IsaFlags) (ts : List Tree) (cs : List Constant) (environment : LinkEnvironment) (image : CodeImage) → checked_cause flags ts cs ≡ None → BlocksInRange ts → environment.aligns ≡ aligns_of cs → (k : ℕ) (s : Step) → slice_get (function_steps (folded_trees ts)) k ≡ Some s → IsBuilt (function_layout environment (folded_trees ts) image) s }
+{}
+
 /// The branches of placed code, and the words of its tables, lead where its layout says.
 pub fn placed_branches_lead()
     ensures { (L : Layout) → AllCodeAt L → (k : ℕ) (s : Step) → slice_get L.steps k ≡ Some s → BranchesLead L k s }
 {}
 
-/// A jump, a choice between blocks, the address of a block and the branches of a loop run as their typed steps wherever their bytes stand, without a function around them.
+/// So do those of a function's finished code, linked at any base: a block's address is the base plus its start in the table of blocks.
+pub fn linked_branches_lead()
+    ensures branches { (flags : IsaFlags) (ts : List Tree) (cs : List Constant) (f : MachBufferFinalized) (base : ℕ) (symbols : Symbols) → checked_cause flags ts cs ≡ None → BlocksInRange ts → IsFinishedCode (folded_trees ts) cs f → link_cause f base symbols ≡ None → (k : ℕ) (s : Step) → slice_get (function_steps (folded_trees ts)) k ≡ Some s → BranchesLead (function_layout (linked symbols base (folded_trees ts) cs) (folded_trees ts) (linked_image f base symbols)) k s }
+    ensures starts { (ts : List Tree) (cs : List Constant) (f : MachBufferFinalized) (environment : LinkEnvironment) (image : CodeImage) → IsFinishedCode ts cs f → (b : ℕ) → b < length ts → slice_get f.block_starts.items b ≡ Some ((function_layout environment ts image).offsets.block b) }
+{}
+
+/// Branches to blocks and steps, branches to the address in a register and addresses of blocks run as their typed steps wherever their bytes stand, without a function around them.
 pub fn branches_run_anywhere()
     ensures { (L : Layout) (k : ℕ) (s : Step) → StandsAnywhere L k s → IsPlainBranch s → StepHolds L k }
 {}
@@ -28,4 +57,19 @@ pub fn branches_run_anywhere()
 pub fn branches_stand_anywhere()
     ensures jump { JumpStands }
     ensures placed { (L : Layout) → AllCodeAt L → (k : ℕ) (s : Step) → slice_get L.steps k ≡ Some s → StandsAnywhere L k s }
+{}
+
+/// What `emit` appends to any buffer, with each use of a label patched, are the bytes of the instruction's steps at their places, each distance counted to where its label stands.
+pub fn emitted_bytes_are_the_steps()
+    ensures { (off : ℕ → ℕ) (flags : IsaFlags) (e : Emission) (s : BufferState) (i : Inst) → IsAppended off flags e s i → patched_bytes off (emitted flags e s i) ≡ patched_bytes off s ++ code (placed_offsets off s (alone flags e i)) 0 (function_steps (alone flags e i)) }
+{}
+
+/// Where these bytes stand in memory at an even address, and the instruction names no block, the machine's runs from each of its steps are as that step says, whatever stands around.
+pub fn emitted_instructions_run_anywhere()
+    ensures { (off : ℕ → ℕ) (flags : IsaFlags) (e : Emission) (s : BufferState) (i : Inst) (image : CodeImage) → IsAppended off flags e s i → StandsAlone off flags e s i image → (k : ℕ) (x : Step) → slice_get (function_steps (alone flags e i)) k ≡ Some x → StepHolds (layout_alone off flags e s i image) k }
+{}
+
+/// The same of an instruction's bytes whose symbols are linked, or anywhere else.
+pub fn linked_instructions_run_anywhere()
+    ensures { (environment : LinkEnvironment) (t : Tree) (image : CodeImage) → StandsAsCode environment (t ∷ []) image → (k : ℕ) (x : Step) → slice_get (function_steps (t ∷ [])) k ≡ Some x → StepHolds (function_layout environment (t ∷ []) image) k }
 {}
