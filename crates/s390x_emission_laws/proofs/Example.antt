@@ -1,15 +1,19 @@
 -- The jump stands where its layout says; and so does each step of placed code.
-use Rattle.std.proofs.Common.{◌≡◌, ℕ, zero, suc, ◌≤◌, [], ◌∷◌, Some, refl, arith, slice_get}
+use Rattle.std.proofs.Common.{◌≡◌, ℕ, zero, suc, ◌≤◌, [], ◌∷◌, Some, refl, subst, arith, slice_get}
 use Rattle.s390x_format.specs.Formats.{layout_of, length_of}
 use Rattle.s390x_format.specs.Layout.{bits, number}
 use Rattle.s390x_format.specs.Reading.{be_bytes}
-use Rattle.s390x_typed_steps.specs.Steps.{Step}
-use Rattle.s390x_machine.specs.CodeAt.{AllCodeAt, CodeAt}
+use Rattle.s390x_typed_steps.specs.Steps.{Step, Plain, function_steps}
+use Rattle.s390x_machine.specs.CodeAt.{AllCodeAt, CodeAt, PartsReach}
 use Rattle.s390x_machine.specs.Layout.{Layout}
 use Rattle.s390x_machine.proofs.Standing.{block_even, block_small, offset_even, offset_small}
 use Rattle.std.proofs.lemmas.Option.{slice_get_within}
 use Rattle.s390x_emission_laws.specs.Anywhere.{IsPlace, StandsAnywhere}
-use Rattle.s390x_emission_laws.specs.Example.{JumpStands, jump, layout}
+use Rattle.s390x_inst.specs.Emission.{Emission}
+use Rattle.s390x_typed_steps.specs.Image.{step_offset}
+use Rattle.s390x_typed_steps.specs.Parts.{step_parts}
+use Rattle.s390x_emission_laws.specs.Alone.{IsAppended, StandsAlone, alone, layout_alone}
+use Rattle.s390x_emission_laws.specs.Example.{AdditionStands, addition, addition_image, base_machine, used_buffer, JumpStands, jump, layout}
 
 code_there : CodeAt layout 0 jump
 unfolding number bits layout_of length_of be_bytes
@@ -53,3 +57,38 @@ placed_stand L all k s at = record {
   blocks = λ b known. ((block_even L all b known, block_small L all b known), all.blocks b known);
   steps = λ j le. (offset_even L all j le, offset_small L all j le);
 }
+
+-- ---- the addition
+
+module _ (off : ℕ → ℕ) (e : Emission) where
+  addition_appended : IsAppended off base_machine e used_buffer addition
+  unfolding length_of
+  addition_appended = record {
+    valid = refl;
+    labels = λ l above below. absurd (omega (arith, below));
+    within = tt;
+  }
+
+  reaches_none : (k : ℕ) (x : Step) → slice_get (function_steps (alone base_machine e addition)) k ≡ Some x → PartsReach (layout_alone off base_machine e used_buffer addition addition_image) (step_offset (function_steps (alone base_machine e addition)) k) (step_parts x)
+  reaches_none zero x at = let same : Plain addition ≡ x = cc in subst (λ y. PartsReach (layout_alone off base_machine e used_buffer addition addition_image) (step_offset (function_steps (alone base_machine e addition)) zero) (step_parts y)) same (tt, tt)
+  reaches_none (suc k) x at = absurd (cc)
+
+  addition_alone : StandsAlone off base_machine e used_buffer addition addition_image
+  unfolding number bits layout_of length_of be_bytes
+  addition_alone = record {
+    no_block = ((tt, tt), tt);
+    constants = λ c lt. absurd (omega (arith, lt));
+    later = [];
+    bytes = refl;
+    even = refl;
+    fits = omega arith;
+    short = omega arith;
+    labels_in_use = 0;
+    checked = refl;
+    ranges = (((tt, tt), tt), tt);
+    reached = reaches_none;
+    stand = λ c lt. absurd (omega (arith, lt));
+  }
+
+pub addition_stands : AdditionStands
+addition_stands off e = (addition_appended off e, addition_alone off e)

@@ -1,8 +1,17 @@
--- A jump behind bytes that no typed step has, to a block before it, in an image at 4096.
-use Rattle.std.specs.Prelude.{[], ◌∷◌, get_or}
-use Rattle.s390x_inst.specs.declared.inst.Inst.TheVariants.{Jump}
+-- A jump and an addition, each behind bytes that no typed step has. The jump goes to a block before it.
+use Rattle.std.specs.Prelude.{ℕ, false, [], ◌∷◌, get_or}
+use Rattle.s390x_base.specs.Registers.{general}
+use Rattle.s390x_base.specs.declared.regs.Reg.TheVariants.{Real}
+use Rattle.s390x_buffer.specs.State.{BufferState, fresh_buffer}
+use Rattle.s390x_inst.specs.Emission.{Emission}
+use Rattle.s390x_inst.specs.declared.inst.Inst.{Inst}
+use Rattle.s390x_inst.specs.declared.inst.Inst.TheVariants.{AluRRR, Jump}
+use Rattle.s390x_inst.specs.declared.ops.ALUOp.TheVariants.{Add64}
+use Rattle.s390x_inst.specs.declared.state.IsaFlags.{IsaFlags}
 use Rattle.s390x_typed_steps.specs.Steps.{Step, Plain}
+use Rattle.s390x_operations.specs.State.{CodeImage}
 use Rattle.s390x_machine.specs.Layout.{Layout}
+use Rattle.s390x_emission_laws.specs.Alone.{IsAppended, StandsAlone}
 use Rattle.s390x_emission_laws.specs.Anywhere.{StandsAnywhere}
 
 -- the jump
@@ -27,3 +36,23 @@ layout = record {
 -- it stands there
 abbrev pub JumpStands : Type 0
 JumpStands = StandsAnywhere layout 0 jump
+
+-- a machine of the base alone
+abbrev pub base_machine : IsaFlags
+base_machine = record { has_mie3 = false; has_mie4 = false; has_vxrs_ext2 = false; has_vxrs_ext3 = false; no_relative_memory = false }
+
+-- agr %r2, %r4
+abbrev pub addition : Inst
+addition = AluRRR Add64 (Real (general 2)) (Real (general 2)) (Real (general 4))
+
+-- a buffer into which a caller has put four bytes
+abbrev pub used_buffer : BufferState
+used_buffer = record (fresh_buffer 0 []) { bytes = 0x00 ∷ 0x01 ∷ 0x02 ∷ 0x03 ∷ [] }
+
+-- the addition by itself, as an assembler gives it, at the address of the fifth byte
+abbrev pub addition_image : CodeImage
+addition_image = record { base = 4100; bytes = 0xb9 ∷ 0x08 ∷ 0x00 ∷ 0x24 ∷ [] }
+
+-- `emit` appends it there in any state of emission, and it stands by itself
+abbrev pub AdditionStands : Type 0
+AdditionStands = (off : ℕ → ℕ) (e : Emission) → IsAppended off base_machine e used_buffer addition × StandsAlone off base_machine e used_buffer addition addition_image

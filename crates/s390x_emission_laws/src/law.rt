@@ -24,7 +24,7 @@ ghost use Rattle.s390x_emit_int.specs.Headline.{linked, linked_image};
 ghost use Rattle.s390x_emission_laws.specs.Alone.{IsAppended, StandsAlone, alone, emitted, layout_alone, patched_bytes, placed_offsets};
 ghost use Rattle.s390x_emission_laws.specs.Anywhere.{IsPlainBranch, StandsAnywhere};
 ghost use Rattle.s390x_emission_laws.specs.Built.{IsBuilt};
-ghost use Rattle.s390x_emission_laws.specs.Example.{JumpStands};
+ghost use Rattle.s390x_emission_laws.specs.Example.{AdditionStands, JumpStands};
 ghost use Rattle.s390x_emission_laws.specs.Places.{BranchesLead};
 
 /// A step that emission lets pass is built.
@@ -67,6 +67,11 @@ pub fn emitted_bytes_are_the_steps()
 /// Where these bytes stand in memory at an even address, and the instruction names no block, the machine's runs from each of its steps are as that step says, whatever stands around.
 pub fn emitted_instructions_run_anywhere()
     ensures { (off : ℕ → ℕ) (flags : IsaFlags) (e : Emission) (s : BufferState) (i : Inst) (image : CodeImage) → IsAppended off flags e s i → StandsAlone off flags e s i image → (k : ℕ) (x : Step) → slice_get (function_steps (alone flags e i)) k ≡ Some x → StepHolds (layout_alone off flags e s i image) k }
+{}
+
+/// The premises can be met: by an addition behind four bytes of a caller's, in any state of emission.
+pub fn an_addition_stands_alone()
+    ensures { AdditionStands }
 {}
 
 /// The same of an instruction's bytes whose symbols are linked, or anywhere else.
