@@ -20,7 +20,7 @@ use Rattle.s390x_emit_int.specs.Function.{IsFinishedCode, checked_cause, code_le
 use Rattle.s390x_emit_int.specs.Headline.{linked, linked_image}
 use Rattle.s390x_emit_int.proofs.Linked.{is_placed}
 use Rattle.s390x_emission_laws.specs.Built.{IsBuilt}
-use Rattle.s390x_emission_laws.specs.Places.{BranchesLead}
+use Rattle.s390x_emission_laws.specs.Places.{StepLeads}
 use Rattle.s390x_emission_laws.proofs.Built.{built}
 use Rattle.s390x_emission_laws.proofs.Places.{branches_lead}
 
@@ -33,7 +33,7 @@ function_built flags ts cs environment image passes ranges same k s at =
     built (function_layout environment (folded_trees ts) image) s (folded_steps flags environment ts n image (ap (λ aligns. blocks_cause flags (record { blocks = length ts; aligns = aligns }) n ts) same ∙ checked) ranges k s at)
 
 pub linked_branches : (flags : IsaFlags) (ts : List Tree) (cs : List Constant) (f : MachBufferFinalized) (base : ℕ) (symbols : Symbols) → checked_cause flags ts cs ≡ None → BlocksInRange ts → IsFinishedCode (folded_trees ts) cs f → link_cause f base symbols ≡ None →
-    (k : ℕ) (s : Step) → slice_get (function_steps (folded_trees ts)) k ≡ Some s → BranchesLead (function_layout (linked symbols base (folded_trees ts) cs) (folded_trees ts) (linked_image f base symbols)) k s
+    (k : ℕ) (s : Step) → slice_get (function_steps (folded_trees ts)) k ≡ Some s → StepLeads (function_layout (linked symbols base (folded_trees ts) cs) (folded_trees ts) (linked_image f base symbols)) k s
 linked_branches flags ts cs f base symbols passes ranges image links k s at =
     branches_lead (function_layout (linked symbols base (folded_trees ts) cs) (folded_trees ts) (linked_image f base symbols)) (is_placed flags ts cs f base symbols passes ranges image links) k s at
 

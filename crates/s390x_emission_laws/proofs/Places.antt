@@ -30,7 +30,7 @@ use Rattle.s390x_machine.proofs.Simulation.{RowAt}
 use Rattle.s390x_machine.proofs.Standing.{step_within as bytes_within, offset_even, offset_small, block_even, block_small}
 use Rattle.s390x_machine.proofs.Tables.{listed_block, words_stand}
 use Rattle.s390x_machine.proofs.Trapping.{within_image}
-use Rattle.s390x_emission_laws.specs.Places.{BranchesTo, WordLeads, BranchesLead}
+use Rattle.s390x_emission_laws.specs.Places.{BranchesTo, WordLeads, StepLeads}
 
 -- ---- branches
 
@@ -130,7 +130,7 @@ left_leads {L} {k} mask b (CondBr taken not_taken m) x valid (inr (same, is, on)
     first_to_block x mask b [] refl (omega (arith, same)) (subst (IsBlock L) (sym is) valid.1)
 left_leads mask b _ x valid on = absurd on
 
-step_leads : {L : Layout} {k : ℕ} (s : Step) → StepAt L k s → IsValidStep L s → IsFoldedRight L k s → BranchesLead L k s
+step_leads : {L : Layout} {k : ℕ} (s : Step) → StepAt L k s → IsValidStep L s → IsFoldedRight L k s → StepLeads L k s
 step_leads (Plain (Jump dest)) x valid right = first_to_block x 15 dest.0 [] refl (omega arith) valid
 step_leads (Plain (CondBr taken not_taken mask)) x valid right =
     (first_to_block x mask taken.0 _ refl (small_mask mask valid.2) valid.0, second_to_block x mask taken.0 not_taken.0 refl valid.1)
@@ -148,5 +148,5 @@ step_leads NoLoadStep x valid right = tt
 step_leads (TailOpeningStep target first_saved is_lost) x valid right = tt
 step_leads (TailJumpStep target) x valid right = tt
 
-pub branches_lead : (L : Layout) → AllCodeAt L → (k : ℕ) (s : Step) → slice_get L.steps k ≡ Some s → BranchesLead L k s
+pub branches_lead : (L : Layout) → AllCodeAt L → (k : ℕ) (s : Step) → slice_get L.steps k ≡ Some s → StepLeads L k s
 branches_lead L all k s at = let placed = all.steps k s at in step_leads s (record { all = all; at = at; placed = placed }) placed.valid placed.folded

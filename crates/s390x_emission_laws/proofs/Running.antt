@@ -3,6 +3,9 @@ use Rattle.std.proofs.Common.{◌≡◌, ℕ, [], ◌∷◌, ◌++◌, Option, S
 use Rattle.std.proofs.lemmas.List.{append_cancel_left}
 use Rattle.s390x_base.specs.declared.error.EmitError.{EmitError}
 use Rattle.s390x_base.specs.declared.error.EmitError.TheVariants.{Failed}
+use Rattle.s390x_buffer.specs.Constants.{constant_bytes}
+use Rattle.s390x_buffer.specs.Finish.{unpatched}
+use Rattle.s390x_buffer.specs.Patch.{patch_all}
 use Rattle.s390x_buffer.specs.State.{BufferState}
 use Rattle.s390x_inst.specs.Emission.{Emission}
 use Rattle.s390x_inst.specs.declared.inst.Inst.{Inst}
@@ -21,6 +24,8 @@ use Rattle.s390x_machine.proofs.FoldedSteps.{whole_right}
 use Rattle.s390x_machine.proofs.Functions.{function_placed}
 use Rattle.s390x_machine.proofs.Instructions.{step_holds}
 use Rattle.s390x_emit_int.specs.Members.{member_of}
+use Rattle.s390x_emit_int.specs.Resolve.{UsesWithin}
+use Rattle.s390x_emit_int.proofs.Patching.{all_left}
 use Rattle.s390x_emit_int.proofs.Trees.{member_begins}
 use Rattle.s390x_emission_laws.specs.Alone.{IsAppended, StandsAlone, alone, emitted, layout_alone, patched_bytes, placed_offsets, surroundings}
 use Rattle.s390x_emission_laws.proofs.Alone.{appended, own_code}
@@ -65,3 +70,7 @@ module _ (off : ℕ → ℕ) (flags : IsaFlags) (e : Emission) (s : BufferState)
 -- the same of a tree whose bytes stand in an image, whatever its steps refer to
 pub one_runs : (environment : LinkEnvironment) (t : Tree) (image : CodeImage) → StandsAsCode environment (t ∷ []) image → (k : ℕ) (x : Step) → slice_get (function_steps (t ∷ [])) k ≡ Some x → StepHolds (function_layout environment (t ∷ []) image) k
 one_runs environment t image stands k x at = step_holds (function_layout environment (t ∷ []) image) (function_placed environment (t ∷ []) image stands) k x at
+
+-- the constants stand behind the patched bytes
+pub finished_bytes : (off : ℕ → ℕ) (s : BufferState) → UsesWithin (length s.bytes) s.uses → patch_all off s.uses (unpatched s) ≡ patched_bytes off s ++ constant_bytes (length s.bytes) s.constants
+finished_bytes off s within = all_left off s.uses s.bytes (constant_bytes (length s.bytes) s.constants) within

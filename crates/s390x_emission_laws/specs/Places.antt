@@ -27,12 +27,12 @@ WordLeads image table j target =
 
 -- Where the branches of step k lead: those of a jump and of a choice to their blocks, what is left of them to its block, the back branch of a loop and a break to
 -- their steps. A jump by a table branches to its other block, and its table stands 20 bytes behind its beginning
-abbrev pub BranchesLead : Layout → (k : ℕ) → Step → Type 0
-BranchesLead L k (Plain (Jump dest)) = BranchesTo L.image (L.offsets.step k) 15 (block_address L dest.0)
-BranchesLead L k (Plain (CondBr taken not_taken mask)) = BranchesTo L.image (L.offsets.step k) mask (block_address L taken.0) × BranchesTo L.image (L.offsets.step k + 6) 15 (block_address L not_taken.0)
-BranchesLead L k (Plain (JTSequence ridx other mask targets)) =
+abbrev pub StepLeads : Layout → (k : ℕ) → Step → Type 0
+StepLeads L k (Plain (Jump dest)) = BranchesTo L.image (L.offsets.step k) 15 (block_address L dest.0)
+StepLeads L k (Plain (CondBr taken not_taken mask)) = BranchesTo L.image (L.offsets.step k) mask (block_address L taken.0) × BranchesTo L.image (L.offsets.step k + 6) 15 (block_address L not_taken.0)
+StepLeads L k (Plain (JTSequence ridx other mask targets)) =
     BranchesTo L.image (L.offsets.step k) mask (block_address L other.0) × ((j : ℕ) (l : MachLabel) → slice_get targets.items j ≡ Some l → WordLeads L.image (L.offsets.step k + 20) j (block_address L l.0))
-BranchesLead L k (Shortened (BranchLeft mask b) i) = BranchesTo L.image (L.offsets.step k) mask (block_address L b)
-BranchesLead L k (Back mask target) = BranchesTo L.image (L.offsets.step k) mask (step_address L target)
-BranchesLead L k (Break mask target) = BranchesTo L.image (L.offsets.step k) mask (step_address L target)
-BranchesLead L k s = Unit {0}
+StepLeads L k (Shortened (BranchLeft mask b) i) = BranchesTo L.image (L.offsets.step k) mask (block_address L b)
+StepLeads L k (Back mask target) = BranchesTo L.image (L.offsets.step k) mask (step_address L target)
+StepLeads L k (Break mask target) = BranchesTo L.image (L.offsets.step k) mask (step_address L target)
+StepLeads L k s = Unit {0}

@@ -1,5 +1,8 @@
 //! The laws of what emission lets pass, of where branches lead, and of an instruction by itself.
 ghost use Rattle.std.specs.Prelude.{◌≡◌, ℕ, ◌<◌, List, [], ◌∷◌, ◌++◌, length, Some, None, slice_get};
+ghost use Rattle.s390x_buffer.specs.Constants.{constant_bytes};
+ghost use Rattle.s390x_buffer.specs.Finish.{unpatched};
+ghost use Rattle.s390x_buffer.specs.Patch.{patch_all};
 ghost use Rattle.s390x_buffer.specs.State.{BufferState, Constant};
 ghost use Rattle.s390x_buffer.specs.declared.entries.MachBufferFinalized.{MachBufferFinalized};
 ghost use Rattle.s390x_image.specs.Causes.{link_cause};
@@ -21,11 +24,12 @@ ghost use Rattle.s390x_machine.specs.Layout.{Layout};
 ghost use Rattle.s390x_machine.specs.OneStep.{StepHolds};
 ghost use Rattle.s390x_emit_int.specs.Function.{IsFinishedCode, checked_cause};
 ghost use Rattle.s390x_emit_int.specs.Headline.{linked, linked_image};
+ghost use Rattle.s390x_emit_int.specs.Resolve.{UsesWithin};
 ghost use Rattle.s390x_emission_laws.specs.Alone.{IsAppended, StandsAlone, alone, emitted, layout_alone, patched_bytes, placed_offsets};
 ghost use Rattle.s390x_emission_laws.specs.Anywhere.{IsPlainBranch, StandsAnywhere};
 ghost use Rattle.s390x_emission_laws.specs.Built.{IsBuilt};
 ghost use Rattle.s390x_emission_laws.specs.Example.{AdditionStands, JumpStands};
-ghost use Rattle.s390x_emission_laws.specs.Places.{BranchesLead};
+ghost use Rattle.s390x_emission_laws.specs.Places.{StepLeads};
 
 /// A step that emission lets pass is built.
 pub fn valid_steps_are_built()
@@ -39,12 +43,12 @@ pub fn functions_are_built()
 
 /// The branches of placed code, and the words of its tables, lead where its layout says.
 pub fn placed_branches_lead()
-    ensures { (L : Layout) → AllCodeAt L → (k : ℕ) (s : Step) → slice_get L.steps k ≡ Some s → BranchesLead L k s }
+    ensures { (L : Layout) → AllCodeAt L → (k : ℕ) (s : Step) → slice_get L.steps k ≡ Some s → StepLeads L k s }
 {}
 
 /// So do those of a function's finished code, linked at any base: a block's address is the base plus its start in the table of blocks.
 pub fn linked_branches_lead()
-    ensures branches { (flags : IsaFlags) (ts : List Tree) (cs : List Constant) (f : MachBufferFinalized) (base : ℕ) (symbols : Symbols) → checked_cause flags ts cs ≡ None → BlocksInRange ts → IsFinishedCode (folded_trees ts) cs f → link_cause f base symbols ≡ None → (k : ℕ) (s : Step) → slice_get (function_steps (folded_trees ts)) k ≡ Some s → BranchesLead (function_layout (linked symbols base (folded_trees ts) cs) (folded_trees ts) (linked_image f base symbols)) k s }
+    ensures branches { (flags : IsaFlags) (ts : List Tree) (cs : List Constant) (f : MachBufferFinalized) (base : ℕ) (symbols : Symbols) → checked_cause flags ts cs ≡ None → BlocksInRange ts → IsFinishedCode (folded_trees ts) cs f → link_cause f base symbols ≡ None → (k : ℕ) (s : Step) → slice_get (function_steps (folded_trees ts)) k ≡ Some s → StepLeads (function_layout (linked symbols base (folded_trees ts) cs) (folded_trees ts) (linked_image f base symbols)) k s }
     ensures starts { (ts : List Tree) (cs : List Constant) (f : MachBufferFinalized) (environment : LinkEnvironment) (image : CodeImage) → IsFinishedCode ts cs f → (b : ℕ) → b < length ts → slice_get f.block_starts.items b ≡ Some ((function_layout environment ts image).offsets.block b) }
 {}
 
@@ -60,8 +64,10 @@ pub fn branches_stand_anywhere()
 {}
 
 /// What `emit` appends to any buffer, with each use of a label patched, are the bytes of the instruction's steps at their places, each distance counted to where its label stands.
+/// Finishing puts the constants behind a buffer's patched bytes.
 pub fn emitted_bytes_are_the_steps()
-    ensures { (off : ℕ → ℕ) (flags : IsaFlags) (e : Emission) (s : BufferState) (i : Inst) → IsAppended off flags e s i → patched_bytes off (emitted flags e s i) ≡ patched_bytes off s ++ code (placed_offsets off s (alone flags e i)) 0 (function_steps (alone flags e i)) }
+    ensures appended { (off : ℕ → ℕ) (flags : IsaFlags) (e : Emission) (s : BufferState) (i : Inst) → IsAppended off flags e s i → patched_bytes off (emitted flags e s i) ≡ patched_bytes off s ++ code (placed_offsets off s (alone flags e i)) 0 (function_steps (alone flags e i)) }
+    ensures finished { (off : ℕ → ℕ) (s : BufferState) → UsesWithin (length s.bytes) s.uses → patch_all off s.uses (unpatched s) ≡ patched_bytes off s ++ constant_bytes (length s.bytes) s.constants }
 {}
 
 /// Where these bytes stand in memory at an even address, and the instruction names no block, the machine's runs from each of its steps are as that step says, whatever stands around.

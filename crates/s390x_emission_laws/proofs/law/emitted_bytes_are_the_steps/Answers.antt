@@ -1,5 +1,8 @@
-use Rattle.s390x_emission_laws.proofs.Running.{placed_bytes}
+use Rattle.s390x_emission_laws.proofs.Running.{finished_bytes, placed_bytes}
 use Rattle.s390x_emission_laws.proofs.law.emitted_bytes_are_the_steps.Goals as goal
 
-pub returns : goal.returns
-returns c = placed_bytes
+pub returns-clause-appended : goal.returns-clause-appended
+returns-clause-appended c = placed_bytes
+
+pub returns-clause-finished : goal.returns-clause-finished
+returns-clause-finished c = finished_bytes
