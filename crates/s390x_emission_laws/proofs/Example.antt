@@ -10,10 +10,12 @@ use Rattle.s390x_machine.proofs.Standing.{block_even, block_small, offset_even, 
 use Rattle.std.proofs.lemmas.Option.{slice_get_within}
 use Rattle.s390x_emission_laws.specs.Anywhere.{IsPlace, StandsAnywhere}
 use Rattle.s390x_inst.specs.Emission.{Emission}
+use Rattle.s390x_inst.specs.declared.inst.Inst.TheVariants.{Jump}
 use Rattle.s390x_typed_steps.specs.Image.{step_offset}
 use Rattle.s390x_typed_steps.specs.Parts.{step_parts}
 use Rattle.s390x_emission_laws.specs.Alone.{IsAppended, StandsAlone, alone, layout_alone}
-use Rattle.s390x_emission_laws.specs.Example.{AdditionStands, addition, addition_image, base_machine, used_buffer, JumpStands, jump, layout}
+use Rattle.s390x_emission_laws.specs.Branches.{BranchStands}
+use Rattle.s390x_emission_laws.specs.Example.{AdditionStands, JumpIsAppended, buffer_with_block, addition, addition_image, base_machine, used_buffer, JumpStands, jump, layout}
 
 code_there : CodeAt layout 0 jump
 unfolding number bits layout_of length_of be_bytes
@@ -92,3 +94,31 @@ module _ (off : ℕ → ℕ) (e : Emission) where
 
 pub addition_stands : AdditionStands
 addition_stands off e = (addition_appended off e, addition_alone off e)
+
+-- ---- the jump, as it is appended
+
+module _ (e : Emission) where
+  jump_appended : IsAppended (λ l. 0) base_machine e buffer_with_block (Jump (record { 0 = 0 }))
+  unfolding length_of
+  jump_appended = record {
+    valid = refl;
+    labels = λ l above below. absurd (omega (arith, above, below));
+    within = tt;
+  }
+
+  jump_behind : BranchStands (λ l. 0) base_machine e buffer_with_block (Jump (record { 0 = 0 })) layout.image
+  unfolding number bits layout_of length_of be_bytes
+  jump_behind = record {
+    plain = tt;
+    ranges = (((tt, tt), tt), tt);
+    later = [];
+    bytes = refl;
+    even = refl;
+    fits = omega arith;
+    short = omega arith;
+    place = refl;
+    blocks = λ b lt. (refl, omega arith);
+  }
+
+pub jump_is_appended : JumpIsAppended
+jump_is_appended e = (jump_appended e, jump_behind e)

@@ -7,3 +7,4 @@ pub mod Example
 pub mod Functions
 pub mod Alone
 pub mod Running
+pub mod Branches

@@ -36,7 +36,7 @@ unmarked false o h = h
 unmarked true o h = absurd (cc)
 
 module _ (off : ℕ → ℕ) (flags : IsaFlags) (e : Emission) (s : BufferState) (i : Inst) (is : IsAppended off flags e s i) where
-  own_valid : tree_cause flags (declared_in s) (length s.labels) e.nominal 0 (member_of flags e i) ≡ None
+  pub own_valid : tree_cause flags (declared_in s) (length s.labels) e.nominal 0 (member_of flags e i) ≡ None
   own_valid = first_left (tree_cause flags (declared_in s) (length s.labels) e.nominal 0 (member_of flags e i)) _ (unmarked s.failed _ is.valid)
 
   pub placed_bytes : patched_bytes off (emitted flags e s i) ≡ patched_bytes off s ++ code (placed_offsets off s (alone flags e i)) 0 (function_steps (alone flags e i))

@@ -1,5 +1,5 @@
 -- A jump and an addition, each behind bytes that no typed step has. The jump goes to a block before it.
-use Rattle.std.specs.Prelude.{ℕ, false, [], ◌∷◌, get_or}
+use Rattle.std.specs.Prelude.{ℕ, false, [], ◌∷◌, get_or, Some}
 use Rattle.s390x_base.specs.Registers.{general}
 use Rattle.s390x_base.specs.declared.regs.Reg.TheVariants.{Real}
 use Rattle.s390x_buffer.specs.State.{BufferState, fresh_buffer}
@@ -13,6 +13,7 @@ use Rattle.s390x_operations.specs.State.{CodeImage}
 use Rattle.s390x_machine.specs.Layout.{Layout}
 use Rattle.s390x_emission_laws.specs.Alone.{IsAppended, StandsAlone}
 use Rattle.s390x_emission_laws.specs.Anywhere.{StandsAnywhere}
+use Rattle.s390x_emission_laws.specs.Branches.{BranchStands}
 
 -- the jump
 abbrev pub jump : Step
@@ -56,3 +57,11 @@ addition_image = record { base = 4100; bytes = 0xb9 ∷ 0x08 ∷ 0x00 ∷ 0x24 �
 -- `emit` appends it there in any state of emission, and it stands by itself
 abbrev pub AdditionStands : Type 0
 AdditionStands = (off : ℕ → ℕ) (e : Emission) → IsAppended off base_machine e used_buffer addition × StandsAlone off base_machine e used_buffer addition addition_image
+
+-- a buffer with one block, whose label a caller has bound before putting these bytes
+abbrev pub buffer_with_block : BufferState
+buffer_with_block = record (fresh_buffer 1 []) { bytes = 0x00 ∷ 0x01 ∷ 0x02 ∷ 0x03 ∷ []; labels = Some 0 ∷ [] }
+
+-- `emit` appends the jump to the block there in any state of emission, and it stands in the image of the whole buffer
+abbrev pub JumpIsAppended : Type 0
+JumpIsAppended = (e : Emission) → IsAppended (λ l. 0) base_machine e buffer_with_block (Jump (record { 0 = 0 })) × BranchStands (λ l. 0) base_machine e buffer_with_block (Jump (record { 0 = 0 })) layout.image

@@ -27,8 +27,9 @@ ghost use Rattle.s390x_emit_int.specs.Headline.{linked, linked_image};
 ghost use Rattle.s390x_emit_int.specs.Resolve.{UsesWithin};
 ghost use Rattle.s390x_emission_laws.specs.Alone.{IsAppended, StandsAlone, alone, emitted, layout_alone, patched_bytes, placed_offsets};
 ghost use Rattle.s390x_emission_laws.specs.Anywhere.{IsPlainBranch, StandsAnywhere};
+ghost use Rattle.s390x_emission_laws.specs.Branches.{BranchStands, layout_behind};
 ghost use Rattle.s390x_emission_laws.specs.Built.{IsBuilt};
-ghost use Rattle.s390x_emission_laws.specs.Example.{AdditionStands, JumpStands};
+ghost use Rattle.s390x_emission_laws.specs.Example.{AdditionStands, JumpIsAppended, JumpStands};
 ghost use Rattle.s390x_emission_laws.specs.Places.{StepLeads};
 
 /// A step that emission lets pass is built.
@@ -75,12 +76,18 @@ pub fn emitted_instructions_run_anywhere()
     ensures { (off : ℕ → ℕ) (flags : IsaFlags) (e : Emission) (s : BufferState) (i : Inst) (image : CodeImage) → IsAppended off flags e s i → StandsAlone off flags e s i image → (k : ℕ) (x : Step) → slice_get (function_steps (alone flags e i)) k ≡ Some x → StepHolds (layout_alone off flags e s i image) k }
 {}
 
-/// The premises can be met: by an addition behind four bytes of a caller's, in any state of emission.
-pub fn an_addition_stands_alone()
-    ensures { AdditionStands }
+/// The same of a branch to blocks and of a block's address that `emit` appends, in the image of the whole buffer, where all blocks stand at even offsets.
+pub fn emitted_branches_run_anywhere()
+    ensures { (off : ℕ → ℕ) (flags : IsaFlags) (e : Emission) (s : BufferState) (i : Inst) (image : CodeImage) → IsAppended off flags e s i → BranchStands off flags e s i image → StepHolds (layout_behind off s i image) 0 }
 {}
 
-/// The same of an instruction's bytes whose symbols are linked, or anywhere else.
+/// The premises can be met: by an addition behind four bytes of a caller's, and by a jump behind them to a block before it, in any state of emission.
+pub fn instructions_stand_behind_others()
+    ensures addition { AdditionStands }
+    ensures jump { JumpIsAppended }
+{}
+
+/// The same of an instruction's bytes that name no block, whose symbols are linked, or anywhere else.
 pub fn linked_instructions_run_anywhere()
     ensures { (environment : LinkEnvironment) (t : Tree) (image : CodeImage) → StandsAsCode environment (t ∷ []) image → (k : ℕ) (x : Step) → slice_get (function_steps (t ∷ [])) k ≡ Some x → StepHolds (function_layout environment (t ∷ []) image) k }
 {}
