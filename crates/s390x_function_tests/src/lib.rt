@@ -9,9 +9,3 @@ mod emit;
 mod functions;
 #[cfg(test)]
 mod relative;
-#[cfg(test)]
-mod vector;
-#[cfg(test)]
-mod vector_operators;
-#[cfg(test)]
-mod vector_rows;

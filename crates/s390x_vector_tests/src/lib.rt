@@ -1,4 +1,4 @@
-//! Tests of the emission of vector instructions on single elements, of those in memory, under a condition and of several machine instructions.
+//! Tests of the emission of vector instructions: of each operator, on single elements, in memory, under a condition and of several machine instructions.
 #![tactic(auto)]
 
 #[cfg(test)]
@@ -13,3 +13,7 @@ mod constructors;
 mod lanes;
 #[cfg(test)]
 mod memory;
+#[cfg(test)]
+mod operators;
+#[cfg(test)]
+mod rows;

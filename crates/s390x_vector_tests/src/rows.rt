@@ -1,7 +1,7 @@
 //! The bytes of vector instructions that have no operator, as an assembler has them (GNU as 2.40 for z16; of VBLEND and VEVAL the tables' own
 //! examples), and what is refused.
 
-use crate::vector::{emitted, general, refused, vector, writable_vector};
+use crate::bytes::{emitted, general, refused, vector, writable_vector};
 use s390x_base::EmitError;
 use s390x_inst::VecInst;
 use std::test::Fail;

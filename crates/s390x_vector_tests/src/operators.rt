@@ -1,7 +1,7 @@
 //! The bytes of each operator on vectors, as an assembler has them (GNU as 2.40 for z16; of later rows by `.insn` with the opcode of the tables).
 //! The registers differ from place to place, and some are above 15.
 
-use crate::vector::{emitted, general, vector, writable_vector};
+use crate::bytes::{emitted, general, vector, writable_vector};
 use s390x_inst::{VecBinaryOp, VecInst, VecIntCmpOp, VecIntEltCmpOp, VecShiftOp, VecUnaryOp};
 use std::test::Fail;
 
