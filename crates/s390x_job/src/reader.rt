@@ -1,5 +1,5 @@
 //! The exact reader of lines and jobs.
-ghost use Rattle.std.specs.Prelude.{◌≡◌, ◌≢◌, List, ℕ, IfOk, MatchOption};
+ghost use Rattle.std.specs.Prelude.{◌≡◌, ◌≢◌, List, ℕ, IfOk, IfSome, MatchOption};
 ghost use Rattle.s390x_words.specs.Marks.{before_mark, from_mark};
 ghost use Rattle.s390x_lines.specs.Line.{Line, IsLine, line_text, line_of};
 ghost use Rattle.s390x_job.specs.Items.{item_line, IsItem};
@@ -11,6 +11,7 @@ use crate::item::Item;
 use crate::job::Job;
 use crate::print_line::put_item;
 use crate::read_line::item;
+use s390x_exact::exact_line;
 use s390x_fields::cursor::Cursor;
 use s390x_lines::name::find_name;
 use s390x_words::marks::{before, front};
@@ -34,8 +35,19 @@ fn parse(alloc: Global, w: &[u8]) -> Result<Item, AllocError>
     item(alloc, find_name(name), &mut fields)
 }
 
-/// The part of a job whose line this is, or none where it is no line of a job. The text is room for printing.
-pub fn read_item(alloc: Global, text: &mut String, w: &[u8]) -> Result<Option<Item>, AllocError>
+/// The part of a job whose line this is, where it is a frequent one; none says nothing.
+fn exact_item(w: &[u8]) -> Option<Item>
+    ensures { IfSome result (λ i. IsItem i × IsLine (item_line i) × (line_text (item_line i) ≡ w.now)) }
+{
+    if w == b"block".as_slice() {
+        return Some(Item::Block);
+    }
+    let inst = exact_line(w)?;
+    Some(Item::One(inst))
+}
+
+/// As `read_item`: the line is read, printed and compared.
+fn printed_item(alloc: Global, text: &mut String, w: &[u8]) -> Result<Option<Item>, AllocError>
     ensures { IfOk result (λ o. MatchOption o ((l : Line) → IsLine l → line_text l ≢ w.now) (λ i. IsItem i × IsLine (item_line i) × (line_text (item_line i) ≡ w.now))) }
 {
     let i = parse(alloc, w)?;
@@ -45,6 +57,16 @@ pub fn read_item(alloc: Global, text: &mut String, w: &[u8]) -> Result<Option<It
         Ok(Some(i))
     } else {
         Ok(None)
+    }
+}
+
+/// The part of a job whose line this is, or none where it is no line of a job. The text is room for printing.
+pub fn read_item(alloc: Global, text: &mut String, w: &[u8]) -> Result<Option<Item>, AllocError>
+    ensures { IfOk result (λ o. MatchOption o ((l : Line) → IsLine l → line_text l ≢ w.now) (λ i. IsItem i × IsLine (item_line i) × (line_text (item_line i) ≡ w.now))) }
+{
+    match exact_item(w) {
+        Some(i) => Ok(Some(i)),
+        None => printed_item(alloc, text, w),
     }
 }
 

@@ -3,7 +3,7 @@ use Rattle.std.proofs.lemmas.Slice.Eq.{bytes_eq-Decides}
 use Rattle.s390x_lines.specs.Line.{line_text}
 use Rattle.s390x_job.specs.Items.{item_line}
 use Rattle.s390x_job.proofs.Exact.{yes, not_same}
-use Rattle.s390x_job.proofs.reader.read_item.Goals as goal
+use Rattle.s390x_job.proofs.reader.printed_item.Goals as goal
 
 pub returns-then-eq : goal.returns-then-eq
 returns-then-eq c =

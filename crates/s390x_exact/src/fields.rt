@@ -1,0 +1,198 @@
+//! Fields, taken only as they are printed.
+ghost use Rattle.std.specs.Prelude.{◌≡◌, ◌++◌, ◌∷◌, ◌<◌, ◌≤ℤ◌, ◌<ℤ◌, neg_ℤ, pos, ◌^◌, IfSome};
+ghost use Rattle.std.specs.Fmt.{decimal, signed_decimal};
+ghost use Rattle.s390x_words.specs.Atoms.{reg_text, IsReg, trap_text};
+ghost use Rattle.s390x_words.specs.Numbers.{IsBelow, W8, W16, W32, W64, S8, S16, S20, S32};
+ghost use Rattle.s390x_base.specs.Traps.{IsKind};
+ghost use Rattle.s390x_fields.specs.Fields.{FAlu, FBool, FCmp, FCond, FInteger, FNatural, FPair, FReg, FRxsbg, FShift, FShifted, FTrap, FUnary};
+ghost use Rattle.s390x_exact.specs.Exact.{Takes};
+
+use crate::place::Place;
+use s390x_base::{
+    Cond, MachLabel, Reg, RegClass, RegPair, SImm20, TrapCode, UImm16Shifted, UImm32Shifted,
+    Writable, gpr_preg, vr_preg,
+};
+use s390x_inst::{ALUOp, CmpOp, RxSBGOp, ShiftOp, UnaryOp};
+use s390x_words::marks::front;
+use s390x_words::operators::{ALL_ALU, ALL_CMP, ALL_RXSBG, ALL_SHIFT, ALL_UNARY};
+use s390x_words::word::{Word, find};
+
+impl<'a> Place<'a> {
+    /// Takes a register's name.
+    #[inline(always)]
+    pub fn register(&mut self) -> Option<Reg>
+        ensures text { IfSome result (λ r. self.old ≡ reg_text r ++ self.new) }
+        ensures range { IfSome result IsReg }
+    {
+        self.byte(b'%')?;
+        let letter = self.next()?;
+        let number = self.natural()?;
+        match letter {
+            b'r' if number < 16 => Some(Reg::Real(gpr_preg(number as u8))),
+            b'v' if number < 32 => Some(Reg::Real(vr_preg(number as u8))),
+            b'i' if number < 4294967296 => Some(Reg::Virtual {
+                num: number as u32,
+                class: RegClass::Int,
+            }),
+            b'x' if number < 4294967296 => Some(Reg::Virtual {
+                num: number as u32,
+                class: RegClass::Float,
+            }),
+            _ => None,
+        }
+    }
+
+    /// Takes a register.
+    pub fn reg(&mut self) -> Option<Reg>
+        ensures { IfSome result (λ r. Takes (FReg r) self.old self.new) }
+    {
+        self.byte(b' ')?;
+        self.register()
+    }
+
+    /// Takes a register that is written.
+    #[inline(always)]
+    pub fn written(&mut self) -> Option<Writable<Reg>>
+        ensures { IfSome result (λ r. Takes (FReg r) self.old self.new) }
+    {
+        let reg = self.reg()?;
+        Some(Writable::from_reg(reg))
+    }
+
+    /// Takes two registers.
+    pub fn pair(&mut self) -> Option<RegPair>
+        ensures { IfSome result (λ p. Takes (FPair p.hi p.lo) self.old self.new) }
+    {
+        self.byte(b' ')?;
+        let hi = self.register()?;
+        self.byte(b'/')?;
+        let lo = self.register()?;
+        Some(RegPair { hi, lo })
+    }
+
+    /// Takes a number below a limit.
+    #[inline(always)]
+    fn below(&mut self, limit: u64) -> Option<u64>
+        ensures text { IfSome result (λ n. self.old ≡ 32 ∷ (decimal n ++ self.new)) }
+        ensures below { IfSome result (λ n. n < limit) }
+    {
+        self.byte(b' ')?;
+        let number = self.natural()?;
+        if number < limit { Some(number) } else { None }
+    }
+
+    /// Takes a number of 8 bits.
+    pub fn u8(&mut self) -> Option<u8>
+        ensures { IfSome result (λ n. Takes (FNatural W8 n) self.old self.new) }
+    {
+        let number = self.below(256)?;
+        Some(number as u8)
+    }
+
+    /// Takes a number of 16 bits.
+    pub fn u16(&mut self) -> Option<u16>
+        ensures { IfSome result (λ n. Takes (FNatural W16 n) self.old self.new) }
+    {
+        let number = self.below(65536)?;
+        Some(number as u16)
+    }
+
+    /// Takes a number of 32 bits.
+    pub fn u32(&mut self) -> Option<u32>
+        ensures { IfSome result (λ n. Takes (FNatural W32 n) self.old self.new) }
+    {
+        let number = self.below(4294967296)?;
+        Some(number as u32)
+    }
+
+    /// Takes the number of a block.
+    pub fn label(&mut self) -> Option<MachLabel>
+        ensures { IfSome result (λ l. Takes (FNatural W32 l.0) self.old self.new) }
+    {
+        let number = self.u32()?;
+        Some(MachLabel(number))
+    }
+
+    /// Takes a condition.
+    pub fn cond(&mut self) -> Option<Cond>
+        ensures { IfSome result (λ c. Takes (FCond c) self.old self.new) }
+    {
+        let number = self.below(15)?;
+        if 0 < number {
+            Some(Cond::from_mask(number as u8))
+        } else {
+            None
+        }
+    }
+
+    /// Takes a number with a sign, at least `-limit` and below `limit`.
+    #[inline(always)]
+    fn signed(&mut self, limit: i64) -> Option<i64>
+        requires { pos 0 <ℤ limit }
+        ensures text { IfSome result (λ z. self.old ≡ 32 ∷ (signed_decimal z ++ self.new)) }
+        ensures least { IfSome result (λ z. neg_ℤ limit ≤ℤ z) }
+        ensures below { IfSome result (λ z. z <ℤ limit) }
+    {
+        self.byte(b' ')?;
+        let number = self.integer()?;
+        if -limit <= number && number < limit {
+            Some(number)
+        } else {
+            None
+        }
+    }
+
+    /// Takes a number with a sign of 16 bits.
+    pub fn i16(&mut self) -> Option<i16>
+        ensures { IfSome result (λ z. Takes (FInteger S16 z) self.old self.new) }
+    {
+        let number = self.signed(1 << 15)?;
+        Some(number as i16)
+    }
+
+    /// Takes a number with a sign of 32 bits.
+    pub fn i32(&mut self) -> Option<i32>
+        ensures { IfSome result (λ z. Takes (FInteger S32 z) self.old self.new) }
+    {
+        let number = self.signed(1 << 31)?;
+        Some(number as i32)
+    }
+
+    /// Takes the word that spells a value.
+    fn operator<T: Word>(&mut self, all: &[T], other: T) -> Option<T>
+        ensures { IfSome result (λ o. self.old ≡ 32 ∷ (T.spelling o ++ self.new)) }
+    {
+        self.byte(b' ')?;
+        let value = find(all, front(self.rest()), other);
+        self.text(value.text().as_bytes())?;
+        Some(value)
+    }
+
+    /// Takes an operation on integers.
+    pub fn alu(&mut self) -> Option<ALUOp>
+        ensures { IfSome result (λ o. Takes (FAlu o) self.old self.new) }
+    {
+        self.operator(&ALL_ALU, ALUOp::Add32)
+    }
+
+    /// Takes a comparison.
+    pub fn cmp(&mut self) -> Option<CmpOp>
+        ensures { IfSome result (λ o. Takes (FCmp o) self.old self.new) }
+    {
+        self.operator(&ALL_CMP, CmpOp::CmpS32)
+    }
+
+    /// Takes a shift.
+    pub fn shift_op(&mut self) -> Option<ShiftOp>
+        ensures { IfSome result (λ o. Takes (FShift o) self.old self.new) }
+    {
+        self.operator(&ALL_SHIFT, ShiftOp::RotL32)
+    }
+
+    /// Takes an operation on one integer.
+    pub fn unary(&mut self) -> Option<UnaryOp>
+        ensures { IfSome result (λ o. Takes (FUnary o) self.old self.new) }
+    {
+        self.operator(&ALL_UNARY, UnaryOp::Abs32)
+    }
+}

@@ -1,0 +1,13 @@
+//! Exact readers of the most frequent lines: a field is taken only as it is printed, so that nothing is printed to compare.
+#![tactic(auto)]
+
+mod control;
+mod fields;
+mod integer;
+mod line;
+mod memory;
+mod number;
+mod operand;
+mod place;
+
+pub use line::exact_line;
