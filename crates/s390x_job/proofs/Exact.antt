@@ -4,11 +4,6 @@ use Rattle.std.specs.Str.{bytes_eq}
 use Rattle.std.proofs.lemmas.Slice.Eq.{bytes_eq-Decides}
 use Rattle.std.proofs.lemmas.Bool.{false≢true}
 use Rattle.s390x_lines.specs.Line.{Line, line_text, IsLine, line_of}
-use Rattle.s390x_fields.specs.Fields.{Field}
-use Rattle.s390x_lines.specs.declared.name.LineName.{LineName}
-use Rattle.s390x_lines.specs.declared.name.LineName.TheVariants as N
-use Rattle.s390x_exact.specs.Exact.{IsSingle}
-use Rattle.s390x_job.specs.Grammar.{class, line_class, Instruction}
 use Rattle.s390x_job.specs.Items.{item_line}
 use Rattle.s390x_job.specs.declared.item.Item.{Item}
 use Rattle.s390x_lines.proofs.RoundTrip.{line-round_trip, read-ok}
@@ -24,14 +19,3 @@ pub not_same : (i : Item) (w out : List ℕ) → item_line i ≡ line_of w → o
 not_same i w out e t f l ok h =
     let s = same i w e l ok h in
     false≢true (sym f ∙ (bytes_eq-Decides out w).1 (t ∙ ap line_text s ∙ h))
-
--- the line of one instruction, by its name
-by_name : (n : LineName) (fs : List Field) → IsSingle n → line_class n fs ≡ Instruction
-by_name (N.Integer n) fs h = refl
-by_name (N.Memory n) fs h = refl
-by_name (N.Control n) fs h = refl
-by_name (N.Vector n) fs h = refl
-by_name n fs h = absurd h
-
-pub single_class : (l : Line) → IsSingle l.name → class l ≡ Instruction
-single_class l h = by_name l.name l.fields h
