@@ -1,4 +1,5 @@
 pub mod Exact
+mod First
 pub mod Texts
 pub mod Trees
 pub mod Builds

@@ -10,6 +10,7 @@ mod lines;
 mod print_line;
 mod read_line;
 mod reader;
+mod split;
 
 pub use job::{Job, LineError, MemLine, StartRegs, SymbolLine};
 pub use jobs::{lines_of_job, put_registers};

@@ -11,7 +11,7 @@ ghost use Rattle.s390x_job.specs.Completions.{pieces, joined, opens, closes, end
 use crate::build::{Progress, Stage, job_of, push, start};
 use crate::job::{Job, LineError};
 use crate::reader::{read_item, read_job};
-use s390x_words::marks::before;
+use crate::split::before;
 use s390x_words::number::tail;
 use std::alloc::{AllocError, Global};
 

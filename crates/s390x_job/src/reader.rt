@@ -11,10 +11,11 @@ use crate::item::Item;
 use crate::job::Job;
 use crate::print_line::put_item;
 use crate::read_line::item;
+use crate::split::before;
 use s390x_exact::exact_line;
 use s390x_fields::cursor::Cursor;
 use s390x_lines::name::find_name;
-use s390x_words::marks::{before, front};
+use s390x_words::marks::front;
 use s390x_words::number::tail;
 use std::alloc::{AllocError, Global};
 
