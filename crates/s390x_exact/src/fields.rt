@@ -1,20 +1,16 @@
 //! Fields, taken only as they are printed.
-ghost use Rattle.std.specs.Prelude.{◌≡◌, ◌++◌, ◌∷◌, ◌<◌, ◌≤ℤ◌, ◌<ℤ◌, neg_ℤ, pos, ◌^◌, IfSome};
+ghost use Rattle.std.specs.Prelude.{◌≡◌, ◌++◌, ◌∷◌, ◌<◌, ◌≤ℤ◌, ◌<ℤ◌, neg_ℤ, pos, IfSome};
 ghost use Rattle.std.specs.Fmt.{decimal, signed_decimal};
-ghost use Rattle.s390x_words.specs.Atoms.{reg_text, IsReg, trap_text};
-ghost use Rattle.s390x_words.specs.Numbers.{IsBelow, W8, W16, W32, W64, S8, S16, S20, S32};
-ghost use Rattle.s390x_base.specs.Traps.{IsKind};
-ghost use Rattle.s390x_fields.specs.Fields.{FAlu, FBool, FCmp, FCond, FInteger, FNatural, FPair, FReg, FRxsbg, FShift, FShifted, FTrap, FUnary};
+ghost use Rattle.s390x_words.specs.Atoms.{reg_text, IsReg};
+ghost use Rattle.s390x_words.specs.Numbers.{W8, W32, S16, S32};
+ghost use Rattle.s390x_fields.specs.Fields.{FAlu, FCmp, FCond, FInteger, FNatural, FReg, FShift, FUnary};
 ghost use Rattle.s390x_exact.specs.Exact.{Takes};
 
 use crate::place::Place;
-use s390x_base::{
-    Cond, MachLabel, Reg, RegClass, RegPair, SImm20, TrapCode, UImm16Shifted, UImm32Shifted,
-    Writable, gpr_preg, vr_preg,
-};
-use s390x_inst::{ALUOp, CmpOp, RxSBGOp, ShiftOp, UnaryOp};
+use s390x_base::{Cond, MachLabel, Reg, RegClass, Writable, gpr_preg, vr_preg};
+use s390x_inst::{ALUOp, CmpOp, ShiftOp, UnaryOp};
 use s390x_words::marks::front;
-use s390x_words::operators::{ALL_ALU, ALL_CMP, ALL_RXSBG, ALL_SHIFT, ALL_UNARY};
+use s390x_words::operators::{ALL_ALU, ALL_CMP, ALL_SHIFT, ALL_UNARY};
 use s390x_words::word::{Word, find};
 
 impl<'a> Place<'a> {
@@ -59,17 +55,6 @@ impl<'a> Place<'a> {
         Some(Writable::from_reg(reg))
     }
 
-    /// Takes two registers.
-    pub fn pair(&mut self) -> Option<RegPair>
-        ensures { IfSome result (λ p. Takes (FPair p.hi p.lo) self.old self.new) }
-    {
-        self.byte(b' ')?;
-        let hi = self.register()?;
-        self.byte(b'/')?;
-        let lo = self.register()?;
-        Some(RegPair { hi, lo })
-    }
-
     /// Takes a number below a limit.
     #[inline(always)]
     fn below(&mut self, limit: u64) -> Option<u64>
@@ -87,14 +72,6 @@ impl<'a> Place<'a> {
     {
         let number = self.below(256)?;
         Some(number as u8)
-    }
-
-    /// Takes a number of 16 bits.
-    pub fn u16(&mut self) -> Option<u16>
-        ensures { IfSome result (λ n. Takes (FNatural W16 n) self.old self.new) }
-    {
-        let number = self.below(65536)?;
-        Some(number as u16)
     }
 
     /// Takes a number of 32 bits.

@@ -1,5 +1,5 @@
 //! Numbers, taken only as they are printed.
-ghost use Rattle.std.specs.Prelude.{◌≡◌, ◌++◌, ◌∷◌, ◌+◌, ◌<◌, IfSome, MatchOption};
+ghost use Rattle.std.specs.Prelude.{◌≡◌, ◌++◌, ◌∷◌, ◌+◌, ◌<◌, IfSome};
 ghost use Rattle.std.specs.Fmt.{decimal};
 
 /// A number, and what follows it.
