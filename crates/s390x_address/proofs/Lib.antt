@@ -1,3 +1,4 @@
+pub mod Displacing
 pub mod Encoding
 pub mod Loading
 pub mod Lacking

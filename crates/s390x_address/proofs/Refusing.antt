@@ -21,12 +21,12 @@ use Rattle.s390x_address.specs.declared.plan.Plan.{Plan}
 
 -- ---- an offset past 32 bits has no helper
 
-wider_12 : (z : ℤ) → fits_12 z ≡ true → fits_32 z ≡ true
+pub wider_12 : (z : ℤ) → fits_12 z ≡ true → fits_32 z ≡ true
 wider_12 z h =
     let p = and_parts (int_le (pos 0) z) (int_le z (pos 4095)) h in
     and_from (int_le (negsuc 2147483647) z) (int_le z (pos 2147483647)) (grind (arith, ints)) (grind (arith, ints))
 
-wider_20 : (z : ℤ) → fits_20 z ≡ true → fits_32 z ≡ true
+pub wider_20 : (z : ℤ) → fits_20 z ≡ true → fits_32 z ≡ true
 wider_20 z h =
     let p = and_parts (int_le (negsuc 524287) z) (int_le z (pos 524287)) h in
     and_from (int_le (negsuc 2147483647) z) (int_le z (pos 2147483647)) (grind (arith, ints)) (grind (arith, ints))

@@ -1,14 +1,15 @@
 -- How the code's plan of an operand stands for its helpers and the operand of the access.
-use Rattle.std.specs.Prelude.{ℤ, List, [], ◌∷◌, ◌++◌, length, Bool, true, not, ◌&&◌, nat_lt, Option, Some, None}
+use Rattle.std.specs.Prelude.{◌≡◌, ℕ, ℤ, List, [], ◌∷◌, ◌++◌, length, Bool, true, false, not, ◌&&◌, nat_lt, Option, Some, None, option_map}
 use Rattle.s390x_base.specs.declared.error.EmitError.{EmitError}
-use Rattle.s390x_base.specs.declared.error.EmitError.TheVariants.{ScratchConflict, OffsetOutOfRange}
+use Rattle.s390x_base.specs.declared.error.EmitError.TheVariants.{BadRegister, ScratchConflict, OffsetOutOfRange}
 use Rattle.s390x_inst.specs.declared.args.MemArg.{MemArg}
 use Rattle.s390x_inst.specs.declared.args.MemArg.TheVariants.{Label, Constant}
 use Rattle.s390x_inst.specs.declared.inst.Inst.{Inst}
 use Rattle.s390x_inst.specs.declared.inst.Inst.TheVariants.{Mov64SImm32, LoadAddr}
-use Rattle.s390x_typed_steps.specs.Operands.{Finalized, scratch, loses_base, offset_fits, operand_general}
-use Rattle.s390x_typed_steps.specs.Causes.{Declared, first_emit_cause, unless, is_helped, addend_fits, target_cause}
-use Rattle.s390x_typed_steps.specs.Memory.{MemoryInstruction}
+use Rattle.s390x_typed_steps.specs.MachineInstruction.{bytes_of}
+use Rattle.s390x_typed_steps.specs.Operands.{Finalized, finalized, is_relative, scratch, loses_base, offset_fits, operand_general}
+use Rattle.s390x_typed_steps.specs.Causes.{Declared, first_emit_cause, unless, is_helped, addend_fits, target_cause, memory_cause}
+use Rattle.s390x_typed_steps.specs.Memory.{MemoryInstruction, type_of, storage_row}
 use Rattle.s390x_address.specs.declared.plan.Plan.{Plan}
 
 -- the helper that loads an offset, where there is one
@@ -52,3 +53,10 @@ plan_stands D p = address_stands D p.address && may_stand D p.operand
 abbrev pub planned_cause : Declared → MemoryInstruction → Finalized → Option EmitError
 planned_cause D x f =
     first_emit_cause (first_emit_cause (unless (not (x.reads_scratch && is_helped f.helpers)) ScratchConflict) (unless (addend_fits x.operand) OffsetOutOfRange)) (target_cause D x)
+
+-- an instruction whose access is behind no helper, by the row that has this code; only its registers may refuse it
+abbrev pub IsPlain : MemoryInstruction → List ℕ → Type 0
+IsPlain x code =
+    let f = finalized (type_of x.form x.accesses) x.operand in
+    (f.helpers ≡ []) × (is_relative f.operand ≡ false) × (option_map bytes_of (storage_row x.form f.operand) ≡ Some code)
+    × ((D : Declared) → memory_cause D x ≡ unless (x.operands_valid && operand_general x.operand) BadRegister)

@@ -5,6 +5,7 @@ pub mod emitters;
 pub mod finalize;
 pub mod forms;
 pub mod memory;
+mod plain;
 pub mod plan;
 pub mod relative;
 pub mod rows;

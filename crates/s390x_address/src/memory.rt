@@ -9,16 +9,17 @@ ghost use Rattle.s390x_buffer.specs.State.{put_cause};
 ghost use Rattle.std.specs.Option.{option_map};
 ghost use Rattle.s390x_typed_steps.specs.Causes.{Declared, first_emit_cause, unless, declared_in, memory_cause, late_cause, target_cause, boundary};
 ghost use Rattle.s390x_typed_steps.specs.General.{is_general};
-ghost use Rattle.s390x_typed_steps.specs.MachineInstruction.{size_of};
+ghost use Rattle.s390x_typed_steps.specs.MachineInstruction.{MachineInstruction, bytes_of, size_of};
 ghost use Rattle.s390x_typed_steps.specs.Memory.{type_of, storage_row, fault_code, address_form, accesses_relative, without_relative};
 ghost use Rattle.s390x_typed_steps.specs.Operands.{has_form, operand_general, scratch};
 ghost use Rattle.s390x_typed_steps.specs.VectorInstruction.{is_vector};
 ghost use Rattle.s390x_typed_steps.specs.Parts.{access_parts, operand_parts, helpers_parts, finalized_parts, memory_parts, parts_size};
 ghost use Rattle.s390x_address.specs.Appended.{appended};
-ghost use Rattle.s390x_address.specs.Plans.{far_helper, address_helper, finalized_of, may_stand, address_stands, plan_stands, planned_cause};
+ghost use Rattle.s390x_address.specs.Plans.{IsPlain, far_helper, address_helper, finalized_of, may_stand, address_stands, plan_stands, planned_cause};
 ghost use Rattle.s390x_address.specs.Rows.{row_of, row_encodes, storage_form_of, relative_encodes, rows_encode, may_encode, memory_instruction_of, in_state};
 
 use crate::forms::{has_form, is_relative, needs_address};
+use crate::plain::offset_code;
 use crate::plan::{Plan, plan_operand};
 use crate::relative::{addend_fits, put_relative, relative_bytes, relative_size, target_cause};
 use crate::rows::{StorageRow, StorageRows};
@@ -85,6 +86,18 @@ fn put_trapping(sink: &mut MachBuffer, code: &Code, trap_code: TrapCode) -> Resu
     sink.put_code(code)
 }
 
+// The code of a row, with the trap of its faults.
+fn put_row(sink: &mut MachBuffer, code: &Code, trap_code: Option<TrapCode>) -> Result<(), EmitError>
+    ensures answer { (m : MachineInstruction) → code.now ≡ bytes_of m → OnOk result (sink.new ≡ appended sink.old (access_parts (Some m) trap_code)) }
+    ensures lacks { put_cause sink.old (length code.now) ≡ None → IfErr result (λ e. e ≡ NoMemory) }
+    ensures kept { Extends sink.old sink.new }
+{
+    match trap_code {
+        Some(trap_code) => put_trapping(sink, code, trap_code),
+        None => sink.put_code(code),
+    }
+}
+
 // The load of an offset into `%r1`, where there is one.
 fn put_far(sink: &mut MachBuffer, far: Option<i32>) -> Result<(), EmitError>
     ensures answer { OnOk result (sink.new ≡ appended sink.old (helpers_parts (far_helper far))) }
@@ -133,10 +146,7 @@ fn put_storage_row(
     ensures kept { Extends sink.old sink.new }
 {
     let code = row.code()?;
-    match trap_code {
-        Some(trap_code) => put_trapping(sink, &code, trap_code),
-        None => sink.put_code(&code),
-    }
+    put_row(sink, &code, trap_code)
 }
 
 // The access of an operand that stands in it as it is, where there is a row for it.
@@ -428,8 +438,8 @@ impl MemoryInst {
         self.operands_valid && is_general_operand(&self.operand)
     }
 
-    // The helpers and the access of an instruction with valid registers, where no other cause refuses it.
-    fn emit_valid(&self, sink: &mut MachBuffer, state: &EmitState) -> Result<(), EmitError>
+    // The helpers and the access, by a plan, of an instruction with valid registers, where no other cause refuses it.
+    fn emit_planned(&self, sink: &mut MachBuffer, state: &EmitState) -> Result<(), EmitError>
         requires encodes { may_encode self.now ≡ true }
         requires valid { (self.now.operands_valid && operand_general self.now.operand) ≡ true }
         ensures answer { OnOk result ((memory_cause (declared_in sink.old) (in_state state.now (memory_instruction_of self.now)) ≡ None) × (sink.new ≡ appended sink.old (memory_parts (in_state state.now (memory_instruction_of self.now))))) }
@@ -439,6 +449,30 @@ impl MemoryInst {
         match plan_operand(&self.operand, state, self.forms()) {
             Ok(plan) => self.emit_plan(sink, &plan),
             Err(error) => Err(error),
+        }
+    }
+
+    // Its code, where it is behind no helper and a displacement holds its offset.
+    fn plain_code(&self, state: &EmitState) -> Option<Code>
+        ensures { IfSome result (λ code. IsPlain (in_state state.now (memory_instruction_of self.now)) code) }
+    {
+        match &self.operand {
+            MemArg::RegOffset { reg, off, .. } => offset_code(&self.rows, *reg, i128::from(*off)),
+            _ => None,
+        }
+    }
+
+    // The helpers and the access of an instruction with valid registers, where no other cause refuses it.
+    fn emit_valid(&self, sink: &mut MachBuffer, state: &EmitState) -> Result<(), EmitError>
+        requires encodes { may_encode self.now ≡ true }
+        requires valid { (self.now.operands_valid && operand_general self.now.operand) ≡ true }
+        ensures answer { OnOk result ((memory_cause (declared_in sink.old) (in_state state.now (memory_instruction_of self.now)) ≡ None) × (sink.new ≡ appended sink.old (memory_parts (in_state state.now (memory_instruction_of self.now))))) }
+        ensures lacks { put_cause sink.old (parts_size (memory_parts (in_state state.now (memory_instruction_of self.now)))) ≡ None → memory_cause (declared_in sink.old) (in_state state.now (memory_instruction_of self.now)) ≡ None → IfErr result (λ e. e ≡ NoMemory) }
+        ensures kept { Extends sink.old sink.new }
+    {
+        match self.plain_code(state) {
+            Some(code) => put_row(sink, &code, self.fault_code()),
+            None => self.emit_planned(sink, state),
         }
     }
 

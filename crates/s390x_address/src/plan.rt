@@ -63,8 +63,8 @@ fn far_offset(reg: Reg, off: i32, flags: MachMemFlags) -> Result<Plan, EmitError
     })
 }
 
-// The offset as an unsigned displacement of 12 bits.
-fn short_displacement(off: i128) -> Option<UImm12>
+/// The offset as an unsigned displacement of 12 bits.
+pub fn short_displacement(off: i128) -> Option<UImm12>
     ensures { result ≡ cond (fits_12 off) (Some (unsigned_abs off)) None }
 {
     if 0 <= off && off <= 4095 {
@@ -74,8 +74,8 @@ fn short_displacement(off: i128) -> Option<UImm12>
     }
 }
 
-// The offset as a signed displacement of 20 bits.
-fn long_displacement(off: i128) -> Option<SImm20>
+/// The offset as a signed displacement of 20 bits.
+pub fn long_displacement(off: i128) -> Option<SImm20>
     ensures { result ≡ cond (fits_20 off) (Some off) None }
 {
     if -524288 <= off && off <= 524287 {

@@ -1,0 +1,172 @@
+-- An instruction whose offset a displacement of its rows holds is behind no helper, and only its registers may refuse it.
+use Rattle.std.proofs.Common.{◌≡◌, ℕ, ◌+◌, ℤ, pos, negsuc, unsigned_abs, List, [], ◌∷◌, ◌++◌, length, Bool, true, false, cond, not, ◌&&◌, ◌||◌, Option, None, Some, option_map, IfSome, refl, sym, ap, subst, ◌∙◌, arith}
+use Rattle.s390x_base.specs.Regs.{number_of}
+use Rattle.s390x_base.specs.declared.error.EmitError.{EmitError}
+use Rattle.s390x_base.specs.declared.error.EmitError.TheVariants.{BadOperator, BadRegister, ScratchConflict, OffsetOutOfRange}
+use Rattle.s390x_base.specs.declared.ir.MachMemFlags.{MachMemFlags}
+use Rattle.s390x_base.specs.declared.regs.Reg.{Reg}
+use Rattle.s390x_base.specs.declared.trap.TrapKind.{TrapKind}
+use Rattle.s390x_inst.specs.declared.args.MemArg.{MemArg}
+use Rattle.s390x_inst.specs.declared.args.MemArg.TheVariants.{BXD12, BXD20, RegOffset}
+use Rattle.s390x_inst.specs.declared.inst.Inst.TheVariants.{Mov64SImm32}
+use Rattle.s390x_typed_steps.specs.Causes.{Declared, first_emit_cause, unless, is_helped, memory_cause}
+use Rattle.s390x_typed_steps.specs.General.{is_general, low_displacement, low_12}
+use Rattle.s390x_typed_steps.specs.MachineInstruction.{MachineInstruction, bytes_of, size_of, rx, rxy}
+use Rattle.s390x_typed_steps.specs.Memory.{StorageForm, RxForm, MemoryInstruction, type_of, storage_row, of_opcode}
+use Rattle.s390x_typed_steps.specs.Operands.{Finalized, scratch, no_register, is_numbered, is_relative, is_far, fits_12, fits_20, fits_32, addressed, with_widened, finalized, has_form}
+use Rattle.s390x_typed_steps.specs.Parts.{helpers_parts, relative_parts, access_parts, operand_parts, finalized_parts, parts_size}
+use Rattle.s390x_address.specs.Plans.{IsPlain}
+use Rattle.s390x_address.specs.Rows.{storage_form_of}
+use Rattle.s390x_address.specs.declared.rows.StorageRows.{StorageRows}
+use Rattle.s390x_address.specs.declared.rows.StorageRows.TheVariants.{OneRegister}
+use Rattle.s390x_address.proofs.Lacking.{length-bytes}
+use Rattle.s390x_address.proofs.Refusing.{wider_12, wider_20}
+
+and_false : (b : Bool) → (b && false) ≡ false
+and_false true = refl
+and_false false = refl
+
+or_true : (b : Bool) → (b || true) ≡ true
+or_true true = refl
+or_true false = refl
+
+first_alone : (o : Option EmitError) → first_emit_cause o None ≡ o
+first_alone None = refl
+first_alone (Some e) = refl
+
+-- an offset that a helper doesn't load and an immediate holds
+only_registers : (D : Declared) (form : StorageForm) (base : Reg) (off : ℤ) (flags : MachMemFlags) (accesses operands_valid reads_scratch : Bool) →
+    has_form (type_of form accesses) (RegOffset base off flags) ≡ true → is_far off ≡ false → fits_32 off ≡ true → (finalized (type_of form accesses) (RegOffset base off flags)).helpers ≡ [] →
+    memory_cause D (record { form = form; operand = RegOffset base off flags; accesses = accesses; operands_valid = operands_valid; reads_scratch = reads_scratch }) ≡ unless (operands_valid && is_general base) BadRegister
+only_registers D form base off flags accesses operands_valid reads_scratch has near fits alone =
+    let registers = unless (operands_valid && is_general base) BadRegister in
+    let late : Bool → Bool → Bool → Option EmitError = λ far helped holds. first_emit_cause (first_emit_cause (unless (not (far || helped)) ScratchConflict) (unless (holds && true) OffsetOutOfRange)) None in
+    let numbered = is_numbered 1 base in
+    let helpers = (finalized (type_of form accesses) (RegOffset base off flags)).helpers in
+    ap (λ t. first_emit_cause (unless t BadOperator) (first_emit_cause registers (late (numbered && is_far off) (reads_scratch && is_helped helpers) (fits_32 off)))) has
+    ∙ ap (λ t. first_emit_cause registers (late t (reads_scratch && is_helped helpers) (fits_32 off))) (ap (λ t. numbered && t) near ∙ and_false numbered)
+    ∙ ap (λ t. first_emit_cause registers (late false t (fits_32 off))) (ap (λ hs. reads_scratch && is_helped hs) alone ∙ and_false reads_scratch)
+    ∙ ap (λ t. first_emit_cause registers (late false false t)) fits
+    ∙ first_alone registers
+
+-- ---- a displacement of 12 bits
+
+pub short_plain : (register opcode : ℕ) (rxy_opcode ril_opcode : Option ℕ) (base : Reg) (off : ℤ) (flags : MachMemFlags) (accesses operands_valid reads_scratch : Bool) (code : List ℕ) →
+    fits_12 off ≡ true → code ≡ bytes_of (rx opcode register (number_of base) (number_of no_register) (low_12 (unsigned_abs off))) →
+    IsPlain (record { form = RxForm register (Some opcode) rxy_opcode ril_opcode; operand = RegOffset base off flags; accesses = accesses; operands_valid = operands_valid; reads_scratch = reads_scratch }) code
+short_plain register opcode rxy_opcode ril_opcode base off flags accesses operands_valid reads_scratch code fits same =
+    let form = RxForm register (Some opcode) rxy_opcode ril_opcode in
+    let mi = type_of form accesses in
+    let short : Finalized = record { helpers = []; operand = BXD12 base no_register (unsigned_abs off) flags } in
+    let long : Finalized = record { helpers = []; operand = BXD20 base no_register off flags } in
+    let far : Finalized = record { helpers = Mov64SImm32 scratch off ∷ []; operand = BXD12 base scratch 0 flags } in
+    let stays : Finalized = record { helpers = []; operand = RegOffset base off flags } in
+    let planned : finalized mi (RegOffset base off flags) ≡ short = ap (λ t. with_widened mi (addressed mi (cond t short (cond (fits_20 off) long (cond (fits_32 off) far stays))))) fits in
+    let near : is_far off ≡ false = ap (λ t. fits_32 off && not t && not (fits_20 off)) fits ∙ ap (λ t. t && not (fits_20 off)) (and_false (fits_32 off)) in
+    let alone = ap (λ (f : Finalized). f.helpers) planned in (
+      alone,
+      ap (λ (f : Finalized). is_relative f.operand) planned,
+      ap (λ (f : Finalized). option_map bytes_of (storage_row form f.operand)) planned ∙ ap Some (sym same),
+      λ D. only_registers D form base off flags accesses operands_valid reads_scratch refl near (wider_12 off fits) alone,
+    )
+
+-- ---- one of 20 bits
+
+not_negative : (off : ℤ) → fits_12 off ≡ true → pos (unsigned_abs off) ≡ off
+not_negative (pos n) h = refl
+not_negative (negsuc n) h = absurd (cc)
+
+long_chosen : (register opcode : ℕ) (rx_opcode ril_opcode : Option ℕ) (accesses : Bool) (base : Reg) (off : ℤ) (flags : MachMemFlags) (others : Finalized) (t : Bool) →
+    (t ≡ true → rx_opcode ≡ None) → (t ≡ true → pos (unsigned_abs off) ≡ off) →
+    with_widened (type_of (RxForm register rx_opcode (Some opcode) ril_opcode) accesses) (addressed (type_of (RxForm register rx_opcode (Some opcode) ril_opcode) accesses) (cond t (record { helpers = []; operand = BXD12 base no_register (unsigned_abs off) flags }) (cond true (record { helpers = []; operand = BXD20 base no_register off flags }) others))) ≡ record { helpers = []; operand = BXD20 base no_register off flags }
+long_chosen register opcode rx_opcode ril_opcode accesses base off flags others true none same =
+    let short : Finalized = record { helpers = []; operand = BXD12 base no_register (unsigned_abs off) flags } in
+    ap (λ o. with_widened (type_of (RxForm register o (Some opcode) ril_opcode) accesses) (addressed (type_of (RxForm register o (Some opcode) ril_opcode) accesses) short)) (none refl)
+    ∙ ap (λ z. record { helpers = []; operand = BXD20 base no_register z flags }) (same refl)
+long_chosen register opcode rx_opcode ril_opcode accesses base off flags others false none same = refl
+
+-- by the rows of 20 bits, where there is none of 12 bits or the offset doesn't fit it
+pub long_plain : (register : ℕ) (rx_opcode rxy_opcode ril_opcode : Option ℕ) (base : Reg) (off : ℤ) (flags : MachMemFlags) (accesses operands_valid reads_scratch : Bool) (code : List ℕ) →
+    (fits_12 off ≡ true → rx_opcode ≡ None) → fits_20 off ≡ true → option_map bytes_of (of_opcode (λ o. rxy o register (number_of base) (number_of no_register) (low_displacement off)) rxy_opcode) ≡ Some code →
+    IsPlain (record { form = RxForm register rx_opcode rxy_opcode ril_opcode; operand = RegOffset base off flags; accesses = accesses; operands_valid = operands_valid; reads_scratch = reads_scratch }) code
+long_plain register rx_opcode None ril_opcode base off flags accesses operands_valid reads_scratch code none fits same = absurd (cc)
+long_plain register rx_opcode (Some opcode) ril_opcode base off flags accesses operands_valid reads_scratch code none fits same =
+    let form = RxForm register rx_opcode (Some opcode) ril_opcode in
+    let mi = type_of form accesses in
+    let short : Finalized = record { helpers = []; operand = BXD12 base no_register (unsigned_abs off) flags } in
+    let long : Finalized = record { helpers = []; operand = BXD20 base no_register off flags } in
+    let far : Finalized = record { helpers = Mov64SImm32 scratch off ∷ []; operand = BXD12 base scratch 0 flags } in
+    let stays : Finalized = record { helpers = []; operand = RegOffset base off flags } in
+    let others = cond (fits_32 off) far stays in
+    let planned : finalized mi (RegOffset base off flags) ≡ long =
+    ap (λ t. with_widened mi (addressed mi (cond (fits_12 off) short (cond t long others)))) fits
+    ∙ long_chosen register opcode rx_opcode ril_opcode accesses base off flags others (fits_12 off) none (not_negative off) in
+    let near : is_far off ≡ false = ap (λ t. fits_32 off && not (fits_12 off) && not t) fits ∙ and_false (fits_32 off && not (fits_12 off)) in
+    let alone = ap (λ (f : Finalized). f.helpers) planned in
+    let has : has_form mi (RegOffset base off flags) ≡ true = ap (λ t. t || (is_relative (RegOffset base off flags) && true)) (or_true mi.have_d12) in (
+      alone,
+      ap (λ (f : Finalized). is_relative f.operand) planned,
+      ap (λ (f : Finalized). option_map bytes_of (storage_row form f.operand)) planned ∙ same,
+      λ D. only_registers D form base off flags accesses operands_valid reads_scratch has near (wider_20 off fits) alone,
+    )
+
+-- ---- what the code's rows say
+
+-- what is found is the code of the row of format RXY at an offset that its displacement holds
+abbrev pub IsLong : Option (List ℕ) → Reg → Option ℕ → Reg → ℤ → Type 0
+IsLong found register opcode base off = IfSome found (λ code. (fits_20 off ≡ true) × (option_map bytes_of (of_opcode (λ o. rxy o (number_of register) (number_of base) (number_of no_register) (low_displacement off)) opcode) ≡ Some code))
+
+held : {D : Type 0} (t : Bool) (d e : D) → Some d ≡ cond t (Some e) None → (t ≡ true) × (d ≡ e)
+held true d e h = (refl, cc)
+held false d e h = absurd (cc)
+
+pub short_rows : (found : Option (List ℕ)) (rows : StorageRows) (register : Reg) (rx_opcode rxy_opcode ril_opcode : Option ℕ) (opcode disp : ℕ) (base : Reg) (off : ℤ) (flags : MachMemFlags) (accesses operands_valid reads_scratch : Bool) →
+    rows ≡ OneRegister register rx_opcode rxy_opcode ril_opcode → rx_opcode ≡ Some opcode → Some disp ≡ cond (fits_12 off) (Some (unsigned_abs off)) None →
+    IfSome found (λ code. code ≡ bytes_of (rx opcode (number_of register) (number_of base) (number_of no_register) (low_12 disp))) →
+    IfSome found (λ code. IsPlain (record { form = storage_form_of rows; operand = RegOffset base off flags; accesses = accesses; operands_valid = operands_valid; reads_scratch = reads_scratch }) code)
+short_rows None rows register rx_opcode rxy_opcode ril_opcode opcode disp base off flags accesses operands_valid reads_scratch is some fits same = tt
+short_rows (Some code) rows register rx_opcode rxy_opcode ril_opcode opcode disp base off flags accesses operands_valid reads_scratch is some fits same =
+    let p = held (fits_12 off) disp (unsigned_abs off) fits in
+    subst (λ form. IsPlain (record { form = form; operand = RegOffset base off flags; accesses = accesses; operands_valid = operands_valid; reads_scratch = reads_scratch }) code) (sym (ap storage_form_of is ∙ ap (λ o. RxForm (number_of register) o rxy_opcode ril_opcode) some))
+    (short_plain (number_of register) opcode rxy_opcode ril_opcode base off flags accesses operands_valid reads_scratch code p.0 (same ∙ ap (λ d. bytes_of (rx opcode (number_of register) (number_of base) (number_of no_register) (low_12 d))) p.1))
+
+pub long_found : (found : Option (List ℕ)) (rxy_opcode : Option ℕ) (opcode : ℕ) (register base : Reg) (disp off : ℤ) → rxy_opcode ≡ Some opcode → Some disp ≡ cond (fits_20 off) (Some off) None →
+    IfSome found (λ code. code ≡ bytes_of (rxy opcode (number_of register) (number_of base) (number_of no_register) (low_displacement disp))) →
+    IsLong found register rxy_opcode base off
+long_found None rxy_opcode opcode register base disp off some fits same = tt
+long_found (Some code) rxy_opcode opcode register base disp off some fits same =
+    let p = held (fits_20 off) disp off fits in (
+      p.0,
+      ap (λ q. option_map bytes_of (of_opcode (λ o. rxy o (number_of register) (number_of base) (number_of no_register) (low_displacement off)) q)) some
+          ∙ ap Some (ap (λ z. bytes_of (rxy opcode (number_of register) (number_of base) (number_of no_register) (low_displacement z))) (sym p.1) ∙ sym same),
+    )
+
+pub long_rows : (found : Option (List ℕ)) (rows : StorageRows) (register : Reg) (rx_opcode rxy_opcode ril_opcode : Option ℕ) (base : Reg) (off : ℤ) (flags : MachMemFlags) (accesses operands_valid reads_scratch : Bool) →
+    rows ≡ OneRegister register rx_opcode rxy_opcode ril_opcode → (fits_12 off ≡ true → rx_opcode ≡ None) →
+    IsLong found register rxy_opcode base off →
+    IfSome found (λ code. IsPlain (record { form = storage_form_of rows; operand = RegOffset base off flags; accesses = accesses; operands_valid = operands_valid; reads_scratch = reads_scratch }) code)
+long_rows None rows register rx_opcode rxy_opcode ril_opcode base off flags accesses operands_valid reads_scratch is none same = tt
+long_rows (Some code) rows register rx_opcode rxy_opcode ril_opcode base off flags accesses operands_valid reads_scratch is none same =
+    subst (λ form. IsPlain (record { form = form; operand = RegOffset base off flags; accesses = accesses; operands_valid = operands_valid; reads_scratch = reads_scratch }) code) (sym (ap storage_form_of is))
+    (long_plain (number_of register) rx_opcode rxy_opcode ril_opcode base off flags accesses operands_valid reads_scratch code none same.0 same.1)
+
+pub unfit : (t : Bool) (d : ℕ) (o : Option ℕ) → None ≡ cond t (Some d) None → t ≡ true → o ≡ None
+unfit true d o h e = absurd (cc)
+unfit false d o h e = absurd (cc)
+
+-- ---- what it puts
+
+-- the row that has the code
+pub row_found : {P : Type 0} (o : Option MachineInstruction) (code : List ℕ) → option_map bytes_of o ≡ Some code → ((m : MachineInstruction) → o ≡ Some m → code ≡ bytes_of m → P) → P
+row_found None code h f = absurd (cc)
+row_found (Some m) code h f = f m refl (cc)
+
+pub plain_parts : (form : StorageForm) (trap : Option TrapKind) (f : Finalized) (m : MachineInstruction) → f.helpers ≡ [] → is_relative f.operand ≡ false → storage_row form f.operand ≡ Some m → finalized_parts form trap f ≡ access_parts (Some m) trap
+plain_parts form trap f m alone absolute row =
+    ap (λ hs. helpers_parts hs ++ operand_parts form trap f.operand) alone
+    ∙ ap (λ t. cond t (relative_parts form trap f.operand) (access_parts (storage_row form f.operand) trap)) absolute
+    ∙ ap (λ o. access_parts o trap) row
+
+pub plain_size : (trap : Option TrapKind) (m : MachineInstruction) → parts_size (access_parts (Some m) trap) ≡ length (bytes_of m)
+plain_size None m = omega (arith, length-bytes m)
+plain_size (Some code) m = omega (arith, length-bytes m)
