@@ -226,21 +226,27 @@ pub fn three_row(
     let three = three_opcode(op)?;
     let output = rd.to_reg();
     match two_opcode(op) {
-        Some(two) => Some(shorter_code(three, two, &output, rn, rm)),
-        None => Some(three_operands(three_general(&output, rn, rm), three, output, *rn, *rm)),
+        Some(two) => shorter_row(three, two, &output, rn, rm),
+        None => three_operands(three_general(&output, rn, rm), three, &output, rn, rm),
     }
 }
 
 #[tactic(auto, using(crate::proofs::Encoding::outer_general, crate::proofs::Encoding::itself))]
-fn shorter_code(three: u16, two: u16, rd: &Reg, rn: &Reg, rm: &Reg) -> Result<Code, EmitError>
+fn shorter_row(
+    three: u16,
+    two: u16,
+    rd: &Reg,
+    rn: &Reg,
+    rm: &Reg,
+) -> Option<Result<Code, EmitError>>
     requires { takes_general (Some two) ≡ true }
-    ensures { Some result ≡ single_code (single_with (is_general rd.now && is_general rn.now && is_general rm.now) (three_row (Some three) (Some two) (number_of rd.now) (number_of rn.now) (number_of rm.now))) }
+    ensures { result ≡ single_code (single_with (is_general rd.now && is_general rn.now && is_general rm.now) (three_row (Some three) (Some two) (number_of rd.now) (number_of rn.now) (number_of rm.now))) }
 {
     let valid = three_general(rd, rn, rm);
     if same_number(rd, rn) {
-        two_operands(valid, two, *rd, *rm)
+        Some(two_operands(valid, two, *rd, *rm))
     } else {
-        three_operands(valid, three, *rd, *rn, *rm)
+        three_operands(valid, three, rd, rn, rm)
     }
 }
 
@@ -282,17 +288,17 @@ fn shorter_halfword_code(
 }
 
 /// So many bytes are taken from the stack pointer: their number is added with a minus sign where that fits, else it is subtracted.
-pub fn allocate_code(size: u32) -> Result<Code, EmitError>
-    ensures { result ≡ code_where true (allocate_row size) }
+pub fn allocate_row(size: u32) -> Option<Result<Code, EmitError>>
+    ensures { result ≡ single_code (single_with true (Some (allocate_row size))) }
 {
     if size < 32768 {
-        halfword(
+        Some(halfword(
             true,
             short(0xa7b),
             gpr(15),
             bits_of_halfword(-(size as i16)),
-        )
+        ))
     } else {
-        word(true, short(0xc24), gpr(15), bits_of_unsigned(size))
+        Some(word(true, short(0xc24), gpr(15), bits_of_unsigned(size)))
     }
 }

@@ -151,64 +151,64 @@ pub fn tested_row(
 
 /// A shift by a number plus a register.
 #[tactic(auto, using(crate::proofs::Encoding::itself))]
-pub fn shift_code(
+pub fn shift_row(
     op: ShiftOp,
     rd: &Writable<Reg>,
     rn: &Reg,
     amount: u8,
     register: &Reg,
-) -> Result<Code, EmitError>
-    ensures { result ≡ code_where (is_general rd.now && is_general rn.now && is_general register.now) (rsy (shift_opcode op) (number_of rd.now) (number_of rn.now) (number_of register.now) (low_byte amount)) }
+) -> Option<Result<Code, EmitError>>
+    ensures { result ≡ single_code (single_with (is_general rd.now && is_general rn.now && is_general register.now) (Some (rsy (shift_opcode op) (number_of rd.now) (number_of rn.now) (number_of register.now) (low_byte amount)))) }
 {
     let output = rd.to_reg();
-    shifted(
+    Some(shifted(
         three_general(&output, rn, register),
         shift_opcode(op),
         output,
         *rn,
         *register,
         low_byte(amount),
-    )
+    ))
 }
 
 /// The signed product of two registers, into a pair.
 #[tactic(auto, using(crate::proofs::Encoding::even_two_general))]
-pub fn product_code(rd: &WritableRegPair, rn: &Reg, rm: &Reg) -> Result<Code, EmitError>
-    ensures { result ≡ code_where (is_even_pair rd.now.hi rd.now.lo && is_general rn.now && is_general rm.now) (rrf_ab 0xb9ec (number_of rd.now.hi) (number_of rn.now) (number_of rm.now) 0) }
+pub fn product_row(rd: &WritableRegPair, rn: &Reg, rm: &Reg) -> Option<Result<Code, EmitError>>
+    ensures { result ≡ single_code (single_with (is_even_pair rd.now.hi rd.now.lo && is_general rn.now && is_general rm.now) (Some (rrf_ab 0xb9ec (number_of rd.now.hi) (number_of rn.now) (number_of rm.now) 0))) }
 {
     three_operands(
         is_even_pair(rd) && general(rn) && general(rm),
         0xb9ec,
-        rd.hi.to_reg(),
-        *rn,
-        *rm,
+        &rd.hi.to_reg(),
+        rn,
+        rm,
     )
 }
 
 /// A count of a register's bits, into a pair.
 #[tactic(auto, using(crate::proofs::Encoding::even_general))]
-pub fn pair_code(opcode: u16, rd: &WritableRegPair, rn: &Reg) -> Result<Code, EmitError>
+pub fn pair_row(opcode: u16, rd: &WritableRegPair, rn: &Reg) -> Option<Result<Code, EmitError>>
     requires { takes_general (Some opcode) ≡ true }
-    ensures { result ≡ code_where (is_even_pair rd.now.hi rd.now.lo && is_general rn.now) (two_operands opcode (number_of rd.now.hi) (number_of rn.now)) }
+    ensures { result ≡ single_code (single_with (is_even_pair rd.now.hi rd.now.lo && is_general rn.now) (Some (two_operands opcode (number_of rd.now.hi) (number_of rn.now)))) }
 {
-    two_operands(is_even_pair(rd) && general(rn), opcode, rd.hi.to_reg(), *rn)
+    Some(two_operands(is_even_pair(rd) && general(rn), opcode, rd.hi.to_reg(), *rn))
 }
 
 /// An operator on a pair, whose second register is read too, and another register.
 #[tactic(auto, using(crate::proofs::Encoding::even_reused_general))]
-pub fn reused_low_code(
+pub fn reused_low_row(
     opcode: u16,
     rd: &WritableRegPair,
     ri: &Reg,
     rn: &Reg,
-) -> Result<Code, EmitError>
+) -> Option<Result<Code, EmitError>>
     requires { takes_general (Some opcode) ≡ true }
-    ensures { result ≡ code_where (is_even_pair rd.now.hi rd.now.lo && reuses rd.now.lo ri.now && is_general rn.now) (two_operands opcode (number_of rd.now.hi) (number_of rn.now)) }
+    ensures { result ≡ single_code (single_with (is_even_pair rd.now.hi rd.now.lo && reuses rd.now.lo ri.now && is_general rn.now) (Some (two_operands opcode (number_of rd.now.hi) (number_of rn.now)))) }
 {
-    two_operands(
+    Some(two_operands(
         is_even_pair(rd) && is_reused(&rd.lo.to_reg(), ri) && general(rn),
         opcode,
         rd.hi.to_reg(),
         *rn,
-    )
+    ))
 }

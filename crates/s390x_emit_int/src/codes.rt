@@ -52,17 +52,17 @@ pub fn two_operands(valid: bool, opcode: u16, r1: Reg, r2: Reg) -> Result<Code, 
 pub fn three_operands(
     valid: bool,
     opcode: u16,
-    r1: Reg,
-    r2: Reg,
-    r3: Reg,
-) -> Result<Code, EmitError>
-    requires { implies valid (is_general r1 && is_general r2 && is_general r3) ≡ true }
-    ensures { result ≡ code_where valid (rrf_ab opcode (number_of r1) (number_of r2) (number_of r3) 0) }
+    r1: &Reg,
+    r2: &Reg,
+    r3: &Reg,
+) -> Option<Result<Code, EmitError>>
+    requires { implies valid (is_general r1.now && is_general r2.now && is_general r3.now) ≡ true }
+    ensures { result ≡ Some (code_where valid (rrf_ab opcode (number_of r1.now) (number_of r2.now) (number_of r3.now) 0)) }
 {
     if valid {
-        enc_rrf_ab(opcode, r1, r2, r3, 0)
+        Some(enc_rrf_ab(opcode, *r1, *r2, *r3, 0))
     } else {
-        Err(EmitError::BadRegister)
+        Some(Err(EmitError::BadRegister))
     }
 }
 

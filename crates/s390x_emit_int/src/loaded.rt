@@ -75,9 +75,8 @@ fn emit_loaded(
     }
 }
 
-/// Emits an instruction that is neither a `Loop` nor a call, in a state of emission and inside so many loops, where no cause refuses it, by the rows that the
-/// machine has; `after` is the label behind the innermost loop. An error may be another one than the first cause.
-pub fn emit_on_machine(
+// The same as `emit_on_machine`, where the machine lacks the rows that are relative to an access.
+fn emit_without_relative(
     flags: IsaFlags,
     sink: &mut MachBuffer,
     state: &EmitState,
@@ -91,6 +90,26 @@ pub fn emit_on_machine(
     match find_loaded(flags, inst) {
         Some(found) => emit_loaded(flags, sink, state, depth, inst, &found),
         None => emit_leaf(flags, sink, state, depth, inst, after),
+    }
+}
+
+/// Emits an instruction that is neither a `Loop` nor a call, in a state of emission and inside so many loops, where no cause refuses it, by the rows that the
+/// machine has; `after` is the label behind the innermost loop. An error may be another one than the first cause.
+pub fn emit_on_machine(
+    flags: IsaFlags,
+    sink: &mut MachBuffer,
+    state: &EmitState,
+    depth: u32,
+    inst: &Inst,
+    after: MachLabel,
+) -> Result<(), EmitError>
+    requires { HasRoom sink.old }
+    ensures { EmitsOwn flags sink.old sink.new after.0 depth state.now.nominal (leaf (body_for flags (Whole (resolved_instruction state.now inst.now))) empty) result }
+{
+    if flags.no_relative_memory {
+        emit_without_relative(flags, sink, state, depth, inst, after)
+    } else {
+        emit_leaf(flags, sink, state, depth, inst, after)
     }
 }
 

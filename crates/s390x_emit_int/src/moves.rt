@@ -121,41 +121,41 @@ fn extract_access(valid: bool, rd: Reg, ar: u8) -> Result<Code, EmitError>
 
 /// The load of an access register.
 #[tactic(auto, using(crate::proofs::Encoding::first_general))]
-pub fn load_access(rd: &Writable<Reg>, ar: u8) -> Result<Code, EmitError>
-    ensures { result ≡ code_where (is_general rd.now && is_access ar) (two_operands 0xb24f (number_of rd.now) (four_bits ar)) }
+pub fn load_access_row(rd: &Writable<Reg>, ar: u8) -> Option<Result<Code, EmitError>>
+    ensures { result ≡ single_code (single_with (is_general rd.now && is_access ar) (Some (two_operands 0xb24f (number_of rd.now) (four_bits ar)))) }
 {
     let output = rd.to_reg();
-    extract_access(general(&output) && is_access(ar), output, ar)
+    Some(extract_access(general(&output) && is_access(ar), output, ar))
 }
 
 /// The same into a register that is read too.
 #[tactic(auto, using(crate::proofs::Encoding::reused_tested_general))]
-pub fn insert_access(rd: &Writable<Reg>, ri: &Reg, ar: u8) -> Result<Code, EmitError>
-    ensures { result ≡ code_where (reuses rd.now ri.now && is_access ar) (two_operands 0xb24f (number_of rd.now) (four_bits ar)) }
+pub fn insert_access_row(rd: &Writable<Reg>, ri: &Reg, ar: u8) -> Option<Result<Code, EmitError>>
+    ensures { result ≡ single_code (single_with (reuses rd.now ri.now && is_access ar) (Some (two_operands 0xb24f (number_of rd.now) (four_bits ar)))) }
 {
     let output = rd.to_reg();
-    extract_access(is_reused(&output, ri) && is_access(ar), output, ar)
+    Some(extract_access(is_reused(&output, ri) && is_access(ar), output, ar))
 }
 
 /// A move under a condition, into a register that is read too.
 #[tactic(auto, using(crate::proofs::Encoding::reused_pair_general))]
-pub fn conditional_code(
+pub fn conditional_row(
     opcode: u16,
     rd: &Writable<Reg>,
     ri: &Reg,
     rm: &Reg,
     cond: Cond,
-) -> Result<Code, EmitError>
-    ensures { result ≡ code_where (reuses rd.now ri.now && is_general rm.now) (rrf_cde opcode (number_of rd.now) (number_of rm.now) (four_bits cond) 0) }
+) -> Option<Result<Code, EmitError>>
+    ensures { result ≡ single_code (single_with (reuses rd.now ri.now && is_general rm.now) (Some (rrf_cde opcode (number_of rd.now) (number_of rm.now) (four_bits cond) 0))) }
 {
     let output = rd.to_reg();
-    masked(
+    Some(masked(
         is_reused(&output, ri) && general(rm),
         opcode,
         output,
         *rm,
         cond.bits(),
-    )
+    ))
 }
 
 /// A load of an immediate under a condition, into a register that is read too.
@@ -206,10 +206,10 @@ pub fn indexed_row(
 }
 
 /// BRANCH ON CONDITION that doesn't branch: to no address, or under a mask of zeros.
-pub fn branch_nowhere(mask: u8, target: u8) -> Result<Code, EmitError>
+pub fn branch_nowhere(mask: u8, target: u8) -> Option<Result<Code, EmitError>>
     requires mask { mask < 16 }
     requires target { target < 16 }
-    ensures { result ≡ code_where true (rr 0x07 mask target) }
+    ensures { result ≡ single_code (single_with true (Some (rr 0x07 mask target))) }
 {
-    two_operands(true, 0x07, gpr(mask), gpr(target))
+    Some(two_operands(true, 0x07, gpr(mask), gpr(target)))
 }

@@ -6,18 +6,18 @@ ghost use Rattle.s390x_typed_steps.specs.SingleCode.{single_code};
 ghost use Rattle.s390x_typed_steps.specs.SingleInstruction.{single_instruction};
 
 use crate::arithmetic::{
-    allocate_code, compare_halfword_opcode, compare_opcode, compare_signed_word_opcode,
+    allocate_row, compare_halfword_opcode, compare_opcode, compare_signed_word_opcode,
     compare_unsigned_word_opcode, halfword_opcode, signed_word_opcode, three_halfword_row,
     three_row, two_opcode, unary_row, unsigned_word_opcode,
 };
 use crate::bits::{
-    half_opcode, pair_code, part_opcode, product_code, reused_low_code, rotated_row, shift_code,
+    half_opcode, pair_row, part_opcode, product_row, reused_low_row, rotated_row, shift_row,
     tested_row,
 };
 use crate::codes::always;
 use crate::moves::{
-    branch_nowhere, conditional_code, conditional_immediate_row, extend_opcode, indexed_opcode,
-    indexed_row, insert_access, load_access, logical_indexed_opcode, of_four, of_two,
+    branch_nowhere, conditional_immediate_row, conditional_row, extend_opcode, indexed_opcode,
+    indexed_row, insert_access_row, load_access_row, logical_indexed_opcode, of_four, of_two,
 };
 use crate::shapes::{
     halfword_row, into_halfword_row, into_row, into_signed_halfword_row, into_signed_word_row,
@@ -26,7 +26,7 @@ use crate::shapes::{
 use crate::stops::{
     compare_opcode as trap_opcode, compare_signed_opcode as trap_signed_opcode,
     compare_unsigned_opcode as trap_unsigned_opcode, masked_halfword_row, masked_row,
-    reused_pair_code,
+    reused_pair_row,
 };
 use s390x_base::{Code, EmitError, Reg};
 use s390x_emit_vec::find_vector;
@@ -91,7 +91,7 @@ pub fn find_single_instruction(inst: &Inst) -> Option<Result<Code, EmitError>>
             rn,
             bits_of_unsigned(*imm),
         ),
-        Inst::AllocateArgs { size } => Some(allocate_code(*size)),
+        Inst::AllocateArgs { size } => allocate_row(*size),
         Inst::AluRUImm16Shifted {
             alu_op,
             rd,
@@ -120,7 +120,7 @@ pub fn find_single_instruction(inst: &Inst) -> Option<Result<Code, EmitError>>
             rn,
             shift_imm,
             shift_reg,
-        } => Some(shift_code(*shift_op, rd, rn, *shift_imm, shift_reg)),
+        } => shift_row(*shift_op, rd, rn, *shift_imm, shift_reg),
         Inst::RxSBG {
             op,
             rd,
@@ -138,9 +138,9 @@ pub fn find_single_instruction(inst: &Inst) -> Option<Result<Code, EmitError>>
             end_bit,
             rotate_amt,
         } => tested_row(*op, rd, rn, *start_bit, *end_bit, *rotate_amt),
-        Inst::SMulWide { rd, rn, rm } => Some(product_code(rd, rn, rm)),
-        Inst::UMulWide { rd, ri, rn } => Some(reused_low_code(0xb986, rd, ri, rn)),
-        Inst::Flogr { rd, rn } => Some(pair_code(0xb983, rd, rn)),
+        Inst::SMulWide { rd, rn, rm } => product_row(rd, rn, rm),
+        Inst::UMulWide { rd, ri, rn } => reused_low_row(0xb986, rd, ri, rn),
+        Inst::Flogr { rd, rn } => pair_row(0xb983, rd, rn),
         Inst::Mov64 { rd, rm } => into_row(Some(0xb904), rd, rm),
         Inst::MovPReg { rd, rm } => into_row(Some(0xb904), rd, &Reg::Real(*rm)),
         Inst::Mov32 { rd, rm } => into_row(Some(0x18), rd, rm),
@@ -170,8 +170,8 @@ pub fn find_single_instruction(inst: &Inst) -> Option<Result<Code, EmitError>>
             ri,
             bits_of_unsigned(imm.bits),
         ),
-        Inst::CMov32 { rd, cond, ri, rm } => Some(conditional_code(0xb9f2, rd, ri, rm, *cond)),
-        Inst::CMov64 { rd, cond, ri, rm } => Some(conditional_code(0xb9e2, rd, ri, rm, *cond)),
+        Inst::CMov32 { rd, cond, ri, rm } => conditional_row(0xb9f2, rd, ri, rm, *cond),
+        Inst::CMov64 { rd, cond, ri, rm } => conditional_row(0xb9e2, rd, ri, rm, *cond),
         Inst::CMov32SImm16 { rd, cond, ri, imm } => conditional_immediate_row(
             0xec42, rd, ri, imm, *cond,
         ),
@@ -185,8 +185,8 @@ pub fn find_single_instruction(inst: &Inst) -> Option<Result<Code, EmitError>>
             from_bits,
             to_bits,
         } => into_row(extend_opcode(*signed, *from_bits, *to_bits), rd, rn),
-        Inst::LoadAR { rd, ar } => Some(load_access(rd, *ar)),
-        Inst::InsertAR { rd, ri, ar } => Some(insert_access(rd, ri, *ar)),
+        Inst::LoadAR { rd, ar } => load_access_row(rd, *ar),
+        Inst::InsertAR { rd, ri, ar } => insert_access_row(rd, ri, *ar),
         Inst::LoadIndexedAddr {
             rd,
             base,
@@ -201,12 +201,12 @@ pub fn find_single_instruction(inst: &Inst) -> Option<Result<Code, EmitError>>
             offset,
             size,
         } => indexed_row(logical_indexed_opcode(*size), rd, base, index, *offset),
-        Inst::Fence => Some(branch_nowhere(14, 0)),
-        Inst::Nop2 => Some(branch_nowhere(0, 7)),
-        Inst::SDivMod32 { rd, ri, rn } => Some(reused_low_code(0xb91d, rd, ri, rn)),
-        Inst::SDivMod64 { rd, ri, rn } => Some(reused_low_code(0xb90d, rd, ri, rn)),
-        Inst::UDivMod32 { rd, ri, rn } => Some(reused_pair_code(0xb997, rd, ri, rn)),
-        Inst::UDivMod64 { rd, ri, rn } => Some(reused_pair_code(0xb987, rd, ri, rn)),
+        Inst::Fence => branch_nowhere(14, 0),
+        Inst::Nop2 => branch_nowhere(0, 7),
+        Inst::SDivMod32 { rd, ri, rn } => reused_low_row(0xb91d, rd, ri, rn),
+        Inst::SDivMod64 { rd, ri, rn } => reused_low_row(0xb90d, rd, ri, rn),
+        Inst::UDivMod32 { rd, ri, rn } => reused_pair_row(0xb997, rd, ri, rn),
+        Inst::UDivMod64 { rd, ri, rn } => reused_pair_row(0xb987, rd, ri, rn),
         Inst::CmpTrapRR {
             op,
             rn,

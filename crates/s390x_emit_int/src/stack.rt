@@ -59,9 +59,8 @@ fn outgoing_behind(outgoing: u32, insts: &[Inst]) -> u32
     behind
 }
 
-/// Goes on behind an instruction: by the stack sizes, and without a stack map. Refused where it allocates arguments and some are allocated already; the
-/// state stays then.
-pub fn advance(state: &mut EmitState, inst: &Inst) -> Result<(), EmitError>
+// Goes on behind an instruction that may change the stack sizes.
+fn advance_sizes(state: &mut EmitState, inst: &Inst) -> Result<(), EmitError>
     ensures { MatchResult result (λ _. state.new ≡ state_after state.old inst.now) (λ e. ((depth : ℕ) → stack_cause state.old.nominal depth inst.now ≡ Some e) × (state.new ≡ state.old)) }
 {
     let nominal = nominal_after(state.nominal(), inst)?;
@@ -70,6 +69,22 @@ pub fn advance(state: &mut EmitState, inst: &Inst) -> Result<(), EmitError>
     state.set_outgoing(outgoing);
     state.clear_post_insn();
     Ok(())
+}
+
+/// Goes on behind an instruction: by the stack sizes, and without a stack map. Refused where it allocates arguments and some are allocated already; the
+/// state stays then.
+pub fn advance(state: &mut EmitState, inst: &Inst) -> Result<(), EmitError>
+    ensures { MatchResult result (λ _. state.new ≡ state_after state.old inst.now) (λ e. ((depth : ℕ) → stack_cause state.old.nominal depth inst.now ≡ Some e) × (state.new ≡ state.old)) }
+{
+    match inst {
+        Inst::AllocateArgs { .. } | Inst::Call { .. } | Inst::Loop { .. } => {
+            advance_sizes(state, inst)
+        }
+        _ => {
+            state.clear_post_insn();
+            Ok(())
+        }
+    }
 }
 
 /// A call of a block is a safepoint: its stack map is the next one.

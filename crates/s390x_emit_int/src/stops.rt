@@ -81,21 +81,21 @@ pub fn masked_halfword_row(
 
 /// A division of a pair by a register.
 #[tactic(auto, using(crate::proofs::Encoding::even_reused_pair_general))]
-pub fn reused_pair_code(
+pub fn reused_pair_row(
     opcode: u16,
     rd: &WritableRegPair,
     ri: &RegPair,
     rn: &Reg,
-) -> Result<Code, EmitError>
+) -> Option<Result<Code, EmitError>>
     requires { takes_general (Some opcode) ≡ true }
-    ensures { result ≡ code_where (is_even_pair rd.now.hi rd.now.lo && reuses_pair rd.now ri.now && is_general rn.now) (two_operands opcode (number_of rd.now.hi) (number_of rn.now)) }
+    ensures { result ≡ single_code (single_with (is_even_pair rd.now.hi rd.now.lo && reuses_pair rd.now ri.now && is_general rn.now) (Some (two_operands opcode (number_of rd.now.hi) (number_of rn.now)))) }
 {
-    two_operands(
+    Some(two_operands(
         is_even_pair(rd) && is_reused_pair(rd, ri) && general(rn),
         opcode,
         rd.hi.to_reg(),
         *rn,
-    )
+    ))
 }
 
 /// The code of the stop of a division, or of a comparison that traps.

@@ -7,7 +7,7 @@ use Rattle.s390x_typed_steps.specs.SingleInstruction.{single_instruction, single
 use Rattle.s390x_emit_int.proofs.single_instruction.find_single_instruction.Goals as goal
 
 pub returns-in-ShiftRR : goal.returns-in-ShiftRR
-returns-in-ShiftRR c = ap Some c.shift_code.ensures ∙ ap (λ (i : Inst). single_code (single_instruction i)) (sym c.in-ShiftRR.is)
+returns-in-ShiftRR c = c.shift_row.ensures ∙ ap (λ (i : Inst). single_code (single_instruction i)) (sym c.in-ShiftRR.is)
 
 pub returns-in-CMov32SImm16 : goal.returns-in-CMov32SImm16
 returns-in-CMov32SImm16 c = c.conditional_immediate_row.ensures ∙ ap (λ (i : Inst). single_code (single_instruction i)) (sym c.in-CMov32SImm16.is)
