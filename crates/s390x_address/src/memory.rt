@@ -8,10 +8,12 @@ ghost use Rattle.s390x_buffer.specs.Extends.{Extends};
 ghost use Rattle.s390x_buffer.specs.State.{put_cause};
 ghost use Rattle.std.specs.Option.{option_map};
 ghost use Rattle.s390x_typed_steps.specs.Causes.{Declared, first_emit_cause, unless, declared_in, memory_cause, late_cause, target_cause, boundary};
+ghost use Rattle.s390x_inst.specs.Memory.{flags_of};
+ghost use Rattle.s390x_inst.specs.declared.args.MemArg.TheVariants.{RegOffset};
 ghost use Rattle.s390x_typed_steps.specs.General.{is_general};
 ghost use Rattle.s390x_typed_steps.specs.MachineInstruction.{MachineInstruction, bytes_of, size_of};
 ghost use Rattle.s390x_typed_steps.specs.Memory.{type_of, storage_row, fault_code, address_form, accesses_relative, without_relative};
-ghost use Rattle.s390x_typed_steps.specs.Operands.{has_form, operand_general, scratch};
+ghost use Rattle.s390x_typed_steps.specs.Operands.{has_form, operand_general, resolved, scratch};
 ghost use Rattle.s390x_typed_steps.specs.VectorInstruction.{is_vector};
 ghost use Rattle.s390x_typed_steps.specs.Parts.{access_parts, operand_parts, helpers_parts, finalized_parts, memory_parts, parts_size};
 ghost use Rattle.s390x_address.specs.Appended.{appended};
@@ -20,10 +22,10 @@ ghost use Rattle.s390x_address.specs.Rows.{row_of, row_encodes, storage_form_of,
 
 use crate::forms::{has_form, is_relative, needs_address};
 use crate::plain::offset_code;
-use crate::plan::{Plan, plan_operand};
+use crate::plan::{Plan, frame_offset, plan_operand};
 use crate::relative::{addend_fits, put_relative, relative_bytes, relative_size, target_cause};
 use crate::rows::{StorageRow, StorageRows};
-use s390x_base::{Code, EmitError, Reg, RegClass, TrapCode, spilltmp_reg};
+use s390x_base::{Code, EmitError, Reg, RegClass, TrapCode, spilltmp_reg, stack_reg};
 use s390x_buffer::MachBuffer;
 use s390x_enc::enc_ril_a;
 use s390x_inst::{EmitState, MemArg};
@@ -452,13 +454,26 @@ impl MemoryInst {
         }
     }
 
+    // The register and the offset of its operand, where it is no more than that in this state.
+    fn base_and_offset(&self, state: &EmitState) -> Option<(Reg, i128)>
+        ensures { IfSome result (λ p. resolved state.now self.now.operand ≡ RegOffset p.0 p.1 (flags_of self.now.operand)) }
+    {
+        match &self.operand {
+            MemArg::RegOffset { reg, off, .. } => Some((*reg, i128::from(*off))),
+            _ => match frame_offset(&self.operand, state) {
+                Some(off) => Some((stack_reg(), off)),
+                None => None,
+            },
+        }
+    }
+
     // Its code, where it is behind no helper and a displacement holds its offset.
     fn plain_code(&self, state: &EmitState) -> Option<Code>
         ensures { IfSome result (λ code. IsPlain (in_state state.now (memory_instruction_of self.now)) code) }
     {
-        match &self.operand {
-            MemArg::RegOffset { reg, off, .. } => offset_code(&self.rows, *reg, i128::from(*off)),
-            _ => None,
+        match self.base_and_offset(state) {
+            Some((base, off)) => offset_code(&self.rows, base, off),
+            None => None,
         }
     }
 

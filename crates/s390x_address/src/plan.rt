@@ -1,5 +1,5 @@
 //! How an operand is reached: the helpers before the access, and the operand that stands in it.
-ghost use Rattle.std.specs.Prelude.{◌≡◌, ◌+◌, ◌≤◌, ◌+ℤ◌, ◌-ℤ◌, ◌≤ℤ◌, negsuc, [], ◌∷◌, true, false, cond, pos, unsigned_abs, None, Some, MatchResult};
+ghost use Rattle.std.specs.Prelude.{◌≡◌, ◌+◌, ◌≤◌, ◌+ℤ◌, ◌-ℤ◌, ◌≤ℤ◌, negsuc, [], ◌∷◌, true, false, cond, pos, unsigned_abs, None, Some, IfSome, MatchResult};
 ghost use Rattle.s390x_base.specs.declared.error.EmitError.TheVariants.{ScratchConflict, OffsetOutOfRange};
 ghost use Rattle.s390x_inst.specs.Memory.{trusted};
 ghost use Rattle.s390x_inst.specs.declared.args.MemArg.TheVariants.{RegOffset, BXD12};
@@ -153,42 +153,58 @@ fn slots_offset(state: &EmitState) -> u64
     u64::from(state.frame_layout().outgoing_args_size) + u64::from(state.nominal())
 }
 
-// An offset from the stack pointer.
-fn plan_in_frame(off: i64, added: i128) -> Result<Plan, EmitError>
+// An offset and what is added to it.
+fn added_offset(off: i64, added: i128) -> i128
     requires low { negsuc 4294967295 ≤ℤ added }
     requires high { added ≤ℤ pos 34359738368 }
-    ensures { MatchResult result (λ p. (offset_cause (in_frame off added) ≡ None) × (finalized_of p ≡ with_offset stack_pointer (off +ℤ added) trusted) × (p.address ≡ None)) (λ e. offset_cause (in_frame off added) ≡ Some e) }
+    ensures { result ≡ off +ℤ added }
 {
-    plan_offset(
-        stack_reg(),
-        i128::from(off) + added,
-        MachMemFlags::trusted(),
-    )
+    i128::from(off) + added
+}
+
+/// The exact offset from the stack pointer of a frame operand, where it is one.
+pub fn frame_offset(mem: &MemArg, state: &EmitState) -> Option<i128>
+    ensures frame { IfSome result (λ off. resolved state.now mem.now ≡ RegOffset stack_pointer off trusted) }
+    ensures other { result ≡ None → resolved state.now mem.now ≡ mem.now }
+{
+    match mem {
+        MemArg::InitialSPOffset { off } => Some(added_offset(*off, i128::from(frame_size(state)))),
+        MemArg::IncomingArgOffset { off } => Some(added_offset(
+            *off,
+            i128::from(frame_size(state))
+                + i128::from(state.incoming())
+                + i128::from(REG_SAVE_AREA_SIZE),
+        )),
+        MemArg::SpillOffset { off } => Some(added_offset(
+            *off,
+            i128::from(state.frame_layout().stackslots_size) + i128::from(slots_offset(state)),
+        )),
+        MemArg::SlotOffset { off } => Some(added_offset(*off, i128::from(slots_offset(state)))),
+        MemArg::OutgoingArgOffset { off } => Some(added_offset(
+            *off,
+            i128::from(REG_SAVE_AREA_SIZE) - i128::from(state.outgoing()),
+        )),
+        _ => None,
+    }
+}
+
+// An operand that is no frame operand, with its displacement.
+fn displace_other(mem: &MemArg) -> Result<Plan, EmitError>
+    ensures { MatchResult result (λ p. (offset_cause mem.now ≡ None) × (finalized_of p ≡ displaced mem.now) × (p.address ≡ None)) (λ e. offset_cause mem.now ≡ Some e) }
+{
+    match mem {
+        MemArg::RegOffset { reg, off, flags } => plan_offset(*reg, i128::from(*off), *flags),
+        _ => Ok(Plan::alone(*mem)),
+    }
 }
 
 // An operand with its displacement.
 fn displace(mem: &MemArg, state: &EmitState) -> Result<Plan, EmitError>
     ensures { MatchResult result (λ p. (offset_cause (resolved state.now mem.now) ≡ None) × (finalized_of p ≡ displaced (resolved state.now mem.now)) × (p.address ≡ None)) (λ e. offset_cause (resolved state.now mem.now) ≡ Some e) }
 {
-    match mem {
-        MemArg::RegOffset { reg, off, flags } => plan_offset(*reg, i128::from(*off), *flags),
-        MemArg::InitialSPOffset { off } => plan_in_frame(*off, i128::from(frame_size(state))),
-        MemArg::IncomingArgOffset { off } => plan_in_frame(
-            *off,
-            i128::from(frame_size(state))
-                + i128::from(state.incoming())
-                + i128::from(REG_SAVE_AREA_SIZE),
-        ),
-        MemArg::SpillOffset { off } => plan_in_frame(
-            *off,
-            i128::from(state.frame_layout().stackslots_size) + i128::from(slots_offset(state)),
-        ),
-        MemArg::SlotOffset { off } => plan_in_frame(*off, i128::from(slots_offset(state))),
-        MemArg::OutgoingArgOffset { off } => plan_in_frame(
-            *off,
-            i128::from(REG_SAVE_AREA_SIZE) - i128::from(state.outgoing()),
-        ),
-        _ => Ok(Plan::alone(*mem)),
+    match frame_offset(mem, state) {
+        Some(off) => plan_offset(stack_reg(), off, MachMemFlags::trusted()),
+        None => displace_other(mem),
     }
 }
 

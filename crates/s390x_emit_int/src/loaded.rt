@@ -106,10 +106,10 @@ pub fn emit_on_machine(
     requires { HasRoom sink.old }
     ensures { EmitsOwn flags sink.old sink.new after.0 depth state.now.nominal (leaf (body_for flags (Whole (resolved_instruction state.now inst.now))) empty) result }
 {
-    if flags.no_relative_memory {
-        emit_without_relative(flags, sink, state, depth, inst, after)
-    } else {
+    if !flags.no_relative_memory {
         emit_leaf(flags, sink, state, depth, inst, after)
+    } else {
+        emit_without_relative(flags, sink, state, depth, inst, after)
     }
 }
 

@@ -1,11 +1,7 @@
-use Rattle.std.proofs.Common.{◌≡◌, None, Some, cond, unsigned_abs, option_map, true, IfSome, to_z, of_z, subst, sym}
+use Rattle.std.proofs.Common.{◌≡◌, None, Some, cond, unsigned_abs, subst}
 use Rattle.std.specs.Int.{w128}
 use Rattle.std.proofs.lemmas.Int.{to_z-of_z}
-use Rattle.s390x_base.specs.Regs.{number_of}
-use Rattle.s390x_typed_steps.specs.General.{low_displacement}
-use Rattle.s390x_typed_steps.specs.MachineInstruction.{bytes_of, rxy}
-use Rattle.s390x_typed_steps.specs.Memory.{of_opcode}
-use Rattle.s390x_typed_steps.specs.Operands.{no_register, fits_12}
+use Rattle.s390x_typed_steps.specs.Operands.{fits_12}
 use Rattle.s390x_address.proofs.Displacing.{short_rows, long_rows, unfit, IsLong}
 use Rattle.s390x_address.proofs.plain.offset_code.Goals as goal
 

@@ -1,12 +1,10 @@
-use Rattle.std.proofs.Common.{◌≡◌, true, None, Some, ◌&&◌, cond, length, sym, ap, ◌∙◌}
+use Rattle.std.proofs.Common.{◌≡◌, None, Some, ◌&&◌, cond, length, sym, ap, ◌∙◌}
 use Rattle.s390x_base.specs.declared.error.EmitError.TheVariants.{BadRegister}
 use Rattle.s390x_buffer.specs.State.{put_cause}
 use Rattle.s390x_typed_steps.specs.Causes.{declared_in, unless}
-use Rattle.s390x_typed_steps.specs.MachineInstruction.{bytes_of}
 use Rattle.s390x_typed_steps.specs.Memory.{type_of, storage_row, fault_code}
 use Rattle.s390x_typed_steps.specs.Operands.{finalized}
-use Rattle.s390x_typed_steps.specs.Parts.{finalized_parts, access_parts, parts_size}
-use Rattle.s390x_typed_steps.specs.General.{is_general}
+use Rattle.s390x_typed_steps.specs.Parts.{access_parts, parts_size}
 use Rattle.s390x_address.specs.Appended.{appended}
 use Rattle.s390x_address.specs.Rows.{memory_instruction_of, in_state}
 use Rattle.s390x_address.proofs.Displacing.{row_found, plain_parts, plain_size}
