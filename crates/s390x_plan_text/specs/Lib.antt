@@ -1,0 +1,5 @@
+pub mod Lines
+pub mod Text
+pub mod Order
+pub mod Completions
+pub mod Errors

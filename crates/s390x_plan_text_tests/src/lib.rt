@@ -1,0 +1,5 @@
+//! Tests of the text of planned jobs.
+#![tactic(auto)]
+
+#[cfg(test)]
+mod lines;
