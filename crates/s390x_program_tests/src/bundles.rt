@@ -4,7 +4,7 @@ use s390x_tool::Status;
 use std::test::Fail;
 
 /// The base, functions, the status, and what is written of them.
-const BUNDLED: [(&str, &str, Status, &str); 16] = [
+const BUNDLED: [(&str, &str, Status, &str); 17] = [
     (
         "4096",
         "function u1\nblock\nMov64 %r6 %r14\nCall %r14 u2 [] [] [] 0 SystemV SystemV - false -\nRet %r6\nend\nfunction u2\nblock\nAluRRR Add64 %r2 %r2 %r4\nRet %r14\nend\nclose\n",
@@ -37,6 +37,20 @@ const BUNDLED: [(&str, &str, Status, &str); 16] = [
         "function u4294967295\nblock\nRet %r14\nend\nfunction u0\nblock\nCall %r14 u4294967295 [] [] [] 0 SystemV SystemV - false -\nend\nclose\n",
         Status::Ok,
         "07fe0000c0e5fffffffe\n",
+    ),
+    // Each calls the other.
+    (
+        "4096",
+        "function u1\nblock\nMov64 %r6 %r14\nCall %r14 u2 [] [] [] 0 SystemV SystemV - false -\nRet %r6\nend\nfunction u2\nblock\nMov64 %r6 %r14\nCall %r14 u1 [] [] [] 0 SystemV SystemV - false -\nRet %r6\nend\nclose\n",
+        Status::Ok,
+        "b904006ec0e50000000607f600000000b904006ec0e5fffffff607f6\n",
+    ),
+    // Constants alone, at a multiple of their alignment; the first one loads from them.
+    (
+        "4096",
+        "function u1\nblock\nLoad64 %r2 Symbol(u2,0,a)\nRet %r14\nend\nfunction u2\nconst 16 0102030405060708\nend\nclose\n",
+        Status::Ok,
+        "c4280000000807fe00000000000000000102030405060708\n",
     ),
     // A symbol of its own; registers and memory mean nothing.
     (
@@ -96,7 +110,6 @@ const BUNDLED: [(&str, &str, Status, &str); 16] = [
         Status::BundleRefused,
         "bundle Emit u2 BadRegister\n",
     ),
-    ("0", "close\n", Status::Ok, "\n"),
 ];
 
 #[test]
