@@ -1,7 +1,9 @@
 //! The top call of the s390x machine layer: its sources and sinks, its words, and `run`.
 #![tactic(auto)]
 
+pub mod allocated;
 pub mod answer;
+pub mod bundled;
 pub mod emitted;
 pub mod ends;
 pub mod generate;
