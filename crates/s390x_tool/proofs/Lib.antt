@@ -18,3 +18,4 @@ pub mod SameMembers
 pub mod Accepting
 pub mod Asking
 pub mod Allocating
+pub mod Planning

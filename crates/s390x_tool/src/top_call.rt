@@ -1,9 +1,10 @@
 //! The top call.
 ghost use Rattle.std.specs.Prelude.{◌≡◌, ◌<◌, ◌⊎◌, ℕ, List, Some, None};
-ghost use Rattle.s390x_commands.specs.declared.words.Command.TheVariants.{Bundle, Generate, OnJob, Simulate};
+ghost use Rattle.s390x_commands.specs.declared.words.Command.TheVariants.{Allocate, Bundle, Generate, OnJob, Simulate};
 ghost use Rattle.s390x_commands.specs.declared.words.JobCommand.{JobCommand};
 ghost use Rattle.std.specs.Cow.{cow_str_bytes};
 ghost use Rattle.s390x_smp.specs.Image.{start_cause};
+ghost use Rattle.s390x_tool.specs.Allocated.{IsPlanAccepted};
 ghost use Rattle.s390x_tool.specs.Answers.{IsAccepted};
 ghost use Rattle.s390x_tool.specs.Bundled.{IsBundleAccepted};
 ghost use Rattle.s390x_tool.specs.Causes.{FaultCountRose};
@@ -36,7 +37,8 @@ pub fn run<S: Source, K: Sink>(
     ensures ended { IsEnded (record { words = texts words.now; left = S.left source.old; left' = S.left source.new; faults = S.faults source.old; faults' = S.faults source.new })
         (K.told sink.old) (K.told sink.new) (K.faults sink.old) (K.faults sink.new) result }
     // At `Ok` the source held the text of one job, and the sink was told the command's text for it; or it held the text of functions, and the sink was told
-    // their image, which does only what they and their calls of each other allow; or, with nothing read, that for a generated function or a simulation.
+    // their image, which does only what they and their calls of each other allow; or it held a job and a plan, and the sink was told the job with the function
+    // that the plan gives; or, with nothing read, that for a generated function or a simulation.
     ensures ok { result ≡ Status.Ok → IsDone (record { words = texts words.now; left = S.left source.old; left' = S.left source.new; faults = S.faults source.old; faults' = S.faults source.new })
         (K.told sink.old) (K.told sink.new) }
     // A generated function is done, where no write fails.
@@ -47,6 +49,10 @@ pub fn run<S: Source, K: Sink>(
         → (FaultCountRose (K.faults sink.old) (K.faults sink.new) → ⊥) → (result ≡ Status.Ok) ⊎ (result ≡ Status.NoMemory) }
     // A job that neither emission nor linking has a cause to refuse is done, where no read and no write fails.
     ensures complete { (command : JobCommand) (input : List ℕ) → IsForm (texts words.now) (OnJob command) → S.left source.old ≡ Some input → IsAccepted command input
+        → (FaultCountRose (S.faults source.old) (S.faults source.new) → ⊥) → (FaultCountRose (K.faults sink.old) (K.faults sink.new) → ⊥)
+        → (result ≡ Status.Ok) ⊎ (result ≡ Status.NoMemory) }
+    // A plan without a fault is done, where no read and no write fails.
+    ensures allocates { (input : List ℕ) → IsForm (texts words.now) Allocate → S.left source.old ≡ Some input → IsPlanAccepted input
         → (FaultCountRose (S.faults source.old) (S.faults source.new) → ⊥) → (FaultCountRose (K.faults sink.old) (K.faults sink.new) → ⊥)
         → (result ≡ Status.Ok) ⊎ (result ≡ Status.NoMemory) }
     // Functions that nothing keeps from standing in one image are done, where no read and no write fails.
