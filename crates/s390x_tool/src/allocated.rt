@@ -32,7 +32,12 @@ fn job_with_plan(alloc: Global, input: &[u8], planned: PlannedJob) -> Reply
     ensures { IsAllocateAnswer input.now result.status (cow_str_bytes result.text) }
 {
     let mut job = planned.job;
-    match check_plan(alloc, &job.function, job.state.frame_layout(), &planned.plan) {
+    match check_plan(
+        alloc,
+        &job.function,
+        job.state.frame_layout(),
+        &planned.plan,
+    ) {
         Ok(function) => {
             job.function = function;
             with_text(lines_of_job(alloc, &job))
