@@ -40,22 +40,25 @@ fn image_of_functions(alloc: Global, base: u64, input: &[u8], functions: Vec<Nam
     }
 }
 
+// The function as a member of a bundle.
+fn member(function: NamedJob) -> Member
+    ensures { result ≡ member_of function }
+{
+    let job = function.job;
+    Member {
+        name: function.name,
+        function: job.function,
+        info: job.info,
+        state: job.state,
+        symbols: job.symbols,
+    }
+}
+
 // The functions as members of a bundle.
 fn members_of(alloc: Global, functions: Vec<NamedJob>) -> Result<Vec<Member>, AllocError>
     ensures { IfOk result (λ members. members.items ≡ map member_of functions.items) }
 {
-    let mut members = Vec::new(alloc);
-    for function in functions {
-        let job = function.job;
-        members.push(Member {
-            name: function.name,
-            function: job.function,
-            info: job.info,
-            state: job.state,
-            symbols: job.symbols,
-        })?;
-    }
-    Ok(members)
+    functions.into_iter().map(member).collect(alloc)
 }
 
 // The reply to functions that are not put into one image.
