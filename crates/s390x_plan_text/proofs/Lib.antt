@@ -3,3 +3,4 @@ pub mod Plans
 pub mod Parts
 pub mod Stopping
 pub mod Sizes
+pub mod Example

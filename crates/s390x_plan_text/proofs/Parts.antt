@@ -1,5 +1,5 @@
 -- The lines of a planned job: those of the job up to its only `end`, and those of the plan.
-use Rattle.std.proofs.Common.{◌≡◌, ℕ, List, [], ◌∷◌, ◌++◌, map, refl, sym, ap, ap₂, ◌∙◌, append_assoc}
+use Rattle.std.proofs.Common.{◌≡◌, ℕ, List, [], ◌∷◌, ◌++◌, map, sym, ap, ◌∙◌, append_assoc}
 use Rattle.std.specs.Prelude.{codes}
 use Rattle.s390x_job.specs.Completions.{joined, pieces}
 use Rattle.s390x_job.specs.Jobs.{IsJob, text_of_job}
@@ -31,8 +31,11 @@ planned_free p h = free_append (words_of p.job) (plan_words p) (job_free p.job h
 abbrev pub Fits : List (List ℕ) → Type 0
 Fits ws = (p : PlannedJob) × IsPlanned p × (planned_words p ≡ ws)
 
+pub text_words : (s : List ℕ) (t : IsPlannedText s) → planned_words t.0 ≡ pieces s
+text_words s t = sym (pieces_whole (planned_words t.0) (planned_free t.0 t.1)) ∙ ap pieces (planned_joined t.0 ∙ t.2)
+
 pub text_fits : (s : List ℕ) → IsPlannedText s → Fits (pieces s)
-text_fits s t = (t.0, t.1, sym (pieces_whole (planned_words t.0) (planned_free t.0 t.1)) ∙ ap pieces (planned_joined t.0 ∙ t.2))
+text_fits s t = (t.0, t.1, text_words s t)
 
 -- two jobs whose lines begin two equal lists have the same lines, and so has what is behind them
 pub parts_same : (j k : Job) (x y : List (List ℕ)) → IsJob j → IsJob k → words_of j ++ x ≡ words_of k ++ y → (words_of j ≡ words_of k) × (x ≡ y)

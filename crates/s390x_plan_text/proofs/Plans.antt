@@ -1,15 +1,16 @@
 -- The lines of a plan, one behind the other.
-use Rattle.std.proofs.Common.{◌≡◌, ℕ, zero, suc, ◌+◌, ◌-◌, ◌<◌, ◌≤◌, Option, Some, None, List, [], ◌∷◌, ◌++◌, length, map, take, refl, sym, ap, ◌∙◌, subst, arith, append_assoc, length-append}
-use Rattle.std.proofs.lemmas.List.{map-append}
+use Rattle.std.proofs.Common.{◌≡◌, ℕ, zero, suc, ◌+◌, ◌-◌, ◌<◌, ◌≤◌, Bor, Global, Option, Some, None, Vec, List, [], ◌∷◌, ◌++◌, drop, get_or, length, map, take, refl, sym, ap, ◌∙◌, subst, arith, append_assoc, append-nil, length-append}
+use Rattle.std.proofs.lemmas.List.{length-map, map-append}
 use Rattle.s390x_alloc.specs.declared.plan.BlockPlan.{BlockPlan}
 use Rattle.s390x_alloc.specs.declared.plan.Edit.{Edit}
 use Rattle.s390x_alloc.specs.declared.plan.Edit.TheVariants.{Move, Step}
 use Rattle.s390x_alloc.specs.declared.plan.EntryPair.{EntryPair}
 use Rattle.s390x_plan_text.specs.Errors.{FitsPlan, Follows, IsPlanStuckAt, IsRead, draft_lines, draft_stage, line_value}
-use Rattle.s390x_plan_text.specs.Lines.{Closing, IsLine, Opening, PlanLine, line_of, line_text}
+use Rattle.s390x_plan_text.specs.Lines.{Closing, Heading, IsLine, Opening, PlanLine, line_of, line_text}
 use Rattle.s390x_plan_text.specs.Order.{Stage, AtStart, Ahead, InEntry, InEdits, AtEnd, next, run}
-use Rattle.s390x_plan_text.specs.Text.{AllLines, blocks_lines, edit_line, pair_line, plan_lines}
+use Rattle.s390x_plan_text.specs.Text.{AllLines, block_lines, blocks_lines, edit_line, pair_line, plan_lines}
 use Rattle.s390x_plan_text.specs.declared.draft.Draft.{Draft}
+use Rattle.s390x_plan_text.specs.declared.draft.Draft.TheVariants.{Start, Between, Entering, Editing, Done}
 use Rattle.s390x_plan_text.specs.declared.line.Line.{Line}
 use Rattle.s390x_plan_text.proofs.Spelling.{all_append, lines_round_trip}
 
@@ -73,6 +74,16 @@ run_append : (o : Option Stage) (a b : List PlanLine) → run o (a ++ b) ≡ run
 run_append None a b = refl
 run_append (Some s) [] b = refl
 run_append (Some s) (l ∷ a) b = run_append (next s l) a b
+
+-- ---- one block more
+
+blocks_append : (bs : List BlockPlan) (b : BlockPlan) → blocks_lines (bs ++ b ∷ []) ≡ blocks_lines bs ++ block_lines b.entry.items b.edits.items
+blocks_append [] b = append-nil (block_lines b.entry.items b.edits.items)
+blocks_append (a ∷ bs) b =
+    ap (λ t. block_lines a.entry.items a.edits.items ++ t) (blocks_append bs b) ∙ sym (append_assoc (block_lines a.entry.items a.edits.items) (blocks_lines bs) (block_lines b.entry.items b.edits.items))
+
+pub more_blocks : (bs cs : List BlockPlan) (b : BlockPlan) (l : PlanLine) → cs ≡ bs ++ b ∷ [] → Heading ∷ (blocks_lines cs ++ l ∷ []) ≡ Heading ∷ ((blocks_lines bs ++ block_lines b.entry.items b.edits.items) ++ l ∷ [])
+more_blocks bs cs b l e = ap (λ t. Heading ∷ (t ++ l ∷ [])) (ap blocks_lines e ∙ blocks_append bs b)
 
 -- ---- lines that were read, one for each of a draft
 
@@ -140,11 +151,11 @@ stuck_line front w back never =
     }
 
 -- no line is left, and the plan isn't whole
-pub stuck_behind : (ws : List (List ℕ)) (d : Draft) → Told ws d → (draft_stage d ≡ AtEnd → ⊥) → IsPlanStuckAt ws (length ws)
-stuck_behind ws d t open =
+stuck_behind : (ws : List (List ℕ)) (d : Draft) → Told ws d → (draft_stage d ≡ AtEnd → ⊥) → IsPlanStuckAt ws (length ws)
+stuck_behind ws d t unfinished =
     record {
       small = omega arith;
-      none = λ f. open (last (draft_stage d) (told_run ws [] d t (subst FitsPlan (sym (nothing ws)) f)));
+      none = λ f. unfinished (last (draft_stage d) (told_run ws [] d t (subst FitsPlan (sym (nothing ws)) f)));
       above = λ m more h q f. absurd (omega (arith, h, q));
     }
   where
@@ -154,3 +165,59 @@ stuck_behind ws d t open =
 
     last : (s : Stage) → Some s ≡ Some AtEnd → s ≡ AtEnd
     last s e = cc
+
+-- ---- lines in a slice
+
+abbrev texts : List (Bor (List ℕ)) → List (List ℕ)
+texts s = map (λ (w : Bor (List ℕ)). w.now) s
+
+texts_split : (s : List (Bor (List ℕ))) (n : ℕ) (d : Bor (List ℕ)) → n < length s → texts s ≡ texts (take n s) ++ (get_or s n d).now ∷ texts (drop (suc n) s)
+texts_split [] n d h = absurd (omega (arith, h))
+texts_split (x ∷ s) zero d h = refl
+texts_split (x ∷ s) (suc n) d h = ap (λ t. x.now ∷ t) (texts_split s n d (omega (arith, h)))
+
+texts_more : (s : List (Bor (List ℕ))) (n : ℕ) (d : Bor (List ℕ)) → n < length s → texts (take (suc n) s) ≡ texts (take n s) ++ (get_or s n d).now ∷ []
+texts_more [] n d h = absurd (omega (arith, h))
+texts_more (x ∷ s) zero d h = refl
+texts_more (x ∷ s) (suc n) d h = ap (λ t. x.now ∷ t) (texts_more s n d (omega (arith, h)))
+
+texts_count : (s : List (Bor (List ℕ))) (n : ℕ) → n ≤ length s → length (texts (take n s)) ≡ n
+texts_count [] zero h = refl
+texts_count [] (suc n) h = absurd (omega (arith, h))
+texts_count (x ∷ s) zero h = refl
+texts_count (x ∷ s) (suc n) h = omega (arith, texts_count s n (omega (arith, h)))
+
+texts_all : (s : List (Bor (List ℕ))) (n : ℕ) → length s ≤ n → take n s ≡ s
+texts_all [] zero h = refl
+texts_all [] (suc n) h = refl
+texts_all (x ∷ s) zero h = absurd (omega (arith, h))
+texts_all (x ∷ s) (suc n) h = ap (λ t. x ∷ t) (texts_all s n (omega (arith, h)))
+
+stuck_at : (s : List (Bor (List ℕ))) (n : ℕ) (d : Bor (List ℕ)) → n < length s → ((more : List (List ℕ)) → FitsPlan (texts (take n s) ++ (get_or s n d).now ∷ more) → ⊥) → IsPlanStuckAt (texts s) n
+stuck_at s n d h never =
+    let here = stuck_line (texts (take n s)) (get_or s n d).now (texts (drop (suc n) s)) never in
+    subst (λ ws. IsPlanStuckAt ws n) (sym (texts_split s n d h)) (subst (IsPlanStuckAt (texts (take n s) ++ (get_or s n d).now ∷ texts (drop (suc n) s))) (texts_count s n (omega (arith, h))) here)
+
+pub unread_at : (s : List (Bor (List ℕ))) (n : ℕ) (w : Bor (List ℕ)) → n < length s → IsRead (get_or s n w).now None → IsPlanStuckAt (texts s) n
+unread_at s n w h none = stuck_at s n w h (no_line (texts (take n s)) (get_or s n w).now none)
+
+pub misplaced_at : (s : List (Bor (List ℕ))) (n : ℕ) (w : Bor (List ℕ)) (d : Draft) (l : Line) → n < length s → Told (texts (take n s)) d → IsRead (get_or s n w).now (Some l) → Follows d l None → IsPlanStuckAt (texts s) n
+misplaced_at s n w d l h t read none = stuck_at s n w h (no_place (texts (take n s)) d (get_or s n w).now l t read none)
+
+pub told_at : (s : List (Bor (List ℕ))) (n : ℕ) (w : Bor (List ℕ)) (d e : Draft) (l : Line) → n < length s → Told (texts (take n s)) d → IsRead (get_or s n w).now (Some l) → Follows d l (Some e) → Told (texts (take (n + 1) s)) e
+told_at s n w d e l h t read follows =
+    let next_is : suc n ≡ n + 1 = omega arith in
+    let one : texts (take n s) ++ (get_or s n w).now ∷ [] ≡ texts (take (n + 1) s) = sym (texts_more s n w h) ∙ ap (λ k. texts (take k s)) next_is in
+    subst (λ ws. Told ws e) one (told_more (texts (take n s)) d e (get_or s n w).now l t read follows)
+
+not_end : (d : Draft) → ((blocks : Vec BlockPlan Global) → d ≡ Done blocks → ⊥) → draft_stage d ≡ AtEnd → ⊥
+not_end Start h e = absurd cc
+not_end Between h e = absurd cc
+not_end (Entering blocks entry) h e = absurd cc
+not_end (Editing blocks entry edits) h e = absurd cc
+not_end (Done blocks) h e = h blocks refl
+
+pub unfinished_at : (s : List (Bor (List ℕ))) (n : ℕ) (d : Draft) → length s ≤ n → Told (texts (take n s)) d → ((blocks : Vec BlockPlan Global) → d ≡ Done blocks → ⊥) → IsPlanStuckAt (texts s) (length s)
+unfinished_at s n d h t open_yet =
+    let told = subst (λ v. Told (texts v) d) (texts_all s n h) t in
+    subst (IsPlanStuckAt (texts s)) (length-map s (λ (w : Bor (List ℕ)). w.now)) (stuck_behind (texts s) d told (not_end d open_yet))

@@ -1,5 +1,5 @@
 -- The lines of a plan: reading gives back what was printed, and what is read lies in its ranges.
-use Rattle.std.proofs.Common.{◌≡◌, ℕ, ◌<◌, Bool, true, false, List, [], ◌∷◌, ◌++◌, drop, length, map, refl, sym, ap, ap₂, ◌∙◌, inl, inr, subst, arith, append-nil}
+use Rattle.std.proofs.Common.{◌≡◌, ℕ, ◌<◌, false, List, [], ◌∷◌, ◌++◌, drop, length, map, refl, sym, ap, ap₂, ◌∙◌, inl, inr, arith, append-nil}
 use Rattle.std.specs.Prelude.{◌==◌, codes, slice_index}
 use Rattle.std.specs.Str.{bytes_eq}
 use Rattle.std.proofs.lemmas.Bool.{false≢true}
@@ -11,15 +11,16 @@ use Rattle.s390x_words.specs.Lists.{AllItems, begins_element, elements, list_of,
 use Rattle.s390x_words.specs.Marks.{after_word, upto, word}
 use Rattle.s390x_words.specs.Numbers.{W16}
 use Rattle.s390x_words.proofs.AtomsRoundTrip.{real-one_word, real-round_trip, reg-one_word, reg-round_trip}
-use Rattle.s390x_words.proofs.Avoids.{Avoids, Avoids-append, Avoids-fewer, Avoids-test, Ends, IsOneWord, after-is, marks, word-is}
+use Rattle.s390x_words.proofs.Avoids.{Avoids, Avoids-append, Avoids-fewer, Avoids-test, IsOneWord, after-is, marks, word-is}
 use Rattle.s390x_words.proofs.Digits.{decimal-one_word, natural-round_trip}
 use Rattle.s390x_words.proofs.Lists.{Inner-one_word, IsElement, list-feed, list-round_trip}
 use Rattle.s390x_words.proofs.Members.{either}
 use Rattle.s390x_fields.specs.Fields.{KReal, KReg}
 use Rattle.s390x_fields.proofs.Ranges.{value-ok}
-use Rattle.s390x_lines.proofs.Frees.{Free, Free-avoids}
+use Rattle.s390x_lines.proofs.Frees.{Free}
 use Rattle.s390x_alloc.specs.declared.plan.Place.{Place}
 use Rattle.s390x_alloc.specs.declared.plan.Place.TheVariants.{Reg as InReg, Slot}
+use Rattle.s390x_bundle_text.proofs.Heads.{free_of}
 use Rattle.s390x_bundle_text.proofs.Lines.{AllFree}
 use Rattle.s390x_plan_text.specs.Lines.{Closing, Heading, Held, IsLine, IsPlace, Moving, Opening, PlanLine, Stepping, line_of, line_text, place_of, place_text, step_register_of}
 use Rattle.s390x_plan_text.specs.Text.{AllLines}
@@ -88,17 +89,17 @@ avoids_feed w h = Avoids-fewer marks (10 ∷ []) refl w h
 
 two_words : (name a b : List ℕ) (x : ℕ) → Avoids (10 ∷ []) name → IsOneWord a → IsOneWord b → (x == 10) ≡ false → Free 10 (name ++ (32 ∷ (a ++ (x ∷ b))))
 two_words name a b x n h k e =
-    Free-avoids 10 (name ++ (32 ∷ (a ++ (x ∷ b)))) (Avoids-append (10 ∷ []) name (32 ∷ (a ++ (x ∷ b))) n (refl, Avoids-append (10 ∷ []) a (x ∷ b) (avoids_feed a h) (rw e refl, avoids_feed b k)))
+    free_of (name ++ (32 ∷ (a ++ (x ∷ b)))) (Avoids-append (10 ∷ []) name (32 ∷ (a ++ (x ∷ b))) n (refl, Avoids-append (10 ∷ []) a (x ∷ b) (avoids_feed a h) (rw e refl, avoids_feed b k)))
 
 -- no line feed stands in a line
 pub line_free : (l : PlanLine) → IsLine l → Free 10 (line_text l)
-line_free Heading h = Free-avoids 10 (codes "plan") (Avoids-test (10 ∷ []) (codes "plan") refl)
-line_free Opening h = Free-avoids 10 (codes "block") (Avoids-test (10 ∷ []) (codes "block") refl)
+line_free Heading h = free_of (codes "plan") (Avoids-test (10 ∷ []) (codes "plan") refl)
+line_free Opening h = free_of (codes "block") (Avoids-test (10 ∷ []) (codes "block") refl)
 line_free (Held place vreg) h = two_words (codes "entry") (place_text place) (reg_text vreg) 61 (Avoids-test (10 ∷ []) (codes "entry") refl) (place_one_word place h.0) (reg-one_word vreg h.1) refl
 line_free (Moving to from) h = two_words (codes "move") (place_text to) (place_text from) 32 (Avoids-test (10 ∷ []) (codes "move") refl) (place_one_word to h.0) (place_one_word from h.1) refl
 line_free (Stepping regs) h =
-    Free-avoids 10 (line_text (Stepping regs)) (Avoids-append (10 ∷ []) (codes "step") (32 ∷ list_text reg_text regs) (Avoids-test (10 ∷ []) (codes "step") refl) (refl, list-feed reg_text step_register_of IsReg step_element regs h))
-line_free Closing h = Free-avoids 10 (codes "close") (Avoids-test (10 ∷ []) (codes "close") refl)
+    free_of (line_text (Stepping regs)) (Avoids-append (10 ∷ []) (codes "step") (32 ∷ list_text reg_text regs) (Avoids-test (10 ∷ []) (codes "step") refl) (refl, list-feed reg_text step_register_of IsReg step_element regs h))
+line_free Closing h = free_of (codes "close") (Avoids-test (10 ∷ []) (codes "close") refl)
 
 -- whatever is read is in its ranges
 pub read_ok : (w : List ℕ) → IsLine (line_of w)

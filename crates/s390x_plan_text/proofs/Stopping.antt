@@ -1,19 +1,19 @@
 -- Where reading stops, no completion of more lines is the text of a planned job.
-use Rattle.std.proofs.Common.{◌≡◌, ℕ, zero, suc, ◌+◌, ◌-◌, ◌<◌, ◌≤◌, Bool, true, false, List, [], ◌∷◌, ◌++◌, drop, length, map, take, refl, sym, ap, ap₂, ◌∙◌, inl, inr, subst, arith, append_assoc, length-append}
+use Rattle.std.proofs.Common.{◌≡◌, ℕ, zero, suc, ◌+◌, ◌-◌, ◌≤◌, Bool, true, false, List, [], ◌∷◌, ◌++◌, drop, length, take, refl, sym, ap, ap₂, ◌∙◌, inl, inr, subst, arith, append_assoc, length-append}
 use Rattle.std.specs.Prelude.{codes, if◌then◌else◌}
 use Rattle.std.specs.Str.{bytes_eq}
 use Rattle.std.proofs.lemmas.Bool.{cases_lt}
-use Rattle.std.proofs.lemmas.List.{append_cancel_left, length-take-le, take-append-drop, take-append-le}
+use Rattle.std.proofs.lemmas.List.{append_cancel_left, take-append-drop, take-append-le}
 use Rattle.s390x_words.proofs.Avoids.{Avoids-test}
 use Rattle.s390x_job.specs.Completions.{IsText, closes, closing, completion, ending, ends_job, joined, opens, pieces}
 use Rattle.s390x_job.specs.Jobs.{IsJob, text_of_job}
 use Rattle.s390x_job.specs.declared.job.Job.{Job}
 use Rattle.s390x_alloc.specs.declared.plan.Plan.{Plan}
-use Rattle.s390x_lines.proofs.Frees.{Free, Free-avoids}
+use Rattle.s390x_lines.proofs.Frees.{Free}
 use Rattle.s390x_bundle_text.specs.Cut.{HasNoEnd, IsCutAt}
 use Rattle.s390x_bundle_text.specs.Errors.{HasNoJob}
 use Rattle.s390x_bundle_text.proofs.Cutting.{no_end_append, no_end_take}
-use Rattle.s390x_bundle_text.proofs.Heads.{cut_at, first}
+use Rattle.s390x_bundle_text.proofs.Heads.{cut_at, first, free_of}
 use Rattle.s390x_bundle_text.proofs.JobLines.{job_ended, job_free, job_joined, words_of}
 use Rattle.s390x_bundle_text.proofs.Lines.{AllFree, free_append, free_take, joined_append, pieces_free, pieces_joined, pieces_whole, same_lines}
 use Rattle.s390x_plan_text.specs.Completions.{IsPlannedText, has_line, line_ending, plan_completion}
@@ -21,7 +21,7 @@ use Rattle.s390x_plan_text.specs.Errors.{IsPlanFound, IsPlanStuckAt, IsStuckAt}
 use Rattle.s390x_plan_text.specs.Text.{IsPlannedOf, text_of_planned}
 use Rattle.s390x_plan_text.specs.declared.find.PlanFound.TheVariants.{Whole}
 use Rattle.s390x_plan_text.specs.declared.planned_job.PlannedJob.{PlannedJob}
-use Rattle.s390x_plan_text.proofs.Parts.{Fits, behind_job, one_planned, plan_words, planned_free, planned_joined, planned_words, text_fits}
+use Rattle.s390x_plan_text.proofs.Parts.{Fits, behind_job, one_planned, plan_words, planned_free, planned_joined, planned_words, text_fits, text_words}
 use Rattle.s390x_plan_text.proofs.Plans.{take_front}
 
 -- ---- the lines that a completion adds
@@ -41,16 +41,16 @@ word_free : (w : List ℕ) → Free 10 w → AllFree (w ∷ [])
 word_free w h = (h, tt)
 
 end_free : Free 10 (codes "end")
-end_free = Free-avoids 10 (codes "end") (Avoids-test (10 ∷ []) (codes "end") refl)
+end_free = free_of (codes "end") (Avoids-test (10 ∷ []) (codes "end") refl)
 
 endloop_free : Free 10 (codes "endloop")
-endloop_free = Free-avoids 10 (codes "endloop") (Avoids-test (10 ∷ []) (codes "endloop") refl)
+endloop_free = free_of (codes "endloop") (Avoids-test (10 ∷ []) (codes "endloop") refl)
 
 plan_free : Free 10 (codes "plan")
-plan_free = Free-avoids 10 (codes "plan") (Avoids-test (10 ∷ []) (codes "plan") refl)
+plan_free = free_of (codes "plan") (Avoids-test (10 ∷ []) (codes "plan") refl)
 
 close_free : Free 10 (codes "close")
-close_free = Free-avoids 10 (codes "close") (Avoids-test (10 ∷ []) (codes "close") refl)
+close_free = free_of (codes "close") (Avoids-test (10 ∷ []) (codes "close") refl)
 
 closers_free : (n : ℕ) → AllFree (closers n)
 closers_free zero = (end_free, tt)
@@ -243,8 +243,7 @@ module _ (bytes : List ℕ) (size : ℕ) (job : Job) (is : IsJob job) (part : te
       record {
         small = omega (arith, counted);
         none = λ t.
-            let f = text_fits bytes t in
-            let whole : joined (pieces bytes) ≡ bytes = ap joined (sym f.2) ∙ planned_joined f.0 ∙ t.2 in
+            let whole : joined (pieces bytes) ≡ bytes = ap joined (sym (text_words bytes t)) ∙ planned_joined t.0 ∙ t.2 in
             let split : joined (words_of job) ++ joined (pieces (drop size bytes)) ≡ joined (words_of job) ++ drop size bytes =
             sym (joined_append (words_of job) (pieces (drop size bytes))) ∙ ap joined (sym all_pieces) ∙ whole ∙ all_text in
             more (append_cancel_left (joined (words_of job)) (joined (pieces (drop size bytes))) (drop size bytes) split);

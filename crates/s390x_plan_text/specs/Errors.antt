@@ -3,7 +3,7 @@ use Rattle.std.specs.Prelude.{◌≡◌, ℕ, ◌<◌, ◌≤◌, Option, Some, 
 use Rattle.s390x_job.specs.Completions.{pieces}
 use Rattle.s390x_alloc.specs.declared.plan.BlockPlan.{BlockPlan}
 use Rattle.s390x_plan_text.specs.Completions.{IsFirstWrongOfPlanned, IsPlannedText, plan_completion}
-use Rattle.s390x_plan_text.specs.Lines.{Closing, Heading, Held, IsLine, Opening, PlanLine, line_text}
+use Rattle.s390x_plan_text.specs.Lines.{Closing, Heading, IsLine, Opening, PlanLine, line_text}
 use Rattle.s390x_plan_text.specs.Text.{AllLines, IsPlannedOf, blocks_lines, block_lines, edit_line, pair_line, plan_lines}
 use Rattle.s390x_plan_text.specs.declared.draft.Draft.{Draft}
 use Rattle.s390x_plan_text.specs.declared.draft.Draft.TheVariants.{Start, Between, Entering, Editing, Done}

@@ -3,3 +3,4 @@ pub mod Text
 pub mod Order
 pub mod Completions
 pub mod Errors
+pub mod Example

@@ -7,7 +7,6 @@ use Rattle.s390x_words.specs.Atoms.{IsReg, real_register_of, real_text, reg_of, 
 use Rattle.s390x_words.specs.Lists.{AllItems, list_of, list_text}
 use Rattle.s390x_words.specs.Marks.{after_word, word}
 use Rattle.s390x_words.specs.Numbers.{W16, natural_of}
-use Rattle.s390x_alloc.specs.declared.plan.EntryPair.{EntryPair}
 use Rattle.s390x_alloc.specs.declared.plan.Place.{Place}
 use Rattle.s390x_alloc.specs.declared.plan.Place.TheVariants.{Reg as InReg, Slot}
 

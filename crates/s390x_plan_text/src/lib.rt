@@ -5,6 +5,7 @@ pub mod complete;
 pub mod draft;
 pub mod error;
 pub mod find;
+pub mod law;
 pub mod line;
 pub mod planned_job;
 pub mod reader;

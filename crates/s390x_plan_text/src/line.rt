@@ -1,9 +1,10 @@
 //! The lines of a plan: printing and reading.
-ghost use Rattle.std.specs.Prelude.{◌≡◌, ◌++◌, IfOk, OnOk, string_bytes};
-ghost use Rattle.s390x_words.specs.Atoms.{reg_text};
-ghost use Rattle.s390x_words.specs.Lists.{elements, list_of, list_text, more_text, open_text};
+ghost use Rattle.std.specs.Prelude.{◌≡◌, ◌++◌, IfOk, OnOk, drop, string_bytes};
+ghost use Rattle.s390x_words.specs.Atoms.{reg_of, reg_text};
+ghost use Rattle.s390x_words.specs.Lists.{begins_element, elements, list_of, list_text, more_text, open_text};
+ghost use Rattle.s390x_words.specs.Marks.{after_word, word};
 ghost use Rattle.s390x_plan_text.specs.Errors.{IsRead, line_value};
-ghost use Rattle.s390x_plan_text.specs.Lines.{line_of, line_text, place_of, place_text, step_register_of};
+ghost use Rattle.s390x_plan_text.specs.Lines.{Stepping, line_of, line_text, place_of, place_text, step_register_of};
 
 use s390x_alloc::{Edit, EntryPair, Place};
 use s390x_base::Reg;

@@ -3,6 +3,7 @@ use Rattle.std.proofs.Common.{◌≡◌, ℕ, ◌⊎◌, inl, inr, List, String,
 use Rattle.std.specs.Prelude.{codes, ◌++◌, ◌≢◌, IfOk, MatchResult, Result, Ok, Err, string_bytes}
 use Rattle.std.specs.Fmt.{decimal}
 use Rattle.s390x_alloc.specs.Answered.{IsAnswered}
+use Rattle.s390x_allocated_jobs.specs.Jobs.{AnsweredIsJob, with_function}
 use Rattle.s390x_alloc.specs.Blocks.{IsFault}
 use Rattle.s390x_alloc.specs.Checked.{checked}
 use Rattle.s390x_alloc.specs.Walks.{EveryWalkReadsAlike}
@@ -17,7 +18,7 @@ use Rattle.s390x_job.specs.Jobs.{text_of_job}
 use Rattle.s390x_plan_text.specs.Completions.{IsFirstWrongOfPlanned, IsPlannedText}
 use Rattle.s390x_plan_text.specs.Text.{IsPlannedOf}
 use Rattle.s390x_plan_text.specs.declared.planned_job.PlannedJob.{PlannedJob}
-use Rattle.s390x_tool.specs.Allocated.{IsAllocateAnswer, IsPlanRefusal, fault_line, with_function}
+use Rattle.s390x_tool.specs.Allocated.{IsAllocateAnswer, IsPlanRefusal, fault_line}
 use Rattle.s390x_tool.specs.Ends.{IsRead}
 use Rattle.s390x_tool.specs.Lines.{IsMade, line}
 use Rattle.s390x_tool.specs.Replies.{Found, IsReply}
@@ -36,13 +37,13 @@ answer_of_plan_syntax input s text number none first (inl made) = rw made.0 (rec
 answer_of_plan_syntax input s text number none first (inr short) = rw short.0 short.1
 
 -- the text of the job with the plan's function is the answer
-pub answer_of_plan : (input : List ℕ) (s : Status) (text : List ℕ) (p : PlannedJob) (function : AllocatedFunction) (printed : Result String NoMemory) → IsPlannedOf input p
+pub answer_of_plan : (input : List ℕ) (s : Status) (text : List ℕ) (p : PlannedJob) (function : AllocatedFunction) (printed : Result String NoMemory) → AnsweredIsJob → IsPlannedOf input p
     → IsAnswered p.job.state.layout p.job.function p.plan function → EveryWalkReadsAlike p.job.function.blocks.items p.plan.blocks.items
     → IfOk printed (λ t. string_bytes t ≡ text_of_job (with_function p.job function))
     → MatchResult printed (λ t. (s ≡ status.Ok) × (text ≡ string_bytes t)) (λ _. (s ≡ status.NoMemory) × (text ≡ line (codes "no memory"))) → IsAllocateAnswer input s text
-answer_of_plan input s text p function (Ok t) is answered walks printed told =
-    rw told.0 (record { planned = p; is = is; function = function; answered = answered; walks = walks; spelled = told.1 ∙ printed })
-answer_of_plan input s text p function (Err e) is answered walks printed told = rw told.0 told.1
+answer_of_plan input s text p function (Ok t) law is answered walks printed told =
+    rw told.0 (record { planned = p; is = is; function = function; answered = answered; walks = walks; job = law p function is.is answered; spelled = told.1 ∙ printed })
+answer_of_plan input s text p function (Err e) law is answered walks printed told = rw told.0 told.1
 
 -- the plan's first fault is the answer
 pub answer_of_fault : (input : List ℕ) (s : Status) (text : List ℕ) (p : PlannedJob) (f : PlanFault) → IsPlannedOf input p

@@ -6,20 +6,16 @@ use Rattle.s390x_alloc.specs.Checked.{checked}
 use Rattle.s390x_alloc.specs.Walks.{EveryWalkReadsAlike}
 use Rattle.s390x_alloc.specs.declared.fault.PlanFault.{PlanFault}
 use Rattle.s390x_alloc.specs.declared.fault.PlanFault.TheVariants as fault
+use Rattle.s390x_allocated_jobs.specs.Jobs.{with_function}
 use Rattle.s390x_inst.specs.declared.function.AllocatedFunction.{AllocatedFunction}
 use Rattle.s390x_job.specs.Completions.{pieces}
-use Rattle.s390x_job.specs.Jobs.{text_of_job}
-use Rattle.s390x_job.specs.declared.job.Job.{Job}
+use Rattle.s390x_job.specs.Jobs.{IsJob, text_of_job}
 use Rattle.s390x_plan_text.specs.Completions.{IsFirstWrongOfPlanned, IsPlannedText}
 use Rattle.s390x_plan_text.specs.Text.{IsPlanned, IsPlannedOf, text_of_planned}
 use Rattle.s390x_plan_text.specs.declared.planned_job.PlannedJob.{PlannedJob}
 use Rattle.s390x_tool.specs.Lines.{line, operand_error_name}
 use Rattle.s390x_tool.specs.declared.status.Status.{Status}
 use Rattle.s390x_tool.specs.declared.status.Status.TheVariants as status
-
--- the job with this function in place of its own
-abbrev pub with_function : Job → AllocatedFunction → Job
-with_function j function = record { function = function; info = j.info; conv = j.conv; state = j.state; symbols = j.symbols; registers = j.registers; memory = j.memory }
 
 -- a name and numbers, each behind a space
 abbrev pub numbered_fault : List ℕ → List ℕ → List ℕ
@@ -48,14 +44,15 @@ fault_line f = line (codes "plan " ++ fault_text f)
 abbrev pub IsPlanRefusal : PlanFault → Status → List ℕ → Type 0
 IsPlanRefusal f s text = ((f ≢ fault.NoMemory) × (s ≡ status.PlanRefused) × (text ≡ fault_line f)) ⊎ ((s ≡ status.NoMemory) × (text ≡ line (codes "no memory")))
 
--- The text of `alloc`: that of the job, with the function that the plan gives in place of its own. The plan has no fault, and on every walk from the first block, and
--- whatever the values are, each instruction reads by its registers the values of its virtual registers.
+-- The text of `alloc`: that of the job with the function that the plan gives in place of its own, which is a job again. The plan has no fault, and on every walk from the
+-- first block, and whatever the values are, each instruction reads by its registers the values of its virtual registers.
 pub record IsAllocatedText (input text : List ℕ) : Type 0 where
   pub planned : PlannedJob
   pub is : IsPlannedOf input planned
   pub function : AllocatedFunction
   pub answered : IsAnswered planned.job.state.layout planned.job.function planned.plan function
   pub walks : EveryWalkReadsAlike planned.job.function.blocks.items planned.plan.blocks.items
+  pub job : IsJob (with_function planned.job function)
   pub spelled : text ≡ text_of_job (with_function planned.job function)
 
 -- the plan is refused by its first fault

@@ -8,6 +8,7 @@ ghost use Rattle.s390x_tool.specs.Lines.{IsMade, line, operand_error_name};
 use crate::reply::{Reply, fixed, made, no_memory, syntax, with_text};
 use crate::status::Status;
 use s390x_alloc::{PlanFault, check_plan};
+use s390x_allocated_jobs::law::answered_jobs_are_jobs;
 use s390x_inst::MachInstEmitState;
 use s390x_job::lines_of_job;
 use s390x_operands::OperandError;
@@ -39,6 +40,7 @@ fn job_with_plan(alloc: Global, input: &[u8], planned: PlannedJob) -> Reply
         &planned.plan,
     ) {
         Ok(function) => {
+            answered_jobs_are_jobs();
             job.function = function;
             with_text(lines_of_job(alloc, &job))
         }

@@ -11,14 +11,14 @@ same s t ps e f = ap (map (λ (w : Bor (List ℕ)). w.now)) e ∙ f
 
 pub line_number-requires-clause-above : goal.line_number-requires-clause-above
 line_number-requires-clause-above c =
-    let f = rw c.in-Stuck.is at c.in_ok-functions.ensures in
+    let f = rw c.in-Stuck.is at c.in_ok-planned.ensures in
     let s = c.deref.result.now in
     let e = same s _ _ c.deref.ensures.value c.in_ok-ws-in-Stuck.ensures in
     λ m h q t. f.above m h (omega (arith, q, ap length e, length-map s (λ (w : Bor (List ℕ)). w.now))) (subst (λ ws. IsPlannedText (plan_completion (take m ws))) e t)
 
 pub line_number-requires-clause-small : goal.line_number-requires-clause-small
 line_number-requires-clause-small c =
-    let f = rw c.in-Stuck.is at c.in_ok-functions.ensures in
+    let f = rw c.in-Stuck.is at c.in_ok-planned.ensures in
     let s = c.deref.result.now in
     let e = same s _ _ c.deref.ensures.value c.in_ok-ws-in-Stuck.ensures in
     omega (arith, f.small, ap length e, length-map s (λ (w : Bor (List ℕ)). w.now))
