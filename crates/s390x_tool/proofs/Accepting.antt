@@ -1,12 +1,11 @@
 -- Functions that nothing keeps from standing in one image are done, unless memory doesn't suffice.
-use Rattle.std.proofs.Common.{◌≡◌, ℕ, ◌⊎◌, inl, inr, List, map, refl, sym, ap, ◌∙◌, arith, subst, Some, None}
+use Rattle.std.proofs.Common.{◌≡◌, ℕ, ◌⊎◌, inl, inr, List, map, refl, sym, ◌∙◌, arith, Some}
 use Rattle.std.specs.Prelude.{Option, ◌≢◌}
 use Rattle.s390x_bundle.specs.Bundled.{HasNoImage}
 use Rattle.s390x_bundle.specs.declared.error.BundleError.{BundleError}
 use Rattle.s390x_bundle.specs.declared.error.BundleError.TheVariants as cause
 use Rattle.s390x_bundle.specs.declared.member.Member.{Member}
 use Rattle.s390x_commands.specs.Words.{IsForm}
-use Rattle.s390x_commands.proofs.Told.{same_command}
 use Rattle.s390x_commands.specs.declared.words.Command.TheVariants.{Bundle}
 use Rattle.s390x_tool.specs.Bundled.{AreBundled, IsBundleAccepted, member_of}
 use Rattle.s390x_tool.specs.Causes.{FaultCountRose}

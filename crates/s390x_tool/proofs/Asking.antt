@@ -1,5 +1,5 @@
 -- A reply is that to the command that the words are.
-use Rattle.std.proofs.Common.{◌≡◌, ℕ, List, subst}
+use Rattle.std.proofs.Common.{ℕ, List, subst}
 use Rattle.s390x_commands.specs.Words.{IsForm}
 use Rattle.s390x_commands.proofs.Told.{same_command}
 use Rattle.s390x_commands.specs.declared.words.Command.{Command}

@@ -1,5 +1,5 @@
 -- The reply to words that ask for an image of several functions.
-use Rattle.std.proofs.Common.{◌≡◌, ℕ, ◌⊎◌, inl, inr, List, map, refl, sym, ap, subst}
+use Rattle.std.proofs.Common.{◌≡◌, ℕ, inl, inr, List, map, subst}
 use Rattle.std.specs.Prelude.{codes, ◌++◌, ◌≢◌}
 use Rattle.std.specs.Fmt.{decimal}
 use Rattle.hex.specs.Hex.{encode_lower}

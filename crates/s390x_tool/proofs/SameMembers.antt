@@ -1,17 +1,14 @@
 -- Functions with the same lines are kept from standing in one image by the same causes.
-use Rattle.std.proofs.Common.{◌≡◌, ℕ, ◌+◌, List, [], ◌∷◌, ◌++◌, map, Option, None, Some, refl, sym, ap, ap₂, ◌∙◌, cond}
+use Rattle.std.proofs.Common.{◌≡◌, ℕ, ◌+◌, List, [], ◌∷◌, ◌++◌, map, Some, refl, sym, ap, ap₂, ◌∙◌, cond}
 use Rattle.s390x_base.specs.declared.ir.ExternalName.{ExternalName}
 use Rattle.s390x_buffer.specs.declared.entries.MachBufferFinalized.{MachBufferFinalized}
 use Rattle.s390x_image.specs.Causes.{link_cause}
 use Rattle.s390x_image.specs.Symbols.{Symbols, no_symbols, with_address}
-use Rattle.s390x_job.specs.Jobs.{IsJob}
-use Rattle.s390x_job.specs.Same.{SameJob}
-use Rattle.s390x_job.specs.declared.job.Job.{Job}
 use Rattle.s390x_job.specs.declared.job.SymbolLine.{SymbolLine}
 use Rattle.s390x_bundle.specs.Bundled.{duplicate_of}
 use Rattle.s390x_bundle.specs.Emitted.{AreEmitted, IsEmitted, emit_cause, first_refused, refused_or}
-use Rattle.s390x_bundle.specs.Joined.{misplaced_member, starts_of_codes, unlinked_member}
-use Rattle.s390x_bundle.specs.Linking.{Unlinked, first_unlinked, unlinked_or}
+use Rattle.s390x_bundle.specs.Joined.{starts_of_codes}
+use Rattle.s390x_bundle.specs.Linking.{first_unlinked, unlinked_or}
 use Rattle.s390x_bundle.specs.Names.{duplicate_in, first_duplicate, is_among, line_among, name_or, names_of}
 use Rattle.s390x_bundle.specs.Table.{symbols_of, with_lines, with_members}
 use Rattle.s390x_bundle.specs.declared.member.Member.{Member}
