@@ -1,5 +1,5 @@
 -- The reply to words that ask for a job with the registers of a plan.
-use Rattle.std.proofs.Common.{◌≡◌, ℕ, ◌⊎◌, inl, inr, List, String, sym, ap, ◌∙◌}
+use Rattle.std.proofs.Common.{◌≡◌, ℕ, ◌⊎◌, inl, inr, Global, List, String, sym, ap, ◌∙◌}
 use Rattle.std.specs.Prelude.{codes, ◌++◌, ◌≢◌, IfOk, MatchResult, Result, Ok, Err, string_bytes}
 use Rattle.std.specs.Fmt.{decimal}
 use Rattle.s390x_alloc.specs.Answered.{IsAnswered}
@@ -37,7 +37,7 @@ answer_of_plan_syntax input s text number none first (inl made) = rw made.0 (rec
 answer_of_plan_syntax input s text number none first (inr short) = rw short.0 short.1
 
 -- the text of the job with the plan's function is the answer
-pub answer_of_plan : (input : List ℕ) (s : Status) (text : List ℕ) (p : PlannedJob) (function : AllocatedFunction) (printed : Result String NoMemory) → AnsweredIsJob → IsPlannedOf input p
+pub answer_of_plan : (input : List ℕ) (s : Status) (text : List ℕ) (p : PlannedJob) (function : AllocatedFunction) (printed : Result (String Global) NoMemory) → AnsweredIsJob → IsPlannedOf input p
     → IsAnswered p.job.state.layout p.job.function p.plan function → EveryWalkReadsAlike p.job.function.blocks.items p.plan.blocks.items
     → IfOk printed (λ t. string_bytes t ≡ text_of_job (with_function p.job function))
     → MatchResult printed (λ t. (s ≡ status.Ok) × (text ≡ string_bytes t)) (λ _. (s ≡ status.NoMemory) × (text ≡ line (codes "no memory"))) → IsAllocateAnswer input s text
@@ -49,7 +49,7 @@ answer_of_plan input s text p function (Err e) law is answered walks printed tol
 pub answer_of_fault : (input : List ℕ) (s : Status) (text : List ℕ) (p : PlannedJob) (f : PlanFault) → IsPlannedOf input p
     → IsFault (checked p.job.state.layout p.job.function.blocks.items p.plan.blocks.items) f → IsPlanRefusal f s text → IsAllocateAnswer input s text
 answer_of_fault input s text p f is (inl none) (inl told) = absurd (told.0 none)
-answer_of_fault input s text p f is (inr cause) (inl told) = rw told.1 (record { planned = p; is = is; fault = f; named = told.0; cause = cause; spelled = told.2 })
+answer_of_fault input s text p f is (inr cause) (inl told) = rw told.1 (record { planned = p; is = is; first = f; named = told.0; cause = cause; spelled = told.2 })
 answer_of_fault input s text p f is cause (inr short) = rw short.0 short.1
 
 -- the program's reply

@@ -1,6 +1,7 @@
 -- A plan without a fault is done, unless memory doesn't suffice.
 use Rattle.std.proofs.Common.{◌≡◌, ℕ, ◌⊎◌, inl, inr, List, refl, sym, ◌∙◌, arith, subst, Some}
 use Rattle.std.specs.Prelude.{Option, Result, IsOk, Err}
+use Rattle.std.proofs.lemmas.Bool.{false≢true}
 use Rattle.s390x_commands.specs.Words.{IsForm}
 use Rattle.s390x_commands.specs.declared.words.Command.TheVariants.{Allocate}
 use Rattle.s390x_tool.specs.Allocated.{IsPlanAccepted}
@@ -13,7 +14,7 @@ use Rattle.s390x_tool.proofs.Completing.{read_less, read_whole}
 
 -- what is no error isn't this one
 no_error : {T E : Type 0} (r : Result T E) (e : E) → IsOk r → r ≡ Err e → ⊥
-no_error r e is same = subst IsOk same is
+no_error r e is same = false≢true (subst IsOk same is)
 
 allocated_reply : (f : Found) (s : Status) (text : List ℕ) (input : List ℕ) → IsReply f s text → IsForm f.words Allocate → f.left ≡ Some input → IsPlanAccepted input
     → (FaultCountRose f.faults f.faults' → ⊥) → (s ≡ status.Ok) ⊎ (s ≡ status.NoMemory)
@@ -36,7 +37,7 @@ allocated_reply f status.BadWord text input reply form left accepted quiet = abs
 allocated_reply f status.PlanRefused text input reply form left accepted quiet =
     let whole = read_whole f.left f.left' input reply.input left reply.read.taken reply.read.end in
     let answer = answered f status.PlanRefused text Allocate reply form in
-    absurd (no_error _ answer.fault (accepted.faultless answer.planned answer.is.is (answer.is.spelled ∙ sym whole)) answer.cause)
+    absurd (no_error _ answer.first (accepted.faultless answer.planned answer.is.is (answer.is.spelled ∙ sym whole)) answer.cause)
 allocated_reply f status.BundleRefused text input reply form left accepted quiet = absurd (answered f status.BundleRefused text Allocate reply form)
 
 -- how a call on such an input ends, where nothing failed

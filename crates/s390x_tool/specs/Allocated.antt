@@ -59,10 +59,10 @@ pub record IsAllocatedText (input text : List ℕ) : Type 0 where
 pub record IsPlanRefused (input text : List ℕ) : Type 0 where
   pub planned : PlannedJob
   pub is : IsPlannedOf input planned
-  pub fault : PlanFault
-  pub named : fault ≢ fault.NoMemory
-  pub cause : checked planned.job.state.layout planned.job.function.blocks.items planned.plan.blocks.items ≡ Err fault
-  pub spelled : text ≡ fault_line fault
+  pub first : PlanFault
+  pub named : first ≢ fault.NoMemory
+  pub cause : checked planned.job.state.layout planned.job.function.blocks.items planned.plan.blocks.items ≡ Err first
+  pub spelled : text ≡ fault_line first
 
 -- the input is the text of no planned job, and this is its first wrong line
 pub record IsPlanSyntax (input text : List ℕ) : Type 0 where

@@ -1,5 +1,5 @@
 //! The reply to the command `alloc`.
-ghost use Rattle.std.specs.Prelude.{◌<◌, ◌++◌, ◌∷◌, [], codes, length};
+ghost use Rattle.std.specs.Prelude.{◌≡◌, ◌<◌, ◌++◌, ◌∷◌, [], codes, length};
 ghost use Rattle.std.specs.Cow.{cow_str_bytes};
 ghost use Rattle.s390x_plan_text.specs.Text.{IsPlannedOf};
 ghost use Rattle.s390x_tool.specs.Allocated.{IsAllocateAnswer, IsPlanRefusal, numbered_fault};
@@ -57,7 +57,9 @@ fn plan_refused(alloc: Global, fault: PlanFault) -> Reply
         PlanFault::Unsupported { block, inst } => told_place(alloc, "Unsupported", block, inst),
         PlanFault::Shape { block, inst } => told_place(alloc, "Shape", block, inst),
         PlanFault::Order { block, edit } => told_place(alloc, "Order", block, edit),
-        PlanFault::Operands { block, edit, cause } => told_cause(alloc, block, edit, cause),
+        PlanFault::Operands { block, edit, cause } => {
+            told_cause(alloc, "Operands", block, edit, cause_name(cause))
+        }
         PlanFault::Count { block, edit } => told_place(alloc, "Count", block, edit),
         PlanFault::Constraint {
             block,
@@ -95,14 +97,19 @@ fn told_operand(alloc: Global, name: &'static str, block: u32, edit: u32, operan
     )
 }
 
-// The reply with the cause by which an edit's instruction doesn't report its operands.
-fn told_cause(alloc: Global, block: u32, edit: u32, cause: OperandError) -> Reply
-    ensures { IsMade Status.PlanRefused (line (codes "plan " ++ (numbered_fault (codes "Operands") (block ∷ edit ∷ []) ++ (32 ∷ operand_error_name cause)))) result.status (cow_str_bytes result.text) }
+// The reply with a fault of an edit, and what refuses it.
+fn told_cause(
+    alloc: Global,
+    name: &'static str,
+    block: u32,
+    edit: u32,
+    cause: &'static str,
+) -> Reply
+    ensures { IsMade Status.PlanRefused (line (codes "plan " ++ (numbered_fault name.entry.now (block ∷ edit ∷ []) ++ (32 ∷ cause.entry.now)))) result.status (cow_str_bytes result.text) }
 {
-    let name = cause_name(cause);
     made(
         Status::PlanRefused,
-        format!(in alloc; "plan Operands {block} {edit} {name}\n"),
+        format!(in alloc; "plan {name} {block} {edit} {cause}\n"),
     )
 }
 
