@@ -1,5 +1,5 @@
 -- The reply to words that ask for a job with the registers of a plan.
-use Rattle.std.proofs.Common.{◌≡◌, ℕ, ◌⊎◌, inl, inr, Global, List, String, sym, ap, ◌∙◌}
+use Rattle.std.proofs.Common.{◌≡◌, ℕ, inl, inr, Global, List, String, ◌∙◌}
 use Rattle.std.specs.Prelude.{codes, ◌++◌, ◌≢◌, IfOk, MatchResult, Result, Ok, Err, string_bytes}
 use Rattle.std.specs.Fmt.{decimal}
 use Rattle.s390x_alloc.specs.Answered.{IsAnswered}
