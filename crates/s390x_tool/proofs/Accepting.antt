@@ -1,7 +1,10 @@
 -- Functions that nothing keeps from standing in one image are done, unless memory doesn't suffice.
-use Rattle.std.proofs.Common.{◌≡◌, ℕ, ◌⊎◌, inl, inr, List, map, refl, sym, ◌∙◌, arith, Some}
-use Rattle.std.specs.Prelude.{Option, ◌≢◌}
+use Rattle.std.proofs.Common.{◌≡◌, ℕ, ◌⊎◌, inl, inr, List, [], ◌∷◌, map, refl, sym, ◌∙◌, arith, None, Some}
+use Rattle.std.specs.Prelude.{Option, codes, ◌≢◌}
+use Rattle.s390x_buffer.specs.declared.entries.MachBufferFinalized.{MachBufferFinalized}
 use Rattle.s390x_bundle.specs.Bundled.{HasNoImage}
+use Rattle.s390x_bundle.specs.Emitted.{AreEmitted}
+use Rattle.s390x_bundle.specs.Joined.{misplaced_member}
 use Rattle.s390x_bundle.specs.declared.error.BundleError.{BundleError}
 use Rattle.s390x_bundle.specs.declared.error.BundleError.TheVariants as cause
 use Rattle.s390x_bundle.specs.declared.member.Member.{Member}
@@ -9,6 +12,7 @@ use Rattle.s390x_commands.specs.Words.{IsForm}
 use Rattle.s390x_commands.specs.declared.words.Command.TheVariants.{Bundle}
 use Rattle.s390x_tool.specs.Bundled.{AreBundled, IsBundleAccepted, member_of}
 use Rattle.s390x_tool.specs.Causes.{FaultCountRose}
+use Rattle.s390x_tool.specs.Lines.{line}
 use Rattle.s390x_tool.specs.Replies.{Found, IsDelivered, IsReply}
 use Rattle.s390x_tool.specs.declared.status.Status.{Status}
 use Rattle.s390x_tool.specs.declared.status.Status.TheVariants as status
@@ -59,3 +63,20 @@ pub bundled_result : (f : Found) (told told' : Option (List ℕ)) (faults faults
 bundled_result f told told' faults faults' s text result reply (inl whole) base input form left accepted quiet silent =
     rw (sym whole.0) at (bundled_reply f s text base input reply form left accepted quiet)
 bundled_result f told told' faults faults' s text result reply (inr part) base input form left accepted quiet silent = absurd (silent part.2)
+
+-- ---- no functions
+
+none_placed : (base : ℕ) (finished : List MachBufferFinalized) → AreEmitted [] finished → misplaced_member base finished ≡ None
+none_placed base [] h = refl
+none_placed base (f ∷ fs) h = absurd h
+
+-- the text of none is accepted
+pub none_accepted : (base : ℕ) → IsBundleAccepted base (line (codes "close"))
+none_accepted base =
+    record {
+      short = omega arith;
+      functions = [];
+      are = tt;
+      spelled = refl;
+      bundled = record { names = refl; valid = refl; placed = none_placed base; linked = λ finished h. refl };
+    }

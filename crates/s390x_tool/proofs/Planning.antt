@@ -4,6 +4,9 @@ use Rattle.std.specs.Prelude.{Option, Result, IsOk, Err}
 use Rattle.std.proofs.lemmas.Bool.{false≢true}
 use Rattle.s390x_commands.specs.Words.{IsForm}
 use Rattle.s390x_commands.specs.declared.words.Command.TheVariants.{Allocate}
+use Rattle.s390x_job.specs.Completions.{joined}
+use Rattle.s390x_plan_text.specs.Example.{no_blocks}
+use Rattle.s390x_plan_text.proofs.Example.{no_blocks_are_text}
 use Rattle.s390x_tool.specs.Allocated.{IsPlanAccepted}
 use Rattle.s390x_tool.specs.Causes.{FaultCountRose}
 use Rattle.s390x_tool.specs.Replies.{Found, IsDelivered, IsReply}
@@ -48,3 +51,13 @@ pub allocated_result : (f : Found) (told told' : Option (List ℕ)) (faults faul
 allocated_result f told told' faults faults' s text result reply (inl whole) input form left accepted quiet silent =
     rw (sym whole.0) at (allocated_reply f s text input reply form left accepted quiet)
 allocated_result f told told' faults faults' s text result reply (inr part) input form left accepted quiet silent = absurd (silent part.2)
+
+-- ---- no blocks
+
+pub no_blocks_accepted : IsPlanAccepted (joined no_blocks)
+no_blocks_accepted =
+    record {
+      short = omega arith;
+      planned = no_blocks_are_text.planned;
+      faultless = λ p is e. rw (no_blocks_are_text.job_blocks p is e, no_blocks_are_text.plan_blocks p is e) refl;
+    }

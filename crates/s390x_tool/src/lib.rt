@@ -9,6 +9,7 @@ pub mod ends;
 pub mod generate;
 pub mod in_memory;
 pub mod input;
+pub mod law;
 pub mod output;
 pub mod reply;
 pub mod simulate;
