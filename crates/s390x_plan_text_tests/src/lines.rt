@@ -1,4 +1,5 @@
 //! Plans that are read, and the first wrong lines of other texts.
+ghost use Rattle.std.specs.Prelude.{◌<◌, length};
 
 use s390x_alloc::{Edit, Place, PlanFault, check_plan};
 use s390x_base::{gpr, gpr_preg, vr_preg};
@@ -7,7 +8,9 @@ use s390x_plan_text::{PlanTextError, PlannedJob, read_plan};
 use std::alloc::Global;
 use std::test::Fail;
 
-fn read(alloc: Global, text: &str) -> Result<PlannedJob, Fail> {
+fn read(alloc: Global, text: &str) -> Result<PlannedJob, Fail>
+    requires { length text.now < 268435456 }
+{
     match read_plan(alloc, text.as_bytes()) {
         Ok(planned) => Ok(planned),
         Err(_) => Err(Fail::from("the text is refused")),
@@ -15,7 +18,9 @@ fn read(alloc: Global, text: &str) -> Result<PlannedJob, Fail> {
 }
 
 // The number of the first wrong line, 0 where there is none.
-fn first_wrong(alloc: Global, text: &str) -> u32 {
+fn first_wrong(alloc: Global, text: &str) -> u32
+    requires { length text.now < 268435456 }
+{
     match read_plan(alloc, text.as_bytes()) {
         Err(PlanTextError::Syntax { line }) => line,
         _ => 0,
