@@ -4,7 +4,7 @@ use Rattle.std.specs.String.{string_bytes}
 use Rattle.std.specs.Fmt.{decimal}
 use Rattle.std.specs.declared.string.String.{String}
 use Rattle.s390x_commands.specs.declared.words.Command.{Command}
-use Rattle.s390x_commands.specs.declared.words.Command.TheVariants.{OnJob, Generate, Simulate}
+use Rattle.s390x_commands.specs.declared.words.Command.TheVariants.{OnJob, Generate, Simulate, Allocate, Bundle}
 use Rattle.s390x_commands.specs.declared.words.JobCommand.TheVariants.{Image, Emit, Run, Operands, Show}
 
 -- the words of a command; a number is decimal, without a leading zero
@@ -16,6 +16,8 @@ words_of (OnJob Operands) = codes "operands" ∷ []
 words_of (OnJob Show) = codes "show" ∷ []
 words_of (Generate count start) = codes "gen" ∷ decimal count ∷ decimal start ∷ []
 words_of (Simulate base word count steps start) = codes "smp" ∷ decimal base ∷ decimal word ∷ decimal count ∷ decimal steps ∷ decimal start ∷ []
+words_of Allocate = codes "alloc" ∷ []
+words_of (Bundle base) = codes "bundle" ∷ decimal base ∷ []
 
 -- the numbers of the command lie in their ranges
 abbrev pub IsInRange : Command → Type 0
@@ -26,6 +28,8 @@ IsInRange (OnJob Operands) = Unit {0}
 IsInRange (OnJob Show) = Unit {0}
 IsInRange (Generate count start) = (count ≤ 100000) × (start < 2 ^ 32)
 IsInRange (Simulate base word count steps start) = (base < 2 ^ 64) × (word < 2 ^ 64) × (0 < count) × (count ≤ 64) × (steps ≤ 1000000) × (start < 2 ^ 32)
+IsInRange Allocate = Unit {0}
+IsInRange (Bundle base) = base < 2 ^ 64
 
 -- these words are this command
 pub record IsForm (words : List (List ℕ)) (command : Command) : Type 0 where

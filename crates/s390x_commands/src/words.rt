@@ -36,6 +36,12 @@ pub enum Command {
         steps: u32,
         start: u32,
     },
+    /// The job that the input is, with the registers of the plan that stands behind it.
+    Allocate,
+    /// The image at this base of the functions that the input is.
+    Bundle {
+        base: u64,
+    },
 }
 
 /// The most steps that a command may ask for.
@@ -82,6 +88,9 @@ fn read_alone(name: &str) -> Option<Command>
     if name == "show" {
         return Some(Command::OnJob(JobCommand::Show));
     }
+    if name == "alloc" {
+        return Some(Command::Allocate);
+    }
     None
 }
 
@@ -92,6 +101,9 @@ fn read_with_one(name: &str, first: &str) -> Option<Command>
 {
     if name == "image" {
         return read_image(first);
+    }
+    if name == "bundle" {
+        return read_bundle(first);
     }
     None
 }
@@ -135,6 +147,15 @@ fn read_image(base: &str) -> Option<Command>
 {
     let base = read_number(base)?;
     Some(Command::OnJob(JobCommand::Image { base }))
+}
+
+// The command `bundle` with this word behind it.
+fn read_bundle(base: &str) -> Option<Command>
+    ensures form { IfSome result (λ command. IsForm (codes "bundle" ∷ base.now ∷ []) command) }
+    ensures none { IfNone result (IsNoForm (codes "bundle" ∷ base.now ∷ [])) }
+{
+    let base = read_number(base)?;
+    Some(Command::Bundle { base })
 }
 
 // The command `run` with these words behind it.

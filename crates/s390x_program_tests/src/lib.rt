@@ -2,6 +2,8 @@
 #![tactic(auto)]
 
 #[cfg(test)]
+mod bundles;
+#[cfg(test)]
 mod call_rows;
 #[cfg(test)]
 mod entries;

@@ -14,6 +14,8 @@ fn each_status_has_its_number(rt: HostRuntime) {
         (Status::InputTooLong, 8),
         (Status::NoMemory, 9),
         (Status::BadWord, 10),
+        (Status::PlanRefused, 11),
+        (Status::BundleRefused, 12),
     ] {
         assert_eq!(rt; status.number(), number);
     }

@@ -12,6 +12,8 @@ use Rattle.s390x_tool.specs.Answers.{IsAccepted, IsJobReply, IsUnrefused, Links}
 use Rattle.s390x_commands.proofs.Told.{same_command}
 use Rattle.s390x_tool.proofs.SameJob.{same_cause, same_links}
 use Rattle.s390x_tool.proofs.SameOperands.{same_operands_cause}
+use Rattle.s390x_tool.proofs.Asking.{about, answered, not_generated, not_simulation}
+use Rattle.s390x_tool.proofs.Replying.{of_job}
 use Rattle.s390x_tool.specs.Replies.{Found, IsReply, IsDelivered}
 use Rattle.s390x_commands.specs.declared.words.Command.TheVariants.{OnJob, Generate, Simulate}
 use Rattle.s390x_commands.specs.declared.words.JobCommand.{JobCommand}
@@ -20,7 +22,7 @@ use Rattle.s390x_tool.specs.declared.status.Status.{Status}
 use Rattle.s390x_tool.specs.declared.status.Status.TheVariants as status
 
 -- what was read to the end is all
-read_whole : (left left' : Option (List ℕ)) (input taken : List ℕ) → left ≡ Some input → Consumes left left' taken → IsAtEnd left' → input ≡ taken
+pub read_whole : (left left' : Option (List ℕ)) (input taken : List ℕ) → left ≡ Some input → Consumes left left' taken → IsAtEnd left' → input ≡ taken
 read_whole None left' input taken is consumed end = cc
 read_whole (Some xs) None input taken is consumed end = absurd consumed
 read_whole (Some xs) (Some ys) input taken is consumed end =
@@ -28,7 +30,7 @@ read_whole (Some xs) (Some ys) input taken is consumed end =
     sym same ∙ consumed ∙ rw end (append-nil taken)
 
 -- no more is read than there is
-read_less : (left left' : Option (List ℕ)) (input taken : List ℕ) → left ≡ Some input → Consumes left left' taken → length taken ≤ length input
+pub read_less : (left left' : Option (List ℕ)) (input taken : List ℕ) → left ≡ Some input → Consumes left left' taken → length taken ≤ length input
 read_less None left' input taken is consumed = absurd cc
 read_less (Some xs) None input taken is consumed = absurd consumed
 read_less (Some xs) (Some ys) input taken is consumed =
@@ -71,15 +73,6 @@ linked_not (Run base steps) j text links reply =
     let none = links reply.code reply.is in
     cc
 
-same_job_command : (b c : JobCommand) → OnJob b ≡ OnJob c → b ≡ c
-same_job_command b c e = cc
-
--- words that ask for a simulation ask for nothing about a job
-not_both : (words : List (List ℕ)) (command : JobCommand) (base word count steps start : ℕ) → IsForm words (OnJob command) → IsForm words (Simulate base word count steps start) → ⊥
-not_both words command base word count steps start a b =
-    let same = same_command words (OnJob command) (Simulate base word count steps start) a b in
-    absurd cc
-
 -- the reply to an accepted input
 completed_reply : (f : Found) (s : Status) (text : List ℕ) (command : JobCommand) (input : List ℕ)
     → IsReply f s text → IsForm f.words (OnJob command) → f.left ≡ Some input → IsAccepted command input → (FaultCountRose f.faults f.faults' → ⊥)
@@ -94,20 +87,26 @@ completed_reply f status.InputTooLong text command input reply form left accepte
     absurd (omega (arith, reply.0.long.long, accepted.short))
 completed_reply f status.Syntax text command input reply form left accepted quiet =
     let whole = read_whole f.left f.left' input reply.input left reply.read.taken reply.read.end in
-    absurd (reply.answer.no_job accepted.job accepted.is (accepted.spelled ∙ whole))
+    let answer = answered f status.Syntax text (OnJob command) reply form in
+    absurd (answer.no_job accepted.job accepted.is (accepted.spelled ∙ whole))
 completed_reply f status.Refused text command input reply form left accepted quiet =
     let whole = read_whole f.left f.left' input reply.input left reply.read.taken reply.read.end in
-    let same = reply.answer.one accepted.job accepted.is (accepted.spelled ∙ whole) in
-    let named = same_job_command command reply.command (same_command f.words (OnJob command) (OnJob reply.command) form reply.form) in
-    absurd (refused_not reply.command reply.answer.job accepted.job text reply.answer.reply reply.answer.is accepted.is same (subst (λ c. IsUnrefused c accepted.job) named accepted.valid))
-completed_reply f status.BadWord text command input reply form left accepted quiet = absurd (not_both f.words command reply.base reply.word reply.count reply.steps reply.start form reply.form)
-completed_reply f status.LinkRefused text command input (inr reply) form left accepted quiet = absurd (not_both f.words command reply.base reply.word reply.count reply.steps reply.start form reply.form)
+    let answer = answered f status.Refused text (OnJob command) reply form in
+    let same = answer.one accepted.job accepted.is (accepted.spelled ∙ whole) in
+    absurd (refused_not command answer.job accepted.job text answer.reply answer.is accepted.is same accepted.valid)
 completed_reply f status.LinkRefused text command input (inl reply) form left accepted quiet =
     let whole = read_whole f.left f.left' input reply.input left reply.read.taken reply.read.end in
-    let same = reply.answer.one accepted.job accepted.is (accepted.spelled ∙ whole) in
-    let links = same_links command reply.answer.job accepted.job reply.answer.is accepted.is same accepted.links in
-    let named = same_job_command command reply.command (same_command f.words (OnJob command) (OnJob reply.command) form reply.form) in
-    absurd (linked_not reply.command reply.answer.job text (subst (λ c. Links c reply.answer.job) named links) reply.answer.reply)
+    let answer = answered f status.LinkRefused text (OnJob command) reply form in
+    let same = answer.one accepted.job accepted.is (accepted.spelled ∙ whole) in
+    absurd (linked_not command answer.job text (same_links command answer.job accepted.job answer.is accepted.is same accepted.links) answer.reply)
+completed_reply f status.LinkRefused text command input (inr reply) form left accepted quiet = absurd (not_simulation f status.LinkRefused text (OnJob command) reply form tt)
+completed_reply f status.BadWord text command input reply form left accepted quiet = absurd (not_simulation f status.BadWord text (OnJob command) reply form tt)
+completed_reply f status.PlanRefused text command input reply form left accepted quiet =
+    let answer = answered f status.PlanRefused text (OnJob command) reply form in
+    absurd (of_job command answer.job status.PlanRefused text answer.reply)
+completed_reply f status.BundleRefused text command input reply form left accepted quiet =
+    let answer = answered f status.BundleRefused text (OnJob command) reply form in
+    absurd (of_job command answer.job status.BundleRefused text answer.reply)
 
 -- how a call on an accepted input ends, where nothing failed
 pub completed : (f : Found) (told told' : Option (List ℕ)) (faults faults' : ℕ) (s : Status) (text : List ℕ) (result : Status)
@@ -118,30 +117,21 @@ completed f told told' faults faults' s text result reply (inl whole) command in
     rw (sym whole.0) at (completed_reply f s text command input reply form left accepted quiet)
 completed f told told' faults faults' s text result reply (inr part) command input form left accepted quiet silent = absurd (silent part.2)
 
--- words that ask for a generated function ask for nothing about a job
-not_on_job : (words : List (List ℕ)) (command : JobCommand) (count start : ℕ) → IsForm words (OnJob command) → IsForm words (Generate count start) → ⊥
-not_on_job words command count start a b =
-    let same = same_command words (OnJob command) (Generate count start) a b in
-    absurd cc
-
-not_simulated : (words : List (List ℕ)) (count start base word processors steps first : ℕ) → IsForm words (Generate count start) → IsForm words (Simulate base word processors steps first) → ⊥
-not_simulated words count start base word processors steps first a b =
-    let same = same_command words (Generate count start) (Simulate base word processors steps first) a b in
-    absurd cc
-
 -- the reply to words that ask for a generated function
 generated_reply : (f : Found) (s : Status) (text : List ℕ) (count start : ℕ) → IsReply f s text → IsForm f.words (Generate count start) → (s ≡ status.Ok) ⊎ (s ≡ status.NoMemory)
 generated_reply f status.Ok text count start reply form = inl refl
 generated_reply f status.NoMemory text count start reply form = inr refl
 generated_reply f status.Usage text count start reply form = absurd (reply.0.none (Generate count start) form)
-generated_reply f status.ReadFault text count start reply form = absurd (not_on_job f.words reply.0.command count start reply.0.form form)
-generated_reply f status.InputTooLong text count start reply form = absurd (not_on_job f.words reply.0.command count start reply.0.form form)
+generated_reply f status.ReadFault text count start reply form = absurd (about f.words reply.0.command (Generate count start) reply.0.form form reply.0.about)
+generated_reply f status.InputTooLong text count start reply form = absurd (about f.words reply.0.command (Generate count start) reply.0.form form reply.0.about)
 generated_reply f status.WriteFault text count start reply form = absurd reply
-generated_reply f status.Syntax text count start reply form = absurd (not_on_job f.words reply.command count start reply.form form)
-generated_reply f status.Refused text count start reply form = absurd (not_on_job f.words reply.command count start reply.form form)
-generated_reply f status.LinkRefused text count start (inl reply) form = absurd (not_on_job f.words reply.command count start reply.form form)
-generated_reply f status.LinkRefused text count start (inr reply) form = absurd (not_simulated f.words count start reply.base reply.word reply.count reply.steps reply.start form reply.form)
-generated_reply f status.BadWord text count start reply form = absurd (not_simulated f.words count start reply.base reply.word reply.count reply.steps reply.start form reply.form)
+generated_reply f status.Syntax text count start reply form = absurd (answered f status.Syntax text (Generate count start) reply form)
+generated_reply f status.Refused text count start reply form = absurd (answered f status.Refused text (Generate count start) reply form)
+generated_reply f status.LinkRefused text count start (inl reply) form = absurd (answered f status.LinkRefused text (Generate count start) reply form)
+generated_reply f status.LinkRefused text count start (inr reply) form = absurd (not_generated f status.LinkRefused text count start reply form)
+generated_reply f status.BadWord text count start reply form = absurd (not_generated f status.BadWord text count start reply form)
+generated_reply f status.PlanRefused text count start reply form = absurd (answered f status.PlanRefused text (Generate count start) reply form)
+generated_reply f status.BundleRefused text count start reply form = absurd (answered f status.BundleRefused text (Generate count start) reply form)
 
 -- how a call ends that asks for a generated function, where no write failed
 pub generated_result : (f : Found) (told told' : Option (List ℕ)) (faults faults' : ℕ) (s : Status) (text : List ℕ) (result : Status)
@@ -165,12 +155,14 @@ simulated_reply : (f : Found) (s : Status) (text : List ℕ) (base word count st
 simulated_reply f status.Ok text base word count steps start reply form none = inl refl
 simulated_reply f status.NoMemory text base word count steps start reply form none = inr refl
 simulated_reply f status.Usage text base word count steps start reply form none = absurd (reply.0.none (Simulate base word count steps start) form)
-simulated_reply f status.ReadFault text base word count steps start reply form none = absurd (not_both f.words reply.0.command base word count steps start reply.0.form form)
-simulated_reply f status.InputTooLong text base word count steps start reply form none = absurd (not_both f.words reply.0.command base word count steps start reply.0.form form)
+simulated_reply f status.ReadFault text base word count steps start reply form none = absurd (about f.words reply.0.command (Simulate base word count steps start) reply.0.form form reply.0.about)
+simulated_reply f status.InputTooLong text base word count steps start reply form none = absurd (about f.words reply.0.command (Simulate base word count steps start) reply.0.form form reply.0.about)
 simulated_reply f status.WriteFault text base word count steps start reply form none = absurd reply
-simulated_reply f status.Syntax text base word count steps start reply form none = absurd (not_both f.words reply.command base word count steps start reply.form form)
-simulated_reply f status.Refused text base word count steps start reply form none = absurd (not_both f.words reply.command base word count steps start reply.form form)
-simulated_reply f status.LinkRefused text base word count steps start (inl reply) form none = absurd (not_both f.words reply.command base word count steps start reply.form form)
+simulated_reply f status.Syntax text base word count steps start reply form none = absurd (answered f status.Syntax text (Simulate base word count steps start) reply form)
+simulated_reply f status.Refused text base word count steps start reply form none = absurd (answered f status.Refused text (Simulate base word count steps start) reply form)
+simulated_reply f status.PlanRefused text base word count steps start reply form none = absurd (answered f status.PlanRefused text (Simulate base word count steps start) reply form)
+simulated_reply f status.BundleRefused text base word count steps start reply form none = absurd (answered f status.BundleRefused text (Simulate base word count steps start) reply form)
+simulated_reply f status.LinkRefused text base word count steps start (inl reply) form none = absurd (answered f status.LinkRefused text (Simulate base word count steps start) reply form)
 simulated_reply f status.LinkRefused text base word count steps start (inr reply) form none =
     let clash = sym (usable f.words base word count steps start reply.base reply.word reply.count reply.steps reply.start form reply.form none) ∙ reply.told.cause in
     absurd cc

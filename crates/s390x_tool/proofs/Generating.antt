@@ -134,3 +134,5 @@ reply_to_generate f n start status.Syntax text form kept same told = absurd told
 reply_to_generate f n start status.Refused text form kept same told = absurd told
 reply_to_generate f n start status.LinkRefused text form kept same told = absurd told
 reply_to_generate f n start status.BadWord text form kept same told = absurd told
+reply_to_generate f n start status.PlanRefused text form kept same told = absurd told
+reply_to_generate f n start status.BundleRefused text form kept same told = absurd told

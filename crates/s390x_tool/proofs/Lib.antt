@@ -13,3 +13,9 @@ pub mod SameOperands
 pub mod Showing
 pub mod Completing
 pub mod Frameless
+pub mod Bundling
+pub mod SameMembers
+pub mod Accepting
+pub mod Asking
+pub mod Allocating
+pub mod Planning

@@ -1,27 +1,95 @@
 -- What follows from a reply and how it was written.
 use Rattle.std.proofs.Common.{◌≡◌, ℕ, ◌⊎◌, inl, inr, List, refl, sym, ◌∙◌}
 use Rattle.std.specs.Prelude.{Option}
-use Rattle.s390x_commands.specs.Words.{IsNoForm}
-use Rattle.s390x_commands.specs.declared.words.Command.TheVariants.{OnJob, Generate, Simulate}
-use Rattle.s390x_tool.specs.Replies.{Found, IsReply, IsDelivered, IsDone}
+use Rattle.s390x_commands.specs.Words.{IsForm, IsNoForm}
+use Rattle.s390x_commands.specs.declared.words.Command.{Command}
+use Rattle.s390x_commands.specs.declared.words.Command.TheVariants.{OnJob, Generate, Simulate, Allocate, Bundle}
+use Rattle.s390x_commands.specs.declared.words.JobCommand.{JobCommand}
+use Rattle.s390x_commands.specs.declared.words.JobCommand.TheVariants.{Image, Emit, Run, Operands, Show}
+use Rattle.s390x_job.specs.declared.job.Job.{Job}
+use Rattle.s390x_tool.specs.Answers.{IsAnswer, IsJobReply}
+use Rattle.s390x_tool.specs.Causes.{FaultCountRose}
+use Rattle.s390x_tool.specs.Ends.{IsRead, IsTooLong}
+use Rattle.s390x_tool.specs.Lines.{IsUnread}
+use Rattle.s390x_tool.specs.Replies.{Found, IsAboutInput, IsReply, IsDelivered, IsDone, IsUnreadBy}
+use Rattle.s390x_tool.specs.declared.input.InputError.{InputError}
+use Rattle.s390x_tool.specs.declared.input.InputError.TheVariants as input
 use Rattle.s390x_tool.specs.declared.status.Status.{Status}
 use Rattle.s390x_tool.specs.declared.status.Status.TheVariants as status
+
+-- ---- the program's reply
+
+-- the statuses of replies to a job
+abbrev IsOfJob : Status → Type 0
+IsOfJob status.Ok = Unit {0}
+IsOfJob status.Refused = Unit {0}
+IsOfJob status.LinkRefused = Unit {0}
+IsOfJob status.NoMemory = Unit {0}
+IsOfJob s = ⊥
+
+pub of_job : (command : JobCommand) (j : Job) (s : Status) (text : List ℕ) → IsJobReply command j s text → IsOfJob s
+of_job command j status.Ok text reply = tt
+of_job command j status.Refused text reply = tt
+of_job command j status.LinkRefused text reply = tt
+of_job command j status.NoMemory text reply = tt
+of_job (Image base) j s text reply = absurd reply
+of_job Emit j s text reply = absurd reply
+of_job (Run base steps) j s text reply = absurd reply
+of_job Operands j s text reply = absurd reply
+of_job Show j s text reply = absurd reply
+
+-- the answer to a command about a job is the reply
+pub reply_to_job : (f : Found) (command : JobCommand) (input : List ℕ) (s : Status) (text : List ℕ) → IsForm f.words (OnJob command) → IsRead f.left f.left' input → f.faults' ≡ f.faults
+    → IsAnswer command input s text → IsReply f s text
+reply_to_job f command input status.Ok text form read same answer = inl (record { command = OnJob command; form = form; input = input; read = read; same = same; answer = answer })
+reply_to_job f command input status.Syntax text form read same answer = record { command = OnJob command; form = form; input = input; read = read; same = same; answer = answer }
+reply_to_job f command input status.Refused text form read same answer = record { command = OnJob command; form = form; input = input; read = read; same = same; answer = answer }
+reply_to_job f command input status.LinkRefused text form read same answer = inl (record { command = OnJob command; form = form; input = input; read = read; same = same; answer = answer })
+reply_to_job f command input status.NoMemory text form read same answer = (record { command = OnJob command; form = form; kept = tt; same = same }, answer)
+reply_to_job f command input status.Usage text form read same answer = absurd (of_job command answer.job status.Usage text answer.reply)
+reply_to_job f command input status.ReadFault text form read same answer = absurd (of_job command answer.job status.ReadFault text answer.reply)
+reply_to_job f command input status.WriteFault text form read same answer = absurd (of_job command answer.job status.WriteFault text answer.reply)
+reply_to_job f command input status.InputTooLong text form read same answer = absurd (of_job command answer.job status.InputTooLong text answer.reply)
+reply_to_job f command input status.BadWord text form read same answer = absurd (of_job command answer.job status.BadWord text answer.reply)
+reply_to_job f command input status.PlanRefused text form read same answer = absurd (of_job command answer.job status.PlanRefused text answer.reply)
+reply_to_job f command input status.BundleRefused text form read same answer = absurd (of_job command answer.job status.BundleRefused text answer.reply)
+
+-- nothing is said of what is read for a command about the input
+unread_by : (command : Command) (f : Found) → IsAboutInput command → IsUnreadBy command f
+unread_by (OnJob command) f about = tt
+unread_by (Generate count start) f about = absurd about
+unread_by (Simulate base word count steps start) f about = absurd about
+unread_by Allocate f about = tt
+unread_by (Bundle base) f about = tt
+
+-- so is that the input isn't read to its end
+pub reply_unread : (f : Found) (command : Command) (e : InputError) (s : Status) (text : List ℕ) → IsForm f.words command → IsAboutInput command
+    → (e ≡ input.TooLong → IsTooLong f.left f.left') → (e ≡ input.Fault → FaultCountRose f.faults f.faults') → (e ≡ input.Fault) ⊎ (f.faults' ≡ f.faults) → IsUnread e s text → IsReply f s text
+reply_unread f command input.Fault s text form about long rose same told = rw told.0 (record { command = command; form = form; about = about; rose = rose refl }, told.1)
+reply_unread f command input.TooLong s text form about long rose (inl clash) told = absurd cc
+reply_unread f command input.TooLong s text form about long rose (inr same) told = rw told.0 (record { command = command; form = form; about = about; long = long refl; same = same }, told.1)
+reply_unread f command input.NoMemory s text form about long rose (inl clash) told = absurd cc
+reply_unread f command input.NoMemory s text form about long rose (inr same) told = rw told.0 (record { command = command; form = form; kept = unread_by command f about; same = same }, told.1)
+
+-- ---- what follows from it
 
 -- where the words are no command the reply is that
 usage_reply : (f : Found) (s : Status) (text : List ℕ) → IsNoForm f.words → IsReply f s text → s ≡ status.Usage
 usage_reply f status.Usage text none reply = refl
-usage_reply f status.ReadFault text none reply = absurd (none (OnJob reply.0.command) reply.0.form)
-usage_reply f status.InputTooLong text none reply = absurd (none (OnJob reply.0.command) reply.0.form)
+usage_reply f status.ReadFault text none reply = absurd (none reply.0.command reply.0.form)
+usage_reply f status.InputTooLong text none reply = absurd (none reply.0.command reply.0.form)
 usage_reply f status.NoMemory text none reply = absurd (none reply.0.command reply.0.form)
 usage_reply f status.WriteFault text none reply = absurd reply
-usage_reply f status.Ok text none (inl reply) = absurd (none (OnJob reply.command) reply.form)
+usage_reply f status.Ok text none (inl reply) = absurd (none reply.command reply.form)
 usage_reply f status.Ok text none (inr (inl reply)) = absurd (none (Generate reply.count reply.start) reply.form)
 usage_reply f status.Ok text none (inr (inr reply)) = absurd (none (Simulate reply.base reply.word reply.count reply.steps reply.start) reply.form)
-usage_reply f status.Syntax text none reply = absurd (none (OnJob reply.command) reply.form)
-usage_reply f status.Refused text none reply = absurd (none (OnJob reply.command) reply.form)
-usage_reply f status.LinkRefused text none (inl reply) = absurd (none (OnJob reply.command) reply.form)
+usage_reply f status.Syntax text none reply = absurd (none reply.command reply.form)
+usage_reply f status.Refused text none reply = absurd (none reply.command reply.form)
+usage_reply f status.LinkRefused text none (inl reply) = absurd (none reply.command reply.form)
 usage_reply f status.LinkRefused text none (inr reply) = absurd (none (Simulate reply.base reply.word reply.count reply.steps reply.start) reply.form)
 usage_reply f status.BadWord text none reply = absurd (none (Simulate reply.base reply.word reply.count reply.steps reply.start) reply.form)
+usage_reply f status.PlanRefused text none reply = absurd (none reply.command reply.form)
+usage_reply f status.BundleRefused text none reply = absurd (none reply.command reply.form)
 
 -- a delivered status is the reply's or tells of a failed write
 delivered_status : (told told' : Option (List ℕ)) (faults faults' : ℕ) (s : Status) (text : List ℕ) (result : Status)

@@ -37,3 +37,5 @@ reply_to_simulate f base word count steps start status.InputTooLong text form ke
 reply_to_simulate f base word count steps start status.WriteFault text form kept same told = absurd told
 reply_to_simulate f base word count steps start status.Syntax text form kept same told = absurd told
 reply_to_simulate f base word count steps start status.Refused text form kept same told = absurd told
+reply_to_simulate f base word count steps start status.PlanRefused text form kept same told = absurd told
+reply_to_simulate f base word count steps start status.BundleRefused text form kept same told = absurd told

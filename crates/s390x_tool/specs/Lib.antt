@@ -1,4 +1,6 @@
+pub mod Allocated
 pub mod Answers
+pub mod Bundled
 pub mod Causes
 pub mod Emitted
 pub mod Ends

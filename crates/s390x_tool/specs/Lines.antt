@@ -6,6 +6,8 @@ use Rattle.s390x_image.specs.declared.error.LinkError.{LinkError}
 use Rattle.s390x_image.specs.declared.error.LinkError.TheVariants as link
 use Rattle.s390x_operands.specs.declared.constraint.OperandError.{OperandError}
 use Rattle.s390x_operands.specs.declared.constraint.OperandError.TheVariants as operand
+use Rattle.s390x_tool.specs.declared.input.InputError.{InputError}
+use Rattle.s390x_tool.specs.declared.input.InputError.TheVariants as input
 use Rattle.s390x_tool.specs.declared.status.Status.{Status}
 use Rattle.s390x_tool.specs.declared.status.Status.TheVariants as status
 
@@ -65,3 +67,9 @@ abbrev pub IsOperandRefusal : OperandError → Status → List ℕ → Type 0
 IsOperandRefusal e s text =
     ((e ≢ operand.NoMemory) × (s ≡ status.Refused) × (text ≡ line (codes "refused " ++ operand_error_name e)))
     ⊎ ((e ≡ operand.NoMemory) × (s ≡ status.NoMemory) × (text ≡ line (codes "no memory")))
+
+-- the reply where the input isn't read to its end
+abbrev pub IsUnread : InputError → Status → List ℕ → Type 0
+IsUnread input.Fault s text = (s ≡ status.ReadFault) × (text ≡ line (codes "read fault"))
+IsUnread input.TooLong s text = (s ≡ status.InputTooLong) × (text ≡ line (codes "input too long"))
+IsUnread input.NoMemory s text = (s ≡ status.NoMemory) × (text ≡ line (codes "no memory"))

@@ -4,13 +4,14 @@ use Rattle.std.specs.Io.KnownBytes.{Appends}
 use Rattle.s390x_tool.specs.Causes.{FaultCountRose}
 use Rattle.s390x_tool.specs.Ends.{IsRead, IsTooLong, IsCutShort}
 use Rattle.s390x_commands.specs.Words.{IsForm, IsNoForm}
+use Rattle.s390x_tool.specs.Allocated.{IsAllocateAnswer}
 use Rattle.s390x_tool.specs.Answers.{IsAnswer}
+use Rattle.s390x_tool.specs.Bundled.{IsBundleAnswer}
 use Rattle.s390x_tool.specs.Generated.{IsGeneratedText}
 use Rattle.s390x_tool.specs.Lines.{line}
 use Rattle.s390x_tool.specs.Simulated.{IsSimulateReply}
 use Rattle.s390x_commands.specs.declared.words.Command.{Command}
-use Rattle.s390x_commands.specs.declared.words.Command.TheVariants.{OnJob, Generate, Simulate}
-use Rattle.s390x_commands.specs.declared.words.JobCommand.{JobCommand}
+use Rattle.s390x_commands.specs.declared.words.Command.TheVariants.{OnJob, Generate, Simulate, Allocate, Bundle}
 use Rattle.s390x_tool.specs.declared.status.Status.{Status}
 use Rattle.s390x_tool.specs.declared.status.Status.TheVariants as status
 
@@ -28,24 +29,44 @@ pub record IsUsage (f : Found) : Type 0 where
   pub kept : f.left' ≡ f.left
   pub same : f.faults' ≡ f.faults
 
--- the words are a command about a job, and a read failed
+-- the command is about what the source holds
+abbrev pub IsAboutInput : Command → Type 0
+IsAboutInput (OnJob command) = Unit {0}
+IsAboutInput (Generate count start) = ⊥
+IsAboutInput (Simulate base word count steps start) = ⊥
+IsAboutInput Allocate = Unit {0}
+IsAboutInput (Bundle base) = Unit {0}
+
+-- the answer to a command about what the source holds, and to all of that
+abbrev pub IsInputAnswer : Command → List ℕ → Status → List ℕ → Type 0
+IsInputAnswer (OnJob command) input s text = IsAnswer command input s text
+IsInputAnswer (Generate count start) input s text = ⊥
+IsInputAnswer (Simulate base word count steps start) input s text = ⊥
+IsInputAnswer Allocate input s text = IsAllocateAnswer input s text
+IsInputAnswer (Bundle base) input s text = IsBundleAnswer base input s text
+
+-- the words are a command about the input, and a read failed
 pub record IsReadFault (f : Found) : Type 0 where
-  pub command : JobCommand
-  pub form : IsForm f.words (OnJob command)
+  pub command : Command
+  pub form : IsForm f.words command
+  pub about : IsAboutInput command
   pub rose : FaultCountRose f.faults f.faults'
 
--- the words are a command about a job, and too many bytes came
+-- the words are a command about the input, and too many bytes came
 pub record IsInputTooLong (f : Found) : Type 0 where
-  pub command : JobCommand
-  pub form : IsForm f.words (OnJob command)
+  pub command : Command
+  pub form : IsForm f.words command
+  pub about : IsAboutInput command
   pub long : IsTooLong f.left f.left'
   pub same : f.faults' ≡ f.faults
 
--- nothing is read for a command that is about no job
+-- nothing is read for a command that isn't about the input
 abbrev pub IsUnreadBy : Command → Found → Type 0
 IsUnreadBy (OnJob command) f = Unit {0}
 IsUnreadBy (Generate count start) f = f.left' ≡ f.left
 IsUnreadBy (Simulate base word count steps start) f = f.left' ≡ f.left
+IsUnreadBy Allocate f = Unit {0}
+IsUnreadBy (Bundle base) f = Unit {0}
 
 -- the words are a command, and memory didn't suffice
 pub record IsOutOfMemory (f : Found) : Type 0 where
@@ -54,14 +75,14 @@ pub record IsOutOfMemory (f : Found) : Type 0 where
   pub kept : IsUnreadBy command f
   pub same : f.faults' ≡ f.faults
 
--- the words are a command about a job, the source was read to its end, and this is the answer to what it held
+-- the words are a command about the input, the source was read to its end, and this is the answer to what it held
 pub record IsAnswered (f : Found) (s : Status) (text : List ℕ) : Type 0 where
-  pub command : JobCommand
-  pub form : IsForm f.words (OnJob command)
+  pub command : Command
+  pub form : IsForm f.words command
   pub input : List ℕ
   pub read : IsRead f.left f.left' input
   pub same : f.faults' ≡ f.faults
-  pub answer : IsAnswer command input s text
+  pub answer : IsInputAnswer command input s text
 
 -- the words ask for a generated function, nothing was read, and this is what is told of it
 pub record IsGeneratedReply (f : Found) (text : List ℕ) : Type 0 where

@@ -15,3 +15,5 @@ number_of_status status.WriteFault = 7
 number_of_status status.InputTooLong = 8
 number_of_status status.NoMemory = 9
 number_of_status status.BadWord = 10
+number_of_status status.PlanRefused = 11
+number_of_status status.BundleRefused = 12

@@ -1,12 +1,15 @@
 //! The top call of the s390x machine layer: its sources and sinks, its words, and `run`.
 #![tactic(auto)]
 
+pub mod allocated;
 pub mod answer;
+pub mod bundled;
 pub mod emitted;
 pub mod ends;
 pub mod generate;
 pub mod in_memory;
 pub mod input;
+pub mod law;
 pub mod output;
 pub mod reply;
 pub mod simulate;

@@ -4,9 +4,10 @@ ghost use Rattle.std.specs.Cow.{cow_str_bytes};
 ghost use Rattle.std.specs.Fmt.{decimal};
 ghost use Rattle.hex.specs.Hex.{encode_lower};
 ghost use Rattle.s390x_tool.specs.Emitted.{emit_text};
-ghost use Rattle.s390x_tool.specs.Lines.{line, error_name, link_error_name, operand_error_name, IsLinkRefusal, IsMade, IsOperandRefusal, IsRefusal};
+ghost use Rattle.s390x_tool.specs.Lines.{line, error_name, link_error_name, operand_error_name, IsLinkRefusal, IsMade, IsOperandRefusal, IsRefusal, IsUnread};
 
 use crate::emitted::emitted_text;
+use crate::input::InputError;
 use crate::status::Status;
 use s390x_base::{EmitError, NoMemory};
 use s390x_buffer::MachBufferFinalized;
@@ -41,6 +42,17 @@ pub fn no_memory() -> Reply
     fixed(Status::NoMemory, "no memory\n")
 }
 
+/// The reply where the input isn't read to its end.
+pub fn unread(error: InputError) -> Reply
+    ensures { IsUnread error result.status (cow_str_bytes result.text) }
+{
+    match error {
+        InputError::Fault => fixed(Status::ReadFault, "read fault\n"),
+        InputError::TooLong => fixed(Status::InputTooLong, "input too long\n"),
+        InputError::NoMemory => no_memory(),
+    }
+}
+
 /// A reply with a text that was made, or that memory doesn't suffice for.
 pub fn made(status: Status, text: Result<String, AllocError>) -> Reply
     ensures ok { IfOk text (λ t. (result.status ≡ status) × (cow_str_bytes result.text ≡ string_bytes t)) }
@@ -55,7 +67,7 @@ pub fn made(status: Status, text: Result<String, AllocError>) -> Reply
     }
 }
 
-/// The reply to an input that is no text of a job: the number of its first line that is at fault.
+/// The reply to an input that is no text of what the command reads: the number of its first line that is at fault.
 pub fn syntax(alloc: Global, number: u32) -> Reply
     ensures { IsMade Status.Syntax (line (codes "syntax " ++ decimal number)) result.status (cow_str_bytes result.text) }
 {

@@ -9,7 +9,7 @@ pub enum Status {
     Ok = 0,
     /// The words are no command.
     Usage = 2,
-    /// The input is no text of a job.
+    /// The input is no text of a job, or of functions.
     Syntax = 3,
     /// Emission refuses the job.
     Refused = 4,
@@ -25,6 +25,10 @@ pub enum Status {
     NoMemory = 9,
     /// The word to which processors add doesn't stand at a multiple of 4, or lies in their code.
     BadWord = 10,
+    /// The plan doesn't give the job registers.
+    PlanRefused = 11,
+    /// Several functions don't stand in one image: by their names, or by the emission, the place or the linking of one of them.
+    BundleRefused = 12,
 }
 
 impl Status {

@@ -1,21 +1,25 @@
 //! The top call.
 ghost use Rattle.std.specs.Prelude.{◌≡◌, ◌<◌, ◌⊎◌, ℕ, List, Some, None};
-ghost use Rattle.s390x_commands.specs.declared.words.Command.TheVariants.{Generate, OnJob, Simulate};
+ghost use Rattle.s390x_commands.specs.declared.words.Command.TheVariants.{Allocate, Bundle, Generate, OnJob, Simulate};
 ghost use Rattle.s390x_commands.specs.declared.words.JobCommand.{JobCommand};
 ghost use Rattle.std.specs.Cow.{cow_str_bytes};
 ghost use Rattle.s390x_smp.specs.Image.{start_cause};
+ghost use Rattle.s390x_tool.specs.Allocated.{IsPlanAccepted};
 ghost use Rattle.s390x_tool.specs.Answers.{IsAccepted};
+ghost use Rattle.s390x_tool.specs.Bundled.{IsBundleAccepted};
 ghost use Rattle.s390x_tool.specs.Causes.{FaultCountRose};
 ghost use Rattle.s390x_tool.specs.Ends.{IsTooLong};
 ghost use Rattle.s390x_tool.specs.Replies.{IsDelivered, IsDone, IsEnded, IsReply};
 ghost use Rattle.s390x_commands.specs.Words.{IsForm, IsNoForm, texts};
 
+use crate::allocated::allocated;
 use crate::answer::answer;
+use crate::bundled::bundled;
 use crate::ends::{Failed, Sink, Source};
 use crate::generate::generate;
-use crate::input::{InputError, read_input};
+use crate::input::read_input;
 use crate::output::write_text;
-use crate::reply::{Reply, fixed, no_memory};
+use crate::reply::{Reply, fixed, unread};
 use crate::simulate::simulate;
 use crate::status::Status;
 use s390x_commands::{Command, read_words};
@@ -32,8 +36,9 @@ pub fn run<S: Source, K: Sink>(
     // The words and the input have this reply, and its text was written whole, or else a prefix of it.
     ensures ended { IsEnded (record { words = texts words.now; left = S.left source.old; left' = S.left source.new; faults = S.faults source.old; faults' = S.faults source.new })
         (K.told sink.old) (K.told sink.new) (K.faults sink.old) (K.faults sink.new) result }
-    // At `Ok` the source held the text of one job, and the sink was told the command's text for it; or, with nothing read, that for a generated function
-    // or a simulation.
+    // At `Ok` the source held the text of one job, and the sink was told the command's text for it; or it held the text of functions, and the sink was told
+    // their image, which does only what they and their calls of each other allow; or it held a job and a plan, and the sink was told the job with the function
+    // that the plan gives; or, with nothing read, that for a generated function or a simulation.
     ensures ok { result ≡ Status.Ok → IsDone (record { words = texts words.now; left = S.left source.old; left' = S.left source.new; faults = S.faults source.old; faults' = S.faults source.new })
         (K.told sink.old) (K.told sink.new) }
     // A generated function is done, where no write fails.
@@ -44,6 +49,14 @@ pub fn run<S: Source, K: Sink>(
         → (FaultCountRose (K.faults sink.old) (K.faults sink.new) → ⊥) → (result ≡ Status.Ok) ⊎ (result ≡ Status.NoMemory) }
     // A job that neither emission nor linking has a cause to refuse is done, where no read and no write fails.
     ensures complete { (command : JobCommand) (input : List ℕ) → IsForm (texts words.now) (OnJob command) → S.left source.old ≡ Some input → IsAccepted command input
+        → (FaultCountRose (S.faults source.old) (S.faults source.new) → ⊥) → (FaultCountRose (K.faults sink.old) (K.faults sink.new) → ⊥)
+        → (result ≡ Status.Ok) ⊎ (result ≡ Status.NoMemory) }
+    // A plan without a fault is done, where no read and no write fails.
+    ensures allocates { (input : List ℕ) → IsForm (texts words.now) Allocate → S.left source.old ≡ Some input → IsPlanAccepted input
+        → (FaultCountRose (S.faults source.old) (S.faults source.new) → ⊥) → (FaultCountRose (K.faults sink.old) (K.faults sink.new) → ⊥)
+        → (result ≡ Status.Ok) ⊎ (result ≡ Status.NoMemory) }
+    // Functions that nothing keeps from standing in one image are done, where no read and no write fails.
+    ensures bundles { (base : ℕ) (input : List ℕ) → IsForm (texts words.now) (Bundle base) → S.left source.old ≡ Some input → IsBundleAccepted base input
         → (FaultCountRose (S.faults source.old) (S.faults source.new) → ⊥) → (FaultCountRose (K.faults sink.old) (K.faults sink.new) → ⊥)
         → (result ≡ Status.Ok) ⊎ (result ≡ Status.NoMemory) }
     ensures usage { result ≡ Status.Usage → IsNoForm (texts words.now) }
@@ -69,9 +82,7 @@ fn reply_to<S: Source>(alloc: Global, words: &[String], source: &mut S) -> Reply
     match command {
         Command::OnJob(command) => match read_input(alloc, source) {
             Ok(input) => answer(alloc, command, &input),
-            Err(InputError::Fault) => fixed(Status::ReadFault, "read fault\n"),
-            Err(InputError::TooLong) => fixed(Status::InputTooLong, "input too long\n"),
-            Err(InputError::NoMemory) => no_memory(),
+            Err(error) => unread(error),
         },
         Command::Generate { count, start } => generate(alloc, count, start),
         Command::Simulate {
@@ -81,6 +92,14 @@ fn reply_to<S: Source>(alloc: Global, words: &[String], source: &mut S) -> Reply
             steps,
             start,
         } => simulate(alloc, base, word, count, steps, start),
+        Command::Allocate => match read_input(alloc, source) {
+            Ok(input) => allocated(alloc, &input),
+            Err(error) => unread(error),
+        },
+        Command::Bundle { base } => match read_input(alloc, source) {
+            Ok(input) => bundled(alloc, base, &input),
+            Err(error) => unread(error),
+        },
     }
 }
 

@@ -1,4 +1,4 @@
-use Rattle.std.proofs.Common.{ap, ◌∙◌}
+use Rattle.std.proofs.Common.{◌∙◌}
 use Rattle.s390x_tool.proofs.Answering.{reply_of_image, reply_of_link_cause}
 use Rattle.s390x_tool.proofs.answer.linked.Goals as goal
 

@@ -1,4 +1,3 @@
-use Rattle.s390x_tool.proofs.Answering.{show_reply_of_cause}
 use Rattle.s390x_tool.proofs.Showing.{all_told}
 use Rattle.s390x_tool.proofs.answer.show.Goals as goal
 

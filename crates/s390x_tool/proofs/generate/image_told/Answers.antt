@@ -1,4 +1,3 @@
-use Rattle.s390x_image.specs.Symbols.{no_symbols}
 use Rattle.s390x_emit_int.specs.FunctionImage.{HasNoImage, IsImageOf}
 use Rattle.s390x_emit_int.specs.declared.image.ImageError.TheVariants.{Refused, Link}
 use Rattle.s390x_tool.specs.Generated.{generated_base}

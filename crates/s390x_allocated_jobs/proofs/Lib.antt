@@ -1,0 +1,4 @@
+pub mod Fields
+pub mod PortionLines
+pub mod TreeLines
+pub mod AnsweredJobs

@@ -1,0 +1,15 @@
+-- A job with another function, and that a plan's answer makes one.
+use Rattle.s390x_inst.specs.declared.function.AllocatedFunction.{AllocatedFunction}
+use Rattle.s390x_job.specs.Jobs.{IsJob}
+use Rattle.s390x_job.specs.declared.job.Job.{Job}
+use Rattle.s390x_alloc.specs.Answered.{IsAnswered}
+use Rattle.s390x_plan_text.specs.Text.{IsPlanned}
+use Rattle.s390x_plan_text.specs.declared.planned_job.PlannedJob.{PlannedJob}
+
+-- the job, with this function in place of its own
+abbrev pub with_function : Job → AllocatedFunction → Job
+with_function j function = record { function = function; info = j.info; conv = j.conv; state = j.state; symbols = j.symbols; registers = j.registers; memory = j.memory }
+
+-- the function that a plan gives makes the job one that keeps the order and the limits of jobs
+abbrev pub AnsweredIsJob : Type 0
+AnsweredIsJob = (p : PlannedJob) (function : AllocatedFunction) → IsPlanned p → IsAnswered p.job.state.layout p.job.function p.plan function → IsJob (with_function p.job function)

@@ -1,0 +1,95 @@
+//! The planned job of a text.
+ghost use Rattle.std.specs.Prelude.{◌≡◌, ◌<◌, Decides, IfOk, MatchResult, length, map};
+ghost use Rattle.s390x_bundle_text.specs.Errors.{HasNoJob};
+ghost use Rattle.s390x_job.specs.Completions.{joined, pieces};
+ghost use Rattle.s390x_job.specs.Jobs.{IsJob, text_of_job};
+ghost use Rattle.s390x_plan_text.specs.Errors.{IsFound, IsPlanFound};
+
+use crate::complete::join;
+use crate::draft::{Draft, follow};
+use crate::line::read_line;
+use crate::planned_job::PlannedJob;
+use s390x_alloc::Plan;
+use s390x_bundle_text::cut::{count_lines, job_size, split_lines};
+use s390x_job::{Job, LineError, read_lines};
+use std::alloc::{AllocError, Global};
+
+/// What the lines behind a job are: a plan, or a number of them that no plan goes past.
+#[derive(Drop)]
+pub enum PlanFound {
+    Whole(Plan),
+    Stuck(usize),
+}
+
+/// What a reader found: the planned job, or a number of lines where the text is no planned job's: no more of them can be completed to one.
+#[derive(Drop)]
+pub enum Found {
+    Whole(PlannedJob),
+    Stuck(usize),
+}
+
+// The job whose text this is; else the number of its first wrong line.
+fn read_job(alloc: Global, part: &[u8]) -> Result<Result<Job, u32>, AllocError>
+    requires { length part.now < 4294967295 }
+    ensures { IfOk result (λ r. MatchResult r (λ j. IsJob j × (text_of_job j ≡ part.now)) (HasNoJob part.now)) }
+{
+    match read_lines(alloc, part) {
+        Ok(job) => Ok(Ok(job)),
+        Err(LineError::Syntax { line }) => Ok(Err(line)),
+        Err(LineError::NoMemory) => Err(AllocError),
+    }
+}
+
+/// The plan whose lines these are. Where there is none, a number of them: no plan begins with more.
+pub fn find_plan(alloc: Global, words: &[&[u8]]) -> Result<PlanFound, AllocError>
+    ensures { IfOk result (IsPlanFound (map (λ w. w.now) words.now)) }
+{
+    let mut draft = Draft::Start;
+    let mut text = String::new(alloc);
+    for (n, word) in words.iter().enumerate() {
+        let Some(line) = read_line(alloc, &mut text, word)? else {
+            return Ok(PlanFound::Stuck(n));
+        };
+        match follow(alloc, draft, line)? {
+            None => return Ok(PlanFound::Stuck(n)),
+            Some(more) => draft = more,
+        }
+    }
+    match draft {
+        Draft::Done(blocks) => Ok(PlanFound::Whole(Plan { blocks })),
+        _ => Ok(PlanFound::Stuck(words.len())),
+    }
+}
+
+// Whether the text ends with its last line.
+fn is_all(alloc: Global, words: &[&[u8]], bytes: &[u8]) -> Result<bool, AllocError>
+    ensures { IfOk result (λ b. Decides b (joined (map (λ w. w.now) words.now) ≡ bytes.now)) }
+{
+    let text = join(alloc, words)?;
+    Ok(text.as_slice() == bytes)
+}
+
+/// The planned job whose text this is. Where there is none, a number of its lines: no more of them can be completed to the text of a planned job.
+pub fn find_planned(alloc: Global, bytes: &[u8]) -> Result<Found, AllocError>
+    requires { length bytes.now < 4294967295 }
+    ensures { IfOk result (IsFound bytes.now) }
+{
+    let size = job_size(bytes);
+    let job = match read_job(alloc, &bytes[..size])? {
+        Ok(job) => job,
+        Err(line) => return Ok(Found::Stuck(line as usize - 1)),
+    };
+    let before = count_lines(&bytes[..size]);
+    let rest = &bytes[size..];
+    let words = split_lines(alloc, rest)?;
+    match find_plan(alloc, &words)? {
+        PlanFound::Stuck(n) => Ok(Found::Stuck(before + n)),
+        PlanFound::Whole(plan) => {
+            if is_all(alloc, &words, rest)? {
+                Ok(Found::Whole(PlannedJob { job, plan }))
+            } else {
+                Ok(Found::Stuck(before + words.len()))
+            }
+        }
+    }
+}

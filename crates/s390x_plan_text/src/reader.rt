@@ -1,0 +1,74 @@
+//! The exact reader of a planned job's text.
+ghost use Rattle.std.specs.Prelude.{◌≡◌, ℕ, ◌<◌, ◌≤◌, IfErr, IfOk, Decides, MatchResult, length, map, take};
+ghost use Rattle.s390x_job.specs.Completions.{joined};
+ghost use Rattle.s390x_plan_text.specs.Completions.{IsFirstWrongOfPlanned, IsPlannedText, plan_completion};
+ghost use Rattle.s390x_plan_text.specs.Errors.{HasNoPlan};
+ghost use Rattle.s390x_plan_text.specs.Text.{IsPlannedOf};
+
+use crate::complete::complete;
+use crate::error::PlanTextError;
+use crate::find::{Found, find_planned};
+use crate::planned_job::PlannedJob;
+use s390x_bundle_text::cut::split_lines;
+use std::alloc::{AllocError, Global};
+
+// Whether this is the text of a planned job.
+fn is_text(alloc: Global, bytes: &[u8]) -> Result<bool, AllocError>
+    requires { length bytes.now < 4294967295 }
+    ensures { IfOk result (λ b. Decides b (IsPlannedText bytes.now)) }
+{
+    match find_planned(alloc, bytes)? {
+        Found::Whole(_) => Ok(true),
+        Found::Stuck(_) => Ok(false),
+    }
+}
+
+// The number of the line, where no completion of more than `top` lines is a text.
+fn line_number(alloc: Global, ws: &[&[u8]], top: usize) -> Result<usize, AllocError>
+    requires small { top ≤ length ws.now }
+    requires short { length (joined (map (λ w. w.now) ws.now)) < 268435456 }
+    requires above { (m : ℕ) → top < m → m ≤ length ws.now → IsPlannedText (plan_completion (take m (map (λ w. w.now) ws.now))) → ⊥ }
+    ensures { IfOk result (λ n. IsFirstWrongOfPlanned (map (λ w. w.now) ws.now) n) }
+{
+    let mut k = top;
+    while k > 0 {
+        let text = complete(alloc, &ws[..k])?;
+        if is_text(alloc, &text)? {
+            return Ok(k + 1);
+        }
+        k -= 1;
+    }
+    Ok(1)
+}
+
+fn read_inner(alloc: Global, bytes: &[u8]) -> Result<Result<PlannedJob, PlanTextError>, AllocError>
+    requires { length bytes.now < 268435456 }
+    ensures { IfOk result (λ r. MatchResult r (IsPlannedOf bytes.now) (HasNoPlan bytes.now)) }
+{
+    match find_planned(alloc, bytes)? {
+        Found::Whole(planned) => Ok(Ok(planned)),
+        Found::Stuck(top) => {
+            let ws = split_lines(alloc, bytes)?;
+            let line = line_number(alloc, &ws, top)?;
+            Ok(Err(PlanTextError::Syntax { line: line as u32 }))
+        }
+    }
+}
+
+/// The job and the plan whose text this is: the lines of the job; a line `plan`; for each block a line `block`, a line `entry PLACE=REG` for each pair with
+/// which it begins, and a line `move TO FROM` or `step [R,R]` for each edit, in order; and a line `close`. A place is a real register or a slot `sN`, N below
+/// 65536. The plan may have another number of blocks than the job.
+///
+/// `Syntax` comes exactly where the bytes are the text of no planned job. Its line is 1 plus the greatest k that is 0 or for which the first k lines can be
+/// completed to such a text. Completing adds, where none of the lines is `end`, a line `endloop` for each line that begins with `Loop ` beyond those that are
+/// `endloop`, and a line `end`; then a line `plan`, where none is one; then a line `close`, where none is one. `NoMemory` comes for want of memory alone.
+pub fn read_plan(alloc: Global, bytes: &[u8]) -> Result<PlannedJob, PlanTextError>
+    requires { length bytes.now < 268435456 }
+    ensures planned { IfOk result (IsPlannedOf bytes.now) }
+    ensures error { IfErr result (HasNoPlan bytes.now) }
+{
+    match read_inner(alloc, bytes) {
+        Ok(read) => read,
+        Err(_) => Err(PlanTextError::NoMemory),
+    }
+}

@@ -1,0 +1,7 @@
+//! Tests of the text of planned jobs.
+#![tactic(auto)]
+
+#[cfg(test)]
+mod lines;
+#[cfg(test)]
+mod rows;

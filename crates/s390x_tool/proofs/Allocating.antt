@@ -1,0 +1,69 @@
+-- The reply to words that ask for a job with the registers of a plan.
+use Rattle.std.proofs.Common.{◌≡◌, ℕ, inl, inr, Global, List, String, ◌∙◌}
+use Rattle.std.specs.Prelude.{codes, ◌++◌, ◌≢◌, IfOk, MatchResult, Result, Ok, Err, string_bytes}
+use Rattle.std.specs.Fmt.{decimal}
+use Rattle.s390x_alloc.specs.Answered.{IsAnswered}
+use Rattle.s390x_allocated_jobs.specs.Jobs.{AnsweredIsJob, with_function}
+use Rattle.s390x_alloc.specs.Blocks.{IsFault}
+use Rattle.s390x_alloc.specs.Checked.{checked}
+use Rattle.s390x_alloc.specs.Walks.{EveryWalkReadsAlike}
+use Rattle.s390x_alloc.specs.declared.fault.PlanFault.{PlanFault}
+use Rattle.s390x_alloc.specs.declared.fault.PlanFault.TheVariants as fault
+use Rattle.s390x_base.specs.declared.error.NoMemory.{NoMemory}
+use Rattle.s390x_commands.specs.Words.{IsForm}
+use Rattle.s390x_commands.specs.declared.words.Command.TheVariants.{Allocate}
+use Rattle.s390x_inst.specs.declared.function.AllocatedFunction.{AllocatedFunction}
+use Rattle.s390x_job.specs.Completions.{pieces}
+use Rattle.s390x_job.specs.Jobs.{text_of_job}
+use Rattle.s390x_plan_text.specs.Completions.{IsFirstWrongOfPlanned, IsPlannedText}
+use Rattle.s390x_plan_text.specs.Text.{IsPlannedOf}
+use Rattle.s390x_plan_text.specs.declared.planned_job.PlannedJob.{PlannedJob}
+use Rattle.s390x_tool.specs.Allocated.{IsAllocateAnswer, IsPlanRefusal, fault_line}
+use Rattle.s390x_tool.specs.Ends.{IsRead}
+use Rattle.s390x_tool.specs.Lines.{IsMade, line}
+use Rattle.s390x_tool.specs.Replies.{Found, IsReply}
+use Rattle.s390x_tool.specs.declared.status.Status.{Status}
+use Rattle.s390x_tool.specs.declared.status.Status.TheVariants as status
+
+-- a line that tells a fault is the reply to a plan with it
+pub refusal_told : (f : PlanFault) (s : Status) (text : List ℕ) → f ≢ fault.NoMemory → IsMade status.PlanRefused (fault_line f) s text → IsPlanRefusal f s text
+refusal_told f s text named (inl made) = inl (named, made.0, made.1)
+refusal_told f s text named (inr short) = inr short
+
+-- a syntax error is the answer
+pub answer_of_plan_syntax : (input : List ℕ) (s : Status) (text : List ℕ) (number : ℕ) → (IsPlannedText input → ⊥) → IsFirstWrongOfPlanned (pieces input) number
+    → IsMade status.Syntax (line (codes "syntax " ++ decimal number)) s text → IsAllocateAnswer input s text
+answer_of_plan_syntax input s text number none first (inl made) = rw made.0 (record { none = none; number = number; first = first; spelled = made.1 })
+answer_of_plan_syntax input s text number none first (inr short) = rw short.0 short.1
+
+-- the text of the job with the plan's function is the answer
+pub answer_of_plan : (input : List ℕ) (s : Status) (text : List ℕ) (p : PlannedJob) (function : AllocatedFunction) (printed : Result (String Global) NoMemory) → AnsweredIsJob → IsPlannedOf input p
+    → IsAnswered p.job.state.layout p.job.function p.plan function → EveryWalkReadsAlike p.job.function.blocks.items p.plan.blocks.items
+    → IfOk printed (λ t. string_bytes t ≡ text_of_job (with_function p.job function))
+    → MatchResult printed (λ t. (s ≡ status.Ok) × (text ≡ string_bytes t)) (λ _. (s ≡ status.NoMemory) × (text ≡ line (codes "no memory"))) → IsAllocateAnswer input s text
+answer_of_plan input s text p function (Ok t) law is answered walks printed told =
+    rw told.0 (record { planned = p; is = is; function = function; answered = answered; walks = walks; job = law p function is.is answered; spelled = told.1 ∙ printed })
+answer_of_plan input s text p function (Err e) law is answered walks printed told = rw told.0 told.1
+
+-- the plan's first fault is the answer
+pub answer_of_fault : (input : List ℕ) (s : Status) (text : List ℕ) (p : PlannedJob) (f : PlanFault) → IsPlannedOf input p
+    → IsFault (checked p.job.state.layout p.job.function.blocks.items p.plan.blocks.items) f → IsPlanRefusal f s text → IsAllocateAnswer input s text
+answer_of_fault input s text p f is (inl none) (inl told) = absurd (told.0 none)
+answer_of_fault input s text p f is (inr cause) (inl told) = rw told.1 (record { planned = p; is = is; first = f; named = told.0; cause = cause; spelled = told.2 })
+answer_of_fault input s text p f is cause (inr short) = rw short.0 short.1
+
+-- the program's reply
+pub reply_to_allocate : (f : Found) (input : List ℕ) (s : Status) (text : List ℕ) → IsForm f.words Allocate → IsRead f.left f.left' input → f.faults' ≡ f.faults
+    → IsAllocateAnswer input s text → IsReply f s text
+reply_to_allocate f input status.Ok text form read same answer = inl (record { command = Allocate; form = form; input = input; read = read; same = same; answer = answer })
+reply_to_allocate f input status.PlanRefused text form read same answer = record { command = Allocate; form = form; input = input; read = read; same = same; answer = answer }
+reply_to_allocate f input status.Syntax text form read same answer = record { command = Allocate; form = form; input = input; read = read; same = same; answer = answer }
+reply_to_allocate f input status.NoMemory text form read same answer = (record { command = Allocate; form = form; kept = tt; same = same }, answer)
+reply_to_allocate f input status.Usage text form read same answer = absurd answer
+reply_to_allocate f input status.Refused text form read same answer = absurd answer
+reply_to_allocate f input status.LinkRefused text form read same answer = absurd answer
+reply_to_allocate f input status.ReadFault text form read same answer = absurd answer
+reply_to_allocate f input status.WriteFault text form read same answer = absurd answer
+reply_to_allocate f input status.InputTooLong text form read same answer = absurd answer
+reply_to_allocate f input status.BadWord text form read same answer = absurd answer
+reply_to_allocate f input status.BundleRefused text form read same answer = absurd answer

@@ -1,0 +1,125 @@
+//! The reply to the command `alloc`.
+ghost use Rattle.std.specs.Prelude.{◌≡◌, ◌<◌, ◌++◌, ◌∷◌, [], codes, length};
+ghost use Rattle.std.specs.Cow.{cow_str_bytes};
+ghost use Rattle.s390x_plan_text.specs.Text.{IsPlannedOf};
+ghost use Rattle.s390x_tool.specs.Allocated.{IsAllocateAnswer, IsPlanRefusal, numbered_fault};
+ghost use Rattle.s390x_tool.specs.Lines.{IsMade, line, operand_error_name};
+
+use crate::reply::{Reply, fixed, made, no_memory, syntax, with_text};
+use crate::status::Status;
+use s390x_alloc::{PlanFault, check_plan};
+use s390x_allocated_jobs::law::answered_jobs_are_jobs;
+use s390x_inst::MachInstEmitState;
+use s390x_job::lines_of_job;
+use s390x_operands::OperandError;
+use s390x_plan_text::{PlanTextError, PlannedJob, read_plan};
+use std::alloc::Global;
+
+/// The text of the job that the input is, with the registers of the plan that stands behind it.
+pub fn allocated(alloc: Global, input: &[u8]) -> Reply
+    requires { length input.now < 268435456 }
+    ensures { IsAllocateAnswer input.now result.status (cow_str_bytes result.text) }
+{
+    match read_plan(alloc, input) {
+        Ok(planned) => job_with_plan(alloc, input, planned),
+        Err(PlanTextError::Syntax { line }) => syntax(alloc, line),
+        Err(PlanTextError::NoMemory) => no_memory(),
+    }
+}
+
+// The text of this planned job, which is that of the input, with the plan's registers.
+fn job_with_plan(alloc: Global, input: &[u8], planned: PlannedJob) -> Reply
+    requires { IsPlannedOf input.now planned }
+    ensures { IsAllocateAnswer input.now result.status (cow_str_bytes result.text) }
+{
+    let mut job = planned.job;
+    match check_plan(
+        alloc,
+        &job.function,
+        job.state.frame_layout(),
+        &planned.plan,
+    ) {
+        Ok(function) => {
+            answered_jobs_are_jobs();
+            job.function = function;
+            with_text(lines_of_job(alloc, &job))
+        }
+        Err(fault) => plan_refused(alloc, fault),
+    }
+}
+
+// The reply to a plan with this fault.
+fn plan_refused(alloc: Global, fault: PlanFault) -> Reply
+    ensures { IsPlanRefusal fault result.status (cow_str_bytes result.text) }
+{
+    match fault {
+        PlanFault::Blocks => fixed(Status::PlanRefused, "plan Blocks\n"),
+        PlanFault::Unsupported { block, inst } => told_place(alloc, "Unsupported", block, inst),
+        PlanFault::Shape { block, inst } => told_place(alloc, "Shape", block, inst),
+        PlanFault::Order { block, edit } => told_place(alloc, "Order", block, edit),
+        PlanFault::Operands { block, edit, cause } => {
+            told_cause(alloc, "Operands", block, edit, cause_name(cause))
+        }
+        PlanFault::Count { block, edit } => told_place(alloc, "Count", block, edit),
+        PlanFault::Constraint {
+            block,
+            edit,
+            operand,
+        } => told_operand(alloc, "Constraint", block, edit, operand),
+        PlanFault::Move { block, edit } => told_place(alloc, "Move", block, edit),
+        PlanFault::Value {
+            block,
+            edit,
+            operand,
+        } => told_operand(alloc, "Value", block, edit, operand),
+        PlanFault::Entry { block, pair } => told_place(alloc, "Entry", block, pair),
+        PlanFault::NoMemory => no_memory(),
+    }
+}
+
+// The reply with a fault of a block's instruction, edit or pair.
+fn told_place(alloc: Global, name: &'static str, block: u32, place: u32) -> Reply
+    ensures { IsMade Status.PlanRefused (line (codes "plan " ++ numbered_fault name.entry.now (block ∷ place ∷ []))) result.status (cow_str_bytes result.text) }
+{
+    made(
+        Status::PlanRefused,
+        format!(in alloc; "plan {name} {block} {place}\n"),
+    )
+}
+
+// The reply with a fault of an edit's operand.
+fn told_operand(alloc: Global, name: &'static str, block: u32, edit: u32, operand: u32) -> Reply
+    ensures { IsMade Status.PlanRefused (line (codes "plan " ++ numbered_fault name.entry.now (block ∷ edit ∷ operand ∷ []))) result.status (cow_str_bytes result.text) }
+{
+    made(
+        Status::PlanRefused,
+        format!(in alloc; "plan {name} {block} {edit} {operand}\n"),
+    )
+}
+
+// The reply with a fault of an edit, and what refuses it.
+fn told_cause(
+    alloc: Global,
+    name: &'static str,
+    block: u32,
+    edit: u32,
+    cause: &'static str,
+) -> Reply
+    ensures { IsMade Status.PlanRefused (line (codes "plan " ++ (numbered_fault name.entry.now (block ∷ edit ∷ []) ++ (32 ∷ cause.entry.now)))) result.status (cow_str_bytes result.text) }
+{
+    made(
+        Status::PlanRefused,
+        format!(in alloc; "plan {name} {block} {edit} {cause}\n"),
+    )
+}
+
+// The name of a refusal of operands.
+fn cause_name(cause: OperandError) -> &'static str
+    ensures { result.now ≡ operand_error_name cause }
+{
+    match cause {
+        OperandError::ReuseInLoop => "ReuseInLoop",
+        OperandError::NotReal => "NotReal",
+        OperandError::NoMemory => "NoMemory",
+    }
+}
