@@ -1,5 +1,5 @@
 #!/usr/bin/env python3
-"""Fails or shortens reads and writes, and refuses each growth of the heap in turn, while the proved program works on the jobs of examples/.
+"""Fails or shortens reads and writes, and refuses each growth of the heap in turn, while the proved program works on what examples/ holds.
 
     checks/faults.py            prints what was tried of each command, and how often
 
@@ -117,6 +117,9 @@ def commands():
             job = file.read()
         for words in (["image", "4096"], ["emit"], ["show"], ["operands"], ["run", "4096", "100"]):
             yield os.path.basename(path), words, job
+    for name, words in (("call.functions", ["bundle", "4096"]), ("spill.plan", ["alloc"])):
+        with open(os.path.join(ROOT, "examples", name), "rb") as file:
+            yield name, words, file.read()
     yield "-", ["gen", "20", "1"], b""
     yield "-", ["smp", "4096", "8192", "3", "50", "1"], b""
 
