@@ -71,12 +71,19 @@ pub fn emitted_bytes_are_the_steps()
     ensures finished { (off : ℕ → ℕ) (s : BufferState) → UsesWithin (length s.bytes) s.uses → patch_all off s.uses (unpatched s) ≡ patched_bytes off s ++ constant_bytes (length s.bytes) s.constants }
 {}
 
-/// Where these bytes stand in memory at an even address, and the instruction names no block, the machine's runs from each of its steps are as that step says, whatever stands around.
+/// Where these bytes stand in memory at an even address, the machine's runs from each of the instruction's steps are as that step says, whatever stands around. The instruction names no
+/// block and no symbol by its distance, and a function may have it alone.
 pub fn emitted_instructions_run_anywhere()
     ensures { (off : ℕ → ℕ) (flags : IsaFlags) (e : Emission) (s : BufferState) (i : Inst) (image : CodeImage) → IsAppended off flags e s i → StandsAlone off flags e s i image → (k : ℕ) (x : Step) → slice_get (function_steps (alone flags e i)) k ≡ Some x → StepHolds (layout_alone off flags e s i image) k }
 {}
 
-/// The same of a branch to blocks and of a block's address that `emit` appends, in the image of the whole buffer, where all blocks stand at even offsets.
+/// The same of one instruction's linked code at any even address: each of its steps is one that emission lets pass, and its distances lead to the symbols.
+pub fn linked_instructions_run_anywhere()
+    ensures { (environment : LinkEnvironment) (t : Tree) (image : CodeImage) → StandsAsCode environment (t ∷ []) image → (k : ℕ) (x : Step) → slice_get (function_steps (t ∷ [])) k ≡ Some x → StepHolds (function_layout environment (t ∷ []) image) k }
+{}
+
+/// A branch to blocks or to the address in a register, or the load of a block's address, that `emit` appends runs as its typed step in the image of the whole buffer, where all blocks
+/// stand at even offsets.
 pub fn emitted_branches_run_anywhere()
     ensures { (off : ℕ → ℕ) (flags : IsaFlags) (e : Emission) (s : BufferState) (i : Inst) (image : CodeImage) → IsAppended off flags e s i → BranchStands off flags e s i image → StepHolds (layout_behind off s i image) 0 }
 {}
@@ -85,9 +92,4 @@ pub fn emitted_branches_run_anywhere()
 pub fn instructions_stand_behind_others()
     ensures addition { AdditionStands }
     ensures jump { JumpIsAppended }
-{}
-
-/// The same of an instruction's bytes that name no block, whose symbols are linked, or anywhere else.
-pub fn linked_instructions_run_anywhere()
-    ensures { (environment : LinkEnvironment) (t : Tree) (image : CodeImage) → StandsAsCode environment (t ∷ []) image → (k : ℕ) (x : Step) → slice_get (function_steps (t ∷ [])) k ≡ Some x → StepHolds (function_layout environment (t ∷ []) image) k }
 {}

@@ -1,4 +1,4 @@
-//! That emission leaves nothing out: laws on what it lets pass, and on where linked branches lead.
+//! Laws above emission: what it lets pass is built, linked branches lead to their places, and an instruction runs as its typed steps wherever its bytes stand.
 #![tactic(auto)]
 
 pub mod law;
