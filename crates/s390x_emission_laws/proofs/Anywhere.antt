@@ -1,12 +1,12 @@
 -- A branch runs as its typed step wherever its bytes stand.
-use Rattle.std.proofs.Common.{◌≡◌, ◌⊎◌, inl, inr, ℕ, zero, suc, ◌==◌, Bool, true, true≢false, eqb-true, ◌+◌, ◌%◌, ◌^◌, ◌<◌, ◌≤◌, [], ◌∷◌, List, length, Some, false, refl, sym, ap, ◌∙◌, subst, arith, slice_get}
+use Rattle.std.proofs.Common.{◌≡◌, ◌⊎◌, inl, inr, ℕ, zero, suc, ◌==◌, Bool, true, true≢false, eqb-true, ◌+◌, ◌*◌, ◌%◌, ◌^◌, ◌<◌, ◌≤◌, [], ◌∷◌, List, length, Some, false, refl, sym, ap, ◌∙◌, subst, arith, slice_get}
 use Rattle.s390x_base.specs.Regs.{number_of}
 use Rattle.s390x_base.specs.declared.ir.MachLabel.{MachLabel}
-use Rattle.s390x_inst.specs.declared.inst.Inst.TheVariants.{Jump, CondBr, IndirectBr, LabelAddress}
+use Rattle.s390x_inst.specs.declared.inst.Inst.TheVariants.{Jump, CondBr, IndirectBr, JTSequence, LabelAddress}
 use Rattle.s390x_format.specs.Formats.{length_of}
-use Rattle.s390x_typed_steps.specs.MachineInstruction.{bytes_of, ril_c, rr}
-use Rattle.s390x_typed_steps.specs.Parts.{Branch, Relative, ToBlock, ToStep, Row, parts_size, step_parts}
-use Rattle.s390x_typed_steps.specs.Rows.{half_distance}
+use Rattle.s390x_typed_steps.specs.MachineInstruction.{bytes_of, ril_b, ril_c, rr}
+use Rattle.s390x_typed_steps.specs.Parts.{Branch, Relative, ToBlock, ToStep, Row, parts_size, step_parts, table_parts, table_words}
+use Rattle.s390x_typed_steps.specs.Rows.{half_distance, table_distance, word_bytes}
 use Rattle.s390x_typed_steps.specs.Steps.{Step, Plain, Back, Break}
 use Rattle.s390x_operations.specs.State.{wrapping_add64, written}
 use Rattle.s390x_operations.specs.declared.effect.CodeRule.TheVariants.{Kept}
@@ -18,7 +18,7 @@ use Rattle.s390x_machine.specs.Layout.{Layout, block_address, step_address, InSt
 use Rattle.s390x_machine.specs.Machine.{Transition, Run, all_writes}
 use Rattle.s390x_machine.specs.Match.{start}
 use Rattle.s390x_machine.specs.OneStep.{Loses, Runs, StepHolds, StepRuns, stuck}
-use Rattle.s390x_machine.specs.StepKinds.{StepKind, GoesTo, Chooses, GoesByAddress, Leads, Performs, no_code}
+use Rattle.s390x_machine.specs.StepKinds.{StepKind, GoesTo, Chooses, GoesByAddress, GoesByTable, Leads, Performs, no_code}
 use Rattle.s390x_machine.specs.Typed.{At, IsTarget, KindStep, KindWrong, kind_at, kind_of_step}
 use Rattle.s390x_machine.proofs.Addresses.{sum_more}
 use Rattle.s390x_machine.proofs.Branches.{jumps, stores_none, jump_runs, TwoBranches, choose_runs, leads_runs}
@@ -26,9 +26,12 @@ use Rattle.s390x_machine.proofs.Built.{computes_immediate_always, exactly, uncod
 use Rattle.s390x_machine.proofs.Fetching.{StandsAt}
 use Rattle.s390x_machine.proofs.Induction.{one_step}
 use Rattle.s390x_machine.proofs.RegisterNumbers.{small_mask}
-use Rattle.s390x_machine.proofs.Rows.{bcr_at, brcl_at, larl_at, general_number, nonzero_number}
+use Rattle.s390x_machine.proofs.Rows.{bcr_at, brcl_at, larl_at, general_number, nonzero_number, unscratched_number}
 use Rattle.s390x_machine.proofs.Simulation.{RowAt, at_start, general_step}
 use Rattle.s390x_machine.proofs.Standing.{PartsStand, step_stands, step_within, inside_at, inside_first, next_place}
+use Rattle.s390x_machine.proofs.Tables.{Leads as WordLeads, TableRows, adds_word, agf_at, listed_block, words_stand}
+use Rattle.s390x_machine.proofs.Trapping.{within_image}
+use Rattle.s390x_emission_laws.proofs.Tables.{table_runs}
 use Rattle.s390x_emission_laws.specs.Anywhere.{IsPlace, IsPlainBranch, StandsAnywhere}
 
 -- the image by itself, of which no steps are known
@@ -169,10 +172,80 @@ module _ {L : Layout} {k : ℕ} {s : Step} (x : StandsAnywhere L k s) where
           subst (λ f. KindStep L f k (written (all_writes h) c) (At (L.first_step b)) (written (all_writes h) c)) (sym (kind x _ is)) (b, t, refl, refl))
       go (inr none) = λ trace run. stuck (subst (λ f. KindWrong L f c) (sym (kind x _ is)) none) (subst Loses (sym (kind x _ is)) tt)
 
+-- ---- a jump by a table
+
+module _ {L : Layout} {k : ℕ} {s : Step} (x : StandsAnywhere L k s) (index mask other : ℕ) (targets : List MachLabel) (is : kind_of_step L (Some s) ≡ Some (GoesByTable index mask other targets)) (parts : step_parts s ≡ table_parts index mask other targets) (li : index < 16) (nonzero : index ≡ 0 → ⊥)
+    (not_scratch : index ≡ 1 → ⊥) (lm : mask < 16) (known : IsBlock L other) (are : AreBlocks L targets) where
+  abbrev o : ℕ
+  o = L.offsets.step k
+
+  abbrev base : ℕ
+  base = L.image.base
+
+  stands : PartsStand L o (table_parts index mask other targets)
+  stands = subst (PartsStand L o) parts (step_stands L k s x.code)
+
+  size : L.offsets.step (suc k) ≡ o + (20 + parts_size (table_words 0 targets))
+  unfolding length_of
+  size = x.code.size ∙ ap (λ ps. o + parts_size ps) parts ∙ omega arith
+
+  bound : L.offsets.step (suc k) ≤ length L.image.bytes
+  bound = step_within L k s x.code
+
+  -- the places of its rows
+  second : wrapping_add64 base (o + 6) ≡ wrapping_add64 (step_address L k) 6
+  second = sym (sum_more base o 6)
+
+  third : wrapping_add64 base (o + 6 + 6) ≡ wrapping_add64 (wrapping_add64 (step_address L k) 6) 6
+  third = sym (sum_more base (o + 6) 6) ∙ ap (λ p. wrapping_add64 p 6) second
+
+  fourth : wrapping_add64 base (o + 6 + 6 + 6) ≡ wrapping_add64 (wrapping_add64 (wrapping_add64 (step_address L k) 6) 6) 6
+  fourth = sym (sum_more base (o + 6 + 6) 6) ∙ ap (λ p. wrapping_add64 p 6) third
+
+  inside : (n p q : ℕ) → n < 20 → p ≡ o + n → wrapping_add64 base p ≡ q → InStep L k q
+  inside n p q lt at e = record { offset = p; above = omega (arith, at); below = omega (arith, at, size); is = sym e }
+
+  word_leads : (j : ℕ) (l : MachLabel) → slice_get targets j ≡ Some l → WordLeads L (o + 20) j l
+  unfolding length_of
+  word_leads j l e =
+      let w = words_stand L (o + 6 + 6 + 6 + 2) 0 targets stands.1.1.1.1 j l e in
+      let z : o + 6 + 6 + 6 + 2 ≡ o + 20 = omega arith in
+      let n : 0 + 4 * j ≡ 4 * j = omega arith in
+      let at_table : StandsAt L.image (o + 20 + 4 * j) (word_bytes (table_distance (o + 20 + 4 * j) (0 + 4 * j) (L.offsets.block l.0))) = subst (λ q. StandsAt L.image (q + 4 * j) (word_bytes (table_distance (q + 4 * j) (0 + 4 * j) (L.offsets.block l.0)))) z w in
+      let word : StandsAt L.image (o + 20 + 4 * j) (word_bytes (table_distance (o + 20 + 4 * j) (4 * j) (L.offsets.block l.0))) = subst (λ b. StandsAt L.image (o + 20 + 4 * j) (word_bytes (table_distance (o + 20 + 4 * j) b (L.offsets.block l.0)))) n at_table in
+      let block : IsBlock L l.0 = listed_block L targets are j l e in
+      record { stands = word; near = omega (arith, within_image L (o + 20 + 4 * j) _ word, x.short); small = (x.blocks l.0 block).0.1; known = block_there x l.0 block }
+
+  rows : TableRows L k index mask other (o + 20) targets
+  unfolding bare length_of
+  rows =
+      let seven : 7 ≡ half_distance (o + 6) (o + 20) = omega arith in
+      record {
+        first = branch_at x o mask (L.offsets.block other) x.place (offset_small x) lm (x.blocks other known).0 stands.0;
+        second = subst (λ p. RowAt L p (λ r. Perform (computes_immediate Kept (on_doublewords Move) 1 1 (wrapping_add64 base (o + 20)) r)) 6) second
+            (larl_at (bare L) (bare_placed x) (o + 6) (omega (arith, x.place)) 1 (o + 20) (omega arith) (omega (arith, size, bound, x.short)) (omega (arith, x.place)) (omega (arith, size, bound, x.short)) (subst (λ h. StandsAt L.image (o + 6) (bytes_of (ril_b 0xc00 1 h))) seven stands.1.0));
+        third = subst (λ p. RowAt L p (λ r. Perform (adds_word index r)) 6) third (agf_at (bare L) (bare_placed x) (o + 6 + 6) (omega (arith, x.place)) index li stands.1.1.0);
+        fourth = subst (λ p. RowAt L p (λ r. BranchAction 15 (r.general 1)) 2) fourth (bcr_at (bare L) (bare_placed x) (o + 6 + 6 + 6) (omega (arith, x.place)) 15 1 (omega arith) (omega arith) (λ e. absurd (omega arith)) stands.1.1.1.0);
+        here = inside 0 o (step_address L k) (omega arith) (omega arith) refl;
+        here_second = inside 6 (o + 6) _ (omega arith) refl second;
+        here_third = inside 12 (o + 6 + 6) _ (omega arith) (omega arith) third;
+        here_fourth = inside 18 (o + 6 + 6 + 6) _ (omega arith) (omega arith) fourth;
+        known = block_there x other known;
+        words = word_leads;
+        nonzero = nonzero;
+        not_scratch = not_scratch;
+      }
+
+  by_table : StepRuns L k
+  by_table c is_loaded = table_runs L x.fits k index mask other (o + 20) targets (kind x _ is) rows c is_loaded
+
 branch_runs : (L : Layout) (k : ℕ) (s : Step) → StandsAnywhere L k s → IsPlainBranch s → StepRuns L k
 branch_runs L k (Plain (Jump dest)) x is = jumps_anywhere x dest.0 refl refl x.code.valid
 branch_runs L k (Plain (CondBr taken not_taken mask)) x is = chooses_anywhere x mask taken.0 not_taken.0 refl refl (small_mask mask x.code.valid.2) x.code.valid.0 x.code.valid.1
 branch_runs L k (Plain (IndirectBr rn targets)) x is = by_address x (number_of rn) targets.items refl refl (general_number rn x.code.valid.0) (nonzero_number rn x.code.valid.0 x.code.valid.1) x.code.valid.2
+branch_runs L k (Plain (JTSequence ridx other mask targets)) x is =
+    let valid = x.code.valid in
+    by_table x (number_of ridx) mask other.0 targets.items refl refl (general_number ridx valid.0) (nonzero_number ridx valid.0 valid.1) (unscratched_number ridx valid.0 valid.2) (small_mask mask valid.5) valid.3 valid.4
 branch_runs L k (Plain (LabelAddress dst label)) x is = names_anywhere x (number_of dst) label.0 refl refl (general_number dst x.code.valid.0) x.code.valid.1
 branch_runs L k (Back mask target) x is = leads_anywhere x mask target refl refl (small_mask mask x.code.valid.0) x.code.valid.1
 branch_runs L k (Break mask target) x is = leads_anywhere x mask target refl refl (small_mask mask x.code.valid.0) x.code.valid.1

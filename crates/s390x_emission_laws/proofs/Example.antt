@@ -1,5 +1,6 @@
 -- The jump stands where its layout says; and so does each step of placed code.
-use Rattle.std.proofs.Common.{◌≡◌, ℕ, zero, suc, ◌≤◌, [], ◌∷◌, Some, refl, subst, arith, slice_get}
+use Rattle.std.proofs.Common.{◌≡◌, ℕ, zero, suc, ◌<◌, ◌≤◌, ◌^◌, List, [], ◌∷◌, length, Some, Vec, Global, refl, subst, arith, slice_get}
+use Rattle.s390x_base.specs.declared.ir.MachLabel.{MachLabel}
 use Rattle.s390x_format.specs.Formats.{layout_of, length_of}
 use Rattle.s390x_format.specs.Layout.{bits, number}
 use Rattle.s390x_format.specs.Reading.{be_bytes}
@@ -13,9 +14,9 @@ use Rattle.s390x_inst.specs.Emission.{Emission}
 use Rattle.s390x_inst.specs.declared.inst.Inst.TheVariants.{Jump}
 use Rattle.s390x_typed_steps.specs.Image.{step_offset}
 use Rattle.s390x_typed_steps.specs.Parts.{step_parts}
-use Rattle.s390x_emission_laws.specs.Alone.{IsAppended, StandsAlone, alone, layout_alone}
+use Rattle.s390x_emission_laws.specs.Alone.{IsAppended, StandAsBound, StandsAlone, alone, emitted, layout_alone}
 use Rattle.s390x_emission_laws.specs.Branches.{BranchStands}
-use Rattle.s390x_emission_laws.specs.Example.{AdditionStands, JumpIsAppended, buffer_with_block, addition, addition_image, base_machine, used_buffer, JumpStands, jump, layout}
+use Rattle.s390x_emission_laws.specs.Example.{AdditionStands, JumpIsAppended, TableIsAppended, buffer_with_block, table_image, table_jump, table_labels, addition, addition_image, base_machine, used_buffer, JumpStands, jump, layout}
 
 code_there : CodeAt layout 0 jump
 unfolding number bits layout_of length_of be_bytes
@@ -122,3 +123,49 @@ module _ (e : Emission) where
 
 pub jump_is_appended : JumpIsAppended
 jump_is_appended e = (jump_appended e, jump_behind e)
+
+-- ---- the jump by a table
+
+-- a vector of these
+vec : {X : Type 0} (items : List X) → length items < 2 ^ 63 → Vec X Global
+vec items small = record { ptr = denote.RawPtr.null_ptr; len = length items; cap = length items; alloc = record { memory = record { seal = tt } }; items = items; ok = (refl, omega arith); small = small }
+
+one_target : Vec MachLabel Global
+one_target = vec (record { 0 = 0 } ∷ []) (omega arith)
+
+module _ (e : Emission) where
+  table_labels_bound : StandAsBound table_labels 1 (emitted base_machine e buffer_with_block (table_jump one_target))
+  unfolding number bits layout_of length_of be_bytes vec one_target
+  table_labels_bound zero above below = absurd (omega (arith, above))
+  table_labels_bound (suc zero) above below = refl
+  table_labels_bound (suc (suc l)) above below = absurd (omega (arith, below))
+
+  table_appended : IsAppended table_labels base_machine e buffer_with_block (table_jump one_target)
+  unfolding length_of vec one_target
+  table_appended = record {
+    valid = refl;
+    labels = table_labels_bound;
+    within = tt;
+  }
+
+  table_behind : BranchStands table_labels base_machine e buffer_with_block (table_jump one_target) table_image
+  unfolding number bits layout_of length_of be_bytes vec one_target
+  table_behind = record {
+    plain = tt;
+    ranges = ((((omega arith, omega arith), tt), tt), tt);
+    later = [];
+    bytes = refl;
+    even = refl;
+    fits = omega arith;
+    short = omega arith;
+    place = refl;
+    blocks = block_place;
+  }
+    where
+      block_place : (b : ℕ) → b < 1 → IsPlace (table_labels b)
+      block_place zero lt = (refl, omega arith)
+      block_place (suc b) lt = absurd (omega (arith, lt))
+
+pub table_is_appended : TableIsAppended
+unfolding vec one_target
+table_is_appended = record { targets = one_target; block = refl; appended = table_appended; stands = table_behind }

@@ -2,6 +2,7 @@ pub mod Told
 pub mod Bytes
 pub mod Built
 pub mod Places
+pub mod Tables
 pub mod Anywhere
 pub mod Example
 pub mod Functions

@@ -43,7 +43,7 @@ leads_by L offset mask target row s at is_loaded event t step = branch_acts mask
 
 -- ---- the words of a table
 
-word_read : (image : CodeImage) (m : Memory) (offset w : ℕ) → w < 2 ^ 32 → image.base + length image.bytes ≤ 2 ^ 64 → IsLoaded image m → StandsAt image offset (word_bytes w) → number_at m.get (wrapping_add64 image.base offset) 4 ≡ w
+pub word_read : (image : CodeImage) (m : Memory) (offset w : ℕ) → w < 2 ^ 32 → image.base + length image.bytes ≤ 2 ^ 64 → IsLoaded image m → StandsAt image offset (word_bytes w) → number_at m.get (wrapping_add64 image.base offset) 4 ≡ w
 word_read image m offset w lt fits is_loaded s =
     let b0 = (byte_at image m offset 0 (word_bytes w) fits is_loaded s (omega arith)).1 in
     let b1 = (byte_at image m offset 1 (word_bytes w) fits is_loaded s (omega arith)).1 in
@@ -66,7 +66,7 @@ extended_high w ge lt =
     ap (λ b. cond b (w % 4294967296) (w % 4294967296 + 18446744069414584320)) (not_below (w % 4294967296) 2147483648 (omega arith)) ∙ ap (λ n. n + 18446744069414584320) e
 
 -- the address of a table plus a word of it is the target's
-reaches : (base table j target : ℕ) → table + j < 2 ^ 31 → target < 2 ^ 31 → wrapping_add64 (wrapping_add64 base table) (extended Signed Bits32 Doubleword (table_distance (table + j) j target)) ≡ wrapping_add64 base target
+pub reaches : (base table j target : ℕ) → table + j < 2 ^ 31 → target < 2 ^ 31 → wrapping_add64 (wrapping_add64 base table) (extended Signed Bits32 Doubleword (table_distance (table + j) j target)) ≡ wrapping_add64 base target
 reaches base table j target lt small =
     elim (Rattle.std.proofs.lemmas.Bool.cases_lt target table) [
       | inl less ↦

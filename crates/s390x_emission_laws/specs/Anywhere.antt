@@ -1,6 +1,6 @@
 -- A branch whose bytes stand in an image anywhere: the steps and blocks around it are places, and nothing else is known of them.
 use Rattle.std.specs.Prelude.{◌≡◌, ℕ, ◌+◌, ◌%◌, ◌^◌, ◌<◌, ◌≤◌, length, Some, slice_get}
-use Rattle.s390x_inst.specs.declared.inst.Inst.TheVariants.{Jump, CondBr, IndirectBr, LabelAddress}
+use Rattle.s390x_inst.specs.declared.inst.Inst.TheVariants.{Jump, CondBr, IndirectBr, JTSequence, LabelAddress}
 use Rattle.s390x_typed_steps.specs.Steps.{Step, Plain, Back, Break}
 use Rattle.s390x_machine.specs.CodeAt.{CodeAt, IsBlock}
 use Rattle.s390x_machine.specs.Layout.{Layout}
@@ -21,11 +21,12 @@ pub record StandsAnywhere (L : Layout) (k : ℕ) (s : Step) : Type 0 where
   pub blocks : (b : ℕ) → IsBlock L b → IsPlace (L.offsets.block b) × (L.offsets.block b ≡ L.offsets.step (L.first_step b))
   pub steps : (j : ℕ) → j ≤ length L.steps → IsPlace (L.offsets.step j)
 
--- a jump, a choice, a branch to the address in a register, the address of a block, and the branches of a loop
+-- a jump, a choice, a branch to the address in a register, a jump by a table, the address of a block, and the branches of a loop
 abbrev pub IsPlainBranch : Step → Type 0
 IsPlainBranch (Plain (Jump dest)) = Unit {0}
 IsPlainBranch (Plain (CondBr taken not_taken mask)) = Unit {0}
 IsPlainBranch (Plain (IndirectBr rn targets)) = Unit {0}
+IsPlainBranch (Plain (JTSequence ridx other mask targets)) = Unit {0}
 IsPlainBranch (Plain (LabelAddress dst label)) = Unit {0}
 IsPlainBranch (Back mask target) = Unit {0}
 IsPlainBranch (Break mask target) = Unit {0}

@@ -29,7 +29,7 @@ layout_behind off s i image = record {
   traps = [];
 }
 
--- The instruction is a branch to blocks or the address of one, and the image has what the buffer's bytes are behind it, and whatever follows. It lies at an even address; the
+-- The instruction is a branch to blocks, also by a table, or the address of one, and the image has what the buffer's bytes are behind it, and whatever follows. It lies at an even address; the
 -- instruction and all blocks stand at places of it
 pub record BranchStands (off : ℕ → ℕ) (flags : IsaFlags) (e : Emission) (s : BufferState) (i : Inst) (image : CodeImage) : Type 0 where
   pub plain : IsPlainBranch (Plain i)

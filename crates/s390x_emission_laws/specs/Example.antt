@@ -1,11 +1,13 @@
--- A jump and an addition, each behind bytes that no typed step has. The jump goes to a block before it.
-use Rattle.std.specs.Prelude.{ℕ, false, [], ◌∷◌, get_or, Some}
+-- A jump, a jump by a table and an addition, each behind bytes that no typed step has. The jumps go to a block before them.
+use Rattle.std.specs.Prelude.{◌≡◌, ℕ, false, [], ◌∷◌, get_or, Some, Vec}
+use Rattle.std.specs.Global.{Global}
+use Rattle.s390x_base.specs.declared.ir.MachLabel.{MachLabel}
 use Rattle.s390x_base.specs.Registers.{general}
 use Rattle.s390x_base.specs.declared.regs.Reg.TheVariants.{Real}
 use Rattle.s390x_buffer.specs.State.{BufferState, fresh_buffer}
 use Rattle.s390x_inst.specs.Emission.{Emission}
 use Rattle.s390x_inst.specs.declared.inst.Inst.{Inst}
-use Rattle.s390x_inst.specs.declared.inst.Inst.TheVariants.{AluRRR, Jump}
+use Rattle.s390x_inst.specs.declared.inst.Inst.TheVariants.{AluRRR, JTSequence, Jump}
 use Rattle.s390x_inst.specs.declared.ops.ALUOp.TheVariants.{Add64}
 use Rattle.s390x_inst.specs.declared.state.IsaFlags.{IsaFlags}
 use Rattle.s390x_typed_steps.specs.Steps.{Step, Plain}
@@ -65,3 +67,26 @@ buffer_with_block = record (fresh_buffer 1 []) { bytes = 0x00 ∷ 0x01 ∷ 0x02 
 -- `emit` appends the jump to the block there in any state of emission, and it stands in the image of the whole buffer
 abbrev pub JumpIsAppended : Type 0
 JumpIsAppended = (e : Emission) → IsAppended (λ l. 0) base_machine e buffer_with_block (Jump (record { 0 = 0 })) × BranchStands (λ l. 0) base_machine e buffer_with_block (Jump (record { 0 = 0 })) layout.image
+
+-- a jump to the block by a table, or at once where the code is 0
+abbrev pub table_jump : Vec MachLabel Global → Inst
+table_jump targets = JTSequence (Real (general 2)) (record { 0 = 0 }) 8 targets
+
+-- the four bytes; brcl to the other block, larl, agf and br, as an assembler gives them; and the word
+abbrev pub table_image : CodeImage
+table_image = record {
+  base = 4096;
+  bytes =
+      0x00 ∷ 0x01 ∷ 0x02 ∷ 0x03 ∷ 0xc0 ∷ 0x84 ∷ 0xff ∷ 0xff ∷ 0xff ∷ 0xfe ∷ 0xc0 ∷ 0x10 ∷ 0x00 ∷ 0x00 ∷ 0x00 ∷ 0x07 ∷ 0xe3 ∷ 0x12 ∷ 0x10 ∷ 0x00 ∷ 0x00 ∷ 0x18 ∷ 0x07 ∷ 0xf1 ∷ 0xff ∷ 0xff ∷ 0xff ∷ 0xe8 ∷ [];
+}
+
+-- the block's label, and that of the table
+abbrev pub table_labels : ℕ → ℕ
+table_labels l = get_or (0 ∷ 24 ∷ []) l 0
+
+-- with the block as the one target, `emit` appends that jump there in any state of emission, and it stands in the image of the whole buffer
+pub record TableIsAppended : Type 0 where
+  pub targets : Vec MachLabel Global
+  pub block : targets.items ≡ record { 0 = 0 } ∷ []
+  pub appended : (e : Emission) → IsAppended table_labels base_machine e buffer_with_block (table_jump targets)
+  pub stands : (e : Emission) → BranchStands table_labels base_machine e buffer_with_block (table_jump targets) table_image

@@ -29,7 +29,7 @@ ghost use Rattle.s390x_emission_laws.specs.Alone.{IsAppended, StandsAlone, alone
 ghost use Rattle.s390x_emission_laws.specs.Anywhere.{IsPlainBranch, StandsAnywhere};
 ghost use Rattle.s390x_emission_laws.specs.Branches.{BranchStands, layout_behind};
 ghost use Rattle.s390x_emission_laws.specs.Built.{IsBuilt};
-ghost use Rattle.s390x_emission_laws.specs.Example.{AdditionStands, JumpIsAppended, JumpStands};
+ghost use Rattle.s390x_emission_laws.specs.Example.{AdditionStands, JumpIsAppended, JumpStands, TableIsAppended};
 ghost use Rattle.s390x_emission_laws.specs.Places.{StepLeads};
 
 /// A step that emission lets pass is built.
@@ -53,7 +53,8 @@ pub fn linked_branches_lead()
     ensures starts { (ts : List Tree) (cs : List Constant) (f : MachBufferFinalized) (environment : LinkEnvironment) (image : CodeImage) → IsFinishedCode ts cs f → (b : ℕ) → b < length ts → slice_get f.block_starts.items b ≡ Some ((function_layout environment ts image).offsets.block b) }
 {}
 
-/// Branches to blocks and steps, branches to the address in a register and addresses of blocks run as their typed steps wherever their bytes stand, without a function around them.
+/// Branches to blocks and steps, branches to the address in a register, jumps by a table and addresses of blocks run as their typed steps wherever their bytes stand,
+/// without a function around them.
 pub fn branches_run_anywhere()
     ensures { (L : Layout) (k : ℕ) (s : Step) → StandsAnywhere L k s → IsPlainBranch s → StepHolds L k }
 {}
@@ -82,14 +83,15 @@ pub fn linked_instructions_run_anywhere()
     ensures { (environment : LinkEnvironment) (t : Tree) (image : CodeImage) → StandsAsCode environment (t ∷ []) image → (k : ℕ) (x : Step) → slice_get (function_steps (t ∷ [])) k ≡ Some x → StepHolds (function_layout environment (t ∷ []) image) k }
 {}
 
-/// A branch to blocks or to the address in a register, or the load of a block's address, that `emit` appends runs as its typed step in the image of the whole buffer, where all blocks
-/// stand at even offsets.
+/// A branch to blocks, by a table or to the address in a register, or the load of a block's address, that `emit` appends runs as its typed step in the image of the whole buffer,
+/// where all blocks stand at even offsets.
 pub fn emitted_branches_run_anywhere()
     ensures { (off : ℕ → ℕ) (flags : IsaFlags) (e : Emission) (s : BufferState) (i : Inst) (image : CodeImage) → IsAppended off flags e s i → BranchStands off flags e s i image → StepHolds (layout_behind off s i image) 0 }
 {}
 
-/// The premises can be met: by an addition behind four bytes of a caller's, and by a jump behind them to a block before it, in any state of emission.
+/// The premises can be met: by an addition behind four bytes of a caller's, and by a jump and a jump by a table behind them to a block before it, in any state of emission.
 pub fn instructions_stand_behind_others()
     ensures addition { AdditionStands }
     ensures jump { JumpIsAppended }
+    ensures table { TableIsAppended }
 {}
