@@ -1,5 +1,5 @@
 -- The bytes that emission appends for an instruction that names no block are those of the instruction by itself.
-use Rattle.std.proofs.Common.{◌≡◌, ℕ, zero, suc, ◌+◌, ◌-◌, ◌*◌, ◌/◌, ◌%◌, ◌<◌, ◌≤◌, ◌≢◌, ◌==◌, [], ◌∷◌, ◌++◌, List, length, Option, Some, None, Bool, true, false, cond, refl, sym, ap, ◌∙◌, subst, arith, append-nil, append_assoc, add_assoc, add-zero, length-append, eqb-true}
+use Rattle.std.proofs.Common.{◌≡◌, ℕ, zero, suc, ◌+◌, ◌-◌, ◌*◌, ◌/◌, ◌%◌, ◌<◌, ◌≤◌, [], ◌∷◌, ◌++◌, List, length, Option, Some, None, refl, sym, ap, ◌∙◌, subst, arith, append-nil, append_assoc, add_assoc, add-zero, length-append}
 use Rattle.std.specs.Int.{w64, to_be_bytes}
 use Rattle.std.specs.Prelude.{ℤ, pos}
 use Rattle.s390x_base.specs.declared.ir.ExternalName.{ExternalName}
@@ -30,6 +30,7 @@ use Rattle.s390x_emit_int.proofs.Names.{tree_names}
 use Rattle.s390x_emit_int.proofs.Patching.{patched_run}
 use Rattle.s390x_emit_int.proofs.Trees.{Begins}
 use Rattle.s390x_emission_laws.specs.Alone.{ConstantsBehind, StandAsBound, outside, patched_bytes, placed_offsets, surroundings}
+use Rattle.s390x_emission_laws.specs.Behind.{places}
 
 -- ---- a step's offset more, or less, changes no label
 
@@ -142,7 +143,7 @@ module _ (P Q : Offsets) (place bound count constants : ℕ) (steps : (j : ℕ) 
 
 -- ---- what is appended
 
-follows_moved : (at to : ℕ → ℕ) (ss : List Step) (k place : ℕ) → ((j : ℕ) → j ≤ k + length ss → to j ≡ place + at j) → StepsFollow at k ss → StepsFollow to k ss
+pub follows_moved : (at to : ℕ → ℕ) (ss : List Step) (k place : ℕ) → ((j : ℕ) → j ≤ k + length ss → to j ≡ place + at j) → StepsFollow at k ss → StepsFollow to k ss
 follows_moved at to [] k place same follow = tt
 follows_moved at to (s ∷ ss) k place same follow =
     (same (k + 1) (omega arith) ∙ ap (λ n. place + n) follow.0 ∙ sym (add_assoc place (at k) (step_size s)) ∙ ap (λ n. n + step_size s) (sym (same k (omega arith))), follows_moved at to ss (k + 1) place (λ j le. same j (omega arith)) follow.1)
@@ -150,28 +151,16 @@ follows_moved at to (s ∷ ss) k place same follow =
 none_more : (n : ℕ) → n ≡ 0 + n
 none_more n = omega arith
 
--- steps from a place on; a number past them stands for another offset
-placed_steps : (place far other : ℕ) → (ℕ → ℕ) → ℕ → ℕ
-placed_steps place far other at j = cond (j == far) other (place + at j)
+-- a step behind others, and a block
+pub place_within : (block : ℕ → ℕ) (offset : ℕ) (ss : List Step) (j : ℕ) → j ≤ length ss → places block offset ss j ≡ offset + step_offset ss j
+place_within block offset [] zero le = sym (add-zero offset)
+place_within block offset [] (suc j) le = absurd (omega (arith, le))
+place_within block offset (s ∷ ss) zero le = sym (add-zero offset)
+place_within block offset (s ∷ ss) (suc j) le = place_within block (offset + step_size s) ss j (omega (arith, le)) ∙ add_assoc offset (step_size s) (step_offset ss j)
 
-before_far : (place far other : ℕ) (at : ℕ → ℕ) (j : ℕ) → j < far → placed_steps place far other at j ≡ place + at j
-unfolding placed_steps
-before_far place far other at j lt = go (j == far) refl
-  where
-    go : (t : Bool) → (j == far) ≡ t → cond t other (place + at j) ≡ place + at j
-    go true e = absurd (omega (arith, eqb-true j far e))
-    go false e = refl
-
-at_far : (place far other : ℕ) (at : ℕ → ℕ) → placed_steps place far other at far ≡ other
-unfolding placed_steps
-at_far place far other at = go (far == far) refl
-  where
-    same_eq : (a b : ℕ) → a ≡ b → (a == b) ≡ true
-    same_eq a b h = grind arith
-
-    go : (t : Bool) → (far == far) ≡ t → cond t other (place + at far) ≡ other
-    go true e = refl
-    go false e = absurd (Rattle.std.proofs.Common.true≢false (sym (same_eq far far refl) ∙ e))
+pub place_of_block : (block : ℕ → ℕ) (offset : ℕ) (ss : List Step) (b : ℕ) → places block offset ss (suc (length ss + b)) ≡ block b
+place_of_block block offset [] b = ap block (sym (none_more b))
+place_of_block block offset (s ∷ ss) b = let e : suc (length ss) + b ≡ suc (length ss + b) = omega arith in ap (places block (offset + step_size s) ss) e ∙ place_of_block block (offset + step_size s) ss b
 
 module _ (flags : IsaFlags) (nominal : ℕ) (t : Tree) (s : BufferState) (off : ℕ → ℕ) (begins : Begins t) (valid : tree_cause flags (declared_in s) (length s.labels) nominal 0 t ≡ None) (within : UsesWithin (length s.bytes) s.uses)
     (tells : StandAsBound off (length s.labels) (apply_all s (own_fragments (length s.labels) 0 t))) where
@@ -190,12 +179,18 @@ module _ (flags : IsaFlags) (nominal : ℕ) (t : Tree) (s : BufferState) (off : 
   abbrev far : ℕ
   far = suc (step_count t)
 
-  -- the offsets, where a number past the steps stands for the first label
+  -- the offsets, where the first number past the steps and what stands behind them is that of the first label
   abbrev P : Offsets
-  P = record { step = placed_steps place far (off 0) at; block = off; environment = outside off s }
+  P = record { step = places off place (function_steps (t ∷ [])); block = off; environment = outside off s }
+
+  counted : length (function_steps (t ∷ [])) ≡ step_count t
+  counted = ap length (append-nil (steps_of 0 0 t)) ∙ steps_length t 0 0
 
   same : (j : ℕ) → j ≤ step_count t → P.step j ≡ place + at j
-  same j le = before_far place far (off 0) at j (omega arith)
+  same j le = place_within off place (function_steps (t ∷ [])) j (omega (arith, le, counted))
+
+  first_label : P.step far ≡ off 0
+  first_label = let e : far ≡ suc (length (function_steps (t ∷ [])) + 0) = omega (arith, counted) in ap P.step e ∙ place_of_block off place (function_steps (t ∷ [])) 0
 
   alike : steps_of 0 far t ≡ steps_of 0 0 t
   alike = steps_alike flags (declared_in s) n nominal t valid 0 far 0
@@ -224,16 +219,17 @@ module _ (flags : IsaFlags) (nominal : ℕ) (t : Tree) (s : BufferState) (off : 
   resolved =
       ap (resolve s.block_count off place) (sym (begins n 0))
       ∙ ap (λ q. resolve s.block_count off q (fragments n 0 t)) (sym begin)
-      ∙ tree_join t off P s.block_count (length (aligns_of s.constants)) n 0 0 far ((λ l lt. refl), (λ c lt. refl), (λ name offset. refl), (λ p name offset. refl)) names (subst (λ q. Bound off n q t) (sym begin) bound) follow (sym (at_far place far (off 0) at))
+      ∙ tree_join t off P s.block_count (length (aligns_of s.constants)) n 0 0 far ((λ l lt. refl), (λ c lt. refl), (λ name offset. refl), (λ p name offset. refl)) names (subst (λ q. Bound off n q t) (sym begin) bound) follow (sym first_label)
 
   there : code P 0 (steps_of 0 0 t) ≡ code (placed_offsets off s (t ∷ [])) 0 (steps_of 0 0 t)
   there = tree_moved P (placed_offsets off s (t ∷ [])) 0 (step_count t) s.block_count (length (aligns_of s.constants)) (λ j le. same j le ∙ none_more (place + at j)) (λ b lt. none_more (off b)) (λ c lt. none_more (off (s.block_count + c))) (λ name offset. refl) (λ q name offset. refl) t 0 0 (omega arith) (omega arith) names
 
   -- at its place
+  pub appended_behind : patched_bytes off (apply_all s ps) ≡ patched_bytes off s ++ code P 0 (function_steps (t ∷ []))
+  appended_behind = patched_run ps s off within wide ∙ ap (λ l. patched_bytes off s ++ l) (resolved ∙ ap (λ ss. code P 0 ss) alike ∙ ap (λ ss. code P 0 ss) (sym (append-nil (steps_of 0 0 t))))
+
   pub appended : patched_bytes off (apply_all s ps) ≡ patched_bytes off s ++ code (placed_offsets off s (t ∷ [])) 0 (function_steps (t ∷ []))
-  appended =
-      patched_run ps s off within wide
-      ∙ ap (λ l. patched_bytes off s ++ l) (resolved ∙ ap (λ ss. code P 0 ss) alike ∙ there ∙ ap (λ ss. code (placed_offsets off s (t ∷ [])) 0 ss) (sym (append-nil (steps_of 0 0 t))))
+  appended = appended_behind ∙ ap (λ l. patched_bytes off s ++ l) (ap (λ ss. code P 0 ss) (append-nil (steps_of 0 0 t)) ∙ there ∙ ap (λ ss. code (placed_offsets off s (t ∷ [])) 0 ss) (sym (append-nil (steps_of 0 0 t))))
 
   -- by itself
   pub own_code : TreeNames 0 (length (aligns_of s.constants)) t → ConstantsBehind off s → code (placed_offsets off s (t ∷ [])) 0 (function_steps (t ∷ [])) ≡ function_code (surroundings off s) (t ∷ [])

@@ -1,22 +1,18 @@
--- The jump stands where its layout says; and so does each step of placed code.
+-- The jump stands where its layout says, and each instruction where `emit` appends it.
 use Rattle.std.proofs.Common.{◌≡◌, ℕ, zero, suc, ◌<◌, ◌≤◌, ◌^◌, List, [], ◌∷◌, length, Some, Vec, Global, refl, subst, arith, slice_get}
 use Rattle.s390x_base.specs.declared.ir.MachLabel.{MachLabel}
 use Rattle.s390x_format.specs.Formats.{layout_of, length_of}
 use Rattle.s390x_format.specs.Layout.{bits, number}
 use Rattle.s390x_format.specs.Reading.{be_bytes}
 use Rattle.s390x_typed_steps.specs.Steps.{Step, Plain, function_steps}
-use Rattle.s390x_machine.specs.CodeAt.{AllCodeAt, CodeAt, PartsReach}
-use Rattle.s390x_machine.specs.Layout.{Layout}
-use Rattle.s390x_machine.proofs.Standing.{block_even, block_small, offset_even, offset_small}
-use Rattle.std.proofs.lemmas.Option.{slice_get_within}
-use Rattle.s390x_emission_laws.specs.Anywhere.{IsPlace, StandsAnywhere}
+use Rattle.s390x_machine.specs.CodeAt.{CodeAt, ImageAt, IsPlace, PartsReach}
 use Rattle.s390x_inst.specs.Emission.{Emission}
 use Rattle.s390x_inst.specs.declared.inst.Inst.TheVariants.{Jump}
 use Rattle.s390x_typed_steps.specs.Image.{step_offset}
 use Rattle.s390x_typed_steps.specs.Parts.{step_parts}
 use Rattle.s390x_emission_laws.specs.Alone.{IsAppended, StandAsBound, StandsAlone, alone, emitted, layout_alone}
-use Rattle.s390x_emission_laws.specs.Branches.{BranchStands}
-use Rattle.s390x_emission_laws.specs.Example.{AdditionStands, JumpIsAppended, TableIsAppended, buffer_with_block, table_image, table_jump, table_labels, addition, addition_image, base_machine, used_buffer, JumpStands, jump, layout}
+use Rattle.s390x_emission_laws.specs.Behind.{StandsBehind, layout_behind, places}
+use Rattle.s390x_emission_laws.specs.Example.{AdditionStands, JumpIsAppended, LoadIsAppended, TableIsAppended, load, load_image, buffer_with_block, table_image, table_jump, table_labels, addition, addition_image, base_machine, used_buffer, JumpStands, jump, layout}
 
 code_there : CodeAt layout 0 jump
 unfolding number bits layout_of length_of be_bytes
@@ -37,29 +33,18 @@ steps_there zero le = (refl, omega arith)
 steps_there (suc zero) le = (refl, omega arith)
 steps_there (suc (suc j)) le = absurd (omega (arith, le))
 
-pub jump_stands : JumpStands
-jump_stands = record {
-  at = refl;
-  code = code_there;
-  place = refl;
+image_there : ImageAt layout
+image_there = record {
   even = refl;
   fits = omega arith;
   short = omega arith;
-  blocks = λ b lt. ((refl, omega arith), refl);
-  steps = steps_there;
+  step_places = steps_there;
+  block_places = λ b lt. (refl, omega arith);
+  blocks = λ b lt. refl;
 }
 
-pub placed_stand : (L : Layout) → AllCodeAt L → (k : ℕ) (s : Step) → slice_get L.steps k ≡ Some s → StandsAnywhere L k s
-placed_stand L all k s at = record {
-  at = at;
-  code = all.steps k s at;
-  place = offset_even L all k (omega (arith, slice_get_within L.steps k s at));
-  even = all.even;
-  fits = all.fits;
-  short = all.short;
-  blocks = λ b known. ((block_even L all b known, block_small L all b known), all.blocks b known);
-  steps = λ j le. (offset_even L all j le, offset_small L all j le);
-}
+pub jump_stands : JumpStands
+jump_stands = record { image = image_there; at = refl; code = code_there; constants = λ c lt names. absurd names }
 
 -- ---- the addition
 
@@ -107,10 +92,9 @@ module _ (e : Emission) where
     within = tt;
   }
 
-  jump_behind : BranchStands (λ l. 0) base_machine e buffer_with_block (Jump (record { 0 = 0 })) layout.image
+  jump_behind : StandsBehind (λ l. 0) base_machine e buffer_with_block (Jump (record { 0 = 0 })) layout.image
   unfolding number bits layout_of length_of be_bytes
   jump_behind = record {
-    plain = tt;
     ranges = (((tt, tt), tt), tt);
     later = [];
     bytes = refl;
@@ -119,10 +103,49 @@ module _ (e : Emission) where
     short = omega arith;
     place = refl;
     blocks = λ b lt. (refl, omega arith);
+    constants = λ k x at c lt names. absurd (omega (arith, lt));
+    reached = jump_reaches;
   }
+    where
+      jump_reaches : (k : ℕ) (x : Step) → slice_get (jump ∷ []) k ≡ Some x → PartsReach (layout_behind (λ l. 0) base_machine e buffer_with_block (Jump (record { 0 = 0 })) layout.image) (places (λ l. 0) 4 (jump ∷ []) k) (step_parts x)
+      jump_reaches zero x at = let same : jump ≡ x = cc in subst (λ y. PartsReach (layout_behind (λ l. 0) base_machine e buffer_with_block (Jump (record { 0 = 0 })) layout.image) 4 (step_parts y)) same (tt, tt)
+      jump_reaches (suc k) x at = absurd (cc)
 
 pub jump_is_appended : JumpIsAppended
 jump_is_appended e = (jump_appended e, jump_behind e)
+
+-- ---- the load, as it is appended
+
+module _ (e : Emission) where
+  load_appended : IsAppended (λ l. 0) base_machine e buffer_with_block load
+  unfolding length_of
+  load_appended = record {
+    valid = refl;
+    labels = λ l above below. absurd (omega (arith, above, below));
+    within = tt;
+  }
+
+  load_behind : StandsBehind (λ l. 0) base_machine e buffer_with_block load load_image
+  unfolding number bits layout_of length_of be_bytes
+  load_behind = record {
+    ranges = (((tt, tt), tt), tt);
+    later = [];
+    bytes = refl;
+    even = refl;
+    fits = omega arith;
+    short = omega arith;
+    place = refl;
+    blocks = λ b lt. (refl, omega arith);
+    constants = λ k x at c lt names. absurd (omega (arith, lt));
+    reached = load_reaches;
+  }
+    where
+      load_reaches : (k : ℕ) (x : Step) → slice_get (Plain load ∷ []) k ≡ Some x → PartsReach (layout_behind (λ l. 0) base_machine e buffer_with_block load load_image) (places (λ l. 0) 4 (Plain load ∷ []) k) (step_parts x)
+      load_reaches zero x at = let same : Plain load ≡ x = cc in subst (λ y. PartsReach (layout_behind (λ l. 0) base_machine e buffer_with_block load load_image) 4 (step_parts y)) same (tt, tt)
+      load_reaches (suc k) x at = absurd (cc)
+
+pub load_is_appended : LoadIsAppended
+load_is_appended e = (load_appended e, load_behind e)
 
 -- ---- the jump by a table
 
@@ -148,10 +171,9 @@ module _ (e : Emission) where
     within = tt;
   }
 
-  table_behind : BranchStands table_labels base_machine e buffer_with_block (table_jump one_target) table_image
+  table_behind : StandsBehind table_labels base_machine e buffer_with_block (table_jump one_target) table_image
   unfolding number bits layout_of length_of be_bytes vec one_target
   table_behind = record {
-    plain = tt;
     ranges = ((((omega arith, omega arith), tt), tt), tt);
     later = [];
     bytes = refl;
@@ -160,8 +182,16 @@ module _ (e : Emission) where
     short = omega arith;
     place = refl;
     blocks = block_place;
+    constants = λ k x at c lt names. absurd (omega (arith, lt));
+    reached = table_reaches;
   }
     where
+      table_reaches : (k : ℕ) (x : Step) → slice_get (Plain (table_jump one_target) ∷ []) k ≡ Some x → PartsReach (layout_behind table_labels base_machine e buffer_with_block (table_jump one_target) table_image) (places table_labels 4 (Plain (table_jump one_target) ∷ []) k) (step_parts x)
+      table_reaches zero x at =
+          let same : Plain (table_jump one_target) ≡ x = cc in
+          subst (λ y. PartsReach (layout_behind table_labels base_machine e buffer_with_block (table_jump one_target) table_image) 4 (step_parts y)) same (tt, (tt, (tt, (tt, (tt, tt)))))
+      table_reaches (suc k) x at = absurd (cc)
+
       block_place : (b : ℕ) → b < 1 → IsPlace (table_labels b)
       block_place zero lt = (refl, omega arith)
       block_place (suc b) lt = absurd (omega (arith, lt))

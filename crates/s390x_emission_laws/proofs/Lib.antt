@@ -2,10 +2,9 @@ pub mod Told
 pub mod Bytes
 pub mod Built
 pub mod Places
-pub mod Tables
-pub mod Anywhere
 pub mod Example
 pub mod Functions
 pub mod Alone
 pub mod Running
-pub mod Branches
+pub mod Traps
+pub mod Behind

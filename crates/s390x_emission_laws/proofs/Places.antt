@@ -19,7 +19,7 @@ use Rattle.s390x_typed_steps.specs.Rows.{half_distance, table_distance, word_byt
 use Rattle.s390x_typed_steps.specs.StepBody.{NothingLeft, BranchLeft}
 use Rattle.s390x_typed_steps.specs.Steps.{Step, Plain, LoadedStep, Shortened, Opening, Back, Break, CallingStep, NoLoadStep, TailOpeningStep, TailJumpStep}
 use Rattle.s390x_machine.specs.declared.semantics.Action.TheVariants.{Branch as BranchAction}
-use Rattle.s390x_machine.specs.CodeAt.{AllCodeAt, AreBlocks, IsBlock, IsFoldedRight, IsValidInstruction, IsValidStep, LeadsOn}
+use Rattle.s390x_machine.specs.CodeAt.{AllCodeAt, AreBlocks, ImageAt, IsBlock, IsFoldedRight, IsValidInstruction, IsValidStep, LeadsOn}
 use Rattle.s390x_machine.specs.Layout.{Layout, block_address, step_address}
 use Rattle.s390x_machine.specs.Machine.{ActionStep, Event, Executed, Interrupted}
 use Rattle.s390x_machine.proofs.Built.{StepAt, step_even, step_small, stand_as, size_as}
@@ -27,7 +27,7 @@ use Rattle.s390x_machine.proofs.Fetching.{StandsAt, byte_at}
 use Rattle.s390x_machine.proofs.RegisterNumbers.{small_mask}
 use Rattle.s390x_machine.proofs.Rows.{brcl_at}
 use Rattle.s390x_machine.proofs.Simulation.{RowAt}
-use Rattle.s390x_machine.proofs.Standing.{step_within as bytes_within, offset_even, offset_small, block_even, block_small}
+use Rattle.s390x_machine.proofs.Standing.{step_at, step_within as bytes_within}
 use Rattle.s390x_machine.proofs.Tables.{listed_block, words_stand}
 use Rattle.s390x_machine.proofs.Trapping.{within_image}
 use Rattle.s390x_emission_laws.specs.Places.{BranchesTo, WordLeads, StepLeads}
@@ -84,28 +84,28 @@ reaches base table j target lt small =
 -- ---- the steps
 
 -- a branch at an offset of placed code, to an even offset
-branch_leads : (L : Layout) → AllCodeAt L → (offset mask target : ℕ) → offset % 2 ≡ 0 → offset < 2 ^ 31 → mask < 16 → target % 2 ≡ 0 → target < 2 ^ 31 → StandsAt L.image offset (bytes_of (ril_c 0xc04 mask (half_distance offset target))) → BranchesTo L.image offset mask (wrapping_add64 L.image.base target)
+branch_leads : (L : Layout) → ImageAt L → (offset mask target : ℕ) → offset % 2 ≡ 0 → offset < 2 ^ 31 → mask < 16 → target % 2 ≡ 0 → target < 2 ^ 31 → StandsAt L.image offset (bytes_of (ril_c 0xc04 mask (half_distance offset target))) → BranchesTo L.image offset mask (wrapping_add64 L.image.base target)
 unfolding length_of
-branch_leads L all offset mask target even small lm even_target small_target stands =
-    leads_by L offset mask (wrapping_add64 L.image.base target) (brcl_at L all offset even mask target lm small even_target small_target stands)
+branch_leads L image offset mask target even small lm even_target small_target stands =
+    leads_by L offset mask (wrapping_add64 L.image.base target) (brcl_at L image offset even mask target lm small even_target small_target stands)
 
 module _ {L : Layout} {k : ℕ} {s : Step} (x : StepAt L k s) where
   -- the first part of a step is a branch to a block
   first_to_block : (mask b : ℕ) (more : List CodePart) → step_parts s ≡ Branch mask (ToBlock b) ∷ more → mask < 16 → IsBlock L b → BranchesTo L.image (L.offsets.step k) mask (block_address L b)
   first_to_block mask b more parts lm known =
-      branch_leads L x.all (L.offsets.step k) mask (L.offsets.block b) (step_even x) (step_small x) lm (block_even L x.all b known) (block_small L x.all b known) (stand_as x _ parts).0
+      branch_leads L x.image (L.offsets.step k) mask (L.offsets.block b) (step_even x) (step_small x) lm (x.image.block_places b known).0 (x.image.block_places b known).1 (stand_as x _ parts).0
 
   -- the one part of a step is a branch to a step
   to_step : (mask j : ℕ) → step_parts s ≡ Branch mask (ToStep j) ∷ [] → mask < 16 → j ≤ length L.steps → BranchesTo L.image (L.offsets.step k) mask (step_address L j)
   to_step mask j parts lm le =
-      branch_leads L x.all (L.offsets.step k) mask (L.offsets.step j) (step_even x) (step_small x) lm (offset_even L x.all j le) (offset_small L x.all j le) (stand_as x _ parts).0
+      branch_leads L x.image (L.offsets.step k) mask (L.offsets.step j) (step_even x) (step_small x) lm (x.image.step_places j le).0 (x.image.step_places j le).1 (stand_as x _ parts).0
 
   -- the second branch of a choice
   second_to_block : (mask a b : ℕ) → step_parts s ≡ Branch mask (ToBlock a) ∷ Branch 15 (ToBlock b) ∷ [] → IsBlock L b → BranchesTo L.image (L.offsets.step k + 6) 15 (block_address L b)
   second_to_block mask a b parts known =
       let o = L.offsets.step k in
       let size : L.offsets.step (suc k) ≡ o + 12 = size_as x _ parts in
-      branch_leads L x.all (o + 6) 15 (L.offsets.block b) (omega (arith, step_even x)) (omega (arith, size, bytes_within L k s x.placed, x.all.short)) (omega arith) (block_even L x.all b known) (block_small L x.all b known) (stand_as x _ parts).1.0
+      branch_leads L x.image (o + 6) 15 (L.offsets.block b) (omega (arith, step_even x)) (omega (arith, size, bytes_within L k s x.code, x.image.short)) (omega arith) (x.image.block_places b known).0 (x.image.block_places b known).1 (stand_as x _ parts).1.0
 
   -- a word of the table of a step
   table_leads : (index mask other : ℕ) (targets : List MachLabel) → step_parts s ≡ table_parts index mask other targets → AreBlocks L targets → (j : ℕ) (l : MachLabel) → slice_get targets j ≡ Some l → WordLeads L.image (L.offsets.step k + 20) j (block_address L l.0)
@@ -119,8 +119,8 @@ module _ {L : Layout} {k : ℕ} {s : Step} (x : StepAt L k s) where
       let w1 : StandsAt L.image (o + 20 + 4 * j) (word_bytes (table_distance (o + 20 + 4 * j) (0 + 4 * j) (L.offsets.block l.0))) = subst (λ q. StandsAt L.image (q + 4 * j) (word_bytes (table_distance (q + 4 * j) (0 + 4 * j) (L.offsets.block l.0)))) z w in
       let w2 : StandsAt L.image (o + 20 + 4 * j) (word_bytes (table_distance (o + 20 + 4 * j) (4 * j) (L.offsets.block l.0))) = subst (λ b. StandsAt L.image (o + 20 + 4 * j) (word_bytes (table_distance (o + 20 + 4 * j) b (L.offsets.block l.0)))) n w1 in
       let block : IsBlock L l.0 = listed_block L targets are j l e in
-      ap (λ v. wrapping_add64 (wrapping_add64 L.image.base (o + 20)) (extended Signed Bits32 Doubleword v)) (word_read L.image m (o + 20 + 4 * j) (table_distance (o + 20 + 4 * j) (4 * j) (L.offsets.block l.0)) (omega arith) x.all.fits is_loaded w2)
-      ∙ reaches L.image.base (o + 20) (4 * j) (L.offsets.block l.0) (omega (arith, within_image L (o + 20 + 4 * j) _ w2, x.all.short)) (block_small L x.all l.0 block)
+      ap (λ v. wrapping_add64 (wrapping_add64 L.image.base (o + 20)) (extended Signed Bits32 Doubleword v)) (word_read L.image m (o + 20 + 4 * j) (table_distance (o + 20 + 4 * j) (4 * j) (L.offsets.block l.0)) (omega arith) x.image.fits is_loaded w2)
+      ∙ reaches L.image.base (o + 20) (4 * j) (L.offsets.block l.0) (omega (arith, within_image L (o + 20 + 4 * j) _ w2, x.image.short)) (x.image.block_places l.0 block).1
 
 -- what is left of a step's branches leads to a block of the step's
 left_leads : {L : Layout} {k : ℕ} (mask b : ℕ) (i : Inst) (x : StepAt L k (Shortened (BranchLeft mask b) i)) → IsValidInstruction L i → LeadsOn L k (BranchLeft mask b) i → BranchesTo L.image (L.offsets.step k) mask (block_address L b)
@@ -149,4 +149,4 @@ step_leads (TailOpeningStep target first_saved is_lost) x valid right = tt
 step_leads (TailJumpStep target) x valid right = tt
 
 pub branches_lead : (L : Layout) → AllCodeAt L → (k : ℕ) (s : Step) → slice_get L.steps k ≡ Some s → StepLeads L k s
-branches_lead L all k s at = let placed = all.steps k s at in step_leads s (record { all = all; at = at; placed = placed }) placed.valid placed.folded
+branches_lead L all k s at = let x = step_at L all k s at in step_leads s x x.code.valid x.code.folded

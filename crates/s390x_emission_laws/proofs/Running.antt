@@ -27,8 +27,9 @@ use Rattle.s390x_emit_int.specs.Members.{member_of}
 use Rattle.s390x_emit_int.specs.Resolve.{UsesWithin}
 use Rattle.s390x_emit_int.proofs.Patching.{all_left}
 use Rattle.s390x_emit_int.proofs.Trees.{member_begins}
-use Rattle.s390x_emission_laws.specs.Alone.{IsAppended, StandsAlone, alone, emitted, layout_alone, patched_bytes, placed_offsets, surroundings}
-use Rattle.s390x_emission_laws.proofs.Alone.{appended, own_code}
+use Rattle.s390x_emission_laws.specs.Alone.{IsAppended, StandsAlone, alone, emitted, layout_alone, outside, patched_bytes, placed_offsets, surroundings}
+use Rattle.s390x_emission_laws.specs.Behind.{places}
+use Rattle.s390x_emission_laws.proofs.Alone.{appended, appended_behind, own_code}
 
 -- a buffer without the mark
 unmarked : (failed : Bool) (o : Option EmitError) → cond failed (Some Failed) o ≡ None → o ≡ None
@@ -41,6 +42,10 @@ module _ (off : ℕ → ℕ) (flags : IsaFlags) (e : Emission) (s : BufferState)
 
   pub placed_bytes : patched_bytes off (emitted flags e s i) ≡ patched_bytes off s ++ code (placed_offsets off s (alone flags e i)) 0 (function_steps (alone flags e i))
   placed_bytes = appended flags e.nominal (member_of flags e i) s off (member_begins flags e i) own_valid is.within is.labels
+
+  -- the same with the offsets of what stands behind
+  pub bytes_behind : patched_bytes off (emitted flags e s i) ≡ patched_bytes off s ++ code (record { step = places off (length s.bytes) (function_steps (alone flags e i)); block = off; environment = outside off s }) 0 (function_steps (alone flags e i))
+  bytes_behind = appended_behind flags e.nominal (member_of flags e i) s off (member_begins flags e i) own_valid is.within is.labels
 
   module _ (image : CodeImage) (there : StandsAlone off flags e s i image) where
     image_bytes : image.bytes ≡ function_code (surroundings off s) (alone flags e i) ++ there.later

@@ -1,4 +1,4 @@
--- A jump, a jump by a table and an addition, each behind bytes that no typed step has. The jumps go to a block before them.
+-- A jump, a jump by a table, a load and an addition, each behind bytes that no typed step has. The jumps go to a block before them, and the load is of its first bytes.
 use Rattle.std.specs.Prelude.{◌≡◌, ℕ, false, [], ◌∷◌, get_or, Some, Vec}
 use Rattle.std.specs.Global.{Global}
 use Rattle.s390x_base.specs.declared.ir.MachLabel.{MachLabel}
@@ -6,16 +6,17 @@ use Rattle.s390x_base.specs.Registers.{general}
 use Rattle.s390x_base.specs.declared.regs.Reg.TheVariants.{Real}
 use Rattle.s390x_buffer.specs.State.{BufferState, fresh_buffer}
 use Rattle.s390x_inst.specs.Emission.{Emission}
+use Rattle.s390x_inst.specs.declared.args.MemArg.TheVariants.{Label}
 use Rattle.s390x_inst.specs.declared.inst.Inst.{Inst}
-use Rattle.s390x_inst.specs.declared.inst.Inst.TheVariants.{AluRRR, JTSequence, Jump}
+use Rattle.s390x_inst.specs.declared.inst.Inst.TheVariants.{AluRRR, JTSequence, Jump, Load32ZExt16}
 use Rattle.s390x_inst.specs.declared.ops.ALUOp.TheVariants.{Add64}
 use Rattle.s390x_inst.specs.declared.state.IsaFlags.{IsaFlags}
 use Rattle.s390x_typed_steps.specs.Steps.{Step, Plain}
 use Rattle.s390x_operations.specs.State.{CodeImage}
+use Rattle.s390x_machine.specs.CodeAt.{StepAt}
 use Rattle.s390x_machine.specs.Layout.{Layout}
 use Rattle.s390x_emission_laws.specs.Alone.{IsAppended, StandsAlone}
-use Rattle.s390x_emission_laws.specs.Anywhere.{StandsAnywhere}
-use Rattle.s390x_emission_laws.specs.Branches.{BranchStands}
+use Rattle.s390x_emission_laws.specs.Behind.{StandsBehind}
 
 -- the jump
 abbrev pub jump : Step
@@ -38,7 +39,7 @@ layout = record {
 
 -- it stands there
 abbrev pub JumpStands : Type 0
-JumpStands = StandsAnywhere layout 0 jump
+JumpStands = StepAt layout 0 jump
 
 -- a machine of the base alone
 abbrev pub base_machine : IsaFlags
@@ -66,7 +67,19 @@ buffer_with_block = record (fresh_buffer 1 []) { bytes = 0x00 ∷ 0x01 ∷ 0x02 
 
 -- `emit` appends the jump to the block there in any state of emission, and it stands in the image of the whole buffer
 abbrev pub JumpIsAppended : Type 0
-JumpIsAppended = (e : Emission) → IsAppended (λ l. 0) base_machine e buffer_with_block (Jump (record { 0 = 0 })) × BranchStands (λ l. 0) base_machine e buffer_with_block (Jump (record { 0 = 0 })) layout.image
+JumpIsAppended = (e : Emission) → IsAppended (λ l. 0) base_machine e buffer_with_block (Jump (record { 0 = 0 })) × StandsBehind (λ l. 0) base_machine e buffer_with_block (Jump (record { 0 = 0 })) layout.image
+
+-- a load of a halfword that names the block
+abbrev pub load : Inst
+load = Load32ZExt16 (Real (general 2)) (Label (record { 0 = 0 }))
+
+-- the four bytes, and llhrl %r2 of the first two of them, as an assembler gives it
+abbrev pub load_image : CodeImage
+load_image = record { base = 4096; bytes = 0x00 ∷ 0x01 ∷ 0x02 ∷ 0x03 ∷ 0xc4 ∷ 0x22 ∷ 0xff ∷ 0xff ∷ 0xff ∷ 0xfe ∷ [] }
+
+-- `emit` appends the load there in any state of emission, and it stands in the image of the whole buffer
+abbrev pub LoadIsAppended : Type 0
+LoadIsAppended = (e : Emission) → IsAppended (λ l. 0) base_machine e buffer_with_block load × StandsBehind (λ l. 0) base_machine e buffer_with_block load load_image
 
 -- a jump to the block by a table, or at once where the code is 0
 abbrev pub table_jump : Vec MachLabel Global → Inst
@@ -89,4 +102,4 @@ pub record TableIsAppended : Type 0 where
   pub targets : Vec MachLabel Global
   pub block : targets.items ≡ record { 0 = 0 } ∷ []
   pub appended : (e : Emission) → IsAppended table_labels base_machine e buffer_with_block (table_jump targets)
-  pub stands : (e : Emission) → BranchStands table_labels base_machine e buffer_with_block (table_jump targets) table_image
+  pub stands : (e : Emission) → StandsBehind table_labels base_machine e buffer_with_block (table_jump targets) table_image

@@ -1,6 +1,5 @@
 pub mod Built
 pub mod Places
-pub mod Anywhere
 pub mod Alone
-pub mod Branches
+pub mod Behind
 pub mod Example

@@ -26,10 +26,9 @@ ghost use Rattle.s390x_emit_int.specs.Function.{IsFinishedCode, checked_cause};
 ghost use Rattle.s390x_emit_int.specs.Headline.{linked, linked_image};
 ghost use Rattle.s390x_emit_int.specs.Resolve.{UsesWithin};
 ghost use Rattle.s390x_emission_laws.specs.Alone.{IsAppended, StandsAlone, alone, emitted, layout_alone, patched_bytes, placed_offsets};
-ghost use Rattle.s390x_emission_laws.specs.Anywhere.{IsPlainBranch, StandsAnywhere};
-ghost use Rattle.s390x_emission_laws.specs.Branches.{BranchStands, layout_behind};
+ghost use Rattle.s390x_emission_laws.specs.Behind.{StandsBehind, layout_behind};
 ghost use Rattle.s390x_emission_laws.specs.Built.{IsBuilt};
-ghost use Rattle.s390x_emission_laws.specs.Example.{AdditionStands, JumpIsAppended, JumpStands, TableIsAppended};
+ghost use Rattle.s390x_emission_laws.specs.Example.{AdditionStands, JumpIsAppended, JumpStands, LoadIsAppended, TableIsAppended};
 ghost use Rattle.s390x_emission_laws.specs.Places.{StepLeads};
 
 /// A step that emission lets pass is built.
@@ -53,22 +52,16 @@ pub fn linked_branches_lead()
     ensures starts { (ts : List Tree) (cs : List Constant) (f : MachBufferFinalized) (environment : LinkEnvironment) (image : CodeImage) → IsFinishedCode ts cs f → (b : ℕ) → b < length ts → slice_get f.block_starts.items b ≡ Some ((function_layout environment ts image).offsets.block b) }
 {}
 
-/// Branches to blocks and steps, branches to the address in a register, jumps by a table and addresses of blocks run as their typed steps wherever their bytes stand,
-/// without a function around them.
-pub fn branches_run_anywhere()
-    ensures { (L : Layout) (k : ℕ) (s : Step) → StandsAnywhere L k s → IsPlainBranch s → StepHolds L k }
-{}
-
-/// The premises can be met: by a jump behind bytes that no typed step has, to a block before it, and by each step of placed code.
-pub fn branches_stand_anywhere()
-    ensures jump { JumpStands }
-    ensures placed { (L : Layout) → AllCodeAt L → (k : ℕ) (s : Step) → slice_get L.steps k ≡ Some s → StandsAnywhere L k s }
+/// The premises of `each_step_anywhere` of `s390x_machine` can be met with no function around the step: by a jump behind bytes that no typed step has, to a block before it.
+pub fn a_jump_stands_anywhere()
+    ensures { JumpStands }
 {}
 
 /// What `emit` appends to any buffer, with each use of a label patched, are the bytes of the instruction's steps at their places, each distance counted to where its label stands.
-/// Finishing puts the constants behind a buffer's patched bytes.
+/// The table of traps gets those of these steps. Finishing puts the constants behind a buffer's patched bytes.
 pub fn emitted_bytes_are_the_steps()
     ensures appended { (off : ℕ → ℕ) (flags : IsaFlags) (e : Emission) (s : BufferState) (i : Inst) → IsAppended off flags e s i → patched_bytes off (emitted flags e s i) ≡ patched_bytes off s ++ code (placed_offsets off s (alone flags e i)) 0 (function_steps (alone flags e i)) }
+    ensures traps { (off : ℕ → ℕ) (flags : IsaFlags) (e : Emission) (s : BufferState) (i : Inst) (image : CodeImage) → (emitted flags e s i).traps ≡ s.traps ++ (layout_behind off flags e s i image).traps }
     ensures finished { (off : ℕ → ℕ) (s : BufferState) → UsesWithin (length s.bytes) s.uses → patch_all off s.uses (unpatched s) ≡ patched_bytes off s ++ constant_bytes (length s.bytes) s.constants }
 {}
 
@@ -83,15 +76,16 @@ pub fn linked_instructions_run_anywhere()
     ensures { (environment : LinkEnvironment) (t : Tree) (image : CodeImage) → StandsAsCode environment (t ∷ []) image → (k : ℕ) (x : Step) → slice_get (function_steps (t ∷ [])) k ≡ Some x → StepHolds (function_layout environment (t ∷ []) image) k }
 {}
 
-/// A branch to blocks, by a table or to the address in a register, or the load of a block's address, that `emit` appends runs as its typed step in the image of the whole buffer,
-/// where all blocks stand at even offsets.
-pub fn emitted_branches_run_anywhere()
-    ensures { (off : ℕ → ℕ) (flags : IsaFlags) (e : Emission) (s : BufferState) (i : Inst) (image : CodeImage) → IsAppended off flags e s i → BranchStands off flags e s i image → StepHolds (layout_behind off s i image) 0 }
+/// Each step of an instruction that `emit` appends to any buffer runs as typed in the image of the whole buffer, where all blocks stand at even offsets: of branches to blocks, of jumps by
+/// a table and of accesses of a block too. Each constant that it names by its distance stands on its boundary, and each symbol where the distance leads.
+pub fn emitted_instructions_run_in_a_buffer()
+    ensures { (off : ℕ → ℕ) (flags : IsaFlags) (e : Emission) (s : BufferState) (i : Inst) (image : CodeImage) → IsAppended off flags e s i → StandsBehind off flags e s i image → (k : ℕ) (x : Step) → slice_get (function_steps (alone flags e i)) k ≡ Some x → StepHolds (layout_behind off flags e s i image) k }
 {}
 
-/// The premises can be met: by an addition behind four bytes of a caller's, and by a jump and a jump by a table behind them to a block before it, in any state of emission.
+/// The premises can be met: by an addition behind four bytes of a caller's, and by a jump, a jump by a table and a load behind them that name a block before them, in any state of emission.
 pub fn instructions_stand_behind_others()
     ensures addition { AdditionStands }
     ensures jump { JumpIsAppended }
     ensures table { TableIsAppended }
+    ensures load { LoadIsAppended }
 {}

@@ -14,7 +14,7 @@ use Rattle.s390x_machine.specs.Typed.{At, KindStep, TypedStep, kind_at, kind_of_
 use Rattle.s390x_machine.proofs.Built.{StepAt, step_even, step_small, step_form, stand_as, size_as}
 use Rattle.s390x_machine.proofs.Rows.{brcl_at}
 use Rattle.s390x_machine.proofs.Simulation.{RowAt, mid, at_start, turned, branch_executes}
-use Rattle.s390x_machine.proofs.Standing.{offset_even, offset_small, inside_first, next_place}
+use Rattle.s390x_machine.proofs.Standing.{inside_first, next_place}
 
 -- nothing yet, or one transition that goes to the one step or the other
 pub data Branched (L : Layout) (k mask j : ℕ) (c : Core) (trace : List Transition) : Type 0 where
@@ -43,4 +43,4 @@ unfolding length_of
 loop_branched {L = L} {k = k} x mask j is parts lm le =
     let rows = stand_as x _ parts in
     let size : L.offsets.step (suc k) ≡ L.offsets.step k + 6 = size_as x _ parts in
-    branched L k mask j 6 (step_form x _ is) (brcl_at L x.all (L.offsets.step k) (step_even x) mask (L.offsets.step j) lm (step_small x) (offset_even L x.all j le) (offset_small L x.all j le) rows.0) (next_place L k 6 size) (inside_first L k 6 size (omega arith))
+    branched L k mask j 6 (step_form x _ is) (brcl_at L x.image (L.offsets.step k) (step_even x) mask (L.offsets.step j) lm (step_small x) (x.image.step_places j le).0 (x.image.step_places j le).1 rows.0) (next_place L k 6 size) (inside_first L k 6 size (omega arith))

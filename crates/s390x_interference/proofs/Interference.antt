@@ -19,10 +19,10 @@ use Rattle.s390x_machine.specs.Operands.{value_in}
 use Rattle.s390x_machine.specs.StepKinds.{Leads, Unsupported}
 use Rattle.s390x_machine.specs.Storage.{operand_address}
 use Rattle.s390x_machine.specs.Typed.{At, Ended, Trapped, loosen, KindStep, KindWrong, TypedStep, kind_at, kind_of_step, store_event_of_kind, typed_store_event}
-use Rattle.s390x_machine.proofs.Built.{StepAt}
 use Rattle.s390x_machine.proofs.Induction.{run_after, after_append}
 use Rattle.s390x_machine.proofs.Instructions.{step_runs_placed}
 use Rattle.s390x_machine.proofs.RegisterNumbers.{small_mask}
+use Rattle.s390x_machine.proofs.Standing.{step_at}
 use Rattle.s390x_schedule.specs.Schedule.{Goes, LeavesImage}
 use Rattle.s390x_interference.specs.Retry.{Retry, swap_size, end_of, is_in_loop, stores_of, IsExecuted, IsSuccess, EndsBySwap, EndsByBreak, Swapped, StoresByItsSwap}
 use Rattle.s390x_interference.proofs.Branched.{Branched, none_yet, one_transition, loop_branched}
@@ -291,9 +291,8 @@ module _ (L : Layout) (all : AllCodeAt L) (R : Retry L) (some : L.offsets.step R
 
   back_branched : (t : Core) (rest : List Transition) → IsLoaded L.image t.memory → Run L.image (start L (suc R.swap) t) rest → Branched L (suc R.swap) R.mask (suc R.opening) t rest
   back_branched t rest is_loaded run =
-      let q = all.steps (suc R.swap) _ R.back in
-      let x : StepAt L (suc R.swap) (Back R.mask (suc R.opening)) = record { all = all; at = R.back; placed = q } in
-      loop_branched x R.mask (suc R.opening) refl refl (small_mask R.mask q.valid.0) q.valid.1 t is_loaded rest run
+      let x = step_at L all (suc R.swap) _ R.back in
+      loop_branched x R.mask (suc R.opening) refl refl (small_mask R.mask x.code.valid.0) x.code.valid.1 t is_loaded rest run
 
   succeeded : (t : Core) (rest : List Transition) → t.registers.code ≡ Code0 → Given L R (start L (suc R.swap) t) rest → Branched L (suc R.swap) R.mask (suc R.opening) t rest → Leaving L R rest
   succeeded t rest code given (none_yet none) = not_yet none
@@ -451,10 +450,9 @@ module _ (L : Layout) (all : AllCodeAt L) (R : Retry L) (some : L.offsets.step R
   at_member : (first : Core) (groups : List (List Transition)) (k : ℕ) (c : Core) → Progress L R first groups k c → R.opening < k → k < R.swap → IsLoaded L.image c.memory → (trace : List Transition) → Given L R (start L k c) trace → MemberStep L k (end_of L R) → Runs L k c trace → Onward L R first groups k trace → Result L R (top L R first) (concatenated groups ++ trace)
   at_member first groups k c p above below is_loaded trace given (works plain) runs next = work first groups k c p above below plain is_loaded trace given runs next
   at_member first groups k c p above below is_loaded trace given (breaks mask e) runs next =
-      let q = all.steps k _ e in
-      let x : StepAt L k (Break mask (end_of L R)) = record { all = all; at = e; placed = q } in
-      let size : L.offsets.step (suc k) ≡ L.offsets.step k + 6 = q.size in
-      break_out first groups k mask c p above below (ap (kind_of_step L) e) (λ none. absurd (omega (arith, none, size))) trace given (loop_branched x mask (end_of L R) refl refl (small_mask mask q.valid.0) q.valid.1 c is_loaded trace given.run) next
+      let x = step_at L all k _ e in
+      let size : L.offsets.step (suc k) ≡ L.offsets.step k + 6 = x.code.size in
+      break_out first groups k mask c p above below (ap (kind_of_step L) e) (λ none. absurd (omega (arith, none, size))) trace given (loop_branched x mask (end_of L R) refl refl (small_mask mask x.code.valid.0) x.code.valid.1 c is_loaded trace given.run) next
 
   round : (n : ℕ) → Rounds L R n → (m : ℕ) (first : Core) (groups : List (List Transition)) (k : ℕ) (c : Core) → Progress L R first groups k c → R.opening < k → k + m ≡ R.swap → IsLoaded L.image c.memory → (trace : List Transition) → Given L R (start L k c) trace → length trace ≤ n → Result L R (top L R first) (concatenated groups ++ trace)
   round n shorter zero first groups k c p above e is_loaded trace given le =

@@ -46,7 +46,7 @@ module _ {L : Layout} {k : ℕ} {s : Step} (x : StepAt L k s) (form : StorageFor
   -- no helper
   pub direct : (address : Registers → ℕ) (operand : MemArg) → Stands L form operand operation address → kind_at L k ≡ Some (Performs false (λ r. operation (address r) r) (access_code code)) → step_parts s ≡ operand_parts form code operand → StepRuns L k
   direct address operand st is parts c is_loaded =
-      let b = step_rows_before L x.all k s x.at x.placed [] tt st.part code st.some (parts ∙ st.is code) in
+      let b = step_rows_before L x.image k s x.at x.code [] tt st.part code st.some (parts ∙ st.is code) in
       last_runs false 0 address address operand st c [] (L.offsets.step k) is b (at_start L k c (record { offset = L.offsets.step k; above = omega arith; below = omega (arith, b.next, st.some); is = refl }) is_loaded) (itself (operation (address c.registers) c.registers))
 
   -- the address is loaded first
@@ -54,10 +54,10 @@ module _ {L : Layout} {k : ℕ} {s : Step} (x : StepAt L k s) (form : StorageFor
       ((a : ℕ) (r : Registers) (v : ℕ) → Refines (operation a (set_general r 1 v)) (operation a r)) → kind_at L k ≡ Some (Performs true (λ r. operation (address r) r) (access_code code)) → step_parts s ≡ (operand_parts (address_form scratch) None first ++ []) ++ operand_parts form code operand → StepRuns L k
   after_address address first operand hst st small ignores is parts c is_loaded =
       let is_rows = parts ∙ ap (λ ps. (ps ++ []) ++ operand_parts form code operand) (hst.is None) ∙ ap (λ ps. hst.part ∷ ps) (st.is code) in
-      let b = step_rows_before L x.all k s x.at x.placed (hst.part ∷ []) (hst.untrapped, tt) st.part code st.some is_rows in
+      let b = step_rows_before L x.image k s x.at x.code (hst.part ∷ []) (hst.untrapped, tt) st.part code st.some is_rows in
       let next = b.1.next in
       let w = address c.registers % 2 ^ 64 in
-      helper_then L x.all k c [] c.registers (L.offsets.step k) (part_size hst.part) doubleword address refl (at_start L k c (record { offset = L.offsets.step k; above = omega arith; below = omega (arith, next, hst.some); is = refl }) is_loaded) (omega arith) (omega arith) (omega (arith, next, st.some)) (hst.row (L.offsets.step k) (step_even x) b.0.0 b.0.1) (λ g n i.
+      helper_then L x.image k c [] c.registers (L.offsets.step k) (part_size hst.part) doubleword address refl (at_start L k c (record { offset = L.offsets.step k; above = omega arith; below = omega (arith, next, hst.some); is = refl }) is_loaded) (omega arith) (omega arith) (omega (arith, next, st.some)) (hst.row (L.offsets.step k) (step_even x) b.0.0 b.0.1) (λ g n i.
       last_runs true w address (λ r. indexed r 1 0 (pos 0)) operand st c g (L.offsets.step k + part_size hst.part) is b.1 i
       (subst (λ a. Refines (operation a (set_general c.registers 1 w)) (operation (address c.registers) c.registers)) (sym (loaded_address c.registers (address c.registers) (small c.registers))) (ignores (address c.registers) c.registers w)))
 
@@ -67,12 +67,12 @@ module _ {L : Layout} {k : ℕ} {s : Step} (x : StepAt L k s) (form : StorageFor
   unfolding length_of
   after_offset reg off operand other least most st ignores is parts c is_loaded =
       let h = ril_a 0xc01 1 (low_word off) in
-      let b = step_rows_before L x.all k s x.at x.placed (Row h ∷ []) ((λ p. refl), tt) st.part code st.some (parts ∙ ap (λ ps. Row h ∷ ps) (st.is code)) in
+      let b = step_rows_before L x.image k s x.at x.code (Row h ∷ []) ((λ p. refl), tt) st.part code st.some (parts ∙ ap (λ ps. Row h ∷ ps) (st.is code)) in
       let next = b.1.next in
-      let w = moved L x.all k signed_word (low_word off) in
+      let w = moved L x.image k signed_word (low_word off) in
       let same : indexed (set_general c.registers 1 w) (number_of reg) 1 (pos 0) ≡ based c.registers (number_of reg) off = far_offset c.registers (number_of reg) off other least most in
-      helper_then L x.all k c [] c.registers (L.offsets.step k) (size_of h) signed_word (λ r. low_word off) refl (at_start L k c (record { offset = L.offsets.step k; above = omega arith; below = omega (arith, next); is = refl }) is_loaded) (omega arith) (omega arith) (omega (arith, next, st.some))
-      (word_at L x.all (L.offsets.step k) (step_even x) 0xc01 (on_immediate (on_doublewords Move) signed_word) Kept lgfi_row 1 (low_word off) (omega arith) (word_bits off) b.0.0) (λ g n i.
+      helper_then L x.image k c [] c.registers (L.offsets.step k) (size_of h) signed_word (λ r. low_word off) refl (at_start L k c (record { offset = L.offsets.step k; above = omega arith; below = omega (arith, next); is = refl }) is_loaded) (omega arith) (omega arith) (omega (arith, next, st.some))
+      (word_at L x.image (L.offsets.step k) (step_even x) 0xc01 (on_immediate (on_doublewords Move) signed_word) Kept lgfi_row 1 (low_word off) (omega arith) (word_bits off) b.0.0) (λ g n i.
       last_runs true w (λ r. based r (number_of reg) off) (λ r. indexed r (number_of reg) 1 (pos 0)) operand st c g (L.offsets.step k + size_of h) is b.1 i
       (subst (λ a. Refines (operation a (set_general c.registers 1 w)) (operation (based c.registers (number_of reg) off) c.registers)) (sym same) (ignores (based c.registers (number_of reg) off) c.registers w)))
 
@@ -84,18 +84,18 @@ module _ {L : Layout} {k : ℕ} {s : Step} (x : StepAt L k s) (form : StorageFor
   after_both reg off first operand other least most hst st ignores is parts c is_loaded =
       let h = ril_a 0xc01 1 (low_word off) in
       let is_rows = parts ∙ ap (λ ps. (Row h ∷ (ps ++ [])) ++ operand_parts form code operand) (hst.is None) ∙ ap (λ ps. Row h ∷ hst.part ∷ ps) (st.is code) in
-      let b = step_rows_before L x.all k s x.at x.placed (Row h ∷ hst.part ∷ []) ((λ p. refl), (hst.untrapped, tt)) st.part code st.some is_rows in
+      let b = step_rows_before L x.image k s x.at x.code (Row h ∷ hst.part ∷ []) ((λ p. refl), (hst.untrapped, tt)) st.part code st.some is_rows in
       let next = b.1.1.next in
-      let v = moved L x.all k signed_word (low_word off) in
+      let v = moved L x.image k signed_word (low_word off) in
       let r1 = set_general c.registers 1 v in
       let a = based c.registers (number_of reg) off in
       let same : indexed r1 (number_of reg) 1 (pos 0) ≡ a = far_offset c.registers (number_of reg) off other least most in
       let w = indexed r1 (number_of reg) 1 (pos 0) % 2 ^ 64 in
       let small : a < 2 ^ 64 = low_below (pos (address_part c.registers (number_of reg)) +ℤ off) in
       let there : indexed (set_general c.registers 1 w) 1 0 (pos 0) ≡ a = ap (λ x. indexed (set_general c.registers 1 (x % 2 ^ 64)) 1 0 (pos 0)) same ∙ loaded_address c.registers a small in
-      helper_then L x.all k c [] c.registers (L.offsets.step k) (size_of h) signed_word (λ r. low_word off) refl (at_start L k c (record { offset = L.offsets.step k; above = omega arith; below = omega (arith, next); is = refl }) is_loaded) (omega arith) (omega arith) (omega (arith, next, st.some))
-      (word_at L x.all (L.offsets.step k) (step_even x) 0xc01 (on_immediate (on_doublewords Move) signed_word) Kept lgfi_row 1 (low_word off) (omega arith) (word_bits off) b.0.0) (λ g n i.
-      helper_then L x.all k c g r1 (L.offsets.step k + size_of h) (part_size hst.part) doubleword (λ r. indexed r (number_of reg) 1 (pos 0)) refl i (omega (arith, n)) (omega arith) (omega (arith, next, st.some)) (hst.row (L.offsets.step k + size_of h) (omega (arith, step_even x)) b.1.0.0 b.1.0.1) (λ g2 n2.
+      helper_then L x.image k c [] c.registers (L.offsets.step k) (size_of h) signed_word (λ r. low_word off) refl (at_start L k c (record { offset = L.offsets.step k; above = omega arith; below = omega (arith, next); is = refl }) is_loaded) (omega arith) (omega arith) (omega (arith, next, st.some))
+      (word_at L x.image (L.offsets.step k) (step_even x) 0xc01 (on_immediate (on_doublewords Move) signed_word) Kept lgfi_row 1 (low_word off) (omega arith) (word_bits off) b.0.0) (λ g n i.
+      helper_then L x.image k c g r1 (L.offsets.step k + size_of h) (part_size hst.part) doubleword (λ r. indexed r (number_of reg) 1 (pos 0)) refl i (omega (arith, n)) (omega arith) (omega (arith, next, st.some)) (hst.row (L.offsets.step k + size_of h) (omega (arith, step_even x)) b.1.0.0 b.1.0.1) (λ g2 n2.
       subst (λ r. Inside L k c g2 r (wrapping_add64 L.image.base (L.offsets.step k + size_of h + part_size hst.part)) → Simulates L k c g2 r (wrapping_add64 L.image.base (L.offsets.step k + size_of h + part_size hst.part))) (sym (put_twice c.registers v w)) (λ i2.
       last_runs true w (λ r. based r (number_of reg) off) (λ r. indexed r 1 0 (pos 0)) operand st c g2 (L.offsets.step k + size_of h + part_size hst.part) is b.1.1 i2
       (subst (λ x. Refines (operation x (set_general c.registers 1 w)) (operation a c.registers)) (sym there) (ignores a c.registers w)))))

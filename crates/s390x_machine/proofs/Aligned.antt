@@ -34,7 +34,7 @@ use Rattle.s390x_machine.specs.Layout.{Layout, declared, constant_address}
 use Rattle.s390x_machine.specs.CodeAt.{AllCodeAt, IsValidMemory, ValidMemoryOr}
 use Rattle.s390x_machine.specs.Storage.{operand_address, operand_step, indexed_forms, cmp_forms, loads_at, stores_at, compares_at, aligned_effect, aligned_where}
 use Rattle.s390x_machine.proofs.Relative.{first_none, unless_none, label_known, constant_known}
-use Rattle.s390x_machine.proofs.Standing.{block_even}
+use Rattle.s390x_machine.proofs.Standing.{image_at}
 
 -- ---- boundaries
 
@@ -117,7 +117,7 @@ sum_even base o eb eo = omega (arith, eb, eo)
 -- blocks stand at even places, constants on their boundaries
 own_on_boundary : (L : Layout) → AllCodeAt L → (m : MemArg) (b : ℕ) → IsOwn m → IsPower b → bound_cause (declared L) m ≡ None → alignment_cause (declared L) b m ≡ None → IsOnBoundary (operand_address L m) b
 own_on_boundary L all (Label target) b own power bound aligned =
-    λ r. on_2 (wrapping_add64 L.image.base (L.offsets.block target.0)) b power (leb-true b 2 (unless_none (nat_le b 2) BadAlignment aligned)) (sum_even L.image.base (L.offsets.block target.0) all.even (block_even L all target.0 (label_known L target bound)))
+    λ r. on_2 (wrapping_add64 L.image.base (L.offsets.block target.0)) b power (leb-true b 2 (unless_none (nat_le b 2) BadAlignment aligned)) (sum_even L.image.base (L.offsets.block target.0) all.even ((image_at L all).block_places target.0 (label_known L target bound)).0)
 own_on_boundary L all (Constant c) b own power bound aligned =
     let stands = all.constants c.0 (constant_known L c bound) in
     let align = get_or L.offsets.environment.aligns c.0 0 in

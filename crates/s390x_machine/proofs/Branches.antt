@@ -13,9 +13,9 @@ use Rattle.s390x_machine.specs.Typed.{Returned, TailCalled, At, Ended, IsTarget,
 use Rattle.s390x_machine.specs.Match.{start}
 use Rattle.s390x_machine.specs.OneStep.{Runs, stuck, Loses, StepRuns}
 use Rattle.s390x_machine.specs.Layout.{Layout, step_address, block_address, InStep}
-use Rattle.s390x_machine.specs.CodeAt.{AllCodeAt, IsBlock, AreBlocks}
+use Rattle.s390x_machine.specs.CodeAt.{ImageAt, IsBlock, AreBlocks}
 use Rattle.s390x_machine.proofs.Simulation.{RowAt, mid, Inside, Simulates, at_start, Turned, further, resume, branch, done, ended}
-use Rattle.s390x_machine.proofs.Standing.{block_at}
+use Rattle.s390x_machine.proofs.Standing.{block_begins}
 
 selected_always : (code : ConditionCode) → is_selected 15 code ≡ true
 selected_always Code0 = refl
@@ -151,11 +151,11 @@ search_targets L (l ∷ ls) held are = go (held == block_address L l.0) refl (se
       | inr later ↦ none b later
     ])
 
-pub address_runs : (L : Layout) → AllCodeAt L → (k n size : ℕ) (targets : List MachLabel) → kind_at L k ≡ Some (GoesByAddress n targets) → AreBlocks L targets → RowAt L (step_address L k) (λ r. Branch 15 (r.general n)) size → InStep L k (step_address L k) → StepRuns L k
-address_runs L all k n size targets is are row here c is_loaded = go (search_targets L targets (c.registers.general n) are)
+pub address_runs : (L : Layout) → ImageAt L → (k n size : ℕ) (targets : List MachLabel) → kind_at L k ≡ Some (GoesByAddress n targets) → AreBlocks L targets → RowAt L (step_address L k) (λ r. Branch 15 (r.general n)) size → InStep L k (step_address L k) → StepRuns L k
+address_runs L image k n size targets is are row here c is_loaded = go (search_targets L targets (c.registers.general n) are)
   where
     go : Search L targets (c.registers.general n) → (trace : List Transition) → Run L.image (start L k c) trace → Runs L k c trace
     go (inl (b, t, known)) =
-        jumps L k c [] c.registers (step_address L k) (L.first_step b) (λ r. Branch 15 (r.general n)) size (c.registers.general n) (at_start L k c here is_loaded) row refl (t.address ∙ block_at L all b known) (stores_none L k (GoesByAddress n targets) (λ y. refl) is) (λ h.
+        jumps L k c [] c.registers (step_address L k) (L.first_step b) (λ r. Branch 15 (r.general n)) size (c.registers.general n) (at_start L k c here is_loaded) row refl (t.address ∙ block_begins L image b known) (stores_none L k (GoesByAddress n targets) (λ y. refl) is) (λ h.
         subst (λ f. KindStep L f k (written (all_writes h) c) (At (L.first_step b)) (written (all_writes h) c)) (sym is) (b, t, refl, refl))
     go (inr none) = λ trace run. stuck (subst (λ f. KindWrong L f c) (sym is) none) (subst Loses (sym is) tt)

@@ -1,5 +1,6 @@
 -- A step of a layout at its place: its parts as rows, and how one row that does its operation is the step.
-use Rattle.std.proofs.Common.{◌≡◌, ℕ, suc, ◌+◌, ◌-◌, ◌%◌, ◌^◌, ◌<◌, ◌≤◌, [], ◌∷◌, List, length, get_or, slice_index, Option, Some, None, Bool, true, false, refl, sym, ap, ◌∙◌, subst, arith, slice_get, nat_lt, ltb-true}
+pub use Rattle.s390x_machine.specs.CodeAt.{StepAt}
+use Rattle.std.proofs.Common.{◌≡◌, ℕ, suc, ◌+◌, ◌-◌, ◌%◌, ◌^◌, ◌<◌, ◌≤◌, [], ◌∷◌, List, length, get_or, slice_index, Option, Some, None, Bool, true, false, refl, sym, ap, ◌∙◌, subst, arith, nat_lt, ltb-true}
 use Rattle.std.proofs.lemmas.Option.{slice_get_within}
 use Rattle.s390x_base.specs.declared.trap.TrapKind.{TrapKind}
 use Rattle.s390x_format.specs.Formats.{length_of, layout_of}
@@ -29,14 +30,14 @@ use Rattle.s390x_machine.specs.Layout.{Layout, step_address}
 use Rattle.s390x_machine.specs.OneStep.{StepRuns}
 use Rattle.s390x_machine.specs.Semantics.{register_field}
 use Rattle.s390x_machine.specs.Operands.{performed_where}
-use Rattle.s390x_machine.specs.CodeAt.{CodeAt, AllCodeAt, OperandsValidOr}
+use Rattle.s390x_machine.specs.CodeAt.{OperandsValidOr}
 use Rattle.s390x_machine.specs.Typed.{kind_of_step, kind_at}
 use Rattle.s390x_machine.proofs.SingleInstruction.{Doing, DoesThere, meant_at, pair_at}
 use Rattle.s390x_machine.proofs.Fetching.{StandsAt}
 use Rattle.s390x_machine.proofs.Listing.{ListedRow, PairRow}
 use Rattle.s390x_machine.proofs.RegisterNumbers.{even_pair}
 use Rattle.s390x_machine.proofs.Simulation.{RowAt, DoesAs, Coded, ValuesCoded, at_start, general_step}
-use Rattle.s390x_machine.proofs.Standing.{PartsStand, step_stands, offset_even, offset_small, inside_first, next_place}
+use Rattle.s390x_machine.proofs.Standing.{PartsStand, step_stands, inside_first, next_place}
 use Rattle.s390x_machine.proofs.Stops.{never_by_values}
 use Rattle.s390x_machine.proofs.Trapping.{IsLate, entry_found, late_code}
 
@@ -87,12 +88,6 @@ pub record Recorded (L : Layout) (k : ℕ) (m : MachineInstruction) (byte : ℕ)
   pub row : OneRow L k m
   pub found : first_code L.traps (L.offsets.step k + byte) ≡ Some code
 
--- a step of a layout whose bytes stand at its place
-pub record StepAt (L : Layout) (k : ℕ) (s : Step) : Type 0 where
-  pub all : AllCodeAt L
-  pub at : slice_get L.steps k ≡ Some s
-  pub placed : CodeAt L k s
-
 -- a step that is this operation, and one row
 abbrev pub IsRow : Layout → Step → MachineInstruction → (Registers → Operation) → Type 0
 IsRow L s x operation = (kind_of_step L (Some s) ≡ Some (Performs false operation no_code)) × (step_parts s ≡ Row x ∷ [])
@@ -107,20 +102,20 @@ module _ {L : Layout} {k : ℕ} {s : Step} (b : StepAt L k s) where
   step_within = slice_get_within L.steps k s b.at
 
   pub step_even : L.offsets.step k % 2 ≡ 0
-  step_even = offset_even L b.all k (omega (arith, step_within))
+  step_even = (b.image.step_places k (omega (arith, step_within))).0
 
   pub step_small : L.offsets.step k < 2 ^ 31
-  step_small = offset_small L b.all k (omega (arith, step_within))
+  step_small = (b.image.step_places k (omega (arith, step_within))).1
 
   pub step_form : (f : StepKind) → kind_of_step L (Some s) ≡ Some f → kind_at L k ≡ Some f
   step_form f e = ap (kind_of_step L) b.at ∙ e
 
   -- its parts stand one behind another, and fill it
   pub stand_as : (parts : List CodePart) → step_parts s ≡ parts → PartsStand L (L.offsets.step k) parts
-  stand_as parts is = subst (λ ps. PartsStand L (L.offsets.step k) ps) is (step_stands L k s b.placed)
+  stand_as parts is = subst (λ ps. PartsStand L (L.offsets.step k) ps) is (step_stands L k s b.code)
 
   pub size_as : (parts : List CodePart) → step_parts s ≡ parts → L.offsets.step (suc k) ≡ L.offsets.step k + parts_size parts
-  size_as parts is = b.placed.size ∙ ap (λ ps. L.offsets.step k + parts_size ps) is
+  size_as parts is = b.code.size ∙ ap (λ ps. L.offsets.step k + parts_size ps) is
 
   pub one_row : (m : MachineInstruction) → step_parts s ≡ Row m ∷ [] → OneRow L k m
   one_row m is =
@@ -134,7 +129,7 @@ module _ {L : Layout} {k : ℕ} {s : Step} (b : StepAt L k s) where
       let next = size_as (Trapping m byte code ∷ []) is ∙ ap (λ n. o + n) size in
       record {
         row = record { stands = (stand_as (Trapping m byte code ∷ []) is).0; size = next };
-        found = b.placed.traps (o + byte) (omega arith) (omega (arith, next, lt)) ∙ ap (λ ps. first_code (parts_traps o ps) (o + byte)) is ∙ entry_found (o + byte) code;
+        found = b.code.traps (o + byte) (omega arith) (omega (arith, next, lt)) ∙ ap (λ ps. first_code (parts_traps o ps) (o + byte)) is ∙ entry_found (o + byte) code;
       }
 
   -- a row by itself, which does the step's operation
@@ -144,28 +139,28 @@ module _ {L : Layout} {k : ℕ} {s : Step} (b : StepAt L k s) where
       general_step L k c [] (step_address L k) act size false 0 operation code (step_form _ is) (at_start L k c (inside_first L k size e some) is_loaded) row (does c.registers) (next_place L k size e) at (with_code c.registers)
 
   -- one that is as free as the step's operation, or less
-  pub looser_runs : (x : MachineInstruction) (does operation : Registers → Operation) → ((r : Registers) → Refines (does r) (operation r)) → NeverStops operation → IsRow L s x operation → DoesThere L b.all (L.offsets.step k) step_even x does → StepRuns L k
+  pub looser_runs : (x : MachineInstruction) (does operation : Registers → Operation) → ((r : Registers) → Refines (does r) (operation r)) → NeverStops operation → IsRow L s x operation → DoesThere L b.image (L.offsets.step k) step_even x does → StepRuns L k
   looser_runs x does operation refines never is at_row =
       let one = one_row x is.1 in
       row_alone operation no_code (λ r. Perform (does r)) (size_of x) is.0 (at_row one.stands) refines (uncoded L (step_address L k)) never one.size (some_bytes x.format)
 
-  pub row_runs : (x : MachineInstruction) (operation : Registers → Operation) → NeverStops operation → IsRow L s x operation → DoesThere L b.all (L.offsets.step k) step_even x operation → StepRuns L k
+  pub row_runs : (x : MachineInstruction) (operation : Registers → Operation) → NeverStops operation → IsRow L s x operation → DoesThere L b.image (L.offsets.step k) step_even x operation → StepRuns L k
   row_runs x operation never is at_row = looser_runs x operation operation (λ r. exactly (operation r)) never is at_row
 
   -- any row whose action is the step's operation
   pub meant_runs : {allowed : Allowed} {digits : ℕ} (x : MachineInstruction) (semantics : RowSemantics) (operation : Registers → Operation) → NeverStops operation → IsRow L s x operation →
       ListedRow x.format allowed digits (slice_index x.slots 0) semantics → SlotsFit (layout_of x.format) x.slots → is_allowed allowed x.slots ≡ true → Doing (fields_of x.format x.slots) semantics operation → StepRuns L k
-  meant_runs x semantics operation never is row fit allows acts = row_runs x operation never is (λ st. meant_at L b.all (L.offsets.step k) step_even x semantics operation row fit allows acts st)
+  meant_runs x semantics operation never is row fit allows acts = row_runs x operation never is (λ st. meant_at L b.image (L.offsets.step k) step_even x semantics operation row fit allows acts st)
 
   -- a row of an even pair whose action is the step's operation
   pub pair_runs : {allowed : Allowed} (x : MachineInstruction) (semantics : RowSemantics) (operation : Registers → Operation) → NeverStops operation → IsRow L s x operation → PairRow x.format allowed (slice_index x.slots 0) semantics → register_field (fields_of x.format x.slots) 0 % 2 ≡ 0 →
       SlotsFit (layout_of x.format) x.slots → is_allowed allowed x.slots ≡ true → Doing (fields_of x.format x.slots) semantics operation → StepRuns L k
   pair_runs x semantics operation never is row is_even fit allows acts =
-      row_runs x operation never is (λ st. pair_at L b.all (L.offsets.step k) step_even x semantics operation row (even_pair semantics (fields_of x.format x.slots) is_even) fit allows acts st)
+      row_runs x operation never is (λ st. pair_at L b.image (L.offsets.step k) step_even x semantics operation row (even_pair semantics (fields_of x.format x.slots) is_even) fit allows acts st)
 
   -- a row by itself, whose stop has a code at its last byte
   pub coded_runs : (x : MachineInstruction) (operation : Registers → Operation) (code : StopKind → Option TrapKind) (n : TrapKind) → ((r : Registers) → ValuesCoded (operation r) code) → ((kind : StopKind) (y : TrapKind) → code kind ≡ Some y → IsLate L kind × (y ≡ n)) →
-      kind_of_step L (Some s) ≡ Some (Performs false operation code) → step_parts s ≡ stopping x n ∷ [] → fetch_length_of (get_or (bytes_of x) 0 0) ≡ size_of x → DoesThere L b.all (L.offsets.step k) step_even x operation → StepRuns L k
+      kind_of_step L (Some s) ≡ Some (Performs false operation code) → step_parts s ≡ stopping x n ∷ [] → fetch_length_of (get_or (bytes_of x) 0 0) ≡ size_of x → DoesThere L b.image (L.offsets.step k) step_even x operation → StepRuns L k
   coded_runs x operation code n values late is parts tells at_row =
       let o = L.offsets.step k in
       let some : 0 < size_of x = some_bytes x.format in
@@ -173,5 +168,5 @@ module _ {L : Layout} {k : ℕ} {s : Step} (b : StepAt L k s) where
       let long : 0 < length (bytes_of x) = omega (arith, encode-length x.format x.slots, some) in
       let with_code : Coded L (step_address L k) code = λ kind y e.
       let h = late kind y e in
-      late_code L b.all.fits o (bytes_of x) one.row.stands long kind h.0 ∙ ap (λ n. first_code L.traps (o + (n - 1))) tells ∙ one.found ∙ ap Some (sym h.1) in
+      late_code L b.image.fits o (bytes_of x) one.row.stands long kind h.0 ∙ ap (λ n. first_code L.traps (o + (n - 1))) tells ∙ one.found ∙ ap Some (sym h.1) in
       row_alone operation code (λ r. Perform (operation r)) (size_of x) is (at_row one.row.stands) (λ r. exactly (operation r)) with_code values one.row.size some

@@ -27,7 +27,7 @@ use Rattle.s390x_machine.specs.declared.semantics.Action.TheVariants.{Branch, Br
 use Rattle.s390x_machine.specs.Machine.{Event, ActionStep}
 use Rattle.s390x_machine.specs.Semantics.{semantics_in, semantics_of}
 use Rattle.s390x_machine.specs.Layout.{Layout, step_address}
-use Rattle.s390x_machine.specs.CodeAt.{AllCodeAt, PartReaches, PartsReach}
+use Rattle.s390x_machine.specs.CodeAt.{AllCodeAt, ImageAt, PartReaches, PartsReach}
 use Rattle.s390x_machine.specs.Match.{return_address}
 use Rattle.s390x_machine.specs.OneStep.{StepRuns}
 use Rattle.s390x_machine.specs.StepKinds.{Calls, TailCalls, called_address}
@@ -52,11 +52,11 @@ brasl_listed a half = listed machine_rows RilB (ril_b 0xc05 a half).slots (omega
 abbrev pub LeadsTo : Layout → (offset half address : ℕ) → Type 0
 LeadsTo L offset half address = (half < 2 ^ 32) × (low Doubleword (pos (wrapping_add64 L.image.base offset) +ℤ pos 2 *ℤ cast_signed w32 half) ≡ address)
 
-module _ (L : Layout) (all : AllCodeAt L) (offset : ℕ) (even : offset % 2 ≡ 0) where
+module _ (L : Layout) (image : ImageAt L) (offset : ℕ) (even : offset % 2 ≡ 0) where
   -- BRANCH AND SAVE to the address in a register
   pub basr_at : (link b : ℕ) → link < 16 → b < 16 → b ≢ 0 → StandsAt L.image offset (bytes_of (rr 0x0d link b)) → RowAt L (wrapping_add64 L.image.base offset) (λ r. BranchAndSave link (r.general b)) (length_of Rr)
   unfolding semantics_in semantics_of
-  basr_at link b ll lb some s = row_at L offset (rr 0x0d link b) (λ r. BranchAndSave link (r.general b)) all.even even all.fits s (fits_rr 0x0d link b (omega arith) ll lb) (basr_listed link b) (λ state event t at h. saved (b == 0) refl state event t h)
+  basr_at link b ll lb some s = row_at L offset (rr 0x0d link b) (λ r. BranchAndSave link (r.general b)) image.even even image.fits s (fits_rr 0x0d link b (omega arith) ll lb) (basr_listed link b) (λ state event t at h. saved (b == 0) refl state event t h)
     where
       saved : (n : Bool) → (b == 0) ≡ n → (state : State) (event : Event) (t : State) →
           ActionStep (BranchAndSave link (cond n (wrapping_add64 state.address 2) (state.core.registers.general b))) (length_of Rr) state event t → ActionStep (BranchAndSave link (state.core.registers.general b)) (length_of Rr) state event t
@@ -67,14 +67,14 @@ module _ (L : Layout) (all : AllCodeAt L) (offset : ℕ) (even : offset % 2 ≡ 
   pub brasl_at : (link half target : ℕ) → link < 16 → LeadsTo L offset half target → StandsAt L.image offset (bytes_of (ril_b 0xc05 link half)) → RowAt L (wrapping_add64 L.image.base offset) (λ r. BranchAndSave link target) (length_of RilB)
   unfolding semantics_in semantics_of
   brasl_at link half target ll leads s =
-      row_at L offset (ril_b 0xc05 link half) (λ r. BranchAndSave link target) all.even even all.fits s (fits_ril_b 0xc05 link half (omega arith) ll leads.0) (brasl_listed link half) (λ state event t at h.
+      row_at L offset (ril_b 0xc05 link half) (λ r. BranchAndSave link target) image.even even image.fits s (fits_ril_b 0xc05 link half (omega arith) ll leads.0) (brasl_listed link half) (λ state event t at h.
       subst (λ a. ActionStep (BranchAndSave link a) (length_of RilB) state event t) (ap (λ p. low Doubleword (pos p +ℤ pos 2 *ℤ cast_signed w32 half)) at ∙ leads.1) h)
 
   -- BRANCH RELATIVE ON CONDITION LONG, which is always taken, to an address
   pub goes_at : (half target : ℕ) → LeadsTo L offset half target → StandsAt L.image offset (bytes_of (ril_c 0xc04 15 half)) → RowAt L (wrapping_add64 L.image.base offset) (λ r. Branch 15 target) (length_of RilC)
   unfolding semantics_in semantics_of
   goes_at half target leads s =
-      row_at L offset (ril_c 0xc04 15 half) (λ r. Branch 15 target) all.even even all.fits s (fits_ril_c 0xc04 15 half (omega arith) (omega arith) leads.0) (brcl_listed 15 half) (λ state event t at h.
+      row_at L offset (ril_c 0xc04 15 half) (λ r. Branch 15 target) image.even even image.fits s (fits_ril_c 0xc04 15 half (omega arith) (omega arith) leads.0) (brcl_listed 15 half) (λ state event t at h.
       subst (λ a. ActionStep (Branch 15 a) (length_of RilC) state event t) (ap (λ p. low Doubleword (pos p +ℤ pos 2 *ℤ cast_signed w32 half)) at ∙ leads.1) h)
 
 -- sites have no bytes
@@ -85,7 +85,7 @@ sites_size (s ∷ ss) = omega (arith, sites_size ss)
 module _ {L : Layout} {k : ℕ} {s : Step} (x : StepAt L k s) where
   -- the first part of a step reaches its symbol
   first_reached : (part : CodePart) (parts : List CodePart) → step_parts s ≡ part ∷ parts → PartReaches L (L.offsets.step k) part
-  first_reached part parts is = (subst (λ ps. PartsReach L (L.offsets.step k) ps) is x.placed.reached).0
+  first_reached part parts is = (subst (λ ps. PartsReach L (L.offsets.step k) ps) is x.code.reached).0
 
   -- a step of one such row and sites has the row's bytes
   row_size : (part : CodePart) (ss : List Site) → step_parts s ≡ part ∷ site_parts ss → L.offsets.step (suc k) ≡ L.offsets.step k + part_size part
@@ -97,14 +97,14 @@ module _ {L : Layout} {k : ℕ} {s : Step} (x : StepAt L k s) where
       let o = L.offsets.step k in
       let part = call_part link (Direct name) in
       let size : L.offsets.step (suc k) ≡ o + 6 = row_size part ss parts in
-      let row = brasl_at L x.all o (step_even x) (number_of link) (L.offsets.environment.symbol_distance o name (pos 0)) (L.offsets.environment.symbol_value name (pos 0)) (general_number link general) (first_reached part (site_parts ss) parts) (stand_as x (part ∷ site_parts ss) parts).0 in
+      let row = brasl_at L x.image o (step_even x) (number_of link) (L.offsets.environment.symbol_distance o name (pos 0)) (L.offsets.environment.symbol_value name (pos 0)) (general_number link general) (first_reached part (site_parts ss) parts) (stand_as x (part ∷ site_parts ss) parts).0 in
       call_runs L k (number_of link) 6 (called_address L (Direct name)) (step_form x _ is) row (next_place L k 6 size) (inside_first L k 6 size (omega arith))
   calling_runs link (Indirect reg) ss is parts general valid =
       let o = L.offsets.step k in
       let part = call_part link (Indirect reg) in
       let size : L.offsets.step (suc k) ≡ o + 2 = row_size part ss parts in
       let registers = and_parts (is_general reg) (is_nonzero reg) valid in
-      let row = basr_at L x.all o (step_even x) (number_of link) (number_of reg) (general_number link general) (general_number reg registers.0) (nonzero_number reg registers.0 registers.1) (stand_as x (part ∷ site_parts ss) parts).0 in
+      let row = basr_at L x.image o (step_even x) (number_of link) (number_of reg) (general_number link general) (general_number reg registers.0) (nonzero_number reg registers.0 registers.1) (stand_as x (part ∷ site_parts ss) parts).0 in
       call_runs L k (number_of link) 2 (called_address L (Indirect reg)) (step_form x _ is) row (next_place L k 2 size) (inside_first L k 2 size (omega arith))
 
   pub tail_jump_runs : (target : CallInstDest) (ss : List Site) → kind_of_step L (Some s) ≡ Some (TailCalls (called_address L target)) → step_parts s ≡ tail_part target ∷ site_parts ss → IsTrue (is_target target) → StepRuns L k
@@ -113,14 +113,14 @@ module _ {L : Layout} {k : ℕ} {s : Step} (x : StepAt L k s) where
       let o = L.offsets.step k in
       let part = tail_part (Direct name) in
       let size : L.offsets.step (suc k) ≡ o + 6 = row_size part ss parts in
-      let row = goes_at L x.all o (step_even x) (L.offsets.environment.symbol_distance o name (pos 0)) (L.offsets.environment.symbol_value name (pos 0)) (first_reached part (site_parts ss) parts) (stand_as x (part ∷ site_parts ss) parts).0 in
+      let row = goes_at L x.image o (step_even x) (L.offsets.environment.symbol_distance o name (pos 0)) (L.offsets.environment.symbol_value name (pos 0)) (first_reached part (site_parts ss) parts) (stand_as x (part ∷ site_parts ss) parts).0 in
       tail_runs L k 6 (called_address L (Direct name)) (step_form x _ is) row (inside_first L k 6 size (omega arith))
   tail_jump_runs (Indirect reg) ss is parts valid =
       let o = L.offsets.step k in
       let part = tail_part (Indirect reg) in
       let size : L.offsets.step (suc k) ≡ o + 2 = row_size part ss parts in
       let registers = and_parts (is_general reg) (is_nonzero reg) valid in
-      let row = bcr_at L x.all o (step_even x) 15 (number_of reg) (omega arith) (general_number reg registers.0) (nonzero_number reg registers.0 registers.1) (stand_as x (part ∷ site_parts ss) parts).0 in
+      let row = bcr_at L x.image o (step_even x) 15 (number_of reg) (omega arith) (general_number reg registers.0) (nonzero_number reg registers.0 registers.1) (stand_as x (part ∷ site_parts ss) parts).0 in
       tail_runs L k 2 (called_address L (Indirect reg)) (step_form x _ is) row (inside_first L k 2 size (omega arith))
 
 -- a call's return place is the next step's

@@ -1,5 +1,5 @@
 -- Steps that emission lets pass are fine.
-use Rattle.std.proofs.Common.{◌≡◌, ℕ, zero, suc, ◌+◌, ◌<◌, ◌≤◌, List, [], ◌∷◌, ◌++◌, length, Option, Some, None, option_map, ◌&&◌, ◌||◌, refl, sym, ap, ◌∙◌, subst, arith, length-append, slice_get, ltb-true}
+use Rattle.std.proofs.Common.{◌≡◌, ℕ, zero, suc, ◌+◌, ◌<◌, ◌≤◌, List, [], ◌∷◌, ◌++◌, length, Option, Some, None, option_map, ◌&&◌, ◌||◌, refl, sym, ap, ◌∙◌, subst, arith, append-nil, length-append, slice_get, ltb-true}
 use Rattle.std.specs.Prelude.{nat_eq, nat_lt, not}
 use Rattle.std.proofs.lemmas.Bool.{and_parts}
 use Rattle.s390x_inst.specs.declared.state.IsaFlags.{IsaFlags}
@@ -174,6 +174,13 @@ module _ (L : Layout) where
   valid_function flags n ts same e range k s h =
       let within : 0 + length (steps_from 0 ts) ≤ length L.steps = omega (arith, ap length same) in
       valid_blocks flags 0 n ts e range within k s (ap (λ ss. slice_get ss k) (sym same) ∙ h)
+
+  -- those of one tree, whatever stack size it leaves
+  pub valid_alone : (flags : IsaFlags) (n nominal : ℕ) (t : Tree) → L.steps ≡ function_steps (t ∷ []) → tree_cause flags (declared L) n nominal 0 t ≡ None → BlocksMasked (t ∷ []) → (k : ℕ) (s : Step) → slice_get L.steps k ≡ Some s → IsValidStep L s
+  unfolding AllValid
+  valid_alone flags n nominal t same e range k s h =
+      let own : L.steps ≡ steps_of 0 0 t = same ∙ append-nil (steps_of 0 0 t) in
+      valid_tree flags 0 0 n nominal 0 t e range.0 (λ d. absurd (omega arith)) (omega (arith, count_of 0 0 t, ap length own)) k s (ap (λ ss. slice_get ss k) (sym own) ∙ h)
 
 -- the steps of a function that has no cause of refusal
 pub checked_steps : (flags : IsaFlags) (environment : LinkEnvironment) (ts : List Tree) (n : ℕ) (image : CodeImage) → blocks_cause flags (record { blocks = length ts; aligns = environment.aligns }) n ts ≡ None → BlocksInRange ts → (k : ℕ) (s : Step) → slice_get (function_steps ts) k ≡ Some s → IsValidStep (function_layout environment ts image) s

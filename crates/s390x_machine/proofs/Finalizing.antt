@@ -1,6 +1,6 @@
 -- An instruction with an operand in memory runs as its step: its operand stands in its access as it is, or helpers put an offset or an address into
 -- `%r1` first.
-use Rattle.std.proofs.Common.{◌⊎◌, ◌≡◌, ℕ, ◌+◌, ◌^◌, ◌<◌, ◌≤◌, [], ◌∷◌, ◌++◌, Option, Some, None, Bool, true, false, cond, not, ◌&&◌, ◌||◌, ◌==◌, IsTrue, refl, sym, ap, ◌∙◌, subst, arith}
+use Rattle.std.proofs.Common.{◌⊎◌, inl, ◌≡◌, ℕ, ◌+◌, ◌^◌, ◌<◌, ◌≤◌, [], ◌∷◌, ◌++◌, Option, Some, None, Bool, true, false, cond, not, ◌&&◌, ◌||◌, ◌==◌, IsTrue, refl, sym, ap, ◌∙◌, subst, arith}
 use Rattle.std.specs.Prelude.{ℤ, pos, negsuc, ◌+ℤ◌, ◌*ℤ◌, ◌≤ℤ◌, unsigned_abs}
 use Rattle.std.specs.Int.{cast_signed}
 use mir.Syntax.{w32}
@@ -9,6 +9,7 @@ use Rattle.std.proofs.lemmas.Int.{ints}
 use Rattle.s390x_base.specs.Regs.{number_of}
 use Rattle.s390x_base.specs.declared.regs.Reg.{Reg}
 use Rattle.s390x_base.specs.declared.ir.MachMemFlags.{MachMemFlags}
+use Rattle.s390x_base.specs.declared.ir.VCodeConstant.{VCodeConstant}
 use Rattle.s390x_base.specs.declared.trap.TrapKind.{TrapKind}
 use Rattle.s390x_inst.specs.Memory.{flags_of}
 use Rattle.s390x_inst.specs.declared.args.MemArg.{MemArg}
@@ -32,7 +33,7 @@ use Rattle.s390x_machine.specs.StepKinds.{Performs, Unsupported, kind_or, perfor
 use Rattle.s390x_machine.specs.Layout.{Layout, declared, block_address, constant_address}
 use Rattle.s390x_machine.specs.OneStep.{StepRuns}
 use Rattle.s390x_machine.specs.Operands.{indexed, based, address_part}
-use Rattle.s390x_machine.specs.CodeAt.{PartsReach, IsValidMemory}
+use Rattle.s390x_machine.specs.CodeAt.{NamesConstant, PartsReach, IsValidMemory}
 use Rattle.s390x_machine.specs.Storage.{operand_address, needs_scratch, loads_address, aligned_where, aligned_effect}
 use Rattle.s390x_machine.specs.Typed.{kind_of_step, kind_at}
 use Rattle.s390x_machine.proofs.Addresses.{sum_below}
@@ -41,7 +42,7 @@ use Rattle.s390x_machine.proofs.Rows.{general_number}
 use Rattle.s390x_machine.proofs.Simulation.{ValuesCoded}
 use Rattle.s390x_machine.proofs.Built.{StepAt}
 use Rattle.s390x_machine.proofs.Accessing.{direct, after_address, after_offset, after_both}
-use Rattle.s390x_machine.proofs.Relative.{RelativeForm, RelativeDoes, Distant, first_none, label_known, constant_known, to_label, to_constant, to_symbol, distant_stands}
+use Rattle.s390x_machine.proofs.Relative.{RelativeForm, RelativeDoes, Distant, first_none, label_known, constant_known, to_label, to_constant, to_symbol, named_there, distant_stands}
 use Rattle.s390x_machine.proofs.Storage.{FormDoes, IndexedForm, MayIndex, Stands, stands_12, stands_20}
 
 may_none : (form : StorageForm) → MayIndex form 0
@@ -129,19 +130,19 @@ module _ {L : Layout} {k : ℕ} {s : Step} (b : StepAt L k s) (load : LoadsAddre
       go : (short long : Bool) → mi.have_d12 ≡ short → mi.have_d20 ≡ long → (short || long) ≡ true → Stands L form (cond (not mi.have_d12 && mi.have_d20) (BXD20 base index (pos d) flags) (BXD12 base index d flags)) operation (there base index (pos d))
       go true long e f h =
           subst (λ b. Stands L form (cond (not b && mi.have_d20) (BXD20 base index (pos d) flags) (BXD12 base index d flags)) operation (there base index (pos d))) (sym e)
-          (stands_12 L b.all operation form does accesses e base index d flags lb li may le)
+          (stands_12 L b.image operation form does accesses e base index d flags lb li may le)
       go false true e f h =
           subst (λ b. Stands L form (cond (not b && mi.have_d20) (BXD20 base index (pos d) flags) (BXD12 base index d flags)) operation (there base index (pos d))) (sym e)
           (subst (λ b. Stands L form (cond b (BXD20 base index (pos d) flags) (BXD12 base index d flags)) operation (there base index (pos d))) (sym f)
-          (stands_20 L b.all operation form does accesses f base index (pos d) flags lb li may (omega (arith, ints)) (omega (arith, le, ints)) (displacement_bits (pos d))))
+          (stands_20 L b.image operation form does accesses f base index (pos d) flags lb li may (omega (arith, ints)) (omega (arith, le, ints)) (displacement_bits (pos d))))
       go false false e f h = absurd (cc)
 
   -- the helper's operand, of 12 bits and of 20
   loads_12 : (base index : Reg) (d : ℕ) (flags : MachMemFlags) → number_of base < 16 → number_of index < 16 → d ≤ 4095 → Stands L (address_form scratch) (BXD12 base index d flags) (loads_address 1) (there base index (pos d))
-  loads_12 base index d flags lb li le = stands_12 L b.all (loads_address 1) (address_form scratch) load false refl base index d flags lb li tt le
+  loads_12 base index d flags lb li le = stands_12 L b.image (loads_address 1) (address_form scratch) load false refl base index d flags lb li tt le
 
   loads_20 : (base index : Reg) (z : ℤ) (flags : MachMemFlags) → number_of base < 16 → number_of index < 16 → negsuc 524287 ≤ℤ z → z ≤ℤ pos 524287 → Stands L (address_form scratch) (BXD20 base index z flags) (loads_address 1) (there base index z)
-  loads_20 base index z flags lb li least most = stands_20 L b.all (loads_address 1) (address_form scratch) load false refl base index z flags lb li tt least most (displacement_bits z)
+  loads_20 base index z flags lb li least most = stands_20 L b.image (loads_address 1) (address_form scratch) load false refl base index z flags lb li tt least most (displacement_bits z)
 
   -- the operand after a helper that loads the address
   loaded_stands : (flags : MachMemFlags) → (mi.have_d12 || mi.have_d20) ≡ true → Stands L form (widened mi (BXD12 scratch no_register 0 flags)) operation (λ r. indexed r 1 0 (pos 0))
@@ -174,7 +175,7 @@ module _ {L : Layout} {k : ℕ} {s : Step} (b : StepAt L k s) (load : LoadsAddre
         let g = and_parts (is_general base) (is_general index) general in
         let parts = neither (not mi.have_d20) (not mi.have_index && not (is_numbered 0 index)) e in
         let may = may_index form accesses (is_numbered 0 index) (number_of index) parts.1 (λ y. eqb-true (number_of index) 0 (sym (zero_test index g.1) ∙ y)) in
-        direct b form operation code never (there base index z) (BXD20 base index z flags) (stands_20 L b.all operation form does accesses (not_not mi.have_d20 parts.0) base index z flags (general_number base g.0) (general_number index g.1) may least most (displacement_bits z)) ready.0 ready.1
+        direct b form operation code never (there base index z) (BXD20 base index z flags) (stands_20 L b.image operation form does accesses (not_not mi.have_d20 parts.0) base index z flags (general_number base g.0) (general_number index g.1) may least most (displacement_bits z)) ready.0 ready.1
     indexed_20 base index z flags general least most true e ready =
         let g = and_parts (is_general base) (is_general index) general in
         after_address b form operation code never (there base index z) (BXD20 base index z flags) (widened mi (BXD12 scratch no_register 0 flags))
@@ -196,12 +197,18 @@ module _ {L : Layout} {k : ℕ} {s : Step} (b : StepAt L k s) (load : LoadsAddre
       kind_at L k ≡ Some (Performs t (λ r. aligned_where (accesses && not t) (operation address r)) (access_code code)) → step_parts s ≡ finalized_parts form code (with_widened mi (cond t (record { helpers = LoadAddr scratch mem ∷ []; operand = BXD12 scratch no_register 0 flags }) (record { helpers = []; operand = mem }))) → StepRuns L k
   distant_runs mem address d reads ignores flags false pcrel small has kept is parts =
       let aligned : ℕ → Registers → Operation = λ a r. aligned_where accesses (operation a r) in
-      direct b form aligned code (λ a r. aligned_coded accesses (operation a r) (access_code code) (never a r)) (λ r. address) mem (distant_stands L b.all form accesses operation relative (pcrel refl) mem address d)
+      direct b form aligned code (λ a r. aligned_coded accesses (operation a r) (access_code code) (never a r)) (λ r. address) mem (distant_stands L b.image form accesses operation relative (pcrel refl) mem address d)
       (is ∙ ap (λ b. Some (Performs false (λ r. aligned_where b (operation address r)) (access_code code))) (and_true accesses)) (parts ∙ ap (λ m. operand_parts form code m) (d.widens mi))
   distant_runs mem address d reads ignores flags true pcrel small has kept is parts =
       after_address b form operation code never (λ r. address) mem (widened mi (BXD12 scratch no_register 0 flags))
-      (distant_stands L b.all (address_form scratch) false (loads_address 1) larl refl mem address d) (loaded_stands flags (sym (or_false (mi.have_d12 || mi.have_d20)) ∙ has)) (λ r. small refl parts) (ignores (not_read false reads kept))
+      (distant_stands L b.image (address_form scratch) false (loads_address 1) larl refl mem address d) (loaded_stands flags (sym (or_false (mi.have_d12 || mi.have_d20)) ∙ has)) (λ r. small refl parts) (ignores (not_read false reads kept))
       (is ∙ ap (λ b. Some (Performs true (λ r. aligned_where b (operation address r)) (access_code code))) (and_false accesses)) parts
+
+  -- a constant is named by the access, or by its helper
+  names_constant : (c : VCodeConstant) (flags : MachMemFlags) (t : Bool) → (t ≡ false → mi.have_pcrel ≡ true) →
+      NamesConstant c.0 (finalized_parts form code (with_widened mi (cond t (record { helpers = LoadAddr scratch (Constant c) ∷ []; operand = BXD12 scratch no_register 0 flags }) (record { helpers = []; operand = Constant c }))))
+  names_constant c flags true pcrel = inl refl
+  names_constant c flags false pcrel = named_there c form accesses code (pcrel refl)
 
   operand_runs : (mem : MemArg) (reads : Bool) → (reads ≡ false → (a : ℕ) (r : Registers) (v : ℕ) → Refines (operation a (set_general r 1 v)) (operation a r)) → IsTrue (has_form mi mem) → IsTrue (operand_general mem) →
       IsTrue (not (loses_base mem || (reads && is_helped (finalized mi mem).helpers))) → IsTrue (offset_fits mem) → OperandInRange mem → bound_cause (declared L) mem ≡ None →
@@ -258,13 +265,14 @@ module _ {L : Layout} {k : ℕ} {s : Step} (b : StepAt L k s) (load : LoadsAddre
           far (is_numbered 1 reg && true) reads ignores have reg off flags general (not_scratch reg general (sym (and_true (is_numbered 1 reg)) ∙ stuck)) z.0 z.1 (not mi.have_index && true) refl (is2, parts2, kept2)
       go have false e12 false e20 false e32 is2 parts2 kept2 fits2 = absurd (cc)
   operand_runs (Label target) reads ignores has general kept fits range bound is parts =
-      distant_runs (Label target) (block_address L target.0) (to_label L b.all target (label_known L target bound)) reads ignores (flags_of (Label target)) (not mi.have_pcrel) (λ e. not_not mi.have_pcrel e) (λ e parts2. sum_below L.image.base (L.offsets.block target.0)) has kept (is (λ r. block_address L target.0) refl) parts
+      distant_runs (Label target) (block_address L target.0) (to_label L b.image target (label_known L target bound)) reads ignores (flags_of (Label target)) (not mi.have_pcrel) (λ e. not_not mi.have_pcrel e) (λ e parts2. sum_below L.image.base (L.offsets.block target.0)) has kept (is (λ r. block_address L target.0) refl) parts
   operand_runs (Constant c) reads ignores has general kept fits range bound is parts =
-      distant_runs (Constant c) (constant_address L c.0) (to_constant L b.all c (constant_known L c bound)) reads ignores (flags_of (Constant c)) (not mi.have_pcrel) (λ e. not_not mi.have_pcrel e) (λ e parts2. sum_below L.image.base (L.offsets.environment.constant c.0)) has kept (is (λ r. constant_address L c.0) refl) parts
+      let names = subst (NamesConstant c.0) (sym parts) (names_constant c (flags_of (Constant c)) (not mi.have_pcrel) (λ e. not_not mi.have_pcrel e)) in
+      distant_runs (Constant c) (constant_address L c.0) (to_constant L b.image c (b.constants c.0 (constant_known L c bound) names)) reads ignores (flags_of (Constant c)) (not mi.have_pcrel) (λ e. not_not mi.have_pcrel e) (λ e parts2. sum_below L.image.base (L.offsets.environment.constant c.0)) has kept (is (λ r. constant_address L c.0) refl) parts
   operand_runs (Symbol name offset flags) reads ignores has general kept fits range bound is parts =
       distant_runs (Symbol name offset flags) (L.offsets.environment.symbol_value name offset) (to_symbol L name offset flags) reads ignores flags (not mi.have_pcrel || (not flags.aligned && not mi.have_unaligned_pcrel)) (λ e.
       not_not mi.have_pcrel (neither (not mi.have_pcrel) (not flags.aligned && not mi.have_unaligned_pcrel) e).0) (λ e parts2.
-      let r = subst (λ ps. PartsReach L (L.offsets.step k) ps) parts2 b.placed.reached in
+      let r = subst (λ ps. PartsReach L (L.offsets.step k) ps) parts2 b.code.reached in
       let half = L.offsets.environment.symbol_distance (L.offsets.step k) name offset in
       subst (λ n. n < 2 ^ 64) r.0.1 (low_below (pos (wrapping_add64 L.image.base (L.offsets.step k)) +ℤ pos 2 *ℤ cast_signed w32 half))) has kept (is (λ r. L.offsets.environment.symbol_value name offset) refl) parts
   operand_runs (InitialSPOffset off) reads ignores has general kept fits range bound is parts = absurd range

@@ -19,7 +19,7 @@ use Rattle.s390x_machine.specs.CodeAt.{IsBlock, IsValidInstruction, LeadsOn}
 use Rattle.s390x_machine.proofs.Built.{StepAt, step_within, step_even, step_small, step_form, stand_as, size_as}
 use Rattle.s390x_machine.proofs.RegisterNumbers.{small_mask}
 use Rattle.s390x_machine.proofs.Rows.{brcl_at}
-use Rattle.s390x_machine.proofs.Standing.{block_even, block_small, block_at, next_place, inside_first}
+use Rattle.s390x_machine.proofs.Standing.{block_begins, next_place, inside_first}
 use Rattle.s390x_machine.proofs.Simulation.{RowAt, mid, Inside, at_start, Turned, branch, done}
 use Rattle.s390x_machine.proofs.Branches.{stores_none}
 use Rattle.s390x_machine.proofs.VectorComposites.{inverts}
@@ -102,7 +102,7 @@ shortened_row : {L : Layout} {k : ℕ} {s : Step} (x : StepAt L k s) (m a : ℕ)
 unfolding length_of
 shortened_row {L} {k} x m a parts lm known =
     let rows = stand_as x _ parts in
-    brcl_at L x.all (L.offsets.step k) (step_even x) m (L.offsets.block a) lm (step_small x) (block_even L x.all a known) (block_small L x.all a known) rows.0
+    brcl_at L x.image (L.offsets.step k) (step_even x) m (L.offsets.block a) lm (step_small x) (x.image.block_places a known).0 (x.image.block_places a known).1 rows.0
 
 shortened_size : {L : Layout} {k : ℕ} {s : Step} (x : StepAt L k s) (m a : ℕ) → step_parts s ≡ BranchPart m (ToBlock a) ∷ [] → L.offsets.step (suc k) ≡ L.offsets.step k + 6
 shortened_size x m a parts = size_as x _ parts
@@ -118,11 +118,11 @@ shortened_runs L k (BranchLeft m b) (CondBr taken not_taken mask) x valid (inl o
     let parts : step_parts (Shortened (BranchLeft m b) (CondBr taken not_taken mask)) ≡ BranchPart mask (ToBlock taken.0) ∷ [] = ap₂ (λ n t. BranchPart n (ToBlock t) ∷ []) on.0 on.1 in
     let size = shortened_size x mask taken.0 parts in
     first_alone_runs L k mask taken.0 not_taken.0 6 (step_form x (Chooses mask taken.0 not_taken.0) refl) on.2 (shortened_row x mask taken.0 parts (small_mask mask valid.2) valid.0)
-    (block_at L x.all taken.0 valid.0) (next_place L k 6 size) (inside_first L k 6 size (omega arith))
+    (block_begins L x.image taken.0 valid.0) (next_place L k 6 size) (inside_first L k 6 size (omega arith))
 shortened_runs L k (BranchLeft m b) (CondBr taken not_taken mask) x valid (inr on) =
     let inverse = 15 - mask in
     let parts : step_parts (Shortened (BranchLeft m b) (CondBr taken not_taken mask)) ≡ BranchPart inverse (ToBlock not_taken.0) ∷ [] = ap₂ (λ n t. BranchPart n (ToBlock t) ∷ []) on.0 on.1 in
     let size = shortened_size x inverse not_taken.0 parts in
     second_alone_runs L k mask taken.0 not_taken.0 6 (small_mask mask valid.2) (step_form x (Chooses mask taken.0 not_taken.0) refl) on.2 (shortened_row x inverse not_taken.0 parts (omega arith) valid.1)
-    (block_at L x.all not_taken.0 valid.1) (next_place L k 6 size) (inside_first L k 6 size (omega arith))
+    (block_begins L x.image not_taken.0 valid.1) (next_place L k 6 size) (inside_first L k 6 size (omega arith))
 shortened_runs L k r i x valid on = absurd on

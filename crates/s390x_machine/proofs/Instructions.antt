@@ -28,7 +28,7 @@ use Rattle.s390x_machine.specs.Match.{EveryRunFrom, EveryRun, EveryReturnRun, Ev
 use Rattle.s390x_machine.specs.OneStep.{StepRuns, StepHolds}
 use Rattle.s390x_machine.specs.Layout.{Layout}
 use Rattle.s390x_machine.specs.CodeAt.{AllCodeAt, IsBlock, IsValidInstruction, IsValidStep}
-use Rattle.s390x_machine.proofs.Standing.{block_at}
+use Rattle.s390x_machine.proofs.Standing.{block_at, step_at}
 use Rattle.s390x_machine.proofs.Operands.{halfword_bits, word_bits, displacement_bits}
 use Rattle.s390x_machine.proofs.Rows.{general_number, nonzero_number, unscratched_number}
 use Rattle.s390x_machine.proofs.Bits.{part_rows, half_rows, load_part_rows, load_half_rows, insert_part_rows, extend_rows, locr_row, locgr_row, lochi_row, locghi_row, indexed_rows, logical_indexed_rows, dsgfr_row, dsgr_row, dlr_row, dlgr_row, trap_rows, trap_signed_rows, trap_unsigned_rows}
@@ -164,7 +164,7 @@ instruction_runs L k (Jump dest) b operands_valid = goto_runs b dest.0 refl refl
 instruction_runs L k (CondBr taken not_taken mask) b operands_valid = condbr_runs b mask taken.0 not_taken.0 refl refl (small_mask mask operands_valid.2) operands_valid.0 operands_valid.1
 instruction_runs L k (IndirectBr rn targets) b operands_valid =
     let row = register_row b (number_of rn) refl (general_number rn operands_valid.0) (nonzero_number rn operands_valid.0 operands_valid.1) in
-    address_runs L b.all k (number_of rn) (length_of Rr) targets.items (ap (kind_of_step L) b.at) operands_valid.2 row.0 row.1
+    address_runs L b.image k (number_of rn) (length_of Rr) targets.items (ap (kind_of_step L) b.at) operands_valid.2 row.0 row.1
 instruction_runs L k (Ret link) b operands_valid =
     let row = register_row b (number_of link) refl (general_number link operands_valid.0) (nonzero_number link operands_valid.0 operands_valid.1) in
     returns_runs L k (number_of link) (length_of Rr) (ap (kind_of_step L) b.at) row.0 row.1
@@ -215,7 +215,7 @@ instruction_runs L k _ b operands_valid = absurd operands_valid
 
 pub step_runs : (L : Layout) (k : ℕ) (s : Step) → StepAt L k s → IsValidStep L s → StepRuns L k
 step_runs L k (Plain i) b operands_valid = instruction_runs L k i b operands_valid
-step_runs L k (Shortened r i) b operands_valid = shortened_runs L k r i b operands_valid b.placed.folded
+step_runs L k (Shortened r i) b operands_valid = shortened_runs L k r i b operands_valid b.code.folded
 step_runs L k (LoadedStep i) b operands_valid = loaded_runs L k i b operands_valid
 step_runs L k Opening b operands_valid = opening_runs b refl refl
 step_runs L k (Back mask target) b operands_valid = loop_runs b mask target refl refl (small_mask mask operands_valid.0) operands_valid.1
@@ -225,10 +225,17 @@ step_runs L k NoLoadStep b operands_valid = absurd operands_valid
 step_runs L k (TailOpeningStep target first_saved is_lost) b operands_valid = opening_runs b refl refl
 step_runs L k (TailJumpStep target) b operands_valid = tail_jump_runs b target (AtCall ∷ []) refl refl operands_valid
 
+-- one whose own bytes stand at its place
+pub step_runs_there : (L : Layout) (k : ℕ) (s : Step) → StepAt L k s → StepRuns L k
+step_runs_there L k s x = step_runs L k s x x.code.valid
+
 pub step_runs_placed : (L : Layout) → AllCodeAt L → (k : ℕ) (s : Step) → slice_get L.steps k ≡ Some s → StepRuns L k
-step_runs_placed L all k s at = let p = all.steps k s at in step_runs L k s (record { all = all; at = at; placed = p }) p.valid
+step_runs_placed L all k s at = step_runs_there L k s (step_at L all k s at)
 
 -- each step by itself
+pub step_holds_there : (L : Layout) (k : ℕ) (s : Step) → StepAt L k s → StepHolds L k
+step_holds_there L k s x = one_step L k (step_runs_there L k s x)
+
 pub step_holds : (L : Layout) → AllCodeAt L → (k : ℕ) (s : Step) → slice_get L.steps k ≡ Some s → StepHolds L k
 step_holds L all k s at = one_step L k (step_runs_placed L all k s at)
 

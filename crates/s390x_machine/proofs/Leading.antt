@@ -30,7 +30,7 @@ use Rattle.s390x_machine.proofs.Built.{StepAt, IsRow, computes_immediate_always,
 use Rattle.s390x_machine.proofs.Fetching.{StandsAt}
 use Rattle.s390x_machine.proofs.Rows.{bcr_at, brcl_at, fits_rr, larl_at}
 use Rattle.s390x_machine.proofs.Simulation.{RowAt}
-use Rattle.s390x_machine.proofs.Standing.{step_within as bytes_within, offset_even, offset_small, block_even, block_small, inside_at, inside_first, next_place, block_at}
+use Rattle.s390x_machine.proofs.Standing.{step_within as bytes_within, inside_at, inside_first, next_place, block_begins}
 use Rattle.s390x_machine.proofs.Stops.{never_by_values}
 use Rattle.s390x_machine.proofs.Symbols.{loads_doubleword, bras_at, lg_at, SymbolRows, symbol_runs}
 use Rattle.s390x_machine.proofs.Tables.{adds_word, agf_at, TableRows, table_runs, listed_block, words_stand}
@@ -66,7 +66,7 @@ module _ {L : Layout} {k : ℕ} {s : Step} (x : StepAt L k s) where
   unfolding length_of
   register_row n parts ln some =
       let one = one_row x (rr 0x07 15 n) parts in
-      (bcr_at L x.all (L.offsets.step k) (step_even x) 15 n (omega arith) ln some one.stands, inside_first L k 2 one.size (omega arith))
+      (bcr_at L x.image (L.offsets.step k) (step_even x) 15 n (omega arith) ln some one.stands, inside_first L k 2 one.size (omega arith))
 
   -- a branch to no address does nothing
   pub fence_runs : IsRow L s (rr 0x07 14 0) idles → StepRuns L k
@@ -75,14 +75,14 @@ module _ {L : Layout} {k : ℕ} {s : Step} (x : StepAt L k s) where
   -- nor does one under a mask that selects nothing
   pub idle_runs : IsRow L s (rr 0x07 0 7) idles → StepRuns L k
   idle_runs is =
-      row_runs x (rr 0x07 0 7) idles (λ r. never_by_values (idles r) no_code refl (λ kind h. h)) is (λ st. idle_branch L (step_address L k) (length_of Rr) (λ r. r.general 7) (bcr_at L x.all (L.offsets.step k) (step_even x) 0 7 (omega arith) (omega arith) (λ e. absurd (cc)) st))
+      row_runs x (rr 0x07 0 7) idles (λ r. never_by_values (idles r) no_code refl (λ kind h. h)) is (λ st. idle_branch L (step_address L k) (length_of Rr) (λ r. r.general 7) (bcr_at L x.image (L.offsets.step k) (step_even x) 0 7 (omega arith) (omega arith) (λ e. absurd (cc)) st))
 
   pub goto_runs : (b : ℕ) → kind_of_step L (Some s) ≡ Some (GoesTo b) → step_parts s ≡ Branch 15 (ToBlock b) ∷ [] → IsBlock L b → StepRuns L k
   unfolding length_of
   goto_runs b is parts known =
       let rows = stand_as x _ parts in
       let size : L.offsets.step (suc k) ≡ L.offsets.step k + 6 = size_as x _ parts in
-      jump_runs L k b (λ r. BranchAction 15 (block_address L b)) 6 (block_address L b) (step_form x _ is) (brcl_at L x.all (L.offsets.step k) (step_even x) 15 (L.offsets.block b) (omega arith) (step_small x) (block_even L x.all b known) (block_small L x.all b known) rows.0) (λ r. refl) (block_at L x.all b known) (inside_first L k 6 size (omega arith))
+      jump_runs L k b (λ r. BranchAction 15 (block_address L b)) 6 (block_address L b) (step_form x _ is) (brcl_at L x.image (L.offsets.step k) (step_even x) 15 (L.offsets.block b) (omega arith) (step_small x) (x.image.block_places b known).0 (x.image.block_places b known).1 rows.0) (λ r. refl) (block_begins L x.image b known) (inside_first L k 6 size (omega arith))
 
   pub condbr_runs : (mask a b : ℕ) → kind_of_step L (Some s) ≡ Some (Chooses mask a b) → step_parts s ≡ Branch mask (ToBlock a) ∷ Branch 15 (ToBlock b) ∷ [] → mask < 16 → IsBlock L a → IsBlock L b → StepRuns L k
   unfolding length_of
@@ -91,16 +91,16 @@ module _ {L : Layout} {k : ℕ} {s : Step} (x : StepAt L k s) where
       let rows = stand_as x _ parts in
       let size : L.offsets.step (suc k) ≡ o + 12 = size_as x _ parts in
       let p : wrapping_add64 (step_address L k) 6 ≡ wrapping_add64 L.image.base (o + 6) = sum_more L.image.base o 6 in
-      let bound = bytes_within L k s x.placed in
+      let bound = bytes_within L k s x.code in
       let two : TwoBranches L k mask a b = record {
         size = 6;
         second_size = 6;
-        first = brcl_at L x.all o (step_even x) mask (L.offsets.block a) lm (step_small x) (block_even L x.all a known_a) (block_small L x.all a known_a) rows.0;
-        second = subst (λ q. RowAt L q (λ r. BranchAction 15 (block_address L b)) 6) (sym p) (brcl_at L x.all (o + 6) (omega (arith, step_even x)) 15 (L.offsets.block b) (omega arith) (omega (arith, size, bound, x.all.short)) (block_even L x.all b known_b) (block_small L x.all b known_b) rows.1.0);
+        first = brcl_at L x.image o (step_even x) mask (L.offsets.block a) lm (step_small x) (x.image.block_places a known_a).0 (x.image.block_places a known_a).1 rows.0;
+        second = subst (λ q. RowAt L q (λ r. BranchAction 15 (block_address L b)) 6) (sym p) (brcl_at L x.image (o + 6) (omega (arith, step_even x)) 15 (L.offsets.block b) (omega arith) (omega (arith, size, bound, x.image.short)) (x.image.block_places b known_b).0 (x.image.block_places b known_b).1 rows.1.0);
         here = inside_first L k 12 size (omega arith);
         here_second = inside_at L k 6 12 size (omega arith);
-        first_target = block_at L x.all a known_a;
-        second_target = block_at L x.all b known_b;
+        first_target = block_begins L x.image a known_a;
+        second_target = block_begins L x.image b known_b;
       } in
       choose_runs L k mask a b (step_form x _ is) two
 
@@ -111,7 +111,7 @@ module _ {L : Layout} {k : ℕ} {s : Step} (x : StepAt L k s) where
       let rows = stand_as x _ parts in
       let size : L.offsets.step (suc k) ≡ L.offsets.step k + 6 = size_as x _ parts in
       let operation = computes_immediate Kept (on_doublewords Move) d d (block_address L b) in
-      row_alone x operation no_code (λ r. Perform (operation r)) 6 is (larl_at L x.all (L.offsets.step k) (step_even x) d (L.offsets.block b) ld (step_small x) (block_even L x.all b known) (block_small L x.all b known) rows.0) (λ r. exactly (operation r)) (uncoded L (step_address L k)) (computes_immediate_always Kept (on_doublewords Move) d d (block_address L b)) size (omega arith)
+      row_alone x operation no_code (λ r. Perform (operation r)) 6 is (larl_at L x.image (L.offsets.step k) (step_even x) d (L.offsets.block b) ld (step_small x) (x.image.block_places b known).0 (x.image.block_places b known).1 rows.0) (λ r. exactly (operation r)) (uncoded L (step_address L k)) (computes_immediate_always Kept (on_doublewords Move) d d (block_address L b)) size (omega arith)
 
   -- a jump by a table
   pub jump_by_table_runs : (index mask other : ℕ) (targets : List MachLabel) → kind_of_step L (Some s) ≡ Some (GoesByTable index mask other targets) → step_parts s ≡ table_parts index mask other targets → index < 16 → (index ≡ 0 → ⊥) → (index ≡ 1 → ⊥) → mask < 16 → IsBlock L other → AreBlocks L targets → StepRuns L k
@@ -126,18 +126,18 @@ module _ {L : Layout} {k : ℕ} {s : Step} (x : StepAt L k s) where
       let e4 : wrapping_add64 base (o + 6 + 6 + 6) ≡ wrapping_add64 (wrapping_add64 (wrapping_add64 (step_address L k) 6) 6) 6 = sym (sum_more base (o + 6 + 6) 6) ∙ ap (λ p. wrapping_add64 p 6) e3 in
       let inside : (n : ℕ) → n < 20 → InStep L k (wrapping_add64 base (o + n)) = λ n lt. record { offset = o + n; above = omega arith; below = omega (arith, size); is = refl } in
       let seven : 7 ≡ half_distance (o + 6) (o + 20) = omega arith in
-      let bound = bytes_within L k s x.placed in
+      let bound = bytes_within L k s x.code in
       let rows : TableRows L k index mask other (o + 20) targets = record {
-        first = brcl_at L x.all o (step_even x) mask (L.offsets.block other) lm (step_small x) (block_even L x.all other known) (block_small L x.all other known) stands.0;
+        first = brcl_at L x.image o (step_even x) mask (L.offsets.block other) lm (step_small x) (x.image.block_places other known).0 (x.image.block_places other known).1 stands.0;
         second = subst (λ p. RowAt L p (λ r. Perform (computes_immediate Kept (on_doublewords Move) 1 1 (wrapping_add64 base (o + 20)) r)) 6) e2
-            (larl_at L x.all (o + 6) (omega (arith, step_even x)) 1 (o + 20) (omega arith) (omega (arith, size, bound, x.all.short)) (omega (arith, step_even x)) (omega (arith, size, bound, x.all.short)) (subst (λ h. StandsAt L.image (o + 6) (bytes_of (ril_b 0xc00 1 h))) seven stands.1.0));
-        third = subst (λ p. RowAt L p (λ r. Perform (adds_word index r)) 6) e3 (agf_at L x.all (o + 6 + 6) (omega (arith, step_even x)) index li stands.1.1.0);
-        fourth = subst (λ p. RowAt L p (λ r. BranchAction 15 (r.general 1)) 2) e4 (bcr_at L x.all (o + 6 + 6 + 6) (omega (arith, step_even x)) 15 1 (omega arith) (omega arith) (λ e. absurd (omega arith)) stands.1.1.1.0);
+            (larl_at L x.image (o + 6) (omega (arith, step_even x)) 1 (o + 20) (omega arith) (omega (arith, size, bound, x.image.short)) (omega (arith, step_even x)) (omega (arith, size, bound, x.image.short)) (subst (λ h. StandsAt L.image (o + 6) (bytes_of (ril_b 0xc00 1 h))) seven stands.1.0));
+        third = subst (λ p. RowAt L p (λ r. Perform (adds_word index r)) 6) e3 (agf_at L x.image (o + 6 + 6) (omega (arith, step_even x)) index li stands.1.1.0);
+        fourth = subst (λ p. RowAt L p (λ r. BranchAction 15 (r.general 1)) 2) e4 (bcr_at L x.image (o + 6 + 6 + 6) (omega (arith, step_even x)) 15 1 (omega arith) (omega arith) (λ e. absurd (omega arith)) stands.1.1.1.0);
         here = subst (InStep L k) (ap (λ n. wrapping_add64 base n) (omega arith)) (inside 0 (omega arith));
         here_second = subst (InStep L k) e2 (inside 6 (omega arith));
         here_third = subst (InStep L k) (ap (λ n. wrapping_add64 base n) (omega arith) ∙ e3) (inside 12 (omega arith));
         here_fourth = subst (InStep L k) (ap (λ n. wrapping_add64 base n) (omega arith) ∙ e4) (inside 18 (omega arith));
-        known = block_at L x.all other known;
+        known = block_begins L x.image other known;
         words = λ j l e.
             let w = words_stand L (o + 6 + 6 + 6 + 2) 0 targets stands.1.1.1.1 j l e in
             let z : o + 6 + 6 + 6 + 2 ≡ o + 20 = omega arith in
@@ -145,11 +145,11 @@ module _ {L : Layout} {k : ℕ} {s : Step} (x : StepAt L k s) where
             let w1 : StandsAt L.image (o + 20 + 4 * j) (word_bytes (table_distance (o + 20 + 4 * j) (0 + 4 * j) (L.offsets.block l.0))) = subst (λ q. StandsAt L.image (q + 4 * j) (word_bytes (table_distance (q + 4 * j) (0 + 4 * j) (L.offsets.block l.0)))) z w in
             let w2 : StandsAt L.image (o + 20 + 4 * j) (word_bytes (table_distance (o + 20 + 4 * j) (4 * j) (L.offsets.block l.0))) = subst (λ b. StandsAt L.image (o + 20 + 4 * j) (word_bytes (table_distance (o + 20 + 4 * j) b (L.offsets.block l.0)))) n w1 in
             let block : IsBlock L l.0 = listed_block L targets are j l e in
-            record { stands = w2; near = omega (arith, within_image L (o + 20 + 4 * j) _ w2, x.all.short); small = block_small L x.all l.0 block; known = block_at L x.all l.0 block };
+            record { stands = w2; near = omega (arith, within_image L (o + 20 + 4 * j) _ w2, x.image.short); small = (x.image.block_places l.0 block).1; known = block_begins L x.image l.0 block };
         nonzero = nonzero;
         not_scratch = not_scratch;
       } in
-      table_runs L x.all k index mask other (o + 20) targets (step_form x _ is) rows c is_loaded
+      table_runs L x.image k index mask other (o + 20) targets (step_form x _ is) rows c is_loaded
 
   -- a load of a symbol's address plus an offset
   pub load_symbol_runs : (d : ℕ) (reloc : SymbolReloc) → kind_of_step L (Some s) ≡ Some (Performs true (computes_immediate Kept (on_doublewords Move) d d (linked_value L reloc)) no_code) → step_parts s ≡ symbol_parts d reloc → d < 16 → StepRuns L k
@@ -162,21 +162,21 @@ module _ {L : Layout} {k : ℕ} {s : Step} (x : StepAt L k s) where
       let twelve : o + 4 + 8 ≡ o + 12 = omega arith in
       let second : wrapping_add64 base (o + 4 + 8) ≡ wrapping_add64 (step_address L k) 12 = ap (λ n. wrapping_add64 base n) twelve ∙ sym (sum_more base o 12) in
       let rows : SymbolRows L k d (linked_value L reloc) = record {
-        first = bras_at L x.all o (step_even x) stands.0;
-        second = subst (λ p. RowAt L p (λ r. Perform (loads_doubleword d r)) 6) second (lg_at L x.all (o + 4 + 8) (omega (arith, step_even x)) d ld stands.1.1.0);
+        first = bras_at L x.image o (step_even x) stands.0;
+        second = subst (λ p. RowAt L p (λ r. Perform (loads_doubleword d r)) 6) second (lg_at L x.image (o + 4 + 8) (omega (arith, step_even x)) d ld stands.1.1.0);
         here = inside_first L k 18 size (omega arith);
         here_second = inside_at L k 12 18 size (omega arith);
         next = sum_more (step_address L k) 12 6 ∙ next_place L k 18 size;
         holds = stands.1.0;
       } in
-      symbol_runs L x.all k d (linked_value L reloc) (step_form x _ is) rows
+      symbol_runs L x.image k d (linked_value L reloc) (step_form x _ is) rows
 
   pub loop_runs : (mask j : ℕ) → kind_of_step L (Some s) ≡ Some (Leads mask j) → step_parts s ≡ Branch mask (ToStep j) ∷ [] → mask < 16 → j ≤ length L.steps → StepRuns L k
   unfolding length_of
   loop_runs mask j is parts lm le =
       let rows = stand_as x _ parts in
       let size : L.offsets.step (suc k) ≡ L.offsets.step k + 6 = size_as x _ parts in
-      leads_runs L k mask j 6 (step_form x _ is) (brcl_at L x.all (L.offsets.step k) (step_even x) mask (L.offsets.step j) lm (step_small x) (offset_even L x.all j le) (offset_small L x.all j le) rows.0) (next_place L k 6 size) (inside_first L k 6 size (omega arith))
+      leads_runs L k mask j 6 (step_form x _ is) (brcl_at L x.image (L.offsets.step k) (step_even x) mask (L.offsets.step j) lm (step_small x) (x.image.step_places j le).0 (x.image.step_places j le).1 rows.0) (next_place L k 6 size) (inside_first L k 6 size (omega arith))
 
   pub opening_runs : kind_of_step L (Some s) ≡ Some Silent → step_parts s ≡ [] → StepRuns L k
   opening_runs is parts c is_loaded trace run =

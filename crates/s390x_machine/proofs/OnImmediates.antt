@@ -31,33 +31,33 @@ module _ {L : Layout} {k : ℕ} {s : Step} (b : StepAt L k s) where
   pub one_of_halfword : (operands_valid : Bool) (o : Option ℕ) (c : Computation) (rule : CodeRule) → OpcodeRows RiA 4096 o (computed c Immediate rule) → (d bits : ℕ) → IsSingle L s operands_valid (halfword_row o d bits) (computes_immediate rule c d d bits) → (IsTrue operands_valid → d < 16) → bits < 2 ^ 16 → StepRuns L k
   one_of_halfword operands_valid None c rule row d bits is small lb = absurd is.2
   one_of_halfword operands_valid (Some opcode) c rule row d bits is small lb =
-      row_runs b (ri_a opcode d bits) (computes_immediate rule c d d bits) (computes_immediate_always rule c d d bits) (is.0, is.1) (λ st. halfword_at L b.all (L.offsets.step k) (step_even b) opcode c rule row d bits (small is.2) lb st)
+      row_runs b (ri_a opcode d bits) (computes_immediate rule c d d bits) (computes_immediate_always rule c d d bits) (is.0, is.1) (λ st. halfword_at L b.image (L.offsets.step k) (step_even b) opcode c rule row d bits (small is.2) lb st)
 
   pub one_of_word : (operands_valid : Bool) (o : Option ℕ) (c : Computation) (rule : CodeRule) → OpcodeRows RilA 4096 o (computed c Immediate rule) → (d bits : ℕ) → IsSingle L s operands_valid (word_row o d bits) (computes_immediate rule c d d bits) → (IsTrue operands_valid → d < 16) → bits < 2 ^ 32 → StepRuns L k
   one_of_word operands_valid None c rule row d bits is small lb = absurd is.2
   one_of_word operands_valid (Some opcode) c rule row d bits is small lb =
-      row_runs b (ril_a opcode d bits) (computes_immediate rule c d d bits) (computes_immediate_always rule c d d bits) (is.0, is.1) (λ st. word_at L b.all (L.offsets.step k) (step_even b) opcode c rule row d bits (small is.2) lb st)
+      row_runs b (ril_a opcode d bits) (computes_immediate rule c d d bits) (computes_immediate_always rule c d d bits) (is.0, is.1) (λ st. word_at L b.image (L.offsets.step k) (step_even b) opcode c rule row d bits (small is.2) lb st)
 
   pub compare_of_halfword : (operands_valid : Bool) (o : Option ℕ) (c : Comparison) → OpcodeRows RiA 4096 o (compared c) → (n bits : ℕ) → IsSingle L s operands_valid (halfword_row o n bits) (compares_immediate c n bits) → (IsTrue operands_valid → n < 16) → bits < 2 ^ 16 → StepRuns L k
   compare_of_halfword operands_valid None c row n bits is small lb = absurd is.2
   compare_of_halfword operands_valid (Some opcode) c row n bits is small lb =
-      row_runs b (ri_a opcode n bits) (compares_immediate c n bits) (compares_immediate_always c n bits) (is.0, is.1) (λ st. compare_halfword_at L b.all (L.offsets.step k) (step_even b) opcode c row n bits (small is.2) lb st)
+      row_runs b (ri_a opcode n bits) (compares_immediate c n bits) (compares_immediate_always c n bits) (is.0, is.1) (λ st. compare_halfword_at L b.image (L.offsets.step k) (step_even b) opcode c row n bits (small is.2) lb st)
 
   pub compare_of_word : (operands_valid : Bool) (o : Option ℕ) (c : Comparison) → OpcodeRows RilA 4096 o (compared c) → (n bits : ℕ) → IsSingle L s operands_valid (word_row o n bits) (compares_immediate c n bits) → (IsTrue operands_valid → n < 16) → bits < 2 ^ 32 → StepRuns L k
   compare_of_word operands_valid None c row n bits is small lb = absurd is.2
   compare_of_word operands_valid (Some opcode) c row n bits is small lb =
-      row_runs b (ril_a opcode n bits) (compares_immediate c n bits) (compares_immediate_always c n bits) (is.0, is.1) (λ st. compare_word_at L b.all (L.offsets.step k) (step_even b) opcode c row n bits (small is.2) lb st)
+      row_runs b (ril_a opcode n bits) (compares_immediate c n bits) (compares_immediate_always c n bits) (is.0, is.1) (λ st. compare_word_at L b.image (L.offsets.step k) (step_even b) opcode c row n bits (small is.2) lb st)
 
   -- an immediate of 16 bits into another register, or two operands where the input is the output
   module _ (c : Computation) (rule : CodeRule) (d n bits : ℕ) where
     by_three : (three : ℕ) → OpcodeRow RieD 65536 three (computed c ThreeImmediate rule) → IsRow L s (rie_d three d n bits) (computes_immediate rule c d n bits) → (d < 16) × (n < 16) → bits < 2 ^ 16 → StepRuns L k
-    by_three three row is l lb = row_runs b (rie_d three d n bits) (computes_immediate rule c d n bits) (computes_immediate_always rule c d n bits) is (λ st. three_halfword_at L b.all (L.offsets.step k) (step_even b) three c rule row d n bits l.0 l.1 lb st)
+    by_three three row is l lb = row_runs b (rie_d three d n bits) (computes_immediate rule c d n bits) (computes_immediate_always rule c d n bits) is (λ st. three_halfword_at L b.image (L.offsets.step k) (step_even b) three c rule row d n bits l.0 l.1 lb st)
 
     by_two : (two : ℕ) → d ≡ n → OpcodeRow RiA 4096 two (computed c Immediate rule) → IsRow L s (ri_a two d bits) (computes_immediate rule c d n bits) → d < 16 → bits < 2 ^ 16 → StepRuns L k
     by_two two same row is ld lb =
         let op : computes_immediate rule c d d bits ≡ computes_immediate rule c d n bits = ap (λ i. computes_immediate rule c d i bits) same in
-        row_runs b (ri_a two d bits) (computes_immediate rule c d n bits) (computes_immediate_always rule c d n bits) is (subst (λ o. DoesThere L b.all (L.offsets.step k) (step_even b) (ri_a two d bits) o) op (λ st.
-        halfword_at L b.all (L.offsets.step k) (step_even b) two c rule row d bits ld lb st))
+        row_runs b (ri_a two d bits) (computes_immediate rule c d n bits) (computes_immediate_always rule c d n bits) is (subst (λ o. DoesThere L b.image (L.offsets.step k) (step_even b) (ri_a two d bits) o) op (λ st.
+        halfword_at L b.image (L.offsets.step k) (step_even b) two c rule row d bits ld lb st))
 
     pub three_halfword_runs : (operands_valid : Bool) (three two : Option ℕ) → OpcodeRows RieD 65536 three (computed c ThreeImmediate rule) → OpcodeRows RiA 4096 two (computed c Immediate rule) → IsSingle L s operands_valid (three_halfword_row three two d n bits) (computes_immediate rule c d n bits) → (IsTrue operands_valid → (d < 16) × (n < 16)) → bits < 2 ^ 16 → StepRuns L k
     three_halfword_runs operands_valid None two row3 row2 is small lb = absurd is.2
@@ -75,14 +75,14 @@ module _ {L : Layout} {k : ℕ} {s : Step} (b : StepAt L k s) where
   placed_halfword operands_valid (Some opcode) operator rule n row d bits is small lb =
       let c = on_doublewords operator in
       let op = computes_immediate rule c d d (bits * 2 ^ n) in
-      row_runs b (ri_a opcode d bits) op (computes_immediate_always rule c d d (bits * 2 ^ n)) (is.0, is.1) (λ st. ri_a_at L b.all (L.offsets.step k) (step_even b) opcode (immediate_at c n rule) row op d bits (small is.2) lb (λ r p. ap (λ x. Perform (computes_immediate rule c d d (x * 2 ^ n) r)) (low_small bits (omega (arith, lb)))) st)
+      row_runs b (ri_a opcode d bits) op (computes_immediate_always rule c d d (bits * 2 ^ n)) (is.0, is.1) (λ st. ri_a_at L b.image (L.offsets.step k) (step_even b) opcode (immediate_at c n rule) row op d bits (small is.2) lb (λ r p. ap (λ x. Perform (computes_immediate rule c d d (x * 2 ^ n) r)) (low_small bits (omega (arith, lb)))) st)
 
   pub placed_word : (operands_valid : Bool) (o : Option ℕ) (operator : Operator) (rule : CodeRule) (n : ℕ) → OpcodeRows RilA 4096 o (immediate_at (on_doublewords operator) n rule) → (d bits : ℕ) → IsSingle L s operands_valid (word_row o d bits) (computes_immediate rule (on_doublewords operator) d d (bits * 2 ^ n)) → (IsTrue operands_valid → d < 16) → bits < 2 ^ 32 → StepRuns L k
   placed_word operands_valid None operator rule n row d bits is small lb = absurd is.2
   placed_word operands_valid (Some opcode) operator rule n row d bits is small lb =
       let c = on_doublewords operator in
       let op = computes_immediate rule c d d (bits * 2 ^ n) in
-      row_runs b (ril_a opcode d bits) op (computes_immediate_always rule c d d (bits * 2 ^ n)) (is.0, is.1) (λ st. ril_a_at L b.all (L.offsets.step k) (step_even b) opcode (immediate_at c n rule) row op d bits (small is.2) lb (λ r p. ap (λ x. Perform (computes_immediate rule c d d (x * 2 ^ n) r)) (low_small bits (omega (arith, lb)))) st)
+      row_runs b (ril_a opcode d bits) op (computes_immediate_always rule c d d (bits * 2 ^ n)) (is.0, is.1) (λ st. ril_a_at L b.image (L.offsets.step k) (step_even b) opcode (immediate_at c n rule) row op d bits (small is.2) lb (λ r p. ap (λ x. Perform (computes_immediate rule c d d (x * 2 ^ n) r)) (low_small bits (omega (arith, lb)))) st)
 
   -- a half is inserted: the right one by the row of a move of 32 bits
   pub inserted_half : (operands_valid : Bool) (shift d bits : ℕ) → IsSingle L s operands_valid (word_row (insert_half shift) d bits) (computes_immediate Kept (inserts_half shift) d d (at_half shift bits)) → (IsTrue operands_valid → d < 16) → bits < 2 ^ 32 → StepRuns L k
@@ -109,8 +109,8 @@ module _ {L : Layout} {k : ℕ} {s : Step} (b : StepAt L k s) where
       go true e is_row =
           let bits = low_halfword (neg_ℤ (pos size)) in
           let adds = on_immediate (alu_computation A.Add64) signed_halfword in
-          looser_runs b (ri_a 0xa7b 15 bits) (computes_immediate Set adds 15 15 bits) (takes_from_stack size) (adds_negated size (ltb-true size 32768 e)) never is_row (λ st. halfword_at L b.all (L.offsets.step k) (step_even b) 0xa7b adds Set (halfword_rows A.Add64) 15 bits (omega arith) (halfword_bits (neg_ℤ (pos size))) st)
+          looser_runs b (ri_a 0xa7b 15 bits) (computes_immediate Set adds 15 15 bits) (takes_from_stack size) (adds_negated size (ltb-true size 32768 e)) never is_row (λ st. halfword_at L b.image (L.offsets.step k) (step_even b) 0xa7b adds Set (halfword_rows A.Add64) 15 bits (omega arith) (halfword_bits (neg_ℤ (pos size))) st)
       go false e is_row =
           let bits = low_word (pos size) in
           let subtracts = on_immediate (alu_computation A.SubLogical64) unsigned_word in
-          looser_runs b (ril_a 0xc24 15 bits) (computes_immediate Set subtracts 15 15 bits) (takes_from_stack size) (λ r. loosens _ Set Unspecified tt) never is_row (λ st. word_at L b.all (L.offsets.step k) (step_even b) 0xc24 subtracts Set (unsigned_word_rows A.SubLogical64) 15 bits (omega arith) (word_bits (pos size)) st)
+          looser_runs b (ril_a 0xc24 15 bits) (computes_immediate Set subtracts 15 15 bits) (takes_from_stack size) (λ r. loosens _ Set Unspecified tt) never is_row (λ st. word_at L b.image (L.offsets.step k) (step_even b) 0xc24 subtracts Set (unsigned_word_rows A.SubLogical64) 15 bits (omega arith) (word_bits (pos size)) st)

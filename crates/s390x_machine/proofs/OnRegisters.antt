@@ -41,7 +41,7 @@ module _ {L : Layout} {k : ℕ} {s : Step} (b : StepAt L k s) where
   one_of_two operands_valid None semantics row operation d m is small acts never = absurd is.2
   one_of_two operands_valid (Some opcode) semantics row operation d m is small acts never =
       let l = small is.2 in
-      row_runs b (two_operands opcode d m) operation never (is.0, is.1) (λ st. two_at L b.all (L.offsets.step k) (step_even b) opcode semantics row operation d m l.0 l.1 acts st)
+      row_runs b (two_operands opcode d m) operation never (is.0, is.1) (λ st. two_at L b.image (L.offsets.step k) (step_even b) opcode semantics row operation d m l.0 l.1 acts st)
 
   pub computes_two : (operands_valid : Bool) (o : Option ℕ) (c : Computation) (rule : CodeRule) → TwoRows o (computed c Register rule) → (d m : ℕ) → IsSingle L s operands_valid (two_row o d m) (computes rule c d d m) → (IsTrue operands_valid → (d < 16) × (m < 16)) → StepRuns L k
   computes_two operands_valid o c rule row d m is small = one_of_two operands_valid o (computed c Register rule) row (computes rule c d d m) d m is small (λ r p. refl) (computes_always rule c d d m)
@@ -62,7 +62,7 @@ module _ {L : Layout} {k : ℕ} {s : Step} (b : StepAt L k s) where
     by_three opcode row is l =
         let c = alu_computation op in
         looser_runs b (rrf_ab opcode d n m 0) (computes Set c d n m) does_op (λ r. loosens _ Set (alu_three_rule op) (three_looser op)) (computes_always (alu_three_rule op) c d n m) is (λ st.
-        three_at L b.all (L.offsets.step k) (step_even b) opcode (computed c ThreeRegisters Set) row (computes Set c d n m) d n m l.0 l.1 l.2 (λ r p. refl) st)
+        three_at L b.image (L.offsets.step k) (step_even b) opcode (computed c ThreeRegisters Set) row (computes Set c d n m) d n m l.0 l.1 l.2 (λ r p. refl) st)
 
     by_two : (three two : ℕ) → alu_three op ≡ Some three → d ≡ n → TwoRow two (computed (alu_computation op) Register (alu_two_rule op)) → IsRow L s (two_operands two d m) does_op → (d < 16) × (n < 16) × (m < 16) → StepRuns L k
     by_two three two some same row is l =
@@ -70,7 +70,7 @@ module _ {L : Layout} {k : ℕ} {s : Step} (b : StepAt L k s) where
         let does = computes (alu_two_rule op) c d d m in
         let refines : (r : Registers) → Refines (does r) (does_op r) = λ r. subst (λ i. Refines (does r) (computes (alu_three_rule op) c d i m r)) same (loosens _ (alu_two_rule op) (alu_three_rule op) (two_looser op three some)) in
         looser_runs b (two_operands two d m) does does_op refines (computes_always (alu_three_rule op) c d n m) is (λ st.
-        two_at L b.all (L.offsets.step k) (step_even b) two (computed c Register (alu_two_rule op)) row does d m l.0 l.2 (λ r p. refl) st)
+        two_at L b.image (L.offsets.step k) (step_even b) two (computed c Register (alu_two_rule op)) row does d m l.0 l.2 (λ r p. refl) st)
 
     pub alu_three_runs : (operands_valid : Bool) → IsSingle L s operands_valid (three_row (alu_three op) (alu_two op) d n m) does_op → (IsTrue operands_valid → (d < 16) × (n < 16) × (m < 16)) → StepRuns L k
     alu_three_runs operands_valid is small = go (alu_three op) refl (alu_three_rows op) (alu_two op) (alu_two_rows op) is

@@ -1,5 +1,5 @@
 -- Operands relative to the instruction: the rows that take them, and the addresses to which their distances lead.
-use Rattle.std.proofs.Common.{◌≡◌, ℕ, ◌%◌, ◌^◌, ◌<◌, [], ◌++◌, length, Option, Some, None, Bool, true, false, cond, refl, sym, ap, ◌∙◌, subst, arith, ltb-true, IsTrue}
+use Rattle.std.proofs.Common.{◌≡◌, ℕ, ◌%◌, ◌^◌, ◌<◌, [], ◌++◌, inl, length, Option, Some, None, Bool, true, false, cond, refl, sym, ap, ◌∙◌, subst, arith, ltb-true, IsTrue}
 use Rattle.std.specs.Prelude.{ℤ, nat_lt, pos, ◌+ℤ◌, ◌*ℤ◌}
 use Rattle.std.specs.Int.{cast_signed}
 use mir.Syntax.{w32}
@@ -31,14 +31,14 @@ use Rattle.s390x_machine.specs.declared.semantics.RowSemantics.{RowSemantics}
 use Rattle.s390x_machine.specs.declared.semantics.Action.TheVariants.{Perform}
 use Rattle.s390x_machine.specs.Layout.{Layout, declared, block_address, constant_address}
 use Rattle.s390x_machine.specs.Semantics.{action}
-use Rattle.s390x_machine.specs.CodeAt.{AllCodeAt, IsBlock, PartReaches}
+use Rattle.s390x_machine.specs.CodeAt.{ConstantStands, ImageAt, IsBlock, NamesConstant, PartReaches}
 use Rattle.s390x_machine.specs.Storage.{aligned_where}
 use Rattle.s390x_machine.proofs.Addresses.{lands}
 use Rattle.s390x_machine.proofs.Listing.{OpcodeRows}
 use Rattle.s390x_machine.proofs.SingleInstruction.{relative_at}
 use Rattle.s390x_machine.proofs.Fetching.{StandsAt}
 use Rattle.s390x_machine.proofs.Simulation.{RowAt}
-use Rattle.s390x_machine.proofs.Standing.{part_length, block_even, block_small}
+use Rattle.s390x_machine.proofs.Standing.{part_length}
 use Rattle.s390x_machine.proofs.Storage.{access_of, Stands}
 use Rattle.s390x_machine.proofs.Trapping.{within_image}
 
@@ -101,8 +101,8 @@ constant_known L c e = ltb-true c.0 (length L.offsets.environment.aligns) (unles
 leads_to : (L : Layout) (offset target : ℕ) → offset % 2 ≡ 0 → offset < 2 ^ 31 → target % 2 ≡ 0 → target < 2 ^ 31 → (half_distance offset target < 2 ^ 32) × (low Doubleword (pos (wrapping_add64 L.image.base offset) +ℤ pos 2 *ℤ cast_signed w32 (half_distance offset target)) ≡ wrapping_add64 L.image.base target)
 leads_to L offset target even small even_target small_target = (omega arith, lands L.image.base offset target even even_target small small_target)
 
-pub to_label : (L : Layout) → AllCodeAt L → (target : MachLabel) → IsBlock L target.0 → Distant L (Label target) (block_address L target.0)
-to_label L all target known = record {
+pub to_label : (L : Layout) → ImageAt L → (target : MachLabel) → IsBlock L target.0 → Distant L (Label target) (block_address L target.0)
+to_label L image target known = record {
   part = λ opcode register. Relative opcode register (ToBlock target.0);
   relative = refl;
   widens = λ mi. refl;
@@ -111,23 +111,32 @@ to_label L all target known = record {
   untrapped = λ opcode register p. refl;
   half = λ offset. half_distance offset (L.offsets.block target.0);
   bytes = λ opcode register offset. refl;
-  leads = λ opcode register offset even small reaches. leads_to L offset (L.offsets.block target.0) even small (block_even L all target.0 known) (block_small L all target.0 known);
+  leads = λ opcode register offset even small reaches. leads_to L offset (L.offsets.block target.0) even small (image.block_places target.0 known).0 (image.block_places target.0 known).1;
 }
 
-pub to_constant : (L : Layout) → AllCodeAt L → (c : VCodeConstant) → c.0 < length L.offsets.environment.aligns → Distant L (Constant c) (constant_address L c.0)
-to_constant L all c known =
-    let stands = all.constants c.0 known in
-    record {
-      part = λ opcode register. RelativeConstant opcode register c.0;
-      relative = refl;
-      widens = λ mi. refl;
-      parts = constant_parts c;
-      size = λ opcode register. refl;
-      untrapped = λ opcode register p. refl;
-      half = λ offset. half_distance offset (L.offsets.environment.constant c.0);
-      bytes = λ opcode register offset. refl;
-      leads = λ opcode register offset even small reaches. leads_to L offset (L.offsets.environment.constant c.0) even small stands.even (omega (arith, stands.within, all.short));
-    }
+pub to_constant : (L : Layout) → ImageAt L → (c : VCodeConstant) → ConstantStands L c.0 → Distant L (Constant c) (constant_address L c.0)
+to_constant L image c stands = record {
+  part = λ opcode register. RelativeConstant opcode register c.0;
+  relative = refl;
+  widens = λ mi. refl;
+  parts = constant_parts c;
+  size = λ opcode register. refl;
+  untrapped = λ opcode register p. refl;
+  half = λ offset. half_distance offset (L.offsets.environment.constant c.0);
+  bytes = λ opcode register offset. refl;
+  leads = λ opcode register offset even small reaches. leads_to L offset (L.offsets.environment.constant c.0) even small stands.even (omega (arith, stands.within, image.short));
+}
+
+-- the row that takes a constant names it
+pub named_there : (c : VCodeConstant) (form : StorageForm) (accesses : Bool) (code : Option TrapKind) → (type_of form accesses).have_pcrel ≡ true → NamesConstant c.0 (relative_parts form code (Constant c))
+named_there c (RxForm register short long (Some opcode)) accesses None have = inl refl
+named_there c (RxForm register short long (Some opcode)) accesses (Some trap) have = inl refl
+named_there c (RxForm register short long None) accesses code have = absurd (cc)
+named_there c (RsForm first second short long) accesses code have = absurd (cc)
+named_there c (SiForm imm short long) accesses code have = absurd (cc)
+named_there c (SilForm bits opcode) accesses code have = absurd (cc)
+named_there c (VrxForm register opcode mask) accesses code have = absurd (cc)
+named_there c (FloatForm register short long) accesses code have = absurd (cc)
 
 pub to_symbol : (L : Layout) (name : ExternalName) (offset : ℤ) (flags : MachMemFlags) → Distant L (Symbol name offset flags) (L.offsets.environment.symbol_value name offset)
 to_symbol L name offset flags = record {
@@ -145,29 +154,29 @@ to_symbol L name offset flags = record {
 -- ---- an operand in its row
 
 -- the row at a place
-distant_row : (L : Layout) (all : AllCodeAt L) (mem : MemArg) (address : ℕ) (d : Distant L mem address) (register opcode : ℕ) (operation : ℕ → Registers → Operation) → RelativeForm register (Some opcode) operation → (offset : ℕ) → offset % 2 ≡ 0 →
+distant_row : (L : Layout) (image : ImageAt L) (mem : MemArg) (address : ℕ) (d : Distant L mem address) (register opcode : ℕ) (operation : ℕ → Registers → Operation) → RelativeForm register (Some opcode) operation → (offset : ℕ) → offset % 2 ≡ 0 →
     StandsAt L.image offset (part_bytes L.offsets offset (d.part opcode register)) → PartReaches L offset (d.part opcode register) → RowAt L (wrapping_add64 L.image.base offset) (λ r. Perform (operation address r)) (part_size (d.part opcode register))
 unfolding length_of
-distant_row L all mem address d register opcode operation form offset even stands reaches =
+distant_row L image mem address d register opcode operation form offset even stands reaches =
     let size = d.size opcode register in
     let within = within_image L offset (part_bytes L.offsets offset (d.part opcode register)) stands in
     let n = part_length L.offsets offset (d.part opcode register) in
-    let leads = d.leads opcode register offset even (omega (arith, within, n, size, all.short)) reaches in
+    let leads = d.leads opcode register offset even (omega (arith, within, n, size, image.short)) reaches in
     subst (λ n. RowAt L (wrapping_add64 L.image.base offset) (λ r. Perform (operation address r)) n) (sym size)
-    (relative_at L all offset even opcode register (d.half offset) form.semantics (operation address) form.rows form.few leads.0 (λ r.
+    (relative_at L image offset even opcode register (d.half offset) form.semantics (operation address) form.rows form.few leads.0 (λ r.
     form.acts opcode (d.half offset) r (wrapping_add64 L.image.base offset) ∙ ap (λ a. Perform (operation a r)) leads.1) (subst (λ bytes. StandsAt L.image offset bytes) (d.bytes opcode register offset) stands))
 
-pub distant_stands : (L : Layout) → AllCodeAt L → (form : StorageForm) (accesses : Bool) (operation : ℕ → Registers → Operation) → RelativeDoes form accesses operation → (type_of form accesses).have_pcrel ≡ true → (mem : MemArg) (address : ℕ) → Distant L mem address → Stands L form mem (λ a r. aligned_where accesses (operation a r)) (λ r. address)
-distant_stands L all (RxForm register short long None) accesses operation does have mem address d = absurd (cc)
-distant_stands L all (RxForm register short long (Some opcode)) accesses operation does have mem address d = record {
+pub distant_stands : (L : Layout) → ImageAt L → (form : StorageForm) (accesses : Bool) (operation : ℕ → Registers → Operation) → RelativeDoes form accesses operation → (type_of form accesses).have_pcrel ≡ true → (mem : MemArg) (address : ℕ) → Distant L mem address → Stands L form mem (λ a r. aligned_where accesses (operation a r)) (λ r. address)
+distant_stands L image (RxForm register short long None) accesses operation does have mem address d = absurd (cc)
+distant_stands L image (RxForm register short long (Some opcode)) accesses operation does have mem address d = record {
   part = d.part opcode register;
   is = λ code. ap (λ b. cond b (relative_parts (RxForm register short long (Some opcode)) code mem) (access_parts (storage_row (RxForm register short long (Some opcode)) mem) code)) d.relative ∙ d.parts code opcode register;
   some = omega (arith, d.size opcode register);
   untrapped = d.untrapped opcode register;
-  row = λ offset even stands reaches. distant_row L all mem address d register opcode (λ a r. aligned_where accesses (operation a r)) does offset even stands reaches;
+  row = λ offset even stands reaches. distant_row L image mem address d register opcode (λ a r. aligned_where accesses (operation a r)) does offset even stands reaches;
 }
-distant_stands L all (RsForm first_emit_cause second short long) accesses operation does have mem address d = absurd (cc)
-distant_stands L all (SiForm imm short long) accesses operation does have mem address d = absurd (cc)
-distant_stands L all (SilForm bits opcode) accesses operation does have mem address d = absurd (cc)
-distant_stands L all (VrxForm register opcode mask) accesses operation does have mem address d = absurd (cc)
-distant_stands L all (FloatForm register short long) accesses operation does have mem address d = absurd (cc)
+distant_stands L image (RsForm first_emit_cause second short long) accesses operation does have mem address d = absurd (cc)
+distant_stands L image (SiForm imm short long) accesses operation does have mem address d = absurd (cc)
+distant_stands L image (SilForm bits opcode) accesses operation does have mem address d = absurd (cc)
+distant_stands L image (VrxForm register opcode mask) accesses operation does have mem address d = absurd (cc)
+distant_stands L image (FloatForm register short long) accesses operation does have mem address d = absurd (cc)

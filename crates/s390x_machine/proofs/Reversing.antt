@@ -30,7 +30,7 @@ use Rattle.s390x_typed_steps.specs.VectorOpcodes.{shift_row}
 use Rattle.s390x_machine.specs.declared.semantics.Action.{Action}
 use Rattle.s390x_machine.specs.declared.semantics.Action.TheVariants.{Perform}
 use Rattle.s390x_machine.specs.declared.semantics.RowSemantics.TheVariants as Row
-use Rattle.s390x_machine.specs.CodeAt.{AllCodeAt}
+use Rattle.s390x_machine.specs.CodeAt.{ImageAt}
 use Rattle.s390x_machine.specs.Layout.{Layout, InStep, step_address}
 use Rattle.s390x_machine.specs.Machine.{Executed, Interrupted, Transition, all_writes}
 use Rattle.s390x_machine.specs.Operands.{based}
@@ -102,22 +102,22 @@ turn_changes e half d p y z r is =
     let end : set_vector r1 d (vector_result o (r1.vector d) (r1.vector d) 0 0) ≡ set_vector r d z = ap (λ v. set_vector r1 d (vector_result o v v 0 0)) (put_held r d y) ∙ put_again r d y (vector_result o y y 0 0) ∙ ap (λ v. set_vector r d v) is in
     subst (λ q. ChangesTo (Perform (turned e half d r1)) 6 r1 p q) end (determined_changes o d (r1.vector d) (r1.vector d) 0 0 6 p r1 refl refl refl)
 
-exchange_there : (L : Layout) (all : AllCodeAt L) (offset : ℕ) (even : offset % 2 ≡ 0) (d n : ℕ) → d < 32 → n < 32 → DoesThere L all offset even (exchanges_doublewords d n) (elements_computed (exchanges_doublewords d n) (PermuteDoublewords 1 0))
-exchange_there L all offset even d n ld ln =
+exchange_there : (L : Layout) (image : ImageAt L) (offset : ℕ) (even : offset % 2 ≡ 0) (d n : ℕ) → d < 32 → n < 32 → DoesThere L image offset even (exchanges_doublewords d n) (elements_computed (exchanges_doublewords d n) (PermuteDoublewords 1 0))
+exchange_there L image offset even d n ld ln =
     let row = doublewords_rows d n n 1 0 (omega arith) (omega arith) in
-    vector_there L all offset even (exchanges_doublewords d n) (PermuteDoublewords 1 0) row (fits_vrr_c 0xe784 d n n 4 (few_digits (elements_listed row)) ld ln ln (elements_few row))
+    vector_there L image offset even (exchanges_doublewords d n) (PermuteDoublewords 1 0) row (fits_vrr_c 0xe784 d n n 4 (few_digits (elements_listed row)) ld ln ln (elements_few row))
 
 -- such an amount, as the machine computes it
 amount_is : (r : Registers) (half : ℕ) → half < 64 → based r 0 (pos half) % 64 ≡ half
 amount_is r half lt = ap (λ t. t % 64) (moved 0 half) ∙ omega (arith, lt)
 
-turn_there : (L : Layout) (all : AllCodeAt L) (offset : ℕ) (even : offset % 2 ≡ 0) (op : VecShiftOp) (d half : ℕ) → d < 32 → half < 64 → shift_operator op ≡ RotateLeft → DoesThere L all offset even (vrs_a (shift_row op).opcode d 0 d (shift_row op).code half) (turned (shifted_elements op) half d)
-turn_there L all offset even op d half ld small is =
+turn_there : (L : Layout) (image : ImageAt L) (offset : ℕ) (even : offset % 2 ≡ 0) (op : VecShiftOp) (d half : ℕ) → d < 32 → half < 64 → shift_operator op ≡ RotateLeft → DoesThere L image offset even (vrs_a (shift_row op).opcode d 0 d (shift_row op).code half) (turned (shifted_elements op) half d)
+turn_there L image offset even op d half ld small is =
     let x = vrs_a (shift_row op).opcode d 0 d (shift_row op).code half in
     let short : half < 4096 = omega (arith, small) in
     let fit = fits_vrs_a (shift_row op).opcode d 0 d (shift_row op).code half (few_digits (shift_rows op).0) ld (omega arith) ld (shift_code op) short in
     let operation = shift_operation op half small ∙ ap (λ (o : ShiftOperator). Some (ShiftElements o (shifted_elements op) half)) is in
-    meant_at L all offset even x (Row.ShiftElements (shift_row op).opcode) (turned (shifted_elements op) half d) (shift_rows op) fit (shift_allowed op d 0 d half) (λ r p.
+    meant_at L image offset even x (Row.ShiftElements (shift_row op).opcode) (turned (shifted_elements op) half d) (shift_rows op) fit (shift_allowed op d 0 d half) (λ r p.
     ap (λ (z : ℤ). on_elements (operation_of (shift_row op).opcode ((shift_row op).code ∷ 0 ∷ 0 ∷ []) (pos (based r 0 z % 64))) d (r.vector d) (r.vector d) 0 0) (small_displacement half short)
     ∙ ap (λ k. on_elements (operation_of (shift_row op).opcode ((shift_row op).code ∷ 0 ∷ 0 ∷ []) (pos k)) d (r.vector d) (r.vector d) 0 0) (amount_is r half small)
     ∙ ap (λ q. on_elements q d (r.vector d) (r.vector d) 0 0) operation)
@@ -178,13 +178,13 @@ module _ {L : Layout} {k : ℕ} {s : Step} (b : StepAt L k s) (d n : ℕ) (ld : 
   -- the first row, and one behind it
   first_row : (total : ℕ) → (size : L.offsets.step (suc k) ≡ L.offsets.step k + total) → StandsAt L.image (L.offsets.step k) (bytes_of (exchanges_doublewords d n)) → RowAt L (place L k 0) (exchanging d n) 6
   unfolding length_of
-  first_row total size stands = placed b total size (L.offsets.step k) 0 (exchanging d n) 6 (omega arith) (exchange_there L b.all (L.offsets.step k) (step_even b) d n ld ln stands)
+  first_row total size stands = placed b total size (L.offsets.step k) 0 (exchanging d n) 6 (omega arith) (exchange_there L b.image (L.offsets.step k) (step_even b) d n ld ln stands)
 
   turn_row : (total : ℕ) → (size : L.offsets.step (suc k) ≡ L.offsets.step k + total) → (op : VecShiftOp) (half offset a : ℕ) → L.offsets.step k + a ≡ offset → a % 2 ≡ 0 → half < 64 → shift_operator op ≡ RotateLeft → StandsAt L.image offset (bytes_of (vrs_a (shift_row op).opcode d 0 d (shift_row op).code half)) → RowAt L (place L k a) (turning (shifted_elements op) half d) 6
   unfolding length_of
   turn_row total size op half offset a e even small rotates stands =
       let first = step_even b in
-      placed b total size offset a (turning (shifted_elements op) half d) 6 e (turn_there L b.all offset (omega (arith, first, even, e)) op d half ld small rotates stands)
+      placed b total size offset a (turning (shifted_elements op) half d) 6 e (turn_there L b.image offset (omega (arith, first, even, e)) op d half ld small rotates stands)
 
   -- the registers behind the rows that reverse elements of a size
   abbrev reversed_in : ElementSize → Registers → Registers

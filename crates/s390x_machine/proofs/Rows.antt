@@ -28,7 +28,7 @@ use Rattle.s390x_machine.specs.Computations.{on_doublewords, computes_immediate}
 use Rattle.s390x_machine.specs.Machine.{Event, ActionStep}
 use Rattle.s390x_machine.specs.Semantics.{performs, semantics_in, semantics_of}
 use Rattle.s390x_machine.specs.Layout.{Layout}
-use Rattle.s390x_machine.specs.CodeAt.{AllCodeAt}
+use Rattle.s390x_machine.specs.CodeAt.{ImageAt}
 use Rattle.s390x_machine.proofs.Addresses.{lands}
 use Rattle.s390x_machine.proofs.Fetching.{StandsAt, row_at}
 use Rattle.s390x_machine.proofs.Simulation.{RowAt}
@@ -151,10 +151,10 @@ lg_listed a = listed machine_rows Rxy (rxy 0xe304 a 1 0 0).slots (omega arith) (
 
 -- ---- what the machine does there
 
-module _ (L : Layout) (all : AllCodeAt L) (offset : ℕ) (even : offset % 2 ≡ 0) where
+module _ (L : Layout) (image : ImageAt L) (offset : ℕ) (even : offset % 2 ≡ 0) where
   pub bcr_at : (mask b : ℕ) → mask < 16 → b < 16 → b ≢ 0 → StandsAt L.image offset (bytes_of (rr 0x07 mask b)) → RowAt L (wrapping_add64 L.image.base offset) (λ r. Branch mask (r.general b)) (length_of Rr)
   unfolding semantics_in semantics_of
-  bcr_at mask b lm lb some s = row_at L offset (rr 0x07 mask b) (λ r. Branch mask (r.general b)) all.even even all.fits s (fits_rr 0x07 mask b (omega arith) lm lb) (bcr_listed mask b) (λ state event t at h. taken (b == 0) refl state event t h)
+  bcr_at mask b lm lb some s = row_at L offset (rr 0x07 mask b) (λ r. Branch mask (r.general b)) image.even even image.fits s (fits_rr 0x07 mask b (omega arith) lm lb) (bcr_listed mask b) (λ state event t at h. taken (b == 0) refl state event t h)
     where
       taken : (n : Bool) → (b == 0) ≡ n → (state : State) (event : Event) (t : State) →
           ActionStep (cond n (performs Rattle.s390x_operations.specs.declared.effect.CodeRule.TheVariants.Kept Rattle.s390x_operations.specs.declared.effect.Effect.TheVariants.Nothing) (Branch mask (state.core.registers.general b))) (length_of Rr) state event t → ActionStep (Branch mask (state.core.registers.general b)) (length_of Rr) state event t
@@ -164,12 +164,12 @@ module _ (L : Layout) (all : AllCodeAt L) (offset : ℕ) (even : offset % 2 ≡ 
   pub brcl_at : (mask target : ℕ) → mask < 16 → offset < 2 ^ 31 → target % 2 ≡ 0 → target < 2 ^ 31 → StandsAt L.image offset (bytes_of (ril_c 0xc04 mask (half_distance offset target))) → RowAt L (wrapping_add64 L.image.base offset) (λ r. Branch mask (wrapping_add64 L.image.base target)) (length_of RilC)
   unfolding semantics_in semantics_of
   brcl_at mask target lm small even_target small_target s =
-      row_at L offset (ril_c 0xc04 mask (half_distance offset target)) (λ r. Branch mask (wrapping_add64 L.image.base target)) all.even even all.fits s (fits_ril_c 0xc04 mask (half_distance offset target) (omega arith) lm (omega arith)) (brcl_listed mask (half_distance offset target)) (λ state event t at h.
+      row_at L offset (ril_c 0xc04 mask (half_distance offset target)) (λ r. Branch mask (wrapping_add64 L.image.base target)) image.even even image.fits s (fits_ril_c 0xc04 mask (half_distance offset target) (omega arith) lm (omega arith)) (brcl_listed mask (half_distance offset target)) (λ state event t at h.
       subst (λ a. ActionStep (Branch mask a) (length_of RilC) state event t) (ap (λ p. low Doubleword (pos p +ℤ pos 2 *ℤ cast_signed w32 (half_distance offset target))) at ∙ lands L.image.base offset target even even_target small small_target) h)
 
   -- the register gets the target's address
   pub larl_at : (a target : ℕ) → a < 16 → offset < 2 ^ 31 → target % 2 ≡ 0 → target < 2 ^ 31 → StandsAt L.image offset (bytes_of (ril_b 0xc00 a (half_distance offset target))) → RowAt L (wrapping_add64 L.image.base offset) (λ r. Perform (computes_immediate Kept (on_doublewords Move) a a (wrapping_add64 L.image.base target) r)) (length_of RilB)
   unfolding semantics_in semantics_of
   larl_at a target la small even_target small_target s =
-      row_at L offset (ril_b 0xc00 a (half_distance offset target)) (λ r. Perform (computes_immediate Kept (on_doublewords Move) a a (wrapping_add64 L.image.base target) r)) all.even even all.fits s (fits_ril_b 0xc00 a (half_distance offset target) (omega arith) la (omega arith)) (larl_listed a (half_distance offset target)) (λ state event t at h.
+      row_at L offset (ril_b 0xc00 a (half_distance offset target)) (λ r. Perform (computes_immediate Kept (on_doublewords Move) a a (wrapping_add64 L.image.base target) r)) image.even even image.fits s (fits_ril_b 0xc00 a (half_distance offset target) (omega arith) la (omega arith)) (larl_listed a (half_distance offset target)) (λ state event t at h.
       subst (λ x. ActionStep (Perform (computes_immediate Kept (on_doublewords Move) a a x state.core.registers)) (length_of RilB) state event t) (ap (λ p. low Doubleword (pos p +ℤ pos 2 *ℤ cast_signed w32 (half_distance offset target))) at ∙ lands L.image.base offset target even even_target small small_target) h)

@@ -43,7 +43,7 @@ use Rattle.s390x_machine.specs.Fetch.{Found}
 use Rattle.s390x_machine.specs.Machine.{Event, ActionStep, OddPairStep, RowStep, FetchedStep}
 use Rattle.s390x_machine.specs.Semantics.{action, semantics_in, semantics_of, names_pair, is_odd_pair, register_field}
 use Rattle.s390x_machine.specs.Layout.{Layout}
-use Rattle.s390x_machine.specs.CodeAt.{AllCodeAt}
+use Rattle.s390x_machine.specs.CodeAt.{ImageAt}
 use Rattle.s390x_machine.proofs.Decoding.{encoded_length}
 use Rattle.s390x_machine.proofs.Fetching.{StandsAt, row_at}
 use Rattle.s390x_machine.proofs.Listing.{Lists, ListedRow, PairRow, Agrees, rows, some_opcode, few_digits, lists_row, means_this, none_but_zero, two_format, TwoRow, TwoRows, ThreeRow, ThreeRows, OpcodeRow, OpcodeRows}
@@ -222,7 +222,7 @@ acts_there x semantics operation means even s event t does h =
     let acts : ActionStep (action semantics f s.core.registers s.address) (size_of x) s event t = subst (λ b. OddPairStep b (action semantics f s.core.registers s.address) (size_of x) s event t) even meant in
     subst (λ a. ActionStep a (size_of x) s event t) does acts
 
-module _ (L : Layout) (all : AllCodeAt L) (offset : ℕ) (even : offset % 2 ≡ 0) where
+module _ (L : Layout) (image : ImageAt L) (offset : ℕ) (even : offset % 2 ≡ 0) where
   -- where its bytes stand, an instruction is this operation
   abbrev pub DoesThere : MachineInstruction → (Registers → Operation) → Type 0
   DoesThere x operation = StandsAt L.image offset (bytes_of x) → RowAt L (wrapping_add64 L.image.base offset) (λ r. Perform (operation r)) (size_of x)
@@ -231,7 +231,7 @@ module _ (L : Layout) (all : AllCodeAt L) (offset : ℕ) (even : offset % 2 ≡ 
   acting_at : (x : MachineInstruction) (allowed : Allowed) (semantics : RowSemantics) (operation : Registers → Operation) → 0 < slice_index x.slots 0 → Lists (slice_index x.slots 0) x.format allowed → semantics_of (slice_index x.slots 0) ≡ Some semantics → is_odd_pair semantics (fields_of x.format x.slots) ≡ false →
       SlotsFit (layout_of x.format) x.slots → is_allowed allowed x.slots ≡ true → ((r : Registers) → action semantics (fields_of x.format x.slots) r (wrapping_add64 L.image.base offset) ≡ Perform (operation r)) → DoesThere x operation
   acting_at x allowed semantics operation some lists means single fit allows does s =
-      row_at L offset x (λ r. Perform (operation r)) all.even even all.fits s fit (encoded x allowed some lists allows) (λ state event t at h.
+      row_at L offset x (λ r. Perform (operation r)) image.even even image.fits s fit (encoded x allowed some lists allows) (λ state event t at h.
       acts_there x semantics operation means single state event t (ap (λ p. action semantics (fields_of x.format x.slots) state.core.registers p) at ∙ does state.core.registers) h)
 
   -- any row whose action is an operation

@@ -1,5 +1,5 @@
 -- What the premises tell of a step: where its bytes and those of its rows stand, and the places of its targets.
-use Rattle.std.proofs.Common.{◌≡◌, ℕ, zero, suc, ◌+◌, ◌%◌, ◌^◌, ◌<◌, ◌≤◌, List, [], ◌∷◌, ◌++◌, length, Option, Some, None, refl, sym, ap, ◌∙◌, subst, arith, append_assoc, length-append, slice_get}
+use Rattle.std.proofs.Common.{◌≡◌, ℕ, zero, suc, ◌+◌, ◌%◌, ◌<◌, ◌≤◌, List, [], ◌∷◌, ◌++◌, length, Option, Some, None, refl, sym, ap, ◌∙◌, subst, arith, append_assoc, length-append, slice_get}
 use Rattle.std.specs.Prelude.{pos}
 use Rattle.s390x_format.specs.Formats.{length_of}
 use Rattle.s390x_format.proofs.Encoding.{encode-length}
@@ -9,7 +9,7 @@ use Rattle.s390x_typed_steps.specs.Parts.{CodePart, Row, Trapping, Branch, Relat
 use Rattle.s390x_typed_steps.specs.Rows.{Offsets, target_offset, half_distance, part_bytes, parts_bytes, step_bytes}
 use Rattle.s390x_operations.specs.State.{wrapping_add64}
 use Rattle.s390x_machine.specs.Layout.{Layout, step_address, block_address, InStep}
-use Rattle.s390x_machine.specs.CodeAt.{CodeAt, AllCodeAt, IsBlock}
+use Rattle.s390x_machine.specs.CodeAt.{CodeAt, AllCodeAt, ImageAt, IsBlock, StepAt}
 use Rattle.s390x_machine.proofs.Addresses.{sum_more}
 use Rattle.s390x_machine.proofs.Fetching.{StandsAt, size_even}
 
@@ -79,11 +79,23 @@ offset_ok : (L : Layout) → AllCodeAt L → (k : ℕ) → k ≤ length L.steps 
 offset_ok L all zero le = (omega (arith, all.begins), omega (arith, all.begins))
 offset_ok L all (suc k) le = next_ok L all k le (offset_ok L all k (omega arith)) (slice_get L.steps k) refl
 
-pub offset_even : (L : Layout) → AllCodeAt L → (k : ℕ) → k ≤ length L.steps → L.offsets.step k % 2 ≡ 0
-offset_even L all k le = (offset_ok L all k le).0
+-- an image that has a function's code
+pub image_at : (L : Layout) → AllCodeAt L → ImageAt L
+image_at L all = record {
+  even = all.even;
+  fits = all.fits;
+  short = all.short;
+  step_places = λ k le. let ok = offset_ok L all k le in (ok.0, omega (arith, ok.1, all.short));
+  block_places = λ b is.
+      let ok = offset_ok L all (L.first_step b) (all.first_steps b is) in
+      let at = all.blocks b is in
+      (omega (arith, at, ok.0), omega (arith, at, ok.1, all.short));
+  blocks = all.blocks;
+}
 
-pub offset_small : (L : Layout) → AllCodeAt L → (k : ℕ) → k ≤ length L.steps → L.offsets.step k < 2 ^ 31
-offset_small L all k le = omega (arith, (offset_ok L all k le).1, all.short)
+-- and each of its steps there
+pub step_at : (L : Layout) → AllCodeAt L → (k : ℕ) (s : Step) → slice_get L.steps k ≡ Some s → StepAt L k s
+step_at L all k s at = record { image = image_at L all; at = at; code = all.steps k s at; constants = λ c lt names. all.constants c lt }
 
 -- ---- the parts of a step
 
@@ -109,13 +121,6 @@ step_stands L k s p =
 
 -- ---- places
 
--- a block's offset is that of its first step
-pub block_even : (L : Layout) → AllCodeAt L → (b : ℕ) → IsBlock L b → L.offsets.block b % 2 ≡ 0
-block_even L all b is = ap (λ n. n % 2) (all.blocks b is) ∙ offset_even L all (L.first_step b) (all.first_steps b is)
-
-pub block_small : (L : Layout) → AllCodeAt L → (b : ℕ) → IsBlock L b → L.offsets.block b < 2 ^ 31
-block_small L all b is = omega (arith, all.blocks b is, offset_small L all (L.first_step b) (all.first_steps b is))
-
 -- the place after some bytes of a step
 pub inside_at : (L : Layout) (k n size : ℕ) → L.offsets.step (suc k) ≡ L.offsets.step k + size → n < size → InStep L k (wrapping_add64 (step_address L k) n)
 inside_at L k n size e lt = record { offset = L.offsets.step k + n; above = omega arith; below = omega (arith, e); is = sum_more L.image.base (L.offsets.step k) n }
@@ -128,5 +133,8 @@ pub next_place : (L : Layout) (k size : ℕ) → L.offsets.step (suc k) ≡ L.of
 next_place L k size e = sum_more L.image.base (L.offsets.step k) size ∙ ap (λ n. wrapping_add64 L.image.base n) (sym e)
 
 -- a block begins at its first step
+pub block_begins : (L : Layout) → ImageAt L → (b : ℕ) → IsBlock L b → block_address L b ≡ step_address L (L.first_step b)
+block_begins L image b is = ap (λ n. wrapping_add64 L.image.base n) (image.blocks b is)
+
 pub block_at : (L : Layout) → AllCodeAt L → (b : ℕ) → IsBlock L b → block_address L b ≡ step_address L (L.first_step b)
-block_at L all b is = ap (λ n. wrapping_add64 L.image.base n) (all.blocks b is)
+block_at L all b is = block_begins L (image_at L all) b is

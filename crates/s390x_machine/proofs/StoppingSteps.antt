@@ -42,7 +42,7 @@ use Rattle.s390x_machine.proofs.Listing.{few_digits, some_opcode, lists_row, Pai
 use Rattle.s390x_machine.proofs.RegisterNumbers.{even_pair}
 use Rattle.s390x_machine.proofs.Rows.{brcl_at, fits_rre, fits_rrf_cde, fits_rie_a}
 use Rattle.s390x_machine.proofs.Simulation.{ValuesCoded}
-use Rattle.s390x_machine.proofs.Standing.{offset_small, inside_at, inside_first, next_place}
+use Rattle.s390x_machine.proofs.Standing.{inside_at, inside_first, next_place}
 use Rattle.s390x_machine.proofs.Stops.{division_coded, logical_division_coded, comparison_coded}
 use Rattle.s390x_machine.proofs.Trapping.{division_late, comparison_late, stops_at, zeros, zero_and_one, zeros_behind}
 
@@ -68,7 +68,7 @@ module _ {L : Layout} {k : ℕ} {s : Step} (b : StepAt L k s) where
       let x = rre opcode pair m in
       let fit = fits_rre opcode pair m (few_digits row) l.0 l.2 in
       coded_runs b x operation division_code IntegerDivisionByZero values (division_late L) is.0 is.1 (row_tells x Any (some_opcode row) (lists_row row) fit refl) (λ st.
-      pair_at L b.all (L.offsets.step k) (step_even b) x semantics operation row (even_pair semantics (fields_of Rre x.slots) l.1) fit refl acts st)
+      pair_at L b.image (L.offsets.step k) (step_even b) x semantics operation row (even_pair semantics (fields_of Rre x.slots) l.1) fit refl acts st)
 
   pub compare_trap_runs : (operands_valid : Bool) (o : Option ℕ) (c : Comparison) → MeantRows RrfCde any_mask o (CompareAndTrap c.sign c.size) → (n m mask : ℕ) (code : TrapKind) → mask < 16 → MayStop L s operands_valid (masked_row o n m mask) (compares_and_traps c n m mask) code → (IsTrue operands_valid → (n < 16) × (m < 16)) → StepRuns L k
   compare_trap_runs operands_valid None c row n m mask code lm is few = absurd is.2
@@ -80,7 +80,7 @@ module _ {L : Layout} {k : ℕ} {s : Step} (b : StepAt L k s) where
       let allowed = mask_allowed opcode n m mask lm in
       let values : (r : Registers) → ValuesCoded (op r) (comparison_code code) = λ r. comparison_coded Kept code c.sign c.size (value_in c.size r n) (value_in c.size r m) mask in
       coded_runs b x op (comparison_code code) code values (comparison_late L code) is.0 is.1 (row_tells x any_mask (some_opcode row.0) (lists_row row.0) fit allowed) (λ st.
-      meant_at L b.all (L.offsets.step k) (step_even b) x (CompareAndTrap c.sign c.size) op row fit allowed (λ r p. refl) st)
+      meant_at L b.image (L.offsets.step k) (step_even b) x (CompareAndTrap c.sign c.size) op row fit allowed (λ r p. refl) st)
 
   pub compare_immediate_trap_runs : (operands_valid : Bool) (o : Option ℕ) (c : Comparison) → MeantRows RieA Any o (CompareImmediateAndTrap c.sign c.size) → (n bits mask : ℕ) (code : TrapKind) → bits < 2 ^ 16 → mask < 16 → MayStop L s operands_valid (masked_halfword_row o n bits mask) (compares_immediate_and_traps c n bits mask) code → (IsTrue operands_valid → n < 16) → StepRuns L k
   compare_immediate_trap_runs operands_valid None c row n bits mask code lb lm is few = absurd is.2
@@ -90,7 +90,7 @@ module _ {L : Layout} {k : ℕ} {s : Step} (b : StepAt L k s) where
       let fit = fits_rie_a opcode n bits mask (few_digits row.0) (few is.2) lb lm in
       let values : (r : Registers) → ValuesCoded (op r) (comparison_code code) = λ r. comparison_coded Kept code c.sign c.size (value_in c.size r n) (extended c.sign Bits16 c.size bits) mask in
       coded_runs b x op (comparison_code code) code values (comparison_late L code) is.0 is.1 (row_tells x Any (some_opcode row.0) (lists_row row.0) fit refl) (λ st.
-      meant_at L b.all (L.offsets.step k) (step_even b) x (CompareImmediateAndTrap c.sign c.size) op row fit refl (λ r p. ap (λ y. Perform (compares_immediate_and_traps c n y mask r)) (low_small bits (omega (arith, lb)))) st)
+      meant_at L b.image (L.offsets.step k) (step_even b) x (CompareImmediateAndTrap c.sign c.size) op row fit refl (λ r p. ap (λ y. Perform (compares_immediate_and_traps c n y mask r)) (low_small bits (omega (arith, lb)))) st)
 
   -- ---- stops where there is no instruction
 
@@ -99,7 +99,7 @@ module _ {L : Layout} {k : ℕ} {s : Step} (b : StepAt L k s) where
   always_traps code is parts =
       let one = one_recorded b (format_e 0) 1 code parts (omega arith) in
       let stands : StandsAt L.image (L.offsets.step k) (0 ∷ 0 ∷ []) = subst (StandsAt L.image (L.offsets.step k)) zeros one.row.stands in
-      trap_runs L k code (step_form b _ is) (stops_at L b.all (L.offsets.step k) 0 (Some code) (step_even b) stands one.found) (inside_first L k 2 one.row.size (omega arith))
+      trap_runs L k code (step_form b _ is) (stops_at L b.image (L.offsets.step k) 0 (Some code) (step_even b) stands one.found) (inside_first L k 2 one.row.size (omega arith))
 
   pub traps_where : (mask : ℕ) (code : TrapKind) → kind_of_step L (Some s) ≡ Some (TrapsWhere mask code) → step_parts s ≡ Trapping (ril_c 0xc04 mask 1) 3 code ∷ [] → mask < 16 → StepRuns L k
   unfolding length_of
@@ -107,15 +107,15 @@ module _ {L : Layout} {k : ℕ} {s : Step} (b : StepAt L k s) where
       let o = L.offsets.step k in
       let even = step_even b in
       let one = one_recorded b (ril_c 0xc04 mask 1) 3 code parts (omega arith) in
-      let near : o + 6 < 2 ^ 31 = omega (arith, one.row.size, offset_small L b.all (suc k) (step_within b)) in
+      let near : o + 6 < 2 ^ 31 = omega (arith, one.row.size, (b.image.step_places (suc k) (step_within b)).1) in
       let half : half_distance o (o + 2) ≡ 1 = omega arith in
       let stands : StandsAt L.image o (bytes_of (ril_c 0xc04 mask (half_distance o (o + 2)))) = subst (λ h. StandsAt L.image o (bytes_of (ril_c 0xc04 mask h))) (sym half) one.row.stands in
       let third : o + 3 ≡ o + 2 + 1 = omega arith in
       trap_where_runs L k mask code (step_form b _ is) (record {
         size = 6;
         target = wrapping_add64 L.image.base (o + 2);
-        row = brcl_at L b.all o even mask (o + 2) lm (step_small b) (omega (arith, even)) (omega (arith, near)) stands;
-        stops = stops_at L b.all (o + 2) 0 (Some code) (omega (arith, even)) (zeros_behind L o mask one.row.stands) (ap (first_code L.traps) (sym third) ∙ one.found);
+        row = brcl_at L b.image o even mask (o + 2) lm (step_small b) (omega (arith, even)) (omega (arith, near)) stands;
+        stops = stops_at L b.image (o + 2) 0 (Some code) (omega (arith, even)) (zeros_behind L o mask one.row.stands) (ap (first_code L.traps) (sym third) ∙ one.found);
         here = inside_first L k 6 one.row.size (omega arith);
         here_target = subst (InStep L k) (sum_more L.image.base o 2) (inside_at L k 2 6 one.row.size (omega arith));
         next = next_place L k 6 one.row.size;
@@ -126,5 +126,5 @@ module _ {L : Layout} {k : ℕ} {s : Step} (b : StepAt L k s) where
   debug_stops is parts =
       let o = L.offsets.step k in
       let one = one_row b (format_e 1) parts in
-      let none : first_code L.traps (o + 1) ≡ None = b.placed.traps (o + 1) (omega arith) (omega (arith, one.size)) ∙ ap (λ ps. first_code (parts_traps o ps) (o + 1)) parts in
-      debug_runs L k (step_form b _ is) (stops_at L b.all o 1 None (step_even b) (subst (StandsAt L.image o) zero_and_one one.stands) none) (inside_first L k 2 one.size (omega arith))
+      let none : first_code L.traps (o + 1) ≡ None = b.code.traps (o + 1) (omega arith) (omega (arith, one.size)) ∙ ap (λ ps. first_code (parts_traps o ps) (o + 1)) parts in
+      debug_runs L k (step_form b _ is) (stops_at L b.image o 1 None (step_even b) (subst (StandsAt L.image o) zero_and_one one.stands) none) (inside_first L k 2 one.size (omega arith))

@@ -38,7 +38,7 @@ use Rattle.s390x_machine.specs.Layout.{Layout}
 use Rattle.s390x_machine.specs.Machine.{Transition}
 use Rattle.s390x_machine.specs.Semantics.{action}
 use Rattle.s390x_machine.specs.Operands.{indexed, based}
-use Rattle.s390x_machine.specs.CodeAt.{CodeAt, AllCodeAt, PartReaches, PartsReach}
+use Rattle.s390x_machine.specs.CodeAt.{CodeAt, ImageAt, PartReaches, PartsReach}
 use Rattle.s390x_machine.proofs.Addresses.{sum_more}
 use Rattle.s390x_machine.proofs.Listing.{ListedRow, OpcodeRow, OpcodeRows, few_digits}
 use Rattle.s390x_machine.proofs.SingleInstruction.{meant_at}
@@ -48,7 +48,7 @@ use Rattle.s390x_machine.proofs.Operands.{read_12, read_20, bits_12, based_index
 use Rattle.s390x_machine.proofs.Rows.{fits_rx, fits_rxy, fits_rs, fits_rsy, fits_si, fits_siy, fits_sil, fits_vrx}
 use Rattle.s390x_machine.proofs.Simulation.{RowAt, Inside, Simulates, Coded, acts_as}
 use Rattle.s390x_operations.specs.Effects.{Refines}
-use Rattle.s390x_machine.proofs.Standing.{PartsStand, part_length, part_even, step_stands, offset_even}
+use Rattle.s390x_machine.proofs.Standing.{PartsStand, part_length, part_even, step_stands}
 use Rattle.s390x_machine.proofs.Trapping.{code_within, within_image}
 
 -- ---- rows with an operand in memory
@@ -143,7 +143,7 @@ MayIndex (FloatForm register short long) index = Unit {0}
 looser_row : (L : Layout) (p size : ℕ) (does operation : Registers → Operation) → ((r : Registers) → Refines (does r) (operation r)) → RowAt L p (λ r. Perform (does r)) size → RowAt L p (λ r. Perform (operation r)) size
 looser_row L p size does operation refines row = λ s at loaded event t step. acts_as (Perform (does s.core.registers)) (operation s.core.registers) size s event t (refines s.core.registers) (row s at loaded event t step)
 
-module _ (L : Layout) (all : AllCodeAt L) (operation : ℕ → Registers → Operation) where
+module _ (L : Layout) (image : ImageAt L) (operation : ℕ → Registers → Operation) where
   -- a row of a base and a displacement does it, where there is no index
   unindexed : (r : Registers) (base index n : ℕ) (z : ℤ) → disp_of n ≡ z → index ≡ 0 → Perform (operation (based r base (disp_of n)) r) ≡ Perform (operation (indexed r base index z) r)
   unindexed r base index n z e none = ap (λ a. Perform (operation a r)) (ap (based r base) e ∙ sym (based_indexed r base z) ∙ ap (λ i. indexed r base i z) (sym none))
@@ -156,7 +156,7 @@ module _ (L : Layout) (all : AllCodeAt L) (operation : ℕ → Registers → Ope
     is = λ code. access_row (rx opcode register (number_of base) (number_of index) (low_12 d)) code;
     some = omega arith;
     untrapped = λ p. refl;
-    row = λ offset even st reaches. meant_at L all offset even (rx opcode register (number_of base) (number_of index) (low_12 d)) does.semantics (λ r. operation (indexed r (number_of base) (number_of index) (pos d)) r) does.short_rows (fits_rx opcode register (number_of base) (number_of index) (low_12 d) (few_digits does.short_rows.0) does.few lb li (bits_12 d)) refl (λ r p.
+    row = λ offset even st reaches. meant_at L image offset even (rx opcode register (number_of base) (number_of index) (low_12 d)) does.semantics (λ r. operation (indexed r (number_of base) (number_of index) (pos d)) r) does.short_rows (fits_rx opcode register (number_of base) (number_of index) (low_12 d) (few_digits does.short_rows.0) does.few lb li (bits_12 d)) refl (λ r p.
         does.acts Rx opcode (number_of base) (number_of index) (low_12 d) r p ∙ ap (λ z. Perform (operation (indexed r (number_of base) (number_of index) z) r)) (read_12 d le)) st;
   }
   stands_12 (RsForm first second None long) does accesses have base index d flags lb li may le = absurd (cc)
@@ -165,7 +165,7 @@ module _ (L : Layout) (all : AllCodeAt L) (operation : ℕ → Registers → Ope
     is = λ code. access_row (rs opcode first second (number_of base) (low_12 d)) code;
     some = omega arith;
     untrapped = λ p. refl;
-    row = λ offset even st reaches. meant_at L all offset even (rs opcode first second (number_of base) (low_12 d)) does.semantics (λ r. operation (indexed r (number_of base) (number_of index) (pos d)) r) does.short_rows (fits_rs opcode first second (number_of base) (low_12 d) (few_digits does.short_rows.0) does.few does.few_second lb (bits_12 d)) refl (λ r p.
+    row = λ offset even st reaches. meant_at L image offset even (rs opcode first second (number_of base) (low_12 d)) does.semantics (λ r. operation (indexed r (number_of base) (number_of index) (pos d)) r) does.short_rows (fits_rs opcode first second (number_of base) (low_12 d) (few_digits does.short_rows.0) does.few does.few_second lb (bits_12 d)) refl (λ r p.
         does.acts Rs opcode (number_of base) (low_12 d) r p ∙ unindexed r (number_of base) (number_of index) (low_12 d) (pos d) (read_12 d le) may) st;
   }
   stands_12 (SiForm imm opcode long) does accesses have base index d flags lb li may le = record {
@@ -173,7 +173,7 @@ module _ (L : Layout) (all : AllCodeAt L) (operation : ℕ → Registers → Ope
     is = λ code. access_row (si opcode (number_of base) (low_12 d) imm) code;
     some = omega arith;
     untrapped = λ p. refl;
-    row = λ offset even st reaches. meant_at L all offset even (si opcode (number_of base) (low_12 d) imm) does.semantics (λ r. operation (indexed r (number_of base) (number_of index) (pos d)) r) does.short_row (fits_si opcode (number_of base) (low_12 d) imm (few_digits does.short_row.0) lb (bits_12 d) does.few) refl (λ r p.
+    row = λ offset even st reaches. meant_at L image offset even (si opcode (number_of base) (low_12 d) imm) does.semantics (λ r. operation (indexed r (number_of base) (number_of index) (pos d)) r) does.short_row (fits_si opcode (number_of base) (low_12 d) imm (few_digits does.short_row.0) lb (bits_12 d) does.few) refl (λ r p.
         does.acts Si opcode (number_of base) (low_12 d) r p ∙ unindexed r (number_of base) (number_of index) (low_12 d) (pos d) (read_12 d le) may) st;
   }
   stands_12 (SilForm bits opcode) does accesses have base index d flags lb li may le = record {
@@ -181,7 +181,7 @@ module _ (L : Layout) (all : AllCodeAt L) (operation : ℕ → Registers → Ope
     is = λ code. access_row (sil opcode (number_of base) (low_12 d) bits) code;
     some = omega arith;
     untrapped = λ p. refl;
-    row = λ offset even st reaches. meant_at L all offset even (sil opcode (number_of base) (low_12 d) bits) does.semantics (λ r. operation (indexed r (number_of base) (number_of index) (pos d)) r) does.row (fits_sil opcode (number_of base) (low_12 d) bits (few_digits does.row.0) lb (bits_12 d) does.few) refl (λ r p.
+    row = λ offset even st reaches. meant_at L image offset even (sil opcode (number_of base) (low_12 d) bits) does.semantics (λ r. operation (indexed r (number_of base) (number_of index) (pos d)) r) does.row (fits_sil opcode (number_of base) (low_12 d) bits (few_digits does.row.0) lb (bits_12 d) does.few) refl (λ r p.
         does.acts (number_of base) (low_12 d) r p ∙ unindexed r (number_of base) (number_of index) (low_12 d) (pos d) (read_12 d le) may) st;
   }
   stands_12 (VrxForm register opcode mask) does accesses have base index d flags lb li may le = record {
@@ -193,7 +193,7 @@ module _ (L : Layout) (all : AllCodeAt L) (operation : ℕ → Registers → Ope
         let x = vrx opcode register (number_of base) (number_of index) mask (low_12 d) in
         let there : Registers → ℕ = λ r. indexed r (number_of base) (number_of index) (pos d) in
         looser_row L (wrapping_add64 L.image.base offset) 6 (λ r. does.does (there r) r) (λ r. operation (there r) r) (λ r. does.refines (there r) r)
-        (meant_at L all offset even x does.semantics (λ r. does.does (there r) r) does.row (fits_vrx opcode register (number_of base) (number_of index) mask (low_12 d) (few_digits does.row.0) does.few lb li does.few_mask (bits_12 d)) (does.allows (number_of base) (number_of index) (low_12 d)) (λ r p.
+        (meant_at L image offset even x does.semantics (λ r. does.does (there r) r) does.row (fits_vrx opcode register (number_of base) (number_of index) mask (low_12 d) (few_digits does.row.0) does.few lb li does.few_mask (bits_12 d)) (does.allows (number_of base) (number_of index) (low_12 d)) (λ r p.
         does.acts (number_of base) (number_of index) (low_12 d) r p ∙ ap (λ z. Perform (does.does (indexed r (number_of base) (number_of index) z) r)) (read_12 d le)) st);
   }
   stands_12 (FloatForm register opcode long) does accesses have base index d flags lb li may le = record {
@@ -201,7 +201,7 @@ module _ (L : Layout) (all : AllCodeAt L) (operation : ℕ → Registers → Ope
     is = λ code. access_row (rx opcode register (number_of base) (number_of index) (low_12 d)) code;
     some = omega arith;
     untrapped = λ p. refl;
-    row = λ offset even st reaches. meant_at L all offset even (rx opcode register (number_of base) (number_of index) (low_12 d)) does.semantics (λ r. operation (indexed r (number_of base) (number_of index) (pos d)) r) does.short_rows (fits_rx opcode register (number_of base) (number_of index) (low_12 d) (few_digits does.short_rows.0) does.few lb li (bits_12 d)) refl (λ r p.
+    row = λ offset even st reaches. meant_at L image offset even (rx opcode register (number_of base) (number_of index) (low_12 d)) does.semantics (λ r. operation (indexed r (number_of base) (number_of index) (pos d)) r) does.short_rows (fits_rx opcode register (number_of base) (number_of index) (low_12 d) (few_digits does.short_rows.0) does.few lb li (bits_12 d)) refl (λ r p.
         does.acts Rx opcode (number_of base) (number_of index) (low_12 d) r p ∙ ap (λ z. Perform (operation (indexed r (number_of base) (number_of index) z) r)) (read_12 d le)) st;
   }
 
@@ -214,7 +214,7 @@ module _ (L : Layout) (all : AllCodeAt L) (operation : ℕ → Registers → Ope
     is = λ code. access_row (rxy opcode register (number_of base) (number_of index) (low_displacement z)) code;
     some = omega arith;
     untrapped = λ p. refl;
-    row = λ offset even st reaches. meant_at L all offset even (rxy opcode register (number_of base) (number_of index) (low_displacement z)) does.semantics (λ r. operation (indexed r (number_of base) (number_of index) z) r) does.long_rows (fits_rxy opcode register (number_of base) (number_of index) (low_displacement z) (few_digits does.long_rows.0) does.few lb li lz) refl (λ r p.
+    row = λ offset even st reaches. meant_at L image offset even (rxy opcode register (number_of base) (number_of index) (low_displacement z)) does.semantics (λ r. operation (indexed r (number_of base) (number_of index) z) r) does.long_rows (fits_rxy opcode register (number_of base) (number_of index) (low_displacement z) (few_digits does.long_rows.0) does.few lb li lz) refl (λ r p.
         does.acts Rxy opcode (number_of base) (number_of index) (low_displacement z) r p ∙ ap (λ y. Perform (operation (indexed r (number_of base) (number_of index) y) r)) (read_20 z least most)) st;
   }
   stands_20 (RsForm first second short None) does accesses have base index z flags lb li may least most lz = absurd (cc)
@@ -223,7 +223,7 @@ module _ (L : Layout) (all : AllCodeAt L) (operation : ℕ → Registers → Ope
     is = λ code. access_row (rsy opcode first second (number_of base) (low_displacement z)) code;
     some = omega arith;
     untrapped = λ p. refl;
-    row = λ offset even st reaches. meant_at L all offset even (rsy opcode first second (number_of base) (low_displacement z)) does.semantics (λ r. operation (indexed r (number_of base) (number_of index) z) r) does.long_rows (fits_rsy opcode first second (number_of base) (low_displacement z) (few_digits does.long_rows.0) does.few does.few_second lb lz) refl (λ r p.
+    row = λ offset even st reaches. meant_at L image offset even (rsy opcode first second (number_of base) (low_displacement z)) does.semantics (λ r. operation (indexed r (number_of base) (number_of index) z) r) does.long_rows (fits_rsy opcode first second (number_of base) (low_displacement z) (few_digits does.long_rows.0) does.few does.few_second lb lz) refl (λ r p.
         does.acts Rsy opcode (number_of base) (low_displacement z) r p ∙ unindexed r (number_of base) (number_of index) (low_displacement z) z (read_20 z least most) may) st;
   }
   stands_20 (SiForm imm short opcode) does accesses have base index z flags lb li may least most lz = record {
@@ -231,7 +231,7 @@ module _ (L : Layout) (all : AllCodeAt L) (operation : ℕ → Registers → Ope
     is = λ code. access_row (siy opcode (number_of base) (low_displacement z) imm) code;
     some = omega arith;
     untrapped = λ p. refl;
-    row = λ offset even st reaches. meant_at L all offset even (siy opcode (number_of base) (low_displacement z) imm) does.semantics (λ r. operation (indexed r (number_of base) (number_of index) z) r) does.long_row (fits_siy opcode (number_of base) (low_displacement z) imm (few_digits does.long_row.0) lb lz does.few) refl (λ r p.
+    row = λ offset even st reaches. meant_at L image offset even (siy opcode (number_of base) (low_displacement z) imm) does.semantics (λ r. operation (indexed r (number_of base) (number_of index) z) r) does.long_row (fits_siy opcode (number_of base) (low_displacement z) imm (few_digits does.long_row.0) lb lz does.few) refl (λ r p.
         does.acts Siy opcode (number_of base) (low_displacement z) r p ∙ unindexed r (number_of base) (number_of index) (low_displacement z) z (read_20 z least most) may) st;
   }
   stands_20 (SilForm bits opcode) does accesses have base index z flags lb li may least most lz = absurd (cc)
@@ -241,7 +241,7 @@ module _ (L : Layout) (all : AllCodeAt L) (operation : ℕ → Registers → Ope
     is = λ code. access_row (rxy opcode register (number_of base) (number_of index) (low_displacement z)) code;
     some = omega arith;
     untrapped = λ p. refl;
-    row = λ offset even st reaches. meant_at L all offset even (rxy opcode register (number_of base) (number_of index) (low_displacement z)) does.semantics (λ r. operation (indexed r (number_of base) (number_of index) z) r) does.long_rows (fits_rxy opcode register (number_of base) (number_of index) (low_displacement z) (few_digits does.long_rows.0) does.few lb li lz) refl (λ r p.
+    row = λ offset even st reaches. meant_at L image offset even (rxy opcode register (number_of base) (number_of index) (low_displacement z)) does.semantics (λ r. operation (indexed r (number_of base) (number_of index) z) r) does.long_rows (fits_rxy opcode register (number_of base) (number_of index) (low_displacement z) (few_digits does.long_rows.0) does.few lb li lz) refl (λ r p.
         does.acts Rxy opcode (number_of base) (number_of index) (low_displacement z) r p ∙ ap (λ y. Perform (operation (indexed r (number_of base) (number_of index) y) r)) (read_20 z least most)) st;
   }
 
@@ -294,7 +294,7 @@ uncoded_access Stop.Specification n e = absurd (cc)
 uncoded_access Stop.Divide n e = absurd (cc)
 uncoded_access Stop.CompareTrap n e = absurd (cc)
 
-module _ (L : Layout) (all : AllCodeAt L) (k : ℕ) where
+module _ (L : Layout) (image : ImageAt L) (k : ℕ) where
   -- the code of a fault stands at the access's first byte
   access_coded : (o : ℕ) (bytes : List ℕ) → StandsAt L.image o bytes → 0 < length bytes → (x : TrapKind) → first_code L.traps o ≡ Some x → Coded L (wrapping_add64 L.image.base o) (access_code (Some x))
   access_coded o bytes s some x found = go
@@ -303,8 +303,8 @@ module _ (L : Layout) (all : AllCodeAt L) (k : ℕ) where
       inside = omega (arith, within_image L o bytes s, some)
 
       go : Coded L (wrapping_add64 L.image.base o) (access_code (Some x))
-      go Stop.Access n e = code_within L all.fits o inside Stop.Access ∙ found ∙ e
-      go Stop.Specification n e = code_within L all.fits o inside Stop.Specification ∙ found ∙ e
+      go Stop.Access n e = code_within L image.fits o inside Stop.Access ∙ found ∙ e
+      go Stop.Specification n e = code_within L image.fits o inside Stop.Specification ∙ found ∙ e
       go Stop.Operation n e = absurd (cc)
       go Stop.Divide n e = absurd (cc)
       go Stop.CompareTrap n e = absurd (cc)
@@ -333,7 +333,7 @@ module _ (L : Layout) (all : AllCodeAt L) (k : ℕ) where
   pub step_rows_before : (s : Step) → slice_get L.steps k ≡ Some s → CodeAt L k s → (hs : List CodePart) → Untrapped hs → (part : CodePart) (code : Option TrapKind) → 0 < part_size part → step_parts s ≡ hs ++ access_of code part → RowsBefore L k hs part code (L.offsets.step k)
   step_rows_before s at p hs none part code some is =
       let o = L.offsets.step k in
-      rows_before hs none part code o (offset_even L all k (omega (arith, slice_get_within L.steps k s at))) (omega arith) some
+      rows_before hs none part code o (image.step_places k (omega (arith, slice_get_within L.steps k s at))).0 (omega arith) some
       (subst (λ ps. PartsStand L o ps) is (step_stands L k s p))
       (subst (λ ps. PartsReach L o ps) is p.reached)
       (p.size ∙ ap (λ ps. o + parts_size ps) is)

@@ -26,7 +26,7 @@ use Rattle.s390x_machine.specs.StepKinds.{Performs, no_code}
 use Rattle.s390x_machine.specs.Typed.{At, goes_on, KindStep, TypedStep, kind_at}
 use Rattle.s390x_machine.specs.OneStep.{StepRuns}
 use Rattle.s390x_machine.specs.Layout.{Layout, step_address, InStep}
-use Rattle.s390x_machine.specs.CodeAt.{AllCodeAt}
+use Rattle.s390x_machine.specs.CodeAt.{ImageAt}
 use Rattle.s390x_machine.proofs.Addresses.{sum_more, moved, unmoved}
 use Rattle.s390x_machine.proofs.Branches.{stores_none}
 use Rattle.s390x_machine.proofs.Composites.{ChangesOver, row_over_last, saves}
@@ -111,16 +111,16 @@ doubleword_changes image r d offset n size p fits s at m (Interrupted kind) t is
 -- ---- the rows at their places
 
 -- a branch over the doubleword behind it, whose address goes into %r1
-pub bras_at : (L : Layout) → AllCodeAt L → (offset : ℕ) → offset % 2 ≡ 0 → StandsAt L.image offset (bytes_of (ri_b 0xa75 1 6)) → RowAt L (wrapping_add64 L.image.base offset) (λ r. BranchAndSave 1 (wrapping_add64 (wrapping_add64 L.image.base offset) 12)) (length_of RiB)
+pub bras_at : (L : Layout) → ImageAt L → (offset : ℕ) → offset % 2 ≡ 0 → StandsAt L.image offset (bytes_of (ri_b 0xa75 1 6)) → RowAt L (wrapping_add64 L.image.base offset) (λ r. BranchAndSave 1 (wrapping_add64 (wrapping_add64 L.image.base offset) 12)) (length_of RiB)
 unfolding semantics_in semantics_of
-bras_at L all offset even s =
-    row_at L offset (ri_b 0xa75 1 6) (λ r. BranchAndSave 1 (wrapping_add64 (wrapping_add64 L.image.base offset) 12)) all.even even all.fits s (fits_ri_b 0xa75 1 6 (omega arith) (omega arith) (omega arith)) bras_listed (λ state event t at h.
+bras_at L image offset even s =
+    row_at L offset (ri_b 0xa75 1 6) (λ r. BranchAndSave 1 (wrapping_add64 (wrapping_add64 L.image.base offset) 12)) image.even even image.fits s (fits_ri_b 0xa75 1 6 (omega arith) (omega arith) (omega arith)) bras_listed (λ state event t at h.
     subst (λ a. ActionStep (BranchAndSave 1 a) (length_of RiB) state event t) (ap (λ p. low Doubleword (pos p +ℤ pos 12)) at ∙ moved (wrapping_add64 L.image.base offset) 12) h)
 
-pub lg_at : (L : Layout) → AllCodeAt L → (offset : ℕ) → offset % 2 ≡ 0 → (d : ℕ) → d < 16 → StandsAt L.image offset (bytes_of (rxy 0xe304 d 1 0 0)) → RowAt L (wrapping_add64 L.image.base offset) (λ r. Perform (loads_doubleword d r)) (length_of Rxy)
+pub lg_at : (L : Layout) → ImageAt L → (offset : ℕ) → offset % 2 ≡ 0 → (d : ℕ) → d < 16 → StandsAt L.image offset (bytes_of (rxy 0xe304 d 1 0 0)) → RowAt L (wrapping_add64 L.image.base offset) (λ r. Perform (loads_doubleword d r)) (length_of Rxy)
 unfolding semantics_in semantics_of
-lg_at L all offset even d ld s =
-    row_at L offset (rxy 0xe304 d 1 0 0) (λ r. Perform (loads_doubleword d r)) all.even even all.fits s (fits_rxy 0xe304 d 1 0 0 (omega arith) ld (omega arith) (omega arith) (omega arith)) (lg_listed d) (λ state event t at h. h)
+lg_at L image offset even d ld s =
+    row_at L offset (rxy 0xe304 d 1 0 0) (λ r. Perform (loads_doubleword d r)) image.even even image.fits s (fits_rxy 0xe304 d 1 0 0 (omega arith) ld (omega arith) (omega arith) (omega arith)) (lg_listed d) (λ state event t at h. h)
 
 -- ---- the step
 
@@ -139,8 +139,8 @@ symbol_step L k d n v is c h =
     let x = (mid c (set_general (set_general c.registers 1 v) d (extended Unsigned Bits64 Doubleword n)) (all_writes h) 0).core in
     subst (λ f. KindStep L f k y (At (suc k)) x) (sym is) (goes_on v (record { reached = refl; allowed = refl; results = refl; code = refl; memory = refl }) refl)
 
-pub symbol_runs : (L : Layout) → AllCodeAt L → (k d n : ℕ) → kind_at L k ≡ Some (Performs true (computes_immediate Kept (on_doublewords Move) d d n) no_code) → SymbolRows L k d n → StepRuns L k
-symbol_runs L all k d n is rows c is_loaded =
+pub symbol_runs : (L : Layout) → ImageAt L → (k d n : ℕ) → kind_at L k ≡ Some (Performs true (computes_immediate Kept (on_doublewords Move) d d n) no_code) → SymbolRows L k d n → StepRuns L k
+symbol_runs L image k d n is rows c is_loaded =
     let p2 = wrapping_add64 (step_address L k) 12 in
     let saved : Registers = set_general c.registers 1 (wrapping_add64 (step_address L k) 4) in
     let i = at_start L k c rows.here is_loaded in
@@ -150,5 +150,5 @@ symbol_runs L all k d n is rows c is_loaded =
     let i2 = further L k c [] c.registers (step_address L k) (λ r. BranchAndSave 1 p2) 4 t saved p2 i u (omega arith) rows.here_second went.0 went.1 in
     resume L k c [] t saved p2 rest went.1 run
     (row_over_last L k c (t ∷ []) saved p2 (λ r. Perform (loads_doubleword d r)) 6 (set_general saved d (extended Unsigned Bits64 Doubleword n)) (suc k) i2 rows.second
-    (doubleword_changes L.image saved d (L.offsets.step k + 4) n 6 p2 all.fits rows.holds (sum_more L.image.base (L.offsets.step k) 4))
+    (doubleword_changes L.image saved d (L.offsets.step k + 4) n 6 p2 image.fits rows.holds (sum_more L.image.base (L.offsets.step k) 4))
     rows.next (stores_none L k (Performs true (computes_immediate Kept (on_doublewords Move) d d n) no_code) (λ z. refl) is) (symbol_step L k d n (wrapping_add64 (step_address L k) 4) is c)))

@@ -37,7 +37,7 @@ use Rattle.s390x_machine.specs.Typed.{At, loosen, table_target, TableStep, Table
 use Rattle.s390x_machine.specs.Match.{start}
 use Rattle.s390x_machine.specs.OneStep.{Runs, stuck, Loses}
 use Rattle.s390x_machine.specs.Layout.{Layout, step_address, block_address, InStep}
-use Rattle.s390x_machine.specs.CodeAt.{AllCodeAt, IsBlock, AreBlocks}
+use Rattle.s390x_machine.specs.CodeAt.{ImageAt, IsBlock, AreBlocks}
 use Rattle.s390x_machine.proofs.Addresses.{sum_more, unmoved}
 use Rattle.s390x_machine.proofs.Branches.{stores_none, jumps}
 use Rattle.s390x_machine.proofs.Composites.{ChangesOver, row_over_then, row_then, compute_changes}
@@ -173,10 +173,10 @@ word_changes image r index table j w size p lt fits s at_table at_index some m (
 word_changes image r index table j w size p lt fits s at_table at_index some m (Interrupted kind) t is_loaded (inr (e, inr f), same) = absurd f
 
 -- that row at its place
-pub agf_at : (L : Layout) → AllCodeAt L → (offset : ℕ) → offset % 2 ≡ 0 → (index : ℕ) → index < 16 → StandsAt L.image offset (bytes_of (rxy 0xe318 1 1 index 0)) → RowAt L (wrapping_add64 L.image.base offset) (λ r. Perform (adds_word index r)) (length_of Rxy)
+pub agf_at : (L : Layout) → ImageAt L → (offset : ℕ) → offset % 2 ≡ 0 → (index : ℕ) → index < 16 → StandsAt L.image offset (bytes_of (rxy 0xe318 1 1 index 0)) → RowAt L (wrapping_add64 L.image.base offset) (λ r. Perform (adds_word index r)) (length_of Rxy)
 unfolding semantics_in semantics_of
-agf_at L all offset even index li s =
-    row_at L offset (rxy 0xe318 1 1 index 0) (λ r. Perform (adds_word index r)) all.even even all.fits s (fits_rxy 0xe318 1 1 index 0 (omega arith) (omega arith) (omega arith) li (omega arith)) (agf_listed index) (λ state event t at h. h)
+agf_at L image offset even index li s =
+    row_at L offset (rxy 0xe318 1 1 index 0) (λ r. Perform (adds_word index r)) image.even even image.fits s (fits_rxy 0xe318 1 1 index 0 (omega arith) (omega arith) (omega arith) li (omega arith)) (agf_listed index) (λ state event t at h. h)
 
 -- ---- registers
 
@@ -232,7 +232,7 @@ target_found n targets l h = go (n % 4 == 0) refl h
     go true e f = (omega (arith, eqb-true (n % 4) 0 e), f)
     go false e f = absurd (cc)
 
-module _ (L : Layout) (all : AllCodeAt L) (k index mask other table : ℕ) (targets : List MachLabel) (is : kind_at L k ≡ Some (GoesByTable index mask other targets)) (rows : TableRows L k index mask other table targets) (c : Core) (is_loaded : IsLoaded L.image c.memory) where
+module _ (L : Layout) (image : ImageAt L) (k index mask other table : ℕ) (targets : List MachLabel) (is : kind_at L k ≡ Some (GoesByTable index mask other targets)) (rows : TableRows L k index mask other table targets) (c : Core) (is_loaded : IsLoaded L.image c.memory) where
   other_step : is_selected mask c.registers.code ≡ true → (h : List Transition) → TypedStep L k (written (all_writes h) c) (At (L.first_step other)) (written (all_writes h) c)
   other_step sel h =
       let y = written (all_writes h) c in
@@ -299,7 +299,7 @@ module _ (L : Layout) (all : AllCodeAt L) (k index mask other table : ℕ) (targ
         (row_then L k c (t ∷ []) c.registers p2 (λ r. Perform (computes_immediate Kept (on_doublewords Move) 1 1 (wrapping_add64 L.image.base table) r)) 6 loaded (further L k c [] c.registers (step_address L k) _ 6 t c.registers p2 i u (omega arith) rows.here_second e at) (omega arith) rows.here_third rows.second
         (compute_changes Move Doubleword 1 (c.registers.general 1) (wrapping_add64 L.image.base table) Bits64 Unsigned false 6 p2 c.registers c.memory) (λ g long i3.
         row_over_then L k c g loaded p3 (λ r. Perform (adds_word index r)) 6 added i3 (omega (arith, long)) rows.here_fourth rows.third
-        (word_changes L.image loaded index table (4 * j) word 6 p3 (omega arith) all.fits leads.stands at_table at_index rows.nonzero) (λ h longer i4.
+        (word_changes L.image loaded index table (4 * j) word 6 p3 (omega arith) image.fits leads.stands at_table at_index rows.nonzero) (λ h longer i4.
         jumps L k c h added p4 (L.first_step l.0) (λ r. Branch 15 (r.general 1)) 2 target i4 rows.fourth refl at_target (stores_none L k (GoesByTable index mask other targets) (λ y. refl) is) table_step))))
 
   pub table_runs : (trace : List Transition) → Run L.image (start L k c) trace → Runs L k c trace

@@ -17,7 +17,7 @@ use Rattle.s390x_machine.specs.Machine.{InterruptsAs, FetchedStep}
 use Rattle.s390x_machine.specs.Codes.{code_offset, trap_code_at}
 use Rattle.s390x_machine.specs.Layout.{Layout}
 use Rattle.s390x_machine.specs.StepKinds.{division_code, comparison_code}
-use Rattle.s390x_machine.specs.CodeAt.{AllCodeAt}
+use Rattle.s390x_machine.specs.CodeAt.{ImageAt}
 use Rattle.s390x_machine.proofs.TrapCodes.{code_inside}
 use Rattle.s390x_machine.proofs.Fetching.{StandsAt, image_byte, is_within_at, nothing_at}
 use Rattle.s390x_machine.proofs.Composites.{StopsAt}
@@ -73,14 +73,14 @@ late_code L fits offset bytes s some kind late =
     code_within L fits offset (omega (arith, inside, some)) kind ∙ ap (first_code L.traps) (late offset) ∙ ap (λ b. first_code L.traps (offset + (fetch_length_of b - 1))) first
 
 -- the machine stops where a byte of zeros stands at an even place
-pub stops_at : (L : Layout) → AllCodeAt L → (offset second : ℕ) (code : Option TrapKind) → offset % 2 ≡ 0 → StandsAt L.image offset (0 ∷ second ∷ []) → first_code L.traps (offset + 1) ≡ code → StopsAt L (wrapping_add64 L.image.base offset) code
-stops_at L all offset second code even stands is = record {
+pub stops_at : (L : Layout) → ImageAt L → (offset second : ℕ) (code : Option TrapKind) → offset % 2 ≡ 0 → StandsAt L.image offset (0 ∷ second ∷ []) → first_code L.traps (offset + 1) ≡ code → StopsAt L (wrapping_add64 L.image.base offset) code
+stops_at L image offset second code even stands is = record {
   stops = λ s at is_loaded event t step.
-      let none : step.fetched ≡ Unknown = nothing_at L.image s.core.memory offset second all.even even all.fits is_loaded stands step.fetched (subst (λ p. Fetches s.core.memory p step.fetched) at step.fetches) in
+      let none : step.fetched ≡ Unknown = nothing_at L.image s.core.memory offset second image.even even image.fits is_loaded stands step.fetched (subst (λ p. Fetches s.core.memory p step.fetched) at step.fetches) in
       let acts : InterruptsAs OperationStop s event t = subst (λ f. FetchedStep f s event t) none step.acts in
       acts.0;
-  within = place_within L all.fits offset (omega (arith, within_image L offset (0 ∷ second ∷ []) stands));
-  with_code = late_code L all.fits offset (0 ∷ second ∷ []) stands (omega arith) OperationStop (λ o. refl) ∙ is;
+  within = place_within L image.fits offset (omega (arith, within_image L offset (0 ∷ second ∷ []) stands));
+  with_code = late_code L image.fits offset (0 ∷ second ∷ []) stands (omega arith) OperationStop (λ o. refl) ∙ is;
 }
 
 -- ---- bytes

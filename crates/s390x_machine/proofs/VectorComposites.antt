@@ -85,7 +85,7 @@ half_even o e = omega (arith, e)
 module _ {L : Layout} {k : ℕ} {s : Step} (b : StepAt L k s) where
   -- a row that is skipped under the codes that the mask doesn't select. The branch over it leads so many bytes on
   skip_runs : (mask half distance : ℕ) (row : MachineInstruction) (does operation : Registers → Operation) → kind_of_step L (Some s) ≡ Some (PerformsWhere mask operation) → step_parts s ≡ Row (ri_c 0xa74 (15 - mask) half) ∷ Row row ∷ [] → mask < 16 → half < 2 ^ 16 → pos 2 *ℤ cast_signed w16 (half % 2 ^ 16) ≡ pos distance →
-      4 + size_of row ≡ distance → 0 < size_of row → DoesThere L b.all (L.offsets.step k + 4) (half_even (L.offsets.step k) (step_even b)) row does → ((r : Registers) → Refines (does r) (operation r)) → ((r : Registers) → access (operation r).effect ≡ Untouched) → ((r : Registers) → refused (operation r).effect ≡ None) → ((r : Registers) (kind : StopKind) → MayRefuse (operation r).effect kind → ⊥) → StepRuns L k
+      4 + size_of row ≡ distance → 0 < size_of row → DoesThere L b.image (L.offsets.step k + 4) (half_even (L.offsets.step k) (step_even b)) row does → ((r : Registers) → Refines (does r) (operation r)) → ((r : Registers) → access (operation r).effect ≡ Untouched) → ((r : Registers) → refused (operation r).effect ≡ None) → ((r : Registers) (kind : StopKind) → MayRefuse (operation r).effect kind → ⊥) → StepRuns L k
   unfolding length_of
   skip_runs mask half distance row does operation is parts lm lh words long some there refines untouched never_refused never_stops =
       let o = L.offsets.step k in
@@ -97,7 +97,7 @@ module _ {L : Layout} {k : ℕ} {s : Step} (b : StepAt L k s) where
         size = 4;
         row_size = size_of row;
         act = λ r. Perform (does r);
-        branch_row = subst (λ q. RowAt L (step_address L k) (λ r. Branch (15 - mask) q) 4) (next_place L k distance size) (brc_at L b.all o (step_even b) (15 - mask) half distance (omega arith) lh words stands.0);
+        branch_row = subst (λ q. RowAt L (step_address L k) (λ r. Branch (15 - mask) q) 4) (next_place L k distance size) (brc_at L b.image o (step_even b) (15 - mask) half distance (omega arith) lh words stands.0);
         row = subst (λ q. RowAt L q (λ r. Perform (does r)) (size_of row)) (sym second) (there stands.1.0);
         here = inside_first L k distance size (omega (arith, long));
         here_row = inside_at L k 4 distance size (omega (arith, long, some));
@@ -117,7 +117,7 @@ module _ {L : Layout} {k : ℕ} {s : Step} (b : StepAt L k s) where
       let x = vrr_a 0xe756 d n 0 in
       let row = move_row d n in
       let fit = fits_vrr_a 0xe756 d n 0 (few_digits (elements_listed row)) ld ln (omega arith) in
-      skip_runs mask 5 10 x (elements_computed x O.Move) operation is parts lm (omega arith) refl refl (omega arith) (vector_there L b.all (L.offsets.step k + 4) (half_even (L.offsets.step k) (step_even b)) x O.Move row fit) refines untouched never_refused never_stops
+      skip_runs mask 5 10 x (elements_computed x O.Move) operation is parts lm (omega arith) refl refl (omega arith) (vector_there L b.image (L.offsets.step k + 4) (half_even (L.offsets.step k) (step_even b)) x O.Move row fit) refines untouched never_refused never_stops
 
   -- a move of the leftmost element
   skipped_left : (opcode : ℕ) (e : ElementSize) → opcode < 256 → Meant Rr Any opcode (MoveLeft e) → (mask d n : ℕ) → kind_of_step L (Some s) ≡ Some (PerformsWhere mask (moves_left e d n)) → mask < 16 → (d < 32) × (n < 32) → step_parts s ≡ row_parts (skipping mask (move_left_row opcode d n)) → StepRuns L k
@@ -129,7 +129,7 @@ module _ {L : Layout} {k : ℕ} {s : Step} (b : StepAt L k s) where
           let tests = and_parts (nat_lt d 16) (nat_lt n 16) test in
           let even = half_even (L.offsets.step k) (step_even b) in
           skip_runs mask 3 6 (rr opcode d n) (moves_left e d n) (moves_left e d n) is parts lm (omega arith) refl refl (omega arith) (λ st.
-          meant_at L b.all (L.offsets.step k + 4) even (rr opcode d n) (MoveLeft e) (moves_left e d n) listed (fits_rr opcode d n short (ltb-true d 16 tests.0) (ltb-true n 16 tests.1)) refl (λ r p. refl) st) (λ r. exactly (moves_left e d n r)) (λ r. refl) (λ r. refl) (λ r kind h. h)
+          meant_at L b.image (L.offsets.step k + 4) even (rr opcode d n) (MoveLeft e) (moves_left e d n) listed (fits_rr opcode d n short (ltb-true d 16 tests.0) (ltb-true n 16 tests.1)) refl (λ r p. refl) st) (λ r. exactly (moves_left e d n r)) (λ r. refl) (λ r. refl) (λ r kind h. h)
       go false test parts =
           skipped_vector mask d n (moves_left e d n) is parts lm few.0 few.1 (λ r. moves_alone d (left_bits e) (r.vector d) (r.vector n) (r.vector 0) (r.vector 0)) (λ r. refl) (λ r. refl) (λ r kind h. h)
 

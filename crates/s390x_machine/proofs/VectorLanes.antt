@@ -245,7 +245,7 @@ module _ {L : Layout} {k : ℕ} {s : Step} (b : StepAt L k s) where
       let x = vrs_b 0xe722 d base n (code_of_size e) displacement in
       let fit = fits_vrs_b 0xe722 d base n (code_of_size e) displacement (few_digits insert_listed.0) few.0 few.2 few.1 (code_few e) low in
       looser_runs b x (inserts_lane e d n base displacement) (does e) (refines e) (never e) row (λ st.
-      meant_at L b.all (L.offsets.step k) (step_even b) x InsertElement (inserts_lane e d n base displacement) insert_listed fit (insert_allowed e narrow d n base displacement) (inserts_there e d n base displacement low) st)) is
+      meant_at L b.image (L.offsets.step k) (step_even b) x InsertElement (inserts_lane e d n base displacement) insert_listed fit (insert_allowed e narrow d n base displacement) (inserts_there e d n base displacement low) st)) is
 
   -- the same, where the other elements may become any: at the left of a float register it has a row of its own
   pub alone_inserted_runs : (valid : Bool) (size d n base displacement : ℕ) → (IsTrue valid → (d < 32) × (n < 16) × (base < 16)) → IsOptionalRow valid (insert_alone_row size d n base displacement) (inserts_lane_alone (elements_of size) d n base displacement) → StepRuns L k
@@ -261,7 +261,7 @@ module _ {L : Layout} {k : ℕ} {s : Step} (b : StepAt L k s) where
           let kind = is.0 ∙ first_doubleword (λ e z y. inserts_lane_alone e d n z y) at.0 at.1 at.2 in
           let does : Registers → Operation = λ r. puts d high_half (r.general n * 2 ^ 64) in
           looser_runs b (rre 0xb3c1 d n) does (inserts_lane_alone Doubleword d n 0 0) (λ r. left_known d (r.general n) (r.vector d)) (alone_never Doubleword d n 0 0) (kind, parts) (λ st.
-          meant_at L b.all (L.offsets.step k) (step_even b) (rre 0xb3c1 d n) RegisterToLeft does ldgr_row (fits_rre 0xb3c1 d n (few_digits ldgr_row.0) at.3 few.1) refl (λ r p. refl) st)
+          meant_at L b.image (L.offsets.step k) (step_even b) (rre 0xb3c1 d n) RegisterToLeft does ldgr_row (fits_rre 0xb3c1 d n (few_digits ldgr_row.0) at.3 few.1) refl (λ r p. refl) st)
 
   -- one element, as a general register
   pub lane_extracted_runs : (valid : Bool) (size d n base displacement : ℕ) → (IsTrue valid → (d < 16) × (n < 32) × (base < 16)) → IsOptionalRow valid (extract_row size d n base displacement) (extracts_lane (elements_of size) d n base displacement) → StepRuns L k

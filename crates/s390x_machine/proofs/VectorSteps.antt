@@ -50,7 +50,7 @@ use Rattle.s390x_typed_steps.specs.VectorOpcodes.{binary_row, unary_row, shift_r
 use Rattle.s390x_machine.specs.declared.semantics.RowSemantics.TheVariants.{Elements, JoinRegisters, MoveLeft}
 use Rattle.s390x_machine.specs.declared.semantics.RowSemantics.TheVariants as Row
 use Rattle.s390x_machine.specs.declared.semantics.Action.TheVariants.{Perform}
-use Rattle.s390x_machine.specs.CodeAt.{AllCodeAt, OperandsValidOr}
+use Rattle.s390x_machine.specs.CodeAt.{ImageAt, OperandsValidOr}
 use Rattle.s390x_machine.specs.Computations.{with_rule}
 use Rattle.s390x_machine.specs.Layout.{Layout, step_address}
 use Rattle.s390x_machine.specs.Operands.{based}
@@ -266,15 +266,15 @@ abbrev stop_of : Bool → Option TrapKind
 stop_of divides = cond divides (Some IntegerDivisionByZero) None
 
 -- a row on vector registers does its operation wherever it stands
-pub vector_there : (L : Layout) (all : AllCodeAt L) (offset : ℕ) (even : offset % 2 ≡ 0) {code : ℕ} (x : MachineInstruction) (o : VectorOperation) → ElementsRow code x o → SlotsFit (layout_of x.format) x.slots → DoesThere L all offset even x (elements_computed x o)
-vector_there L all offset even x o row fit st =
+pub vector_there : (L : Layout) (image : ImageAt L) (offset : ℕ) (even : offset % 2 ≡ 0) {code : ℕ} (x : MachineInstruction) (o : VectorOperation) → ElementsRow code x o → SlotsFit (layout_of x.format) x.slots → DoesThere L image offset even x (elements_computed x o)
+vector_there L image offset even x o row fit st =
     let f = fields_of x.format x.slots in
-    meant_at L all offset even x (Elements (opcode_in x)) (elements_computed x o) (elements_listed row, refl) fit (elements_allowed row) (λ r p.
+    meant_at L image offset even x (Elements (opcode_in x)) (elements_computed x o) (elements_listed row, refl) fit (elements_allowed row) (λ r p.
     ap (λ q. on_elements q (register_field f 0) (vector_field f r 0) (vector_field f r 1) (vector_field f r 2) (vector_field f r 3)) (elements_operation row)) st
 
 module _ {L : Layout} {k : ℕ} {s : Step} (b : StepAt L k s) where
-  vector_at : {code : ℕ} (x : MachineInstruction) (o : VectorOperation) → ElementsRow code x o → SlotsFit (layout_of x.format) x.slots → DoesThere L b.all (L.offsets.step k) (step_even b) x (elements_computed x o)
-  vector_at x o row fit st = vector_there L b.all (L.offsets.step k) (step_even b) x o row fit st
+  vector_at : {code : ℕ} (x : MachineInstruction) (o : VectorOperation) → ElementsRow code x o → SlotsFit (layout_of x.format) x.slots → DoesThere L b.image (L.offsets.step k) (step_even b) x (elements_computed x o)
+  vector_at x o row fit st = vector_there L b.image (L.offsets.step k) (step_even b) x o row fit st
 
   -- a row on vector registers whose operation is the step's or is less free; where it divides, a trap is recorded at its last byte
   pub vector_runs : {code : ℕ} (x : MachineInstruction) (o : VectorOperation) (operation : Registers → Operation) (divides : Bool) → ElementsRow code x o → SlotsFit (layout_of x.format) x.slots → ((r : Registers) → Refines (elements_computed x o r) (operation r)) → ((r : Registers) → ValuesCoded (operation r) (stop_codes divides)) →
@@ -290,7 +290,7 @@ module _ {L : Layout} {k : ℕ} {s : Step} (b : StepAt L k s) where
       let tells = row_tells x (allowed_in x) (some_opcode (elements_listed row)) (lists_row (elements_listed row)) fit (elements_allowed row) in
       let with_code : Coded L (step_address L k) division_code = λ kind y e.
       let h = division_late L kind y e in
-      late_code L b.all.fits offset (bytes_of x) one.row.stands long kind h.0 ∙ ap (λ n. first_code L.traps (offset + (n - 1))) tells ∙ one.found ∙ ap Some (sym h.1) in
+      late_code L b.image.fits offset (bytes_of x) one.row.stands long kind h.0 ∙ ap (λ n. first_code L.traps (offset + (n - 1))) tells ∙ one.found ∙ ap Some (sym h.1) in
       row_alone b operation division_code (λ r. Perform (elements_computed x o r)) (size_of x) is (vector_at x o row fit one.row.stands) refines with_code values one.row.size some
 
   -- a step that is one operation which never stops, and one row

@@ -209,12 +209,12 @@ wide_runs {L = L} {k = k} b opcode sign tmp n m row few is parts =
     let even6 : (o + 6) % 2 ≡ 0 = omega (arith, even) in
     let even10 : (o + 6 + 4) % 2 ≡ 0 = omega (arith, even) in
     let fit = fits_vrr_a opcode m n 3 (few_digits (elements_listed row)) few.2 few.1 (omega arith) in
-    let high = placed b 16 size o 0 (comparing opcode sign n m) 6 (omega arith) (vector_there L b.all o even (vrr_a opcode m n 3) (CompareElement sign Doubleword) row fit stands.0) in
+    let high = placed b 16 size o 0 (comparing opcode sign n m) 6 (omega arith) (vector_there L b.image o even (vrr_a opcode m n 3) (CompareElement sign Doubleword) row fit stands.0) in
     let target : wrapping_add64 (wrapping_add64 L.image.base (o + 6)) 10 ≡ step_address L (suc k) = sum_more L.image.base (o + 6) 10 ∙ ap (λ z. wrapping_add64 L.image.base z) (omega (arith, size)) in
-    let skip : RowAt L (wrapping_add64 L.image.base (o + 6)) (λ r. Branch 7 (step_address L (suc k))) 4 = subst (λ q. RowAt L (wrapping_add64 L.image.base (o + 6)) (λ r. Branch 7 q) 4) target (brc_at L b.all (o + 6) even6 7 5 10 (omega arith) (omega arith) refl stands.1.0) in
+    let skip : RowAt L (wrapping_add64 L.image.base (o + 6)) (λ r. Branch 7 (step_address L (suc k))) 4 = subst (λ q. RowAt L (wrapping_add64 L.image.base (o + 6)) (λ r. Branch 7 q) 4) target (brc_at L b.image (o + 6) even6 7 5 10 (omega arith) (omega arith) refl stands.1.0) in
     let right = asking_rows UCmpHi64x2 tmp n m in
     let right_fit = fits_vrr_b 0xe7f9 tmp n m 3 1 (few_digits (elements_listed right)) few.0 few.1 few.2 (omega arith) (omega arith) in
-    let low = placed b 16 size (o + 6 + 4) 10 (comparing_right tmp n m) 6 (omega arith) (vector_there L b.all (o + 6 + 4) even10 (vrr_b 0xe7f9 tmp n m 3 1) (Compare (High Unsigned) Doubleword true) right right_fit stands.1.1.0) in
+    let low = placed b 16 size (o + 6 + 4) 10 (comparing_right tmp n m) 6 (omega arith) (vector_there L b.image (o + 6 + 4) even10 (vrr_b 0xe7f9 tmp n m 3 1) (Compare (High Unsigned) Doubleword true) right right_fit stands.1.1.0) in
     from_start b 16 size (omega arith) (λ c i.
     row_on b 16 size c [] c.registers (told_in sign n m c.registers) 0 (comparing opcode sign n m) (omega arith) (omega arith) high (compare_changes opcode sign n m (place L k 0) c.registers) (λ g one i1.
     branched b opcode sign tmp n m is size c g one (placed b 16 size (o + 6) 6 (λ r. Branch 7 (step_address L (suc k))) 4 refl skip) low i1 (told_or_left sign (c.registers.vector n) (c.registers.vector m))) i)

@@ -15,7 +15,7 @@ use Rattle.s390x_typed_steps.specs.Operands.{has_form, operand_general, offset_f
 use Rattle.s390x_typed_steps.specs.Ranges.{IsConditionMask, OperandInRange}
 use Rattle.s390x_typed_steps.specs.StepBody.{Remainder, NothingLeft, BranchLeft}
 use Rattle.s390x_typed_steps.specs.Steps.{Step, Plain, LoadedStep, Shortened, Opening, Back, Break, CallingStep, NoLoadStep, TailOpeningStep, TailJumpStep}
-use Rattle.s390x_typed_steps.specs.Parts.{CodePart, RelativeSymbol, CallSymbol, part_size, step_parts, step_size}
+use Rattle.s390x_typed_steps.specs.Parts.{CodePart, RelativeConstant, RelativeSymbol, CallSymbol, part_size, step_parts, step_size}
 use Rattle.s390x_typed_steps.specs.VectorComposite.{composite_cause}
 use Rattle.s390x_typed_steps.specs.Rows.{step_bytes}
 use Rattle.s390x_typed_steps.specs.Traps.{step_traps, first_code}
@@ -141,6 +141,33 @@ pub record CodeAt (L : Layout) (k : ℕ) (s : Step) : Type 0 where
   pub valid : IsValidStep L s
   pub folded : IsFoldedRight L k s
   pub reached : PartsReach L (L.offsets.step k) (step_parts s)
+
+-- an even offset below the limit of a distance
+abbrev pub IsPlace : ℕ → Type 0
+IsPlace offset = (offset % 2 ≡ 0) × (offset < 2 ^ 31)
+
+-- An image at an even address below 2 ^ 64, shorter than 2 ^ 31 bytes. Its steps and blocks have places; of the bytes there nothing is told. A block's first step may be any
+-- number, also one past the last step
+pub record ImageAt (L : Layout) : Type 0 where
+  pub even : L.image.base % 2 ≡ 0
+  pub fits : L.image.base + length L.image.bytes ≤ 2 ^ 64
+  pub short : length L.image.bytes < 2 ^ 31
+  pub step_places : (k : ℕ) → k ≤ length L.steps → IsPlace (L.offsets.step k)
+  pub block_places : (b : ℕ) → IsBlock L b → IsPlace (L.offsets.block b)
+  pub blocks : (b : ℕ) → IsBlock L b → L.offsets.block b ≡ L.offsets.step (L.first_step b)
+
+-- one of the parts names the constant by its distance
+abbrev pub NamesConstant : ℕ → List CodePart → Type 0
+NamesConstant c [] = ⊥
+NamesConstant c (RelativeConstant opcode register d ∷ parts) = (d ≡ c) ⊎ NamesConstant c parts
+NamesConstant c (part ∷ parts) = NamesConstant c parts
+
+-- a step's code lies at its offset in such an image, and each constant that it names by its distance stands there. Nothing is asked of the bytes around
+pub record StepAt (L : Layout) (k : ℕ) (s : Step) : Type 0 where
+  pub image : ImageAt L
+  pub at : slice_get L.steps k ≡ Some s
+  pub code : CodeAt L k s
+  pub constants : (c : ℕ) → c < length L.offsets.environment.aligns → NamesConstant c (step_parts s) → ConstantStands L c
 
 -- each step's code lies where its offset says, and the first one at the beginning; each block stands where its first step does, and each constant. The image lies at an even address
 -- below 2 ^ 64 and is shorter than 2 ^ 31 bytes

@@ -9,7 +9,7 @@ ghost use Rattle.s390x_typed_steps.specs.Folding.{folded_trees};
 ghost use Rattle.s390x_typed_steps.specs.Ranges.{OperandInRange, BlocksInRange};
 ghost use Rattle.s390x_typed_steps.specs.Steps.{Step, Plain, LoadedStep, function_steps};
 ghost use Rattle.s390x_machine.specs.Layout.{Layout};
-ghost use Rattle.s390x_machine.specs.CodeAt.{AllCodeAt, IsBlock, IsFoldedRight, IsValidStep, IsValidMemory, ValidMemoryOr};
+ghost use Rattle.s390x_machine.specs.CodeAt.{AllCodeAt, IsBlock, IsFoldedRight, IsValidStep, IsValidMemory, StepAt, ValidMemoryOr};
 ghost use Rattle.s390x_machine.specs.Match.{EveryRun, EveryReturnRun, EveryBlockRun};
 ghost use Rattle.s390x_machine.specs.OneStep.{StepRuns, StepHolds};
 ghost use Rattle.s390x_machine.specs.Fetch.{Fetched, Fetches};
@@ -39,6 +39,13 @@ pub fn each_step()
 /// The same with all that the step stores and every stop told.
 pub fn each_step_tells()
     ensures { (L : Layout) → AllCodeAt L → (k : ℕ) (s : Step) → slice_get L.steps k ≡ Some s → StepRuns L k }
+{}
+
+/// So does a step whose own bytes stand at its place, whatever stands around them: of other steps and of blocks the places alone are told. Each step of placed code stands so.
+pub fn each_step_anywhere()
+    ensures holds { (L : Layout) (k : ℕ) (s : Step) → StepAt L k s → StepHolds L k }
+    ensures tells { (L : Layout) (k : ℕ) (s : Step) → StepAt L k s → StepRuns L k }
+    ensures placed { (L : Layout) → AllCodeAt L → (k : ℕ) (s : Step) → slice_get L.steps k ≡ Some s → StepAt L k s }
 {}
 
 /// Where an image begins with a function's code, and emission lets each step pass, the premises hold of the function's layout.

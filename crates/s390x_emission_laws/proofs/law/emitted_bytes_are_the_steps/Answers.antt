@@ -1,3 +1,4 @@
+use Rattle.s390x_emission_laws.proofs.Behind.{traps_behind}
 use Rattle.s390x_emission_laws.proofs.Running.{finished_bytes, placed_bytes}
 use Rattle.s390x_emission_laws.proofs.law.emitted_bytes_are_the_steps.Goals as goal
 
@@ -6,3 +7,6 @@ returns-clause-appended c = placed_bytes
 
 pub returns-clause-finished : goal.returns-clause-finished
 returns-clause-finished c = finished_bytes
+
+pub returns-clause-traps : goal.returns-clause-traps
+returns-clause-traps c = traps_behind

@@ -1,4 +1,4 @@
-use Rattle.s390x_emission_laws.proofs.Example.{addition_stands, jump_is_appended, table_is_appended}
+use Rattle.s390x_emission_laws.proofs.Example.{addition_stands, jump_is_appended, load_is_appended, table_is_appended}
 use Rattle.s390x_emission_laws.proofs.law.instructions_stand_behind_others.Goals as goal
 
 pub returns-clause-addition : goal.returns-clause-addition
@@ -9,3 +9,6 @@ returns-clause-jump c = jump_is_appended
 
 pub returns-clause-table : goal.returns-clause-table
 returns-clause-table c = table_is_appended
+
+pub returns-clause-load : goal.returns-clause-load
+returns-clause-load c = load_is_appended
