@@ -16,6 +16,7 @@ pub mod Branches
 pub mod Binding
 pub mod Joining
 pub mod Lacking
+pub mod Plain
 pub mod Leaves
 pub mod Starts
 pub mod Recording

@@ -26,6 +26,7 @@ ghost use Rattle.s390x_address.specs.Rows.{memory_instruction_of, in_state, may_
 
 use crate::causes::{branch_cause, outer_cause};
 use crate::composite::emit_composite;
+use crate::kinds::{Kind, kind_of};
 use crate::memory::find_memory;
 use crate::single_instruction::find_single_instruction;
 use crate::stops::stop_code;
@@ -354,6 +355,13 @@ fn emit_allowed(
     }
 }
 
+// A buffer has no more labels than there are numbers.
+fn count_labels(sink: &MachBuffer)
+    ensures { numbers_cause (length sink.now.labels) 0 ≡ None }
+{
+    let _count = sink.label_count();
+}
+
 /// Emits an instruction that is no `Loop`, by its own rows, in a state of emission and inside so many loops, where no cause refuses it; `after` is the
 /// label behind the innermost loop. An error may be another one than the first cause. The machine has to have these rows: `emit_on_machine` asks.
 pub fn emit_leaf(
@@ -370,8 +378,13 @@ pub fn emit_leaf(
     ensures range { OnOk result (InRange (resolved_instruction state.now inst.now)) }
     ensures kept { Extends sink.old sink.new }
 {
-    match outer_cause(flags, sink, state, depth, inst) {
-        Some(error) => Err(error),
-        None => emit_allowed(sink, state, depth, inst, after),
+    count_labels(sink);
+    match kind_of(inst) {
+        Kind::Access => emit_other(sink, state, depth, inst, after),
+        Kind::Branch => emit_place(sink, depth, inst, after),
+        Kind::Other => match outer_cause(flags, sink, state, depth, inst) {
+            Some(error) => Err(error),
+            None => emit_allowed(sink, state, depth, inst, after),
+        },
     }
 }

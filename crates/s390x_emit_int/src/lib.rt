@@ -16,6 +16,7 @@ mod folding;
 pub mod function;
 pub mod headline;
 pub mod image;
+pub mod kinds;
 pub mod leaf;
 pub mod loaded;
 pub mod memory;

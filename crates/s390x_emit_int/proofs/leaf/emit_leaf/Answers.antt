@@ -1,8 +1,46 @@
-use Rattle.std.proofs.Common.{sym, ◌∙◌, length}
-use Rattle.s390x_typed_steps.specs.Causes.{declared_in}
+use Rattle.std.proofs.Common.{sym, ap, ◌∙◌, length}
+use Rattle.s390x_typed_steps.specs.Causes.{declared_in, memory_cause_or, branch_cause}
+use Rattle.s390x_typed_steps.specs.Resolved.{resolved_instruction}
+use Rattle.s390x_emit_int.specs.Fragments.{apply_all}
 use Rattle.s390x_emit_int.proofs.Answering.{on_ok}
 use Rattle.s390x_emit_int.proofs.Emitting.{leaf_none, leaf_outer}
+use Rattle.s390x_emit_int.proofs.Plain.{leaf_plain}
+use Rattle.s390x_emit_int.proofs.Leaves.{other_passed}
+use Rattle.s390x_emit_int.proofs.Resolving.{single_resolved, no_memory, fragments_resolved, branch_range}
+use Rattle.s390x_emit_int.proofs.Single.{none_fragments}
 use Rattle.s390x_emit_int.proofs.leaf.emit_leaf.Goals as goal
+
+pub returns-in-Access-clause-answer : goal.returns-in-Access-clause-answer
+returns-in-Access-clause-answer c =
+    let s = c.args.sink.now in
+    let plain = c.kind_of.ensures.access c.in-Access.is in
+    on_ok c.emit_other.result c.emit_other.ensures.answer (λ h. (leaf_plain c.args.flags c.args.state.now (declared_in s) (length s.labels) c.args.state.now.nominal c.args.depth c.args.inst.now plain c.count_labels.ensures h.0, h.1))
+
+pub returns-in-Access-clause-lacks : goal.returns-in-Access-clause-lacks
+returns-in-Access-clause-lacks c = c.emit_other.ensures.lacks c.args.flags
+
+pub returns-in-Branch-clause-answer : goal.returns-in-Branch-clause-answer
+returns-in-Branch-clause-answer c =
+    let s = c.args.sink.now in
+    let e = c.args.state.now in
+    let i = c.args.inst.now in
+    let known = c.kind_of.ensures.branch c.in-Branch.is in
+    let none = no_memory e i known.1 in
+    let same = none_fragments (resolved_instruction e i) (length s.labels) c.args.after.0 (known.0.2 ∙ sym (single_resolved e i)) (sym none) ∙ fragments_resolved e (length s.labels) c.args.after.0 i in
+    let others = λ o. memory_cause_or (declared_in s) o (branch_cause s.block_count c.args.depth i) in
+    on_ok c.emit_place.result c.emit_place.ensures.answer (λ h. (
+      leaf_plain c.args.flags e (declared_in s) (length s.labels) e.nominal c.args.depth i known.0 c.count_labels.ensures (ap others none ∙ h.0),
+      h.1 ∙ ap (apply_all s) (sym same),
+    ))
+
+pub returns-in-Branch-clause-lacks : goal.returns-in-Branch-clause-lacks
+returns-in-Branch-clause-lacks c = λ p.
+    let known = c.kind_of.ensures.branch c.in-Branch.is in
+    let f = other_passed c.args.flags c.args.state.now c.args.sink.now c.args.after.0 c.args.state.now.nominal c.args.depth c.args.inst.now known.0.2 known.1 p in
+    c.emit_place.ensures.lacks f.0 f.1
+
+pub returns-in-Branch-clause-range : goal.returns-in-Branch-clause-range
+returns-in-Branch-clause-range c = on_ok c.emit_place.result c.emit_place.ensures.range (λ m. branch_range c.args.state.now c.args.inst.now (c.kind_of.ensures.branch c.in-Branch.is).1 m)
 
 pub returns-in-None-clause-answer : goal.returns-in-None-clause-answer
 returns-in-None-clause-answer c =

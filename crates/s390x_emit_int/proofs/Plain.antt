@@ -1,0 +1,35 @@
+-- The causes of an instruction that needs no facility, draws no label, and isn't one machine instruction.
+use Rattle.std.proofs.Common.{◌≡◌, ℕ, ◌+◌, ◌≤◌, true, None, refl, ap, ◌∙◌, arith, nat_lt, lt-ltb}
+use Rattle.s390x_base.specs.declared.error.EmitError.TheVariants.{MissingFacility, LabelOutOfRange}
+use Rattle.s390x_inst.specs.Emission.{Emission}
+use Rattle.s390x_inst.specs.Facilities.{has_facility}
+use Rattle.s390x_inst.specs.declared.inst.Inst.{Inst}
+use Rattle.s390x_inst.specs.declared.inst.Inst.TheVariants.{AllocateArgs}
+use Rattle.s390x_inst.specs.declared.state.IsaFlags.{IsaFlags}
+use Rattle.s390x_typed_steps.specs.Causes.{Declared, unless, facility_cause, stack_cause, numbers_cause, instruction_fresh_labels, memory_cause_or, branch_cause, leaf_cause}
+use Rattle.s390x_typed_steps.specs.Memory.{memory}
+use Rattle.s390x_typed_steps.specs.Resolved.{resolved_instruction}
+use Rattle.s390x_typed_steps.specs.SingleInstruction.{single_instruction}
+use Rattle.s390x_emit_int.specs.Plain.{IsPlain}
+use Rattle.s390x_emit_int.proofs.Emitting.{both_none, leaf_none}
+use Rattle.s390x_emit_int.proofs.Single.{none_other}
+
+-- no label is drawn where all of them have numbers
+pub numbers_none : (n : ℕ) → n ≤ 4294967296 → numbers_cause n 0 ≡ None
+numbers_none n few =
+    let below : nat_lt (n + 0) 4294967297 ≡ true = lt-ltb (n + 0) 4294967297 (omega (arith, few)) in
+    ap (λ b. unless b LabelOutOfRange) below
+
+-- the allocation of arguments is one machine instruction
+no_allocation : (nominal depth : ℕ) (i : Inst) → None ≡ single_instruction i → stack_cause nominal depth i ≡ None
+no_allocation nominal depth (AllocateArgs size) none = absurd (cc)
+no_allocation nominal depth i none = refl
+
+-- such an instruction has the causes of its operand or its labels alone
+pub leaf_plain : (flags : IsaFlags) (e : Emission) (D : Declared) (n nominal depth : ℕ) (i : Inst) → IsPlain i → numbers_cause n 0 ≡ None →
+    memory_cause_or D (memory (resolved_instruction e i)) (branch_cause D.blocks depth i) ≡ None → leaf_cause flags D n nominal depth (resolved_instruction e i) ≡ None
+leaf_plain flags e D n nominal depth i plain numbers own =
+    let facility : facility_cause flags i ≡ None = ap (λ f. unless (has_facility flags f) MissingFacility) plain.0 in
+    let stack = no_allocation nominal depth i plain.2 in
+    let numbered : numbers_cause n (instruction_fresh_labels i) ≡ None = ap (numbers_cause n) plain.1 ∙ numbers in
+    leaf_none flags e D n nominal depth i (both_none _ _ facility (both_none _ _ stack numbered)) (none_other _ i plain.2 ∙ own)
