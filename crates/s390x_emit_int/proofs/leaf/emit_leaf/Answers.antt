@@ -27,9 +27,8 @@ returns-in-Branch-clause-answer c =
     let known = c.kind_of.ensures.branch c.in-Branch.is in
     let none = no_memory e i known.1 in
     let same = none_fragments (resolved_instruction e i) (length s.labels) c.args.after.0 (known.0.2 ∙ sym (single_resolved e i)) (sym none) ∙ fragments_resolved e (length s.labels) c.args.after.0 i in
-    let others = λ o. memory_cause_or (declared_in s) o (branch_cause s.block_count c.args.depth i) in
     on_ok c.emit_place.result c.emit_place.ensures.answer (λ h. (
-      leaf_plain c.args.flags e (declared_in s) (length s.labels) e.nominal c.args.depth i known.0 c.count_labels.ensures (ap others none ∙ h.0),
+      leaf_plain c.args.flags e (declared_in s) (length s.labels) e.nominal c.args.depth i known.0 c.count_labels.ensures (ap (λ o. memory_cause_or (declared_in s) o (branch_cause s.block_count c.args.depth i)) none ∙ h.0),
       h.1 ∙ ap (apply_all s) (sym same),
     ))
 
