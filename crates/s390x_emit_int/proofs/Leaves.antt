@@ -22,7 +22,7 @@ use Rattle.s390x_typed_steps.specs.SingleInstruction.{SingleInstruction, single_
 use Rattle.s390x_typed_steps.specs.General.{is_general, is_nonzero}
 use Rattle.s390x_typed_steps.specs.MachineInstruction.{format_e, rr, size_of}
 use Rattle.s390x_typed_steps.specs.Sizes.{instruction_size}
-use Rattle.s390x_typed_steps.specs.Causes.{unless, declared_in, branch_cause, memory_cause, memory_cause_or, instruction_cause, leaf_cause, numbers_cause, instruction_fresh_labels}
+use Rattle.s390x_typed_steps.specs.Causes.{unless, first_emit_cause, target_label_cause, declared_in, branch_cause, memory_cause, memory_cause_or, instruction_cause, leaf_cause, numbers_cause, instruction_fresh_labels}
 use Rattle.s390x_typed_steps.proofs.Causes.{first_left, first_right, unless_true}
 use Rattle.s390x_emit_int.specs.Fragments.{apply_all}
 use Rattle.s390x_emit_int.specs.Emission.{where_fragments, branch_size, memory_size_or}
@@ -45,6 +45,19 @@ where_passed s s1 mask first second e p lt =
       short = omega (arith, p.short);
       passed = refl;
     }
+
+-- a branch to a block
+pub block_passed : (s : BufferState) (after depth bytes : ℕ) (l : MachLabel) → MembersPassed s after depth bytes (target_label_cause s.block_count l) → Passed s l.0 bytes None
+block_passed s after depth bytes l p =
+    let below : l.0 < s.block_count = ltb-true l.0 s.block_count (unless_true (nat_lt l.0 s.block_count) UnboundLabel p.passed) in
+    record { unpoisoned = p.unpoisoned; blocks = p.blocks; label = omega (arith, below, p.blocks); short = p.short; passed = refl }
+
+-- branches to two blocks
+pub choice_passed : (s : BufferState) (after depth bytes : ℕ) (l m : MachLabel) → MembersPassed s after depth bytes (first_emit_cause (target_label_cause s.block_count l) (target_label_cause s.block_count m)) → Passed s l.0 bytes None × (m.0 < length s.labels)
+choice_passed s after depth bytes l m p =
+    let first = first_left (target_label_cause s.block_count l) _ p.passed in
+    let below : m.0 < s.block_count = ltb-true m.0 s.block_count (unless_true (nat_lt m.0 s.block_count) UnboundLabel (first_right (target_label_cause s.block_count l) _ p.passed)) in
+    (block_passed s after depth bytes l (record { unpoisoned = p.unpoisoned; blocks = p.blocks; label = p.label; short = p.short; passed = first }), omega (arith, below, p.blocks))
 
 pub length-e : (bs slots : List ℕ) → bs ≡ encode E slots → length bs ≡ 2
 unfolding length_of

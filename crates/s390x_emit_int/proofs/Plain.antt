@@ -6,11 +6,11 @@ use Rattle.s390x_inst.specs.Facilities.{has_facility}
 use Rattle.s390x_inst.specs.declared.inst.Inst.{Inst}
 use Rattle.s390x_inst.specs.declared.inst.Inst.TheVariants.{AllocateArgs}
 use Rattle.s390x_inst.specs.declared.state.IsaFlags.{IsaFlags}
-use Rattle.s390x_typed_steps.specs.Causes.{Declared, unless, facility_cause, stack_cause, numbers_cause, instruction_fresh_labels, memory_cause_or, branch_cause, leaf_cause}
+use Rattle.s390x_typed_steps.specs.Causes.{Declared, unless, facility_cause, stack_cause, numbers_cause, instruction_fresh_labels, cause_or, memory_cause_or, branch_cause, leaf_cause}
 use Rattle.s390x_typed_steps.specs.Memory.{memory}
 use Rattle.s390x_typed_steps.specs.Resolved.{resolved_instruction}
 use Rattle.s390x_typed_steps.specs.SingleInstruction.{single_instruction}
-use Rattle.s390x_emit_int.specs.Plain.{IsPlain}
+use Rattle.s390x_emit_int.specs.Plain.{IsPlain, IsRegister}
 use Rattle.s390x_emit_int.proofs.Emitting.{both_none, leaf_none}
 use Rattle.s390x_emit_int.proofs.Single.{none_other}
 
@@ -33,3 +33,11 @@ leaf_plain flags e D n nominal depth i plain numbers own =
     let stack = no_allocation nominal depth i plain.2 in
     let numbered : numbers_cause n (instruction_fresh_labels i) ≡ None = ap (numbers_cause n) plain.1 ∙ numbers in
     leaf_none flags e D n nominal depth i (both_none _ _ facility (both_none _ _ stack numbered)) (none_other _ i plain.2 ∙ own)
+
+-- one machine instruction on registers that needs no facility has the causes of its registers alone
+pub leaf_register : (flags : IsaFlags) (e : Emission) (D : Declared) (n nominal depth : ℕ) (i : Inst) → IsRegister i → numbers_cause n 0 ≡ None →
+    cause_or (single_instruction i) (memory_cause_or D (memory (resolved_instruction e i)) (branch_cause D.blocks depth i)) ≡ None → leaf_cause flags D n nominal depth (resolved_instruction e i) ≡ None
+leaf_register flags e D n nominal depth i register numbers own =
+    let facility : facility_cause flags i ≡ None = ap (λ f. unless (has_facility flags f) MissingFacility) register.0 in
+    let numbered : numbers_cause n (instruction_fresh_labels i) ≡ None = ap (numbers_cause n) register.1 ∙ numbers in
+    leaf_none flags e D n nominal depth i (both_none _ _ facility (both_none _ _ (register.2 nominal depth) numbered)) own

@@ -64,7 +64,8 @@ fn labels_cause(blocks: u32, labels: &[MachLabel]) -> Option<EmitError>
     None
 }
 
-fn two_labels_cause(blocks: u32, taken: MachLabel, not_taken: MachLabel) -> Option<EmitError>
+/// Why one of two labels names no block.
+pub fn two_labels_cause(blocks: u32, taken: MachLabel, not_taken: MachLabel) -> Option<EmitError>
     ensures { result ≡ first_emit_cause (target_label_cause blocks taken) (target_label_cause blocks not_taken) }
 {
     match label_cause(blocks, taken) {

@@ -1,20 +1,77 @@
 //! The kinds of instructions that emission tells apart before it asks for any cause.
-ghost use Rattle.std.specs.Prelude.{◌≡◌, None};
+ghost use Rattle.std.specs.Prelude.{◌≡◌, true, None};
+ghost use Rattle.s390x_inst.specs.Facilities.{alu_facility};
+ghost use Rattle.s390x_inst.specs.declared.facility.InstructionSet.TheVariants.{Base};
 ghost use Rattle.s390x_typed_steps.specs.Memory.{memory};
-ghost use Rattle.s390x_emit_int.specs.Plain.{IsPlain};
-ghost use Rattle.s390x_emit_int.specs.declared.kinds.Kind.TheVariants.{Access, Branch};
+ghost use Rattle.s390x_emit_int.specs.Plain.{IsPlain, IsRegister};
+ghost use Rattle.s390x_emit_int.specs.declared.kinds.Kind.TheVariants.{Access, Branch, Register};
 
-use s390x_inst::Inst;
+use s390x_inst::{ALUOp, Inst};
 
-/// What emission knows of an instruction by its variant alone.
+/// What emission knows of an instruction by its variant, and by the operator of an `AluRRR`.
 #[derive(Clone, Copy)]
 pub enum Kind {
-    /// One with a memory operand that needs no facility.
+    /// A load into a general register, a store of one or of an immediate, or the load of an address.
     Access,
     /// A branch to labels or to the address in a register.
     Branch,
-    /// Any other, of which the variant alone doesn't tell enough.
+    /// Arithmetic, a comparison, a shift or a move on general registers and immediates that needs no facility.
+    Register,
+    /// Any other, of which these don't tell enough.
     Other,
+}
+
+// Whether an operator on two registers needs no facility.
+#[inline(always)]
+fn is_base(op: ALUOp) -> bool
+    ensures { result ≡ true → alu_facility op ≡ Base }
+{
+    !matches!(
+        op,
+        ALUOp::NotAnd32
+            | ALUOp::NotAnd64
+            | ALUOp::NotOrr32
+            | ALUOp::NotOrr64
+            | ALUOp::NotXor32
+            | ALUOp::NotXor64
+            | ALUOp::AndNot32
+            | ALUOp::AndNot64
+            | ALUOp::OrrNot32
+            | ALUOp::OrrNot64
+    )
+}
+
+// The kind of an instruction that is none of the accesses.
+#[inline(always)]
+fn other_kind(inst: &Inst) -> Kind
+    ensures access { result ≡ Access → IsPlain inst.now }
+    ensures branch { result ≡ Branch → IsPlain inst.now × (None ≡ memory inst.now) }
+    ensures register { result ≡ Register → IsRegister inst.now }
+{
+    match inst {
+        Inst::AluRRR { alu_op, .. } => {
+            if is_base(*alu_op) {
+                Kind::Register
+            } else {
+                Kind::Other
+            }
+        }
+        Inst::AluRR { .. }
+        | Inst::AluRRSImm16 { .. }
+        | Inst::AluRSImm16 { .. }
+        | Inst::AluRSImm32 { .. }
+        | Inst::AluRUImm32 { .. }
+        | Inst::CmpRR { .. }
+        | Inst::CmpRSImm16 { .. }
+        | Inst::CmpRSImm32 { .. }
+        | Inst::CmpRUImm32 { .. }
+        | Inst::ShiftRR { .. }
+        | Inst::Mov64 { .. }
+        | Inst::Mov32 { .. } => Kind::Register,
+        Inst::Jump { .. } | Inst::CondBr { .. } | Inst::IndirectBr { .. } | Inst::Ret { .. } =>
+            Kind::Branch,
+        _ => Kind::Other,
+    }
 }
 
 /// The kind of an instruction.
@@ -22,6 +79,7 @@ pub enum Kind {
 pub fn kind_of(inst: &Inst) -> Kind
     ensures access { result ≡ Access → IsPlain inst.now }
     ensures branch { result ≡ Branch → IsPlain inst.now × (None ≡ memory inst.now) }
+    ensures register { result ≡ Register → IsRegister inst.now }
 {
     match inst {
         Inst::Load32 { .. }
@@ -51,8 +109,6 @@ pub fn kind_of(inst: &Inst) -> Kind
         | Inst::StoreImm16 { .. }
         | Inst::StoreImm32SExt16 { .. }
         | Inst::StoreImm64SExt16 { .. } => Kind::Access,
-        Inst::Jump { .. } | Inst::CondBr { .. } | Inst::IndirectBr { .. } | Inst::Ret { .. } =>
-            Kind::Branch,
-        _ => Kind::Other,
+        _ => other_kind(inst),
     }
 }

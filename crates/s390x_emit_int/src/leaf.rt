@@ -9,22 +9,24 @@ ghost use Rattle.s390x_typed_steps.specs.MachineInstruction.{MachineInstruction,
 ghost use Rattle.s390x_typed_steps.specs.Parts.{Row, Trapping, ToBlock, Relative, row_part, stopping, memory_parts, parts_size};
 ghost use Rattle.s390x_inst.specs.Emission.{Emission};
 ghost use Rattle.s390x_inst.specs.declared.state.IsaFlags.{IsaFlags};
-ghost use Rattle.s390x_typed_steps.specs.Causes.{declared_in, branch_cause, cause_or, memory_cause, memory_cause_or, numbers_cause, instruction_fresh_labels, leaf_cause};
+ghost use Rattle.s390x_typed_steps.specs.Causes.{first_emit_cause, declared_in, target_label_cause, branch_cause, cause_or, memory_cause, memory_cause_or, numbers_cause, instruction_fresh_labels, leaf_cause};
 ghost use Rattle.s390x_typed_steps.specs.Memory.{memory};
 ghost use Rattle.s390x_typed_steps.specs.General.{is_general, is_nonzero};
 ghost use Rattle.s390x_typed_steps.specs.Sizes.{instruction_size};
 ghost use Rattle.s390x_emit_int.specs.Fragments.{Put, PutTrapping, apply, apply_all, Link};
 ghost use Rattle.s390x_emit_int.specs.Emission.{branch, jump_fragments, where_fragments, choice_fragments, part_fragments, branch_fragments, branch_size, leaf_fragments};
+ghost use Rattle.s390x_emit_int.specs.Plain.{IsRegister};
 ghost use Rattle.s390x_emit_int.specs.Room.{Passed, MembersPassed, LacksMemory, HasRoom};
 ghost use Rattle.s390x_buffer.specs.declared.label_use.LabelUse.TheVariants.{BranchRIL};
 ghost use Rattle.s390x_typed_steps.specs.Ranges.{InRange, MaskInRange, OperandInRange, IsConditionMask};
-ghost use Rattle.s390x_typed_steps.specs.SingleCode.{code_where};
+ghost use Rattle.s390x_typed_steps.specs.SingleCode.{code_where, single_code};
 ghost use Rattle.s390x_typed_steps.specs.SingleInstruction.{SingleInstruction, single_instruction};
 ghost use Rattle.s390x_typed_steps.specs.Operands.{resolved};
 ghost use Rattle.s390x_typed_steps.specs.Resolved.{resolved_instruction};
 ghost use Rattle.s390x_address.specs.Rows.{memory_instruction_of, in_state, may_encode};
 
-use crate::causes::{branch_cause, outer_cause};
+use crate::arithmetic::three_row;
+use crate::causes::{branch_cause, label_cause, outer_cause, two_labels_cause};
 use crate::composite::emit_composite;
 use crate::kinds::{Kind, kind_of};
 use crate::memory::find_memory;
@@ -174,6 +176,36 @@ fn emit_two_branches(
     put_jump(sink, not_taken)
 }
 
+// A branch that is always taken, where its label names a block.
+fn emit_jump(sink: &mut MachBuffer, dest: MachLabel) -> Result<(), EmitError>
+    ensures answer { OnOk result ((target_label_cause sink.old.block_count dest ≡ None) × (sink.new ≡ apply_all sink.old (jump_fragments dest.0))) }
+    ensures lacks { (after depth : ℕ) → MembersPassed sink.old after depth 6 (target_label_cause sink.old.block_count dest) → LacksMemory result }
+    ensures kept { Extends sink.old sink.new }
+{
+    match label_cause(sink.block_count(), dest) {
+        Some(error) => Err(error),
+        None => put_jump(sink, dest),
+    }
+}
+
+// A branch to one label under a condition, or else to the other, where both name blocks.
+fn emit_choice(
+    sink: &mut MachBuffer,
+    taken: MachLabel,
+    not_taken: MachLabel,
+    cond: Cond,
+) -> Result<(), EmitError>
+    ensures answer { OnOk result ((first_emit_cause (target_label_cause sink.old.block_count taken) (target_label_cause sink.old.block_count not_taken) ≡ None) × (sink.new ≡ apply_all sink.old (choice_fragments cond taken.0 not_taken.0))) }
+    ensures lacks { (after depth : ℕ) → MembersPassed sink.old after depth 12 (first_emit_cause (target_label_cause sink.old.block_count taken) (target_label_cause sink.old.block_count not_taken)) → LacksMemory result }
+    ensures range { OnOk result (IsConditionMask cond) }
+    ensures kept { Extends sink.old sink.new }
+{
+    match two_labels_cause(sink.block_count(), taken, not_taken) {
+        Some(error) => Err(error),
+        None => emit_two_branches(sink, taken, not_taken, cond),
+    }
+}
+
 fn emit_break(sink: &mut MachBuffer, cond: Cond, after: MachLabel) -> Result<(), EmitError>
     ensures answer { OnOk result (sink.new ≡ apply sink.old (branch cond after.0)) }
     ensures lacks { Passed sink.old after.0 6 None → LacksMemory result }
@@ -207,12 +239,12 @@ fn emit_branch(sink: &mut MachBuffer, inst: &Inst, after: MachLabel) -> Result<(
     ensures kept { Extends sink.old sink.new }
 {
     match inst {
-        Inst::Jump { dest } => put_jump(sink, *dest),
+        Inst::Jump { dest } => emit_jump(sink, *dest),
         Inst::CondBr {
             taken,
             not_taken,
             cond,
-        } => emit_two_branches(sink, *taken, *not_taken, *cond),
+        } => emit_choice(sink, *taken, *not_taken, *cond),
         Inst::IndirectBr { rn, .. } => emit_branch_register(sink, *rn),
         Inst::Ret { link } => emit_branch_register(sink, *link),
         Inst::JTSequence {
@@ -263,6 +295,7 @@ fn read_displacement(mem: &MemArg)
 }
 
 // A machine instruction, where its registers may stand there.
+#[inline(always)]
 fn emit_found(
     sink: &mut MachBuffer,
     found: Result<Code, EmitError>,
@@ -294,8 +327,8 @@ pub fn emit_access(
     found.emit_unless_refused(sink, state)
 }
 
-// An instruction that names a place, goes elsewhere or ends the run, where no cause refuses it.
-fn emit_place(
+// An instruction that names a place, goes elsewhere or ends the run, by its cause and then by its code.
+fn emit_any_place(
     sink: &mut MachBuffer,
     depth: u32,
     inst: &Inst,
@@ -310,6 +343,30 @@ fn emit_place(
     match branch_cause(sink.block_count(), depth, inst) {
         Some(error) => Err(error),
         None => emit_branch(sink, inst, after),
+    }
+}
+
+// An instruction that names a place, goes elsewhere or ends the run, where no cause refuses it; the branches that are met most often first.
+fn emit_place(
+    sink: &mut MachBuffer,
+    depth: u32,
+    inst: &Inst,
+    after: MachLabel,
+) -> Result<(), EmitError>
+    requires { HasRoom sink.old }
+    ensures answer { OnOk result ((branch_cause sink.old.block_count depth inst.now ≡ None) × (sink.new ≡ apply_all sink.old (branch_fragments (length sink.old.labels) after.0 inst.now))) }
+    ensures lacks { MembersPassed sink.old after.0 depth (branch_size inst.now) (branch_cause sink.old.block_count depth inst.now) → numbers_cause (length sink.old.labels) (instruction_fresh_labels inst.now) ≡ None → LacksMemory result }
+    ensures range { OnOk result (MaskInRange inst.now) }
+    ensures kept { Extends sink.old sink.new }
+{
+    match inst {
+        Inst::Jump { dest } => emit_jump(sink, *dest),
+        Inst::CondBr {
+            taken,
+            not_taken,
+            cond,
+        } => emit_choice(sink, *taken, *not_taken, *cond),
+        _ => emit_any_place(sink, depth, inst, after),
     }
 }
 
@@ -355,6 +412,39 @@ fn emit_allowed(
     }
 }
 
+// The code of its row, with the variant that is met most often asked first.
+#[inline(always)]
+fn find_row(inst: &Inst) -> Option<Result<Code, EmitError>>
+    ensures { result ≡ single_code (single_instruction inst.now) }
+{
+    match inst {
+        Inst::AluRRR { alu_op, rd, rn, rm } => three_row(*alu_op, rd, rn, rm),
+        _ => find_single_instruction(inst),
+    }
+}
+
+// One machine instruction on registers that needs no facility, where no cause of its own refuses it.
+#[tactic(auto, using(s390x_buffer::proofs::Extending::extends_on, s390x_buffer::proofs::Extending::extends_same, crate::proofs::Single::no_single))]
+fn emit_register(
+    sink: &mut MachBuffer,
+    depth: u32,
+    inst: &Inst,
+    after: MachLabel,
+) -> Result<(), EmitError>
+    requires register { IsRegister inst.now }
+    requires numbers { numbers_cause (length sink.old.labels) 0 ≡ None }
+    requires room { HasRoom sink.old }
+    ensures answer { (flags : IsaFlags) → (e : Emission) → OnOk result ((leaf_cause flags (declared_in sink.old) (length sink.old.labels) e.nominal depth (resolved_instruction e inst.now) ≡ None) × (sink.new ≡ apply_all sink.old (leaf_fragments (length sink.old.labels) after.0 (resolved_instruction e inst.now)))) }
+    ensures lacks { (flags : IsaFlags) → (e : Emission) → MembersPassed sink.old after.0 depth (instruction_size (resolved_instruction e inst.now)) (leaf_cause flags (declared_in sink.old) (length sink.old.labels) e.nominal depth (resolved_instruction e inst.now)) → LacksMemory result }
+    ensures range { (e : Emission) → OnOk result (InRange (resolved_instruction e inst.now)) }
+    ensures kept { Extends sink.old sink.new }
+{
+    match find_row(inst) {
+        Some(found) => emit_found(sink, found, None),
+        None => emit_place(sink, depth, inst, after),
+    }
+}
+
 // A buffer has no more labels than there are numbers.
 fn count_labels(sink: &MachBuffer)
     ensures { numbers_cause (length sink.now.labels) 0 ≡ None }
@@ -382,6 +472,7 @@ pub fn emit_leaf(
     match kind_of(inst) {
         Kind::Access => emit_other(sink, state, depth, inst, after),
         Kind::Branch => emit_place(sink, depth, inst, after),
+        Kind::Register => emit_register(sink, depth, inst, after),
         Kind::Other => match outer_cause(flags, sink, state, depth, inst) {
             Some(error) => Err(error),
             None => emit_allowed(sink, state, depth, inst, after),

@@ -41,6 +41,18 @@ returns-in-Branch-clause-lacks c = λ p.
 pub returns-in-Branch-clause-range : goal.returns-in-Branch-clause-range
 returns-in-Branch-clause-range c = on_ok c.emit_place.result c.emit_place.ensures.range (λ m. branch_range c.args.state.now c.args.inst.now (c.kind_of.ensures.branch c.in-Branch.is).1 m)
 
+pub emit_register-requires-clause-register : goal.emit_register-requires-clause-register
+emit_register-requires-clause-register c = c.kind_of.ensures.register c.in-Register.is
+
+pub returns-in-Register-clause-answer : goal.returns-in-Register-clause-answer
+returns-in-Register-clause-answer c = c.emit_register.ensures.answer c.args.flags c.args.state.now
+
+pub returns-in-Register-clause-lacks : goal.returns-in-Register-clause-lacks
+returns-in-Register-clause-lacks c = c.emit_register.ensures.lacks c.args.flags c.args.state.now
+
+pub returns-in-Register-clause-range : goal.returns-in-Register-clause-range
+returns-in-Register-clause-range c = c.emit_register.ensures.range c.args.state.now
+
 pub returns-in-None-clause-answer : goal.returns-in-None-clause-answer
 returns-in-None-clause-answer c =
     let s = c.args.sink.now in
