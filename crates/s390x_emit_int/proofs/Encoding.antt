@@ -43,6 +43,16 @@ unfolding code_where
 encoded valid ok kind slots (Ok code) m v h = rw v (ap Ok m.1.bytes_are)
 encoded valid ok kind slots (Err e) m v h = let n = m.1 in absurd (cc)
 
+-- the same of one that tests all that has to hold
+pub encoded_where : (valid ok : Bool) (kind : FormatKind) (slots : List ℕ) (r : Result (List ℕ) EmitError) → MatchResult r (λ code. (ok ≡ true) × IsCode kind slots code) (λ e. (e ≡ BadRegister) × (ok ≡ false)) → valid ≡ ok → r ≡ code_where valid (record { format = kind; slots = slots })
+unfolding code_where
+encoded_where valid ok kind slots (Ok code) m same = rw (same ∙ m.0) (ap Ok m.1.bytes_are)
+encoded_where valid ok kind slots (Err e) m same = rw (same ∙ m.1) (ap Err m.0)
+
+-- three tests by others that agree
+pub all_three : (a b c x y z : Bool) → a ≡ x → b ≡ y → c ≡ z → (a && b && c) ≡ (x && y && z)
+all_three a b c x y z e f g = rw e (rw f (rw g refl))
+
 class_general : (c : RegClass) (t : Bool) → (is_int c && t) ≡ true → encodes_int c ≡ true
 class_general Int t h = refl
 class_general Float t h = absurd (cc)
@@ -111,12 +121,6 @@ even_high a b h = let p = and_parts (is_general a && is_general b) (is_pair a b)
 -- an even pair by its first register
 pub even_general : (a b c : Reg) → implies (is_even_pair a b && is_general c) (is_general a && is_general c) ≡ true
 even_general a b c = implied (is_even_pair a b && is_general c) (is_general a && is_general c) (λ h. let p = and_parts (is_even_pair a b) (is_general c) h in and_from (is_general a) (is_general c) (even_high a b p.0) p.1)
-
-pub even_two_general : (a b c d : Reg) → implies (is_even_pair a b && is_general c && is_general d) (is_general a && is_general c && is_general d) ≡ true
-even_two_general a b c d = implied (is_even_pair a b && is_general c && is_general d) (is_general a && is_general c && is_general d) (λ h.
-    let p = and_parts (is_even_pair a b && is_general c) (is_general d) h in
-    let q = and_parts (is_even_pair a b) (is_general c) p.0 in
-    and_from (is_general a && is_general c) (is_general d) (and_from (is_general a) (is_general c) (even_high a b q.0) q.1) p.1)
 
 even_tested : (a b : Reg) (t : Bool) (d : Reg) → implies (is_even_pair a b && t && is_general d) (is_general a && is_general d) ≡ true
 even_tested a b t d = implied (is_even_pair a b && t && is_general d) (is_general a && is_general d) (λ h.

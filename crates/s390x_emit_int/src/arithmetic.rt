@@ -214,7 +214,7 @@ pub fn unary_row(op: UnaryOp, rd: &Writable<Reg>, rn: &Reg) -> Option<Result<Cod
 }
 
 /// The row of three operands, or that of two where there is one and the first input is the output.
-#[tactic(auto, using(crate::proofs::Encoding::alu_two_general, crate::proofs::Encoding::itself))]
+#[tactic(auto, using(crate::proofs::Encoding::alu_two_general))]
 pub fn three_row(
     op: ALUOp,
     rd: &Writable<Reg>,
@@ -226,27 +226,20 @@ pub fn three_row(
     let three = three_opcode(op)?;
     let output = rd.to_reg();
     match two_opcode(op) {
-        Some(two) => shorter_row(three, two, &output, rn, rm),
-        None => three_operands(three_general(&output, rn, rm), three, &output, rn, rm),
+        Some(two) => Some(shorter_code(three, two, &output, rn, rm)),
+        None => Some(three_operands(three, &output, rn, rm)),
     }
 }
 
-#[tactic(auto, using(crate::proofs::Encoding::outer_general, crate::proofs::Encoding::itself))]
-fn shorter_row(
-    three: u16,
-    two: u16,
-    rd: &Reg,
-    rn: &Reg,
-    rm: &Reg,
-) -> Option<Result<Code, EmitError>>
+#[tactic(auto, using(crate::proofs::Encoding::outer_general))]
+fn shorter_code(three: u16, two: u16, rd: &Reg, rn: &Reg, rm: &Reg) -> Result<Code, EmitError>
     requires { takes_general (Some two) ≡ true }
-    ensures { result ≡ single_code (single_with (is_general rd.now && is_general rn.now && is_general rm.now) (three_row (Some three) (Some two) (number_of rd.now) (number_of rn.now) (number_of rm.now))) }
+    ensures { Some result ≡ single_code (single_with (is_general rd.now && is_general rn.now && is_general rm.now) (three_row (Some three) (Some two) (number_of rd.now) (number_of rn.now) (number_of rm.now))) }
 {
-    let valid = three_general(rd, rn, rm);
     if same_number(rd, rn) {
-        Some(two_operands(valid, two, *rd, *rm))
+        two_operands(three_general(rd, rn, rm), two, *rd, *rm)
     } else {
-        three_operands(valid, three, rd, rn, rm)
+        three_operands(three, rd, rn, rm)
     }
 }
 

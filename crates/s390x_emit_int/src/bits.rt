@@ -172,17 +172,15 @@ pub fn shift_row(
 }
 
 /// The signed product of two registers, into a pair.
-#[tactic(auto, using(crate::proofs::Encoding::even_two_general))]
+#[tactic(auto, unfolding(s390x_typed_steps::specs::SingleCode::code_where))]
 pub fn product_row(rd: &WritableRegPair, rn: &Reg, rm: &Reg) -> Option<Result<Code, EmitError>>
     ensures { result ≡ single_code (single_with (is_even_pair rd.now.hi rd.now.lo && is_general rn.now && is_general rm.now) (Some (rrf_ab 0xb9ec (number_of rd.now.hi) (number_of rn.now) (number_of rm.now) 0))) }
 {
-    three_operands(
-        is_even_pair(rd) && general(rn) && general(rm),
-        0xb9ec,
-        &rd.hi.to_reg(),
-        rn,
-        rm,
-    )
+    if is_even_pair(rd) {
+        Some(three_operands(0xb9ec, &rd.hi.to_reg(), rn, rm))
+    } else {
+        Some(Err(EmitError::BadRegister))
+    }
 }
 
 /// A count of a register's bits, into a pair.

@@ -11,6 +11,7 @@ ghost use Rattle.s390x_typed_steps.specs.SingleInstruction.{two_operands};
 ghost use Rattle.s390x_emit_int.specs.SingleInstruction.{opcode_of, takes_general, implies};
 
 use crate::opcode::ShortOpcode;
+use crate::registers::read_number;
 use s390x_base::{Code, EmitError, Reg, SImm20};
 use s390x_enc::{
     enc_ri_a, enc_rie_a, enc_rie_d, enc_rie_f, enc_rie_g, enc_ril_a, enc_rr, enc_rre, enc_rrf_ab,
@@ -48,22 +49,14 @@ pub fn two_operands(valid: bool, opcode: u16, r1: Reg, r2: Reg) -> Result<Code, 
     }
 }
 
-/// Three registers.
-pub fn three_operands(
-    valid: bool,
-    opcode: u16,
-    r1: &Reg,
-    r2: &Reg,
-    r3: &Reg,
-) -> Option<Result<Code, EmitError>>
-    requires { implies valid (is_general r1.now && is_general r2.now && is_general r3.now) ≡ true }
-    ensures { result ≡ Some (code_where valid (rrf_ab opcode (number_of r1.now) (number_of r2.now) (number_of r3.now) 0)) }
+/// Three registers. The encoding call asks itself whether they are general.
+pub fn three_operands(opcode: u16, r1: &Reg, r2: &Reg, r3: &Reg) -> Result<Code, EmitError>
+    ensures { result ≡ code_where (is_general r1.now && is_general r2.now && is_general r3.now) (rrf_ab opcode (number_of r1.now) (number_of r2.now) (number_of r3.now) 0) }
 {
-    if valid {
-        Some(enc_rrf_ab(opcode, *r1, *r2, *r3, 0))
-    } else {
-        Some(Err(EmitError::BadRegister))
-    }
+    read_number(r1);
+    read_number(r2);
+    read_number(r3);
+    enc_rrf_ab(opcode, *r1, *r2, *r3, 0)
 }
 
 /// A register and the bits of an immediate of 16 bits.

@@ -1,11 +1,21 @@
 //! Which registers may stand in an instruction.
 ghost use Rattle.std.specs.Prelude.{◌≡◌, ◌&&◌, nat_eq};
 ghost use Rattle.s390x_base.specs.Regs.{number_of};
+ghost use Rattle.s390x_enc.specs.Operands.{is_general_class};
 ghost use Rattle.s390x_typed_steps.specs.General.{is_general, is_access, is_even_pair, reuses, reuses_pair};
 
 use s390x_address::emitters::number;
 use s390x_address::memory::general;
 use s390x_base::{Reg, RegPair, WritableRegPair, valid_regpair};
+
+/// A register's number is below the count of its class, so that its class alone tells whether it is general.
+pub fn read_number(r: &Reg)
+    ensures { is_general r.now ≡ is_general_class r.now }
+{
+    if let Reg::Real(preg) = r {
+        let _number = preg.hw_enc();
+    }
+}
 
 pub fn same_number(a: &Reg, b: &Reg) -> bool
     ensures { result ≡ nat_eq (number_of a.now) (number_of b.now) }
