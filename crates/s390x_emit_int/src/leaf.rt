@@ -454,6 +454,7 @@ fn count_labels(sink: &MachBuffer)
 
 /// Emits an instruction that is no `Loop`, by its own rows, in a state of emission and inside so many loops, where no cause refuses it; `after` is the
 /// label behind the innermost loop. An error may be another one than the first cause. The machine has to have these rows: `emit_on_machine` asks.
+#[inline(always)]
 pub fn emit_leaf(
     flags: IsaFlags,
     sink: &mut MachBuffer,

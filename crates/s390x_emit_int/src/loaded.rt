@@ -95,6 +95,7 @@ fn emit_without_relative(
 
 /// Emits an instruction that is neither a `Loop` nor a call, in a state of emission and inside so many loops, where no cause refuses it, by the rows that the
 /// machine has; `after` is the label behind the innermost loop. An error may be another one than the first cause.
+#[inline(always)]
 pub fn emit_on_machine(
     flags: IsaFlags,
     sink: &mut MachBuffer,

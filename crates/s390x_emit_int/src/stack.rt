@@ -73,6 +73,7 @@ fn advance_sizes(state: &mut EmitState, inst: &Inst) -> Result<(), EmitError>
 
 /// Goes on behind an instruction: by the stack sizes, and without a stack map. Refused where it allocates arguments and some are allocated already; the
 /// state stays then.
+#[inline(always)]
 pub fn advance(state: &mut EmitState, inst: &Inst) -> Result<(), EmitError>
     ensures { MatchResult result (λ _. state.new ≡ state_after state.old inst.now) (λ e. ((depth : ℕ) → stack_cause state.old.nominal depth inst.now ≡ Some e) × (state.new ≡ state.old)) }
 {
@@ -88,6 +89,7 @@ pub fn advance(state: &mut EmitState, inst: &Inst) -> Result<(), EmitError>
 }
 
 /// A call of a block is a safepoint: its stack map is the next one.
+#[inline(always)]
 pub fn mark_safepoint(state: &mut EmitState, inst: &Inst)
     ensures { state.new ≡ safepoint state.old inst.now }
 {

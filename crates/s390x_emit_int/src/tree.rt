@@ -63,6 +63,7 @@ pub fn emit_members(
 
 /// Emits an instruction, where no cause refuses it.
 #[cycle(members)]
+#[inline(always)]
 pub fn emit_inst(
     alloc: Global,
     flags: IsaFlags,
