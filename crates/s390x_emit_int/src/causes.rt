@@ -16,7 +16,7 @@ use crate::stack::stack_cause;
 use s390x_address::memory::general;
 use s390x_base::{Code, EmitError, MachLabel, Reg, RegClass};
 use s390x_buffer::MachBuffer;
-use s390x_inst::{EmitState, Inst, IsaFlags};
+use s390x_inst::{EmitState, Inst, InstructionSet, IsaFlags};
 
 /// Whether the register is a real Int one other than `%r0`: one that a branch may go by.
 pub fn branchable(r: Reg) -> bool
@@ -195,10 +195,10 @@ fn later_cause(state: &EmitState, sink: &MachBuffer, depth: u32, inst: &Inst) ->
 pub fn facility_cause(flags: IsaFlags, inst: &Inst) -> Option<EmitError>
     ensures { result ≡ facility_cause flags inst.now }
 {
-    cause_unless(
-        flags.has(inst.available_in_isa()),
-        EmitError::MissingFacility,
-    )
+    match inst.available_in_isa() {
+        InstructionSet::Base => None,
+        set => cause_unless(flags.has(set), EmitError::MissingFacility),
+    }
 }
 
 // Why the labels that an instruction draws have no numbers.
