@@ -5,7 +5,7 @@ use std::process::Abort;
 use std::test::Fail;
 
 /// A job with a plan, the status, and what is written.
-const ALLOCATED: [(&str, Status, &str); 17] = [
+const ALLOCATED: [(&str, Status, &str); 18] = [
     (
         "block\nMov64SImm16 %i0 5\nMov64 %i1 %i0\nRet %r14\nend\nplan\nblock\nstep [%r2]\nmove %r4 %r2\nstep [%r3,%r4]\nstep []\nclose\n",
         Status::Ok,
@@ -26,6 +26,12 @@ const ALLOCATED: [(&str, Status, &str); 17] = [
         "flags mie3\nframe SystemV 0 0 0 40 8 0 - 0\nconst 2 0a0b\nsymbol u1 8192\nreg %r3 7\nmem 4096 01\nblock\nMov64SImm16 %i0 5\nJump 1\nblock\nMov64 %i1 %i0\nRet %r14\nend\nplan\nblock\nstep [%r2]\nmove s1 %r2\nstep []\nblock\nentry s1=%i0\nmove %r6 s1\nstep [%r2,%r6]\nstep []\nclose\n",
         Status::Ok,
         "flags mie3\nframe SystemV 0 0 0 40 8 0 - 0\nconst 2 0a0b\nsymbol u1 8192\nreg %r3 7\nmem 4096 01\nblock\nMov64SImm16 %r2 5\nStore64 %r2 SpillOffset(16)\nJump 1\nblock\nLoad64 %r6 SpillOffset(16)\nMov64 %r2 %r6\nRet %r14\nend\n",
+    ),
+    // The file `examples/spill.plan`: the value is stored at 0 behind the move of the first block, and loaded from there where the second one begins.
+    (
+        "frame SystemV 0 0 0 16 0 0 - 0\nblock\nMov64SImm16 %i0 5\nJump 1\nblock\nAluRRR Add64 %i1 %i0 %i0\nMov64 %i2 %i1\nRet %r14\nend\nplan\nblock\nstep [%r2]\nmove s0 %r2\nstep []\nblock\nentry s0=%i0\nmove %r6 s0\nstep [%r3,%r6,%r6]\nstep [%r2,%r3]\nstep []\nclose\n",
+        Status::Ok,
+        "frame SystemV 0 0 0 16 0 0 - 0\nblock\nMov64SImm16 %r2 5\nStore64 %r2 SpillOffset(0)\nJump 1\nblock\nLoad64 %r6 SpillOffset(0)\nAluRRR Add64 %r3 %r6 %r6\nMov64 %r2 %r3\nRet %r14\nend\n",
     ),
     // Vector registers are copied, stored and loaded as such.
     (

@@ -10,7 +10,7 @@ use Rattle.s390x_bundle.specs.declared.error.BundleError.TheVariants as cause
 use Rattle.s390x_bundle.specs.declared.member.Member.{Member}
 use Rattle.s390x_commands.specs.Words.{IsForm}
 use Rattle.s390x_commands.specs.declared.words.Command.TheVariants.{Bundle}
-use Rattle.s390x_tool.specs.Bundled.{AreBundled, IsBundleAccepted, member_of}
+use Rattle.s390x_tool.specs.Bundled.{CanBeBundled, IsBundleAccepted, member_of}
 use Rattle.s390x_tool.specs.Causes.{FaultCountRose}
 use Rattle.s390x_tool.specs.Lines.{line}
 use Rattle.s390x_tool.specs.Replies.{Found, IsDelivered, IsReply}
@@ -21,7 +21,7 @@ use Rattle.s390x_tool.proofs.Completing.{read_less, read_whole}
 use Rattle.s390x_tool.proofs.SameMembers.{same_bundled}
 
 -- where nothing keeps members from standing in one image, no error says so
-not_refused : (base : ℕ) (members : List Member) (e : BundleError) → AreBundled base members → e ≢ cause.NoMemory → HasNoImage base members e → ⊥
+not_refused : (base : ℕ) (members : List Member) (e : BundleError) → CanBeBundled base members → e ≢ cause.NoMemory → HasNoImage base members e → ⊥
 not_refused base members (cause.DuplicateName name) h named why = let clash = sym h.names ∙ why in cc
 not_refused base members (cause.Emit name error) h named why = let clash = sym h.valid ∙ why.1 in cc
 not_refused base members (cause.EmptyMember name) h named why = let clash = sym (h.placed why.codes why.emitted) ∙ why.first in cc

@@ -1,11 +1,15 @@
 -- A reply is that to the command that the words are.
-use Rattle.std.proofs.Common.{ℕ, List, subst}
+use Rattle.std.proofs.Common.{◌≡◌, ℕ, List, subst}
 use Rattle.s390x_commands.specs.Words.{IsForm}
 use Rattle.s390x_commands.proofs.Told.{same_command}
 use Rattle.s390x_commands.specs.declared.words.Command.{Command}
-use Rattle.s390x_commands.specs.declared.words.Command.TheVariants.{Generate, Simulate}
-use Rattle.s390x_tool.specs.Replies.{Found, IsAboutInput, IsAnswered, IsInputAnswer, IsSimulationReply}
+use Rattle.s390x_commands.specs.declared.words.Command.TheVariants.{OnJob, Generate, Simulate, Allocate, Bundle}
+use Rattle.s390x_tool.specs.Ends.{IsRead}
+use Rattle.s390x_tool.specs.Replies.{Found, IsAboutInput, IsAnswered, IsInputAnswer, IsReply, IsSimulationReply}
 use Rattle.s390x_tool.specs.declared.status.Status.{Status}
+use Rattle.s390x_tool.proofs.Allocating.{reply_to_allocate}
+use Rattle.s390x_tool.proofs.Bundling.{reply_to_bundle}
+use Rattle.s390x_tool.proofs.Replying.{reply_to_job}
 
 -- the answer is that to this command
 pub answered : (f : Found) (s : Status) (text : List ℕ) (command : Command) (reply : IsAnswered f s text) → IsForm f.words command → IsInputAnswer command reply.input s text
@@ -24,3 +28,12 @@ pub not_generated : (f : Found) (s : Status) (text : List ℕ) (count start : �
 not_generated f s text count start reply form =
     let same = same_command f.words (Generate count start) (Simulate reply.base reply.word reply.count reply.steps reply.start) form reply.form in
     absurd cc
+
+-- the answer to the command that the words are is the reply
+pub reply_to_input : (f : Found) (command : Command) (input : List ℕ) (s : Status) (text : List ℕ) → IsForm f.words command → IsRead f.left f.left' input → f.faults' ≡ f.faults
+    → IsInputAnswer command input s text → IsReply f s text
+reply_to_input f (OnJob command) input s text form read same answer = reply_to_job f command input s text form read same answer
+reply_to_input f (Generate count start) input s text form read same answer = absurd answer
+reply_to_input f (Simulate base word count steps start) input s text form read same answer = absurd answer
+reply_to_input f Allocate input s text form read same answer = reply_to_allocate f input s text form read same answer
+reply_to_input f (Bundle base) input s text form read same answer = reply_to_bundle f base input s text form read same answer

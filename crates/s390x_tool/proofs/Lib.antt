@@ -19,3 +19,5 @@ pub mod Accepting
 pub mod Asking
 pub mod Allocating
 pub mod Planning
+pub mod ReturnJob
+pub mod Example

@@ -15,7 +15,7 @@ use Rattle.s390x_bundle.specs.declared.member.Member.{Member}
 use Rattle.s390x_bundle_text.specs.Text.{AreFunctions, SameFunctions}
 use Rattle.s390x_bundle_text.specs.declared.named_job.NamedJob.{NamedJob}
 use Rattle.s390x_tool.specs.Answers.{IsCodeOfJob}
-use Rattle.s390x_tool.specs.Bundled.{AreBundled, member_of}
+use Rattle.s390x_tool.specs.Bundled.{CanBeBundled, member_of}
 use Rattle.s390x_tool.proofs.SameJob.{same_cause, same_code, same_symbols}
 
 abbrev members : List NamedJob → List Member
@@ -100,7 +100,7 @@ same_back (f ∷ fs) [] same = absurd same
 same_back (f ∷ fs) (g ∷ gs) same = (sym same.0, sym same.1, same_back fs gs same.2)
 
 -- what nothing keeps from standing in one image doesn't by its lines
-pub same_bundled : (base : ℕ) (fs gs : List NamedJob) → AreFunctions fs → AreFunctions gs → SameFunctions fs gs → AreBundled base (members gs) → AreBundled base (members fs)
+pub same_bundled : (base : ℕ) (fs gs : List NamedJob) → AreFunctions fs → AreFunctions gs → SameFunctions fs gs → CanBeBundled base (members gs) → CanBeBundled base (members fs)
 same_bundled base fs gs a b same h =
     record {
       names = same_duplicate fs gs a b same ∙ h.names;

@@ -80,7 +80,7 @@ IsBundleAnswer base input status.NoMemory text = text ≡ line (codes "no memory
 IsBundleAnswer base input s text = ⊥
 
 -- no name of these members comes twice, emission refuses none, and where they are emitted each one has a place and can be linked there
-pub record AreBundled (base : ℕ) (members : List Member) : Type 0 where
+pub record CanBeBundled (base : ℕ) (members : List Member) : Type 0 where
   pub names : duplicate_of members ≡ None
   pub valid : first_refused members ≡ None
   pub placed : (codes : List MachBufferFinalized) → AreEmitted members codes → misplaced_member base codes ≡ None
@@ -92,4 +92,4 @@ pub record IsBundleAccepted (base : ℕ) (input : List ℕ) : Type 0 where
   pub functions : List NamedJob
   pub are : AreFunctions functions
   pub spelled : text_of_functions functions ≡ input
-  pub bundled : AreBundled base (map member_of functions)
+  pub bundled : CanBeBundled base (map member_of functions)

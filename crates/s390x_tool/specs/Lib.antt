@@ -4,6 +4,7 @@ pub mod Bundled
 pub mod Causes
 pub mod Emitted
 pub mod Ends
+pub mod Example
 pub mod Generated
 pub mod InMemory
 pub mod Lines

@@ -3,19 +3,24 @@ ghost use Rattle.std.specs.Prelude.{◌≡◌, ◌<◌, ◌++◌, ◌∷◌, [],
 ghost use Rattle.std.specs.Cow.{cow_str_bytes};
 ghost use Rattle.s390x_plan_text.specs.Text.{IsPlannedOf};
 ghost use Rattle.s390x_tool.specs.Allocated.{IsAllocateAnswer, IsPlanRefusal, numbered_fault};
-ghost use Rattle.s390x_tool.specs.Lines.{IsMade, line, operand_error_name};
+ghost use Rattle.s390x_tool.specs.Lines.{IsMade, line};
 
+use crate::error_names::operand_error_name;
 use crate::reply::{Reply, fixed, made, no_memory, syntax, with_text};
 use crate::status::Status;
 use s390x_alloc::{PlanFault, check_plan};
 use s390x_allocated_jobs::law::answered_jobs_are_jobs;
 use s390x_inst::MachInstEmitState;
 use s390x_job::lines_of_job;
-use s390x_operands::OperandError;
 use s390x_plan_text::{PlanTextError, PlannedJob, read_plan};
 use std::alloc::Global;
 
-/// The text of the job that the input is, with the registers of the plan that stands behind it.
+/// The answer to `alloc` and its whole input:
+///
+/// - `Ok`, where the input is the text of a job with a plan that has no fault: the text of the job with the function that the plan gives in place of its own;
+/// - `PlanRefused`, where the plan has a fault: the line of its first one;
+/// - `Syntax`, where the input is the text of no job with a plan: the number of its first wrong line;
+/// - `NoMemory`, which may come in place of any of these.
 pub fn allocated(alloc: Global, input: &[u8]) -> Reply
     requires { length input.now < 268435456 }
     ensures { IsAllocateAnswer input.now result.status (cow_str_bytes result.text) }
@@ -58,7 +63,7 @@ fn plan_refused(alloc: Global, fault: PlanFault) -> Reply
         PlanFault::Shape { block, inst } => told_place(alloc, "Shape", block, inst),
         PlanFault::Order { block, edit } => told_place(alloc, "Order", block, edit),
         PlanFault::Operands { block, edit, cause } => {
-            told_cause(alloc, "Operands", block, edit, cause_name(cause))
+            told_cause(alloc, "Operands", block, edit, operand_error_name(cause))
         }
         PlanFault::Count { block, edit } => told_place(alloc, "Count", block, edit),
         PlanFault::Constraint {
@@ -111,15 +116,4 @@ fn told_cause(
         Status::PlanRefused,
         format!(in alloc; "plan {name} {block} {edit} {cause}\n"),
     )
-}
-
-// The name of a refusal of operands.
-fn cause_name(cause: OperandError) -> &'static str
-    ensures { result.now ≡ operand_error_name cause }
-{
-    match cause {
-        OperandError::ReuseInLoop => "ReuseInLoop",
-        OperandError::NotReal => "NotReal",
-        OperandError::NoMemory => "NoMemory",
-    }
 }

@@ -4,17 +4,22 @@ ghost use Rattle.std.specs.Cow.{cow_str_bytes};
 ghost use Rattle.std.specs.Fmt.{decimal};
 ghost use Rattle.s390x_bundle_text.specs.Text.{AreFunctionsOf};
 ghost use Rattle.s390x_tool.specs.Bundled.{IsBundleAnswer, IsBundleRefusal, inner_refusal, member_of, named_refusal};
-ghost use Rattle.s390x_tool.specs.Lines.{IsMade, error_name, line, link_error_name};
+ghost use Rattle.s390x_tool.specs.Lines.{IsMade, line};
 
+use crate::error_names::{emit_error_name, link_error_name};
 use crate::reply::{Reply, in_hex, made, no_memory, syntax};
 use crate::status::Status;
-use s390x_base::{EmitError, ExternalName};
+use s390x_base::ExternalName;
 use s390x_bundle::{BundleError, Member, bundle};
 use s390x_bundle_text::{BundleTextError, NamedJob, read_bundle};
-use s390x_image::LinkError;
 use std::alloc::{AllocError, Global};
 
-/// The image at this base of the functions whose text the input is.
+/// The answer to `bundle` at this base and its whole input:
+///
+/// - `Ok`, where the input is the text of functions that nothing keeps from standing in one image: that image in hex;
+/// - `BundleRefused`, where it is the text of others: the line of the first cause by which they have none (`BundleError` of `s390x_bundle`);
+/// - `Syntax`, where it is the text of no functions: the number of its first wrong line;
+/// - `NoMemory`, which may come in place of any of these.
 pub fn bundled(alloc: Global, base: u64, input: &[u8]) -> Reply
     requires { length input.now < 268435456 }
     ensures { IsBundleAnswer base input.now result.status (cow_str_bytes result.text) }
@@ -96,39 +101,4 @@ fn told_with(alloc: Global, cause: &'static str, name: ExternalName, inner: &'st
         Status::BundleRefused,
         format!(in alloc; "bundle {cause} u{number} {inner}\n"),
     )
-}
-
-// The name of a refusal of emission.
-fn emit_error_name(error: EmitError) -> &'static str
-    ensures { result.now ≡ error_name error }
-{
-    match error {
-        EmitError::MissingFacility => "MissingFacility",
-        EmitError::BadOperator => "BadOperator",
-        EmitError::BadRegister => "BadRegister",
-        EmitError::ScratchConflict => "ScratchConflict",
-        EmitError::OffsetOutOfRange => "OffsetOutOfRange",
-        EmitError::BreakOutsideLoop => "BreakOutsideLoop",
-        EmitError::BadStackState => "BadStackState",
-        EmitError::UnboundLabel => "UnboundLabel",
-        EmitError::BadAlignment => "BadAlignment",
-        EmitError::LabelOutOfRange => "LabelOutOfRange",
-        EmitError::Failed => "Failed",
-        EmitError::NoMemory => "NoMemory",
-    }
-}
-
-// The name of a refusal of linking.
-fn link_error_name(error: LinkError) -> &'static str
-    ensures { result.now ≡ link_error_name error }
-{
-    match error {
-        LinkError::MisalignedBase => "MisalignedBase",
-        LinkError::ImageTooHigh => "ImageTooHigh",
-        LinkError::UndefinedSymbol => "UndefinedSymbol",
-        LinkError::AddressOverflow => "AddressOverflow",
-        LinkError::OddSymbol => "OddSymbol",
-        LinkError::TooFar => "TooFar",
-        LinkError::NoMemory => "NoMemory",
-    }
 }

@@ -1,14 +1,20 @@
 //! That what the top call's clauses ask for can be.
-ghost use Rattle.std.specs.Prelude.{ℕ, codes};
+ghost use Rattle.std.specs.Prelude.{◌≡◌, ℕ, ◌+◌, ◌%◌, ◌≤◌, ◌^◌, codes};
 ghost use Rattle.s390x_job.specs.Completions.{joined};
 ghost use Rattle.s390x_plan_text.specs.Example.{no_blocks};
 ghost use Rattle.s390x_tool.specs.Allocated.{IsPlanAccepted};
 ghost use Rattle.s390x_tool.specs.Bundled.{IsBundleAccepted};
+ghost use Rattle.s390x_tool.specs.Example.{one_function};
 ghost use Rattle.s390x_tool.specs.Lines.{line};
 
 /// Some functions are kept from standing in one image by nothing, at any base: none at all.
 pub fn no_functions_are_accepted()
     ensures { (base : ℕ) → IsBundleAccepted base (line (codes "close")) }
+{}
+
+/// A function that returns at once is kept from standing in an image by nothing, at any base that is a multiple of 4 and has room for its two bytes below 2^64.
+pub fn one_function_is_accepted()
+    ensures { (base : ℕ) → base % 4 ≡ 0 → base + 2 ≤ 2 ^ 64 → IsBundleAccepted base (joined one_function) }
 {}
 
 /// Some plan has no fault: that of a job without blocks.

@@ -6,6 +6,7 @@ pub mod answer;
 pub mod bundled;
 pub mod emitted;
 pub mod ends;
+pub mod error_names;
 pub mod generate;
 pub mod in_memory;
 pub mod input;

@@ -4,9 +4,10 @@ ghost use Rattle.std.specs.Cow.{cow_str_bytes};
 ghost use Rattle.std.specs.Fmt.{decimal};
 ghost use Rattle.hex.specs.Hex.{encode_lower};
 ghost use Rattle.s390x_tool.specs.Emitted.{emit_text};
-ghost use Rattle.s390x_tool.specs.Lines.{line, error_name, link_error_name, operand_error_name, IsLinkRefusal, IsMade, IsOperandRefusal, IsRefusal, IsUnread};
+ghost use Rattle.s390x_tool.specs.Lines.{line, IsLinkRefusal, IsMade, IsOperandRefusal, IsRefusal, IsUnread};
 
 use crate::emitted::emitted_text;
+use crate::error_names::{emit_error_line, link_error_line, operand_error_line};
 use crate::input::InputError;
 use crate::status::Status;
 use s390x_base::{EmitError, NoMemory};
@@ -116,27 +117,7 @@ pub fn refused(error: EmitError) -> Reply
 {
     match error {
         EmitError::NoMemory => no_memory(),
-        _ => fixed(Status::Refused, cause_line(error)),
-    }
-}
-
-// The line for a refusal of emission.
-fn cause_line(error: EmitError) -> &'static str
-    ensures { result.now ≡ line (codes "refused " ++ error_name error) }
-{
-    match error {
-        EmitError::MissingFacility => "refused MissingFacility\n",
-        EmitError::BadOperator => "refused BadOperator\n",
-        EmitError::BadRegister => "refused BadRegister\n",
-        EmitError::ScratchConflict => "refused ScratchConflict\n",
-        EmitError::OffsetOutOfRange => "refused OffsetOutOfRange\n",
-        EmitError::BreakOutsideLoop => "refused BreakOutsideLoop\n",
-        EmitError::BadStackState => "refused BadStackState\n",
-        EmitError::UnboundLabel => "refused UnboundLabel\n",
-        EmitError::BadAlignment => "refused BadAlignment\n",
-        EmitError::LabelOutOfRange => "refused LabelOutOfRange\n",
-        EmitError::Failed => "refused Failed\n",
-        EmitError::NoMemory => "refused NoMemory\n",
+        _ => fixed(Status::Refused, emit_error_line(error)),
     }
 }
 
@@ -146,22 +127,7 @@ pub fn link_refused(error: LinkError) -> Reply
 {
     match error {
         LinkError::NoMemory => no_memory(),
-        _ => fixed(Status::LinkRefused, link_cause_line(error)),
-    }
-}
-
-// The line for a refusal of linking.
-fn link_cause_line(error: LinkError) -> &'static str
-    ensures { result.now ≡ line (codes "link " ++ link_error_name error) }
-{
-    match error {
-        LinkError::MisalignedBase => "link MisalignedBase\n",
-        LinkError::ImageTooHigh => "link ImageTooHigh\n",
-        LinkError::UndefinedSymbol => "link UndefinedSymbol\n",
-        LinkError::AddressOverflow => "link AddressOverflow\n",
-        LinkError::OddSymbol => "link OddSymbol\n",
-        LinkError::TooFar => "link TooFar\n",
-        LinkError::NoMemory => "link NoMemory\n",
+        _ => fixed(Status::LinkRefused, link_error_line(error)),
     }
 }
 
@@ -171,17 +137,6 @@ pub fn operands_refused(error: OperandError) -> Reply
 {
     match error {
         OperandError::NoMemory => no_memory(),
-        _ => fixed(Status::Refused, operand_cause_line(error)),
-    }
-}
-
-// The line for a refusal of operands.
-fn operand_cause_line(error: OperandError) -> &'static str
-    ensures { result.now ≡ line (codes "refused " ++ operand_error_name error) }
-{
-    match error {
-        OperandError::ReuseInLoop => "refused ReuseInLoop\n",
-        OperandError::NotReal => "refused NotReal\n",
-        OperandError::NoMemory => "refused NoMemory\n",
+        _ => fixed(Status::Refused, operand_error_line(error)),
     }
 }

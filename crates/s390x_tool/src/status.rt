@@ -25,7 +25,8 @@ pub enum Status {
     NoMemory = 9,
     /// The word to which processors add doesn't stand at a multiple of 4, or lies in their code.
     BadWord = 10,
-    /// The plan doesn't give the job registers.
+    /// What `alloc` read is the text of a job with a plan, and the plan has a fault. The line has the name and the numbers of its first one (`PlanFault` of
+    /// `s390x_alloc`), and behind `Operands` the name of what refuses them.
     PlanRefused = 11,
     /// Several functions don't stand in one image: by their names, or by the emission, the place or the linking of one of them.
     BundleRefused = 12,

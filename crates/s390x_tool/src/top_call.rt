@@ -1,5 +1,5 @@
 //! The top call.
-ghost use Rattle.std.specs.Prelude.{◌≡◌, ◌<◌, ◌⊎◌, ℕ, List, Some, None};
+ghost use Rattle.std.specs.Prelude.{◌≡◌, ◌<◌, ◌⊎◌, ℕ, List, Some, None, length};
 ghost use Rattle.s390x_commands.specs.declared.words.Command.TheVariants.{Allocate, Bundle, Generate, OnJob, Simulate};
 ghost use Rattle.s390x_commands.specs.declared.words.JobCommand.{JobCommand};
 ghost use Rattle.std.specs.Cow.{cow_str_bytes};
@@ -8,8 +8,8 @@ ghost use Rattle.s390x_tool.specs.Allocated.{IsPlanAccepted};
 ghost use Rattle.s390x_tool.specs.Answers.{IsAccepted};
 ghost use Rattle.s390x_tool.specs.Bundled.{IsBundleAccepted};
 ghost use Rattle.s390x_tool.specs.Causes.{FaultCountRose};
-ghost use Rattle.s390x_tool.specs.Ends.{IsTooLong};
-ghost use Rattle.s390x_tool.specs.Replies.{IsDelivered, IsDone, IsEnded, IsReply};
+ghost use Rattle.s390x_tool.specs.Ends.{IsTooLong, too_many};
+ghost use Rattle.s390x_tool.specs.Replies.{IsAboutInput, IsDelivered, IsDone, IsEnded, IsInputAnswer, IsReply};
 ghost use Rattle.s390x_commands.specs.Words.{IsForm, IsNoForm, texts};
 
 use crate::allocated::allocated;
@@ -80,10 +80,6 @@ fn reply_to<S: Source>(alloc: Global, words: &[String], source: &mut S) -> Reply
         return fixed(Status::Usage, "usage\n");
     };
     match command {
-        Command::OnJob(command) => match read_input(alloc, source) {
-            Ok(input) => answer(alloc, command, &input),
-            Err(error) => unread(error),
-        },
         Command::Generate { count, start } => generate(alloc, count, start),
         Command::Simulate {
             base,
@@ -92,14 +88,24 @@ fn reply_to<S: Source>(alloc: Global, words: &[String], source: &mut S) -> Reply
             steps,
             start,
         } => simulate(alloc, base, word, count, steps, start),
-        Command::Allocate => match read_input(alloc, source) {
-            Ok(input) => allocated(alloc, &input),
+        command => match read_input(alloc, source) {
+            Ok(input) => answer_to_input(alloc, command, &input),
             Err(error) => unread(error),
         },
-        Command::Bundle { base } => match read_input(alloc, source) {
-            Ok(input) => bundled(alloc, base, &input),
-            Err(error) => unread(error),
-        },
+    }
+}
+
+// The answer to a command about what the source held, and to all of that.
+fn answer_to_input(alloc: Global, command: Command, input: &[u8]) -> Reply
+    requires about { IsAboutInput command }
+    requires short { length input.now < too_many }
+    ensures { IsInputAnswer command input.now result.status (cow_str_bytes result.text) }
+{
+    match command {
+        Command::OnJob(command) => answer(alloc, command, input),
+        Command::Allocate => allocated(alloc, input),
+        Command::Bundle { base } => bundled(alloc, base, input),
+        Command::Generate { .. } | Command::Simulate { .. } => unreachable!(),
     }
 }
 
