@@ -1,11 +1,11 @@
 //! Instructions and bytes that are emitted into a buffer of the caller's.
-use s390x_base::{Cond, EmitError, TrapCode, gpr, vr, writable_gpr, writable_vr};
+use s390x_base::{
+    Cond, ConstantData, EmitError, MachLabel, TrapCode, VCodeConstant, gpr, vr, writable_gpr,
+    writable_vr,
+};
 use s390x_buffer::{MachBuffer, TrapEntry};
 use s390x_emit_int::{MachInstEmit, emit_vector, put, put_with_trap};
-use s390x_inst::{
-    ALUOp, CallConv, EmitInfo, EmitState, FrameLayout, Inst, IsaFlags, MachInstEmitState, MemArg,
-    VecInst,
-};
+use s390x_inst::{ALUOp, EmitInfo, EmitState, Inst, IsaFlags, MachInstEmitState, MemArg, VecInst};
 use std::alloc::Global;
 use std::test::Fail;
 
@@ -131,75 +131,31 @@ fn arguments_lie_below_the_frame(rt: HostRuntime) -> Result<(), Fail> {
     Ok(())
 }
 
-#[test]
-fn sizes_past_16_bits_are_subtracted(rt: HostRuntime) -> Result<(), Fail> {
-    let alloc = rt.alloc();
-    let mut sink = MachBuffer::new(alloc, 0, &[])?;
+// What refuses an instruction in a buffer of one block and a constant on a boundary of two.
+fn cause(alloc: Global, inst: Inst) -> Result<Option<EmitError>, Fail> {
+    let bytes = [1, 2].to_vec(alloc)?;
+    let mut sink = MachBuffer::new(alloc, 1, &[ConstantData { bytes, align: 2 }])?;
     let info = EmitInfo::new(IsaFlags::default());
-    for size in [32, 32767, 32768, 4294967295] {
-        let mut state = EmitState::default();
-        Inst::AllocateArgs { size }.emit(alloc, &mut sink, &info, &mut state)?;
-        assert_eq!(rt; state.nominal(), size);
-    }
     let mut state = EmitState::default();
-    state.set_nominal(32);
-    Inst::Load64 {
-        rd: writable_gpr(2),
-        mem: MemArg::SpillOffset { off: 8 },
-    }
-    .emit(alloc, &mut sink, &info, &mut state)?;
-    let code = sink.finish()?;
-    assert_eq!(rt;
-        code.bytes.as_slice(),
-        [
-            0xa7, 0xfb, 0xff, 0xe0, 0xa7, 0xfb, 0x80, 0x01, 0xc2, 0xf4, 0x00, 0x00, 0x80, 0x00,
-            0xc2, 0xf4, 0xff, 0xff, 0xff, 0xff, 0xe3, 0x20, 0xf0, 0x28, 0x00, 0x04
-        ]
-        .as_slice()
-    );
-    Ok(())
+    Ok(inst.emit(alloc, &mut sink, &info, &mut state).err())
 }
 
-/// A frame with sizes of its own for each area.
-const LAYOUT: FrameLayout = FrameLayout {
-    incoming_args_size: 16,
-    tail_args_size: 4096,
-    clobber_size: 32,
-    fixed_frame_storage_size: 8,
-    stackslots_size: 64,
-    outgoing_args_size: 128,
-    first_saved_gpr: None,
-    saved_fprs: 0,
-};
-
-// Clobbers, fixed storage, outgoing arguments and the allocated 256 bytes lie between the stack pointer and its place at the entry.
 #[test]
-fn frame_operands_lie_above_what_was_allocated(rt: HostRuntime) -> Result<(), Fail> {
-    let alloc = rt.alloc();
-    let mut sink = MachBuffer::new(alloc, 0, &[])?;
-    let mut state = EmitState::new(LAYOUT, CallConv::SystemV);
-    let info = EmitInfo::new(IsaFlags::default());
-    Inst::AllocateArgs { size: 256 }.emit(alloc, &mut sink, &info, &mut state)?;
-    for mem in [
-        MemArg::InitialSPOffset { off: 8 },
-        MemArg::IncomingArgOffset { off: 8 },
-        MemArg::SlotOffset { off: 8 },
-        MemArg::SpillOffset { off: 8 },
-        MemArg::OutgoingArgOffset { off: 8 },
-    ] {
-        let rd = writable_gpr(2);
-        Inst::Load64 { rd, mem }.emit(alloc, &mut sink, &info, &mut state)?;
-    }
-    assert_eq!(rt; state.nominal(), 256);
-    let code = sink.finish()?;
-    assert_eq!(rt;
-        code.bytes.as_slice(),
-        [
-            0xa7, 0xfb, 0xff, 0x00, 0xe3, 0x20, 0xf1, 0xb0, 0x00, 0x04, 0xe3, 0x20, 0xf2, 0x60,
-            0x00, 0x04, 0xe3, 0x20, 0xf1, 0x88, 0x00, 0x04, 0xe3, 0x20, 0xf1, 0xc8, 0x00, 0x04,
-            0xe3, 0x20, 0xf0, 0xa8, 0x00, 0x04
-        ]
-        .as_slice()
-    );
+fn blocks_and_constants_of_a_buffer_are_operands(rt: HostRuntime) -> Result<(), Fail> {
+    let rd = writable_gpr(2);
+    let block = Inst::Load64SExt16 {
+        rd,
+        mem: MemArg::Label {
+            target: MachLabel(0),
+        },
+    };
+    assert_eq!(rt; cause(rt.alloc(), block)?, None);
+    let constant = Inst::Load64 {
+        rd,
+        mem: MemArg::Constant {
+            constant: VCodeConstant(0),
+        },
+    };
+    assert_eq!(rt; cause(rt.alloc(), constant)?, Some(EmitError::BadAlignment));
     Ok(())
 }

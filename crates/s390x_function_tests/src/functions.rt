@@ -1,130 +1,61 @@
-//! Whole functions: branches, constants, and what is refused.
+//! Whole functions: where their steps start, their images, and what is refused.
 
-use s390x_base::{Cond, ConstantData, EmitError, MachLabel, gpr, writable_gpr};
+use s390x_base::{EmitError, ExternalName};
 use s390x_buffer::MachBufferFinalized;
-use s390x_emit_int::emit_function;
-use s390x_image::{SymbolTable, link};
-use s390x_inst::{ALUOp, AllocatedFunction, Block, EmitInfo, EmitState, Inst, IsaFlags};
+use s390x_emit_int::{ImageError, emit_function, emit_image};
+use s390x_image::{LinkError, SymbolTable, link};
+use s390x_job::{Job, read_lines};
 use std::alloc::Global;
+use std::process::Abort;
 use std::test::Fail;
 
-// The first block has one instruction; two more return.
-fn with_returns(alloc: Global, inst: Inst) -> Result<Result<MachBufferFinalized, EmitError>, Fail> {
-    let mut first = Vec::new(alloc);
-    first.push(inst)?;
-    let mut blocks = Vec::new(alloc);
-    blocks.push(Block { insts: first })?;
-    for _block in 0..2 {
-        let mut insts = Vec::new(alloc);
-        insts.push(Inst::Ret { link: gpr(14) })?;
-        blocks.push(Block { insts })?;
+fn read(alloc: Global, text: &str) -> Result<Job, Fail> {
+    let bytes = text.as_bytes();
+    if bytes.len() > 1000 {
+        return Err(Fail::from("the text is long"));
     }
-    let function = AllocatedFunction {
-        blocks,
-        constants: Vec::new(alloc),
-    };
-    let info = EmitInfo::new(IsaFlags::default());
-    Ok(emit_function(alloc, &function, &info, EmitState::default()))
+    Ok(read_lines(alloc, bytes)?)
 }
 
-fn cause(alloc: Global, inst: Inst) -> Result<Option<EmitError>, Fail> {
-    match with_returns(alloc, inst)? {
-        Ok(_) => Ok(None),
-        Err(error) => Ok(Some(error)),
-    }
+// The code of a job's function, or why it is refused.
+fn emit(alloc: Global, text: &str) -> Result<Result<MachBufferFinalized, EmitError>, Fail> {
+    let job = read(alloc, text)?;
+    Ok(emit_function(alloc, &job.function, &job.info, job.state))
 }
 
-#[test]
-fn branches_lead_to_blocks(rt: HostRuntime) -> Result<(), Fail> {
-    let cond = Cond::from_mask(8);
-    let code = with_returns(
-        rt.alloc(),
-        Inst::CondBr {
-            taken: MachLabel(1),
-            not_taken: MachLabel(2),
-            cond,
-        },
-    )??;
-    assert_eq!(rt;
-        code.bytes.as_slice(),
-        [0xc0, 0x74, 0, 0, 0, 4, 0x07, 0xfe, 0x07, 0xfe].as_slice()
-    );
-    assert_eq!(rt; code.block_starts.as_slice(), [0, 6, 8].as_slice());
-    assert_eq!(rt; code.starts.as_slice(), [0, 6, 8].as_slice());
-    let code = with_returns(rt.alloc(), Inst::Jump { dest: MachLabel(0) })??;
-    assert_eq!(rt;
-        code.bytes.as_slice(),
-        [0xc0, 0xf4, 0, 0, 0, 0, 0x07, 0xfe, 0x07, 0xfe].as_slice()
-    );
+/// A job, and where the steps of its code start, those without bytes among them.
+#[rattlefmt::skip]
+const STARTS: [(&str, &[u32]); 6] = [
+    ("block\nCondBr 1 2 8\nblock\nRet %r14\nblock\nRet %r14\nend\n", &[0, 6, 8]),
+    ("block\nCall %r14 u1 [] [] [] 0 SystemV SystemV 1[7:2,*:2] false -\nblock\nRet %r14\nblock\nRet %r14\nend\n", &[0, 6, 6, 8]),
+    ("block\nAllocateArgs 32\nCall %r14 u1 [] [%r2=@8:I64,%r3=%r3:I64,%r4=@16:I64] [] 32 SystemV SystemV - false -\nRet %r14\nend\n", &[0, 4, 10, 16, 22]),
+    ("block\nAllocateArgs 32\nCall %r14 u1 [] [%r2=@8:I64,%r3=%r3:I64,%r4=@16:I64] [] 32 SystemV SystemV - true -\nRet %r14\nend\n", &[0, 4, 10]),
+    ("block\nReturnCall u1 [] 0\nend\n", &[0, 0, 4]),
+    ("frame SystemV 0 0 8 40 0 160 6 256\nblock\nReturnCall %r6 [] 0\nend\n", &[0, 0, 4, 8, 14, 18]),
+];
+
+fn expect_starts<R: Abort + AllocGlobal>(rt: &R, rows: &[(&str, &[u32])]) -> Result<(), Fail> {
+    for (text, starts) in rows {
+        let code = emit(rt.alloc(), text)??;
+        assert_eq!(rt; code.starts.as_slice(), *starts, "{text}");
+    }
     Ok(())
 }
 
 #[test]
-fn functions_are_refused_by_their_cause(rt: HostRuntime) -> Result<(), Fail> {
-    let cond = Cond::from_mask(8);
-    let alloc = rt.alloc();
-    let taken = cause(
-        alloc,
-        Inst::CondBr {
-            taken: MachLabel(1),
-            not_taken: MachLabel(3),
-            cond,
-        },
-    )?;
-    assert_eq!(rt; taken, Some(EmitError::UnboundLabel));
-    assert_eq!(rt;
-        cause(alloc, Inst::Ret { link: gpr(0) })?,
-        Some(EmitError::BadRegister)
-    );
-    let mut targets = Vec::new(alloc);
-    targets.push(MachLabel(7))?;
-    assert_eq!(rt;
-        cause(
-            alloc,
-            Inst::IndirectBr {
-                rn: gpr(0),
-                targets
-            }
-        )?,
-        Some(EmitError::BadRegister)
-    );
-    assert_eq!(rt;
-        cause(alloc, Inst::CondBreak { cond })?,
-        Some(EmitError::BreakOutsideLoop)
-    );
-    Ok(())
+fn steps_start_where_those_before_them_end(rt: HostRuntime) -> Result<(), Fail> {
+    expect_starts(&rt, &STARTS)
 }
+
+/// A move, an addition, a return, and two constants behind them.
+const CONSTANTS: &str =
+    "const 2 0a0b\nconst 8 01\nblock\nMov64 %r2 %r3\nAluRRR Add64 %r2 %r2 %r4\nRet %r14\nend\n";
 
 #[test]
 fn constants_stand_in_the_image(rt: HostRuntime) -> Result<(), Fail> {
     let alloc = rt.alloc();
-    let mut insts = Vec::new(alloc);
-    insts.push(Inst::Mov64 {
-        rd: writable_gpr(2),
-        rm: gpr(3),
-    })?;
-    insts.push(Inst::AluRRR {
-        alu_op: ALUOp::Add64,
-        rd: writable_gpr(2),
-        rn: gpr(2),
-        rm: gpr(4),
-    })?;
-    insts.push(Inst::Ret { link: gpr(14) })?;
-    let mut blocks = Vec::new(alloc);
-    blocks.push(Block { insts })?;
-    let mut constants = Vec::new(alloc);
-    constants.push(ConstantData {
-        bytes: [0x0a, 0x0b].to_vec(alloc)?,
-        align: 2,
-    })?;
-    constants.push(ConstantData {
-        bytes: [1].to_vec(alloc)?,
-        align: 8,
-    })?;
-    let function = AllocatedFunction { blocks, constants };
-    let info = EmitInfo::new(IsaFlags::default());
-    let code = emit_function(alloc, &function, &info, EmitState::default())?;
-    assert_eq!(rt; code.alignment, 8);
+    let job = read(alloc, CONSTANTS)?;
+    let code = emit_function(alloc, &job.function, &job.info, job.state)?;
     assert_eq!(rt; code.constant_starts.as_slice(), [10, 16].as_slice());
     assert_eq!(rt; code.relocs.len(), 0);
     let image = link(alloc, &code, 4096, &SymbolTable::new(alloc))?;
@@ -135,5 +66,40 @@ fn constants_stand_in_the_image(rt: HostRuntime) -> Result<(), Fail> {
         ]
         .as_slice()
     );
+    Ok(())
+}
+
+// The image at a base of a call of a symbol at 8192, or why there is none.
+fn called(alloc: Global, base: u64) -> Result<Result<Vec<u8>, ImageError>, Fail> {
+    let job = read(
+        alloc,
+        "block\nCall %r14 u1 [] [] [] 0 SystemV SystemV - false -\nend\n",
+    )?;
+    let mut symbols = SymbolTable::new(alloc);
+    symbols.insert(ExternalName(1), 8192)?;
+    match emit_image(alloc, &job.function, &job.info, job.state, base, &symbols) {
+        Ok(image) => Ok(Ok(image.bytes)),
+        Err(error) => Ok(Err(error)),
+    }
+}
+
+#[test]
+fn a_call_stands_in_the_image(rt: HostRuntime) -> Result<(), Fail> {
+    let alloc = rt.alloc();
+    assert_eq!(rt;
+        called(alloc, 4096)??.as_slice(),
+        [0xc0, 0xe5, 0, 0, 0x08, 0].as_slice()
+    );
+    assert_eq!(rt;
+        called(alloc, 4098)?.err(),
+        Some(ImageError::Link(LinkError::MisalignedBase))
+    );
+    Ok(())
+}
+
+#[test]
+fn a_function_is_refused_by_its_cause(rt: HostRuntime) -> Result<(), Fail> {
+    let refused = emit(rt.alloc(), "block\nRet %r0\nend\n")?;
+    assert_eq!(rt; refused.err(), Some(EmitError::BadRegister));
     Ok(())
 }

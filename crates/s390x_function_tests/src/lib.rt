@@ -1,4 +1,4 @@
-//! Tests of emission: expected bytes and refusals were written down before the program was.
+//! Tests of emission: of the calls that emit, and of what no text of the program shows.
 #![tactic(auto)]
 
 #[cfg(test)]
@@ -7,5 +7,3 @@ mod calls;
 mod emit;
 #[cfg(test)]
 mod functions;
-#[cfg(test)]
-mod relative;

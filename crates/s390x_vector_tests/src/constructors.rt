@@ -1,7 +1,6 @@
 //! The loads and stores of floating-point values that the constructors make, emitted: the bytes are llvm-mc's.
 
-use crate::bytes::{vector, writable_vector};
-use s390x_base::{MachMemFlags, ValueType, gpr};
+use s390x_base::{MachMemFlags, ValueType, gpr, vr, writable_vr};
 use s390x_buffer::MachBuffer;
 use s390x_emit_int::MachInstEmit;
 use s390x_inst::{EmitInfo, EmitState, Inst, IsaFlags, MemArg};
@@ -38,12 +37,12 @@ fn emitted(alloc: Global, inst: &Inst) -> Result<u64, Fail> {
 
 fn load(number: u8, kind: ValueType) -> Option<Inst> {
     let mem = MemArg::reg_plus_off(gpr(3), 8, MachMemFlags::trusted());
-    Inst::gen_load(writable_vector(number), mem, kind)
+    Inst::gen_load(writable_vr(number % 32), mem, kind)
 }
 
 fn store(number: u8, kind: ValueType) -> Option<Inst> {
     let mem = MemArg::reg_plus_off(gpr(3), 8, MachMemFlags::trusted());
-    Inst::gen_store(mem, vector(number), kind)
+    Inst::gen_store(mem, vr(number % 32), kind)
 }
 
 fn has_its_bytes<R: Abort + AllocGlobal>(
