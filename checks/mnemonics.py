@@ -1,0 +1,98 @@
+#!/usr/bin/env python3
+"""Lists the mnemonics of s390x_row_text that the input of s390x_text_tests expects nowhere: nothing else ties them to the manual.
+
+    checks/mnemonics.py
+
+A mnemonic of a table has to be expected of a job of one instruction, which has the operator of its row and the form of operands of its
+column; any other mnemonic in the sources has to be expected somewhere. It ends with 0 where all are, and else with 1.
+"""
+import glob
+import os
+import re
+import sys
+
+CRATES = os.path.join(os.path.dirname(os.path.dirname(os.path.abspath(__file__))), "crates")
+SOURCES = os.path.join(CRATES, "s390x_row_text", "src")
+# The instructions whose texts read a table, one for each of its columns; none where they are named as the rows.
+READERS = {
+    "ALU_MNEMONICS": ["AluRRR", "AluRR", "AluRSImm16", "AluRRSImm16", "AluRSImm32", "AluRUImm32", "AluRX", "AluRX", "AtomicRmw"],
+    "CMP_MNEMONICS":
+        ["CmpRR", "CmpRSImm16", "CmpRSImm32", "CmpRUImm32", "CmpRX", "CmpRX", "CmpTrapRR", "CmpTrapRSImm16", "CmpTrapRUImm16"],
+    "CMP_RELATIVE_MNEMONICS": ["CmpRX"],
+    "LOAD_MNEMONICS": [None, None, None],
+    "SHIFT_MNEMONICS": ["ShiftRR"],
+    "ROTATE_MNEMONICS": ["RxSBG"],
+    "UNARY_MNEMONICS": ["UnaryRR"],
+    "VEC_BINARY_MNEMONICS": ["VecRRR"],
+    "VEC_UNARY_MNEMONICS": ["VecRR"],
+    "VEC_SHIFT_MNEMONICS": ["VecShiftRR"],
+    "VEC_COMPARE_MNEMONICS": ["VecIntCmp"],
+    "VEC_COMPARE_SET_MNEMONICS": ["VecIntCmpS"],
+    "VEC_ELEMENT_COMPARE_MNEMONICS": ["VecIntEltCmp"],
+}
+# What stands behind a mnemonic with a condition, and the mnemonics that have one.
+CONDITIONS = "o h nle l nhe lh ne e nlh he nl le nh no".split()
+CONDITIONAL = "crt cgrt clrt clgrt cit cgit clfit clgit locr locgr lochi locghi".split()
+# Strings in the sources that are no mnemonics: conditions, and the words of operands and labels.
+OTHERS = CONDITIONS + ["j", "label", "tag", "u"]
+
+
+class Expected:
+    """What the input of the tests expects."""
+
+    def __init__(self):
+        self.mnemonics = set()  # of any instruction
+        self.told = set()  # instruction, operator and mnemonic of jobs of one instruction
+        with open(os.path.join(CRATES, "s390x_text_tests", "stdin")) as file:
+            for line in file:
+                if "\t" in line:
+                    self.add(*line.rstrip("\n").split("\t"))
+
+    def add(self, job, texts):
+        mnemonics = {text.split(" ")[0] for text in re.split(" ; | / ", texts.removeprefix("~ "))}
+        mnemonics |= {name for name in CONDITIONAL for condition in CONDITIONS if name + condition in mnemonics}
+        self.mnemonics |= mnemonics
+        members = [part for part in job.split(" / ") if part.split(" ")[0] not in ("flags", "frame", "block", "end")]
+        if len(members) == 1:
+            name, operator = (members[0] + " ").split(" ")[:2]
+            self.told |= {(name, operator, mnemonic) for mnemonic in mnemonics}
+            self.told |= {(name, "", mnemonic) for mnemonic in mnemonics}
+
+
+def table_entries():
+    """The mnemonics of the tables: where each stands, its instruction, its operator and the mnemonic."""
+    for path in sorted(glob.glob(os.path.join(SOURCES, "*mnemonics.rt"))):
+        with open(path) as file:
+            tables = re.findall(r"^pub const (\w+): [^=]* = &?\[\n(.*?)^\];", file.read(), re.S | re.M)
+        for table, rows in tables:
+            for row in rows.splitlines():
+                operator = re.match(r" *\(\w+::(\w+),", row).group(1)
+                for name, mnemonic in zip(READERS[table], re.findall(r'"(\w*)"', row), strict=True):
+                    if mnemonic:
+                        yield table, (name, operator, mnemonic) if name else (operator, "", mnemonic)
+
+
+def other_mnemonics():
+    """The mnemonics that stand in no table."""
+    found = set()
+    for path in glob.glob(os.path.join(SOURCES, "*.rt")):
+        if not path.endswith("mnemonics.rt"):
+            with open(path) as file:
+                found.update(re.findall(r'"([a-z][a-z0-9]*)"', file.read()))
+    return sorted(found.difference(OTHERS))
+
+
+def main():
+    expected = Expected()
+    entries, others = list(table_entries()), other_mnemonics()
+    missing = [f"{table}: {mnemonic} of {name} {operator}".rstrip() for table, (name, operator, mnemonic) in entries
+               if (name, operator, mnemonic) not in expected.told]
+    missing += [f"in no table: {mnemonic}" for mnemonic in others if mnemonic not in expected.mnemonics]
+    for line in missing:
+        print("MISSING", line)
+    print(f"{len(entries)} mnemonics in tables, {len(others)} others, {len(missing)} missing")
+    return 1 if missing else 0
+
+
+if __name__ == "__main__":
+    sys.exit(main())
