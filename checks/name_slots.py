@@ -10,15 +10,26 @@ from collections import defaultdict
 
 SLOTS = 512
 MULTIPLIER = 5
-SOURCES = pathlib.Path(__file__).parent.parent / "crates/s390x_lines/src"
+CRATES = pathlib.Path(__file__).parent.parent / "crates"
+SOURCES = CRATES / "s390x_lines/src"
+LOADS = CRATES / "s390x_inst/src/load.rt"
+
+
+def load_operators():
+    source = LOADS.read_text()
+    table = source[source.index("pub enum LoadOp {"):]
+    return [f"LoadOp::{name}" for name in re.findall(r"\n    (\w+),", table[:table.index("}")])]
 
 
 def all_names():
     names = (SOURCES / "name.rt").read_text()
     texts = dict(re.findall(r'(\w+Name::\w+) => "(\w+)"', (SOURCES / "inst_name.rt").read_text() + names))
+    # the names of loads stand in the order of `LoadOp`
+    loads = re.findall(r'    "(\w+)",', (SOURCES / "load_names.rt").read_text())
+    texts |= dict(zip(load_operators(), loads, strict=True))
     table = names[names.index("pub const ALL_NAMES"):]
     table = table[table.index("\n"):table.index("];")]
-    return [texts[item] for item in re.findall(r"(?:LineName::\w+\()?(\w+Name::\w+)\)?,", table)]
+    return [texts[item] for item in re.findall(r"(?:LineName::\w+\()?(\w+Name::\w+|LoadOp::\w+)\)?,", table)]
 
 
 def mix(name):

@@ -5,8 +5,9 @@ use Rattle.s390x_inst.specs.declared.args.MemArg.{MemArg}
 use Rattle.s390x_inst.specs.declared.args.MemArg.TheVariants.{Label}
 use Rattle.s390x_inst.specs.declared.inst.Inst.{Inst}
 use Rattle.s390x_inst.specs.declared.inst.Inst.TheVariants.{Jump, CondBr, IndirectBr, JTSequence, Ret, ReturnCall, Trap, Call, LabelAddress, Vector}
-use Rattle.s390x_inst.specs.declared.inst.Inst.TheVariants.{AluRX, CmpRX, Load32, Load32ZExt8, Load32SExt8, Load32ZExt16, Load32SExt16, Load64, Load64ZExt8, Load64SExt8, Load64ZExt16, Load64SExt16, Load64ZExt32, Load64SExt32, LoadRev16, LoadRev32, LoadRev64}
+use Rattle.s390x_inst.specs.declared.inst.Inst.TheVariants.{AluRX, CmpRX}
 use Rattle.s390x_inst.specs.declared.inst.Inst.TheVariants.{Store8, Store16, Store32, Store64, StoreRev16, StoreRev32, StoreRev64, StoreImm8, StoreImm16, StoreImm32SExt16, StoreImm64SExt16, LoadMultiple64, StoreMultiple64, LoadAddr, AtomicRmw, AtomicCas32, AtomicCas64}
+use Rattle.s390x_inst.specs.Loads.{as_load, by_load}
 use Rattle.s390x_inst.specs.declared.vec_inst.VecInst.{VecInst}
 use Rattle.s390x_inst.specs.declared.vec_inst.VecInst.TheVariants.{VecLoad, VecLoadRev, VecLoadByte16Rev, VecLoadByte32Rev, VecLoadByte64Rev, VecLoadElt16Rev, VecLoadElt32Rev, VecLoadElt64Rev, VecStore, VecStoreRev, VecStoreByte16Rev, VecStoreByte32Rev, VecStoreByte64Rev}
 use Rattle.s390x_inst.specs.declared.vec_inst.VecInst.TheVariants.{VecStoreElt16Rev, VecStoreElt32Rev, VecStoreElt64Rev, VecLoadReplicate, VecLoadReplicateRev, VecLoadLane, VecLoadLaneRev, VecLoadLaneUndef, VecLoadLaneRevUndef, VecStoreLane, VecStoreLaneRev}
@@ -99,44 +100,33 @@ vector_memory (VecStoreLane size rd mem lane_imm) = Some mem
 vector_memory (VecStoreLaneRev size rd mem lane_imm) = Some mem
 vector_memory v = None
 
+-- the operand in memory of an instruction that is no load of one register
+abbrev pub other_operand : Inst → Option MemArg
+other_operand (AluRX alu_op rd ri mem) = Some mem
+other_operand (CmpRX op rn mem) = Some mem
+other_operand (Store8 rd mem) = Some mem
+other_operand (Store16 rd mem) = Some mem
+other_operand (Store32 rd mem) = Some mem
+other_operand (Store64 rd mem) = Some mem
+other_operand (StoreRev16 rd mem) = Some mem
+other_operand (StoreRev32 rd mem) = Some mem
+other_operand (StoreRev64 rd mem) = Some mem
+other_operand (StoreImm8 imm mem) = Some mem
+other_operand (StoreImm16 imm mem) = Some mem
+other_operand (StoreImm32SExt16 imm mem) = Some mem
+other_operand (StoreImm64SExt16 imm mem) = Some mem
+other_operand (LoadMultiple64 rt rt2 mem) = Some mem
+other_operand (StoreMultiple64 rt rt2 mem) = Some mem
+other_operand (LoadAddr rd mem) = Some mem
+other_operand (AtomicRmw alu_op rd rn mem) = Some mem
+other_operand (AtomicCas32 rd ri rn mem) = Some mem
+other_operand (AtomicCas64 rd ri rn mem) = Some mem
+other_operand (Vector v) = vector_memory v
+other_operand i = None
+
 -- the operand in memory of an instruction
 abbrev pub memory_operand : Inst → Option MemArg
-memory_operand (AluRX alu_op rd ri mem) = Some mem
-memory_operand (CmpRX op rn mem) = Some mem
-memory_operand (Load32 rd mem) = Some mem
-memory_operand (Load32ZExt8 rd mem) = Some mem
-memory_operand (Load32SExt8 rd mem) = Some mem
-memory_operand (Load32ZExt16 rd mem) = Some mem
-memory_operand (Load32SExt16 rd mem) = Some mem
-memory_operand (Load64 rd mem) = Some mem
-memory_operand (Load64ZExt8 rd mem) = Some mem
-memory_operand (Load64SExt8 rd mem) = Some mem
-memory_operand (Load64ZExt16 rd mem) = Some mem
-memory_operand (Load64SExt16 rd mem) = Some mem
-memory_operand (Load64ZExt32 rd mem) = Some mem
-memory_operand (Load64SExt32 rd mem) = Some mem
-memory_operand (LoadRev16 rd mem) = Some mem
-memory_operand (LoadRev32 rd mem) = Some mem
-memory_operand (LoadRev64 rd mem) = Some mem
-memory_operand (Store8 rd mem) = Some mem
-memory_operand (Store16 rd mem) = Some mem
-memory_operand (Store32 rd mem) = Some mem
-memory_operand (Store64 rd mem) = Some mem
-memory_operand (StoreRev16 rd mem) = Some mem
-memory_operand (StoreRev32 rd mem) = Some mem
-memory_operand (StoreRev64 rd mem) = Some mem
-memory_operand (StoreImm8 imm mem) = Some mem
-memory_operand (StoreImm16 imm mem) = Some mem
-memory_operand (StoreImm32SExt16 imm mem) = Some mem
-memory_operand (StoreImm64SExt16 imm mem) = Some mem
-memory_operand (LoadMultiple64 rt rt2 mem) = Some mem
-memory_operand (StoreMultiple64 rt rt2 mem) = Some mem
-memory_operand (LoadAddr rd mem) = Some mem
-memory_operand (AtomicRmw alu_op rd rn mem) = Some mem
-memory_operand (AtomicCas32 rd ri rn mem) = Some mem
-memory_operand (AtomicCas64 rd ri rn mem) = Some mem
-memory_operand (Vector v) = vector_memory v
-memory_operand i = None
+memory_operand i = by_load (λ l. Some l.mem) (other_operand i) (as_load i)
 
 -- the label of an operand in memory
 abbrev pub memory_labels : Option MemArg → List MachLabel

@@ -1,6 +1,6 @@
 //! Operands in memory.
 ghost use Rattle.std.specs.Prelude.{◌≡◌};
-ghost use Rattle.s390x_alloc.specs.Shape.{memory_operand, vector_memory};
+ghost use Rattle.s390x_alloc.specs.Shape.{memory_operand, other_operand, vector_memory};
 
 use s390x_inst::{Inst, MemArg, VecInst};
 
@@ -37,28 +37,13 @@ fn vector_memory(inst: &VecInst) -> Option<MemArg>
     }
 }
 
-/// The operand in memory of an instruction, where it has one.
-pub fn memory_operand(inst: &Inst) -> Option<MemArg>
-    ensures { result ≡ memory_operand inst.now }
+// The operand in memory of an instruction that is no load of one register.
+fn other_operand(inst: &Inst) -> Option<MemArg>
+    ensures { result ≡ other_operand inst.now }
 {
     match inst {
         Inst::AluRX { mem, .. }
         | Inst::CmpRX { mem, .. }
-        | Inst::Load32 { mem, .. }
-        | Inst::Load32ZExt8 { mem, .. }
-        | Inst::Load32SExt8 { mem, .. }
-        | Inst::Load32ZExt16 { mem, .. }
-        | Inst::Load32SExt16 { mem, .. }
-        | Inst::Load64 { mem, .. }
-        | Inst::Load64ZExt8 { mem, .. }
-        | Inst::Load64SExt8 { mem, .. }
-        | Inst::Load64ZExt16 { mem, .. }
-        | Inst::Load64SExt16 { mem, .. }
-        | Inst::Load64ZExt32 { mem, .. }
-        | Inst::Load64SExt32 { mem, .. }
-        | Inst::LoadRev16 { mem, .. }
-        | Inst::LoadRev32 { mem, .. }
-        | Inst::LoadRev64 { mem, .. }
         | Inst::Store8 { mem, .. }
         | Inst::Store16 { mem, .. }
         | Inst::Store32 { mem, .. }
@@ -78,5 +63,15 @@ pub fn memory_operand(inst: &Inst) -> Option<MemArg>
         | Inst::AtomicCas64 { mem, .. } => Some(*mem),
         Inst::Vector(inst) => vector_memory(inst),
         _ => None,
+    }
+}
+
+/// The operand in memory of an instruction, where it has one.
+pub fn memory_operand(inst: &Inst) -> Option<MemArg>
+    ensures { result ≡ memory_operand inst.now }
+{
+    match inst.as_load() {
+        Some(load) => Some(load.mem),
+        None => other_operand(inst),
     }
 }

@@ -1,11 +1,15 @@
 -- The lines of an instruction with other registers: their fields lie in their ranges, where the instruction's do and the registers do.
-use Rattle.std.proofs.Common.{ℕ, zero, suc, List, [], ◌∷◌, drop}
+use Rattle.std.proofs.Common.{ℕ, zero, suc, Option, Some, None, List, [], ◌∷◌, drop}
 use Rattle.s390x_base.specs.declared.regs.Reg.{Reg}
 use Rattle.s390x_base.specs.declared.regs.Reg.TheVariants.{Real, Virtual}
 use Rattle.s390x_base.specs.declared.regs.RegPair.{RegPair}
 use Rattle.s390x_base.specs.declared.regs.WritableRegPair.{WritableRegPair}
 use Rattle.s390x_inst.specs.declared.args.MemArg.{MemArg}
 use Rattle.s390x_inst.specs.declared.args.MemArg.TheVariants.{BXD12, BXD20, RegOffset}
+use Rattle.s390x_inst.specs.declared.load.Load.{Load}
+use Rattle.s390x_inst.specs.declared.load.LoadOp.{LoadOp}
+use Rattle.s390x_inst.specs.declared.load.LoadOp.TheVariants as LoadOps
+use Rattle.s390x_inst.specs.Loads.{as_load, by_load, load_instruction}
 use Rattle.s390x_inst.specs.declared.inst.Inst.{Inst}
 use Rattle.s390x_inst.specs.declared.inst.Inst.TheVariants as I
 use Rattle.s390x_inst.specs.declared.vec_inst.VecInst.{VecInst}
@@ -15,7 +19,7 @@ use Rattle.s390x_words.specs.Lists.{AllItems}
 use Rattle.s390x_words.specs.Memory.{IsMemory}
 use Rattle.s390x_lines.specs.Instructions.{inst_line, vector_line}
 use Rattle.s390x_lines.specs.Line.{AllFields}
-use Rattle.s390x_assign.specs.Assignments.{after, assigned_control, assigned_move, assigned_operator, assigned_register_vector, assigned_storage, assigned_vector, dividend_at, memory_at, operand_at, pair_at, register_at}
+use Rattle.s390x_assign.specs.Assignments.{after, assigned_control, assigned_move, assigned_operator, assigned_register_vector, assigned_storage, assigned_store, with_one_and_memory, assigned_vector, dividend_at, memory_at, operand_at, pair_at, register_at}
 
 -- all of them lie in their ranges
 abbrev pub Regs : List Reg → Type 0
@@ -124,42 +128,43 @@ control_fields (I.DummyUse reg) s h k = ((at reg s h.0 k, tt), left reg s k)
 control_fields (I.Vector v) s h k = vector_fields v s h k
 control_fields i s h k = (h, k)
 
+store_fields : (i : Inst) (s : List Reg) → AllFields (inst_line i).fields → Regs s → AllFields (inst_line (assigned_store i s).0).fields × Regs (assigned_store i s).1
+store_fields (I.Store8 rd mem) s h k = ((at rd s h.0 k, (memory mem (after rd s) h.1.0 (left rd s k), tt)), memory_left mem (after rd s) (left rd s k))
+store_fields (I.Store16 rd mem) s h k = ((at rd s h.0 k, (memory mem (after rd s) h.1.0 (left rd s k), tt)), memory_left mem (after rd s) (left rd s k))
+store_fields (I.Store32 rd mem) s h k = ((at rd s h.0 k, (memory mem (after rd s) h.1.0 (left rd s k), tt)), memory_left mem (after rd s) (left rd s k))
+store_fields (I.Store64 rd mem) s h k = ((at rd s h.0 k, (memory mem (after rd s) h.1.0 (left rd s k), tt)), memory_left mem (after rd s) (left rd s k))
+store_fields (I.StoreRev16 rd mem) s h k = ((at rd s h.0 k, (memory mem (after rd s) h.1.0 (left rd s k), tt)), memory_left mem (after rd s) (left rd s k))
+store_fields (I.StoreRev32 rd mem) s h k = ((at rd s h.0 k, (memory mem (after rd s) h.1.0 (left rd s k), tt)), memory_left mem (after rd s) (left rd s k))
+store_fields (I.StoreRev64 rd mem) s h k = ((at rd s h.0 k, (memory mem (after rd s) h.1.0 (left rd s k), tt)), memory_left mem (after rd s) (left rd s k))
+store_fields (I.StoreImm8 imm mem) s h k = ((h.0, (memory mem s h.1.0 k, tt)), memory_left mem s k)
+store_fields (I.StoreImm16 imm mem) s h k = ((h.0, (memory mem s h.1.0 k, tt)), memory_left mem s k)
+store_fields (I.StoreImm32SExt16 imm mem) s h k = ((h.0, (memory mem s h.1.0 k, tt)), memory_left mem s k)
+store_fields (I.StoreImm64SExt16 imm mem) s h k = ((h.0, (memory mem s h.1.0 k, tt)), memory_left mem s k)
+store_fields (I.LoadMultiple64 rt rt2 mem) s h k = ((h.0, (h.1.0, (memory mem s h.1.1.0 k, tt))), memory_left mem s k)
+store_fields (I.StoreMultiple64 rt rt2 mem) s h k = ((h.0, (h.1.0, (memory mem s h.1.1.0 k, tt))), memory_left mem s k)
+store_fields (I.LoadAddr rd mem) s h k = ((at rd s h.0 k, (memory mem (after rd s) h.1.0 (left rd s k), tt)), memory_left mem (after rd s) (left rd s k))
+store_fields (I.LoadIndexedAddr rd base index offset size) s h k = ((at rd s h.0 k, (at base (after rd s) h.1.0 (left rd s k), (at index (after base (after rd s)) h.1.1.0 (left base (after rd s) (left rd s k)), (h.1.1.1.0, (h.1.1.1.1.0, tt))))), left index (after base (after rd s)) (left base (after rd s) (left rd s k)))
+store_fields (I.LoadLogicalIndexedAddr rd base index offset size) s h k = ((at rd s h.0 k, (at base (after rd s) h.1.0 (left rd s k), (at index (after base (after rd s)) h.1.1.0 (left base (after rd s) (left rd s k)), (h.1.1.1.0, (h.1.1.1.1.0, tt))))), left index (after base (after rd s)) (left base (after rd s) (left rd s k)))
+store_fields (I.AtomicRmw alu_op rd rn mem) s h k = ((h.0, (at rd s h.1.0 k, (at rn (after rd s) h.1.1.0 (left rd s k), (memory mem (after rn (after rd s)) h.1.1.1.0 (left rn (after rd s) (left rd s k)), tt)))), memory_left mem (after rn (after rd s)) (left rn (after rd s) (left rd s k)))
+store_fields (I.AtomicCas32 rd ri rn mem) s h k = ((at rd s h.0 k, (at ri (after rd s) h.1.0 (left rd s k), (at rn (after ri (after rd s)) h.1.1.0 (left ri (after rd s) (left rd s k)), (memory mem (after rn (after ri (after rd s))) h.1.1.1.0 (left rn (after ri (after rd s)) (left ri (after rd s) (left rd s k))), tt)))), memory_left mem (after rn (after ri (after rd s))) (left rn (after ri (after rd s)) (left ri (after rd s) (left rd s k))))
+store_fields (I.AtomicCas64 rd ri rn mem) s h k = ((at rd s h.0 k, (at ri (after rd s) h.1.0 (left rd s k), (at rn (after ri (after rd s)) h.1.1.0 (left ri (after rd s) (left rd s k)), (memory mem (after rn (after ri (after rd s))) h.1.1.1.0 (left rn (after ri (after rd s)) (left ri (after rd s) (left rd s k))), tt)))), memory_left mem (after rn (after ri (after rd s))) (left rn (after ri (after rd s)) (left ri (after rd s) (left rd s k))))
+store_fields i s h k = control_fields i s h k
+
+-- a load: the last clause is a copy for each
+load_fields : (op : LoadOp) (rd : Reg) (mem : MemArg) (s : List Reg) → AllFields (inst_line (load_instruction op rd mem)).fields → Regs s →
+    AllFields (inst_line (with_one_and_memory (load_instruction op) rd mem s).0).fields × Regs (with_one_and_memory (load_instruction op) rd mem s).1
+load_fields LoadOps.Load64 rd mem s h k = ((at rd s h.0 k, (memory mem (after rd s) h.1.0 (left rd s k), tt)), memory_left mem (after rd s) (left rd s k))
+load_fields op rd mem s h k = ((at rd s h.0 k, (memory mem (after rd s) h.1.0 (left rd s k), tt)), memory_left mem (after rd s) (left rd s k))
+
+load_or_store : (i : Inst) (s : List Reg) (o : Option Load) → AllFields (inst_line (by_load (λ l. load_instruction l.op l.rd l.mem) i o)).fields → Regs s →
+    AllFields (inst_line (by_load (λ l. with_one_and_memory (load_instruction l.op) l.rd l.mem s) (assigned_store i s) o).0).fields × Regs (by_load (λ l. with_one_and_memory (load_instruction l.op) l.rd l.mem s) (assigned_store i s) o).1
+load_or_store i s None h k = store_fields i s h k
+load_or_store i s (Some l) h k = load_fields l.op l.rd l.mem s h k
+
+-- the last clause is a copy for each other instruction
 storage_fields : (i : Inst) (s : List Reg) → AllFields (inst_line i).fields → Regs s → AllFields (inst_line (assigned_storage i s).0).fields × Regs (assigned_storage i s).1
-storage_fields (I.Load32 rd mem) s h k = ((at rd s h.0 k, (memory mem (after rd s) h.1.0 (left rd s k), tt)), memory_left mem (after rd s) (left rd s k))
-storage_fields (I.Load32ZExt8 rd mem) s h k = ((at rd s h.0 k, (memory mem (after rd s) h.1.0 (left rd s k), tt)), memory_left mem (after rd s) (left rd s k))
-storage_fields (I.Load32SExt8 rd mem) s h k = ((at rd s h.0 k, (memory mem (after rd s) h.1.0 (left rd s k), tt)), memory_left mem (after rd s) (left rd s k))
-storage_fields (I.Load32ZExt16 rd mem) s h k = ((at rd s h.0 k, (memory mem (after rd s) h.1.0 (left rd s k), tt)), memory_left mem (after rd s) (left rd s k))
-storage_fields (I.Load32SExt16 rd mem) s h k = ((at rd s h.0 k, (memory mem (after rd s) h.1.0 (left rd s k), tt)), memory_left mem (after rd s) (left rd s k))
-storage_fields (I.Load64 rd mem) s h k = ((at rd s h.0 k, (memory mem (after rd s) h.1.0 (left rd s k), tt)), memory_left mem (after rd s) (left rd s k))
-storage_fields (I.Load64ZExt8 rd mem) s h k = ((at rd s h.0 k, (memory mem (after rd s) h.1.0 (left rd s k), tt)), memory_left mem (after rd s) (left rd s k))
-storage_fields (I.Load64SExt8 rd mem) s h k = ((at rd s h.0 k, (memory mem (after rd s) h.1.0 (left rd s k), tt)), memory_left mem (after rd s) (left rd s k))
-storage_fields (I.Load64ZExt16 rd mem) s h k = ((at rd s h.0 k, (memory mem (after rd s) h.1.0 (left rd s k), tt)), memory_left mem (after rd s) (left rd s k))
-storage_fields (I.Load64SExt16 rd mem) s h k = ((at rd s h.0 k, (memory mem (after rd s) h.1.0 (left rd s k), tt)), memory_left mem (after rd s) (left rd s k))
-storage_fields (I.Load64ZExt32 rd mem) s h k = ((at rd s h.0 k, (memory mem (after rd s) h.1.0 (left rd s k), tt)), memory_left mem (after rd s) (left rd s k))
-storage_fields (I.Load64SExt32 rd mem) s h k = ((at rd s h.0 k, (memory mem (after rd s) h.1.0 (left rd s k), tt)), memory_left mem (after rd s) (left rd s k))
-storage_fields (I.LoadRev16 rd mem) s h k = ((at rd s h.0 k, (memory mem (after rd s) h.1.0 (left rd s k), tt)), memory_left mem (after rd s) (left rd s k))
-storage_fields (I.LoadRev32 rd mem) s h k = ((at rd s h.0 k, (memory mem (after rd s) h.1.0 (left rd s k), tt)), memory_left mem (after rd s) (left rd s k))
-storage_fields (I.LoadRev64 rd mem) s h k = ((at rd s h.0 k, (memory mem (after rd s) h.1.0 (left rd s k), tt)), memory_left mem (after rd s) (left rd s k))
-storage_fields (I.Store8 rd mem) s h k = ((at rd s h.0 k, (memory mem (after rd s) h.1.0 (left rd s k), tt)), memory_left mem (after rd s) (left rd s k))
-storage_fields (I.Store16 rd mem) s h k = ((at rd s h.0 k, (memory mem (after rd s) h.1.0 (left rd s k), tt)), memory_left mem (after rd s) (left rd s k))
-storage_fields (I.Store32 rd mem) s h k = ((at rd s h.0 k, (memory mem (after rd s) h.1.0 (left rd s k), tt)), memory_left mem (after rd s) (left rd s k))
-storage_fields (I.Store64 rd mem) s h k = ((at rd s h.0 k, (memory mem (after rd s) h.1.0 (left rd s k), tt)), memory_left mem (after rd s) (left rd s k))
-storage_fields (I.StoreRev16 rd mem) s h k = ((at rd s h.0 k, (memory mem (after rd s) h.1.0 (left rd s k), tt)), memory_left mem (after rd s) (left rd s k))
-storage_fields (I.StoreRev32 rd mem) s h k = ((at rd s h.0 k, (memory mem (after rd s) h.1.0 (left rd s k), tt)), memory_left mem (after rd s) (left rd s k))
-storage_fields (I.StoreRev64 rd mem) s h k = ((at rd s h.0 k, (memory mem (after rd s) h.1.0 (left rd s k), tt)), memory_left mem (after rd s) (left rd s k))
-storage_fields (I.StoreImm8 imm mem) s h k = ((h.0, (memory mem s h.1.0 k, tt)), memory_left mem s k)
-storage_fields (I.StoreImm16 imm mem) s h k = ((h.0, (memory mem s h.1.0 k, tt)), memory_left mem s k)
-storage_fields (I.StoreImm32SExt16 imm mem) s h k = ((h.0, (memory mem s h.1.0 k, tt)), memory_left mem s k)
-storage_fields (I.StoreImm64SExt16 imm mem) s h k = ((h.0, (memory mem s h.1.0 k, tt)), memory_left mem s k)
-storage_fields (I.LoadMultiple64 rt rt2 mem) s h k = ((h.0, (h.1.0, (memory mem s h.1.1.0 k, tt))), memory_left mem s k)
-storage_fields (I.StoreMultiple64 rt rt2 mem) s h k = ((h.0, (h.1.0, (memory mem s h.1.1.0 k, tt))), memory_left mem s k)
-storage_fields (I.LoadAddr rd mem) s h k = ((at rd s h.0 k, (memory mem (after rd s) h.1.0 (left rd s k), tt)), memory_left mem (after rd s) (left rd s k))
-storage_fields (I.LoadIndexedAddr rd base index offset size) s h k = ((at rd s h.0 k, (at base (after rd s) h.1.0 (left rd s k), (at index (after base (after rd s)) h.1.1.0 (left base (after rd s) (left rd s k)), (h.1.1.1.0, (h.1.1.1.1.0, tt))))), left index (after base (after rd s)) (left base (after rd s) (left rd s k)))
-storage_fields (I.LoadLogicalIndexedAddr rd base index offset size) s h k = ((at rd s h.0 k, (at base (after rd s) h.1.0 (left rd s k), (at index (after base (after rd s)) h.1.1.0 (left base (after rd s) (left rd s k)), (h.1.1.1.0, (h.1.1.1.1.0, tt))))), left index (after base (after rd s)) (left base (after rd s) (left rd s k)))
-storage_fields (I.AtomicRmw alu_op rd rn mem) s h k = ((h.0, (at rd s h.1.0 k, (at rn (after rd s) h.1.1.0 (left rd s k), (memory mem (after rn (after rd s)) h.1.1.1.0 (left rn (after rd s) (left rd s k)), tt)))), memory_left mem (after rn (after rd s)) (left rn (after rd s) (left rd s k)))
-storage_fields (I.AtomicCas32 rd ri rn mem) s h k = ((at rd s h.0 k, (at ri (after rd s) h.1.0 (left rd s k), (at rn (after ri (after rd s)) h.1.1.0 (left ri (after rd s) (left rd s k)), (memory mem (after rn (after ri (after rd s))) h.1.1.1.0 (left rn (after ri (after rd s)) (left ri (after rd s) (left rd s k))), tt)))), memory_left mem (after rn (after ri (after rd s))) (left rn (after ri (after rd s)) (left ri (after rd s) (left rd s k))))
-storage_fields (I.AtomicCas64 rd ri rn mem) s h k = ((at rd s h.0 k, (at ri (after rd s) h.1.0 (left rd s k), (at rn (after ri (after rd s)) h.1.1.0 (left ri (after rd s) (left rd s k)), (memory mem (after rn (after ri (after rd s))) h.1.1.1.0 (left rn (after ri (after rd s)) (left ri (after rd s) (left rd s k))), tt)))), memory_left mem (after rn (after ri (after rd s))) (left rn (after ri (after rd s)) (left ri (after rd s) (left rd s k))))
-storage_fields i s h k = control_fields i s h k
+storage_fields I.Fence s h k = load_or_store I.Fence s None h k
+storage_fields i s h k = load_or_store i s (as_load i) h k
 
 move_fields : (i : Inst) (s : List Reg) → AllFields (inst_line i).fields → Regs s → AllFields (inst_line (assigned_move i s).0).fields × Regs (assigned_move i s).1
 move_fields (I.Mov64 rd rm) s h k = ((at rd s h.0 k, (at rm (after rd s) h.1.0 (left rd s k), tt)), left rm (after rd s) (left rd s k))

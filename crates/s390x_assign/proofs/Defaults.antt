@@ -1,16 +1,21 @@
 -- An instruction of none of a group's variants is one of the groups below.
-use Rattle.std.proofs.Common.{◌≡◌, List, [], ◌∷◌, Result, Ok, Err, IfOk, refl, sym, ap, ◌∙◌}
+use Rattle.std.proofs.Common.{◌≡◌, List, [], ◌∷◌, Option, Some, None, Result, Ok, Err, IfOk, refl, sym, ap, ◌∙◌}
 use Rattle.s390x_base.specs.declared.regs.Reg.{Reg}
 use Rattle.s390x_inst.specs.declared.inst.Inst.{Inst}
-use Rattle.s390x_inst.specs.declared.inst.Inst.TheVariants.{Loop', IndirectBr, JTSequence, Call, ReturnCall, LoadSymbolReloc, LabelAddress, Args, Rets, DummyUse, Vector, Load32, Load32ZExt8, Load32SExt8}
-use Rattle.s390x_inst.specs.declared.inst.Inst.TheVariants.{Load32ZExt16, Load32SExt16, Load64, Load64ZExt8, Load64SExt8, Load64ZExt16, Load64SExt16, Load64ZExt32, Load64SExt32, LoadRev16, LoadRev32, LoadRev64, Store8, Store16}
+use Rattle.s390x_inst.specs.declared.inst.Inst.TheVariants.{Loop', IndirectBr, JTSequence, Call, ReturnCall, LoadSymbolReloc, LabelAddress, Args, Rets, DummyUse, Vector}
+use Rattle.s390x_inst.specs.declared.inst.Inst.TheVariants.{Store8, Store16}
 use Rattle.s390x_inst.specs.declared.inst.Inst.TheVariants.{Store32, Store64, StoreRev16, StoreRev32, StoreRev64, StoreImm8, StoreImm16, StoreImm32SExt16, StoreImm64SExt16, LoadMultiple64, StoreMultiple64, LoadAddr, LoadIndexedAddr, LoadLogicalIndexedAddr}
 use Rattle.s390x_inst.specs.declared.inst.Inst.TheVariants.{AtomicRmw, AtomicCas32, AtomicCas64, Mov64, MovPReg, Mov32, Mov32Imm, Mov32SImm16, Mov64SImm16, Mov64SImm32, Mov64UImm16Shifted, Mov64UImm32Shifted, Insert64UImm16Shifted, Insert64UImm32Shifted}
 use Rattle.s390x_inst.specs.declared.inst.Inst.TheVariants.{CMov32, CMov64, CMov32SImm16, CMov64SImm16, Extend, LoadAR, InsertAR, AluRRR, AluRRSImm16, AluRR, AluRX, AluRSImm16, AluRSImm32, AluRUImm32}
 use Rattle.s390x_inst.specs.declared.inst.Inst.TheVariants.{AluRUImm16Shifted, AluRUImm32Shifted, SMulWide, UMulWide, SDivMod32, SDivMod64, UDivMod32, UDivMod64, Flogr, ShiftRR, RxSBG, RxSBGTest, UnaryRR, CmpRR}
 use Rattle.s390x_inst.specs.declared.inst.Inst.TheVariants.{CmpRX, CmpRSImm16, CmpRSImm32, CmpRUImm32, CmpTrapRR, CmpTrapRSImm16, CmpTrapRUImm16}
-use Rattle.s390x_inst.specs.Portions.{Portion, closing, first_portion, portions}
-use Rattle.s390x_assign.specs.Assignments.{portion_by, assigned_control, assigned_storage, assigned_move, assigned_operator, IsPortion}
+use Rattle.s390x_inst.specs.declared.args.MemArg.{MemArg}
+use Rattle.s390x_inst.specs.declared.load.Load.{Load}
+use Rattle.s390x_inst.specs.declared.load.LoadOp.{LoadOp}
+use Rattle.s390x_inst.specs.declared.load.LoadOp.TheVariants.{Load64}
+use Rattle.s390x_inst.specs.Loads.{as_load, by_load, load_instruction}
+use Rattle.s390x_inst.specs.Portions.{Portion, closing, plain, first_portion, portions}
+use Rattle.s390x_assign.specs.Assignments.{portion_by, assigned_control, assigned_store, assigned_storage, assigned_move, assigned_operator, IsPortion, register_at, memory_at, after, with_one_and_memory}
 
 -- an instruction with the same portions begins with the same one
 abbrev head_or : Portion → List Portion → Portion
@@ -50,48 +55,50 @@ pub copied : (i j : Inst) (s : List Reg) → portions j ≡ portions i → ((rn 
     IsPortion (portion_by assigned_control (first_portion i) s) j s
 copied i j s same h0 h1 h2 h3 h4 h5 h6 h7 h8 h9 = unchanged i s h0 h1 h2 h3 h4 h5 h6 h7 h8 h9 ∙ ap (λ p. (p, s)) (sym (same_first i j same))
 
-pub no_storage : (i : Inst) (s : List Reg) → ((rd mem : _) → i ≡ Load32 rd mem → ⊥) → ((rd mem : _) → i ≡ Load32ZExt8 rd mem → ⊥) → ((rd mem : _) → i ≡ Load32SExt8 rd mem → ⊥) → ((rd mem : _) → i ≡ Load32ZExt16 rd mem → ⊥) → ((rd mem : _) → i ≡ Load32SExt16 rd mem → ⊥) → ((rd mem : _) →
-    i ≡ Load64 rd mem → ⊥) → ((rd mem : _) → i ≡ Load64ZExt8 rd mem → ⊥) → ((rd mem : _) → i ≡ Load64SExt8 rd mem → ⊥) → ((rd mem : _) → i ≡ Load64ZExt16 rd mem → ⊥) → ((rd mem : _) → i ≡ Load64SExt16 rd mem → ⊥) → ((rd mem : _) → i ≡ Load64ZExt32 rd mem → ⊥) → ((rd mem : _) →
-    i ≡ Load64SExt32 rd mem → ⊥) → ((rd mem : _) → i ≡ LoadRev16 rd mem → ⊥) → ((rd mem : _) → i ≡ LoadRev32 rd mem → ⊥) → ((rd mem : _) → i ≡ LoadRev64 rd mem → ⊥) → ((rd mem : _) → i ≡ Store8 rd mem → ⊥) → ((rd mem : _) → i ≡ Store16 rd mem → ⊥) → ((rd mem : _) → i ≡ Store32 rd mem → ⊥) →
-    ((rd mem : _) → i ≡ Store64 rd mem → ⊥) → ((rd mem : _) → i ≡ StoreRev16 rd mem → ⊥) → ((rd mem : _) → i ≡ StoreRev32 rd mem → ⊥) → ((rd mem : _) → i ≡ StoreRev64 rd mem → ⊥) → ((imm mem : _) → i ≡ StoreImm8 imm mem → ⊥) → ((imm mem : _) → i ≡ StoreImm16 imm mem → ⊥) → ((imm mem : _) →
-    i ≡ StoreImm32SExt16 imm mem → ⊥) → ((imm mem : _) → i ≡ StoreImm64SExt16 imm mem → ⊥) → ((rt rt2 mem : _) → i ≡ LoadMultiple64 rt rt2 mem → ⊥) → ((rt rt2 mem : _) → i ≡ StoreMultiple64 rt rt2 mem → ⊥) → ((rd mem : _) → i ≡ LoadAddr rd mem → ⊥) → ((rd base index offset size : _) →
-    i ≡ LoadIndexedAddr rd base index offset size → ⊥) → ((rd base index offset size : _) → i ≡ LoadLogicalIndexedAddr rd base index offset size → ⊥) → ((alu_op rd rn mem : _) → i ≡ AtomicRmw alu_op rd rn mem → ⊥) → ((rd ri rn mem : _) → i ≡ AtomicCas32 rd ri rn mem → ⊥) → ((rd ri rn mem : _) →
-    i ≡ AtomicCas64 rd ri rn mem → ⊥) → ◌≡◌ {A = Portion × List Reg} (portion_by assigned_storage (first_portion i) s) (portion_by assigned_control (first_portion i) s)
-no_storage (Load32 rd mem) s h0 h1 h2 h3 h4 h5 h6 h7 h8 h9 h10 h11 h12 h13 h14 h15 h16 h17 h18 h19 h20 h21 h22 h23 h24 h25 h26 h27 h28 h29 h30 h31 h32 h33 = absurd (h0 rd mem refl)
-no_storage (Load32ZExt8 rd mem) s h0 h1 h2 h3 h4 h5 h6 h7 h8 h9 h10 h11 h12 h13 h14 h15 h16 h17 h18 h19 h20 h21 h22 h23 h24 h25 h26 h27 h28 h29 h30 h31 h32 h33 = absurd (h1 rd mem refl)
-no_storage (Load32SExt8 rd mem) s h0 h1 h2 h3 h4 h5 h6 h7 h8 h9 h10 h11 h12 h13 h14 h15 h16 h17 h18 h19 h20 h21 h22 h23 h24 h25 h26 h27 h28 h29 h30 h31 h32 h33 = absurd (h2 rd mem refl)
-no_storage (Load32ZExt16 rd mem) s h0 h1 h2 h3 h4 h5 h6 h7 h8 h9 h10 h11 h12 h13 h14 h15 h16 h17 h18 h19 h20 h21 h22 h23 h24 h25 h26 h27 h28 h29 h30 h31 h32 h33 = absurd (h3 rd mem refl)
-no_storage (Load32SExt16 rd mem) s h0 h1 h2 h3 h4 h5 h6 h7 h8 h9 h10 h11 h12 h13 h14 h15 h16 h17 h18 h19 h20 h21 h22 h23 h24 h25 h26 h27 h28 h29 h30 h31 h32 h33 = absurd (h4 rd mem refl)
-no_storage (Load64 rd mem) s h0 h1 h2 h3 h4 h5 h6 h7 h8 h9 h10 h11 h12 h13 h14 h15 h16 h17 h18 h19 h20 h21 h22 h23 h24 h25 h26 h27 h28 h29 h30 h31 h32 h33 = absurd (h5 rd mem refl)
-no_storage (Load64ZExt8 rd mem) s h0 h1 h2 h3 h4 h5 h6 h7 h8 h9 h10 h11 h12 h13 h14 h15 h16 h17 h18 h19 h20 h21 h22 h23 h24 h25 h26 h27 h28 h29 h30 h31 h32 h33 = absurd (h6 rd mem refl)
-no_storage (Load64SExt8 rd mem) s h0 h1 h2 h3 h4 h5 h6 h7 h8 h9 h10 h11 h12 h13 h14 h15 h16 h17 h18 h19 h20 h21 h22 h23 h24 h25 h26 h27 h28 h29 h30 h31 h32 h33 = absurd (h7 rd mem refl)
-no_storage (Load64ZExt16 rd mem) s h0 h1 h2 h3 h4 h5 h6 h7 h8 h9 h10 h11 h12 h13 h14 h15 h16 h17 h18 h19 h20 h21 h22 h23 h24 h25 h26 h27 h28 h29 h30 h31 h32 h33 = absurd (h8 rd mem refl)
-no_storage (Load64SExt16 rd mem) s h0 h1 h2 h3 h4 h5 h6 h7 h8 h9 h10 h11 h12 h13 h14 h15 h16 h17 h18 h19 h20 h21 h22 h23 h24 h25 h26 h27 h28 h29 h30 h31 h32 h33 = absurd (h9 rd mem refl)
-no_storage (Load64ZExt32 rd mem) s h0 h1 h2 h3 h4 h5 h6 h7 h8 h9 h10 h11 h12 h13 h14 h15 h16 h17 h18 h19 h20 h21 h22 h23 h24 h25 h26 h27 h28 h29 h30 h31 h32 h33 = absurd (h10 rd mem refl)
-no_storage (Load64SExt32 rd mem) s h0 h1 h2 h3 h4 h5 h6 h7 h8 h9 h10 h11 h12 h13 h14 h15 h16 h17 h18 h19 h20 h21 h22 h23 h24 h25 h26 h27 h28 h29 h30 h31 h32 h33 = absurd (h11 rd mem refl)
-no_storage (LoadRev16 rd mem) s h0 h1 h2 h3 h4 h5 h6 h7 h8 h9 h10 h11 h12 h13 h14 h15 h16 h17 h18 h19 h20 h21 h22 h23 h24 h25 h26 h27 h28 h29 h30 h31 h32 h33 = absurd (h12 rd mem refl)
-no_storage (LoadRev32 rd mem) s h0 h1 h2 h3 h4 h5 h6 h7 h8 h9 h10 h11 h12 h13 h14 h15 h16 h17 h18 h19 h20 h21 h22 h23 h24 h25 h26 h27 h28 h29 h30 h31 h32 h33 = absurd (h13 rd mem refl)
-no_storage (LoadRev64 rd mem) s h0 h1 h2 h3 h4 h5 h6 h7 h8 h9 h10 h11 h12 h13 h14 h15 h16 h17 h18 h19 h20 h21 h22 h23 h24 h25 h26 h27 h28 h29 h30 h31 h32 h33 = absurd (h14 rd mem refl)
-no_storage (Store8 rd mem) s h0 h1 h2 h3 h4 h5 h6 h7 h8 h9 h10 h11 h12 h13 h14 h15 h16 h17 h18 h19 h20 h21 h22 h23 h24 h25 h26 h27 h28 h29 h30 h31 h32 h33 = absurd (h15 rd mem refl)
-no_storage (Store16 rd mem) s h0 h1 h2 h3 h4 h5 h6 h7 h8 h9 h10 h11 h12 h13 h14 h15 h16 h17 h18 h19 h20 h21 h22 h23 h24 h25 h26 h27 h28 h29 h30 h31 h32 h33 = absurd (h16 rd mem refl)
-no_storage (Store32 rd mem) s h0 h1 h2 h3 h4 h5 h6 h7 h8 h9 h10 h11 h12 h13 h14 h15 h16 h17 h18 h19 h20 h21 h22 h23 h24 h25 h26 h27 h28 h29 h30 h31 h32 h33 = absurd (h17 rd mem refl)
-no_storage (Store64 rd mem) s h0 h1 h2 h3 h4 h5 h6 h7 h8 h9 h10 h11 h12 h13 h14 h15 h16 h17 h18 h19 h20 h21 h22 h23 h24 h25 h26 h27 h28 h29 h30 h31 h32 h33 = absurd (h18 rd mem refl)
-no_storage (StoreRev16 rd mem) s h0 h1 h2 h3 h4 h5 h6 h7 h8 h9 h10 h11 h12 h13 h14 h15 h16 h17 h18 h19 h20 h21 h22 h23 h24 h25 h26 h27 h28 h29 h30 h31 h32 h33 = absurd (h19 rd mem refl)
-no_storage (StoreRev32 rd mem) s h0 h1 h2 h3 h4 h5 h6 h7 h8 h9 h10 h11 h12 h13 h14 h15 h16 h17 h18 h19 h20 h21 h22 h23 h24 h25 h26 h27 h28 h29 h30 h31 h32 h33 = absurd (h20 rd mem refl)
-no_storage (StoreRev64 rd mem) s h0 h1 h2 h3 h4 h5 h6 h7 h8 h9 h10 h11 h12 h13 h14 h15 h16 h17 h18 h19 h20 h21 h22 h23 h24 h25 h26 h27 h28 h29 h30 h31 h32 h33 = absurd (h21 rd mem refl)
-no_storage (StoreImm8 imm mem) s h0 h1 h2 h3 h4 h5 h6 h7 h8 h9 h10 h11 h12 h13 h14 h15 h16 h17 h18 h19 h20 h21 h22 h23 h24 h25 h26 h27 h28 h29 h30 h31 h32 h33 = absurd (h22 imm mem refl)
-no_storage (StoreImm16 imm mem) s h0 h1 h2 h3 h4 h5 h6 h7 h8 h9 h10 h11 h12 h13 h14 h15 h16 h17 h18 h19 h20 h21 h22 h23 h24 h25 h26 h27 h28 h29 h30 h31 h32 h33 = absurd (h23 imm mem refl)
-no_storage (StoreImm32SExt16 imm mem) s h0 h1 h2 h3 h4 h5 h6 h7 h8 h9 h10 h11 h12 h13 h14 h15 h16 h17 h18 h19 h20 h21 h22 h23 h24 h25 h26 h27 h28 h29 h30 h31 h32 h33 = absurd (h24 imm mem refl)
-no_storage (StoreImm64SExt16 imm mem) s h0 h1 h2 h3 h4 h5 h6 h7 h8 h9 h10 h11 h12 h13 h14 h15 h16 h17 h18 h19 h20 h21 h22 h23 h24 h25 h26 h27 h28 h29 h30 h31 h32 h33 = absurd (h25 imm mem refl)
-no_storage (LoadMultiple64 rt rt2 mem) s h0 h1 h2 h3 h4 h5 h6 h7 h8 h9 h10 h11 h12 h13 h14 h15 h16 h17 h18 h19 h20 h21 h22 h23 h24 h25 h26 h27 h28 h29 h30 h31 h32 h33 = absurd (h26 rt rt2 mem refl)
-no_storage (StoreMultiple64 rt rt2 mem) s h0 h1 h2 h3 h4 h5 h6 h7 h8 h9 h10 h11 h12 h13 h14 h15 h16 h17 h18 h19 h20 h21 h22 h23 h24 h25 h26 h27 h28 h29 h30 h31 h32 h33 = absurd (h27 rt rt2 mem refl)
-no_storage (LoadAddr rd mem) s h0 h1 h2 h3 h4 h5 h6 h7 h8 h9 h10 h11 h12 h13 h14 h15 h16 h17 h18 h19 h20 h21 h22 h23 h24 h25 h26 h27 h28 h29 h30 h31 h32 h33 = absurd (h28 rd mem refl)
-no_storage (LoadIndexedAddr rd base index offset size) s h0 h1 h2 h3 h4 h5 h6 h7 h8 h9 h10 h11 h12 h13 h14 h15 h16 h17 h18 h19 h20 h21 h22 h23 h24 h25 h26 h27 h28 h29 h30 h31 h32 h33 = absurd (h29 rd base index offset size refl)
-no_storage (LoadLogicalIndexedAddr rd base index offset size) s h0 h1 h2 h3 h4 h5 h6 h7 h8 h9 h10 h11 h12 h13 h14 h15 h16 h17 h18 h19 h20 h21 h22 h23 h24 h25 h26 h27 h28 h29 h30 h31 h32 h33 = absurd (h30 rd base index offset size refl)
-no_storage (AtomicRmw alu_op rd rn mem) s h0 h1 h2 h3 h4 h5 h6 h7 h8 h9 h10 h11 h12 h13 h14 h15 h16 h17 h18 h19 h20 h21 h22 h23 h24 h25 h26 h27 h28 h29 h30 h31 h32 h33 = absurd (h31 alu_op rd rn mem refl)
-no_storage (AtomicCas32 rd ri rn mem) s h0 h1 h2 h3 h4 h5 h6 h7 h8 h9 h10 h11 h12 h13 h14 h15 h16 h17 h18 h19 h20 h21 h22 h23 h24 h25 h26 h27 h28 h29 h30 h31 h32 h33 = absurd (h32 rd ri rn mem refl)
-no_storage (AtomicCas64 rd ri rn mem) s h0 h1 h2 h3 h4 h5 h6 h7 h8 h9 h10 h11 h12 h13 h14 h15 h16 h17 h18 h19 h20 h21 h22 h23 h24 h25 h26 h27 h28 h29 h30 h31 h32 h33 = absurd (h33 rd ri rn mem refl)
-no_storage i s h0 h1 h2 h3 h4 h5 h6 h7 h8 h9 h10 h11 h12 h13 h14 h15 h16 h17 h18 h19 h20 h21 h22 h23 h24 h25 h26 h27 h28 h29 h30 h31 h32 h33 = refl
+pub no_store : (i : Inst) (s : List Reg) → ((rd mem : _) → i ≡ Store8 rd mem → ⊥) → ((rd mem : _) → i ≡ Store16 rd mem → ⊥) → ((rd mem : _) → i ≡ Store32 rd mem → ⊥) → ((rd mem : _) → i ≡ Store64 rd mem → ⊥) → ((rd mem : _) → i ≡ StoreRev16 rd mem → ⊥) → ((rd mem : _) → i ≡ StoreRev32 rd mem → ⊥) → ((rd mem : _) → i ≡ StoreRev64 rd mem → ⊥) → ((imm mem : _) → i ≡ StoreImm8 imm mem → ⊥) → ((imm mem : _) → i ≡ StoreImm16 imm mem → ⊥) → ((imm mem : _) → i ≡ StoreImm32SExt16 imm mem → ⊥) → ((imm mem : _) → i ≡ StoreImm64SExt16 imm mem → ⊥) → ((rt rt2 mem : _) → i ≡ LoadMultiple64 rt rt2 mem → ⊥) → ((rt rt2 mem : _) → i ≡ StoreMultiple64 rt rt2 mem → ⊥) → ((rd mem : _) → i ≡ LoadAddr rd mem → ⊥) → ((rd base index offset size : _) → i ≡ LoadIndexedAddr rd base index offset size → ⊥) → ((rd base index offset size : _) → i ≡ LoadLogicalIndexedAddr rd base index offset size → ⊥) → ((alu_op rd rn mem : _) → i ≡ AtomicRmw alu_op rd rn mem → ⊥) → ((rd ri rn mem : _) → i ≡ AtomicCas32 rd ri rn mem → ⊥) → ((rd ri rn mem : _) → i ≡ AtomicCas64 rd ri rn mem → ⊥) → ◌≡◌ {A = Portion × List Reg} (portion_by assigned_store (first_portion i) s) (portion_by assigned_control (first_portion i) s)
+no_store (Store8 rd mem) s h0 h1 h2 h3 h4 h5 h6 h7 h8 h9 h10 h11 h12 h13 h14 h15 h16 h17 h18 = absurd (h0 rd mem refl)
+no_store (Store16 rd mem) s h0 h1 h2 h3 h4 h5 h6 h7 h8 h9 h10 h11 h12 h13 h14 h15 h16 h17 h18 = absurd (h1 rd mem refl)
+no_store (Store32 rd mem) s h0 h1 h2 h3 h4 h5 h6 h7 h8 h9 h10 h11 h12 h13 h14 h15 h16 h17 h18 = absurd (h2 rd mem refl)
+no_store (Store64 rd mem) s h0 h1 h2 h3 h4 h5 h6 h7 h8 h9 h10 h11 h12 h13 h14 h15 h16 h17 h18 = absurd (h3 rd mem refl)
+no_store (StoreRev16 rd mem) s h0 h1 h2 h3 h4 h5 h6 h7 h8 h9 h10 h11 h12 h13 h14 h15 h16 h17 h18 = absurd (h4 rd mem refl)
+no_store (StoreRev32 rd mem) s h0 h1 h2 h3 h4 h5 h6 h7 h8 h9 h10 h11 h12 h13 h14 h15 h16 h17 h18 = absurd (h5 rd mem refl)
+no_store (StoreRev64 rd mem) s h0 h1 h2 h3 h4 h5 h6 h7 h8 h9 h10 h11 h12 h13 h14 h15 h16 h17 h18 = absurd (h6 rd mem refl)
+no_store (StoreImm8 imm mem) s h0 h1 h2 h3 h4 h5 h6 h7 h8 h9 h10 h11 h12 h13 h14 h15 h16 h17 h18 = absurd (h7 imm mem refl)
+no_store (StoreImm16 imm mem) s h0 h1 h2 h3 h4 h5 h6 h7 h8 h9 h10 h11 h12 h13 h14 h15 h16 h17 h18 = absurd (h8 imm mem refl)
+no_store (StoreImm32SExt16 imm mem) s h0 h1 h2 h3 h4 h5 h6 h7 h8 h9 h10 h11 h12 h13 h14 h15 h16 h17 h18 = absurd (h9 imm mem refl)
+no_store (StoreImm64SExt16 imm mem) s h0 h1 h2 h3 h4 h5 h6 h7 h8 h9 h10 h11 h12 h13 h14 h15 h16 h17 h18 = absurd (h10 imm mem refl)
+no_store (LoadMultiple64 rt rt2 mem) s h0 h1 h2 h3 h4 h5 h6 h7 h8 h9 h10 h11 h12 h13 h14 h15 h16 h17 h18 = absurd (h11 rt rt2 mem refl)
+no_store (StoreMultiple64 rt rt2 mem) s h0 h1 h2 h3 h4 h5 h6 h7 h8 h9 h10 h11 h12 h13 h14 h15 h16 h17 h18 = absurd (h12 rt rt2 mem refl)
+no_store (LoadAddr rd mem) s h0 h1 h2 h3 h4 h5 h6 h7 h8 h9 h10 h11 h12 h13 h14 h15 h16 h17 h18 = absurd (h13 rd mem refl)
+no_store (LoadIndexedAddr rd base index offset size) s h0 h1 h2 h3 h4 h5 h6 h7 h8 h9 h10 h11 h12 h13 h14 h15 h16 h17 h18 = absurd (h14 rd base index offset size refl)
+no_store (LoadLogicalIndexedAddr rd base index offset size) s h0 h1 h2 h3 h4 h5 h6 h7 h8 h9 h10 h11 h12 h13 h14 h15 h16 h17 h18 = absurd (h15 rd base index offset size refl)
+no_store (AtomicRmw alu_op rd rn mem) s h0 h1 h2 h3 h4 h5 h6 h7 h8 h9 h10 h11 h12 h13 h14 h15 h16 h17 h18 = absurd (h16 alu_op rd rn mem refl)
+no_store (AtomicCas32 rd ri rn mem) s h0 h1 h2 h3 h4 h5 h6 h7 h8 h9 h10 h11 h12 h13 h14 h15 h16 h17 h18 = absurd (h17 rd ri rn mem refl)
+no_store (AtomicCas64 rd ri rn mem) s h0 h1 h2 h3 h4 h5 h6 h7 h8 h9 h10 h11 h12 h13 h14 h15 h16 h17 h18 = absurd (h18 rd ri rn mem refl)
+no_store i s h0 h1 h2 h3 h4 h5 h6 h7 h8 h9 h10 h11 h12 h13 h14 h15 h16 h17 h18 = refl
+
+-- the registers assigned to a load of one register, or to another instruction
+storage_portion : (i : Inst) (s : List Reg) → ◌≡◌ {A = Portion × List Reg} (portion_by assigned_storage (first_portion i) s) (by_load (λ l. with_one_and_memory (λ d m. plain (load_instruction l.op d m)) l.rd l.mem s) (portion_by assigned_store (first_portion i) s) (as_load i))
+storage_portion (LoadAddr rd mem) s = refl
+storage_portion i s = refl
+
+-- a load is one portion
+load_portion : (op : LoadOp) (rd : Reg) (mem : MemArg) → first_portion (load_instruction op rd mem) ≡ plain (load_instruction op rd mem)
+load_portion Load64 rd mem = refl
+load_portion op rd mem = refl
+
+pub no_load : (i : Inst) (s : List Reg) → as_load i ≡ None → ◌≡◌ {A = Portion × List Reg} (portion_by assigned_storage (first_portion i) s) (portion_by assigned_store (first_portion i) s)
+no_load i s e = storage_portion i s ∙ ap (by_load {A = Portion × List Reg} (λ l. with_one_and_memory (λ d m. plain (load_instruction l.op d m)) l.rd l.mem s) (portion_by assigned_store (first_portion i) s)) e
+
+pub loaded : (i j : Inst) (l : Load) (s t : List Reg) (rd : Reg) (mem : MemArg) → as_load i ≡ Some l → j ≡ load_instruction l.op rd mem → rd ≡ register_at l.rd s → mem ≡ (memory_at l.mem (after l.rd s)).0 → t ≡ (memory_at l.mem (after l.rd s)).1 → IsPortion (portion_by assigned_storage (first_portion i) s) j t
+loaded i j l s t rd mem e built first memory left =
+    storage_portion i s
+    ∙ ap (by_load {A = Portion × List Reg} (λ l. with_one_and_memory (λ d m. plain (load_instruction l.op d m)) l.rd l.mem s) (portion_by assigned_store (first_portion i) s)) e
+    ∙ ap (λ d. (plain (load_instruction l.op d (memory_at l.mem (after l.rd s)).0), (memory_at l.mem (after l.rd s)).1)) (sym first)
+    ∙ ap (λ m. (plain (load_instruction l.op rd m), (memory_at l.mem (after l.rd s)).1)) (sym memory)
+    ∙ ap (λ r. (plain (load_instruction l.op rd mem), r)) (sym left)
+    ∙ ap (λ p. (p, t)) (sym (load_portion l.op rd mem))
+    ∙ ap (λ k. (first_portion k, t)) (sym built)
 
 pub no_move : (i : Inst) (s : List Reg) → ((rd rm : _) → i ≡ Mov64 rd rm → ⊥) → ((rd rm : _) → i ≡ MovPReg rd rm → ⊥) → ((rd rm : _) → i ≡ Mov32 rd rm → ⊥) → ((rd imm : _) → i ≡ Mov32Imm rd imm → ⊥) → ((rd imm : _) → i ≡ Mov32SImm16 rd imm → ⊥) → ((rd imm : _) → i ≡ Mov64SImm16 rd imm → ⊥) →
     ((rd imm : _) → i ≡ Mov64SImm32 rd imm → ⊥) → ((rd imm : _) → i ≡ Mov64UImm16Shifted rd imm → ⊥) → ((rd imm : _) → i ≡ Mov64UImm32Shifted rd imm → ⊥) → ((rd ri imm : _) → i ≡ Insert64UImm16Shifted rd ri imm → ⊥) → ((rd ri imm : _) → i ≡ Insert64UImm32Shifted rd ri imm → ⊥) →

@@ -20,13 +20,15 @@ use Rattle.s390x_inst.specs.declared.calls.RetLocation.{RetLocation}
 use Rattle.s390x_inst.specs.declared.calls.RetLocation.TheVariants.{Reg as InReg, Stack}
 use Rattle.s390x_inst.specs.declared.calls.RetPair.{RetPair}
 use Rattle.s390x_inst.specs.declared.inst.Inst.{Inst, Row_of-Inst, end_of-Inst, more_of-Inst}
-use Rattle.s390x_inst.specs.declared.inst.Inst.TheVariants.{Loop', IndirectBr, JTSequence, Call, ReturnCall, LoadSymbolReloc, LabelAddress, Args, Rets, DummyUse, Vector, Load32, Load32ZExt8, Load32SExt8}
-use Rattle.s390x_inst.specs.declared.inst.Inst.TheVariants.{Load32ZExt16, Load32SExt16, Load64, Load64ZExt8, Load64SExt8, Load64ZExt16, Load64SExt16, Load64ZExt32, Load64SExt32, LoadRev16, LoadRev32, LoadRev64, Store8, Store16}
+use Rattle.s390x_inst.specs.declared.inst.Inst.TheVariants.{Loop', IndirectBr, JTSequence, Call, ReturnCall, LoadSymbolReloc, LabelAddress, Args, Rets, DummyUse, Vector}
+use Rattle.s390x_inst.specs.declared.inst.Inst.TheVariants.{Store8, Store16}
 use Rattle.s390x_inst.specs.declared.inst.Inst.TheVariants.{Store32, Store64, StoreRev16, StoreRev32, StoreRev64, StoreImm8, StoreImm16, StoreImm32SExt16, StoreImm64SExt16, LoadMultiple64, StoreMultiple64, LoadAddr, LoadIndexedAddr, LoadLogicalIndexedAddr}
 use Rattle.s390x_inst.specs.declared.inst.Inst.TheVariants.{AtomicRmw, AtomicCas32, AtomicCas64, Mov64, MovPReg, Mov32, Mov32Imm, Mov32SImm16, Mov64SImm16, Mov64SImm32, Mov64UImm16Shifted, Mov64UImm32Shifted, Insert64UImm16Shifted, Insert64UImm32Shifted}
 use Rattle.s390x_inst.specs.declared.inst.Inst.TheVariants.{CMov32, CMov64, CMov32SImm16, CMov64SImm16, Extend, LoadAR, InsertAR, AluRRR, AluRRSImm16, AluRR, AluRX, AluRSImm16, AluRSImm32, AluRUImm32}
 use Rattle.s390x_inst.specs.declared.inst.Inst.TheVariants.{AluRUImm16Shifted, AluRUImm32Shifted, SMulWide, UMulWide, SDivMod32, SDivMod64, UDivMod32, UDivMod64, Flogr, ShiftRR, RxSBG, RxSBGTest, UnaryRR, CmpRR}
 use Rattle.s390x_inst.specs.declared.inst.Inst.TheVariants.{CmpRX, CmpRSImm16, CmpRSImm32, CmpRUImm32, CmpTrapRR, CmpTrapRSImm16, CmpTrapRUImm16}
+use Rattle.s390x_inst.specs.declared.load.Load.{Load}
+use Rattle.s390x_inst.specs.Loads.{as_load, by_load}
 use Rattle.s390x_inst.specs.declared.vec_inst.VecInst.{VecInst}
 use Rattle.s390x_inst.specs.declared.vec_inst.VecInst.TheVariants.{VecRRR, VecRR, VecShiftRR, VecSelect, VecPermute, VecBlend, VecEvaluate, VecPermuteDWImm, VecIntCmp, VecIntCmpS, VecIntEltCmp, VecInt128SCmpHi, VecInt128UCmpHi, VecMov}
 use Rattle.s390x_inst.specs.declared.vec_inst.VecInst.TheVariants.{FpuMove32, FpuMove64, FpuCMov32, FpuCMov64, VecCMov, MovToVec128, VecImmByteMask, VecImmBitMask, VecImmReplicate, VecInsertLane, VecInsertLaneUndef, VecExtractLane, VecInsertLaneImm, VecInsertLaneImmUndef}
@@ -283,6 +285,13 @@ vector_follows (VecStoreLaneRev size rd mem lane_imm) s = one_and_memory used us
 abbrev IsGood : Portion → Type 0
 IsGood p = (s : List Reg) → Follows (portion_requests p) (portion_requests (portion_at p s).0) s (portion_at p s).1
 
+-- a load of one register, or an instruction that has no operands
+load_or_none : (o : Option Load) (s : List Reg) →
+    Follows (by_load (λ l. defined l.rd ∷ memory_requests l.mem) [] o) (by_load (λ l. defined (register_at l.rd s) ∷ memory_requests (memory_at l.mem (after l.rd s)).0) [] o) s (by_load (λ l. (memory_at l.mem (after l.rd s)).1) s o)
+load_or_none None s = none s
+load_or_none (Some l) s = one_and_memory defined defined_one l.rd l.mem s
+
+-- the last clause is a copy for each instruction of the two kinds
 portion_follows : (i : Inst) → IsGood (first_portion i)
 portion_follows (Loop' mask body all) s = none s
 portion_follows (IndirectBr rn targets) s = one used used_one rn s
@@ -295,21 +304,6 @@ portion_follows (Args args) s = each incoming incoming_at incoming_one args.item
 portion_follows (Rets rets) s = each outgoing outgoing_at outgoing_one rets.items s
 portion_follows (DummyUse reg) s = one used used_one reg s
 portion_follows (Vector v) s = vector_follows v s
-portion_follows (Load32 rd mem) s = one_and_memory defined defined_one rd mem s
-portion_follows (Load32ZExt8 rd mem) s = one_and_memory defined defined_one rd mem s
-portion_follows (Load32SExt8 rd mem) s = one_and_memory defined defined_one rd mem s
-portion_follows (Load32ZExt16 rd mem) s = one_and_memory defined defined_one rd mem s
-portion_follows (Load32SExt16 rd mem) s = one_and_memory defined defined_one rd mem s
-portion_follows (Load64 rd mem) s = one_and_memory defined defined_one rd mem s
-portion_follows (Load64ZExt8 rd mem) s = one_and_memory defined defined_one rd mem s
-portion_follows (Load64SExt8 rd mem) s = one_and_memory defined defined_one rd mem s
-portion_follows (Load64ZExt16 rd mem) s = one_and_memory defined defined_one rd mem s
-portion_follows (Load64SExt16 rd mem) s = one_and_memory defined defined_one rd mem s
-portion_follows (Load64ZExt32 rd mem) s = one_and_memory defined defined_one rd mem s
-portion_follows (Load64SExt32 rd mem) s = one_and_memory defined defined_one rd mem s
-portion_follows (LoadRev16 rd mem) s = one_and_memory defined defined_one rd mem s
-portion_follows (LoadRev32 rd mem) s = one_and_memory defined defined_one rd mem s
-portion_follows (LoadRev64 rd mem) s = one_and_memory defined defined_one rd mem s
 portion_follows (Store8 rd mem) s = one_and_memory used used_one rd mem s
 portion_follows (Store16 rd mem) s = one_and_memory used used_one rd mem s
 portion_follows (Store32 rd mem) s = one_and_memory used used_one rd mem s
@@ -375,7 +369,7 @@ portion_follows (CmpRUImm32 op rn imm) s = one used used_one rn s
 portion_follows (CmpTrapRR op rn rm cond trap_code) s = two used used_one rn rm s
 portion_follows (CmpTrapRSImm16 op rn imm cond trap_code) s = one used used_one rn s
 portion_follows (CmpTrapRUImm16 op rn imm cond trap_code) s = one used used_one rn s
-portion_follows i s = none s
+portion_follows i s = load_or_none (as_load i) s
 
 closing_follows : IsGood closing
 closing_follows s = none s

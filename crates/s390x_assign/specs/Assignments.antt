@@ -19,9 +19,10 @@ use Rattle.s390x_inst.specs.declared.inst.Inst.{Inst}
 use Rattle.s390x_inst.specs.declared.inst.Inst.TheVariants.{Vector, AluRRR, AluRRSImm16, AluRR, AluRX, AluRSImm16, AluRSImm32, AluRUImm32, AluRUImm16Shifted, AluRUImm32Shifted, SMulWide, UMulWide, SDivMod32, SDivMod64}
 use Rattle.s390x_inst.specs.declared.inst.Inst.TheVariants.{UDivMod32, UDivMod64, Flogr, ShiftRR, RxSBG, RxSBGTest, UnaryRR, CmpRR, CmpRX, CmpRSImm16, CmpRSImm32, CmpRUImm32, CmpTrapRR, CmpTrapRSImm16}
 use Rattle.s390x_inst.specs.declared.inst.Inst.TheVariants.{CmpTrapRUImm16, Mov64, MovPReg, Mov32, Mov32Imm, Mov32SImm16, Mov64SImm16, Mov64SImm32, Mov64UImm16Shifted, Mov64UImm32Shifted, Insert64UImm16Shifted, Insert64UImm32Shifted, CMov32, CMov64}
-use Rattle.s390x_inst.specs.declared.inst.Inst.TheVariants.{CMov32SImm16, CMov64SImm16, Extend, LoadAR, InsertAR, Load32, Load32ZExt8, Load32SExt8, Load32ZExt16, Load32SExt16, Load64, Load64ZExt8, Load64SExt8, Load64ZExt16}
-use Rattle.s390x_inst.specs.declared.inst.Inst.TheVariants.{Load64SExt16, Load64ZExt32, Load64SExt32, LoadRev16, LoadRev32, LoadRev64, Store8, Store16, Store32, Store64, StoreRev16, StoreRev32, StoreRev64, StoreImm8}
+use Rattle.s390x_inst.specs.declared.inst.Inst.TheVariants.{CMov32SImm16, CMov64SImm16, Extend, LoadAR, InsertAR}
+use Rattle.s390x_inst.specs.declared.inst.Inst.TheVariants.{Store8, Store16, Store32, Store64, StoreRev16, StoreRev32, StoreRev64, StoreImm8}
 use Rattle.s390x_inst.specs.declared.inst.Inst.TheVariants.{StoreImm16, StoreImm32SExt16, StoreImm64SExt16, LoadMultiple64, StoreMultiple64, LoadAddr, LoadIndexedAddr, LoadLogicalIndexedAddr, AtomicRmw, AtomicCas32, AtomicCas64, LoadSymbolReloc, LabelAddress, DummyUse}
+use Rattle.s390x_inst.specs.Loads.{as_load, by_load, load_instruction}
 use Rattle.s390x_inst.specs.declared.vec_inst.VecInst.{VecInst}
 use Rattle.s390x_inst.specs.declared.vec_inst.VecInst.TheVariants.{VecLoad, VecLoadRev, VecLoadByte16Rev, VecLoadByte32Rev, VecLoadByte64Rev, VecLoadElt16Rev, VecLoadElt32Rev, VecLoadElt64Rev, VecStore, VecStoreRev, VecStoreByte16Rev, VecStoreByte32Rev, VecStoreByte64Rev, VecStoreElt16Rev}
 use Rattle.s390x_inst.specs.declared.vec_inst.VecInst.TheVariants.{VecStoreElt32Rev, VecStoreElt64Rev, VecLoadReplicate, VecLoadReplicateRev, VecLoadLane, VecLoadLaneRev, VecLoadLaneUndef, VecLoadLaneRevUndef, VecStoreLane, VecStoreLaneRev, VecRRR, VecRR, VecShiftRR, VecSelect}
@@ -182,43 +183,32 @@ assigned_control (DummyUse reg) s = with_one DummyUse reg s
 assigned_control (Vector v) s = (Vector (assigned_vector v s).0, (assigned_vector v s).1)
 assigned_control i s = (i, s)
 
+-- registers assigned to multiple loads, stores and addresses
+abbrev pub assigned_store : Inst → List Reg → Inst × List Reg
+assigned_store (Store8 rd mem) s = with_one_and_memory Store8 rd mem s
+assigned_store (Store16 rd mem) s = with_one_and_memory Store16 rd mem s
+assigned_store (Store32 rd mem) s = with_one_and_memory Store32 rd mem s
+assigned_store (Store64 rd mem) s = with_one_and_memory Store64 rd mem s
+assigned_store (StoreRev16 rd mem) s = with_one_and_memory StoreRev16 rd mem s
+assigned_store (StoreRev32 rd mem) s = with_one_and_memory StoreRev32 rd mem s
+assigned_store (StoreRev64 rd mem) s = with_one_and_memory StoreRev64 rd mem s
+assigned_store (StoreImm8 imm mem) s = with_memory (StoreImm8 imm) mem s
+assigned_store (StoreImm16 imm mem) s = with_memory (StoreImm16 imm) mem s
+assigned_store (StoreImm32SExt16 imm mem) s = with_memory (StoreImm32SExt16 imm) mem s
+assigned_store (StoreImm64SExt16 imm mem) s = with_memory (StoreImm64SExt16 imm) mem s
+assigned_store (LoadMultiple64 rt rt2 mem) s = with_memory (LoadMultiple64 rt rt2) mem s
+assigned_store (StoreMultiple64 rt rt2 mem) s = with_memory (StoreMultiple64 rt rt2) mem s
+assigned_store (LoadAddr rd mem) s = with_one_and_memory LoadAddr rd mem s
+assigned_store (LoadIndexedAddr rd base index offset size) s = with_three (λ d b j. LoadIndexedAddr d b j offset size) rd base index s
+assigned_store (LoadLogicalIndexedAddr rd base index offset size) s = with_three (λ d b j. LoadLogicalIndexedAddr d b j offset size) rd base index s
+assigned_store (AtomicRmw alu_op rd rn mem) s = with_two_and_memory (AtomicRmw alu_op) rd rn mem s
+assigned_store (AtomicCas32 rd ri rn mem) s = with_three_and_memory AtomicCas32 rd ri rn mem s
+assigned_store (AtomicCas64 rd ri rn mem) s = with_three_and_memory AtomicCas64 rd ri rn mem s
+assigned_store i s = assigned_control i s
+
 -- registers assigned to loads, stores and addresses
 abbrev pub assigned_storage : Inst → List Reg → Inst × List Reg
-assigned_storage (Load32 rd mem) s = with_one_and_memory Load32 rd mem s
-assigned_storage (Load32ZExt8 rd mem) s = with_one_and_memory Load32ZExt8 rd mem s
-assigned_storage (Load32SExt8 rd mem) s = with_one_and_memory Load32SExt8 rd mem s
-assigned_storage (Load32ZExt16 rd mem) s = with_one_and_memory Load32ZExt16 rd mem s
-assigned_storage (Load32SExt16 rd mem) s = with_one_and_memory Load32SExt16 rd mem s
-assigned_storage (Load64 rd mem) s = with_one_and_memory Load64 rd mem s
-assigned_storage (Load64ZExt8 rd mem) s = with_one_and_memory Load64ZExt8 rd mem s
-assigned_storage (Load64SExt8 rd mem) s = with_one_and_memory Load64SExt8 rd mem s
-assigned_storage (Load64ZExt16 rd mem) s = with_one_and_memory Load64ZExt16 rd mem s
-assigned_storage (Load64SExt16 rd mem) s = with_one_and_memory Load64SExt16 rd mem s
-assigned_storage (Load64ZExt32 rd mem) s = with_one_and_memory Load64ZExt32 rd mem s
-assigned_storage (Load64SExt32 rd mem) s = with_one_and_memory Load64SExt32 rd mem s
-assigned_storage (LoadRev16 rd mem) s = with_one_and_memory LoadRev16 rd mem s
-assigned_storage (LoadRev32 rd mem) s = with_one_and_memory LoadRev32 rd mem s
-assigned_storage (LoadRev64 rd mem) s = with_one_and_memory LoadRev64 rd mem s
-assigned_storage (Store8 rd mem) s = with_one_and_memory Store8 rd mem s
-assigned_storage (Store16 rd mem) s = with_one_and_memory Store16 rd mem s
-assigned_storage (Store32 rd mem) s = with_one_and_memory Store32 rd mem s
-assigned_storage (Store64 rd mem) s = with_one_and_memory Store64 rd mem s
-assigned_storage (StoreRev16 rd mem) s = with_one_and_memory StoreRev16 rd mem s
-assigned_storage (StoreRev32 rd mem) s = with_one_and_memory StoreRev32 rd mem s
-assigned_storage (StoreRev64 rd mem) s = with_one_and_memory StoreRev64 rd mem s
-assigned_storage (StoreImm8 imm mem) s = with_memory (StoreImm8 imm) mem s
-assigned_storage (StoreImm16 imm mem) s = with_memory (StoreImm16 imm) mem s
-assigned_storage (StoreImm32SExt16 imm mem) s = with_memory (StoreImm32SExt16 imm) mem s
-assigned_storage (StoreImm64SExt16 imm mem) s = with_memory (StoreImm64SExt16 imm) mem s
-assigned_storage (LoadMultiple64 rt rt2 mem) s = with_memory (LoadMultiple64 rt rt2) mem s
-assigned_storage (StoreMultiple64 rt rt2 mem) s = with_memory (StoreMultiple64 rt rt2) mem s
-assigned_storage (LoadAddr rd mem) s = with_one_and_memory LoadAddr rd mem s
-assigned_storage (LoadIndexedAddr rd base index offset size) s = with_three (λ d b j. LoadIndexedAddr d b j offset size) rd base index s
-assigned_storage (LoadLogicalIndexedAddr rd base index offset size) s = with_three (λ d b j. LoadLogicalIndexedAddr d b j offset size) rd base index s
-assigned_storage (AtomicRmw alu_op rd rn mem) s = with_two_and_memory (AtomicRmw alu_op) rd rn mem s
-assigned_storage (AtomicCas32 rd ri rn mem) s = with_three_and_memory AtomicCas32 rd ri rn mem s
-assigned_storage (AtomicCas64 rd ri rn mem) s = with_three_and_memory AtomicCas64 rd ri rn mem s
-assigned_storage i s = assigned_control i s
+assigned_storage i s = by_load (λ l. with_one_and_memory (load_instruction l.op) l.rd l.mem s) (assigned_store i s) (as_load i)
 
 -- registers assigned to moves between registers, and immediates
 abbrev pub assigned_move : Inst → List Reg → Inst × List Reg

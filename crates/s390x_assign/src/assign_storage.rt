@@ -1,82 +1,22 @@
 //! Loads and stores with the registers of an allocator.
 ghost use Rattle.std.specs.Prelude.{IfOk};
 ghost use Rattle.s390x_inst.specs.Portions.{first_portion};
-ghost use Rattle.s390x_assign.specs.Assignments.{IsPortion, portion_by, assigned_storage};
+ghost use Rattle.s390x_assign.specs.Assignments.{IsPortion, portion_by, assigned_storage, assigned_store};
 
 use crate::assign_control::assign_control;
 use crate::assigned_registers::AssignedRegisters;
 use s390x_inst::Inst;
 use std::alloc::{AllocError, Global};
 
-/// An instruction that is no operator, no move and no `Loop`, with its registers.
-pub fn assign_storage(
+// The same of one that is no load of one register.
+fn assign_store(
     alloc: Global,
     registers: &mut AssignedRegisters<'_>,
     inst: &Inst,
 ) -> Result<Inst, AllocError>
-    ensures { IfOk result (λ j. IsPortion (portion_by assigned_storage (first_portion inst.now) registers.old.left.now) j registers.new.left.now) }
+    ensures { IfOk result (λ j. IsPortion (portion_by assigned_store (first_portion inst.now) registers.old.left.now) j registers.new.left.now) }
 {
     match inst {
-        Inst::Load32 { rd, mem } => {
-            let (rd, mem) = registers.output_and_memory(*rd, mem);
-            Ok(Inst::Load32 { rd, mem })
-        }
-        Inst::Load32ZExt8 { rd, mem } => {
-            let (rd, mem) = registers.output_and_memory(*rd, mem);
-            Ok(Inst::Load32ZExt8 { rd, mem })
-        }
-        Inst::Load32SExt8 { rd, mem } => {
-            let (rd, mem) = registers.output_and_memory(*rd, mem);
-            Ok(Inst::Load32SExt8 { rd, mem })
-        }
-        Inst::Load32ZExt16 { rd, mem } => {
-            let (rd, mem) = registers.output_and_memory(*rd, mem);
-            Ok(Inst::Load32ZExt16 { rd, mem })
-        }
-        Inst::Load32SExt16 { rd, mem } => {
-            let (rd, mem) = registers.output_and_memory(*rd, mem);
-            Ok(Inst::Load32SExt16 { rd, mem })
-        }
-        Inst::Load64 { rd, mem } => {
-            let (rd, mem) = registers.output_and_memory(*rd, mem);
-            Ok(Inst::Load64 { rd, mem })
-        }
-        Inst::Load64ZExt8 { rd, mem } => {
-            let (rd, mem) = registers.output_and_memory(*rd, mem);
-            Ok(Inst::Load64ZExt8 { rd, mem })
-        }
-        Inst::Load64SExt8 { rd, mem } => {
-            let (rd, mem) = registers.output_and_memory(*rd, mem);
-            Ok(Inst::Load64SExt8 { rd, mem })
-        }
-        Inst::Load64ZExt16 { rd, mem } => {
-            let (rd, mem) = registers.output_and_memory(*rd, mem);
-            Ok(Inst::Load64ZExt16 { rd, mem })
-        }
-        Inst::Load64SExt16 { rd, mem } => {
-            let (rd, mem) = registers.output_and_memory(*rd, mem);
-            Ok(Inst::Load64SExt16 { rd, mem })
-        }
-        Inst::Load64ZExt32 { rd, mem } => {
-            let (rd, mem) = registers.output_and_memory(*rd, mem);
-            Ok(Inst::Load64ZExt32 { rd, mem })
-        }
-        Inst::Load64SExt32 { rd, mem } => {
-            let (rd, mem) = registers.output_and_memory(*rd, mem);
-            Ok(Inst::Load64SExt32 { rd, mem })
-        }
-        Inst::LoadRev16 { rd, mem } => {
-            let (rd, mem) = registers.output_and_memory(*rd, mem);
-            Ok(Inst::LoadRev16 { rd, mem })
-        }
-        Inst::LoadRev32 { rd, mem } => {
-            let (rd, mem) = registers.output_and_memory(*rd, mem);
-            Ok(Inst::LoadRev32 { rd, mem })
-        }
-        Inst::LoadRev64 { rd, mem } => {
-            let (rd, mem) = registers.output_and_memory(*rd, mem);
-            Ok(Inst::LoadRev64 { rd, mem })
-        }
         Inst::Store8 { rd, mem } => {
             let (rd, mem) = registers.input_and_memory(*rd, mem);
             Ok(Inst::Store8 { rd, mem })
@@ -196,5 +136,22 @@ pub fn assign_storage(
             Ok(Inst::AtomicCas64 { rd, ri, rn, mem })
         }
         _ => assign_control(alloc, registers, inst),
+    }
+}
+
+/// An instruction that is no operator, no move and no `Loop`, with its registers.
+pub fn assign_storage(
+    alloc: Global,
+    registers: &mut AssignedRegisters<'_>,
+    inst: &Inst,
+) -> Result<Inst, AllocError>
+    ensures { IfOk result (λ j. IsPortion (portion_by assigned_storage (first_portion inst.now) registers.old.left.now) j registers.new.left.now) }
+{
+    match inst.as_load() {
+        Some(load) => {
+            let (rd, mem) = registers.output_and_memory(load.rd, &load.mem);
+            Ok(load.op.instruction(rd, mem))
+        }
+        None => assign_store(alloc, registers, inst),
     }
 }

@@ -5,7 +5,7 @@ use Rattle.s390x_base.specs.declared.regs.Reg.{Reg}
 use Rattle.s390x_base.specs.declared.regs.Reg.TheVariants.{Real}
 use Rattle.s390x_inst.specs.declared.inst.Inst.{Inst}
 use Rattle.s390x_operands.specs.Requests.{items_of, scratch_request, used, defined}
-use Rattle.s390x_typed_steps.specs.Memory.{SiForm, SilForm, address_form, load, store, store_immediate, compare, access_elements, reversed_code, load_lane_opcode, store_lane_opcode, load_reversed_opcode, store_reversed_opcode, load_left}
+use Rattle.s390x_typed_steps.specs.Memory.{SiForm, SilForm, address_form, load_memory, store, store_immediate, compare, access_elements, reversed_code, load_lane_opcode, store_lane_opcode, load_reversed_opcode, store_reversed_opcode, load_left}
 use Rattle.s390x_typed_steps.specs.Memory.{store_left, vector_memory}
 use Rattle.s390x_typed_steps.specs.General.{is_general, is_access, four_bits, low_byte, low_displacement, low_halfword, low_word, rotation}
 use Rattle.s390x_typed_steps.specs.VectorInstruction.{is_vector, vector_row, reuses_vector, element_code, move_left_row}
@@ -19,16 +19,23 @@ use Rattle.s390x_inst.specs.declared.vec_inst.VecInst.TheVariants.{VecRRR, VecRR
 use Rattle.s390x_inst.specs.declared.vec_inst.VecInst.TheVariants.{MovToVec128, VecImmByteMask, VecImmBitMask, VecImmReplicate, VecInsertLaneUndef, VecExtractLane, VecInsertLaneImmUndef, VecReplicateLane, VecInsertLane, VecInsertLaneImm, FpuCMov32, FpuCMov64, VecCMov, VecEltRev}
 use Rattle.s390x_inst.specs.declared.vec_inst.VecInst.TheVariants.{VecInt128SCmpHi, VecInt128UCmpHi, VecLoad, VecLoadRev, VecLoadByte16Rev, VecLoadByte32Rev, VecLoadByte64Rev, VecLoadElt16Rev, VecLoadElt32Rev, VecLoadElt64Rev, VecStore, VecStoreRev, VecStoreByte16Rev, VecStoreByte32Rev}
 use Rattle.s390x_inst.specs.declared.vec_inst.VecInst.TheVariants.{VecStoreByte64Rev, VecStoreElt16Rev, VecStoreElt32Rev, VecStoreElt64Rev, VecLoadReplicate, VecLoadReplicateRev, VecLoadLane, VecLoadLaneRev, VecLoadLaneUndef, VecLoadLaneRevUndef, VecStoreLane, VecStoreLaneRev}
+use Rattle.s390x_inst.specs.declared.inst.Inst.TheVariants.{Loop', Call, ReturnCall, Ret, AllocateArgs}
 use Rattle.s390x_inst.specs.declared.inst.Inst.TheVariants.{AluRR, AluRRR, AluRRSImm16, AluRSImm16, AluRSImm32, AluRUImm16Shifted, AluRUImm32, AluRUImm32Shifted, AluRX, AtomicCas32, AtomicCas64, CMov32, CMov32SImm16, CMov64}
 use Rattle.s390x_inst.specs.declared.inst.Inst.TheVariants.{CMov64SImm16, CmpRR, CmpRSImm16, CmpRSImm32, CmpRUImm32, CmpRX, CmpTrapRR, CmpTrapRSImm16, CmpTrapRUImm16, CondBr, CondBreak, Debugtrap, DummyUse, Extend}
-use Rattle.s390x_inst.specs.declared.inst.Inst.TheVariants.{Fence, Flogr, Insert64UImm16Shifted, Insert64UImm32Shifted, InsertAR, Jump, Load32, Load32SExt16, Load32SExt8, Load32ZExt16, Load32ZExt8, Load64, Load64SExt16, Load64SExt32}
-use Rattle.s390x_inst.specs.declared.inst.Inst.TheVariants.{Load64SExt8, Load64ZExt16, Load64ZExt32, Load64ZExt8, LoadAR, LoadAddr, LoadIndexedAddr, LoadLogicalIndexedAddr, LoadRev16, LoadRev32, LoadRev64, Mov32, Mov32Imm, Mov32SImm16}
+use Rattle.s390x_inst.specs.declared.inst.Inst.TheVariants.{Fence, Flogr, Insert64UImm16Shifted, Insert64UImm32Shifted, InsertAR, Jump}
+use Rattle.s390x_inst.specs.declared.inst.Inst.TheVariants.{LoadAR, LoadAddr, LoadIndexedAddr, LoadLogicalIndexedAddr, Mov32, Mov32Imm, Mov32SImm16}
 use Rattle.s390x_inst.specs.declared.inst.Inst.TheVariants.{Mov64, Mov64SImm16, Mov64SImm32, Mov64UImm16Shifted, Mov64UImm32Shifted, MovPReg, Nop0, Nop2, RxSBG, RxSBGTest, SDivMod32, SDivMod64, SMulWide, SequencePoint}
 use Rattle.s390x_inst.specs.declared.inst.Inst.TheVariants.{ShiftRR, Store16, Store32, Store64, Store8, StoreImm16, StoreImm32SExt16, StoreImm64SExt16, StoreImm8, StoreRev16, StoreRev32, StoreRev64, Trap, TrapIf}
 use Rattle.s390x_inst.specs.declared.inst.Inst.TheVariants.{UDivMod32, UDivMod64, UMulWide, UnaryRR, Vector, IndirectBr, JTSequence, LoadSymbolReloc, LabelAddress, Args, Rets, LoadMultiple64, StoreMultiple64, AtomicRmw}
 use Rattle.s390x_operands.specs.declared.constraint.Reported.TheVariants.{Fixed}
 use Rattle.s390x_operands.specs.Operands.{leaf_requests}
+use Rattle.s390x_inst.specs.declared.args.MemArg.{MemArg}
+use Rattle.s390x_inst.specs.declared.load.Load.{Load}
+use Rattle.s390x_inst.specs.declared.load.LoadOp.{LoadOp}
+use Rattle.s390x_inst.specs.declared.load.LoadOp.TheVariants as LoadOps
+use Rattle.s390x_inst.specs.Loads.{as_load, load_instruction}
 use Rattle.s390x_inst.specs.Portions.{first_portion}
+use Rattle.s390x_inst.proofs.Loads.{the_load}
 use Rattle.s390x_assign.specs.Assignments.{portion_at}
 use Rattle.s390x_assign_laws.proofs.Given.{clear, Gives, used_given, defined_given, int_kept, float_kept}
 use Rattle.s390x_assign_laws.proofs.Single.{general1_before, general1, general2, general3, reuse1, reuse2, general1_and, reuse1_and}
@@ -37,7 +44,13 @@ use Rattle.s390x_assign_laws.proofs.Accesses.{access1, access0, load_range, stor
 use Rattle.s390x_assign_laws.proofs.Vectors.{mixed1, mixed2, mixed3, mixed4, reuse_vector1, reuse_vector2, reuse_vector3, reverse, elements_accessed, lane_accessed, left_accessed, vector_access, reuse_vector_access}
 use Rattle.s390x_assign_laws.proofs.Control.{portion_refusal, unread, branch, table, label_address}
 
--- each instruction, by the shape of its registers
+-- a load: the last clause is a copy for each
+load_blames : (P : Place) (op : LoadOp) (rd : Reg) (mem : MemArg) (s s' : List Reg) → MayStand (load_instruction op rd mem) → Gives s s' s s' (items_of (leaf_requests (load_instruction op rd mem))) → portion_refusal P (portion_at (first_portion (load_instruction op rd mem)) s').0 ≡ None →
+    IsNotBlamed (portion_refusal P (portion_at (first_portion (load_instruction op rd mem)) s).0)
+load_blames P LoadOps.Load64 rd mem s s' m g h = access1 P defined defined_given (load_instruction LoadOps.Load64) (λ rd mem. load_memory (record { op = LoadOps.Load64; rd = rd; mem = mem })) (λ q q' x x' v n p k. record { valid = v; general = p; keeps_base = k; reads_none = refl }) (λ a x. (refl, refl)) rd mem s s' m.0 m.1 g h
+load_blames P op rd mem s s' m g h = access1 P defined defined_given (load_instruction op) (λ rd mem. load_memory (record { op = op; rd = rd; mem = mem })) (λ q q' x x' v n p k. record { valid = v; general = p; keeps_base = k; reads_none = refl }) (λ a x. (refl, refl)) rd mem s s' m.0 m.1 g h
+
+-- each instruction, by the shape of its registers; the last clause is a copy for each load
 pub blames : (P : Place) (i : Inst) (s s' : List Reg) → MayStand i → Gives s s' s s' (items_of (leaf_requests i)) → portion_refusal P (portion_at (first_portion i) s').0 ≡ None → IsNotBlamed (portion_refusal P (portion_at (first_portion i) s).0)
 blames P (LoadIndexedAddr rd base index offset size) s s' m g h = general3 P defined defined_given (λ rd base index. LoadIndexedAddr rd base index offset size) (λ rd base index. indexed_row (indexed_opcode size) (number_of rd) (number_of base) (number_of index) (low_displacement offset)) (λ rd base index. refl) rd base index s s' g h
 blames P (LoadLogicalIndexedAddr rd base index offset size) s s' m g h = general3 P defined defined_given (λ rd base index. LoadLogicalIndexedAddr rd base index offset size) (λ rd base index. indexed_row (logical_indexed_opcode size) (number_of rd) (number_of base) (number_of index) (low_displacement offset)) (λ rd base index. refl) rd base index s s' g h
@@ -122,21 +135,6 @@ blames P Debugtrap s s' m g h = unread _ h
 blames P SequencePoint s s' m g h = unread _ h
 blames P (DummyUse reg) s s' m g h = unread _ h
 blames P (CmpRX op rn mem) s s' m g h = access1 P used used_given (λ a x. CmpRX op a x) (λ rn mem. compare rn (cmp_rx op) (cmp_rxy op) (cmp_ril op) mem) (λ q q' x x' v n p k. record { valid = v; general = p; keeps_base = k; reads_none = n }) (λ a x. (refl, refl)) rn mem s s' m.0 m.1 g h
-blames P (Load32 rd mem) s s' m g h = access1 P defined defined_given (λ a x. Load32 a x) (λ rd mem. load rd (Some 0x58) (Some 0xe358) (Some 0xc4d) mem) (λ q q' x x' v n p k. record { valid = v; general = p; keeps_base = k; reads_none = refl }) (λ a x. (refl, refl)) rd mem s s' m.0 m.1 g h
-blames P (Load32ZExt8 rd mem) s s' m g h = access1 P defined defined_given (λ a x. Load32ZExt8 a x) (λ rd mem. load rd None (Some 0xe394) None mem) (λ q q' x x' v n p k. record { valid = v; general = p; keeps_base = k; reads_none = refl }) (λ a x. (refl, refl)) rd mem s s' m.0 m.1 g h
-blames P (Load32SExt8 rd mem) s s' m g h = access1 P defined defined_given (λ a x. Load32SExt8 a x) (λ rd mem. load rd None (Some 0xe376) None mem) (λ q q' x x' v n p k. record { valid = v; general = p; keeps_base = k; reads_none = refl }) (λ a x. (refl, refl)) rd mem s s' m.0 m.1 g h
-blames P (Load32ZExt16 rd mem) s s' m g h = access1 P defined defined_given (λ a x. Load32ZExt16 a x) (λ rd mem. load rd None (Some 0xe395) (Some 0xc42) mem) (λ q q' x x' v n p k. record { valid = v; general = p; keeps_base = k; reads_none = refl }) (λ a x. (refl, refl)) rd mem s s' m.0 m.1 g h
-blames P (Load32SExt16 rd mem) s s' m g h = access1 P defined defined_given (λ a x. Load32SExt16 a x) (λ rd mem. load rd (Some 0x48) (Some 0xe378) (Some 0xc45) mem) (λ q q' x x' v n p k. record { valid = v; general = p; keeps_base = k; reads_none = refl }) (λ a x. (refl, refl)) rd mem s s' m.0 m.1 g h
-blames P (Load64 rd mem) s s' m g h = access1 P defined defined_given (λ a x. Load64 a x) (λ rd mem. load rd None (Some 0xe304) (Some 0xc48) mem) (λ q q' x x' v n p k. record { valid = v; general = p; keeps_base = k; reads_none = refl }) (λ a x. (refl, refl)) rd mem s s' m.0 m.1 g h
-blames P (Load64ZExt8 rd mem) s s' m g h = access1 P defined defined_given (λ a x. Load64ZExt8 a x) (λ rd mem. load rd None (Some 0xe390) None mem) (λ q q' x x' v n p k. record { valid = v; general = p; keeps_base = k; reads_none = refl }) (λ a x. (refl, refl)) rd mem s s' m.0 m.1 g h
-blames P (Load64SExt8 rd mem) s s' m g h = access1 P defined defined_given (λ a x. Load64SExt8 a x) (λ rd mem. load rd None (Some 0xe377) None mem) (λ q q' x x' v n p k. record { valid = v; general = p; keeps_base = k; reads_none = refl }) (λ a x. (refl, refl)) rd mem s s' m.0 m.1 g h
-blames P (Load64ZExt16 rd mem) s s' m g h = access1 P defined defined_given (λ a x. Load64ZExt16 a x) (λ rd mem. load rd None (Some 0xe391) (Some 0xc46) mem) (λ q q' x x' v n p k. record { valid = v; general = p; keeps_base = k; reads_none = refl }) (λ a x. (refl, refl)) rd mem s s' m.0 m.1 g h
-blames P (Load64SExt16 rd mem) s s' m g h = access1 P defined defined_given (λ a x. Load64SExt16 a x) (λ rd mem. load rd None (Some 0xe315) (Some 0xc44) mem) (λ q q' x x' v n p k. record { valid = v; general = p; keeps_base = k; reads_none = refl }) (λ a x. (refl, refl)) rd mem s s' m.0 m.1 g h
-blames P (Load64ZExt32 rd mem) s s' m g h = access1 P defined defined_given (λ a x. Load64ZExt32 a x) (λ rd mem. load rd None (Some 0xe316) (Some 0xc4e) mem) (λ q q' x x' v n p k. record { valid = v; general = p; keeps_base = k; reads_none = refl }) (λ a x. (refl, refl)) rd mem s s' m.0 m.1 g h
-blames P (Load64SExt32 rd mem) s s' m g h = access1 P defined defined_given (λ a x. Load64SExt32 a x) (λ rd mem. load rd None (Some 0xe314) (Some 0xc4c) mem) (λ q q' x x' v n p k. record { valid = v; general = p; keeps_base = k; reads_none = refl }) (λ a x. (refl, refl)) rd mem s s' m.0 m.1 g h
-blames P (LoadRev16 rd mem) s s' m g h = access1 P defined defined_given (λ a x. LoadRev16 a x) (λ rd mem. load rd None (Some 0xe31f) None mem) (λ q q' x x' v n p k. record { valid = v; general = p; keeps_base = k; reads_none = refl }) (λ a x. (refl, refl)) rd mem s s' m.0 m.1 g h
-blames P (LoadRev32 rd mem) s s' m g h = access1 P defined defined_given (λ a x. LoadRev32 a x) (λ rd mem. load rd None (Some 0xe31e) None mem) (λ q q' x x' v n p k. record { valid = v; general = p; keeps_base = k; reads_none = refl }) (λ a x. (refl, refl)) rd mem s s' m.0 m.1 g h
-blames P (LoadRev64 rd mem) s s' m g h = access1 P defined defined_given (λ a x. LoadRev64 a x) (λ rd mem. load rd None (Some 0xe30f) None mem) (λ q q' x x' v n p k. record { valid = v; general = p; keeps_base = k; reads_none = refl }) (λ a x. (refl, refl)) rd mem s s' m.0 m.1 g h
 blames P (Store8 rd mem) s s' m g h = access1 P used used_given (λ a x. Store8 a x) (λ rd mem. store rd (Some 0x42) (Some 0xe372) None mem) (λ q q' x x' v n p k. record { valid = v; general = p; keeps_base = k; reads_none = n }) (λ a x. (refl, refl)) rd mem s s' m.0 m.1 g h
 blames P (Store16 rd mem) s s' m g h = access1 P used used_given (λ a x. Store16 a x) (λ rd mem. store rd (Some 0x40) (Some 0xe370) (Some 0xc47) mem) (λ q q' x x' v n p k. record { valid = v; general = p; keeps_base = k; reads_none = n }) (λ a x. (refl, refl)) rd mem s s' m.0 m.1 g h
 blames P (Store32 rd mem) s s' m g h = access1 P used used_given (λ a x. Store32 a x) (λ rd mem. store rd (Some 0x50) (Some 0xe350) (Some 0xc4f) mem) (λ q q' x x' v n p k. record { valid = v; general = p; keeps_base = k; reads_none = n }) (λ a x. (refl, refl)) rd mem s s' m.0 m.1 g h
@@ -190,4 +188,9 @@ blames P (Vector (VecLoadLaneUndef size rd mem lane)) s s' m g h = vector_access
 blames P (Vector (VecStoreLane size rd mem lane)) s s' m g h = vector_access P used used_given (λ a x. Vector (VecStoreLane size a x lane)) (λ a x. vector_memory (VecStoreLane size a x lane)) (λ a x. left_accessed (λ z r. store_left z r) (λ c. store_lane_opcode c) a size lane x) (λ a x. (refl, refl)) rd mem s s' m.1 g h
 blames P (Vector (VecLoadLaneRevUndef size rd mem lane)) s s' m g h = vector_access P defined defined_given (λ a x. Vector (VecLoadLaneRevUndef size a x lane)) (λ a x. vector_memory (VecLoadLaneRevUndef size a x lane)) (λ a x. lane_accessed (is_vector a) (λ c. load_reversed_opcode c) (number_of a) (reversed_code size) size lane x) (λ a x. (refl, refl)) rd mem s s' m.1 g h
 blames P (Vector (VecStoreLaneRev size rd mem lane)) s s' m g h = vector_access P used used_given (λ a x. Vector (VecStoreLaneRev size a x lane)) (λ a x. vector_memory (VecStoreLaneRev size a x lane)) (λ a x. lane_accessed (is_vector a) (λ c. store_reversed_opcode c) (number_of a) (reversed_code size) size lane x) (λ a x. (refl, refl)) rd mem s s' m.1 g h
-blames P i s s' m g h = absurd m
+blames P (Loop' mask body all) s s' m g h = absurd m
+blames P (Call link info) s s' m g h = absurd m
+blames P (ReturnCall info) s s' m g h = absurd m
+blames P (Ret link) s s' m g h = absurd m
+blames P (AllocateArgs size) s s' m g h = absurd m
+blames P i s s' m g h = let l : Load = the_load (as_load i) refl in load_blames P l.op l.rd l.mem s s' m g h

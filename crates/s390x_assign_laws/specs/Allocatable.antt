@@ -13,8 +13,8 @@ use Rattle.s390x_inst.specs.declared.args.MemArg.TheVariants.{BXD12, BXD20, RegO
 use Rattle.s390x_inst.specs.declared.calls.ArgPair.{ArgPair}
 use Rattle.s390x_inst.specs.declared.calls.RetPair.{RetPair}
 use Rattle.s390x_inst.specs.declared.inst.Inst.{Inst}
-use Rattle.s390x_inst.specs.declared.inst.Inst.TheVariants.{IndirectBr, JTSequence, Call, ReturnCall, LoadSymbolReloc, LabelAddress, Args, Rets, DummyUse, Vector, Load32, Load32ZExt8, Load32SExt8, Load32ZExt16}
-use Rattle.s390x_inst.specs.declared.inst.Inst.TheVariants.{Load32SExt16, Load64, Load64ZExt8, Load64SExt8, Load64ZExt16, Load64SExt16, Load64ZExt32, Load64SExt32, LoadRev16, LoadRev32, LoadRev64, Store8, Store16, Store32}
+use Rattle.s390x_inst.specs.declared.inst.Inst.TheVariants.{IndirectBr, JTSequence, Call, ReturnCall, LoadSymbolReloc, LabelAddress, Args, Rets, DummyUse, Vector}
+use Rattle.s390x_inst.specs.declared.inst.Inst.TheVariants.{Store8, Store16, Store32}
 use Rattle.s390x_inst.specs.declared.inst.Inst.TheVariants.{Store64, StoreRev16, StoreRev32, StoreRev64, StoreImm8, StoreImm16, StoreImm32SExt16, StoreImm64SExt16, LoadMultiple64, StoreMultiple64, LoadAddr, LoadIndexedAddr, LoadLogicalIndexedAddr, AtomicRmw}
 use Rattle.s390x_inst.specs.declared.inst.Inst.TheVariants.{AtomicCas32, AtomicCas64, Mov64, MovPReg, Mov32, Mov32Imm, Mov32SImm16, Mov64SImm16, Mov64SImm32, Mov64UImm16Shifted, Mov64UImm32Shifted, Insert64UImm16Shifted, Insert64UImm32Shifted, CMov32}
 use Rattle.s390x_inst.specs.declared.inst.Inst.TheVariants.{CMov64, CMov32SImm16, CMov64SImm16, Extend, LoadAR, InsertAR, AluRRR, AluRRSImm16, AluRR, AluRX, AluRSImm16, AluRSImm32, AluRUImm32, AluRUImm16Shifted}
@@ -22,6 +22,7 @@ use Rattle.s390x_inst.specs.declared.inst.Inst.TheVariants.{AluRUImm32Shifted, S
 use Rattle.s390x_inst.specs.declared.inst.Inst.TheVariants.{CmpRSImm16, CmpRSImm32, CmpRUImm32, CmpTrapRR, CmpTrapRSImm16, CmpTrapRUImm16, Jump, CondBr, CondBreak, Nop0, Nop2, Fence, Trap, TrapIf}
 use Rattle.s390x_inst.specs.declared.inst.Inst.TheVariants.{Debugtrap, SequencePoint}
 use Rattle.s390x_inst.specs.declared.state.IsaFlags.{IsaFlags}
+use Rattle.s390x_inst.specs.Loads.{as_load, by_load}
 use Rattle.s390x_inst.specs.declared.vec_inst.VecInst.{VecInst}
 use Rattle.s390x_inst.specs.declared.vec_inst.VecInst.TheVariants.{VecRRR, VecRR, VecShiftRR, VecSelect, VecPermute, VecBlend, VecEvaluate, VecPermuteDWImm, VecIntCmp, VecIntCmpS, VecIntEltCmp, VecInt128SCmpHi, VecInt128UCmpHi, VecMov}
 use Rattle.s390x_inst.specs.declared.vec_inst.VecInst.TheVariants.{FpuMove32, FpuMove64, FpuCMov32, FpuCMov64, VecCMov, MovToVec128, VecImmByteMask, VecImmBitMask, VecImmReplicate, VecInsertLane, VecInsertLaneUndef, VecExtractLane, VecInsertLaneImm, VecInsertLaneImmUndef}
@@ -133,108 +134,97 @@ VectorMayStand (VecStoreLane size rd mem lane_imm) = IsVirtual rd × MemoryMaySt
 VectorMayStand (VecStoreLaneRev size rd mem lane_imm) = IsVirtual rd × MemoryMayStand mem
 
 -- All other registers are virtual. A `Loop`, a call and an allocation of arguments aren't meant, and the register of a `Ret` isn't reported.
+abbrev pub OtherMayStand : Inst → Type 0
+OtherMayStand (IndirectBr rn targets) = IsVirtual rn
+OtherMayStand (JTSequence ridx default default_cond targets) = IsVirtual ridx
+OtherMayStand (Call link info) = ⊥
+OtherMayStand (ReturnCall info) = ⊥
+OtherMayStand (LoadSymbolReloc rd symbol_reloc) = IsVirtual rd
+OtherMayStand (LabelAddress dst label) = IsVirtual dst
+OtherMayStand (Args args) = All MayTakeIn args.items
+OtherMayStand (Rets rets) = All MayHandBack rets.items
+OtherMayStand (DummyUse reg) = IsVirtual reg
+OtherMayStand (Vector v) = VectorMayStand v
+OtherMayStand (Store8 rd mem) = IsVirtual rd × MemoryMayStand mem
+OtherMayStand (Store16 rd mem) = IsVirtual rd × MemoryMayStand mem
+OtherMayStand (Store32 rd mem) = IsVirtual rd × MemoryMayStand mem
+OtherMayStand (Store64 rd mem) = IsVirtual rd × MemoryMayStand mem
+OtherMayStand (StoreRev16 rd mem) = IsVirtual rd × MemoryMayStand mem
+OtherMayStand (StoreRev32 rd mem) = IsVirtual rd × MemoryMayStand mem
+OtherMayStand (StoreRev64 rd mem) = IsVirtual rd × MemoryMayStand mem
+OtherMayStand (StoreImm8 imm mem) = MemoryMayStand mem
+OtherMayStand (StoreImm16 imm mem) = MemoryMayStand mem
+OtherMayStand (StoreImm32SExt16 imm mem) = MemoryMayStand mem
+OtherMayStand (StoreImm64SExt16 imm mem) = MemoryMayStand mem
+OtherMayStand (LoadMultiple64 rt rt2 mem) = IsFreeRange rt rt2 × MemoryMayStand mem
+OtherMayStand (StoreMultiple64 rt rt2 mem) = IsFreeRange rt rt2 × MemoryMayStand mem
+OtherMayStand (LoadAddr rd mem) = IsVirtual rd × MemoryMayStand mem
+OtherMayStand (LoadIndexedAddr rd base index offset size) = IsVirtual rd × MayAddress base × MayAddress index
+OtherMayStand (LoadLogicalIndexedAddr rd base index offset size) = IsVirtual rd × MayAddress base × MayAddress index
+OtherMayStand (AtomicRmw alu_op rd rn mem) = IsVirtual rd × IsVirtual rn × MemoryMayStand mem
+OtherMayStand (AtomicCas32 rd ri rn mem) = IsVirtual rd × IsVirtual ri × IsVirtual rn × MemoryMayStand mem
+OtherMayStand (AtomicCas64 rd ri rn mem) = IsVirtual rd × IsVirtual ri × IsVirtual rn × MemoryMayStand mem
+OtherMayStand (Mov64 rd rm) = IsVirtual rd × IsVirtual rm
+OtherMayStand (MovPReg rd rm) = IsVirtual rd × (rm ≡ general 1 → ⊥)
+OtherMayStand (Mov32 rd rm) = IsVirtual rd × IsVirtual rm
+OtherMayStand (Mov32Imm rd imm) = IsVirtual rd
+OtherMayStand (Mov32SImm16 rd imm) = IsVirtual rd
+OtherMayStand (Mov64SImm16 rd imm) = IsVirtual rd
+OtherMayStand (Mov64SImm32 rd imm) = IsVirtual rd
+OtherMayStand (Mov64UImm16Shifted rd imm) = IsVirtual rd
+OtherMayStand (Mov64UImm32Shifted rd imm) = IsVirtual rd
+OtherMayStand (Insert64UImm16Shifted rd ri imm) = IsVirtual rd × IsVirtual ri
+OtherMayStand (Insert64UImm32Shifted rd ri imm) = IsVirtual rd × IsVirtual ri
+OtherMayStand (CMov32 rd cond ri rm) = IsVirtual rd × IsVirtual ri × IsVirtual rm
+OtherMayStand (CMov64 rd cond ri rm) = IsVirtual rd × IsVirtual ri × IsVirtual rm
+OtherMayStand (CMov32SImm16 rd cond ri imm) = IsVirtual rd × IsVirtual ri
+OtherMayStand (CMov64SImm16 rd cond ri imm) = IsVirtual rd × IsVirtual ri
+OtherMayStand (Extend rd rn signed from_bits to_bits) = IsVirtual rd × IsVirtual rn
+OtherMayStand (LoadAR rd ar) = IsVirtual rd
+OtherMayStand (InsertAR rd ri ar) = IsVirtual rd × IsVirtual ri
+OtherMayStand (AluRRR alu_op rd rn rm) = IsVirtual rd × IsVirtual rn × IsVirtual rm
+OtherMayStand (AluRRSImm16 alu_op rd rn imm) = IsVirtual rd × IsVirtual rn
+OtherMayStand (AluRR alu_op rd ri rm) = IsVirtual rd × IsVirtual ri × IsVirtual rm
+OtherMayStand (AluRX alu_op rd ri mem) = IsVirtual rd × IsVirtual ri × MemoryMayStand mem
+OtherMayStand (AluRSImm16 alu_op rd ri imm) = IsVirtual rd × IsVirtual ri
+OtherMayStand (AluRSImm32 alu_op rd ri imm) = IsVirtual rd × IsVirtual ri
+OtherMayStand (AluRUImm32 alu_op rd ri imm) = IsVirtual rd × IsVirtual ri
+OtherMayStand (AluRUImm16Shifted alu_op rd ri imm) = IsVirtual rd × IsVirtual ri
+OtherMayStand (AluRUImm32Shifted alu_op rd ri imm) = IsVirtual rd × IsVirtual ri
+OtherMayStand (SMulWide rd rn rm) = IsVirtual rn × IsVirtual rm × IsNotScratch rd.hi × IsNotScratch rd.lo
+OtherMayStand (UMulWide rd ri rn) = IsVirtual rn × IsNotScratch rd.hi × IsNotScratch rd.lo × IsNotScratch ri
+OtherMayStand (SDivMod32 rd ri rn) = IsVirtual rn × IsNotScratch rd.hi × IsNotScratch rd.lo × IsNotScratch ri
+OtherMayStand (SDivMod64 rd ri rn) = IsVirtual rn × IsNotScratch rd.hi × IsNotScratch rd.lo × IsNotScratch ri
+OtherMayStand (UDivMod32 rd ri rn) = IsVirtual rn × IsNotScratch rd.hi × IsNotScratch rd.lo × IsNotScratch ri.hi × IsNotScratch ri.lo
+OtherMayStand (UDivMod64 rd ri rn) = IsVirtual rn × IsNotScratch rd.hi × IsNotScratch rd.lo × IsNotScratch ri.hi × IsNotScratch ri.lo
+OtherMayStand (Flogr rd rn) = IsVirtual rn × IsNotScratch rd.hi × IsNotScratch rd.lo
+OtherMayStand (ShiftRR shift_op rd rn shift_imm shift_reg) = IsVirtual rd × IsVirtual rn × MayAddress shift_reg
+OtherMayStand (RxSBG op rd ri rn start_bit end_bit rotate_amt) = IsVirtual rd × IsVirtual ri × IsVirtual rn
+OtherMayStand (RxSBGTest op rd rn start_bit end_bit rotate_amt) = IsVirtual rd × IsVirtual rn
+OtherMayStand (UnaryRR op rd rn) = IsVirtual rd × IsVirtual rn
+OtherMayStand (CmpRR op rn rm) = IsVirtual rn × IsVirtual rm
+OtherMayStand (CmpRX op rn mem) = IsVirtual rn × MemoryMayStand mem
+OtherMayStand (CmpRSImm16 op rn imm) = IsVirtual rn
+OtherMayStand (CmpRSImm32 op rn imm) = IsVirtual rn
+OtherMayStand (CmpRUImm32 op rn imm) = IsVirtual rn
+OtherMayStand (CmpTrapRR op rn rm cond trap_code) = IsVirtual rn × IsVirtual rm
+OtherMayStand (CmpTrapRSImm16 op rn imm cond trap_code) = IsVirtual rn
+OtherMayStand (CmpTrapRUImm16 op rn imm cond trap_code) = IsVirtual rn
+OtherMayStand (Jump dest) = ⊤
+OtherMayStand (CondBr taken not_taken mask) = ⊤
+OtherMayStand (CondBreak mask) = ⊤
+OtherMayStand Nop0 = ⊤
+OtherMayStand Nop2 = ⊤
+OtherMayStand Fence = ⊤
+OtherMayStand (Trap code) = ⊤
+OtherMayStand (TrapIf mask code) = ⊤
+OtherMayStand Debugtrap = ⊤
+OtherMayStand SequencePoint = ⊤
+OtherMayStand i = ⊥
+
+-- the same of each instruction
 abbrev pub MayStand : Inst → Type 0
-MayStand (IndirectBr rn targets) = IsVirtual rn
-MayStand (JTSequence ridx default default_cond targets) = IsVirtual ridx
-MayStand (Call link info) = ⊥
-MayStand (ReturnCall info) = ⊥
-MayStand (LoadSymbolReloc rd symbol_reloc) = IsVirtual rd
-MayStand (LabelAddress dst label) = IsVirtual dst
-MayStand (Args args) = All MayTakeIn args.items
-MayStand (Rets rets) = All MayHandBack rets.items
-MayStand (DummyUse reg) = IsVirtual reg
-MayStand (Vector v) = VectorMayStand v
-MayStand (Load32 rd mem) = IsVirtual rd × MemoryMayStand mem
-MayStand (Load32ZExt8 rd mem) = IsVirtual rd × MemoryMayStand mem
-MayStand (Load32SExt8 rd mem) = IsVirtual rd × MemoryMayStand mem
-MayStand (Load32ZExt16 rd mem) = IsVirtual rd × MemoryMayStand mem
-MayStand (Load32SExt16 rd mem) = IsVirtual rd × MemoryMayStand mem
-MayStand (Load64 rd mem) = IsVirtual rd × MemoryMayStand mem
-MayStand (Load64ZExt8 rd mem) = IsVirtual rd × MemoryMayStand mem
-MayStand (Load64SExt8 rd mem) = IsVirtual rd × MemoryMayStand mem
-MayStand (Load64ZExt16 rd mem) = IsVirtual rd × MemoryMayStand mem
-MayStand (Load64SExt16 rd mem) = IsVirtual rd × MemoryMayStand mem
-MayStand (Load64ZExt32 rd mem) = IsVirtual rd × MemoryMayStand mem
-MayStand (Load64SExt32 rd mem) = IsVirtual rd × MemoryMayStand mem
-MayStand (LoadRev16 rd mem) = IsVirtual rd × MemoryMayStand mem
-MayStand (LoadRev32 rd mem) = IsVirtual rd × MemoryMayStand mem
-MayStand (LoadRev64 rd mem) = IsVirtual rd × MemoryMayStand mem
-MayStand (Store8 rd mem) = IsVirtual rd × MemoryMayStand mem
-MayStand (Store16 rd mem) = IsVirtual rd × MemoryMayStand mem
-MayStand (Store32 rd mem) = IsVirtual rd × MemoryMayStand mem
-MayStand (Store64 rd mem) = IsVirtual rd × MemoryMayStand mem
-MayStand (StoreRev16 rd mem) = IsVirtual rd × MemoryMayStand mem
-MayStand (StoreRev32 rd mem) = IsVirtual rd × MemoryMayStand mem
-MayStand (StoreRev64 rd mem) = IsVirtual rd × MemoryMayStand mem
-MayStand (StoreImm8 imm mem) = MemoryMayStand mem
-MayStand (StoreImm16 imm mem) = MemoryMayStand mem
-MayStand (StoreImm32SExt16 imm mem) = MemoryMayStand mem
-MayStand (StoreImm64SExt16 imm mem) = MemoryMayStand mem
-MayStand (LoadMultiple64 rt rt2 mem) = IsFreeRange rt rt2 × MemoryMayStand mem
-MayStand (StoreMultiple64 rt rt2 mem) = IsFreeRange rt rt2 × MemoryMayStand mem
-MayStand (LoadAddr rd mem) = IsVirtual rd × MemoryMayStand mem
-MayStand (LoadIndexedAddr rd base index offset size) = IsVirtual rd × MayAddress base × MayAddress index
-MayStand (LoadLogicalIndexedAddr rd base index offset size) = IsVirtual rd × MayAddress base × MayAddress index
-MayStand (AtomicRmw alu_op rd rn mem) = IsVirtual rd × IsVirtual rn × MemoryMayStand mem
-MayStand (AtomicCas32 rd ri rn mem) = IsVirtual rd × IsVirtual ri × IsVirtual rn × MemoryMayStand mem
-MayStand (AtomicCas64 rd ri rn mem) = IsVirtual rd × IsVirtual ri × IsVirtual rn × MemoryMayStand mem
-MayStand (Mov64 rd rm) = IsVirtual rd × IsVirtual rm
-MayStand (MovPReg rd rm) = IsVirtual rd × (rm ≡ general 1 → ⊥)
-MayStand (Mov32 rd rm) = IsVirtual rd × IsVirtual rm
-MayStand (Mov32Imm rd imm) = IsVirtual rd
-MayStand (Mov32SImm16 rd imm) = IsVirtual rd
-MayStand (Mov64SImm16 rd imm) = IsVirtual rd
-MayStand (Mov64SImm32 rd imm) = IsVirtual rd
-MayStand (Mov64UImm16Shifted rd imm) = IsVirtual rd
-MayStand (Mov64UImm32Shifted rd imm) = IsVirtual rd
-MayStand (Insert64UImm16Shifted rd ri imm) = IsVirtual rd × IsVirtual ri
-MayStand (Insert64UImm32Shifted rd ri imm) = IsVirtual rd × IsVirtual ri
-MayStand (CMov32 rd cond ri rm) = IsVirtual rd × IsVirtual ri × IsVirtual rm
-MayStand (CMov64 rd cond ri rm) = IsVirtual rd × IsVirtual ri × IsVirtual rm
-MayStand (CMov32SImm16 rd cond ri imm) = IsVirtual rd × IsVirtual ri
-MayStand (CMov64SImm16 rd cond ri imm) = IsVirtual rd × IsVirtual ri
-MayStand (Extend rd rn signed from_bits to_bits) = IsVirtual rd × IsVirtual rn
-MayStand (LoadAR rd ar) = IsVirtual rd
-MayStand (InsertAR rd ri ar) = IsVirtual rd × IsVirtual ri
-MayStand (AluRRR alu_op rd rn rm) = IsVirtual rd × IsVirtual rn × IsVirtual rm
-MayStand (AluRRSImm16 alu_op rd rn imm) = IsVirtual rd × IsVirtual rn
-MayStand (AluRR alu_op rd ri rm) = IsVirtual rd × IsVirtual ri × IsVirtual rm
-MayStand (AluRX alu_op rd ri mem) = IsVirtual rd × IsVirtual ri × MemoryMayStand mem
-MayStand (AluRSImm16 alu_op rd ri imm) = IsVirtual rd × IsVirtual ri
-MayStand (AluRSImm32 alu_op rd ri imm) = IsVirtual rd × IsVirtual ri
-MayStand (AluRUImm32 alu_op rd ri imm) = IsVirtual rd × IsVirtual ri
-MayStand (AluRUImm16Shifted alu_op rd ri imm) = IsVirtual rd × IsVirtual ri
-MayStand (AluRUImm32Shifted alu_op rd ri imm) = IsVirtual rd × IsVirtual ri
-MayStand (SMulWide rd rn rm) = IsVirtual rn × IsVirtual rm × IsNotScratch rd.hi × IsNotScratch rd.lo
-MayStand (UMulWide rd ri rn) = IsVirtual rn × IsNotScratch rd.hi × IsNotScratch rd.lo × IsNotScratch ri
-MayStand (SDivMod32 rd ri rn) = IsVirtual rn × IsNotScratch rd.hi × IsNotScratch rd.lo × IsNotScratch ri
-MayStand (SDivMod64 rd ri rn) = IsVirtual rn × IsNotScratch rd.hi × IsNotScratch rd.lo × IsNotScratch ri
-MayStand (UDivMod32 rd ri rn) = IsVirtual rn × IsNotScratch rd.hi × IsNotScratch rd.lo × IsNotScratch ri.hi × IsNotScratch ri.lo
-MayStand (UDivMod64 rd ri rn) = IsVirtual rn × IsNotScratch rd.hi × IsNotScratch rd.lo × IsNotScratch ri.hi × IsNotScratch ri.lo
-MayStand (Flogr rd rn) = IsVirtual rn × IsNotScratch rd.hi × IsNotScratch rd.lo
-MayStand (ShiftRR shift_op rd rn shift_imm shift_reg) = IsVirtual rd × IsVirtual rn × MayAddress shift_reg
-MayStand (RxSBG op rd ri rn start_bit end_bit rotate_amt) = IsVirtual rd × IsVirtual ri × IsVirtual rn
-MayStand (RxSBGTest op rd rn start_bit end_bit rotate_amt) = IsVirtual rd × IsVirtual rn
-MayStand (UnaryRR op rd rn) = IsVirtual rd × IsVirtual rn
-MayStand (CmpRR op rn rm) = IsVirtual rn × IsVirtual rm
-MayStand (CmpRX op rn mem) = IsVirtual rn × MemoryMayStand mem
-MayStand (CmpRSImm16 op rn imm) = IsVirtual rn
-MayStand (CmpRSImm32 op rn imm) = IsVirtual rn
-MayStand (CmpRUImm32 op rn imm) = IsVirtual rn
-MayStand (CmpTrapRR op rn rm cond trap_code) = IsVirtual rn × IsVirtual rm
-MayStand (CmpTrapRSImm16 op rn imm cond trap_code) = IsVirtual rn
-MayStand (CmpTrapRUImm16 op rn imm cond trap_code) = IsVirtual rn
-MayStand (Jump dest) = ⊤
-MayStand (CondBr taken not_taken mask) = ⊤
-MayStand (CondBreak mask) = ⊤
-MayStand Nop0 = ⊤
-MayStand Nop2 = ⊤
-MayStand Fence = ⊤
-MayStand (Trap code) = ⊤
-MayStand (TrapIf mask code) = ⊤
-MayStand Debugtrap = ⊤
-MayStand SequencePoint = ⊤
-MayStand i = ⊥
+MayStand i = by_load (λ l. IsVirtual l.rd × MemoryMayStand l.mem) (OtherMayStand i) (as_load i)
 
 -- ---- what an allocator may give
 

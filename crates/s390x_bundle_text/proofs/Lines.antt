@@ -1,5 +1,5 @@
 -- Texts as lists of lines.
-use Rattle.std.proofs.Common.{◌≡◌, ℕ, zero, suc, ◌+◌, ◌≤◌, false, List, [], ◌∷◌, ◌++◌, length, take, refl, sym, ap, ◌∙◌, inl, inr, arith, append_assoc, append-nil, length-append}
+use Rattle.std.proofs.Common.{◌≡◌, ℕ, zero, suc, ◌+◌, false, List, [], ◌∷◌, ◌++◌, length, take, refl, sym, ap, ◌∙◌, inl, inr, append_assoc, append-nil}
 use Rattle.std.specs.Prelude.{◌==◌}
 use Rattle.s390x_words.specs.Marks.{upto, past}
 use Rattle.s390x_job.specs.Completions.{pieces_from, pieces, joined}
@@ -44,15 +44,6 @@ free_from acc (x ∷ s) h = elim (either (x == 10)) [ inl e ↦ rw e (h, free_fr
 
 pub pieces_free : (s : List ℕ) → AllFree (pieces s)
 pieces_free s = free_from [] s tt
-
-short_from : (acc s : List ℕ) → length (joined (pieces_from acc s)) ≤ length acc + length s
-short_from acc [] = omega arith
-short_from acc (x ∷ s) =
-    elim (either (x == 10)) [ inl e ↦ rw e (omega (arith, short_from [] s, length-append acc (10 ∷ joined (pieces_from [] s)))) | inr e ↦ rw e (omega (arith, short_from (acc ++ x ∷ []) s, length-append acc (x ∷ []))) ]
-
--- the lines of a text are no longer than the text
-pub pieces_short : (s : List ℕ) → length (joined (pieces s)) ≤ length s
-pieces_short s = omega (arith, short_from [] s)
 
 -- two texts of lines that are one have the same lines
 pub same_lines : (a b : List (List ℕ)) → AllFree a → AllFree b → joined a ≡ joined b → a ≡ b

@@ -1,22 +1,10 @@
 -- How long a completion is.
-use Rattle.std.proofs.Common.{◌≡◌, ℕ, zero, suc, ◌+◌, ◌*◌, ◌<◌, ◌≤◌, Bool, true, false, List, [], ◌∷◌, ◌++◌, length, take, arith, length-append}
-use Rattle.std.specs.Prelude.{codes, nat_lt, ◌-◌, if◌then◌else◌}
-use Rattle.std.specs.Str.{bytes_eq}
+use Rattle.std.proofs.Common.{ℕ, ◌+◌, ◌*◌, ◌<◌, ◌≤◌, Bool, true, false, List, [], ◌∷◌, ◌++◌, length, arith, length-append}
+use Rattle.std.specs.Prelude.{nat_lt, ◌-◌, if◌then◌else◌}
 use Rattle.s390x_job.specs.Completions.{closes, closing, joined, opens}
+use Rattle.s390x_job.proofs.Sizes.{closing_size, opens_few}
 use Rattle.s390x_bundle_text.specs.Completions.{bundle_completion, close_ending, ends, heads, is_closed, job_ending}
 use Rattle.s390x_bundle_text.specs.Text.{close_line}
-
-opens_one : (t : Bool) (w : List ℕ) (ws : List (List ℕ)) → opens ws ≤ length (joined ws) → (if t then opens ws + 1 else opens ws) ≤ length (w ++ (10 ∷ joined ws))
-opens_one true w ws h = omega (arith, h, length-append w (10 ∷ joined ws))
-opens_one false w ws h = omega (arith, h, length-append w (10 ∷ joined ws))
-
-opens_few : (ws : List (List ℕ)) → opens ws ≤ length (joined ws)
-opens_few [] = omega arith
-opens_few (w ∷ ws) = opens_one (bytes_eq (take 5 w) (codes "Loop ")) w ws (opens_few ws)
-
-closing_size : (n : ℕ) → length (closing n) ≡ 8 * n + 4
-closing_size zero = omega (arith, length-append (codes "end") (10 ∷ []))
-closing_size (suc n) = omega (arith, closing_size n, length-append (codes "endloop") (10 ∷ closing n))
 
 job_ending_size : (ws : List (List ℕ)) → length (job_ending ws) ≤ 8 * opens ws + 4
 job_ending_size ws = one (nat_lt (ends ws) (heads ws))
@@ -32,12 +20,6 @@ close_ending_size ws = one (is_closed ws)
     one true = omega arith
     one false = omega (arith, length-append close_line (10 ∷ []))
 
-take_shorter : (n : ℕ) (ws : List (List ℕ)) → length (joined (take n ws)) ≤ length (joined ws)
-take_shorter zero ws = omega arith
-take_shorter (suc n) [] = omega arith
-take_shorter (suc n) (w ∷ ws) = omega (arith, take_shorter n ws, length-append w (10 ∷ joined (take n ws)), length-append w (10 ∷ joined ws))
-
-pub completion_size : (n : ℕ) (ws : List (List ℕ)) → length (joined ws) < 268435456 → length (bundle_completion (take n ws)) < 4294967295
-completion_size n ws h =
-    let vs = take n ws in
-    omega (arith, h, take_shorter n ws, opens_few vs, job_ending_size vs, close_ending_size vs, length-append (joined vs) (job_ending vs ++ close_ending vs), length-append (job_ending vs) (close_ending vs))
+pub completion_size : (ws : List (List ℕ)) → length (joined ws) < 268435456 → length (bundle_completion ws) < 4294967295
+completion_size ws h =
+    omega (arith, h, opens_few ws, job_ending_size ws, close_ending_size ws, length-append (joined ws) (job_ending ws ++ close_ending ws), length-append (job_ending ws) (close_ending ws))

@@ -5,7 +5,9 @@ use Rattle.std.specs.Str.{bytes_eq}
 use Rattle.s390x_fields.specs.Fields.{Field, FName, FNatural, FBytes, FStart, FFlags}
 use Rattle.s390x_lines.specs.Kinds.{kinds}
 use Rattle.s390x_lines.specs.Line.{Line, IsLine, kinds_of, line_text, spelled}
-use Rattle.s390x_lines.specs.Names.{control_text, integer_text, memory_name_text, name_text, vector_name_text}
+use Rattle.s390x_lines.specs.Names.{control_text, integer_text, load_name_text, memory_name_text, name_text, vector_name_text}
+use Rattle.s390x_inst.specs.declared.load.LoadOp.{LoadOp}
+use Rattle.s390x_inst.specs.declared.load.LoadOp.TheVariants as LoadOps
 use Rattle.s390x_lines.specs.declared.inst_name.IntegerName.{IntegerName}
 use Rattle.s390x_lines.specs.declared.inst_name.IntegerName.TheVariants as IntegerIs
 use Rattle.s390x_lines.specs.declared.inst_name.MemoryName.{MemoryName}
@@ -65,8 +67,12 @@ opens_integer : (n : IntegerName) (fs : List Field) → bytes_eq (take 5 (intege
 opens_integer IntegerIs.AluRRR fs = refl
 opens_integer n fs = refl
 
+opens_load : (op : LoadOp) (fs : List Field) → bytes_eq (take 5 (load_name_text op ++ spelled fs)) (codes "Loop ") ≡ false
+opens_load LoadOps.Load32 fs = refl
+opens_load op fs = refl
+
 opens_memory : (n : MemoryName) (fs : List Field) → bytes_eq (take 5 (memory_name_text n ++ spelled fs)) (codes "Loop ") ≡ false
-opens_memory MemoryIs.Load32 fs = refl
+opens_memory MemoryIs.Store8 fs = refl
 opens_memory n fs = refl
 
 opens_control : (n : ControlName) (fs : List Field) → bytes_eq (take 5 (control_text n ++ spelled fs)) (codes "Loop ") ≡ false
@@ -80,6 +86,7 @@ opens_vector n fs = refl
 opens_named : (n : LineName) (fs : List Field) → kinds n ≡ kinds_of fs → bytes_eq (take 5 (name_text n ++ spelled fs)) (codes "Loop ") ≡ is_opening (named n)
 opens_named N.Loop fs h = loop_text fs h
 opens_named (N.Integer n) fs h = opens_integer n fs
+opens_named (N.Load op) fs h = opens_load op fs
 opens_named (N.Memory n) fs h = opens_memory n fs
 opens_named (N.Control n) fs h = opens_control n fs
 opens_named (N.Vector n) fs h = opens_vector n fs
@@ -89,8 +96,12 @@ closes_integer : (n : IntegerName) (fs : List Field) → bytes_eq (integer_text 
 closes_integer IntegerIs.AluRRR fs = refl
 closes_integer n fs = refl
 
+closes_load : (op : LoadOp) (fs : List Field) → bytes_eq (load_name_text op ++ spelled fs) (codes "endloop") ≡ false
+closes_load LoadOps.Load32 fs = refl
+closes_load op fs = refl
+
 closes_memory : (n : MemoryName) (fs : List Field) → bytes_eq (memory_name_text n ++ spelled fs) (codes "endloop") ≡ false
-closes_memory MemoryIs.Load32 fs = refl
+closes_memory MemoryIs.Store8 fs = refl
 closes_memory n fs = refl
 
 closes_control : (n : ControlName) (fs : List Field) → bytes_eq (control_text n ++ spelled fs) (codes "endloop") ≡ false
@@ -105,6 +116,7 @@ closes_named : (n : LineName) (fs : List Field) → kinds n ≡ kinds_of fs → 
 closes_named N.EndLoopLine fs h = ap (λ gs. bytes_eq (name_text N.EndLoopLine ++ spelled gs) (codes "endloop")) (no_fields fs h)
 closes_named N.EndLine fs h = ap (λ gs. bytes_eq (name_text N.EndLine ++ spelled gs) (codes "endloop")) (no_fields fs h)
 closes_named (N.Integer n) fs h = closes_integer n fs
+closes_named (N.Load op) fs h = closes_load op fs
 closes_named (N.Memory n) fs h = closes_memory n fs
 closes_named (N.Control n) fs h = closes_control n fs
 closes_named (N.Vector n) fs h = closes_vector n fs
@@ -114,8 +126,12 @@ ends_integer : (n : IntegerName) (fs : List Field) → bytes_eq (integer_text n 
 ends_integer IntegerIs.AluRRR fs = refl
 ends_integer n fs = refl
 
+ends_load : (op : LoadOp) (fs : List Field) → bytes_eq (load_name_text op ++ spelled fs) (codes "end") ≡ false
+ends_load LoadOps.Load32 fs = refl
+ends_load op fs = refl
+
 ends_memory : (n : MemoryName) (fs : List Field) → bytes_eq (memory_name_text n ++ spelled fs) (codes "end") ≡ false
-ends_memory MemoryIs.Load32 fs = refl
+ends_memory MemoryIs.Store8 fs = refl
 ends_memory n fs = refl
 
 ends_control : (n : ControlName) (fs : List Field) → bytes_eq (control_text n ++ spelled fs) (codes "end") ≡ false
@@ -129,6 +145,7 @@ ends_vector n fs = refl
 ends_named : (n : LineName) (fs : List Field) → kinds n ≡ kinds_of fs → bytes_eq (name_text n ++ spelled fs) (codes "end") ≡ is_ending (named n)
 ends_named N.EndLine fs h = ap (λ gs. bytes_eq (name_text N.EndLine ++ spelled gs) (codes "end")) (no_fields fs h)
 ends_named (N.Integer n) fs h = ends_integer n fs
+ends_named (N.Load op) fs h = ends_load op fs
 ends_named (N.Memory n) fs h = ends_memory n fs
 ends_named (N.Control n) fs h = ends_control n fs
 ends_named (N.Vector n) fs h = ends_vector n fs

@@ -1,7 +1,7 @@
 -- The line that a syntax error names, by completions.
-use Rattle.std.specs.Prelude.{◌≡◌, ℕ, ◌+◌, ◌-◌, ◌<◌, ◌≤◌, ◌⊎◌, Bool, true, false, List, [], ◌∷◌, ◌++◌, take, length, codes, nat_lt, if◌then◌else◌}
+use Rattle.std.specs.Prelude.{◌≡◌, ℕ, ◌+◌, ◌-◌, Bool, true, false, List, [], ◌∷◌, ◌++◌, take, codes, nat_lt, if◌then◌else◌}
 use Rattle.std.specs.Str.{bytes_eq}
-use Rattle.s390x_job.specs.Completions.{closes, closing, joined, opens}
+use Rattle.s390x_job.specs.Completions.{IsFirstWrongLine, closes, closing, joined, opens}
 use Rattle.s390x_bundle_text.specs.Text.{AreFunctions, close_line, text_of_functions}
 use Rattle.s390x_bundle_text.specs.declared.named_job.NamedJob.{NamedJob}
 
@@ -36,10 +36,6 @@ bundle_completion ws = joined ws ++ (job_ending ws ++ close_ending ws)
 abbrev pub IsBundleText : List ℕ → Type 0
 IsBundleText s = (fs : List NamedJob) × AreFunctions fs × (text_of_functions fs ≡ s)
 
--- the number of the line: 1 plus the greatest k that is 0 or whose completion is a text
-pub record IsFirstWrongOfBundle (ws : List (List ℕ)) (n : ℕ) : Type 0 where
-  pub k : ℕ
-  pub is : n ≡ k + 1
-  pub small : k ≤ length ws
-  pub here : (k ≡ 0) ⊎ IsBundleText (bundle_completion (take k ws))
-  pub above : (m : ℕ) → k < m → m ≤ length ws → IsBundleText (bundle_completion (take m ws)) → ⊥
+-- the first line of functions' text that is wrong
+abbrev pub IsFirstWrongOfBundle : List (List ℕ) → ℕ → Type 0
+IsFirstWrongOfBundle ws n = IsFirstWrongLine (λ vs. IsBundleText (bundle_completion vs)) ws n

@@ -1,33 +1,15 @@
 //! Lines of a text, completed to the text of functions.
-ghost use Rattle.std.specs.Prelude.{◌≡◌, ◌++◌, IfOk, OnOk, length, map, take, codes};
+ghost use Rattle.std.specs.Prelude.{◌≡◌, ◌++◌, IfOk, OnOk, map, take, codes};
 ghost use Rattle.std.specs.Str.{bytes_eq};
-ghost use Rattle.s390x_job.specs.Completions.{closes, closing, joined, opens};
 ghost use Rattle.s390x_bundle_text.specs.Completions.{bundle_completion, close_ending, ends, heads, is_closed, job_ending};
 
+use s390x_job::completing::{count_closes, count_opens, put, put_closing, put_joined};
 use std::alloc::{AllocError, Global};
-
-fn put(out: &mut Vec<u8>, s: &[u8]) -> Result<(), AllocError>
-    ensures { OnOk result (out.new.items ≡ out.old.items ++ s.now) }
-{
-    out.extend_from_slice(s)
-}
 
 fn front_of(w: &[u8], count: usize) -> &[u8]
     ensures { result.now ≡ take count w.now }
 {
     if w.len() < count { w } else { &w[..count] }
-}
-
-fn opens_loop(w: &[u8]) -> bool
-    ensures { result ≡ bytes_eq (take 5 w.now) (codes "Loop ") }
-{
-    front_of(w, 5) == b"Loop ".as_slice()
-}
-
-fn closes_loop(w: &[u8]) -> bool
-    ensures { result ≡ bytes_eq w.now (codes "endloop") }
-{
-    w == b"endloop".as_slice()
 }
 
 fn begins_function(w: &[u8]) -> bool
@@ -48,30 +30,6 @@ pub fn closes_text(w: &[u8]) -> bool
     ensures { result ≡ bytes_eq w.now (codes "close") }
 {
     w == b"close".as_slice()
-}
-
-fn count_opens(ws: &[&[u8]]) -> usize
-    ensures { result ≡ opens (map (λ w. w.now) ws.now) }
-{
-    let mut n: usize = 0;
-    for w in ws {
-        if opens_loop(w) {
-            n += 1;
-        }
-    }
-    n
-}
-
-fn count_closes(ws: &[&[u8]]) -> usize
-    ensures { result ≡ closes (map (λ w. w.now) ws.now) }
-{
-    let mut n: usize = 0;
-    for w in ws {
-        if closes_loop(w) {
-            n += 1;
-        }
-    }
-    n
 }
 
 fn count_heads(ws: &[&[u8]]) -> usize
@@ -107,27 +65,6 @@ fn is_closed(ws: &[&[u8]]) -> bool
         }
     }
     false
-}
-
-fn put_joined(out: &mut Vec<u8>, ws: &[&[u8]]) -> Result<(), AllocError>
-    ensures { OnOk result (out.new.items ≡ out.old.items ++ joined (map (λ w. w.now) ws.now)) }
-{
-    for w in ws {
-        put(out, w)?;
-        put(out, b"\n")?;
-    }
-    Ok(())
-}
-
-fn put_closing(out: &mut Vec<u8>, n: usize) -> Result<(), AllocError>
-    ensures { OnOk result (out.new.items ≡ out.old.items ++ closing n) }
-{
-    let mut k = n;
-    while k > 0 {
-        put(out, b"endloop\n")?;
-        k -= 1;
-    }
-    put(out, b"end\n")
 }
 
 // What the last job lacks, where more lines begin with `function ` than are `end`.

@@ -1,28 +1,10 @@
 //! The lines of a text, and the part of it that is a job.
-ghost use Rattle.std.specs.Prelude.{◌≡◌, ◌≤◌, IfOk, length, map};
+ghost use Rattle.std.specs.Prelude.{◌≡◌, ◌≤◌, length};
 ghost use Rattle.s390x_job.specs.Completions.{pieces};
 ghost use Rattle.s390x_bundle_text.specs.Cut.{IsCutAt};
 
 use crate::complete::ends_job;
 use s390x_words::marks::{after, before};
-use std::alloc::{AllocError, Global};
-
-/// The lines of a text.
-pub fn split_lines<'a>(alloc: Global, bytes: &'a [u8]) -> Result<Vec<&'a [u8]>, AllocError>
-    ensures { IfOk result (λ v. map (λ w. w.now) v.items ≡ pieces bytes.now) }
-{
-    let mut v = Vec::new(alloc);
-    let mut rest = bytes;
-    while !rest.is_empty() {
-        let line = before(rest, b'\n');
-        if line.len() == rest.len() {
-            return Ok(v);
-        }
-        v.push(line)?;
-        rest = after(rest, b'\n');
-    }
-    Ok(v)
-}
 
 /// How many lines a text has.
 pub fn count_lines(bytes: &[u8]) -> usize

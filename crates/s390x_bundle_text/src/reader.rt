@@ -1,15 +1,14 @@
 //! The exact reader of several functions' text.
-ghost use Rattle.std.specs.Prelude.{◌≡◌, ℕ, ◌<◌, ◌≤◌, IfErr, IfOk, Decides, MatchResult, length, map, take};
-ghost use Rattle.s390x_job.specs.Completions.{joined};
-ghost use Rattle.s390x_bundle_text.specs.Completions.{IsBundleText, IsFirstWrongOfBundle, bundle_completion};
+ghost use Rattle.std.specs.Prelude.{◌<◌, IfErr, IfOk, Decides, MatchResult, length};
+ghost use Rattle.s390x_bundle_text.specs.Completions.{IsBundleText, bundle_completion};
 ghost use Rattle.s390x_bundle_text.specs.Errors.{HasNoFunctions};
 ghost use Rattle.s390x_bundle_text.specs.Text.{AreFunctionsOf};
 
 use crate::complete::complete;
-use crate::cut::split_lines;
 use crate::error::BundleTextError;
 use crate::find::{Found, find_functions};
 use crate::named_job::NamedJob;
+use s390x_job::completing::{Completes, first_wrong, split_lines};
 use std::alloc::{AllocError, Global};
 
 // Whether this is the text of functions.
@@ -23,22 +22,19 @@ fn is_text(alloc: Global, bytes: &[u8]) -> Result<bool, AllocError>
     }
 }
 
-// The number of the line, where no completion of more than `top` lines is a text.
-fn line_number(alloc: Global, ws: &[&[u8]], top: usize) -> Result<usize, AllocError>
-    requires small { top ≤ length ws.now }
-    requires short { length (joined (map (λ w. w.now) ws.now)) < 268435456 }
-    requires above { (m : ℕ) → top < m → m ≤ length ws.now → IsBundleText (bundle_completion (take m (map (λ w. w.now) ws.now))) → ⊥ }
-    ensures { IfOk result (λ n. IsFirstWrongOfBundle (map (λ w. w.now) ws.now) n) }
-{
-    let mut k = top;
-    while k > 0 {
-        let text = complete(alloc, &ws[..k])?;
-        if is_text(alloc, &text)? {
-            return Ok(k + 1);
-        }
-        k -= 1;
+/// The text of functions.
+struct BundleText;
+
+impl Completes for BundleText {
+    ghost limit = { 268435456 };
+
+    ghost CanBeCompleted = { λ ws. IsBundleText (bundle_completion ws) };
+
+    fn can_be_completed(alloc: Global, ws: &[&[u8]]) -> Result<bool, AllocError> {
+        let text = complete(alloc, ws)?;
+        let fits = is_text(alloc, &text)?;
+        Ok(fits)
     }
-    Ok(1)
 }
 
 fn read_inner(
@@ -52,7 +48,7 @@ fn read_inner(
         Found::Whole(functions) => Ok(Ok(functions)),
         Found::Stuck(top) => {
             let ws = split_lines(alloc, bytes)?;
-            let line = line_number(alloc, &ws, top)?;
+            let line = first_wrong::<BundleText>(alloc, &ws, top)?;
             Ok(Err(BundleTextError::Syntax { line: line as u32 }))
         }
     }

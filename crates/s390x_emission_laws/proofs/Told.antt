@@ -5,16 +5,22 @@ use Rattle.s390x_base.specs.declared.error.EmitError.TheVariants.{BadOperator}
 use Rattle.s390x_base.specs.declared.regs.Reg.{Reg}
 use Rattle.s390x_inst.specs.declared.args.MemArg.{MemArg}
 use Rattle.s390x_inst.specs.declared.args.MemArg.TheVariants.{BXD12, BXD20, Label, Constant, Symbol, RegOffset, InitialSPOffset, IncomingArgOffset, OutgoingArgOffset, SlotOffset, SpillOffset}
+use Rattle.s390x_inst.specs.declared.load.Load.{Load}
+use Rattle.s390x_inst.specs.declared.load.LoadOp.{LoadOp}
+use Rattle.s390x_inst.specs.declared.load.LoadOp.TheVariants as LoadOps
+use Rattle.s390x_inst.specs.Loads.{as_load, by_load, load_instruction}
+use Rattle.s390x_inst.proofs.Loads.{the_load}
 use Rattle.s390x_inst.specs.declared.inst.Inst.{Inst}
+use Rattle.s390x_inst.specs.declared.inst.Inst.TheVariants.{Loop', CondBreak, Call, ReturnCall}
 use Rattle.s390x_inst.specs.declared.inst.Inst.TheVariants.{AluRRR, AluRR, UnaryRR, CmpRR, Mov64, MovPReg, Mov32, AluRRSImm16, AluRSImm16, AluRSImm32, AluRUImm32, CmpRSImm16, CmpRSImm32, CmpRUImm32, Mov32Imm, Mov32SImm16, Mov64SImm16, Mov64SImm32, AluRUImm16Shifted, AluRUImm32Shifted, Mov64UImm16Shifted, Mov64UImm32Shifted, Insert64UImm16Shifted, Insert64UImm32Shifted, Extend, LoadAR, InsertAR, ShiftRR}
-use Rattle.s390x_inst.specs.declared.inst.Inst.TheVariants.{RxSBG, RxSBGTest, SMulWide, UMulWide, Flogr, SDivMod32, SDivMod64, UDivMod32, UDivMod64, CmpTrapRR, CmpTrapRSImm16, CmpTrapRUImm16, CMov32, CMov64, CMov32SImm16, CMov64SImm16, LoadIndexedAddr, LoadLogicalIndexedAddr, AllocateArgs, Fence, Nop2, LabelAddress, LoadSymbolReloc, AluRX, CmpRX, Load32, Load32ZExt8, Load32SExt8}
-use Rattle.s390x_inst.specs.declared.inst.Inst.TheVariants.{Load32ZExt16, Load32SExt16, Load64, Load64ZExt8, Load64SExt8, Load64ZExt16, Load64SExt16, Load64ZExt32, Load64SExt32, LoadRev16, LoadRev32, LoadRev64, LoadAddr, Store8, Store16, Store32, Store64, StoreRev16, StoreRev32, StoreRev64, StoreImm8, StoreImm16, StoreImm32SExt16, StoreImm64SExt16, LoadMultiple64, StoreMultiple64, AtomicRmw, AtomicCas32}
+use Rattle.s390x_inst.specs.declared.inst.Inst.TheVariants.{RxSBG, RxSBGTest, SMulWide, UMulWide, Flogr, SDivMod32, SDivMod64, UDivMod32, UDivMod64, CmpTrapRR, CmpTrapRSImm16, CmpTrapRUImm16, CMov32, CMov64, CMov32SImm16, CMov64SImm16, LoadIndexedAddr, LoadLogicalIndexedAddr, AllocateArgs, Fence, Nop2, LabelAddress, LoadSymbolReloc, AluRX, CmpRX}
+use Rattle.s390x_inst.specs.declared.inst.Inst.TheVariants.{LoadAddr, Store8, Store16, Store32, Store64, StoreRev16, StoreRev32, StoreRev64, StoreImm8, StoreImm16, StoreImm32SExt16, StoreImm64SExt16, LoadMultiple64, StoreMultiple64, AtomicRmw, AtomicCas32}
 use Rattle.s390x_inst.specs.declared.inst.Inst.TheVariants.{AtomicCas64, Jump, CondBr, IndirectBr, Ret, JTSequence, Nop0, Args, Rets, DummyUse, SequencePoint, Trap, TrapIf, Debugtrap, Vector}
 use Rattle.s390x_inst.specs.declared.vec_inst.VecInst.{VecInst}
 use Rattle.s390x_inst.specs.declared.vec_inst.VecInst.TheVariants.{VecRRR, VecRR, VecSelect, VecPermute, VecBlend, VecIntCmp, VecIntCmpS, VecIntEltCmp, VecMov, VecShiftRR, VecEvaluate, VecPermuteDWImm, MovToVec128, VecImmByteMask, VecImmReplicate, VecImmBitMask, VecReplicateLane, VecInsertLaneImm, VecInsertLaneImmUndef, VecInsertLane, VecInsertLaneUndef, VecExtractLane, FpuMove32, FpuMove64, VecEltRev, FpuCMov32, FpuCMov64, VecCMov}
 use Rattle.s390x_inst.specs.declared.vec_inst.VecInst.TheVariants.{VecInt128SCmpHi, VecInt128UCmpHi, VecLoad, VecLoadRev, VecLoadByte16Rev, VecLoadByte32Rev, VecLoadByte64Rev, VecLoadElt16Rev, VecLoadElt32Rev, VecLoadElt64Rev, VecStore, VecStoreRev, VecStoreByte16Rev, VecStoreByte32Rev, VecStoreByte64Rev, VecStoreElt16Rev, VecStoreElt32Rev, VecStoreElt64Rev, VecLoadReplicate, VecLoadReplicateRev, VecLoadLane, VecLoadLaneRev, VecLoadLaneUndef, VecLoadLaneRevUndef, VecStoreLane, VecStoreLaneRev}
 use Rattle.s390x_typed_steps.proofs.RelativeRows.{alu_none, locked_none, vector_none}
-use Rattle.s390x_typed_steps.specs.Memory.{StorageForm, MemoryInstruction, loaded_memory, operate, load_and_operate, access_vector, access_elements, access_lane, reversed_code, load_lane_opcode, store_lane_opcode, load_reversed_opcode, store_reversed_opcode, is_left_lane, load_left, store_left}
+use Rattle.s390x_typed_steps.specs.Memory.{load, load_rows, without_relative, StorageForm, MemoryInstruction, loaded_memory, operate, load_and_operate, access_vector, access_elements, access_lane, reversed_code, load_lane_opcode, store_lane_opcode, load_reversed_opcode, store_reversed_opcode, is_left_lane, load_left, store_left}
 use Rattle.s390x_typed_steps.specs.Ranges.{OperandInRange}
 use Rattle.s390x_typed_steps.specs.Steps.{Step, Plain, LoadedStep, Shortened, Opening, Back, Break, CallingStep, NoLoadStep, TailOpeningStep, TailJumpStep}
 use Rattle.s390x_typed_steps.specs.Storage.{alu_rx, alu_rxy, atomic_rsy}
@@ -136,6 +142,11 @@ told_vector L (VecLoadLaneRevUndef size rd mem lane) valid e = access_told L (Ve
 told_vector L (VecStoreLane size rd mem lane) valid e = access_told L (Vector (VecStoreLane size rd mem lane)) _ refl refl refl (left_lane L (is_left_lane size lane (number_of rd)) (is_vector rd) (store_left size (number_of rd)) store_lane_opcode (number_of rd) (element_code size) size lane mem valid) e
 told_vector L (VecStoreLaneRev size rd mem lane) valid e = access_told L (Vector (VecStoreLaneRev size rd mem lane)) _ refl refl refl (one_lane L (is_vector rd) store_reversed_opcode (number_of rd) (reversed_code size) size lane mem valid) e
 
+-- a load: the last clause is a copy for each
+told_load : (L : Layout) (op : LoadOp) (rd : Reg) (mem : MemArg) → IsValidInstruction L (load_instruction op rd mem) → instruction_kind L (load_instruction op rd mem) ≡ Unsupported → ⊥
+told_load L LoadOps.Load64 rd mem valid e = access_told L (load_instruction LoadOps.Load64 rd mem) _ refl refl refl valid.range e
+told_load L op rd mem valid e = access_told L (load_instruction op rd mem) _ refl refl refl valid.range e
+
 told_instruction : (L : Layout) (i : Inst) → IsValidInstruction L i → instruction_kind L i ≡ Unsupported → ⊥
 told_instruction L (AluRRR op rd rn rm) valid e = absurd (cc)
 told_instruction L (AluRR op rd ri rm) valid e = absurd (cc)
@@ -190,21 +201,6 @@ told_instruction L (LabelAddress dst label) valid e = absurd (cc)
 told_instruction L (LoadSymbolReloc rd reloc) valid e = absurd (cc)
 told_instruction L (AluRX op rd ri mem) valid e = access_told L (AluRX op rd ri mem) _ refl refl refl (operated L (is_some (alu_rx op) || is_some (alu_rxy op)) (alu_rx op) (alu_rxy op) rd ri mem valid) e
 told_instruction L (CmpRX op rn mem) valid e = access_told L (CmpRX op rn mem) _ refl refl refl valid.range e
-told_instruction L (Load32 rd mem) valid e = access_told L (Load32 rd mem) _ refl refl refl valid.range e
-told_instruction L (Load32ZExt8 rd mem) valid e = access_told L (Load32ZExt8 rd mem) _ refl refl refl valid.range e
-told_instruction L (Load32SExt8 rd mem) valid e = access_told L (Load32SExt8 rd mem) _ refl refl refl valid.range e
-told_instruction L (Load32ZExt16 rd mem) valid e = access_told L (Load32ZExt16 rd mem) _ refl refl refl valid.range e
-told_instruction L (Load32SExt16 rd mem) valid e = access_told L (Load32SExt16 rd mem) _ refl refl refl valid.range e
-told_instruction L (Load64 rd mem) valid e = access_told L (Load64 rd mem) _ refl refl refl valid.range e
-told_instruction L (Load64ZExt8 rd mem) valid e = access_told L (Load64ZExt8 rd mem) _ refl refl refl valid.range e
-told_instruction L (Load64SExt8 rd mem) valid e = access_told L (Load64SExt8 rd mem) _ refl refl refl valid.range e
-told_instruction L (Load64ZExt16 rd mem) valid e = access_told L (Load64ZExt16 rd mem) _ refl refl refl valid.range e
-told_instruction L (Load64SExt16 rd mem) valid e = access_told L (Load64SExt16 rd mem) _ refl refl refl valid.range e
-told_instruction L (Load64ZExt32 rd mem) valid e = access_told L (Load64ZExt32 rd mem) _ refl refl refl valid.range e
-told_instruction L (Load64SExt32 rd mem) valid e = access_told L (Load64SExt32 rd mem) _ refl refl refl valid.range e
-told_instruction L (LoadRev16 rd mem) valid e = access_told L (LoadRev16 rd mem) _ refl refl refl valid.range e
-told_instruction L (LoadRev32 rd mem) valid e = access_told L (LoadRev32 rd mem) _ refl refl refl valid.range e
-told_instruction L (LoadRev64 rd mem) valid e = access_told L (LoadRev64 rd mem) _ refl refl refl valid.range e
 told_instruction L (LoadAddr rd mem) valid e = access_told L (LoadAddr rd mem) _ refl refl refl valid.range e
 told_instruction L (Store8 rd mem) valid e = access_told L (Store8 rd mem) _ refl refl refl valid.range e
 told_instruction L (Store16 rd mem) valid e = access_told L (Store16 rd mem) _ refl refl refl valid.range e
@@ -236,25 +232,34 @@ told_instruction L (Trap code) valid e = absurd (cc)
 told_instruction L (TrapIf mask code) valid e = absurd (cc)
 told_instruction L Debugtrap valid e = absurd (cc)
 told_instruction L (Vector v) valid e = told_vector L v valid e
-told_instruction L _ valid e = absurd valid
+told_instruction L (Loop' mask body all) valid e = absurd valid
+told_instruction L (CondBreak mask) valid e = absurd valid
+told_instruction L (Call link info) valid e = absurd valid
+told_instruction L (ReturnCall info) valid e = absurd valid
+told_instruction L i valid e = let l : Load = the_load (as_load i) refl in told_load L l.op l.rd l.mem valid e
+
+load_range : (L : Layout) (rd : Reg) (rx_opcode rxy_opcode ril_opcode : Option ℕ) (mem : MemArg) → ValidMemoryOr L (without_relative (load rd rx_opcode rxy_opcode ril_opcode mem)) ⊥ → OperandInRange mem
+load_range L rd rx_opcode rxy_opcode (Some opcode) mem valid = valid.range
+load_range L rd rx_opcode rxy_opcode None mem valid = absurd valid
+
+-- the last clause is a copy for each
+told_load_loaded : (L : Layout) (op : LoadOp) (rd : Reg) (mem : MemArg) → ValidMemoryOr L (loaded_memory (load_instruction op rd mem)) ⊥ → loaded_kind L (load_instruction op rd mem) ≡ Unsupported → ⊥
+told_load_loaded L LoadOps.Load64 rd mem valid e = loaded_told L (load_instruction LoadOps.Load64 rd mem) _ refl (load_range L rd (load_rows LoadOps.Load64).rx (load_rows LoadOps.Load64).rxy (load_rows LoadOps.Load64).ril mem valid) e
+told_load_loaded L op rd mem valid e = loaded_told L (load_instruction op rd mem) _ refl (load_range L rd (load_rows op).rx (load_rows op).rxy (load_rows op).ril mem valid) e
+
+told_loaded_or : (L : Layout) (i : Inst) (o : Option Load) → ValidMemoryOr L (by_load (λ l. loaded_memory (load_instruction l.op l.rd l.mem)) None o) ⊥ → loaded_kind L (by_load (λ l. load_instruction l.op l.rd l.mem) i o) ≡ Unsupported → ⊥
+told_loaded_or L i None valid e = absurd valid
+told_loaded_or L i (Some l) valid e = told_load_loaded L l.op l.rd l.mem valid e
 
 told_loaded : (L : Layout) (i : Inst) → ValidMemoryOr L (loaded_memory i) ⊥ → loaded_kind L i ≡ Unsupported → ⊥
 told_loaded L (CmpRX op rn mem) valid e = loaded_told L (CmpRX op rn mem) _ refl valid.range e
-told_loaded L (Load32 rd mem) valid e = loaded_told L (Load32 rd mem) _ refl valid.range e
-told_loaded L (Load32ZExt16 rd mem) valid e = loaded_told L (Load32ZExt16 rd mem) _ refl valid.range e
-told_loaded L (Load32SExt16 rd mem) valid e = loaded_told L (Load32SExt16 rd mem) _ refl valid.range e
-told_loaded L (Load64 rd mem) valid e = loaded_told L (Load64 rd mem) _ refl valid.range e
-told_loaded L (Load64ZExt16 rd mem) valid e = loaded_told L (Load64ZExt16 rd mem) _ refl valid.range e
-told_loaded L (Load64SExt16 rd mem) valid e = loaded_told L (Load64SExt16 rd mem) _ refl valid.range e
-told_loaded L (Load64ZExt32 rd mem) valid e = loaded_told L (Load64ZExt32 rd mem) _ refl valid.range e
-told_loaded L (Load64SExt32 rd mem) valid e = loaded_told L (Load64SExt32 rd mem) _ refl valid.range e
 told_loaded L (Store16 rd mem) valid e = loaded_told L (Store16 rd mem) _ refl valid.range e
 told_loaded L (Store32 rd mem) valid e = loaded_told L (Store32 rd mem) _ refl valid.range e
 told_loaded L (Store64 rd mem) valid e = loaded_told L (Store64 rd mem) _ refl valid.range e
 told_loaded L (AluRX op rd ri mem) valid e = refused L (loaded_memory (AluRX op rd ri mem)) (alu_none (is_some (alu_rx op) || is_some (alu_rxy op)) (alu_rx op) (alu_rxy op) rd ri mem) valid
 told_loaded L (AtomicRmw op rd rn mem) valid e = refused L (loaded_memory (AtomicRmw op rd rn mem)) (locked_none (atomic_rsy op) rd rn mem) valid
 told_loaded L (Vector v) valid e = refused L (loaded_memory (Vector v)) (vector_none v) valid
-told_loaded L _ valid e = absurd valid
+told_loaded L i valid e = told_loaded_or L i (as_load i) valid e
 
 pub told : (L : Layout) (s : Step) → IsValidStep L s → step_kind L s ≡ Unsupported → ⊥
 told L (Plain i) valid e = told_instruction L i valid e

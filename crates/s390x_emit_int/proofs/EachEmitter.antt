@@ -6,8 +6,12 @@ use Rattle.s390x_base.specs.declared.regs.Reg.{Reg}
 use Rattle.s390x_base.specs.declared.regs.Reg.TheVariants.{Real, Virtual}
 use Rattle.s390x_inst.specs.declared.args.MemArg.{MemArg}
 use Rattle.s390x_inst.specs.declared.inst.Inst.{Inst}
-use Rattle.s390x_inst.specs.declared.inst.Inst.TheVariants.{AluRX, CmpRX, Load32, Load32ZExt8, Load32SExt8, Load32ZExt16, Load32SExt16, Load64, Load64ZExt8, Load64SExt8, Load64ZExt16, Load64SExt16, Load64ZExt32, Load64SExt32, LoadRev16, LoadRev32, LoadRev64}
+use Rattle.s390x_inst.specs.declared.inst.Inst.TheVariants.{AluRX, CmpRX}
 use Rattle.s390x_inst.specs.declared.inst.Inst.TheVariants.{Store8, Store16, Store32, Store64, StoreRev16, StoreRev32, StoreRev64, StoreImm8, StoreImm16, StoreImm32SExt16, StoreImm64SExt16, LoadMultiple64, StoreMultiple64, LoadAddr, AtomicRmw, AtomicCas32, AtomicCas64, Vector}
+use Rattle.s390x_inst.specs.declared.load.Load.{Load}
+use Rattle.s390x_inst.specs.declared.load.LoadOp.{LoadOp}
+use Rattle.s390x_inst.specs.declared.load.LoadOp.TheVariants as LoadOps
+use Rattle.s390x_inst.specs.Loads.{as_load, by_load}
 use Rattle.s390x_inst.specs.declared.vec_inst.VecInst.{VecInst}
 use Rattle.s390x_inst.specs.declared.vec_inst.VecInst.TheVariants.{VecLoad, VecLoadRev, VecLoadByte16Rev, VecLoadByte32Rev, VecLoadByte64Rev, VecLoadElt16Rev, VecLoadElt32Rev, VecLoadElt64Rev, VecStore, VecStoreRev, VecStoreByte16Rev, VecStoreByte32Rev, VecStoreByte64Rev, VecStoreElt16Rev, VecStoreElt32Rev, VecStoreElt64Rev}
 use Rattle.s390x_inst.specs.declared.vec_inst.VecInst.TheVariants.{VecLoadReplicate, VecLoadReplicateRev, VecLoadLane, VecLoadLaneRev, VecLoadLaneUndef, VecLoadLaneRevUndef, VecStoreLane, VecStoreLaneRev}
@@ -16,7 +20,7 @@ use Rattle.s390x_inst.specs.declared.ops.ALUOp.TheVariants.{Add32, Add32Ext16, A
 use Rattle.s390x_inst.specs.declared.ops.CmpOp.{CmpOp}
 use Rattle.s390x_inst.specs.declared.ops.CmpOp.TheVariants.{CmpS32, CmpS32Ext16, CmpS64, CmpS64Ext16, CmpS64Ext32, CmpL32, CmpL64, CmpL64Ext32}
 use Rattle.s390x_typed_steps.specs.General.{is_general, reuses}
-use Rattle.s390x_typed_steps.specs.Memory.{MemoryInstruction, StorageForm, RxForm, RsForm, VrxForm, FloatForm, memory, operate, access_vector, access_elements, access_lane, reversed_code, is_left_lane, load_left, store_left, load_lane_opcode, store_lane_opcode, load_reversed_opcode, store_reversed_opcode, vector_memory}
+use Rattle.s390x_typed_steps.specs.Memory.{MemoryInstruction, StorageForm, RxForm, RsForm, VrxForm, FloatForm, load_memory, memory, operate, access_vector, access_elements, access_lane, reversed_code, is_left_lane, load_left, store_left, load_lane_opcode, store_lane_opcode, load_reversed_opcode, store_reversed_opcode, vector_memory}
 use Rattle.s390x_typed_steps.specs.VectorInstruction.{element_code, is_lane, is_vector, reuses_vector}
 use Rattle.s390x_typed_steps.specs.Operands.{is_numbered}
 use Rattle.s390x_typed_steps.specs.Storage.{alu_rx, alu_rxy, cmp_rx, cmp_rxy, cmp_ril}
@@ -201,24 +205,22 @@ vector_emitter (VecStoreLane size rd mem lane) x e v = left_as size lane rd stor
 vector_emitter (VecStoreLaneRev size rd mem lane) x e v = lane_as (is_vector rd) store_reversed_opcode rd (reversed_code size) size lane mem x (λ k. k) e v
 vector_emitter w x e v = absurd (cc)
 
+abbrev Emits : Option MemoryInstruction → Type 0
+Emits (Some x) = IsEmitted x
+Emits None = Unit {0}
+
+-- a load: the last clause is a copy for each
+load_is_emitted : (op : LoadOp) (rd : Reg) (mem : MemArg) → Emits (load_memory (record { op = op; rd = rd; mem = mem }))
+load_is_emitted LoadOps.Load64 rd mem = (rd, refl, refl)
+load_is_emitted op rd mem = (rd, refl, refl)
+
+load_emitter_or : (o : Option Load) (x : MemoryInstruction) → by_load load_memory None o ≡ Some x → IsEmitted x
+load_emitter_or None x e = absurd (cc)
+load_emitter_or (Some l) x e = subst Emits e (load_is_emitted l.op l.rd l.mem)
+
 pub each_emitter : (i : Inst) (x : MemoryInstruction) → memory i ≡ Some x → x.operands_valid ≡ true → IsEmitted x
 each_emitter (AluRX op rd ri mem) x e v = operator_as (is_some (alu_rx op) || is_some (alu_rxy op)) (alu_rx op) (alu_rxy op) rd ri mem x (alu_reads op) e v
 each_emitter (CmpRX op rn mem) x e v = as_found _ x (rn, refl, one_as rn (cmp_rx op) (cmp_rxy op) (Some (cmp_ril op)) true (is_general rn) (is_numbered 1 rn) mem refl (ap (λ t. t && is_numbered 1 rn) (sym (cmp_reads op)))) e
-each_emitter (Load32 rd mem) x e v = as_found _ x (rd, refl, refl) e
-each_emitter (Load32ZExt8 rd mem) x e v = as_found _ x (rd, refl, refl) e
-each_emitter (Load32SExt8 rd mem) x e v = as_found _ x (rd, refl, refl) e
-each_emitter (Load32ZExt16 rd mem) x e v = as_found _ x (rd, refl, refl) e
-each_emitter (Load32SExt16 rd mem) x e v = as_found _ x (rd, refl, refl) e
-each_emitter (Load64 rd mem) x e v = as_found _ x (rd, refl, refl) e
-each_emitter (Load64ZExt8 rd mem) x e v = as_found _ x (rd, refl, refl) e
-each_emitter (Load64SExt8 rd mem) x e v = as_found _ x (rd, refl, refl) e
-each_emitter (Load64ZExt16 rd mem) x e v = as_found _ x (rd, refl, refl) e
-each_emitter (Load64SExt16 rd mem) x e v = as_found _ x (rd, refl, refl) e
-each_emitter (Load64ZExt32 rd mem) x e v = as_found _ x (rd, refl, refl) e
-each_emitter (Load64SExt32 rd mem) x e v = as_found _ x (rd, refl, refl) e
-each_emitter (LoadRev16 rd mem) x e v = as_found _ x (rd, refl, refl) e
-each_emitter (LoadRev32 rd mem) x e v = as_found _ x (rd, refl, refl) e
-each_emitter (LoadRev64 rd mem) x e v = as_found _ x (rd, refl, refl) e
 each_emitter (Store8 rd mem) x e v = as_found _ x (rd, refl, refl) e
 each_emitter (Store16 rd mem) x e v = as_found _ x (rd, refl, refl) e
 each_emitter (Store32 rd mem) x e v = as_found _ x (rd, refl, refl) e
@@ -247,4 +249,4 @@ each_emitter (AtomicRmw op rd rn mem) x e v = absurd (cc)
 each_emitter (AtomicCas32 rd ri rn mem) x e v = swap_as (Some 0xba) 0xeb14 rd ri rn mem x refl refl e v
 each_emitter (AtomicCas64 rd ri rn mem) x e v = swap_as None 0xeb30 rd ri rn mem x refl refl e v
 each_emitter (Vector w) x e v = vector_emitter w x e v
-each_emitter i x e v = absurd (cc)
+each_emitter i x e v = load_emitter_or (as_load i) x e

@@ -1,9 +1,12 @@
 -- Where the registers of an instruction with a memory operand are general ones, its rows can be encoded.
-use Rattle.std.proofs.Common.{◌≡◌, ℕ, true, not, ◌&&◌, ◌||◌, Option, nat_eq, nat_le}
+use Rattle.std.proofs.Common.{◌≡◌, ℕ, true, not, ◌&&◌, ◌||◌, Option, nat_eq, nat_le, refl}
 use Rattle.std.proofs.lemmas.Bool.{and_parts, and_from}
 use Rattle.s390x_base.specs.Regs.{number_of}
 use Rattle.s390x_base.specs.declared.regs.Reg.{Reg}
 use Rattle.s390x_enc.specs.Operands.{is_general_class as encodes_general}
+use Rattle.s390x_inst.specs.declared.load.LoadOp.{LoadOp}
+use Rattle.s390x_inst.specs.declared.load.LoadOp.TheVariants.{Load64}
+use Rattle.s390x_typed_steps.specs.Memory.{load_rows}
 use Rattle.s390x_typed_steps.specs.General.{is_general, reuses}
 use Rattle.s390x_typed_steps.specs.Memory.{is_range}
 use Rattle.s390x_address.specs.Rows.{rows_take_general, has_12_bits}
@@ -13,6 +16,11 @@ opcodes_encode : (r : Reg) (rx rxy : Option ℕ) → (rows_take_general rx && ro
 opcodes_encode r rx rxy h g =
     let p = and_parts (rows_take_general rx) (rows_take_general rxy) h in
     and_from (encodes_general r && rows_take_general rx) (rows_take_general rxy) (and_from (encodes_general r) (rows_take_general rx) g p.0) p.1
+
+-- the rows of loads: the last clause is a copy for each
+pub load_rows_encode : (op : LoadOp) → (rows_take_general (load_rows op).rx && rows_take_general (load_rows op).rxy && has_12_bits (load_rows op).ril) ≡ true
+load_rows_encode Load64 = refl
+load_rows_encode op = refl
 
 -- one register
 pub register_encodes : (r : Reg) (rx rxy ril : Option ℕ) → (rows_take_general rx && rows_take_general rxy && has_12_bits ril) ≡ true → (has_12_bits ril && (not (is_general r) || (encodes_general r && rows_take_general rx && rows_take_general rxy))) ≡ true

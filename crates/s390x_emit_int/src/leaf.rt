@@ -327,25 +327,6 @@ pub fn emit_access(
     found.emit_unless_refused(sink, state)
 }
 
-// An instruction that names a place, goes elsewhere or ends the run, by its cause and then by its code.
-fn emit_any_place(
-    sink: &mut MachBuffer,
-    depth: u32,
-    inst: &Inst,
-    after: MachLabel,
-) -> Result<(), EmitError>
-    requires { HasRoom sink.old }
-    ensures answer { OnOk result ((branch_cause sink.old.block_count depth inst.now ≡ None) × (sink.new ≡ apply_all sink.old (branch_fragments (length sink.old.labels) after.0 inst.now))) }
-    ensures lacks { MembersPassed sink.old after.0 depth (branch_size inst.now) (branch_cause sink.old.block_count depth inst.now) → numbers_cause (length sink.old.labels) (instruction_fresh_labels inst.now) ≡ None → LacksMemory result }
-    ensures range { OnOk result (MaskInRange inst.now) }
-    ensures kept { Extends sink.old sink.new }
-{
-    match branch_cause(sink.block_count(), depth, inst) {
-        Some(error) => Err(error),
-        None => emit_branch(sink, inst, after),
-    }
-}
-
 // An instruction that names a place, goes elsewhere or ends the run, where no cause refuses it; the branches that are met most often first.
 fn emit_place(
     sink: &mut MachBuffer,
@@ -366,7 +347,10 @@ fn emit_place(
             not_taken,
             cond,
         } => emit_choice(sink, *taken, *not_taken, *cond),
-        _ => emit_any_place(sink, depth, inst, after),
+        _ => match branch_cause(sink.block_count(), depth, inst) {
+            Some(error) => Err(error),
+            None => emit_branch(sink, inst, after),
+        },
     }
 }
 

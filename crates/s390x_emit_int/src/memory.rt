@@ -3,7 +3,7 @@ ghost use Rattle.std.specs.Prelude.{◌≡◌, ◌&&◌, if◌then◌else◌, tr
 ghost use Rattle.std.specs.Option.{option_map};
 ghost use Rattle.s390x_address.specs.Rows.{memory_instruction_of, storage_form_of, relative_encodes, rows_encode, may_encode, rows_take_general, has_12_bits};
 ghost use Rattle.s390x_typed_steps.specs.General.{low_byte, low_halfword};
-ghost use Rattle.s390x_typed_steps.specs.Memory.{load, store, store_immediate, SiForm, SilForm, is_range, multiple, load_and_operate, compare_and_swap, memory};
+ghost use Rattle.s390x_typed_steps.specs.Memory.{load, load_memory, other_memory, store, store_immediate, SiForm, SilForm, is_range, multiple, load_and_operate, compare_and_swap, memory};
 ghost use Rattle.s390x_typed_steps.specs.Storage.{alu_rx, alu_rxy, cmp_rx, cmp_rxy, cmp_ril, atomic_rsy};
 
 use crate::registers::{is_reused, two_general};
@@ -13,8 +13,9 @@ use s390x_address::memory::{MemoryInst, general};
 use s390x_address::rows::StorageRows;
 use s390x_base::{Reg, Writable};
 use s390x_emit_vec::find_vector_memory;
-use s390x_inst::{ALUOp, CmpOp, Inst, MemArg};
+use s390x_inst::{ALUOp, CmpOp, Inst, Load, MemArg};
 use s390x_typed_steps::immediates::low_byte;
+use s390x_typed_steps::rows_of_load;
 
 // An access by one register.
 #[tactic(auto, using(crate::proofs::Storing::register_encodes))]
@@ -45,18 +46,19 @@ fn access(
 }
 
 // A load into a register, which is written alone.
-fn load(
-    rd: &Writable<Reg>,
-    rx: Option<u8>,
-    rxy: Option<u16>,
-    ril: Option<u16>,
-    operand: &MemArg,
-) -> Option<MemoryInst>
-    requires { (rows_take_general rx && rows_take_general rxy && has_12_bits ril) ≡ true }
-    ensures row { option_map memory_instruction_of result ≡ load rd.now rx rxy ril operand.now }
+fn load(load: &Load) -> Option<MemoryInst>
+    ensures row { option_map memory_instruction_of result ≡ load_memory load.now }
     ensures encodes { IfSome result (λ x. may_encode x ≡ true) }
 {
-    access(false, rd.to_reg(), rx, rxy, ril, operand)
+    let rows = rows_of_load(load.op);
+    access(
+        false,
+        load.rd.to_reg(),
+        rows.rx,
+        rows.rxy,
+        rows.ril,
+        &load.mem,
+    )
 }
 
 // A store of a register.
@@ -399,28 +401,13 @@ fn compare_and_swap(
     })
 }
 
-/// The machine rows and the operand of an instruction with a memory operand, where it is one.
-pub fn find_memory(inst: &Inst) -> Option<MemoryInst>
-    ensures row { option_map memory_instruction_of result ≡ memory inst.now }
+// The same of one that is no load of one register.
+fn find_other_memory(inst: &Inst) -> Option<MemoryInst>
+    ensures row { option_map memory_instruction_of result ≡ other_memory inst.now }
     ensures encodes { IfSome result (λ x. may_encode x ≡ true) }
 {
     match inst {
         Inst::Vector(inst) => find_vector_memory(inst),
-        Inst::Load32 { rd, mem } => load(rd, Some(0x58), Some(0xe358), Some(0xc4d), mem),
-        Inst::Load32ZExt8 { rd, mem } => load(rd, None, Some(0xe394), None, mem),
-        Inst::Load32SExt8 { rd, mem } => load(rd, None, Some(0xe376), None, mem),
-        Inst::Load32ZExt16 { rd, mem } => load(rd, None, Some(0xe395), Some(0xc42), mem),
-        Inst::Load32SExt16 { rd, mem } => load(rd, Some(0x48), Some(0xe378), Some(0xc45), mem),
-        Inst::Load64 { rd, mem } => load(rd, None, Some(0xe304), Some(0xc48), mem),
-        Inst::Load64ZExt8 { rd, mem } => load(rd, None, Some(0xe390), None, mem),
-        Inst::Load64SExt8 { rd, mem } => load(rd, None, Some(0xe377), None, mem),
-        Inst::Load64ZExt16 { rd, mem } => load(rd, None, Some(0xe391), Some(0xc46), mem),
-        Inst::Load64SExt16 { rd, mem } => load(rd, None, Some(0xe315), Some(0xc44), mem),
-        Inst::Load64ZExt32 { rd, mem } => load(rd, None, Some(0xe316), Some(0xc4e), mem),
-        Inst::Load64SExt32 { rd, mem } => load(rd, None, Some(0xe314), Some(0xc4c), mem),
-        Inst::LoadRev16 { rd, mem } => load(rd, None, Some(0xe31f), None, mem),
-        Inst::LoadRev32 { rd, mem } => load(rd, None, Some(0xe31e), None, mem),
-        Inst::LoadRev64 { rd, mem } => load(rd, None, Some(0xe30f), None, mem),
         Inst::LoadAddr { rd, mem } => load_address(rd, mem),
         Inst::Store8 { rd, mem } => store(rd, Some(0x42), Some(0xe372), None, mem),
         Inst::Store16 { rd, mem } => store(rd, Some(0x40), Some(0xe370), Some(0xc47), mem),
@@ -458,5 +445,16 @@ pub fn find_memory(inst: &Inst) -> Option<MemoryInst>
         ),
         Inst::AtomicCas64 { rd, ri, rn, mem } => compare_and_swap(None, 0xeb30, rd, ri, rn, mem),
         _ => None,
+    }
+}
+
+/// The machine rows and the operand of an instruction with a memory operand, where it is one.
+pub fn find_memory(inst: &Inst) -> Option<MemoryInst>
+    ensures row { option_map memory_instruction_of result ≡ memory inst.now }
+    ensures encodes { IfSome result (λ x. may_encode x ≡ true) }
+{
+    match inst.as_load() {
+        Some(found) => load(&found),
+        None => find_other_memory(inst),
     }
 }

@@ -1,9 +1,17 @@
 -- Fields that are taken one after the other make a line.
-use Rattle.std.proofs.Common.{◌≡◌, ℕ, List, [], ◌∷◌, ◌++◌, sym, ap, ◌∙◌, refl, append_assoc}
-use Rattle.s390x_fields.specs.Fields.{Field, spell}
+use Rattle.std.proofs.Common.{◌≡◌, ℕ, List, [], ◌∷◌, ◌++◌, sym, ap, ◌∙◌, refl, subst, append_assoc}
+use Rattle.s390x_base.specs.declared.regs.Reg.{Reg}
+use Rattle.s390x_inst.specs.declared.args.MemArg.{MemArg}
+use Rattle.s390x_inst.specs.declared.inst.Inst.{Inst}
+use Rattle.s390x_inst.specs.declared.load.LoadOp.{LoadOp}
+use Rattle.s390x_inst.specs.Loads.{load_instruction}
+use Rattle.s390x_fields.specs.Fields.{Field, FMemory, FReg, spell}
 use Rattle.s390x_lines.specs.Line.{spelled, AllFields, kinds_of}
 use Rattle.s390x_lines.specs.Kinds.{kinds}
+use Rattle.s390x_lines.specs.Instructions.{inst_line}
 use Rattle.s390x_lines.specs.declared.name.LineName.{LineName}
+use Rattle.s390x_lines.specs.declared.name.LineName.TheVariants as N
+use Rattle.s390x_lines.proofs.LoadLines.{is_load_line}
 use Rattle.s390x_exact.specs.Exact.{Takes, TakesFields}
 
 -- fields that are taken one after the other
@@ -37,3 +45,7 @@ four n a b c d s t u v w k h i j l =
 pub five : (n : LineName) (a b c d e : Field) (s t u v w x : List ℕ) → kinds n ≡ kinds_of (a ∷ b ∷ c ∷ d ∷ e ∷ []) → Takes a s t → Takes b t u → Takes c u v → Takes d v w → Takes e w x → TakesFields n (record { name = n; fields = a ∷ b ∷ c ∷ d ∷ e ∷ [] }) s x
 five n a b c d e s t u v w x k h i j l m =
     whole n (a ∷ b ∷ c ∷ d ∷ e ∷ []) s x k (more a (b ∷ c ∷ d ∷ e ∷ []) s t x h (more b (c ∷ d ∷ e ∷ []) t u x i (more c (d ∷ e ∷ []) u v x j (more d (e ∷ []) v w x l (more e [] w x x m (none x))))))
+
+pub load : (op : LoadOp) (rd : Reg) (mem : MemArg) (i : Inst) (s t u : List ℕ) → i ≡ load_instruction op rd mem → Takes (FReg rd) s t → Takes (FMemory mem) t u → TakesFields (N.Load op) (inst_line i) s u
+load op rd mem i s t u e h k =
+    subst (λ l. TakesFields (N.Load op) l s u) (sym (ap inst_line e ∙ is_load_line op rd mem)) (two (N.Load op) (FReg rd) (FMemory mem) s t u refl h k)

@@ -19,13 +19,14 @@ pub record TakesFields (n : LineName) (l : Line) (s t : List ℕ) : Type 0 where
 -- the name of an instruction's line, which no other lines belong to
 abbrev pub IsSingle : LineName → Type 0
 IsSingle (N.Integer n) = Unit {0}
+IsSingle (N.Load op) = Unit {0}
 IsSingle (N.Memory n) = Unit {0}
 IsSingle (N.Control n) = Unit {0}
 IsSingle (N.Vector n) = Unit {0}
 IsSingle n = ⊥
 
 -- the line of this text, which is that of one instruction
-pub record IsTold (l : Line) (w : List ℕ) : Type 0 where
+pub record IsInstructionText (l : Line) (w : List ℕ) : Type 0 where
   pub line : IsLine l
   pub text : line_text l ≡ w
   pub single : IsSingle l.name

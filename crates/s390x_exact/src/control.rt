@@ -3,26 +3,26 @@ ghost use Rattle.std.specs.Prelude.{IfSome};
 ghost use Rattle.s390x_lines.specs.Instructions.{inst_line};
 ghost use Rattle.s390x_exact.specs.Exact.{TakesFields};
 
-use crate::place::Place;
+use crate::cursor::ExactCursor;
 use s390x_inst::Inst;
 use s390x_lines::inst_name::ControlName;
 use s390x_lines::name::LineName;
 
 #[tactic(auto, using(crate::proofs::Lines::one))]
-fn jump(c: &mut Place) -> Option<Inst>
-    ensures { IfSome result (λ x. TakesFields (LineName.Control ControlName.Jump) (inst_line x) c.old c.new) }
+fn jump(cursor: &mut ExactCursor) -> Option<Inst>
+    ensures { IfSome result (λ x. TakesFields (LineName.Control ControlName.Jump) (inst_line x) cursor.old cursor.new) }
 {
-    let dest = c.label()?;
+    let dest = cursor.label()?;
     Some(Inst::Jump { dest })
 }
 
 #[tactic(auto, using(crate::proofs::Lines::three))]
-fn branch(c: &mut Place) -> Option<Inst>
-    ensures { IfSome result (λ x. TakesFields (LineName.Control ControlName.CondBr) (inst_line x) c.old c.new) }
+fn branch(cursor: &mut ExactCursor) -> Option<Inst>
+    ensures { IfSome result (λ x. TakesFields (LineName.Control ControlName.CondBr) (inst_line x) cursor.old cursor.new) }
 {
-    let taken = c.label()?;
-    let not_taken = c.label()?;
-    let cond = c.cond()?;
+    let taken = cursor.label()?;
+    let not_taken = cursor.label()?;
+    let cond = cursor.cond()?;
     Some(Inst::CondBr {
         taken,
         not_taken,
@@ -31,21 +31,21 @@ fn branch(c: &mut Place) -> Option<Inst>
 }
 
 #[tactic(auto, using(crate::proofs::Lines::one))]
-fn ret(c: &mut Place) -> Option<Inst>
-    ensures { IfSome result (λ x. TakesFields (LineName.Control ControlName.Ret) (inst_line x) c.old c.new) }
+fn ret(cursor: &mut ExactCursor) -> Option<Inst>
+    ensures { IfSome result (λ x. TakesFields (LineName.Control ControlName.Ret) (inst_line x) cursor.old cursor.new) }
 {
-    let link = c.reg()?;
+    let link = cursor.reg()?;
     Some(Inst::Ret { link })
 }
 
 /// Takes the fields of an instruction of this name, where it is a frequent branch.
-pub fn control(name: ControlName, c: &mut Place) -> Option<Inst>
-    ensures { IfSome result (λ x. TakesFields (LineName.Control name) (inst_line x) c.old c.new) }
+pub fn control(name: ControlName, cursor: &mut ExactCursor) -> Option<Inst>
+    ensures { IfSome result (λ x. TakesFields (LineName.Control name) (inst_line x) cursor.old cursor.new) }
 {
     match name {
-        ControlName::Jump => jump(c),
-        ControlName::CondBr => branch(c),
-        ControlName::Ret => ret(c),
+        ControlName::Jump => jump(cursor),
+        ControlName::CondBr => branch(cursor),
+        ControlName::Ret => ret(cursor),
         _ => None,
     }
 }

@@ -6,14 +6,14 @@ ghost use Rattle.s390x_words.specs.Numbers.{W8, W32, S16, S32};
 ghost use Rattle.s390x_fields.specs.Fields.{FAlu, FCmp, FCond, FInteger, FNatural, FReg, FShift, FUnary};
 ghost use Rattle.s390x_exact.specs.Exact.{Takes};
 
-use crate::place::Place;
+use crate::cursor::ExactCursor;
 use s390x_base::{Cond, MachLabel, Reg, RegClass, Writable, gpr_preg, vr_preg};
 use s390x_inst::{ALUOp, CmpOp, ShiftOp, UnaryOp};
 use s390x_words::marks::front;
-use s390x_words::operators::{ALL_ALU, ALL_CMP, ALL_SHIFT, ALL_UNARY};
-use s390x_words::word::{Word, find};
+use s390x_words::operators::{ALU_NAMES, CMP_NAMES, SHIFT_NAMES, UNARY_NAMES};
+use s390x_words::word::{Names, Word, find};
 
-impl<'a> Place<'a> {
+impl<'a> ExactCursor<'a> {
     /// Takes a register's name.
     #[inline(always)]
     pub fn register(&mut self) -> Option<Reg>
@@ -136,11 +136,11 @@ impl<'a> Place<'a> {
     }
 
     /// Takes the word that spells a value.
-    fn operator<T: Word>(&mut self, all: &[T], other: T) -> Option<T>
+    fn operator<T: Word>(&mut self, names: Names<T>, other: T) -> Option<T>
         ensures { IfSome result (λ o. self.old ≡ 32 ∷ (T.spelling o ++ self.new)) }
     {
         self.byte(b' ')?;
-        let value = find(all, front(self.rest()), other);
+        let value = find(names, front(self.rest()), other);
         self.text(value.text().as_bytes())?;
         Some(value)
     }
@@ -149,27 +149,27 @@ impl<'a> Place<'a> {
     pub fn alu(&mut self) -> Option<ALUOp>
         ensures { IfSome result (λ o. Takes (FAlu o) self.old self.new) }
     {
-        self.operator(&ALL_ALU, ALUOp::Add32)
+        self.operator(ALU_NAMES, ALUOp::Add32)
     }
 
     /// Takes a comparison.
     pub fn cmp(&mut self) -> Option<CmpOp>
         ensures { IfSome result (λ o. Takes (FCmp o) self.old self.new) }
     {
-        self.operator(&ALL_CMP, CmpOp::CmpS32)
+        self.operator(CMP_NAMES, CmpOp::CmpS32)
     }
 
     /// Takes a shift.
     pub fn shift_op(&mut self) -> Option<ShiftOp>
         ensures { IfSome result (λ o. Takes (FShift o) self.old self.new) }
     {
-        self.operator(&ALL_SHIFT, ShiftOp::RotL32)
+        self.operator(SHIFT_NAMES, ShiftOp::RotL32)
     }
 
     /// Takes an operation on one integer.
     pub fn unary(&mut self) -> Option<UnaryOp>
         ensures { IfSome result (λ o. Takes (FUnary o) self.old self.new) }
     {
-        self.operator(&ALL_UNARY, UnaryOp::Abs32)
+        self.operator(UNARY_NAMES, UnaryOp::Abs32)
     }
 }

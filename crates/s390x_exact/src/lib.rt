@@ -2,12 +2,12 @@
 #![tactic(auto)]
 
 mod control;
+mod cursor;
 mod fields;
 mod integer;
 mod line;
 mod memory;
 mod number;
 mod operand;
-mod place;
 
 pub use line::exact_line;

@@ -2,12 +2,12 @@
 ghost use Rattle.std.specs.Prelude.{◌≡◌, ◌++◌, IfSome};
 ghost use Rattle.s390x_lines.specs.Instructions.{inst_line};
 ghost use Rattle.s390x_lines.specs.Names.{name_text};
-ghost use Rattle.s390x_exact.specs.Exact.{TakesFields, IsSingle, IsTold};
+ghost use Rattle.s390x_exact.specs.Exact.{TakesFields, IsSingle, IsInstructionText};
 
 use crate::control::control;
+use crate::cursor::ExactCursor;
 use crate::integer::integer;
-use crate::memory::memory;
-use crate::place::Place;
+use crate::memory::{load, memory};
 use s390x_inst::Inst;
 use s390x_lines::name::{LineName, find_name};
 use s390x_words::marks::front;
@@ -15,33 +15,34 @@ use s390x_words::word::Word;
 
 /// Takes the name of a line.
 #[inline(always)]
-fn line_name(c: &mut Place) -> Option<LineName>
-    ensures { IfSome result (λ n. c.old ≡ name_text n ++ c.new) }
+fn line_name(cursor: &mut ExactCursor) -> Option<LineName>
+    ensures { IfSome result (λ n. cursor.old ≡ name_text n ++ cursor.new) }
 {
-    let name = find_name(front(c.rest()));
-    c.text(name.text().as_bytes())?;
+    let name = find_name(front(cursor.rest()));
+    cursor.text(name.text().as_bytes())?;
     Some(name)
 }
 
 #[inline(always)]
-fn fields(name: LineName, c: &mut Place) -> Option<Inst>
-    ensures line { IfSome result (λ x. TakesFields name (inst_line x) c.old c.new) }
+fn fields(name: LineName, cursor: &mut ExactCursor) -> Option<Inst>
+    ensures line { IfSome result (λ x. TakesFields name (inst_line x) cursor.old cursor.new) }
     ensures single { IfSome result (λ _. IsSingle name) }
 {
     match name {
-        LineName::Memory(name) => memory(name, c),
-        LineName::Integer(name) => integer(name, c),
-        LineName::Control(name) => control(name, c),
+        LineName::Load(op) => load(op, cursor),
+        LineName::Memory(name) => memory(name, cursor),
+        LineName::Integer(name) => integer(name, cursor),
+        LineName::Control(name) => control(name, cursor),
         _ => None,
     }
 }
 
 /// The instruction whose line this is, where it is a frequent one that is read without printing it back; none says nothing.
 pub fn exact_line(w: &[u8]) -> Option<Inst>
-    ensures { IfSome result (λ x. IsTold (inst_line x) w.now) }
+    ensures { IfSome result (λ x. IsInstructionText (inst_line x) w.now) }
 {
-    let mut place = Place::new(w);
-    let name = line_name(&mut place)?;
-    let inst = fields(name, &mut place)?;
-    if place.is_end() { Some(inst) } else { None }
+    let mut cursor = ExactCursor::new(w);
+    let name = line_name(&mut cursor)?;
+    let inst = fields(name, &mut cursor)?;
+    if cursor.is_end() { Some(inst) } else { None }
 }

@@ -7,11 +7,11 @@ ghost use Rattle.s390x_base.specs.Traps.{IsKind};
 ghost use Rattle.s390x_fields.specs.Fields.{FMemory};
 ghost use Rattle.s390x_exact.specs.Exact.{Takes};
 
-use crate::place::Place;
+use crate::cursor::ExactCursor;
 use s390x_base::{MachMemFlags, TrapCode, UImm12};
 use s390x_inst::MemArg;
 
-impl<'a> Place<'a> {
+impl<'a> ExactCursor<'a> {
     /// Takes a trap code that has a name.
     fn trap(&mut self) -> Option<TrapCode>
         ensures text { IfSome result (λ t. self.old ≡ trap_text t ++ self.new) }

@@ -4,28 +4,14 @@ use Rattle.std.specs.Fmt.{decimal, signed_decimal}
 use Rattle.s390x_base.specs.Registers.{RealRegister, IsRegister}
 use Rattle.s390x_words.specs.Marks.{word, after_word, past}
 use Rattle.s390x_words.specs.Numbers.{Width, natural_of, integer_of, W8}
-use Rattle.s390x_words.specs.Found.{found_by_name}
 use Rattle.s390x_words.specs.Atoms.{real_text, real_register_of, reg_text, reg_of, mask_of, trap_text, trap_of, bool_text, bool_of, name_of}
 use Rattle.s390x_words.specs.Lists.{list_text, AllItems}
 use Rattle.s390x_words.specs.Sets.{members_of, is_in}
 use Rattle.s390x_words.specs.Calls.{target_text, call_target_of, result_text, call_result_of, IsResult, arg_text, arg_of, IsArg, ret_text, ret_of, IsRet, use_text, use_of, IsUse, label_text, label_of, IsLabel}
 use Rattle.s390x_words.specs.Bytes.{bytes_text, bytes_of_text, value_text, value_of, facilities_text, facilities_of}
-use Rattle.s390x_words.specs.Operators.{alu_text, cmp_text, shift_text, rxsbg_text, unary_text, vec_binary_text, vec_unary_text, vec_shift_text, vec_compare_text, vec_element_compare_text, convention_text}
+use Rattle.s390x_words.specs.Operators.{alu_text, alu_of, cmp_text, cmp_of, shift_text, shift_of, rxsbg_text, rxsbg_of, unary_text, unary_of, vec_binary_text, vec_binary_of, vec_unary_text, vec_unary_of, vec_shift_text, vec_shift_of, vec_compare_text, vec_compare_of, vec_element_compare_text, vec_element_compare_of, convention_text, convention_of}
 use Rattle.s390x_fields.specs.Fields.{option_text, IsOption, option_of, Field, KStart, FReg, FReal, FPair, FBool, FNatural, FInteger, FShifted, FMemory, FCond, FTrap, FLabels, FArgs, FRets, FUses, FDefs, FSet, FTarget, FTry, FOption, FReloc, FName, FBytes, FStart, FFlags, FAlu, FCmp, FShift, FRxsbg}
 use Rattle.s390x_fields.specs.Fields.{FUnary, FVecBinary, FVecUnary, FVecShift, FVecCompare, FVecElementCompare, FConvention, kind_of, spell, IsField, value_as, after_as}
-use Rattle.s390x_inst.specs.declared.ops.ALUOp.TheVariants as ALUOpIs
-use Rattle.s390x_inst.specs.declared.ops.CmpOp.TheVariants as CmpOpIs
-use Rattle.s390x_inst.specs.declared.ops.ShiftOp.TheVariants as ShiftOpIs
-use Rattle.s390x_inst.specs.declared.ops.RxSBGOp.TheVariants as RxSBGOpIs
-use Rattle.s390x_inst.specs.declared.ops.UnaryOp.TheVariants as UnaryOpIs
-use Rattle.s390x_inst.specs.declared.vec_ops.VecBinaryOp.TheVariants as VecBinaryOpIs
-use Rattle.s390x_inst.specs.declared.vec_ops.VecUnaryOp.TheVariants as VecUnaryOpIs
-use Rattle.s390x_inst.specs.declared.vec_ops.VecShiftOp.TheVariants as VecShiftOpIs
-use Rattle.s390x_inst.specs.declared.vec_ops.VecIntCmpOp.TheVariants as VecIntCmpOpIs
-use Rattle.s390x_inst.specs.declared.vec_ops.VecIntEltCmpOp.TheVariants as VecIntEltCmpOpIs
-use Rattle.s390x_inst.specs.declared.calls.CallConv.TheVariants as CallConvIs
-use Rattle.s390x_words.specs.declared.operators.TheConstants.{ALL_ALU, ALL_CMP, ALL_SHIFT, ALL_RXSBG, ALL_UNARY, ALL_CONVENTION}
-use Rattle.s390x_words.specs.declared.vector_operators.TheConstants.{ALL_VEC_BINARY, ALL_VEC_UNARY, ALL_VEC_SHIFT, ALL_VEC_COMPARE, ALL_VEC_ELEMENT_COMPARE}
 use Rattle.s390x_words.proofs.Avoids.{Avoids, Avoids-append, Avoids-fewer, marks, IsOneWord, Ends, word-is, after-is}
 use Rattle.s390x_words.proofs.Digits.{decimal-one_word, signed-one_word, natural-round_trip, integer-round_trip, wide, signed_wide}
 use Rattle.s390x_words.proofs.AtomsRoundTrip.{real-round_trip, real-one_word, reg-round_trip, reg-one_word, mask-round_trip, trap-round_trip, trap-one_word, bool-round_trip, bool-one_word, name-round_trip, name-one_word}
@@ -109,17 +95,17 @@ pub field-round_trip : (f : Field) → IsField f → (r : List ℕ) → Rest f r
 field-round_trip (FReg x) h r e = one FReg reg_of (reg_text x) x r (reg-one_word x h) e (reg-round_trip x h)
 field-round_trip (FReal x) h r e = one FReal real_register_of (real_text x) x r (real-one_word x h) e (real-round_trip x h)
 field-round_trip (FPair x y) h r e = ap2 FPair (ap reg_of (two_first 47 (reg_text x) (reg_text y) r (reg-one_word x h.0) refl) ∙ reg-round_trip x h.0) (ap reg_of (two_second 47 (reg_text x) (reg_text y) r (reg-one_word x h.0) refl (reg-one_word y h.1) e) ∙ reg-round_trip y h.1)
-field-round_trip (FAlu x) h r e = one FAlu (λ w. found_by_name alu_text ALL_ALU w ALUOpIs.Add32) (alu_text x) x r (alu-one_word x) e (alu-round_trip x)
-field-round_trip (FCmp x) h r e = one FCmp (λ w. found_by_name cmp_text ALL_CMP w CmpOpIs.CmpS32) (cmp_text x) x r (cmp-one_word x) e (cmp-round_trip x)
-field-round_trip (FShift x) h r e = one FShift (λ w. found_by_name shift_text ALL_SHIFT w ShiftOpIs.RotL32) (shift_text x) x r (shift-one_word x) e (shift-round_trip x)
-field-round_trip (FRxsbg x) h r e = one FRxsbg (λ w. found_by_name rxsbg_text ALL_RXSBG w RxSBGOpIs.Insert) (rxsbg_text x) x r (rxsbg-one_word x) e (rxsbg-round_trip x)
-field-round_trip (FUnary x) h r e = one FUnary (λ w. found_by_name unary_text ALL_UNARY w UnaryOpIs.Abs32) (unary_text x) x r (unary-one_word x) e (unary-round_trip x)
-field-round_trip (FVecBinary x) h r e = one FVecBinary (λ w. found_by_name vec_binary_text ALL_VEC_BINARY w VecBinaryOpIs.Add8x16) (vec_binary_text x) x r (vec_binary-one_word x) e (vec_binary-round_trip x)
-field-round_trip (FVecUnary x) h r e = one FVecUnary (λ w. found_by_name vec_unary_text ALL_VEC_UNARY w VecUnaryOpIs.Abs8x16) (vec_unary_text x) x r (vec_unary-one_word x) e (vec_unary-round_trip x)
-field-round_trip (FVecShift x) h r e = one FVecShift (λ w. found_by_name vec_shift_text ALL_VEC_SHIFT w VecShiftOpIs.RotL8x16) (vec_shift_text x) x r (vec_shift-one_word x) e (vec_shift-round_trip x)
-field-round_trip (FVecCompare x) h r e = one FVecCompare (λ w. found_by_name vec_compare_text ALL_VEC_COMPARE w VecIntCmpOpIs.CmpEq8x16) (vec_compare_text x) x r (vec_compare-one_word x) e (vec_compare-round_trip x)
-field-round_trip (FVecElementCompare x) h r e = one FVecElementCompare (λ w. found_by_name vec_element_compare_text ALL_VEC_ELEMENT_COMPARE w VecIntEltCmpOpIs.SCmp128) (vec_element_compare_text x) x r (vec_element_compare-one_word x) e (vec_element_compare-round_trip x)
-field-round_trip (FConvention x) h r e = one FConvention (λ w. found_by_name convention_text ALL_CONVENTION w CallConvIs.Fast) (convention_text x) x r (convention-one_word x) e (convention-round_trip x)
+field-round_trip (FAlu x) h r e = one FAlu alu_of (alu_text x) x r (alu-one_word x) e (alu-round_trip x)
+field-round_trip (FCmp x) h r e = one FCmp cmp_of (cmp_text x) x r (cmp-one_word x) e (cmp-round_trip x)
+field-round_trip (FShift x) h r e = one FShift shift_of (shift_text x) x r (shift-one_word x) e (shift-round_trip x)
+field-round_trip (FRxsbg x) h r e = one FRxsbg rxsbg_of (rxsbg_text x) x r (rxsbg-one_word x) e (rxsbg-round_trip x)
+field-round_trip (FUnary x) h r e = one FUnary unary_of (unary_text x) x r (unary-one_word x) e (unary-round_trip x)
+field-round_trip (FVecBinary x) h r e = one FVecBinary vec_binary_of (vec_binary_text x) x r (vec_binary-one_word x) e (vec_binary-round_trip x)
+field-round_trip (FVecUnary x) h r e = one FVecUnary vec_unary_of (vec_unary_text x) x r (vec_unary-one_word x) e (vec_unary-round_trip x)
+field-round_trip (FVecShift x) h r e = one FVecShift vec_shift_of (vec_shift_text x) x r (vec_shift-one_word x) e (vec_shift-round_trip x)
+field-round_trip (FVecCompare x) h r e = one FVecCompare vec_compare_of (vec_compare_text x) x r (vec_compare-one_word x) e (vec_compare-round_trip x)
+field-round_trip (FVecElementCompare x) h r e = one FVecElementCompare vec_element_compare_of (vec_element_compare_text x) x r (vec_element_compare-one_word x) e (vec_element_compare-round_trip x)
+field-round_trip (FConvention x) h r e = one FConvention convention_of (convention_text x) x r (convention-one_word x) e (convention-round_trip x)
 field-round_trip (FBool x) h r e = one FBool bool_of (bool_text x) x r (bool-one_word x) e (bool-round_trip x)
 field-round_trip (FNatural w x) h r e = one (FNatural w) (natural_of w) (decimal x) x r (decimal-one_word x (wide w x h)) e (natural-round_trip w x h)
 field-round_trip (FInteger w x) h r e = one (FInteger w) (integer_of w) (signed_decimal x) x r (signed-one_word x (signed_wide w x h)) e (integer-round_trip w x h)

@@ -13,12 +13,10 @@ use Rattle.s390x_base.specs.declared.regs.RegClass.TheVariants.{Int, Float}
 use Rattle.s390x_base.specs.declared.trap.TrapKind.TheVariants.{User}
 use Rattle.s390x_words.specs.Marks.{word, after_word}
 use Rattle.s390x_words.specs.Numbers.{Width, W8, W12, W16, W32, W64, width_bits, SignedWidth, signed_limit, IsBelow, decimal_from, decimal_of, natural_of, minus_of, plus_of, signed_below, integer_of, S8, S16, S20, S32, S64}
-use Rattle.s390x_words.specs.Found.{found_by_name}
 use Rattle.s390x_words.specs.Atoms.{real_register_of, reg_of, IsReg, mask_of, IsMask, user_number_of, trap_of, suffix_of, IsSuffix}
-use Rattle.s390x_words.specs.Memory.{IsMemory, memory_with, form_text}
+use Rattle.s390x_words.specs.Memory.{IsMemory, memory_with, form_of}
 use Rattle.s390x_words.specs.declared.memory.MemoryForm.{MemoryForm}
 use Rattle.s390x_words.specs.declared.memory.MemoryForm.TheVariants as F
-use Rattle.s390x_words.specs.declared.memory.TheConstants.{ALL_FORMS}
 use Rattle.s390x_words.specs.Lists.{AllItems, elements, list_of, begins_element}
 use Rattle.s390x_words.specs.Marks.{upto}
 use Rattle.s390x_words.specs.Sets.{is_in}
@@ -197,7 +195,7 @@ value-ok KBool s = tt
 value-ok (KNatural w) s = natural_ok w (word s)
 value-ok (KInteger w) s = integer_ok w (word s)
 value-ok (KShifted w) s = (natural_ok w (word s), natural_ok W8 (word (after_word s)))
-value-ok KMemory s = memory_shape_ok (found_by_name form_text ALL_FORMS (word s) F.BXD12) (after_word s)
+value-ok KMemory s = memory_shape_ok (form_of (word s)) (after_word s)
 value-ok KCond s = mask_ok (word s)
 value-ok KTrap s = trap_ok (word s)
 value-ok KLabels s = list_ok IsLabel label_of (λ t. natural_ok W32 (word t)) (drop 1 s)

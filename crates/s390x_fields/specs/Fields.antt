@@ -18,38 +18,24 @@ use Rattle.s390x_inst.specs.declared.calls.SymbolReloc.{SymbolReloc}
 use Rattle.s390x_inst.specs.declared.state.IsaFlags.{IsaFlags}
 use Rattle.s390x_words.specs.Marks.{word, after_word, past}
 use Rattle.s390x_words.specs.Numbers.{Width, width_bits, SignedWidth, signed_limit, IsBelow, natural_of, integer_of, W8}
-use Rattle.s390x_words.specs.Found.{found_by_name}
 use Rattle.s390x_words.specs.Atoms.{real_text, real_register_of, reg_text, reg_of, IsReg, mask_of, IsMask, trap_text, trap_of, bool_text, bool_of, name_of}
 use Rattle.s390x_words.specs.Memory.{memory_text, memory_operand_of, IsMemory}
 use Rattle.s390x_words.specs.Lists.{list_text, list_of, AllItems}
 use Rattle.s390x_words.specs.Sets.{members_of, is_in}
 use Rattle.s390x_words.specs.Calls.{target_text, call_target_of, IsCallTarget, reloc_text, reloc_of, IsReloc, result_text, call_result_of, IsResult, TryPart, try_text, try_of, after_try, IsTry, arg_text, IsArg, arg_of, ret_text, IsRet, ret_of, use_text, IsUse, use_of, label_text, IsLabel, label_of}
 use Rattle.s390x_words.specs.Bytes.{bytes_text, bytes_of_text, value_text, value_limit, value_of, facilities_text, facilities_of}
-use Rattle.s390x_words.specs.Operators.{alu_text, cmp_text, shift_text, rxsbg_text, unary_text, vec_binary_text, vec_unary_text, vec_shift_text, vec_compare_text, vec_element_compare_text, convention_text}
+use Rattle.s390x_words.specs.Operators.{alu_text, alu_of, cmp_text, cmp_of, shift_text, shift_of, rxsbg_text, rxsbg_of, unary_text, unary_of, vec_binary_text, vec_binary_of, vec_unary_text, vec_unary_of, vec_shift_text, vec_shift_of, vec_compare_text, vec_compare_of, vec_element_compare_text, vec_element_compare_of, convention_text, convention_of}
 use Rattle.s390x_inst.specs.declared.ops.ALUOp.{ALUOp}
-use Rattle.s390x_inst.specs.declared.ops.ALUOp.TheVariants as ALUOpIs
 use Rattle.s390x_inst.specs.declared.ops.CmpOp.{CmpOp}
-use Rattle.s390x_inst.specs.declared.ops.CmpOp.TheVariants as CmpOpIs
 use Rattle.s390x_inst.specs.declared.ops.ShiftOp.{ShiftOp}
-use Rattle.s390x_inst.specs.declared.ops.ShiftOp.TheVariants as ShiftOpIs
 use Rattle.s390x_inst.specs.declared.ops.RxSBGOp.{RxSBGOp}
-use Rattle.s390x_inst.specs.declared.ops.RxSBGOp.TheVariants as RxSBGOpIs
 use Rattle.s390x_inst.specs.declared.ops.UnaryOp.{UnaryOp}
-use Rattle.s390x_inst.specs.declared.ops.UnaryOp.TheVariants as UnaryOpIs
 use Rattle.s390x_inst.specs.declared.vec_ops.VecBinaryOp.{VecBinaryOp}
-use Rattle.s390x_inst.specs.declared.vec_ops.VecBinaryOp.TheVariants as VecBinaryOpIs
 use Rattle.s390x_inst.specs.declared.vec_ops.VecUnaryOp.{VecUnaryOp}
-use Rattle.s390x_inst.specs.declared.vec_ops.VecUnaryOp.TheVariants as VecUnaryOpIs
 use Rattle.s390x_inst.specs.declared.vec_ops.VecShiftOp.{VecShiftOp}
-use Rattle.s390x_inst.specs.declared.vec_ops.VecShiftOp.TheVariants as VecShiftOpIs
 use Rattle.s390x_inst.specs.declared.vec_ops.VecIntCmpOp.{VecIntCmpOp}
-use Rattle.s390x_inst.specs.declared.vec_ops.VecIntCmpOp.TheVariants as VecIntCmpOpIs
 use Rattle.s390x_inst.specs.declared.vec_ops.VecIntEltCmpOp.{VecIntEltCmpOp}
-use Rattle.s390x_inst.specs.declared.vec_ops.VecIntEltCmpOp.TheVariants as VecIntEltCmpOpIs
 use Rattle.s390x_inst.specs.declared.calls.CallConv.{CallConv}
-use Rattle.s390x_inst.specs.declared.calls.CallConv.TheVariants as CallConvIs
-use Rattle.s390x_words.specs.declared.operators.TheConstants.{ALL_ALU, ALL_CMP, ALL_SHIFT, ALL_RXSBG, ALL_UNARY, ALL_CONVENTION}
-use Rattle.s390x_words.specs.declared.vector_operators.TheConstants.{ALL_VEC_BINARY, ALL_VEC_UNARY, ALL_VEC_SHIFT, ALL_VEC_COMPARE, ALL_VEC_ELEMENT_COMPARE}
 
 -- a number or `-`
 abbrev pub option_text : Option ℕ → List ℕ
@@ -260,17 +246,17 @@ abbrev pub value_as : Kind → List ℕ → Field
 value_as KReg s = FReg (reg_of (word s))
 value_as KReal s = FReal (real_register_of (word s))
 value_as KPair s = FPair (reg_of (word s)) (reg_of (word (after_word s)))
-value_as KAlu s = FAlu (found_by_name alu_text ALL_ALU (word s) ALUOpIs.Add32)
-value_as KCmp s = FCmp (found_by_name cmp_text ALL_CMP (word s) CmpOpIs.CmpS32)
-value_as KShift s = FShift (found_by_name shift_text ALL_SHIFT (word s) ShiftOpIs.RotL32)
-value_as KRxsbg s = FRxsbg (found_by_name rxsbg_text ALL_RXSBG (word s) RxSBGOpIs.Insert)
-value_as KUnary s = FUnary (found_by_name unary_text ALL_UNARY (word s) UnaryOpIs.Abs32)
-value_as KVecBinary s = FVecBinary (found_by_name vec_binary_text ALL_VEC_BINARY (word s) VecBinaryOpIs.Add8x16)
-value_as KVecUnary s = FVecUnary (found_by_name vec_unary_text ALL_VEC_UNARY (word s) VecUnaryOpIs.Abs8x16)
-value_as KVecShift s = FVecShift (found_by_name vec_shift_text ALL_VEC_SHIFT (word s) VecShiftOpIs.RotL8x16)
-value_as KVecCompare s = FVecCompare (found_by_name vec_compare_text ALL_VEC_COMPARE (word s) VecIntCmpOpIs.CmpEq8x16)
-value_as KVecElementCompare s = FVecElementCompare (found_by_name vec_element_compare_text ALL_VEC_ELEMENT_COMPARE (word s) VecIntEltCmpOpIs.SCmp128)
-value_as KConvention s = FConvention (found_by_name convention_text ALL_CONVENTION (word s) CallConvIs.Fast)
+value_as KAlu s = FAlu (alu_of (word s))
+value_as KCmp s = FCmp (cmp_of (word s))
+value_as KShift s = FShift (shift_of (word s))
+value_as KRxsbg s = FRxsbg (rxsbg_of (word s))
+value_as KUnary s = FUnary (unary_of (word s))
+value_as KVecBinary s = FVecBinary (vec_binary_of (word s))
+value_as KVecUnary s = FVecUnary (vec_unary_of (word s))
+value_as KVecShift s = FVecShift (vec_shift_of (word s))
+value_as KVecCompare s = FVecCompare (vec_compare_of (word s))
+value_as KVecElementCompare s = FVecElementCompare (vec_element_compare_of (word s))
+value_as KConvention s = FConvention (convention_of (word s))
 value_as KBool s = FBool (bool_of (word s))
 value_as (KNatural w) s = FNatural w (natural_of w (word s))
 value_as (KInteger w) s = FInteger w (integer_of w (word s))

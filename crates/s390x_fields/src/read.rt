@@ -4,8 +4,7 @@ ghost use Rattle.s390x_base.specs.Registers.{general, vector};
 ghost use Rattle.s390x_base.specs.Sets.{has};
 ghost use Rattle.s390x_words.specs.Marks.{word, after_word, past};
 ghost use Rattle.s390x_words.specs.Numbers.{natural_of, integer_of, W8, W16, W32, W64, S8, S16, S20, S32};
-ghost use Rattle.s390x_words.specs.Found.{found_by_name};
-ghost use Rattle.s390x_words.specs.Operators.{alu_text, cmp_text, shift_text, rxsbg_text, unary_text, vec_binary_text, vec_unary_text, vec_shift_text, vec_compare_text, vec_element_compare_text, convention_text};
+ghost use Rattle.s390x_words.specs.Operators.{alu_of, cmp_of, shift_of, rxsbg_of, unary_of, vec_binary_of, vec_unary_of, vec_shift_of, vec_compare_of, vec_element_compare_of, convention_of};
 ghost use Rattle.s390x_words.specs.Atoms.{real_register_of, reg_of, mask_of, trap_of, bool_of, name_of};
 ghost use Rattle.s390x_words.specs.Memory.{memory_operand_of};
 ghost use Rattle.s390x_words.specs.Lists.{list_of};
@@ -33,12 +32,11 @@ use s390x_words::memory::{displacement20, memory};
 use s390x_words::number::{
     integer8, integer16, integer32, natural8, natural16, natural32, natural64, tail,
 };
-use s390x_words::operators::{ALL_ALU, ALL_CMP, ALL_CONVENTION, ALL_RXSBG, ALL_SHIFT, ALL_UNARY};
+use s390x_words::operators::{alu, cmp, convention, rxsbg, shift, unary};
 use s390x_words::sets::set_of;
 use s390x_words::vector_operators::{
-    ALL_VEC_BINARY, ALL_VEC_COMPARE, ALL_VEC_ELEMENT_COMPARE, ALL_VEC_SHIFT, ALL_VEC_UNARY,
+    vec_binary, vec_compare, vec_element_compare, vec_shift, vec_unary,
 };
-use s390x_words::word::find;
 use std::alloc::{AllocError, Global};
 
 impl<'a> Cursor<'a> {
@@ -68,94 +66,90 @@ impl<'a> Cursor<'a> {
 
     #[inline(never)]
     pub fn alu(&mut self) -> ALUOp
-        ensures value { result ≡ found_by_name alu_text ALL_ALU (word self.old) ALUOp.Add32 }
+        ensures value { result ≡ alu_of (word self.old) }
         ensures after { self.new ≡ after_word self.old }
     {
-        find(&ALL_ALU, self.word(), ALUOp::Add32)
+        alu(self.word())
     }
 
     #[inline(never)]
     pub fn cmp(&mut self) -> CmpOp
-        ensures value { result ≡ found_by_name cmp_text ALL_CMP (word self.old) CmpOp.CmpS32 }
+        ensures value { result ≡ cmp_of (word self.old) }
         ensures after { self.new ≡ after_word self.old }
     {
-        find(&ALL_CMP, self.word(), CmpOp::CmpS32)
+        cmp(self.word())
     }
 
     #[inline(never)]
     pub fn shift_op(&mut self) -> ShiftOp
-        ensures value { result ≡ found_by_name shift_text ALL_SHIFT (word self.old) ShiftOp.RotL32 }
+        ensures value { result ≡ shift_of (word self.old) }
         ensures after { self.new ≡ after_word self.old }
     {
-        find(&ALL_SHIFT, self.word(), ShiftOp::RotL32)
+        shift(self.word())
     }
 
     #[inline(never)]
     pub fn rxsbg(&mut self) -> RxSBGOp
-        ensures value { result ≡ found_by_name rxsbg_text ALL_RXSBG (word self.old) RxSBGOp.Insert }
+        ensures value { result ≡ rxsbg_of (word self.old) }
         ensures after { self.new ≡ after_word self.old }
     {
-        find(&ALL_RXSBG, self.word(), RxSBGOp::Insert)
+        rxsbg(self.word())
     }
 
     #[inline(never)]
     pub fn unary(&mut self) -> UnaryOp
-        ensures value { result ≡ found_by_name unary_text ALL_UNARY (word self.old) UnaryOp.Abs32 }
+        ensures value { result ≡ unary_of (word self.old) }
         ensures after { self.new ≡ after_word self.old }
     {
-        find(&ALL_UNARY, self.word(), UnaryOp::Abs32)
+        unary(self.word())
     }
 
     #[inline(never)]
     pub fn vec_binary(&mut self) -> VecBinaryOp
-        ensures value { result ≡ found_by_name vec_binary_text ALL_VEC_BINARY (word self.old) VecBinaryOp.Add8x16 }
+        ensures value { result ≡ vec_binary_of (word self.old) }
         ensures after { self.new ≡ after_word self.old }
     {
-        find(&ALL_VEC_BINARY, self.word(), VecBinaryOp::Add8x16)
+        vec_binary(self.word())
     }
 
     #[inline(never)]
     pub fn vec_unary(&mut self) -> VecUnaryOp
-        ensures value { result ≡ found_by_name vec_unary_text ALL_VEC_UNARY (word self.old) VecUnaryOp.Abs8x16 }
+        ensures value { result ≡ vec_unary_of (word self.old) }
         ensures after { self.new ≡ after_word self.old }
     {
-        find(&ALL_VEC_UNARY, self.word(), VecUnaryOp::Abs8x16)
+        vec_unary(self.word())
     }
 
     #[inline(never)]
     pub fn vec_shift_op(&mut self) -> VecShiftOp
-        ensures value { result ≡ found_by_name vec_shift_text ALL_VEC_SHIFT (word self.old) VecShiftOp.RotL8x16 }
+        ensures value { result ≡ vec_shift_of (word self.old) }
         ensures after { self.new ≡ after_word self.old }
     {
-        find(&ALL_VEC_SHIFT, self.word(), VecShiftOp::RotL8x16)
+        vec_shift(self.word())
     }
 
     #[inline(never)]
     pub fn vec_compare(&mut self) -> VecIntCmpOp
-        ensures value { result ≡ found_by_name vec_compare_text ALL_VEC_COMPARE (word self.old) VecIntCmpOp.CmpEq8x16 }
+        ensures value { result ≡ vec_compare_of (word self.old) }
         ensures after { self.new ≡ after_word self.old }
     {
-        find(&ALL_VEC_COMPARE, self.word(), VecIntCmpOp::CmpEq8x16)
+        vec_compare(self.word())
     }
 
     #[inline(never)]
     pub fn vec_element_compare(&mut self) -> VecIntEltCmpOp
-        ensures value { result ≡ found_by_name vec_element_compare_text ALL_VEC_ELEMENT_COMPARE (word self.old) VecIntEltCmpOp.SCmp128 }
+        ensures value { result ≡ vec_element_compare_of (word self.old) }
         ensures after { self.new ≡ after_word self.old }
     {
-        find(
-            &ALL_VEC_ELEMENT_COMPARE,
-            self.word(),
-            VecIntEltCmpOp::SCmp128,
-        )
+        vec_element_compare(self.word())
     }
 
     #[inline(never)]
     pub fn convention(&mut self) -> CallConv
-        ensures value { result ≡ found_by_name convention_text ALL_CONVENTION (word self.old) CallConv.Fast }
+        ensures value { result ≡ convention_of (word self.old) }
         ensures after { self.new ≡ after_word self.old }
     {
-        find(&ALL_CONVENTION, self.word(), CallConv::Fast)
+        convention(self.word())
     }
 
     #[inline(never)]

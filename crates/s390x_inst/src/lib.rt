@@ -9,6 +9,7 @@ pub mod defaults;
 pub mod facility;
 pub mod function;
 pub mod inst;
+pub mod load;
 pub mod make;
 pub mod ops;
 pub mod state;
@@ -24,6 +25,7 @@ pub use calls::{
 pub use facility::InstructionSet;
 pub use function::{AllocatedFunction, Block};
 pub use inst::Inst;
+pub use load::{LOAD_COUNT, Load, LoadOp};
 pub use ops::{ALUOp, CmpOp, RxSBGOp, ShiftOp, UnaryOp};
 pub use state::{
     EmitInfo, EmitState, FrameLayout, IsaFlags, MachInstEmitState, REG_SAVE_AREA_SIZE,

@@ -25,6 +25,7 @@ use Rattle.s390x_job.specs.declared.build.Stage.{Stage}
 use Rattle.s390x_job.specs.declared.build.Stage.TheVariants as S
 use Rattle.s390x_job.specs.declared.build.Progress.TheVariants as P
 use Rattle.s390x_job.specs.declared.job.StartRegs.{StartRegs}
+use Rattle.s390x_words.specs.Operators.{convention_text}
 use Rattle.s390x_words.proofs.Members.{either}
 
 follows_cases : (a b c : Bool) → (a || (b && c)) ≡ true → (a ≡ true) ⊎ ((b ≡ true) × (c ≡ true))
@@ -354,6 +355,7 @@ all_zero : (k : ℕ) → IsZeroFrom k no_registers
 all_zero k = record { general_zero = λ i h. zeros_at general_zeros refl i; vector_zero = λ i h. zeros_at vector_zeros refl i }
 
 plain_frame : frame_lines SystemV plain_layout ≡ []
+unfolding convention_text
 plain_frame = rw (decimal_digit 0 (omega arith)) refl
 
 pub start_state : (cs : Vec ConstantData Global) (ss : Vec SymbolLine Global) (ms : Vec MemLine Global) → cs.items ≡ [] → ss.items ≡ [] → ms.items ≡ [] → IsBeginning 0 0 (beginning cs ss ms)

@@ -7,3 +7,4 @@ pub mod Beginnings
 pub mod Whole
 pub mod Places
 pub mod Above
+pub mod Sizes

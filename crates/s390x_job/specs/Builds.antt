@@ -2,7 +2,7 @@
 use Rattle.std.specs.Prelude.{◌≡◌, ℕ, ◌+◌, ◌<◌, ◌≤◌, Option, Some, None, List, [], ◌∷◌, ◌++◌, length, get_or}
 use Rattle.s390x_lines.specs.Line.{Line}
 use Rattle.s390x_job.specs.Items.{block_line, loop_line, end_line}
-use Rattle.s390x_job.specs.Jobs.{IsTold, insts_lines, blocks_lines, flags_lines, frame_lines, head_lines, job_lines}
+use Rattle.s390x_job.specs.Jobs.{IsPlainWithoutLine, insts_lines, blocks_lines, flags_lines, frame_lines, head_lines, job_lines}
 use Rattle.s390x_job.specs.Grammar.{Place, Header, Within, AtEnd, next, class}
 use Rattle.s390x_inst.specs.State.{fresh_emission}
 use Rattle.s390x_inst.specs.declared.calls.CallConv.{CallConv}
@@ -59,7 +59,7 @@ place_at Done b = AtEnd
 
 -- both files have all their registers, and a frame without a line is the plain one
 pub record IsFull (conv : CallConv) (layout : FrameLayout) (r : StartRegs) : Type 0 where
-  pub frame : IsTold conv layout
+  pub frame : IsPlainWithoutLine conv layout
   pub general_count : length r.general ≡ 16
   pub vector_count : length r.vector ≡ 32
 

@@ -50,10 +50,14 @@ completion ws = joined ws ++ ending ws
 abbrev pub IsText : List ℕ → Type 0
 IsText s = (j : Job) × IsJob j × (text_of_job j ≡ s)
 
--- the number of the line: 1 plus the greatest k that is 0 or whose completion is a text
-pub record IsFirstWrong (ws : List (List ℕ)) (n : ℕ) : Type 0 where
+-- the number of the line: 1 plus the greatest k that is 0 or for which the first k lines can be completed
+pub record IsFirstWrongLine (CanBeCompleted : List (List ℕ) → Type 0) (ws : List (List ℕ)) (n : ℕ) : Type 0 where
   pub k : ℕ
   pub is : n ≡ k + 1
   pub small : k ≤ length ws
-  pub here : (k ≡ 0) ⊎ IsText (completion (take k ws))
-  pub above : (m : ℕ) → k < m → m ≤ length ws → IsText (completion (take m ws)) → ⊥
+  pub here : (k ≡ 0) ⊎ CanBeCompleted (take k ws)
+  pub above : (m : ℕ) → k < m → m ≤ length ws → CanBeCompleted (take m ws) → ⊥
+
+-- the first line of a job's text that is wrong
+abbrev pub IsFirstWrong : List (List ℕ) → ℕ → Type 0
+IsFirstWrong ws n = IsFirstWrongLine (λ vs. IsText (completion vs)) ws n

@@ -55,8 +55,8 @@ abbrev pub plain_layout : FrameLayout
 plain_layout = record { incoming_args_size = 0; tail_args_size = 0; clobber_size = 0; fixed_frame_storage_size = 0; stackslots_size = 0; outgoing_args_size = 0; first_saved_gpr = None; saved_fprs = 0 }
 
 -- a frame without a line is that one, under the convention `SystemV`
-abbrev pub IsTold : CallConv → FrameLayout → Type 0
-IsTold conv layout = frame_lines conv layout ≡ [] → (conv ≡ SystemV) × (layout ≡ plain_layout)
+abbrev pub IsPlainWithoutLine : CallConv → FrameLayout → Type 0
+IsPlainWithoutLine conv layout = frame_lines conv layout ≡ [] → (conv ≡ SystemV) × (layout ≡ plain_layout)
 
 -- a line for each register that does not start at zero, the registers counted from a number on
 abbrev pub start_lines : (ℕ → RealRegister) → ℕ → List ℕ → List Line
@@ -97,6 +97,6 @@ pub record IsJob (j : Job) : Type 0 where
   pub lines : AllLines (job_lines j)
   pub order : run (Some (Header 0 0)) (job_lines j) ≡ Some AtEnd
   pub state : j.state ≡ fresh_emission j.state.layout j.conv
-  pub frame : IsTold j.conv j.state.layout
+  pub frame : IsPlainWithoutLine j.conv j.state.layout
   pub general_count : length j.registers.general ≡ 16
   pub vector_count : length j.registers.vector ≡ 32

@@ -2,6 +2,7 @@
 #![tactic(auto)]
 
 mod build;
+pub mod completing;
 mod heading;
 mod item;
 pub mod job;

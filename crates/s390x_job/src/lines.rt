@@ -1,14 +1,17 @@
 //! The line that a syntax error names.
 
-ghost use Rattle.std.specs.Prelude.{◌≡◌, ℕ, ◌+◌, ◌-◌, ◌<◌, ◌≤◌, ◌++◌, ◌∷◌, [], IfOk, IfErr, OnOk, map, take, length, codes, false, Decides, MatchResult};
+ghost use Rattle.std.specs.Prelude.{◌≡◌, ℕ, ◌+◌, ◌-◌, ◌<◌, ◌≤◌, IfOk, IfErr, map, take, length, codes, false, Decides, MatchResult};
 ghost use Rattle.std.specs.Str.{bytes_eq};
 ghost use Rattle.s390x_job.specs.Errors.{IsReadJob, IsError};
 ghost use Rattle.s390x_job.specs.Jobs.{text_of_job, IsJob};
 ghost use Rattle.s390x_job.specs.Same.{SameJob};
 ghost use Rattle.s390x_job.specs.declared.job.Job.{Job};
-ghost use Rattle.s390x_job.specs.Completions.{pieces, joined, opens, closes, ends_job, ending, closing, completion, IsText, IsFirstWrong};
+ghost use Rattle.s390x_job.specs.Completions.{ends_job, completion, IsText};
 
 use crate::build::{Progress, Stage, job_of, push, start};
+use crate::completing::{
+    Completes, count_closes, count_opens, first_wrong, put_closing, put_joined, split_lines,
+};
 use crate::job::{Job, LineError};
 use crate::reader::{read_item, read_job};
 use crate::split::before;
@@ -22,75 +25,10 @@ pub enum Found {
     Stuck(usize),
 }
 
-fn put(out: &mut Vec<u8>, s: &[u8]) -> Result<(), AllocError>
-    ensures { OnOk result (out.new.items ≡ out.old.items ++ s.now) }
-{
-    out.extend_from_slice(s)
-}
-
-/// The lines of a text.
-pub fn split_lines<'a>(alloc: Global, bytes: &'a [u8]) -> Result<Vec<&'a [u8]>, AllocError>
-    ensures { IfOk result (λ v. map (λ w. w.now) v.items ≡ pieces bytes.now) }
-{
-    let mut v = Vec::new(alloc);
-    let mut rest = bytes;
-    while !rest.is_empty() {
-        let line = before(rest, b'\n');
-        if line.len() == rest.len() {
-            return Ok(v);
-        }
-        v.push(line)?;
-        rest = tail(rest, line.len() + 1);
-    }
-    Ok(v)
-}
-
-fn front5(w: &[u8]) -> &[u8]
-    ensures { result.now ≡ take 5 w.now }
-{
-    if w.len() < 5 { w } else { &w[..5] }
-}
-
-fn begins(w: &[u8]) -> bool
-    ensures { result ≡ bytes_eq (take 5 w.now) (codes "Loop ") }
-{
-    front5(w) == b"Loop ".as_slice()
-}
-
-fn closes_one(w: &[u8]) -> bool
-    ensures { result ≡ bytes_eq w.now (codes "endloop") }
-{
-    w == b"endloop".as_slice()
-}
-
 fn is_end(w: &[u8]) -> bool
     ensures { result ≡ bytes_eq w.now (codes "end") }
 {
     w == b"end".as_slice()
-}
-
-fn count_opens(ws: &[&[u8]]) -> usize
-    ensures { result ≡ opens (map (λ w. w.now) ws.now) }
-{
-    let mut n: usize = 0;
-    for w in ws {
-        if begins(w) {
-            n += 1;
-        }
-    }
-    n
-}
-
-fn count_closes(ws: &[&[u8]]) -> usize
-    ensures { result ≡ closes (map (λ w. w.now) ws.now) }
-{
-    let mut n: usize = 0;
-    for w in ws {
-        if closes_one(w) {
-            n += 1;
-        }
-    }
-    n
 }
 
 fn ended(ws: &[&[u8]]) -> bool
@@ -101,27 +39,6 @@ fn ended(ws: &[&[u8]]) -> bool
         b = is_end(w);
     }
     b
-}
-
-fn put_joined(out: &mut Vec<u8>, ws: &[&[u8]]) -> Result<(), AllocError>
-    ensures { OnOk result (out.new.items ≡ out.old.items ++ joined (map (λ w. w.now) ws.now)) }
-{
-    for w in ws {
-        put(out, w)?;
-        put(out, b"\n")?;
-    }
-    Ok(())
-}
-
-fn put_closing(out: &mut Vec<u8>, n: usize) -> Result<(), AllocError>
-    ensures { OnOk result (out.new.items ≡ out.old.items ++ closing n) }
-{
-    let mut k = n;
-    while k > 0 {
-        put(out, b"endloop\n")?;
-        k -= 1;
-    }
-    put(out, b"end\n")
 }
 
 fn complete(alloc: Global, ws: &[&[u8]]) -> Result<Vec<u8>, AllocError>
@@ -146,21 +63,19 @@ fn is_text(alloc: Global, s: &[u8]) -> Result<bool, AllocError>
     }
 }
 
-/// The number of the line, where no completion of more than `top` lines is a text.
-pub fn line_number(alloc: Global, ws: &[&[u8]], top: usize) -> Result<usize, AllocError>
-    requires small { top ≤ length ws.now }
-    requires above { (m : ℕ) → top < m → m ≤ length ws.now → IsText (completion (take m (map (λ w. w.now) ws.now))) → ⊥ }
-    ensures { IfOk result (λ n. IsFirstWrong (map (λ w. w.now) ws.now) n) }
-{
-    let mut k = top;
-    while k > 0 {
-        let text = complete(alloc, &ws[..k])?;
-        if is_text(alloc, &text)? {
-            return Ok(k + 1);
-        }
-        k -= 1;
+/// The text of a job.
+struct JobText;
+
+impl Completes for JobText {
+    ghost limit = { 4294967295 };
+
+    ghost CanBeCompleted = { λ ws. IsText (completion ws) };
+
+    fn can_be_completed(alloc: Global, ws: &[&[u8]]) -> Result<bool, AllocError> {
+        let text = complete(alloc, ws)?;
+        let fits = is_text(alloc, &text)?;
+        Ok(fits)
     }
-    Ok(1)
 }
 
 /// The job whose text this is. Where there is none, a number of its lines: no more of them can be completed to a job's text.
@@ -202,7 +117,7 @@ fn read_inner(alloc: Global, bytes: &[u8]) -> Result<Result<Job, LineError>, All
         Found::Whole(j) => Ok(Ok(j)),
         Found::Stuck(k) => {
             let ws = split_lines(alloc, bytes)?;
-            let n = line_number(alloc, &ws, k)?;
+            let n = first_wrong::<JobText>(alloc, &ws, k)?;
             Ok(Err(LineError::Syntax { line: n as u32 }))
         }
     }

@@ -12,7 +12,7 @@ use s390x_inst::{FrameLayout, Inst};
 use s390x_lines::name::LineName;
 use s390x_lines::read_control::control;
 use s390x_lines::read_integer::integer;
-use s390x_lines::read_memory::memory;
+use s390x_lines::read_memory::{load, memory};
 use s390x_lines::read_vector::vector;
 use s390x_words::bytes::hex_number;
 use s390x_words::number::natural;
@@ -82,6 +82,7 @@ pub fn item(alloc: Global, n: LineName, c: &mut Cursor) -> Result<Item, AllocErr
         LineName::EndLine => Ok(Item::End),
         LineName::Loop => Ok(Item::Open(c.cond())),
         LineName::Integer(name) => Ok(Item::One(integer(name, c))),
+        LineName::Load(op) => Ok(Item::One(load(op, c))),
         LineName::Memory(name) => Ok(Item::One(memory(name, c))),
         LineName::Control(name) => Ok(Item::One(control(alloc, name, c)?)),
         LineName::Vector(name) => Ok(Item::One(Inst::Vector(vector(name, c)))),

@@ -14,6 +14,7 @@ use Rattle.s390x_fields.specs.Fields.{Field, FAlu, FArgs, FBool, FCmp, FCond, FC
 use Rattle.s390x_lines.specs.Line.{Line}
 use Rattle.s390x_lines.specs.Instructions.{inst_line, vector_line}
 use Rattle.s390x_lines.specs.Contents.{Contents, Whole, Branches, Table, LoopOf, Calls, TailCalls, Arguments, Results, contents}
+use Rattle.s390x_inst.specs.Loads.{load_instruction}
 use Rattle.s390x_lines.specs.declared.inst_name.IntegerName.TheVariants as IntegerIs
 use Rattle.s390x_lines.specs.declared.inst_name.ControlName.TheVariants as ControlIs
 use Rattle.s390x_lines.specs.declared.inst_name.MemoryName.TheVariants as MemoryIs
@@ -155,21 +156,7 @@ read (N.Memory MemoryIs.LoadIndexedAddr) (FReg rd ∷ FReg base ∷ FReg index �
 read (N.Memory MemoryIs.LoadLogicalIndexedAddr) (FReg rd ∷ FReg base ∷ FReg index ∷ FInteger v offset ∷ FNatural w size ∷ []) = Whole (I.LoadLogicalIndexedAddr rd base index offset size)
 read (N.Integer IntegerIs.AluRX) (FAlu op ∷ FReg rd ∷ FReg ri ∷ FMemory mem ∷ []) = Whole (I.AluRX op rd ri mem)
 read (N.Integer IntegerIs.CmpRX) (FCmp op ∷ FReg rn ∷ FMemory mem ∷ []) = Whole (I.CmpRX op rn mem)
-read (N.Memory MemoryIs.Load32) (FReg rd ∷ FMemory mem ∷ []) = Whole (I.Load32 rd mem)
-read (N.Memory MemoryIs.Load32ZExt8) (FReg rd ∷ FMemory mem ∷ []) = Whole (I.Load32ZExt8 rd mem)
-read (N.Memory MemoryIs.Load32SExt8) (FReg rd ∷ FMemory mem ∷ []) = Whole (I.Load32SExt8 rd mem)
-read (N.Memory MemoryIs.Load32ZExt16) (FReg rd ∷ FMemory mem ∷ []) = Whole (I.Load32ZExt16 rd mem)
-read (N.Memory MemoryIs.Load32SExt16) (FReg rd ∷ FMemory mem ∷ []) = Whole (I.Load32SExt16 rd mem)
-read (N.Memory MemoryIs.Load64) (FReg rd ∷ FMemory mem ∷ []) = Whole (I.Load64 rd mem)
-read (N.Memory MemoryIs.Load64ZExt8) (FReg rd ∷ FMemory mem ∷ []) = Whole (I.Load64ZExt8 rd mem)
-read (N.Memory MemoryIs.Load64SExt8) (FReg rd ∷ FMemory mem ∷ []) = Whole (I.Load64SExt8 rd mem)
-read (N.Memory MemoryIs.Load64ZExt16) (FReg rd ∷ FMemory mem ∷ []) = Whole (I.Load64ZExt16 rd mem)
-read (N.Memory MemoryIs.Load64SExt16) (FReg rd ∷ FMemory mem ∷ []) = Whole (I.Load64SExt16 rd mem)
-read (N.Memory MemoryIs.Load64ZExt32) (FReg rd ∷ FMemory mem ∷ []) = Whole (I.Load64ZExt32 rd mem)
-read (N.Memory MemoryIs.Load64SExt32) (FReg rd ∷ FMemory mem ∷ []) = Whole (I.Load64SExt32 rd mem)
-read (N.Memory MemoryIs.LoadRev16) (FReg rd ∷ FMemory mem ∷ []) = Whole (I.LoadRev16 rd mem)
-read (N.Memory MemoryIs.LoadRev32) (FReg rd ∷ FMemory mem ∷ []) = Whole (I.LoadRev32 rd mem)
-read (N.Memory MemoryIs.LoadRev64) (FReg rd ∷ FMemory mem ∷ []) = Whole (I.LoadRev64 rd mem)
+read (N.Load op) (FReg rd ∷ FMemory mem ∷ []) = Whole (load_instruction op rd mem)
 read (N.Memory MemoryIs.Store8) (FReg rd ∷ FMemory mem ∷ []) = Whole (I.Store8 rd mem)
 read (N.Memory MemoryIs.Store16) (FReg rd ∷ FMemory mem ∷ []) = Whole (I.Store16 rd mem)
 read (N.Memory MemoryIs.Store32) (FReg rd ∷ FMemory mem ∷ []) = Whole (I.Store32 rd mem)

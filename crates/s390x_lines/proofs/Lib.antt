@@ -1,3 +1,4 @@
+pub mod LoadLines
 pub mod RoundTrip
 pub mod Frees
 pub mod Contents

@@ -2,8 +2,7 @@
 use Rattle.std.proofs.Common.{◌≡◌, ℕ, Bool, true, false, List, [], ◌∷◌, ◌++◌, refl, sym, ap, ◌∙◌, subst, append_assoc}
 use Rattle.std.specs.Prelude.{codes, if◌then◌else◌}
 use Rattle.s390x_words.specs.Marks.{before_mark, from_mark}
-use Rattle.s390x_words.specs.Found.{found_by_name}
-use Rattle.s390x_lines.specs.Names.{integer_text, memory_name_text, control_text, vector_name_text, name_text}
+use Rattle.s390x_lines.specs.Names.{integer_text, load_name_text, memory_name_text, control_text, vector_name_text, line_name_of, name_text}
 use Rattle.s390x_inst.specs.declared.state.IsaFlags.{IsaFlags}
 use Rattle.s390x_words.specs.Bytes.{facility_text, facilities_text}
 use Rattle.s390x_lines.specs.Kinds.{integer_kinds, memory_kinds, control_kinds, vector_kinds, kinds}
@@ -11,6 +10,8 @@ use Rattle.s390x_fields.specs.Fields.{Field, Kind, KFlags, FFlags, kind_of, spel
 use Rattle.s390x_lines.specs.Line.{Line, spelled, line_text, AllFields, kinds_of, IsLine, line_fields_of, line_with, line_of}
 use Rattle.s390x_lines.specs.declared.inst_name.IntegerName.{IntegerName}
 use Rattle.s390x_lines.specs.declared.inst_name.IntegerName.TheVariants as IntegerIs
+use Rattle.s390x_inst.specs.declared.load.LoadOp.{LoadOp}
+use Rattle.s390x_inst.specs.declared.load.LoadOp.TheVariants as LoadOps
 use Rattle.s390x_lines.specs.declared.inst_name.MemoryName.{MemoryName}
 use Rattle.s390x_lines.specs.declared.inst_name.MemoryName.TheVariants as MemoryIs
 use Rattle.s390x_lines.specs.declared.inst_name.ControlName.{ControlName}
@@ -19,30 +20,34 @@ use Rattle.s390x_lines.specs.declared.inst_name.VectorName.{VectorName}
 use Rattle.s390x_lines.specs.declared.inst_name.VectorName.TheVariants as VectorIs
 use Rattle.s390x_lines.specs.declared.name.LineName.{LineName}
 use Rattle.s390x_lines.specs.declared.name.LineName.TheVariants as N
-use Rattle.s390x_lines.specs.declared.name.TheConstants.{ALL_NAMES}
 use Rattle.s390x_words.proofs.Avoids.{Avoids, Avoids-append, Avoids-fewer, Avoids-test, marks, IsOneWord, Ends, front-is, back-is}
 use Rattle.s390x_fields.proofs.Fields.{Rest, field-round_trip, field-after, field-feed}
 use Rattle.s390x_fields.proofs.Ranges.{value-ok, value-kind}
 
-integer-round_trip : (n : IntegerName) → found_by_name name_text ALL_NAMES (integer_text n) N.EndLine ≡ N.Integer n
+integer-round_trip : (n : IntegerName) → line_name_of (integer_text n) ≡ N.Integer n
 integer-round_trip IntegerIs.AluRRR = refl
 integer-round_trip n = refl
 
-memory-round_trip : (n : MemoryName) → found_by_name name_text ALL_NAMES (memory_name_text n) N.EndLine ≡ N.Memory n
-memory-round_trip MemoryIs.Load32 = refl
+load-round_trip : (op : LoadOp) → line_name_of (load_name_text op) ≡ N.Load op
+load-round_trip LoadOps.Load32 = refl
+load-round_trip op = refl
+
+memory-round_trip : (n : MemoryName) → line_name_of (memory_name_text n) ≡ N.Memory n
+memory-round_trip MemoryIs.Store8 = refl
 memory-round_trip n = refl
 
-control-round_trip : (n : ControlName) → found_by_name name_text ALL_NAMES (control_text n) N.EndLine ≡ N.Control n
+control-round_trip : (n : ControlName) → line_name_of (control_text n) ≡ N.Control n
 control-round_trip ControlIs.Fence = refl
 control-round_trip n = refl
 
-vector-round_trip : (n : VectorName) → found_by_name name_text ALL_NAMES (vector_name_text n) N.EndLine ≡ N.Vector n
+vector-round_trip : (n : VectorName) → line_name_of (vector_name_text n) ≡ N.Vector n
 vector-round_trip VectorIs.VecRRR = refl
 vector-round_trip n = refl
 
-pub name-round_trip : (n : LineName) → found_by_name name_text ALL_NAMES (name_text n) N.EndLine ≡ n
+pub name-round_trip : (n : LineName) → line_name_of (name_text n) ≡ n
 name-round_trip N.EndLine = refl
 name-round_trip (N.Integer n) = integer-round_trip n
+name-round_trip (N.Load op) = load-round_trip op
 name-round_trip (N.Memory n) = memory-round_trip n
 name-round_trip (N.Control n) = control-round_trip n
 name-round_trip (N.Vector n) = vector-round_trip n
@@ -52,8 +57,12 @@ integer-one_word : (n : IntegerName) → IsOneWord (integer_text n)
 integer-one_word IntegerIs.AluRRR = Avoids-test marks (integer_text IntegerIs.AluRRR) refl
 integer-one_word n = Avoids-test marks (integer_text n) refl
 
+load-one_word : (op : LoadOp) → IsOneWord (load_name_text op)
+load-one_word LoadOps.Load32 = Avoids-test marks (load_name_text LoadOps.Load32) refl
+load-one_word op = Avoids-test marks (load_name_text op) refl
+
 memory-one_word : (n : MemoryName) → IsOneWord (memory_name_text n)
-memory-one_word MemoryIs.Load32 = Avoids-test marks (memory_name_text MemoryIs.Load32) refl
+memory-one_word MemoryIs.Store8 = Avoids-test marks (memory_name_text MemoryIs.Store8) refl
 memory-one_word n = Avoids-test marks (memory_name_text n) refl
 
 control-one_word : (n : ControlName) → IsOneWord (control_text n)
@@ -67,6 +76,7 @@ vector-one_word n = Avoids-test marks (vector_name_text n) refl
 name-one_word : (n : LineName) → IsOneWord (name_text n)
 name-one_word N.EndLine = Avoids-test marks (name_text N.EndLine) refl
 name-one_word (N.Integer n) = integer-one_word n
+name-one_word (N.Load op) = load-one_word op
 name-one_word (N.Memory n) = memory-one_word n
 name-one_word (N.Control n) = control-one_word n
 name-one_word (N.Vector n) = vector-one_word n
@@ -87,7 +97,7 @@ integer_proper IntegerIs.AluRRR = refl
 integer_proper n = refl
 
 memory_proper : (n : MemoryName) → proper (memory_kinds n) ≡ true
-memory_proper MemoryIs.Load32 = refl
+memory_proper MemoryIs.Store8 = refl
 memory_proper n = refl
 
 control_proper : (n : ControlName) → proper (control_kinds n) ≡ true
@@ -156,7 +166,7 @@ line-round_trip l h =
     let s = name-one_word l.name in
     let f = front-is (name_text l.name) (spelled l.fields) s (spelled_ends l.fields) in
     let b = back-is (name_text l.name) (spelled l.fields) s (spelled_ends l.fields) in
-    let n = ap (λ w. found_by_name name_text ALL_NAMES w N.EndLine) f ∙ name-round_trip l.name in
+    let n = ap line_name_of f ∙ name-round_trip l.name in
     ap (λ m. line_with m (from_mark (line_text l))) n
     ∙ ap (λ t. line_with l.name t) b
     ∙ ap (λ ks. line_make l.name (line_fields_of ks (spelled l.fields))) h.kinds_fit
@@ -182,5 +192,5 @@ read_kinds (k ∷ ks) s = ap (λ x. x ∷ ks) (sym (value-kind k s)) ∙ ap (λ 
 
 pub read-ok : (s : List ℕ) → IsLine (line_of s)
 read-ok s =
-    let n = found_by_name name_text ALL_NAMES (before_mark s) N.EndLine in
+    let n = line_name_of (before_mark s) in
     record { kinds_fit = read_kinds (kinds n) (from_mark s); fields_fit = read_fields (kinds n) (from_mark s) }

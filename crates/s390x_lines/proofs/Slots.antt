@@ -6,10 +6,12 @@ use Rattle.std.proofs.lemmas.Slice.Eq.{bytes_eq-Decides}
 use Rattle.std.proofs.lemmas.Bool.{false≢true}
 use Rattle.s390x_words.specs.Found.{found_by_name}
 use Rattle.s390x_words.proofs.Members.{either}
-use Rattle.s390x_lines.specs.Names.{integer_text, memory_name_text, control_text, vector_name_text, name_text}
+use Rattle.s390x_lines.specs.Names.{integer_text, load_name_text, memory_name_text, control_text, vector_name_text, line_name_of, name_text, with_texts}
 use Rattle.s390x_lines.specs.Slots.{slot_of}
 use Rattle.s390x_lines.specs.declared.inst_name.IntegerName.{IntegerName}
 use Rattle.s390x_lines.specs.declared.inst_name.IntegerName.TheVariants as IntegerIs
+use Rattle.s390x_inst.specs.declared.load.LoadOp.{LoadOp}
+use Rattle.s390x_inst.specs.declared.load.LoadOp.TheVariants as LoadOps
 use Rattle.s390x_lines.specs.declared.inst_name.MemoryName.{MemoryName}
 use Rattle.s390x_lines.specs.declared.inst_name.MemoryName.TheVariants as MemoryIs
 use Rattle.s390x_lines.specs.declared.inst_name.ControlName.{ControlName}
@@ -30,9 +32,14 @@ unfolding slot_of
 integer-slot IntegerIs.AluRRR = refl
 integer-slot n = refl
 
+load-slot : (op : LoadOp) → name_at (load_name_text op) ≡ N.Load op
+unfolding slot_of
+load-slot LoadOps.Load32 = refl
+load-slot op = refl
+
 memory-slot : (n : MemoryName) → name_at (memory_name_text n) ≡ N.Memory n
 unfolding slot_of
-memory-slot MemoryIs.Load32 = refl
+memory-slot MemoryIs.Store8 = refl
 memory-slot n = refl
 
 control-slot : (n : ControlName) → name_at (control_text n) ≡ N.Control n
@@ -49,21 +56,22 @@ pub name-slot : (n : LineName) → name_at (name_text n) ≡ n
 unfolding slot_of
 name-slot N.EndLine = refl
 name-slot (N.Integer n) = integer-slot n
+name-slot (N.Load op) = load-slot op
 name-slot (N.Memory n) = memory-slot n
 name-slot (N.Control n) = control-slot n
 name-slot (N.Vector n) = vector-slot n
 name-slot n = refl
 
 -- what is found has the spelling, or it is the other one
-found_or : (xs : List LineName) (w : List ℕ) (other : LineName) → (found_by_name name_text xs w other ≡ other) ⊎ (name_text (found_by_name name_text xs w other) ≡ w)
+found_or : (xs : List LineName) (w : List ℕ) (other : LineName) → (found_by_name (with_texts xs) w other ≡ other) ⊎ (name_text (found_by_name (with_texts xs) w other) ≡ w)
 found_or [] w other = inl refl
 found_or (x ∷ xs) w other =
     elim (either (bytes_eq (name_text x) w)) [ inl e ↦ rw e (inr ((bytes_eq-Decides (name_text x) w).0 e)) | inr e ↦ rw e (found_or xs w other) ]
 
-pub is_found : (n : LineName) (w : List ℕ) → bytes_eq (name_text n) w ≡ true → n ≡ found_by_name name_text ALL_NAMES w N.EndLine
+pub is_found : (n : LineName) (w : List ℕ) → bytes_eq (name_text n) w ≡ true → n ≡ line_name_of w
 is_found n w e =
-    sym (name-round_trip n) ∙ ap (λ t. found_by_name name_text ALL_NAMES t N.EndLine) ((bytes_eq-Decides (name_text n) w).0 e)
+    sym (name-round_trip n) ∙ ap line_name_of ((bytes_eq-Decides (name_text n) w).0 e)
 
-pub none_found : (n : LineName) (w : List ℕ) → ((m : LineName) → name_text m ≡ w → n ≡ m) → bytes_eq (name_text n) w ≡ false → N.EndLine ≡ found_by_name name_text ALL_NAMES w N.EndLine
+pub none_found : (n : LineName) (w : List ℕ) → ((m : LineName) → name_text m ≡ w → n ≡ m) → bytes_eq (name_text n) w ≡ false → N.EndLine ≡ line_name_of w
 none_found n w only f =
-    elim (found_or ALL_NAMES w N.EndLine) [ inl e ↦ sym e | inr e ↦ let s = ap name_text (only (found_by_name name_text ALL_NAMES w N.EndLine) e) ∙ e in absurd (false≢true (sym f ∙ (bytes_eq-Decides (name_text n) w).1 s)) ]
+    elim (found_or ALL_NAMES w N.EndLine) [ inl e ↦ sym e | inr e ↦ let s = ap name_text (only (line_name_of w) e) ∙ e in absurd (false≢true (sym f ∙ (bytes_eq-Decides (name_text n) w).1 s)) ]

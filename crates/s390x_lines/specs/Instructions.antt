@@ -1,5 +1,5 @@
 -- The lines of instructions: the variant's name, and its fields in the order of their declaration.
-use Rattle.std.specs.Prelude.{[], ◌∷◌}
+use Rattle.std.specs.Prelude.{[], ◌∷◌, Option, Some, None}
 use Rattle.s390x_base.specs.Sets.{has}
 use Rattle.s390x_words.specs.Numbers.{W8, W16, W32, W64, S8, S16, S20, S32}
 use Rattle.s390x_words.specs.Calls.{try_part}
@@ -11,6 +11,8 @@ use Rattle.s390x_lines.specs.declared.inst_name.MemoryName.TheVariants as Memory
 use Rattle.s390x_lines.specs.declared.inst_name.ControlName.TheVariants as ControlIs
 use Rattle.s390x_lines.specs.declared.inst_name.VectorName.TheVariants as VectorIs
 use Rattle.s390x_lines.specs.declared.name.LineName.TheVariants as N
+use Rattle.s390x_inst.specs.declared.load.Load.{Load}
+use Rattle.s390x_inst.specs.Loads.{as_load}
 use Rattle.s390x_inst.specs.declared.inst.Inst.{Inst}
 use Rattle.s390x_inst.specs.declared.inst.Inst.TheVariants as I
 use Rattle.s390x_inst.specs.declared.vec_inst.VecInst.{VecInst}
@@ -73,6 +75,11 @@ vector_line (V.VecInsertLaneImmUndef size rd imm lane_imm) = record { name = N.V
 vector_line (V.VecReplicateLane size rd rn lane_imm) = record { name = N.Vector VectorIs.VecReplicateLane; fields = FNatural W32 size ∷ FReg rd ∷ FReg rn ∷ FNatural W8 lane_imm ∷ [] }
 vector_line (V.VecEltRev lane_count rd rn) = record { name = N.Vector VectorIs.VecEltRev; fields = FNatural W64 lane_count ∷ FReg rd ∷ FReg rn ∷ [] }
 
+-- the line of a load of one register; the other instructions have lines of their own
+abbrev pub load_line : Option Load → Line
+load_line (Some l) = record { name = N.Load l.op; fields = FReg l.rd ∷ FMemory l.mem ∷ [] }
+load_line None = record { name = N.EndLine; fields = [] }
+
 -- the line of an instruction; a loop's has its mask alone
 abbrev pub inst_line : Inst → Line
 inst_line (I.AluRRR alu_op rd rn rm) = record { name = N.Integer IntegerIs.AluRRR; fields = FAlu alu_op ∷ FReg rd ∷ FReg rn ∷ FReg rm ∷ [] }
@@ -121,21 +128,6 @@ inst_line (I.CMov64SImm16 rd cond ri imm) = record { name = N.Integer IntegerIs.
 inst_line (I.Extend rd rn signed from_bits to_bits) = record { name = N.Integer IntegerIs.Extend; fields = FReg rd ∷ FReg rn ∷ FBool signed ∷ FNatural W8 from_bits ∷ FNatural W8 to_bits ∷ [] }
 inst_line (I.LoadAR rd ar) = record { name = N.Integer IntegerIs.LoadAR; fields = FReg rd ∷ FNatural W8 ar ∷ [] }
 inst_line (I.InsertAR rd ri ar) = record { name = N.Integer IntegerIs.InsertAR; fields = FReg rd ∷ FReg ri ∷ FNatural W8 ar ∷ [] }
-inst_line (I.Load32 rd mem) = record { name = N.Memory MemoryIs.Load32; fields = FReg rd ∷ FMemory mem ∷ [] }
-inst_line (I.Load32ZExt8 rd mem) = record { name = N.Memory MemoryIs.Load32ZExt8; fields = FReg rd ∷ FMemory mem ∷ [] }
-inst_line (I.Load32SExt8 rd mem) = record { name = N.Memory MemoryIs.Load32SExt8; fields = FReg rd ∷ FMemory mem ∷ [] }
-inst_line (I.Load32ZExt16 rd mem) = record { name = N.Memory MemoryIs.Load32ZExt16; fields = FReg rd ∷ FMemory mem ∷ [] }
-inst_line (I.Load32SExt16 rd mem) = record { name = N.Memory MemoryIs.Load32SExt16; fields = FReg rd ∷ FMemory mem ∷ [] }
-inst_line (I.Load64 rd mem) = record { name = N.Memory MemoryIs.Load64; fields = FReg rd ∷ FMemory mem ∷ [] }
-inst_line (I.Load64ZExt8 rd mem) = record { name = N.Memory MemoryIs.Load64ZExt8; fields = FReg rd ∷ FMemory mem ∷ [] }
-inst_line (I.Load64SExt8 rd mem) = record { name = N.Memory MemoryIs.Load64SExt8; fields = FReg rd ∷ FMemory mem ∷ [] }
-inst_line (I.Load64ZExt16 rd mem) = record { name = N.Memory MemoryIs.Load64ZExt16; fields = FReg rd ∷ FMemory mem ∷ [] }
-inst_line (I.Load64SExt16 rd mem) = record { name = N.Memory MemoryIs.Load64SExt16; fields = FReg rd ∷ FMemory mem ∷ [] }
-inst_line (I.Load64ZExt32 rd mem) = record { name = N.Memory MemoryIs.Load64ZExt32; fields = FReg rd ∷ FMemory mem ∷ [] }
-inst_line (I.Load64SExt32 rd mem) = record { name = N.Memory MemoryIs.Load64SExt32; fields = FReg rd ∷ FMemory mem ∷ [] }
-inst_line (I.LoadRev16 rd mem) = record { name = N.Memory MemoryIs.LoadRev16; fields = FReg rd ∷ FMemory mem ∷ [] }
-inst_line (I.LoadRev32 rd mem) = record { name = N.Memory MemoryIs.LoadRev32; fields = FReg rd ∷ FMemory mem ∷ [] }
-inst_line (I.LoadRev64 rd mem) = record { name = N.Memory MemoryIs.LoadRev64; fields = FReg rd ∷ FMemory mem ∷ [] }
 inst_line (I.Store8 rd mem) = record { name = N.Memory MemoryIs.Store8; fields = FReg rd ∷ FMemory mem ∷ [] }
 inst_line (I.Store16 rd mem) = record { name = N.Memory MemoryIs.Store16; fields = FReg rd ∷ FMemory mem ∷ [] }
 inst_line (I.Store32 rd mem) = record { name = N.Memory MemoryIs.Store32; fields = FReg rd ∷ FMemory mem ∷ [] }
@@ -181,3 +173,4 @@ inst_line (I.Rets rets) = record { name = N.Control ControlIs.Rets; fields = FRe
 inst_line (I.DummyUse reg) = record { name = N.Control ControlIs.DummyUse; fields = FReg reg ∷ [] }
 inst_line I.SequencePoint = record { name = N.Control ControlIs.SequencePoint; fields = [] }
 inst_line (I.Vector v) = vector_line v
+inst_line i = load_line (as_load i)

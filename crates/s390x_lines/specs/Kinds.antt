@@ -64,21 +64,6 @@ integer_kinds IntegerIs.InsertAR = KReg ∷ KReg ∷ KNatural W8 ∷ []
 
 -- of loads, stores, addresses and atomic instructions
 abbrev pub memory_kinds : MemoryName → List Kind
-memory_kinds MemoryIs.Load32 = KReg ∷ KMemory ∷ []
-memory_kinds MemoryIs.Load32ZExt8 = KReg ∷ KMemory ∷ []
-memory_kinds MemoryIs.Load32SExt8 = KReg ∷ KMemory ∷ []
-memory_kinds MemoryIs.Load32ZExt16 = KReg ∷ KMemory ∷ []
-memory_kinds MemoryIs.Load32SExt16 = KReg ∷ KMemory ∷ []
-memory_kinds MemoryIs.Load64 = KReg ∷ KMemory ∷ []
-memory_kinds MemoryIs.Load64ZExt8 = KReg ∷ KMemory ∷ []
-memory_kinds MemoryIs.Load64SExt8 = KReg ∷ KMemory ∷ []
-memory_kinds MemoryIs.Load64ZExt16 = KReg ∷ KMemory ∷ []
-memory_kinds MemoryIs.Load64SExt16 = KReg ∷ KMemory ∷ []
-memory_kinds MemoryIs.Load64ZExt32 = KReg ∷ KMemory ∷ []
-memory_kinds MemoryIs.Load64SExt32 = KReg ∷ KMemory ∷ []
-memory_kinds MemoryIs.LoadRev16 = KReg ∷ KMemory ∷ []
-memory_kinds MemoryIs.LoadRev32 = KReg ∷ KMemory ∷ []
-memory_kinds MemoryIs.LoadRev64 = KReg ∷ KMemory ∷ []
 memory_kinds MemoryIs.Store8 = KReg ∷ KMemory ∷ []
 memory_kinds MemoryIs.Store16 = KReg ∷ KMemory ∷ []
 memory_kinds MemoryIs.Store32 = KReg ∷ KMemory ∷ []
@@ -193,6 +178,7 @@ kinds N.EndLoopLine = []
 kinds N.EndLine = []
 kinds N.Loop = KCond ∷ []
 kinds (N.Integer n) = integer_kinds n
+kinds (N.Load op) = KReg ∷ KMemory ∷ []
 kinds (N.Memory n) = memory_kinds n
 kinds (N.Control n) = control_kinds n
 kinds (N.Vector n) = vector_kinds n

@@ -1,13 +1,10 @@
 -- A line: a name and a list of fields.
 use Rattle.std.specs.Prelude.{◌≡◌, ℕ, List, [], ◌∷◌, ◌++◌}
 use Rattle.s390x_words.specs.Marks.{before_mark, from_mark}
-use Rattle.s390x_words.specs.Found.{found_by_name}
-use Rattle.s390x_lines.specs.Names.{name_text}
+use Rattle.s390x_lines.specs.Names.{line_name_of, name_text}
 use Rattle.s390x_fields.specs.Fields.{Field, Kind, kind_of, spell, IsField, value_as, after_as}
 use Rattle.s390x_lines.specs.Kinds.{kinds}
 use Rattle.s390x_lines.specs.declared.name.LineName.{LineName}
-use Rattle.s390x_lines.specs.declared.name.LineName.TheVariants as N
-use Rattle.s390x_lines.specs.declared.name.TheConstants.{ALL_NAMES}
 
 -- a name, and the fields that follow it
 pub record Line : Type 0 where
@@ -49,4 +46,4 @@ line_with n s = record { name = n; fields = line_fields_of (kinds n) s }
 
 -- the line that is read from a text: its name stands before the first mark, and a word that is no name counts as `end`
 abbrev pub line_of : List ℕ → Line
-line_of s = line_with (found_by_name name_text ALL_NAMES (before_mark s) N.EndLine) (from_mark s)
+line_of s = line_with (line_name_of (before_mark s)) (from_mark s)

@@ -1,5 +1,9 @@
 -- The names of lines.
-use Rattle.std.specs.Prelude.{ℕ, List, codes}
+use Rattle.std.specs.Prelude.{ℕ, List, [], map, get_or, codes}
+use Rattle.s390x_inst.specs.declared.load.LoadOp.{LoadOp}
+use Rattle.s390x_inst.specs.Loads.{load_place}
+use Rattle.s390x_words.specs.Found.{found_by_name}
+use Rattle.s390x_lines.specs.declared.load_names.TheConstants.{LOAD_NAMES}
 use Rattle.s390x_lines.specs.declared.inst_name.IntegerName.{IntegerName}
 use Rattle.s390x_lines.specs.declared.inst_name.IntegerName.TheVariants as IntegerIs
 use Rattle.s390x_lines.specs.declared.inst_name.MemoryName.{MemoryName}
@@ -10,6 +14,7 @@ use Rattle.s390x_lines.specs.declared.inst_name.VectorName.{VectorName}
 use Rattle.s390x_lines.specs.declared.inst_name.VectorName.TheVariants as VectorIs
 use Rattle.s390x_lines.specs.declared.name.LineName.{LineName}
 use Rattle.s390x_lines.specs.declared.name.LineName.TheVariants as N
+use Rattle.s390x_lines.specs.declared.name.TheConstants.{ALL_NAMES}
 
 -- of the instructions on general registers alone
 abbrev pub integer_text : IntegerName → List ℕ
@@ -60,23 +65,16 @@ integer_text IntegerIs.Extend = codes "Extend"
 integer_text IntegerIs.LoadAR = codes "LoadAR"
 integer_text IntegerIs.InsertAR = codes "InsertAR"
 
--- of loads, stores, addresses and atomic instructions
+-- the name at a place of a table
+abbrev pub name_in : List (List ℕ) → ℕ → List ℕ
+name_in names at = get_or names at []
+
+-- of loads of one register
+abbrev pub load_name_text : LoadOp → List ℕ
+load_name_text op = name_in (map (λ name. name.now) LOAD_NAMES) (load_place op)
+
+-- of multiple loads, stores, addresses and atomic instructions
 abbrev pub memory_name_text : MemoryName → List ℕ
-memory_name_text MemoryIs.Load32 = codes "Load32"
-memory_name_text MemoryIs.Load32ZExt8 = codes "Load32ZExt8"
-memory_name_text MemoryIs.Load32SExt8 = codes "Load32SExt8"
-memory_name_text MemoryIs.Load32ZExt16 = codes "Load32ZExt16"
-memory_name_text MemoryIs.Load32SExt16 = codes "Load32SExt16"
-memory_name_text MemoryIs.Load64 = codes "Load64"
-memory_name_text MemoryIs.Load64ZExt8 = codes "Load64ZExt8"
-memory_name_text MemoryIs.Load64SExt8 = codes "Load64SExt8"
-memory_name_text MemoryIs.Load64ZExt16 = codes "Load64ZExt16"
-memory_name_text MemoryIs.Load64SExt16 = codes "Load64SExt16"
-memory_name_text MemoryIs.Load64ZExt32 = codes "Load64ZExt32"
-memory_name_text MemoryIs.Load64SExt32 = codes "Load64SExt32"
-memory_name_text MemoryIs.LoadRev16 = codes "LoadRev16"
-memory_name_text MemoryIs.LoadRev32 = codes "LoadRev32"
-memory_name_text MemoryIs.LoadRev64 = codes "LoadRev64"
 memory_name_text MemoryIs.Store8 = codes "Store8"
 memory_name_text MemoryIs.Store16 = codes "Store16"
 memory_name_text MemoryIs.Store32 = codes "Store32"
@@ -191,6 +189,15 @@ name_text N.EndLoopLine = codes "endloop"
 name_text N.EndLine = codes "end"
 name_text N.Loop = codes "Loop"
 name_text (N.Integer n) = integer_text n
+name_text (N.Load op) = load_name_text op
 name_text (N.Memory n) = memory_name_text n
 name_text (N.Control n) = control_text n
 name_text (N.Vector n) = vector_name_text n
+
+-- names, each with its text
+abbrev pub with_texts : List LineName → List (LineName × List ℕ)
+with_texts names = map (λ name. (name, name_text name)) names
+
+-- the name that a word spells; a word that is no name counts as `end`
+abbrev pub line_name_of : List ℕ → LineName
+line_name_of w = found_by_name (with_texts ALL_NAMES) w N.EndLine

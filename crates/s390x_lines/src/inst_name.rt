@@ -54,24 +54,9 @@ pub enum IntegerName {
     InsertAR,
 }
 
-/// Loads, stores, addresses and atomic instructions.
+/// Multiple loads, stores, addresses and atomic instructions.
 #[derive(Clone, Copy)]
 pub enum MemoryName {
-    Load32,
-    Load32ZExt8,
-    Load32SExt8,
-    Load32ZExt16,
-    Load32SExt16,
-    Load64,
-    Load64ZExt8,
-    Load64SExt8,
-    Load64ZExt16,
-    Load64SExt16,
-    Load64ZExt32,
-    Load64SExt32,
-    LoadRev16,
-    LoadRev32,
-    LoadRev64,
     Store8,
     Store16,
     Store32,
@@ -238,21 +223,6 @@ impl Word for MemoryName {
 
     fn text(self) -> &'static str {
         match self {
-            MemoryName::Load32 => "Load32",
-            MemoryName::Load32ZExt8 => "Load32ZExt8",
-            MemoryName::Load32SExt8 => "Load32SExt8",
-            MemoryName::Load32ZExt16 => "Load32ZExt16",
-            MemoryName::Load32SExt16 => "Load32SExt16",
-            MemoryName::Load64 => "Load64",
-            MemoryName::Load64ZExt8 => "Load64ZExt8",
-            MemoryName::Load64SExt8 => "Load64SExt8",
-            MemoryName::Load64ZExt16 => "Load64ZExt16",
-            MemoryName::Load64SExt16 => "Load64SExt16",
-            MemoryName::Load64ZExt32 => "Load64ZExt32",
-            MemoryName::Load64SExt32 => "Load64SExt32",
-            MemoryName::LoadRev16 => "LoadRev16",
-            MemoryName::LoadRev32 => "LoadRev32",
-            MemoryName::LoadRev64 => "LoadRev64",
             MemoryName::Store8 => "Store8",
             MemoryName::Store16 => "Store16",
             MemoryName::Store32 => "Store32",

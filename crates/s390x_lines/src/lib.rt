@@ -3,6 +3,7 @@
 
 pub mod inst_name;
 pub mod law;
+pub mod load_names;
 pub mod name;
 pub mod print;
 pub mod print_call;

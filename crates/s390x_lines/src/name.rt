@@ -1,11 +1,12 @@
 //! The names of lines: the parts of a job, and the instructions.
 ghost use Rattle.std.specs.Prelude.{◌≡◌, ◌<◌};
-ghost use Rattle.s390x_words.specs.Found.{found_by_name};
-ghost use Rattle.s390x_lines.specs.Names.{name_text};
+ghost use Rattle.s390x_lines.specs.Names.{line_name_of, name_text};
 ghost use Rattle.s390x_lines.specs.Slots.{mix, slot_of};
 ghost use Rattle.s390x_lines.specs.declared.name.LineName.{LineName};
 
 use crate::inst_name::{ControlName, IntegerName, MemoryName, VectorName};
+use crate::load_names::load_name;
+use s390x_inst::LoadOp;
 use s390x_words::word::Word;
 
 /// The name of a line. Instructions stand in groups, a loop by itself, since lines of its members follow.
@@ -32,6 +33,8 @@ pub enum LineName {
     /// A line `Loop`.
     Loop,
     Integer(IntegerName),
+    /// A load of one register.
+    Load(LoadOp),
     Memory(MemoryName),
     Control(ControlName),
     Vector(VectorName),
@@ -71,8 +74,8 @@ pub const ALL_NAMES: [LineName; 165] = [
     LineName::Integer(IntegerName::CMov64),
     LineName::Integer(IntegerName::Extend),
     LineName::Integer(IntegerName::LoadAR),
-    LineName::Memory(MemoryName::Load32),
-    LineName::Memory(MemoryName::Load64),
+    LineName::Load(LoadOp::Load32),
+    LineName::Load(LoadOp::Load64),
     LineName::Memory(MemoryName::Store8),
     LineName::Control(ControlName::TrapIf),
     LineName::Control(ControlName::CondBr),
@@ -101,9 +104,9 @@ pub const ALL_NAMES: [LineName; 165] = [
     LineName::Integer(IntegerName::UDivMod64),
     LineName::Integer(IntegerName::RxSBGTest),
     LineName::Integer(IntegerName::CmpTrapRR),
-    LineName::Memory(MemoryName::LoadRev16),
-    LineName::Memory(MemoryName::LoadRev32),
-    LineName::Memory(MemoryName::LoadRev64),
+    LineName::Load(LoadOp::LoadRev16),
+    LineName::Load(LoadOp::LoadRev32),
+    LineName::Load(LoadOp::LoadRev64),
     LineName::Memory(MemoryName::StoreImm8),
     LineName::Memory(MemoryName::AtomicRmw),
     LineName::Control(ControlName::Debugtrap),
@@ -136,10 +139,10 @@ pub const ALL_NAMES: [LineName; 165] = [
     LineName::Integer(IntegerName::Mov32SImm16),
     LineName::Integer(IntegerName::Mov64SImm16),
     LineName::Integer(IntegerName::Mov64SImm32),
-    LineName::Memory(MemoryName::Load32ZExt8),
-    LineName::Memory(MemoryName::Load32SExt8),
-    LineName::Memory(MemoryName::Load64ZExt8),
-    LineName::Memory(MemoryName::Load64SExt8),
+    LineName::Load(LoadOp::Load32ZExt8),
+    LineName::Load(LoadOp::Load32SExt8),
+    LineName::Load(LoadOp::Load64ZExt8),
+    LineName::Load(LoadOp::Load64SExt8),
     LineName::Memory(MemoryName::AtomicCas32),
     LineName::Memory(MemoryName::AtomicCas64),
     LineName::Vector(VectorName::VecEvaluate),
@@ -148,12 +151,12 @@ pub const ALL_NAMES: [LineName; 165] = [
     LineName::Vector(VectorName::MovToVec128),
     LineName::Integer(IntegerName::CMov32SImm16),
     LineName::Integer(IntegerName::CMov64SImm16),
-    LineName::Memory(MemoryName::Load32ZExt16),
-    LineName::Memory(MemoryName::Load32SExt16),
-    LineName::Memory(MemoryName::Load64ZExt16),
-    LineName::Memory(MemoryName::Load64SExt16),
-    LineName::Memory(MemoryName::Load64ZExt32),
-    LineName::Memory(MemoryName::Load64SExt32),
+    LineName::Load(LoadOp::Load32ZExt16),
+    LineName::Load(LoadOp::Load32SExt16),
+    LineName::Load(LoadOp::Load64ZExt16),
+    LineName::Load(LoadOp::Load64SExt16),
+    LineName::Load(LoadOp::Load64ZExt32),
+    LineName::Load(LoadOp::Load64SExt32),
     LineName::Control(ControlName::AllocateArgs),
     LineName::Control(ControlName::LabelAddress),
     LineName::Vector(VectorName::VecIntEltCmp),
@@ -272,7 +275,7 @@ fn candidate(word: &[u8]) -> LineName
 
 /// The name that a word spells, `EndLine` for a word that spells none.
 pub fn find_name(word: &[u8]) -> LineName
-    ensures { result ≡ found_by_name name_text ALL_NAMES word.now LineName.EndLine }
+    ensures { result ≡ line_name_of word.now }
 {
     let name = candidate(word);
     if name.text().as_bytes() == word {
@@ -298,6 +301,7 @@ impl Word for LineName {
             LineName::EndLine => "end",
             LineName::Loop => "Loop",
             LineName::Integer(name) => name.text(),
+            LineName::Load(op) => load_name(op),
             LineName::Memory(name) => name.text(),
             LineName::Control(name) => name.text(),
             LineName::Vector(name) => name.text(),

@@ -1,5 +1,6 @@
 //! Printing the lines of instructions.
-ghost use Rattle.std.specs.Prelude.{◌≡◌, ◌++◌, OnOk, string_bytes};
+ghost use Rattle.std.specs.Prelude.{◌≡◌, ◌++◌, OnOk, is_some, string_bytes, true};
+ghost use Rattle.s390x_inst.specs.Loads.{as_load};
 ghost use Rattle.s390x_lines.specs.Line.{line_text};
 ghost use Rattle.s390x_lines.specs.Instructions.{inst_line};
 
@@ -7,13 +8,24 @@ use crate::inst_name::ControlName::*;
 use crate::inst_name::IntegerName::*;
 use crate::inst_name::MemoryName::*;
 use crate::name::LineName;
-use crate::name::LineName::{Control, Integer, Memory};
+use crate::name::LineName::{Control, Integer, Load, Memory};
 use crate::print_call::{put_call, put_return_call};
 use crate::print_vector::put_vector;
 use crate::put_line::{line0, line1, line2, line3, line4, line5, line6, line7};
 use s390x_fields::part::Part;
 use s390x_inst::Inst;
 use std::alloc::{AllocError, Global};
+
+// Appends a load's line.
+fn put_load(alloc: Global, out: &mut String, i: &Inst) -> Result<(), AllocError>
+    requires { is_some (as_load i.now) ≡ true }
+    ensures { OnOk result (string_bytes out.new ≡ string_bytes out.old ++ line_text (inst_line i.now)) }
+{
+    match i.as_load() {
+        Some(load) => line2(alloc, out, Load(load.op), &load.rd, &load.mem),
+        None => Ok(()),
+    }
+}
 
 /// Appends an instruction's own line, without the line feed.
 pub fn put_inst(alloc: Global, out: &mut String, i: &Inst) -> Result<(), AllocError>
@@ -253,21 +265,6 @@ pub fn put_inst(alloc: Global, out: &mut String, i: &Inst) -> Result<(), AllocEr
         ),
         Inst::LoadAR { rd, ar } => line2(alloc, out, Integer(LoadAR), rd, ar),
         Inst::InsertAR { rd, ri, ar } => line3(alloc, out, Integer(InsertAR), rd, ri, ar),
-        Inst::Load32 { rd, mem } => line2(alloc, out, Memory(Load32), rd, mem),
-        Inst::Load32ZExt8 { rd, mem } => line2(alloc, out, Memory(Load32ZExt8), rd, mem),
-        Inst::Load32SExt8 { rd, mem } => line2(alloc, out, Memory(Load32SExt8), rd, mem),
-        Inst::Load32ZExt16 { rd, mem } => line2(alloc, out, Memory(Load32ZExt16), rd, mem),
-        Inst::Load32SExt16 { rd, mem } => line2(alloc, out, Memory(Load32SExt16), rd, mem),
-        Inst::Load64 { rd, mem } => line2(alloc, out, Memory(Load64), rd, mem),
-        Inst::Load64ZExt8 { rd, mem } => line2(alloc, out, Memory(Load64ZExt8), rd, mem),
-        Inst::Load64SExt8 { rd, mem } => line2(alloc, out, Memory(Load64SExt8), rd, mem),
-        Inst::Load64ZExt16 { rd, mem } => line2(alloc, out, Memory(Load64ZExt16), rd, mem),
-        Inst::Load64SExt16 { rd, mem } => line2(alloc, out, Memory(Load64SExt16), rd, mem),
-        Inst::Load64ZExt32 { rd, mem } => line2(alloc, out, Memory(Load64ZExt32), rd, mem),
-        Inst::Load64SExt32 { rd, mem } => line2(alloc, out, Memory(Load64SExt32), rd, mem),
-        Inst::LoadRev16 { rd, mem } => line2(alloc, out, Memory(LoadRev16), rd, mem),
-        Inst::LoadRev32 { rd, mem } => line2(alloc, out, Memory(LoadRev32), rd, mem),
-        Inst::LoadRev64 { rd, mem } => line2(alloc, out, Memory(LoadRev64), rd, mem),
         Inst::Store8 { rd, mem } => line2(alloc, out, Memory(Store8), rd, mem),
         Inst::Store16 { rd, mem } => line2(alloc, out, Memory(Store16), rd, mem),
         Inst::Store32 { rd, mem } => line2(alloc, out, Memory(Store32), rd, mem),
@@ -410,5 +407,6 @@ pub fn put_inst(alloc: Global, out: &mut String, i: &Inst) -> Result<(), AllocEr
         Inst::DummyUse { reg } => line1(alloc, out, Control(DummyUse), reg),
         Inst::SequencePoint => line0(out, Control(SequencePoint)),
         Inst::Vector(v) => put_vector(alloc, out, v),
+        _ => put_load(alloc, out, i),
     }
 }

@@ -6,73 +6,13 @@ ghost use Rattle.s390x_lines.specs.Instructions.{inst_line};
 use crate::inst_name::MemoryName;
 use crate::name::LineName;
 use s390x_fields::cursor::Cursor;
-use s390x_inst::Inst;
+use s390x_inst::{Inst, LoadOp};
 
 /// The instruction of this name, whose fields come next.
 pub fn memory(name: MemoryName, c: &mut Cursor) -> Inst
     ensures { inst_line result ≡ line_with (LineName.Memory name) c.old }
 {
     match name {
-        MemoryName::Load32 => Inst::Load32 {
-            rd: c.written(),
-            mem: c.memory(),
-        },
-        MemoryName::Load32ZExt8 => Inst::Load32ZExt8 {
-            rd: c.written(),
-            mem: c.memory(),
-        },
-        MemoryName::Load32SExt8 => Inst::Load32SExt8 {
-            rd: c.written(),
-            mem: c.memory(),
-        },
-        MemoryName::Load32ZExt16 => Inst::Load32ZExt16 {
-            rd: c.written(),
-            mem: c.memory(),
-        },
-        MemoryName::Load32SExt16 => Inst::Load32SExt16 {
-            rd: c.written(),
-            mem: c.memory(),
-        },
-        MemoryName::Load64 => Inst::Load64 {
-            rd: c.written(),
-            mem: c.memory(),
-        },
-        MemoryName::Load64ZExt8 => Inst::Load64ZExt8 {
-            rd: c.written(),
-            mem: c.memory(),
-        },
-        MemoryName::Load64SExt8 => Inst::Load64SExt8 {
-            rd: c.written(),
-            mem: c.memory(),
-        },
-        MemoryName::Load64ZExt16 => Inst::Load64ZExt16 {
-            rd: c.written(),
-            mem: c.memory(),
-        },
-        MemoryName::Load64SExt16 => Inst::Load64SExt16 {
-            rd: c.written(),
-            mem: c.memory(),
-        },
-        MemoryName::Load64ZExt32 => Inst::Load64ZExt32 {
-            rd: c.written(),
-            mem: c.memory(),
-        },
-        MemoryName::Load64SExt32 => Inst::Load64SExt32 {
-            rd: c.written(),
-            mem: c.memory(),
-        },
-        MemoryName::LoadRev16 => Inst::LoadRev16 {
-            rd: c.written(),
-            mem: c.memory(),
-        },
-        MemoryName::LoadRev32 => Inst::LoadRev32 {
-            rd: c.written(),
-            mem: c.memory(),
-        },
-        MemoryName::LoadRev64 => Inst::LoadRev64 {
-            rd: c.written(),
-            mem: c.memory(),
-        },
         MemoryName::Store8 => Inst::Store8 {
             rd: c.reg(),
             mem: c.memory(),
@@ -164,4 +104,14 @@ pub fn memory(name: MemoryName, c: &mut Cursor) -> Inst
             mem: c.memory(),
         },
     }
+}
+
+/// The load, whose fields come next.
+#[tactic(auto, using(crate::proofs::LoadLines::is_load_line))]
+pub fn load(op: LoadOp, c: &mut Cursor) -> Inst
+    ensures { inst_line result ≡ line_with (LineName.Load op) c.old }
+{
+    let rd = c.written();
+    let mem = c.memory();
+    op.instruction(rd, mem)
 }

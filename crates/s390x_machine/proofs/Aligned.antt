@@ -9,14 +9,18 @@ use Rattle.s390x_base.specs.declared.error.EmitError.TheVariants.{BadAlignment}
 use Rattle.s390x_buffer.specs.State.{is_alignment}
 use Rattle.s390x_inst.specs.declared.args.MemArg.{MemArg}
 use Rattle.s390x_inst.specs.declared.args.MemArg.TheVariants.{Label, Constant}
+use Rattle.s390x_inst.specs.declared.load.Load.{Load}
+use Rattle.s390x_inst.specs.declared.load.LoadOp.{LoadOp}
+use Rattle.s390x_inst.specs.declared.load.LoadOp.TheVariants as LoadOps
+use Rattle.s390x_inst.specs.Loads.{as_load, by_load}
 use Rattle.s390x_inst.specs.declared.inst.Inst.{Inst}
-use Rattle.s390x_inst.specs.declared.inst.Inst.TheVariants.{AluRX, CmpRX, Load32, Load32ZExt16, Load32SExt16, Load64, Load64ZExt16, Load64SExt16, Load64ZExt32, Load64SExt32, Store16, Store32, Store64, AtomicRmw, Vector}
+use Rattle.s390x_inst.specs.declared.inst.Inst.TheVariants.{AluRX, CmpRX, Store16, Store32, Store64, AtomicRmw, Vector}
 use Rattle.s390x_inst.specs.declared.vec_inst.VecInst.{VecInst}
 use Rattle.s390x_inst.specs.declared.vec_inst.VecInst.TheVariants.{VecLoadReplicate, VecLoadReplicateRev, VecLoadLane, VecLoadLaneRev, VecLoadLaneUndef, VecLoadLaneRevUndef, VecStoreLane, VecStoreLaneRev}
 use Rattle.s390x_inst.specs.declared.ops.CmpOp.{CmpOp}
 use Rattle.s390x_inst.specs.declared.ops.CmpOp.TheVariants as C
 use Rattle.s390x_typed_steps.specs.Causes.{bound_cause, relative_access, boundary, alignment_cause}
-use Rattle.s390x_typed_steps.specs.Memory.{StorageForm, RxForm, VrxForm, FloatForm, MemoryInstruction, memory, type_of, operate, load_and_operate, access_vector, access_elements, access_lane, reversed_code, is_left_lane, load_lane_opcode, store_lane_opcode, load_reversed_opcode, store_reversed_opcode, vector_memory}
+use Rattle.s390x_typed_steps.specs.Memory.{StorageForm, RxForm, VrxForm, FloatForm, MemoryInstruction, load, load_memory, load_rows, memory, other_memory, type_of, operate, load_and_operate, access_vector, access_elements, access_lane, reversed_code, is_left_lane, load_lane_opcode, store_lane_opcode, load_reversed_opcode, store_reversed_opcode, vector_memory}
 use Rattle.s390x_typed_steps.specs.VectorInstruction.{element_code, is_lane, is_vector, reuses_vector}
 use Rattle.s390x_typed_steps.specs.Operands.{is_numbered, is_relative, needs_address}
 use Rattle.s390x_typed_steps.specs.Storage.{alu_rx, alu_rxy, cmp_rx, cmp_rxy, cmp_ril, atomic_rsy, relative_bytes}
@@ -25,14 +29,13 @@ use Rattle.s390x_operations.specs.State.{Registers, reaches, wrapping_add64}
 use Rattle.s390x_operations.specs.Access.{is_misaligned, reach_fault, fault}
 use Rattle.s390x_operations.specs.Effects.{access}
 use Rattle.s390x_operations.specs.declared.effect.Operation.{Operation}
-use Rattle.s390x_operations.specs.declared.size.Size.TheVariants.{Word, Doubleword}
 use Rattle.s390x_operations.specs.declared.stop.StopKind.TheVariants.{Access, Specification}
 use Rattle.s390x_machine.specs.Aligned.{IsOwn, OwnOperand, IsOnBoundary, relative_row_of, StepAccesses, NeverMisaligned}
-use Rattle.s390x_machine.specs.Computations.{unsigned_word, signed_word, signed_halfword, unsigned_halfword, doubleword, comparison}
-use Rattle.s390x_machine.specs.StepKinds.{performed_at, performed_in_memory}
+use Rattle.s390x_machine.specs.Computations.{unsigned_word, unsigned_halfword, doubleword, comparison}
+use Rattle.s390x_machine.specs.StepKinds.{performed_at, performed_by, performed_in_memory}
 use Rattle.s390x_machine.specs.Layout.{Layout, declared, constant_address}
 use Rattle.s390x_machine.specs.CodeAt.{AllCodeAt, IsValidMemory, ValidMemoryOr}
-use Rattle.s390x_machine.specs.Storage.{operand_address, operand_step, indexed_forms, cmp_forms, loads_at, stores_at, compares_at, aligned_effect, aligned_where}
+use Rattle.s390x_machine.specs.Storage.{LoadedValue, OperandStep, load_step, loaded_value, operand_address, operand_step, other_operand_step, indexed_forms, cmp_forms, loads_at, stores_at, compares_at, aligned_effect, aligned_where}
 use Rattle.s390x_machine.proofs.Relative.{first_none, unless_none, label_known, constant_known}
 use Rattle.s390x_machine.proofs.Standing.{image_at}
 
@@ -173,15 +176,21 @@ no_vector (VecStoreLane size rd mem lane) opcode e =
 no_vector (VecStoreLaneRev size rd mem lane) opcode e = no_lane (is_vector rd) store_reversed_opcode (number_of rd) (reversed_code size) size lane mem opcode e
 no_vector v opcode e = absurd (cc)
 
+-- what a row relative to the instruction accesses, where there is one: this computes for each load, also where there is none
+abbrev RowAccesses : Option OperandStep → Option ℕ → Type 0
+RowAccesses x None = (address : ℕ) (r : Registers) → (true ≡ true) × (true ≡ true)
+RowAccesses x (Some opcode) = StepAccesses x (relative_bytes opcode)
+
+load_accesses : (op : LoadOp) (rd : Reg) (mem : MemArg) → RowAccesses (load_step (record { op = op; rd = rd; mem = mem })) (load_rows op).ril
+load_accesses LoadOps.Load64 rd mem = λ address r. (refl, refl)
+load_accesses op rd mem = λ address r. (refl, refl)
+
+-- of what is no load, that there is no such row
+load_bytes_or : (other : Option OperandStep) (o : Option Load) (opcode : ℕ) → relative_row_of (by_load load_memory None o) ≡ Some opcode → StepAccesses (by_load load_step other o) (relative_bytes opcode)
+load_bytes_or other None opcode e = absurd (cc)
+load_bytes_or other (Some l) opcode e = subst (λ o. RowAccesses (load_step l) o) e (load_accesses l.op l.rd l.mem)
+
 pub bytes_accessed : (i : Inst) (opcode : ℕ) → relative_row_of (memory i) ≡ Some opcode → StepAccesses (operand_step i) (relative_bytes opcode)
-bytes_accessed (Load32 rd mem) opcode e = let same : 0xc4d ≡ opcode = cc in subst (λ o. StepAccesses (operand_step (Load32 rd mem)) (relative_bytes o)) same (λ address r. (refl, refl))
-bytes_accessed (Load32ZExt16 rd mem) opcode e = let same : 0xc42 ≡ opcode = cc in subst (λ o. StepAccesses (operand_step (Load32ZExt16 rd mem)) (relative_bytes o)) same (λ address r. (refl, refl))
-bytes_accessed (Load32SExt16 rd mem) opcode e = let same : 0xc45 ≡ opcode = cc in subst (λ o. StepAccesses (operand_step (Load32SExt16 rd mem)) (relative_bytes o)) same (λ address r. (refl, refl))
-bytes_accessed (Load64 rd mem) opcode e = let same : 0xc48 ≡ opcode = cc in subst (λ o. StepAccesses (operand_step (Load64 rd mem)) (relative_bytes o)) same (λ address r. (refl, refl))
-bytes_accessed (Load64ZExt16 rd mem) opcode e = let same : 0xc46 ≡ opcode = cc in subst (λ o. StepAccesses (operand_step (Load64ZExt16 rd mem)) (relative_bytes o)) same (λ address r. (refl, refl))
-bytes_accessed (Load64SExt16 rd mem) opcode e = let same : 0xc44 ≡ opcode = cc in subst (λ o. StepAccesses (operand_step (Load64SExt16 rd mem)) (relative_bytes o)) same (λ address r. (refl, refl))
-bytes_accessed (Load64ZExt32 rd mem) opcode e = let same : 0xc4e ≡ opcode = cc in subst (λ o. StepAccesses (operand_step (Load64ZExt32 rd mem)) (relative_bytes o)) same (λ address r. (refl, refl))
-bytes_accessed (Load64SExt32 rd mem) opcode e = let same : 0xc4c ≡ opcode = cc in subst (λ o. StepAccesses (operand_step (Load64SExt32 rd mem)) (relative_bytes o)) same (λ address r. (refl, refl))
 bytes_accessed (Store16 rd mem) opcode e = let same : 0xc47 ≡ opcode = cc in subst (λ o. StepAccesses (operand_step (Store16 rd mem)) (relative_bytes o)) same (λ address r. (refl, refl))
 bytes_accessed (Store32 rd mem) opcode e = let same : 0xc4f ≡ opcode = cc in subst (λ o. StepAccesses (operand_step (Store32 rd mem)) (relative_bytes o)) same (λ address r. (refl, refl))
 bytes_accessed (Store64 rd mem) opcode e = let same : 0xc4b ≡ opcode = cc in subst (λ o. StepAccesses (operand_step (Store64 rd mem)) (relative_bytes o)) same (λ address r. (refl, refl))
@@ -198,7 +207,7 @@ bytes_accessed (CmpRX C.CmpL64Ext32 rn mem) opcode e = let same : 0xc6e ≡ opco
 bytes_accessed (AluRX op rd ri mem) opcode e = absurd (no_operate (is_some (alu_rx op) || is_some (alu_rxy op)) (alu_rx op) (alu_rxy op) rd ri mem opcode e)
 bytes_accessed (AtomicRmw op rd rn mem) opcode e = absurd (no_load_and_operate (atomic_rsy op) rd rn mem opcode e)
 bytes_accessed (Vector v) opcode e = absurd (no_vector v opcode e)
-bytes_accessed i opcode e = absurd (cc)
+bytes_accessed i opcode e = load_bytes_or (other_operand_step i) (as_load i) opcode e
 
 -- ---- no stop by alignment
 
@@ -223,6 +232,15 @@ cmp_bytes : (op : CmpOp) (n : ℕ) → AlignedBytes (compares_at (comparison op)
 cmp_bytes C.CmpS32 n a r has = refl
 cmp_bytes _ n a r has = refl
 
+-- a row relative to the instruction has the form, and these bytes: this computes for each load, also where there is none
+abbrev RowIsAligned : LoadedValue → (d : ℕ) → Option ℕ → Type 0
+RowIsAligned v d None = (true ≡ true) × ((a : ℕ) (r : Registers) (has : ℕ → Bool) → true ≡ true)
+RowIsAligned v d (Some opcode) = (v.forms.have_pcrel ≡ true) × AlignedBytes (loads_at v.size v.second d) (relative_bytes opcode)
+
+load_is_aligned : (op : LoadOp) (d : ℕ) → RowIsAligned (loaded_value op) d (load_rows op).ril
+load_is_aligned LoadOps.Load64 d = (refl, λ a r has. refl)
+load_is_aligned op d = (refl, λ a r has. refl)
+
 module _ (L : Layout) (all : AllCodeAt L) where
   -- an operand at an address, where the rows have its form
   stands_aligned : (size a : ℕ) (operation : ℕ → Registers → Operation) (have : Bool) → have ≡ true → AlignedBytes operation size → a % size ≡ 0 → (r : Registers) (has : ℕ → Bool) → fault (access (aligned_where (not (not have)) (operation a r)).effect) has ≡ Some Specification → ⊥
@@ -237,15 +255,15 @@ module _ (L : Layout) (all : AllCodeAt L) where
       λ r has e. stands_aligned (relative_bytes opcode) (constant_address L c.0) operation forms.have_pcrel have bytes (on_boundary L all (record { form = RxForm register short long (Some opcode); operand = Constant c; accesses = true; operands_valid = fits; reads_scratch = reads }) operands_valid own r) r has e
   own_never register short long opcode m fits reads operands_valid own forms operation have bytes = absurd own
 
+  load_never : (l : Load) (relative : Option ℕ) → RowIsAligned (loaded_value l.op) (number_of l.rd) relative → (opcode : ℕ) → relative ≡ Some opcode → ValidMemoryOr L (load l.rd (load_rows l.op).rx (load_rows l.op).rxy relative l.mem) ⊥ → IsOwn l.mem → NeverMisaligned (performed_by L (load_step l))
+  load_never l None is opcode e operands_valid own = absurd (cc)
+  load_never l (Some o) is opcode e operands_valid own = own_never (number_of l.rd) (load_rows l.op).rx (load_rows l.op).rxy o l.mem (is_general l.rd) false operands_valid own (loaded_value l.op).forms (loads_at (loaded_value l.op).size (loaded_value l.op).second (number_of l.rd)) is.0 is.1
+
+  load_never_or : (m : Option MemoryInstruction) (other : Option OperandStep) (o : Option Load) (opcode : ℕ) → relative_row_of (by_load load_memory None o) ≡ Some opcode → ValidMemoryOr L (by_load load_memory m o) ⊥ → OwnOperand (by_load load_memory m o) → NeverMisaligned (performed_by L (by_load load_step other o))
+  load_never_or m other None opcode e operands_valid own = absurd (cc)
+  load_never_or m other (Some l) opcode e operands_valid own = load_never l (load_rows l.op).ril (load_is_aligned l.op (number_of l.rd)) opcode e operands_valid own
+
   pub never_misaligned : (i : Inst) (opcode : ℕ) → relative_row_of (memory i) ≡ Some opcode → ValidMemoryOr L (memory i) ⊥ → OwnOperand (memory i) → NeverMisaligned (performed_in_memory L i)
-  never_misaligned (Load32 rd mem) opcode e operands_valid own = own_never (number_of rd) (Some 0x58) (Some 0xe358) 0xc4d mem (is_general rd) false operands_valid own (indexed_forms true true true) (loads_at Word unsigned_word (number_of rd)) refl (λ a r has. refl)
-  never_misaligned (Load32ZExt16 rd mem) opcode e operands_valid own = own_never (number_of rd) None (Some 0xe395) 0xc42 mem (is_general rd) false operands_valid own (indexed_forms false true true) (loads_at Word unsigned_halfword (number_of rd)) refl (λ a r has. refl)
-  never_misaligned (Load32SExt16 rd mem) opcode e operands_valid own = own_never (number_of rd) (Some 0x48) (Some 0xe378) 0xc45 mem (is_general rd) false operands_valid own (indexed_forms true true true) (loads_at Word signed_halfword (number_of rd)) refl (λ a r has. refl)
-  never_misaligned (Load64 rd mem) opcode e operands_valid own = own_never (number_of rd) None (Some 0xe304) 0xc48 mem (is_general rd) false operands_valid own (indexed_forms false true true) (loads_at Doubleword doubleword (number_of rd)) refl (λ a r has. refl)
-  never_misaligned (Load64ZExt16 rd mem) opcode e operands_valid own = own_never (number_of rd) None (Some 0xe391) 0xc46 mem (is_general rd) false operands_valid own (indexed_forms false true true) (loads_at Doubleword unsigned_halfword (number_of rd)) refl (λ a r has. refl)
-  never_misaligned (Load64SExt16 rd mem) opcode e operands_valid own = own_never (number_of rd) None (Some 0xe315) 0xc44 mem (is_general rd) false operands_valid own (indexed_forms false true true) (loads_at Doubleword signed_halfword (number_of rd)) refl (λ a r has. refl)
-  never_misaligned (Load64ZExt32 rd mem) opcode e operands_valid own = own_never (number_of rd) None (Some 0xe316) 0xc4e mem (is_general rd) false operands_valid own (indexed_forms false true true) (loads_at Doubleword unsigned_word (number_of rd)) refl (λ a r has. refl)
-  never_misaligned (Load64SExt32 rd mem) opcode e operands_valid own = own_never (number_of rd) None (Some 0xe314) 0xc4c mem (is_general rd) false operands_valid own (indexed_forms false true true) (loads_at Doubleword signed_word (number_of rd)) refl (λ a r has. refl)
   never_misaligned (Store16 rd mem) opcode e operands_valid own = own_never (number_of rd) (Some 0x40) (Some 0xe370) 0xc47 mem (is_general rd) (is_numbered 1 rd) operands_valid own (indexed_forms true true true) (stores_at unsigned_halfword (number_of rd)) refl (λ a r has. refl)
   never_misaligned (Store32 rd mem) opcode e operands_valid own = own_never (number_of rd) (Some 0x50) (Some 0xe350) 0xc4f mem (is_general rd) (is_numbered 1 rd) operands_valid own (indexed_forms true true true) (stores_at unsigned_word (number_of rd)) refl (λ a r has. refl)
   never_misaligned (Store64 rd mem) opcode e operands_valid own = own_never (number_of rd) None (Some 0xe324) 0xc4b mem (is_general rd) (is_numbered 1 rd) operands_valid own (indexed_forms false true true) (stores_at doubleword (number_of rd)) refl (λ a r has. refl)
@@ -253,4 +271,4 @@ module _ (L : Layout) (all : AllCodeAt L) where
   never_misaligned (AluRX op rd ri mem) opcode e operands_valid own = absurd (no_operate (is_some (alu_rx op) || is_some (alu_rxy op)) (alu_rx op) (alu_rxy op) rd ri mem opcode e)
   never_misaligned (AtomicRmw op rd rn mem) opcode e operands_valid own = absurd (no_load_and_operate (atomic_rsy op) rd rn mem opcode e)
   never_misaligned (Vector v) opcode e operands_valid own = absurd (no_vector v opcode e)
-  never_misaligned i opcode e operands_valid own = absurd (cc)
+  never_misaligned i opcode e operands_valid own = load_never_or (other_memory i) (other_operand_step i) (as_load i) opcode e operands_valid own

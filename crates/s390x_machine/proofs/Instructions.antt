@@ -4,10 +4,18 @@ use Rattle.std.proofs.lemmas.Bool.{and_parts}
 use Rattle.s390x_base.specs.Regs.{number_of}
 use Rattle.s390x_base.specs.declared.regs.Reg.TheVariants.{Real}
 use Rattle.s390x_inst.specs.declared.ops.UnaryOp.TheVariants as U
+use Rattle.s390x_base.specs.declared.regs.Reg.{Reg}
+use Rattle.s390x_inst.specs.declared.args.MemArg.{MemArg}
+use Rattle.s390x_inst.specs.declared.load.Load.{Load}
+use Rattle.s390x_inst.specs.declared.load.LoadOp.{LoadOp}
+use Rattle.s390x_inst.specs.declared.load.LoadOp.TheVariants as LoadOps
+use Rattle.s390x_inst.specs.Loads.{as_load, load_instruction}
+use Rattle.s390x_inst.proofs.Loads.{the_load}
 use Rattle.s390x_inst.specs.declared.inst.Inst.{Inst}
+use Rattle.s390x_inst.specs.declared.inst.Inst.TheVariants.{Loop', CondBreak, Call, ReturnCall}
 use Rattle.s390x_inst.specs.declared.inst.Inst.TheVariants.{AluRRR, AluRR, AluRRSImm16, AluRSImm16, AluRSImm32, AluRUImm32, UnaryRR, CmpRR, CmpRSImm16, CmpRSImm32, CmpRUImm32, Mov64, MovPReg, Mov32, Mov32Imm, Mov32SImm16, Mov64SImm16, Mov64SImm32, AluRUImm16Shifted, AluRUImm32Shifted, SMulWide, UMulWide, Flogr, ShiftRR, RxSBG, RxSBGTest, Mov64UImm16Shifted, Mov64UImm32Shifted}
 use Rattle.s390x_inst.specs.declared.inst.Inst.TheVariants.{Insert64UImm16Shifted, Insert64UImm32Shifted, CMov32, CMov64, CMov32SImm16, CMov64SImm16, Extend, LoadAR, InsertAR, LoadIndexedAddr, LoadLogicalIndexedAddr, Fence, Nop0, Nop2, Jump, CondBr, IndirectBr, Ret, LabelAddress, LoadSymbolReloc, Trap, TrapIf, Debugtrap, SDivMod32, SDivMod64, UDivMod32, UDivMod64, CmpTrapRR}
-use Rattle.s390x_inst.specs.declared.inst.Inst.TheVariants.{CmpTrapRSImm16, CmpTrapRUImm16, AluRX, CmpRX, Load32, Load32ZExt8, Load32SExt8, Load32ZExt16, Load32SExt16, Load64, Load64ZExt8, Load64SExt8, Load64ZExt16, Load64SExt16, Load64ZExt32, Load64SExt32, LoadRev16, LoadRev32, LoadRev64, Store8, Store16, Store32, Store64, StoreRev16, StoreRev32, StoreRev64, StoreImm8}
+use Rattle.s390x_inst.specs.declared.inst.Inst.TheVariants.{CmpTrapRSImm16, CmpTrapRUImm16, AluRX, CmpRX, Store8, Store16, Store32, Store64, StoreRev16, StoreRev32, StoreRev64, StoreImm8}
 use Rattle.s390x_inst.specs.declared.inst.Inst.TheVariants.{StoreImm16, StoreImm32SExt16, StoreImm64SExt16, LoadMultiple64, StoreMultiple64, LoadAddr, AtomicRmw, AtomicCas32, AtomicCas64, JTSequence, AllocateArgs, Args, Rets, DummyUse, SequencePoint}
 use Rattle.s390x_inst.specs.declared.inst.Inst.TheVariants.{Vector}
 use Rattle.s390x_format.specs.Formats.{length_of}
@@ -17,7 +25,7 @@ use Rattle.s390x_typed_steps.specs.Opcodes.{alu_two, cmp_two, unary_two, alu_hal
 use Rattle.s390x_typed_steps.specs.StepBody.{AtCall}
 use Rattle.s390x_typed_steps.specs.Steps.{Step, Plain, LoadedStep, Shortened, Opening, Back, Break, CallingStep, NoLoadStep, TailOpeningStep, TailJumpStep}
 use Rattle.s390x_operations.specs.declared.effect.CodeRule.TheVariants.{Kept, Set}
-use Rattle.s390x_operations.specs.declared.size.Size.TheVariants.{Halfword, Word, Doubleword}
+use Rattle.s390x_operations.specs.declared.size.Size.TheVariants.{Word, Doubleword}
 use Rattle.s390x_operations.specs.declared.size.Width.TheVariants.{Bits16, Bits32, Bits64}
 use Rattle.s390x_operations.specs.declared.operator.SelectedBitsOperator.TheVariants as Select
 use Rattle.s390x_operations.specs.declared.operator.Operator.TheVariants.{Move, SelectedBits}
@@ -33,10 +41,11 @@ use Rattle.s390x_machine.proofs.Operands.{halfword_bits, word_bits, displacement
 use Rattle.s390x_machine.proofs.Rows.{general_number, nonzero_number, unscratched_number}
 use Rattle.s390x_machine.proofs.Bits.{part_rows, half_rows, load_part_rows, load_half_rows, insert_part_rows, extend_rows, locr_row, locgr_row, lochi_row, locghi_row, indexed_rows, logical_indexed_rows, dsgfr_row, dsgr_row, dlr_row, dlgr_row, trap_rows, trap_signed_rows, trap_unsigned_rows}
 use Rattle.s390x_machine.proofs.SingleInstruction.{alu_two_rows, cmp_rows, unary_rows, lgr_row, lr_row, halfword_rows, three_halfword_rows, signed_word_rows, unsigned_word_rows, cmp_halfword_rows, cmp_signed_word_rows, cmp_unsigned_word_rows, iilf_row, lhi_row, lghi_row, lgfi_row}
+use Rattle.s390x_typed_steps.specs.Memory.{load_rows}
 use Rattle.s390x_typed_steps.specs.Storage.{alu_rx, alu_rxy, cmp_rx, cmp_rxy, cmp_ril, atomic_rsy}
-use Rattle.s390x_machine.specs.Storage.{byte, signed_byte, reversed_bytes, indexed_forms, based_forms, alu_forms, cmp_forms}
-use Rattle.s390x_machine.proofs.RelativeRows.{relative_load_32, relative_load_32_zero_16, relative_load_32_signed_16, relative_load_64, relative_load_64_zero_16, relative_load_64_signed_16, relative_load_64_zero_32, relative_load_64_signed_32, relative_store_16, relative_store_32, relative_store_64, cmp_relative_rows}
-use Rattle.s390x_machine.proofs.StorageRows.{load_32, load_32_zero_8, load_32_signed_8, load_32_zero_16, load_32_signed_16, load_64, load_64_zero_8, load_64_signed_8, load_64_zero_16, load_64_signed_16, load_64_zero_32, load_64_signed_32, load_reversed_16, load_reversed_32, load_reversed_64, store_8, store_16, store_32, store_64, store_reversed_16, store_reversed_32}
+use Rattle.s390x_machine.specs.Storage.{loaded_value, byte, reversed_bytes, indexed_forms, based_forms, alu_forms, cmp_forms}
+use Rattle.s390x_machine.proofs.RelativeRows.{relative_load_rows, relative_store_16, relative_store_32, relative_store_64, cmp_relative_rows}
+use Rattle.s390x_machine.proofs.StorageRows.{load_indexed_rows, store_8, store_16, store_32, store_64, store_reversed_16, store_reversed_32}
 use Rattle.s390x_machine.proofs.StorageRows.{store_reversed_64, store_immediate_16, store_immediate_32, store_immediate_64, swap_32, swap_64, alu_same, cmp_same, alu_short_rows, alu_long_rows, cmp_short_rows, cmp_long_rows, atomic_rows}
 use Rattle.s390x_machine.proofs.StorageSteps.{loads, loads_an_address, stores, stores_a_byte, stores_an_immediate, loads_registers, stores_registers, computes_in_memory, compares_in_memory, operates, swaps}
 use Rattle.s390x_machine.proofs.LoadedSteps.{loaded_runs}
@@ -53,8 +62,16 @@ use Rattle.s390x_machine.proofs.VectorComposites.{any_vector_runs}
 use Rattle.s390x_machine.proofs.Leading.{register_row, fence_runs, idle_runs, goto_runs, condbr_runs, label_runs, jump_by_table_runs, load_symbol_runs, loop_runs, opening_runs}
 use Rattle.s390x_machine.proofs.RegisterNumbers.{two_small, three_small, reused_small, output_small, mask_bits, access_small, pair_small, pair_small2, pair_tested_small, small_mask}
 
+-- ---- loads
+
+-- the last clause is a copy for each
+load_runs : (L : Layout) (k : ℕ) (op : LoadOp) (rd : Reg) (mem : MemArg) → StepAt L k (Plain (load_instruction op rd mem)) → IsValidInstruction L (load_instruction op rd mem) → StepRuns L k
+load_runs L k LoadOps.Load64 rd mem b operands_valid = loads b (loaded_value LoadOps.Load64).size (loaded_value LoadOps.Load64).second (load_rows LoadOps.Load64).rx (load_rows LoadOps.Load64).rxy (load_rows LoadOps.Load64).ril (load_indexed_rows LoadOps.Load64) (relative_load_rows LoadOps.Load64) rd mem (loaded_value LoadOps.Load64).forms (refl, refl, refl, operands_valid)
+load_runs L k op rd mem b operands_valid = loads b (loaded_value op).size (loaded_value op).second (load_rows op).rx (load_rows op).rxy (load_rows op).ril (load_indexed_rows op) (relative_load_rows op) rd mem (loaded_value op).forms (refl, refl, refl, operands_valid)
+
 -- ---- all of them
 
+-- the last clause is a copy for each load
 instruction_runs : (L : Layout) (k : ℕ) (i : Inst) → StepAt L k (Plain i) → IsValidInstruction L i → StepRuns L k
 instruction_runs L k (AluRRR op rd rn rm) b operands_valid =
     alu_three_runs b op (number_of rd) (number_of rn) (number_of rm) (is_general rd && is_general rn && is_general rm) (refl, refl, operands_valid) (three_small rd rn rm)
@@ -175,21 +192,6 @@ instruction_runs L k (LoadSymbolReloc rd reloc) b operands_valid = load_symbol_r
 instruction_runs L k (Trap code) b operands_valid = always_traps b code refl refl
 instruction_runs L k (TrapIf mask code) b operands_valid = traps_where b mask code refl refl (small_mask mask operands_valid)
 instruction_runs L k Debugtrap b operands_valid = debug_stops b refl refl
-instruction_runs L k (Load32 rd mem) b operands_valid = loads b Word unsigned_word (Some 0x58) (Some 0xe358) (Some 0xc4d) load_32 relative_load_32 rd mem (indexed_forms true true true) (refl, refl, refl, operands_valid)
-instruction_runs L k (Load32ZExt8 rd mem) b operands_valid = loads b Word byte None (Some 0xe394) None load_32_zero_8 tt rd mem (indexed_forms false true false) (refl, refl, refl, operands_valid)
-instruction_runs L k (Load32SExt8 rd mem) b operands_valid = loads b Word signed_byte None (Some 0xe376) None load_32_signed_8 tt rd mem (indexed_forms false true false) (refl, refl, refl, operands_valid)
-instruction_runs L k (Load32ZExt16 rd mem) b operands_valid = loads b Word unsigned_halfword None (Some 0xe395) (Some 0xc42) load_32_zero_16 relative_load_32_zero_16 rd mem (indexed_forms false true true) (refl, refl, refl, operands_valid)
-instruction_runs L k (Load32SExt16 rd mem) b operands_valid = loads b Word signed_halfword (Some 0x48) (Some 0xe378) (Some 0xc45) load_32_signed_16 relative_load_32_signed_16 rd mem (indexed_forms true true true) (refl, refl, refl, operands_valid)
-instruction_runs L k (Load64 rd mem) b operands_valid = loads b Doubleword doubleword None (Some 0xe304) (Some 0xc48) load_64 relative_load_64 rd mem (indexed_forms false true true) (refl, refl, refl, operands_valid)
-instruction_runs L k (Load64ZExt8 rd mem) b operands_valid = loads b Doubleword byte None (Some 0xe390) None load_64_zero_8 tt rd mem (indexed_forms false true false) (refl, refl, refl, operands_valid)
-instruction_runs L k (Load64SExt8 rd mem) b operands_valid = loads b Doubleword signed_byte None (Some 0xe377) None load_64_signed_8 tt rd mem (indexed_forms false true false) (refl, refl, refl, operands_valid)
-instruction_runs L k (Load64ZExt16 rd mem) b operands_valid = loads b Doubleword unsigned_halfword None (Some 0xe391) (Some 0xc46) load_64_zero_16 relative_load_64_zero_16 rd mem (indexed_forms false true true) (refl, refl, refl, operands_valid)
-instruction_runs L k (Load64SExt16 rd mem) b operands_valid = loads b Doubleword signed_halfword None (Some 0xe315) (Some 0xc44) load_64_signed_16 relative_load_64_signed_16 rd mem (indexed_forms false true true) (refl, refl, refl, operands_valid)
-instruction_runs L k (Load64ZExt32 rd mem) b operands_valid = loads b Doubleword unsigned_word None (Some 0xe316) (Some 0xc4e) load_64_zero_32 relative_load_64_zero_32 rd mem (indexed_forms false true true) (refl, refl, refl, operands_valid)
-instruction_runs L k (Load64SExt32 rd mem) b operands_valid = loads b Doubleword signed_word None (Some 0xe314) (Some 0xc4c) load_64_signed_32 relative_load_64_signed_32 rd mem (indexed_forms false true true) (refl, refl, refl, operands_valid)
-instruction_runs L k (LoadRev16 rd mem) b operands_valid = loads b Halfword (reversed_bytes Bits16) None (Some 0xe31f) None load_reversed_16 tt rd mem (indexed_forms false true false) (refl, refl, refl, operands_valid)
-instruction_runs L k (LoadRev32 rd mem) b operands_valid = loads b Word (reversed_bytes Bits32) None (Some 0xe31e) None load_reversed_32 tt rd mem (indexed_forms false true false) (refl, refl, refl, operands_valid)
-instruction_runs L k (LoadRev64 rd mem) b operands_valid = loads b Doubleword (reversed_bytes Bits64) None (Some 0xe30f) None load_reversed_64 tt rd mem (indexed_forms false true false) (refl, refl, refl, operands_valid)
 instruction_runs L k (LoadAddr rd mem) b operands_valid = loads_an_address b rd mem (record { have_d12 = true; have_d20 = true; have_pcrel = true; have_unaligned_pcrel = true; have_index = true }) (refl, refl, refl, operands_valid)
 instruction_runs L k (Store8 rd mem) b operands_valid = stores b byte (Some 0x42) (Some 0xe372) None store_8 tt rd mem (indexed_forms true true false) (refl, refl, refl, operands_valid)
 instruction_runs L k (Store16 rd mem) b operands_valid = stores b unsigned_halfword (Some 0x40) (Some 0xe370) (Some 0xc47) store_16 relative_store_16 rd mem (indexed_forms true true true) (refl, refl, refl, operands_valid)
@@ -211,7 +213,11 @@ instruction_runs L k (AtomicRmw op rd rn mem) b operands_valid = operates b (alu
 instruction_runs L k (AtomicCas32 rd ri rn mem) b operands_valid = swaps b Word (Some 0xba) (Some 0xeb14) swap_32 rd ri rn mem (based_forms true true) (refl, refl, refl, operands_valid)
 instruction_runs L k (AtomicCas64 rd ri rn mem) b operands_valid = swaps b Doubleword None (Some 0xeb30) swap_64 rd ri rn mem (based_forms false true) (refl, refl, refl, operands_valid)
 instruction_runs L k (Vector v) b operands_valid = any_vector_runs b v (refl, refl, operands_valid)
-instruction_runs L k _ b operands_valid = absurd operands_valid
+instruction_runs L k (Loop' mask body all) b operands_valid = absurd operands_valid
+instruction_runs L k (CondBreak mask) b operands_valid = absurd operands_valid
+instruction_runs L k (Call link info) b operands_valid = absurd operands_valid
+instruction_runs L k (ReturnCall info) b operands_valid = absurd operands_valid
+instruction_runs L k i b operands_valid = let l : Load = the_load (as_load i) refl in load_runs L k l.op l.rd l.mem b operands_valid
 
 pub step_runs : (L : Layout) (k : ℕ) (s : Step) → StepAt L k s → IsValidStep L s → StepRuns L k
 step_runs L k (Plain i) b operands_valid = instruction_runs L k i b operands_valid

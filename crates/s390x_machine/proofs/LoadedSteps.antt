@@ -1,22 +1,33 @@
 -- A step that loads its operand's address first, since the machine lacks the row relative to the instruction, runs as that instruction.
-use Rattle.std.proofs.Common.{◌≡◌, ℕ, Option, Some, None, true, false, ◌||◌, is_some, refl, subst}
+use Rattle.std.proofs.Common.{◌≡◌, ℕ, [], Option, Some, None, true, false, ◌||◌, is_some, refl, subst}
 use Rattle.s390x_base.specs.Regs.{number_of}
 use Rattle.s390x_inst.specs.declared.ops.CmpOp.{CmpOp}
 use Rattle.s390x_inst.specs.declared.ops.CmpOp.TheVariants as C
+use Rattle.s390x_base.specs.declared.regs.Reg.{Reg}
+use Rattle.s390x_inst.specs.declared.args.MemArg.{MemArg}
+use Rattle.s390x_inst.specs.declared.load.Load.{Load}
+use Rattle.s390x_inst.specs.declared.load.LoadOp.{LoadOp}
+use Rattle.s390x_inst.specs.declared.load.LoadOp.TheVariants as LoadOps
+use Rattle.s390x_inst.specs.Loads.{as_load, by_load, load_instruction}
 use Rattle.s390x_inst.specs.declared.inst.Inst.{Inst}
-use Rattle.s390x_inst.specs.declared.inst.Inst.TheVariants.{AluRX, CmpRX, Load32, Load32ZExt16, Load32SExt16, Load64, Load64ZExt16, Load64SExt16, Load64ZExt32, Load64SExt32, Store16, Store32, Store64, AtomicRmw, Vector}
+use Rattle.s390x_inst.specs.declared.inst.Inst.TheVariants.{AluRX, CmpRX, Store16, Store32, Store64, AtomicRmw, Vector}
 use Rattle.s390x_typed_steps.proofs.RelativeRows.{alu_none, locked_none, vector_none}
-use Rattle.s390x_typed_steps.specs.Memory.{RxForm, MemoryInstruction, type_of, loaded_memory}
-use Rattle.s390x_typed_steps.specs.Steps.{LoadedStep}
+use Rattle.s390x_typed_steps.specs.Memory.{RxForm, MemoryInstruction, type_of, load, load_rows, loaded_memory, without_relative}
+use Rattle.s390x_typed_steps.specs.Parts.{memory_or, step_parts}
+use Rattle.s390x_typed_steps.specs.declared.mem_inst_type.MemInstType.{MemInstType}
+use Rattle.s390x_typed_steps.specs.Steps.{Step, LoadedStep}
 use Rattle.s390x_typed_steps.specs.Storage.{alu_rx, alu_rxy, cmp_rx, cmp_rxy, atomic_rsy}
-use Rattle.s390x_operations.specs.declared.size.Size.TheVariants.{Word, Doubleword}
-use Rattle.s390x_machine.specs.Computations.{comparison, unsigned_word, signed_word, unsigned_halfword, signed_halfword, doubleword}
+use Rattle.s390x_machine.specs.Computations.{comparison, unsigned_word, unsigned_halfword, doubleword}
 use Rattle.s390x_machine.specs.CodeAt.{ValidMemoryOr}
 use Rattle.s390x_machine.specs.Layout.{Layout}
 use Rattle.s390x_machine.specs.OneStep.{StepRuns}
-use Rattle.s390x_machine.specs.Storage.{indexed_forms, cmp_forms}
+use Rattle.s390x_machine.specs.StepKinds.{Unsupported, kind_or, performed_at}
+use Rattle.s390x_machine.specs.Typed.{kind_of_step}
+use Rattle.s390x_machine.specs.Storage.{indexed_forms, cmp_forms, loaded_value, loads_at, operand_address}
+use Rattle.s390x_operations.specs.State.{Registers}
+use Rattle.s390x_operations.specs.declared.effect.Operation.{Operation}
 use Rattle.s390x_machine.proofs.Built.{StepAt}
-use Rattle.s390x_machine.proofs.StorageRows.{load_32, load_32_zero_16, load_32_signed_16, load_64, load_64_zero_16, load_64_signed_16, load_64_zero_32, load_64_signed_32, store_16, store_32, store_64, cmp_short_rows, cmp_long_rows}
+use Rattle.s390x_machine.proofs.StorageRows.{load_indexed_rows, store_16, store_32, store_64, cmp_short_rows, cmp_long_rows}
 use Rattle.s390x_machine.proofs.StorageSteps.{loads, stores, compares_in_memory}
 
 -- what has none isn't a step that emission lets pass
@@ -29,15 +40,31 @@ cmp_loaded : (op : CmpOp) (n : ℕ) → record (cmp_forms op) { have_pcrel = fal
 cmp_loaded C.CmpS32 n = refl
 cmp_loaded _ n = refl
 
+-- what is known of a step that loads the address of a load's operand first
+abbrev MayBeLoaded : {L : Layout} {k : ℕ} {s : Step} → StepAt L k s → Option MemoryInstruction → MemInstType → Reg → (short long : Option ℕ) → MemArg → (ℕ → Registers → Operation) → Type 0
+MayBeLoaded {L = L} {s = s} b x forms rd short long mem operation =
+    (forms ≡ type_of (RxForm (number_of rd) short long None) true)
+    × (kind_of_step L (Some s) ≡ Some (kind_or (performed_at (record { operand = mem; forms = forms; accesses = true; operation = operation }) (operand_address L mem)) Unsupported))
+    × (step_parts s ≡ memory_or x [])
+    × ValidMemoryOr L x ⊥
+
+-- a load, where it has a row relative to the instruction
+load_by_address : (L : Layout) (k : ℕ) (op : LoadOp) (rd : Reg) (mem : MemArg) (relative : Option ℕ) (b : StepAt L k (LoadedStep (load_instruction op rd mem))) →
+    MayBeLoaded b (without_relative (load rd (load_rows op).rx (load_rows op).rxy relative mem)) (record (loaded_value op).forms { have_pcrel = false }) rd (load_rows op).rx (load_rows op).rxy mem (loads_at (loaded_value op).size (loaded_value op).second (number_of rd)) → StepRuns L k
+load_by_address L k op rd mem None b is = absurd is.3
+load_by_address L k op rd mem (Some opcode) b is = loads b (loaded_value op).size (loaded_value op).second (load_rows op).rx (load_rows op).rxy None (load_indexed_rows op) tt rd mem (record (loaded_value op).forms { have_pcrel = false }) is
+
+-- the last clause is a copy for each
+load_loaded : (L : Layout) (k : ℕ) (op : LoadOp) (rd : Reg) (mem : MemArg) → StepAt L k (LoadedStep (load_instruction op rd mem)) → ValidMemoryOr L (loaded_memory (load_instruction op rd mem)) ⊥ → StepRuns L k
+load_loaded L k LoadOps.Load64 rd mem b valid = load_by_address L k LoadOps.Load64 rd mem (load_rows LoadOps.Load64).ril b (refl, refl, refl, valid)
+load_loaded L k op rd mem b valid = load_by_address L k op rd mem (load_rows op).ril b (refl, refl, refl, valid)
+
+-- a load, or what has no row relative to the instruction
+load_or_none : (L : Layout) (k : ℕ) (i : Inst) (o : Option Load) → StepAt L k (LoadedStep (by_load (λ l. load_instruction l.op l.rd l.mem) i o)) → ValidMemoryOr L (by_load (λ l. loaded_memory (load_instruction l.op l.rd l.mem)) None o) ⊥ → StepRuns L k
+load_or_none L k i None b valid = absurd valid
+load_or_none L k i (Some l) b valid = load_loaded L k l.op l.rd l.mem b valid
+
 pub loaded_runs : (L : Layout) (k : ℕ) (i : Inst) → StepAt L k (LoadedStep i) → ValidMemoryOr L (loaded_memory i) ⊥ → StepRuns L k
-loaded_runs L k (Load32 rd mem) b valid = loads b Word unsigned_word (Some 0x58) (Some 0xe358) None load_32 tt rd mem (indexed_forms true true false) (refl, refl, refl, valid)
-loaded_runs L k (Load32ZExt16 rd mem) b valid = loads b Word unsigned_halfword None (Some 0xe395) None load_32_zero_16 tt rd mem (indexed_forms false true false) (refl, refl, refl, valid)
-loaded_runs L k (Load32SExt16 rd mem) b valid = loads b Word signed_halfword (Some 0x48) (Some 0xe378) None load_32_signed_16 tt rd mem (indexed_forms true true false) (refl, refl, refl, valid)
-loaded_runs L k (Load64 rd mem) b valid = loads b Doubleword doubleword None (Some 0xe304) None load_64 tt rd mem (indexed_forms false true false) (refl, refl, refl, valid)
-loaded_runs L k (Load64ZExt16 rd mem) b valid = loads b Doubleword unsigned_halfword None (Some 0xe391) None load_64_zero_16 tt rd mem (indexed_forms false true false) (refl, refl, refl, valid)
-loaded_runs L k (Load64SExt16 rd mem) b valid = loads b Doubleword signed_halfword None (Some 0xe315) None load_64_signed_16 tt rd mem (indexed_forms false true false) (refl, refl, refl, valid)
-loaded_runs L k (Load64ZExt32 rd mem) b valid = loads b Doubleword unsigned_word None (Some 0xe316) None load_64_zero_32 tt rd mem (indexed_forms false true false) (refl, refl, refl, valid)
-loaded_runs L k (Load64SExt32 rd mem) b valid = loads b Doubleword signed_word None (Some 0xe314) None load_64_signed_32 tt rd mem (indexed_forms false true false) (refl, refl, refl, valid)
 loaded_runs L k (Store16 rd mem) b valid = stores b unsigned_halfword (Some 0x40) (Some 0xe370) None store_16 tt rd mem (indexed_forms true true false) (refl, refl, refl, valid)
 loaded_runs L k (Store32 rd mem) b valid = stores b unsigned_word (Some 0x50) (Some 0xe350) None store_32 tt rd mem (indexed_forms true true false) (refl, refl, refl, valid)
 loaded_runs L k (Store64 rd mem) b valid = stores b doubleword None (Some 0xe324) None store_64 tt rd mem (indexed_forms false true false) (refl, refl, refl, valid)
@@ -46,4 +73,4 @@ loaded_runs L k (CmpRX op rn mem) b valid =
 loaded_runs L k (AluRX op rd ri mem) b valid = absurd (refused L (loaded_memory (AluRX op rd ri mem)) (alu_none (is_some (alu_rx op) || is_some (alu_rxy op)) (alu_rx op) (alu_rxy op) rd ri mem) valid)
 loaded_runs L k (AtomicRmw op rd rn mem) b valid = absurd (refused L (loaded_memory (AtomicRmw op rd rn mem)) (locked_none (atomic_rsy op) rd rn mem) valid)
 loaded_runs L k (Vector v) b valid = absurd (refused L (loaded_memory (Vector v)) (vector_none v) valid)
-loaded_runs L k _ b valid = absurd valid
+loaded_runs L k i b valid = load_or_none L k i (as_load i) b valid

@@ -2,20 +2,24 @@
 use Rattle.std.proofs.Common.{ℕ, Option, Some, refl}
 use Rattle.s390x_inst.specs.declared.ops.CmpOp.{CmpOp}
 use Rattle.s390x_inst.specs.declared.ops.CmpOp.TheVariants as C
+use Rattle.s390x_inst.specs.declared.load.LoadOp.{LoadOp}
+use Rattle.s390x_inst.specs.declared.load.LoadOp.TheVariants as LoadOps
 use Rattle.s390x_format.specs.declared.kind.FormatKind.TheVariants.{RilB}
 use Rattle.s390x_format.specs.declared.row.Allowed.TheVariants.{Any}
 use Rattle.s390x_format.specs.Lookup.{row_for}
 use Rattle.s390x_format.specs.Fetch.{machine_rows}
+use Rattle.s390x_typed_steps.specs.Memory.{load_rows}
 use Rattle.s390x_typed_steps.specs.Storage.{cmp_ril}
 use Rattle.s390x_operations.specs.declared.size.Size.{Size}
-use Rattle.s390x_operations.specs.declared.size.Size.TheVariants.{Word, Doubleword}
+use Rattle.s390x_operations.specs.declared.size.Size.TheVariants.{Doubleword}
 use Rattle.s390x_operations.specs.declared.operator.Operator.TheVariants.{Move}
 use Rattle.s390x_operations.specs.declared.effect.CodeRule.TheVariants.{Kept}
 use Rattle.s390x_machine.specs.declared.semantics.RowSemantics.{RowSemantics}
 use Rattle.s390x_machine.specs.declared.semantics.RowSemantics.TheVariants.{Compute, Store}
 use Rattle.s390x_machine.specs.declared.semantics.OperandSource.TheVariants.{Relative, RelativeAddress}
-use Rattle.s390x_machine.specs.Computations.{Second, unsigned_word, signed_word, signed_halfword, unsigned_halfword, doubleword, comparison}
+use Rattle.s390x_machine.specs.Computations.{Second, unsigned_word, unsigned_halfword, doubleword, comparison}
 use Rattle.s390x_machine.specs.Semantics.{semantics_in, semantics_of}
+use Rattle.s390x_machine.specs.Storage.{loaded_value}
 use Rattle.s390x_machine.proofs.Listing.{Agrees, rows, OpcodeRows}
 use Rattle.s390x_machine.proofs.SingleInstruction.{compared_with, second_register}
 
@@ -30,41 +34,17 @@ relative_loading size s = Compute Move size (second_register Relative s) Kept
 abbrev pub relative_storing : Second → RowSemantics
 relative_storing s = Store (second_register Relative s)
 
+pub relative_load_rows : (op : LoadOp) → RelativeRows (load_rows op).ril (relative_loading (loaded_value op).size (loaded_value op).second)
+unfolding machine_rows row_for semantics_in semantics_of
+relative_load_rows op = rows (λ n. RilB) Any 4096 (load_rows op).ril (relative_loading (loaded_value op).size (loaded_value op).second) refl (agrees op)
+  where
+    agrees : (op : LoadOp) → Agrees (λ n. RilB) Any 4096 (load_rows op).ril (relative_loading (loaded_value op).size (loaded_value op).second)
+    agrees LoadOps.Load64 = refl
+    agrees _ = refl
+
 pub relative_address_row : RelativeRows (Some 0xc00) (Compute Move Doubleword (second_register RelativeAddress doubleword) Kept)
 unfolding machine_rows row_for semantics_in semantics_of
 relative_address_row = (record { is = refl }, refl)
-
-pub relative_load_32 : RelativeRows (Some 0xc4d) (relative_loading Word unsigned_word)
-unfolding machine_rows row_for semantics_in semantics_of
-relative_load_32 = (record { is = refl }, refl)
-
-pub relative_load_32_zero_16 : RelativeRows (Some 0xc42) (relative_loading Word unsigned_halfword)
-unfolding machine_rows row_for semantics_in semantics_of
-relative_load_32_zero_16 = (record { is = refl }, refl)
-
-pub relative_load_32_signed_16 : RelativeRows (Some 0xc45) (relative_loading Word signed_halfword)
-unfolding machine_rows row_for semantics_in semantics_of
-relative_load_32_signed_16 = (record { is = refl }, refl)
-
-pub relative_load_64 : RelativeRows (Some 0xc48) (relative_loading Doubleword doubleword)
-unfolding machine_rows row_for semantics_in semantics_of
-relative_load_64 = (record { is = refl }, refl)
-
-pub relative_load_64_zero_16 : RelativeRows (Some 0xc46) (relative_loading Doubleword unsigned_halfword)
-unfolding machine_rows row_for semantics_in semantics_of
-relative_load_64_zero_16 = (record { is = refl }, refl)
-
-pub relative_load_64_signed_16 : RelativeRows (Some 0xc44) (relative_loading Doubleword signed_halfword)
-unfolding machine_rows row_for semantics_in semantics_of
-relative_load_64_signed_16 = (record { is = refl }, refl)
-
-pub relative_load_64_zero_32 : RelativeRows (Some 0xc4e) (relative_loading Doubleword unsigned_word)
-unfolding machine_rows row_for semantics_in semantics_of
-relative_load_64_zero_32 = (record { is = refl }, refl)
-
-pub relative_load_64_signed_32 : RelativeRows (Some 0xc4c) (relative_loading Doubleword signed_word)
-unfolding machine_rows row_for semantics_in semantics_of
-relative_load_64_signed_32 = (record { is = refl }, refl)
 
 pub relative_store_16 : RelativeRows (Some 0xc47) (relative_storing unsigned_halfword)
 unfolding machine_rows row_for semantics_in semantics_of

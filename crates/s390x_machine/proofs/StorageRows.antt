@@ -4,22 +4,24 @@ use Rattle.s390x_inst.specs.declared.ops.ALUOp.{ALUOp}
 use Rattle.s390x_inst.specs.declared.ops.ALUOp.TheVariants as A
 use Rattle.s390x_inst.specs.declared.ops.CmpOp.{CmpOp}
 use Rattle.s390x_inst.specs.declared.ops.CmpOp.TheVariants as C
+use Rattle.s390x_inst.specs.declared.load.LoadOp.{LoadOp}
+use Rattle.s390x_inst.specs.declared.load.LoadOp.TheVariants as LoadOps
 use Rattle.s390x_format.specs.declared.kind.FormatKind.TheVariants.{Rx, Rxy, Rs, Rsy, Si, Siy, Sil}
 use Rattle.s390x_format.specs.declared.row.Allowed.TheVariants.{Any}
 use Rattle.s390x_format.specs.Lookup.{row_for}
 use Rattle.s390x_format.specs.Fetch.{machine_rows}
 use Rattle.s390x_typed_steps.specs.Storage.{alu_rx, alu_rxy, cmp_rx, cmp_rxy, cmp_ril, atomic_rsy}
-use Rattle.s390x_typed_steps.specs.Memory.{RxForm, type_of}
+use Rattle.s390x_typed_steps.specs.Memory.{load_rows, RxForm, type_of}
 use Rattle.s390x_operations.specs.declared.size.Size.{Size}
-use Rattle.s390x_operations.specs.declared.size.Size.TheVariants.{Halfword, Word, Doubleword}
+use Rattle.s390x_operations.specs.declared.size.Size.TheVariants.{Word, Doubleword}
 use Rattle.s390x_operations.specs.declared.size.Width.TheVariants.{Bits16, Bits32, Bits64}
 use Rattle.s390x_operations.specs.declared.operator.Operator.TheVariants.{Move}
 use Rattle.s390x_operations.specs.declared.effect.CodeRule.TheVariants.{Kept}
 use Rattle.s390x_machine.specs.declared.semantics.RowSemantics.{RowSemantics}
 use Rattle.s390x_machine.specs.declared.semantics.RowSemantics.TheVariants.{Compute, Store, StoreByte, StoreImmediate, LoadMultiple, StoreMultiple, LoadAndOperate, CompareAndSwap}
 use Rattle.s390x_machine.specs.declared.semantics.OperandSource.TheVariants.{Indexed, IndexedAddress}
-use Rattle.s390x_machine.specs.Computations.{Second, unsigned_word, signed_word, signed_halfword, unsigned_halfword, doubleword, alu_computation, alu_two_rule, comparison}
-use Rattle.s390x_machine.specs.Storage.{byte, signed_byte, reversed_bytes, alu_forms, cmp_forms}
+use Rattle.s390x_machine.specs.Computations.{Second, unsigned_word, unsigned_halfword, doubleword, alu_computation, alu_two_rule, comparison}
+use Rattle.s390x_machine.specs.Storage.{loaded_value, byte, reversed_bytes, alu_forms, cmp_forms}
 use Rattle.s390x_machine.specs.Semantics.{semantics_in, semantics_of}
 use Rattle.s390x_machine.proofs.Listing.{Agrees, rows, OpcodeRow, OpcodeRows}
 use Rattle.s390x_machine.proofs.SingleInstruction.{computed, compared_with, second_register}
@@ -41,65 +43,19 @@ storing s = Store (second_register Indexed s)
 
 -- ---- loads
 
-pub load_32 : IndexedRows (Some 0x58) (Some 0xe358) (loading Word unsigned_word)
+pub load_indexed_rows : (op : LoadOp) → IndexedRows (load_rows op).rx (load_rows op).rxy (loading (loaded_value op).size (loaded_value op).second)
 unfolding machine_rows row_for semantics_in semantics_of
-load_32 = ((record { is = refl }, refl), (record { is = refl }, refl))
+load_indexed_rows op =
+    let semantics : RowSemantics = loading (loaded_value op).size (loaded_value op).second in
+    (rows (λ n. Rx) Any 256 (load_rows op).rx semantics refl (short op), rows (λ n. Rxy) Any 65536 (load_rows op).rxy semantics refl (long op))
+  where
+    short : (op : LoadOp) → Agrees (λ n. Rx) Any 256 (load_rows op).rx (loading (loaded_value op).size (loaded_value op).second)
+    short LoadOps.Load64 = refl
+    short _ = refl
 
-pub load_32_zero_8 : IndexedRows None (Some 0xe394) (loading Word byte)
-unfolding machine_rows row_for semantics_in semantics_of
-load_32_zero_8 = (tt, (record { is = refl }, refl))
-
-pub load_32_signed_8 : IndexedRows None (Some 0xe376) (loading Word signed_byte)
-unfolding machine_rows row_for semantics_in semantics_of
-load_32_signed_8 = (tt, (record { is = refl }, refl))
-
-pub load_32_zero_16 : IndexedRows None (Some 0xe395) (loading Word unsigned_halfword)
-unfolding machine_rows row_for semantics_in semantics_of
-load_32_zero_16 = (tt, (record { is = refl }, refl))
-
-pub load_32_signed_16 : IndexedRows (Some 0x48) (Some 0xe378) (loading Word signed_halfword)
-unfolding machine_rows row_for semantics_in semantics_of
-load_32_signed_16 = ((record { is = refl }, refl), (record { is = refl }, refl))
-
-pub load_64 : IndexedRows None (Some 0xe304) (loading Doubleword doubleword)
-unfolding machine_rows row_for semantics_in semantics_of
-load_64 = (tt, (record { is = refl }, refl))
-
-pub load_64_zero_8 : IndexedRows None (Some 0xe390) (loading Doubleword byte)
-unfolding machine_rows row_for semantics_in semantics_of
-load_64_zero_8 = (tt, (record { is = refl }, refl))
-
-pub load_64_signed_8 : IndexedRows None (Some 0xe377) (loading Doubleword signed_byte)
-unfolding machine_rows row_for semantics_in semantics_of
-load_64_signed_8 = (tt, (record { is = refl }, refl))
-
-pub load_64_zero_16 : IndexedRows None (Some 0xe391) (loading Doubleword unsigned_halfword)
-unfolding machine_rows row_for semantics_in semantics_of
-load_64_zero_16 = (tt, (record { is = refl }, refl))
-
-pub load_64_signed_16 : IndexedRows None (Some 0xe315) (loading Doubleword signed_halfword)
-unfolding machine_rows row_for semantics_in semantics_of
-load_64_signed_16 = (tt, (record { is = refl }, refl))
-
-pub load_64_zero_32 : IndexedRows None (Some 0xe316) (loading Doubleword unsigned_word)
-unfolding machine_rows row_for semantics_in semantics_of
-load_64_zero_32 = (tt, (record { is = refl }, refl))
-
-pub load_64_signed_32 : IndexedRows None (Some 0xe314) (loading Doubleword signed_word)
-unfolding machine_rows row_for semantics_in semantics_of
-load_64_signed_32 = (tt, (record { is = refl }, refl))
-
-pub load_reversed_16 : IndexedRows None (Some 0xe31f) (loading Halfword (reversed_bytes Bits16))
-unfolding machine_rows row_for semantics_in semantics_of
-load_reversed_16 = (tt, (record { is = refl }, refl))
-
-pub load_reversed_32 : IndexedRows None (Some 0xe31e) (loading Word (reversed_bytes Bits32))
-unfolding machine_rows row_for semantics_in semantics_of
-load_reversed_32 = (tt, (record { is = refl }, refl))
-
-pub load_reversed_64 : IndexedRows None (Some 0xe30f) (loading Doubleword (reversed_bytes Bits64))
-unfolding machine_rows row_for semantics_in semantics_of
-load_reversed_64 = (tt, (record { is = refl }, refl))
+    long : (op : LoadOp) → Agrees (λ n. Rxy) Any 65536 (load_rows op).rxy (loading (loaded_value op).size (loaded_value op).second)
+    long LoadOps.Load64 = refl
+    long _ = refl
 
 pub load_address : IndexedRows (Some 0x41) (Some 0xe371) (Compute Move Doubleword (second_register IndexedAddress doubleword) Kept)
 unfolding machine_rows row_for semantics_in semantics_of

@@ -9,8 +9,12 @@ use Rattle.s390x_inst.specs.declared.ops.ALUOp.{ALUOp}
 use Rattle.s390x_inst.specs.declared.ops.CmpOp.{CmpOp}
 use Rattle.s390x_inst.specs.declared.ops.CmpOp.TheVariants as C
 use Rattle.s390x_inst.specs.declared.inst.Inst.{Inst}
-use Rattle.s390x_inst.specs.declared.inst.Inst.TheVariants.{AluRX, CmpRX, Load32, Load32ZExt8, Load32SExt8, Load32ZExt16, Load32SExt16, Load64, Load64ZExt8, Load64SExt8, Load64ZExt16, Load64SExt16, Load64ZExt32, Load64SExt32, LoadRev16, LoadRev32, LoadRev64}
+use Rattle.s390x_inst.specs.declared.inst.Inst.TheVariants.{AluRX, CmpRX}
 use Rattle.s390x_inst.specs.declared.inst.Inst.TheVariants.{Store8, Store16, Store32, Store64, StoreRev16, StoreRev32, StoreRev64, StoreImm8, StoreImm16, StoreImm32SExt16, StoreImm64SExt16, LoadMultiple64, StoreMultiple64, LoadAddr, AtomicRmw, AtomicCas32, AtomicCas64, Vector}
+use Rattle.s390x_inst.specs.declared.load.Load.{Load}
+use Rattle.s390x_inst.specs.declared.load.LoadOp.{LoadOp}
+use Rattle.s390x_inst.specs.declared.load.LoadOp.TheVariants as LoadOps
+use Rattle.s390x_inst.specs.Loads.{as_load, by_load}
 use Rattle.s390x_inst.specs.declared.vec_inst.VecInst.{VecInst}
 use Rattle.s390x_inst.specs.declared.vec_inst.VecInst.TheVariants.{VecLoad, VecLoadRev, VecLoadByte16Rev, VecLoadByte32Rev, VecLoadByte64Rev, VecLoadElt16Rev, VecLoadElt32Rev, VecLoadElt64Rev, VecStore, VecStoreRev, VecStoreByte16Rev, VecStoreByte32Rev, VecStoreByte64Rev, VecStoreElt16Rev, VecStoreElt32Rev, VecStoreElt64Rev}
 use Rattle.s390x_inst.specs.declared.vec_inst.VecInst.TheVariants.{VecLoadReplicate, VecLoadReplicateRev, VecLoadLane, VecLoadLaneRev, VecLoadLaneUndef, VecLoadLaneRevUndef, VecStoreLane, VecStoreLaneRev}
@@ -257,41 +261,56 @@ vector_operand_step (VecLoadReplicate size rd mem) = accesses_at vector_forms me
 vector_operand_step (VecLoadReplicateRev size rd mem) = accesses_at vector_forms mem (loads_vector (VectorLayout.Replicated (elements_of size) true) all_bits (number_of rd))
 vector_operand_step v = lane_operand_step v
 
+-- what a load puts into its register, and which forms of an operand its rows have
+pub record LoadedValue : Type 0 where
+  pub size : Size
+  pub second : Second
+  pub forms : MemInstType
+
+abbrev pub loaded_value : LoadOp → LoadedValue
+loaded_value LoadOps.Load32 = record { size = Word; second = unsigned_word; forms = indexed_forms true true true }
+loaded_value LoadOps.Load32ZExt8 = record { size = Word; second = byte; forms = indexed_forms false true false }
+loaded_value LoadOps.Load32SExt8 = record { size = Word; second = signed_byte; forms = indexed_forms false true false }
+loaded_value LoadOps.Load32ZExt16 = record { size = Word; second = unsigned_halfword; forms = indexed_forms false true true }
+loaded_value LoadOps.Load32SExt16 = record { size = Word; second = signed_halfword; forms = indexed_forms true true true }
+loaded_value LoadOps.Load64 = record { size = Doubleword; second = doubleword; forms = indexed_forms false true true }
+loaded_value LoadOps.Load64ZExt8 = record { size = Doubleword; second = byte; forms = indexed_forms false true false }
+loaded_value LoadOps.Load64SExt8 = record { size = Doubleword; second = signed_byte; forms = indexed_forms false true false }
+loaded_value LoadOps.Load64ZExt16 = record { size = Doubleword; second = unsigned_halfword; forms = indexed_forms false true true }
+loaded_value LoadOps.Load64SExt16 = record { size = Doubleword; second = signed_halfword; forms = indexed_forms false true true }
+loaded_value LoadOps.Load64ZExt32 = record { size = Doubleword; second = unsigned_word; forms = indexed_forms false true true }
+loaded_value LoadOps.Load64SExt32 = record { size = Doubleword; second = signed_word; forms = indexed_forms false true true }
+loaded_value LoadOps.LoadRev16 = record { size = Halfword; second = reversed_bytes Bits16; forms = indexed_forms false true false }
+loaded_value LoadOps.LoadRev32 = record { size = Word; second = reversed_bytes Bits32; forms = indexed_forms false true false }
+loaded_value LoadOps.LoadRev64 = record { size = Doubleword; second = reversed_bytes Bits64; forms = indexed_forms false true false }
+
+abbrev pub load_step : Load → Option OperandStep
+load_step l = accesses_at (loaded_value l.op).forms l.mem (loads_at (loaded_value l.op).size (loaded_value l.op).second (number_of l.rd))
+
+-- the same of one that is no load of one register
+abbrev pub other_operand_step : Inst → Option OperandStep
+other_operand_step (AluRX op rd ri mem) = accesses_at (alu_forms op) mem (computes_at (alu_two_rule op) (alu_computation op) (number_of rd))
+other_operand_step (CmpRX op rn mem) = accesses_at (cmp_forms op) mem (compares_at (comparison op) (number_of rn))
+other_operand_step (LoadAddr rd mem) = takes_address mem (loads_address (number_of rd))
+other_operand_step (Store8 rd mem) = accesses_at (indexed_forms true true false) mem (stores_at byte (number_of rd))
+other_operand_step (Store16 rd mem) = accesses_at (indexed_forms true true true) mem (stores_at unsigned_halfword (number_of rd))
+other_operand_step (Store32 rd mem) = accesses_at (indexed_forms true true true) mem (stores_at unsigned_word (number_of rd))
+other_operand_step (Store64 rd mem) = accesses_at (indexed_forms false true true) mem (stores_at doubleword (number_of rd))
+other_operand_step (StoreRev16 rd mem) = accesses_at (indexed_forms false true false) mem (stores_at (reversed_bytes Bits16) (number_of rd))
+other_operand_step (StoreRev32 rd mem) = accesses_at (indexed_forms false true false) mem (stores_at (reversed_bytes Bits32) (number_of rd))
+other_operand_step (StoreRev64 rd mem) = accesses_at (indexed_forms false true false) mem (stores_at (reversed_bytes Bits64) (number_of rd))
+other_operand_step (StoreImm8 imm mem) = accesses_at (based_forms true true) mem (stores_value Bits8 (low_byte imm))
+other_operand_step (StoreImm16 imm mem) = accesses_at (based_forms true false) mem (stores_value Bits16 (signed_immediate (low_halfword imm)))
+other_operand_step (StoreImm32SExt16 imm mem) = accesses_at (based_forms true false) mem (stores_value Bits32 (signed_immediate (low_halfword imm)))
+other_operand_step (StoreImm64SExt16 imm mem) = accesses_at (based_forms true false) mem (stores_value Bits64 (signed_immediate (low_halfword imm)))
+other_operand_step (LoadMultiple64 rt rt2 mem) = accesses_at (based_forms false true) mem (loads_multiple (number_of rt) (number_of rt2))
+other_operand_step (StoreMultiple64 rt rt2 mem) = accesses_at (based_forms false true) mem (stores_multiple (number_of rt) (number_of rt2))
+other_operand_step (AtomicRmw op rd rn mem) = accesses_at (based_forms false true) mem (operates_at (alu_computation op) (number_of rd) (number_of rn))
+other_operand_step (AtomicCas32 rd ri rn mem) = accesses_at (based_forms true true) mem (swaps_at Word (number_of rd) (number_of rn))
+other_operand_step (AtomicCas64 rd ri rn mem) = accesses_at (based_forms false true) mem (swaps_at Doubleword (number_of rd) (number_of rn))
+other_operand_step (Vector v) = vector_operand_step v
+other_operand_step _ = None
+
 -- the instructions with an operand in memory
 abbrev pub operand_step : Inst → Option OperandStep
-operand_step (AluRX op rd ri mem) = accesses_at (alu_forms op) mem (computes_at (alu_two_rule op) (alu_computation op) (number_of rd))
-operand_step (CmpRX op rn mem) = accesses_at (cmp_forms op) mem (compares_at (comparison op) (number_of rn))
-operand_step (Load32 rd mem) = accesses_at (indexed_forms true true true) mem (loads_at Word unsigned_word (number_of rd))
-operand_step (Load32ZExt8 rd mem) = accesses_at (indexed_forms false true false) mem (loads_at Word byte (number_of rd))
-operand_step (Load32SExt8 rd mem) = accesses_at (indexed_forms false true false) mem (loads_at Word signed_byte (number_of rd))
-operand_step (Load32ZExt16 rd mem) = accesses_at (indexed_forms false true true) mem (loads_at Word unsigned_halfword (number_of rd))
-operand_step (Load32SExt16 rd mem) = accesses_at (indexed_forms true true true) mem (loads_at Word signed_halfword (number_of rd))
-operand_step (Load64 rd mem) = accesses_at (indexed_forms false true true) mem (loads_at Doubleword doubleword (number_of rd))
-operand_step (Load64ZExt8 rd mem) = accesses_at (indexed_forms false true false) mem (loads_at Doubleword byte (number_of rd))
-operand_step (Load64SExt8 rd mem) = accesses_at (indexed_forms false true false) mem (loads_at Doubleword signed_byte (number_of rd))
-operand_step (Load64ZExt16 rd mem) = accesses_at (indexed_forms false true true) mem (loads_at Doubleword unsigned_halfword (number_of rd))
-operand_step (Load64SExt16 rd mem) = accesses_at (indexed_forms false true true) mem (loads_at Doubleword signed_halfword (number_of rd))
-operand_step (Load64ZExt32 rd mem) = accesses_at (indexed_forms false true true) mem (loads_at Doubleword unsigned_word (number_of rd))
-operand_step (Load64SExt32 rd mem) = accesses_at (indexed_forms false true true) mem (loads_at Doubleword signed_word (number_of rd))
-operand_step (LoadRev16 rd mem) = accesses_at (indexed_forms false true false) mem (loads_at Halfword (reversed_bytes Bits16) (number_of rd))
-operand_step (LoadRev32 rd mem) = accesses_at (indexed_forms false true false) mem (loads_at Word (reversed_bytes Bits32) (number_of rd))
-operand_step (LoadRev64 rd mem) = accesses_at (indexed_forms false true false) mem (loads_at Doubleword (reversed_bytes Bits64) (number_of rd))
-operand_step (LoadAddr rd mem) = takes_address mem (loads_address (number_of rd))
-operand_step (Store8 rd mem) = accesses_at (indexed_forms true true false) mem (stores_at byte (number_of rd))
-operand_step (Store16 rd mem) = accesses_at (indexed_forms true true true) mem (stores_at unsigned_halfword (number_of rd))
-operand_step (Store32 rd mem) = accesses_at (indexed_forms true true true) mem (stores_at unsigned_word (number_of rd))
-operand_step (Store64 rd mem) = accesses_at (indexed_forms false true true) mem (stores_at doubleword (number_of rd))
-operand_step (StoreRev16 rd mem) = accesses_at (indexed_forms false true false) mem (stores_at (reversed_bytes Bits16) (number_of rd))
-operand_step (StoreRev32 rd mem) = accesses_at (indexed_forms false true false) mem (stores_at (reversed_bytes Bits32) (number_of rd))
-operand_step (StoreRev64 rd mem) = accesses_at (indexed_forms false true false) mem (stores_at (reversed_bytes Bits64) (number_of rd))
-operand_step (StoreImm8 imm mem) = accesses_at (based_forms true true) mem (stores_value Bits8 (low_byte imm))
-operand_step (StoreImm16 imm mem) = accesses_at (based_forms true false) mem (stores_value Bits16 (signed_immediate (low_halfword imm)))
-operand_step (StoreImm32SExt16 imm mem) = accesses_at (based_forms true false) mem (stores_value Bits32 (signed_immediate (low_halfword imm)))
-operand_step (StoreImm64SExt16 imm mem) = accesses_at (based_forms true false) mem (stores_value Bits64 (signed_immediate (low_halfword imm)))
-operand_step (LoadMultiple64 rt rt2 mem) = accesses_at (based_forms false true) mem (loads_multiple (number_of rt) (number_of rt2))
-operand_step (StoreMultiple64 rt rt2 mem) = accesses_at (based_forms false true) mem (stores_multiple (number_of rt) (number_of rt2))
-operand_step (AtomicRmw op rd rn mem) = accesses_at (based_forms false true) mem (operates_at (alu_computation op) (number_of rd) (number_of rn))
-operand_step (AtomicCas32 rd ri rn mem) = accesses_at (based_forms true true) mem (swaps_at Word (number_of rd) (number_of rn))
-operand_step (AtomicCas64 rd ri rn mem) = accesses_at (based_forms false true) mem (swaps_at Doubleword (number_of rd) (number_of rn))
-operand_step (Vector v) = vector_operand_step v
-operand_step _ = None
+operand_step i = by_load load_step (other_operand_step i) (as_load i)

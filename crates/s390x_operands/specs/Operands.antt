@@ -4,14 +4,15 @@ use Rattle.s390x_base.specs.declared.regs.Reg.{Reg}
 use Rattle.s390x_inst.specs.declared.inst.Inst.{Inst, Row_of-Inst, end_of-Inst, more_of-Inst}
 use Rattle.s390x_inst.specs.declared.inst.Inst.TheVariants.{Loop', IndirectBr, JTSequence, Call, ReturnCall, LoadSymbolReloc, LabelAddress, Args, Rets, DummyUse, Vector, AluRRR, AluRRSImm16, AluRR, AluRX, AluRSImm16, AluRSImm32, AluRUImm32, AluRUImm16Shifted, AluRUImm32Shifted, SMulWide, UMulWide}
 use Rattle.s390x_inst.specs.declared.inst.Inst.TheVariants.{SDivMod32, SDivMod64, UDivMod32, UDivMod64, Flogr, ShiftRR, RxSBG, RxSBGTest, UnaryRR, CmpRR, CmpRX, CmpRSImm16, CmpRSImm32, CmpRUImm32, CmpTrapRR, CmpTrapRSImm16, CmpTrapRUImm16, Mov64, MovPReg, Mov32, Mov32Imm, Mov32SImm16, Mov64SImm16}
-use Rattle.s390x_inst.specs.declared.inst.Inst.TheVariants.{Mov64SImm32, Mov64UImm16Shifted, Mov64UImm32Shifted, Insert64UImm16Shifted, Insert64UImm32Shifted, CMov32, CMov64, CMov32SImm16, CMov64SImm16, Extend, LoadAR, InsertAR, Load32, Load32ZExt8, Load32SExt8, Load32ZExt16, Load32SExt16, Load64}
-use Rattle.s390x_inst.specs.declared.inst.Inst.TheVariants.{Load64ZExt8, Load64SExt8, Load64ZExt16, Load64SExt16, Load64ZExt32, Load64SExt32, LoadRev16, LoadRev32, LoadRev64, Store8, Store16, Store32, Store64, StoreRev16, StoreRev32, StoreRev64, StoreImm8, StoreImm16, StoreImm32SExt16, StoreImm64SExt16}
+use Rattle.s390x_inst.specs.declared.inst.Inst.TheVariants.{Mov64SImm32, Mov64UImm16Shifted, Mov64UImm32Shifted, Insert64UImm16Shifted, Insert64UImm32Shifted, CMov32, CMov64, CMov32SImm16, CMov64SImm16, Extend, LoadAR, InsertAR}
+use Rattle.s390x_inst.specs.declared.inst.Inst.TheVariants.{Store8, Store16, Store32, Store64, StoreRev16, StoreRev32, StoreRev64, StoreImm8, StoreImm16, StoreImm32SExt16, StoreImm64SExt16}
 use Rattle.s390x_inst.specs.declared.inst.Inst.TheVariants.{LoadMultiple64, StoreMultiple64, LoadAddr, LoadIndexedAddr, LoadLogicalIndexedAddr, AtomicRmw, AtomicCas32, AtomicCas64}
 use Rattle.s390x_inst.specs.declared.vec_inst.VecInst.{VecInst}
 use Rattle.s390x_inst.specs.declared.vec_inst.VecInst.TheVariants.{VecRRR, VecRR, VecShiftRR, VecSelect, VecPermute, VecBlend, VecEvaluate, VecPermuteDWImm, VecIntCmp, VecIntCmpS, VecIntEltCmp, VecInt128SCmpHi, VecInt128UCmpHi, VecLoad, VecLoadRev, VecLoadByte16Rev, VecLoadByte32Rev, VecLoadByte64Rev}
 use Rattle.s390x_inst.specs.declared.vec_inst.VecInst.TheVariants.{VecLoadElt16Rev, VecLoadElt32Rev, VecLoadElt64Rev, VecStore, VecStoreRev, VecStoreByte16Rev, VecStoreByte32Rev, VecStoreByte64Rev, VecStoreElt16Rev, VecStoreElt32Rev, VecStoreElt64Rev, VecLoadReplicate, VecLoadReplicateRev, VecLoadLane}
 use Rattle.s390x_inst.specs.declared.vec_inst.VecInst.TheVariants.{VecLoadLaneRev, VecLoadLaneUndef, VecLoadLaneRevUndef, VecStoreLane, VecStoreLaneRev, VecMov, FpuMove32, FpuMove64, FpuCMov32, FpuCMov64, VecCMov, MovToVec128, VecImmByteMask, VecImmBitMask, VecImmReplicate, VecInsertLane}
 use Rattle.s390x_inst.specs.declared.vec_inst.VecInst.TheVariants.{VecInsertLaneUndef, VecExtractLane, VecInsertLaneImm, VecInsertLaneImmUndef, VecReplicateLane, VecEltRev}
+use Rattle.s390x_inst.specs.Loads.{as_load, by_load}
 use Rattle.s390x_operands.specs.declared.constraint.OperandError.{OperandError}
 use Rattle.s390x_operands.specs.declared.constraint.Reported.{Reported}
 use Rattle.s390x_operands.specs.declared.constraint.Reported.TheVariants.{Fixed}
@@ -94,43 +95,32 @@ control_requests (DummyUse reg) = used reg ∷ []
 control_requests (Vector v) = vector_requests v
 control_requests _ = []
 
+-- what is reported of multiple loads, stores and addresses
+abbrev pub store_requests : Inst → List (Option Reported)
+store_requests (Store8 rd mem) = used rd ∷ memory_requests mem
+store_requests (Store16 rd mem) = used rd ∷ memory_requests mem
+store_requests (Store32 rd mem) = used rd ∷ memory_requests mem
+store_requests (Store64 rd mem) = used rd ∷ memory_requests mem
+store_requests (StoreRev16 rd mem) = used rd ∷ memory_requests mem
+store_requests (StoreRev32 rd mem) = used rd ∷ memory_requests mem
+store_requests (StoreRev64 rd mem) = used rd ∷ memory_requests mem
+store_requests (StoreImm8 imm mem) = memory_requests mem
+store_requests (StoreImm16 imm mem) = memory_requests mem
+store_requests (StoreImm32SExt16 imm mem) = memory_requests mem
+store_requests (StoreImm64SExt16 imm mem) = memory_requests mem
+store_requests (LoadMultiple64 rt rt2 mem) = memory_requests mem ++ range_requests rt rt2
+store_requests (StoreMultiple64 rt rt2 mem) = memory_requests mem ++ range_requests rt rt2
+store_requests (LoadAddr rd mem) = defined rd ∷ memory_requests mem
+store_requests (LoadIndexedAddr rd base index offset size) = defined rd ∷ used base ∷ used index ∷ []
+store_requests (LoadLogicalIndexedAddr rd base index offset size) = defined rd ∷ used base ∷ used index ∷ []
+store_requests (AtomicRmw alu_op rd rn mem) = defined rd ∷ used rn ∷ memory_requests mem
+store_requests (AtomicCas32 rd ri rn mem) = reused rd ∷ used ri ∷ used rn ∷ memory_requests mem
+store_requests (AtomicCas64 rd ri rn mem) = reused rd ∷ used ri ∷ used rn ∷ memory_requests mem
+store_requests i = control_requests i
+
 -- what is reported of loads, stores and addresses
 abbrev pub storage_requests : Inst → List (Option Reported)
-storage_requests (Load32 rd mem) = defined rd ∷ memory_requests mem
-storage_requests (Load32ZExt8 rd mem) = defined rd ∷ memory_requests mem
-storage_requests (Load32SExt8 rd mem) = defined rd ∷ memory_requests mem
-storage_requests (Load32ZExt16 rd mem) = defined rd ∷ memory_requests mem
-storage_requests (Load32SExt16 rd mem) = defined rd ∷ memory_requests mem
-storage_requests (Load64 rd mem) = defined rd ∷ memory_requests mem
-storage_requests (Load64ZExt8 rd mem) = defined rd ∷ memory_requests mem
-storage_requests (Load64SExt8 rd mem) = defined rd ∷ memory_requests mem
-storage_requests (Load64ZExt16 rd mem) = defined rd ∷ memory_requests mem
-storage_requests (Load64SExt16 rd mem) = defined rd ∷ memory_requests mem
-storage_requests (Load64ZExt32 rd mem) = defined rd ∷ memory_requests mem
-storage_requests (Load64SExt32 rd mem) = defined rd ∷ memory_requests mem
-storage_requests (LoadRev16 rd mem) = defined rd ∷ memory_requests mem
-storage_requests (LoadRev32 rd mem) = defined rd ∷ memory_requests mem
-storage_requests (LoadRev64 rd mem) = defined rd ∷ memory_requests mem
-storage_requests (Store8 rd mem) = used rd ∷ memory_requests mem
-storage_requests (Store16 rd mem) = used rd ∷ memory_requests mem
-storage_requests (Store32 rd mem) = used rd ∷ memory_requests mem
-storage_requests (Store64 rd mem) = used rd ∷ memory_requests mem
-storage_requests (StoreRev16 rd mem) = used rd ∷ memory_requests mem
-storage_requests (StoreRev32 rd mem) = used rd ∷ memory_requests mem
-storage_requests (StoreRev64 rd mem) = used rd ∷ memory_requests mem
-storage_requests (StoreImm8 imm mem) = memory_requests mem
-storage_requests (StoreImm16 imm mem) = memory_requests mem
-storage_requests (StoreImm32SExt16 imm mem) = memory_requests mem
-storage_requests (StoreImm64SExt16 imm mem) = memory_requests mem
-storage_requests (LoadMultiple64 rt rt2 mem) = memory_requests mem ++ range_requests rt rt2
-storage_requests (StoreMultiple64 rt rt2 mem) = memory_requests mem ++ range_requests rt rt2
-storage_requests (LoadAddr rd mem) = defined rd ∷ memory_requests mem
-storage_requests (LoadIndexedAddr rd base index offset size) = defined rd ∷ used base ∷ used index ∷ []
-storage_requests (LoadLogicalIndexedAddr rd base index offset size) = defined rd ∷ used base ∷ used index ∷ []
-storage_requests (AtomicRmw alu_op rd rn mem) = defined rd ∷ used rn ∷ memory_requests mem
-storage_requests (AtomicCas32 rd ri rn mem) = reused rd ∷ used ri ∷ used rn ∷ memory_requests mem
-storage_requests (AtomicCas64 rd ri rn mem) = reused rd ∷ used ri ∷ used rn ∷ memory_requests mem
-storage_requests i = control_requests i
+storage_requests i = by_load (λ l. defined l.rd ∷ memory_requests l.mem) (store_requests i) (as_load i)
 
 -- what is reported of moves between registers, and of immediates
 abbrev pub move_requests : Inst → List (Option Reported)

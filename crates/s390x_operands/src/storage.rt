@@ -1,6 +1,6 @@
 //! Reporting the operands of loads and stores.
 ghost use Rattle.s390x_operands.specs.Requests.{Reports};
-ghost use Rattle.s390x_operands.specs.Operands.{storage_requests};
+ghost use Rattle.s390x_operands.specs.Operands.{storage_requests, store_requests};
 
 use crate::constraint::OperandError;
 use crate::control::report_control;
@@ -9,31 +9,12 @@ use crate::report::{report_inputs, report_output, report_output_from, report_reu
 use crate::visitor::OperandVisitor;
 use s390x_inst::Inst;
 
-/// Reports the operands of an instruction that is neither an operator nor a move.
-pub fn report_storage<V: OperandVisitor>(
-    v: &mut V,
-    denied: bool,
-    inst: &Inst,
-) -> Result<(), OperandError>
-    ensures { Reports denied (storage_requests inst.now) (V.items v.old) (V.items v.new) (V.denies v.old) (V.denies v.new) result }
+// Reports the operands of an instruction that is neither an operator nor a move, nor a load of one register.
+fn report_store<V: OperandVisitor>(v: &mut V, denied: bool, inst: &Inst) -> Result<(), OperandError>
+    ensures { Reports denied (store_requests inst.now) (V.items v.old) (V.items v.new) (V.denies v.old) (V.denies v.new) result }
 {
     match inst {
-        Inst::Load32 { rd, mem }
-        | Inst::Load32ZExt8 { rd, mem }
-        | Inst::Load32SExt8 { rd, mem }
-        | Inst::Load32ZExt16 { rd, mem }
-        | Inst::Load32SExt16 { rd, mem }
-        | Inst::Load64 { rd, mem }
-        | Inst::Load64ZExt8 { rd, mem }
-        | Inst::Load64SExt8 { rd, mem }
-        | Inst::Load64ZExt16 { rd, mem }
-        | Inst::Load64SExt16 { rd, mem }
-        | Inst::Load64ZExt32 { rd, mem }
-        | Inst::Load64SExt32 { rd, mem }
-        | Inst::LoadRev16 { rd, mem }
-        | Inst::LoadRev32 { rd, mem }
-        | Inst::LoadRev64 { rd, mem }
-        | Inst::LoadAddr { rd, mem } => { report_output_from(v, denied, rd, &[], mem) }
+        Inst::LoadAddr { rd, mem } => report_output_from(v, denied, rd, &[], mem),
         Inst::Store8 { rd, mem }
         | Inst::Store16 { rd, mem }
         | Inst::Store32 { rd, mem }
@@ -66,5 +47,19 @@ pub fn report_storage<V: OperandVisitor>(
         }
         Inst::StoreMultiple64 { rt, rt2, mem } => report_multiple(v, denied, mem, rt, rt2),
         _ => report_control(v, denied, inst),
+    }
+}
+
+/// Reports the operands of an instruction that is neither an operator nor a move.
+pub fn report_storage<V: OperandVisitor>(
+    v: &mut V,
+    denied: bool,
+    inst: &Inst,
+) -> Result<(), OperandError>
+    ensures { Reports denied (storage_requests inst.now) (V.items v.old) (V.items v.new) (V.denies v.old) (V.denies v.new) result }
+{
+    match inst.as_load() {
+        Some(load) => report_output_from(v, denied, &load.rd, &[], &load.mem),
+        None => report_store(v, denied, inst),
     }
 }

@@ -3,9 +3,16 @@ use Rattle.std.proofs.Common.{◌≡◌, pos, false, ◌||◌, List, [], ◌∷�
 use Rattle.s390x_base.specs.Regs.{number_of}
 use Rattle.s390x_base.specs.declared.regs.Reg.{Reg}
 use Rattle.s390x_base.specs.declared.regs.Reg.TheVariants.{Real, Virtual}
+use Rattle.s390x_inst.specs.declared.load.Load.{Load}
+use Rattle.s390x_inst.specs.declared.load.LoadOp.{LoadOp}
+use Rattle.s390x_inst.specs.declared.load.LoadOp.TheVariants as LoadOps
+use Rattle.s390x_inst.specs.Loads.{as_load, load_instruction}
+use Rattle.s390x_inst.proofs.Loads.{the_load}
+use Rattle.s390x_inst.specs.declared.args.MemArg.{MemArg}
 use Rattle.s390x_inst.specs.declared.inst.Inst.{Inst}
+use Rattle.s390x_inst.specs.declared.inst.Inst.TheVariants.{Loop', Call, ReturnCall, Ret, AllocateArgs}
 use Rattle.s390x_operands.specs.Requests.{items_of, scratch_request, used, defined, reused, range_requests, fixed_use, fixed_def}
-use Rattle.s390x_typed_steps.specs.Memory.{address_form, load, access_elements, reversed_code, load_lane_opcode, load_reversed_opcode, load_left, vector_memory, operate, compare_and_swap, load_and_operate}
+use Rattle.s390x_typed_steps.specs.Memory.{address_form, load_memory, access_elements, reversed_code, load_lane_opcode, load_reversed_opcode, load_left, vector_memory, operate, compare_and_swap, load_and_operate}
 use Rattle.s390x_typed_steps.specs.General.{is_general, is_access, four_bits, low_byte, low_displacement, low_halfword, low_word, rotation, reuses}
 use Rattle.s390x_typed_steps.specs.VectorInstruction.{is_vector, vector_row, reuses_vector, element_code, move_left_row}
 use Rattle.s390x_assign_laws.specs.Allocatable.{Place, MayStand}
@@ -20,8 +27,8 @@ use Rattle.s390x_inst.specs.declared.vec_inst.VecInst.TheVariants.{VecInt128SCmp
 use Rattle.s390x_inst.specs.declared.vec_inst.VecInst.TheVariants.{VecStoreByte64Rev, VecStoreElt16Rev, VecStoreElt32Rev, VecStoreElt64Rev, VecLoadReplicate, VecLoadReplicateRev, VecLoadLane, VecLoadLaneRev, VecLoadLaneUndef, VecLoadLaneRevUndef, VecStoreLane, VecStoreLaneRev}
 use Rattle.s390x_inst.specs.declared.inst.Inst.TheVariants.{AluRR, AluRRR, AluRRSImm16, AluRSImm16, AluRSImm32, AluRUImm16Shifted, AluRUImm32, AluRUImm32Shifted, AluRX, AtomicCas32, AtomicCas64, CMov32, CMov32SImm16, CMov64}
 use Rattle.s390x_inst.specs.declared.inst.Inst.TheVariants.{CMov64SImm16, CmpRR, CmpRSImm16, CmpRSImm32, CmpRUImm32, CmpRX, CmpTrapRR, CmpTrapRSImm16, CmpTrapRUImm16, CondBr, CondBreak, Debugtrap, DummyUse, Extend}
-use Rattle.s390x_inst.specs.declared.inst.Inst.TheVariants.{Fence, Flogr, Insert64UImm16Shifted, Insert64UImm32Shifted, InsertAR, Jump, Load32, Load32SExt16, Load32SExt8, Load32ZExt16, Load32ZExt8, Load64, Load64SExt16, Load64SExt32}
-use Rattle.s390x_inst.specs.declared.inst.Inst.TheVariants.{Load64SExt8, Load64ZExt16, Load64ZExt32, Load64ZExt8, LoadAR, LoadAddr, LoadIndexedAddr, LoadLogicalIndexedAddr, LoadRev16, LoadRev32, LoadRev64, Mov32, Mov32Imm, Mov32SImm16}
+use Rattle.s390x_inst.specs.declared.inst.Inst.TheVariants.{Fence, Flogr, Insert64UImm16Shifted, Insert64UImm32Shifted, InsertAR, Jump}
+use Rattle.s390x_inst.specs.declared.inst.Inst.TheVariants.{LoadAR, LoadAddr, LoadIndexedAddr, LoadLogicalIndexedAddr, Mov32, Mov32Imm, Mov32SImm16}
 use Rattle.s390x_inst.specs.declared.inst.Inst.TheVariants.{Mov64, Mov64SImm16, Mov64SImm32, Mov64UImm16Shifted, Mov64UImm32Shifted, MovPReg, Nop0, Nop2, RxSBG, RxSBGTest, SDivMod32, SDivMod64, SMulWide, SequencePoint}
 use Rattle.s390x_inst.specs.declared.inst.Inst.TheVariants.{ShiftRR, Store16, Store32, Store64, Store8, StoreImm16, StoreImm32SExt16, StoreImm64SExt16, StoreImm8, StoreRev16, StoreRev32, StoreRev64, Trap, TrapIf}
 use Rattle.s390x_inst.specs.declared.inst.Inst.TheVariants.{UDivMod32, UDivMod64, UMulWide, UnaryRR, Vector, IndirectBr, JTSequence, LoadSymbolReloc, LabelAddress, Args, Rets, LoadMultiple64, StoreMultiple64, AtomicRmw}
@@ -62,6 +69,17 @@ use Rattle.s390x_operations.specs.declared.operator.SelectedBitsOperator.TheVari
 use Rattle.s390x_lanes.specs.declared.operation.VectorOperation.TheVariants as Lanes
 use Rattle.s390x_lanes.specs.declared.size.ElementSize.TheVariants as ElementSize
 
+-- a load: the last clause is a copy for each
+kept_load : (P : Place) (L : Layout) (op : LoadOp) (rd : Reg) (mem : MemArg) (s : List Reg) → MayStand (load_instruction op rd mem) → MeetsEach s (items_of (leaf_requests (load_instruction op rd mem))) s → portion_refusal P (portion_at (first_portion (load_instruction op rd mem)) s).0 ≡ None →
+    BothKeep L (loaded_range (load_instruction op rd mem) ++ outputs (items_of (leaf_requests (load_instruction op rd mem))) s) (portion_kind L P.state (portion_at (first_portion (load_instruction op rd mem)) s).0) (portion_loaded_kind L P.state (portion_at (first_portion (load_instruction op rd mem)) s).0)
+kept_load P L LoadOps.Load64 rd mem s m g h =
+    load_kept P L is_general general_target general_written defined defined_output defined_passed (load_instruction LoadOps.Load64) (λ rd mem. load_memory (record { op = LoadOps.Load64; rd = rd; mem = mem })) (λ a m v. and_left (is_general a) (operand_general m) v) (λ a x. (refl, refl))
+    (λ a x changed f free. accessed L changed (operand_step (load_instruction LoadOps.Load64 a (resolved P.state x))) (λ address r. f) free) rd mem s m.0 g h
+kept_load P L op rd mem s m g h =
+    load_kept P L is_general general_target general_written defined defined_output defined_passed (load_instruction op) (λ rd mem. load_memory (record { op = op; rd = rd; mem = mem })) (λ a m v. and_left (is_general a) (operand_general m) v) (λ a x. (refl, refl))
+    (λ a x changed f free. accessed L changed (operand_step (load_instruction op a (resolved P.state x))) (λ address r. f) free) rd mem s m.0 g h
+
+-- the last clause is a copy for each load
 pub kept : (P : Place) (L : Layout) (i : Inst) (s : List Reg) → MayStand i → MeetsEach s (items_of (leaf_requests i)) s → portion_refusal P (portion_at (first_portion i) s).0 ≡ None →
     BothKeep L (loaded_range i ++ outputs (items_of (leaf_requests i)) s) (portion_kind L P.state (portion_at (first_portion i) s).0) (portion_loaded_kind L P.state (portion_at (first_portion i) s).0)
 kept P L (LoadIndexedAddr rd base index offset size) s m g h =
@@ -270,51 +288,6 @@ kept P L Debugtrap s m g h = (debug_keeps L _, nothing L _)
 kept P L SequencePoint s m g h = (silence L _, nothing L _)
 kept P L (DummyUse reg) s m g h = (silence L _, nothing L _)
 kept P L (CmpRX op rn mem) s m g h = store_kept P L (λ a x. CmpRX op a x) (λ a x changed f free. accessed L changed (operand_step (CmpRX op a (resolved P.state x))) (λ address r. f) free) rn mem s g
-kept P L (Load32 rd mem) s m g h =
-    load_kept P L is_general general_target general_written defined defined_output defined_passed (λ a x. Load32 a x) (λ rd mem. load rd (Some 0x58) (Some 0xe358) (Some 0xc4d) mem) (λ a m v. and_left (is_general a) (operand_general m) v) (λ a x. (refl, refl))
-    (λ a x changed f free. accessed L changed (operand_step (Load32 a (resolved P.state x))) (λ address r. f) free) rd mem s m.0 g h
-kept P L (Load32ZExt8 rd mem) s m g h =
-    load_kept P L is_general general_target general_written defined defined_output defined_passed (λ a x. Load32ZExt8 a x) (λ rd mem. load rd None (Some 0xe394) None mem) (λ a m v. and_left (is_general a) (operand_general m) v) (λ a x. (refl, refl))
-    (λ a x changed f free. accessed L changed (operand_step (Load32ZExt8 a (resolved P.state x))) (λ address r. f) free) rd mem s m.0 g h
-kept P L (Load32SExt8 rd mem) s m g h =
-    load_kept P L is_general general_target general_written defined defined_output defined_passed (λ a x. Load32SExt8 a x) (λ rd mem. load rd None (Some 0xe376) None mem) (λ a m v. and_left (is_general a) (operand_general m) v) (λ a x. (refl, refl))
-    (λ a x changed f free. accessed L changed (operand_step (Load32SExt8 a (resolved P.state x))) (λ address r. f) free) rd mem s m.0 g h
-kept P L (Load32ZExt16 rd mem) s m g h =
-    load_kept P L is_general general_target general_written defined defined_output defined_passed (λ a x. Load32ZExt16 a x) (λ rd mem. load rd None (Some 0xe395) (Some 0xc42) mem) (λ a m v. and_left (is_general a) (operand_general m) v) (λ a x. (refl, refl))
-    (λ a x changed f free. accessed L changed (operand_step (Load32ZExt16 a (resolved P.state x))) (λ address r. f) free) rd mem s m.0 g h
-kept P L (Load32SExt16 rd mem) s m g h =
-    load_kept P L is_general general_target general_written defined defined_output defined_passed (λ a x. Load32SExt16 a x) (λ rd mem. load rd (Some 0x48) (Some 0xe378) (Some 0xc45) mem) (λ a m v. and_left (is_general a) (operand_general m) v) (λ a x. (refl, refl))
-    (λ a x changed f free. accessed L changed (operand_step (Load32SExt16 a (resolved P.state x))) (λ address r. f) free) rd mem s m.0 g h
-kept P L (Load64 rd mem) s m g h =
-    load_kept P L is_general general_target general_written defined defined_output defined_passed (λ a x. Load64 a x) (λ rd mem. load rd None (Some 0xe304) (Some 0xc48) mem) (λ a m v. and_left (is_general a) (operand_general m) v) (λ a x. (refl, refl))
-    (λ a x changed f free. accessed L changed (operand_step (Load64 a (resolved P.state x))) (λ address r. f) free) rd mem s m.0 g h
-kept P L (Load64ZExt8 rd mem) s m g h =
-    load_kept P L is_general general_target general_written defined defined_output defined_passed (λ a x. Load64ZExt8 a x) (λ rd mem. load rd None (Some 0xe390) None mem) (λ a m v. and_left (is_general a) (operand_general m) v) (λ a x. (refl, refl))
-    (λ a x changed f free. accessed L changed (operand_step (Load64ZExt8 a (resolved P.state x))) (λ address r. f) free) rd mem s m.0 g h
-kept P L (Load64SExt8 rd mem) s m g h =
-    load_kept P L is_general general_target general_written defined defined_output defined_passed (λ a x. Load64SExt8 a x) (λ rd mem. load rd None (Some 0xe377) None mem) (λ a m v. and_left (is_general a) (operand_general m) v) (λ a x. (refl, refl))
-    (λ a x changed f free. accessed L changed (operand_step (Load64SExt8 a (resolved P.state x))) (λ address r. f) free) rd mem s m.0 g h
-kept P L (Load64ZExt16 rd mem) s m g h =
-    load_kept P L is_general general_target general_written defined defined_output defined_passed (λ a x. Load64ZExt16 a x) (λ rd mem. load rd None (Some 0xe391) (Some 0xc46) mem) (λ a m v. and_left (is_general a) (operand_general m) v) (λ a x. (refl, refl))
-    (λ a x changed f free. accessed L changed (operand_step (Load64ZExt16 a (resolved P.state x))) (λ address r. f) free) rd mem s m.0 g h
-kept P L (Load64SExt16 rd mem) s m g h =
-    load_kept P L is_general general_target general_written defined defined_output defined_passed (λ a x. Load64SExt16 a x) (λ rd mem. load rd None (Some 0xe315) (Some 0xc44) mem) (λ a m v. and_left (is_general a) (operand_general m) v) (λ a x. (refl, refl))
-    (λ a x changed f free. accessed L changed (operand_step (Load64SExt16 a (resolved P.state x))) (λ address r. f) free) rd mem s m.0 g h
-kept P L (Load64ZExt32 rd mem) s m g h =
-    load_kept P L is_general general_target general_written defined defined_output defined_passed (λ a x. Load64ZExt32 a x) (λ rd mem. load rd None (Some 0xe316) (Some 0xc4e) mem) (λ a m v. and_left (is_general a) (operand_general m) v) (λ a x. (refl, refl))
-    (λ a x changed f free. accessed L changed (operand_step (Load64ZExt32 a (resolved P.state x))) (λ address r. f) free) rd mem s m.0 g h
-kept P L (Load64SExt32 rd mem) s m g h =
-    load_kept P L is_general general_target general_written defined defined_output defined_passed (λ a x. Load64SExt32 a x) (λ rd mem. load rd None (Some 0xe314) (Some 0xc4c) mem) (λ a m v. and_left (is_general a) (operand_general m) v) (λ a x. (refl, refl))
-    (λ a x changed f free. accessed L changed (operand_step (Load64SExt32 a (resolved P.state x))) (λ address r. f) free) rd mem s m.0 g h
-kept P L (LoadRev16 rd mem) s m g h =
-    load_kept P L is_general general_target general_written defined defined_output defined_passed (λ a x. LoadRev16 a x) (λ rd mem. load rd None (Some 0xe31f) None mem) (λ a m v. and_left (is_general a) (operand_general m) v) (λ a x. (refl, refl))
-    (λ a x changed f free. accessed L changed (operand_step (LoadRev16 a (resolved P.state x))) (λ address r. f) free) rd mem s m.0 g h
-kept P L (LoadRev32 rd mem) s m g h =
-    load_kept P L is_general general_target general_written defined defined_output defined_passed (λ a x. LoadRev32 a x) (λ rd mem. load rd None (Some 0xe31e) None mem) (λ a m v. and_left (is_general a) (operand_general m) v) (λ a x. (refl, refl))
-    (λ a x changed f free. accessed L changed (operand_step (LoadRev32 a (resolved P.state x))) (λ address r. f) free) rd mem s m.0 g h
-kept P L (LoadRev64 rd mem) s m g h =
-    load_kept P L is_general general_target general_written defined defined_output defined_passed (λ a x. LoadRev64 a x) (λ rd mem. load rd None (Some 0xe30f) None mem) (λ a m v. and_left (is_general a) (operand_general m) v) (λ a x. (refl, refl))
-    (λ a x changed f free. accessed L changed (operand_step (LoadRev64 a (resolved P.state x))) (λ address r. f) free) rd mem s m.0 g h
 kept P L (Store8 rd mem) s m g h = store_kept P L (λ a x. Store8 a x) (λ a x changed f free. accessed L changed (operand_step (Store8 a (resolved P.state x))) (λ address r. f) free) rd mem s g
 kept P L (Store16 rd mem) s m g h = store_kept P L (λ a x. Store16 a x) (λ a x changed f free. accessed L changed (operand_step (Store16 a (resolved P.state x))) (λ address r. f) free) rd mem s g
 kept P L (Store32 rd mem) s m g h = store_kept P L (λ a x. Store32 a x) (λ a x changed f free. accessed L changed (operand_step (Store32 a (resolved P.state x))) (λ address r. f) free) rd mem s g
@@ -423,4 +396,9 @@ kept P L (Vector (VecLoadLaneRevUndef size rd mem lane)) s m g h =
     (λ a x v. vector_valid (is_vector a) x (vector_memory (VecLoadLaneRevUndef size a x lane)) (lane_accessed (is_vector a) (λ c. load_reversed_opcode c) (number_of a) (reversed_code size) size lane x) v) (λ a x. (refl, refl))
     (λ a x changed f free. accessed L changed (operand_step (Vector (VecLoadLaneRevUndef size a (resolved P.state x) lane))) (λ address r. f) free) rd mem s m.0 g h
 kept P L (Vector (VecStoreLaneRev size rd mem lane)) s m g h = store_kept P L (λ a x. Vector (VecStoreLaneRev size a x lane)) (λ a x changed f free. accessed L changed (operand_step (Vector (VecStoreLaneRev size a (resolved P.state x) lane))) (λ address r. f) free) rd mem s g
-kept P L i s m g h = absurd m
+kept P L (Loop' mask body all) s m g h = absurd m
+kept P L (Call link info) s m g h = absurd m
+kept P L (ReturnCall info) s m g h = absurd m
+kept P L (Ret link) s m g h = absurd m
+kept P L (AllocateArgs size) s m g h = absurd m
+kept P L i s m g h = let l : Load = the_load (as_load i) refl in kept_load P L l.op l.rd l.mem s m g h

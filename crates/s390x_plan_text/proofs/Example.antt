@@ -22,6 +22,7 @@ use Rattle.s390x_plan_text.specs.Lines.{Closing, line_text}
 use Rattle.s390x_plan_text.specs.Text.{IsPlanned, SamePlanned, blocks_lines as plan_blocks_lines, plan_lines, text_of_planned}
 use Rattle.s390x_plan_text.specs.declared.planned_job.PlannedJob.{PlannedJob}
 use Rattle.s390x_plan_text.proofs.Parts.{one_planned}
+use Rattle.s390x_words.specs.Operators.{convention_text}
 
 -- a vector of these
 vec : {X : Type 0} (items : List X) → length items < 2 ^ 63 → Vec X Global
@@ -54,6 +55,7 @@ plan = record {
 
 -- no line says what is said without one
 frame_untold : frame_lines SystemV plain_layout ≡ []
+unfolding convention_text
 frame_untold = rw (decimal_digit 0 (omega arith)) refl
 
 empty_lines : job_lines empty_job ≡ end_line ∷ []

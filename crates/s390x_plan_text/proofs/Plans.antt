@@ -5,12 +5,12 @@ use Rattle.s390x_alloc.specs.declared.plan.BlockPlan.{BlockPlan}
 use Rattle.s390x_alloc.specs.declared.plan.Edit.{Edit}
 use Rattle.s390x_alloc.specs.declared.plan.Edit.TheVariants.{Move, Step}
 use Rattle.s390x_alloc.specs.declared.plan.EntryPair.{EntryPair}
-use Rattle.s390x_plan_text.specs.Errors.{FitsPlan, Follows, IsPlanStuckAt, IsRead, draft_lines, draft_stage, line_value}
+use Rattle.s390x_plan_text.specs.Errors.{FitsPlan, Follows, IsPlanStuckAt, IsRead, told_lines, stage_of, line_value}
 use Rattle.s390x_plan_text.specs.Lines.{Closing, Heading, IsLine, Opening, PlanLine, line_of, line_text}
 use Rattle.s390x_plan_text.specs.Order.{Stage, AtStart, Ahead, InEntry, InEdits, AtEnd, next, run}
 use Rattle.s390x_plan_text.specs.Text.{AllLines, block_lines, blocks_lines, edit_line, pair_line, plan_lines}
-use Rattle.s390x_plan_text.specs.declared.draft.Draft.{Draft}
-use Rattle.s390x_plan_text.specs.declared.draft.Draft.TheVariants.{Start, Between, Entering, Editing, Done}
+use Rattle.s390x_plan_text.specs.declared.progress.Progress.{Progress}
+use Rattle.s390x_plan_text.specs.declared.progress.Progress.TheVariants.{Start, Between, Entering, Editing, Done}
 use Rattle.s390x_plan_text.specs.declared.line.Line.{Line}
 use Rattle.s390x_plan_text.proofs.Spelling.{all_append, lines_round_trip}
 
@@ -85,20 +85,20 @@ blocks_append (a ∷ bs) b =
 pub more_blocks : (bs cs : List BlockPlan) (b : BlockPlan) (l : PlanLine) → cs ≡ bs ++ b ∷ [] → Heading ∷ (blocks_lines cs ++ l ∷ []) ≡ Heading ∷ ((blocks_lines bs ++ block_lines b.entry.items b.edits.items) ++ l ∷ [])
 more_blocks bs cs b l e = ap (λ t. Heading ∷ (t ++ l ∷ [])) (ap blocks_lines e ∙ blocks_append bs b)
 
--- ---- lines that were read, one for each of a draft
+-- ---- lines that were read, those of a progress
 
-pub record Told (front : List (List ℕ)) (d : Draft) : Type 0 where
-  pub all : AllLines (draft_lines d)
-  pub text : map line_text (draft_lines d) ≡ front
-  pub stage : run (Some AtStart) (draft_lines d) ≡ Some (draft_stage d)
+pub record Told (front : List (List ℕ)) (d : Progress) : Type 0 where
+  pub all : AllLines (told_lines d)
+  pub text : map line_text (told_lines d) ≡ front
+  pub stage : run (Some AtStart) (told_lines d) ≡ Some (stage_of d)
 
-pub told_more : (front : List (List ℕ)) (d e : Draft) (w : List ℕ) (l : Line) → Told front d → IsRead w (Some l) → Follows d l (Some e) → Told (front ++ w ∷ []) e
+pub told_more : (front : List (List ℕ)) (d e : Progress) (w : List ℕ) (l : Line) → Told front d → IsRead w (Some l) → Follows d l (Some e) → Told (front ++ w ∷ []) e
 told_more front d e w l t read f =
     let one = line_value l ∷ [] in
     record {
-      all = subst AllLines (sym f.1) (all_append (draft_lines d) one t.all (read.0, tt));
-      text = ap (map line_text) f.1 ∙ map-append line_text (draft_lines d) one ∙ ap (λ ws. ws ++ line_text (line_value l) ∷ []) t.text ∙ ap (λ v. front ++ v ∷ []) read.1;
-      stage = ap (run (Some AtStart)) f.1 ∙ run_append (Some AtStart) (draft_lines d) one ∙ ap (λ o. run o one) t.stage ∙ ap (λ o. run o []) f.0;
+      all = subst AllLines (sym f.1) (all_append (told_lines d) one t.all (read.0, tt));
+      text = ap (map line_text) f.1 ∙ map-append line_text (told_lines d) one ∙ ap (λ ws. ws ++ line_text (line_value l) ∷ []) t.text ∙ ap (λ v. front ++ v ∷ []) read.1;
+      stage = ap (run (Some AtStart)) f.1 ∙ run_append (Some AtStart) (told_lines d) one ∙ ap (λ o. run o one) t.stage ∙ ap (λ o. run o []) f.0;
     }
 
 -- ---- where no plan goes on
@@ -114,11 +114,11 @@ pub no_line : (front : List (List ℕ)) (w : List ℕ) → IsRead w None → (mo
 no_line front w none more f = let l = some_line (plan_lines f.0) front w more f.1 f.2 in none l.0 l.1 l.2
 
 -- behind lines that were read, a plan's lines go on as its order allows
-told_run : (front more : List (List ℕ)) (d : Draft) → Told front d → FitsPlan (front ++ more) → run (Some (draft_stage d)) (map line_of more) ≡ Some AtEnd
+told_run : (front more : List (List ℕ)) (d : Progress) → Told front d → FitsPlan (front ++ more) → run (Some (stage_of d)) (map line_of more) ≡ Some AtEnd
 told_run front more d t f =
-    let lines : plan_lines f.0 ≡ draft_lines d ++ map line_of more =
-    sym (lines_round_trip (plan_lines f.0) f.1) ∙ ap (map line_of) f.2 ∙ map-append line_of front more ∙ ap (λ ls. ls ++ map line_of more) (ap (map line_of) (sym t.text) ∙ lines_round_trip (draft_lines d) t.all) in
-    ap (λ o. run o (map line_of more)) (sym t.stage) ∙ sym (run_append (Some AtStart) (draft_lines d) (map line_of more)) ∙ ap (run (Some AtStart)) (sym lines) ∙ plan_run f.0
+    let lines : plan_lines f.0 ≡ told_lines d ++ map line_of more =
+    sym (lines_round_trip (plan_lines f.0) f.1) ∙ ap (map line_of) f.2 ∙ map-append line_of front more ∙ ap (λ ls. ls ++ map line_of more) (ap (map line_of) (sym t.text) ∙ lines_round_trip (told_lines d) t.all) in
+    ap (λ o. run o (map line_of more)) (sym t.stage) ∙ sym (run_append (Some AtStart) (told_lines d) (map line_of more)) ∙ ap (run (Some AtStart)) (sym lines) ∙ plan_run f.0
 
 read_value : (w : List ℕ) (l : Line) → IsRead w (Some l) → line_of w ≡ line_value l
 read_value w l h = let r = lines_round_trip (line_value l ∷ []) (h.0, tt) in ap line_of (sym h.1) ∙ first_of r
@@ -126,9 +126,9 @@ read_value w l h = let r = lines_round_trip (line_value l ∷ []) (h.0, tt) in a
     first_of : {a b : PlanLine} → a ∷ [] ≡ b ∷ [] → a ≡ b
     first_of e = cc
 
-pub no_place : (front : List (List ℕ)) (d : Draft) (w : List ℕ) (l : Line) → Told front d → IsRead w (Some l) → Follows d l None → (more : List (List ℕ)) → FitsPlan (front ++ w ∷ more) → ⊥
+pub no_place : (front : List (List ℕ)) (d : Progress) (w : List ℕ) (l : Line) → Told front d → IsRead w (Some l) → Follows d l None → (more : List (List ℕ)) → FitsPlan (front ++ w ∷ more) → ⊥
 no_place front d w l t read none more f =
-    let e : run None (map line_of more) ≡ Some AtEnd = ap (λ o. run o (map line_of more)) (sym none) ∙ ap (λ k. run (next (draft_stage d) k) (map line_of more)) (sym (read_value w l read)) ∙ told_run front (w ∷ more) d t f in
+    let e : run None (map line_of more) ≡ Some AtEnd = ap (λ o. run o (map line_of more)) (sym none) ∙ ap (λ k. run (next (stage_of d) k) (map line_of more)) (sym (read_value w l read)) ∙ told_run front (w ∷ more) d t f in
     absurd cc
 
 -- the first m lines, where one more than those in front is among them
@@ -151,11 +151,11 @@ stuck_line front w back never =
     }
 
 -- no line is left, and the plan isn't whole
-stuck_behind : (ws : List (List ℕ)) (d : Draft) → Told ws d → (draft_stage d ≡ AtEnd → ⊥) → IsPlanStuckAt ws (length ws)
+stuck_behind : (ws : List (List ℕ)) (d : Progress) → Told ws d → (stage_of d ≡ AtEnd → ⊥) → IsPlanStuckAt ws (length ws)
 stuck_behind ws d t unfinished =
     record {
       small = omega arith;
-      none = λ f. unfinished (last (draft_stage d) (told_run ws [] d t (subst FitsPlan (sym (nothing ws)) f)));
+      none = λ f. unfinished (last (stage_of d) (told_run ws [] d t (subst FitsPlan (sym (nothing ws)) f)));
       above = λ m more h q f. absurd (omega (arith, h, q));
     }
   where
@@ -201,23 +201,23 @@ stuck_at s n d h never =
 pub unread_at : (s : List (Bor (List ℕ))) (n : ℕ) (w : Bor (List ℕ)) → n < length s → IsRead (get_or s n w).now None → IsPlanStuckAt (texts s) n
 unread_at s n w h none = stuck_at s n w h (no_line (texts (take n s)) (get_or s n w).now none)
 
-pub misplaced_at : (s : List (Bor (List ℕ))) (n : ℕ) (w : Bor (List ℕ)) (d : Draft) (l : Line) → n < length s → Told (texts (take n s)) d → IsRead (get_or s n w).now (Some l) → Follows d l None → IsPlanStuckAt (texts s) n
+pub misplaced_at : (s : List (Bor (List ℕ))) (n : ℕ) (w : Bor (List ℕ)) (d : Progress) (l : Line) → n < length s → Told (texts (take n s)) d → IsRead (get_or s n w).now (Some l) → Follows d l None → IsPlanStuckAt (texts s) n
 misplaced_at s n w d l h t read none = stuck_at s n w h (no_place (texts (take n s)) d (get_or s n w).now l t read none)
 
-pub told_at : (s : List (Bor (List ℕ))) (n : ℕ) (w : Bor (List ℕ)) (d e : Draft) (l : Line) → n < length s → Told (texts (take n s)) d → IsRead (get_or s n w).now (Some l) → Follows d l (Some e) → Told (texts (take (n + 1) s)) e
+pub told_at : (s : List (Bor (List ℕ))) (n : ℕ) (w : Bor (List ℕ)) (d e : Progress) (l : Line) → n < length s → Told (texts (take n s)) d → IsRead (get_or s n w).now (Some l) → Follows d l (Some e) → Told (texts (take (n + 1) s)) e
 told_at s n w d e l h t read follows =
     let next_is : suc n ≡ n + 1 = omega arith in
     let one : texts (take n s) ++ (get_or s n w).now ∷ [] ≡ texts (take (n + 1) s) = sym (texts_more s n w h) ∙ ap (λ k. texts (take k s)) next_is in
     subst (λ ws. Told ws e) one (told_more (texts (take n s)) d e (get_or s n w).now l t read follows)
 
-not_end : (d : Draft) → ((blocks : Vec BlockPlan Global) → d ≡ Done blocks → ⊥) → draft_stage d ≡ AtEnd → ⊥
+not_end : (d : Progress) → ((blocks : Vec BlockPlan Global) → d ≡ Done blocks → ⊥) → stage_of d ≡ AtEnd → ⊥
 not_end Start h e = absurd cc
 not_end Between h e = absurd cc
 not_end (Entering blocks entry) h e = absurd cc
 not_end (Editing blocks entry edits) h e = absurd cc
 not_end (Done blocks) h e = h blocks refl
 
-pub unfinished_at : (s : List (Bor (List ℕ))) (n : ℕ) (d : Draft) → length s ≤ n → Told (texts (take n s)) d → ((blocks : Vec BlockPlan Global) → d ≡ Done blocks → ⊥) → IsPlanStuckAt (texts s) (length s)
+pub unfinished_at : (s : List (Bor (List ℕ))) (n : ℕ) (d : Progress) → length s ≤ n → Told (texts (take n s)) d → ((blocks : Vec BlockPlan Global) → d ≡ Done blocks → ⊥) → IsPlanStuckAt (texts s) (length s)
 unfinished_at s n d h t open_yet =
     let told = subst (λ v. Told (texts v) d) (texts_all s n h) t in
     subst (IsPlanStuckAt (texts s)) (length-map s (λ (w : Bor (List ℕ)). w.now)) (stuck_behind (texts s) d told (not_end d open_yet))

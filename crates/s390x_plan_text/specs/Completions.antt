@@ -1,7 +1,7 @@
 -- The line that a syntax error names, by completions.
-use Rattle.std.specs.Prelude.{◌≡◌, ℕ, ◌+◌, ◌-◌, ◌<◌, ◌≤◌, ◌⊎◌, Bool, true, false, List, [], ◌∷◌, ◌++◌, take, length, codes, if◌then◌else◌}
+use Rattle.std.specs.Prelude.{◌≡◌, ℕ, ◌-◌, Bool, true, false, List, [], ◌∷◌, ◌++◌, codes, if◌then◌else◌}
 use Rattle.std.specs.Str.{bytes_eq}
-use Rattle.s390x_job.specs.Completions.{closes, closing, joined, opens}
+use Rattle.s390x_job.specs.Completions.{IsFirstWrongLine, closes, closing, joined, opens}
 use Rattle.s390x_plan_text.specs.Text.{IsPlanned, text_of_planned}
 use Rattle.s390x_plan_text.specs.declared.planned_job.PlannedJob.{PlannedJob}
 
@@ -26,10 +26,6 @@ plan_completion ws = joined ws ++ (job_ending ws ++ (line_ending (codes "plan") 
 abbrev pub IsPlannedText : List ℕ → Type 0
 IsPlannedText s = (p : PlannedJob) × IsPlanned p × (text_of_planned p ≡ s)
 
--- the number of the line: 1 plus the greatest k that is 0 or whose completion is a text
-pub record IsFirstWrongOfPlanned (ws : List (List ℕ)) (n : ℕ) : Type 0 where
-  pub k : ℕ
-  pub is : n ≡ k + 1
-  pub small : k ≤ length ws
-  pub here : (k ≡ 0) ⊎ IsPlannedText (plan_completion (take k ws))
-  pub above : (m : ℕ) → k < m → m ≤ length ws → IsPlannedText (plan_completion (take m ws)) → ⊥
+-- the first line of a planned job's text that is wrong
+abbrev pub IsFirstWrongOfPlanned : List (List ℕ) → ℕ → Type 0
+IsFirstWrongOfPlanned ws n = IsFirstWrongLine (λ vs. IsPlannedText (plan_completion vs)) ws n

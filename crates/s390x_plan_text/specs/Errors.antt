@@ -5,8 +5,8 @@ use Rattle.s390x_alloc.specs.declared.plan.BlockPlan.{BlockPlan}
 use Rattle.s390x_plan_text.specs.Completions.{IsFirstWrongOfPlanned, IsPlannedText, plan_completion}
 use Rattle.s390x_plan_text.specs.Lines.{Closing, Heading, IsLine, Opening, PlanLine, line_text}
 use Rattle.s390x_plan_text.specs.Text.{AllLines, IsPlannedOf, blocks_lines, block_lines, edit_line, pair_line, plan_lines}
-use Rattle.s390x_plan_text.specs.declared.draft.Draft.{Draft}
-use Rattle.s390x_plan_text.specs.declared.draft.Draft.TheVariants.{Start, Between, Entering, Editing, Done}
+use Rattle.s390x_plan_text.specs.declared.progress.Progress.{Progress}
+use Rattle.s390x_plan_text.specs.declared.progress.Progress.TheVariants.{Start, Between, Entering, Editing, Done}
 use Rattle.s390x_plan_text.specs.declared.error.PlanTextError.{PlanTextError}
 use Rattle.s390x_plan_text.specs.declared.error.PlanTextError.TheVariants.{Syntax, NoMemory}
 use Rattle.s390x_plan_text.specs.declared.find.Found.{Found}
@@ -31,25 +31,25 @@ IsRead w None = (l : PlanLine) → IsLine l → line_text l ≡ w → ⊥
 IsRead w (Some l) = IsLine (line_value l) × (line_text (line_value l) ≡ w)
 
 -- the lines that a plan has had so far
-abbrev pub draft_lines : Draft → List PlanLine
-draft_lines Start = []
-draft_lines Between = Heading ∷ []
-draft_lines (Entering blocks entry) = Heading ∷ (blocks_lines blocks.items ++ block_lines entry.items [])
-draft_lines (Editing blocks entry edits) = Heading ∷ (blocks_lines blocks.items ++ block_lines entry.items edits.items)
-draft_lines (Done blocks) = plan_lines blocks.items
+abbrev pub told_lines : Progress → List PlanLine
+told_lines Start = []
+told_lines Between = Heading ∷ []
+told_lines (Entering blocks entry) = Heading ∷ (blocks_lines blocks.items ++ block_lines entry.items [])
+told_lines (Editing blocks entry edits) = Heading ∷ (blocks_lines blocks.items ++ block_lines entry.items edits.items)
+told_lines (Done blocks) = plan_lines blocks.items
 
 -- where they are in the order of a plan's lines
-abbrev pub draft_stage : Draft → Stage
-draft_stage Start = AtStart
-draft_stage Between = Ahead
-draft_stage (Entering blocks entry) = InEntry
-draft_stage (Editing blocks entry edits) = InEdits
-draft_stage (Done blocks) = AtEnd
+abbrev pub stage_of : Progress → Stage
+stage_of Start = AtStart
+stage_of Between = Ahead
+stage_of (Entering blocks entry) = InEntry
+stage_of (Editing blocks entry edits) = InEdits
+stage_of (Done blocks) = AtEnd
 
 -- what is told after one more line; none where the line may not stand there
-abbrev pub Follows : Draft → Line → Option Draft → Type 0
-Follows d l None = next (draft_stage d) (line_value l) ≡ None
-Follows d l (Some e) = (next (draft_stage d) (line_value l) ≡ Some (draft_stage e)) × (draft_lines e ≡ draft_lines d ++ line_value l ∷ [])
+abbrev pub Follows : Progress → Line → Option Progress → Type 0
+Follows d l None = next (stage_of d) (line_value l) ≡ None
+Follows d l (Some e) = (next (stage_of d) (line_value l) ≡ Some (stage_of e)) × (told_lines e ≡ told_lines d ++ line_value l ∷ [])
 
 -- the lines are those of a plan
 abbrev pub FitsPlan : List (List ℕ) → Type 0

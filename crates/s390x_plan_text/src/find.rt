@@ -6,11 +6,12 @@ ghost use Rattle.s390x_job.specs.Jobs.{IsJob, text_of_job};
 ghost use Rattle.s390x_plan_text.specs.Errors.{IsFound, IsPlanFound};
 
 use crate::complete::join;
-use crate::draft::{Draft, follow};
 use crate::line::read_line;
 use crate::planned_job::PlannedJob;
+use crate::progress::{Progress, follow};
 use s390x_alloc::Plan;
-use s390x_bundle_text::cut::{count_lines, job_size, split_lines};
+use s390x_bundle_text::cut::{count_lines, job_size};
+use s390x_job::completing::split_lines;
 use s390x_job::{Job, LineError, read_lines};
 use std::alloc::{AllocError, Global};
 
@@ -41,31 +42,31 @@ fn read_job(alloc: Global, part: &[u8]) -> Result<Result<Job, u32>, AllocError>
 }
 
 /// The plan whose lines these are. Where there is none, a number of them: no plan begins with more.
-pub fn find_plan(alloc: Global, words: &[&[u8]]) -> Result<PlanFound, AllocError>
-    ensures { IfOk result (IsPlanFound (map (λ w. w.now) words.now)) }
+pub fn find_plan(alloc: Global, lines: &[&[u8]]) -> Result<PlanFound, AllocError>
+    ensures { IfOk result (IsPlanFound (map (λ w. w.now) lines.now)) }
 {
-    let mut draft = Draft::Start;
+    let mut progress = Progress::Start;
     let mut text = String::new(alloc);
-    for (n, word) in words.iter().enumerate() {
-        let Some(line) = read_line(alloc, &mut text, word)? else {
+    for (n, bytes) in lines.iter().enumerate() {
+        let Some(line) = read_line(alloc, &mut text, bytes)? else {
             return Ok(PlanFound::Stuck(n));
         };
-        match follow(alloc, draft, line)? {
+        match follow(alloc, progress, line)? {
             None => return Ok(PlanFound::Stuck(n)),
-            Some(more) => draft = more,
+            Some(more) => progress = more,
         }
     }
-    match draft {
-        Draft::Done(blocks) => Ok(PlanFound::Whole(Plan { blocks })),
-        _ => Ok(PlanFound::Stuck(words.len())),
+    match progress {
+        Progress::Done(blocks) => Ok(PlanFound::Whole(Plan { blocks })),
+        _ => Ok(PlanFound::Stuck(lines.len())),
     }
 }
 
 // Whether the text ends with its last line.
-fn is_all(alloc: Global, words: &[&[u8]], bytes: &[u8]) -> Result<bool, AllocError>
-    ensures { IfOk result (λ b. Decides b (joined (map (λ w. w.now) words.now) ≡ bytes.now)) }
+fn is_all(alloc: Global, lines: &[&[u8]], bytes: &[u8]) -> Result<bool, AllocError>
+    ensures { IfOk result (λ b. Decides b (joined (map (λ w. w.now) lines.now) ≡ bytes.now)) }
 {
-    let text = join(alloc, words)?;
+    let text = join(alloc, lines)?;
     Ok(text.as_slice() == bytes)
 }
 
@@ -81,14 +82,14 @@ pub fn find_planned(alloc: Global, bytes: &[u8]) -> Result<Found, AllocError>
     };
     let before = count_lines(&bytes[..size]);
     let rest = &bytes[size..];
-    let words = split_lines(alloc, rest)?;
-    match find_plan(alloc, &words)? {
+    let lines = split_lines(alloc, rest)?;
+    match find_plan(alloc, &lines)? {
         PlanFound::Stuck(n) => Ok(Found::Stuck(before + n)),
         PlanFound::Whole(plan) => {
-            if is_all(alloc, &words, rest)? {
+            if is_all(alloc, &lines, rest)? {
                 Ok(Found::Whole(PlannedJob { job, plan }))
             } else {
-                Ok(Found::Stuck(before + words.len()))
+                Ok(Found::Stuck(before + lines.len()))
             }
         }
     }

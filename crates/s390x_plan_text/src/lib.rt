@@ -2,12 +2,12 @@
 #![tactic(auto)]
 
 pub mod complete;
-pub mod draft;
 pub mod error;
 pub mod find;
 pub mod law;
 pub mod line;
 pub mod planned_job;
+pub mod progress;
 pub mod reader;
 
 pub use error::PlanTextError;

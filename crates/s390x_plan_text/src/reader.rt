@@ -1,7 +1,6 @@
 //! The exact reader of a planned job's text.
-ghost use Rattle.std.specs.Prelude.{◌≡◌, ℕ, ◌<◌, ◌≤◌, IfErr, IfOk, Decides, MatchResult, length, map, take};
-ghost use Rattle.s390x_job.specs.Completions.{joined};
-ghost use Rattle.s390x_plan_text.specs.Completions.{IsFirstWrongOfPlanned, IsPlannedText, plan_completion};
+ghost use Rattle.std.specs.Prelude.{◌<◌, IfErr, IfOk, Decides, MatchResult, length};
+ghost use Rattle.s390x_plan_text.specs.Completions.{IsPlannedText, plan_completion};
 ghost use Rattle.s390x_plan_text.specs.Errors.{HasNoPlan};
 ghost use Rattle.s390x_plan_text.specs.Text.{IsPlannedOf};
 
@@ -9,7 +8,7 @@ use crate::complete::complete;
 use crate::error::PlanTextError;
 use crate::find::{Found, find_planned};
 use crate::planned_job::PlannedJob;
-use s390x_bundle_text::cut::split_lines;
+use s390x_job::completing::{Completes, first_wrong, split_lines};
 use std::alloc::{AllocError, Global};
 
 // Whether this is the text of a planned job.
@@ -23,22 +22,19 @@ fn is_text(alloc: Global, bytes: &[u8]) -> Result<bool, AllocError>
     }
 }
 
-// The number of the line, where no completion of more than `top` lines is a text.
-fn line_number(alloc: Global, ws: &[&[u8]], top: usize) -> Result<usize, AllocError>
-    requires small { top ≤ length ws.now }
-    requires short { length (joined (map (λ w. w.now) ws.now)) < 268435456 }
-    requires above { (m : ℕ) → top < m → m ≤ length ws.now → IsPlannedText (plan_completion (take m (map (λ w. w.now) ws.now))) → ⊥ }
-    ensures { IfOk result (λ n. IsFirstWrongOfPlanned (map (λ w. w.now) ws.now) n) }
-{
-    let mut k = top;
-    while k > 0 {
-        let text = complete(alloc, &ws[..k])?;
-        if is_text(alloc, &text)? {
-            return Ok(k + 1);
-        }
-        k -= 1;
+/// The text of a planned job.
+struct PlannedText;
+
+impl Completes for PlannedText {
+    ghost limit = { 268435456 };
+
+    ghost CanBeCompleted = { λ ws. IsPlannedText (plan_completion ws) };
+
+    fn can_be_completed(alloc: Global, ws: &[&[u8]]) -> Result<bool, AllocError> {
+        let text = complete(alloc, ws)?;
+        let fits = is_text(alloc, &text)?;
+        Ok(fits)
     }
-    Ok(1)
 }
 
 fn read_inner(alloc: Global, bytes: &[u8]) -> Result<Result<PlannedJob, PlanTextError>, AllocError>
@@ -49,7 +45,7 @@ fn read_inner(alloc: Global, bytes: &[u8]) -> Result<Result<PlannedJob, PlanText
         Found::Whole(planned) => Ok(Ok(planned)),
         Found::Stuck(top) => {
             let ws = split_lines(alloc, bytes)?;
-            let line = line_number(alloc, &ws, top)?;
+            let line = first_wrong::<PlannedText>(alloc, &ws, top)?;
             Ok(Err(PlanTextError::Syntax { line: line as u32 }))
         }
     }

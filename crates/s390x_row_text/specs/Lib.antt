@@ -7,3 +7,4 @@ pub mod Storage
 pub mod Control
 pub mod Vector
 pub mod Simple
+pub mod Tables

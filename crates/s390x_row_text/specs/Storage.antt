@@ -7,8 +7,10 @@ use Rattle.s390x_base.specs.declared.regs.Reg.{Reg}
 use Rattle.s390x_inst.specs.Emission.{Emission}
 use Rattle.s390x_inst.specs.declared.args.MemArg.{MemArg}
 use Rattle.s390x_inst.specs.declared.args.MemArg.TheVariants.{BXD12, BXD20, Label, Constant, Symbol, RegOffset, InitialSPOffset, IncomingArgOffset, OutgoingArgOffset, SlotOffset, SpillOffset}
+use Rattle.s390x_inst.specs.declared.load.LoadOp.{LoadOp}
+use Rattle.s390x_inst.specs.Loads.{as_load, by_load}
 use Rattle.s390x_inst.specs.declared.inst.Inst.{Inst}
-use Rattle.s390x_inst.specs.declared.inst.Inst.TheVariants.{Mov64SImm32, AluRX, CmpRX, Load32, Load32ZExt8, Load32SExt8, Load32ZExt16, Load32SExt16, Load64, Load64ZExt8, Load64SExt8, Load64ZExt16, Load64SExt16, Load64ZExt32, Load64SExt32, LoadRev16, LoadRev32, LoadRev64, Store8, Store16, Store32}
+use Rattle.s390x_inst.specs.declared.inst.Inst.TheVariants.{Mov64SImm32, AluRX, CmpRX, Store8, Store16, Store32}
 use Rattle.s390x_inst.specs.declared.inst.Inst.TheVariants.{Store64, StoreRev16, StoreRev32, StoreRev64, StoreImm8, StoreImm16, StoreImm32SExt16, StoreImm64SExt16, LoadMultiple64, StoreMultiple64, LoadAddr, AtomicRmw, AtomicCas32, AtomicCas64}
 use Rattle.s390x_typed_steps.specs.Operands.{Finalized, finalized, resolved}
 use Rattle.s390x_typed_steps.specs.Causes.{operand_cause}
@@ -16,7 +18,7 @@ use Rattle.s390x_typed_steps.specs.declared.mem_inst_type.MemInstType.{MemInstTy
 use Rattle.s390x_words.specs.Atoms.{reg_text}
 use Rattle.s390x_row_text.specs.Texts.{Text, spelled}
 use Rattle.s390x_row_text.specs.Operands.{is_zero, label_text, name_text, reused_text}
-use Rattle.s390x_row_text.specs.Mnemonics.{alu_short_name, alu_long_name, atomic_name, cmp_short_name, cmp_long_name, cmp_relative_name}
+use Rattle.s390x_row_text.specs.Mnemonics.{alu_short_name, alu_long_name, atomic_name, cmp_short_name, cmp_long_name, cmp_relative_name, load_short_name, load_long_name, load_relative_name}
 use Rattle.s390x_row_text.specs.declared.error.TextError.{TextError}
 use Rattle.s390x_row_text.specs.declared.error.TextError.TheVariants.{NoRow, Virtual, Address}
 use Rattle.s390x_row_text.specs.declared.storage.Rows.{Rows as DeclaredRows}
@@ -137,24 +139,13 @@ access r e before m after = access_where true r e before m after
 
 -- ---- instructions
 
+-- the mnemonics of a load
+abbrev pub load_mnemonics : LoadOp → Rows
+load_mnemonics op = rx (load_short_name op) (load_long_name op) (load_relative_name op)
+
 -- loads, on a machine that has rows relative to the instruction or lacks them
 abbrev pub load_text : (has_relative : Bool) → Emission → Inst → Option Text
-load_text has e (Load32 rd mem) = Some (access_where has (rx (Some (codes "l")) (Some (codes "ly")) (Some (codes "lrl"))) e (reg_text rd ∷ []) mem [])
-load_text has e (Load32ZExt8 rd mem) = Some (access_where has (rx None (Some (codes "llc")) None) e (reg_text rd ∷ []) mem [])
-load_text has e (Load32SExt8 rd mem) = Some (access_where has (rx None (Some (codes "lb")) None) e (reg_text rd ∷ []) mem [])
-load_text has e (Load32ZExt16 rd mem) = Some (access_where has (rx None (Some (codes "llh")) (Some (codes "llhrl"))) e (reg_text rd ∷ []) mem [])
-load_text has e (Load32SExt16 rd mem) = Some (access_where has (rx (Some (codes "lh")) (Some (codes "lhy")) (Some (codes "lhrl"))) e (reg_text rd ∷ []) mem [])
-load_text has e (Load64 rd mem) = Some (access_where has (rx None (Some (codes "lg")) (Some (codes "lgrl"))) e (reg_text rd ∷ []) mem [])
-load_text has e (Load64ZExt8 rd mem) = Some (access_where has (rx None (Some (codes "llgc")) None) e (reg_text rd ∷ []) mem [])
-load_text has e (Load64SExt8 rd mem) = Some (access_where has (rx None (Some (codes "lgb")) None) e (reg_text rd ∷ []) mem [])
-load_text has e (Load64ZExt16 rd mem) = Some (access_where has (rx None (Some (codes "llgh")) (Some (codes "llghrl"))) e (reg_text rd ∷ []) mem [])
-load_text has e (Load64SExt16 rd mem) = Some (access_where has (rx None (Some (codes "lgh")) (Some (codes "lghrl"))) e (reg_text rd ∷ []) mem [])
-load_text has e (Load64ZExt32 rd mem) = Some (access_where has (rx None (Some (codes "llgf")) (Some (codes "llgfrl"))) e (reg_text rd ∷ []) mem [])
-load_text has e (Load64SExt32 rd mem) = Some (access_where has (rx None (Some (codes "lgf")) (Some (codes "lgfrl"))) e (reg_text rd ∷ []) mem [])
-load_text has e (LoadRev16 rd mem) = Some (access_where has (rx None (Some (codes "lrvh")) None) e (reg_text rd ∷ []) mem [])
-load_text has e (LoadRev32 rd mem) = Some (access_where has (rx None (Some (codes "lrv")) None) e (reg_text rd ∷ []) mem [])
-load_text has e (LoadRev64 rd mem) = Some (access_where has (rx None (Some (codes "lrvg")) None) e (reg_text rd ∷ []) mem [])
-load_text has e _ = None
+load_text has e i = by_load (λ l. Some (access_where has (load_mnemonics l.op) e (reg_text l.rd ∷ []) l.mem [])) None (as_load i)
 
 -- stores; those of an immediate show the operand first
 abbrev pub store_text : (has_relative : Bool) → Emission → Inst → Option Text

@@ -1,236 +1,40 @@
 -- The mnemonics of vector operators: their last letter tells the width of a lane, b, h, f, g or q for 8 to 128 bits (the manual, chapters 21 and 22; those of
 -- the newest rows are this project's).
-use Rattle.std.specs.Prelude.{ℕ, List, codes}
+use Rattle.std.specs.Prelude.{ℕ, List}
+use denote.Enum.Declared.{tag_of}
+use Rattle.s390x_words.specs.Found.{rows, name_at}
+use Rattle.s390x_row_text.specs.declared.vector_mnemonics.TheConstants.{VEC_BINARY_MNEMONICS, VEC_UNARY_MNEMONICS, VEC_SHIFT_MNEMONICS, VEC_COMPARE_MNEMONICS, VEC_COMPARE_SET_MNEMONICS, VEC_ELEMENT_COMPARE_MNEMONICS}
 use Rattle.s390x_inst.specs.declared.vec_ops.VecBinaryOp.{VecBinaryOp}
-use Rattle.s390x_inst.specs.declared.vec_ops.VecBinaryOp.TheVariants as VecBinaryOpIs
+use Rattle.s390x_inst.specs.contracts.vec_ops.VecBinaryOp as the_binary
 use Rattle.s390x_inst.specs.declared.vec_ops.VecUnaryOp.{VecUnaryOp}
-use Rattle.s390x_inst.specs.declared.vec_ops.VecUnaryOp.TheVariants as VecUnaryOpIs
+use Rattle.s390x_inst.specs.contracts.vec_ops.VecUnaryOp as the_unary
 use Rattle.s390x_inst.specs.declared.vec_ops.VecShiftOp.{VecShiftOp}
-use Rattle.s390x_inst.specs.declared.vec_ops.VecShiftOp.TheVariants as VecShiftOpIs
+use Rattle.s390x_inst.specs.contracts.vec_ops.VecShiftOp as the_shift
 use Rattle.s390x_inst.specs.declared.vec_ops.VecIntCmpOp.{VecIntCmpOp}
-use Rattle.s390x_inst.specs.declared.vec_ops.VecIntCmpOp.TheVariants as VecIntCmpOpIs
+use Rattle.s390x_inst.specs.contracts.vec_ops.VecIntCmpOp as the_compare
 use Rattle.s390x_inst.specs.declared.vec_ops.VecIntEltCmpOp.{VecIntEltCmpOp}
-use Rattle.s390x_inst.specs.declared.vec_ops.VecIntEltCmpOp.TheVariants as VecIntEltCmpOpIs
+use Rattle.s390x_inst.specs.contracts.vec_ops.VecIntEltCmpOp as the_element_compare
 
 -- an operator on two vectors
-abbrev pub vec_binary_name : VecBinaryOp → List ℕ
-vec_binary_name VecBinaryOpIs.Add8x16 = codes "vab"
-vec_binary_name VecBinaryOpIs.Add16x8 = codes "vah"
-vec_binary_name VecBinaryOpIs.Add32x4 = codes "vaf"
-vec_binary_name VecBinaryOpIs.Add64x2 = codes "vag"
-vec_binary_name VecBinaryOpIs.Add128 = codes "vaq"
-vec_binary_name VecBinaryOpIs.Sub8x16 = codes "vsb"
-vec_binary_name VecBinaryOpIs.Sub16x8 = codes "vsh"
-vec_binary_name VecBinaryOpIs.Sub32x4 = codes "vsf"
-vec_binary_name VecBinaryOpIs.Sub64x2 = codes "vsg"
-vec_binary_name VecBinaryOpIs.Sub128 = codes "vsq"
-vec_binary_name VecBinaryOpIs.Add128Cout = codes "vaccq"
-vec_binary_name VecBinaryOpIs.Sub128Cout = codes "vscbiq"
-vec_binary_name VecBinaryOpIs.Mul8x16 = codes "vmlb"
-vec_binary_name VecBinaryOpIs.Mul16x8 = codes "vmlhw"
-vec_binary_name VecBinaryOpIs.Mul32x4 = codes "vmlf"
-vec_binary_name VecBinaryOpIs.Mul64x2 = codes "vmlg"
-vec_binary_name VecBinaryOpIs.Mul128 = codes "vmlq"
-vec_binary_name VecBinaryOpIs.UMulHi8x16 = codes "vmlhb"
-vec_binary_name VecBinaryOpIs.UMulHi16x8 = codes "vmlhh"
-vec_binary_name VecBinaryOpIs.UMulHi32x4 = codes "vmlhf"
-vec_binary_name VecBinaryOpIs.UMulHi64x2 = codes "vmlhg"
-vec_binary_name VecBinaryOpIs.UMulHi128 = codes "vmlhq"
-vec_binary_name VecBinaryOpIs.SMulHi8x16 = codes "vmhb"
-vec_binary_name VecBinaryOpIs.SMulHi16x8 = codes "vmhh"
-vec_binary_name VecBinaryOpIs.SMulHi32x4 = codes "vmhf"
-vec_binary_name VecBinaryOpIs.SMulHi64x2 = codes "vmhg"
-vec_binary_name VecBinaryOpIs.SMulHi128 = codes "vmhq"
-vec_binary_name VecBinaryOpIs.UMulEven8x16 = codes "vmleb"
-vec_binary_name VecBinaryOpIs.UMulEven16x8 = codes "vmleh"
-vec_binary_name VecBinaryOpIs.UMulEven32x4 = codes "vmlef"
-vec_binary_name VecBinaryOpIs.UMulEven64x2 = codes "vmleg"
-vec_binary_name VecBinaryOpIs.SMulEven8x16 = codes "vmeb"
-vec_binary_name VecBinaryOpIs.SMulEven16x8 = codes "vmeh"
-vec_binary_name VecBinaryOpIs.SMulEven32x4 = codes "vmef"
-vec_binary_name VecBinaryOpIs.SMulEven64x2 = codes "vmeg"
-vec_binary_name VecBinaryOpIs.UMulOdd8x16 = codes "vmlob"
-vec_binary_name VecBinaryOpIs.UMulOdd16x8 = codes "vmloh"
-vec_binary_name VecBinaryOpIs.UMulOdd32x4 = codes "vmlof"
-vec_binary_name VecBinaryOpIs.UMulOdd64x2 = codes "vmlog"
-vec_binary_name VecBinaryOpIs.SMulOdd8x16 = codes "vmob"
-vec_binary_name VecBinaryOpIs.SMulOdd16x8 = codes "vmoh"
-vec_binary_name VecBinaryOpIs.SMulOdd32x4 = codes "vmof"
-vec_binary_name VecBinaryOpIs.SMulOdd64x2 = codes "vmog"
-vec_binary_name VecBinaryOpIs.UDiv32x4 = codes "vdlf"
-vec_binary_name VecBinaryOpIs.UDiv64x2 = codes "vdlg"
-vec_binary_name VecBinaryOpIs.UDiv128 = codes "vdlq"
-vec_binary_name VecBinaryOpIs.SDiv32x4 = codes "vdf"
-vec_binary_name VecBinaryOpIs.SDiv64x2 = codes "vdg"
-vec_binary_name VecBinaryOpIs.SDiv128 = codes "vdq"
-vec_binary_name VecBinaryOpIs.URem32x4 = codes "vrlf"
-vec_binary_name VecBinaryOpIs.URem64x2 = codes "vrlg"
-vec_binary_name VecBinaryOpIs.URem128 = codes "vrlq"
-vec_binary_name VecBinaryOpIs.SRem32x4 = codes "vrf"
-vec_binary_name VecBinaryOpIs.SRem64x2 = codes "vrg"
-vec_binary_name VecBinaryOpIs.SRem128 = codes "vrq"
-vec_binary_name VecBinaryOpIs.UMax8x16 = codes "vmxlb"
-vec_binary_name VecBinaryOpIs.UMax16x8 = codes "vmxlh"
-vec_binary_name VecBinaryOpIs.UMax32x4 = codes "vmxlf"
-vec_binary_name VecBinaryOpIs.UMax64x2 = codes "vmxlg"
-vec_binary_name VecBinaryOpIs.UMax128 = codes "vmxlq"
-vec_binary_name VecBinaryOpIs.SMax8x16 = codes "vmxb"
-vec_binary_name VecBinaryOpIs.SMax16x8 = codes "vmxh"
-vec_binary_name VecBinaryOpIs.SMax32x4 = codes "vmxf"
-vec_binary_name VecBinaryOpIs.SMax64x2 = codes "vmxg"
-vec_binary_name VecBinaryOpIs.SMax128 = codes "vmxq"
-vec_binary_name VecBinaryOpIs.UMin8x16 = codes "vmnlb"
-vec_binary_name VecBinaryOpIs.UMin16x8 = codes "vmnlh"
-vec_binary_name VecBinaryOpIs.UMin32x4 = codes "vmnlf"
-vec_binary_name VecBinaryOpIs.UMin64x2 = codes "vmnlg"
-vec_binary_name VecBinaryOpIs.UMin128 = codes "vmnlq"
-vec_binary_name VecBinaryOpIs.SMin8x16 = codes "vmnb"
-vec_binary_name VecBinaryOpIs.SMin16x8 = codes "vmnh"
-vec_binary_name VecBinaryOpIs.SMin32x4 = codes "vmnf"
-vec_binary_name VecBinaryOpIs.SMin64x2 = codes "vmng"
-vec_binary_name VecBinaryOpIs.SMin128 = codes "vmnq"
-vec_binary_name VecBinaryOpIs.UAvg8x16 = codes "vavglb"
-vec_binary_name VecBinaryOpIs.UAvg16x8 = codes "vavglh"
-vec_binary_name VecBinaryOpIs.UAvg32x4 = codes "vavglf"
-vec_binary_name VecBinaryOpIs.UAvg64x2 = codes "vavglg"
-vec_binary_name VecBinaryOpIs.UAvg128 = codes "vavglq"
-vec_binary_name VecBinaryOpIs.SAvg8x16 = codes "vavgb"
-vec_binary_name VecBinaryOpIs.SAvg16x8 = codes "vavgh"
-vec_binary_name VecBinaryOpIs.SAvg32x4 = codes "vavgf"
-vec_binary_name VecBinaryOpIs.SAvg64x2 = codes "vavgg"
-vec_binary_name VecBinaryOpIs.SAvg128 = codes "vavgq"
-vec_binary_name VecBinaryOpIs.And128 = codes "vn"
-vec_binary_name VecBinaryOpIs.Orr128 = codes "vo"
-vec_binary_name VecBinaryOpIs.Xor128 = codes "vx"
-vec_binary_name VecBinaryOpIs.NotAnd128 = codes "vnn"
-vec_binary_name VecBinaryOpIs.NotOrr128 = codes "vno"
-vec_binary_name VecBinaryOpIs.NotXor128 = codes "vnx"
-vec_binary_name VecBinaryOpIs.AndNot128 = codes "vnc"
-vec_binary_name VecBinaryOpIs.OrrNot128 = codes "voc"
-vec_binary_name VecBinaryOpIs.BitPermute128 = codes "vbperm"
-vec_binary_name VecBinaryOpIs.LShLByByte128 = codes "vslb"
-vec_binary_name VecBinaryOpIs.LShRByByte128 = codes "vsrlb"
-vec_binary_name VecBinaryOpIs.AShRByByte128 = codes "vsrab"
-vec_binary_name VecBinaryOpIs.LShLByBit128 = codes "vsl"
-vec_binary_name VecBinaryOpIs.LShRByBit128 = codes "vsrl"
-vec_binary_name VecBinaryOpIs.AShRByBit128 = codes "vsra"
-vec_binary_name VecBinaryOpIs.Pack16x8 = codes "vpkh"
-vec_binary_name VecBinaryOpIs.Pack32x4 = codes "vpkf"
-vec_binary_name VecBinaryOpIs.Pack64x2 = codes "vpkg"
-vec_binary_name VecBinaryOpIs.PackUSat16x8 = codes "vpklsh"
-vec_binary_name VecBinaryOpIs.PackUSat32x4 = codes "vpklsf"
-vec_binary_name VecBinaryOpIs.PackUSat64x2 = codes "vpklsg"
-vec_binary_name VecBinaryOpIs.PackSSat16x8 = codes "vpksh"
-vec_binary_name VecBinaryOpIs.PackSSat32x4 = codes "vpksf"
-vec_binary_name VecBinaryOpIs.PackSSat64x2 = codes "vpksg"
-vec_binary_name VecBinaryOpIs.MergeLow8x16 = codes "vmrlb"
-vec_binary_name VecBinaryOpIs.MergeLow16x8 = codes "vmrlh"
-vec_binary_name VecBinaryOpIs.MergeLow32x4 = codes "vmrlf"
-vec_binary_name VecBinaryOpIs.MergeLow64x2 = codes "vmrlg"
-vec_binary_name VecBinaryOpIs.MergeHigh8x16 = codes "vmrhb"
-vec_binary_name VecBinaryOpIs.MergeHigh16x8 = codes "vmrhh"
-vec_binary_name VecBinaryOpIs.MergeHigh32x4 = codes "vmrhf"
-vec_binary_name VecBinaryOpIs.MergeHigh64x2 = codes "vmrhg"
+unfoldable pub vec_binary_name : VecBinaryOp → List ℕ
+vec_binary_name op = name_at (rows VEC_BINARY_MNEMONICS.now) (tag_of the_binary.the_type op)
 
 -- an operator on one vector
-abbrev pub vec_unary_name : VecUnaryOp → List ℕ
-vec_unary_name VecUnaryOpIs.Abs8x16 = codes "vlpb"
-vec_unary_name VecUnaryOpIs.Abs16x8 = codes "vlph"
-vec_unary_name VecUnaryOpIs.Abs32x4 = codes "vlpf"
-vec_unary_name VecUnaryOpIs.Abs64x2 = codes "vlpg"
-vec_unary_name VecUnaryOpIs.Abs128 = codes "vlpq"
-vec_unary_name VecUnaryOpIs.Neg8x16 = codes "vlcb"
-vec_unary_name VecUnaryOpIs.Neg16x8 = codes "vlch"
-vec_unary_name VecUnaryOpIs.Neg32x4 = codes "vlcf"
-vec_unary_name VecUnaryOpIs.Neg64x2 = codes "vlcg"
-vec_unary_name VecUnaryOpIs.Neg128 = codes "vlcq"
-vec_unary_name VecUnaryOpIs.Popcnt8x16 = codes "vpopctb"
-vec_unary_name VecUnaryOpIs.Popcnt16x8 = codes "vpopcth"
-vec_unary_name VecUnaryOpIs.Popcnt32x4 = codes "vpopctf"
-vec_unary_name VecUnaryOpIs.Popcnt64x2 = codes "vpopctg"
-vec_unary_name VecUnaryOpIs.Clz8x16 = codes "vclzb"
-vec_unary_name VecUnaryOpIs.Clz16x8 = codes "vclzh"
-vec_unary_name VecUnaryOpIs.Clz32x4 = codes "vclzf"
-vec_unary_name VecUnaryOpIs.Clz64x2 = codes "vclzg"
-vec_unary_name VecUnaryOpIs.Clz128 = codes "vclzq"
-vec_unary_name VecUnaryOpIs.Ctz8x16 = codes "vctzb"
-vec_unary_name VecUnaryOpIs.Ctz16x8 = codes "vctzh"
-vec_unary_name VecUnaryOpIs.Ctz32x4 = codes "vctzf"
-vec_unary_name VecUnaryOpIs.Ctz64x2 = codes "vctzg"
-vec_unary_name VecUnaryOpIs.Ctz128 = codes "vctzq"
-vec_unary_name VecUnaryOpIs.UnpackULow8x16 = codes "vupllb"
-vec_unary_name VecUnaryOpIs.UnpackULow16x8 = codes "vupllh"
-vec_unary_name VecUnaryOpIs.UnpackULow32x4 = codes "vupllf"
-vec_unary_name VecUnaryOpIs.UnpackULow64x2 = codes "vupllg"
-vec_unary_name VecUnaryOpIs.UnpackUHigh8x16 = codes "vuplhb"
-vec_unary_name VecUnaryOpIs.UnpackUHigh16x8 = codes "vuplhh"
-vec_unary_name VecUnaryOpIs.UnpackUHigh32x4 = codes "vuplhf"
-vec_unary_name VecUnaryOpIs.UnpackUHigh64x2 = codes "vuplhg"
-vec_unary_name VecUnaryOpIs.UnpackSLow8x16 = codes "vuplb"
-vec_unary_name VecUnaryOpIs.UnpackSLow16x8 = codes "vuplh"
-vec_unary_name VecUnaryOpIs.UnpackSLow32x4 = codes "vuplf"
-vec_unary_name VecUnaryOpIs.UnpackSLow64x2 = codes "vuplg"
-vec_unary_name VecUnaryOpIs.UnpackSHigh8x16 = codes "vuphb"
-vec_unary_name VecUnaryOpIs.UnpackSHigh16x8 = codes "vuphh"
-vec_unary_name VecUnaryOpIs.UnpackSHigh32x4 = codes "vuphf"
-vec_unary_name VecUnaryOpIs.UnpackSHigh64x2 = codes "vuphg"
+unfoldable pub vec_unary_name : VecUnaryOp → List ℕ
+vec_unary_name op = name_at (rows VEC_UNARY_MNEMONICS.now) (tag_of the_unary.the_type op)
 
 -- lanes that are shifted by an amount
-abbrev pub vec_shift_name : VecShiftOp → List ℕ
-vec_shift_name VecShiftOpIs.RotL8x16 = codes "verllb"
-vec_shift_name VecShiftOpIs.RotL16x8 = codes "verllh"
-vec_shift_name VecShiftOpIs.RotL32x4 = codes "verllf"
-vec_shift_name VecShiftOpIs.RotL64x2 = codes "verllg"
-vec_shift_name VecShiftOpIs.LShL8x16 = codes "veslb"
-vec_shift_name VecShiftOpIs.LShL16x8 = codes "veslh"
-vec_shift_name VecShiftOpIs.LShL32x4 = codes "veslf"
-vec_shift_name VecShiftOpIs.LShL64x2 = codes "veslg"
-vec_shift_name VecShiftOpIs.LShR8x16 = codes "vesrlb"
-vec_shift_name VecShiftOpIs.LShR16x8 = codes "vesrlh"
-vec_shift_name VecShiftOpIs.LShR32x4 = codes "vesrlf"
-vec_shift_name VecShiftOpIs.LShR64x2 = codes "vesrlg"
-vec_shift_name VecShiftOpIs.AShR8x16 = codes "vesrab"
-vec_shift_name VecShiftOpIs.AShR16x8 = codes "vesrah"
-vec_shift_name VecShiftOpIs.AShR32x4 = codes "vesraf"
-vec_shift_name VecShiftOpIs.AShR64x2 = codes "vesrag"
+unfoldable pub vec_shift_name : VecShiftOp → List ℕ
+vec_shift_name op = name_at (rows VEC_SHIFT_MNEMONICS.now) (tag_of the_shift.the_type op)
 
 -- a comparison of lanes
-abbrev pub vec_compare_name : VecIntCmpOp → List ℕ
-vec_compare_name VecIntCmpOpIs.CmpEq8x16 = codes "vceqb"
-vec_compare_name VecIntCmpOpIs.CmpEq16x8 = codes "vceqh"
-vec_compare_name VecIntCmpOpIs.CmpEq32x4 = codes "vceqf"
-vec_compare_name VecIntCmpOpIs.CmpEq64x2 = codes "vceqg"
-vec_compare_name VecIntCmpOpIs.CmpEq128 = codes "vceqq"
-vec_compare_name VecIntCmpOpIs.SCmpHi8x16 = codes "vchb"
-vec_compare_name VecIntCmpOpIs.SCmpHi16x8 = codes "vchh"
-vec_compare_name VecIntCmpOpIs.SCmpHi32x4 = codes "vchf"
-vec_compare_name VecIntCmpOpIs.SCmpHi64x2 = codes "vchg"
-vec_compare_name VecIntCmpOpIs.SCmpHi128 = codes "vchq"
-vec_compare_name VecIntCmpOpIs.UCmpHi8x16 = codes "vchlb"
-vec_compare_name VecIntCmpOpIs.UCmpHi16x8 = codes "vchlh"
-vec_compare_name VecIntCmpOpIs.UCmpHi32x4 = codes "vchlf"
-vec_compare_name VecIntCmpOpIs.UCmpHi64x2 = codes "vchlg"
-vec_compare_name VecIntCmpOpIs.UCmpHi128 = codes "vchlq"
+unfoldable pub vec_compare_name : VecIntCmpOp → List ℕ
+vec_compare_name op = name_at (rows VEC_COMPARE_MNEMONICS.now) (tag_of the_compare.the_type op)
 
 -- the same, which sets the condition code
-abbrev pub vec_compare_set_name : VecIntCmpOp → List ℕ
-vec_compare_set_name VecIntCmpOpIs.CmpEq8x16 = codes "vceqbs"
-vec_compare_set_name VecIntCmpOpIs.CmpEq16x8 = codes "vceqhs"
-vec_compare_set_name VecIntCmpOpIs.CmpEq32x4 = codes "vceqfs"
-vec_compare_set_name VecIntCmpOpIs.CmpEq64x2 = codes "vceqgs"
-vec_compare_set_name VecIntCmpOpIs.CmpEq128 = codes "vceqqs"
-vec_compare_set_name VecIntCmpOpIs.SCmpHi8x16 = codes "vchbs"
-vec_compare_set_name VecIntCmpOpIs.SCmpHi16x8 = codes "vchhs"
-vec_compare_set_name VecIntCmpOpIs.SCmpHi32x4 = codes "vchfs"
-vec_compare_set_name VecIntCmpOpIs.SCmpHi64x2 = codes "vchgs"
-vec_compare_set_name VecIntCmpOpIs.SCmpHi128 = codes "vchqs"
-vec_compare_set_name VecIntCmpOpIs.UCmpHi8x16 = codes "vchlbs"
-vec_compare_set_name VecIntCmpOpIs.UCmpHi16x8 = codes "vchlhs"
-vec_compare_set_name VecIntCmpOpIs.UCmpHi32x4 = codes "vchlfs"
-vec_compare_set_name VecIntCmpOpIs.UCmpHi64x2 = codes "vchlgs"
-vec_compare_set_name VecIntCmpOpIs.UCmpHi128 = codes "vchlqs"
+unfoldable pub vec_compare_set_name : VecIntCmpOp → List ℕ
+vec_compare_set_name op = name_at (rows VEC_COMPARE_SET_MNEMONICS.now) (tag_of the_compare.the_type op)
 
 -- a comparison of two numbers of 128 bits
-abbrev pub vec_element_compare_name : VecIntEltCmpOp → List ℕ
-vec_element_compare_name VecIntEltCmpOpIs.SCmp128 = codes "vecq"
-vec_element_compare_name VecIntEltCmpOpIs.UCmp128 = codes "veclq"
+unfoldable pub vec_element_compare_name : VecIntEltCmpOp → List ℕ
+vec_element_compare_name op = name_at (rows VEC_ELEMENT_COMPARE_MNEMONICS.now) (tag_of the_element_compare.the_type op)

@@ -13,6 +13,7 @@ pub mod regs;
 pub mod row;
 pub mod simple;
 pub mod storage;
+pub mod table;
 pub mod vector;
 pub mod vector_memory;
 pub mod vector_mnemonics;

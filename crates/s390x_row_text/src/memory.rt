@@ -7,13 +7,13 @@ use crate::arithmetic::reused;
 use crate::error::TextError;
 use crate::mnemonics::{
     alu_long_name, alu_short_name, atomic_name, cmp_long_name, cmp_relative_name, cmp_short_name,
+    load_long_name, load_relative_name, load_short_name,
 };
 use crate::storage::{access2, address_rows, rs_access_then, rs_access3, rx_access};
 use s390x_inst::{EmitState, Inst};
 use std::alloc::Global;
 
 /// Appends the text of a load, on a machine that has rows relative to the instruction or lacks them; None for another instruction.
-#[rattlefmt::skip]
 pub fn put_load(
     alloc: Global,
     out: &mut String,
@@ -23,23 +23,19 @@ pub fn put_load(
 ) -> Option<Result<(), TextError>>
     ensures { PrintsWhere result (string_bytes out.old) (string_bytes out.new) (load_text has state.now inst.now) }
 {
-    match inst {
-        Inst::Load32 { rd, mem } => Some(rx_access(alloc, out, has, state, Some("l"), Some("ly"), Some("lrl"), rd, mem)),
-        Inst::Load32ZExt8 { rd, mem } => Some(rx_access(alloc, out, has, state, None, Some("llc"), None, rd, mem)),
-        Inst::Load32SExt8 { rd, mem } => Some(rx_access(alloc, out, has, state, None, Some("lb"), None, rd, mem)),
-        Inst::Load32ZExt16 { rd, mem } => Some(rx_access(alloc, out, has, state, None, Some("llh"), Some("llhrl"), rd, mem)),
-        Inst::Load32SExt16 { rd, mem } => Some(rx_access(alloc, out, has, state, Some("lh"), Some("lhy"), Some("lhrl"), rd, mem)),
-        Inst::Load64 { rd, mem } => Some(rx_access(alloc, out, has, state, None, Some("lg"), Some("lgrl"), rd, mem)),
-        Inst::Load64ZExt8 { rd, mem } => Some(rx_access(alloc, out, has, state, None, Some("llgc"), None, rd, mem)),
-        Inst::Load64SExt8 { rd, mem } => Some(rx_access(alloc, out, has, state, None, Some("lgb"), None, rd, mem)),
-        Inst::Load64ZExt16 { rd, mem } => Some(rx_access(alloc, out, has, state, None, Some("llgh"), Some("llghrl"), rd, mem)),
-        Inst::Load64SExt16 { rd, mem } => Some(rx_access(alloc, out, has, state, None, Some("lgh"), Some("lghrl"), rd, mem)),
-        Inst::Load64ZExt32 { rd, mem } => Some(rx_access(alloc, out, has, state, None, Some("llgf"), Some("llgfrl"), rd, mem)),
-        Inst::Load64SExt32 { rd, mem } => Some(rx_access(alloc, out, has, state, None, Some("lgf"), Some("lgfrl"), rd, mem)),
-        Inst::LoadRev16 { rd, mem } => Some(rx_access(alloc, out, has, state, None, Some("lrvh"), None, rd, mem)),
-        Inst::LoadRev32 { rd, mem } => Some(rx_access(alloc, out, has, state, None, Some("lrv"), None, rd, mem)),
-        Inst::LoadRev64 { rd, mem } => Some(rx_access(alloc, out, has, state, None, Some("lrvg"), None, rd, mem)),
-        _ => None,
+    match inst.as_load() {
+        Some(load) => Some(rx_access(
+            alloc,
+            out,
+            has,
+            state,
+            load_short_name(load.op),
+            load_long_name(load.op),
+            load_relative_name(load.op),
+            &load.rd,
+            &load.mem,
+        )),
+        None => None,
     }
 }
 

@@ -1,359 +1,361 @@
-//! The mnemonics of integer operators, by the form of their operands.
+//! The mnemonics of integer operators and of loads, by the form of their operands.
 ghost use Rattle.std.specs.Prelude.{◌≡◌};
 ghost use Rattle.std.specs.Option.{option_map};
 ghost use Rattle.s390x_row_text.specs.Mnemonics.{alu_three_name, alu_two_name, alu_halfword_name, alu_three_halfword_name, alu_signed_word_name, alu_unsigned_word_name, alu_short_name, alu_long_name, atomic_name, cmp_two_name, cmp_halfword_name, cmp_signed_word_name, cmp_unsigned_word_name};
-ghost use Rattle.s390x_row_text.specs.Mnemonics.{cmp_short_name, cmp_long_name, cmp_relative_name, cmp_trap_name, cmp_trap_signed_name, cmp_trap_unsigned_name, shift_name, rotate_name, rotate_test_name, unary_name};
+ghost use Rattle.s390x_row_text.specs.Mnemonics.{cmp_short_name, cmp_long_name, cmp_relative_name, cmp_trap_name, cmp_trap_signed_name, cmp_trap_unsigned_name, load_short_name, load_long_name, load_relative_name, shift_name, rotate_name, rotate_test_name, unary_name};
 
-use s390x_inst::{ALUOp, CmpOp, RxSBGOp, ShiftOp, UnaryOp};
+use crate::table::{Table, in_column};
+use s390x_inst::{ALUOp, CmpOp, LoadOp, RxSBGOp, ShiftOp, UnaryOp};
+use s390x_words::word::{Names, name_at};
+
+/// The columns of `ALU_MNEMONICS`.
+pub const ALU_THREE: usize = 0;
+
+pub const ALU_TWO: usize = 1;
+
+pub const ALU_HALFWORD: usize = 2;
+
+pub const ALU_THREE_HALFWORD: usize = 3;
+
+pub const ALU_SIGNED_WORD: usize = 4;
+
+pub const ALU_UNSIGNED_WORD: usize = 5;
+
+pub const ALU_SHORT: usize = 6;
+
+pub const ALU_LONG: usize = 7;
+
+pub const ATOMIC: usize = 8;
+
+/// The mnemonics of each operator on two operands, in the order of the declaration; empty where there is no row. The columns: three, two, halfword, three halfword, signed word, unsigned word, short, long, atomic.
+#[rattlefmt::skip]
+pub const ALU_MNEMONICS: Table<ALUOp> = &[
+    (ALUOp::Add32, &["ark", "ar", "ahi", "ahik", "afi", "", "a", "ay", "laa"]),
+    (ALUOp::Add32Ext16, &["", "", "", "", "", "", "ah", "ahy", ""]),
+    (ALUOp::Add64, &["agrk", "agr", "aghi", "aghik", "agfi", "", "", "ag", "laag"]),
+    (ALUOp::Add64Ext16, &["", "", "", "", "", "", "", "agh", ""]),
+    (ALUOp::Add64Ext32, &["", "agfr", "", "", "", "", "", "agf", ""]),
+    (ALUOp::AddLogical32, &["alrk", "alr", "", "", "", "alfi", "al", "aly", "laal"]),
+    (ALUOp::AddLogical64, &["algrk", "algr", "", "", "", "algfi", "", "alg", "laalg"]),
+    (ALUOp::AddLogical64Ext32, &["", "algfr", "", "", "", "", "", "algf", ""]),
+    (ALUOp::Sub32, &["srk", "sr", "", "", "", "", "s", "sy", ""]),
+    (ALUOp::Sub32Ext16, &["", "", "", "", "", "", "sh", "shy", ""]),
+    (ALUOp::Sub64, &["sgrk", "sgr", "", "", "", "", "", "sg", ""]),
+    (ALUOp::Sub64Ext16, &["", "", "", "", "", "", "", "sgh", ""]),
+    (ALUOp::Sub64Ext32, &["", "sgfr", "", "", "", "", "", "sgf", ""]),
+    (ALUOp::SubLogical32, &["slrk", "slr", "", "", "", "slfi", "sl", "sly", ""]),
+    (ALUOp::SubLogical64, &["slgrk", "slgr", "", "", "", "slgfi", "", "slg", ""]),
+    (ALUOp::SubLogical64Ext32, &["", "slgfr", "", "", "", "", "", "slgf", ""]),
+    (ALUOp::Mul32, &["msrkc", "msr", "mhi", "", "msfi", "", "ms", "msy", ""]),
+    (ALUOp::Mul32Ext16, &["", "", "", "", "", "", "mh", "mhy", ""]),
+    (ALUOp::Mul32CC, &["msrkc", "", "", "", "", "", "", "", ""]),
+    (ALUOp::Mul64, &["msgrkc", "msgr", "mghi", "", "msgfi", "", "", "msg", ""]),
+    (ALUOp::Mul64Ext16, &["", "", "", "", "", "", "", "mgh", ""]),
+    (ALUOp::Mul64Ext32, &["", "msgfr", "", "", "", "", "", "msgf", ""]),
+    (ALUOp::Mul64CC, &["msgrkc", "", "", "", "", "", "", "", ""]),
+    (ALUOp::And32, &["nrk", "nr", "", "", "", "", "n", "ny", "lan"]),
+    (ALUOp::And64, &["ngrk", "ngr", "", "", "", "", "", "ng", "lang"]),
+    (ALUOp::Orr32, &["ork", "or", "", "", "", "", "o", "oy", "lao"]),
+    (ALUOp::Orr64, &["ogrk", "ogr", "", "", "", "", "", "og", "laog"]),
+    (ALUOp::Xor32, &["xrk", "xr", "", "", "", "", "x", "xy", "lax"]),
+    (ALUOp::Xor64, &["xgrk", "xgr", "", "", "", "", "", "xg", "laxg"]),
+    (ALUOp::NotAnd32, &["nnrk", "", "", "", "", "", "", "", ""]),
+    (ALUOp::NotAnd64, &["nngrk", "", "", "", "", "", "", "", ""]),
+    (ALUOp::NotOrr32, &["nork", "", "", "", "", "", "", "", ""]),
+    (ALUOp::NotOrr64, &["nogrk", "", "", "", "", "", "", "", ""]),
+    (ALUOp::NotXor32, &["nxrk", "", "", "", "", "", "", "", ""]),
+    (ALUOp::NotXor64, &["nxgrk", "", "", "", "", "", "", "", ""]),
+    (ALUOp::AndNot32, &["ncrk", "", "", "", "", "", "", "", ""]),
+    (ALUOp::AndNot64, &["ncgrk", "", "", "", "", "", "", "", ""]),
+    (ALUOp::OrrNot32, &["ocrk", "", "", "", "", "", "", "", ""]),
+    (ALUOp::OrrNot64, &["ocgrk", "", "", "", "", "", "", "", ""]),
+];
 
 /// Three operands; None where there is no row.
+#[tactic(auto, unfolding(crate::specs::Mnemonics::alu_three_name))]
 pub fn alu_three_name(op: ALUOp) -> Option<&'static str>
     ensures { option_map (λ s. s.now) result ≡ alu_three_name op }
 {
-    match op {
-        ALUOp::Add32 => Some("ark"),
-        ALUOp::Add64 => Some("agrk"),
-        ALUOp::AddLogical32 => Some("alrk"),
-        ALUOp::AddLogical64 => Some("algrk"),
-        ALUOp::Sub32 => Some("srk"),
-        ALUOp::Sub64 => Some("sgrk"),
-        ALUOp::SubLogical32 => Some("slrk"),
-        ALUOp::SubLogical64 => Some("slgrk"),
-        ALUOp::Mul32 => Some("msrkc"),
-        ALUOp::Mul32CC => Some("msrkc"),
-        ALUOp::Mul64 => Some("msgrkc"),
-        ALUOp::Mul64CC => Some("msgrkc"),
-        ALUOp::And32 => Some("nrk"),
-        ALUOp::And64 => Some("ngrk"),
-        ALUOp::Orr32 => Some("ork"),
-        ALUOp::Orr64 => Some("ogrk"),
-        ALUOp::Xor32 => Some("xrk"),
-        ALUOp::Xor64 => Some("xgrk"),
-        ALUOp::NotAnd32 => Some("nnrk"),
-        ALUOp::NotAnd64 => Some("nngrk"),
-        ALUOp::NotOrr32 => Some("nork"),
-        ALUOp::NotOrr64 => Some("nogrk"),
-        ALUOp::NotXor32 => Some("nxrk"),
-        ALUOp::NotXor64 => Some("nxgrk"),
-        ALUOp::AndNot32 => Some("ncrk"),
-        ALUOp::AndNot64 => Some("ncgrk"),
-        ALUOp::OrrNot32 => Some("ocrk"),
-        ALUOp::OrrNot64 => Some("ocgrk"),
-        _ => None,
-    }
+    in_column(ALU_MNEMONICS, op as usize, ALU_THREE)
 }
 
 /// Two operands, the first of which is also the output; None where there is no row.
+#[tactic(auto, unfolding(crate::specs::Mnemonics::alu_two_name))]
 pub fn alu_two_name(op: ALUOp) -> Option<&'static str>
     ensures { option_map (λ s. s.now) result ≡ alu_two_name op }
 {
-    match op {
-        ALUOp::Add32 => Some("ar"),
-        ALUOp::Add64 => Some("agr"),
-        ALUOp::Add64Ext32 => Some("agfr"),
-        ALUOp::AddLogical32 => Some("alr"),
-        ALUOp::AddLogical64 => Some("algr"),
-        ALUOp::AddLogical64Ext32 => Some("algfr"),
-        ALUOp::Sub32 => Some("sr"),
-        ALUOp::Sub64 => Some("sgr"),
-        ALUOp::Sub64Ext32 => Some("sgfr"),
-        ALUOp::SubLogical32 => Some("slr"),
-        ALUOp::SubLogical64 => Some("slgr"),
-        ALUOp::SubLogical64Ext32 => Some("slgfr"),
-        ALUOp::Mul32 => Some("msr"),
-        ALUOp::Mul64 => Some("msgr"),
-        ALUOp::Mul64Ext32 => Some("msgfr"),
-        ALUOp::And32 => Some("nr"),
-        ALUOp::And64 => Some("ngr"),
-        ALUOp::Orr32 => Some("or"),
-        ALUOp::Orr64 => Some("ogr"),
-        ALUOp::Xor32 => Some("xr"),
-        ALUOp::Xor64 => Some("xgr"),
-        _ => None,
-    }
+    in_column(ALU_MNEMONICS, op as usize, ALU_TWO)
 }
 
 /// A register and an immediate of 16 bits; None where there is no row.
+#[tactic(auto, unfolding(crate::specs::Mnemonics::alu_halfword_name))]
 pub fn alu_halfword_name(op: ALUOp) -> Option<&'static str>
     ensures { option_map (λ s. s.now) result ≡ alu_halfword_name op }
 {
-    match op {
-        ALUOp::Add32 => Some("ahi"),
-        ALUOp::Add64 => Some("aghi"),
-        ALUOp::Mul32 => Some("mhi"),
-        ALUOp::Mul64 => Some("mghi"),
-        _ => None,
-    }
+    in_column(ALU_MNEMONICS, op as usize, ALU_HALFWORD)
 }
 
 /// The same into another register; None where there is no row.
+#[tactic(auto, unfolding(crate::specs::Mnemonics::alu_three_halfword_name))]
 pub fn alu_three_halfword_name(op: ALUOp) -> Option<&'static str>
     ensures { option_map (λ s. s.now) result ≡ alu_three_halfword_name op }
 {
-    match op {
-        ALUOp::Add32 => Some("ahik"),
-        ALUOp::Add64 => Some("aghik"),
-        _ => None,
-    }
+    in_column(ALU_MNEMONICS, op as usize, ALU_THREE_HALFWORD)
 }
 
 /// A register and an immediate of 32 bits, with its sign; None where there is no row.
+#[tactic(auto, unfolding(crate::specs::Mnemonics::alu_signed_word_name))]
 pub fn alu_signed_word_name(op: ALUOp) -> Option<&'static str>
     ensures { option_map (λ s. s.now) result ≡ alu_signed_word_name op }
 {
-    match op {
-        ALUOp::Add32 => Some("afi"),
-        ALUOp::Add64 => Some("agfi"),
-        ALUOp::Mul32 => Some("msfi"),
-        ALUOp::Mul64 => Some("msgfi"),
-        _ => None,
-    }
+    in_column(ALU_MNEMONICS, op as usize, ALU_SIGNED_WORD)
 }
 
 /// And without a sign; None where there is no row.
+#[tactic(auto, unfolding(crate::specs::Mnemonics::alu_unsigned_word_name))]
 pub fn alu_unsigned_word_name(op: ALUOp) -> Option<&'static str>
     ensures { option_map (λ s. s.now) result ≡ alu_unsigned_word_name op }
 {
-    match op {
-        ALUOp::AddLogical32 => Some("alfi"),
-        ALUOp::AddLogical64 => Some("algfi"),
-        ALUOp::SubLogical32 => Some("slfi"),
-        ALUOp::SubLogical64 => Some("slgfi"),
-        _ => None,
-    }
+    in_column(ALU_MNEMONICS, op as usize, ALU_UNSIGNED_WORD)
 }
 
 /// An operand in memory with a displacement of 12 bits; None where there is no row.
+#[tactic(auto, unfolding(crate::specs::Mnemonics::alu_short_name))]
 pub fn alu_short_name(op: ALUOp) -> Option<&'static str>
     ensures { option_map (λ s. s.now) result ≡ alu_short_name op }
 {
-    match op {
-        ALUOp::Add32 => Some("a"),
-        ALUOp::Add32Ext16 => Some("ah"),
-        ALUOp::AddLogical32 => Some("al"),
-        ALUOp::Sub32 => Some("s"),
-        ALUOp::Sub32Ext16 => Some("sh"),
-        ALUOp::SubLogical32 => Some("sl"),
-        ALUOp::Mul32 => Some("ms"),
-        ALUOp::Mul32Ext16 => Some("mh"),
-        ALUOp::And32 => Some("n"),
-        ALUOp::Orr32 => Some("o"),
-        ALUOp::Xor32 => Some("x"),
-        _ => None,
-    }
+    in_column(ALU_MNEMONICS, op as usize, ALU_SHORT)
 }
 
 /// The same with one of 20 bits; None where there is no row.
+#[tactic(auto, unfolding(crate::specs::Mnemonics::alu_long_name))]
 pub fn alu_long_name(op: ALUOp) -> Option<&'static str>
     ensures { option_map (λ s. s.now) result ≡ alu_long_name op }
 {
-    match op {
-        ALUOp::Add32 => Some("ay"),
-        ALUOp::Add32Ext16 => Some("ahy"),
-        ALUOp::Add64 => Some("ag"),
-        ALUOp::Add64Ext16 => Some("agh"),
-        ALUOp::Add64Ext32 => Some("agf"),
-        ALUOp::AddLogical32 => Some("aly"),
-        ALUOp::AddLogical64 => Some("alg"),
-        ALUOp::AddLogical64Ext32 => Some("algf"),
-        ALUOp::Sub32 => Some("sy"),
-        ALUOp::Sub32Ext16 => Some("shy"),
-        ALUOp::Sub64 => Some("sg"),
-        ALUOp::Sub64Ext16 => Some("sgh"),
-        ALUOp::Sub64Ext32 => Some("sgf"),
-        ALUOp::SubLogical32 => Some("sly"),
-        ALUOp::SubLogical64 => Some("slg"),
-        ALUOp::SubLogical64Ext32 => Some("slgf"),
-        ALUOp::Mul32 => Some("msy"),
-        ALUOp::Mul32Ext16 => Some("mhy"),
-        ALUOp::Mul64 => Some("msg"),
-        ALUOp::Mul64Ext16 => Some("mgh"),
-        ALUOp::Mul64Ext32 => Some("msgf"),
-        ALUOp::And32 => Some("ny"),
-        ALUOp::And64 => Some("ng"),
-        ALUOp::Orr32 => Some("oy"),
-        ALUOp::Orr64 => Some("og"),
-        ALUOp::Xor32 => Some("xy"),
-        ALUOp::Xor64 => Some("xg"),
-        _ => None,
-    }
+    in_column(ALU_MNEMONICS, op as usize, ALU_LONG)
 }
 
 /// An operand in memory that is changed in one access; None where there is no row.
+#[tactic(auto, unfolding(crate::specs::Mnemonics::atomic_name))]
 pub fn atomic_name(op: ALUOp) -> Option<&'static str>
     ensures { option_map (λ s. s.now) result ≡ atomic_name op }
 {
-    match op {
-        ALUOp::Add32 => Some("laa"),
-        ALUOp::Add64 => Some("laag"),
-        ALUOp::AddLogical32 => Some("laal"),
-        ALUOp::AddLogical64 => Some("laalg"),
-        ALUOp::And32 => Some("lan"),
-        ALUOp::And64 => Some("lang"),
-        ALUOp::Orr32 => Some("lao"),
-        ALUOp::Orr64 => Some("laog"),
-        ALUOp::Xor32 => Some("lax"),
-        ALUOp::Xor64 => Some("laxg"),
-        _ => None,
-    }
+    in_column(ALU_MNEMONICS, op as usize, ATOMIC)
 }
 
+/// The columns of `CMP_MNEMONICS`.
+pub const CMP_TWO: usize = 0;
+
+pub const CMP_HALFWORD: usize = 1;
+
+pub const CMP_SIGNED_WORD: usize = 2;
+
+pub const CMP_UNSIGNED_WORD: usize = 3;
+
+pub const CMP_SHORT: usize = 4;
+
+pub const CMP_LONG: usize = 5;
+
+pub const CMP_TRAP: usize = 6;
+
+pub const CMP_TRAP_SIGNED: usize = 7;
+
+pub const CMP_TRAP_UNSIGNED: usize = 8;
+
+/// The mnemonics of each comparison, in the order of the declaration; empty where there is no row. The columns: two, halfword, signed word, unsigned word, short, long, trap, trap signed, trap unsigned.
+#[rattlefmt::skip]
+pub const CMP_MNEMONICS: Table<CmpOp> = &[
+    (CmpOp::CmpS32, &["cr", "chi", "cfi", "", "c", "cy", "crt", "cit", ""]),
+    (CmpOp::CmpS32Ext16, &["", "", "", "", "ch", "chy", "", "", ""]),
+    (CmpOp::CmpS64, &["cgr", "cghi", "cgfi", "", "", "cg", "cgrt", "cgit", ""]),
+    (CmpOp::CmpS64Ext16, &["", "", "", "", "", "cgh", "", "", ""]),
+    (CmpOp::CmpS64Ext32, &["cgfr", "", "", "", "", "cgf", "", "", ""]),
+    (CmpOp::CmpL32, &["clr", "", "", "clfi", "cl", "cly", "clrt", "", "clfit"]),
+    (CmpOp::CmpL32Ext16, &["", "", "", "", "", "", "", "", ""]),
+    (CmpOp::CmpL64, &["clgr", "", "", "clgfi", "", "clg", "clgrt", "", "clgit"]),
+    (CmpOp::CmpL64Ext16, &["", "", "", "", "", "", "", "", ""]),
+    (CmpOp::CmpL64Ext32, &["clgfr", "", "", "", "", "clgf", "", "", ""]),
+];
+
 /// A comparison of two registers; None where there is no row.
+#[tactic(auto, unfolding(crate::specs::Mnemonics::cmp_two_name))]
 pub fn cmp_two_name(op: CmpOp) -> Option<&'static str>
     ensures { option_map (λ s. s.now) result ≡ cmp_two_name op }
 {
-    match op {
-        CmpOp::CmpS32 => Some("cr"),
-        CmpOp::CmpS64 => Some("cgr"),
-        CmpOp::CmpS64Ext32 => Some("cgfr"),
-        CmpOp::CmpL32 => Some("clr"),
-        CmpOp::CmpL64 => Some("clgr"),
-        CmpOp::CmpL64Ext32 => Some("clgfr"),
-        _ => None,
-    }
+    in_column(CMP_MNEMONICS, op as usize, CMP_TWO)
 }
 
 /// Of a register and an immediate of 16 bits; None where there is no row.
+#[tactic(auto, unfolding(crate::specs::Mnemonics::cmp_halfword_name))]
 pub fn cmp_halfword_name(op: CmpOp) -> Option<&'static str>
     ensures { option_map (λ s. s.now) result ≡ cmp_halfword_name op }
 {
-    match op {
-        CmpOp::CmpS32 => Some("chi"),
-        CmpOp::CmpS64 => Some("cghi"),
-        _ => None,
-    }
+    in_column(CMP_MNEMONICS, op as usize, CMP_HALFWORD)
 }
 
 /// Of a register and an immediate of 32 bits, with its sign; None where there is no row.
+#[tactic(auto, unfolding(crate::specs::Mnemonics::cmp_signed_word_name))]
 pub fn cmp_signed_word_name(op: CmpOp) -> Option<&'static str>
     ensures { option_map (λ s. s.now) result ≡ cmp_signed_word_name op }
 {
-    match op {
-        CmpOp::CmpS32 => Some("cfi"),
-        CmpOp::CmpS64 => Some("cgfi"),
-        _ => None,
-    }
+    in_column(CMP_MNEMONICS, op as usize, CMP_SIGNED_WORD)
 }
 
 /// And without a sign; None where there is no row.
+#[tactic(auto, unfolding(crate::specs::Mnemonics::cmp_unsigned_word_name))]
 pub fn cmp_unsigned_word_name(op: CmpOp) -> Option<&'static str>
     ensures { option_map (λ s. s.now) result ≡ cmp_unsigned_word_name op }
 {
-    match op {
-        CmpOp::CmpL32 => Some("clfi"),
-        CmpOp::CmpL64 => Some("clgfi"),
-        _ => None,
-    }
+    in_column(CMP_MNEMONICS, op as usize, CMP_UNSIGNED_WORD)
 }
 
 /// With an operand in memory with a displacement of 12 bits; None where there is no row.
+#[tactic(auto, unfolding(crate::specs::Mnemonics::cmp_short_name))]
 pub fn cmp_short_name(op: CmpOp) -> Option<&'static str>
     ensures { option_map (λ s. s.now) result ≡ cmp_short_name op }
 {
-    match op {
-        CmpOp::CmpS32 => Some("c"),
-        CmpOp::CmpS32Ext16 => Some("ch"),
-        CmpOp::CmpL32 => Some("cl"),
-        _ => None,
-    }
+    in_column(CMP_MNEMONICS, op as usize, CMP_SHORT)
 }
 
 /// The same with one of 20 bits; None where there is no row.
+#[tactic(auto, unfolding(crate::specs::Mnemonics::cmp_long_name))]
 pub fn cmp_long_name(op: CmpOp) -> Option<&'static str>
     ensures { option_map (λ s. s.now) result ≡ cmp_long_name op }
 {
-    match op {
-        CmpOp::CmpS32 => Some("cy"),
-        CmpOp::CmpS32Ext16 => Some("chy"),
-        CmpOp::CmpS64 => Some("cg"),
-        CmpOp::CmpS64Ext16 => Some("cgh"),
-        CmpOp::CmpS64Ext32 => Some("cgf"),
-        CmpOp::CmpL32 => Some("cly"),
-        CmpOp::CmpL64 => Some("clg"),
-        CmpOp::CmpL64Ext32 => Some("clgf"),
-        _ => None,
-    }
-}
-
-/// With an operand in memory relative to the instruction.
-pub fn cmp_relative_name(op: CmpOp) -> &'static str
-    ensures { result.now ≡ cmp_relative_name op }
-{
-    match op {
-        CmpOp::CmpS32 => "crl",
-        CmpOp::CmpS32Ext16 => "chrl",
-        CmpOp::CmpS64 => "cgrl",
-        CmpOp::CmpS64Ext16 => "cghrl",
-        CmpOp::CmpS64Ext32 => "cgfrl",
-        CmpOp::CmpL32 => "clrl",
-        CmpOp::CmpL32Ext16 => "clhrl",
-        CmpOp::CmpL64 => "clgrl",
-        CmpOp::CmpL64Ext16 => "clghrl",
-        CmpOp::CmpL64Ext32 => "clgfrl",
-    }
+    in_column(CMP_MNEMONICS, op as usize, CMP_LONG)
 }
 
 /// A comparison of two registers that traps; None where there is no row.
+#[tactic(auto, unfolding(crate::specs::Mnemonics::cmp_trap_name))]
 pub fn cmp_trap_name(op: CmpOp) -> Option<&'static str>
     ensures { option_map (λ s. s.now) result ≡ cmp_trap_name op }
 {
-    match op {
-        CmpOp::CmpS32 => Some("crt"),
-        CmpOp::CmpS64 => Some("cgrt"),
-        CmpOp::CmpL32 => Some("clrt"),
-        CmpOp::CmpL64 => Some("clgrt"),
-        _ => None,
-    }
+    in_column(CMP_MNEMONICS, op as usize, CMP_TRAP)
 }
 
 /// One with an immediate of 16 bits, with its sign; None where there is no row.
+#[tactic(auto, unfolding(crate::specs::Mnemonics::cmp_trap_signed_name))]
 pub fn cmp_trap_signed_name(op: CmpOp) -> Option<&'static str>
     ensures { option_map (λ s. s.now) result ≡ cmp_trap_signed_name op }
 {
-    match op {
-        CmpOp::CmpS32 => Some("cit"),
-        CmpOp::CmpS64 => Some("cgit"),
-        _ => None,
-    }
+    in_column(CMP_MNEMONICS, op as usize, CMP_TRAP_SIGNED)
 }
 
 /// And without a sign; None where there is no row.
+#[tactic(auto, unfolding(crate::specs::Mnemonics::cmp_trap_unsigned_name))]
 pub fn cmp_trap_unsigned_name(op: CmpOp) -> Option<&'static str>
     ensures { option_map (λ s. s.now) result ≡ cmp_trap_unsigned_name op }
 {
-    match op {
-        CmpOp::CmpL32 => Some("clfit"),
-        CmpOp::CmpL64 => Some("clgit"),
-        _ => None,
-    }
+    in_column(CMP_MNEMONICS, op as usize, CMP_TRAP_UNSIGNED)
 }
 
+/// Each with its mnemonic, in the order of the declaration.
+pub const CMP_RELATIVE_MNEMONICS: Names<CmpOp> = &[
+    (CmpOp::CmpS32, "crl"),
+    (CmpOp::CmpS32Ext16, "chrl"),
+    (CmpOp::CmpS64, "cgrl"),
+    (CmpOp::CmpS64Ext16, "cghrl"),
+    (CmpOp::CmpS64Ext32, "cgfrl"),
+    (CmpOp::CmpL32, "clrl"),
+    (CmpOp::CmpL32Ext16, "clhrl"),
+    (CmpOp::CmpL64, "clgrl"),
+    (CmpOp::CmpL64Ext16, "clghrl"),
+    (CmpOp::CmpL64Ext32, "clgfrl"),
+];
+
+/// With an operand in memory relative to the instruction.
+#[tactic(auto, unfolding(crate::specs::Mnemonics::cmp_relative_name))]
+pub fn cmp_relative_name(op: CmpOp) -> &'static str
+    ensures { result.now ≡ cmp_relative_name op }
+{
+    name_at(CMP_RELATIVE_MNEMONICS, op as usize)
+}
+
+/// The columns of `LOAD_MNEMONICS`.
+pub const LOAD_SHORT: usize = 0;
+
+pub const LOAD_LONG: usize = 1;
+
+pub const LOAD_RELATIVE: usize = 2;
+
+/// The mnemonics of each load of one register, in the order of the declaration; empty where there is no row. The columns: short, long, relative.
+#[rattlefmt::skip]
+pub const LOAD_MNEMONICS: Table<LoadOp> = &[
+    (LoadOp::Load32, &["l", "ly", "lrl"]),
+    (LoadOp::Load32ZExt8, &["", "llc", ""]),
+    (LoadOp::Load32SExt8, &["", "lb", ""]),
+    (LoadOp::Load32ZExt16, &["", "llh", "llhrl"]),
+    (LoadOp::Load32SExt16, &["lh", "lhy", "lhrl"]),
+    (LoadOp::Load64, &["", "lg", "lgrl"]),
+    (LoadOp::Load64ZExt8, &["", "llgc", ""]),
+    (LoadOp::Load64SExt8, &["", "lgb", ""]),
+    (LoadOp::Load64ZExt16, &["", "llgh", "llghrl"]),
+    (LoadOp::Load64SExt16, &["", "lgh", "lghrl"]),
+    (LoadOp::Load64ZExt32, &["", "llgf", "llgfrl"]),
+    (LoadOp::Load64SExt32, &["", "lgf", "lgfrl"]),
+    (LoadOp::LoadRev16, &["", "lrvh", ""]),
+    (LoadOp::LoadRev32, &["", "lrv", ""]),
+    (LoadOp::LoadRev64, &["", "lrvg", ""]),
+];
+
+/// A load at a displacement of 12 bits; None where there is no row.
+#[tactic(auto, unfolding(crate::specs::Mnemonics::load_short_name))]
+pub fn load_short_name(op: LoadOp) -> Option<&'static str>
+    ensures { option_map (λ s. s.now) result ≡ load_short_name op }
+{
+    in_column(LOAD_MNEMONICS, op.place(), LOAD_SHORT)
+}
+
+/// At one of 20 bits; None where there is no row.
+#[tactic(auto, unfolding(crate::specs::Mnemonics::load_long_name))]
+pub fn load_long_name(op: LoadOp) -> Option<&'static str>
+    ensures { option_map (λ s. s.now) result ≡ load_long_name op }
+{
+    in_column(LOAD_MNEMONICS, op.place(), LOAD_LONG)
+}
+
+/// At an address relative to the instruction; None where there is no row.
+#[tactic(auto, unfolding(crate::specs::Mnemonics::load_relative_name))]
+pub fn load_relative_name(op: LoadOp) -> Option<&'static str>
+    ensures { option_map (λ s. s.now) result ≡ load_relative_name op }
+{
+    in_column(LOAD_MNEMONICS, op.place(), LOAD_RELATIVE)
+}
+
+/// Each with its mnemonic, in the order of the declaration.
+pub const SHIFT_MNEMONICS: Names<ShiftOp> = &[
+    (ShiftOp::RotL32, "rll"),
+    (ShiftOp::RotL64, "rllg"),
+    (ShiftOp::LShL32, "sllk"),
+    (ShiftOp::LShL64, "sllg"),
+    (ShiftOp::LShR32, "srlk"),
+    (ShiftOp::LShR64, "srlg"),
+    (ShiftOp::AShR32, "srak"),
+    (ShiftOp::AShR64, "srag"),
+];
+
 /// A shift by an amount.
+#[tactic(auto, unfolding(crate::specs::Mnemonics::shift_name))]
 pub fn shift_name(op: ShiftOp) -> &'static str
     ensures { result.now ≡ shift_name op }
 {
-    match op {
-        ShiftOp::RotL32 => "rll",
-        ShiftOp::RotL64 => "rllg",
-        ShiftOp::LShL32 => "sllk",
-        ShiftOp::LShL64 => "sllg",
-        ShiftOp::LShR32 => "srlk",
-        ShiftOp::LShR64 => "srlg",
-        ShiftOp::AShR32 => "srak",
-        ShiftOp::AShR64 => "srag",
-    }
+    name_at(SHIFT_MNEMONICS, op as usize)
 }
 
+/// Each with its mnemonic, in the order of the declaration.
+pub const ROTATE_MNEMONICS: Names<RxSBGOp> = &[
+    (RxSBGOp::Insert, "risbgn"),
+    (RxSBGOp::And, "rnsbg"),
+    (RxSBGOp::Or, "rosbg"),
+    (RxSBGOp::Xor, "rxsbg"),
+];
+
 /// Bits that are rotated, and then inserted or combined.
+#[tactic(auto, unfolding(crate::specs::Mnemonics::rotate_name))]
 pub fn rotate_name(op: RxSBGOp) -> &'static str
     ensures { result.now ≡ rotate_name op }
 {
-    match op {
-        RxSBGOp::Insert => "risbgn",
-        RxSBGOp::And => "rnsbg",
-        RxSBGOp::Or => "rosbg",
-        RxSBGOp::Xor => "rxsbg",
-    }
+    name_at(ROTATE_MNEMONICS, op as usize)
 }
 
 /// Or combined to be tested alone; None where there is no row.
@@ -361,29 +363,31 @@ pub fn rotate_test_name(op: RxSBGOp) -> Option<&'static str>
     ensures { option_map (λ s. s.now) result ≡ rotate_test_name op }
 {
     match op {
-        RxSBGOp::And => Some("rnsbg"),
-        RxSBGOp::Or => Some("rosbg"),
-        RxSBGOp::Xor => Some("rxsbg"),
-        _ => None,
+        RxSBGOp::Insert => None,
+        _ => Some(rotate_name(op)),
     }
 }
 
+/// Each with its mnemonic, in the order of the declaration.
+pub const UNARY_MNEMONICS: Names<UnaryOp> = &[
+    (UnaryOp::Abs32, "lpr"),
+    (UnaryOp::Abs64, "lpgr"),
+    (UnaryOp::Abs64Ext32, "lpgfr"),
+    (UnaryOp::Neg32, "lcr"),
+    (UnaryOp::Neg64, "lcgr"),
+    (UnaryOp::Neg64Ext32, "lcgfr"),
+    (UnaryOp::PopcntByte, "popcnt"),
+    (UnaryOp::PopcntReg, "popcnt"),
+    (UnaryOp::BSwap32, "lrvr"),
+    (UnaryOp::BSwap64, "lrvgr"),
+    (UnaryOp::Clz64, "clzg"),
+    (UnaryOp::Ctz64, "ctzg"),
+];
+
 /// An operator on one register.
+#[tactic(auto, unfolding(crate::specs::Mnemonics::unary_name))]
 pub fn unary_name(op: UnaryOp) -> &'static str
     ensures { result.now ≡ unary_name op }
 {
-    match op {
-        UnaryOp::Abs32 => "lpr",
-        UnaryOp::Abs64 => "lpgr",
-        UnaryOp::Abs64Ext32 => "lpgfr",
-        UnaryOp::Neg32 => "lcr",
-        UnaryOp::Neg64 => "lcgr",
-        UnaryOp::Neg64Ext32 => "lcgfr",
-        UnaryOp::PopcntByte => "popcnt",
-        UnaryOp::PopcntReg => "popcnt",
-        UnaryOp::BSwap32 => "lrvr",
-        UnaryOp::BSwap64 => "lrvgr",
-        UnaryOp::Clz64 => "clzg",
-        UnaryOp::Ctz64 => "ctzg",
-    }
+    name_at(UNARY_MNEMONICS, op as usize)
 }

@@ -1,5 +1,5 @@
 -- Texts and bytes have rows for the same operators.
-use Rattle.std.proofs.Common.{◌≡◌, ℕ, ◌+◌, Bool, true, false, Option, Some, None, List, refl, sym, ◌∙◌, is_some, ◌||◌, ◌&&◌}
+use Rattle.std.proofs.Common.{◌≡◌, ℕ, ◌+◌, Bool, true, false, Option, Some, None, List, [], ◌∷◌, refl, sym, ◌∙◌, is_some, ◌||◌, ◌&&◌}
 use Rattle.std.specs.Prelude.{cond, nat_eq, nat_lt}
 use Rattle.s390x_base.specs.declared.error.EmitError.{EmitError}
 use Rattle.s390x_base.specs.declared.regs.Reg.{Reg}
@@ -12,25 +12,30 @@ use Rattle.s390x_inst.specs.declared.ops.CmpOp.TheVariants.{CmpS32}
 use Rattle.s390x_inst.specs.declared.ops.RxSBGOp.{RxSBGOp}
 use Rattle.s390x_inst.specs.declared.ops.RxSBGOp.TheVariants.{Insert, And}
 use Rattle.s390x_inst.specs.declared.ops.UnaryOp.TheVariants.{Abs32}
+use Rattle.s390x_inst.specs.declared.load.Load.{Load}
+use Rattle.s390x_inst.specs.declared.load.LoadOp.{LoadOp}
+use Rattle.s390x_inst.specs.declared.load.LoadOp.TheVariants as LoadOps
+use Rattle.s390x_inst.specs.Loads.{as_load, by_load}
+use Rattle.s390x_words.specs.Atoms.{reg_text}
 use Rattle.s390x_inst.specs.declared.inst.Inst.{Inst}
 use Rattle.s390x_inst.specs.declared.inst.Inst.TheVariants.{AluRRR, AluRR, AluRRSImm16, AluRSImm16, AluRSImm32, AluRUImm32, AluRUImm16Shifted, AluRUImm32Shifted, ShiftRR, RxSBG, RxSBGTest, UnaryRR, SMulWide, UMulWide, Flogr, SDivMod32, SDivMod64, UDivMod32, UDivMod64, CmpRR, CmpRSImm16, CmpRSImm32}
 use Rattle.s390x_inst.specs.declared.inst.Inst.TheVariants.{CmpRUImm32, CmpTrapRR, CmpTrapRSImm16, CmpTrapRUImm16, Mov64UImm16Shifted, Mov64UImm32Shifted, Insert64UImm16Shifted, Insert64UImm32Shifted, Extend, LoadIndexedAddr, LoadLogicalIndexedAddr, Mov64, MovPReg, Mov32, Mov32Imm, Mov32SImm16}
-use Rattle.s390x_inst.specs.declared.inst.Inst.TheVariants.{Mov64SImm16, Mov64SImm32, CMov32, CMov64, CMov32SImm16, CMov64SImm16, LoadAR, InsertAR, AluRX, CmpRX, LoadMultiple64, StoreMultiple64, LoadAddr, AtomicRmw, AtomicCas32, AtomicCas64, Load32, Load32ZExt8, Load32SExt8, Load32ZExt16}
-use Rattle.s390x_inst.specs.declared.inst.Inst.TheVariants.{Load32SExt16, Load64, Load64ZExt8, Load64SExt8, Load64ZExt16, Load64SExt16, Load64ZExt32, Load64SExt32, LoadRev16, LoadRev32, LoadRev64, Store8, Store16, Store32, Store64, StoreRev16, StoreRev32, StoreRev64, StoreImm8, StoreImm16}
+use Rattle.s390x_inst.specs.declared.inst.Inst.TheVariants.{Mov64SImm16, Mov64SImm32, CMov32, CMov64, CMov32SImm16, CMov64SImm16, LoadAR, InsertAR, AluRX, CmpRX, LoadMultiple64, StoreMultiple64, LoadAddr, AtomicRmw, AtomicCas32, AtomicCas64}
+use Rattle.s390x_inst.specs.declared.inst.Inst.TheVariants.{Store8, Store16, Store32, Store64, StoreRev16, StoreRev32, StoreRev64, StoreImm8, StoreImm16}
 use Rattle.s390x_inst.specs.declared.inst.Inst.TheVariants.{StoreImm32SExt16, StoreImm64SExt16}
 use Rattle.s390x_typed_steps.specs.MachineInstruction.{MachineInstruction}
 use Rattle.s390x_typed_steps.specs.SingleInstruction.{single_instruction, single_with, two_row, three_row, halfword_row, word_row, three_halfword_row, masked_row, masked_halfword_row, indexed_row}
 use Rattle.s390x_typed_steps.specs.Opcodes.{alu_three, alu_two, cmp_two, cmp_trap, cmp_trap_signed, cmp_trap_unsigned, alu_halfword, alu_three_halfword, alu_signed_word, alu_unsigned_word, cmp_halfword, cmp_signed_word, cmp_unsigned_word, of_one, of_two, of_four, alu_part, alu_half, load_part}
 use Rattle.s390x_typed_steps.specs.Opcodes.{load_half, insert_part, insert_half, extend_two, rotate_then_test, indexed_opcode, logical_indexed_opcode}
 use Rattle.s390x_typed_steps.specs.Storage.{alu_rx, alu_rxy, atomic_rsy}
-use Rattle.s390x_typed_steps.specs.Memory.{operate, load_and_operate, memory}
+use Rattle.s390x_typed_steps.specs.Memory.{MemoryInstruction, load_memory, other_memory, operate, load_and_operate, memory}
 use Rattle.s390x_row_text.specs.Texts.{Text, row}
 use Rattle.s390x_base.specs.declared.regs.Reg.TheVariants.{Real, Virtual}
 use Rattle.s390x_row_text.specs.Operands.{is_reg, pair_cause}
 use Rattle.s390x_row_text.specs.Mnemonics.{alu_three_name, alu_two_name, alu_halfword_name, alu_three_halfword_name, alu_signed_word_name, alu_unsigned_word_name, alu_short_name, alu_long_name, atomic_name, cmp_short_name, cmp_long_name, cmp_relative_name, cmp_two_name, cmp_halfword_name}
-use Rattle.s390x_row_text.specs.Mnemonics.{cmp_signed_word_name, cmp_unsigned_word_name, cmp_trap_name, cmp_trap_signed_name, cmp_trap_unsigned_name, rotate_name, rotate_test_name}
+use Rattle.s390x_row_text.specs.Mnemonics.{cmp_signed_word_name, cmp_unsigned_word_name, cmp_trap_name, cmp_trap_signed_name, cmp_trap_unsigned_name, load_short_name, load_long_name, load_relative_name, rotate_name, rotate_test_name}
 use Rattle.s390x_row_text.specs.Integer.{three_text, conditional_row, one_of_two, one_of_four, only_one, alu_part_name, alu_half_name, load_part_name, load_half_name, insert_part_name, insert_half_name, extend_name, indexed_name, logical_indexed_name, arithmetic_text, pair_instruction_text, compare_text, move_text}
-use Rattle.s390x_row_text.specs.Storage.{rx, rs, has_row, address_cause, load_text, store_text, storage_operator_text}
+use Rattle.s390x_row_text.specs.Storage.{rx, rs, has_row, access_where, address_cause, load_mnemonics, load_text, store_text, storage_operator_text}
 use Rattle.s390x_text.specs.Agreement.{has_row_text, Agrees, RowsAgree}
 use Rattle.s390x_row_text.specs.declared.error.TextError.TheVariants.{NoRow, BadPair}
 
@@ -42,54 +47,67 @@ by_test true x z y w p q = p
 by_test false x z y w p q = q
 
 alu_three_same : (op : ALUOp) → is_some (alu_three_name op) ≡ is_some (alu_three op)
+unfolding alu_three_name
 alu_three_same Add32 = refl
 alu_three_same op = refl
 
 alu_two_same : (op : ALUOp) → is_some (alu_two_name op) ≡ is_some (alu_two op)
+unfolding alu_two_name
 alu_two_same Add32 = refl
 alu_two_same op = refl
 
 alu_halfword_same : (op : ALUOp) → is_some (alu_halfword_name op) ≡ is_some (alu_halfword op)
+unfolding alu_halfword_name
 alu_halfword_same Add32 = refl
 alu_halfword_same op = refl
 
 alu_three_halfword_same : (op : ALUOp) → is_some (alu_three_halfword_name op) ≡ is_some (alu_three_halfword op)
+unfolding alu_three_halfword_name
 alu_three_halfword_same Add32 = refl
 alu_three_halfword_same op = refl
 
 alu_signed_word_same : (op : ALUOp) → is_some (alu_signed_word_name op) ≡ is_some (alu_signed_word op)
+unfolding alu_signed_word_name
 alu_signed_word_same Add32 = refl
 alu_signed_word_same op = refl
 
 alu_unsigned_word_same : (op : ALUOp) → is_some (alu_unsigned_word_name op) ≡ is_some (alu_unsigned_word op)
+unfolding alu_unsigned_word_name
 alu_unsigned_word_same Add32 = refl
 alu_unsigned_word_same op = refl
 
 cmp_two_same : (op : CmpOp) → is_some (cmp_two_name op) ≡ is_some (cmp_two op)
+unfolding cmp_two_name
 cmp_two_same CmpS32 = refl
 cmp_two_same op = refl
 
 cmp_halfword_same : (op : CmpOp) → is_some (cmp_halfword_name op) ≡ is_some (cmp_halfword op)
+unfolding cmp_halfword_name
 cmp_halfword_same CmpS32 = refl
 cmp_halfword_same op = refl
 
 cmp_signed_word_same : (op : CmpOp) → is_some (cmp_signed_word_name op) ≡ is_some (cmp_signed_word op)
+unfolding cmp_signed_word_name
 cmp_signed_word_same CmpS32 = refl
 cmp_signed_word_same op = refl
 
 cmp_unsigned_word_same : (op : CmpOp) → is_some (cmp_unsigned_word_name op) ≡ is_some (cmp_unsigned_word op)
+unfolding cmp_unsigned_word_name
 cmp_unsigned_word_same CmpS32 = refl
 cmp_unsigned_word_same op = refl
 
 cmp_trap_same : (op : CmpOp) → is_some (cmp_trap_name op) ≡ is_some (cmp_trap op)
+unfolding cmp_trap_name
 cmp_trap_same CmpS32 = refl
 cmp_trap_same op = refl
 
 cmp_trap_signed_same : (op : CmpOp) → is_some (cmp_trap_signed_name op) ≡ is_some (cmp_trap_signed op)
+unfolding cmp_trap_signed_name
 cmp_trap_signed_same CmpS32 = refl
 cmp_trap_signed_same op = refl
 
 cmp_trap_unsigned_same : (op : CmpOp) → is_some (cmp_trap_unsigned_name op) ≡ is_some (cmp_trap_unsigned op)
+unfolding cmp_trap_unsigned_name
 cmp_trap_unsigned_same CmpS32 = refl
 cmp_trap_unsigned_same op = refl
 
@@ -98,10 +116,12 @@ rotate_test_same And = refl
 rotate_test_same op = refl
 
 atomic_same : (op : ALUOp) → is_some (atomic_name op) ≡ is_some (atomic_rsy op)
+unfolding atomic_name
 atomic_same Add32 = refl
 atomic_same op = refl
 
 storage_same : (op : ALUOp) → has_row (rx (alu_short_name op) (alu_long_name op) None) ≡ (is_some (alu_rx op) || is_some (alu_rxy op))
+unfolding alu_short_name alu_long_name
 storage_same Add32 = refl
 storage_same op = refl
 
@@ -334,23 +354,18 @@ moves (LoadAR rd ar) = refl
 moves (InsertAR rd ri ar) = refl
 moves i = tt
 
+-- each load has a row: the last clause is a copy for each
+load_has_row : (op : LoadOp) → has_row (load_mnemonics op) ≡ true
+unfolding load_short_name load_long_name load_relative_name
+load_has_row LoadOps.Load64 = refl
+load_has_row op = refl
+
+load_agrees : (has : Bool) (e : Emission) (o : Option Load) (other : Option MemoryInstruction) → Agrees (by_load (λ l. Some (access_where has (load_mnemonics l.op) e (reg_text l.rd ∷ []) l.mem [])) None o) (is_some (by_load load_memory other o))
+load_agrees has e None other = tt
+load_agrees has e (Some l) other = access_row (has_row (load_mnemonics l.op)) _ ∙ load_has_row l.op
+
 loads : (has : Bool) (e : Emission) (i : Inst) → Agrees (load_text has e i) (is_some (memory i))
-loads has e (Load32 rd mem) = address_row _
-loads has e (Load32ZExt8 rd mem) = address_row _
-loads has e (Load32SExt8 rd mem) = address_row _
-loads has e (Load32ZExt16 rd mem) = address_row _
-loads has e (Load32SExt16 rd mem) = address_row _
-loads has e (Load64 rd mem) = address_row _
-loads has e (Load64ZExt8 rd mem) = address_row _
-loads has e (Load64SExt8 rd mem) = address_row _
-loads has e (Load64ZExt16 rd mem) = address_row _
-loads has e (Load64SExt16 rd mem) = address_row _
-loads has e (Load64ZExt32 rd mem) = address_row _
-loads has e (Load64SExt32 rd mem) = address_row _
-loads has e (LoadRev16 rd mem) = address_row _
-loads has e (LoadRev32 rd mem) = address_row _
-loads has e (LoadRev64 rd mem) = address_row _
-loads has e i = tt
+loads has e i = load_agrees has e (as_load i) (other_memory i)
 
 stores : (has : Bool) (e : Emission) (i : Inst) → Agrees (store_text has e i) (is_some (memory i))
 stores has e (Store8 rd mem) = address_row _

@@ -1,10 +1,12 @@
 -- No operand and no text depends on the stack map of the state.
-use Rattle.std.proofs.Common.{◌≡◌, ℕ, Option, refl, ap}
+use Rattle.std.proofs.Common.{◌≡◌, ℕ, Option, Some, None, refl, ap}
 use Rattle.s390x_inst.specs.Emission.{Emission}
 use Rattle.s390x_inst.specs.declared.args.MemArg.{MemArg}
 use Rattle.s390x_inst.specs.declared.args.MemArg.TheVariants.{InitialSPOffset}
+use Rattle.s390x_inst.specs.declared.load.Load.{Load}
+use Rattle.s390x_inst.specs.Loads.{as_load, by_load, load_instruction}
 use Rattle.s390x_inst.specs.declared.inst.Inst.{Inst}
-use Rattle.s390x_inst.specs.declared.inst.Inst.TheVariants.{AluRX, CmpRX, Load32, Load32ZExt8, Load32SExt8, Load32ZExt16, Load32SExt16, Load64, Load64ZExt8, Load64SExt8, Load64ZExt16, Load64SExt16, Load64ZExt32, Load64SExt32, LoadRev16, LoadRev32, LoadRev64, Store8, Store16, Store32, Store64}
+use Rattle.s390x_inst.specs.declared.inst.Inst.TheVariants.{AluRX, CmpRX, Store8, Store16, Store32, Store64}
 use Rattle.s390x_inst.specs.declared.inst.Inst.TheVariants.{StoreRev16, StoreRev32, StoreRev64, StoreImm8, StoreImm16, StoreImm32SExt16, StoreImm64SExt16, LoadMultiple64, StoreMultiple64, LoadAddr, AtomicRmw, AtomicCas32, AtomicCas64, Vector}
 use Rattle.s390x_inst.specs.declared.vec_inst.VecInst.{VecInst}
 use Rattle.s390x_inst.specs.declared.vec_inst.VecInst.TheVariants.{VecLoad, VecLoadRev, VecLoadByte16Rev, VecLoadByte32Rev, VecLoadByte64Rev, VecLoadElt16Rev, VecLoadElt32Rev, VecLoadElt64Rev, VecStore, VecStoreRev, VecStoreByte16Rev, VecStoreByte32Rev, VecStoreByte64Rev, VecStoreElt16Rev, VecStoreElt32Rev, VecStoreElt64Rev}
@@ -47,25 +49,14 @@ same_vector e map (VecStoreLane size rd mem lane) = ap (λ m. VecStoreLane size 
 same_vector e map (VecStoreLaneRev size rd mem lane) = ap (λ m. VecStoreLaneRev size rd m lane) (same_operand e map mem)
 same_vector e map v = refl
 
+same_load : (e : Emission) (map : Option ℕ) (i : Inst) (o : Option Load) → by_load (λ l. load_instruction l.op l.rd (resolved (mapped e map) l.mem)) i o ≡ by_load (λ l. load_instruction l.op l.rd (resolved e l.mem)) i o
+same_load e map i None = refl
+same_load e map i (Some l) = ap (load_instruction l.op l.rd) (same_operand e map l.mem)
+
 -- an instruction with its operand resolved is the same one whatever the stack map is
 pub same_resolved : (e : Emission) (map : Option ℕ) (i : Inst) → resolved_instruction (mapped e map) i ≡ resolved_instruction e i
 same_resolved e map (AluRX op rd ri mem) = ap (AluRX op rd ri) (same_operand e map mem)
 same_resolved e map (CmpRX op rn mem) = ap (CmpRX op rn) (same_operand e map mem)
-same_resolved e map (Load32 rd mem) = ap (Load32 rd) (same_operand e map mem)
-same_resolved e map (Load32ZExt8 rd mem) = ap (Load32ZExt8 rd) (same_operand e map mem)
-same_resolved e map (Load32SExt8 rd mem) = ap (Load32SExt8 rd) (same_operand e map mem)
-same_resolved e map (Load32ZExt16 rd mem) = ap (Load32ZExt16 rd) (same_operand e map mem)
-same_resolved e map (Load32SExt16 rd mem) = ap (Load32SExt16 rd) (same_operand e map mem)
-same_resolved e map (Load64 rd mem) = ap (Load64 rd) (same_operand e map mem)
-same_resolved e map (Load64ZExt8 rd mem) = ap (Load64ZExt8 rd) (same_operand e map mem)
-same_resolved e map (Load64SExt8 rd mem) = ap (Load64SExt8 rd) (same_operand e map mem)
-same_resolved e map (Load64ZExt16 rd mem) = ap (Load64ZExt16 rd) (same_operand e map mem)
-same_resolved e map (Load64SExt16 rd mem) = ap (Load64SExt16 rd) (same_operand e map mem)
-same_resolved e map (Load64ZExt32 rd mem) = ap (Load64ZExt32 rd) (same_operand e map mem)
-same_resolved e map (Load64SExt32 rd mem) = ap (Load64SExt32 rd) (same_operand e map mem)
-same_resolved e map (LoadRev16 rd mem) = ap (LoadRev16 rd) (same_operand e map mem)
-same_resolved e map (LoadRev32 rd mem) = ap (LoadRev32 rd) (same_operand e map mem)
-same_resolved e map (LoadRev64 rd mem) = ap (LoadRev64 rd) (same_operand e map mem)
 same_resolved e map (Store8 rd mem) = ap (Store8 rd) (same_operand e map mem)
 same_resolved e map (Store16 rd mem) = ap (Store16 rd) (same_operand e map mem)
 same_resolved e map (Store32 rd mem) = ap (Store32 rd) (same_operand e map mem)
@@ -84,4 +75,4 @@ same_resolved e map (AtomicRmw op rd rn mem) = ap (AtomicRmw op rd rn) (same_ope
 same_resolved e map (AtomicCas32 rd ri rn mem) = ap (AtomicCas32 rd ri rn) (same_operand e map mem)
 same_resolved e map (AtomicCas64 rd ri rn mem) = ap (AtomicCas64 rd ri rn) (same_operand e map mem)
 same_resolved e map (Vector v) = ap Vector (same_vector e map v)
-same_resolved e map i = refl
+same_resolved e map i = same_load e map i (as_load i)

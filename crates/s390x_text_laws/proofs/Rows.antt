@@ -160,10 +160,12 @@ address_fine (Some e) h = absurd (cc)
 -- ---- operators on an operand in memory
 
 operator_type : (has : Bool) (op : ALUOp) (r : ℕ) → type_of_rows has (rx (alu_short_name op) (alu_long_name op) None) ≡ type_there has true (type_of (RxForm r (alu_rx op) (alu_rxy op) None) true)
+unfolding alu_short_name alu_long_name
 operator_type has Add32 r = refl
 operator_type has op r = refl
 
 comparison_type : (has : Bool) (op : CmpOp) (r : ℕ) → type_of_rows has (rx (cmp_short_name op) (cmp_long_name op) (Some (cmp_relative_name op))) ≡ type_there has true (type_of (RxForm r (cmp_rx op) (cmp_rxy op) (Some (cmp_ril op))) true)
+unfolding cmp_short_name cmp_long_name
 comparison_type has CmpS32 r = refl
 comparison_type has op r = refl
 

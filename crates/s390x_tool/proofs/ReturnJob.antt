@@ -9,6 +9,7 @@ use Rattle.s390x_inst.specs.State.{base_facilities, fresh_emission}
 use Rattle.s390x_inst.specs.declared.calls.CallConv.TheVariants.{SystemV}
 use Rattle.s390x_inst.specs.declared.inst.Inst.{Inst}
 use Rattle.s390x_inst.specs.declared.inst.Inst.TheVariants.{Ret}
+use Rattle.s390x_words.specs.Operators.{convention_text}
 use Rattle.s390x_lines.specs.Instructions.{inst_line}
 use Rattle.s390x_lines.specs.Line.{Line}
 use Rattle.s390x_job.specs.Completions.{joined}
@@ -45,6 +46,7 @@ job = record {
 
 -- no line says what is said without one
 frame_untold : frame_lines SystemV plain_layout ≡ []
+unfolding convention_text
 frame_untold = rw (decimal_digit 0 (omega arith)) refl
 
 lines_are : job_lines job ≡ block_line ∷ return_line ∷ end_line ∷ []

@@ -10,11 +10,12 @@ use Rattle.s390x_base.specs.declared.imms.UImm16Shifted.{UImm16Shifted}
 use Rattle.s390x_base.specs.declared.imms.UImm32Shifted.{UImm32Shifted}
 use Rattle.s390x_base.specs.declared.error.EmitError.{EmitError}
 use Rattle.s390x_base.specs.declared.error.EmitError.TheVariants.{BadOperator, BadRegister}
+use Rattle.s390x_inst.specs.Loads.{load_instruction}
 use Rattle.s390x_inst.specs.declared.inst.Inst.{Inst}
 use Rattle.s390x_inst.specs.declared.inst.Inst.TheVariants.{AluRRR, AluRR, AluRRSImm16, AluRSImm16, AluRSImm32, AluRUImm32, UnaryRR, CmpRR, CmpRSImm16, CmpRSImm32, CmpRUImm32, Mov64, MovPReg, Mov32, Mov32Imm, Mov32SImm16, Mov64SImm16, Mov64SImm32, AluRUImm16Shifted, AluRUImm32Shifted, ShiftRR, RxSBG}
 use Rattle.s390x_inst.specs.declared.inst.Inst.TheVariants.{RxSBGTest, Mov64UImm16Shifted, Mov64UImm32Shifted, Insert64UImm16Shifted, Insert64UImm32Shifted, CMov32, CMov64, CMov32SImm16, CMov64SImm16, Extend, LoadAR, InsertAR, SMulWide, UMulWide, Flogr, Fence, Nop0, Nop2, LoadIndexedAddr}
-use Rattle.s390x_inst.specs.declared.inst.Inst.TheVariants.{LoadLogicalIndexedAddr, Jump, CondBr, Ret, CondBreak, Vector, LabelAddress, LoadSymbolReloc, SDivMod32, SDivMod64, UDivMod32, UDivMod64, CmpTrapRR, CmpTrapRSImm16, CmpTrapRUImm16, Trap, TrapIf, Debugtrap, AluRX, CmpRX, Load32, Load32ZExt8}
-use Rattle.s390x_inst.specs.declared.inst.Inst.TheVariants.{Load32SExt8, Load32ZExt16, Load32SExt16, Load64, Load64ZExt8, Load64SExt8, Load64ZExt16, Load64SExt16, Load64ZExt32, Load64SExt32, LoadRev16, LoadRev32, LoadRev64, Store8, Store16, Store32, Store64, StoreRev16, StoreRev32, StoreRev64, LoadAddr}
+use Rattle.s390x_inst.specs.declared.inst.Inst.TheVariants.{LoadLogicalIndexedAddr, Jump, CondBr, Ret, CondBreak, Vector, LabelAddress, LoadSymbolReloc, SDivMod32, SDivMod64, UDivMod32, UDivMod64, CmpTrapRR, CmpTrapRSImm16, CmpTrapRUImm16, Trap, TrapIf, Debugtrap, AluRX, CmpRX}
+use Rattle.s390x_inst.specs.declared.inst.Inst.TheVariants.{Store8, Store16, Store32, Store64, StoreRev16, StoreRev32, StoreRev64, LoadAddr}
 use Rattle.s390x_inst.specs.declared.inst.Inst.TheVariants.{StoreImm8, StoreImm16, StoreImm32SExt16, StoreImm64SExt16, LoadMultiple64, StoreMultiple64, AtomicRmw, AtomicCas32, AtomicCas64, AllocateArgs, DummyUse, SequencePoint}
 use Rattle.s390x_inst.specs.declared.vec_inst.VecInst.{VecInst}
 use Rattle.s390x_inst.specs.declared.vec_inst.VecInst.TheVariants as V
@@ -186,21 +187,7 @@ reading (N.Memory MemoryIs.LoadIndexedAddr) (FReg rd ∷ FReg base ∷ FReg inde
 reading (N.Memory MemoryIs.LoadLogicalIndexedAddr) (FReg rd ∷ FReg base ∷ FReg index ∷ FInteger v offset ∷ FNatural w size ∷ []) = Whole (LoadLogicalIndexedAddr rd base index offset size)
 reading (N.Integer IntegerIs.AluRX) (FAlu op ∷ FReg rd ∷ FReg ri ∷ FMemory mem ∷ []) = Whole (AluRX op rd ri mem)
 reading (N.Integer IntegerIs.CmpRX) (FCmp op ∷ FReg rn ∷ FMemory mem ∷ []) = Whole (CmpRX op rn mem)
-reading (N.Memory MemoryIs.Load32) (FReg rd ∷ FMemory mem ∷ []) = Whole (Load32 rd mem)
-reading (N.Memory MemoryIs.Load32ZExt8) (FReg rd ∷ FMemory mem ∷ []) = Whole (Load32ZExt8 rd mem)
-reading (N.Memory MemoryIs.Load32SExt8) (FReg rd ∷ FMemory mem ∷ []) = Whole (Load32SExt8 rd mem)
-reading (N.Memory MemoryIs.Load32ZExt16) (FReg rd ∷ FMemory mem ∷ []) = Whole (Load32ZExt16 rd mem)
-reading (N.Memory MemoryIs.Load32SExt16) (FReg rd ∷ FMemory mem ∷ []) = Whole (Load32SExt16 rd mem)
-reading (N.Memory MemoryIs.Load64) (FReg rd ∷ FMemory mem ∷ []) = Whole (Load64 rd mem)
-reading (N.Memory MemoryIs.Load64ZExt8) (FReg rd ∷ FMemory mem ∷ []) = Whole (Load64ZExt8 rd mem)
-reading (N.Memory MemoryIs.Load64SExt8) (FReg rd ∷ FMemory mem ∷ []) = Whole (Load64SExt8 rd mem)
-reading (N.Memory MemoryIs.Load64ZExt16) (FReg rd ∷ FMemory mem ∷ []) = Whole (Load64ZExt16 rd mem)
-reading (N.Memory MemoryIs.Load64SExt16) (FReg rd ∷ FMemory mem ∷ []) = Whole (Load64SExt16 rd mem)
-reading (N.Memory MemoryIs.Load64ZExt32) (FReg rd ∷ FMemory mem ∷ []) = Whole (Load64ZExt32 rd mem)
-reading (N.Memory MemoryIs.Load64SExt32) (FReg rd ∷ FMemory mem ∷ []) = Whole (Load64SExt32 rd mem)
-reading (N.Memory MemoryIs.LoadRev16) (FReg rd ∷ FMemory mem ∷ []) = Whole (LoadRev16 rd mem)
-reading (N.Memory MemoryIs.LoadRev32) (FReg rd ∷ FMemory mem ∷ []) = Whole (LoadRev32 rd mem)
-reading (N.Memory MemoryIs.LoadRev64) (FReg rd ∷ FMemory mem ∷ []) = Whole (LoadRev64 rd mem)
+reading (N.Load op) (FReg rd ∷ FMemory mem ∷ []) = Whole (load_instruction op rd mem)
 reading (N.Memory MemoryIs.Store8) (FReg rd ∷ FMemory mem ∷ []) = Whole (Store8 rd mem)
 reading (N.Memory MemoryIs.Store16) (FReg rd ∷ FMemory mem ∷ []) = Whole (Store16 rd mem)
 reading (N.Memory MemoryIs.Store32) (FReg rd ∷ FMemory mem ∷ []) = Whole (Store32 rd mem)

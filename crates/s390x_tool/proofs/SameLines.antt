@@ -20,7 +20,7 @@ use Rattle.s390x_fields.specs.Fields.{Field, FNatural, FBytes, FName, FCond, FFl
 use Rattle.s390x_lines.specs.Line.{Line, spelled}
 use Rattle.s390x_lines.specs.Instructions.{inst_line, vector_line}
 use Rattle.s390x_job.specs.Items.{frame_line, constant_line, symbol_line, register_line, memory_line, block_line, loop_line, close_line, end_line}
-use Rattle.s390x_job.specs.Jobs.{plain_layout, IsTold, inst_lines, row_lines, insts_lines, blocks_lines, flags_lines, frame_lines, start_lines, registers_lines, job_lines}
+use Rattle.s390x_job.specs.Jobs.{plain_layout, IsPlainWithoutLine, inst_lines, row_lines, insts_lines, blocks_lines, flags_lines, frame_lines, start_lines, registers_lines, job_lines}
 use Rattle.s390x_lines.specs.declared.name.LineName.{LineName}
 use Rattle.s390x_lines.specs.declared.name.LineName.TheVariants as N
 use Rattle.s390x_job.specs.declared.job.Job.{Job}
@@ -176,7 +176,7 @@ frame_if true conv layout ls told e =
     ap (λ x. with_frame x (found ls)) (e ∙ sym (ap₂ make t.0 t.1))
 frame_if false conv layout ls told e = refl
 
-frame_found : (conv : CallConv) (layout : FrameLayout) (ls : List Line) → IsTold conv layout → (found ls).frame ≡ no_frame → found (frame_lines conv layout ++ ls) ≡ with_frame (record { conv = conv; layout = layout }) (found ls)
+frame_found : (conv : CallConv) (layout : FrameLayout) (ls : List Line) → IsPlainWithoutLine conv layout → (found ls).frame ≡ no_frame → found (frame_lines conv layout ++ ls) ≡ with_frame (record { conv = conv; layout = layout }) (found ls)
 frame_found conv layout ls told e = frame_if (bytes_eq (spelled (frame_line conv layout).fields) (codes " SystemV 0 0 0 0 0 0 - 0")) conv layout ls told e
 
 register_passed : (c : Bool) (l : Line) (rest ls : List Line) → ((f : Found) → feed l.name l f ≡ f) → found (rest ++ ls) ≡ found ls → found ((if c then rest else l ∷ rest) ++ ls) ≡ found ls
@@ -217,7 +217,7 @@ Said j = with_constants_before (constants_of j.function) (with_symbols_before j.
 abbrev pub frame_of : Job → Frame
 frame_of j = record { conv = j.conv; layout = j.state.layout }
 
-pub job_found : (j : Job) → IsTold j.conv j.state.layout → found (job_lines j) ≡ with_flags j.info.isa_flags (with_frame (frame_of j) (Said j))
+pub job_found : (j : Job) → IsPlainWithoutLine j.conv j.state.layout → found (job_lines j) ≡ with_flags j.info.isa_flags (with_frame (frame_of j) (Said j))
 job_found j told =
     let f = j.info.isa_flags in
     let flags = flags_lines f in

@@ -59,31 +59,31 @@ fn plan_refused(alloc: Global, fault: PlanFault) -> Reply
 {
     match fault {
         PlanFault::Blocks => fixed(Status::PlanRefused, "plan Blocks\n"),
-        PlanFault::Unsupported { block, inst } => told_place(alloc, "Unsupported", block, inst),
-        PlanFault::Shape { block, inst } => told_place(alloc, "Shape", block, inst),
-        PlanFault::Order { block, edit } => told_place(alloc, "Order", block, edit),
+        PlanFault::Unsupported { block, inst } => refused_at(alloc, "Unsupported", block, inst),
+        PlanFault::Shape { block, inst } => refused_at(alloc, "Shape", block, inst),
+        PlanFault::Order { block, edit } => refused_at(alloc, "Order", block, edit),
         PlanFault::Operands { block, edit, cause } => {
-            told_cause(alloc, "Operands", block, edit, operand_error_name(cause))
+            refused_cause(alloc, "Operands", block, edit, operand_error_name(cause))
         }
-        PlanFault::Count { block, edit } => told_place(alloc, "Count", block, edit),
+        PlanFault::Count { block, edit } => refused_at(alloc, "Count", block, edit),
         PlanFault::Constraint {
             block,
             edit,
             operand,
-        } => told_operand(alloc, "Constraint", block, edit, operand),
-        PlanFault::Move { block, edit } => told_place(alloc, "Move", block, edit),
+        } => refused_operand(alloc, "Constraint", block, edit, operand),
+        PlanFault::Move { block, edit } => refused_at(alloc, "Move", block, edit),
         PlanFault::Value {
             block,
             edit,
             operand,
-        } => told_operand(alloc, "Value", block, edit, operand),
-        PlanFault::Entry { block, pair } => told_place(alloc, "Entry", block, pair),
+        } => refused_operand(alloc, "Value", block, edit, operand),
+        PlanFault::Entry { block, pair } => refused_at(alloc, "Entry", block, pair),
         PlanFault::NoMemory => no_memory(),
     }
 }
 
 // The reply with a fault of a block's instruction, edit or pair.
-fn told_place(alloc: Global, name: &'static str, block: u32, place: u32) -> Reply
+fn refused_at(alloc: Global, name: &'static str, block: u32, place: u32) -> Reply
     ensures { IsMade Status.PlanRefused (line (codes "plan " ++ numbered_fault name.entry.now (block ∷ place ∷ []))) result.status (cow_str_bytes result.text) }
 {
     made(
@@ -93,7 +93,7 @@ fn told_place(alloc: Global, name: &'static str, block: u32, place: u32) -> Repl
 }
 
 // The reply with a fault of an edit's operand.
-fn told_operand(alloc: Global, name: &'static str, block: u32, edit: u32, operand: u32) -> Reply
+fn refused_operand(alloc: Global, name: &'static str, block: u32, edit: u32, operand: u32) -> Reply
     ensures { IsMade Status.PlanRefused (line (codes "plan " ++ numbered_fault name.entry.now (block ∷ edit ∷ operand ∷ []))) result.status (cow_str_bytes result.text) }
 {
     made(
@@ -103,7 +103,7 @@ fn told_operand(alloc: Global, name: &'static str, block: u32, edit: u32, operan
 }
 
 // The reply with a fault of an edit, and what refuses it.
-fn told_cause(
+fn refused_cause(
     alloc: Global,
     name: &'static str,
     block: u32,

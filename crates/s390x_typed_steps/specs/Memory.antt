@@ -1,5 +1,5 @@
 -- Instructions with a memory operand: their machine rows by format, the operand, and the registers that they name (cranelift-codegen, `emit.rs`).
-use Rattle.std.specs.Prelude.{ℕ, Bool, true, false, cond, not, ◌&&◌, ◌||◌, nat_le, nat_lt, nat_eq, is_some, Option, Some, None, option_map}
+use Rattle.std.specs.Prelude.{ℕ, get_or, Bool, true, false, cond, not, ◌&&◌, ◌||◌, nat_le, nat_lt, nat_eq, is_some, Option, Some, None, option_map}
 use Rattle.s390x_base.specs.Regs.{number_of}
 use Rattle.s390x_base.specs.declared.regs.Reg.{Reg}
 use Rattle.s390x_base.specs.declared.trap.TrapKind.{TrapKind}
@@ -7,8 +7,11 @@ use Rattle.s390x_inst.specs.Memory.{flags_of}
 use Rattle.s390x_inst.specs.declared.args.MemArg.{MemArg}
 use Rattle.s390x_inst.specs.declared.args.MemArg.TheVariants.{BXD12, BXD20}
 use Rattle.s390x_inst.specs.declared.inst.Inst.{Inst}
-use Rattle.s390x_inst.specs.declared.inst.Inst.TheVariants.{AluRX, CmpRX, Load32, Load32ZExt8, Load32SExt8, Load32ZExt16, Load32SExt16, Load64, Load64ZExt8, Load64SExt8, Load64ZExt16, Load64SExt16, Load64ZExt32, Load64SExt32, LoadRev16, LoadRev32, LoadRev64, Store8, Store16, Store32, Store64}
+use Rattle.s390x_inst.specs.declared.inst.Inst.TheVariants.{AluRX, CmpRX, Store8, Store16, Store32, Store64}
 use Rattle.s390x_inst.specs.declared.inst.Inst.TheVariants.{StoreRev16, StoreRev32, StoreRev64, StoreImm8, StoreImm16, StoreImm32SExt16, StoreImm64SExt16, LoadMultiple64, StoreMultiple64, LoadAddr, AtomicRmw, AtomicCas32, AtomicCas64, Vector}
+use Rattle.s390x_inst.specs.declared.load.Load.{Load}
+use Rattle.s390x_inst.specs.declared.load.LoadOp.{LoadOp}
+use Rattle.s390x_inst.specs.Loads.{as_load, by_load, load_place}
 use Rattle.s390x_inst.specs.declared.vec_inst.VecInst.{VecInst}
 use Rattle.s390x_inst.specs.declared.vec_inst.VecInst.TheVariants.{VecLoad, VecLoadRev, VecLoadByte16Rev, VecLoadByte32Rev, VecLoadByte64Rev, VecLoadElt16Rev, VecLoadElt32Rev, VecLoadElt64Rev, VecStore, VecStoreRev, VecStoreByte16Rev, VecStoreByte32Rev, VecStoreByte64Rev, VecStoreElt16Rev, VecStoreElt32Rev, VecStoreElt64Rev}
 use Rattle.s390x_inst.specs.declared.vec_inst.VecInst.TheVariants.{VecLoadReplicate, VecLoadReplicateRev, VecLoadLane, VecLoadLaneRev, VecLoadLaneUndef, VecLoadLaneRevUndef, VecStoreLane, VecStoreLaneRev}
@@ -17,6 +20,8 @@ use Rattle.s390x_typed_steps.specs.MachineInstruction.{MachineInstruction, rx, r
 use Rattle.s390x_typed_steps.specs.Operands.{is_numbered, is_relative}
 use Rattle.s390x_typed_steps.specs.Storage.{alu_rx, alu_rxy, cmp_rx, cmp_rxy, cmp_ril, atomic_rsy}
 use Rattle.s390x_typed_steps.specs.VectorInstruction.{is_vector, reuses_vector, element_code, is_lane}
+use Rattle.s390x_typed_steps.specs.declared.load_rows.LoadRows.{LoadRows}
+use Rattle.s390x_typed_steps.specs.declared.load_rows.TheConstants.{LOAD_ROWS}
 use Rattle.s390x_typed_steps.specs.declared.mem_inst_type.MemInstType.{MemInstType}
 
 -- the machine rows that an instruction has for its operand, by format, and what else stands in them
@@ -216,44 +221,40 @@ vector_memory (VecLoadReplicate size rd mem) = access_elements 0xe705 rd (elemen
 vector_memory (VecLoadReplicateRev size rd mem) = access_elements 0xe605 rd (reversed_code size) mem
 vector_memory v = lane_memory v
 
+-- the rows of a load
+abbrev pub load_rows : LoadOp → LoadRows
+load_rows op = get_or LOAD_ROWS (load_place op) (record { rx = None; rxy = None; ril = None })
+
+abbrev pub load_memory : Load → Option MemoryInstruction
+load_memory l = load l.rd (load_rows l.op).rx (load_rows l.op).rxy (load_rows l.op).ril l.mem
+
+-- the machine rows and the operand of one that is no load of one register
+abbrev pub other_memory : Inst → Option MemoryInstruction
+other_memory (AluRX op rd ri mem) = operate (is_some (alu_rx op) || is_some (alu_rxy op)) (alu_rx op) (alu_rxy op) rd ri mem
+other_memory (CmpRX op rn mem) = compare rn (cmp_rx op) (cmp_rxy op) (cmp_ril op) mem
+other_memory (Store8 rd mem) = store rd (Some 0x42) (Some 0xe372) None mem
+other_memory (Store16 rd mem) = store rd (Some 0x40) (Some 0xe370) (Some 0xc47) mem
+other_memory (Store32 rd mem) = store rd (Some 0x50) (Some 0xe350) (Some 0xc4f) mem
+other_memory (Store64 rd mem) = store rd None (Some 0xe324) (Some 0xc4b) mem
+other_memory (StoreRev16 rd mem) = store rd None (Some 0xe33f) None mem
+other_memory (StoreRev32 rd mem) = store rd None (Some 0xe33e) None mem
+other_memory (StoreRev64 rd mem) = store rd None (Some 0xe32f) None mem
+other_memory (StoreImm8 imm mem) = store_immediate (SiForm (low_byte imm) 0x92 0xeb52) mem
+other_memory (StoreImm16 imm mem) = store_immediate (SilForm (low_halfword imm) 0xe544) mem
+other_memory (StoreImm32SExt16 imm mem) = store_immediate (SilForm (low_halfword imm) 0xe54c) mem
+other_memory (StoreImm64SExt16 imm mem) = store_immediate (SilForm (low_halfword imm) 0xe548) mem
+other_memory (LoadMultiple64 rt rt2 mem) = multiple rt rt2 0xeb04 false mem
+other_memory (StoreMultiple64 rt rt2 mem) = multiple rt rt2 0xeb24 (holds_scratch rt rt2) mem
+other_memory (LoadAddr rd mem) = Some (record { form = address_form rd; operand = mem; accesses = false; operands_valid = is_general rd; reads_scratch = false })
+other_memory (AtomicRmw op rd rn mem) = load_and_operate (atomic_rsy op) rd rn mem
+other_memory (AtomicCas32 rd ri rn mem) = compare_and_swap (Some 0xba) 0xeb14 rd ri rn mem
+other_memory (AtomicCas64 rd ri rn mem) = compare_and_swap None 0xeb30 rd ri rn mem
+other_memory (Vector v) = vector_memory v
+other_memory _ = None
+
 -- the machine rows and the operand of an instruction with a memory operand, where it is one
 abbrev pub memory : Inst → Option MemoryInstruction
-memory (AluRX op rd ri mem) = operate (is_some (alu_rx op) || is_some (alu_rxy op)) (alu_rx op) (alu_rxy op) rd ri mem
-memory (CmpRX op rn mem) = compare rn (cmp_rx op) (cmp_rxy op) (cmp_ril op) mem
-memory (Load32 rd mem) = load rd (Some 0x58) (Some 0xe358) (Some 0xc4d) mem
-memory (Load32ZExt8 rd mem) = load rd None (Some 0xe394) None mem
-memory (Load32SExt8 rd mem) = load rd None (Some 0xe376) None mem
-memory (Load32ZExt16 rd mem) = load rd None (Some 0xe395) (Some 0xc42) mem
-memory (Load32SExt16 rd mem) = load rd (Some 0x48) (Some 0xe378) (Some 0xc45) mem
-memory (Load64 rd mem) = load rd None (Some 0xe304) (Some 0xc48) mem
-memory (Load64ZExt8 rd mem) = load rd None (Some 0xe390) None mem
-memory (Load64SExt8 rd mem) = load rd None (Some 0xe377) None mem
-memory (Load64ZExt16 rd mem) = load rd None (Some 0xe391) (Some 0xc46) mem
-memory (Load64SExt16 rd mem) = load rd None (Some 0xe315) (Some 0xc44) mem
-memory (Load64ZExt32 rd mem) = load rd None (Some 0xe316) (Some 0xc4e) mem
-memory (Load64SExt32 rd mem) = load rd None (Some 0xe314) (Some 0xc4c) mem
-memory (LoadRev16 rd mem) = load rd None (Some 0xe31f) None mem
-memory (LoadRev32 rd mem) = load rd None (Some 0xe31e) None mem
-memory (LoadRev64 rd mem) = load rd None (Some 0xe30f) None mem
-memory (Store8 rd mem) = store rd (Some 0x42) (Some 0xe372) None mem
-memory (Store16 rd mem) = store rd (Some 0x40) (Some 0xe370) (Some 0xc47) mem
-memory (Store32 rd mem) = store rd (Some 0x50) (Some 0xe350) (Some 0xc4f) mem
-memory (Store64 rd mem) = store rd None (Some 0xe324) (Some 0xc4b) mem
-memory (StoreRev16 rd mem) = store rd None (Some 0xe33f) None mem
-memory (StoreRev32 rd mem) = store rd None (Some 0xe33e) None mem
-memory (StoreRev64 rd mem) = store rd None (Some 0xe32f) None mem
-memory (StoreImm8 imm mem) = store_immediate (SiForm (low_byte imm) 0x92 0xeb52) mem
-memory (StoreImm16 imm mem) = store_immediate (SilForm (low_halfword imm) 0xe544) mem
-memory (StoreImm32SExt16 imm mem) = store_immediate (SilForm (low_halfword imm) 0xe54c) mem
-memory (StoreImm64SExt16 imm mem) = store_immediate (SilForm (low_halfword imm) 0xe548) mem
-memory (LoadMultiple64 rt rt2 mem) = multiple rt rt2 0xeb04 false mem
-memory (StoreMultiple64 rt rt2 mem) = multiple rt rt2 0xeb24 (holds_scratch rt rt2) mem
-memory (LoadAddr rd mem) = Some (record { form = address_form rd; operand = mem; accesses = false; operands_valid = is_general rd; reads_scratch = false })
-memory (AtomicRmw op rd rn mem) = load_and_operate (atomic_rsy op) rd rn mem
-memory (AtomicCas32 rd ri rn mem) = compare_and_swap (Some 0xba) 0xeb14 rd ri rn mem
-memory (AtomicCas64 rd ri rn mem) = compare_and_swap None 0xeb30 rd ri rn mem
-memory (Vector v) = vector_memory v
-memory _ = None
+memory i = by_load load_memory (other_memory i) (as_load i)
 
 -- the code of the access's faults: that of the flags, where it accesses memory and they have one
 abbrev pub fault_code : MemoryInstruction → Option TrapKind

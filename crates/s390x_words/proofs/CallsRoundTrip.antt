@@ -24,7 +24,7 @@ use Rattle.s390x_inst.specs.declared.calls.SymbolReloc.{SymbolReloc}
 use Rattle.s390x_inst.specs.declared.calls.SymbolReloc.TheVariants.{Absolute}
 use Rattle.s390x_words.specs.Marks.{word, after_word, past}
 use Rattle.s390x_words.specs.Numbers.{natural_of, integer_of, W32, S64}
-use Rattle.s390x_words.specs.Operators.{type_text}
+use Rattle.s390x_words.specs.Operators.{type_text, value_type_of}
 use Rattle.s390x_words.specs.Atoms.{real_text, real_register_of, reg_text, reg_of, IsReg, name_of}
 use Rattle.s390x_words.specs.Lists.{list_text}
 use Rattle.s390x_words.specs.Calls.{
@@ -39,7 +39,6 @@ use Rattle.s390x_words.specs.Calls.{
   result_text,
   IsLocation,
   IsResult,
-  value_type_of,
   location_of,
   call_result_of,
   handler_text,
@@ -206,10 +205,12 @@ real-element = record {
 
 -- results
 type-round_trip : (t : ValueType) → value_type_of (type_text t) ≡ t
+unfolding value_type_of type_text
 type-round_trip T.I8 = refl
 type-round_trip t = refl
 
 type-one_word : (t : ValueType) → IsOneWord (type_text t)
+unfolding type_text
 type-one_word T.I8 = Avoids-test marks (type_text T.I8) refl
 type-one_word t = Avoids-test marks (type_text t) refl
 

@@ -1,6 +1,7 @@
 pub mod Members
 pub mod Words
 pub mod Tables
+pub mod Names
 pub mod Avoids
 pub mod Digits
 pub mod AtomsRoundTrip

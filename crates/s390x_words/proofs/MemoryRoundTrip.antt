@@ -7,12 +7,10 @@ use Rattle.s390x_inst.specs.declared.args.MemArg.{MemArg}
 use Rattle.s390x_inst.specs.declared.args.MemArg.TheVariants as M
 use Rattle.s390x_words.specs.Marks.{word, after_word, past}
 use Rattle.s390x_words.specs.Numbers.{natural_of, integer_of, IsBelow, signed_limit, W12, W32, S20, S32, S64}
-use Rattle.s390x_words.specs.Found.{found_by_name}
 use Rattle.s390x_words.specs.Atoms.{reg_text, reg_of, IsReg, access_text, access_of, IsSuffix, name_of}
-use Rattle.s390x_words.specs.Memory.{form_text, memory_form_of, indexed_text, offset_text, inside_text, memory_text, IsMemory, memory_with, memory_operand_of}
+use Rattle.s390x_words.specs.Memory.{form_text, form_of, memory_form_of, indexed_text, offset_text, inside_text, memory_text, IsMemory, memory_with, memory_operand_of}
 use Rattle.s390x_words.specs.declared.memory.MemoryForm.{MemoryForm}
 use Rattle.s390x_words.specs.declared.memory.MemoryForm.TheVariants as F
-use Rattle.s390x_words.specs.declared.memory.TheConstants.{ALL_FORMS}
 use Rattle.s390x_words.proofs.Avoids.{Avoids, Avoids-test, Avoids-append, Avoids-fewer, marks, IsOneWord, word-is, after-is, past-is}
 use Rattle.s390x_words.proofs.Digits.{decimal-one_word, signed-one_word, natural-round_trip, integer-round_trip, signed_wide}
 use Rattle.s390x_words.proofs.AtomsRoundTrip.{reg-round_trip, reg-one_word, name-round_trip, name-one_word, access-round_trip, access-avoids}
@@ -26,7 +24,8 @@ ap3 f {a = a} {a' = a'} {b = b} {b' = b'} {c = c} {c' = c'} p q r = ap (λ x. f 
 pub ap4 : {A B C D E : Type 0} (f : A → B → C → D → E) {a a' : A} {b b' : B} {c c' : C} {d d' : D} → a ≡ a' → b ≡ b' → c ≡ c' → d ≡ d' → f a b c d ≡ f a' b' c' d'
 ap4 f {a = a} {a' = a'} {b = b} {b' = b'} {c = c} {c' = c'} {d = d} {d' = d'} p q r s = ap (λ x. f x b c d) p ∙ ap3 (f a') q r s
 
-form-round_trip : (f : MemoryForm) → found_by_name form_text ALL_FORMS (form_text f) F.BXD12 ≡ f
+form-round_trip : (f : MemoryForm) → form_of (form_text f) ≡ f
+unfolding form_of
 form-round_trip F.BXD12 = refl
 form-round_trip f = refl
 
@@ -105,7 +104,7 @@ memory-round_trip m h r =
     let w = word-is 32 (form_text f) s (form-one_word f) refl in
     let a = after-is 32 (form_text f) s (form-one_word f) refl in
     ap (λ t. memory_operand_of (32 ∷ t)) (split m r)
-    ∙ ap2 memory_with (ap (λ t. found_by_name form_text ALL_FORMS t F.BXD12) w ∙ form-round_trip f) a
+    ∙ ap2 memory_with (ap form_of w ∙ form-round_trip f) a
     ∙ shape m h r
 
 -- no closing parenthesis stands inside

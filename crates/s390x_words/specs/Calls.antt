@@ -2,8 +2,6 @@
 use Rattle.std.specs.Prelude.{ℕ, ◌<◌, Option, Some, None, List, [], ◌∷◌, ◌++◌, codes, if◌then◌else◌, ◌==◌, slice_index, drop}
 use Rattle.std.specs.Fmt.{decimal, signed_decimal}
 use Rattle.std.specs.Str.{bytes_eq}
-use Rattle.s390x_base.specs.declared.ir.ValueType.{ValueType}
-use Rattle.s390x_base.specs.declared.ir.ValueType.TheVariants as T
 use Rattle.s390x_base.specs.declared.ir.MachLabel.{MachLabel}
 use Rattle.s390x_inst.specs.declared.calls.ArgPair.{ArgPair}
 use Rattle.s390x_inst.specs.declared.calls.RetPair.{RetPair}
@@ -21,11 +19,9 @@ use Rattle.s390x_inst.specs.declared.calls.SymbolReloc.TheVariants.{Absolute}
 use Rattle.s390x_base.specs.declared.regs.Reg.{Reg}
 use Rattle.s390x_words.specs.Marks.{equals_sign, at_sign, colon, word, after_word, past}
 use Rattle.s390x_words.specs.Numbers.{natural_of, integer_of, IsBelow, signed_limit, W32, S64}
-use Rattle.s390x_words.specs.Found.{found_by_name}
-use Rattle.s390x_words.specs.Operators.{type_text}
+use Rattle.s390x_words.specs.Operators.{type_text, value_type_of}
 use Rattle.s390x_words.specs.Atoms.{reg_text, reg_of, IsReg, name_of}
 use Rattle.s390x_words.specs.Lists.{list_text, list_of, AllItems}
-use Rattle.s390x_words.specs.declared.operators.TheConstants.{ALL_TYPE}
 
 -- the target of a call: a symbol or a register
 abbrev pub target_text : CallInstDest → List ℕ
@@ -76,10 +72,6 @@ IsLocation (L.Stack off ty) = IsBelow (signed_limit S64) off
 -- its register lies in its range, and so does where it comes back
 abbrev pub IsResult : CallRetPair → Type 0
 IsResult d = IsReg d.vreg × IsLocation d.location
-
--- the type that a word names; `I8` for any other word
-abbrev pub value_type_of : List ℕ → ValueType
-value_type_of w = found_by_name type_text ALL_TYPE w T.I8
 
 -- where a result comes back, and its type, read from the `=` on
 abbrev pub location_of : List ℕ → RetLocation

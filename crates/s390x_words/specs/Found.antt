@@ -1,8 +1,21 @@
--- A value by its spelling, among those of a table.
-use Rattle.std.specs.Prelude.{ℕ, List, [], ◌∷◌, if◌then◌else◌}
+-- A table of values and their names.
+use Rattle.std.specs.Prelude.{ℕ, List, [], ◌∷◌, if◌then◌else◌, map, get_or}
+use Rattle.std.specs.Borrow.{Bor}
 use Rattle.std.specs.Str.{bytes_eq}
 
--- the first value of a table that has this spelling; where none has, the other one
-abbrev pub found_by_name : {A : Type 0} → (A → List ℕ) → List A → List ℕ → A → A
-found_by_name spelling [] w other = other
-found_by_name spelling (x ∷ xs) w other = if bytes_eq (spelling x) w then x else found_by_name spelling xs w other
+-- the rows of a table that is a constant
+abbrev pub rows : {A : Type 0} → List (A × record { now : List ℕ }) → List (A × List ℕ)
+rows table = map (λ row. (row.0, row.1.now)) table
+
+-- the rows of a table that is passed
+abbrev pub rows_of : {A : Type 0} → List (A × Bor (List ℕ)) → List (A × List ℕ)
+rows_of table = map (λ row. (row.0, row.1.now)) table
+
+-- the first value of this name; where none has it, the other one
+abbrev pub found_by_name : {A : Type 0} → List (A × List ℕ) → List ℕ → A → A
+found_by_name [] w other = other
+found_by_name (row ∷ more) w other = if bytes_eq row.1 w then row.0 else found_by_name more w other
+
+-- the name in the n-th row
+abbrev pub name_at : {A : Type 0} → List (A × List ℕ) → ℕ → List ℕ
+name_at table n = get_or (map (λ row. row.1) table) n []

@@ -1,5 +1,6 @@
 -- Memory operands: the form's name, and its fields in order, in parentheses and joined by commas.
-use Rattle.std.specs.Prelude.{ℕ, ◌<◌, List, [], ◌∷◌, ◌++◌, codes}
+use Rattle.std.specs.Prelude.{ℕ, ◌<◌, List, [], ◌∷◌, ◌++◌}
+use denote.Enum.Declared.{tag_of}
 use Rattle.std.specs.Fmt.{decimal, signed_decimal}
 use Rattle.s390x_base.specs.declared.ir.MachMemFlags.{MachMemFlags}
 use Rattle.s390x_base.specs.declared.regs.Reg.{Reg}
@@ -7,25 +8,19 @@ use Rattle.s390x_inst.specs.declared.args.MemArg.{MemArg}
 use Rattle.s390x_inst.specs.declared.args.MemArg.TheVariants as M
 use Rattle.s390x_words.specs.Marks.{word, after_word}
 use Rattle.s390x_words.specs.Numbers.{natural_of, integer_of, IsBelow, signed_limit, W12, W32, S20, S32, S64}
-use Rattle.s390x_words.specs.Found.{found_by_name}
+use Rattle.s390x_words.specs.Found.{rows, found_by_name, name_at}
 use Rattle.s390x_words.specs.Atoms.{reg_text, reg_of, IsReg, access_text, access_of, IsSuffix, name_of}
 use Rattle.s390x_words.specs.declared.memory.MemoryForm.{MemoryForm}
 use Rattle.s390x_words.specs.declared.memory.MemoryForm.TheVariants as F
-use Rattle.s390x_words.specs.declared.memory.TheConstants.{ALL_FORMS}
+use Rattle.s390x_words.specs.declared.memory.TheConstants.{FORM_NAMES}
+use Rattle.s390x_words.specs.contracts.memory.MemoryForm as the_form
 
--- the name of a form
+-- the name of a form, and the form of a name
 abbrev pub form_text : MemoryForm → List ℕ
-form_text F.BXD12 = codes "BXD12"
-form_text F.BXD20 = codes "BXD20"
-form_text F.Label = codes "Label"
-form_text F.Constant = codes "Constant"
-form_text F.Symbol = codes "Symbol"
-form_text F.RegOffset = codes "RegOffset"
-form_text F.InitialSPOffset = codes "InitialSPOffset"
-form_text F.IncomingArgOffset = codes "IncomingArgOffset"
-form_text F.OutgoingArgOffset = codes "OutgoingArgOffset"
-form_text F.SlotOffset = codes "SlotOffset"
-form_text F.SpillOffset = codes "SpillOffset"
+form_text f = name_at (rows FORM_NAMES.now) (tag_of the_form.the_type f)
+
+unfoldable pub form_of : List ℕ → MemoryForm
+form_of w = found_by_name (rows FORM_NAMES.now) w F.BXD12
 
 -- the form of an operand
 abbrev pub memory_form_of : MemArg → MemoryForm
@@ -101,4 +96,4 @@ memory_with F.SpillOffset s = M.SpillOffset (integer_of S64 (word s))
 
 -- the operand behind one mark
 abbrev pub memory_operand_of : List ℕ → MemArg
-memory_operand_of s = memory_with (found_by_name form_text ALL_FORMS (word s) F.BXD12) (after_word s)
+memory_operand_of s = memory_with (form_of (word s)) (after_word s)

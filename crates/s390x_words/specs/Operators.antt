@@ -1,344 +1,126 @@
--- The spelling of operators, conventions and types: their names.
-use Rattle.std.specs.Prelude.{ℕ, List, codes}
+-- Operators, conventions and types, by the names in their tables.
+use Rattle.std.specs.Prelude.{ℕ, List}
+use denote.Enum.Declared.{tag_of}
+use Rattle.s390x_words.specs.Found.{rows, found_by_name, name_at}
+use Rattle.s390x_words.specs.declared.operators.TheConstants.{ALU_NAMES, CMP_NAMES, SHIFT_NAMES, RXSBG_NAMES, UNARY_NAMES, CONVENTION_NAMES, TYPE_NAMES}
+use Rattle.s390x_words.specs.declared.vector_operators.TheConstants.{VEC_BINARY_NAMES, VEC_UNARY_NAMES, VEC_SHIFT_NAMES, VEC_COMPARE_NAMES, VEC_ELEMENT_COMPARE_NAMES}
 use Rattle.s390x_inst.specs.declared.ops.ALUOp.{ALUOp}
 use Rattle.s390x_inst.specs.declared.ops.ALUOp.TheVariants as ALUOpIs
+use Rattle.s390x_inst.specs.contracts.ops.ALUOp as the_alu
 use Rattle.s390x_inst.specs.declared.ops.CmpOp.{CmpOp}
 use Rattle.s390x_inst.specs.declared.ops.CmpOp.TheVariants as CmpOpIs
+use Rattle.s390x_inst.specs.contracts.ops.CmpOp as the_cmp
 use Rattle.s390x_inst.specs.declared.ops.ShiftOp.{ShiftOp}
 use Rattle.s390x_inst.specs.declared.ops.ShiftOp.TheVariants as ShiftOpIs
+use Rattle.s390x_inst.specs.contracts.ops.ShiftOp as the_shift
 use Rattle.s390x_inst.specs.declared.ops.RxSBGOp.{RxSBGOp}
 use Rattle.s390x_inst.specs.declared.ops.RxSBGOp.TheVariants as RxSBGOpIs
+use Rattle.s390x_inst.specs.contracts.ops.RxSBGOp as the_rxsbg
 use Rattle.s390x_inst.specs.declared.ops.UnaryOp.{UnaryOp}
 use Rattle.s390x_inst.specs.declared.ops.UnaryOp.TheVariants as UnaryOpIs
+use Rattle.s390x_inst.specs.contracts.ops.UnaryOp as the_unary
 use Rattle.s390x_inst.specs.declared.vec_ops.VecBinaryOp.{VecBinaryOp}
 use Rattle.s390x_inst.specs.declared.vec_ops.VecBinaryOp.TheVariants as VecBinaryOpIs
+use Rattle.s390x_inst.specs.contracts.vec_ops.VecBinaryOp as the_vec_binary
 use Rattle.s390x_inst.specs.declared.vec_ops.VecUnaryOp.{VecUnaryOp}
 use Rattle.s390x_inst.specs.declared.vec_ops.VecUnaryOp.TheVariants as VecUnaryOpIs
+use Rattle.s390x_inst.specs.contracts.vec_ops.VecUnaryOp as the_vec_unary
 use Rattle.s390x_inst.specs.declared.vec_ops.VecShiftOp.{VecShiftOp}
 use Rattle.s390x_inst.specs.declared.vec_ops.VecShiftOp.TheVariants as VecShiftOpIs
+use Rattle.s390x_inst.specs.contracts.vec_ops.VecShiftOp as the_vec_shift
 use Rattle.s390x_inst.specs.declared.vec_ops.VecIntCmpOp.{VecIntCmpOp}
 use Rattle.s390x_inst.specs.declared.vec_ops.VecIntCmpOp.TheVariants as VecIntCmpOpIs
+use Rattle.s390x_inst.specs.contracts.vec_ops.VecIntCmpOp as the_vec_compare
 use Rattle.s390x_inst.specs.declared.vec_ops.VecIntEltCmpOp.{VecIntEltCmpOp}
 use Rattle.s390x_inst.specs.declared.vec_ops.VecIntEltCmpOp.TheVariants as VecIntEltCmpOpIs
+use Rattle.s390x_inst.specs.contracts.vec_ops.VecIntEltCmpOp as the_vec_element_compare
 use Rattle.s390x_inst.specs.declared.calls.CallConv.{CallConv}
 use Rattle.s390x_inst.specs.declared.calls.CallConv.TheVariants as CallConvIs
+use Rattle.s390x_inst.specs.contracts.calls.CallConv as the_convention
 use Rattle.s390x_base.specs.declared.ir.ValueType.{ValueType}
 use Rattle.s390x_base.specs.declared.ir.ValueType.TheVariants as ValueTypeIs
+use Rattle.s390x_base.specs.contracts.ir.ValueType as the_type
 
 -- of operators on two operands
-abbrev pub alu_text : ALUOp → List ℕ
-alu_text ALUOpIs.Add32 = codes "Add32"
-alu_text ALUOpIs.Add32Ext16 = codes "Add32Ext16"
-alu_text ALUOpIs.Add64 = codes "Add64"
-alu_text ALUOpIs.Add64Ext16 = codes "Add64Ext16"
-alu_text ALUOpIs.Add64Ext32 = codes "Add64Ext32"
-alu_text ALUOpIs.AddLogical32 = codes "AddLogical32"
-alu_text ALUOpIs.AddLogical64 = codes "AddLogical64"
-alu_text ALUOpIs.AddLogical64Ext32 = codes "AddLogical64Ext32"
-alu_text ALUOpIs.Sub32 = codes "Sub32"
-alu_text ALUOpIs.Sub32Ext16 = codes "Sub32Ext16"
-alu_text ALUOpIs.Sub64 = codes "Sub64"
-alu_text ALUOpIs.Sub64Ext16 = codes "Sub64Ext16"
-alu_text ALUOpIs.Sub64Ext32 = codes "Sub64Ext32"
-alu_text ALUOpIs.SubLogical32 = codes "SubLogical32"
-alu_text ALUOpIs.SubLogical64 = codes "SubLogical64"
-alu_text ALUOpIs.SubLogical64Ext32 = codes "SubLogical64Ext32"
-alu_text ALUOpIs.Mul32 = codes "Mul32"
-alu_text ALUOpIs.Mul32Ext16 = codes "Mul32Ext16"
-alu_text ALUOpIs.Mul32CC = codes "Mul32CC"
-alu_text ALUOpIs.Mul64 = codes "Mul64"
-alu_text ALUOpIs.Mul64Ext16 = codes "Mul64Ext16"
-alu_text ALUOpIs.Mul64Ext32 = codes "Mul64Ext32"
-alu_text ALUOpIs.Mul64CC = codes "Mul64CC"
-alu_text ALUOpIs.And32 = codes "And32"
-alu_text ALUOpIs.And64 = codes "And64"
-alu_text ALUOpIs.Orr32 = codes "Orr32"
-alu_text ALUOpIs.Orr64 = codes "Orr64"
-alu_text ALUOpIs.Xor32 = codes "Xor32"
-alu_text ALUOpIs.Xor64 = codes "Xor64"
-alu_text ALUOpIs.NotAnd32 = codes "NotAnd32"
-alu_text ALUOpIs.NotAnd64 = codes "NotAnd64"
-alu_text ALUOpIs.NotOrr32 = codes "NotOrr32"
-alu_text ALUOpIs.NotOrr64 = codes "NotOrr64"
-alu_text ALUOpIs.NotXor32 = codes "NotXor32"
-alu_text ALUOpIs.NotXor64 = codes "NotXor64"
-alu_text ALUOpIs.AndNot32 = codes "AndNot32"
-alu_text ALUOpIs.AndNot64 = codes "AndNot64"
-alu_text ALUOpIs.OrrNot32 = codes "OrrNot32"
-alu_text ALUOpIs.OrrNot64 = codes "OrrNot64"
+unfoldable pub alu_text : ALUOp → List ℕ
+alu_text o = name_at (rows ALU_NAMES.now) (tag_of the_alu.the_type o)
+
+unfoldable pub alu_of : List ℕ → ALUOp
+alu_of w = found_by_name (rows ALU_NAMES.now) w ALUOpIs.Add32
 
 -- of comparisons
-abbrev pub cmp_text : CmpOp → List ℕ
-cmp_text CmpOpIs.CmpS32 = codes "CmpS32"
-cmp_text CmpOpIs.CmpS32Ext16 = codes "CmpS32Ext16"
-cmp_text CmpOpIs.CmpS64 = codes "CmpS64"
-cmp_text CmpOpIs.CmpS64Ext16 = codes "CmpS64Ext16"
-cmp_text CmpOpIs.CmpS64Ext32 = codes "CmpS64Ext32"
-cmp_text CmpOpIs.CmpL32 = codes "CmpL32"
-cmp_text CmpOpIs.CmpL32Ext16 = codes "CmpL32Ext16"
-cmp_text CmpOpIs.CmpL64 = codes "CmpL64"
-cmp_text CmpOpIs.CmpL64Ext16 = codes "CmpL64Ext16"
-cmp_text CmpOpIs.CmpL64Ext32 = codes "CmpL64Ext32"
+unfoldable pub cmp_text : CmpOp → List ℕ
+cmp_text o = name_at (rows CMP_NAMES.now) (tag_of the_cmp.the_type o)
+
+unfoldable pub cmp_of : List ℕ → CmpOp
+cmp_of w = found_by_name (rows CMP_NAMES.now) w CmpOpIs.CmpS32
 
 -- of shifts and rotations
-abbrev pub shift_text : ShiftOp → List ℕ
-shift_text ShiftOpIs.RotL32 = codes "RotL32"
-shift_text ShiftOpIs.RotL64 = codes "RotL64"
-shift_text ShiftOpIs.LShL32 = codes "LShL32"
-shift_text ShiftOpIs.LShL64 = codes "LShL64"
-shift_text ShiftOpIs.LShR32 = codes "LShR32"
-shift_text ShiftOpIs.LShR64 = codes "LShR64"
-shift_text ShiftOpIs.AShR32 = codes "AShR32"
-shift_text ShiftOpIs.AShR64 = codes "AShR64"
+unfoldable pub shift_text : ShiftOp → List ℕ
+shift_text o = name_at (rows SHIFT_NAMES.now) (tag_of the_shift.the_type o)
+
+unfoldable pub shift_of : List ℕ → ShiftOp
+shift_of w = found_by_name (rows SHIFT_NAMES.now) w ShiftOpIs.RotL32
 
 -- of what becomes of selected bits
-abbrev pub rxsbg_text : RxSBGOp → List ℕ
-rxsbg_text RxSBGOpIs.Insert = codes "Insert"
-rxsbg_text RxSBGOpIs.And = codes "And"
-rxsbg_text RxSBGOpIs.Or = codes "Or"
-rxsbg_text RxSBGOpIs.Xor = codes "Xor"
+unfoldable pub rxsbg_text : RxSBGOp → List ℕ
+rxsbg_text o = name_at (rows RXSBG_NAMES.now) (tag_of the_rxsbg.the_type o)
+
+unfoldable pub rxsbg_of : List ℕ → RxSBGOp
+rxsbg_of w = found_by_name (rows RXSBG_NAMES.now) w RxSBGOpIs.Insert
 
 -- of operators on one operand
-abbrev pub unary_text : UnaryOp → List ℕ
-unary_text UnaryOpIs.Abs32 = codes "Abs32"
-unary_text UnaryOpIs.Abs64 = codes "Abs64"
-unary_text UnaryOpIs.Abs64Ext32 = codes "Abs64Ext32"
-unary_text UnaryOpIs.Neg32 = codes "Neg32"
-unary_text UnaryOpIs.Neg64 = codes "Neg64"
-unary_text UnaryOpIs.Neg64Ext32 = codes "Neg64Ext32"
-unary_text UnaryOpIs.PopcntByte = codes "PopcntByte"
-unary_text UnaryOpIs.PopcntReg = codes "PopcntReg"
-unary_text UnaryOpIs.BSwap32 = codes "BSwap32"
-unary_text UnaryOpIs.BSwap64 = codes "BSwap64"
-unary_text UnaryOpIs.Clz64 = codes "Clz64"
-unary_text UnaryOpIs.Ctz64 = codes "Ctz64"
+unfoldable pub unary_text : UnaryOp → List ℕ
+unary_text o = name_at (rows UNARY_NAMES.now) (tag_of the_unary.the_type o)
+
+unfoldable pub unary_of : List ℕ → UnaryOp
+unary_of w = found_by_name (rows UNARY_NAMES.now) w UnaryOpIs.Abs32
 
 -- of operators on two vectors
-abbrev pub vec_binary_text : VecBinaryOp → List ℕ
-vec_binary_text VecBinaryOpIs.Add8x16 = codes "Add8x16"
-vec_binary_text VecBinaryOpIs.Add16x8 = codes "Add16x8"
-vec_binary_text VecBinaryOpIs.Add32x4 = codes "Add32x4"
-vec_binary_text VecBinaryOpIs.Add64x2 = codes "Add64x2"
-vec_binary_text VecBinaryOpIs.Add128 = codes "Add128"
-vec_binary_text VecBinaryOpIs.Sub8x16 = codes "Sub8x16"
-vec_binary_text VecBinaryOpIs.Sub16x8 = codes "Sub16x8"
-vec_binary_text VecBinaryOpIs.Sub32x4 = codes "Sub32x4"
-vec_binary_text VecBinaryOpIs.Sub64x2 = codes "Sub64x2"
-vec_binary_text VecBinaryOpIs.Sub128 = codes "Sub128"
-vec_binary_text VecBinaryOpIs.Add128Cout = codes "Add128Cout"
-vec_binary_text VecBinaryOpIs.Sub128Cout = codes "Sub128Cout"
-vec_binary_text VecBinaryOpIs.Mul8x16 = codes "Mul8x16"
-vec_binary_text VecBinaryOpIs.Mul16x8 = codes "Mul16x8"
-vec_binary_text VecBinaryOpIs.Mul32x4 = codes "Mul32x4"
-vec_binary_text VecBinaryOpIs.Mul64x2 = codes "Mul64x2"
-vec_binary_text VecBinaryOpIs.Mul128 = codes "Mul128"
-vec_binary_text VecBinaryOpIs.UMulHi8x16 = codes "UMulHi8x16"
-vec_binary_text VecBinaryOpIs.UMulHi16x8 = codes "UMulHi16x8"
-vec_binary_text VecBinaryOpIs.UMulHi32x4 = codes "UMulHi32x4"
-vec_binary_text VecBinaryOpIs.UMulHi64x2 = codes "UMulHi64x2"
-vec_binary_text VecBinaryOpIs.UMulHi128 = codes "UMulHi128"
-vec_binary_text VecBinaryOpIs.SMulHi8x16 = codes "SMulHi8x16"
-vec_binary_text VecBinaryOpIs.SMulHi16x8 = codes "SMulHi16x8"
-vec_binary_text VecBinaryOpIs.SMulHi32x4 = codes "SMulHi32x4"
-vec_binary_text VecBinaryOpIs.SMulHi64x2 = codes "SMulHi64x2"
-vec_binary_text VecBinaryOpIs.SMulHi128 = codes "SMulHi128"
-vec_binary_text VecBinaryOpIs.UMulEven8x16 = codes "UMulEven8x16"
-vec_binary_text VecBinaryOpIs.UMulEven16x8 = codes "UMulEven16x8"
-vec_binary_text VecBinaryOpIs.UMulEven32x4 = codes "UMulEven32x4"
-vec_binary_text VecBinaryOpIs.UMulEven64x2 = codes "UMulEven64x2"
-vec_binary_text VecBinaryOpIs.SMulEven8x16 = codes "SMulEven8x16"
-vec_binary_text VecBinaryOpIs.SMulEven16x8 = codes "SMulEven16x8"
-vec_binary_text VecBinaryOpIs.SMulEven32x4 = codes "SMulEven32x4"
-vec_binary_text VecBinaryOpIs.SMulEven64x2 = codes "SMulEven64x2"
-vec_binary_text VecBinaryOpIs.UMulOdd8x16 = codes "UMulOdd8x16"
-vec_binary_text VecBinaryOpIs.UMulOdd16x8 = codes "UMulOdd16x8"
-vec_binary_text VecBinaryOpIs.UMulOdd32x4 = codes "UMulOdd32x4"
-vec_binary_text VecBinaryOpIs.UMulOdd64x2 = codes "UMulOdd64x2"
-vec_binary_text VecBinaryOpIs.SMulOdd8x16 = codes "SMulOdd8x16"
-vec_binary_text VecBinaryOpIs.SMulOdd16x8 = codes "SMulOdd16x8"
-vec_binary_text VecBinaryOpIs.SMulOdd32x4 = codes "SMulOdd32x4"
-vec_binary_text VecBinaryOpIs.SMulOdd64x2 = codes "SMulOdd64x2"
-vec_binary_text VecBinaryOpIs.UDiv32x4 = codes "UDiv32x4"
-vec_binary_text VecBinaryOpIs.UDiv64x2 = codes "UDiv64x2"
-vec_binary_text VecBinaryOpIs.UDiv128 = codes "UDiv128"
-vec_binary_text VecBinaryOpIs.SDiv32x4 = codes "SDiv32x4"
-vec_binary_text VecBinaryOpIs.SDiv64x2 = codes "SDiv64x2"
-vec_binary_text VecBinaryOpIs.SDiv128 = codes "SDiv128"
-vec_binary_text VecBinaryOpIs.URem32x4 = codes "URem32x4"
-vec_binary_text VecBinaryOpIs.URem64x2 = codes "URem64x2"
-vec_binary_text VecBinaryOpIs.URem128 = codes "URem128"
-vec_binary_text VecBinaryOpIs.SRem32x4 = codes "SRem32x4"
-vec_binary_text VecBinaryOpIs.SRem64x2 = codes "SRem64x2"
-vec_binary_text VecBinaryOpIs.SRem128 = codes "SRem128"
-vec_binary_text VecBinaryOpIs.UMax8x16 = codes "UMax8x16"
-vec_binary_text VecBinaryOpIs.UMax16x8 = codes "UMax16x8"
-vec_binary_text VecBinaryOpIs.UMax32x4 = codes "UMax32x4"
-vec_binary_text VecBinaryOpIs.UMax64x2 = codes "UMax64x2"
-vec_binary_text VecBinaryOpIs.UMax128 = codes "UMax128"
-vec_binary_text VecBinaryOpIs.SMax8x16 = codes "SMax8x16"
-vec_binary_text VecBinaryOpIs.SMax16x8 = codes "SMax16x8"
-vec_binary_text VecBinaryOpIs.SMax32x4 = codes "SMax32x4"
-vec_binary_text VecBinaryOpIs.SMax64x2 = codes "SMax64x2"
-vec_binary_text VecBinaryOpIs.SMax128 = codes "SMax128"
-vec_binary_text VecBinaryOpIs.UMin8x16 = codes "UMin8x16"
-vec_binary_text VecBinaryOpIs.UMin16x8 = codes "UMin16x8"
-vec_binary_text VecBinaryOpIs.UMin32x4 = codes "UMin32x4"
-vec_binary_text VecBinaryOpIs.UMin64x2 = codes "UMin64x2"
-vec_binary_text VecBinaryOpIs.UMin128 = codes "UMin128"
-vec_binary_text VecBinaryOpIs.SMin8x16 = codes "SMin8x16"
-vec_binary_text VecBinaryOpIs.SMin16x8 = codes "SMin16x8"
-vec_binary_text VecBinaryOpIs.SMin32x4 = codes "SMin32x4"
-vec_binary_text VecBinaryOpIs.SMin64x2 = codes "SMin64x2"
-vec_binary_text VecBinaryOpIs.SMin128 = codes "SMin128"
-vec_binary_text VecBinaryOpIs.UAvg8x16 = codes "UAvg8x16"
-vec_binary_text VecBinaryOpIs.UAvg16x8 = codes "UAvg16x8"
-vec_binary_text VecBinaryOpIs.UAvg32x4 = codes "UAvg32x4"
-vec_binary_text VecBinaryOpIs.UAvg64x2 = codes "UAvg64x2"
-vec_binary_text VecBinaryOpIs.UAvg128 = codes "UAvg128"
-vec_binary_text VecBinaryOpIs.SAvg8x16 = codes "SAvg8x16"
-vec_binary_text VecBinaryOpIs.SAvg16x8 = codes "SAvg16x8"
-vec_binary_text VecBinaryOpIs.SAvg32x4 = codes "SAvg32x4"
-vec_binary_text VecBinaryOpIs.SAvg64x2 = codes "SAvg64x2"
-vec_binary_text VecBinaryOpIs.SAvg128 = codes "SAvg128"
-vec_binary_text VecBinaryOpIs.And128 = codes "And128"
-vec_binary_text VecBinaryOpIs.Orr128 = codes "Orr128"
-vec_binary_text VecBinaryOpIs.Xor128 = codes "Xor128"
-vec_binary_text VecBinaryOpIs.NotAnd128 = codes "NotAnd128"
-vec_binary_text VecBinaryOpIs.NotOrr128 = codes "NotOrr128"
-vec_binary_text VecBinaryOpIs.NotXor128 = codes "NotXor128"
-vec_binary_text VecBinaryOpIs.AndNot128 = codes "AndNot128"
-vec_binary_text VecBinaryOpIs.OrrNot128 = codes "OrrNot128"
-vec_binary_text VecBinaryOpIs.BitPermute128 = codes "BitPermute128"
-vec_binary_text VecBinaryOpIs.LShLByByte128 = codes "LShLByByte128"
-vec_binary_text VecBinaryOpIs.LShRByByte128 = codes "LShRByByte128"
-vec_binary_text VecBinaryOpIs.AShRByByte128 = codes "AShRByByte128"
-vec_binary_text VecBinaryOpIs.LShLByBit128 = codes "LShLByBit128"
-vec_binary_text VecBinaryOpIs.LShRByBit128 = codes "LShRByBit128"
-vec_binary_text VecBinaryOpIs.AShRByBit128 = codes "AShRByBit128"
-vec_binary_text VecBinaryOpIs.Pack16x8 = codes "Pack16x8"
-vec_binary_text VecBinaryOpIs.Pack32x4 = codes "Pack32x4"
-vec_binary_text VecBinaryOpIs.Pack64x2 = codes "Pack64x2"
-vec_binary_text VecBinaryOpIs.PackUSat16x8 = codes "PackUSat16x8"
-vec_binary_text VecBinaryOpIs.PackUSat32x4 = codes "PackUSat32x4"
-vec_binary_text VecBinaryOpIs.PackUSat64x2 = codes "PackUSat64x2"
-vec_binary_text VecBinaryOpIs.PackSSat16x8 = codes "PackSSat16x8"
-vec_binary_text VecBinaryOpIs.PackSSat32x4 = codes "PackSSat32x4"
-vec_binary_text VecBinaryOpIs.PackSSat64x2 = codes "PackSSat64x2"
-vec_binary_text VecBinaryOpIs.MergeLow8x16 = codes "MergeLow8x16"
-vec_binary_text VecBinaryOpIs.MergeLow16x8 = codes "MergeLow16x8"
-vec_binary_text VecBinaryOpIs.MergeLow32x4 = codes "MergeLow32x4"
-vec_binary_text VecBinaryOpIs.MergeLow64x2 = codes "MergeLow64x2"
-vec_binary_text VecBinaryOpIs.MergeHigh8x16 = codes "MergeHigh8x16"
-vec_binary_text VecBinaryOpIs.MergeHigh16x8 = codes "MergeHigh16x8"
-vec_binary_text VecBinaryOpIs.MergeHigh32x4 = codes "MergeHigh32x4"
-vec_binary_text VecBinaryOpIs.MergeHigh64x2 = codes "MergeHigh64x2"
+unfoldable pub vec_binary_text : VecBinaryOp → List ℕ
+vec_binary_text o = name_at (rows VEC_BINARY_NAMES.now) (tag_of the_vec_binary.the_type o)
+
+unfoldable pub vec_binary_of : List ℕ → VecBinaryOp
+vec_binary_of w = found_by_name (rows VEC_BINARY_NAMES.now) w VecBinaryOpIs.Add8x16
 
 -- of operators on one vector
-abbrev pub vec_unary_text : VecUnaryOp → List ℕ
-vec_unary_text VecUnaryOpIs.Abs8x16 = codes "Abs8x16"
-vec_unary_text VecUnaryOpIs.Abs16x8 = codes "Abs16x8"
-vec_unary_text VecUnaryOpIs.Abs32x4 = codes "Abs32x4"
-vec_unary_text VecUnaryOpIs.Abs64x2 = codes "Abs64x2"
-vec_unary_text VecUnaryOpIs.Abs128 = codes "Abs128"
-vec_unary_text VecUnaryOpIs.Neg8x16 = codes "Neg8x16"
-vec_unary_text VecUnaryOpIs.Neg16x8 = codes "Neg16x8"
-vec_unary_text VecUnaryOpIs.Neg32x4 = codes "Neg32x4"
-vec_unary_text VecUnaryOpIs.Neg64x2 = codes "Neg64x2"
-vec_unary_text VecUnaryOpIs.Neg128 = codes "Neg128"
-vec_unary_text VecUnaryOpIs.Popcnt8x16 = codes "Popcnt8x16"
-vec_unary_text VecUnaryOpIs.Popcnt16x8 = codes "Popcnt16x8"
-vec_unary_text VecUnaryOpIs.Popcnt32x4 = codes "Popcnt32x4"
-vec_unary_text VecUnaryOpIs.Popcnt64x2 = codes "Popcnt64x2"
-vec_unary_text VecUnaryOpIs.Clz8x16 = codes "Clz8x16"
-vec_unary_text VecUnaryOpIs.Clz16x8 = codes "Clz16x8"
-vec_unary_text VecUnaryOpIs.Clz32x4 = codes "Clz32x4"
-vec_unary_text VecUnaryOpIs.Clz64x2 = codes "Clz64x2"
-vec_unary_text VecUnaryOpIs.Clz128 = codes "Clz128"
-vec_unary_text VecUnaryOpIs.Ctz8x16 = codes "Ctz8x16"
-vec_unary_text VecUnaryOpIs.Ctz16x8 = codes "Ctz16x8"
-vec_unary_text VecUnaryOpIs.Ctz32x4 = codes "Ctz32x4"
-vec_unary_text VecUnaryOpIs.Ctz64x2 = codes "Ctz64x2"
-vec_unary_text VecUnaryOpIs.Ctz128 = codes "Ctz128"
-vec_unary_text VecUnaryOpIs.UnpackULow8x16 = codes "UnpackULow8x16"
-vec_unary_text VecUnaryOpIs.UnpackULow16x8 = codes "UnpackULow16x8"
-vec_unary_text VecUnaryOpIs.UnpackULow32x4 = codes "UnpackULow32x4"
-vec_unary_text VecUnaryOpIs.UnpackULow64x2 = codes "UnpackULow64x2"
-vec_unary_text VecUnaryOpIs.UnpackUHigh8x16 = codes "UnpackUHigh8x16"
-vec_unary_text VecUnaryOpIs.UnpackUHigh16x8 = codes "UnpackUHigh16x8"
-vec_unary_text VecUnaryOpIs.UnpackUHigh32x4 = codes "UnpackUHigh32x4"
-vec_unary_text VecUnaryOpIs.UnpackUHigh64x2 = codes "UnpackUHigh64x2"
-vec_unary_text VecUnaryOpIs.UnpackSLow8x16 = codes "UnpackSLow8x16"
-vec_unary_text VecUnaryOpIs.UnpackSLow16x8 = codes "UnpackSLow16x8"
-vec_unary_text VecUnaryOpIs.UnpackSLow32x4 = codes "UnpackSLow32x4"
-vec_unary_text VecUnaryOpIs.UnpackSLow64x2 = codes "UnpackSLow64x2"
-vec_unary_text VecUnaryOpIs.UnpackSHigh8x16 = codes "UnpackSHigh8x16"
-vec_unary_text VecUnaryOpIs.UnpackSHigh16x8 = codes "UnpackSHigh16x8"
-vec_unary_text VecUnaryOpIs.UnpackSHigh32x4 = codes "UnpackSHigh32x4"
-vec_unary_text VecUnaryOpIs.UnpackSHigh64x2 = codes "UnpackSHigh64x2"
+unfoldable pub vec_unary_text : VecUnaryOp → List ℕ
+vec_unary_text o = name_at (rows VEC_UNARY_NAMES.now) (tag_of the_vec_unary.the_type o)
+
+unfoldable pub vec_unary_of : List ℕ → VecUnaryOp
+vec_unary_of w = found_by_name (rows VEC_UNARY_NAMES.now) w VecUnaryOpIs.Abs8x16
 
 -- of shifts and rotations of lanes
-abbrev pub vec_shift_text : VecShiftOp → List ℕ
-vec_shift_text VecShiftOpIs.RotL8x16 = codes "RotL8x16"
-vec_shift_text VecShiftOpIs.RotL16x8 = codes "RotL16x8"
-vec_shift_text VecShiftOpIs.RotL32x4 = codes "RotL32x4"
-vec_shift_text VecShiftOpIs.RotL64x2 = codes "RotL64x2"
-vec_shift_text VecShiftOpIs.LShL8x16 = codes "LShL8x16"
-vec_shift_text VecShiftOpIs.LShL16x8 = codes "LShL16x8"
-vec_shift_text VecShiftOpIs.LShL32x4 = codes "LShL32x4"
-vec_shift_text VecShiftOpIs.LShL64x2 = codes "LShL64x2"
-vec_shift_text VecShiftOpIs.LShR8x16 = codes "LShR8x16"
-vec_shift_text VecShiftOpIs.LShR16x8 = codes "LShR16x8"
-vec_shift_text VecShiftOpIs.LShR32x4 = codes "LShR32x4"
-vec_shift_text VecShiftOpIs.LShR64x2 = codes "LShR64x2"
-vec_shift_text VecShiftOpIs.AShR8x16 = codes "AShR8x16"
-vec_shift_text VecShiftOpIs.AShR16x8 = codes "AShR16x8"
-vec_shift_text VecShiftOpIs.AShR32x4 = codes "AShR32x4"
-vec_shift_text VecShiftOpIs.AShR64x2 = codes "AShR64x2"
+unfoldable pub vec_shift_text : VecShiftOp → List ℕ
+vec_shift_text o = name_at (rows VEC_SHIFT_NAMES.now) (tag_of the_vec_shift.the_type o)
+
+unfoldable pub vec_shift_of : List ℕ → VecShiftOp
+vec_shift_of w = found_by_name (rows VEC_SHIFT_NAMES.now) w VecShiftOpIs.RotL8x16
 
 -- of comparisons of lanes
-abbrev pub vec_compare_text : VecIntCmpOp → List ℕ
-vec_compare_text VecIntCmpOpIs.CmpEq8x16 = codes "CmpEq8x16"
-vec_compare_text VecIntCmpOpIs.CmpEq16x8 = codes "CmpEq16x8"
-vec_compare_text VecIntCmpOpIs.CmpEq32x4 = codes "CmpEq32x4"
-vec_compare_text VecIntCmpOpIs.CmpEq64x2 = codes "CmpEq64x2"
-vec_compare_text VecIntCmpOpIs.CmpEq128 = codes "CmpEq128"
-vec_compare_text VecIntCmpOpIs.SCmpHi8x16 = codes "SCmpHi8x16"
-vec_compare_text VecIntCmpOpIs.SCmpHi16x8 = codes "SCmpHi16x8"
-vec_compare_text VecIntCmpOpIs.SCmpHi32x4 = codes "SCmpHi32x4"
-vec_compare_text VecIntCmpOpIs.SCmpHi64x2 = codes "SCmpHi64x2"
-vec_compare_text VecIntCmpOpIs.SCmpHi128 = codes "SCmpHi128"
-vec_compare_text VecIntCmpOpIs.UCmpHi8x16 = codes "UCmpHi8x16"
-vec_compare_text VecIntCmpOpIs.UCmpHi16x8 = codes "UCmpHi16x8"
-vec_compare_text VecIntCmpOpIs.UCmpHi32x4 = codes "UCmpHi32x4"
-vec_compare_text VecIntCmpOpIs.UCmpHi64x2 = codes "UCmpHi64x2"
-vec_compare_text VecIntCmpOpIs.UCmpHi128 = codes "UCmpHi128"
+unfoldable pub vec_compare_text : VecIntCmpOp → List ℕ
+vec_compare_text o = name_at (rows VEC_COMPARE_NAMES.now) (tag_of the_vec_compare.the_type o)
+
+unfoldable pub vec_compare_of : List ℕ → VecIntCmpOp
+vec_compare_of w = found_by_name (rows VEC_COMPARE_NAMES.now) w VecIntCmpOpIs.CmpEq8x16
 
 -- of comparisons of one element
-abbrev pub vec_element_compare_text : VecIntEltCmpOp → List ℕ
-vec_element_compare_text VecIntEltCmpOpIs.SCmp128 = codes "SCmp128"
-vec_element_compare_text VecIntEltCmpOpIs.UCmp128 = codes "UCmp128"
+unfoldable pub vec_element_compare_text : VecIntEltCmpOp → List ℕ
+vec_element_compare_text o = name_at (rows VEC_ELEMENT_COMPARE_NAMES.now) (tag_of the_vec_element_compare.the_type o)
+
+unfoldable pub vec_element_compare_of : List ℕ → VecIntEltCmpOp
+vec_element_compare_of w = found_by_name (rows VEC_ELEMENT_COMPARE_NAMES.now) w VecIntEltCmpOpIs.SCmp128
 
 -- of calling conventions
-abbrev pub convention_text : CallConv → List ℕ
-convention_text CallConvIs.Fast = codes "Fast"
-convention_text CallConvIs.Tail = codes "Tail"
-convention_text CallConvIs.SystemV = codes "SystemV"
+unfoldable pub convention_text : CallConv → List ℕ
+convention_text o = name_at (rows CONVENTION_NAMES.now) (tag_of the_convention.the_type o)
+
+unfoldable pub convention_of : List ℕ → CallConv
+convention_of w = found_by_name (rows CONVENTION_NAMES.now) w CallConvIs.Fast
 
 -- of types
-abbrev pub type_text : ValueType → List ℕ
-type_text ValueTypeIs.I8 = codes "I8"
-type_text ValueTypeIs.I16 = codes "I16"
-type_text ValueTypeIs.I32 = codes "I32"
-type_text ValueTypeIs.I64 = codes "I64"
-type_text ValueTypeIs.I128 = codes "I128"
-type_text ValueTypeIs.F16 = codes "F16"
-type_text ValueTypeIs.F32 = codes "F32"
-type_text ValueTypeIs.F64 = codes "F64"
-type_text ValueTypeIs.F128 = codes "F128"
-type_text ValueTypeIs.I8X8 = codes "I8X8"
-type_text ValueTypeIs.I8X16 = codes "I8X16"
-type_text ValueTypeIs.I16X8 = codes "I16X8"
-type_text ValueTypeIs.I32X4 = codes "I32X4"
-type_text ValueTypeIs.I64X2 = codes "I64X2"
-type_text ValueTypeIs.F32X4 = codes "F32X4"
-type_text ValueTypeIs.F64X2 = codes "F64X2"
+unfoldable pub type_text : ValueType → List ℕ
+type_text o = name_at (rows TYPE_NAMES.now) (tag_of the_type.the_type o)
+
+unfoldable pub value_type_of : List ℕ → ValueType
+value_type_of w = found_by_name (rows TYPE_NAMES.now) w ValueTypeIs.I8

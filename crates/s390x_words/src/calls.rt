@@ -1,6 +1,6 @@
 //! The parts of calls: printing and reading.
 ghost use Rattle.std.specs.Prelude.{◌≡◌, ◌++◌, ◌∷◌, [], OnOk, IfOk, string_bytes};
-ghost use Rattle.s390x_words.specs.Calls.{arg_text, arg_of, ret_text, ret_of, use_text, use_of, label_text, label_of, target_text, call_target_of, reloc_text, reloc_of, pair_text, location_text, location_of, result_text, call_result_of, handler_text, handler_of, try_part, try_text, try_of, value_type_of};
+ghost use Rattle.s390x_words.specs.Calls.{arg_text, arg_of, ret_text, ret_of, use_text, use_of, label_text, label_of, target_text, call_target_of, reloc_text, reloc_of, pair_text, location_text, location_of, result_text, call_result_of, handler_text, handler_of, try_part, try_text, try_of};
 ghost use Rattle.s390x_words.specs.Atoms.{real_text, real_register_of};
 ghost use Rattle.s390x_words.specs.Marks.{word};
 
@@ -8,8 +8,8 @@ use crate::atoms::{name, put_name, put_real, put_reg, real, reg, written};
 use crate::list::{Element, list, put_list};
 use crate::marks::{after_word, word};
 use crate::number::{first, integer64, natural32, put, put_integer, put_natural, second, tail};
-use crate::operators::ALL_TYPE;
-use crate::word::{Word, find};
+use crate::operators::value_type;
+use crate::word::Word;
 use s390x_base::{MachLabel, PReg, Reg, ValueType};
 use s390x_inst::{
     ArgPair, CallArgPair, CallInstDest, CallRetPair, RetLocation, RetPair, SymbolReloc,
@@ -168,12 +168,6 @@ fn put_location(out: &mut String, location: RetLocation) -> Result<(), AllocErro
             put(out, ty.text())
         }
     }
-}
-
-fn value_type(w: &[u8]) -> ValueType
-    ensures { result ≡ value_type_of w.now }
-{
-    find(&ALL_TYPE, w, ValueType::I8)
 }
 
 fn location(s: &[u8]) -> RetLocation

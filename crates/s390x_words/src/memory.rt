@@ -3,14 +3,14 @@ ghost use Rattle.std.specs.Prelude.{◌≡◌, ◌++◌, ◌∷◌, [], OnOk, st
 ghost use Rattle.std.specs.Fmt.{signed_decimal};
 ghost use Rattle.s390x_words.specs.Atoms.{reg_text, access_text};
 ghost use Rattle.s390x_words.specs.Numbers.{natural_of, integer_of, W12, S20};
-ghost use Rattle.s390x_words.specs.Memory.{form_text, memory_form_of, inside_text, memory_text, memory_with, memory_operand_of};
+ghost use Rattle.s390x_words.specs.Memory.{form_text, form_of, memory_form_of, inside_text, memory_text, memory_with, memory_operand_of};
 
 use crate::atoms::{access, name, put_access, put_name, put_reg, reg};
 use crate::marks::{behind, word};
 use crate::number::{
     integer20, integer32, integer64, natural12, natural32, put, put_char, put_integer, put_natural,
 };
-use crate::word::{Word, find};
+use crate::word::{Names, Word, find, name_at};
 use s390x_base::{MachLabel, MachMemFlags, Reg, SImm20, UImm12, VCodeConstant};
 use s390x_inst::MemArg;
 use std::alloc::AllocError;
@@ -31,39 +31,35 @@ pub enum MemoryForm {
     SpillOffset,
 }
 
-/// Every form.
-pub const ALL_FORMS: [MemoryForm; 11] = [
-    MemoryForm::BXD12,
-    MemoryForm::BXD20,
-    MemoryForm::Label,
-    MemoryForm::Constant,
-    MemoryForm::Symbol,
-    MemoryForm::RegOffset,
-    MemoryForm::InitialSPOffset,
-    MemoryForm::IncomingArgOffset,
-    MemoryForm::OutgoingArgOffset,
-    MemoryForm::SlotOffset,
-    MemoryForm::SpillOffset,
+/// Each value with its name, in the order of the declaration.
+pub const FORM_NAMES: Names<MemoryForm> = &[
+    (MemoryForm::BXD12, "BXD12"),
+    (MemoryForm::BXD20, "BXD20"),
+    (MemoryForm::Label, "Label"),
+    (MemoryForm::Constant, "Constant"),
+    (MemoryForm::Symbol, "Symbol"),
+    (MemoryForm::RegOffset, "RegOffset"),
+    (MemoryForm::InitialSPOffset, "InitialSPOffset"),
+    (MemoryForm::IncomingArgOffset, "IncomingArgOffset"),
+    (MemoryForm::OutgoingArgOffset, "OutgoingArgOffset"),
+    (MemoryForm::SlotOffset, "SlotOffset"),
+    (MemoryForm::SpillOffset, "SpillOffset"),
 ];
 
 impl Word for MemoryForm {
     ghost spelling = { form_text };
 
     fn text(self) -> &'static str {
-        match self {
-            MemoryForm::BXD12 => "BXD12",
-            MemoryForm::BXD20 => "BXD20",
-            MemoryForm::Label => "Label",
-            MemoryForm::Constant => "Constant",
-            MemoryForm::Symbol => "Symbol",
-            MemoryForm::RegOffset => "RegOffset",
-            MemoryForm::InitialSPOffset => "InitialSPOffset",
-            MemoryForm::IncomingArgOffset => "IncomingArgOffset",
-            MemoryForm::OutgoingArgOffset => "OutgoingArgOffset",
-            MemoryForm::SlotOffset => "SlotOffset",
-            MemoryForm::SpillOffset => "SpillOffset",
-        }
+        name_at(FORM_NAMES, self as usize)
     }
+}
+
+/// The form that a word names, the table's first for any other word.
+#[tactic(auto, unfolding(crate::specs::Memory::form_of))]
+fn form_named(word: &[u8]) -> MemoryForm
+    ensures { result ≡ form_of word.now }
+{
+    find(FORM_NAMES, word, MemoryForm::BXD12)
 }
 
 /// Appends base, index and the beginning of the displacement's place.
@@ -280,5 +276,5 @@ pub fn memory(s: &[u8]) -> MemArg
     ensures { result ≡ memory_operand_of s.now }
 {
     let form = word(s);
-    memory_with(find(&ALL_FORMS, form, MemoryForm::BXD12), behind(s, form))
+    memory_with(form_named(form), behind(s, form))
 }

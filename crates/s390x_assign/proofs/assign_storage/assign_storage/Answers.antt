@@ -1,9 +1,10 @@
-use Rattle.s390x_assign.proofs.Defaults.{carried, no_storage}
+use Rattle.std.proofs.Common.{sym, ◌∙◌}
+use Rattle.s390x_assign.proofs.Defaults.{carried, no_load, loaded}
 use Rattle.s390x_assign.proofs.assign_storage.assign_storage.Goals as goal
 
-pub returns-in_default : goal.returns-in_default
-returns-in_default c = carried _ _ c.assign_control.result c.assign_control.new.registers.left.now (no_storage c.args.inst.now c.args.registers.now.left.now c.in_default.not-Load32 c.in_default.not-Load32ZExt8 c.in_default.not-Load32SExt8 c.in_default.not-Load32ZExt16 c.in_default.not-Load32SExt16
-    c.in_default.not-Load64 c.in_default.not-Load64ZExt8 c.in_default.not-Load64SExt8 c.in_default.not-Load64ZExt16 c.in_default.not-Load64SExt16 c.in_default.not-Load64ZExt32 c.in_default.not-Load64SExt32 c.in_default.not-LoadRev16 c.in_default.not-LoadRev32 c.in_default.not-LoadRev64
-    c.in_default.not-Store8 c.in_default.not-Store16 c.in_default.not-Store32 c.in_default.not-Store64 c.in_default.not-StoreRev16 c.in_default.not-StoreRev32 c.in_default.not-StoreRev64 c.in_default.not-StoreImm8 c.in_default.not-StoreImm16 c.in_default.not-StoreImm32SExt16
-    c.in_default.not-StoreImm64SExt16 c.in_default.not-LoadMultiple64 c.in_default.not-StoreMultiple64 c.in_default.not-LoadAddr c.in_default.not-LoadIndexedAddr c.in_default.not-LoadLogicalIndexedAddr c.in_default.not-AtomicRmw c.in_default.not-AtomicCas32 c.in_default.not-AtomicCas64)
-    c.assign_control.ensures
+pub returns-in-None : goal.returns-in-None
+returns-in-None c = carried _ _ c.assign_store.result c.assign_store.new.registers.left.now (no_load c.args.inst.now c.args.registers.now.left.now (sym c.as_load.ensures ∙ c.in-None.is)) c.assign_store.ensures
+
+pub returns-in-Some : goal.returns-in-Some
+returns-in-Some c =
+    loaded c.args.inst.now _ c.in-Some.load c.args.registers.now.left.now _ _ _ (sym c.as_load.ensures ∙ c.in-Some.is) c.instruction.ensures c.output_and_memory-rd.ensures.first c.output_and_memory-rd.ensures.memory c.output_and_memory-rd.ensures.left

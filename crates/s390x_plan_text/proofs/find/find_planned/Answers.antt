@@ -27,7 +27,7 @@ returns-in-Err c =
 pub returns-in-Stuck : goal.returns-in-Stuck
 returns-in-Stuck c =
     let job = rw c.in-Ok.is at c.in_ok-job.ensures in
-    let words = words_behind c.deref.result.now c.in_ok-words.words.items c.job_size-size.result c.args.bytes.now c.deref.ensures.value c.in_ok-words.ensures in
+    let words = words_behind c.deref.result.now c.in_ok-lines.lines.items c.job_size-size.result c.args.bytes.now c.deref.ensures.value c.in_ok-lines.ensures in
     let found = subst (λ ws. IsPlanStuckAt ws c.in-Stuck.n) words (rw c.in-Stuck.is at c.in_ok-n.ensures) in
     subst (λ k. IsStuckAt c.args.bytes.now (k + c.in-Stuck.n)) (sym c.count_lines-before.ensures.count) (stuck_plan c.args.bytes.now c.job_size-size.result c.in-Ok.job job.0 job.1 c.in-Stuck.n found)
 
@@ -35,8 +35,8 @@ pub returns-then-branch : goal.returns-then-branch
 returns-then-branch c =
     let job = rw c.in-Ok.is at c.in_ok-job.ensures in
     let size = c.job_size-size.result in
-    let words = words_behind c.deref.result.now c.in_ok-words.words.items size c.args.bytes.now c.deref.ensures.value c.in_ok-words.ensures in
-    let again = words_behind c.deref-in-Whole.result.now c.in_ok-words.words.items size c.args.bytes.now c.deref-in-Whole.ensures.value c.in_ok-words.ensures in
+    let words = words_behind c.deref.result.now c.in_ok-lines.lines.items size c.args.bytes.now c.deref.ensures.value c.in_ok-lines.ensures in
+    let again = words_behind c.deref-in-Whole.result.now c.in_ok-lines.lines.items size c.args.bytes.now c.deref-in-Whole.ensures.value c.in_ok-lines.ensures in
     let found = subst (λ ws. IsPlanFound ws (Whole c.in-Whole.plan)) words (rw c.in-Whole.is at c.in_ok-n.ensures) in
     let all = sym (ap joined again) ∙ c.in_ok-is_all-in-Whole.ensures.0 c.if-branch.true ∙ all_behind size c.args.bytes.now in
     whole_plan c.args.bytes.now size c.in-Ok.job job.0 job.1 c.in-Whole.plan found all
@@ -45,9 +45,9 @@ pub returns-else-branch : goal.returns-else-branch
 returns-else-branch c =
     let job = rw c.in-Ok.is at c.in_ok-job.ensures in
     let size = c.job_size-size.result in
-    let again = words_behind c.deref-in-Whole.result.now c.in_ok-words.words.items size c.args.bytes.now c.deref-in-Whole.ensures.value c.in_ok-words.ensures in
+    let again = words_behind c.deref-in-Whole.result.now c.in_ok-lines.lines.items size c.args.bytes.now c.deref-in-Whole.ensures.value c.in_ok-lines.ensures in
     let more = λ (h : joined (pieces (drop size c.args.bytes.now)) ≡ drop size c.args.bytes.now). false≢true (sym c.if-branch.false ∙ c.in_ok-is_all-in-Whole.ensures.1 (ap joined again ∙ h ∙ sym (all_behind size c.args.bytes.now))) in
     let count : length (pieces (drop size c.args.bytes.now)) ≡ c.len.result =
-    omega (arith, ap length again, length-map c.deref-in-Whole.result.now (λ (w : Bor (List ℕ)). w.now), ap length c.deref-in-Whole.ensures.value, c.len.ensures, c.in_ok-words.words.ok.0) in
+    omega (arith, ap length again, length-map c.deref-in-Whole.result.now (λ (w : Bor (List ℕ)). w.now), ap length c.deref-in-Whole.ensures.value, c.len.ensures, c.in_ok-lines.lines.ok.0) in
     let before = c.count_lines-before.ensures.count in
     subst (IsStuckAt c.args.bytes.now) (ap₂ (λ a b. a + b) (sym before) count) (stuck_rest c.args.bytes.now size c.in-Ok.job job.0 job.1 more)

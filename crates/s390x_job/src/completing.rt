@@ -1,0 +1,130 @@
+//! The lines of a text, and what completes them: shared by the readers of texts that hold jobs.
+ghost use Rattle.std.specs.Prelude.{◌≡◌, ℕ, ◌<◌, ◌≤◌, ◌++◌, List, IfOk, OnOk, Decides, length, map, take, codes};
+ghost use Rattle.std.specs.Str.{bytes_eq};
+ghost use Rattle.s390x_job.specs.Completions.{IsFirstWrongLine, pieces, joined, opens, closes, closing};
+
+use crate::split::before;
+use s390x_words::number::tail;
+use std::alloc::{AllocError, Global};
+
+/// Appends bytes.
+pub fn put(out: &mut Vec<u8>, s: &[u8]) -> Result<(), AllocError>
+    ensures { OnOk result (out.new.items ≡ out.old.items ++ s.now) }
+{
+    out.extend_from_slice(s)
+}
+
+/// The lines of a text.
+pub fn split_lines<'a>(alloc: Global, bytes: &'a [u8]) -> Result<Vec<&'a [u8]>, AllocError>
+    ensures { IfOk result (λ v. map (λ w. w.now) v.items ≡ pieces bytes.now) }
+{
+    let mut v = Vec::new(alloc);
+    let mut rest = bytes;
+    while !rest.is_empty() {
+        let line = before(rest, b'\n');
+        if line.len() == rest.len() {
+            return Ok(v);
+        }
+        v.push(line)?;
+        rest = tail(rest, line.len() + 1);
+    }
+    Ok(v)
+}
+
+/// Whether the line opens a loop.
+fn opens_loop(w: &[u8]) -> bool
+    ensures { result ≡ bytes_eq (take 5 w.now) (codes "Loop ") }
+{
+    let front = if w.len() < 5 { w } else { &w[..5] };
+    front == b"Loop ".as_slice()
+}
+
+/// Whether the line closes a loop.
+fn closes_loop(w: &[u8]) -> bool
+    ensures { result ≡ bytes_eq w.now (codes "endloop") }
+{
+    w == b"endloop".as_slice()
+}
+
+/// How many lines open a loop.
+pub fn count_opens(ws: &[&[u8]]) -> usize
+    ensures { result ≡ opens (map (λ w. w.now) ws.now) }
+{
+    let mut n: usize = 0;
+    for w in ws {
+        if opens_loop(w) {
+            n += 1;
+        }
+    }
+    n
+}
+
+/// How many lines close one.
+pub fn count_closes(ws: &[&[u8]]) -> usize
+    ensures { result ≡ closes (map (λ w. w.now) ws.now) }
+{
+    let mut n: usize = 0;
+    for w in ws {
+        if closes_loop(w) {
+            n += 1;
+        }
+    }
+    n
+}
+
+/// Appends lines, each with its line feed.
+pub fn put_joined(out: &mut Vec<u8>, ws: &[&[u8]]) -> Result<(), AllocError>
+    ensures { OnOk result (out.new.items ≡ out.old.items ++ joined (map (λ w. w.now) ws.now)) }
+{
+    for w in ws {
+        put(out, w)?;
+        put(out, b"\n")?;
+    }
+    Ok(())
+}
+
+/// Appends so many lines `endloop`, and a line `end`.
+pub fn put_closing(out: &mut Vec<u8>, n: usize) -> Result<(), AllocError>
+    ensures { OnOk result (out.new.items ≡ out.old.items ++ closing n) }
+{
+    let mut k = n;
+    while k > 0 {
+        put(out, b"endloop\n")?;
+        k -= 1;
+    }
+    put(out, b"end\n")
+}
+
+/// A kind of text, by which lines can be completed to one.
+pub trait Completes {
+    // The lines' text has fewer bytes.
+    ghost limit: { ℕ };
+
+    ghost CanBeCompleted: { List (List ℕ) → Type 0 };
+
+    /// Whether the lines can be completed to a text.
+    fn can_be_completed(alloc: Global, ws: &[&[u8]]) -> Result<bool, AllocError>
+        requires { length (joined (map (λ w. w.now) ws.now)) < limit }
+        ensures { IfOk result (λ b. Decides b (CanBeCompleted (map (λ w. w.now) ws.now))) };
+}
+
+/// The number of the first wrong line, where no more than `top` lines can be completed.
+pub fn first_wrong<T: Completes>(
+    alloc: Global,
+    ws: &[&[u8]],
+    top: usize,
+) -> Result<usize, AllocError>
+    requires small { top ≤ length ws.now }
+    requires short { length (joined (map (λ w. w.now) ws.now)) < T.limit }
+    requires above { (m : ℕ) → top < m → m ≤ length ws.now → T.CanBeCompleted (take m (map (λ w. w.now) ws.now)) → ⊥ }
+    ensures { IfOk result (λ n. IsFirstWrongLine T.CanBeCompleted (map (λ w. w.now) ws.now) n) }
+{
+    let mut k = top;
+    while k > 0 {
+        if T::can_be_completed(alloc, &ws[..k])? {
+            return Ok(k + 1);
+        }
+        k -= 1;
+    }
+    Ok(1)
+}

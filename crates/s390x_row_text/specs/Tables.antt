@@ -1,0 +1,24 @@
+-- Tables of mnemonics with a column for each form of operands; an empty name stands for none.
+use Rattle.std.specs.Prelude.{ℕ, List, [], ◌∷◌, Option, Some, None, map, get_or}
+use Rattle.std.specs.Borrow.{Bor}
+
+-- the rows of a table that is a constant
+abbrev pub rows : {A : Type 0} → List (A × record { now : List (record { now : List ℕ }) }) → List (List (List ℕ))
+rows table = map (λ row. map (λ name. name.now) row.1.now) table
+
+-- the rows of a table that is passed
+abbrev pub rows_passed : {A : Type 0} → List (A × Bor (List (Bor (List ℕ)))) → List (List (List ℕ))
+rows_passed table = map (λ row. map (λ name. name.now) row.1.now) table
+
+-- a name that isn't empty
+abbrev pub some_name : List ℕ → Option (List ℕ)
+some_name [] = None
+some_name (c ∷ cs) = Some (c ∷ cs)
+
+-- the name in a column of the n-th row
+abbrev pub name_in : List (List (List ℕ)) → (n column : ℕ) → List ℕ
+name_in table n column = get_or (get_or table n []) column []
+
+-- the same, where it isn't empty
+abbrev pub in_column : List (List (List ℕ)) → (n column : ℕ) → Option (List ℕ)
+in_column table n column = some_name (name_in table n column)
