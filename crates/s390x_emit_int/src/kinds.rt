@@ -41,15 +41,7 @@ fn is_base(op: ALUOp) -> bool
     )
 }
 
-// Whether it is a load of a general register.
-#[inline(always)]
-fn is_load(inst: &Inst) -> bool
-    ensures { result ≡ true → IsPlain inst.now }
-{
-    inst.as_load().is_some()
-}
-
-// The kind of an instruction that is none of the stores, with the loads asked last.
+// The kind of an instruction that is none of the accesses.
 #[inline(always)]
 fn other_kind(inst: &Inst) -> Kind
     ensures access { result ≡ Access → IsPlain inst.now }
@@ -78,13 +70,7 @@ fn other_kind(inst: &Inst) -> Kind
         | Inst::Mov32 { .. } => Kind::Register,
         Inst::Jump { .. } | Inst::CondBr { .. } | Inst::IndirectBr { .. } | Inst::Ret { .. } =>
             Kind::Branch,
-        _ => {
-            if is_load(inst) {
-                Kind::Access
-            } else {
-                Kind::Other
-            }
-        }
+        _ => Kind::Other,
     }
 }
 
@@ -96,10 +82,25 @@ pub fn kind_of(inst: &Inst) -> Kind
     ensures register { result ≡ Register → IsRegister inst.now }
 {
     match inst {
-        Inst::Store8 { .. }
+        Inst::Load32 { .. }
+        | Inst::Load32ZExt8 { .. }
+        | Inst::Load32SExt8 { .. }
+        | Inst::Load32ZExt16 { .. }
+        | Inst::Load32SExt16 { .. }
+        | Inst::Load64 { .. }
+        | Inst::Load64ZExt8 { .. }
+        | Inst::Load64SExt8 { .. }
+        | Inst::Load64ZExt16 { .. }
+        | Inst::Load64SExt16 { .. }
+        | Inst::Load64ZExt32 { .. }
+        | Inst::Load64SExt32 { .. }
+        | Inst::Store8 { .. }
         | Inst::Store16 { .. }
         | Inst::Store32 { .. }
         | Inst::Store64 { .. }
+        | Inst::LoadRev16 { .. }
+        | Inst::LoadRev32 { .. }
+        | Inst::LoadRev64 { .. }
         | Inst::LoadAddr { .. }
         | Inst::StoreRev16 { .. }
         | Inst::StoreRev32 { .. }
