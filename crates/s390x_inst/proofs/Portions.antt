@@ -19,11 +19,11 @@ pub same_loops : (i : Inst) (mask : ℕ) (v w : Vec Inst Global) (s : List Inst)
 same_loops i mask v w s is at same =
     loop_portions (V.Loop mask w) mask w refl ∙ ap (λ xs. opening mask ∷ (xs ++ closing ∷ [])) (same ∙ ap members_portions at) ∙ sym (loop_portions i mask v is)
 
-abbrev opens : Portion → Bool
+abbrev pub opens : Portion → Bool
 opens (opening mask) = true
 opens p = false
 
-opens_no_loop : (i : Inst) → ((m : ℕ) (v : Vec Inst Global) → i ≡ V.Loop m v → ⊥) → opens (first_portion i) ≡ false
+pub opens_no_loop : (i : Inst) → ((m : ℕ) (v : Vec Inst Global) → i ≡ V.Loop m v → ⊥) → opens (first_portion i) ≡ false
 unfolding V.roll-Inst denote.Hole.Carrier.roll V.out-Inst denote.Hole.Carrier.out
 opens_no_loop (Loop' mask body all) h = absurd (h mask _ (sym (roll-out-Inst (Loop' mask body all))))
 opens_no_loop i h = refl
