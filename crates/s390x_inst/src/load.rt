@@ -29,7 +29,7 @@ pub enum LoadOp {
 }
 
 /// How many loads there are, and so rows in each table of loads.
-pub const LOAD_COUNT: usize = 15;
+pub const LOAD_COUNT: usize = LoadOp::LoadRev64 as usize + 1;
 
 /// A load with its operands: `rd` is written.
 #[derive(Clone, Copy)]
