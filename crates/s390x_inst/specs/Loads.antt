@@ -1,11 +1,13 @@
 -- Loads of a general register: one view of their variants.
 use Rattle.std.specs.Prelude.{ℕ, Option, Some, None}
+use denote.Enum.Declared.{tag_of}
 use Rattle.s390x_base.specs.declared.regs.Reg.{Reg}
 use Rattle.s390x_inst.specs.declared.args.MemArg.{MemArg}
 use Rattle.s390x_inst.specs.declared.inst.Inst.{Inst}
 use Rattle.s390x_inst.specs.declared.inst.Inst.TheVariants as I
 use Rattle.s390x_inst.specs.declared.load.Load.{Load}
 use Rattle.s390x_inst.specs.declared.load.LoadOp.{LoadOp}
+use Rattle.s390x_inst.specs.contracts.load.LoadOp as the_load
 use Rattle.s390x_inst.specs.declared.load.LoadOp.TheVariants as L
 
 -- the load that an instruction is
@@ -50,20 +52,6 @@ abbrev pub by_load {ℓ} : {A : Type ℓ} → (Load → A) → (other : A) → O
 by_load f other None = other
 by_load f other (Some l) = f l
 
--- its row in each table of loads
+-- its row in each table of loads: the loads stand there in the order of their declaration
 abbrev pub load_place : LoadOp → ℕ
-load_place L.Load32 = 0
-load_place L.Load32ZExt8 = 1
-load_place L.Load32SExt8 = 2
-load_place L.Load32ZExt16 = 3
-load_place L.Load32SExt16 = 4
-load_place L.Load64 = 5
-load_place L.Load64ZExt8 = 6
-load_place L.Load64SExt8 = 7
-load_place L.Load64ZExt16 = 8
-load_place L.Load64SExt16 = 9
-load_place L.Load64ZExt32 = 10
-load_place L.Load64SExt32 = 11
-load_place L.LoadRev16 = 12
-load_place L.LoadRev32 = 13
-load_place L.LoadRev64 = 14
+load_place op = tag_of the_load.the_type op
