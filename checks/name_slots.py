@@ -1,8 +1,9 @@
 #!/usr/bin/env python3
-"""Prints the tables OFFSETS and PLACES of s390x_lines/src/name.rt, for the names that stand in its ALL_NAMES.
+"""Prints the tables OFFSETS of s390x_lines/src/name.rt and ALL_NAMES of its all_names.rt, for the names of lines.
 
 Each name has a slot of its own: the number that its letters tell, and an offset by how many they are, below 512.
-The check proves the tables right; where this program finds no offsets, another multiplier than 5 has to be tried.
+Offsets that serve are kept, so that mostly a new name takes one blank of ALL_NAMES. The check proves the tables
+right; where this program finds no offsets, another multiplier than 5 has to be tried.
 """
 import pathlib
 import re
@@ -21,15 +22,19 @@ def load_operators():
     return [f"LoadOp::{name}" for name in re.findall(r"\n    (\w+),", table[:table.index("}")])]
 
 
-def all_names():
-    names = (SOURCES / "name.rt").read_text()
-    texts = dict(re.findall(r'(\w+Name::\w+) => "(\w+)"', (SOURCES / "inst_name.rt").read_text() + names))
+def written_names():
+    """Each name's text, with how ALL_NAMES writes it."""
+    source = (SOURCES / "inst_name.rt").read_text() + (SOURCES / "name.rt").read_text()
+    names = dict(re.findall(r'(\w+Name::\w+) => "(\w+)"', source))
     # the names of loads stand in the order of `LoadOp`
     loads = re.findall(r'    "(\w+)",', (SOURCES / "load_names.rt").read_text())
-    texts |= dict(zip(load_operators(), loads, strict=True))
-    table = names[names.index("pub const ALL_NAMES"):]
-    table = table[table.index("\n"):table.index("];")]
-    return [texts[item] for item in re.findall(r"(?:LineName::\w+\()?(\w+Name::\w+|LoadOp::\w+)\)?,", table)]
+    names |= dict(zip(load_operators(), loads, strict=True))
+    return {text: written(name) for name, text in names.items()}
+
+
+def written(name):
+    group, item = name.split("::")
+    return item if group == "LineName" else f"{re.sub('Name$|Op$', '', group)}({item})"
 
 
 def mix(name):
@@ -39,15 +44,21 @@ def mix(name):
     return number
 
 
+def kept_offsets():
+    source = (SOURCES / "name.rt").read_text()
+    table = source[source.index("pub const OFFSETS"):]
+    return [int(number) for number in re.findall(r"\d+(?=,)", table[table.index("= ["):table.index("];")])]
+
+
 def offsets(names):
     groups = defaultdict(list)
     for name in names:
         groups[len(name)].append(mix(name))
-    taken, found = set(), [0] * 32
+    taken, kept, found = set(), kept_offsets(), [0] * 32
     for letters, group in sorted(groups.items(), key=lambda item: -len(item[1])):
         slots, offset = next(
             (slots, offset)
-            for offset in range(256)
+            for offset in [kept[letters], *range(256)]
             for slots in [{(offset + number) % SLOTS for number in group}]
             if len(slots) == len(group) and not slots & taken
         )
@@ -56,17 +67,17 @@ def offsets(names):
     return found
 
 
-def rows(numbers, width):
-    for at in range(0, len(numbers), width):
-        print("    " + " ".join(f"{number}," for number in numbers[at:at + width]))
+def rows(items, width):
+    for at in range(0, len(items), width):
+        print("    " + " ".join(f"{item}," for item in items[at:at + width]))
 
 
-names = all_names()
+names = written_names()
 shifts = offsets(names)
-places = [0] * SLOTS
-for place, name in enumerate(names):
-    places[(shifts[len(name)] + mix(name)) % SLOTS] = place
+slots = ["EndLine"] * SLOTS
+for text, name in names.items():
+    slots[(shifts[len(text)] + mix(text)) % SLOTS] = name
 print("OFFSETS")
 rows(shifts, 16)
-print("PLACES")
-rows(places, 32)
+print("ALL_NAMES")
+rows(slots, 4)

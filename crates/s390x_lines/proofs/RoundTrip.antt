@@ -20,38 +20,10 @@ use Rattle.s390x_lines.specs.declared.inst_name.VectorName.{VectorName}
 use Rattle.s390x_lines.specs.declared.inst_name.VectorName.TheVariants as VectorIs
 use Rattle.s390x_lines.specs.declared.name.LineName.{LineName}
 use Rattle.s390x_lines.specs.declared.name.LineName.TheVariants as N
+use Rattle.s390x_lines.proofs.Slots.{name-round_trip}
 use Rattle.s390x_words.proofs.Avoids.{Avoids, Avoids-append, Avoids-fewer, Avoids-test, marks, IsOneWord, Ends, front-is, back-is}
 use Rattle.s390x_fields.proofs.Fields.{Rest, field-round_trip, field-after, field-feed}
 use Rattle.s390x_fields.proofs.Ranges.{value-ok, value-kind}
-
-integer-round_trip : (n : IntegerName) → line_name_of (integer_text n) ≡ N.Integer n
-integer-round_trip IntegerIs.AluRRR = refl
-integer-round_trip n = refl
-
-load-round_trip : (op : LoadOp) → line_name_of (load_name_text op) ≡ N.Load op
-load-round_trip LoadOps.Load32 = refl
-load-round_trip op = refl
-
-memory-round_trip : (n : MemoryName) → line_name_of (memory_name_text n) ≡ N.Memory n
-memory-round_trip MemoryIs.Store8 = refl
-memory-round_trip n = refl
-
-control-round_trip : (n : ControlName) → line_name_of (control_text n) ≡ N.Control n
-control-round_trip ControlIs.Fence = refl
-control-round_trip n = refl
-
-vector-round_trip : (n : VectorName) → line_name_of (vector_name_text n) ≡ N.Vector n
-vector-round_trip VectorIs.VecRRR = refl
-vector-round_trip n = refl
-
-pub name-round_trip : (n : LineName) → line_name_of (name_text n) ≡ n
-name-round_trip N.EndLine = refl
-name-round_trip (N.Integer n) = integer-round_trip n
-name-round_trip (N.Load op) = load-round_trip op
-name-round_trip (N.Memory n) = memory-round_trip n
-name-round_trip (N.Control n) = control-round_trip n
-name-round_trip (N.Vector n) = vector-round_trip n
-name-round_trip n = refl
 
 integer-one_word : (n : IntegerName) → IsOneWord (integer_text n)
 integer-one_word IntegerIs.AluRRR = Avoids-test marks (integer_text IntegerIs.AluRRR) refl

@@ -1,5 +1,5 @@
 -- A name is found at its slot.
-use Rattle.std.proofs.Common.{◌≡◌, ℕ, ◌<◌, List, [], ◌∷◌, ◌⊎◌, inl, inr, true, false, refl, sym, ap, ◌∙◌}
+use Rattle.std.proofs.Common.{◌≡◌, ℕ, zero, suc, List, [], ◌∷◌, ◌⊎◌, inl, inr, true, false, refl, sym, ap, ◌∙◌}
 use Rattle.std.specs.Prelude.{slice_index_or}
 use Rattle.std.specs.Str.{bytes_eq}
 use Rattle.std.proofs.lemmas.Slice.Eq.{bytes_eq-Decides}
@@ -20,12 +20,11 @@ use Rattle.s390x_lines.specs.declared.inst_name.VectorName.{VectorName}
 use Rattle.s390x_lines.specs.declared.inst_name.VectorName.TheVariants as VectorIs
 use Rattle.s390x_lines.specs.declared.name.LineName.{LineName}
 use Rattle.s390x_lines.specs.declared.name.LineName.TheVariants as N
-use Rattle.s390x_lines.specs.declared.name.TheConstants.{ALL_NAMES, PLACES}
-use Rattle.s390x_lines.proofs.RoundTrip.{name-round_trip}
+use Rattle.s390x_lines.specs.declared.all_names.TheConstants.{ALL_NAMES}
 
 -- the name that stands at the slot of a word
 abbrev pub name_at : List ℕ → LineName
-name_at w = slice_index_or ALL_NAMES (slice_index_or PLACES (slot_of w) 0) N.EndLine
+name_at w = slice_index_or ALL_NAMES (slot_of w) N.EndLine
 
 integer-slot : (n : IntegerName) → name_at (integer_text n) ≡ N.Integer n
 unfolding slot_of
@@ -67,6 +66,19 @@ found_or : (xs : List LineName) (w : List ℕ) (other : LineName) → (found_by_
 found_or [] w other = inl refl
 found_or (x ∷ xs) w other =
     elim (either (bytes_eq (name_text x) w)) [ inl e ↦ rw e (inr ((bytes_eq-Decides (name_text x) w).0 e)) | inr e ↦ rw e (found_or xs w other) ]
+
+-- what stands at a place of a list is found by its text
+found_at : (xs : List LineName) (k : ℕ) (w : List ℕ) → name_text (slice_index_or xs k N.EndLine) ≡ w → name_text (found_by_name (with_texts xs) w N.EndLine) ≡ w
+found_at [] k w e = e
+found_at (x ∷ xs) zero w e = rw ((bytes_eq-Decides (name_text x) w).1 e) e
+found_at (x ∷ xs) (suc k) w e =
+    elim (either (bytes_eq (name_text x) w)) [ inl t ↦ rw t ((bytes_eq-Decides (name_text x) w).0 t) | inr f ↦ rw f (found_at xs k w e) ]
+
+-- the name that is found has the same text, and so the same slot
+pub name-round_trip : (n : LineName) → line_name_of (name_text n) ≡ n
+name-round_trip n =
+    let same : name_text (line_name_of (name_text n)) ≡ name_text n = found_at ALL_NAMES (slot_of (name_text n)) (name_text n) (ap name_text (name-slot n)) in
+    sym (name-slot (line_name_of (name_text n))) ∙ ap name_at same ∙ name-slot n
 
 pub is_found : (n : LineName) (w : List ℕ) → bytes_eq (name_text n) w ≡ true → n ≡ line_name_of w
 is_found n w e =

@@ -14,7 +14,7 @@ use Rattle.s390x_lines.specs.declared.inst_name.VectorName.{VectorName}
 use Rattle.s390x_lines.specs.declared.inst_name.VectorName.TheVariants as VectorIs
 use Rattle.s390x_lines.specs.declared.name.LineName.{LineName}
 use Rattle.s390x_lines.specs.declared.name.LineName.TheVariants as N
-use Rattle.s390x_lines.specs.declared.name.TheConstants.{ALL_NAMES}
+use Rattle.s390x_lines.specs.declared.all_names.TheConstants.{ALL_NAMES}
 
 -- of the instructions on general registers alone
 abbrev pub integer_text : IntegerName → List ℕ

@@ -1,6 +1,7 @@
 //! The lines of instructions: their names, their printer and their reader.
 #![tactic(auto)]
 
+pub mod all_names;
 pub mod inst_name;
 pub mod law;
 pub mod load_names;
