@@ -40,6 +40,7 @@ pub struct Load {
 }
 
 // A load, of operands that are borrowed.
+#[inline(always)]
 fn some_load(op: LoadOp, rd: &Writable<Reg>, mem: &MemArg) -> Option<Load>
     ensures { result ≡ Some (record { op = op; rd = rd.now; mem = mem.now }) }
 {
@@ -52,6 +53,7 @@ fn some_load(op: LoadOp, rd: &Writable<Reg>, mem: &MemArg) -> Option<Load>
 
 impl Inst {
     /// The load that the instruction is. None where it is none.
+    #[inline(always)]
     pub fn as_load(&self) -> Option<Load>
         ensures { result ≡ as_load self.now }
     {
