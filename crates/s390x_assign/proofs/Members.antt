@@ -1,23 +1,14 @@
 -- The registers of a loop's members, one member after the other.
-use Rattle.std.proofs.Common.{◌≡◌, ℕ, ◌+◌, ◌<◌, ◌≤◌, Bool, true, false, List, [], ◌∷◌, ◌++◌, length, get_or, drop, Result, Ok, Err, IfOk, refl, sym, ap, ◌∙◌, Vec, Global}
+use Rattle.std.proofs.Common.{◌≡◌, ℕ, ◌+◌, ◌<◌, ◌≤◌, false, List, [], ◌∷◌, ◌++◌, length, get_or, drop, Result, Ok, Err, IfOk, refl, sym, ap, ◌∙◌, Vec, Global}
 use Rattle.std.proofs.lemmas.List.{drop_all}
 use Rattle.s390x_base.specs.declared.regs.Reg.{Reg}
-use Rattle.s390x_inst.specs.declared.inst.Inst.{Inst, roll-out-Inst}
+use Rattle.s390x_inst.specs.declared.inst.Inst.{Inst}
 use Rattle.s390x_inst.specs.declared.inst.Inst.TheVariants.{Loop'}
 use Rattle.s390x_inst.specs.declared.inst.Inst.TheViews as V
 use Rattle.s390x_inst.specs.Portions.{Portion, plain, indirect_branch, jump_table, calling, tail_calling, arguments, results, opening, closing, first_portion, portions, members_portions}
-use Rattle.s390x_inst.proofs.Portions.{loop_portions}
+use Rattle.s390x_inst.proofs.Portions.{loop_portions, opens, opens_no_loop}
 use Rattle.s390x_assign.specs.Assignments.{assigned, each_at, portion_at, IsPortion, ArePortions}
 use Rattle.s390x_assign.proofs.Counting.{cons_of, append_nil}
-
-abbrev opens : Portion → Bool
-opens (opening mask) = true
-opens p = false
-
-opens_no_loop : (i : Inst) → ((m : ℕ) (v : Vec Inst Global) → i ≡ V.Loop m v → ⊥) → opens (first_portion i) ≡ false
-unfolding V.roll-Inst denote.Hole.Carrier.roll V.out-Inst denote.Hole.Carrier.out
-opens_no_loop (Loop' mask body all) h = absurd (h mask _ (sym (roll-out-Inst (Loop' mask body all))))
-opens_no_loop i h = refl
 
 one_portion : (i : Inst) → opens (first_portion i) ≡ false → portions i ≡ first_portion i ∷ []
 one_portion (Loop' mask body all) h = absurd cc

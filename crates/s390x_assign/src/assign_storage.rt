@@ -8,7 +8,7 @@ use crate::assigned_registers::AssignedRegisters;
 use s390x_inst::Inst;
 use std::alloc::{AllocError, Global};
 
-// The same of one that is no load of one register.
+// An instruction of storage that is no load of one register, with its registers.
 fn assign_store(
     alloc: Global,
     registers: &mut AssignedRegisters<'_>,

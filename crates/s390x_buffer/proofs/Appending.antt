@@ -1,11 +1,11 @@
 -- Patching as bytes and uses are appended, and where labels stand at the end.
-use Rattle.std.proofs.Common.{◌≡◌, ℕ, zero, suc, ◌+◌, ◌-◌, ◌*◌, ◌/◌, ◌%◌, ◌<◌, ◌≤◌, List, [], ◌∷◌, ◌++◌, length, get_or, set, take, drop, map, Option, Some, None, Bool, true, false, cond, ◌&&◌, nat_le, refl, sym, ap, ◌∙◌, subst, arith, length-append, length-set, append_assoc, add-zero, get_or-append-add}
-use Rattle.std.proofs.lemmas.List.{set-append_left, set-append_right, get_or_append_left, get_or-append_right, get_or-take, get_or-drop, get_or-map, length-take-le, length-map}
+use Rattle.std.proofs.Common.{◌≡◌, ℕ, zero, ◌+◌, ◌-◌, ◌/◌, ◌%◌, ◌<◌, ◌≤◌, List, [], ◌∷◌, ◌++◌, length, get_or, set, take, drop, map, Option, Some, None, true, cond, ◌&&◌, nat_le, refl, sym, ap, ◌∙◌, subst, arith, length-append, length-set, add-zero, get_or-append-add}
+use Rattle.std.proofs.lemmas.List.{set-append_left, set-append_right, get_or_append_left, get_or-take, get_or-drop, get_or-map, length-take-le, length-map}
 use Rattle.std.proofs.lemmas.Bool.{le-leb, and_from}
 use Rattle.s390x_buffer.specs.State.{BufferState}
 use Rattle.s390x_buffer.specs.Patch.{set2, set4, word_from, half_between, distance_between, patch, patch_use, patch_all, patch_size, offset_of_label, is_in_reach, sum_fits, can_patch, use_cause, uses_cause, first_use_cause, is_bound}
-use Rattle.s390x_buffer.specs.Finish.{final_labels, starts_of_constants, bind_constants}
-use Rattle.s390x_buffer.proofs.Branching.{length-set2, length-patch, length-patch_all}
+use Rattle.s390x_buffer.specs.Finish.{final_labels, starts_of_constants}
+use Rattle.s390x_buffer.proofs.Branching.{length-patch}
 use Rattle.s390x_buffer.proofs.Placing.{length-constant_starts}
 use Rattle.s390x_base.specs.declared.error.EmitError.{EmitError}
 use Rattle.s390x_base.specs.declared.error.EmitError.TheVariants.{LabelOutOfRange, UnboundLabel}

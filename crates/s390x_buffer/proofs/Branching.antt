@@ -1,6 +1,6 @@
 -- That branches lead to their labels.
-use Rattle.std.proofs.Common.{◌≡◌, ℕ, zero, suc, ◌+◌, ◌-◌, ◌*◌, ◌/◌, ◌%◌, ◌^◌, ◌<◌, ◌≤◌, ◌≢◌, List, [], ◌∷◌, ◌++◌, ◌⊎◌, inl, inr, length, get_or, set, Option}
-use Rattle.std.proofs.Common.{Some, None, Bool, true, false, cond, ◌&&◌, nat_eq, nat_lt, nat_le, is_some, All, ℤ, pos, negsuc, ◌+ℤ◌, ◌*ℤ◌, refl, sym, ap, ◌∙◌, subst, arith, length-set, slice_index}
+use Rattle.std.proofs.Common.{◌≡◌, ℕ, suc, ◌+◌, ◌-◌, ◌*◌, ◌/◌, ◌%◌, ◌<◌, ◌≤◌, ◌≢◌, List, [], ◌∷◌, ◌++◌, ◌⊎◌, inl, inr, length, get_or, set, Option}
+use Rattle.std.proofs.Common.{Some, None, Bool, true, false, cond, ◌&&◌, nat_eq, nat_le, All, ℤ, pos, negsuc, ◌+ℤ◌, ◌*ℤ◌, refl, sym, ap, ◌∙◌, subst, arith, length-set}
 use Rattle.std.specs.Int.{cast_signed, w16, w32}
 use Rattle.std.proofs.lemmas.Int.{to_z_pos, ints}
 use Rattle.std.proofs.Math.Facts.{to_z-neg}
@@ -8,7 +8,7 @@ use Rattle.std.proofs.lemmas.Bool.{and_parts, cases_lt, eqb-true, leb-true}
 use Rattle.std.proofs.lemmas.List.{get_or-set_same, get_or-set_other}
 use Rattle.std.proofs.lemmas.List.Elements.{All-tail}
 use Rattle.s390x_buffer.specs.State.{BufferState}
-use Rattle.s390x_buffer.specs.Patch.{set2, set4, halfword_from, word_from, half_between, distance_between, patch, patch_use, patch_all, patch_size, offset_of_label, is_bound, is_in_reach, sum_fits, can_patch, use_cause, uses_cause, first_use_cause, max_pos_range, max_neg_range}
+use Rattle.s390x_buffer.specs.Patch.{set2, set4, halfword_from, word_from, half_between, patch, patch_use, patch_all, patch_size, offset_of_label, is_bound, is_in_reach, sum_fits, can_patch, use_cause, uses_cause, first_use_cause, max_pos_range, max_neg_range}
 use Rattle.s390x_buffer.specs.Finish.{final_labels, unpatched, finish_cause, length_cause, patch_cause}
 use Rattle.s390x_buffer.specs.Branches.{field_start, field_end, IsApart, BranchLeadsTo, BranchesLead}
 use Rattle.s390x_base.specs.declared.error.EmitError.{EmitError}

@@ -1,12 +1,11 @@
 -- What the end of a block leaves of the branches that were put last, behind a step's beginning.
-use Rattle.std.proofs.Common.{◌≡◌, ◌≢◌, ℕ, ◌+◌, ◌≤◌, List, [], ◌∷◌, ◌++◌, length, take, Some, Bool, true, false, cond, ◌&&◌, nat_eq, refl, sym, ap, ap₂, ◌∙◌, arith, length-append, append_assoc, eq-eqb, ne_eqb}
+use Rattle.std.proofs.Common.{◌≡◌, ◌≢◌, ℕ, ◌+◌, List, [], ◌∷◌, ◌++◌, length, take, Some, true, cond, ◌&&◌, nat_eq, refl, sym, ap, ap₂, ◌∙◌, arith, length-append, append_assoc, eq-eqb, ne_eqb}
 use Rattle.std.proofs.lemmas.List.{take-append-le, take_all}
 use Rattle.std.proofs.lemmas.Bool.{and_from}
 use Rattle.s390x_base.specs.declared.ir.MachLabel.{MachLabel}
 use Rattle.s390x_buffer.specs.State.{BufferState}
 use Rattle.s390x_buffer.specs.BlockEnd.{is_branch_use, has_use, without_use, with_jump, with_conditional, cut, inverted_alone, both_ended, ended_by, ended}
 use Rattle.s390x_buffer.specs.declared.entries.LabelFixup.{LabelFixup}
-use Rattle.s390x_buffer.specs.declared.entries.RecordedBranches.{RecordedBranches}
 use Rattle.s390x_buffer.specs.declared.entries.RecordedBranches.TheVariants.{NoBranch, LoneJump, ConditionalThenJump}
 use Rattle.s390x_buffer.specs.declared.label_use.LabelUse.TheVariants.{BranchRIL}
 use Rattle.s390x_buffer.proofs.Ending.{has-behind, without_behind}

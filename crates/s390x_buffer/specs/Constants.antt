@@ -1,5 +1,5 @@
 -- Constants behind the code.
-use Rattle.std.specs.Prelude.{ℕ, ◌+◌, ◌-◌, ◌*◌, ◌/◌, List, [], ◌∷◌, ◌++◌, length, map, replicate, max}
+use Rattle.std.specs.Prelude.{ℕ, ◌+◌, ◌-◌, ◌*◌, ◌/◌, List, [], ◌∷◌, ◌++◌, length, replicate, max}
 use Rattle.s390x_buffer.specs.State.{Constant}
 
 -- the next multiple of a, from n on

@@ -1,5 +1,5 @@
 -- What callers see of a buffer, and the causes of refusal of its calls.
-use Rattle.std.specs.Prelude.{◌≡◌, ℕ, ◌+◌, ◌<◌, ◌≤◌, List, [], ◌∷◌, ◌++◌, length, map, replicate, Option, Some, None, Bool, true, false, cond, ◌||◌, ◌&&◌, nat_lt, nat_eq}
+use Rattle.std.specs.Prelude.{◌≡◌, ℕ, ◌+◌, ◌≤◌, List, [], ◌∷◌, length, map, replicate, Option, Some, None, Bool, true, false, cond, ◌||◌, ◌&&◌, nat_lt, nat_eq}
 use Rattle.std.specs.List.{slice_get}
 use Rattle.s390x_base.specs.declared.ir.ConstantData.{ConstantData}
 use Rattle.s390x_base.specs.declared.error.EmitError.{EmitError}

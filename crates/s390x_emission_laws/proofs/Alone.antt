@@ -1,5 +1,5 @@
 -- The bytes that emission appends for an instruction that names no block are those of the instruction by itself.
-use Rattle.std.proofs.Common.{◌≡◌, ℕ, zero, suc, ◌+◌, ◌-◌, ◌*◌, ◌/◌, ◌%◌, ◌<◌, ◌≤◌, [], ◌∷◌, ◌++◌, List, length, Option, Some, None, refl, sym, ap, ◌∙◌, subst, arith, append-nil, append_assoc, add_assoc, add-zero, length-append}
+use Rattle.std.proofs.Common.{◌≡◌, ℕ, zero, suc, ◌+◌, ◌-◌, ◌<◌, ◌≤◌, [], ◌∷◌, ◌++◌, List, length, None, refl, sym, ap, ◌∙◌, subst, arith, append-nil, add_assoc, add-zero}
 use Rattle.std.specs.Int.{w64, to_be_bytes}
 use Rattle.std.specs.Prelude.{ℤ, pos}
 use Rattle.s390x_base.specs.declared.ir.ExternalName.{ExternalName}

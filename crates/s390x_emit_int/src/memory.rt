@@ -401,7 +401,7 @@ fn compare_and_swap(
     })
 }
 
-// The same of one that is no load of one register.
+// An access of an operand that is no load of one register.
 fn find_other_memory(inst: &Inst) -> Option<MemoryInst>
     ensures row { option_map memory_instruction_of result ≡ other_memory inst.now }
     ensures encodes { IfSome result (λ x. may_encode x ≡ true) }

@@ -1,7 +1,6 @@
 -- Steps of the machine: a stop leaves the state as it was, and no step changes what is accessible.
-use Rattle.std.proofs.Common.{◌≡◌, ℕ, zero, suc, ◌+◌, ◌<◌, Bool, true, false, Option, Some, None, List, refl, sym, ap, ◌∙◌, subst, arith}
+use Rattle.std.proofs.Common.{◌≡◌, ℕ, zero, suc, ◌+◌, ◌<◌, Bool, true, false, Option, Some, None, refl, sym, ap, ◌∙◌, subst, arith}
 use Rattle.s390x_format.specs.Formats.{length_of}
-use Rattle.s390x_format.specs.declared.decoder.Decoded.{Decoded}
 use Rattle.s390x_format.specs.declared.fields.Fields.{Fields}
 use Rattle.s390x_operations.specs.State.{State, Memory, Core, StoreEvent}
 use Rattle.s390x_operations.specs.declared.stop.StopKind.{StopKind}
@@ -14,10 +13,9 @@ use Rattle.s390x_machine.specs.declared.semantics.RowSemantics.{RowSemantics}
 use Rattle.s390x_machine.specs.declared.semantics.Action.{Action}
 use Rattle.s390x_machine.specs.declared.semantics.Action.TheVariants.{Perform, Branch, BranchAndSave}
 use Rattle.s390x_machine.specs.declared.step.StepEnd.TheVariants.{Went, Stopped as Stops, NoRow as HasNoRow}
-use Rattle.s390x_execution.specs.Execution.{Walks, Ends, IsExecution, IsStepped, GoesFurther}
+use Rattle.s390x_execution.specs.Execution.{Walks, Ends, IsExecution, IsStepped}
 use Rattle.s390x_execution.specs.declared.execution.End.{End}
 use Rattle.s390x_execution.specs.declared.execution.End.TheVariants.{Limit, Stopped, NoRow}
-use Rattle.s390x_execution.specs.declared.execution.Execution.{Execution}
 
 -- ---- a stop
 

@@ -1,8 +1,7 @@
 -- The text of an execution, part by part.
-use Rattle.std.proofs.Common.{◌≡◌, ℕ, zero, suc, ◌+◌, ◌<◌, ◌≤◌, ◌^◌, List, [], ◌∷◌, ◌++◌, ◌-◌, map, length, get_or, drop, slice_index, refl, sym, ap, ap₂, ◌∙◌, subst, arith, append_assoc, Bool, IsTrue}
-use Rattle.std.specs.Prelude.{Result, Ok, Err, OnOk}
+use Rattle.std.proofs.Common.{◌≡◌, ℕ, zero, suc, ◌+◌, ◌<◌, List, [], ◌∷◌, ◌++◌, ◌-◌, map, length, get_or, drop, slice_index, refl, sym, ap, ap₂, ◌∙◌, subst, arith, append_assoc, Bool, IsTrue}
 use Rattle.std.proofs.lemmas.List.{drop_more}
-use Rattle.s390x_operations.specs.State.{Registers, wrapping_add64, bytes_from}
+use Rattle.s390x_operations.specs.State.{wrapping_add64, bytes_from}
 use Rattle.s390x_machine.specs.State.{memory_of, registers_of, state_of}
 use Rattle.s390x_machine.specs.declared.machine.Machine.{Machine}
 use Rattle.s390x_job.proofs.Texts.{two_texts}

@@ -1,15 +1,14 @@
 -- The memory in which an execution starts, region by region.
-use Rattle.std.proofs.Common.{◌≡◌, ℕ, zero, suc, ◌+◌, ◌-◌, ◌<◌, ◌≤◌, ◌^◌, ◌%◌, Bool, true, false, ◌||◌, ◌&&◌, if◌then◌else◌, List, [], ◌∷◌, length, get_or, drop, slice_index, refl, sym, ap, ap₂, ◌∙◌, subst, arith, true≢false, Option, Some, None, IsTrue, le-leb, lt-ltb}
-use Rattle.std.specs.Prelude.{nat_le, nat_lt}
+use Rattle.std.proofs.Common.{◌≡◌, ℕ, zero, ◌+◌, ◌-◌, ◌<◌, ◌≤◌, ◌^◌, Bool, true, false, ◌||◌, ◌&&◌, if◌then◌else◌, List, [], ◌∷◌, length, get_or, drop, slice_index, refl, sym, ap, ap₂, ◌∙◌, subst, arith, true≢false, Option, Some, None, IsTrue, le-leb, lt-ltb}
 use Rattle.std.specs.BTreeMap.{get}
 use Rattle.std.specs.Option.{is_some, unwrap_or}
 use Rattle.std.specs.Ordering.{nat_cmp}
 use Rattle.std.proofs.lemmas.List.{drop_more}
 use Rattle.std.proofs.lemmas.Bool.{or_parts}
-use Rattle.s390x_operations.specs.State.{Registers, Memory, wrapping_add64}
+use Rattle.s390x_operations.specs.State.{Memory, wrapping_add64}
 use Rattle.s390x_operations.specs.declared.stop.ConditionCode.{ConditionCode}
 use Rattle.s390x_machine.specs.Regions.{covers, held_in, byte_in, is_held, byte_of}
-use Rattle.s390x_machine.specs.State.{memory_of, registers_of, fresh_registers}
+use Rattle.s390x_machine.specs.State.{memory_of, fresh_registers}
 use Rattle.s390x_machine.specs.declared.flat.FlatMemory.{FlatMemory}
 use Rattle.s390x_job.specs.declared.job.MemLine.{MemLine}
 use Rattle.s390x_job.specs.declared.job.StartRegs.{StartRegs}

@@ -1,5 +1,5 @@
 -- The state in which a job's image starts: its registers and memory, with the image in memory (Principles of Operation, chapter 2, "CPU").
-use Rattle.std.specs.Prelude.{◌≡◌, ℕ, ◌+◌, ◌-◌, ◌^◌, ◌≤◌, ◌||◌, false, if◌then◌else◌, List, [], ◌∷◌, length, slice_index}
+use Rattle.std.specs.Prelude.{ℕ, ◌+◌, ◌-◌, ◌^◌, ◌≤◌, ◌||◌, false, if◌then◌else◌, List, [], ◌∷◌, length, slice_index}
 use Rattle.s390x_operations.specs.State.{Registers, Memory, State}
 use Rattle.s390x_operations.specs.declared.stop.ConditionCode.TheVariants.{Code0}
 use Rattle.s390x_machine.specs.Regions.{covers}

@@ -2,7 +2,6 @@
 use Rattle.std.proofs.Common.{◌≡◌, ℕ, zero, suc, ◌+◌, ◌-◌, ◌<◌, ◌≤◌, List, [], ◌∷◌, ◌++◌, length, Option, Some, None, Bool, true, false, cond, ◌==◌, IsTrue, IsFalse, inl, inr, ◌⊎◌, refl, sym, ap, ◌∙◌, subst, arith, append_assoc, append-nil, length-append, true≢false, eqb-true}
 use Rattle.s390x_base.specs.Regs.{number_of}
 use Rattle.s390x_base.specs.declared.trap.TrapKind.{TrapKind}
-use Rattle.s390x_typed_steps.specs.Steps.{Back, Break}
 use Rattle.s390x_operations.specs.State.{Registers, Core, State, StoreEvent, written, IsLoaded, IsDisjoint, number_at, wrapping_add64}
 use Rattle.s390x_operations.specs.Access.{store_event, store_event_at}
 use Rattle.s390x_operations.specs.Bits.{bytes}

@@ -2,7 +2,7 @@
 use Rattle.std.specs.Prelude.{◌≡◌, ℕ, ◌+◌, ◌<◌, ◌≤◌, Option, Some, None, List, [], ◌∷◌, ◌++◌, length, get_or}
 use Rattle.s390x_lines.specs.Line.{Line}
 use Rattle.s390x_job.specs.Items.{block_line, loop_line, end_line}
-use Rattle.s390x_job.specs.Jobs.{IsPlainWithoutLine, insts_lines, blocks_lines, flags_lines, frame_lines, head_lines, job_lines}
+use Rattle.s390x_job.specs.Jobs.{IsPlainWithoutLine, insts_lines, blocks_lines, flags_lines, frame_lines, head_lines}
 use Rattle.s390x_job.specs.Grammar.{Place, Header, Within, AtEnd, next, class}
 use Rattle.s390x_inst.specs.State.{fresh_emission}
 use Rattle.s390x_inst.specs.declared.calls.CallConv.{CallConv}

@@ -1,5 +1,5 @@
 -- The parts of a job, line by line.
-use Rattle.std.specs.Prelude.{◌≡◌, ℕ, ◌<◌, List, [], ◌∷◌}
+use Rattle.std.specs.Prelude.{◌≡◌, ℕ, ◌<◌, [], ◌∷◌}
 use Rattle.s390x_base.specs.Registers.{RealRegister, general, vector}
 use Rattle.s390x_base.specs.declared.ir.ConstantData.{ConstantData}
 use Rattle.s390x_inst.specs.declared.calls.CallConv.{CallConv}

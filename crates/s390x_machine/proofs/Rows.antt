@@ -1,5 +1,5 @@
 -- What the machine does at each built row.
-use Rattle.std.proofs.Common.{◌≡◌, ◌≢◌, ℕ, zero, suc, ◌+◌, ◌%◌, ◌^◌, ◌<◌, ◌≤◌, List, [], ◌∷◌, length, Bool, true, false, cond, ◌==◌, ◌&&◌, IsTrue, refl, sym, ap, ◌∙◌, subst, arith, ltb-true, true≢false}
+use Rattle.std.proofs.Common.{◌≡◌, ◌≢◌, ℕ, ◌+◌, ◌%◌, ◌^◌, ◌<◌, Bool, true, false, cond, ◌==◌, IsTrue, refl, sym, ap, ◌∙◌, subst, arith, ltb-true, true≢false}
 use Rattle.std.specs.Prelude.{pos, ◌+ℤ◌, ◌*ℤ◌, nat_eq, nat_lt, not}
 use Rattle.std.specs.Int.{cast_signed}
 use mir.Syntax.{w32}

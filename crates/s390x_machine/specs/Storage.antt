@@ -287,7 +287,7 @@ loaded_value LoadOps.LoadRev64 = record { size = Doubleword; second = reversed_b
 abbrev pub load_step : Load → Option OperandStep
 load_step l = accesses_at (loaded_value l.op).forms l.mem (loads_at (loaded_value l.op).size (loaded_value l.op).second (number_of l.rd))
 
--- the same of one that is no load of one register
+-- what an instruction does with its operand in storage, where it is no load of one register
 abbrev pub other_operand_step : Inst → Option OperandStep
 other_operand_step (AluRX op rd ri mem) = accesses_at (alu_forms op) mem (computes_at (alu_two_rule op) (alu_computation op) (number_of rd))
 other_operand_step (CmpRX op rn mem) = accesses_at (cmp_forms op) mem (compares_at (comparison op) (number_of rn))

@@ -1,5 +1,5 @@
 -- Requests of a list, one turn of a loop after the other.
-use Rattle.std.proofs.Common.{◌≡◌, ℕ, suc, ◌+◌, ◌-◌, ◌<◌, ◌≤◌, Bool, List, [], ◌∷◌, ◌++◌, map, length, get_or, drop, drop-cons, Option, Result, MatchResult, IsErrAnd, refl, sym, ap, subst, ◌∙◌, arith}
+use Rattle.std.proofs.Common.{◌≡◌, ℕ, suc, ◌+◌, ◌-◌, ◌<◌, ◌≤◌, Bool, List, [], ◌∷◌, map, length, get_or, drop, drop-cons, Option, Result, IsErrAnd, sym, ap, subst, ◌∙◌, arith}
 use Rattle.std.proofs.lemmas.List.{drop_all}
 use Rattle.std.specs.List.{range_with_len}
 use Rattle.s390x_operands.specs.declared.constraint.OperandError.{OperandError}

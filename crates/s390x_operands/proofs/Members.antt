@@ -1,5 +1,5 @@
 -- The requests of a loop are those of its members.
-use Rattle.std.proofs.Common.{◌≡◌, ℕ, suc, ◌+◌, ◌<◌, ◌≤◌, Bool, true, false, ◌||◌, List, [], ◌∷◌, ◌++◌, length, get_or, drop, Option, Result, MatchResult, IsErrAnd, refl, sym, ap, subst, ◌∙◌, Vec, Global}
+use Rattle.std.proofs.Common.{◌≡◌, ℕ, ◌+◌, ◌<◌, ◌≤◌, Bool, true, false, ◌||◌, List, ◌++◌, length, get_or, drop, Result, IsErrAnd, refl, sym, ap, subst, ◌∙◌, Vec, Global}
 use Rattle.std.proofs.lemmas.List.{drop_all}
 use Rattle.s390x_inst.specs.declared.inst.Inst.{Inst, Row_of-Inst, end_of-Inst, more_of-Inst, items-the_row-Inst, items_hidden-the_row-Inst-0, roll-out-Inst}
 use Rattle.s390x_inst.specs.declared.inst.Inst.TheVariants.{Loop'}

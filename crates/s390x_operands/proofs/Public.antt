@@ -1,10 +1,10 @@
 -- What the report of an instruction says to its caller.
-use Rattle.std.proofs.Common.{◌≡◌, Bool, true, false, ◌||◌, List, ◌++◌, Option, Some, None, Result, Ok, Err, MatchResult, OnOk, OnErr, ◌⊎◌, inl, inr, refl, sym, ap, subst, ◌∙◌}
+use Rattle.std.proofs.Common.{◌≡◌, Bool, true, false, ◌||◌, List, ◌++◌, Option, Some, None, Result, Ok, Err, OnOk, OnErr, inl, inr, refl, subst}
 use Rattle.s390x_inst.specs.declared.inst.Inst.{Inst}
 use Rattle.s390x_operands.specs.declared.constraint.OperandError.{OperandError}
 use Rattle.s390x_operands.specs.declared.constraint.Reported.{Reported}
 use Rattle.s390x_operands.specs.Visits.{IsVisitAnswer}
-use Rattle.s390x_operands.specs.Requests.{items_of, cause_of, AppendsPrefix, Passes, Refuses, Reports}
+use Rattle.s390x_operands.specs.Requests.{items_of, cause_of, AppendsPrefix, Reports}
 use Rattle.s390x_operands.specs.Operands.{is_loop, requests, operands_cause}
 
 pub told : (a d₀ d₁ : Bool) (xs : List (Option Reported)) (l m : List Reported) (r : Result (Unit {0}) OperandError) → Reports a xs l m d₀ d₁ r → OnOk r (m ≡ l ++ items_of xs)

@@ -1,13 +1,11 @@
 -- Requests one after the other.
-use Rattle.std.proofs.Common.{◌≡◌, ℕ, Bool, true, false, ◌||◌, ◌&&◌, cond, List, [], ◌∷◌, ◌++◌, Option, Some, None, Result, Ok, Err, MatchResult, IsErrAnd, ◌⊎◌, inl, inr, refl, sym, ap, subst, ◌∙◌}
+use Rattle.std.proofs.Common.{◌≡◌, Bool, true, false, ◌||◌, ◌&&◌, cond, List, [], ◌∷◌, ◌++◌, Option, Some, None, Result, Ok, Err, IsErrAnd, inl, inr, refl, sym, ap, subst, ◌∙◌}
 use Rattle.std.proofs.lemmas.List.{append_assoc, append-nil}
-use Rattle.s390x_operands.specs.declared.constraint.OperandConstraint.{OperandConstraint}
-use Rattle.s390x_operands.specs.declared.constraint.OperandConstraint.TheVariants.{Reuse}
 use Rattle.s390x_operands.specs.declared.constraint.OperandError.{OperandError}
-use Rattle.s390x_operands.specs.declared.constraint.OperandError.TheVariants.{ReuseInLoop, NotReal, NoMemory}
+use Rattle.s390x_operands.specs.declared.constraint.OperandError.TheVariants.{ReuseInLoop, NotReal}
 use Rattle.s390x_operands.specs.declared.constraint.Reported.{Reported}
-use Rattle.s390x_operands.specs.Visits.{Takes, Appends, IsVisitAnswer, item_cause, is_reuse}
-use Rattle.s390x_operands.specs.Requests.{items_of, first_operand_cause, cause_of, AppendsPrefix, Passes, Refuses, Reports}
+use Rattle.s390x_operands.specs.Visits.{Takes, item_cause, is_reuse}
+use Rattle.s390x_operands.specs.Requests.{items_of, first_operand_cause, cause_of, Passes, Refuses, Reports}
 
 -- the first of no cause and another
 first-none : (c d : Option OperandError) → c ≡ None → d ≡ None → first_operand_cause c d ≡ None

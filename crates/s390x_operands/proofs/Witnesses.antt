@@ -1,5 +1,5 @@
 -- Premises that are met: registers for a sum into its first input, and moves in each class.
-use Rattle.std.proofs.Common.{◌≡◌, ℕ, ◌≤◌, ◌<◌, List, [], ◌∷◌, Option, Some, None, refl, ap, arith}
+use Rattle.std.proofs.Common.{◌≡◌, ℕ, [], ◌∷◌, Option, Some, None, refl, ap, arith}
 use Rattle.s390x_base.specs.Registers.{general, vector}
 use Rattle.s390x_base.specs.Regs.{number_of}
 use Rattle.s390x_base.specs.declared.ir.ValueType.TheVariants.{I64, I128}

@@ -1,5 +1,5 @@
 -- A list of requests is what an instruction reports, in order; none stands where a register that has to be real is virtual.
-use Rattle.std.specs.Prelude.{◌≡◌, ℕ, ◌+◌, ◌-◌, min, map, Bool, true, false, ◌||◌, List, [], ◌∷◌, ◌++◌, Option, Some, None, Result, MatchResult, ◌⊎◌}
+use Rattle.std.specs.Prelude.{◌≡◌, ℕ, ◌+◌, ◌-◌, min, map, Bool, true, ◌||◌, List, [], ◌∷◌, ◌++◌, Option, Some, None, Result, MatchResult, ◌⊎◌}
 use Rattle.s390x_operands.specs.declared.constraint.OperandError.{OperandError}
 use Rattle.s390x_operands.specs.declared.constraint.OperandError.TheVariants.{NotReal, NoMemory}
 use Rattle.s390x_operands.specs.declared.constraint.Reported.{Reported}

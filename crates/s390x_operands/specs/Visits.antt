@@ -7,9 +7,9 @@ use Rattle.s390x_operands.specs.declared.constraint.OperandConstraint.TheVariant
 use Rattle.s390x_operands.specs.declared.constraint.OperandKind.{OperandKind}
 use Rattle.s390x_operands.specs.declared.constraint.OperandPos.{OperandPos}
 use Rattle.s390x_operands.specs.declared.constraint.OperandError.{OperandError}
-use Rattle.s390x_operands.specs.declared.constraint.OperandError.TheVariants.{ReuseInLoop, NotReal, NoMemory}
+use Rattle.s390x_operands.specs.declared.constraint.OperandError.TheVariants.{ReuseInLoop, NoMemory}
 use Rattle.s390x_operands.specs.declared.constraint.Reported.{Reported}
-use Rattle.s390x_operands.specs.declared.constraint.Reported.TheVariants.{Operand, Fixed, Clobbers}
+use Rattle.s390x_operands.specs.declared.constraint.Reported.TheVariants.{Operand, Fixed}
 
 -- the item of a register: a real one is fixed, a virtual one has the constraint
 abbrev pub placed_or : OperandConstraint → OperandKind → OperandPos → Reg → Reported

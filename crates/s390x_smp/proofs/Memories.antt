@@ -1,5 +1,5 @@
 -- The image in memory beside the word.
-use Rattle.std.proofs.Common.{◌≡◌, ℕ, zero, suc, ◌+◌, ◌-◌, ◌%◌, ◌^◌, ◌<◌, ◌≤◌, Bool, true, false, cond, ◌==◌, ◌&&◌, ◌||◌, not, nat_eq, nat_le, nat_lt, IsTrue, length, slice_index, Option, Some, None, inl, inr, refl, sym, ap, ap₂, ◌∙◌, subst, arith, true≢false, eqb-true, leb-true, ltb-true}
+use Rattle.std.proofs.Common.{◌≡◌, ℕ, zero, suc, ◌+◌, ◌-◌, ◌%◌, ◌^◌, ◌<◌, ◌≤◌, Bool, true, false, cond, ◌&&◌, ◌||◌, not, nat_eq, nat_le, nat_lt, slice_index, Some, None, inl, inr, refl, sym, ap, ap₂, ◌∙◌, subst, arith, true≢false, eqb-true, leb-true, ltb-true}
 use Rattle.std.proofs.lemmas.Bool.{cases_lt, and_parts, or_parts}
 use Rattle.s390x_operations.specs.State.{Memory, CodeImage, IsLoaded, is_within, overlaps, reaches, wrapping_add64}
 use Rattle.s390x_machine.proofs.Reaching.{reaches_all}

@@ -1,5 +1,5 @@
 -- Sizes of elements, and the mnemonics that they choose.
-use Rattle.std.proofs.Common.{◌≡◌, ◌⊎◌, inl, inr, ℕ, ◌*◌, ◌<◌, Bool, true, false, Option, Some, None, List, refl, sym, ap, subst, ◌∙◌, is_some, arith}
+use Rattle.std.proofs.Common.{◌≡◌, ◌⊎◌, inl, inr, ℕ, ◌*◌, ◌<◌, Bool, true, false, Some, None, List, refl, sym, ap, subst, is_some, arith}
 use Rattle.std.proofs.lemmas.Bool.{eqb-true, lt-ltb}
 use Rattle.std.specs.Prelude.{cond, nat_eq}
 use Rattle.s390x_typed_steps.specs.VectorInstruction.{element_code}

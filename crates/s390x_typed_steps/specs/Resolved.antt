@@ -37,7 +37,7 @@ resolved_vector e (VecStoreLane size rd mem lane) = VecStoreLane size rd (resolv
 resolved_vector e (VecStoreLaneRev size rd mem lane) = VecStoreLaneRev size rd (resolved e mem) lane
 resolved_vector e v = v
 
--- the same of one that is no load of one register
+-- an instruction that is no load of one register, with its operand resolved
 abbrev pub resolved_other : Emission → Inst → Inst
 resolved_other e (AluRX op rd ri mem) = AluRX op rd ri (resolved e mem)
 resolved_other e (CmpRX op rn mem) = CmpRX op rn (resolved e mem)

@@ -1,4 +1,4 @@
-use Rattle.std.proofs.Common.{◌≡◌, ◌+◌, ◌++◌, ◌∷◌, [], ◌<◌, length, map, drop, arith, ap, ◌∙◌, subst, sym, refl}
+use Rattle.std.proofs.Common.{◌≡◌, ◌+◌, ◌++◌, ◌∷◌, [], ◌<◌, length, map, drop, arith, ap, ◌∙◌, subst, sym}
 use Rattle.s390x_buffer.specs.State.{constant_of}
 use Rattle.s390x_buffer.specs.Constants.{constant_starts}
 use Rattle.s390x_buffer.proofs.Placing.{step-bytes, step-starts, step-end, end-next}

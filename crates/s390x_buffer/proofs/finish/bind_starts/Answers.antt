@@ -1,5 +1,4 @@
-use Rattle.std.proofs.Common.{◌≡◌, ◌+◌, Some, Option, ℕ, length, set, get_or, arith, ap, ◌∙◌, sym, refl, length-set}
-use Rattle.s390x_buffer.specs.Finish.{bind_constants}
+use Rattle.std.proofs.Common.{◌+◌, Some, length, set, get_or, arith, ap, ◌∙◌, refl, length-set}
 use Rattle.s390x_buffer.proofs.Placing.{bind_step}
 use Rattle.s390x_buffer.proofs.finish.bind_starts.Goals as goal
 

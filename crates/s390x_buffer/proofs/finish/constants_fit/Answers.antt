@@ -1,4 +1,4 @@
-use Rattle.std.proofs.Common.{◌≡◌, ◌+◌, ◌≤◌, ◌<◌, map, length, arith}
+use Rattle.std.proofs.Common.{◌≤◌, map, arith}
 use Rattle.s390x_buffer.specs.State.{constant_of}
 use Rattle.s390x_buffer.specs.Constants.{constants_end}
 use Rattle.std.proofs.lemmas.Bool.Decides.{nat_tests}

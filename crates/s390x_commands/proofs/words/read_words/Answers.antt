@@ -1,4 +1,4 @@
-use Rattle.std.proofs.Common.{◌≡◌, subst, sym, ap, ◌∙◌}
+use Rattle.std.proofs.Common.{subst, sym}
 use Rattle.std.specs.Prelude.{IfNone}
 use Rattle.s390x_commands.specs.Words.{IsNoForm}
 use Rattle.s390x_commands.proofs.Told.{six_words}

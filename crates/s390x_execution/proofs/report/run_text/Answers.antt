@@ -1,7 +1,6 @@
 use Rattle.std.proofs.Common.{Bool, List, ℕ, ap, sym, ◌∙◌, subst}
 use Rattle.s390x_operations.specs.State.{Memory}
-use Rattle.s390x_machine.specs.State.{state_of}
-use Rattle.s390x_machine.specs.Regions.{is_held, byte_of}
+use Rattle.s390x_machine.specs.Regions.{is_held}
 use Rattle.s390x_job.specs.declared.job.MemLine.{MemLine}
 use Rattle.s390x_execution.specs.Start.{AllRegionsFit}
 use Rattle.s390x_execution.specs.Text.{AllHeld}

@@ -1,4 +1,4 @@
-use Rattle.std.proofs.Common.{ℕ, ◌-◌, Bool, List, Result, map}
+use Rattle.std.proofs.Common.{◌-◌, Bool, List, Result, map}
 use Rattle.std.specs.List.{range_with_len}
 use Rattle.s390x_operands.specs.declared.constraint.OperandError.{OperandError}
 use Rattle.s390x_operands.specs.declared.constraint.Reported.{Reported}

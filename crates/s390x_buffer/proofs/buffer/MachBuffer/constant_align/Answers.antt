@@ -1,4 +1,4 @@
-use Rattle.std.proofs.Common.{◌≡◌, ◌<◌, ◌≤◌, get_or, length, ap, arith}
+use Rattle.std.proofs.Common.{ap}
 use Rattle.s390x_buffer.specs.State.{BufferState}
 use Rattle.s390x_buffer.proofs.Declared.{align-some, align-none}
 use Rattle.s390x_buffer.proofs.buffer.MachBuffer.constant_align.Goals as goal
