@@ -31,6 +31,9 @@ const LIMIT: usize = 2147483648;
 // Label numbers end below this one.
 const LABEL_LIMIT: u64 = 4294967296;
 
+// The length of the longest code.
+const LONGEST_CODE: usize = 6;
+
 /// Bytes that grow at the end, the labels in them, and the tables that go with them.
 ///
 /// Labels 0 to the count of blocks less 1 are the blocks'; each declared constant has the next
@@ -183,6 +186,7 @@ impl MachBuffer {
     }
 
     /// Appends bytes. Refused by `LabelOutOfRange` where the length would reach 2^31.
+    #[inline(never)]
     pub fn put(&mut self, bytes: &[u8]) -> Result<(), EmitError>
         ensures answer { MatchResult result (λ _. (put_cause self.old (length bytes.now) ≡ None) × (self.new ≡ record self.old { bytes = self.old.bytes ++ bytes.now })) (λ e. FailsWith (put_cause self.old (length bytes.now)) e × (self.new ≡ poisoned self.old)) }
         ensures kept { Extends self.old self.new }
@@ -193,6 +197,15 @@ impl MachBuffer {
         if bytes.len() >= LIMIT - self.bytes.len() {
             return self.refuse(EmitError::LabelOutOfRange);
         }
+        self.append(bytes)
+    }
+
+    // Appends bytes, with the mark and the limit tested before.
+    #[inline(always)]
+    fn append(&mut self, bytes: &[u8]) -> Result<(), EmitError>
+        requires { length self.old.bytes + length bytes.now < limit }
+        ensures { MatchResult result (λ _. self.new ≡ record self.old { bytes = self.old.bytes ++ bytes.now }) (λ e. (e ≡ NoMemory) × (self.new ≡ poisoned self.old)) }
+    {
         match self.bytes.extend_from_slice(bytes) {
             Ok(()) => Ok(()),
             Err(_) => self.refuse(EmitError::NoMemory),
@@ -230,7 +243,29 @@ impl MachBuffer {
         ensures answer { MatchResult result (λ _. (put_cause self.old (length code.now) ≡ None) × (self.new ≡ record self.old { bytes = self.old.bytes ++ code.now })) (λ e. FailsWith (put_cause self.old (length code.now)) e × (self.new ≡ poisoned self.old)) }
         ensures kept { Extends self.old self.new }
     {
-        self.put(code.bytes())
+        let bytes = code.bytes();
+        if !self.has_room() {
+            return self.put(bytes);
+        }
+        if let [a, b, c, d] = bytes {
+            return self.append(&[*a, *b, *c, *d]);
+        }
+        if let [a, b, c, d, e, f] = bytes {
+            return self.append(&[*a, *b, *c, *d, *e, *f]);
+        }
+        if let [a, b] = bytes {
+            return self.append(&[*a, *b]);
+        }
+        self.put(bytes)
+    }
+
+    // Whether a code of any length is taken, into the room that is there.
+    #[inline(always)]
+    fn has_room(&self) -> bool
+        ensures { result ≡ true → (self.now.failed ≡ false) × (length self.now.bytes + 6 < limit) }
+    {
+        let len = self.bytes.len();
+        !self.failed && len < LIMIT - LONGEST_CODE && self.bytes.capacity() - len >= LONGEST_CODE
     }
 
     /// Records a trap at the current offset.
