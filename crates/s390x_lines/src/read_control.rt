@@ -56,6 +56,7 @@ fn return_call(alloc: Global, c: &mut Cursor) -> Result<Inst, AllocError>
 }
 
 /// The instruction of this name, whose fields come next.
+#[rattlefmt::skip]
 pub fn control(alloc: Global, name: ControlName, c: &mut Cursor) -> Result<Inst, AllocError>
     ensures { IfOk result (λ i. inst_line i ≡ line_with (LineName.Control name) c.old) }
 {
@@ -64,48 +65,21 @@ pub fn control(alloc: Global, name: ControlName, c: &mut Cursor) -> Result<Inst,
         ControlName::Nop0 => Ok(Inst::Nop0),
         ControlName::Nop2 => Ok(Inst::Nop2),
         ControlName::Debugtrap => Ok(Inst::Debugtrap),
-        ControlName::Trap => Ok(Inst::Trap {
-            trap_code: c.trap(),
-        }),
-        ControlName::TrapIf => Ok(Inst::TrapIf {
-            cond: c.cond(),
-            trap_code: c.trap(),
-        }),
+        ControlName::Trap => Ok(Inst::Trap { trap_code: c.trap() }),
+        ControlName::TrapIf => Ok(Inst::TrapIf { cond: c.cond(), trap_code: c.trap() }),
         ControlName::Jump => Ok(Inst::Jump { dest: c.label() }),
-        ControlName::CondBr => Ok(Inst::CondBr {
-            taken: c.label(),
-            not_taken: c.label(),
-            cond: c.cond(),
-        }),
-        ControlName::IndirectBr => Ok(Inst::IndirectBr {
-            rn: c.reg(),
-            targets: c.labels(alloc)?,
-        }),
+        ControlName::CondBr => Ok(Inst::CondBr { taken: c.label(), not_taken: c.label(), cond: c.cond() }),
+        ControlName::IndirectBr => Ok(Inst::IndirectBr { rn: c.reg(), targets: c.labels(alloc)? }),
         ControlName::Ret => Ok(Inst::Ret { link: c.reg() }),
-        ControlName::JTSequence => Ok(Inst::JTSequence {
-            ridx: c.reg(),
-            default: c.label(),
-            default_cond: c.cond(),
-            targets: c.labels(alloc)?,
-        }),
+        ControlName::JTSequence => Ok(Inst::JTSequence { ridx: c.reg(), default: c.label(), default_cond: c.cond(), targets: c.labels(alloc)? }),
         ControlName::CondBreak => Ok(Inst::CondBreak { cond: c.cond() }),
         ControlName::Call => call(alloc, c),
         ControlName::ReturnCall => return_call(alloc, c),
         ControlName::AllocateArgs => Ok(Inst::AllocateArgs { size: c.u32() }),
-        ControlName::LoadSymbolReloc => Ok(Inst::LoadSymbolReloc {
-            rd: c.written(),
-            symbol_reloc: c.reloc(),
-        }),
-        ControlName::LabelAddress => Ok(Inst::LabelAddress {
-            dst: c.written(),
-            label: c.label(),
-        }),
-        ControlName::Args => Ok(Inst::Args {
-            args: c.args(alloc)?,
-        }),
-        ControlName::Rets => Ok(Inst::Rets {
-            rets: c.rets(alloc)?,
-        }),
+        ControlName::LoadSymbolReloc => Ok(Inst::LoadSymbolReloc { rd: c.written(), symbol_reloc: c.reloc() }),
+        ControlName::LabelAddress => Ok(Inst::LabelAddress { dst: c.written(), label: c.label() }),
+        ControlName::Args => Ok(Inst::Args { args: c.args(alloc)? }),
+        ControlName::Rets => Ok(Inst::Rets { rets: c.rets(alloc)? }),
         ControlName::DummyUse => Ok(Inst::DummyUse { reg: c.reg() }),
         ControlName::SequencePoint => Ok(Inst::SequencePoint),
     }
