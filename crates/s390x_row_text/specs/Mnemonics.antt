@@ -4,9 +4,16 @@ use denote.Enum.Declared.{tag_of}
 use Rattle.s390x_words.specs.Found.{name_at}
 use Rattle.s390x_words.specs.Found.{rows as names_of}
 use Rattle.s390x_row_text.specs.Tables.{in_column, rows}
-use Rattle.s390x_row_text.specs.declared.mnemonics.TheConstants.{ALU_MNEMONICS, ALU_THREE, ALU_TWO, ALU_HALFWORD, ALU_THREE_HALFWORD, ALU_SIGNED_WORD, ALU_UNSIGNED_WORD, ALU_SHORT, ALU_LONG, ATOMIC}
-use Rattle.s390x_row_text.specs.declared.mnemonics.TheConstants.{CMP_MNEMONICS, CMP_RELATIVE_MNEMONICS, SHIFT_MNEMONICS, ROTATE_MNEMONICS, UNARY_MNEMONICS, CMP_TWO, CMP_HALFWORD, CMP_SIGNED_WORD, CMP_UNSIGNED_WORD, CMP_SHORT, CMP_LONG, CMP_TRAP, CMP_TRAP_SIGNED, CMP_TRAP_UNSIGNED}
-use Rattle.s390x_row_text.specs.declared.mnemonics.TheConstants.{LOAD_MNEMONICS, LOAD_SHORT, LOAD_LONG, LOAD_RELATIVE}
+use Rattle.s390x_row_text.specs.declared.mnemonics.TheConstants.{ALU_MNEMONICS, CMP_MNEMONICS, CMP_RELATIVE_MNEMONICS, LOAD_MNEMONICS, SHIFT_MNEMONICS, ROTATE_MNEMONICS, UNARY_MNEMONICS}
+use Rattle.s390x_row_text.specs.declared.mnemonics.AluForm.{AluForm}
+use Rattle.s390x_row_text.specs.declared.mnemonics.AluForm.TheVariants as AluForms
+use Rattle.s390x_row_text.specs.contracts.mnemonics.AluForm as the_alu_form
+use Rattle.s390x_row_text.specs.declared.mnemonics.CmpForm.{CmpForm}
+use Rattle.s390x_row_text.specs.declared.mnemonics.CmpForm.TheVariants as CmpForms
+use Rattle.s390x_row_text.specs.contracts.mnemonics.CmpForm as the_cmp_form
+use Rattle.s390x_row_text.specs.declared.mnemonics.LoadForm.{LoadForm}
+use Rattle.s390x_row_text.specs.declared.mnemonics.LoadForm.TheVariants as LoadForms
+use Rattle.s390x_row_text.specs.contracts.mnemonics.LoadForm as the_load_form
 use Rattle.s390x_inst.specs.declared.ops.ALUOp.{ALUOp}
 use Rattle.s390x_inst.specs.contracts.ops.ALUOp as the_alu
 use Rattle.s390x_inst.specs.declared.ops.CmpOp.{CmpOp}
@@ -21,65 +28,73 @@ use Rattle.s390x_inst.specs.contracts.ops.RxSBGOp as the_rotate
 use Rattle.s390x_inst.specs.declared.ops.UnaryOp.{UnaryOp}
 use Rattle.s390x_inst.specs.contracts.ops.UnaryOp as the_unary
 
+-- an operator in a form
+abbrev pub alu_in_form : ALUOp → AluForm → Option (List ℕ)
+alu_in_form op form = in_column (rows ALU_MNEMONICS.now) (tag_of the_alu.the_type op) (tag_of the_alu_form.the_type form)
+
 -- three operands
 unfoldable pub alu_three_name : ALUOp → Option (List ℕ)
-alu_three_name op = in_column (rows ALU_MNEMONICS.now) (tag_of the_alu.the_type op) ALU_THREE
+alu_three_name op = alu_in_form op AluForms.Three
 
 -- two operands, the first of which is also the output
 unfoldable pub alu_two_name : ALUOp → Option (List ℕ)
-alu_two_name op = in_column (rows ALU_MNEMONICS.now) (tag_of the_alu.the_type op) ALU_TWO
+alu_two_name op = alu_in_form op AluForms.Two
 
 -- a register and an immediate of 16 bits
 unfoldable pub alu_halfword_name : ALUOp → Option (List ℕ)
-alu_halfword_name op = in_column (rows ALU_MNEMONICS.now) (tag_of the_alu.the_type op) ALU_HALFWORD
+alu_halfword_name op = alu_in_form op AluForms.Halfword
 
 -- the same into another register
 unfoldable pub alu_three_halfword_name : ALUOp → Option (List ℕ)
-alu_three_halfword_name op = in_column (rows ALU_MNEMONICS.now) (tag_of the_alu.the_type op) ALU_THREE_HALFWORD
+alu_three_halfword_name op = alu_in_form op AluForms.ThreeHalfword
 
 -- a register and an immediate of 32 bits, with its sign
 unfoldable pub alu_signed_word_name : ALUOp → Option (List ℕ)
-alu_signed_word_name op = in_column (rows ALU_MNEMONICS.now) (tag_of the_alu.the_type op) ALU_SIGNED_WORD
+alu_signed_word_name op = alu_in_form op AluForms.SignedWord
 
 -- and without a sign
 unfoldable pub alu_unsigned_word_name : ALUOp → Option (List ℕ)
-alu_unsigned_word_name op = in_column (rows ALU_MNEMONICS.now) (tag_of the_alu.the_type op) ALU_UNSIGNED_WORD
+alu_unsigned_word_name op = alu_in_form op AluForms.UnsignedWord
 
 -- an operand in memory with a displacement of 12 bits
 unfoldable pub alu_short_name : ALUOp → Option (List ℕ)
-alu_short_name op = in_column (rows ALU_MNEMONICS.now) (tag_of the_alu.the_type op) ALU_SHORT
+alu_short_name op = alu_in_form op AluForms.Short
 
 -- the same with one of 20 bits
 unfoldable pub alu_long_name : ALUOp → Option (List ℕ)
-alu_long_name op = in_column (rows ALU_MNEMONICS.now) (tag_of the_alu.the_type op) ALU_LONG
+alu_long_name op = alu_in_form op AluForms.Long
 
 -- an operand in memory that is changed in one access
 unfoldable pub atomic_name : ALUOp → Option (List ℕ)
-atomic_name op = in_column (rows ALU_MNEMONICS.now) (tag_of the_alu.the_type op) ATOMIC
+atomic_name op = alu_in_form op AluForms.Atomic
+
+-- a comparison in a form
+abbrev pub cmp_in_form : CmpOp → CmpForm → Option (List ℕ)
+cmp_in_form op form = in_column (rows CMP_MNEMONICS.now) (tag_of the_cmp.the_type op) (tag_of the_cmp_form.the_type form)
 
 -- a comparison of two registers
 unfoldable pub cmp_two_name : CmpOp → Option (List ℕ)
-cmp_two_name op = in_column (rows CMP_MNEMONICS.now) (tag_of the_cmp.the_type op) CMP_TWO
+cmp_two_name op = cmp_in_form op CmpForms.Two
 
 -- of a register and an immediate of 16 bits
 unfoldable pub cmp_halfword_name : CmpOp → Option (List ℕ)
-cmp_halfword_name op = in_column (rows CMP_MNEMONICS.now) (tag_of the_cmp.the_type op) CMP_HALFWORD
+cmp_halfword_name op = cmp_in_form op CmpForms.Halfword
 
 -- of a register and an immediate of 32 bits, with its sign
 unfoldable pub cmp_signed_word_name : CmpOp → Option (List ℕ)
-cmp_signed_word_name op = in_column (rows CMP_MNEMONICS.now) (tag_of the_cmp.the_type op) CMP_SIGNED_WORD
+cmp_signed_word_name op = cmp_in_form op CmpForms.SignedWord
 
 -- and without a sign
 unfoldable pub cmp_unsigned_word_name : CmpOp → Option (List ℕ)
-cmp_unsigned_word_name op = in_column (rows CMP_MNEMONICS.now) (tag_of the_cmp.the_type op) CMP_UNSIGNED_WORD
+cmp_unsigned_word_name op = cmp_in_form op CmpForms.UnsignedWord
 
 -- with an operand in memory with a displacement of 12 bits
 unfoldable pub cmp_short_name : CmpOp → Option (List ℕ)
-cmp_short_name op = in_column (rows CMP_MNEMONICS.now) (tag_of the_cmp.the_type op) CMP_SHORT
+cmp_short_name op = cmp_in_form op CmpForms.Short
 
 -- the same with one of 20 bits
 unfoldable pub cmp_long_name : CmpOp → Option (List ℕ)
-cmp_long_name op = in_column (rows CMP_MNEMONICS.now) (tag_of the_cmp.the_type op) CMP_LONG
+cmp_long_name op = cmp_in_form op CmpForms.Long
 
 -- with an operand in memory relative to the instruction
 unfoldable pub cmp_relative_name : CmpOp → List ℕ
@@ -87,27 +102,31 @@ cmp_relative_name op = name_at (names_of CMP_RELATIVE_MNEMONICS.now) (tag_of the
 
 -- a comparison of two registers that traps
 unfoldable pub cmp_trap_name : CmpOp → Option (List ℕ)
-cmp_trap_name op = in_column (rows CMP_MNEMONICS.now) (tag_of the_cmp.the_type op) CMP_TRAP
+cmp_trap_name op = cmp_in_form op CmpForms.Trap
 
 -- one with an immediate of 16 bits, with its sign
 unfoldable pub cmp_trap_signed_name : CmpOp → Option (List ℕ)
-cmp_trap_signed_name op = in_column (rows CMP_MNEMONICS.now) (tag_of the_cmp.the_type op) CMP_TRAP_SIGNED
+cmp_trap_signed_name op = cmp_in_form op CmpForms.TrapSigned
 
 -- and without a sign
 unfoldable pub cmp_trap_unsigned_name : CmpOp → Option (List ℕ)
-cmp_trap_unsigned_name op = in_column (rows CMP_MNEMONICS.now) (tag_of the_cmp.the_type op) CMP_TRAP_UNSIGNED
+cmp_trap_unsigned_name op = cmp_in_form op CmpForms.TrapUnsigned
+
+-- a load in a form
+abbrev pub load_in_form : LoadOp → LoadForm → Option (List ℕ)
+load_in_form op form = in_column (rows LOAD_MNEMONICS.now) (load_place op) (tag_of the_load_form.the_type form)
 
 -- a load at a displacement of 12 bits
 unfoldable pub load_short_name : LoadOp → Option (List ℕ)
-load_short_name op = in_column (rows LOAD_MNEMONICS.now) (load_place op) LOAD_SHORT
+load_short_name op = load_in_form op LoadForms.Short
 
 -- at one of 20 bits
 unfoldable pub load_long_name : LoadOp → Option (List ℕ)
-load_long_name op = in_column (rows LOAD_MNEMONICS.now) (load_place op) LOAD_LONG
+load_long_name op = load_in_form op LoadForms.Long
 
 -- at an address relative to the instruction
 unfoldable pub load_relative_name : LoadOp → Option (List ℕ)
-load_relative_name op = in_column (rows LOAD_MNEMONICS.now) (load_place op) LOAD_RELATIVE
+load_relative_name op = load_in_form op LoadForms.Relative
 
 -- a shift by an amount
 unfoldable pub shift_name : ShiftOp → List ℕ

@@ -1,33 +1,37 @@
 //! The mnemonics of integer operators and of loads, by the form of their operands.
 ghost use Rattle.std.specs.Prelude.{◌≡◌};
 ghost use Rattle.std.specs.Option.{option_map};
-ghost use Rattle.s390x_row_text.specs.Mnemonics.{alu_three_name, alu_two_name, alu_halfword_name, alu_three_halfword_name, alu_signed_word_name, alu_unsigned_word_name, alu_short_name, alu_long_name, atomic_name, cmp_two_name, cmp_halfword_name, cmp_signed_word_name, cmp_unsigned_word_name};
+ghost use Rattle.s390x_row_text.specs.Mnemonics.{alu_in_form, cmp_in_form, load_in_form, alu_three_name, alu_two_name, alu_halfword_name, alu_three_halfword_name, alu_signed_word_name, alu_unsigned_word_name, alu_short_name, alu_long_name, atomic_name, cmp_two_name, cmp_halfword_name, cmp_signed_word_name, cmp_unsigned_word_name};
 ghost use Rattle.s390x_row_text.specs.Mnemonics.{cmp_short_name, cmp_long_name, cmp_relative_name, cmp_trap_name, cmp_trap_signed_name, cmp_trap_unsigned_name, load_short_name, load_long_name, load_relative_name, shift_name, rotate_name, rotate_test_name, unary_name};
 
 use crate::table::{Table, in_column};
 use s390x_inst::{ALUOp, CmpOp, LoadOp, RxSBGOp, ShiftOp, UnaryOp};
 use s390x_words::word::{Names, name_at};
 
-/// The columns of `ALU_MNEMONICS`.
-pub const ALU_THREE: usize = 0;
+/// The forms of the operands of an `ALUOp`, in the order of the columns of `ALU_MNEMONICS`.
+#[derive(Clone, Copy)]
+pub enum AluForm {
+    /// Three registers.
+    Three,
+    /// Two registers, the first of which is also the output.
+    Two,
+    /// A register, which is also the output, and an immediate of 16 bits.
+    Halfword,
+    /// Two registers and an immediate of 16 bits.
+    ThreeHalfword,
+    /// A register and an immediate of 32 bits with its sign.
+    SignedWord,
+    /// A register and an immediate of 32 bits without a sign.
+    UnsignedWord,
+    /// A register and an operand in memory with a displacement of 12 bits.
+    Short,
+    /// A register and an operand in memory with a displacement of 20 bits.
+    Long,
+    /// An operand in memory that is changed in one access.
+    Atomic,
+}
 
-pub const ALU_TWO: usize = 1;
-
-pub const ALU_HALFWORD: usize = 2;
-
-pub const ALU_THREE_HALFWORD: usize = 3;
-
-pub const ALU_SIGNED_WORD: usize = 4;
-
-pub const ALU_UNSIGNED_WORD: usize = 5;
-
-pub const ALU_SHORT: usize = 6;
-
-pub const ALU_LONG: usize = 7;
-
-pub const ATOMIC: usize = 8;
-
-/// The mnemonics of each operator on two operands, in the order of the declaration; empty where there is no row. The columns: three, two, halfword, three halfword, signed word, unsigned word, short, long, atomic.
+/// The mnemonics of each operator on two operands, in the order of the declaration, by `AluForm`; empty where there is no row.
 #[rattlefmt::skip]
 pub const ALU_MNEMONICS: Table<ALUOp> = &[
     (ALUOp::Add32, &["ark", "ar", "ahi", "ahik", "afi", "", "a", "ay", "laa"]),
@@ -71,12 +75,20 @@ pub const ALU_MNEMONICS: Table<ALUOp> = &[
     (ALUOp::OrrNot64, &["ocgrk", "", "", "", "", "", "", "", ""]),
 ];
 
+// The mnemonic of an operator in a form; None where there is no row.
+#[inline(always)]
+fn alu_in_form(op: ALUOp, form: AluForm) -> Option<&'static str>
+    ensures { option_map (λ s. s.now) result ≡ alu_in_form op form }
+{
+    in_column(ALU_MNEMONICS, op as usize, form as usize)
+}
+
 /// Three operands; None where there is no row.
 #[tactic(auto, unfolding(crate::specs::Mnemonics::alu_three_name))]
 pub fn alu_three_name(op: ALUOp) -> Option<&'static str>
     ensures { option_map (λ s. s.now) result ≡ alu_three_name op }
 {
-    in_column(ALU_MNEMONICS, op as usize, ALU_THREE)
+    alu_in_form(op, AluForm::Three)
 }
 
 /// Two operands, the first of which is also the output; None where there is no row.
@@ -84,7 +96,7 @@ pub fn alu_three_name(op: ALUOp) -> Option<&'static str>
 pub fn alu_two_name(op: ALUOp) -> Option<&'static str>
     ensures { option_map (λ s. s.now) result ≡ alu_two_name op }
 {
-    in_column(ALU_MNEMONICS, op as usize, ALU_TWO)
+    alu_in_form(op, AluForm::Two)
 }
 
 /// A register and an immediate of 16 bits; None where there is no row.
@@ -92,7 +104,7 @@ pub fn alu_two_name(op: ALUOp) -> Option<&'static str>
 pub fn alu_halfword_name(op: ALUOp) -> Option<&'static str>
     ensures { option_map (λ s. s.now) result ≡ alu_halfword_name op }
 {
-    in_column(ALU_MNEMONICS, op as usize, ALU_HALFWORD)
+    alu_in_form(op, AluForm::Halfword)
 }
 
 /// The same into another register; None where there is no row.
@@ -100,7 +112,7 @@ pub fn alu_halfword_name(op: ALUOp) -> Option<&'static str>
 pub fn alu_three_halfword_name(op: ALUOp) -> Option<&'static str>
     ensures { option_map (λ s. s.now) result ≡ alu_three_halfword_name op }
 {
-    in_column(ALU_MNEMONICS, op as usize, ALU_THREE_HALFWORD)
+    alu_in_form(op, AluForm::ThreeHalfword)
 }
 
 /// A register and an immediate of 32 bits, with its sign; None where there is no row.
@@ -108,7 +120,7 @@ pub fn alu_three_halfword_name(op: ALUOp) -> Option<&'static str>
 pub fn alu_signed_word_name(op: ALUOp) -> Option<&'static str>
     ensures { option_map (λ s. s.now) result ≡ alu_signed_word_name op }
 {
-    in_column(ALU_MNEMONICS, op as usize, ALU_SIGNED_WORD)
+    alu_in_form(op, AluForm::SignedWord)
 }
 
 /// And without a sign; None where there is no row.
@@ -116,7 +128,7 @@ pub fn alu_signed_word_name(op: ALUOp) -> Option<&'static str>
 pub fn alu_unsigned_word_name(op: ALUOp) -> Option<&'static str>
     ensures { option_map (λ s. s.now) result ≡ alu_unsigned_word_name op }
 {
-    in_column(ALU_MNEMONICS, op as usize, ALU_UNSIGNED_WORD)
+    alu_in_form(op, AluForm::UnsignedWord)
 }
 
 /// An operand in memory with a displacement of 12 bits; None where there is no row.
@@ -124,7 +136,7 @@ pub fn alu_unsigned_word_name(op: ALUOp) -> Option<&'static str>
 pub fn alu_short_name(op: ALUOp) -> Option<&'static str>
     ensures { option_map (λ s. s.now) result ≡ alu_short_name op }
 {
-    in_column(ALU_MNEMONICS, op as usize, ALU_SHORT)
+    alu_in_form(op, AluForm::Short)
 }
 
 /// The same with one of 20 bits; None where there is no row.
@@ -132,7 +144,7 @@ pub fn alu_short_name(op: ALUOp) -> Option<&'static str>
 pub fn alu_long_name(op: ALUOp) -> Option<&'static str>
     ensures { option_map (λ s. s.now) result ≡ alu_long_name op }
 {
-    in_column(ALU_MNEMONICS, op as usize, ALU_LONG)
+    alu_in_form(op, AluForm::Long)
 }
 
 /// An operand in memory that is changed in one access; None where there is no row.
@@ -140,29 +152,33 @@ pub fn alu_long_name(op: ALUOp) -> Option<&'static str>
 pub fn atomic_name(op: ALUOp) -> Option<&'static str>
     ensures { option_map (λ s. s.now) result ≡ atomic_name op }
 {
-    in_column(ALU_MNEMONICS, op as usize, ATOMIC)
+    alu_in_form(op, AluForm::Atomic)
 }
 
-/// The columns of `CMP_MNEMONICS`.
-pub const CMP_TWO: usize = 0;
+/// The forms of the operands of a `CmpOp`, in the order of the columns of `CMP_MNEMONICS`.
+#[derive(Clone, Copy)]
+pub enum CmpForm {
+    /// Two registers.
+    Two,
+    /// A register and an immediate of 16 bits.
+    Halfword,
+    /// A register and an immediate of 32 bits with its sign.
+    SignedWord,
+    /// A register and an immediate of 32 bits without a sign.
+    UnsignedWord,
+    /// A register and an operand in memory with a displacement of 12 bits.
+    Short,
+    /// A register and an operand in memory with a displacement of 20 bits.
+    Long,
+    /// Two registers, with a trap.
+    Trap,
+    /// A register and an immediate of 16 bits with its sign, with a trap.
+    TrapSigned,
+    /// A register and an immediate of 16 bits without a sign, with a trap.
+    TrapUnsigned,
+}
 
-pub const CMP_HALFWORD: usize = 1;
-
-pub const CMP_SIGNED_WORD: usize = 2;
-
-pub const CMP_UNSIGNED_WORD: usize = 3;
-
-pub const CMP_SHORT: usize = 4;
-
-pub const CMP_LONG: usize = 5;
-
-pub const CMP_TRAP: usize = 6;
-
-pub const CMP_TRAP_SIGNED: usize = 7;
-
-pub const CMP_TRAP_UNSIGNED: usize = 8;
-
-/// The mnemonics of each comparison, in the order of the declaration; empty where there is no row. The columns: two, halfword, signed word, unsigned word, short, long, trap, trap signed, trap unsigned.
+/// The mnemonics of each comparison, in the order of the declaration, by `CmpForm`; empty where there is no row.
 #[rattlefmt::skip]
 pub const CMP_MNEMONICS: Table<CmpOp> = &[
     (CmpOp::CmpS32, &["cr", "chi", "cfi", "", "c", "cy", "crt", "cit", ""]),
@@ -177,12 +193,20 @@ pub const CMP_MNEMONICS: Table<CmpOp> = &[
     (CmpOp::CmpL64Ext32, &["clgfr", "", "", "", "", "clgf", "", "", ""]),
 ];
 
+// The mnemonic of a comparison in a form; None where there is no row.
+#[inline(always)]
+fn cmp_in_form(op: CmpOp, form: CmpForm) -> Option<&'static str>
+    ensures { option_map (λ s. s.now) result ≡ cmp_in_form op form }
+{
+    in_column(CMP_MNEMONICS, op as usize, form as usize)
+}
+
 /// A comparison of two registers; None where there is no row.
 #[tactic(auto, unfolding(crate::specs::Mnemonics::cmp_two_name))]
 pub fn cmp_two_name(op: CmpOp) -> Option<&'static str>
     ensures { option_map (λ s. s.now) result ≡ cmp_two_name op }
 {
-    in_column(CMP_MNEMONICS, op as usize, CMP_TWO)
+    cmp_in_form(op, CmpForm::Two)
 }
 
 /// Of a register and an immediate of 16 bits; None where there is no row.
@@ -190,7 +214,7 @@ pub fn cmp_two_name(op: CmpOp) -> Option<&'static str>
 pub fn cmp_halfword_name(op: CmpOp) -> Option<&'static str>
     ensures { option_map (λ s. s.now) result ≡ cmp_halfword_name op }
 {
-    in_column(CMP_MNEMONICS, op as usize, CMP_HALFWORD)
+    cmp_in_form(op, CmpForm::Halfword)
 }
 
 /// Of a register and an immediate of 32 bits, with its sign; None where there is no row.
@@ -198,7 +222,7 @@ pub fn cmp_halfword_name(op: CmpOp) -> Option<&'static str>
 pub fn cmp_signed_word_name(op: CmpOp) -> Option<&'static str>
     ensures { option_map (λ s. s.now) result ≡ cmp_signed_word_name op }
 {
-    in_column(CMP_MNEMONICS, op as usize, CMP_SIGNED_WORD)
+    cmp_in_form(op, CmpForm::SignedWord)
 }
 
 /// And without a sign; None where there is no row.
@@ -206,7 +230,7 @@ pub fn cmp_signed_word_name(op: CmpOp) -> Option<&'static str>
 pub fn cmp_unsigned_word_name(op: CmpOp) -> Option<&'static str>
     ensures { option_map (λ s. s.now) result ≡ cmp_unsigned_word_name op }
 {
-    in_column(CMP_MNEMONICS, op as usize, CMP_UNSIGNED_WORD)
+    cmp_in_form(op, CmpForm::UnsignedWord)
 }
 
 /// With an operand in memory with a displacement of 12 bits; None where there is no row.
@@ -214,7 +238,7 @@ pub fn cmp_unsigned_word_name(op: CmpOp) -> Option<&'static str>
 pub fn cmp_short_name(op: CmpOp) -> Option<&'static str>
     ensures { option_map (λ s. s.now) result ≡ cmp_short_name op }
 {
-    in_column(CMP_MNEMONICS, op as usize, CMP_SHORT)
+    cmp_in_form(op, CmpForm::Short)
 }
 
 /// The same with one of 20 bits; None where there is no row.
@@ -222,7 +246,7 @@ pub fn cmp_short_name(op: CmpOp) -> Option<&'static str>
 pub fn cmp_long_name(op: CmpOp) -> Option<&'static str>
     ensures { option_map (λ s. s.now) result ≡ cmp_long_name op }
 {
-    in_column(CMP_MNEMONICS, op as usize, CMP_LONG)
+    cmp_in_form(op, CmpForm::Long)
 }
 
 /// A comparison of two registers that traps; None where there is no row.
@@ -230,7 +254,7 @@ pub fn cmp_long_name(op: CmpOp) -> Option<&'static str>
 pub fn cmp_trap_name(op: CmpOp) -> Option<&'static str>
     ensures { option_map (λ s. s.now) result ≡ cmp_trap_name op }
 {
-    in_column(CMP_MNEMONICS, op as usize, CMP_TRAP)
+    cmp_in_form(op, CmpForm::Trap)
 }
 
 /// One with an immediate of 16 bits, with its sign; None where there is no row.
@@ -238,7 +262,7 @@ pub fn cmp_trap_name(op: CmpOp) -> Option<&'static str>
 pub fn cmp_trap_signed_name(op: CmpOp) -> Option<&'static str>
     ensures { option_map (λ s. s.now) result ≡ cmp_trap_signed_name op }
 {
-    in_column(CMP_MNEMONICS, op as usize, CMP_TRAP_SIGNED)
+    cmp_in_form(op, CmpForm::TrapSigned)
 }
 
 /// And without a sign; None where there is no row.
@@ -246,7 +270,7 @@ pub fn cmp_trap_signed_name(op: CmpOp) -> Option<&'static str>
 pub fn cmp_trap_unsigned_name(op: CmpOp) -> Option<&'static str>
     ensures { option_map (λ s. s.now) result ≡ cmp_trap_unsigned_name op }
 {
-    in_column(CMP_MNEMONICS, op as usize, CMP_TRAP_UNSIGNED)
+    cmp_in_form(op, CmpForm::TrapUnsigned)
 }
 
 /// Each with its mnemonic, in the order of the declaration.
@@ -271,14 +295,18 @@ pub fn cmp_relative_name(op: CmpOp) -> &'static str
     name_at(CMP_RELATIVE_MNEMONICS, op as usize)
 }
 
-/// The columns of `LOAD_MNEMONICS`.
-pub const LOAD_SHORT: usize = 0;
+/// The forms of the operand of a `LoadOp`, in the order of the columns of `LOAD_MNEMONICS`.
+#[derive(Clone, Copy)]
+pub enum LoadForm {
+    /// A displacement of 12 bits.
+    Short,
+    /// A displacement of 20 bits.
+    Long,
+    /// An address relative to the instruction.
+    Relative,
+}
 
-pub const LOAD_LONG: usize = 1;
-
-pub const LOAD_RELATIVE: usize = 2;
-
-/// The mnemonics of each load of one register, in the order of the declaration; empty where there is no row. The columns: short, long, relative.
+/// The mnemonics of each load of one register, in the order of the declaration, by `LoadForm`; empty where there is no row.
 #[rattlefmt::skip]
 pub const LOAD_MNEMONICS: Table<LoadOp> = &[
     (LoadOp::Load32, &["l", "ly", "lrl"]),
@@ -298,12 +326,20 @@ pub const LOAD_MNEMONICS: Table<LoadOp> = &[
     (LoadOp::LoadRev64, &["", "lrvg", ""]),
 ];
 
+// The mnemonic of a load in a form; None where there is no row.
+#[inline(always)]
+fn load_in_form(op: LoadOp, form: LoadForm) -> Option<&'static str>
+    ensures { option_map (λ s. s.now) result ≡ load_in_form op form }
+{
+    in_column(LOAD_MNEMONICS, op.place(), form as usize)
+}
+
 /// A load at a displacement of 12 bits; None where there is no row.
 #[tactic(auto, unfolding(crate::specs::Mnemonics::load_short_name))]
 pub fn load_short_name(op: LoadOp) -> Option<&'static str>
     ensures { option_map (λ s. s.now) result ≡ load_short_name op }
 {
-    in_column(LOAD_MNEMONICS, op.place(), LOAD_SHORT)
+    load_in_form(op, LoadForm::Short)
 }
 
 /// At one of 20 bits; None where there is no row.
@@ -311,7 +347,7 @@ pub fn load_short_name(op: LoadOp) -> Option<&'static str>
 pub fn load_long_name(op: LoadOp) -> Option<&'static str>
     ensures { option_map (λ s. s.now) result ≡ load_long_name op }
 {
-    in_column(LOAD_MNEMONICS, op.place(), LOAD_LONG)
+    load_in_form(op, LoadForm::Long)
 }
 
 /// At an address relative to the instruction; None where there is no row.
@@ -319,7 +355,7 @@ pub fn load_long_name(op: LoadOp) -> Option<&'static str>
 pub fn load_relative_name(op: LoadOp) -> Option<&'static str>
     ensures { option_map (λ s. s.now) result ≡ load_relative_name op }
 {
-    in_column(LOAD_MNEMONICS, op.place(), LOAD_RELATIVE)
+    load_in_form(op, LoadForm::Relative)
 }
 
 /// Each with its mnemonic, in the order of the declaration.
