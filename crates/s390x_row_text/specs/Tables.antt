@@ -1,6 +1,7 @@
 -- Tables of mnemonics with a column for each form of operands; an empty name stands for none.
-use Rattle.std.specs.Prelude.{ℕ, List, [], ◌∷◌, Option, Some, None, map, get_or}
+use Rattle.std.specs.Prelude.{◌≡◌, ℕ, zero, suc, ◌+◌, List, [], ◌∷◌, Option, Some, None, map, get_or, length}
 use Rattle.std.specs.Borrow.{Bor}
+use denote.Enum.Declared.{Declared, tag_of}
 
 -- the rows of a table that is a constant
 abbrev pub rows : {A : Type 0} → List (A × record { now : List (record { now : List ℕ }) }) → List (List (List ℕ))
@@ -22,3 +23,12 @@ name_in table n column = get_or (get_or table n []) column []
 -- the same, where it isn't empty
 abbrev pub in_column : List (List (List ℕ)) → (n column : ℕ) → Option (List ℕ)
 in_column table n column = some_name (name_in table n column)
+
+-- as many places, from the n-th on
+abbrev pub places : (n count : ℕ) → List ℕ
+places n zero = []
+places n (suc count) = n ∷ places (n + 1) count
+
+-- each row stands at the place of its operator in the declaration
+abbrev pub IsInOrder : (T : Declared) {X : Type 0} → List (T.D × X) → Type 0
+IsInOrder T table = map (λ row. tag_of T row.0) table ≡ places 0 (length table)

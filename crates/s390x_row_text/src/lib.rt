@@ -5,6 +5,7 @@ pub mod arithmetic;
 pub mod compare;
 pub mod control;
 pub mod error;
+pub mod law;
 pub mod memory;
 pub mod mnemonics;
 pub mod moves;
