@@ -1,24 +1,10 @@
 //! Reading the cases: a line begins one, belongs to its input or to what it must write, or is a case by itself.
 
 use crate::case::Case;
+use s390x_judging::LineError;
 use s390x_tool::Status;
 use std::alloc::{AllocError, Global};
 use std::mem;
-
-/// Why a line isn't taken.
-#[derive(Clone, Copy)]
-pub enum LineError {
-    /// It has no place there.
-    Unreadable,
-    /// No memory.
-    NoMemory,
-}
-
-impl From<AllocError> for LineError {
-    fn from(_: AllocError) -> LineError {
-        LineError::NoMemory
-    }
-}
 
 /// What the next line belongs to.
 #[derive(Clone, Copy)]
@@ -34,6 +20,7 @@ enum Part {
 /// A reader of lines.
 #[derive(Drop)]
 pub struct Reader {
+    // The number of the line that it took last.
     number: u64,
     part: Part,
     // The first line of the jobs of rows with its line feed, or nothing.
@@ -53,14 +40,14 @@ impl Reader {
         }
     }
 
-    /// How many lines it has taken.
-    pub fn number(&self) -> u64 {
-        self.number
-    }
-
-    /// Takes a line, and gives the case that it ends or is. `Unreadable` where no line of this form can stand.
-    pub fn take(&mut self, alloc: Global, line: &str) -> Result<Option<Case>, LineError> {
-        self.number = self.number.saturating_add(1);
+    /// Takes the line of this number, and gives the case that it ends or is. `Unreadable` where no line of this form can stand.
+    pub fn take_line(
+        &mut self,
+        alloc: Global,
+        number: u64,
+        line: &str,
+    ) -> Result<Option<Case>, LineError> {
+        self.number = number;
         match self.part {
             Part::Outside => self.take_outside(alloc, line),
             Part::Input => self.take_input(line),
@@ -69,11 +56,11 @@ impl Reader {
     }
 
     /// Gives the case that the end of the lines ends. `Unreadable` where it lacks what must be written.
-    pub fn end(self) -> Result<Option<Case>, LineError> {
+    pub fn take_end(&mut self, alloc: Global) -> Result<Option<Case>, LineError> {
         match self.part {
             Part::Outside => Ok(None),
             Part::Input => Err(LineError::Unreadable),
-            Part::Text => Ok(Some(self.case)),
+            Part::Text => Ok(Some(self.end_case(alloc))),
         }
     }
 
@@ -114,14 +101,19 @@ impl Reader {
     // A line that a case must write, or one that ends the case.
     fn take_text(&mut self, alloc: Global, line: &str) -> Result<Option<Case>, LineError> {
         if ends_text(line) {
-            let ended = mem::replace(&mut self.case, empty_case(alloc, 0));
-            self.part = Part::Outside;
+            let ended = self.end_case(alloc);
             self.take_outside(alloc, line)?;
             return Ok(Some(ended));
         }
         self.case.text.push_str(line)?;
         self.case.text.push_str("\n")?;
         Ok(None)
+    }
+
+    // The case that was read, whose end this is.
+    fn end_case(&mut self, alloc: Global) -> Case {
+        self.part = Part::Outside;
+        mem::replace(&mut self.case, empty_case(alloc, 0))
     }
 
     // The case of an instruction and its code, or of why it is refused.

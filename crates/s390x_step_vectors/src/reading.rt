@@ -5,26 +5,12 @@ ghost use Rattle.std.specs.Prelude.{◌<◌, ◌≤◌, length, IfOk};
 use crate::contents::Contents;
 use crate::known_step::KnownStep;
 use crate::region::Region;
+use s390x_judging::LineError;
 use s390x_machine::machine::Machine;
 use s390x_words::bytes::{bytes, hex_number};
 use s390x_words::marks::{after_word, back, front, word};
 use s390x_words::number::{first, natural, tail};
-use std::alloc::{AllocError, Global};
-
-/// Why a line isn't read.
-#[derive(Clone, Copy)]
-pub enum LineError {
-    /// It isn't of this form.
-    Unreadable,
-    /// No memory.
-    NoMemory,
-}
-
-impl From<AllocError> for LineError {
-    fn from(_: AllocError) -> LineError {
-        LineError::NoMemory
-    }
-}
+use std::alloc::Global;
 
 /// The address of the instruction.
 const PLACE: u64 = 0x1000;

@@ -3,23 +3,9 @@
 
 use s390x_inst::{EmitInfo, EmitState, Inst};
 use s390x_job::read_lines;
+use s390x_judging::LineError;
 use s390x_text::{TextError, pretty_print_inst};
-use std::alloc::{AllocError, Global};
-
-/// Why a line isn't compared.
-#[derive(Clone, Copy)]
-pub enum LineError {
-    /// It isn't of this form.
-    Unreadable,
-    /// No memory.
-    NoMemory,
-}
-
-impl From<AllocError> for LineError {
-    fn from(_: AllocError) -> LineError {
-        LineError::NoMemory
-    }
-}
+use std::alloc::Global;
 
 /// Whether the texts are those that the line tells.
 pub fn is_line_met(alloc: Global, line: &str) -> Result<bool, LineError> {
