@@ -1,13 +1,12 @@
 -- The part of a text that is a job, as it is cut off.
-use Rattle.std.proofs.Common.{◌≡◌, ℕ, zero, suc, ◌+◌, ◌≤◌, inl, inr, true, false, List, [], ◌∷◌, ◌++◌, drop, length, take, refl, sym, ap, ◌∙◌, subst, arith, append_assoc, append-nil, length-append}
-use Rattle.std.specs.Prelude.{codes, ◌==◌}
+use Rattle.std.proofs.Common.{◌≡◌, ℕ, zero, suc, ◌+◌, inl, inr, false, List, [], ◌∷◌, ◌++◌, drop, length, take, refl, sym, ap, ◌∙◌, subst, arith, append_assoc, append-nil, length-append}
+use Rattle.std.specs.Prelude.{codes}
 use Rattle.std.specs.Str.{bytes_eq}
 use Rattle.std.proofs.Math.Seq.{drop-append_seam, drop-length, take-append_seam, take-length}
 use Rattle.s390x_words.specs.Marks.{upto, past}
 use Rattle.s390x_lines.proofs.Frees.{Free}
-use Rattle.s390x_job.specs.Completions.{joined, pieces, pieces_from}
+use Rattle.s390x_job.specs.Completions.{joined, pieces}
 use Rattle.s390x_job.proofs.Above.{pieces_none}
-use Rattle.s390x_job.proofs.Whole.{either}
 use Rattle.s390x_bundle_text.specs.Cut.{HasNoEnd, IsCutAt}
 use Rattle.s390x_bundle_text.proofs.Lines.{AllFree, first_line, free_append, joined_append, pieces_free, pieces_joined, pieces_whole, text_cut}
 
@@ -73,19 +72,3 @@ pub scan_none : (bytes rest : List ℕ) → Scanned bytes rest → length (upto 
 scan_none bytes rest s n =
     let all : pieces bytes ≡ s.lines = ap pieces s.text ∙ pieces_joined s.lines rest s.clean ∙ ap (λ t. s.lines ++ t) (pieces_none rest [] n) ∙ append-nil s.lines in
     inr (record { free = subst HasNoEnd (sym all) s.free; all = take-length bytes; rest = drop-length bytes })
-
--- ---- counting lines
-
-same_count : (a b s : List ℕ) → length (pieces_from a s) ≡ length (pieces_from b s)
-same_count a b [] = refl
-same_count a b (x ∷ s) = elim (either (x == 10)) [ inl e ↦ rw e refl | inr e ↦ rw e (same_count (a ++ x ∷ []) (b ++ x ∷ []) s) ]
-
-pub count_feed : (x : ℕ) (s : List ℕ) → (x == 10) ≡ true → length (pieces (x ∷ s)) ≡ length (pieces s) + 1
-count_feed x s e = rw e (omega arith)
-
-pub count_other : (x : ℕ) (s : List ℕ) → (x == 10) ≡ false → length (pieces (x ∷ s)) ≡ length (pieces s)
-count_other x s e = rw e (same_count (x ∷ []) [] s)
-
-pub count_bound : (s : List ℕ) → length (pieces s) ≤ length s
-count_bound [] = omega arith
-count_bound (x ∷ s) = elim (either (x == 10)) [ inl e ↦ omega (arith, count_feed x s e, count_bound s) | inr e ↦ omega (arith, count_other x s e, count_bound s) ]

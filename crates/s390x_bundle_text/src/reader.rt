@@ -1,5 +1,5 @@
 //! The exact reader of several functions' text.
-ghost use Rattle.std.specs.Prelude.{◌<◌, IfErr, IfOk, Decides, MatchResult, length};
+ghost use Rattle.std.specs.Prelude.{◌<◌, IfErr, IfOk, MatchResult, length};
 ghost use Rattle.s390x_bundle_text.specs.Completions.{IsBundleText, bundle_completion};
 ghost use Rattle.s390x_bundle_text.specs.Errors.{HasNoFunctions};
 ghost use Rattle.s390x_bundle_text.specs.Text.{AreFunctionsOf};
@@ -8,19 +8,8 @@ use crate::complete::complete;
 use crate::error::BundleTextError;
 use crate::find::{Found, find_functions};
 use crate::named_job::NamedJob;
-use s390x_job::completing::{Completes, first_wrong, split_lines};
+use s390x_job::completing::{Completes, first_wrong};
 use std::alloc::{AllocError, Global};
-
-// Whether this is the text of functions.
-fn is_text(alloc: Global, bytes: &[u8]) -> Result<bool, AllocError>
-    requires { length bytes.now < 4294967295 }
-    ensures { IfOk result (λ b. Decides b (IsBundleText bytes.now)) }
-{
-    match find_functions(alloc, bytes)? {
-        Found::Whole(_) => Ok(true),
-        Found::Stuck(_) => Ok(false),
-    }
-}
 
 /// The text of functions.
 struct BundleText;
@@ -28,12 +17,19 @@ struct BundleText;
 impl Completes for BundleText {
     ghost limit = { 268435456 };
 
-    ghost CanBeCompleted = { λ ws. IsBundleText (bundle_completion ws) };
+    ghost completed = { bundle_completion };
 
-    fn can_be_completed(alloc: Global, ws: &[&[u8]]) -> Result<bool, AllocError> {
-        let text = complete(alloc, ws)?;
-        let fits = is_text(alloc, &text)?;
-        Ok(fits)
+    ghost IsWhole = { IsBundleText };
+
+    fn complete(alloc: Global, ws: &[&[u8]]) -> Result<Vec<u8>, AllocError> {
+        complete(alloc, ws)
+    }
+
+    fn is_whole(alloc: Global, bytes: &[u8]) -> Result<bool, AllocError> {
+        match find_functions(alloc, bytes)? {
+            Found::Whole(_) => Ok(true),
+            Found::Stuck(_) => Ok(false),
+        }
     }
 }
 
@@ -47,9 +43,8 @@ fn read_inner(
     match find_functions(alloc, bytes)? {
         Found::Whole(functions) => Ok(Ok(functions)),
         Found::Stuck(top) => {
-            let ws = split_lines(alloc, bytes)?;
-            let line = first_wrong::<BundleText>(alloc, &ws, top)?;
-            Ok(Err(BundleTextError::Syntax { line: line as u32 }))
+            let line = first_wrong::<BundleText>(alloc, bytes, top)?;
+            Ok(Err(BundleTextError::Syntax { line }))
         }
     }
 }

@@ -1,11 +1,11 @@
 -- No completion of more lines than were read is the text of a job.
-use Rattle.std.proofs.Common.{◌≡◌, ℕ, zero, suc, ◌+◌, ◌<◌, ◌≤◌, List, [], ◌∷◌, ◌++◌, length, map, take, None, refl, sym, ap, ◌∙◌, inl, inr, arith, append_assoc, append-nil, length-append}
+use Rattle.std.proofs.Common.{◌≡◌, ℕ, zero, suc, ◌+◌, ◌<◌, List, [], ◌∷◌, ◌++◌, length, map, take, None, refl, sym, ap, ◌∙◌, inl, inr, arith, append_assoc, append-nil, length-append}
 use Rattle.std.specs.Prelude.{◌==◌, ◌-◌, codes}
 use Rattle.s390x_words.specs.Marks.{upto, past}
 use Rattle.s390x_lines.specs.Line.{Line, line_text, IsLine}
 use Rattle.s390x_job.specs.Grammar.{Place, AtEnd, class, next}
 use Rattle.s390x_job.specs.Jobs.{lines_text, AllLines, text_of_job, IsJob}
-use Rattle.s390x_job.specs.Completions.{pieces_from, pieces, joined, closing, ending, completion, IsText, IsFirstWrong}
+use Rattle.s390x_job.specs.Completions.{pieces_from, pieces, joined, closing, ending, completion, IsText}
 use Rattle.s390x_job.specs.declared.job.Job.{Job}
 use Rattle.s390x_lines.proofs.Frees.{Free, upto-free, line-free}
 use Rattle.s390x_job.specs.Errors.{IsStuck}
@@ -111,10 +111,3 @@ module _ (bytes : List ℕ) (ls : List Line) (p : Place) (rest : List ℕ) (i : 
   stuck_place n f x a q g =
       let k = length_front bytes ls p rest i in
       record { small = omega (arith, k); no_job = refuse_place bytes ls p rest i n x a q g; above = λ m h s t. above_place bytes ls p rest i f x a q g m h t }
-
-length_pieces : (s acc : List ℕ) → length (pieces_from acc s) ≤ length s
-length_pieces [] acc = omega arith
-length_pieces (x ∷ s) acc = elim (either (x == 10)) [ inl e ↦ rw e (omega (arith, length_pieces s [])) | inr e ↦ rw e (omega (arith, length_pieces s (acc ++ x ∷ []))) ]
-
-pub line_fits : (bytes : List ℕ) (ws : List (List ℕ)) (n : ℕ) → ws ≡ pieces bytes → IsFirstWrong ws n → n ≤ length bytes + 1
-line_fits bytes ws n e h = omega (arith, h.is, h.small, ap length e, length_pieces bytes [])

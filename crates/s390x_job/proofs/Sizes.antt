@@ -27,6 +27,14 @@ short_from acc [] = omega arith
 short_from acc (x ∷ s) =
     elim (either (x == 10)) [ inl e ↦ rw e (omega (arith, short_from [] s, length-append acc (10 ∷ joined (pieces_from [] s)))) | inr e ↦ rw e (omega (arith, short_from (acc ++ x ∷ []) s, length-append acc (x ∷ []))) ]
 
+count_from : (acc s : List ℕ) → length (pieces_from acc s) ≤ length s
+count_from acc [] = omega arith
+count_from acc (x ∷ s) = elim (either (x == 10)) [ inl e ↦ rw e (omega (arith, count_from [] s)) | inr e ↦ rw e (omega (arith, count_from (acc ++ x ∷ []) s)) ]
+
+-- a text has no more lines than bytes
+pub pieces_few : (s : List ℕ) → length (pieces s) ≤ length s
+pieces_few s = count_from [] s
+
 -- the lines of a text are no longer than the text
 pub pieces_short : (s : List ℕ) → length (joined (pieces s)) ≤ length s
 pieces_short s = omega (arith, short_from [] s)

@@ -95,36 +95,67 @@ pub fn put_closing(out: &mut Vec<u8>, n: usize) -> Result<(), AllocError>
     put(out, b"end\n")
 }
 
-/// A kind of text, by which lines can be completed to one.
+/// A kind of text to which lines can be completed.
 pub trait Completes {
     // The lines' text has fewer bytes.
     ghost limit: { ℕ };
 
-    ghost CanBeCompleted: { List (List ℕ) → Type 0 };
+    // The text of lines, completed.
+    ghost completed: { List (List ℕ) → List ℕ };
 
-    /// Whether the lines can be completed to a text.
-    fn can_be_completed(alloc: Global, ws: &[&[u8]]) -> Result<bool, AllocError>
-        requires { length (joined (map (λ w. w.now) ws.now)) < limit }
-        ensures { IfOk result (λ b. Decides b (CanBeCompleted (map (λ w. w.now) ws.now))) };
+    // The bytes are such a text.
+    ghost IsWhole: { List ℕ → Type 0 };
+
+    /// The text of lines, completed.
+    fn complete(alloc: Global, ws: &[&[u8]]) -> Result<Vec<u8>, AllocError>
+        ensures { IfOk result (λ v. v.items ≡ completed (map (λ w. w.now) ws.now)) };
+
+    /// Whether the bytes, which are lines completed, are such a text.
+    fn is_whole(alloc: Global, bytes: &[u8]) -> Result<bool, AllocError>
+        requires { (vs : List (List ℕ)) × (length (joined vs) < limit) × (bytes.now ≡ completed vs) }
+        ensures { IfOk result (λ b. Decides b (IsWhole bytes.now)) };
+}
+
+/// Whether the lines can be completed to a text.
+fn can_be_completed<T: Completes>(alloc: Global, ws: &[&[u8]]) -> Result<bool, AllocError>
+    requires { length (joined (map (λ w. w.now) ws.now)) < T.limit }
+    ensures { IfOk result (λ b. Decides b (T.IsWhole (T.completed (map (λ w. w.now) ws.now)))) }
+{
+    let text = T::complete(alloc, ws)?;
+    let is_whole = T::is_whole(alloc, &text)?;
+    Ok(is_whole)
 }
 
 /// The number of the first wrong line, where no more than `top` lines can be completed.
-pub fn first_wrong<T: Completes>(
+fn first_wrong_of_lines<T: Completes>(
     alloc: Global,
     ws: &[&[u8]],
     top: usize,
 ) -> Result<usize, AllocError>
     requires small { top ≤ length ws.now }
     requires short { length (joined (map (λ w. w.now) ws.now)) < T.limit }
-    requires above { (m : ℕ) → top < m → m ≤ length ws.now → T.CanBeCompleted (take m (map (λ w. w.now) ws.now)) → ⊥ }
-    ensures { IfOk result (λ n. IsFirstWrongLine T.CanBeCompleted (map (λ w. w.now) ws.now) n) }
+    requires above { (m : ℕ) → top < m → m ≤ length ws.now → T.IsWhole (T.completed (take m (map (λ w. w.now) ws.now))) → ⊥ }
+    ensures { IfOk result (λ n. IsFirstWrongLine (λ vs. T.IsWhole (T.completed vs)) (map (λ w. w.now) ws.now) n) }
 {
     let mut k = top;
     while k > 0 {
-        if T::can_be_completed(alloc, &ws[..k])? {
+        if can_be_completed::<T>(alloc, &ws[..k])? {
             return Ok(k + 1);
         }
         k -= 1;
     }
     Ok(1)
+}
+
+/// The number of the first wrong line of these bytes, where no more than `top` of their lines can be completed.
+pub fn first_wrong<T: Completes>(alloc: Global, bytes: &[u8], top: usize) -> Result<u32, AllocError>
+    requires fits { length bytes.now < 4294967295 }
+    requires short { length bytes.now < T.limit }
+    requires small { top ≤ length (pieces bytes.now) }
+    requires above { (m : ℕ) → top < m → m ≤ length (pieces bytes.now) → T.IsWhole (T.completed (take m (pieces bytes.now))) → ⊥ }
+    ensures { IfOk result (λ n. IsFirstWrongLine (λ vs. T.IsWhole (T.completed vs)) (pieces bytes.now) n) }
+{
+    let ws = split_lines(alloc, bytes)?;
+    let n = first_wrong_of_lines::<T>(alloc, &ws, top)?;
+    Ok(n as u32)
 }

@@ -1,6 +1,6 @@
 //! The line that a syntax error names.
 
-ghost use Rattle.std.specs.Prelude.{◌≡◌, ℕ, ◌+◌, ◌-◌, ◌<◌, ◌≤◌, IfOk, IfErr, map, take, length, codes, false, Decides, MatchResult};
+ghost use Rattle.std.specs.Prelude.{◌≡◌, ◌+◌, ◌-◌, ◌<◌, IfOk, IfErr, map, length, codes, false, MatchResult};
 ghost use Rattle.std.specs.Str.{bytes_eq};
 ghost use Rattle.s390x_job.specs.Errors.{IsReadJob, IsError};
 ghost use Rattle.s390x_job.specs.Jobs.{text_of_job, IsJob};
@@ -10,7 +10,7 @@ ghost use Rattle.s390x_job.specs.Completions.{ends_job, completion, IsText};
 
 use crate::build::{Progress, Stage, job_of, push, start};
 use crate::completing::{
-    Completes, count_closes, count_opens, first_wrong, put_closing, put_joined, split_lines,
+    Completes, count_closes, count_opens, first_wrong, put_closing, put_joined,
 };
 use crate::job::{Job, LineError};
 use crate::reader::{read_item, read_job};
@@ -41,40 +41,32 @@ fn ended(ws: &[&[u8]]) -> bool
     b
 }
 
-fn complete(alloc: Global, ws: &[&[u8]]) -> Result<Vec<u8>, AllocError>
-    ensures { IfOk result (λ v. v.items ≡ completion (map (λ w. w.now) ws.now)) }
-{
-    let mut out = Vec::new(alloc);
-    put_joined(&mut out, ws)?;
-    if ended(ws) {
-        return Ok(out);
-    }
-    let n = count_opens(ws).saturating_sub(count_closes(ws));
-    put_closing(&mut out, n)?;
-    Ok(out)
-}
-
-fn is_text(alloc: Global, s: &[u8]) -> Result<bool, AllocError>
-    ensures { IfOk result (λ b. Decides b (IsText s.now)) }
-{
-    match read_job(alloc, s)? {
-        Some(_) => Ok(true),
-        None => Ok(false),
-    }
-}
-
 /// The text of a job.
 struct JobText;
 
 impl Completes for JobText {
     ghost limit = { 4294967295 };
 
-    ghost CanBeCompleted = { λ ws. IsText (completion ws) };
+    ghost completed = { completion };
 
-    fn can_be_completed(alloc: Global, ws: &[&[u8]]) -> Result<bool, AllocError> {
-        let text = complete(alloc, ws)?;
-        let fits = is_text(alloc, &text)?;
-        Ok(fits)
+    ghost IsWhole = { IsText };
+
+    fn complete(alloc: Global, ws: &[&[u8]]) -> Result<Vec<u8>, AllocError> {
+        let mut out = Vec::new(alloc);
+        put_joined(&mut out, ws)?;
+        if ended(ws) {
+            return Ok(out);
+        }
+        let n = count_opens(ws).saturating_sub(count_closes(ws));
+        put_closing(&mut out, n)?;
+        Ok(out)
+    }
+
+    fn is_whole(alloc: Global, bytes: &[u8]) -> Result<bool, AllocError> {
+        match read_job(alloc, bytes)? {
+            Some(_) => Ok(true),
+            None => Ok(false),
+        }
     }
 }
 
@@ -116,9 +108,8 @@ fn read_inner(alloc: Global, bytes: &[u8]) -> Result<Result<Job, LineError>, All
     match find_job(alloc, bytes)? {
         Found::Whole(j) => Ok(Ok(j)),
         Found::Stuck(k) => {
-            let ws = split_lines(alloc, bytes)?;
-            let n = first_wrong::<JobText>(alloc, &ws, k)?;
-            Ok(Err(LineError::Syntax { line: n as u32 }))
+            let line = first_wrong::<JobText>(alloc, bytes, k)?;
+            Ok(Err(LineError::Syntax { line }))
         }
     }
 }

@@ -1,5 +1,5 @@
 //! The exact reader of a planned job's text.
-ghost use Rattle.std.specs.Prelude.{◌<◌, IfErr, IfOk, Decides, MatchResult, length};
+ghost use Rattle.std.specs.Prelude.{◌<◌, IfErr, IfOk, MatchResult, length};
 ghost use Rattle.s390x_plan_text.specs.Completions.{IsPlannedText, plan_completion};
 ghost use Rattle.s390x_plan_text.specs.Errors.{HasNoPlan};
 ghost use Rattle.s390x_plan_text.specs.Text.{IsPlannedOf};
@@ -8,19 +8,8 @@ use crate::complete::complete;
 use crate::error::PlanTextError;
 use crate::find::{Found, find_planned};
 use crate::planned_job::PlannedJob;
-use s390x_job::completing::{Completes, first_wrong, split_lines};
+use s390x_job::completing::{Completes, first_wrong};
 use std::alloc::{AllocError, Global};
-
-// Whether this is the text of a planned job.
-fn is_text(alloc: Global, bytes: &[u8]) -> Result<bool, AllocError>
-    requires { length bytes.now < 4294967295 }
-    ensures { IfOk result (λ b. Decides b (IsPlannedText bytes.now)) }
-{
-    match find_planned(alloc, bytes)? {
-        Found::Whole(_) => Ok(true),
-        Found::Stuck(_) => Ok(false),
-    }
-}
 
 /// The text of a planned job.
 struct PlannedText;
@@ -28,12 +17,19 @@ struct PlannedText;
 impl Completes for PlannedText {
     ghost limit = { 268435456 };
 
-    ghost CanBeCompleted = { λ ws. IsPlannedText (plan_completion ws) };
+    ghost completed = { plan_completion };
 
-    fn can_be_completed(alloc: Global, ws: &[&[u8]]) -> Result<bool, AllocError> {
-        let text = complete(alloc, ws)?;
-        let fits = is_text(alloc, &text)?;
-        Ok(fits)
+    ghost IsWhole = { IsPlannedText };
+
+    fn complete(alloc: Global, ws: &[&[u8]]) -> Result<Vec<u8>, AllocError> {
+        complete(alloc, ws)
+    }
+
+    fn is_whole(alloc: Global, bytes: &[u8]) -> Result<bool, AllocError> {
+        match find_planned(alloc, bytes)? {
+            Found::Whole(_) => Ok(true),
+            Found::Stuck(_) => Ok(false),
+        }
     }
 }
 
@@ -44,9 +40,8 @@ fn read_inner(alloc: Global, bytes: &[u8]) -> Result<Result<PlannedJob, PlanText
     match find_planned(alloc, bytes)? {
         Found::Whole(planned) => Ok(Ok(planned)),
         Found::Stuck(top) => {
-            let ws = split_lines(alloc, bytes)?;
-            let line = first_wrong::<PlannedText>(alloc, &ws, top)?;
-            Ok(Err(PlanTextError::Syntax { line: line as u32 }))
+            let line = first_wrong::<PlannedText>(alloc, bytes, top)?;
+            Ok(Err(PlanTextError::Syntax { line }))
         }
     }
 }

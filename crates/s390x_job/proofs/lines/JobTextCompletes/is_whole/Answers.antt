@@ -1,6 +1,6 @@
 use Rattle.std.proofs.Common.{refl}
-use Rattle.s390x_job.proofs.lines.is_text.Goals as goal
-use Rattle.s390x_job.proofs.lines.is_text.Goals.{in-Some, in-None}
+use Rattle.s390x_job.proofs.lines.JobTextCompletes.is_whole.Goals as goal
+use Rattle.s390x_job.proofs.lines.JobTextCompletes.is_whole.Goals.{in-Some, in-None}
 
 pub returns : goal.returns
 returns c =
