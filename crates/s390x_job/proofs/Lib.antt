@@ -8,3 +8,4 @@ pub mod Whole
 pub mod Places
 pub mod Above
 pub mod Sizes
+pub mod PlainJob

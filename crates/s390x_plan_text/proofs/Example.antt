@@ -1,16 +1,14 @@
 -- The lines of the examples are texts of planned jobs.
-use Rattle.std.proofs.Common.{◌≡◌, ℕ, zero, suc, ◌<◌, ◌^◌, Some, List, [], ◌∷◌, ◌++◌, drop, length, map, Vec, Global, refl, sym, ap, ap₂, ◌∙◌, subst, arith, length-append}
+use Rattle.std.proofs.Common.{◌≡◌, List, [], ◌∷◌, ◌++◌, drop, length, map, refl, sym, ap, ap₂, ◌∙◌, arith, length-append}
 use Rattle.std.proofs.lemmas.Fmt.{decimal_digit}
 use Rattle.s390x_base.specs.Registers.{general}
 use Rattle.s390x_base.specs.declared.regs.Reg.TheVariants.{Real, Virtual}
 use Rattle.s390x_base.specs.declared.regs.RegClass.TheVariants.{Int}
-use Rattle.s390x_inst.specs.State.{base_facilities, fresh_emission}
-use Rattle.s390x_inst.specs.declared.calls.CallConv.TheVariants.{SystemV}
 use Rattle.s390x_job.specs.Completions.{joined}
-use Rattle.s390x_job.specs.Grammar.{Header, run}
 use Rattle.s390x_job.specs.Items.{end_line}
-use Rattle.s390x_job.specs.Jobs.{AllLines, IsJob, blocks_lines, frame_lines, job_lines, lines_text, plain_layout, text_of_job}
+use Rattle.s390x_job.specs.Jobs.{IsJob, blocks_lines, job_lines, lines_text, text_of_job}
 use Rattle.s390x_job.specs.declared.job.Job.{Job}
+use Rattle.s390x_job.proofs.PlainJob.{plain_is_job, plain_job, plain_lines, vec}
 use Rattle.s390x_inst.specs.declared.function.Block.{Block}
 use Rattle.s390x_lines.specs.Line.{Line}
 use Rattle.s390x_alloc.specs.declared.plan.BlockPlan.{BlockPlan}
@@ -22,27 +20,10 @@ use Rattle.s390x_plan_text.specs.Lines.{Closing, line_text}
 use Rattle.s390x_plan_text.specs.Text.{IsPlanned, SamePlanned, blocks_lines as plan_blocks_lines, plan_lines, text_of_planned}
 use Rattle.s390x_plan_text.specs.declared.planned_job.PlannedJob.{PlannedJob}
 use Rattle.s390x_plan_text.proofs.Parts.{one_planned}
-use Rattle.s390x_words.specs.Operators.{convention_text}
-
--- a vector of these
-vec : {X : Type 0} (items : List X) → length items < 2 ^ 63 → Vec X Global
-vec items small = record { ptr = denote.RawPtr.null_ptr; len = length items; cap = length items; alloc = record { memory = record { seal = tt } }; items = items; ok = (refl, omega arith); small = small }
-
-zeros : ℕ → List ℕ
-zeros zero = []
-zeros (suc n) = 0 ∷ zeros n
 
 -- no line but the last
-empty_job : Job
-empty_job = record {
-  function = record { blocks = vec [] (omega arith); constants = vec [] (omega arith) };
-  info = record { isa_flags = base_facilities };
-  conv = SystemV;
-  state = fresh_emission plain_layout SystemV;
-  symbols = vec [] (omega arith);
-  registers = record { general = zeros 16; vector = zeros 32 };
-  memory = vec [] (omega arith);
-}
+abbrev empty_job : Job
+empty_job = plain_job [] (omega arith)
 
 -- one block
 plan : Plan
@@ -53,25 +34,11 @@ plan = record {
   } ∷ []) (omega arith);
 }
 
--- no line says what is said without one
-frame_untold : frame_lines SystemV plain_layout ≡ []
-unfolding convention_text
-frame_untold = rw (decimal_digit 0 (omega arith)) refl
-
 empty_lines : job_lines empty_job ≡ end_line ∷ []
-unfolding vec zeros empty_job
-empty_lines = ap (λ fs. (fs ++ []) ++ end_line ∷ []) frame_untold
+empty_lines = plain_lines [] _
 
 is_job : IsJob empty_job
-unfolding vec zeros empty_job
-is_job = record {
-  lines = subst AllLines (sym empty_lines) (record { kinds_fit = refl; fields_fit = tt }, tt);
-  order = ap (run (Some (Header 0 0))) empty_lines;
-  state = refl;
-  frame = λ e. (refl, refl);
-  general_count = refl;
-  vector_count = refl;
-}
+is_job = plain_is_job [] _ (record { kinds_fit = refl; fields_fit = tt }, tt) refl
 
 plan_text : map line_text (plan_lines plan.blocks.items) ≡ drop 1 some_lines
 unfolding vec plan

@@ -20,7 +20,8 @@ use Rattle.s390x_bundle_text.specs.Text.{close_line, text_of_functions}
 use Rattle.s390x_bundle_text.specs.declared.named_job.NamedJob.{NamedJob}
 use Rattle.s390x_tool.specs.Bundled.{CanBeBundled, IsBundleAccepted, member_of}
 use Rattle.s390x_tool.specs.Example.{one_function}
-use Rattle.s390x_tool.proofs.ReturnJob.{is_job, job, job_text, vec}
+use Rattle.s390x_job.proofs.PlainJob.{plain_job, vec}
+use Rattle.s390x_tool.proofs.ReturnJob.{is_job, job, job_text}
 
 -- ---- a function
 
@@ -40,7 +41,7 @@ record IsTwoBytes (f : MachBufferFinalized) : Type 0 where
   pub linked : f.relocs.items ≡ []
 
 two_bytes : (f : MachBufferFinalized) → IsEmitted member f → IsTwoBytes f
-unfolding vec job number bits layout_of length_of be_bytes
+unfolding vec plain_job job number bits layout_of length_of be_bytes
 two_bytes f h = record { size = ap length h.finished.bytes; boundary = h.finished.alignment; linked = h.finished.relocs }
 
 -- it has a place and can be linked there
@@ -65,7 +66,7 @@ module _ (base : ℕ) (even : base % 4 ≡ 0) (fits : base + 2 ≤ 1844674407370
   links (f ∷ g ∷ fs) h = absurd h.1
 
   can_be_bundled : CanBeBundled base (member ∷ [])
-  unfolding vec job length_of
+  unfolding vec plain_job job length_of
   can_be_bundled = record { names = refl; valid = refl; placed = placed; linked = links }
 
 pub function_accepted : (base : ℕ) → base % 4 ≡ 0 → base + 2 ≤ 2 ^ 64 → IsBundleAccepted base (joined one_function)
