@@ -1,7 +1,7 @@
 -- What the reader answers.
-use Rattle.std.specs.Prelude.{◌≡◌, ℕ, ◌<◌, ◌≤◌, List, take, length}
+use Rattle.std.specs.Prelude.{◌≡◌, ℕ, ◌<◌, List}
 use Rattle.s390x_base.specs.declared.ir.ExternalName.{ExternalName}
-use Rattle.s390x_job.specs.Completions.{IsFirstWrong, IsText, pieces}
+use Rattle.s390x_job.specs.Completions.{IsFirstWrong, IsStuck, IsText, pieces}
 use Rattle.s390x_bundle_text.specs.Text.{AreFunctionsOf, close_line, head_line}
 use Rattle.s390x_bundle_text.specs.Completions.{IsBundleText, IsFirstWrongOfBundle, bundle_completion}
 use Rattle.s390x_bundle_text.specs.declared.head.Head.{Head}
@@ -22,10 +22,8 @@ abbrev pub HasNoJob : List ℕ → (line : ℕ) → Type 0
 HasNoJob bytes line = (IsText bytes → ⊥) × IsFirstWrong (pieces bytes) line
 
 -- the bytes are the text of no functions, and no completion of more than k lines is one
-pub record IsStuckAt (bytes : List ℕ) (k : ℕ) : Type 0 where
-  pub small : k ≤ length (pieces bytes)
-  pub none : IsBundleText bytes → ⊥
-  pub above : (m : ℕ) → k < m → m ≤ length (pieces bytes) → IsBundleText (bundle_completion (take m (pieces bytes))) → ⊥
+abbrev pub IsStuckAt : List ℕ → ℕ → Type 0
+IsStuckAt bytes k = IsStuck IsBundleText bundle_completion bytes k
 
 -- what was found is so: the functions whose text the bytes are, or a number of lines that none of these texts goes past
 abbrev pub IsFound : List ℕ → Found → Type 0

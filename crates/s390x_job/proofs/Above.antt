@@ -8,7 +8,7 @@ use Rattle.s390x_job.specs.Jobs.{lines_text, AllLines, text_of_job, IsJob}
 use Rattle.s390x_job.specs.Completions.{pieces_from, pieces, joined, closing, ending, completion, IsText}
 use Rattle.s390x_job.specs.declared.job.Job.{Job}
 use Rattle.s390x_lines.proofs.Frees.{Free, upto-free, line-free}
-use Rattle.s390x_job.specs.Errors.{IsStuck}
+use Rattle.s390x_job.specs.Errors.{IsStuckAt}
 use Rattle.s390x_job.proofs.Whole.{Inv, either, cut, nil, refuse_line, refuse_place, refuse_feed, refuse_end}
 
 pub pieces_line : (w : List ℕ) (acc r : List ℕ) → Free 10 w → pieces_from acc (w ++ (10 ∷ r)) ≡ (acc ++ w) ∷ pieces_from [] r
@@ -90,24 +90,24 @@ length_front bytes ls p rest i =
     ap length (ap pieces i.text ∙ pieces_front ls rest i.oks) ∙ length-append (map line_text ls) (pieces rest) ∙ ap (λ n. n + length (pieces rest)) (length_texts ls)
 
 module _ (bytes : List ℕ) (ls : List Line) (p : Place) (rest : List ℕ) (i : Inv bytes ls p rest) where
-  pub stuck_feed : 0 < length rest → length (upto 10 rest) ≡ length rest → IsStuck bytes (length ls)
+  pub stuck_feed : 0 < length rest → length (upto 10 rest) ≡ length rest → IsStuckAt bytes (length ls)
   stuck_feed n e =
       let k = length_front bytes ls p rest i in
       let q = ap length (pieces_none rest [] e) in
-      record { small = omega (arith, k); no_job = refuse_feed bytes ls p rest i n e; above = λ m h s t. absurd (omega (arith, k, q, h, s)) }
+      record { small = omega (arith, k); none = λ t. refuse_feed bytes ls p rest i n e t.0 t.1 t.2; above = λ m h s t. absurd (omega (arith, k, q, h, s)) }
 
-  pub stuck_end : length rest ≡ 0 → (p ≡ AtEnd → ⊥) → IsStuck bytes (length ls)
+  pub stuck_end : length rest ≡ 0 → (p ≡ AtEnd → ⊥) → IsStuckAt bytes (length ls)
   stuck_end n e =
       let k = length_front bytes ls p rest i in
       let q = ap length (pieces_none rest [] (ap (λ r. length (upto 10 r)) (nil rest n) ∙ sym n)) in
-      record { small = omega (arith, k); no_job = refuse_end bytes ls p rest i n e; above = λ m h s t. absurd (omega (arith, k, q, h, s)) }
+      record { small = omega (arith, k); none = λ t. refuse_end bytes ls p rest i n e t.0 t.1 t.2; above = λ m h s t. absurd (omega (arith, k, q, h, s)) }
 
-  pub stuck_line : 0 < length rest → (length (upto 10 rest) ≡ length rest → ⊥) → ((l : Line) → IsLine l → line_text l ≡ upto 10 rest → ⊥) → IsStuck bytes (length ls)
+  pub stuck_line : 0 < length rest → (length (upto 10 rest) ≡ length rest → ⊥) → ((l : Line) → IsLine l → line_text l ≡ upto 10 rest → ⊥) → IsStuckAt bytes (length ls)
   stuck_line n f g =
       let k = length_front bytes ls p rest i in
-      record { small = omega (arith, k); no_job = refuse_line bytes ls p rest i n g; above = λ m h s t. above_line bytes ls p rest i f g m h t }
+      record { small = omega (arith, k); none = λ t. refuse_line bytes ls p rest i n g t.0 t.1 t.2; above = λ m h s t. above_line bytes ls p rest i f g m h t }
 
-  pub stuck_place : 0 < length rest → (length (upto 10 rest) ≡ length rest → ⊥) → (k : Line) → IsLine k → line_text k ≡ upto 10 rest → next p (class k) ≡ None → IsStuck bytes (length ls)
+  pub stuck_place : 0 < length rest → (length (upto 10 rest) ≡ length rest → ⊥) → (k : Line) → IsLine k → line_text k ≡ upto 10 rest → next p (class k) ≡ None → IsStuckAt bytes (length ls)
   stuck_place n f x a q g =
       let k = length_front bytes ls p rest i in
-      record { small = omega (arith, k); no_job = refuse_place bytes ls p rest i n x a q g; above = λ m h s t. above_place bytes ls p rest i f x a q g m h t }
+      record { small = omega (arith, k); none = λ t. refuse_place bytes ls p rest i n x a q g t.0 t.1 t.2; above = λ m h s t. above_place bytes ls p rest i f x a q g m h t }

@@ -58,6 +58,12 @@ pub record IsFirstWrongLine (CanBeCompleted : List (List ℕ) → Type 0) (ws : 
   pub here : (k ≡ 0) ⊎ CanBeCompleted (take k ws)
   pub above : (m : ℕ) → k < m → m ≤ length ws → CanBeCompleted (take m ws) → ⊥
 
+-- the bytes are no whole text, and no completion of more than k of their lines is one
+pub record IsStuck (IsWhole : List ℕ → Type 0) (completed : List (List ℕ) → List ℕ) (bytes : List ℕ) (k : ℕ) : Type 0 where
+  pub small : k ≤ length (pieces bytes)
+  pub none : IsWhole bytes → ⊥
+  pub above : (m : ℕ) → k < m → m ≤ length (pieces bytes) → IsWhole (completed (take m (pieces bytes))) → ⊥
+
 -- the first line of a job's text that is wrong
 abbrev pub IsFirstWrong : List (List ℕ) → ℕ → Type 0
 IsFirstWrong ws n = IsFirstWrongLine (λ vs. IsText (completion vs)) ws n

@@ -1,7 +1,7 @@
 -- What the readers answer.
-use Rattle.std.specs.Prelude.{◌≡◌, ℕ, ◌<◌, ◌≤◌, List, take, length}
+use Rattle.std.specs.Prelude.{◌≡◌, ℕ, List}
 use Rattle.s390x_job.specs.Jobs.{text_of_job, IsJob}
-use Rattle.s390x_job.specs.Completions.{pieces, completion, IsText, IsFirstWrong}
+use Rattle.s390x_job.specs.Completions.{pieces, completion, IsText, IsFirstWrong, IsStuck}
 use Rattle.s390x_job.specs.declared.job.Job.{Job}
 use Rattle.s390x_job.specs.declared.job.LineError.{LineError}
 use Rattle.s390x_job.specs.declared.job.LineError.TheVariants.{Syntax, NoMemory}
@@ -9,15 +9,13 @@ use Rattle.s390x_job.specs.declared.lines.Found.{Found}
 use Rattle.s390x_job.specs.declared.lines.Found.TheVariants.{Whole, Stuck}
 
 -- no job has this text, and no completion of more than k lines is one
-pub record IsStuck (bytes : List ℕ) (k : ℕ) : Type 0 where
-  pub small : k ≤ length (pieces bytes)
-  pub no_job : (j : Job) → IsJob j → text_of_job j ≡ bytes → ⊥
-  pub above : (m : ℕ) → k < m → m ≤ length (pieces bytes) → IsText (completion (take m (pieces bytes))) → ⊥
+abbrev pub IsStuckAt : List ℕ → ℕ → Type 0
+IsStuckAt bytes k = IsStuck IsText completion bytes k
 
 -- what was found is so: the job has this text, or no job has it and no completion of more lines is one
 abbrev pub IsReadJob : List ℕ → Found → Type 0
 IsReadJob bytes (Whole j) = IsJob j × (text_of_job j ≡ bytes)
-IsReadJob bytes (Stuck k) = IsStuck bytes k
+IsReadJob bytes (Stuck k) = IsStuckAt bytes k
 
 -- `Syntax` exactly where no job has this text, with the line by completions
 abbrev pub IsError : List ℕ → LineError → Type 0

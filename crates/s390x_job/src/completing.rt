@@ -1,7 +1,7 @@
 //! The lines of a text, and what completes them: shared by the readers of texts that hold jobs.
 ghost use Rattle.std.specs.Prelude.{◌≡◌, ℕ, ◌<◌, ◌≤◌, ◌++◌, List, IfOk, OnOk, Decides, length, map, take, codes};
 ghost use Rattle.std.specs.Str.{bytes_eq};
-ghost use Rattle.s390x_job.specs.Completions.{IsFirstWrongLine, pieces, joined, opens, closes, closing};
+ghost use Rattle.s390x_job.specs.Completions.{IsFirstWrongLine, IsStuck, pieces, joined, opens, closes, closing};
 
 use crate::split::before;
 use s390x_words::number::tail;
@@ -151,8 +151,7 @@ fn first_wrong_of_lines<T: Completes>(
 pub fn first_wrong<T: Completes>(alloc: Global, bytes: &[u8], top: usize) -> Result<u32, AllocError>
     requires fits { length bytes.now < 4294967295 }
     requires short { length bytes.now < T.limit }
-    requires small { top ≤ length (pieces bytes.now) }
-    requires above { (m : ℕ) → top < m → m ≤ length (pieces bytes.now) → T.IsWhole (T.completed (take m (pieces bytes.now))) → ⊥ }
+    requires stuck { IsStuck T.IsWhole T.completed bytes.now top }
     ensures { IfOk result (λ n. IsFirstWrongLine (λ vs. T.IsWhole (T.completed vs)) (pieces bytes.now) n) }
 {
     let ws = split_lines(alloc, bytes)?;

@@ -1,6 +1,6 @@
 -- What the reader answers.
 use Rattle.std.specs.Prelude.{◌≡◌, ℕ, ◌<◌, ◌≤◌, Option, Some, None, List, [], ◌∷◌, ◌++◌, take, length, map}
-use Rattle.s390x_job.specs.Completions.{pieces}
+use Rattle.s390x_job.specs.Completions.{IsStuck, pieces}
 use Rattle.s390x_alloc.specs.declared.plan.BlockPlan.{BlockPlan}
 use Rattle.s390x_plan_text.specs.Completions.{IsFirstWrongOfPlanned, IsPlannedText, plan_completion}
 use Rattle.s390x_plan_text.specs.Lines.{Closing, Heading, IsLine, Opening, PlanLine, line_text}
@@ -67,10 +67,8 @@ IsPlanFound ws (P.Whole plan) = AllLines (plan_lines plan.blocks.items) × (map 
 IsPlanFound ws (P.Stuck k) = IsPlanStuckAt ws k
 
 -- the bytes are the text of no planned job, and no completion of more than k lines is one
-pub record IsStuckAt (bytes : List ℕ) (k : ℕ) : Type 0 where
-  pub small : k ≤ length (pieces bytes)
-  pub none : IsPlannedText bytes → ⊥
-  pub above : (m : ℕ) → k < m → m ≤ length (pieces bytes) → IsPlannedText (plan_completion (take m (pieces bytes))) → ⊥
+abbrev pub IsStuckAt : List ℕ → ℕ → Type 0
+IsStuckAt bytes k = IsStuck IsPlannedText plan_completion bytes k
 
 -- what was found is so: the planned job whose text the bytes are, or a number of lines that none of these texts goes past
 abbrev pub IsFound : List ℕ → Found → Type 0

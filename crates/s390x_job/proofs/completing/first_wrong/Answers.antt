@@ -11,13 +11,13 @@ pub first_wrong_of_lines-requires-clause-above : goal.first_wrong_of_lines-requi
 first_wrong_of_lines-requires-clause-above g c =
     let s = c.deref.result.now in
     let e = same s _ _ c.deref.ensures.value c.in_ok-ws.ensures in
-    λ m h q t. c.requires.above m h (omega (arith, q, ap length e, length-map s (λ (w : Bor (List ℕ)). w.now))) (subst (λ ws. g.T.Completes.IsWhole (g.T.Completes.completed (take m ws))) e t)
+    λ m h q t. c.requires.stuck.above m h (omega (arith, q, ap length e, length-map s (λ (w : Bor (List ℕ)). w.now))) (subst (λ ws. g.T.Completes.IsWhole (g.T.Completes.completed (take m ws))) e t)
 
 pub first_wrong_of_lines-requires-clause-small : goal.first_wrong_of_lines-requires-clause-small
 first_wrong_of_lines-requires-clause-small g c =
     let s = c.deref.result.now in
     let e = same s _ _ c.deref.ensures.value c.in_ok-ws.ensures in
-    omega (arith, c.requires.small, ap length e, length-map s (λ (w : Bor (List ℕ)). w.now))
+    omega (arith, c.requires.stuck.small, ap length e, length-map s (λ (w : Bor (List ℕ)). w.now))
 
 pub first_wrong_of_lines-requires-clause-short : goal.first_wrong_of_lines-requires-clause-short
 first_wrong_of_lines-requires-clause-short g c =
