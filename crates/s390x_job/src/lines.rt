@@ -13,7 +13,7 @@ use crate::completing::{
     Completes, count_closes, count_opens, first_wrong, put_closing, put_joined,
 };
 use crate::job::{Job, LineError};
-use crate::reader::{read_item, read_job};
+use crate::reader::read_item;
 use crate::split::before;
 use s390x_words::number::tail;
 use std::alloc::{AllocError, Global};
@@ -63,16 +63,15 @@ impl Completes for JobText {
     }
 
     fn is_whole(alloc: Global, bytes: &[u8]) -> Result<bool, AllocError> {
-        match read_job(alloc, bytes)? {
-            Some(_) => Ok(true),
-            None => Ok(false),
+        match find_job(alloc, bytes)? {
+            Found::Whole(_) => Ok(true),
+            Found::Stuck(_) => Ok(false),
         }
     }
 }
 
 /// The job whose text this is. Where there is none, a number of its lines: no more of them can be completed to a job's text.
 pub fn find_job(alloc: Global, bytes: &[u8]) -> Result<Found, AllocError>
-    requires { length bytes.now < 4294967295 }
     ensures { IfOk result (IsReadJob bytes.now) }
 {
     let mut body = start(alloc);

@@ -1,17 +1,12 @@
-//! The exact reader of lines and jobs.
-ghost use Rattle.std.specs.Prelude.{◌≡◌, ◌≢◌, List, ℕ, IfOk, IfSome, MatchOption};
+//! The exact reader of lines.
+ghost use Rattle.std.specs.Prelude.{◌≡◌, ◌≢◌, IfOk, IfSome, MatchOption};
 ghost use Rattle.s390x_words.specs.Marks.{before_mark, from_mark};
 ghost use Rattle.s390x_lines.specs.Line.{Line, IsLine, line_text, line_of};
 ghost use Rattle.s390x_job.specs.Items.{item_line, IsItem};
-ghost use Rattle.s390x_job.specs.Jobs.{text_of_job, IsJob};
-ghost use Rattle.s390x_job.specs.declared.job.Job.{Job};
 
-use crate::build::{Progress, Stage, job_of, push, start};
 use crate::item::Item;
-use crate::job::Job;
 use crate::print_line::put_item;
 use crate::read_line::item;
-use crate::split::before;
 use s390x_exact::exact_line;
 use s390x_fields::cursor::Cursor;
 use s390x_lines::name::find_name;
@@ -68,33 +63,5 @@ pub fn read_item(alloc: Global, text: &mut String, w: &[u8]) -> Result<Option<It
     match exact_item(w) {
         Some(i) => Ok(Some(i)),
         None => printed_item(alloc, text, w),
-    }
-}
-
-/// The job whose text this is, or none where it is the text of no job.
-pub fn read_job(alloc: Global, bytes: &[u8]) -> Result<Option<Job>, AllocError>
-    ensures { IfOk result (λ o. MatchOption o ((j : Job) → IsJob j → text_of_job j ≢ bytes.now) (λ j. IsJob j × (text_of_job j ≡ bytes.now))) }
-{
-    let mut body = start(alloc);
-    let mut progress = Progress::Head(Stage::Flags, 0);
-    let mut text = String::new(alloc);
-    let mut rest = bytes;
-    while !rest.is_empty() {
-        let line = before(rest, b'\n');
-        if line.len() == rest.len() {
-            return Ok(None);
-        }
-        match read_item(alloc, &mut text, line)? {
-            None => return Ok(None),
-            Some(i) => match push(alloc, &mut body, progress, i)? {
-                None => return Ok(None),
-                Some(p) => progress = p,
-            },
-        }
-        rest = tail(rest, line.len() + 1);
-    }
-    match progress {
-        Progress::Done => Ok(Some(job_of(body))),
-        _ => Ok(None),
     }
 }
