@@ -1,10 +1,14 @@
 //! The lines of a text, and the part of it that is a job.
-ghost use Rattle.std.specs.Prelude.{◌≡◌, ◌≤◌, length};
+ghost use Rattle.std.specs.Prelude.{◌≡◌, ◌≤◌, ◌<◌, IfOk, MatchResult, length};
 ghost use Rattle.s390x_job.specs.Completions.{pieces};
+ghost use Rattle.s390x_job.specs.Jobs.{IsJob, text_of_job};
 ghost use Rattle.s390x_bundle_text.specs.Cut.{IsCutAt};
+ghost use Rattle.s390x_bundle_text.specs.Errors.{HasNoJob};
 
 use crate::complete::ends_job;
+use s390x_job::{Job, LineError, read_lines};
 use s390x_words::marks::{after, before};
+use std::alloc::{AllocError, Global};
 
 /// How many lines a text has.
 pub fn count_lines(bytes: &[u8]) -> usize
@@ -41,4 +45,16 @@ pub fn job_size(bytes: &[u8]) -> usize
         }
     }
     bytes.len()
+}
+
+/// The job whose text this is, else the number of its first wrong line; an error for want of memory alone.
+pub fn read_job(alloc: Global, part: &[u8]) -> Result<Result<Job, u32>, AllocError>
+    requires { length part.now < 4294967295 }
+    ensures { IfOk result (λ r. MatchResult r (λ j. IsJob j × (text_of_job j ≡ part.now)) (HasNoJob part.now)) }
+{
+    match read_lines(alloc, part) {
+        Ok(job) => Ok(Ok(job)),
+        Err(LineError::Syntax { line }) => Ok(Err(line)),
+        Err(LineError::NoMemory) => Err(AllocError),
+    }
 }

@@ -1,13 +1,11 @@
 //! The functions of a text.
-ghost use Rattle.std.specs.Prelude.{◌≡◌, ◌+◌, ◌≤◌, ◌<◌, IfOk, MatchResult, length};
+ghost use Rattle.std.specs.Prelude.{◌≡◌, ◌+◌, ◌≤◌, ◌<◌, IfOk, length};
 ghost use Rattle.s390x_job.specs.Completions.{pieces};
-ghost use Rattle.s390x_job.specs.Jobs.{IsJob, text_of_job};
-ghost use Rattle.s390x_bundle_text.specs.Errors.{HasNoJob, IsFound};
+ghost use Rattle.s390x_bundle_text.specs.Errors.{IsFound};
 
-use crate::cut::{count_lines, job_size};
+use crate::cut::{count_lines, job_size, read_job};
 use crate::head::{Head, read_head};
 use crate::named_job::NamedJob;
-use s390x_job::{Job, LineError, read_lines};
 use s390x_words::marks::{after, before};
 use std::alloc::{AllocError, Global};
 
@@ -16,18 +14,6 @@ use std::alloc::{AllocError, Global};
 pub enum Found {
     Whole(Vec<NamedJob>),
     Stuck(usize),
-}
-
-// The job whose text this is; else the number of its first wrong line.
-fn read_job(alloc: Global, part: &[u8]) -> Result<Result<Job, u32>, AllocError>
-    requires { length part.now < 4294967295 }
-    ensures { IfOk result (λ r. MatchResult r (λ j. IsJob j × (text_of_job j ≡ part.now)) (HasNoJob part.now)) }
-{
-    match read_lines(alloc, part) {
-        Ok(job) => Ok(Ok(job)),
-        Err(LineError::Syntax { line }) => Ok(Err(line)),
-        Err(LineError::NoMemory) => Err(AllocError),
-    }
 }
 
 // How many lines stand before the rest of a text.

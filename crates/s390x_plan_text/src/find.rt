@@ -1,8 +1,6 @@
 //! The planned job of a text.
-ghost use Rattle.std.specs.Prelude.{◌≡◌, ◌<◌, Decides, IfOk, MatchResult, length, map};
-ghost use Rattle.s390x_bundle_text.specs.Errors.{HasNoJob};
-ghost use Rattle.s390x_job.specs.Completions.{joined, pieces};
-ghost use Rattle.s390x_job.specs.Jobs.{IsJob, text_of_job};
+ghost use Rattle.std.specs.Prelude.{◌≡◌, ◌<◌, Decides, IfOk, length, map};
+ghost use Rattle.s390x_job.specs.Completions.{joined};
 ghost use Rattle.s390x_plan_text.specs.Errors.{IsFound, IsPlanFound};
 
 use crate::complete::join;
@@ -10,9 +8,8 @@ use crate::line::read_line;
 use crate::planned_job::PlannedJob;
 use crate::progress::{Progress, follow};
 use s390x_alloc::Plan;
-use s390x_bundle_text::cut::{count_lines, job_size};
+use s390x_bundle_text::cut::{count_lines, job_size, read_job};
 use s390x_job::completing::split_lines;
-use s390x_job::{Job, LineError, read_lines};
 use std::alloc::{AllocError, Global};
 
 /// What the lines behind a job are: a plan, or a number of them that no plan goes past.
@@ -27,18 +24,6 @@ pub enum PlanFound {
 pub enum Found {
     Whole(PlannedJob),
     Stuck(usize),
-}
-
-// The job whose text this is; else the number of its first wrong line.
-fn read_job(alloc: Global, part: &[u8]) -> Result<Result<Job, u32>, AllocError>
-    requires { length part.now < 4294967295 }
-    ensures { IfOk result (λ r. MatchResult r (λ j. IsJob j × (text_of_job j ≡ part.now)) (HasNoJob part.now)) }
-{
-    match read_lines(alloc, part) {
-        Ok(job) => Ok(Ok(job)),
-        Err(LineError::Syntax { line }) => Ok(Err(line)),
-        Err(LineError::NoMemory) => Err(AllocError),
-    }
 }
 
 /// The plan whose lines these are. Where there is none, a number of them: no plan begins with more.
