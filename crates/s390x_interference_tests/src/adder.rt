@@ -6,7 +6,6 @@ use s390x_machine::flat::FlatMemory;
 use s390x_machine::machine::Machine;
 use s390x_machine::memory::Memory;
 use s390x_machine::step::StepEnd;
-use s390x_operations::StopKind;
 use s390x_schedule::{ScheduleEnd, run_schedule};
 use std::alloc::Global;
 use std::test::Fail;
@@ -87,32 +86,6 @@ fn both_add_though_one_fails_first(rt: HostRuntime) -> Result<(), Fail> {
     assert_eq!(rt; machines[1].place, 4110);
     assert_eq!(rt; machines[1].regs[2], 5);
     assert_eq!(rt; machines[1].regs[4], 12);
-    Ok(())
-}
-
-#[test]
-fn a_misaligned_swap_stops(rt: HostRuntime) -> Result<(), Fail> {
-    let mut memory = memory_with_image(rt.alloc())?;
-    let mut machines = [adder(5, WORD + 1), adder(7, WORD + 1)];
-    let end = run_schedule(&mut machines, &mut memory, &[0, 1, 0]);
-    let stopped = ScheduleEnd::Stopped {
-        at: 2,
-        kind: StopKind::Specification,
-        place: 4100,
-    };
-    assert_eq!(rt; end, stopped);
-    assert_eq!(rt; word(&memory), 0);
-    Ok(())
-}
-
-#[test]
-fn nothing_is_scheduled(rt: HostRuntime) -> Result<(), Fail> {
-    let mut memory = memory_with_image(rt.alloc())?;
-    let mut machines = [adder(5, WORD), adder(7, WORD)];
-    let end = run_schedule(&mut machines, &mut memory, &[]);
-    assert_eq!(rt; end, ScheduleEnd::Done);
-    assert_eq!(rt; word(&memory), 0);
-    assert_eq!(rt; machines[0].place, PLACE);
     Ok(())
 }
 
