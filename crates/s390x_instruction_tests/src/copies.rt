@@ -1,35 +1,9 @@
 //! Copies of a loop and of what is known of a tail call.
 
-use s390x_base::{Cond, ExternalName, MachMemFlags, gpr, writable_gpr};
-use s390x_inst::{ALUOp, CallInstDest, Inst, MemArg, ReturnCallInfo};
-use std::alloc::{AllocError, Global};
+use crate::retry_loop::{retry, word};
+use s390x_base::{Cond, ExternalName, gpr};
+use s390x_inst::{ALUOp, CallInstDest, Inst, ReturnCallInfo};
 use std::test::Fail;
-
-/// The address of the word that the loop swaps.
-fn word() -> MemArg {
-    MemArg::reg_plus_off(gpr(5), 0, MachMemFlags::trusted())
-}
-
-/// A retry loop: a sum, and a swap.
-fn retry(alloc: Global) -> Result<Inst, AllocError> {
-    let mut body = Vec::new(alloc);
-    body.push(Inst::AluRRR {
-        alu_op: ALUOp::Add32,
-        rd: writable_gpr(4),
-        rn: gpr(2),
-        rm: gpr(3),
-    })?;
-    body.push(Inst::AtomicCas32 {
-        rd: writable_gpr(2),
-        ri: gpr(2),
-        rn: gpr(4),
-        mem: word(),
-    })?;
-    Ok(Inst::Loop {
-        cond: Cond::from_mask(4),
-        body,
-    })
-}
 
 /// Whether these are the members of the retry loop.
 fn are_members(body: &[Inst]) -> bool {

@@ -19,3 +19,5 @@ mod names;
 mod operands;
 #[cfg(test)]
 mod queries;
+#[cfg(test)]
+mod retry_loop;

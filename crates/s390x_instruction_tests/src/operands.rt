@@ -1,12 +1,12 @@
 //! The operands of a few instructions, and those that are refused.
 
+use crate::retry_loop::retry;
 use s390x_base::{Cond, MachMemFlags, Reg, RegClass, Writable, gpr, gpr_preg, writable_gpr};
 use s390x_inst::{ALUOp, Inst, MemArg, VecInst};
 use s390x_operands::{
     DenyReuseVisitor, MachInst, OperandConstraint, OperandError, OperandKind, OperandList,
     OperandPos, Reported,
 };
-use std::alloc::{AllocError, Global};
 use std::test::Fail;
 
 fn int(num: u32) -> Reg {
@@ -53,27 +53,6 @@ fn written(reg: Reg, constraint: OperandConstraint) -> Reported {
         kind: OperandKind::Def,
         pos: OperandPos::Late,
     }
-}
-
-/// A retry loop over real registers.
-fn retry(alloc: Global) -> Result<Inst, AllocError> {
-    let mut body = Vec::new(alloc);
-    body.push(Inst::AluRRR {
-        alu_op: ALUOp::Add32,
-        rd: writable_gpr(4),
-        rn: gpr(2),
-        rm: gpr(3),
-    })?;
-    body.push(Inst::AtomicCas32 {
-        rd: writable_gpr(2),
-        ri: gpr(2),
-        rn: gpr(4),
-        mem: at(gpr(5)),
-    })?;
-    Ok(Inst::Loop {
-        cond: Cond::from_mask(4),
-        body,
-    })
 }
 
 #[test]
