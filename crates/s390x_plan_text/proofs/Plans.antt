@@ -12,6 +12,7 @@ use Rattle.s390x_plan_text.specs.Text.{AllLines, block_lines, blocks_lines, edit
 use Rattle.s390x_plan_text.specs.declared.progress.Progress.{Progress}
 use Rattle.s390x_plan_text.specs.declared.progress.Progress.TheVariants.{Start, Between, Entering, Editing, Done}
 use Rattle.s390x_plan_text.specs.declared.line.Line.{Line}
+use Rattle.s390x_plan_text.specs.declared.line.Line.TheVariants as L
 use Rattle.s390x_plan_text.proofs.Spelling.{all_append, lines_round_trip}
 
 -- ---- a plan's lines stand in their order
@@ -84,6 +85,22 @@ blocks_append (a ∷ bs) b =
 
 pub more_blocks : (bs cs : List BlockPlan) (b : BlockPlan) (l : PlanLine) → cs ≡ bs ++ b ∷ [] → Heading ∷ (blocks_lines cs ++ l ∷ []) ≡ Heading ∷ ((blocks_lines bs ++ block_lines b.entry.items b.edits.items) ++ l ∷ [])
 more_blocks bs cs b l e = ap (λ t. Heading ∷ (t ++ l ∷ [])) (ap blocks_lines e ∙ blocks_append bs b)
+
+-- ---- a block with no edits
+
+same_next : (l : Line) → ((p : EntryPair) → l ≡ L.Entry p → ⊥) → next InEdits (line_value l) ≡ next InEntry (line_value l)
+same_next L.Plan h = refl
+same_next L.Block h = refl
+same_next (L.Entry p) h = absurd (h p refl)
+same_next (L.Edit (Move to from)) h = refl
+same_next (L.Edit (Step regs)) h = refl
+same_next L.Close h = refl
+
+-- a line that is no pair goes on behind no edits as behind pairs
+pub no_edits : (blocks : Vec BlockPlan Global) (entry : Vec EntryPair Global) (edits : Vec Edit Global) (l : Line) (o : Option Progress) → edits.items ≡ [] → ((p : EntryPair) → l ≡ L.Entry p → ⊥) → Follows (Editing blocks entry edits) l o → Follows (Entering blocks entry) l o
+no_edits blocks entry edits l None e n h = sym (same_next l n) ∙ h
+no_edits blocks entry edits l (Some d) e n h =
+    (sym (same_next l n) ∙ h.0, subst (λ es. told_lines d ≡ (Heading ∷ (blocks_lines blocks.items ++ block_lines entry.items es)) ++ line_value l ∷ []) e h.1)
 
 -- ---- lines that were read, those of a progress
 

@@ -50,41 +50,6 @@ fn from_between(alloc: Global, line: Line) -> Option<Progress>
     }
 }
 
-fn from_entering(
-    alloc: Global,
-    mut blocks: Vec<BlockPlan>,
-    mut entry: Vec<EntryPair>,
-    line: Line,
-) -> Result<Option<Progress>, AllocError>
-    ensures { IfOk result (Follows (Progress.Entering blocks entry) line) }
-{
-    let mut edits = Vec::new(alloc);
-    match line {
-        Line::Plan => Ok(None),
-        Line::Block => {
-            blocks.push(BlockPlan { entry, edits })?;
-            let entry = Vec::new(alloc);
-            Ok(Some(Progress::Entering { blocks, entry }))
-        }
-        Line::Entry(pair) => {
-            entry.push(pair)?;
-            Ok(Some(Progress::Entering { blocks, entry }))
-        }
-        Line::Edit(edit) => {
-            edits.push(edit)?;
-            Ok(Some(Progress::Editing {
-                blocks,
-                entry,
-                edits,
-            }))
-        }
-        Line::Close => {
-            blocks.push(BlockPlan { entry, edits })?;
-            Ok(Some(Progress::Done(blocks)))
-        }
-    }
-}
-
 fn from_editing(
     alloc: Global,
     mut blocks: Vec<BlockPlan>,
@@ -113,6 +78,28 @@ fn from_editing(
             Ok(Some(Progress::Done(blocks)))
         }
         _ => Ok(None),
+    }
+}
+
+// A line that is no pair stands as behind no edits.
+fn from_entering(
+    alloc: Global,
+    blocks: Vec<BlockPlan>,
+    mut entry: Vec<EntryPair>,
+    line: Line,
+) -> Result<Option<Progress>, AllocError>
+    ensures { IfOk result (Follows (Progress.Entering blocks entry) line) }
+{
+    match line {
+        Line::Entry(pair) => {
+            entry.push(pair)?;
+            Ok(Some(Progress::Entering { blocks, entry }))
+        }
+        _ => {
+            let edits = Vec::new(alloc);
+            let more = from_editing(alloc, blocks, entry, edits, line)?;
+            Ok(more)
+        }
     }
 }
 
