@@ -14,7 +14,7 @@ use Rattle.s390x_job.specs.declared.job.Job.{Job}
 unfoldable pub vec : {X : Type 0} (items : List X) → length items < 2 ^ 63 → Vec X Global
 vec items small = record { ptr = denote.RawPtr.null_ptr; len = length items; cap = length items; alloc = record { memory = record { seal = tt } }; items = items; ok = (refl, omega arith); small = small }
 
-zeros : ℕ → List ℕ
+unfoldable pub zeros : ℕ → List ℕ
 zeros zero = []
 zeros (suc n) = 0 ∷ zeros n
 

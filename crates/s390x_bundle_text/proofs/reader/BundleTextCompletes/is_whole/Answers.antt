@@ -4,7 +4,7 @@ use Rattle.s390x_bundle_text.proofs.reader.BundleTextCompletes.is_whole.Goals as
 use Rattle.s390x_bundle_text.proofs.reader.BundleTextCompletes.is_whole.Goals.{in-Whole, in-Stuck}
 
 pub find_functions-requires : goal.find_functions-requires
-find_functions-requires c = subst (λ t. length t < 4294967295) (sym c.requires.2.2) (completion_size c.requires.0 c.requires.2.1)
+find_functions-requires c = subst (λ t. length t < 4294967295) (sym c.requires.2) (completion_size c.requires.0 c.requires.1)
 
 pub returns : goal.returns
 returns c =
