@@ -10,6 +10,7 @@ ghost use Rattle.s390x_typed_steps.specs.Parts.{Row, Trapping, ToBlock, Relative
 ghost use Rattle.s390x_inst.specs.Emission.{Emission};
 ghost use Rattle.s390x_inst.specs.declared.state.IsaFlags.{IsaFlags};
 ghost use Rattle.s390x_typed_steps.specs.Causes.{first_emit_cause, declared_in, target_label_cause, branch_cause, cause_or, memory_cause, memory_cause_or, numbers_cause, instruction_fresh_labels, leaf_cause};
+ghost use Rattle.s390x_typed_steps.specs.Folding.{branches_of};
 ghost use Rattle.s390x_typed_steps.specs.Memory.{memory};
 ghost use Rattle.s390x_typed_steps.specs.General.{is_general, is_nonzero};
 ghost use Rattle.s390x_typed_steps.specs.Sizes.{instruction_size};
@@ -231,20 +232,16 @@ fn emit_code(
     }
 }
 
+// One that isn't recorded for the end of its block, where its own cause doesn't refuse it.
 fn emit_branch(sink: &mut MachBuffer, inst: &Inst, after: MachLabel) -> Result<(), EmitError>
-    requires { HasRoom sink.old }
+    requires unrecorded { branches_of inst.now ≡ None }
+    requires room { HasRoom sink.old }
     ensures answer { OnOk result (sink.new ≡ apply_all sink.old (branch_fragments (length sink.old.labels) after.0 inst.now)) }
     ensures lacks { (depth : ℕ) → MembersPassed sink.old after.0 depth (branch_size inst.now) (branch_cause sink.old.block_count depth inst.now) → numbers_cause (length sink.old.labels) (instruction_fresh_labels inst.now) ≡ None → LacksMemory result }
     ensures range { OnOk result (MaskInRange inst.now) }
     ensures kept { Extends sink.old sink.new }
 {
     match inst {
-        Inst::Jump { dest } => emit_jump(sink, *dest),
-        Inst::CondBr {
-            taken,
-            not_taken,
-            cond,
-        } => emit_choice(sink, *taken, *not_taken, *cond),
         Inst::IndirectBr { rn, .. } => emit_branch_register(sink, *rn),
         Inst::Ret { link } => emit_branch_register(sink, *link),
         Inst::JTSequence {

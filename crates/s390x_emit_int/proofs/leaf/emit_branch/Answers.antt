@@ -1,9 +1,6 @@
 use Rattle.std.proofs.Common.{ap, sym, subst, ◌∙◌, ◌+◌, ◌*◌, length}
-use Rattle.s390x_typed_steps.specs.Causes.{table_cause, branch_cause}
-use Rattle.s390x_emit_int.specs.Emission.{branch_fragments, branch_size}
-use Rattle.s390x_emit_int.specs.Fragments.{apply_all}
-use Rattle.s390x_emit_int.specs.Room.{Passed, MembersPassed}
-use Rattle.s390x_emit_int.proofs.Answering.{on_ok}
+use Rattle.s390x_typed_steps.specs.Causes.{table_cause}
+use Rattle.s390x_emit_int.specs.Room.{Passed}
 use Rattle.s390x_emit_int.proofs.Tables.{jump_passed}
 use Rattle.s390x_typed_steps.specs.General.{is_general}
 use Rattle.s390x_emit_int.proofs.Symbols.{symbol_passed}
@@ -50,19 +47,3 @@ pub returns-in-Vector-clause-lacks : goal.returns-in-Vector-clause-lacks
 returns-in-Vector-clause-lacks c = λ depth p drawn.
     let f = composite_passed c.args.sink.now c.args.after.0 depth c.args.inst.now c.in-Vector.inst c.in-Vector.is p in
     c.emit_composite.ensures.lacks f.0 f.1
-
-pub returns-in-Jump-clause-answer : goal.returns-in-Jump-clause-answer
-returns-in-Jump-clause-answer c =
-    let s = c.args.sink.now in
-    on_ok c.emit_jump.result c.emit_jump.ensures.answer (λ e. e.1 ∙ ap (λ i. apply_all s (branch_fragments (length s.labels) c.args.after.0 i)) (sym c.in-Jump.is))
-
-pub returns-in-Jump-clause-lacks : goal.returns-in-Jump-clause-lacks
-returns-in-Jump-clause-lacks c = λ depth p drawn. c.emit_jump.ensures.lacks c.args.after.0 depth (subst (λ i. MembersPassed c.args.sink.now c.args.after.0 depth (branch_size i) (branch_cause c.args.sink.now.block_count depth i)) c.in-Jump.is p)
-
-pub returns-in-CondBr-clause-answer : goal.returns-in-CondBr-clause-answer
-returns-in-CondBr-clause-answer c =
-    let s = c.args.sink.now in
-    on_ok c.emit_choice.result c.emit_choice.ensures.answer (λ e. e.1 ∙ ap (λ i. apply_all s (branch_fragments (length s.labels) c.args.after.0 i)) (sym c.in-CondBr.is))
-
-pub returns-in-CondBr-clause-lacks : goal.returns-in-CondBr-clause-lacks
-returns-in-CondBr-clause-lacks c = λ depth p drawn. c.emit_choice.ensures.lacks c.args.after.0 depth (subst (λ i. MembersPassed c.args.sink.now c.args.after.0 depth (branch_size i) (branch_cause c.args.sink.now.block_count depth i)) c.in-CondBr.is p)
