@@ -1,10 +1,16 @@
 -- The causes of an instruction that needs no facility, draws no label, and isn't one machine instruction.
-use Rattle.std.proofs.Common.{◌≡◌, ℕ, ◌+◌, ◌≤◌, true, None, refl, ap, ◌∙◌, arith, nat_lt, lt-ltb}
+use Rattle.std.proofs.Common.{◌≡◌, ℕ, ◌+◌, ◌≤◌, true, false, is_some, None, refl, ap, ◌∙◌, arith, nat_lt, lt-ltb}
 use Rattle.s390x_base.specs.declared.error.EmitError.TheVariants.{MissingFacility, LabelOutOfRange}
+use Rattle.s390x_base.specs.declared.regs.Reg.{Reg}
+use Rattle.s390x_inst.proofs.Loads.{each_instruction}
 use Rattle.s390x_inst.specs.Emission.{Emission}
 use Rattle.s390x_inst.specs.Facilities.{has_facility}
+use Rattle.s390x_inst.specs.Loads.{as_load, load_instruction}
+use Rattle.s390x_inst.specs.declared.args.MemArg.{MemArg}
 use Rattle.s390x_inst.specs.declared.inst.Inst.{Inst}
 use Rattle.s390x_inst.specs.declared.inst.Inst.TheVariants.{AllocateArgs}
+use Rattle.s390x_inst.specs.declared.load.LoadOp.{LoadOp}
+use Rattle.s390x_inst.specs.declared.load.LoadOp.TheVariants.{Load64}
 use Rattle.s390x_inst.specs.declared.state.IsaFlags.{IsaFlags}
 use Rattle.s390x_typed_steps.specs.Causes.{Declared, unless, facility_cause, stack_cause, numbers_cause, instruction_fresh_labels, cause_or, memory_cause_or, branch_cause, leaf_cause}
 use Rattle.s390x_typed_steps.specs.Memory.{memory}
@@ -13,6 +19,15 @@ use Rattle.s390x_typed_steps.specs.SingleInstruction.{single_instruction}
 use Rattle.s390x_emit_int.specs.Plain.{IsPlain, IsRegister}
 use Rattle.s390x_emit_int.proofs.Emitting.{both_none, leaf_none}
 use Rattle.s390x_emit_int.proofs.Single.{none_other}
+
+-- the last clause is a copy for each other load
+plain_load : (op : LoadOp) (rd : Reg) (mem : MemArg) → IsPlain (load_instruction op rd mem)
+plain_load Load64 rd mem = (refl, refl, refl)
+plain_load op rd mem = (refl, refl, refl)
+
+-- a load is such an instruction
+pub load_is_plain : (i : Inst) → is_some (as_load i) ≡ true → IsPlain i
+load_is_plain = each_instruction (λ i. is_some (as_load i) ≡ true → IsPlain i) (λ op rd mem h. plain_load op rd mem) (λ i e h. let none : is_some (as_load i) ≡ false = ap is_some e in absurd (cc))
 
 -- no label is drawn where all of them have numbers
 pub numbers_none : (n : ℕ) → n ≤ 4294967296 → numbers_cause n 0 ≡ None

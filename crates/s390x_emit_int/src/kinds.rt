@@ -4,14 +4,16 @@ ghost use Rattle.s390x_inst.specs.Facilities.{alu_facility};
 ghost use Rattle.s390x_inst.specs.declared.facility.InstructionSet.TheVariants.{Base};
 ghost use Rattle.s390x_typed_steps.specs.Memory.{memory};
 ghost use Rattle.s390x_emit_int.specs.Plain.{IsPlain, IsRegister};
-ghost use Rattle.s390x_emit_int.specs.declared.kinds.Kind.TheVariants.{Access, Branch, Register};
+ghost use Rattle.s390x_emit_int.specs.declared.kinds.Kind.TheVariants.{Load, Access, Branch, Register};
 
 use s390x_inst::{ALUOp, Inst};
 
 /// What emission knows of an instruction by its variant, and by the operator of an `AluRRR`.
 #[derive(Clone, Copy)]
 pub enum Kind {
-    /// A load into a general register, a store of one or of an immediate, or the load of an address.
+    /// A load into a general register.
+    Load,
+    /// A store of a general register or of an immediate, or the load of an address.
     Access,
     /// A branch to labels or to the address in a register.
     Branch,
@@ -41,14 +43,35 @@ fn is_base(op: ALUOp) -> bool
     )
 }
 
-// The kind of an instruction that is none of the accesses.
+// Whether it is a load of a general register.
 #[inline(always)]
-fn other_kind(inst: &Inst) -> Kind
+fn is_load(inst: &Inst) -> bool
+    ensures { result ≡ true → IsPlain inst.now }
+{
+    inst.as_load().is_some()
+}
+
+/// The kind of an instruction.
+#[inline(always)]
+pub fn kind_of(inst: &Inst) -> Kind
+    ensures load { result ≡ Load → IsPlain inst.now }
     ensures access { result ≡ Access → IsPlain inst.now }
     ensures branch { result ≡ Branch → IsPlain inst.now × (None ≡ memory inst.now) }
     ensures register { result ≡ Register → IsRegister inst.now }
 {
     match inst {
+        Inst::Store8 { .. }
+        | Inst::Store16 { .. }
+        | Inst::Store32 { .. }
+        | Inst::Store64 { .. }
+        | Inst::LoadAddr { .. }
+        | Inst::StoreRev16 { .. }
+        | Inst::StoreRev32 { .. }
+        | Inst::StoreRev64 { .. }
+        | Inst::StoreImm8 { .. }
+        | Inst::StoreImm16 { .. }
+        | Inst::StoreImm32SExt16 { .. }
+        | Inst::StoreImm64SExt16 { .. } => Kind::Access,
         Inst::AluRRR { alu_op, .. } => {
             if is_base(*alu_op) {
                 Kind::Register
@@ -70,45 +93,12 @@ fn other_kind(inst: &Inst) -> Kind
         | Inst::Mov32 { .. } => Kind::Register,
         Inst::Jump { .. } | Inst::CondBr { .. } | Inst::IndirectBr { .. } | Inst::Ret { .. } =>
             Kind::Branch,
-        _ => Kind::Other,
-    }
-}
-
-/// The kind of an instruction.
-#[inline(always)]
-pub fn kind_of(inst: &Inst) -> Kind
-    ensures access { result ≡ Access → IsPlain inst.now }
-    ensures branch { result ≡ Branch → IsPlain inst.now × (None ≡ memory inst.now) }
-    ensures register { result ≡ Register → IsRegister inst.now }
-{
-    match inst {
-        Inst::Load32 { .. }
-        | Inst::Load32ZExt8 { .. }
-        | Inst::Load32SExt8 { .. }
-        | Inst::Load32ZExt16 { .. }
-        | Inst::Load32SExt16 { .. }
-        | Inst::Load64 { .. }
-        | Inst::Load64ZExt8 { .. }
-        | Inst::Load64SExt8 { .. }
-        | Inst::Load64ZExt16 { .. }
-        | Inst::Load64SExt16 { .. }
-        | Inst::Load64ZExt32 { .. }
-        | Inst::Load64SExt32 { .. }
-        | Inst::Store8 { .. }
-        | Inst::Store16 { .. }
-        | Inst::Store32 { .. }
-        | Inst::Store64 { .. }
-        | Inst::LoadRev16 { .. }
-        | Inst::LoadRev32 { .. }
-        | Inst::LoadRev64 { .. }
-        | Inst::LoadAddr { .. }
-        | Inst::StoreRev16 { .. }
-        | Inst::StoreRev32 { .. }
-        | Inst::StoreRev64 { .. }
-        | Inst::StoreImm8 { .. }
-        | Inst::StoreImm16 { .. }
-        | Inst::StoreImm32SExt16 { .. }
-        | Inst::StoreImm64SExt16 { .. } => Kind::Access,
-        _ => other_kind(inst),
+        _ => {
+            if is_load(inst) {
+                Kind::Load
+            } else {
+                Kind::Other
+            }
+        }
     }
 }

@@ -30,7 +30,7 @@ use crate::arithmetic::three_row;
 use crate::causes::{branch_cause, label_cause, outer_cause, two_labels_cause};
 use crate::composite::emit_composite;
 use crate::kinds::{Kind, kind_of};
-use crate::memory::find_memory;
+use crate::memory::{find_memory, memory_of_load};
 use crate::single_instruction::find_single_instruction;
 use crate::stops::stop_code;
 use crate::symbol::emit_symbol_load;
@@ -372,6 +372,27 @@ fn emit_other(
     }
 }
 
+// The same, with a load of a general register asked first: its rows go to its access with no copy of them between.
+fn emit_load(
+    sink: &mut MachBuffer,
+    state: &EmitState,
+    depth: u32,
+    inst: &Inst,
+    after: MachLabel,
+) -> Result<(), EmitError>
+    requires single_instruction { None ≡ single_instruction inst.now }
+    requires room { HasRoom sink.old }
+    ensures answer { OnOk result ((memory_cause_or (declared_in sink.old) (memory (resolved_instruction state.now inst.now)) (branch_cause sink.old.block_count depth inst.now) ≡ None) × (sink.new ≡ apply_all sink.old (leaf_fragments (length sink.old.labels) after.0 (resolved_instruction state.now inst.now)))) }
+    ensures lacks { (flags : IsaFlags) → MembersPassed sink.old after.0 depth (instruction_size (resolved_instruction state.now inst.now)) (leaf_cause flags (declared_in sink.old) (length sink.old.labels) state.now.nominal depth (resolved_instruction state.now inst.now)) → LacksMemory result }
+    ensures range { OnOk result (InRange (resolved_instruction state.now inst.now)) }
+    ensures kept { Extends sink.old sink.new }
+{
+    match inst.as_load() {
+        Some(load) => emit_access(sink, state, &memory_of_load(&load)),
+        None => emit_other(sink, state, depth, inst, after),
+    }
+}
+
 // An instruction whose facility is there, and which the stack sizes and the labels allow, where no cause of its own refuses it.
 #[tactic(auto, using(s390x_buffer::proofs::Extending::extends_on, s390x_buffer::proofs::Extending::extends_same, crate::proofs::Single::no_single))]
 fn emit_allowed(
@@ -452,6 +473,7 @@ pub fn emit_leaf(
 {
     count_labels(sink);
     match kind_of(inst) {
+        Kind::Load => emit_load(sink, state, depth, inst, after),
         Kind::Access => emit_other(sink, state, depth, inst, after),
         Kind::Branch => emit_place(sink, depth, inst, after),
         Kind::Register => emit_register(sink, depth, inst, after),

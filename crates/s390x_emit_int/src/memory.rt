@@ -1,9 +1,10 @@
 //! Instructions with a memory operand: their machine rows.
-ghost use Rattle.std.specs.Prelude.{◌≡◌, ◌&&◌, if◌then◌else◌, true, Some, IfSome};
+ghost use Rattle.std.specs.Prelude.{◌≡◌, ◌&&◌, if◌then◌else◌, true, None, Some, IfSome};
 ghost use Rattle.std.specs.Option.{option_map};
 ghost use Rattle.s390x_address.specs.Rows.{memory_instruction_of, storage_form_of, relative_encodes, rows_encode, may_encode, rows_take_general, has_12_bits};
+ghost use Rattle.s390x_inst.specs.Loads.{as_load, by_load};
 ghost use Rattle.s390x_typed_steps.specs.General.{low_byte, low_halfword};
-ghost use Rattle.s390x_typed_steps.specs.Memory.{load, load_memory, other_memory, store, store_immediate, SiForm, SilForm, is_range, multiple, load_and_operate, compare_and_swap, memory};
+ghost use Rattle.s390x_typed_steps.specs.Memory.{load, load_memory, store, store_immediate, SiForm, SilForm, is_range, multiple, load_and_operate, compare_and_swap, memory};
 ghost use Rattle.s390x_typed_steps.specs.Storage.{alu_rx, alu_rxy, cmp_rx, cmp_rxy, cmp_ril, atomic_rsy};
 
 use crate::registers::{is_reused, two_general};
@@ -26,12 +27,12 @@ fn access(
     rxy: Option<u16>,
     ril: Option<u16>,
     operand: &MemArg,
-) -> Option<MemoryInst>
+) -> MemoryInst
     requires { (rows_take_general rx && rows_take_general rxy && has_12_bits ril) ≡ true }
-    ensures row { option_map memory_instruction_of result ≡ if stores then store register rx rxy ril operand.now else load register rx rxy ril operand.now }
-    ensures encodes { IfSome result (λ x. may_encode x ≡ true) }
+    ensures row { Some (memory_instruction_of result) ≡ if stores then store register rx rxy ril operand.now else load register rx rxy ril operand.now }
+    ensures encodes { may_encode result ≡ true }
 {
-    Some(MemoryInst {
+    MemoryInst {
         rows: StorageRows::OneRegister {
             register,
             rx,
@@ -42,13 +43,14 @@ fn access(
         accesses: true,
         operands_valid: general(&register),
         reads_scratch: stores && is_numbered(1, &register),
-    })
+    }
 }
 
-// A load into a register, which is written alone.
-fn load(load: &Load) -> Option<MemoryInst>
-    ensures row { option_map memory_instruction_of result ≡ load_memory load.now }
-    ensures encodes { IfSome result (λ x. may_encode x ≡ true) }
+/// The machine rows and the operand of a load into a register, which is written alone.
+#[inline(always)]
+pub fn memory_of_load(load: &Load) -> MemoryInst
+    ensures row { Some (memory_instruction_of result) ≡ load_memory load.now }
+    ensures encodes { may_encode result ≡ true }
 {
     let rows = rows_of_load(load.op);
     access(
@@ -73,7 +75,7 @@ fn store(
     ensures row { option_map memory_instruction_of result ≡ store rd.now rx rxy ril operand.now }
     ensures encodes { IfSome result (λ x. may_encode x ≡ true) }
 {
-    access(true, *rd, rx, rxy, ril, operand)
+    Some(access(true, *rd, rx, rxy, ril, operand))
 }
 
 // The address of the operand.
@@ -401,9 +403,20 @@ fn compare_and_swap(
     })
 }
 
-// An access of an operand that is no load of one register.
-fn find_other_memory(inst: &Inst) -> Option<MemoryInst>
-    ensures row { option_map memory_instruction_of result ≡ other_memory inst.now }
+// A load of one register.
+fn find_load(inst: &Inst) -> Option<MemoryInst>
+    ensures row { option_map memory_instruction_of result ≡ by_load load_memory None (as_load inst.now) }
+    ensures encodes { IfSome result (λ x. may_encode x ≡ true) }
+{
+    match inst.as_load() {
+        Some(found) => Some(memory_of_load(&found)),
+        None => None,
+    }
+}
+
+/// The machine rows and the operand of an instruction with a memory operand, where it is one.
+pub fn find_memory(inst: &Inst) -> Option<MemoryInst>
+    ensures row { option_map memory_instruction_of result ≡ memory inst.now }
     ensures encodes { IfSome result (λ x. may_encode x ≡ true) }
 {
     match inst {
@@ -444,17 +457,6 @@ fn find_other_memory(inst: &Inst) -> Option<MemoryInst>
             mem,
         ),
         Inst::AtomicCas64 { rd, ri, rn, mem } => compare_and_swap(None, 0xeb30, rd, ri, rn, mem),
-        _ => None,
-    }
-}
-
-/// The machine rows and the operand of an instruction with a memory operand, where it is one.
-pub fn find_memory(inst: &Inst) -> Option<MemoryInst>
-    ensures row { option_map memory_instruction_of result ≡ memory inst.now }
-    ensures encodes { IfSome result (λ x. may_encode x ≡ true) }
-{
-    match inst.as_load() {
-        Some(found) => load(&found),
-        None => find_other_memory(inst),
+        _ => find_load(inst),
     }
 }

@@ -10,6 +10,15 @@ use Rattle.s390x_emit_int.proofs.Resolving.{single_resolved, no_memory, fragment
 use Rattle.s390x_emit_int.proofs.Single.{none_fragments}
 use Rattle.s390x_emit_int.proofs.leaf.emit_leaf.Goals as goal
 
+pub returns-in-Load-clause-answer : goal.returns-in-Load-clause-answer
+returns-in-Load-clause-answer c =
+    let s = c.args.sink.now in
+    let plain = c.kind_of.ensures.load c.in-Load.is in
+    on_ok c.emit_load.result c.emit_load.ensures.answer (λ h. (leaf_plain c.args.flags c.args.state.now (declared_in s) (length s.labels) c.args.state.now.nominal c.args.depth c.args.inst.now plain c.count_labels.ensures h.0, h.1))
+
+pub returns-in-Load-clause-lacks : goal.returns-in-Load-clause-lacks
+returns-in-Load-clause-lacks c = c.emit_load.ensures.lacks c.args.flags
+
 pub returns-in-Access-clause-answer : goal.returns-in-Access-clause-answer
 returns-in-Access-clause-answer c =
     let s = c.args.sink.now in
