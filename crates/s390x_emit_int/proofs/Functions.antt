@@ -10,7 +10,7 @@ use Rattle.s390x_typed_steps.specs.Steps.{Step as TypedStep, step_count, steps_o
 use Rattle.s390x_typed_steps.specs.MachineInstruction.{ril_b, ril_c, bytes_of}
 use Rattle.s390x_typed_steps.specs.Parts.{CodePart, Row, Trapping, Branch, Relative, RelativeConstant, RelativeSymbol, SymbolValue, TrapHere, TableWord, ToBlock, ToStep, table_words, instruction_parts, step_size, CallSymbol, SiteHere, step_parts}
 use Rattle.s390x_typed_steps.specs.Rows.{Offsets}
-use Rattle.s390x_typed_steps.specs.Image.{step_offset, code, step_offsets, block_offsets}
+use Rattle.s390x_typed_steps.specs.Image.{step_offset, code, block_offsets}
 use Rattle.s390x_typed_steps.specs.Sizes.{tree_size, blocks_size}
 use Rattle.s390x_typed_steps.specs.Causes.{fresh_labels, body_fresh_labels}
 use Rattle.s390x_emit_int.specs.Fragments.{Fragment, apply, apply_all, Put, PutTrapping, PutReloc, Link, LinkConstant, StartStep, Draw, Bind, AddSite, RecordBranch}
@@ -20,7 +20,6 @@ use Rattle.s390x_emit_int.specs.Bound.{StepsFollow, TreesName, AllBound}
 use Rattle.s390x_emit_int.proofs.Runs.{Grows, run-append, tree_grows, length-branch, length-relative}
 use Rattle.s390x_emit_int.proofs.Joining.{Agrees, resolve-append, put_append, tree_put, steps_total, steps_length, code_append, follows_left, follows_right, follows_end, tree_join}
 use Rattle.s390x_emit_int.proofs.Binding.{Tells, tree_bound}
-use Rattle.s390x_emit_int.proofs.Starts.{marks, marks_append, tree_marks, places_more}
 
 -- each use has its bytes
 wide_append : (a b : List Fragment) → Wide a → Wide b → Wide (a ++ b)
@@ -167,19 +166,6 @@ function_join (t ∷ ts) off P blocks constants n b k agree names bound follow z
     ∙ ap (λ l. code P k (steps_of k 0 t) ++ l) there
     ∙ ap (λ m. code P k (steps_of k 0 t) ++ code P m (steps_from k2 ts)) (sym (ap (λ m. k + m) (steps_length t k 0)))
     ∙ sym (code_append P (steps_of k 0 t) (steps_from k2 ts) k)
-
-pub function_marks : (ts : List Tree) (at : ℕ → ℕ) (n b k : ℕ) → StepsFollow at k (steps_from k ts) → marks (at k) (function_fragments n b ts) ≡ step_offsets at k (steps_from k ts)
-function_marks [] at n b k follow = refl
-function_marks (t ∷ ts) at n b k follow =
-    let v = next_block t ts at k follow in
-    let rest = function_fragments (n + fresh_labels t) (b + 1) ts in
-    let k2 = k + step_count t in
-    marks_append (fragments n 0 t) rest (at k)
-    ∙ ap (λ m. marks (at k) (fragments n 0 t) ++ marks (at k + m) rest) (tree_put n 0 t)
-    ∙ ap (λ m. marks (at k) (fragments n 0 t) ++ marks m rest) (sym v.0)
-    ∙ ap (λ l. l ++ marks (at k2) rest) (tree_marks t at n 0 k 0 (follows_left at (steps_of k 0 t) (steps_from k2 ts) k follow))
-    ∙ ap (λ l. step_offsets at k (steps_of k 0 t) ++ l) (function_marks ts at (n + fresh_labels t) (b + 1) k2 v.1)
-    ∙ sym (places_more at (steps_of k 0 t) (steps_from k2 ts) k k2 (ap (λ m. k + m) (steps_length t k 0)))
 
 -- a block's label is at its first step
 pub block_at : (ts : List Tree) (off at : ℕ → ℕ) (n b k j : ℕ) → AllBound off n b (at k) ts → StepsFollow at k (steps_from k ts) → j < length ts → off (b + j) ≡ at (k + first_step ts j)

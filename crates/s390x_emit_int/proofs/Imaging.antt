@@ -30,8 +30,8 @@ use Rattle.s390x_emit_int.specs.Function.{IsFinishedCode, tree_of}
 use Rattle.s390x_emit_int.proofs.Runs.{run-append}
 use Rattle.s390x_emit_int.proofs.Patching.{patched, patched_run, all_left, length-patch_all, within_more, within_append}
 use Rattle.s390x_emit_int.proofs.Names.{all_names}
-use Rattle.s390x_emit_int.proofs.Starts.{Same, same_run, starts_run, marks}
-use Rattle.s390x_emit_int.proofs.Functions.{function_wide, TellsBlocks, all_bound, function_join, function_marks, block_at, blocks_upto, places_upto, place_follows, place_zero, bound_state, block_state, block_labels, block_kept, longer, function_put}
+use Rattle.s390x_emit_int.proofs.Starts.{Same, same_run, starts_run, marks, function_marks}
+use Rattle.s390x_emit_int.proofs.Functions.{function_wide, TellsBlocks, all_bound, function_join, block_at, blocks_upto, places_upto, place_follows, place_zero, bound_state, block_state, block_labels, block_kept, longer, function_put}
 use Rattle.s390x_emit_int.proofs.Constants.{middle_label}
 use Rattle.s390x_emit_int.proofs.Relocating.{relocated, relocs_run, function_relocated}
 use Rattle.s390x_emit_int.proofs.Recording.{recorded, traps_run, function_recorded}

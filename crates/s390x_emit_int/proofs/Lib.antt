@@ -18,6 +18,7 @@ pub mod Joining
 pub mod Lacking
 pub mod Plain
 pub mod Leaves
+pub mod Collecting
 pub mod Starts
 pub mod Recording
 pub mod Siting
