@@ -13,9 +13,10 @@ pub fn six_bytes(code: &Code) -> [u8; 6]
     requires { length code.now ≡ 6 }
     ensures { result ≡ code.now }
 {
-    let mut bytes = [0; 6];
-    bytes.copy_from_slice(code.bytes());
-    bytes
+    match code.bytes() {
+        [a, b, c, d, e, f] => [*a, *b, *c, *d, *e, *f],
+        _ => unreachable!(),
+    }
 }
 
 /// Whether so many bytes from a start end here.
