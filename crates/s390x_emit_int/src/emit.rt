@@ -211,10 +211,7 @@ impl MachInstEmit for Inst {
             return Err(EmitError::Failed);
         }
         match emit_in(alloc, emit_info.isa_flags, sink, state, self) {
-            Ok(()) => {
-                state.clear_post_insn();
-                Ok(())
-            }
+            Ok(()) => Ok(()),
             Err(error) => {
                 sink.fail();
                 Err(error)
