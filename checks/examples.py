@@ -20,7 +20,7 @@ BEGIN, END = "<!-- the examples begin -->", "<!-- the examples end -->"
 OBJDUMP = shutil.which("s390x-linux-gnu-objdump")
 SHOWN = {
     "loop.job": "A loop: adds until the sum is zero.",
-    "try_call.job": "A call with two results, one of them on the stack, and a handler for the tag 7. The last doubleword of `symbol` lies where BASE puts it: here 8192 - 4096 - 4 bytes on.",
+    "try_call.job": "A call of a symbol with two results, one of them on the stack, and block 2 as the handler for the tag 7 (`emit` writes the table of handlers).",
     "large_offset.job": "A large offset: the load's needs `%r1`, the store's has room in the row.",
     "jump_table.job": "A jump by a table of words behind the branch, each a block's distance from the table.",
     "vector_add.job": "Four sums of 32 bits.",
@@ -63,7 +63,7 @@ def part():
         lines += [f"### {name}", "", said, "", f"    ./s390x {words} < examples/{name}", ""]
         lines += ["    " + line for line in text.splitlines()] + [""]
         if re.fullmatch(r"[0-9a-f]+\n", wanted):
-            lines += ["", "```text", *(listing(wanted.strip()) if OBJDUMP else ["(no objdump)"]), "```", ""]
+            lines += ["```text", *(listing(wanted.strip()) if OBJDUMP else ["(no objdump)"]), "```", ""]
         else:
             lines += ["writes", ""] + ["    " + line for line in wanted.splitlines()] + [""]
     return lines, differences

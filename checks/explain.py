@@ -191,7 +191,7 @@ class Fields:
         def fault(item):
             found = re.fullmatch(r"([^=]*)=([^:]*):(.*)", item)
             if not found:
-                return f"{item} is no result, as %r2=%r2:I64 or %r2=@160:I64"
+                return f"{item} is no result, as %r2=%r2:I64 or %r2=@8:I64"
             at = number_fault(found[2][1:], -(2**63), 2**63 - 1) if found[2].startswith("@") else self.reg(found[2])
             return self.reg(found[1]) or at or self.fault("TYPE", found[3])
         return self.items(text, fault)
