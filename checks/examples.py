@@ -27,7 +27,7 @@ SHOWN = {
     "constant.job": "A constant, which stands behind the code on its boundary.",
     "trap.job": "Traps: a comparison that traps, a trap under a condition, and one that always comes. `emit` writes the table of their codes.",
     "spill.plan": "A plan with a spill: `alloc` writes the job with the plan's registers, with a store into slot 0 and a load from it.",
-    "mutual.functions": "Two functions that call each other, by `bundle 4096`.",
+    "mutual.functions": "Two functions that call each other in place of returning, by `bundle 4096`: each is 1 or 0 for an even or an odd number. `la` takes the frame down, which here is none.",
 }
 
 

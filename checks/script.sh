@@ -150,17 +150,42 @@ RT=$room/none "$copy/s390x" --try image 4096 < /dev/null > "$room/out" 2> "$room
 status=$?
 want "--try without rt" 1 "there is no command rt"
 
-# The examples and wrong inputs by an unproved build
-tried() {
-    local file=$1 wanted=$2 said=$3
-    grep -qF -- "$said" <(sed -n "/^== $file\$/,/^== /p" "$room/all") || { failed=$((failed + 1)) && echo "$file isn't told: $said"; }
-    passed=$((passed + 1))
+# By unproved builds: the commands of README.md, and what the program itself says of wrong inputs and of refusals.
+given() {
+    printf "$2" > "$room/wrong/$1"
+}
+told() {
+    sed -n "/ of $(sed 's/[^^a-zA-Z]/\\&/g' <<< "$room/wrong/$1"), which/,/ which ended/p" "$room/all" > "$room/err"
+    status=0
+    want "--try of $1" 0 "$2"
 }
 if [ "${1-}" = --try ]; then
     "$root/s390x" --try tour > "$room/out" 2> "$room/err"
     status=$?
     want tour 0 ""
-    grep -c '^\$ ' "$room/out" | sed 's/$/ commands of README.md ran in one build/'
+    commands=$(grep -c '^\$ ' "$room/out")
+    [ "$commands" -ge 9 ] || { echo "only $commands commands of README.md ran" && failed=$((failed + 1)); }
+    mkdir "$room/wrong"
+    given tab 'block\nRet\t%%r14\nend\n'
+    given operator 'block\nAluRRR Add65 %%r2 %%r3 %%r4\nend\n'
+    given endloop 'block\nLoop 7\nCondBreak 8\nend\n'
+    given end 'block\nRet %%r14\n'
+    given facility 'block\nMov64 %%r2 %%r3\nLoop 7\nCondBreak 8\nAluRRR NotAnd64 %%r2 %%r3 %%r4\nendloop\nRet %%r14\nend\n'
+    given row 'block\nMov64 %%r2 %%r3\nblock\nAluRSImm16 And64 %%r2 %%r2 1\nRet %%r14\nend\n'
+    given label 'block\nRet %%r14\nblock\nJump 7\nend\n'
+    given class 'block\nMov64 %%r2 %%v3\nRet %%r14\nend\n'
+    given constant 'const 3 00\nblock\nRet %%r14\nend\n'
+    "$root/s390x" --try image 4096 "$room"/wrong/* > "$room/out" 2> "$room/all"
+    told tab "line 2: Ret^I%r14"
+    told operator "the nearest is Add64"
+    told endloop "a line \`endloop\` is lacking"
+    told end "lacks a line \`end\`"
+    told facility "block 0, instruction 1.1 (both counted from 0), line 5"
+    told facility "has to name mie3"
+    told row "AluRSImm16 takes Add32"
+    told label "block 1, instruction 0 (both counted from 0), line 4: Jump 7"
+    told class "line 2: Mov64 %r2 %v3"
+    told constant "no instruction has it"
 fi
 
 echo "$passed passed, $failed failed"
