@@ -7,7 +7,7 @@
     checks/explain.py tried LINE INPUT OUTPUT NAME WORDS..   as `answer`, by what `rt try` wrote for these cases
 
 The forms of lines are read from docs/JOBS.md. It judges nothing: the program has judged, and this looks for the reason. With the variable
-REFUSAL, a command, it asks that for the place of a refusal, and else lets the program judge parts of the input.
+REFUSAL, the second program, it asks that for the place of a refusal, and else lets the program judge parts of the input.
 """
 import difflib
 import os
@@ -493,8 +493,8 @@ OTHER_PLACES = {
 
 def by_second_program(page, name, job, text):
     """What the command `refusal` says of the place; none where it isn't there, or knows no place."""
-    command = os.environ.get("REFUSAL", "").split()
-    told = re.fullmatch(r"refusal (\w+) (?:block (\d+) (?:inst ([\d.]+)|end)|start|length)", ask(command, text)) if command else None
+    program = os.environ.get("REFUSAL")
+    told = program and re.fullmatch(r"refusal (\w+) (?:block (\d+) (?:inst ([\d.]+)|end)|start|length)", ask([program, "refusal"], text))
     if not told or told[1] != name:
         return None
     if told[2] is None:
