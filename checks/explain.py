@@ -25,7 +25,7 @@ COMMANDS = {
     "bundle": [BASE], "alloc": [],
 }
 # Of a function whose instructions are more, only so many parts are tried without a proof.
-MOST_PARTS = 60
+MOST_PARTS = 20
 NUMBER = re.compile(r"0|[1-9][0-9]*")
 SIGNED = re.compile(r"0|-?[1-9][0-9]*")
 FACILITIES = ["mie3", "mie4", "vxrs_ext2", "vxrs_ext3", "norel"]
