@@ -24,6 +24,10 @@ COMMANDS = {
     "smp": [BASE, ("WORD", 0, 2**64 - 1), ("P", 1, 64), STEPS, ("START", 0, 2**32 - 1)],
     "bundle": [BASE], "alloc": [],
 }
+# Those of the second program, where it is there.
+with open(os.path.join(ROOT, "crates.txt"), encoding="utf-8") as listed:
+    if re.search(r"^s390x_binary:", listed.read(), re.M):
+        COMMANDS |= {"refusal": [], "verify": [BASE]}
 # Of a function whose instructions are more, only so many parts are tried without a proof.
 MOST_PARTS = 20
 NUMBER = re.compile(r"0|[1-9][0-9]*")
@@ -265,7 +269,7 @@ class Text:
             if name in HEADS:
                 self.head, self.last = HEADS.index(name), line
             elif name == "end":
-                self.place = {"bundle": "functions", "alloc": "plan"}.get(self.command, "end")
+                self.place = {"bundle": "functions", "alloc": "plan", "verify": "hex"}.get(self.command, "end")
             elif name == "block":
                 self.place = "block"
             self.depth += (name == "Loop") - (name == "endloop")
@@ -316,6 +320,8 @@ class Text:
             return "nothing stands behind the last line"
         if self.place == "functions":
             return None if name in ("function", "close") else "a line `function uN` or `close` has to stand here"
+        if self.place == "hex":
+            return "behind `end` stand lines of hex digits, two for each byte"
         if self.place == "plan":
             return None if name == "plan" else "a line `plan` has to stand behind `end`"
         if self.place == "blocks":
@@ -491,10 +497,9 @@ OTHER_PLACES = {
 }
 
 
-def by_second_program(page, name, job, text):
-    """What the command `refusal` says of the place; none where it isn't there, or knows no place."""
-    program = os.environ.get("REFUSAL")
-    told = program and re.fullmatch(r"refusal (\w+) (?:block (\d+) (?:inst ([\d.]+)|end)|start|length)", ask([program, "refusal"], text))
+def told_place(page, name, job, answer):
+    """What the line of the command `refusal` says of the place; none where it has another cause or knows no place."""
+    told = re.fullmatch(r"refusal (\w+) (?:block (\d+) (?:inst ([\d.]+)|end)|start|length)", answer)
     if not told or told[1] != name:
         return None
     if told[2] is None:
@@ -508,8 +513,9 @@ def by_second_program(page, name, job, text):
 def refused(page, answer, words, lines, is_refused):
     """Where the program refuses a job."""
     name, job = answer.split(" ")[1], Job(lines)
-    if words[0] not in ("operands", "alloc"):
-        if said := by_second_program(page, name, job, "\n".join(lines) + "\n"):
+    second = os.environ.get("REFUSAL")
+    if second and words[0] != "operands":
+        if said := told_place(page, name, job, ask([second, "refusal"], "\n".join(lines) + "\n")):
             return said
     return place_of(page, name, job, job.first_refused(is_refused(job)))
 
@@ -583,6 +589,8 @@ def explained(answer, path, words, is_refused, program):
         return of_plan(answer, lines)
     if answer.startswith("bundle "):
         return of_bundle(page, answer, lines, program)
+    if answer.startswith("refusal "):
+        return told_place(page, answer.split(" ")[1], Job(lines), answer) or []
     if answer.startswith("refused ") and is_refused:
         return refused(page, answer, words, lines, is_refused)
     return []

@@ -112,6 +112,24 @@ chmod +x "$copy/crates/s390x_binary/out/s390x_binary"
 run image 4096
 want "the second program's place" 4 "block 0, instruction 0 (both counted from 0), line 2: Mov64 %r2 %r3"
 rm -r "$copy/crates/s390x_binary"
+answers "2 usage"
+run refusal
+want "no second program" 2 "refusal is no command"
+echo "s390x_binary:" >> "$copy/crates.txt"
+mkdir -p "$copy/crates/s390x_binary/out"
+cp "$copy/crates/s390x/out/s390x" "$copy/crates/s390x_binary/out/s390x_binary"
+: > "$copy/crates/s390x_binary/out/where"
+echo "4 refusal BadRegister block 1 inst 0.1" > "$copy/crates/s390x_binary/out/answer"
+run refusal
+want "refusal" 4 "block 1, instruction 0.1 (both counted from 0), line 6"
+echo "13 differs 4" > "$copy/crates/s390x_binary/out/answer"
+run verify 4096
+want "verify" 13 "4 is the first byte"
+echo "2 usage" > "$copy/crates/s390x_binary/out/answer"
+run verify 0x1000
+want "the words of verify" 2 "in decimal it is 4096"
+rm -r "$copy/crates/s390x_binary"
+cp "$root/crates.txt" "$copy/"
 
 # How it ends
 for line in "6 read fault|standard input can't be read" "7|doesn't take what is written" "8 input too long|more than 16777216 bytes" "9 no memory|not enough memory"; do
