@@ -393,6 +393,8 @@ class Text:
         if name == "mem":
             if found[1] == "-":
                 return "a region has a byte at least"
+            if int(found[0]) + len(found[1]) // 2 > 2**64:
+                return "a region ends at 2^64 at most"
             return before and "regions rise, and none reaches into the next"
         return None
 
@@ -408,7 +410,7 @@ class Text:
                 return f"{place} is no place, a real register or s0 to s65535: {fault}"
         if name == "entry":
             return self.fields.reg(found[0].partition("=")[2]) or "pairs stand before the edits of their block"
-        return self.fields.items(found[0], self.fields.reg) if name == "step" else "a line `block` comes first"
+        return (name == "step" and self.fields.items(found[0], self.fields.reg)) or "a line `block` comes first"
 
 
 class Job:
