@@ -45,7 +45,7 @@ def layouts():
     found = {}
     for name, body in re.findall(r"pub const (\w+)_PARTS: \[Part; \d+\] = \[(.*?)\];", read("kind.rt"), re.S):
         parts = re.findall(r"slot: (\w+), low: (\d+), width: (\d+)", body)
-        found[name.replace("_", "").lower()] = [(slot, int(low), int(width)) for slot, low, width in parts]
+        found[name.replace("_", "").lower()] = tuple((slot, int(low), int(width)) for slot, low, width in parts)
     return found
 
 
