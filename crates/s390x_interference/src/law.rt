@@ -27,7 +27,7 @@ pub fn scheduled_retry_loops()
     ensures { (w v : World) (ps : List ℕ) (end : ScheduleEnd) → EndsAs w ps end v → Guarded w ps end v }
 {}
 
-/// Each instruction on registers and immediates that can't stop is register work.
+/// Each instruction without an operand in memory that can't stop and goes on to the next one is register work.
 pub fn listed_instructions_are_register_work()
     ensures { (L : Layout) (i : Inst) → IsTrue (is_register_work i) → IsRegisterWork (instruction_kind L i) }
 {}
