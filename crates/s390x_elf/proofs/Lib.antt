@@ -1,0 +1,7 @@
+pub mod Parts
+pub mod Files
+pub mod Places
+pub mod Tables
+pub mod Linked
+pub mod Objects
+pub mod Finished
