@@ -221,7 +221,7 @@ def example(folder, unproved):
         "clang": ["clang", "--target=s390x-linux-gnu"],
     }
     wrong = 0
-    for linker in ([TOOLS + "ld"], ["ld.lld", "-m", "elf64_s390"]):
+    for linker in ([TOOLS + "ld"], [newest_lld(), "-m", "elf64_s390"]):
         wrong += runs(folder, linker, [mains["main"], paths[EXAMPLE.index("apply_twice")]], "main.s")
         for name, words in compilers.items():
             path = os.path.join(folder, name + ".o")
@@ -230,14 +230,21 @@ def example(folder, unproved):
     return wrong
 
 
+def newest_lld():
+    """LLVM's linker, which knows s390x from its version 18 on."""
+    for name in [f"ld.lld-{version}" for version in range(30, 17, -1)] + ["ld.lld"]:
+        if shutil.which(name):
+            return name
+    raise SystemExit("no ld.lld")
+
+
 def runs(folder, linker, paths, what):
     """Whether what a linker makes of objects ends with 0 on the emulator, and says nothing wrong."""
     out = os.path.join(folder, "program")
     done = subprocess.run(linker + ["-o", out] + paths, stdout=subprocess.PIPE, stderr=subprocess.STDOUT, text=True)
     if done.returncode:
         print(f"{what}: {linker[0]} can't link it: {done.stdout.strip().splitlines()[-1]}")
-        # LLVM's linker knows s390x from its version 18 on.
-        return 0 if linker[0] == "ld.lld" and "unknown emulation" in done.stdout else 1
+        return 1
     ran = subprocess.run(["qemu-s390x", out], stdout=subprocess.PIPE, stderr=subprocess.STDOUT, text=True)
     good = ran.returncode == 0 and "WRONG" not in ran.stdout
     print(f"{what}: linked by {linker[0]}, {'runs' if good else 'runs wrong'}")
@@ -246,9 +253,37 @@ def runs(folder, linker, paths, what):
     return 0 if good else 1
 
 
+# What the first program refuses at a base, and linkers may take: the words, the job.
+REFUSED = {
+    "a branch 5 GiB ahead": "symbol u1 5368775680\nblock\nCall %r14 u1 [] [] [] 0 SystemV SystemV - false -\nRet %r14\nend\n",
+    "an address with an odd offset": "symbol u1 131072\nblock\nLoadAddr %r2 Symbol(u1,1,u)\nRet %r14\nend\n",
+    "a symbol plus an addend above 2^64": "symbol u1 18446744073709551615\nblock\nLoadSymbolReloc %r2 Absolute(u1,8)\nRet %r14\nend\n",
+}
+
+
+def show_differences(folder, unproved):
+    """Prints what linkers do with what `image` refuses."""
+    base = 65536
+    texts = list(REFUSED.values())
+    objects = run_binary([(["object", "f"], text) for text in texts], unproved, os.path.join(folder, "refused"))
+    told = run_first([(["image", str(base)], text) for text in texts], unproved, os.path.join(folder, "refused_images"))
+    for what, text, body, (status, line) in zip(REFUSED, texts, objects, told):
+        print(f"{what}: here {line.strip() if status else 'linked'}", end="")
+        path = os.path.join(folder, "refused.o")
+        with open(path, "wb") as file:
+            file.write(body or b"")
+        for linker in ([TOOLS + "ld"], [newest_lld(), "-m", "elf64_s390"]):
+            words = linker + ["-e", "0", f"-Ttext={base:#x}", "-o", os.path.join(folder, "out"), path]
+            words += [f"--defsym={symbol}={address:#x}" for symbol, address in symbols_of(text).items()]
+            done = subprocess.run(words, stdout=subprocess.PIPE, stderr=subprocess.PIPE)
+            print(f"; {linker[0]} {'refuses' if done.returncode else 'links'} it", end="")
+        print()
+
+
 def compare(options, rng, jobs, bundles):
     with tempfile.TemporaryDirectory() as folder:
         wrong = example(folder, options.unproved)
+        show_differences(folder, options.unproved)
         bases = [drawn_base(rng) for _ in jobs]
         bundle_bases = [drawn_base(rng) for _ in bundles]
         names = [f"f{i}" for i in range(len(jobs))]

@@ -3,5 +3,6 @@ pub mod Files
 pub mod Places
 pub mod Tables
 pub mod Linked
-pub mod Objects
+pub mod ReadObject
 pub mod Finished
+pub mod Steps

@@ -1,5 +1,5 @@
 -- What an object of finished code is, by reading it.
-use Rattle.std.specs.Prelude.{◌≡◌, ℕ, suc, ◌+◌, Option, Some, None, option_map, is_some, Bool, true, false, cond, codes, List, [], ◌∷◌, ◌++◌, length, map}
+use Rattle.std.specs.Prelude.{◌≡◌, ℕ, suc, ◌+◌, Option, Some, None, option_map, is_some, Bool, true, false, cond, codes, List, [], ◌∷◌, ◌++◌, length, map, string_bytes}
 use Rattle.std.specs.List.{All, flat_map}
 use Rattle.std.specs.Str.{bytes_eq}
 use Rattle.s390x_base.specs.declared.ir.Reloc.{Reloc}
@@ -8,7 +8,8 @@ use Rattle.s390x_buffer.specs.declared.entries.RelocEntry.{RelocEntry}
 use Rattle.s390x_buffer.specs.declared.entries.MachBufferFinalized.{MachBufferFinalized}
 use Rattle.s390x_image.specs.Symbols.{Symbols, address_of}
 use Rattle.s390x_image.specs.Fields.{filled}
-use Rattle.s390x_image.specs.Causes.{link_cause}
+use Rattle.s390x_image.specs.Causes.{link_cause, relocs_cause}
+use Rattle.s390x_elf.specs.declared.symbols.TextFunction.{TextFunction}
 use Rattle.s390x_elf.specs.File.{FileHeader, file_header, Section, sections}
 use Rattle.s390x_elf.specs.Symbols.{Symbol, null_symbol, Relocation, named_section, symbol_table, symbols_of, relocations_for}
 use Rattle.s390x_elf.specs.Linking.{fits_at, linked_text}
@@ -119,8 +120,18 @@ name_address base others (f ∷ fs) name = cond (bytes_eq name f.name) (base + f
 abbrev pub Agrees : (address : List ℕ → ℕ) → Symbols → List RelocEntry → Type 0
 Agrees address table rs = All (λ (r : RelocEntry). address_of table r.name ≡ Some (address (symbol_name r.name))) rs
 
+-- linked at any base where no relocation has a cause of linking, each value fits its field, and the text is what the relocations fill in
+abbrev pub IsLinkedAsFilled : (fs : List Function) (bytes : List ℕ) (rs : List RelocEntry) (file : List ℕ) → Type 0
+IsLinkedAsFilled fs bytes rs file =
+    (base : ℕ) (others : List ℕ → ℕ) (table : Symbols) → Agrees (name_address base others fs) table rs → relocs_cause base table rs ≡ None →
+    All (λ (r : Relocation). fits_at base others r ≡ true) (relocations_for (sections file) (codes ".text")) × (linked_text file base others ≡ filled base table rs bytes)
+
 -- linked at any base where `link` has no cause, each value fits its field, and the text is `link`'s image
 abbrev pub IsLinkedAsImage : (name : List ℕ) (code : MachBufferFinalized) (file : List ℕ) → Type 0
 IsLinkedAsImage name code file =
     (base : ℕ) (others : List ℕ → ℕ) (table : Symbols) → Agrees (name_address base others (whole_function name code)) table code.relocs.items → link_cause code base table ≡ None →
     All (λ (r : Relocation). fits_at base others r ≡ true) (relocations_for (sections file) (codes ".text")) × (linked_text file base others ≡ filled base table code.relocs.items code.bytes.items)
+
+-- a function as the program has it
+abbrev pub function_of : TextFunction → Function
+function_of f = record { name = string_bytes f.name; start = f.start; size = f.size }

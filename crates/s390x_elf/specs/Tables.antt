@@ -11,16 +11,16 @@ use Rattle.s390x_elf.specs.Reading.{IsText}
 use Rattle.s390x_elf.specs.File.{Section}
 use Rattle.s390x_elf.specs.Symbols.{Symbol, null_symbol}
 use Rattle.s390x_elf.specs.Names.{symbol_name}
-use Rattle.s390x_elf.specs.Object.{function_symbol, undefined_symbol, place, type_of, string_table, text_section, stack_note}
+use Rattle.s390x_elf.specs.Object.{Function, function_symbol, undefined_symbol, place, type_of, string_table, text_section, stack_note}
 use Rattle.s390x_elf.specs.Writing.{fields_bytes, string_section}
 
 -- a global symbol as the program has it
-abbrev pub symbol_with : List ℕ → Option Extent → Symbol
-symbol_with name None = undefined_symbol name
-symbol_with name (Some e) = function_symbol (record { name = name; start = e.start; size = e.size })
+abbrev pub symbol_at : Option Extent → Symbol
+symbol_at None = undefined_symbol []
+symbol_at (Some e) = function_symbol (record { name = []; start = e.start; size = e.size })
 
 abbrev pub symbol_of : GlobalSymbol → Symbol
-symbol_of s = symbol_with (string_bytes s.name) s.extent
+symbol_of s = record (symbol_at s.extent) { name = string_bytes s.name }
 
 -- a map has the place of each name among symbols
 abbrev pub Indexes : {Y : Type 0} → BTreeMap (String Y) ℕ → List Symbol → Type 0
@@ -68,15 +68,23 @@ pub record RelocFits (r : RelocEntry) : Type 0 where
   pub name : r.name.0 < 2 ^ 32
   pub addend : FitsSigned w64 r.addend
 
+-- a function's numbers fit their types
+pub record FunctionFits (f : Function) : Type 0 where
+  pub start : f.start < 2 ^ 64
+  pub size : f.size < 2 ^ 64
+
+-- the table of symbols: `SHT_SYMTAB`, whose names stand in the fourth section, the first symbol being local
+abbrev pub symbol_section : List ℕ → Section
+symbol_section entries = record { name = codes ".symtab"; sh_type = 2; sh_flags = 0; sh_addr = 0; sh_link = 4; sh_info = 1; sh_addralign = 8; sh_entsize = 24; content = entries }
+
+-- the table of relocations: `SHT_RELA`, by the symbols of the first section, for the third one
+abbrev pub relocation_section : List ℕ → Section
+relocation_section entries = record { name = codes ".rela.text"; sh_type = 4; sh_flags = 64; sh_addr = 0; sh_link = 1; sh_info = 3; sh_addralign = 8; sh_entsize = 24; content = entries }
+
 -- the sections of an object with these contents
 abbrev pub sections_with : (alignment : ℕ) (entries relocations text names : List ℕ) → List Section
 sections_with alignment entries relocations text names =
-    record { name = codes ".symtab"; sh_type = 2; sh_flags = 0; sh_addr = 0; sh_link = 4; sh_info = 1; sh_addralign = 8; sh_entsize = 24; content = entries }
-    ∷ record { name = codes ".rela.text"; sh_type = 4; sh_flags = 64; sh_addr = 0; sh_link = 1; sh_info = 3; sh_addralign = 8; sh_entsize = 24; content = relocations }
-    ∷ text_section alignment text
-    ∷ string_section (codes ".strtab") names
-    ∷ stack_note
-    ∷ []
+    symbol_section entries ∷ relocation_section relocations ∷ text_section alignment text ∷ string_section (codes ".strtab") names ∷ stack_note ∷ []
 
 -- the sections of an object of a text with these global symbols and relocations
 abbrev pub object_sections : List Symbol → (alignment : ℕ) (text : List ℕ) → List RelocEntry → List Section

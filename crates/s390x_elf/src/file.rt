@@ -116,7 +116,8 @@ fn put_names(
         entry_size: 0,
         content: names,
     };
-    put_header(headers, &section, name_at, content_at)
+    put_header(headers, &section, name_at, content_at)?;
+    Ok(())
 }
 
 // Puts the header of a file with a number of sections, the last of which has their names.
@@ -140,7 +141,8 @@ fn put_file_header(file: &mut Vec<u8>, sections: u16) -> Result<(), AllocError>
         Field::Half(sections),
         Field::Half(sections - 1),
     ];
-    put_fields(file, &fields)
+    put_fields(file, &fields)?;
+    Ok(())
 }
 
 /// The bytes of a file of sections: its header, the sections' headers, their contents. A section

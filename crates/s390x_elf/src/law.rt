@@ -5,8 +5,7 @@ ghost use Rattle.s390x_buffer.specs.declared.entries.RelocEntry.{RelocEntry};
 ghost use Rattle.s390x_elf.specs.Reading.{pieces};
 ghost use Rattle.s390x_elf.specs.File.{Section, sections, null_section};
 ghost use Rattle.s390x_elf.specs.Symbols.{Symbol, null_symbol, symbol, relocation};
-ghost use Rattle.s390x_buffer.specs.declared.entries.MachBufferFinalized.{MachBufferFinalized as Finished};
-ghost use Rattle.s390x_elf.specs.Object.{IsLinkedAsImage, IsObject, relocation_of, string_table};
+ghost use Rattle.s390x_elf.specs.Object.{Function, IsLinkedAsFilled, IsObjectOf, relocation_of, string_table};
 ghost use Rattle.s390x_elf.specs.Tables.{SymbolFits, RelocFits, symbol_entries, relocation_entries};
 ghost use Rattle.s390x_elf.specs.Writing.{file_bytes, names_section, FieldsFit};
 
@@ -26,8 +25,8 @@ pub fn relocations_read_back()
     ensures { (ss : List Symbol) → length ss < 2 ^ 32 → (rs : List RelocEntry) → All RelocFits rs → map (relocation (null_symbol ∷ ss)) (pieces 24 (length rs) (relocation_entries ss rs)) ≡ map (relocation_of ss) rs }
 {}
 
-/// What is read as the object of finished code is linked as `link` links the code: at every base
-/// where that has no cause, each value fits its field, and the text is the image.
-pub fn objects_link_as_images()
-    ensures { (name : List ℕ) (code : Finished) (file : List ℕ) → IsObject name code file → IsLinkedAsImage name code file }
+/// What is read as an object is linked as its relocations fill it: at every base where none has a
+/// cause, each value fits its field.
+pub fn objects_link_as_filled()
+    ensures { (fs : List Function) (alignment : ℕ) (bytes : List ℕ) (rs : List RelocEntry) (file : List ℕ) → IsObjectOf fs alignment bytes rs file → IsLinkedAsFilled fs bytes rs file }
 {}

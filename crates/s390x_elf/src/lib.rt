@@ -6,9 +6,10 @@ mod fields;
 mod file;
 mod law;
 mod names;
-mod object;
+mod objects;
 mod relocations;
 mod symbols;
 
 pub use error::ObjectError;
-pub use object::object;
+pub use objects::{object, text_object};
+pub use symbols::TextFunction;

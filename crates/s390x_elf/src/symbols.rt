@@ -1,8 +1,8 @@
 //! The global symbols of an object.
-ghost use Rattle.std.specs.Prelude.{◌≡◌, ◌+◌, ◌<◌, ◌≤◌, ◌^◌, ◌∷◌, [], ◌++◌, None, IfOk, length, map, string_bytes};
+ghost use Rattle.std.specs.Prelude.{◌≡◌, ◌+◌, ◌<◌, ◌≤◌, ◌^◌, ◌∷◌, [], ◌++◌, None, is_some, IfOk, length, map, string_bytes};
 ghost use Rattle.s390x_elf.specs.Symbols.{null_symbol};
-ghost use Rattle.s390x_elf.specs.Object.{place, string_table, with_name};
-ghost use Rattle.s390x_elf.specs.Tables.{Indexes, symbol_of, symbol_number, symbol_entry, symbol_entries};
+ghost use Rattle.s390x_elf.specs.Object.{function_of, function_symbol, place, string_table, with_name};
+ghost use Rattle.s390x_elf.specs.Tables.{FunctionFits, Indexes, symbol_of, symbol_number, symbol_entry, symbol_entries};
 
 use crate::fields::{Field, put_fields};
 use std::alloc::{AllocError, Global};
@@ -12,6 +12,16 @@ use std::collections::BTreeMap;
 #[derive(Clone, Copy)]
 pub struct Extent {
     pub start: u64,
+    pub size: u64,
+}
+
+/// A function in a text.
+#[derive(Drop)]
+pub struct TextFunction {
+    pub name: String,
+    /// Where it starts, in bytes.
+    pub start: u64,
+    /// How many bytes it has.
     pub size: u64,
 }
 
@@ -35,6 +45,15 @@ pub const TEXT: u16 = 3;
 // A global function, and a global symbol of no kind: `st_info` and `st_other`.
 const GLOBAL_FUNCTION: u16 = 0x1200;
 const GLOBAL_NAME: u16 = 0x1000;
+
+// Where a function stands.
+fn extent_of(start: u64, size: u64) -> Extent
+    ensures value { result ≡ record { start = start; size = size } }
+    ensures start_fits { start < 2 ^ 64 }
+    ensures size_fits { size < 2 ^ 64 }
+{
+    Extent { start, size }
+}
 
 impl GlobalSymbols {
     /// No symbols. It keeps the allocator.
@@ -62,16 +81,42 @@ impl GlobalSymbols {
         Ok(())
     }
 
+    /// Whether a symbol has a name.
+    pub fn has(&self, name: &str) -> bool
+        requires { Indexes self.now.places (map symbol_of self.now.symbols.items) }
+        ensures { result ≡ is_some (place (map symbol_of self.now.symbols.items) name.now) }
+    {
+        self.places.contains_key(name)
+    }
+
+    /// Puts a function behind the others, none of which has its name.
+    pub fn add_function(&mut self, function: &TextFunction) -> Result<(), AllocError>
+        requires places { Indexes self.old.places (map symbol_of self.old.symbols.items) }
+        requires name { place (map symbol_of self.old.symbols.items) (string_bytes function.now.name) ≡ None }
+        ensures places { IfOk result (λ _. Indexes self.new.places (map symbol_of self.new.symbols.items)) }
+        ensures symbols { IfOk result (λ _. map symbol_of self.new.symbols.items ≡ map symbol_of self.old.symbols.items ++ function_symbol (function_of function.now) ∷ []) }
+        ensures fits { IfOk result (λ _. FunctionFits (function_of function.now)) }
+    {
+        let name = function.name.clone()?;
+        let extent = extent_of(function.start, function.size);
+        self.push(GlobalSymbol {
+            name,
+            extent: Some(extent),
+        })?;
+        Ok(())
+    }
+
     /// Puts a name that the object uses behind the others, where no symbol has it.
     pub fn add_name(&mut self, name: String) -> Result<(), AllocError>
         requires { Indexes self.old.places (map symbol_of self.old.symbols.items) }
         ensures places { IfOk result (λ _. Indexes self.new.places (map symbol_of self.new.symbols.items)) }
         ensures symbols { IfOk result (λ _. map symbol_of self.new.symbols.items ≡ with_name (map symbol_of self.old.symbols.items) (string_bytes name)) }
     {
-        if self.places.contains_key(name.as_str()) {
+        if self.has(name.as_str()) {
             return Ok(());
         }
-        self.push(GlobalSymbol { name, extent: None })
+        self.push(GlobalSymbol { name, extent: None })?;
+        Ok(())
     }
 
     /// The number of the symbol with a name, from 1 on; 0 where none has it.

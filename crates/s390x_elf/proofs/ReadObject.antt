@@ -36,14 +36,14 @@ decimal_text n h =
 name_text : (name : ExternalName) → name.0 < 2 ^ 32 → IsText (symbol_name name)
 name_text name h = let small : name.0 < 2 ^ 64 = omega arith in decimal_text name.0 small
 
-first_of : (a b : Bool) → (a || b) ≡ false → (a ≡ false) × (b ≡ false)
-first_of true b h = cc
-first_of false b h = (refl, h)
+both_false : (a b : Bool) → (a || b) ≡ false → (a ≡ false) × (b ≡ false)
+both_false true b h = cc
+both_false false b h = (refl, h)
 
 pub text_from_test : (bytes : List ℕ) → list_any (λ (b : ℕ). nat_eq b 0) bytes ≡ false → IsText bytes
 text_from_test [] h = tt
-text_from_test (zero ∷ bytes) h = cc
-text_from_test (suc b ∷ bytes) h = text_from_test bytes h
+text_from_test (zero ∷ bytes) h = let no : true ≡ false = (both_false true (list_any (λ (b : ℕ). nat_eq b 0) bytes) h).0 in cc
+text_from_test (suc b ∷ bytes) h = text_from_test bytes (both_false (nat_eq (suc b) 0) (list_any (λ (x : ℕ). nat_eq x 0) bytes) h).1
 
 -- symbols fit their entries
 undefined_fits : (name : List ℕ) → IsText name → SymbolFits (undefined_symbol name)
@@ -77,7 +77,10 @@ sections_fit alignment entries relas text names h =
         record { name = tt; sh_type = omega arith; sh_flags = omega arith; sh_addr = omega arith; sh_link = omega arith; sh_info = omega arith; sh_addralign = omega arith; sh_entsize = omega arith } in
     let note : FieldsFit stack_note =
         record { name = tt; sh_type = omega arith; sh_flags = omega arith; sh_addr = omega arith; sh_link = omega arith; sh_info = omega arith; sh_addralign = omega arith; sh_entsize = omega arith } in
-    All-cons FieldsFit _ _ symtab (All-cons FieldsFit _ _ rela (All-cons FieldsFit _ _ code (All-cons FieldsFit _ _ strtab (All-cons FieldsFit _ _ note (All-nil FieldsFit)))))
+    let behind_text : List Section = string_section (codes ".strtab") names ∷ stack_note ∷ [] in
+    let behind_relas : List Section = text_section alignment text ∷ behind_text in
+    let behind_symbols : List Section = record { name = codes ".rela.text"; sh_type = 4; sh_flags = 64; sh_addr = 0; sh_link = 1; sh_info = 3; sh_addralign = 8; sh_entsize = 24; content = relas } ∷ behind_relas in
+    All-cons FieldsFit _ behind_symbols symtab (All-cons FieldsFit _ behind_relas rela (All-cons FieldsFit _ behind_text code (All-cons FieldsFit _ (stack_note ∷ []) strtab (All-cons FieldsFit _ [] note (All-nil FieldsFit)))))
 
 -- the sections of an object, the first and the last with them
 abbrev all_sections : (alignment : ℕ) (entries relas text names : List ℕ) → List Section
@@ -127,7 +130,7 @@ few_sections alignment entries relas text names = omega arith
 short_names : (alignment : ℕ) (entries relas text names : List ℕ) → length (names_section (sections_with alignment entries relas text names)).content < 2 ^ 32
 short_names alignment entries relas text names = omega arith
 
-few_symbols : (ss : List Symbol) → length ss ≤ length (string_table ss)
+pub few_symbols : (ss : List Symbol) → length ss ≤ length (string_table ss)
 few_symbols [] = omega arith
 few_symbols (s ∷ ss) =
     let next = few_symbols ss in

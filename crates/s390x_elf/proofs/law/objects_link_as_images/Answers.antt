@@ -1,5 +1,0 @@
-use Rattle.s390x_elf.proofs.Finished.{object_is_linked}
-use Rattle.s390x_elf.proofs.law.objects_link_as_images.Goals as goal
-
-pub returns : goal.returns
-returns c = object_is_linked
