@@ -23,8 +23,8 @@ section_read file names name_at content_at s fit name_small content_small size_s
   sh_addralign = from_be_bytes-to_be_bytes_8 s.sh_addralign fit.sh_addralign i;
   sh_entsize = from_be_bytes-to_be_bytes_8 s.sh_entsize fit.sh_entsize i;
   content = (ap (λ (n : ℕ). take n (drop (wide (section_header_bytes name_at content_at s) 24) file)) (from_be_bytes-to_be_bytes_8 (length s.content) size_small)
-    ∙ ap (λ (n : ℕ). take (length s.content) (drop n file)) (from_be_bytes-to_be_bytes_8 content_at content_small)
-    ∙ content) i
+      ∙ ap (λ (n : ℕ). take (length s.content) (drop n file)) (from_be_bytes-to_be_bytes_8 content_at content_small)
+      ∙ content) i;
 }
 
 -- the headers of sections one by one
@@ -62,7 +62,7 @@ module _ (file : List ℕ) (file_small : length file < 2 ^ 64) where
   last_content (s ∷ ss) x name_at content_at before behind e h =
       let next : content_at + length s.content ≡ length (before ++ s.content) = omega (arith, length-append before s.content) in
       let split : file ≡ (before ++ s.content) ++ (contents_of (ss ++ x ∷ []) ++ behind) =
-          e ∙ ap (λ (bytes : List ℕ). before ++ bytes) (append_assoc s.content (contents_of (ss ++ x ∷ [])) behind) ∙ sym (append_assoc before s.content (contents_of (ss ++ x ∷ []) ++ behind)) in
+      e ∙ ap (λ (bytes : List ℕ). before ++ bytes) (append_assoc s.content (contents_of (ss ++ x ∷ [])) behind) ∙ sym (append_assoc before s.content (contents_of (ss ++ x ∷ []) ++ behind)) in
       last_content ss x (name_at + (length s.name + 1)) (content_at + length s.content) (before ++ s.content) behind split next
 
   -- sections are read from their headers, where their names and their contents stand one behind the other
@@ -83,15 +83,15 @@ module _ (file : List ℕ) (file_small : length file < 2 ^ 64) where
       let name_small : name_at < 2 ^ 32 = omega arith in
       let here : FieldsFit s = All-head FieldsFit s ss fit in
       let head : section file names (section_header_bytes name_at content_at s) ≡ s =
-          section_read file names name_at content_at s here name_small content_small size_small
-          (text_read names first s.name (names_of ss ++ last) name_at names_split k here.name)
-          (content_read file before s.content (contents_of ss ++ behind) content_at split h) in
+      section_read file names name_at content_at s here name_small content_small size_small
+      (text_read names first s.name (names_of ss ++ last) name_at names_split k here.name)
+      (content_read file before s.content (contents_of ss ++ behind) content_at split h) in
       let next_content : content_at + length s.content ≡ length (before ++ s.content) = omega (arith, length-append before s.content) in
       let next_name : name_at + (length s.name + 1) ≡ length (first ++ (s.name ++ 0 ∷ [])) = omega (arith, length-append first (s.name ++ 0 ∷ []), length-append s.name (0 ∷ [])) in
       let tail : map (section file names) (header_list (name_at + (length s.name + 1)) (content_at + length s.content) ss) ≡ ss =
-          sections_read names names_small ss (name_at + (length s.name + 1)) (content_at + length s.content) (before ++ s.content) behind (first ++ (s.name ++ 0 ∷ [])) last (All-tail FieldsFit s ss fit)
-          (split ∙ sym (append_assoc before s.content (contents_of ss ++ behind))) next_content
-          (f ∙ ap (λ (bytes : List ℕ). first ++ bytes) regroup ∙ sym (append_assoc first (s.name ++ 0 ∷ []) (names_of ss ++ last))) next_name in
+      sections_read names names_small ss (name_at + (length s.name + 1)) (content_at + length s.content) (before ++ s.content) behind (first ++ (s.name ++ 0 ∷ [])) last (All-tail FieldsFit s ss fit)
+      (split ∙ sym (append_assoc before s.content (contents_of ss ++ behind))) next_content
+      (f ∙ ap (λ (bytes : List ℕ). first ++ bytes) regroup ∙ sym (append_assoc first (s.name ++ 0 ∷ []) (names_of ss ++ last))) next_name in
       λ i. head i ∷ tail i
 
 -- the headers of a written file
@@ -127,7 +127,7 @@ file_header_read ss few = let small : length ss + 1 < 2 ^ 16 = omega arith in λ
   e_phnum = 0;
   e_shentsize = 64;
   e_shnum = from_be_bytes-to_be_bytes_2 (length ss + 2) few i;
-  e_shstrndx = from_be_bytes-to_be_bytes_2 (length ss + 1) small i
+  e_shstrndx = from_be_bytes-to_be_bytes_2 (length ss + 1) small i;
 }
 
 -- the sections of a written file
@@ -145,16 +145,16 @@ file_read ss few file_small names_small fit =
     let null : List ℕ = section_header_bytes 0 0 null_section in
     let before : List ℕ = front ++ (null ++ table) in
     let split : file ≡ before ++ (contents_of all ++ []) =
-        ap (λ (bytes : List ℕ). front ++ bytes) (sym (append_assoc null table (contents_of all)))
-        ∙ sym (append_assoc front (null ++ table) (contents_of all))
-        ∙ ap (λ (bytes : List ℕ). before ++ bytes) (sym (append-nil (contents_of all))) in
+    ap (λ (bytes : List ℕ). front ++ bytes) (sym (append_assoc null table (contents_of all)))
+    ∙ sym (append_assoc front (null ++ table) (contents_of all))
+    ∙ ap (λ (bytes : List ℕ). before ++ bytes) (sym (append-nil (contents_of all))) in
     let count : length all ≡ length ss + 1 = length-append ss (last ∷ []) in
     let front_length : length front ≡ 64 = refl in
     let null_length : length null ≡ 64 = refl in
     let table_length : length table ≡ 64 * length all = header_table_length 1 start all in
     let begins : start ≡ length before = omega (arith, length-append front (null ++ table), length-append null table) in
     let names_eq : last.content ≡ (0 ∷ []) ++ (names_of all ++ []) =
-        sym (ap (λ (bytes : List ℕ). 0 ∷ bytes) (append-nil (names_of all) ∙ flat_map-append (λ (s : Section). s.name ++ 0 ∷ []) ss (last ∷ []))) in
+    sym (ap (λ (bytes : List ℕ). 0 ∷ bytes) (append-nil (names_of all) ∙ flat_map-append (λ (s : Section). s.name ++ 0 ∷ []) ss (last ∷ []))) in
     let last_fit : FieldsFit last = record { name = tt; sh_type = omega arith; sh_flags = omega arith; sh_addr = omega arith; sh_link = omega arith; sh_info = omega arith; sh_addralign = omega arith; sh_entsize = omega arith } in
     let all_fit : All FieldsFit all = All-append FieldsFit ss (last ∷ []) fit (All-cons FieldsFit last [] last_fit (All-nil FieldsFit)) in
     let names_read : content_of file (get_or headers (suc (length ss)) []) ≡ last.content = last_content file file_small ss last 1 start before [] split begins in

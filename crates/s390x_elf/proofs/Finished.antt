@@ -49,7 +49,7 @@ object_from_bytes fs alignment bytes rs ss file none sized aligned e small fit f
     let globals : List Symbol = global_symbols fs rs in
     let fits : All SymbolFits globals = used_fit (map function_symbol fs) rs (functions_fit [] fs none sized) fit in
     let whole : file ≡ file_bytes (object_sections globals alignment bytes rs) =
-        written ∙ ap (λ (symbols : List Symbol). file_bytes (object_sections symbols alignment bytes rs)) e in
+    written ∙ ap (λ (symbols : List Symbol). file_bytes (object_sections symbols alignment bytes rs)) e in
     let names_small : length (0 ∷ string_table globals) < 2 ^ 32 = subst (λ (symbols : List Symbol). length (0 ∷ string_table symbols) < 2 ^ 32) e small in
     let bytes_small : length (file_bytes (object_sections globals alignment bytes rs)) < 2 ^ 64 = subst (λ (b : List ℕ). length b < 2 ^ 64) whole file_small in
     subst (λ (b : List ℕ). IsObjectOf fs alignment bytes rs b) (sym whole) (object_read fs alignment bytes rs aligned fits fit names_small bytes_small)
@@ -58,11 +58,12 @@ object_from_bytes fs alignment bytes rs ss file none sized aligned e small fit f
 pub object_is_filled : (fs : List Function) (alignment : ℕ) (bytes : List ℕ) (rs : List RelocEntry) (file : List ℕ) → IsObjectOf fs alignment bytes rs file → IsLinkedAsFilled fs bytes rs file
 object_is_filled fs alignment bytes rs file object = λ base others table agree none.
     let fits : All (λ (r : Relocation). fits_at base others r ≡ true) (relocations_for (sections file) (codes ".text")) =
-        subst (λ (all : List Relocation). All (λ (r : Relocation). fits_at base others r ≡ true) all) (sym object.relocations) (linked_fields_fit base others table fs rs agree none) in
-    (fits,
-    ap (λ (all : List Relocation). applied base others all (named_section (sections file) (codes ".text")).content) object.relocations
-    ∙ ap (λ (s : Section). applied base others (map (relocation_of (global_symbols fs rs)) rs) s.content) object.text
-    ∙ linked_as_filled base others table fs rs bytes agree)
+    subst (λ (all : List Relocation). All (λ (r : Relocation). fits_at base others r ≡ true) all) (sym object.relocations) (linked_fields_fit base others table fs rs agree none) in (
+      fits,
+      ap (λ (all : List Relocation). applied base others all (named_section (sections file) (codes ".text")).content) object.relocations
+          ∙ ap (λ (s : Section). applied base others (map (relocation_of (global_symbols fs rs)) rs) s.content) object.text
+          ∙ linked_as_filled base others table fs rs bytes agree,
+    )
 
 -- the object of finished code is linked as the image
 pub filled_is_image : (name : List ℕ) (code : MachBufferFinalized) (file : List ℕ) → IsLinkedAsFilled (whole_function name code) code.bytes.items code.relocs.items file → IsLinkedAsImage name code file

@@ -170,7 +170,7 @@ fields_fit base others table ss (r ∷ rs) h k =
     let both = no_first (reloc_cause base table r) (relocs_cause base table rs) k in
     let here : fits_field (type_of r.kind) (pos (address_or_zero (address_of table r.name))) r.addend (pos (base + r.offset)) ≡ true = symbol_test base r (address_of table r.name) both.0 in
     let there : fits_at base others (relocation_of ss r) ≡ true =
-        ap (λ (symbol : ℕ). fits_field (type_of r.kind) (pos symbol) r.addend (pos (base + r.offset))) (sym (All-head (HasAddress base others table ss) r rs h)) ∙ here in
+    ap (λ (symbol : ℕ). fits_field (type_of r.kind) (pos symbol) r.addend (pos (base + r.offset))) (sym (All-head (HasAddress base others table ss) r rs h)) ∙ here in
     All-cons (FitsAt base others) (relocation_of ss r) (map (relocation_of ss) rs) there (fields_fit base others table ss rs (All-tail (HasAddress base others table ss) r rs h) both.1)
 
 pub linked_fields_fit : (base : ℕ) (others : List ℕ → ℕ) (table : Symbols) (fs : List Function) (rs : List RelocEntry) → Agrees (name_address base others fs) table rs → relocs_cause base table rs ≡ None →

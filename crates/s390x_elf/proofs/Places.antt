@@ -70,7 +70,7 @@ place_behind [] s name h = alone (bytes_eq name s.name) ∙ ap one_or_none (turn
 place_behind (t ∷ ss) s name h =
     let apart = not_first (bytes_eq s.name t.name) (place ss s.name) h in
     let other : bytes_eq s.name name ≡ true → bytes_eq name t.name ≡ false =
-        λ e. ap (λ (n : List ℕ). bytes_eq n t.name) (sym (same_bytes s.name name e)) ∙ apart.0 in
+    λ e. ap (λ (n : List ℕ). bytes_eq n t.name) (sym (same_bytes s.name name e)) ∙ apart.0 in
     behind (bytes_eq s.name name) (bytes_eq name t.name) (place ss name) (place (ss ++ s ∷ []) name) (length ss) (place_behind ss s name apart.1) other
 
 -- a map has the places of one more symbol, whose name none of the others has

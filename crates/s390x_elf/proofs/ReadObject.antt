@@ -68,15 +68,15 @@ used_fit ss (r ∷ rs) h k =
 sections_fit : (alignment : ℕ) (entries relas text names : List ℕ) → alignment < 2 ^ 64 → All FieldsFit (sections_with alignment entries relas text names)
 sections_fit alignment entries relas text names h =
     let symtab : FieldsFit (record { name = codes ".symtab"; sh_type = 2; sh_flags = 0; sh_addr = 0; sh_link = 4; sh_info = 1; sh_addralign = 8; sh_entsize = 24; content = entries }) =
-        record { name = tt; sh_type = omega arith; sh_flags = omega arith; sh_addr = omega arith; sh_link = omega arith; sh_info = omega arith; sh_addralign = omega arith; sh_entsize = omega arith } in
+    record { name = tt; sh_type = omega arith; sh_flags = omega arith; sh_addr = omega arith; sh_link = omega arith; sh_info = omega arith; sh_addralign = omega arith; sh_entsize = omega arith } in
     let rela : FieldsFit (record { name = codes ".rela.text"; sh_type = 4; sh_flags = 64; sh_addr = 0; sh_link = 1; sh_info = 3; sh_addralign = 8; sh_entsize = 24; content = relas }) =
-        record { name = tt; sh_type = omega arith; sh_flags = omega arith; sh_addr = omega arith; sh_link = omega arith; sh_info = omega arith; sh_addralign = omega arith; sh_entsize = omega arith } in
+    record { name = tt; sh_type = omega arith; sh_flags = omega arith; sh_addr = omega arith; sh_link = omega arith; sh_info = omega arith; sh_addralign = omega arith; sh_entsize = omega arith } in
     let code : FieldsFit (text_section alignment text) =
-        record { name = tt; sh_type = omega arith; sh_flags = omega arith; sh_addr = omega arith; sh_link = omega arith; sh_info = omega arith; sh_addralign = h; sh_entsize = omega arith } in
+    record { name = tt; sh_type = omega arith; sh_flags = omega arith; sh_addr = omega arith; sh_link = omega arith; sh_info = omega arith; sh_addralign = h; sh_entsize = omega arith } in
     let strtab : FieldsFit (string_section (codes ".strtab") names) =
-        record { name = tt; sh_type = omega arith; sh_flags = omega arith; sh_addr = omega arith; sh_link = omega arith; sh_info = omega arith; sh_addralign = omega arith; sh_entsize = omega arith } in
+    record { name = tt; sh_type = omega arith; sh_flags = omega arith; sh_addr = omega arith; sh_link = omega arith; sh_info = omega arith; sh_addralign = omega arith; sh_entsize = omega arith } in
     let note : FieldsFit stack_note =
-        record { name = tt; sh_type = omega arith; sh_flags = omega arith; sh_addr = omega arith; sh_link = omega arith; sh_info = omega arith; sh_addralign = omega arith; sh_entsize = omega arith } in
+    record { name = tt; sh_type = omega arith; sh_flags = omega arith; sh_addr = omega arith; sh_link = omega arith; sh_info = omega arith; sh_addralign = omega arith; sh_entsize = omega arith } in
     let behind_text : List Section = string_section (codes ".strtab") names ∷ stack_note ∷ [] in
     let behind_relas : List Section = text_section alignment text ∷ behind_text in
     let behind_symbols : List Section = record { name = codes ".rela.text"; sh_type = 4; sh_flags = 64; sh_addr = 0; sh_link = 1; sh_info = 3; sh_addralign = 8; sh_entsize = 24; content = relas } ∷ behind_relas in
@@ -98,7 +98,7 @@ table_read ss small fit entries e =
     ap (λ (n : ℕ). map (symbol (0 ∷ string_table ss)) (pieces 24 n entries)) (count_of (length entries) (suc (length ss)) size)
     ∙ ap (λ (bytes : List ℕ). map (symbol (0 ∷ string_table ss)) (pieces 24 (suc (length ss)) bytes)) e
     ∙ ap (λ (rest : List Symbol). null_symbol ∷ rest)
-      (symbols_read (0 ∷ string_table ss) small ss 1 (0 ∷ []) [] fit (sym (ap (λ (bytes : List ℕ). 0 ∷ bytes) (append-nil (string_table ss)))) refl)
+    (symbols_read (0 ∷ string_table ss) small ss 1 (0 ∷ []) [] fit (sym (ap (λ (bytes : List ℕ). 0 ∷ bytes) (append-nil (string_table ss)))) refl)
 
 entries_read : (ss : List Symbol) → length ss < 2 ^ 32 → (rs : List RelocEntry) → All RelocFits rs →
     map (relocation (null_symbol ∷ ss)) (pieces 24 (length (relocation_entries ss rs) / 24) (relocation_entries ss rs)) ≡ map (relocation_of ss) rs
@@ -150,7 +150,7 @@ object_read fs alignment bytes rs aligned fit rels small file_small =
     let few_enough : length ss < 2 ^ 32 = omega arith in
     let header : file_header (file_bytes parts) ≡ _ = file_header_read parts (few_sections alignment entries relas bytes names) in
     let read : sections (file_bytes parts) ≡ all_sections alignment entries relas bytes names =
-        file_read parts (few_sections alignment entries relas bytes names) file_small (short_names alignment entries relas bytes names) (sections_fit alignment entries relas bytes names aligned) in
+    file_read parts (few_sections alignment entries relas bytes names) file_small (short_names alignment entries relas bytes names) (sections_fit alignment entries relas bytes names aligned) in
     record {
       header = record {
         ident = ap (λ (h : FileHeader). h.e_ident) header;
@@ -161,14 +161,14 @@ object_read fs alignment bytes rs aligned fit rels small file_small =
         flags = ap (λ (h : FileHeader). h.e_flags) header;
         header_size = ap (λ (h : FileHeader). h.e_ehsize) header;
         segments = ap (λ (h : FileHeader). h.e_phnum) header;
-        section_header_size = ap (λ (h : FileHeader). h.e_shentsize) header
+        section_header_size = ap (λ (h : FileHeader). h.e_shentsize) header;
       };
       text = ap (λ (all : List Section). named_section all (codes ".text")) read ∙ text_of_sections alignment entries relas bytes names;
       symbols = ap symbols_of read ∙ symbols_of_sections alignment entries relas bytes names ∙ table_read ss small fit entries refl;
       locals = ap (λ (all : List Section). (symbol_table all).sh_info) read ∙ locals_of_sections alignment entries relas bytes names;
       relocations = ap (λ (all : List Section). relocations_for all (codes ".text")) read
-        ∙ relocations_of_sections alignment entries relas bytes names
-        ∙ ap (λ (all : List Symbol). map (relocation all) (pieces 24 (length relas / 24) relas)) (table_read ss small fit entries refl)
-        ∙ entries_read ss few_enough rs rels;
-      note = ap (λ (all : List Section). named_section all (codes ".note.GNU-stack")) read ∙ note_of_sections alignment entries relas bytes names
+          ∙ relocations_of_sections alignment entries relas bytes names
+          ∙ ap (λ (all : List Symbol). map (relocation all) (pieces 24 (length relas / 24) relas)) (table_read ss small fit entries refl)
+          ∙ entries_read ss few_enough rs rels;
+      note = ap (λ (all : List Section). named_section all (codes ".note.GNU-stack")) read ∙ note_of_sections alignment entries relas bytes names;
     }

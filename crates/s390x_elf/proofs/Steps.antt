@@ -28,7 +28,7 @@ leads_first start all last =
     record {
       headers_lead = ap (λ (n : ℕ). section_header_bytes 0 0 null_section ++ header_table 1 n (all ++ last ∷ [])) e;
       names_lead = refl;
-      contents_lead = refl
+      contents_lead = refl;
     }
 
 pub leads_start : (start : ℕ) (headers names contents : List ℕ) (all : List Section) (last : Section) → headers ≡ section_header_bytes 0 0 null_section → names ≡ 0 ∷ [] → contents ≡ [] →
@@ -48,13 +48,13 @@ leads_on start headers names contents headers' names' contents' s left before la
     let content_at : start + length contents' ≡ (start + length contents) + length s.content = ap (λ (b : List ℕ). start + length b) c ∙ omega (arith, length-append contents s.content) in
     record {
       headers_lead =
-        ap (λ (b : List ℕ). b ++ header_table (length names') (start + length contents') (left ++ last ∷ [])) h
-        ∙ ap (λ (k : ℕ). (headers ++ header) ++ header_table k (start + length contents') (left ++ last ∷ [])) name_at
-        ∙ ap (λ (k : ℕ). (headers ++ header) ++ header_table (length names + (length s.name + 1)) k (left ++ last ∷ [])) content_at
-        ∙ append_assoc headers header (header_table (length names + (length s.name + 1)) ((start + length contents) + length s.content) (left ++ last ∷ []))
-        ∙ leads.headers_lead;
+          ap (λ (b : List ℕ). b ++ header_table (length names') (start + length contents') (left ++ last ∷ [])) h
+          ∙ ap (λ (k : ℕ). (headers ++ header) ++ header_table k (start + length contents') (left ++ last ∷ [])) name_at
+          ∙ ap (λ (k : ℕ). (headers ++ header) ++ header_table (length names + (length s.name + 1)) k (left ++ last ∷ [])) content_at
+          ∙ append_assoc headers header (header_table (length names + (length s.name + 1)) ((start + length contents) + length s.content) (left ++ last ∷ []))
+          ∙ leads.headers_lead;
       names_lead = ap (λ (b : List ℕ). b ++ names_of left) n ∙ append_assoc names (s.name ++ 0 ∷ []) (names_of left) ∙ leads.names_lead;
-      contents_lead = ap (λ (b : List ℕ). b ++ contents_of left) c ∙ append_assoc contents s.content (contents_of left) ∙ leads.contents_lead
+      contents_lead = ap (λ (b : List ℕ). b ++ contents_of left) c ∙ append_assoc contents s.content (contents_of left) ∙ leads.contents_lead;
     }
 
 -- the whole file
@@ -64,7 +64,7 @@ whole : (all before : List Section) (headers names contents headers' contents' f
     contents' ≡ contents ++ (names ++ (names_name ++ 0 ∷ [])) → file ≡ (file_header_bytes (length all + 2) (length all + 1) ++ headers') ++ contents' → file ≡ file_bytes all
 whole all before headers names contents headers' contents' file leads_before e h c f =
     let leads : Leads (headers_end (length all)) headers names contents [] (names_section all) all =
-        subst (λ (l : List Section). Leads (headers_end (length all)) headers names contents l (names_section all) all) e leads_before in
+    subst (λ (l : List Section). Leads (headers_end (length all)) headers names contents l (names_section all) all) e leads_before in
     let start : ℕ = headers_end (length all) in
     let last : Section = names_section all in
     let names_are : names ≡ 0 ∷ names_of all = sym (append-nil names) ∙ leads.names_lead in
@@ -73,13 +73,13 @@ whole all before headers names contents headers' contents' file leads_before e h
     let null : List ℕ = section_header_bytes 0 0 null_section in
     let front : List ℕ = file_header_bytes (length all + 2) (length all + 1) in
     let headers_are : headers' ≡ null ++ table =
-        h ∙ ap (λ (b : List ℕ). headers ++ section_header_bytes (length names) (start + length contents) (string_section names_name (b ++ (names_name ++ 0 ∷ [])))) names_are
-        ∙ leads.headers_lead in
+    h ∙ ap (λ (b : List ℕ). headers ++ section_header_bytes (length names) (start + length contents) (string_section names_name (b ++ (names_name ++ 0 ∷ [])))) names_are
+    ∙ leads.headers_lead in
     let all_contents : contents' ≡ contents_of (all ++ last ∷ []) =
-        c ∙ ap (λ (b : List ℕ). contents ++ (b ++ (names_name ++ 0 ∷ []))) names_are
-        ∙ ap (λ (b : List ℕ). b ++ last.content) contents_are
-        ∙ ap (λ (b : List ℕ). contents_of all ++ b) (sym (append-nil last.content))
-        ∙ sym (flat_map-append (λ (s : Section). s.content) all (last ∷ [])) in
+    c ∙ ap (λ (b : List ℕ). contents ++ (b ++ (names_name ++ 0 ∷ []))) names_are
+    ∙ ap (λ (b : List ℕ). b ++ last.content) contents_are
+    ∙ ap (λ (b : List ℕ). contents_of all ++ b) (sym (append-nil last.content))
+    ∙ sym (flat_map-append (λ (s : Section). s.content) all (last ∷ [])) in
     f ∙ ap (λ (b : List ℕ). (front ++ b) ++ contents') headers_are
     ∙ ap (λ (b : List ℕ). (front ++ (null ++ table)) ++ b) all_contents
     ∙ append_assoc front (null ++ table) (contents_of (all ++ last ∷ []))

@@ -35,7 +35,7 @@ symbol_read names name_at s fit small name = λ i. record {
   st_other = other_read s.binding s.kind s.st_other fit.st_other i;
   st_shndx = from_be_bytes-to_be_bytes_2 s.st_shndx fit.st_shndx i;
   st_value = from_be_bytes-to_be_bytes_8 s.st_value fit.st_value i;
-  st_size = from_be_bytes-to_be_bytes_8 s.st_size fit.st_size i
+  st_size = from_be_bytes-to_be_bytes_8 s.st_size fit.st_size i;
 }
 
 -- symbols are read from their entries, where their names stand one behind the other
@@ -51,8 +51,8 @@ symbols_read names names_small (s ∷ ss) name_at first last fit f k =
     let head : symbol names (symbol_entry name_at s) ≡ s = symbol_read names name_at s here small (text_read names first s.name (string_table ss ++ last) name_at split k here.name) in
     let next : name_at + (length s.name + 1) ≡ length (first ++ (s.name ++ 0 ∷ [])) = omega (arith, length-append first (s.name ++ 0 ∷ []), length-append s.name (0 ∷ [])) in
     let tail : map (symbol names) (pieces 24 (length ss) (symbol_entries (name_at + (length s.name + 1)) ss)) ≡ ss =
-        symbols_read names names_small ss (name_at + (length s.name + 1)) (first ++ (s.name ++ 0 ∷ [])) last (All-tail SymbolFits s ss fit)
-        (f ∙ ap (λ (bytes : List ℕ). first ++ bytes) regroup ∙ sym (append_assoc first (s.name ++ 0 ∷ []) (string_table ss ++ last))) next in
+    symbols_read names names_small ss (name_at + (length s.name + 1)) (first ++ (s.name ++ 0 ∷ [])) last (All-tail SymbolFits s ss fit)
+    (f ∙ ap (λ (bytes : List ℕ). first ++ bytes) regroup ∙ sym (append_assoc first (s.name ++ 0 ∷ []) (string_table ss ++ last))) next in
     λ i. head i ∷ tail i
 
 pub symbol_entries_length : (name_at : ℕ) (ss : List Symbol) → length (symbol_entries name_at ss) ≡ 24 * length ss
@@ -93,9 +93,9 @@ relocation_read ss few r fit =
       r_offset = from_be_bytes-to_be_bytes_8 r.offset (offset_small r.offset fit.offset) i;
       r_type = (ap (λ (n : ℕ). n % 2 ^ 32) info ∙ type_read number (type_of r.kind) small) i;
       r_sym = (ap (λ (n : ℕ). get_or (null_symbol ∷ ss) (n / 2 ^ 32) null_symbol) info
-        ∙ ap (λ (n : ℕ). get_or (null_symbol ∷ ss) n null_symbol) (number_read number (type_of r.kind) small)
-        ∙ numbered_is_named ss (symbol_name r.name)) i;
-      r_addend = (ap (cast_signed w64) (from_be_bytes-to_be_bytes_8 (cast_unsigned w64 r.addend) (unsigned_small r.addend fit.addend)) ∙ to_z-of_z w64 r.addend fit.addend) i
+          ∙ ap (λ (n : ℕ). get_or (null_symbol ∷ ss) n null_symbol) (number_read number (type_of r.kind) small)
+          ∙ numbered_is_named ss (symbol_name r.name)) i;
+      r_addend = (ap (cast_signed w64) (from_be_bytes-to_be_bytes_8 (cast_unsigned w64 r.addend) (unsigned_small r.addend fit.addend)) ∙ to_z-of_z w64 r.addend fit.addend) i;
     }
 
 -- relocations are read from their entries

@@ -34,7 +34,7 @@ file_header file = record {
   e_phnum = half file 56;
   e_shentsize = half file 58;
   e_shnum = half file 60;
-  e_shstrndx = half file 62
+  e_shstrndx = half file 62;
 }
 
 -- a section: its name in place of the name's offset, and its content in place of that one's offset and size
@@ -64,7 +64,7 @@ section file names header = record {
   sh_info = word header 44;
   sh_addralign = wide header 48;
   sh_entsize = wide header 56;
-  content = content_of file header
+  content = content_of file header;
 }
 
 -- the sections' headers

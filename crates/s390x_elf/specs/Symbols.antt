@@ -24,7 +24,7 @@ symbol names entry = record {
   st_other = byte entry 5;
   st_shndx = half entry 6;
   st_value = wide entry 8;
-  st_size = wide entry 16
+  st_size = wide entry 16;
 }
 
 -- the symbol with the number 0, which stands for none
@@ -44,7 +44,7 @@ relocation symbols entry = record {
   r_offset = wide entry 0;
   r_type = wide entry 8 % 2 ^ 32;
   r_sym = slice_index_or symbols (wide entry 8 / 2 ^ 32) null_symbol;
-  r_addend = cast_signed w64 (wide entry 16)
+  r_addend = cast_signed w64 (wide entry 16);
 }
 
 -- the first section that passes a test; the one with the number 0 where none does

@@ -22,8 +22,11 @@ const IDENT: [u8; 16] = [127, 69, 76, 70, 2, 2, 1, 0, 0, 0, 0, 0, 0, 0, 0, 0];
 const ET_REL: u16 = 1;
 // For s390x.
 const EM_S390: u16 = 22;
+
 const EV_CURRENT: u32 = 1;
+
 const FILE_HEADER_SIZE: u64 = 64;
+
 const SECTION_HEADER_SIZE: u64 = 64;
 
 /// A section of a file.
@@ -165,7 +168,11 @@ pub fn write_file(alloc: Global, sections: &[SectionParts]) -> Result<Vec<u8>, A
     for section in sections {
         put_section(&mut parts, start, section)?;
     }
-    let FileParts { mut headers, names, mut contents } = parts;
+    let FileParts {
+        mut headers,
+        names,
+        mut contents,
+    } = parts;
     put_names(&mut headers, &mut contents, names, start)?;
     let mut file = Vec::new(alloc);
     put_file_header(&mut file, sections.len() as u16 + 2)?;

@@ -15,6 +15,7 @@ use std::alloc::{AllocError, Global};
 
 // The sections' numbers.
 const SYMBOLS: u32 = 1;
+
 const NAMES: u32 = 4;
 // Bytes that are loaded and run.
 const ALLOC_AND_EXECINSTR: u64 = 6;
@@ -57,10 +58,7 @@ fn check_function(symbols: &GlobalSymbols, function: &TextFunction) -> Result<()
 }
 
 // The symbols of functions.
-fn function_symbols(
-    alloc: Global,
-    functions: &[TextFunction],
-) -> Result<GlobalSymbols, ObjectError>
+fn function_symbols(alloc: Global, functions: &[TextFunction]) -> Result<GlobalSymbols, ObjectError>
     ensures answer { let cause = functions_cause [] (map function_of functions.now) in MatchResult result (λ ss. (cause ≡ None) × (map symbol_of ss.symbols.items ≡ map function_symbol (map function_of functions.now))) (λ e. (e ≡ ObjectError.NoMemory) ⊎ (cause ≡ Some e)) }
     ensures places { IfOk result (λ ss. Indexes ss.places (map symbol_of ss.symbols.items)) }
     ensures fits { IfOk result (λ _. All FunctionFits (map function_of functions.now)) }
@@ -221,11 +219,7 @@ pub fn text_object(
 /// Refused by the first cause: the name is empty (`EmptyName`) or has a zero byte (`ZeroByte`), the
 /// code has no bytes (`EmptyMember`), the names take 2^32 bytes or more (`TooLong`); or for want of
 /// memory.
-pub fn object(
-    alloc: Global,
-    name: &str,
-    code: &MachBufferFinalized,
-) -> Result<Vec<u8>, ObjectError>
+pub fn object(alloc: Global, name: &str, code: &MachBufferFinalized) -> Result<Vec<u8>, ObjectError>
     ensures answer { MatchResult result (λ file. (object_cause name.now code.now ≡ None) × IsObject name.now code.now file.items) (λ e. (e ≡ ObjectError.NoMemory) ⊎ (object_cause name.now code.now ≡ Some e)) }
     ensures linked { IfOk result (λ file. IsLinkedAsImage name.now code.now file.items) }
 {
@@ -237,6 +231,12 @@ pub fn object(
         start: 0,
         size: code.bytes.len() as u64,
     };
-    let file = text_object(alloc, &[function], code.alignment, &code.bytes, &code.relocs)?;
+    let file = text_object(
+        alloc,
+        &[function],
+        code.alignment,
+        &code.bytes,
+        &code.relocs,
+    )?;
     Ok(file)
 }

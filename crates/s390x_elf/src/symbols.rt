@@ -44,6 +44,7 @@ pub struct GlobalSymbols {
 pub const TEXT: u16 = 3;
 // A global function, and a global symbol of no kind: `st_info` and `st_other`.
 const GLOBAL_FUNCTION: u16 = 0x1200;
+
 const GLOBAL_NAME: u16 = 0x1000;
 
 // Where a function stands.
@@ -150,20 +151,26 @@ fn put_entry(entries: &mut Vec<u8>, name_at: u32, symbol: &GlobalSymbol) -> Resu
     ensures { IfOk result (λ _. entries.new.items ≡ entries.old.items ++ symbol_entry name_at (symbol_of symbol.now)) }
 {
     match symbol.extent {
-        Some(extent) => put_fields(entries, &[
-            Field::Word(name_at),
-            Field::Half(GLOBAL_FUNCTION),
-            Field::Half(TEXT),
-            Field::Wide(extent.start),
-            Field::Wide(extent.size),
-        ]),
-        None => put_fields(entries, &[
-            Field::Word(name_at),
-            Field::Half(GLOBAL_NAME),
-            Field::Half(0),
-            Field::Wide(0),
-            Field::Wide(0),
-        ]),
+        Some(extent) => put_fields(
+            entries,
+            &[
+                Field::Word(name_at),
+                Field::Half(GLOBAL_FUNCTION),
+                Field::Half(TEXT),
+                Field::Wide(extent.start),
+                Field::Wide(extent.size),
+            ],
+        ),
+        None => put_fields(
+            entries,
+            &[
+                Field::Word(name_at),
+                Field::Half(GLOBAL_NAME),
+                Field::Half(0),
+                Field::Wide(0),
+                Field::Wide(0),
+            ],
+        ),
     }
 }
 

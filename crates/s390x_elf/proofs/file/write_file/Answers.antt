@@ -20,11 +20,11 @@ pub loop-section-preserved : goal.loop-section-preserved
 loop-section-preserved c =
     let lt : c.loop-section.section-index < length c.args.sections.now = omega arith in
     let name : length c.section-item.result.name.now < 256 =
-        subst (λ (s : SectionParts). length s.name.now < 256) (sym c.section-item.is) (c.requires.names c.loop-section.section-index c.section-item.result lt) in
+    subst (λ (s : SectionParts). length s.name.now < 256) (sym c.section-item.is) (c.requires.names c.loop-section.section-index c.section-item.result lt) in
     record {
       leads = leads_on _ _ _ _ _ _ _ _ _ _ _ _ c.loop-section.invariant.leads
-        (left_one section_of c.args.sections.now c.loop-section.section-index c.section-item.result lt c.section-item.is)
-        c.in_ok-put_section.ensures.headers c.in_ok-put_section.ensures.names c.in_ok-put_section.ensures.contents;
+          (left_one section_of c.args.sections.now c.loop-section.section-index c.section-item.result lt c.section-item.is)
+          c.in_ok-put_section.ensures.headers c.in_ok-put_section.ensures.names c.in_ok-put_section.ensures.contents;
       short = omega (arith, ap length c.in_ok-put_section.ensures.names, length-append c.loop-section.parts.names.items (c.section-item.result.name.now ++ 0 ∷ []), length-append c.section-item.result.name.now (0 ∷ []));
     }
 

@@ -20,7 +20,7 @@ loop-function-preserved c =
       symbols = functions_on _ _ (function_of c.function-item.result) _ _ _ c.loop-function.invariant.symbols left c.in-Ok.ensures.symbols;
       cause = cause_on _ _ (function_of c.function-item.result) _ _ _ c.loop-function.invariant.cause left c.in-Ok.ensures.symbols c.in_ok-check_function.ensures;
       fits = subst (λ (fs : List Function). All FunctionFits fs) (sym (map_more function_of c.args.functions.now c.loop-function.function-index c.function-item.result lt))
-        (All-push FunctionFits _ _ c.loop-function.invariant.fits (subst (λ (f : TextFunction). FunctionFits (function_of f)) c.function-item.is c.in-Ok.ensures.fits));
+          (All-push FunctionFits _ _ c.loop-function.invariant.fits (subst (λ (f : TextFunction). FunctionFits (function_of f)) c.function-item.is c.in-Ok.ensures.fits));
     }
 
 pub returns-clause-fits : goal.returns-clause-fits

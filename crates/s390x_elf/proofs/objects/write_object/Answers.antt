@@ -18,13 +18,13 @@ pub returns-clause-file : goal.returns-clause-file
 returns-clause-file c =
     c.in_ok-file.ensures
     ∙ ap (λ (xs : List SectionParts). file_bytes (map section_of xs))
-      (c.deref-2.ensures.value
-      ∙ five _ _ _ _ _ _ c.symbol_section.result c.relocation_section.result c.text_section.result c.name_section.result c.stack_note.result
-        c.new-sections.ensures.items c.in_ok-push.ensures.items c.in_ok-push-2.ensures.items c.in_ok-push-3.ensures.items c.in_ok-push-4.ensures.items c.in_ok-push-5.ensures.items)
+    (c.deref-2.ensures.value
+    ∙ five _ _ _ _ _ _ c.symbol_section.result c.relocation_section.result c.text_section.result c.name_section.result c.stack_note.result
+    c.new-sections.ensures.items c.in_ok-push.ensures.items c.in_ok-push-2.ensures.items c.in_ok-push-3.ensures.items c.in_ok-push-4.ensures.items c.in_ok-push-5.ensures.items)
     ∙ five_sections _ _ _ _ _ _ _ _ _ _
-      (c.symbol_section.ensures ∙ ap symbol_section c.in_ok-entries.ensures
-        ∙ ap (λ (xs : List GlobalSymbol). symbol_section (symbol_entry 0 null_symbol ++ symbol_entries 1 (map symbol_of xs))) c.deref.ensures.value)
-      (c.relocation_section.ensures ∙ ap relocation_section c.in_ok-relocations.ensures.entries)
-      (c.text_section.ensures ∙ ap (text_section c.args.alignment) c.in_ok-text.ensures.items)
-      (c.name_section.ensures ∙ ap (string_section (codes ".strtab")) c.requires.names)
-      c.stack_note.ensures
+    (c.symbol_section.ensures ∙ ap symbol_section c.in_ok-entries.ensures
+    ∙ ap (λ (xs : List GlobalSymbol). symbol_section (symbol_entry 0 null_symbol ++ symbol_entries 1 (map symbol_of xs))) c.deref.ensures.value)
+    (c.relocation_section.ensures ∙ ap relocation_section c.in_ok-relocations.ensures.entries)
+    (c.text_section.ensures ∙ ap (text_section c.args.alignment) c.in_ok-text.ensures.items)
+    (c.name_section.ensures ∙ ap (string_section (codes ".strtab")) c.requires.names)
+    c.stack_note.ensures

@@ -15,10 +15,10 @@ loop-reloc-preserved c =
     let ss : List Symbol = map symbol_of c.args.symbols.now.symbols.items in
     record {
       entries = flat_on (relocation_entry ss) c.loop-reloc.entries.items c.put_entry.new.entries.items (get_or c.args.relocs.now c.loop-reloc.reloc-index none)
-        (drop (c.loop-reloc.reloc-index + 1) c.args.relocs.now) (relocation_entries ss c.args.relocs.now)
-        (subst (λ (rs : List RelocEntry). c.loop-reloc.entries.items ++ relocation_entries ss rs ≡ relocation_entries ss c.args.relocs.now)
+          (drop (c.loop-reloc.reloc-index + 1) c.args.relocs.now) (relocation_entries ss c.args.relocs.now)
+          (subst (λ (rs : List RelocEntry). c.loop-reloc.entries.items ++ relocation_entries ss rs ≡ relocation_entries ss c.args.relocs.now)
           (drop_more c.args.relocs.now c.loop-reloc.reloc-index none lt) c.loop-reloc.invariant.entries)
-        c.in_ok-put_entry.ensures.entries;
+          c.in_ok-put_entry.ensures.entries;
       fits = All-more RelocFits c.args.relocs.now c.loop-reloc.reloc-index _ lt c.loop-reloc.invariant.fits c.put_entry.ensures.fits;
     }
 

@@ -9,7 +9,7 @@ use Rattle.s390x_elf.proofs.symbols.GlobalSymbols.number.Goals.{In-Some}
 within : (c : In-Some) → suc c.in-Some.place.now ≤ length c.args.self.now.symbols.items
 within c =
     let found : place_of (map symbol_of c.args.self.now.symbols.items) c.args.name.now ≡ Some c.in-Some.place.now =
-        sym (c.requires c.args.name.now) ∙ sym c.in-Some.ensures.value in
+    sym (c.requires c.args.name.now) ∙ sym c.in-Some.ensures.value in
     let number = ap number_behind found in
     omega (arith, number, number_within (map symbol_of c.args.self.now.symbols.items) c.args.name.now, length-map c.args.self.now.symbols.items symbol_of)
 

@@ -13,5 +13,5 @@ returns-clause-places c =
     let count : c.len-next.result ≡ length old = c.len-next.ensures ∙ c.args.self.now.symbols.ok.0 ∙ sym (length-map c.args.self.now.symbols.items symbol_of) in
     subst (λ (ss : List Symbol). Indexes c.insert.new.self ss) (sym items)
     (places_behind c.args.self.now.places c.insert.new.self old (symbol_of c.args.symbol) (string_bytes c.in_ok-name.name) c.len-next.result
-      c.requires.places c.requires.name c.in_ok-name.ensures.cases count
-      (btree_map_updates_text (string_bytes c.in_ok-name.name) c.args.self.now.places c.insert.new.self _ c.in_ok-insert.ensures.updates))
+    c.requires.places c.requires.name c.in_ok-name.ensures.cases count
+    (btree_map_updates_text (string_bytes c.in_ok-name.name) c.args.self.now.places c.insert.new.self _ c.in_ok-insert.ensures.updates))
