@@ -1,0 +1,5 @@
+pub mod Forms
+pub mod Spelling
+pub mod Text
+pub mod Lines
+pub mod Disassembly
