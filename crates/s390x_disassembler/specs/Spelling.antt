@@ -14,16 +14,16 @@ abbrev pub names_in : List (record { now : List ℕ }) → List (List ℕ)
 names_in names = map (λ name. name.now) names
 
 -- the letters for the values of a mask, from 0 on
-abbrev pub letter_table : Suffix → List (List ℕ)
-letter_table Plain = []
-letter_table Size = names_in SIZES
-letter_table ThirdSize = names_in SIZES
-letter_table HalfwordSize = names_in HALFWORD_SIZES
-letter_table SizeAndCode = names_in SIZES_AND_CODES
-letter_table Condition = names_in CONDITIONS
-letter_table Trap = names_in TRAPS
-letter_table Jump = names_in JUMPS
-letter_table Return = names_in RETURNS
+abbrev pub letters_for : Suffix → List (List ℕ)
+letters_for Plain = []
+letters_for Size = names_in SIZES
+letters_for ThirdSize = names_in SIZES
+letters_for HalfwordSize = names_in HALFWORD_SIZES
+letters_for SizeAndCode = names_in SIZES_AND_CODES
+letters_for Condition = names_in CONDITIONS
+letters_for Trap = names_in TRAPS
+letters_for Jump = names_in JUMPS
+letters_for Return = names_in RETURNS
 
 -- the value that chooses: a mask, or two in one number, or the mask in the first register's field
 abbrev pub choice : Suffix → Fields → ℕ
@@ -34,4 +34,4 @@ choice _ f = slice_index f.masks 0
 
 -- the letters that the fields choose; none where the value stands among the operands
 unfoldable pub letters_of : Suffix → Fields → List ℕ
-letters_of s f = name_in (letter_table s) (choice s f)
+letters_of s f = name_in (letters_for s) (choice s f)

@@ -1,6 +1,6 @@
 //! How a machine row is written: its mnemonic, and which operands follow.
 ghost use Rattle.std.specs.Prelude.{◌≡◌, map};
-ghost use Rattle.s390x_disassembler.specs.Spelling.{letter_table, choice, letters_of, name_in};
+ghost use Rattle.s390x_disassembler.specs.Spelling.{letters_for, choice, letters_of, name_in};
 
 use crate::forms::Form;
 use s390x_format::Fields;
@@ -61,9 +61,9 @@ pub const RETURNS: [&str; 16] = [
     "nopr", "bor", "bhr", "bnler", "blr", "bnher", "blhr", "bner", "ber", "bnlhr", "bher", "bnlr", "bler", "bnhr", "bnor", "br",
 ];
 
-// The letters from which a suffix chooses.
-fn table(suffix: Suffix) -> &'static [&'static str]
-    ensures { map (λ name. name.now) result.now ≡ letter_table suffix }
+/// The letters from which a suffix chooses.
+pub fn letter_table(suffix: Suffix) -> &'static [&'static str]
+    ensures { map (λ name. name.now) result.now ≡ letters_for suffix }
 {
     match suffix {
         Suffix::Plain => &[],
@@ -94,7 +94,7 @@ fn chosen(suffix: Suffix, fields: &Fields) -> usize
 pub fn letters(suffix: Suffix, fields: &Fields) -> &'static str
     ensures { result.now ≡ letters_of suffix fields.now }
 {
-    name_at(table(suffix), chosen(suffix, fields))
+    name_at(letter_table(suffix), chosen(suffix, fields))
 }
 
 // The name at a place of a table; an empty text past its end.
