@@ -1,9 +1,10 @@
 -- Reading a disassembly from its head on.
-use Rattle.std.proofs.Common.{◌≡◌, ℕ, zero, suc, ◌+◌, ◌-◌, ◌%◌, ◌^◌, ◌<◌, ◌≤◌, false, true, List, [], ◌∷◌, ◌++◌, length, take, drop, get_or, min, refl, sym, ap, ap₂, subst, ◌∙◌, append-nil, length-append, arith, Option, inl, inr}
+use Rattle.std.proofs.Common.{◌≡◌, ℕ, zero, suc, ◌+◌, ◌-◌, ◌%◌, ◌^◌, ◌<◌, ◌≤◌, false, true, List, [], ◌∷◌, ◌++◌, length, take, drop, get_or, min, refl, sym, ap, ap₂, subst, ◌∙◌, append-nil, length-append, take-add, arith, Option, inl, inr}
 use Rattle.std.specs.Prelude.{slice_index, if◌then◌else◌, nat_lt, Bool}
-use Rattle.std.proofs.lemmas.List.{append_cancel_left, take-append-drop, drop-drop, drop_all, length-take, length-drop, get_or-take}
+use Rattle.std.proofs.lemmas.List.{append_cancel_left, take-append-drop, drop-drop, drop_all, length-take, length-drop, get_or-take, take_all}
 use Rattle.std.proofs.lemmas.Bool.{cases_eq}
-use Rattle.hex.specs.Hex.{IsBytes}
+use Rattle.std.specs.Fmt.{digits}
+use Rattle.hex.specs.Hex.{IsBytes, encode_lower}
 use Rattle.s390x_format.specs.declared.decoder.Located.{Located}
 use Rattle.s390x_format.specs.Rows.{fetch_length_of}
 use Rattle.s390x_disassembler.specs.declared.line.Line.{Line}
@@ -13,6 +14,11 @@ use Rattle.s390x_disassembler.specs.Disassembly.{address_of, full_line, line_tex
 use Rattle.s390x_disassembler.specs.Assembly.{IsHead, IsWhole}
 use Rattle.s390x_disassembler.proofs.OneInstruction.{one_text}
 use Rattle.s390x_disassembler.proofs.Distinct.{line_and_rest, nothing, line_length, part_bytes}
+
+full_same : (a b : ℕ) (u v : List ℕ) (x y : Option Located) (p q : List ℕ) → a ≡ b → u ≡ v → found_text a u x ≡ found_text a u y → p ≡ q → full_line a u x ++ p ≡ full_line b v y ++ q
+full_same a b u v x y p q ea eu ef ep =
+    ap (λ (t : List ℕ). (digits 16 false a ++ (58 ∷ (32 ∷ (encode_lower u ++ (32 ∷ (t ++ (10 ∷ []))))))) ++ p) ef
+    ∙ ap₂ (λ (c : ℕ) (w : List ℕ). full_line c w y ++ p) ea eu ∙ ap (λ (t : List ℕ). full_line b v y ++ t) ep
 
 -- two lists of lines that cover the same have one text
 pub one_cover : (base s e : ℕ) (c : List ℕ) (ls ms : List Line) → e ≡ length c → Covers c s e ls → Covers c s e ms → lines_text base c ls ≡ lines_text base c ms
@@ -26,7 +32,7 @@ one_cover base s e c (l ∷ ls) (m ∷ ms) len x y =
     let found : found_text (address_of base l.offset) (bytes_at c l) l.found ≡ found_text (address_of base l.offset) (bytes_at c l) m.found =
     one_text _ (bytes_at c l) l.found m.found x.1.found (subst (λ (w : List ℕ). IsFound w m.found) (sym bytes) y.1.found) in
     let rest : lines_text base c ls ≡ lines_text base c ms = one_cover base (s + l.length) e c ls ms len x.2 (subst (λ (n : ℕ). Covers c (s + n) e ms) (sym size) y.2) in
-    rw (line_and_rest (address_of base l.offset) (bytes_at c l) l.found (lines_text base c ls), line_and_rest (address_of base m.offset) (bytes_at c m) m.found (lines_text base c ms), found, rest, bytes, place) refl
+    full_same (address_of base l.offset) (address_of base m.offset) (bytes_at c l) (bytes_at c m) l.found m.found _ _ (ap (λ (o : ℕ). address_of base o) place) bytes found rest
 
 -- what is left of a disassembly of c where code is read
 pub record Ahead (base : ℕ) (c code rest : List ℕ) : Type 0 where
@@ -42,15 +48,6 @@ pub record IsNext (base : ℕ) (c code bytes more : List ℕ) : Type 0 where
 
 pub begin : (base : ℕ) (c text : List ℕ) → IsDisassembly base c text → Ahead base c [] text
 begin base c text d = record { lines = d.lines; covers = d.covers; text_is = d.text_is; code_is = refl }
-
-take_drop : (n k : ℕ) (xs : List ℕ) → take n xs ++ take k (drop n xs) ≡ take (n + k) xs
-take_drop zero k xs = ap (λ (m : ℕ). take m xs) (omega arith)
-take_drop (suc n) k [] = nothing_taken k ∙ sym (nothing_taken (suc n + k))
-  where
-    nothing_taken : (m : ℕ) → ◌≡◌ {A = List ℕ} (take m []) []
-    nothing_taken zero = refl
-    nothing_taken (suc m) = refl
-take_drop (suc n) k (x ∷ xs) = let e : suc n + k ≡ suc (n + k) = omega arith in rw e (ap (λ (t : List ℕ). x ∷ t) (take_drop n k xs))
 
 -- a line whose bytes are fewer than the first tells ends the code
 last_line : (c : List ℕ) (m : Line) → IsLine c m → (IsWhole (bytes_at c m) → ⊥) → m.offset + m.length ≡ length c
@@ -85,7 +82,7 @@ next_line base c code rest bytes more hc some a head = next a.lines a.covers a.t
             lines = ms;
             covers = subst (λ (n : ℕ). Covers c n (length c) ms) (sym long) x.2;
             text_is = t.1;
-            code_is = ap₂ (λ (p q : List ℕ). p ++ q) a.code_is (t.0 ∙ ap (λ (o : ℕ). take m.length (drop o c)) x.0) ∙ take_drop (length code) m.length c ∙ ap (λ (n : ℕ). take n c) (sym long);
+            code_is = ap₂ (λ (p q : List ℕ). p ++ q) a.code_is (t.0 ∙ ap (λ (o : ℕ). take m.length (drop o c)) x.0) ∙ sym (take-add (length code) m.length c) ∙ ap (λ (n : ℕ). take n c) (sym long);
           };
           ends = λ part. t.1 ∙ none_left ms m (last_line c m x.1 (λ w. part (ap length t.0 ∙ w ∙ ap (λ (bs : List ℕ). fetch_length_of (slice_index bs 0)) (sym t.0)))) x.0 x.2;
         }
@@ -106,9 +103,5 @@ pub all_read : (base : ℕ) (c code : List ℕ) → Ahead base c code [] → cod
 all_read base c code a = read a.lines a.covers a.text_is
   where
     read : (ls : List Line) → Covers c (length code) (length c) ls → [] ≡ lines_text base c ls → code ≡ c
-    read [] x e = a.code_is ∙ ap (λ (n : ℕ). take n c) x ∙ take_whole c
+    read [] x e = a.code_is ∙ take_all (length code) c (omega (arith, x))
     read (l ∷ ls) x e = absurd (nothing _ _ (e ∙ line_and_rest (address_of base l.offset) (bytes_at c l) l.found (lines_text base c ls)))
-
-    take_whole : (xs : List ℕ) → take (length xs) xs ≡ xs
-    take_whole [] = refl
-    take_whole (x ∷ xs) = ap (λ (t : List ℕ). x ∷ t) (take_whole xs)

@@ -7,7 +7,7 @@ ghost use Rattle.s390x_disassembler.specs.Assembly.{IsSource, IsProposed, IsNoDi
 use crate::candidate::candidate;
 use crate::checking::{full_line, strip, wrong_line};
 use crate::line::found_in;
-use crate::scan::{behind, position, word};
+use crate::scan::{behind, first, position, word};
 use hex::FromHexError;
 use s390x_format::fetch_length;
 use std::alloc::{AllocError, Global};
@@ -72,8 +72,7 @@ fn rest_behind<'a>(bytes: &[u8], more: &'a [u8]) -> &'a [u8]
     ensures partial { (IsWhole bytes.now → ⊥) → result.now ≡ [] }
     ensures shorter { length result.now ≤ length more.now }
 {
-    let first = if bytes.is_empty() { 0 } else { bytes[0] };
-    if bytes.len() == fetch_length(first) {
+    if bytes.len() == fetch_length(first(bytes)) {
         more
     } else {
         &[]

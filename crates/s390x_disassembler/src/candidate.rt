@@ -8,6 +8,7 @@ use crate::spelling::{Spelling, Suffix, letter_table};
 use crate::table::SPELLINGS;
 use s390x_format::kind::{layout, length};
 use s390x_format::layout::pack;
+use s390x_format::row::MachineRow;
 use s390x_format::table::MACHINE_ROWS;
 use std::alloc::{AllocError, Global};
 
@@ -15,14 +16,38 @@ use std::alloc::{AllocError, Global};
 pub fn candidate(alloc: Global, address: u64, line: &[u8]) -> Result<Vec<u8>, AllocError> {
     let mnemonic = word(line);
     let text = behind(line, mnemonic.len());
-    if mnemonic == b".short" {
+    if mnemonic == b".short".as_slice() {
         return numbers(alloc, 2, text);
     }
-    if mnemonic == b".byte" {
+    if mnemonic == b".byte".as_slice() {
         return numbers(alloc, 1, text);
     }
-    match find(&SPELLINGS, mnemonic) {
-        Some(named) => row_bytes(alloc, address, named, text),
+    named_bytes(alloc, address, &SPELLINGS, mnemonic, text)
+}
+
+// The bytes of a mnemonic and operands.
+fn named_bytes(
+    alloc: Global,
+    address: u64,
+    spellings: &[Spelling],
+    mnemonic: &[u8],
+    text: &[u8],
+) -> Result<Vec<u8>, AllocError> {
+    match find(spellings, mnemonic) {
+        Some(named) => {
+            if named.at < spellings.len() {
+                row_bytes(
+                    alloc,
+                    address,
+                    &MACHINE_ROWS,
+                    spellings[named.at],
+                    named,
+                    text,
+                )
+            } else {
+                Ok(Vec::new(alloc))
+            }
+        }
         None => Ok(Vec::new(alloc)),
     }
 }
@@ -78,34 +103,45 @@ fn place(table: &[&str], letters: &[u8]) -> Option<u8> {
 
 // Whether the first letters of a table are a jump's that is never taken.
 fn begins_with_nop(table: &[&str]) -> bool {
-    !table.is_empty() && table[0].as_bytes() == b"nop"
+    !table.is_empty() && table[0].as_bytes() == b"nop".as_slice()
 }
 
 // The bytes of a row with the operands of a text.
+#[tactic(auto, using(s390x_format::proofs::FormatFacts::layout_ok))]
 fn row_bytes(
     alloc: Global,
     address: u64,
+    rows: &[MachineRow],
+    spelling: Spelling,
     named: Named,
     text: &[u8],
 ) -> Result<Vec<u8>, AllocError> {
     let mut bytes = Vec::new(alloc);
-    if named.at < 401 {
-        let row = MACHINE_ROWS[named.at];
-        let (_, suffix, form) = SPELLINGS[named.at];
-        let mut slots = [0u32; 10];
-        slots[0] = u32::from(row.opcode);
-        put_letter(&mut slots, suffix, named.letter);
-        put_operands(
-            &mut slots,
-            address,
-            operands(form),
-            named.letter.is_none(),
-            text,
-        );
-        let number = pack(layout(row.format), &slots);
-        put_number(&mut bytes, number, length(row.format))?;
+    if named.at < rows.len() {
+        let MachineRow { format, opcode, .. } = rows[named.at];
+        let slots = slots_of(address, opcode, spelling, named.letter, text);
+        let number = pack(layout(format), &slots);
+        put_number(&mut bytes, number, length(format))?;
     }
     Ok(bytes)
+}
+
+// The values of a row with the operands of a text.
+fn slots_of(
+    address: u64,
+    opcode: u16,
+    spelling: Spelling,
+    letter: Option<u8>,
+    text: &[u8],
+) -> [u32; 10]
+    ensures { length result ≡ 10 }
+{
+    let (_, suffix, form) = spelling;
+    let mut slots = [0u32; 10];
+    slots[0] = u32::from(opcode);
+    put_letter(&mut slots, suffix, letter);
+    put_operands(&mut slots, address, operands(form), letter.is_none(), text);
+    slots
 }
 
 // A number's bytes, the most significant first.

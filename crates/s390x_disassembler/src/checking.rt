@@ -1,6 +1,6 @@
 //! Whether a text is that of some code.
 ghost use Rattle.std.specs.Prelude.{◌≡◌, ◌++◌, ◌≢◌, List, ℕ, length, IfOk, IfSome, MatchOption, OnOk, string_bytes};
-ghost use Rattle.s390x_disassembler.specs.Assembly.{BeginsWith, IsSource, Spells, bare_line};
+ghost use Rattle.s390x_disassembler.specs.Assembly.{BeginsWith, IsSource, Spells, bare_line, bare_text};
 ghost use Rattle.s390x_disassembler.specs.Disassembly.{IsDisassembly, full_line, line_text, lines_text};
 
 use crate::line::{Line, line_bytes};
@@ -62,11 +62,24 @@ fn behind_line<'a>(
     let address = base.wrapping_add(line.offset as u64);
     let bytes = line_bytes(code, line);
     let full = full_line(alloc, address, bytes, &line.found)?;
-    let behind = strip(text, full.as_bytes());
-    if behind.is_some() {
-        return Ok(behind);
+    match strip(text, full.as_bytes()) {
+        Some(rest) => Ok(Some(rest)),
+        None => behind_bare(alloc, base, code, line, text),
     }
-    let bare = bare_line(alloc, address, bytes, &line.found)?;
+}
+
+// What stands behind a line without its address and bytes.
+fn behind_bare<'a>(
+    alloc: Global,
+    base: u64,
+    code: &[u8],
+    line: &Line,
+    text: &'a [u8],
+) -> Result<Option<&'a [u8]>, AllocError>
+    ensures { IfOk result (λ rest. IfSome rest (λ r. text.now ≡ bare_text base code.now line.now ++ r.now)) }
+{
+    let address = base.wrapping_add(line.offset as u64);
+    let bare = bare_line(alloc, address, line_bytes(code, line), &line.found)?;
     Ok(strip(text, bare.as_bytes()))
 }
 

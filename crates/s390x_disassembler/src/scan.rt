@@ -16,6 +16,13 @@ pub fn position(text: &[u8], byte: u8) -> usize
     text.len()
 }
 
+/// The first byte, or 0.
+pub fn first(text: &[u8]) -> u8
+    ensures { result ≡ slice_index text.now 0 }
+{
+    if text.is_empty() { 0 } else { text[0] }
+}
+
 /// What stands before the first blank.
 pub fn word(text: &[u8]) -> &[u8]
     ensures { (xs p : List ℕ) → NoBlank xs → text.now ≡ xs ++ (32 ∷ p) → result.now ≡ xs }
@@ -37,8 +44,10 @@ pub fn behind(text: &[u8], count: usize) -> &[u8]
 /// The next number, with its sign, and what stands behind it.
 pub fn number(text: &[u8]) -> (i64, &[u8]) {
     let text = &text[number_start(text)..];
-    let is_negative = !text.is_empty() && text[0] == b'-';
-    let digits = if is_negative { &text[1..] } else { text };
+    let (is_negative, digits) = match text {
+        [b'-', digits @ ..] => (true, digits),
+        _ => (false, text),
+    };
     let end = digits_end(digits);
     let value = decimal(&digits[..end]);
     let value = if is_negative {
