@@ -6,8 +6,8 @@ use crate::spelling::{Spelling, Suffix};
 /// The spellings of the machine rows, in the order of their table: GNU's assembler's, and for the rows that it lacks LLVM's.
 #[rattlefmt::skip]
 pub const SPELLINGS: [Spelling; 401] = [
-    ("", Suffix::Return, Form::BranchRegister), // 7
-    ("basr", Suffix::Plain, Form::General2), // d
+    ("", Suffix::Return, Form::BranchRegister), // 07
+    ("basr", Suffix::Plain, Form::General2), // 0d
     ("lpr", Suffix::Plain, Form::General2), // 10
     ("lcr", Suffix::Plain, Form::General2), // 13
     ("nr", Suffix::Plain, Form::General2), // 14
