@@ -29,7 +29,7 @@ pub enum AssembleError {
 pub fn assemble(alloc: Global, base: u64, text: &[u8]) -> Result<Vec<u8>, AssembleError>
     ensures code { IfOk result (λ code. IsSource base code.items text.now) }
     ensures one { IfOk result (λ code. IsProposed base text.now code.items) }
-    ensures error { IfErr result (λ e. e ≢ OutOfMemory → IsNoDisassembly base text.now) }
+    ensures error { (line : ℕ) → result ≡ Err (Syntax line) → IsNoDisassembly base text.now }
 {
     match assembled(alloc, base, text) {
         Ok(Ok(code)) => Ok(code),

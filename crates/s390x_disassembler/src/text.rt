@@ -58,7 +58,7 @@ fn put_spelled(
     spelling: Spelling,
     fields: &Fields,
 ) -> Result<(), AllocError>
-    ensures { OnOk result (string_bytes out.new ≡ string_bytes out.old ++ spelled address (plain_row spelling) fields.now) }
+    ensures { OnOk result (string_bytes out.new ≡ string_bytes out.old ++ spelled address (plain_row spelling.entry) fields.now) }
 {
     let (stem, suffix, form) = spelling;
     let letters = letters(suffix, fields);
