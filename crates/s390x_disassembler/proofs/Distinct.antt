@@ -1,5 +1,5 @@
 -- Two codes with one disassembly are the same.
-use Rattle.std.proofs.Common.{◌≡◌, ℕ, zero, suc, ◌+◌, ◌/◌, ◌%◌, ◌^◌, ◌<◌, ◌≤◌, false, List, [], ◌∷◌, ◌++◌, length, take, drop, get_or, min, refl, sym, ap, ap₂, subst, ◌∙◌, append_assoc, arith, codes, Option, inl, inr}
+use Rattle.std.proofs.Common.{◌≡◌, ℕ, zero, suc, ◌+◌, ◌/◌, ◌%◌, false, List, [], ◌∷◌, ◌++◌, length, drop, get_or, refl, sym, ap, ap₂, subst, ◌∙◌, append_assoc, arith, Option, inl, inr}
 use Rattle.std.specs.Prelude.{slice_index, Result, Ok}
 use Rattle.std.specs.Fmt.{digits}
 use Rattle.std.proofs.lemmas.List.{append_cancel_left, take-append-drop, drop-drop, drop_all, length-take, get_or-take, get_or-drop, get_or_past}
@@ -11,14 +11,14 @@ use Rattle.s390x_format.specs.declared.decoder.Located.{Located}
 use Rattle.s390x_disassembler.specs.declared.line.Line.{Line}
 use Rattle.s390x_disassembler.specs.Words.{NoBlank}
 use Rattle.s390x_disassembler.specs.Text.{found_text}
-use Rattle.s390x_disassembler.specs.Lines.{bytes_at, unit_length, IsFound, IsLine, Covers}
-use Rattle.s390x_disassembler.specs.Disassembly.{address_of, full_line, line_text, lines_text, IsDisassembly}
+use Rattle.s390x_disassembler.specs.Lines.{bytes_at, IsFound, IsLine, Covers}
+use Rattle.s390x_disassembler.specs.Disassembly.{address_of, full_line, lines_text, IsDisassembly}
 use Rattle.s390x_disassembler.proofs.OneInstruction.{one_text}
 
 -- what stands before the first blank, and after it
-record Halves (xs ys p q : List ℕ) : Type 0 where
-  before : xs ≡ ys
-  after : p ≡ q
+pub record Halves (xs ys p q : List ℕ) : Type 0 where
+  pub before : xs ≡ ys
+  pub after : p ≡ q
 
 pub first_blank : (xs ys p q : List ℕ) → NoBlank xs → NoBlank ys → xs ++ (32 ∷ p) ≡ ys ++ (32 ∷ q) → Halves xs ys p q
 first_blank [] [] p q h g e = record { before = refl; after = ap (drop 1) e }
@@ -50,7 +50,7 @@ digit_not_blank (suc (suc (suc (suc (suc (suc (suc (suc (suc (suc (suc (suc (suc
 pub NoBlank-hex : (bs : List ℕ) → NoBlank (encode_lower bs)
 unfolding encode_with
 NoBlank-hex [] = tt
-NoBlank-hex (b ∷ bs) = (digit_not_blank (b / 16), digit_not_blank (b % 16), NoBlank-hex bs)
+NoBlank-hex (b ∷ bs) = (digit_not_blank (b / 16), (digit_not_blank (b % 16), NoBlank-hex bs))
 
 ok_same : (x y : List ℕ) → ◌≡◌ {A = Result (List ℕ) FromHexError} (Ok x) (Ok y) → x ≡ y
 ok_same x y e = cc
@@ -67,7 +67,7 @@ line_and_rest a u x rest =
 -- the bytes of two lines at one address, and what stands behind them
 record SameLine (u v rest more : List ℕ) : Type 0 where
   bytes : u ≡ v
-  rest : rest ≡ more
+  behind : rest ≡ more
 
 same_line : (a : ℕ) (u v : List ℕ) (x y : Option Located) (rest more : List ℕ) → IsBytes u → IsBytes v → IsFound u x → IsFound v y → full_line a u x ++ rest ≡ full_line a v y ++ more → SameLine u v rest more
 same_line a u v x y rest more h g fx fy e =
@@ -76,7 +76,7 @@ same_line a u v x y rest more h g fx fy e =
     let bytes : u ≡ v = hex_same u v h g halves.before in
     let text : found_text a u x ≡ found_text a v y = one_text a u x y fx (subst (λ (w : List ℕ). IsFound w y) (sym bytes) fy) ∙ ap (λ (w : List ℕ). found_text a w y) bytes in
     let ends : found_text a v y ++ (10 ∷ rest) ≡ found_text a v y ++ (10 ∷ more) = ap (λ (t : List ℕ). t ++ (10 ∷ rest)) (sym text) ∙ halves.after in
-    record { bytes = bytes; rest = ap (drop 1) (append_cancel_left (found_text a v y) _ _ ends) }
+    record { bytes = bytes; behind = ap (drop 1) (append_cancel_left (found_text a v y) _ _ ends) }
 
 pub part_bytes : (code : List ℕ) (l : Line) → IsBytes code → IsBytes (bytes_at code l)
 part_bytes code l h i = elim (cases_lt i l.length) [
@@ -102,7 +102,7 @@ same_codes base s c d (l ∷ ls) (m ∷ ms) hc hd cc cd e =
     let t = same_line (address_of base l.offset) (bytes_at c l) (bytes_at d m) l.found m.found _ _ (part_bytes c l hc) (part_bytes d m hd) cc.1.found cd.1.found here in
     let sizes : l.length ≡ m.length = sym (line_length c l cc.1) ∙ ap length t.bytes ∙ line_length d m cd.1 in
     let after : Covers d (s + l.length) (length d) ms = subst (λ (n : ℕ). Covers d (s + n) (length d) ms) (sym sizes) cd.2 in
-    let tail = same_codes base (s + l.length) c d ls ms hc hd cc.2 after t.rest in
+    let tail = same_codes base (s + l.length) c d ls ms hc hd cc.2 after t.behind in
     let left : drop s c ≡ bytes_at c l ++ drop (s + l.length) c = whole c l s cc.0 in
     let right : drop s d ≡ bytes_at d m ++ drop (s + m.length) d = whole d m s cd.0 in
     left ∙ ap₂ (λ (u v : List ℕ). u ++ v) t.bytes (tail ∙ ap (λ (n : ℕ). drop (s + n) d) sizes) ∙ sym right

@@ -1,5 +1,5 @@
 -- Some bytes are those of one instruction at most, and have one text.
-use Rattle.std.proofs.Common.{◌≡◌, ℕ, ◌<◌, true, List, length, get_or, take, refl, sym, ap, ap₂, subst, ◌∙◌, Option, Some, None}
+use Rattle.std.proofs.Common.{◌≡◌, ℕ, ◌<◌, true, List, get_or, take, refl, sym, ap, ap₂, subst, ◌∙◌, Option, Some, None}
 use Rattle.s390x_format.specs.declared.row.MachineRow.{MachineRow}
 use Rattle.s390x_format.specs.declared.index.FirstByte.{FirstByte}
 use Rattle.s390x_format.specs.declared.first_bytes.TheConstants.{FIRST_BYTES}

@@ -4,4 +4,3 @@ pub mod Spelling
 pub mod Text
 pub mod Lines
 pub mod Disassembly
-pub mod Assembly
