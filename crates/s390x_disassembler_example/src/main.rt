@@ -1,12 +1,7 @@
-//! Reads code as hexadecimal digits from standard input, and prints what stands in it, a line for each instruction.
+//! Reads code as hexadecimal digits from standard input, and prints its disassembly.
 #![tactic(auto)]
 
-mod line;
-mod listing;
-mod mnemonics;
-mod text;
-
-use crate::listing::disassembly;
+use s390x_disassembler::disassemble;
 use std::alloc::Global;
 use std::io;
 use std::io::Read;
@@ -38,8 +33,8 @@ fn input_text(rt: &impl io::Input, alloc: Global) -> Result<String, Failure> {
         .read_to_end(&mut input)
         .map_err(|_| Failure::Other)?;
     let digits = without_line_feed(&input);
-    let bytes = hex::decode(alloc, digits).map_err(|_| Failure::NotHex)?;
-    disassembly(alloc, &bytes).map_err(|_| Failure::Other)
+    let code = hex::decode(alloc, digits).map_err(|_| Failure::NotHex)?;
+    disassemble(alloc, 0, &code).map_err(|_| Failure::Other)
 }
 
 // The text without the line feed that ends it.

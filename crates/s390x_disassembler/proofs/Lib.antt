@@ -1,0 +1,5 @@
+pub mod Pieces
+pub mod Rows
+pub mod Covering
+pub mod OneInstruction
+pub mod Distinct

@@ -1,0 +1,14 @@
+//! A disassembler of code, whose lines are the code.
+#![tactic(auto)]
+
+mod forms;
+mod line;
+mod listing;
+mod spelling;
+mod table;
+mod text;
+
+pub use forms::{Form, Operand, operands};
+pub use line::{Line, found_in, line_at};
+pub use listing::{disassemble, instruction_text};
+pub use spelling::{Spelling, Suffix};

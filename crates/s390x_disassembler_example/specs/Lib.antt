@@ -1,3 +1,0 @@
-pub mod Disassembly
-pub mod Lines
-pub mod Text
