@@ -12,6 +12,7 @@ ghost use Rattle.s390x_interference.specs.Retry.{IsRegisterWork, Retry};
 ghost use Rattle.s390x_machine.specs.Layout.{Layout};
 ghost use Rattle.s390x_schedule.specs.declared.schedule.ScheduleEnd.{ScheduleEnd};
 ghost use Rattle.s390x_schedule.specs.Schedule.{World, EndsAs};
+ghost use Rattle.s390x_interference.specs.Leaving.{LoopIsLeft};
 ghost use Rattle.s390x_interference.specs.Shared.{LoopIsShared};
 ghost use Rattle.s390x_interference.specs.Schedules.{Interference, Guarded};
 
@@ -47,4 +48,9 @@ pub fn folded_loops_are_retry_loops()
 /// add to one word by it. The first one's swap succeeds and stores once, and the other one's finds that and stores nothing.
 pub fn premises_can_be_met()
     ensures { LoopIsShared }
+{}
+
+/// So can what is said of a run that leaves by a break: by the finished code of a function whose loop breaks before it swaps, and one processor that does so.
+pub fn a_break_can_come()
+    ensures { LoopIsLeft }
 {}
