@@ -173,7 +173,7 @@ given() {
     printf "$2" > "$room/wrong/$1"
 }
 told() {
-    sed -n "/ of $(sed 's/[^^a-zA-Z]/\\&/g' <<< "$room/wrong/$1"), which/,/ which ended/p" "$room/all" > "$room/err"
+    awk -v named=" of $room/wrong/$1, which ended" '/, which ended/ { on = index($0, named) } on' "$room/all" > "$room/err"
     status=0
     want "--try of $1" 0 "$2"
 }
