@@ -1,7 +1,7 @@
 -- Reading a disassembly from its head on.
-use Rattle.std.proofs.Common.{◌≡◌, ℕ, zero, suc, ◌+◌, ◌-◌, ◌%◌, ◌^◌, ◌<◌, ◌≤◌, false, true, List, [], ◌∷◌, ◌++◌, length, take, drop, get_or, min, refl, sym, ap, ap₂, subst, ◌∙◌, append-nil, length-append, take-add, arith, Option, inl, inr}
+use Rattle.std.proofs.Common.{◌≡◌, ℕ, ◌+◌, ◌<◌, false, true, List, [], ◌∷◌, ◌++◌, length, take, drop, refl, sym, ap, ap₂, subst, ◌∙◌, length-append, take-add, arith, Option, inl, inr}
 use Rattle.std.specs.Prelude.{slice_index, if◌then◌else◌, nat_lt, Bool}
-use Rattle.std.proofs.lemmas.List.{append_cancel_left, take-append-drop, drop-drop, drop_all, length-take, length-drop, get_or-take, take_all}
+use Rattle.std.proofs.lemmas.List.{length-drop, get_or-take, take_all}
 use Rattle.std.proofs.lemmas.Bool.{cases_eq}
 use Rattle.std.specs.Fmt.{digits}
 use Rattle.hex.specs.Hex.{IsBytes, encode_lower}
@@ -10,7 +10,7 @@ use Rattle.s390x_format.specs.Rows.{fetch_length_of}
 use Rattle.s390x_disassembler.specs.declared.line.Line.{Line}
 use Rattle.s390x_disassembler.specs.Text.{found_text}
 use Rattle.s390x_disassembler.specs.Lines.{bytes_at, unit_length, IsFound, IsLine, Covers}
-use Rattle.s390x_disassembler.specs.Disassembly.{address_of, full_line, line_text, lines_text, IsDisassembly}
+use Rattle.s390x_disassembler.specs.Disassembly.{address_of, full_line, lines_text, IsDisassembly}
 use Rattle.s390x_disassembler.specs.Assembly.{IsHead, IsWhole}
 use Rattle.s390x_disassembler.proofs.OneInstruction.{one_text}
 use Rattle.s390x_disassembler.proofs.Distinct.{line_and_rest, nothing, line_length, part_bytes}

@@ -1,4 +1,4 @@
-use Rattle.std.proofs.Common.{◌≡◌, ◌++◌, sym, ◌∙◌}
+use Rattle.std.proofs.Common.{sym, ◌∙◌}
 use Rattle.std.proofs.lemmas.List.{append_cancel_left}
 use Rattle.s390x_disassembler.specs.Disassembly.{line_text}
 use Rattle.s390x_disassembler.proofs.checking.behind_line.Goals as goal
