@@ -1,12 +1,13 @@
 #!/usr/bin/env python3
 """Compares the disassembler with GNU's objdump and LLVM's, and has GNU's assembler and LLVM's assemble its lines.
 
-    checks/disassembler.py [--each N] [--seed N] [--unproved] [--llvm llvm-mc]
+    checks/disassembler.py [--each N] [--seed N] [--codes N] [--unproved] [--llvm llvm-mc]
 
-For each of the 401 machine rows it draws N instructions (20), and takes their lines from the program s390x_disassembler_example. An
-instruction's text has to be objdump's but for blanks; where objdump has no such instruction, or names an element's size by a number, it has to be LLVM's. What differs
-by a rule is counted by the rule (RULES). Then both assemblers have to give the line's bytes. It ends with 0 where all agree, and else
-with 1. --unproved takes a build by `rt try`.
+For each of the 401 machine rows it draws N instructions (20), and takes their lines from the program s390x_disassembler_example, which
+assembles its own text again, with addresses and bytes and without, and fails where that is another code. An instruction's text has to be
+objdump's but for blanks; where objdump has no such instruction, or names an element's size by a number, it has to be LLVM's. What differs
+by a rule is counted by the rule (RULES). Then both assemblers have to give the line's bytes. At last the program reads as many drawn codes
+as --codes says (100000). It ends with 0 where all agree, and else with 1. --unproved takes a build by `rt try`.
 It needs s390x-linux-gnu-objdump and -as, and llvm-mc of LLVM 22 (for rows of later machines; those that an older one lacks are counted).
 """
 import argparse
@@ -255,6 +256,7 @@ def main():
     parser = argparse.ArgumentParser()
     parser.add_argument("--each", type=int, default=20)
     parser.add_argument("--seed", type=int, default=1)
+    parser.add_argument("--codes", type=int, default=100000)
     parser.add_argument("--unproved", action="store_true")
     parser.add_argument("--llvm", default="llvm-mc")
     args = parser.parse_args()
@@ -269,10 +271,13 @@ def main():
         wrong += more
         for name, count in sorted(counts.items()):
             print(f"{count:7} {name}")
+    drawn = [rows.draw(rng.choice(rows.rows), rng) for _ in range(args.codes)]
+    read_again = program_lines(b"".join(drawn), args.unproved)
+    print(f"{len(read_again):7} drawn instructions assembled again, with addresses and bytes and without")
     for line in wrong[:40]:
         print("wrong", line)
     print(f"{len(wrong)} wrong")
-    sys.exit(1 if wrong else 0)
+    sys.exit(1 if wrong or len(read_again) != args.codes else 0)
 
 
 if __name__ == "__main__":
