@@ -1,6 +1,6 @@
 """Runs code on the emulator qemu-s390x: a static ELF file with the code, regions of memory, and a stub before and behind them.
 
-The stub loads all registers from memory, branches to the code with condition code 0, and stores the registers when the code returns to
+The stub loads all registers from memory, branches to the code with the condition code that is wanted, and stores the registers when the code returns to
 RETURN, or when a signal stops it. Then it writes the registers and the regions to standard output.
 """
 import os
@@ -86,17 +86,19 @@ def call(number, *arguments):
     return loads + bytes([0x0a, number])
 
 
-CLEAR_CODE = bytes([0x19, 0x00])  # CR %r0,%r0
+def set_code(code):
+    """Sets the condition code, by SPM of %r0."""
+    return lgfi(0, code << 28) + bytes([0x04, 0x00])
 
 
-def entry(base, areas):
-    """Installs the handler, loads the registers and branches to the code."""
+def entry(base, areas, condition):
+    """Installs the handler, sets the condition code, loads the registers and branches to the code."""
     code = call(SYS_SIGALTSTACK, areas["stack"], 0)
     for signal in SIGNALS:
         code += call(SYS_SIGACTION, signal, areas["action"], 0, 8)
     code += lgfi(1, START + 0x80)
     code += b"".join(vector_access(0x06, v, 16 * v, 1) for v in range(32))
-    code += CLEAR_CODE + lmg(0, 15, START)
+    code += set_code(condition) + lmg(0, 15, START)
     return code + branch(STUB + len(code), base)
 
 
@@ -132,7 +134,7 @@ def handler(tail):
     return code + branch(HANDLER + len(code), tail)
 
 
-def stub(base, regions):
+def stub(base, regions, condition):
     """The stub's page, with what its calls of the system read."""
     areas = {"stack": STUB + 0xf00, "action": STUB + 0xf40}
     tail = STUB + 0x900
@@ -142,7 +144,7 @@ def stub(base, regions):
         assert address + len(data) <= limit
         page[address - STUB:address - STUB + len(data)] = data
 
-    put(STUB, entry(base, areas), RETURN)
+    put(STUB, entry(base, areas, condition), RETURN)
     put(RETURN, behind_return(tail), HANDLER)
     put(HANDLER, handler(tail), tail)
     put(tail, ending(regions), areas["stack"])
@@ -200,10 +202,10 @@ def stop(signal, code, address, place):
     return "Operation", address
 
 
-def run(base, image, general, vector, regions, folder):
-    """Runs the image from its base with these registers and regions, each on pages of its own; None where it doesn't end."""
+def run(base, image, general, vector, regions, folder, condition=0):
+    """Runs the image from its base with these registers, regions, each on pages of its own, and condition code; None where it doesn't end."""
     values = struct.pack(">16Q", *general) + b"".join(v.to_bytes(16, "big") for v in vector)
-    segments = [(STUB, stub(base, regions)), (START, values), (RESULT, bytes(PAGE)), (STACK, bytes(STACK_SIZE)), (base, image)]
+    segments = [(STUB, stub(base, regions, condition)), (START, values), (RESULT, bytes(PAGE)), (STACK, bytes(STACK_SIZE)), (base, image)]
     path = os.path.join(folder, "function.elf")
     with open(path, "wb") as file:
         file.write(elf(segments + regions))

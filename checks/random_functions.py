@@ -3,10 +3,10 @@
 
     checks/random_functions.py --try --count 300 --seed 1
 
-An engineer runs it by hand; it is no part of the gate. Each function is on registers and memory (`random_jobs.py`). Compared are where and
+An engineer runs it by hand; it is no part of the gate. Each function is on registers, vector registers and memory, with calls, loops and frames (`random_jobs.py`). Compared are where and
 why a run ends, all general and vector registers, the condition code, and every byte of the memory. With --try an unproved build of the
 program is taken; without, the proved one. Rows that the emulator lacks are named, and functions that reach one aren't compared.
-It ends with 0 where all functions agree, with 1 where one differs, and with 2 where it can't run.
+It ends with 0 where all functions agree, with 1 where one differs or is refused, and with 2 where it can't run.
 """
 import argparse
 import collections
@@ -20,9 +20,15 @@ import emulator
 import program
 from random_jobs import CODE_BASE, RandomJob
 
-# The rows that qemu-s390x 7.2 doesn't have: those of the miscellaneous-instruction-extensions facility 4. Where it stops at any other row
-# as no instruction, the two differ.
-LACKING = {"clzg", "ctzg"}
+# The rows that qemu-s390x 7.2 doesn't have: those of the miscellaneous-instruction-extensions facility 4 and of the vector-enhancements facility 3,
+# with the sizes of elements that the latter adds to other rows. Where it stops at any other row as no instruction, the two differ.
+LACKING = {"clzg", "ctzg", "vblend", "veval", "vdlf", "vrlf", "vdf", "vrf"}
+LACKING_SIZES = {
+    "vmlb": (3, 4), "vmlhb": (3, 4), "vmhb": (3, 4), "vmleb": (3,), "vmeb": (3,), "vmlob": (3,), "vmob": (3,),
+    "vmxb": (4,), "vmxlb": (4,), "vmnb": (4,), "vmnlb": (4,), "vavgb": (4,), "vavglb": (4,),
+    "vlpb": (4,), "vlcb": (4,), "vclzb": (4,), "vctzb": (4,), "vupllb": (3,), "vuplhb": (3,), "vuplb": (3,), "vuphb": (3,),
+    "vceqb": (4,), "vchb": (4,), "vchlb": (4,), "vecq": (4,), "veclq": (4,),
+}
 
 MOST_STEPS = 10000
 
@@ -99,9 +105,9 @@ class Comparison:
             return self.judge_broken(job, image)
         if emulated is None:
             return "different", ["the emulator doesn't end"]
-        row = self.row_of(image, emulated.place)
-        if emulated.kind == "Operation" and row in LACKING:
-            self.lacking[row] += 1
+        lacking = self.lacking_at(image, emulated)
+        if lacking:
+            self.lacking[lacking] += 1
             return "that reach a row which the emulator lacks", []
         found = differences(told, emulated)
         if not found:
@@ -109,10 +115,15 @@ class Comparison:
             self.counts[f"  of these {'return' if emulated.kind is None else 'stop by ' + emulated.kind}"] += 1
         return ("different" if found else "equal"), found
 
-    def row_of(self, image, place):
-        """The mnemonic of the instruction at a place of the image."""
-        offset = place - CODE_BASE
-        return row_at(self.names, image[offset:offset + 6]) if 0 <= offset < len(image) else "no row"
+    def lacking_at(self, image, emulated):
+        """The row at which the emulator stops, with the size of its elements, where it lacks it; else None."""
+        offset = emulated.place - CODE_BASE
+        if emulated.kind not in ("Operation", "Specification") or not 0 <= offset < len(image):
+            return None
+        row, size = row_at(self.names, image[offset:offset + 6]), image[offset + 4] >> 4 if offset + 4 < len(image) else 0
+        if row in LACKING:
+            return row
+        return f"{row} with elements of {8 << size} bits" if size in LACKING_SIZES.get(row, ()) else None
 
     def emulate(self, job, image):
         return emulator.run(CODE_BASE, image, job.general, job.vector, job.regions, self.folder)
@@ -176,7 +187,8 @@ def report(comparison, words):
     print(f"{len(comparison.rows)} of the {len(comparison.names)} machine rows stand in functions that are equal")
     if words.rows:
         print("not among them: " + " ".join(sorted(set(comparison.names.values()) - comparison.rows)))
-    return 1 if comparison.counts["different"] else 0
+    failed = comparison.counts["different"] + sum(count for word, count in comparison.counts.items() if word.startswith("refused"))
+    return 1 if failed else 0
 
 
 if __name__ == "__main__":

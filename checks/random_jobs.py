@@ -1,13 +1,18 @@
 """Random jobs: functions of one to four blocks on registers and memory, with what registers and memory hold when they start.
 
-Registers: %r0 and %r2 to %r9 are read and written, %r10 is a small index, %r11 counts loops, %r12 and %r13 lead to regions, %r14 is where
-the function returns to, %r15 leads to its frame, and %r1 belongs to helpers.
+Registers: %r0 and %r2 to %r8 are read and written, %r10 is a small index, %r9 and %r11 count loops, %r12 and %r13 lead to regions, %r14 is where
+the function returns to, %r15 leads to its frame, and %r1 belongs to helpers. All vector registers are read and written.
+
+A function calls, and leaves for, a few instructions at the symbol u2, which return by %r14.
 """
 import emulator
 
-TARGETS = [0, 2, 3, 4, 5, 6, 7, 8, 9]
+TARGETS = [0, 2, 3, 4, 5, 6, 7, 8]
 SOURCES = [r for r in range(16) if r != 1]
-PAIRS = [(2, 3), (4, 5), (6, 7), (8, 9)]
+PAIRS = [(2, 3), (4, 5), (6, 7)]
+
+# The counters of loops that stand in one another, the outer one's first.
+COUNTERS = ["%r11", "%r9"]
 
 # The second region is named by %r13 plus this.
 FAR = 600000
@@ -20,6 +25,13 @@ CODE_BASE = 0x100000
 
 # Where the regions of %r12, of %r13, of the symbol and of the frame begin.
 DATA, FAR_DATA, SYMBOL, FRAME = [0x1000000, 0x1000000, 0x120000000], 0x3000000, 0x5000000, 0x7000000
+
+# Where the code at u2 begins: AGR %r2,%r3; LGR %r0,%r4; CGR %r2,%r5; BCR 15,%r14.
+CALLEE, CALLEE_CODE = 0x9000000, bytes.fromhex("b9080023b9040004b920002507fe")
+
+# What the sizes of a frame are drawn from.
+SIZES = [0, 0, 8, 16, 24]
+LARGE_SIZES = [0, 8, 4096, 65536, 600000]
 
 # An instruction is its name and its fields. A word in capitals is drawn anew (`Words`); `=` is the target that was drawn last.
 INSTRUCTIONS = """
@@ -101,6 +113,7 @@ StoreImm64SExt16 I16 M
 LoadMultiple64 FIRST LAST M
 StoreMultiple64 SFIRST SLAST M
 LoadAddr T M
+LoadAddr T LABEL
 LoadSymbolReloc T Absolute(u1,I16)
 AtomicRmw ATOMIC T S A
 AtomicRmw ATOMIC T S A
@@ -109,6 +122,64 @@ AtomicCas64 T = S A
 Fence
 Nop0
 Nop2
+""".split("\n")[1:-1]
+
+# The same on vector registers: X is the target, W the same again, V a source. LANES is a size of lanes with the number of one of them.
+VECTOR_INSTRUCTIONS = """
+VecRRR VECTOR2 X V V
+VecRRR VECTOR2 X V V
+VecRRR VECTOR2 X V V
+VecRR VECTOR1 X V
+VecRR VECTOR1 X V
+VecShiftRR VECTORSHIFT X V U8 SN
+VecSelect X V V V
+VecPermute X V V V
+VecPermuteDWImm X V V U1 U1
+VecIntCmp VECTORCMP X V V
+VecIntCmpS VECTORCMP X V V
+VecInt128SCmpHi X V V
+VecInt128UCmpHi X V V
+VecLoad X M
+VecLoadRev X M
+VecLoadByte16Rev X M
+VecLoadByte32Rev X M
+VecLoadByte64Rev X M
+VecLoadElt16Rev X M
+VecLoadElt32Rev X M
+VecLoadElt64Rev X M
+VecStore V M
+VecStoreRev V M
+VecStoreByte16Rev V M
+VecStoreByte32Rev V M
+VecStoreByte64Rev V M
+VecStoreElt16Rev V M
+VecStoreElt32Rev V M
+VecStoreElt64Rev V M
+VecLoadReplicate LANES X M
+VecLoadReplicateRev WIDELANES X M
+VecLoadLane LANES X W M LANE
+VecLoadLaneRev WIDELANES X W M LANE
+VecLoadLaneUndef LANES XH M LANE
+VecLoadLaneRevUndef WIDELANES X M LANE
+VecStoreLane LANES V M LANE
+VecStoreLaneRev WIDELANES V M LANE
+VecMov X V
+FpuMove32 XH V
+FpuMove64 XH V
+FpuCMov32 XH C W V
+FpuCMov64 XH C W V
+VecCMov X C W V
+MovToVec128 X S S
+VecImmByteMask X U16
+VecImmBitMask LANES X LANEBIT LANEBIT
+VecImmReplicate LANES X I16
+VecInsertLane LANES XH W S LANE SN
+VecInsertLaneUndef LANES XH S LANE SN
+VecExtractLane LANES T V LANE SN
+VecInsertLaneImm LANES X W I16 LANE
+VecInsertLaneImmUndef LANES X I16 LANE
+VecReplicateLane LANES X V LANE
+VecEltRev COUNT X V
 """.split("\n")[1:-1]
 
 # Instructions that may end a function before its return, or that the emulator lacks or breaks down at; few, so that most functions go far.
@@ -124,12 +195,23 @@ Store32 S OUT
 UDivMod64 P Q S
 SDivMod32 P L S
 RxSBGTest RXTEST S S B B R8
-UnaryRR COUNT T S
+UnaryRR ZEROS T S
+VecRRR VECTOR2NEW X V V
+VecRR VECTOR1NEW X V
+VecIntCmp VECTORCMPNEW X V V
+VecIntCmpS VECTORCMPNEW X V V
+VecIntEltCmp ELEMENTCMP V V
+VecLoadLaneUndef LANES X M LANE
+FpuMove64 X V
 """.split("\n")[1:-1]
 
 
 def sized(names, sizes=("32", "64")):
     return [name + size for name in names for size in sizes]
+
+
+LANES = ["8x16", "16x8", "32x4", "64x2"]
+ALL_LANES = LANES + ["128"]
 
 
 ARITHMETIC = sized(["Add", "AddLogical", "Sub", "SubLogical", "Mul"])
@@ -155,7 +237,21 @@ CHOICES = {
     "RX": ["Insert", "And", "Or", "Xor"],
     "RXTEST": ["And", "Or", "Xor"],
     "UNARY": ["Abs32", "Abs64", "Abs64Ext32", "Neg32", "Neg64", "Neg64Ext32", "PopcntByte", "PopcntReg", "BSwap32", "BSwap64"],
-    "COUNT": ["Clz64", "Ctz64"],
+    "ZEROS": ["Clz64", "Ctz64"],
+    "VECTOR2": sized(["Add", "Sub"], ALL_LANES) + ["Add128Cout", "Sub128Cout"] + sized(["Mul", "UMulHi", "SMulHi", "UMulEven", "SMulEven", "UMulOdd", "SMulOdd"], LANES[:3])
+               + sized(["UMax", "SMax", "UMin", "SMin", "UAvg", "SAvg"], LANES)
+               + sized(["And", "Orr", "Xor", "NotAnd", "NotOrr", "NotXor", "AndNot", "OrrNot", "BitPermute"], ["128"])
+               + sized(["LShLByByte", "LShRByByte", "AShRByByte", "LShLByBit", "LShRByBit", "AShRByBit"], ["128"])
+               + sized(["Pack", "PackUSat", "PackSSat"], LANES[1:]) + sized(["MergeLow", "MergeHigh"], LANES),
+    "VECTOR2NEW": sized(["Mul", "UMulHi", "SMulHi"], ["64x2", "128"]) + sized(["UMulEven", "SMulEven", "UMulOdd", "SMulOdd"], ["64x2"])
+                  + sized(["UDiv", "SDiv", "URem", "SRem"], ["32x4", "64x2", "128"]) + sized(["UMax", "SMax", "UMin", "SMin", "UAvg", "SAvg"], ["128"]),
+    "VECTOR1": sized(["Abs", "Neg", "Popcnt", "Clz", "Ctz"], LANES) + sized(["UnpackULow", "UnpackUHigh", "UnpackSLow", "UnpackSHigh"], LANES[:3]),
+    "VECTOR1NEW": sized(["Abs", "Neg", "Clz", "Ctz"], ["128"]) + sized(["UnpackULow", "UnpackUHigh", "UnpackSLow", "UnpackSHigh"], ["64x2"]),
+    "VECTORSHIFT": sized(["RotL", "LShL", "LShR", "AShR"], LANES),
+    "VECTORCMP": sized(["CmpEq", "SCmpHi", "UCmpHi"], LANES),
+    "VECTORCMPNEW": sized(["CmpEq", "SCmpHi", "UCmpHi"], ["128"]),
+    "ELEMENTCMP": ["SCmp128", "UCmp128"],
+    "COUNT": ["2", "4", "8", "16"],
     "CMP2": COMPARED + ["CmpS64Ext32", "CmpL64Ext32"],
     "CMPX": COMPARED + ["CmpS32Ext16", "CmpS64Ext16", "CmpS64Ext32", "CmpL64Ext32"],
     "CMPREL": ["CmpL32Ext16", "CmpL64Ext16"],
@@ -194,10 +290,12 @@ def signed(value, bits):
 class Words:
     """What the words of an instruction stand for."""
 
-    def __init__(self, rng, constants):
+    def __init__(self, rng, constants, bases):
         self.rng = rng
         self.constants = constants
-        self.target = self.pair = None
+        # how far above the stack pointer each form of a frame operand counts from
+        self.bases = bases
+        self.target = self.pair = self.vector = self.lane_size = None
 
     def line(self, template):
         return " ".join(self.field(field) for field in template.split(" "))
@@ -222,6 +320,38 @@ class Words:
             return str(self.rng.getrandbits(size))
         value = interesting(self.rng, size)
         return str(signed(value, size) if field[0] == "I" else value)
+
+    def word_X(self):
+        self.vector = f"%v{self.rng.randrange(32)}"
+        return self.vector
+
+    def word_XH(self):
+        # Rows of float registers leave the right half of a vector register free.
+        self.vector = f"%v{self.rng.randrange(16, 32)}"
+        return self.vector
+
+    def word_W(self):
+        return self.vector
+
+    def word_V(self):
+        return f"%v{self.rng.randrange(32)}"
+
+    def word_LANES(self):
+        self.lane_size = self.rng.choice([8, 16, 32, 64])
+        return str(self.lane_size)
+
+    def word_WIDELANES(self):
+        self.lane_size = self.rng.choice([16, 32, 64])
+        return str(self.lane_size)
+
+    def word_LANE(self):
+        return str(self.rng.randrange(128 // self.lane_size))
+
+    def word_LANEBIT(self):
+        return str(self.rng.randrange(self.lane_size))
+
+    def word_LABEL(self):
+        return "Label(0)"
 
     def word_T(self):
         self.target = f"%r{self.rng.choice(TARGETS)}"
@@ -260,11 +390,11 @@ class Words:
         return str(self.rng.randrange(1, 15))
 
     def word_FIRST(self):
-        self.first = self.rng.randrange(2, 10)
+        self.first = self.rng.randrange(2, 9)
         return f"%r{self.first}"
 
     def word_LAST(self):
-        return f"%r{self.rng.randrange(self.first, 10)}"
+        return f"%r{self.rng.randrange(self.first, 9)}"
 
     def word_SFIRST(self):
         self.first = self.rng.randrange(2, 16)
@@ -284,8 +414,8 @@ class Words:
         if kind == 1:
             return self.word_Y()
         if kind == 2:
-            form = self.rng.choice(["InitialSPOffset", "IncomingArgOffset", "OutgoingArgOffset", "SlotOffset", "SpillOffset"])
-            return f"{form}({self.rng.randrange(-200, 200)})"
+            form, base = self.rng.choice(sorted(self.bases.items()))
+            return f"{form}({self.rng.randrange(-200, 200) - base})"
         return self.indexed(1)
 
     def word_A(self):
@@ -322,9 +452,16 @@ class RandomJob:
     def __init__(self, rng):
         self.rng = rng
         self.constants = rng.randrange(4)
-        self.words = Words(rng, self.constants)
+        # A third is for a machine without relative loads, stores and compares, and a quarter has a large frame.
+        self.is_relative = rng.randrange(3) > 0
+        self.sizes = [rng.choice(LARGE_SIZES if rng.randrange(4) == 0 else SIZES) for _ in range(6)]
+        self.words = Words(rng, self.constants, self.frame_bases())
+        self.instructions = INSTRUCTIONS + VECTOR_INSTRUCTIONS
+        if not self.is_relative:
+            # there they have no row
+            self.instructions = [each for each in self.instructions if "CMPREL" not in each]
         data = rng.choice(DATA)
-        self.regions = sorted((address, self.region()) for address in [data, FAR_DATA, SYMBOL, FRAME])
+        self.regions = sorted((address, self.region()) for address in [data, FAR_DATA, SYMBOL, FRAME]) + [(CALLEE, CALLEE_CODE)]
         self.general = [interesting(rng, 64) for _ in range(16)]
         self.general[10] = rng.randrange(32) * 8
         self.general[12] = data + MIDDLE
@@ -337,16 +474,22 @@ class RandomJob:
         # Its image is the same without what registers and memory hold, and is read sooner.
         self.code_text = "\n".join(heading + blocks + ["end", ""])
 
+    def frame_bases(self):
+        """How far above the stack pointer each form of a frame operand counts from (cranelift-codegen, `mem_finalize`)."""
+        incoming, _, clobbers, fixed, slots, outgoing = self.sizes
+        frame = clobbers + fixed + outgoing
+        return {"InitialSPOffset": frame, "IncomingArgOffset": frame + incoming + 160, "SpillOffset": slots + outgoing, "SlotOffset": outgoing,
+                "OutgoingArgOffset": 160}
+
     def region(self):
         return b"".join(interesting(self.rng, 64).to_bytes(8, "big") for _ in range(REGION // 8))
 
     def heading(self):
-        # A third is for a machine without relative loads, stores and compares.
-        flags = "flags mie3 mie4 vxrs_ext2 vxrs_ext3" + self.rng.choice(["", "", " norel"])
-        lines = [flags, f"frame SystemV {' '.join(str(8 * self.rng.randrange(4)) for _ in range(6))} - 0"]
+        flags = "flags mie3 mie4 vxrs_ext2 vxrs_ext3" + ("" if self.is_relative else " norel")
+        lines = [flags, f"frame SystemV {' '.join(map(str, self.sizes))} - 0"]
         for _ in range(self.constants):
             lines.append(f"const 8 {self.rng.randbytes(64).hex()}")
-        return lines + [f"symbol u1 {SYMBOL + MIDDLE}"]
+        return lines + [f"symbol u1 {SYMBOL + MIDDLE}", f"symbol u2 {CALLEE}"]
 
     def starts(self):
         lines = [f"reg %r{i} {value}" for i, value in enumerate(self.general) if value]
@@ -358,28 +501,46 @@ class RandomJob:
         lines = []
         for k in range(count):
             lines += ["block"] + self.members(self.rng.randrange(1, 9))
-            lines += ["Ret %r14"] if k == count - 1 else self.turn(k, count)
+            lines += self.ending() if k == count - 1 else self.turn(k, count)
         return lines
+
+    def ending(self):
+        """The end of the last block: calls may have overwritten the register with which a function returns."""
+        return [f"Mov64SImm32 %r14 {emulator.RETURN}", "ReturnCall u2 [] 0" if self.rng.randrange(6) == 0 else "Ret %r14"]
+
+    def call(self):
+        """A call of the symbol, by its name or by a register, that may have a result on the stack."""
+        results = self.rng.choice(["[]", "[]", "[%r2=@8:I64]", "[%r3=@16:I32,%r2=%r2:I64]"])
+        if self.rng.randrange(2) == 0:
+            return [f"Call %r14 u2 [] {results} [] 0 SystemV SystemV - false -"]
+        return ["LoadSymbolReloc %r6 Absolute(u2,0)", f"Call %r14 %r6 [] {results} [] 0 SystemV SystemV - false -"]
 
     def members(self, count):
         lines = []
         for _ in range(count):
             kind = self.rng.randrange(60)
             if kind < 3:
-                lines += self.loop()
+                lines += self.loop(COUNTERS)
             elif kind < 5:
                 lines.append(self.words.line(self.rng.choice(RARE)))
+            elif kind < 7:
+                lines += self.call()
             else:
-                lines.append(self.words.line(self.rng.choice(INSTRUCTIONS)))
+                lines.append(self.words.line(self.rng.choice(self.instructions)))
         return lines
 
-    def loop(self):
-        """A loop that goes round a few times: its last member counts down, and sets the code that goes on."""
-        body = [self.words.line(self.rng.choice(INSTRUCTIONS)) for _ in range(self.rng.randrange(1, 5))]
+    def loop(self, counters):
+        """A loop that goes round a few times, maybe around another one: its last member counts down, and sets the code that goes on."""
+        counter, inner = counters[0], counters[1:]
+        body = [self.words.line(self.rng.choice(self.instructions)) for _ in range(self.rng.randrange(1, 5))]
+        if self.rng.randrange(8) == 0:
+            body += self.call()
+        if inner and self.rng.randrange(3) == 0:
+            body += self.loop(inner)
         if self.rng.randrange(3) == 0:
             body.append(f"CondBreak {self.words.word_C()}")
-        start = f"Mov64SImm16 %r11 {self.rng.randrange(1, 9)}"
-        return [start, "Loop 2"] + body + ["AluRSImm16 Add64 %r11 %r11 -1", "endloop"]
+        start = f"Mov64SImm16 {counter} {self.rng.randrange(1, 9)}"
+        return [start, "Loop 2"] + body + [f"AluRSImm16 Add64 {counter} {counter} -1", "endloop"]
 
     def turn(self, k, count):
         """The end of a block, which leads to later ones."""
@@ -394,5 +555,6 @@ class RandomJob:
             # The index is an offset in bytes.
             [f"AluRUImm32Shifted And64 {target} {target} 12:0", f"CmpRUImm32 CmpL64 {target} 8",
              f"JTSequence {target} {later()} 10 [{later()},{later()}]"],
-            [f"LabelAddress %r9 {k + 1}", f"IndirectBr %r9 [{k + 1}]"],
+            [f"LabelAddress %r8 {k + 1}", f"IndirectBr %r8 [{k + 1}]"],
+            [f"Call %r14 u2 [] [] [] 0 SystemV SystemV {later()}[7:{later()}] false -"],
         ])

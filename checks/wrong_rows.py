@@ -108,6 +108,8 @@ def main():
     lines = [line for line in text.splitlines() if LINE.match(line)]
     names = operands(text)
     vector = re.findall(r"Elements\((0x[0-9a-f]+)\)", text)
+    # some of the steps are wrong on purpose
+    wanted = (ROOT / "crates/s390x_step_vectors/stdout").read_text().splitlines()[-1]
     missed = 0
     with tempfile.TemporaryDirectory() as folder:
         copy = pathlib.Path(folder) / "repo"
@@ -123,7 +125,7 @@ def main():
             (copy / TABLE).write_text(text.replace(line, line.replace(semantics, other)))
             told = tried(copy)
             # a build that stops by a fault tells the change too
-            is_reported = "run=fault" in told or "differ" in told and re.search(r"\b0 differ", told) is None
+            is_reported = "run=fault" in told or "differ" in told and told != wanted
             if not is_reported and "differ" in told:
                 failed = tested(copy)
                 is_reported, told = failed is not None, failed or told

@@ -1,4 +1,4 @@
-//! Tests of members in one image: expected bytes and refusals were written down before the program was.
+//! Tests of members that are longer than any input of the program makes them.
 #![tactic(auto)]
 
 #[cfg(test)]

@@ -8,3 +8,4 @@ pub mod Alone
 pub mod Running
 pub mod Traps
 pub mod Behind
+pub mod Baseline

@@ -3,3 +3,4 @@ pub mod Places
 pub mod Alone
 pub mod Behind
 pub mod Example
+pub mod Baseline

@@ -26,6 +26,7 @@ ghost use Rattle.s390x_emit_int.specs.Function.{IsFinishedCode, checked_cause};
 ghost use Rattle.s390x_emit_int.specs.Headline.{linked, linked_image};
 ghost use Rattle.s390x_emit_int.specs.Resolve.{UsesWithin};
 ghost use Rattle.s390x_emission_laws.specs.Alone.{IsAppended, StandsAlone, alone, emitted, layout_alone, patched_bytes, placed_offsets};
+ghost use Rattle.s390x_emission_laws.specs.Baseline.{LoadsCallsAndLeaves};
 ghost use Rattle.s390x_emission_laws.specs.Behind.{StandsBehind, layout_behind};
 ghost use Rattle.s390x_emission_laws.specs.Built.{IsBuilt};
 ghost use Rattle.s390x_emission_laws.specs.Example.{AdditionStands, JumpIsAppended, JumpStands, LoadIsAppended, TableIsAppended};
@@ -88,4 +89,10 @@ pub fn instructions_stand_behind_others()
     ensures jump { JumpIsAppended }
     ensures table { TableIsAppended }
     ensures load { LoadIsAppended }
+{}
+
+/// The premises of `linked_code_runs_as_typed` of `s390x_emit_int` can also be met by a function on a machine without relative loads, stores and compares: by a run from its block, which
+/// loads the address of an operand, the operand, and calls; and by one from the call's return place, which leaves by a tail call.
+pub fn premises_are_met_by_calls()
+    ensures { LoadsCallsAndLeaves }
 {}

@@ -1,4 +1,4 @@
-//! Tests of typed instructions: their constructors, conditions, facilities, epilogues, operands, and displayed names.
+//! Tests of typed instructions: their constructors, conditions, epilogues, operands, and displayed names.
 #![tactic(auto)]
 
 #[cfg(test)]
@@ -9,8 +9,6 @@ mod conditions;
 mod copies;
 #[cfg(test)]
 mod epilogues;
-#[cfg(test)]
-mod facilities;
 #[cfg(test)]
 mod moves;
 #[cfg(test)]

@@ -10,3 +10,4 @@ pub mod RegisterWork
 pub mod LinkedLoops
 pub mod Adding
 pub mod SharedLoop
+pub mod LeavingLoop

@@ -8,7 +8,7 @@ use Rattle.s390x_operations.specs.Effects.{access, MayInterrupt}
 use Rattle.s390x_operations.specs.declared.effect.Operation.{Operation}
 use Rattle.s390x_operations.specs.declared.stop.StopKind.{StopKind}
 use Rattle.s390x_machine.specs.Layout.{Layout}
-use Rattle.s390x_machine.specs.StepKinds.{StepKind, Performs, PerformsWhere, instruction_kind}
+use Rattle.s390x_machine.specs.StepKinds.{StepKind, Performs, PerformsWhere, ComparesWide, Silent, instruction_kind}
 use Rattle.s390x_machine.specs.Typed.{Position, At, goes_on, traps, OperationStep, OperationWrong, faults_uncoded, touches_image, WhereStep, KindStep, KindWrong, TypedStep, Wrong, kind_at, kind_of_step, store_event_of_kind, typed_store_event}
 use Rattle.s390x_interference.specs.Retry.{StaysInRegisters, IsRegisterWork, IsMember}
 
@@ -45,6 +45,16 @@ work_of L k (Performs needs operation code) is work = record {
 }
 work_of L k (PerformsWhere mask operation) is work = record {
   stays = λ y position t step. where_stays _ (operation y.registers) k y position t (subst (λ f. KindStep L f k y position t) is step);
+  none = λ y. ap (λ f. store_event_of_kind f y) is;
+  right = λ y wrong. subst (λ f. KindWrong L f y) is wrong;
+}
+work_of L k (ComparesWide sign tmp n m) is work = record {
+  stays = λ y position t step. (subst (λ f. KindStep L f k y position t) is step).1;
+  none = λ y. ap (λ f. store_event_of_kind f y) is;
+  right = λ y wrong. subst (λ f. KindWrong L f y) is wrong;
+}
+work_of L k Silent is work = record {
+  stays = λ y position t step. (subst (λ f. KindStep L f k y position t) is step).0;
   none = λ y. ap (λ f. store_event_of_kind f y) is;
   right = λ y wrong. subst (λ f. KindWrong L f y) is wrong;
 }

@@ -3,8 +3,10 @@ use Rattle.std.proofs.Common.{◌≡◌, ℕ, None, Bool, true, false, if◌then
 use Rattle.s390x_inst.specs.declared.inst.Inst.{Inst}
 use Rattle.s390x_inst.specs.declared.inst.Inst.TheVariants.{AluRRR, AluRRSImm16, AluRR, AluRSImm16, AluRSImm32, AluRUImm32, AluRUImm16Shifted, AluRUImm32Shifted, SMulWide, UMulWide, Flogr, ShiftRR, RxSBG, RxSBGTest, UnaryRR, CmpRR, CmpRSImm16, CmpRSImm32, CmpRUImm32}
 use Rattle.s390x_inst.specs.declared.inst.Inst.TheVariants.{Mov64, MovPReg, Mov32, Mov32Imm, Mov32SImm16, Mov64SImm16, Mov64SImm32, Mov64UImm16Shifted, Mov64UImm32Shifted, Insert64UImm16Shifted, Insert64UImm32Shifted, CMov32, CMov64, CMov32SImm16, CMov64SImm16, Extend, LoadAR, InsertAR, Vector}
+use Rattle.s390x_inst.specs.declared.inst.Inst.TheVariants.{LoadIndexedAddr, LoadLogicalIndexedAddr, LabelAddress, LoadSymbolReloc, AllocateArgs, Fence, Nop0, Nop2, Args, Rets, DummyUse, SequencePoint}
 use Rattle.s390x_inst.specs.declared.vec_inst.VecInst.{VecInst}
 use Rattle.s390x_inst.specs.declared.vec_inst.VecInst.TheVariants.{VecRRR, VecRR, VecShiftRR, VecSelect, VecPermute, VecBlend, VecEvaluate, VecPermuteDWImm, VecIntCmp, VecIntCmpS, VecIntEltCmp, VecMov, FpuMove32, FpuMove64, MovToVec128, VecImmByteMask, VecImmBitMask, VecImmReplicate, VecInsertLane, VecInsertLaneUndef, VecExtractLane, VecInsertLaneImm, VecInsertLaneImmUndef, VecReplicateLane}
+use Rattle.s390x_inst.specs.declared.vec_inst.VecInst.TheVariants.{VecInt128SCmpHi, VecInt128UCmpHi, VecEltRev, VecCMov, FpuCMov32, FpuCMov64}
 use Rattle.s390x_inst.specs.declared.vec_ops.VecBinaryOp.{VecBinaryOp}
 use Rattle.s390x_inst.specs.declared.vec_ops.VecBinaryOp.TheVariants as B
 use Rattle.s390x_inst.specs.declared.vec_ops.VecUnaryOp.{VecUnaryOp}
@@ -123,6 +125,12 @@ vector_work L (VecExtractLane size rd rn lane base) h = λ r. extract_stays (nat
 vector_work L (VecInsertLaneImm size rd ri imm lane) h = λ r. plain _ refl refl (λ kind by. true≢false (sym by.1))
 vector_work L (VecInsertLaneImmUndef size rd imm lane) h = λ r. plain _ refl refl (λ kind by. by)
 vector_work L (VecReplicateLane size rd rn lane) h = λ r. plain _ refl refl (λ kind by. true≢false (sym by.1))
+vector_work L (VecInt128SCmpHi tmp rn rm) h = tt
+vector_work L (VecInt128UCmpHi tmp rn rm) h = tt
+vector_work L (VecEltRev count rd rn) h = λ r. plain _ refl refl (λ kind by. by)
+vector_work L (VecCMov rd mask ri rm) h = λ r. plain _ refl refl (λ kind by. true≢false (sym by.1))
+vector_work L (FpuCMov32 rd mask ri rm) h = λ r. plain _ refl refl (λ kind by. by)
+vector_work L (FpuCMov64 rd mask ri rm) h = λ r. plain _ refl refl (λ kind by. by)
 vector_work L _ h = absurd (true≢false (sym h))
 
 pub register_work : (L : Layout) (i : Inst) → IsTrue (is_register_work i) → IsRegisterWork (instruction_kind L i)
@@ -163,5 +171,17 @@ register_work L (CMov64SImm16 rd mask ri imm) h = immediate_moves_stay Doublewor
 register_work L (Extend rd rn signed from to) h = λ r. plain _ refl refl (λ kind by. by)
 register_work L (LoadAR rd ar) h = λ r. plain _ refl refl (λ kind by. by)
 register_work L (InsertAR rd ri ar) h = λ r. plain _ refl refl (λ kind by. by)
+register_work L (LoadIndexedAddr rd base index offset size) h = λ r. plain _ refl refl (λ kind by. by)
+register_work L (LoadLogicalIndexedAddr rd base index offset size) h = λ r. plain _ refl refl (λ kind by. by)
+register_work L (LabelAddress dst label) h = λ r. plain _ refl refl (λ kind by. by)
+register_work L (LoadSymbolReloc rd reloc) h = λ r. plain _ refl refl (λ kind by. by)
+register_work L (AllocateArgs size) h = λ r. plain _ refl refl (λ kind by. by)
+register_work L Fence h = λ r. plain _ refl refl (λ kind by. by)
+register_work L Nop0 h = tt
+register_work L Nop2 h = λ r. plain _ refl refl (λ kind by. by)
+register_work L (Args args) h = tt
+register_work L (Rets rets) h = tt
+register_work L (DummyUse reg) h = tt
+register_work L SequencePoint h = tt
 register_work L (Vector v) h = vector_work L v h
 register_work L _ h = absurd (true≢false (sym h))

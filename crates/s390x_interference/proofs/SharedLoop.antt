@@ -37,7 +37,7 @@ use Rattle.s390x_interference.proofs.RegisterWork.{register_work}
 -- ---- the code
 
 -- a vector of these
-abbrev vec : {X : Type 0} (items : List X) → length items < 2 ^ 63 → Vec X Global
+abbrev pub vec : {X : Type 0} (items : List X) → length items < 2 ^ 63 → Vec X Global
 vec items small = record { ptr = denote.RawPtr.null_ptr; len = length items; cap = length items; alloc = record { memory = record { seal = tt } }; items = items; ok = (refl, omega arith); small = small }
 
 abbrev code : MachBufferFinalized

@@ -4,3 +4,4 @@ pub mod Loops
 pub mod Linked
 pub mod Example
 pub mod Shared
+pub mod Leaving

@@ -3,8 +3,10 @@ use Rattle.std.specs.Prelude.{◌≡◌, ℕ, ◌+◌, ◌⊎◌, List, [], ◌�
 use Rattle.s390x_inst.specs.declared.inst.Inst.{Inst}
 use Rattle.s390x_inst.specs.declared.inst.Inst.TheVariants.{AluRRR, AluRRSImm16, AluRR, AluRSImm16, AluRSImm32, AluRUImm32, AluRUImm16Shifted, AluRUImm32Shifted, SMulWide, UMulWide, Flogr, ShiftRR, RxSBG, RxSBGTest, UnaryRR, CmpRR, CmpRSImm16, CmpRSImm32, CmpRUImm32}
 use Rattle.s390x_inst.specs.declared.inst.Inst.TheVariants.{Mov64, MovPReg, Mov32, Mov32Imm, Mov32SImm16, Mov64SImm16, Mov64SImm32, Mov64UImm16Shifted, Mov64UImm32Shifted, Insert64UImm16Shifted, Insert64UImm32Shifted, CMov32, CMov64, CMov32SImm16, CMov64SImm16, Extend, LoadAR, InsertAR, AtomicCas32, AtomicCas64, CondBreak, Vector}
+use Rattle.s390x_inst.specs.declared.inst.Inst.TheVariants.{LoadIndexedAddr, LoadLogicalIndexedAddr, LabelAddress, LoadSymbolReloc, AllocateArgs, Fence, Nop0, Nop2, Args, Rets, DummyUse, SequencePoint}
 use Rattle.s390x_inst.specs.declared.vec_inst.VecInst.{VecInst}
 use Rattle.s390x_inst.specs.declared.vec_inst.VecInst.TheVariants.{VecRRR, VecRR, VecShiftRR, VecSelect, VecPermute, VecBlend, VecEvaluate, VecPermuteDWImm, VecIntCmp, VecIntCmpS, VecIntEltCmp, VecMov, FpuMove32, FpuMove64, MovToVec128, VecImmByteMask, VecImmBitMask, VecImmReplicate, VecInsertLane, VecInsertLaneUndef, VecExtractLane, VecInsertLaneImm, VecInsertLaneImmUndef, VecReplicateLane}
+use Rattle.s390x_inst.specs.declared.vec_inst.VecInst.TheVariants.{VecInt128SCmpHi, VecInt128UCmpHi, VecEltRev, VecCMov, FpuCMov32, FpuCMov64}
 use Rattle.s390x_typed_steps.specs.Tree.{Tree, empty, leaf, loop_node, Whole}
 use Rattle.s390x_typed_steps.specs.Steps.{step_count}
 use Rattle.s390x_typed_steps.specs.VectorOpcodes.{is_division}
@@ -39,9 +41,16 @@ is_vector_work (VecExtractLane size rd rn lane base) = true
 is_vector_work (VecInsertLaneImm size rd ri imm lane) = true
 is_vector_work (VecInsertLaneImmUndef size rd imm lane) = true
 is_vector_work (VecReplicateLane size rd rn lane) = true
+is_vector_work (VecInt128SCmpHi tmp rn rm) = true
+is_vector_work (VecInt128UCmpHi tmp rn rm) = true
+is_vector_work (VecEltRev count rd rn) = true
+is_vector_work (VecCMov rd mask ri rm) = true
+is_vector_work (FpuCMov32 rd mask ri rm) = true
+is_vector_work (FpuCMov64 rd mask ri rm) = true
 is_vector_work _ = false
 
--- an instruction on registers and immediates without a possible stop, which goes on to the next one
+-- an instruction without an operand in memory and without a possible stop, which goes on to the next one: it works on registers and immediates, gives the
+-- address of a block, the value of a symbol or a part of the stack, or does nothing
 abbrev pub is_register_work : Inst → Bool
 is_register_work (AluRRR op rd rn rm) = true
 is_register_work (AluRRSImm16 op rd rn imm) = true
@@ -80,6 +89,18 @@ is_register_work (CMov64SImm16 rd mask ri imm) = true
 is_register_work (Extend rd rn signed from to) = true
 is_register_work (LoadAR rd ar) = true
 is_register_work (InsertAR rd ri ar) = true
+is_register_work (LoadIndexedAddr rd base index offset size) = true
+is_register_work (LoadLogicalIndexedAddr rd base index offset size) = true
+is_register_work (LabelAddress dst label) = true
+is_register_work (LoadSymbolReloc rd reloc) = true
+is_register_work (AllocateArgs size) = true
+is_register_work Fence = true
+is_register_work Nop0 = true
+is_register_work Nop2 = true
+is_register_work (Args args) = true
+is_register_work (Rets rets) = true
+is_register_work (DummyUse reg) = true
+is_register_work SequencePoint = true
 is_register_work (Vector v) = is_vector_work v
 is_register_work _ = false
 

@@ -20,7 +20,7 @@ use Rattle.s390x_machine.specs.Layout.{Layout, step_address}
 use Rattle.s390x_machine.specs.Machine.{Event, Executed, Interrupted, Transition, after_writes, after_all}
 use Rattle.s390x_machine.specs.Match.{concatenated, start, StoreNothing, TypedRun}
 use Rattle.s390x_machine.specs.Operands.{value_in}
-use Rattle.s390x_machine.specs.StepKinds.{StepKind, Performs, PerformsWhere, instruction_kind}
+use Rattle.s390x_machine.specs.StepKinds.{StepKind, Performs, PerformsWhere, ComparesWide, Silent, instruction_kind}
 use Rattle.s390x_machine.specs.Storage.{operand_address}
 use Rattle.s390x_machine.specs.Typed.{At}
 
@@ -32,10 +32,12 @@ pub record StaysInRegisters (op : Operation) : Type 0 where
   pub allowed : refused op.effect ≡ None
   pub certain : (kind : StopKind) → MayRefuse op.effect kind → ⊥
 
--- register work is such an operation, also under a mask
+-- register work is such an operation, also under a mask, or a comparison of vector registers as numbers of 128 bits, or nothing at all
 abbrev pub IsRegisterWork : StepKind → Type 0
 IsRegisterWork (Performs needs operation code) = (r : Registers) → StaysInRegisters (operation r)
 IsRegisterWork (PerformsWhere mask operation) = (r : Registers) → StaysInRegisters (operation r)
+IsRegisterWork (ComparesWide sign tmp n m) = Unit {0}
+IsRegisterWork Silent = Unit {0}
 IsRegisterWork _ = ⊥
 
 -- a member before the swap, in a loop that ends before step `end`: register work, or a break out of the loop

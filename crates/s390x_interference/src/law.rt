@@ -12,6 +12,7 @@ ghost use Rattle.s390x_interference.specs.Retry.{IsRegisterWork, Retry};
 ghost use Rattle.s390x_machine.specs.Layout.{Layout};
 ghost use Rattle.s390x_schedule.specs.declared.schedule.ScheduleEnd.{ScheduleEnd};
 ghost use Rattle.s390x_schedule.specs.Schedule.{World, EndsAs};
+ghost use Rattle.s390x_interference.specs.Leaving.{LoopIsLeft};
 ghost use Rattle.s390x_interference.specs.Shared.{LoopIsShared};
 ghost use Rattle.s390x_interference.specs.Schedules.{Interference, Guarded};
 
@@ -27,7 +28,7 @@ pub fn scheduled_retry_loops()
     ensures { (w v : World) (ps : List ℕ) (end : ScheduleEnd) → EndsAs w ps end v → Guarded w ps end v }
 {}
 
-/// Each instruction on registers and immediates that can't stop is register work.
+/// Each instruction without an operand in memory that can't stop and goes on to the next one is register work.
 pub fn listed_instructions_are_register_work()
     ensures { (L : Layout) (i : Inst) → IsTrue (is_register_work i) → IsRegisterWork (instruction_kind L i) }
 {}
@@ -47,4 +48,9 @@ pub fn folded_loops_are_retry_loops()
 /// add to one word by it. The first one's swap succeeds and stores once, and the other one's finds that and stores nothing.
 pub fn premises_can_be_met()
     ensures { LoopIsShared }
+{}
+
+/// So can what is said of a run that leaves by a break: by the finished code of a function whose loop breaks before it swaps, and one processor that does so.
+pub fn a_break_can_come()
+    ensures { LoopIsLeft }
 {}

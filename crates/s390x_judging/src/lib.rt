@@ -1,8 +1,8 @@
 //! Judging cases that the lines of standard input tell of, and counting those that aren't as they are told.
 #![tactic(auto)]
 
-pub mod judge;
-pub mod report;
+mod judge;
+mod report;
 
 pub use judge::{Judge, LineError, Verdict};
-pub use report::judge_input;
+pub use report::{count_differing, exit_code, first_differing, judge_input};

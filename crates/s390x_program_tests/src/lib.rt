@@ -2,8 +2,6 @@
 #![tactic(auto)]
 
 #[cfg(test)]
-mod bundles;
-#[cfg(test)]
 mod entries;
 #[cfg(test)]
 mod faults;
@@ -11,3 +9,5 @@ mod faults;
 mod runs;
 #[cfg(test)]
 mod statuses;
+#[cfg(test)]
+mod unended;

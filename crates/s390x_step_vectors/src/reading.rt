@@ -1,5 +1,6 @@
 //! Reading a line: `BYTES HOW c=CODE rN=HEX vN=HEX mADDRESS=HEX .. > c=CODE ..`. It has an instruction's bytes, from where its step is known, what
-//! registers and memory hold before it, and what of that is another after it. Registers that aren't named are zero before it.
+//! registers and memory hold before it, and what of that is another after it, `p=HEX` where the next address isn't the one behind the instruction.
+//! Registers that aren't named are zero before it.
 ghost use Rattle.std.specs.Prelude.{◌<◌, ◌≤◌, length, IfOk};
 
 use crate::contents::Contents;
@@ -18,7 +19,7 @@ const PLACE: u64 = 0x1000;
 /// Reads a line.
 pub fn read_line(alloc: Global, line: &[u8]) -> Result<KnownStep, LineError> {
     let source = back(line);
-    if word(source) != b"emulator".as_slice() && word(source) != b"manual".as_slice() {
+    if !is_source(word(source)) {
         return Err(LineError::Unreadable);
     }
     let code = hex_bytes(alloc, front(line))?;
@@ -36,6 +37,11 @@ pub fn read_line(alloc: Global, line: &[u8]) -> Result<KnownStep, LineError> {
     } else {
         Err(LineError::Unreadable)
     }
+}
+
+// Whether a word says from where a step is known, or that it is known to be wrong.
+fn is_source(name: &[u8]) -> bool {
+    name == b"emulator".as_slice() || name == b"manual".as_slice() || name == b"wrong".as_slice()
 }
 
 // Reads words up to `>` or to the end, and gives what follows them. The first one is the condition code.
@@ -81,6 +87,9 @@ fn put_word(
         b'v' => {
             let register = below(number, 32)?;
             contents.machine.vregs[register] = hex(value)?;
+        }
+        b'p' => {
+            contents.machine.place = doubleword(value)?;
         }
         b'm' => {
             let address = doubleword(number)?;

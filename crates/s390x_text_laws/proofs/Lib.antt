@@ -7,3 +7,6 @@ pub mod Leaves
 pub mod Mapless
 pub mod Calls
 pub mod Blocks
+pub mod Agreement
+pub mod TreeAgreement
+pub mod VectorAgreement

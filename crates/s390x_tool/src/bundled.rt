@@ -66,8 +66,8 @@ fn members_of(alloc: Global, functions: Vec<NamedJob>) -> Result<Vec<Member>, Al
     functions.into_iter().map(member).collect(alloc)
 }
 
-// The reply to functions that are not put into one image.
-fn bundle_refused(alloc: Global, error: BundleError) -> Reply
+/// The reply to functions that are not put into one image.
+pub fn bundle_refused(alloc: Global, error: BundleError) -> Reply
     ensures { IsBundleRefusal error result.status (cow_str_bytes result.text) }
 {
     match error {

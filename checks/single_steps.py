@@ -1,0 +1,234 @@
+#!/usr/bin/env python3
+"""Writes single steps of the machine for every machine row, as others' emulators can try them; run by hand, from anywhere:
+
+    checks/single_steps.py --out FOLDER [--count 1000] [--rows ark,vl] [--emulate 20] [--try]
+
+For each row a file OPCODE-MNEMONIC.json: a list of steps with `name` (the instruction in hex), `initial` and `final`. A state has `pc`, `cc`, `gpr` (16
+numbers), `vr` (32) and `ram`, a list of an address and the bytes from there on; all but `cc` in hex. `final` has in place of these `stop` (`Access`,
+`Specification`, `Operation`, `Divide`, `CompareTrap`) where the instruction stops, and then nothing else changes; it is null where the row leaves its result free.
+Masks, registers, immediates and the state are drawn. Rows, formats and what a row allows are read from the tables of `s390x_format`.
+
+Each step is one run of the program `s390x run`, which is proved to take a step of the machine; with --try an unproved build is taken. That is 401,000 runs
+for a thousand a row, some 20 minutes. --emulate N runs the first N steps of each row on qemu-s390x too. It ends with 0 where all that the emulator has agrees,
+with 1 where one differs.
+"""
+import argparse
+import collections
+import json
+import os
+import random
+import re
+import sys
+import tempfile
+
+import emulator
+import program
+from random_functions import LACKING, LACKING_SIZES
+from random_jobs import interesting
+
+SOURCES = os.path.join(program.ROOT, "crates", "s390x_format", "src")
+PLACE, DATA, STUB = 0x10000, 0x11000, 0x100000
+DATA_SIZE = 0x200
+NOWHERE = 0x7000000000
+
+Row = collections.namedtuple("Row", "kind opcode name parts allowed")
+Step = collections.namedtuple("Step", "row code general vector data cc job steps")
+
+
+def read(name):
+    with open(os.path.join(SOURCES, name)) as file:
+        return file.read()
+
+
+def layouts():
+    """The parts of each format, as the name of a slot, the lowest bit and the width."""
+    found = {}
+    for name, body in re.findall(r"pub const (\w+)_PARTS: \[Part; \d+\] = \[(.*?)\];", read("kind.rt"), re.S):
+        parts = re.findall(r"slot: (\w+), low: (\d+), width: (\d+)", body)
+        found[name.replace("_", "").lower()] = tuple((slot, int(low), int(width)) for slot, low, width in parts)
+    return found
+
+
+def rows():
+    """The machine rows, by the table's comment with the first of their mnemonics."""
+    parts = layouts()
+    line = re.compile(r"MachineRow \{ format: FormatKind::(\w+), opcode: 0x([0-9a-f]+), allowed: Allowed::(\w+)(?: \{ low: (\d+), high: (\d+) \})? \}, // (\S+)")
+    return [Row(kind, int(opcode, 16), name, parts[kind.lower()], (allowed, int(low or 0), int(high or 0)))
+            for kind, opcode, allowed, low, high, name in line.findall(read("table.rt"))]
+
+
+def drawn_slots(drawn, row):
+    """A value for each slot, within what the row allows."""
+    widths = collections.Counter()
+    for slot, low, width in row.parts:
+        widths[slot] = max(widths[slot], low + width)
+    slots = {slot: interesting(drawn, width) if width >= 8 else drawn.getrandbits(width) for slot, width in widths.items()}
+    slots["OPCODE"], slots["ZERO"] = row.opcode, 0
+    kind, low, high = row.allowed
+    if kind == "FirstMask":
+        slots.update(MASK_1=drawn.randint(low, high), MASK_2=0, MASK_3=0)
+    elif kind == "CountMode":
+        slots.update(MASK_1=drawn.choice([0, 8]), MASK_2=0)
+    elif kind == "ComparedLanes":
+        slots.update(MASK_1=drawn.randrange(5), MASK_2=drawn.randrange(2))
+    elif kind == "DoublewordPair":
+        slots.update(MASK_1=drawn.choice([0, 1, 4, 5]), MASK_2=0, MASK_3=0)
+    elif kind in ("RotateBits", "RotateBitsOrTest"):
+        slots.update(MASK_1=drawn.randrange(64) + (drawn.choice([0, 128]) if kind == "RotateBitsOrTest" else 0), MASK_2=drawn.randrange(64), MASK_3=drawn.randrange(64))
+    elif kind == "BitRange":
+        size = drawn.randrange(4)
+        slots.update(MASK_3=size, MASK_1=drawn.randrange(8 << size), MASK_2=drawn.randrange(8 << size))
+    elif kind == "ReplicatedLane":
+        size = drawn.randrange(4)
+        slots.update(MASK_1=size, IMMEDIATE=drawn.randrange(1 << (4 - size)))
+    return slots
+
+
+def packed(parts, slots):
+    """The instruction of the slots."""
+    number, bits = 0, 0
+    for slot, low, width in parts:
+        number, bits = number << width | slots[slot] >> low & (1 << width) - 1, bits + width
+    return number.to_bytes(bits // 8, "big")
+
+
+def address_slots(row):
+    """The slots of the base and of the index of an operand in storage, or None for each: the base stands before the displacement."""
+    names = [slot for slot, _, _ in row.parts]
+    if "DISPLACEMENT" not in names:
+        return None, None
+    return names[names.index("DISPLACEMENT") - 1], "REG_3" if row.kind in ("Rx", "Rxy", "Vrx") else None
+
+
+def signed(value, bits):
+    return value - (1 << bits) if value >> (bits - 1) else value
+
+
+def lead(drawn, row, slots, general):
+    """Most operands in storage lie in the region: by their base, or by their distance."""
+    target = DATA + drawn.randrange(0, 0x100, drawn.choice([1, 2, 4, 8, 16])) if drawn.randrange(10) else NOWHERE
+    base, index = address_slots(row)
+    wide = any(slot == "DISPLACEMENT" and low == 12 for slot, low, _ in row.parts)
+    if base:
+        if slots[base] == 0:
+            slots[base] = drawn.randrange(1, 16)
+        if index and slots[index] == slots[base]:
+            slots[index] = 0
+        displacement = signed(slots["DISPLACEMENT"], 20) if wide else slots["DISPLACEMENT"]
+        added = general[slots[index]] if index and slots[index] else 0
+        general[slots[base]] = (target - displacement - added) % 2 ** 64
+    elif row.opcode >> 4 in (0xc4, 0xc6) and row.parts[-1] == ("IMMEDIATE", 0, 32):
+        slots["IMMEDIATE"] = (target // 2 * 2 - PLACE) // 2 % 2 ** 32 if target != NOWHERE else slots["IMMEDIATE"]
+    elif row.opcode in (0x07, 0x0d):
+        general[slots["REG_2"]] = target // 2 * 2
+
+
+def prefix(drawn, general, vector):
+    """The instruction before the step that sets the condition code, and that code."""
+    code = drawn.randrange(4)
+    low, high = min(range(16), key=lambda i: general[i]), max(range(16), key=lambda i: general[i])
+    if code == 3:
+        vector[30], vector[31] = 0, int.from_bytes(b"\1" * 16, "big")
+        return "VecIntCmpS CmpEq8x16 %v31 %v30 %v31", 3
+    if code == 0 or general[low] == general[high]:
+        return "CmpRR CmpL64 %r5 %r5", 0
+    return (f"CmpRR CmpL64 %r{low} %r{high}", 1) if code == 1 else (f"CmpRR CmpL64 %r{high} %r{low}", 2)
+
+
+def step(drawn, row):
+    """A drawn step: a job that sets the code and jumps to the instruction, and takes it."""
+    slots = drawn_slots(drawn, row)
+    general = [interesting(drawn, 64) for _ in range(16)]
+    vector = [drawn.choice([0, interesting(drawn, 128), drawn.getrandbits(128)]) for _ in range(32)]
+    data = b"".join(interesting(drawn, 64).to_bytes(8, "big") for _ in range(DATA_SIZE // 8))
+    lead(drawn, row, slots, general)
+    before, cc = prefix(drawn, general, vector)
+    code = packed(row.parts, slots)
+    lines = ["frame SystemV 0 0 0 0 0 0 - 0", f"symbol u1 {PLACE}"]
+    lines += [f"reg %r{i} {value}" for i, value in enumerate(general) if value]
+    lines += [f"reg %v{i} {value:032x}" for i, value in enumerate(vector) if value]
+    lines += [f"mem {PLACE} {code.ljust(16, bytes(1)).hex()}", f"mem {DATA} {data.hex()}", "block", before, "ReturnCall u1 [] 0", "end", ""]
+    if cc == 3:
+        vector[31] = 0
+    # the comparison, LA %r15,0(%r15), BRCL, and the step
+    return Step(row, code, general, vector, data, cc, "\n".join(lines), 4)
+
+
+def state(place, cc, general, vector, code, data):
+    return {"pc": f"{place:x}", "cc": cc, "gpr": [f"{value:x}" for value in general], "vr": [f"{value:x}" for value in vector],
+            "ram": [[f"{PLACE:x}", code.hex()], [f"{DATA:x}", data.hex()]]}
+
+
+def written(each, told):
+    """A step with what the machine makes of it."""
+    initial = state(PLACE, each.cc, each.general, each.vector, each.code, each.data)
+    final = {"stop": told.kind}
+    if told.kind == "NoRow":
+        final = None
+    elif told.kind == "Limit":
+        place = told.memory[PLACE][:len(each.code)]
+        final = state(told.place, told.code, told.general, told.vector, place, told.memory[DATA])
+    return {"name": each.code.hex(), "initial": initial, "final": final}
+
+
+def difference(each, told, folder):
+    """What differs on the emulator: a text, empty where it agrees, or None where it lacks the row or breaks down."""
+    try:
+        ended = emulator.run(PLACE, each.code.ljust(emulator.PAGE, b"\0"), each.general, each.vector, [(DATA, each.data)], folder, each.cc)
+    except emulator.Broken:
+        return None
+    stopped = ended is not None and ended.place == PLACE
+    size = each.code[4] >> 4 if len(each.code) > 4 else 0
+    if ended is None or stopped and ended.kind in ("Operation", "Specification") and (each.row.name in LACKING or size in LACKING_SIZES.get(each.row.name, ())):
+        return None
+    if told.kind != "Limit":
+        return "" if stopped and ended.kind == told.kind or not stopped and told.place != PLACE else f"{told.kind}, emulated {ended.kind} at {ended.place:x}"
+    found = [f"pc {told.place:x}, emulated {ended.place:x}"] if ended.place != told.place else []
+    found += [f"cc {told.code}, emulated {ended.code}"] if ended.code != told.code else []
+    found += [f"%r{i} {a:x}, emulated {b:x}" for i, (a, b) in enumerate(zip(told.general, ended.general)) if a != b]
+    found += [f"%v{i} {a:x}, emulated {b:x}" for i, (a, b) in enumerate(zip(told.vector, ended.vector)) if a != b]
+    found += ["memory"] if told.memory[DATA] != ended.memory[DATA] else []
+    return "; ".join(found[:4])
+
+
+def main():
+    parser = argparse.ArgumentParser(description=__doc__.split("\n")[0])
+    parser.add_argument("--out", required=True, help="the folder that the files are written to")
+    parser.add_argument("--count", type=int, default=1000, help="how many steps a row (1000)")
+    parser.add_argument("--seed", type=int, default=1)
+    parser.add_argument("--rows", default="", help="the mnemonics of the rows, with commas between; all by default")
+    parser.add_argument("--emulate", type=int, default=0, help="how many of each row are run on the emulator too (0)")
+    parser.add_argument("--try", dest="unproved", action="store_true", help="take an unproved build of the program")
+    chosen = parser.parse_args()
+    if chosen.emulate and emulator.missing():
+        raise SystemExit(emulator.missing())
+    wanted = set(filter(None, chosen.rows.split(",")))
+    taken = [row for row in rows() if not wanted or row.name in wanted]
+    steps = {row: [step(random.Random(f"{chosen.seed} {row.opcode} {number}"), row) for number in range(chosen.count)] for row in taken}
+    asked = [(["run", str(STUB), str(each.steps)], each.job) for row in taken for each in steps[row]]
+    with tempfile.TemporaryDirectory() as cases, tempfile.TemporaryDirectory() as folder:
+        answers = iter(program.run_unproved(asked, cases) if chosen.unproved else program.run_proved(asked))
+        counts = collections.Counter()
+        os.makedirs(chosen.out, exist_ok=True)
+        for row in taken:
+            told = [next(answers) for _ in steps[row]]
+            refused = [text for status, text in told if status != 0]
+            if refused:
+                raise SystemExit(f"{row.name}: {refused[0].strip()}")
+            ends = [program.Told(text) for _, text in told]
+            with open(os.path.join(chosen.out, f"{row.opcode:x}-{row.name}.json"), "w") as file:
+                json.dump([written(each, end) for each, end in zip(steps[row], ends)], file)
+            counts["steps"] += len(ends)
+            counts["steps of a free result"] += sum(end.kind == "NoRow" for end in ends)
+            for each, end in list(zip(steps[row], ends))[:chosen.emulate]:
+                found = difference(each, end, folder) if end.kind != "NoRow" else None
+                counts["not on the emulator" if found is None else "that differ on the emulator" if found else "that agree with the emulator"] += 1
+                if found:
+                    print(f"{row.name} {each.code.hex()}: {found}", flush=True)
+    for word, count in counts.items():
+        print(f"{count} {word}")
+    return 1 if counts["that differ on the emulator"] else 0
+
+
+if __name__ == "__main__":
+    sys.exit(main())

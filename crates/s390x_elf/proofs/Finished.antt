@@ -1,0 +1,125 @@
+-- The object of functions in a text, and how it is linked.
+use Rattle.std.proofs.Common.{◌≡◌, ℕ, ◌+◌, ◌^◌, ◌<◌, ◌≤◌, Bool, true, false, cond, nat_eq, nat_le, is_some, Option, Some, None, List, [], ◌∷◌, ◌++◌, length, map, codes, refl, sym, ap, subst, ◌∙◌, arith, append_assoc, All}
+use Rattle.std.specs.List.{list_any}
+use Rattle.std.proofs.lemmas.List.Elements.{All-nil, All-cons, All-head, All-tail}
+use Rattle.s390x_buffer.specs.declared.entries.RelocEntry.{RelocEntry}
+use Rattle.s390x_buffer.specs.declared.entries.MachBufferFinalized.{MachBufferFinalized}
+use Rattle.s390x_image.specs.Symbols.{Symbols}
+use Rattle.s390x_image.specs.Causes.{base_cause, relocs_cause}
+use Rattle.s390x_elf.specs.declared.error.ObjectError.{ObjectError}
+use Rattle.s390x_elf.specs.declared.error.ObjectError.TheVariants.{EmptyName, ZeroByte, DuplicateName, EmptyMember, TooLong}
+use Rattle.s390x_elf.specs.Reading.{IsText}
+use Rattle.s390x_elf.specs.File.{Section, sections}
+use Rattle.s390x_elf.specs.Symbols.{Symbol, Relocation, named_section, relocations_for}
+use Rattle.s390x_elf.specs.Linking.{fits_at, applied}
+use Rattle.s390x_elf.specs.Object.{Function, function_symbol, place, global_symbols, string_table, relocation_of, whole_function, IsObjectOf, IsObject, IsLinkedAsFilled, IsLinkedAsImage}
+use Rattle.s390x_elf.specs.Causes.{first_cause, name_cause, function_cause, functions_cause, names_cause, text_cause}
+use Rattle.s390x_elf.specs.Tables.{SymbolFits, RelocFits, FunctionFits, object_sections}
+use Rattle.s390x_elf.specs.Writing.{file_bytes}
+use Rattle.s390x_elf.proofs.ReadObject.{text_from_test, function_fits, used_fit, object_read}
+use Rattle.s390x_elf.proofs.Linked.{linked_as_filled, linked_fields_fit, no_link_cause}
+
+second_test : (a b : Bool) → cond a (Some EmptyName) (cond b (Some ZeroByte) None) ≡ None → b ≡ false
+second_test true b h = cc
+second_test false true h = cc
+second_test false false h = refl
+
+name_is_text : (name : List ℕ) → name_cause name ≡ None → IsText name
+name_is_text name h = text_from_test name (second_test (nat_eq (length name) 0) (list_any (λ (b : ℕ). nat_eq b 0) name) h)
+
+no_first : (o p : Option ObjectError) → first_cause o p ≡ None → (o ≡ None) × (p ≡ None)
+no_first None p h = (refl, h)
+no_first (Some e) p h = cc
+
+-- functions without a cause have symbols that fit
+functions_fit : (earlier : List Symbol) (fs : List Function) → functions_cause earlier fs ≡ None → All FunctionFits fs → All SymbolFits (map function_symbol fs)
+functions_fit earlier [] h k = All-nil SymbolFits
+functions_fit earlier (f ∷ fs) h k =
+    let both = no_first (function_cause earlier f) (functions_cause (earlier ++ function_symbol f ∷ []) fs) h in
+    let named = no_first (name_cause f.name) (cond (is_some (place earlier f.name)) (Some DuplicateName) (cond (nat_eq f.size 0) (Some EmptyMember) None)) both.0 in
+    let here : FunctionFits f = All-head FunctionFits f fs k in
+    All-cons SymbolFits (function_symbol f) (map function_symbol fs) (function_fits f (name_is_text f.name named.0) here.start here.size)
+    (functions_fit (earlier ++ function_symbol f ∷ []) fs both.1 (All-tail FunctionFits f fs k))
+
+-- the bytes that the program writes are read as the object
+pub object_from_bytes : (fs : List Function) (alignment : ℕ) (bytes : List ℕ) (rs : List RelocEntry) (ss : List Symbol) (file : List ℕ) → functions_cause [] fs ≡ None → All FunctionFits fs →
+    alignment < 2 ^ 64 → ss ≡ global_symbols fs rs → length (0 ∷ string_table ss) < 2 ^ 32 → All RelocFits rs → length file < 2 ^ 64 →
+    file ≡ file_bytes (object_sections ss alignment bytes rs) → IsObjectOf fs alignment bytes rs file
+object_from_bytes fs alignment bytes rs ss file none sized aligned e small fit file_small written =
+    let globals : List Symbol = global_symbols fs rs in
+    let fits : All SymbolFits globals = used_fit (map function_symbol fs) rs (functions_fit [] fs none sized) fit in
+    let whole : file ≡ file_bytes (object_sections globals alignment bytes rs) =
+    written ∙ ap (λ (symbols : List Symbol). file_bytes (object_sections symbols alignment bytes rs)) e in
+    let names_small : length (0 ∷ string_table globals) < 2 ^ 32 = subst (λ (symbols : List Symbol). length (0 ∷ string_table symbols) < 2 ^ 32) e small in
+    let bytes_small : length (file_bytes (object_sections globals alignment bytes rs)) < 2 ^ 64 = subst (λ (b : List ℕ). length b < 2 ^ 64) whole file_small in
+    subst (λ (b : List ℕ). IsObjectOf fs alignment bytes rs b) (sym whole) (object_read fs alignment bytes rs aligned fits fit names_small bytes_small)
+
+-- what is read as the object is linked as its relocations fill it
+pub object_is_filled : (fs : List Function) (alignment : ℕ) (bytes : List ℕ) (rs : List RelocEntry) (file : List ℕ) → IsObjectOf fs alignment bytes rs file → IsLinkedAsFilled fs bytes rs file
+object_is_filled fs alignment bytes rs file object = λ base others table agree none.
+    let fits : All (λ (r : Relocation). fits_at base others r ≡ true) (relocations_for (sections file) (codes ".text")) =
+    subst (λ (all : List Relocation). All (λ (r : Relocation). fits_at base others r ≡ true) all) (sym object.relocations) (linked_fields_fit base others table fs rs agree none) in (
+      fits,
+      ap (λ (all : List Relocation). applied base others all (named_section (sections file) (codes ".text")).content) object.relocations
+          ∙ ap (λ (s : Section). applied base others (map (relocation_of (global_symbols fs rs)) rs) s.content) object.text
+          ∙ linked_as_filled base others table fs rs bytes agree,
+    )
+
+-- the object of finished code is linked as the image
+pub filled_is_image : (name : List ℕ) (code : MachBufferFinalized) (file : List ℕ) → IsLinkedAsFilled (whole_function name code) code.bytes.items code.relocs.items file → IsLinkedAsImage name code file
+filled_is_image name code file linked = λ base others table agree none.
+    linked base others table agree (no_link_cause (base_cause code.alignment (length code.bytes.items) base) (relocs_cause base table code.relocs.items) none)
+
+-- the names' cause, by their length
+test_true : (n : ℕ) → 4294967296 ≤ n → nat_le 4294967296 n ≡ true
+test_true n h = grind arith
+
+test_false : (n : ℕ) → n < 4294967296 → nat_le 4294967296 n ≡ false
+test_false n h = grind arith
+
+names_by_length : (fs : List Function) (rs : List RelocEntry) (ss : List Symbol) (names : List ℕ) (b : Bool) → functions_cause [] fs ≡ None → ss ≡ global_symbols fs rs → names ≡ 0 ∷ string_table ss →
+    nat_le 4294967296 (length names) ≡ b → text_cause fs rs ≡ cond b (Some TooLong) None
+names_by_length fs rs ss names b none e n h =
+    let size : length names ≡ 1 + length (string_table (global_symbols fs rs)) = ap length n ∙ ap (λ (symbols : List Symbol). length (0 ∷ string_table symbols)) e ∙ omega arith in
+    ap (λ (o : Option ObjectError). first_cause o (names_cause (global_symbols fs rs))) none
+    ∙ ap (λ (k : ℕ). cond (nat_le 4294967296 k) (Some TooLong) None) (sym size)
+    ∙ ap (λ (t : Bool). cond t (Some TooLong) None) h
+
+pub too_long : (fs : List Function) (rs : List RelocEntry) (ss : List Symbol) (names : List ℕ) → functions_cause [] fs ≡ None → ss ≡ global_symbols fs rs → names ≡ 0 ∷ string_table ss →
+    4294967296 ≤ length names → text_cause fs rs ≡ Some TooLong
+too_long fs rs ss names none e n h = names_by_length fs rs ss names true none e n (test_true (length names) h)
+
+pub short_enough : (fs : List Function) (rs : List RelocEntry) (ss : List Symbol) (names : List ℕ) → functions_cause [] fs ≡ None → ss ≡ global_symbols fs rs → names ≡ 0 ∷ string_table ss →
+    length names < 4294967296 → text_cause fs rs ≡ None
+short_enough fs rs ss names none e n h = names_by_length fs rs ss names false none e n (test_false (length names) h)
+
+-- a function without a cause has a name of its own
+own_name : (o : Option ObjectError) (p : Option ℕ) (later : Option ObjectError) → first_cause o (cond (is_some p) (Some DuplicateName) later) ≡ None → p ≡ None
+own_name None None later h = refl
+own_name None (Some n) later h = cc
+own_name (Some e) p later h = cc
+
+pub name_is_own : (ss : List Symbol) (f : Function) → function_cause ss f ≡ None → place ss f.name ≡ None
+name_is_own ss f h = own_name (name_cause f.name) (place ss f.name) (cond (nat_eq f.size 0) (Some EmptyMember) None) h
+
+pub name_is_fine : (name : List ℕ) → nat_eq (length name) 0 ≡ false → list_any (λ (b : ℕ). nat_eq b 0) name ≡ false → name_cause name ≡ None
+name_is_fine name h k =
+    ap (λ (b : Bool). cond b (Some EmptyName) (cond (list_any (λ (x : ℕ). nat_eq x 0) name) (Some ZeroByte) None)) h ∙ ap (λ (b : Bool). cond b (Some ZeroByte) None) k
+
+-- one more function behind others
+pub functions_on : (ss ss' : List Symbol) (f : Function) (left before : List Function) (all : List Symbol) → ss ++ map function_symbol before ≡ all → before ≡ f ∷ left → ss' ≡ ss ++ function_symbol f ∷ [] →
+    ss' ++ map function_symbol left ≡ all
+functions_on ss ss' f left before all h e k =
+    ap (λ (s : List Symbol). s ++ map function_symbol left) k ∙ append_assoc ss (function_symbol f ∷ []) (map function_symbol left)
+    ∙ ap (λ (fs : List Function). ss ++ map function_symbol fs) (sym e) ∙ h
+
+pub cause_on : (ss ss' : List Symbol) (f : Function) (left before : List Function) (all : Option ObjectError) → functions_cause ss before ≡ all → before ≡ f ∷ left → ss' ≡ ss ++ function_symbol f ∷ [] →
+    function_cause ss f ≡ None → functions_cause ss' left ≡ all
+cause_on ss ss' f left before all h e k none =
+    ap (λ (s : List Symbol). functions_cause s left) k
+    ∙ sym (ap (λ (o : Option ObjectError). first_cause o (functions_cause (ss ++ function_symbol f ∷ []) left)) none)
+    ∙ ap (λ (fs : List Function). functions_cause ss fs) (sym e) ∙ h
+
+pub cause_here : (ss : List Symbol) (f : Function) (left before : List Function) (all : Option ObjectError) (e : ObjectError) → functions_cause ss before ≡ all → before ≡ f ∷ left → function_cause ss f ≡ Some e → all ≡ Some e
+cause_here ss f left before all e h b k =
+    sym h ∙ ap (λ (fs : List Function). functions_cause ss fs) b ∙ ap (λ (o : Option ObjectError). first_cause o (functions_cause (ss ++ function_symbol f ∷ []) left)) k

@@ -1,0 +1,9 @@
+pub mod Reading
+pub mod File
+pub mod Symbols
+pub mod Linking
+pub mod Names
+pub mod Writing
+pub mod Object
+pub mod Causes
+pub mod Tables
