@@ -17,7 +17,7 @@ use thiserror::Error;
 /// Why a text is not assembled.
 #[derive(Clone, Copy, PartialEq, Debug, Error)]
 pub enum AssembleError {
-    /// It is the text of no code. The lines before this one are.
+    /// The first line, counted from 1, that isn't written of what it was read as. The text is the disassembly of no code.
     #[error("syntax {line}")]
     Syntax { line: usize },
     /// No memory.
@@ -26,7 +26,8 @@ pub enum AssembleError {
 }
 
 /// The code that begins at the address `base` and whose disassembly this is, where each line may lack its address and its bytes.
-/// A text that is a disassembly at this base is read as the code of which it is.
+/// A text that is a disassembly at this base is read as the code of which it is. `Syntax` comes where a line isn't written of what it
+/// was read as, or lines stand behind the code's end; `OutOfMemory` for want of memory alone.
 pub fn assemble(alloc: Global, base: u64, text: &[u8]) -> Result<Vec<u8>, AssembleError>
     ensures code { IfOk result (λ code. IsSource base code.items text.now) }
     ensures one { IfOk result (λ code. IsProposed base text.now code.items) }

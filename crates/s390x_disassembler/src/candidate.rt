@@ -8,7 +8,7 @@ use crate::spelling::{Spelling, Suffix, letter_table};
 use crate::table::SPELLINGS;
 use s390x_format::kind::{layout, length};
 use s390x_format::layout::pack;
-use s390x_format::row::MachineRow;
+use s390x_format::row::{Allowed, MachineRow};
 use s390x_format::table::MACHINE_ROWS;
 use std::alloc::{AllocError, Global};
 
@@ -118,10 +118,10 @@ fn row_bytes(
 ) -> Result<Vec<u8>, AllocError> {
     let mut bytes = Vec::new(alloc);
     if named.at < rows.len() {
-        let MachineRow { format, opcode, .. } = rows[named.at];
-        let slots = slots_of(address, opcode, spelling, named.letter, text);
-        let number = pack(layout(format), &slots);
-        put_number(&mut bytes, number, length(format))?;
+        let row = rows[named.at];
+        let slots = slots_of(address, row, spelling, named.letter, text);
+        let number = pack(layout(row.format), &slots);
+        put_number(&mut bytes, number, length(row.format))?;
     }
     Ok(bytes)
 }
@@ -129,7 +129,7 @@ fn row_bytes(
 // The values of a row with the operands of a text.
 fn slots_of(
     address: u64,
-    opcode: u16,
+    row: MachineRow,
     spelling: Spelling,
     letter: Option<u8>,
     text: &[u8],
@@ -138,10 +138,19 @@ fn slots_of(
 {
     let (_, suffix, form) = spelling;
     let mut slots = [0u32; 10];
-    slots[0] = u32::from(opcode);
+    slots[0] = u32::from(row.opcode);
+    slots[5] = u32::from(least_mask(row.allowed));
     put_letter(&mut slots, suffix, letter);
     put_operands(&mut slots, address, operands(form), letter.is_none(), text);
     slots
+}
+
+// The least first mask that a row allows, which is its only one where neither letters nor operands tell it.
+fn least_mask(allowed: Allowed) -> u8 {
+    match allowed {
+        Allowed::FirstMask { low, .. } => low,
+        _ => 0,
+    }
 }
 
 // A number's bytes, the most significant first.
