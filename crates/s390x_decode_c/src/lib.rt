@@ -1,5 +1,6 @@
 //! The decoder for callers in C: a static library over `s390x_format`.
 #![tactic(auto)]
+
 ghost use Rattle.std.specs.Prelude.{◌≡◌, true, false};
 ghost use Rattle.s390x_format.specs.Fetch.{IsFetch};
 ghost use Rattle.s390x_format.specs.declared.decoder.Decoded.{Decoded};
@@ -8,9 +9,8 @@ ghost use Rattle.s390x_decode_c.specs.Instructions.{Begins};
 mod format_number;
 mod instruction;
 
-pub use instruction::Instruction;
-
 use crate::instruction::described;
+pub use instruction::Instruction;
 use s390x_format::decode;
 
 /// The instruction with which the bytes begin.

@@ -1,5 +1,5 @@
 -- How many entries the tables of finished code have.
-use Rattle.std.specs.Prelude.{ℕ, ◌-◌, ◌^◌, ◌≤◌, min, length}
+use Rattle.std.specs.Prelude.{◌-◌, ◌^◌, min, length}
 use Rattle.s390x_buffer.specs.declared.entries.MachBufferFinalized.{MachBufferFinalized}
 use Rattle.s390x_tables.specs.Tables.{handler_count}
 use Rattle.s390x_tables.specs.declared.sizes.Sizes.{Sizes}
@@ -17,4 +17,5 @@ sizes_of f = record {
   handlers = min (handler_count f.try_call_sites.items) (2 ^ 64 - 1);
   patchable_calls = length f.patchable_sites.items;
   stack_maps = length f.stack_maps.items;
-  alignment = f.alignment }
+  alignment = f.alignment;
+}

@@ -1,4 +1,3 @@
-use Rattle.std.proofs.Common.{sym}
 use Rattle.s390x_tables.proofs.Writing.{map_more}
 use Rattle.s390x_tables.proofs.write.write_entries.Goals as goal
 
