@@ -14,11 +14,11 @@ pub struct Relocation {
     pub addend: i64,
 }
 
-/// An instruction that may trap.
+/// A trap.
 #[repr(C)]
 #[derive(Clone, Copy)]
 pub struct Trap {
-    /// Where the instruction begins.
+    /// One byte behind where the instruction that traps begins, as the original records it.
     pub offset: u32,
     /// 1 to 250 for a user's code, 251 to 255 for the named ones.
     pub code: u32,
