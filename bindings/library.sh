@@ -1,14 +1,18 @@
 #!/usr/bin/env bash
-# Makes the static library for C and Rust, and lays it with its header into a folder:
+# Makes the static libraries for C and Rust, and lays them with their header and their allocator into a folder:
 #
 #     ./s390x library [FOLDER]
 #
 # The folder is out/library of the repository, if none is named; bindings/rust and bindings/c look for it there. The
-# library is proved first, where it isn't or a source is newer: from a fresh clone that takes a few minutes. The variable RT names the command rt, where it isn't that of PATH; JOBS how many crates are proved side by
+# libraries are proved first, where they aren't or a source is newer: from a fresh clone that takes about as long as the
+# program does. The variable RT names the command rt, where it isn't that of PATH; JOBS how many crates are proved side by
 # side, if not one a core.
 #
 # FOLDER/libs390x_decode_c.a   s390x_decode; no allocator, no undefined symbols
+# FOLDER/libs390x_c.a          the other calls of the header; leaves rattle_alloc, rattle_realloc and rattle_dealloc undefined
 # FOLDER/s390x_decode.h        what s390x_decode answers, and what a caller owes
+# FOLDER/s390x.h               the same of the other calls
+# FOLDER/s390x_alloc.c         these three functions over malloc; yours can take their place
 set -u
 root=$(CDPATH='' cd "$(dirname "${BASH_SOURCE[0]}")/.." && pwd)
 rt=${RT:-$(command -v rt || echo /opt/rattle/bin/rt)}
@@ -37,7 +41,7 @@ case $folder in
 esac
 log=$(mktemp) || exit 1
 mkdir -p "$folder" || exit 1
-for name in s390x_decode_c; do
+for name in s390x_decode_c s390x_c; do
     say "proving and building lib$name.a"
     if ! build "$name" "$log"; then
         say "it isn't proved or built; what was said stands in $log"
@@ -45,6 +49,6 @@ for name in s390x_decode_c; do
     fi
     cp "$root/crates/$name/out/lib$name.a" "$folder/" || exit 1
 done
-cp "$root/bindings/c/s390x_decode.h" "$folder/" || exit 1
+cp "$root/bindings/c/s390x.h" "$root/bindings/c/s390x_decode.h" "$root/bindings/c/s390x_alloc.c" "$folder/" || exit 1
 rm -f "$log"
 say "made $folder"
