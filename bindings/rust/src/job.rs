@@ -118,6 +118,18 @@ impl Job {
         self
     }
 
+    /// The code before linking, with its tables.
+    #[cfg(feature = "emit")]
+    pub fn emit(&self) -> Result<crate::Code, crate::Error> {
+        crate::emit(self.to_string().as_bytes())
+    }
+
+    /// The image at a base.
+    #[cfg(feature = "emit")]
+    pub fn image(&self, base: u64) -> Result<Vec<u8>, crate::Error> {
+        crate::image(self.to_string().as_bytes(), base)
+    }
+
     fn put(&self, out: &mut String) -> fmt::Result {
         put_flags(out, &self.flags)?;
         put_frame(out, &self.frame)?;

@@ -1,4 +1,4 @@
-//! A proved machine layer for s390x: its decoder, by a safe call over its static library, and a builder of jobs.
+//! A proved machine layer for s390x: emission, linking and decoding, by safe calls over its static libraries.
 //!
 //! What each library call answers is proved of the library (`docs/PROVED.md` of its repository). This crate is not part of
 //! those proofs: it passes slices on as they are, and each call here is safe because slices meet what the library wants of
@@ -14,17 +14,28 @@
 //!     Inst::Ret { link: gpr(14) },
 //! ]);
 //! let job = Job::new(function);
-//! assert_eq!(job.to_string(), "block\nMov64 %r2 %r3\nAluRRR Add64 %r2 %r2 %r4\nRet %r14\nend\n");
+//! # #[cfg(feature = "emit")]
+//! assert_eq!(job.image(4096).unwrap(), [0xb9, 0x04, 0x00, 0x23, 0xb9, 0x08, 0x00, 0x24, 0x07, 0xfe]);
 //! ```
 
 #![warn(missing_docs)]
 
+#[cfg(feature = "emit")]
+mod allocator;
 mod decode;
+#[cfg(feature = "emit")]
+mod emit;
+#[cfg(feature = "emit")]
+mod error;
 mod instructions;
 mod job;
 mod operands;
 
 pub use decode::{decode, Format, Instruction, Instructions};
+#[cfg(feature = "emit")]
+pub use emit::{emit, image, Code, Handler, PatchableCall, Relocation, StackMap, Trap, Try};
+#[cfg(feature = "emit")]
+pub use error::{EmitCause, Error, LinkCause};
 pub use instructions::*;
 pub use job::{Block, Flags, Frame, Function, Job};
 pub use operands::*;
