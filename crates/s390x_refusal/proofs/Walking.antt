@@ -4,18 +4,17 @@ use Rattle.std.proofs.lemmas.List.{take-append-drop, take_more}
 use Rattle.s390x_base.specs.declared.error.EmitError.{EmitError}
 use Rattle.s390x_inst.specs.Emission.{Emission}
 use Rattle.s390x_inst.specs.declared.inst.Inst.{Inst}
-use Rattle.s390x_inst.specs.declared.inst.Inst.TheVariants.{Nop0}
+use Rattle.s390x_inst.specs.declared.inst.Inst.TheVariants.{AllocateArgs, Call, Nop0}
 use Rattle.s390x_inst.specs.declared.state.IsaFlags.{IsaFlags}
 use Rattle.s390x_typed_steps.specs.Calls.{safepoint}
-use Rattle.s390x_typed_steps.specs.Causes.{Declared, first_emit_cause, fresh_labels, nominal_behind, tree_cause}
+use Rattle.s390x_typed_steps.specs.Causes.{Declared, first_emit_cause, fresh_labels, nominal_behind, stack_cause, tree_cause}
 use Rattle.s390x_typed_steps.specs.Stack.{state_after}
 use Rattle.s390x_typed_steps.specs.Tree.{Tree, empty, leaf, loop_node, block_tree, tree}
 use Rattle.s390x_typed_steps.proofs.Baseline.{for_prepend}
-use Rattle.s390x_typed_steps.proofs.Causes.{joined_cause}
+use Rattle.s390x_typed_steps.proofs.Causes.{first_left, joined_cause}
 use Rattle.s390x_typed_steps.proofs.Trees.{joined, joined_behind, joined_fresh_labels}
 use Rattle.s390x_emit_int.specs.Members.{member_of, members_of, block_members_of}
 use Rattle.s390x_emit_int.proofs.Members.{member_nominal}
-use Rattle.s390x_emit_int.proofs.Trees.{safepoint_nominal}
 use Rattle.s390x_refusal.specs.Members.{Point, marked, member_cause, members_at, members_cause, nth_member, nth_point, state_behind}
 
 joined_assoc : (t u v : Tree) → joined (joined t u) v ≡ joined t (joined u v)
@@ -63,6 +62,24 @@ state_append e (i ∷ xs) ys = state_append (state_after e i) xs ys
 pub alone : (flags : IsaFlags) (depth : ℕ) (e : Emission) (i : Inst) → members_at flags depth e (i ∷ []) ≡ member_of flags (marked depth e i) i
 alone flags zero e i = refl
 alone flags (suc depth) e i = refl
+
+safepoint_nominal : (e : Emission) (i : Inst) → (safepoint e i).nominal ≡ e.nominal
+safepoint_nominal e (Call link info) = refl
+safepoint_nominal e i = refl
+
+safepoint_after : (e : Emission) (i : Inst) → state_after (safepoint e i) i ≡ state_after e i
+safepoint_after e (Call link info) = refl
+safepoint_after e i = refl
+
+-- the state behind a member is the same, whether it was a safepoint or not
+pub marked_after : (depth : ℕ) (e : Emission) (i : Inst) → state_after (marked depth e i) i ≡ state_after e i
+marked_after zero e i = safepoint_after e i
+marked_after (suc depth) e i = refl
+
+-- a member without a cause has none by the stack sizes
+pub no_stack_cause : (flags : IsaFlags) (D : Declared) (e : Emission) (n nominal depth : ℕ) (i : Inst) → tree_cause flags D n nominal depth (member_of flags e i) ≡ None → stack_cause nominal depth i ≡ None
+no_stack_cause flags D e n nominal depth (AllocateArgs size) h = first_left _ _ (first_left _ _ (first_left _ _ h))
+no_stack_cause flags D e n nominal depth i h = refl
 
 pub marked_nominal : (depth : ℕ) (e : Emission) (i : Inst) → (marked depth e i).nominal ≡ e.nominal
 marked_nominal zero e i = safepoint_nominal e i

@@ -1,0 +1,5 @@
+pub mod HexLines
+pub mod Differences
+pub mod CutJob
+pub mod Verifying
+pub mod Replying
