@@ -1,5 +1,5 @@
 //! The text of an image: lines of hex digits.
-ghost use Rattle.std.specs.Prelude.{◌≡◌, ◌≤◌, IfOk, MatchOption, MatchResult, length};
+ghost use Rattle.std.specs.Prelude.{◌≡◌, ◌+◌, ◌≤◌, IfErr, IfOk, MatchOption, MatchResult, length};
 ghost use Rattle.s390x_binary_tool.specs.ImageText.{IsFirstDifference, IsImageText, IsWrongLine};
 
 use hex::FromHexError;
@@ -8,12 +8,13 @@ use std::alloc::{AllocError, Global};
 
 /// The bytes that lines of hex digits write, each line ended by a line feed; else the number of the first line that isn't so.
 pub fn read_image(alloc: Global, text: &[u8]) -> Result<Result<Vec<u8>, usize>, AllocError>
-    ensures { IfOk result (λ r. MatchResult r (λ image. IsImageText text.now image.items) (IsWrongLine text.now)) }
+    ensures lines { IfOk result (λ r. MatchResult r (λ image. IsImageText text.now image.items) (IsWrongLine text.now)) }
+    ensures few { IfOk result (λ r. IfErr r (λ number. number ≤ length text.now + 1)) }
 {
     let mut image = Vec::new(alloc);
     let mut rest = text;
     let mut number = 1;
-    while !rest.is_empty() {
+    'lines: while !rest.is_empty() {
         let line = before(rest, b'\n');
         if line.len() == rest.len() {
             return Ok(Err(number));

@@ -100,13 +100,13 @@ pub begins_at_zero : (e : Emission) (f : AllocatedFunction) → opening_cause e 
 begins_at_zero e f none = nominal_zero e.nominal e.outgoing (unless_true _ _ (first_left (start_cause e) _ none))
   where
     nominal_zero : (m k : ℕ) → (nat_eq m 0 && nat_eq k 0) ≡ true → m ≡ 0
-    nominal_zero m k h = grind
+    nominal_zero m k h = grind (arith, h)
 
 -- ---- one block
 
 -- a block's causes: those of its members, and that of its end
 pub block_parts : (flags : IsaFlags) (D : Declared) (p : Point) (is : List Inst) → p.state.nominal ≡ 0 → p.depth ≡ 0 → block_cause flags D p.labels (block_members_of flags p.state is) ≡ first_emit_cause (members_cause flags D p is) (ending_cause flags p is)
-block_parts flags D p is empty outside =
+block_parts flags D p is unallocated outside =
     let t = block_members_of flags p.state is in
-    ap (λ m. first_emit_cause (tree_cause flags D p.labels m 0 t) (unless (nat_eq (nominal_behind m t) 0) BadStackState)) (sym empty)
+    ap (λ m. first_emit_cause (tree_cause flags D p.labels m 0 t) (unless (nat_eq (nominal_behind m t) 0) BadStackState)) (sym unallocated)
     ∙ ap (λ d. first_emit_cause (tree_cause flags D p.labels p.state.nominal d (members_at flags d p.state is)) (ending_cause flags p is)) (sym outside)

@@ -1,5 +1,5 @@
 -- From member to member: what those before one leave, and what its cause makes of all.
-use Rattle.std.proofs.Common.{◌≡◌, ℕ, zero, suc, ◌+◌, ◌<◌, List, [], ◌∷◌, ◌++◌, Option, Some, None, length, take, drop, get_or, refl, sym, ap, ◌∙◌, drop-cons}
+use Rattle.std.proofs.Common.{◌≡◌, ℕ, zero, suc, ◌+◌, ◌<◌, List, [], ◌∷◌, ◌++◌, Option, Some, None, length, take, drop, get_or, refl, sym, ap, ◌∙◌, drop-cons, arith}
 use Rattle.std.proofs.lemmas.List.{take-append-drop, take_more}
 use Rattle.s390x_base.specs.declared.error.EmitError.{EmitError}
 use Rattle.s390x_inst.specs.Emission.{Emission}
@@ -84,6 +84,18 @@ no_stack_cause flags D e n nominal depth i h = refl
 pub marked_nominal : (depth : ℕ) (e : Emission) (i : Inst) → (marked depth e i).nominal ≡ e.nominal
 marked_nominal zero e i = safepoint_nominal e i
 marked_nominal (suc depth) e i = refl
+
+-- before the first member
+pub labels_none : (flags : IsaFlags) (depth : ℕ) (e : Emission) (n : ℕ) → n ≡ n + fresh_labels (members_at flags depth e [])
+labels_none flags zero e n = omega arith
+labels_none flags (suc depth) e n = omega arith
+
+pub cause_none : (flags : IsaFlags) (D : Declared) (p : Point) → members_cause flags D p [] ≡ None
+cause_none flags D p = go p.depth
+  where
+    go : (d : ℕ) → tree_cause flags D p.labels p.state.nominal d (members_at flags d p.state []) ≡ None
+    go zero = refl
+    go (suc d) = refl
 
 -- where members behind others begin
 abbrev pub behind : IsaFlags → Point → List Inst → Point

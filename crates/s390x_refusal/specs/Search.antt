@@ -1,14 +1,16 @@
 -- What the steps of the search answer.
-use Rattle.std.specs.Prelude.{◌≡◌, ◌≢◌, ℕ, ◌+◌, ◌≤◌, List, length, Option, Some, None}
+use Rattle.std.specs.Prelude.{◌≡◌, ◌≢◌, ℕ, ◌+◌, ◌≤◌, List, length, Option, Some, None, Vec}
+use Rattle.std.specs.declared.alloc.Global.{Global}
 use Rattle.s390x_base.specs.declared.error.EmitError.{EmitError}
 use Rattle.s390x_buffer.specs.State.{BufferState, fresh_buffer, label_limit}
 use Rattle.s390x_inst.specs.Emission.{Emission}
 use Rattle.s390x_inst.specs.declared.function.AllocatedFunction.{AllocatedFunction}
+use Rattle.s390x_inst.specs.declared.function.Block.{Block}
 use Rattle.s390x_inst.specs.declared.inst.Inst.{Inst}
 use Rattle.s390x_inst.specs.declared.state.IsaFlags.{IsaFlags}
-use Rattle.s390x_typed_steps.specs.Causes.{Declared, fresh_labels}
+use Rattle.s390x_typed_steps.specs.Causes.{Declared, block_cause, fresh_labels}
 use Rattle.s390x_typed_steps.specs.Stack.{state_after}
-use Rattle.s390x_emit_int.specs.Function.{constants_of}
+use Rattle.s390x_emit_int.specs.Function.{constants_of, tree_of}
 use Rattle.s390x_emit_int.specs.Members.{member_of}
 use Rattle.s390x_refusal.specs.Members.{IsReached, IsRefusedAmong, IsRefusedAt, Point, marked, member_cause, members_cause, nth_member, nth_point}
 use Rattle.s390x_refusal.specs.Refusal.{IsRefusedBy, emission_cause, opening_cause}
@@ -32,6 +34,14 @@ IsChecked flags D s state state' i (Passed labels) =
 IsChecked flags D s state state' i (Refused error) =
     (member_cause flags D (point_of s (marked s.depth state i)) i ≡ Some error) × (state' ≡ marked s.depth state i)
 
+-- a block has no cause, and so many labels are in use behind it; or this is its first one
+abbrev pub IsBlockChecked : IsaFlags → Declared → (labels : ℕ) → Emission → Block → Checked → Type 0
+IsBlockChecked flags D n e v (Passed labels) =
+    (block_cause flags D n (tree_of flags e v) ≡ None)
+    × (labels ≡ n + fresh_labels (tree_of flags e v))
+    × (labels ≤ label_limit)
+IsBlockChecked flags D n e v (Refused error) = block_cause flags D n (tree_of flags e v) ≡ Some error
+
 -- no member has a cause; or this one has one, and none before it
 abbrev pub IsFirstMember : IsaFlags → Declared → Scope → (state state' : Emission) → List Inst → Option FirstMember → Type 0
 IsFirstMember flags D s state state' is None = members_cause flags D (point_of s state) is ≡ None
@@ -45,10 +55,10 @@ IsFirstMember flags D s state state' is (Some m) =
 abbrev pub IsPathTo : IsaFlags → Declared → Point → Inst → List ℕ → Type 0
 IsPathTo flags D p i path = (error : EmitError) → member_cause flags D p i ≡ Some error → IsRefusedAt flags D p i error path
 
--- no member has a cause; or one has, and this is the path to the first one that has it itself
-abbrev pub IsPathAmong : IsaFlags → Declared → Point → List Inst → Option (List ℕ) → Type 0
+-- no member has a cause; or this is the path to the first one that has one itself
+abbrev pub IsPathAmong : IsaFlags → Declared → Point → List Inst → Option (Vec ℕ Global) → Type 0
 IsPathAmong flags D p is None = members_cause flags D p is ≡ None
-IsPathAmong flags D p is (Some path) = (error : EmitError) → members_cause flags D p is ≡ Some error → IsRefusedAmong flags D p is error path
+IsPathAmong flags D p is (Some path) = (error : EmitError) × (members_cause flags D p is ≡ Some error) × IsRefusedAmong flags D p is error path.items
 
 -- the function is refused before its blocks; or it isn't, and this is a buffer for its blocks and constants
 abbrev pub IsOpened : Emission → AllocatedFunction → Option BufferState → Type 0

@@ -1,16 +1,17 @@
 //! The first cause in the blocks of a function.
-ghost use Rattle.std.specs.Prelude.{◌≡◌, ◌&&◌, nat_eq, length, IfOk, None};
-ghost use Rattle.s390x_buffer.specs.State.{fresh_buffer};
+ghost use Rattle.std.specs.Prelude.{◌≡◌, ◌≤◌, ◌&&◌, nat_eq, length, IfOk, None};
+ghost use Rattle.s390x_buffer.specs.State.{fresh_buffer, label_limit};
+ghost use Rattle.s390x_typed_steps.specs.Causes.{declared_in};
 ghost use Rattle.s390x_emit_int.specs.Function.{constants_of};
 ghost use Rattle.s390x_refusal.specs.Refusal.{opening_cause};
-ghost use Rattle.s390x_refusal.specs.Search.{IsOpened, IsPositionIn};
+ghost use Rattle.s390x_refusal.specs.Search.{IsBlockChecked, IsOpened, IsPositionIn};
 
-use crate::members::{Scope, path_among};
+use crate::members::{Checked, Scope, path_among};
 use crate::position::Position;
 use s390x_base::{EmitError, NoMemory};
 use s390x_buffer::MachBuffer;
 use s390x_emit_int::check::{Totals, check_block};
-use s390x_inst::{AllocatedFunction, EmitState, IsaFlags};
+use s390x_inst::{AllocatedFunction, Block, EmitState, IsaFlags};
 use std::alloc::Global;
 
 /// The most blocks that have labels.
@@ -42,6 +43,27 @@ pub fn open_buffer(
     }
 }
 
+// The first cause of a block, or how many labels are in use behind it.
+fn check_whole_block(
+    alloc: Global,
+    flags: IsaFlags,
+    sink: &MachBuffer,
+    state: &EmitState,
+    labels: u64,
+    block: &Block,
+) -> Result<Checked, NoMemory>
+    requires few { labels ≤ label_limit }
+    requires start { state.now.nominal ≡ 0 }
+    ensures { IfOk result (λ checked. IsBlockChecked flags (declared_in sink.now) labels state.now block.now checked) }
+{
+    let before = Totals { labels, bytes: 0 };
+    match check_block(alloc, flags, state, sink, before, block) {
+        Ok(behind) => Ok(Checked::Passed(behind.labels)),
+        Err(EmitError::NoMemory) => Err(NoMemory),
+        Err(error) => Ok(Checked::Refused(error)),
+    }
+}
+
 /// Where the first cause stands in the blocks, or behind them.
 pub fn position_in_blocks(
     alloc: Global,
@@ -56,11 +78,9 @@ pub fn position_in_blocks(
 {
     let mut labels = function.blocks.len() as u64 + function.constants.len() as u64;
     for (number, block) in function.blocks.iter().enumerate() {
-        let before = Totals { labels, bytes: 0 };
-        match check_block(alloc, flags, state, sink, before, block) {
-            Ok(behind) => labels = behind.labels,
-            Err(EmitError::NoMemory) => return Err(NoMemory),
-            Err(_) => {
+        match check_whole_block(alloc, flags, sink, state, labels, block)? {
+            Checked::Passed(behind) => labels = behind,
+            Checked::Refused(_) => {
                 let scope = Scope { labels, depth: 0 };
                 return match path_among(alloc, flags, sink, state, scope, &block.insts)? {
                     Some(path) => Ok(Position::Instruction { block: number, path }),
