@@ -1,5 +1,6 @@
-pub mod HexLines
-pub mod Differences
+pub mod Answering
 pub mod CutJob
-pub mod Verifying
+pub mod Differences
+pub mod HexLines
 pub mod Replying
+pub mod Verifying

@@ -1,4 +1,5 @@
 pub mod ImageText
+pub mod Made
 pub mod Refusal
 pub mod Replies
 pub mod Status

@@ -83,9 +83,3 @@ abbrev pub IsVerifyAnswer : (base : ℕ) → List ℕ → BinaryStatus → List 
 IsVerifyAnswer base input (Shared status.Syntax) text = IsVerifySyntax input text
 IsVerifyAnswer base input (Shared status.NoMemory) text = text ≡ line (codes "no memory")
 IsVerifyAnswer base input s text = IsVerified base input s text
-
--- the reply to bytes that differ from the image first at this number
-abbrev pub IsDifferenceReply : ℕ → BinaryStatus → List ℕ → Type 0
-IsDifferenceReply n s text =
-    ((s ≡ Differs) × (text ≡ line (codes "differs " ++ decimal n)))
-    ⊎ ((s ≡ Shared status.NoMemory) × (text ≡ line (codes "no memory")))

@@ -1,15 +1,19 @@
 //! The reply to the command `refusal`.
 ghost use Rattle.std.specs.Prelude.{◌≡◌, ◌<◌, ◌++◌, IfOk, OnOk, length, string_bytes};
 ghost use Rattle.std.specs.Cow.{cow_str_bytes};
+ghost use Rattle.s390x_tool.specs.declared.status.Status.TheVariants as status;
+ghost use Rattle.s390x_binary_tool.specs.Made.{IsMadeReply};
+ghost use Rattle.s390x_binary_tool.specs.declared.status.BinaryStatus.TheVariants.{Shared};
 ghost use Rattle.s390x_binary_tool.specs.Refusal.{IsRefusalAnswer, IsRefusalReply, more_numbers, path_text, position_text, refusal_line};
 
-use crate::reply::{BinaryReply, shared};
+use crate::reply::{BinaryReply, made, shared};
+use crate::status::BinaryStatus;
 use s390x_base::NoMemory;
 use s390x_job::{Job, LineError, read_lines};
 use s390x_refusal::{Position, Refusal, first_refusal};
 use s390x_tool::Status;
 use s390x_tool::error_names::emit_error_name;
-use s390x_tool::reply::{fixed, made, no_memory, syntax};
+use s390x_tool::reply::{fixed, no_memory, syntax};
 use std::alloc::{AllocError, Global};
 
 /// The answer to `refusal` and its whole input.
@@ -30,9 +34,19 @@ fn refusal_of_job(alloc: Global, job: &Job) -> BinaryReply
 {
     match first_refusal(alloc, &job.function, &job.info, job.state) {
         Ok(None) => shared(fixed(Status::Ok, "none\n")),
-        Ok(Some(refusal)) => shared(made(Status::Refused, refusal_line(alloc, &refusal))),
+        Ok(Some(refusal)) => placed(alloc, &refusal),
         Err(NoMemory) => shared(no_memory()),
     }
+}
+
+// The reply with a cause and its place.
+fn placed(alloc: Global, refusal: &Refusal) -> BinaryReply
+    ensures { IsMadeReply (Shared status.Refused) (refusal_line refusal.now.error refusal.now.position) result.status (cow_str_bytes result.text) }
+{
+    made(
+        BinaryStatus::Shared(Status::Refused),
+        refusal_line(alloc, refusal),
+    )
 }
 
 // The cause and its place, and a line feed.

@@ -1,13 +1,17 @@
 //! The reply to the command `verify`.
-ghost use Rattle.std.specs.Prelude.{◌≡◌, ◌<◌, IfOk, length};
+ghost use Rattle.std.specs.Prelude.{◌≡◌, ◌<◌, ◌++◌, codes, IfOk, length};
 ghost use Rattle.std.specs.Cow.{cow_str_bytes};
+ghost use Rattle.std.specs.Fmt.{decimal};
 ghost use Rattle.s390x_image.specs.Symbols.{no_symbols};
 ghost use Rattle.s390x_tool.specs.Answers.{with_symbols};
 ghost use Rattle.s390x_tool.specs.Ends.{too_many};
-ghost use Rattle.s390x_binary_tool.specs.Verify.{IsCutJob, IsDifferenceReply, IsVerifyAnswer, IsVerifyReply};
+ghost use Rattle.s390x_tool.specs.Lines.{line};
+ghost use Rattle.s390x_binary_tool.specs.Made.{IsMadeReply};
+ghost use Rattle.s390x_binary_tool.specs.declared.status.BinaryStatus.TheVariants.{Differs};
+ghost use Rattle.s390x_binary_tool.specs.Verify.{IsCutJob, IsVerifyAnswer, IsVerifyReply};
 
 use crate::image_text::{first_difference, read_image};
-use crate::reply::{BinaryReply, shared};
+use crate::reply::{BinaryReply, made, shared};
 use crate::status::BinaryStatus;
 use s390x_base::NoMemory;
 use s390x_bundle_text::cut::{count_lines, job_size};
@@ -17,7 +21,6 @@ use s390x_job::{Job, LineError, SymbolLine, read_lines};
 use s390x_tool::Status;
 use s390x_tool::reply::{fixed, link_refused, no_memory, refused, syntax};
 use std::alloc::Global;
-use std::borrow::CowStr;
 
 /// The answer to `verify` at this base and its whole input.
 pub fn verify(alloc: Global, base: u64, input: &[u8]) -> BinaryReply
@@ -67,15 +70,9 @@ fn compare(alloc: Global, base: u64, job: &Job, image: &[u8]) -> BinaryReply
 
 // The reply to bytes that differ from the image first at this one.
 fn differs(alloc: Global, at: usize) -> BinaryReply
-    ensures { IsDifferenceReply at result.status (cow_str_bytes result.text) }
+    ensures { IsMadeReply Differs (line (codes "differs " ++ decimal at)) result.status (cow_str_bytes result.text) }
 {
-    match format!(in alloc; "differs {at}\n") {
-        Ok(text) => BinaryReply {
-            status: BinaryStatus::Differs,
-            text: CowStr::Owned(text),
-        },
-        Err(_) => shared(no_memory()),
-    }
+    made(BinaryStatus::Differs, format!(in alloc; "differs {at}\n"))
 }
 
 // The symbols of these lines.
