@@ -9,7 +9,7 @@ use Rattle.s390x_inst.specs.declared.state.IsaFlags.{IsaFlags}
 use Rattle.s390x_typed_steps.specs.Baseline.{tree_for}
 use Rattle.s390x_typed_steps.specs.Calls.{without_map}
 use Rattle.s390x_typed_steps.specs.Causes.{Declared, first_emit_cause, nesting_cause, numbers_cause, tree_cause}
-use Rattle.s390x_typed_steps.specs.Tree.{empty, loop_node}
+use Rattle.s390x_typed_steps.specs.Tree.{empty}
 use Rattle.s390x_typed_steps.proofs.Causes.{first_none}
 use Rattle.s390x_typed_steps.proofs.Trees.{prepend_loop}
 use Rattle.s390x_emit_int.specs.Members.{members_of}

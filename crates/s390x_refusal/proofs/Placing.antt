@@ -1,5 +1,5 @@
 -- The search among blocks, one after another.
-use Rattle.std.proofs.Common.{◌≡◌, ◌≢◌, ℕ, ◌+◌, ◌<◌, ◌≤◌, List, [], Option, Some, None, Bool, true, false, cond, nat_lt, length, map, take, get_or, refl, sym, ap, ◌∙◌, subst, arith, Vec, Global}
+use Rattle.std.proofs.Common.{◌≡◌, ◌≢◌, ℕ, ◌+◌, ◌<◌, ◌≤◌, List, [], Option, Some, None, Bool, true, false, cond, nat_lt, length, take, get_or, refl, sym, ap, ◌∙◌, subst, arith, Vec, Global}
 use Rattle.std.proofs.lemmas.List.{get_or-map, length-map, take_all}
 use Rattle.s390x_base.specs.declared.error.EmitError.{EmitError}
 use Rattle.s390x_base.specs.declared.error.EmitError.TheVariants.{BadAlignment, LabelOutOfRange}
@@ -10,12 +10,12 @@ use Rattle.s390x_inst.specs.declared.function.Block.{Block}
 use Rattle.s390x_inst.specs.declared.inst.Inst.{Inst}
 use Rattle.s390x_inst.specs.declared.state.IsaFlags.{IsaFlags}
 use Rattle.s390x_typed_steps.specs.Causes.{Declared, block_cause, blocks_cause, first_emit_cause, fresh_labels}
-use Rattle.s390x_typed_steps.specs.Tree.{Tree, empty}
+use Rattle.s390x_typed_steps.specs.Tree.{empty}
 use Rattle.s390x_typed_steps.proofs.Causes.{first_right}
 use Rattle.s390x_emit_int.specs.Function.{constants_of, start_cause, tree_of, trees_of}
 use Rattle.s390x_emit_int.specs.Members.{block_members_of}
-use Rattle.s390x_refusal.specs.Members.{IsRefusedAmong, Point, members_cause}
-use Rattle.s390x_refusal.specs.Refusal.{IsBlockReached, IsRefusedBy, block_insts, block_point, declared_by, emission_cause, ending_cause, first_labels, labels_behind, opening_cause}
+use Rattle.s390x_refusal.specs.Members.{IsRefusedAmong, members_cause}
+use Rattle.s390x_refusal.specs.Refusal.{IsBlockReached, block_insts, block_point, declared_by, emission_cause, ending_cause, first_labels, labels_behind, opening_cause}
 use Rattle.s390x_refusal.specs.Search.{IsPathAmong, IsPositionIn}
 use Rattle.s390x_refusal.specs.declared.position.Position.TheVariants.{Start, Instruction, BlockEnd, Length}
 use Rattle.s390x_refusal.proofs.Counting.{begins_at_zero, block_parts, blocks_first, labels_more_block, length_last, of_first_block, one_more_block, opening_first}

@@ -1,5 +1,5 @@
 -- From member to member: what those before one leave, and what its cause makes of all.
-use Rattle.std.proofs.Common.{◌≡◌, ℕ, zero, suc, ◌+◌, ◌<◌, List, [], ◌∷◌, ◌++◌, Option, Some, None, length, take, drop, get_or, refl, sym, ap, ◌∙◌, drop-cons, arith}
+use Rattle.std.proofs.Common.{◌≡◌, ℕ, zero, suc, ◌+◌, ◌<◌, List, [], ◌∷◌, ◌++◌, Some, None, length, take, drop, refl, sym, ap, ◌∙◌, arith}
 use Rattle.std.proofs.lemmas.List.{take-append-drop, take_more}
 use Rattle.s390x_base.specs.declared.error.EmitError.{EmitError}
 use Rattle.s390x_inst.specs.Emission.{Emission}
@@ -13,7 +13,7 @@ use Rattle.s390x_typed_steps.specs.Tree.{Tree, empty, leaf, loop_node, block_tre
 use Rattle.s390x_typed_steps.proofs.Baseline.{for_prepend}
 use Rattle.s390x_typed_steps.proofs.Causes.{first_left, joined_cause}
 use Rattle.s390x_typed_steps.proofs.Trees.{joined, joined_behind, joined_fresh_labels}
-use Rattle.s390x_emit_int.specs.Members.{member_of, members_of, block_members_of}
+use Rattle.s390x_emit_int.specs.Members.{member_of}
 use Rattle.s390x_emit_int.proofs.Members.{member_nominal}
 use Rattle.s390x_refusal.specs.Members.{Point, marked, member_cause, members_at, members_cause, nth_member, nth_point, state_behind}
 

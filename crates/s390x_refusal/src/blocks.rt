@@ -83,7 +83,10 @@ pub fn position_in_blocks(
             Checked::Refused(_) => {
                 let scope = Scope { labels, depth: 0 };
                 return match path_among(alloc, flags, sink, state, scope, &block.insts)? {
-                    Some(path) => Ok(Position::Instruction { block: number, path }),
+                    Some(path) => Ok(Position::Instruction {
+                        block: number,
+                        path,
+                    }),
                     None => Ok(Position::BlockEnd { block: number }),
                 };
             }

@@ -9,10 +9,7 @@ pub enum Position {
     Start,
     /// An instruction of a block. The path has its number in the block; for a member of a `Loop`, the number of the outermost `Loop` in the block, and then, from
     /// the outside in, each member's number in the `Loop` around it.
-    Instruction {
-        block: usize,
-        path: Vec<usize>,
-    },
+    Instruction { block: usize, path: Vec<usize> },
     /// The end of a block, where its arguments are still allocated.
     BlockEnd { block: usize },
     /// The length of the whole code.

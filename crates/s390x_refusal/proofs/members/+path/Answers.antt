@@ -1,7 +1,7 @@
 use Rattle.std.proofs.Common.{◌≡◌, ◌+◌, sym, ap, ◌∙◌, subst}
 use Rattle.s390x_inst.specs.Emission.{Emission}
 use Rattle.s390x_typed_steps.specs.Causes.{declared_in}
-use Rattle.s390x_refusal.specs.Members.{IsRefusedAmong, Point, point_inside}
+use Rattle.s390x_refusal.specs.Members.{IsRefusedAmong, point_inside}
 use Rattle.s390x_refusal.specs.Search.{point_of}
 use Rattle.s390x_refusal.proofs.Nesting.{path_of_member, path_of_none, path_through}
 use Rattle.s390x_refusal.proofs.Stepping.{same_member}
@@ -21,7 +21,7 @@ path_among-returns-in-Ok t c =
       first.error,
       of_first flags D p is first.index first.error found.0.there found.0.before found.3,
       subst (λ ns. IsRefusedAmong flags D p is first.error ns) (sym c.in-Ok.ensures.items)
-      (path_of_member flags D p q is first.index c.index-insts-first.result first.error c.in_ok-path.path.items found.0 found.1 same found.3 c.in_ok-path.ensures),
+          (path_of_member flags D p q is first.index c.index-insts-first.result first.error c.in_ok-path.path.items found.0 found.1 same found.3 c.in_ok-path.ensures),
     )
 
 pub path_to-returns-in-Some : goal.path_to-returns-in-Some
