@@ -1,5 +1,5 @@
 -- From the replies of the parts to the answers.
-use Rattle.std.proofs.Common.{◌≡◌, ℕ, inl, inr, List, [], ◌++◌, Some, None, refl, sym, ap, ap₂, ◌∙◌, subst}
+use Rattle.std.proofs.Common.{◌≡◌, ℕ, ◌+◌, inl, inr, List, [], ◌++◌, Some, None, length, take, drop, refl, sym, ap, ap₂, ◌∙◌, subst}
 use Rattle.std.specs.Prelude.{codes}
 use Rattle.std.specs.Fmt.{decimal}
 use Rattle.s390x_base.specs.declared.error.EmitError.{EmitError}
@@ -7,21 +7,26 @@ use Rattle.s390x_image.specs.Fields.{filled}
 use Rattle.s390x_image.specs.declared.error.LinkError.{LinkError}
 use Rattle.s390x_emit_int.specs.FunctionImage.{HasNoImage}
 use Rattle.s390x_emit_int.specs.declared.image.ImageError.TheVariants.{Refused, Link}
+use Rattle.s390x_bundle_text.specs.Cut.{IsCutAt}
+use Rattle.s390x_job.specs.Completions.{pieces}
+use Rattle.s390x_job.specs.Errors.{IsError}
 use Rattle.s390x_job.specs.Jobs.{IsJob, text_of_job}
 use Rattle.s390x_job.specs.Same.{SameJob}
 use Rattle.s390x_job.specs.declared.job.Job.{Job}
+use Rattle.s390x_job.specs.declared.job.LineError.TheVariants.{Syntax}
 use Rattle.s390x_refusal.specs.Refusal.{IsFirstRefusal}
 use Rattle.s390x_refusal.specs.declared.position.Refusal.{Refusal}
 use Rattle.s390x_tool.specs.Answers.{job_cause, symbols_of}
-use Rattle.s390x_tool.specs.Lines.{IsLinkRefusal, IsRefusal, line}
+use Rattle.s390x_tool.specs.Lines.{IsLinkRefusal, IsMade, IsRefusal, line}
 use Rattle.s390x_tool.specs.declared.status.Status.{Status}
 use Rattle.s390x_tool.specs.declared.status.Status.TheVariants as status
-use Rattle.s390x_binary_tool.specs.ImageText.{IsFirstDifference}
+use Rattle.s390x_binary_tool.specs.ImageText.{IsFirstDifference, IsImageText, IsWrongLine}
 use Rattle.s390x_binary_tool.specs.Made.{IsMadeReply}
 use Rattle.s390x_binary_tool.specs.Refusal.{IsRefusalAnswer, IsRefusalReply, refusal_line}
-use Rattle.s390x_binary_tool.specs.Verify.{IsJobImage, IsVerified, IsVerifyAnswer, IsVerifyReply}
+use Rattle.s390x_binary_tool.specs.Verify.{IsCutJob, IsJobImage, IsVerified, IsVerifyAnswer, IsVerifyReply}
 use Rattle.s390x_binary_tool.specs.declared.status.BinaryStatus.{BinaryStatus}
 use Rattle.s390x_binary_tool.specs.declared.status.BinaryStatus.TheVariants.{Shared, Differs}
+use Rattle.s390x_binary_tool.proofs.Verifying.{verified, wrong_behind, wrong_job}
 
 -- ---- `refusal`
 
@@ -81,3 +86,33 @@ verify_answer base input Differs text v = v
 verify_answer base input (Shared status.Syntax) text v = absurd v.reply
 verify_answer base input (Shared status.NoMemory) text v = v.reply
 verify_answer base input (Shared s) text v = v
+
+-- ---- texts that are none
+
+pub refusal_no_memory : (input : List ℕ) (s : BinaryStatus) (text : List ℕ) → s ≡ Shared status.NoMemory → text ≡ line (codes "no memory") → IsRefusalAnswer input s text
+refusal_no_memory input s text is spelled = subst (λ t. IsRefusalAnswer input t text) (sym is) spelled
+
+pub verify_no_memory : (base : ℕ) (input : List ℕ) (s : BinaryStatus) (text : List ℕ) → s ≡ Shared status.NoMemory → text ≡ line (codes "no memory") → IsVerifyAnswer base input s text
+verify_no_memory base input s text is spelled = subst (λ t. IsVerifyAnswer base input t text) (sym is) spelled
+
+pub refusal_syntax : (input : List ℕ) (n : ℕ) (first : Status) (s : BinaryStatus) (text : List ℕ) → IsError input (Syntax n) → IsMade status.Syntax (line (codes "syntax " ++ decimal n)) first text → s ≡ Shared first → IsRefusalAnswer input s text
+refusal_syntax input n first s text e (inl made) is =
+    subst (λ t. IsRefusalAnswer input t text) (sym (is ∙ ap Shared made.0)) (record { no_job = e.0; number = n; first = e.1; spelled = made.1 })
+refusal_syntax input n first s text e (inr memory) is = refusal_no_memory input s text (is ∙ ap Shared memory.0) memory.1
+
+-- the job's part is no job's text
+pub verify_job_syntax : (base : ℕ) (input : List ℕ) (size n : ℕ) (first : Status) (s : BinaryStatus) (text : List ℕ) → IsCutAt input size → IsError (take size input) (Syntax n) → IsMade status.Syntax (line (codes "syntax " ++ decimal n)) first text → s ≡ Shared first → IsVerifyAnswer base input s text
+verify_job_syntax base input size n first s text cut e (inl made) is =
+    subst (λ t. IsVerifyAnswer base input t text) (sym (is ∙ ap Shared made.0)) (wrong_job input text size n cut e.0 e.1 made.1)
+verify_job_syntax base input size n first s text cut e (inr memory) is = verify_no_memory base input s text (is ∙ ap Shared memory.0) memory.1
+
+-- what stands behind it writes no bytes
+pub verify_image_syntax : (base : ℕ) (input : List ℕ) (size lines number n : ℕ) (j : Job) (first : Status) (s : BinaryStatus) (text : List ℕ) → IsCutJob input size j → IsWrongLine (drop size input) number → lines ≡ length (pieces (take size input)) → n ≡ lines + number → IsMade status.Syntax (line (codes "syntax " ++ decimal n)) first text → s ≡ Shared first → IsVerifyAnswer base input s text
+verify_image_syntax base input size lines number n j first s text c wrong count sum (inl made) is =
+    subst (λ t. IsVerifyAnswer base input t text) (sym (is ∙ ap Shared made.0))
+    (wrong_behind input text size number j c wrong (made.1 ∙ ap (λ k. line (codes "syntax " ++ decimal k)) (sum ∙ ap (λ k. k + number) count)))
+verify_image_syntax base input size lines number n j first s text c wrong count sum (inr memory) is = verify_no_memory base input s text (is ∙ ap Shared memory.0) memory.1
+
+-- the reply to a job and the bytes behind it
+pub verify_reply_answer : (base : ℕ) (input : List ℕ) (size : ℕ) (j : Job) (given : List ℕ) (s : BinaryStatus) (text : List ℕ) → IsCutJob input size j → IsImageText (drop size input) given → IsVerifyReply base j given s text → IsVerifyAnswer base input s text
+verify_reply_answer base input size j given s text c hex reply = verify_answer base input s text (verified base input size j given s text c hex reply)

@@ -1,11 +1,10 @@
 -- Lines of hex digits, read one after another.
-use Rattle.std.proofs.Common.{◌≡◌, ℕ, zero, suc, ◌+◌, ◌-◌, ◌<◌, ◌≤◌, inl, inr, List, [], ◌∷◌, ◌++◌, Option, Some, None, Result, Ok, Err, length, take, refl, sym, ap, ◌∙◌, subst, arith, append_assoc, append-nil, length-append}
-use Rattle.std.specs.Prelude.{IsSome}
+use Rattle.std.proofs.Common.{◌≡◌, ℕ, true, false, suc, ◌+◌, ◌-◌, ◌<◌, ◌≤◌, inl, inr, List, [], ◌∷◌, ◌++◌, Option, Some, None, Result, Ok, Err, length, take, refl, sym, ap, ◌∙◌, subst, arith, append_assoc, append-nil, length-append}
+use Rattle.std.specs.Prelude.{IsSome, is_some}
 use Rattle.std.proofs.Math.Seq.{take-append-add, take-append_seam}
 use Rattle.hex.specs.Hex.{decode_of}
 use Rattle.hex.specs.declared.error.FromHexError.{FromHexError}
 use Rattle.s390x_words.specs.Marks.{upto, past}
-use Rattle.s390x_lines.proofs.Frees.{Free}
 use Rattle.s390x_job.specs.Completions.{joined, pieces}
 use Rattle.s390x_job.proofs.Above.{pieces_none}
 use Rattle.s390x_bundle_text.proofs.Lines.{AllFree, first_line, free_append, joined_append, pieces_free, pieces_joined, text_cut}
@@ -60,14 +59,14 @@ pub record Read (text rest image : List ℕ) (number : ℕ) : Type 0 where
 pub read_start : (text : List ℕ) → Read text text [] 1
 read_start text = record { lines = []; free = tt; whole = refl; bytes = refl; count = refl }
 
-first_free : (rest : List ℕ) → (length (upto 10 rest) ≡ length rest → ⊥) → Free 10 (upto 10 rest)
-first_free rest n = let h : AllFree (upto 10 rest ∷ pieces (past 10 rest)) = subst AllFree (first_line rest n) (pieces_free rest) in h.0
+first_free : (rest : List ℕ) → (length (upto 10 rest) ≡ length rest → ⊥) → AllFree (upto 10 rest ∷ [])
+first_free rest n = let h : AllFree (upto 10 rest ∷ pieces (past 10 rest)) = subst AllFree (first_line rest n) (pieces_free rest) in (h.0, tt)
 
 pub read_more : (text rest image bytes : List ℕ) (number : ℕ) → Read text rest image number → (length (upto 10 rest) ≡ length rest → ⊥) → decode_of (upto 10 rest) ≡ Ok bytes → Read text (past 10 rest) (image ++ bytes) (number + 1)
 read_more text rest image bytes number r n decoded =
     record {
       lines = r.lines ++ upto 10 rest ∷ [];
-      free = free_append r.lines (upto 10 rest ∷ []) r.free (first_free rest n, tt);
+      free = free_append r.lines (upto 10 rest ∷ []) r.free (first_free rest n);
       whole =
           r.whole
           ∙ ap (λ t. joined r.lines ++ t) (text_cut rest n ∙ sym (append_assoc (upto 10 rest) (10 ∷ []) (past 10 rest)))
@@ -95,7 +94,7 @@ read_end text rest image number r empty =
     }
 
 some_of : (o : Option (List ℕ)) (image : List ℕ) → o ≡ Some image → IsSome o
-some_of o image is = subst IsSome (sym is) tt
+some_of o image is = subst IsSome (sym is) refl
 
 -- the rest has no line feed
 pub read_unended : (text rest image : List ℕ) (number : ℕ) → Read text rest image number → length (upto 10 rest) ≡ length rest → 0 < length rest → IsWrongLine text number
@@ -114,7 +113,7 @@ read_unended text rest image number r last some =
     }
 
 none_is : (o : Option (List ℕ)) → o ≡ None → IsSome o → ⊥
-none_is o none some = let h : IsSome None = subst IsSome none some in absurd h
+none_is o none some = let h : false ≡ true = sym (ap is_some none) ∙ some in absurd cc
 
 -- a line of the rest that isn't hex
 pub read_bad : (text rest image : List ℕ) (number : ℕ) (e : FromHexError) → Read text rest image number → (length (upto 10 rest) ≡ length rest → ⊥) → decode_of (upto 10 rest) ≡ Err e → IsWrongLine text number

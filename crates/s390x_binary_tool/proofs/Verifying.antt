@@ -1,8 +1,9 @@
 -- From the parts of the input to the answer to `verify`.
-use Rattle.std.proofs.Common.{◌≡◌, ℕ, ◌+◌, inl, inr, List, [], ◌++◌, drop, length, take, Some, None, refl, sym, ap, ◌∙◌, subst}
+use Rattle.std.proofs.Common.{◌≡◌, ℕ, ◌+◌, ◌-◌, inl, inr, List, [], ◌++◌, drop, length, take, Some, None, refl, sym, ap, ◌∙◌, subst}
 use Rattle.std.specs.Prelude.{codes}
 use Rattle.std.specs.Fmt.{decimal}
-use Rattle.std.proofs.lemmas.List.{take-append-drop}
+use Rattle.std.proofs.Math.Seq.{take-length}
+use Rattle.std.proofs.lemmas.List.{length-drop, take-append-drop}
 use Rattle.s390x_job.specs.Completions.{IsFirstWrong, IsText, pieces}
 use Rattle.s390x_job.specs.Jobs.{IsJob, text_of_job}
 use Rattle.s390x_job.specs.Same.{SameJob}
@@ -55,3 +56,7 @@ wrong_job input text size number cut no_job first spelled =
       first = record { size = size; cut = cut; wrong = inl (λ t. no_job t.0 t.1 t.2, first) };
       spelled = spelled;
     }
+
+-- what stands behind so many bytes
+pub all_behind : (size : ℕ) (s : List ℕ) → take (length s - size) (drop size s) ≡ drop size s
+all_behind size s = ap (λ n. take n (drop size s)) (sym (length-drop size s)) ∙ take-length (drop size s)

@@ -1,10 +1,22 @@
 //! The text of an image: lines of hex digits.
-ghost use Rattle.std.specs.Prelude.{◌≡◌, ◌+◌, ◌≤◌, IfErr, IfOk, MatchOption, MatchResult, length};
+ghost use Rattle.std.specs.Prelude.{◌≡◌, ◌+◌, ◌≤◌, Ok, Err, IfErr, IfOk, MatchOption, MatchResult, length};
+ghost use Rattle.hex.specs.Hex.{decode_of};
 ghost use Rattle.s390x_binary_tool.specs.ImageText.{IsFirstDifference, IsImageText, IsWrongLine};
 
 use hex::FromHexError;
 use s390x_words::marks::{after, before};
 use std::alloc::{AllocError, Global};
+
+// The bytes that a line of hex digits writes, or why it writes none.
+fn decode_line(alloc: Global, line: &[u8]) -> Result<Result<Vec<u8>, FromHexError>, AllocError>
+    ensures { IfOk result (λ r. MatchResult r (λ bytes. decode_of line.now ≡ Ok bytes.items) (λ error. decode_of line.now ≡ Err error)) }
+{
+    match hex::decode(alloc, line) {
+        Ok(bytes) => Ok(Ok(bytes)),
+        Err(FromHexError::OutOfMemory) => Err(AllocError),
+        Err(error) => Ok(Err(error)),
+    }
+}
 
 /// The bytes that lines of hex digits write, each line ended by a line feed; else the number of the first line that isn't so.
 pub fn read_image(alloc: Global, text: &[u8]) -> Result<Result<Vec<u8>, usize>, AllocError>
@@ -19,9 +31,8 @@ pub fn read_image(alloc: Global, text: &[u8]) -> Result<Result<Vec<u8>, usize>, 
         if line.len() == rest.len() {
             return Ok(Err(number));
         }
-        match hex::decode(alloc, line) {
+        match decode_line(alloc, line)? {
             Ok(bytes) => image.extend_from_slice(&bytes)?,
-            Err(FromHexError::OutOfMemory) => return Err(AllocError),
             Err(_) => return Ok(Err(number)),
         }
         rest = after(rest, b'\n');

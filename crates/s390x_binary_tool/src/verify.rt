@@ -1,5 +1,5 @@
 //! The reply to the command `verify`.
-ghost use Rattle.std.specs.Prelude.{◌≡◌, ◌<◌, ◌++◌, codes, IfOk, length};
+ghost use Rattle.std.specs.Prelude.{◌≡◌, ◌<◌, ◌≤◌, ◌++◌, codes, IfOk, length};
 ghost use Rattle.std.specs.Cow.{cow_str_bytes};
 ghost use Rattle.std.specs.Fmt.{decimal};
 ghost use Rattle.s390x_image.specs.Symbols.{no_symbols};
@@ -38,6 +38,7 @@ pub fn verify(alloc: Global, base: u64, input: &[u8]) -> BinaryReply
 // The answer about the job that the first so many bytes of the input are, and the image behind it.
 fn verify_image(alloc: Global, base: u64, job: &Job, input: &[u8], size: usize) -> BinaryReply
     requires short { length input.now < too_many }
+    requires within { size ≤ length input.now }
     requires cut { IsCutJob input.now size job.now }
     ensures { IsVerifyAnswer base input.now result.status (cow_str_bytes result.text) }
 {
