@@ -1,5 +1,5 @@
 -- The first difference of two texts, byte by byte.
-use Rattle.std.proofs.Common.{◌≡◌, ◌≢◌, ℕ, zero, suc, ◌+◌, ◌<◌, ◌≤◌, List, [], ◌∷◌, inl, inr, length, get_or, drop, drop-cons, refl, sym, ap, ap₂, ◌∙◌, arith}
+use Rattle.std.proofs.Common.{◌≡◌, ◌≢◌, ℕ, suc, ◌+◌, ◌<◌, ◌≤◌, List, [], ◌∷◌, inl, inr, length, get_or, drop, drop-cons, refl, sym, ap, ap₂, ◌∙◌, arith}
 use Rattle.std.specs.Prelude.{min, nat_le}
 use Rattle.std.proofs.lemmas.List.{drop_all}
 use Rattle.s390x_job.proofs.Whole.{either}
@@ -42,13 +42,14 @@ none_left (x ∷ xs) = refl
 -- one of both ends there
 ended : (xs ys : List ℕ) (n : ℕ) → n ≡ min (length xs) (length ys) → common_length (drop n xs) (drop n ys) ≡ 0
 ended xs ys n is =
-    elim (either (nat_le (length xs) n)) [ inl e ↦
-      let few : length xs ≤ n = grind (arith, e) in
-      ap (λ a. common_length a (drop n ys)) (drop_all n xs few)
-    | inr e ↦
-      let more : n < length xs = grind (arith, e) in
-      let few : length ys ≤ n = omega (arith, is, more) in
-      ap (common_length (drop n xs)) (drop_all n ys few) ∙ none_left (drop n xs)
+    elim (either (nat_le (length xs) n)) [
+      | inl e ↦
+          let few : length xs ≤ n = grind (arith, e) in
+          ap (λ a. common_length a (drop n ys)) (drop_all n xs few)
+      | inr e ↦
+          let more : n < length xs = grind (arith, e) in
+          let few : length ys ≤ n = omega (arith, is, more) in
+          ap (common_length (drop n xs)) (drop_all n ys few) ∙ none_left (drop n xs)
     ]
 
 pub differ_end : (xs ys : List ℕ) (n : ℕ) → SameTo xs ys n → n ≡ min (length xs) (length ys) → length xs ≢ length ys → IsFirstDifference xs ys n

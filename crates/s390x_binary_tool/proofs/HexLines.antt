@@ -1,5 +1,5 @@
 -- Lines of hex digits, read one after another.
-use Rattle.std.proofs.Common.{◌≡◌, ℕ, true, false, suc, ◌+◌, ◌-◌, ◌<◌, ◌≤◌, inl, inr, List, [], ◌∷◌, ◌++◌, Option, Some, None, Result, Ok, Err, length, take, refl, sym, ap, ◌∙◌, subst, arith, append_assoc, append-nil, length-append}
+use Rattle.std.proofs.Common.{◌≡◌, ℕ, true, false, suc, ◌+◌, ◌-◌, ◌<◌, inr, List, [], ◌∷◌, ◌++◌, Option, Some, None, Result, Ok, Err, length, take, refl, sym, ap, ◌∙◌, subst, arith, append_assoc, append-nil, length-append}
 use Rattle.std.specs.Prelude.{IsSome, is_some}
 use Rattle.std.proofs.Math.Seq.{take-append-add, take-append_seam}
 use Rattle.hex.specs.Hex.{decode_of}
@@ -130,8 +130,8 @@ read_bad text rest image number e r n wrong =
         small = omega (arith, size);
         here = inr (some_of _ image (ap (λ ws. bytes_of_lines (take (length r.lines) ws)) all ∙ ap bytes_of_lines (take-append_seam r.lines (w ∷ later)) ∙ r.bytes));
         above = λ m more few h.
-        let k = m - length r.lines - 1 in
-        let at : m ≡ length r.lines + suc k = omega (arith, more) in
-        none_is _ (ap (λ ws. bytes_of_lines (take m ws)) all ∙ ap (λ j. bytes_of_lines (take j (r.lines ++ w ∷ later))) at ∙ ap bytes_of_lines (take-append-add r.lines (w ∷ later) (suc k)) ∙ line_wrong r.lines (take k later) w e wrong) h;
+            let k = m - length r.lines - 1 in
+            let at : m ≡ length r.lines + suc k = omega (arith, more) in
+            none_is _ (ap (λ ws. bytes_of_lines (take m ws)) all ∙ ap (λ j. bytes_of_lines (take j (r.lines ++ w ∷ later))) at ∙ ap bytes_of_lines (take-append-add r.lines (w ∷ later) (suc k)) ∙ line_wrong r.lines (take k later) w e wrong) h;
       };
     }

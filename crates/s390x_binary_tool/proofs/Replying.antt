@@ -12,7 +12,7 @@ use Rattle.s390x_tool.specs.declared.status.Status.TheVariants as status
 use Rattle.s390x_binary_commands.specs.Words.{IsForm, IsNoForm}
 use Rattle.s390x_binary_commands.specs.declared.words.Command.{Command}
 use Rattle.s390x_binary_commands.specs.declared.words.Command.TheVariants.{Refusal, Verify}
-use Rattle.s390x_binary_tool.specs.Replies.{IsAnswered, IsDelivered, IsDone, IsInputAnswer, IsReply}
+use Rattle.s390x_binary_tool.specs.Replies.{IsDelivered, IsDone, IsInputAnswer, IsReply}
 use Rattle.s390x_binary_tool.specs.declared.status.BinaryStatus.{BinaryStatus}
 use Rattle.s390x_binary_tool.specs.declared.status.BinaryStatus.TheVariants.{Shared, Differs}
 

@@ -1,16 +1,16 @@
 -- From the parts of the input to the answer to `verify`.
-use Rattle.std.proofs.Common.{◌≡◌, ℕ, ◌+◌, ◌-◌, inl, inr, List, [], ◌++◌, drop, length, take, Some, None, refl, sym, ap, ◌∙◌, subst}
+use Rattle.std.proofs.Common.{◌≡◌, ℕ, ◌+◌, ◌-◌, inl, inr, List, ◌++◌, drop, length, take, refl, sym, ap, ◌∙◌, subst}
 use Rattle.std.specs.Prelude.{codes}
 use Rattle.std.specs.Fmt.{decimal}
 use Rattle.std.proofs.Math.Seq.{take-length}
 use Rattle.std.proofs.lemmas.List.{length-drop, take-append-drop}
-use Rattle.s390x_job.specs.Completions.{IsFirstWrong, IsText, pieces}
+use Rattle.s390x_job.specs.Completions.{IsFirstWrong, pieces}
 use Rattle.s390x_job.specs.Jobs.{IsJob, text_of_job}
 use Rattle.s390x_job.specs.Same.{SameJob}
 use Rattle.s390x_job.specs.declared.job.Job.{Job}
 use Rattle.s390x_bundle_text.specs.Cut.{IsCutAt}
 use Rattle.s390x_tool.specs.Lines.{line}
-use Rattle.s390x_binary_tool.specs.ImageText.{IsImageText, IsWrongLine, bytes_of_lines}
+use Rattle.s390x_binary_tool.specs.ImageText.{IsImageText, IsWrongLine}
 use Rattle.s390x_binary_tool.specs.Verify.{IsCutJob, IsVerified, IsVerifyReply, IsVerifySyntax, IsVerifyText}
 use Rattle.s390x_binary_tool.specs.declared.status.BinaryStatus.{BinaryStatus}
 use Rattle.s390x_binary_tool.proofs.CutJob.{cut_job}
@@ -38,8 +38,8 @@ pub wrong_behind : (input text : List ℕ) (size number : ℕ) (j : Job) → IsC
 wrong_behind input text size number j c wrong spelled =
     record {
       none = λ k given v.
-      let cut = cut_job input v.behind size k c.cut v.is v.spelled in
-      wrong.none given (subst (λ t. IsImageText t given) (sym cut.behind_is) v.hex);
+          let cut = cut_job input v.behind size k c.cut v.is v.spelled in
+          wrong.none given (subst (λ t. IsImageText t given) (sym cut.behind_is) v.hex);
       number = length (pieces (take size input)) + number;
       first = record { size = size; cut = c.cut; wrong = inr ((j, c.is, c.spelled), number, refl, wrong) };
       spelled = spelled;
@@ -50,8 +50,8 @@ pub wrong_job : (input text : List ℕ) (size number : ℕ) → IsCutAt input si
 wrong_job input text size number cut no_job first spelled =
     record {
       none = λ k given v.
-      let at = cut_job input v.behind size k cut v.is v.spelled in
-      no_job k v.is (sym at.job_is);
+          let at = cut_job input v.behind size k cut v.is v.spelled in
+          no_job k v.is (sym at.job_is);
       number = number;
       first = record { size = size; cut = cut; wrong = inl (λ t. no_job t.0 t.1 t.2, first) };
       spelled = spelled;

@@ -12,7 +12,7 @@ use Rattle.s390x_binary_commands.specs.declared.words.Command.TheVariants.{Refus
 use Rattle.s390x_binary_tool.specs.Refusal.{IsRefusalAnswer}
 use Rattle.s390x_binary_tool.specs.Verify.{IsVerifyAnswer}
 use Rattle.s390x_binary_tool.specs.declared.status.BinaryStatus.{BinaryStatus}
-use Rattle.s390x_binary_tool.specs.declared.status.BinaryStatus.TheVariants.{Shared, Differs}
+use Rattle.s390x_binary_tool.specs.declared.status.BinaryStatus.TheVariants.{Shared}
 
 -- the words are no command, and nothing was read
 pub record IsUsage (f : Found) : Type 0 where

@@ -1,5 +1,5 @@
 -- What is told of whether bytes are a job's image.
-use Rattle.std.specs.Prelude.{◌≡◌, ◌≢◌, ℕ, ◌+◌, ◌⊎◌, List, [], ◌++◌, codes, drop, length, take, Some}
+use Rattle.std.specs.Prelude.{◌≡◌, ℕ, ◌+◌, ◌⊎◌, List, [], ◌++◌, codes, drop, length, take}
 use Rattle.std.specs.Fmt.{decimal}
 use Rattle.s390x_emit_int.specs.FunctionImage.{IsImageOf, IsLinkRefused}
 use Rattle.s390x_image.specs.declared.error.LinkError.{LinkError}
@@ -69,7 +69,7 @@ pub record IsFirstWrongOfVerify (input : List ℕ) (number : ℕ) : Type 0 where
   pub size : ℕ
   pub cut : IsCutAt input size
   pub wrong : ((IsText (take size input) → ⊥) × IsFirstWrong (pieces (take size input)) number)
-    ⊎ (IsText (take size input) × (m : ℕ) × (number ≡ length (pieces (take size input)) + m) × IsWrongLine (drop size input) m)
+      ⊎ (IsText (take size input) × (m : ℕ) × (number ≡ length (pieces (take size input)) + m) × IsWrongLine (drop size input) m)
 
 -- the input is the text of no job with bytes behind it, and this is its first wrong line
 pub record IsVerifySyntax (input text : List ℕ) : Type 0 where

@@ -1,4 +1,4 @@
-use Rattle.std.proofs.Common.{◌≡◌, ◌<◌, ◌+◌, ◌++◌, length, sym, ap, ◌∙◌, subst, arith}
+use Rattle.std.proofs.Common.{◌≡◌, ◌+◌, ◌++◌, length, sym, ap, ◌∙◌, subst, arith}
 use Rattle.hex.specs.Hex.{decode_of}
 use Rattle.s390x_words.specs.Marks.{past, upto}
 use Rattle.s390x_job.proofs.Places.{none_left, some_left}
@@ -37,8 +37,8 @@ lines-preserved c =
     let items = c.in_ok-extend_from_slice-in-Ok.ensures.items ∙ ap (λ b. image ++ b) c.deref.ensures.value in
     record {
       read = subst (λ t. Read c.args.text.now t c.extend_from_slice.new.self.items (c.lines.number + 1)) (sym c.after-rest.ensures)
-      (subst (λ b. Read c.args.text.now (past 10 r) b (c.lines.number + 1)) (sym items)
-      (read_more c.args.text.now r image bytes c.lines.number c.lines.invariant.read (λ e. absurd (omega (arith, ap length c.before-line.ensures, e))) (ap decode_of (sym c.before-line.ensures) ∙ decoded)));
+          (subst (λ b. Read c.args.text.now (past 10 r) b (c.lines.number + 1)) (sym items)
+          (read_more c.args.text.now r image bytes c.lines.number c.lines.invariant.read (λ e. absurd (omega (arith, ap length c.before-line.ensures, e))) (ap decode_of (sym c.before-line.ensures) ∙ decoded)));
       few = omega (arith, c.lines.invariant.few, h, ap length c.after-rest.ensures);
     }
 
