@@ -77,12 +77,12 @@ fn expect_code(alloc: Global, text: &[u8], code: &[u8]) -> Result<(), Failure> {
 // The lines without what stands up to their second blanks.
 fn without_columns(alloc: Global, text: &[u8]) -> Result<Vec<u8>, AllocError> {
     let mut bare = Vec::new(alloc);
-    let mut blanks = 0;
+    let mut blanks: u32 = 0;
     for byte in text {
         if blanks == 2 {
             bare.push(*byte)?;
         } else if *byte == b' ' {
-            blanks += 1;
+            blanks = blanks.saturating_add(1);
         }
         if *byte == b'\n' {
             blanks = 0;
