@@ -27,9 +27,13 @@ from random_functions import LACKING, LACKING_SIZES
 from random_jobs import interesting
 
 SOURCES = os.path.join(program.ROOT, "crates", "s390x_format", "src")
-PLACE, DATA, STUB = 0x10000, 0x11000, 0x100000
+# Where the instruction stands, where its operand does, and where the job begins that leads there.
+PLACE, DATA, STUB = 0x4000000, 0x4100000, 0x100000
 DATA_SIZE = 0x200
 NOWHERE = 0x7000000000
+
+# Where branches go by a register: zeros behind the operand's bytes, which are no instruction.
+ZEROS = DATA + 0x800
 
 Row = collections.namedtuple("Row", "kind opcode name parts allowed")
 Step = collections.namedtuple("Step", "row code general vector data cc job steps")
@@ -104,8 +108,21 @@ def signed(value, bits):
     return value - (1 << bits) if value >> (bits - 1) else value
 
 
+def pick_lane(drawn, slots, general):
+    """The number of a lane is below their count: behind the last one the result is free."""
+    lane = drawn.randrange(16 >> slots["MASK_1"])
+    slots["DISPLACEMENT"] = drawn.randrange(lane + 1)
+    if slots["REG_2"] == 0:
+        slots["DISPLACEMENT"] = lane
+    else:
+        general[slots["REG_2"]] = lane - slots["DISPLACEMENT"]
+
+
 def lead(drawn, row, slots, general):
     """Most operands in storage lie in the region: by their base, or by their distance."""
+    if row.name in ("vlvgb", "vlgvb"):
+        pick_lane(drawn, slots, general)
+        return
     target = DATA + drawn.randrange(0, 0x100, drawn.choice([1, 2, 4, 8, 16])) if drawn.randrange(10) else NOWHERE
     base, index = address_slots(row)
     wide = any(slot == "DISPLACEMENT" and low == 12 for slot, low, _ in row.parts)
@@ -119,8 +136,11 @@ def lead(drawn, row, slots, general):
         general[slots[base]] = (target - displacement - added) % 2 ** 64
     elif row.opcode >> 4 in (0xc4, 0xc6) and row.parts[-1] == ("IMMEDIATE", 0, 32):
         slots["IMMEDIATE"] = (target // 2 * 2 - PLACE) // 2 % 2 ** 32 if target != NOWHERE else slots["IMMEDIATE"]
+    elif row.name == "larl":
+        # the emulator cuts great distances
+        slots["IMMEDIATE"] = drawn.randrange(-0x1000000, 0x10000000) % 2 ** 32
     elif row.opcode in (0x07, 0x0d):
-        general[slots["REG_2"]] = target // 2 * 2
+        general[slots["REG_2"]] = ZEROS + 2 * drawn.randrange(16)
 
 
 def prefix(drawn, general, vector):
@@ -144,7 +164,7 @@ def step(drawn, row):
     lead(drawn, row, slots, general)
     before, cc = prefix(drawn, general, vector)
     code = packed(row.parts, slots)
-    lines = ["frame SystemV 0 0 0 0 0 0 - 0", f"symbol u1 {PLACE}"]
+    lines = [f"symbol u1 {PLACE}"]
     lines += [f"reg %r{i} {value}" for i, value in enumerate(general) if value]
     lines += [f"reg %v{i} {value:032x}" for i, value in enumerate(vector) if value]
     lines += [f"mem {PLACE} {code.ljust(16, bytes(1)).hex()}", f"mem {DATA} {data.hex()}", "block", before, "ReturnCall u1 [] 0", "end", ""]
