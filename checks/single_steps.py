@@ -5,7 +5,8 @@
 
 For each row a file OPCODE-MNEMONIC.json: a list of steps with `name` (the instruction in hex), `initial` and `final`. A state has `pc`, `cc`, `gpr` (16
 numbers), `vr` (32) and `ram`, a list of an address and the bytes from there on; all but `cc` in hex. `final` has in place of these `stop` (`Access`,
-`Specification`, `Operation`, `Divide`, `CompareTrap`) where the instruction stops, and then nothing else changes; it is null where the row leaves its result free.
+`Specification`, `Operation`, `Divide`, `CompareTrap`) where the instruction stops, and then nothing else changes; it is null where the row leaves its result free, and
+`free` in it names a vector register and how many bits on its right the row leaves free.
 Masks, registers, immediates and the state are drawn. Rows, formats and what a row allows are read from the tables of `s390x_format`.
 
 Each step is one run of the program `s390x run`, which is proved to take a step of the machine; with --try an unproved build is taken. That is 401,000 runs
@@ -34,6 +35,9 @@ NOWHERE = 0x7000000000
 
 # Where branches go by a register: zeros behind the operand's bytes, which are no instruction.
 ZEROS = DATA + 0x800
+
+# How many bits on the right of the vector register that they write these rows leave free.
+FREE_BITS = {"ldr": 64, "ld": 64, "ldy": 64, "ldgr": 64, "ler": 96, "le": 96, "ley": 96}
 
 Row = collections.namedtuple("Row", "kind opcode name parts allowed")
 Step = collections.namedtuple("Step", "row code general vector data cc job steps")
@@ -180,6 +184,12 @@ def state(place, cc, general, vector, code, data):
             "ram": [[f"{PLACE:x}", code.hex()], [f"{DATA:x}", data.hex()]]}
 
 
+def free_part(each):
+    """The vector register that the row leaves free in part, and how many bits of it; None for most rows."""
+    bits = FREE_BITS.get(each.row.name)
+    return [each.code[3 if each.row.kind == "Rre" else 1] >> 4, bits] if bits else None
+
+
 def written(each, told):
     """A step with what the machine makes of it."""
     initial = state(PLACE, each.cc, each.general, each.vector, each.code, each.data)
@@ -189,6 +199,8 @@ def written(each, told):
     elif told.kind == "Limit":
         place = told.memory[PLACE][:len(each.code)]
         final = state(told.place, told.code, told.general, told.vector, place, told.memory[DATA])
+        if free_part(each):
+            final["free"] = free_part(each)
     return {"name": each.code.hex(), "initial": initial, "final": final}
 
 
@@ -207,7 +219,9 @@ def difference(each, told, folder):
     found = [f"pc {told.place:x}, emulated {ended.place:x}"] if ended.place != told.place else []
     found += [f"cc {told.code}, emulated {ended.code}"] if ended.code != told.code else []
     found += [f"%r{i} {a:x}, emulated {b:x}" for i, (a, b) in enumerate(zip(told.general, ended.general)) if a != b]
-    found += [f"%v{i} {a:x}, emulated {b:x}" for i, (a, b) in enumerate(zip(told.vector, ended.vector)) if a != b]
+    register, bits = free_part(each) or (0, 0)
+    free = [bits if i == register else 0 for i in range(32)]
+    found += [f"%v{i} {a:x}, emulated {b:x}" for i, (a, b) in enumerate(zip(told.vector, ended.vector)) if a >> free[i] != b >> free[i]]
     found += ["memory"] if told.memory[DATA] != ended.memory[DATA] else []
     return "; ".join(found[:4])
 
