@@ -1,12 +1,13 @@
 #!/usr/bin/env python3
 """Compares the disassembler with GNU's objdump and LLVM's, and has GNU's assembler and LLVM's assemble its lines.
 
-    checks/disassembler.py [--each N] [--seed N] [--unproved] [--llvm llvm-mc]
+    checks/disassembler.py [--each N] [--seed N] [--codes N] [--unproved] [--llvm llvm-mc]
 
-For each of the 401 machine rows it draws N instructions (20), and takes their lines from the program s390x_disassembler_example. An
-instruction's text has to be objdump's but for blanks; where objdump has no such instruction, or names an element's size by a number, it has to be LLVM's. What differs
-by a rule is counted by the rule (RULES). Then both assemblers have to give the line's bytes. It ends with 0 where all agree, and else
-with 1. --unproved takes a build by `rt try`.
+For each of the 401 machine rows it draws N instructions (20), and takes their lines from the program s390x_disassembler_example, which
+assembles its own text again, with addresses and bytes and without, and fails where that is another code. An instruction's text has to be
+objdump's but for blanks; where objdump has no such instruction, or names an element's size by a number, it has to be LLVM's. What differs
+by a rule is counted by the rule (RULES). Then both assemblers have to give the line's bytes. At last the program reads as many drawn codes
+as --codes says (100000). It ends with 0 where all agree, and else with 1. --unproved takes a build by `rt try`.
 It needs s390x-linux-gnu-objdump and -as, and llvm-mc of LLVM 22 (for rows of later machines; those that an older one lacks are counted).
 """
 import argparse
@@ -23,6 +24,8 @@ ROOT = os.path.dirname(os.path.dirname(os.path.abspath(__file__)))
 FORMAT = os.path.join(ROOT, "crates", "s390x_format", "src")
 CRATE = os.path.join(ROOT, "crates", "s390x_disassembler_example")
 SLOTS = "OPCODE REG_1 REG_2 REG_3 REG_4 MASK_1 MASK_2 MASK_3 IMMEDIATE DISPLACEMENT ZERO".split()
+# So many instructions are read at a time.
+PART = 4000
 # What differs by a rule: the text of ours, as a pattern, and what another disassembler may write for it.
 RULES = [
     ("a branch to a register that is never taken has its register", r"nopr %r0", r"nopr"),
@@ -98,25 +101,38 @@ class Rows:
         return number.to_bytes(bits // 8, "big")
 
 
-def program_lines(code, unproved):
-    """The program's lines for some code, each as address, bytes and text."""
-    if unproved:
-        with tempfile.TemporaryDirectory() as folder:
-            with open(os.path.join(folder, "000000"), "w") as file:
+def program_texts(codes, unproved):
+    """What the program writes for each code."""
+    if not unproved:
+        return [proved_text(code) for code in codes]
+    with tempfile.TemporaryDirectory() as folder:
+        for number, code in enumerate(codes):
+            with open(os.path.join(folder, f"{number:06}"), "w") as file:
                 file.write(code.hex() + "\n")
-            rt = os.environ.get("RT") or shutil.which("rt") or "/opt/rattle/bin/rt"
-            done = subprocess.run([rt, "try", "--cases", folder], cwd=CRATE, stdout=subprocess.PIPE, stderr=subprocess.STDOUT, text=True)
-            found = re.search(r"^== 000000\n(.*?)^case=000000 run=ended status=(\d+)", done.stdout, re.M | re.S)
-            if not found or found[2] != "0":
-                raise SystemExit("the unproved program failed:\n" + done.stdout[-2000:])
-            text = found[1]
-    else:
-        done = subprocess.run(["rt", "run"], cwd=CRATE, input=code.hex() + "\n", stdout=subprocess.PIPE, text=True)
-        if done.returncode:
-            raise SystemExit(f"the program ended with {done.returncode}")
-        text = done.stdout
-    lines = re.findall(r"^([0-9a-f]+): ([0-9a-f]+) (.*)$", text, re.M)
-    return [(int(address, 16), bytes.fromhex(digits), line) for address, digits, line in lines]
+        rt = os.environ.get("RT") or shutil.which("rt") or "/opt/rattle/bin/rt"
+        done = subprocess.run([rt, "try", "--cases", folder], cwd=CRATE, stdout=subprocess.PIPE, stderr=subprocess.STDOUT, text=True)
+    found = re.findall(r"^== (\d{6})\n(.*?)^case=\1 run=ended status=(\d+)", done.stdout, re.M | re.S)
+    texts = {int(number): text for number, text, status in found if status == "0"}
+    if len(texts) != len(codes):
+        raise SystemExit(f"the unproved program read {len(texts)} of {len(codes)} codes:\n" + done.stdout[-2000:])
+    return [texts[number] for number in range(len(codes))]
+
+
+def proved_text(code):
+    done = subprocess.run(["rt", "run"], cwd=CRATE, input=code.hex() + "\n", stdout=subprocess.PIPE, text=True)
+    if done.returncode:
+        raise SystemExit(f"the program ended with {done.returncode}")
+    return done.stdout
+
+
+def program_lines(units, unproved):
+    """The program's lines for some instructions, each as address, bytes and text: so many at a time, at addresses from 0 on."""
+    parts = [units[start : start + PART] for start in range(0, len(units), PART)]
+    lines = []
+    for text in program_texts([b"".join(part) for part in parts], unproved):
+        found = re.findall(r"^([0-9a-f]+): ([0-9a-f]+) (.*)$", text, re.M)
+        lines.append([(int(address, 16), bytes.fromhex(digits), line) for address, digits, line in found])
+    return lines
 
 
 def plain(text):
@@ -255,24 +271,30 @@ def main():
     parser = argparse.ArgumentParser()
     parser.add_argument("--each", type=int, default=20)
     parser.add_argument("--seed", type=int, default=1)
+    parser.add_argument("--codes", type=int, default=100000)
     parser.add_argument("--unproved", action="store_true")
     parser.add_argument("--llvm", default="llvm-mc")
     args = parser.parse_args()
     rows, rng = Rows(), random.Random(args.seed)
     units = [rows.draw(row, rng) for row in rows.rows for _ in range(args.each)]
-    lines = program_lines(b"".join(units), args.unproved)
-    if [unit for _, unit, _ in lines] != units:
+    wrong, totals, read = [], collections.Counter(), []
+    for lines in program_lines(units, args.unproved):
+        read += [unit for _, unit, _ in lines]
+        for compare in (compare_texts, compare_bytes):
+            counts, more = compare(lines, args.llvm)
+            wrong += more
+            totals += counts
+    if read != units:
         raise SystemExit("the lines are not those of the instructions that were drawn")
-    wrong = []
-    for compare in (compare_texts, compare_bytes):
-        counts, more = compare(lines, args.llvm)
-        wrong += more
-        for name, count in sorted(counts.items()):
-            print(f"{count:7} {name}")
+    for name, count in sorted(totals.items()):
+        print(f"{count:7} {name}")
+    drawn = [rows.draw(rng.choice(rows.rows), rng) for _ in range(args.codes)]
+    read_again = [unit for lines in program_lines(drawn, args.unproved) for _, unit, _ in lines]
+    print(f"{len(read_again):7} drawn instructions assembled again, with addresses and bytes and without")
     for line in wrong[:40]:
         print("wrong", line)
     print(f"{len(wrong)} wrong")
-    sys.exit(1 if wrong else 0)
+    sys.exit(1 if wrong or read_again != drawn else 0)
 
 
 if __name__ == "__main__":

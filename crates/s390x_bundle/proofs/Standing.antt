@@ -8,7 +8,7 @@ use Rattle.s390x_bundle.specs.declared.places.Extent.{Extent}
 use Rattle.s390x_bundle.specs.Bytes.{Part, zeros, part_behind, parts_behind, end_of, Rise, PartStands, IsBetween, parts_at, AreOfExtents, end_or_zero}
 use Rattle.s390x_bundle.specs.Places.{start_behind, starts_behind}
 
-zeros_long : (n : ℕ) → length (zeros n) ≡ n
+pub zeros_long : (n : ℕ) → length (zeros n) ≡ n
 zeros_long zero = refl
 zeros_long (suc n) = ap suc (zeros_long n)
 

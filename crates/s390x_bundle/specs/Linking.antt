@@ -4,6 +4,7 @@ use Rattle.std.specs.List.{All}
 use Rattle.s390x_buffer.specs.declared.entries.MachBufferFinalized.{MachBufferFinalized}
 use Rattle.s390x_image.specs.Causes.{link_cause}
 use Rattle.s390x_image.specs.Fields.{LiesIn, filled}
+use Rattle.s390x_image.specs.Symbols.{Symbols}
 use Rattle.s390x_image.specs.declared.error.LinkError.{LinkError}
 use Rattle.s390x_image.specs.declared.error.LinkError.TheVariants.{NoMemory}
 use Rattle.s390x_bundle.specs.declared.linking.LinkRefusal.{LinkRefusal}
@@ -14,6 +15,14 @@ use Rattle.s390x_bundle.specs.Table.{symbols_of}
 -- the fields that linking fills lie in the code
 abbrev pub HasItsFields : MachBufferFinalized → Type 0
 HasItsFields f = All (LiesIn (length f.bytes.items)) f.relocs.items
+
+-- code that has no cause to be refused at an address, and its bytes with the fields filled
+abbrev pub IsLinked : MachBufferFinalized → (address : ℕ) → Symbols → List ℕ → Type 0
+IsLinked code address symbols bytes = (link_cause code address symbols ≡ None) × (bytes ≡ filled address symbols code.relocs.items code.bytes.items)
+
+-- the first cause by which code is refused at an address; want of memory is free
+abbrev pub IsLinkCause : MachBufferFinalized → (address : ℕ) → Symbols → LinkError → Type 0
+IsLinkCause code address symbols e = (e ≡ NoMemory) ⊎ (link_cause code address symbols ≡ Some e)
 
 -- a member whose code can't be linked, by its number, and why
 pub record Unlinked : Type 0 where

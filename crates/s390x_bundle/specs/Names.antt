@@ -1,5 +1,7 @@
 -- The names of members, and which one of them comes twice.
-use Rattle.std.specs.Prelude.{List, [], ◌∷◌, ◌++◌, map, Option, Some, None, Bool, false, cond, ◌||◌, nat_eq}
+use Rattle.std.specs.Prelude.{◌≡◌, ℕ, List, [], ◌∷◌, ◌++◌, map, Option, Some, None, Bool, false, cond, ◌||◌, nat_eq}
+use Rattle.std.specs.BTreeSet.{BTreeSet, contains}
+use Rattle.std.specs.Ordering.{nat_cmp}
 use Rattle.s390x_base.specs.declared.ir.ExternalName.{ExternalName}
 use Rattle.s390x_job.specs.declared.job.SymbolLine.{SymbolLine}
 use Rattle.s390x_bundle.specs.declared.member.Member.{Member}
@@ -30,3 +32,7 @@ name_or (Some name) later = Some name
 abbrev pub first_duplicate : (names earlier : List ExternalName) → List Member → Option ExternalName
 first_duplicate names earlier [] = None
 first_duplicate names earlier (m ∷ ms) = name_or (duplicate_in names earlier m) (first_duplicate names (earlier ++ m.name ∷ []) ms)
+
+-- the set has the numbers of these names alone
+abbrev pub HasNames : BTreeSet ℕ → List ExternalName → Type 0
+HasNames set names = (name : ExternalName) → contains nat_cmp set name.0 ≡ is_among names name

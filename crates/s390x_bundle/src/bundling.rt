@@ -52,8 +52,10 @@ pub fn bundle(alloc: Global, members: &[Member], base: u64) -> Result<Bundle, Bu
     ensures image { IfOk result (IsImageOfMembers base members.now) }
     ensures refused { IfErr result (HasNoImage base members.now) }
 {
-    if let Some(name) = duplicate_name(members) {
-        return Err(BundleError::DuplicateName { name });
+    match duplicate_name(alloc, members) {
+        Ok(None) => {}
+        Ok(Some(name)) => return Err(BundleError::DuplicateName { name }),
+        Err(_) => return Err(BundleError::NoMemory),
     }
     let codes = emit_members(alloc, members)?;
     match join_members(alloc, base, members, &codes) {

@@ -1,17 +1,16 @@
 //! The linking of members.
-ghost use Rattle.std.specs.Prelude.{◌≡◌, ◌+◌, ◌<◌, ◌^◌, ◌⊎◌, IfErr, MatchResult, None, Some, length};
+ghost use Rattle.std.specs.Prelude.{◌≡◌, ◌+◌, ◌<◌, ◌^◌, IfErr, MatchResult, None, length};
 ghost use Rattle.std.specs.List.{All};
-ghost use Rattle.s390x_image.specs.Causes.{link_cause};
-ghost use Rattle.s390x_image.specs.Fields.{filled};
+ghost use Rattle.s390x_image.specs.Symbols.{Symbols};
 ghost use Rattle.s390x_bundle.specs.Bytes.{Rise, parts_behind};
-ghost use Rattle.s390x_bundle.specs.Linking.{HasItsFields, IsUnlinked, first_unlinked, linked_parts};
-ghost use Rattle.s390x_bundle.specs.Table.{symbols_of};
+ghost use Rattle.s390x_bundle.specs.Linking.{HasItsFields, IsLinkCause, IsLinked, IsUnlinked, first_unlinked, linked_parts};
+ghost use Rattle.s390x_bundle.specs.Table.{AreJoined};
 
 use crate::bytes::put_part;
 use crate::member::Member;
-use crate::table::member_table;
+use crate::table::{joint_table, member_table};
 use s390x_buffer::MachBufferFinalized;
-use s390x_image::{Image, LinkError, link};
+use s390x_image::{Image, LinkError, SymbolTable, link};
 use s390x_job::SymbolLine;
 use std::alloc::Global;
 
@@ -23,29 +22,26 @@ pub struct LinkRefusal {
 }
 
 // A member's image at its start: with the symbols of its lines, and all members at their starts.
+#[tactic(auto, using(crate::proofs::Tables::linked_alike))]
 fn linked_member(
     alloc: Global,
-    base: u64,
-    members: &[Member],
-    starts: &[u32],
+    joint: &SymbolTable,
     lines: &[SymbolLine],
-    start: u32,
+    address: u64,
     code: &MachBufferFinalized,
 ) -> Result<Image, LinkError>
-    requires counts { length starts.now ≡ length members.now }
-    requires fits { All (λ s. base + s < 2 ^ 64) starts.now }
-    requires here { base + start < 2 ^ 64 }
     requires fields { HasItsFields code.now }
-    ensures { let symbols = symbols_of base members.now starts.now lines.now in let cause = link_cause code.now (base + start) symbols in MatchResult result (λ image. (cause ≡ None) × (image.bytes.items ≡ filled (base + start) symbols code.now.relocs.items code.now.bytes.items)) (λ e. (e ≡ LinkError.NoMemory) ⊎ (cause ≡ Some e)) }
+    ensures { (symbols : Symbols) → AreJoined joint.now lines.now symbols → MatchResult result (λ image. IsLinked code.now address symbols image.bytes.items) (λ e. IsLinkCause code.now address symbols e) }
 {
-    match member_table(alloc, base, members, starts, lines) {
-        Ok(table) => link(alloc, code, base + u64::from(start), &table),
+    match member_table(alloc, joint, lines, &code.relocs) {
+        Ok(table) => link(alloc, code, address, &table),
         Err(_) => Err(LinkError::NoMemory),
     }
 }
 
 /// The bytes of all members behind one another: each one's finished code at its start, linked there with the symbols of its lines and all members at their
 /// starts, and zeros between. Refused by the first member that can't be linked, with its first cause.
+#[tactic(auto, using(crate::proofs::Tables::joined))]
 pub fn link_members(
     alloc: Global,
     base: u64,
@@ -62,17 +58,19 @@ pub fn link_members(
     ensures within { IfErr result (λ refusal. refusal.member < length members.now) }
 {
     let mut bytes = Vec::new(alloc);
+    if members.is_empty() {
+        return Ok(bytes);
+    }
+    let Ok(joint) = joint_table(alloc, base, members, starts) else {
+        return Err(LinkRefusal {
+            member: 0,
+            error: LinkError::NoMemory,
+        });
+    };
     for (number, member) in members.iter().enumerate() {
         let start = starts[number];
-        match linked_member(
-            alloc,
-            base,
-            members,
-            starts,
-            &member.symbols,
-            start,
-            &codes[number],
-        ) {
+        let address = base + u64::from(start);
+        match linked_member(alloc, &joint, &member.symbols, address, &codes[number]) {
             Ok(image) => {
                 if put_part(&mut bytes, start, &image.bytes).is_err() {
                     return Err(LinkRefusal {

@@ -1,11 +1,12 @@
 //! The symbols of a member.
 ghost use Rattle.std.specs.Prelude.{◌≡◌, ◌+◌, ◌<◌, ◌^◌, IfOk, length};
 ghost use Rattle.std.specs.List.{All};
-ghost use Rattle.s390x_image.specs.Symbols.{no_symbols};
-ghost use Rattle.s390x_bundle.specs.Table.{symbols_of, with_lines};
+ghost use Rattle.s390x_image.specs.Symbols.{Symbols, no_symbols};
+ghost use Rattle.s390x_bundle.specs.Table.{AnswersAlike, AreJoined, joint_symbols, with_lines};
 
 use crate::member::Member;
 use s390x_base::NoMemory;
+use s390x_buffer::RelocEntry;
 use s390x_image::SymbolTable;
 use s390x_job::SymbolLine;
 use std::alloc::Global;
@@ -21,21 +22,40 @@ fn line_table(alloc: Global, lines: &[SymbolLine]) -> Result<SymbolTable, NoMemo
     Ok(table)
 }
 
-/// The symbols of a member: those of its own lines, and all members at their starts in an image at a base.
-pub fn member_table(
+/// All members at their starts in an image at a base.
+pub fn joint_table(
     alloc: Global,
     base: u64,
     members: &[Member],
     starts: &[u32],
-    lines: &[SymbolLine],
 ) -> Result<SymbolTable, NoMemory>
     requires counts { length starts.now ≡ length members.now }
     requires fits { All (λ start. base + start < 2 ^ 64) starts.now }
-    ensures { IfOk result (λ table. table ≡ symbols_of base members.now starts.now lines.now) }
+    ensures { IfOk result (λ table. table ≡ joint_symbols base members.now starts.now) }
 {
-    let mut table = line_table(alloc, lines)?;
+    let mut table = SymbolTable::new(alloc);
     for (number, member) in members.iter().enumerate() {
         table.insert(member.name, base + u64::from(starts[number]))?;
+    }
+    Ok(table)
+}
+
+/// The symbols that a member's relocations need: those of its own lines, and of the joint table those that are named. A name that is in both has the joint
+/// address. The joint table is made once for all members, and is looked up only.
+#[tactic(auto, using(crate::proofs::Tables::named_alike))]
+pub fn member_table(
+    alloc: Global,
+    joint: &SymbolTable,
+    lines: &[SymbolLine],
+    relocs: &[RelocEntry],
+) -> Result<SymbolTable, NoMemory>
+    ensures { (symbols : Symbols) → AreJoined joint.now lines.now symbols → IfOk result (λ table. AnswersAlike relocs.now table symbols) }
+{
+    let mut table = line_table(alloc, lines)?;
+    for reloc in relocs {
+        if let Some(address) = joint.get(reloc.name) {
+            table.insert(reloc.name, address)?;
+        }
     }
     Ok(table)
 }

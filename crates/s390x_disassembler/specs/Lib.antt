@@ -4,3 +4,4 @@ pub mod Spelling
 pub mod Text
 pub mod Lines
 pub mod Disassembly
+pub mod Assembly

@@ -1,13 +1,18 @@
-//! A disassembler of code, whose lines are the code.
+//! A disassembler and an assembler of code, whose lines are the code.
 #![tactic(auto)]
 
+mod assembly;
+mod candidate;
+mod checking;
 mod forms;
 mod line;
 mod listing;
+mod scan;
 mod spelling;
 mod table;
 mod text;
 
+pub use assembly::{AssembleError, assemble};
 pub use forms::{Form, Operand, operands};
 pub use line::{Line, found_in, line_at};
 pub use listing::{disassemble, instruction_text};

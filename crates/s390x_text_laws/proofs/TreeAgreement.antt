@@ -14,14 +14,14 @@ use Rattle.s390x_inst.specs.declared.calls.RetLocation.TheVariants.{Stack}
 use Rattle.s390x_inst.specs.declared.calls.ReturnCallInfo.{ReturnCallInfo}
 use Rattle.s390x_inst.specs.declared.calls.TryCallInfo.{TryCallInfo}
 use Rattle.s390x_inst.specs.declared.inst.Inst.{Inst, Row_of-Inst, end_of-Inst, more_of-Inst}
-use Rattle.s390x_inst.specs.declared.inst.Inst.TheVariants.{AllocateArgs, Call, Jump, Loop', ReturnCall}
+use Rattle.s390x_inst.specs.declared.inst.Inst.TheVariants.{AllocateArgs, Call, Loop', ReturnCall}
 use Rattle.s390x_inst.specs.declared.state.IsaFlags.{IsaFlags}
-use Rattle.s390x_typed_steps.specs.Calls.{behind_call, bodies, call_bodies, calling, continuation_bodies, is_first_saved, jump_target, load_before, load_bodies, load_or, loses_target, result_bodies, tail_bodies, without_map, wholes}
+use Rattle.s390x_typed_steps.specs.Calls.{behind_call, call_bodies, continuation_bodies, is_first_saved, jump_target, load_before, load_bodies, load_or, result_bodies, tail_bodies, without_map, wholes}
 use Rattle.s390x_typed_steps.specs.Resolved.{resolved_instruction}
 use Rattle.s390x_typed_steps.specs.Stack.{state_after}
-use Rattle.s390x_typed_steps.specs.Tree.{StepBody, Tree, Whole, CallStep, NoLoad, TailOpening, TailJump, empty, leaf, leaves, loop_node, prepend, row_tree}
+use Rattle.s390x_typed_steps.specs.Tree.{StepBody, Tree, Whole, TailJump, empty, leaves, prepend, row_tree}
 use Rattle.s390x_row_text.specs.Simple.{simple_text, unbuilt}
-use Rattle.s390x_row_text.specs.Texts.{Text, first, fixed, both}
+use Rattle.s390x_row_text.specs.Texts.{first, fixed}
 use Rattle.s390x_row_text.specs.declared.error.TextError.{TextError}
 use Rattle.s390x_row_text.specs.declared.error.TextError.TheVariants.{NoRow}
 use Rattle.s390x_text.specs.Agreement.{has_row_text}

@@ -1,5 +1,5 @@
 -- A vector instruction has a row for its text exactly where it has some for its bytes.
-use Rattle.std.proofs.Common.{◌≡◌, ◌⊎◌, inl, inr, ℕ, ◌*◌, ◌<◌, Bool, true, false, ◌&&◌, ◌||◌, Option, Some, None, List, [], refl, sym, ap, subst, ◌∙◌, is_some, arith, true≢false}
+use Rattle.std.proofs.Common.{◌≡◌, inl, inr, ℕ, ◌*◌, ◌<◌, Bool, true, false, ◌&&◌, ◌||◌, Option, Some, None, List, [], refl, sym, ap, subst, ◌∙◌, is_some, arith, true≢false}
 use Rattle.std.proofs.lemmas.Bool.{and_parts, eqb-true, lt-ltb, ltb-true}
 use Rattle.std.specs.Prelude.{cond, nat_eq, nat_lt, codes}
 use Rattle.s390x_base.specs.Regs.{number_of}

@@ -1,5 +1,5 @@
 -- Which instructions have machine rows, as the causes of emission tell; and that a text is refused for want of a row just where there is none.
-use Rattle.std.specs.Prelude.{◌≡◌, ℕ, ◌+◌, Bool, true, false, ◌&&◌, ◌||◌, is_some, nat_lt, Option, Some, None}
+use Rattle.std.specs.Prelude.{◌≡◌, ℕ, ◌+◌, Bool, true, false, ◌&&◌, ◌||◌, is_some, nat_lt, Option, Some}
 use Rattle.s390x_base.specs.declared.error.EmitError.{EmitError}
 use Rattle.s390x_base.specs.declared.error.EmitError.TheVariants.{BadOperator}
 use Rattle.s390x_inst.specs.Emission.{Emission}

@@ -14,8 +14,8 @@ join_members-requires-clause-finished c = subst (λ l. All IsFinished l) (sym c.
 
 pub returns-in-Ok-clause-image : goal.returns-in-Ok-clause-image
 returns-in-Ok-clause-image c =
-    image_of_members c.args.base c.args.members.now c.deref.result.now c.in-Ok.bundle (sym c.in_default.ensures) (subst (λ l. AreEmitted c.args.members.now l) (sym c.deref.ensures.value) c.in_ok-codes.ensures) c.in-Ok.ensures.answer
+    image_of_members c.args.base c.args.members.now c.deref.result.now c.in-Ok.bundle (sym c.in-Ok-None.ensures ∙ c.in-Ok-None.field-0-is) (subst (λ l. AreEmitted c.args.members.now l) (sym c.deref.ensures.value) c.in_ok-codes.ensures) c.in-Ok.ensures.answer
 
 pub returns-clause-refused : goal.returns-clause-refused
 returns-clause-refused c =
-    image_refused c.args.base c.args.members.now c.deref.result.now (sym c.in_default.ensures) (subst (λ l. AreEmitted c.args.members.now l) (sym c.deref.ensures.value) c.in_ok-codes.ensures) c.in-Err.error c.named_error.result c.named_error.ensures c.in-Err.ensures.answer
+    image_refused c.args.base c.args.members.now c.deref.result.now (sym c.in-Ok-None.ensures ∙ c.in-Ok-None.field-0-is) (subst (λ l. AreEmitted c.args.members.now l) (sym c.deref.ensures.value) c.in_ok-codes.ensures) c.in-Err-join_members.error c.named_error.result c.named_error.ensures c.in-Err-join_members.ensures.answer

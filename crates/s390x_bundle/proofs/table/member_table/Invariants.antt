@@ -1,6 +1,8 @@
 use Rattle.std.proofs.Common.{◌≡◌, drop}
-use Rattle.s390x_bundle.specs.Table.{symbols_of, with_members}
+use Rattle.s390x_image.specs.Symbols.{no_symbols}
+use Rattle.s390x_bundle.specs.Table.{with_lines}
+use Rattle.s390x_bundle.proofs.Tables.{with_named}
 use Rattle.s390x_bundle.proofs.table.member_table.Given as goal
 
-abbrev pub invariant-loop-number : goal.invariant-loop-number
-invariant-loop-number l = with_members l.base l.table (drop l.number l.members) (drop l.number l.starts) ≡ symbols_of l.base l.members l.starts l.lines
+abbrev pub invariant-loop-reloc : goal.invariant-loop-reloc
+invariant-loop-reloc l = with_named l.joint (drop l.reloc-index l.relocs) l.table ≡ with_named l.joint l.relocs (with_lines no_symbols l.lines)

@@ -1,0 +1,134 @@
+//! Reading the cases: a line begins one, or belongs to its input or to what it must write.
+
+use crate::case::Case;
+use s390x_judging::LineError;
+use std::alloc::Global;
+use std::mem;
+
+/// What the next line belongs to.
+#[derive(Clone, Copy)]
+enum Part {
+    /// No case.
+    Outside,
+    /// The input of a case, or it ends it.
+    Input,
+    /// What a case must write, or it ends it.
+    Text,
+}
+
+/// A reader of lines.
+#[derive(Drop)]
+pub struct Reader {
+    // The number of the line that it took last.
+    number: u64,
+    part: Part,
+    // What was read of the case that isn't ended.
+    case: Case,
+}
+
+impl Reader {
+    /// A reader that has taken no line.
+    pub fn new(alloc: Global) -> Reader {
+        Reader {
+            number: 0,
+            part: Part::Outside,
+            case: empty_case(alloc, 0),
+        }
+    }
+
+    /// Takes the line of this number, and gives the case that it ends or is. `Unreadable` where no line of this form can stand.
+    pub fn take_line(
+        &mut self,
+        alloc: Global,
+        number: u64,
+        line: &str,
+    ) -> Result<Option<Case>, LineError> {
+        self.number = number;
+        match self.part {
+            Part::Outside => self.take_outside(alloc, line),
+            Part::Input => self.take_input(line),
+            Part::Text => self.take_text(alloc, line),
+        }
+    }
+
+    /// Gives the case that the end of the lines ends. `Unreadable` where it lacks what must be written.
+    pub fn take_end(&mut self, alloc: Global) -> Result<Option<Case>, LineError> {
+        match self.part {
+            Part::Outside => Ok(None),
+            Part::Input => Err(LineError::Unreadable),
+            Part::Text => Ok(Some(self.end_case(alloc))),
+        }
+    }
+
+    // A line that isn't within a case.
+    fn take_outside(&mut self, alloc: Global, line: &str) -> Result<Option<Case>, LineError> {
+        if line.starts_with("#") {
+            return Ok(None);
+        }
+        if let Some(words) = marked(line, ">") {
+            self.case = empty_case(alloc, self.number);
+            self.case.words.push_str(words)?;
+            self.part = Part::Input;
+            return Ok(None);
+        }
+        Err(LineError::Unreadable)
+    }
+
+    // A line of a case's input, or the one behind it with the status.
+    fn take_input(&mut self, line: &str) -> Result<Option<Case>, LineError> {
+        match marked(line, "<") {
+            Some(status) => {
+                self.case.status = status.parse::<u8>().map_err(|_| LineError::Unreadable)?;
+                self.part = Part::Text;
+            }
+            None => {
+                self.case.input.push_str(line)?;
+                self.case.input.push_str("\n")?;
+            }
+        }
+        Ok(None)
+    }
+
+    // A line that a case must write, or one that ends the case.
+    fn take_text(&mut self, alloc: Global, line: &str) -> Result<Option<Case>, LineError> {
+        if ends_text(line) {
+            let ended = self.end_case(alloc);
+            self.take_outside(alloc, line)?;
+            return Ok(Some(ended));
+        }
+        self.case.text.push_str(line)?;
+        self.case.text.push_str("\n")?;
+        Ok(None)
+    }
+
+    // The case that was read, whose end this is.
+    fn end_case(&mut self, alloc: Global) -> Case {
+        self.part = Part::Outside;
+        mem::replace(&mut self.case, empty_case(alloc, 0))
+    }
+}
+
+// What stands behind a mark and a space, if a line begins so; behind the mark alone stands nothing.
+fn marked<'a>(line: &'a str, mark: &str) -> Option<&'a str> {
+    match line.strip_prefix(mark) {
+        Some("") => Some(""),
+        Some(rest) => rest.strip_prefix(" "),
+        None => None,
+    }
+}
+
+// Whether a line ends the text of a case: it is a comment, or begins a case.
+fn ends_text(line: &str) -> bool {
+    line.starts_with("#") || marked(line, ">").is_some()
+}
+
+// A case of which nothing was read.
+fn empty_case(alloc: Global, line: u64) -> Case {
+    Case {
+        line,
+        words: String::new(alloc),
+        input: String::new(alloc),
+        status: 0,
+        text: String::new(alloc),
+    }
+}

@@ -1,0 +1,6 @@
+//! The commands of the second program, and the words that ask for them.
+#![tactic(auto)]
+
+mod words;
+
+pub use words::{Command, read_words};

@@ -1,0 +1,118 @@
+-- From the replies of the parts to the answers.
+use Rattle.std.proofs.Common.{◌≡◌, ℕ, ◌+◌, inl, inr, List, [], ◌++◌, Some, None, length, take, drop, sym, ap, ap₂, ◌∙◌, subst}
+use Rattle.std.specs.Prelude.{codes}
+use Rattle.std.specs.Fmt.{decimal}
+use Rattle.s390x_base.specs.declared.error.EmitError.{EmitError}
+use Rattle.s390x_image.specs.Fields.{filled}
+use Rattle.s390x_image.specs.declared.error.LinkError.{LinkError}
+use Rattle.s390x_emit_int.specs.FunctionImage.{HasNoImage}
+use Rattle.s390x_emit_int.specs.declared.image.ImageError.TheVariants.{Refused, Link}
+use Rattle.s390x_bundle_text.specs.Cut.{IsCutAt}
+use Rattle.s390x_job.specs.Completions.{pieces}
+use Rattle.s390x_job.specs.Errors.{IsError}
+use Rattle.s390x_job.specs.Jobs.{IsJob, text_of_job}
+use Rattle.s390x_job.specs.Same.{SameJob}
+use Rattle.s390x_job.specs.declared.job.Job.{Job}
+use Rattle.s390x_job.specs.declared.job.LineError.TheVariants.{Syntax}
+use Rattle.s390x_refusal.specs.Refusal.{IsFirstRefusal}
+use Rattle.s390x_refusal.specs.declared.position.Refusal.{Refusal}
+use Rattle.s390x_tool.specs.Answers.{job_cause, symbols_of}
+use Rattle.s390x_tool.specs.Lines.{IsLinkRefusal, IsMade, IsRefusal, line}
+use Rattle.s390x_tool.specs.declared.status.Status.{Status}
+use Rattle.s390x_tool.specs.declared.status.Status.TheVariants as status
+use Rattle.s390x_binary_tool.specs.ImageText.{IsFirstDifference, IsImageText, IsWrongLine}
+use Rattle.s390x_binary_tool.specs.Made.{IsMadeReply}
+use Rattle.s390x_binary_tool.specs.Refusal.{IsRefusalAnswer, IsRefusalReply, refusal_line}
+use Rattle.s390x_binary_tool.specs.Verify.{IsCutJob, IsJobImage, IsVerified, IsVerifyAnswer, IsVerifyReply}
+use Rattle.s390x_binary_tool.specs.declared.status.BinaryStatus.{BinaryStatus}
+use Rattle.s390x_binary_tool.specs.declared.status.BinaryStatus.TheVariants.{Shared, Differs}
+use Rattle.s390x_binary_tool.proofs.Verifying.{verified, wrong_behind, wrong_job}
+
+-- ---- `refusal`
+
+pub refusal_none : (j : Job) (s : BinaryStatus) (text : List ℕ) → s ≡ Shared status.Ok → text ≡ line (codes "none") → job_cause j ≡ None → IsRefusalReply j s text
+refusal_none j s text is spelled none = subst (λ t. IsRefusalReply j t text) (sym is) (none, spelled)
+
+pub refusal_memory : (j : Job) (s : BinaryStatus) (text : List ℕ) → s ≡ Shared status.NoMemory → text ≡ line (codes "no memory") → IsRefusalReply j s text
+refusal_memory j s text is spelled = subst (λ t. IsRefusalReply j t text) (sym is) spelled
+
+pub refusal_placed : (j : Job) (r : Refusal) (s : BinaryStatus) (text : List ℕ) → IsFirstRefusal j.info.isa_flags j.state j.function (Some r) → IsMadeReply (Shared status.Refused) (refusal_line r.error r.position) s text → IsRefusalReply j s text
+refusal_placed j r s text h (inl made) =
+    subst (λ t. IsRefusalReply j t text) (sym made.0) (record { error = r.error; position = r.position; cause = h.0; place = h.1; spelled = made.1 })
+refusal_placed j r s text h (inr memory) = refusal_memory j s text memory.0 memory.1
+
+-- the reply to the only job whose text the input is
+pub refusal_answer : (input : List ℕ) (j : Job) (s : BinaryStatus) (text : List ℕ) → IsJob j → text_of_job j ≡ input → ((k : Job) → IsJob k → text_of_job k ≡ input → SameJob j k) → IsRefusalReply j s text → IsRefusalAnswer input s text
+refusal_answer input j Differs text is spelled one reply = absurd reply
+refusal_answer input j (Shared status.Ok) text is spelled one reply = record { job = j; is = is; spelled = spelled; one = one; reply = reply }
+refusal_answer input j (Shared status.Refused) text is spelled one reply = record { job = j; is = is; spelled = spelled; one = one; reply = reply }
+refusal_answer input j (Shared status.NoMemory) text is spelled one reply = reply
+refusal_answer input j (Shared s) text is spelled one reply = absurd reply
+
+-- ---- `verify`
+
+-- a job has one image at a base
+same_image : (base : ℕ) (j : Job) (a b : List ℕ) → IsJobImage base j a → IsJobImage base j b → a ≡ b
+same_image base j a b x y = x.is ∙ ap₂ (filled base (symbols_of j)) (x.finished.relocs ∙ sym y.finished.relocs) (x.finished.bytes ∙ sym y.finished.bytes) ∙ sym y.is
+
+pub verify_memory : (base : ℕ) (j : Job) (given : List ℕ) (s : BinaryStatus) (text : List ℕ) → s ≡ Shared status.NoMemory → text ≡ line (codes "no memory") → IsVerifyReply base j given s text
+verify_memory base j given s text is spelled = subst (λ t. IsVerifyReply base j given t text) (sym is) spelled
+
+pub verify_same : (base : ℕ) (j : Job) (bytes given : List ℕ) (s : BinaryStatus) (text : List ℕ) → IsJobImage base j bytes → bytes ≡ given → s ≡ Shared status.Ok → text ≡ [] → IsVerifyReply base j given s text
+verify_same base j bytes given s text image same is spelled =
+    subst (λ t. IsVerifyReply base j given t text) (sym is) (subst (IsJobImage base j) same image, spelled)
+
+pub verify_differs : (base : ℕ) (j : Job) (bytes given : List ℕ) (n : ℕ) (s : BinaryStatus) (text : List ℕ) → IsJobImage base j bytes → IsFirstDifference bytes given n → IsMadeReply Differs (line (codes "differs " ++ decimal n)) s text → IsVerifyReply base j given s text
+verify_differs base j bytes given n s text image difference (inl made) =
+    subst (λ t. IsVerifyReply base j given t text) (sym made.0)
+    (record { bytes = bytes; image = image; other = λ own. difference.0 (same_image base j bytes given image own); spelled = made.1 ∙ ap (λ k. line (codes "differs " ++ decimal k)) difference.1 })
+verify_differs base j bytes given n s text image difference (inr memory) = verify_memory base j given s text memory.0 memory.1
+
+pub verify_refused : (base : ℕ) (j : Job) (given : List ℕ) (e : EmitError) (first : Status) (s : BinaryStatus) (text : List ℕ) → HasNoImage j.info.isa_flags j.state j.function base (symbols_of j) (Refused e) → IsRefusal e first text → s ≡ Shared first → IsVerifyReply base j given s text
+verify_refused base j given e first s text (inl memory) (inl named) is = absurd (named.0 memory)
+verify_refused base j given e first s text (inr cause) (inl named) is =
+    subst (λ t. IsVerifyReply base j given t text) (sym (is ∙ ap Shared named.1)) (record { error = e; cause = cause; spelled = named.2 })
+verify_refused base j given e first s text why (inr memory) is = verify_memory base j given s text (is ∙ ap Shared memory.1) memory.2
+
+pub verify_unlinked : (base : ℕ) (j : Job) (given : List ℕ) (e : LinkError) (first : Status) (s : BinaryStatus) (text : List ℕ) → HasNoImage j.info.isa_flags j.state j.function base (symbols_of j) (Link e) → IsLinkRefusal e first text → s ≡ Shared first → IsVerifyReply base j given s text
+verify_unlinked base j given e first s text (inl memory) (inl named) is = absurd (named.0 memory)
+verify_unlinked base j given e first s text (inr cause) (inl named) is =
+    subst (λ t. IsVerifyReply base j given t text) (sym (is ∙ ap Shared named.1)) (record { error = e; cause = cause; spelled = named.2 })
+verify_unlinked base j given e first s text why (inr memory) is = verify_memory base j given s text (is ∙ ap Shared memory.1) memory.2
+
+-- the reply to the only job and bytes that the input tells
+pub verify_answer : (base : ℕ) (input : List ℕ) (s : BinaryStatus) (text : List ℕ) (v : IsVerified base input s text) → IsVerifyAnswer base input s text
+verify_answer base input Differs text v = v
+verify_answer base input (Shared status.Syntax) text v = absurd v.reply
+verify_answer base input (Shared status.NoMemory) text v = v.reply
+verify_answer base input (Shared s) text v = v
+
+-- ---- texts that are none
+
+pub refusal_no_memory : (input : List ℕ) (s : BinaryStatus) (text : List ℕ) → s ≡ Shared status.NoMemory → text ≡ line (codes "no memory") → IsRefusalAnswer input s text
+refusal_no_memory input s text is spelled = subst (λ t. IsRefusalAnswer input t text) (sym is) spelled
+
+pub verify_no_memory : (base : ℕ) (input : List ℕ) (s : BinaryStatus) (text : List ℕ) → s ≡ Shared status.NoMemory → text ≡ line (codes "no memory") → IsVerifyAnswer base input s text
+verify_no_memory base input s text is spelled = subst (λ t. IsVerifyAnswer base input t text) (sym is) spelled
+
+pub refusal_syntax : (input : List ℕ) (n : ℕ) (first : Status) (s : BinaryStatus) (text : List ℕ) → IsError input (Syntax n) → IsMade status.Syntax (line (codes "syntax " ++ decimal n)) first text → s ≡ Shared first → IsRefusalAnswer input s text
+refusal_syntax input n first s text e (inl made) is =
+    subst (λ t. IsRefusalAnswer input t text) (sym (is ∙ ap Shared made.0)) (record { no_job = e.0; number = n; first = e.1; spelled = made.1 })
+refusal_syntax input n first s text e (inr memory) is = refusal_no_memory input s text (is ∙ ap Shared memory.0) memory.1
+
+-- the job's part is no job's text
+pub verify_job_syntax : (base : ℕ) (input : List ℕ) (size n : ℕ) (first : Status) (s : BinaryStatus) (text : List ℕ) → IsCutAt input size → IsError (take size input) (Syntax n) → IsMade status.Syntax (line (codes "syntax " ++ decimal n)) first text → s ≡ Shared first → IsVerifyAnswer base input s text
+verify_job_syntax base input size n first s text cut e (inl made) is =
+    subst (λ t. IsVerifyAnswer base input t text) (sym (is ∙ ap Shared made.0)) (wrong_job input text size n cut e.0 e.1 made.1)
+verify_job_syntax base input size n first s text cut e (inr memory) is = verify_no_memory base input s text (is ∙ ap Shared memory.0) memory.1
+
+-- what stands behind it writes no bytes
+pub verify_image_syntax : (base : ℕ) (input : List ℕ) (size lines number n : ℕ) (j : Job) (first : Status) (s : BinaryStatus) (text : List ℕ) → IsCutJob input size j → IsWrongLine (drop size input) number → lines ≡ length (pieces (take size input)) → n ≡ lines + number → IsMade status.Syntax (line (codes "syntax " ++ decimal n)) first text → s ≡ Shared first → IsVerifyAnswer base input s text
+verify_image_syntax base input size lines number n j first s text c wrong count sum (inl made) is =
+    subst (λ t. IsVerifyAnswer base input t text) (sym (is ∙ ap Shared made.0))
+    (wrong_behind input text size number j c wrong (made.1 ∙ ap (λ k. line (codes "syntax " ++ decimal k)) (sum ∙ ap (λ k. k + number) count)))
+verify_image_syntax base input size lines number n j first s text c wrong count sum (inr memory) is = verify_no_memory base input s text (is ∙ ap Shared memory.0) memory.1
+
+-- the reply to a job and the bytes behind it
+pub verify_reply_answer : (base : ℕ) (input : List ℕ) (size : ℕ) (j : Job) (given : List ℕ) (s : BinaryStatus) (text : List ℕ) → IsCutJob input size j → IsImageText (drop size input) given → IsVerifyReply base j given s text → IsVerifyAnswer base input s text
+verify_reply_answer base input size j given s text c hex reply = verify_answer base input s text (verified base input size j given s text c hex reply)

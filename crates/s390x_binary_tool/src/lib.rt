@@ -1,0 +1,13 @@
+//! The top call of the second program: its statuses, its replies, and `run`.
+#![tactic(auto)]
+
+mod image_text;
+mod refusal;
+mod reply;
+mod status;
+mod top_call;
+mod verify;
+
+pub use reply::BinaryReply;
+pub use status::BinaryStatus;
+pub use top_call::run;

@@ -1,0 +1,85 @@
+//! The top call of the second program.
+ghost use Rattle.std.specs.Prelude.{◌≡◌, ◌<◌, ◌⊎◌, ℕ, List, Some, None, length};
+ghost use Rattle.std.specs.Cow.{cow_str_bytes};
+ghost use Rattle.s390x_commands.specs.Words.{texts};
+ghost use Rattle.s390x_tool.specs.Causes.{FaultCountRose};
+ghost use Rattle.s390x_tool.specs.Ends.{IsTooLong, too_many};
+ghost use Rattle.s390x_binary_commands.specs.Words.{IsForm, IsNoForm};
+ghost use Rattle.s390x_binary_commands.specs.declared.words.Command.TheVariants.{Refusal, Verify};
+ghost use Rattle.s390x_binary_tool.specs.Replies.{IsDelivered, IsDone, IsEnded, IsInputAnswer, IsReply};
+ghost use Rattle.s390x_binary_tool.specs.declared.status.BinaryStatus.TheVariants.{Shared, Differs};
+ghost use Rattle.s390x_tool.specs.declared.status.Status.TheVariants as status;
+
+use crate::refusal::refusal;
+use crate::reply::{BinaryReply, shared};
+use crate::status::BinaryStatus;
+use crate::verify::verify;
+use s390x_binary_commands::{Command, read_words};
+use s390x_tool::input::read_input;
+use s390x_tool::output::write_text;
+use s390x_tool::reply::{fixed, unread};
+use s390x_tool::{Failed, Sink, Source, Status};
+use std::alloc::Global;
+
+/// Does what the words ask for with what the source holds, and writes the text or the line of the status to the sink. It reads the source to its end first, and writes
+/// nothing before all is computed.
+pub fn run<S: Source, K: Sink>(
+    alloc: Global,
+    words: &[String],
+    source: &mut S,
+    sink: &mut K,
+) -> BinaryStatus
+    // The words and the input have this reply, and its text was written whole, or else a prefix of it.
+    ensures ended { IsEnded (record { words = texts words.now; left = S.left source.old; left' = S.left source.new; faults = S.faults source.old; faults' = S.faults source.new })
+        (K.told sink.old) (K.told sink.new) (K.faults sink.old) (K.faults sink.new) result }
+    // At `Ok` the source held the text of one job, which emission doesn't refuse, and the sink was told `none`; or it held a job and its image at this base, and
+    // the sink was told nothing.
+    ensures ok { result ≡ Shared status.Ok → IsDone (record { words = texts words.now; left = S.left source.old; left' = S.left source.new; faults = S.faults source.old; faults' = S.faults source.new })
+        (K.told sink.old) (K.told sink.new) }
+    ensures usage { result ≡ Shared status.Usage → IsNoForm (texts words.now) }
+    ensures always_usage { IsNoForm (texts words.now) → (result ≡ Shared status.Usage) ⊎ (result ≡ Shared status.WriteFault) }
+    ensures read_fault { result ≡ Shared status.ReadFault → FaultCountRose (S.faults source.old) (S.faults source.new) }
+    ensures always_read_fault { S.faults source.old < S.faults source.new → (result ≡ Shared status.ReadFault) ⊎ (result ≡ Shared status.WriteFault) }
+    ensures write_fault { result ≡ Shared status.WriteFault → FaultCountRose (K.faults sink.old) (K.faults sink.new) }
+    ensures always_write_fault { K.faults sink.old < K.faults sink.new → result ≡ Shared status.WriteFault }
+    ensures too_long { result ≡ Shared status.InputTooLong → IsTooLong (S.left source.old) (S.left source.new) }
+{
+    let reply = reply_to(alloc, words, source);
+    deliver(&reply, sink)
+}
+
+// The reply to these words and to what the source holds.
+fn reply_to<S: Source>(alloc: Global, words: &[String], source: &mut S) -> BinaryReply
+    ensures { IsReply (record { words = texts words.now; left = S.left source.old; left' = S.left source.new; faults = S.faults source.old; faults' = S.faults source.new })
+        result.status (cow_str_bytes result.text) }
+{
+    let Some(command) = read_words(words) else {
+        return shared(fixed(Status::Usage, "usage\n"));
+    };
+    match read_input(alloc, source) {
+        Ok(input) => answer(alloc, command, &input),
+        Err(error) => shared(unread(error)),
+    }
+}
+
+// The answer to a command and its whole input.
+fn answer(alloc: Global, command: Command, input: &[u8]) -> BinaryReply
+    requires { length input.now < too_many }
+    ensures { IsInputAnswer command input.now result.status (cow_str_bytes result.text) }
+{
+    match command {
+        Command::Refusal => refusal(alloc, input),
+        Command::Verify { base } => verify(alloc, base, input),
+    }
+}
+
+// Writes the reply's text, and answers how all ended.
+fn deliver<K: Sink>(reply: &BinaryReply, sink: &mut K) -> BinaryStatus
+    ensures { IsDelivered (K.told sink.old) (K.told sink.new) (K.faults sink.old) (K.faults sink.new)
+        reply.now.status (cow_str_bytes reply.now.text) result }
+{
+    match write_text(reply.text.as_bytes(), sink) {
+        Ok(()) => reply.status,
+        Err(Failed) => BinaryStatus::Shared(Status::WriteFault),
+    }
+}

@@ -1,0 +1,93 @@
+-- What `s390x_image` answers. A name with a prime is of what a call leaves.
+use Rattle.std.specs.Prelude.{◌≡◌, ◌≢◌, ℕ, List, [], ◌∷◌}
+use Rattle.s390x_base.specs.Errors.{number_of_error}
+use Rattle.s390x_base.specs.declared.error.EmitError.TheVariants as emit
+use Rattle.s390x_emit_int.specs.FunctionImage.{IsImageOf}
+use Rattle.s390x_emit_int.specs.FunctionImage as function
+use Rattle.s390x_emit_int.specs.declared.image.ImageError.{ImageError}
+use Rattle.s390x_emit_int.specs.declared.image.ImageError.TheVariants.{Refused, Link}
+use Rattle.s390x_image.specs.Errors.{number_of_link_error}
+use Rattle.s390x_image.specs.Symbols.{Symbols, no_symbols, with_address}
+use Rattle.s390x_image.specs.declared.error.LinkError.{LinkError}
+use Rattle.s390x_image.specs.declared.error.LinkError.TheVariants as link
+use Rattle.s390x_job.specs.declared.job.Job.{Job}
+use Rattle.s390x_job.specs.declared.job.SymbolLine.{SymbolLine}
+use Rattle.s390x_c.specs.Bytes.{HasNoRoom, HoldsBytes}
+use Rattle.s390x_c.specs.Emit.{IsRefused}
+use Rattle.s390x_c.specs.Input.{IsSyntax, IsTextOf, IsTooLong, by_cause}
+use Rattle.s390x_c.specs.Status.{number_of_status}
+use Rattle.s390x_c.specs.declared.reason.Reason.{Reason}
+use Rattle.s390x_c.specs.declared.status.Status.{Status}
+use Rattle.s390x_c.specs.declared.status.Status.TheVariants as status
+
+-- a table with the symbols of these lines too, each in place of an earlier one
+abbrev pub with_lines : Symbols → List SymbolLine → Symbols
+with_lines table [] = table
+with_lines table (line ∷ lines) = with_lines (with_address table line.name line.address) lines
+
+-- the addresses of a job's symbols
+abbrev pub symbols_of : Job → Symbols
+symbols_of j = with_lines no_symbols j.symbols.items
+
+-- the image of a job's function at a base, with the theorem of what a machine does that fetches it
+abbrev pub IsImageOfJob : (base : ℕ) → Job → List ℕ → Type 0
+IsImageOfJob base j bytes = IsImageOf j.info.isa_flags j.state j.function base (symbols_of j) bytes
+
+-- the buffer begins with the image of the job's function
+pub record HoldsImage (base : ℕ) (j : Job) (out out' : List ℕ) (count' : ℕ) : Type 0 where
+  pub bytes : List ℕ
+  pub image : IsImageOfJob base j bytes
+  pub held : HoldsBytes bytes out out' count'
+
+-- the buffer has no room for the image of the job's function
+pub record HasNoRoomForImage (base : ℕ) (j : Job) (out out' : List ℕ) (count' : ℕ) : Type 0 where
+  pub bytes : List ℕ
+  pub image : IsImageOfJob base j bytes
+  pub small : HasNoRoom bytes out out' count'
+
+-- linking refuses the code of the job's function by its first cause
+pub record IsLinkRefused (base : ℕ) (j : Job) (reason' : Reason) : Type 0 where
+  pub error : LinkError
+  pub first : function.IsLinkRefused j.info.isa_flags j.state j.function base (symbols_of j) error
+  pub told : reason' ≡ by_cause (number_of_link_error error)
+
+-- neither the buffer nor the count is written
+pub record NoByteIsWritten (out out' : List ℕ) (count count' : ℕ) : Type 0 where
+  pub buffer : out' ≡ out
+  pub count_kept : count' ≡ count
+
+-- how the linking of a job ends
+abbrev pub LinksJobTo : (base : ℕ) → Job → (out out' : List ℕ) → (count count' : ℕ) → (reason reason' : Reason) → Status → Type 0
+LinksJobTo base j out out' count count' reason reason' status.Done = HoldsImage base j out out' count' × (reason' ≡ reason)
+LinksJobTo base j out out' count count' reason reason' status.Refused = IsRefused j reason' × NoByteIsWritten out out' count count'
+LinksJobTo base j out out' count count' reason reason' status.LinkRefused = IsLinkRefused base j reason' × NoByteIsWritten out out' count count'
+LinksJobTo base j out out' count count' reason reason' status.NoMemory = NoByteIsWritten out out' count count' × (reason' ≡ reason)
+LinksJobTo base j out out' count count' reason reason' status.TooSmall = HasNoRoomForImage base j out out' count' × (reason' ≡ reason)
+LinksJobTo base j out out' count count' reason reason' s = ⊥
+
+-- the input is the text of a job, the only one, and its linking ends so
+pub record LinksTextTo (base : ℕ) (input out out' : List ℕ) (count count' : ℕ) (reason reason' : Reason) (s : Status) : Type 0 where
+  pub job : Job
+  pub text : IsTextOf job input
+  pub ends : LinksJobTo base job out out' count count' reason reason' s
+
+-- how the linking of an input ends
+abbrev pub LinksTo : (base : ℕ) → (input out out' : List ℕ) → (count count' : ℕ) → (reason reason' : Reason) → Status → Type 0
+LinksTo base input out out' count count' reason reason' status.Syntax = IsSyntax input reason' × NoByteIsWritten out out' count count'
+LinksTo base input out out' count count' reason reason' status.TooLong = IsTooLong input × NoByteIsWritten out out' count count' × (reason' ≡ reason)
+LinksTo base input out out' count count' reason reason' status.NoMemory = NoByteIsWritten out out' count count' × (reason' ≡ reason)
+LinksTo base input out out' count count' reason reason' s = LinksTextTo base input out out' count count' reason reason' s
+
+-- the number is that of how the linking of the input ends
+pub record IsImageCall (base : ℕ) (input out out' : List ℕ) (count count' : ℕ) (reason reason' : Reason) (number : ℕ) : Type 0 where
+  pub ended : Status
+  pub numbered : number ≡ number_of_status ended
+  pub so : LinksTo base input out out' count count' reason reason' ended
+
+-- how a call ends for a function without an image, which want of memory is too
+abbrev pub IsRefusalOf : ImageError → Reason → Reason → Status → Type 0
+IsRefusalOf (Refused error) reason reason' status.NoMemory = (error ≡ emit.NoMemory) × (reason' ≡ reason)
+IsRefusalOf (Refused error) reason reason' status.Refused = (error ≢ emit.NoMemory) × (reason' ≡ by_cause (number_of_error error))
+IsRefusalOf (Link error) reason reason' status.NoMemory = (error ≡ link.NoMemory) × (reason' ≡ reason)
+IsRefusalOf (Link error) reason reason' status.LinkRefused = (error ≢ link.NoMemory) × (reason' ≡ by_cause (number_of_link_error error))
+IsRefusalOf error reason reason' s = ⊥

@@ -1,0 +1,115 @@
+//! The image of a job's function at a base.
+ghost use Rattle.std.specs.Prelude.{◌≡◌, IfOk};
+ghost use Rattle.s390x_image.specs.Symbols.{no_symbols};
+ghost use Rattle.s390x_c.specs.Image.{IsImageCall, IsRefusalOf, LinksJobTo, LinksTo, with_lines};
+
+use crate::bytes::put_bytes;
+use crate::reason::Reason;
+use crate::status::{MOST_BYTES, Status};
+use s390x_base::{EmitError, NoMemory};
+use s390x_emit_int::{ImageError, emit_image};
+use s390x_image::{LinkError, SymbolTable};
+use s390x_job::{Job, LineError, SymbolLine, read_lines};
+use std::alloc::Global;
+
+/// The image of a job's function at a base, with the symbols of the job's own lines. The input is the job's text.
+///
+/// A machine that fetches it there does only what the job's instructions allow.
+///
+/// - `Done`: `out` begins with the image, which has `count` bytes.
+/// - `TooLong`: the input has more than 16777216 bytes.
+/// - `Syntax`: it is no job's text; `reason.line` is its first wrong line.
+/// - `Refused`: emission refuses the job's function; `reason.cause` is the number of the first cause.
+/// - `LinkRefused`: linking refuses its code at the base; `reason.cause` is the number of the first cause.
+/// - `TooSmall`: the image has no room in the buffer; `count` says how many bytes it has.
+/// - `NoMemory`: there was none.
+///
+/// The buffer isn't written but with `Done`, `count` but with `Done` and `TooSmall`, `reason` but with `Syntax`, `Refused` and
+/// `LinkRefused`.
+#[unsafe(no_mangle)]
+pub extern "C" fn s390x_image(
+    alloc: Global,
+    input: &[u8],
+    base: u64,
+    out: &mut [u8],
+    count: &mut usize,
+    reason: &mut Reason,
+) -> u32
+    ensures { IsImageCall base input.now out.old out.new count.old count.new reason.old reason.new result }
+{
+    image(alloc, input, base, out, count, reason).number()
+}
+
+// The image of the function of the job whose text the input is.
+fn image(
+    alloc: Global,
+    input: &[u8],
+    base: u64,
+    out: &mut [u8],
+    count: &mut usize,
+    reason: &mut Reason,
+) -> Status
+    ensures { LinksTo base input.now out.old out.new count.old count.new reason.old reason.new result }
+{
+    if input.len() > MOST_BYTES {
+        return Status::TooLong;
+    }
+    match read_lines(alloc, input) {
+        Ok(job) => image_of_job(alloc, &job, base, out, count, reason),
+        Err(LineError::Syntax { line }) => {
+            *reason = Reason::at_line(line);
+            Status::Syntax
+        }
+        Err(LineError::NoMemory) => Status::NoMemory,
+    }
+}
+
+// The image of this job's function.
+fn image_of_job(
+    alloc: Global,
+    job: &Job,
+    base: u64,
+    out: &mut [u8],
+    count: &mut usize,
+    reason: &mut Reason,
+) -> Status
+    ensures { LinksJobTo base job.now out.old out.new count.old count.new reason.old reason.new result }
+{
+    let Ok(symbols) = symbol_table(alloc, &job.symbols) else {
+        return Status::NoMemory;
+    };
+    match emit_image(alloc, &job.function, &job.info, job.state, base, &symbols) {
+        Ok(image) => put_bytes(&image.bytes, out, count),
+        Err(error) => refusal(error, reason),
+    }
+}
+
+// The symbols of these lines.
+fn symbol_table(alloc: Global, lines: &[SymbolLine]) -> Result<SymbolTable, NoMemory>
+    ensures { IfOk result (λ table. table ≡ with_lines no_symbols lines.now) }
+{
+    let mut table = SymbolTable::new(alloc);
+    for line in lines {
+        table.insert(line.name, line.address)?;
+    }
+    Ok(table)
+}
+
+// How the call ends for a function without an image.
+fn refusal(error: ImageError, reason: &mut Reason) -> Status
+    ensures { IsRefusalOf error reason.old reason.new result }
+{
+    match error {
+        ImageError::Refused(EmitError::NoMemory) | ImageError::Link(LinkError::NoMemory) => {
+            Status::NoMemory
+        }
+        ImageError::Refused(error) => {
+            *reason = Reason::by_cause(error.number());
+            Status::Refused
+        }
+        ImageError::Link(error) => {
+            *reason = Reason::by_cause(error.number());
+            Status::LinkRefused
+        }
+    }
+}

@@ -1,0 +1,42 @@
+//! How a call ends.
+ghost use Rattle.std.specs.Prelude.{◌≡◌};
+ghost use Rattle.s390x_c.specs.Status.{number_of_status};
+
+/// The greatest number of bytes of an input.
+pub const MOST_BYTES: usize = 16_777_216;
+
+/// How a call ends.
+#[derive(Clone, Copy, PartialEq, Eq, Debug)]
+pub enum Status {
+    /// All was done.
+    Done,
+    /// The input is no such text.
+    Syntax,
+    /// Emission refuses the function, or an instruction can't be reported.
+    Refused,
+    /// Linking refuses the code.
+    LinkRefused,
+    /// The input has more than `MOST_BYTES` bytes.
+    TooLong,
+    /// There was no memory.
+    NoMemory,
+    /// A buffer is too small.
+    TooSmall,
+}
+
+impl Status {
+    /// The number: that with which the program ends too, and 13 for a buffer that is too small.
+    pub fn number(self) -> u32
+        ensures { result ≡ number_of_status self }
+    {
+        match self {
+            Status::Done => 0,
+            Status::Syntax => 3,
+            Status::Refused => 4,
+            Status::LinkRefused => 5,
+            Status::TooLong => 8,
+            Status::NoMemory => 9,
+            Status::TooSmall => 13,
+        }
+    }
+}
