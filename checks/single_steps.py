@@ -122,8 +122,11 @@ def pick_lane(drawn, slots, general):
         general[slots["REG_2"]] = lane - slots["DISPLACEMENT"]
 
 
-def lead(drawn, row, slots, general):
+def lead(drawn, row, slots, general, vector):
     """Most operands in storage lie in the region: by their base, or by their distance."""
+    if row.name in ("vsl", "vsrl", "vsra"):
+        # the bytes of the amount have to agree
+        vector[slots["REG_3"]] = int.from_bytes(bytes([drawn.randrange(256)]) * 16, "big")
     if row.name in ("vlvgb", "vlgvb"):
         pick_lane(drawn, slots, general)
         return
@@ -140,7 +143,7 @@ def lead(drawn, row, slots, general):
         general[slots[base]] = (target - displacement - added) % 2 ** 64
     elif row.opcode >> 4 in (0xc4, 0xc6) and row.parts[-1] == ("IMMEDIATE", 0, 32):
         # the emulator doesn't ask such operands to be aligned
-        slots["IMMEDIATE"] = (target // 8 * 8 - PLACE) // 2 % 2 ** 32 if target != NOWHERE else slots["IMMEDIATE"]
+        slots["IMMEDIATE"] = (target // 8 * 8 - PLACE) // 2 % 2 ** 32 if target != NOWHERE else slots["IMMEDIATE"] // 4 * 4
     elif row.name == "larl":
         # the emulator cuts great distances
         slots["IMMEDIATE"] = drawn.randrange(-0x1000000, 0x10000000) % 2 ** 32
@@ -166,7 +169,7 @@ def step(drawn, row):
     general = [interesting(drawn, 64) for _ in range(16)]
     vector = [drawn.choice([0, interesting(drawn, 128), drawn.getrandbits(128)]) for _ in range(32)]
     data = b"".join(interesting(drawn, 64).to_bytes(8, "big") for _ in range(DATA_SIZE // 8))
-    lead(drawn, row, slots, general)
+    lead(drawn, row, slots, general, vector)
     before, cc = prefix(drawn, general, vector)
     code = packed(row.parts, slots)
     lines = [f"symbol u1 {PLACE}"]
