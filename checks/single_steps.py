@@ -143,7 +143,7 @@ def lead(drawn, row, slots, general, vector):
         general[slots[base]] = (target - displacement - added) % 2 ** 64
     elif row.opcode >> 4 in (0xc4, 0xc6) and row.parts[-1] == ("IMMEDIATE", 0, 32):
         # the emulator doesn't ask such operands to be aligned
-        slots["IMMEDIATE"] = (target // 8 * 8 - PLACE) // 2 % 2 ** 32 if target != NOWHERE else slots["IMMEDIATE"] // 4 * 4
+        slots["IMMEDIATE"] = (target // 8 * 8 - PLACE) // 2 % 2 ** 32 if target != NOWHERE else drawn.randrange(0x10000000, 0x20000000, 4)
     elif row.name == "larl":
         # the emulator cuts great distances
         slots["IMMEDIATE"] = drawn.randrange(-0x1000000, 0x10000000) % 2 ** 32
