@@ -41,14 +41,15 @@ def row_names():
     path = os.path.join(program.ROOT, "crates", "s390x_format", "src", "table.rt")
     with open(path) as file:
         found = re.findall(r"opcode: 0x([0-9a-f]+).*// (.*)", file.read())
-    return {int(opcode, 16): names.split(",")[0].strip() for opcode, names in found}
+    return {int(opcode, 16): names.split()[0] for opcode, names in found}
 
 
 def row_at(names, code):
     """The mnemonic of the row that bytes begin with: its opcode is the first byte, with half of the second, with it, or with the sixth."""
     first, second = code[0], code[1] if len(code) > 1 else 0
     last = code[5] if len(code) > 5 else 0
-    for opcode in (first, first << 4 | second & 15, first << 8 | second, first << 8 | last):
+    spread = [first << 8 | last] if first in (0xe3, 0xe6, 0xe7, 0xeb, 0xec) else [first, first << 4 | second & 15, first << 8 | second]
+    for opcode in spread:
         if opcode in names:
             return names[opcode]
     return "no row"

@@ -173,9 +173,9 @@ MovToVec128 X S S
 VecImmByteMask X U16
 VecImmBitMask LANES X LANEBIT LANEBIT
 VecImmReplicate LANES X I16
-VecInsertLane LANES XH W S LANE SN
-VecInsertLaneUndef LANES XH S LANE SN
-VecExtractLane LANES T V LANE SN
+VecInsertLane LANES XH W S LANE %r0
+VecInsertLaneUndef LANES XH S LANE %r0
+VecExtractLane LANES T V LANE %r0
 VecInsertLaneImm LANES X W I16 LANE
 VecInsertLaneImmUndef LANES X I16 LANE
 VecReplicateLane LANES X V LANE
@@ -461,7 +461,7 @@ class RandomJob:
             # there they have no row
             self.instructions = [each for each in self.instructions if "CMPREL" not in each]
         data = rng.choice(DATA)
-        self.regions = sorted((address, self.region()) for address in [data, FAR_DATA, SYMBOL, FRAME]) + [(CALLEE, CALLEE_CODE)]
+        self.regions = sorted([(address, self.region()) for address in [data, FAR_DATA, SYMBOL, FRAME]] + [(CALLEE, CALLEE_CODE)])
         self.general = [interesting(rng, 64) for _ in range(16)]
         self.general[10] = rng.randrange(32) * 8
         self.general[12] = data + MIDDLE
@@ -525,9 +525,21 @@ class RandomJob:
                 lines.append(self.words.line(self.rng.choice(RARE)))
             elif kind < 7:
                 lines += self.call()
+            elif kind < 9:
+                lines += self.lane_by_register()
             else:
                 lines.append(self.words.line(self.rng.choice(self.instructions)))
         return lines
+
+    def lane_by_register(self):
+        """A lane whose number is the sum of an immediate and a register: behind the last lane the result is free."""
+        size = self.rng.choice([8, 16, 32, 64])
+        added = self.rng.randrange(128 // size)
+        lane = self.rng.randrange(128 // size - added)
+        target, source = f"%v{self.rng.randrange(16, 32)}", self.words.word_S()
+        moved = self.rng.choice([f"VecExtractLane {size} {self.words.word_T()} {target} {lane} %r8", f"VecInsertLaneUndef {size} {target} {source} {lane} %r8",
+                                 f"VecInsertLane {size} {target} {target} {source} {lane} %r8"])
+        return [f"Mov64SImm16 %r8 {added}", moved]
 
     def loop(self, counters):
         """A loop that goes round a few times, maybe around another one: its last member counts down, and sets the code that goes on."""

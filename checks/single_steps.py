@@ -5,7 +5,8 @@
 
 For each row a file OPCODE-MNEMONIC.json: a list of steps with `name` (the instruction in hex), `initial` and `final`. A state has `pc`, `cc`, `gpr` (16
 numbers), `vr` (32) and `ram`, a list of an address and the bytes from there on; all but `cc` in hex. `final` has in place of these `stop` (`Access`,
-`Specification`, `Operation`, `Divide`, `CompareTrap`) where the instruction stops, and then nothing else changes; it is null where the row leaves its result free.
+`Specification`, `Operation`, `Divide`, `CompareTrap`) where the instruction stops, and then nothing else changes; it is null where the row leaves its result free, and
+`free` in it names a vector register and how many bits on its right the row leaves free.
 Masks, registers, immediates and the state are drawn. Rows, formats and what a row allows are read from the tables of `s390x_format`.
 
 Each step is one run of the program `s390x run`, which is proved to take a step of the machine; with --try an unproved build is taken. That is 401,000 runs
@@ -27,9 +28,16 @@ from random_functions import LACKING, LACKING_SIZES
 from random_jobs import interesting
 
 SOURCES = os.path.join(program.ROOT, "crates", "s390x_format", "src")
-PLACE, DATA, STUB = 0x10000, 0x11000, 0x100000
+# Where the instruction stands, where its operand does, and where the job begins that leads there.
+PLACE, DATA, STUB = 0x4000000, 0x4100000, 0x100000
 DATA_SIZE = 0x200
 NOWHERE = 0x7000000000
+
+# Where branches go by a register: zeros behind the operand's bytes, which are no instruction.
+ZEROS = DATA + 0x800
+
+# How many bits on the right of the vector register that they write these rows leave free.
+FREE_BITS = {"ldr": 64, "ld": 64, "ldy": 64, "ldgr": 64, "ler": 96, "le": 96, "ley": 96}
 
 Row = collections.namedtuple("Row", "kind opcode name parts allowed")
 Step = collections.namedtuple("Step", "row code general vector data cc job steps")
@@ -104,8 +112,24 @@ def signed(value, bits):
     return value - (1 << bits) if value >> (bits - 1) else value
 
 
-def lead(drawn, row, slots, general):
+def pick_lane(drawn, slots, general):
+    """The number of a lane is below their count: behind the last one the result is free."""
+    lane = drawn.randrange(16 >> slots["MASK_1"])
+    slots["DISPLACEMENT"] = drawn.randrange(lane + 1)
+    if slots["REG_2"] == 0:
+        slots["DISPLACEMENT"] = lane
+    else:
+        general[slots["REG_2"]] = lane - slots["DISPLACEMENT"]
+
+
+def lead(drawn, row, slots, general, vector):
     """Most operands in storage lie in the region: by their base, or by their distance."""
+    if row.name in ("vsl", "vsrl", "vsra"):
+        # the bytes of the amount have to agree
+        vector[slots["REG_3"]] = int.from_bytes(bytes([drawn.randrange(256)]) * 16, "big")
+    if row.name in ("vlvgb", "vlgvb"):
+        pick_lane(drawn, slots, general)
+        return
     target = DATA + drawn.randrange(0, 0x100, drawn.choice([1, 2, 4, 8, 16])) if drawn.randrange(10) else NOWHERE
     base, index = address_slots(row)
     wide = any(slot == "DISPLACEMENT" and low == 12 for slot, low, _ in row.parts)
@@ -118,9 +142,13 @@ def lead(drawn, row, slots, general):
         added = general[slots[index]] if index and slots[index] else 0
         general[slots[base]] = (target - displacement - added) % 2 ** 64
     elif row.opcode >> 4 in (0xc4, 0xc6) and row.parts[-1] == ("IMMEDIATE", 0, 32):
-        slots["IMMEDIATE"] = (target // 2 * 2 - PLACE) // 2 % 2 ** 32 if target != NOWHERE else slots["IMMEDIATE"]
+        # the emulator doesn't ask such operands to be aligned
+        slots["IMMEDIATE"] = (target // 8 * 8 - PLACE) // 2 % 2 ** 32 if target != NOWHERE else drawn.randrange(0x10000000, 0x20000000, 4)
+    elif row.name == "larl":
+        # the emulator cuts great distances
+        slots["IMMEDIATE"] = drawn.randrange(-0x1000000, 0x10000000) % 2 ** 32
     elif row.opcode in (0x07, 0x0d):
-        general[slots["REG_2"]] = target // 2 * 2
+        general[slots["REG_2"]] = ZEROS + 2 * drawn.randrange(16)
 
 
 def prefix(drawn, general, vector):
@@ -141,10 +169,10 @@ def step(drawn, row):
     general = [interesting(drawn, 64) for _ in range(16)]
     vector = [drawn.choice([0, interesting(drawn, 128), drawn.getrandbits(128)]) for _ in range(32)]
     data = b"".join(interesting(drawn, 64).to_bytes(8, "big") for _ in range(DATA_SIZE // 8))
-    lead(drawn, row, slots, general)
+    lead(drawn, row, slots, general, vector)
     before, cc = prefix(drawn, general, vector)
     code = packed(row.parts, slots)
-    lines = ["frame SystemV 0 0 0 0 0 0 - 0", f"symbol u1 {PLACE}"]
+    lines = [f"symbol u1 {PLACE}"]
     lines += [f"reg %r{i} {value}" for i, value in enumerate(general) if value]
     lines += [f"reg %v{i} {value:032x}" for i, value in enumerate(vector) if value]
     lines += [f"mem {PLACE} {code.ljust(16, bytes(1)).hex()}", f"mem {DATA} {data.hex()}", "block", before, "ReturnCall u1 [] 0", "end", ""]
@@ -159,6 +187,12 @@ def state(place, cc, general, vector, code, data):
             "ram": [[f"{PLACE:x}", code.hex()], [f"{DATA:x}", data.hex()]]}
 
 
+def free_part(each):
+    """The vector register that the row leaves free in part, and how many bits of it; None for most rows."""
+    bits = FREE_BITS.get(each.row.name)
+    return [each.code[3 if each.row.kind == "Rre" else 1] >> 4, bits] if bits else None
+
+
 def written(each, told):
     """A step with what the machine makes of it."""
     initial = state(PLACE, each.cc, each.general, each.vector, each.code, each.data)
@@ -168,6 +202,8 @@ def written(each, told):
     elif told.kind == "Limit":
         place = told.memory[PLACE][:len(each.code)]
         final = state(told.place, told.code, told.general, told.vector, place, told.memory[DATA])
+        if free_part(each):
+            final["free"] = free_part(each)
     return {"name": each.code.hex(), "initial": initial, "final": final}
 
 
@@ -186,7 +222,9 @@ def difference(each, told, folder):
     found = [f"pc {told.place:x}, emulated {ended.place:x}"] if ended.place != told.place else []
     found += [f"cc {told.code}, emulated {ended.code}"] if ended.code != told.code else []
     found += [f"%r{i} {a:x}, emulated {b:x}" for i, (a, b) in enumerate(zip(told.general, ended.general)) if a != b]
-    found += [f"%v{i} {a:x}, emulated {b:x}" for i, (a, b) in enumerate(zip(told.vector, ended.vector)) if a != b]
+    register, bits = free_part(each) or (0, 0)
+    free = [bits if i == register else 0 for i in range(32)]
+    found += [f"%v{i} {a:x}, emulated {b:x}" for i, (a, b) in enumerate(zip(told.vector, ended.vector)) if a >> free[i] != b >> free[i]]
     found += ["memory"] if told.memory[DATA] != ended.memory[DATA] else []
     return "; ".join(found[:4])
 
