@@ -117,7 +117,7 @@ def main():
                     found["public functions without a docstring"].append((0, f"{path}:{number + 1} {match.group(3)}"))
                 elif words.startswith("The same"):
                     found["docstrings that begin \"The same\""].append((0, f"{path}:{number + 1} {match.group(3)}"))
-                if "EmitError>" in signature(lines, number) and words and not re.search(r"`[A-Z]\w+`|rror|efuse|memory", words):
+                if re.search(r"Result<.*EmitError>", signature(lines, number)) and words and not re.search(r"`[A-Z]\w+`|rror|efuse|memory", words):
                     found["functions that answer EmitError and don't say when"].append((0, f"{path}:{number + 1} {match.group(3)}"))
             for number, width in clauses(lines):
                 total += 1
