@@ -113,9 +113,10 @@ run image 4096
 want "the second program's place" 4 "block 0, instruction 0 (both counted from 0), line 2: Mov64 %r2 %r3"
 rm -r "$copy/crates/s390x_binary"
 answers "2 usage"
+grep -v '^s390x_binary:' "$root/crates.txt" > "$copy/crates.txt"
 run refusal
 want "no second program" 2 "refusal is no command"
-echo "s390x_binary:" >> "$copy/crates.txt"
+cp "$root/crates.txt" "$copy/"
 mkdir -p "$copy/crates/s390x_binary/out"
 cp "$copy/crates/s390x/out/s390x" "$copy/crates/s390x_binary/out/s390x_binary"
 : > "$copy/crates/s390x_binary/out/where"
@@ -129,7 +130,6 @@ echo "2 usage" > "$copy/crates/s390x_binary/out/answer"
 run verify 0x1000
 want "the words of verify" 2 "in decimal it is 4096"
 rm -r "$copy/crates/s390x_binary"
-cp "$root/crates.txt" "$copy/"
 
 # How it ends
 for line in "6 read fault|standard input can't be read" "7|doesn't take what is written" "8 input too long|more than 16777216 bytes" "9 no memory|not enough memory"; do
