@@ -164,7 +164,8 @@ class Fields:
             return f"{text} is no operand in memory, as BXD12(%r2,%r0,8,u)"
         wanted = self.page.operands.get(found[1])
         if wanted is None:
-            return f"{found[1]} is no form of an operand in memory{near(found[1], self.page.operands)}"
+            like = near(found[1], self.page.operands) or f"; the forms are {', '.join(self.page.operands)}, as BXD12(%r2,%r0,8,u)"
+            return f"{found[1]} is no form of an operand in memory{like}"
         return self.parts(text, found[2].split(","), wanted, f"{found[1]}({','.join(':'.join(part) for part in wanted)})")
 
     def parts(self, text, found, wanted, form):
@@ -258,12 +259,14 @@ class Text:
 
     def __init__(self, page, command, lines):
         self.page, self.fields, self.command, self.lines = page, Fields(page), command, lines
-        self.place, self.depth, self.head, self.last = "head", 0, -1, None
+        self.place, self.head, self.last = "head", -1, None
+        # the numbers of the lines of Loops that are open, the outermost first
+        self.loops = []
         if command == "bundle":
             self.place = "functions"
 
-    def pass_line(self, line):
-        """The place behind a line that isn't wrong."""
+    def pass_line(self, number, line):
+        """Goes past a line that isn't wrong and has this number."""
         name = line.split(" ")[0]
         if self.place in ("head", "block"):
             if name in HEADS:
@@ -272,7 +275,10 @@ class Text:
                 self.place = {"bundle": "functions", "alloc": "plan", "verify": "hex"}.get(self.command, "end")
             elif name == "block":
                 self.place = "block"
-            self.depth += (name == "Loop") - (name == "endloop")
+            elif name == "Loop":
+                self.loops.append(number)
+            elif name == "endloop":
+                self.loops.pop()
         elif name == "function":
             self.place, self.head, self.last = "head", -1, None
         elif name == "close":
@@ -282,8 +288,8 @@ class Text:
 
     def fault(self, number):
         """Why the line of this number is wrong, counted from 1."""
-        for line in self.lines[: number - 1]:
-            self.pass_line(line)
+        for passed, line in enumerate(self.lines[: number - 1], 1):
+            self.pass_line(passed, line)
         if number > len(self.lines):
             return self.lacking()
         line = self.lines[number - 1]
@@ -294,7 +300,7 @@ class Text:
         ends = {"bundle": "close", "alloc": "close"}.get(self.command, "end")
         lacks = []
         if self.place in ("head", "block"):
-            lacks = ["endloop"] * self.depth + ["end"]
+            lacks = ["endloop"] * len(self.loops) + ["end"]
         if self.command == "alloc" and self.place in ("head", "block", "plan"):
             lacks.append("plan")
         return f"the input ends here, and lacks {' and '.join(f'a line `{x}`' for x in lacks + [ends] * (ends not in lacks))}"
@@ -302,13 +308,15 @@ class Text:
     def blanks(self, line):
         """What is wrong with the blanks of a line."""
         if line.endswith("\r"):
-            return "it ends in a carriage return: lines end in a line feed alone"
+            return "it ends in a carriage return: lines end in a line feed alone (tr -d '\\r' takes carriage returns out)"
         if line == "":
-            return "no line is empty"
+            return "it is empty: no line is empty"
         if "\t" in line:
             return "it has a tab: one space stands between fields"
-        if "  " in line or line != line.strip(" "):
-            return "it has a space too many: one stands between fields, none at the ends"
+        if line != line.strip(" "):
+            return f"it has a space too many, at its {'end' if line[0] != ' ' else 'beginning'}: none stands at the ends of a line"
+        if "  " in line:
+            return f"it has a space too many, behind {line.split('  ')[0].split(' ')[-1]}: one stands between fields"
         if re.search(r"(^|\s)(#|//|;)", line):
             return "there are no comments"
         return None
@@ -332,11 +340,11 @@ class Text:
             return self.head_order(name)
         if name in HEADS or name in ("function", "close", "plan"):
             return f"a line `{name}` can't stand in a block" if name in HEADS else f"a line `end` is lacking before `{name}`"
-        if self.depth and name in ("block", "end"):
-            return f"a line `endloop` is lacking before it: {self.depth} Loop is open" if self.depth == 1 else f"{self.depth} Loops are open, and want lines `endloop`"
-        if name == "endloop" and not self.depth:
+        if self.loops and name in ("block", "end"):
+            return f"a line `endloop` is lacking before it, for the Loop of line {self.loops[-1]}"
+        if name == "endloop" and not self.loops:
             return "no Loop is open"
-        if name == "Loop" and self.depth == 9:
+        if name == "Loop" and len(self.loops) == 9:
             return "at most nine Loops are open"
         return None
 
