@@ -15,6 +15,8 @@ import re
 import subprocess
 import sys
 
+import reasons
+
 ROOT = os.path.dirname(os.path.dirname(os.path.realpath(__file__)))
 # The words behind each command's name: the least and the greatest number of each.
 BASE, STEPS = ("BASE", 0, 2**64 - 1), ("STEPS", 0, 1000000)
@@ -81,6 +83,8 @@ class Page:
         with open(os.path.join(ROOT, "docs", "JOBS.md"), encoding="utf-8") as page:
             text = page.read().split("<!-- the lists begin -->")[1].split("<!-- the lists end -->")[0]
         self.words, self.fields, self.forms, self.notes, self.operands = {}, {}, {}, {}, {}
+        # the names of instructions on vector registers
+        self.vector = re.findall(r"^\| `(\w+)", text.split("### Vector instructions")[1], re.M)
         for cells in (line.strip("| ").split(" | ") for line in text.splitlines() if line.startswith("|")):
             form = cells[0].strip("`")
             if operand := re.fullmatch(r"(\w+)\((.*)\)", form):
@@ -470,28 +474,14 @@ class Job:
         return next((number + self.first + 1 for number, b, p in self.at if (b, p) == (block, path)), None)
 
 
-def reason(page, name, line):
-    """More of a cause, by the line of the instruction that has it."""
-    word, *fields = line.split(" ")
-    notes = page.notes.get(word, "")
-    operator = fields[0] if fields else ""
-    if name == "MissingFacility" and (flags := re.search(r"flags: (.*)", notes)):
-        parts = re.findall(r"`(\w+)`(?: for ((?:\w+, )*\w+)(?:, |$))?", flags[1])
-        flag = next((flag for flag, operators in parts if not operators or operator in operators.split(", ")), None)
-        return [f"the line `flags` has to name {flag}"] if flag else []
-    if name == "BadOperator" and (listed := re.search(r"operators: ([^;]*)", notes)) and operator not in listed[1].split(", "):
-        return [f"{word} takes {listed[1]}"]
-    return []
-
-
 def place_of(page, name, job, count):
     """What is said of the instruction that is the last of so many."""
     if not count:
-        return ["no instruction has it: the frame, a constant, or the count of blocks and constants"]
+        return ["no instruction has it: the frame, a constant, or the count of blocks and constants", reasons.of_job(name, job.lines)]
     number, block, path = job.at[count - 1]
     line = job.lines[number]
     said = f"block {block}, instruction {path} (both counted from 0), line {number + job.first + 1}: {line[:200]}"
-    return [said] + reason(page, name, line)
+    return [said, reasons.of_instruction(page, name, line, job.lines)]
 
 
 def ask(command, text):
@@ -599,6 +589,8 @@ def explained(answer, path, words, is_refused, program):
         return of_plan(answer, lines)
     if answer.startswith("bundle "):
         return of_bundle(page, answer, lines, program)
+    if answer == "link UndefinedSymbol":
+        return [reasons.undefined_symbol(lines)]
     if answer.startswith("refusal "):
         return told_place(page, answer.split(" ")[1], Job(lines), answer) or []
     if answer.startswith("refused ") and is_refused:
