@@ -15,6 +15,8 @@ import re
 import subprocess
 import sys
 
+import reasons
+
 ROOT = os.path.dirname(os.path.dirname(os.path.realpath(__file__)))
 # The words behind each command's name: the least and the greatest number of each.
 BASE, STEPS = ("BASE", 0, 2**64 - 1), ("STEPS", 0, 1000000)
@@ -81,6 +83,8 @@ class Page:
         with open(os.path.join(ROOT, "docs", "JOBS.md"), encoding="utf-8") as page:
             text = page.read().split("<!-- the lists begin -->")[1].split("<!-- the lists end -->")[0]
         self.words, self.fields, self.forms, self.notes, self.operands = {}, {}, {}, {}, {}
+        # the names of instructions on vector registers
+        self.vector = re.findall(r"^\| `(\w+)", text.split("### Vector instructions")[1], re.M)
         for cells in (line.strip("| ").split(" | ") for line in text.splitlines() if line.startswith("|")):
             form = cells[0].strip("`")
             if operand := re.fullmatch(r"(\w+)\((.*)\)", form):
@@ -164,7 +168,8 @@ class Fields:
             return f"{text} is no operand in memory, as BXD12(%r2,%r0,8,u)"
         wanted = self.page.operands.get(found[1])
         if wanted is None:
-            return f"{found[1]} is no form of an operand in memory{near(found[1], self.page.operands)}"
+            like = near(found[1], self.page.operands) or f"; the forms are {', '.join(self.page.operands)}, as BXD12(%r2,%r0,8,u)"
+            return f"{found[1]} is no form of an operand in memory{like}"
         return self.parts(text, found[2].split(","), wanted, f"{found[1]}({','.join(':'.join(part) for part in wanted)})")
 
     def parts(self, text, found, wanted, form):
@@ -258,12 +263,14 @@ class Text:
 
     def __init__(self, page, command, lines):
         self.page, self.fields, self.command, self.lines = page, Fields(page), command, lines
-        self.place, self.depth, self.head, self.last = "head", 0, -1, None
+        self.place, self.head, self.last = "head", -1, None
+        # the numbers of the lines of Loops that are open, the outermost first
+        self.loops = []
         if command == "bundle":
             self.place = "functions"
 
-    def pass_line(self, line):
-        """The place behind a line that isn't wrong."""
+    def pass_line(self, number, line):
+        """Goes past a line that isn't wrong and has this number."""
         name = line.split(" ")[0]
         if self.place in ("head", "block"):
             if name in HEADS:
@@ -272,7 +279,10 @@ class Text:
                 self.place = {"bundle": "functions", "alloc": "plan", "verify": "hex"}.get(self.command, "end")
             elif name == "block":
                 self.place = "block"
-            self.depth += (name == "Loop") - (name == "endloop")
+            elif name == "Loop":
+                self.loops.append(number)
+            elif name == "endloop":
+                self.loops.pop()
         elif name == "function":
             self.place, self.head, self.last = "head", -1, None
         elif name == "close":
@@ -282,8 +292,8 @@ class Text:
 
     def fault(self, number):
         """Why the line of this number is wrong, counted from 1."""
-        for line in self.lines[: number - 1]:
-            self.pass_line(line)
+        for passed, line in enumerate(self.lines[: number - 1], 1):
+            self.pass_line(passed, line)
         if number > len(self.lines):
             return self.lacking()
         line = self.lines[number - 1]
@@ -294,7 +304,7 @@ class Text:
         ends = {"bundle": "close", "alloc": "close"}.get(self.command, "end")
         lacks = []
         if self.place in ("head", "block"):
-            lacks = ["endloop"] * self.depth + ["end"]
+            lacks = ["endloop"] * len(self.loops) + ["end"]
         if self.command == "alloc" and self.place in ("head", "block", "plan"):
             lacks.append("plan")
         return f"the input ends here, and lacks {' and '.join(f'a line `{x}`' for x in lacks + [ends] * (ends not in lacks))}"
@@ -302,13 +312,15 @@ class Text:
     def blanks(self, line):
         """What is wrong with the blanks of a line."""
         if line.endswith("\r"):
-            return "it ends in a carriage return: lines end in a line feed alone"
+            return "it ends in a carriage return: lines end in a line feed alone (tr -d '\\r' takes carriage returns out)"
         if line == "":
-            return "no line is empty"
+            return "it is empty: no line is empty"
         if "\t" in line:
             return "it has a tab: one space stands between fields"
-        if "  " in line or line != line.strip(" "):
-            return "it has a space too many: one stands between fields, none at the ends"
+        if line != line.strip(" "):
+            return f"it has a space too many, at its {'end' if line[0] != ' ' else 'beginning'}: none stands at the ends of a line"
+        if "  " in line:
+            return f"it has a space too many, behind {line.split('  ')[0].split(' ')[-1]}: one stands between fields"
         if re.search(r"(^|\s)(#|//|;)", line):
             return "there are no comments"
         return None
@@ -332,11 +344,11 @@ class Text:
             return self.head_order(name)
         if name in HEADS or name in ("function", "close", "plan"):
             return f"a line `{name}` can't stand in a block" if name in HEADS else f"a line `end` is lacking before `{name}`"
-        if self.depth and name in ("block", "end"):
-            return f"a line `endloop` is lacking before it: {self.depth} Loop is open" if self.depth == 1 else f"{self.depth} Loops are open, and want lines `endloop`"
-        if name == "endloop" and not self.depth:
+        if self.loops and name in ("block", "end"):
+            return f"a line `endloop` is lacking before it, for the Loop of line {self.loops[-1]}"
+        if name == "endloop" and not self.loops:
             return "no Loop is open"
-        if name == "Loop" and self.depth == 9:
+        if name == "Loop" and len(self.loops) == 9:
             return "at most nine Loops are open"
         return None
 
@@ -462,28 +474,14 @@ class Job:
         return next((number + self.first + 1 for number, b, p in self.at if (b, p) == (block, path)), None)
 
 
-def reason(page, name, line):
-    """More of a cause, by the line of the instruction that has it."""
-    word, *fields = line.split(" ")
-    notes = page.notes.get(word, "")
-    operator = fields[0] if fields else ""
-    if name == "MissingFacility" and (flags := re.search(r"flags: (.*)", notes)):
-        parts = re.findall(r"`(\w+)`(?: for ((?:\w+, )*\w+)(?:, |$))?", flags[1])
-        flag = next((flag for flag, operators in parts if not operators or operator in operators.split(", ")), None)
-        return [f"the line `flags` has to name {flag}"] if flag else []
-    if name == "BadOperator" and (listed := re.search(r"operators: ([^;]*)", notes)) and operator not in listed[1].split(", "):
-        return [f"{word} takes {listed[1]}"]
-    return []
-
-
 def place_of(page, name, job, count):
     """What is said of the instruction that is the last of so many."""
     if not count:
-        return ["no instruction has it: the frame, a constant, or the count of blocks and constants"]
+        return ["no instruction has it: the frame, a constant, or the count of blocks and constants", reasons.of_job(name, job.lines)]
     number, block, path = job.at[count - 1]
     line = job.lines[number]
     said = f"block {block}, instruction {path} (both counted from 0), line {number + job.first + 1}: {line[:200]}"
-    return [said] + reason(page, name, line)
+    return [said, reasons.of_instruction(page, name, line, job.lines)]
 
 
 def ask(command, text):
@@ -591,6 +589,8 @@ def explained(answer, path, words, is_refused, program):
         return of_plan(answer, lines)
     if answer.startswith("bundle "):
         return of_bundle(page, answer, lines, program)
+    if answer == "link UndefinedSymbol":
+        return [reasons.undefined_symbol(lines)]
     if answer.startswith("refusal "):
         return told_place(page, answer.split(" ")[1], Job(lines), answer) or []
     if answer.startswith("refused ") and is_refused:

@@ -1,5 +1,8 @@
 #!/usr/bin/env python3
-"""Prints the tables OFFSETS of s390x_lines/src/name.rt and ALL_NAMES of its all_names.rt, for the names of lines.
+"""Compares the tables OFFSETS of s390x_lines/src/name.rt and ALL_NAMES of its all_names.rt with the names of lines; run by hand.
+
+    checks/name_slots.py            prints whether they are these names' tables, and ends with 1 where not
+    checks/name_slots.py --print    prints the tables for these names
 
 Each name has a slot of its own: the number that its letters tell, and an offset by how many they are, below 512.
 Offsets that serve are kept, so that mostly a new name takes one blank of ALL_NAMES. The check proves the tables
@@ -7,6 +10,7 @@ right; where this program finds no offsets, another multiplier than 5 has to be 
 """
 import pathlib
 import re
+import sys
 from collections import defaultdict
 
 SLOTS = 512
@@ -68,16 +72,30 @@ def offsets(names):
 
 
 def rows(items, width):
-    for at in range(0, len(items), width):
-        print("    " + " ".join(f"{item}," for item in items[at:at + width]))
+    return "".join("    " + " ".join(f"{item}," for item in items[at:at + width]) + "\n" for at in range(0, len(items), width))
 
 
-names = written_names()
-shifts = offsets(names)
-slots = ["EndLine"] * SLOTS
-for text, name in names.items():
-    slots[(shifts[len(text)] + mix(text)) % SLOTS] = name
-print("OFFSETS")
-rows(shifts, 16)
-print("ALL_NAMES")
-rows(slots, 4)
+def tables():
+    """The lines of both tables, each with the file in which it stands."""
+    names = written_names()
+    shifts = offsets(names)
+    slots = ["EndLine"] * SLOTS
+    for text, name in names.items():
+        slots[(shifts[len(text)] + mix(text)) % SLOTS] = name
+    return {"OFFSETS": ("name.rt", rows(shifts, 16)), "ALL_NAMES": ("all_names.rt", rows(slots, 4))}
+
+
+def main():
+    differences = []
+    for table, (file, lines) in tables().items():
+        if "--print" in sys.argv[1:]:
+            print(f"{table}\n{lines}", end="")
+        elif f"= [\n{lines}];" not in (SOURCES / file).read_text():
+            differences.append(f"{table} of s390x_lines/src/{file} isn't the table of these names: checks/name_slots.py --print")
+    if "--print" not in sys.argv[1:]:
+        print("\n".join(differences or ["no difference"]))
+    return 1 if differences else 0
+
+
+if __name__ == "__main__":
+    sys.exit(main())

@@ -89,7 +89,7 @@ class Comparison:
         self.names = row_names()
         self.folder = folder
         self.counts = collections.Counter()
-        self.lacking, self.breaking = collections.Counter(), collections.Counter()
+        self.lacking, self.breaking, self.uncomputed = collections.Counter(), collections.Counter(), collections.Counter()
         self.rows = set()
 
     def judge(self, job, image_answer, run_answer):
@@ -98,8 +98,11 @@ class Comparison:
             if status != 0:
                 return f"refused ({text.strip()})", []
         image, told = bytes.fromhex(image_answer[1].strip()), program.Told(run_answer[1])
-        if told.kind in ("Limit", "NoRow"):
-            return f"which the machine ends by {told.kind}", []
+        if told.kind == "NoRow":
+            self.uncomputed[self.row_with_size(image, told.place - CODE_BASE)[1]] += 1
+            return "that reach a row whose result the machine leaves free or doesn't compute", []
+        if told.kind == "Limit":
+            return f"which don't end in {MOST_STEPS} steps", []
         try:
             emulated = self.emulate(job, image)
         except emulator.Broken:
@@ -121,10 +124,16 @@ class Comparison:
         offset = emulated.place - CODE_BASE
         if emulated.kind not in ("Operation", "Specification") or not 0 <= offset < len(image):
             return None
-        row, size = row_at(self.names, image[offset:offset + 6]), image[offset + 4] >> 4 if offset + 4 < len(image) else 0
+        row, sized = self.row_with_size(image, offset)
         if row in LACKING:
             return row
-        return f"{row} with elements of {8 << size} bits" if size in LACKING_SIZES.get(row, ()) else None
+        return sized if row in LACKING_SIZES and image[offset + 4] >> 4 in LACKING_SIZES[row] else None
+
+    def row_with_size(self, image, offset):
+        """The mnemonic of the row at an offset, and that with the size of its elements, where it is one on vectors."""
+        code = image[offset:offset + 6]
+        row = row_at(self.names, code)
+        return row, f"{row} with elements of {8 << (code[4] >> 4)} bits" if len(code) == 6 and code[0] == 0xe7 else row
 
     def emulate(self, job, image):
         return emulator.run(CODE_BASE, image, job.general, job.vector, job.regions, self.folder)
@@ -185,6 +194,8 @@ def report(comparison, words):
         print(f"the emulator lacks {row}: {count} functions")
     for row, count in sorted(comparison.breaking.items()):
         print(f"the emulator breaks down at {row}: {count} functions")
+    for row, count in sorted(comparison.uncomputed.items()):
+        print(f"the machine doesn't compute {row}: {count} functions")
     print(f"{len(comparison.rows)} of the {len(comparison.names)} machine rows stand in functions that are equal")
     if words.rows:
         print("not among them: " + " ".join(sorted(set(comparison.names.values()) - comparison.rows)))

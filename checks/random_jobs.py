@@ -201,6 +201,10 @@ VecRR VECTOR1NEW X V
 VecIntCmp VECTORCMPNEW X V V
 VecIntCmpS VECTORCMPNEW X V V
 VecIntEltCmp ELEMENTCMP V V
+""".split("\n")[1:-1]
+
+# Instructions that have rows on float registers, which leave the right half of the vector register free.
+FLOATS = """
 VecLoadLaneUndef LANES X M LANE
 FpuMove64 X V
 """.split("\n")[1:-1]
@@ -241,8 +245,9 @@ CHOICES = {
     "VECTOR2": sized(["Add", "Sub"], ALL_LANES) + ["Add128Cout", "Sub128Cout"] + sized(["Mul", "UMulHi", "SMulHi", "UMulEven", "SMulEven", "UMulOdd", "SMulOdd"], LANES[:3])
                + sized(["UMax", "SMax", "UMin", "SMin", "UAvg", "SAvg"], LANES)
                + sized(["And", "Orr", "Xor", "NotAnd", "NotOrr", "NotXor", "AndNot", "OrrNot", "BitPermute"], ["128"])
-               + sized(["LShLByByte", "LShRByByte", "AShRByByte", "LShLByBit", "LShRByBit", "AShRByBit"], ["128"])
+               + sized(["LShLByByte", "LShRByByte", "AShRByByte"], ["128"])
                + sized(["Pack", "PackUSat", "PackSSat"], LANES[1:]) + sized(["MergeLow", "MergeHigh"], LANES),
+    "BYBITS": sized(["LShLByBit", "LShRByBit", "AShRByBit"], ["128"]),
     "VECTOR2NEW": sized(["Mul", "UMulHi", "SMulHi"], ["64x2", "128"]) + sized(["UMulEven", "SMulEven", "UMulOdd", "SMulOdd"], ["64x2"])
                   + sized(["UDiv", "SDiv", "URem", "SRem"], ["32x4", "64x2", "128"]) + sized(["UMax", "SMax", "UMin", "SMin", "UAvg", "SAvg"], ["128"]),
     "VECTOR1": sized(["Abs", "Neg", "Popcnt", "Clz", "Ctz"], LANES) + sized(["UnpackULow", "UnpackUHigh", "UnpackSLow", "UnpackSHigh"], LANES[:3]),
@@ -486,7 +491,7 @@ class RandomJob:
 
     def heading(self):
         flags = "flags mie3 mie4 vxrs_ext2 vxrs_ext3" + ("" if self.is_relative else " norel")
-        lines = [flags, f"frame SystemV {' '.join(map(str, self.sizes))} - 0"]
+        lines = [flags] + ([f"frame SystemV {' '.join(map(str, self.sizes))} - 0"] if any(self.sizes) else [])
         for _ in range(self.constants):
             lines.append(f"const 8 {self.rng.randbytes(64).hex()}")
         return lines + [f"symbol u1 {SYMBOL + MIDDLE}", f"symbol u2 {CALLEE}"]
@@ -527,6 +532,8 @@ class RandomJob:
                 lines += self.call()
             elif kind < 9:
                 lines += self.lane_by_register()
+            elif kind < 10:
+                lines += self.rng.choice([self.float_register, self.shift_by_bits])()
             else:
                 lines.append(self.words.line(self.rng.choice(self.instructions)))
         return lines
@@ -540,6 +547,16 @@ class RandomJob:
         moved = self.rng.choice([f"VecExtractLane {size} {self.words.word_T()} {target} {lane} %r8", f"VecInsertLaneUndef {size} {target} {source} {lane} %r8",
                                  f"VecInsertLane {size} {target} {target} {source} {lane} %r8"])
         return [f"Mov64SImm16 %r8 {added}", moved]
+
+    def float_register(self):
+        """An instruction on a float register, and one that sets the right half of its vector register."""
+        line = self.words.line(self.rng.choice(FLOATS))
+        return [line, self.words.line("VecInsertLaneImm 64 W W I16 1")]
+
+    def shift_by_bits(self):
+        """A shift by bits, behind what makes the bytes of its amount agree: else the result is free."""
+        amount = self.words.line("VecReplicateLane 8 X V U4")
+        return [amount, self.words.line(f"VecRRR BYBITS X V {self.words.vector}")]
 
     def loop(self, counters):
         """A loop that goes round a few times, maybe around another one: its last member counts down, and sets the code that goes on."""

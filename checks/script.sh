@@ -34,7 +34,7 @@ run() {
 copy=$room/copy
 mkdir -p "$copy/crates/s390x/out" "$copy/checks" "$copy/docs"
 cp "$root/s390x" "$root/crates.txt" "$root/README.md" "$copy/"
-cp "$root/checks/explain.py" "$copy/checks/"
+cp "$root/checks/explain.py" "$root/checks/reasons.py" "$copy/checks/"
 cp "$root/docs/JOBS.md" "$root/docs/gate-seconds.tsv" "$copy/docs/"
 cat > "$copy/crates/s390x/out/s390x" << 'END'
 #!/usr/bin/env bash
@@ -113,9 +113,10 @@ run image 4096
 want "the second program's place" 4 "block 0, instruction 0 (both counted from 0), line 2: Mov64 %r2 %r3"
 rm -r "$copy/crates/s390x_binary"
 answers "2 usage"
+grep -v '^s390x_binary:' "$root/crates.txt" > "$copy/crates.txt"
 run refusal
 want "no second program" 2 "refusal is no command"
-echo "s390x_binary:" >> "$copy/crates.txt"
+cp "$root/crates.txt" "$copy/"
 mkdir -p "$copy/crates/s390x_binary/out"
 cp "$copy/crates/s390x/out/s390x" "$copy/crates/s390x_binary/out/s390x_binary"
 : > "$copy/crates/s390x_binary/out/where"
@@ -129,7 +130,33 @@ echo "2 usage" > "$copy/crates/s390x_binary/out/answer"
 run verify 0x1000
 want "the words of verify" 2 "in decimal it is 4096"
 rm -r "$copy/crates/s390x_binary"
-cp "$root/crates.txt" "$copy/"
+
+# The stand-in refuses one instruction, and the script says why.
+why() {
+    printf "${5-}block\n$2\nend\n" > "$room/input"
+    answers "4 refused $3" "${2%% *}"
+    run image 4096
+    want "why: $1" 4 "$4"
+}
+why virtual 'Mov64 %%r2 %%i3' BadRegister "%i3 is virtual"
+why reuse 'AluRSImm16 Add64 %%r2 %%r3 1' BadRegister "ri is %r3, and has to be %r2"
+why "low half" 'UMulWide %%r2/%%r3 %%r2 %%r6' BadRegister "ri is %r2, and has to be %r3"
+why pair 'SMulWide %%r2/%%r4 %%r3 %%r4' BadRegister "rd %r2/%r4 is no pair"
+why class 'VecRRR Add64x2 %%v1 %%v2 %%r3' BadRegister "rm is a vector register here"
+why "class of an element" 'VecExtractLane 64 %%v1 %%v2 0 %%r0' BadRegister "rd is a general register here"
+why base 'Load64 %%r2 BXD12(%%v3,%%r0,0,u)' BadRegister "the base and the index are general registers"
+why way 'Ret %%r0' BadRegister "link is %r0"
+why lane 'VecInsertLane 64 %%v1 %%v1 %%r2 2 %%r0' BadOperator "lane_imm is 2, and has a row for 0 to 1"
+why part 'AluRUImm16Shifted And32 %%r2 %%r2 5:2' BadOperator "the part is from 0 to 1"
+why block 'JTSequence %%r2 0 2 [0,5]' UnboundLabel "there is no block 5"
+why handler 'Call %%r14 u1 [] [] [] 0 SystemV SystemV 0[*:2] false -' UnboundLabel "there is no block 2"
+why constant 'Load64 %%r2 Constant(1)' UnboundLabel "there is no constant 1" 'const 8 0001020304050607\n'
+why alignment 'Load64 %%r2 Constant(0)' BadAlignment "its constant has the alignment 1" 'const 1 0001020304050607\n'
+why stack 'AllocateArgs 16' BadStackState "in the same block that takes as many bytes"
+printf 'block\nCall %%r14 u1 [] [] [] 0 SystemV SystemV - false -\nend\n' > "$room/input"
+answers "5 link UndefinedSymbol"
+run image 4096
+want "symbol" 5 "line 2 names u1, and needs a line"
 
 # How it ends
 for line in "6 read fault|standard input can't be read" "7|doesn't take what is written" "8 input too long|more than 16777216 bytes" "9 no memory|not enough memory"; do
