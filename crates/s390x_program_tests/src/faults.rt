@@ -81,6 +81,48 @@ impl io::Write for Broken {
     }
 }
 
+/// A reader and a writer whose first calls a signal interrupts, as many of them.
+#[derive(Drop)]
+struct Interrupted {
+    calls: u32,
+    rest: Vec<u8>,
+}
+
+impl Interrupted {
+    // Whether this call is interrupted.
+    fn is_interrupted(&mut self) -> bool {
+        let left = self.calls;
+        self.calls = left.saturating_sub(1);
+        left > 0
+    }
+}
+
+impl io::Read for Interrupted {
+    fn read(&mut self, buf: &mut [u8]) -> io::Result<usize> {
+        if self.is_interrupted() {
+            return Err(Error::from(ErrorKind::Interrupted));
+        }
+        let count = self.rest.len().min(buf.len());
+        buf[..count].copy_from_slice(&self.rest[..count]);
+        self.rest.clear();
+        Ok(count)
+    }
+}
+
+impl io::Write for Interrupted {
+    fn write(&mut self, piece: &[u8]) -> io::Result<usize> {
+        if self.is_interrupted() {
+            return Err(Error::from(ErrorKind::Interrupted));
+        }
+        self.rest.extend_from_slice(piece)?;
+        Ok(piece.len())
+    }
+
+    fn flush(&mut self) -> io::Result<()> {
+        Ok(())
+    }
+}
+
 /// A writer that takes nothing, and says so.
 #[derive(Drop)]
 struct Full;
@@ -144,5 +186,30 @@ fn a_writer_that_fails_or_takes_nothing_is_a_write_fault(rt: HostRuntime) -> Res
         &mut StdSink::new(Full),
     );
     assert_eq!(rt; status, Status::WriteFault);
+    Ok(())
+}
+
+// What `image 4096` ends with over a reader and a writer whose first calls are interrupted.
+fn interrupted(rt: &HostRuntime, reads: u32, writes: u32) -> Result<Status, Fail> {
+    let alloc = rt.alloc();
+    let mut words = Vec::new(alloc);
+    words.push(String::from_str(alloc, "image")?)?;
+    words.push(String::from_str(alloc, "4096")?)?;
+    let mut source = StdSource::new(Interrupted {
+        calls: reads,
+        rest: Vec::from_slice(alloc, ADD.as_bytes())?,
+    });
+    let mut sink = StdSink::new(Interrupted {
+        calls: writes,
+        rest: Vec::new(alloc),
+    });
+    Ok(run(alloc, words.as_slice(), &mut source, &mut sink))
+}
+
+#[test]
+fn an_interrupted_call_is_made_again(rt: HostRuntime) -> Result<(), Fail> {
+    assert_eq!(rt; interrupted(&rt, 15, 15)?, Status::Ok);
+    assert_eq!(rt; interrupted(&rt, 16, 0)?, Status::ReadFault);
+    assert_eq!(rt; interrupted(&rt, 0, 16)?, Status::WriteFault);
     Ok(())
 }
