@@ -1,4 +1,5 @@
 pub mod Parts
+pub mod Kept
 pub mod Pieces
 pub mod Replying
 pub mod Answering

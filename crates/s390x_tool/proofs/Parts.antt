@@ -1,5 +1,5 @@
 -- Parts of what a source has, which were read before the reading ended.
-use Rattle.std.proofs.Common.{◌≡◌, ℕ, ◌+◌, ◌≤◌, List, [], ◌++◌, length, take, arith, length-append, length-take}
+use Rattle.std.proofs.Common.{◌≡◌, ℕ, ◌+◌, ◌-◌, ◌≤◌, List, [], ◌++◌, length, take, arith, length-append, length-take}
 use Rattle.std.specs.Prelude.{Option}
 use Rattle.std.specs.Io.KnownBytes.{Consumes, Keeps}
 use Rattle.std.proofs.KnownBytes.{Consumes-nil, Consumes-kept, Consumes-trans}
@@ -23,6 +23,12 @@ part_and_more before here after taken room most consumed part few = record {
   consumed = Consumes-trans before here after taken part.taken consumed part.consumed;
   few = let size = part.few in omega (arith, length-append taken part.taken);
 }
+
+-- what was read before a last part of a piece's front
+pub part_of_front : (before here after : Option (List ℕ)) (taken piece : List ℕ) (room most : ℕ) → Consumes before here taken
+    → IsPartRead here after (length (take (room - 0) piece)) → length taken + room ≤ most → IsPartRead before after most
+part_of_front before here after taken piece room most consumed part few =
+    part_and_more before here after taken (length (take (room - 0) piece)) most consumed part (omega (arith, length-take (room - 0) piece))
 
 -- one read gave the front of a buffer
 pub front_read : (before after : Option (List ℕ)) (count : ℕ) (buf : List ℕ) → Consumes before after (take count buf) → IsPartRead before after (length buf)

@@ -52,7 +52,7 @@ fn make_piece(alloc: Global) -> Result<Vec<u8>, InputError>
 }
 
 // Reads the source to its end, each time as much as the piece has room for.
-#[tactic(auto, using(crate::proofs::Parts::part_kept, crate::proofs::Parts::part_and_more))]
+#[tactic(auto, using(crate::proofs::Parts::part_kept, crate::proofs::Parts::part_of_front))]
 fn read_by_pieces<S: Source>(
     alloc: Global,
     source: &mut S,

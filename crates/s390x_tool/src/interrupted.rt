@@ -9,6 +9,7 @@ use std::io::{ErrorKind, Read, Write};
 const MOST_TRIES: u32 = 16;
 
 /// Reads once, and again where a signal interrupts it.
+#[tactic(auto, using(crate::proofs::Kept::kept_so_far, crate::proofs::Kept::kept_again, crate::proofs::Kept::read_after))]
 pub fn read_again<R: Read>(input: &mut R, buf: &mut [u8]) -> io::Result<usize>
     ensures bound { ReadsAtMost result buf.new }
     ensures bytes { ReadConsumes (R.remaining input.old) (R.remaining input.new) result buf.new }
@@ -23,6 +24,7 @@ pub fn read_again<R: Read>(input: &mut R, buf: &mut [u8]) -> io::Result<usize>
 }
 
 /// Writes once, and again where a signal interrupts it.
+#[tactic(auto, using(crate::proofs::Kept::kept_so_far, crate::proofs::Kept::kept_again, crate::proofs::Kept::write_after))]
 pub fn write_again<W: Write>(output: &mut W, piece: &[u8]) -> io::Result<usize>
     ensures bound { WritesAtMost result piece.now }
     ensures bytes { WriteAppends (W.contents output.old) (W.contents output.new) result piece.now }
