@@ -26,9 +26,9 @@ part_and_more before here after taken room most consumed part few = record {
 
 -- what was read before a last part of a piece's front
 pub part_of_front : (before here after : Option (List ℕ)) (taken piece : List ℕ) (room most : ℕ) → Consumes before here taken
-    → IsPartRead here after (length (take (room - 0) piece)) → length taken + room ≤ most → IsPartRead before after most
+    → IsPartRead here after (length (take room piece)) → length taken + room ≤ most → IsPartRead before after most
 part_of_front before here after taken piece room most consumed part few =
-    part_and_more before here after taken (length (take (room - 0) piece)) most consumed part (omega (arith, length-take (room - 0) piece))
+    part_and_more before here after taken (length (take room piece)) most consumed part (omega (arith, length-take room piece))
 
 -- one read gave the front of a buffer
 pub front_read : (before after : Option (List ℕ)) (count : ℕ) (buf : List ℕ) → Consumes before after (take count buf) → IsPartRead before after (length buf)
