@@ -1,5 +1,5 @@
 -- Reads and writes behind others that failed.
-use Rattle.std.proofs.Common.{◌≡◌, ℕ, List, None, Some, Result, Ok, Err, sym, ◌∙◌, take, ap}
+use Rattle.std.proofs.Common.{ℕ, List, None, Some, Result, Ok, Err, sym, ◌∙◌, take, ap}
 use Rattle.std.specs.Prelude.{Option, ◌++◌}
 use Rattle.std.specs.Io.KnownBytes.{Appends, Consumes, Keeps, ReadConsumes, WriteAppends}
 use Rattle.std.proofs.KnownBytes.{Keeps-refl, Keeps-trans}
