@@ -23,3 +23,6 @@ pub mod Allocating
 pub mod Planning
 pub mod ReturnJob
 pub mod Example
+pub mod ReturnLines
+pub mod PlanExample
+pub mod JobExample
