@@ -1,6 +1,5 @@
 -- What an instruction with an allocator's registers leaves of a buffer and of the state of emission, or why it isn't emitted.
-use Rattle.std.specs.Prelude.{◌≡◌, ℕ, List, length, Option, Some, None, Ok, Err, ◌⊎◌, IsTrue}
-use Rattle.std.specs.List.{All}
+use Rattle.std.specs.Prelude.{◌≡◌, List, length, Option, Some, None, Ok, Err, ◌⊎◌, IsTrue}
 use Rattle.s390x_base.specs.declared.error.EmitError.{EmitError}
 use Rattle.s390x_base.specs.declared.error.EmitError.TheVariants.{NoMemory}
 use Rattle.s390x_base.specs.declared.regs.Reg.{Reg}
@@ -9,15 +8,12 @@ use Rattle.s390x_inst.specs.Emission.{Emission}
 use Rattle.s390x_inst.specs.declared.inst.Inst.{Inst}
 use Rattle.s390x_inst.specs.declared.state.IsaFlags.{IsaFlags}
 use Rattle.s390x_typed_steps.specs.Causes.{declared_in}
-use Rattle.s390x_typed_steps.specs.Resolved.{resolved_instruction}
 use Rattle.s390x_typed_steps.specs.Stack.{state_after}
-use Rattle.s390x_typed_steps.specs.Steps.{steps_of}
 use Rattle.s390x_operands.specs.Meets.{Meets}
 use Rattle.s390x_operands.specs.Operands.{operands}
 use Rattle.s390x_assign.specs.Assignments.{IsAssignAnswer, replaced}
 use Rattle.s390x_assign_laws.specs.Allocatable.{IsAllocatable, IsAssigned, Place, Spares}
-use Rattle.s390x_output_laws.specs.Machine.{MachineKeepsOthers}
-use Rattle.s390x_output_laws.specs.Outputs.{IsStepOf, StepsKeepOthers, changeable}
+use Rattle.s390x_output_laws.specs.Emitted.{ChangesOnlyOutputs}
 use Rattle.s390x_emit_int.specs.Emission.{own_fragments}
 use Rattle.s390x_emit_int.specs.Fragments.{apply_all}
 use Rattle.s390x_emit_int.specs.Instruction.{emit_cause}
@@ -28,6 +24,12 @@ use Rattle.s390x_assigned_emission.specs.declared.emitting.AssignedError.TheVari
 -- where a machine with these flags has the next instruction of a buffer, outside every loop
 abbrev pub place_in : IsaFlags → Emission → BufferState → Place
 place_in flags before sink = record { flags = flags; declared = declared_in sink; depth = 0; state = before }
+
+-- an allocator may give an instruction these registers there: it is allocatable, and they meet its constraints, and no virtual operand gets `%r0`, `%r1` or `%r15`
+pub record MayBeGiven (flags : IsaFlags) (before : Emission) (sink : BufferState) (i : Inst) (registers : List Reg) : Type 0 where
+  pub allocatable : IsAllocatable (place_in flags before sink) i
+  pub meet : Meets (operands i) registers
+  pub spare : Spares (operands i) registers
 
 -- one instruction is another with these registers, as `assign` answers it
 pub record IsGiven (i : Inst) (registers : List Reg) (j : Inst) : Type 0 where
@@ -59,18 +61,8 @@ abbrev pub IsNotEmitted : IsaFlags → (before : Emission) → (sink : BufferSta
 IsNotEmitted flags before sink i registers after behind (Assign error) = IsAssignAnswer i registers (Err error) × (behind ≡ sink) × (after ≡ before)
 IsNotEmitted flags before sink i registers after behind (Emit error) = IsRefused flags before sink i registers behind error × (after ≡ before)
 
--- What was appended changes nothing but what it reported: all its steps are those of the instruction with these registers, and each leaves all access registers, and
--- all general and vector registers but those that the outputs got, the range of a multiple load, and `%r1` where that is reported. So does every machine run
--- from such a step, under every list of others' writes, wherever code stands that emission lets pass
-pub record ChangesOnlyOutputs (flags : IsaFlags) (before : Emission) (sink : BufferState) (i : Inst) (registers : List Reg) (after : Emission) (behind : BufferState) : Type 0 where
+-- an instruction with these registers was appended to a buffer, and changes nothing but what it reported: the registers that its outputs got, the range of a multiple
+-- load, and `%r1` where that is reported
+pub record IsEmittedForOutputs (flags : IsaFlags) (before : Emission) (sink : BufferState) (i : Inst) (registers : List Reg) (after : Emission) (behind : BufferState) : Type 0 where
   pub emitted : IsEmitted flags before sink i registers after behind
-  pub steps : (k end : ℕ) → All (IsStepOf (resolved_instruction before emitted.instruction)) (steps_of k end (member_of flags before emitted.instruction))
-  pub typed : StepsKeepOthers (resolved_instruction before emitted.instruction) (changeable i registers)
-  pub machine : MachineKeepsOthers (resolved_instruction before emitted.instruction) (changeable i registers)
-
--- so it is of every instruction that is allocatable there and was appended with registers that meet its constraints and are spared
-abbrev pub AppendedChangesOnlyOutputs : Type 0
-AppendedChangesOnlyOutputs =
-    (flags : IsaFlags) (before : Emission) (sink : BufferState) (i : Inst) (registers : List Reg) (after : Emission) (behind : BufferState) →
-    IsAllocatable (place_in flags before sink) i → Meets (operands i) registers → Spares (operands i) registers →
-    IsEmitted flags before sink i registers after behind → ChangesOnlyOutputs flags before sink i registers after behind
+  pub changes : ChangesOnlyOutputs (place_in flags before sink) i registers emitted.instruction

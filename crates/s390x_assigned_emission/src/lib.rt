@@ -2,7 +2,5 @@
 #![tactic(auto)]
 
 pub mod emitting;
-pub mod law;
 
 pub use emitting::{AssignedError, emit_assigned};
-pub use law::appended_instructions_change_only_outputs;
