@@ -1,7 +1,7 @@
 //! Reads and writes that fail at each call in turn, with a sink that takes one byte at a time; readers and writers as sources and sinks.
 
-use crate::runs::{Ends, expect};
-use s390x_tool::{BytesSink, Status, StdSink, StdSource, run};
+use crate::runs::{Ends, expect, words_of};
+use s390x_tool::{BytesSink, BytesSource, Source, Status, StdSink, StdSource, run};
 use std::io;
 use std::io::{Error, ErrorKind};
 use std::test::Fail;
@@ -59,6 +59,25 @@ fn a_failed_write_of_a_refusal_is_a_write_fault(rt: HostRuntime) -> Result<(), F
         Ends::slow(1, 3),
         (Status::WriteFault, "re"),
     )
+}
+
+/// Nothing is read behind a read that failed: the source has all left that it had.
+#[test]
+fn a_failed_read_is_the_last(rt: HostRuntime) -> Result<(), Fail> {
+    let alloc = rt.alloc();
+    let words = words_of(alloc, "image 4096")?;
+    let failing_reads = Vec::from_slice(alloc, &[1])?;
+    let mut source = BytesSource::new(Vec::from_slice(alloc, ADD.as_bytes())?, failing_reads);
+    let Ok(mut sink) = BytesSink::new(alloc, 100, Vec::new(alloc), 100) else {
+        return Err(Fail::from("no memory"));
+    };
+    let status = run(alloc, words.as_slice(), &mut source, &mut sink);
+    assert_eq!(rt; status, Status::ReadFault);
+    let Ok(count) = source.read(&mut [0; 100]) else {
+        return Err(Fail::from("read fault"));
+    };
+    assert_eq!(rt; count, ADD.len());
+    Ok(())
 }
 
 /// A reader and a writer of which each call fails.
@@ -192,9 +211,7 @@ fn a_writer_that_fails_or_takes_nothing_is_a_write_fault(rt: HostRuntime) -> Res
 // What `image 4096` ends with over a reader and a writer whose first calls are interrupted.
 fn interrupted(rt: &HostRuntime, reads: u32, writes: u32) -> Result<Status, Fail> {
     let alloc = rt.alloc();
-    let mut words = Vec::new(alloc);
-    words.push(String::from_str(alloc, "image")?)?;
-    words.push(String::from_str(alloc, "4096")?)?;
+    let words = words_of(alloc, "image 4096")?;
     let mut source = StdSource::new(Interrupted {
         calls: reads,
         rest: Vec::from_slice(alloc, ADD.as_bytes())?,
