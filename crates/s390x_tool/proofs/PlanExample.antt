@@ -37,11 +37,11 @@ planned = record {
 }
 
 is_planned : IsPlanned planned
-unfolding vec plain_job job planned
+unfolding vec planned
 is_planned = (is_job, (tt, (tt, (tt, (tt, tt)))))
 
 planned_spelled : text_of_planned planned ≡ joined one_step
-unfolding vec plain_job job planned
+unfolding vec planned
 planned_spelled = ap (λ t. t ++ joined (drop 3 one_step)) job_text
 
 -- the one block of the plan: no pair, and one step without registers
@@ -100,7 +100,7 @@ no_fault layout b p regs insts entry edits none =
     subst IsOk (sym (ends ∙ pairs)) refl
 
 faultless : (p : PlannedJob) → IsPlanned p → text_of_planned p ≡ joined one_step → IsOk (checked p.job.state.layout p.job.function.blocks.items p.plan.blocks.items)
-unfolding vec plain_job job planned
+unfolding vec planned
 faultless p is e =
     let same = one_planned p planned is is_planned (e ∙ sym planned_spelled) in
     let block = same_return p.job is.0 same.0 in
