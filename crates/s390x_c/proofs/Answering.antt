@@ -7,19 +7,21 @@ use Rattle.s390x_tables.specs.declared.buffers.Buffers.{Buffers}
 use Rattle.s390x_tables.specs.declared.sizes.Sizes.{Sizes}
 use Rattle.s390x_c.specs.Emit.{EmitsJobTo, EmitsTo}
 use Rattle.s390x_c.specs.Image.{LinksJobTo, LinksTo}
-use Rattle.s390x_c.specs.Input.{IsTextOf}
-use Rattle.s390x_c.specs.declared.reason.Reason.{Reason}
-use Rattle.s390x_c.specs.declared.status.Status.{Status}
-use Rattle.s390x_c.specs.declared.status.Status.TheVariants as status
+use Rattle.s390x_calls.specs.Input.{IsTextOf}
+use Rattle.s390x_calls.specs.declared.reason.Reason.{Reason}
+use Rattle.s390x_calls.specs.declared.status.Status.{Status}
+use Rattle.s390x_calls.specs.declared.status.Status.TheVariants as status
 
 pub emitted : (input : List ℕ) (j : Job) (out out' : Buffers) (sizes sizes' : Sizes) (reason reason' : Reason) (s : Status)
     → IsTextOf j input → EmitsJobTo j out out' sizes sizes' reason reason' s → EmitsTo input out out' sizes sizes' reason reason' s
 emitted input j out out' sizes sizes' reason reason' status.Done text ends = record { job = j; text = text; ends = ends }
 emitted input j out out' sizes sizes' reason reason' status.Syntax text ends = absurd ends
 emitted input j out out' sizes sizes' reason reason' status.Refused text ends = record { job = j; text = text; ends = ends }
-emitted input j out out' sizes sizes' reason reason' status.LinkRefused text ends = record { job = j; text = text; ends = ends }
+emitted input j out out' sizes sizes' reason reason' status.LinkRefused text ends = absurd ends
 emitted input j out out' sizes sizes' reason reason' status.TooLong text ends = absurd ends
 emitted input j out out' sizes sizes' reason reason' status.NoMemory text ends = ends
+emitted input j out out' sizes sizes' reason reason' status.PlanRefused text ends = absurd ends
+emitted input j out out' sizes sizes' reason reason' status.BundleRefused text ends = absurd ends
 emitted input j out out' sizes sizes' reason reason' status.TooSmall text ends = record { job = j; text = text; ends = ends }
 
 pub linked : (base : ℕ) (input : List ℕ) (j : Job) (out out' : List ℕ) (count count' : ℕ) (reason reason' : Reason) (s : Status)
@@ -30,6 +32,8 @@ linked base input j out out' count count' reason reason' status.Refused text end
 linked base input j out out' count count' reason reason' status.LinkRefused text ends = record { job = j; text = text; ends = ends }
 linked base input j out out' count count' reason reason' status.TooLong text ends = absurd ends
 linked base input j out out' count count' reason reason' status.NoMemory text ends = ends
+linked base input j out out' count count' reason reason' status.PlanRefused text ends = absurd ends
+linked base input j out out' count count' reason reason' status.BundleRefused text ends = absurd ends
 linked base input j out out' count count' reason reason' status.TooSmall text ends = record { job = j; text = text; ends = ends }
 
 -- a table's room is tested
