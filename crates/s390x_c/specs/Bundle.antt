@@ -68,7 +68,10 @@ abbrev pub BundlesFunctionsTo : (base : ℕ) → List NamedJob → (out out' : L
 BundlesFunctionsTo base fs out out' count count' reason reason' status.Done = HoldsBundle base fs out out' count' × (reason' ≡ reason)
 BundlesFunctionsTo base fs out out' count count' reason reason' status.NoMemory = NoEntryIsWritten out out' count count' × (reason' ≡ reason)
 BundlesFunctionsTo base fs out out' count count' reason reason' status.TooSmall = HasNoRoomForBundle base fs out out' count' × (reason' ≡ reason)
-BundlesFunctionsTo base fs out out' count count' reason reason' s = IsUnbundled base fs reason' s × NoEntryIsWritten out out' count count'
+BundlesFunctionsTo base fs out out' count count' reason reason' status.Refused = IsUnbundled base fs reason' status.Refused × NoEntryIsWritten out out' count count'
+BundlesFunctionsTo base fs out out' count count' reason reason' status.LinkRefused = IsUnbundled base fs reason' status.LinkRefused × NoEntryIsWritten out out' count count'
+BundlesFunctionsTo base fs out out' count count' reason reason' status.BundleRefused = IsUnbundled base fs reason' status.BundleRefused × NoEntryIsWritten out out' count count'
+BundlesFunctionsTo base fs out out' count count' reason reason' s = ⊥
 
 -- the input is the text of functions, the only ones, and their joining ends so
 pub record BundlesTextTo (base : ℕ) (input out out' : List ℕ) (count count' : ℕ) (reason reason' : Reason) (s : Status) : Type 0 where
@@ -99,4 +102,7 @@ pub record IsBundleCall (base : ℕ) (input out out' : List ℕ) (count count' :
 -- how a call ends for functions without an image, which want of memory is too
 abbrev pub IsBundleRefusal : BundleError → (reason reason' : Reason) → Status → Type 0
 IsBundleRefusal error reason reason' status.NoMemory = (error ≡ cause.NoMemory) × (reason' ≡ reason)
-IsBundleRefusal error reason reason' s = (error ≢ cause.NoMemory) × (s ≡ status_of_bundle error) × (reason' ≡ reason_of_bundle error)
+IsBundleRefusal error reason reason' status.Refused = (error ≢ cause.NoMemory) × (status.Refused ≡ status_of_bundle error) × (reason' ≡ reason_of_bundle error)
+IsBundleRefusal error reason reason' status.LinkRefused = (error ≢ cause.NoMemory) × (status.LinkRefused ≡ status_of_bundle error) × (reason' ≡ reason_of_bundle error)
+IsBundleRefusal error reason reason' status.BundleRefused = (error ≢ cause.NoMemory) × (status.BundleRefused ≡ status_of_bundle error) × (reason' ≡ reason_of_bundle error)
+IsBundleRefusal error reason reason' s = ⊥

@@ -1,6 +1,6 @@
 //! The image of several functions that call each other by name.
 ghost use Rattle.std.specs.Prelude.{◌≡◌, IfOk, map};
-ghost use Rattle.s390x_c.specs.Bundle.{BundlesFunctionsTo, BundlesTo, IsBundleCall, IsBundleRefusal, member_of, reason_of_bundle, status_of_bundle};
+ghost use Rattle.s390x_c.specs.Bundle.{BundlesFunctionsTo, BundlesTo, IsBundleCall, IsBundleRefusal, member_of, reason_of_bundle};
 
 use s390x_bundle::{BundleError, Member, bundle};
 use s390x_bundle_text::{BundleTextError, NamedJob, read_bundle};
@@ -59,6 +59,7 @@ fn bundled(
 }
 
 // The image of these functions.
+#[tactic(auto, using(crate::proofs::Answering::bundle_refused))]
 fn image_of_functions(
     alloc: Global,
     functions: Vec<NamedJob>,
@@ -105,9 +106,17 @@ fn refusal(error: BundleError, reason: &mut Reason) -> Status
 {
     match error {
         BundleError::NoMemory => Status::NoMemory,
+        BundleError::Emit { .. } => {
+            *reason = reason_of(error);
+            Status::Refused
+        }
+        BundleError::Link { .. } => {
+            *reason = reason_of(error);
+            Status::LinkRefused
+        }
         error => {
             *reason = reason_of(error);
-            status_of(error)
+            Status::BundleRefused
         }
     }
 }
@@ -124,17 +133,5 @@ fn reason_of(error: BundleError) -> Reason
         BundleError::AddressTooHigh { name } => Reason::by_member(4, name.0),
         BundleError::Link { name, error } => Reason::by_member(error.number(), name.0),
         BundleError::NoMemory => Reason::by_member(0, 0),
-    }
-}
-
-// What refuses the functions: emission, linking, or their places.
-fn status_of(error: BundleError) -> Status
-    ensures { result ≡ status_of_bundle error }
-{
-    match error {
-        BundleError::Emit { .. } => Status::Refused,
-        BundleError::Link { .. } => Status::LinkRefused,
-        BundleError::NoMemory => Status::NoMemory,
-        _ => Status::BundleRefused,
     }
 }

@@ -59,6 +59,7 @@ fn emit(
 }
 
 // The code of this job's function.
+#[tactic(auto, using(crate::proofs::Answering::refusable, crate::proofs::Answering::emission_refused))]
 fn emit_job(
     alloc: Global,
     job: &Job,

@@ -64,6 +64,7 @@ fn image(
 }
 
 // The image of this job's function.
+#[tactic(auto, using(crate::proofs::Answering::may_refuse, crate::proofs::Answering::image_refused))]
 fn image_of_job(
     alloc: Global,
     job: &Job,
@@ -95,6 +96,7 @@ fn symbol_table(alloc: Global, lines: &[SymbolLine]) -> Result<SymbolTable, NoMe
 }
 
 // How the call ends for a function that has no image by this error.
+#[tactic(auto, using(crate::proofs::Answering::refusable))]
 fn refusal(alloc: Global, job: &Job, error: ImageError, reason: &mut Reason) -> Status
     requires { MayRefuse job.now error }
     ensures { IsRefusalOf job.now error reason.old reason.new result }

@@ -61,6 +61,7 @@ fn show(
 }
 
 // The texts of this job's instructions, where its function has a code.
+#[tactic(auto, using(crate::proofs::Answering::refusable, crate::proofs::Answering::listing_refused))]
 fn show_job(
     alloc: Global,
     job: &Job,

@@ -1,8 +1,15 @@
 -- How a call ends on an input, from how it ends on the job whose text that is.
-use Rattle.std.proofs.Common.{◌≡◌, ℕ, List}
+use Rattle.std.proofs.Common.{◌≡◌, ℕ, List, ◌⊎◌, inl, inr}
+use Rattle.s390x_alloc.specs.Blocks.{IsFault}
+use Rattle.s390x_alloc.specs.Checked.{checked}
+use Rattle.s390x_alloc.specs.declared.fault.PlanFault.{PlanFault}
 use Rattle.s390x_job.specs.declared.job.Job.{Job}
+use Rattle.s390x_plan_text.specs.Text.{IsPlannedOf}
+use Rattle.s390x_plan_text.specs.declared.planned_job.PlannedJob.{PlannedJob}
 use Rattle.s390x_calls.specs.Input.{IsTextOf}
 use Rattle.s390x_calls.specs.Operands.{ReportsJobTo, ReportsTo}
+use Rattle.s390x_calls.specs.Plans.{ChecksTo, IsFaultTold}
+use Rattle.s390x_calls.specs.declared.plan.PlanReason.{PlanReason}
 use Rattle.s390x_calls.specs.declared.operand_entries.OperandEntry.{OperandEntry}
 use Rattle.s390x_calls.specs.declared.reason.Reason.{Reason}
 use Rattle.s390x_calls.specs.declared.status.Status.{Status}
@@ -19,3 +26,17 @@ reported_text input j out out' count count' reason reason' status.NoMemory text 
 reported_text input j out out' count count' reason reason' status.PlanRefused text ends = absurd ends
 reported_text input j out out' count count' reason reason' status.BundleRefused text ends = absurd ends
 reported_text input j out out' count count' reason reason' status.TooSmall text ends = record { job = j; text = text; ends = ends }
+
+-- a plan's first fault is the answer
+pub fault_told : (input : List ℕ) (p : PlannedJob) (f : PlanFault) (reason reason' : PlanReason) (s : Status) → IsPlannedOf input p
+    → IsFault (checked p.job.state.layout p.job.function.blocks.items p.plan.blocks.items) f → IsFaultTold f reason reason' s → ChecksTo input reason reason' s
+fault_told input p f reason reason' status.Done is cause told = absurd told
+fault_told input p f reason reason' status.Syntax is cause told = absurd told
+fault_told input p f reason reason' status.Refused is cause told = absurd told
+fault_told input p f reason reason' status.LinkRefused is cause told = absurd told
+fault_told input p f reason reason' status.TooLong is cause told = absurd told
+fault_told input p f reason reason' status.NoMemory is cause told = told.1
+fault_told input p f reason reason' status.PlanRefused is (inl none) told = absurd (told.0 none)
+fault_told input p f reason reason' status.PlanRefused is (inr cause) told = record { planned = p; is = is; first = f; named = told.0; cause = cause; told = told.1 }
+fault_told input p f reason reason' status.BundleRefused is cause told = absurd told
+fault_told input p f reason reason' status.TooSmall is cause told = absurd told

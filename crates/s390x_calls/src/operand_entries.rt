@@ -159,12 +159,20 @@ fn real_entry(spot: Spot, kind: u32, preg: PReg) -> OperandEntry
     }
 }
 
+// Appends an entry.
+fn push(out: &mut Vec<OperandEntry>, entry: OperandEntry) -> Result<(), AllocError>
+    ensures { OnOk result (out.new.items ≡ out.old.items ++ entry ∷ []) }
+{
+    out.push(entry)?;
+    Ok(())
+}
+
 // Appends the entries of registers whose values are lost.
 fn put_lost(out: &mut Vec<OperandEntry>, spot: Spot, regs: &[PReg]) -> Result<(), AllocError>
     ensures { OnOk result (out.new.items ≡ out.old.items ++ map (lost_entry spot) regs.now) }
 {
     for preg in regs {
-        out.push(real_entry(spot, 3, *preg))?;
+        push(out, real_entry(spot, 3, *preg))?;
     }
     Ok(())
 }
@@ -184,15 +192,18 @@ fn put_item(
             constraint: place,
             kind,
             pos,
-        } => out.push(OperandEntry {
-            block: spot.block,
-            instruction: spot.instruction,
-            kind: kind_number(*kind),
-            is_late: pos_number(*pos),
-            register: register(*reg),
-            constraint: constraint(*place),
-        }),
-        Reported::Fixed(preg) => out.push(real_entry(spot, 2, *preg)),
+        } => push(
+            out,
+            OperandEntry {
+                block: spot.block,
+                instruction: spot.instruction,
+                kind: kind_number(*kind),
+                is_late: pos_number(*pos),
+                register: register(*reg),
+                constraint: constraint(*place),
+            },
+        ),
+        Reported::Fixed(preg) => push(out, real_entry(spot, 2, *preg)),
         Reported::Clobbers(regs) => {
             let members = set_members(alloc, *regs)?;
             put_lost(out, spot, &members)

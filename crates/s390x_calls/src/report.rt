@@ -41,9 +41,21 @@ fn put_blocks(
     ensures { Adds result out.old.items out.new.items (blocks_report blocks.now) }
 {
     for (number, block) in blocks.iter().enumerate() {
-        put_insts(alloc, out, number, &block.insts)?;
+        put_block(alloc, out, number, block)?;
     }
     Ok(())
+}
+
+// A block.
+fn put_block(
+    alloc: Global,
+    out: &mut Vec<OperandEntry>,
+    number: usize,
+    block: &Block,
+) -> Result<(), ReportError>
+    ensures { Adds result out.old.items out.new.items (block_report number block.now) }
+{
+    put_insts(alloc, out, number, &block.insts)
 }
 
 // The instructions of a block.
