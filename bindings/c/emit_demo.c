@@ -102,7 +102,7 @@ static int bytes(enum bytes_call which, size_t length, uint64_t base) {
 }
 
 static void print_register(const s390x_register *reg) {
-    const char *kind = reg->is_virtual ? (reg->is_vector ? "f" : "i") : (reg->is_vector ? "v" : "r");
+    const char *kind = reg->is_virtual ? (reg->is_vector ? "x" : "i") : (reg->is_vector ? "v" : "r");
     printf("%%%s%" PRIu32, kind, reg->number);
 }
 

@@ -139,7 +139,7 @@ static void refusals(void) {
         {"block\nblock\nJump 7\nend\n", S390X_REFUSED, 0, S390X_UNBOUND_LABEL, {S390X_INSTRUCTION, 1, 1, {0}}},
         {"block\nLoop 7\nNop0\nLoop 8\nMov64 %r2 %v3\nendloop\nendloop\nend\n", S390X_REFUSED, 0, S390X_BAD_REGISTER,
          {S390X_INSTRUCTION, 0, 3, {0, 1, 0}}},
-        {"block\nAllocateArgs 8\nend\n", S390X_REFUSED, 0, S390X_BAD_STACK_STATE, {S390X_BLOCK_END, 0, 0, {0}}},
+        {"block\nAllocateArgs 16\nend\n", S390X_REFUSED, 0, S390X_BAD_STACK_STATE, {S390X_BLOCK_END, 0, 0, {0}}},
         {"const 3 00\nblock\nend\n", S390X_REFUSED, 0, S390X_BAD_ALIGNMENT, {S390X_START, 0, 0, {0}}},
         {DEEP, S390X_REFUSED, 0, S390X_BAD_REGISTER, {S390X_INSTRUCTION, 0, 9, {1, 0, 0, 0, 0, 0, 0, 0, 1}}},
     };
@@ -275,7 +275,7 @@ static void reports(void) {
     s390x_operand out[8];
     s390x_reason reason;
     size_t count = 5;
-    static const char job[] = "block\nNop0\nblock\nNop0\nAluRR Add64 %i0 %i0 %f1\nLoad64 %r2 RegOffset(%i3,8,a)\nend\n";
+    static const char job[] = "block\nNop0\nblock\nNop0\nAluRR Add64 %i0 %i0 %x1\nLoad64 %r2 RegOffset(%i3,8,a)\nend\n";
     memset(out, MARK, sizeof out);
     CHECK(operands(job, out, 5, &count, &reason) == S390X_TOO_SMALL && count == 6 && is_filled(out, sizeof out));
     CHECK(operands(job, out, 8, &count, &reason) == S390X_DONE && count == 6 && is_filled(&out[6], 2 * sizeof *out));

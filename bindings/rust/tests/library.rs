@@ -54,7 +54,7 @@ fn errors() {
         "emission refuses the function at instruction 1.0 of block 0: a register isn't real, is of the wrong class, or isn't allowed in its place"
     );
     let place = Place::BlockEnd { block: 0 };
-    assert_eq!(show(b"block\nAllocateArgs 8\nend\n"), Err(Error::Refused { cause: EmitCause::BadStackState, place }));
+    assert_eq!(show(b"block\nAllocateArgs 16\nend\n"), Err(Error::Refused { cause: EmitCause::BadStackState, place }));
     assert_eq!(image(ADD, 1), Err(Error::Link(LinkCause::MisalignedBase)));
     assert_eq!(emit(&vec![b'\n'; 16777217]), Err(Error::TooLong));
     assert_eq!(
