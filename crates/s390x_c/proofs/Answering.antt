@@ -11,6 +11,7 @@ use Rattle.s390x_tables.specs.declared.sizes.Sizes.{Sizes}
 use Rattle.s390x_c.specs.Emit.{EmitsJobTo, EmitsTo, NothingIsWritten}
 use Rattle.s390x_bundle.specs.Bundled as bundled
 use Rattle.s390x_bundle.specs.declared.error.BundleError.{BundleError}
+use Rattle.s390x_bundle.specs.declared.joining.Bundle.{Bundle}
 use Rattle.s390x_bundle_text.specs.Text.{AreFunctionsOf}
 use Rattle.s390x_bundle_text.specs.declared.named_job.NamedJob.{NamedJob}
 use Rattle.s390x_c.specs.Bundle.{BundlesFunctionsTo, BundlesTo, IsBundleRefusal, IsUnbundled, member_of}
@@ -18,8 +19,11 @@ use Rattle.s390x_emit_int.specs.FunctionImage.{HasNoImage}
 use Rattle.s390x_emit_int.specs.declared.image.ImageError.{ImageError}
 use Rattle.s390x_emit_int.specs.declared.image.ImageError.TheVariants.{Refused, Link}
 use Rattle.s390x_c.specs.Image.{IsRefusalOf, LinksJobTo, LinksTo, MayRefuse, symbols_of}
-use Rattle.s390x_c.specs.Refused.{IsRefusalTold}
-use Rattle.s390x_c.specs.Show.{ShowsJobTo, ShowsTo}
+use Rattle.s390x_c.specs.Refused.{IsRefusalTold, IsRefused, job_cause, reason_of}
+use Rattle.s390x_refusal.specs.Refusal.{IsFirstRefusal}
+use Rattle.s390x_refusal.specs.declared.position.Refusal.{Refusal}
+use Rattle.s390x_calls.specs.Put.{PutsEntries}
+use Rattle.s390x_c.specs.Show.{PutsTexts, ShowsJobTo, ShowsTo, texts_of}
 use Rattle.s390x_calls.specs.Input.{IsTextOf}
 use Rattle.s390x_calls.specs.declared.reason.Reason.{Reason}
 use Rattle.s390x_calls.specs.declared.status.Status.{Status}
@@ -150,3 +154,46 @@ bundle_refused base fs e out count reason reason' status.PlanRefused none told =
 bundle_refused base fs e out count reason reason' status.BundleRefused none told =
     (record { error = e; named = told.0; first = none; told = told.2; by = told.1 }, record { buffer = refl; count_kept = refl })
 bundle_refused base fs e out count reason reason' status.TooSmall none told = absurd told
+
+pub refusal_told : (j : Job) (r : Refusal) (reason' : Reason) → IsFirstRefusal j.info.isa_flags j.state j.function (Some r) → reason' ≡ reason_of r.error r.position
+    → IsRefused j reason'
+refusal_told j r reason' first told = record { error = r.error; position = r.position; first = first.0; place = first.1; told = told }
+
+-- ---- what is written
+
+pub texts_put : (j : Job) (out out' : List ℕ) (count count' : ℕ) (s : Status) → (texts_of j).cause ≡ None → PutsEntries (texts_of j).bytes out out' count' s
+    → PutsTexts j out out' count count' s
+texts_put j out out' count count' status.Done told put = record { told = told; held = put }
+texts_put j out out' count count' status.Syntax told put = absurd put
+texts_put j out out' count count' status.Refused told put = absurd put
+texts_put j out out' count count' status.LinkRefused told put = absurd put
+texts_put j out out' count count' status.TooLong told put = absurd put
+texts_put j out out' count count' status.NoMemory told put = absurd put
+texts_put j out out' count count' status.PlanRefused told put = absurd put
+texts_put j out out' count count' status.BundleRefused told put = absurd put
+texts_put j out out' count count' status.TooSmall told put = record { told = told; small = put }
+
+pub texts_shown : (j : Job) (out out' : List ℕ) (count count' : ℕ) (reason : Reason) (s : Status) → job_cause j ≡ None → PutsTexts j out out' count count' s
+    → ShowsJobTo j out out' count count' reason reason s
+texts_shown j out out' count count' reason status.Done valid put = (valid, put, refl)
+texts_shown j out out' count count' reason status.Syntax valid put = absurd put
+texts_shown j out out' count count' reason status.Refused valid put = absurd put
+texts_shown j out out' count count' reason status.LinkRefused valid put = absurd put
+texts_shown j out out' count count' reason status.TooLong valid put = absurd put
+texts_shown j out out' count count' reason status.NoMemory valid put = (put, refl)
+texts_shown j out out' count count' reason status.PlanRefused valid put = absurd put
+texts_shown j out out' count count' reason status.BundleRefused valid put = absurd put
+texts_shown j out out' count count' reason status.TooSmall valid put = (valid, put, refl)
+
+pub bundle_put : (base : ℕ) (fs : List NamedJob) (b : Bundle) (out out' : List ℕ) (count count' : ℕ) (reason : Reason) (s : Status)
+    → bundled.IsImageOfMembers base (map member_of fs) b → PutsEntries b.image.bytes.items out out' count' s
+    → BundlesFunctionsTo base fs out out' count count' reason reason s
+bundle_put base fs b out out' count count' reason status.Done image put = (record { bundle = b; image = image; held = put }, refl)
+bundle_put base fs b out out' count count' reason status.Syntax image put = absurd put
+bundle_put base fs b out out' count count' reason status.Refused image put = absurd put
+bundle_put base fs b out out' count count' reason status.LinkRefused image put = absurd put
+bundle_put base fs b out out' count count' reason status.TooLong image put = absurd put
+bundle_put base fs b out out' count count' reason status.NoMemory image put = absurd put
+bundle_put base fs b out out' count count' reason status.PlanRefused image put = absurd put
+bundle_put base fs b out out' count count' reason status.BundleRefused image put = absurd put
+bundle_put base fs b out out' count count' reason status.TooSmall image put = (record { bundle = b; image = image; small = put }, refl)

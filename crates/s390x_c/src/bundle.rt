@@ -59,7 +59,7 @@ fn bundled(
 }
 
 // The image of these functions.
-#[tactic(auto, using(crate::proofs::Answering::bundle_refused))]
+#[tactic(auto, using(crate::proofs::Answering::bundle_refused, crate::proofs::Answering::bundle_put))]
 fn image_of_functions(
     alloc: Global,
     functions: Vec<NamedJob>,

@@ -9,6 +9,7 @@ use s390x_refusal::{Position, Refusal, first_refusal};
 use std::alloc::Global;
 
 /// The first cause by which emission refuses the job's function, and where it stands.
+#[tactic(auto, using(crate::proofs::Answering::refusal_told))]
 pub fn refused(alloc: Global, job: &Job, reason: &mut Reason) -> Status
     requires { job_cause job.now ≢ None }
     ensures { IsRefusalTold job.now reason.old reason.new result }

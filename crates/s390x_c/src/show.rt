@@ -61,7 +61,7 @@ fn show(
 }
 
 // The texts of this job's instructions, where its function has a code.
-#[tactic(auto, using(crate::proofs::Answering::refusable, crate::proofs::Answering::listing_refused))]
+#[tactic(auto, using(crate::proofs::Answering::refusable, crate::proofs::Answering::listing_refused, crate::proofs::Answering::texts_shown))]
 fn show_job(
     alloc: Global,
     job: &Job,
@@ -82,6 +82,7 @@ fn show_job(
 }
 
 // The texts of this job's instructions, each of which has one.
+#[tactic(auto, using(crate::proofs::Answering::texts_put))]
 fn put_texts(alloc: Global, job: &Job, out: &mut [u8], count: &mut usize) -> Status
     requires { (texts_of job.now).cause ≡ None }
     ensures { PutsTexts job.now out.old out.new count.old count.new result }

@@ -1,5 +1,5 @@
 -- How a call ends on an input, from how it ends on the job whose text that is.
-use Rattle.std.proofs.Common.{◌≡◌, ℕ, List, ◌⊎◌, inl, inr}
+use Rattle.std.proofs.Common.{◌≡◌, ℕ, List, ◌⊎◌, inl, inr, refl, None}
 use Rattle.s390x_alloc.specs.Blocks.{IsFault}
 use Rattle.s390x_alloc.specs.Checked.{checked}
 use Rattle.s390x_alloc.specs.declared.fault.PlanFault.{PlanFault}
@@ -7,7 +7,8 @@ use Rattle.s390x_job.specs.declared.job.Job.{Job}
 use Rattle.s390x_plan_text.specs.Text.{IsPlannedOf}
 use Rattle.s390x_plan_text.specs.declared.planned_job.PlannedJob.{PlannedJob}
 use Rattle.s390x_calls.specs.Input.{IsTextOf}
-use Rattle.s390x_calls.specs.Operands.{ReportsJobTo, ReportsTo}
+use Rattle.s390x_calls.specs.Operands.{ReportsJobTo, ReportsTo, report_of}
+use Rattle.s390x_calls.specs.Put.{PutsEntries}
 use Rattle.s390x_calls.specs.Plans.{ChecksTo, IsFaultTold}
 use Rattle.s390x_calls.specs.declared.plan.PlanReason.{PlanReason}
 use Rattle.s390x_calls.specs.declared.operand_entries.OperandEntry.{OperandEntry}
@@ -40,3 +41,16 @@ fault_told input p f reason reason' status.PlanRefused is (inl none) told = absu
 fault_told input p f reason reason' status.PlanRefused is (inr cause) told = record { planned = p; is = is; first = f; named = told.0; cause = cause; told = told.1 }
 fault_told input p f reason reason' status.BundleRefused is cause told = absurd told
 fault_told input p f reason reason' status.TooSmall is cause told = absurd told
+
+-- a report is written
+pub report_put : (j : Job) (out out' : List OperandEntry) (count count' : ℕ) (reason : Reason) (s : Status) → (report_of j).first ≡ None
+    → PutsEntries (report_of j).entries out out' count' s → ReportsJobTo j out out' count count' reason reason s
+report_put j out out' count count' reason status.Done valid put = (record { valid = valid; held = put }, refl)
+report_put j out out' count count' reason status.Syntax valid put = absurd put
+report_put j out out' count count' reason status.Refused valid put = absurd put
+report_put j out out' count count' reason status.LinkRefused valid put = absurd put
+report_put j out out' count count' reason status.TooLong valid put = absurd put
+report_put j out out' count count' reason status.NoMemory valid put = absurd put
+report_put j out out' count count' reason status.PlanRefused valid put = absurd put
+report_put j out out' count count' reason status.BundleRefused valid put = absurd put
+report_put j out out' count count' reason status.TooSmall valid put = (record { valid = valid; small = put }, refl)

@@ -36,6 +36,7 @@ pub fn operands(
 }
 
 // What the instructions of this job report.
+#[tactic(auto, using(crate::proofs::Answering::report_put))]
 fn operands_of_job(
     alloc: Global,
     job: &Job,
