@@ -1,13 +1,12 @@
 #!/usr/bin/env python3
 """compare: entries of the original's tests against this machine layer.
 
-    compare.py [--demo DEMO] [--program PROGRAM] FILE..
+    compare.py [--demo DEMO] FILE..
     compare.py --print FILE..
 
 An entry is `insns.push((INSTRUCTION, "HEX", "TEXT"));`, on one line or several. Each instruction is turned into a line of a
 job, and the job's code is compared with HEX, and its text with TEXT. DEMO is bindings/c/emit_demo as it was built, out/c/emit_demo
-if none is named; PROGRAM is the command that writes texts, ./s390x if none is named: without its build the texts aren't compared.
-With --print the jobs are written, and nothing is compared.
+if none is named. With --print the jobs are written, and nothing is compared.
 
 It ends with 1 where an entry differs or can't be read.
 """
@@ -243,23 +242,19 @@ def code_of(demo, job):
     return done.stdout.split("\n")[0].removeprefix("code ").upper() if done.returncode == 0 else f"status {done.returncode}"
 
 
-def text_by(program, job):
+def text_of(demo, job):
     """The text of a job's instruction, or how it ended."""
-    done = subprocess.run([program, "show"], input=job, capture_output=True, text=True)
+    done = subprocess.run([demo, "show"], input=job, capture_output=True, text=True)
     return done.stdout.split("\n")[1] if done.returncode == 0 else f"status {done.returncode}"
 
 
 def main():
     parser = argparse.ArgumentParser(description=__doc__.split("\n")[0])
     parser.add_argument("--demo", default=os.path.join(ROOT, "out", "c", "emit_demo"))
-    parser.add_argument("--program", default=os.path.join(ROOT, "s390x"))
     parser.add_argument("--print", action="store_true", dest="printing")
     parser.add_argument("files", nargs="+", metavar="FILE")
     words = parser.parse_args()
     order = orders()
-    has_texts = os.path.exists(os.path.join(ROOT, "crates", "s390x", "out", "s390x"))
-    if not words.printing and not has_texts:
-        print("the program isn't built: texts aren't compared", file=sys.stderr)
     count = wrong = 0
     for file in words.files:
         for number, parts in entries(open(file).read()):
@@ -275,9 +270,7 @@ def main():
             if words.printing:
                 print(job, end="")
                 continue
-            told = [("code", parts[1].upper(), code_of(words.demo, job))]
-            if has_texts:
-                told.append(("text", parts[2], text_by(words.program, job)))
+            told = [("code", parts[1].upper(), code_of(words.demo, job)), ("text", parts[2], text_of(words.demo, job))]
             for what, wanted, got in told:
                 if wanted != got:
                     print(f"{file}:{number}: {what}: {wanted} there, {got} here: {job.splitlines()[2]}")

@@ -1,6 +1,7 @@
-//! The code of a job's function, and its image.
+//! The code of a job's function, its image and its texts.
 
-use crate::error::{EmitCause, Error, LinkCause};
+use crate::call::{entries_of, error_of, Reason, DONE, TOO_SMALL};
+use crate::error::Error;
 
 /// A field that is to be filled when the code is linked.
 #[repr(C)]
@@ -148,13 +149,6 @@ struct Sizes {
     alignment: u32,
 }
 
-#[repr(C)]
-#[derive(Clone, Copy, Default)]
-struct Reason {
-    line: u32,
-    cause: u32,
-}
-
 extern "C" {
     fn s390x_emit(job: *const u8, length: usize, out: *mut Buffers, sizes: *mut Sizes, reason: *mut Reason) -> u32;
     fn s390x_image(
@@ -166,21 +160,14 @@ extern "C" {
         count: *mut usize,
         reason: *mut Reason,
     ) -> u32;
-}
-
-const DONE: u32 = 0;
-const TOO_SMALL: u32 = 13;
-
-/// The error of a status other than `DONE` and `TOO_SMALL`.
-fn error_of(status: u32, reason: Reason) -> Error {
-    match status {
-        3 => Error::Syntax { line: reason.line },
-        4 => EmitCause::of(reason.cause).map(Error::Refused).expect("a cause of emission"),
-        5 => LinkCause::of(reason.cause).map(Error::Link).expect("a cause of linking"),
-        8 => Error::TooLong,
-        9 => Error::NoMemory,
-        _ => unreachable!("a status of the library: {status}"),
-    }
+    fn s390x_show(
+        job: *const u8,
+        length: usize,
+        out: *mut u8,
+        room: usize,
+        count: *mut usize,
+        reason: *mut Reason,
+    ) -> u32;
 }
 
 /// The buffer of all entries of a table.
@@ -252,27 +239,25 @@ pub fn emit(job: &[u8]) -> Result<Code, Error> {
                 return Ok(code);
             }
             TOO_SMALL => code.with_sizes(&sizes),
-            status => return Err(error_of(status, reason)),
+            status => return Err(error_of(status, &reason)),
         }
     }
 }
 
 /// The image of a job's function at a base, with the symbols of the job's own lines. The job is given by its text.
 pub fn image(job: &[u8], base: u64) -> Result<Vec<u8>, Error> {
-    let mut out = vec![0; job.len() / 2 + 64];
-    let (mut count, mut reason) = (0, Reason::default());
-    loop {
+    entries_of(job.len() / 2 + 64, error_of, |out, room, count, reason| {
         // Each pointer is of a slice that lives through the call, and none of them overlap.
-        let status = unsafe {
-            s390x_image(job.as_ptr(), job.len(), base, out.as_mut_ptr(), out.len(), &mut count, &mut reason)
-        };
-        match status {
-            DONE => {
-                out.truncate(count);
-                return Ok(out);
-            }
-            TOO_SMALL => out.resize(count, 0),
-            status => return Err(error_of(status, reason)),
-        }
-    }
+        unsafe { s390x_image(job.as_ptr(), job.len(), base, out, room, count, reason) }
+    })
+}
+
+/// The texts of a job's instructions, in the mnemonics that assemblers take: for each block the line `block K`, and a line for each of its
+/// instructions. The job is given by its text. A function that has no code has no texts.
+pub fn show(job: &[u8]) -> Result<String, Error> {
+    let bytes = entries_of(2 * job.len() + 64, error_of, |out, room, count, reason| {
+        // As above.
+        unsafe { s390x_show(job.as_ptr(), job.len(), out, room, count, reason) }
+    })?;
+    Ok(String::from_utf8(bytes).expect("the texts are ASCII"))
 }

@@ -130,6 +130,18 @@ impl Job {
         crate::image(self.to_string().as_bytes(), base)
     }
 
+    /// The texts of the instructions.
+    #[cfg(feature = "emit")]
+    pub fn show(&self) -> Result<String, crate::Error> {
+        crate::show(self.to_string().as_bytes())
+    }
+
+    /// What the instructions report to a register allocator.
+    #[cfg(feature = "emit")]
+    pub fn operands(&self) -> Result<Vec<crate::Operand>, crate::Error> {
+        crate::operands(self.to_string().as_bytes())
+    }
+
     fn put(&self, out: &mut String) -> fmt::Result {
         put_flags(out, &self.flags)?;
         put_frame(out, &self.frame)?;

@@ -1,4 +1,5 @@
-//! A proved machine layer for s390x: emission, linking and decoding, by safe calls over its static libraries.
+//! A proved machine layer for s390x: emission, linking, bundles, listings, what a register allocator asks, and decoding, by safe calls over its
+//! static libraries.
 //!
 //! What each library call answers is proved of the library (`docs/PROVED.md` of its repository). This crate is not part of
 //! those proofs: it passes slices on as they are, and each call here is safe because slices meet what the library wants of
@@ -21,7 +22,13 @@
 #![warn(missing_docs)]
 
 #[cfg(feature = "emit")]
+mod allocation;
+#[cfg(feature = "emit")]
 mod allocator;
+#[cfg(feature = "emit")]
+mod bundle;
+#[cfg(feature = "emit")]
+mod call;
 mod decode;
 #[cfg(feature = "emit")]
 mod emit;
@@ -31,11 +38,15 @@ mod instructions;
 mod job;
 mod operands;
 
+#[cfg(feature = "emit")]
+pub use allocation::{check_plan, operands, Operand, OperandConstraint, OperandKind};
+#[cfg(feature = "emit")]
+pub use bundle::{bundle, Bundle};
 pub use decode::{decode, Format, Instruction, Instructions};
 #[cfg(feature = "emit")]
-pub use emit::{emit, image, Code, Handler, PatchableCall, Relocation, StackMap, Trap, Try};
+pub use emit::{emit, image, show, Code, Handler, PatchableCall, Relocation, StackMap, Trap, Try};
 #[cfg(feature = "emit")]
-pub use error::{EmitCause, Error, LinkCause};
+pub use error::{EmitCause, Error, LinkCause, MemberCause, OperandCause, Place, PlanFault};
 pub use instructions::*;
 pub use job::{Block, Flags, Frame, Function, Job};
 pub use operands::*;

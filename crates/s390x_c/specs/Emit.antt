@@ -1,24 +1,19 @@
 -- What `s390x_emit` answers. A name with a prime is of what a call leaves.
-use Rattle.std.specs.Prelude.{◌≡◌, ℕ, List, Option, Some, None}
-use Rattle.s390x_base.specs.Errors.{number_of_error}
-use Rattle.s390x_base.specs.declared.error.EmitError.{EmitError}
+use Rattle.std.specs.Prelude.{◌≡◌, ℕ, List, None}
 use Rattle.s390x_buffer.specs.declared.entries.MachBufferFinalized.{MachBufferFinalized}
-use Rattle.s390x_emit_int.specs.Function.{IsFinishedCode, constants_of, folded_trees_of, function_cause, trees_of}
+use Rattle.s390x_emit_int.specs.Function.{IsFinishedCode, constants_of, folded_trees_of, trees_of}
 use Rattle.s390x_job.specs.declared.job.Job.{Job}
 use Rattle.s390x_tables.specs.Buffers.{AreUntouched, HasRoom, HoldTables}
 use Rattle.s390x_tables.specs.Sizes.{sizes_of}
 use Rattle.s390x_tables.specs.declared.buffers.Buffers.{Buffers}
 use Rattle.s390x_tables.specs.declared.sizes.Sizes.{Sizes}
 use Rattle.s390x_typed_steps.specs.Ranges.{BlocksInRange}
-use Rattle.s390x_c.specs.Input.{IsSyntax, IsTextOf, IsTooLong, by_cause}
-use Rattle.s390x_c.specs.Status.{number_of_status}
-use Rattle.s390x_c.specs.declared.reason.Reason.{Reason}
-use Rattle.s390x_c.specs.declared.status.Status.{Status}
-use Rattle.s390x_c.specs.declared.status.Status.TheVariants as status
-
--- the first cause by which emission refuses a job's function
-abbrev pub job_cause : Job → Option EmitError
-job_cause j = function_cause j.info.isa_flags (trees_of j.info.isa_flags j.state j.function) (constants_of j.function) j.state
+use Rattle.s390x_calls.specs.Input.{IsSyntax, IsTextOf, IsTooLong}
+use Rattle.s390x_calls.specs.Status.{number_of_status}
+use Rattle.s390x_calls.specs.declared.reason.Reason.{Reason}
+use Rattle.s390x_calls.specs.declared.status.Status.{Status}
+use Rattle.s390x_calls.specs.declared.status.Status.TheVariants as status
+use Rattle.s390x_c.specs.Refused.{IsRefused, job_cause}
 
 -- the code of a job's function, which emission doesn't refuse
 pub record IsCodeOf (j : Job) (code : MachBufferFinalized) : Type 0 where
@@ -40,12 +35,6 @@ pub record HaveNoRoom (j : Job) (out out' : Buffers) (sizes' : Sizes) : Type 0 w
   pub lacks : HasRoom code out → ⊥
   pub kept : AreUntouched out out'
   pub counted : sizes' ≡ sizes_of code
-
--- emission refuses the job's function by its first cause
-pub record IsRefused (j : Job) (reason' : Reason) : Type 0 where
-  pub error : EmitError
-  pub first : job_cause j ≡ Some error
-  pub told : reason' ≡ by_cause (number_of_error error)
 
 -- neither the buffers nor the sizes are written
 pub record NothingIsWritten (out out' : Buffers) (sizes sizes' : Sizes) : Type 0 where

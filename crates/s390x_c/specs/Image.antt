@@ -1,6 +1,5 @@
 -- What `s390x_image` answers. A name with a prime is of what a call leaves.
-use Rattle.std.specs.Prelude.{◌≡◌, ◌≢◌, ℕ, List, [], ◌∷◌}
-use Rattle.s390x_base.specs.Errors.{number_of_error}
+use Rattle.std.specs.Prelude.{◌≡◌, ◌≢◌, ◌⊎◌, ℕ, List, [], ◌∷◌, Some}
 use Rattle.s390x_base.specs.declared.error.EmitError.TheVariants as emit
 use Rattle.s390x_emit_int.specs.FunctionImage.{IsImageOf}
 use Rattle.s390x_emit_int.specs.FunctionImage as function
@@ -12,13 +11,14 @@ use Rattle.s390x_image.specs.declared.error.LinkError.{LinkError}
 use Rattle.s390x_image.specs.declared.error.LinkError.TheVariants as link
 use Rattle.s390x_job.specs.declared.job.Job.{Job}
 use Rattle.s390x_job.specs.declared.job.SymbolLine.{SymbolLine}
-use Rattle.s390x_c.specs.Bytes.{HasNoRoom, HoldsBytes}
-use Rattle.s390x_c.specs.Emit.{IsRefused}
-use Rattle.s390x_c.specs.Input.{IsSyntax, IsTextOf, IsTooLong, by_cause}
-use Rattle.s390x_c.specs.Status.{number_of_status}
-use Rattle.s390x_c.specs.declared.reason.Reason.{Reason}
-use Rattle.s390x_c.specs.declared.status.Status.{Status}
-use Rattle.s390x_c.specs.declared.status.Status.TheVariants as status
+use Rattle.s390x_calls.specs.Input.{IsSyntax, IsTextOf, IsTooLong, by_cause}
+use Rattle.s390x_calls.specs.Places.{no_place}
+use Rattle.s390x_calls.specs.Put.{HasNoRoom, HoldsEntries, NoEntryIsWritten}
+use Rattle.s390x_calls.specs.Status.{number_of_status}
+use Rattle.s390x_calls.specs.declared.reason.Reason.{Reason}
+use Rattle.s390x_calls.specs.declared.status.Status.{Status}
+use Rattle.s390x_calls.specs.declared.status.Status.TheVariants as status
+use Rattle.s390x_c.specs.Refused.{IsRefused, IsRefusalTold, job_cause}
 
 -- a table with the symbols of these lines too, each in place of an earlier one
 abbrev pub with_lines : Symbols → List SymbolLine → Symbols
@@ -37,7 +37,7 @@ IsImageOfJob base j bytes = IsImageOf j.info.isa_flags j.state j.function base (
 pub record HoldsImage (base : ℕ) (j : Job) (out out' : List ℕ) (count' : ℕ) : Type 0 where
   pub bytes : List ℕ
   pub image : IsImageOfJob base j bytes
-  pub held : HoldsBytes bytes out out' count'
+  pub held : HoldsEntries bytes out out' count'
 
 -- the buffer has no room for the image of the job's function
 pub record HasNoRoomForImage (base : ℕ) (j : Job) (out out' : List ℕ) (count' : ℕ) : Type 0 where
@@ -49,19 +49,14 @@ pub record HasNoRoomForImage (base : ℕ) (j : Job) (out out' : List ℕ) (count
 pub record IsLinkRefused (base : ℕ) (j : Job) (reason' : Reason) : Type 0 where
   pub error : LinkError
   pub first : function.IsLinkRefused j.info.isa_flags j.state j.function base (symbols_of j) error
-  pub told : reason' ≡ by_cause (number_of_link_error error)
-
--- neither the buffer nor the count is written
-pub record NoByteIsWritten (out out' : List ℕ) (count count' : ℕ) : Type 0 where
-  pub buffer : out' ≡ out
-  pub count_kept : count' ≡ count
+  pub told : reason' ≡ by_cause (number_of_link_error error) no_place
 
 -- how the linking of a job ends
 abbrev pub LinksJobTo : (base : ℕ) → Job → (out out' : List ℕ) → (count count' : ℕ) → (reason reason' : Reason) → Status → Type 0
 LinksJobTo base j out out' count count' reason reason' status.Done = HoldsImage base j out out' count' × (reason' ≡ reason)
-LinksJobTo base j out out' count count' reason reason' status.Refused = IsRefused j reason' × NoByteIsWritten out out' count count'
-LinksJobTo base j out out' count count' reason reason' status.LinkRefused = IsLinkRefused base j reason' × NoByteIsWritten out out' count count'
-LinksJobTo base j out out' count count' reason reason' status.NoMemory = NoByteIsWritten out out' count count' × (reason' ≡ reason)
+LinksJobTo base j out out' count count' reason reason' status.Refused = IsRefused j reason' × NoEntryIsWritten out out' count count'
+LinksJobTo base j out out' count count' reason reason' status.LinkRefused = IsLinkRefused base j reason' × NoEntryIsWritten out out' count count'
+LinksJobTo base j out out' count count' reason reason' status.NoMemory = NoEntryIsWritten out out' count count' × (reason' ≡ reason)
 LinksJobTo base j out out' count count' reason reason' status.TooSmall = HasNoRoomForImage base j out out' count' × (reason' ≡ reason)
 LinksJobTo base j out out' count count' reason reason' s = ⊥
 
@@ -73,9 +68,9 @@ pub record LinksTextTo (base : ℕ) (input out out' : List ℕ) (count count' : 
 
 -- how the linking of an input ends
 abbrev pub LinksTo : (base : ℕ) → (input out out' : List ℕ) → (count count' : ℕ) → (reason reason' : Reason) → Status → Type 0
-LinksTo base input out out' count count' reason reason' status.Syntax = IsSyntax input reason' × NoByteIsWritten out out' count count'
-LinksTo base input out out' count count' reason reason' status.TooLong = IsTooLong input × NoByteIsWritten out out' count count' × (reason' ≡ reason)
-LinksTo base input out out' count count' reason reason' status.NoMemory = NoByteIsWritten out out' count count' × (reason' ≡ reason)
+LinksTo base input out out' count count' reason reason' status.Syntax = IsSyntax input reason' × NoEntryIsWritten out out' count count'
+LinksTo base input out out' count count' reason reason' status.TooLong = IsTooLong input × NoEntryIsWritten out out' count count' × (reason' ≡ reason)
+LinksTo base input out out' count count' reason reason' status.NoMemory = NoEntryIsWritten out out' count count' × (reason' ≡ reason)
 LinksTo base input out out' count count' reason reason' s = LinksTextTo base input out out' count count' reason reason' s
 
 -- the number is that of how the linking of the input ends
@@ -84,10 +79,14 @@ pub record IsImageCall (base : ℕ) (input out out' : List ℕ) (count count' : 
   pub numbered : number ≡ number_of_status ended
   pub so : LinksTo base input out out' count count' reason reason' ended
 
--- how a call ends for a function without an image, which want of memory is too
-abbrev pub IsRefusalOf : ImageError → Reason → Reason → Status → Type 0
-IsRefusalOf (Refused error) reason reason' status.NoMemory = (error ≡ emit.NoMemory) × (reason' ≡ reason)
-IsRefusalOf (Refused error) reason reason' status.Refused = (error ≢ emit.NoMemory) × (reason' ≡ by_cause (number_of_error error))
-IsRefusalOf (Link error) reason reason' status.NoMemory = (error ≡ link.NoMemory) × (reason' ≡ reason)
-IsRefusalOf (Link error) reason reason' status.LinkRefused = (error ≢ link.NoMemory) × (reason' ≡ by_cause (number_of_link_error error))
-IsRefusalOf error reason reason' s = ⊥
+-- an error of emission is the job's first cause, or want of memory
+abbrev pub MayRefuse : Job → ImageError → Type 0
+MayRefuse j (Refused error) = (error ≡ emit.NoMemory) ⊎ (job_cause j ≡ Some error)
+MayRefuse j (Link error) = Unit {0}
+
+-- how a call ends for a function that has no image by this error, which want of memory is too
+abbrev pub IsRefusalOf : Job → ImageError → (reason reason' : Reason) → Status → Type 0
+IsRefusalOf j (Refused error) reason reason' s = IsRefusalTold j reason reason' s
+IsRefusalOf j (Link error) reason reason' status.NoMemory = (error ≡ link.NoMemory) × (reason' ≡ reason)
+IsRefusalOf j (Link error) reason reason' status.LinkRefused = (error ≢ link.NoMemory) × (reason' ≡ by_cause (number_of_link_error error) no_place)
+IsRefusalOf j (Link error) reason reason' s = ⊥

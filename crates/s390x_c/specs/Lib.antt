@@ -1,5 +1,5 @@
-pub mod Status
-pub mod Input
-pub mod Bytes
+pub mod Refused
 pub mod Emit
 pub mod Image
+pub mod Show
+pub mod Bundle

@@ -2,9 +2,9 @@
 ghost use Rattle.s390x_tables.specs.Buffers.{LieInPlace};
 ghost use Rattle.s390x_c.specs.Emit.{EmitsTo, EmitsJobTo, IsEmitCall};
 
-use crate::reason::Reason;
-use crate::status::{MOST_BYTES, Status};
+use crate::refused::refused;
 use s390x_base::EmitError;
+use s390x_calls::{MOST_BYTES, Reason, Status};
 use s390x_emit_int::emit_function;
 use s390x_job::{Job, LineError, read_lines};
 use s390x_tables::{Buffers, Sizes, sizes_of, write_tables};
@@ -15,7 +15,7 @@ use std::alloc::Global;
 /// - `Done`: each buffer of `out` begins with its table, and `sizes` says how many entries that has.
 /// - `TooLong`: the input has more than 16777216 bytes.
 /// - `Syntax`: it is no job's text; `reason.line` is its first wrong line.
-/// - `Refused`: emission refuses the job's function; `reason.cause` is the number of the first cause.
+/// - `Refused`: emission refuses the job's function; `reason.cause` is the number of the first cause, and `reason.place` where it stands.
 /// - `TooSmall`: a table has no room in its buffer; `sizes` says how many entries each one has.
 /// - `NoMemory`: there was none.
 ///
@@ -59,6 +59,7 @@ fn emit(
 }
 
 // The code of this job's function.
+#[tactic(auto, using(crate::proofs::Answering::refusable, crate::proofs::Answering::emission_refused))]
 fn emit_job(
     alloc: Global,
     job: &Job,
@@ -79,9 +80,6 @@ fn emit_job(
             }
         }
         Err(EmitError::NoMemory) => Status::NoMemory,
-        Err(error) => {
-            *reason = Reason::by_cause(error.number());
-            Status::Refused
-        }
+        Err(_) => refused(alloc, job, reason),
     }
 }

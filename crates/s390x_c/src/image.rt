@@ -1,12 +1,11 @@
 //! The image of a job's function at a base.
 ghost use Rattle.std.specs.Prelude.{◌≡◌, IfOk};
 ghost use Rattle.s390x_image.specs.Symbols.{no_symbols};
-ghost use Rattle.s390x_c.specs.Image.{IsImageCall, IsRefusalOf, LinksJobTo, LinksTo, with_lines};
+ghost use Rattle.s390x_c.specs.Image.{IsImageCall, IsRefusalOf, LinksJobTo, LinksTo, MayRefuse, with_lines};
 
-use crate::bytes::put_bytes;
-use crate::reason::Reason;
-use crate::status::{MOST_BYTES, Status};
+use crate::refused::refused;
 use s390x_base::{EmitError, NoMemory};
+use s390x_calls::{MOST_BYTES, Place, Reason, Status, put_entries};
 use s390x_emit_int::{ImageError, emit_image};
 use s390x_image::{LinkError, SymbolTable};
 use s390x_job::{Job, LineError, SymbolLine, read_lines};
@@ -19,7 +18,7 @@ use std::alloc::Global;
 /// - `Done`: `out` begins with the image, which has `count` bytes.
 /// - `TooLong`: the input has more than 16777216 bytes.
 /// - `Syntax`: it is no job's text; `reason.line` is its first wrong line.
-/// - `Refused`: emission refuses the job's function; `reason.cause` is the number of the first cause.
+/// - `Refused`: emission refuses the job's function; `reason.cause` is the number of the first cause, and `reason.place` where it stands.
 /// - `LinkRefused`: linking refuses its code at the base; `reason.cause` is the number of the first cause.
 /// - `TooSmall`: the image has no room in the buffer; `count` says how many bytes it has.
 /// - `NoMemory`: there was none.
@@ -65,6 +64,7 @@ fn image(
 }
 
 // The image of this job's function.
+#[tactic(auto, using(crate::proofs::Answering::may_refuse, crate::proofs::Answering::image_refused))]
 fn image_of_job(
     alloc: Global,
     job: &Job,
@@ -79,8 +79,8 @@ fn image_of_job(
         return Status::NoMemory;
     };
     match emit_image(alloc, &job.function, &job.info, job.state, base, &symbols) {
-        Ok(image) => put_bytes(&image.bytes, out, count),
-        Err(error) => refusal(error, reason),
+        Ok(image) => put_entries(&image.bytes, out, count),
+        Err(error) => refusal(alloc, job, error, reason),
     }
 }
 
@@ -95,20 +95,19 @@ fn symbol_table(alloc: Global, lines: &[SymbolLine]) -> Result<SymbolTable, NoMe
     Ok(table)
 }
 
-// How the call ends for a function without an image.
-fn refusal(error: ImageError, reason: &mut Reason) -> Status
-    ensures { IsRefusalOf error reason.old reason.new result }
+// How the call ends for a function that has no image by this error.
+#[tactic(auto, using(crate::proofs::Answering::refusable))]
+fn refusal(alloc: Global, job: &Job, error: ImageError, reason: &mut Reason) -> Status
+    requires { MayRefuse job.now error }
+    ensures { IsRefusalOf job.now error reason.old reason.new result }
 {
     match error {
         ImageError::Refused(EmitError::NoMemory) | ImageError::Link(LinkError::NoMemory) => {
             Status::NoMemory
         }
-        ImageError::Refused(error) => {
-            *reason = Reason::by_cause(error.number());
-            Status::Refused
-        }
+        ImageError::Refused(_) => refused(alloc, job, reason),
         ImageError::Link(error) => {
-            *reason = Reason::by_cause(error.number());
+            *reason = Reason::by_cause(error.number(), Place::none());
             Status::LinkRefused
         }
     }

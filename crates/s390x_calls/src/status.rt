@@ -1,6 +1,6 @@
 //! How a call ends.
 ghost use Rattle.std.specs.Prelude.{◌≡◌};
-ghost use Rattle.s390x_c.specs.Status.{number_of_status};
+ghost use Rattle.s390x_calls.specs.Status.{number_of_status};
 
 /// The greatest number of bytes of an input.
 pub const MOST_BYTES: usize = 16_777_216;
@@ -20,6 +20,10 @@ pub enum Status {
     TooLong,
     /// There was no memory.
     NoMemory,
+    /// The plan of registers has a fault.
+    PlanRefused,
+    /// The functions have no places in one image.
+    BundleRefused,
     /// A buffer is too small.
     TooSmall,
 }
@@ -36,6 +40,8 @@ impl Status {
             Status::LinkRefused => 5,
             Status::TooLong => 8,
             Status::NoMemory => 9,
+            Status::PlanRefused => 11,
+            Status::BundleRefused => 12,
             Status::TooSmall => 13,
         }
     }

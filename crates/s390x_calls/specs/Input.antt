@@ -4,15 +4,21 @@ use Rattle.s390x_job.specs.Completions.{pieces, IsFirstWrong}
 use Rattle.s390x_job.specs.Jobs.{text_of_job, IsJob}
 use Rattle.s390x_job.specs.Same.{SameJob}
 use Rattle.s390x_job.specs.declared.job.Job.{Job}
-use Rattle.s390x_c.specs.declared.reason.Reason.{Reason}
+use Rattle.s390x_calls.specs.Places.{no_place}
+use Rattle.s390x_calls.specs.declared.place.Place.{Place}
+use Rattle.s390x_calls.specs.declared.reason.Reason.{Reason}
 
--- a line, and no cause
+-- a line, and nothing else
 abbrev pub at_line : ℕ → Reason
-at_line line = record { line = line; cause = 0 }
+at_line line = record { line = line; cause = 0; member = 0; place = no_place }
 
--- a cause, and no line
-abbrev pub by_cause : ℕ → Reason
-by_cause number = record { line = 0; cause = number }
+-- a cause and its place
+abbrev pub by_cause : ℕ → Place → Reason
+by_cause number place = record { line = 0; cause = number; member = 0; place = place }
+
+-- a cause and the name of the function that has it
+abbrev pub by_member : (number member : ℕ) → Reason
+by_member number member = record { line = 0; cause = number; member = member; place = no_place }
 
 -- the input is the text of this job, the only one
 pub record IsTextOf (j : Job) (input : List ℕ) : Type 0 where
