@@ -7,6 +7,7 @@ import os
 import shutil
 import struct
 import subprocess
+import time
 
 PAGE = 0x1000
 STUB = 0x20000
@@ -23,7 +24,7 @@ CODE, SIGNAL, SIGNAL_CODE, SIGNAL_ADDRESS, PLACE, VECTORS = 0x80, 0x88, 0x90, 0x
 
 SIGILL, SIGTRAP, SIGBUS, SIGFPE, SIGSEGV = 4, 5, 7, 8, 11
 SIGNALS = [SIGILL, SIGTRAP, SIGBUS, SIGFPE, SIGSEGV]
-SYS_EXIT, SYS_WRITE, SYS_SIGACTION, SYS_SIGALTSTACK = 1, 4, 174, 186
+SYS_EXIT, SYS_READ, SYS_WRITE, SYS_SIGACTION, SYS_SIGALTSTACK = 1, 3, 4, 174, 186
 
 EMULATOR = "qemu-s390x"
 
@@ -217,3 +218,84 @@ def run(base, image, general, vector, regions, folder, condition=0):
     if done.returncode != 0 or len(done.stdout) != RESULT_SIZE + sum(len(data) for _, data in regions):
         raise Broken
     return Emulated(done.stdout, regions)
+
+
+# Of many runs in one process: where the loop begins, behind which standard input's next run is read, and how long one may take, in seconds.
+LOOP = STUB + 0x600
+PATIENCE = 10
+
+
+def read_into(address, length):
+    """Reads from standard input; %r2 is how many bytes there were."""
+    head = lgfi(2, 0) + struct.pack(">BBI", 0xc0, 3 << 4 | 8, address >> 32) + struct.pack(">BBI", 0xc0, 3 << 4 | 9, address & 0xffffffff)
+    return head + lgfi(4, length) + bytes([0x0a, SYS_READ])
+
+
+def looping(base, size, regions):
+    """Reads registers, condition code, code and regions, and branches to the code; it ends where there are no more."""
+    code = read_into(START, 0x288)
+    code += bytes.fromhex("b9020022") + struct.pack(">BBi", 0xc0, 0x24, 6 // 2 + len(call(SYS_EXIT, 0)) // 2) + call(SYS_EXIT, 0)
+    code += read_into(base, size) + b"".join(read_into(address, length) for address, length in regions)
+    code += lgfi(0, 0) + stg(0, RESULT + SIGNAL) + lgfi(1, START + 0x80)
+    code += b"".join(vector_access(0x06, v, 16 * v, 1) for v in range(32))
+    code += lg(0, 0x200, 1) + bytes([0x04, 0x00]) + lmg(0, 15, START)
+    return code + branch(LOOP + len(code), base)
+
+
+def looping_stub(base, size, regions):
+    """The stub's two pages of many runs."""
+    areas = {"stack": STUB + 0xf00, "action": STUB + 0xf40}
+    tail = STUB + 0x900
+    page = bytearray(PAGE)
+    opening = call(SYS_SIGALTSTACK, areas["stack"], 0) + b"".join(call(SYS_SIGACTION, signal, areas["action"], 0, 8) for signal in SIGNALS)
+    ended = ending([(address, bytes(length)) for address, length in regions])[:-len(call(SYS_EXIT, 0))]
+    # SA_SIGINFO, SA_ONSTACK and SA_NODEFER, since no handler returns
+    parts = [(STUB, opening + branch(STUB + len(opening), LOOP)), (RETURN, behind_return(tail)), (LOOP, looping(base, size, regions)),
+             (HANDLER, handler(tail)), (tail, ended + branch(tail + len(ended), LOOP)), (areas["stack"], struct.pack(">QIIQ", STACK, 0, 0, STACK_SIZE)),
+             (areas["action"], struct.pack(">QQQQ", HANDLER, 0x48000004, 0, 0)), (STUB + PAGE, b"")]
+    for (place, data), (behind, _) in zip(parts, parts[1:]):
+        assert place + len(data) <= behind, hex(place)
+        page[place - STUB:place - STUB + len(data)] = data
+    return bytes(page)
+
+
+def run_many(base, size, runs, regions, folder):
+    """Runs many pieces of code of so many bytes in as few processes as may be. A run is its code, general and vector registers, condition code and the bytes of
+    each region, whose addresses and lengths `regions` tells. Yields what `run` answers of each: None where it doesn't end, and "broken" where the emulator breaks
+    down."""
+    path, given, taken = (os.path.join(folder, name) for name in ("many.elf", "many.in", "many.out"))
+    segments = [(STUB, looping_stub(base, size, regions)), (START, bytes(PAGE)), (RESULT, bytes(PAGE)), (STACK, bytes(STACK_SIZE)), (base, bytes(size))]
+    with open(path, "wb") as file:
+        file.write(elf(segments + [(address, bytes(length)) for address, length in regions]))
+    os.chmod(path, 0o700)
+    length = RESULT_SIZE + sum(length for _, length in regions)
+    while runs:
+        with open(given, "wb") as file:
+            for code, general, vector, condition, contents in runs:
+                file.write(struct.pack(">16Q", *general) + b"".join(v.to_bytes(16, "big") for v in vector) + struct.pack(">Q", condition << 28))
+                file.write(code.ljust(size, b"\0") + b"".join(contents))
+        last = ended_runs(path, given, taken, length)
+        with open(taken, "rb") as file:
+            for _ in range(os.path.getsize(taken) // length):
+                yield Emulated(file.read(length), [(address, bytes(size)) for address, size in regions])
+        runs = runs[os.path.getsize(taken) // length:]
+        if runs:
+            yield last
+            runs = runs[1:]
+
+
+def ended_runs(path, given, taken, length):
+    """Runs the process until it ends, breaks down or takes too long with one run; what the run is then that wasn't written."""
+    with open(given, "rb") as source, open(taken, "wb") as target:
+        process = subprocess.Popen([EMULATOR, "-cpu", "max", path], stdin=source, stdout=target, stderr=subprocess.DEVNULL)
+        size, since = 0, time.monotonic()
+        while process.poll() is None:
+            time.sleep(0.02)
+            now = os.path.getsize(taken)
+            if now // length != size // length:
+                size, since = now, time.monotonic()
+            elif time.monotonic() - since > PATIENCE:
+                process.kill()
+                process.wait()
+                return None
+    return "broken"

@@ -1,0 +1,5 @@
+mod Fitting
+mod Numbers
+mod SameTable
+mod SmallStorage
+mod Ends

@@ -1,0 +1,4 @@
+pub mod Formats
+pub mod Instructions
+pub mod Texts
+pub mod Stepping
