@@ -5,7 +5,7 @@
 
 An engineer runs it by hand; it is no part of the gate. Each function is on registers, vector registers and memory, with calls, loops and frames (`random_jobs.py`). Compared are where and
 why a run ends, all general and vector registers, the condition code, and every byte of the memory. With --try an unproved build of the
-program is taken; without, the proved one. Rows that the emulator lacks are named, and functions that reach one aren't compared.
+program is taken; without, the proved one. Rows that the emulator lacks are named, and so are those that the machine as a program doesn't compute; functions that reach one aren't compared.
 It ends with 0 where all functions agree, with 1 where one differs or is refused, and with 2 where it can't run.
 """
 import argparse

@@ -191,6 +191,14 @@ rm "$copy/crates/s390x/out/s390x"
 RT=$room/none "$copy/s390x" image 4096 < /dev/null > "$room/out" 2> "$room/err"
 status=$?
 want "without rt" 1 "there is no command rt"
+# A first build that fails: how long it takes, what is done, and the log.
+printf '#!/bin/sh\necho "== s390x_base"\necho "no proof"\nexit 1\n' > "$room/rt" && chmod +x "$room/rt"
+touch "$copy/crates/s390x/args"
+RT=$room/rt "$copy/s390x" image 4096 < /dev/null > "$room/out" 2> "$room/err"
+status=$?
+want "a first build" 1 "minutes where nothing else runs"
+want "a crate that is done" 1 "crates done, 0 minutes so far: s390x_base"
+want "its log" 1 "its last line: no proof"
 RT=$room/none "$copy/s390x" --try image 4096 < /dev/null > "$room/out" 2> "$room/err"
 status=$?
 want "--try without rt" 1 "there is no command rt"
