@@ -35,7 +35,7 @@ use Rattle.s390x_typed_steps.specs.Resolved.{resolved_instruction, resolved_vect
 use Rattle.s390x_typed_steps.specs.Steps.{Step, Plain, Shortened, LoadedStep}
 use Rattle.s390x_output_laws.proofs.Portions.{kind_as_portion, loaded_as_portion, portion_kind, portion_loaded_kind}
 use Rattle.s390x_alloc.specs.Shape.{Ending, leads_to, leaves, falls, block_ending, ending, ending_of, ends_before, is_label_in, is_leading}
-use Rattle.s390x_alloc_laws.specs.Successors.{CallsHaveNoHandlers, EndsBlock, IsStepOf, StepAt, StepsLeadToSuccessors, StepsStay}
+use Rattle.s390x_alloc_laws.specs.Successors.{CallsHaveNoHandlers, EndsBlock, IsStepOf, JumpsLead, StepAt, StepsLeadToSuccessors, StepsStay}
 
 -- step k goes on to step j by what the checker says of its instruction
 abbrev GoesAs : Layout → Ending → (k j : ℕ) → Type 0
@@ -281,3 +281,11 @@ no_labels layout (Some n) None false dest h = refl
 
 pub no_handlers : CallsHaveNoHandlers
 no_handlers e link info h = no_labels e.layout e.stack_map info.try_call_info info.patchable info.dest h
+
+-- ---- a jump
+
+pub jumps_lead : JumpsLead
+jumps_lead e L k dest c at = (
+  record { registers = []; instruction = Jump dest; assigned = refl; state = e; step = Plain (Jump dest); stands = at; own = refl },
+  subst (λ o. KindStep L (kind_of_step L o) k c (At (L.first_step dest.0)) c) (sym at) (refl, refl),
+)

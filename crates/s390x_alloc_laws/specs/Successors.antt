@@ -1,10 +1,11 @@
 -- Where the typed steps lead of the function that a plan gives: to no other blocks than the checker of the plan takes for successors.
 use Rattle.std.specs.Prelude.{◌≡◌, ℕ, suc, ◌<◌, ◌⊎◌, true, false, List, [], ◌∷◌, ◌++◌, Some, None, slice_get}
+use Rattle.s390x_base.specs.declared.ir.MachLabel.{MachLabel}
 use Rattle.s390x_base.specs.declared.regs.Reg.{Reg}
 use Rattle.s390x_inst.specs.Emission.{Emission}
 use Rattle.s390x_inst.specs.declared.calls.CallInfo.{CallInfo}
 use Rattle.s390x_inst.specs.declared.inst.Inst.{Inst}
-use Rattle.s390x_inst.specs.declared.inst.Inst.TheVariants.{Call}
+use Rattle.s390x_inst.specs.declared.inst.Inst.TheVariants.{Call, Jump}
 use Rattle.s390x_typed_steps.specs.Calls.{calling, site_labels}
 use Rattle.s390x_typed_steps.specs.Resolved.{resolved_instruction}
 use Rattle.s390x_typed_steps.specs.Steps.{Step, Plain, Shortened, LoadedStep}
@@ -48,3 +49,7 @@ StepsLeadToSuccessors =
 -- no handlers of exceptions are recorded for a call that a plan may have, so that a call leads to no block
 abbrev pub CallsHaveNoHandlers : Type 0
 CallsHaveNoHandlers = (e : Emission) (link : Reg) (info : CallInfo) → is_unsupported (Call link info) ≡ false → site_labels (calling e link info).sites ≡ []
+
+-- some step goes on so: a jump, which leads to its block
+abbrev pub JumpsLead : Type 0
+JumpsLead = (e : Emission) (L : Layout) (k : ℕ) (dest : MachLabel) (c : Core) → slice_get L.steps k ≡ Some (Plain (Jump dest)) → StepAt L k (Jump dest) × TypedStep L k c (At (L.first_step dest.0)) c

@@ -1,7 +1,7 @@
 //! What holds of the function that a plan without a fault gives, by its typed steps.
 ghost use Rattle.s390x_alloc_laws.specs.Accesses.{OperandsAreSeen};
 ghost use Rattle.s390x_alloc_laws.specs.Classes.{EditsKeepClasses};
-ghost use Rattle.s390x_alloc_laws.specs.Successors.{CallsHaveNoHandlers, StepsLeadToSuccessors, StepsStay};
+ghost use Rattle.s390x_alloc_laws.specs.Successors.{CallsHaveNoHandlers, JumpsLead, StepsLeadToSuccessors, StepsStay};
 ghost use Rattle.s390x_alloc_laws.specs.Unblamed.{MovesAreNotBlamed, StepsAreNotBlamed};
 
 /// Where an instruction has no cause of refusal but its virtual registers, and its real registers stand only where `IsAllocatable` lets them, the registers of
@@ -21,6 +21,11 @@ pub fn steps_lead_to_successors()
     ensures inside { StepsStay }
     ensures ends { StepsLeadToSuccessors }
     ensures calls { CallsHaveNoHandlers }
+{}
+
+/// Some step goes on so: a jump in any layout leads to its block.
+pub fn some_step_leads()
+    ensures { JumpsLead }
 {}
 
 /// The operand in memory in which the checker looks for labels is the one that the instruction's typed step accesses, or whose address it loads.
