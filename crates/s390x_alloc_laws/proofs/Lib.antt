@@ -1,2 +1,5 @@
+pub mod Keeping
+pub mod Leading
 pub mod Moving
+pub mod Seeing
 pub mod Stepping

@@ -1,1 +1,4 @@
+pub mod Accesses
+pub mod Classes
+pub mod Successors
 pub mod Unblamed

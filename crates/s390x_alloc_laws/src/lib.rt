@@ -1,4 +1,4 @@
-//! That the registers of a plan without a fault are no cause of refusal.
+//! What holds of the function that a plan without a fault gives, by its typed steps.
 #![tactic(auto)]
 
 pub mod law;
