@@ -75,7 +75,7 @@ fn real_register(preg: PReg) -> Register
     }
 }
 
-fn register(reg: Reg) -> Register
+fn flat_register(reg: Reg) -> Register
     ensures { result ≡ register_of reg }
 {
     match reg {
@@ -108,7 +108,7 @@ fn free(kind: u32) -> Constraint
     }
 }
 
-fn constraint(constraint: OperandConstraint) -> Constraint
+fn flat_constraint(constraint: OperandConstraint) -> Constraint
     ensures { result ≡ constraint_of constraint }
 {
     match constraint {
@@ -199,8 +199,8 @@ fn put_item(
                 instruction: spot.instruction,
                 kind: kind_number(*kind),
                 is_late: pos_number(*pos),
-                register: register(*reg),
-                constraint: constraint(*place),
+                register: flat_register(*reg),
+                constraint: flat_constraint(*place),
             },
         ),
         Reported::Fixed(preg) => push(out, real_entry(spot, 2, *preg)),

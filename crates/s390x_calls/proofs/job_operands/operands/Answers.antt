@@ -1,5 +1,5 @@
 use Rattle.s390x_calls.proofs.Answering.{reported_text}
-use Rattle.s390x_calls.proofs.operands.operands.Goals as goal
+use Rattle.s390x_calls.proofs.job_operands.operands.Goals as goal
 
 pub returns-in-Ok : goal.returns-in-Ok
 returns-in-Ok c =
