@@ -1,0 +1,4 @@
+pub mod OperandEntries
+pub mod Reports
+pub mod Plans
+pub mod Operands

@@ -1,4 +1,0 @@
-use Rattle.s390x_calls.proofs.report.put_block.Goals as goal
-
-pub returns : goal.returns
-returns c = rw c.deref.ensures.value at c.put_insts.ensures
