@@ -1,5 +1,9 @@
 -- What is written behind a text that was cut is cut once.
-use Rattle.std.proofs.Common.{◌≡◌, ℕ, zero, suc, ◌≤◌, List, [], ◌∷◌, ◌++◌, length, take, refl, sym, ap, ◌∙◌, append_assoc, append-nil, arith}
+use Rattle.std.proofs.Common.{◌≡◌, ℕ, zero, suc, ◌+◌, ◌<◌, ◌≤◌, Bool, true, false, if◌then◌else◌, List, [], ◌∷◌, ◌++◌, length, take, drop, get_or, refl, sym, ap, ◌∙◌, append_assoc, append-nil, arith}
+use lib.Seq.{drop-cons}
+use Rattle.s390x_format.specs.declared.fields.Fields.{Fields}
+use Rattle.s390x_disassembler.specs.declared.forms.Operand.{Operand}
+use Rattle.s390x_disassembler.specs.Text.{is_written, operand_text, operands_text}
 use Rattle.s390x_page.specs.Texts.{Adds, fitting}
 
 cut_again : (n : ℕ) (xs ys : List ℕ) → take n (take n xs ++ ys) ≡ take n (xs ++ ys)
@@ -50,3 +54,18 @@ behind before after text rest p =
     ∙ ap (λ l. take 96 (l ++ rest)) p
     ∙ cut_again 96 (before ++ text) rest
     ∙ ap (λ l. take 96 l) (append_assoc before text rest)
+
+-- the first of the items that are left, and the others
+pub drop_next : {A : Type 0} (xs : List A) (i : ℕ) (d : A) → i < length xs → drop i xs ≡ get_or xs i d ∷ drop (i + 1) xs
+drop_next xs i d lt = drop-cons xs i d lt ∙ ap (λ (k : ℕ). get_or xs i d ∷ drop k xs) {x = suc i} {y = i + 1} (omega arith)
+
+-- an operand is written, and the others are left
+pub written_next : (out mid after : List ℕ) (separator a : ℕ) (letters : List ℕ) (f : Fields) (o : Operand) (os : List Operand) → is_written letters f o ≡ true → Adds out (separator ∷ []) mid → Adds mid (operand_text a f o) after → fitting (after ++ operands_text 44 a letters f os) ≡ fitting (out ++ operands_text separator a letters f (o ∷ os))
+written_next out mid after separator a letters f o os yes p q =
+    behind out after (separator ∷ operand_text a f o) (operands_text 44 a letters f os) (byte_then out mid after (operand_text a f o) separator p q)
+    ∙ ap (λ (b : Bool). fitting (out ++ (if b then separator ∷ (operand_text a f o ++ operands_text 44 a letters f os) else operands_text separator a letters f os))) (sym yes)
+
+-- an operand isn't written
+pub left_away : (out : List ℕ) (separator a : ℕ) (letters : List ℕ) (f : Fields) (o : Operand) (os : List Operand) → is_written letters f o ≡ false → fitting (out ++ operands_text separator a letters f os) ≡ fitting (out ++ operands_text separator a letters f (o ∷ os))
+left_away out separator a letters f o os no =
+    ap (λ (b : Bool). fitting (out ++ (if b then separator ∷ (operand_text a f o ++ operands_text 44 a letters f os) else operands_text separator a letters f os))) (sym no)

@@ -2,4 +2,5 @@ mod Fitting
 mod Numbers
 mod SameTable
 mod SmallStorage
+mod TwoHalves
 mod Ends

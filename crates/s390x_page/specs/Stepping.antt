@@ -1,5 +1,5 @@
 -- The state of the small machine, and how its step ends.
-use Rattle.std.specs.Prelude.{ℕ, zero, suc, ◌-◌, Bool, ◌&&◌, nat_le, nat_lt, if◌then◌else◌, slice_index}
+use Rattle.std.specs.Prelude.{ℕ, zero, suc, ◌+◌, ◌-◌, ◌*◌, ◌^◌, Bool, ◌&&◌, nat_le, nat_lt, if◌then◌else◌, slice_index}
 use Rattle.s390x_operations.specs.State.{Registers, State}
 use Rattle.s390x_operations.specs.Effects.{code_numbered}
 use Rattle.s390x_operations.specs.declared.stop.StopKind.TheVariants.{Access, Specification, Operation, Divide, CompareTrap}
@@ -11,7 +11,7 @@ use Rattle.s390x_page.specs.declared.storage.Storage.{Storage}
 
 -- what the page has in its registers
 abbrev pub registers_in : page.Registers → Registers
-registers_in r = record { general = λ i. slice_index r.general i; vector = λ i. slice_index r.vector i; access = λ i. slice_index r.access i; code = code_numbered r.code }
+registers_in r = record { general = λ i. slice_index r.general i; vector = λ i. slice_index r.high i * 2 ^ 64 + slice_index r.low i; access = λ i. slice_index r.access i; code = code_numbered r.code }
 
 -- the address is that of one of its bytes
 abbrev pub is_held : Storage → ℕ → Bool

@@ -15,8 +15,8 @@ Adds before text after = fitting after ≡ fitting (before ++ text)
 
 -- a text's bytes, and their number
 pub record Holds (t : InstructionText) (text : List ℕ) : Type 0 where
-  pub length : t.length ≡ length text
-  pub bytes : (i : ℕ) → i < length text → slice_index t.bytes i ≡ slice_index text i
+  pub count : t.length ≡ length text
+  pub each : (i : ℕ) → i < length text → slice_index t.bytes i ≡ slice_index text i
 
 -- the bytes begin with an instruction, and this is its text at an address
 pub record IsTextOf (address : ℕ) (bytes : List ℕ) (t : InstructionText) : Type 0 where

@@ -4,6 +4,7 @@
 
 mod digits;
 mod format_number;
+mod halves;
 mod instruction;
 mod letters;
 mod parts;

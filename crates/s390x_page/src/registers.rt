@@ -4,6 +4,7 @@ ghost use Rattle.s390x_operations.specs.Effects.{code_numbered};
 ghost use Rattle.s390x_machine.specs.State.{registers_of};
 ghost use Rattle.s390x_page.specs.Stepping.{registers_in};
 
+use crate::halves::{high_halves, joined, low_halves};
 use s390x_machine::machine::Machine;
 
 /// The registers of a machine.
@@ -12,7 +13,10 @@ use s390x_machine::machine::Machine;
 pub struct Registers {
     pub general: [u64; 16],
     pub access: [u32; 16],
-    pub vector: [u128; 32],
+    /// The left 64 bits of each vector register.
+    pub high: [u64; 32],
+    /// The right 64 bits.
+    pub low: [u64; 32],
     /// The address of the next instruction.
     pub place: u64,
     /// The condition code; a number above 3 counts as 3.
@@ -25,11 +29,10 @@ pub fn machine_of(registers: &Registers) -> Machine
     ensures place { result.place ≡ registers.now.place }
 {
     let regs = registers.general;
-    let vregs = registers.vector;
     let aregs = registers.access;
     Machine {
         regs,
-        vregs,
+        vregs: joined(&registers.high, &registers.low),
         aregs,
         cc: code(registers.code),
         place: registers.place,
@@ -42,12 +45,12 @@ pub fn registers_after(machine: &Machine) -> Registers
     ensures place { result.place ≡ machine.now.place }
 {
     let general = machine.regs;
-    let vector = machine.vregs;
     let access = machine.aregs;
     Registers {
         general,
         access,
-        vector,
+        high: high_halves(&machine.vregs),
+        low: low_halves(&machine.vregs),
         place: machine.place,
         code: machine.cc,
     }

@@ -1,0 +1,11 @@
+use Rattle.std.proofs.Common.{slice_index}
+use Rattle.s390x_page.proofs.TwoHalves.{everywhere}
+use Rattle.s390x_page.proofs.registers.machine_of.Goals as goal
+
+pub returns-clause-registers : goal.returns-clause-registers
+returns-clause-registers c = λ j. record {
+  general = λ i. slice_index c.args.registers.now.general i;
+  vector = λ i. everywhere c.joined.result c.args.registers.now.high c.args.registers.now.low c.joined.ensures.long c.joined.ensures.halves.0 c.joined.ensures.halves.1 c.joined.ensures.each i j;
+  access = λ i. slice_index c.args.registers.now.access i;
+  code = c.code.ensures.same j;
+}
