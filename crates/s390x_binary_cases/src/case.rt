@@ -17,6 +17,8 @@ pub struct Case {
     pub status: u8,
     /// What it must write.
     pub text: String,
+    /// Whether the text has the hex digits of what it must write, in a line.
+    pub in_hex: bool,
 }
 
 /// The most bytes that the program can write here; a longer text is another than the wanted one.
@@ -28,7 +30,17 @@ pub fn is_met(alloc: Global, case: Case) -> Result<bool, NoMemory> {
     let mut source = BytesSource::new(case.input.into_bytes(), Vec::new(alloc));
     let mut sink = BytesSink::new(alloc, MOST_BYTES, Vec::new(alloc), MOST_BYTES)?;
     let status = run(alloc, words.as_slice(), &mut source, &mut sink);
-    Ok(status.number() == case.status && sink.told() == case.text.as_bytes())
+    Ok(status.number() == case.status && is_told(alloc, &case, sink.told())?)
+}
+
+// Whether what the program wrote is what it must write.
+fn is_told(alloc: Global, case: &Case, told: &[u8]) -> Result<bool, NoMemory> {
+    if !case.in_hex {
+        return Ok(told == case.text.as_bytes());
+    }
+    let mut digits = hex::encode(alloc, told).map_err(|_| NoMemory)?;
+    digits.push_str("\n").map_err(|_| NoMemory)?;
+    Ok(digits.as_bytes() == case.text.as_bytes())
 }
 
 // The words of a line; an empty one has none.
