@@ -177,7 +177,12 @@ completed_reply f (Shared status.InputTooLong) text c input reply form left acce
 completed_reply f (Shared status.WriteFault) text c input reply form left accepted quiet = absurd reply
 completed_reply f (Shared status.NoMemory) text c input reply form left accepted quiet = inr refl
 completed_reply f (Shared status.Ok) text c input reply form left accepted quiet = inl refl
-completed_reply f (Shared s) text c input reply form left accepted quiet = answered_done f (Shared s) text c input reply form left accepted.unrefused
+completed_reply f (Shared status.Syntax) text c input reply form left accepted quiet = answered_done f (Shared status.Syntax) text c input reply form left accepted.unrefused
+completed_reply f (Shared status.Refused) text c input reply form left accepted quiet = answered_done f (Shared status.Refused) text c input reply form left accepted.unrefused
+completed_reply f (Shared status.LinkRefused) text c input reply form left accepted quiet = answered_done f (Shared status.LinkRefused) text c input reply form left accepted.unrefused
+completed_reply f (Shared status.BadWord) text c input reply form left accepted quiet = answered_done f (Shared status.BadWord) text c input reply form left accepted.unrefused
+completed_reply f (Shared status.PlanRefused) text c input reply form left accepted quiet = answered_done f (Shared status.PlanRefused) text c input reply form left accepted.unrefused
+completed_reply f (Shared status.BundleRefused) text c input reply form left accepted quiet = answered_done f (Shared status.BundleRefused) text c input reply form left accepted.unrefused
 
 -- how a call on an accepted input ends, where nothing failed
 pub completed : (f : Found) (told told' : Option (List ℕ)) (faults faults' : ℕ) (s : BinaryStatus) (text : List ℕ) (result : BinaryStatus)

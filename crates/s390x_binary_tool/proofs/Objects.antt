@@ -7,7 +7,7 @@ use Rattle.s390x_buffer.specs.declared.entries.MachBufferFinalized.{MachBufferFi
 use Rattle.s390x_elf.specs.Causes.{object_cause}
 use Rattle.s390x_elf.specs.Object.{IsLinkedAsImage, IsObject}
 use Rattle.s390x_elf.specs.declared.error.ObjectError.{ObjectError}
-use Rattle.s390x_elf.specs.declared.error.ObjectError.TheVariants as object
+use Rattle.s390x_elf.specs.declared.error.ObjectError.TheVariants as kind
 use Rattle.s390x_emit_int.proofs.FunctionImage.{image_of}
 use Rattle.s390x_job.specs.Jobs.{IsJob, text_of_job}
 use Rattle.s390x_job.specs.Same.{SameJob}
@@ -36,7 +36,7 @@ object_file name j code file s text is named object linked ok spelled =
     (subst (λ t. IsObjectReply name j (Shared status.Ok) t) (sym spelled)
     (record { code = code; is = is; named = named; object = object; runs = runs_where_linked name j code file is linked }))
 
-pub object_none : (name : List ℕ) (j : Job) (code : MachBufferFinalized) (e : ObjectError) (s : BinaryStatus) (text : List ℕ) → IsCodeOfJob j code → (e ≡ object.NoMemory) ⊎ (object_cause name code ≡ Some e) → IsObjectRefusal e s text → IsObjectReply name j s text
+pub object_none : (name : List ℕ) (j : Job) (code : MachBufferFinalized) (e : ObjectError) (s : BinaryStatus) (text : List ℕ) → IsCodeOfJob j code → (e ≡ kind.NoMemory) ⊎ (object_cause name code ≡ Some e) → IsObjectRefusal e s text → IsObjectReply name j s text
 object_none name j code e s text is (inl memory) (inl named) = absurd (named.0 memory)
 object_none name j code e s text is (inr cause) (inl named) =
     subst (λ t. IsObjectReply name j t text) (sym named.1) (record { code = code; is = is; error = e; cause = cause; spelled = named.2 })

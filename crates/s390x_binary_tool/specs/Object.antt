@@ -10,7 +10,7 @@ use Rattle.s390x_elf.specs.Linking.{fits_at, linked_text}
 use Rattle.s390x_elf.specs.Object.{Agrees, IsObject, name_address, whole_function}
 use Rattle.s390x_elf.specs.Symbols.{Relocation, relocations_for}
 use Rattle.s390x_elf.specs.declared.error.ObjectError.{ObjectError}
-use Rattle.s390x_elf.specs.declared.error.ObjectError.TheVariants as object
+use Rattle.s390x_elf.specs.declared.error.ObjectError.TheVariants as kind
 use Rattle.s390x_emit_int.specs.FunctionImage.{IsImageOf}
 use Rattle.s390x_job.specs.declared.job.Job.{Job}
 use Rattle.s390x_tool.specs.Answers.{IsCodeOfJob, IsRefused, IsSyntax}
@@ -38,12 +38,12 @@ pub record IsObjectFile (name : List ℕ) (j : Job) (file : List ℕ) : Type 0 w
 
 -- the name of a cause
 abbrev pub object_error_name : ObjectError → List ℕ
-object_error_name object.EmptyName = codes "EmptyName"
-object_error_name object.ZeroByte = codes "ZeroByte"
-object_error_name object.DuplicateName = codes "DuplicateName"
-object_error_name object.EmptyMember = codes "EmptyMember"
-object_error_name object.TooLong = codes "TooLong"
-object_error_name object.NoMemory = codes "NoMemory"
+object_error_name kind.EmptyName = codes "EmptyName"
+object_error_name kind.ZeroByte = codes "ZeroByte"
+object_error_name kind.DuplicateName = codes "DuplicateName"
+object_error_name kind.EmptyMember = codes "EmptyMember"
+object_error_name kind.TooLong = codes "TooLong"
+object_error_name kind.NoMemory = codes "NoMemory"
 
 -- the line of a cause
 abbrev pub object_line : ObjectError → List ℕ
@@ -52,8 +52,8 @@ object_line error = line (codes "object " ++ object_error_name error)
 -- the reply to a cause, which want of memory is too
 abbrev pub IsObjectRefusal : ObjectError → BinaryStatus → List ℕ → Type 0
 IsObjectRefusal e s text =
-    ((e ≢ object.NoMemory) × (s ≡ ObjectRefused) × (text ≡ object_line e))
-    ⊎ ((e ≡ object.NoMemory) × (s ≡ Shared status.NoMemory) × (text ≡ line (codes "no memory")))
+    ((e ≢ kind.NoMemory) × (s ≡ ObjectRefused) × (text ≡ object_line e))
+    ⊎ ((e ≡ kind.NoMemory) × (s ≡ Shared status.NoMemory) × (text ≡ line (codes "no memory")))
 
 -- emission has no cause to refuse the job, and its code is not made an object, by the first cause
 pub record IsNoObject (name : List ℕ) (j : Job) (text : List ℕ) : Type 0 where

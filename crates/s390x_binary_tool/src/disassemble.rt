@@ -5,7 +5,7 @@ ghost use Rattle.s390x_tool.specs.Ends.{too_many};
 ghost use Rattle.s390x_binary_tool.specs.Disassemble.{IsDisassembleAnswer, IsDisassembleReply};
 
 use crate::image_text::read_image;
-use crate::reply::{BinaryReply, made, shared, wrong_at};
+use crate::reply::{BinaryReply, shared, with_text, wrong_at};
 use crate::status::BinaryStatus;
 use s390x_tool::Status;
 use s390x_tool::reply::no_memory;
@@ -27,8 +27,8 @@ pub fn disassemble(alloc: Global, base: u64, input: &[u8]) -> BinaryReply
 fn disassembly(alloc: Global, base: u64, code: &[u8]) -> BinaryReply
     ensures { IsDisassembleReply base code.now result.status (cow_slice_items result.text) }
 {
-    made(
-        BinaryStatus::Shared(Status::Ok),
-        s390x_disassembler::disassemble(alloc, base, code),
-    )
+    match s390x_disassembler::disassemble(alloc, base, code) {
+        Ok(text) => with_text(BinaryStatus::Shared(Status::Ok), text),
+        Err(_) => shared(no_memory()),
+    }
 }

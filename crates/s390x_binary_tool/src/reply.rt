@@ -47,11 +47,19 @@ pub fn made(status: BinaryStatus, text: Result<String, AllocError>) -> BinaryRep
     ensures err { OnErr text ((result.status ≡ Shared first.NoMemory) × (cow_slice_items result.text ≡ line (codes "no memory"))) }
 {
     match text {
-        Ok(text) => BinaryReply {
-            status,
-            text: CowSlice::Owned(text.into_bytes()),
-        },
+        Ok(text) => with_text(status, text),
         Err(_) => shared(no_memory()),
+    }
+}
+
+/// A reply with a text.
+pub fn with_text(status: BinaryStatus, text: String) -> BinaryReply
+    ensures status { result.status ≡ status }
+    ensures text { cow_slice_items result.text ≡ string_bytes text }
+{
+    BinaryReply {
+        status,
+        text: CowSlice::Owned(text.into_bytes()),
     }
 }
 
