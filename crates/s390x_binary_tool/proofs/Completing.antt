@@ -63,7 +63,7 @@ same_bytes j base table f g x y =
     ap (λ rs. filled base table rs f.bytes.items) (x.relocs ∙ sym y.relocs) ∙ ap (filled base table g.relocs.items) (x.bytes ∙ sym y.bytes)
 
 -- and linking has the same cause to refuse them
-cause_by : (base : ℕ) (table : Symbols) (alignment : ℕ) (bytes : List ℕ) (rs : List RelocEntry) → Option LinkError
+abbrev cause_by : (base : ℕ) (table : Symbols) (alignment : ℕ) (bytes : List ℕ) (rs : List RelocEntry) → Option LinkError
 cause_by base table alignment bytes rs = first_link_cause (base_cause alignment (length bytes) base) (relocs_cause base table rs)
 
 same_link_cause : (j : Job) (base : ℕ) (table : Symbols) (f g : MachBufferFinalized)

@@ -5,6 +5,7 @@ ghost use Rattle.s390x_commands.specs.Words.{texts};
 ghost use Rattle.s390x_tool.specs.Causes.{FaultCountRose};
 ghost use Rattle.s390x_tool.specs.Ends.{IsTooLong, too_many};
 ghost use Rattle.s390x_binary_commands.specs.Words.{IsForm, IsNoForm};
+ghost use Rattle.s390x_binary_commands.specs.declared.words.Command.{Command};
 ghost use Rattle.s390x_binary_tool.specs.Accepted.{IsAccepted};
 ghost use Rattle.s390x_binary_tool.specs.Replies.{IsDelivered, IsDone, IsEnded, IsInputAnswer, IsReply};
 ghost use Rattle.s390x_binary_tool.specs.declared.status.BinaryStatus.TheVariants.{Shared};
