@@ -1,7 +1,6 @@
 -- What nothing refuses is done, unless memory doesn't suffice.
 use Rattle.std.proofs.Common.{◌≡◌, ℕ, ◌⊎◌, inl, inr, List, length, refl, sym, ap, ◌∙◌, arith, subst, Some, None}
 use Rattle.std.specs.Prelude.{Option}
-use Rattle.s390x_inst.specs.Emission.{Emission}
 use Rattle.s390x_buffer.specs.declared.entries.MachBufferFinalized.{MachBufferFinalized}
 use Rattle.s390x_buffer.specs.declared.entries.RelocEntry.{RelocEntry}
 use Rattle.s390x_typed_steps.specs.Folding.{folded_trees}

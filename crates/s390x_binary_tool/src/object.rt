@@ -37,12 +37,7 @@ fn object_of_job(alloc: Global, name: &str, job: &Job) -> BinaryReply
 }
 
 // The reply to a job with this code.
-fn object_of_code(
-    alloc: Global,
-    name: &str,
-    job: &Job,
-    code: &MachBufferFinalized,
-) -> BinaryReply
+fn object_of_code(alloc: Global, name: &str, job: &Job, code: &MachBufferFinalized) -> BinaryReply
     requires { IsCodeOfJob job.now code.now }
     ensures { IsObjectReply name.now job.now result.status (cow_slice_items result.text) }
 {
