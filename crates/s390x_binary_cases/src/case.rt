@@ -30,17 +30,18 @@ pub fn is_met(alloc: Global, case: Case) -> Result<bool, NoMemory> {
     let mut source = BytesSource::new(case.input.into_bytes(), Vec::new(alloc));
     let mut sink = BytesSink::new(alloc, MOST_BYTES, Vec::new(alloc), MOST_BYTES)?;
     let status = run(alloc, words.as_slice(), &mut source, &mut sink);
-    Ok(status.number() == case.status && is_told(alloc, &case, sink.told())?)
+    let is_told = is_told(alloc, &case.text, case.in_hex, sink.told())?;
+    Ok(is_told && status.number() == case.status)
 }
 
-// Whether what the program wrote is what it must write.
-fn is_told(alloc: Global, case: &Case, told: &[u8]) -> Result<bool, NoMemory> {
-    if !case.in_hex {
-        return Ok(told == case.text.as_bytes());
+// Whether the program wrote this text, or what its hex digits tell.
+fn is_told(alloc: Global, text: &str, in_hex: bool, told: &[u8]) -> Result<bool, NoMemory> {
+    if !in_hex {
+        return Ok(told == text.as_bytes());
     }
     let mut digits = hex::encode(alloc, told).map_err(|_| NoMemory)?;
     digits.push_str("\n").map_err(|_| NoMemory)?;
-    Ok(digits.as_bytes() == case.text.as_bytes())
+    Ok(digits.as_bytes() == text.as_bytes())
 }
 
 // The words of a line; an empty one has none.
