@@ -30,8 +30,8 @@ pub fn is_met(alloc: Global, case: Case) -> Result<bool, NoMemory> {
     let mut source = BytesSource::new(case.input.into_bytes(), Vec::new(alloc));
     let mut sink = BytesSink::new(alloc, MOST_BYTES, Vec::new(alloc), MOST_BYTES)?;
     let status = run(alloc, words.as_slice(), &mut source, &mut sink);
-    let is_told = is_told(alloc, &case.text, case.in_hex, sink.told())?;
-    Ok(is_told && status.number() == case.status)
+    let is_same = is_told(alloc, &case.text, case.in_hex, sink.told())?;
+    Ok(is_same && status.number() == case.status)
 }
 
 // Whether the program wrote this text, or what its hex digits tell.
