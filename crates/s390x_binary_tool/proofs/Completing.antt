@@ -3,8 +3,7 @@ use Rattle.std.proofs.Common.{◌≡◌, ℕ, ◌⊎◌, inl, inr, List, length,
 use Rattle.std.specs.Prelude.{Option}
 use Rattle.s390x_buffer.specs.declared.entries.MachBufferFinalized.{MachBufferFinalized}
 use Rattle.s390x_buffer.specs.declared.entries.RelocEntry.{RelocEntry}
-use Rattle.s390x_typed_steps.specs.Folding.{folded_trees}
-use Rattle.s390x_emit_int.specs.Function.{IsFinishedCode, constants_of, folded_trees_of, trees_of}
+use Rattle.s390x_emit_int.specs.Function.{IsFinishedCode, constants_of, folded_trees_of}
 use Rattle.s390x_image.specs.Causes.{base_cause, first_link_cause, link_cause, relocs_cause}
 use Rattle.s390x_image.specs.Fields.{filled}
 use Rattle.s390x_image.specs.Symbols.{Symbols, no_symbols}
@@ -16,13 +15,12 @@ use Rattle.s390x_binary_commands.specs.Words.{IsForm}
 use Rattle.s390x_binary_commands.specs.declared.words.Command.{Command}
 use Rattle.s390x_binary_commands.specs.declared.words.Command.TheVariants.{Refusal, Verify, Disassemble, Assemble, Object}
 use Rattle.s390x_binary_commands.proofs.Told.{same_command}
-use Rattle.s390x_tool.specs.Answers.{symbols_of, with_symbols}
+use Rattle.s390x_tool.specs.Answers.{IsCodeOfJob, IsImageAt, symbols_of, with_symbols}
 use Rattle.s390x_tool.specs.Causes.{FaultCountRose}
 use Rattle.s390x_tool.specs.Replies.{Found}
 use Rattle.s390x_tool.specs.declared.status.Status.TheVariants as status
 use Rattle.s390x_tool.proofs.Completing.{read_less, read_whole}
-use Rattle.s390x_tool.proofs.SameEnds.{same_folded}
-use Rattle.s390x_tool.proofs.SameJob.{same_blocks, same_cause, same_code, same_constants, same_image, same_symbols}
+use Rattle.s390x_tool.proofs.SameJob.{same_cause, same_code, same_symbols}
 use Rattle.s390x_binary_tool.specs.Accepted.{IsAccepted, IsHexCode, IsJobWithImage, IsObjectJob, IsSomeDisassembly, IsUnrefused, IsValidJob}
 use Rattle.s390x_binary_tool.specs.Assemble.{IsAssembleAnswer}
 use Rattle.s390x_binary_tool.specs.Disassemble.{IsDisassembleAnswer}
@@ -45,14 +43,9 @@ no_cause o e none some = let clash = sym none ∙ some in absurd cc
 same_table : (j k : Job) → IsJob j → IsJob k → SameJob j k → symbols_of j ≡ symbols_of k
 same_table j k a b e = ap (with_symbols no_symbols) (same_symbols j k a b e)
 
--- the finished code of one is that of the other
-moved : (j k : Job) (code : MachBufferFinalized) → IsJob j → IsJob k → SameJob j k
-    → IsFinishedCode (folded_trees_of k.info.isa_flags k.state k.function) (constants_of k.function) code → IsFinishedCode (folded_trees_of j.info.isa_flags j.state j.function) (constants_of j.function) code
-moved j k code a b e h =
-    let ts = trees_of j.info.isa_flags j.state j.function in
-    let us = trees_of k.info.isa_flags k.state k.function in
-    subst (λ cs. IsFinishedCode (folded_trees ts) cs code) (sym (same_constants j k a b e))
-    (same_image (folded_trees us) (folded_trees ts) (constants_of k.function) code (sym (same_folded ts us (same_blocks j k a b e))) h)
+-- a code of one is a finished code of the other
+moved : (j k : Job) (code : MachBufferFinalized) → IsJob j → IsJob k → SameJob j k → IsCodeOfJob k code → IsFinishedCode (folded_trees_of j.info.isa_flags j.state j.function) (constants_of j.function) code
+moved j k code a b e h = (same_code k j code b a (sym e) h).emitted
 
 -- two finished codes of one function are linked to the same bytes
 same_bytes : (j : Job) (base : ℕ) (table : Symbols) (f g : MachBufferFinalized)
@@ -74,18 +67,18 @@ same_link_cause j base table f g x y =
     ∙ ap (cause_by base table g.alignment g.bytes.items) (x.relocs ∙ sym y.relocs)
 
 -- their images are the same
-one_image : (base : ℕ) (j k : Job) (bytes given : List ℕ) → IsJob j → IsJob k → SameJob j k → IsJobImage base j bytes → IsJobImage base k given → bytes ≡ given
+one_image : (base : ℕ) (j k : Job) (bytes given : List ℕ) → IsJob j → IsJob k → SameJob j k → IsJobImage base j bytes → IsImageAt base k given → bytes ≡ given
 one_image base j k bytes given a b e x y =
     x.is
-    ∙ same_bytes j base (symbols_of j) x.code y.code x.finished (moved j k y.code a b e y.finished)
+    ∙ same_bytes j base (symbols_of j) x.code y.code x.finished (moved j k y.code a b e y.is)
     ∙ ap (λ table. filled base table y.code.relocs.items y.code.bytes.items) (same_table j k a b e)
-    ∙ sym y.is
+    ∙ sym y.filled
 
 -- where one has an image, linking has no cause to refuse a code of the other
-linked_too : (base : ℕ) (j k : Job) (bytes : List ℕ) (code : MachBufferFinalized) → IsJob j → IsJob k → SameJob j k → IsJobImage base k bytes
+linked_too : (base : ℕ) (j k : Job) (bytes : List ℕ) (code : MachBufferFinalized) → IsJob j → IsJob k → SameJob j k → IsImageAt base k bytes
     → IsFinishedCode (folded_trees_of j.info.isa_flags j.state j.function) (constants_of j.function) code → link_cause code base (symbols_of j) ≡ None
 linked_too base j k bytes code a b e y finished =
-    same_link_cause j base (symbols_of j) code y.code finished (moved j k y.code a b e y.finished)
+    same_link_cause j base (symbols_of j) code y.code finished (moved j k y.code a b e y.is)
     ∙ ap (link_cause y.code base) (same_table j k a b e)
     ∙ y.linked
 
@@ -113,7 +106,7 @@ verify_done base input (Shared status.NoMemory) text v a = inr refl
 verify_done base input (Shared status.Syntax) text v a = absurd (a.none v.job v.given v.are)
 verify_done base input (Shared status.Refused) text v a =
     let one = a.one v.job v.given v.are in
-    absurd (no_cause _ a.reply.error (same_cause a.job v.job a.are.is v.are.is one.0 ∙ v.image.valid) a.reply.cause)
+    absurd (no_cause _ a.reply.error (same_cause a.job v.job a.are.is v.are.is one.0 ∙ v.image.is.valid) a.reply.cause)
 verify_done base input (Shared status.LinkRefused) text v a =
     let one = a.one v.job v.given v.are in
     let why = a.reply.cause in

@@ -9,9 +9,9 @@ use Rattle.s390x_job.specs.declared.job.Job.{Job}
 use Rattle.s390x_binary_commands.specs.Words.{object_name}
 use Rattle.s390x_binary_commands.specs.declared.words.Command.{Command}
 use Rattle.s390x_binary_commands.specs.declared.words.Command.TheVariants.{Refusal, Verify, Disassemble, Assemble, Object}
-use Rattle.s390x_tool.specs.Answers.{IsCodeOfJob, job_cause}
+use Rattle.s390x_tool.specs.Answers.{IsCodeOfJob, IsImageAt, job_cause}
 use Rattle.s390x_binary_tool.specs.ImageText.{IsImageText}
-use Rattle.s390x_binary_tool.specs.Verify.{IsJobImage, IsVerifyText}
+use Rattle.s390x_binary_tool.specs.Verify.{IsVerifyText}
 
 -- the input is the text of a job, which emission has no cause to refuse
 pub record IsValidJob (input : List ℕ) : Type 0 where
@@ -20,12 +20,12 @@ pub record IsValidJob (input : List ℕ) : Type 0 where
   pub spelled : text_of_job job ≡ input
   pub valid : job_cause job ≡ None
 
--- the input is the text of a job, and behind it stands its image at the base
+-- the input is the text of a job, and behind it stands its image at the base, as the first program writes it
 pub record IsJobWithImage (base : ℕ) (input : List ℕ) : Type 0 where
   pub job : Job
   pub given : List ℕ
   pub are : IsVerifyText input job given
-  pub image : IsJobImage base job given
+  pub image : IsImageAt base job given
 
 -- code in lines of hex digits
 pub record IsHexCode (input : List ℕ) : Type 0 where
