@@ -1,17 +1,18 @@
 #!/usr/bin/env python3
-"""Fails or shortens reads and writes, and refuses each growth of the heap in turn, while the proved program works on what examples/ holds.
+"""Fails, shortens or interrupts reads and writes, and refuses each growth of the heap in turn, while the proved program works on what examples/ holds.
 
     checks/faults.py            prints what was tried of each command, and how often
 
 An engineer runs it by hand; it is no part of the gate. The program runs under a small library that is preloaded, whose source stands below: it
 refuses the N-th call that takes memory from the C library, from which all memory of the program comes, or fails the N-th read or write, or lets every
-read and write move one byte. Expected is, of each run:
+read and write move one byte, or interrupts the first N reads or writes as a signal does (EINTR). Expected is, of each run:
 
 - where the N-th growth was refused, status 9 and the line `no memory`, no line where the words themselves found no memory, or the answer of an
   undisturbed run where that growth only made room ahead;
 - where a read failed, status 6 and the line `read fault`;
 - where a write failed, status 7, and a proper prefix of the undisturbed text;
-- with short reads and writes, the undisturbed answer.
+- with short reads and writes, the undisturbed answer;
+- where the first 15 reads or writes were interrupted, the undisturbed answer; where 16 were, that of a failed read or write.
 
 It ends with 0 where all is so, with 1 where a run ended otherwise, and with 2 where it can't run.
 """
@@ -27,6 +28,9 @@ PROGRAM = os.environ.get("S390X") or os.path.join(ROOT, "crates", "s390x", "out"
 
 NO_MEMORY, NO_WORDS, READ_FAULT, WRITE_FAULT = (9, b"no memory\n"), (9, b""), (6, b"read fault\n"), 7
 
+# How often the program makes a call that is interrupted each time.
+MOST_TRIES = 16
+
 SHIM = r"""
 #define _GNU_SOURCE
 #include <dlfcn.h>
@@ -40,11 +44,13 @@ static long number(const char *name) {
     return text ? atol(text) : 0;
 }
 
-static long refused, failed_read, failed_write, is_short, growths, reads, writes;
+static long refused, failed_read, failed_write, interrupted_reads, interrupted_writes, is_short, growths, reads, writes;
 
 __attribute__((constructor)) static void start(void) {
     failed_read = number("FAILED_READ");
     failed_write = number("FAILED_WRITE");
+    interrupted_reads = number("INTERRUPTED_READS");
+    interrupted_writes = number("INTERRUPTED_WRITES");
     is_short = number("SHORT");
     refused = number("REFUSED_GROWTH");
 }
@@ -75,6 +81,7 @@ ssize_t read(int file, void *bytes, size_t count) {
     static ssize_t (*next)(int, void *, size_t);
     if (!next) next = dlsym(RTLD_NEXT, "read");
     if (file == 0 && ++reads == failed_read) { errno = EIO; return -1; }
+    if (file == 0 && reads <= interrupted_reads) { errno = EINTR; return -1; }
     return next(file, bytes, is_short && count ? 1 : count);
 }
 
@@ -82,6 +89,7 @@ ssize_t write(int file, const void *bytes, size_t count) {
     static ssize_t (*next)(int, const void *, size_t);
     if (!next) next = dlsym(RTLD_NEXT, "write");
     if (file == 1 && ++writes == failed_write) { errno = EIO; return -1; }
+    if (file == 1 && writes <= interrupted_writes) { errno = EINTR; return -1; }
     return next(file, bytes, is_short && count ? 1 : count);
 }
 """
@@ -160,6 +168,18 @@ class Tries:
             answer = run(self.library, self.words, self.job, FAILED_WRITE=number, SHORT=1)
             self.expect("writes failed", answer, answer == (WRITE_FAULT, self.good[1][:number - 1]))
 
+    def interrupted(self):
+        reads_nothing = self.words[0] in ("gen", "smp")
+        for count, read, written in (
+            (1, self.good, self.good),
+            (MOST_TRIES - 1, self.good, self.good),
+            (MOST_TRIES, self.good if reads_nothing else READ_FAULT, (WRITE_FAULT, b"")),
+        ):
+            answer = run(self.library, self.words, self.job, INTERRUPTED_READS=count)
+            self.expect("reads interrupted", answer, answer == read)
+            answer = run(self.library, self.words, self.job, INTERRUPTED_WRITES=count)
+            self.expect("writes interrupted", answer, answer == written)
+
     def short(self):
         answer = run(self.library, self.words, self.job, SHORT=1)
         self.expect("short reads and writes", answer, answer == self.good)
@@ -174,7 +194,7 @@ def main():
         library = build_shim(folder)
         for name, words, job in commands():
             tries = Tries(library, words, job)
-            for tried in (tries.growths, tries.reads, tries.writes, tries.short):
+            for tried in (tries.growths, tries.reads, tries.writes, tries.interrupted, tries.short):
                 tried()
             told = ", ".join(f"{count} {what}" for what, count in tries.counts.items())
             print(f"{name} {' '.join(words)}: status {tries.good[0]}; {told}")

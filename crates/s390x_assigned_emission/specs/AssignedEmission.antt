@@ -9,9 +9,11 @@ use Rattle.s390x_inst.specs.declared.inst.Inst.{Inst}
 use Rattle.s390x_inst.specs.declared.state.IsaFlags.{IsaFlags}
 use Rattle.s390x_typed_steps.specs.Causes.{declared_in}
 use Rattle.s390x_typed_steps.specs.Stack.{state_after}
+use Rattle.s390x_operands.specs.Meets.{Meets}
 use Rattle.s390x_operands.specs.Operands.{operands}
 use Rattle.s390x_assign.specs.Assignments.{IsAssignAnswer, replaced}
-use Rattle.s390x_assign_laws.specs.Allocatable.{IsAssigned, Place}
+use Rattle.s390x_assign_laws.specs.Allocatable.{IsAllocatable, IsAssigned, Place, Spares}
+use Rattle.s390x_output_laws.specs.Emitted.{ChangesOnlyOutputs}
 use Rattle.s390x_emit_int.specs.Emission.{own_fragments}
 use Rattle.s390x_emit_int.specs.Fragments.{apply_all}
 use Rattle.s390x_emit_int.specs.Instruction.{emit_cause}
@@ -22,6 +24,12 @@ use Rattle.s390x_assigned_emission.specs.declared.emitting.AssignedError.TheVari
 -- where a machine with these flags has the next instruction of a buffer, outside every loop
 abbrev pub place_in : IsaFlags → Emission → BufferState → Place
 place_in flags before sink = record { flags = flags; declared = declared_in sink; depth = 0; state = before }
+
+-- an allocator may give an instruction these registers there: it is allocatable, and they meet its constraints, and no virtual operand gets `%r0`, `%r1` or `%r15`
+pub record MayBeGiven (flags : IsaFlags) (before : Emission) (sink : BufferState) (i : Inst) (registers : List Reg) : Type 0 where
+  pub allocatable : IsAllocatable (place_in flags before sink) i
+  pub meet : Meets (operands i) registers
+  pub spare : Spares (operands i) registers
 
 -- one instruction is another with these registers, as `assign` answers it
 pub record IsGiven (i : Inst) (registers : List Reg) (j : Inst) : Type 0 where
@@ -52,3 +60,9 @@ pub record IsRefused (flags : IsaFlags) (before : Emission) (sink : BufferState)
 abbrev pub IsNotEmitted : IsaFlags → (before : Emission) → (sink : BufferState) → Inst → List Reg → (after : Emission) → (behind : BufferState) → AssignedError → Type 0
 IsNotEmitted flags before sink i registers after behind (Assign error) = IsAssignAnswer i registers (Err error) × (behind ≡ sink) × (after ≡ before)
 IsNotEmitted flags before sink i registers after behind (Emit error) = IsRefused flags before sink i registers behind error × (after ≡ before)
+
+-- an instruction with these registers was appended to a buffer, and changes nothing but what it reported: the registers that its outputs got, the range of a multiple
+-- load, and `%r1` where that is reported
+pub record IsEmittedForOutputs (flags : IsaFlags) (before : Emission) (sink : BufferState) (i : Inst) (registers : List Reg) (after : Emission) (behind : BufferState) : Type 0 where
+  pub emitted : IsEmitted flags before sink i registers after behind
+  pub changes : ChangesOnlyOutputs (place_in flags before sink) i registers emitted.instruction

@@ -1,11 +1,8 @@
 //! An instruction emitted with the registers that an allocator chose for its operands.
-ghost use Rattle.std.specs.Prelude.{◌≢◌, IfErr, MatchResult};
+ghost use Rattle.std.specs.Prelude.{◌≢◌, IfErr, IfOk, MatchResult};
 ghost use Rattle.s390x_base.specs.declared.error.EmitError.TheVariants.{BadRegister, ScratchConflict};
 ghost use Rattle.s390x_buffer.specs.Extends.{Extends};
-ghost use Rattle.s390x_operands.specs.Meets.{Meets};
-ghost use Rattle.s390x_operands.specs.Operands.{operands};
-ghost use Rattle.s390x_assign_laws.specs.Allocatable.{IsAllocatable, Spares};
-ghost use Rattle.s390x_assigned_emission.specs.AssignedEmission.{IsEmitted, IsNotEmitted, place_in};
+ghost use Rattle.s390x_assigned_emission.specs.AssignedEmission.{IsEmitted, IsEmittedForOutputs, IsNotEmitted, MayBeGiven};
 ghost use Rattle.s390x_assigned_emission.specs.declared.emitting.AssignedError.TheVariants.{Emit};
 
 use s390x_assign::{AssignError, assign};
@@ -31,7 +28,8 @@ pub enum AssignedError {
 ///
 /// Refused by `Assign` with what `assign` answers, and then the buffer and the state are as they were; or by `Emit` with what `Inst::emit` answers, which
 /// marks the buffer, leaves what stood in it, and the state as it was. Where the instruction is allocatable there (`s390x_assign_laws`), and the registers meet
-/// its constraints, and give no virtual operand `%r0`, `%r1` or `%r15`, it is refused neither by `Emit(BadRegister)` nor by `Emit(ScratchConflict)`.
+/// its constraints, and give no virtual operand `%r0`, `%r1` or `%r15`, it is refused neither by `Emit(BadRegister)` nor by `Emit(ScratchConflict)`, and what was
+/// appended changes no register but those that its outputs got, the range of a `LoadMultiple64`, and `%r1` where that is reported (`s390x_output_laws`).
 pub fn emit_assigned(
     alloc: Global,
     inst: &Inst,
@@ -41,7 +39,10 @@ pub fn emit_assigned(
     state: &mut EmitState,
 ) -> Result<(), AssignedError>
     ensures answer { MatchResult result (λ _. IsEmitted info.now.isa_flags state.old sink.old inst.now registers.now state.new sink.new) (λ error. IsNotEmitted info.now.isa_flags state.old sink.old inst.now registers.now state.new sink.new error) }
-    ensures suffices { IsAllocatable (place_in info.now.isa_flags state.old sink.old) inst.now → Meets (operands inst.now) registers.now → Spares (operands inst.now) registers.now → IfErr result (λ error. (error ≢ Emit BadRegister) × (error ≢ Emit ScratchConflict)) }
+    ensures suffices { MayBeGiven info.now.isa_flags state.old sink.old inst.now registers.now
+        → IfErr result (λ error. (error ≢ Emit BadRegister) × (error ≢ Emit ScratchConflict)) }
+    ensures changes { MayBeGiven info.now.isa_flags state.old sink.old inst.now registers.now
+        → IfOk result (λ _. IsEmittedForOutputs info.now.isa_flags state.old sink.old inst.now registers.now state.new sink.new) }
     ensures kept { Extends sink.old sink.new }
 {
     let assigned = match assign(alloc, inst, registers) {

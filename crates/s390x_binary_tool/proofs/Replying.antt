@@ -1,8 +1,9 @@
 -- From an answer to the reply, and what follows from it and how it was written.
 use Rattle.std.proofs.Common.{◌≡◌, ℕ, ◌<◌, ◌⊎◌, inl, inr, List, refl, sym, ◌∙◌, subst, arith}
 use Rattle.std.specs.Prelude.{Option, codes}
+use Rattle.s390x_tool.proofs.Parts.{whole_part}
 use Rattle.s390x_tool.specs.Causes.{FaultCountRose}
-use Rattle.s390x_tool.specs.Ends.{IsRead, IsTooLong}
+use Rattle.s390x_tool.specs.Ends.{IsPartRead, IsRead, IsTooLong, most_bytes, too_many}
 use Rattle.s390x_tool.specs.Lines.{IsUnread, line}
 use Rattle.s390x_tool.specs.Replies.{Found}
 use Rattle.s390x_tool.specs.declared.input.InputError.{InputError}
@@ -62,7 +63,8 @@ reply_answered f c given (Shared status.Usage) text form read same answer = absu
 reply_answered f c given (Shared status.ReadFault) text form read same answer = absurd (no_read_fault c f.words given text answer)
 reply_answered f c given (Shared status.InputTooLong) text form read same answer = absurd (no_long_input c f.words given text answer)
 reply_answered f c given (Shared status.WriteFault) text form read same answer = absurd (no_write_fault c f.words given text answer)
-reply_answered f c given (Shared status.NoMemory) text form read same answer = (record { command = c; form = form; same = same }, memory_line c f.words given text answer)
+reply_answered f c given (Shared status.NoMemory) text form read same answer =
+    (record { command = c; form = form; part = whole_part f.left f.left' given read; same = same }, memory_line c f.words given text answer)
 reply_answered f c given (Shared status.Ok) text form read same answer = record { command = c; form = form; input = given; read = read; same = same; answer = answer }
 reply_answered f c given (Shared status.Syntax) text form read same answer = record { command = c; form = form; input = given; read = read; same = same; answer = answer }
 reply_answered f c given (Shared status.Refused) text form read same answer = record { command = c; form = form; input = given; read = read; same = same; answer = answer }
@@ -73,12 +75,15 @@ reply_answered f c given (Shared status.BundleRefused) text form read same answe
 
 -- so is that the input isn't read to its end
 pub reply_unread : (f : Found) (c : Command) (e : InputError) (s : Status) (text : List ℕ) → IsForm f.words c
-    → (e ≡ input.TooLong → IsTooLong f.left f.left') → (e ≡ input.Fault → FaultCountRose f.faults f.faults') → (e ≡ input.Fault) ⊎ (f.faults' ≡ f.faults) → IsUnread e s text → IsReply f (Shared s) text
-reply_unread f c input.Fault s text form long rose same told = rw told.0 (record { command = c; form = form; rose = rose refl }, told.1)
-reply_unread f c input.TooLong s text form long rose (inl clash) told = absurd cc
-reply_unread f c input.TooLong s text form long rose (inr same) told = rw told.0 (record { command = c; form = form; long = long refl; same = same }, told.1)
-reply_unread f c input.NoMemory s text form long rose (inl clash) told = absurd cc
-reply_unread f c input.NoMemory s text form long rose (inr same) told = rw told.0 (record { command = c; form = form; same = same }, told.1)
+    → (e ≡ input.TooLong → IsTooLong f.left f.left') → (e ≡ input.Fault → FaultCountRose f.faults f.faults')
+    → (e ≡ input.Fault → IsPartRead f.left f.left' most_bytes) → (e ≡ input.NoMemory → IsPartRead f.left f.left' too_many)
+    → (e ≡ input.Fault) ⊎ (f.faults' ≡ f.faults) → IsUnread e s text → IsReply f (Shared s) text
+reply_unread f c input.Fault s text form long rose failed stopped same told = rw told.0 (record { command = c; form = form; part = failed refl; rose = rose refl }, told.1)
+reply_unread f c input.TooLong s text form long rose failed stopped (inl clash) told = absurd cc
+reply_unread f c input.TooLong s text form long rose failed stopped (inr same) told = rw told.0 (record { command = c; form = form; long = long refl; same = same }, told.1)
+reply_unread f c input.NoMemory s text form long rose failed stopped (inl clash) told = absurd cc
+reply_unread f c input.NoMemory s text form long rose failed stopped (inr same) told =
+    rw told.0 (record { command = c; form = form; part = stopped refl; same = same }, told.1)
 
 -- ---- what follows from it
 

@@ -2,7 +2,7 @@
 use Rattle.std.specs.Prelude.{ℕ, ◌≡◌, List, codes, Option, ◌⊎◌}
 use Rattle.std.specs.Io.KnownBytes.{Appends}
 use Rattle.s390x_tool.specs.Causes.{FaultCountRose}
-use Rattle.s390x_tool.specs.Ends.{IsCutShort, IsRead, IsTooLong}
+use Rattle.s390x_tool.specs.Ends.{IsCutShort, IsPartRead, IsRead, IsTooLong, most_bytes, too_many}
 use Rattle.s390x_tool.specs.Lines.{line}
 use Rattle.s390x_tool.specs.Replies.{Found}
 use Rattle.s390x_tool.specs.declared.status.Status.TheVariants as status
@@ -23,10 +23,11 @@ pub record IsUsage (f : Found) : Type 0 where
   pub kept : f.left' ≡ f.left
   pub same : f.faults' ≡ f.faults
 
--- the words are a command, and a read failed
+-- the words are a command, and a read failed, after others of not too many bytes; the source has left what stands behind them
 pub record IsReadFault (f : Found) : Type 0 where
   pub command : Command
   pub form : IsForm f.words command
+  pub part : IsPartRead f.left f.left' most_bytes
   pub rose : FaultCountRose f.faults f.faults'
 
 -- the words are a command, and too many bytes came
@@ -36,10 +37,11 @@ pub record IsInputTooLong (f : Found) : Type 0 where
   pub long : IsTooLong f.left f.left'
   pub same : f.faults' ≡ f.faults
 
--- the words are a command, and memory didn't suffice
+-- the words are a command, and memory didn't suffice, for the input or for its answer
 pub record IsOutOfMemory (f : Found) : Type 0 where
   pub command : Command
   pub form : IsForm f.words command
+  pub part : IsPartRead f.left f.left' too_many
   pub same : f.faults' ≡ f.faults
 
 -- the answer to a command, which these words are, and its whole input

@@ -1,5 +1,5 @@
 -- A processor leaves a retry loop by a break.
-use Rattle.std.proofs.Common.{◌≡◌, ℕ, zero, suc, ◌<◌, ◌^◌, List, [], ◌∷◌, length, Some, None, true, false, Vec, Global, inl, inr, refl, sym, ap, cond, ◌-◌, slice_index, subst, arith, slice_get, nat_lt, ◌&&◌}
+use Rattle.std.proofs.Common.{◌≡◌, ℕ, zero, suc, ◌<◌, [], ◌∷◌, Some, None, true, false, inl, inr, refl, ap, cond, ◌-◌, slice_index, arith, slice_get, nat_lt, ◌&&◌}
 use Rattle.std.proofs.lemmas.Bool.{or_left}
 use Rattle.std.specs.Prelude.{nat_le}
 use Rattle.s390x_base.specs.Registers.{general}
@@ -15,7 +15,7 @@ use Rattle.s390x_typed_steps.specs.MachineInstruction.{bytes_of, ril_c}
 use Rattle.s390x_typed_steps.specs.Folding.{folded_trees}
 use Rattle.s390x_typed_steps.specs.Ranges.{BlocksInRange}
 use Rattle.s390x_typed_steps.specs.Steps.{Step, Break}
-use Rattle.s390x_operations.specs.State.{State, IsLoaded, is_within}
+use Rattle.s390x_operations.specs.State.{IsLoaded, is_within}
 use Rattle.s390x_machine.specs.declared.fetch.Fetched.TheVariants.{Found}
 use Rattle.s390x_machine.specs.Machine.{Executed, MachineStep}
 use Rattle.s390x_machine.specs.Semantics.{semantics_in, semantics_of}

@@ -4,6 +4,7 @@ pub mod Emitted
 pub mod Forms
 pub mod Laws
 pub mod Machine
+pub mod Passed
 pub mod Portions
 pub mod Shapes
 pub mod StepKinds

@@ -1,3 +1,4 @@
+pub mod Emitted
 pub mod Examples
 pub mod Machine
 pub mod Outputs

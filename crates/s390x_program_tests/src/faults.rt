@@ -1,7 +1,7 @@
 //! Reads and writes that fail at each call in turn, with a sink that takes one byte at a time; readers and writers as sources and sinks.
 
-use crate::runs::{Ends, expect};
-use s390x_tool::{BytesSink, Status, StdSink, StdSource, run};
+use crate::runs::{Ends, expect, words_of};
+use s390x_tool::{BytesSink, BytesSource, Source, Status, StdSink, StdSource, run};
 use std::io;
 use std::io::{Error, ErrorKind};
 use std::test::Fail;
@@ -61,6 +61,25 @@ fn a_failed_write_of_a_refusal_is_a_write_fault(rt: HostRuntime) -> Result<(), F
     )
 }
 
+/// Nothing is read behind a read that failed: the source has all left that it had.
+#[test]
+fn a_failed_read_is_the_last(rt: HostRuntime) -> Result<(), Fail> {
+    let alloc = rt.alloc();
+    let words = words_of(alloc, "image 4096")?;
+    let failing_reads = Vec::from_slice(alloc, &[1])?;
+    let mut source = BytesSource::new(Vec::from_slice(alloc, ADD.as_bytes())?, failing_reads);
+    let Ok(mut sink) = BytesSink::new(alloc, 100, Vec::new(alloc), 100) else {
+        return Err(Fail::from("no memory"));
+    };
+    let status = run(alloc, words.as_slice(), &mut source, &mut sink);
+    assert_eq!(rt; status, Status::ReadFault);
+    let Ok(count) = source.read(&mut [0; 100]) else {
+        return Err(Fail::from("read fault"));
+    };
+    assert_eq!(rt; count, ADD.len());
+    Ok(())
+}
+
 /// A reader and a writer of which each call fails.
 #[derive(Drop)]
 struct Broken;
@@ -74,6 +93,48 @@ impl io::Read for Broken {
 impl io::Write for Broken {
     fn write(&mut self, _: &[u8]) -> io::Result<usize> {
         Err(Error::from(ErrorKind::TimedOut))
+    }
+
+    fn flush(&mut self) -> io::Result<()> {
+        Ok(())
+    }
+}
+
+/// A reader and a writer whose first calls a signal interrupts, as many of them.
+#[derive(Drop)]
+struct Interrupted {
+    calls: u32,
+    rest: Vec<u8>,
+}
+
+impl Interrupted {
+    // Whether this call is interrupted.
+    fn is_interrupted(&mut self) -> bool {
+        let left = self.calls;
+        self.calls = left.saturating_sub(1);
+        left > 0
+    }
+}
+
+impl io::Read for Interrupted {
+    fn read(&mut self, buf: &mut [u8]) -> io::Result<usize> {
+        if self.is_interrupted() {
+            return Err(Error::from(ErrorKind::Interrupted));
+        }
+        let count = self.rest.len().min(buf.len());
+        buf[..count].copy_from_slice(&self.rest[..count]);
+        self.rest.clear();
+        Ok(count)
+    }
+}
+
+impl io::Write for Interrupted {
+    fn write(&mut self, piece: &[u8]) -> io::Result<usize> {
+        if self.is_interrupted() {
+            return Err(Error::from(ErrorKind::Interrupted));
+        }
+        self.rest.extend_from_slice(piece)?;
+        Ok(piece.len())
     }
 
     fn flush(&mut self) -> io::Result<()> {
@@ -144,5 +205,28 @@ fn a_writer_that_fails_or_takes_nothing_is_a_write_fault(rt: HostRuntime) -> Res
         &mut StdSink::new(Full),
     );
     assert_eq!(rt; status, Status::WriteFault);
+    Ok(())
+}
+
+// What `image 4096` ends with over a reader and a writer whose first calls are interrupted.
+fn interrupted(rt: &HostRuntime, reads: u32, writes: u32) -> Result<Status, Fail> {
+    let alloc = rt.alloc();
+    let words = words_of(alloc, "image 4096")?;
+    let mut source = StdSource::new(Interrupted {
+        calls: reads,
+        rest: Vec::from_slice(alloc, ADD.as_bytes())?,
+    });
+    let mut sink = StdSink::new(Interrupted {
+        calls: writes,
+        rest: Vec::new(alloc),
+    });
+    Ok(run(alloc, words.as_slice(), &mut source, &mut sink))
+}
+
+#[test]
+fn an_interrupted_call_is_made_again(rt: HostRuntime) -> Result<(), Fail> {
+    assert_eq!(rt; interrupted(&rt, 15, 15)?, Status::Ok);
+    assert_eq!(rt; interrupted(&rt, 16, 0)?, Status::ReadFault);
+    assert_eq!(rt; interrupted(&rt, 0, 16)?, Status::WriteFault);
     Ok(())
 }

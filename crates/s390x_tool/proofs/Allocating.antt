@@ -18,6 +18,7 @@ use Rattle.s390x_job.specs.Jobs.{text_of_job}
 use Rattle.s390x_plan_text.specs.Completions.{IsFirstWrongOfPlanned, IsPlannedText}
 use Rattle.s390x_plan_text.specs.Text.{IsPlannedOf}
 use Rattle.s390x_plan_text.specs.declared.planned_job.PlannedJob.{PlannedJob}
+use Rattle.s390x_tool.proofs.Parts.{whole_part}
 use Rattle.s390x_tool.specs.Allocated.{IsAllocateAnswer, IsPlanRefusal, fault_line}
 use Rattle.s390x_tool.specs.Ends.{IsRead}
 use Rattle.s390x_tool.specs.Lines.{IsMade, line}
@@ -58,7 +59,7 @@ pub reply_to_allocate : (f : Found) (input : List ℕ) (s : Status) (text : List
 reply_to_allocate f input status.Ok text form read same answer = inl (record { command = Allocate; form = form; input = input; read = read; same = same; answer = answer })
 reply_to_allocate f input status.PlanRefused text form read same answer = record { command = Allocate; form = form; input = input; read = read; same = same; answer = answer }
 reply_to_allocate f input status.Syntax text form read same answer = record { command = Allocate; form = form; input = input; read = read; same = same; answer = answer }
-reply_to_allocate f input status.NoMemory text form read same answer = (record { command = Allocate; form = form; kept = tt; same = same }, answer)
+reply_to_allocate f input status.NoMemory text form read same answer = (record { command = Allocate; form = form; left = whole_part f.left f.left' input read; same = same }, answer)
 reply_to_allocate f input status.Usage text form read same answer = absurd answer
 reply_to_allocate f input status.Refused text form read same answer = absurd answer
 reply_to_allocate f input status.LinkRefused text form read same answer = absurd answer

@@ -14,6 +14,7 @@ use Rattle.s390x_bundle_text.specs.Text.{AreFunctionsOf}
 use Rattle.s390x_bundle_text.specs.declared.named_job.NamedJob.{NamedJob}
 use Rattle.s390x_commands.specs.Words.{IsForm}
 use Rattle.s390x_commands.specs.declared.words.Command.TheVariants.{Bundle as AskBundle}
+use Rattle.s390x_tool.proofs.Parts.{whole_part}
 use Rattle.s390x_tool.specs.Bundled.{IsBundleAnswer, IsBundleRefusal, member_of, refusal_of_bundle}
 use Rattle.s390x_tool.specs.Ends.{IsRead}
 use Rattle.s390x_tool.specs.Lines.{IsMade, line}
@@ -52,7 +53,7 @@ pub reply_to_bundle : (f : Found) (base : ℕ) (input : List ℕ) (s : Status) (
 reply_to_bundle f base input status.Ok text form read same answer = inl (record { command = AskBundle base; form = form; input = input; read = read; same = same; answer = answer })
 reply_to_bundle f base input status.BundleRefused text form read same answer = record { command = AskBundle base; form = form; input = input; read = read; same = same; answer = answer }
 reply_to_bundle f base input status.Syntax text form read same answer = record { command = AskBundle base; form = form; input = input; read = read; same = same; answer = answer }
-reply_to_bundle f base input status.NoMemory text form read same answer = (record { command = AskBundle base; form = form; kept = tt; same = same }, answer)
+reply_to_bundle f base input status.NoMemory text form read same answer = (record { command = AskBundle base; form = form; left = whole_part f.left f.left' input read; same = same }, answer)
 reply_to_bundle f base input status.Usage text form read same answer = absurd answer
 reply_to_bundle f base input status.Refused text form read same answer = absurd answer
 reply_to_bundle f base input status.LinkRefused text form read same answer = absurd answer

@@ -35,7 +35,7 @@ function_spelled : text_of_functions functions ≡ joined one_function
 function_spelled = ap₂ (λ ds t. (codes "function u" ++ ds) ++ (10 ∷ (t ++ (close_line ++ 10 ∷ [])))) (decimal_digit 1 (omega arith)) job_text
 
 -- what its finished code is: two bytes on a boundary of 4, and nothing left for linking
-record IsTwoBytes (f : MachBufferFinalized) : Type 0 where
+pub record IsTwoBytes (f : MachBufferFinalized) : Type 0 where
   pub size : length f.bytes.items ≡ 2
   pub boundary : f.alignment ≡ 4
   pub linked : f.relocs.items ≡ []
@@ -48,7 +48,7 @@ two_bytes f h = record { size = ap length h.finished.bytes; boundary = h.finishe
 has_place : (base size : ℕ) → size ≡ 2 → base + 2 ≤ 18446744073709551616 → place_cause base 0 size ≡ None
 has_place base size two fits = rw two (rw (lt-ltb (base + 0) 18446744073709551616 (omega (arith, fits))) refl)
 
-can_link : (base : ℕ) (symbols : Symbols) (f : MachBufferFinalized) → IsTwoBytes f → base % 4 ≡ 0 → base + 2 ≤ 18446744073709551616 → link_cause f base symbols ≡ None
+pub can_link : (base : ℕ) (symbols : Symbols) (f : MachBufferFinalized) → IsTwoBytes f → base % 4 ≡ 0 → base + 2 ≤ 18446744073709551616 → link_cause f base symbols ≡ None
 can_link base symbols f h even fits = rw h.linked (rw h.boundary (rw h.size (rw even (rw (le-leb (base + 2) 18446744073709551616 fits) refl))))
 
 module _ (base : ℕ) (even : base % 4 ≡ 0) (fits : base + 2 ≤ 18446744073709551616) where

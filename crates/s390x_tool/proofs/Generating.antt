@@ -125,7 +125,7 @@ reply_of_generated n start f bytes s text h image (inr short) = rw short.0 short
 pub reply_to_generate : (f : Found) (n start : ℕ) (s : Status) (text : List ℕ) → IsForm f.words (Generate n start) → f.left' ≡ f.left → f.faults' ≡ f.faults
     → IsGenerateReply n start s text → IsReply f s text
 reply_to_generate f n start status.Ok text form kept same told = inr (inl (record { count = n; start = start; form = form; kept = kept; same = same; told = told }))
-reply_to_generate f n start status.NoMemory text form kept same told = (record { command = Generate n start; form = form; kept = kept; same = same }, told)
+reply_to_generate f n start status.NoMemory text form kept same told = (record { command = Generate n start; form = form; left = kept; same = same }, told)
 reply_to_generate f n start status.Usage text form kept same told = absurd told
 reply_to_generate f n start status.ReadFault text form kept same told = absurd told
 reply_to_generate f n start status.InputTooLong text form kept same told = absurd told

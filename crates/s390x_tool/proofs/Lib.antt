@@ -1,3 +1,5 @@
+pub mod Parts
+pub mod Kept
 pub mod Pieces
 pub mod Replying
 pub mod Answering
@@ -21,3 +23,6 @@ pub mod Allocating
 pub mod Planning
 pub mod ReturnJob
 pub mod Example
+pub mod ReturnLines
+pub mod PlanExample
+pub mod JobExample

@@ -7,11 +7,12 @@ use Rattle.s390x_commands.specs.declared.words.Command.TheVariants.{OnJob, Gener
 use Rattle.s390x_commands.specs.declared.words.JobCommand.{JobCommand}
 use Rattle.s390x_commands.specs.declared.words.JobCommand.TheVariants.{Image, Emit, Run, Operands, Show}
 use Rattle.s390x_job.specs.declared.job.Job.{Job}
+use Rattle.s390x_tool.proofs.Parts.{whole_part}
 use Rattle.s390x_tool.specs.Answers.{IsAnswer, IsJobReply}
 use Rattle.s390x_tool.specs.Causes.{FaultCountRose}
-use Rattle.s390x_tool.specs.Ends.{IsRead, IsTooLong}
+use Rattle.s390x_tool.specs.Ends.{IsPartRead, IsRead, IsTooLong, most_bytes, too_many}
 use Rattle.s390x_tool.specs.Lines.{IsUnread}
-use Rattle.s390x_tool.specs.Replies.{Found, IsAboutInput, IsReply, IsDelivered, IsDone, IsUnreadBy}
+use Rattle.s390x_tool.specs.Replies.{Found, IsAboutInput, IsReply, IsDelivered, IsDone, IsReadFor}
 use Rattle.s390x_tool.specs.declared.input.InputError.{InputError}
 use Rattle.s390x_tool.specs.declared.input.InputError.TheVariants as input
 use Rattle.s390x_tool.specs.declared.status.Status.{Status}
@@ -45,7 +46,7 @@ reply_to_job f command input status.Ok text form read same answer = inl (record 
 reply_to_job f command input status.Syntax text form read same answer = record { command = OnJob command; form = form; input = input; read = read; same = same; answer = answer }
 reply_to_job f command input status.Refused text form read same answer = record { command = OnJob command; form = form; input = input; read = read; same = same; answer = answer }
 reply_to_job f command input status.LinkRefused text form read same answer = inl (record { command = OnJob command; form = form; input = input; read = read; same = same; answer = answer })
-reply_to_job f command input status.NoMemory text form read same answer = (record { command = OnJob command; form = form; kept = tt; same = same }, answer)
+reply_to_job f command input status.NoMemory text form read same answer = (record { command = OnJob command; form = form; left = whole_part f.left f.left' input read; same = same }, answer)
 reply_to_job f command input status.Usage text form read same answer = absurd (of_job command answer.job status.Usage text answer.reply)
 reply_to_job f command input status.ReadFault text form read same answer = absurd (of_job command answer.job status.ReadFault text answer.reply)
 reply_to_job f command input status.WriteFault text form read same answer = absurd (of_job command answer.job status.WriteFault text answer.reply)
@@ -54,22 +55,23 @@ reply_to_job f command input status.BadWord text form read same answer = absurd 
 reply_to_job f command input status.PlanRefused text form read same answer = absurd (of_job command answer.job status.PlanRefused text answer.reply)
 reply_to_job f command input status.BundleRefused text form read same answer = absurd (of_job command answer.job status.BundleRefused text answer.reply)
 
--- nothing is said of what is read for a command about the input
-unread_by : (command : Command) (f : Found) → IsAboutInput command → IsUnreadBy command f
-unread_by (OnJob command) f about = tt
-unread_by (Generate count start) f about = absurd about
-unread_by (Simulate base word count steps start) f about = absurd about
-unread_by Allocate f about = tt
-unread_by (Bundle base) f about = tt
+-- a part was read for a command about the input
+read_for : (command : Command) (f : Found) → IsAboutInput command → IsPartRead f.left f.left' too_many → IsReadFor command f
+read_for (OnJob command) f about part = part
+read_for (Generate count start) f about part = absurd about
+read_for (Simulate base word count steps start) f about part = absurd about
+read_for Allocate f about part = part
+read_for (Bundle base) f about part = part
 
 -- so is that the input isn't read to its end
 pub reply_unread : (f : Found) (command : Command) (e : InputError) (s : Status) (text : List ℕ) → IsForm f.words command → IsAboutInput command
-    → (e ≡ input.TooLong → IsTooLong f.left f.left') → (e ≡ input.Fault → FaultCountRose f.faults f.faults') → (e ≡ input.Fault) ⊎ (f.faults' ≡ f.faults) → IsUnread e s text → IsReply f s text
-reply_unread f command input.Fault s text form about long rose same told = rw told.0 (record { command = command; form = form; about = about; rose = rose refl }, told.1)
-reply_unread f command input.TooLong s text form about long rose (inl clash) told = absurd cc
-reply_unread f command input.TooLong s text form about long rose (inr same) told = rw told.0 (record { command = command; form = form; about = about; long = long refl; same = same }, told.1)
-reply_unread f command input.NoMemory s text form about long rose (inl clash) told = absurd cc
-reply_unread f command input.NoMemory s text form about long rose (inr same) told = rw told.0 (record { command = command; form = form; kept = unread_by command f about; same = same }, told.1)
+    → (e ≡ input.TooLong → IsTooLong f.left f.left') → (e ≡ input.Fault → FaultCountRose f.faults f.faults')
+    → (e ≡ input.Fault → IsPartRead f.left f.left' most_bytes) → (e ≡ input.NoMemory → IsPartRead f.left f.left' too_many) → (e ≡ input.Fault) ⊎ (f.faults' ≡ f.faults) → IsUnread e s text → IsReply f s text
+reply_unread f command input.Fault s text form about long rose failed stopped same told = rw told.0 (record { command = command; form = form; about = about; part = failed refl; rose = rose refl }, told.1)
+reply_unread f command input.TooLong s text form about long rose failed stopped (inl clash) told = absurd cc
+reply_unread f command input.TooLong s text form about long rose failed stopped (inr same) told = rw told.0 (record { command = command; form = form; about = about; long = long refl; same = same }, told.1)
+reply_unread f command input.NoMemory s text form about long rose failed stopped (inl clash) told = absurd cc
+reply_unread f command input.NoMemory s text form about long rose failed stopped (inr same) told = rw told.0 (record { command = command; form = form; left = read_for command f about (stopped refl); same = same }, told.1)
 
 -- ---- what follows from it
 

@@ -16,10 +16,10 @@ use Rattle.s390x_job.specs.Jobs.{IsJob, job_lines, lines_text, text_of_job}
 use Rattle.s390x_job.specs.declared.job.Job.{Job}
 use Rattle.s390x_job.proofs.PlainJob.{plain_is_job, plain_job, plain_lines, vec}
 
-abbrev return_inst : Inst
+abbrev pub return_inst : Inst
 return_inst = Ret (Real (general 14))
 
-abbrev return_line : Line
+abbrev pub return_line : Line
 return_line = inst_line return_inst
 
 abbrev blocks : List Block

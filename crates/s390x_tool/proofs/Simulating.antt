@@ -30,7 +30,7 @@ reply_to_simulate f base word count steps start status.LinkRefused text form kep
     inr (record { base = base; word = word; count = count; steps = steps; start = start; form = form; kept = kept; same = same; told = told })
 reply_to_simulate f base word count steps start status.BadWord text form kept same told =
     record { base = base; word = word; count = count; steps = steps; start = start; form = form; kept = kept; same = same; told = told }
-reply_to_simulate f base word count steps start status.NoMemory text form kept same told = (record { command = Simulate base word count steps start; form = form; kept = kept; same = same }, told)
+reply_to_simulate f base word count steps start status.NoMemory text form kept same told = (record { command = Simulate base word count steps start; form = form; left = kept; same = same }, told)
 reply_to_simulate f base word count steps start status.Usage text form kept same told = absurd told
 reply_to_simulate f base word count steps start status.ReadFault text form kept same told = absurd told
 reply_to_simulate f base word count steps start status.InputTooLong text form kept same told = absurd told

@@ -2,7 +2,7 @@
 use Rattle.std.specs.Prelude.{ℕ, ◌≡◌, List, codes, Option, ◌⊎◌}
 use Rattle.std.specs.Io.KnownBytes.{Appends}
 use Rattle.s390x_tool.specs.Causes.{FaultCountRose}
-use Rattle.s390x_tool.specs.Ends.{IsRead, IsTooLong, IsCutShort}
+use Rattle.s390x_tool.specs.Ends.{IsPartRead, IsRead, IsTooLong, IsCutShort, most_bytes, too_many}
 use Rattle.s390x_commands.specs.Words.{IsForm, IsNoForm}
 use Rattle.s390x_tool.specs.Allocated.{IsAllocateAnswer}
 use Rattle.s390x_tool.specs.Answers.{IsAnswer}
@@ -45,11 +45,12 @@ IsInputAnswer (Simulate base word count steps start) input s text = ⊥
 IsInputAnswer Allocate input s text = IsAllocateAnswer input s text
 IsInputAnswer (Bundle base) input s text = IsBundleAnswer base input s text
 
--- the words are a command about the input, and a read failed
+-- the words are a command about the input, and a read failed, after others of not too many bytes; the source has left what stands behind them
 pub record IsReadFault (f : Found) : Type 0 where
   pub command : Command
   pub form : IsForm f.words command
   pub about : IsAboutInput command
+  pub part : IsPartRead f.left f.left' most_bytes
   pub rose : FaultCountRose f.faults f.faults'
 
 -- the words are a command about the input, and too many bytes came
@@ -60,19 +61,19 @@ pub record IsInputTooLong (f : Found) : Type 0 where
   pub long : IsTooLong f.left f.left'
   pub same : f.faults' ≡ f.faults
 
--- nothing is read for a command that isn't about the input
-abbrev pub IsUnreadBy : Command → Found → Type 0
-IsUnreadBy (OnJob command) f = Unit {0}
-IsUnreadBy (Generate count start) f = f.left' ≡ f.left
-IsUnreadBy (Simulate base word count steps start) f = f.left' ≡ f.left
-IsUnreadBy Allocate f = Unit {0}
-IsUnreadBy (Bundle base) f = Unit {0}
+-- how much is read at most: a part of the input for a command about it, and else nothing
+abbrev pub IsReadFor : Command → Found → Type 0
+IsReadFor (OnJob command) f = IsPartRead f.left f.left' too_many
+IsReadFor (Generate count start) f = f.left' ≡ f.left
+IsReadFor (Simulate base word count steps start) f = f.left' ≡ f.left
+IsReadFor Allocate f = IsPartRead f.left f.left' too_many
+IsReadFor (Bundle base) f = IsPartRead f.left f.left' too_many
 
 -- the words are a command, and memory didn't suffice
 pub record IsOutOfMemory (f : Found) : Type 0 where
   pub command : Command
   pub form : IsForm f.words command
-  pub kept : IsUnreadBy command f
+  pub left : IsReadFor command f
   pub same : f.faults' ≡ f.faults
 
 -- the words are a command about the input, the source was read to its end, and this is the answer to what it held

@@ -1,8 +1,8 @@
 //! Reading the whole input.
 ghost use Rattle.std.specs.Prelude.{◌≡◌, ℕ, ◌+◌, ◌≤◌, ◌<◌, ◌++◌, List, length, vec_len, Ok, IfOk, IfErr, IsErrOf, ◌⊎◌};
-ghost use Rattle.std.specs.Io.KnownBytes.{Consumes, IsAtEnd};
+ghost use Rattle.std.specs.Io.KnownBytes.{Consumes, IsAtEnd, Keeps};
 ghost use Rattle.s390x_tool.specs.Causes.{HasCause, FaultCountRose};
-ghost use Rattle.s390x_tool.specs.Ends.{IsRead, IsTooLong, too_many};
+ghost use Rattle.s390x_tool.specs.Ends.{IsPartRead, IsRead, IsTooLong, most_bytes, too_many};
 
 use crate::ends::{Failed, Source};
 use std::alloc::Global;
@@ -25,11 +25,14 @@ pub enum InputError {
 }
 
 /// Reads the source to its end. Each read but the last takes at least one byte, so there are at most 16777217 of them.
-/// It doesn't read after the end, nor once too many bytes came.
+/// It doesn't read after the end, nor after a failed read, nor once too many bytes came.
+#[tactic(auto, using(crate::proofs::Parts::nothing_read))]
 pub fn read_input<S: Source>(alloc: Global, source: &mut S) -> Result<Vec<u8>, InputError>
     ensures whole { IfOk result (λ input. IsRead (S.left source.old) (S.left source.new) input.items) }
     ensures too_long { IsErrOf result InputError.TooLong → IsTooLong (S.left source.old) (S.left source.new) }
     ensures fault { IsErrOf result InputError.Fault → FaultCountRose (S.faults source.old) (S.faults source.new) }
+    ensures failed { IsErrOf result InputError.Fault → IsPartRead (S.left source.old) (S.left source.new) most_bytes }
+    ensures stopped { IsErrOf result InputError.NoMemory → IsPartRead (S.left source.old) (S.left source.new) too_many }
     ensures no_fault { IsErrOf result InputError.Fault ⊎ (S.faults source.new ≡ S.faults source.old) }
     ensures later { S.faults source.old ≤ S.faults source.new }
 {
@@ -49,6 +52,7 @@ fn make_piece(alloc: Global) -> Result<Vec<u8>, InputError>
 }
 
 // Reads the source to its end, each time as much as the piece has room for.
+#[tactic(auto, using(crate::proofs::Parts::part_kept, crate::proofs::Parts::part_of_front))]
 fn read_by_pieces<S: Source>(
     alloc: Global,
     source: &mut S,
@@ -58,6 +62,8 @@ fn read_by_pieces<S: Source>(
     ensures whole { IfOk result (λ input. IsRead (S.left source.old) (S.left source.new) input.items) }
     ensures too_long { IsErrOf result InputError.TooLong → IsTooLong (S.left source.old) (S.left source.new) }
     ensures fault { IsErrOf result InputError.Fault → FaultCountRose (S.faults source.old) (S.faults source.new) }
+    ensures failed { IsErrOf result InputError.Fault → IsPartRead (S.left source.old) (S.left source.new) most_bytes }
+    ensures stopped { IsErrOf result InputError.NoMemory → IsPartRead (S.left source.old) (S.left source.new) too_many }
     ensures no_fault { IsErrOf result InputError.Fault ⊎ (S.faults source.new ≡ S.faults source.old) }
     ensures later { S.faults source.old ≤ S.faults source.new }
 {
@@ -72,6 +78,7 @@ fn read_by_pieces<S: Source>(
 }
 
 // Reads once, and appends what came: nothing only at the end.
+#[tactic(auto, using(crate::proofs::Parts::front_read))]
 fn read_piece<S: Source>(
     source: &mut S,
     piece: &mut [u8],
@@ -83,6 +90,8 @@ fn read_piece<S: Source>(
     ensures appends { IfOk result (λ n. (came : List ℕ) × (input.new.items ≡ input.old.items ++ came) × Consumes (S.left source.old) (S.left source.new) came) }
     ensures end { IfOk result (λ n. n ≡ 0 → IsAtEnd (S.left source.new)) }
     ensures fault { IsErrOf result InputError.Fault → FaultCountRose (S.faults source.old) (S.faults source.new) }
+    ensures failed { IsErrOf result InputError.Fault → Keeps (S.left source.old) (S.left source.new) }
+    ensures stopped { IsErrOf result InputError.NoMemory → IsPartRead (S.left source.old) (S.left source.new) (length piece.old) }
     ensures no_fault { IsErrOf result InputError.Fault ⊎ (S.faults source.new ≡ S.faults source.old) }
     ensures long { (result ≡ Err InputError.TooLong) → ⊥ }
     ensures later { S.faults source.old ≤ S.faults source.new }

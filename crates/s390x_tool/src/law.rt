@@ -1,10 +1,12 @@
 //! That what the top call's clauses ask for can be.
 ghost use Rattle.std.specs.Prelude.{◌≡◌, ℕ, ◌+◌, ◌%◌, ◌≤◌, ◌^◌, codes};
+ghost use Rattle.s390x_commands.specs.declared.words.JobCommand.{JobCommand};
 ghost use Rattle.s390x_job.specs.Completions.{joined};
 ghost use Rattle.s390x_plan_text.specs.Example.{no_blocks};
 ghost use Rattle.s390x_tool.specs.Allocated.{IsPlanAccepted};
+ghost use Rattle.s390x_tool.specs.Answers.{IsAccepted};
 ghost use Rattle.s390x_tool.specs.Bundled.{IsBundleAccepted};
-ghost use Rattle.s390x_tool.specs.Example.{one_function};
+ghost use Rattle.s390x_tool.specs.Example.{HasRoom, one_function, one_job, one_step};
 ghost use Rattle.s390x_tool.specs.Lines.{line};
 
 /// Some functions are kept from standing in one image by nothing, at any base: none at all.
@@ -20,4 +22,14 @@ pub fn one_function_is_accepted()
 /// Some plan has no fault: that of a job without blocks.
 pub fn no_blocks_are_accepted()
     ensures { IsPlanAccepted (joined no_blocks) }
+{}
+
+/// A plan of a job that returns at once, whose one edit is that instruction, has no fault.
+pub fn one_step_is_accepted()
+    ensures { IsPlanAccepted (joined one_step) }
+{}
+
+/// A job that returns at once is refused by no command on a job: where the command links it, at any base that is a multiple of 4 and has room for its two bytes below 2^64.
+pub fn one_job_is_accepted()
+    ensures { (command : JobCommand) → HasRoom command → IsAccepted command (joined one_job) }
 {}

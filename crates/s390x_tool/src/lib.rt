@@ -10,6 +10,7 @@ pub mod error_names;
 pub mod generate;
 pub mod in_memory;
 pub mod input;
+mod interrupted;
 pub mod law;
 pub mod output;
 pub mod reply;

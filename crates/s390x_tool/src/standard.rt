@@ -5,6 +5,7 @@ ghost use Rattle.std.specs.Prelude.{◌≡◌, ◌<◌, length, IfOk, OnErr};
 ghost use Rattle.s390x_tool.specs.Causes.{next_count, HasCause};
 
 use crate::ends::{Failed, Sink, Source};
+use crate::interrupted::{read_again, write_again};
 use std::io::{Read, Write};
 
 /// The source over a reader. It tells what its reader tells: nothing, for standard input.
@@ -28,14 +29,15 @@ impl<R: Read> Source for StdSource<R> {
 
     ghost faults = { λ s. s.faults };
 
-    /// Reads once. Each error counts once, unless the count stands at its last value.
+    /// Reads once, and again where a signal interrupts it, at most 16 times in all. An error that is left counts once, unless the count stands at its last
+    /// value.
     fn read(&mut self, buf: &mut [u8]) -> Result<usize, Failed>
         ensures bound { ReadsAtMost result buf.new }
         ensures bytes { ReadConsumes (R.remaining self.old.input) (R.remaining self.new.input) result buf.new }
         ensures cause { HasCause self.old.faults self.new.faults result }
         ensures faults { OnErr result (self.new.faults ≡ next_count self.old.faults) }
     {
-        match self.input.read(buf) {
+        match read_again(&mut self.input, buf) {
             Ok(count) => Ok(count),
             Err(_) => {
                 self.faults = self.faults.saturating_add(1);
@@ -66,8 +68,8 @@ impl<W: Write> Sink for StdSink<W> {
 
     ghost faults = { λ s. s.faults };
 
-    /// Writes once. Each error counts once, and so does a write that takes nothing of a piece that isn't empty, unless the
-    /// count stands at its last value.
+    /// Writes once, and again where a signal interrupts it, at most 16 times in all. An error that is left counts once, and so does a write that takes
+    /// nothing of a piece that isn't empty, unless the count stands at its last value.
     fn write(&mut self, piece: &[u8]) -> Result<usize, Failed>
         ensures bound { WritesAtMost result piece.now }
         ensures some { IfOk result (λ n. 0 < length piece.now → 0 < n) }
@@ -75,7 +77,7 @@ impl<W: Write> Sink for StdSink<W> {
         ensures cause { HasCause self.old.faults self.new.faults result }
         ensures faults { OnErr result (self.new.faults ≡ next_count self.old.faults) }
     {
-        match self.output.write(piece) {
+        match write_again(&mut self.output, piece) {
             Ok(count) if count > 0 || piece.is_empty() => Ok(count),
             _ => {
                 self.faults = self.faults.saturating_add(1);

@@ -1,6 +1,7 @@
 use Rattle.s390x_output_laws.proofs.Emitted.{emits_its_steps}
 use Rattle.s390x_output_laws.proofs.Laws.{changes_outputs}
 use Rattle.s390x_output_laws.proofs.Machine.{machine_changes_outputs}
+use Rattle.s390x_output_laws.proofs.Passed.{emitted_changes_outputs}
 use Rattle.s390x_output_laws.proofs.law.only_outputs_change.Goals as goal
 
 pub returns-clause-step : goal.returns-clause-step
@@ -11,3 +12,6 @@ returns-clause-emission c = emits_its_steps
 
 pub returns-clause-machine : goal.returns-clause-machine
 returns-clause-machine c = machine_changes_outputs
+
+pub returns-clause-emitted : goal.returns-clause-emitted
+returns-clause-emitted c = emitted_changes_outputs
