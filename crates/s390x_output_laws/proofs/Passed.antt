@@ -1,6 +1,5 @@
 -- What emission lets pass has a step without a cause, so that it changes only what it reported.
-use Rattle.std.proofs.Common.{◌≡◌, ℕ, Bool, true, false, List, None, sym, subst}
-use Rattle.s390x_base.specs.declared.regs.Reg.{Reg}
+use Rattle.std.proofs.Common.{◌≡◌, ℕ, Bool, true, false, None, sym, subst}
 use Rattle.s390x_inst.specs.Portions.{first_portion}
 use Rattle.s390x_inst.specs.declared.inst.Inst.{Inst}
 use Rattle.s390x_inst.specs.declared.inst.Inst.TheVariants.{Call, Loop', ReturnCall}

@@ -105,7 +105,10 @@ faultless p is e =
     let same = one_planned p planned is is_planned (e ∙ sym planned_spelled) in
     let block = same_return p.job is.0 same.0 in
     let step = step_told p.plan.blocks.items same.1 in
-    rw block.alone (rw step.alone (no_fault p.job.state.layout block.block step.plan step.regs block.insts step.entry step.edits step.none))
+    let layout = p.job.state.layout in
+    let alone : IsOk (checked layout (block.block ∷ []) (step.plan ∷ [])) = no_fault layout block.block step.plan step.regs block.insts step.entry step.edits step.none in
+    let planned_alone : IsOk (checked layout (block.block ∷ []) p.plan.blocks.items) = subst (λ ps. IsOk (checked layout (block.block ∷ []) ps)) (sym step.alone) alone in
+    subst (λ bs. IsOk (checked layout bs p.plan.blocks.items)) (sym block.alone) planned_alone
 
 pub plan_accepted : IsPlanAccepted (joined one_step)
 plan_accepted = record { short = omega arith; planned = (planned, is_planned, planned_spelled); faultless = faultless }
