@@ -194,15 +194,22 @@ def compare_linked(folder, kind, texts, bases, objects, images):
     return wrong
 
 
-def example(folder, unproved):
-    """Links the functions of examples/object with a main in assembly and with one in C, by two linkers, and runs them on the emulator."""
-    source = os.path.join(program.ROOT, "examples", "object")
+SOURCE = os.path.join(program.ROOT, "examples", "object")
+
+
+def example_texts():
+    """The jobs of examples/object."""
     texts = []
     for name in EXAMPLE:
-        with open(os.path.join(source, name + ".job")) as file:
+        with open(os.path.join(SOURCE, name + ".job")) as file:
             texts.append(file.read())
+    return texts
+
+
+def example(folder, objects):
+    """Links the functions of examples/object with a main in assembly and with one in C, by two linkers, and runs them on the emulator."""
     paths = []
-    for name, body in zip(EXAMPLE, run_binary([(["object", name], text) for name, text in zip(EXAMPLE, texts)], unproved, os.path.join(folder, "example"))):
+    for name, body in zip(EXAMPLE, objects):
         if body is None:
             raise SystemExit(f"no object of examples/object/{name}.job")
         paths.append(os.path.join(folder, name + ".o"))
@@ -214,7 +221,7 @@ def example(folder, unproved):
     mains = {}
     for name in ("main", "start"):
         path = os.path.join(folder, name + ".s.o")
-        tool(["as", "-o", path, os.path.join(source, name + ".s")])
+        tool(["as", "-o", path, os.path.join(SOURCE, name + ".s")])
         mains[name] = path
     compilers = {
         "gcc": [TOOLS + "gcc"],
@@ -225,7 +232,7 @@ def example(folder, unproved):
         wrong += runs(folder, linker, [mains["main"], paths[EXAMPLE.index("apply_twice")]], "main.s")
         for name, words in compilers.items():
             path = os.path.join(folder, name + ".o")
-            subprocess.run(words + ["-O2", "-ffreestanding", "-fno-pic", "-c", "-o", path, os.path.join(source, "main.c")], check=True)
+            subprocess.run(words + ["-O2", "-ffreestanding", "-fno-pic", "-c", "-o", path, os.path.join(SOURCE, "main.c")], check=True)
             wrong += runs(folder, linker, [mains["start"], path] + paths, "main.c by " + name)
     return wrong
 
@@ -261,13 +268,14 @@ REFUSED = {
 }
 
 
-def show_differences(folder, unproved):
+# Where they are linked.
+REFUSED_BASE = 65536
+
+
+def show_differences(folder, objects, told):
     """Prints what linkers do with what `image` refuses."""
-    base = 65536
-    texts = list(REFUSED.values())
-    objects = run_binary([(["object", "f"], text) for text in texts], unproved, os.path.join(folder, "refused"))
-    told = run_first([(["image", str(base)], text) for text in texts], unproved, os.path.join(folder, "refused_images"))
-    for what, text, body, (status, line) in zip(REFUSED, texts, objects, told):
+    base = REFUSED_BASE
+    for (what, text), body, (status, line) in zip(REFUSED.items(), objects, told):
         print(f"{what}: here {line.strip() if status else 'linked'}", end="")
         path = os.path.join(folder, "refused.o")
         with open(path, "wb") as file:
@@ -280,21 +288,41 @@ def show_differences(folder, unproved):
         print()
 
 
+def taken(answers, *counts):
+    """Answers in parts of these counts."""
+    parts, start = [], 0
+    for count in counts:
+        parts.append(answers[start:start + count])
+        start += count
+    return parts
+
+
 def compare(options, rng, jobs, bundles):
+    """Has each program run once on all that is compared, and compares it."""
+    bases = [drawn_base(rng) for _ in jobs]
+    bundle_bases = [drawn_base(rng) for _ in bundles]
+    refused = list(REFUSED.values())
     with tempfile.TemporaryDirectory() as folder:
-        wrong = example(folder, options.unproved)
-        show_differences(folder, options.unproved)
-        bases = [drawn_base(rng) for _ in jobs]
-        bundle_bases = [drawn_base(rng) for _ in bundles]
-        names = [f"f{i}" for i in range(len(jobs))]
-        objects = run_binary([(["object", name], text) for name, text in zip(names, jobs)] + [(["objects"], text) for text in bundles],
-                             options.unproved, os.path.join(folder, "objects"))
-        told = run_first([(["image", str(base)], text) for base, text in zip(bases, jobs)] + [(["emit"], text) for text in jobs]
-                         + [(["bundle", str(base)], text) for base, text in zip(bundle_bases, bundles)], options.unproved, os.path.join(folder, "images"))
-        count = len(jobs)
-        wrong += compare_linked(folder, "jobs", jobs, bases, objects[:count], told[:count])
-        wrong += compare_with_assembler(folder, jobs, objects[:count], told[count:2 * count])
-        wrong += compare_linked(folder, "bundles", bundles, bundle_bases, objects[count:], told[2 * count:])
+        objects = [(["object", name], text) for name, text in zip(EXAMPLE, example_texts())]
+        objects += [(["object", "f"], text) for text in refused]
+        objects += [(["object", f"f{i}"], text) for i, text in enumerate(jobs)]
+        objects += [(["objects"], text) for text in bundles]
+        examples, refused_objects, job_objects, bundle_objects = taken(
+            run_binary(objects, options.unproved, os.path.join(folder, "objects")), len(EXAMPLE), len(refused), len(jobs), len(bundles))
+        images = [(["image", str(REFUSED_BASE)], text) for text in refused]
+        images += [(["image", str(base)], text) for base, text in zip(bases, jobs)]
+        images += [(["emit"], text) for text in jobs]
+        images += [(["bundle", str(base)], text) for base, text in zip(bundle_bases, bundles)]
+        refused_told, job_images, emitted, bundle_images = taken(
+            run_first(images, options.unproved, os.path.join(folder, "images")), len(refused), len(jobs), len(jobs), len(bundles))
+        wrong = example(folder, examples)
+        show_differences(folder, refused_objects, refused_told)
+        wrong += compare_linked(folder, "jobs", jobs, bases, job_objects, job_images)
+        wrong += compare_with_assembler(folder, jobs, job_objects, emitted)
+        if bundles and not any(bundle_objects):
+            print("bundles: not compared, since the program has no command `objects`")
+        else:
+            wrong += compare_linked(folder, "bundles", bundles, bundle_bases, bundle_objects, bundle_images)
     return 1 if wrong else 0
 
 

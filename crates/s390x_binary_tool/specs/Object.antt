@@ -1,5 +1,5 @@
 -- What is told as the object of a job.
-use Rattle.std.specs.Prelude.{◌≡◌, ◌≢◌, ◌⊎◌, ℕ, List, ◌++◌, codes, Some, None, true}
+use Rattle.std.specs.Prelude.{◌≡◌, ◌≢◌, ◌⊎◌, ℕ, List, [], ◌++◌, codes, Some, None, true}
 use Rattle.std.specs.List.{All}
 use Rattle.s390x_buffer.specs.declared.entries.MachBufferFinalized.{MachBufferFinalized}
 use Rattle.s390x_image.specs.Causes.{link_cause}
@@ -7,6 +7,7 @@ use Rattle.s390x_image.specs.Symbols.{Symbols}
 use Rattle.s390x_elf.specs.Causes.{object_cause}
 use Rattle.s390x_elf.specs.File.{sections}
 use Rattle.s390x_elf.specs.Linking.{fits_at, linked_text}
+use Rattle.s390x_elf.specs.Names.{name_in}
 use Rattle.s390x_elf.specs.Object.{Agrees, IsObject, name_address, whole_function}
 use Rattle.s390x_elf.specs.Symbols.{Relocation, relocations_for}
 use Rattle.s390x_elf.specs.declared.error.ObjectError.{ObjectError}
@@ -25,7 +26,7 @@ use Rattle.s390x_binary_tool.specs.declared.status.BinaryStatus.TheVariants.{Sha
 -- that a machine which fetches it does only what the typed instructions allow
 abbrev pub RunsWhereLinked : (name : List ℕ) → Job → MachBufferFinalized → (file : List ℕ) → Type 0
 RunsWhereLinked name j code file =
-    (base : ℕ) (others : List ℕ → ℕ) (table : Symbols) → Agrees (name_address base others (whole_function name code)) table code.relocs.items → link_cause code base table ≡ None →
+    (base : ℕ) (others : List ℕ → ℕ) (table : Symbols) → Agrees (name_in []) (name_address base others (whole_function name code)) table code.relocs.items → link_cause code base table ≡ None →
     All (λ (r : Relocation). fits_at base others r ≡ true) (relocations_for (sections file) (codes ".text")) × IsImageOf j.info.isa_flags j.state j.function base table (linked_text file base others)
 
 -- a reader of ELF finds in the file the object of the job's finished code with its function by this name, and linked at any address it runs as typed

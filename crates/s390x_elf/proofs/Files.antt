@@ -1,13 +1,11 @@
 -- A file that was written from sections is read as these sections.
-use Rattle.std.proofs.Common.{◌≡◌, ℕ, zero, suc, ◌+◌, ◌*◌, ◌^◌, ◌<◌, ◌≤◌, List, [], ◌∷◌, ◌++◌, length, take, drop, map, get_or, refl, sym, ap, ◌∙◌, arith, append_assoc, append-nil, length-append, All}
-use Rattle.std.specs.List.{flat_map}
-use Rattle.std.specs.Int.{w16, w32, w64, from_be_bytes, to_be_bytes}
+use Rattle.std.proofs.Common.{◌≡◌, ℕ, suc, ◌+◌, ◌*◌, ◌^◌, ◌<◌, List, [], ◌∷◌, ◌++◌, length, take, drop, map, get_or, refl, sym, ap, ◌∙◌, arith, append_assoc, append-nil, length-append, All}
 use Rattle.std.proofs.lemmas.List.Elements.{All-head, All-tail, All-append, All-cons, All-nil}
 use Rattle.std.proofs.lemmas.List.Concat.{flat_map-append}
 use Rattle.std.proofs.lemmas.Nat.{from_be_bytes-to_be_bytes_2, from_be_bytes-to_be_bytes_4, from_be_bytes-to_be_bytes_8}
-use Rattle.s390x_elf.specs.Reading.{half, word, wide, text_at, pieces}
-use Rattle.s390x_elf.specs.File.{FileHeader, file_header, Section, section, content_of, section_headers, section_names, sections, null_section}
-use Rattle.s390x_elf.specs.Writing.{file_header_bytes, section_header_bytes, header_table, names_of, contents_of, names_name, names_section, headers_end, file_bytes, FieldsFit}
+use Rattle.s390x_elf.specs.Reading.{wide, text_at, pieces}
+use Rattle.s390x_elf.specs.File.{file_header, Section, section, content_of, section_headers, sections, null_section}
+use Rattle.s390x_elf.specs.Writing.{file_header_bytes, section_header_bytes, header_table, names_of, contents_of, names_section, headers_end, file_bytes, FieldsFit}
 use Rattle.s390x_elf.proofs.Parts.{text_read, content_read}
 
 -- a section is read from its header, where its name and its content stand as that tells

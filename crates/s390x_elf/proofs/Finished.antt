@@ -1,10 +1,9 @@
 -- The object of functions in a text, and how it is linked.
-use Rattle.std.proofs.Common.{◌≡◌, ℕ, ◌+◌, ◌^◌, ◌<◌, ◌≤◌, Bool, true, false, cond, nat_eq, nat_le, is_some, Option, Some, None, List, [], ◌∷◌, ◌++◌, length, map, codes, refl, sym, ap, subst, ◌∙◌, arith, append_assoc, All}
+use Rattle.std.proofs.Common.{◌≡◌, ℕ, ◌+◌, ◌^◌, ◌<◌, ◌≤◌, Bool, true, false, cond, nat_eq, nat_le, is_some, Option, Some, None, List, [], ◌∷◌, ◌++◌, length, map, codes, refl, sym, ap, subst, ◌∙◌, arith, append_assoc, All, string_bytes}
 use Rattle.std.specs.List.{list_any}
 use Rattle.std.proofs.lemmas.List.Elements.{All-nil, All-cons, All-head, All-tail}
 use Rattle.s390x_buffer.specs.declared.entries.RelocEntry.{RelocEntry}
 use Rattle.s390x_buffer.specs.declared.entries.MachBufferFinalized.{MachBufferFinalized}
-use Rattle.s390x_image.specs.Symbols.{Symbols}
 use Rattle.s390x_image.specs.Causes.{base_cause, relocs_cause}
 use Rattle.s390x_elf.specs.declared.error.ObjectError.{ObjectError}
 use Rattle.s390x_elf.specs.declared.error.ObjectError.TheVariants.{EmptyName, ZeroByte, DuplicateName, EmptyMember, TooLong}
@@ -12,11 +11,13 @@ use Rattle.s390x_elf.specs.Reading.{IsText}
 use Rattle.s390x_elf.specs.File.{Section, sections}
 use Rattle.s390x_elf.specs.Symbols.{Symbol, Relocation, named_section, relocations_for}
 use Rattle.s390x_elf.specs.Linking.{fits_at, applied}
-use Rattle.s390x_elf.specs.Object.{Function, function_symbol, place, global_symbols, string_table, relocation_of, whole_function, IsObjectOf, IsObject, IsLinkedAsFilled, IsLinkedAsImage}
-use Rattle.s390x_elf.specs.Causes.{first_cause, name_cause, function_cause, functions_cause, names_cause, text_cause}
+use Rattle.s390x_elf.specs.declared.names.GivenName.{GivenName}
+use Rattle.s390x_elf.specs.Names.{Naming, name_in}
+use Rattle.s390x_elf.specs.Object.{Function, function_symbol, place, global_symbols, string_table, relocation_of, whole_function, IsObjectOf, IsLinkedAsFilled, IsLinkedAsNamed}
+use Rattle.s390x_elf.specs.Causes.{first_cause, name_cause, function_cause, functions_cause, given_cause, names_cause, text_cause}
 use Rattle.s390x_elf.specs.Tables.{SymbolFits, RelocFits, FunctionFits, object_sections}
 use Rattle.s390x_elf.specs.Writing.{file_bytes}
-use Rattle.s390x_elf.proofs.ReadObject.{text_from_test, function_fits, used_fit, object_read}
+use Rattle.s390x_elf.proofs.ReadObject.{NamesTexts, name_text, text_from_test, function_fits, used_fit, object_read}
 use Rattle.s390x_elf.proofs.Linked.{linked_as_filled, linked_fields_fit, no_link_cause}
 
 second_test : (a b : Bool) → cond a (Some EmptyName) (cond b (Some ZeroByte) None) ≡ None → b ≡ false
@@ -41,33 +42,45 @@ functions_fit earlier (f ∷ fs) h k =
     All-cons SymbolFits (function_symbol f) (map function_symbol fs) (function_fits f (name_is_text f.name named.0) here.start here.size)
     (functions_fit (earlier ++ function_symbol f ∷ []) fs both.1 (All-tail FunctionFits f fs k))
 
+one_text : (b : Bool) (name other : List ℕ) → IsText name → IsText other → IsText (cond b name other)
+one_text true name other h k = h
+one_text false name other h k = k
+
+-- given names without a cause are texts, and so are all names then
+pub given_texts : (names : List GivenName) → given_cause names ≡ None → NamesTexts (name_in names)
+given_texts [] h = λ symbol small. name_text symbol small
+given_texts (g ∷ gs) h =
+    let both = no_first (name_cause (string_bytes g.name)) (given_cause gs) h in
+    λ symbol small. one_text (nat_eq g.symbol.0 symbol.0) (string_bytes g.name) (name_in gs symbol) (name_is_text (string_bytes g.name) both.0) (given_texts gs both.1 symbol small)
+
 -- the bytes that the program writes are read as the object
-pub object_from_bytes : (fs : List Function) (alignment : ℕ) (bytes : List ℕ) (rs : List RelocEntry) (ss : List Symbol) (file : List ℕ) → functions_cause [] fs ≡ None → All FunctionFits fs →
-    alignment < 2 ^ 64 → ss ≡ global_symbols fs rs → length (0 ∷ string_table ss) < 2 ^ 32 → All RelocFits rs → length file < 2 ^ 64 →
-    file ≡ file_bytes (object_sections ss alignment bytes rs) → IsObjectOf fs alignment bytes rs file
-object_from_bytes fs alignment bytes rs ss file none sized aligned e small fit file_small written =
-    let globals : List Symbol = global_symbols fs rs in
-    let fits : All SymbolFits globals = used_fit (map function_symbol fs) rs (functions_fit [] fs none sized) fit in
-    let whole : file ≡ file_bytes (object_sections globals alignment bytes rs) =
-    written ∙ ap (λ (symbols : List Symbol). file_bytes (object_sections symbols alignment bytes rs)) e in
+pub object_from_bytes : (names : List GivenName) (fs : List Function) (alignment : ℕ) (bytes : List ℕ) (rs : List RelocEntry) (ss : List Symbol) (file : List ℕ) → functions_cause [] fs ≡ None → given_cause names ≡ None → All FunctionFits fs →
+    alignment < 2 ^ 64 → ss ≡ global_symbols (name_in names) fs rs → length (0 ∷ string_table ss) < 2 ^ 32 → All RelocFits rs → length file < 2 ^ 64 →
+    file ≡ file_bytes (object_sections (name_in names) ss alignment bytes rs) → IsObjectOf (name_in names) fs alignment bytes rs file
+object_from_bytes names fs alignment bytes rs ss file none given sized aligned e small fit file_small written =
+    let globals : List Symbol = global_symbols (name_in names) fs rs in
+    let fits : All SymbolFits globals = used_fit (name_in names) (given_texts names given) (map function_symbol fs) rs (functions_fit [] fs none sized) fit in
+    let whole : file ≡ file_bytes (object_sections (name_in names) globals alignment bytes rs) =
+    written ∙ ap (λ (symbols : List Symbol). file_bytes (object_sections (name_in names) symbols alignment bytes rs)) e in
     let names_small : length (0 ∷ string_table globals) < 2 ^ 32 = subst (λ (symbols : List Symbol). length (0 ∷ string_table symbols) < 2 ^ 32) e small in
-    let bytes_small : length (file_bytes (object_sections globals alignment bytes rs)) < 2 ^ 64 = subst (λ (b : List ℕ). length b < 2 ^ 64) whole file_small in
-    subst (λ (b : List ℕ). IsObjectOf fs alignment bytes rs b) (sym whole) (object_read fs alignment bytes rs aligned fits fit names_small bytes_small)
+    let bytes_small : length (file_bytes (object_sections (name_in names) globals alignment bytes rs)) < 2 ^ 64 = subst (λ (b : List ℕ). length b < 2 ^ 64) whole file_small in
+    subst (λ (b : List ℕ). IsObjectOf (name_in names) fs alignment bytes rs b) (sym whole) (object_read (name_in names) fs alignment bytes rs aligned fits fit names_small bytes_small)
 
 -- what is read as the object is linked as its relocations fill it
-pub object_is_filled : (fs : List Function) (alignment : ℕ) (bytes : List ℕ) (rs : List RelocEntry) (file : List ℕ) → IsObjectOf fs alignment bytes rs file → IsLinkedAsFilled fs bytes rs file
-object_is_filled fs alignment bytes rs file object = λ base others table agree none.
+pub object_is_filled : (named : Naming) (fs : List Function) (alignment : ℕ) (bytes : List ℕ) (rs : List RelocEntry) (file : List ℕ) → IsObjectOf named fs alignment bytes rs file → IsLinkedAsFilled named fs bytes rs file
+object_is_filled named fs alignment bytes rs file object = λ base others table agree none.
     let fits : All (λ (r : Relocation). fits_at base others r ≡ true) (relocations_for (sections file) (codes ".text")) =
-    subst (λ (all : List Relocation). All (λ (r : Relocation). fits_at base others r ≡ true) all) (sym object.relocations) (linked_fields_fit base others table fs rs agree none) in (
+    subst (λ (all : List Relocation). All (λ (r : Relocation). fits_at base others r ≡ true) all) (sym object.relocations) (linked_fields_fit named base others table fs rs agree none) in (
       fits,
       ap (λ (all : List Relocation). applied base others all (named_section (sections file) (codes ".text")).content) object.relocations
-          ∙ ap (λ (s : Section). applied base others (map (relocation_of (global_symbols fs rs)) rs) s.content) object.text
-          ∙ linked_as_filled base others table fs rs bytes agree,
+          ∙ ap (λ (s : Section). applied base others (map (relocation_of named (global_symbols named fs rs)) rs) s.content) object.text
+          ∙ linked_as_filled named base others table fs rs bytes agree,
     )
 
 -- the object of finished code is linked as the image
-pub filled_is_image : (name : List ℕ) (code : MachBufferFinalized) (file : List ℕ) → IsLinkedAsFilled (whole_function name code) code.bytes.items code.relocs.items file → IsLinkedAsImage name code file
-filled_is_image name code file linked = λ base others table agree none.
+pub filled_is_image : (names : List GivenName) (name : List ℕ) (code : MachBufferFinalized) (file : List ℕ) → IsLinkedAsFilled (name_in names) (whole_function name code) code.bytes.items code.relocs.items file →
+    IsLinkedAsNamed names name code file
+filled_is_image names name code file linked = λ base others table agree none.
     linked base others table agree (no_link_cause (base_cause code.alignment (length code.bytes.items) base) (relocs_cause base table code.relocs.items) none)
 
 -- the names' cause, by their length
@@ -77,21 +90,22 @@ test_true n h = grind arith
 test_false : (n : ℕ) → n < 4294967296 → nat_le 4294967296 n ≡ false
 test_false n h = grind arith
 
-names_by_length : (fs : List Function) (rs : List RelocEntry) (ss : List Symbol) (names : List ℕ) (b : Bool) → functions_cause [] fs ≡ None → ss ≡ global_symbols fs rs → names ≡ 0 ∷ string_table ss →
-    nat_le 4294967296 (length names) ≡ b → text_cause fs rs ≡ cond b (Some TooLong) None
-names_by_length fs rs ss names b none e n h =
-    let size : length names ≡ 1 + length (string_table (global_symbols fs rs)) = ap length n ∙ ap (λ (symbols : List Symbol). length (0 ∷ string_table symbols)) e ∙ omega arith in
-    ap (λ (o : Option ObjectError). first_cause o (names_cause (global_symbols fs rs))) none
+names_by_length : (given : List GivenName) (fs : List Function) (rs : List RelocEntry) (ss : List Symbol) (names : List ℕ) (b : Bool) → functions_cause [] fs ≡ None → given_cause given ≡ None → ss ≡ global_symbols (name_in given) fs rs → names ≡ 0 ∷ string_table ss →
+    nat_le 4294967296 (length names) ≡ b → text_cause given fs rs ≡ cond b (Some TooLong) None
+names_by_length given fs rs ss names b none fine e n h =
+    let size : length names ≡ 1 + length (string_table (global_symbols (name_in given) fs rs)) = ap length n ∙ ap (λ (symbols : List Symbol). length (0 ∷ string_table symbols)) e ∙ omega arith in
+    ap (λ (o : Option ObjectError). first_cause o (first_cause (given_cause given) (names_cause (global_symbols (name_in given) fs rs)))) none
+    ∙ ap (λ (o : Option ObjectError). first_cause o (names_cause (global_symbols (name_in given) fs rs))) fine
     ∙ ap (λ (k : ℕ). cond (nat_le 4294967296 k) (Some TooLong) None) (sym size)
     ∙ ap (λ (t : Bool). cond t (Some TooLong) None) h
 
-pub too_long : (fs : List Function) (rs : List RelocEntry) (ss : List Symbol) (names : List ℕ) → functions_cause [] fs ≡ None → ss ≡ global_symbols fs rs → names ≡ 0 ∷ string_table ss →
-    4294967296 ≤ length names → text_cause fs rs ≡ Some TooLong
-too_long fs rs ss names none e n h = names_by_length fs rs ss names true none e n (test_true (length names) h)
+pub too_long : (given : List GivenName) (fs : List Function) (rs : List RelocEntry) (ss : List Symbol) (names : List ℕ) → functions_cause [] fs ≡ None → given_cause given ≡ None → ss ≡ global_symbols (name_in given) fs rs → names ≡ 0 ∷ string_table ss →
+    4294967296 ≤ length names → text_cause given fs rs ≡ Some TooLong
+too_long given fs rs ss names none fine e n h = names_by_length given fs rs ss names true none fine e n (test_true (length names) h)
 
-pub short_enough : (fs : List Function) (rs : List RelocEntry) (ss : List Symbol) (names : List ℕ) → functions_cause [] fs ≡ None → ss ≡ global_symbols fs rs → names ≡ 0 ∷ string_table ss →
-    length names < 4294967296 → text_cause fs rs ≡ None
-short_enough fs rs ss names none e n h = names_by_length fs rs ss names false none e n (test_false (length names) h)
+pub short_enough : (given : List GivenName) (fs : List Function) (rs : List RelocEntry) (ss : List Symbol) (names : List ℕ) → functions_cause [] fs ≡ None → given_cause given ≡ None → ss ≡ global_symbols (name_in given) fs rs → names ≡ 0 ∷ string_table ss →
+    length names < 4294967296 → text_cause given fs rs ≡ None
+short_enough given fs rs ss names none fine e n h = names_by_length given fs rs ss names false none fine e n (test_false (length names) h)
 
 -- a function without a cause has a name of its own
 own_name : (o : Option ObjectError) (p : Option ℕ) (later : Option ObjectError) → first_cause o (cond (is_some p) (Some DuplicateName) later) ≡ None → p ≡ None

@@ -5,4 +5,6 @@ pub mod Tables
 pub mod Linked
 pub mod ReadObject
 pub mod Finished
+pub mod Joined
+pub mod Texts
 pub mod Steps

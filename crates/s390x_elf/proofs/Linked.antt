@@ -1,5 +1,5 @@
 -- What the ABI's formulas make of an object's relocations is what `link` makes of the code's.
-use Rattle.std.proofs.Common.{◌≡◌, ℕ, suc, ℤ, pos, ◌+ℤ◌, ◌-ℤ◌, ◌+◌, Bool, true, false, cond, ◌&&◌, nat_eq, Option, Some, None, option_map, is_some, List, [], ◌∷◌, ◌++◌, length, map, get_or, refl, sym, ap, subst, ◌∙◌, bytes_eq, append_assoc, append-nil, All}
+use Rattle.std.proofs.Common.{◌≡◌, ℕ, ℤ, pos, ◌+ℤ◌, ◌-ℤ◌, ◌+◌, Bool, true, false, cond, ◌&&◌, Option, Some, None, is_some, List, [], ◌∷◌, ◌++◌, length, map, get_or, refl, sym, ap, subst, ◌∙◌, bytes_eq, append_assoc, append-nil, All}
 use Rattle.std.specs.Int.RustNames.{int_div}
 use Rattle.std.proofs.lemmas.Slice.Eq.{bytes_eq-Decides}
 use Rattle.std.proofs.lemmas.List.Elements.{All-head, All-tail, All-cons, All-nil}
@@ -13,47 +13,47 @@ use Rattle.s390x_image.specs.declared.error.LinkError.{LinkError}
 use Rattle.s390x_image.specs.declared.error.LinkError.TheVariants.{AddressOverflow, OddSymbol, TooFar}
 use Rattle.s390x_elf.specs.Symbols.{Symbol, Relocation}
 use Rattle.s390x_elf.specs.Linking.{symbol_address, calculated, fits_field, fits_at, applied}
-use Rattle.s390x_elf.specs.Names.{symbol_name}
+use Rattle.s390x_elf.specs.Names.{Naming}
 use Rattle.s390x_elf.specs.Object.{Function, function_symbol, undefined_symbol, first_or_later, place, with_name, with_used_names, global_symbols, named_symbol, type_of, relocation_of, name_address, Agrees}
 use Rattle.s390x_elf.proofs.Places.{place_behind}
 
-same_field : (k : Reloc) (s a p : ℤ) → calculated (type_of k) s a p ≡ field_of k (s +ℤ a) ((s +ℤ a) -ℤ p)
+pub same_field : (k : Reloc) (s a p : ℤ) → calculated (type_of k) s a p ≡ field_of k (s +ℤ a) ((s +ℤ a) -ℤ p)
 same_field S390xPCRel32Dbl s a p = refl
 same_field S390xPLTRel32Dbl s a p = refl
 same_field Abs8 s a p = refl
 
 -- a relocation's symbol has the address that a table gives its name
-abbrev pub HasAddress : (base : ℕ) (others : List ℕ → ℕ) → Symbols → List Symbol → RelocEntry → Type 0
-HasAddress base others table ss r = address_or_zero (address_of table r.name) ≡ symbol_address base others (named_symbol ss (symbol_name r.name))
+abbrev pub HasAddress : (named : Naming) → (base : ℕ) (others : List ℕ → ℕ) → Symbols → List Symbol → RelocEntry → Type 0
+HasAddress named base others table ss r = address_or_zero (address_of table r.name) ≡ symbol_address base others (named_symbol ss (named r.name))
 
-pub same_fields : (base : ℕ) (others : List ℕ → ℕ) (table : Symbols) (ss : List Symbol) (rs : List RelocEntry) (bytes : List ℕ) → All (HasAddress base others table ss) rs →
-    applied base others (map (relocation_of ss) rs) bytes ≡ filled base table rs bytes
-same_fields base others table ss [] bytes h = refl
-same_fields base others table ss (r ∷ rs) bytes h =
-    let there : ℕ = symbol_address base others (named_symbol ss (symbol_name r.name)) in
-    let here : address_or_zero (address_of table r.name) ≡ there = All-head (HasAddress base others table ss) r rs h in
-    same_fields base others table ss rs (stored bytes r.offset (calculated (type_of r.kind) (pos there) r.addend (pos (base + r.offset)))) (All-tail (HasAddress base others table ss) r rs h)
+pub same_fields : (named : Naming) → (base : ℕ) (others : List ℕ → ℕ) (table : Symbols) (ss : List Symbol) (rs : List RelocEntry) (bytes : List ℕ) → All (HasAddress named base others table ss) rs →
+    applied base others (map (relocation_of named ss) rs) bytes ≡ filled base table rs bytes
+same_fields named base others table ss [] bytes h = refl
+same_fields named base others table ss (r ∷ rs) bytes h =
+    let there : ℕ = symbol_address base others (named_symbol ss (named r.name)) in
+    let here : address_or_zero (address_of table r.name) ≡ there = All-head (HasAddress named base others table ss) r rs h in
+    same_fields named base others table ss rs (stored bytes r.offset (calculated (type_of r.kind) (pos there) r.addend (pos (base + r.offset)))) (All-tail (HasAddress named base others table ss) r rs h)
     ∙ ap (λ (symbol : ℕ). filled base table rs (stored bytes r.offset (calculated (type_of r.kind) (pos symbol) r.addend (pos (base + r.offset))))) (sym here)
     ∙ ap (λ (field : List ℕ). filled base table rs (stored bytes r.offset field)) (same_field r.kind (pos (address_or_zero (address_of table r.name))) r.addend (pos (base + r.offset)))
 
 -- the names that relocations add to symbols
-added : List Symbol → List RelocEntry → List (List ℕ)
-added ss [] = []
-added ss (r ∷ rs) = cond (is_some (place ss (symbol_name r.name))) (added ss rs) (symbol_name r.name ∷ added (ss ++ undefined_symbol (symbol_name r.name) ∷ []) rs)
+added : (named : Naming) → List Symbol → List RelocEntry → List (List ℕ)
+added named ss [] = []
+added named ss (r ∷ rs) = cond (is_some (place ss (named r.name))) (added named ss rs) (named r.name ∷ added named (ss ++ undefined_symbol (named r.name) ∷ []) rs)
 
-added_one : (b : Bool) (ss : List Symbol) (s : Symbol) (n : List ℕ) (rs : List RelocEntry) (us vs : List (List ℕ)) → s ≡ undefined_symbol n →
-    with_used_names ss rs ≡ ss ++ map undefined_symbol us → with_used_names (ss ++ s ∷ []) rs ≡ (ss ++ s ∷ []) ++ map undefined_symbol vs →
-    with_used_names (cond b ss (ss ++ s ∷ [])) rs ≡ ss ++ map undefined_symbol (cond b us (n ∷ vs))
-added_one true ss s n rs us vs e f g = f
-added_one false ss s n rs us vs e f g = g ∙ append_assoc ss (s ∷ []) (map undefined_symbol vs) ∙ ap (λ (t : Symbol). ss ++ t ∷ map undefined_symbol vs) e
+added_one : (named : Naming) → (b : Bool) (ss : List Symbol) (s : Symbol) (n : List ℕ) (rs : List RelocEntry) (us vs : List (List ℕ)) → s ≡ undefined_symbol n →
+    with_used_names named ss rs ≡ ss ++ map undefined_symbol us → with_used_names named (ss ++ s ∷ []) rs ≡ (ss ++ s ∷ []) ++ map undefined_symbol vs →
+    with_used_names named (cond b ss (ss ++ s ∷ [])) rs ≡ ss ++ map undefined_symbol (cond b us (n ∷ vs))
+added_one named true ss s n rs us vs e f g = f
+added_one named false ss s n rs us vs e f g = g ∙ append_assoc ss (s ∷ []) (map undefined_symbol vs) ∙ ap (λ (t : Symbol). ss ++ t ∷ map undefined_symbol vs) e
 
-used_names : (ss : List Symbol) (rs : List RelocEntry) → with_used_names ss rs ≡ ss ++ map undefined_symbol (added ss rs)
+used_names : (named : Naming) → (ss : List Symbol) (rs : List RelocEntry) → with_used_names named ss rs ≡ ss ++ map undefined_symbol (added named ss rs)
 unfolding added
-used_names ss [] = sym (append-nil ss)
-used_names ss (r ∷ rs) =
-    let n : List ℕ = symbol_name r.name in
+used_names named ss [] = sym (append-nil ss)
+used_names named ss (r ∷ rs) =
+    let n : List ℕ = named r.name in
     let s : Symbol = undefined_symbol n in
-    added_one (is_some (place ss n)) ss s n rs (added ss rs) (added (ss ++ s ∷ []) rs) refl (used_names ss rs) (used_names (ss ++ s ∷ []) rs)
+    added_one named (is_some (place ss n)) ss s n rs (added named ss rs) (added named (ss ++ s ∷ []) rs) refl (used_names named ss rs) (used_names named (ss ++ s ∷ []) rs)
 
 -- a name that symbols have resolves to the function's address, or to what others give it
 undefined_step : (base : ℕ) (others : List ℕ → ℕ) (b : Bool) (u n : List ℕ) (o : Option ℕ) (t : Symbol) → (b ≡ true → n ≡ u) → (is_some o ≡ true → symbol_address base others t ≡ others n) →
@@ -95,10 +95,10 @@ kept_with : (b : Bool) (ss : List Symbol) (s : Symbol) (n : List ℕ) → is_som
 kept_with true ss s n h = h
 kept_with false ss s n h = kept ss s n h
 
-kept_all : (ss : List Symbol) (rs : List RelocEntry) (n : List ℕ) → is_some (place ss n) ≡ true → is_some (place (with_used_names ss rs) n) ≡ true
-kept_all ss [] n h = h
-kept_all ss (r ∷ rs) n h =
-    kept_all (with_name ss (symbol_name r.name)) rs n (kept_with (is_some (place ss (symbol_name r.name))) ss (undefined_symbol (symbol_name r.name)) n h)
+kept_all : (named : Naming) → (ss : List Symbol) (rs : List RelocEntry) (n : List ℕ) → is_some (place ss n) ≡ true → is_some (place (with_used_names named ss rs) n) ≡ true
+kept_all named ss [] n h = h
+kept_all named ss (r ∷ rs) n h =
+    kept_all named (with_name ss (named r.name)) rs n (kept_with (is_some (place ss (named r.name))) ss (undefined_symbol (named r.name)) n h)
 
 there_case : (o : Option ℕ) (ss : List Symbol) (s : Symbol) (n : List ℕ) → place ss n ≡ o → (place ss n ≡ None → is_some (place (ss ++ s ∷ []) n) ≡ true) →
     is_some (place (cond (is_some o) ss (ss ++ s ∷ [])) n) ≡ true
@@ -112,31 +112,41 @@ there ss n =
     (λ h. ap is_some (place_behind ss s n h) ∙ ap (λ (b : Bool). is_some (cond b (Some (length ss)) (place ss n))) ((bytes_eq-Decides n n).1 refl))
 
 -- a name that relocations use is among the symbols
-abbrev pub IsThere : List Symbol → RelocEntry → Type 0
-IsThere ss r = is_some (place ss (symbol_name r.name)) ≡ true
+abbrev pub IsThere : (named : Naming) → List Symbol → RelocEntry → Type 0
+IsThere named ss r = is_some (place ss (named r.name)) ≡ true
 
-pub used_are_there : (ss : List Symbol) (rs : List RelocEntry) → All (IsThere (with_used_names ss rs)) rs
-used_are_there ss [] = All-nil (IsThere ss)
-used_are_there ss (r ∷ rs) =
-    let next : List Symbol = with_name ss (symbol_name r.name) in
-    All-cons (IsThere (with_used_names next rs)) r rs (kept_all next rs (symbol_name r.name) (there ss (symbol_name r.name))) (used_are_there next rs)
+pub used_are_there : (named : Naming) → (ss : List Symbol) (rs : List RelocEntry) → All (IsThere named (with_used_names named ss rs)) rs
+used_are_there named ss [] = All-nil (IsThere named ss)
+used_are_there named ss (r ∷ rs) =
+    let next : List Symbol = with_name ss (named r.name) in
+    All-cons (IsThere named (with_used_names named next rs)) r rs (kept_all named next rs (named r.name) (there ss (named r.name))) (used_are_there named next rs)
 
-addresses : (base : ℕ) (others : List ℕ → ℕ) (fs : List Function) (us : List (List ℕ)) (table : Symbols) (rs : List RelocEntry) →
-    Agrees (name_address base others fs) table rs → All (IsThere (map function_symbol fs ++ map undefined_symbol us)) rs → All (HasAddress base others table (map function_symbol fs ++ map undefined_symbol us)) rs
-addresses base others fs us table rs agree found = λ k d h. ap address_or_zero (agree k d h) ∙ sym (resolves base others fs us (symbol_name (get_or rs k d).name) (found k d h))
+addresses : (named : Naming) → (base : ℕ) (others : List ℕ → ℕ) (fs : List Function) (us : List (List ℕ)) (table : Symbols) (rs : List RelocEntry) →
+    Agrees named (name_address base others fs) table rs → All (IsThere named (map function_symbol fs ++ map undefined_symbol us)) rs → All (HasAddress named base others table (map function_symbol fs ++ map undefined_symbol us)) rs
+addresses named base others fs us table rs agree found = λ k d h. ap address_or_zero (agree k d h) ∙ sym (resolves base others fs us (named (get_or rs k d).name) (found k d h))
 
-pub linked_as_filled : (base : ℕ) (others : List ℕ → ℕ) (table : Symbols) (fs : List Function) (rs : List RelocEntry) (bytes : List ℕ) → Agrees (name_address base others fs) table rs →
-    applied base others (map (relocation_of (global_symbols fs rs)) rs) bytes ≡ filled base table rs bytes
-linked_as_filled base others table fs rs bytes agree =
+-- relocations whose names are among the symbols have the addresses of a table that agrees
+pub resolved : (named : Naming) → (base : ℕ) (others : List ℕ → ℕ) (table : Symbols) (fs : List Function) (all rs : List RelocEntry) → Agrees named (name_address base others fs) table rs →
+    All (IsThere named (global_symbols named fs all)) rs → All (HasAddress named base others table (global_symbols named fs all)) rs
+resolved named base others table fs all rs agree found =
     let start : List Symbol = map function_symbol fs in
-    let us : List (List ℕ) = added start rs in
-    let e : global_symbols fs rs ≡ start ++ map undefined_symbol us = used_names start rs in
-    let found : All (IsThere (start ++ map undefined_symbol us)) rs = subst (λ (ss : List Symbol). All (IsThere ss) rs) e (used_are_there start rs) in
-    ap (λ (ss : List Symbol). applied base others (map (relocation_of ss) rs) bytes) e
-    ∙ same_fields base others table (start ++ map undefined_symbol us) rs bytes (addresses base others fs us table rs agree found)
+    let us : List (List ℕ) = added named start all in
+    let e : global_symbols named fs all ≡ start ++ map undefined_symbol us = used_names named start all in
+    subst (λ (ss : List Symbol). All (HasAddress named base others table ss) rs) (sym e)
+    (addresses named base others fs us table rs agree (subst (λ (ss : List Symbol). All (IsThere named ss) rs) e found))
+
+pub linked_as_filled : (named : Naming) → (base : ℕ) (others : List ℕ → ℕ) (table : Symbols) (fs : List Function) (rs : List RelocEntry) (bytes : List ℕ) → Agrees named (name_address base others fs) table rs →
+    applied base others (map (relocation_of named (global_symbols named fs rs)) rs) bytes ≡ filled base table rs bytes
+linked_as_filled named base others table fs rs bytes agree =
+    let start : List Symbol = map function_symbol fs in
+    let us : List (List ℕ) = added named start rs in
+    let e : global_symbols named fs rs ≡ start ++ map undefined_symbol us = used_names named start rs in
+    let found : All (IsThere named (start ++ map undefined_symbol us)) rs = subst (λ (ss : List Symbol). All (IsThere named ss) rs) e (used_are_there named start rs) in
+    ap (λ (ss : List Symbol). applied base others (map (relocation_of named ss) rs) bytes) e
+    ∙ same_fields named base others table (start ++ map undefined_symbol us) rs bytes (addresses named base others fs us table rs agree found)
 
 -- where `link` has no cause, each value fits its field
-no_first : (o p : Option LinkError) → first_link_cause o p ≡ None → (o ≡ None) × (p ≡ None)
+pub no_first : (o p : Option LinkError) → first_link_cause o p ≡ None → (o ≡ None) × (p ≡ None)
 no_first None p h = (refl, h)
 no_first (Some e) p h = cc
 
@@ -156,32 +166,32 @@ field_test S390xPLTRel32Dbl s a p h =
     half_tests (is_even ((s +ℤ a) -ℤ p)) (is_signed_word (int_div ((s +ℤ a) -ℤ p) (pos 2))) TooFar OddSymbol (no_first (absolute_cause ((s +ℤ a) -ℤ pos 2)) (half_cause ((s +ℤ a) -ℤ p)) h).1
 field_test Abs8 s a p h = address_test (is_address (s +ℤ a)) AddressOverflow h
 
-symbol_test : (base : ℕ) (r : RelocEntry) (o : Option ℕ) → symbol_cause base r o ≡ None → fits_field (type_of r.kind) (pos (address_or_zero o)) r.addend (pos (base + r.offset)) ≡ true
+pub symbol_test : (base : ℕ) (r : RelocEntry) (o : Option ℕ) → symbol_cause base r o ≡ None → fits_field (type_of r.kind) (pos (address_or_zero o)) r.addend (pos (base + r.offset)) ≡ true
 symbol_test base r None h = cc
 symbol_test base r (Some symbol) h = field_test r.kind (pos symbol) r.addend (pos (base + r.offset)) h
 
-abbrev FitsAt : (base : ℕ) (others : List ℕ → ℕ) → Relocation → Type 0
+abbrev pub FitsAt : (base : ℕ) (others : List ℕ → ℕ) → Relocation → Type 0
 FitsAt base others r = fits_at base others r ≡ true
 
-fields_fit : (base : ℕ) (others : List ℕ → ℕ) (table : Symbols) (ss : List Symbol) (rs : List RelocEntry) → All (HasAddress base others table ss) rs → relocs_cause base table rs ≡ None →
-    All (FitsAt base others) (map (relocation_of ss) rs)
-fields_fit base others table ss [] h k = All-nil (FitsAt base others)
-fields_fit base others table ss (r ∷ rs) h k =
+fields_fit : (named : Naming) → (base : ℕ) (others : List ℕ → ℕ) (table : Symbols) (ss : List Symbol) (rs : List RelocEntry) → All (HasAddress named base others table ss) rs → relocs_cause base table rs ≡ None →
+    All (FitsAt base others) (map (relocation_of named ss) rs)
+fields_fit named base others table ss [] h k = All-nil (FitsAt base others)
+fields_fit named base others table ss (r ∷ rs) h k =
     let both = no_first (reloc_cause base table r) (relocs_cause base table rs) k in
     let here : fits_field (type_of r.kind) (pos (address_or_zero (address_of table r.name))) r.addend (pos (base + r.offset)) ≡ true = symbol_test base r (address_of table r.name) both.0 in
-    let there : fits_at base others (relocation_of ss r) ≡ true =
-    ap (λ (symbol : ℕ). fits_field (type_of r.kind) (pos symbol) r.addend (pos (base + r.offset))) (sym (All-head (HasAddress base others table ss) r rs h)) ∙ here in
-    All-cons (FitsAt base others) (relocation_of ss r) (map (relocation_of ss) rs) there (fields_fit base others table ss rs (All-tail (HasAddress base others table ss) r rs h) both.1)
+    let there : fits_at base others (relocation_of named ss r) ≡ true =
+    ap (λ (symbol : ℕ). fits_field (type_of r.kind) (pos symbol) r.addend (pos (base + r.offset))) (sym (All-head (HasAddress named base others table ss) r rs h)) ∙ here in
+    All-cons (FitsAt base others) (relocation_of named ss r) (map (relocation_of named ss) rs) there (fields_fit named base others table ss rs (All-tail (HasAddress named base others table ss) r rs h) both.1)
 
-pub linked_fields_fit : (base : ℕ) (others : List ℕ → ℕ) (table : Symbols) (fs : List Function) (rs : List RelocEntry) → Agrees (name_address base others fs) table rs → relocs_cause base table rs ≡ None →
-    All (λ (r : Relocation). fits_at base others r ≡ true) (map (relocation_of (global_symbols fs rs)) rs)
-linked_fields_fit base others table fs rs agree none =
+pub linked_fields_fit : (named : Naming) → (base : ℕ) (others : List ℕ → ℕ) (table : Symbols) (fs : List Function) (rs : List RelocEntry) → Agrees named (name_address base others fs) table rs → relocs_cause base table rs ≡ None →
+    All (λ (r : Relocation). fits_at base others r ≡ true) (map (relocation_of named (global_symbols named fs rs)) rs)
+linked_fields_fit named base others table fs rs agree none =
     let start : List Symbol = map function_symbol fs in
-    let us : List (List ℕ) = added start rs in
-    let e : global_symbols fs rs ≡ start ++ map undefined_symbol us = used_names start rs in
-    let found : All (IsThere (start ++ map undefined_symbol us)) rs = subst (λ (ss : List Symbol). All (IsThere ss) rs) e (used_are_there start rs) in
-    subst (λ (ss : List Symbol). All (FitsAt base others) (map (relocation_of ss) rs)) (sym e)
-    (fields_fit base others table (start ++ map undefined_symbol us) rs (addresses base others fs us table rs agree found) none)
+    let us : List (List ℕ) = added named start rs in
+    let e : global_symbols named fs rs ≡ start ++ map undefined_symbol us = used_names named start rs in
+    let found : All (IsThere named (start ++ map undefined_symbol us)) rs = subst (λ (ss : List Symbol). All (IsThere named ss) rs) e (used_are_there named start rs) in
+    subst (λ (ss : List Symbol). All (FitsAt base others) (map (relocation_of named ss) rs)) (sym e)
+    (fields_fit named base others table (start ++ map undefined_symbol us) rs (addresses named base others fs us table rs agree found) none)
 
 -- the same of `link_cause`
 pub no_link_cause : (o p : Option LinkError) → first_link_cause o p ≡ None → p ≡ None

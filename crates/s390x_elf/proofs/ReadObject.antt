@@ -8,9 +8,9 @@ use Rattle.s390x_base.specs.declared.ir.ExternalName.{ExternalName}
 use Rattle.s390x_buffer.specs.declared.entries.RelocEntry.{RelocEntry}
 use Rattle.s390x_elf.specs.Reading.{IsText, text, pieces}
 use Rattle.s390x_elf.specs.File.{FileHeader, file_header, Section, sections, null_section}
-use Rattle.s390x_elf.specs.Symbols.{Symbol, symbol, null_symbol, Relocation, relocation, named_section, symbol_table, symbols_of, relocations_for}
-use Rattle.s390x_elf.specs.Names.{symbol_name}
-use Rattle.s390x_elf.specs.Object.{IsRelocatable, text_section, stack_note, Function, function_symbol, undefined_symbol, place, with_name, with_used_names, global_symbols, string_table, relocation_of, IsObjectOf}
+use Rattle.s390x_elf.specs.Symbols.{Symbol, symbol, null_symbol, relocation, named_section, symbol_table, symbols_of, relocations_for}
+use Rattle.s390x_elf.specs.Names.{Naming, symbol_name}
+use Rattle.s390x_elf.specs.Object.{text_section, stack_note, Function, function_symbol, undefined_symbol, place, with_name, with_used_names, global_symbols, string_table, relocation_of, IsObjectOf}
 use Rattle.s390x_elf.specs.Tables.{symbol_entry, symbol_entries, SymbolFits, relocation_entries, RelocFits, sections_with, object_sections}
 use Rattle.s390x_elf.specs.Writing.{file_bytes, names_section, FieldsFit, string_section}
 use Rattle.s390x_elf.proofs.Files.{file_header_read, file_read}
@@ -33,7 +33,7 @@ decimal_text n h =
     (λ m ds large k. let p : 0 < 48 + m % 10 = omega arith in text_push ds (48 + m % 10) p k)
     n h
 
-name_text : (name : ExternalName) → name.0 < 2 ^ 32 → IsText (symbol_name name)
+pub name_text : (name : ExternalName) → name.0 < 2 ^ 32 → IsText (symbol_name name)
 name_text name h = let small : name.0 < 2 ^ 64 = omega arith in decimal_text name.0 small
 
 both_false : (a b : Bool) → (a || b) ≡ false → (a ≡ false) × (b ≡ false)
@@ -56,12 +56,16 @@ fits_with : (b : Bool) (ss : List Symbol) (s : Symbol) → All SymbolFits ss →
 fits_with true ss s h k = h
 fits_with false ss s h k = All-append SymbolFits ss (s ∷ []) h (All-cons SymbolFits s [] k (All-nil SymbolFits))
 
-pub used_fit : (ss : List Symbol) (rs : List RelocEntry) → All SymbolFits ss → All RelocFits rs → All SymbolFits (with_used_names ss rs)
-used_fit ss [] h k = h
-used_fit ss (r ∷ rs) h k =
-    let n : List ℕ = symbol_name r.name in
-    used_fit (with_name ss n) rs
-    (fits_with (is_some (place ss n)) ss (undefined_symbol n) h (undefined_fits n (name_text r.name (All-head RelocFits r rs k).name)))
+-- all names are texts
+abbrev pub NamesTexts : Naming → Type 0
+NamesTexts named = (name : ExternalName) → name.0 < 2 ^ 32 → IsText (named name)
+
+pub used_fit : (named : Naming) → NamesTexts named → (ss : List Symbol) (rs : List RelocEntry) → All SymbolFits ss → All RelocFits rs → All SymbolFits (with_used_names named ss rs)
+used_fit named texts ss [] h k = h
+used_fit named texts ss (r ∷ rs) h k =
+    let n : List ℕ = named r.name in
+    used_fit named texts (with_name ss n) rs
+    (fits_with (is_some (place ss n)) ss (undefined_symbol n) h (undefined_fits n (texts r.name (All-head RelocFits r rs k).name)))
     (All-tail RelocFits r rs k)
 
 -- an object's sections fit their headers
@@ -100,11 +104,11 @@ table_read ss small fit entries e =
     ∙ ap (λ (rest : List Symbol). null_symbol ∷ rest)
     (symbols_read (0 ∷ string_table ss) small ss 1 (0 ∷ []) [] fit (sym (ap (λ (bytes : List ℕ). 0 ∷ bytes) (append-nil (string_table ss)))) refl)
 
-entries_read : (ss : List Symbol) → length ss < 2 ^ 32 → (rs : List RelocEntry) → All RelocFits rs →
-    map (relocation (null_symbol ∷ ss)) (pieces 24 (length (relocation_entries ss rs) / 24) (relocation_entries ss rs)) ≡ map (relocation_of ss) rs
-entries_read ss few rs fit =
-    ap (λ (n : ℕ). map (relocation (null_symbol ∷ ss)) (pieces 24 n (relocation_entries ss rs))) (count_of (length (relocation_entries ss rs)) (length rs) (relocation_entries_length ss rs))
-    ∙ relocations_read ss few rs fit
+entries_read : (named : Naming) (ss : List Symbol) → length ss < 2 ^ 32 → (rs : List RelocEntry) → All RelocFits rs →
+    map (relocation (null_symbol ∷ ss)) (pieces 24 (length (relocation_entries named ss rs) / 24) (relocation_entries named ss rs)) ≡ map (relocation_of named ss) rs
+entries_read named ss few rs fit =
+    ap (λ (n : ℕ). map (relocation (null_symbol ∷ ss)) (pieces 24 n (relocation_entries named ss rs))) (count_of (length (relocation_entries named ss rs)) (length rs) (relocation_entries_length named ss rs))
+    ∙ relocations_read named ss few rs fit
 
 symbols_of_sections : (alignment : ℕ) (entries relas text names : List ℕ) → symbols_of (all_sections alignment entries relas text names) ≡ map (symbol names) (pieces 24 (length entries / 24) entries)
 unfolding symbols_of
@@ -136,14 +140,14 @@ few_symbols (s ∷ ss) =
     let next = few_symbols ss in
     omega (arith, length-append (s.name ++ 0 ∷ []) (string_table ss), length-append s.name (0 ∷ []))
 
-pub object_read : (fs : List Function) (alignment : ℕ) (bytes : List ℕ) (rs : List RelocEntry) → alignment < 2 ^ 64 →
-    All SymbolFits (global_symbols fs rs) → All RelocFits rs → length (0 ∷ string_table (global_symbols fs rs)) < 2 ^ 32 →
-    length (file_bytes (object_sections (global_symbols fs rs) alignment bytes rs)) < 2 ^ 64 →
-    IsObjectOf fs alignment bytes rs (file_bytes (object_sections (global_symbols fs rs) alignment bytes rs))
-object_read fs alignment bytes rs aligned fit rels small file_small =
-    let ss : List Symbol = global_symbols fs rs in
+pub object_read : (named : Naming) (fs : List Function) (alignment : ℕ) (bytes : List ℕ) (rs : List RelocEntry) → alignment < 2 ^ 64 →
+    All SymbolFits (global_symbols named fs rs) → All RelocFits rs → length (0 ∷ string_table (global_symbols named fs rs)) < 2 ^ 32 →
+    length (file_bytes (object_sections named (global_symbols named fs rs) alignment bytes rs)) < 2 ^ 64 →
+    IsObjectOf named fs alignment bytes rs (file_bytes (object_sections named (global_symbols named fs rs) alignment bytes rs))
+object_read named fs alignment bytes rs aligned fit rels small file_small =
+    let ss : List Symbol = global_symbols named fs rs in
     let entries : List ℕ = symbol_entry 0 null_symbol ++ symbol_entries 1 ss in
-    let relas : List ℕ = relocation_entries ss rs in
+    let relas : List ℕ = relocation_entries named ss rs in
     let names : List ℕ = 0 ∷ string_table ss in
     let parts : List Section = sections_with alignment entries relas bytes names in
     let few = few_symbols ss in
@@ -169,6 +173,6 @@ object_read fs alignment bytes rs aligned fit rels small file_small =
       relocations = ap (λ (all : List Section). relocations_for all (codes ".text")) read
           ∙ relocations_of_sections alignment entries relas bytes names
           ∙ ap (λ (all : List Symbol). map (relocation all) (pieces 24 (length relas / 24) relas)) (table_read ss small fit entries refl)
-          ∙ entries_read ss few_enough rs rels;
+          ∙ entries_read named ss few_enough rs rels;
       note = ap (λ (all : List Section). named_section all (codes ".note.GNU-stack")) read ∙ note_of_sections alignment entries relas bytes names;
     }

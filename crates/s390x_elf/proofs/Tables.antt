@@ -1,5 +1,5 @@
 -- Symbols and relocations are read from their tables.
-use Rattle.std.proofs.Common.{◌≡◌, ℕ, zero, suc, ◌+◌, ◌*◌, ◌/◌, ◌%◌, ◌^◌, ◌<◌, ◌≤◌, ℤ, List, [], ◌∷◌, ◌++◌, length, take, drop, map, get_or, refl, sym, ap, ◌∙◌, arith, append_assoc, append-nil, length-append, All, FitsSigned}
+use Rattle.std.proofs.Common.{◌≡◌, ℕ, ◌+◌, ◌*◌, ◌/◌, ◌%◌, ◌^◌, ◌<◌, ◌≤◌, ℤ, List, [], ◌∷◌, ◌++◌, length, map, get_or, refl, sym, ap, ◌∙◌, arith, append_assoc, length-append, All, FitsSigned}
 use Rattle.std.specs.Int.{w64, cast_signed, cast_unsigned}
 use Rattle.std.proofs.lemmas.Int.{ints, to_z-of_z}
 use Rattle.std.proofs.lemmas.List.Elements.{All-head, All-tail}
@@ -7,10 +7,10 @@ use Rattle.std.proofs.lemmas.Nat.{from_be_bytes-to_be_bytes_2, from_be_bytes-to_
 use Rattle.s390x_base.specs.declared.ir.Reloc.{Reloc}
 use Rattle.s390x_base.specs.declared.ir.Reloc.TheVariants.{S390xPCRel32Dbl, S390xPLTRel32Dbl, Abs8}
 use Rattle.s390x_buffer.specs.declared.entries.RelocEntry.{RelocEntry}
-use Rattle.s390x_elf.specs.Reading.{half, word, wide, text_at, pieces}
-use Rattle.s390x_elf.specs.Symbols.{Symbol, symbol, null_symbol, Relocation, relocation}
-use Rattle.s390x_elf.specs.Names.{symbol_name}
-use Rattle.s390x_elf.specs.Object.{type_of, relocation_of, named_symbol, string_table}
+use Rattle.s390x_elf.specs.Reading.{text_at, pieces}
+use Rattle.s390x_elf.specs.Symbols.{Symbol, symbol, null_symbol, relocation}
+use Rattle.s390x_elf.specs.Names.{Naming}
+use Rattle.s390x_elf.specs.Object.{type_of, relocation_of, string_table}
 use Rattle.s390x_elf.specs.Tables.{symbol_entry, symbol_entries, SymbolFits, symbol_number, relocation_entry, relocation_entries, RelocFits}
 use Rattle.s390x_elf.proofs.Parts.{text_read}
 use Rattle.s390x_elf.proofs.Places.{numbered_is_named, number_within}
@@ -82,10 +82,10 @@ unsigned_small z h = omega (arith, ints)
 offset_small : (n : ℕ) → n < 2 ^ 32 → n < 2 ^ 64
 offset_small n h = omega arith
 
-relocation_read : (ss : List Symbol) → length ss < 2 ^ 32 → (r : RelocEntry) → RelocFits r → relocation (null_symbol ∷ ss) (relocation_entry ss r) ≡ relocation_of ss r
-relocation_read ss few r fit =
-    let number : ℕ = symbol_number ss (symbol_name r.name) in
-    let within : number ≤ length ss = number_within ss (symbol_name r.name) in
+relocation_read : (named : Naming) (ss : List Symbol) → length ss < 2 ^ 32 → (r : RelocEntry) → RelocFits r → relocation (null_symbol ∷ ss) (relocation_entry named ss r) ≡ relocation_of named ss r
+relocation_read named ss few r fit =
+    let number : ℕ = symbol_number ss (named r.name) in
+    let within : number ≤ length ss = number_within ss (named r.name) in
     let few_numbers : number < 2 ^ 32 = omega arith in
     let small = type_small r.kind in
     let info = from_be_bytes-to_be_bytes_8 (number * 4294967296 + type_of r.kind) (info_small number (type_of r.kind) few_numbers small) in
@@ -94,22 +94,22 @@ relocation_read ss few r fit =
       r_type = (ap (λ (n : ℕ). n % 2 ^ 32) info ∙ type_read number (type_of r.kind) small) i;
       r_sym = (ap (λ (n : ℕ). get_or (null_symbol ∷ ss) (n / 2 ^ 32) null_symbol) info
           ∙ ap (λ (n : ℕ). get_or (null_symbol ∷ ss) n null_symbol) (number_read number (type_of r.kind) small)
-          ∙ numbered_is_named ss (symbol_name r.name)) i;
+          ∙ numbered_is_named ss (named r.name)) i;
       r_addend = (ap (cast_signed w64) (from_be_bytes-to_be_bytes_8 (cast_unsigned w64 r.addend) (unsigned_small r.addend fit.addend)) ∙ to_z-of_z w64 r.addend fit.addend) i;
     }
 
 -- relocations are read from their entries
-pub relocations_read : (ss : List Symbol) → length ss < 2 ^ 32 → (rs : List RelocEntry) → All RelocFits rs →
-    map (relocation (null_symbol ∷ ss)) (pieces 24 (length rs) (relocation_entries ss rs)) ≡ map (relocation_of ss) rs
-relocations_read ss few [] fit = refl
-relocations_read ss few (r ∷ rs) fit =
-    let head : relocation (null_symbol ∷ ss) (relocation_entry ss r) ≡ relocation_of ss r = relocation_read ss few r (All-head RelocFits r rs fit) in
-    let tail : map (relocation (null_symbol ∷ ss)) (pieces 24 (length rs) (relocation_entries ss rs)) ≡ map (relocation_of ss) rs = relocations_read ss few rs (All-tail RelocFits r rs fit) in
+pub relocations_read : (named : Naming) (ss : List Symbol) → length ss < 2 ^ 32 → (rs : List RelocEntry) → All RelocFits rs →
+    map (relocation (null_symbol ∷ ss)) (pieces 24 (length rs) (relocation_entries named ss rs)) ≡ map (relocation_of named ss) rs
+relocations_read named ss few [] fit = refl
+relocations_read named ss few (r ∷ rs) fit =
+    let head : relocation (null_symbol ∷ ss) (relocation_entry named ss r) ≡ relocation_of named ss r = relocation_read named ss few r (All-head RelocFits r rs fit) in
+    let tail : map (relocation (null_symbol ∷ ss)) (pieces 24 (length rs) (relocation_entries named ss rs)) ≡ map (relocation_of named ss) rs = relocations_read named ss few rs (All-tail RelocFits r rs fit) in
     λ i. head i ∷ tail i
 
-pub relocation_entries_length : (ss : List Symbol) (rs : List RelocEntry) → length (relocation_entries ss rs) ≡ 24 * length rs
-relocation_entries_length ss [] = refl
-relocation_entries_length ss (r ∷ rs) =
-    let next = relocation_entries_length ss rs in
-    let front : length (relocation_entry ss r) ≡ 24 = refl in
-    omega (arith, length-append (relocation_entry ss r) (relocation_entries ss rs))
+pub relocation_entries_length : (named : Naming) (ss : List Symbol) (rs : List RelocEntry) → length (relocation_entries named ss rs) ≡ 24 * length rs
+relocation_entries_length named ss [] = refl
+relocation_entries_length named ss (r ∷ rs) =
+    let next = relocation_entries_length named ss rs in
+    let front : length (relocation_entry named ss r) ≡ 24 = refl in
+    omega (arith, length-append (relocation_entry named ss r) (relocation_entries named ss rs))

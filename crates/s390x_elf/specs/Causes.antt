@@ -1,10 +1,12 @@
 -- Why functions in a text are not made an object.
-use Rattle.std.specs.Prelude.{ℕ, ◌+◌, cond, is_some, nat_eq, nat_le, Option, Some, None, List, [], ◌∷◌, ◌++◌, length}
+use Rattle.std.specs.Prelude.{◌≡◌, ◌⊎◌, string_bytes, ℕ, ◌+◌, cond, is_some, nat_eq, nat_le, Option, Some, None, List, [], ◌∷◌, ◌++◌, length}
 use Rattle.std.specs.List.{list_any}
 use Rattle.s390x_buffer.specs.declared.entries.RelocEntry.{RelocEntry}
 use Rattle.s390x_buffer.specs.declared.entries.MachBufferFinalized.{MachBufferFinalized}
 use Rattle.s390x_elf.specs.declared.error.ObjectError.{ObjectError}
-use Rattle.s390x_elf.specs.declared.error.ObjectError.TheVariants.{EmptyName, ZeroByte, DuplicateName, EmptyMember, TooLong}
+use Rattle.s390x_elf.specs.declared.error.ObjectError.TheVariants.{EmptyName, ZeroByte, DuplicateName, EmptyMember, TooLong, NoMemory}
+use Rattle.s390x_elf.specs.declared.names.GivenName.{GivenName}
+use Rattle.s390x_elf.specs.Names.{name_in}
 use Rattle.s390x_elf.specs.Symbols.{Symbol}
 use Rattle.s390x_elf.specs.Object.{Function, function_symbol, place, global_symbols, string_table, whole_function}
 
@@ -31,10 +33,22 @@ functions_cause earlier (f ∷ fs) = first_cause (function_cause earlier f) (fun
 abbrev pub names_cause : List Symbol → Option ObjectError
 names_cause ss = cond (nat_le 4294967296 (1 + length (string_table ss))) (Some TooLong) None
 
--- why functions in a text with relocations are not made an object
-abbrev pub text_cause : List Function → List RelocEntry → Option ObjectError
-text_cause fs rs = first_cause (functions_cause [] fs) (names_cause (global_symbols fs rs))
+-- the first given name that is none of a symbol, and why
+abbrev pub given_cause : List GivenName → Option ObjectError
+given_cause [] = None
+given_cause (g ∷ gs) = first_cause (name_cause (string_bytes g.name)) (given_cause gs)
 
--- why finished code is not made an object with its function by this name
+-- why functions in a text with relocations, some of whose symbols are given names, are not made an object
+abbrev pub text_cause : List GivenName → List Function → List RelocEntry → Option ObjectError
+text_cause names fs rs = first_cause (functions_cause [] fs) (first_cause (given_cause names) (names_cause (global_symbols (name_in names) fs rs)))
+
+-- why finished code, some of whose symbols are given names, is not made an object with its function by this name
+abbrev pub named_object_cause : List GivenName → (name : List ℕ) → MachBufferFinalized → Option ObjectError
+named_object_cause names name code = text_cause names (whole_function name code) code.relocs.items
+
 abbrev pub object_cause : (name : List ℕ) → MachBufferFinalized → Option ObjectError
-object_cause name code = text_cause (whole_function name code) code.relocs.items
+object_cause name code = named_object_cause [] name code
+
+-- the error is the cause, or want of memory
+abbrev pub IsCause : Option ObjectError → ObjectError → Type 0
+IsCause cause e = (e ≡ NoMemory) ⊎ (cause ≡ Some e)

@@ -1,5 +1,5 @@
 -- The file's header and its sections ("ELF-64 Object File Format", "ELF Header" and "Sections").
-use Rattle.std.specs.Prelude.{ℕ, Bool, cond, List, [], ◌∷◌, take, drop, map, slice_index_or}
+use Rattle.std.specs.Prelude.{ℕ, List, [], take, drop, map, slice_index_or}
 use Rattle.s390x_elf.specs.Reading.{half, word, wide, text_at, pieces}
 
 pub record FileHeader : Type 0 where

@@ -7,3 +7,5 @@ pub mod Writing
 pub mod Object
 pub mod Causes
 pub mod Tables
+pub mod Members
+pub mod Answers

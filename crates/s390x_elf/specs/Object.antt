@@ -9,11 +9,12 @@ use Rattle.s390x_buffer.specs.declared.entries.MachBufferFinalized.{MachBufferFi
 use Rattle.s390x_image.specs.Symbols.{Symbols, address_of}
 use Rattle.s390x_image.specs.Fields.{filled}
 use Rattle.s390x_image.specs.Causes.{link_cause, relocs_cause}
+use Rattle.s390x_elf.specs.declared.names.GivenName.{GivenName}
 use Rattle.s390x_elf.specs.declared.symbols.TextFunction.{TextFunction}
 use Rattle.s390x_elf.specs.File.{FileHeader, file_header, Section, sections}
 use Rattle.s390x_elf.specs.Symbols.{Symbol, null_symbol, Relocation, named_section, symbol_table, symbols_of, relocations_for}
 use Rattle.s390x_elf.specs.Linking.{fits_at, linked_text}
-use Rattle.s390x_elf.specs.Names.{symbol_name}
+use Rattle.s390x_elf.specs.Names.{Naming, name_in}
 
 -- a relocatable file (`ET_REL`) for s390x (`EM_S390`), of 64 bits and with the most significant byte first, of the current version, without segments
 pub record IsRelocatable (h : FileHeader) : Type 0 where
@@ -68,13 +69,13 @@ abbrev pub with_name : List Symbol → List ℕ → List Symbol
 with_name ss name = cond (is_some (place ss name)) ss (ss ++ undefined_symbol name ∷ [])
 
 -- symbols with those for the names that relocations use besides, in the order of their first uses
-abbrev pub with_used_names : List Symbol → List RelocEntry → List Symbol
-with_used_names ss [] = ss
-with_used_names ss (r ∷ rs) = with_used_names (with_name ss (symbol_name r.name)) rs
+abbrev pub with_used_names : Naming → List Symbol → List RelocEntry → List Symbol
+with_used_names named ss [] = ss
+with_used_names named ss (r ∷ rs) = with_used_names named (with_name ss (named r.name)) rs
 
 -- the functions, then the further names that the relocations use
-abbrev pub global_symbols : List Function → List RelocEntry → List Symbol
-global_symbols fs rs = with_used_names (map function_symbol fs) rs
+abbrev pub global_symbols : Naming → List Function → List RelocEntry → List Symbol
+global_symbols named fs rs = with_used_names named (map function_symbol fs) rs
 
 -- the names of symbols, each with a zero behind it
 abbrev pub string_table : List Symbol → List ℕ
@@ -92,24 +93,28 @@ type_of S390xPLTRel32Dbl = 20
 type_of Abs8 = 22
 
 -- the relocation of finished code, by the object's global symbols
-abbrev pub relocation_of : List Symbol → RelocEntry → Relocation
-relocation_of globals r = record { r_offset = r.offset; r_type = type_of r.kind; r_sym = named_symbol globals (symbol_name r.name); r_addend = r.addend }
+abbrev pub relocation_of : Naming → List Symbol → RelocEntry → Relocation
+relocation_of named globals r = record { r_offset = r.offset; r_type = type_of r.kind; r_sym = named_symbol globals (named r.name); r_addend = r.addend }
 
--- a file is the object of functions in a text with relocations
-pub record IsObjectOf (fs : List Function) (alignment : ℕ) (bytes : List ℕ) (rs : List RelocEntry) (file : List ℕ) : Type 0 where
+-- a file is the object of functions in a text with relocations, whose symbols are called so
+pub record IsObjectOf (named : Naming) (fs : List Function) (alignment : ℕ) (bytes : List ℕ) (rs : List RelocEntry) (file : List ℕ) : Type 0 where
   pub header : IsRelocatable (file_header file)
   pub text : named_section (sections file) (codes ".text") ≡ text_section alignment bytes
-  pub symbols : symbols_of (sections file) ≡ null_symbol ∷ global_symbols fs rs
+  pub symbols : symbols_of (sections file) ≡ null_symbol ∷ global_symbols named fs rs
   pub locals : (symbol_table (sections file)).sh_info ≡ 1
-  pub relocations : relocations_for (sections file) (codes ".text") ≡ map (relocation_of (global_symbols fs rs)) rs
+  pub relocations : relocations_for (sections file) (codes ".text") ≡ map (relocation_of named (global_symbols named fs rs)) rs
   pub note : named_section (sections file) (codes ".note.GNU-stack") ≡ stack_note
 
 -- the one function of an object of finished code
 abbrev pub whole_function : (name : List ℕ) → MachBufferFinalized → List Function
 whole_function name code = record { name = name; start = 0; size = length code.bytes.items } ∷ []
 
+-- a file is the object of finished code, where some symbols are given names
+abbrev pub IsNamedObject : List GivenName → (name : List ℕ) (code : MachBufferFinalized) (file : List ℕ) → Type 0
+IsNamedObject names name code file = IsObjectOf (name_in names) (whole_function name code) code.alignment code.bytes.items code.relocs.items file
+
 abbrev pub IsObject : (name : List ℕ) (code : MachBufferFinalized) (file : List ℕ) → Type 0
-IsObject name code file = IsObjectOf (whole_function name code) code.alignment code.bytes.items code.relocs.items file
+IsObject name code file = IsNamedObject [] name code file
 
 -- the address of a name, where functions stand in a text at a base and others give the other names these addresses
 abbrev pub name_address : (base : ℕ) (others : List ℕ → ℕ) → List Function → List ℕ → ℕ
@@ -117,20 +122,23 @@ name_address base others [] name = others name
 name_address base others (f ∷ fs) name = cond (bytes_eq name f.name) (base + f.start) (name_address base others fs name)
 
 -- a table has the address of each symbol's name that relocations use
-abbrev pub Agrees : (address : List ℕ → ℕ) → Symbols → List RelocEntry → Type 0
-Agrees address table rs = All (λ (r : RelocEntry). address_of table r.name ≡ Some (address (symbol_name r.name))) rs
+abbrev pub Agrees : Naming → (address : List ℕ → ℕ) → Symbols → List RelocEntry → Type 0
+Agrees named address table rs = All (λ (r : RelocEntry). address_of table r.name ≡ Some (address (named r.name))) rs
 
 -- linked at any base where no relocation has a cause of linking, each value fits its field, and the text is what the relocations fill in
-abbrev pub IsLinkedAsFilled : (fs : List Function) (bytes : List ℕ) (rs : List RelocEntry) (file : List ℕ) → Type 0
-IsLinkedAsFilled fs bytes rs file =
-    (base : ℕ) (others : List ℕ → ℕ) (table : Symbols) → Agrees (name_address base others fs) table rs → relocs_cause base table rs ≡ None →
+abbrev pub IsLinkedAsFilled : Naming → (fs : List Function) (bytes : List ℕ) (rs : List RelocEntry) (file : List ℕ) → Type 0
+IsLinkedAsFilled named fs bytes rs file =
+    (base : ℕ) (others : List ℕ → ℕ) (table : Symbols) → Agrees named (name_address base others fs) table rs → relocs_cause base table rs ≡ None →
     All (λ (r : Relocation). fits_at base others r ≡ true) (relocations_for (sections file) (codes ".text")) × (linked_text file base others ≡ filled base table rs bytes)
 
 -- linked at any base where `link` has no cause, each value fits its field, and the text is `link`'s image
-abbrev pub IsLinkedAsImage : (name : List ℕ) (code : MachBufferFinalized) (file : List ℕ) → Type 0
-IsLinkedAsImage name code file =
-    (base : ℕ) (others : List ℕ → ℕ) (table : Symbols) → Agrees (name_address base others (whole_function name code)) table code.relocs.items → link_cause code base table ≡ None →
+abbrev pub IsLinkedAsNamed : List GivenName → (name : List ℕ) (code : MachBufferFinalized) (file : List ℕ) → Type 0
+IsLinkedAsNamed names name code file =
+    (base : ℕ) (others : List ℕ → ℕ) (table : Symbols) → Agrees (name_in names) (name_address base others (whole_function name code)) table code.relocs.items → link_cause code base table ≡ None →
     All (λ (r : Relocation). fits_at base others r ≡ true) (relocations_for (sections file) (codes ".text")) × (linked_text file base others ≡ filled base table code.relocs.items code.bytes.items)
+
+abbrev pub IsLinkedAsImage : (name : List ℕ) (code : MachBufferFinalized) (file : List ℕ) → Type 0
+IsLinkedAsImage name code file = IsLinkedAsNamed [] name code file
 
 -- a function as the program has it
 abbrev pub function_of : TextFunction → Function

@@ -1,5 +1,5 @@
 -- Symbols and relocations ("ELF-64 Object File Format", "Symbol Table" and "Relocations").
-use Rattle.std.specs.Prelude.{ℕ, ◌^◌, ◌/◌, ◌%◌, ℤ, Bool, cond, ◌&&◌, nat_eq, List, [], ◌∷◌, drop, map, length, slice_index_or}
+use Rattle.std.specs.Prelude.{ℕ, ◌^◌, ◌/◌, ◌%◌, ℤ, Bool, cond, ◌&&◌, nat_eq, List, [], ◌∷◌, map, length, slice_index_or}
 use Rattle.std.specs.Str.{bytes_eq}
 use Rattle.std.specs.Int.{w64, cast_signed}
 use Rattle.s390x_elf.specs.Reading.{byte, half, word, wide, text_at, pieces}

@@ -1,5 +1,5 @@
 -- The bytes of tables of symbols and of relocations.
-use Rattle.std.specs.Prelude.{◌≡◌, ℕ, suc, ◌+◌, ◌*◌, ◌^◌, ◌<◌, Option, Some, None, List, [], ◌∷◌, ◌++◌, length, map, codes, String, string_bytes, FitsSigned}
+use Rattle.std.specs.Prelude.{◌≡◌, ℕ, suc, ◌+◌, ◌*◌, ◌^◌, ◌<◌, Option, Some, None, List, [], ◌∷◌, ◌++◌, length, codes, String, string_bytes, FitsSigned}
 use Rattle.std.specs.List.{flat_map}
 use Rattle.std.specs.Int.{w64, cast_unsigned}
 use Rattle.std.specs.BTreeMap.{BTreeMap, get_by_text}
@@ -10,7 +10,7 @@ use Rattle.s390x_elf.specs.declared.symbols.GlobalSymbol.{GlobalSymbol}
 use Rattle.s390x_elf.specs.Reading.{IsText}
 use Rattle.s390x_elf.specs.File.{Section}
 use Rattle.s390x_elf.specs.Symbols.{Symbol, null_symbol}
-use Rattle.s390x_elf.specs.Names.{symbol_name}
+use Rattle.s390x_elf.specs.Names.{Naming}
 use Rattle.s390x_elf.specs.Object.{Function, function_symbol, undefined_symbol, place, type_of, string_table, text_section, stack_note}
 use Rattle.s390x_elf.specs.Writing.{fields_bytes, string_section}
 
@@ -55,12 +55,12 @@ pub record SymbolFits (s : Symbol) : Type 0 where
   pub st_size : s.st_size < 2 ^ 64
 
 -- the entry of a relocation, where these symbols stand behind the one that stands for none
-abbrev pub relocation_entry : List Symbol → RelocEntry → List ℕ
-relocation_entry ss r =
-    fields_bytes (Wide r.offset ∷ Wide (symbol_number ss (symbol_name r.name) * 4294967296 + type_of r.kind) ∷ Wide (cast_unsigned w64 r.addend) ∷ [])
+abbrev pub relocation_entry : Naming → List Symbol → RelocEntry → List ℕ
+relocation_entry named ss r =
+    fields_bytes (Wide r.offset ∷ Wide (symbol_number ss (named r.name) * 4294967296 + type_of r.kind) ∷ Wide (cast_unsigned w64 r.addend) ∷ [])
 
-abbrev pub relocation_entries : List Symbol → List RelocEntry → List ℕ
-relocation_entries ss rs = flat_map (relocation_entry ss) rs
+abbrev pub relocation_entries : Naming → List Symbol → List RelocEntry → List ℕ
+relocation_entries named ss rs = flat_map (relocation_entry named ss) rs
 
 -- a relocation's numbers fit their types
 pub record RelocFits (r : RelocEntry) : Type 0 where
@@ -86,6 +86,10 @@ abbrev pub sections_with : (alignment : ℕ) (entries relocations text names : L
 sections_with alignment entries relocations text names =
     symbol_section entries ∷ relocation_section relocations ∷ text_section alignment text ∷ string_section (codes ".strtab") names ∷ stack_note ∷ []
 
--- the sections of an object of a text with these global symbols and relocations
-abbrev pub object_sections : List Symbol → (alignment : ℕ) (text : List ℕ) → List RelocEntry → List Section
-object_sections ss alignment text rs = sections_with alignment (symbol_entry 0 null_symbol ++ symbol_entries 1 ss) (relocation_entries ss rs) text (0 ∷ string_table ss)
+-- the sections of an object of a text with these global symbols and entries of relocations
+abbrev pub sections_by : List Symbol → (alignment : ℕ) (relocations text : List ℕ) → List Section
+sections_by ss alignment relocations text = sections_with alignment (symbol_entry 0 null_symbol ++ symbol_entries 1 ss) relocations text (0 ∷ string_table ss)
+
+-- the same with the entries of these relocations
+abbrev pub object_sections : Naming → List Symbol → (alignment : ℕ) (text : List ℕ) → List RelocEntry → List Section
+object_sections named ss alignment text rs = sections_by ss alignment (relocation_entries named ss rs) text

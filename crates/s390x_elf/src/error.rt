@@ -17,7 +17,7 @@ pub enum ObjectError {
     /// A function has no bytes.
     #[error("EmptyMember")]
     EmptyMember,
-    /// The names with their ends take 2^32 bytes or more.
+    /// The names with their ends take 2^32 bytes or more, or the text 2^31.
     #[error("TooLong")]
     TooLong,
     /// No memory.

@@ -5,11 +5,14 @@ mod error;
 mod fields;
 mod file;
 mod law;
+mod members;
 mod names;
-mod objects;
+mod object_file;
 mod relocations;
 mod symbols;
 
 pub use error::ObjectError;
-pub use objects::{object, text_object};
+pub use members::{ObjectMember, objects, objects_with_names};
+pub use names::GivenName;
+pub use object_file::{object, object_with_names, text_object};
 pub use symbols::TextFunction;

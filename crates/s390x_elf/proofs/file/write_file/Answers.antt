@@ -1,9 +1,9 @@
-use Rattle.std.proofs.Common.{◌≡◌, ◌+◌, ◌<◌, ◌≤◌, ◌++◌, List, [], ◌∷◌, length, drop, map, refl, sym, subst, ap, ◌∙◌, arith, rules, length-append}
+use Rattle.std.proofs.Common.{◌≡◌, ◌<◌, ◌++◌, [], ◌∷◌, length, sym, subst, ap, arith, rules, length-append}
 use Rattle.std.proofs.lemmas.List.{length-map}
 use Rattle.std.proofs.lemmas.Grind.{common_steps}
 use Rattle.s390x_elf.specs.declared.file.SectionParts.{SectionParts}
-use Rattle.s390x_elf.specs.File.{Section, null_section}
-use Rattle.s390x_elf.specs.Writing.{section_header_bytes, section_of, names_section, file_header_bytes}
+use Rattle.s390x_elf.specs.File.{null_section}
+use Rattle.s390x_elf.specs.Writing.{section_header_bytes, section_of}
 use Rattle.s390x_elf.proofs.Steps.{left_one, left_none, leads_start, leads_on, whole_file}
 use Rattle.s390x_elf.proofs.file.write_file.Goals as goal
 

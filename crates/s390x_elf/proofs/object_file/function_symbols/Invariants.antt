@@ -2,7 +2,7 @@ use Rattle.std.proofs.Common.{◌≡◌, [], ◌++◌, drop, take, map, All}
 use Rattle.s390x_elf.specs.Object.{function_of, function_symbol}
 use Rattle.s390x_elf.specs.Causes.{functions_cause}
 use Rattle.s390x_elf.specs.Tables.{symbol_of, Indexes, FunctionFits}
-use Rattle.s390x_elf.proofs.objects.function_symbols.Given as goal
+use Rattle.s390x_elf.proofs.object_file.function_symbols.Given as goal
 
 -- what is left leads to what all functions lead to
 abbrev pub invariant-loop-function : goal.invariant-loop-function

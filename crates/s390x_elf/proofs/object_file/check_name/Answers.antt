@@ -1,7 +1,7 @@
 use Rattle.std.proofs.Common.{ℕ, nat_eq, sym, ap, ◌∙◌}
 use Rattle.std.specs.List.{list_any}
 use Rattle.s390x_elf.proofs.Finished.{name_is_fine}
-use Rattle.s390x_elf.proofs.objects.check_name.Goals as goal
+use Rattle.s390x_elf.proofs.object_file.check_name.Goals as goal
 
 pub returns : goal.returns
 returns c =

@@ -1,13 +1,15 @@
 //! An object of finished code.
-ghost use Rattle.std.specs.Prelude.{◌≡◌, ◌+◌, ◌<◌, ◌^◌, ◌∷◌, [], ◌⊎◌, Some, None, IfOk, MatchResult, codes, length, map, nat_eq};
+ghost use Rattle.std.specs.Prelude.{◌≡◌, ◌+◌, ◌<◌, ◌^◌, ◌∷◌, [], Some, None, IfOk, MatchResult, codes, length, map, nat_eq};
 ghost use Rattle.std.specs.List.{All, list_any};
-ghost use Rattle.s390x_elf.specs.Causes.{function_cause, functions_cause, name_cause, object_cause, text_cause};
-ghost use Rattle.s390x_elf.specs.Object.{IsLinkedAsFilled, IsLinkedAsImage, IsObject, IsObjectOf, function_of, function_symbol, stack_note, string_table, text_section};
-ghost use Rattle.s390x_elf.specs.Tables.{FunctionFits, Indexes, RelocFits, object_sections, relocation_section, symbol_of, symbol_section};
+ghost use Rattle.s390x_elf.specs.Causes.{IsCause, function_cause, functions_cause, given_cause, name_cause};
+ghost use Rattle.s390x_elf.specs.Answers.{FunctionsAnswer, IsTextLinked, ObjectAnswer, TextAnswer};
+ghost use Rattle.s390x_elf.specs.Object.{IsLinkedAsImage, IsLinkedAsNamed, function_of, function_symbol, stack_note, string_table, text_section};
+ghost use Rattle.s390x_elf.specs.Tables.{FunctionFits, Indexes, relocation_section, sections_by, symbol_of, symbol_section};
 ghost use Rattle.s390x_elf.specs.Writing.{file_bytes, section_of, string_section};
 
 use crate::error::ObjectError;
 use crate::file::{SHT_PROGBITS, SHT_RELA, SHT_STRTAB, SHT_SYMTAB, SectionParts, write_file};
+use crate::names::GivenName;
 use crate::relocations::{add_used_names, relocation_entries};
 use crate::symbols::{GlobalSymbols, TEXT, TextFunction, string_table, symbol_entries};
 use s390x_buffer::{MachBufferFinalized, RelocEntry};
@@ -57,9 +59,21 @@ fn check_function(symbols: &GlobalSymbols, function: &TextFunction) -> Result<()
     Ok(())
 }
 
+// Whether given names may be given.
+fn check_given(names: &[GivenName]) -> Result<(), ObjectError>
+    ensures { let cause = given_cause names.now in MatchResult result (λ _. cause ≡ None) (λ e. cause ≡ Some e) }
+{
+    for given in names {
+        if let Err(error) = check_name(given.name.as_str()) {
+            return Err(error);
+        }
+    }
+    Ok(())
+}
+
 // The symbols of functions.
 fn function_symbols(alloc: Global, functions: &[TextFunction]) -> Result<GlobalSymbols, ObjectError>
-    ensures answer { let cause = functions_cause [] (map function_of functions.now) in MatchResult result (λ ss. (cause ≡ None) × (map symbol_of ss.symbols.items ≡ map function_symbol (map function_of functions.now))) (λ e. (e ≡ ObjectError.NoMemory) ⊎ (cause ≡ Some e)) }
+    ensures answer { FunctionsAnswer (map function_of functions.now) result }
     ensures places { IfOk result (λ ss. Indexes ss.places (map symbol_of ss.symbols.items)) }
     ensures fits { IfOk result (λ _. All FunctionFits (map function_of functions.now)) }
 {
@@ -153,75 +167,86 @@ fn stack_note(alloc: Global) -> SectionParts
     }
 }
 
-// The file of a text with global symbols, whose names stand in a string table, and relocations.
+// The file of a text with global symbols, whose names stand in a string table, and with entries of
+// relocations.
 fn write_object(
     alloc: Global,
     symbols: &GlobalSymbols,
-    names: Vec<u8>,
+    strings: Vec<u8>,
+    relocations: Vec<u8>,
     alignment: u32,
     text: &[u8],
-    relocs: &[RelocEntry],
 ) -> Result<Vec<u8>, AllocError>
-    requires places { Indexes symbols.now.places (map symbol_of symbols.now.symbols.items) }
-    requires names { names.items ≡ 0 ∷ string_table (map symbol_of symbols.now.symbols.items) }
-    requires small { length names.items < 2 ^ 32 }
-    ensures file { IfOk result (λ file. file.items ≡ file_bytes (object_sections (map symbol_of symbols.now.symbols.items) alignment text.now relocs.now)) }
-    ensures fits { IfOk result (λ _. All RelocFits relocs.now) }
+    requires strings { strings.items ≡ 0 ∷ string_table (map symbol_of symbols.now.symbols.items) }
+    requires small { length strings.items < 2 ^ 32 }
+    ensures { IfOk result (λ file. file.items ≡ file_bytes (sections_by (map symbol_of symbols.now.symbols.items) alignment relocations.items text.now)) }
 {
     let entries = symbol_entries(alloc, &symbols.symbols)?;
-    let relocations = relocation_entries(alloc, symbols, relocs)?;
     let text = Vec::from_slice(alloc, text)?;
     let mut sections = Vec::new(alloc);
     sections.push(symbol_section(entries))?;
     sections.push(relocation_section(relocations))?;
     sections.push(text_section(text, alignment))?;
-    sections.push(name_section(names))?;
+    sections.push(name_section(strings))?;
     sections.push(stack_note(alloc))?;
     let file = write_file(alloc, &sections)?;
     Ok(file)
 }
 
 /// An object of functions in a text with relocations: big-endian ELF64 for s390x, `ET_REL`. Each
-/// function is a global symbol. A symbol `u7` of the relocations is the object's `u7`: the function
-/// of this name, or else a name that the object doesn't define.
+/// function is a global symbol. A symbol `u7` of the relocations is called by the first name that is
+/// given to it, or else `u7`: that is the function of this name, or else a name that the object
+/// doesn't define.
 ///
-/// Refused by the first cause, of the functions in order: a name is empty (`EmptyName`), has a zero
+/// Refused by the first cause. Of the functions in order: a name is empty (`EmptyName`), has a zero
 /// byte (`ZeroByte`) or is an earlier function's (`DuplicateName`), or a function has no bytes
-/// (`EmptyMember`); then the names take 2^32 bytes or more (`TooLong`); or for want of memory.
+/// (`EmptyMember`). Then of the given names in order: one is empty (`EmptyName`) or has a zero byte
+/// (`ZeroByte`). Then the names take 2^32 bytes or more (`TooLong`). Or for want of memory.
 pub fn text_object(
     alloc: Global,
+    names: &[GivenName],
     functions: &[TextFunction],
     alignment: u32,
     text: &[u8],
     relocs: &[RelocEntry],
 ) -> Result<Vec<u8>, ObjectError>
-    ensures answer { let fs = map function_of functions.now in MatchResult result (λ file. (text_cause fs relocs.now ≡ None) × IsObjectOf fs alignment text.now relocs.now file.items) (λ e. (e ≡ ObjectError.NoMemory) ⊎ (text_cause fs relocs.now ≡ Some e)) }
-    ensures linked { IfOk result (λ file. IsLinkedAsFilled (map function_of functions.now) text.now relocs.now file.items) }
+    ensures answer { TextAnswer names.now functions.now alignment text.now relocs.now result }
+    ensures linked { IfOk result (λ file. IsTextLinked names.now functions.now text.now relocs.now file.items) }
 {
     let mut symbols = function_symbols(alloc, functions)?;
-    let Ok(()) = add_used_names(alloc, &mut symbols, relocs) else {
+    check_given(names)?;
+    let Ok(()) = add_used_names(alloc, names, &mut symbols, relocs) else {
         return Err(ObjectError::NoMemory);
     };
-    let Ok(names) = string_table(alloc, &symbols.symbols) else {
+    let Ok(strings) = string_table(alloc, &symbols.symbols) else {
         return Err(ObjectError::NoMemory);
     };
-    if names.len() > 0xffff_ffff {
+    if strings.len() > 0xffff_ffff {
         return Err(ObjectError::TooLong);
     }
-    let Ok(file) = write_object(alloc, &symbols, names, alignment, text, relocs) else {
+    let Ok(entries) = relocation_entries(alloc, names, &symbols, relocs) else {
+        return Err(ObjectError::NoMemory);
+    };
+    let Ok(file) = write_object(alloc, &symbols, strings, entries, alignment, text) else {
         return Err(ObjectError::NoMemory);
     };
     Ok(file)
 }
 
-/// An object with one global function of this name, the finished code; `text_object` says how.
+/// An object with one global function of this name, the finished code, some of whose symbols are
+/// given names; `text_object` says how.
 ///
 /// Refused by the first cause: the name is empty (`EmptyName`) or has a zero byte (`ZeroByte`), the
-/// code has no bytes (`EmptyMember`), the names take 2^32 bytes or more (`TooLong`); or for want of
-/// memory.
-pub fn object(alloc: Global, name: &str, code: &MachBufferFinalized) -> Result<Vec<u8>, ObjectError>
-    ensures answer { MatchResult result (λ file. (object_cause name.now code.now ≡ None) × IsObject name.now code.now file.items) (λ e. (e ≡ ObjectError.NoMemory) ⊎ (object_cause name.now code.now ≡ Some e)) }
-    ensures linked { IfOk result (λ file. IsLinkedAsImage name.now code.now file.items) }
+/// code has no bytes (`EmptyMember`), a given name is empty (`EmptyName`) or has a zero byte
+/// (`ZeroByte`), the names take 2^32 bytes or more (`TooLong`); or for want of memory.
+pub fn object_with_names(
+    alloc: Global,
+    name: &str,
+    names: &[GivenName],
+    code: &MachBufferFinalized,
+) -> Result<Vec<u8>, ObjectError>
+    ensures answer { ObjectAnswer names.now name.now code.now result }
+    ensures linked { IfOk result (λ file. IsLinkedAsNamed names.now name.now code.now file.items) }
 {
     let Ok(name) = String::from_str(alloc, name) else {
         return Err(ObjectError::NoMemory);
@@ -233,10 +258,24 @@ pub fn object(alloc: Global, name: &str, code: &MachBufferFinalized) -> Result<V
     };
     let file = text_object(
         alloc,
+        names,
         &[function],
         code.alignment,
         &code.bytes,
         &code.relocs,
     )?;
     Ok(file)
+}
+
+/// An object with one global function of this name, the finished code, whose symbols are called
+/// `u7` and so on; `text_object` says how.
+///
+/// Refused by the first cause: the name is empty (`EmptyName`) or has a zero byte (`ZeroByte`), the
+/// code has no bytes (`EmptyMember`), the names take 2^32 bytes or more (`TooLong`); or for want of
+/// memory.
+pub fn object(alloc: Global, name: &str, code: &MachBufferFinalized) -> Result<Vec<u8>, ObjectError>
+    ensures answer { ObjectAnswer [] name.now code.now result }
+    ensures linked { IfOk result (λ file. IsLinkedAsImage name.now code.now file.items) }
+{
+    object_with_names(alloc, name, &[], code)
 }

@@ -1,4 +1,4 @@
-use Rattle.std.proofs.Common.{◌≡◌, ◌+◌, ◌<◌, ◌≤◌, List, [], ◌∷◌, ◌++◌, length, drop, take, map, sym, subst, ap, ◌∙◌, arith, rules, All}
+use Rattle.std.proofs.Common.{◌<◌, ◌≤◌, List, length, map, sym, subst, arith, All}
 use Rattle.std.proofs.lemmas.List.{map_more, take_all}
 use Rattle.std.proofs.lemmas.List.Elements.{All-push}
 use Rattle.s390x_elf.specs.declared.symbols.TextFunction.{TextFunction}
@@ -6,7 +6,7 @@ use Rattle.s390x_elf.specs.Object.{Function, function_of}
 use Rattle.s390x_elf.specs.Tables.{FunctionFits}
 use Rattle.s390x_elf.proofs.Steps.{left_one}
 use Rattle.s390x_elf.proofs.Finished.{functions_on, cause_on, name_is_own}
-use Rattle.s390x_elf.proofs.objects.function_symbols.Goals as goal
+use Rattle.s390x_elf.proofs.object_file.function_symbols.Goals as goal
 
 pub add_function-requires-clause-name : goal.add_function-requires-clause-name
 add_function-requires-clause-name c = name_is_own _ (function_of c.function-item.result) c.in_ok-check_function.ensures

@@ -1,21 +1,15 @@
-use Rattle.std.proofs.Common.{List, ◌++◌, length, map, codes, ap, ◌∙◌, arith}
-use Rattle.std.proofs.lemmas.List.{length-map}
+use Rattle.std.proofs.Common.{List, ◌++◌, map, codes, ap, ◌∙◌}
 use Rattle.s390x_elf.specs.declared.symbols.GlobalSymbol.{GlobalSymbol}
 use Rattle.s390x_elf.specs.Symbols.{null_symbol}
 use Rattle.s390x_elf.specs.Object.{text_section}
-use Rattle.s390x_elf.specs.Tables.{symbol_of, symbol_entry, symbol_entries, symbol_section, relocation_section}
-use Rattle.s390x_elf.proofs.ReadObject.{few_symbols}
+use Rattle.s390x_elf.specs.Tables.{symbol_of, symbol_entry, symbol_entries, symbol_section}
 use Rattle.s390x_elf.specs.declared.file.SectionParts.{SectionParts}
 use Rattle.s390x_elf.specs.Writing.{file_bytes, section_of, string_section}
 use Rattle.s390x_elf.proofs.Steps.{five, five_sections}
-use Rattle.s390x_elf.proofs.objects.write_object.Goals as goal
+use Rattle.s390x_elf.proofs.object_file.write_object.Goals as goal
 
-pub relocation_entries-requires-clause-few : goal.relocation_entries-requires-clause-few
-relocation_entries-requires-clause-few c =
-    omega (arith, few_symbols (map symbol_of c.args.symbols.now.symbols.items), ap length c.requires.names, length-map c.args.symbols.now.symbols.items symbol_of, c.requires.small)
-
-pub returns-clause-file : goal.returns-clause-file
-returns-clause-file c =
+pub returns : goal.returns
+returns c =
     c.in_ok-file.ensures
     ∙ ap (λ (xs : List SectionParts). file_bytes (map section_of xs))
     (c.deref-2.ensures.value
@@ -24,7 +18,7 @@ returns-clause-file c =
     ∙ five_sections _ _ _ _ _ _ _ _ _ _
     (c.symbol_section.ensures ∙ ap symbol_section c.in_ok-entries.ensures
     ∙ ap (λ (xs : List GlobalSymbol). symbol_section (symbol_entry 0 null_symbol ++ symbol_entries 1 (map symbol_of xs))) c.deref.ensures.value)
-    (c.relocation_section.ensures ∙ ap relocation_section c.in_ok-relocations.ensures.entries)
+    c.relocation_section.ensures
     (c.text_section.ensures ∙ ap (text_section c.args.alignment) c.in_ok-text.ensures.items)
-    (c.name_section.ensures ∙ ap (string_section (codes ".strtab")) c.requires.names)
+    (c.name_section.ensures ∙ ap (string_section (codes ".strtab")) c.requires.strings)
     c.stack_note.ensures
