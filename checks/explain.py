@@ -29,7 +29,7 @@ COMMANDS = {
 # Those of the second program, where it is there.
 with open(os.path.join(ROOT, "crates.txt"), encoding="utf-8") as listed:
     if re.search(r"^s390x_binary:", listed.read(), re.M):
-        COMMANDS |= {"refusal": [], "verify": [BASE]}
+        COMMANDS |= {"refusal": [], "verify": [BASE], "disassemble": [BASE], "assemble": [BASE], "object": []}
 # Of a function whose instructions are more, only so many parts are tried without a proof.
 MOST_PARTS = 20
 NUMBER = re.compile(r"0|[1-9][0-9]*")
@@ -68,6 +68,8 @@ def usage(words):
         if fault := number_fault(word, least, most):
             is_file = ": an input comes on standard input, behind <" if os.path.exists(word) else ""
             return [f"{name} of {words[0]} is a number: {fault}{is_file}"]
+    if words[0] == "object":
+        return [f"{words[2]} is a word too many: object [NAME]"]
     form = " ".join([words[0]] + [name for name, _, _ in wanted])
     if len(words) - 1 < len(wanted):
         return [f"a word is lacking: {form}"]
@@ -560,6 +562,13 @@ def of_plan(answer, lines):
     return [f"that is line {number}: {lines[number - 1][:200]}"] if number else []
 
 
+# What a line has to be in an input that is no job.
+OTHER_TEXTS = {
+    "disassemble": "a line has two hex digits for each byte, and nothing else",
+    "assemble": "a line has to be as `disassemble BASE` writes it, with its address and bytes or without both",
+}
+
+
 def syntax(page, answer, words, data):
     """What is wrong in a line."""
     number = int(answer.split(" ")[1])
@@ -574,6 +583,8 @@ def syntax(page, answer, words, data):
         said.append(f"line {number}: {shown}")
     if unended and number == len(lines):
         return said + ["no line feed ends it"]
+    if words[0] in OTHER_TEXTS:
+        return said + [OTHER_TEXTS[words[0]]]
     return said + [Text(page, words[0], lines[:number]).fault(number)]
 
 
@@ -611,7 +622,7 @@ def parts_of(job):
 
 def write_parts(path, folder, name, *words):
     """Writes parts of an input as cases, so that one build answers them all."""
-    if not words or words[0] not in ("image", "emit", "run", "operands", "show"):
+    if not words or words[0] not in ("image", "emit", "run", "operands", "show", "object"):
         return
     with open(path, "rb") as file:
         job = Job(file.read().decode(errors="replace").rstrip("\n").split("\n"))

@@ -112,6 +112,7 @@ chmod +x "$copy/crates/s390x_binary/out/s390x_binary"
 run image 4096
 want "the second program's place" 4 "block 0, instruction 0 (both counted from 0), line 2: Mov64 %r2 %r3"
 rm -r "$copy/crates/s390x_binary"
+sed -i '/^s390x_binary:/d' "$copy/crates.txt"
 answers "2 usage"
 grep -v '^s390x_binary:' "$root/crates.txt" > "$copy/crates.txt"
 run refusal
@@ -129,6 +130,18 @@ want "verify" 13 "4 is the first byte"
 echo "2 usage" > "$copy/crates/s390x_binary/out/answer"
 run verify 0x1000
 want "the words of verify" 2 "in decimal it is 4096"
+run object a b
+want "the words of object" 2 "b is a word too many: object [NAME]"
+echo "14 object EmptyName" > "$copy/crates/s390x_binary/out/answer"
+run object ""
+want "object" 14 "the name for the function has no bytes"
+echo "3 syntax 2" > "$copy/crates/s390x_binary/out/answer"
+printf '07fe\n07f\n' > "$room/input"
+run disassemble 4096
+want "disassemble" 3 "a line has two hex digits for each byte"
+printf 'br %%r14\nbr  %%r14\n' > "$room/input"
+run assemble 4096
+want "assemble" 3 "line 2: br  %r14"
 rm -r "$copy/crates/s390x_binary"
 
 # The stand-in refuses one instruction, and the script says why.

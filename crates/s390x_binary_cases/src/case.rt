@@ -17,6 +17,8 @@ pub struct Case {
     pub status: u8,
     /// What it must write.
     pub text: String,
+    /// Whether the text has the hex digits of what it must write, in a line.
+    pub in_hex: bool,
 }
 
 /// The most bytes that the program can write here; a longer text is another than the wanted one.
@@ -28,7 +30,18 @@ pub fn is_met(alloc: Global, case: Case) -> Result<bool, NoMemory> {
     let mut source = BytesSource::new(case.input.into_bytes(), Vec::new(alloc));
     let mut sink = BytesSink::new(alloc, MOST_BYTES, Vec::new(alloc), MOST_BYTES)?;
     let status = run(alloc, words.as_slice(), &mut source, &mut sink);
-    Ok(status.number() == case.status && sink.told() == case.text.as_bytes())
+    let is_same = is_told(alloc, &case.text, case.in_hex, sink.told())?;
+    Ok(is_same && status.number() == case.status)
+}
+
+// Whether the program wrote this text, or what its hex digits tell.
+fn is_told(alloc: Global, text: &str, in_hex: bool, told: &[u8]) -> Result<bool, NoMemory> {
+    if !in_hex {
+        return Ok(told == text.as_bytes());
+    }
+    let mut digits = hex::encode(alloc, told).map_err(|_| NoMemory)?;
+    digits.push_str("\n").map_err(|_| NoMemory)?;
+    Ok(digits.as_bytes() == text.as_bytes())
 }
 
 // The words of a line; an empty one has none.

@@ -77,8 +77,11 @@ impl Reader {
     // A line of a case's input, or the one behind it with the status.
     fn take_input(&mut self, line: &str) -> Result<Option<Case>, LineError> {
         match marked(line, "<") {
-            Some(status) => {
+            Some(rest) => {
+                let digits = rest.strip_suffix(" in hex");
+                let status = digits.unwrap_or(rest);
                 self.case.status = status.parse::<u8>().map_err(|_| LineError::Unreadable)?;
+                self.case.in_hex = digits.is_some();
                 self.part = Part::Text;
             }
             None => {
@@ -130,5 +133,6 @@ fn empty_case(alloc: Global, line: u64) -> Case {
         input: String::new(alloc),
         status: 0,
         text: String::new(alloc),
+        in_hex: false,
     }
 }

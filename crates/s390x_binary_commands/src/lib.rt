@@ -3,4 +3,4 @@
 
 mod words;
 
-pub use words::{Command, read_words};
+pub use words::{Command, object_name, read_words};

@@ -2,7 +2,7 @@
 ghost use Rattle.std.specs.Prelude.{◌≡◌, ◌≢◌, ◌↔◌, ◌∷◌, [], ℕ, ◌^◌, ◌<◌, codes, IsTrue, IfSome, IfNone};
 ghost use Rattle.std.specs.Fmt.{decimal};
 ghost use Rattle.s390x_commands.specs.Words.{IsPlain, texts};
-ghost use Rattle.s390x_binary_commands.specs.Words.{IsForm, IsNoForm};
+ghost use Rattle.s390x_binary_commands.specs.Words.{IsForm, IsNoForm, object_name};
 
 /// What the second program is asked for.
 #[derive(Clone, Copy)]
@@ -11,6 +11,12 @@ pub enum Command {
     Refusal,
     /// Whether the bytes behind the job are its image at this base.
     Verify { base: u64 },
+    /// The disassembly of the code that the input is, at this base.
+    Disassemble { base: u64 },
+    /// The code of which the input is a source, at this base.
+    Assemble { base: u64 },
+    /// The object of the job that the input is; `object_name` is its function's.
+    Object,
 }
 
 /// The command of these words, where they are one.
@@ -20,8 +26,18 @@ pub fn read_words(words: &[String]) -> Option<Command>
 {
     match words {
         [name] => read_alone(name.as_str()),
-        [name, base] => read_with_base(name.as_str(), base.as_str()),
+        [name, word] => read_pair(name.as_str(), word.as_str()),
         _ => None,
+    }
+}
+
+/// The name of the function for `object`: the word behind it, or `function`.
+pub fn object_name(words: &[String]) -> &str
+    ensures { result.now ≡ object_name (texts words.now) }
+{
+    match words.get(1) {
+        Some(name) => name.as_str(),
+        None => "function",
     }
 }
 
@@ -33,17 +49,38 @@ fn read_alone(name: &str) -> Option<Command>
     if name == "refusal" {
         return Some(Command::Refusal);
     }
+    if name == "object" {
+        return Some(Command::Object);
+    }
     None
+}
+
+// The command with this name and a word behind it.
+fn read_pair(name: &str, word: &str) -> Option<Command>
+    ensures form { IfSome result (λ command. IsForm (name.now ∷ word.now ∷ []) command) }
+    ensures none { IfNone result (IsNoForm (name.now ∷ word.now ∷ [])) }
+{
+    if name == "object" {
+        return Some(Command::Object);
+    }
+    read_with_base(name, word)
 }
 
 // The command with this name and a base behind it.
 fn read_with_base(name: &str, base: &str) -> Option<Command>
+    requires { name.now ≢ codes "object" }
     ensures form { IfSome result (λ command. IsForm (name.now ∷ base.now ∷ []) command) }
     ensures none { IfNone result (IsNoForm (name.now ∷ base.now ∷ [])) }
 {
     let base = read_number(base)?;
     if name == "verify" {
         return Some(Command::Verify { base });
+    }
+    if name == "disassemble" {
+        return Some(Command::Disassemble { base });
+    }
+    if name == "assemble" {
+        return Some(Command::Assemble { base });
     }
     None
 }

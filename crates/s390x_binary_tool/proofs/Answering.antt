@@ -5,6 +5,9 @@ use Rattle.std.specs.Fmt.{decimal}
 use Rattle.s390x_base.specs.declared.error.EmitError.{EmitError}
 use Rattle.s390x_image.specs.Fields.{filled}
 use Rattle.s390x_image.specs.declared.error.LinkError.{LinkError}
+use Rattle.hex.specs.Hex.{encode_lower}
+use Rattle.s390x_disassembler.specs.Assembly.{IsProposed, IsSource}
+use Rattle.s390x_disassembler.specs.Disassembly.{IsDisassembly, IsOnlyCode}
 use Rattle.s390x_emit_int.specs.FunctionImage.{HasNoImage}
 use Rattle.s390x_emit_int.specs.declared.image.ImageError.TheVariants.{Refused, Link}
 use Rattle.s390x_bundle_text.specs.Cut.{IsCutAt}
@@ -20,12 +23,14 @@ use Rattle.s390x_tool.specs.Answers.{job_cause, symbols_of}
 use Rattle.s390x_tool.specs.Lines.{IsLinkRefusal, IsMade, IsRefusal, line}
 use Rattle.s390x_tool.specs.declared.status.Status.{Status}
 use Rattle.s390x_tool.specs.declared.status.Status.TheVariants as status
+use Rattle.s390x_binary_tool.specs.Assemble.{IsAssembleAnswer, IsWrongSource}
+use Rattle.s390x_binary_tool.specs.Disassemble.{IsDisassembleAnswer, IsDisassembleReply, IsDisassemblyOf}
 use Rattle.s390x_binary_tool.specs.ImageText.{IsFirstDifference, IsImageText, IsWrongLine}
 use Rattle.s390x_binary_tool.specs.Made.{IsMadeReply}
 use Rattle.s390x_binary_tool.specs.Refusal.{IsRefusalAnswer, IsRefusalReply, refusal_line}
 use Rattle.s390x_binary_tool.specs.Verify.{IsCutJob, IsJobImage, IsVerified, IsVerifyAnswer, IsVerifyReply}
 use Rattle.s390x_binary_tool.specs.declared.status.BinaryStatus.{BinaryStatus}
-use Rattle.s390x_binary_tool.specs.declared.status.BinaryStatus.TheVariants.{Shared, Differs}
+use Rattle.s390x_binary_tool.specs.declared.status.BinaryStatus.TheVariants.{Shared, Differs, ObjectRefused}
 use Rattle.s390x_binary_tool.proofs.Verifying.{verified, wrong_behind, wrong_job}
 
 -- ---- `refusal`
@@ -44,6 +49,7 @@ refusal_placed j r s text h (inr memory) = refusal_memory j s text memory.0 memo
 -- the reply to the only job whose text the input is
 pub refusal_answer : (input : List ℕ) (j : Job) (s : BinaryStatus) (text : List ℕ) → IsJob j → text_of_job j ≡ input → ((k : Job) → IsJob k → text_of_job k ≡ input → SameJob j k) → IsRefusalReply j s text → IsRefusalAnswer input s text
 refusal_answer input j Differs text is spelled one reply = absurd reply
+refusal_answer input j ObjectRefused text is spelled one reply = absurd reply
 refusal_answer input j (Shared status.Ok) text is spelled one reply = record { job = j; is = is; spelled = spelled; one = one; reply = reply }
 refusal_answer input j (Shared status.Refused) text is spelled one reply = record { job = j; is = is; spelled = spelled; one = one; reply = reply }
 refusal_answer input j (Shared status.NoMemory) text is spelled one reply = reply
@@ -83,6 +89,7 @@ verify_unlinked base j given e first s text why (inr memory) is = verify_memory 
 -- the reply to the only job and bytes that the input tells
 pub verify_answer : (base : ℕ) (input : List ℕ) (s : BinaryStatus) (text : List ℕ) (v : IsVerified base input s text) → IsVerifyAnswer base input s text
 verify_answer base input Differs text v = v
+verify_answer base input ObjectRefused text v = v
 verify_answer base input (Shared status.Syntax) text v = absurd v.reply
 verify_answer base input (Shared status.NoMemory) text v = v.reply
 verify_answer base input (Shared s) text v = v
@@ -116,3 +123,43 @@ verify_image_syntax base input size lines number n j first s text c wrong count 
 -- the reply to a job and the bytes behind it
 pub verify_reply_answer : (base : ℕ) (input : List ℕ) (size : ℕ) (j : Job) (given : List ℕ) (s : BinaryStatus) (text : List ℕ) → IsCutJob input size j → IsImageText (drop size input) given → IsVerifyReply base j given s text → IsVerifyAnswer base input s text
 verify_reply_answer base input size j given s text c hex reply = verify_answer base input s text (verified base input size j given s text c hex reply)
+
+-- ---- `disassemble`
+
+pub disassemble_no_memory : (base : ℕ) (input : List ℕ) (s : BinaryStatus) (text : List ℕ) → s ≡ Shared status.NoMemory → text ≡ line (codes "no memory") → IsDisassembleAnswer base input s text
+disassemble_no_memory base input s text is spelled = subst (λ t. IsDisassembleAnswer base input t text) (sym is) spelled
+
+pub disassemble_syntax : (base : ℕ) (input : List ℕ) (n : ℕ) (s : BinaryStatus) (text : List ℕ) → IsWrongLine input n → IsMadeReply (Shared status.Syntax) (line (codes "syntax " ++ decimal n)) s text → IsDisassembleAnswer base input s text
+disassemble_syntax base input n s text wrong (inl made) =
+    subst (λ t. IsDisassembleAnswer base input t text) (sym made.0) (record { number = n; wrong = wrong; spelled = made.1 })
+disassemble_syntax base input n s text wrong (inr memory) = disassemble_no_memory base input s text memory.0 memory.1
+
+pub disassemble_text : (base : ℕ) (code : List ℕ) (told : List ℕ) (s : BinaryStatus) (text : List ℕ) → IsDisassembly base code told → IsOnlyCode base code told → s ≡ Shared status.Ok → text ≡ told → IsDisassembleReply base code s text
+disassemble_text base code told s text is only ok spelled =
+    subst (λ t. IsDisassembleReply base code t text) (sym ok) (subst (IsDisassemblyOf base code) (sym spelled) (is, only))
+
+pub disassemble_memory : (base : ℕ) (code : List ℕ) (s : BinaryStatus) (text : List ℕ) → s ≡ Shared status.NoMemory → text ≡ line (codes "no memory") → IsDisassembleReply base code s text
+disassemble_memory base code s text is spelled = subst (λ t. IsDisassembleReply base code t text) (sym is) spelled
+
+-- the reply to the code that the input writes
+pub disassemble_answer : (base : ℕ) (input code : List ℕ) (s : BinaryStatus) (text : List ℕ) → IsImageText input code → IsDisassembleReply base code s text → IsDisassembleAnswer base input s text
+disassemble_answer base input code Differs text hex reply = absurd reply
+disassemble_answer base input code ObjectRefused text hex reply = absurd reply
+disassemble_answer base input code (Shared status.Ok) text hex reply = record { code = code; hex = hex; is = reply }
+disassemble_answer base input code (Shared status.NoMemory) text hex reply = reply
+disassemble_answer base input code (Shared s) text hex reply = absurd reply
+
+-- ---- `assemble`
+
+pub assemble_no_memory : (base : ℕ) (input : List ℕ) (s : BinaryStatus) (text : List ℕ) → s ≡ Shared status.NoMemory → text ≡ line (codes "no memory") → IsAssembleAnswer base input s text
+assemble_no_memory base input s text is spelled = subst (λ t. IsAssembleAnswer base input t text) (sym is) spelled
+
+pub assemble_syntax : (base : ℕ) (input : List ℕ) (n : ℕ) (s : BinaryStatus) (text : List ℕ) → IsWrongSource base input n → IsMadeReply (Shared status.Syntax) (line (codes "syntax " ++ decimal n)) s text → IsAssembleAnswer base input s text
+assemble_syntax base input n s text wrong (inl made) =
+    subst (λ t. IsAssembleAnswer base input t text) (sym made.0) (record { number = n; wrong = wrong; spelled = made.1 })
+assemble_syntax base input n s text wrong (inr memory) = assemble_no_memory base input s text memory.0 memory.1
+
+pub assemble_code : (base : ℕ) (input code : List ℕ) (first : Status) (s : BinaryStatus) (text : List ℕ) → IsSource base code input → IsProposed base input code → IsMade status.Ok (line (encode_lower code)) first text → s ≡ Shared first → IsAssembleAnswer base input s text
+assemble_code base input code first s text source proposed (inl made) is =
+    subst (λ t. IsAssembleAnswer base input t text) (sym (is ∙ ap Shared made.0)) (record { code = code; source = source; proposed = proposed; spelled = made.1 })
+assemble_code base input code first s text source proposed (inr memory) is = assemble_no_memory base input s text (is ∙ ap Shared memory.0) memory.1

@@ -12,43 +12,59 @@ use Rattle.s390x_tool.specs.declared.status.Status.{Status}
 use Rattle.s390x_tool.specs.declared.status.Status.TheVariants as status
 use Rattle.s390x_binary_commands.specs.Words.{IsForm, IsNoForm}
 use Rattle.s390x_binary_commands.specs.declared.words.Command.{Command}
-use Rattle.s390x_binary_commands.specs.declared.words.Command.TheVariants.{Refusal, Verify}
+use Rattle.s390x_binary_commands.specs.declared.words.Command.TheVariants.{Refusal, Verify, Disassemble, Assemble, Object}
 use Rattle.s390x_binary_tool.specs.Replies.{IsDelivered, IsDone, IsInputAnswer, IsReply}
 use Rattle.s390x_binary_tool.specs.declared.status.BinaryStatus.{BinaryStatus}
-use Rattle.s390x_binary_tool.specs.declared.status.BinaryStatus.TheVariants.{Shared, Differs}
+use Rattle.s390x_binary_tool.specs.declared.status.BinaryStatus.TheVariants.{Shared, Differs, ObjectRefused}
 
 -- ---- the reply
 
 -- no answer has these statuses
-no_usage : (c : Command) (given text : List ℕ) → IsInputAnswer c given (Shared status.Usage) text → ⊥
-no_usage Refusal given text a = absurd a.reply
-no_usage (Verify base) given text a = absurd a.reply
+no_usage : (c : Command) (words : List (List ℕ)) (given text : List ℕ) → IsInputAnswer c words given (Shared status.Usage) text → ⊥
+no_usage Refusal words given text a = absurd a.reply
+no_usage (Verify base) words given text a = absurd a.reply
+no_usage (Disassemble base) words given text a = absurd a
+no_usage (Assemble base) words given text a = absurd a
+no_usage Object words given text a = absurd a.reply
 
-no_read_fault : (c : Command) (given text : List ℕ) → IsInputAnswer c given (Shared status.ReadFault) text → ⊥
-no_read_fault Refusal given text a = absurd a.reply
-no_read_fault (Verify base) given text a = absurd a.reply
+no_read_fault : (c : Command) (words : List (List ℕ)) (given text : List ℕ) → IsInputAnswer c words given (Shared status.ReadFault) text → ⊥
+no_read_fault Refusal words given text a = absurd a.reply
+no_read_fault (Verify base) words given text a = absurd a.reply
+no_read_fault (Disassemble base) words given text a = absurd a
+no_read_fault (Assemble base) words given text a = absurd a
+no_read_fault Object words given text a = absurd a.reply
 
-no_write_fault : (c : Command) (given text : List ℕ) → IsInputAnswer c given (Shared status.WriteFault) text → ⊥
-no_write_fault Refusal given text a = absurd a.reply
-no_write_fault (Verify base) given text a = absurd a.reply
+no_write_fault : (c : Command) (words : List (List ℕ)) (given text : List ℕ) → IsInputAnswer c words given (Shared status.WriteFault) text → ⊥
+no_write_fault Refusal words given text a = absurd a.reply
+no_write_fault (Verify base) words given text a = absurd a.reply
+no_write_fault (Disassemble base) words given text a = absurd a
+no_write_fault (Assemble base) words given text a = absurd a
+no_write_fault Object words given text a = absurd a.reply
 
-no_long_input : (c : Command) (given text : List ℕ) → IsInputAnswer c given (Shared status.InputTooLong) text → ⊥
-no_long_input Refusal given text a = absurd a.reply
-no_long_input (Verify base) given text a = absurd a.reply
+no_long_input : (c : Command) (words : List (List ℕ)) (given text : List ℕ) → IsInputAnswer c words given (Shared status.InputTooLong) text → ⊥
+no_long_input Refusal words given text a = absurd a.reply
+no_long_input (Verify base) words given text a = absurd a.reply
+no_long_input (Disassemble base) words given text a = absurd a
+no_long_input (Assemble base) words given text a = absurd a
+no_long_input Object words given text a = absurd a.reply
 
-memory_line : (c : Command) (given text : List ℕ) → IsInputAnswer c given (Shared status.NoMemory) text → text ≡ line (codes "no memory")
-memory_line Refusal given text a = a
-memory_line (Verify base) given text a = a
+memory_line : (c : Command) (words : List (List ℕ)) (given text : List ℕ) → IsInputAnswer c words given (Shared status.NoMemory) text → text ≡ line (codes "no memory")
+memory_line Refusal words given text a = a
+memory_line (Verify base) words given text a = a
+memory_line (Disassemble base) words given text a = a
+memory_line (Assemble base) words given text a = a
+memory_line Object words given text a = a
 
 -- the answer to a command and its whole input is the reply
-pub reply_answered : (f : Found) (c : Command) (given : List ℕ) (s : BinaryStatus) (text : List ℕ) → IsForm f.words c → IsRead f.left f.left' given → f.faults' ≡ f.faults → IsInputAnswer c given s text → IsReply f s text
+pub reply_answered : (f : Found) (c : Command) (given : List ℕ) (s : BinaryStatus) (text : List ℕ) → IsForm f.words c → IsRead f.left f.left' given → f.faults' ≡ f.faults → IsInputAnswer c f.words given s text → IsReply f s text
 reply_answered f c given Differs text form read same answer = record { command = c; form = form; input = given; read = read; same = same; answer = answer }
-reply_answered f c given (Shared status.Usage) text form read same answer = absurd (no_usage c given text answer)
-reply_answered f c given (Shared status.ReadFault) text form read same answer = absurd (no_read_fault c given text answer)
-reply_answered f c given (Shared status.InputTooLong) text form read same answer = absurd (no_long_input c given text answer)
-reply_answered f c given (Shared status.WriteFault) text form read same answer = absurd (no_write_fault c given text answer)
+reply_answered f c given ObjectRefused text form read same answer = record { command = c; form = form; input = given; read = read; same = same; answer = answer }
+reply_answered f c given (Shared status.Usage) text form read same answer = absurd (no_usage c f.words given text answer)
+reply_answered f c given (Shared status.ReadFault) text form read same answer = absurd (no_read_fault c f.words given text answer)
+reply_answered f c given (Shared status.InputTooLong) text form read same answer = absurd (no_long_input c f.words given text answer)
+reply_answered f c given (Shared status.WriteFault) text form read same answer = absurd (no_write_fault c f.words given text answer)
 reply_answered f c given (Shared status.NoMemory) text form read same answer =
-    (record { command = c; form = form; part = whole_part f.left f.left' given read; same = same }, memory_line c given text answer)
+    (record { command = c; form = form; part = whole_part f.left f.left' given read; same = same }, memory_line c f.words given text answer)
 reply_answered f c given (Shared status.Ok) text form read same answer = record { command = c; form = form; input = given; read = read; same = same; answer = answer }
 reply_answered f c given (Shared status.Syntax) text form read same answer = record { command = c; form = form; input = given; read = read; same = same; answer = answer }
 reply_answered f c given (Shared status.Refused) text form read same answer = record { command = c; form = form; input = given; read = read; same = same; answer = answer }
@@ -74,6 +90,7 @@ reply_unread f c input.NoMemory s text form long rose failed stopped (inr same) 
 -- where the words are no command the reply is that
 usage_reply : (f : Found) (s : BinaryStatus) (text : List ℕ) → IsNoForm f.words → IsReply f s text → s ≡ Shared status.Usage
 usage_reply f Differs text none reply = absurd (none reply.command reply.form)
+usage_reply f ObjectRefused text none reply = absurd (none reply.command reply.form)
 usage_reply f (Shared status.Usage) text none reply = refl
 usage_reply f (Shared status.ReadFault) text none reply = absurd (none reply.0.command reply.0.form)
 usage_reply f (Shared status.InputTooLong) text none reply = absurd (none reply.0.command reply.0.form)
@@ -90,6 +107,7 @@ usage_reply f (Shared status.BundleRefused) text none reply = absurd (none reply
 -- where the count of faults has risen, the reply says so
 fault_reply : (f : Found) (s : BinaryStatus) (text : List ℕ) → f.faults < f.faults' → IsReply f s text → s ≡ Shared status.ReadFault
 fault_reply f Differs text rose reply = absurd (omega (arith, rose, reply.same))
+fault_reply f ObjectRefused text rose reply = absurd (omega (arith, rose, reply.same))
 fault_reply f (Shared status.Usage) text rose reply = absurd (omega (arith, rose, reply.0.same))
 fault_reply f (Shared status.ReadFault) text rose reply = refl
 fault_reply f (Shared status.InputTooLong) text rose reply = absurd (omega (arith, rose, reply.0.same))

@@ -1,5 +1,10 @@
+pub mod Accepted
+pub mod Assemble
+pub mod Disassemble
 pub mod ImageText
 pub mod Made
+pub mod Object
+pub mod OneJob
 pub mod Refusal
 pub mod Replies
 pub mod Status

@@ -2,8 +2,6 @@
 use Rattle.std.specs.Prelude.{◌≡◌, ℕ, List, [], ◌∷◌, ◌++◌, codes, Some, None}
 use Rattle.std.specs.Fmt.{decimal}
 use Rattle.s390x_base.specs.declared.error.EmitError.{EmitError}
-use Rattle.s390x_job.specs.Jobs.{IsJob, text_of_job}
-use Rattle.s390x_job.specs.Same.{SameJob}
 use Rattle.s390x_job.specs.declared.job.Job.{Job}
 use Rattle.s390x_refusal.specs.Refusal.{IsRefusedBy}
 use Rattle.s390x_refusal.specs.declared.position.Position.{Position}
@@ -11,6 +9,7 @@ use Rattle.s390x_refusal.specs.declared.position.Position.TheVariants.{Start, In
 use Rattle.s390x_tool.specs.Answers.{IsSyntax, job_cause}
 use Rattle.s390x_tool.specs.Lines.{error_name, line}
 use Rattle.s390x_tool.specs.declared.status.Status.TheVariants as status
+use Rattle.s390x_binary_tool.specs.OneJob.{IsOneJob}
 use Rattle.s390x_binary_tool.specs.declared.status.BinaryStatus.{BinaryStatus}
 use Rattle.s390x_binary_tool.specs.declared.status.BinaryStatus.TheVariants.{Shared}
 
@@ -50,16 +49,8 @@ IsRefusalReply j (Shared status.Refused) text = IsPlacedRefusal j text
 IsRefusalReply j (Shared status.NoMemory) text = text ≡ line (codes "no memory")
 IsRefusalReply j s text = ⊥
 
--- the input is the text of a job, the only one, and this is the reply to it
-pub record IsRefusalOfJob (input : List ℕ) (s : BinaryStatus) (text : List ℕ) : Type 0 where
-  pub job : Job
-  pub is : IsJob job
-  pub spelled : text_of_job job ≡ input
-  pub one : (j : Job) → IsJob j → text_of_job j ≡ input → SameJob job j
-  pub reply : IsRefusalReply job s text
-
 -- the answer to `refusal` and its whole input
 abbrev pub IsRefusalAnswer : List ℕ → BinaryStatus → List ℕ → Type 0
 IsRefusalAnswer input (Shared status.Syntax) text = IsSyntax input text
 IsRefusalAnswer input (Shared status.NoMemory) text = text ≡ line (codes "no memory")
-IsRefusalAnswer input s text = IsRefusalOfJob input s text
+IsRefusalAnswer input s text = IsOneJob (λ j. IsRefusalReply j s text) input

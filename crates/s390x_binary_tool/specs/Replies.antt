@@ -6,9 +6,12 @@ use Rattle.s390x_tool.specs.Ends.{IsCutShort, IsPartRead, IsRead, IsTooLong, mos
 use Rattle.s390x_tool.specs.Lines.{line}
 use Rattle.s390x_tool.specs.Replies.{Found}
 use Rattle.s390x_tool.specs.declared.status.Status.TheVariants as status
-use Rattle.s390x_binary_commands.specs.Words.{IsForm, IsNoForm}
+use Rattle.s390x_binary_commands.specs.Words.{IsForm, IsNoForm, object_name}
 use Rattle.s390x_binary_commands.specs.declared.words.Command.{Command}
-use Rattle.s390x_binary_commands.specs.declared.words.Command.TheVariants.{Refusal, Verify}
+use Rattle.s390x_binary_commands.specs.declared.words.Command.TheVariants.{Refusal, Verify, Disassemble, Assemble, Object}
+use Rattle.s390x_binary_tool.specs.Assemble.{IsAssembleAnswer}
+use Rattle.s390x_binary_tool.specs.Disassemble.{IsDisassembleAnswer}
+use Rattle.s390x_binary_tool.specs.Object.{IsObjectAnswer}
 use Rattle.s390x_binary_tool.specs.Refusal.{IsRefusalAnswer}
 use Rattle.s390x_binary_tool.specs.Verify.{IsVerifyAnswer}
 use Rattle.s390x_binary_tool.specs.declared.status.BinaryStatus.{BinaryStatus}
@@ -41,10 +44,13 @@ pub record IsOutOfMemory (f : Found) : Type 0 where
   pub part : IsPartRead f.left f.left' too_many
   pub same : f.faults' ≡ f.faults
 
--- the answer to a command and its whole input
-abbrev pub IsInputAnswer : Command → List ℕ → BinaryStatus → List ℕ → Type 0
-IsInputAnswer Refusal input s text = IsRefusalAnswer input s text
-IsInputAnswer (Verify base) input s text = IsVerifyAnswer base input s text
+-- the answer to a command, which these words are, and its whole input
+abbrev pub IsInputAnswer : Command → (words : List (List ℕ)) → (input : List ℕ) → BinaryStatus → List ℕ → Type 0
+IsInputAnswer Refusal words input s text = IsRefusalAnswer input s text
+IsInputAnswer (Verify base) words input s text = IsVerifyAnswer base input s text
+IsInputAnswer (Disassemble base) words input s text = IsDisassembleAnswer base input s text
+IsInputAnswer (Assemble base) words input s text = IsAssembleAnswer base input s text
+IsInputAnswer Object words input s text = IsObjectAnswer (object_name words) input s text
 
 -- the words are a command, the source was read to its end, and this is the answer to what it held
 pub record IsAnswered (f : Found) (s : BinaryStatus) (text : List ℕ) : Type 0 where
@@ -53,7 +59,7 @@ pub record IsAnswered (f : Found) (s : BinaryStatus) (text : List ℕ) : Type 0 
   pub input : List ℕ
   pub read : IsRead f.left f.left' input
   pub same : f.faults' ≡ f.faults
-  pub answer : IsInputAnswer command input s text
+  pub answer : IsInputAnswer command f.words input s text
 
 -- the status and the text that are replied
 abbrev pub IsReply : Found → BinaryStatus → List ℕ → Type 0

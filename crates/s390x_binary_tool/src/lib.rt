@@ -1,7 +1,10 @@
 //! The top call of the second program: its statuses, its replies, and `run`.
 #![tactic(auto)]
 
+mod assemble;
+mod disassemble;
 mod image_text;
+mod object;
 mod refusal;
 mod reply;
 mod status;

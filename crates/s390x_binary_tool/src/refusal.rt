@@ -1,6 +1,6 @@
 //! The reply to the command `refusal`.
 ghost use Rattle.std.specs.Prelude.{◌≡◌, ◌<◌, ◌++◌, IfOk, OnOk, length, string_bytes};
-ghost use Rattle.std.specs.Cow.{cow_str_bytes};
+ghost use Rattle.std.specs.Cow.{cow_slice_items};
 ghost use Rattle.s390x_tool.specs.declared.status.Status.TheVariants as status;
 ghost use Rattle.s390x_binary_tool.specs.Made.{IsMadeReply};
 ghost use Rattle.s390x_binary_tool.specs.declared.status.BinaryStatus.TheVariants.{Shared};
@@ -19,7 +19,7 @@ use std::alloc::{AllocError, Global};
 /// The answer to `refusal` and its whole input.
 pub fn refusal(alloc: Global, input: &[u8]) -> BinaryReply
     requires { length input.now < 4294967295 }
-    ensures { IsRefusalAnswer input.now result.status (cow_str_bytes result.text) }
+    ensures { IsRefusalAnswer input.now result.status (cow_slice_items result.text) }
 {
     match read_lines(alloc, input) {
         Ok(job) => refusal_of_job(alloc, &job),
@@ -30,7 +30,7 @@ pub fn refusal(alloc: Global, input: &[u8]) -> BinaryReply
 
 // The reply to a job.
 fn refusal_of_job(alloc: Global, job: &Job) -> BinaryReply
-    ensures { IsRefusalReply job.now result.status (cow_str_bytes result.text) }
+    ensures { IsRefusalReply job.now result.status (cow_slice_items result.text) }
 {
     match first_refusal(alloc, &job.function, &job.info, job.state) {
         Ok(None) => shared(fixed(Status::Ok, "none\n")),
@@ -41,7 +41,7 @@ fn refusal_of_job(alloc: Global, job: &Job) -> BinaryReply
 
 // The reply with a cause and its place.
 fn placed(alloc: Global, refusal: &Refusal) -> BinaryReply
-    ensures { IsMadeReply (Shared status.Refused) (refusal_line refusal.now.error refusal.now.position) result.status (cow_str_bytes result.text) }
+    ensures { IsMadeReply (Shared status.Refused) (refusal_line refusal.now.error refusal.now.position) result.status (cow_slice_items result.text) }
 {
     made(
         BinaryStatus::Shared(Status::Refused),

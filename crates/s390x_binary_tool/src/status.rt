@@ -11,6 +11,8 @@ pub enum BinaryStatus {
     Shared(Status),
     /// The bytes behind the job aren't its image at this base.
     Differs,
+    /// The job's code is not made an object.
+    ObjectRefused,
 }
 
 impl BinaryStatus {
@@ -21,6 +23,7 @@ impl BinaryStatus {
         match self {
             BinaryStatus::Shared(status) => status.number(),
             BinaryStatus::Differs => 13,
+            BinaryStatus::ObjectRefused => 14,
         }
     }
 }

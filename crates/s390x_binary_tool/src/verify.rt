@@ -1,6 +1,6 @@
 //! The reply to the command `verify`.
 ghost use Rattle.std.specs.Prelude.{◌≡◌, ◌<◌, ◌≤◌, ◌++◌, codes, IfOk, length};
-ghost use Rattle.std.specs.Cow.{cow_str_bytes};
+ghost use Rattle.std.specs.Cow.{cow_slice_items};
 ghost use Rattle.std.specs.Fmt.{decimal};
 ghost use Rattle.s390x_image.specs.Symbols.{no_symbols};
 ghost use Rattle.s390x_tool.specs.Answers.{with_symbols};
@@ -25,7 +25,7 @@ use std::alloc::Global;
 /// The answer to `verify` at this base and its whole input.
 pub fn verify(alloc: Global, base: u64, input: &[u8]) -> BinaryReply
     requires { length input.now < too_many }
-    ensures { IsVerifyAnswer base input.now result.status (cow_str_bytes result.text) }
+    ensures { IsVerifyAnswer base input.now result.status (cow_slice_items result.text) }
 {
     let size = job_size(input);
     match read_lines(alloc, &input[..size]) {
@@ -40,7 +40,7 @@ fn verify_image(alloc: Global, base: u64, job: &Job, input: &[u8], size: usize) 
     requires short { length input.now < too_many }
     requires within { size ≤ length input.now }
     requires cut { IsCutJob input.now size job.now }
-    ensures { IsVerifyAnswer base input.now result.status (cow_str_bytes result.text) }
+    ensures { IsVerifyAnswer base input.now result.status (cow_slice_items result.text) }
 {
     match read_image(alloc, &input[size..]) {
         Ok(Ok(image)) => compare(alloc, base, job, &image),
@@ -54,7 +54,7 @@ fn verify_image(alloc: Global, base: u64, job: &Job, input: &[u8], size: usize) 
 
 // Whether the bytes are the job's image at the base.
 fn compare(alloc: Global, base: u64, job: &Job, image: &[u8]) -> BinaryReply
-    ensures { IsVerifyReply base job.now image.now result.status (cow_str_bytes result.text) }
+    ensures { IsVerifyReply base job.now image.now result.status (cow_slice_items result.text) }
 {
     let Ok(symbols) = symbol_table(alloc, &job.symbols) else {
         return shared(no_memory());
@@ -71,7 +71,7 @@ fn compare(alloc: Global, base: u64, job: &Job, image: &[u8]) -> BinaryReply
 
 // The reply to bytes that differ from the image first at this one.
 fn differs(alloc: Global, at: usize) -> BinaryReply
-    ensures { IsMadeReply Differs (line (codes "differs " ++ decimal at)) result.status (cow_str_bytes result.text) }
+    ensures { IsMadeReply Differs (line (codes "differs " ++ decimal at)) result.status (cow_slice_items result.text) }
 {
     made(BinaryStatus::Differs, format!(in alloc; "differs {at}\n"))
 }

@@ -1,3 +1,4 @@
+use Rattle.s390x_binary_tool.proofs.Completing.{completed}
 use Rattle.s390x_binary_tool.proofs.Replying.{always_read_fault, always_usage, always_write_fault, done, read_fault_of, too_long_of, usage_of, write_fault_of}
 use Rattle.s390x_binary_tool.proofs.top_call.run.Goals as goal
 
@@ -24,3 +25,6 @@ returns-clause-ok g c = done _ _ _ _ _ _ _ _ c.reply_to-reply.ensures c.deliver.
 
 pub returns-clause-always_write_fault : goal.returns-clause-always_write_fault
 returns-clause-always_write_fault g c = always_write_fault _ _ _ _ _ _ _ c.deliver.ensures
+
+pub returns-clause-complete : goal.returns-clause-complete
+returns-clause-complete g c = completed _ _ _ _ _ _ _ _ c.reply_to-reply.ensures c.deliver.ensures

@@ -1,6 +1,6 @@
 use Rattle.std.proofs.Common.{◌+◌, ◌++◌, refl, sym, subst}
 use Rattle.std.specs.Prelude.{codes}
-use Rattle.std.specs.Cow.{cow_str_bytes}
+use Rattle.std.specs.Cow.{cow_slice_items}
 use Rattle.std.specs.Fmt.{decimal}
 use Rattle.std.proofs.lemmas.List.{length-take-le}
 use Rattle.s390x_tool.specs.Lines.{IsMade, line}
@@ -17,7 +17,7 @@ slice_bounds-count_lines-end c = sym (length-take-le c.args.size c.args.input.no
 pub returns-in-Ok-Ok : goal.returns-in-Ok-Ok
 returns-in-Ok-Ok c =
     let s = c.compare.result.status in
-    let text = cow_str_bytes c.compare.result.text in
+    let text = cow_slice_items c.compare.result.text in
     let image = c.in-Ok-Ok.image.items in
     let hex = subst (λ t. IsImageText t image) (all_behind c.args.size c.args.input.now) (rw c.in-Ok-Ok.field-0-is at c.in-Ok-Ok.ensures.lines) in
     verify_reply_answer c.args.base c.args.input.now c.args.size c.args.job.now image s text c.requires.cut hex (subst (λ given. IsVerifyReply c.args.base c.args.job.now given s text) c.deref.ensures.value c.compare.ensures)

@@ -1,0 +1,57 @@
+-- Inputs that nothing keeps from being done.
+use Rattle.std.specs.Prelude.{◌≡◌, ◌≤◌, ℕ, List, None, length}
+use Rattle.hex.specs.Hex.{IsBytes}
+use Rattle.s390x_buffer.specs.declared.entries.MachBufferFinalized.{MachBufferFinalized}
+use Rattle.s390x_disassembler.specs.Disassembly.{IsDisassembly}
+use Rattle.s390x_elf.specs.Causes.{object_cause}
+use Rattle.s390x_job.specs.Jobs.{IsJob, text_of_job}
+use Rattle.s390x_job.specs.declared.job.Job.{Job}
+use Rattle.s390x_binary_commands.specs.Words.{object_name}
+use Rattle.s390x_binary_commands.specs.declared.words.Command.{Command}
+use Rattle.s390x_binary_commands.specs.declared.words.Command.TheVariants.{Refusal, Verify, Disassemble, Assemble, Object}
+use Rattle.s390x_tool.specs.Answers.{IsCodeOfJob, IsImageAt, job_cause}
+use Rattle.s390x_binary_tool.specs.ImageText.{IsImageText}
+use Rattle.s390x_binary_tool.specs.Verify.{IsVerifyText}
+
+-- the input is the text of a job, which emission has no cause to refuse
+pub record IsValidJob (input : List ℕ) : Type 0 where
+  pub job : Job
+  pub is : IsJob job
+  pub spelled : text_of_job job ≡ input
+  pub valid : job_cause job ≡ None
+
+-- the input is the text of a job, and behind it stands its image at the base, as the first program writes it
+pub record IsJobWithImage (base : ℕ) (input : List ℕ) : Type 0 where
+  pub job : Job
+  pub given : List ℕ
+  pub are : IsVerifyText input job given
+  pub image : IsImageAt base job given
+
+-- code in lines of hex digits
+pub record IsHexCode (input : List ℕ) : Type 0 where
+  pub code : List ℕ
+  pub hex : IsImageText input code
+
+-- the input is a disassembly at the base
+pub record IsSomeDisassembly (base : ℕ) (input : List ℕ) : Type 0 where
+  pub code : List ℕ
+  pub bytes : IsBytes code
+  pub is : IsDisassembly base code input
+
+-- the input is the text of a job, which emission has no cause to refuse, and nothing keeps its code from being made an object with this name
+pub record IsObjectJob (name : List ℕ) (input : List ℕ) : Type 0 where
+  pub valid : IsValidJob input
+  pub named : (code : MachBufferFinalized) → IsCodeOfJob valid.job code → object_cause name code ≡ None
+
+-- nothing keeps the command, which these words are, from being done with the input
+abbrev pub IsUnrefused : Command → (words : List (List ℕ)) → (input : List ℕ) → Type 0
+IsUnrefused Refusal words input = IsValidJob input
+IsUnrefused (Verify base) words input = IsJobWithImage base input
+IsUnrefused (Disassemble base) words input = IsHexCode input
+IsUnrefused (Assemble base) words input = IsSomeDisassembly base input
+IsUnrefused Object words input = IsObjectJob (object_name words) input
+
+-- the same of an input that isn't too long
+pub record IsAccepted (command : Command) (words : List (List ℕ)) (input : List ℕ) : Type 0 where
+  pub short : length input ≤ 16777216
+  pub unrefused : IsUnrefused command words input
