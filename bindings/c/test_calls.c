@@ -262,7 +262,7 @@ static void bundles(void) {
 
 static void texts(void) {
     static room in;
-    static const char wanted[] = "block 0\nlgr %r2, %r3\nagrk %r2, %r2, %r4\nbr %r14\n";
+    static const char wanted[] = "block 0\nlgr %r2, %r3\nagr %r2, %r4\nbr %r14\n";
     s390x_reason reason;
     size_t count = 5;
     memset(&in, MARK, sizeof in);

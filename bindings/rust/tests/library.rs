@@ -82,7 +82,7 @@ fn bundles() {
 
 #[test]
 fn listings() {
-    assert_eq!(show(ADD).unwrap(), "block 0\nlgr %r2, %r3\nagrk %r2, %r2, %r4\nbr %r14\n");
+    assert_eq!(show(ADD).unwrap(), "block 0\nlgr %r2, %r3\nagr %r2, %r4\nbr %r14\n");
     let job = Job::new(Function::new().block([
         Inst::Nop0,
         Inst::AluRR { alu_op: ALUOp::Add64, rd: Reg::VirtualGeneral(0), ri: Reg::VirtualGeneral(0), rm: Reg::VirtualGeneral(1) },

@@ -1,8 +1,12 @@
 -- How a call ends on an input, from how it ends on the job whose text that is.
-use Rattle.std.proofs.Common.{◌≡◌, ℕ, List, ◌⊎◌, inl, inr, refl, None}
+use Rattle.std.proofs.Common.{◌≡◌, ℕ, List, ◌⊎◌, inl, inr, refl, subst, None}
+use Rattle.s390x_alloc.specs.Answered.{IsAnswered}
 use Rattle.s390x_alloc.specs.Blocks.{IsFault}
 use Rattle.s390x_alloc.specs.Checked.{checked}
+use Rattle.s390x_alloc.specs.Walks.{EveryWalkReadsAlike}
 use Rattle.s390x_alloc.specs.declared.fault.PlanFault.{PlanFault}
+use Rattle.s390x_inst.specs.declared.function.AllocatedFunction.{AllocatedFunction}
+use Rattle.s390x_inst.specs.declared.state.FrameLayout.{FrameLayout}
 use Rattle.s390x_job.specs.declared.job.Job.{Job}
 use Rattle.s390x_plan_text.specs.Text.{IsPlannedOf}
 use Rattle.s390x_plan_text.specs.declared.planned_job.PlannedJob.{PlannedJob}
@@ -54,3 +58,16 @@ report_put j out out' count count' reason status.NoMemory valid put = absurd put
 report_put j out out' count count' reason status.PlanRefused valid put = absurd put
 report_put j out out' count count' reason status.BundleRefused valid put = absurd put
 report_put j out out' count count' reason status.TooSmall valid put = (record { valid = valid; small = put }, refl)
+
+-- the same, where the layout is a call's
+pub faulty : (input : List ℕ) (p : PlannedJob) (layout : FrameLayout) (f : PlanFault) (reason reason' : PlanReason) (s : Status) → layout ≡ p.job.state.layout
+    → IsPlannedOf input p → IsFault (checked layout p.job.function.blocks.items p.plan.blocks.items) f → IsFaultTold f reason reason' s → ChecksTo input reason reason' s
+faulty input p layout f reason reason' s same is cause told =
+    fault_told input p f reason reason' s is (subst (λ l. IsFault (checked l p.job.function.blocks.items p.plan.blocks.items) f) same cause) told
+
+-- a plan without a fault is done
+pub faultless : (input : List ℕ) (p : PlannedJob) (layout : FrameLayout) (function : AllocatedFunction) (reason : PlanReason) → layout ≡ p.job.state.layout
+    → IsPlannedOf input p → IsAnswered layout p.job.function p.plan function → EveryWalkReadsAlike p.job.function.blocks.items p.plan.blocks.items
+    → ChecksTo input reason reason status.Done
+faultless input p layout function reason same is answered walks =
+    (record { planned = p; is = is; faultless = (subst (λ l. IsAnswered l p.job.function p.plan function) same answered).faultless; walks = walks }, refl)

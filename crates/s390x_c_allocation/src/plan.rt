@@ -46,6 +46,7 @@ pub fn checked_plan(alloc: Global, input: &[u8], reason: &mut PlanReason) -> Sta
 }
 
 // Whether the plan has a fault.
+#[tactic(auto, using(crate::proofs::Answering::faultless, crate::proofs::Answering::faulty))]
 fn check_planned(
     alloc: Global,
     input: &[u8],
@@ -62,7 +63,7 @@ fn check_planned(
         job.state.frame_layout(),
         &planned.plan,
     ) {
-        Ok(_) => Status::Done,
+        Ok(_function) => Status::Done,
         Err(fault) => plan_refused(fault, reason),
     }
 }
