@@ -6,7 +6,7 @@ use Rattle.s390x_base.specs.declared.error.EmitError.{EmitError}
 use Rattle.s390x_image.specs.Fields.{filled}
 use Rattle.s390x_image.specs.declared.error.LinkError.{LinkError}
 use Rattle.hex.specs.Hex.{encode_lower}
-use Rattle.s390x_disassembler.specs.Assembly.{IsProposed, IsSource}
+use Rattle.s390x_disassembler.specs.Assembly.{IsNoSource, IsOnlySource, IsSource, IsWrongSource}
 use Rattle.s390x_disassembler.specs.Disassembly.{IsDisassembly, IsOnlyCode}
 use Rattle.s390x_emit_int.specs.FunctionImage.{HasNoImage}
 use Rattle.s390x_emit_int.specs.declared.image.ImageError.TheVariants.{Refused, Link}
@@ -23,7 +23,7 @@ use Rattle.s390x_tool.specs.Answers.{job_cause, symbols_of}
 use Rattle.s390x_tool.specs.Lines.{IsLinkRefusal, IsMade, IsRefusal, line}
 use Rattle.s390x_tool.specs.declared.status.Status.{Status}
 use Rattle.s390x_tool.specs.declared.status.Status.TheVariants as status
-use Rattle.s390x_binary_tool.specs.Assemble.{IsAssembleAnswer, IsWrongSource}
+use Rattle.s390x_binary_tool.specs.Assemble.{IsAssembleAnswer}
 use Rattle.s390x_binary_tool.specs.Disassemble.{IsDisassembleAnswer, IsDisassembleReply, IsDisassemblyOf}
 use Rattle.s390x_binary_tool.specs.ImageText.{IsFirstDifference, IsImageText, IsWrongLine}
 use Rattle.s390x_binary_tool.specs.Made.{IsMadeReply}
@@ -154,12 +154,12 @@ disassemble_answer base input code (Shared s) text hex reply = absurd reply
 pub assemble_no_memory : (base : ℕ) (input : List ℕ) (s : BinaryStatus) (text : List ℕ) → s ≡ Shared status.NoMemory → text ≡ line (codes "no memory") → IsAssembleAnswer base input s text
 assemble_no_memory base input s text is spelled = subst (λ t. IsAssembleAnswer base input t text) (sym is) spelled
 
-pub assemble_syntax : (base : ℕ) (input : List ℕ) (n : ℕ) (s : BinaryStatus) (text : List ℕ) → IsWrongSource base input n → IsMadeReply (Shared status.Syntax) (line (codes "syntax " ++ decimal n)) s text → IsAssembleAnswer base input s text
-assemble_syntax base input n s text wrong (inl made) =
-    subst (λ t. IsAssembleAnswer base input t text) (sym made.0) (record { number = n; wrong = wrong; spelled = made.1 })
-assemble_syntax base input n s text wrong (inr memory) = assemble_no_memory base input s text memory.0 memory.1
+pub assemble_syntax : (base : ℕ) (input : List ℕ) (n : ℕ) (s : BinaryStatus) (text : List ℕ) → IsNoSource base input → IsWrongSource base input n → IsMadeReply (Shared status.Syntax) (line (codes "syntax " ++ decimal n)) s text → IsAssembleAnswer base input s text
+assemble_syntax base input n s text none wrong (inl made) =
+    subst (λ t. IsAssembleAnswer base input t text) (sym made.0) (record { number = n; none = none; wrong = wrong; spelled = made.1 })
+assemble_syntax base input n s text none wrong (inr memory) = assemble_no_memory base input s text memory.0 memory.1
 
-pub assemble_code : (base : ℕ) (input code : List ℕ) (first : Status) (s : BinaryStatus) (text : List ℕ) → IsSource base code input → IsProposed base input code → IsMade status.Ok (line (encode_lower code)) first text → s ≡ Shared first → IsAssembleAnswer base input s text
-assemble_code base input code first s text source proposed (inl made) is =
-    subst (λ t. IsAssembleAnswer base input t text) (sym (is ∙ ap Shared made.0)) (record { code = code; source = source; proposed = proposed; spelled = made.1 })
-assemble_code base input code first s text source proposed (inr memory) is = assemble_no_memory base input s text (is ∙ ap Shared memory.0) memory.1
+pub assemble_code : (base : ℕ) (input code : List ℕ) (first : Status) (s : BinaryStatus) (text : List ℕ) → IsSource base code input → IsOnlySource base code input → IsMade status.Ok (line (encode_lower code)) first text → s ≡ Shared first → IsAssembleAnswer base input s text
+assemble_code base input code first s text source only (inl made) is =
+    subst (λ t. IsAssembleAnswer base input t text) (sym (is ∙ ap Shared made.0)) (record { code = code; source = source; only = only; spelled = made.1 })
+assemble_code base input code first s text source only (inr memory) is = assemble_no_memory base input s text (is ∙ ap Shared memory.0) memory.1

@@ -21,7 +21,7 @@ use Rattle.s390x_tool.specs.Replies.{Found}
 use Rattle.s390x_tool.specs.declared.status.Status.TheVariants as status
 use Rattle.s390x_tool.proofs.Completing.{read_less, read_whole}
 use Rattle.s390x_tool.proofs.SameJob.{same_cause, same_code, same_symbols}
-use Rattle.s390x_binary_tool.specs.Accepted.{IsAccepted, IsHexCode, IsJobWithImage, IsObjectJob, IsSomeDisassembly, IsUnrefused, IsValidJob}
+use Rattle.s390x_binary_tool.specs.Accepted.{IsAccepted, IsHexCode, IsJobWithImage, IsObjectJob, IsSomeSource, IsUnrefused, IsValidJob}
 use Rattle.s390x_binary_tool.specs.Assemble.{IsAssembleAnswer}
 use Rattle.s390x_binary_tool.specs.Disassemble.{IsDisassembleAnswer}
 use Rattle.s390x_binary_tool.specs.Object.{IsObjectAnswer}
@@ -121,12 +121,12 @@ disassemble_done base input (Shared status.NoMemory) text v a = inr refl
 disassemble_done base input (Shared status.Syntax) text v a = absurd (a.wrong.none v.code v.hex)
 disassemble_done base input (Shared s) text v a = absurd a
 
-assemble_done : (base : ℕ) (input : List ℕ) (s : BinaryStatus) (text : List ℕ) → IsSomeDisassembly base input → IsAssembleAnswer base input s text → IsDoneStatus s
+assemble_done : (base : ℕ) (input : List ℕ) (s : BinaryStatus) (text : List ℕ) → IsSomeSource base input → IsAssembleAnswer base input s text → IsDoneStatus s
 assemble_done base input Differs text v a = absurd a
 assemble_done base input ObjectRefused text v a = absurd a
 assemble_done base input (Shared status.Ok) text v a = inl refl
 assemble_done base input (Shared status.NoMemory) text v a = inr refl
-assemble_done base input (Shared status.Syntax) text v a = absurd (a.wrong v.code v.bytes v.is)
+assemble_done base input (Shared status.Syntax) text v a = absurd (a.none v.code v.bytes v.is)
 assemble_done base input (Shared s) text v a = absurd a
 
 object_done : (name input : List ℕ) (s : BinaryStatus) (text : List ℕ) → IsObjectJob name input → IsObjectAnswer name input s text → IsDoneStatus s

@@ -2,7 +2,7 @@
 use Rattle.std.specs.Prelude.{◌≡◌, ◌≤◌, ℕ, List, None, length}
 use Rattle.hex.specs.Hex.{IsBytes}
 use Rattle.s390x_buffer.specs.declared.entries.MachBufferFinalized.{MachBufferFinalized}
-use Rattle.s390x_disassembler.specs.Disassembly.{IsDisassembly}
+use Rattle.s390x_disassembler.specs.Assembly.{IsSource}
 use Rattle.s390x_elf.specs.Causes.{object_cause}
 use Rattle.s390x_job.specs.Jobs.{IsJob, text_of_job}
 use Rattle.s390x_job.specs.declared.job.Job.{Job}
@@ -32,11 +32,11 @@ pub record IsHexCode (input : List ℕ) : Type 0 where
   pub code : List ℕ
   pub hex : IsImageText input code
 
--- the input is a disassembly at the base
-pub record IsSomeDisassembly (base : ℕ) (input : List ℕ) : Type 0 where
+-- the input is a source of some code at the base
+pub record IsSomeSource (base : ℕ) (input : List ℕ) : Type 0 where
   pub code : List ℕ
   pub bytes : IsBytes code
-  pub is : IsDisassembly base code input
+  pub is : IsSource base code input
 
 -- the input is the text of a job, which emission has no cause to refuse, and nothing keeps its code from being made an object with this name
 pub record IsObjectJob (name : List ℕ) (input : List ℕ) : Type 0 where
@@ -48,7 +48,7 @@ abbrev pub IsUnrefused : Command → (words : List (List ℕ)) → (input : List
 IsUnrefused Refusal words input = IsValidJob input
 IsUnrefused (Verify base) words input = IsJobWithImage base input
 IsUnrefused (Disassemble base) words input = IsHexCode input
-IsUnrefused (Assemble base) words input = IsSomeDisassembly base input
+IsUnrefused (Assemble base) words input = IsSomeSource base input
 IsUnrefused Object words input = IsObjectJob (object_name words) input
 
 -- the same of an input that isn't too long

@@ -2,26 +2,23 @@
 use Rattle.std.specs.Prelude.{◌≡◌, ℕ, List, ◌++◌, codes}
 use Rattle.std.specs.Fmt.{decimal}
 use Rattle.hex.specs.Hex.{encode_lower}
-use Rattle.s390x_disassembler.specs.Assembly.{IsNoDisassembly, IsProposed, IsSource}
+use Rattle.s390x_disassembler.specs.Assembly.{IsNoSource, IsOnlySource, IsSource, IsWrongSource}
 use Rattle.s390x_tool.specs.Lines.{line}
 use Rattle.s390x_tool.specs.declared.status.Status.TheVariants as status
 use Rattle.s390x_binary_tool.specs.declared.status.BinaryStatus.{BinaryStatus}
 use Rattle.s390x_binary_tool.specs.declared.status.BinaryStatus.TheVariants.{Shared}
 
--- the input is a source of code at the base, and the text is that code in hex; where the input is a disassembly, it is that of this code
+-- the input is a source of this code at the base, and of no other, and the text is that code in hex
 pub record IsAssembled (base : ℕ) (input text : List ℕ) : Type 0 where
   pub code : List ℕ
   pub source : IsSource base code input
-  pub proposed : IsProposed base input code
+  pub only : IsOnlySource base code input
   pub spelled : text ≡ line (encode_lower code)
 
--- the assembler finds this line at fault, and the input is the disassembly of no code
-abbrev pub IsWrongSource : (base : ℕ) (input : List ℕ) (number : ℕ) → Type 0
-IsWrongSource base input number = IsNoDisassembly base input
-
--- the input isn't assembled
+-- the input is a source of no code, and this is its first wrong line
 pub record IsAssembleSyntax (base : ℕ) (input text : List ℕ) : Type 0 where
   pub number : ℕ
+  pub none : IsNoSource base input
   pub wrong : IsWrongSource base input number
   pub spelled : text ≡ line (codes "syntax " ++ decimal number)
 

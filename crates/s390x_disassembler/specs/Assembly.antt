@@ -1,12 +1,13 @@
 -- The texts that are assembled: a disassembly, whose lines may lack their address and their bytes.
-use Rattle.std.specs.Prelude.{◌≡◌, ℕ, List, [], ◌∷◌, ◌++◌, length, slice_index, Option, ◌⊎◌}
+use Rattle.std.specs.Prelude.{◌≡◌, ℕ, ◌+◌, Bool, true, ◌||◌, ◌==◌, List, [], ◌∷◌, ◌++◌, length, slice_index, Option, ◌⊎◌}
 use Rattle.hex.specs.Hex.{IsBytes}
 use Rattle.s390x_format.specs.Rows.{fetch_length_of}
 use Rattle.s390x_format.specs.declared.decoder.Located.{Located}
 use Rattle.s390x_disassembler.specs.declared.line.Line.{Line}
 use Rattle.s390x_disassembler.specs.Lines.{IsFound, bytes_at, Covers}
 use Rattle.s390x_disassembler.specs.Text.{found_text}
-use Rattle.s390x_disassembler.specs.Disassembly.{address_of, full_line, line_text, IsDisassembly}
+use Rattle.s390x_disassembler.specs.Disassembly.{address_of, full_line, line_text}
+use Rattle.s390x_disassembler.specs.Bare.{is_unit}
 
 -- `INSTRUCTION` and a line feed
 abbrev pub bare_line : ℕ → List ℕ → Option Located → List ℕ
@@ -31,18 +32,36 @@ pub record IsSource (base : ℕ) (code text : List ℕ) : Type 0 where
   pub covers : Covers code 0 (length code) lines
   pub spells : Spells base code lines text
 
--- the code is what the text is the disassembly of, if it is one
-abbrev pub IsProposed : ℕ → List ℕ → List ℕ → Type 0
-IsProposed base text code = (c : List ℕ) → IsBytes c → IsDisassembly base c text → code ≡ c
+-- the text is a source of no other code
+abbrev pub IsOnlySource : ℕ → List ℕ → List ℕ → Type 0
+IsOnlySource base code text = (c : List ℕ) → IsBytes c → IsSource base c text → code ≡ c
 
--- the text is the disassembly of no code
-abbrev pub IsNoDisassembly : ℕ → List ℕ → Type 0
-IsNoDisassembly base text = (c : List ℕ) → IsBytes c → IsDisassembly base c text → ⊥
+-- the text is a source of no code
+abbrev pub IsNoSource : ℕ → List ℕ → Type 0
+IsNoSource base text = (c : List ℕ) → IsBytes c → IsSource base c text → ⊥
 
--- where the text begins with a line that has its address and its bytes, these are its bytes, and that is what stands behind it
-abbrev pub IsHead : ℕ → List ℕ → List ℕ → List ℕ → Type 0
-IsHead a text bytes more = (u : List ℕ) (x : Option Located) (r : List ℕ) → IsBytes u → IsFound u x → text ≡ full_line a u x ++ r → (bytes ≡ u) × (more ≡ r)
+-- the number, counted from 1, of the first wrong line: the lines before it are a source of some code, and no source begins with
+-- them and this line; or it is the last, and no line feed ends it
+pub record IsWrongSource (base : ℕ) (text : List ℕ) (number : ℕ) : Type 0 where
+  pub code : List ℕ
+  pub before : List ℕ
+  pub rest : List ℕ
+  pub text_is : text ≡ before ++ rest
+  pub begun : IsSource base code before
+  pub number_is : number ≡ length begun.lines + 1
+  pub wrong : (c line more behind : List ℕ) → IsBytes c → rest ≡ line ++ (10 ∷ more) → IsSource base c (before ++ (line ++ (10 ∷ behind))) → ⊥
+
+-- a text begins with the line of some bytes, with its address and bytes or without, and the rest stands behind it
+pub record IsFirstLine (a : ℕ) (text bytes rest : List ℕ) : Type 0 where
+  pub unit : is_unit bytes ≡ true
+  pub found : Option Located
+  pub is_found : IsFound bytes found
+  pub text_is : (text ≡ full_line a bytes found ++ rest) ⊎ (text ≡ bare_line a bytes found ++ rest)
 
 -- as many bytes as the first of them tells
-abbrev pub IsWhole : List ℕ → Type 0
-IsWhole bytes = length bytes ≡ fetch_length_of (slice_index bytes 0)
+abbrev pub is_whole : List ℕ → Bool
+is_whole bytes = length bytes == fetch_length_of (slice_index bytes 0)
+
+-- they are, or nothing stands behind their line
+abbrev pub ends_well : List ℕ → List ℕ → Bool
+ends_well bytes rest = is_whole bytes || (length rest == 0)

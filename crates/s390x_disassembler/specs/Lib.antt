@@ -1,7 +1,12 @@
 pub mod Words
 pub mod Forms
 pub mod Spelling
+pub mod Names
+pub mod Numbers
 pub mod Text
 pub mod Lines
 pub mod Disassembly
+pub mod Operands
+pub mod Start
+pub mod Bare
 pub mod Assembly

@@ -3,10 +3,11 @@
 
 mod assembly;
 mod candidate;
-mod checking;
+mod first_line;
 mod forms;
 mod line;
 mod listing;
+mod reading;
 mod scan;
 mod spelling;
 mod table;

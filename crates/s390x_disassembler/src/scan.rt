@@ -1,6 +1,11 @@
 //! Numbers and words in a text. A reader takes something from any text: what was read is written again and compared.
-ghost use Rattle.std.specs.Prelude.{◌≡◌, ◌∷◌, ◌++◌, ◌<◌, ◌≤◌, ℕ, List, drop, length, slice_index};
+ghost use Rattle.std.specs.Prelude.{◌≡◌, ◌∷◌, ◌++◌, ◌<◌, ◌≤◌, ℕ, List, drop, take, length, slice_index, IfOk};
 ghost use Rattle.s390x_disassembler.specs.Words.{NoBlank};
+ghost use Rattle.s390x_disassembler.specs.Numbers.{digits_read, digits_left, number_on, signed_read, signed_left, begins_number, begins_with};
+ghost use Rattle.hex.specs.Hex.{decode_of};
+
+use hex::FromHexError;
+use std::alloc::{AllocError, Global};
 
 /// Where the first of some bytes stands, or the text's length.
 pub fn position(text: &[u8], byte: u8) -> usize
@@ -41,30 +46,55 @@ pub fn behind(text: &[u8], count: usize) -> &[u8]
     }
 }
 
-/// The next number, with its sign, and what stands behind it.
-pub fn number(text: &[u8]) -> (i64, &[u8]) {
-    let text = &text[number_start(text)..];
-    let (is_negative, digits) = match text {
-        [b'-', digits @ ..] => (true, digits),
-        _ => (false, text),
-    };
-    let end = digits_end(digits);
-    let value = decimal(&digits[..end]);
-    let value = if is_negative {
-        value.wrapping_neg()
+/// A number of bytes at the head of a text, or the text where there are fewer.
+pub fn head(text: &[u8], count: usize) -> &[u8]
+    ensures { result.now ≡ take count text.now }
+{
+    if count <= text.len() {
+        &text[..count]
     } else {
-        value
-    };
-    (value.cast_signed(), &digits[end..])
+        text
+    }
 }
 
-/// The number of hexadecimal digits behind the next `0x`, and what stands behind it.
-pub fn hex_number(text: &[u8]) -> (u64, &[u8]) {
-    let text = behind(text, position(text, b'x').saturating_add(1));
+/// The bits of the next number, with its sign, and what stands behind it.
+pub fn number(text: &[u8]) -> (u64, &[u8])
+    ensures value { result.0 ≡ signed_read (number_on text.now) }
+    ensures rest { result.1.now ≡ signed_left (number_on text.now) }
+{
+    signed_number(behind(text, number_start(text)))
+}
+
+// The bits of the number with which a text begins, and what stands behind it.
+#[tactic(auto, unfolding(crate::specs::Numbers::signed_read, crate::specs::Numbers::signed_left))]
+fn signed_number(text: &[u8]) -> (u64, &[u8])
+    ensures value { result.0 ≡ signed_read text.now }
+    ensures rest { result.1.now ≡ signed_left text.now }
+{
+    if first(text) == b'-' {
+        let (value, rest) = digits(10, behind(text, 1));
+        (value.wrapping_neg(), rest)
+    } else {
+        digits(10, text)
+    }
+}
+
+/// The number of the digits with which a text begins, modulo 2^64, and what stands behind them.
+#[tactic(auto, using(crate::proofs::Numbers::read_step, crate::proofs::Numbers::read_stop, crate::proofs::Numbers::left_step, crate::proofs::Numbers::left_end, crate::proofs::Numbers::read_done, crate::proofs::Numbers::left_done))]
+pub fn digits(radix: u32, text: &[u8]) -> (u64, &[u8])
+    requires low { 2 ≤ radix }
+    requires high { radix ≤ 36 }
+    ensures value { result.0 ≡ digits_read radix 0 text.now }
+    ensures rest { result.1.now ≡ digits_left radix text.now }
+{
     let mut value: u64 = 0;
     for i in 0..text.len() {
-        match hex_digit(text[i]) {
-            Some(digit) => value = value.wrapping_mul(16).wrapping_add(u64::from(digit)),
+        match char::from(text[i]).to_digit(radix) {
+            Some(digit) => {
+                value = value
+                    .wrapping_mul(u64::from(radix))
+                    .wrapping_add(u64::from(digit));
+            }
             None => return (value, &text[i..]),
         }
     }
@@ -72,50 +102,40 @@ pub fn hex_number(text: &[u8]) -> (u64, &[u8]) {
 }
 
 /// Whether the text begins with a byte.
-pub fn begins(text: &[u8], byte: u8) -> bool {
+pub fn begins(text: &[u8], byte: u8) -> bool
+    ensures { result ≡ begins_with byte text.now }
+{
     !text.is_empty() && text[0] == byte
 }
 
+/// The bytes of hexadecimal digits; none where these are no digits.
+pub fn hex_bytes(alloc: Global, digits: &[u8]) -> Result<Vec<u8>, AllocError>
+    ensures { IfOk result (λ bytes. (v : List ℕ) → decode_of digits.now ≡ Ok v → bytes.items ≡ v) }
+{
+    match hex::decode(alloc, digits) {
+        Ok(bytes) => Ok(bytes),
+        Err(FromHexError::OutOfMemory) => Err(AllocError),
+        Err(_) => Ok(Vec::new(alloc)),
+    }
+}
+
+// Where the next number begins.
+#[tactic(auto, using(crate::proofs::Numbers::start_step, crate::proofs::Numbers::start_here, crate::proofs::Numbers::start_done))]
 fn number_start(text: &[u8]) -> usize
-    ensures { result ≤ length text.now }
+    ensures inside { result ≤ length text.now }
+    ensures there { drop result text.now ≡ number_on text.now }
 {
     for i in 0..text.len() {
-        if is_digit(text[i]) || text[i] == b'-' {
+        if begins_number(text[i]) {
             return i;
         }
     }
     text.len()
 }
 
-fn digits_end(text: &[u8]) -> usize
-    ensures { result ≤ length text.now }
+// Whether a number begins with the byte.
+fn begins_number(byte: u8) -> bool
+    ensures { result ≡ begins_number byte }
 {
-    for i in 0..text.len() {
-        if !is_digit(text[i]) {
-            return i;
-        }
-    }
-    text.len()
-}
-
-fn decimal(digits: &[u8]) -> u64 {
-    let mut value: u64 = 0;
-    for digit in digits {
-        value = value
-            .wrapping_mul(10)
-            .wrapping_add(u64::from(digit.saturating_sub(b'0')));
-    }
-    value
-}
-
-fn is_digit(byte: u8) -> bool {
-    b'0' <= byte && byte <= b'9'
-}
-
-fn hex_digit(byte: u8) -> Option<u8> {
-    match byte {
-        b'0'..=b'9' => Some(byte - b'0'),
-        b'a'..=b'f' => Some(byte - b'a' + 10),
-        _ => None,
-    }
+    char::from(byte).is_digit(10) || byte == b'-'
 }
