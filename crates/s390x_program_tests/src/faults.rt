@@ -209,7 +209,7 @@ fn a_writer_that_fails_or_takes_nothing_is_a_write_fault(rt: HostRuntime) -> Res
 }
 
 // What `image 4096` ends with over a reader and a writer whose first calls are interrupted.
-fn interrupted(rt: &HostRuntime, reads: u32, writes: u32) -> Result<Status, Fail> {
+fn status_of(rt: &HostRuntime, reads: u32, writes: u32) -> Result<Status, Fail> {
     let alloc = rt.alloc();
     let words = words_of(alloc, "image 4096")?;
     let mut source = StdSource::new(Interrupted {
@@ -225,8 +225,8 @@ fn interrupted(rt: &HostRuntime, reads: u32, writes: u32) -> Result<Status, Fail
 
 #[test]
 fn an_interrupted_call_is_made_again(rt: HostRuntime) -> Result<(), Fail> {
-    assert_eq!(rt; interrupted(&rt, 15, 15)?, Status::Ok);
-    assert_eq!(rt; interrupted(&rt, 16, 0)?, Status::ReadFault);
-    assert_eq!(rt; interrupted(&rt, 0, 16)?, Status::WriteFault);
+    assert_eq!(rt; status_of(&rt, 15, 15)?, Status::Ok);
+    assert_eq!(rt; status_of(&rt, 16, 0)?, Status::ReadFault);
+    assert_eq!(rt; status_of(&rt, 0, 16)?, Status::WriteFault);
     Ok(())
 }
