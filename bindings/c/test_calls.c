@@ -354,7 +354,7 @@ static void *thread(void *mistakes) {
         size_t count;
         right = bundle(PAIR, 4096, in->code, ROOM, &count, &reason) == S390X_DONE && count == 18 && in->code[9] == 6 &&
                 show(ADD, in->code, ROOM, &count, &reason) == S390X_DONE && memcmp(in->code, "block 0\nlgr", 11) == 0 &&
-                operands(ADD, entries, 16, &count, &reason) == S390X_DONE && count == 6 && entries[5].reg.number == 14 &&
+                operands(ADD, entries, 16, &count, &reason) == S390X_DONE && count == 5 && entries[4].reg.number == 4 &&
                 check_plan(PLAN, &fault) == S390X_DONE;
         *(int *)mistakes += !right;
     }
