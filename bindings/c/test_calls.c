@@ -30,7 +30,7 @@
 
 /* A job with virtual registers, and its plan. */
 #define PLANNED "block\nMov64 %i0 %r3\nAluRRR Add64 %i1 %i0 %r4\nRet %r14\nend\nplan\nblock\n"
-#define PLAN PLANNED "step [%r5,%r3]\nstep [%r2,%r5,%r4]\nstep []\nclose\n"
+#define PLAN PLANNED "step [%r5]\nstep [%r2,%r5]\nstep []\nclose\n"
 
 enum { ROOM = 64, MARK = 0xa5 };
 
@@ -318,9 +318,9 @@ static void plans(void) {
         {ADD, S390X_SYNTAX, 6, 0, 0, 0, 0, 0},
         {ADD "plan\nclose\n", S390X_PLAN_REFUSED, 0, S390X_BLOCKS, 0, 0, 0, 0},
         {PLANNED "close\n", S390X_PLAN_REFUSED, 0, S390X_ORDER, 0, 0, 0, 0},
-        {PLANNED "step [%r5]\nclose\n", S390X_PLAN_REFUSED, 0, S390X_COUNT, 0, 0, 0, 0},
-        {PLANNED "step [%r5,%r3]\nstep [%r2,%r6,%r4]\nstep []\nclose\n", S390X_PLAN_REFUSED, 0, S390X_VALUE, 0, 1, 1, 0},
-        {PLANNED "step [%r1,%r3]\nclose\n", S390X_PLAN_REFUSED, 0, S390X_CONSTRAINT, 0, 0, 0, 0},
+        {PLANNED "step []\nclose\n", S390X_PLAN_REFUSED, 0, S390X_COUNT, 0, 0, 0, 0},
+        {PLANNED "step [%r5]\nstep [%r2,%r6]\nstep []\nclose\n", S390X_PLAN_REFUSED, 0, S390X_VALUE, 0, 1, 1, 0},
+        {PLANNED "step [%r1]\nclose\n", S390X_PLAN_REFUSED, 0, S390X_CONSTRAINT, 0, 0, 0, 0},
     };
     memset(&reason, MARK, sizeof reason);
     CHECK(check_plan(PLAN, &reason) == S390X_DONE && is_filled(&reason, sizeof reason));
@@ -354,7 +354,7 @@ static void *thread(void *mistakes) {
         size_t count;
         right = bundle(PAIR, 4096, in->code, ROOM, &count, &reason) == S390X_DONE && count == 18 && in->code[9] == 6 &&
                 show(ADD, in->code, ROOM, &count, &reason) == S390X_DONE && memcmp(in->code, "block 0\nlgr", 11) == 0 &&
-                operands(ADD, entries, 16, &count, &reason) == S390X_DONE && count == 6 && entries[5].reg.number == 14 &&
+                operands(ADD, entries, 16, &count, &reason) == S390X_DONE && count == 5 && entries[4].reg.number == 4 &&
                 check_plan(PLAN, &fault) == S390X_DONE;
         *(int *)mistakes += !right;
     }

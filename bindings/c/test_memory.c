@@ -18,8 +18,8 @@
     "function u2\n" JOB2 "close\n"
 #define JOB2 "const 8 0102030405060708\nsymbol u3 8192\nblock\nLoad64 %r2 Constant(0)\nRet %r14\nend\n"
 #define PLAN                                                                                                       \
-    "frame SystemV 0 0 0 16 0 0 - 0\nblock\nMov64 %i0 %r3\nAluRRR Add64 %i1 %i0 %r4\nJump 1\nblock\nRet %r14\nend\nplan\nblock\nstep [%r5,%r3]\nmove s0 %r5\n"       \
-    "move %r6 s0\nstep [%r2,%r6,%r4]\nstep []\nblock\nentry %r6=%i0\nstep []\nclose\n"
+    "frame SystemV 0 0 0 16 0 0 - 0\nblock\nMov64 %i0 %r3\nAluRRR Add64 %i1 %i0 %r4\nJump 1\nblock\nRet %r14\nend\nplan\nblock\nstep [%r5]\nmove s0 %r5\n"       \
+    "move %r6 s0\nstep [%r2,%r6]\nstep []\nblock\nentry %r6=%i0\nstep []\nclose\n"
 
 typedef struct {
     bool ok;

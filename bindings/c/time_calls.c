@@ -8,7 +8,7 @@
 
 #define ADD "block\nMov64 %r2 %r3\nAluRRR Add64 %r2 %r2 %r4\nRet %r14\nend\n"
 #define REFUSED "block\nMov64 %r2 %r3\nMov64 %r2 %v4\nRet %r14\nend\n"
-#define PLAN "block\nMov64 %i0 %r3\nAluRRR Add64 %i1 %i0 %r4\nRet %r14\nend\nplan\nblock\nstep [%r5,%r3]\nstep [%r2,%r5,%r4]\nstep []\nclose\n"
+#define PLAN "block\nMov64 %i0 %r3\nAluRRR Add64 %i1 %i0 %r4\nRet %r14\nend\nplan\nblock\nstep [%r5]\nstep [%r2,%r5]\nstep []\nclose\n"
 
 enum { ROOM = 256, ROUNDS = 10, CALLS = 20000 };
 

@@ -103,9 +103,9 @@ fn listings() {
 #[test]
 fn plans() {
     let job = "block\nMov64 %i0 %r3\nRet %r14\nend\nplan\nblock\n";
-    assert_eq!(check_plan(format!("{job}step [%r2,%r3]\nstep []\nclose\n").as_bytes()), Ok(()));
+    assert_eq!(check_plan(format!("{job}step [%r2]\nstep []\nclose\n").as_bytes()), Ok(()));
     assert_eq!(
-        check_plan(format!("{job}step [%r2]\nclose\n").as_bytes()),
+        check_plan(format!("{job}step []\nclose\n").as_bytes()),
         Err(Error::Plan(PlanFault::Count { block: 0, edit: 0 }))
     );
     assert_eq!(check_plan(job.as_bytes()), Err(Error::Syntax { line: 7 }));
