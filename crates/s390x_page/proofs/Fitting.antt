@@ -11,7 +11,7 @@ cut_again zero xs ys = refl
 cut_again (suc n) [] ys = refl
 cut_again (suc n) (x ∷ xs) ys = ap (λ l. x ∷ l) (cut_again n xs ys)
 
-whole : (n : ℕ) (xs : List ℕ) → length xs ≤ n → take n xs ≡ xs
+pub whole : (n : ℕ) (xs : List ℕ) → length xs ≤ n → take n xs ≡ xs
 whole zero [] h = refl
 whole zero (x ∷ xs) h = absurd (omega arith)
 whole (suc n) [] h = refl
@@ -61,11 +61,11 @@ drop_next xs i d lt = drop-cons xs i d lt ∙ ap (λ (k : ℕ). get_or xs i d �
 
 -- an operand is written, and the others are left
 pub written_next : (out mid after : List ℕ) (separator a : ℕ) (letters : List ℕ) (f : Fields) (o : Operand) (os : List Operand) → is_written letters f o ≡ true → Adds out (separator ∷ []) mid → Adds mid (operand_text a f o) after → fitting (after ++ operands_text 44 a letters f os) ≡ fitting (out ++ operands_text separator a letters f (o ∷ os))
-written_next out mid after separator a letters f o os yes p q =
+written_next out mid after separator a letters f o os written p q =
     behind out after (separator ∷ operand_text a f o) (operands_text 44 a letters f os) (byte_then out mid after (operand_text a f o) separator p q)
-    ∙ ap (λ (b : Bool). fitting (out ++ (if b then separator ∷ (operand_text a f o ++ operands_text 44 a letters f os) else operands_text separator a letters f os))) (sym yes)
+    ∙ ap (λ (b : Bool). fitting (out ++ (if b then separator ∷ (operand_text a f o ++ operands_text 44 a letters f os) else operands_text separator a letters f os))) (sym written)
 
 -- an operand isn't written
 pub left_away : (out : List ℕ) (separator a : ℕ) (letters : List ℕ) (f : Fields) (o : Operand) (os : List Operand) → is_written letters f o ≡ false → fitting (out ++ operands_text separator a letters f os) ≡ fitting (out ++ operands_text separator a letters f (o ∷ os))
-left_away out separator a letters f o os no =
-    ap (λ (b : Bool). fitting (out ++ (if b then separator ∷ (operand_text a f o ++ operands_text 44 a letters f os) else operands_text separator a letters f os))) (sym no)
+left_away out separator a letters f o os away =
+    ap (λ (b : Bool). fitting (out ++ (if b then separator ∷ (operand_text a f o ++ operands_text 44 a letters f os) else operands_text separator a letters f os))) (sym away)
