@@ -1,4 +1,4 @@
-use Rattle.std.proofs.Common.{false, ◌-◌, refl, subst, ◌∙◌, arith}
+use Rattle.std.proofs.Common.{◌-◌, refl, subst, ◌∙◌, arith}
 use Rattle.s390x_page.specs.Texts.{Adds}
 use Rattle.s390x_page.proofs.Numbers.{all_behind, digits_onto_nothing, finished}
 use Rattle.s390x_page.proofs.digits.put_digits.Goals as goal
