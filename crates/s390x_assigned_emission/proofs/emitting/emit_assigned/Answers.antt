@@ -14,7 +14,7 @@ returns-clause-suffices c = λ may.
 pub returns-in-Ok-emit-clause-changes : goal.returns-in-Ok-emit-clause-changes
 returns-in-Ok-emit-clause-changes c = λ may.
     let given : IsGiven c.args.inst.now c.args.registers.now c.in-Ok.assigned =
-        record { assigned = c.in-Ok.ensures.value; operands = c.in-Ok.ensures.operands; answer = c.in-Ok.ensures.cause } in
+    record { assigned = c.in-Ok.ensures.value; operands = c.in-Ok.ensures.operands; answer = c.in-Ok.ensures.cause } in
     let appended = c.in-Ok-emit.ensures.answer in
     only_outputs c.args.info.now.isa_flags c.args.state.now c.args.sink.now c.args.inst.now c.args.registers.now c.emit.new.state c.emit.new.sink may
     (record { instruction = c.in-Ok.assigned; given = given; uncaused = appended.0; appended = appended.1; state = appended.2 })
