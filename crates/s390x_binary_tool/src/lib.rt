@@ -5,6 +5,7 @@ mod assemble;
 mod disassemble;
 mod image_text;
 mod object;
+mod objects;
 mod refusal;
 mod reply;
 mod status;
