@@ -1,5 +1,5 @@
 -- Words tell their command.
-use Rattle.std.proofs.Common.{◌≡◌, ℕ, ◌⊎◌, inl, inr, ◌^◌, ◌<◌, List, [], ◌∷◌, Some, None, refl, sym, ap, ◌∙◌, arith, get_or, length, cond}
+use Rattle.std.proofs.Common.{◌≡◌, ℕ, inl, inr, ◌^◌, ◌<◌, List, [], ◌∷◌, Some, None, sym, ap, ◌∙◌, arith, get_or, length, cond}
 use Rattle.std.specs.Prelude.{Option, codes, ◌≢◌}
 use Rattle.std.specs.Fmt.{decimal}
 use Rattle.std.specs.Str.{bytes_eq}
