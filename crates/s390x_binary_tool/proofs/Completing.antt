@@ -1,5 +1,5 @@
 -- What nothing refuses is done, unless memory doesn't suffice.
-use Rattle.std.proofs.Common.{◌≡◌, ℕ, ◌⊎◌, inl, inr, List, length, refl, sym, ap, ◌∙◌, arith, subst, Some, None}
+use Rattle.std.proofs.Common.{◌≡◌, ℕ, ◌⊎◌, inl, inr, List, length, map, refl, sym, ap, ◌∙◌, arith, subst, Some, None}
 use Rattle.std.specs.Prelude.{Option}
 use Rattle.s390x_buffer.specs.declared.entries.MachBufferFinalized.{MachBufferFinalized}
 use Rattle.s390x_buffer.specs.declared.entries.RelocEntry.{RelocEntry}
@@ -16,6 +16,7 @@ use Rattle.s390x_binary_commands.specs.declared.words.Command.{Command}
 use Rattle.s390x_binary_commands.specs.declared.words.Command.TheVariants.{Refusal, Verify, Disassemble, Assemble, Object, Objects}
 use Rattle.s390x_binary_commands.proofs.Told.{same_command}
 use Rattle.s390x_tool.specs.Answers.{IsCodeOfJob, IsImageAt, symbols_of, with_symbols}
+use Rattle.s390x_tool.specs.Bundled.{member_of}
 use Rattle.s390x_tool.specs.Causes.{FaultCountRose}
 use Rattle.s390x_tool.specs.Replies.{Found}
 use Rattle.s390x_tool.specs.declared.status.Status.TheVariants as status
@@ -155,7 +156,7 @@ objects_done input (Shared status.NoMemory) text v a = inr refl
 objects_done input (Shared status.Syntax) text v a = absurd (a.none (v.functions, v.are, v.spelled))
 objects_done input (Shared status.BundleRefused) text v a =
     let same = a.are.one v.functions v.are v.spelled in
-    absurd (coded _ a.reply.error (same_duplicate a.functions v.functions a.are.are v.are same ∙ v.names) (same_refused a.functions v.functions a.are.are v.are same ∙ v.valid) a.reply.named a.reply.cause)
+    absurd (coded (map member_of a.functions) a.reply.error (same_duplicate a.functions v.functions a.are.are v.are same ∙ v.names) (same_refused a.functions v.functions a.are.are v.are same ∙ v.valid) a.reply.named a.reply.cause)
 objects_done input (Shared s) text v a = absurd a.reply
 
 command_done : (c : Command) (words : List (List ℕ)) (input : List ℕ) (s : BinaryStatus) (text : List ℕ) → IsUnrefused c words input → IsInputAnswer c words input s text → IsDoneStatus s

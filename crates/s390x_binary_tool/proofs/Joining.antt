@@ -1,7 +1,6 @@
 -- From the object of several functions to the answer to `objects`.
 use Rattle.std.proofs.Common.{◌≡◌, ◌⊎◌, inl, inr, ℕ, zero, suc, ◌+◌, ◌<◌, List, [], ◌∷◌, ◌++◌, length, get_or, take, map, Some, None, refl, sym, ap, ap₂, ◌∙◌, arith, subst, cond}
 use Rattle.std.specs.Prelude.{codes, ◌≢◌}
-use Rattle.std.specs.Fmt.{decimal}
 use Rattle.s390x_base.specs.declared.ir.ExternalName.{ExternalName}
 use Rattle.s390x_bundle.specs.Bundled.{duplicate_of}
 use Rattle.s390x_bundle.specs.Emitted.{IsEmitted, emit_cause, first_refused, refused_or}
@@ -9,7 +8,6 @@ use Rattle.s390x_bundle.specs.Names.{duplicate_in, first_duplicate, is_among, li
 use Rattle.s390x_bundle.specs.declared.error.BundleError.{BundleError}
 use Rattle.s390x_bundle.specs.declared.error.BundleError.TheVariants as cause
 use Rattle.s390x_bundle.specs.declared.member.Member.{Member}
-use Rattle.s390x_bundle_text.specs.Completions.{IsBundleText, IsFirstWrongOfBundle}
 use Rattle.s390x_bundle_text.specs.Text.{AreFunctions, AreFunctionsOf, SameFunctions}
 use Rattle.s390x_bundle_text.specs.declared.named_job.NamedJob.{NamedJob}
 use Rattle.s390x_buffer.specs.declared.entries.MachBufferFinalized.{MachBufferFinalized}
@@ -18,10 +16,9 @@ use Rattle.s390x_elf.specs.Members.{IsLinkedAsMembers, IsObjectOfMembers, member
 use Rattle.s390x_elf.specs.declared.error.ObjectError.{ObjectError}
 use Rattle.s390x_elf.specs.declared.error.ObjectError.TheVariants as kind
 use Rattle.s390x_elf.specs.declared.members.ObjectMember.{ObjectMember}
-use Rattle.s390x_job.specs.Completions.{pieces}
 use Rattle.s390x_tool.specs.Answers.{IsCodeOfJob}
 use Rattle.s390x_tool.specs.Bundled.{IsBundleRefusal, member_of}
-use Rattle.s390x_tool.specs.Lines.{IsMade, line}
+use Rattle.s390x_tool.specs.Lines.{line}
 use Rattle.s390x_tool.specs.declared.status.Status.{Status}
 use Rattle.s390x_tool.specs.declared.status.Status.TheVariants as status
 use Rattle.s390x_tool.proofs.SameJob.{same_cause, same_code, same_symbols}
@@ -67,14 +64,6 @@ objects_uncoded ms e first s text none (inl refusal) is =
 objects_uncoded ms e first s text none (inr memory) is = objects_memory ms s text (is ∙ ap Shared memory.0) memory.1
 
 -- ---- answers
-
-pub objects_no_memory : (input : List ℕ) (s : BinaryStatus) (text : List ℕ) → s ≡ Shared status.NoMemory → text ≡ line (codes "no memory") → IsObjectsAnswer input s text
-objects_no_memory input s text is spelled = subst (λ t. IsObjectsAnswer input t text) (sym is) spelled
-
-pub objects_syntax : (input : List ℕ) (n : ℕ) (first : Status) (s : BinaryStatus) (text : List ℕ) → (IsBundleText input → ⊥) → IsFirstWrongOfBundle (pieces input) n → IsMade status.Syntax (line (codes "syntax " ++ decimal n)) first text → s ≡ Shared first → IsObjectsAnswer input s text
-objects_syntax input n first s text none wrong (inl made) is =
-    subst (λ t. IsObjectsAnswer input t text) (sym (is ∙ ap Shared made.0)) (record { none = none; number = n; first = wrong; spelled = made.1 })
-objects_syntax input n first s text none wrong (inr memory) is = objects_no_memory input s text (is ∙ ap Shared memory.0) memory.1
 
 -- the reply to the only functions whose text the input is
 pub objects_answer : (input : List ℕ) (fs : List NamedJob) (ms : List Member) (s : BinaryStatus) (text : List ℕ) → AreFunctionsOf input fs → ms ≡ map member_of fs → IsObjectsReply ms s text → IsObjectsAnswer input s text
@@ -134,8 +123,7 @@ same_objects [] (g ∷ gs) os a b same h = absurd same
 same_objects (f ∷ fs) [] os a b same h = absurd same
 same_objects (f ∷ fs) (g ∷ gs) [] a b same h = absurd h
 same_objects (f ∷ fs) (g ∷ gs) (o ∷ os) a b same h =
-    let code = λ is. emitted_code g o.code (same_code f.job g.job o.code a.1 b.1 same.1 (code_of_job f o.code is)) in
-    (same_object f g o code same.0 h.0, same_objects fs gs os a.2 b.2 same.2 h.1)
+    (same_object f g o (λ is. emitted_code g o.code (same_code f.job g.job o.code a.1 b.1 same.1 (code_of_job f o.code is))) same.0 h.0, same_objects fs gs os a.2 b.2 same.2 h.1)
 
 -- members without a name that comes twice, none of which emission refuses, have codes
 pub coded : (ms : List Member) (e : BundleError) → duplicate_of ms ≡ None → first_refused ms ≡ None → e ≢ cause.NoMemory → HasNoCodes ms e → ⊥

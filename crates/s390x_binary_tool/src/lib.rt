@@ -3,9 +3,9 @@
 
 mod assemble;
 mod disassemble;
+mod functions;
 mod image_text;
 mod object;
-mod objects;
 mod refusal;
 mod reply;
 mod status;

@@ -13,8 +13,8 @@ ghost use Rattle.s390x_tool.specs.declared.status.Status.TheVariants as status;
 
 use crate::assemble::assemble;
 use crate::disassemble::disassemble;
+use crate::functions::objects;
 use crate::object::object;
-use crate::objects::objects;
 use crate::refusal::refusal;
 use crate::reply::{BinaryReply, shared};
 use crate::status::BinaryStatus;

@@ -1,7 +1,7 @@
 use Rattle.std.proofs.Common.{◌≡◌, drop, take}
 use Rattle.s390x_bundle.specs.Emitted.{first_refused}
 use Rattle.s390x_binary_tool.specs.Objects.{AreObjectMembers}
-use Rattle.s390x_binary_tool.proofs.objects.emit_members.Given as goal
+use Rattle.s390x_binary_tool.proofs.functions.emit_members.Given as goal
 
 abbrev pub invariant-loop-member : goal.invariant-loop-member
 invariant-loop-member l = record {

@@ -4,7 +4,7 @@ use Rattle.s390x_bundle.specs.Emitted.{HasNoCode, first_refused}
 use Rattle.s390x_bundle.proofs.Emitting.{again, refused_behind, refused_now}
 use Rattle.s390x_binary_tool.specs.Objects.{AreObjectMembers}
 use Rattle.s390x_binary_tool.proofs.Joining.{members_more}
-use Rattle.s390x_binary_tool.proofs.objects.emit_members.Goals as goal
+use Rattle.s390x_binary_tool.proofs.functions.emit_members.Goals as goal
 
 pub returns-in_err-object : goal.returns-in_err-object
 returns-in_err-object c =

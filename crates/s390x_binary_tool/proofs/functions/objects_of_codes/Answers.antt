@@ -1,5 +1,5 @@
 use Rattle.s390x_binary_tool.proofs.Joining.{objects_file, objects_none}
-use Rattle.s390x_binary_tool.proofs.objects.objects_of_codes.Goals as goal
+use Rattle.s390x_binary_tool.proofs.functions.objects_of_codes.Goals as goal
 
 pub returns-in-Ok : goal.returns-in-Ok
 returns-in-Ok c =
