@@ -29,7 +29,7 @@ COMMANDS = {
 # Those of the second program, where it is there.
 with open(os.path.join(ROOT, "crates.txt"), encoding="utf-8") as listed:
     if re.search(r"^s390x_binary:", listed.read(), re.M):
-        COMMANDS |= {"refusal": [], "verify": [BASE], "disassemble": [BASE], "assemble": [BASE], "object": []}
+        COMMANDS |= {"refusal": [], "verify": [BASE], "disassemble": [BASE], "assemble": [BASE], "object": [], "objects": []}
 # Of a function whose instructions are more, only so many parts are tried without a proof.
 MOST_PARTS = 20
 NUMBER = re.compile(r"0|[1-9][0-9]*")
@@ -268,7 +268,7 @@ class Text:
         self.place, self.head, self.last = "head", -1, None
         # the numbers of the lines of Loops that are open, the outermost first
         self.loops = []
-        if command == "bundle":
+        if command in ("bundle", "objects"):
             self.place = "functions"
 
     def pass_line(self, number, line):
@@ -278,7 +278,7 @@ class Text:
             if name in HEADS:
                 self.head, self.last = HEADS.index(name), line
             elif name == "end":
-                self.place = {"bundle": "functions", "alloc": "plan", "verify": "hex"}.get(self.command, "end")
+                self.place = {"bundle": "functions", "objects": "functions", "alloc": "plan", "verify": "hex"}.get(self.command, "end")
             elif name == "block":
                 self.place = "block"
             elif name == "Loop":
@@ -303,7 +303,7 @@ class Text:
 
     def lacking(self):
         """What an input that ends too early lacks."""
-        ends = {"bundle": "close", "alloc": "close"}.get(self.command, "end")
+        ends = {"bundle": "close", "objects": "close", "alloc": "close"}.get(self.command, "end")
         lacks = []
         if self.place in ("head", "block"):
             lacks = ["endloop"] * len(self.loops) + ["end"]
@@ -529,8 +529,8 @@ def member(lines, name):
     return (heads[0] + 1, ends[0] + 1) if ends else None
 
 
-def of_bundle(page, answer, lines, program):
-    """Where the function stands that a bundle is refused by, and which instruction it is."""
+def of_bundle(page, answer, lines, program, emits):
+    """Where the function stands that a bundle is refused by, and which instruction it is, by a command that emits a job."""
     parts = answer.split(" ")
     found = member(lines, parts[2]) if len(parts) > 2 else None
     if not found:
@@ -540,7 +540,7 @@ def of_bundle(page, answer, lines, program):
     if cause and program:
         job = Job(lines, *found)
         refused_as = f"refused {cause}"
-        said += place_of(page, cause, job, job.first_refused(lambda count: ask([program, "emit"], job.cut(count)) == refused_as))
+        said += place_of(page, cause, job, job.first_refused(lambda count: ask([program, emits], job.cut(count)) == refused_as))
     return said
 
 
@@ -599,7 +599,7 @@ def explained(answer, path, words, is_refused, program):
     if answer.startswith("plan "):
         return of_plan(answer, lines)
     if answer.startswith("bundle "):
-        return of_bundle(page, answer, lines, program)
+        return of_bundle(page, answer, lines, program, "object" if words[0] == "objects" else "emit")
     if answer == "link UndefinedSymbol":
         return [reasons.undefined_symbol(lines)]
     if answer.startswith("refusal "):

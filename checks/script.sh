@@ -132,9 +132,17 @@ run verify 0x1000
 want "the words of verify" 2 "in decimal it is 4096"
 run object a b
 want "the words of object" 2 "b is a word too many: object [NAME]"
+run objects a
+want "the words of objects" 2 "a is a word too many: objects"
 echo "14 object EmptyName" > "$copy/crates/s390x_binary/out/answer"
 run object ""
 want "object" 14 "the name for the function has no bytes"
+echo "14 object EmptyMember" > "$copy/crates/s390x_binary/out/answer"
+run objects
+want "objects" 14 "a function's has none"
+echo "12 bundle DuplicateName u1" > "$copy/crates/s390x_binary/out/answer"
+run objects
+want "objects of one name" 12 "an earlier function has the name u1 too"
 echo "3 syntax 2" > "$copy/crates/s390x_binary/out/answer"
 printf '07fe\n07f\n' > "$room/input"
 run disassemble 4096

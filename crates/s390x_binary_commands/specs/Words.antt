@@ -2,7 +2,7 @@
 use Rattle.std.specs.Prelude.{ℕ, ◌≡◌, ◌⊎◌, ◌^◌, ◌<◌, List, [], ◌∷◌, codes, get_or}
 use Rattle.std.specs.Fmt.{decimal}
 use Rattle.s390x_binary_commands.specs.declared.words.Command.{Command}
-use Rattle.s390x_binary_commands.specs.declared.words.Command.TheVariants.{Refusal, Verify, Disassemble, Assemble, Object}
+use Rattle.s390x_binary_commands.specs.declared.words.Command.TheVariants.{Refusal, Verify, Disassemble, Assemble, Object, Objects}
 
 -- the name for `object`: the word behind it, or `function`
 abbrev pub object_name : List (List ℕ) → List ℕ
@@ -15,6 +15,7 @@ IsSpelled (Verify base) words = words ≡ codes "verify" ∷ decimal base ∷ []
 IsSpelled (Disassemble base) words = words ≡ codes "disassemble" ∷ decimal base ∷ []
 IsSpelled (Assemble base) words = words ≡ codes "assemble" ∷ decimal base ∷ []
 IsSpelled Object words = (words ≡ codes "object" ∷ []) ⊎ (words ≡ codes "object" ∷ object_name words ∷ [])
+IsSpelled Objects words = words ≡ codes "objects" ∷ []
 
 -- the numbers of the command lie in their ranges
 abbrev pub IsInRange : Command → Type 0
@@ -23,6 +24,7 @@ IsInRange (Verify base) = base < 2 ^ 64
 IsInRange (Disassemble base) = base < 2 ^ 64
 IsInRange (Assemble base) = base < 2 ^ 64
 IsInRange Object = Unit {0}
+IsInRange Objects = Unit {0}
 
 -- these words are this command
 pub record IsForm (words : List (List ℕ)) (command : Command) : Type 0 where

@@ -17,6 +17,8 @@ pub enum Command {
     Assemble { base: u64 },
     /// The object of the job that the input is; `object_name` is its function's.
     Object,
+    /// The object of the functions that the input is, each called by its name.
+    Objects,
 }
 
 /// The command of these words, where they are one.
@@ -51,6 +53,9 @@ fn read_alone(name: &str) -> Option<Command>
     }
     if name == "object" {
         return Some(Command::Object);
+    }
+    if name == "objects" {
+        return Some(Command::Objects);
     }
     None
 }

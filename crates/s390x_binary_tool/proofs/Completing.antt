@@ -1,5 +1,5 @@
 -- What nothing refuses is done, unless memory doesn't suffice.
-use Rattle.std.proofs.Common.{◌≡◌, ℕ, ◌⊎◌, inl, inr, List, length, refl, sym, ap, ◌∙◌, arith, subst, Some, None}
+use Rattle.std.proofs.Common.{◌≡◌, ℕ, ◌⊎◌, inl, inr, List, length, map, refl, sym, ap, ◌∙◌, arith, subst, Some, None}
 use Rattle.std.specs.Prelude.{Option}
 use Rattle.s390x_buffer.specs.declared.entries.MachBufferFinalized.{MachBufferFinalized}
 use Rattle.s390x_buffer.specs.declared.entries.RelocEntry.{RelocEntry}
@@ -13,18 +13,21 @@ use Rattle.s390x_job.specs.Same.{SameJob}
 use Rattle.s390x_job.specs.declared.job.Job.{Job}
 use Rattle.s390x_binary_commands.specs.Words.{IsForm}
 use Rattle.s390x_binary_commands.specs.declared.words.Command.{Command}
-use Rattle.s390x_binary_commands.specs.declared.words.Command.TheVariants.{Refusal, Verify, Disassemble, Assemble, Object}
+use Rattle.s390x_binary_commands.specs.declared.words.Command.TheVariants.{Refusal, Verify, Disassemble, Assemble, Object, Objects}
 use Rattle.s390x_binary_commands.proofs.Told.{same_command}
 use Rattle.s390x_tool.specs.Answers.{IsCodeOfJob, IsImageAt, symbols_of, with_symbols}
+use Rattle.s390x_tool.specs.Bundled.{member_of}
 use Rattle.s390x_tool.specs.Causes.{FaultCountRose}
 use Rattle.s390x_tool.specs.Replies.{Found}
 use Rattle.s390x_tool.specs.declared.status.Status.TheVariants as status
 use Rattle.s390x_tool.proofs.Completing.{read_less, read_whole}
 use Rattle.s390x_tool.proofs.SameJob.{same_cause, same_code, same_symbols}
-use Rattle.s390x_binary_tool.specs.Accepted.{IsAccepted, IsHexCode, IsJobWithImage, IsObjectJob, IsSomeSource, IsUnrefused, IsValidJob}
+use Rattle.s390x_binary_tool.proofs.Joining.{coded, same_duplicate, same_objects, same_refused}
+use Rattle.s390x_binary_tool.specs.Accepted.{AreObjectFunctions, IsAccepted, IsHexCode, IsJobWithImage, IsObjectJob, IsSomeSource, IsUnrefused, IsValidJob}
 use Rattle.s390x_binary_tool.specs.Assemble.{IsAssembleAnswer}
 use Rattle.s390x_binary_tool.specs.Disassemble.{IsDisassembleAnswer}
 use Rattle.s390x_binary_tool.specs.Object.{IsObjectAnswer}
+use Rattle.s390x_binary_tool.specs.Objects.{IsObjectsAnswer}
 use Rattle.s390x_binary_tool.specs.Refusal.{IsRefusalAnswer}
 use Rattle.s390x_binary_tool.specs.Replies.{IsAnswered, IsDelivered, IsInputAnswer, IsReply}
 use Rattle.s390x_binary_tool.specs.Verify.{IsJobImage, IsVerifyAnswer}
@@ -142,12 +145,27 @@ object_done name input (Shared status.Refused) text v a =
     absurd (no_cause _ a.reply.error (same_cause a.job v.valid.job a.is v.valid.is same ∙ v.valid.valid) a.reply.cause)
 object_done name input (Shared s) text v a = absurd a.reply
 
+objects_done : (input : List ℕ) (s : BinaryStatus) (text : List ℕ) → AreObjectFunctions input → IsObjectsAnswer input s text → IsDoneStatus s
+objects_done input Differs text v a = absurd a.reply
+objects_done input ObjectRefused text v a =
+    let same = a.are.one v.functions v.are v.spelled in
+    let moved = same_objects a.functions v.functions a.reply.objects a.are.are v.are same a.reply.are in
+    absurd (no_cause _ a.reply.error (v.accepted a.reply.objects moved) a.reply.cause)
+objects_done input (Shared status.Ok) text v a = inl refl
+objects_done input (Shared status.NoMemory) text v a = inr refl
+objects_done input (Shared status.Syntax) text v a = absurd (a.none (v.functions, v.are, v.spelled))
+objects_done input (Shared status.BundleRefused) text v a =
+    let same = a.are.one v.functions v.are v.spelled in
+    absurd (coded (map member_of a.functions) a.reply.error (same_duplicate a.functions v.functions a.are.are v.are same ∙ v.names) (same_refused a.functions v.functions a.are.are v.are same ∙ v.valid) a.reply.named a.reply.cause)
+objects_done input (Shared s) text v a = absurd a.reply
+
 command_done : (c : Command) (words : List (List ℕ)) (input : List ℕ) (s : BinaryStatus) (text : List ℕ) → IsUnrefused c words input → IsInputAnswer c words input s text → IsDoneStatus s
 command_done Refusal words input s text v a = refusal_done input s text v a
 command_done (Verify base) words input s text v a = verify_done base input s text v a
 command_done (Disassemble base) words input s text v a = disassemble_done base input s text v a
 command_done (Assemble base) words input s text v a = assemble_done base input s text v a
 command_done Object words input s text v a = object_done _ input s text v a
+command_done Objects words input s text v a = objects_done input s text v a
 
 -- the answer to what the source held
 answered_done : (f : Found) (s : BinaryStatus) (text : List ℕ) (c : Command) (input : List ℕ) → IsAnswered f s text → IsForm f.words c → f.left ≡ Some input → IsUnrefused c f.words input → IsDoneStatus s

@@ -3,6 +3,7 @@ pub mod Completing
 pub mod CutJob
 pub mod Differences
 pub mod HexLines
+pub mod Joining
 pub mod Objects
 pub mod Replying
 pub mod Verifying

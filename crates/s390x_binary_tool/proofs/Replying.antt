@@ -12,7 +12,7 @@ use Rattle.s390x_tool.specs.declared.status.Status.{Status}
 use Rattle.s390x_tool.specs.declared.status.Status.TheVariants as status
 use Rattle.s390x_binary_commands.specs.Words.{IsForm, IsNoForm}
 use Rattle.s390x_binary_commands.specs.declared.words.Command.{Command}
-use Rattle.s390x_binary_commands.specs.declared.words.Command.TheVariants.{Refusal, Verify, Disassemble, Assemble, Object}
+use Rattle.s390x_binary_commands.specs.declared.words.Command.TheVariants.{Refusal, Verify, Disassemble, Assemble, Object, Objects}
 use Rattle.s390x_binary_tool.specs.Replies.{IsDelivered, IsDone, IsInputAnswer, IsReply}
 use Rattle.s390x_binary_tool.specs.declared.status.BinaryStatus.{BinaryStatus}
 use Rattle.s390x_binary_tool.specs.declared.status.BinaryStatus.TheVariants.{Shared, Differs, ObjectRefused}
@@ -26,6 +26,7 @@ no_usage (Verify base) words given text a = absurd a.reply
 no_usage (Disassemble base) words given text a = absurd a
 no_usage (Assemble base) words given text a = absurd a
 no_usage Object words given text a = absurd a.reply
+no_usage Objects words given text a = absurd a.reply
 
 no_read_fault : (c : Command) (words : List (List ℕ)) (given text : List ℕ) → IsInputAnswer c words given (Shared status.ReadFault) text → ⊥
 no_read_fault Refusal words given text a = absurd a.reply
@@ -33,6 +34,7 @@ no_read_fault (Verify base) words given text a = absurd a.reply
 no_read_fault (Disassemble base) words given text a = absurd a
 no_read_fault (Assemble base) words given text a = absurd a
 no_read_fault Object words given text a = absurd a.reply
+no_read_fault Objects words given text a = absurd a.reply
 
 no_write_fault : (c : Command) (words : List (List ℕ)) (given text : List ℕ) → IsInputAnswer c words given (Shared status.WriteFault) text → ⊥
 no_write_fault Refusal words given text a = absurd a.reply
@@ -40,6 +42,7 @@ no_write_fault (Verify base) words given text a = absurd a.reply
 no_write_fault (Disassemble base) words given text a = absurd a
 no_write_fault (Assemble base) words given text a = absurd a
 no_write_fault Object words given text a = absurd a.reply
+no_write_fault Objects words given text a = absurd a.reply
 
 no_long_input : (c : Command) (words : List (List ℕ)) (given text : List ℕ) → IsInputAnswer c words given (Shared status.InputTooLong) text → ⊥
 no_long_input Refusal words given text a = absurd a.reply
@@ -47,6 +50,7 @@ no_long_input (Verify base) words given text a = absurd a.reply
 no_long_input (Disassemble base) words given text a = absurd a
 no_long_input (Assemble base) words given text a = absurd a
 no_long_input Object words given text a = absurd a.reply
+no_long_input Objects words given text a = absurd a.reply
 
 memory_line : (c : Command) (words : List (List ℕ)) (given text : List ℕ) → IsInputAnswer c words given (Shared status.NoMemory) text → text ≡ line (codes "no memory")
 memory_line Refusal words given text a = a
@@ -54,6 +58,7 @@ memory_line (Verify base) words given text a = a
 memory_line (Disassemble base) words given text a = a
 memory_line (Assemble base) words given text a = a
 memory_line Object words given text a = a
+memory_line Objects words given text a = a
 
 -- the answer to a command and its whole input is the reply
 pub reply_answered : (f : Found) (c : Command) (given : List ℕ) (s : BinaryStatus) (text : List ℕ) → IsForm f.words c → IsRead f.left f.left' given → f.faults' ≡ f.faults → IsInputAnswer c f.words given s text → IsReply f s text

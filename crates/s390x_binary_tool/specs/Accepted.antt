@@ -1,16 +1,24 @@
 -- Inputs that nothing keeps from being done.
-use Rattle.std.specs.Prelude.{◌≡◌, ◌≤◌, ℕ, List, None, length}
+use Rattle.std.specs.Prelude.{◌≡◌, ◌≤◌, ℕ, List, [], None, length, map}
 use Rattle.hex.specs.Hex.{IsBytes}
 use Rattle.s390x_buffer.specs.declared.entries.MachBufferFinalized.{MachBufferFinalized}
+use Rattle.s390x_bundle.specs.Bundled.{duplicate_of}
+use Rattle.s390x_bundle.specs.Emitted.{first_refused}
+use Rattle.s390x_bundle_text.specs.Text.{AreFunctions, text_of_functions}
+use Rattle.s390x_bundle_text.specs.declared.named_job.NamedJob.{NamedJob}
 use Rattle.s390x_disassembler.specs.Assembly.{IsSource}
 use Rattle.s390x_elf.specs.Causes.{object_cause}
+use Rattle.s390x_elf.specs.Members.{members_cause}
+use Rattle.s390x_elf.specs.declared.members.ObjectMember.{ObjectMember}
 use Rattle.s390x_job.specs.Jobs.{IsJob, text_of_job}
 use Rattle.s390x_job.specs.declared.job.Job.{Job}
 use Rattle.s390x_binary_commands.specs.Words.{object_name}
 use Rattle.s390x_binary_commands.specs.declared.words.Command.{Command}
-use Rattle.s390x_binary_commands.specs.declared.words.Command.TheVariants.{Refusal, Verify, Disassemble, Assemble, Object}
+use Rattle.s390x_binary_commands.specs.declared.words.Command.TheVariants.{Refusal, Verify, Disassemble, Assemble, Object, Objects}
 use Rattle.s390x_tool.specs.Answers.{IsCodeOfJob, IsImageAt, job_cause}
+use Rattle.s390x_tool.specs.Bundled.{member_of}
 use Rattle.s390x_binary_tool.specs.ImageText.{IsImageText}
+use Rattle.s390x_binary_tool.specs.Objects.{AreObjectMembers}
 use Rattle.s390x_binary_tool.specs.Verify.{IsVerifyText}
 
 -- the input is the text of a job, which emission has no cause to refuse
@@ -43,6 +51,15 @@ pub record IsObjectJob (name : List ℕ) (input : List ℕ) : Type 0 where
   pub valid : IsValidJob input
   pub named : (code : MachBufferFinalized) → IsCodeOfJob valid.job code → object_cause name code ≡ None
 
+-- the input is the text of functions, no two of a name, none of which emission has a cause to refuse, and nothing keeps their codes from being made an object
+pub record AreObjectFunctions (input : List ℕ) : Type 0 where
+  pub functions : List NamedJob
+  pub are : AreFunctions functions
+  pub spelled : text_of_functions functions ≡ input
+  pub names : duplicate_of (map member_of functions) ≡ None
+  pub valid : first_refused (map member_of functions) ≡ None
+  pub accepted : (objects : List ObjectMember) → AreObjectMembers (map member_of functions) objects → members_cause [] objects ≡ None
+
 -- nothing keeps the command, which these words are, from being done with the input
 abbrev pub IsUnrefused : Command → (words : List (List ℕ)) → (input : List ℕ) → Type 0
 IsUnrefused Refusal words input = IsValidJob input
@@ -50,6 +67,7 @@ IsUnrefused (Verify base) words input = IsJobWithImage base input
 IsUnrefused (Disassemble base) words input = IsHexCode input
 IsUnrefused (Assemble base) words input = IsSomeSource base input
 IsUnrefused Object words input = IsObjectJob (object_name words) input
+IsUnrefused Objects words input = AreObjectFunctions input
 
 -- the same of an input that isn't too long
 pub record IsAccepted (command : Command) (words : List (List ℕ)) (input : List ℕ) : Type 0 where

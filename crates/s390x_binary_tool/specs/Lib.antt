@@ -4,6 +4,7 @@ pub mod Disassemble
 pub mod ImageText
 pub mod Made
 pub mod Object
+pub mod Objects
 pub mod OneJob
 pub mod Refusal
 pub mod Replies

@@ -8,10 +8,11 @@ use Rattle.s390x_tool.specs.Replies.{Found}
 use Rattle.s390x_tool.specs.declared.status.Status.TheVariants as status
 use Rattle.s390x_binary_commands.specs.Words.{IsForm, IsNoForm, object_name}
 use Rattle.s390x_binary_commands.specs.declared.words.Command.{Command}
-use Rattle.s390x_binary_commands.specs.declared.words.Command.TheVariants.{Refusal, Verify, Disassemble, Assemble, Object}
+use Rattle.s390x_binary_commands.specs.declared.words.Command.TheVariants.{Refusal, Verify, Disassemble, Assemble, Object, Objects}
 use Rattle.s390x_binary_tool.specs.Assemble.{IsAssembleAnswer}
 use Rattle.s390x_binary_tool.specs.Disassemble.{IsDisassembleAnswer}
 use Rattle.s390x_binary_tool.specs.Object.{IsObjectAnswer}
+use Rattle.s390x_binary_tool.specs.Objects.{IsObjectsAnswer}
 use Rattle.s390x_binary_tool.specs.Refusal.{IsRefusalAnswer}
 use Rattle.s390x_binary_tool.specs.Verify.{IsVerifyAnswer}
 use Rattle.s390x_binary_tool.specs.declared.status.BinaryStatus.{BinaryStatus}
@@ -51,6 +52,7 @@ IsInputAnswer (Verify base) words input s text = IsVerifyAnswer base input s tex
 IsInputAnswer (Disassemble base) words input s text = IsDisassembleAnswer base input s text
 IsInputAnswer (Assemble base) words input s text = IsAssembleAnswer base input s text
 IsInputAnswer Object words input s text = IsObjectAnswer (object_name words) input s text
+IsInputAnswer Objects words input s text = IsObjectsAnswer input s text
 
 -- the words are a command, the source was read to its end, and this is the answer to what it held
 pub record IsAnswered (f : Found) (s : BinaryStatus) (text : List ℕ) : Type 0 where

@@ -3,6 +3,7 @@
 
 mod assemble;
 mod disassemble;
+mod functions;
 mod image_text;
 mod object;
 mod refusal;

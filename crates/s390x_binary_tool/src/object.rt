@@ -47,8 +47,8 @@ fn object_of_code(alloc: Global, name: &str, job: &Job, code: &MachBufferFinaliz
     }
 }
 
-// The reply to code that is not made an object.
-fn object_refused(error: ObjectError) -> BinaryReply
+/// The reply to code that is not made an object.
+pub fn object_refused(error: ObjectError) -> BinaryReply
     ensures { IsObjectRefusal error result.status (cow_slice_items result.text) }
 {
     match error {

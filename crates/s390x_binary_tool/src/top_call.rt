@@ -13,6 +13,7 @@ ghost use Rattle.s390x_tool.specs.declared.status.Status.TheVariants as status;
 
 use crate::assemble::assemble;
 use crate::disassemble::disassemble;
+use crate::functions::objects;
 use crate::object::object;
 use crate::refusal::refusal;
 use crate::reply::{BinaryReply, shared};
@@ -38,7 +39,7 @@ pub fn run<S: Source, K: Sink>(
         (K.told sink.old) (K.told sink.new) (K.faults sink.old) (K.faults sink.new) result }
     // At `Ok` the source held what the command reads, which nothing refuses, and the sink was told the command's text for it: `none` of a job that emission
     // doesn't refuse; nothing of a job and its image at this base; the disassembly of code, and of no other; the code of a source; the object of a job, which
-    // runs as typed wherever it is linked.
+    // runs as typed wherever it is linked; the object of functions.
     ensures ok { result ≡ Shared status.Ok → IsDone (record { words = texts words.now; left = S.left source.old; left' = S.left source.new; faults = S.faults source.old; faults' = S.faults source.new })
         (K.told sink.old) (K.told sink.new) }
     // What nothing refuses is done, where no read and no write fails.
@@ -82,6 +83,7 @@ fn answer(alloc: Global, command: Command, words: &[String], input: &[u8]) -> Bi
         Command::Disassemble { base } => disassemble(alloc, base, input),
         Command::Assemble { base } => assemble(alloc, base, input),
         Command::Object => object(alloc, object_name(words), input),
+        Command::Objects => objects(alloc, input),
     }
 }
 
