@@ -160,6 +160,11 @@ def compare_with_assembler(folder, jobs, objects, emitted):
         with open(path, "wb") as file:
             file.write(objects[i])
         ours, theirs = read_object(path), read_object(assembled(folder, f"f{i}", body))
+        *others, text = theirs
+        # The assembler fills its section up to a multiple of the alignment, by NOPR.
+        filling = text[len(ours[3]):]
+        if len(filling) < 16 and not filling.strip(b"\x07"):
+            theirs = (*others, text[: len(ours[3])])
         for what, a, b in zip(("header", "relocations", "global symbols", "text"), ours, theirs):
             if a != b:
                 wrong += 1
