@@ -1,17 +1,19 @@
 //! Memory operands: the forms that machine rows have for them, and the helpers before an access.
 #![tactic(auto)]
 
-pub mod emitters;
-pub mod finalize;
-pub mod forms;
-pub mod memory;
+mod emitters;
+mod finalize;
+mod forms;
+mod memory;
 mod plain;
-pub mod plan;
-pub mod relative;
-pub mod rows;
+mod plan;
+mod relative;
+mod rows;
 
-pub use emitters::{
-    mem_emit, mem_float_emit, mem_imm8_emit, mem_imm16_emit, mem_rs_emit, mem_vrx_emit,
-};
-pub use finalize::mem_finalize;
 pub use s390x_typed_steps::MemInstType;
+
+pub use emitters::{LIMIT, holds_scratch, mem_emit, mem_float_emit, mem_imm16_emit, mem_imm8_emit, mem_rs_emit, mem_vrx_emit, number};
+pub use finalize::mem_finalize;
+pub use forms::{is_numbered, needs_address};
+pub use memory::{MemoryInst, general, vector};
+pub use rows::StorageRows;

@@ -29,8 +29,7 @@ use s390x_base::{Code, EmitError, Reg, RegClass, TrapCode, spilltmp_reg, stack_r
 use s390x_buffer::MachBuffer;
 use s390x_enc::enc_ril_a;
 use s390x_inst::{EmitState, MemArg};
-use s390x_typed_steps::MemInstType;
-use s390x_typed_steps::immediates::bits_of_word;
+use s390x_typed_steps::{MemInstType, bits_of_word};
 
 /// An instruction with a memory operand: its machine rows, and the registers that it names.
 #[derive(Clone, Copy)]

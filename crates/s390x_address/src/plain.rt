@@ -14,7 +14,7 @@ use crate::plan::{long_displacement, short_displacement};
 use crate::rows::StorageRows;
 use s390x_base::{Code, Reg, SImm20, UImm12, zero_reg};
 use s390x_enc::{enc_rx, enc_rxy};
-use s390x_typed_steps::immediates::{low_12, low_displacement};
+use s390x_typed_steps::{low_12, low_displacement};
 
 // The code of the row of format RX at a base and a displacement, where its registers may stand there.
 fn short_code(opcode: u8, register: Reg, base: Reg, disp: UImm12) -> Option<Code>

@@ -14,8 +14,7 @@ ghost use Rattle.s390x_address.specs.Rows.{row_of, row_encodes, rows_encode, sto
 use s390x_base::{Code, EmitError, Reg, SImm20, UImm12};
 use s390x_enc::{enc_rs, enc_rsy, enc_rx, enc_rxy, enc_si, enc_sil, enc_siy, enc_vrx};
 use s390x_inst::MemArg;
-use s390x_typed_steps::MemInstType;
-use s390x_typed_steps::immediates::{low_12, low_displacement};
+use s390x_typed_steps::{MemInstType, low_12, low_displacement};
 
 /// A machine instruction with an operand in memory, in its format.
 #[derive(Clone, Copy)]

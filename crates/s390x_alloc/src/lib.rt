@@ -1,22 +1,24 @@
 //! A checker of register allocations: whether every value arrives where it is used, and the function with real registers.
 #![tactic(auto)]
 
-pub mod answer;
-pub mod checking;
-pub mod edits;
-pub mod entries;
-pub mod fault;
-pub mod given;
-pub mod held;
-pub mod law;
-pub mod memory;
-pub mod moves;
-pub mod plan;
-pub mod planning;
-pub mod same;
-pub mod shape;
-pub mod step;
+mod answer;
+mod checking;
+mod edits;
+mod entries;
+mod fault;
+mod given;
+mod held;
+mod law;
+mod memory;
+mod moves;
+mod plan;
+mod planning;
+mod same;
+mod shape;
+mod step;
 
+pub use entries::entry_fault;
 pub use fault::PlanFault;
+pub use law::{accepted_registers_meet, some_plan_is_accepted, walks_read_alike};
 pub use plan::{BlockPlan, Edit, EntryPair, Place, Plan};
 pub use planning::check_plan;

@@ -1,4 +1,6 @@
 //! What holds of the function that a plan without a fault gives, by its typed steps.
 #![tactic(auto)]
 
-pub mod law;
+mod law;
+
+pub use law::{edits_keep_classes, moves_are_not_blamed, operands_are_seen, some_step_leads, steps_are_not_blamed, steps_lead_to_successors};

@@ -5,7 +5,7 @@ ghost use Rattle.s390x_operations.specs.Numbers.{whole};
 ghost use Rattle.s390x_operations.specs.Bits.{ones_by_byte, reversed, bits_of_width, bytes, extended, IsWithin};
 
 use crate::unsigned::whole;
-use s390x_lanes::operation::Signedness;
+use s390x_lanes::Signedness;
 use s390x_operations::{Size, Width};
 
 /// The ones of each of the lowest bytes.

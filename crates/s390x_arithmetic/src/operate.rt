@@ -7,8 +7,7 @@ ghost use Rattle.s390x_operations.specs.Values.{value, code_of_value, ordered, w
 use crate::bits::{bit_op, code_z, select_op, shift_code, shifted};
 use crate::bytes::{bytes, ones_by_byte, reversed};
 use crate::unsigned::logical_op;
-use s390x_operations::signed::signed_op;
-use s390x_operations::{ConditionCode, Operator, Size, Width};
+use s390x_operations::{ConditionCode, Operator, Size, Width, signed_op};
 
 /// The width of a whole number of a size.
 pub fn width_of(size: Size) -> Width

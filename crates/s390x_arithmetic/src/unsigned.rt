@@ -4,9 +4,8 @@ ghost use Rattle.std.specs.Prelude.{◌≡◌, ◌<◌, ◌^◌, pos, neg_ℤ, �
 ghost use Rattle.s390x_operations.specs.Numbers.{whole, half, signed, low};
 ghost use Rattle.s390x_operations.specs.Unsigned.{code_a, code_b, code_c, logical_value, logical_code, read, compared, wide_product, signed_division, unsigned_division, IsPairBelow};
 
-use s390x_lanes::operation::Signedness;
-use s390x_operations::signed::{fits, low, signed};
-use s390x_operations::{ConditionCode, LogicalOperator, Pair, Size};
+use s390x_lanes::Signedness;
+use s390x_operations::{ConditionCode, LogicalOperator, Pair, Size, fits, low, signed};
 
 /// How many numbers have the size.
 pub fn whole(size: Size) -> u128

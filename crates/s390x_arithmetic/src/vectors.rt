@@ -7,8 +7,7 @@ ghost use Rattle.s390x_operations.specs.Bits.{reversed};
 ghost use Rattle.s390x_operations.specs.Vectors.{element_value, layout_bytes, loaded, vector_stored};
 ghost use Rattle.s390x_arithmetic.specs.Layouts.{layout_size, loaded_lane};
 
-use s390x_lanes::lane::{append, element};
-use s390x_lanes::size::ElementSize;
+use s390x_lanes::{ElementSize, append, element};
 use s390x_operations::VectorLayout;
 
 /// The lowest bytes of a number in reverse order, at most 16.

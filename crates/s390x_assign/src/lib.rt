@@ -1,13 +1,13 @@
 //! Instructions of the s390x back end with the registers that an allocator chose for their operands.
 #![tactic(auto)]
 
-pub mod assign_arithmetic;
-pub mod assign_calls;
-pub mod assign_control;
-pub mod assign_moves;
-pub mod assign_storage;
-pub mod assign_vectors;
-pub mod assigned_registers;
-pub mod assigning;
+mod assign_arithmetic;
+mod assign_calls;
+mod assign_control;
+mod assign_moves;
+mod assign_storage;
+mod assign_vectors;
+mod assigned_registers;
+mod assigning;
 
 pub use assigning::{AssignError, assign};

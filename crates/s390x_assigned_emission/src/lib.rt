@@ -1,6 +1,6 @@
 //! Emission of an instruction with the registers that an allocator chose for it.
 #![tactic(auto)]
 
-pub mod emitting;
+mod emitting;
 
 pub use emitting::{AssignedError, emit_assigned};

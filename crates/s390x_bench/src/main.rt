@@ -4,8 +4,7 @@
 
 use s390x_emit_int::emit_function;
 use s390x_job::{Job, read_lines};
-use s390x_tool::input::read_input;
-use s390x_tool::{Source, StdSource};
+use s390x_tool::{Source, StdSource, read_input};
 use std::alloc::Global;
 use std::process::ExitCode;
 use std::{env, io};

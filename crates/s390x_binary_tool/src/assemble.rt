@@ -4,7 +4,7 @@ ghost use Rattle.s390x_binary_tool.specs.Assemble.{IsAssembleAnswer};
 
 use crate::reply::{BinaryReply, shared, wrong_at};
 use s390x_disassembler::AssembleError;
-use s390x_tool::reply::{in_hex, no_memory};
+use s390x_tool::{in_hex, no_memory};
 use std::alloc::Global;
 
 /// The answer to `assemble` at this base and its whole input.

@@ -7,8 +7,7 @@ ghost use Rattle.s390x_binary_tool.specs.Disassemble.{IsDisassembleAnswer, IsDis
 use crate::image_text::read_image;
 use crate::reply::{BinaryReply, shared, with_text, wrong_at};
 use crate::status::BinaryStatus;
-use s390x_tool::Status;
-use s390x_tool::reply::no_memory;
+use s390x_tool::{Status, no_memory};
 use std::alloc::Global;
 
 /// The answer to `disassemble` at this base and its whole input.

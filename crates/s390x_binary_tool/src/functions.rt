@@ -13,13 +13,11 @@ use crate::object::object_refused;
 use crate::reply::{BinaryReply, shared, with_file};
 use s390x_base::{EmitError, ExternalName};
 use s390x_buffer::MachBufferFinalized;
-use s390x_bundle::names::duplicate_name;
-use s390x_bundle::{BundleError, Member};
+use s390x_bundle::{BundleError, Member, duplicate_name};
 use s390x_bundle_text::{BundleTextError, NamedJob, read_bundle};
 use s390x_elf::ObjectMember;
 use s390x_emit_int::emit_function;
-use s390x_tool::bundled::bundle_refused;
-use s390x_tool::reply::{no_memory, syntax};
+use s390x_tool::{bundle_refused, no_memory, syntax};
 use std::alloc::{AllocError, Global};
 
 /// The answer to `objects` and its whole input.

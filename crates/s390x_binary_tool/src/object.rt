@@ -11,7 +11,7 @@ use s390x_buffer::MachBufferFinalized;
 use s390x_elf::ObjectError;
 use s390x_emit_int::emit_function;
 use s390x_job::{Job, LineError, read_lines};
-use s390x_tool::reply::{no_memory, refused, syntax};
+use s390x_tool::{no_memory, refused, syntax};
 use std::alloc::Global;
 
 /// The answer to `object` with this name for the function, and its whole input.

@@ -11,9 +11,7 @@ use crate::status::BinaryStatus;
 use s390x_base::NoMemory;
 use s390x_job::{Job, LineError, read_lines};
 use s390x_refusal::{Position, Refusal, first_refusal};
-use s390x_tool::Status;
-use s390x_tool::error_names::emit_error_name;
-use s390x_tool::reply::{fixed, no_memory, syntax};
+use s390x_tool::{Status, emit_error_name, fixed, no_memory, syntax};
 use std::alloc::{AllocError, Global};
 
 /// The answer to `refusal` and its whole input.

@@ -8,8 +8,7 @@ ghost use Rattle.s390x_binary_tool.specs.Made.{IsMadeReply};
 ghost use Rattle.s390x_binary_tool.specs.declared.status.BinaryStatus.TheVariants.{Shared};
 
 use crate::status::BinaryStatus;
-use s390x_tool::Status;
-use s390x_tool::reply::{Reply, no_memory};
+use s390x_tool::{Reply, Status, no_memory};
 use std::alloc::{AllocError, Global};
 use std::borrow::{CowSlice, CowStr};
 

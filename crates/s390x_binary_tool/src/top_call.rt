@@ -20,10 +20,7 @@ use crate::reply::{BinaryReply, shared};
 use crate::status::BinaryStatus;
 use crate::verify::verify;
 use s390x_binary_commands::{Command, object_name, read_words};
-use s390x_tool::input::read_input;
-use s390x_tool::output::write_text;
-use s390x_tool::reply::{fixed, unread};
-use s390x_tool::{Failed, Sink, Source, Status};
+use s390x_tool::{Failed, Sink, Source, Status, fixed, read_input, unread, write_text};
 use std::alloc::Global;
 
 /// Does what the words ask for with what the source holds, and writes the text or the line of the status to the sink. It reads the source to its end first, and writes

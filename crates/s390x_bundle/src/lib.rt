@@ -1,20 +1,23 @@
 //! Several functions in one image, where they call each other by name.
 #![tactic(auto)]
 
-pub mod bundling;
-pub mod bytes;
-pub mod error;
-pub mod joining;
-pub mod law;
-pub mod linking;
-pub mod member;
-pub mod names;
-pub mod places;
-pub mod table;
+mod bundling;
+mod bytes;
+mod error;
+mod joining;
+mod law;
+mod linking;
+mod member;
+mod names;
+mod places;
+mod table;
 
 pub use bundling::bundle;
-pub use error::BundleError;
+pub use error::{BundleError, named_error};
 pub use joining::{Bundle, JoinError, join_members};
+pub use law::{members_rise, parts_stand, placed_members_have_bytes, zeros_stand_between};
 pub use linking::{LinkRefusal, link_members};
 pub use member::Member;
+pub use names::duplicate_name;
 pub use places::{Extent, PlaceCause, PlaceError, starts_of};
+pub use table::{joint_table, member_table};

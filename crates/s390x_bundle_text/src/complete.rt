@@ -3,7 +3,7 @@ ghost use Rattle.std.specs.Prelude.{◌≡◌, ◌++◌, IfOk, OnOk, map, take, 
 ghost use Rattle.std.specs.Str.{bytes_eq};
 ghost use Rattle.s390x_bundle_text.specs.Completions.{bundle_completion, close_ending, ends, heads, is_closed, job_ending};
 
-use s390x_job::completing::{count_closes, count_opens, put, put_closing, put_joined};
+use s390x_job::{count_closes, count_opens, put, put_closing, put_joined};
 use std::alloc::{AllocError, Global};
 
 fn front_of(w: &[u8], count: usize) -> &[u8]

@@ -1,14 +1,17 @@
 //! The text of several functions in one image: its exact reader.
 #![tactic(auto)]
 
-pub mod complete;
-pub mod cut;
-pub mod error;
-pub mod find;
-pub mod head;
-pub mod named_job;
-pub mod reader;
+mod complete;
+mod cut;
+mod error;
+mod find;
+mod head;
+mod named_job;
+mod reader;
 
+pub use complete::complete;
+pub use cut::{count_lines, job_size, read_job};
 pub use error::BundleTextError;
+pub use find::find_functions;
 pub use named_job::NamedJob;
 pub use reader::read_bundle;

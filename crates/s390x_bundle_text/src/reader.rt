@@ -8,7 +8,7 @@ use crate::complete::complete;
 use crate::error::BundleTextError;
 use crate::find::{Found, find_functions};
 use crate::named_job::NamedJob;
-use s390x_job::completing::{Completes, first_wrong};
+use s390x_job::{Completes, first_wrong};
 use std::alloc::{AllocError, Global};
 
 /// The text of functions.

@@ -1,6 +1,6 @@
 //! The commands of the program, and the words that ask for them.
 #![tactic(auto)]
 
-pub mod words;
+mod words;
 
 pub use words::{Command, JobCommand, read_words};

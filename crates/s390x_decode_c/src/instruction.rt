@@ -4,8 +4,7 @@ ghost use Rattle.s390x_format.specs.Formats.{length_of};
 ghost use Rattle.s390x_decode_c.specs.Instructions.{Describes};
 
 use crate::format_number::format_number;
-use s390x_format::kind::length;
-use s390x_format::{Decoded, FormatKind};
+use s390x_format::{Decoded, FormatKind, length};
 
 /// An instruction as C sees it. What its format lacks is 0.
 #[repr(C)]

@@ -11,11 +11,7 @@ use crate::reading::put_operands;
 use crate::scan::{begins, behind, head, hex_bytes, word};
 use crate::spelling::{Spelling, Suffix, letter_table};
 use crate::table::SPELLINGS;
-use s390x_format::FormatKind;
-use s390x_format::kind::{layout, length};
-use s390x_format::layout::pack;
-use s390x_format::row::{Allowed, MachineRow};
-use s390x_format::table::MACHINE_ROWS;
+use s390x_format::{Allowed, FormatKind, MACHINE_ROWS, MachineRow, layout, length, pack};
 use std::alloc::{AllocError, Global};
 
 /// The bytes that the first line of a text is read as, at an address: those of which it is written without its address and its

@@ -7,8 +7,7 @@ ghost use Rattle.s390x_disassembler.specs.Operands.{AreRead, AreRegisters, IsRea
 
 use crate::forms::Operand;
 use crate::scan::{begins, behind, digits, number};
-use s390x_format::FormatKind;
-use s390x_format::fields::{Imm, imm_class};
+use s390x_format::{FormatKind, Imm, imm_class};
 
 /// Puts the values of a text's operands into their slots.
 pub fn put_operands(

@@ -15,7 +15,7 @@ use crate::registers::{same_number, three_general, two_general};
 use crate::shapes::into_row;
 use s390x_base::{Code, EmitError, Reg, Writable, gpr};
 use s390x_inst::{ALUOp, CmpOp, UnaryOp};
-use s390x_typed_steps::immediates::{bits_of_halfword, bits_of_unsigned};
+use s390x_typed_steps::{bits_of_halfword, bits_of_unsigned};
 
 // The opcode of an operator's row of three operands.
 pub fn three_opcode(op: ALUOp) -> Option<u16>

@@ -13,10 +13,10 @@ use crate::codes::{selected, shifted, short, three_operands, two_operands};
 use crate::moves::{of_four, of_two};
 use crate::opcode::ShortOpcode;
 use crate::registers::{is_even_pair, is_reused, three_general, two_general};
-use s390x_address::memory::general;
+use s390x_address::general;
 use s390x_base::{Code, EmitError, Reg, Writable, WritableRegPair};
 use s390x_inst::{ALUOp, RxSBGOp, ShiftOp};
-use s390x_typed_steps::immediates::low_byte;
+use s390x_typed_steps::low_byte;
 
 fn of_one(zeroth: u16, n: u8) -> Option<ShortOpcode>
     requires { zeroth < 4096 }

@@ -32,8 +32,7 @@ ghost use Rattle.s390x_emit_int.specs.Sequence.{AllKeepNominal, Emits, EmitsOwn}
 use crate::causes::{branchable, label_cause};
 use crate::leaf::{emit_branch_register, emit_leaf};
 use crate::memory::find_memory;
-use s390x_address::forms::{is_numbered, needs_address};
-use s390x_address::memory::general;
+use s390x_address::{general, is_numbered, needs_address};
 use s390x_base::{EmitError, ExternalName, MachLabel, Reg, Reloc};
 use s390x_buffer::{MachBuffer, TryHandler};
 use s390x_enc::{enc_ril_b, enc_ril_c, enc_rr};

@@ -13,7 +13,7 @@ use crate::composite::composite_cause;
 use crate::memory::find_memory;
 use crate::single_instruction::find_single_instruction;
 use crate::stack::stack_cause;
-use s390x_address::memory::general;
+use s390x_address::general;
 use s390x_base::{Code, EmitError, MachLabel, Reg, RegClass};
 use s390x_buffer::MachBuffer;
 use s390x_inst::{EmitState, Inst, InstructionSet, IsaFlags};

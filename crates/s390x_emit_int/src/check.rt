@@ -25,7 +25,7 @@ use crate::loaded::check_on_machine;
 use crate::memory::find_memory;
 use crate::single_instruction::find_single_instruction;
 use crate::stack::{advance, end_cause, mark_safepoint};
-use s390x_address::emitters::LIMIT;
+use s390x_address::LIMIT;
 use s390x_base::{Code, EmitError};
 use s390x_buffer::MachBuffer;
 use s390x_inst::{Block, EmitState, Inst, IsaFlags};

@@ -17,7 +17,7 @@ use s390x_enc::{
     enc_ri_a, enc_rie_a, enc_rie_d, enc_rie_f, enc_rie_g, enc_ril_a, enc_rr, enc_rre, enc_rrf_ab,
     enc_rrf_cde, enc_rsy, enc_rxy,
 };
-use s390x_typed_steps::immediates::low_displacement;
+use s390x_typed_steps::low_displacement;
 
 pub fn short(value: u16) -> ShortOpcode
     requires { value < 4096 }

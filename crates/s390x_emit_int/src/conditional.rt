@@ -15,7 +15,7 @@ ghost use Rattle.s390x_emit_int.specs.Room.{LacksMemory};
 ghost use Rattle.s390x_emit_int.specs.Skips.{is_short_move};
 
 use crate::causes::found_cause;
-use s390x_address::emitters::number;
+use s390x_address::number;
 use s390x_base::{Code, EmitError, Reg, Writable};
 use s390x_buffer::MachBuffer;
 use s390x_emit_vec::find_move_under;

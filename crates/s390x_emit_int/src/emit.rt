@@ -22,7 +22,7 @@ ghost use Rattle.s390x_typed_steps.specs.Stack.{state_after};
 use crate::check::{Totals, check_inst};
 use crate::stack::advance;
 use crate::tree::emit_inst;
-use s390x_address::emitters::LIMIT;
+use s390x_address::LIMIT;
 use s390x_base::{CodeOffset, EmitError, MachLabel, TrapCode};
 use s390x_buffer::MachBuffer;
 use s390x_inst::{EmitInfo, EmitState, Inst, IsaFlags, VecInst};

@@ -35,7 +35,7 @@ use crate::single_instruction::find_single_instruction;
 use crate::stops::stop_code;
 use crate::symbol::emit_symbol_load;
 use crate::table::emit_table;
-use s390x_address::memory::MemoryInst;
+use s390x_address::MemoryInst;
 use s390x_base::{Code, Cond, EmitError, MachLabel, Reg, TrapCode, gpr};
 use s390x_buffer::{LabelUse, MachBuffer};
 use s390x_enc::{enc_e, enc_ril_b, enc_ril_c, enc_rr};

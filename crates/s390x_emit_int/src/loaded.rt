@@ -25,7 +25,7 @@ use crate::causes::{facility_cause, outer_cause};
 use crate::check::{Totals, add, check_leaf};
 use crate::leaf::{emit_access, emit_leaf};
 use crate::memory::find_memory;
-use s390x_address::memory::MemoryInst;
+use s390x_address::MemoryInst;
 use s390x_base::{EmitError, MachLabel};
 use s390x_buffer::MachBuffer;
 use s390x_inst::{EmitState, Inst, IsaFlags};

@@ -8,15 +8,11 @@ ghost use Rattle.s390x_typed_steps.specs.Memory.{load, load_memory, store, store
 ghost use Rattle.s390x_typed_steps.specs.Storage.{alu_rx, alu_rxy, cmp_rx, cmp_rxy, cmp_ril, atomic_rsy};
 
 use crate::registers::{is_reused, two_general};
-use s390x_address::emitters::{holds_scratch, number};
-use s390x_address::forms::is_numbered;
-use s390x_address::memory::{MemoryInst, general};
-use s390x_address::rows::StorageRows;
+use s390x_address::{MemoryInst, StorageRows, general, holds_scratch, is_numbered, number};
 use s390x_base::{Reg, Writable};
 use s390x_emit_vec::find_vector_memory;
 use s390x_inst::{ALUOp, CmpOp, Inst, Load, MemArg};
-use s390x_typed_steps::immediates::low_byte;
-use s390x_typed_steps::rows_of_load;
+use s390x_typed_steps::{low_byte, rows_of_load};
 
 // An access by one register.
 #[tactic(auto, using(crate::proofs::Storing::register_encodes))]

@@ -12,9 +12,9 @@ ghost use Rattle.s390x_emit_int.specs.SingleInstruction.{opcode_of, takes_genera
 use crate::codes::{conditional_halfword, indexed, masked, short, two_operands};
 use crate::opcode::ShortOpcode;
 use crate::registers::{is_access, is_reused, three_general};
-use s390x_address::memory::general;
+use s390x_address::general;
 use s390x_base::{Code, Cond, EmitError, Reg, SImm20, Writable, gpr};
-use s390x_typed_steps::immediates::bits_of_halfword;
+use s390x_typed_steps::bits_of_halfword;
 
 /// One of two opcodes by its number.
 pub fn of_two(zeroth: u16, first: u16, n: u8) -> Option<ShortOpcode>

@@ -4,8 +4,7 @@ ghost use Rattle.s390x_base.specs.Regs.{number_of};
 ghost use Rattle.s390x_enc.specs.Operands.{is_general_class};
 ghost use Rattle.s390x_typed_steps.specs.General.{is_general, is_access, is_even_pair, reuses, reuses_pair};
 
-use s390x_address::emitters::number;
-use s390x_address::memory::general;
+use s390x_address::{general, number};
 use s390x_base::{Reg, RegPair, WritableRegPair, valid_regpair};
 
 /// A register's number is below the count of its class, so that its class alone tells whether it is general.

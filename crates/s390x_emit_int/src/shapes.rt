@@ -10,9 +10,9 @@ ghost use Rattle.s390x_emit_int.specs.SingleInstruction.{opcode_of, takes_genera
 use crate::codes::{halfword, two_operands, word};
 use crate::opcode::ShortOpcode;
 use crate::registers::{is_reused, two_general};
-use s390x_address::memory::general;
+use s390x_address::general;
 use s390x_base::{Code, EmitError, Reg, Writable};
-use s390x_typed_steps::immediates::{bits_of_halfword, bits_of_word};
+use s390x_typed_steps::{bits_of_halfword, bits_of_word};
 
 /// Two registers, where there is a row.
 #[tactic(auto, using(crate::proofs::Encoding::itself))]

@@ -9,7 +9,7 @@ ghost use Rattle.s390x_emit_int.specs.SingleInstruction.{takes_general};
 
 use crate::codes::{masked, masked_halfword, two_operands};
 use crate::registers::{is_even_pair, is_reused_pair, two_general};
-use s390x_address::memory::general;
+use s390x_address::general;
 use s390x_base::{Code, Cond, EmitError, Reg, RegPair, TrapCode, WritableRegPair};
 use s390x_emit_vec::stop_of;
 use s390x_inst::{CmpOp, Inst};

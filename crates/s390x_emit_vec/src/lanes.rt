@@ -11,8 +11,7 @@ use crate::codes::{
     is_float_doubleword, number, replicated_lane, reuse_insert_valid, reuses, to_float, vector,
 };
 use s390x_base::{Code, EmitError, Reg};
-use s390x_typed_steps::VectorOpcode;
-use s390x_typed_steps::immediates::bits_of_halfword;
+use s390x_typed_steps::{VectorOpcode, bits_of_halfword};
 
 /// The code of elements of 8 to 64 bits.
 pub fn element_code(size: u32) -> Option<u8>

@@ -2,15 +2,13 @@
 #![tactic(auto)]
 
 mod codes;
-pub mod conditional;
+mod conditional;
 mod lanes;
-pub mod memory;
+mod memory;
 mod opcodes;
-pub mod vector;
+mod vector;
 
-pub use codes::{
-    compared_vectors, shifted_vector, three_vectors, two_vectors, vector as real_vector,
-};
+pub use codes::{compared_vectors, shifted_vector, three_vectors, two_vectors, vector as real_vector};
 pub use conditional::{MoveUnder, find_move_under};
 pub use memory::find_vector_memory;
 pub use vector::{find_vector, stop_of};

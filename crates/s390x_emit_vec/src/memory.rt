@@ -10,8 +10,7 @@ ghost use Rattle.s390x_emit_vec.specs.Memory.{lane_opcode};
 
 use crate::codes::{number, reuses};
 use crate::lanes::{element_code, is_lane};
-use s390x_address::memory::{MemoryInst, vector};
-use s390x_address::rows::StorageRows;
+use s390x_address::{MemoryInst, StorageRows, vector};
 use s390x_base::Reg;
 use s390x_inst::{MemArg, VecInst};
 

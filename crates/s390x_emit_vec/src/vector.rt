@@ -19,8 +19,7 @@ use crate::opcodes::{
 };
 use s390x_base::{Code, EmitError, Reg, TrapCode};
 use s390x_inst::VecInst;
-use s390x_typed_steps::VectorOpcode;
-use s390x_typed_steps::immediates::{bits_of_halfword, bits_of_unsigned_halfword, low_byte};
+use s390x_typed_steps::{VectorOpcode, bits_of_halfword, bits_of_unsigned_halfword, low_byte};
 
 fn displacement_of(imm: u8) -> u32
     ensures value { result ≡ low_byte imm }

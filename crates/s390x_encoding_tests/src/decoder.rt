@@ -1,12 +1,7 @@
 //! The decoder beside a plain search of its table.
 ghost use Rattle.std.specs.Prelude.{◌≡◌, ◌<◌};
 
-use s390x_format::kind::{layout, length};
-use s390x_format::layout::{pack, unpack};
-use s390x_format::reading::number_of;
-use s390x_format::row::{MachineRow, allows};
-use s390x_format::table::MACHINE_ROWS;
-use s390x_format::{Decoded, Row, Steps, decode, decode_counted};
+use s390x_format::{Decoded, MACHINE_ROWS, MachineRow, Row, Steps, allows, decode, decode_counted, layout, length, number_of, pack, unpack};
 use std::marker::Brand;
 use std::process::Abort;
 use std::sync::ledger::{Blank, Ledger};

@@ -2,8 +2,7 @@
 
 use s390x_base::{EmitError, ExternalName};
 use s390x_bundle::BundleError;
-use s390x_tool::bundled::bundle_refused;
-use s390x_tool::error_names::emit_error_line;
+use s390x_tool::{bundle_refused, emit_error_line};
 use std::io;
 
 /// The lines.

@@ -5,8 +5,7 @@ ghost use Rattle.s390x_exact.specs.Exact.{TakesFields};
 
 use crate::cursor::ExactCursor;
 use s390x_inst::Inst;
-use s390x_lines::inst_name::ControlName;
-use s390x_lines::name::LineName;
+use s390x_lines::{ControlName, LineName};
 
 #[tactic(auto, using(crate::proofs::Lines::one))]
 fn jump(cursor: &mut ExactCursor) -> Option<Inst>

@@ -5,8 +5,7 @@ ghost use Rattle.s390x_exact.specs.Exact.{TakesFields};
 
 use crate::cursor::ExactCursor;
 use s390x_inst::Inst;
-use s390x_lines::inst_name::IntegerName;
-use s390x_lines::name::LineName;
+use s390x_lines::{IntegerName, LineName};
 
 /// Takes the fields of an operation with an output of its own.
 #[tactic(auto, using(crate::proofs::Lines::four))]

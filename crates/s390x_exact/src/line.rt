@@ -9,7 +9,7 @@ use crate::cursor::ExactCursor;
 use crate::integer::integer;
 use crate::memory::{load, memory};
 use s390x_inst::Inst;
-use s390x_lines::name::{LineName, find_name};
+use s390x_lines::{LineName, find_name};
 use s390x_words::marks::front;
 use s390x_words::word::Word;
 

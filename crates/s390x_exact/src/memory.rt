@@ -6,8 +6,7 @@ ghost use Rattle.s390x_exact.specs.Exact.{TakesFields};
 use crate::cursor::ExactCursor;
 use s390x_base::Writable;
 use s390x_inst::{Inst, LoadOp};
-use s390x_lines::inst_name::MemoryName;
-use s390x_lines::name::LineName;
+use s390x_lines::{LineName, MemoryName};
 
 /// Takes the fields of an instruction of this name, where they are a register and an operand.
 #[tactic(auto, using(crate::proofs::Lines::two))]

@@ -2,9 +2,7 @@
 ghost use Rattle.s390x_machine.specs.State.{state_of};
 ghost use Rattle.s390x_execution.specs.Execution.{IsExecution, IsStepped};
 
-use s390x_machine::machine::Machine;
-use s390x_machine::memory::Memory;
-use s390x_machine::step::StepEnd;
+use s390x_machine::{Machine, Memory, StepEnd};
 use s390x_operations::StopKind;
 
 /// How an execution ends.

@@ -1,9 +1,9 @@
 //! The execution of a job's image by the machine, and its text.
 #![tactic(auto)]
 
-pub mod execution;
-pub mod report;
-pub mod start;
+mod execution;
+mod report;
+mod start;
 
 pub use execution::{End, Execution, execute};
 pub use report::run_text;

@@ -11,15 +11,11 @@ ghost use Rattle.s390x_execution.specs.Text.{AllHeld, IsRunText, code_text, cont
 use crate::execution::{End, Execution, execute};
 use crate::start::{start_machine, start_memory};
 use s390x_base::{NoMemory, TrapCode};
-use s390x_buffer::MachBufferFinalized;
-use s390x_buffer::entries::TrapEntry;
+use s390x_buffer::{MachBufferFinalized, TrapEntry};
 use s390x_image::Image;
 use s390x_job::{Job, MemLine, StartRegs, put_registers};
-use s390x_lines::name::LineName;
-use s390x_lines::put_line::line2;
-use s390x_machine::codes::code_at;
-use s390x_machine::machine::Machine;
-use s390x_machine::memory::Memory;
+use s390x_lines::{LineName, line2};
+use s390x_machine::{Machine, Memory, code_at};
 use s390x_operations::{ConditionCode, StopKind};
 use s390x_words::atoms::put_trap;
 use std::alloc::{AllocError, Global};

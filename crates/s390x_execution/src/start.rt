@@ -7,8 +7,7 @@ ghost use Rattle.s390x_execution.specs.Start.{AllRegionsFit, start_memory, start
 use s390x_base::NoMemory;
 use s390x_image::Image;
 use s390x_job::{MemLine, StartRegs};
-use s390x_machine::flat::FlatMemory;
-use s390x_machine::machine::Machine;
+use s390x_machine::{FlatMemory, Machine};
 use std::alloc::Global;
 
 /// A machine at a place, with these general and vector registers. Its access registers and its condition code are 0.

@@ -1,7 +1,11 @@
 //! The fields of a line: what each kind prints, and how it is read.
 #![tactic(auto)]
 
-pub mod cursor;
-pub mod part;
-pub mod parts;
+mod cursor;
+mod part;
+mod parts;
 mod read;
+
+pub use cursor::Cursor;
+pub use part::Part;
+pub use parts::{GeneralStart, VectorStart};

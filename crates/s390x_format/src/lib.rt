@@ -1,41 +1,42 @@
 //! The instruction formats of the z/Architecture, and the decoder over the machine rows.
 #![tactic(auto)]
 
-pub mod decoder;
-pub mod fields;
-pub mod first_bytes;
-pub mod format;
+mod decoder;
+mod fields;
+mod first_bytes;
+mod format;
 mod frequent;
-pub mod immediate_formats;
+mod immediate_formats;
 mod immediate_impls;
-pub mod index;
-pub mod kind;
-pub mod layout;
-pub mod reading;
-pub mod register_formats;
+mod index;
+mod kind;
+mod layout;
+mod reading;
+mod register_formats;
 mod register_impls;
-pub mod row;
-pub mod row_offsets;
-pub mod signed_formats;
+mod row;
+mod row_offsets;
+mod signed_formats;
 mod signed_impls;
-pub mod steps;
-pub mod storage_formats;
+mod steps;
+mod storage_formats;
 mod storage_impls;
-pub mod table;
-pub mod vector_formats;
+mod table;
+mod vector_formats;
 mod vector_impls;
 
 pub use decoder::{Decoded, Located, decode, decode_counted, locate};
-pub use fields::Fields;
+pub use fields::{Fields, Imm, imm_class};
 pub use format::Format;
 pub use immediate_formats::{RiA, RieA, RieD, RieF, RieG, RilA};
-pub use kind::FormatKind;
-pub use reading::fetch_length;
+pub use index::{row_place, search};
+pub use kind::{FormatKind, layout, length};
+pub use layout::{Part, pack, unpack};
+pub use reading::{Reading, fetch_length, number_of};
 pub use register_formats::{E, Rr, Rre, RrfAb, RrfCde};
-pub use row::Row;
+pub use row::{Allowed, MachineRow, Row, allows};
 pub use signed_formats::{RiB, RiC, RilB, RilC, Sil};
 pub use steps::Steps;
 pub use storage_formats::{Rs, Rsy, Rx, Rxy, Si, Siy};
-pub use vector_formats::{
-    VriA, VriB, VriC, VriK, VrrA, VrrB, VrrC, VrrD, VrrE, VrrF, VrsA, VrsB, VrsC, Vrx,
-};
+pub use table::MACHINE_ROWS;
+pub use vector_formats::{VriA, VriB, VriC, VriK, VrrA, VrrB, VrrC, VrrD, VrrE, VrrF, VrsA, VrsB, VrsC, Vrx};

@@ -1,9 +1,10 @@
 //! The generator of a large function that emission doesn't refuse.
 #![tactic(auto)]
 
-pub mod checksum;
-pub mod function;
-pub mod law;
+mod checksum;
+mod function;
+mod law;
 
 pub use checksum::byte_sum;
 pub use function::generated_function;
+pub use law::generated_functions_are_valid;

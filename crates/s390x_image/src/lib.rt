@@ -1,14 +1,15 @@
 //! The image: finished code at a base address, with its relocations filled.
 #![tactic(auto)]
 
-pub mod error;
+mod error;
 mod fields;
-pub mod image;
-pub mod law;
-pub mod linking;
-pub mod symbols;
+mod image;
+mod law;
+mod linking;
+mod symbols;
 
 pub use error::LinkError;
 pub use image::Image;
+pub use law::{absolute_fields_read_back, fields_stand, relative_distances_lead, relative_fields_read_back};
 pub use linking::link;
 pub use symbols::SymbolTable;

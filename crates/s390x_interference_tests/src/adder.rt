@@ -2,10 +2,7 @@
 use s390x_image::SymbolTable;
 use s390x_inst::{EmitInfo, EmitState, IsaFlags};
 use s390x_interference::{adding_function, emit_guarded_image};
-use s390x_machine::flat::FlatMemory;
-use s390x_machine::machine::Machine;
-use s390x_machine::memory::Memory;
-use s390x_machine::step::StepEnd;
+use s390x_machine::{FlatMemory, Machine, Memory, StepEnd};
 use s390x_schedule::{ScheduleEnd, run_schedule};
 use std::alloc::Global;
 use std::test::Fail;

@@ -6,7 +6,7 @@ ghost use Rattle.s390x_fields.specs.Fields.{FNatural, FOption};
 ghost use Rattle.s390x_lines.specs.Line.{spelled};
 ghost use Rattle.s390x_job.specs.Items.{flags_line, frame_line};
 
-use s390x_fields::part::Part;
+use s390x_fields::Part;
 use s390x_inst::{CallConv, FrameLayout, IsaFlags};
 use std::alloc::{AllocError, Global};
 

@@ -10,11 +10,9 @@ use crate::heading::{is_plain_flags, is_plain_frame};
 use crate::job::{Job, MemLine, StartRegs, SymbolLine};
 use crate::print_line::put_frame_line;
 use s390x_base::{ConstantData, NoMemory};
-use s390x_fields::parts::{GeneralStart, VectorStart};
+use s390x_fields::{GeneralStart, VectorStart};
 use s390x_inst::{Block, CallConv, FrameLayout, Inst, IsaFlags, MachInstEmitState};
-use s390x_lines::name::LineName;
-use s390x_lines::print::put_inst;
-use s390x_lines::put_line::{line0, line1, line2};
+use s390x_lines::{LineName, line0, line1, line2, put_inst};
 use s390x_words::number::put;
 use std::alloc::{AllocError, Global};
 

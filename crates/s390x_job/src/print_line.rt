@@ -6,9 +6,7 @@ ghost use Rattle.s390x_job.specs.Items.{item_line, frame_line};
 use crate::heading::put_frame;
 use crate::item::Item;
 use s390x_inst::{CallConv, FrameLayout};
-use s390x_lines::name::LineName;
-use s390x_lines::print::put_inst;
-use s390x_lines::put_line::{line0, line1, line2};
+use s390x_lines::{LineName, line0, line1, line2, put_inst};
 use std::alloc::{AllocError, Global};
 
 /// Appends a line `frame`, without the line feed.

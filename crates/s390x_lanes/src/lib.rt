@@ -2,17 +2,23 @@
 #![tactic(auto)]
 
 mod binary;
-pub mod ends;
-pub mod lane;
-pub mod lookup;
+mod ends;
+mod lane;
+mod lookup;
 mod number;
-pub mod opcodes;
-pub mod operation;
+mod opcodes;
+mod operation;
 mod places;
 mod products;
-pub mod results;
-pub mod size;
-pub mod step;
+mod results;
+mod size;
+mod step;
 mod unary;
 
+pub use ends::{code, divides_by_zero, division_overflows};
+pub use lane::{append, element};
+pub use lookup::{computes, operation, size_from};
+pub use operation::{ShiftOperator, Signedness, VectorOperation};
+pub use results::result;
+pub use size::ElementSize;
 pub use step::{LaneEnd, lane_step};

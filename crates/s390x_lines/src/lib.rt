@@ -1,16 +1,27 @@
 //! The lines of instructions: their names, their printer and their reader.
 #![tactic(auto)]
 
-pub mod all_names;
-pub mod inst_name;
-pub mod law;
-pub mod load_names;
-pub mod name;
-pub mod print;
-pub mod print_call;
-pub mod print_vector;
-pub mod put_line;
-pub mod read_control;
-pub mod read_integer;
-pub mod read_memory;
-pub mod read_vector;
+mod all_names;
+mod inst_name;
+mod law;
+mod load_names;
+mod name;
+mod print;
+mod print_call;
+mod print_vector;
+mod put_line;
+mod read_control;
+mod read_integer;
+mod read_memory;
+mod read_vector;
+
+pub use inst_name::{ControlName, IntegerName, MemoryName};
+pub use law::lines_tell_instructions;
+pub use load_names::LOAD_NAMES;
+pub use name::{LineName, find_name};
+pub use print::put_inst;
+pub use put_line::{line0, line1, line2};
+pub use read_control::control;
+pub use read_integer::integer;
+pub use read_memory::{load, memory};
+pub use read_vector::vector;

@@ -10,7 +10,7 @@ use crate::inst_name::ControlName;
 use crate::name::LineName::Control;
 use crate::put_line::{line3, line5};
 use s390x_base::{Reg, Writable};
-use s390x_fields::part::Part;
+use s390x_fields::Part;
 use s390x_inst::{CallInfo, CallInstDest, Inst, ReturnCallInfo};
 use std::alloc::{AllocError, Global};
 

@@ -5,8 +5,7 @@ ghost use Rattle.s390x_typed_steps.specs.Traps.{first_code as first_code_of};
 ghost use Rattle.s390x_machine.specs.Codes.{code_offset, trap_code_at};
 
 use s390x_base::TrapCode;
-use s390x_buffer::MachBufferFinalized;
-use s390x_buffer::entries::TrapEntry;
+use s390x_buffer::{MachBufferFinalized, TrapEntry};
 use s390x_format::fetch_length;
 use s390x_operations::StopKind;
 

@@ -10,9 +10,8 @@ ghost use Rattle.s390x_machine.specs.Sound.{AreGeneral, ShiftFits};
 use crate::machine::Machine;
 use crate::semantics::{Action, OperandSource, SecondOperand};
 use s390x_format::Fields;
-use s390x_lanes::operation::Signedness;
-use s390x_operations::signed::low;
-use s390x_operations::{CodeRule, Effect, Operand, Operation, Size, Source, Width};
+use s390x_lanes::Signedness;
+use s390x_operations::{CodeRule, Effect, Operand, Operation, Size, Source, Width, low};
 
 /// The part of a register that a size names.
 pub fn value_in(machine: &Machine, size: Size, register: u8) -> u64

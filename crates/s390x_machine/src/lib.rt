@@ -1,20 +1,30 @@
 //! The machine, the typed steps, and the law that ties them: what a machine does that fetches the code is what the typed steps allow.
 #![tactic(auto)]
 
-pub mod access;
-pub mod action;
-pub mod codes;
-pub mod fetch;
-pub mod field_values;
-pub mod flat;
-pub mod law;
-pub mod machine;
-pub mod memory;
-pub mod perform;
-pub mod register_action;
-pub mod registers;
-pub mod semantics;
-pub mod step;
-pub mod storage_action;
-pub mod value_step;
-pub mod vector_action;
+mod access;
+mod action;
+mod codes;
+mod fetch;
+mod field_values;
+mod flat;
+mod law;
+mod machine;
+mod memory;
+mod perform;
+mod register_action;
+mod registers;
+mod semantics;
+mod step;
+mod storage_action;
+mod value_step;
+mod vector_action;
+
+pub use action::action;
+pub use codes::code_at;
+pub use fetch::{fetch, fetch_row};
+pub use flat::FlatMemory;
+pub use law::{a_constant_is_loaded, a_loop_runs, access_takes_its_operand, checked_steps_are_valid, code_is_placed, each_row_has_semantics, each_step, each_step_anywhere, each_step_tells, every_block_run, every_return_run, every_run, folded_steps_are_valid, helpers_keep_the_address, helpers_where_needed, one_instruction, operands_are_addressable, relative_accesses_are_aligned, relative_accesses_never_misalign, relative_rows_access_their_bytes};
+pub use machine::Machine;
+pub use memory::Memory;
+pub use semantics::ROW_SEMANTICS;
+pub use step::StepEnd;

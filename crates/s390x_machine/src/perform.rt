@@ -15,15 +15,8 @@ ghost use Rattle.s390x_machine.specs.Step.{ExecutesOperation};
 use crate::access::{access_fault, found, load, load_wide, size_in_bytes, store, store_multiple};
 use crate::machine::Machine;
 use crate::memory::Memory;
-use s390x_arithmetic::bits::leftmost;
-use s390x_arithmetic::bytes::{bytes, extended};
-use s390x_arithmetic::operate::{operate, ordered};
-use s390x_arithmetic::unsigned::{
-    compared, signed_division, unsigned_division, whole, wide_product,
-};
-use s390x_arithmetic::vectors::{layout_bytes, loaded, vector_stored};
-use s390x_lanes::ends::{code, divides_by_zero, division_overflows};
-use s390x_lanes::results::result;
+use s390x_arithmetic::{bytes, compared, extended, layout_bytes, leftmost, loaded, operate, ordered, signed_division, unsigned_division, vector_stored, whole, wide_product};
+use s390x_lanes::{code, divides_by_zero, division_overflows, result};
 use s390x_operations::{
     CodeRule, ConditionCode, Effect, Operand, Operation, Pair, Size, Source, StopKind,
     VectorLayout, Width,

@@ -1,8 +1,7 @@
 //! The semantics of each machine row: a column beside the decoder's table, keyed by opcode
 //! (Principles of Operation, chapter 7, "General instructions", and chapters 21 and 22 on vectors).
 
-use s390x_lanes::operation::{ShiftOperator, Signedness};
-use s390x_lanes::size::ElementSize;
+use s390x_lanes::{ElementSize, ShiftOperator, Signedness};
 use s390x_operations::{
     BitOperator, CodeRule, LogicalOperator, Operation, Operator, SelectedBitsOperator,
     SignedOperator, Size, Width,

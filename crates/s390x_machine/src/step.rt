@@ -19,10 +19,8 @@ use crate::perform::{is_selected, perform};
 use crate::semantics::{Action, OpcodeSemantics, ROW_SEMANTICS, RowSemantics};
 use crate::value_step::value_step;
 use crate::vector_action::shift_amount;
-use s390x_format::kind::length;
-use s390x_format::{Decoded, Fields, Located};
-use s390x_lanes::lookup::{computes, operation};
-use s390x_lanes::operation::VectorOperation;
+use s390x_format::{Decoded, Fields, Located, length};
+use s390x_lanes::{VectorOperation, computes, operation};
 use s390x_operations::{Source, StopKind};
 
 /// How a step ends.

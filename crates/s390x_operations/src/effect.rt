@@ -3,8 +3,7 @@
 use crate::operand::{Operand, Source};
 use crate::operator::Operator;
 use crate::size::{Size, Width};
-use s390x_lanes::operation::{Signedness, VectorOperation};
-use s390x_lanes::size::ElementSize;
+use s390x_lanes::{ElementSize, Signedness, VectorOperation};
 
 /// How the elements of a vector lie in memory.
 #[derive(Clone, Copy)]

@@ -1,7 +1,7 @@
 //! Operands, with their values or addresses.
 
 use crate::size::Width;
-use s390x_lanes::operation::Signedness;
+use s390x_lanes::Signedness;
 
 /// Where an operand's bits are.
 #[derive(Clone, Copy)]

@@ -1,6 +1,6 @@
 //! Operators on two numbers (Principles of Operation, chapter 7, "General instructions").
 
-use s390x_lanes::operation::ShiftOperator;
+use s390x_lanes::ShiftOperator;
 
 /// An operator on signed numbers. `Negate` and `Absolute` read the second operand alone.
 #[derive(Clone, Copy)]

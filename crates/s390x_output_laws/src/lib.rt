@@ -1,4 +1,6 @@
 //! That an instruction with an allocator's registers changes only what it reported.
 #![tactic(auto)]
 
-pub mod law;
+mod law;
+
+pub use law::{only_outputs_change, some_are_meant};

@@ -6,8 +6,7 @@ ghost use Rattle.s390x_format.specs.declared.decoder.Decoded.{Decoded};
 ghost use Rattle.s390x_page.specs.Instructions.{Begins, Describes};
 
 use crate::format_number::format_number;
-use s390x_format::kind::length;
-use s390x_format::{FormatKind, Located, locate};
+use s390x_format::{FormatKind, Located, length, locate};
 
 /// An instruction as the page sees it. What its format lacks is 0.
 #[repr(C)]

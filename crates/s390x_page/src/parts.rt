@@ -5,9 +5,7 @@ ghost use Rattle.s390x_format.specs.Formats.{layout_of};
 ghost use Rattle.s390x_format.specs.declared.decoder.Decoded.{Decoded};
 ghost use Rattle.s390x_page.specs.Instructions.{HasPart, IsPart};
 
-use s390x_format::decode;
-use s390x_format::kind::layout;
-use s390x_format::layout::Part;
+use s390x_format::{Part, decode, layout};
 
 /// Some neighbouring bits of an instruction: `width` bits of the value in `slot`, from its bit `low` on, where bit 0 is the
 /// least significant one. Slot 0 is the opcode's, 1 to 4 are registers', 5 to 7 masks', 8 is the immediate's, 9 the

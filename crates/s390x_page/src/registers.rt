@@ -5,7 +5,7 @@ ghost use Rattle.s390x_machine.specs.State.{registers_of};
 ghost use Rattle.s390x_page.specs.Stepping.{registers_in};
 
 use crate::halves::{high_halves, joined, low_halves};
-use s390x_machine::machine::Machine;
+use s390x_machine::Machine;
 
 /// The registers of a machine.
 #[repr(C)]

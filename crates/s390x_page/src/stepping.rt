@@ -5,7 +5,7 @@ ghost use Rattle.s390x_page.specs.Stepping.{end_numbered, number_of_end, state_i
 
 use crate::registers::{Registers, machine_of, registers_after};
 use crate::storage::Storage;
-use s390x_machine::step::StepEnd;
+use s390x_machine::StepEnd;
 use s390x_operations::StopKind;
 
 /// A step of the machine with these registers and this storage, in place.

@@ -4,7 +4,7 @@ ghost use Rattle.s390x_operations.specs.State.{reaches};
 ghost use Rattle.s390x_machine.specs.State.{AreBytes};
 ghost use Rattle.s390x_page.specs.Stepping.{byte_of, is_held};
 
-use s390x_machine::memory::Memory;
+use s390x_machine::Memory;
 
 /// Bytes at the addresses from `start` on. No other address is accessible.
 #[repr(C)]

@@ -3,7 +3,7 @@ ghost use Rattle.std.specs.Prelude.{◌≡◌, ◌++◌, IfOk, OnOk, map};
 ghost use Rattle.s390x_job.specs.Completions.{joined};
 ghost use Rattle.s390x_plan_text.specs.Completions.{has_line, job_ending, line_ending, plan_completion};
 
-use s390x_job::completing::{count_closes, count_opens, put, put_closing, put_joined};
+use s390x_job::{count_closes, count_opens, put, put_closing, put_joined};
 use std::alloc::{AllocError, Global};
 
 fn has_line(line: &[u8], ws: &[&[u8]]) -> bool

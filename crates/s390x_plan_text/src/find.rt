@@ -8,8 +8,8 @@ use crate::line::read_line;
 use crate::planned_job::PlannedJob;
 use crate::progress::{Progress, follow};
 use s390x_alloc::Plan;
-use s390x_bundle_text::cut::{count_lines, job_size, read_job};
-use s390x_job::completing::split_lines;
+use s390x_bundle_text::{count_lines, job_size, read_job};
+use s390x_job::split_lines;
 use std::alloc::{AllocError, Global};
 
 /// What the lines behind a job are: a plan, or a number of them that no plan goes past.

@@ -1,15 +1,19 @@
 //! The text of a job with a plan of its registers: its exact reader.
 #![tactic(auto)]
 
-pub mod complete;
-pub mod error;
-pub mod find;
-pub mod law;
-pub mod line;
-pub mod planned_job;
-pub mod progress;
-pub mod reader;
+mod complete;
+mod error;
+mod find;
+mod law;
+mod line;
+mod planned_job;
+mod progress;
+mod reader;
 
+pub use complete::complete;
 pub use error::PlanTextError;
+pub use find::{find_plan, find_planned};
+pub use law::{no_blocks_are_text, some_lines_are_text};
+pub use line::read_line;
 pub use planned_job::PlannedJob;
 pub use reader::read_plan;

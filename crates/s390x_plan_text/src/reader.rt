@@ -8,7 +8,7 @@ use crate::complete::complete;
 use crate::error::PlanTextError;
 use crate::find::{Found, find_planned};
 use crate::planned_job::PlannedJob;
-use s390x_job::completing::{Completes, first_wrong};
+use s390x_job::{Completes, first_wrong};
 use std::alloc::{AllocError, Global};
 
 /// The text of a planned job.

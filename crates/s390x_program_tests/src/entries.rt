@@ -4,7 +4,7 @@ use s390x_base::{ExternalName, Reloc, TrapCode};
 use s390x_buffer::{
     HandlerEntry, MachBufferFinalized, MapEntry, PatchEntry, RelocEntry, TrapEntry, TryEntry,
 };
-use s390x_tool::emitted::emitted_text;
+use s390x_tool::emitted_text;
 use std::alloc::Global;
 use std::test::Fail;
 

@@ -10,7 +10,7 @@ use crate::members::{Checked, Scope, path_among};
 use crate::position::Position;
 use s390x_base::{EmitError, NoMemory};
 use s390x_buffer::MachBuffer;
-use s390x_emit_int::check::{Totals, check_block};
+use s390x_emit_int::{Totals, check_block};
 use s390x_inst::{AllocatedFunction, Block, EmitState, IsaFlags};
 use std::alloc::Global;
 

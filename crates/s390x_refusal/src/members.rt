@@ -7,8 +7,7 @@ ghost use Rattle.s390x_refusal.specs.Search.{IsChecked, IsFirstMember, IsPathAmo
 
 use s390x_base::{EmitError, NoMemory};
 use s390x_buffer::MachBuffer;
-use s390x_emit_int::check::{Totals, check_inst, open_loop};
-use s390x_emit_int::stack::{advance, mark_safepoint};
+use s390x_emit_int::{Totals, advance, check_inst, mark_safepoint, open_loop};
 use s390x_inst::{EmitState, Inst, IsaFlags};
 use std::alloc::Global;
 

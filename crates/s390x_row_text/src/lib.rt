@@ -1,26 +1,35 @@
 //! The text of an instruction that is neither a loop nor a call: a row's mnemonic and its operands.
 #![tactic(auto)]
 
-pub mod arithmetic;
-pub mod compare;
-pub mod control;
-pub mod error;
-pub mod law;
-pub mod memory;
-pub mod mnemonics;
-pub mod moves;
-pub mod operand;
-pub mod regs;
-pub mod row;
-pub mod simple;
-pub mod storage;
-pub mod table;
-pub mod vector;
-pub mod vector_memory;
-pub mod vector_mnemonics;
+mod arithmetic;
+mod compare;
+mod control;
+mod error;
+mod law;
+mod memory;
+mod mnemonics;
+mod moves;
+mod operand;
+mod regs;
+mod row;
+mod simple;
+mod storage;
+mod table;
+mod vector;
+mod vector_memory;
+mod vector_mnemonics;
 
+pub use arithmetic::{put_arithmetic, put_pair_instruction};
+pub use compare::put_compare;
+pub use control::put_control;
 pub use error::TextError;
-pub use regs::{
-    maybe_show_fpr, pretty_print_fpr, pretty_print_reg, pretty_print_reg_mod, pretty_print_regpair,
-    pretty_print_regpair_mod, pretty_print_regpair_mod_lo, show_reg,
-};
+pub use law::rows_in_order;
+pub use memory::{put_load, put_storage_operator, put_store};
+pub use moves::put_move;
+pub use operand::{Operand, cond_name};
+pub use regs::{alone, maybe_show_fpr, pretty_print_fpr, pretty_print_reg, pretty_print_reg_mod, pretty_print_regpair, pretty_print_regpair_mod, pretty_print_regpair_mod_lo, show_reg};
+pub use row::{spelled1, spelled2};
+pub use simple::put_simple;
+pub use storage::is_virtual;
+pub use vector::{put_vec_lane, put_vec_move, put_vec_operator};
+pub use vector_memory::{put_vec_part, put_vec_whole};

@@ -4,9 +4,7 @@ ghost use Rattle.s390x_machine.specs.State.{memory_of};
 ghost use Rattle.s390x_machine.specs.Step.{Steps};
 ghost use Rattle.s390x_schedule.specs.Schedule.{EndsAs, NameMachines, after_step, view, world_of};
 
-use s390x_machine::machine::Machine;
-use s390x_machine::memory::Memory;
-use s390x_machine::step::StepEnd;
+use s390x_machine::{Machine, Memory, StepEnd};
 use s390x_operations::StopKind;
 
 /// How the steps of a schedule end.

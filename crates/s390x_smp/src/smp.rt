@@ -10,9 +10,7 @@ ghost use Rattle.s390x_smp.specs.Stores.{has_stored};
 
 use crate::error::SmpError;
 use s390x_base::NoMemory;
-use s390x_machine::flat::FlatMemory;
-use s390x_machine::machine::Machine;
-use s390x_machine::memory::Memory;
+use s390x_machine::{FlatMemory, Machine, Memory};
 use s390x_operations::ConditionCode;
 use s390x_schedule::{ScheduleEnd, run_schedule};
 use std::alloc::{AllocError, Global};

@@ -1,8 +1,8 @@
 //! A simulation of several processors, as text.
 #![tactic(auto)]
 
-pub mod drawn;
-pub mod report;
+mod drawn;
+mod report;
 
 pub use drawn::drawn_schedule;
 pub use report::simulated;

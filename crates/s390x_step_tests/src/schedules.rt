@@ -1,9 +1,7 @@
 //! Two processors that add to one word, each by a retry loop, under schedules of their steps.
 
 use s390x_base::NoMemory;
-use s390x_machine::flat::FlatMemory;
-use s390x_machine::machine::Machine;
-use s390x_machine::memory::Memory;
+use s390x_machine::{FlatMemory, Machine, Memory};
 use s390x_operations::StopKind;
 use s390x_schedule::{ScheduleEnd, run_schedule};
 use std::alloc::{AllocError, Global};

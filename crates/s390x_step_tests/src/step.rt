@@ -1,10 +1,7 @@
 //! One step of a machine with known registers and memory.
 
 use s390x_base::NoMemory;
-use s390x_machine::flat::FlatMemory;
-use s390x_machine::machine::Machine;
-use s390x_machine::memory::Memory;
-use s390x_machine::step::StepEnd;
+use s390x_machine::{FlatMemory, Machine, Memory, StepEnd};
 use s390x_operations::ConditionCode;
 use std::alloc::Global;
 

@@ -2,10 +2,7 @@
 
 use crate::step::{Code, PLACE, codes, length, machine_with};
 use s390x_base::NoMemory;
-use s390x_machine::flat::FlatMemory;
-use s390x_machine::machine::Machine;
-use s390x_machine::memory::Memory;
-use s390x_machine::step::StepEnd;
+use s390x_machine::{FlatMemory, Machine, Memory, StepEnd};
 use s390x_operations::ConditionCode;
 use std::alloc::Global;
 

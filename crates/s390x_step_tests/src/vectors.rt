@@ -4,7 +4,7 @@
 use crate::step::{Code, PLACE};
 use crate::vector_step::{ALL, FIRST, SECOND, VectorStep, ends, ends_with, holds};
 use s390x_base::NoMemory;
-use s390x_machine::step::StepEnd;
+use s390x_machine::StepEnd;
 use s390x_operations::StopKind;
 use std::alloc::Global;
 use std::test::Fail;

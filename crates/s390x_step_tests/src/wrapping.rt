@@ -3,9 +3,7 @@
 use crate::step::PLACE;
 use crate::vector_step::sixteen_bytes;
 use s390x_base::NoMemory;
-use s390x_machine::flat::FlatMemory;
-use s390x_machine::machine::Machine;
-use s390x_machine::step::StepEnd;
+use s390x_machine::{FlatMemory, Machine, StepEnd};
 use std::alloc::Global;
 use std::test::Fail;
 

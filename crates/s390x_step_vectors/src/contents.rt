@@ -2,9 +2,7 @@
 
 use crate::region::Region;
 use s390x_base::NoMemory;
-use s390x_machine::flat::FlatMemory;
-use s390x_machine::machine::Machine;
-use s390x_machine::memory::Memory;
+use s390x_machine::{FlatMemory, Machine, Memory};
 use std::alloc::{AllocError, Global};
 
 /// What registers and memory hold. A byte of several regions is that of the last one.

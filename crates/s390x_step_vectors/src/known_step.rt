@@ -2,7 +2,7 @@
 
 use crate::contents::Contents;
 use s390x_base::NoMemory;
-use s390x_machine::step::StepEnd;
+use s390x_machine::StepEnd;
 use std::alloc::Global;
 
 /// A step of the machine that goes, and what registers and memory hold before and after it.

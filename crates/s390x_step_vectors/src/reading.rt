@@ -7,7 +7,7 @@ use crate::contents::Contents;
 use crate::known_step::KnownStep;
 use crate::region::Region;
 use s390x_judging::LineError;
-use s390x_machine::machine::Machine;
+use s390x_machine::Machine;
 use s390x_words::bytes::{bytes, hex_number};
 use s390x_words::marks::{after_word, back, front, word};
 use s390x_words::number::{first, natural, tail};

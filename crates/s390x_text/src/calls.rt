@@ -11,10 +11,7 @@ use s390x_inst::{
     CallInfo, CallInstDest, CallRetPair, EmitState, Inst, MachInstEmitState, MemArg, RetLocation,
     ReturnCallInfo, TryCallHandler, TryCallInfo, gen_tail_epilogue,
 };
-use s390x_row_text::error::TextError;
-use s390x_row_text::operand::Operand;
-use s390x_row_text::row::{spelled1, spelled2};
-use s390x_row_text::simple::put_simple;
+use s390x_row_text::{Operand, TextError, put_simple, spelled1, spelled2};
 use s390x_words::number::{put, put_natural};
 use std::alloc::{AllocError, Global};
 

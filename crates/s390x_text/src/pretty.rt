@@ -7,9 +7,7 @@ ghost use Rattle.s390x_text.specs.Instructions.{leaf_text, leaf_after, after, in
 use crate::calls::put_call;
 use s390x_base::Cond;
 use s390x_inst::{EmitInfo, EmitState, Inst, IsaFlags};
-use s390x_row_text::error::TextError;
-use s390x_row_text::operand::cond_name;
-use s390x_row_text::simple::put_simple;
+use s390x_row_text::{TextError, cond_name, put_simple};
 use s390x_words::number::put;
 use std::alloc::{AllocError, Global};
 

@@ -7,10 +7,7 @@ ghost use Rattle.s390x_row_text.specs.Storage.{operand_alone};
 
 use s390x_base::{Cond, SImm20, UImm12, UImm16Shifted, UImm32Shifted};
 use s390x_inst::MemArg;
-use s390x_row_text::error::TextError;
-use s390x_row_text::operand::cond_name;
-use s390x_row_text::regs::alone;
-use s390x_row_text::storage::is_virtual;
+use s390x_row_text::{TextError, alone, cond_name, is_virtual};
 use std::alloc::Global;
 
 /// A value that has a text.

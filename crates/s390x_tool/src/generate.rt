@@ -8,7 +8,7 @@ ghost use Rattle.s390x_tool.specs.Lines.{IsMade};
 use crate::reply::{Reply, link_refused, made, no_memory, refused};
 use crate::status::Status;
 use s390x_emit_int::{ImageError, emit_image};
-use s390x_generator::{byte_sum, generated_function, law};
+use s390x_generator::{byte_sum, generated_function, generated_functions_are_valid};
 use s390x_image::SymbolTable;
 use s390x_inst::{AllocatedFunction, EmitInfo, EmitState, IsaFlags};
 use std::alloc::Global;
@@ -33,7 +33,7 @@ fn image_told(alloc: Global, count: u32, start: u32, function: &AllocatedFunctio
     requires generated { IsGenerated count start function.now }
     ensures { IsGenerateReply count start result.status (cow_str_bytes result.text) }
 {
-    law::generated_functions_are_valid();
+    generated_functions_are_valid();
     let info = EmitInfo::new(IsaFlags::default());
     let symbols = SymbolTable::new(alloc);
     match emit_image(alloc, function, &info, EmitState::default(), BASE, &symbols) {
