@@ -266,7 +266,8 @@ pub fn mem_rs_emit(
     emit_marking(&found, sink, state)
 }
 
-/// Emits a row of format SI or SIY with an immediate of 8 bits and an operand, as `mem_emit` does; there is no index and no relative form.
+/// Emits a row of format SI or SIY with an immediate of 8 bits and an operand, as `mem_emit` does; there is no index
+/// and no relative form. Errors come as there.
 pub fn mem_imm8_emit(
     _alloc: Global,
     imm: u8,
@@ -299,8 +300,8 @@ pub fn mem_imm8_emit(
     emit_marking(&found, sink, state)
 }
 
-/// Emits a row of format SIL with an immediate of 16 bits and an operand, as `mem_emit` does; there are 12 bits of displacement alone, no index and
-/// no relative form.
+/// Emits a row of format SIL with an immediate of 16 bits and an operand, as `mem_emit` does; there are 12 bits of
+/// displacement alone, no index and no relative form. Errors come as there.
 pub fn mem_imm16_emit(
     _alloc: Global,
     imm: i16,
@@ -330,8 +331,8 @@ pub fn mem_imm16_emit(
     emit_marking(&found, sink, state)
 }
 
-/// Emits a row of format VRX with a vector register, an operand and a mask, as `mem_emit` does; there are 12 bits of displacement alone, with an
-/// index, and no relative form.
+/// Emits a row of format VRX with a vector register, an operand and a mask, as `mem_emit` does; there are 12 bits of
+/// displacement alone, with an index, and no relative form. Errors come as there.
 #[tactic(auto, using(crate::proofs::Encoding::vector_encodes))]
 pub fn mem_vrx_emit(
     _alloc: Global,
@@ -372,7 +373,8 @@ fn float(r: &Reg) -> bool
     vector(r) && number(r) < 16
 }
 
-/// Emits a row of format RX or RXY with a float register and an operand, as `mem_emit` does; there is no relative form.
+/// Emits a row of format RX or RXY with a float register and an operand, as `mem_emit` does; there is no relative
+/// form. Errors come as there.
 #[tactic(auto, using(crate::proofs::Encoding::float_register_encodes))]
 pub fn mem_float_emit(
     _alloc: Global,

@@ -287,7 +287,8 @@ impl MemoryInst {
         other
     }
 
-    /// The same by its other rows, before which the operand's address is loaded: where it accesses an operand that is relative to it, and has a row for that.
+    /// The instruction by its other rows, before which the operand's address is loaded: where it accesses an operand
+    /// that is relative to it, and has a row for that. None elsewhere.
     #[tactic(auto, using(crate::proofs::Loading::loaded_encodes))]
     pub fn loaded(&self) -> Option<MemoryInst>
         requires { may_encode self.now ≡ true }

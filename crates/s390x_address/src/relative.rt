@@ -97,7 +97,8 @@ pub fn addend_fits(operand: &MemArg) -> bool
     }
 }
 
-// A trap at what follows, where its faults have a code.
+/// A trap at what follows, where its faults have a code. An error comes where the buffer has no room (`TooLong`) or
+/// for want of memory.
 pub fn put_trap(sink: &mut MachBuffer, trap_code: Option<TrapCode>) -> Result<(), EmitError>
     ensures answer { OnOk result (sink.new ≡ appended sink.old (trap_here trap_code)) }
     ensures lacks { put_cause sink.old 0 ≡ None → IfErr result (λ e. e ≡ NoMemory) }
@@ -219,7 +220,10 @@ fn put_trapping_row(
     put_row(sink, opcode, register, operand)
 }
 
-/// The access of an operand that is relative to it, with the trap of its faults, where there is a row for it.
+/// The access of an operand that is relative to it, with the trap of its faults, where there is a row for it. An
+/// error comes where a register doesn't fit (`BadRegister`), where the operand names a label or constant that isn't
+/// there (`UnboundLabel`), where the buffer is poisoned (`Failed`), where its code gets too long for an offset
+/// (`LabelOutOfRange`), or for want of memory (`NoMemory`).
 pub fn put_relative(
     sink: &mut MachBuffer,
     rows: &StorageRows,

@@ -72,12 +72,14 @@ pub fn symbol(offset: i32, flags: MachMemFlags) -> MemArg {
     }
 }
 
+/// An operand at a label.
 pub fn label(number: u32) -> MemArg {
     MemArg::Label {
         target: MachLabel(number),
     }
 }
 
+/// An operand that is a constant.
 pub fn constant(number: u32) -> MemArg {
     MemArg::Constant {
         constant: VCodeConstant(number),
@@ -123,7 +125,7 @@ pub enum Access {
     LoadFloat64(Reg),
 }
 
-/// Emits a load of eight bytes for a machine without relative loads.
+/// Emits a load of eight bytes for a machine without relative loads. An error comes as from `emit`.
 pub fn put_load_by_address(to: &mut Target, rd: Reg, mem: &MemArg) -> Result<(), EmitError> {
     let info = EmitInfo::new(IsaFlags {
         has_mie3: false,
@@ -267,7 +269,7 @@ fn float(to: &mut Target, rd: Reg, mem: &MemArg) -> Result<(), EmitError> {
     )
 }
 
-/// Emits an instruction at an operand.
+/// Emits an instruction at an operand. An error comes as from `emit`.
 pub fn put(to: &mut Target, access: Access, mem: &MemArg) -> Result<(), EmitError> {
     match access {
         Access::Load32(r) => one(to, r, mem, Some(0x58), Some(0xe358), Some(0xc4d), true),

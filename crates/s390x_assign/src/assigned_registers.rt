@@ -38,7 +38,7 @@ impl<'a> AssignedRegisters<'a> {
         }
     }
 
-    /// The same of a register that is written.
+    /// A register that is written: the next one in place of a virtual register; a real one stays.
     pub fn output(&mut self, reg: Writable<Reg>) -> Writable<Reg>
         ensures value { result ≡ register_at reg self.old.left.now }
         ensures left { self.new.left.now ≡ after reg self.old.left.now }

@@ -101,7 +101,7 @@ impl SImm20 {
         }
     }
 
-    /// The same value as a signed displacement.
+    /// A displacement without a sign as one with a sign, of the same value in bytes.
     pub fn from_uimm12(value: UImm12) -> SImm20
         ensures { result ≡ pos value }
     {
@@ -185,7 +185,7 @@ impl UImm16Shifted {
         }
     }
 
-    /// The same shift, every bit of `bits` inverted.
+    /// The immediate with every bit of `bits` inverted, at the same shift.
     pub fn negate_bits(&self) -> UImm16Shifted
         ensures { result ≡ record { bits = 65535 - self.now.bits; shift = self.now.shift } }
     {
@@ -239,7 +239,7 @@ impl UImm32Shifted {
         }
     }
 
-    /// The same shift, every bit of `bits` inverted.
+    /// The immediate with every bit of `bits` inverted, at the same shift.
     pub fn negate_bits(&self) -> UImm32Shifted
         ensures { result ≡ record { bits = 4294967295 - self.now.bits; shift = self.now.shift } }
     {

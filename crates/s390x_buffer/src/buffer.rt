@@ -268,7 +268,8 @@ impl MachBuffer {
         !self.failed && len < LIMIT - LONGEST_CODE && self.bytes.capacity() - len >= LONGEST_CODE
     }
 
-    /// Records a trap at the current offset.
+    /// Records a trap at the current offset. `Failed` comes where the buffer is poisoned, `NoMemory` for want of
+    /// memory.
     pub fn add_trap(&mut self, code: TrapCode) -> Result<(), EmitError>
         ensures answer { MatchResult result (λ _. (mark_cause self.old ≡ None) × (self.new ≡ record self.old { traps = self.old.traps ++ record { offset = length self.old.bytes; code = code } ∷ [] })) (λ e. FailsWith (mark_cause self.old) e × (self.new ≡ poisoned self.old)) }
         ensures kept { Extends self.old self.new }
@@ -283,7 +284,8 @@ impl MachBuffer {
         }
     }
 
-    /// Records a relocation at the current offset.
+    /// Records a relocation at the current offset. `Failed` comes where the buffer is poisoned, `NoMemory` for want
+    /// of memory.
     pub fn add_reloc(
         &mut self,
         kind: Reloc,
@@ -297,7 +299,7 @@ impl MachBuffer {
         self.add_reloc_at_offset(offset, kind, name, addend)
     }
 
-    /// Records a relocation at an offset.
+    /// Records a relocation at an offset. `Failed` comes where the buffer is poisoned, `NoMemory` for want of memory.
     pub fn add_reloc_at_offset(
         &mut self,
         offset: CodeOffset,
@@ -414,7 +416,8 @@ impl MachBuffer {
         }
     }
 
-    /// Records a call's site at the current offset.
+    /// Records a call's site at the current offset. `Failed` comes where the buffer is poisoned, `NoMemory` for want
+    /// of memory.
     pub fn add_call_site(&mut self) -> Result<(), EmitError>
         ensures answer { MatchResult result (λ _. (mark_cause self.old ≡ None) × (self.new ≡ record self.old { call_sites = self.old.call_sites ++ length self.old.bytes ∷ [] })) (λ e. FailsWith (mark_cause self.old) e × (self.new ≡ poisoned self.old)) }
         ensures kept { Extends self.old self.new }
@@ -462,7 +465,8 @@ impl MachBuffer {
         Ok(())
     }
 
-    /// Records the site of a patchable call of so many bytes at the current offset.
+    /// Records the site of a patchable call of so many bytes at the current offset. `Failed` comes where the buffer
+    /// is poisoned, `NoMemory` for want of memory.
     pub fn add_patchable_call_site(&mut self, len: u32) -> Result<(), EmitError>
         ensures answer { MatchResult result (λ _. (mark_cause self.old ≡ None) × (self.new ≡ record self.old { patchable_sites = self.old.patchable_sites ++ record { offset = length self.old.bytes; len = len } ∷ [] })) (λ e. FailsWith (mark_cause self.old) e × (self.new ≡ poisoned self.old)) }
         ensures kept { Extends self.old self.new }
@@ -477,7 +481,7 @@ impl MachBuffer {
         }
     }
 
-    /// Records a stack map at an offset.
+    /// Records a stack map at an offset. `Failed` comes where the buffer is poisoned, `NoMemory` for want of memory.
     pub fn push_user_stack_map(&mut self, offset: CodeOffset, map: u32) -> Result<(), EmitError>
         ensures answer { MatchResult result (λ _. (mark_cause self.old ≡ None) × (self.new ≡ record self.old { stack_maps = self.old.stack_maps ++ record { offset = offset; map = map } ∷ [] })) (λ e. FailsWith (mark_cause self.old) e × (self.new ≡ poisoned self.old)) }
         ensures kept { Extends self.old self.new }
@@ -491,7 +495,8 @@ impl MachBuffer {
         }
     }
 
-    /// The current offset is where the next step starts. Forgets all recorded branches.
+    /// The current offset is where the next step starts. Forgets all recorded branches. `Failed` comes where the
+    /// buffer is poisoned, `NoMemory` for want of memory.
     pub fn start_step(&mut self) -> Result<(), EmitError>
         ensures answer { MatchResult result (λ _. (mark_cause self.old ≡ None) × (self.new ≡ record self.old { starts = self.old.starts ++ length self.old.bytes ∷ []; branches = NoBranch })) (λ e. FailsWith (mark_cause self.old) e × (self.new ≡ poisoned self.old)) }
         ensures kept { Extends self.old self.new }
@@ -507,7 +512,8 @@ impl MachBuffer {
         Ok(())
     }
 
-    /// Records the branch of six bytes that is put next, from `start` to `end`, and is always taken.
+    /// Records the branch of six bytes that is put next, from `start` to `end`, and is always taken. `Failed` comes
+    /// where the buffer is poisoned, `NoMemory` for want of memory.
     pub fn add_uncond_branch(
         &mut self,
         start: CodeOffset,
@@ -527,8 +533,9 @@ impl MachBuffer {
         Ok(())
     }
 
-    /// Records the conditional branch of six bytes that is put next, from `start` to `end`.
-    /// `inverted` is the code of the branch on the inverted condition.
+    /// Records the conditional branch of six bytes that is put next, from `start` to `end`. `inverted` is the code of
+    /// the branch on the inverted condition. `Failed` comes where the buffer is poisoned, `NoMemory` for want of
+    /// memory.
     pub fn add_cond_branch(
         &mut self,
         start: CodeOffset,
@@ -551,11 +558,12 @@ impl MachBuffer {
         Ok(())
     }
 
-    /// Ends a block, `next` being the one behind it. Where the branches that are recorded one behind the other
-    /// up to the current offset are one that is always taken, it is cut where it leads to `next`. Where
-    /// they are a conditional one and then one that is always taken, the second one is cut where it
-    /// leads to `next`, and the first one too where both do; where the first one alone does, the branch on the
-    /// inverted condition to the second one's label stands in place of both. A cut branch loses its bytes and its use.
+    /// Ends a block, `next` being the one behind it. Where the branches that are recorded one behind the other up to
+    /// the current offset are one that is always taken, it is cut where it leads to `next`. Where they are a
+    /// conditional one and then one that is always taken, the second one is cut where it leads to `next`, and the
+    /// first one too where both do; where the first one alone does, the branch on the inverted condition to the
+    /// second one's label stands in place of both. A cut branch loses its bytes and its use. `Failed` comes where the
+    /// buffer is poisoned, `NoMemory` for want of memory.
     #[tactic(auto, using(crate::proofs::Ending::keeps_mark, crate::proofs::Ending::keeps_ended))]
     pub fn end_block(&mut self, next: Option<MachLabel>) -> Result<(), EmitError>
         ensures answer { MatchResult result (λ _. (mark_cause self.old ≡ None) × (self.new ≡ ended next self.old)) (λ e. FailsWith (mark_cause self.old) e × (self.new ≡ poisoned self.old)) }

@@ -92,7 +92,8 @@ pub fn bind_starts(labels: &mut [Option<CodeOffset>], first: u32, starts: &[Code
     }
 }
 
-/// Appends the constants, binds their labels and patches the uses; tells where each constant starts.
+/// Appends the constants, binds their labels and patches the uses; tells where each constant starts. An error is the
+/// first use's whose label isn't bound or whose distance doesn't fit, or `NoMemory`.
 pub fn place_and_patch(
     alloc: Global,
     bytes: &mut Vec<u8>,

@@ -104,7 +104,7 @@ fn put_line(
     )
 }
 
-// The line of some bytes at an address.
+/// Appends the line of some bytes at an address. An error comes for want of memory alone.
 pub fn put_full_line(
     alloc: Global,
     out: &mut String,

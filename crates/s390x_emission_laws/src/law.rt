@@ -72,7 +72,8 @@ pub fn emitted_instructions_run_anywhere()
     ensures { (off : ℕ → ℕ) (flags : IsaFlags) (e : Emission) (s : BufferState) (i : Inst) (image : CodeImage) → IsAppended off flags e s i → StandsAlone off flags e s i image → (k : ℕ) (x : Step) → slice_get (function_steps (alone flags e i)) k ≡ Some x → StepHolds (layout_alone off flags e s i image) k }
 {}
 
-/// The same of one instruction's linked code at any even address: each of its steps is one that emission lets pass, and its distances lead to the symbols.
+/// Where one instruction's linked code stands in memory at an even address, the machine's runs from each of its steps
+/// are as that step says; emission lets each step pass, and its distances lead to the symbols.
 pub fn linked_instructions_run_anywhere()
     ensures { (environment : LinkEnvironment) (t : Tree) (image : CodeImage) → StandsAsCode environment (t ∷ []) image → (k : ℕ) (x : Step) → slice_get (function_steps (t ∷ [])) k ≡ Some x → StepHolds (function_layout environment (t ∷ []) image) k }
 {}

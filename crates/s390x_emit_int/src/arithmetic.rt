@@ -17,7 +17,7 @@ use s390x_base::{Code, EmitError, Reg, Writable, gpr};
 use s390x_inst::{ALUOp, CmpOp, UnaryOp};
 use s390x_typed_steps::{bits_of_halfword, bits_of_unsigned};
 
-// The opcode of an operator's row of three operands.
+/// The opcode of an operator's row with an output and two inputs (RRF). None where it has none.
 pub fn three_opcode(op: ALUOp) -> Option<u16>
     ensures { result ≡ alu_three op }
 {
@@ -52,7 +52,7 @@ pub fn three_opcode(op: ALUOp) -> Option<u16>
     }
 }
 
-// The opcode of an operator's row of two operands.
+/// The opcode of an operator's row on two registers (RR or RRE). None where it has none.
 pub fn two_opcode(op: ALUOp) -> Option<u16>
     ensures { result ≡ alu_two op }
 {
@@ -82,6 +82,7 @@ pub fn two_opcode(op: ALUOp) -> Option<u16>
     }
 }
 
+/// The opcode of a comparison of two registers (RR or RRE). None where it has none.
 pub fn compare_opcode(op: CmpOp) -> Option<u16>
     ensures { result ≡ cmp_two op }
 {
@@ -96,6 +97,7 @@ pub fn compare_opcode(op: CmpOp) -> Option<u16>
     }
 }
 
+/// The opcode of an operator on one register (RR or RRE). None where it has none.
 pub fn unary_opcode(op: UnaryOp) -> Option<u16>
     ensures { result ≡ unary_two op }
 {
@@ -114,7 +116,7 @@ pub fn unary_opcode(op: UnaryOp) -> Option<u16>
     }
 }
 
-// The opcodes of an operator's rows with an immediate.
+/// The opcode of an operator's row with a signed immediate of 16 bits (RI). None where it has none.
 pub fn halfword_opcode(op: ALUOp) -> Option<ShortOpcode>
     ensures { option_map opcode_of result ≡ alu_halfword op }
 {
@@ -127,6 +129,8 @@ pub fn halfword_opcode(op: ALUOp) -> Option<ShortOpcode>
     }
 }
 
+/// The opcode of an operator's row with another output and a signed immediate of 16 bits (RIE). None where it has
+/// none.
 pub fn three_halfword_opcode(op: ALUOp) -> Option<u16>
     ensures { result ≡ alu_three_halfword op }
 {
@@ -137,6 +141,7 @@ pub fn three_halfword_opcode(op: ALUOp) -> Option<u16>
     }
 }
 
+/// The opcode of an operator's row with a signed immediate of 32 bits (RIL). None where it has none.
 pub fn signed_word_opcode(op: ALUOp) -> Option<ShortOpcode>
     ensures { option_map opcode_of result ≡ alu_signed_word op }
 {
@@ -149,6 +154,7 @@ pub fn signed_word_opcode(op: ALUOp) -> Option<ShortOpcode>
     }
 }
 
+/// The opcode of an operator's row with an unsigned immediate of 32 bits (RIL). None where it has none.
 pub fn unsigned_word_opcode(op: ALUOp) -> Option<ShortOpcode>
     ensures { option_map opcode_of result ≡ alu_unsigned_word op }
 {
@@ -161,6 +167,7 @@ pub fn unsigned_word_opcode(op: ALUOp) -> Option<ShortOpcode>
     }
 }
 
+/// The opcode of a comparison with a signed immediate of 16 bits (RI). None where it has none.
 pub fn compare_halfword_opcode(op: CmpOp) -> Option<ShortOpcode>
     ensures { option_map opcode_of result ≡ cmp_halfword op }
 {
@@ -171,6 +178,7 @@ pub fn compare_halfword_opcode(op: CmpOp) -> Option<ShortOpcode>
     }
 }
 
+/// The opcode of a comparison with a signed immediate of 32 bits (RIL). None where it has none.
 pub fn compare_signed_word_opcode(op: CmpOp) -> Option<ShortOpcode>
     ensures { option_map opcode_of result ≡ cmp_signed_word op }
 {
@@ -181,6 +189,7 @@ pub fn compare_signed_word_opcode(op: CmpOp) -> Option<ShortOpcode>
     }
 }
 
+/// The opcode of a comparison with an unsigned immediate of 32 bits (RIL). None where it has none.
 pub fn compare_unsigned_word_opcode(op: CmpOp) -> Option<ShortOpcode>
     ensures { option_map opcode_of result ≡ cmp_unsigned_word op }
 {
@@ -201,7 +210,8 @@ fn count_ones(rd: &Writable<Reg>, rn: &Reg, mode: u8) -> Result<Code, EmitError>
     masked(two_general(&output, rn), 0xb9e1, output, *rn, mode)
 }
 
-/// One operand. The count of ones has its mode in a mask.
+/// One operand. The count of ones has its mode in a mask. None where there is no row; `BadRegister` comes where a
+/// register is not general, or an input that has to be the output isn't it.
 #[tactic(auto, using(crate::proofs::Encoding::unary_two_general))]
 pub fn unary_row(op: UnaryOp, rd: &Writable<Reg>, rn: &Reg) -> Option<Result<Code, EmitError>>
     ensures { result ≡ single_code (single_with (is_general rd.now && is_general rn.now) (unary_row op (number_of rd.now) (number_of rn.now))) }
@@ -213,7 +223,8 @@ pub fn unary_row(op: UnaryOp, rd: &Writable<Reg>, rn: &Reg) -> Option<Result<Cod
     }
 }
 
-/// The row of three operands, or that of two where there is one and the first input is the output.
+/// The row of three operands, or that of two where there is one and the first input is the output. None where there
+/// is no row; `BadRegister` comes where a register is not general, or an input that has to be the output isn't it.
 #[tactic(auto, using(crate::proofs::Encoding::alu_two_general))]
 pub fn three_row(
     op: ALUOp,
@@ -243,7 +254,8 @@ fn shorter_code(three: u16, two: u16, rd: &Reg, rn: &Reg, rm: &Reg) -> Result<Co
     }
 }
 
-/// Into another register, or two operands where the input is the output.
+/// Into another register, or two operands where the input is the output. None where there is no row; `BadRegister`
+/// comes where a register is not general, or an input that has to be the output isn't it.
 #[tactic(auto, using(crate::proofs::Encoding::itself))]
 pub fn three_halfword_row(
     op: ALUOp,
@@ -280,7 +292,9 @@ fn shorter_halfword_code(
     }
 }
 
-/// So many bytes are taken from the stack pointer: their number is added with a minus sign where that fits, else it is subtracted.
+/// So many bytes are taken from the stack pointer: their number is added with a minus sign where that fits, else it
+/// is subtracted. None where there is no row; `BadRegister` comes where a register is not general, or an input that
+/// has to be the output isn't it.
 pub fn allocate_row(size: u32) -> Option<Result<Code, EmitError>>
     ensures { result ≡ single_code (single_with true (Some (allocate_row size))) }
 {

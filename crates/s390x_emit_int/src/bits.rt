@@ -25,7 +25,8 @@ fn of_one(zeroth: u16, n: u8) -> Option<ShortOpcode>
     if n == 0 { Some(short(zeroth)) } else { None }
 }
 
-// The opcode on a part of 16 bits.
+/// The opcode of an operator with an immediate at a 16-bit part of a register, counted from the right. None where it
+/// has none.
 pub fn part_opcode(op: ALUOp, shift: u8) -> Option<ShortOpcode>
     ensures { option_map opcode_of result ≡ alu_part op shift }
 {
@@ -38,7 +39,8 @@ pub fn part_opcode(op: ALUOp, shift: u8) -> Option<ShortOpcode>
     }
 }
 
-// The opcode on a half of 32 bits.
+/// The opcode of an operator with an immediate at a half of a register, counted from the right. None where it has
+/// none.
 pub fn half_opcode(op: ALUOp, shift: u8) -> Option<ShortOpcode>
     ensures { option_map opcode_of result ≡ alu_half op shift }
 {
@@ -97,7 +99,8 @@ fn rotation(amount: i8) -> u8
     i32::from(amount).rem_euclid(64) as u8
 }
 
-/// The bits that a rotation selects, of one register into another that is read too.
+/// The bits that a rotation selects, of one register into another that is read too. None where there is no row;
+/// `BadRegister` comes where a register is not general, or an input that has to be the output isn't it.
 #[tactic(auto, using(crate::proofs::Encoding::reused_pair_general))]
 pub fn rotated_row(
     op: RxSBGOp,
@@ -120,7 +123,8 @@ pub fn rotated_row(
     }
 }
 
-/// The same where the result is tested alone: 128 is added to the start.
+/// The code of a rotate-then-operate row whose result is tested alone, and not kept: 128 is added to the start. An
+/// error comes where a register is not general.
 #[tactic(auto, using(crate::proofs::Encoding::itself))]
 pub fn tested_row(
     op: RxSBGOp,
@@ -149,7 +153,8 @@ pub fn tested_row(
     }
 }
 
-/// A shift by a number plus a register.
+/// A shift by a number plus a register. None where there is no row; `BadRegister` comes where a register is not
+/// general, or an input that has to be the output isn't it.
 #[tactic(auto, using(crate::proofs::Encoding::itself))]
 pub fn shift_row(
     op: ShiftOp,
@@ -171,7 +176,8 @@ pub fn shift_row(
     ))
 }
 
-/// The signed product of two registers, into a pair.
+/// The signed product of two registers, into a pair. None where there is no row; `BadRegister` comes where a register
+/// is not general, or an input that has to be the output isn't it.
 #[tactic(auto, unfolding(s390x_typed_steps::specs::SingleCode::code_where))]
 pub fn product_row(rd: &WritableRegPair, rn: &Reg, rm: &Reg) -> Option<Result<Code, EmitError>>
     ensures { result ≡ single_code (single_with (is_even_pair rd.now.hi rd.now.lo && is_general rn.now && is_general rm.now) (Some (rrf_ab 0xb9ec (number_of rd.now.hi) (number_of rn.now) (number_of rm.now) 0))) }
@@ -183,7 +189,8 @@ pub fn product_row(rd: &WritableRegPair, rn: &Reg, rm: &Reg) -> Option<Result<Co
     }
 }
 
-/// A count of a register's bits, into a pair.
+/// A count of a register's bits, into a pair. None where there is no row; `BadRegister` comes where a register is not
+/// general, or an input that has to be the output isn't it.
 #[tactic(auto, using(crate::proofs::Encoding::even_general))]
 pub fn pair_row(opcode: u16, rd: &WritableRegPair, rn: &Reg) -> Option<Result<Code, EmitError>>
     requires { takes_general (Some opcode) ≡ true }
@@ -192,7 +199,8 @@ pub fn pair_row(opcode: u16, rd: &WritableRegPair, rn: &Reg) -> Option<Result<Co
     Some(two_operands(is_even_pair(rd) && general(rn), opcode, rd.hi.to_reg(), *rn))
 }
 
-/// An operator on a pair, whose second register is read too, and another register.
+/// An operator on a pair, whose second register is read too, and another register. None where there is no row;
+/// `BadRegister` comes where a register is not general, or an input that has to be the output isn't it.
 #[tactic(auto, using(crate::proofs::Encoding::even_reused_general))]
 pub fn reused_low_row(
     opcode: u16,

@@ -128,7 +128,7 @@ pub fn add_bytes(t: Totals, bytes: u64) -> Totals
     }
 }
 
-/// So many more labels and bytes.
+/// So many more labels and bytes. `LabelOutOfRange` comes where so many labels are not left.
 pub fn add(t: Totals, labels: u64, bytes: u64) -> Result<Totals, EmitError>
     requires counted { IsCounted t }
     requires few { labels ≤ 2 }
@@ -164,7 +164,8 @@ pub fn check_leaf(
     }
 }
 
-/// A loop opens: its nesting, and its two labels.
+/// A loop opens: its nesting, and its two labels. `LabelOutOfRange` comes where no two labels are left,
+/// `NestedTooDeep` where loops nest eight deep already.
 pub fn open_loop(t: Totals, depth: u32) -> Result<Totals, EmitError>
     requires { IsCounted t }
     ensures { MatchResult result (λ r. (first_emit_cause (nesting_cause depth) (numbers_cause t.labels 2) ≡ None) × Adds t r 2 0 × (depth < 8)) (λ e. first_emit_cause (nesting_cause depth) (numbers_cause t.labels 2) ≡ Some e) }

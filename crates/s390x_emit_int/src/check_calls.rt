@@ -136,7 +136,8 @@ fn check_continuation(
     }
 }
 
-/// The first cause of a call, the loads of its results and the jump of its try, or what they add.
+/// The first cause of a call, the loads of its results and the jump of its try, or what they add. An error is the
+/// first cause of the call's code by these flags and at this state.
 pub fn check_call(
     flags: IsaFlags,
     state: &EmitState,

@@ -19,6 +19,7 @@ use s390x_enc::{
 };
 use s390x_typed_steps::low_displacement;
 
+/// An opcode of at most three hex digits, as a value that is known to be one.
 pub fn short(value: u16) -> ShortOpcode
     requires { value < 4096 }
     ensures { opcode_of result ≡ value }
@@ -34,7 +35,7 @@ pub fn always(value: u16) -> Option<ShortOpcode>
     Some(short(value))
 }
 
-/// Two registers. Opcodes of two digits are RR, others RRE.
+/// Two registers. Opcodes of two digits are RR, others RRE. `BadRegister` comes where a register may not stand there.
 pub fn two_operands(valid: bool, opcode: u16, r1: Reg, r2: Reg) -> Result<Code, EmitError>
     requires general { takes_general (Some opcode) ≡ true }
     requires valid { implies valid (is_general r1 && is_general r2) ≡ true }
@@ -49,7 +50,8 @@ pub fn two_operands(valid: bool, opcode: u16, r1: Reg, r2: Reg) -> Result<Code, 
     }
 }
 
-/// Three registers. The encoding call asks itself whether they are general.
+/// Three registers. The encoding call asks itself whether they are general. `BadRegister` comes where a register may
+/// not stand there.
 pub fn three_operands(opcode: u16, r1: &Reg, r2: &Reg, r3: &Reg) -> Result<Code, EmitError>
     ensures { result ≡ code_where (is_general r1.now && is_general r2.now && is_general r3.now) (rrf_ab opcode (number_of r1.now) (number_of r2.now) (number_of r3.now) 0) }
 {
@@ -59,7 +61,7 @@ pub fn three_operands(opcode: u16, r1: &Reg, r2: &Reg, r3: &Reg) -> Result<Code,
     enc_rrf_ab(opcode, *r1, *r2, *r3, 0)
 }
 
-/// A register and the bits of an immediate of 16 bits.
+/// A register and the bits of an immediate of 16 bits. `BadRegister` comes where a register may not stand there.
 pub fn halfword(valid: bool, opcode: ShortOpcode, r1: Reg, imm: u16) -> Result<Code, EmitError>
     requires { implies valid (is_general r1) ≡ true }
     ensures { result ≡ code_where valid (ri_a (opcode_of opcode) (number_of r1) imm) }
@@ -71,7 +73,7 @@ pub fn halfword(valid: bool, opcode: ShortOpcode, r1: Reg, imm: u16) -> Result<C
     }
 }
 
-/// Two registers and the bits of an immediate of 16 bits.
+/// Two registers and the bits of an immediate of 16 bits. `BadRegister` comes where a register may not stand there.
 pub fn two_and_halfword(
     valid: bool,
     opcode: u16,
@@ -89,7 +91,7 @@ pub fn two_and_halfword(
     }
 }
 
-/// A register and the bits of an immediate of 32 bits.
+/// A register and the bits of an immediate of 32 bits. `BadRegister` comes where a register may not stand there.
 pub fn word(valid: bool, opcode: ShortOpcode, r1: Reg, imm: u32) -> Result<Code, EmitError>
     requires { implies valid (is_general r1) ≡ true }
     ensures { result ≡ code_where valid (ril_a (opcode_of opcode) (number_of r1) imm) }
@@ -101,7 +103,7 @@ pub fn word(valid: bool, opcode: ShortOpcode, r1: Reg, imm: u32) -> Result<Code,
     }
 }
 
-/// Two registers and a mask of 4 bits.
+/// Two registers and a mask of 4 bits. `BadRegister` comes where a register may not stand there.
 pub fn masked(valid: bool, opcode: u16, r1: Reg, r2: Reg, mask: u8) -> Result<Code, EmitError>
     requires { implies valid (is_general r1 && is_general r2) ≡ true }
     ensures { result ≡ code_where valid (rrf_cde opcode (number_of r1) (number_of r2) (four_bits mask) 0) }
@@ -113,7 +115,8 @@ pub fn masked(valid: bool, opcode: u16, r1: Reg, r2: Reg, mask: u8) -> Result<Co
     }
 }
 
-/// A register, the bits of an immediate of 16 bits, and a mask of 4 bits that says when it traps.
+/// A register, the bits of an immediate of 16 bits, and a mask of 4 bits that says when it traps. `BadRegister` comes
+/// where a register may not stand there.
 pub fn masked_halfword(
     valid: bool,
     opcode: u16,
@@ -131,7 +134,8 @@ pub fn masked_halfword(
     }
 }
 
-/// The same with a mask that says when the register is written.
+/// The code of a row (RIE-G) of a register and an immediate of 16 bits, with a mask that says when the register is
+/// written. An error comes where the register is not general.
 pub fn conditional_halfword(
     valid: bool,
     opcode: u16,
@@ -149,7 +153,8 @@ pub fn conditional_halfword(
     }
 }
 
-/// Two registers, and the bits that are selected of the second one once it is rotated.
+/// Two registers, and the bits that are selected of the second one once it is rotated. `BadRegister` comes where a
+/// register may not stand there.
 pub fn selected(
     valid: bool,
     opcode: u16,
@@ -169,7 +174,8 @@ pub fn selected(
     }
 }
 
-/// Two registers, and an amount that is the sum of another register and a number.
+/// Two registers, and an amount that is the sum of another register and a number. `BadRegister` comes where a
+/// register may not stand there.
 pub fn shifted(
     valid: bool,
     opcode: u16,
@@ -188,7 +194,8 @@ pub fn shifted(
     }
 }
 
-/// A register, and the address of a base, an index and a displacement.
+/// A register, and the address of a base, an index and a displacement. `BadRegister` comes where a register may not
+/// stand there.
 pub fn indexed(
     valid: bool,
     opcode: u16,

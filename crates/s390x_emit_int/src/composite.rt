@@ -234,7 +234,9 @@ fn emit_comparison(
     compare_right(sink, tmp, rn, rm)
 }
 
-/// Emits a vector instruction of several machine instructions.
+/// Emits a vector instruction of several machine instructions. An error comes where a register or an element's size
+/// doesn't fit (`composite_cause`); where the buffer is poisoned (`Failed`); where its code gets too long for an
+/// offset (`LabelOutOfRange`); or for want of memory (`NoMemory`).
 pub fn emit_composite(sink: &mut MachBuffer, inst: &VecInst) -> Result<(), EmitError>
     ensures answer { OnOk result (sink.new ≡ apply_all sink.old (part_fragments (row_parts (composite_rows inst.now)))) }
     ensures lacks { put_cause sink.old (parts_size (row_parts (composite_rows inst.now))) ≡ None → composite_cause inst.now ≡ None → LacksMemory result }

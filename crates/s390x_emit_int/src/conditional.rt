@@ -81,7 +81,8 @@ fn skip_two(sink: &mut MachBuffer, mask: u8) -> Result<(), EmitError>
     sink.put_code(&code)
 }
 
-/// The same over six bytes.
+/// A branch over the six bytes that follow, where the mask doesn't hold. An error comes where the buffer has no room
+/// or is poisoned, or for want of memory.
 pub fn skip_six(sink: &mut MachBuffer, mask: u8) -> Result<(), EmitError>
     requires { mask < 16 }
     ensures answer { OnOk result (sink.new ≡ apply_all sink.old (part_fragments (Row (ri_c 0xa74 mask 5) ∷ []))) }
@@ -134,7 +135,9 @@ fn emit_under(
     }
 }
 
-/// Emits a move under a condition.
+/// Emits a move under a condition. An error comes where a register doesn't fit (`BadRegister`); where the buffer is
+/// poisoned (`Failed`); where its code gets too long for an offset (`LabelOutOfRange`); or for want of memory
+/// (`NoMemory`).
 pub fn emit_move(sink: &mut MachBuffer, inst: &VecInst) -> Result<(), EmitError>
     ensures answer { OnOk result (sink.new ≡ apply_all sink.old (part_fragments (row_parts (rows_under (move_under inst.now))))) }
     ensures lacks { put_cause sink.old (parts_size (row_parts (rows_under (move_under inst.now)))) ≡ None → cause_under (move_under inst.now) ≡ None → LacksMemory result }

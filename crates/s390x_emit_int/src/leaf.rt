@@ -52,7 +52,9 @@ fn put_with_distance(sink: &mut MachBuffer, code: &Code, label: MachLabel) -> Re
     sink.put_code(code)
 }
 
-/// BRANCH RELATIVE ON CONDITION LONG to a label under a mask; the buffer's end fills the distance in.
+/// BRANCH RELATIVE ON CONDITION LONG to a label under a mask; the buffer's end fills the distance in. An error comes
+/// where a register or a label may not stand there; where the buffer is poisoned (`Failed`); where its code gets too
+/// long for an offset (`LabelOutOfRange`); or for want of memory (`NoMemory`).
 pub fn put_branch(sink: &mut MachBuffer, mask: u8, label: MachLabel) -> Result<(), EmitError>
     requires { mask < 16 }
     ensures answer { OnOk result (sink.new ≡ apply sink.old (branch mask label.0)) }
@@ -93,7 +95,9 @@ fn put_where(sink: &mut MachBuffer, cond: Cond, label: MachLabel) -> Result<(), 
     sink.put_code(&code)
 }
 
-/// BRANCH ON CONDITION to the address in a register, always.
+/// BRANCH ON CONDITION to the address in a register, always. An error comes where a register or a label may not stand
+/// there; where the buffer is poisoned (`Failed`); where its code gets too long for an offset (`LabelOutOfRange`); or
+/// for want of memory (`NoMemory`).
 pub fn emit_branch_register(sink: &mut MachBuffer, rn: Reg) -> Result<(), EmitError>
     ensures answer { OnOk result (sink.new ≡ apply_all sink.old (part_fragments (Row (rr 0x07 15 (number_of rn)) ∷ []))) }
     ensures lacks { put_cause sink.old 2 ≡ None → (is_general rn && is_nonzero rn) ≡ true → LacksMemory result }
@@ -103,7 +107,9 @@ pub fn emit_branch_register(sink: &mut MachBuffer, rn: Reg) -> Result<(), EmitEr
     sink.put_code(&code)
 }
 
-/// LOAD ADDRESS RELATIVE LONG of a label into a register; the buffer's end fills the distance in.
+/// LOAD ADDRESS RELATIVE LONG of a label into a register; the buffer's end fills the distance in. An error comes
+/// where a register or a label may not stand there; where the buffer is poisoned (`Failed`); where its code gets too
+/// long for an offset (`LabelOutOfRange`); or for want of memory (`NoMemory`).
 pub fn emit_address(sink: &mut MachBuffer, dst: Reg, label: MachLabel) -> Result<(), EmitError>
     ensures answer { OnOk result (sink.new ≡ apply_all sink.old (part_fragments (Relative 0xc00 (number_of dst) (ToBlock label.0) ∷ []))) }
     ensures lacks { Passed sink.old label.0 6 None → is_general dst ≡ true → LacksMemory result }

@@ -83,7 +83,8 @@ pub fn extend_opcode(signed: bool, from: u8, to: u8) -> Option<u16>
     }
 }
 
-// The opcode of an indexed address, by the size of its elements.
+/// The opcode of the address of an element whose index has a sign, by the element's size in powers of two. None where
+/// it has none.
 pub fn indexed_opcode(size: u8) -> Option<u16>
     ensures value { result ≡ indexed_opcode size }
     ensures general { takes_general result ≡ true }
@@ -97,6 +98,8 @@ pub fn indexed_opcode(size: u8) -> Option<u16>
     }
 }
 
+/// The opcode of the address of an element whose index has no sign, by the element's size in powers of two. None
+/// where it has none.
 pub fn logical_indexed_opcode(size: u8) -> Option<u16>
     ensures value { result ≡ logical_indexed_opcode size }
     ensures general { takes_general result ≡ true }
@@ -119,7 +122,8 @@ fn extract_access(valid: bool, rd: Reg, ar: u8) -> Result<Code, EmitError>
     two_operands(valid, 0xb24f, rd, gpr(ar % 16))
 }
 
-/// The load of an access register.
+/// The load of an access register. There is always a row; `BadRegister` comes where the register is not general, or
+/// there is no such access register.
 #[tactic(auto, using(crate::proofs::Encoding::first_general))]
 pub fn load_access_row(rd: &Writable<Reg>, ar: u8) -> Option<Result<Code, EmitError>>
     ensures { result ≡ single_code (single_with (is_general rd.now && is_access ar) (Some (two_operands 0xb24f (number_of rd.now) (four_bits ar)))) }
@@ -128,7 +132,8 @@ pub fn load_access_row(rd: &Writable<Reg>, ar: u8) -> Option<Result<Code, EmitEr
     Some(extract_access(general(&output) && is_access(ar), output, ar))
 }
 
-/// The same into a register that is read too.
+/// The code that puts an access register into a register that is read too; `BadRegister` where the input isn't the
+/// output, or one is not general.
 #[tactic(auto, using(crate::proofs::Encoding::reused_tested_general))]
 pub fn insert_access_row(rd: &Writable<Reg>, ri: &Reg, ar: u8) -> Option<Result<Code, EmitError>>
     ensures { result ≡ single_code (single_with (reuses rd.now ri.now && is_access ar) (Some (two_operands 0xb24f (number_of rd.now) (four_bits ar)))) }
@@ -137,7 +142,8 @@ pub fn insert_access_row(rd: &Writable<Reg>, ri: &Reg, ar: u8) -> Option<Result<
     Some(extract_access(is_reused(&output, ri) && is_access(ar), output, ar))
 }
 
-/// A move under a condition, into a register that is read too.
+/// A move under a condition, into a register that is read too. None where there is no row; `BadRegister` comes where
+/// a register is not general, or an input that has to be the output isn't it.
 #[tactic(auto, using(crate::proofs::Encoding::reused_pair_general))]
 pub fn conditional_row(
     opcode: u16,
@@ -158,7 +164,8 @@ pub fn conditional_row(
     ))
 }
 
-/// A load of an immediate under a condition, into a register that is read too.
+/// A load of an immediate under a condition, into a register that is read too. None where there is no row;
+/// `BadRegister` comes where a register is not general, or an input that has to be the output isn't it.
 #[tactic(auto, using(crate::proofs::Encoding::reused_general))]
 pub fn conditional_immediate_row(
     opcode: u16,
@@ -179,7 +186,8 @@ pub fn conditional_immediate_row(
     ))
 }
 
-/// An indexed address, where there is a row.
+/// An indexed address, where there is a row. None where there is no row; `BadRegister` comes where a register is not
+/// general, or an input that has to be the output isn't it.
 #[tactic(auto, using(crate::proofs::Encoding::itself))]
 pub fn indexed_row(
     opcode: Option<u16>,
@@ -205,7 +213,8 @@ pub fn indexed_row(
     }
 }
 
-/// BRANCH ON CONDITION that doesn't branch: to no address, or under a mask of zeros.
+/// BRANCH ON CONDITION that doesn't branch: to no address, or under a mask of zeros. There is always a row and never
+/// an error.
 pub fn branch_nowhere(mask: u8, target: u8) -> Option<Result<Code, EmitError>>
     requires mask { mask < 16 }
     requires target { target < 16 }

@@ -16,32 +16,35 @@ pub fn read_number(r: &Reg)
     }
 }
 
+/// Whether two registers have the same number.
 pub fn same_number(a: &Reg, b: &Reg) -> bool
     ensures { result ≡ nat_eq (number_of a.now) (number_of b.now) }
 {
     number(a) == number(b)
 }
 
-// Whether an input that has to be the output is it.
+/// Whether an input that has to be the output is it: both are general, with the same number.
 pub fn is_reused(output: &Reg, input: &Reg) -> bool
     ensures { result ≡ reuses output.now input.now }
 {
     general(output) && general(input) && same_number(output, input)
 }
 
-// Whether a pair of inputs that has to be that of the outputs is it.
+/// Whether a pair of inputs that has to be that of the outputs is it.
 pub fn is_reused_pair(output: &WritableRegPair, input: &RegPair) -> bool
     ensures { result ≡ reuses_pair output.now input.now }
 {
     is_reused(&output.hi.to_reg(), &input.hi) && is_reused(&output.lo.to_reg(), &input.lo)
 }
 
+/// Whether both registers are general.
 pub fn two_general(a: &Reg, b: &Reg) -> bool
     ensures { result ≡ is_general a.now && is_general b.now }
 {
     general(a) && general(b)
 }
 
+/// Whether all three registers are general.
 pub fn three_general(a: &Reg, b: &Reg, c: &Reg) -> bool
     ensures { result ≡ is_general a.now && is_general b.now && is_general c.now }
 {
@@ -57,7 +60,7 @@ pub fn is_even_pair(pair: &WritableRegPair) -> bool
     general(&high) && general(&low) && valid_regpair(high, low)
 }
 
-// Whether it is the number of an access register.
+/// Whether it is the number of an access register.
 pub fn is_access(ar: u8) -> bool
     ensures { result ≡ is_access ar }
 {

@@ -14,7 +14,8 @@ use s390x_address::general;
 use s390x_base::{Code, EmitError, Reg, Writable};
 use s390x_typed_steps::{bits_of_halfword, bits_of_word};
 
-/// Two registers, where there is a row.
+/// Two registers, where there is a row. None where there is no row; `BadRegister` comes where a register is not
+/// general, or an input that has to be the output isn't it.
 #[tactic(auto, using(crate::proofs::Encoding::itself))]
 pub fn two_row(opcode: Option<u16>, r1: &Reg, r2: &Reg) -> Option<Result<Code, EmitError>>
     requires { takes_general opcode ≡ true }
@@ -26,7 +27,8 @@ pub fn two_row(opcode: Option<u16>, r1: &Reg, r2: &Reg) -> Option<Result<Code, E
     }
 }
 
-/// The same with a first one that is written.
+/// The code of a row of two registers of which the first is written, where the operator has an opcode; `BadRegister`
+/// where one is not general.
 pub fn into_row(
     opcode: Option<u16>,
     rd: &Writable<Reg>,
@@ -38,7 +40,8 @@ pub fn into_row(
     two_row(opcode, &rd.to_reg(), rn)
 }
 
-/// The same with a first one that is read too.
+/// The code of a row of two registers of which the first is read and written, where the operator has an opcode;
+/// `BadRegister` where the input isn't the output, or one is not general.
 #[tactic(auto, using(crate::proofs::Encoding::reused_pair_general))]
 pub fn reused_row(
     opcode: Option<u16>,
@@ -61,7 +64,8 @@ pub fn reused_row(
     }
 }
 
-/// A register and the bits of an immediate of 16 bits, where there is a row.
+/// A register and the bits of an immediate of 16 bits, where there is a row. None where there is no row;
+/// `BadRegister` comes where a register is not general, or an input that has to be the output isn't it.
 #[tactic(auto, using(crate::proofs::Encoding::itself))]
 pub fn halfword_row(
     opcode: Option<ShortOpcode>,
@@ -76,7 +80,8 @@ pub fn halfword_row(
     }
 }
 
-/// The same with a register that is written.
+/// The code of a row (RI) of a register that is written and an immediate of 16 bits, where the operator has an
+/// opcode; `BadRegister` where the register is not general.
 pub fn into_halfword_row(
     opcode: Option<ShortOpcode>,
     rd: &Writable<Reg>,
@@ -87,7 +92,8 @@ pub fn into_halfword_row(
     halfword_row(opcode, &rd.to_reg(), imm)
 }
 
-/// The same with a signed immediate.
+/// The code of a row (RI) of a register that is written and a signed immediate of 16 bits, where the operator has an
+/// opcode; `BadRegister` where the register is not general.
 pub fn into_signed_halfword_row(
     opcode: Option<ShortOpcode>,
     rd: &Writable<Reg>,
@@ -98,7 +104,8 @@ pub fn into_signed_halfword_row(
     into_halfword_row(opcode, rd, bits_of_halfword(*imm))
 }
 
-/// The same with one that is read too.
+/// The code of a row (RI) of a register that is read and written and a signed immediate of 16 bits, where the
+/// operator has an opcode; `BadRegister` where the input isn't the output.
 #[tactic(auto, using(crate::proofs::Encoding::reused_general))]
 pub fn reused_halfword_row(
     opcode: Option<ShortOpcode>,
@@ -115,7 +122,8 @@ pub fn reused_halfword_row(
     }
 }
 
-/// A register and the bits of an immediate of 32 bits, where there is a row.
+/// A register and the bits of an immediate of 32 bits, where there is a row. None where there is no row;
+/// `BadRegister` comes where a register is not general, or an input that has to be the output isn't it.
 #[tactic(auto, using(crate::proofs::Encoding::itself))]
 pub fn word_row(opcode: Option<ShortOpcode>, r1: &Reg, imm: u32) -> Option<Result<Code, EmitError>>
     ensures { result ≡ single_code (single_with (is_general r1.now) (word_row (option_map opcode_of opcode) (number_of r1.now) imm)) }
@@ -126,7 +134,8 @@ pub fn word_row(opcode: Option<ShortOpcode>, r1: &Reg, imm: u32) -> Option<Resul
     }
 }
 
-/// The same with a register that is written.
+/// The code of a row (RIL) of a register that is written and an immediate of 32 bits, where the operator has an
+/// opcode; `BadRegister` where the register is not general.
 pub fn into_word_row(
     opcode: Option<ShortOpcode>,
     rd: &Writable<Reg>,
@@ -137,7 +146,8 @@ pub fn into_word_row(
     word_row(opcode, &rd.to_reg(), imm)
 }
 
-/// The same with a signed immediate.
+/// The code of a row (RIL) of a register that is written and a signed immediate of 32 bits, where the operator has an
+/// opcode; `BadRegister` where the register is not general.
 pub fn into_signed_word_row(
     opcode: Option<ShortOpcode>,
     rd: &Writable<Reg>,
@@ -148,7 +158,8 @@ pub fn into_signed_word_row(
     into_word_row(opcode, rd, bits_of_word(*imm))
 }
 
-/// The same with one that is read too.
+/// The code of a row (RIL) of a register that is read and written and an immediate of 32 bits, where the operator has
+/// an opcode; `BadRegister` where the input isn't the output.
 #[tactic(auto, using(crate::proofs::Encoding::reused_general))]
 pub fn reused_word_row(
     opcode: Option<ShortOpcode>,

@@ -27,6 +27,7 @@ pub fn compare_opcode(op: CmpOp) -> Option<u16>
     }
 }
 
+/// The opcode of a comparison with a signed immediate that traps (RIE). None where it has none.
 pub fn compare_signed_opcode(op: CmpOp) -> Option<u16>
     ensures { result ≡ cmp_trap_signed op }
 {
@@ -37,6 +38,7 @@ pub fn compare_signed_opcode(op: CmpOp) -> Option<u16>
     }
 }
 
+/// The opcode of a comparison with an unsigned immediate that traps (RIE). None where it has none.
 pub fn compare_unsigned_opcode(op: CmpOp) -> Option<u16>
     ensures { result ≡ cmp_trap_unsigned op }
 {
@@ -47,7 +49,8 @@ pub fn compare_unsigned_opcode(op: CmpOp) -> Option<u16>
     }
 }
 
-/// A comparison of two registers that traps, where there is a row.
+/// A comparison of two registers that traps, where there is a row. None where there is no row; `BadRegister` comes
+/// where a register is not general, or an input that has to be the output isn't it.
 #[tactic(auto, using(crate::proofs::Encoding::itself))]
 pub fn masked_row(
     opcode: Option<u16>,
@@ -63,7 +66,8 @@ pub fn masked_row(
     }
 }
 
-/// A comparison of a register and an immediate that traps, where there is a row.
+/// A comparison of a register and an immediate that traps, where there is a row. None where there is no row;
+/// `BadRegister` comes where a register is not general, or an input that has to be the output isn't it.
 #[tactic(auto, using(crate::proofs::Encoding::itself))]
 pub fn masked_halfword_row(
     opcode: Option<u16>,
@@ -79,7 +83,8 @@ pub fn masked_halfword_row(
     }
 }
 
-/// A division of a pair by a register.
+/// A division of a pair by a register. None where there is no row; `BadRegister` comes where a register is not
+/// general, or an input that has to be the output isn't it.
 #[tactic(auto, using(crate::proofs::Encoding::even_reused_pair_general))]
 pub fn reused_pair_row(
     opcode: u16,

@@ -60,7 +60,9 @@ fn put_load(sink: &mut MachBuffer, rd: Reg) -> Result<(), EmitError>
     sink.put_code(&code)
 }
 
-/// A symbol's address plus an offset into a register: a load of the doubleword in the code that linking fills.
+/// A symbol's address plus an offset into a register: a load of the doubleword in the code that linking fills. An
+/// error comes where a register or a label may not stand there; where the buffer is poisoned (`Failed`); where its
+/// code gets too long for an offset (`LabelOutOfRange`); or for want of memory (`NoMemory`).
 pub fn emit_symbol_load(
     sink: &mut MachBuffer,
     rd: Reg,

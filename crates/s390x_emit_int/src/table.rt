@@ -74,6 +74,8 @@ fn put_table_rows(
 }
 
 /// A jump to the other label under the condition, else to the target at the index, in bytes, of the table behind it.
+/// An error comes where a register or a label may not stand there; where the buffer is poisoned (`Failed`); where its
+/// code gets too long for an offset (`LabelOutOfRange`); or for want of memory (`NoMemory`).
 pub fn emit_table(
     sink: &mut MachBuffer,
     index: Reg,

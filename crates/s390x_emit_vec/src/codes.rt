@@ -104,7 +104,8 @@ fn join_valid(a: &Reg, b: &Reg, c: &Reg) -> bool
     vector(a) && general(b) && general(c)
 }
 
-/// Two vector registers, and the code of the elements' size.
+/// Two vector registers, and the code of the elements' size. `BadRegister` comes where a register may not stand
+/// there.
 pub fn two_vectors(row: VectorOpcode, v1: Reg, v2: Reg) -> Result<Code, EmitError>
     requires { row.code < 16 }
     ensures { result ≡ code_where (is_vector v1 && is_vector v2) (vrr_a row.opcode (number_of v1) (number_of v2) row.code) }
@@ -117,7 +118,8 @@ pub fn two_vectors(row: VectorOpcode, v1: Reg, v2: Reg) -> Result<Code, EmitErro
     }
 }
 
-/// Three vector registers, and the code of the elements' size.
+/// Three vector registers, and the code of the elements' size. `BadRegister` comes where a register may not stand
+/// there.
 pub fn three_vectors(row: VectorOpcode, v1: Reg, v2: Reg, v3: Reg) -> Result<Code, EmitError>
     requires { row.code < 16 }
     ensures { result ≡ code_where (is_vector v1 && is_vector v2 && is_vector v3) (vrr_c row.opcode (number_of v1) (number_of v2) (number_of v3) row.code) }
@@ -130,7 +132,8 @@ pub fn three_vectors(row: VectorOpcode, v1: Reg, v2: Reg, v3: Reg) -> Result<Cod
     }
 }
 
-/// A comparison of three vector registers' elements, and whether it sets the condition code.
+/// A comparison of three vector registers' elements, and whether it sets the condition code. `BadRegister` comes
+/// where a register may not stand there.
 pub fn compared_vectors(
     row: VectorOpcode,
     v1: Reg,
@@ -150,7 +153,7 @@ pub fn compared_vectors(
     }
 }
 
-/// Four vector registers, of a selection or a permutation.
+/// Four vector registers, of a selection or a permutation. `BadRegister` comes where a register may not stand there.
 pub fn four_vectors(opcode: u16, v1: Reg, v2: Reg, v3: Reg, v4: Reg) -> Result<Code, EmitError>
     ensures { result ≡ code_where (is_vector v1 && is_vector v2 && is_vector v3 && is_vector v4) (vrr_e opcode (number_of v1) (number_of v2) (number_of v3) (number_of v4)) }
 {
@@ -162,7 +165,7 @@ pub fn four_vectors(opcode: u16, v1: Reg, v2: Reg, v3: Reg, v4: Reg) -> Result<C
     }
 }
 
-/// Four vector registers, of bytes that are blended.
+/// Four vector registers, of bytes that are blended. `BadRegister` comes where a register may not stand there.
 pub fn blended_vectors(v1: Reg, v2: Reg, v3: Reg, v4: Reg) -> Result<Code, EmitError>
     ensures { result ≡ code_where (is_vector v1 && is_vector v2 && is_vector v3 && is_vector v4) (vrr_d 0xe789 (number_of v1) (number_of v2) (number_of v3) (number_of v4) 0) }
 {
@@ -174,7 +177,7 @@ pub fn blended_vectors(v1: Reg, v2: Reg, v3: Reg, v4: Reg) -> Result<Code, EmitE
     }
 }
 
-/// Four vector registers and a truth table.
+/// Four vector registers and a truth table. `BadRegister` comes where a register may not stand there.
 pub fn evaluated_vectors(imm: u8, v1: Reg, v2: Reg, v3: Reg, v4: Reg) -> Result<Code, EmitError>
     ensures { result ≡ code_where (is_vector v1 && is_vector v2 && is_vector v3 && is_vector v4) (vri_k 0xe788 imm (number_of v1) (number_of v2) (number_of v3) (number_of v4)) }
 {
@@ -186,7 +189,7 @@ pub fn evaluated_vectors(imm: u8, v1: Reg, v2: Reg, v3: Reg, v4: Reg) -> Result<
     }
 }
 
-/// Two vector registers, and a base with an amount.
+/// Two vector registers, and a base with an amount. `BadRegister` comes where a register may not stand there.
 pub fn shifted_vector(
     row: VectorOpcode,
     v1: Reg,
@@ -206,7 +209,7 @@ pub fn shifted_vector(
     }
 }
 
-/// A vector register and two general ones.
+/// A vector register and two general ones. `BadRegister` comes where a register may not stand there.
 pub fn joined_registers(v1: Reg, r2: Reg, r3: Reg) -> Result<Code, EmitError>
     ensures { result ≡ code_where (is_vector v1 && is_general r2 && is_general r3) (vrr_f 0xe762 (number_of v1) (number_of r2) (number_of r3)) }
 {
@@ -218,8 +221,8 @@ pub fn joined_registers(v1: Reg, r2: Reg, r3: Reg) -> Result<Code, EmitError>
     }
 }
 
-/// A vector register and the bits of an immediate of 16 bits, and the code of the elements' size or the number of an element, where the registers
-/// may stand there.
+/// A vector register and the bits of an immediate of 16 bits, and the code of the elements' size or the number of an
+/// element, where the registers may stand there. `BadRegister` comes where a register may not stand there.
 pub fn immediate_where(
     valid: bool,
     row: VectorOpcode,
@@ -237,7 +240,8 @@ pub fn immediate_where(
     }
 }
 
-/// A vector register and the bits of an immediate of 16 bits, and the code of the elements' size.
+/// A vector register and the bits of an immediate of 16 bits, and the code of the elements' size. `BadRegister` comes
+/// where a register may not stand there.
 pub fn immediate_vector(row: VectorOpcode, v1: Reg, bits: u16) -> Result<Code, EmitError>
     requires { row.code < 16 }
     ensures { result ≡ code_where (is_vector v1) (vri_a row.opcode (number_of v1) bits row.code) }
@@ -246,7 +250,8 @@ pub fn immediate_vector(row: VectorOpcode, v1: Reg, bits: u16) -> Result<Code, E
     immediate_where(valid, row, v1, bits)
 }
 
-/// A vector register, a general one, and a base with the number of an element.
+/// A vector register, a general one, and a base with the number of an element. `BadRegister` comes where a register
+/// may not stand there.
 pub fn inserted_element(
     valid: bool,
     code: u8,
@@ -266,7 +271,8 @@ pub fn inserted_element(
     }
 }
 
-/// A general register, a vector one, and a base with the number of an element.
+/// A general register, a vector one, and a base with the number of an element. `BadRegister` comes where a register
+/// may not stand there.
 pub fn extracted_element(
     valid: bool,
     code: u8,
@@ -293,7 +299,7 @@ pub fn is_float_doubleword(size: u32, register: u32, base: u32, lane: u8) -> boo
     size == 64 && lane == 0 && base == 0 && register < 16
 }
 
-/// A float register gets a general one.
+/// A float register gets a general one. `BadRegister` comes where a register may not stand there.
 pub fn to_float(valid: bool, v1: Reg, r2: Reg) -> Result<Code, EmitError>
     requires real { valid ≡ true → (is_vector v1 && is_general r2) ≡ true }
     requires low { nat_lt (number_of v1) 16 ≡ true }
@@ -306,7 +312,7 @@ pub fn to_float(valid: bool, v1: Reg, r2: Reg) -> Result<Code, EmitError>
     }
 }
 
-/// A general register gets a float one.
+/// A general register gets a float one. `BadRegister` comes where a register may not stand there.
 pub fn from_float(valid: bool, r1: Reg, v2: Reg) -> Result<Code, EmitError>
     requires real { valid ≡ true → (is_general r1 && is_vector v2) ≡ true }
     requires low { nat_lt (number_of v2) 16 ≡ true }
@@ -319,7 +325,8 @@ pub fn from_float(valid: bool, r1: Reg, v2: Reg) -> Result<Code, EmitError>
     }
 }
 
-/// Two vector registers, the number of an element, and the code of the elements' size.
+/// Two vector registers, the number of an element, and the code of the elements' size. `BadRegister` comes where a
+/// register may not stand there.
 pub fn replicated_lane(code: u8, v1: Reg, v3: Reg, lane: u16) -> Result<Code, EmitError>
     requires { code < 16 }
     ensures { result ≡ code_where (is_vector v1 && is_vector v3) (vri_c 0xe74d (number_of v1) (number_of v3) lane code) }
@@ -332,7 +339,8 @@ pub fn replicated_lane(code: u8, v1: Reg, v3: Reg, lane: u16) -> Result<Code, Em
     }
 }
 
-/// A vector register, the numbers of two bits, and the code of the elements' size.
+/// A vector register, the numbers of two bits, and the code of the elements' size. `BadRegister` comes where a
+/// register may not stand there.
 pub fn bit_mask(code: u8, v1: Reg, start: u8, end: u8) -> Result<Code, EmitError>
     requires { code < 16 }
     ensures { result ≡ code_where (is_vector v1) (vri_b 0xe746 (number_of v1) start end code) }
@@ -373,7 +381,8 @@ fn reused_valid(output: &Reg, input: &Reg, source: &Reg) -> bool
     reuses(output, input) && vector(source)
 }
 
-/// A move of the leftmost bits into a register that is also an input.
+/// A move of the leftmost bits into a register that is also an input. `BadRegister` comes where a register may not
+/// stand there.
 pub fn reused_left(opcode: u16, v1: Reg, input: Reg, v2: Reg) -> Result<Code, EmitError>
     requires short { opcode < 256 }
     requires first { is_first_float opcode ≡ true }
@@ -388,7 +397,8 @@ pub fn reused_left(opcode: u16, v1: Reg, input: Reg, v2: Reg) -> Result<Code, Em
     }
 }
 
-/// A move of a whole register into one that is also an input.
+/// A move of a whole register into one that is also an input. `BadRegister` comes where a register may not stand
+/// there.
 pub fn reused_whole(v1: Reg, input: Reg, v2: Reg) -> Result<Code, EmitError>
     ensures { result ≡ code_where (reuses_vector v1 input && is_vector v2) (vrr_a 0xe756 (number_of v1) (number_of v2) 0) }
 {
@@ -404,7 +414,8 @@ pub fn reused_whole(v1: Reg, input: Reg, v2: Reg) -> Result<Code, EmitError>
     }
 }
 
-/// A move of the leftmost bits: of two float registers where both are such, else of whole vectors.
+/// A move of the leftmost bits: of two float registers where both are such, else of whole vectors. `BadRegister`
+/// comes where a register may not stand there.
 pub fn moved_left(opcode: u16, v1: Reg, v2: Reg) -> Result<Code, EmitError>
     requires short { opcode < 256 }
     requires first { is_first_float opcode ≡ true }

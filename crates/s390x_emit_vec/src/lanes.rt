@@ -41,7 +41,8 @@ fn bits_of_lane(lane: u8) -> u16
     u16::from(lane)
 }
 
-/// One element for all.
+/// One element for all. None where there is no row; `BadRegister` comes where a register is not general, or an input
+/// that has to be the output isn't it.
 pub fn replicated_lane_of(size: u32, v1: Reg, v3: Reg, lane: u8) -> Option<Result<Code, EmitError>>
     ensures { result ≡ single_code (single_with (is_vector v1 && is_vector v3) (replicate_lane_row (element_code size) size (number_of v1) (number_of v3) lane)) }
 {
@@ -103,7 +104,8 @@ fn inserted_where(
     }
 }
 
-/// An immediate in one element, where the others may become any.
+/// An immediate in one element, where the others may become any. None where there is no row; `BadRegister` comes
+/// where a register is not general, or an input that has to be the output isn't it.
 pub fn inserted(size: u32, v1: Reg, imm: i16, lane: u8) -> Option<Result<Code, EmitError>>
     ensures { result ≡ single_code (single_with (is_vector v1) (insert_immediate_row (element_code size) size (number_of v1) (low_halfword imm) lane)) }
 {
@@ -111,7 +113,8 @@ pub fn inserted(size: u32, v1: Reg, imm: i16, lane: u8) -> Option<Result<Code, E
     inserted_where(valid, size, v1, imm, lane)
 }
 
-/// An immediate in one element of a register that is also an input.
+/// An immediate in one element of a register that is also an input. None where there is no row; `BadRegister` comes
+/// where a register is not general, or an input that has to be the output isn't it.
 pub fn inserted_into(
     size: u32,
     v1: Reg,
@@ -149,7 +152,8 @@ fn lane_inserted_where(
     }
 }
 
-/// The low bits of a general register in one element of a register that is also an input.
+/// The low bits of a general register in one element of a register that is also an input. None where there is no row;
+/// `BadRegister` comes where a register is not general, or an input that has to be the output isn't it.
 pub fn lane_inserted_into(
     size: u32,
     v1: Reg,
@@ -164,7 +168,8 @@ pub fn lane_inserted_into(
     lane_inserted_where(valid, size, v1, r3, lane, base)
 }
 
-/// The low bits of a general register in one element, where the others may become any.
+/// The low bits of a general register in one element, where the others may become any. None where there is no row;
+/// `BadRegister` comes where a register is not general, or an input that has to be the output isn't it.
 pub fn lane_inserted(
     size: u32,
     v1: Reg,
@@ -206,7 +211,8 @@ fn lane_extracted_where(
     }
 }
 
-/// One element, as a general register.
+/// One element, as a general register. None where there is no row; `BadRegister` comes where a register is not
+/// general, or an input that has to be the output isn't it.
 pub fn lane_extracted(
     size: u32,
     r1: Reg,

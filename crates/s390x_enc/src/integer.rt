@@ -19,14 +19,24 @@ use crate::bytes::{four, half16, half32, high_half, low_half, lower, nibbles, si
 use crate::operands::{first, general, second};
 use s390x_base::{Code, EmitError, Reg};
 
-/// E: `ab cd`.
+/// The code of an instruction of format E. There is never an error.
+///
+/// ```text
+/// 0       16
+/// opcode
+/// ```
 pub fn enc_e(opcode: u16) -> Result<Code, EmitError>
     ensures { MatchResult result (λ code. IsCode FormatKind.E (slots opcode [] [] 0 0) code) (λ _. ⊥) }
 {
     Ok(two(upper(opcode), lower(opcode)))
 }
 
-/// RI-A: `ab`, r1 c, i2.
+/// The code of an instruction of format RI-A. `BadRegister` comes where a register is not of its operand's class.
+///
+/// ```text
+/// 0       8   12      16      32
+/// opcode  r1  opcode  i2
+/// ```
 pub fn enc_ri_a(opcode: u16, r1: Reg, i2: u16) -> Result<Code, EmitError>
     requires { opcode < 2 ^ 12 }
     ensures { let ok = is_general_class r1 in MatchResult result (λ code. (ok ≡ true) × IsCode FormatKind.RiA (slots opcode (number_of r1 ∷ []) [] i2 0) code) (λ e. (e ≡ EmitError.BadRegister) × (ok ≡ false)) }
@@ -40,7 +50,12 @@ pub fn enc_ri_a(opcode: u16, r1: Reg, i2: u16) -> Result<Code, EmitError>
     ))
 }
 
-/// RI-B: `ab`, r1 c, h.
+/// The code of an instruction of format RI-B. `BadRegister` comes where a register is not of its operand's class.
+///
+/// ```text
+/// 0       8   12      16      32
+/// opcode  r1  opcode  ri2
+/// ```
 pub fn enc_ri_b(opcode: u16, r1: Reg, ri2: i32) -> Result<Code, EmitError>
     requires opcode { opcode < 2 ^ 12 }
     requires low { negsuc 65535 ≤ℤ ri2 }
@@ -58,7 +73,12 @@ pub fn enc_ri_b(opcode: u16, r1: Reg, ri2: i32) -> Result<Code, EmitError>
     ))
 }
 
-/// RI-C: `ab`, m1 c, h.
+/// The code of an instruction of format RI-C. There is never an error.
+///
+/// ```text
+/// 0       8   12      16      32
+/// opcode  m1  opcode  ri2
+/// ```
 pub fn enc_ri_c(opcode: u16, m1: u8, ri2: i32) -> Result<Code, EmitError>
     requires opcode { opcode < 2 ^ 12 }
     requires m1 { m1 < 16 }
@@ -76,7 +96,12 @@ pub fn enc_ri_c(opcode: u16, m1: u8, ri2: i32) -> Result<Code, EmitError>
     ))
 }
 
-/// RIE-A: `ab`, r1 0, i2, m3 0, `cd`.
+/// The code of an instruction of format RIE-A. `BadRegister` comes where a register is not of its operand's class.
+///
+/// ```text
+/// 0       8   12  16      32  36  40      48
+/// opcode  r1  0   i2      m3  0   opcode
+/// ```
 pub fn enc_rie_a(opcode: u16, r1: Reg, i2: u16, m3: u8) -> Result<Code, EmitError>
     requires { m3 < 16 }
     ensures { let ok = is_general_class r1 in MatchResult result (λ code. (ok ≡ true) × IsCode FormatKind.RieA (slots opcode (number_of r1 ∷ []) (m3 ∷ []) i2 0) code) (λ e. (e ≡ EmitError.BadRegister) × (ok ≡ false)) }
@@ -92,7 +117,12 @@ pub fn enc_rie_a(opcode: u16, r1: Reg, i2: u16, m3: u8) -> Result<Code, EmitErro
     ]))
 }
 
-/// RIE-D: `ab`, r1 r3, i2, 00, `cd`.
+/// The code of an instruction of format RIE-D. `BadRegister` comes where a register is not of its operand's class.
+///
+/// ```text
+/// 0       8   12  16      32  40      48
+/// opcode  r1  r3  i2      0   opcode
+/// ```
 pub fn enc_rie_d(opcode: u16, r1: Reg, r3: Reg, i2: u16) -> Result<Code, EmitError>
     ensures { let ok = is_general_class r1 && is_general_class r3 in MatchResult result (λ code. (ok ≡ true) × IsCode FormatKind.RieD (slots opcode (number_of r1 ∷ number_of r3 ∷ []) [] i2 0) code) (λ e. (e ≡ EmitError.BadRegister) × (ok ≡ false)) }
 {
@@ -108,7 +138,12 @@ pub fn enc_rie_d(opcode: u16, r1: Reg, r3: Reg, i2: u16) -> Result<Code, EmitErr
     ]))
 }
 
-/// RIE-F: `ab`, r1 r2, i3, i4, i5, `cd`.
+/// The code of an instruction of format RIE-F. `BadRegister` comes where a register is not of its operand's class.
+///
+/// ```text
+/// 0       8   12  16  24  32  40      48
+/// opcode  r1  r2  i3  i4  i5  opcode
+/// ```
 pub fn enc_rie_f(opcode: u16, r1: Reg, r2: Reg, i3: u8, i4: u8, i5: u8) -> Result<Code, EmitError>
     ensures { let ok = is_general_class r1 && is_general_class r2 in MatchResult result (λ code. (ok ≡ true) × IsCode FormatKind.RieF (slots opcode (number_of r1 ∷ number_of r2 ∷ []) (i3 ∷ i4 ∷ i5 ∷ []) 0 0) code) (λ e. (e ≡ EmitError.BadRegister) × (ok ≡ false)) }
 {
@@ -117,7 +152,12 @@ pub fn enc_rie_f(opcode: u16, r1: Reg, r2: Reg, i3: u8, i4: u8, i5: u8) -> Resul
     Ok(six([upper(opcode), nibbles(n1, n2), i3, i4, i5, lower(opcode)]))
 }
 
-/// RIE-G: `ab`, r1 m3, i2, 00, `cd`.
+/// The code of an instruction of format RIE-G. `BadRegister` comes where a register is not of its operand's class.
+///
+/// ```text
+/// 0       8   12  16      32  40      48
+/// opcode  r1  m3  i2      0   opcode
+/// ```
 pub fn enc_rie_g(opcode: u16, r1: Reg, i2: u16, m3: u8) -> Result<Code, EmitError>
     requires { m3 < 16 }
     ensures { let ok = is_general_class r1 in MatchResult result (λ code. (ok ≡ true) × IsCode FormatKind.RieG (slots opcode (number_of r1 ∷ []) (m3 ∷ []) i2 0) code) (λ e. (e ≡ EmitError.BadRegister) × (ok ≡ false)) }
@@ -133,7 +173,12 @@ pub fn enc_rie_g(opcode: u16, r1: Reg, i2: u16, m3: u8) -> Result<Code, EmitErro
     ]))
 }
 
-/// RIL-A: `ab`, r1 c, i2.
+/// The code of an instruction of format RIL-A. `BadRegister` comes where a register is not of its operand's class.
+///
+/// ```text
+/// 0       8   12      16              48
+/// opcode  r1  opcode  i2
+/// ```
 pub fn enc_ril_a(opcode: u16, r1: Reg, i2: u32) -> Result<Code, EmitError>
     requires { opcode < 2 ^ 12 }
     ensures { let ok = is_general_class r1 in MatchResult result (λ code. (ok ≡ true) × IsCode FormatKind.RilA (slots opcode (number_of r1 ∷ []) [] i2 0) code) (λ e. (e ≡ EmitError.BadRegister) × (ok ≡ false)) }
@@ -149,7 +194,12 @@ pub fn enc_ril_a(opcode: u16, r1: Reg, i2: u32) -> Result<Code, EmitError>
     ]))
 }
 
-/// RIL-B: `ab`, r1 c, h.
+/// The code of an instruction of format RIL-B. `BadRegister` comes where a register is not of its operand's class.
+///
+/// ```text
+/// 0       8   12      16              48
+/// opcode  r1  opcode  ri2
+/// ```
 pub fn enc_ril_b(opcode: u16, r1: Reg, ri2: u32) -> Result<Code, EmitError>
     requires opcode { opcode < 2 ^ 12 }
     requires even { ri2 % 2 ≡ 0 }
@@ -167,7 +217,12 @@ pub fn enc_ril_b(opcode: u16, r1: Reg, ri2: u32) -> Result<Code, EmitError>
     ]))
 }
 
-/// RIL-C: `ab`, m1 c, h.
+/// The code of an instruction of format RIL-C. There is never an error.
+///
+/// ```text
+/// 0       8   12      16              48
+/// opcode  m1  opcode  ri2
+/// ```
 pub fn enc_ril_c(opcode: u16, m1: u8, ri2: u32) -> Result<Code, EmitError>
     requires opcode { opcode < 2 ^ 12 }
     requires m1 { m1 < 16 }
@@ -185,7 +240,12 @@ pub fn enc_ril_c(opcode: u16, m1: u8, ri2: u32) -> Result<Code, EmitError>
     ]))
 }
 
-/// RR: `ab`, r1 r2.
+/// The code of an instruction of format RR. `BadRegister` comes where a register is not of its operand's class.
+///
+/// ```text
+/// 0       8   12  16
+/// opcode  r1  r2
+/// ```
 pub fn enc_rr(opcode: u16, r1: Reg, r2: Reg) -> Result<Code, EmitError>
     requires { opcode < 2 ^ 8 }
     ensures { let ok = may_stand_first opcode r1 && may_stand_second opcode r2 in MatchResult result (λ code. (ok ≡ true) × IsCode FormatKind.Rr (slots opcode (number_of r1 ∷ number_of r2 ∷ []) [] 0 0) code) (λ e. (e ≡ EmitError.BadRegister) × (ok ≡ false)) }
@@ -195,7 +255,12 @@ pub fn enc_rr(opcode: u16, r1: Reg, r2: Reg) -> Result<Code, EmitError>
     Ok(two(lower(opcode), nibbles(n1, n2)))
 }
 
-/// RRE: `ab cd`, 00, r1 r2.
+/// The code of an instruction of format RRE. `BadRegister` comes where a register is not of its operand's class.
+///
+/// ```text
+/// 0       16  24  28  32
+/// opcode  0   r1  r2
+/// ```
 pub fn enc_rre(opcode: u16, r1: Reg, r2: Reg) -> Result<Code, EmitError>
     ensures { let ok = may_stand_first opcode r1 && may_stand_second opcode r2 in MatchResult result (λ code. (ok ≡ true) × IsCode FormatKind.Rre (slots opcode (number_of r1 ∷ number_of r2 ∷ []) [] 0 0) code) (λ e. (e ≡ EmitError.BadRegister) × (ok ≡ false)) }
 {
@@ -204,7 +269,12 @@ pub fn enc_rre(opcode: u16, r1: Reg, r2: Reg) -> Result<Code, EmitError>
     Ok(four(upper(opcode), lower(opcode), 0, nibbles(n1, n2)))
 }
 
-/// RRF-AB: `ab cd`, r3 m4, r1 r2.
+/// The code of an instruction of format RRF-AB. `BadRegister` comes where a register is not of its operand's class.
+///
+/// ```text
+/// 0       16  20  24  28  32
+/// opcode  r3  m4  r1  r2
+/// ```
 pub fn enc_rrf_ab(opcode: u16, r1: Reg, r2: Reg, r3: Reg, m4: u8) -> Result<Code, EmitError>
     requires { m4 < 16 }
     ensures { let ok = is_general_class r1 && is_general_class r2 && is_general_class r3 in MatchResult result (λ code. (ok ≡ true) × IsCode FormatKind.RrfAb (slots opcode (number_of r1 ∷ number_of r2 ∷ number_of r3 ∷ []) (m4 ∷ []) 0 0) code) (λ e. (e ≡ EmitError.BadRegister) × (ok ≡ false)) }
@@ -220,7 +290,12 @@ pub fn enc_rrf_ab(opcode: u16, r1: Reg, r2: Reg, r3: Reg, m4: u8) -> Result<Code
     ))
 }
 
-/// RRF-CDE: `ab cd`, m3 m4, r1 r2.
+/// The code of an instruction of format RRF-CDE. `BadRegister` comes where a register is not of its operand's class.
+///
+/// ```text
+/// 0       16  20  24  28  32
+/// opcode  m3  m4  r1  r2
+/// ```
 pub fn enc_rrf_cde(opcode: u16, r1: Reg, r2: Reg, m3: u8, m4: u8) -> Result<Code, EmitError>
     requires m3 { m3 < 16 }
     requires m4 { m4 < 16 }

@@ -6,7 +6,7 @@ ghost use Rattle.s390x_base.specs.declared.error.EmitError.{EmitError};
 
 use s390x_base::{EmitError, Reg, RegClass};
 
-/// The number of a general register.
+/// The number of a general register. `BadRegister` comes where a register is not one of the operand's class.
 pub fn general(r: Reg) -> Result<u8, EmitError>
     ensures { MatchResult result (λ n. (is_general_class r ≡ true) × (n ≡ number_of r) × (n < 2 ^ 4)) (λ e. (e ≡ EmitError.BadRegister) × (is_general_class r ≡ false)) }
 {
@@ -22,7 +22,7 @@ pub fn general(r: Reg) -> Result<u8, EmitError>
     }
 }
 
-/// The number of a vector register.
+/// The number of a vector register. `BadRegister` comes where a register is not one of the operand's class.
 pub fn vector(r: Reg) -> Result<u8, EmitError>
     ensures { MatchResult result (λ n. (is_vector r ≡ true) × (n ≡ number_of r) × (n < 2 ^ 5)) (λ e. (e ≡ EmitError.BadRegister) × (is_vector r ≡ false)) }
 {
@@ -38,7 +38,8 @@ pub fn vector(r: Reg) -> Result<u8, EmitError>
     }
 }
 
-/// The number of a float register: a Float register below 16.
+/// The number of a float register: a Float register below 16. `BadRegister` comes where a register is not one of the
+/// operand's class.
 pub fn float(r: Reg) -> Result<u8, EmitError>
     ensures { MatchResult result (λ n. (is_float r ≡ true) × (n ≡ number_of r) × (n < 2 ^ 4)) (λ e. (e ≡ EmitError.BadRegister) × (is_float r ≡ false)) }
 {
@@ -84,7 +85,8 @@ fn second_is_float(opcode: u16) -> bool
     opcode == 0x28 || opcode == 0x38 || opcode == 0xb3cd
 }
 
-/// The number of the first operand of an instruction on general and float registers.
+/// The number of the first operand of an instruction on general and float registers. `BadRegister` comes where a
+/// register is not one of the operand's class.
 pub fn first(opcode: u16, r: Reg) -> Result<u8, EmitError>
     ensures { MatchResult result (λ n. (may_stand_first opcode r ≡ true) × (n ≡ number_of r) × (n < 2 ^ 4)) (λ e. (e ≡ EmitError.BadRegister) × (may_stand_first opcode r ≡ false)) }
 {
@@ -95,7 +97,8 @@ pub fn first(opcode: u16, r: Reg) -> Result<u8, EmitError>
     }
 }
 
-/// The number of the second operand of an instruction on general and float registers.
+/// The number of the second operand of an instruction on general and float registers. `BadRegister` comes where a
+/// register is not one of the operand's class.
 pub fn second(opcode: u16, r: Reg) -> Result<u8, EmitError>
     ensures { MatchResult result (λ n. (may_stand_second opcode r ≡ true) × (n ≡ number_of r) × (n < 2 ^ 4)) (λ e. (e ≡ EmitError.BadRegister) × (may_stand_second opcode r ≡ false)) }
 {

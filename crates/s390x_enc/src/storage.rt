@@ -18,7 +18,12 @@ use crate::bytes::{four, lower, nibbles, six, upper};
 use crate::operands::{first, general};
 use s390x_base::{Code, EmitError, Reg};
 
-/// RS: `ab`, r1 r3, b2 d.
+/// The code of an instruction of format RS. `BadRegister` comes where a register is not of its operand's class.
+///
+/// ```text
+/// 0       8   12  16  20    32
+/// opcode  r1  r3  b2  d2
+/// ```
 pub fn enc_rs(opcode: u16, r1: Reg, r3: Reg, b2: Reg, d2: u32) -> Result<Code, EmitError>
     requires opcode { opcode < 2 ^ 8 }
     requires d2 { d2 < 4096 }
@@ -35,7 +40,12 @@ pub fn enc_rs(opcode: u16, r1: Reg, r3: Reg, b2: Reg, d2: u32) -> Result<Code, E
     ))
 }
 
-/// RSY: `ab`, r1 r3, b2 dl, dh, `cd`.
+/// The code of an instruction of format RSY. `BadRegister` comes where a register is not of its operand's class.
+///
+/// ```text
+/// 0       8   12  16  20    32   40      48
+/// opcode  r1  r3  b2  dl2   dh2  opcode
+/// ```
 pub fn enc_rsy(opcode: u16, r1: Reg, r3: Reg, b2: Reg, d2: u32) -> Result<Code, EmitError>
     requires { d2 < 1048576 }
     ensures { let ok = is_general_class r1 && is_general_class r3 && is_general_class b2 in MatchResult result (λ code. (ok ≡ true) × IsCode FormatKind.Rsy (slots opcode (number_of r1 ∷ number_of r3 ∷ number_of b2 ∷ []) [] 0 d2) code) (λ e. (e ≡ EmitError.BadRegister) × (ok ≡ false)) }
@@ -53,7 +63,12 @@ pub fn enc_rsy(opcode: u16, r1: Reg, r3: Reg, b2: Reg, d2: u32) -> Result<Code, 
     ]))
 }
 
-/// RX: `ab`, r1 x2, b2 d.
+/// The code of an instruction of format RX. `BadRegister` comes where a register is not of its operand's class.
+///
+/// ```text
+/// 0       8   12  16  20    32
+/// opcode  r1  x2  b2  d2
+/// ```
 pub fn enc_rx(opcode: u16, r1: Reg, b2: Reg, x2: Reg, d2: u32) -> Result<Code, EmitError>
     requires opcode { opcode < 2 ^ 8 }
     requires d2 { d2 < 4096 }
@@ -70,7 +85,12 @@ pub fn enc_rx(opcode: u16, r1: Reg, b2: Reg, x2: Reg, d2: u32) -> Result<Code, E
     ))
 }
 
-/// RXY: `ab`, r1 x2, b2 dl, dh, `cd`.
+/// The code of an instruction of format RXY. `BadRegister` comes where a register is not of its operand's class.
+///
+/// ```text
+/// 0       8   12  16  20    32   40      48
+/// opcode  r1  x2  b2  dl2   dh2  opcode
+/// ```
 pub fn enc_rxy(opcode: u16, r1: Reg, b2: Reg, x2: Reg, d2: u32) -> Result<Code, EmitError>
     requires { d2 < 1048576 }
     ensures { let ok = may_stand_first opcode r1 && is_general_class b2 && is_general_class x2 in MatchResult result (λ code. (ok ≡ true) × IsCode FormatKind.Rxy (slots opcode (number_of r1 ∷ number_of b2 ∷ number_of x2 ∷ []) [] 0 d2) code) (λ e. (e ≡ EmitError.BadRegister) × (ok ≡ false)) }
@@ -88,7 +108,12 @@ pub fn enc_rxy(opcode: u16, r1: Reg, b2: Reg, x2: Reg, d2: u32) -> Result<Code, 
     ]))
 }
 
-/// SI: `ab`, i2, b1 d.
+/// The code of an instruction of format SI. `BadRegister` comes where a register is not of its operand's class.
+///
+/// ```text
+/// 0       8   16  20    32
+/// opcode  i2  b1  d1
+/// ```
 pub fn enc_si(opcode: u16, b1: Reg, d1: u32, i2: u8) -> Result<Code, EmitError>
     requires opcode { opcode < 2 ^ 8 }
     requires d1 { d1 < 4096 }
@@ -103,7 +128,12 @@ pub fn enc_si(opcode: u16, b1: Reg, d1: u32, i2: u8) -> Result<Code, EmitError>
     ))
 }
 
-/// SIL: `ab cd`, b1 d, i2.
+/// The code of an instruction of format SIL. `BadRegister` comes where a register is not of its operand's class.
+///
+/// ```text
+/// 0       16  20    32      48
+/// opcode  b1  d1    i2
+/// ```
 pub fn enc_sil(opcode: u16, b1: Reg, d1: u32, i2: i16) -> Result<Code, EmitError>
     requires { d1 < 4096 }
     ensures { let ok = is_general_class b1 in MatchResult result (λ code. (ok ≡ true) × IsCode FormatKind.Sil (slots opcode (number_of b1 ∷ []) [] (cast_unsigned w16 i2) d1) code) (λ e. (e ≡ EmitError.BadRegister) × (ok ≡ false)) }
@@ -120,7 +150,12 @@ pub fn enc_sil(opcode: u16, b1: Reg, d1: u32, i2: i16) -> Result<Code, EmitError
     ]))
 }
 
-/// SIY: `ab`, i2, b1 dl, dh, `cd`.
+/// The code of an instruction of format SIY. `BadRegister` comes where a register is not of its operand's class.
+///
+/// ```text
+/// 0       8   16  20    32   40      48
+/// opcode  i2  b1  dl1   dh1  opcode
+/// ```
 pub fn enc_siy(opcode: u16, b1: Reg, d1: u32, i2: u8) -> Result<Code, EmitError>
     requires { d1 < 1048576 }
     ensures { let ok = is_general_class b1 in MatchResult result (λ code. (ok ≡ true) × IsCode FormatKind.Siy (slots opcode (number_of b1 ∷ []) (i2 ∷ []) 0 d1) code) (λ e. (e ≡ EmitError.BadRegister) × (ok ≡ false)) }

@@ -16,7 +16,12 @@ use crate::bytes::{lower, nibbles, six, upper};
 use crate::operands::{general, high_bits, vector};
 use s390x_base::{Code, EmitError, Reg};
 
-/// VRI-A: `ab`, v1 0, i2, m3 x, `cd`.
+/// The code of an instruction of format VRI-A. `BadRegister` comes where a register is not of its operand's class.
+///
+/// ```text
+/// 0       8   12  16      32  36   40      48
+/// opcode  v1  0   i2      m3  rxb  opcode
+/// ```
 pub fn enc_vri_a(opcode: u16, v1: Reg, i2: u16, m3: u8) -> Result<Code, EmitError>
     requires { m3 < 16 }
     ensures { let ok = is_vector v1 in MatchResult result (λ code. (ok ≡ true) × IsCode FormatKind.VriA (slots opcode (number_of v1 ∷ []) (m3 ∷ []) i2 0) code) (λ e. (e ≡ EmitError.BadRegister) × (ok ≡ false)) }
@@ -33,7 +38,12 @@ pub fn enc_vri_a(opcode: u16, v1: Reg, i2: u16, m3: u8) -> Result<Code, EmitErro
     ]))
 }
 
-/// VRI-B: `ab`, v1 0, i2, i3, m4 x, `cd`.
+/// The code of an instruction of format VRI-B. `BadRegister` comes where a register is not of its operand's class.
+///
+/// ```text
+/// 0       8   12  16  24  32  36   40      48
+/// opcode  v1  0   i2  i3  m4  rxb  opcode
+/// ```
 pub fn enc_vri_b(opcode: u16, v1: Reg, i2: u8, i3: u8, m4: u8) -> Result<Code, EmitError>
     requires { m4 < 16 }
     ensures { let ok = is_vector v1 in MatchResult result (λ code. (ok ≡ true) × IsCode FormatKind.VriB (slots opcode (number_of v1 ∷ []) (i2 ∷ i3 ∷ m4 ∷ []) 0 0) code) (λ e. (e ≡ EmitError.BadRegister) × (ok ≡ false)) }
@@ -50,7 +60,12 @@ pub fn enc_vri_b(opcode: u16, v1: Reg, i2: u8, i3: u8, m4: u8) -> Result<Code, E
     ]))
 }
 
-/// VRI-C: `ab`, v1 v3, i2, m4 x, `cd`.
+/// The code of an instruction of format VRI-C. `BadRegister` comes where a register is not of its operand's class.
+///
+/// ```text
+/// 0       8   12  16      32  36   40      48
+/// opcode  v1  v3  i2      m4  rxb  opcode
+/// ```
 pub fn enc_vri_c(opcode: u16, v1: Reg, i2: u16, v3: Reg, m4: u8) -> Result<Code, EmitError>
     requires { m4 < 16 }
     ensures { let ok = is_vector v1 && is_vector v3 in MatchResult result (λ code. (ok ≡ true) × IsCode FormatKind.VriC (slots opcode (number_of v1 ∷ number_of v3 ∷ []) (m4 ∷ []) i2 0) code) (λ e. (e ≡ EmitError.BadRegister) × (ok ≡ false)) }
@@ -68,7 +83,12 @@ pub fn enc_vri_c(opcode: u16, v1: Reg, i2: u16, v3: Reg, m4: u8) -> Result<Code,
     ]))
 }
 
-/// VRI-K: `ab`, v1 v2, v3 0, i5, v4 x, `cd`.
+/// The code of an instruction of format VRI-K. `BadRegister` comes where a register is not of its operand's class.
+///
+/// ```text
+/// 0       8   12  16  20  24  32  36   40      48
+/// opcode  v1  v2  v3  0   i5  v4  rxb  opcode
+/// ```
 pub fn enc_vri_k(opcode: u16, i5: u8, v1: Reg, v2: Reg, v3: Reg, v4: Reg) -> Result<Code, EmitError>
     ensures { let ok = is_vector v1 && is_vector v2 && is_vector v3 && is_vector v4 in MatchResult result (λ code. (ok ≡ true) × IsCode FormatKind.VriK (slots opcode (number_of v1 ∷ number_of v2 ∷ number_of v3 ∷ number_of v4 ∷ []) (i5 ∷ []) 0 0) code) (λ e. (e ≡ EmitError.BadRegister) × (ok ≡ false)) }
 {
@@ -87,7 +107,12 @@ pub fn enc_vri_k(opcode: u16, i5: u8, v1: Reg, v2: Reg, v3: Reg, v4: Reg) -> Res
     ]))
 }
 
-/// VRR-A: `ab`, v1 v2, 00, m5 m4, m3 x, `cd`.
+/// The code of an instruction of format VRR-A. `BadRegister` comes where a register is not of its operand's class.
+///
+/// ```text
+/// 0       8   12  16  24  28  32  36   40      48
+/// opcode  v1  v2  0   m5  m4  m3  rxb  opcode
+/// ```
 pub fn enc_vrr_a(opcode: u16, v1: Reg, v2: Reg, m3: u8, m4: u8, m5: u8) -> Result<Code, EmitError>
     requires m3 { m3 < 16 }
     requires m4 { m4 < 16 }
@@ -107,7 +132,12 @@ pub fn enc_vrr_a(opcode: u16, v1: Reg, v2: Reg, m3: u8, m4: u8, m5: u8) -> Resul
     ]))
 }
 
-/// VRR-B: `ab`, v1 v2, v3 0, m5 0, m4 x, `cd`.
+/// The code of an instruction of format VRR-B. `BadRegister` comes where a register is not of its operand's class.
+///
+/// ```text
+/// 0       8   12  16  20  24  28  32  36   40      48
+/// opcode  v1  v2  v3  0   m5  0   m4  rxb  opcode
+/// ```
 pub fn enc_vrr_b(opcode: u16, v1: Reg, v2: Reg, v3: Reg, m4: u8, m5: u8) -> Result<Code, EmitError>
     requires m4 { m4 < 16 }
     requires m5 { m5 < 16 }
@@ -127,7 +157,12 @@ pub fn enc_vrr_b(opcode: u16, v1: Reg, v2: Reg, v3: Reg, m4: u8, m5: u8) -> Resu
     ]))
 }
 
-/// VRR-C: `ab`, v1 v2, v3 0, m6 m5, m4 x, `cd`.
+/// The code of an instruction of format VRR-C. `BadRegister` comes where a register is not of its operand's class.
+///
+/// ```text
+/// 0       8   12  16  20  24  28  32  36   40      48
+/// opcode  v1  v2  v3  0   m6  m5  m4  rxb  opcode
+/// ```
 pub fn enc_vrr_c(
     opcode: u16,
     v1: Reg,
@@ -156,7 +191,12 @@ pub fn enc_vrr_c(
     ]))
 }
 
-/// VRR-D: `ab`, v1 v2, v3 m5, m6 0, v4 x, `cd`.
+/// The code of an instruction of format VRR-D. `BadRegister` comes where a register is not of its operand's class.
+///
+/// ```text
+/// 0       8   12  16  20  24  28  32  36   40      48
+/// opcode  v1  v2  v3  m5  m6  0   v4  rxb  opcode
+/// ```
 pub fn enc_vrr_d(
     opcode: u16,
     v1: Reg,
@@ -185,7 +225,12 @@ pub fn enc_vrr_d(
     ]))
 }
 
-/// VRR-E: `ab`, v1 v2, v3 m6, 0 m5, v4 x, `cd`.
+/// The code of an instruction of format VRR-E. `BadRegister` comes where a register is not of its operand's class.
+///
+/// ```text
+/// 0       8   12  16  20  24  28  32  36   40      48
+/// opcode  v1  v2  v3  m6  0   m5  v4  rxb  opcode
+/// ```
 pub fn enc_vrr_e(
     opcode: u16,
     v1: Reg,
@@ -214,7 +259,12 @@ pub fn enc_vrr_e(
     ]))
 }
 
-/// VRR-F: `ab`, v1 r2, r3 0, 00, 0 x, `cd`.
+/// The code of an instruction of format VRR-F. `BadRegister` comes where a register is not of its operand's class.
+///
+/// ```text
+/// 0       8   12  16  20  24  32  36   40      48
+/// opcode  v1  r2  r3  0   0   0   rxb  opcode
+/// ```
 pub fn enc_vrr_f(opcode: u16, v1: Reg, r2: Reg, r3: Reg) -> Result<Code, EmitError>
     ensures { let ok = is_vector v1 && is_general_class r2 && is_general_class r3 in MatchResult result (λ code. (ok ≡ true) × IsCode FormatKind.VrrF (slots opcode (number_of v1 ∷ number_of r2 ∷ number_of r3 ∷ []) [] 0 0) code) (λ e. (e ≡ EmitError.BadRegister) × (ok ≡ false)) }
 {
@@ -232,7 +282,12 @@ pub fn enc_vrr_f(opcode: u16, v1: Reg, r2: Reg, r3: Reg) -> Result<Code, EmitErr
     ]))
 }
 
-/// VRS-A: `ab`, v1 v3, b2 d, m4 x, `cd`.
+/// The code of an instruction of format VRS-A. `BadRegister` comes where a register is not of its operand's class.
+///
+/// ```text
+/// 0       8   12  16  20    32  36   40      48
+/// opcode  v1  v3  b2  d2    m4  rxb  opcode
+/// ```
 pub fn enc_vrs_a(opcode: u16, v1: Reg, b2: Reg, d2: u32, v3: Reg, m4: u8) -> Result<Code, EmitError>
     requires d2 { d2 < 4096 }
     requires m4 { m4 < 16 }
@@ -252,7 +307,12 @@ pub fn enc_vrs_a(opcode: u16, v1: Reg, b2: Reg, d2: u32, v3: Reg, m4: u8) -> Res
     ]))
 }
 
-/// VRS-B: `ab`, v1 r3, b2 d, m4 x, `cd`.
+/// The code of an instruction of format VRS-B. `BadRegister` comes where a register is not of its operand's class.
+///
+/// ```text
+/// 0       8   12  16  20    32  36   40      48
+/// opcode  v1  r3  b2  d2    m4  rxb  opcode
+/// ```
 pub fn enc_vrs_b(opcode: u16, v1: Reg, b2: Reg, d2: u32, r3: Reg, m4: u8) -> Result<Code, EmitError>
     requires d2 { d2 < 4096 }
     requires m4 { m4 < 16 }
@@ -272,7 +332,12 @@ pub fn enc_vrs_b(opcode: u16, v1: Reg, b2: Reg, d2: u32, r3: Reg, m4: u8) -> Res
     ]))
 }
 
-/// VRS-C: `ab`, r1 v3, b2 d, m4 x, `cd`.
+/// The code of an instruction of format VRS-C. `BadRegister` comes where a register is not of its operand's class.
+///
+/// ```text
+/// 0       8   12  16  20    32  36   40      48
+/// opcode  r1  v3  b2  d2    m4  rxb  opcode
+/// ```
 pub fn enc_vrs_c(opcode: u16, r1: Reg, b2: Reg, d2: u32, v3: Reg, m4: u8) -> Result<Code, EmitError>
     requires d2 { d2 < 4096 }
     requires m4 { m4 < 16 }
@@ -292,7 +357,12 @@ pub fn enc_vrs_c(opcode: u16, r1: Reg, b2: Reg, d2: u32, v3: Reg, m4: u8) -> Res
     ]))
 }
 
-/// VRX: `ab`, v1 x2, b2 d, m3 x, `cd`.
+/// The code of an instruction of format VRX. `BadRegister` comes where a register is not of its operand's class.
+///
+/// ```text
+/// 0       8   12  16  20    32  36   40      48
+/// opcode  v1  x2  b2  d2    m3  rxb  opcode
+/// ```
 pub fn enc_vrx(opcode: u16, v1: Reg, b2: Reg, x2: Reg, d2: u32, m3: u8) -> Result<Code, EmitError>
     requires d2 { d2 < 4096 }
     requires m3 { m3 < 16 }

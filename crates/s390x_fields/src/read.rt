@@ -40,6 +40,7 @@ use s390x_words::vector_operators::{
 use std::alloc::{AllocError, Global};
 
 impl<'a> Cursor<'a> {
+    /// The register, real or not yet allocated, of the next word, `%r2` or `%i0`.
     #[inline(always)]
     pub fn reg(&mut self) -> Reg
         ensures value { result ≡ reg_of (word self.old) }
@@ -48,6 +49,7 @@ impl<'a> Cursor<'a> {
         reg(self.word())
     }
 
+    /// The register of the next word, as one that is written.
     #[inline(always)]
     pub fn written(&mut self) -> Writable<Reg>
         ensures value { result ≡ reg_of (word self.old) }
@@ -56,6 +58,7 @@ impl<'a> Cursor<'a> {
         written(self.word())
     }
 
+    /// The real register of the next word.
     #[inline(always)]
     pub fn real(&mut self) -> PReg
         ensures value { result ≡ real_register_of (word self.old) }
@@ -64,6 +67,7 @@ impl<'a> Cursor<'a> {
         real(self.word())
     }
 
+    /// The ALU operator of the next word.
     #[inline(never)]
     pub fn alu(&mut self) -> ALUOp
         ensures value { result ≡ alu_of (word self.old) }
@@ -72,6 +76,7 @@ impl<'a> Cursor<'a> {
         alu(self.word())
     }
 
+    /// The comparison of the next word.
     #[inline(never)]
     pub fn cmp(&mut self) -> CmpOp
         ensures value { result ≡ cmp_of (word self.old) }
@@ -80,6 +85,7 @@ impl<'a> Cursor<'a> {
         cmp(self.word())
     }
 
+    /// The shift of the next word.
     #[inline(never)]
     pub fn shift_op(&mut self) -> ShiftOp
         ensures value { result ≡ shift_of (word self.old) }
@@ -88,6 +94,7 @@ impl<'a> Cursor<'a> {
         shift(self.word())
     }
 
+    /// The operator of a rotate-then-insert of the next word.
     #[inline(never)]
     pub fn rxsbg(&mut self) -> RxSBGOp
         ensures value { result ≡ rxsbg_of (word self.old) }
@@ -96,6 +103,7 @@ impl<'a> Cursor<'a> {
         rxsbg(self.word())
     }
 
+    /// The operator on one register of the next word.
     #[inline(never)]
     pub fn unary(&mut self) -> UnaryOp
         ensures value { result ≡ unary_of (word self.old) }
@@ -104,6 +112,7 @@ impl<'a> Cursor<'a> {
         unary(self.word())
     }
 
+    /// The operator on two vectors of the next word.
     #[inline(never)]
     pub fn vec_binary(&mut self) -> VecBinaryOp
         ensures value { result ≡ vec_binary_of (word self.old) }
@@ -112,6 +121,7 @@ impl<'a> Cursor<'a> {
         vec_binary(self.word())
     }
 
+    /// The operator on one vector of the next word.
     #[inline(never)]
     pub fn vec_unary(&mut self) -> VecUnaryOp
         ensures value { result ≡ vec_unary_of (word self.old) }
@@ -120,6 +130,7 @@ impl<'a> Cursor<'a> {
         vec_unary(self.word())
     }
 
+    /// The shift of a vector of the next word.
     #[inline(never)]
     pub fn vec_shift_op(&mut self) -> VecShiftOp
         ensures value { result ≡ vec_shift_of (word self.old) }
@@ -128,6 +139,7 @@ impl<'a> Cursor<'a> {
         vec_shift(self.word())
     }
 
+    /// The comparison of vectors of the next word.
     #[inline(never)]
     pub fn vec_compare(&mut self) -> VecIntCmpOp
         ensures value { result ≡ vec_compare_of (word self.old) }
@@ -136,6 +148,7 @@ impl<'a> Cursor<'a> {
         vec_compare(self.word())
     }
 
+    /// The comparison of elements of the next word.
     #[inline(never)]
     pub fn vec_element_compare(&mut self) -> VecIntEltCmpOp
         ensures value { result ≡ vec_element_compare_of (word self.old) }
@@ -144,6 +157,7 @@ impl<'a> Cursor<'a> {
         vec_element_compare(self.word())
     }
 
+    /// The calling convention of the next word.
     #[inline(never)]
     pub fn convention(&mut self) -> CallConv
         ensures value { result ≡ convention_of (word self.old) }
@@ -152,6 +166,7 @@ impl<'a> Cursor<'a> {
         convention(self.word())
     }
 
+    /// The truth value of the next word.
     #[inline(never)]
     pub fn truth(&mut self) -> bool
         ensures value { result ≡ bool_of (word self.old) }
@@ -160,6 +175,7 @@ impl<'a> Cursor<'a> {
         truth(self.word())
     }
 
+    /// The number below 2^8 of the next word, in decimal.
     #[inline(never)]
     pub fn u8(&mut self) -> u8
         ensures value { result ≡ natural_of W8 (word self.old) }
@@ -168,6 +184,7 @@ impl<'a> Cursor<'a> {
         natural8(self.word())
     }
 
+    /// The number below 2^16 of the next word, in decimal.
     #[inline(never)]
     pub fn u16(&mut self) -> u16
         ensures value { result ≡ natural_of W16 (word self.old) }
@@ -176,6 +193,7 @@ impl<'a> Cursor<'a> {
         natural16(self.word())
     }
 
+    /// The number below 2^32 of the next word, in decimal.
     #[inline(never)]
     pub fn u32(&mut self) -> u32
         ensures value { result ≡ natural_of W32 (word self.old) }
@@ -184,6 +202,7 @@ impl<'a> Cursor<'a> {
         natural32(self.word())
     }
 
+    /// The number below 2^64 of the next word, in decimal.
     #[inline(never)]
     pub fn u64(&mut self) -> u64
         ensures value { result ≡ natural_of W64 (word self.old) }
@@ -192,6 +211,7 @@ impl<'a> Cursor<'a> {
         natural64(self.word())
     }
 
+    /// The number of 8 bits with a sign of the next word, in decimal.
     #[inline(never)]
     pub fn i8(&mut self) -> i8
         ensures value { result ≡ integer_of S8 (word self.old) }
@@ -200,6 +220,7 @@ impl<'a> Cursor<'a> {
         integer8(self.word())
     }
 
+    /// The number of 16 bits with a sign of the next word, in decimal.
     #[inline(never)]
     pub fn i16(&mut self) -> i16
         ensures value { result ≡ integer_of S16 (word self.old) }
@@ -208,6 +229,7 @@ impl<'a> Cursor<'a> {
         integer16(self.word())
     }
 
+    /// The number of 32 bits with a sign of the next word, in decimal.
     #[inline(never)]
     pub fn i32(&mut self) -> i32
         ensures value { result ≡ integer_of S32 (word self.old) }
@@ -216,6 +238,7 @@ impl<'a> Cursor<'a> {
         integer32(self.word())
     }
 
+    /// The displacement of 20 bits of the next word, in bytes.
     pub fn displacement(&mut self) -> SImm20
         ensures value { result ≡ integer_of S20 (word self.old) }
         ensures after { self.new ≡ after_word self.old }
@@ -223,6 +246,7 @@ impl<'a> Cursor<'a> {
         displacement20(self.word())
     }
 
+    /// The mask of a condition of the next word.
     #[inline(never)]
     pub fn cond(&mut self) -> Cond
         ensures value { result ≡ mask_of (word self.old) }
@@ -231,6 +255,7 @@ impl<'a> Cursor<'a> {
         cond(self.word())
     }
 
+    /// The trap code of the next word.
     pub fn trap(&mut self) -> TrapCode
         ensures value { result ≡ trap_of (word self.old) }
         ensures after { self.new ≡ after_word self.old }
@@ -238,6 +263,7 @@ impl<'a> Cursor<'a> {
         trap(self.word())
     }
 
+    /// The external name of the next word, `u7`.
     #[inline(always)]
     pub fn name(&mut self) -> ExternalName
         ensures value { result ≡ record { 0 = name_of (word self.old) } }
@@ -246,6 +272,7 @@ impl<'a> Cursor<'a> {
         name(self.word())
     }
 
+    /// The label of the next word: the number of a block.
     #[inline(always)]
     pub fn label(&mut self) -> MachLabel
         ensures value { result ≡ record { 0 = natural_of W32 (word self.old) } }
@@ -254,6 +281,7 @@ impl<'a> Cursor<'a> {
         MachLabel(natural32(self.word()))
     }
 
+    /// What a call calls, by the next word.
     pub fn target(&mut self) -> CallInstDest
         ensures value { result ≡ call_target_of (word self.old) }
         ensures after { self.new ≡ after_word self.old }
@@ -261,6 +289,7 @@ impl<'a> Cursor<'a> {
         target(self.word())
     }
 
+    /// The pair of registers of the next two words, the high one first.
     #[inline(always)]
     pub fn pair(&mut self) -> RegPair
         ensures value { result ≡ record { hi = reg_of (word self.old); lo = reg_of (word (after_word self.old)) } }
@@ -271,6 +300,7 @@ impl<'a> Cursor<'a> {
         RegPair { hi, lo }
     }
 
+    /// The pair of registers of the next two words, as one that is written.
     #[inline(always)]
     pub fn written_pair(&mut self) -> WritableRegPair
         ensures value { result ≡ record { hi = reg_of (word self.old); lo = reg_of (word (after_word self.old)) } }
@@ -281,6 +311,7 @@ impl<'a> Cursor<'a> {
         WritableRegPair { hi, lo }
     }
 
+    /// The 16 bits of the next word, at the 16-bit part that the word behind it numbers.
     #[inline(always)]
     pub fn shifted16(&mut self) -> UImm16Shifted
         ensures value { result ≡ record { bits = natural_of W16 (word self.old); shift = natural_of W8 (word (after_word self.old)) } }
@@ -291,6 +322,7 @@ impl<'a> Cursor<'a> {
         UImm16Shifted { bits, shift }
     }
 
+    /// The 32 bits of the next word, at the half that the word behind it numbers.
     #[inline(always)]
     pub fn shifted32(&mut self) -> UImm32Shifted
         ensures value { result ≡ record { bits = natural_of W32 (word self.old); shift = natural_of W8 (word (after_word self.old)) } }
@@ -309,6 +341,7 @@ impl<'a> Cursor<'a> {
         *self = Cursor::new(left);
     }
 
+    /// The operand in memory that comes next, up to its closing parenthesis.
     #[inline(never)]
     pub fn memory(&mut self) -> MemArg
         ensures value { result ≡ memory_operand_of self.old }
@@ -319,6 +352,7 @@ impl<'a> Cursor<'a> {
         value
     }
 
+    /// The symbol with its offset that comes next, up to its closing parenthesis.
     pub fn reloc(&mut self) -> SymbolReloc
         ensures value { result ≡ reloc_of self.old }
         ensures after { self.new ≡ past 41 self.old }
@@ -328,6 +362,7 @@ impl<'a> Cursor<'a> {
         value
     }
 
+    /// The list of labels that comes next. An error comes for want of memory alone.
     pub fn labels(&mut self, alloc: Global) -> Result<Vec<MachLabel>, AllocError>
         ensures value { IfOk result (λ v. v.items ≡ list_of label_of (drop 1 self.old)) }
         ensures after { self.new ≡ past 93 self.old }
@@ -337,6 +372,7 @@ impl<'a> Cursor<'a> {
         value
     }
 
+    /// The list of arguments that comes next. An error comes for want of memory alone.
     pub fn args(&mut self, alloc: Global) -> Result<Vec<ArgPair>, AllocError>
         ensures value { IfOk result (λ v. v.items ≡ list_of arg_of (drop 1 self.old)) }
         ensures after { self.new ≡ past 93 self.old }
@@ -346,6 +382,7 @@ impl<'a> Cursor<'a> {
         value
     }
 
+    /// The list of returned values that comes next. An error comes for want of memory alone.
     pub fn rets(&mut self, alloc: Global) -> Result<Vec<RetPair>, AllocError>
         ensures value { IfOk result (λ v. v.items ≡ list_of ret_of (drop 1 self.old)) }
         ensures after { self.new ≡ past 93 self.old }
@@ -355,6 +392,7 @@ impl<'a> Cursor<'a> {
         value
     }
 
+    /// The list of a call's uses that comes next. An error comes for want of memory alone.
     pub fn uses(&mut self, alloc: Global) -> Result<Vec<CallArgPair>, AllocError>
         ensures value { IfOk result (λ v. v.items ≡ list_of use_of (drop 1 self.old)) }
         ensures after { self.new ≡ past 93 self.old }
@@ -364,6 +402,7 @@ impl<'a> Cursor<'a> {
         value
     }
 
+    /// The list of a call's results that comes next. An error comes for want of memory alone.
     pub fn defs(&mut self, alloc: Global) -> Result<Vec<CallRetPair>, AllocError>
         ensures value { IfOk result (λ v. v.items ≡ list_of call_result_of (drop 1 self.old)) }
         ensures after { self.new ≡ past 93 self.old }
@@ -373,6 +412,7 @@ impl<'a> Cursor<'a> {
         value
     }
 
+    /// The list of real registers that comes next. An error comes for want of memory alone.
     pub fn reals(&mut self, alloc: Global) -> Result<Vec<PReg>, AllocError>
         ensures value { IfOk result (λ v. v.items ≡ list_of (λ s. real_register_of (word s)) (drop 1 self.old)) }
         ensures after { self.new ≡ past 93 self.old }
@@ -382,6 +422,7 @@ impl<'a> Cursor<'a> {
         value
     }
 
+    /// The set of real registers that comes next, as a list. An error comes for want of memory alone.
     pub fn set(&mut self, alloc: Global) -> Result<PRegSet, AllocError>
         ensures value { IfOk result (λ p. members_of (has p) ≡ members_of (is_in (list_of (λ s. real_register_of (word s)) (drop 1 self.old)))) }
         ensures after { self.new ≡ past 93 self.old }
@@ -400,6 +441,7 @@ impl<'a> Cursor<'a> {
         }
     }
 
+    /// The handlers of a call that come next, or none. An error comes for want of memory alone.
     pub fn handlers(&mut self, alloc: Global) -> Result<Option<TryCallInfo>, AllocError>
         ensures value { IfOk result (λ t. try_part t ≡ try_of self.old) }
         ensures after { self.new ≡ after_try self.old }
@@ -409,6 +451,7 @@ impl<'a> Cursor<'a> {
         value
     }
 
+    /// The number below 2^8 of the next word, or none.
     pub fn option8(&mut self) -> Option<u8>
         ensures value { result ≡ option_of W8 (word self.old) }
         ensures after { self.new ≡ after_word self.old }
@@ -421,6 +464,7 @@ impl<'a> Cursor<'a> {
         }
     }
 
+    /// The number below 2^32 of the next word, or none.
     pub fn option32(&mut self) -> Option<u32>
         ensures value { result ≡ option_of W32 (word self.old) }
         ensures after { self.new ≡ after_word self.old }
@@ -433,6 +477,7 @@ impl<'a> Cursor<'a> {
         }
     }
 
+    /// The bytes of the next word, in hex. An error comes for want of memory alone.
     pub fn bytes(&mut self, alloc: Global) -> Result<Vec<u8>, AllocError>
         ensures value { IfOk result (λ v. v.items ≡ bytes_of_text (word self.old)) }
         ensures after { self.new ≡ after_word self.old }

@@ -210,7 +210,7 @@ pub fn read(
     }
 }
 
-/// The same, by halving.
+/// What `read` answers of the bytes at a place, found by halving the table of rows, with each turn in the ledger.
 pub fn read_counted<L: Ledger>(
     rows: &[MachineRow],
     firsts: &[FirstByte; 256],

@@ -35,6 +35,7 @@ const TYPES: [(ValueType, Option<Moved>); 16] = [
     (ValueType::F64X2, Some(Moved::Whole)),
 ];
 
+/// An operand with base, index and displacement.
 pub fn address() -> MemArg {
     MemArg::reg_plus_off(gpr(7), 40, MachMemFlags::trusted())
 }

@@ -23,7 +23,7 @@ pub fn retry_loops()
     ensures { (L : Layout) → Interference L }
 {}
 
-/// The same of every call of `run_schedule`, by its contract alone.
+/// What `retry_loops` says of every schedule holds of every call of `run_schedule`, by its contract alone.
 pub fn scheduled_retry_loops()
     ensures { (w v : World) (ps : List ℕ) (end : ScheduleEnd) → EndsAs w ps end v → Guarded w ps end v }
 {}

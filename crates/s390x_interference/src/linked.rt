@@ -26,7 +26,9 @@ pub fn linked_retry_loops()
     ensures { (flags : IsaFlags) (ts : List Tree) (cs : List Constant) (f : MachBufferFinalized) (base : ℕ) (symbols : Symbols) → checked_cause flags ts cs ≡ None → BlocksInRange ts → IsFinishedCode (folded_trees ts) cs f → link_cause f base symbols ≡ None → GuardsFunction symbols (folded_trees ts) cs (linked_image f base symbols) }
 {}
 
-/// The same of the image of a function, whoever made it. The function's numbers lie in their ranges, as those of a value of the program do.
+/// The retry loops of a function's image, whoever made it, store by their swaps alone, under every schedule of
+/// processors that don't store into it. The function's numbers lie in their ranges, as those of a value of the
+/// program do.
 pub fn image_retry_loops()
     ensures { (flags : IsaFlags) (state : Emission) (f : Allocated) (base : ℕ) (symbols : Symbols) (bytes : List ℕ) → BlocksInRange (trees_of flags state f) → IsImageOf flags state f base symbols bytes → GuardsFunction symbols (folded_trees_of flags state f) (constants_of f) (record { base = base; bytes = bytes }) }
 {}

@@ -12,12 +12,14 @@ pub fn every_joint_run()
     ensures { (whole : CodeImage) (members : List Layout) → AreMembers whole members → EveryJointRun whole members }
 {}
 
-/// The same from the start of each member's blocks.
+/// Every machine run from the start of a block of a member is allowed by the joint typed steps, where each member's
+/// code lies in the whole image, under every list of others' writes outside it.
 pub fn every_joint_block_run()
     ensures { (whole : CodeImage) (members : List Layout) → AreMembers whole members → EveryJointBlockRun whole members }
 {}
 
-/// The same from the return place of each member's calls.
+/// Every machine run from where a call of a member returns to is allowed by the joint typed steps, where each
+/// member's code lies in the whole image, under every list of others' writes outside it.
 pub fn every_joint_return_run()
     ensures { (whole : CodeImage) (members : List Layout) → AreMembers whole members → EveryJointReturnRun whole members }
 {}

@@ -36,7 +36,8 @@ pub fn each_step()
     ensures { (L : Layout) → AllCodeAt L → (k : ℕ) (s : Step) → slice_get L.steps k ≡ Some s → StepHolds L k }
 {}
 
-/// The same with all that the step stores and every stop told.
+/// Wherever a step's bytes lie in an image at their address, every machine run from there is allowed by at most that
+/// step, or begins with a group of transitions that is that step, with all that it stores and every stop.
 pub fn each_step_tells()
     ensures { (L : Layout) → AllCodeAt L → (k : ℕ) (s : Step) → slice_get L.steps k ≡ Some s → StepRuns L k }
 {}
@@ -58,7 +59,8 @@ pub fn checked_steps_are_valid()
     ensures { (flags : IsaFlags) (environment : LinkEnvironment) (ts : List Tree) (n : ℕ) (image : CodeImage) → blocks_cause flags (record { blocks = length ts; aligns = environment.aligns }) n ts ≡ None → BlocksInRange ts → (k : ℕ) (s : Step) → slice_get (function_steps ts) k ≡ Some s → IsValidStep (function_layout environment ts image) s }
 {}
 
-/// The same of the steps that the ends of the blocks left of them, each of which leads on where it has lost branches.
+/// Emission lets each of the steps pass that the ends of blocks left of a function without a cause of refusal, and
+/// each that has lost branches leads on.
 pub fn folded_steps_are_valid()
     ensures valid { (flags : IsaFlags) (environment : LinkEnvironment) (ts : List Tree) (n : ℕ) (image : CodeImage) → blocks_cause flags (record { blocks = length ts; aligns = environment.aligns }) n ts ≡ None → BlocksInRange ts → (k : ℕ) (s : Step) → slice_get (function_steps (folded_trees ts)) k ≡ Some s → IsValidStep (function_layout environment (folded_trees ts) image) s }
     ensures folded { (environment : LinkEnvironment) (ts : List Tree) (image : CodeImage) → BlocksInRange ts → (k : ℕ) (s : Step) → slice_get (function_steps (folded_trees ts)) k ≡ Some s → IsFoldedRight (function_layout environment (folded_trees ts) image) k s }
@@ -70,12 +72,14 @@ pub fn every_run()
     ensures { (L : Layout) → AllCodeAt L → (k : ℕ) → EveryRun L k }
 {}
 
-/// The same from the return place of each call.
+/// Every machine run from where a call returns to, in every state in which the image lies in memory and under every
+/// list of others' writes, is allowed by the typed steps.
 pub fn every_return_run()
     ensures { (L : Layout) → AllCodeAt L → (k : ℕ) → EveryReturnRun L k }
 {}
 
-/// The same from the start of each block.
+/// Every machine run from the start of a block, in every state in which the image lies in memory and under every list
+/// of others' writes, is allowed by the typed steps.
 pub fn every_block_run()
     ensures { (L : Layout) → AllCodeAt L → (b : ℕ) → IsBlock L b → EveryBlockRun L b }
 {}

@@ -246,7 +246,7 @@ pub fn compare_and_trap(machine: &Machine, fields: &Fields, sign: Signedness, si
     )
 }
 
-/// The same of r1 and the immediate of 16 bits.
+/// A stop where the comparison of r1 and the immediate of 16 bits holds; nothing else changes.
 pub fn compare_immediate_and_trap(
     machine: &Machine,
     fields: &Fields,

@@ -120,7 +120,7 @@ pub fn shift_amount(machine: &Machine, fields: &Fields) -> i64
     (based(machine, fields.regs[1], fields.disp) % 64) as i64
 }
 
-/// The same of vector register r3, by the amount at base r2 plus a displacement.
+/// Vector register r1 becomes r3 with its elements shifted by the amount at base r2 plus a displacement.
 pub fn shift_elements(machine: &Machine, fields: &Fields, opcode: u16) -> Action
     requires determined { IsFalse (is_free (RowSemantics.ShiftElements opcode) fields.now (registers_of machine.now)) }
     requires fit { FieldsFit (RowSemantics.ShiftElements opcode) fields.now }

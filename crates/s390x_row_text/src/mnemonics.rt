@@ -107,7 +107,7 @@ pub fn alu_halfword_name(op: ALUOp) -> Option<&'static str>
     alu_in_form(op, AluForm::Halfword)
 }
 
-/// The same into another register; None where there is no row.
+/// The mnemonic of an operator with another output and an immediate of 16 bits. None where there is no row.
 #[tactic(auto, unfolding(crate::specs::Mnemonics::alu_three_halfword_name))]
 pub fn alu_three_halfword_name(op: ALUOp) -> Option<&'static str>
     ensures { option_map (λ s. s.now) result ≡ alu_three_halfword_name op }
@@ -139,7 +139,7 @@ pub fn alu_short_name(op: ALUOp) -> Option<&'static str>
     alu_in_form(op, AluForm::Short)
 }
 
-/// The same with one of 20 bits; None where there is no row.
+/// The mnemonic of an operator on an operand in memory with a displacement of 20 bits. None where there is no row.
 #[tactic(auto, unfolding(crate::specs::Mnemonics::alu_long_name))]
 pub fn alu_long_name(op: ALUOp) -> Option<&'static str>
     ensures { option_map (λ s. s.now) result ≡ alu_long_name op }
@@ -241,7 +241,7 @@ pub fn cmp_short_name(op: CmpOp) -> Option<&'static str>
     cmp_in_form(op, CmpForm::Short)
 }
 
-/// The same with one of 20 bits; None where there is no row.
+/// The mnemonic of a comparison with an operand in memory with a displacement of 20 bits. None where there is no row.
 #[tactic(auto, unfolding(crate::specs::Mnemonics::cmp_long_name))]
 pub fn cmp_long_name(op: CmpOp) -> Option<&'static str>
     ensures { option_map (λ s. s.now) result ≡ cmp_long_name op }

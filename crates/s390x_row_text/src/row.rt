@@ -93,7 +93,7 @@ pub fn spelled5<A: Operand, B: Operand, C: Operand, D: Operand, E: Operand>(
     e.put(out)
 }
 
-/// The same with one operand, as an answer of a text.
+/// Appends a mnemonic with one operand, as an answer of a text. An error comes for want of memory alone.
 pub fn fixed1<A: Operand>(out: &mut String, mnemonic: &str, a: &A) -> Result<(), TextError>
     ensures { Prints result (string_bytes out.old) (string_bytes out.new) (fixed (spelled mnemonic.now (A.shown a.now ∷ []))) }
 {

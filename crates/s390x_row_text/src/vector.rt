@@ -48,7 +48,7 @@ pub fn lane_name(
     }
 }
 
-/// The same from 16 bits on, where bytes are reversed.
+/// The mnemonic with the letter of an element's size, from 16 bits on, where bytes are reversed.
 pub fn reversed_name(
     h: &'static str,
     f: &'static str,

@@ -260,7 +260,7 @@ pub const VEC_COMPARE_SET_MNEMONICS: Names<VecIntCmpOp> = &[
     (VecIntCmpOp::UCmpHi128, "vchlqs"),
 ];
 
-/// The same, which sets the condition code.
+/// The mnemonic of a comparison of vectors that sets the condition code.
 #[tactic(auto, unfolding(crate::specs::VectorMnemonics::vec_compare_set_name))]
 pub fn vec_compare_set_name(op: VecIntCmpOp) -> &'static str
     ensures { result.now ≡ vec_compare_set_name op }

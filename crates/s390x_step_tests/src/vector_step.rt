@@ -114,7 +114,7 @@ pub fn ends(alloc: Global, code: u64, third: u128, end: StepEnd) -> Result<bool,
     ends_with(alloc, code, SECOND, third, end)
 }
 
-/// The same, with another second value.
+/// Whether a step with another second value ends so and leaves everything as it was.
 pub fn ends_with(
     alloc: Global,
     code: u64,

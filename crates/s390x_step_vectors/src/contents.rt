@@ -23,7 +23,7 @@ impl Contents {
         machine
     }
 
-    /// The same registers and regions.
+    /// A copy of the registers and regions.
     pub fn copied(&self, alloc: Global) -> Result<Contents, AllocError> {
         let machine = self.machine();
         let mut regions = Vec::new(alloc);

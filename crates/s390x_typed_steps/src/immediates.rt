@@ -25,14 +25,14 @@ pub fn bits_of_unsigned(imm: u32) -> u32
     imm
 }
 
-/// The same of 16 bits.
+/// An unsigned immediate of 16 bits is its own low bits, which the definitions take of any number.
 pub fn bits_of_unsigned_halfword(imm: u16) -> u16
     ensures { result ≡ low_halfword (pos imm) }
 {
     imm
 }
 
-/// The same of 8 bits.
+/// An amount of 8 bits is its own low bits, which the definitions take of any number.
 pub fn low_byte(amount: u8) -> u8
     ensures { result ≡ low_byte amount }
 {

@@ -21,7 +21,7 @@ pub fn members_in_order()
     ensures { (flags : IsaFlags) (e : Emission) (D : Declared) (n nominal depth : ℕ) (i : Inst) (rest : Tree) → tree_cause flags D n nominal depth (prepend e i rest) ≡ first_emit_cause (tree_cause flags D n nominal depth (prepend e i empty)) (tree_cause flags D (n + fresh_labels (prepend e i empty)) (nominal_after nominal i) depth rest) }
 {}
 
-/// The same of a machine by its flags.
+/// On a machine by its flags a member's cause comes before those of the members behind it.
 pub fn members_in_order_on_a_machine()
     ensures { (flags : IsaFlags) (e : Emission) (D : Declared) (n nominal depth : ℕ) (i : Inst) (rest : Tree) → tree_cause flags D n nominal depth (tree_for flags (prepend e i rest)) ≡ first_emit_cause (tree_cause flags D n nominal depth (tree_for flags (prepend e i empty))) (tree_cause flags D (n + fresh_labels (prepend e i empty)) (nominal_after nominal i) depth (tree_for flags rest)) }
 {}

@@ -77,7 +77,7 @@ pub fn reg(w: &[u8]) -> Reg
     }
 }
 
-/// The same register, to be written.
+/// The register that a word writes, as one that is written.
 #[inline(always)]
 pub fn written(w: &[u8]) -> Writable<Reg>
     ensures { result ≡ reg_of w.now }

@@ -63,12 +63,14 @@ pub fn natural(s: &[u8]) -> u64
     a
 }
 
+/// The number below 2^8 that digits write; modulo 2^8 where they write a larger one.
 pub fn natural8(s: &[u8]) -> u8
     ensures { result ≡ natural_of W8 s.now }
 {
     (natural(s) % 256) as u8
 }
 
+/// The number below 2^12 that digits write; modulo 2^12 where they write a larger one.
 pub fn natural12(s: &[u8]) -> u64
     ensures value { result ≡ natural_of W12 s.now }
     ensures below { result < 4096 }
@@ -76,18 +78,21 @@ pub fn natural12(s: &[u8]) -> u64
     natural(s) % 4096
 }
 
+/// The number below 2^16 that digits write; modulo 2^16 where they write a larger one.
 pub fn natural16(s: &[u8]) -> u16
     ensures { result ≡ natural_of W16 s.now }
 {
     (natural(s) % 65536) as u16
 }
 
+/// The number below 2^32 that digits write; modulo 2^32 where they write a larger one.
 pub fn natural32(s: &[u8]) -> u32
     ensures { result ≡ natural_of W32 s.now }
 {
     (natural(s) % 4294967296) as u32
 }
 
+/// The number below 2^64 that digits write.
 pub fn natural64(s: &[u8]) -> u64
     ensures { result ≡ natural_of W64 s.now }
 {
@@ -112,18 +117,21 @@ pub fn signed(s: &[u8], limit: u64) -> i64
     }
 }
 
+/// The number of 8 bits with a sign that a word writes; 0 where it writes none.
 pub fn integer8(s: &[u8]) -> i8
     ensures { result ≡ integer_of S8 s.now }
 {
     signed(s, 1 << 7) as i8
 }
 
+/// The number of 16 bits with a sign that a word writes; 0 where it writes none.
 pub fn integer16(s: &[u8]) -> i16
     ensures { result ≡ integer_of S16 s.now }
 {
     signed(s, 1 << 15) as i16
 }
 
+/// The number of 20 bits with a sign that a word writes; 0 where it writes none.
 pub fn integer20(s: &[u8]) -> i64
     ensures value { result ≡ integer_of S20 s.now }
     ensures least { negsuc 524287 ≤ℤ result }
@@ -132,12 +140,14 @@ pub fn integer20(s: &[u8]) -> i64
     signed(s, 1 << 19)
 }
 
+/// The number of 32 bits with a sign that a word writes; 0 where it writes none.
 pub fn integer32(s: &[u8]) -> i32
     ensures { result ≡ integer_of S32 s.now }
 {
     signed(s, 1 << 31) as i32
 }
 
+/// The number of 64 bits with a sign that a word writes; 0 where it writes none.
 pub fn integer64(s: &[u8]) -> i64
     ensures { result ≡ integer_of S64 s.now }
 {
