@@ -1,6 +1,5 @@
 //! Copies of instructions: what stands in a vector is copied into a vector of its own.
-ghost use Rattle.std.specs.Prelude.{◌≡◌, IfOk, is_some, true};
-ghost use Rattle.s390x_inst.specs.Loads.{as_load};
+ghost use Rattle.std.specs.Prelude.{◌≡◌, IfOk};
 ghost use Rattle.s390x_inst.specs.Portions.{portions, first_portion, members_portions, handler_terms_of, tail_call_portion};
 
 use crate::calls::{CallInfo, CallInstDest, ReturnCallInfo, TryCallInfo};
@@ -60,17 +59,6 @@ fn copy_tail_call(
         uses: Vec::from_slice(alloc, &info.uses)?,
         callee_pop_size: info.callee_pop_size,
     })
-}
-
-// A load of one register.
-fn copy_load(inst: &Inst) -> Inst
-    requires { is_some (as_load inst.now) ≡ true }
-    ensures { first_portion result ≡ first_portion inst.now }
-{
-    match inst.as_load() {
-        Some(load) => load.op.instruction(load.rd, load.mem),
-        None => unreachable!(),
-    }
 }
 
 // An instruction; of a `Loop`, its head without members.
@@ -292,6 +280,21 @@ fn copy_head(alloc: Global, inst: &Inst) -> Result<Inst, AllocError>
         }),
         Inst::LoadAR { rd, ar } => Ok(Inst::LoadAR { rd, ar }),
         Inst::InsertAR { rd, ri, ar } => Ok(Inst::InsertAR { rd, ri, ar }),
+        Inst::Load32 { rd, mem } => Ok(Inst::Load32 { rd, mem }),
+        Inst::Load32ZExt8 { rd, mem } => Ok(Inst::Load32ZExt8 { rd, mem }),
+        Inst::Load32SExt8 { rd, mem } => Ok(Inst::Load32SExt8 { rd, mem }),
+        Inst::Load32ZExt16 { rd, mem } => Ok(Inst::Load32ZExt16 { rd, mem }),
+        Inst::Load32SExt16 { rd, mem } => Ok(Inst::Load32SExt16 { rd, mem }),
+        Inst::Load64 { rd, mem } => Ok(Inst::Load64 { rd, mem }),
+        Inst::Load64ZExt8 { rd, mem } => Ok(Inst::Load64ZExt8 { rd, mem }),
+        Inst::Load64SExt8 { rd, mem } => Ok(Inst::Load64SExt8 { rd, mem }),
+        Inst::Load64ZExt16 { rd, mem } => Ok(Inst::Load64ZExt16 { rd, mem }),
+        Inst::Load64SExt16 { rd, mem } => Ok(Inst::Load64SExt16 { rd, mem }),
+        Inst::Load64ZExt32 { rd, mem } => Ok(Inst::Load64ZExt32 { rd, mem }),
+        Inst::Load64SExt32 { rd, mem } => Ok(Inst::Load64SExt32 { rd, mem }),
+        Inst::LoadRev16 { rd, mem } => Ok(Inst::LoadRev16 { rd, mem }),
+        Inst::LoadRev32 { rd, mem } => Ok(Inst::LoadRev32 { rd, mem }),
+        Inst::LoadRev64 { rd, mem } => Ok(Inst::LoadRev64 { rd, mem }),
         Inst::Store8 { rd, mem } => Ok(Inst::Store8 { rd, mem }),
         Inst::Store16 { rd, mem } => Ok(Inst::Store16 { rd, mem }),
         Inst::Store32 { rd, mem } => Ok(Inst::Store32 { rd, mem }),
@@ -401,7 +404,6 @@ fn copy_head(alloc: Global, inst: &Inst) -> Result<Inst, AllocError>
         Inst::Rets { ref rets } => Ok(Inst::Rets {
             rets: Vec::from_slice(alloc, rets)?,
         }),
-        _ => Ok(copy_load(inst)),
     }
 }
 
