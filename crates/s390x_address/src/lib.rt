@@ -10,10 +10,12 @@ mod plan;
 mod relative;
 mod rows;
 
-pub use s390x_typed_steps::MemInstType;
-
-pub use emitters::{LIMIT, holds_scratch, mem_emit, mem_float_emit, mem_imm16_emit, mem_imm8_emit, mem_rs_emit, mem_vrx_emit, number};
+pub use emitters::{
+    LIMIT, holds_scratch, mem_emit, mem_float_emit, mem_imm8_emit, mem_imm16_emit, mem_rs_emit,
+    mem_vrx_emit, number,
+};
 pub use finalize::mem_finalize;
 pub use forms::{is_numbered, needs_address};
 pub use memory::{MemoryInst, general, vector};
 pub use rows::StorageRows;
+pub use s390x_typed_steps::MemInstType;

@@ -3,4 +3,7 @@
 
 mod law;
 
-pub use law::{edits_keep_classes, moves_are_not_blamed, operands_are_seen, some_step_leads, steps_are_not_blamed, steps_lead_to_successors};
+pub use law::{
+    edits_keep_classes, moves_are_not_blamed, operands_are_seen, some_step_leads,
+    steps_are_not_blamed, steps_lead_to_successors,
+};

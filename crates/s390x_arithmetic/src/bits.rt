@@ -6,7 +6,9 @@ ghost use Rattle.s390x_operations.specs.Bits.{code_z, complement, bit_value, rot
 
 use crate::unsigned::whole;
 use s390x_lanes::ShiftOperator;
-use s390x_operations::{BitOperator, ConditionCode, Pair, SelectedBitsOperator, Size, code_s, low, signed};
+use s390x_operations::{
+    BitOperator, ConditionCode, Pair, SelectedBitsOperator, Size, code_s, low, signed,
+};
 
 /// ConditionCode Z.
 pub fn code_z(x: u64) -> ConditionCode

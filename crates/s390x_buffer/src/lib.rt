@@ -11,7 +11,10 @@ mod mach_inst_label_use;
 mod patch;
 
 pub use buffer::{MachBuffer, all_aligned};
-pub use entries::{HandlerEntry, LabelFixup, MachBufferFinalized, MapEntry, PatchEntry, RelocEntry, TrapEntry, TryEntry, TryHandler};
+pub use entries::{
+    HandlerEntry, LabelFixup, MachBufferFinalized, MapEntry, PatchEntry, RelocEntry, TrapEntry,
+    TryEntry, TryHandler,
+};
 pub use finish::constants_fit;
 pub use label_use::LabelUse;
 pub use law::{others_stand, sums_stand};

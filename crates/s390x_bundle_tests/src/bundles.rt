@@ -1,7 +1,9 @@
 //! Members whose sizes no input of the program reaches.
 
 use s390x_base::{ExternalName, gpr};
-use s390x_bundle::{BundleError, Extent, JoinError, Member, PlaceCause, PlaceError, named_error, starts_of};
+use s390x_bundle::{
+    BundleError, Extent, JoinError, Member, PlaceCause, PlaceError, named_error, starts_of,
+};
 use s390x_inst::{AllocatedFunction, Block, EmitInfo, EmitState, Inst, IsaFlags};
 use std::alloc::{AllocError, Global};
 use std::test::Fail;

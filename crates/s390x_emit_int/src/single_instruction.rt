@@ -31,7 +31,9 @@ use crate::stops::{
 use s390x_base::{Code, EmitError, Reg};
 use s390x_emit_vec::find_vector;
 use s390x_inst::Inst;
-use s390x_typed_steps::{bits_of_halfword, bits_of_unsigned, bits_of_unsigned_halfword, bits_of_word};
+use s390x_typed_steps::{
+    bits_of_halfword, bits_of_unsigned, bits_of_unsigned_halfword, bits_of_word,
+};
 
 /// The code of the one machine instruction of an instruction that is one, or `BadRegister` where its registers may not stand there: real general
 /// ones, and the input that has to be the output is it.

@@ -8,7 +8,9 @@ mod memory;
 mod opcodes;
 mod vector;
 
-pub use codes::{compared_vectors, shifted_vector, three_vectors, two_vectors, vector as real_vector};
+pub use codes::{
+    compared_vectors, shifted_vector, three_vectors, two_vectors, vector as real_vector,
+};
 pub use conditional::{MoveUnder, find_move_under};
 pub use memory::find_vector_memory;
 pub use vector::{find_vector, stop_of};

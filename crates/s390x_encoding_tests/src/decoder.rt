@@ -1,7 +1,10 @@
 //! The decoder beside a plain search of its table.
 ghost use Rattle.std.specs.Prelude.{◌≡◌, ◌<◌};
 
-use s390x_format::{Decoded, MACHINE_ROWS, MachineRow, Row, Steps, allows, decode, decode_counted, layout, length, number_of, pack, unpack};
+use s390x_format::{
+    Decoded, MACHINE_ROWS, MachineRow, Row, Steps, allows, decode, decode_counted, layout, length,
+    number_of, pack, unpack,
+};
 use std::marker::Brand;
 use std::process::Abort;
 use std::sync::ledger::{Blank, Ledger};

@@ -1,7 +1,11 @@
 //! The formats and the decoder on an assembler's bytes.
 use crate::samples::SAMPLES;
 use s390x_base::Code;
-use s390x_format::{E, Format, FormatKind, MACHINE_ROWS, MachineRow, RiA, RiB, RiC, RieA, RieD, RieF, RieG, RilA, RilB, RilC, Rr, Rre, RrfAb, RrfCde, Rs, Rsy, Rx, Rxy, Si, Sil, Siy, VriA, VriB, VriC, VriK, VrrA, VrrB, VrrC, VrrD, VrrE, VrrF, VrsA, VrsB, VrsC, Vrx, decode, fetch_length};
+use s390x_format::{
+    E, Format, FormatKind, MACHINE_ROWS, MachineRow, RiA, RiB, RiC, RieA, RieD, RieF, RieG, RilA,
+    RilB, RilC, Rr, Rre, RrfAb, RrfCde, Rs, Rsy, Rx, Rxy, Si, Sil, Siy, VriA, VriB, VriC, VriK,
+    VrrA, VrrB, VrrC, VrrD, VrrE, VrrF, VrsA, VrsB, VrsC, Vrx, decode, fetch_length,
+};
 use std::process::Abort;
 use std::test::Fail;
 

@@ -39,4 +39,6 @@ pub use signed_formats::{RiB, RiC, RilB, RilC, Sil};
 pub use steps::Steps;
 pub use storage_formats::{Rs, Rsy, Rx, Rxy, Si, Siy};
 pub use table::MACHINE_ROWS;
-pub use vector_formats::{VriA, VriB, VriC, VriK, VrrA, VrrB, VrrC, VrrD, VrrE, VrrF, VrsA, VrsB, VrsC, Vrx};
+pub use vector_formats::{
+    VriA, VriB, VriC, VriK, VrrA, VrrB, VrrC, VrrD, VrrE, VrrF, VrsA, VrsB, VrsC, Vrx,
+};

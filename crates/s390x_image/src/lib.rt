@@ -10,6 +10,8 @@ mod symbols;
 
 pub use error::LinkError;
 pub use image::Image;
-pub use law::{absolute_fields_read_back, fields_stand, relative_distances_lead, relative_fields_read_back};
+pub use law::{
+    absolute_fields_read_back, fields_stand, relative_distances_lead, relative_fields_read_back,
+};
 pub use linking::link;
 pub use symbols::SymbolTable;

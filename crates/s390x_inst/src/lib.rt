@@ -18,12 +18,17 @@ mod vec_ops;
 
 pub use abi::{gen_retval_loads, gen_tail_epilogue};
 pub use args::MemArg;
-pub use calls::{ArgPair, CallArgPair, CallConv, CallInfo, CallInstDest, CallRetPair, RetLocation, RetPair, ReturnCallInfo, SymbolReloc, TryCallHandler, TryCallInfo};
+pub use calls::{
+    ArgPair, CallArgPair, CallConv, CallInfo, CallInstDest, CallRetPair, RetLocation, RetPair,
+    ReturnCallInfo, SymbolReloc, TryCallHandler, TryCallInfo,
+};
 pub use facility::InstructionSet;
 pub use function::{AllocatedFunction, Block};
 pub use inst::Inst;
 pub use load::{LOAD_COUNT, Load, LoadOp};
 pub use ops::{ALUOp, CmpOp, RxSBGOp, ShiftOp, UnaryOp};
-pub use state::{EmitInfo, EmitState, FrameLayout, IsaFlags, MachInstEmitState, REG_SAVE_AREA_SIZE};
+pub use state::{
+    EmitInfo, EmitState, FrameLayout, IsaFlags, MachInstEmitState, REG_SAVE_AREA_SIZE,
+};
 pub use vec_inst::VecInst;
 pub use vec_ops::{VecBinaryOp, VecIntCmpOp, VecIntEltCmpOp, VecShiftOp, VecUnaryOp};

@@ -3,4 +3,6 @@
 
 mod law;
 
-pub use law::{every_joint_block_run, every_joint_return_run, every_joint_run, premises_can_be_met};
+pub use law::{
+    every_joint_block_run, every_joint_return_run, every_joint_run, premises_can_be_met,
+};

@@ -23,7 +23,13 @@ pub use action::action;
 pub use codes::code_at;
 pub use fetch::{fetch, fetch_row};
 pub use flat::FlatMemory;
-pub use law::{a_constant_is_loaded, a_loop_runs, access_takes_its_operand, checked_steps_are_valid, code_is_placed, each_row_has_semantics, each_step, each_step_anywhere, each_step_tells, every_block_run, every_return_run, every_run, folded_steps_are_valid, helpers_keep_the_address, helpers_where_needed, one_instruction, operands_are_addressable, relative_accesses_are_aligned, relative_accesses_never_misalign, relative_rows_access_their_bytes};
+pub use law::{
+    a_constant_is_loaded, a_loop_runs, access_takes_its_operand, checked_steps_are_valid,
+    code_is_placed, each_row_has_semantics, each_step, each_step_anywhere, each_step_tells,
+    every_block_run, every_return_run, every_run, folded_steps_are_valid, helpers_keep_the_address,
+    helpers_where_needed, one_instruction, operands_are_addressable, relative_accesses_are_aligned,
+    relative_accesses_never_misalign, relative_rows_access_their_bytes,
+};
 pub use machine::Machine;
 pub use memory::Memory;
 pub use semantics::ROW_SEMANTICS;

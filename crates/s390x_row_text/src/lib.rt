@@ -27,7 +27,10 @@ pub use law::rows_in_order;
 pub use memory::{put_load, put_storage_operator, put_store};
 pub use moves::put_move;
 pub use operand::{Operand, cond_name};
-pub use regs::{alone, maybe_show_fpr, pretty_print_fpr, pretty_print_reg, pretty_print_reg_mod, pretty_print_regpair, pretty_print_regpair_mod, pretty_print_regpair_mod_lo, show_reg};
+pub use regs::{
+    alone, maybe_show_fpr, pretty_print_fpr, pretty_print_reg, pretty_print_reg_mod,
+    pretty_print_regpair, pretty_print_regpair_mod, pretty_print_regpair_mod_lo, show_reg,
+};
 pub use row::{spelled1, spelled2};
 pub use simple::put_simple;
 pub use storage::is_virtual;

@@ -6,11 +6,10 @@ mod law;
 mod pretty;
 mod pretty_print;
 
+pub use law::rows_agree;
+pub use pretty::pretty_print_inst;
+pub use pretty_print::PrettyPrint;
 pub use s390x_row_text::{
     TextError, maybe_show_fpr, pretty_print_fpr, pretty_print_reg, pretty_print_reg_mod,
     pretty_print_regpair, pretty_print_regpair_mod, pretty_print_regpair_mod_lo, show_reg,
 };
-
-pub use law::rows_agree;
-pub use pretty::pretty_print_inst;
-pub use pretty_print::PrettyPrint;

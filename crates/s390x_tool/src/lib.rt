@@ -28,7 +28,10 @@ pub use error_names::{emit_error_line, emit_error_name};
 pub use generate::generate;
 pub use in_memory::{BytesSink, BytesSource};
 pub use input::read_input;
-pub use law::{no_blocks_are_accepted, no_functions_are_accepted, one_function_is_accepted, one_job_is_accepted, one_step_is_accepted};
+pub use law::{
+    no_blocks_are_accepted, no_functions_are_accepted, one_function_is_accepted,
+    one_job_is_accepted, one_step_is_accepted,
+};
 pub use output::write_text;
 pub use reply::{Reply, fixed, in_hex, link_refused, no_memory, refused, syntax, unread};
 pub use simulate::simulate;

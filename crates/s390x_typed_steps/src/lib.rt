@@ -7,8 +7,14 @@ mod load_rows;
 mod mem_inst_type;
 mod vector_opcode;
 
-pub use immediates::{bits_of_halfword, bits_of_unsigned, bits_of_unsigned_halfword, bits_of_word, low_12, low_byte, low_displacement};
-pub use law::{calls_keep_their_steps, codes_of_steps, members_in_order, members_in_order_on_a_machine, relative_machines_keep_trees};
+pub use immediates::{
+    bits_of_halfword, bits_of_unsigned, bits_of_unsigned_halfword, bits_of_word, low_12, low_byte,
+    low_displacement,
+};
+pub use law::{
+    calls_keep_their_steps, codes_of_steps, members_in_order, members_in_order_on_a_machine,
+    relative_machines_keep_trees,
+};
 pub use load_rows::{LOAD_ROWS, LoadRows, rows_of_load};
 pub use mem_inst_type::MemInstType;
 pub use vector_opcode::VectorOpcode;
