@@ -23,7 +23,7 @@ class-self : (c : RegClass) → same_class c c ≡ true
 class-self Int = refl
 class-self Float = refl
 
-number-self : (n : ℕ) → nat_eq n n ≡ true
+pub number-self : (n : ℕ) → nat_eq n n ≡ true
 number-self n = grind (arith, nat_tests)
 
 made : RegClass → ℕ → RealRegister

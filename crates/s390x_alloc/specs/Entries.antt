@@ -1,5 +1,6 @@
 -- The pairs with which blocks begin: each of them stands at the end of every block that leads there.
-use Rattle.std.specs.Prelude.{◌≡◌, ℕ, ◌+◌, ◌⊎◌, Bool, true, false, ◌&&◌, not, nat_eq, cond, List, [], ◌∷◌, Option, Some, None, slice_get}
+use Rattle.std.specs.Prelude.{◌≡◌, ℕ, ◌+◌, ◌-◌, ◌⊎◌, Bool, true, false, ◌&&◌, not, nat_eq, cond, List, [], ◌∷◌, ◌++◌, length, Option, Some, None, slice_get}
+use Rattle.std.specs.Global.{Vec}
 use Rattle.s390x_base.specs.declared.regs.Reg.{Reg}
 use Rattle.s390x_base.specs.declared.regs.Reg.TheVariants.{Real, Virtual}
 use Rattle.s390x_inst.specs.declared.function.Block.{Block}
@@ -18,6 +19,26 @@ pairs_of h = h.pairs.items
 abbrev pub predecessors : (count block : ℕ) → (number : ℕ) → List Block → List ℕ
 predecessors count block number [] = []
 predecessors count block number (b ∷ bs) = cond (precedes count number b.insts.items block) (number ∷ predecessors count block (number + 1) bs) (predecessors count block (number + 1) bs)
+
+-- a number is the last one of these
+abbrev pub is_that : Option ℕ → ℕ → Bool
+is_that None n = false
+is_that (Some m) n = nat_eq m n
+
+abbrev pub ends_with : List ℕ → ℕ → Bool
+ends_with xs n = is_that (slice_get xs (length xs - 1)) n
+
+-- a number behind these, where it is to be put there and isn't the last one
+abbrev pub put_once : (is_put : Bool) → ℕ → List ℕ → List ℕ
+put_once is_put n xs = cond (is_put && not (ends_with xs n)) (xs ++ n ∷ []) xs
+
+-- the list with a number
+abbrev pub items_of : Option (Vec ℕ) → List ℕ
+items_of None = []
+items_of (Some v) = v.items
+
+abbrev pub numbers_at : List (Vec ℕ) → ℕ → List ℕ
+numbers_at lists n = items_of (slice_get lists n)
 
 -- what is held somewhere, where that is told, holds the pair
 abbrev pub is_held_there : Option (List EntryPair) → EntryPair → Bool

@@ -1,26 +1,42 @@
 //! The pairs with which blocks begin.
-ghost use Rattle.std.specs.Prelude.{◌≡◌, IfOk, length, map, slice_get};
-ghost use Rattle.s390x_alloc.specs.Entries.{IsFirst, all_hold, entry_fault, first_unfounded, is_founded, is_held_there, is_virtual, pairs_of, predecessors};
+ghost use Rattle.std.specs.Prelude.{◌≡◌, ℕ, ◌<◌, [], IfOk, length, map, slice_get};
+ghost use Rattle.s390x_alloc.specs.Entries.{IsFirst, all_hold, entry_fault, first_unfounded, is_founded, is_held_there, is_virtual, numbers_at, pairs_of, predecessors};
 
 use crate::fault::{PlanFault, entry_fault_at};
 use crate::held::{Held, holds};
 use crate::plan::{BlockPlan, EntryPair};
-use crate::shape::precedes;
+use crate::successors::add_successors;
 use s390x_base::Reg;
 use s390x_inst::Block;
 use std::alloc::{AllocError, Global};
 
-// The numbers of the blocks that have one as a successor.
-fn predecessors(alloc: Global, blocks: &[Block], block: usize) -> Result<Vec<usize>, AllocError>
-    ensures { IfOk result (λ v. v.items ≡ predecessors (length blocks.now) block 0 blocks.now) }
+// The predecessors of each of `size` blocks, as many as there are plans, in order. Each edge is looked at once.
+#[tactic(auto, using(crate::proofs::Leading::block_led, crate::proofs::Leading::later_none))]
+fn predecessor_lists(
+    alloc: Global,
+    blocks: &[Block],
+    size: usize,
+) -> Result<Vec<Vec<usize>>, AllocError>
+    ensures size { IfOk result (λ v. length v.items ≡ size) }
+    ensures lists { IfOk result (λ v. (n : ℕ) → n < size → numbers_at v.items n ≡ predecessors (length blocks.now) n 0 blocks.now) }
 {
-    let mut numbers = Vec::new(alloc);
-    for (number, before) in blocks.iter().enumerate() {
-        if precedes(blocks.len(), number, &before.insts, block) {
-            numbers.push(number)?;
-        }
+    let mut before = empty_lists(alloc, size)?;
+    for (number, block) in blocks.iter().enumerate() {
+        add_successors(&mut before, blocks.len(), number, &block.insts)?;
     }
-    Ok(numbers)
+    Ok(before)
+}
+
+// So many lists, which are empty.
+fn empty_lists(alloc: Global, size: usize) -> Result<Vec<Vec<usize>>, AllocError>
+    ensures size { IfOk result (λ v. length v.items ≡ size) }
+    ensures lists { IfOk result (λ v. (n : ℕ) → numbers_at v.items n ≡ []) }
+{
+    let mut lists = Vec::new(alloc);
+    for _i in 0..size {
+        lists.push(Vec::new(alloc))?;
+    }
+    Ok(lists)
 }
 
 // Whether the pair is held at the end of a block.
@@ -83,10 +99,11 @@ pub fn entry_fault(
 ) -> Result<Option<PlanFault>, AllocError>
     ensures { IfOk result (IsFirst (entry_fault blocks.now (length blocks.now) (map pairs_of ends.now) 0 plans.now)) }
 {
+    let before = predecessor_lists(alloc, blocks, plans.len())?;
     for (number, plan) in plans.iter().enumerate() {
-        let before = predecessors(alloc, blocks, number)?;
-        if let Some(pair) = first_unfounded(ends, &before, number, &plan.entry) {
-            return Ok(Some(entry_fault_at(number, pair)));
+        match first_unfounded(ends, &before[number], number, &plan.entry) {
+            Some(pair) => return Ok(Some(entry_fault_at(number, pair))),
+            None => {}
         }
     }
     Ok(None)

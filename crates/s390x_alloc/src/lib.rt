@@ -15,6 +15,7 @@ mod plan;
 mod planning;
 mod same;
 mod shape;
+mod successors;
 mod step;
 
 pub use entries::entry_fault;

@@ -1,6 +1,6 @@
-//! Where a block leads, and which instructions a plan can't be made for.
-ghost use Rattle.std.specs.Prelude.{◌≡◌, ◌<◌};
-ghost use Rattle.s390x_alloc.specs.Shape.{block_ending, ending, ending_of, ends_before, first_misshapen, first_unsupported, is_end, is_label_in, is_leading, is_misshapen, is_try_call, is_unsupported, memory_labels, named_labels, names_no_block, precedes};
+//! Which instructions end a block, and which ones a plan can't be made for.
+ghost use Rattle.std.specs.Prelude.{◌≡◌};
+ghost use Rattle.s390x_alloc.specs.Shape.{ending, first_misshapen, first_unsupported, is_end, is_leading, is_misshapen, is_try_call, is_unsupported, memory_labels, named_labels, names_no_block};
 
 use crate::memory::memory_operand;
 use s390x_base::MachLabel;
@@ -32,53 +32,6 @@ pub fn is_end(inst: &Inst) -> bool
         | Inst::ReturnCall { .. }
         | Inst::Trap { .. } => true,
         _ => false,
-    }
-}
-
-// Whether the label of a block is among these.
-fn is_label_in(labels: &[MachLabel], block: usize) -> bool
-    ensures { result ≡ is_label_in labels.now block }
-{
-    for label in labels {
-        if label.0 as usize == block {
-            return true;
-        }
-    }
-    false
-}
-
-// Whether block `here` of `count` blocks, which ends with the instruction, has `block` as a successor.
-fn ends_before(count: usize, here: usize, inst: &Inst, block: usize) -> bool
-    requires { here < count }
-    ensures { result ≡ ends_before count here (ending inst.now) block }
-{
-    match inst {
-        Inst::Jump { dest } => is_label_in(&[*dest], block),
-        Inst::CondBr {
-            taken,
-            not_taken,
-            ..
-        } => is_label_in(&[*taken, *not_taken], block),
-        Inst::IndirectBr { targets, .. } => is_label_in(targets, block),
-        Inst::JTSequence {
-            default,
-            targets,
-            ..
-        } => is_label_in(&[*default], block) || is_label_in(targets, block),
-        Inst::Ret { .. } | Inst::ReturnCall { .. } | Inst::Trap { .. } => false,
-        _ => here + 1 == block && block < count,
-    }
-}
-
-/// Whether block `here` of `count` blocks, which has these instructions, has `block` as a successor: a block that its last instruction names, if that is a
-/// `Jump`, `CondBr`, `IndirectBr` or `JTSequence`; none behind a `Ret`, `ReturnCall` or `Trap`; else the next one.
-pub fn precedes(count: usize, here: usize, insts: &[Inst], block: usize) -> bool
-    requires { here < count }
-    ensures { result ≡ precedes count here insts.now block }
-{
-    match insts.last() {
-        Some(inst) => ends_before(count, here, inst, block),
-        None => here + 1 == block && block < count,
     }
 }
 
