@@ -22,7 +22,6 @@ pub struct LinkRefusal {
 }
 
 // A member's image at its start: with the symbols of its lines, and all members at their starts.
-#[tactic(auto, using(crate::proofs::Tables::linked_alike))]
 fn linked_member(
     alloc: Global,
     joint: &SymbolTable,
@@ -41,7 +40,6 @@ fn linked_member(
 
 /// The bytes of all members behind one another: each one's finished code at its start, linked there with the symbols of its lines and all members at their
 /// starts, and zeros between. Refused by the first member that can't be linked, with its first cause.
-#[tactic(auto, using(crate::proofs::Tables::joined))]
 pub fn link_members(
     alloc: Global,
     base: u64,

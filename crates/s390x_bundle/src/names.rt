@@ -10,7 +10,6 @@ use std::alloc::{AllocError, Global};
 use std::collections::BTreeSet;
 
 // The numbers of the members' names.
-#[tactic(auto, using(crate::proofs::Naming::has_more))]
 fn name_set(alloc: Global, members: &[Member]) -> Result<BTreeSet<u32>, AllocError>
     ensures { IfOk result (λ names. HasNames names (names_of members.now)) }
 {
@@ -34,7 +33,6 @@ fn named_line(names: &BTreeSet<u32>, lines: &[SymbolLine]) -> Option<ExternalNam
 }
 
 /// The name of the first member that an earlier one has too, or one of whose lines names a member: its own name, or else that of its first such line.
-#[tactic(auto, using(crate::proofs::Naming::has_more))]
 pub fn duplicate_name(alloc: Global, members: &[Member]) -> Result<Option<ExternalName>, AllocError>
     ensures { IfOk result (λ name. name ≡ first_duplicate (names_of members.now) [] members.now) }
 {

@@ -42,7 +42,6 @@ pub fn joint_table(
 
 /// The symbols that a member's relocations need: those of its own lines, and of the joint table those that are named. A name that is in both has the joint
 /// address. The joint table is made once for all members, and is looked up only.
-#[tactic(auto, using(crate::proofs::Tables::named_alike))]
 pub fn member_table(
     alloc: Global,
     joint: &SymbolTable,

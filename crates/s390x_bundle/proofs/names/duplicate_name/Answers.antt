@@ -1,6 +1,6 @@
-use Rattle.std.proofs.Common.{◌≡◌, ◌∙◌, sym, ap, arith, List, None, false}
+use Rattle.std.proofs.Common.{◌≡◌, ◌∙◌, sym, ap, arith, List, None}
 use Rattle.s390x_job.specs.declared.job.SymbolLine.{SymbolLine}
-use Rattle.s390x_bundle.specs.Names.{is_among, line_among, names_of}
+use Rattle.s390x_bundle.specs.Names.{line_among, names_of}
 use Rattle.s390x_bundle.proofs.Naming.{duplicate_turn, has_member, was_absent}
 use Rattle.s390x_bundle.proofs.names.duplicate_name.Goals as goal
 
